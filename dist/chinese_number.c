@@ -60,7 +60,7 @@ typedef int64_t s64;
  * - behind it, for the one call that writes a text as long as any, the caller's room, where it is.
  *
  * An access outside, or a write to its constants or the text, ends the program by abort(). */
-#define STACK_BYTES UINT64_C(2288)
+#define STACK_BYTES UINT64_C(2128)
 #define LENT_BYTES UINT64_C(544)
 #define OWN_BYTES (STACK_BYTES + LENT_BYTES)
 #define FIRST_CONSTANT UINT64_C(65536)
@@ -593,81 +593,85 @@ static void w2c_f10(module *, u64, u32);
 static void w2c_f11(module *, u64, u64, u64);
 static u32 w2c_f12(module *, u64, u64);
 static u64 w2c_f13(module *, u64, u64, u64);
-static void w2c_f14(module *, u64, u64, u64);
-static u32 w2c_f15(module *, u32, u64, u64, u64, u32, u32, u64, u64, u64);
-static u32 w2c_f16(module *, u32, u64, u64, u64, u32, u32, u64, u64, u64);
+static u64 w2c_f14(module *, u64, u64, u64);
+static void w2c_f15(module *, u64, u64, u64);
+static u32 w2c_f16(module *, u64, u64, u64, u32, u32, u64, u64, u64);
 static u32 w2c_f17(module *, u32, u32, u32, u32, u32, u64, u64);
 static void w2c_f18(module *, u64, u32);
-static void w2c_f19(module *, u64, u64);
-static void w2c_f20(module *, u64, u64);
+static u32 w2c_f19(module *, u64, u64);
+static u32 w2c_f20(module *, u64, u64);
 static u32 w2c_f21(module *, u64, u64);
-static u32 w2c_f22(module *, u32, u32, u64, u64);
+static void w2c_f22(module *, u64, u32);
 static u32 w2c_f23(module *, u64, u64);
 static u32 w2c_f24(module *, u64, u64);
-static void w2c_f25(module *, u64, u32);
-static u32 w2c_f26(module *, u64, u64);
-static u32 w2c_f27(module *, u32, u32, u64, u64, u32, u64, u64);
-static u32 w2c_f28(module *, u32, u32, u64, u64);
+static u32 w2c_f25(module *, u32, u32, u64, u64);
+static u32 w2c_f26(module *, u64, u64, u64, u32, u32, u64, u64, u64);
+static void w2c_f27(module *, u64, u64);
+static u32 w2c_f28(module *, u32, u32, u64, u64, u32, u64, u64);
 static u32 w2c_f29(module *, u32, u32, u64, u64);
-static u64 w2c_f30(module *, u64, u64, u32, u32, u64, u64);
-static void w2c_f31(module *, u64, u64, u64, u32);
-static void w2c_f32(module *, u64, u64, u64);
+static u32 w2c_f30(module *, u32, u32, u64, u64);
+static u64 w2c_f31(module *, u64, u64, u32, u32, u64, u64);
+static void w2c_f32(module *, u64, u64, u64, u32);
 static void w2c_f33(module *, u64, u64, u64);
-static void w2c_f34(module *, u64, u32, u64, u64, u64);
-static void w2c_f35(module *, u64, u64, u64);
-static void w2c_f36(module *, u64, u32, u64, u64, u64);
-static void w2c_f37(module *, u64, u32, u64, u64, u64, u64);
-static void w2c_f38(module *, u64, u32, u32);
-static void w2c_f39(module *, u64, u64, u64);
-static void w2c_f40(module *, u64, u32, u32, u64, u64, u64, u64);
-static void w2c_f41(module *, u64, u32, u64, u64);
-static void w2c_f42(module *, u64, u32, u64, u64, u64);
-static void w2c_f43(module *, u64, u64, u64, u64);
-static void w2c_f44(module *, u64, u32, u64, u32, u64, u64);
-static void w2c_f45(module *, u64, u32, u64, u64, u32, u32);
-static u32 w2c_f46(module *, u64, u64, u32, u64, u64, u64);
-static void w2c_f47(module *, u64, u32, u64, u64);
-static void w2c_f48(module *, u64, u32, u64, u64, u64);
+static void w2c_f34(module *, u64, u64, u64);
+static void w2c_f35(module *, u64, u32, u64, u64, u64);
+static void w2c_f36(module *, u64, u64, u64);
+static void w2c_f37(module *, u64, u32, u64, u64, u64);
+static u64 w2c_f38(module *, u64, u64);
+static void w2c_f39(module *, u64, u32, u64, u64, u64, u64);
+static void w2c_f40(module *, u64, u32, u32);
+static void w2c_f41(module *, u64, u64, u64);
+static void w2c_f42(module *, u64, u32, u32, u64, u64, u64, u64);
+static void w2c_f43(module *, u64, u32, u64, u64);
+static void w2c_f44(module *, u64, u32, u64, u64, u64);
+static void w2c_f45(module *, u64, u64, u64, u64);
+static void w2c_f46(module *, u64, u64, u64);
+static void w2c_f47(module *, u64, u32, u64, u32, u64, u64);
+static void w2c_f48(module *, u64, u32, u64, u64, u32, u32);
+static u32 w2c_f49(module *, u64, u64, u32, u32, u64);
+static void w2c_f50(module *, u64, u32, u64, u64);
+static u32 w2c_f51(module *, u32, u32, u32, u64, u64, u64);
+static void w2c_f52(module *, u64, u32, u64, u64, u64);
 static u32 w2c_chinese_number_version(module *);
-static void w2c_f50(module *);
+static void w2c_f54(module *);
 static u32 w2c_chinese_amount_print(module *, u64, u32, u32, u64, u64, u64);
-static u32 w2c_f52(module *, u64, u32, u32, u64, u64, u64);
-static u32 w2c_chinese_date_print(module *, u32, u32, u32, u32, u64, u64, u64);
-static u32 w2c_f54(module *, u32, u32, u32, u32, u64, u64, u64);
-static u32 w2c_chinese_signed_amount_print(module *, u64, u32, u32, u64, u64, u64);
 static u32 w2c_f56(module *, u64, u32, u32, u64, u64, u64);
+static u32 w2c_chinese_date_print(module *, u32, u32, u32, u32, u64, u64, u64);
+static u32 w2c_f58(module *, u32, u32, u32, u32, u64, u64, u64);
+static u32 w2c_chinese_signed_amount_print(module *, u64, u32, u32, u64, u64, u64);
+static u32 w2c_f60(module *, u64, u32, u32, u64, u64, u64);
 static u32 w2c_chinese_quantity_figures(module *, u64, u64, u64, u64);
-static u32 w2c_f58(module *, u64, u64, u64, u64);
+static u32 w2c_f62(module *, u64, u64, u64, u64);
 static u32 w2c_chinese_amount_read(module *, u64, u64, u64);
-static u32 w2c_f60(module *, u64, u64, u64);
-static u32 w2c_chinese_typed_amount_read(module *, u64, u64, u64);
-static u32 w2c_f62(module *, u64, u64, u64);
-static u32 w2c_chinese_date_read(module *, u64, u64, u64);
 static u32 w2c_f64(module *, u64, u64, u64);
-static u32 w2c_chinese_figures_read(module *, u64, u64, u64);
+static u32 w2c_chinese_typed_amount_read(module *, u64, u64, u64);
 static u32 w2c_f66(module *, u64, u64, u64);
-static u32 w2c_chinese_signed_amount_read(module *, u64, u64, u64);
+static u32 w2c_chinese_date_read(module *, u64, u64, u64);
 static u32 w2c_f68(module *, u64, u64, u64);
-static u32 w2c_chinese_number_find(module *, u64, u64, u64, u32, u32, u64, u64, u64);
-static u32 w2c_f70(module *, u64, u64, u64, u32, u32, u64, u64, u64);
-static u32 w2c_chinese_quantity_find(module *, u64, u64, u64, u32, u32, u64, u64, u64);
-static u32 w2c_f72(module *, u64, u64, u64, u32, u32, u64, u64, u64);
+static u32 w2c_chinese_figures_read(module *, u64, u64, u64);
+static u32 w2c_f70(module *, u64, u64, u64);
+static u32 w2c_chinese_signed_amount_read(module *, u64, u64, u64);
+static u32 w2c_f72(module *, u64, u64, u64);
 static u32 w2c_chinese_number_find_utf8(module *, u64, u64, u64, u32, u32, u64, u64, u64);
 static u32 w2c_f74(module *, u64, u64, u64, u32, u32, u64, u64, u64);
-static u32 w2c_chinese_quantity_find_utf8(module *, u64, u64, u64, u32, u32, u64, u64, u64);
+static u32 w2c_chinese_number_find(module *, u64, u64, u64, u32, u32, u64, u64, u64);
 static u32 w2c_f76(module *, u64, u64, u64, u32, u32, u64, u64, u64);
+static u32 w2c_chinese_quantity_find_utf8(module *, u64, u64, u64, u32, u32, u64, u64, u64);
+static u32 w2c_f78(module *, u64, u64, u64, u32, u32, u64, u64, u64);
+static u32 w2c_chinese_quantity_find(module *, u64, u64, u64, u32, u32, u64, u64, u64);
+static u32 w2c_f80(module *, u64, u64, u64, u32, u32, u64, u64, u64);
 static u32 w2c_chinese_number_print(module *, u64, u64, u32, u32, u32, u32, u64, u64, u64);
-static u32 w2c_f78(module *, u64, u64, u32, u32, u32, u32, u64, u64, u64);
+static u32 w2c_f82(module *, u64, u64, u32, u32, u32, u32, u64, u64, u64);
 static u32 w2c_chinese_quantities_to_figures(module *, u64, u64, u32, u32, u32, u32, u64, u64, u64);
-static u32 w2c_f80(module *, u64, u64, u32, u32, u32, u32, u64, u64, u64);
+static u32 w2c_f84(module *, u64, u64, u32, u32, u32, u32, u64, u64, u64);
 static u32 w2c_chinese_quantity_print(module *, u64, u32, u32, u32, u64, u64, u64);
-static u32 w2c_f82(module *, u64, u32, u32, u32, u64, u64, u64);
+static u32 w2c_f86(module *, u64, u32, u32, u32, u64, u64, u64);
 static u32 w2c_chinese_quantity_read(module *, u64, u64, u32, u64);
-static u32 w2c_f84(module *, u64, u64, u32, u64);
-static u32 w2c_chinese_number_read(module *, u64, u64, u32, u32, u64);
-static u32 w2c_f86(module *, u64, u64, u32, u32, u64);
+static u32 w2c_f88(module *, u64, u64, u32, u64);
 static u32 w2c_chinese_number_read_utf8(module *, u64, u64, u32, u32, u64);
-static u32 w2c_f88(module *, u64, u64, u32, u32, u64);
+static u32 w2c_f90(module *, u64, u64, u32, u32, u64);
+static u32 w2c_chinese_number_read(module *, u64, u64, u32, u32, u64);
+static u32 w2c_f92(module *, u64, u64, u32, u32, u64);
 
 static u32 w2c_f0(module *m) {
   u32 w2c_l0 = 0;
@@ -7410,7 +7414,133 @@ static u64 w2c_f13(module *m, u64 w2c_p0, u64 w2c_p1, u64 w2c_p2) {
   return w2c_j0;
 }
 
-static void w2c_f14(module *m, u64 w2c_p0, u64 w2c_p1, u64 w2c_p2) {
+static u64 w2c_f14(module *m, u64 w2c_p0, u64 w2c_p1, u64 w2c_p2) {
+  u32 w2c_l7 = 0;
+  u64 w2c_l3 = 0, w2c_l4 = 0, w2c_l5 = 0, w2c_l6 = 0;
+  u32 w2c_i0, w2c_i1;
+  u64 w2c_j0, w2c_j1;
+  w2c_j0 = m->w2c_g0;
+  w2c_j1 = 16ull;
+  w2c_i0 = (u64)((s64)w2c_j0 < (s64)w2c_j1);
+  if (w2c_i0) {goto w2c_B0;}
+  w2c_j0 = 0ull;
+  w2c_l3 = w2c_j0;
+  w2c_j0 = w2c_p2;
+  w2c_j1 = 3ull;
+  w2c_i0 = w2c_j0 >= w2c_j1;
+  if (w2c_i0) {goto w2c_B2;}
+  w2c_j0 = 0ull;
+  w2c_l4 = w2c_j0;
+  goto w2c_B1;
+  w2c_B2:;
+  w2c_j0 = 0ull;
+  w2c_l4 = w2c_j0;
+  w2c_j0 = w2c_p1;
+  w2c_j1 = 8ull;
+  w2c_i0 = w2c_j0 < w2c_j1;
+  if (w2c_i0) {goto w2c_B1;}
+  w2c_j0 = w2c_p1;
+  w2c_j1 = 18446744073709551607ull;
+  w2c_j0 += w2c_j1;
+  w2c_l5 = w2c_j0;
+  w2c_j0 = w2c_p2;
+  w2c_j1 = 18446744073709551613ull;
+  w2c_j0 += w2c_j1;
+  w2c_l6 = w2c_j0;
+  w2c_j0 = 0ull;
+  w2c_l4 = w2c_j0;
+  w2c_j0 = 0ull;
+  w2c_l3 = w2c_j0;
+  w2c_L3:
+    w2c_j0 = w2c_p0;
+    w2c_j1 = w2c_l3;
+    w2c_j0 += w2c_j1;
+    w2c_i0 = (u32)(w2c_j0);
+    w2c_j0 = i64_load(m, (u64)(w2c_i0));
+    w2c_j1 = 67553998437089520ull;
+    w2c_j0 &= w2c_j1;
+    w2c_j1 = 63050398541283552ull;
+    w2c_i0 = w2c_j0 != w2c_j1;
+    if (w2c_i0) {goto w2c_B1;}
+    w2c_j0 = w2c_l4;
+    w2c_j1 = 3ull;
+    w2c_j0 += w2c_j1;
+    w2c_l4 = w2c_j0;
+    w2c_j0 = w2c_l3;
+    w2c_j1 = 9ull;
+    w2c_j0 += w2c_j1;
+    w2c_l3 = w2c_j0;
+    w2c_j0 = w2c_l6;
+    w2c_j1 = 3ull;
+    w2c_i0 = w2c_j0 < w2c_j1;
+    if (w2c_i0) {goto w2c_B1;}
+    w2c_j0 = w2c_l6;
+    w2c_j1 = 18446744073709551613ull;
+    w2c_j0 += w2c_j1;
+    w2c_l6 = w2c_j0;
+    w2c_j0 = w2c_l5;
+    w2c_j1 = 7ull;
+    w2c_i0 = w2c_j0 > w2c_j1;
+    w2c_l7 = w2c_i0;
+    w2c_j0 = w2c_l5;
+    w2c_j1 = 18446744073709551607ull;
+    w2c_j0 += w2c_j1;
+    w2c_l5 = w2c_j0;
+    w2c_i0 = w2c_l7;
+    if (w2c_i0) {goto w2c_L3;}
+  w2c_B1:;
+  w2c_j0 = w2c_l4;
+  w2c_j1 = w2c_p2;
+  w2c_i0 = w2c_j0 >= w2c_j1;
+  if (w2c_i0) {goto w2c_B4;}
+  w2c_j0 = w2c_p1;
+  w2c_j1 = w2c_l3;
+  w2c_i0 = w2c_j0 <= w2c_j1;
+  if (w2c_i0) {goto w2c_B4;}
+  w2c_j0 = w2c_l4;
+  w2c_j1 = 1ull;
+  w2c_j0 += w2c_j1;
+  w2c_l6 = w2c_j0;
+  w2c_L5:
+    w2c_j0 = w2c_p0;
+    w2c_j1 = w2c_l3;
+    w2c_j0 += w2c_j1;
+    w2c_i0 = (u32)(w2c_j0);
+    w2c_i0 = i32_load8_u(m, (u64)(w2c_i0));
+    w2c_i1 = 1u;
+    w2c_i0 >>= (w2c_i1 & 31);
+    w2c_j0 = (u64)(w2c_i0);
+    w2c_j1 = 120ull;
+    w2c_j0 &= w2c_j1;
+    w2c_j1 = 66848ull;
+    w2c_j0 += w2c_j1;
+    w2c_i0 = (u32)(w2c_j0);
+    w2c_j0 = i64_load(m, (u64)(w2c_i0));
+    w2c_j1 = w2c_l3;
+    w2c_j0 += w2c_j1;
+    w2c_l3 = w2c_j0;
+    w2c_j0 = w2c_l6;
+    w2c_j1 = w2c_p2;
+    w2c_i0 = w2c_j0 >= w2c_j1;
+    if (w2c_i0) {goto w2c_B4;}
+    w2c_j0 = w2c_l6;
+    w2c_j1 = 1ull;
+    w2c_j0 += w2c_j1;
+    w2c_l6 = w2c_j0;
+    w2c_j0 = w2c_p1;
+    w2c_j1 = w2c_l3;
+    w2c_i0 = w2c_j0 > w2c_j1;
+    if (w2c_i0) {goto w2c_L5;}
+  w2c_B4:;
+  w2c_j0 = w2c_l3;
+  goto w2c_Bfunc;
+  w2c_B0:;
+  UNREACHABLE;
+  w2c_Bfunc:;
+  return w2c_j0;
+}
+
+static void w2c_f15(module *m, u64 w2c_p0, u64 w2c_p1, u64 w2c_p2) {
   u32 w2c_l9 = 0, w2c_l10 = 0, w2c_l11 = 0, w2c_l12 = 0, w2c_l13 = 0, w2c_l14 = 0;
   u64 w2c_l3 = 0, w2c_l4 = 0, w2c_l5 = 0, w2c_l6 = 0, w2c_l7 = 0, w2c_l8 = 0;
   u32 w2c_i0, w2c_i1, w2c_i2, w2c_i3, w2c_i4;
@@ -8021,25 +8151,30 @@ static void w2c_f14(module *m, u64 w2c_p0, u64 w2c_p1, u64 w2c_p2) {
   w2c_Bfunc:;
 }
 
-static u32 w2c_f15(module *m, u32 w2c_p0, u64 w2c_p1, u64 w2c_p2, u64 w2c_p3, u32 w2c_p4, u32 w2c_p5, u64 w2c_p6, u64 w2c_p7, u64 w2c_p8) {
-  u32 w2c_l12 = 0, w2c_l13 = 0;
-  u64 w2c_l9 = 0, w2c_l10 = 0, w2c_l11 = 0;
-  u32 w2c_i0, w2c_i1, w2c_i2, w2c_i4, w2c_i5;
-  u64 w2c_j0, w2c_j1, w2c_j2, w2c_j3, w2c_j6, w2c_j7, w2c_j8;
+static u32 w2c_f16(module *m, u64 w2c_p0, u64 w2c_p1, u64 w2c_p2, u32 w2c_p3, u32 w2c_p4, u64 w2c_p5, u64 w2c_p6, u64 w2c_p7) {
+  u32 w2c_l17 = 0, w2c_l18 = 0, w2c_l19 = 0, w2c_l20 = 0, w2c_l21 = 0, w2c_l22 = 0, w2c_l23 = 0;
+  u64 w2c_l8 = 0, w2c_l9 = 0, w2c_l10 = 0, w2c_l11 = 0, w2c_l12 = 0, w2c_l13 = 0, w2c_l14 = 0, w2c_l15 = 0, w2c_l16 = 0;
+  u32 w2c_i0, w2c_i1, w2c_i2, w2c_i3, w2c_i4;
+  u64 w2c_j0, w2c_j1, w2c_j2, w2c_j3, w2c_j4, w2c_j5, w2c_j6;
   w2c_j0 = m->w2c_g0;
+  w2c_j1 = 32ull;
+  w2c_j0 -= w2c_j1;
+  w2c_l8 = w2c_j0;
+  m->w2c_g0 = w2c_j0;
+  w2c_j0 = w2c_l8;
   w2c_l9 = w2c_j0;
   w2c_j1 = 16ull;
   w2c_i0 = (u64)((s64)w2c_j0 < (s64)w2c_j1);
   if (w2c_i0) {goto w2c_B0;}
-  w2c_j0 = w2c_p8;
+  w2c_j0 = w2c_p7;
   w2c_i0 = (u32)(w2c_j0);
   w2c_j1 = 0ull;
   i64_store(m, (u64)(w2c_i0), w2c_j1);
   w2c_i0 = 0u;
-  w2c_l12 = w2c_i0;
+  w2c_l17 = w2c_i0;
   w2c_i0 = 8u;
-  w2c_l13 = w2c_i0;
-  w2c_i0 = w2c_p4;
+  w2c_l18 = w2c_i0;
+  w2c_i0 = w2c_p3;
   switch (w2c_i0) {
     case 0: goto w2c_B2;
     case 1: goto w2c_B3;
@@ -8047,239 +8182,97 @@ static u32 w2c_f15(module *m, u32 w2c_p0, u64 w2c_p1, u64 w2c_p2, u64 w2c_p3, u3
   }
   w2c_B3:;
   w2c_i0 = 1u;
-  w2c_l12 = w2c_i0;
+  w2c_l17 = w2c_i0;
   w2c_B2:;
-  w2c_i0 = w2c_p5;
+  w2c_i0 = w2c_p4;
   w2c_i1 = 15u;
   w2c_i0 = w2c_i0 > w2c_i1;
   if (w2c_i0) {goto w2c_B1;}
-  w2c_i0 = w2c_p5;
+  w2c_i0 = w2c_p4;
   w2c_j0 = (u64)(w2c_i0);
   w2c_j1 = 66976ull;
   w2c_j0 += w2c_j1;
   w2c_i0 = (u32)(w2c_j0);
   w2c_i0 = i32_load8_u(m, (u64)(w2c_i0));
-  w2c_p5 = w2c_i0;
-  w2c_j0 = w2c_p2;
-  w2c_l10 = w2c_j0;
-  w2c_j0 = w2c_p2;
-  w2c_j1 = 4ull;
-  w2c_i0 = w2c_j0 < w2c_j1;
-  if (w2c_i0) {goto w2c_B6;}
-  w2c_j0 = w2c_p1;
-  w2c_j1 = 18446744073709551612ull;
-  w2c_j0 += w2c_j1;
-  w2c_l11 = w2c_j0;
-  w2c_j0 = w2c_p2;
-  w2c_l10 = w2c_j0;
-  w2c_L7:
-    w2c_j0 = w2c_l11;
-    w2c_j1 = w2c_l10;
-    w2c_j0 += w2c_j1;
-    w2c_i0 = (u32)(w2c_j0);
-    w2c_i0 = i32_load(m, (u64)(w2c_i0));
-    w2c_i1 = 8u;
-    w2c_i0 >>= (w2c_i1 & 31);
-    w2c_i1 = 16776989u;
-    w2c_i0 += w2c_i1;
-    w2c_i1 = 12632312u;
-    w2c_i0 &= w2c_i1;
-    w2c_i1 = 8421376u;
-    w2c_i0 = w2c_i0 != w2c_i1;
-    if (w2c_i0) {goto w2c_B5;}
-    w2c_j0 = w2c_l10;
-    w2c_j1 = 18446744073709551613ull;
-    w2c_j0 += w2c_j1;
-    w2c_l10 = w2c_j0;
-    w2c_j1 = 3ull;
-    w2c_i0 = w2c_j0 > w2c_j1;
-    if (w2c_i0) {goto w2c_L7;}
-  w2c_B6:;
-  w2c_j0 = w2c_l10;
-  w2c_j1 = 3ull;
-  w2c_i0 = w2c_j0 > w2c_j1;
-  if (w2c_i0) {goto w2c_B5;}
-  w2c_j0 = w2c_l10;
-  w2c_i0 = (u32)(w2c_j0);
-  switch (w2c_i0) {
-    case 0: goto w2c_B4;
-    case 1: goto w2c_B5;
-    case 2: goto w2c_B5;
-    case 3: goto w2c_B8;
-    default: goto w2c_B4;
-  }
-  w2c_B8:;
-  w2c_j0 = w2c_p1;
-  w2c_i0 = (u32)(w2c_j0);
-  w2c_i0 = i32_load16_u(m, (u64)(w2c_i0));
-  w2c_j1 = w2c_p1;
-  w2c_j2 = 2ull;
-  w2c_j1 += w2c_j2;
-  w2c_i1 = (u32)(w2c_j1);
-  w2c_i1 = i32_load8_u(m, (u64)(w2c_i1));
-  w2c_i2 = 16u;
-  w2c_i1 <<= (w2c_i2 & 31);
-  w2c_i0 |= w2c_i1;
-  w2c_i1 = 16776989u;
-  w2c_i0 += w2c_i1;
-  w2c_i1 = 12632312u;
-  w2c_i0 &= w2c_i1;
-  w2c_i1 = 8421376u;
-  w2c_i0 = w2c_i0 == w2c_i1;
-  if (w2c_i0) {goto w2c_B4;}
-  w2c_B5:;
-  w2c_i0 = 5u;
-  w2c_l13 = w2c_i0;
+  w2c_l19 = w2c_i0;
   w2c_j0 = w2c_p1;
   w2c_j1 = w2c_p2;
-  w2c_i0 = w2c_f12(m, w2c_j0, w2c_j1);
-  w2c_i0 = !(w2c_i0);
-  if (w2c_i0) {goto w2c_B1;}
-  w2c_B4:;
-  w2c_i0 = w2c_p0;
-  w2c_j1 = w2c_p1;
-  w2c_j2 = w2c_p2;
-  w2c_j3 = w2c_p3;
-  w2c_i4 = w2c_l12;
-  w2c_i5 = w2c_p5;
-  w2c_j6 = w2c_p6;
-  w2c_j7 = w2c_p7;
-  w2c_j8 = w2c_p8;
-  w2c_i0 = w2c_f16(m, w2c_i0, w2c_j1, w2c_j2, w2c_j3, w2c_i4, w2c_i5, w2c_j6, w2c_j7, w2c_j8);
-  w2c_l13 = w2c_i0;
-  w2c_B1:;
-  w2c_j0 = w2c_l9;
-  m->w2c_g0 = w2c_j0;
-  w2c_i0 = w2c_l13;
-  goto w2c_Bfunc;
-  w2c_B0:;
-  UNREACHABLE;
-  w2c_Bfunc:;
-  return w2c_i0;
-}
-
-static u32 w2c_f16(module *m, u32 w2c_p0, u64 w2c_p1, u64 w2c_p2, u64 w2c_p3, u32 w2c_p4, u32 w2c_p5, u64 w2c_p6, u64 w2c_p7, u64 w2c_p8) {
-  u32 w2c_l18 = 0, w2c_l19 = 0, w2c_l20 = 0, w2c_l21 = 0;
-  u64 w2c_l9 = 0, w2c_l10 = 0, w2c_l11 = 0, w2c_l12 = 0, w2c_l13 = 0, w2c_l14 = 0, w2c_l15 = 0, w2c_l16 = 0, w2c_l17 = 0;
-  u32 w2c_i0, w2c_i1, w2c_i2, w2c_i3, w2c_i4;
-  u64 w2c_j0, w2c_j1, w2c_j2, w2c_j5, w2c_j6;
-  w2c_j0 = m->w2c_g0;
-  w2c_j1 = 144ull;
-  w2c_j0 -= w2c_j1;
-  w2c_l9 = w2c_j0;
-  m->w2c_g0 = w2c_j0;
-  w2c_j0 = w2c_l9;
-  w2c_l10 = w2c_j0;
-  w2c_j1 = 16ull;
-  w2c_i0 = (u64)((s64)w2c_j0 < (s64)w2c_j1);
-  if (w2c_i0) {goto w2c_B2;}
-  w2c_i0 = w2c_p0;
-  w2c_i1 = 1u;
-  w2c_i0 &= w2c_i1;
-  if (w2c_i0) {goto w2c_B1;}
-  w2c_j0 = w2c_p2;
-  w2c_j1 = w2c_p3;
   w2c_i0 = w2c_j0 == w2c_j1;
-  if (w2c_i0) {goto w2c_B3;}
+  if (w2c_i0) {goto w2c_B4;}
   w2c_i0 = 5u;
-  w2c_p0 = w2c_i0;
-  w2c_j0 = w2c_p2;
-  w2c_j1 = w2c_p3;
-  w2c_i0 = w2c_j0 < w2c_j1;
-  if (w2c_i0) {goto w2c_B0;}
+  w2c_l18 = w2c_i0;
   w2c_j0 = w2c_p1;
-  w2c_j1 = w2c_p3;
+  w2c_j1 = w2c_p2;
+  w2c_i0 = w2c_j0 < w2c_j1;
+  if (w2c_i0) {goto w2c_B1;}
+  w2c_j0 = w2c_p0;
+  w2c_j1 = w2c_p2;
   w2c_j0 += w2c_j1;
   w2c_i0 = (u32)(w2c_j0);
   w2c_i0 = i32_load8_s(m, (u64)(w2c_i0));
   w2c_i1 = 4294967232u;
   w2c_i0 = (u32)((s32)w2c_i0 < (s32)w2c_i1);
-  if (w2c_i0) {goto w2c_B0;}
-  w2c_B3:;
-  w2c_j0 = 0ull;
-  w2c_l11 = w2c_j0;
-  w2c_j0 = w2c_l10;
-  w2c_i0 = (u32)(w2c_j0);
-  w2c_j1 = 0ull;
-  i64_store(m, (u64)(w2c_i0) + 104, w2c_j1);
-  w2c_j0 = w2c_l10;
-  w2c_i0 = (u32)(w2c_j0);
-  w2c_j1 = 0ull;
-  i64_store(m, (u64)(w2c_i0) + 112, w2c_j1);
-  w2c_j0 = w2c_l10;
-  w2c_i0 = (u32)(w2c_j0);
-  w2c_j1 = 0ull;
-  i64_store(m, (u64)(w2c_i0) + 120, w2c_j1);
-  w2c_j0 = w2c_l10;
-  w2c_i0 = (u32)(w2c_j0);
-  w2c_j1 = 0ull;
-  i64_store(m, (u64)(w2c_i0) + 48, w2c_j1);
-  w2c_j0 = w2c_l10;
-  w2c_i0 = (u32)(w2c_j0);
-  w2c_j1 = 0ull;
-  i64_store(m, (u64)(w2c_i0) + 56, w2c_j1);
-  w2c_j0 = w2c_l10;
-  w2c_i0 = (u32)(w2c_j0);
-  w2c_j1 = 0ull;
-  i64_store(m, (u64)(w2c_i0) + 64, w2c_j1);
-  w2c_j0 = w2c_l10;
-  w2c_i0 = (u32)(w2c_j0);
-  w2c_j1 = 0ull;
-  i64_store(m, (u64)(w2c_i0) + 72, w2c_j1);
-  w2c_j0 = w2c_l10;
-  w2c_i0 = (u32)(w2c_j0);
-  w2c_j1 = 0ull;
-  i64_store(m, (u64)(w2c_i0) + 80, w2c_j1);
-  w2c_j0 = w2c_l10;
-  w2c_i0 = (u32)(w2c_j0);
-  w2c_j1 = 0ull;
-  i64_store(m, (u64)(w2c_i0) + 88, w2c_j1);
-  w2c_j0 = w2c_p7;
+  if (w2c_i0) {goto w2c_B1;}
+  w2c_B4:;
+  w2c_j0 = w2c_p6;
   w2c_i0 = !(w2c_j0);
-  if (w2c_i0) {goto w2c_B4;}
-  w2c_j0 = w2c_p1;
-  w2c_j1 = w2c_p3;
-  w2c_j0 += w2c_j1;
-  w2c_l12 = w2c_j0;
-  w2c_j0 = w2c_p2;
-  w2c_j1 = w2c_p3;
-  w2c_j0 -= w2c_j1;
-  w2c_p3 = w2c_j0;
+  w2c_i0 = !(w2c_i0);
+  if (w2c_i0) {goto w2c_B6;}
   w2c_j0 = 0ull;
+  w2c_l10 = w2c_j0;
+  goto w2c_B5;
+  w2c_B6:;
+  w2c_j0 = w2c_p0;
+  w2c_j1 = w2c_p2;
+  w2c_j0 += w2c_j1;
   w2c_l11 = w2c_j0;
-  w2c_L5:
-    w2c_j0 = w2c_l12;
-    w2c_l9 = w2c_j0;
-    w2c_j0 = w2c_p3;
-    w2c_l13 = w2c_j0;
+  w2c_j0 = w2c_p1;
+  w2c_j1 = w2c_p2;
+  w2c_j0 -= w2c_j1;
+  w2c_p2 = w2c_j0;
+  w2c_j0 = 0ull;
+  w2c_l10 = w2c_j0;
+  w2c_L7:
+    w2c_j0 = w2c_l11;
+    w2c_l8 = w2c_j0;
+    w2c_j0 = w2c_p2;
+    w2c_l12 = w2c_j0;
     w2c_j1 = 3ull;
     w2c_i0 = w2c_j0 < w2c_j1;
     if (w2c_i0) {goto w2c_B10;}
-    w2c_j0 = w2c_l9;
+    w2c_j0 = w2c_l8;
     w2c_i0 = (u32)(w2c_j0);
     w2c_i0 = i32_load8_u(m, (u64)(w2c_i0));
-    w2c_p0 = w2c_i0;
+    w2c_p4 = w2c_i0;
     w2c_i1 = 240u;
     w2c_i0 &= w2c_i1;
     w2c_i1 = 224u;
     w2c_i0 = w2c_i0 != w2c_i1;
     if (w2c_i0) {goto w2c_B9;}
-    w2c_j0 = w2c_l9;
+    w2c_j0 = w2c_l12;
+    w2c_j1 = 18446744073709551613ull;
+    w2c_j0 += w2c_j1;
+    w2c_p2 = w2c_j0;
+    w2c_j0 = w2c_l8;
+    w2c_j1 = 3ull;
+    w2c_j0 += w2c_j1;
+    w2c_l11 = w2c_j0;
+    w2c_j0 = w2c_l8;
     w2c_i0 = (u32)(w2c_j0);
     w2c_i0 = i32_load8_u(m, (u64)(w2c_i0) + 1u);
-    w2c_l18 = w2c_i0;
+    w2c_p3 = w2c_i0;
     w2c_i1 = 8u;
     w2c_i0 <<= (w2c_i1 & 31);
-    w2c_j1 = w2c_l9;
+    w2c_j1 = w2c_l8;
     w2c_i1 = (u32)(w2c_j1);
     w2c_i1 = i32_load8_u(m, (u64)(w2c_i1) + 2u);
-    w2c_l19 = w2c_i1;
+    w2c_l20 = w2c_i1;
     w2c_i2 = 16u;
     w2c_i1 <<= (w2c_i2 & 31);
     w2c_i0 |= w2c_i1;
-    w2c_i1 = w2c_p0;
+    w2c_i1 = w2c_p4;
     w2c_i0 |= w2c_i1;
-    w2c_l20 = w2c_i0;
+    w2c_l18 = w2c_i0;
     w2c_j0 = (u64)(w2c_i0);
     w2c_j1 = 953497ull;
     w2c_j0 *= w2c_j1;
@@ -8287,138 +8280,164 @@ static u32 w2c_f16(module *m, u32 w2c_p0, u64 w2c_p1, u64 w2c_p2, u64 w2c_p3, u3
     w2c_j0 >>= (w2c_j1 & 63);
     w2c_j1 = 1016ull;
     w2c_j0 &= w2c_j1;
-    w2c_l14 = w2c_j0;
-    w2c_j1 = 66992ull;
-    w2c_j0 += w2c_j1;
+    w2c_l13 = w2c_j0;
     w2c_i0 = (u32)(w2c_j0);
-    w2c_i0 = i32_load(m, (u64)(w2c_i0));
-    w2c_i1 = w2c_l20;
-    w2c_i0 = w2c_i0 == w2c_i1;
-    if (w2c_i0) {goto w2c_B8;}
+    w2c_i0 = i32_load(m, (u64)(w2c_i0) + 66992u);
+    w2c_i1 = w2c_l18;
+    w2c_i0 = w2c_i0 != w2c_i1;
+    if (w2c_i0) {goto w2c_L7;}
     w2c_j0 = w2c_l13;
-    w2c_j1 = 18446744073709551613ull;
+    w2c_j1 = 66996ull;
     w2c_j0 += w2c_j1;
-    w2c_p3 = w2c_j0;
-    w2c_j0 = w2c_l9;
-    w2c_j1 = 3ull;
-    w2c_j0 += w2c_j1;
-    w2c_l12 = w2c_j0;
-    goto w2c_L5;
-    w2c_B10:;
-    w2c_j0 = w2c_l13;
-    w2c_i0 = !(w2c_j0);
-    if (w2c_i0) {goto w2c_B4;}
-    w2c_j0 = w2c_l9;
     w2c_i0 = (u32)(w2c_j0);
     w2c_i0 = i32_load8_u(m, (u64)(w2c_i0));
-    w2c_p0 = w2c_i0;
+    w2c_l21 = w2c_i0;
+    w2c_i1 = 255u;
+    w2c_i0 &= w2c_i1;
+    w2c_i1 = 2u;
+    w2c_i0 = w2c_i0 == w2c_i1;
+    if (w2c_i0) {goto w2c_L7;}
+    w2c_i0 = w2c_l17;
+    w2c_i1 = w2c_l19;
+    w2c_i2 = w2c_p4;
+    w2c_i3 = 12u;
+    w2c_i2 <<= (w2c_i3 & 31);
+    w2c_i3 = w2c_l20;
+    w2c_i2 |= w2c_i3;
+    w2c_i3 = w2c_p3;
+    w2c_i4 = 6u;
+    w2c_i3 <<= (w2c_i4 & 31);
+    w2c_i2 += w2c_i3;
+    w2c_i3 = 4294041472u;
+    w2c_i2 += w2c_i3;
+    w2c_l18 = w2c_i2;
+    w2c_i3 = w2c_l21;
+    w2c_j4 = w2c_l13;
+    w2c_j5 = 66997ull;
+    w2c_j4 += w2c_j5;
+    w2c_i4 = (u32)(w2c_j4);
+    w2c_i4 = i32_load8_u(m, (u64)(w2c_i4));
+    w2c_j5 = w2c_l11;
+    w2c_j6 = w2c_p2;
+    w2c_i0 = w2c_f17(m, w2c_i0, w2c_i1, w2c_i2, w2c_i3, w2c_i4, w2c_j5, w2c_j6);
+    w2c_i0 = !(w2c_i0);
+    if (w2c_i0) {goto w2c_L7;}
+    goto w2c_B8;
+    w2c_B10:;
+    w2c_j0 = w2c_l12;
+    w2c_i0 = !(w2c_j0);
+    if (w2c_i0) {goto w2c_B5;}
+    w2c_j0 = w2c_l8;
+    w2c_i0 = (u32)(w2c_j0);
+    w2c_i0 = i32_load8_u(m, (u64)(w2c_i0));
+    w2c_p4 = w2c_i0;
     w2c_B9:;
     w2c_j0 = 1ull;
-    w2c_l12 = w2c_j0;
-    w2c_i0 = w2c_p0;
+    w2c_l11 = w2c_j0;
+    w2c_i0 = w2c_p4;
     w2c_i0 = (u32)(s32)(s8)(u8)(w2c_i0);
     w2c_i1 = 4294967295u;
     w2c_i0 = (u32)((s32)w2c_i0 <= (s32)w2c_i1);
     if (w2c_i0) {goto w2c_B12;}
-    w2c_i0 = w2c_p0;
-    w2c_l20 = w2c_i0;
+    w2c_i0 = w2c_p4;
+    w2c_l18 = w2c_i0;
     goto w2c_B11;
     w2c_B12:;
-    w2c_j0 = w2c_l9;
+    w2c_j0 = w2c_l8;
     w2c_i0 = (u32)(w2c_j0);
     w2c_i0 = i32_load8_u(m, (u64)(w2c_i0) + 1u);
     w2c_i1 = 63u;
     w2c_i0 &= w2c_i1;
-    w2c_l20 = w2c_i0;
-    w2c_i0 = w2c_p0;
+    w2c_l18 = w2c_i0;
+    w2c_i0 = w2c_p4;
     w2c_i1 = 223u;
     w2c_i0 = w2c_i0 > w2c_i1;
     if (w2c_i0) {goto w2c_B13;}
-    w2c_i0 = w2c_p0;
+    w2c_i0 = w2c_p4;
     w2c_i1 = 6u;
     w2c_i0 <<= (w2c_i1 & 31);
     w2c_i1 = 1984u;
     w2c_i0 &= w2c_i1;
-    w2c_i1 = w2c_l20;
+    w2c_i1 = w2c_l18;
     w2c_i0 |= w2c_i1;
-    w2c_l20 = w2c_i0;
+    w2c_l18 = w2c_i0;
     w2c_j0 = 2ull;
-    w2c_l12 = w2c_j0;
+    w2c_l11 = w2c_j0;
     goto w2c_B11;
     w2c_B13:;
-    w2c_j0 = w2c_l9;
+    w2c_j0 = w2c_l8;
     w2c_i0 = (u32)(w2c_j0);
     w2c_i0 = i32_load8_u(m, (u64)(w2c_i0) + 2u);
     w2c_i1 = 63u;
     w2c_i0 &= w2c_i1;
-    w2c_l18 = w2c_i0;
-    w2c_i0 = w2c_p0;
+    w2c_p3 = w2c_i0;
+    w2c_i0 = w2c_p4;
     w2c_i1 = 239u;
     w2c_i0 = w2c_i0 > w2c_i1;
     if (w2c_i0) {goto w2c_B14;}
-    w2c_i0 = w2c_l20;
+    w2c_i0 = w2c_l18;
     w2c_i1 = 6u;
     w2c_i0 <<= (w2c_i1 & 31);
-    w2c_i1 = w2c_p0;
+    w2c_i1 = w2c_p4;
     w2c_i2 = 12u;
     w2c_i1 <<= (w2c_i2 & 31);
     w2c_i2 = 61440u;
     w2c_i1 &= w2c_i2;
     w2c_i0 |= w2c_i1;
-    w2c_i1 = w2c_l18;
+    w2c_i1 = w2c_p3;
     w2c_i0 |= w2c_i1;
-    w2c_l20 = w2c_i0;
+    w2c_l18 = w2c_i0;
     w2c_j0 = 3ull;
-    w2c_l12 = w2c_j0;
+    w2c_l11 = w2c_j0;
     goto w2c_B11;
     w2c_B14:;
-    w2c_i0 = w2c_l18;
+    w2c_i0 = w2c_p3;
     w2c_i1 = 6u;
     w2c_i0 <<= (w2c_i1 & 31);
-    w2c_i1 = w2c_l20;
+    w2c_i1 = w2c_l18;
     w2c_i2 = 12u;
     w2c_i1 <<= (w2c_i2 & 31);
-    w2c_i2 = w2c_p0;
+    w2c_i2 = w2c_p4;
     w2c_i3 = 18u;
     w2c_i2 <<= (w2c_i3 & 31);
     w2c_i3 = 1835008u;
     w2c_i2 &= w2c_i3;
     w2c_i1 |= w2c_i2;
     w2c_i0 |= w2c_i1;
-    w2c_j1 = w2c_l9;
+    w2c_j1 = w2c_l8;
     w2c_i1 = (u32)(w2c_j1);
     w2c_i1 = i32_load8_u(m, (u64)(w2c_i1) + 3u);
     w2c_i2 = 63u;
     w2c_i1 &= w2c_i2;
     w2c_i0 |= w2c_i1;
-    w2c_l20 = w2c_i0;
+    w2c_l18 = w2c_i0;
     w2c_j0 = 4ull;
-    w2c_l12 = w2c_j0;
+    w2c_l11 = w2c_j0;
     w2c_B11:;
-    w2c_j0 = w2c_l13;
-    w2c_j1 = w2c_l12;
+    w2c_j0 = w2c_l12;
+    w2c_j1 = w2c_l11;
     w2c_j0 -= w2c_j1;
-    w2c_p3 = w2c_j0;
-    w2c_j0 = w2c_l9;
-    w2c_j1 = w2c_l12;
+    w2c_p2 = w2c_j0;
+    w2c_j0 = w2c_l8;
+    w2c_j1 = w2c_l11;
     w2c_j0 += w2c_j1;
-    w2c_l12 = w2c_j0;
-    w2c_i0 = w2c_l20;
+    w2c_l11 = w2c_j0;
+    w2c_i0 = w2c_l18;
     w2c_i1 = 4294965248u;
     w2c_i0 += w2c_i1;
     w2c_i1 = 63487u;
     w2c_i0 = w2c_i0 > w2c_i1;
-    if (w2c_i0) {goto w2c_B15;}
-    w2c_i0 = w2c_l20;
+    if (w2c_i0) {goto w2c_B16;}
+    w2c_i0 = w2c_l18;
     w2c_i1 = 12u;
     w2c_i0 >>= (w2c_i1 & 31);
-    w2c_i1 = w2c_l20;
+    w2c_i1 = w2c_l18;
     w2c_i2 = 2u;
     w2c_i1 <<= (w2c_i2 & 31);
     w2c_i2 = 16128u;
     w2c_i1 &= w2c_i2;
     w2c_i0 |= w2c_i1;
-    w2c_i1 = w2c_l20;
+    w2c_i1 = w2c_l18;
     w2c_i2 = 16u;
     w2c_i1 <<= (w2c_i2 & 31);
     w2c_i2 = 4128768u;
@@ -8426,7 +8445,7 @@ static u32 w2c_f16(module *m, u32 w2c_p0, u64 w2c_p1, u64 w2c_p2, u64 w2c_p3, u3
     w2c_i0 |= w2c_i1;
     w2c_i1 = 8421600u;
     w2c_i0 |= w2c_i1;
-    w2c_l18 = w2c_i0;
+    w2c_p3 = w2c_i0;
     w2c_j0 = (u64)(w2c_i0);
     w2c_j1 = 953497ull;
     w2c_j0 *= w2c_j1;
@@ -8434,199 +8453,94 @@ static u32 w2c_f16(module *m, u32 w2c_p0, u64 w2c_p1, u64 w2c_p2, u64 w2c_p3, u3
     w2c_j0 >>= (w2c_j1 & 63);
     w2c_j1 = 1016ull;
     w2c_j0 &= w2c_j1;
-    w2c_l14 = w2c_j0;
-    w2c_j1 = 66992ull;
-    w2c_j0 += w2c_j1;
+    w2c_l13 = w2c_j0;
     w2c_i0 = (u32)(w2c_j0);
-    w2c_i0 = i32_load(m, (u64)(w2c_i0));
-    w2c_i1 = w2c_l18;
+    w2c_i0 = i32_load(m, (u64)(w2c_i0) + 66992u);
+    w2c_i1 = w2c_p3;
     w2c_i0 = w2c_i0 != w2c_i1;
-    if (w2c_i0) {goto w2c_L5;}
-    goto w2c_B7;
-    w2c_B15:;
-    w2c_i0 = 0u;
-    w2c_l18 = w2c_i0;
-    w2c_i0 = w2c_l20;
-    w2c_i1 = 4294967248u;
-    w2c_i0 += w2c_i1;
-    w2c_l19 = w2c_i0;
-    w2c_i1 = 10u;
-    w2c_i0 = w2c_i0 >= w2c_i1;
-    if (w2c_i0) {goto w2c_L5;}
-    goto w2c_B6;
-    w2c_B8:;
-    w2c_i0 = w2c_p0;
-    w2c_i1 = 12u;
-    w2c_i0 <<= (w2c_i1 & 31);
-    w2c_i1 = w2c_l18;
-    w2c_i2 = 6u;
-    w2c_i1 <<= (w2c_i2 & 31);
-    w2c_i0 += w2c_i1;
-    w2c_i1 = w2c_l19;
-    w2c_i0 += w2c_i1;
-    w2c_i1 = 4294041472u;
-    w2c_i0 += w2c_i1;
-    w2c_l20 = w2c_i0;
+    if (w2c_i0) {goto w2c_L7;}
     w2c_j0 = w2c_l13;
-    w2c_j1 = 18446744073709551613ull;
-    w2c_j0 += w2c_j1;
-    w2c_p3 = w2c_j0;
-    w2c_j0 = w2c_l9;
-    w2c_j1 = 3ull;
-    w2c_j0 += w2c_j1;
-    w2c_l12 = w2c_j0;
-    w2c_B7:;
-    w2c_j0 = w2c_l14;
     w2c_j1 = 66996ull;
     w2c_j0 += w2c_j1;
     w2c_i0 = (u32)(w2c_j0);
     w2c_i0 = i32_load8_u(m, (u64)(w2c_i0));
-    w2c_l18 = w2c_i0;
+    w2c_p3 = w2c_i0;
+    w2c_i1 = 255u;
+    w2c_i0 &= w2c_i1;
     w2c_i1 = 2u;
     w2c_i0 = w2c_i0 == w2c_i1;
-    if (w2c_i0) {goto w2c_L5;}
-    w2c_j0 = w2c_l14;
+    if (w2c_i0) {goto w2c_L7;}
+    w2c_j0 = w2c_l13;
     w2c_j1 = 66997ull;
     w2c_j0 += w2c_j1;
     w2c_i0 = (u32)(w2c_j0);
     w2c_i0 = i32_load8_u(m, (u64)(w2c_i0));
-    w2c_l19 = w2c_i0;
-    w2c_B6:;
-    w2c_i0 = w2c_p4;
-    w2c_i1 = w2c_p5;
-    w2c_i2 = w2c_l20;
-    w2c_i3 = w2c_l18;
-    w2c_i4 = w2c_l19;
-    w2c_j5 = w2c_l12;
-    w2c_j6 = w2c_p3;
+    w2c_l20 = w2c_i0;
+    goto w2c_B15;
+    w2c_B16:;
+    w2c_i0 = 0u;
+    w2c_p3 = w2c_i0;
+    w2c_i0 = w2c_l18;
+    w2c_i1 = 4294967248u;
+    w2c_i0 += w2c_i1;
+    w2c_l20 = w2c_i0;
+    w2c_i1 = 9u;
+    w2c_i0 = w2c_i0 > w2c_i1;
+    if (w2c_i0) {goto w2c_L7;}
+    w2c_B15:;
+    w2c_i0 = w2c_l17;
+    w2c_i1 = w2c_l19;
+    w2c_i2 = w2c_l18;
+    w2c_i3 = w2c_p3;
+    w2c_i4 = w2c_l20;
+    w2c_j5 = w2c_l11;
+    w2c_j6 = w2c_p2;
     w2c_i0 = w2c_f17(m, w2c_i0, w2c_i1, w2c_i2, w2c_i3, w2c_i4, w2c_j5, w2c_j6);
     w2c_i0 = !(w2c_i0);
-    if (w2c_i0) {goto w2c_L5;}
-    w2c_i0 = w2c_p0;
-    w2c_i0 = (u32)(s32)(s8)(u8)(w2c_i0);
-    w2c_i1 = 4294967295u;
-    w2c_i0 = (u32)((s32)w2c_i0 <= (s32)w2c_i1);
-    if (w2c_i0) {goto w2c_B17;}
-    w2c_j0 = 1ull;
-    w2c_l12 = w2c_j0;
-    goto w2c_B16;
-    w2c_B17:;
-    w2c_j0 = w2c_l9;
-    w2c_i0 = (u32)(w2c_j0);
-    w2c_i0 = i32_load8_u(m, (u64)(w2c_i0) + 1u);
-    w2c_i1 = 63u;
-    w2c_i0 &= w2c_i1;
-    w2c_l20 = w2c_i0;
-    w2c_i0 = w2c_p0;
-    w2c_i1 = 223u;
-    w2c_i0 = w2c_i0 > w2c_i1;
-    if (w2c_i0) {goto w2c_B18;}
-    w2c_i0 = w2c_p0;
-    w2c_i1 = 6u;
-    w2c_i0 <<= (w2c_i1 & 31);
-    w2c_i1 = 1984u;
-    w2c_i0 &= w2c_i1;
-    w2c_i1 = w2c_l20;
-    w2c_i0 |= w2c_i1;
-    w2c_p0 = w2c_i0;
-    w2c_j0 = 2ull;
-    w2c_l12 = w2c_j0;
-    goto w2c_B16;
-    w2c_B18:;
-    w2c_j0 = w2c_l9;
-    w2c_i0 = (u32)(w2c_j0);
-    w2c_i0 = i32_load8_u(m, (u64)(w2c_i0) + 2u);
-    w2c_i1 = 63u;
-    w2c_i0 &= w2c_i1;
-    w2c_l18 = w2c_i0;
-    w2c_i0 = w2c_p0;
-    w2c_i1 = 239u;
-    w2c_i0 = w2c_i0 > w2c_i1;
-    if (w2c_i0) {goto w2c_B19;}
-    w2c_i0 = w2c_l20;
-    w2c_i1 = 6u;
-    w2c_i0 <<= (w2c_i1 & 31);
-    w2c_i1 = w2c_p0;
-    w2c_i2 = 12u;
-    w2c_i1 <<= (w2c_i2 & 31);
-    w2c_i2 = 61440u;
-    w2c_i1 &= w2c_i2;
-    w2c_i0 |= w2c_i1;
-    w2c_i1 = w2c_l18;
-    w2c_i0 |= w2c_i1;
-    w2c_p0 = w2c_i0;
-    w2c_j0 = 3ull;
-    w2c_l12 = w2c_j0;
-    goto w2c_B16;
-    w2c_B19:;
-    w2c_i0 = w2c_l18;
-    w2c_i1 = 6u;
-    w2c_i0 <<= (w2c_i1 & 31);
-    w2c_i1 = w2c_l20;
-    w2c_i2 = 12u;
-    w2c_i1 <<= (w2c_i2 & 31);
-    w2c_i2 = w2c_p0;
-    w2c_i3 = 18u;
-    w2c_i2 <<= (w2c_i3 & 31);
-    w2c_i3 = 1835008u;
-    w2c_i2 &= w2c_i3;
-    w2c_i1 |= w2c_i2;
-    w2c_i0 |= w2c_i1;
-    w2c_j1 = w2c_l9;
-    w2c_i1 = (u32)(w2c_j1);
-    w2c_i1 = i32_load8_u(m, (u64)(w2c_i1) + 3u);
-    w2c_i2 = 63u;
-    w2c_i1 &= w2c_i2;
-    w2c_i0 |= w2c_i1;
-    w2c_p0 = w2c_i0;
-    w2c_j0 = 4ull;
-    w2c_l12 = w2c_j0;
-    w2c_B16:;
-    w2c_j0 = w2c_p2;
-    w2c_j1 = w2c_l13;
-    w2c_j0 -= w2c_j1;
-    w2c_l15 = w2c_j0;
-    w2c_j0 = w2c_l13;
+    if (w2c_i0) {goto w2c_L7;}
+    w2c_B8:;
+    w2c_j0 = w2c_p1;
     w2c_j1 = w2c_l12;
     w2c_j0 -= w2c_j1;
     w2c_l14 = w2c_j0;
-    w2c_j0 = w2c_l9;
-    w2c_j1 = w2c_l12;
-    w2c_j0 += w2c_j1;
-    w2c_l16 = w2c_j0;
-    w2c_L21:
-      w2c_j0 = w2c_l16;
-      w2c_l12 = w2c_j0;
-      w2c_j0 = w2c_l14;
-      w2c_p3 = w2c_j0;
+    w2c_j0 = w2c_l11;
+    w2c_l13 = w2c_j0;
+    w2c_j0 = w2c_p2;
+    w2c_l15 = w2c_j0;
+    w2c_L18:
+      w2c_j0 = w2c_l13;
+      w2c_l11 = w2c_j0;
+      w2c_j0 = w2c_l15;
+      w2c_p2 = w2c_j0;
       w2c_j1 = 3ull;
       w2c_i0 = w2c_j0 < w2c_j1;
-      if (w2c_i0) {goto w2c_B26;}
-      w2c_j0 = w2c_l12;
+      w2c_l22 = w2c_i0;
+      if (w2c_i0) {goto w2c_B23;}
+      w2c_j0 = w2c_l11;
       w2c_i0 = (u32)(w2c_j0);
       w2c_i0 = i32_load8_u(m, (u64)(w2c_i0));
-      w2c_l20 = w2c_i0;
+      w2c_p3 = w2c_i0;
       w2c_i1 = 240u;
       w2c_i0 &= w2c_i1;
       w2c_i1 = 224u;
       w2c_i0 = w2c_i0 != w2c_i1;
-      if (w2c_i0) {goto w2c_B25;}
-      w2c_j0 = w2c_l12;
+      if (w2c_i0) {goto w2c_B22;}
+      w2c_j0 = w2c_l11;
       w2c_i0 = (u32)(w2c_j0);
       w2c_i0 = i32_load8_u(m, (u64)(w2c_i0) + 1u);
-      w2c_l19 = w2c_i0;
+      w2c_l21 = w2c_i0;
       w2c_i1 = 8u;
       w2c_i0 <<= (w2c_i1 & 31);
-      w2c_j1 = w2c_l12;
+      w2c_j1 = w2c_l11;
       w2c_i1 = (u32)(w2c_j1);
       w2c_i1 = i32_load8_u(m, (u64)(w2c_i1) + 2u);
-      w2c_l21 = w2c_i1;
+      w2c_l23 = w2c_i1;
       w2c_i2 = 16u;
       w2c_i1 <<= (w2c_i2 & 31);
       w2c_i0 |= w2c_i1;
-      w2c_i1 = w2c_l20;
+      w2c_i1 = w2c_p3;
       w2c_i0 |= w2c_i1;
-      w2c_l18 = w2c_i0;
+      w2c_l20 = w2c_i0;
       w2c_j0 = (u64)(w2c_i0);
       w2c_j1 = 953497ull;
       w2c_j0 *= w2c_j1;
@@ -8634,146 +8548,155 @@ static u32 w2c_f16(module *m, u32 w2c_p0, u64 w2c_p1, u64 w2c_p2, u64 w2c_p3, u3
       w2c_j0 >>= (w2c_j1 & 63);
       w2c_j1 = 1016ull;
       w2c_j0 &= w2c_j1;
-      w2c_l17 = w2c_j0;
+      w2c_l16 = w2c_j0;
       w2c_j1 = 66992ull;
       w2c_j0 += w2c_j1;
       w2c_i0 = (u32)(w2c_j0);
       w2c_i0 = i32_load(m, (u64)(w2c_i0));
-      w2c_i1 = w2c_l18;
+      w2c_i1 = w2c_l20;
       w2c_i0 = w2c_i0 != w2c_i1;
-      if (w2c_i0) {goto w2c_B20;}
-      w2c_i0 = w2c_l20;
+      if (w2c_i0) {goto w2c_B24;}
+      w2c_i0 = w2c_p3;
       w2c_i1 = 12u;
       w2c_i0 <<= (w2c_i1 & 31);
-      w2c_i1 = w2c_l19;
+      w2c_i1 = w2c_l21;
       w2c_i2 = 6u;
       w2c_i1 <<= (w2c_i2 & 31);
       w2c_i0 += w2c_i1;
-      w2c_i1 = w2c_l21;
+      w2c_i1 = w2c_l23;
       w2c_i0 += w2c_i1;
       w2c_i1 = 4294041472u;
       w2c_i0 += w2c_i1;
-      w2c_l20 = w2c_i0;
-      w2c_j0 = w2c_p3;
+      w2c_p3 = w2c_i0;
+      w2c_j0 = w2c_p2;
       w2c_j1 = 18446744073709551613ull;
       w2c_j0 += w2c_j1;
-      w2c_l14 = w2c_j0;
-      w2c_j0 = w2c_l12;
+      w2c_l15 = w2c_j0;
+      w2c_j0 = w2c_l11;
       w2c_j1 = 3ull;
       w2c_j0 += w2c_j1;
-      w2c_l16 = w2c_j0;
-      goto w2c_B24;
-      w2c_B26:;
-      w2c_j0 = w2c_p3;
+      w2c_l13 = w2c_j0;
+      goto w2c_B21;
+      w2c_B24:;
+      w2c_i0 = 0u;
+      w2c_l22 = w2c_i0;
+      goto w2c_B17;
+      w2c_B23:;
+      w2c_j0 = w2c_p2;
       w2c_i0 = !(w2c_j0);
-      if (w2c_i0) {goto w2c_B20;}
-      w2c_j0 = w2c_l12;
+      w2c_i0 = !(w2c_i0);
+      if (w2c_i0) {goto w2c_B25;}
+      w2c_i0 = 1u;
+      w2c_l22 = w2c_i0;
+      goto w2c_B17;
+      w2c_B25:;
+      w2c_j0 = w2c_l11;
       w2c_i0 = (u32)(w2c_j0);
       w2c_i0 = i32_load8_u(m, (u64)(w2c_i0));
-      w2c_l20 = w2c_i0;
-      w2c_B25:;
+      w2c_p3 = w2c_i0;
+      w2c_B22:;
       w2c_j0 = 1ull;
-      w2c_l16 = w2c_j0;
-      w2c_i0 = w2c_l20;
+      w2c_l13 = w2c_j0;
+      w2c_i0 = w2c_p3;
       w2c_i0 = (u32)(s32)(s8)(u8)(w2c_i0);
       w2c_i1 = 4294967295u;
       w2c_i0 = (u32)((s32)w2c_i0 > (s32)w2c_i1);
-      if (w2c_i0) {goto w2c_B27;}
-      w2c_j0 = w2c_l12;
+      if (w2c_i0) {goto w2c_B26;}
+      w2c_j0 = w2c_l11;
       w2c_i0 = (u32)(w2c_j0);
       w2c_i0 = i32_load8_u(m, (u64)(w2c_i0) + 1u);
       w2c_i1 = 63u;
       w2c_i0 &= w2c_i1;
-      w2c_l18 = w2c_i0;
-      w2c_i0 = w2c_l20;
+      w2c_l20 = w2c_i0;
+      w2c_i0 = w2c_p3;
       w2c_i1 = 223u;
+      w2c_i0 = w2c_i0 > w2c_i1;
+      if (w2c_i0) {goto w2c_B27;}
+      w2c_i0 = w2c_p3;
+      w2c_i1 = 6u;
+      w2c_i0 <<= (w2c_i1 & 31);
+      w2c_i1 = 1984u;
+      w2c_i0 &= w2c_i1;
+      w2c_i1 = w2c_l20;
+      w2c_i0 |= w2c_i1;
+      w2c_p3 = w2c_i0;
+      w2c_j0 = 2ull;
+      w2c_l13 = w2c_j0;
+      goto w2c_B26;
+      w2c_B27:;
+      w2c_j0 = w2c_l11;
+      w2c_i0 = (u32)(w2c_j0);
+      w2c_i0 = i32_load8_u(m, (u64)(w2c_i0) + 2u);
+      w2c_i1 = 63u;
+      w2c_i0 &= w2c_i1;
+      w2c_l21 = w2c_i0;
+      w2c_i0 = w2c_p3;
+      w2c_i1 = 239u;
       w2c_i0 = w2c_i0 > w2c_i1;
       if (w2c_i0) {goto w2c_B28;}
       w2c_i0 = w2c_l20;
       w2c_i1 = 6u;
       w2c_i0 <<= (w2c_i1 & 31);
-      w2c_i1 = 1984u;
-      w2c_i0 &= w2c_i1;
-      w2c_i1 = w2c_l18;
-      w2c_i0 |= w2c_i1;
-      w2c_l20 = w2c_i0;
-      w2c_j0 = 2ull;
-      w2c_l16 = w2c_j0;
-      goto w2c_B27;
-      w2c_B28:;
-      w2c_j0 = w2c_l12;
-      w2c_i0 = (u32)(w2c_j0);
-      w2c_i0 = i32_load8_u(m, (u64)(w2c_i0) + 2u);
-      w2c_i1 = 63u;
-      w2c_i0 &= w2c_i1;
-      w2c_l19 = w2c_i0;
-      w2c_i0 = w2c_l20;
-      w2c_i1 = 239u;
-      w2c_i0 = w2c_i0 > w2c_i1;
-      if (w2c_i0) {goto w2c_B29;}
-      w2c_i0 = w2c_l18;
-      w2c_i1 = 6u;
-      w2c_i0 <<= (w2c_i1 & 31);
-      w2c_i1 = w2c_l20;
+      w2c_i1 = w2c_p3;
       w2c_i2 = 12u;
       w2c_i1 <<= (w2c_i2 & 31);
       w2c_i2 = 61440u;
       w2c_i1 &= w2c_i2;
       w2c_i0 |= w2c_i1;
-      w2c_i1 = w2c_l19;
+      w2c_i1 = w2c_l21;
       w2c_i0 |= w2c_i1;
-      w2c_l20 = w2c_i0;
+      w2c_p3 = w2c_i0;
       w2c_j0 = 3ull;
-      w2c_l16 = w2c_j0;
-      goto w2c_B27;
-      w2c_B29:;
-      w2c_i0 = w2c_l19;
+      w2c_l13 = w2c_j0;
+      goto w2c_B26;
+      w2c_B28:;
+      w2c_i0 = w2c_l21;
       w2c_i1 = 6u;
       w2c_i0 <<= (w2c_i1 & 31);
-      w2c_i1 = w2c_l18;
+      w2c_i1 = w2c_l20;
       w2c_i2 = 12u;
       w2c_i1 <<= (w2c_i2 & 31);
-      w2c_i2 = w2c_l20;
+      w2c_i2 = w2c_p3;
       w2c_i3 = 18u;
       w2c_i2 <<= (w2c_i3 & 31);
       w2c_i3 = 1835008u;
       w2c_i2 &= w2c_i3;
       w2c_i1 |= w2c_i2;
       w2c_i0 |= w2c_i1;
-      w2c_j1 = w2c_l12;
+      w2c_j1 = w2c_l11;
       w2c_i1 = (u32)(w2c_j1);
       w2c_i1 = i32_load8_u(m, (u64)(w2c_i1) + 3u);
       w2c_i2 = 63u;
       w2c_i1 &= w2c_i2;
       w2c_i0 |= w2c_i1;
-      w2c_l20 = w2c_i0;
+      w2c_p3 = w2c_i0;
       w2c_j0 = 4ull;
-      w2c_l16 = w2c_j0;
-      w2c_B27:;
-      w2c_j0 = w2c_p3;
-      w2c_j1 = w2c_l16;
+      w2c_l13 = w2c_j0;
+      w2c_B26:;
+      w2c_j0 = w2c_p2;
+      w2c_j1 = w2c_l13;
       w2c_j0 -= w2c_j1;
-      w2c_l14 = w2c_j0;
-      w2c_j0 = w2c_l12;
-      w2c_j1 = w2c_l16;
+      w2c_l15 = w2c_j0;
+      w2c_j0 = w2c_l11;
+      w2c_j1 = w2c_l13;
       w2c_j0 += w2c_j1;
-      w2c_l16 = w2c_j0;
-      w2c_i0 = w2c_l20;
+      w2c_l13 = w2c_j0;
+      w2c_i0 = w2c_p3;
       w2c_i1 = 4294965248u;
       w2c_i0 += w2c_i1;
       w2c_i1 = 63487u;
       w2c_i0 = w2c_i0 > w2c_i1;
-      if (w2c_i0) {goto w2c_B23;}
-      w2c_i0 = w2c_l20;
+      if (w2c_i0) {goto w2c_B20;}
+      w2c_i0 = w2c_p3;
       w2c_i1 = 12u;
       w2c_i0 >>= (w2c_i1 & 31);
-      w2c_i1 = w2c_l20;
+      w2c_i1 = w2c_p3;
       w2c_i2 = 2u;
       w2c_i1 <<= (w2c_i2 & 31);
       w2c_i2 = 16128u;
       w2c_i1 &= w2c_i2;
       w2c_i0 |= w2c_i1;
-      w2c_i1 = w2c_l20;
+      w2c_i1 = w2c_p3;
       w2c_i2 = 16u;
       w2c_i1 <<= (w2c_i2 & 31);
       w2c_i2 = 4128768u;
@@ -8781,7 +8704,7 @@ static u32 w2c_f16(module *m, u32 w2c_p0, u64 w2c_p1, u64 w2c_p2, u64 w2c_p3, u3
       w2c_i0 |= w2c_i1;
       w2c_i1 = 8421600u;
       w2c_i0 |= w2c_i1;
-      w2c_l18 = w2c_i0;
+      w2c_l20 = w2c_i0;
       w2c_j0 = (u64)(w2c_i0);
       w2c_j1 = 953497ull;
       w2c_j0 *= w2c_j1;
@@ -8789,357 +8712,1428 @@ static u32 w2c_f16(module *m, u32 w2c_p0, u64 w2c_p1, u64 w2c_p2, u64 w2c_p3, u3
       w2c_j0 >>= (w2c_j1 & 63);
       w2c_j1 = 1016ull;
       w2c_j0 &= w2c_j1;
-      w2c_l17 = w2c_j0;
+      w2c_l16 = w2c_j0;
       w2c_j1 = 66992ull;
       w2c_j0 += w2c_j1;
       w2c_i0 = (u32)(w2c_j0);
       w2c_i0 = i32_load(m, (u64)(w2c_i0));
-      w2c_i1 = w2c_l18;
+      w2c_i1 = w2c_l20;
       w2c_i0 = w2c_i0 != w2c_i1;
-      if (w2c_i0) {goto w2c_B20;}
-      w2c_B24:;
-      w2c_j0 = w2c_l17;
+      if (w2c_i0) {goto w2c_B17;}
+      w2c_B21:;
+      w2c_j0 = w2c_l16;
       w2c_j1 = 66996ull;
       w2c_j0 += w2c_j1;
       w2c_i0 = (u32)(w2c_j0);
       w2c_i0 = i32_load8_u(m, (u64)(w2c_i0));
-      w2c_l18 = w2c_i0;
+      w2c_l20 = w2c_i0;
       w2c_i1 = 2u;
       w2c_i0 = w2c_i0 == w2c_i1;
-      if (w2c_i0) {goto w2c_B20;}
-      w2c_j0 = w2c_l17;
+      if (w2c_i0) {goto w2c_B17;}
+      w2c_j0 = w2c_l16;
       w2c_j1 = 66997ull;
       w2c_j0 += w2c_j1;
       w2c_i0 = (u32)(w2c_j0);
       w2c_i0 = i32_load8_u(m, (u64)(w2c_i0));
-      w2c_l19 = w2c_i0;
-      goto w2c_B22;
-      w2c_B23:;
+      w2c_l21 = w2c_i0;
+      goto w2c_B19;
+      w2c_B20:;
       w2c_i0 = 0u;
-      w2c_l18 = w2c_i0;
-      w2c_i0 = w2c_l20;
+      w2c_l20 = w2c_i0;
+      w2c_i0 = w2c_p3;
       w2c_i1 = 4294967248u;
       w2c_i0 += w2c_i1;
-      w2c_l19 = w2c_i0;
+      w2c_l21 = w2c_i0;
       w2c_i1 = 10u;
       w2c_i0 = w2c_i0 >= w2c_i1;
-      if (w2c_i0) {goto w2c_B20;}
-      w2c_B22:;
-      w2c_i0 = w2c_p4;
-      w2c_i1 = w2c_p5;
-      w2c_i2 = w2c_l20;
-      w2c_i3 = w2c_l18;
-      w2c_i4 = w2c_l19;
-      w2c_j5 = w2c_l16;
-      w2c_j6 = w2c_l14;
+      if (w2c_i0) {goto w2c_B17;}
+      w2c_B19:;
+      w2c_i0 = w2c_l17;
+      w2c_i1 = w2c_l19;
+      w2c_i2 = w2c_p3;
+      w2c_i3 = w2c_l20;
+      w2c_i4 = w2c_l21;
+      w2c_j5 = w2c_l13;
+      w2c_j6 = w2c_l15;
       w2c_i0 = w2c_f17(m, w2c_i0, w2c_i1, w2c_i2, w2c_i3, w2c_i4, w2c_j5, w2c_j6);
       w2c_i0 = !(w2c_i0);
-      if (w2c_i0) {goto w2c_B20;}
-      w2c_i0 = w2c_p0;
+      if (w2c_i0) {goto w2c_B17;}
+      w2c_i0 = w2c_l18;
       w2c_i1 = 4294967248u;
       w2c_i0 += w2c_i1;
       w2c_i1 = 9u;
       w2c_i0 = w2c_i0 > w2c_i1;
-      if (w2c_i0) {goto w2c_B30;}
-      w2c_j0 = w2c_l10;
-      w2c_j1 = 16ull;
+      if (w2c_i0) {goto w2c_B29;}
+      w2c_j0 = w2c_l9;
+      w2c_j1 = 24ull;
       w2c_j0 += w2c_j1;
-      w2c_i1 = w2c_l20;
+      w2c_i1 = w2c_p3;
       w2c_f18(m, w2c_j0, w2c_i1);
-      w2c_i0 = w2c_l20;
+      w2c_i0 = w2c_p3;
       w2c_i1 = 4294967238u;
       w2c_i0 += w2c_i1;
       w2c_i1 = 4294967285u;
       w2c_i0 = w2c_i0 > w2c_i1;
-      if (w2c_i0) {goto w2c_B30;}
-      w2c_j0 = w2c_l10;
+      if (w2c_i0) {goto w2c_B29;}
+      w2c_j0 = w2c_l9;
+      w2c_i0 = (u32)(w2c_j0);
+      w2c_i0 = i32_load8_u(m, (u64)(w2c_i0) + 24u);
+      w2c_i1 = 255u;
+      w2c_i0 &= w2c_i1;
+      w2c_i1 = 1u;
+      w2c_i0 = w2c_i0 == w2c_i1;
+      if (w2c_i0) {goto w2c_B17;}
+      w2c_B29:;
+      w2c_j0 = w2c_l9;
+      w2c_j1 = 16ull;
+      w2c_j0 += w2c_j1;
+      w2c_i1 = w2c_l18;
+      w2c_f18(m, w2c_j0, w2c_i1);
+      w2c_i0 = w2c_l18;
+      w2c_i1 = 4294967238u;
+      w2c_i0 += w2c_i1;
+      w2c_l20 = w2c_i0;
+      w2c_i0 = w2c_p3;
+      w2c_l18 = w2c_i0;
+      w2c_i0 = w2c_l20;
+      w2c_i1 = 4294967285u;
+      w2c_i0 = w2c_i0 > w2c_i1;
+      if (w2c_i0) {goto w2c_L18;}
+      w2c_i0 = w2c_p3;
+      w2c_l18 = w2c_i0;
+      w2c_j0 = w2c_l9;
       w2c_i0 = (u32)(w2c_j0);
       w2c_i0 = i32_load8_u(m, (u64)(w2c_i0) + 16u);
       w2c_i1 = 255u;
       w2c_i0 &= w2c_i1;
       w2c_i1 = 1u;
-      w2c_i0 = w2c_i0 == w2c_i1;
-      if (w2c_i0) {goto w2c_B20;}
-      w2c_B30:;
-      w2c_j0 = w2c_l10;
-      w2c_j1 = 8ull;
-      w2c_j0 += w2c_j1;
-      w2c_i1 = w2c_p0;
-      w2c_f18(m, w2c_j0, w2c_i1);
-      w2c_i0 = w2c_p0;
-      w2c_i1 = 4294967238u;
-      w2c_i0 += w2c_i1;
-      w2c_l18 = w2c_i0;
-      w2c_i0 = w2c_l20;
-      w2c_p0 = w2c_i0;
-      w2c_i0 = w2c_l18;
-      w2c_i1 = 4294967285u;
-      w2c_i0 = w2c_i0 > w2c_i1;
-      if (w2c_i0) {goto w2c_L21;}
-      w2c_i0 = w2c_l20;
-      w2c_p0 = w2c_i0;
-      w2c_j0 = w2c_l10;
-      w2c_i0 = (u32)(w2c_j0);
-      w2c_i0 = i32_load8_u(m, (u64)(w2c_i0) + 8u);
-      w2c_i1 = 255u;
-      w2c_i0 &= w2c_i1;
-      w2c_i1 = 1u;
       w2c_i0 = w2c_i0 != w2c_i1;
-      if (w2c_i0) {goto w2c_L21;}
-      w2c_i0 = w2c_l20;
-      w2c_p0 = w2c_i0;
-      w2c_i0 = w2c_l20;
+      if (w2c_i0) {goto w2c_L18;}
+      w2c_i0 = w2c_p3;
+      w2c_l18 = w2c_i0;
+      w2c_i0 = w2c_p3;
       w2c_i1 = 4294967248u;
       w2c_i0 += w2c_i1;
       w2c_i1 = 9u;
       w2c_i0 = w2c_i0 > w2c_i1;
-      if (w2c_i0) {goto w2c_L21;}
-    w2c_B20:;
-    w2c_j0 = w2c_l10;
-    w2c_i0 = (u32)(w2c_j0);
-    w2c_j1 = w2c_l12;
-    i64_store(m, (u64)(w2c_i0) + 80, w2c_j1);
-    w2c_j0 = w2c_l10;
-    w2c_i0 = (u32)(w2c_j0);
-    w2c_j1 = w2c_l9;
-    i64_store(m, (u64)(w2c_i0) + 64, w2c_j1);
-    w2c_j0 = w2c_l10;
-    w2c_i0 = (u32)(w2c_j0);
-    w2c_j1 = w2c_l15;
-    i64_store(m, (u64)(w2c_i0) + 56, w2c_j1);
-    w2c_j0 = w2c_l10;
-    w2c_i0 = (u32)(w2c_j0);
-    w2c_j1 = w2c_p1;
-    i64_store(m, (u64)(w2c_i0) + 48, w2c_j1);
-    w2c_j0 = w2c_l10;
-    w2c_i0 = (u32)(w2c_j0);
-    w2c_j1 = w2c_p3;
-    i64_store(m, (u64)(w2c_i0) + 88, w2c_j1);
-    w2c_j0 = w2c_l10;
-    w2c_i0 = (u32)(w2c_j0);
-    w2c_j1 = w2c_l13;
-    w2c_j2 = w2c_p3;
-    w2c_j1 -= w2c_j2;
-    i64_store(m, (u64)(w2c_i0) + 72, w2c_j1);
-    w2c_j0 = w2c_l10;
-    w2c_j1 = 104ull;
+      if (w2c_i0) {goto w2c_L18;}
+    w2c_B17:;
+    w2c_j0 = w2c_l14;
+    w2c_j1 = 3ull;
+    w2c_i0 = w2c_j0 < w2c_j1;
+    if (w2c_i0) {goto w2c_B36;}
+    w2c_j0 = w2c_p0;
+    w2c_j1 = w2c_l14;
     w2c_j0 += w2c_j1;
-    w2c_j1 = w2c_l10;
-    w2c_j2 = 48ull;
+    w2c_l13 = w2c_j0;
+    w2c_j1 = 18446744073709551613ull;
+    w2c_j0 += w2c_j1;
+    w2c_i0 = (u32)(w2c_j0);
+    w2c_i0 = i32_load8_u(m, (u64)(w2c_i0));
+    w2c_p3 = w2c_i0;
+    w2c_i1 = 240u;
+    w2c_i0 &= w2c_i1;
+    w2c_i1 = 224u;
+    w2c_i0 = w2c_i0 != w2c_i1;
+    if (w2c_i0) {goto w2c_B36;}
+    w2c_i0 = w2c_p3;
+    w2c_i1 = 12u;
+    w2c_i0 <<= (w2c_i1 & 31);
+    w2c_j1 = w2c_l13;
+    w2c_j2 = 18446744073709551615ull;
     w2c_j1 += w2c_j2;
-    w2c_f19(m, w2c_j0, w2c_j1);
-    w2c_j0 = w2c_p6;
+    w2c_i1 = (u32)(w2c_j1);
+    w2c_i1 = i32_load8_u(m, (u64)(w2c_i1));
+    w2c_l20 = w2c_i1;
+    w2c_i0 |= w2c_i1;
+    w2c_j1 = w2c_l13;
+    w2c_j2 = 18446744073709551614ull;
+    w2c_j1 += w2c_j2;
+    w2c_i1 = (u32)(w2c_j1);
+    w2c_i1 = i32_load8_u(m, (u64)(w2c_i1));
+    w2c_l21 = w2c_i1;
+    w2c_i2 = 6u;
+    w2c_i1 <<= (w2c_i2 & 31);
+    w2c_i0 += w2c_i1;
+    w2c_i1 = 4294041472u;
+    w2c_i0 += w2c_i1;
+    w2c_l18 = w2c_i0;
+    w2c_j0 = w2c_l14;
+    w2c_j1 = 18446744073709551613ull;
+    w2c_j0 += w2c_j1;
+    w2c_l13 = w2c_j0;
+    w2c_i0 = w2c_l21;
+    w2c_i1 = 8u;
+    w2c_i0 <<= (w2c_i1 & 31);
+    w2c_i1 = w2c_l20;
+    w2c_i2 = 16u;
+    w2c_i1 <<= (w2c_i2 & 31);
+    w2c_i0 |= w2c_i1;
+    w2c_i1 = w2c_p3;
+    w2c_i0 |= w2c_i1;
+    w2c_p3 = w2c_i0;
+    w2c_j0 = (u64)(w2c_i0);
+    w2c_j1 = 953497ull;
+    w2c_j0 *= w2c_j1;
+    w2c_j1 = 22ull;
+    w2c_j0 >>= (w2c_j1 & 63);
+    w2c_j1 = 1016ull;
+    w2c_j0 &= w2c_j1;
+    w2c_l15 = w2c_j0;
+    w2c_j1 = 66992ull;
+    w2c_j0 += w2c_j1;
+    w2c_i0 = (u32)(w2c_j0);
+    w2c_i0 = i32_load(m, (u64)(w2c_i0));
+    w2c_i1 = w2c_p3;
+    w2c_i0 = w2c_i0 == w2c_i1;
+    if (w2c_i0) {goto w2c_B35;}
+    goto w2c_B33;
+    w2c_B36:;
+    w2c_j0 = w2c_p1;
+    w2c_j1 = w2c_l12;
+    w2c_i0 = w2c_j0 != w2c_j1;
+    if (w2c_i0) {goto w2c_B37;}
+    w2c_i0 = 0u;
+    w2c_l23 = w2c_i0;
+    w2c_i0 = 0u;
+    w2c_l21 = w2c_i0;
+    goto w2c_B30;
+    w2c_B37:;
+    w2c_j0 = w2c_p0;
+    w2c_j1 = w2c_l14;
+    w2c_j2 = 18446744073709551615ull;
+    w2c_j1 += w2c_j2;
+    w2c_l13 = w2c_j1;
+    w2c_j0 += w2c_j1;
+    w2c_i0 = (u32)(w2c_j0);
+    w2c_i0 = i32_load8_s(m, (u64)(w2c_i0));
+    w2c_l18 = w2c_i0;
+    w2c_i1 = 0u;
+    w2c_i0 = (u32)((s32)w2c_i0 >= (s32)w2c_i1);
+    if (w2c_i0) {goto w2c_B34;}
+    w2c_j0 = 18446744073709551614ull;
+    w2c_l13 = w2c_j0;
+    w2c_j0 = w2c_p0;
+    w2c_j1 = w2c_l14;
+    w2c_j0 += w2c_j1;
+    w2c_l15 = w2c_j0;
+    w2c_j1 = 18446744073709551614ull;
+    w2c_j0 += w2c_j1;
+    w2c_i0 = (u32)(w2c_j0);
+    w2c_i0 = i32_load8_u(m, (u64)(w2c_i0));
+    w2c_i1 = 191u;
+    w2c_i0 = w2c_i0 > w2c_i1;
+    if (w2c_i0) {goto w2c_B38;}
+    w2c_j0 = 18446744073709551613ull;
+    w2c_j1 = 18446744073709551612ull;
+    w2c_j2 = w2c_l15;
+    w2c_j3 = 18446744073709551613ull;
+    w2c_j2 += w2c_j3;
+    w2c_i2 = (u32)(w2c_j2);
+    w2c_i2 = i32_load8_u(m, (u64)(w2c_i2));
+    w2c_i3 = 191u;
+    w2c_i2 = w2c_i2 > w2c_i3;
+    w2c_j0 = w2c_i2 ? w2c_j0 : w2c_j1;
+    w2c_l13 = w2c_j0;
+    w2c_B38:;
+    w2c_j0 = w2c_p0;
+    w2c_j1 = w2c_l13;
+    w2c_j2 = w2c_l14;
+    w2c_j1 += w2c_j2;
+    w2c_l13 = w2c_j1;
+    w2c_j0 += w2c_j1;
+    w2c_l15 = w2c_j0;
+    w2c_i0 = (u32)(w2c_j0);
+    w2c_i0 = i32_load8_s(m, (u64)(w2c_i0));
+    w2c_p3 = w2c_i0;
+    w2c_i1 = 255u;
+    w2c_i0 &= w2c_i1;
+    w2c_l18 = w2c_i0;
+    w2c_i0 = w2c_p3;
+    w2c_i1 = 4294967295u;
+    w2c_i0 = (u32)((s32)w2c_i0 > (s32)w2c_i1);
+    if (w2c_i0) {goto w2c_B34;}
+    w2c_j0 = w2c_l15;
+    w2c_i0 = (u32)(w2c_j0);
+    w2c_i0 = i32_load8_u(m, (u64)(w2c_i0) + 1u);
+    w2c_i1 = 63u;
+    w2c_i0 &= w2c_i1;
+    w2c_l20 = w2c_i0;
+    w2c_i0 = w2c_p3;
+    w2c_i1 = 4294967263u;
+    w2c_i0 = w2c_i0 > w2c_i1;
+    if (w2c_i0) {goto w2c_B39;}
+    w2c_i0 = w2c_l18;
+    w2c_i1 = 6u;
+    w2c_i0 <<= (w2c_i1 & 31);
+    w2c_i1 = 1984u;
+    w2c_i0 &= w2c_i1;
+    w2c_i1 = w2c_l20;
+    w2c_i0 |= w2c_i1;
+    w2c_l18 = w2c_i0;
+    goto w2c_B34;
+    w2c_B39:;
+    w2c_j0 = w2c_l15;
+    w2c_i0 = (u32)(w2c_j0);
+    w2c_i0 = i32_load8_u(m, (u64)(w2c_i0) + 2u);
+    w2c_i1 = 63u;
+    w2c_i0 &= w2c_i1;
+    w2c_l21 = w2c_i0;
+    w2c_i0 = w2c_p3;
+    w2c_i1 = 4294967279u;
+    w2c_i0 = w2c_i0 > w2c_i1;
+    if (w2c_i0) {goto w2c_B41;}
+    w2c_i0 = w2c_l20;
+    w2c_i1 = 6u;
+    w2c_i0 <<= (w2c_i1 & 31);
+    w2c_i1 = w2c_l18;
+    w2c_i2 = 12u;
+    w2c_i1 <<= (w2c_i2 & 31);
+    w2c_i2 = 61440u;
+    w2c_i1 &= w2c_i2;
+    w2c_i0 |= w2c_i1;
+    w2c_i1 = w2c_l21;
+    w2c_i0 |= w2c_i1;
+    w2c_l18 = w2c_i0;
+    goto w2c_B40;
+    w2c_B41:;
+    w2c_i0 = w2c_l21;
+    w2c_i1 = 6u;
+    w2c_i0 <<= (w2c_i1 & 31);
+    w2c_i1 = w2c_l20;
+    w2c_i2 = 12u;
+    w2c_i1 <<= (w2c_i2 & 31);
+    w2c_i2 = w2c_l18;
+    w2c_i3 = 18u;
+    w2c_i2 <<= (w2c_i3 & 31);
+    w2c_i3 = 1835008u;
+    w2c_i2 &= w2c_i3;
+    w2c_i1 |= w2c_i2;
+    w2c_i0 |= w2c_i1;
+    w2c_j1 = w2c_l15;
+    w2c_i1 = (u32)(w2c_j1);
+    w2c_i1 = i32_load8_u(m, (u64)(w2c_i1) + 3u);
+    w2c_i2 = 63u;
+    w2c_i1 &= w2c_i2;
+    w2c_i0 |= w2c_i1;
+    w2c_l18 = w2c_i0;
+    w2c_B40:;
+    w2c_i0 = w2c_l18;
+    w2c_i1 = 4294965248u;
+    w2c_i0 += w2c_i1;
+    w2c_i1 = 63487u;
+    w2c_i0 = w2c_i0 > w2c_i1;
+    if (w2c_i0) {goto w2c_B34;}
+    w2c_i0 = w2c_l18;
+    w2c_i1 = 12u;
+    w2c_i0 >>= (w2c_i1 & 31);
+    w2c_i1 = w2c_l18;
+    w2c_i2 = 2u;
+    w2c_i1 <<= (w2c_i2 & 31);
+    w2c_i2 = 16128u;
+    w2c_i1 &= w2c_i2;
+    w2c_i0 |= w2c_i1;
+    w2c_i1 = w2c_l18;
+    w2c_i2 = 16u;
+    w2c_i1 <<= (w2c_i2 & 31);
+    w2c_i2 = 4128768u;
+    w2c_i1 &= w2c_i2;
+    w2c_i0 |= w2c_i1;
+    w2c_i1 = 8421600u;
+    w2c_i0 |= w2c_i1;
+    w2c_p3 = w2c_i0;
+    w2c_j0 = (u64)(w2c_i0);
+    w2c_j1 = 953497ull;
+    w2c_j0 *= w2c_j1;
+    w2c_j1 = 22ull;
+    w2c_j0 >>= (w2c_j1 & 63);
+    w2c_j1 = 1016ull;
+    w2c_j0 &= w2c_j1;
+    w2c_l15 = w2c_j0;
+    w2c_j1 = 66992ull;
+    w2c_j0 += w2c_j1;
+    w2c_i0 = (u32)(w2c_j0);
+    w2c_i0 = i32_load(m, (u64)(w2c_i0));
+    w2c_i1 = w2c_p3;
+    w2c_i0 = w2c_i0 != w2c_i1;
+    if (w2c_i0) {goto w2c_B33;}
+    w2c_B35:;
+    w2c_j0 = w2c_l15;
+    w2c_j1 = 66996ull;
+    w2c_j0 += w2c_j1;
+    w2c_i0 = (u32)(w2c_j0);
+    w2c_i0 = i32_load8_u(m, (u64)(w2c_i0));
+    if (w2c_i0) {goto w2c_B33;}
+    w2c_i0 = 1u;
+    w2c_l21 = w2c_i0;
+    goto w2c_B32;
+    w2c_B34:;
+    w2c_i0 = w2c_l18;
+    w2c_i1 = 4294967248u;
+    w2c_i0 += w2c_i1;
+    w2c_i1 = 10u;
+    w2c_i0 = w2c_i0 >= w2c_i1;
+    if (w2c_i0) {goto w2c_B33;}
+    w2c_i0 = 1u;
+    w2c_l21 = w2c_i0;
+    goto w2c_B32;
+    w2c_B33:;
+    w2c_i0 = 1u;
+    w2c_l21 = w2c_i0;
+    w2c_i0 = w2c_l18;
+    w2c_i1 = 24318u;
+    w2c_i0 = (u32)((s32)w2c_i0 > (s32)w2c_i1);
+    if (w2c_i0) {goto w2c_B46;}
+    w2c_i0 = w2c_l18;
+    w2c_i1 = 21316u;
+    w2c_i0 = (u32)((s32)w2c_i0 > (s32)w2c_i1);
+    if (w2c_i0) {goto w2c_B47;}
+    w2c_i0 = w2c_l18;
+    w2c_i1 = 20313u;
+    w2c_i0 = w2c_i0 == w2c_i1;
+    if (w2c_i0) {goto w2c_B44;}
+    w2c_i0 = w2c_l18;
+    w2c_i1 = 20358u;
+    w2c_i0 = w2c_i0 == w2c_i1;
+    if (w2c_i0) {goto w2c_B44;}
+    w2c_i0 = w2c_l18;
+    w2c_i1 = 20960u;
+    w2c_i0 = w2c_i0 != w2c_i1;
+    if (w2c_i0) {goto w2c_B43;}
+    goto w2c_B44;
+    w2c_B47:;
+    w2c_i0 = w2c_l18;
+    w2c_i1 = 4294945979u;
+    w2c_i0 += w2c_i1;
+    switch (w2c_i0) {
+      case 0: goto w2c_B32;
+      case 1: goto w2c_B43;
+      case 2: goto w2c_B43;
+      case 3: goto w2c_B43;
+      case 4: goto w2c_B43;
+      case 5: goto w2c_B43;
+      case 6: goto w2c_B43;
+      case 7: goto w2c_B32;
+      default: goto w2c_B48;
+    }
+    w2c_B48:;
+    w2c_i0 = w2c_l18;
+    w2c_i1 = 4294943110u;
+    w2c_i0 += w2c_i1;
+    switch (w2c_i0) {
+      case 0: goto w2c_B32;
+      case 1: goto w2c_B43;
+      case 2: goto w2c_B43;
+      case 3: goto w2c_B43;
+      case 4: goto w2c_B44;
+      default: goto w2c_B45;
+    }
+    w2c_B46:;
+    w2c_i0 = w2c_l18;
+    w2c_i1 = 28856u;
+    w2c_i0 = (u32)((s32)w2c_i0 > (s32)w2c_i1);
+    if (w2c_i0) {goto w2c_B49;}
+    w2c_i0 = w2c_l18;
+    w2c_i1 = 4294941328u;
+    w2c_i0 += w2c_i1;
+    switch (w2c_i0) {
+      case 0: goto w2c_B44;
+      case 1: goto w2c_B43;
+      case 2: goto w2c_B43;
+      case 3: goto w2c_B43;
+      case 4: goto w2c_B43;
+      case 5: goto w2c_B43;
+      case 6: goto w2c_B43;
+      case 7: goto w2c_B43;
+      case 8: goto w2c_B44;
+      default: goto w2c_B50;
+    }
+    w2c_B50:;
+    w2c_i0 = w2c_l18;
+    w2c_i1 = 24319u;
+    w2c_i0 = w2c_i0 == w2c_i1;
+    if (w2c_i0) {goto w2c_B32;}
+    w2c_i0 = w2c_l18;
+    w2c_i1 = 26469u;
+    w2c_i0 = w2c_i0 != w2c_i1;
+    if (w2c_i0) {goto w2c_B43;}
+    goto w2c_B44;
+    w2c_B49:;
+    w2c_i0 = w2c_l18;
+    w2c_i1 = 28857u;
+    w2c_i0 = w2c_i0 == w2c_i1;
+    if (w2c_i0) {goto w2c_B42;}
+    w2c_i0 = w2c_l18;
+    w2c_i1 = 39192u;
+    w2c_i0 = w2c_i0 == w2c_i1;
+    if (w2c_i0) {goto w2c_B44;}
+    w2c_i0 = w2c_l18;
+    w2c_i1 = 40670u;
+    w2c_i0 = w2c_i0 == w2c_i1;
+    if (w2c_i0) {goto w2c_B42;}
+    goto w2c_B43;
+    w2c_B45:;
+    w2c_i0 = w2c_l18;
+    w2c_i1 = 22810u;
+    w2c_i0 = w2c_i0 != w2c_i1;
+    if (w2c_i0) {goto w2c_B43;}
+    w2c_B44:;
+    w2c_i0 = 0u;
+    w2c_l21 = w2c_i0;
+    goto w2c_B32;
+    w2c_B43:;
+    w2c_i0 = w2c_l18;
+    w2c_i1 = 128u;
+    w2c_i0 = w2c_i0 < w2c_i1;
+    if (w2c_i0) {goto w2c_B51;}
+    w2c_i0 = w2c_l18;
+    w2c_i1 = 4294902000u;
+    w2c_i0 += w2c_i1;
+    w2c_i1 = 10u;
+    w2c_i0 = w2c_i0 < w2c_i1;
+    if (w2c_i0) {goto w2c_B32;}
+    w2c_i0 = 0u;
+    w2c_l21 = w2c_i0;
+    goto w2c_B31;
+    w2c_B51:;
+    w2c_i0 = w2c_l18;
+    w2c_i1 = 95u;
+    w2c_i0 = w2c_i0 == w2c_i1;
+    if (w2c_i0) {goto w2c_B32;}
+    w2c_i0 = w2c_l18;
+    w2c_i1 = 4294967248u;
+    w2c_i0 += w2c_i1;
+    w2c_i1 = 10u;
+    w2c_i0 = w2c_i0 < w2c_i1;
+    if (w2c_i0) {goto w2c_B32;}
+    w2c_i0 = w2c_l18;
+    w2c_i1 = 95u;
+    w2c_i0 &= w2c_i1;
+    w2c_i1 = 4294967231u;
+    w2c_i0 += w2c_i1;
+    w2c_i1 = 26u;
+    w2c_i0 = w2c_i0 < w2c_i1;
+    if (w2c_i0) {goto w2c_B32;}
+    w2c_i0 = w2c_l18;
+    w2c_i1 = 4294967252u;
+    w2c_i0 += w2c_i1;
+    w2c_i1 = 2u;
+    w2c_i0 = w2c_i0 <= w2c_i1;
+    if (w2c_i0) {goto w2c_B42;}
+    w2c_i0 = 0u;
+    w2c_l21 = w2c_i0;
+    goto w2c_B32;
+    w2c_B42:;
+    w2c_j0 = w2c_p0;
+    w2c_j1 = w2c_l13;
+    w2c_i0 = w2c_f19(m, w2c_j0, w2c_j1);
+    w2c_l21 = w2c_i0;
+    w2c_B32:;
+    w2c_i0 = 1u;
+    w2c_l23 = w2c_i0;
+    w2c_i0 = w2c_l18;
+    w2c_i1 = 4294941328u;
+    w2c_i0 += w2c_i1;
+    switch (w2c_i0) {
+      case 0: goto w2c_B30;
+      case 1: goto w2c_B31;
+      case 2: goto w2c_B31;
+      case 3: goto w2c_B31;
+      case 4: goto w2c_B31;
+      case 5: goto w2c_B31;
+      case 6: goto w2c_B31;
+      case 7: goto w2c_B31;
+      case 8: goto w2c_B30;
+      default: goto w2c_B52;
+    }
+    w2c_B52:;
+    w2c_i0 = w2c_l18;
+    w2c_i1 = 20960u;
+    w2c_i0 = w2c_i0 == w2c_i1;
+    if (w2c_i0) {goto w2c_B30;}
+    w2c_i0 = w2c_l18;
+    w2c_i1 = 24190u;
+    w2c_i0 = w2c_i0 == w2c_i1;
+    if (w2c_i0) {goto w2c_B30;}
+    w2c_B31:;
+    w2c_i0 = 0u;
+    w2c_l23 = w2c_i0;
+    w2c_B30:;
+    w2c_i0 = w2c_l22;
+    if (w2c_i0) {goto w2c_B59;}
+    w2c_j0 = w2c_l11;
+    w2c_i0 = (u32)(w2c_j0);
+    w2c_i0 = i32_load8_u(m, (u64)(w2c_i0));
+    w2c_l18 = w2c_i0;
+    w2c_i1 = 240u;
+    w2c_i0 &= w2c_i1;
+    w2c_i1 = 224u;
+    w2c_i0 = w2c_i0 != w2c_i1;
+    if (w2c_i0) {goto w2c_B58;}
+    w2c_j0 = w2c_l11;
+    w2c_i0 = (u32)(w2c_j0);
+    w2c_i0 = i32_load8_u(m, (u64)(w2c_i0) + 1u);
+    w2c_l20 = w2c_i0;
+    w2c_i1 = 8u;
+    w2c_i0 <<= (w2c_i1 & 31);
     w2c_j1 = w2c_l11;
+    w2c_i1 = (u32)(w2c_j1);
+    w2c_i1 = i32_load8_u(m, (u64)(w2c_i1) + 2u);
+    w2c_l22 = w2c_i1;
+    w2c_i2 = 16u;
+    w2c_i1 <<= (w2c_i2 & 31);
+    w2c_i0 |= w2c_i1;
+    w2c_i1 = w2c_l18;
+    w2c_i0 |= w2c_i1;
+    w2c_p3 = w2c_i0;
+    w2c_i0 = w2c_l18;
+    w2c_i1 = 12u;
+    w2c_i0 <<= (w2c_i1 & 31);
+    w2c_i1 = w2c_l20;
+    w2c_i2 = 6u;
+    w2c_i1 <<= (w2c_i2 & 31);
+    w2c_i0 += w2c_i1;
+    w2c_i1 = w2c_l22;
+    w2c_i0 += w2c_i1;
+    w2c_i1 = 4294041472u;
+    w2c_i0 += w2c_i1;
+    w2c_l18 = w2c_i0;
+    w2c_j0 = w2c_p2;
+    w2c_j1 = 18446744073709551613ull;
+    w2c_j0 += w2c_j1;
+    w2c_l15 = w2c_j0;
+    w2c_j0 = w2c_l11;
+    w2c_j1 = 3ull;
+    w2c_j0 += w2c_j1;
+    w2c_l13 = w2c_j0;
+    w2c_i0 = w2c_p3;
+    w2c_i1 = w2c_p3;
+    w2c_j1 = (u64)(w2c_i1);
+    w2c_j2 = 953497ull;
+    w2c_j1 *= w2c_j2;
+    w2c_j2 = 22ull;
+    w2c_j1 >>= (w2c_j2 & 63);
+    w2c_j2 = 1016ull;
+    w2c_j1 &= w2c_j2;
+    w2c_l16 = w2c_j1;
+    w2c_j2 = 66992ull;
+    w2c_j1 += w2c_j2;
+    w2c_i1 = (u32)(w2c_j1);
+    w2c_i1 = i32_load(m, (u64)(w2c_i1));
+    w2c_i0 = w2c_i0 != w2c_i1;
+    if (w2c_i0) {goto w2c_B56;}
+    goto w2c_B57;
+    w2c_B59:;
+    w2c_j0 = w2c_p2;
+    w2c_i0 = !(w2c_j0);
+    if (w2c_i0) {goto w2c_B54;}
+    w2c_j0 = w2c_l11;
+    w2c_i0 = (u32)(w2c_j0);
+    w2c_i0 = i32_load8_u(m, (u64)(w2c_i0));
+    w2c_l18 = w2c_i0;
+    w2c_B58:;
+    w2c_j0 = 1ull;
+    w2c_l13 = w2c_j0;
+    w2c_i0 = w2c_l18;
+    w2c_i0 = (u32)(s32)(s8)(u8)(w2c_i0);
+    w2c_i1 = 4294967295u;
+    w2c_i0 = (u32)((s32)w2c_i0 > (s32)w2c_i1);
+    if (w2c_i0) {goto w2c_B60;}
+    w2c_j0 = w2c_l11;
+    w2c_i0 = (u32)(w2c_j0);
+    w2c_i0 = i32_load8_u(m, (u64)(w2c_i0) + 1u);
+    w2c_i1 = 63u;
+    w2c_i0 &= w2c_i1;
+    w2c_p3 = w2c_i0;
+    w2c_i0 = w2c_l18;
+    w2c_i1 = 223u;
+    w2c_i0 = w2c_i0 > w2c_i1;
+    if (w2c_i0) {goto w2c_B61;}
+    w2c_i0 = w2c_l18;
+    w2c_i1 = 6u;
+    w2c_i0 <<= (w2c_i1 & 31);
+    w2c_i1 = 1984u;
+    w2c_i0 &= w2c_i1;
+    w2c_i1 = w2c_p3;
+    w2c_i0 |= w2c_i1;
+    w2c_l18 = w2c_i0;
+    w2c_j0 = 2ull;
+    w2c_l13 = w2c_j0;
+    goto w2c_B60;
+    w2c_B61:;
+    w2c_j0 = w2c_l11;
+    w2c_i0 = (u32)(w2c_j0);
+    w2c_i0 = i32_load8_u(m, (u64)(w2c_i0) + 2u);
+    w2c_i1 = 63u;
+    w2c_i0 &= w2c_i1;
+    w2c_l20 = w2c_i0;
+    w2c_i0 = w2c_l18;
+    w2c_i1 = 239u;
+    w2c_i0 = w2c_i0 > w2c_i1;
+    if (w2c_i0) {goto w2c_B62;}
+    w2c_i0 = w2c_p3;
+    w2c_i1 = 6u;
+    w2c_i0 <<= (w2c_i1 & 31);
+    w2c_i1 = w2c_l18;
+    w2c_i2 = 12u;
+    w2c_i1 <<= (w2c_i2 & 31);
+    w2c_i2 = 61440u;
+    w2c_i1 &= w2c_i2;
+    w2c_i0 |= w2c_i1;
+    w2c_i1 = w2c_l20;
+    w2c_i0 |= w2c_i1;
+    w2c_l18 = w2c_i0;
+    w2c_j0 = 3ull;
+    w2c_l13 = w2c_j0;
+    goto w2c_B60;
+    w2c_B62:;
+    w2c_i0 = w2c_l20;
+    w2c_i1 = 6u;
+    w2c_i0 <<= (w2c_i1 & 31);
+    w2c_i1 = w2c_p3;
+    w2c_i2 = 12u;
+    w2c_i1 <<= (w2c_i2 & 31);
+    w2c_i2 = w2c_l18;
+    w2c_i3 = 18u;
+    w2c_i2 <<= (w2c_i3 & 31);
+    w2c_i3 = 1835008u;
+    w2c_i2 &= w2c_i3;
+    w2c_i1 |= w2c_i2;
+    w2c_i0 |= w2c_i1;
+    w2c_j1 = w2c_l11;
+    w2c_i1 = (u32)(w2c_j1);
+    w2c_i1 = i32_load8_u(m, (u64)(w2c_i1) + 3u);
+    w2c_i2 = 63u;
+    w2c_i1 &= w2c_i2;
+    w2c_i0 |= w2c_i1;
+    w2c_l18 = w2c_i0;
+    w2c_j0 = 4ull;
+    w2c_l13 = w2c_j0;
+    w2c_B60:;
+    w2c_j0 = w2c_p2;
+    w2c_j1 = w2c_l13;
+    w2c_j0 -= w2c_j1;
+    w2c_l15 = w2c_j0;
+    w2c_j0 = w2c_l11;
+    w2c_j1 = w2c_l13;
+    w2c_j0 += w2c_j1;
+    w2c_l13 = w2c_j0;
+    w2c_i0 = w2c_l18;
+    w2c_i1 = 4294965248u;
+    w2c_i0 += w2c_i1;
+    w2c_i1 = 63487u;
+    w2c_i0 = w2c_i0 > w2c_i1;
+    if (w2c_i0) {goto w2c_B63;}
+    w2c_i0 = w2c_l18;
+    w2c_i1 = 12u;
+    w2c_i0 >>= (w2c_i1 & 31);
+    w2c_i1 = w2c_l18;
+    w2c_i2 = 2u;
+    w2c_i1 <<= (w2c_i2 & 31);
+    w2c_i2 = 16128u;
+    w2c_i1 &= w2c_i2;
+    w2c_i0 |= w2c_i1;
+    w2c_i1 = w2c_l18;
+    w2c_i2 = 16u;
+    w2c_i1 <<= (w2c_i2 & 31);
+    w2c_i2 = 4128768u;
+    w2c_i1 &= w2c_i2;
+    w2c_i0 |= w2c_i1;
+    w2c_i1 = 8421600u;
+    w2c_i0 |= w2c_i1;
+    w2c_p3 = w2c_i0;
+    w2c_j0 = (u64)(w2c_i0);
+    w2c_j1 = 953497ull;
+    w2c_j0 *= w2c_j1;
+    w2c_j1 = 22ull;
+    w2c_j0 >>= (w2c_j1 & 63);
+    w2c_j1 = 1016ull;
+    w2c_j0 &= w2c_j1;
+    w2c_l16 = w2c_j0;
+    w2c_j1 = 66992ull;
+    w2c_j0 += w2c_j1;
+    w2c_i0 = (u32)(w2c_j0);
+    w2c_i0 = i32_load(m, (u64)(w2c_i0));
+    w2c_i1 = w2c_p3;
+    w2c_i0 = w2c_i0 == w2c_i1;
+    if (w2c_i0) {goto w2c_B57;}
+    goto w2c_B56;
+    w2c_B63:;
+    w2c_i0 = w2c_l18;
+    w2c_i1 = 4294967248u;
+    w2c_i0 += w2c_i1;
+    w2c_i1 = 10u;
+    w2c_i0 = w2c_i0 >= w2c_i1;
+    if (w2c_i0) {goto w2c_B56;}
+    w2c_i0 = 1u;
+    w2c_p3 = w2c_i0;
+    goto w2c_B55;
+    w2c_B57:;
+    w2c_j0 = w2c_l16;
+    w2c_j1 = 66996ull;
+    w2c_j0 += w2c_j1;
+    w2c_i0 = (u32)(w2c_j0);
+    w2c_i0 = i32_load8_u(m, (u64)(w2c_i0));
+    if (w2c_i0) {goto w2c_B56;}
+    w2c_i0 = 1u;
+    w2c_p3 = w2c_i0;
+    goto w2c_B55;
+    w2c_B56:;
+    w2c_i0 = 1u;
+    w2c_p3 = w2c_i0;
+    w2c_i0 = w2c_l18;
+    w2c_i1 = 24318u;
+    w2c_i0 = (u32)((s32)w2c_i0 > (s32)w2c_i1);
+    if (w2c_i0) {goto w2c_B68;}
+    w2c_i0 = w2c_l18;
+    w2c_i1 = 21316u;
+    w2c_i0 = (u32)((s32)w2c_i0 > (s32)w2c_i1);
+    if (w2c_i0) {goto w2c_B69;}
+    w2c_i0 = w2c_l18;
+    w2c_i1 = 20313u;
+    w2c_i0 = w2c_i0 == w2c_i1;
+    if (w2c_i0) {goto w2c_B66;}
+    w2c_i0 = w2c_l18;
+    w2c_i1 = 20358u;
+    w2c_i0 = w2c_i0 == w2c_i1;
+    if (w2c_i0) {goto w2c_B66;}
+    w2c_i0 = w2c_l18;
+    w2c_i1 = 20960u;
+    w2c_i0 = w2c_i0 != w2c_i1;
+    if (w2c_i0) {goto w2c_B65;}
+    goto w2c_B66;
+    w2c_B69:;
+    w2c_i0 = w2c_l18;
+    w2c_i1 = 4294945979u;
+    w2c_i0 += w2c_i1;
+    switch (w2c_i0) {
+      case 0: goto w2c_B55;
+      case 1: goto w2c_B65;
+      case 2: goto w2c_B65;
+      case 3: goto w2c_B65;
+      case 4: goto w2c_B65;
+      case 5: goto w2c_B65;
+      case 6: goto w2c_B65;
+      case 7: goto w2c_B55;
+      default: goto w2c_B70;
+    }
+    w2c_B70:;
+    w2c_i0 = w2c_l18;
+    w2c_i1 = 4294943110u;
+    w2c_i0 += w2c_i1;
+    switch (w2c_i0) {
+      case 0: goto w2c_B55;
+      case 1: goto w2c_B65;
+      case 2: goto w2c_B65;
+      case 3: goto w2c_B65;
+      case 4: goto w2c_B66;
+      default: goto w2c_B67;
+    }
+    w2c_B68:;
+    w2c_i0 = w2c_l18;
+    w2c_i1 = 28856u;
+    w2c_i0 = (u32)((s32)w2c_i0 > (s32)w2c_i1);
+    if (w2c_i0) {goto w2c_B71;}
+    w2c_i0 = w2c_l18;
+    w2c_i1 = 4294941328u;
+    w2c_i0 += w2c_i1;
+    switch (w2c_i0) {
+      case 0: goto w2c_B66;
+      case 1: goto w2c_B65;
+      case 2: goto w2c_B65;
+      case 3: goto w2c_B65;
+      case 4: goto w2c_B65;
+      case 5: goto w2c_B65;
+      case 6: goto w2c_B65;
+      case 7: goto w2c_B65;
+      case 8: goto w2c_B66;
+      default: goto w2c_B72;
+    }
+    w2c_B72:;
+    w2c_i0 = w2c_l18;
+    w2c_i1 = 24319u;
+    w2c_i0 = w2c_i0 == w2c_i1;
+    if (w2c_i0) {goto w2c_B55;}
+    w2c_i0 = w2c_l18;
+    w2c_i1 = 26469u;
+    w2c_i0 = w2c_i0 != w2c_i1;
+    if (w2c_i0) {goto w2c_B65;}
+    goto w2c_B66;
+    w2c_B71:;
+    w2c_i0 = w2c_l18;
+    w2c_i1 = 28857u;
+    w2c_i0 = w2c_i0 == w2c_i1;
+    if (w2c_i0) {goto w2c_B64;}
+    w2c_i0 = w2c_l18;
+    w2c_i1 = 39192u;
+    w2c_i0 = w2c_i0 == w2c_i1;
+    if (w2c_i0) {goto w2c_B66;}
+    w2c_i0 = w2c_l18;
+    w2c_i1 = 40670u;
+    w2c_i0 = w2c_i0 == w2c_i1;
+    if (w2c_i0) {goto w2c_B64;}
+    goto w2c_B65;
+    w2c_B67:;
+    w2c_i0 = w2c_l18;
+    w2c_i1 = 22810u;
+    w2c_i0 = w2c_i0 != w2c_i1;
+    if (w2c_i0) {goto w2c_B65;}
+    w2c_B66:;
+    w2c_i0 = 0u;
+    w2c_p3 = w2c_i0;
+    goto w2c_B55;
+    w2c_B65:;
+    w2c_i0 = w2c_l18;
+    w2c_i1 = 128u;
+    w2c_i0 = w2c_i0 < w2c_i1;
+    if (w2c_i0) {goto w2c_B73;}
+    w2c_i0 = w2c_l18;
+    w2c_i1 = 4294902000u;
+    w2c_i0 += w2c_i1;
+    w2c_i1 = 10u;
+    w2c_i0 = w2c_i0 >= w2c_i1;
+    if (w2c_i0) {goto w2c_B54;}
+    goto w2c_B55;
+    w2c_B73:;
+    w2c_i0 = w2c_l18;
+    w2c_i1 = 95u;
+    w2c_i0 = w2c_i0 == w2c_i1;
+    if (w2c_i0) {goto w2c_B55;}
+    w2c_i0 = w2c_l18;
+    w2c_i1 = 4294967248u;
+    w2c_i0 += w2c_i1;
+    w2c_i1 = 10u;
+    w2c_i0 = w2c_i0 < w2c_i1;
+    if (w2c_i0) {goto w2c_B55;}
+    w2c_i0 = w2c_l18;
+    w2c_i1 = 95u;
+    w2c_i0 &= w2c_i1;
+    w2c_i1 = 4294967231u;
+    w2c_i0 += w2c_i1;
+    w2c_i1 = 26u;
+    w2c_i0 = w2c_i0 < w2c_i1;
+    if (w2c_i0) {goto w2c_B55;}
+    w2c_i0 = w2c_l18;
+    w2c_i1 = 4294967252u;
+    w2c_i0 += w2c_i1;
+    w2c_i1 = 2u;
+    w2c_i0 = w2c_i0 <= w2c_i1;
+    if (w2c_i0) {goto w2c_B64;}
+    w2c_i0 = 0u;
+    w2c_p3 = w2c_i0;
+    goto w2c_B55;
+    w2c_B64:;
+    w2c_j0 = w2c_l13;
+    w2c_j1 = w2c_l15;
+    w2c_i0 = w2c_f20(m, w2c_j0, w2c_j1);
+    w2c_p3 = w2c_i0;
+    w2c_B55:;
+    w2c_i0 = 1u;
+    w2c_l20 = w2c_i0;
+    w2c_i0 = w2c_l18;
+    w2c_i1 = 22809u;
+    w2c_i0 = (u32)((s32)w2c_i0 > (s32)w2c_i1);
+    if (w2c_i0) {goto w2c_B75;}
+    w2c_i0 = w2c_l18;
+    w2c_i1 = 20313u;
+    w2c_i0 = w2c_i0 == w2c_i1;
+    if (w2c_i0) {goto w2c_B53;}
+    w2c_i0 = w2c_l18;
+    w2c_i1 = 20358u;
+    w2c_i0 = w2c_i0 == w2c_i1;
+    if (w2c_i0) {goto w2c_B53;}
+    w2c_i0 = w2c_l18;
+    w2c_i1 = 20960u;
+    w2c_i0 = w2c_i0 != w2c_i1;
+    if (w2c_i0) {goto w2c_B74;}
+    goto w2c_B53;
+    w2c_B75:;
+    w2c_i0 = w2c_l18;
+    w2c_i1 = 26468u;
+    w2c_i0 = (u32)((s32)w2c_i0 > (s32)w2c_i1);
+    if (w2c_i0) {goto w2c_B76;}
+    w2c_i0 = w2c_l18;
+    w2c_i1 = 22810u;
+    w2c_i0 = w2c_i0 == w2c_i1;
+    if (w2c_i0) {goto w2c_B53;}
+    w2c_i0 = w2c_l18;
+    w2c_i1 = 24190u;
+    w2c_i0 = w2c_i0 != w2c_i1;
+    if (w2c_i0) {goto w2c_B74;}
+    goto w2c_B53;
+    w2c_B76:;
+    w2c_i0 = w2c_l18;
+    w2c_i1 = 26469u;
+    w2c_i0 = w2c_i0 == w2c_i1;
+    if (w2c_i0) {goto w2c_B53;}
+    w2c_i0 = w2c_l18;
+    w2c_i1 = 39192u;
+    w2c_i0 = w2c_i0 == w2c_i1;
+    if (w2c_i0) {goto w2c_B53;}
+    w2c_B74:;
+    w2c_i0 = 0u;
+    w2c_l20 = w2c_i0;
+    goto w2c_B53;
+    w2c_B54:;
+    w2c_i0 = 0u;
+    w2c_l20 = w2c_i0;
+    w2c_i0 = 0u;
+    w2c_p3 = w2c_i0;
+    w2c_B53:;
+    w2c_i0 = w2c_l21;
+    w2c_i1 = w2c_p3;
+    w2c_i0 |= w2c_i1;
+    w2c_p3 = w2c_i0;
+    w2c_j0 = w2c_l12;
+    w2c_j1 = w2c_p2;
+    w2c_j0 -= w2c_j1;
+    w2c_l13 = w2c_j0;
+    w2c_j1 = 3ull;
+    w2c_i0 = w2c_j0 < w2c_j1;
+    if (w2c_i0) {goto w2c_B87;}
+    w2c_i0 = w2c_p4;
+    w2c_i1 = 240u;
+    w2c_i0 &= w2c_i1;
+    w2c_i1 = 224u;
+    w2c_i0 = w2c_i0 != w2c_i1;
+    if (w2c_i0) {goto w2c_B86;}
+    w2c_j0 = w2c_l8;
+    w2c_i0 = (u32)(w2c_j0);
+    w2c_i0 = i32_load8_u(m, (u64)(w2c_i0) + 1u);
+    w2c_l18 = w2c_i0;
+    w2c_i1 = 8u;
+    w2c_i0 <<= (w2c_i1 & 31);
+    w2c_j1 = w2c_l8;
+    w2c_i1 = (u32)(w2c_j1);
+    w2c_i1 = i32_load8_u(m, (u64)(w2c_i1) + 2u);
+    w2c_l22 = w2c_i1;
+    w2c_i2 = 16u;
+    w2c_i1 <<= (w2c_i2 & 31);
+    w2c_i0 |= w2c_i1;
+    w2c_i1 = w2c_p4;
+    w2c_i0 |= w2c_i1;
+    w2c_l21 = w2c_i0;
+    w2c_j0 = (u64)(w2c_i0);
+    w2c_j1 = 953497ull;
+    w2c_j0 *= w2c_j1;
+    w2c_j1 = 22ull;
+    w2c_j0 >>= (w2c_j1 & 63);
+    w2c_j1 = 1016ull;
+    w2c_j0 &= w2c_j1;
+    w2c_l12 = w2c_j0;
+    w2c_j1 = 66996ull;
+    w2c_j0 += w2c_j1;
+    w2c_i0 = (u32)(w2c_j0);
+    w2c_i0 = i32_load8_u(m, (u64)(w2c_i0));
+    w2c_i1 = 2u;
+    w2c_j2 = w2c_l12;
+    w2c_i2 = (u32)(w2c_j2);
+    w2c_i2 = i32_load(m, (u64)(w2c_i2) + 66992u);
+    w2c_i3 = w2c_l21;
+    w2c_i2 = w2c_i2 == w2c_i3;
+    w2c_i0 = w2c_i2 ? w2c_i0 : w2c_i1;
+    w2c_l21 = w2c_i0;
+    w2c_i0 = w2c_p4;
+    w2c_i1 = 12u;
+    w2c_i0 <<= (w2c_i1 & 31);
+    w2c_i1 = w2c_l18;
+    w2c_i2 = 6u;
+    w2c_i1 <<= (w2c_i2 & 31);
+    w2c_i0 += w2c_i1;
+    w2c_i1 = w2c_l22;
+    w2c_i0 += w2c_i1;
+    w2c_i1 = 4294041472u;
+    w2c_i0 += w2c_i1;
+    w2c_l18 = w2c_i0;
+    w2c_j0 = w2c_l13;
+    w2c_j1 = 18446744073709551613ull;
+    w2c_j0 += w2c_j1;
+    w2c_l12 = w2c_j0;
+    goto w2c_B85;
+    w2c_B87:;
+    w2c_j0 = w2c_l12;
+    w2c_j1 = w2c_p2;
+    w2c_i0 = w2c_j0 == w2c_j1;
+    if (w2c_i0) {goto w2c_B84;}
+    w2c_B86:;
+    w2c_j0 = 18446744073709551615ull;
+    w2c_l12 = w2c_j0;
+    w2c_i0 = w2c_p4;
+    w2c_i0 = (u32)(s32)(s8)(u8)(w2c_i0);
+    w2c_i1 = 4294967295u;
+    w2c_i0 = (u32)((s32)w2c_i0 <= (s32)w2c_i1);
+    if (w2c_i0) {goto w2c_B89;}
+    w2c_i0 = w2c_p4;
+    w2c_l18 = w2c_i0;
+    goto w2c_B88;
+    w2c_B89:;
+    w2c_j0 = w2c_l8;
+    w2c_i0 = (u32)(w2c_j0);
+    w2c_i0 = i32_load8_u(m, (u64)(w2c_i0) + 1u);
+    w2c_i1 = 63u;
+    w2c_i0 &= w2c_i1;
+    w2c_l18 = w2c_i0;
+    w2c_i0 = w2c_p4;
+    w2c_i1 = 223u;
+    w2c_i0 = w2c_i0 > w2c_i1;
+    if (w2c_i0) {goto w2c_B90;}
+    w2c_i0 = w2c_p4;
+    w2c_i1 = 6u;
+    w2c_i0 <<= (w2c_i1 & 31);
+    w2c_i1 = 1984u;
+    w2c_i0 &= w2c_i1;
+    w2c_i1 = w2c_l18;
+    w2c_i0 |= w2c_i1;
+    w2c_l18 = w2c_i0;
+    w2c_j0 = 18446744073709551614ull;
+    w2c_l12 = w2c_j0;
+    goto w2c_B88;
+    w2c_B90:;
+    w2c_j0 = w2c_l8;
+    w2c_i0 = (u32)(w2c_j0);
+    w2c_i0 = i32_load8_u(m, (u64)(w2c_i0) + 2u);
+    w2c_i1 = 63u;
+    w2c_i0 &= w2c_i1;
+    w2c_l21 = w2c_i0;
+    w2c_i0 = w2c_p4;
+    w2c_i1 = 239u;
+    w2c_i0 = w2c_i0 > w2c_i1;
+    if (w2c_i0) {goto w2c_B91;}
+    w2c_i0 = w2c_l18;
+    w2c_i1 = 6u;
+    w2c_i0 <<= (w2c_i1 & 31);
+    w2c_i1 = w2c_p4;
+    w2c_i2 = 12u;
+    w2c_i1 <<= (w2c_i2 & 31);
+    w2c_i2 = 61440u;
+    w2c_i1 &= w2c_i2;
+    w2c_i0 |= w2c_i1;
+    w2c_i1 = w2c_l21;
+    w2c_i0 |= w2c_i1;
+    w2c_l18 = w2c_i0;
+    w2c_j0 = 18446744073709551613ull;
+    w2c_l12 = w2c_j0;
+    goto w2c_B88;
+    w2c_B91:;
+    w2c_i0 = w2c_l21;
+    w2c_i1 = 6u;
+    w2c_i0 <<= (w2c_i1 & 31);
+    w2c_i1 = w2c_l18;
+    w2c_i2 = 12u;
+    w2c_i1 <<= (w2c_i2 & 31);
+    w2c_i2 = w2c_p4;
+    w2c_i3 = 18u;
+    w2c_i2 <<= (w2c_i3 & 31);
+    w2c_i3 = 1835008u;
+    w2c_i2 &= w2c_i3;
+    w2c_i1 |= w2c_i2;
+    w2c_i0 |= w2c_i1;
+    w2c_j1 = w2c_l8;
+    w2c_i1 = (u32)(w2c_j1);
+    w2c_i1 = i32_load8_u(m, (u64)(w2c_i1) + 3u);
+    w2c_i2 = 63u;
+    w2c_i1 &= w2c_i2;
+    w2c_i0 |= w2c_i1;
+    w2c_l18 = w2c_i0;
+    w2c_j0 = 18446744073709551612ull;
+    w2c_l12 = w2c_j0;
+    w2c_B88:;
+    w2c_j0 = w2c_l12;
+    w2c_j1 = w2c_l13;
+    w2c_j0 += w2c_j1;
+    w2c_l12 = w2c_j0;
+    w2c_i0 = w2c_l18;
+    w2c_i1 = 4294965248u;
+    w2c_i0 += w2c_i1;
+    w2c_i1 = 63487u;
+    w2c_i0 = w2c_i0 > w2c_i1;
+    if (w2c_i0) {goto w2c_B92;}
+    w2c_i0 = w2c_l18;
+    w2c_i1 = 12u;
+    w2c_i0 >>= (w2c_i1 & 31);
+    w2c_i1 = w2c_l18;
+    w2c_i2 = 2u;
+    w2c_i1 <<= (w2c_i2 & 31);
+    w2c_i2 = 16128u;
+    w2c_i1 &= w2c_i2;
+    w2c_i0 |= w2c_i1;
+    w2c_i1 = w2c_l18;
+    w2c_i2 = 16u;
+    w2c_i1 <<= (w2c_i2 & 31);
+    w2c_i2 = 4128768u;
+    w2c_i1 &= w2c_i2;
+    w2c_i0 |= w2c_i1;
+    w2c_i1 = 8421600u;
+    w2c_i0 |= w2c_i1;
+    w2c_l21 = w2c_i0;
+    w2c_j0 = (u64)(w2c_i0);
+    w2c_j1 = 953497ull;
+    w2c_j0 *= w2c_j1;
+    w2c_j1 = 22ull;
+    w2c_j0 >>= (w2c_j1 & 63);
+    w2c_j1 = 1016ull;
+    w2c_j0 &= w2c_j1;
+    w2c_l15 = w2c_j0;
+    w2c_j1 = 66996ull;
+    w2c_j0 += w2c_j1;
+    w2c_i0 = (u32)(w2c_j0);
+    w2c_i0 = i32_load8_u(m, (u64)(w2c_i0));
+    w2c_i1 = 2u;
+    w2c_j2 = w2c_l15;
+    w2c_i2 = (u32)(w2c_j2);
+    w2c_i2 = i32_load(m, (u64)(w2c_i2) + 66992u);
+    w2c_i3 = w2c_l21;
+    w2c_i2 = w2c_i2 == w2c_i3;
+    w2c_i0 = w2c_i2 ? w2c_i0 : w2c_i1;
+    w2c_l21 = w2c_i0;
+    goto w2c_B85;
+    w2c_B92:;
+    w2c_i0 = 0u;
+    w2c_i1 = 2u;
+    w2c_i2 = w2c_l18;
+    w2c_i3 = 4294967248u;
+    w2c_i2 += w2c_i3;
+    w2c_i3 = 10u;
+    w2c_i2 = w2c_i2 < w2c_i3;
+    w2c_i0 = w2c_i2 ? w2c_i0 : w2c_i1;
+    w2c_l21 = w2c_i0;
+    w2c_B85:;
+    w2c_j0 = w2c_l12;
+    w2c_i0 = !(w2c_j0);
+    if (w2c_i0) {goto w2c_B94;}
+    w2c_j0 = w2c_l8;
+    w2c_j1 = w2c_l13;
+    w2c_i0 = w2c_f21(m, w2c_j0, w2c_j1);
+    w2c_l18 = w2c_i0;
+    w2c_i0 = w2c_l23;
+    w2c_i0 = !(w2c_i0);
+    if (w2c_i0) {goto w2c_B83;}
+    w2c_i0 = w2c_p4;
+    w2c_i0 = (u32)(s32)(s8)(u8)(w2c_i0);
+    w2c_i1 = 4294967295u;
+    w2c_i0 = (u32)((s32)w2c_i0 > (s32)w2c_i1);
+    if (w2c_i0) {goto w2c_B81;}
+    w2c_j0 = w2c_l8;
+    w2c_i0 = (u32)(w2c_j0);
+    w2c_i0 = i32_load8_u(m, (u64)(w2c_i0) + 1u);
+    w2c_i1 = 63u;
+    w2c_i0 &= w2c_i1;
+    w2c_l21 = w2c_i0;
+    w2c_i0 = w2c_p4;
+    w2c_i1 = 223u;
+    w2c_i0 = w2c_i0 > w2c_i1;
+    if (w2c_i0) {goto w2c_B93;}
+    w2c_i0 = w2c_p4;
+    w2c_i1 = 6u;
+    w2c_i0 <<= (w2c_i1 & 31);
+    w2c_i1 = 1984u;
+    w2c_i0 &= w2c_i1;
+    w2c_i1 = w2c_l21;
+    w2c_i0 |= w2c_i1;
+    w2c_p4 = w2c_i0;
+    goto w2c_B81;
+    w2c_B94:;
+    w2c_i0 = w2c_l23;
+    w2c_i0 = !(w2c_i0);
+    if (w2c_i0) {goto w2c_B95;}
+    w2c_j0 = w2c_l9;
+    w2c_i1 = w2c_l18;
+    w2c_f22(m, w2c_j0, w2c_i1);
+    w2c_i0 = w2c_l20;
+    w2c_j1 = w2c_l9;
+    w2c_i1 = (u32)(w2c_j1);
+    w2c_i1 = i32_load8_u(m, (u64)(w2c_i1));
+    w2c_i2 = 255u;
+    w2c_i1 &= w2c_i2;
+    w2c_i2 = 1u;
+    w2c_i1 = w2c_i1 == w2c_i2;
+    w2c_i0 |= w2c_i1;
+    w2c_l20 = w2c_i0;
+    w2c_B95:;
+    w2c_i0 = 8u;
+    w2c_i1 = 0u;
+    w2c_i2 = w2c_l18;
+    w2c_i3 = 4294901990u;
+    w2c_i2 += w2c_i3;
+    w2c_i3 = 4294967286u;
+    w2c_i2 = w2c_i2 < w2c_i3;
+    w2c_i0 = w2c_i2 ? w2c_i0 : w2c_i1;
+    w2c_i1 = 0u;
+    w2c_i2 = w2c_l18;
+    w2c_i3 = 4294967238u;
+    w2c_i2 += w2c_i3;
+    w2c_i3 = 4294967286u;
+    w2c_i2 = w2c_i2 < w2c_i3;
+    w2c_i0 = w2c_i2 ? w2c_i0 : w2c_i1;
+    w2c_p4 = w2c_i0;
+    w2c_i0 = 0u;
+    w2c_i1 = 2u;
+    w2c_i2 = w2c_p3;
+    w2c_i0 = w2c_i2 ? w2c_i0 : w2c_i1;
+    w2c_i1 = w2c_l21;
+    w2c_i2 = 255u;
+    w2c_i1 &= w2c_i2;
+    w2c_i1 = !(w2c_i1);
+    w2c_i0 |= w2c_i1;
+    w2c_l18 = w2c_i0;
+    w2c_i0 = w2c_l20;
+    if (w2c_i0) {goto w2c_B78;}
+    goto w2c_B77;
+    w2c_B93:;
+    w2c_j0 = w2c_l8;
+    w2c_i0 = (u32)(w2c_j0);
+    w2c_i0 = i32_load8_u(m, (u64)(w2c_i0) + 2u);
+    w2c_i1 = 63u;
+    w2c_i0 &= w2c_i1;
+    w2c_l22 = w2c_i0;
+    w2c_i0 = w2c_p4;
+    w2c_i1 = 239u;
+    w2c_i0 = w2c_i0 > w2c_i1;
+    if (w2c_i0) {goto w2c_B82;}
+    w2c_i0 = w2c_l21;
+    w2c_i1 = 6u;
+    w2c_i0 <<= (w2c_i1 & 31);
+    w2c_i1 = w2c_p4;
+    w2c_i2 = 12u;
+    w2c_i1 <<= (w2c_i2 & 31);
+    w2c_i2 = 61440u;
+    w2c_i1 &= w2c_i2;
+    w2c_i0 |= w2c_i1;
+    w2c_i1 = w2c_l22;
+    w2c_i0 |= w2c_i1;
+    w2c_p4 = w2c_i0;
+    goto w2c_B81;
+    w2c_B84:;
+    w2c_j0 = w2c_l8;
+    w2c_j1 = w2c_l13;
+    w2c_i0 = w2c_f21(m, w2c_j0, w2c_j1);
+    w2c_l18 = w2c_i0;
+    w2c_B83:;
+    w2c_i0 = w2c_l20;
+    if (w2c_i0) {goto w2c_B80;}
+    goto w2c_B79;
+    w2c_B82:;
+    w2c_i0 = w2c_l22;
+    w2c_i1 = 6u;
+    w2c_i0 <<= (w2c_i1 & 31);
+    w2c_i1 = w2c_l21;
+    w2c_i2 = 12u;
+    w2c_i1 <<= (w2c_i2 & 31);
+    w2c_i2 = w2c_p4;
+    w2c_i3 = 18u;
+    w2c_i2 <<= (w2c_i3 & 31);
+    w2c_i3 = 1835008u;
+    w2c_i2 &= w2c_i3;
+    w2c_i1 |= w2c_i2;
+    w2c_i0 |= w2c_i1;
+    w2c_j1 = w2c_l8;
+    w2c_i1 = (u32)(w2c_j1);
+    w2c_i1 = i32_load8_u(m, (u64)(w2c_i1) + 3u);
+    w2c_i2 = 63u;
+    w2c_i1 &= w2c_i2;
+    w2c_i0 |= w2c_i1;
+    w2c_p4 = w2c_i0;
+    w2c_B81:;
+    w2c_j0 = w2c_l9;
+    w2c_j1 = 8ull;
+    w2c_j0 += w2c_j1;
+    w2c_i1 = w2c_p4;
+    w2c_f22(m, w2c_j0, w2c_i1);
+    w2c_i0 = w2c_l20;
+    w2c_i1 = 4294967295u;
+    w2c_i0 ^= w2c_i1;
+    w2c_j1 = w2c_l9;
+    w2c_i1 = (u32)(w2c_j1);
+    w2c_i1 = i32_load8_u(m, (u64)(w2c_i1) + 8u);
+    w2c_i2 = 255u;
+    w2c_i1 &= w2c_i2;
+    w2c_i2 = 1u;
+    w2c_i1 = w2c_i1 != w2c_i2;
+    w2c_i0 &= w2c_i1;
+    if (w2c_i0) {goto w2c_B79;}
+    w2c_B80:;
+    w2c_i0 = 0u;
+    w2c_p4 = w2c_i0;
+    w2c_i0 = 0u;
+    w2c_i1 = 2u;
+    w2c_i2 = w2c_p3;
+    w2c_i0 = w2c_i2 ? w2c_i0 : w2c_i1;
+    w2c_i1 = w2c_l18;
+    w2c_i0 |= w2c_i1;
+    w2c_l18 = w2c_i0;
+    goto w2c_B78;
+    w2c_B79:;
+    w2c_i0 = 0u;
+    w2c_p4 = w2c_i0;
+    w2c_i0 = 0u;
+    w2c_i1 = 2u;
+    w2c_i2 = w2c_p3;
+    w2c_i0 = w2c_i2 ? w2c_i0 : w2c_i1;
+    w2c_i1 = w2c_l18;
+    w2c_i0 |= w2c_i1;
+    w2c_l18 = w2c_i0;
+    w2c_j0 = w2c_l8;
+    w2c_j1 = w2c_l13;
+    w2c_i0 = w2c_f23(m, w2c_j0, w2c_j1);
+    w2c_i0 = !(w2c_i0);
+    if (w2c_i0) {goto w2c_B77;}
+    w2c_B78:;
+    w2c_i0 = w2c_l18;
+    w2c_i1 = 4u;
+    w2c_i0 |= w2c_i1;
+    w2c_l18 = w2c_i0;
+    w2c_B77:;
+    w2c_j0 = w2c_p5;
+    w2c_j1 = w2c_l10;
     w2c_j2 = 24ull;
     w2c_j1 *= w2c_j2;
     w2c_j0 += w2c_j1;
-    w2c_l9 = w2c_j0;
+    w2c_l8 = w2c_j0;
     w2c_i0 = (u32)(w2c_j0);
-    w2c_j1 = w2c_l10;
-    w2c_i1 = (u32)(w2c_j1);
-    w2c_j1 = i64_load(m, (u64)(w2c_i1) + 120u);
-    i64_store(m, (u64)(w2c_i0) + 16, w2c_j1);
-    w2c_j0 = w2c_l9;
+    w2c_i1 = 0u;
+    i32_store(m, (u64)(w2c_i0) + 20, w2c_i1);
+    w2c_j0 = w2c_l8;
     w2c_i0 = (u32)(w2c_j0);
-    w2c_j1 = w2c_l10;
-    w2c_i1 = (u32)(w2c_j1);
-    w2c_j1 = i64_load(m, (u64)(w2c_i1) + 112u);
+    w2c_i1 = w2c_p4;
+    w2c_i2 = w2c_l18;
+    w2c_i1 |= w2c_i2;
+    i32_store(m, (u64)(w2c_i0) + 16, w2c_i1);
+    w2c_j0 = w2c_l8;
+    w2c_i0 = (u32)(w2c_j0);
+    w2c_j1 = w2c_p1;
+    w2c_j2 = w2c_p2;
+    w2c_j1 -= w2c_j2;
     i64_store(m, (u64)(w2c_i0) + 8, w2c_j1);
-    w2c_j0 = w2c_l9;
+    w2c_j0 = w2c_l8;
     w2c_i0 = (u32)(w2c_j0);
-    w2c_j1 = w2c_l10;
-    w2c_i1 = (u32)(w2c_j1);
-    w2c_j1 = i64_load(m, (u64)(w2c_i1) + 104u);
+    w2c_j1 = w2c_l14;
     i64_store(m, (u64)(w2c_i0), w2c_j1);
-    w2c_j0 = w2c_l11;
+    w2c_j0 = w2c_l10;
     w2c_j1 = 1ull;
     w2c_j0 += w2c_j1;
-    w2c_l11 = w2c_j0;
-    w2c_j1 = w2c_p7;
+    w2c_l10 = w2c_j0;
+    w2c_j1 = w2c_p6;
     w2c_i0 = w2c_j0 != w2c_j1;
-    if (w2c_i0) {goto w2c_L5;}
+    if (w2c_i0) {goto w2c_L7;}
+  w2c_j0 = w2c_p6;
+  w2c_l10 = w2c_j0;
+  w2c_B5:;
   w2c_j0 = w2c_p7;
-  w2c_l11 = w2c_j0;
-  w2c_B4:;
-  w2c_j0 = w2c_p8;
   w2c_i0 = (u32)(w2c_j0);
-  w2c_j1 = w2c_l11;
+  w2c_j1 = w2c_l10;
   i64_store(m, (u64)(w2c_i0), w2c_j1);
   w2c_i0 = 0u;
-  w2c_p0 = w2c_i0;
-  goto w2c_B0;
-  w2c_B2:;
-  UNREACHABLE;
+  w2c_l18 = w2c_i0;
   w2c_B1:;
-  w2c_j0 = w2c_p2;
-  w2c_j1 = w2c_p3;
-  w2c_i0 = w2c_j0 == w2c_j1;
-  if (w2c_i0) {goto w2c_B31;}
-  w2c_i0 = 5u;
-  w2c_p0 = w2c_i0;
-  w2c_j0 = w2c_p2;
-  w2c_j1 = w2c_p3;
-  w2c_i0 = w2c_j0 < w2c_j1;
-  if (w2c_i0) {goto w2c_B0;}
-  w2c_j0 = w2c_p1;
-  w2c_j1 = w2c_p3;
-  w2c_j0 += w2c_j1;
-  w2c_i0 = (u32)(w2c_j0);
-  w2c_i0 = i32_load8_s(m, (u64)(w2c_i0));
-  w2c_i1 = 4294967232u;
-  w2c_i0 = (u32)((s32)w2c_i0 < (s32)w2c_i1);
-  if (w2c_i0) {goto w2c_B0;}
-  w2c_B31:;
-  w2c_i0 = 0u;
-  w2c_p0 = w2c_i0;
-  w2c_j0 = w2c_l10;
-  w2c_i0 = (u32)(w2c_j0);
-  w2c_i1 = 0u;
-  i32_store(m, (u64)(w2c_i0) + 106, w2c_i1);
-  w2c_j0 = w2c_l10;
-  w2c_i0 = (u32)(w2c_j0);
-  w2c_i1 = w2c_p5;
-  i32_store8(m, (u64)(w2c_i0) + 105, w2c_i1);
-  w2c_j0 = w2c_l10;
-  w2c_i0 = (u32)(w2c_j0);
-  w2c_i1 = w2c_p4;
-  i32_store8(m, (u64)(w2c_i0) + 104, w2c_i1);
-  w2c_j0 = w2c_l10;
-  w2c_i0 = (u32)(w2c_j0);
-  w2c_i1 = 0u;
-  i32_store16(m, (u64)(w2c_i0) + 110, w2c_i1);
-  w2c_j0 = 0ull;
-  w2c_l9 = w2c_j0;
-  w2c_j0 = w2c_l10;
-  w2c_i0 = (u32)(w2c_j0);
-  w2c_j1 = 0ull;
-  i64_store(m, (u64)(w2c_i0) + 48, w2c_j1);
-  w2c_j0 = w2c_l10;
-  w2c_i0 = (u32)(w2c_j0);
-  w2c_j1 = 0ull;
-  i64_store(m, (u64)(w2c_i0) + 56, w2c_j1);
-  w2c_j0 = w2c_l10;
-  w2c_i0 = (u32)(w2c_j0);
-  w2c_j1 = 0ull;
-  i64_store(m, (u64)(w2c_i0) + 64, w2c_j1);
-  w2c_j0 = w2c_l10;
-  w2c_i0 = (u32)(w2c_j0);
-  w2c_j1 = 0ull;
-  i64_store(m, (u64)(w2c_i0) + 72, w2c_j1);
-  w2c_j0 = w2c_l10;
-  w2c_i0 = (u32)(w2c_j0);
-  w2c_j1 = 0ull;
-  i64_store(m, (u64)(w2c_i0) + 80, w2c_j1);
-  w2c_j0 = w2c_l10;
-  w2c_i0 = (u32)(w2c_j0);
-  w2c_j1 = 0ull;
-  i64_store(m, (u64)(w2c_i0) + 88, w2c_j1);
-  w2c_j0 = w2c_l10;
-  w2c_i0 = (u32)(w2c_j0);
-  w2c_j1 = 0ull;
-  i64_store(m, (u64)(w2c_i0) + 96, w2c_j1);
-  w2c_j0 = w2c_l10;
-  w2c_i0 = (u32)(w2c_j0);
-  w2c_j1 = 0ull;
-  i64_store(m, (u64)(w2c_i0) + 24, w2c_j1);
-  w2c_j0 = w2c_l10;
-  w2c_i0 = (u32)(w2c_j0);
-  w2c_j1 = 0ull;
-  i64_store(m, (u64)(w2c_i0) + 32, w2c_j1);
-  w2c_j0 = w2c_l10;
-  w2c_i0 = (u32)(w2c_j0);
-  w2c_j1 = 0ull;
-  i64_store(m, (u64)(w2c_i0) + 40, w2c_j1);
-  w2c_j0 = w2c_l10;
-  w2c_i0 = (u32)(w2c_j0);
-  w2c_j1 = w2c_p2;
-  i64_store(m, (u64)(w2c_i0) + 120, w2c_j1);
-  w2c_j0 = w2c_l10;
-  w2c_i0 = (u32)(w2c_j0);
-  w2c_j1 = w2c_p2;
-  w2c_j2 = w2c_p3;
-  w2c_j1 -= w2c_j2;
-  i64_store(m, (u64)(w2c_i0) + 136, w2c_j1);
-  w2c_j0 = w2c_l10;
-  w2c_i0 = (u32)(w2c_j0);
-  w2c_j1 = w2c_p1;
-  i64_store(m, (u64)(w2c_i0) + 112, w2c_j1);
-  w2c_j0 = w2c_l10;
-  w2c_i0 = (u32)(w2c_j0);
-  w2c_j1 = w2c_p1;
-  w2c_j2 = w2c_p3;
-  w2c_j1 += w2c_j2;
-  i64_store(m, (u64)(w2c_i0) + 128, w2c_j1);
-  w2c_j0 = w2c_p7;
-  w2c_i0 = !(w2c_j0);
-  if (w2c_i0) {goto w2c_B32;}
-  w2c_j0 = w2c_l10;
-  w2c_j1 = 56ull;
-  w2c_j0 += w2c_j1;
-  w2c_l12 = w2c_j0;
-  w2c_j0 = 0ull;
-  w2c_l9 = w2c_j0;
-  w2c_L33:
-    w2c_j0 = w2c_l10;
-    w2c_j1 = 48ull;
-    w2c_j0 += w2c_j1;
-    w2c_j1 = w2c_l10;
-    w2c_j2 = 104ull;
-    w2c_j1 += w2c_j2;
-    w2c_f20(m, w2c_j0, w2c_j1);
-    w2c_j0 = w2c_l10;
-    w2c_i0 = (u32)(w2c_j0);
-    w2c_i0 = i32_load8_u(m, (u64)(w2c_i0) + 48u);
-    w2c_i1 = 1u;
-    w2c_i0 = w2c_i0 != w2c_i1;
-    if (w2c_i0) {goto w2c_B32;}
-    w2c_j0 = w2c_l10;
-    w2c_j1 = 24ull;
-    w2c_j0 += w2c_j1;
-    w2c_j1 = w2c_l12;
-    w2c_f19(m, w2c_j0, w2c_j1);
-    w2c_j0 = w2c_p6;
-    w2c_i0 = (u32)(w2c_j0);
-    w2c_j1 = w2c_l10;
-    w2c_i1 = (u32)(w2c_j1);
-    w2c_j1 = i64_load(m, (u64)(w2c_i1) + 40u);
-    i64_store(m, (u64)(w2c_i0) + 16, w2c_j1);
-    w2c_j0 = w2c_p6;
-    w2c_i0 = (u32)(w2c_j0);
-    w2c_j1 = w2c_l10;
-    w2c_i1 = (u32)(w2c_j1);
-    w2c_j1 = i64_load(m, (u64)(w2c_i1) + 32u);
-    i64_store(m, (u64)(w2c_i0) + 8, w2c_j1);
-    w2c_j0 = w2c_p6;
-    w2c_i0 = (u32)(w2c_j0);
-    w2c_j1 = w2c_l10;
-    w2c_i1 = (u32)(w2c_j1);
-    w2c_j1 = i64_load(m, (u64)(w2c_i1) + 24u);
-    i64_store(m, (u64)(w2c_i0), w2c_j1);
-    w2c_j0 = w2c_p6;
-    w2c_j1 = 24ull;
-    w2c_j0 += w2c_j1;
-    w2c_p6 = w2c_j0;
-    w2c_j0 = w2c_p7;
-    w2c_j1 = w2c_l9;
-    w2c_j2 = 1ull;
-    w2c_j1 += w2c_j2;
-    w2c_l9 = w2c_j1;
-    w2c_i0 = w2c_j0 != w2c_j1;
-    if (w2c_i0) {goto w2c_L33;}
-  w2c_j0 = w2c_p7;
-  w2c_l9 = w2c_j0;
-  w2c_B32:;
-  w2c_j0 = w2c_p8;
-  w2c_i0 = (u32)(w2c_j0);
-  w2c_j1 = w2c_l9;
-  i64_store(m, (u64)(w2c_i0), w2c_j1);
-  w2c_B0:;
-  w2c_j0 = w2c_l10;
-  w2c_j1 = 144ull;
+  w2c_j0 = w2c_l9;
+  w2c_j1 = 32ull;
   w2c_j0 += w2c_j1;
   m->w2c_g0 = w2c_j0;
-  w2c_i0 = w2c_p0;
+  w2c_i0 = w2c_l18;
+  goto w2c_Bfunc;
+  w2c_B0:;
+  UNREACHABLE;
+  w2c_Bfunc:;
   return w2c_i0;
 }
 
@@ -9302,7 +10296,7 @@ static u32 w2c_f17(module *m, u32 w2c_p0, u32 w2c_p1, u32 w2c_p2, u32 w2c_p3, u3
   w2c_B13:;
   w2c_j0 = w2c_p5;
   w2c_j1 = w2c_p6;
-  w2c_i0 = w2c_f21(m, w2c_j0, w2c_j1);
+  w2c_i0 = w2c_f24(m, w2c_j0, w2c_j1);
   w2c_p3 = w2c_i0;
   w2c_j0 = w2c_l7;
   m->w2c_g0 = w2c_j0;
@@ -9317,7 +10311,7 @@ static u32 w2c_f17(module *m, u32 w2c_p0, u32 w2c_p1, u32 w2c_p2, u32 w2c_p3, u3
   w2c_i1 = w2c_p1;
   w2c_j2 = w2c_p5;
   w2c_j3 = w2c_p6;
-  w2c_i0 = w2c_f22(m, w2c_i0, w2c_i1, w2c_j2, w2c_j3);
+  w2c_i0 = w2c_f25(m, w2c_i0, w2c_i1, w2c_j2, w2c_j3);
   w2c_l8 = w2c_i0;
   w2c_B0:;
   w2c_j0 = w2c_l7;
@@ -9595,10 +10589,10 @@ static void w2c_f18(module *m, u64 w2c_p0, u32 w2c_p1) {
   i32_store8(m, (u64)(w2c_i0), w2c_i1);
 }
 
-static void w2c_f19(module *m, u64 w2c_p0, u64 w2c_p1) {
-  u32 w2c_l10 = 0, w2c_l11 = 0, w2c_l12 = 0, w2c_l13 = 0, w2c_l14 = 0, w2c_l15 = 0, w2c_l16 = 0, w2c_l17 = 0;
-  u64 w2c_l2 = 0, w2c_l3 = 0, w2c_l4 = 0, w2c_l5 = 0, w2c_l6 = 0, w2c_l7 = 0, w2c_l8 = 0, w2c_l9 = 0;
-  u32 w2c_i0, w2c_i1, w2c_i2, w2c_i3, w2c_i4;
+static u32 w2c_f19(module *m, u64 w2c_p0, u64 w2c_p1) {
+  u32 w2c_l5 = 0, w2c_l6 = 0, w2c_l7 = 0, w2c_l8 = 0;
+  u64 w2c_l2 = 0, w2c_l3 = 0, w2c_l4 = 0;
+  u32 w2c_i0, w2c_i1, w2c_i2, w2c_i3;
   u64 w2c_j0, w2c_j1, w2c_j2, w2c_j3;
   w2c_j0 = m->w2c_g0;
   w2c_j1 = 16ull;
@@ -9606,58 +10600,100 @@ static void w2c_f19(module *m, u64 w2c_p0, u64 w2c_p1) {
   w2c_l2 = w2c_j0;
   m->w2c_g0 = w2c_j0;
   w2c_j0 = w2c_l2;
-  w2c_l3 = w2c_j0;
+  w2c_l2 = w2c_j0;
   w2c_j1 = 16ull;
   w2c_i0 = (u64)((s64)w2c_j0 < (s64)w2c_j1);
-  if (w2c_i0) {goto w2c_B8;}
+  if (w2c_i0) {goto w2c_B6;}
   w2c_j0 = w2c_p1;
-  w2c_i0 = (u32)(w2c_j0);
-  w2c_j0 = i64_load(m, (u64)(w2c_i0) + 40u);
-  w2c_l4 = w2c_j0;
-  w2c_j0 = w2c_p1;
-  w2c_i0 = (u32)(w2c_j0);
-  w2c_j0 = i64_load(m, (u64)(w2c_i0) + 32u);
-  w2c_l2 = w2c_j0;
-  w2c_j0 = w2c_p1;
-  w2c_i0 = (u32)(w2c_j0);
-  w2c_j0 = i64_load(m, (u64)(w2c_i0) + 24u);
-  w2c_l5 = w2c_j0;
-  w2c_j0 = w2c_p1;
-  w2c_i0 = (u32)(w2c_j0);
-  w2c_j0 = i64_load(m, (u64)(w2c_i0) + 16u);
-  w2c_l6 = w2c_j0;
-  w2c_j0 = w2c_p1;
-  w2c_i0 = (u32)(w2c_j0);
-  w2c_j0 = i64_load(m, (u64)(w2c_i0) + 8u);
-  w2c_l7 = w2c_j0;
-  w2c_i0 = !(w2c_j0);
-  w2c_i0 = !(w2c_i0);
+  w2c_j1 = 3ull;
+  w2c_i0 = w2c_j0 < w2c_j1;
   if (w2c_i0) {goto w2c_B9;}
-  w2c_i0 = 0u;
-  w2c_l10 = w2c_i0;
-  goto w2c_B1;
+  w2c_j0 = w2c_p0;
+  w2c_j1 = w2c_p1;
+  w2c_j0 += w2c_j1;
+  w2c_l3 = w2c_j0;
+  w2c_j1 = 18446744073709551613ull;
+  w2c_j0 += w2c_j1;
+  w2c_i0 = (u32)(w2c_j0);
+  w2c_i0 = i32_load8_u(m, (u64)(w2c_i0));
+  w2c_l5 = w2c_i0;
+  w2c_i1 = 240u;
+  w2c_i0 &= w2c_i1;
+  w2c_i1 = 224u;
+  w2c_i0 = w2c_i0 != w2c_i1;
+  if (w2c_i0) {goto w2c_B8;}
+  w2c_j0 = w2c_l3;
+  w2c_j1 = 18446744073709551615ull;
+  w2c_j0 += w2c_j1;
+  w2c_i0 = (u32)(w2c_j0);
+  w2c_i0 = i32_load8_u(m, (u64)(w2c_i0));
+  w2c_l6 = w2c_i0;
+  w2c_j1 = w2c_l3;
+  w2c_j2 = 18446744073709551614ull;
+  w2c_j1 += w2c_j2;
+  w2c_i1 = (u32)(w2c_j1);
+  w2c_i1 = i32_load8_u(m, (u64)(w2c_i1));
+  w2c_l7 = w2c_i1;
+  w2c_i2 = 6u;
+  w2c_i1 <<= (w2c_i2 & 31);
+  w2c_i0 += w2c_i1;
+  w2c_i1 = w2c_l5;
+  w2c_i2 = 12u;
+  w2c_i1 <<= (w2c_i2 & 31);
+  w2c_i0 += w2c_i1;
+  w2c_i1 = 4294041472u;
+  w2c_i0 += w2c_i1;
+  w2c_l8 = w2c_i0;
+  w2c_i0 = w2c_l7;
+  w2c_i1 = 8u;
+  w2c_i0 <<= (w2c_i1 & 31);
+  w2c_i1 = w2c_l6;
+  w2c_i2 = 16u;
+  w2c_i1 <<= (w2c_i2 & 31);
+  w2c_i0 |= w2c_i1;
+  w2c_i1 = w2c_l5;
+  w2c_i0 |= w2c_i1;
+  w2c_l5 = w2c_i0;
+  w2c_j0 = (u64)(w2c_i0);
+  w2c_j1 = 953497ull;
+  w2c_j0 *= w2c_j1;
+  w2c_j1 = 22ull;
+  w2c_j0 >>= (w2c_j1 & 63);
+  w2c_j1 = 1016ull;
+  w2c_j0 &= w2c_j1;
+  w2c_p1 = w2c_j0;
+  w2c_j1 = 66992ull;
+  w2c_j0 += w2c_j1;
+  w2c_i0 = (u32)(w2c_j0);
+  w2c_i0 = i32_load(m, (u64)(w2c_i0));
+  w2c_i1 = w2c_l5;
+  w2c_i0 = w2c_i0 == w2c_i1;
+  if (w2c_i0) {goto w2c_B7;}
+  goto w2c_B4;
   w2c_B9:;
   w2c_j0 = w2c_p1;
-  w2c_i0 = (u32)(w2c_j0);
-  w2c_j0 = i64_load(m, (u64)(w2c_i0));
-  w2c_p1 = w2c_j0;
-  w2c_j1 = w2c_l7;
-  w2c_j2 = 18446744073709551615ull;
-  w2c_j1 += w2c_j2;
-  w2c_l8 = w2c_j1;
+  w2c_i0 = !(w2c_j0);
+  w2c_i0 = !(w2c_i0);
+  if (w2c_i0) {goto w2c_B8;}
+  w2c_i0 = 0u;
+  w2c_l5 = w2c_i0;
+  goto w2c_B0;
+  w2c_B8:;
+  w2c_j0 = w2c_p0;
+  w2c_j1 = w2c_p1;
+  w2c_j0 += w2c_j1;
+  w2c_l3 = w2c_j0;
+  w2c_j1 = 18446744073709551615ull;
   w2c_j0 += w2c_j1;
   w2c_i0 = (u32)(w2c_j0);
   w2c_i0 = i32_load8_s(m, (u64)(w2c_i0));
-  w2c_l11 = w2c_i0;
+  w2c_l8 = w2c_i0;
   w2c_i1 = 0u;
   w2c_i0 = (u32)((s32)w2c_i0 >= (s32)w2c_i1);
-  if (w2c_i0) {goto w2c_B7;}
+  if (w2c_i0) {goto w2c_B5;}
   w2c_j0 = 18446744073709551614ull;
-  w2c_l8 = w2c_j0;
-  w2c_j0 = w2c_p1;
-  w2c_j1 = w2c_l7;
-  w2c_j0 += w2c_j1;
-  w2c_l9 = w2c_j0;
+  w2c_l4 = w2c_j0;
+  w2c_j0 = w2c_l3;
   w2c_j1 = 18446744073709551614ull;
   w2c_j0 += w2c_j1;
   w2c_i0 = (u32)(w2c_j0);
@@ -9667,7 +10703,7 @@ static void w2c_f19(module *m, u64 w2c_p0, u64 w2c_p1) {
   if (w2c_i0) {goto w2c_B10;}
   w2c_j0 = 18446744073709551613ull;
   w2c_j1 = 18446744073709551612ull;
-  w2c_j2 = w2c_l9;
+  w2c_j2 = w2c_l3;
   w2c_j3 = 18446744073709551613ull;
   w2c_j2 += w2c_j3;
   w2c_i2 = (u32)(w2c_j2);
@@ -9675,106 +10711,105 @@ static void w2c_f19(module *m, u64 w2c_p0, u64 w2c_p1) {
   w2c_i3 = 191u;
   w2c_i2 = w2c_i2 > w2c_i3;
   w2c_j0 = w2c_i2 ? w2c_j0 : w2c_j1;
-  w2c_l8 = w2c_j0;
+  w2c_l4 = w2c_j0;
   w2c_B10:;
-  w2c_j0 = w2c_p1;
-  w2c_j1 = w2c_l8;
-  w2c_j2 = w2c_l7;
-  w2c_j1 += w2c_j2;
-  w2c_l8 = w2c_j1;
+  w2c_j0 = w2c_p0;
+  w2c_j1 = w2c_l4;
   w2c_j0 += w2c_j1;
-  w2c_l9 = w2c_j0;
+  w2c_j1 = w2c_p1;
+  w2c_j0 += w2c_j1;
+  w2c_p1 = w2c_j0;
   w2c_i0 = (u32)(w2c_j0);
   w2c_i0 = i32_load8_s(m, (u64)(w2c_i0));
-  w2c_l12 = w2c_i0;
+  w2c_l5 = w2c_i0;
   w2c_i1 = 255u;
   w2c_i0 &= w2c_i1;
-  w2c_l11 = w2c_i0;
-  w2c_i0 = w2c_l12;
+  w2c_l8 = w2c_i0;
+  w2c_i0 = w2c_l5;
   w2c_i1 = 4294967295u;
   w2c_i0 = (u32)((s32)w2c_i0 > (s32)w2c_i1);
-  if (w2c_i0) {goto w2c_B7;}
-  w2c_j0 = w2c_l9;
+  if (w2c_i0) {goto w2c_B5;}
+  w2c_j0 = w2c_p1;
   w2c_i0 = (u32)(w2c_j0);
   w2c_i0 = i32_load8_u(m, (u64)(w2c_i0) + 1u);
   w2c_i1 = 63u;
   w2c_i0 &= w2c_i1;
-  w2c_l13 = w2c_i0;
-  w2c_i0 = w2c_l12;
+  w2c_l6 = w2c_i0;
+  w2c_i0 = w2c_l5;
   w2c_i1 = 4294967263u;
   w2c_i0 = w2c_i0 > w2c_i1;
   if (w2c_i0) {goto w2c_B11;}
-  w2c_i0 = w2c_l11;
+  w2c_i0 = w2c_l8;
   w2c_i1 = 6u;
   w2c_i0 <<= (w2c_i1 & 31);
   w2c_i1 = 1984u;
   w2c_i0 &= w2c_i1;
-  w2c_i1 = w2c_l13;
+  w2c_i1 = w2c_l6;
   w2c_i0 |= w2c_i1;
-  w2c_l11 = w2c_i0;
-  goto w2c_B7;
+  w2c_l8 = w2c_i0;
+  goto w2c_B5;
   w2c_B11:;
-  w2c_j0 = w2c_l9;
+  w2c_j0 = w2c_p1;
   w2c_i0 = (u32)(w2c_j0);
   w2c_i0 = i32_load8_u(m, (u64)(w2c_i0) + 2u);
   w2c_i1 = 63u;
   w2c_i0 &= w2c_i1;
-  w2c_l14 = w2c_i0;
-  w2c_i0 = w2c_l12;
+  w2c_l7 = w2c_i0;
+  w2c_i0 = w2c_l5;
   w2c_i1 = 4294967279u;
   w2c_i0 = w2c_i0 > w2c_i1;
   if (w2c_i0) {goto w2c_B13;}
-  w2c_i0 = w2c_l13;
+  w2c_i0 = w2c_l6;
   w2c_i1 = 6u;
   w2c_i0 <<= (w2c_i1 & 31);
-  w2c_i1 = w2c_l11;
+  w2c_i1 = w2c_l8;
   w2c_i2 = 12u;
   w2c_i1 <<= (w2c_i2 & 31);
   w2c_i2 = 61440u;
   w2c_i1 &= w2c_i2;
   w2c_i0 |= w2c_i1;
-  w2c_i1 = w2c_l14;
+  w2c_i1 = w2c_l7;
   w2c_i0 |= w2c_i1;
-  w2c_l11 = w2c_i0;
+  w2c_l8 = w2c_i0;
   goto w2c_B12;
   w2c_B13:;
-  w2c_i0 = w2c_l14;
+  w2c_i0 = w2c_l7;
   w2c_i1 = 6u;
   w2c_i0 <<= (w2c_i1 & 31);
-  w2c_i1 = w2c_l13;
+  w2c_i1 = w2c_l6;
   w2c_i2 = 12u;
   w2c_i1 <<= (w2c_i2 & 31);
-  w2c_i2 = w2c_l11;
+  w2c_i2 = w2c_l8;
   w2c_i3 = 18u;
   w2c_i2 <<= (w2c_i3 & 31);
   w2c_i3 = 1835008u;
   w2c_i2 &= w2c_i3;
   w2c_i1 |= w2c_i2;
   w2c_i0 |= w2c_i1;
-  w2c_j1 = w2c_l9;
+  w2c_j1 = w2c_p1;
   w2c_i1 = (u32)(w2c_j1);
   w2c_i1 = i32_load8_u(m, (u64)(w2c_i1) + 3u);
   w2c_i2 = 63u;
   w2c_i1 &= w2c_i2;
   w2c_i0 |= w2c_i1;
-  w2c_l11 = w2c_i0;
+  w2c_l8 = w2c_i0;
   w2c_B12:;
-  w2c_i0 = w2c_l11;
+  w2c_i0 = w2c_l8;
   w2c_i1 = 4294965248u;
   w2c_i0 += w2c_i1;
   w2c_i1 = 63487u;
   w2c_i0 = w2c_i0 > w2c_i1;
-  if (w2c_i0) {goto w2c_B7;}
-  w2c_i0 = w2c_l11;
+  if (w2c_i0) {goto w2c_B5;}
+  w2c_i0 = w2c_l8;
   w2c_i1 = 12u;
   w2c_i0 >>= (w2c_i1 & 31);
-  w2c_i1 = w2c_l11;
+  w2c_i1 = w2c_l8;
   w2c_i2 = 2u;
   w2c_i1 <<= (w2c_i2 & 31);
   w2c_i2 = 16128u;
   w2c_i1 &= w2c_i2;
   w2c_i0 |= w2c_i1;
-  w2c_i1 = w2c_l11;
+  w2c_i1 = w2c_l8;
   w2c_i2 = 16u;
   w2c_i1 <<= (w2c_i2 & 31);
   w2c_i2 = 4128768u;
@@ -9782,7 +10817,7 @@ static void w2c_f19(module *m, u64 w2c_p0, u64 w2c_p1) {
   w2c_i0 |= w2c_i1;
   w2c_i1 = 8421600u;
   w2c_i0 |= w2c_i1;
-  w2c_l12 = w2c_i0;
+  w2c_l5 = w2c_i0;
   w2c_j0 = (u64)(w2c_i0);
   w2c_j1 = 953497ull;
   w2c_j0 *= w2c_j1;
@@ -9790,118 +10825,52 @@ static void w2c_f19(module *m, u64 w2c_p0, u64 w2c_p1) {
   w2c_j0 >>= (w2c_j1 & 63);
   w2c_j1 = 1016ull;
   w2c_j0 &= w2c_j1;
-  w2c_l9 = w2c_j0;
+  w2c_p1 = w2c_j0;
+  w2c_j1 = 66992ull;
+  w2c_j0 += w2c_j1;
   w2c_i0 = (u32)(w2c_j0);
-  w2c_i0 = i32_load(m, (u64)(w2c_i0) + 66992u);
-  w2c_i1 = w2c_l12;
+  w2c_i0 = i32_load(m, (u64)(w2c_i0));
+  w2c_i1 = w2c_l5;
   w2c_i0 = w2c_i0 != w2c_i1;
-  if (w2c_i0) {goto w2c_B6;}
-  w2c_j0 = w2c_l9;
+  if (w2c_i0) {goto w2c_B3;}
+  w2c_B7:;
+  w2c_j0 = w2c_p1;
   w2c_j1 = 66996ull;
   w2c_j0 += w2c_j1;
   w2c_i0 = (u32)(w2c_j0);
   w2c_i0 = i32_load8_u(m, (u64)(w2c_i0));
-  w2c_i1 = 255u;
-  w2c_i0 &= w2c_i1;
-  if (w2c_i0) {goto w2c_B6;}
+  if (w2c_i0) {goto w2c_B4;}
   w2c_i0 = 1u;
-  w2c_l10 = w2c_i0;
-  goto w2c_B2;
-  w2c_B8:;
+  w2c_l5 = w2c_i0;
+  goto w2c_B0;
+  w2c_B6:;
   UNREACHABLE;
-  w2c_B7:;
-  w2c_i0 = 1u;
-  w2c_l10 = w2c_i0;
-  w2c_i0 = w2c_l11;
+  w2c_B5:;
+  w2c_i0 = w2c_l8;
   w2c_i1 = 4294967248u;
   w2c_i0 += w2c_i1;
   w2c_i1 = 10u;
-  w2c_i0 = w2c_i0 < w2c_i1;
-  if (w2c_i0) {goto w2c_B2;}
-  w2c_i0 = w2c_l11;
+  w2c_i0 = w2c_i0 >= w2c_i1;
+  if (w2c_i0) {goto w2c_B4;}
+  w2c_i0 = 1u;
+  w2c_l5 = w2c_i0;
+  goto w2c_B0;
+  w2c_B4:;
+  w2c_i0 = w2c_l8;
   w2c_i1 = 128u;
   w2c_i0 = w2c_i0 < w2c_i1;
-  if (w2c_i0) {goto w2c_B5;}
-  w2c_B6:;
+  if (w2c_i0) {goto w2c_B2;}
+  w2c_B3:;
   w2c_i0 = 1u;
-  w2c_l10 = w2c_i0;
-  w2c_i0 = w2c_l11;
+  w2c_l5 = w2c_i0;
+  w2c_i0 = w2c_l8;
   w2c_i1 = 4294902000u;
   w2c_i0 += w2c_i1;
   w2c_i1 = 10u;
   w2c_i0 = w2c_i0 < w2c_i1;
-  if (w2c_i0) {goto w2c_B2;}
-  w2c_i0 = w2c_l11;
-  w2c_i1 = 24318u;
-  w2c_i0 = (u32)((s32)w2c_i0 > (s32)w2c_i1);
-  if (w2c_i0) {goto w2c_B14;}
-  w2c_i0 = w2c_l11;
+  if (w2c_i0) {goto w2c_B0;}
+  w2c_i0 = w2c_l8;
   w2c_i1 = 4294945979u;
-  w2c_i0 += w2c_i1;
-  switch (w2c_i0) {
-    case 0: goto w2c_B2;
-    case 1: goto w2c_B4;
-    case 2: goto w2c_B4;
-    case 3: goto w2c_B4;
-    case 4: goto w2c_B4;
-    case 5: goto w2c_B4;
-    case 6: goto w2c_B4;
-    case 7: goto w2c_B2;
-    default: goto w2c_B15;
-  }
-  w2c_B15:;
-  w2c_i0 = w2c_l11;
-  w2c_i1 = 24186u;
-  w2c_i0 = w2c_i0 != w2c_i1;
-  if (w2c_i0) {goto w2c_B4;}
-  goto w2c_B2;
-  w2c_B14:;
-  w2c_i0 = w2c_l11;
-  w2c_i1 = 24319u;
-  w2c_i0 = w2c_i0 == w2c_i1;
-  if (w2c_i0) {goto w2c_B2;}
-  w2c_i0 = w2c_l11;
-  w2c_i1 = 28857u;
-  w2c_i0 = w2c_i0 == w2c_i1;
-  if (w2c_i0) {goto w2c_B3;}
-  w2c_i0 = w2c_l11;
-  w2c_i1 = 40670u;
-  w2c_i0 = w2c_i0 != w2c_i1;
-  if (w2c_i0) {goto w2c_B4;}
-  goto w2c_B3;
-  w2c_B5:;
-  w2c_i0 = w2c_l11;
-  w2c_i1 = 95u;
-  w2c_i0 = w2c_i0 == w2c_i1;
-  if (w2c_i0) {goto w2c_B2;}
-  w2c_i0 = w2c_l11;
-  w2c_i1 = 95u;
-  w2c_i0 &= w2c_i1;
-  w2c_i1 = 4294967231u;
-  w2c_i0 += w2c_i1;
-  w2c_i1 = 26u;
-  w2c_i0 = w2c_i0 < w2c_i1;
-  if (w2c_i0) {goto w2c_B2;}
-  w2c_B4:;
-  w2c_i0 = w2c_l11;
-  w2c_i1 = 4294967252u;
-  w2c_i0 += w2c_i1;
-  w2c_i1 = 2u;
-  w2c_i0 = w2c_i0 <= w2c_i1;
-  if (w2c_i0) {goto w2c_B3;}
-  w2c_i0 = 0u;
-  w2c_l10 = w2c_i0;
-  goto w2c_B2;
-  w2c_B3:;
-  w2c_j0 = w2c_p1;
-  w2c_j1 = w2c_l8;
-  w2c_i0 = w2c_f23(m, w2c_j0, w2c_j1);
-  w2c_l10 = w2c_i0;
-  w2c_B2:;
-  w2c_i0 = 1u;
-  w2c_l15 = w2c_i0;
-  w2c_i0 = w2c_l11;
-  w2c_i1 = 4294941328u;
   w2c_i0 += w2c_i1;
   switch (w2c_i0) {
     case 0: goto w2c_B0;
@@ -9911,74 +10880,119 @@ static void w2c_f19(module *m, u64 w2c_p0, u64 w2c_p1) {
     case 4: goto w2c_B1;
     case 5: goto w2c_B1;
     case 6: goto w2c_B1;
-    case 7: goto w2c_B1;
-    case 8: goto w2c_B0;
-    default: goto w2c_B16;
+    case 7: goto w2c_B0;
+    default: goto w2c_B14;
   }
-  w2c_B16:;
-  w2c_i0 = w2c_l11;
-  w2c_i1 = 20960u;
+  w2c_B14:;
+  w2c_i0 = w2c_l8;
+  w2c_i1 = 24186u;
   w2c_i0 = w2c_i0 == w2c_i1;
   if (w2c_i0) {goto w2c_B0;}
-  w2c_i0 = w2c_l11;
-  w2c_i1 = 24190u;
+  w2c_i0 = w2c_l8;
+  w2c_i1 = 24319u;
+  w2c_i0 = w2c_i0 != w2c_i1;
+  if (w2c_i0) {goto w2c_B1;}
+  goto w2c_B0;
+  w2c_B2:;
+  w2c_i0 = 1u;
+  w2c_l5 = w2c_i0;
+  w2c_i0 = w2c_l8;
+  w2c_i1 = 95u;
   w2c_i0 = w2c_i0 == w2c_i1;
+  if (w2c_i0) {goto w2c_B0;}
+  w2c_i0 = w2c_l8;
+  w2c_i1 = 4294967248u;
+  w2c_i0 += w2c_i1;
+  w2c_i1 = 10u;
+  w2c_i0 = w2c_i0 < w2c_i1;
+  if (w2c_i0) {goto w2c_B0;}
+  w2c_i0 = w2c_l8;
+  w2c_i1 = 95u;
+  w2c_i0 &= w2c_i1;
+  w2c_i1 = 4294967231u;
+  w2c_i0 += w2c_i1;
+  w2c_i1 = 26u;
+  w2c_i0 = w2c_i0 < w2c_i1;
   if (w2c_i0) {goto w2c_B0;}
   w2c_B1:;
-  w2c_i0 = 0u;
-  w2c_l15 = w2c_i0;
-  w2c_B0:;
-  w2c_j0 = w2c_l4;
-  w2c_j1 = 3ull;
-  w2c_i0 = w2c_j0 < w2c_j1;
-  if (w2c_i0) {goto w2c_B26;}
+  w2c_j0 = w2c_l2;
+  w2c_j1 = 8ull;
+  w2c_j0 += w2c_j1;
+  w2c_i1 = w2c_l8;
+  w2c_f22(m, w2c_j0, w2c_i1);
   w2c_j0 = w2c_l2;
   w2c_i0 = (u32)(w2c_j0);
+  w2c_i0 = i32_load8_u(m, (u64)(w2c_i0) + 8u);
+  w2c_i1 = 1u;
+  w2c_i0 = w2c_i0 == w2c_i1;
+  w2c_l5 = w2c_i0;
+  w2c_B0:;
+  w2c_j0 = w2c_l2;
+  w2c_j1 = 16ull;
+  w2c_j0 += w2c_j1;
+  m->w2c_g0 = w2c_j0;
+  w2c_i0 = w2c_l5;
+  return w2c_i0;
+}
+
+static u32 w2c_f20(module *m, u64 w2c_p0, u64 w2c_p1) {
+  u32 w2c_l3 = 0, w2c_l4 = 0, w2c_l5 = 0, w2c_l6 = 0;
+  u64 w2c_l2 = 0;
+  u32 w2c_i0, w2c_i1, w2c_i2, w2c_i3;
+  u64 w2c_j0, w2c_j1, w2c_j2;
+  w2c_j0 = m->w2c_g0;
+  w2c_j1 = 16ull;
+  w2c_j0 -= w2c_j1;
+  w2c_l2 = w2c_j0;
+  m->w2c_g0 = w2c_j0;
+  w2c_j0 = w2c_l2;
+  w2c_l2 = w2c_j0;
+  w2c_j1 = 16ull;
+  w2c_i0 = (u64)((s64)w2c_j0 < (s64)w2c_j1);
+  if (w2c_i0) {goto w2c_B6;}
+  w2c_j0 = w2c_p1;
+  w2c_j1 = 3ull;
+  w2c_i0 = w2c_j0 < w2c_j1;
+  if (w2c_i0) {goto w2c_B8;}
+  w2c_j0 = w2c_p0;
+  w2c_i0 = (u32)(w2c_j0);
   w2c_i0 = i32_load8_u(m, (u64)(w2c_i0));
-  w2c_l11 = w2c_i0;
+  w2c_l3 = w2c_i0;
   w2c_i1 = 240u;
   w2c_i0 &= w2c_i1;
   w2c_i1 = 224u;
   w2c_i0 = w2c_i0 != w2c_i1;
-  if (w2c_i0) {goto w2c_B25;}
-  w2c_j0 = w2c_l2;
+  if (w2c_i0) {goto w2c_B7;}
+  w2c_j0 = w2c_p0;
   w2c_i0 = (u32)(w2c_j0);
   w2c_i0 = i32_load8_u(m, (u64)(w2c_i0) + 1u);
-  w2c_l13 = w2c_i0;
+  w2c_l4 = w2c_i0;
   w2c_i1 = 8u;
   w2c_i0 <<= (w2c_i1 & 31);
-  w2c_j1 = w2c_l2;
+  w2c_j1 = w2c_p0;
   w2c_i1 = (u32)(w2c_j1);
   w2c_i1 = i32_load8_u(m, (u64)(w2c_i1) + 2u);
-  w2c_l14 = w2c_i1;
+  w2c_l5 = w2c_i1;
   w2c_i2 = 16u;
   w2c_i1 <<= (w2c_i2 & 31);
   w2c_i0 |= w2c_i1;
-  w2c_i1 = w2c_l11;
+  w2c_i1 = w2c_l3;
   w2c_i0 |= w2c_i1;
-  w2c_l12 = w2c_i0;
-  w2c_i0 = w2c_l11;
+  w2c_l6 = w2c_i0;
+  w2c_i0 = w2c_l3;
   w2c_i1 = 12u;
   w2c_i0 <<= (w2c_i1 & 31);
-  w2c_i1 = w2c_l13;
+  w2c_i1 = w2c_l4;
   w2c_i2 = 6u;
   w2c_i1 <<= (w2c_i2 & 31);
   w2c_i0 += w2c_i1;
-  w2c_i1 = w2c_l14;
+  w2c_i1 = w2c_l5;
   w2c_i0 += w2c_i1;
   w2c_i1 = 4294041472u;
   w2c_i0 += w2c_i1;
-  w2c_l11 = w2c_i0;
-  w2c_j0 = w2c_l4;
-  w2c_j1 = 18446744073709551613ull;
-  w2c_j0 += w2c_j1;
-  w2c_l4 = w2c_j0;
-  w2c_j0 = w2c_l2;
-  w2c_j1 = 3ull;
-  w2c_j0 += w2c_j1;
-  w2c_p1 = w2c_j0;
-  w2c_i0 = w2c_l12;
-  w2c_i1 = w2c_l12;
+  w2c_l3 = w2c_i0;
+  w2c_i0 = w2c_l6;
+  w2c_i1 = w2c_l6;
   w2c_j1 = (u64)(w2c_i1);
   w2c_j2 = 953497ull;
   w2c_j1 *= w2c_j2;
@@ -9986,132 +11000,114 @@ static void w2c_f19(module *m, u64 w2c_p0, u64 w2c_p1) {
   w2c_j1 >>= (w2c_j2 & 63);
   w2c_j2 = 1016ull;
   w2c_j1 &= w2c_j2;
-  w2c_l2 = w2c_j1;
+  w2c_p0 = w2c_j1;
   w2c_j2 = 66992ull;
   w2c_j1 += w2c_j2;
   w2c_i1 = (u32)(w2c_j1);
   w2c_i1 = i32_load(m, (u64)(w2c_i1));
   w2c_i0 = w2c_i0 != w2c_i1;
-  if (w2c_i0) {goto w2c_B23;}
-  goto w2c_B24;
-  w2c_B26:;
-  w2c_j0 = w2c_l4;
+  if (w2c_i0) {goto w2c_B4;}
+  goto w2c_B5;
+  w2c_B8:;
+  w2c_j0 = w2c_p1;
   w2c_i0 = !(w2c_j0);
   w2c_i0 = !(w2c_i0);
-  if (w2c_i0) {goto w2c_B27;}
+  if (w2c_i0) {goto w2c_B9;}
   w2c_i0 = 0u;
-  w2c_l14 = w2c_i0;
-  w2c_i0 = 0u;
-  w2c_l16 = w2c_i0;
-  goto w2c_B17;
-  w2c_B27:;
-  w2c_j0 = w2c_l2;
+  w2c_l6 = w2c_i0;
+  goto w2c_B0;
+  w2c_B9:;
+  w2c_j0 = w2c_p0;
   w2c_i0 = (u32)(w2c_j0);
   w2c_i0 = i32_load8_u(m, (u64)(w2c_i0));
-  w2c_l11 = w2c_i0;
-  w2c_B25:;
-  w2c_j0 = 1ull;
-  w2c_p1 = w2c_j0;
-  w2c_i0 = w2c_l11;
+  w2c_l3 = w2c_i0;
+  w2c_B7:;
+  w2c_i0 = w2c_l3;
   w2c_i0 = (u32)(s32)(s8)(u8)(w2c_i0);
   w2c_i1 = 4294967295u;
   w2c_i0 = (u32)((s32)w2c_i0 > (s32)w2c_i1);
-  if (w2c_i0) {goto w2c_B28;}
-  w2c_j0 = w2c_l2;
+  if (w2c_i0) {goto w2c_B10;}
+  w2c_j0 = w2c_p0;
   w2c_i0 = (u32)(w2c_j0);
   w2c_i0 = i32_load8_u(m, (u64)(w2c_i0) + 1u);
   w2c_i1 = 63u;
   w2c_i0 &= w2c_i1;
-  w2c_l12 = w2c_i0;
-  w2c_i0 = w2c_l11;
+  w2c_l6 = w2c_i0;
+  w2c_i0 = w2c_l3;
   w2c_i1 = 223u;
   w2c_i0 = w2c_i0 > w2c_i1;
-  if (w2c_i0) {goto w2c_B29;}
-  w2c_i0 = w2c_l11;
+  if (w2c_i0) {goto w2c_B11;}
+  w2c_i0 = w2c_l3;
   w2c_i1 = 6u;
   w2c_i0 <<= (w2c_i1 & 31);
   w2c_i1 = 1984u;
   w2c_i0 &= w2c_i1;
-  w2c_i1 = w2c_l12;
+  w2c_i1 = w2c_l6;
   w2c_i0 |= w2c_i1;
-  w2c_l11 = w2c_i0;
-  w2c_j0 = 2ull;
-  w2c_p1 = w2c_j0;
-  goto w2c_B28;
-  w2c_B29:;
-  w2c_j0 = w2c_l2;
+  w2c_l3 = w2c_i0;
+  goto w2c_B10;
+  w2c_B11:;
+  w2c_j0 = w2c_p0;
   w2c_i0 = (u32)(w2c_j0);
   w2c_i0 = i32_load8_u(m, (u64)(w2c_i0) + 2u);
   w2c_i1 = 63u;
   w2c_i0 &= w2c_i1;
-  w2c_l13 = w2c_i0;
-  w2c_i0 = w2c_l11;
+  w2c_l4 = w2c_i0;
+  w2c_i0 = w2c_l3;
   w2c_i1 = 239u;
   w2c_i0 = w2c_i0 > w2c_i1;
-  if (w2c_i0) {goto w2c_B30;}
-  w2c_i0 = w2c_l12;
+  if (w2c_i0) {goto w2c_B12;}
+  w2c_i0 = w2c_l6;
   w2c_i1 = 6u;
   w2c_i0 <<= (w2c_i1 & 31);
-  w2c_i1 = w2c_l11;
+  w2c_i1 = w2c_l3;
   w2c_i2 = 12u;
   w2c_i1 <<= (w2c_i2 & 31);
   w2c_i2 = 61440u;
   w2c_i1 &= w2c_i2;
   w2c_i0 |= w2c_i1;
-  w2c_i1 = w2c_l13;
+  w2c_i1 = w2c_l4;
   w2c_i0 |= w2c_i1;
-  w2c_l11 = w2c_i0;
-  w2c_j0 = 3ull;
-  w2c_p1 = w2c_j0;
-  goto w2c_B28;
-  w2c_B30:;
-  w2c_i0 = w2c_l13;
+  w2c_l3 = w2c_i0;
+  goto w2c_B10;
+  w2c_B12:;
+  w2c_i0 = w2c_l4;
   w2c_i1 = 6u;
   w2c_i0 <<= (w2c_i1 & 31);
-  w2c_i1 = w2c_l12;
+  w2c_i1 = w2c_l6;
   w2c_i2 = 12u;
   w2c_i1 <<= (w2c_i2 & 31);
-  w2c_i2 = w2c_l11;
+  w2c_i2 = w2c_l3;
   w2c_i3 = 18u;
   w2c_i2 <<= (w2c_i3 & 31);
   w2c_i3 = 1835008u;
   w2c_i2 &= w2c_i3;
   w2c_i1 |= w2c_i2;
   w2c_i0 |= w2c_i1;
-  w2c_j1 = w2c_l2;
+  w2c_j1 = w2c_p0;
   w2c_i1 = (u32)(w2c_j1);
   w2c_i1 = i32_load8_u(m, (u64)(w2c_i1) + 3u);
   w2c_i2 = 63u;
   w2c_i1 &= w2c_i2;
   w2c_i0 |= w2c_i1;
-  w2c_l11 = w2c_i0;
-  w2c_j0 = 4ull;
-  w2c_p1 = w2c_j0;
-  w2c_B28:;
-  w2c_j0 = w2c_l4;
-  w2c_j1 = w2c_p1;
-  w2c_j0 -= w2c_j1;
-  w2c_l4 = w2c_j0;
-  w2c_j0 = w2c_l2;
-  w2c_j1 = w2c_p1;
-  w2c_j0 += w2c_j1;
-  w2c_p1 = w2c_j0;
-  w2c_i0 = w2c_l11;
+  w2c_l3 = w2c_i0;
+  w2c_B10:;
+  w2c_i0 = w2c_l3;
   w2c_i1 = 4294965248u;
   w2c_i0 += w2c_i1;
   w2c_i1 = 63487u;
   w2c_i0 = w2c_i0 > w2c_i1;
-  if (w2c_i0) {goto w2c_B31;}
-  w2c_i0 = w2c_l11;
+  if (w2c_i0) {goto w2c_B13;}
+  w2c_i0 = w2c_l3;
   w2c_i1 = 12u;
   w2c_i0 >>= (w2c_i1 & 31);
-  w2c_i1 = w2c_l11;
+  w2c_i1 = w2c_l3;
   w2c_i2 = 2u;
   w2c_i1 <<= (w2c_i2 & 31);
   w2c_i2 = 16128u;
   w2c_i1 &= w2c_i2;
   w2c_i0 |= w2c_i1;
-  w2c_i1 = w2c_l11;
+  w2c_i1 = w2c_l3;
   w2c_i2 = 16u;
   w2c_i1 <<= (w2c_i2 & 31);
   w2c_i2 = 4128768u;
@@ -10119,7 +11115,7 @@ static void w2c_f19(module *m, u64 w2c_p0, u64 w2c_p1) {
   w2c_i0 |= w2c_i1;
   w2c_i1 = 8421600u;
   w2c_i0 |= w2c_i1;
-  w2c_l12 = w2c_i0;
+  w2c_l6 = w2c_i0;
   w2c_j0 = (u64)(w2c_i0);
   w2c_j1 = 953497ull;
   w2c_j0 *= w2c_j1;
@@ -10127,909 +11123,154 @@ static void w2c_f19(module *m, u64 w2c_p0, u64 w2c_p1) {
   w2c_j0 >>= (w2c_j1 & 63);
   w2c_j1 = 1016ull;
   w2c_j0 &= w2c_j1;
-  w2c_l2 = w2c_j0;
+  w2c_p0 = w2c_j0;
   w2c_j1 = 66992ull;
   w2c_j0 += w2c_j1;
   w2c_i0 = (u32)(w2c_j0);
   w2c_i0 = i32_load(m, (u64)(w2c_i0));
-  w2c_i1 = w2c_l12;
+  w2c_i1 = w2c_l6;
   w2c_i0 = w2c_i0 == w2c_i1;
-  if (w2c_i0) {goto w2c_B24;}
-  goto w2c_B22;
-  w2c_B31:;
-  w2c_i0 = w2c_l11;
+  if (w2c_i0) {goto w2c_B5;}
+  goto w2c_B3;
+  w2c_B13:;
+  w2c_i0 = w2c_l3;
   w2c_i1 = 4294967248u;
   w2c_i0 += w2c_i1;
   w2c_i1 = 10u;
   w2c_i0 = w2c_i0 >= w2c_i1;
-  if (w2c_i0) {goto w2c_B23;}
+  if (w2c_i0) {goto w2c_B4;}
   w2c_i0 = 1u;
-  w2c_l16 = w2c_i0;
-  goto w2c_B18;
-  w2c_B24:;
-  w2c_j0 = w2c_l2;
+  w2c_l6 = w2c_i0;
+  goto w2c_B0;
+  w2c_B6:;
+  UNREACHABLE;
+  w2c_B5:;
+  w2c_j0 = w2c_p0;
   w2c_j1 = 66996ull;
   w2c_j0 += w2c_j1;
   w2c_i0 = (u32)(w2c_j0);
   w2c_i0 = i32_load8_u(m, (u64)(w2c_i0));
-  if (w2c_i0) {goto w2c_B23;}
+  if (w2c_i0) {goto w2c_B4;}
   w2c_i0 = 1u;
-  w2c_l16 = w2c_i0;
-  goto w2c_B18;
-  w2c_B23:;
-  w2c_i0 = w2c_l11;
+  w2c_l6 = w2c_i0;
+  goto w2c_B0;
+  w2c_B4:;
+  w2c_i0 = w2c_l3;
   w2c_i1 = 128u;
   w2c_i0 = w2c_i0 < w2c_i1;
-  if (w2c_i0) {goto w2c_B21;}
-  w2c_B22:;
+  if (w2c_i0) {goto w2c_B2;}
+  w2c_B3:;
   w2c_i0 = 1u;
-  w2c_l16 = w2c_i0;
-  w2c_i0 = w2c_l11;
+  w2c_l6 = w2c_i0;
+  w2c_i0 = w2c_l3;
   w2c_i1 = 4294902000u;
   w2c_i0 += w2c_i1;
   w2c_i1 = 10u;
   w2c_i0 = w2c_i0 < w2c_i1;
-  if (w2c_i0) {goto w2c_B18;}
-  w2c_i0 = w2c_l11;
-  w2c_i1 = 24318u;
-  w2c_i0 = (u32)((s32)w2c_i0 > (s32)w2c_i1);
-  if (w2c_i0) {goto w2c_B32;}
-  w2c_i0 = w2c_l11;
+  if (w2c_i0) {goto w2c_B0;}
+  w2c_i0 = w2c_l3;
   w2c_i1 = 4294945979u;
   w2c_i0 += w2c_i1;
   switch (w2c_i0) {
-    case 0: goto w2c_B18;
-    case 1: goto w2c_B20;
-    case 2: goto w2c_B20;
-    case 3: goto w2c_B20;
-    case 4: goto w2c_B20;
-    case 5: goto w2c_B20;
-    case 6: goto w2c_B20;
-    case 7: goto w2c_B18;
-    default: goto w2c_B33;
+    case 0: goto w2c_B0;
+    case 1: goto w2c_B1;
+    case 2: goto w2c_B1;
+    case 3: goto w2c_B1;
+    case 4: goto w2c_B1;
+    case 5: goto w2c_B1;
+    case 6: goto w2c_B1;
+    case 7: goto w2c_B0;
+    default: goto w2c_B14;
   }
-  w2c_B33:;
-  w2c_i0 = w2c_l11;
+  w2c_B14:;
+  w2c_i0 = w2c_l3;
   w2c_i1 = 24186u;
-  w2c_i0 = w2c_i0 != w2c_i1;
-  if (w2c_i0) {goto w2c_B20;}
-  goto w2c_B18;
-  w2c_B32:;
-  w2c_i0 = w2c_l11;
+  w2c_i0 = w2c_i0 == w2c_i1;
+  if (w2c_i0) {goto w2c_B0;}
+  w2c_i0 = w2c_l3;
   w2c_i1 = 24319u;
-  w2c_i0 = w2c_i0 == w2c_i1;
-  if (w2c_i0) {goto w2c_B18;}
-  w2c_i0 = w2c_l11;
-  w2c_i1 = 28857u;
-  w2c_i0 = w2c_i0 == w2c_i1;
-  if (w2c_i0) {goto w2c_B19;}
-  w2c_i0 = w2c_l11;
-  w2c_i1 = 40670u;
   w2c_i0 = w2c_i0 != w2c_i1;
-  if (w2c_i0) {goto w2c_B20;}
-  goto w2c_B19;
-  w2c_B21:;
+  if (w2c_i0) {goto w2c_B1;}
+  goto w2c_B0;
+  w2c_B2:;
   w2c_i0 = 1u;
-  w2c_l16 = w2c_i0;
-  w2c_i0 = w2c_l11;
+  w2c_l6 = w2c_i0;
+  w2c_i0 = w2c_l3;
   w2c_i1 = 95u;
   w2c_i0 = w2c_i0 == w2c_i1;
-  if (w2c_i0) {goto w2c_B18;}
-  w2c_i0 = w2c_l11;
+  if (w2c_i0) {goto w2c_B0;}
+  w2c_i0 = w2c_l3;
   w2c_i1 = 4294967248u;
   w2c_i0 += w2c_i1;
   w2c_i1 = 10u;
   w2c_i0 = w2c_i0 < w2c_i1;
-  if (w2c_i0) {goto w2c_B18;}
-  w2c_i0 = w2c_l11;
+  if (w2c_i0) {goto w2c_B0;}
+  w2c_i0 = w2c_l3;
   w2c_i1 = 95u;
   w2c_i0 &= w2c_i1;
   w2c_i1 = 4294967231u;
   w2c_i0 += w2c_i1;
   w2c_i1 = 26u;
   w2c_i0 = w2c_i0 < w2c_i1;
-  if (w2c_i0) {goto w2c_B18;}
-  w2c_B20:;
-  w2c_i0 = w2c_l11;
-  w2c_i1 = 4294967252u;
-  w2c_i0 += w2c_i1;
-  w2c_i1 = 2u;
-  w2c_i0 = w2c_i0 <= w2c_i1;
-  if (w2c_i0) {goto w2c_B19;}
-  w2c_i0 = 0u;
-  w2c_l16 = w2c_i0;
-  goto w2c_B18;
-  w2c_B19:;
-  w2c_j0 = w2c_p1;
-  w2c_j1 = w2c_l4;
-  w2c_i0 = w2c_f24(m, w2c_j0, w2c_j1);
-  w2c_l16 = w2c_i0;
-  w2c_B18:;
-  w2c_i0 = 1u;
-  w2c_l14 = w2c_i0;
-  w2c_i0 = w2c_l11;
-  w2c_i1 = 22809u;
-  w2c_i0 = (u32)((s32)w2c_i0 > (s32)w2c_i1);
-  if (w2c_i0) {goto w2c_B35;}
-  w2c_i0 = w2c_l11;
-  w2c_i1 = 20313u;
-  w2c_i0 = w2c_i0 == w2c_i1;
-  if (w2c_i0) {goto w2c_B17;}
-  w2c_i0 = w2c_l11;
-  w2c_i1 = 20358u;
-  w2c_i0 = w2c_i0 == w2c_i1;
-  if (w2c_i0) {goto w2c_B17;}
-  w2c_i0 = w2c_l11;
-  w2c_i1 = 20960u;
-  w2c_i0 = w2c_i0 != w2c_i1;
-  if (w2c_i0) {goto w2c_B34;}
-  goto w2c_B17;
-  w2c_B35:;
-  w2c_i0 = w2c_l11;
-  w2c_i1 = 26468u;
-  w2c_i0 = (u32)((s32)w2c_i0 > (s32)w2c_i1);
-  if (w2c_i0) {goto w2c_B36;}
-  w2c_i0 = w2c_l11;
-  w2c_i1 = 22810u;
-  w2c_i0 = w2c_i0 == w2c_i1;
-  if (w2c_i0) {goto w2c_B17;}
-  w2c_i0 = w2c_l11;
-  w2c_i1 = 24190u;
-  w2c_i0 = w2c_i0 != w2c_i1;
-  if (w2c_i0) {goto w2c_B34;}
-  goto w2c_B17;
-  w2c_B36:;
-  w2c_i0 = w2c_l11;
-  w2c_i1 = 26469u;
-  w2c_i0 = w2c_i0 == w2c_i1;
-  if (w2c_i0) {goto w2c_B17;}
-  w2c_i0 = w2c_l11;
-  w2c_i1 = 39192u;
-  w2c_i0 = w2c_i0 == w2c_i1;
-  if (w2c_i0) {goto w2c_B17;}
-  w2c_B34:;
-  w2c_i0 = 0u;
-  w2c_l14 = w2c_i0;
-  w2c_B17:;
-  w2c_j0 = w2c_l5;
-  w2c_j1 = 3ull;
-  w2c_i0 = w2c_j0 < w2c_j1;
-  if (w2c_i0) {goto w2c_B42;}
-  w2c_j0 = w2c_l6;
-  w2c_i0 = (u32)(w2c_j0);
-  w2c_i0 = i32_load8_u(m, (u64)(w2c_i0));
-  w2c_l11 = w2c_i0;
-  w2c_i1 = 240u;
-  w2c_i0 &= w2c_i1;
-  w2c_i1 = 224u;
-  w2c_i0 = w2c_i0 != w2c_i1;
-  if (w2c_i0) {goto w2c_B41;}
-  w2c_j0 = w2c_l6;
-  w2c_i0 = (u32)(w2c_j0);
-  w2c_i0 = i32_load8_u(m, (u64)(w2c_i0) + 1u);
-  w2c_l13 = w2c_i0;
-  w2c_i1 = 8u;
-  w2c_i0 <<= (w2c_i1 & 31);
-  w2c_j1 = w2c_l6;
-  w2c_i1 = (u32)(w2c_j1);
-  w2c_i1 = i32_load8_u(m, (u64)(w2c_i1) + 2u);
-  w2c_l17 = w2c_i1;
-  w2c_i2 = 16u;
-  w2c_i1 <<= (w2c_i2 & 31);
-  w2c_i0 |= w2c_i1;
-  w2c_i1 = w2c_l11;
-  w2c_i0 |= w2c_i1;
-  w2c_l12 = w2c_i0;
-  w2c_j0 = (u64)(w2c_i0);
-  w2c_j1 = 953497ull;
-  w2c_j0 *= w2c_j1;
-  w2c_j1 = 22ull;
-  w2c_j0 >>= (w2c_j1 & 63);
-  w2c_j1 = 1016ull;
-  w2c_j0 &= w2c_j1;
-  w2c_p1 = w2c_j0;
-  w2c_j1 = 66996ull;
-  w2c_j0 += w2c_j1;
-  w2c_i0 = (u32)(w2c_j0);
-  w2c_i0 = i32_load8_u(m, (u64)(w2c_i0));
-  w2c_i1 = 2u;
-  w2c_j2 = w2c_p1;
-  w2c_i2 = (u32)(w2c_j2);
-  w2c_i2 = i32_load(m, (u64)(w2c_i2) + 66992u);
-  w2c_i3 = w2c_l12;
-  w2c_i2 = w2c_i2 == w2c_i3;
-  w2c_i0 = w2c_i2 ? w2c_i0 : w2c_i1;
-  w2c_l12 = w2c_i0;
-  w2c_i0 = w2c_l11;
-  w2c_i1 = 12u;
-  w2c_i0 <<= (w2c_i1 & 31);
-  w2c_i1 = w2c_l13;
-  w2c_i2 = 6u;
-  w2c_i1 <<= (w2c_i2 & 31);
-  w2c_i0 += w2c_i1;
-  w2c_i1 = w2c_l17;
-  w2c_i0 += w2c_i1;
-  w2c_i1 = 4294041472u;
-  w2c_i0 += w2c_i1;
-  w2c_l11 = w2c_i0;
-  w2c_j0 = w2c_l5;
-  w2c_j1 = 18446744073709551613ull;
-  w2c_j0 += w2c_j1;
-  w2c_p1 = w2c_j0;
-  goto w2c_B40;
-  w2c_B42:;
-  w2c_j0 = w2c_l5;
-  w2c_j1 = 0ull;
-  w2c_i0 = w2c_j0 == w2c_j1;
-  if (w2c_i0) {goto w2c_B39;}
-  w2c_j0 = w2c_l6;
-  w2c_i0 = (u32)(w2c_j0);
-  w2c_i0 = i32_load8_u(m, (u64)(w2c_i0));
-  w2c_l11 = w2c_i0;
-  w2c_B41:;
-  w2c_j0 = 18446744073709551615ull;
-  w2c_p1 = w2c_j0;
-  w2c_i0 = w2c_l11;
-  w2c_i0 = (u32)(s32)(s8)(u8)(w2c_i0);
-  w2c_i1 = 4294967295u;
-  w2c_i0 = (u32)((s32)w2c_i0 > (s32)w2c_i1);
-  if (w2c_i0) {goto w2c_B43;}
-  w2c_j0 = w2c_l6;
-  w2c_i0 = (u32)(w2c_j0);
-  w2c_i0 = i32_load8_u(m, (u64)(w2c_i0) + 1u);
-  w2c_i1 = 63u;
-  w2c_i0 &= w2c_i1;
-  w2c_l12 = w2c_i0;
-  w2c_i0 = w2c_l11;
-  w2c_i1 = 223u;
-  w2c_i0 = w2c_i0 > w2c_i1;
-  if (w2c_i0) {goto w2c_B44;}
-  w2c_i0 = w2c_l11;
-  w2c_i1 = 6u;
-  w2c_i0 <<= (w2c_i1 & 31);
-  w2c_i1 = 1984u;
-  w2c_i0 &= w2c_i1;
-  w2c_i1 = w2c_l12;
-  w2c_i0 |= w2c_i1;
-  w2c_l11 = w2c_i0;
-  w2c_j0 = 18446744073709551614ull;
-  w2c_p1 = w2c_j0;
-  goto w2c_B43;
-  w2c_B44:;
-  w2c_j0 = w2c_l6;
-  w2c_i0 = (u32)(w2c_j0);
-  w2c_i0 = i32_load8_u(m, (u64)(w2c_i0) + 2u);
-  w2c_i1 = 63u;
-  w2c_i0 &= w2c_i1;
-  w2c_l13 = w2c_i0;
-  w2c_i0 = w2c_l11;
-  w2c_i1 = 239u;
-  w2c_i0 = w2c_i0 > w2c_i1;
-  if (w2c_i0) {goto w2c_B45;}
-  w2c_i0 = w2c_l12;
-  w2c_i1 = 6u;
-  w2c_i0 <<= (w2c_i1 & 31);
-  w2c_i1 = w2c_l11;
-  w2c_i2 = 12u;
-  w2c_i1 <<= (w2c_i2 & 31);
-  w2c_i2 = 61440u;
-  w2c_i1 &= w2c_i2;
-  w2c_i0 |= w2c_i1;
-  w2c_i1 = w2c_l13;
-  w2c_i0 |= w2c_i1;
-  w2c_l11 = w2c_i0;
-  w2c_j0 = 18446744073709551613ull;
-  w2c_p1 = w2c_j0;
-  goto w2c_B43;
-  w2c_B45:;
-  w2c_i0 = w2c_l13;
-  w2c_i1 = 6u;
-  w2c_i0 <<= (w2c_i1 & 31);
-  w2c_i1 = w2c_l12;
-  w2c_i2 = 12u;
-  w2c_i1 <<= (w2c_i2 & 31);
-  w2c_i2 = w2c_l11;
-  w2c_i3 = 18u;
-  w2c_i2 <<= (w2c_i3 & 31);
-  w2c_i3 = 1835008u;
-  w2c_i2 &= w2c_i3;
-  w2c_i1 |= w2c_i2;
-  w2c_i0 |= w2c_i1;
-  w2c_j1 = w2c_l6;
-  w2c_i1 = (u32)(w2c_j1);
-  w2c_i1 = i32_load8_u(m, (u64)(w2c_i1) + 3u);
-  w2c_i2 = 63u;
-  w2c_i1 &= w2c_i2;
-  w2c_i0 |= w2c_i1;
-  w2c_l11 = w2c_i0;
-  w2c_j0 = 18446744073709551612ull;
-  w2c_p1 = w2c_j0;
-  w2c_B43:;
-  w2c_j0 = w2c_p1;
-  w2c_j1 = w2c_l5;
-  w2c_j0 += w2c_j1;
-  w2c_p1 = w2c_j0;
-  w2c_i0 = w2c_l11;
-  w2c_i1 = 4294965248u;
-  w2c_i0 += w2c_i1;
-  w2c_i1 = 63487u;
-  w2c_i0 = w2c_i0 > w2c_i1;
-  if (w2c_i0) {goto w2c_B46;}
-  w2c_i0 = w2c_l11;
-  w2c_i1 = 12u;
-  w2c_i0 >>= (w2c_i1 & 31);
-  w2c_i1 = w2c_l11;
-  w2c_i2 = 2u;
-  w2c_i1 <<= (w2c_i2 & 31);
-  w2c_i2 = 16128u;
-  w2c_i1 &= w2c_i2;
-  w2c_i0 |= w2c_i1;
-  w2c_i1 = w2c_l11;
-  w2c_i2 = 16u;
-  w2c_i1 <<= (w2c_i2 & 31);
-  w2c_i2 = 4128768u;
-  w2c_i1 &= w2c_i2;
-  w2c_i0 |= w2c_i1;
-  w2c_i1 = 8421600u;
-  w2c_i0 |= w2c_i1;
-  w2c_l12 = w2c_i0;
-  w2c_j0 = (u64)(w2c_i0);
-  w2c_j1 = 953497ull;
-  w2c_j0 *= w2c_j1;
-  w2c_j1 = 22ull;
-  w2c_j0 >>= (w2c_j1 & 63);
-  w2c_j1 = 1016ull;
-  w2c_j0 &= w2c_j1;
-  w2c_l2 = w2c_j0;
-  w2c_j1 = 66996ull;
-  w2c_j0 += w2c_j1;
-  w2c_i0 = (u32)(w2c_j0);
-  w2c_i0 = i32_load8_u(m, (u64)(w2c_i0));
-  w2c_i1 = 2u;
-  w2c_j2 = w2c_l2;
-  w2c_i2 = (u32)(w2c_j2);
-  w2c_i2 = i32_load(m, (u64)(w2c_i2) + 66992u);
-  w2c_i3 = w2c_l12;
-  w2c_i2 = w2c_i2 == w2c_i3;
-  w2c_i0 = w2c_i2 ? w2c_i0 : w2c_i1;
-  w2c_l12 = w2c_i0;
-  goto w2c_B40;
-  w2c_B46:;
-  w2c_i0 = 0u;
-  w2c_i1 = 2u;
-  w2c_i2 = w2c_l11;
-  w2c_i3 = 4294967248u;
-  w2c_i2 += w2c_i3;
-  w2c_i3 = 10u;
-  w2c_i2 = w2c_i2 < w2c_i3;
-  w2c_i0 = w2c_i2 ? w2c_i0 : w2c_i1;
-  w2c_l12 = w2c_i0;
-  w2c_B40:;
-  w2c_j0 = w2c_p1;
-  w2c_j1 = 0ull;
-  w2c_i0 = w2c_j0 != w2c_j1;
-  if (w2c_i0) {goto w2c_B39;}
-  w2c_i0 = w2c_l15;
-  w2c_i0 = !(w2c_i0);
-  if (w2c_i0) {goto w2c_B47;}
-  w2c_j0 = w2c_l3;
+  if (w2c_i0) {goto w2c_B0;}
+  w2c_B1:;
+  w2c_j0 = w2c_l2;
   w2c_j1 = 8ull;
   w2c_j0 += w2c_j1;
-  w2c_i1 = w2c_l11;
-  w2c_f25(m, w2c_j0, w2c_i1);
-  w2c_i0 = w2c_l14;
-  w2c_j1 = w2c_l3;
-  w2c_i1 = (u32)(w2c_j1);
-  w2c_i1 = i32_load8_u(m, (u64)(w2c_i1) + 8u);
-  w2c_i2 = 255u;
-  w2c_i1 &= w2c_i2;
-  w2c_i2 = 1u;
-  w2c_i1 = w2c_i1 == w2c_i2;
-  w2c_i0 |= w2c_i1;
-  w2c_l14 = w2c_i0;
-  w2c_B47:;
-  w2c_i0 = 8u;
-  w2c_i1 = 0u;
-  w2c_i2 = w2c_l11;
-  w2c_i3 = 4294901990u;
-  w2c_i2 += w2c_i3;
-  w2c_i3 = 4294967286u;
-  w2c_i2 = w2c_i2 < w2c_i3;
-  w2c_i0 = w2c_i2 ? w2c_i0 : w2c_i1;
-  w2c_i1 = 0u;
-  w2c_i2 = w2c_l11;
-  w2c_i3 = 4294967238u;
-  w2c_i2 += w2c_i3;
-  w2c_i3 = 4294967286u;
-  w2c_i2 = w2c_i2 < w2c_i3;
-  w2c_i0 = w2c_i2 ? w2c_i0 : w2c_i1;
-  w2c_l13 = w2c_i0;
-  w2c_i0 = 0u;
-  w2c_i1 = 0u;
-  w2c_i2 = 2u;
-  w2c_i3 = w2c_l16;
-  w2c_i1 = w2c_i3 ? w2c_i1 : w2c_i2;
-  w2c_i2 = w2c_l10;
-  w2c_i0 = w2c_i2 ? w2c_i0 : w2c_i1;
-  w2c_i1 = w2c_l12;
-  w2c_i2 = 255u;
-  w2c_i1 &= w2c_i2;
-  w2c_i1 = !(w2c_i1);
-  w2c_i0 |= w2c_i1;
-  w2c_l11 = w2c_i0;
-  w2c_i0 = w2c_l14;
-  if (w2c_i0) {goto w2c_B38;}
-  goto w2c_B37;
-  w2c_B39:;
-  w2c_j0 = w2c_l6;
-  w2c_p1 = w2c_j0;
-  w2c_j0 = w2c_l5;
-  w2c_l2 = w2c_j0;
-  w2c_L50:
-    w2c_j0 = w2c_l2;
-    w2c_j1 = 3ull;
-    w2c_i0 = w2c_j0 < w2c_j1;
-    if (w2c_i0) {goto w2c_B53;}
-    w2c_j0 = w2c_p1;
-    w2c_i0 = (u32)(w2c_j0);
-    w2c_i0 = i32_load8_u(m, (u64)(w2c_i0));
-    w2c_l11 = w2c_i0;
-    w2c_i1 = 240u;
-    w2c_i0 &= w2c_i1;
-    w2c_i1 = 224u;
-    w2c_i0 = w2c_i0 != w2c_i1;
-    if (w2c_i0) {goto w2c_B52;}
-    w2c_j0 = w2c_p1;
-    w2c_i0 = (u32)(w2c_j0);
-    w2c_i0 = i32_load8_u(m, (u64)(w2c_i0) + 1u);
-    w2c_i1 = 8u;
-    w2c_i0 <<= (w2c_i1 & 31);
-    w2c_j1 = w2c_p1;
-    w2c_i1 = (u32)(w2c_j1);
-    w2c_i1 = i32_load8_u(m, (u64)(w2c_i1) + 2u);
-    w2c_i2 = 16u;
-    w2c_i1 <<= (w2c_i2 & 31);
-    w2c_i0 |= w2c_i1;
-    w2c_i1 = w2c_l11;
-    w2c_i0 |= w2c_i1;
-    w2c_l11 = w2c_i0;
-    w2c_j0 = (u64)(w2c_i0);
-    w2c_j1 = 953497ull;
-    w2c_j0 *= w2c_j1;
-    w2c_j1 = 22ull;
-    w2c_j0 >>= (w2c_j1 & 63);
-    w2c_j1 = 1016ull;
-    w2c_j0 &= w2c_j1;
-    w2c_l4 = w2c_j0;
-    w2c_i0 = (u32)(w2c_j0);
-    w2c_i0 = i32_load(m, (u64)(w2c_i0) + 66992u);
-    w2c_i1 = w2c_l11;
-    w2c_i0 = w2c_i0 != w2c_i1;
-    if (w2c_i0) {goto w2c_B49;}
-    w2c_j0 = w2c_l4;
-    w2c_j1 = 66996ull;
-    w2c_j0 += w2c_j1;
-    w2c_i0 = (u32)(w2c_j0);
-    w2c_i0 = i32_load8_u(m, (u64)(w2c_i0));
-    w2c_l12 = w2c_i0;
-    w2c_j0 = w2c_l2;
-    w2c_j1 = 18446744073709551613ull;
-    w2c_j0 += w2c_j1;
-    w2c_l2 = w2c_j0;
-    w2c_j0 = w2c_p1;
-    w2c_j1 = 3ull;
-    w2c_j0 += w2c_j1;
-    w2c_p1 = w2c_j0;
-    goto w2c_B51;
-    w2c_B53:;
-    w2c_j0 = w2c_l2;
-    w2c_i0 = !(w2c_j0);
-    w2c_i0 = !(w2c_i0);
-    if (w2c_i0) {goto w2c_B54;}
-    w2c_i0 = 1u;
-    w2c_l12 = w2c_i0;
-    goto w2c_B48;
-    w2c_B54:;
-    w2c_j0 = w2c_p1;
-    w2c_i0 = (u32)(w2c_j0);
-    w2c_i0 = i32_load8_u(m, (u64)(w2c_i0));
-    w2c_l11 = w2c_i0;
-    w2c_B52:;
-    w2c_j0 = 1ull;
-    w2c_l4 = w2c_j0;
-    w2c_i0 = w2c_l11;
-    w2c_i0 = (u32)(s32)(s8)(u8)(w2c_i0);
-    w2c_i1 = 4294967295u;
-    w2c_i0 = (u32)((s32)w2c_i0 > (s32)w2c_i1);
-    if (w2c_i0) {goto w2c_B55;}
-    w2c_j0 = w2c_p1;
-    w2c_i0 = (u32)(w2c_j0);
-    w2c_i0 = i32_load8_u(m, (u64)(w2c_i0) + 1u);
-    w2c_i1 = 63u;
-    w2c_i0 &= w2c_i1;
-    w2c_l12 = w2c_i0;
-    w2c_i0 = w2c_l11;
-    w2c_i1 = 223u;
-    w2c_i0 = w2c_i0 > w2c_i1;
-    if (w2c_i0) {goto w2c_B56;}
-    w2c_i0 = w2c_l11;
-    w2c_i1 = 6u;
-    w2c_i0 <<= (w2c_i1 & 31);
-    w2c_i1 = 1984u;
-    w2c_i0 &= w2c_i1;
-    w2c_i1 = w2c_l12;
-    w2c_i0 |= w2c_i1;
-    w2c_l11 = w2c_i0;
-    w2c_j0 = 2ull;
-    w2c_l4 = w2c_j0;
-    goto w2c_B55;
-    w2c_B56:;
-    w2c_j0 = w2c_p1;
-    w2c_i0 = (u32)(w2c_j0);
-    w2c_i0 = i32_load8_u(m, (u64)(w2c_i0) + 2u);
-    w2c_i1 = 63u;
-    w2c_i0 &= w2c_i1;
-    w2c_l13 = w2c_i0;
-    w2c_i0 = w2c_l11;
-    w2c_i1 = 239u;
-    w2c_i0 = w2c_i0 > w2c_i1;
-    if (w2c_i0) {goto w2c_B57;}
-    w2c_i0 = w2c_l12;
-    w2c_i1 = 6u;
-    w2c_i0 <<= (w2c_i1 & 31);
-    w2c_i1 = w2c_l11;
-    w2c_i2 = 12u;
-    w2c_i1 <<= (w2c_i2 & 31);
-    w2c_i2 = 61440u;
-    w2c_i1 &= w2c_i2;
-    w2c_i0 |= w2c_i1;
-    w2c_i1 = w2c_l13;
-    w2c_i0 |= w2c_i1;
-    w2c_l11 = w2c_i0;
-    w2c_j0 = 3ull;
-    w2c_l4 = w2c_j0;
-    goto w2c_B55;
-    w2c_B57:;
-    w2c_i0 = w2c_l13;
-    w2c_i1 = 6u;
-    w2c_i0 <<= (w2c_i1 & 31);
-    w2c_i1 = w2c_l12;
-    w2c_i2 = 12u;
-    w2c_i1 <<= (w2c_i2 & 31);
-    w2c_i2 = w2c_l11;
-    w2c_i3 = 18u;
-    w2c_i2 <<= (w2c_i3 & 31);
-    w2c_i3 = 1835008u;
-    w2c_i2 &= w2c_i3;
-    w2c_i1 |= w2c_i2;
-    w2c_i0 |= w2c_i1;
-    w2c_j1 = w2c_p1;
-    w2c_i1 = (u32)(w2c_j1);
-    w2c_i1 = i32_load8_u(m, (u64)(w2c_i1) + 3u);
-    w2c_i2 = 63u;
-    w2c_i1 &= w2c_i2;
-    w2c_i0 |= w2c_i1;
-    w2c_l11 = w2c_i0;
-    w2c_j0 = 4ull;
-    w2c_l4 = w2c_j0;
-    w2c_B55:;
-    w2c_j0 = w2c_l2;
-    w2c_j1 = w2c_l4;
-    w2c_j0 -= w2c_j1;
-    w2c_l2 = w2c_j0;
-    w2c_j0 = w2c_p1;
-    w2c_j1 = w2c_l4;
-    w2c_j0 += w2c_j1;
-    w2c_p1 = w2c_j0;
-    w2c_i0 = w2c_l11;
-    w2c_i1 = 4294965248u;
-    w2c_i0 += w2c_i1;
-    w2c_i1 = 63487u;
-    w2c_i0 = w2c_i0 > w2c_i1;
-    if (w2c_i0) {goto w2c_B58;}
-    w2c_i0 = w2c_l11;
-    w2c_i1 = 12u;
-    w2c_i0 >>= (w2c_i1 & 31);
-    w2c_i1 = w2c_l11;
-    w2c_i2 = 2u;
-    w2c_i1 <<= (w2c_i2 & 31);
-    w2c_i2 = 16128u;
-    w2c_i1 &= w2c_i2;
-    w2c_i0 |= w2c_i1;
-    w2c_i1 = w2c_l11;
-    w2c_i2 = 16u;
-    w2c_i1 <<= (w2c_i2 & 31);
-    w2c_i2 = 4128768u;
-    w2c_i1 &= w2c_i2;
-    w2c_i0 |= w2c_i1;
-    w2c_i1 = 8421600u;
-    w2c_i0 |= w2c_i1;
-    w2c_l11 = w2c_i0;
-    w2c_j0 = (u64)(w2c_i0);
-    w2c_j1 = 953497ull;
-    w2c_j0 *= w2c_j1;
-    w2c_j1 = 22ull;
-    w2c_j0 >>= (w2c_j1 & 63);
-    w2c_j1 = 1016ull;
-    w2c_j0 &= w2c_j1;
-    w2c_l4 = w2c_j0;
-    w2c_i0 = (u32)(w2c_j0);
-    w2c_i0 = i32_load(m, (u64)(w2c_i0) + 66992u);
-    w2c_i1 = w2c_l11;
-    w2c_i0 = w2c_i0 != w2c_i1;
-    if (w2c_i0) {goto w2c_B49;}
-    w2c_j0 = w2c_l4;
-    w2c_j1 = 66996ull;
-    w2c_j0 += w2c_j1;
-    w2c_i0 = (u32)(w2c_j0);
-    w2c_i0 = i32_load8_u(m, (u64)(w2c_i0));
-    w2c_l12 = w2c_i0;
-    goto w2c_B51;
-    w2c_B58:;
-    w2c_i0 = 0u;
-    w2c_l12 = w2c_i0;
-    w2c_i0 = w2c_l11;
-    w2c_i1 = 4294967248u;
-    w2c_i0 += w2c_i1;
-    w2c_i1 = 9u;
-    w2c_i0 = w2c_i0 > w2c_i1;
-    if (w2c_i0) {goto w2c_B48;}
-    w2c_B51:;
-    w2c_i0 = w2c_l12;
-    w2c_i1 = 255u;
-    w2c_i0 &= w2c_i1;
-    w2c_i0 = !(w2c_i0);
-    if (w2c_i0) {goto w2c_L50;}
-  w2c_B49:;
-  w2c_i0 = 0u;
-  w2c_l12 = w2c_i0;
-  w2c_B48:;
-  w2c_j0 = w2c_l5;
-  w2c_i0 = !(w2c_j0);
-  w2c_i1 = w2c_l15;
-  w2c_i2 = 1u;
-  w2c_i1 ^= w2c_i2;
-  w2c_i0 |= w2c_i1;
-  if (w2c_i0) {goto w2c_B61;}
-  w2c_j0 = w2c_l6;
+  w2c_i1 = w2c_l3;
+  w2c_f22(m, w2c_j0, w2c_i1);
+  w2c_j0 = w2c_l2;
   w2c_i0 = (u32)(w2c_j0);
-  w2c_i0 = i32_load8_s(m, (u64)(w2c_i0));
-  w2c_l13 = w2c_i0;
-  w2c_i1 = 255u;
-  w2c_i0 &= w2c_i1;
-  w2c_l11 = w2c_i0;
-  w2c_i0 = w2c_l13;
-  w2c_i1 = 4294967295u;
-  w2c_i0 = (u32)((s32)w2c_i0 > (s32)w2c_i1);
-  if (w2c_i0) {goto w2c_B62;}
-  w2c_j0 = w2c_l6;
-  w2c_i0 = (u32)(w2c_j0);
-  w2c_i0 = i32_load8_u(m, (u64)(w2c_i0) + 1u);
-  w2c_i1 = 63u;
-  w2c_i0 &= w2c_i1;
-  w2c_l15 = w2c_i0;
-  w2c_i0 = w2c_l13;
-  w2c_i1 = 4294967263u;
-  w2c_i0 = w2c_i0 > w2c_i1;
-  if (w2c_i0) {goto w2c_B63;}
-  w2c_i0 = w2c_l11;
-  w2c_i1 = 6u;
-  w2c_i0 <<= (w2c_i1 & 31);
-  w2c_i1 = 1984u;
-  w2c_i0 &= w2c_i1;
-  w2c_i1 = w2c_l15;
-  w2c_i0 |= w2c_i1;
-  w2c_l11 = w2c_i0;
-  goto w2c_B62;
-  w2c_B63:;
-  w2c_j0 = w2c_l6;
-  w2c_i0 = (u32)(w2c_j0);
-  w2c_i0 = i32_load8_u(m, (u64)(w2c_i0) + 2u);
-  w2c_i1 = 63u;
-  w2c_i0 &= w2c_i1;
-  w2c_l17 = w2c_i0;
-  w2c_i0 = w2c_l13;
-  w2c_i1 = 4294967279u;
-  w2c_i0 = w2c_i0 > w2c_i1;
-  if (w2c_i0) {goto w2c_B64;}
-  w2c_i0 = w2c_l15;
-  w2c_i1 = 6u;
-  w2c_i0 <<= (w2c_i1 & 31);
-  w2c_i1 = w2c_l11;
-  w2c_i2 = 12u;
-  w2c_i1 <<= (w2c_i2 & 31);
-  w2c_i2 = 61440u;
-  w2c_i1 &= w2c_i2;
-  w2c_i0 |= w2c_i1;
-  w2c_i1 = w2c_l17;
-  w2c_i0 |= w2c_i1;
-  w2c_l11 = w2c_i0;
-  goto w2c_B62;
-  w2c_B64:;
-  w2c_i0 = w2c_l17;
-  w2c_i1 = 6u;
-  w2c_i0 <<= (w2c_i1 & 31);
-  w2c_i1 = w2c_l15;
-  w2c_i2 = 12u;
-  w2c_i1 <<= (w2c_i2 & 31);
-  w2c_i2 = w2c_l11;
-  w2c_i3 = 18u;
-  w2c_i2 <<= (w2c_i3 & 31);
-  w2c_i3 = 1835008u;
-  w2c_i2 &= w2c_i3;
-  w2c_i1 |= w2c_i2;
-  w2c_i0 |= w2c_i1;
-  w2c_j1 = w2c_l6;
-  w2c_i1 = (u32)(w2c_j1);
-  w2c_i1 = i32_load8_u(m, (u64)(w2c_i1) + 3u);
-  w2c_i2 = 63u;
-  w2c_i1 &= w2c_i2;
-  w2c_i0 |= w2c_i1;
-  w2c_l11 = w2c_i0;
-  w2c_B62:;
-  w2c_j0 = w2c_l3;
-  w2c_i1 = w2c_l11;
-  w2c_f25(m, w2c_j0, w2c_i1);
-  w2c_i0 = w2c_l14;
-  w2c_i1 = 4294967295u;
-  w2c_i0 ^= w2c_i1;
-  w2c_j1 = w2c_l3;
-  w2c_i1 = (u32)(w2c_j1);
-  w2c_i1 = i32_load8_u(m, (u64)(w2c_i1));
-  w2c_i2 = 255u;
-  w2c_i1 &= w2c_i2;
-  w2c_i2 = 1u;
-  w2c_i1 = w2c_i1 != w2c_i2;
-  w2c_i0 &= w2c_i1;
-  if (w2c_i0) {goto w2c_B60;}
-  goto w2c_B59;
-  w2c_B61:;
-  w2c_i0 = w2c_l14;
-  if (w2c_i0) {goto w2c_B59;}
-  w2c_B60:;
-  w2c_i0 = 0u;
-  w2c_l13 = w2c_i0;
-  w2c_i0 = w2c_l12;
-  w2c_i1 = 0u;
-  w2c_i2 = 0u;
-  w2c_i3 = 2u;
-  w2c_i4 = w2c_l16;
-  w2c_i2 = w2c_i4 ? w2c_i2 : w2c_i3;
-  w2c_i3 = w2c_l10;
-  w2c_i1 = w2c_i3 ? w2c_i1 : w2c_i2;
-  w2c_i0 |= w2c_i1;
-  w2c_l11 = w2c_i0;
-  w2c_j0 = w2c_l6;
-  w2c_j1 = w2c_l5;
-  w2c_i0 = w2c_f26(m, w2c_j0, w2c_j1);
-  w2c_i0 = !(w2c_i0);
-  if (w2c_i0) {goto w2c_B37;}
-  goto w2c_B38;
-  w2c_B59:;
-  w2c_i0 = 0u;
-  w2c_l13 = w2c_i0;
-  w2c_i0 = w2c_l12;
-  w2c_i1 = 0u;
-  w2c_i2 = 0u;
-  w2c_i3 = 2u;
-  w2c_i4 = w2c_l16;
-  w2c_i2 = w2c_i4 ? w2c_i2 : w2c_i3;
-  w2c_i3 = w2c_l10;
-  w2c_i1 = w2c_i3 ? w2c_i1 : w2c_i2;
-  w2c_i0 |= w2c_i1;
-  w2c_l11 = w2c_i0;
-  w2c_B38:;
-  w2c_i0 = w2c_l11;
-  w2c_i1 = 4u;
-  w2c_i0 |= w2c_i1;
-  w2c_l11 = w2c_i0;
-  w2c_B37:;
-  w2c_j0 = w2c_p0;
-  w2c_i0 = (u32)(w2c_j0);
-  w2c_i1 = 0u;
-  i32_store(m, (u64)(w2c_i0) + 20, w2c_i1);
-  w2c_j0 = w2c_p0;
-  w2c_i0 = (u32)(w2c_j0);
-  w2c_j1 = w2c_l7;
-  i64_store(m, (u64)(w2c_i0), w2c_j1);
-  w2c_j0 = w2c_p0;
-  w2c_i0 = (u32)(w2c_j0);
-  w2c_i1 = w2c_l13;
-  w2c_i2 = w2c_l11;
-  w2c_i1 |= w2c_i2;
-  i32_store(m, (u64)(w2c_i0) + 16, w2c_i1);
-  w2c_j0 = w2c_p0;
-  w2c_i0 = (u32)(w2c_j0);
-  w2c_j1 = w2c_l5;
-  w2c_j2 = w2c_l7;
-  w2c_j1 += w2c_j2;
-  i64_store(m, (u64)(w2c_i0) + 8, w2c_j1);
-  w2c_j0 = w2c_l3;
+  w2c_i0 = i32_load8_u(m, (u64)(w2c_i0) + 8u);
+  w2c_i1 = 1u;
+  w2c_i0 = w2c_i0 == w2c_i1;
+  w2c_l6 = w2c_i0;
+  w2c_B0:;
+  w2c_j0 = w2c_l2;
   w2c_j1 = 16ull;
   w2c_j0 += w2c_j1;
   m->w2c_g0 = w2c_j0;
+  w2c_i0 = w2c_l6;
+  return w2c_i0;
 }
 
-static void w2c_f20(module *m, u64 w2c_p0, u64 w2c_p1) {
-  u32 w2c_l13 = 0, w2c_l14 = 0, w2c_l15 = 0, w2c_l16 = 0, w2c_l17 = 0, w2c_l18 = 0, w2c_l19 = 0, w2c_l20 = 0;
-  u64 w2c_l2 = 0, w2c_l3 = 0, w2c_l4 = 0, w2c_l5 = 0, w2c_l6 = 0, w2c_l7 = 0, w2c_l8 = 0, w2c_l9 = 0, w2c_l10 = 0, w2c_l11 = 0, w2c_l12 = 0;
-  u32 w2c_i0, w2c_i1, w2c_i2, w2c_i3, w2c_i4;
-  u64 w2c_j0, w2c_j1, w2c_j2, w2c_j3, w2c_j4, w2c_j5, w2c_j6;
+static u32 w2c_f21(module *m, u64 w2c_p0, u64 w2c_p1) {
+  u32 w2c_l2 = 0, w2c_l3 = 0, w2c_l4 = 0;
+  u64 w2c_l5 = 0;
+  u32 w2c_i0, w2c_i1, w2c_i2, w2c_i3;
+  u64 w2c_j0, w2c_j1;
   w2c_j0 = m->w2c_g0;
-  w2c_j1 = 16ull;
-  w2c_j0 -= w2c_j1;
-  w2c_l2 = w2c_j0;
-  m->w2c_g0 = w2c_j0;
-  w2c_j0 = w2c_l2;
-  w2c_l3 = w2c_j0;
   w2c_j1 = 16ull;
   w2c_i0 = (u64)((s64)w2c_j0 < (s64)w2c_j1);
   if (w2c_i0) {goto w2c_B0;}
-  w2c_j0 = w2c_p1;
-  w2c_j1 = 32ull;
-  w2c_j0 += w2c_j1;
-  w2c_i0 = (u32)(w2c_j0);
-  w2c_j0 = i64_load(m, (u64)(w2c_i0));
-  w2c_l4 = w2c_j0;
-  w2c_j0 = w2c_p1;
-  w2c_j1 = 24ull;
-  w2c_j0 += w2c_j1;
-  w2c_i0 = (u32)(w2c_j0);
-  w2c_j0 = i64_load(m, (u64)(w2c_i0));
-  w2c_l5 = w2c_j0;
-  w2c_j0 = w2c_p1;
-  w2c_j1 = 16ull;
-  w2c_j0 += w2c_j1;
-  w2c_i0 = (u32)(w2c_j0);
-  w2c_j0 = i64_load(m, (u64)(w2c_i0));
-  w2c_l6 = w2c_j0;
-  w2c_j0 = w2c_p1;
-  w2c_j1 = 8ull;
-  w2c_j0 += w2c_j1;
-  w2c_i0 = (u32)(w2c_j0);
-  w2c_j0 = i64_load(m, (u64)(w2c_i0));
-  w2c_l7 = w2c_j0;
-  w2c_j0 = w2c_p1;
-  w2c_i0 = (u32)(w2c_j0);
-  w2c_i0 = i32_load8_u(m, (u64)(w2c_i0) + 1u);
-  w2c_l13 = w2c_i0;
-  w2c_j0 = w2c_p1;
-  w2c_i0 = (u32)(w2c_j0);
-  w2c_i0 = i32_load8_u(m, (u64)(w2c_i0));
-  w2c_l14 = w2c_i0;
-  w2c_L2:
-    w2c_j0 = w2c_l5;
-    w2c_l2 = w2c_j0;
-    w2c_j0 = w2c_l4;
-    w2c_l8 = w2c_j0;
+  w2c_L3:
+    w2c_j0 = w2c_p1;
     w2c_j1 = 3ull;
     w2c_i0 = w2c_j0 < w2c_j1;
-    if (w2c_i0) {goto w2c_B5;}
-    w2c_j0 = w2c_l2;
+    if (w2c_i0) {goto w2c_B6;}
+    w2c_j0 = w2c_p0;
     w2c_i0 = (u32)(w2c_j0);
     w2c_i0 = i32_load8_u(m, (u64)(w2c_i0));
-    w2c_l15 = w2c_i0;
+    w2c_l2 = w2c_i0;
     w2c_i1 = 240u;
     w2c_i0 &= w2c_i1;
     w2c_i1 = 224u;
     w2c_i0 = w2c_i0 != w2c_i1;
-    if (w2c_i0) {goto w2c_B4;}
-    w2c_j0 = w2c_l2;
+    if (w2c_i0) {goto w2c_B5;}
+    w2c_j0 = w2c_p0;
     w2c_i0 = (u32)(w2c_j0);
     w2c_i0 = i32_load8_u(m, (u64)(w2c_i0) + 1u);
-    w2c_l16 = w2c_i0;
     w2c_i1 = 8u;
     w2c_i0 <<= (w2c_i1 & 31);
-    w2c_j1 = w2c_l2;
+    w2c_j1 = w2c_p0;
     w2c_i1 = (u32)(w2c_j1);
     w2c_i1 = i32_load8_u(m, (u64)(w2c_i1) + 2u);
-    w2c_l17 = w2c_i1;
     w2c_i2 = 16u;
     w2c_i1 <<= (w2c_i2 & 31);
     w2c_i0 |= w2c_i1;
-    w2c_i1 = w2c_l15;
+    w2c_i1 = w2c_l2;
     w2c_i0 |= w2c_i1;
-    w2c_l18 = w2c_i0;
+    w2c_l2 = w2c_i0;
     w2c_j0 = (u64)(w2c_i0);
     w2c_j1 = 953497ull;
     w2c_j0 *= w2c_j1;
@@ -11037,184 +11278,142 @@ static void w2c_f20(module *m, u64 w2c_p0, u64 w2c_p1) {
     w2c_j0 >>= (w2c_j1 & 63);
     w2c_j1 = 1016ull;
     w2c_j0 &= w2c_j1;
-    w2c_l4 = w2c_j0;
-    w2c_j1 = 66997ull;
-    w2c_j0 += w2c_j1;
+    w2c_l5 = w2c_j0;
     w2c_i0 = (u32)(w2c_j0);
-    w2c_i0 = i32_load8_u(m, (u64)(w2c_i0));
-    w2c_i1 = 0u;
-    w2c_j2 = w2c_l4;
-    w2c_i2 = (u32)(w2c_j2);
-    w2c_i2 = i32_load(m, (u64)(w2c_i2) + 66992u);
-    w2c_i3 = w2c_l18;
-    w2c_i2 = w2c_i2 == w2c_i3;
-    w2c_l18 = w2c_i2;
-    w2c_i0 = w2c_i2 ? w2c_i0 : w2c_i1;
-    w2c_l19 = w2c_i0;
-    w2c_j0 = w2c_l4;
+    w2c_i0 = i32_load(m, (u64)(w2c_i0) + 66992u);
+    w2c_i1 = w2c_l2;
+    w2c_i0 = w2c_i0 != w2c_i1;
+    if (w2c_i0) {goto w2c_B2;}
+    w2c_j0 = w2c_l5;
     w2c_j1 = 66996ull;
     w2c_j0 += w2c_j1;
     w2c_i0 = (u32)(w2c_j0);
     w2c_i0 = i32_load8_u(m, (u64)(w2c_i0));
-    w2c_i1 = 2u;
-    w2c_i2 = w2c_l18;
-    w2c_i0 = w2c_i2 ? w2c_i0 : w2c_i1;
-    w2c_l18 = w2c_i0;
-    w2c_i0 = w2c_l15;
-    w2c_i1 = 12u;
-    w2c_i0 <<= (w2c_i1 & 31);
-    w2c_i1 = w2c_l16;
-    w2c_i2 = 6u;
-    w2c_i1 <<= (w2c_i2 & 31);
-    w2c_i0 += w2c_i1;
-    w2c_i1 = w2c_l17;
-    w2c_i0 += w2c_i1;
-    w2c_i1 = 4294041472u;
-    w2c_i0 += w2c_i1;
-    w2c_l16 = w2c_i0;
-    w2c_j0 = w2c_l8;
+    w2c_l3 = w2c_i0;
+    w2c_j0 = w2c_p1;
     w2c_j1 = 18446744073709551613ull;
     w2c_j0 += w2c_j1;
-    w2c_l4 = w2c_j0;
-    w2c_j0 = w2c_l2;
+    w2c_p1 = w2c_j0;
+    w2c_j0 = w2c_p0;
     w2c_j1 = 3ull;
     w2c_j0 += w2c_j1;
-    w2c_l5 = w2c_j0;
-    goto w2c_B3;
-    w2c_B5:;
-    w2c_j0 = w2c_l8;
+    w2c_p0 = w2c_j0;
+    goto w2c_B4;
+    w2c_B6:;
+    w2c_j0 = w2c_p1;
     w2c_i0 = !(w2c_j0);
     w2c_i0 = !(w2c_i0);
-    if (w2c_i0) {goto w2c_B6;}
-    w2c_j0 = 0ull;
-    w2c_l8 = w2c_j0;
-    w2c_j0 = 66332ull;
-    w2c_l4 = w2c_j0;
-    w2c_j0 = 0ull;
-    w2c_l7 = w2c_j0;
-    w2c_j0 = 0ull;
-    w2c_l9 = w2c_j0;
-    w2c_j0 = 0ull;
-    w2c_l2 = w2c_j0;
-    w2c_j0 = 0ull;
-    w2c_l10 = w2c_j0;
-    w2c_j0 = 0ull;
-    w2c_l11 = w2c_j0;
-    w2c_j0 = 0ull;
-    w2c_l5 = w2c_j0;
-    goto w2c_B1;
-    w2c_B6:;
-    w2c_j0 = w2c_l2;
+    if (w2c_i0) {goto w2c_B7;}
+    w2c_i0 = 1u;
+    goto w2c_Bfunc;
+    w2c_B7:;
+    w2c_j0 = w2c_p0;
     w2c_i0 = (u32)(w2c_j0);
     w2c_i0 = i32_load8_u(m, (u64)(w2c_i0));
-    w2c_l15 = w2c_i0;
-    w2c_B4:;
+    w2c_l2 = w2c_i0;
+    w2c_B5:;
     w2c_j0 = 1ull;
     w2c_l5 = w2c_j0;
-    w2c_i0 = w2c_l15;
+    w2c_i0 = w2c_l2;
     w2c_i0 = (u32)(s32)(s8)(u8)(w2c_i0);
     w2c_i1 = 4294967295u;
-    w2c_i0 = (u32)((s32)w2c_i0 <= (s32)w2c_i1);
+    w2c_i0 = (u32)((s32)w2c_i0 > (s32)w2c_i1);
     if (w2c_i0) {goto w2c_B8;}
-    w2c_i0 = w2c_l15;
-    w2c_l16 = w2c_i0;
-    goto w2c_B7;
-    w2c_B8:;
-    w2c_j0 = w2c_l2;
+    w2c_j0 = w2c_p0;
     w2c_i0 = (u32)(w2c_j0);
     w2c_i0 = i32_load8_u(m, (u64)(w2c_i0) + 1u);
     w2c_i1 = 63u;
     w2c_i0 &= w2c_i1;
-    w2c_l16 = w2c_i0;
-    w2c_i0 = w2c_l15;
+    w2c_l3 = w2c_i0;
+    w2c_i0 = w2c_l2;
     w2c_i1 = 223u;
     w2c_i0 = w2c_i0 > w2c_i1;
     if (w2c_i0) {goto w2c_B9;}
-    w2c_i0 = w2c_l15;
+    w2c_i0 = w2c_l2;
     w2c_i1 = 6u;
     w2c_i0 <<= (w2c_i1 & 31);
     w2c_i1 = 1984u;
     w2c_i0 &= w2c_i1;
-    w2c_i1 = w2c_l16;
+    w2c_i1 = w2c_l3;
     w2c_i0 |= w2c_i1;
-    w2c_l16 = w2c_i0;
+    w2c_l2 = w2c_i0;
     w2c_j0 = 2ull;
     w2c_l5 = w2c_j0;
-    goto w2c_B7;
+    goto w2c_B8;
     w2c_B9:;
-    w2c_j0 = w2c_l2;
+    w2c_j0 = w2c_p0;
     w2c_i0 = (u32)(w2c_j0);
     w2c_i0 = i32_load8_u(m, (u64)(w2c_i0) + 2u);
     w2c_i1 = 63u;
     w2c_i0 &= w2c_i1;
-    w2c_l17 = w2c_i0;
-    w2c_i0 = w2c_l15;
+    w2c_l4 = w2c_i0;
+    w2c_i0 = w2c_l2;
     w2c_i1 = 239u;
     w2c_i0 = w2c_i0 > w2c_i1;
     if (w2c_i0) {goto w2c_B10;}
-    w2c_i0 = w2c_l16;
+    w2c_i0 = w2c_l3;
     w2c_i1 = 6u;
     w2c_i0 <<= (w2c_i1 & 31);
-    w2c_i1 = w2c_l15;
+    w2c_i1 = w2c_l2;
     w2c_i2 = 12u;
     w2c_i1 <<= (w2c_i2 & 31);
     w2c_i2 = 61440u;
     w2c_i1 &= w2c_i2;
     w2c_i0 |= w2c_i1;
-    w2c_i1 = w2c_l17;
+    w2c_i1 = w2c_l4;
     w2c_i0 |= w2c_i1;
-    w2c_l16 = w2c_i0;
+    w2c_l2 = w2c_i0;
     w2c_j0 = 3ull;
     w2c_l5 = w2c_j0;
-    goto w2c_B7;
+    goto w2c_B8;
     w2c_B10:;
-    w2c_i0 = w2c_l17;
+    w2c_i0 = w2c_l4;
     w2c_i1 = 6u;
     w2c_i0 <<= (w2c_i1 & 31);
-    w2c_i1 = w2c_l16;
+    w2c_i1 = w2c_l3;
     w2c_i2 = 12u;
     w2c_i1 <<= (w2c_i2 & 31);
-    w2c_i2 = w2c_l15;
+    w2c_i2 = w2c_l2;
     w2c_i3 = 18u;
     w2c_i2 <<= (w2c_i3 & 31);
     w2c_i3 = 1835008u;
     w2c_i2 &= w2c_i3;
     w2c_i1 |= w2c_i2;
     w2c_i0 |= w2c_i1;
-    w2c_j1 = w2c_l2;
+    w2c_j1 = w2c_p0;
     w2c_i1 = (u32)(w2c_j1);
     w2c_i1 = i32_load8_u(m, (u64)(w2c_i1) + 3u);
     w2c_i2 = 63u;
     w2c_i1 &= w2c_i2;
     w2c_i0 |= w2c_i1;
-    w2c_l16 = w2c_i0;
+    w2c_l2 = w2c_i0;
     w2c_j0 = 4ull;
     w2c_l5 = w2c_j0;
-    w2c_B7:;
-    w2c_j0 = w2c_l8;
+    w2c_B8:;
+    w2c_j0 = w2c_p1;
     w2c_j1 = w2c_l5;
     w2c_j0 -= w2c_j1;
-    w2c_l4 = w2c_j0;
-    w2c_j0 = w2c_l2;
+    w2c_p1 = w2c_j0;
+    w2c_j0 = w2c_p0;
     w2c_j1 = w2c_l5;
     w2c_j0 += w2c_j1;
-    w2c_l5 = w2c_j0;
-    w2c_i0 = w2c_l16;
+    w2c_p0 = w2c_j0;
+    w2c_i0 = w2c_l2;
     w2c_i1 = 4294965248u;
     w2c_i0 += w2c_i1;
     w2c_i1 = 63487u;
     w2c_i0 = w2c_i0 > w2c_i1;
     if (w2c_i0) {goto w2c_B11;}
-    w2c_i0 = w2c_l16;
+    w2c_i0 = w2c_l2;
     w2c_i1 = 12u;
     w2c_i0 >>= (w2c_i1 & 31);
-    w2c_i1 = w2c_l16;
+    w2c_i1 = w2c_l2;
     w2c_i2 = 2u;
     w2c_i1 <<= (w2c_i2 & 31);
     w2c_i2 = 16128u;
     w2c_i1 &= w2c_i2;
     w2c_i0 |= w2c_i1;
-    w2c_i1 = w2c_l16;
+    w2c_i1 = w2c_l2;
     w2c_i2 = 16u;
     w2c_i1 <<= (w2c_i2 & 31);
     w2c_i2 = 4128768u;
@@ -11222,7 +11421,7 @@ static void w2c_f20(module *m, u64 w2c_p0, u64 w2c_p1) {
     w2c_i0 |= w2c_i1;
     w2c_i1 = 8421600u;
     w2c_i0 |= w2c_i1;
-    w2c_l17 = w2c_i0;
+    w2c_l2 = w2c_i0;
     w2c_j0 = (u64)(w2c_i0);
     w2c_j1 = 953497ull;
     w2c_j0 *= w2c_j1;
@@ -11230,310 +11429,351 @@ static void w2c_f20(module *m, u64 w2c_p0, u64 w2c_p1) {
     w2c_j0 >>= (w2c_j1 & 63);
     w2c_j1 = 1016ull;
     w2c_j0 &= w2c_j1;
-    w2c_l10 = w2c_j0;
-    w2c_j1 = 66997ull;
-    w2c_j0 += w2c_j1;
+    w2c_l5 = w2c_j0;
     w2c_i0 = (u32)(w2c_j0);
-    w2c_i0 = i32_load8_u(m, (u64)(w2c_i0));
-    w2c_i1 = 0u;
-    w2c_j2 = w2c_l10;
-    w2c_i2 = (u32)(w2c_j2);
-    w2c_i2 = i32_load(m, (u64)(w2c_i2) + 66992u);
-    w2c_i3 = w2c_l17;
-    w2c_i2 = w2c_i2 == w2c_i3;
-    w2c_l17 = w2c_i2;
-    w2c_i0 = w2c_i2 ? w2c_i0 : w2c_i1;
-    w2c_l19 = w2c_i0;
-    w2c_j0 = w2c_l10;
+    w2c_i0 = i32_load(m, (u64)(w2c_i0) + 66992u);
+    w2c_i1 = w2c_l2;
+    w2c_i0 = w2c_i0 != w2c_i1;
+    if (w2c_i0) {goto w2c_B2;}
+    w2c_j0 = w2c_l5;
     w2c_j1 = 66996ull;
     w2c_j0 += w2c_j1;
     w2c_i0 = (u32)(w2c_j0);
     w2c_i0 = i32_load8_u(m, (u64)(w2c_i0));
-    w2c_i1 = 2u;
-    w2c_i2 = w2c_l17;
-    w2c_i0 = w2c_i2 ? w2c_i0 : w2c_i1;
-    w2c_l18 = w2c_i0;
-    goto w2c_B3;
+    w2c_l3 = w2c_i0;
+    goto w2c_B4;
     w2c_B11:;
-    w2c_i0 = w2c_l16;
+    w2c_i0 = 0u;
+    w2c_l3 = w2c_i0;
+    w2c_i0 = w2c_l2;
     w2c_i1 = 4294967248u;
     w2c_i0 += w2c_i1;
-    w2c_l17 = w2c_i0;
-    w2c_i1 = 0u;
-    w2c_i2 = w2c_l17;
-    w2c_i3 = 10u;
-    w2c_i2 = w2c_i2 < w2c_i3;
-    w2c_l17 = w2c_i2;
-    w2c_i0 = w2c_i2 ? w2c_i0 : w2c_i1;
-    w2c_l19 = w2c_i0;
-    w2c_i0 = 0u;
-    w2c_i1 = 2u;
-    w2c_i2 = w2c_l17;
-    w2c_i0 = w2c_i2 ? w2c_i0 : w2c_i1;
-    w2c_l18 = w2c_i0;
-    w2c_B3:;
-    w2c_j0 = w2c_l6;
-    w2c_j1 = w2c_l8;
-    w2c_j0 -= w2c_j1;
-    w2c_l9 = w2c_j0;
-    w2c_i0 = w2c_l16;
-    w2c_i1 = 21317u;
-    w2c_i0 = w2c_i0 == w2c_i1;
-    if (w2c_i0) {goto w2c_B12;}
-    w2c_i0 = w2c_l16;
-    w2c_i1 = 24319u;
-    w2c_i0 = w2c_i0 == w2c_i1;
-    if (w2c_i0) {goto w2c_B12;}
-    w2c_i0 = w2c_l16;
-    w2c_i1 = 4294902000u;
-    w2c_i0 += w2c_i1;
-    w2c_l17 = w2c_i0;
-    w2c_i1 = 10u;
-    w2c_i0 = w2c_i0 < w2c_i1;
-    if (w2c_i0) {goto w2c_B15;}
-    w2c_i0 = w2c_l16;
-    w2c_i1 = 28856u;
-    w2c_i0 = (u32)((s32)w2c_i0 > (s32)w2c_i1);
-    if (w2c_i0) {goto w2c_B18;}
-    w2c_i0 = w2c_l16;
-    w2c_i1 = 20042u;
-    w2c_i0 = (u32)((s32)w2c_i0 > (s32)w2c_i1);
-    if (w2c_i0) {goto w2c_B19;}
-    w2c_i0 = w2c_l16;
-    w2c_i1 = 4294967264u;
-    w2c_i0 += w2c_i1;
-    switch (w2c_i0) {
-      case 0: goto w2c_B13;
-      case 1: goto w2c_B16;
-      case 2: goto w2c_B16;
-      case 3: goto w2c_B16;
-      case 4: goto w2c_B16;
-      case 5: goto w2c_B13;
-      default: goto w2c_B17;
-    }
-    w2c_B19:;
-    w2c_i0 = w2c_l16;
-    w2c_i1 = 20043u;
-    w2c_i0 = w2c_i0 == w2c_i1;
-    if (w2c_i0) {goto w2c_B13;}
-    w2c_i0 = w2c_l16;
-    w2c_i1 = 20998u;
-    w2c_i0 = w2c_i0 != w2c_i1;
-    if (w2c_i0) {goto w2c_B16;}
-    goto w2c_B13;
-    w2c_B18:;
-    w2c_i0 = w2c_l16;
-    w2c_i1 = 36126u;
-    w2c_i0 = (u32)((s32)w2c_i0 > (s32)w2c_i1);
-    if (w2c_i0) {goto w2c_B20;}
-    w2c_i0 = w2c_l16;
-    w2c_i1 = 28857u;
-    w2c_i0 = w2c_i0 == w2c_i1;
-    if (w2c_i0) {goto w2c_B13;}
-    w2c_i0 = w2c_l16;
-    w2c_i1 = 36000u;
-    w2c_i0 = w2c_i0 != w2c_i1;
-    if (w2c_i0) {goto w2c_B16;}
-    goto w2c_B13;
-    w2c_B20:;
-    w2c_i0 = w2c_l16;
-    w2c_i1 = 36127u;
-    w2c_i0 = w2c_i0 == w2c_i1;
-    if (w2c_i0) {goto w2c_B13;}
-    w2c_i0 = w2c_l16;
-    w2c_i1 = 40670u;
-    w2c_i0 = w2c_i0 == w2c_i1;
-    if (w2c_i0) {goto w2c_B13;}
-    w2c_i0 = w2c_l16;
-    w2c_i1 = 65285u;
-    w2c_i0 = w2c_i0 == w2c_i1;
-    if (w2c_i0) {goto w2c_B13;}
-    goto w2c_B16;
-    w2c_B17:;
-    w2c_i0 = w2c_l16;
-    w2c_i1 = 8722u;
-    w2c_i0 = w2c_i0 == w2c_i1;
-    if (w2c_i0) {goto w2c_B13;}
-    w2c_B16:;
-    w2c_i0 = w2c_l16;
-    w2c_i1 = 44u;
-    w2c_i0 = w2c_i0 < w2c_i1;
-    if (w2c_i0) {goto w2c_B14;}
-    w2c_i0 = w2c_l16;
-    w2c_i1 = 47u;
-    w2c_i0 = w2c_i0 < w2c_i1;
-    if (w2c_i0) {goto w2c_B15;}
-    w2c_i0 = w2c_l16;
-    w2c_i1 = 4294902003u;
-    w2c_i0 += w2c_i1;
-    w2c_i1 = 1u;
+    w2c_i1 = 9u;
     w2c_i0 = w2c_i0 > w2c_i1;
-    if (w2c_i0) {goto w2c_B14;}
-    w2c_B15:;
-    w2c_i0 = w2c_l16;
-    w2c_i1 = 21317u;
-    w2c_i0 = w2c_i0 == w2c_i1;
-    if (w2c_i0) {goto w2c_B12;}
-    w2c_i0 = w2c_l16;
-    w2c_i1 = 24319u;
-    w2c_i0 = w2c_i0 == w2c_i1;
-    if (w2c_i0) {goto w2c_B12;}
-    w2c_i0 = w2c_l17;
-    w2c_i1 = 10u;
-    w2c_i0 = w2c_i0 >= w2c_i1;
-    if (w2c_i0) {goto w2c_B13;}
-    goto w2c_B12;
-    w2c_B14:;
-    w2c_i0 = w2c_l18;
+    if (w2c_i0) {goto w2c_B1;}
+    w2c_B4:;
+    w2c_i0 = w2c_l3;
     w2c_i1 = 255u;
     w2c_i0 &= w2c_i1;
-    w2c_i1 = 2u;
-    w2c_i0 = w2c_i0 == w2c_i1;
-    if (w2c_i0) {goto w2c_L2;}
-    w2c_i0 = w2c_l14;
-    w2c_i1 = w2c_l13;
-    w2c_i2 = w2c_l16;
-    w2c_i3 = w2c_l18;
-    w2c_i4 = w2c_l19;
-    w2c_j5 = w2c_l5;
-    w2c_j6 = w2c_l4;
-    w2c_i0 = w2c_f17(m, w2c_i0, w2c_i1, w2c_i2, w2c_i3, w2c_i4, w2c_j5, w2c_j6);
     w2c_i0 = !(w2c_i0);
-    if (w2c_i0) {goto w2c_L2;}
-    goto w2c_B12;
-    w2c_B13:;
-    w2c_i0 = w2c_l14;
-    w2c_i1 = w2c_l13;
-    w2c_j2 = w2c_l7;
-    w2c_j3 = w2c_l9;
-    w2c_i4 = w2c_l16;
-    w2c_j5 = w2c_l5;
-    w2c_j6 = w2c_l4;
-    w2c_i0 = w2c_f27(m, w2c_i0, w2c_i1, w2c_j2, w2c_j3, w2c_i4, w2c_j5, w2c_j6);
-    w2c_i0 = !(w2c_i0);
-    if (w2c_i0) {goto w2c_L2;}
-    w2c_B12:;
-  w2c_i0 = w2c_l15;
-  w2c_i0 = (u32)(s32)(s8)(u8)(w2c_i0);
-  w2c_i1 = 4294967295u;
-  w2c_i0 = (u32)((s32)w2c_i0 <= (s32)w2c_i1);
-  if (w2c_i0) {goto w2c_B22;}
-  w2c_j0 = 1ull;
-  w2c_l4 = w2c_j0;
-  goto w2c_B21;
-  w2c_B22:;
-  w2c_j0 = w2c_l2;
-  w2c_i0 = (u32)(w2c_j0);
-  w2c_i0 = i32_load8_u(m, (u64)(w2c_i0) + 1u);
-  w2c_i1 = 63u;
-  w2c_i0 &= w2c_i1;
-  w2c_l16 = w2c_i0;
-  w2c_i0 = w2c_l15;
-  w2c_i1 = 223u;
-  w2c_i0 = w2c_i0 > w2c_i1;
-  if (w2c_i0) {goto w2c_B23;}
-  w2c_i0 = w2c_l15;
-  w2c_i1 = 6u;
-  w2c_i0 <<= (w2c_i1 & 31);
-  w2c_i1 = 1984u;
-  w2c_i0 &= w2c_i1;
-  w2c_i1 = w2c_l16;
-  w2c_i0 |= w2c_i1;
-  w2c_l15 = w2c_i0;
-  w2c_j0 = 2ull;
-  w2c_l4 = w2c_j0;
-  goto w2c_B21;
-  w2c_B23:;
-  w2c_j0 = w2c_l2;
-  w2c_i0 = (u32)(w2c_j0);
-  w2c_i0 = i32_load8_u(m, (u64)(w2c_i0) + 2u);
-  w2c_i1 = 63u;
-  w2c_i0 &= w2c_i1;
-  w2c_l17 = w2c_i0;
-  w2c_i0 = w2c_l15;
-  w2c_i1 = 239u;
-  w2c_i0 = w2c_i0 > w2c_i1;
-  if (w2c_i0) {goto w2c_B24;}
-  w2c_i0 = w2c_l16;
-  w2c_i1 = 6u;
-  w2c_i0 <<= (w2c_i1 & 31);
-  w2c_i1 = w2c_l15;
-  w2c_i2 = 12u;
-  w2c_i1 <<= (w2c_i2 & 31);
-  w2c_i2 = 61440u;
-  w2c_i1 &= w2c_i2;
-  w2c_i0 |= w2c_i1;
-  w2c_i1 = w2c_l17;
-  w2c_i0 |= w2c_i1;
-  w2c_l15 = w2c_i0;
-  w2c_j0 = 3ull;
-  w2c_l4 = w2c_j0;
-  goto w2c_B21;
-  w2c_B24:;
-  w2c_i0 = w2c_l17;
-  w2c_i1 = 6u;
-  w2c_i0 <<= (w2c_i1 & 31);
-  w2c_i1 = w2c_l16;
-  w2c_i2 = 12u;
-  w2c_i1 <<= (w2c_i2 & 31);
-  w2c_i2 = w2c_l15;
-  w2c_i3 = 18u;
-  w2c_i2 <<= (w2c_i3 & 31);
-  w2c_i3 = 1835008u;
-  w2c_i2 &= w2c_i3;
-  w2c_i1 |= w2c_i2;
-  w2c_i0 |= w2c_i1;
-  w2c_j1 = w2c_l2;
-  w2c_i1 = (u32)(w2c_j1);
-  w2c_i1 = i32_load8_u(m, (u64)(w2c_i1) + 3u);
-  w2c_i2 = 63u;
-  w2c_i1 &= w2c_i2;
-  w2c_i0 |= w2c_i1;
-  w2c_l15 = w2c_i0;
-  w2c_j0 = 4ull;
-  w2c_l4 = w2c_j0;
+    if (w2c_i0) {goto w2c_L3;}
+  w2c_B2:;
+  w2c_i0 = 0u;
+  w2c_l3 = w2c_i0;
+  w2c_B1:;
+  w2c_i0 = w2c_l3;
+  goto w2c_Bfunc;
+  w2c_B0:;
+  UNREACHABLE;
+  w2c_Bfunc:;
+  return w2c_i0;
+}
+
+static void w2c_f22(module *m, u64 w2c_p0, u32 w2c_p1) {
+  u32 w2c_l2 = 0, w2c_l3 = 0;
+  u32 w2c_i0, w2c_i1;
+  u64 w2c_j0, w2c_j1;
+  w2c_j0 = m->w2c_g0;
+  w2c_j1 = 16ull;
+  w2c_i0 = (u64)((s64)w2c_j0 < (s64)w2c_j1);
+  if (w2c_i0) {goto w2c_B3;}
+  w2c_i0 = 1u;
+  w2c_l2 = w2c_i0;
+  w2c_i0 = w2c_p1;
+  w2c_i1 = 26496u;
+  w2c_i0 = (u32)((s32)w2c_i0 > (s32)w2c_i1);
+  if (w2c_i0) {goto w2c_B13;}
+  w2c_i0 = 0u;
+  w2c_l3 = w2c_i0;
+  w2c_i0 = w2c_p1;
+  w2c_i1 = 20490u;
+  w2c_i0 = (u32)((s32)w2c_i0 > (s32)w2c_i1);
+  if (w2c_i0) {goto w2c_B14;}
+  w2c_i0 = w2c_p1;
+  w2c_i1 = 20139u;
+  w2c_i0 = (u32)((s32)w2c_i0 > (s32)w2c_i1);
+  if (w2c_i0) {goto w2c_B15;}
+  w2c_i0 = w2c_p1;
+  w2c_i1 = 19975u;
+  w2c_i0 = w2c_i0 == w2c_i1;
+  if (w2c_i0) {goto w2c_B12;}
+  w2c_i0 = w2c_p1;
+  w2c_i1 = 20010u;
+  w2c_i0 = w2c_i0 == w2c_i1;
+  if (w2c_i0) {goto w2c_B0;}
+  goto w2c_B1;
+  w2c_B15:;
+  w2c_i0 = w2c_p1;
+  w2c_i1 = 4294947156u;
+  w2c_i0 += w2c_i1;
+  switch (w2c_i0) {
+    case 0: goto w2c_B8;
+    case 1: goto w2c_B1;
+    case 2: goto w2c_B1;
+    case 3: goto w2c_B1;
+    case 4: goto w2c_B1;
+    case 5: goto w2c_B1;
+    case 6: goto w2c_B1;
+    case 7: goto w2c_B1;
+    case 8: goto w2c_B1;
+    case 9: goto w2c_B1;
+    case 10: goto w2c_B1;
+    case 11: goto w2c_B1;
+    case 12: goto w2c_B1;
+    case 13: goto w2c_B1;
+    case 14: goto w2c_B1;
+    case 15: goto w2c_B1;
+    case 16: goto w2c_B1;
+    case 17: goto w2c_B1;
+    case 18: goto w2c_B1;
+    case 19: goto w2c_B9;
+    default: goto w2c_B16;
+  }
+  w2c_B16:;
+  w2c_i0 = w2c_p1;
+  w2c_i1 = 20191u;
+  w2c_i0 = w2c_i0 == w2c_i1;
+  if (w2c_i0) {goto w2c_B10;}
+  w2c_i0 = w2c_p1;
+  w2c_i1 = 20336u;
+  w2c_i0 = w2c_i0 != w2c_i1;
+  if (w2c_i0) {goto w2c_B1;}
+  goto w2c_B2;
+  w2c_B14:;
+  w2c_i0 = w2c_p1;
+  w2c_i1 = 21312u;
+  w2c_i0 = (u32)((s32)w2c_i0 > (s32)w2c_i1);
+  if (w2c_i0) {goto w2c_B17;}
+  w2c_i0 = w2c_p1;
+  w2c_i1 = 20491u;
+  w2c_i0 = w2c_i0 == w2c_i1;
+  if (w2c_i0) {goto w2c_B0;}
+  w2c_i0 = w2c_p1;
+  w2c_i1 = 20740u;
+  w2c_i0 = w2c_i0 == w2c_i1;
+  if (w2c_i0) {goto w2c_B9;}
+  w2c_i0 = w2c_p1;
+  w2c_i1 = 20806u;
+  w2c_i0 = w2c_i0 != w2c_i1;
+  if (w2c_i0) {goto w2c_B1;}
+  w2c_i0 = 6u;
+  w2c_l3 = w2c_i0;
+  goto w2c_B0;
+  w2c_B17:;
+  w2c_i0 = w2c_p1;
+  w2c_i1 = 4294945983u;
+  w2c_i0 += w2c_i1;
+  switch (w2c_i0) {
+    case 0: goto w2c_B18;
+    case 1: goto w2c_B1;
+    case 2: goto w2c_B10;
+    default: goto w2c_B19;
+  }
+  w2c_B19:;
+  w2c_i0 = w2c_p1;
+  w2c_i1 = 22419u;
+  w2c_i0 = w2c_i0 == w2c_i1;
+  if (w2c_i0) {goto w2c_B7;}
+  w2c_i0 = w2c_p1;
+  w2c_i1 = 25342u;
+  w2c_i0 = w2c_i0 != w2c_i1;
+  if (w2c_i0) {goto w2c_B1;}
+  w2c_B18:;
+  w2c_i0 = 1u;
+  w2c_l3 = w2c_i0;
+  w2c_i0 = 1u;
+  w2c_l2 = w2c_i0;
+  goto w2c_B0;
+  w2c_B13:;
+  w2c_i0 = w2c_p1;
+  w2c_i1 = 28566u;
+  w2c_i0 = (u32)((s32)w2c_i0 > (s32)w2c_i1);
+  if (w2c_i0) {goto w2c_B20;}
+  w2c_i0 = w2c_p1;
+  w2c_i1 = 27806u;
+  w2c_i0 = (u32)((s32)w2c_i0 > (s32)w2c_i1);
+  if (w2c_i0) {goto w2c_B21;}
+  w2c_i0 = w2c_p1;
+  w2c_i1 = 26497u;
+  w2c_i0 = w2c_i0 == w2c_i1;
+  if (w2c_i0) {goto w2c_B4;}
+  w2c_i0 = w2c_p1;
+  w2c_i1 = 26997u;
+  w2c_i0 = w2c_i0 == w2c_i1;
+  if (w2c_i0) {goto w2c_B4;}
+  w2c_i0 = w2c_p1;
+  w2c_i1 = 27491u;
+  w2c_i0 = w2c_i0 != w2c_i1;
+  if (w2c_i0) {goto w2c_B1;}
+  w2c_i0 = 13u;
+  w2c_l3 = w2c_i0;
+  goto w2c_B0;
   w2c_B21:;
-  w2c_j0 = w2c_l8;
-  w2c_j1 = w2c_l4;
-  w2c_j0 -= w2c_j1;
-  w2c_l11 = w2c_j0;
-  w2c_j0 = w2c_l2;
-  w2c_j1 = w2c_l4;
-  w2c_j0 += w2c_j1;
-  w2c_l10 = w2c_j0;
-  w2c_L26:
-    w2c_j0 = w2c_l10;
-    w2c_l4 = w2c_j0;
-    w2c_j0 = w2c_l11;
-    w2c_l5 = w2c_j0;
+  w2c_i0 = w2c_p1;
+  w2c_i1 = 27807u;
+  w2c_i0 = w2c_i0 == w2c_i1;
+  if (w2c_i0) {goto w2c_B22;}
+  w2c_i0 = w2c_p1;
+  w2c_i1 = 28071u;
+  w2c_i0 = w2c_i0 == w2c_i1;
+  if (w2c_i0) {goto w2c_B5;}
+  w2c_i0 = w2c_p1;
+  w2c_i1 = 28317u;
+  w2c_i0 = w2c_i0 != w2c_i1;
+  if (w2c_i0) {goto w2c_B1;}
+  w2c_B22:;
+  w2c_i0 = 11u;
+  w2c_l3 = w2c_i0;
+  goto w2c_B0;
+  w2c_B20:;
+  w2c_i0 = w2c_p1;
+  w2c_i1 = 31343u;
+  w2c_i0 = (u32)((s32)w2c_i0 > (s32)w2c_i1);
+  if (w2c_i0) {goto w2c_B23;}
+  w2c_i0 = w2c_p1;
+  w2c_i1 = 28567u;
+  w2c_i0 = w2c_i0 == w2c_i1;
+  if (w2c_i0) {goto w2c_B5;}
+  w2c_i0 = w2c_p1;
+  w2c_i1 = 30334u;
+  w2c_i0 = w2c_i0 == w2c_i1;
+  if (w2c_i0) {goto w2c_B2;}
+  w2c_i0 = w2c_p1;
+  w2c_i1 = 31213u;
+  w2c_i0 = w2c_i0 != w2c_i1;
+  if (w2c_i0) {goto w2c_B1;}
+  w2c_i0 = 9u;
+  w2c_l3 = w2c_i0;
+  goto w2c_B0;
+  w2c_B23:;
+  w2c_i0 = w2c_p1;
+  w2c_i1 = 36616u;
+  w2c_i0 = (u32)((s32)w2c_i0 > (s32)w2c_i1);
+  if (w2c_i0) {goto w2c_B11;}
+  w2c_i0 = w2c_p1;
+  w2c_i1 = 31344u;
+  w2c_i0 = w2c_i0 == w2c_i1;
+  if (w2c_i0) {goto w2c_B6;}
+  w2c_i0 = w2c_p1;
+  w2c_i1 = 33836u;
+  w2c_i0 = w2c_i0 != w2c_i1;
+  if (w2c_i0) {goto w2c_B1;}
+  w2c_B12:;
+  w2c_i0 = 4u;
+  w2c_l3 = w2c_i0;
+  goto w2c_B0;
+  w2c_B11:;
+  w2c_i0 = w2c_p1;
+  w2c_i1 = 36617u;
+  w2c_i0 = w2c_i0 == w2c_i1;
+  if (w2c_i0) {goto w2c_B24;}
+  w2c_i0 = w2c_p1;
+  w2c_i1 = 36733u;
+  w2c_i0 = w2c_i0 != w2c_i1;
+  if (w2c_i0) {goto w2c_B1;}
+  w2c_B24:;
+  w2c_i0 = 14u;
+  w2c_l3 = w2c_i0;
+  goto w2c_B0;
+  w2c_B10:;
+  w2c_i0 = 3u;
+  w2c_l3 = w2c_i0;
+  goto w2c_B0;
+  w2c_B9:;
+  w2c_i0 = 5u;
+  w2c_l3 = w2c_i0;
+  goto w2c_B0;
+  w2c_B8:;
+  w2c_i0 = 7u;
+  w2c_l3 = w2c_i0;
+  goto w2c_B0;
+  w2c_B7:;
+  w2c_i0 = 8u;
+  w2c_l3 = w2c_i0;
+  goto w2c_B0;
+  w2c_B6:;
+  w2c_i0 = 10u;
+  w2c_l3 = w2c_i0;
+  goto w2c_B0;
+  w2c_B5:;
+  w2c_i0 = 12u;
+  w2c_l3 = w2c_i0;
+  goto w2c_B0;
+  w2c_B4:;
+  w2c_i0 = 15u;
+  w2c_l3 = w2c_i0;
+  goto w2c_B0;
+  w2c_B3:;
+  UNREACHABLE;
+  w2c_B2:;
+  w2c_i0 = 2u;
+  w2c_l3 = w2c_i0;
+  goto w2c_B0;
+  w2c_B1:;
+  w2c_i0 = 0u;
+  w2c_l2 = w2c_i0;
+  w2c_i0 = 0u;
+  w2c_l3 = w2c_i0;
+  w2c_B0:;
+  w2c_j0 = w2c_p0;
+  w2c_i0 = (u32)(w2c_j0);
+  w2c_i1 = w2c_l3;
+  i32_store8(m, (u64)(w2c_i0) + 1, w2c_i1);
+  w2c_j0 = w2c_p0;
+  w2c_i0 = (u32)(w2c_j0);
+  w2c_i1 = w2c_l2;
+  i32_store8(m, (u64)(w2c_i0), w2c_i1);
+}
+
+static u32 w2c_f23(module *m, u64 w2c_p0, u64 w2c_p1) {
+  u32 w2c_l2 = 0, w2c_l3 = 0, w2c_l4 = 0, w2c_l5 = 0, w2c_l6 = 0, w2c_l7 = 0;
+  u64 w2c_l8 = 0, w2c_l9 = 0, w2c_l10 = 0;
+  u32 w2c_i0, w2c_i1, w2c_i2, w2c_i3;
+  u64 w2c_j0, w2c_j1;
+  w2c_j0 = m->w2c_g0;
+  w2c_j1 = 16ull;
+  w2c_i0 = (u64)((s64)w2c_j0 < (s64)w2c_j1);
+  if (w2c_i0) {goto w2c_B0;}
+  w2c_L1:
+    w2c_j0 = w2c_p1;
     w2c_j1 = 3ull;
     w2c_i0 = w2c_j0 < w2c_j1;
-    if (w2c_i0) {goto w2c_B29;}
-    w2c_j0 = w2c_l4;
+    if (w2c_i0) {goto w2c_B6;}
+    w2c_j0 = w2c_p0;
     w2c_i0 = (u32)(w2c_j0);
     w2c_i0 = i32_load8_u(m, (u64)(w2c_i0));
-    w2c_l16 = w2c_i0;
+    w2c_l2 = w2c_i0;
     w2c_i1 = 240u;
     w2c_i0 &= w2c_i1;
     w2c_i1 = 224u;
     w2c_i0 = w2c_i0 != w2c_i1;
-    if (w2c_i0) {goto w2c_B28;}
-    w2c_j0 = w2c_l4;
+    if (w2c_i0) {goto w2c_B5;}
+    w2c_j0 = w2c_p0;
+    w2c_i0 = (u32)(w2c_j0);
+    w2c_i0 = i32_load8_u(m, (u64)(w2c_i0) + 2u);
+    w2c_l3 = w2c_i0;
+    w2c_j0 = w2c_p0;
     w2c_i0 = (u32)(w2c_j0);
     w2c_i0 = i32_load8_u(m, (u64)(w2c_i0) + 1u);
-    w2c_l19 = w2c_i0;
+    w2c_l4 = w2c_i0;
+    w2c_j0 = w2c_p1;
+    w2c_j1 = 18446744073709551613ull;
+    w2c_j0 += w2c_j1;
+    w2c_p1 = w2c_j0;
+    w2c_j0 = w2c_p0;
+    w2c_j1 = 3ull;
+    w2c_j0 += w2c_j1;
+    w2c_p0 = w2c_j0;
+    w2c_i0 = w2c_l4;
     w2c_i1 = 8u;
     w2c_i0 <<= (w2c_i1 & 31);
-    w2c_j1 = w2c_l4;
-    w2c_i1 = (u32)(w2c_j1);
-    w2c_i1 = i32_load8_u(m, (u64)(w2c_i1) + 2u);
-    w2c_l20 = w2c_i1;
+    w2c_i1 = w2c_l3;
     w2c_i2 = 16u;
     w2c_i1 <<= (w2c_i2 & 31);
     w2c_i0 |= w2c_i1;
-    w2c_i1 = w2c_l16;
+    w2c_i1 = w2c_l2;
     w2c_i0 |= w2c_i1;
-    w2c_l17 = w2c_i0;
+    w2c_l5 = w2c_i0;
     w2c_j0 = (u64)(w2c_i0);
     w2c_j1 = 953497ull;
     w2c_j0 *= w2c_j1;
@@ -11541,161 +11781,142 @@ static void w2c_f20(module *m, u64 w2c_p0, u64 w2c_p1) {
     w2c_j0 >>= (w2c_j1 & 63);
     w2c_j1 = 1016ull;
     w2c_j0 &= w2c_j1;
-    w2c_l10 = w2c_j0;
-    w2c_j1 = 66997ull;
+    w2c_l8 = w2c_j0;
+    w2c_j1 = 66992ull;
     w2c_j0 += w2c_j1;
     w2c_i0 = (u32)(w2c_j0);
-    w2c_i0 = i32_load8_u(m, (u64)(w2c_i0));
-    w2c_i1 = 0u;
-    w2c_j2 = w2c_l10;
-    w2c_i2 = (u32)(w2c_j2);
-    w2c_i2 = i32_load(m, (u64)(w2c_i2) + 66992u);
-    w2c_i3 = w2c_l17;
-    w2c_i2 = w2c_i2 == w2c_i3;
-    w2c_l17 = w2c_i2;
-    w2c_i0 = w2c_i2 ? w2c_i0 : w2c_i1;
-    w2c_l18 = w2c_i0;
-    w2c_j0 = w2c_l10;
-    w2c_j1 = 66996ull;
-    w2c_j0 += w2c_j1;
-    w2c_i0 = (u32)(w2c_j0);
-    w2c_i0 = i32_load8_u(m, (u64)(w2c_i0));
-    w2c_i1 = 2u;
-    w2c_i2 = w2c_l17;
-    w2c_i0 = w2c_i2 ? w2c_i0 : w2c_i1;
-    w2c_l17 = w2c_i0;
-    w2c_i0 = w2c_l16;
+    w2c_i0 = i32_load(m, (u64)(w2c_i0));
+    w2c_i1 = w2c_l5;
+    w2c_i0 = w2c_i0 != w2c_i1;
+    if (w2c_i0) {goto w2c_L1;}
+    w2c_i0 = w2c_l2;
     w2c_i1 = 12u;
     w2c_i0 <<= (w2c_i1 & 31);
-    w2c_i1 = w2c_l19;
+    w2c_i1 = w2c_l4;
     w2c_i2 = 6u;
     w2c_i1 <<= (w2c_i2 & 31);
     w2c_i0 += w2c_i1;
-    w2c_i1 = w2c_l20;
+    w2c_i1 = w2c_l3;
     w2c_i0 += w2c_i1;
     w2c_i1 = 4294041472u;
     w2c_i0 += w2c_i1;
-    w2c_l16 = w2c_i0;
-    w2c_j0 = w2c_l5;
-    w2c_j1 = 18446744073709551613ull;
-    w2c_j0 += w2c_j1;
-    w2c_l11 = w2c_j0;
-    w2c_j0 = w2c_l4;
-    w2c_j1 = 3ull;
-    w2c_j0 += w2c_j1;
-    w2c_l10 = w2c_j0;
-    goto w2c_B27;
-    w2c_B29:;
-    w2c_j0 = w2c_l5;
+    w2c_l2 = w2c_i0;
+    goto w2c_B4;
+    w2c_B6:;
+    w2c_j0 = w2c_p1;
     w2c_i0 = !(w2c_j0);
-    if (w2c_i0) {goto w2c_B25;}
-    w2c_j0 = w2c_l4;
+    w2c_i0 = !(w2c_i0);
+    if (w2c_i0) {goto w2c_B7;}
+    w2c_i0 = 0u;
+    goto w2c_Bfunc;
+    w2c_B7:;
+    w2c_j0 = w2c_p0;
     w2c_i0 = (u32)(w2c_j0);
     w2c_i0 = i32_load8_u(m, (u64)(w2c_i0));
-    w2c_l16 = w2c_i0;
-    w2c_B28:;
+    w2c_l2 = w2c_i0;
+    w2c_B5:;
     w2c_j0 = 1ull;
-    w2c_l10 = w2c_j0;
-    w2c_i0 = w2c_l16;
+    w2c_l8 = w2c_j0;
+    w2c_i0 = w2c_l2;
     w2c_i0 = (u32)(s32)(s8)(u8)(w2c_i0);
     w2c_i1 = 4294967295u;
     w2c_i0 = (u32)((s32)w2c_i0 > (s32)w2c_i1);
-    if (w2c_i0) {goto w2c_B30;}
-    w2c_j0 = w2c_l4;
+    if (w2c_i0) {goto w2c_B8;}
+    w2c_j0 = w2c_p0;
     w2c_i0 = (u32)(w2c_j0);
     w2c_i0 = i32_load8_u(m, (u64)(w2c_i0) + 1u);
     w2c_i1 = 63u;
     w2c_i0 &= w2c_i1;
-    w2c_l17 = w2c_i0;
-    w2c_i0 = w2c_l16;
+    w2c_l3 = w2c_i0;
+    w2c_i0 = w2c_l2;
     w2c_i1 = 223u;
     w2c_i0 = w2c_i0 > w2c_i1;
-    if (w2c_i0) {goto w2c_B31;}
-    w2c_i0 = w2c_l16;
+    if (w2c_i0) {goto w2c_B9;}
+    w2c_i0 = w2c_l2;
     w2c_i1 = 6u;
     w2c_i0 <<= (w2c_i1 & 31);
     w2c_i1 = 1984u;
     w2c_i0 &= w2c_i1;
-    w2c_i1 = w2c_l17;
+    w2c_i1 = w2c_l3;
     w2c_i0 |= w2c_i1;
-    w2c_l16 = w2c_i0;
+    w2c_l2 = w2c_i0;
     w2c_j0 = 2ull;
-    w2c_l10 = w2c_j0;
-    goto w2c_B30;
-    w2c_B31:;
-    w2c_j0 = w2c_l4;
+    w2c_l8 = w2c_j0;
+    goto w2c_B8;
+    w2c_B9:;
+    w2c_j0 = w2c_p0;
     w2c_i0 = (u32)(w2c_j0);
     w2c_i0 = i32_load8_u(m, (u64)(w2c_i0) + 2u);
     w2c_i1 = 63u;
     w2c_i0 &= w2c_i1;
-    w2c_l18 = w2c_i0;
-    w2c_i0 = w2c_l16;
+    w2c_l4 = w2c_i0;
+    w2c_i0 = w2c_l2;
     w2c_i1 = 239u;
     w2c_i0 = w2c_i0 > w2c_i1;
-    if (w2c_i0) {goto w2c_B32;}
-    w2c_i0 = w2c_l17;
+    if (w2c_i0) {goto w2c_B10;}
+    w2c_i0 = w2c_l3;
     w2c_i1 = 6u;
     w2c_i0 <<= (w2c_i1 & 31);
-    w2c_i1 = w2c_l16;
+    w2c_i1 = w2c_l2;
     w2c_i2 = 12u;
     w2c_i1 <<= (w2c_i2 & 31);
     w2c_i2 = 61440u;
     w2c_i1 &= w2c_i2;
     w2c_i0 |= w2c_i1;
-    w2c_i1 = w2c_l18;
+    w2c_i1 = w2c_l4;
     w2c_i0 |= w2c_i1;
-    w2c_l16 = w2c_i0;
+    w2c_l2 = w2c_i0;
     w2c_j0 = 3ull;
-    w2c_l10 = w2c_j0;
-    goto w2c_B30;
-    w2c_B32:;
-    w2c_i0 = w2c_l18;
+    w2c_l8 = w2c_j0;
+    goto w2c_B8;
+    w2c_B10:;
+    w2c_i0 = w2c_l4;
     w2c_i1 = 6u;
     w2c_i0 <<= (w2c_i1 & 31);
-    w2c_i1 = w2c_l17;
+    w2c_i1 = w2c_l3;
     w2c_i2 = 12u;
     w2c_i1 <<= (w2c_i2 & 31);
-    w2c_i2 = w2c_l16;
+    w2c_i2 = w2c_l2;
     w2c_i3 = 18u;
     w2c_i2 <<= (w2c_i3 & 31);
     w2c_i3 = 1835008u;
     w2c_i2 &= w2c_i3;
     w2c_i1 |= w2c_i2;
     w2c_i0 |= w2c_i1;
-    w2c_j1 = w2c_l4;
+    w2c_j1 = w2c_p0;
     w2c_i1 = (u32)(w2c_j1);
     w2c_i1 = i32_load8_u(m, (u64)(w2c_i1) + 3u);
     w2c_i2 = 63u;
     w2c_i1 &= w2c_i2;
     w2c_i0 |= w2c_i1;
-    w2c_l16 = w2c_i0;
+    w2c_l2 = w2c_i0;
     w2c_j0 = 4ull;
-    w2c_l10 = w2c_j0;
-    w2c_B30:;
-    w2c_j0 = w2c_l5;
-    w2c_j1 = w2c_l10;
+    w2c_l8 = w2c_j0;
+    w2c_B8:;
+    w2c_j0 = w2c_p1;
+    w2c_j1 = w2c_l8;
     w2c_j0 -= w2c_j1;
-    w2c_l11 = w2c_j0;
-    w2c_j0 = w2c_l4;
-    w2c_j1 = w2c_l10;
+    w2c_p1 = w2c_j0;
+    w2c_j0 = w2c_p0;
+    w2c_j1 = w2c_l8;
     w2c_j0 += w2c_j1;
-    w2c_l10 = w2c_j0;
-    w2c_i0 = w2c_l16;
+    w2c_p0 = w2c_j0;
+    w2c_i0 = w2c_l2;
     w2c_i1 = 4294965248u;
     w2c_i0 += w2c_i1;
     w2c_i1 = 63487u;
     w2c_i0 = w2c_i0 > w2c_i1;
-    if (w2c_i0) {goto w2c_B33;}
-    w2c_i0 = w2c_l16;
+    if (w2c_i0) {goto w2c_B3;}
+    w2c_i0 = w2c_l2;
     w2c_i1 = 12u;
     w2c_i0 >>= (w2c_i1 & 31);
-    w2c_i1 = w2c_l16;
+    w2c_i1 = w2c_l2;
     w2c_i2 = 2u;
     w2c_i1 <<= (w2c_i2 & 31);
     w2c_i2 = 16128u;
     w2c_i1 &= w2c_i2;
     w2c_i0 |= w2c_i1;
-    w2c_i1 = w2c_l16;
+    w2c_i1 = w2c_l2;
     w2c_i2 = 16u;
     w2c_i1 <<= (w2c_i2 & 31);
     w2c_i2 = 4128768u;
@@ -11703,7 +11924,7 @@ static void w2c_f20(module *m, u64 w2c_p0, u64 w2c_p1) {
     w2c_i0 |= w2c_i1;
     w2c_i1 = 8421600u;
     w2c_i0 |= w2c_i1;
-    w2c_l17 = w2c_i0;
+    w2c_l3 = w2c_i0;
     w2c_j0 = (u64)(w2c_i0);
     w2c_j1 = 953497ull;
     w2c_j0 *= w2c_j1;
@@ -11711,377 +11932,736 @@ static void w2c_f20(module *m, u64 w2c_p0, u64 w2c_p1) {
     w2c_j0 >>= (w2c_j1 & 63);
     w2c_j1 = 1016ull;
     w2c_j0 &= w2c_j1;
-    w2c_l12 = w2c_j0;
-    w2c_j1 = 66997ull;
+    w2c_l8 = w2c_j0;
+    w2c_j1 = 66992ull;
     w2c_j0 += w2c_j1;
     w2c_i0 = (u32)(w2c_j0);
-    w2c_i0 = i32_load8_u(m, (u64)(w2c_i0));
-    w2c_i1 = 0u;
-    w2c_j2 = w2c_l12;
-    w2c_i2 = (u32)(w2c_j2);
-    w2c_i2 = i32_load(m, (u64)(w2c_i2) + 66992u);
-    w2c_i3 = w2c_l17;
-    w2c_i2 = w2c_i2 == w2c_i3;
-    w2c_l17 = w2c_i2;
-    w2c_i0 = w2c_i2 ? w2c_i0 : w2c_i1;
-    w2c_l18 = w2c_i0;
-    w2c_j0 = w2c_l12;
+    w2c_i0 = i32_load(m, (u64)(w2c_i0));
+    w2c_i1 = w2c_l3;
+    w2c_i0 = w2c_i0 != w2c_i1;
+    if (w2c_i0) {goto w2c_L1;}
+    w2c_B4:;
+    w2c_j0 = w2c_l8;
     w2c_j1 = 66996ull;
     w2c_j0 += w2c_j1;
     w2c_i0 = (u32)(w2c_j0);
     w2c_i0 = i32_load8_u(m, (u64)(w2c_i0));
-    w2c_i1 = 2u;
-    w2c_i2 = w2c_l17;
-    w2c_i0 = w2c_i2 ? w2c_i0 : w2c_i1;
-    w2c_l17 = w2c_i0;
-    goto w2c_B27;
-    w2c_B33:;
-    w2c_i0 = w2c_l16;
-    w2c_i1 = 4294967248u;
-    w2c_i0 += w2c_i1;
-    w2c_l17 = w2c_i0;
-    w2c_i1 = 0u;
-    w2c_i2 = w2c_l17;
-    w2c_i3 = 10u;
-    w2c_i2 = w2c_i2 < w2c_i3;
-    w2c_l17 = w2c_i2;
-    w2c_i0 = w2c_i2 ? w2c_i0 : w2c_i1;
-    w2c_l18 = w2c_i0;
-    w2c_i0 = 0u;
-    w2c_i1 = 2u;
-    w2c_i2 = w2c_l17;
-    w2c_i0 = w2c_i2 ? w2c_i0 : w2c_i1;
-    w2c_l17 = w2c_i0;
-    w2c_B27:;
-    w2c_i0 = w2c_l16;
-    w2c_i1 = 21317u;
-    w2c_i0 = w2c_i0 == w2c_i1;
-    if (w2c_i0) {goto w2c_B34;}
-    w2c_i0 = w2c_l16;
-    w2c_i1 = 24319u;
-    w2c_i0 = w2c_i0 == w2c_i1;
-    if (w2c_i0) {goto w2c_B34;}
-    w2c_i0 = w2c_l16;
-    w2c_i1 = 4294902000u;
-    w2c_i0 += w2c_i1;
-    w2c_l19 = w2c_i0;
-    w2c_i1 = 10u;
-    w2c_i0 = w2c_i0 < w2c_i1;
-    if (w2c_i0) {goto w2c_B37;}
-    w2c_i0 = w2c_l16;
-    w2c_i1 = 28856u;
-    w2c_i0 = (u32)((s32)w2c_i0 > (s32)w2c_i1);
-    if (w2c_i0) {goto w2c_B40;}
-    w2c_i0 = w2c_l16;
-    w2c_i1 = 20042u;
-    w2c_i0 = (u32)((s32)w2c_i0 > (s32)w2c_i1);
-    if (w2c_i0) {goto w2c_B41;}
-    w2c_i0 = w2c_l16;
-    w2c_i1 = 4294967264u;
-    w2c_i0 += w2c_i1;
-    switch (w2c_i0) {
-      case 0: goto w2c_B35;
-      case 1: goto w2c_B38;
-      case 2: goto w2c_B38;
-      case 3: goto w2c_B38;
-      case 4: goto w2c_B38;
-      case 5: goto w2c_B35;
-      default: goto w2c_B39;
-    }
-    w2c_B41:;
-    w2c_i0 = w2c_l16;
-    w2c_i1 = 20043u;
-    w2c_i0 = w2c_i0 == w2c_i1;
-    if (w2c_i0) {goto w2c_B35;}
-    w2c_i0 = w2c_l16;
-    w2c_i1 = 20998u;
-    w2c_i0 = w2c_i0 != w2c_i1;
-    if (w2c_i0) {goto w2c_B38;}
-    goto w2c_B35;
-    w2c_B40:;
-    w2c_i0 = w2c_l16;
-    w2c_i1 = 36126u;
-    w2c_i0 = (u32)((s32)w2c_i0 > (s32)w2c_i1);
-    if (w2c_i0) {goto w2c_B42;}
-    w2c_i0 = w2c_l16;
-    w2c_i1 = 28857u;
-    w2c_i0 = w2c_i0 == w2c_i1;
-    if (w2c_i0) {goto w2c_B35;}
-    w2c_i0 = w2c_l16;
-    w2c_i1 = 36000u;
-    w2c_i0 = w2c_i0 != w2c_i1;
-    if (w2c_i0) {goto w2c_B38;}
-    goto w2c_B35;
-    w2c_B42:;
-    w2c_i0 = w2c_l16;
-    w2c_i1 = 36127u;
-    w2c_i0 = w2c_i0 == w2c_i1;
-    if (w2c_i0) {goto w2c_B35;}
-    w2c_i0 = w2c_l16;
-    w2c_i1 = 40670u;
-    w2c_i0 = w2c_i0 == w2c_i1;
-    if (w2c_i0) {goto w2c_B35;}
-    w2c_i0 = w2c_l16;
-    w2c_i1 = 65285u;
-    w2c_i0 = w2c_i0 == w2c_i1;
-    if (w2c_i0) {goto w2c_B35;}
-    goto w2c_B38;
-    w2c_B39:;
-    w2c_i0 = w2c_l16;
-    w2c_i1 = 8722u;
-    w2c_i0 = w2c_i0 == w2c_i1;
-    if (w2c_i0) {goto w2c_B35;}
-    w2c_B38:;
-    w2c_i0 = w2c_l16;
-    w2c_i1 = 44u;
-    w2c_i0 = w2c_i0 < w2c_i1;
-    if (w2c_i0) {goto w2c_B36;}
-    w2c_i0 = w2c_l16;
-    w2c_i1 = 47u;
-    w2c_i0 = w2c_i0 < w2c_i1;
-    if (w2c_i0) {goto w2c_B37;}
-    w2c_i0 = w2c_l16;
-    w2c_i1 = 4294902003u;
-    w2c_i0 += w2c_i1;
-    w2c_i1 = 1u;
-    w2c_i0 = w2c_i0 > w2c_i1;
-    if (w2c_i0) {goto w2c_B36;}
-    w2c_B37:;
-    w2c_i0 = w2c_l16;
-    w2c_i1 = 21317u;
-    w2c_i0 = w2c_i0 == w2c_i1;
-    if (w2c_i0) {goto w2c_B34;}
-    w2c_i0 = w2c_l16;
-    w2c_i1 = 24319u;
-    w2c_i0 = w2c_i0 == w2c_i1;
-    if (w2c_i0) {goto w2c_B34;}
-    w2c_i0 = w2c_l19;
-    w2c_i1 = 10u;
-    w2c_i0 = w2c_i0 >= w2c_i1;
-    if (w2c_i0) {goto w2c_B35;}
-    goto w2c_B34;
-    w2c_B36:;
-    w2c_i0 = w2c_l17;
-    w2c_i1 = 255u;
-    w2c_i0 &= w2c_i1;
-    w2c_i1 = 2u;
-    w2c_i0 = w2c_i0 == w2c_i1;
-    if (w2c_i0) {goto w2c_B25;}
-    w2c_i0 = w2c_l14;
-    w2c_i1 = w2c_l13;
-    w2c_i2 = w2c_l16;
-    w2c_i3 = w2c_l17;
-    w2c_i4 = w2c_l18;
-    w2c_j5 = w2c_l10;
-    w2c_j6 = w2c_l11;
-    w2c_i0 = w2c_f17(m, w2c_i0, w2c_i1, w2c_i2, w2c_i3, w2c_i4, w2c_j5, w2c_j6);
-    if (w2c_i0) {goto w2c_B34;}
-    goto w2c_B25;
-    w2c_B35:;
-    w2c_i0 = w2c_l14;
-    w2c_i1 = w2c_l13;
-    w2c_j2 = w2c_l7;
-    w2c_j3 = w2c_l6;
-    w2c_j4 = w2c_l5;
-    w2c_j3 -= w2c_j4;
-    w2c_i4 = w2c_l16;
-    w2c_j5 = w2c_l10;
-    w2c_j6 = w2c_l11;
-    w2c_i0 = w2c_f27(m, w2c_i0, w2c_i1, w2c_j2, w2c_j3, w2c_i4, w2c_j5, w2c_j6);
-    w2c_i0 = !(w2c_i0);
-    if (w2c_i0) {goto w2c_B25;}
-    w2c_B34:;
-    w2c_i0 = w2c_l15;
-    w2c_i1 = 4294967248u;
-    w2c_i0 += w2c_i1;
-    w2c_i1 = 10u;
-    w2c_i0 = w2c_i0 < w2c_i1;
-    if (w2c_i0) {goto w2c_B44;}
-    w2c_i0 = w2c_l15;
-    w2c_i1 = 4294902000u;
-    w2c_i0 += w2c_i1;
-    w2c_i1 = 9u;
-    w2c_i0 = w2c_i0 > w2c_i1;
-    if (w2c_i0) {goto w2c_B43;}
-    w2c_B44:;
-    w2c_j0 = w2c_l3;
-    w2c_j1 = 8ull;
+    if (w2c_i0) {goto w2c_L1;}
+    w2c_j0 = w2c_l8;
+    w2c_j1 = 66997ull;
     w2c_j0 += w2c_j1;
-    w2c_i1 = w2c_l16;
-    w2c_f18(m, w2c_j0, w2c_i1);
-    w2c_i0 = w2c_l16;
-    w2c_i1 = 4294967238u;
-    w2c_i0 += w2c_i1;
-    w2c_i1 = 4294967285u;
-    w2c_i0 = w2c_i0 > w2c_i1;
-    if (w2c_i0) {goto w2c_B45;}
-    w2c_j0 = w2c_l3;
-    w2c_i0 = (u32)(w2c_j0);
-    w2c_i0 = i32_load8_u(m, (u64)(w2c_i0) + 8u);
-    w2c_i1 = 255u;
-    w2c_i0 &= w2c_i1;
-    w2c_i1 = 1u;
-    w2c_i0 = w2c_i0 == w2c_i1;
-    if (w2c_i0) {goto w2c_B25;}
-    w2c_B45:;
-    w2c_i0 = w2c_l16;
-    w2c_i1 = 21317u;
-    w2c_i0 = w2c_i0 == w2c_i1;
-    if (w2c_i0) {goto w2c_B25;}
-    w2c_i0 = w2c_l16;
-    w2c_i1 = 24319u;
-    w2c_i0 = w2c_i0 == w2c_i1;
-    if (w2c_i0) {goto w2c_B25;}
-    w2c_B43:;
-    w2c_j0 = w2c_l3;
-    w2c_i1 = w2c_l15;
-    w2c_f18(m, w2c_j0, w2c_i1);
-    w2c_i0 = w2c_l15;
-    w2c_i1 = 4294967238u;
-    w2c_i0 += w2c_i1;
-    w2c_i1 = 4294967285u;
-    w2c_i0 = w2c_i0 > w2c_i1;
-    if (w2c_i0) {goto w2c_B47;}
-    w2c_j0 = w2c_l3;
     w2c_i0 = (u32)(w2c_j0);
     w2c_i0 = i32_load8_u(m, (u64)(w2c_i0));
-    w2c_i1 = 255u;
+    w2c_l4 = w2c_i0;
+    w2c_j0 = w2c_p1;
+    w2c_l9 = w2c_j0;
+    w2c_j0 = w2c_p0;
+    w2c_l8 = w2c_j0;
+    goto w2c_B2;
+    w2c_B3:;
+    w2c_j0 = w2c_p1;
+    w2c_l9 = w2c_j0;
+    w2c_j0 = w2c_p0;
+    w2c_l8 = w2c_j0;
+    w2c_i0 = w2c_l2;
+    w2c_i1 = 4294967248u;
+    w2c_i0 += w2c_i1;
+    w2c_l4 = w2c_i0;
+    w2c_i1 = 10u;
+    w2c_i0 = w2c_i0 >= w2c_i1;
+    if (w2c_i0) {goto w2c_L1;}
+    w2c_B2:;
+    w2c_j0 = w2c_l9;
+    w2c_j1 = 3ull;
+    w2c_i0 = w2c_j0 < w2c_j1;
+    if (w2c_i0) {goto w2c_B15;}
+    w2c_j0 = w2c_l8;
+    w2c_i0 = (u32)(w2c_j0);
+    w2c_i0 = i32_load8_u(m, (u64)(w2c_i0));
+    w2c_l3 = w2c_i0;
+    w2c_i1 = 240u;
     w2c_i0 &= w2c_i1;
-    w2c_i1 = 1u;
-    w2c_i0 = w2c_i0 == w2c_i1;
-    if (w2c_i0) {goto w2c_B46;}
-    w2c_B47:;
-    w2c_i0 = w2c_l15;
-    w2c_i1 = 24318u;
+    w2c_i1 = 224u;
+    w2c_i0 = w2c_i0 != w2c_i1;
+    if (w2c_i0) {goto w2c_B14;}
+    w2c_j0 = w2c_l9;
+    w2c_j1 = 18446744073709551613ull;
+    w2c_j0 += w2c_j1;
+    w2c_p1 = w2c_j0;
+    w2c_j0 = w2c_l8;
+    w2c_j1 = 3ull;
+    w2c_j0 += w2c_j1;
+    w2c_p0 = w2c_j0;
+    w2c_j0 = w2c_l8;
+    w2c_i0 = (u32)(w2c_j0);
+    w2c_i0 = i32_load8_u(m, (u64)(w2c_i0) + 1u);
+    w2c_l6 = w2c_i0;
+    w2c_i1 = 8u;
+    w2c_i0 <<= (w2c_i1 & 31);
+    w2c_j1 = w2c_l8;
+    w2c_i1 = (u32)(w2c_j1);
+    w2c_i1 = i32_load8_u(m, (u64)(w2c_i1) + 2u);
+    w2c_l7 = w2c_i1;
+    w2c_i2 = 16u;
+    w2c_i1 <<= (w2c_i2 & 31);
+    w2c_i0 |= w2c_i1;
+    w2c_i1 = w2c_l3;
+    w2c_i0 |= w2c_i1;
+    w2c_l5 = w2c_i0;
+    w2c_j0 = (u64)(w2c_i0);
+    w2c_j1 = 953497ull;
+    w2c_j0 *= w2c_j1;
+    w2c_j1 = 22ull;
+    w2c_j0 >>= (w2c_j1 & 63);
+    w2c_j1 = 1016ull;
+    w2c_j0 &= w2c_j1;
+    w2c_l10 = w2c_j0;
+    w2c_j1 = 66992ull;
+    w2c_j0 += w2c_j1;
+    w2c_i0 = (u32)(w2c_j0);
+    w2c_i0 = i32_load(m, (u64)(w2c_i0));
+    w2c_i1 = w2c_l5;
+    w2c_i0 = w2c_i0 != w2c_i1;
+    if (w2c_i0) {goto w2c_L1;}
+    w2c_i0 = w2c_l3;
+    w2c_i1 = 12u;
+    w2c_i0 <<= (w2c_i1 & 31);
+    w2c_i1 = w2c_l6;
+    w2c_i2 = 6u;
+    w2c_i1 <<= (w2c_i2 & 31);
+    w2c_i0 += w2c_i1;
+    w2c_i1 = w2c_l7;
+    w2c_i0 += w2c_i1;
+    w2c_i1 = 4294041472u;
+    w2c_i0 += w2c_i1;
+    w2c_l3 = w2c_i0;
+    goto w2c_B13;
+    w2c_B15:;
+    w2c_j0 = 0ull;
+    w2c_p1 = w2c_j0;
+    w2c_j0 = w2c_l8;
+    w2c_p0 = w2c_j0;
+    w2c_j0 = w2c_l9;
+    w2c_i0 = !(w2c_j0);
+    if (w2c_i0) {goto w2c_L1;}
+    w2c_j0 = w2c_l8;
+    w2c_i0 = (u32)(w2c_j0);
+    w2c_i0 = i32_load8_u(m, (u64)(w2c_i0));
+    w2c_l3 = w2c_i0;
+    w2c_B14:;
+    w2c_j0 = 1ull;
+    w2c_p0 = w2c_j0;
+    w2c_i0 = w2c_l3;
+    w2c_i0 = (u32)(s32)(s8)(u8)(w2c_i0);
+    w2c_i1 = 4294967295u;
     w2c_i0 = (u32)((s32)w2c_i0 > (s32)w2c_i1);
-    if (w2c_i0) {goto w2c_B48;}
-    w2c_i0 = w2c_l15;
-    w2c_i1 = 21317u;
-    w2c_i0 = w2c_i0 == w2c_i1;
-    if (w2c_i0) {goto w2c_B46;}
-    w2c_i0 = w2c_l15;
-    w2c_i1 = 37u;
-    w2c_i0 = w2c_i0 == w2c_i1;
-    w2c_l17 = w2c_i0;
-    w2c_i0 = w2c_l16;
-    w2c_l15 = w2c_i0;
-    w2c_i0 = w2c_l17;
+    if (w2c_i0) {goto w2c_B16;}
+    w2c_j0 = w2c_l8;
+    w2c_i0 = (u32)(w2c_j0);
+    w2c_i0 = i32_load8_u(m, (u64)(w2c_i0) + 1u);
+    w2c_i1 = 63u;
+    w2c_i0 &= w2c_i1;
+    w2c_l5 = w2c_i0;
+    w2c_i0 = w2c_l3;
+    w2c_i1 = 223u;
+    w2c_i0 = w2c_i0 > w2c_i1;
+    if (w2c_i0) {goto w2c_B17;}
+    w2c_i0 = w2c_l3;
+    w2c_i1 = 6u;
+    w2c_i0 <<= (w2c_i1 & 31);
+    w2c_i1 = 1984u;
+    w2c_i0 &= w2c_i1;
+    w2c_i1 = w2c_l5;
+    w2c_i0 |= w2c_i1;
+    w2c_l3 = w2c_i0;
+    w2c_j0 = 2ull;
+    w2c_p0 = w2c_j0;
+    goto w2c_B16;
+    w2c_B17:;
+    w2c_j0 = w2c_l8;
+    w2c_i0 = (u32)(w2c_j0);
+    w2c_i0 = i32_load8_u(m, (u64)(w2c_i0) + 2u);
+    w2c_i1 = 63u;
+    w2c_i0 &= w2c_i1;
+    w2c_l6 = w2c_i0;
+    w2c_i0 = w2c_l3;
+    w2c_i1 = 239u;
+    w2c_i0 = w2c_i0 > w2c_i1;
+    if (w2c_i0) {goto w2c_B18;}
+    w2c_i0 = w2c_l5;
+    w2c_i1 = 6u;
+    w2c_i0 <<= (w2c_i1 & 31);
+    w2c_i1 = w2c_l3;
+    w2c_i2 = 12u;
+    w2c_i1 <<= (w2c_i2 & 31);
+    w2c_i2 = 61440u;
+    w2c_i1 &= w2c_i2;
+    w2c_i0 |= w2c_i1;
+    w2c_i1 = w2c_l6;
+    w2c_i0 |= w2c_i1;
+    w2c_l3 = w2c_i0;
+    w2c_j0 = 3ull;
+    w2c_p0 = w2c_j0;
+    goto w2c_B16;
+    w2c_B18:;
+    w2c_i0 = w2c_l6;
+    w2c_i1 = 6u;
+    w2c_i0 <<= (w2c_i1 & 31);
+    w2c_i1 = w2c_l5;
+    w2c_i2 = 12u;
+    w2c_i1 <<= (w2c_i2 & 31);
+    w2c_i2 = w2c_l3;
+    w2c_i3 = 18u;
+    w2c_i2 <<= (w2c_i3 & 31);
+    w2c_i3 = 1835008u;
+    w2c_i2 &= w2c_i3;
+    w2c_i1 |= w2c_i2;
+    w2c_i0 |= w2c_i1;
+    w2c_j1 = w2c_l8;
+    w2c_i1 = (u32)(w2c_j1);
+    w2c_i1 = i32_load8_u(m, (u64)(w2c_i1) + 3u);
+    w2c_i2 = 63u;
+    w2c_i1 &= w2c_i2;
+    w2c_i0 |= w2c_i1;
+    w2c_l3 = w2c_i0;
+    w2c_j0 = 4ull;
+    w2c_p0 = w2c_j0;
+    w2c_B16:;
+    w2c_j0 = w2c_l9;
+    w2c_j1 = w2c_p0;
+    w2c_j0 -= w2c_j1;
+    w2c_p1 = w2c_j0;
+    w2c_j0 = w2c_l8;
+    w2c_j1 = w2c_p0;
+    w2c_j0 += w2c_j1;
+    w2c_p0 = w2c_j0;
+    w2c_i0 = w2c_l3;
+    w2c_i1 = 4294965248u;
+    w2c_i0 += w2c_i1;
+    w2c_i1 = 63487u;
+    w2c_i0 = w2c_i0 > w2c_i1;
+    if (w2c_i0) {goto w2c_B12;}
+    w2c_i0 = w2c_l3;
+    w2c_i1 = 12u;
+    w2c_i0 >>= (w2c_i1 & 31);
+    w2c_i1 = w2c_l3;
+    w2c_i2 = 2u;
+    w2c_i1 <<= (w2c_i2 & 31);
+    w2c_i2 = 16128u;
+    w2c_i1 &= w2c_i2;
+    w2c_i0 |= w2c_i1;
+    w2c_i1 = w2c_l3;
+    w2c_i2 = 16u;
+    w2c_i1 <<= (w2c_i2 & 31);
+    w2c_i2 = 4128768u;
+    w2c_i1 &= w2c_i2;
+    w2c_i0 |= w2c_i1;
+    w2c_i1 = 8421600u;
+    w2c_i0 |= w2c_i1;
+    w2c_l5 = w2c_i0;
+    w2c_j0 = (u64)(w2c_i0);
+    w2c_j1 = 953497ull;
+    w2c_j0 *= w2c_j1;
+    w2c_j1 = 22ull;
+    w2c_j0 >>= (w2c_j1 & 63);
+    w2c_j1 = 1016ull;
+    w2c_j0 &= w2c_j1;
+    w2c_l10 = w2c_j0;
+    w2c_j1 = 66992ull;
+    w2c_j0 += w2c_j1;
+    w2c_i0 = (u32)(w2c_j0);
+    w2c_i0 = i32_load(m, (u64)(w2c_i0));
+    w2c_i1 = w2c_l5;
+    w2c_i0 = w2c_i0 != w2c_i1;
+    if (w2c_i0) {goto w2c_L1;}
+    w2c_B13:;
+    w2c_j0 = w2c_l10;
+    w2c_j1 = 66996ull;
+    w2c_j0 += w2c_j1;
+    w2c_i0 = (u32)(w2c_j0);
+    w2c_i0 = i32_load8_u(m, (u64)(w2c_i0));
+    if (w2c_i0) {goto w2c_L1;}
+    w2c_j0 = w2c_l10;
+    w2c_j1 = 66997ull;
+    w2c_j0 += w2c_j1;
+    w2c_i0 = (u32)(w2c_j0);
+    w2c_i0 = i32_load8_u(m, (u64)(w2c_i0));
+    w2c_l5 = w2c_i0;
+    goto w2c_B11;
+    w2c_B12:;
+    w2c_i0 = w2c_l3;
+    w2c_i1 = 4294967248u;
+    w2c_i0 += w2c_i1;
+    w2c_l5 = w2c_i0;
+    w2c_i1 = 10u;
+    w2c_i0 = w2c_i0 >= w2c_i1;
+    if (w2c_i0) {goto w2c_L1;}
+    w2c_B11:;
+  w2c_i0 = w2c_l2;
+  w2c_i1 = 4294967248u;
+  w2c_i0 += w2c_i1;
+  w2c_i1 = 10u;
+  w2c_i0 = w2c_i0 < w2c_i1;
+  if (w2c_i0) {goto w2c_B19;}
+  w2c_i0 = w2c_l3;
+  w2c_i1 = 4294967248u;
+  w2c_i0 += w2c_i1;
+  w2c_i1 = 10u;
+  w2c_i0 = w2c_i0 < w2c_i1;
+  if (w2c_i0) {goto w2c_B19;}
+  w2c_i0 = w2c_l4;
+  w2c_i1 = 255u;
+  w2c_i0 &= w2c_i1;
+  w2c_l2 = w2c_i0;
+  w2c_i0 = !(w2c_i0);
+  if (w2c_i0) {goto w2c_B19;}
+  w2c_i0 = w2c_l2;
+  w2c_i1 = 1u;
+  w2c_i0 += w2c_i1;
+  w2c_i1 = w2c_l5;
+  w2c_i2 = 255u;
+  w2c_i1 &= w2c_i2;
+  w2c_l3 = w2c_i1;
+  w2c_i0 = w2c_i0 == w2c_i1;
+  if (w2c_i0) {goto w2c_B20;}
+  w2c_i0 = w2c_l2;
+  w2c_i1 = 3u;
+  w2c_i0 = w2c_i0 == w2c_i1;
+  w2c_i1 = w2c_l3;
+  w2c_i2 = 5u;
+  w2c_i1 = w2c_i1 == w2c_i2;
+  w2c_i0 &= w2c_i1;
+  w2c_i0 = !(w2c_i0);
+  if (w2c_i0) {goto w2c_B19;}
+  w2c_B20:;
+  w2c_L21:
+    w2c_j0 = w2c_l9;
+    w2c_j1 = 3ull;
+    w2c_i0 = w2c_j0 < w2c_j1;
+    if (w2c_i0) {goto w2c_B26;}
+    w2c_j0 = w2c_l8;
+    w2c_i0 = (u32)(w2c_j0);
+    w2c_i0 = i32_load8_u(m, (u64)(w2c_i0));
+    w2c_l2 = w2c_i0;
+    w2c_i1 = 240u;
+    w2c_i0 &= w2c_i1;
+    w2c_i1 = 224u;
+    w2c_i0 = w2c_i0 != w2c_i1;
+    if (w2c_i0) {goto w2c_B25;}
+    w2c_j0 = w2c_l8;
+    w2c_i0 = (u32)(w2c_j0);
+    w2c_i0 = i32_load8_u(m, (u64)(w2c_i0) + 2u);
+    w2c_l3 = w2c_i0;
+    w2c_j0 = w2c_l8;
+    w2c_i0 = (u32)(w2c_j0);
+    w2c_i0 = i32_load8_u(m, (u64)(w2c_i0) + 1u);
+    w2c_l4 = w2c_i0;
+    w2c_j0 = w2c_l9;
+    w2c_j1 = 18446744073709551613ull;
+    w2c_j0 += w2c_j1;
+    w2c_l9 = w2c_j0;
+    w2c_j0 = w2c_l8;
+    w2c_j1 = 3ull;
+    w2c_j0 += w2c_j1;
+    w2c_l8 = w2c_j0;
+    w2c_i0 = w2c_l4;
+    w2c_i1 = 8u;
+    w2c_i0 <<= (w2c_i1 & 31);
+    w2c_i1 = w2c_l3;
+    w2c_i2 = 16u;
+    w2c_i1 <<= (w2c_i2 & 31);
+    w2c_i0 |= w2c_i1;
+    w2c_i1 = w2c_l2;
+    w2c_i0 |= w2c_i1;
+    w2c_l2 = w2c_i0;
+    w2c_j0 = (u64)(w2c_i0);
+    w2c_j1 = 953497ull;
+    w2c_j0 *= w2c_j1;
+    w2c_j1 = 22ull;
+    w2c_j0 >>= (w2c_j1 & 63);
+    w2c_j1 = 1016ull;
+    w2c_j0 &= w2c_j1;
+    w2c_p0 = w2c_j0;
+    w2c_j1 = 66992ull;
+    w2c_j0 += w2c_j1;
+    w2c_i0 = (u32)(w2c_j0);
+    w2c_i0 = i32_load(m, (u64)(w2c_i0));
+    w2c_i1 = w2c_l2;
+    w2c_i0 = w2c_i0 != w2c_i1;
+    if (w2c_i0) {goto w2c_L21;}
+    goto w2c_B24;
+    w2c_B26:;
+    w2c_j0 = w2c_l9;
+    w2c_i0 = !(w2c_j0);
     w2c_i0 = !(w2c_i0);
-    if (w2c_i0) {goto w2c_L26;}
-    goto w2c_B25;
-    w2c_B48:;
-    w2c_i0 = w2c_l15;
-    w2c_i1 = 24319u;
-    w2c_i0 = w2c_i0 == w2c_i1;
-    if (w2c_i0) {goto w2c_B46;}
-    w2c_i0 = w2c_l15;
-    w2c_i1 = 65285u;
-    w2c_i0 = w2c_i0 == w2c_i1;
-    w2c_l17 = w2c_i0;
-    w2c_i0 = w2c_l16;
-    w2c_l15 = w2c_i0;
-    w2c_i0 = w2c_l17;
-    w2c_i0 = !(w2c_i0);
-    if (w2c_i0) {goto w2c_L26;}
-    goto w2c_B25;
-    w2c_B46:;
-    w2c_i0 = w2c_l16;
+    if (w2c_i0) {goto w2c_B27;}
+    w2c_i0 = 1u;
+    goto w2c_Bfunc;
+    w2c_B27:;
+    w2c_j0 = w2c_l8;
+    w2c_i0 = (u32)(w2c_j0);
+    w2c_i0 = i32_load8_u(m, (u64)(w2c_i0));
+    w2c_l2 = w2c_i0;
+    w2c_B25:;
+    w2c_j0 = 1ull;
+    w2c_p0 = w2c_j0;
+    w2c_i0 = w2c_l2;
+    w2c_i0 = (u32)(s32)(s8)(u8)(w2c_i0);
+    w2c_i1 = 4294967295u;
+    w2c_i0 = (u32)((s32)w2c_i0 > (s32)w2c_i1);
+    if (w2c_i0) {goto w2c_B28;}
+    w2c_j0 = w2c_l8;
+    w2c_i0 = (u32)(w2c_j0);
+    w2c_i0 = i32_load8_u(m, (u64)(w2c_i0) + 1u);
+    w2c_i1 = 63u;
+    w2c_i0 &= w2c_i1;
+    w2c_l3 = w2c_i0;
+    w2c_i0 = w2c_l2;
+    w2c_i1 = 223u;
+    w2c_i0 = w2c_i0 > w2c_i1;
+    if (w2c_i0) {goto w2c_B29;}
+    w2c_i0 = w2c_l2;
+    w2c_i1 = 6u;
+    w2c_i0 <<= (w2c_i1 & 31);
+    w2c_i1 = 1984u;
+    w2c_i0 &= w2c_i1;
+    w2c_i1 = w2c_l3;
+    w2c_i0 |= w2c_i1;
+    w2c_l2 = w2c_i0;
+    w2c_j0 = 2ull;
+    w2c_p0 = w2c_j0;
+    goto w2c_B28;
+    w2c_B29:;
+    w2c_j0 = w2c_l8;
+    w2c_i0 = (u32)(w2c_j0);
+    w2c_i0 = i32_load8_u(m, (u64)(w2c_i0) + 2u);
+    w2c_i1 = 63u;
+    w2c_i0 &= w2c_i1;
+    w2c_l4 = w2c_i0;
+    w2c_i0 = w2c_l2;
+    w2c_i1 = 239u;
+    w2c_i0 = w2c_i0 > w2c_i1;
+    if (w2c_i0) {goto w2c_B30;}
+    w2c_i0 = w2c_l3;
+    w2c_i1 = 6u;
+    w2c_i0 <<= (w2c_i1 & 31);
+    w2c_i1 = w2c_l2;
+    w2c_i2 = 12u;
+    w2c_i1 <<= (w2c_i2 & 31);
+    w2c_i2 = 61440u;
+    w2c_i1 &= w2c_i2;
+    w2c_i0 |= w2c_i1;
+    w2c_i1 = w2c_l4;
+    w2c_i0 |= w2c_i1;
+    w2c_l2 = w2c_i0;
+    w2c_j0 = 3ull;
+    w2c_p0 = w2c_j0;
+    goto w2c_B28;
+    w2c_B30:;
+    w2c_i0 = w2c_l4;
+    w2c_i1 = 6u;
+    w2c_i0 <<= (w2c_i1 & 31);
+    w2c_i1 = w2c_l3;
+    w2c_i2 = 12u;
+    w2c_i1 <<= (w2c_i2 & 31);
+    w2c_i2 = w2c_l2;
+    w2c_i3 = 18u;
+    w2c_i2 <<= (w2c_i3 & 31);
+    w2c_i3 = 1835008u;
+    w2c_i2 &= w2c_i3;
+    w2c_i1 |= w2c_i2;
+    w2c_i0 |= w2c_i1;
+    w2c_j1 = w2c_l8;
+    w2c_i1 = (u32)(w2c_j1);
+    w2c_i1 = i32_load8_u(m, (u64)(w2c_i1) + 3u);
+    w2c_i2 = 63u;
+    w2c_i1 &= w2c_i2;
+    w2c_i0 |= w2c_i1;
+    w2c_l2 = w2c_i0;
+    w2c_j0 = 4ull;
+    w2c_p0 = w2c_j0;
+    w2c_B28:;
+    w2c_j0 = w2c_l9;
+    w2c_j1 = w2c_p0;
+    w2c_j0 -= w2c_j1;
+    w2c_l9 = w2c_j0;
+    w2c_j0 = w2c_l8;
+    w2c_j1 = w2c_p0;
+    w2c_j0 += w2c_j1;
+    w2c_l8 = w2c_j0;
+    w2c_i0 = w2c_l2;
+    w2c_i1 = 4294965248u;
+    w2c_i0 += w2c_i1;
+    w2c_i1 = 63487u;
+    w2c_i0 = w2c_i0 > w2c_i1;
+    if (w2c_i0) {goto w2c_B23;}
+    w2c_i0 = w2c_l2;
+    w2c_i1 = 12u;
+    w2c_i0 >>= (w2c_i1 & 31);
+    w2c_i1 = w2c_l2;
+    w2c_i2 = 2u;
+    w2c_i1 <<= (w2c_i2 & 31);
+    w2c_i2 = 16128u;
+    w2c_i1 &= w2c_i2;
+    w2c_i0 |= w2c_i1;
+    w2c_i1 = w2c_l2;
+    w2c_i2 = 16u;
+    w2c_i1 <<= (w2c_i2 & 31);
+    w2c_i2 = 4128768u;
+    w2c_i1 &= w2c_i2;
+    w2c_i0 |= w2c_i1;
+    w2c_i1 = 8421600u;
+    w2c_i0 |= w2c_i1;
+    w2c_l2 = w2c_i0;
+    w2c_j0 = (u64)(w2c_i0);
+    w2c_j1 = 953497ull;
+    w2c_j0 *= w2c_j1;
+    w2c_j1 = 22ull;
+    w2c_j0 >>= (w2c_j1 & 63);
+    w2c_j1 = 1016ull;
+    w2c_j0 &= w2c_j1;
+    w2c_p0 = w2c_j0;
+    w2c_j1 = 66992ull;
+    w2c_j0 += w2c_j1;
+    w2c_i0 = (u32)(w2c_j0);
+    w2c_i0 = i32_load(m, (u64)(w2c_i0));
+    w2c_i1 = w2c_l2;
+    w2c_i0 = w2c_i0 != w2c_i1;
+    if (w2c_i0) {goto w2c_L21;}
+    w2c_B24:;
+    w2c_j0 = w2c_p0;
+    w2c_j1 = 66996ull;
+    w2c_j0 += w2c_j1;
+    w2c_i0 = (u32)(w2c_j0);
+    w2c_i0 = i32_load8_u(m, (u64)(w2c_i0));
+    if (w2c_i0) {goto w2c_L21;}
+    goto w2c_B22;
+    w2c_B23:;
+    w2c_i0 = w2c_l2;
     w2c_i1 = 4294967248u;
     w2c_i0 += w2c_i1;
     w2c_i1 = 10u;
-    w2c_i0 = w2c_i0 < w2c_i1;
-    if (w2c_i0) {goto w2c_B25;}
-    w2c_i0 = w2c_l16;
-    w2c_i1 = 4294902000u;
+    w2c_i0 = w2c_i0 >= w2c_i1;
+    if (w2c_i0) {goto w2c_L21;}
+    w2c_B22:;
+    w2c_j0 = w2c_l9;
+    w2c_p0 = w2c_j0;
+    w2c_j1 = 3ull;
+    w2c_i0 = w2c_j0 < w2c_j1;
+    if (w2c_i0) {goto w2c_B33;}
+    w2c_j0 = w2c_l8;
+    w2c_i0 = (u32)(w2c_j0);
+    w2c_i0 = i32_load8_u(m, (u64)(w2c_i0));
+    w2c_l2 = w2c_i0;
+    w2c_i1 = 240u;
+    w2c_i0 &= w2c_i1;
+    w2c_i1 = 224u;
+    w2c_i0 = w2c_i0 != w2c_i1;
+    if (w2c_i0) {goto w2c_B32;}
+    w2c_j0 = w2c_l8;
+    w2c_i0 = (u32)(w2c_j0);
+    w2c_i0 = i32_load8_u(m, (u64)(w2c_i0) + 2u);
+    w2c_l3 = w2c_i0;
+    w2c_j0 = w2c_l8;
+    w2c_i0 = (u32)(w2c_j0);
+    w2c_i0 = i32_load8_u(m, (u64)(w2c_i0) + 1u);
+    w2c_l4 = w2c_i0;
+    w2c_j0 = w2c_p0;
+    w2c_j1 = 18446744073709551613ull;
+    w2c_j0 += w2c_j1;
+    w2c_l9 = w2c_j0;
+    w2c_j0 = w2c_l8;
+    w2c_j1 = 3ull;
+    w2c_j0 += w2c_j1;
+    w2c_l8 = w2c_j0;
+    w2c_i0 = w2c_l4;
+    w2c_i1 = 8u;
+    w2c_i0 <<= (w2c_i1 & 31);
+    w2c_i1 = w2c_l3;
+    w2c_i2 = 16u;
+    w2c_i1 <<= (w2c_i2 & 31);
+    w2c_i0 |= w2c_i1;
+    w2c_i1 = w2c_l2;
+    w2c_i0 |= w2c_i1;
+    w2c_l2 = w2c_i0;
+    w2c_j0 = (u64)(w2c_i0);
+    w2c_j1 = 953497ull;
+    w2c_j0 *= w2c_j1;
+    w2c_j1 = 22ull;
+    w2c_j0 >>= (w2c_j1 & 63);
+    w2c_j1 = 1016ull;
+    w2c_j0 &= w2c_j1;
+    w2c_p0 = w2c_j0;
+    w2c_j1 = 66992ull;
+    w2c_j0 += w2c_j1;
+    w2c_i0 = (u32)(w2c_j0);
+    w2c_i0 = i32_load(m, (u64)(w2c_i0));
+    w2c_i1 = w2c_l2;
+    w2c_i0 = w2c_i0 != w2c_i1;
+    if (w2c_i0) {goto w2c_L21;}
+    goto w2c_B31;
+    w2c_B33:;
+    w2c_j0 = 0ull;
+    w2c_l9 = w2c_j0;
+    w2c_j0 = w2c_p0;
+    w2c_i0 = !(w2c_j0);
+    if (w2c_i0) {goto w2c_L21;}
+    w2c_j0 = w2c_l8;
+    w2c_i0 = (u32)(w2c_j0);
+    w2c_i0 = i32_load8_u(m, (u64)(w2c_i0));
+    w2c_l2 = w2c_i0;
+    w2c_B32:;
+    w2c_j0 = 1ull;
+    w2c_p1 = w2c_j0;
+    w2c_i0 = w2c_l2;
+    w2c_i0 = (u32)(s32)(s8)(u8)(w2c_i0);
+    w2c_i1 = 4294967295u;
+    w2c_i0 = (u32)((s32)w2c_i0 > (s32)w2c_i1);
+    if (w2c_i0) {goto w2c_B34;}
+    w2c_j0 = w2c_l8;
+    w2c_i0 = (u32)(w2c_j0);
+    w2c_i0 = i32_load8_u(m, (u64)(w2c_i0) + 1u);
+    w2c_i1 = 63u;
+    w2c_i0 &= w2c_i1;
+    w2c_l3 = w2c_i0;
+    w2c_i0 = w2c_l2;
+    w2c_i1 = 223u;
+    w2c_i0 = w2c_i0 > w2c_i1;
+    if (w2c_i0) {goto w2c_B35;}
+    w2c_i0 = w2c_l2;
+    w2c_i1 = 6u;
+    w2c_i0 <<= (w2c_i1 & 31);
+    w2c_i1 = 1984u;
+    w2c_i0 &= w2c_i1;
+    w2c_i1 = w2c_l3;
+    w2c_i0 |= w2c_i1;
+    w2c_l2 = w2c_i0;
+    w2c_j0 = 2ull;
+    w2c_p1 = w2c_j0;
+    goto w2c_B34;
+    w2c_B35:;
+    w2c_j0 = w2c_l8;
+    w2c_i0 = (u32)(w2c_j0);
+    w2c_i0 = i32_load8_u(m, (u64)(w2c_i0) + 2u);
+    w2c_i1 = 63u;
+    w2c_i0 &= w2c_i1;
+    w2c_l4 = w2c_i0;
+    w2c_i0 = w2c_l2;
+    w2c_i1 = 239u;
+    w2c_i0 = w2c_i0 > w2c_i1;
+    if (w2c_i0) {goto w2c_B36;}
+    w2c_i0 = w2c_l3;
+    w2c_i1 = 6u;
+    w2c_i0 <<= (w2c_i1 & 31);
+    w2c_i1 = w2c_l2;
+    w2c_i2 = 12u;
+    w2c_i1 <<= (w2c_i2 & 31);
+    w2c_i2 = 61440u;
+    w2c_i1 &= w2c_i2;
+    w2c_i0 |= w2c_i1;
+    w2c_i1 = w2c_l4;
+    w2c_i0 |= w2c_i1;
+    w2c_l2 = w2c_i0;
+    w2c_j0 = 3ull;
+    w2c_p1 = w2c_j0;
+    goto w2c_B34;
+    w2c_B36:;
+    w2c_i0 = w2c_l4;
+    w2c_i1 = 6u;
+    w2c_i0 <<= (w2c_i1 & 31);
+    w2c_i1 = w2c_l3;
+    w2c_i2 = 12u;
+    w2c_i1 <<= (w2c_i2 & 31);
+    w2c_i2 = w2c_l2;
+    w2c_i3 = 18u;
+    w2c_i2 <<= (w2c_i3 & 31);
+    w2c_i3 = 1835008u;
+    w2c_i2 &= w2c_i3;
+    w2c_i1 |= w2c_i2;
+    w2c_i0 |= w2c_i1;
+    w2c_j1 = w2c_l8;
+    w2c_i1 = (u32)(w2c_j1);
+    w2c_i1 = i32_load8_u(m, (u64)(w2c_i1) + 3u);
+    w2c_i2 = 63u;
+    w2c_i1 &= w2c_i2;
+    w2c_i0 |= w2c_i1;
+    w2c_l2 = w2c_i0;
+    w2c_j0 = 4ull;
+    w2c_p1 = w2c_j0;
+    w2c_B34:;
+    w2c_j0 = w2c_p0;
+    w2c_j1 = w2c_p1;
+    w2c_j0 -= w2c_j1;
+    w2c_l9 = w2c_j0;
+    w2c_j0 = w2c_l8;
+    w2c_j1 = w2c_p1;
+    w2c_j0 += w2c_j1;
+    w2c_l8 = w2c_j0;
+    w2c_i0 = w2c_l2;
+    w2c_i1 = 4294965248u;
+    w2c_i0 += w2c_i1;
+    w2c_i1 = 63487u;
+    w2c_i0 = w2c_i0 > w2c_i1;
+    if (w2c_i0) {goto w2c_B37;}
+    w2c_i0 = w2c_l2;
+    w2c_i1 = 12u;
+    w2c_i0 >>= (w2c_i1 & 31);
+    w2c_i1 = w2c_l2;
+    w2c_i2 = 2u;
+    w2c_i1 <<= (w2c_i2 & 31);
+    w2c_i2 = 16128u;
+    w2c_i1 &= w2c_i2;
+    w2c_i0 |= w2c_i1;
+    w2c_i1 = w2c_l2;
+    w2c_i2 = 16u;
+    w2c_i1 <<= (w2c_i2 & 31);
+    w2c_i2 = 4128768u;
+    w2c_i1 &= w2c_i2;
+    w2c_i0 |= w2c_i1;
+    w2c_i1 = 8421600u;
+    w2c_i0 |= w2c_i1;
+    w2c_l2 = w2c_i0;
+    w2c_j0 = (u64)(w2c_i0);
+    w2c_j1 = 953497ull;
+    w2c_j0 *= w2c_j1;
+    w2c_j1 = 22ull;
+    w2c_j0 >>= (w2c_j1 & 63);
+    w2c_j1 = 1016ull;
+    w2c_j0 &= w2c_j1;
+    w2c_p0 = w2c_j0;
+    w2c_j1 = 66992ull;
+    w2c_j0 += w2c_j1;
+    w2c_i0 = (u32)(w2c_j0);
+    w2c_i0 = i32_load(m, (u64)(w2c_i0));
+    w2c_i1 = w2c_l2;
+    w2c_i0 = w2c_i0 != w2c_i1;
+    if (w2c_i0) {goto w2c_L21;}
+    goto w2c_B31;
+    w2c_B37:;
+    w2c_i0 = w2c_l2;
+    w2c_i1 = 4294967248u;
     w2c_i0 += w2c_i1;
     w2c_i1 = 10u;
-    w2c_i0 = w2c_i0 < w2c_i1;
-    if (w2c_i0) {goto w2c_B25;}
-    w2c_i0 = w2c_l15;
-    w2c_i1 = 65285u;
-    w2c_i0 = w2c_i0 == w2c_i1;
-    if (w2c_i0) {goto w2c_B25;}
-    w2c_i0 = w2c_l15;
-    w2c_i1 = 37u;
-    w2c_i0 = w2c_i0 != w2c_i1;
-    w2c_l17 = w2c_i0;
-    w2c_i0 = w2c_l16;
-    w2c_l15 = w2c_i0;
-    w2c_i0 = w2c_l17;
-    if (w2c_i0) {goto w2c_L26;}
-  w2c_B25:;
-  w2c_j0 = w2c_l8;
-  w2c_j1 = w2c_l5;
-  w2c_j0 -= w2c_j1;
-  w2c_l10 = w2c_j0;
-  w2c_j0 = 1ull;
-  w2c_l8 = w2c_j0;
-  w2c_j0 = w2c_l4;
-  w2c_l11 = w2c_j0;
-  w2c_B1:;
-  w2c_j0 = w2c_p1;
-  w2c_j1 = 32ull;
-  w2c_j0 += w2c_j1;
-  w2c_i0 = (u32)(w2c_j0);
-  w2c_j1 = w2c_l5;
-  i64_store(m, (u64)(w2c_i0), w2c_j1);
-  w2c_j0 = w2c_p1;
-  w2c_j1 = 24ull;
-  w2c_j0 += w2c_j1;
-  w2c_i0 = (u32)(w2c_j0);
-  w2c_j1 = w2c_l4;
-  i64_store(m, (u64)(w2c_i0), w2c_j1);
-  w2c_j0 = w2c_p0;
-  w2c_j1 = 48ull;
-  w2c_j0 += w2c_j1;
-  w2c_i0 = (u32)(w2c_j0);
-  w2c_j1 = w2c_l5;
-  i64_store(m, (u64)(w2c_i0), w2c_j1);
-  w2c_j0 = w2c_p0;
-  w2c_j1 = 40ull;
-  w2c_j0 += w2c_j1;
-  w2c_i0 = (u32)(w2c_j0);
-  w2c_j1 = w2c_l11;
-  i64_store(m, (u64)(w2c_i0), w2c_j1);
-  w2c_j0 = w2c_p0;
-  w2c_j1 = 32ull;
-  w2c_j0 += w2c_j1;
-  w2c_i0 = (u32)(w2c_j0);
-  w2c_j1 = w2c_l10;
-  i64_store(m, (u64)(w2c_i0), w2c_j1);
-  w2c_j0 = w2c_p0;
-  w2c_j1 = 24ull;
-  w2c_j0 += w2c_j1;
-  w2c_i0 = (u32)(w2c_j0);
-  w2c_j1 = w2c_l2;
-  i64_store(m, (u64)(w2c_i0), w2c_j1);
-  w2c_j0 = w2c_p0;
-  w2c_j1 = 16ull;
-  w2c_j0 += w2c_j1;
-  w2c_i0 = (u32)(w2c_j0);
-  w2c_j1 = w2c_l9;
-  i64_store(m, (u64)(w2c_i0), w2c_j1);
-  w2c_j0 = w2c_p0;
-  w2c_j1 = 8ull;
-  w2c_j0 += w2c_j1;
-  w2c_i0 = (u32)(w2c_j0);
-  w2c_j1 = w2c_l7;
-  i64_store(m, (u64)(w2c_i0), w2c_j1);
-  w2c_j0 = w2c_p0;
-  w2c_i0 = (u32)(w2c_j0);
-  w2c_j1 = w2c_l8;
-  i64_store(m, (u64)(w2c_i0), w2c_j1);
-  w2c_j0 = w2c_l3;
-  w2c_j1 = 16ull;
-  w2c_j0 += w2c_j1;
-  m->w2c_g0 = w2c_j0;
+    w2c_i0 = w2c_i0 >= w2c_i1;
+    if (w2c_i0) {goto w2c_L21;}
+    goto w2c_B19;
+    w2c_B31:;
+    w2c_j0 = w2c_p0;
+    w2c_j1 = 66996ull;
+    w2c_j0 += w2c_j1;
+    w2c_i0 = (u32)(w2c_j0);
+    w2c_i0 = i32_load8_u(m, (u64)(w2c_i0));
+    if (w2c_i0) {goto w2c_L21;}
+  w2c_B19:;
+  w2c_i0 = 0u;
   goto w2c_Bfunc;
   w2c_B0:;
   UNREACHABLE;
   w2c_Bfunc:;
+  return w2c_i0;
 }
 
-static u32 w2c_f21(module *m, u64 w2c_p0, u64 w2c_p1) {
+static u32 w2c_f24(module *m, u64 w2c_p0, u64 w2c_p1) {
   u32 w2c_l2 = 0, w2c_l3 = 0, w2c_l4 = 0, w2c_l5 = 0, w2c_l6 = 0;
   u64 w2c_l7 = 0;
   u32 w2c_i0, w2c_i1, w2c_i2, w2c_i3;
@@ -12473,7 +13053,7 @@ static u32 w2c_f21(module *m, u64 w2c_p0, u64 w2c_p1) {
   return w2c_i0;
 }
 
-static u32 w2c_f22(module *m, u32 w2c_p0, u32 w2c_p1, u64 w2c_p2, u64 w2c_p3) {
+static u32 w2c_f25(module *m, u32 w2c_p0, u32 w2c_p1, u64 w2c_p2, u64 w2c_p3) {
   u32 w2c_l7 = 0, w2c_l8 = 0, w2c_l9 = 0, w2c_l10 = 0, w2c_l11 = 0;
   u64 w2c_l4 = 0, w2c_l5 = 0, w2c_l6 = 0;
   u32 w2c_i0, w2c_i1, w2c_i2, w2c_i3;
@@ -12853,7 +13433,7 @@ static u32 w2c_f22(module *m, u32 w2c_p0, u32 w2c_p1, u64 w2c_p2, u64 w2c_p3) {
   if (w2c_i0) {goto w2c_B9;}
   w2c_j0 = w2c_p2;
   w2c_j1 = w2c_p3;
-  w2c_i0 = w2c_f21(m, w2c_j0, w2c_j1);
+  w2c_i0 = w2c_f24(m, w2c_j0, w2c_j1);
   w2c_i1 = 1u;
   w2c_i0 ^= w2c_i1;
   w2c_l8 = w2c_i0;
@@ -12868,890 +13448,233 @@ static u32 w2c_f22(module *m, u32 w2c_p0, u32 w2c_p1, u64 w2c_p2, u64 w2c_p3) {
   return w2c_i0;
 }
 
-static u32 w2c_f23(module *m, u64 w2c_p0, u64 w2c_p1) {
-  u32 w2c_l5 = 0, w2c_l6 = 0, w2c_l7 = 0, w2c_l8 = 0;
-  u64 w2c_l2 = 0, w2c_l3 = 0, w2c_l4 = 0;
+static u32 w2c_f26(module *m, u64 w2c_p0, u64 w2c_p1, u64 w2c_p2, u32 w2c_p3, u32 w2c_p4, u64 w2c_p5, u64 w2c_p6, u64 w2c_p7) {
+  u32 w2c_l15 = 0, w2c_l16 = 0, w2c_l17 = 0, w2c_l18 = 0, w2c_l19 = 0, w2c_l20 = 0;
+  u64 w2c_l8 = 0, w2c_l9 = 0, w2c_l10 = 0, w2c_l11 = 0, w2c_l12 = 0, w2c_l13 = 0, w2c_l14 = 0;
   u32 w2c_i0, w2c_i1, w2c_i2, w2c_i3;
   u64 w2c_j0, w2c_j1, w2c_j2, w2c_j3;
   w2c_j0 = m->w2c_g0;
-  w2c_j1 = 16ull;
+  w2c_j1 = 112ull;
   w2c_j0 -= w2c_j1;
-  w2c_l2 = w2c_j0;
+  w2c_l8 = w2c_j0;
   m->w2c_g0 = w2c_j0;
-  w2c_j0 = w2c_l2;
-  w2c_l2 = w2c_j0;
+  w2c_j0 = w2c_l8;
+  w2c_l8 = w2c_j0;
   w2c_j1 = 16ull;
   w2c_i0 = (u64)((s64)w2c_j0 < (s64)w2c_j1);
-  if (w2c_i0) {goto w2c_B5;}
-  w2c_j0 = w2c_p1;
-  w2c_i0 = !(w2c_j0);
-  w2c_i0 = !(w2c_i0);
-  if (w2c_i0) {goto w2c_B6;}
+  if (w2c_i0) {goto w2c_B0;}
+  w2c_j0 = w2c_p7;
+  w2c_i0 = (u32)(w2c_j0);
+  w2c_j1 = 0ull;
+  i64_store(m, (u64)(w2c_i0), w2c_j1);
   w2c_i0 = 0u;
-  w2c_l5 = w2c_i0;
-  goto w2c_B0;
-  w2c_B6:;
-  w2c_j0 = w2c_p0;
-  w2c_j1 = w2c_p1;
-  w2c_j0 += w2c_j1;
-  w2c_l3 = w2c_j0;
-  w2c_j1 = 18446744073709551615ull;
-  w2c_j0 += w2c_j1;
-  w2c_i0 = (u32)(w2c_j0);
-  w2c_i0 = i32_load8_s(m, (u64)(w2c_i0));
-  w2c_l6 = w2c_i0;
-  w2c_i1 = 0u;
-  w2c_i0 = (u32)((s32)w2c_i0 >= (s32)w2c_i1);
-  if (w2c_i0) {goto w2c_B4;}
-  w2c_j0 = 18446744073709551614ull;
-  w2c_l4 = w2c_j0;
-  w2c_j0 = w2c_l3;
-  w2c_j1 = 18446744073709551614ull;
-  w2c_j0 += w2c_j1;
-  w2c_i0 = (u32)(w2c_j0);
-  w2c_i0 = i32_load8_u(m, (u64)(w2c_i0));
-  w2c_i1 = 191u;
-  w2c_i0 = w2c_i0 > w2c_i1;
-  if (w2c_i0) {goto w2c_B7;}
-  w2c_j0 = 18446744073709551613ull;
-  w2c_j1 = 18446744073709551612ull;
-  w2c_j2 = w2c_l3;
-  w2c_j3 = 18446744073709551613ull;
-  w2c_j2 += w2c_j3;
-  w2c_i2 = (u32)(w2c_j2);
-  w2c_i2 = i32_load8_u(m, (u64)(w2c_i2));
-  w2c_i3 = 191u;
-  w2c_i2 = w2c_i2 > w2c_i3;
-  w2c_j0 = w2c_i2 ? w2c_j0 : w2c_j1;
-  w2c_l4 = w2c_j0;
-  w2c_B7:;
-  w2c_j0 = w2c_p0;
-  w2c_j1 = w2c_l4;
-  w2c_j0 += w2c_j1;
-  w2c_j1 = w2c_p1;
-  w2c_j0 += w2c_j1;
-  w2c_p1 = w2c_j0;
-  w2c_i0 = (u32)(w2c_j0);
-  w2c_i0 = i32_load8_s(m, (u64)(w2c_i0));
-  w2c_l5 = w2c_i0;
-  w2c_i1 = 255u;
-  w2c_i0 &= w2c_i1;
-  w2c_l6 = w2c_i0;
-  w2c_i0 = w2c_l5;
-  w2c_i1 = 4294967295u;
-  w2c_i0 = (u32)((s32)w2c_i0 > (s32)w2c_i1);
-  if (w2c_i0) {goto w2c_B4;}
-  w2c_j0 = w2c_p1;
-  w2c_i0 = (u32)(w2c_j0);
-  w2c_i0 = i32_load8_u(m, (u64)(w2c_i0) + 1u);
-  w2c_i1 = 63u;
-  w2c_i0 &= w2c_i1;
-  w2c_l7 = w2c_i0;
-  w2c_i0 = w2c_l5;
-  w2c_i1 = 4294967263u;
-  w2c_i0 = w2c_i0 > w2c_i1;
-  if (w2c_i0) {goto w2c_B8;}
-  w2c_i0 = w2c_l6;
-  w2c_i1 = 6u;
-  w2c_i0 <<= (w2c_i1 & 31);
-  w2c_i1 = 1984u;
-  w2c_i0 &= w2c_i1;
-  w2c_i1 = w2c_l7;
-  w2c_i0 |= w2c_i1;
-  w2c_l6 = w2c_i0;
-  goto w2c_B4;
-  w2c_B8:;
-  w2c_j0 = w2c_p1;
-  w2c_i0 = (u32)(w2c_j0);
-  w2c_i0 = i32_load8_u(m, (u64)(w2c_i0) + 2u);
-  w2c_i1 = 63u;
-  w2c_i0 &= w2c_i1;
-  w2c_l8 = w2c_i0;
-  w2c_i0 = w2c_l5;
-  w2c_i1 = 4294967279u;
-  w2c_i0 = w2c_i0 > w2c_i1;
-  if (w2c_i0) {goto w2c_B10;}
-  w2c_i0 = w2c_l7;
-  w2c_i1 = 6u;
-  w2c_i0 <<= (w2c_i1 & 31);
-  w2c_i1 = w2c_l6;
-  w2c_i2 = 12u;
-  w2c_i1 <<= (w2c_i2 & 31);
-  w2c_i2 = 61440u;
-  w2c_i1 &= w2c_i2;
-  w2c_i0 |= w2c_i1;
-  w2c_i1 = w2c_l8;
-  w2c_i0 |= w2c_i1;
-  w2c_l6 = w2c_i0;
-  goto w2c_B9;
-  w2c_B10:;
-  w2c_i0 = w2c_l8;
-  w2c_i1 = 6u;
-  w2c_i0 <<= (w2c_i1 & 31);
-  w2c_i1 = w2c_l7;
-  w2c_i2 = 12u;
-  w2c_i1 <<= (w2c_i2 & 31);
-  w2c_i2 = w2c_l6;
-  w2c_i3 = 18u;
-  w2c_i2 <<= (w2c_i3 & 31);
-  w2c_i3 = 1835008u;
-  w2c_i2 &= w2c_i3;
-  w2c_i1 |= w2c_i2;
-  w2c_i0 |= w2c_i1;
-  w2c_j1 = w2c_p1;
-  w2c_i1 = (u32)(w2c_j1);
-  w2c_i1 = i32_load8_u(m, (u64)(w2c_i1) + 3u);
-  w2c_i2 = 63u;
-  w2c_i1 &= w2c_i2;
-  w2c_i0 |= w2c_i1;
-  w2c_l6 = w2c_i0;
-  w2c_B9:;
-  w2c_i0 = w2c_l6;
-  w2c_i1 = 4294965248u;
-  w2c_i0 += w2c_i1;
-  w2c_i1 = 63487u;
-  w2c_i0 = w2c_i0 > w2c_i1;
-  if (w2c_i0) {goto w2c_B4;}
-  w2c_i0 = w2c_l6;
-  w2c_i1 = 12u;
-  w2c_i0 >>= (w2c_i1 & 31);
-  w2c_i1 = w2c_l6;
-  w2c_i2 = 2u;
-  w2c_i1 <<= (w2c_i2 & 31);
-  w2c_i2 = 16128u;
-  w2c_i1 &= w2c_i2;
-  w2c_i0 |= w2c_i1;
-  w2c_i1 = w2c_l6;
-  w2c_i2 = 16u;
-  w2c_i1 <<= (w2c_i2 & 31);
-  w2c_i2 = 4128768u;
-  w2c_i1 &= w2c_i2;
-  w2c_i0 |= w2c_i1;
-  w2c_i1 = 8421600u;
-  w2c_i0 |= w2c_i1;
-  w2c_l5 = w2c_i0;
-  w2c_j0 = (u64)(w2c_i0);
-  w2c_j1 = 953497ull;
-  w2c_j0 *= w2c_j1;
-  w2c_j1 = 22ull;
-  w2c_j0 >>= (w2c_j1 & 63);
-  w2c_j1 = 1016ull;
-  w2c_j0 &= w2c_j1;
-  w2c_p1 = w2c_j0;
-  w2c_i0 = (u32)(w2c_j0);
-  w2c_i0 = i32_load(m, (u64)(w2c_i0) + 66992u);
-  w2c_i1 = w2c_l5;
-  w2c_i0 = w2c_i0 != w2c_i1;
-  if (w2c_i0) {goto w2c_B3;}
-  w2c_j0 = w2c_p1;
-  w2c_j1 = 66996ull;
-  w2c_j0 += w2c_j1;
-  w2c_i0 = (u32)(w2c_j0);
-  w2c_i0 = i32_load8_u(m, (u64)(w2c_i0));
-  w2c_i1 = 255u;
-  w2c_i0 &= w2c_i1;
-  if (w2c_i0) {goto w2c_B3;}
-  w2c_i0 = 1u;
-  w2c_l5 = w2c_i0;
-  goto w2c_B0;
-  w2c_B5:;
-  UNREACHABLE;
-  w2c_B4:;
-  w2c_i0 = 1u;
-  w2c_l5 = w2c_i0;
-  w2c_i0 = w2c_l6;
-  w2c_i1 = 4294967248u;
-  w2c_i0 += w2c_i1;
-  w2c_i1 = 10u;
-  w2c_i0 = w2c_i0 < w2c_i1;
-  if (w2c_i0) {goto w2c_B0;}
-  w2c_i0 = w2c_l6;
-  w2c_i1 = 128u;
-  w2c_i0 = w2c_i0 < w2c_i1;
-  if (w2c_i0) {goto w2c_B2;}
-  w2c_B3:;
-  w2c_i0 = 1u;
-  w2c_l5 = w2c_i0;
-  w2c_i0 = w2c_l6;
-  w2c_i1 = 4294902000u;
-  w2c_i0 += w2c_i1;
-  w2c_i1 = 10u;
-  w2c_i0 = w2c_i0 < w2c_i1;
-  if (w2c_i0) {goto w2c_B0;}
-  w2c_i0 = w2c_l6;
-  w2c_i1 = 4294945979u;
-  w2c_i0 += w2c_i1;
-  switch (w2c_i0) {
-    case 0: goto w2c_B0;
-    case 1: goto w2c_B1;
-    case 2: goto w2c_B1;
-    case 3: goto w2c_B1;
-    case 4: goto w2c_B1;
-    case 5: goto w2c_B1;
-    case 6: goto w2c_B1;
-    case 7: goto w2c_B0;
-    default: goto w2c_B11;
-  }
-  w2c_B11:;
-  w2c_i0 = w2c_l6;
-  w2c_i1 = 24186u;
-  w2c_i0 = w2c_i0 == w2c_i1;
-  if (w2c_i0) {goto w2c_B0;}
-  w2c_i0 = w2c_l6;
-  w2c_i1 = 24319u;
-  w2c_i0 = w2c_i0 != w2c_i1;
-  if (w2c_i0) {goto w2c_B1;}
-  goto w2c_B0;
-  w2c_B2:;
-  w2c_i0 = w2c_l6;
-  w2c_i1 = 95u;
-  w2c_i0 = w2c_i0 == w2c_i1;
-  if (w2c_i0) {goto w2c_B0;}
-  w2c_i0 = w2c_l6;
-  w2c_i1 = 4294967248u;
-  w2c_i0 += w2c_i1;
-  w2c_i1 = 10u;
-  w2c_i0 = w2c_i0 < w2c_i1;
-  if (w2c_i0) {goto w2c_B0;}
-  w2c_i0 = w2c_l6;
-  w2c_i1 = 95u;
-  w2c_i0 &= w2c_i1;
-  w2c_i1 = 4294967231u;
-  w2c_i0 += w2c_i1;
-  w2c_i1 = 26u;
-  w2c_i0 = w2c_i0 < w2c_i1;
-  if (w2c_i0) {goto w2c_B0;}
-  w2c_B1:;
-  w2c_j0 = w2c_l2;
-  w2c_j1 = 8ull;
-  w2c_j0 += w2c_j1;
-  w2c_i1 = w2c_l6;
-  w2c_f25(m, w2c_j0, w2c_i1);
-  w2c_j0 = w2c_l2;
-  w2c_i0 = (u32)(w2c_j0);
-  w2c_i0 = i32_load8_u(m, (u64)(w2c_i0) + 8u);
-  w2c_i1 = 1u;
-  w2c_i0 = w2c_i0 == w2c_i1;
-  w2c_l5 = w2c_i0;
-  w2c_B0:;
-  w2c_j0 = w2c_l2;
-  w2c_j1 = 16ull;
-  w2c_j0 += w2c_j1;
-  m->w2c_g0 = w2c_j0;
-  w2c_i0 = w2c_l5;
-  return w2c_i0;
-}
-
-static u32 w2c_f24(module *m, u64 w2c_p0, u64 w2c_p1) {
-  u32 w2c_l3 = 0, w2c_l4 = 0, w2c_l5 = 0, w2c_l6 = 0;
-  u64 w2c_l2 = 0;
-  u32 w2c_i0, w2c_i1, w2c_i2, w2c_i3;
-  u64 w2c_j0, w2c_j1, w2c_j2;
-  w2c_j0 = m->w2c_g0;
-  w2c_j1 = 16ull;
-  w2c_j0 -= w2c_j1;
-  w2c_l2 = w2c_j0;
-  m->w2c_g0 = w2c_j0;
-  w2c_j0 = w2c_l2;
-  w2c_l2 = w2c_j0;
-  w2c_j1 = 16ull;
-  w2c_i0 = (u64)((s64)w2c_j0 < (s64)w2c_j1);
-  if (w2c_i0) {goto w2c_B6;}
-  w2c_j0 = w2c_p1;
-  w2c_j1 = 3ull;
-  w2c_i0 = w2c_j0 < w2c_j1;
-  if (w2c_i0) {goto w2c_B8;}
-  w2c_j0 = w2c_p0;
-  w2c_i0 = (u32)(w2c_j0);
-  w2c_i0 = i32_load8_u(m, (u64)(w2c_i0));
-  w2c_l3 = w2c_i0;
-  w2c_i1 = 240u;
-  w2c_i0 &= w2c_i1;
-  w2c_i1 = 224u;
-  w2c_i0 = w2c_i0 != w2c_i1;
-  if (w2c_i0) {goto w2c_B7;}
-  w2c_j0 = w2c_p0;
-  w2c_i0 = (u32)(w2c_j0);
-  w2c_i0 = i32_load8_u(m, (u64)(w2c_i0) + 1u);
-  w2c_l4 = w2c_i0;
-  w2c_i1 = 8u;
-  w2c_i0 <<= (w2c_i1 & 31);
-  w2c_j1 = w2c_p0;
-  w2c_i1 = (u32)(w2c_j1);
-  w2c_i1 = i32_load8_u(m, (u64)(w2c_i1) + 2u);
-  w2c_l5 = w2c_i1;
-  w2c_i2 = 16u;
-  w2c_i1 <<= (w2c_i2 & 31);
-  w2c_i0 |= w2c_i1;
-  w2c_i1 = w2c_l3;
-  w2c_i0 |= w2c_i1;
-  w2c_l6 = w2c_i0;
-  w2c_i0 = w2c_l3;
-  w2c_i1 = 12u;
-  w2c_i0 <<= (w2c_i1 & 31);
-  w2c_i1 = w2c_l4;
-  w2c_i2 = 6u;
-  w2c_i1 <<= (w2c_i2 & 31);
-  w2c_i0 += w2c_i1;
-  w2c_i1 = w2c_l5;
-  w2c_i0 += w2c_i1;
-  w2c_i1 = 4294041472u;
-  w2c_i0 += w2c_i1;
-  w2c_l3 = w2c_i0;
-  w2c_i0 = w2c_l6;
-  w2c_i1 = w2c_l6;
-  w2c_j1 = (u64)(w2c_i1);
-  w2c_j2 = 953497ull;
-  w2c_j1 *= w2c_j2;
-  w2c_j2 = 22ull;
-  w2c_j1 >>= (w2c_j2 & 63);
-  w2c_j2 = 1016ull;
-  w2c_j1 &= w2c_j2;
-  w2c_p0 = w2c_j1;
-  w2c_j2 = 66992ull;
-  w2c_j1 += w2c_j2;
-  w2c_i1 = (u32)(w2c_j1);
-  w2c_i1 = i32_load(m, (u64)(w2c_i1));
-  w2c_i0 = w2c_i0 != w2c_i1;
-  if (w2c_i0) {goto w2c_B4;}
-  goto w2c_B5;
-  w2c_B8:;
-  w2c_j0 = w2c_p1;
-  w2c_i0 = !(w2c_j0);
-  w2c_i0 = !(w2c_i0);
-  if (w2c_i0) {goto w2c_B9;}
-  w2c_i0 = 0u;
-  w2c_l6 = w2c_i0;
-  goto w2c_B0;
-  w2c_B9:;
-  w2c_j0 = w2c_p0;
-  w2c_i0 = (u32)(w2c_j0);
-  w2c_i0 = i32_load8_u(m, (u64)(w2c_i0));
-  w2c_l3 = w2c_i0;
-  w2c_B7:;
-  w2c_i0 = w2c_l3;
-  w2c_i0 = (u32)(s32)(s8)(u8)(w2c_i0);
-  w2c_i1 = 4294967295u;
-  w2c_i0 = (u32)((s32)w2c_i0 > (s32)w2c_i1);
-  if (w2c_i0) {goto w2c_B10;}
-  w2c_j0 = w2c_p0;
-  w2c_i0 = (u32)(w2c_j0);
-  w2c_i0 = i32_load8_u(m, (u64)(w2c_i0) + 1u);
-  w2c_i1 = 63u;
-  w2c_i0 &= w2c_i1;
-  w2c_l6 = w2c_i0;
-  w2c_i0 = w2c_l3;
-  w2c_i1 = 223u;
-  w2c_i0 = w2c_i0 > w2c_i1;
-  if (w2c_i0) {goto w2c_B11;}
-  w2c_i0 = w2c_l3;
-  w2c_i1 = 6u;
-  w2c_i0 <<= (w2c_i1 & 31);
-  w2c_i1 = 1984u;
-  w2c_i0 &= w2c_i1;
-  w2c_i1 = w2c_l6;
-  w2c_i0 |= w2c_i1;
-  w2c_l3 = w2c_i0;
-  goto w2c_B10;
-  w2c_B11:;
-  w2c_j0 = w2c_p0;
-  w2c_i0 = (u32)(w2c_j0);
-  w2c_i0 = i32_load8_u(m, (u64)(w2c_i0) + 2u);
-  w2c_i1 = 63u;
-  w2c_i0 &= w2c_i1;
-  w2c_l4 = w2c_i0;
-  w2c_i0 = w2c_l3;
-  w2c_i1 = 239u;
-  w2c_i0 = w2c_i0 > w2c_i1;
-  if (w2c_i0) {goto w2c_B12;}
-  w2c_i0 = w2c_l6;
-  w2c_i1 = 6u;
-  w2c_i0 <<= (w2c_i1 & 31);
-  w2c_i1 = w2c_l3;
-  w2c_i2 = 12u;
-  w2c_i1 <<= (w2c_i2 & 31);
-  w2c_i2 = 61440u;
-  w2c_i1 &= w2c_i2;
-  w2c_i0 |= w2c_i1;
-  w2c_i1 = w2c_l4;
-  w2c_i0 |= w2c_i1;
-  w2c_l3 = w2c_i0;
-  goto w2c_B10;
-  w2c_B12:;
-  w2c_i0 = w2c_l4;
-  w2c_i1 = 6u;
-  w2c_i0 <<= (w2c_i1 & 31);
-  w2c_i1 = w2c_l6;
-  w2c_i2 = 12u;
-  w2c_i1 <<= (w2c_i2 & 31);
-  w2c_i2 = w2c_l3;
-  w2c_i3 = 18u;
-  w2c_i2 <<= (w2c_i3 & 31);
-  w2c_i3 = 1835008u;
-  w2c_i2 &= w2c_i3;
-  w2c_i1 |= w2c_i2;
-  w2c_i0 |= w2c_i1;
-  w2c_j1 = w2c_p0;
-  w2c_i1 = (u32)(w2c_j1);
-  w2c_i1 = i32_load8_u(m, (u64)(w2c_i1) + 3u);
-  w2c_i2 = 63u;
-  w2c_i1 &= w2c_i2;
-  w2c_i0 |= w2c_i1;
-  w2c_l3 = w2c_i0;
-  w2c_B10:;
-  w2c_i0 = w2c_l3;
-  w2c_i1 = 4294965248u;
-  w2c_i0 += w2c_i1;
-  w2c_i1 = 63487u;
-  w2c_i0 = w2c_i0 > w2c_i1;
-  if (w2c_i0) {goto w2c_B13;}
-  w2c_i0 = w2c_l3;
-  w2c_i1 = 12u;
-  w2c_i0 >>= (w2c_i1 & 31);
-  w2c_i1 = w2c_l3;
-  w2c_i2 = 2u;
-  w2c_i1 <<= (w2c_i2 & 31);
-  w2c_i2 = 16128u;
-  w2c_i1 &= w2c_i2;
-  w2c_i0 |= w2c_i1;
-  w2c_i1 = w2c_l3;
-  w2c_i2 = 16u;
-  w2c_i1 <<= (w2c_i2 & 31);
-  w2c_i2 = 4128768u;
-  w2c_i1 &= w2c_i2;
-  w2c_i0 |= w2c_i1;
-  w2c_i1 = 8421600u;
-  w2c_i0 |= w2c_i1;
-  w2c_l6 = w2c_i0;
-  w2c_j0 = (u64)(w2c_i0);
-  w2c_j1 = 953497ull;
-  w2c_j0 *= w2c_j1;
-  w2c_j1 = 22ull;
-  w2c_j0 >>= (w2c_j1 & 63);
-  w2c_j1 = 1016ull;
-  w2c_j0 &= w2c_j1;
-  w2c_p0 = w2c_j0;
-  w2c_j1 = 66992ull;
-  w2c_j0 += w2c_j1;
-  w2c_i0 = (u32)(w2c_j0);
-  w2c_i0 = i32_load(m, (u64)(w2c_i0));
-  w2c_i1 = w2c_l6;
-  w2c_i0 = w2c_i0 == w2c_i1;
-  if (w2c_i0) {goto w2c_B5;}
-  goto w2c_B3;
-  w2c_B13:;
-  w2c_i0 = w2c_l3;
-  w2c_i1 = 4294967248u;
-  w2c_i0 += w2c_i1;
-  w2c_i1 = 10u;
-  w2c_i0 = w2c_i0 >= w2c_i1;
-  if (w2c_i0) {goto w2c_B4;}
-  w2c_i0 = 1u;
-  w2c_l6 = w2c_i0;
-  goto w2c_B0;
-  w2c_B6:;
-  UNREACHABLE;
-  w2c_B5:;
-  w2c_j0 = w2c_p0;
-  w2c_j1 = 66996ull;
-  w2c_j0 += w2c_j1;
-  w2c_i0 = (u32)(w2c_j0);
-  w2c_i0 = i32_load8_u(m, (u64)(w2c_i0));
-  if (w2c_i0) {goto w2c_B4;}
-  w2c_i0 = 1u;
-  w2c_l6 = w2c_i0;
-  goto w2c_B0;
-  w2c_B4:;
-  w2c_i0 = w2c_l3;
-  w2c_i1 = 128u;
-  w2c_i0 = w2c_i0 < w2c_i1;
-  if (w2c_i0) {goto w2c_B2;}
-  w2c_B3:;
-  w2c_i0 = 1u;
-  w2c_l6 = w2c_i0;
-  w2c_i0 = w2c_l3;
-  w2c_i1 = 4294902000u;
-  w2c_i0 += w2c_i1;
-  w2c_i1 = 10u;
-  w2c_i0 = w2c_i0 < w2c_i1;
-  if (w2c_i0) {goto w2c_B0;}
-  w2c_i0 = w2c_l3;
-  w2c_i1 = 4294945979u;
-  w2c_i0 += w2c_i1;
-  switch (w2c_i0) {
-    case 0: goto w2c_B0;
-    case 1: goto w2c_B1;
-    case 2: goto w2c_B1;
-    case 3: goto w2c_B1;
-    case 4: goto w2c_B1;
-    case 5: goto w2c_B1;
-    case 6: goto w2c_B1;
-    case 7: goto w2c_B0;
-    default: goto w2c_B14;
-  }
-  w2c_B14:;
-  w2c_i0 = w2c_l3;
-  w2c_i1 = 24186u;
-  w2c_i0 = w2c_i0 == w2c_i1;
-  if (w2c_i0) {goto w2c_B0;}
-  w2c_i0 = w2c_l3;
-  w2c_i1 = 24319u;
-  w2c_i0 = w2c_i0 != w2c_i1;
-  if (w2c_i0) {goto w2c_B1;}
-  goto w2c_B0;
-  w2c_B2:;
-  w2c_i0 = 1u;
-  w2c_l6 = w2c_i0;
-  w2c_i0 = w2c_l3;
-  w2c_i1 = 95u;
-  w2c_i0 = w2c_i0 == w2c_i1;
-  if (w2c_i0) {goto w2c_B0;}
-  w2c_i0 = w2c_l3;
-  w2c_i1 = 4294967248u;
-  w2c_i0 += w2c_i1;
-  w2c_i1 = 10u;
-  w2c_i0 = w2c_i0 < w2c_i1;
-  if (w2c_i0) {goto w2c_B0;}
-  w2c_i0 = w2c_l3;
-  w2c_i1 = 95u;
-  w2c_i0 &= w2c_i1;
-  w2c_i1 = 4294967231u;
-  w2c_i0 += w2c_i1;
-  w2c_i1 = 26u;
-  w2c_i0 = w2c_i0 < w2c_i1;
-  if (w2c_i0) {goto w2c_B0;}
-  w2c_B1:;
-  w2c_j0 = w2c_l2;
-  w2c_j1 = 8ull;
-  w2c_j0 += w2c_j1;
-  w2c_i1 = w2c_l3;
-  w2c_f25(m, w2c_j0, w2c_i1);
-  w2c_j0 = w2c_l2;
-  w2c_i0 = (u32)(w2c_j0);
-  w2c_i0 = i32_load8_u(m, (u64)(w2c_i0) + 8u);
-  w2c_i1 = 1u;
-  w2c_i0 = w2c_i0 == w2c_i1;
-  w2c_l6 = w2c_i0;
-  w2c_B0:;
-  w2c_j0 = w2c_l2;
-  w2c_j1 = 16ull;
-  w2c_j0 += w2c_j1;
-  m->w2c_g0 = w2c_j0;
-  w2c_i0 = w2c_l6;
-  return w2c_i0;
-}
-
-static void w2c_f25(module *m, u64 w2c_p0, u32 w2c_p1) {
-  u32 w2c_l2 = 0, w2c_l3 = 0;
-  u32 w2c_i0, w2c_i1;
-  u64 w2c_j0, w2c_j1;
-  w2c_j0 = m->w2c_g0;
-  w2c_j1 = 16ull;
-  w2c_i0 = (u64)((s64)w2c_j0 < (s64)w2c_j1);
-  if (w2c_i0) {goto w2c_B3;}
-  w2c_i0 = 1u;
-  w2c_l2 = w2c_i0;
-  w2c_i0 = w2c_p1;
-  w2c_i1 = 26496u;
-  w2c_i0 = (u32)((s32)w2c_i0 > (s32)w2c_i1);
-  if (w2c_i0) {goto w2c_B13;}
-  w2c_i0 = 0u;
-  w2c_l3 = w2c_i0;
-  w2c_i0 = w2c_p1;
-  w2c_i1 = 20490u;
-  w2c_i0 = (u32)((s32)w2c_i0 > (s32)w2c_i1);
-  if (w2c_i0) {goto w2c_B14;}
-  w2c_i0 = w2c_p1;
-  w2c_i1 = 20139u;
-  w2c_i0 = (u32)((s32)w2c_i0 > (s32)w2c_i1);
-  if (w2c_i0) {goto w2c_B15;}
-  w2c_i0 = w2c_p1;
-  w2c_i1 = 19975u;
-  w2c_i0 = w2c_i0 == w2c_i1;
-  if (w2c_i0) {goto w2c_B12;}
-  w2c_i0 = w2c_p1;
-  w2c_i1 = 20010u;
-  w2c_i0 = w2c_i0 == w2c_i1;
-  if (w2c_i0) {goto w2c_B0;}
-  goto w2c_B1;
-  w2c_B15:;
-  w2c_i0 = w2c_p1;
-  w2c_i1 = 4294947156u;
-  w2c_i0 += w2c_i1;
-  switch (w2c_i0) {
-    case 0: goto w2c_B8;
-    case 1: goto w2c_B1;
-    case 2: goto w2c_B1;
-    case 3: goto w2c_B1;
-    case 4: goto w2c_B1;
-    case 5: goto w2c_B1;
-    case 6: goto w2c_B1;
-    case 7: goto w2c_B1;
-    case 8: goto w2c_B1;
-    case 9: goto w2c_B1;
-    case 10: goto w2c_B1;
-    case 11: goto w2c_B1;
-    case 12: goto w2c_B1;
-    case 13: goto w2c_B1;
-    case 14: goto w2c_B1;
-    case 15: goto w2c_B1;
-    case 16: goto w2c_B1;
-    case 17: goto w2c_B1;
-    case 18: goto w2c_B1;
-    case 19: goto w2c_B9;
-    default: goto w2c_B16;
-  }
-  w2c_B16:;
-  w2c_i0 = w2c_p1;
-  w2c_i1 = 20191u;
-  w2c_i0 = w2c_i0 == w2c_i1;
-  if (w2c_i0) {goto w2c_B10;}
-  w2c_i0 = w2c_p1;
-  w2c_i1 = 20336u;
-  w2c_i0 = w2c_i0 != w2c_i1;
-  if (w2c_i0) {goto w2c_B1;}
-  goto w2c_B2;
-  w2c_B14:;
-  w2c_i0 = w2c_p1;
-  w2c_i1 = 21312u;
-  w2c_i0 = (u32)((s32)w2c_i0 > (s32)w2c_i1);
-  if (w2c_i0) {goto w2c_B17;}
-  w2c_i0 = w2c_p1;
-  w2c_i1 = 20491u;
-  w2c_i0 = w2c_i0 == w2c_i1;
-  if (w2c_i0) {goto w2c_B0;}
-  w2c_i0 = w2c_p1;
-  w2c_i1 = 20740u;
-  w2c_i0 = w2c_i0 == w2c_i1;
-  if (w2c_i0) {goto w2c_B9;}
-  w2c_i0 = w2c_p1;
-  w2c_i1 = 20806u;
-  w2c_i0 = w2c_i0 != w2c_i1;
-  if (w2c_i0) {goto w2c_B1;}
-  w2c_i0 = 6u;
-  w2c_l3 = w2c_i0;
-  goto w2c_B0;
-  w2c_B17:;
-  w2c_i0 = w2c_p1;
-  w2c_i1 = 4294945983u;
-  w2c_i0 += w2c_i1;
-  switch (w2c_i0) {
-    case 0: goto w2c_B18;
-    case 1: goto w2c_B1;
-    case 2: goto w2c_B10;
-    default: goto w2c_B19;
-  }
-  w2c_B19:;
-  w2c_i0 = w2c_p1;
-  w2c_i1 = 22419u;
-  w2c_i0 = w2c_i0 == w2c_i1;
-  if (w2c_i0) {goto w2c_B7;}
-  w2c_i0 = w2c_p1;
-  w2c_i1 = 25342u;
-  w2c_i0 = w2c_i0 != w2c_i1;
-  if (w2c_i0) {goto w2c_B1;}
-  w2c_B18:;
-  w2c_i0 = 1u;
-  w2c_l3 = w2c_i0;
-  w2c_i0 = 1u;
-  w2c_l2 = w2c_i0;
-  goto w2c_B0;
-  w2c_B13:;
-  w2c_i0 = w2c_p1;
-  w2c_i1 = 28566u;
-  w2c_i0 = (u32)((s32)w2c_i0 > (s32)w2c_i1);
-  if (w2c_i0) {goto w2c_B20;}
-  w2c_i0 = w2c_p1;
-  w2c_i1 = 27806u;
-  w2c_i0 = (u32)((s32)w2c_i0 > (s32)w2c_i1);
-  if (w2c_i0) {goto w2c_B21;}
-  w2c_i0 = w2c_p1;
-  w2c_i1 = 26497u;
-  w2c_i0 = w2c_i0 == w2c_i1;
-  if (w2c_i0) {goto w2c_B4;}
-  w2c_i0 = w2c_p1;
-  w2c_i1 = 26997u;
-  w2c_i0 = w2c_i0 == w2c_i1;
-  if (w2c_i0) {goto w2c_B4;}
-  w2c_i0 = w2c_p1;
-  w2c_i1 = 27491u;
-  w2c_i0 = w2c_i0 != w2c_i1;
-  if (w2c_i0) {goto w2c_B1;}
-  w2c_i0 = 13u;
-  w2c_l3 = w2c_i0;
-  goto w2c_B0;
-  w2c_B21:;
-  w2c_i0 = w2c_p1;
-  w2c_i1 = 27807u;
-  w2c_i0 = w2c_i0 == w2c_i1;
-  if (w2c_i0) {goto w2c_B22;}
-  w2c_i0 = w2c_p1;
-  w2c_i1 = 28071u;
-  w2c_i0 = w2c_i0 == w2c_i1;
-  if (w2c_i0) {goto w2c_B5;}
-  w2c_i0 = w2c_p1;
-  w2c_i1 = 28317u;
-  w2c_i0 = w2c_i0 != w2c_i1;
-  if (w2c_i0) {goto w2c_B1;}
-  w2c_B22:;
-  w2c_i0 = 11u;
-  w2c_l3 = w2c_i0;
-  goto w2c_B0;
-  w2c_B20:;
-  w2c_i0 = w2c_p1;
-  w2c_i1 = 31343u;
-  w2c_i0 = (u32)((s32)w2c_i0 > (s32)w2c_i1);
-  if (w2c_i0) {goto w2c_B23;}
-  w2c_i0 = w2c_p1;
-  w2c_i1 = 28567u;
-  w2c_i0 = w2c_i0 == w2c_i1;
-  if (w2c_i0) {goto w2c_B5;}
-  w2c_i0 = w2c_p1;
-  w2c_i1 = 30334u;
-  w2c_i0 = w2c_i0 == w2c_i1;
-  if (w2c_i0) {goto w2c_B2;}
-  w2c_i0 = w2c_p1;
-  w2c_i1 = 31213u;
-  w2c_i0 = w2c_i0 != w2c_i1;
-  if (w2c_i0) {goto w2c_B1;}
-  w2c_i0 = 9u;
-  w2c_l3 = w2c_i0;
-  goto w2c_B0;
-  w2c_B23:;
-  w2c_i0 = w2c_p1;
-  w2c_i1 = 36616u;
-  w2c_i0 = (u32)((s32)w2c_i0 > (s32)w2c_i1);
-  if (w2c_i0) {goto w2c_B11;}
-  w2c_i0 = w2c_p1;
-  w2c_i1 = 31344u;
-  w2c_i0 = w2c_i0 == w2c_i1;
-  if (w2c_i0) {goto w2c_B6;}
-  w2c_i0 = w2c_p1;
-  w2c_i1 = 33836u;
-  w2c_i0 = w2c_i0 != w2c_i1;
-  if (w2c_i0) {goto w2c_B1;}
-  w2c_B12:;
-  w2c_i0 = 4u;
-  w2c_l3 = w2c_i0;
-  goto w2c_B0;
-  w2c_B11:;
-  w2c_i0 = w2c_p1;
-  w2c_i1 = 36617u;
-  w2c_i0 = w2c_i0 == w2c_i1;
-  if (w2c_i0) {goto w2c_B24;}
-  w2c_i0 = w2c_p1;
-  w2c_i1 = 36733u;
-  w2c_i0 = w2c_i0 != w2c_i1;
-  if (w2c_i0) {goto w2c_B1;}
-  w2c_B24:;
-  w2c_i0 = 14u;
-  w2c_l3 = w2c_i0;
-  goto w2c_B0;
-  w2c_B10:;
-  w2c_i0 = 3u;
-  w2c_l3 = w2c_i0;
-  goto w2c_B0;
-  w2c_B9:;
-  w2c_i0 = 5u;
-  w2c_l3 = w2c_i0;
-  goto w2c_B0;
-  w2c_B8:;
-  w2c_i0 = 7u;
-  w2c_l3 = w2c_i0;
-  goto w2c_B0;
-  w2c_B7:;
+  w2c_l15 = w2c_i0;
   w2c_i0 = 8u;
-  w2c_l3 = w2c_i0;
-  goto w2c_B0;
-  w2c_B6:;
-  w2c_i0 = 10u;
-  w2c_l3 = w2c_i0;
-  goto w2c_B0;
-  w2c_B5:;
-  w2c_i0 = 12u;
-  w2c_l3 = w2c_i0;
-  goto w2c_B0;
-  w2c_B4:;
-  w2c_i0 = 15u;
-  w2c_l3 = w2c_i0;
-  goto w2c_B0;
+  w2c_l16 = w2c_i0;
+  w2c_i0 = w2c_p3;
+  switch (w2c_i0) {
+    case 0: goto w2c_B2;
+    case 1: goto w2c_B3;
+    default: goto w2c_B1;
+  }
   w2c_B3:;
-  UNREACHABLE;
+  w2c_i0 = 1u;
+  w2c_l15 = w2c_i0;
   w2c_B2:;
-  w2c_i0 = 2u;
-  w2c_l3 = w2c_i0;
-  goto w2c_B0;
-  w2c_B1:;
-  w2c_i0 = 0u;
-  w2c_l2 = w2c_i0;
-  w2c_i0 = 0u;
-  w2c_l3 = w2c_i0;
-  w2c_B0:;
-  w2c_j0 = w2c_p0;
+  w2c_i0 = w2c_p4;
+  w2c_i1 = 15u;
+  w2c_i0 = w2c_i0 > w2c_i1;
+  if (w2c_i0) {goto w2c_B1;}
+  w2c_i0 = w2c_p4;
+  w2c_j0 = (u64)(w2c_i0);
+  w2c_j1 = 66976ull;
+  w2c_j0 += w2c_j1;
   w2c_i0 = (u32)(w2c_j0);
-  w2c_i1 = w2c_l3;
-  i32_store8(m, (u64)(w2c_i0) + 1, w2c_i1);
+  w2c_i0 = i32_load8_u(m, (u64)(w2c_i0));
+  w2c_p4 = w2c_i0;
+  w2c_j0 = w2c_p1;
+  w2c_j1 = w2c_p2;
+  w2c_i0 = w2c_j0 == w2c_j1;
+  if (w2c_i0) {goto w2c_B4;}
+  w2c_i0 = 5u;
+  w2c_l16 = w2c_i0;
+  w2c_j0 = w2c_p1;
+  w2c_j1 = w2c_p2;
+  w2c_i0 = w2c_j0 < w2c_j1;
+  if (w2c_i0) {goto w2c_B1;}
   w2c_j0 = w2c_p0;
+  w2c_j1 = w2c_p2;
+  w2c_j0 += w2c_j1;
   w2c_i0 = (u32)(w2c_j0);
-  w2c_i1 = w2c_l2;
-  i32_store8(m, (u64)(w2c_i0), w2c_i1);
-}
-
-static u32 w2c_f26(module *m, u64 w2c_p0, u64 w2c_p1) {
-  u32 w2c_l6 = 0, w2c_l7 = 0, w2c_l8 = 0, w2c_l9 = 0, w2c_l10 = 0;
-  u64 w2c_l2 = 0, w2c_l3 = 0, w2c_l4 = 0, w2c_l5 = 0;
-  u32 w2c_i0, w2c_i1, w2c_i2, w2c_i3;
-  u64 w2c_j0, w2c_j1;
-  w2c_j0 = m->w2c_g0;
-  w2c_j1 = 16ull;
-  w2c_j0 -= w2c_j1;
-  w2c_l2 = w2c_j0;
-  m->w2c_g0 = w2c_j0;
-  w2c_j0 = w2c_l2;
-  w2c_l3 = w2c_j0;
-  w2c_j1 = 16ull;
-  w2c_i0 = (u64)((s64)w2c_j0 < (s64)w2c_j1);
-  if (w2c_i0) {goto w2c_B2;}
-  w2c_L3:
-    w2c_j0 = w2c_p1;
+  w2c_i0 = i32_load8_s(m, (u64)(w2c_i0));
+  w2c_i1 = 4294967232u;
+  w2c_i0 = (u32)((s32)w2c_i0 < (s32)w2c_i1);
+  if (w2c_i0) {goto w2c_B1;}
+  w2c_B4:;
+  w2c_i0 = 0u;
+  w2c_l16 = w2c_i0;
+  w2c_j0 = w2c_l8;
+  w2c_i0 = (u32)(w2c_j0);
+  w2c_i1 = 0u;
+  i32_store(m, (u64)(w2c_i0) + 74, w2c_i1);
+  w2c_j0 = w2c_l8;
+  w2c_i0 = (u32)(w2c_j0);
+  w2c_i1 = w2c_p4;
+  i32_store8(m, (u64)(w2c_i0) + 73, w2c_i1);
+  w2c_j0 = w2c_l8;
+  w2c_i0 = (u32)(w2c_j0);
+  w2c_i1 = w2c_l15;
+  i32_store8(m, (u64)(w2c_i0) + 72, w2c_i1);
+  w2c_j0 = w2c_l8;
+  w2c_i0 = (u32)(w2c_j0);
+  w2c_i1 = 0u;
+  i32_store16(m, (u64)(w2c_i0) + 78, w2c_i1);
+  w2c_j0 = 0ull;
+  w2c_l9 = w2c_j0;
+  w2c_j0 = w2c_l8;
+  w2c_i0 = (u32)(w2c_j0);
+  w2c_j1 = 0ull;
+  i64_store(m, (u64)(w2c_i0) + 64, w2c_j1);
+  w2c_j0 = w2c_l8;
+  w2c_i0 = (u32)(w2c_j0);
+  w2c_j1 = 0ull;
+  i64_store(m, (u64)(w2c_i0) + 56, w2c_j1);
+  w2c_j0 = w2c_l8;
+  w2c_i0 = (u32)(w2c_j0);
+  w2c_j1 = 0ull;
+  i64_store(m, (u64)(w2c_i0) + 48, w2c_j1);
+  w2c_j0 = w2c_l8;
+  w2c_i0 = (u32)(w2c_j0);
+  w2c_j1 = 0ull;
+  i64_store(m, (u64)(w2c_i0) + 40, w2c_j1);
+  w2c_j0 = w2c_l8;
+  w2c_i0 = (u32)(w2c_j0);
+  w2c_j1 = 0ull;
+  i64_store(m, (u64)(w2c_i0) + 32, w2c_j1);
+  w2c_j0 = w2c_l8;
+  w2c_i0 = (u32)(w2c_j0);
+  w2c_j1 = 0ull;
+  i64_store(m, (u64)(w2c_i0) + 24, w2c_j1);
+  w2c_j0 = w2c_l8;
+  w2c_i0 = (u32)(w2c_j0);
+  w2c_j1 = 0ull;
+  i64_store(m, (u64)(w2c_i0) + 16, w2c_j1);
+  w2c_j0 = w2c_l8;
+  w2c_i0 = (u32)(w2c_j0);
+  w2c_j1 = w2c_p1;
+  i64_store(m, (u64)(w2c_i0) + 88, w2c_j1);
+  w2c_j0 = w2c_l8;
+  w2c_i0 = (u32)(w2c_j0);
+  w2c_j1 = w2c_p1;
+  w2c_j2 = w2c_p2;
+  w2c_j1 -= w2c_j2;
+  i64_store(m, (u64)(w2c_i0) + 104, w2c_j1);
+  w2c_j0 = w2c_l8;
+  w2c_i0 = (u32)(w2c_j0);
+  w2c_j1 = w2c_p0;
+  i64_store(m, (u64)(w2c_i0) + 80, w2c_j1);
+  w2c_j0 = w2c_l8;
+  w2c_i0 = (u32)(w2c_j0);
+  w2c_j1 = w2c_p0;
+  w2c_j2 = w2c_p2;
+  w2c_j1 += w2c_j2;
+  i64_store(m, (u64)(w2c_i0) + 96, w2c_j1);
+  w2c_j0 = w2c_p6;
+  w2c_i0 = !(w2c_j0);
+  if (w2c_i0) {goto w2c_B5;}
+  w2c_j0 = 0ull;
+  w2c_l9 = w2c_j0;
+  w2c_L6:
+    w2c_j0 = w2c_l8;
+    w2c_j1 = 16ull;
+    w2c_j0 += w2c_j1;
+    w2c_j1 = w2c_l8;
+    w2c_j2 = 72ull;
+    w2c_j1 += w2c_j2;
+    w2c_f27(m, w2c_j0, w2c_j1);
+    w2c_j0 = w2c_l8;
+    w2c_i0 = (u32)(w2c_j0);
+    w2c_i0 = i32_load8_u(m, (u64)(w2c_i0) + 16u);
+    w2c_i1 = 1u;
+    w2c_i0 = w2c_i0 != w2c_i1;
+    if (w2c_i0) {goto w2c_B5;}
+    w2c_j0 = w2c_l8;
+    w2c_i0 = (u32)(w2c_j0);
+    w2c_j0 = i64_load(m, (u64)(w2c_i0) + 48u);
+    w2c_p1 = w2c_j0;
+    w2c_j0 = w2c_l8;
+    w2c_i0 = (u32)(w2c_j0);
+    w2c_j0 = i64_load(m, (u64)(w2c_i0) + 64u);
+    w2c_l10 = w2c_j0;
+    w2c_j0 = w2c_l8;
+    w2c_i0 = (u32)(w2c_j0);
+    w2c_j0 = i64_load(m, (u64)(w2c_i0) + 56u);
+    w2c_l11 = w2c_j0;
+    w2c_j0 = w2c_l8;
+    w2c_i0 = (u32)(w2c_j0);
+    w2c_j0 = i64_load(m, (u64)(w2c_i0) + 40u);
+    w2c_p0 = w2c_j0;
+    w2c_j0 = w2c_l8;
+    w2c_i0 = (u32)(w2c_j0);
+    w2c_j0 = i64_load(m, (u64)(w2c_i0) + 24u);
+    w2c_l12 = w2c_j0;
+    w2c_j0 = w2c_l8;
+    w2c_i0 = (u32)(w2c_j0);
+    w2c_j0 = i64_load(m, (u64)(w2c_i0) + 32u);
+    w2c_p2 = w2c_j0;
     w2c_j1 = 3ull;
     w2c_i0 = w2c_j0 < w2c_j1;
-    if (w2c_i0) {goto w2c_B8;}
-    w2c_j0 = w2c_p0;
+    if (w2c_i0) {goto w2c_B14;}
+    w2c_j0 = w2c_l12;
+    w2c_j1 = w2c_p2;
+    w2c_j0 += w2c_j1;
+    w2c_l13 = w2c_j0;
+    w2c_j1 = 18446744073709551613ull;
+    w2c_j0 += w2c_j1;
     w2c_i0 = (u32)(w2c_j0);
     w2c_i0 = i32_load8_u(m, (u64)(w2c_i0));
-    w2c_l6 = w2c_i0;
+    w2c_p3 = w2c_i0;
     w2c_i1 = 240u;
     w2c_i0 &= w2c_i1;
     w2c_i1 = 224u;
     w2c_i0 = w2c_i0 != w2c_i1;
-    if (w2c_i0) {goto w2c_B7;}
-    w2c_j0 = w2c_p0;
-    w2c_i0 = (u32)(w2c_j0);
-    w2c_i0 = i32_load8_u(m, (u64)(w2c_i0) + 2u);
-    w2c_l7 = w2c_i0;
-    w2c_j0 = w2c_p0;
-    w2c_i0 = (u32)(w2c_j0);
-    w2c_i0 = i32_load8_u(m, (u64)(w2c_i0) + 1u);
-    w2c_l8 = w2c_i0;
-    w2c_j0 = w2c_p1;
+    if (w2c_i0) {goto w2c_B13;}
+    w2c_i0 = w2c_p3;
+    w2c_i1 = 12u;
+    w2c_i0 <<= (w2c_i1 & 31);
+    w2c_j1 = w2c_l13;
+    w2c_j2 = 18446744073709551615ull;
+    w2c_j1 += w2c_j2;
+    w2c_i1 = (u32)(w2c_j1);
+    w2c_i1 = i32_load8_u(m, (u64)(w2c_i1));
+    w2c_l15 = w2c_i1;
+    w2c_i0 |= w2c_i1;
+    w2c_j1 = w2c_l13;
+    w2c_j2 = 18446744073709551614ull;
+    w2c_j1 += w2c_j2;
+    w2c_i1 = (u32)(w2c_j1);
+    w2c_i1 = i32_load8_u(m, (u64)(w2c_i1));
+    w2c_l17 = w2c_i1;
+    w2c_i2 = 6u;
+    w2c_i1 <<= (w2c_i2 & 31);
+    w2c_i0 += w2c_i1;
+    w2c_i1 = 4294041472u;
+    w2c_i0 += w2c_i1;
+    w2c_p4 = w2c_i0;
+    w2c_j0 = w2c_p2;
     w2c_j1 = 18446744073709551613ull;
     w2c_j0 += w2c_j1;
-    w2c_p1 = w2c_j0;
-    w2c_j0 = w2c_p0;
-    w2c_j1 = 3ull;
-    w2c_j0 += w2c_j1;
-    w2c_p0 = w2c_j0;
-    w2c_i0 = w2c_l8;
+    w2c_l13 = w2c_j0;
+    w2c_i0 = w2c_l17;
     w2c_i1 = 8u;
     w2c_i0 <<= (w2c_i1 & 31);
-    w2c_i1 = w2c_l7;
+    w2c_i1 = w2c_l15;
     w2c_i2 = 16u;
     w2c_i1 <<= (w2c_i2 & 31);
     w2c_i0 |= w2c_i1;
-    w2c_i1 = w2c_l6;
+    w2c_i1 = w2c_p3;
     w2c_i0 |= w2c_i1;
-    w2c_l9 = w2c_i0;
+    w2c_p3 = w2c_i0;
     w2c_j0 = (u64)(w2c_i0);
     w2c_j1 = 953497ull;
     w2c_j0 *= w2c_j1;
@@ -13759,365 +13682,161 @@ static u32 w2c_f26(module *m, u64 w2c_p0, u64 w2c_p1) {
     w2c_j0 >>= (w2c_j1 & 63);
     w2c_j1 = 1016ull;
     w2c_j0 &= w2c_j1;
-    w2c_l2 = w2c_j0;
+    w2c_l14 = w2c_j0;
     w2c_j1 = 66992ull;
     w2c_j0 += w2c_j1;
     w2c_i0 = (u32)(w2c_j0);
     w2c_i0 = i32_load(m, (u64)(w2c_i0));
-    w2c_i1 = w2c_l9;
-    w2c_i0 = w2c_i0 != w2c_i1;
-    if (w2c_i0) {goto w2c_L3;}
-    w2c_i0 = w2c_l6;
-    w2c_i1 = 12u;
-    w2c_i0 <<= (w2c_i1 & 31);
-    w2c_i1 = w2c_l8;
-    w2c_i2 = 6u;
-    w2c_i1 <<= (w2c_i2 & 31);
-    w2c_i0 += w2c_i1;
-    w2c_i1 = w2c_l7;
-    w2c_i0 += w2c_i1;
-    w2c_i1 = 4294041472u;
-    w2c_i0 += w2c_i1;
-    w2c_l6 = w2c_i0;
-    goto w2c_B6;
-    w2c_B8:;
-    w2c_j0 = w2c_p1;
+    w2c_i1 = w2c_p3;
+    w2c_i0 = w2c_i0 == w2c_i1;
+    if (w2c_i0) {goto w2c_B12;}
+    goto w2c_B10;
+    w2c_B14:;
+    w2c_j0 = w2c_p2;
     w2c_i0 = !(w2c_j0);
     w2c_i0 = !(w2c_i0);
-    if (w2c_i0) {goto w2c_B9;}
+    if (w2c_i0) {goto w2c_B13;}
     w2c_i0 = 0u;
-    w2c_l8 = w2c_i0;
-    goto w2c_B0;
-    w2c_B9:;
-    w2c_j0 = w2c_p0;
+    w2c_l18 = w2c_i0;
+    w2c_i0 = 0u;
+    w2c_l17 = w2c_i0;
+    goto w2c_B7;
+    w2c_B13:;
+    w2c_j0 = w2c_l12;
+    w2c_j1 = w2c_p2;
+    w2c_j2 = 18446744073709551615ull;
+    w2c_j1 += w2c_j2;
+    w2c_l13 = w2c_j1;
+    w2c_j0 += w2c_j1;
+    w2c_i0 = (u32)(w2c_j0);
+    w2c_i0 = i32_load8_s(m, (u64)(w2c_i0));
+    w2c_p4 = w2c_i0;
+    w2c_i1 = 0u;
+    w2c_i0 = (u32)((s32)w2c_i0 >= (s32)w2c_i1);
+    if (w2c_i0) {goto w2c_B11;}
+    w2c_j0 = 18446744073709551614ull;
+    w2c_l13 = w2c_j0;
+    w2c_j0 = w2c_l12;
+    w2c_j1 = w2c_p2;
+    w2c_j0 += w2c_j1;
+    w2c_l14 = w2c_j0;
+    w2c_j1 = 18446744073709551614ull;
+    w2c_j0 += w2c_j1;
     w2c_i0 = (u32)(w2c_j0);
     w2c_i0 = i32_load8_u(m, (u64)(w2c_i0));
-    w2c_l6 = w2c_i0;
-    w2c_B7:;
-    w2c_j0 = 1ull;
-    w2c_l2 = w2c_j0;
-    w2c_i0 = w2c_l6;
-    w2c_i0 = (u32)(s32)(s8)(u8)(w2c_i0);
+    w2c_i1 = 191u;
+    w2c_i0 = w2c_i0 > w2c_i1;
+    if (w2c_i0) {goto w2c_B15;}
+    w2c_j0 = 18446744073709551613ull;
+    w2c_j1 = 18446744073709551612ull;
+    w2c_j2 = w2c_l14;
+    w2c_j3 = 18446744073709551613ull;
+    w2c_j2 += w2c_j3;
+    w2c_i2 = (u32)(w2c_j2);
+    w2c_i2 = i32_load8_u(m, (u64)(w2c_i2));
+    w2c_i3 = 191u;
+    w2c_i2 = w2c_i2 > w2c_i3;
+    w2c_j0 = w2c_i2 ? w2c_j0 : w2c_j1;
+    w2c_l13 = w2c_j0;
+    w2c_B15:;
+    w2c_j0 = w2c_l12;
+    w2c_j1 = w2c_l13;
+    w2c_j2 = w2c_p2;
+    w2c_j1 += w2c_j2;
+    w2c_l13 = w2c_j1;
+    w2c_j0 += w2c_j1;
+    w2c_l14 = w2c_j0;
+    w2c_i0 = (u32)(w2c_j0);
+    w2c_i0 = i32_load8_s(m, (u64)(w2c_i0));
+    w2c_p3 = w2c_i0;
+    w2c_i1 = 255u;
+    w2c_i0 &= w2c_i1;
+    w2c_p4 = w2c_i0;
+    w2c_i0 = w2c_p3;
     w2c_i1 = 4294967295u;
     w2c_i0 = (u32)((s32)w2c_i0 > (s32)w2c_i1);
-    if (w2c_i0) {goto w2c_B10;}
-    w2c_j0 = w2c_p0;
+    if (w2c_i0) {goto w2c_B11;}
+    w2c_j0 = w2c_l14;
     w2c_i0 = (u32)(w2c_j0);
     w2c_i0 = i32_load8_u(m, (u64)(w2c_i0) + 1u);
     w2c_i1 = 63u;
     w2c_i0 &= w2c_i1;
-    w2c_l7 = w2c_i0;
-    w2c_i0 = w2c_l6;
-    w2c_i1 = 223u;
+    w2c_l15 = w2c_i0;
+    w2c_i0 = w2c_p3;
+    w2c_i1 = 4294967263u;
     w2c_i0 = w2c_i0 > w2c_i1;
-    if (w2c_i0) {goto w2c_B11;}
-    w2c_i0 = w2c_l6;
+    if (w2c_i0) {goto w2c_B16;}
+    w2c_i0 = w2c_p4;
     w2c_i1 = 6u;
     w2c_i0 <<= (w2c_i1 & 31);
     w2c_i1 = 1984u;
     w2c_i0 &= w2c_i1;
-    w2c_i1 = w2c_l7;
+    w2c_i1 = w2c_l15;
     w2c_i0 |= w2c_i1;
-    w2c_l6 = w2c_i0;
-    w2c_j0 = 2ull;
-    w2c_l2 = w2c_j0;
-    goto w2c_B10;
-    w2c_B11:;
-    w2c_j0 = w2c_p0;
+    w2c_p4 = w2c_i0;
+    goto w2c_B11;
+    w2c_B16:;
+    w2c_j0 = w2c_l14;
     w2c_i0 = (u32)(w2c_j0);
     w2c_i0 = i32_load8_u(m, (u64)(w2c_i0) + 2u);
     w2c_i1 = 63u;
     w2c_i0 &= w2c_i1;
-    w2c_l8 = w2c_i0;
-    w2c_i0 = w2c_l6;
-    w2c_i1 = 239u;
-    w2c_i0 = w2c_i0 > w2c_i1;
-    if (w2c_i0) {goto w2c_B12;}
-    w2c_i0 = w2c_l7;
-    w2c_i1 = 6u;
-    w2c_i0 <<= (w2c_i1 & 31);
-    w2c_i1 = w2c_l6;
-    w2c_i2 = 12u;
-    w2c_i1 <<= (w2c_i2 & 31);
-    w2c_i2 = 61440u;
-    w2c_i1 &= w2c_i2;
-    w2c_i0 |= w2c_i1;
-    w2c_i1 = w2c_l8;
-    w2c_i0 |= w2c_i1;
-    w2c_l6 = w2c_i0;
-    w2c_j0 = 3ull;
-    w2c_l2 = w2c_j0;
-    goto w2c_B10;
-    w2c_B12:;
-    w2c_i0 = w2c_l8;
-    w2c_i1 = 6u;
-    w2c_i0 <<= (w2c_i1 & 31);
-    w2c_i1 = w2c_l7;
-    w2c_i2 = 12u;
-    w2c_i1 <<= (w2c_i2 & 31);
-    w2c_i2 = w2c_l6;
-    w2c_i3 = 18u;
-    w2c_i2 <<= (w2c_i3 & 31);
-    w2c_i3 = 1835008u;
-    w2c_i2 &= w2c_i3;
-    w2c_i1 |= w2c_i2;
-    w2c_i0 |= w2c_i1;
-    w2c_j1 = w2c_p0;
-    w2c_i1 = (u32)(w2c_j1);
-    w2c_i1 = i32_load8_u(m, (u64)(w2c_i1) + 3u);
-    w2c_i2 = 63u;
-    w2c_i1 &= w2c_i2;
-    w2c_i0 |= w2c_i1;
-    w2c_l6 = w2c_i0;
-    w2c_j0 = 4ull;
-    w2c_l2 = w2c_j0;
-    w2c_B10:;
-    w2c_j0 = w2c_p1;
-    w2c_j1 = w2c_l2;
-    w2c_j0 -= w2c_j1;
-    w2c_p1 = w2c_j0;
-    w2c_j0 = w2c_p0;
-    w2c_j1 = w2c_l2;
-    w2c_j0 += w2c_j1;
-    w2c_p0 = w2c_j0;
-    w2c_i0 = w2c_l6;
-    w2c_i1 = 4294965248u;
-    w2c_i0 += w2c_i1;
-    w2c_i1 = 63487u;
-    w2c_i0 = w2c_i0 > w2c_i1;
-    if (w2c_i0) {goto w2c_B5;}
-    w2c_i0 = w2c_l6;
-    w2c_i1 = 12u;
-    w2c_i0 >>= (w2c_i1 & 31);
-    w2c_i1 = w2c_l6;
-    w2c_i2 = 2u;
-    w2c_i1 <<= (w2c_i2 & 31);
-    w2c_i2 = 16128u;
-    w2c_i1 &= w2c_i2;
-    w2c_i0 |= w2c_i1;
-    w2c_i1 = w2c_l6;
-    w2c_i2 = 16u;
-    w2c_i1 <<= (w2c_i2 & 31);
-    w2c_i2 = 4128768u;
-    w2c_i1 &= w2c_i2;
-    w2c_i0 |= w2c_i1;
-    w2c_i1 = 8421600u;
-    w2c_i0 |= w2c_i1;
-    w2c_l7 = w2c_i0;
-    w2c_j0 = (u64)(w2c_i0);
-    w2c_j1 = 953497ull;
-    w2c_j0 *= w2c_j1;
-    w2c_j1 = 22ull;
-    w2c_j0 >>= (w2c_j1 & 63);
-    w2c_j1 = 1016ull;
-    w2c_j0 &= w2c_j1;
-    w2c_l2 = w2c_j0;
-    w2c_j1 = 66992ull;
-    w2c_j0 += w2c_j1;
-    w2c_i0 = (u32)(w2c_j0);
-    w2c_i0 = i32_load(m, (u64)(w2c_i0));
-    w2c_i1 = w2c_l7;
-    w2c_i0 = w2c_i0 != w2c_i1;
-    if (w2c_i0) {goto w2c_L3;}
-    w2c_B6:;
-    w2c_j0 = w2c_l2;
-    w2c_j1 = 66996ull;
-    w2c_j0 += w2c_j1;
-    w2c_i0 = (u32)(w2c_j0);
-    w2c_i0 = i32_load8_u(m, (u64)(w2c_i0));
-    if (w2c_i0) {goto w2c_L3;}
-    goto w2c_B4;
-    w2c_B5:;
-    w2c_i0 = w2c_l6;
-    w2c_i1 = 4294967248u;
-    w2c_i0 += w2c_i1;
-    w2c_i1 = 10u;
-    w2c_i0 = w2c_i0 >= w2c_i1;
-    if (w2c_i0) {goto w2c_L3;}
-    w2c_B4:;
-    w2c_j0 = w2c_p0;
-    w2c_l2 = w2c_j0;
-    w2c_j0 = w2c_p1;
-    w2c_l4 = w2c_j0;
-    w2c_j1 = 3ull;
-    w2c_i0 = w2c_j0 < w2c_j1;
-    if (w2c_i0) {goto w2c_B16;}
-    w2c_j0 = w2c_l2;
-    w2c_i0 = (u32)(w2c_j0);
-    w2c_i0 = i32_load8_u(m, (u64)(w2c_i0));
-    w2c_l7 = w2c_i0;
-    w2c_i1 = 240u;
-    w2c_i0 &= w2c_i1;
-    w2c_i1 = 224u;
-    w2c_i0 = w2c_i0 != w2c_i1;
-    if (w2c_i0) {goto w2c_B15;}
-    w2c_j0 = w2c_l4;
-    w2c_j1 = 18446744073709551613ull;
-    w2c_j0 += w2c_j1;
-    w2c_p1 = w2c_j0;
-    w2c_j0 = w2c_l2;
-    w2c_j1 = 3ull;
-    w2c_j0 += w2c_j1;
-    w2c_p0 = w2c_j0;
-    w2c_j0 = w2c_l2;
-    w2c_i0 = (u32)(w2c_j0);
-    w2c_i0 = i32_load8_u(m, (u64)(w2c_i0) + 1u);
-    w2c_l9 = w2c_i0;
-    w2c_i1 = 8u;
-    w2c_i0 <<= (w2c_i1 & 31);
-    w2c_j1 = w2c_l2;
-    w2c_i1 = (u32)(w2c_j1);
-    w2c_i1 = i32_load8_u(m, (u64)(w2c_i1) + 2u);
-    w2c_l10 = w2c_i1;
-    w2c_i2 = 16u;
-    w2c_i1 <<= (w2c_i2 & 31);
-    w2c_i0 |= w2c_i1;
-    w2c_i1 = w2c_l7;
-    w2c_i0 |= w2c_i1;
-    w2c_l8 = w2c_i0;
-    w2c_j0 = (u64)(w2c_i0);
-    w2c_j1 = 953497ull;
-    w2c_j0 *= w2c_j1;
-    w2c_j1 = 22ull;
-    w2c_j0 >>= (w2c_j1 & 63);
-    w2c_j1 = 1016ull;
-    w2c_j0 &= w2c_j1;
-    w2c_l5 = w2c_j0;
-    w2c_j1 = 66992ull;
-    w2c_j0 += w2c_j1;
-    w2c_i0 = (u32)(w2c_j0);
-    w2c_i0 = i32_load(m, (u64)(w2c_i0));
-    w2c_i1 = w2c_l8;
-    w2c_i0 = w2c_i0 != w2c_i1;
-    if (w2c_i0) {goto w2c_L3;}
-    w2c_i0 = w2c_l7;
-    w2c_i1 = 12u;
-    w2c_i0 <<= (w2c_i1 & 31);
-    w2c_i1 = w2c_l9;
-    w2c_i2 = 6u;
-    w2c_i1 <<= (w2c_i2 & 31);
-    w2c_i0 += w2c_i1;
-    w2c_i1 = w2c_l10;
-    w2c_i0 += w2c_i1;
-    w2c_i1 = 4294041472u;
-    w2c_i0 += w2c_i1;
-    w2c_l7 = w2c_i0;
-    goto w2c_B14;
-    w2c_B16:;
-    w2c_j0 = 0ull;
-    w2c_p1 = w2c_j0;
-    w2c_j0 = w2c_l2;
-    w2c_p0 = w2c_j0;
-    w2c_j0 = w2c_l4;
-    w2c_i0 = !(w2c_j0);
-    if (w2c_i0) {goto w2c_L3;}
-    w2c_j0 = w2c_l2;
-    w2c_i0 = (u32)(w2c_j0);
-    w2c_i0 = i32_load8_u(m, (u64)(w2c_i0));
-    w2c_l7 = w2c_i0;
-    w2c_B15:;
-    w2c_j0 = 1ull;
-    w2c_p0 = w2c_j0;
-    w2c_i0 = w2c_l7;
-    w2c_i0 = (u32)(s32)(s8)(u8)(w2c_i0);
-    w2c_i1 = 4294967295u;
-    w2c_i0 = (u32)((s32)w2c_i0 > (s32)w2c_i1);
-    if (w2c_i0) {goto w2c_B17;}
-    w2c_j0 = w2c_l2;
-    w2c_i0 = (u32)(w2c_j0);
-    w2c_i0 = i32_load8_u(m, (u64)(w2c_i0) + 1u);
-    w2c_i1 = 63u;
-    w2c_i0 &= w2c_i1;
-    w2c_l8 = w2c_i0;
-    w2c_i0 = w2c_l7;
-    w2c_i1 = 223u;
+    w2c_l17 = w2c_i0;
+    w2c_i0 = w2c_p3;
+    w2c_i1 = 4294967279u;
     w2c_i0 = w2c_i0 > w2c_i1;
     if (w2c_i0) {goto w2c_B18;}
-    w2c_i0 = w2c_l7;
+    w2c_i0 = w2c_l15;
     w2c_i1 = 6u;
     w2c_i0 <<= (w2c_i1 & 31);
-    w2c_i1 = 1984u;
-    w2c_i0 &= w2c_i1;
-    w2c_i1 = w2c_l8;
-    w2c_i0 |= w2c_i1;
-    w2c_l7 = w2c_i0;
-    w2c_j0 = 2ull;
-    w2c_p0 = w2c_j0;
-    goto w2c_B17;
-    w2c_B18:;
-    w2c_j0 = w2c_l2;
-    w2c_i0 = (u32)(w2c_j0);
-    w2c_i0 = i32_load8_u(m, (u64)(w2c_i0) + 2u);
-    w2c_i1 = 63u;
-    w2c_i0 &= w2c_i1;
-    w2c_l9 = w2c_i0;
-    w2c_i0 = w2c_l7;
-    w2c_i1 = 239u;
-    w2c_i0 = w2c_i0 > w2c_i1;
-    if (w2c_i0) {goto w2c_B19;}
-    w2c_i0 = w2c_l8;
-    w2c_i1 = 6u;
-    w2c_i0 <<= (w2c_i1 & 31);
-    w2c_i1 = w2c_l7;
+    w2c_i1 = w2c_p4;
     w2c_i2 = 12u;
     w2c_i1 <<= (w2c_i2 & 31);
     w2c_i2 = 61440u;
     w2c_i1 &= w2c_i2;
     w2c_i0 |= w2c_i1;
-    w2c_i1 = w2c_l9;
+    w2c_i1 = w2c_l17;
     w2c_i0 |= w2c_i1;
-    w2c_l7 = w2c_i0;
-    w2c_j0 = 3ull;
-    w2c_p0 = w2c_j0;
+    w2c_p4 = w2c_i0;
     goto w2c_B17;
-    w2c_B19:;
-    w2c_i0 = w2c_l9;
+    w2c_B18:;
+    w2c_i0 = w2c_l17;
     w2c_i1 = 6u;
     w2c_i0 <<= (w2c_i1 & 31);
-    w2c_i1 = w2c_l8;
+    w2c_i1 = w2c_l15;
     w2c_i2 = 12u;
     w2c_i1 <<= (w2c_i2 & 31);
-    w2c_i2 = w2c_l7;
+    w2c_i2 = w2c_p4;
     w2c_i3 = 18u;
     w2c_i2 <<= (w2c_i3 & 31);
     w2c_i3 = 1835008u;
     w2c_i2 &= w2c_i3;
     w2c_i1 |= w2c_i2;
     w2c_i0 |= w2c_i1;
-    w2c_j1 = w2c_l2;
+    w2c_j1 = w2c_l14;
     w2c_i1 = (u32)(w2c_j1);
     w2c_i1 = i32_load8_u(m, (u64)(w2c_i1) + 3u);
     w2c_i2 = 63u;
     w2c_i1 &= w2c_i2;
     w2c_i0 |= w2c_i1;
-    w2c_l7 = w2c_i0;
-    w2c_j0 = 4ull;
-    w2c_p0 = w2c_j0;
+    w2c_p4 = w2c_i0;
     w2c_B17:;
-    w2c_j0 = w2c_l4;
-    w2c_j1 = w2c_p0;
-    w2c_j0 -= w2c_j1;
-    w2c_p1 = w2c_j0;
-    w2c_j0 = w2c_l2;
-    w2c_j1 = w2c_p0;
-    w2c_j0 += w2c_j1;
-    w2c_p0 = w2c_j0;
-    w2c_i0 = w2c_l7;
+    w2c_i0 = w2c_p4;
     w2c_i1 = 4294965248u;
     w2c_i0 += w2c_i1;
     w2c_i1 = 63487u;
     w2c_i0 = w2c_i0 > w2c_i1;
-    if (w2c_i0) {goto w2c_B13;}
-    w2c_i0 = w2c_l7;
+    if (w2c_i0) {goto w2c_B11;}
+    w2c_i0 = w2c_p4;
     w2c_i1 = 12u;
     w2c_i0 >>= (w2c_i1 & 31);
-    w2c_i1 = w2c_l7;
+    w2c_i1 = w2c_p4;
     w2c_i2 = 2u;
     w2c_i1 <<= (w2c_i2 & 31);
     w2c_i2 = 16128u;
     w2c_i1 &= w2c_i2;
     w2c_i0 |= w2c_i1;
-    w2c_i1 = w2c_l7;
+    w2c_i1 = w2c_p4;
     w2c_i2 = 16u;
     w2c_i1 <<= (w2c_i2 & 31);
     w2c_i2 = 4128768u;
@@ -14125,7 +13844,7 @@ static u32 w2c_f26(module *m, u64 w2c_p0, u64 w2c_p1) {
     w2c_i0 |= w2c_i1;
     w2c_i1 = 8421600u;
     w2c_i0 |= w2c_i1;
-    w2c_l8 = w2c_i0;
+    w2c_p3 = w2c_i0;
     w2c_j0 = (u64)(w2c_i0);
     w2c_j1 = 953497ull;
     w2c_j0 *= w2c_j1;
@@ -14133,275 +13852,393 @@ static u32 w2c_f26(module *m, u64 w2c_p0, u64 w2c_p1) {
     w2c_j0 >>= (w2c_j1 & 63);
     w2c_j1 = 1016ull;
     w2c_j0 &= w2c_j1;
-    w2c_l5 = w2c_j0;
+    w2c_l14 = w2c_j0;
     w2c_j1 = 66992ull;
     w2c_j0 += w2c_j1;
     w2c_i0 = (u32)(w2c_j0);
     w2c_i0 = i32_load(m, (u64)(w2c_i0));
-    w2c_i1 = w2c_l8;
+    w2c_i1 = w2c_p3;
     w2c_i0 = w2c_i0 != w2c_i1;
-    if (w2c_i0) {goto w2c_L3;}
-    w2c_B14:;
-    w2c_j0 = w2c_l5;
+    if (w2c_i0) {goto w2c_B10;}
+    w2c_B12:;
+    w2c_j0 = w2c_l14;
     w2c_j1 = 66996ull;
     w2c_j0 += w2c_j1;
     w2c_i0 = (u32)(w2c_j0);
     w2c_i0 = i32_load8_u(m, (u64)(w2c_i0));
-    if (w2c_i0) {goto w2c_L3;}
-    goto w2c_B1;
-    w2c_B13:;
-    w2c_i0 = w2c_l7;
+    if (w2c_i0) {goto w2c_B10;}
+    w2c_i0 = 1u;
+    w2c_l17 = w2c_i0;
+    goto w2c_B9;
+    w2c_B11:;
+    w2c_i0 = w2c_p4;
     w2c_i1 = 4294967248u;
     w2c_i0 += w2c_i1;
     w2c_i1 = 10u;
     w2c_i0 = w2c_i0 >= w2c_i1;
-    if (w2c_i0) {goto w2c_L3;}
-    goto w2c_B1;
-  UNREACHABLE;
-  w2c_B2:;
-  UNREACHABLE;
-  w2c_B1:;
-  w2c_i0 = 0u;
-  w2c_l8 = w2c_i0;
-  w2c_i0 = w2c_l6;
-  w2c_i1 = 4294967248u;
-  w2c_i0 += w2c_i1;
-  w2c_i1 = 10u;
-  w2c_i0 = w2c_i0 < w2c_i1;
-  if (w2c_i0) {goto w2c_B0;}
-  w2c_i0 = w2c_l7;
-  w2c_i1 = 4294967248u;
-  w2c_i0 += w2c_i1;
-  w2c_i1 = 10u;
-  w2c_i0 = w2c_i0 < w2c_i1;
-  if (w2c_i0) {goto w2c_B0;}
-  w2c_j0 = w2c_l3;
-  w2c_j1 = 8ull;
-  w2c_j0 += w2c_j1;
-  w2c_i1 = w2c_l6;
-  w2c_f18(m, w2c_j0, w2c_i1);
-  w2c_j0 = w2c_l3;
-  w2c_i0 = (u32)(w2c_j0);
-  w2c_i0 = i32_load8_u(m, (u64)(w2c_i0) + 9u);
-  w2c_l6 = w2c_i0;
-  w2c_j0 = w2c_l3;
-  w2c_i0 = (u32)(w2c_j0);
-  w2c_i0 = i32_load8_u(m, (u64)(w2c_i0) + 8u);
-  w2c_l9 = w2c_i0;
-  w2c_j0 = w2c_l3;
-  w2c_i1 = w2c_l7;
-  w2c_f18(m, w2c_j0, w2c_i1);
-  w2c_i0 = w2c_l9;
-  w2c_j1 = w2c_l3;
-  w2c_i1 = (u32)(w2c_j1);
-  w2c_i1 = i32_load8_u(m, (u64)(w2c_i1));
-  w2c_i0 &= w2c_i1;
-  w2c_i1 = 255u;
-  w2c_i0 &= w2c_i1;
-  w2c_i0 = !(w2c_i0);
-  if (w2c_i0) {goto w2c_B0;}
-  w2c_i0 = w2c_l6;
-  w2c_i1 = 255u;
-  w2c_i0 &= w2c_i1;
-  w2c_i0 = !(w2c_i0);
-  if (w2c_i0) {goto w2c_B0;}
-  w2c_j0 = w2c_l3;
-  w2c_i0 = (u32)(w2c_j0);
-  w2c_i0 = i32_load8_u(m, (u64)(w2c_i0) + 1u);
-  w2c_i1 = 255u;
-  w2c_i0 &= w2c_i1;
-  w2c_l7 = w2c_i0;
-  w2c_i1 = w2c_l6;
-  w2c_i2 = 1u;
-  w2c_i1 += w2c_i2;
-  w2c_i2 = 255u;
-  w2c_i1 &= w2c_i2;
-  w2c_i0 = w2c_i0 == w2c_i1;
-  if (w2c_i0) {goto w2c_B20;}
-  w2c_i0 = w2c_l6;
-  w2c_i1 = 255u;
-  w2c_i0 &= w2c_i1;
-  w2c_i1 = 3u;
-  w2c_i0 = w2c_i0 == w2c_i1;
-  w2c_i1 = w2c_l7;
-  w2c_i2 = 5u;
-  w2c_i1 = w2c_i1 == w2c_i2;
-  w2c_i0 &= w2c_i1;
-  w2c_i0 = !(w2c_i0);
-  if (w2c_i0) {goto w2c_B0;}
-  w2c_B20:;
-  w2c_L21:
-    w2c_j0 = w2c_l4;
+    if (w2c_i0) {goto w2c_B10;}
+    w2c_i0 = 1u;
+    w2c_l17 = w2c_i0;
+    goto w2c_B9;
+    w2c_B10:;
+    w2c_i0 = 1u;
+    w2c_l17 = w2c_i0;
+    w2c_i0 = w2c_p4;
+    w2c_i1 = 24318u;
+    w2c_i0 = (u32)((s32)w2c_i0 > (s32)w2c_i1);
+    if (w2c_i0) {goto w2c_B23;}
+    w2c_i0 = w2c_p4;
+    w2c_i1 = 21316u;
+    w2c_i0 = (u32)((s32)w2c_i0 > (s32)w2c_i1);
+    if (w2c_i0) {goto w2c_B24;}
+    w2c_i0 = w2c_p4;
+    w2c_i1 = 20313u;
+    w2c_i0 = w2c_i0 == w2c_i1;
+    if (w2c_i0) {goto w2c_B21;}
+    w2c_i0 = w2c_p4;
+    w2c_i1 = 20358u;
+    w2c_i0 = w2c_i0 == w2c_i1;
+    if (w2c_i0) {goto w2c_B21;}
+    w2c_i0 = w2c_p4;
+    w2c_i1 = 20960u;
+    w2c_i0 = w2c_i0 != w2c_i1;
+    if (w2c_i0) {goto w2c_B20;}
+    goto w2c_B21;
+    w2c_B24:;
+    w2c_i0 = w2c_p4;
+    w2c_i1 = 4294945979u;
+    w2c_i0 += w2c_i1;
+    switch (w2c_i0) {
+      case 0: goto w2c_B9;
+      case 1: goto w2c_B20;
+      case 2: goto w2c_B20;
+      case 3: goto w2c_B20;
+      case 4: goto w2c_B20;
+      case 5: goto w2c_B20;
+      case 6: goto w2c_B20;
+      case 7: goto w2c_B9;
+      default: goto w2c_B25;
+    }
+    w2c_B25:;
+    w2c_i0 = w2c_p4;
+    w2c_i1 = 4294943110u;
+    w2c_i0 += w2c_i1;
+    switch (w2c_i0) {
+      case 0: goto w2c_B9;
+      case 1: goto w2c_B20;
+      case 2: goto w2c_B20;
+      case 3: goto w2c_B20;
+      case 4: goto w2c_B21;
+      default: goto w2c_B22;
+    }
+    w2c_B23:;
+    w2c_i0 = w2c_p4;
+    w2c_i1 = 28856u;
+    w2c_i0 = (u32)((s32)w2c_i0 > (s32)w2c_i1);
+    if (w2c_i0) {goto w2c_B26;}
+    w2c_i0 = w2c_p4;
+    w2c_i1 = 4294941328u;
+    w2c_i0 += w2c_i1;
+    switch (w2c_i0) {
+      case 0: goto w2c_B21;
+      case 1: goto w2c_B20;
+      case 2: goto w2c_B20;
+      case 3: goto w2c_B20;
+      case 4: goto w2c_B20;
+      case 5: goto w2c_B20;
+      case 6: goto w2c_B20;
+      case 7: goto w2c_B20;
+      case 8: goto w2c_B21;
+      default: goto w2c_B27;
+    }
+    w2c_B27:;
+    w2c_i0 = w2c_p4;
+    w2c_i1 = 24319u;
+    w2c_i0 = w2c_i0 == w2c_i1;
+    if (w2c_i0) {goto w2c_B9;}
+    w2c_i0 = w2c_p4;
+    w2c_i1 = 26469u;
+    w2c_i0 = w2c_i0 != w2c_i1;
+    if (w2c_i0) {goto w2c_B20;}
+    goto w2c_B21;
+    w2c_B26:;
+    w2c_i0 = w2c_p4;
+    w2c_i1 = 28857u;
+    w2c_i0 = w2c_i0 == w2c_i1;
+    if (w2c_i0) {goto w2c_B19;}
+    w2c_i0 = w2c_p4;
+    w2c_i1 = 39192u;
+    w2c_i0 = w2c_i0 == w2c_i1;
+    if (w2c_i0) {goto w2c_B21;}
+    w2c_i0 = w2c_p4;
+    w2c_i1 = 40670u;
+    w2c_i0 = w2c_i0 == w2c_i1;
+    if (w2c_i0) {goto w2c_B19;}
+    goto w2c_B20;
+    w2c_B22:;
+    w2c_i0 = w2c_p4;
+    w2c_i1 = 22810u;
+    w2c_i0 = w2c_i0 != w2c_i1;
+    if (w2c_i0) {goto w2c_B20;}
+    w2c_B21:;
+    w2c_i0 = 0u;
+    w2c_l17 = w2c_i0;
+    goto w2c_B9;
+    w2c_B20:;
+    w2c_i0 = w2c_p4;
+    w2c_i1 = 128u;
+    w2c_i0 = w2c_i0 < w2c_i1;
+    if (w2c_i0) {goto w2c_B28;}
+    w2c_i0 = w2c_p4;
+    w2c_i1 = 4294902000u;
+    w2c_i0 += w2c_i1;
+    w2c_i1 = 10u;
+    w2c_i0 = w2c_i0 < w2c_i1;
+    if (w2c_i0) {goto w2c_B9;}
+    w2c_i0 = 0u;
+    w2c_l17 = w2c_i0;
+    goto w2c_B8;
+    w2c_B28:;
+    w2c_i0 = w2c_p4;
+    w2c_i1 = 95u;
+    w2c_i0 = w2c_i0 == w2c_i1;
+    if (w2c_i0) {goto w2c_B9;}
+    w2c_i0 = w2c_p4;
+    w2c_i1 = 4294967248u;
+    w2c_i0 += w2c_i1;
+    w2c_i1 = 10u;
+    w2c_i0 = w2c_i0 < w2c_i1;
+    if (w2c_i0) {goto w2c_B9;}
+    w2c_i0 = w2c_p4;
+    w2c_i1 = 95u;
+    w2c_i0 &= w2c_i1;
+    w2c_i1 = 4294967231u;
+    w2c_i0 += w2c_i1;
+    w2c_i1 = 26u;
+    w2c_i0 = w2c_i0 < w2c_i1;
+    if (w2c_i0) {goto w2c_B9;}
+    w2c_i0 = w2c_p4;
+    w2c_i1 = 4294967252u;
+    w2c_i0 += w2c_i1;
+    w2c_i1 = 2u;
+    w2c_i0 = w2c_i0 <= w2c_i1;
+    if (w2c_i0) {goto w2c_B19;}
+    w2c_i0 = 0u;
+    w2c_l17 = w2c_i0;
+    goto w2c_B9;
+    w2c_B19:;
+    w2c_j0 = w2c_l12;
+    w2c_j1 = w2c_l13;
+    w2c_i0 = w2c_f19(m, w2c_j0, w2c_j1);
+    w2c_l17 = w2c_i0;
+    w2c_B9:;
+    w2c_i0 = 1u;
+    w2c_l18 = w2c_i0;
+    w2c_i0 = w2c_p4;
+    w2c_i1 = 4294941328u;
+    w2c_i0 += w2c_i1;
+    switch (w2c_i0) {
+      case 0: goto w2c_B7;
+      case 1: goto w2c_B8;
+      case 2: goto w2c_B8;
+      case 3: goto w2c_B8;
+      case 4: goto w2c_B8;
+      case 5: goto w2c_B8;
+      case 6: goto w2c_B8;
+      case 7: goto w2c_B8;
+      case 8: goto w2c_B7;
+      default: goto w2c_B29;
+    }
+    w2c_B29:;
+    w2c_i0 = w2c_p4;
+    w2c_i1 = 20960u;
+    w2c_i0 = w2c_i0 == w2c_i1;
+    if (w2c_i0) {goto w2c_B7;}
+    w2c_i0 = w2c_p4;
+    w2c_i1 = 24190u;
+    w2c_i0 = w2c_i0 == w2c_i1;
+    if (w2c_i0) {goto w2c_B7;}
+    w2c_B8:;
+    w2c_i0 = 0u;
+    w2c_l18 = w2c_i0;
+    w2c_B7:;
+    w2c_j0 = w2c_l10;
     w2c_j1 = 3ull;
     w2c_i0 = w2c_j0 < w2c_j1;
-    if (w2c_i0) {goto w2c_B26;}
-    w2c_j0 = w2c_l2;
+    if (w2c_i0) {goto w2c_B36;}
+    w2c_j0 = w2c_l11;
     w2c_i0 = (u32)(w2c_j0);
     w2c_i0 = i32_load8_u(m, (u64)(w2c_i0));
-    w2c_l6 = w2c_i0;
+    w2c_p4 = w2c_i0;
     w2c_i1 = 240u;
     w2c_i0 &= w2c_i1;
     w2c_i1 = 224u;
     w2c_i0 = w2c_i0 != w2c_i1;
-    if (w2c_i0) {goto w2c_B25;}
-    w2c_j0 = w2c_l2;
-    w2c_i0 = (u32)(w2c_j0);
-    w2c_i0 = i32_load8_u(m, (u64)(w2c_i0) + 2u);
-    w2c_l7 = w2c_i0;
-    w2c_j0 = w2c_l2;
+    if (w2c_i0) {goto w2c_B35;}
+    w2c_j0 = w2c_l11;
     w2c_i0 = (u32)(w2c_j0);
     w2c_i0 = i32_load8_u(m, (u64)(w2c_i0) + 1u);
-    w2c_l9 = w2c_i0;
-    w2c_j0 = w2c_l4;
-    w2c_j1 = 18446744073709551613ull;
-    w2c_j0 += w2c_j1;
-    w2c_l4 = w2c_j0;
-    w2c_j0 = w2c_l2;
-    w2c_j1 = 3ull;
-    w2c_j0 += w2c_j1;
-    w2c_l2 = w2c_j0;
-    w2c_i0 = w2c_l9;
+    w2c_l15 = w2c_i0;
     w2c_i1 = 8u;
     w2c_i0 <<= (w2c_i1 & 31);
-    w2c_i1 = w2c_l7;
+    w2c_j1 = w2c_l11;
+    w2c_i1 = (u32)(w2c_j1);
+    w2c_i1 = i32_load8_u(m, (u64)(w2c_i1) + 2u);
+    w2c_l19 = w2c_i1;
     w2c_i2 = 16u;
     w2c_i1 <<= (w2c_i2 & 31);
     w2c_i0 |= w2c_i1;
-    w2c_i1 = w2c_l6;
+    w2c_i1 = w2c_p4;
     w2c_i0 |= w2c_i1;
-    w2c_l6 = w2c_i0;
-    w2c_j0 = (u64)(w2c_i0);
-    w2c_j1 = 953497ull;
-    w2c_j0 *= w2c_j1;
-    w2c_j1 = 22ull;
-    w2c_j0 >>= (w2c_j1 & 63);
-    w2c_j1 = 1016ull;
-    w2c_j0 &= w2c_j1;
-    w2c_p0 = w2c_j0;
-    w2c_j1 = 66992ull;
+    w2c_p3 = w2c_i0;
+    w2c_i0 = w2c_p4;
+    w2c_i1 = 12u;
+    w2c_i0 <<= (w2c_i1 & 31);
+    w2c_i1 = w2c_l15;
+    w2c_i2 = 6u;
+    w2c_i1 <<= (w2c_i2 & 31);
+    w2c_i0 += w2c_i1;
+    w2c_i1 = w2c_l19;
+    w2c_i0 += w2c_i1;
+    w2c_i1 = 4294041472u;
+    w2c_i0 += w2c_i1;
+    w2c_p4 = w2c_i0;
+    w2c_j0 = w2c_l10;
+    w2c_j1 = 18446744073709551613ull;
     w2c_j0 += w2c_j1;
-    w2c_i0 = (u32)(w2c_j0);
-    w2c_i0 = i32_load(m, (u64)(w2c_i0));
-    w2c_i1 = w2c_l6;
+    w2c_l10 = w2c_j0;
+    w2c_j0 = w2c_l11;
+    w2c_j1 = 3ull;
+    w2c_j0 += w2c_j1;
+    w2c_l11 = w2c_j0;
+    w2c_i0 = w2c_p3;
+    w2c_i1 = w2c_p3;
+    w2c_j1 = (u64)(w2c_i1);
+    w2c_j2 = 953497ull;
+    w2c_j1 *= w2c_j2;
+    w2c_j2 = 22ull;
+    w2c_j1 >>= (w2c_j2 & 63);
+    w2c_j2 = 1016ull;
+    w2c_j1 &= w2c_j2;
+    w2c_l12 = w2c_j1;
+    w2c_j2 = 66992ull;
+    w2c_j1 += w2c_j2;
+    w2c_i1 = (u32)(w2c_j1);
+    w2c_i1 = i32_load(m, (u64)(w2c_i1));
     w2c_i0 = w2c_i0 != w2c_i1;
-    if (w2c_i0) {goto w2c_L21;}
-    goto w2c_B24;
-    w2c_B26:;
-    w2c_j0 = w2c_l4;
+    if (w2c_i0) {goto w2c_B33;}
+    goto w2c_B34;
+    w2c_B36:;
+    w2c_j0 = w2c_l10;
     w2c_i0 = !(w2c_j0);
-    w2c_i0 = !(w2c_i0);
-    if (w2c_i0) {goto w2c_B27;}
-    w2c_i0 = 1u;
-    w2c_l8 = w2c_i0;
-    goto w2c_B0;
-    w2c_B27:;
-    w2c_j0 = w2c_l2;
+    if (w2c_i0) {goto w2c_B31;}
+    w2c_j0 = w2c_l11;
     w2c_i0 = (u32)(w2c_j0);
     w2c_i0 = i32_load8_u(m, (u64)(w2c_i0));
-    w2c_l6 = w2c_i0;
-    w2c_B25:;
+    w2c_p4 = w2c_i0;
+    w2c_B35:;
     w2c_j0 = 1ull;
-    w2c_p0 = w2c_j0;
-    w2c_i0 = w2c_l6;
+    w2c_l12 = w2c_j0;
+    w2c_i0 = w2c_p4;
     w2c_i0 = (u32)(s32)(s8)(u8)(w2c_i0);
     w2c_i1 = 4294967295u;
     w2c_i0 = (u32)((s32)w2c_i0 > (s32)w2c_i1);
-    if (w2c_i0) {goto w2c_B28;}
-    w2c_j0 = w2c_l2;
+    if (w2c_i0) {goto w2c_B37;}
+    w2c_j0 = w2c_l11;
     w2c_i0 = (u32)(w2c_j0);
     w2c_i0 = i32_load8_u(m, (u64)(w2c_i0) + 1u);
     w2c_i1 = 63u;
     w2c_i0 &= w2c_i1;
-    w2c_l7 = w2c_i0;
-    w2c_i0 = w2c_l6;
+    w2c_p3 = w2c_i0;
+    w2c_i0 = w2c_p4;
     w2c_i1 = 223u;
     w2c_i0 = w2c_i0 > w2c_i1;
-    if (w2c_i0) {goto w2c_B29;}
-    w2c_i0 = w2c_l6;
+    if (w2c_i0) {goto w2c_B38;}
+    w2c_i0 = w2c_p4;
     w2c_i1 = 6u;
     w2c_i0 <<= (w2c_i1 & 31);
     w2c_i1 = 1984u;
     w2c_i0 &= w2c_i1;
-    w2c_i1 = w2c_l7;
+    w2c_i1 = w2c_p3;
     w2c_i0 |= w2c_i1;
-    w2c_l6 = w2c_i0;
+    w2c_p4 = w2c_i0;
     w2c_j0 = 2ull;
-    w2c_p0 = w2c_j0;
-    goto w2c_B28;
-    w2c_B29:;
-    w2c_j0 = w2c_l2;
+    w2c_l12 = w2c_j0;
+    goto w2c_B37;
+    w2c_B38:;
+    w2c_j0 = w2c_l11;
     w2c_i0 = (u32)(w2c_j0);
     w2c_i0 = i32_load8_u(m, (u64)(w2c_i0) + 2u);
     w2c_i1 = 63u;
     w2c_i0 &= w2c_i1;
-    w2c_l9 = w2c_i0;
-    w2c_i0 = w2c_l6;
+    w2c_l15 = w2c_i0;
+    w2c_i0 = w2c_p4;
     w2c_i1 = 239u;
     w2c_i0 = w2c_i0 > w2c_i1;
-    if (w2c_i0) {goto w2c_B30;}
-    w2c_i0 = w2c_l7;
+    if (w2c_i0) {goto w2c_B39;}
+    w2c_i0 = w2c_p3;
     w2c_i1 = 6u;
     w2c_i0 <<= (w2c_i1 & 31);
-    w2c_i1 = w2c_l6;
+    w2c_i1 = w2c_p4;
     w2c_i2 = 12u;
     w2c_i1 <<= (w2c_i2 & 31);
     w2c_i2 = 61440u;
     w2c_i1 &= w2c_i2;
     w2c_i0 |= w2c_i1;
-    w2c_i1 = w2c_l9;
+    w2c_i1 = w2c_l15;
     w2c_i0 |= w2c_i1;
-    w2c_l6 = w2c_i0;
+    w2c_p4 = w2c_i0;
     w2c_j0 = 3ull;
-    w2c_p0 = w2c_j0;
-    goto w2c_B28;
-    w2c_B30:;
-    w2c_i0 = w2c_l9;
+    w2c_l12 = w2c_j0;
+    goto w2c_B37;
+    w2c_B39:;
+    w2c_i0 = w2c_l15;
     w2c_i1 = 6u;
     w2c_i0 <<= (w2c_i1 & 31);
-    w2c_i1 = w2c_l7;
+    w2c_i1 = w2c_p3;
     w2c_i2 = 12u;
     w2c_i1 <<= (w2c_i2 & 31);
-    w2c_i2 = w2c_l6;
+    w2c_i2 = w2c_p4;
     w2c_i3 = 18u;
     w2c_i2 <<= (w2c_i3 & 31);
     w2c_i3 = 1835008u;
     w2c_i2 &= w2c_i3;
     w2c_i1 |= w2c_i2;
     w2c_i0 |= w2c_i1;
-    w2c_j1 = w2c_l2;
+    w2c_j1 = w2c_l11;
     w2c_i1 = (u32)(w2c_j1);
     w2c_i1 = i32_load8_u(m, (u64)(w2c_i1) + 3u);
     w2c_i2 = 63u;
     w2c_i1 &= w2c_i2;
     w2c_i0 |= w2c_i1;
-    w2c_l6 = w2c_i0;
+    w2c_p4 = w2c_i0;
     w2c_j0 = 4ull;
-    w2c_p0 = w2c_j0;
-    w2c_B28:;
-    w2c_j0 = w2c_l4;
-    w2c_j1 = w2c_p0;
+    w2c_l12 = w2c_j0;
+    w2c_B37:;
+    w2c_j0 = w2c_l10;
+    w2c_j1 = w2c_l12;
     w2c_j0 -= w2c_j1;
-    w2c_l4 = w2c_j0;
-    w2c_j0 = w2c_l2;
-    w2c_j1 = w2c_p0;
+    w2c_l10 = w2c_j0;
+    w2c_j0 = w2c_l11;
+    w2c_j1 = w2c_l12;
     w2c_j0 += w2c_j1;
-    w2c_l2 = w2c_j0;
-    w2c_i0 = w2c_l6;
+    w2c_l11 = w2c_j0;
+    w2c_i0 = w2c_p4;
     w2c_i1 = 4294965248u;
     w2c_i0 += w2c_i1;
     w2c_i1 = 63487u;
     w2c_i0 = w2c_i0 > w2c_i1;
-    if (w2c_i0) {goto w2c_B23;}
-    w2c_i0 = w2c_l6;
+    if (w2c_i0) {goto w2c_B40;}
+    w2c_i0 = w2c_p4;
     w2c_i1 = 12u;
     w2c_i0 >>= (w2c_i1 & 31);
-    w2c_i1 = w2c_l6;
+    w2c_i1 = w2c_p4;
     w2c_i2 = 2u;
     w2c_i1 <<= (w2c_i2 & 31);
     w2c_i2 = 16128u;
     w2c_i1 &= w2c_i2;
     w2c_i0 |= w2c_i1;
-    w2c_i1 = w2c_l6;
+    w2c_i1 = w2c_p4;
     w2c_i2 = 16u;
     w2c_i1 <<= (w2c_i2 & 31);
     w2c_i2 = 4128768u;
@@ -14409,7 +14246,7 @@ static u32 w2c_f26(module *m, u64 w2c_p0, u64 w2c_p1) {
     w2c_i0 |= w2c_i1;
     w2c_i1 = 8421600u;
     w2c_i0 |= w2c_i1;
-    w2c_l6 = w2c_i0;
+    w2c_p3 = w2c_i0;
     w2c_j0 = (u64)(w2c_i0);
     w2c_j1 = 953497ull;
     w2c_j0 *= w2c_j1;
@@ -14417,70 +14254,1337 @@ static u32 w2c_f26(module *m, u64 w2c_p0, u64 w2c_p1) {
     w2c_j0 >>= (w2c_j1 & 63);
     w2c_j1 = 1016ull;
     w2c_j0 &= w2c_j1;
-    w2c_p0 = w2c_j0;
+    w2c_l12 = w2c_j0;
     w2c_j1 = 66992ull;
     w2c_j0 += w2c_j1;
     w2c_i0 = (u32)(w2c_j0);
     w2c_i0 = i32_load(m, (u64)(w2c_i0));
-    w2c_i1 = w2c_l6;
-    w2c_i0 = w2c_i0 != w2c_i1;
-    if (w2c_i0) {goto w2c_L21;}
-    w2c_B24:;
-    w2c_j0 = w2c_p0;
-    w2c_j1 = 66996ull;
-    w2c_j0 += w2c_j1;
-    w2c_i0 = (u32)(w2c_j0);
-    w2c_i0 = i32_load8_u(m, (u64)(w2c_i0));
-    if (w2c_i0) {goto w2c_L21;}
-    goto w2c_B22;
-    w2c_B23:;
-    w2c_i0 = w2c_l6;
+    w2c_i1 = w2c_p3;
+    w2c_i0 = w2c_i0 == w2c_i1;
+    if (w2c_i0) {goto w2c_B34;}
+    goto w2c_B33;
+    w2c_B40:;
+    w2c_i0 = w2c_p4;
     w2c_i1 = 4294967248u;
     w2c_i0 += w2c_i1;
     w2c_i1 = 10u;
     w2c_i0 = w2c_i0 >= w2c_i1;
-    if (w2c_i0) {goto w2c_L21;}
-    w2c_B22:;
+    if (w2c_i0) {goto w2c_B33;}
+    w2c_i0 = 1u;
+    w2c_p3 = w2c_i0;
+    goto w2c_B32;
+    w2c_B34:;
+    w2c_j0 = w2c_l12;
+    w2c_j1 = 66996ull;
+    w2c_j0 += w2c_j1;
+    w2c_i0 = (u32)(w2c_j0);
+    w2c_i0 = i32_load8_u(m, (u64)(w2c_i0));
+    if (w2c_i0) {goto w2c_B33;}
+    w2c_i0 = 1u;
+    w2c_p3 = w2c_i0;
+    goto w2c_B32;
+    w2c_B33:;
+    w2c_i0 = 1u;
+    w2c_p3 = w2c_i0;
+    w2c_i0 = w2c_p4;
+    w2c_i1 = 24318u;
+    w2c_i0 = (u32)((s32)w2c_i0 > (s32)w2c_i1);
+    if (w2c_i0) {goto w2c_B45;}
+    w2c_i0 = w2c_p4;
+    w2c_i1 = 21316u;
+    w2c_i0 = (u32)((s32)w2c_i0 > (s32)w2c_i1);
+    if (w2c_i0) {goto w2c_B46;}
+    w2c_i0 = w2c_p4;
+    w2c_i1 = 20313u;
+    w2c_i0 = w2c_i0 == w2c_i1;
+    if (w2c_i0) {goto w2c_B43;}
+    w2c_i0 = w2c_p4;
+    w2c_i1 = 20358u;
+    w2c_i0 = w2c_i0 == w2c_i1;
+    if (w2c_i0) {goto w2c_B43;}
+    w2c_i0 = w2c_p4;
+    w2c_i1 = 20960u;
+    w2c_i0 = w2c_i0 != w2c_i1;
+    if (w2c_i0) {goto w2c_B42;}
+    goto w2c_B43;
+    w2c_B46:;
+    w2c_i0 = w2c_p4;
+    w2c_i1 = 4294945979u;
+    w2c_i0 += w2c_i1;
+    switch (w2c_i0) {
+      case 0: goto w2c_B32;
+      case 1: goto w2c_B42;
+      case 2: goto w2c_B42;
+      case 3: goto w2c_B42;
+      case 4: goto w2c_B42;
+      case 5: goto w2c_B42;
+      case 6: goto w2c_B42;
+      case 7: goto w2c_B32;
+      default: goto w2c_B47;
+    }
+    w2c_B47:;
+    w2c_i0 = w2c_p4;
+    w2c_i1 = 4294943110u;
+    w2c_i0 += w2c_i1;
+    switch (w2c_i0) {
+      case 0: goto w2c_B32;
+      case 1: goto w2c_B42;
+      case 2: goto w2c_B42;
+      case 3: goto w2c_B42;
+      case 4: goto w2c_B43;
+      default: goto w2c_B44;
+    }
+    w2c_B45:;
+    w2c_i0 = w2c_p4;
+    w2c_i1 = 28856u;
+    w2c_i0 = (u32)((s32)w2c_i0 > (s32)w2c_i1);
+    if (w2c_i0) {goto w2c_B48;}
+    w2c_i0 = w2c_p4;
+    w2c_i1 = 4294941328u;
+    w2c_i0 += w2c_i1;
+    switch (w2c_i0) {
+      case 0: goto w2c_B43;
+      case 1: goto w2c_B42;
+      case 2: goto w2c_B42;
+      case 3: goto w2c_B42;
+      case 4: goto w2c_B42;
+      case 5: goto w2c_B42;
+      case 6: goto w2c_B42;
+      case 7: goto w2c_B42;
+      case 8: goto w2c_B43;
+      default: goto w2c_B49;
+    }
+    w2c_B49:;
+    w2c_i0 = w2c_p4;
+    w2c_i1 = 24319u;
+    w2c_i0 = w2c_i0 == w2c_i1;
+    if (w2c_i0) {goto w2c_B32;}
+    w2c_i0 = w2c_p4;
+    w2c_i1 = 26469u;
+    w2c_i0 = w2c_i0 != w2c_i1;
+    if (w2c_i0) {goto w2c_B42;}
+    goto w2c_B43;
+    w2c_B48:;
+    w2c_i0 = w2c_p4;
+    w2c_i1 = 28857u;
+    w2c_i0 = w2c_i0 == w2c_i1;
+    if (w2c_i0) {goto w2c_B41;}
+    w2c_i0 = w2c_p4;
+    w2c_i1 = 39192u;
+    w2c_i0 = w2c_i0 == w2c_i1;
+    if (w2c_i0) {goto w2c_B43;}
+    w2c_i0 = w2c_p4;
+    w2c_i1 = 40670u;
+    w2c_i0 = w2c_i0 == w2c_i1;
+    if (w2c_i0) {goto w2c_B41;}
+    goto w2c_B42;
+    w2c_B44:;
+    w2c_i0 = w2c_p4;
+    w2c_i1 = 22810u;
+    w2c_i0 = w2c_i0 != w2c_i1;
+    if (w2c_i0) {goto w2c_B42;}
+    w2c_B43:;
+    w2c_i0 = 0u;
+    w2c_p3 = w2c_i0;
+    goto w2c_B32;
+    w2c_B42:;
+    w2c_i0 = w2c_p4;
+    w2c_i1 = 128u;
+    w2c_i0 = w2c_i0 < w2c_i1;
+    if (w2c_i0) {goto w2c_B50;}
+    w2c_i0 = w2c_p4;
+    w2c_i1 = 4294902000u;
+    w2c_i0 += w2c_i1;
+    w2c_i1 = 10u;
+    w2c_i0 = w2c_i0 >= w2c_i1;
+    if (w2c_i0) {goto w2c_B31;}
+    goto w2c_B32;
+    w2c_B50:;
+    w2c_i0 = w2c_p4;
+    w2c_i1 = 95u;
+    w2c_i0 = w2c_i0 == w2c_i1;
+    if (w2c_i0) {goto w2c_B32;}
+    w2c_i0 = w2c_p4;
+    w2c_i1 = 4294967248u;
+    w2c_i0 += w2c_i1;
+    w2c_i1 = 10u;
+    w2c_i0 = w2c_i0 < w2c_i1;
+    if (w2c_i0) {goto w2c_B32;}
+    w2c_i0 = w2c_p4;
+    w2c_i1 = 95u;
+    w2c_i0 &= w2c_i1;
+    w2c_i1 = 4294967231u;
+    w2c_i0 += w2c_i1;
+    w2c_i1 = 26u;
+    w2c_i0 = w2c_i0 < w2c_i1;
+    if (w2c_i0) {goto w2c_B32;}
+    w2c_i0 = w2c_p4;
+    w2c_i1 = 4294967252u;
+    w2c_i0 += w2c_i1;
+    w2c_i1 = 2u;
+    w2c_i0 = w2c_i0 <= w2c_i1;
+    if (w2c_i0) {goto w2c_B41;}
+    w2c_i0 = 0u;
+    w2c_p3 = w2c_i0;
+    goto w2c_B32;
+    w2c_B41:;
+    w2c_j0 = w2c_l11;
+    w2c_j1 = w2c_l10;
+    w2c_i0 = w2c_f20(m, w2c_j0, w2c_j1);
+    w2c_p3 = w2c_i0;
+    w2c_B32:;
+    w2c_i0 = 1u;
+    w2c_l15 = w2c_i0;
+    w2c_i0 = w2c_p4;
+    w2c_i1 = 22809u;
+    w2c_i0 = (u32)((s32)w2c_i0 > (s32)w2c_i1);
+    if (w2c_i0) {goto w2c_B52;}
+    w2c_i0 = w2c_p4;
+    w2c_i1 = 20313u;
+    w2c_i0 = w2c_i0 == w2c_i1;
+    if (w2c_i0) {goto w2c_B30;}
+    w2c_i0 = w2c_p4;
+    w2c_i1 = 20358u;
+    w2c_i0 = w2c_i0 == w2c_i1;
+    if (w2c_i0) {goto w2c_B30;}
+    w2c_i0 = w2c_p4;
+    w2c_i1 = 20960u;
+    w2c_i0 = w2c_i0 != w2c_i1;
+    if (w2c_i0) {goto w2c_B51;}
+    goto w2c_B30;
+    w2c_B52:;
+    w2c_i0 = w2c_p4;
+    w2c_i1 = 26468u;
+    w2c_i0 = (u32)((s32)w2c_i0 > (s32)w2c_i1);
+    if (w2c_i0) {goto w2c_B53;}
+    w2c_i0 = w2c_p4;
+    w2c_i1 = 22810u;
+    w2c_i0 = w2c_i0 == w2c_i1;
+    if (w2c_i0) {goto w2c_B30;}
+    w2c_i0 = w2c_p4;
+    w2c_i1 = 24190u;
+    w2c_i0 = w2c_i0 != w2c_i1;
+    if (w2c_i0) {goto w2c_B51;}
+    goto w2c_B30;
+    w2c_B53:;
+    w2c_i0 = w2c_p4;
+    w2c_i1 = 26469u;
+    w2c_i0 = w2c_i0 == w2c_i1;
+    if (w2c_i0) {goto w2c_B30;}
+    w2c_i0 = w2c_p4;
+    w2c_i1 = 39192u;
+    w2c_i0 = w2c_i0 == w2c_i1;
+    if (w2c_i0) {goto w2c_B30;}
+    w2c_B51:;
+    w2c_i0 = 0u;
+    w2c_l15 = w2c_i0;
+    goto w2c_B30;
+    w2c_B31:;
+    w2c_i0 = 0u;
+    w2c_l15 = w2c_i0;
+    w2c_i0 = 0u;
+    w2c_p3 = w2c_i0;
+    w2c_B30:;
+    w2c_j0 = w2c_p1;
+    w2c_j1 = w2c_p2;
+    w2c_j0 += w2c_j1;
+    w2c_l11 = w2c_j0;
+    w2c_i0 = w2c_l17;
+    w2c_i1 = w2c_p3;
+    w2c_i0 |= w2c_i1;
+    w2c_l17 = w2c_i0;
+    w2c_j0 = w2c_p1;
+    w2c_j1 = 3ull;
+    w2c_i0 = w2c_j0 < w2c_j1;
+    if (w2c_i0) {goto w2c_B64;}
+    w2c_j0 = w2c_p0;
+    w2c_i0 = (u32)(w2c_j0);
+    w2c_i0 = i32_load8_u(m, (u64)(w2c_i0));
+    w2c_p4 = w2c_i0;
+    w2c_i1 = 240u;
+    w2c_i0 &= w2c_i1;
+    w2c_i1 = 224u;
+    w2c_i0 = w2c_i0 != w2c_i1;
+    if (w2c_i0) {goto w2c_B63;}
+    w2c_j0 = w2c_p0;
+    w2c_i0 = (u32)(w2c_j0);
+    w2c_i0 = i32_load8_u(m, (u64)(w2c_i0) + 1u);
+    w2c_p3 = w2c_i0;
+    w2c_i1 = 8u;
+    w2c_i0 <<= (w2c_i1 & 31);
+    w2c_j1 = w2c_p0;
+    w2c_i1 = (u32)(w2c_j1);
+    w2c_i1 = i32_load8_u(m, (u64)(w2c_i1) + 2u);
+    w2c_l20 = w2c_i1;
+    w2c_i2 = 16u;
+    w2c_i1 <<= (w2c_i2 & 31);
+    w2c_i0 |= w2c_i1;
+    w2c_i1 = w2c_p4;
+    w2c_i0 |= w2c_i1;
+    w2c_l19 = w2c_i0;
+    w2c_j0 = (u64)(w2c_i0);
+    w2c_j1 = 953497ull;
+    w2c_j0 *= w2c_j1;
+    w2c_j1 = 22ull;
+    w2c_j0 >>= (w2c_j1 & 63);
+    w2c_j1 = 1016ull;
+    w2c_j0 &= w2c_j1;
+    w2c_l10 = w2c_j0;
+    w2c_j1 = 66996ull;
+    w2c_j0 += w2c_j1;
+    w2c_i0 = (u32)(w2c_j0);
+    w2c_i0 = i32_load8_u(m, (u64)(w2c_i0));
+    w2c_i1 = 2u;
+    w2c_j2 = w2c_l10;
+    w2c_i2 = (u32)(w2c_j2);
+    w2c_i2 = i32_load(m, (u64)(w2c_i2) + 66992u);
+    w2c_i3 = w2c_l19;
+    w2c_i2 = w2c_i2 == w2c_i3;
+    w2c_i0 = w2c_i2 ? w2c_i0 : w2c_i1;
+    w2c_l19 = w2c_i0;
+    w2c_i0 = w2c_p4;
+    w2c_i1 = 12u;
+    w2c_i0 <<= (w2c_i1 & 31);
+    w2c_i1 = w2c_p3;
+    w2c_i2 = 6u;
+    w2c_i1 <<= (w2c_i2 & 31);
+    w2c_i0 += w2c_i1;
+    w2c_i1 = w2c_l20;
+    w2c_i0 += w2c_i1;
+    w2c_i1 = 4294041472u;
+    w2c_i0 += w2c_i1;
+    w2c_p3 = w2c_i0;
+    w2c_j0 = w2c_p1;
+    w2c_j1 = 18446744073709551613ull;
+    w2c_j0 += w2c_j1;
+    w2c_l10 = w2c_j0;
+    goto w2c_B62;
+    w2c_B64:;
+    w2c_j0 = w2c_p1;
+    w2c_i0 = !(w2c_j0);
+    if (w2c_i0) {goto w2c_B61;}
+    w2c_j0 = w2c_p0;
+    w2c_i0 = (u32)(w2c_j0);
+    w2c_i0 = i32_load8_u(m, (u64)(w2c_i0));
+    w2c_p4 = w2c_i0;
+    w2c_B63:;
+    w2c_j0 = 18446744073709551615ull;
+    w2c_l10 = w2c_j0;
+    w2c_i0 = w2c_p4;
+    w2c_i0 = (u32)(s32)(s8)(u8)(w2c_i0);
+    w2c_i1 = 4294967295u;
+    w2c_i0 = (u32)((s32)w2c_i0 <= (s32)w2c_i1);
+    if (w2c_i0) {goto w2c_B66;}
+    w2c_i0 = w2c_p4;
+    w2c_p3 = w2c_i0;
+    goto w2c_B65;
+    w2c_B66:;
+    w2c_j0 = w2c_p0;
+    w2c_i0 = (u32)(w2c_j0);
+    w2c_i0 = i32_load8_u(m, (u64)(w2c_i0) + 1u);
+    w2c_i1 = 63u;
+    w2c_i0 &= w2c_i1;
+    w2c_p3 = w2c_i0;
+    w2c_i0 = w2c_p4;
+    w2c_i1 = 223u;
+    w2c_i0 = w2c_i0 > w2c_i1;
+    if (w2c_i0) {goto w2c_B67;}
+    w2c_i0 = w2c_p4;
+    w2c_i1 = 6u;
+    w2c_i0 <<= (w2c_i1 & 31);
+    w2c_i1 = 1984u;
+    w2c_i0 &= w2c_i1;
+    w2c_i1 = w2c_p3;
+    w2c_i0 |= w2c_i1;
+    w2c_p3 = w2c_i0;
+    w2c_j0 = 18446744073709551614ull;
+    w2c_l10 = w2c_j0;
+    goto w2c_B65;
+    w2c_B67:;
+    w2c_j0 = w2c_p0;
+    w2c_i0 = (u32)(w2c_j0);
+    w2c_i0 = i32_load8_u(m, (u64)(w2c_i0) + 2u);
+    w2c_i1 = 63u;
+    w2c_i0 &= w2c_i1;
+    w2c_l19 = w2c_i0;
+    w2c_i0 = w2c_p4;
+    w2c_i1 = 239u;
+    w2c_i0 = w2c_i0 > w2c_i1;
+    if (w2c_i0) {goto w2c_B68;}
+    w2c_i0 = w2c_p3;
+    w2c_i1 = 6u;
+    w2c_i0 <<= (w2c_i1 & 31);
+    w2c_i1 = w2c_p4;
+    w2c_i2 = 12u;
+    w2c_i1 <<= (w2c_i2 & 31);
+    w2c_i2 = 61440u;
+    w2c_i1 &= w2c_i2;
+    w2c_i0 |= w2c_i1;
+    w2c_i1 = w2c_l19;
+    w2c_i0 |= w2c_i1;
+    w2c_p3 = w2c_i0;
+    w2c_j0 = 18446744073709551613ull;
+    w2c_l10 = w2c_j0;
+    goto w2c_B65;
+    w2c_B68:;
+    w2c_i0 = w2c_l19;
+    w2c_i1 = 6u;
+    w2c_i0 <<= (w2c_i1 & 31);
+    w2c_i1 = w2c_p3;
+    w2c_i2 = 12u;
+    w2c_i1 <<= (w2c_i2 & 31);
+    w2c_i2 = w2c_p4;
+    w2c_i3 = 18u;
+    w2c_i2 <<= (w2c_i3 & 31);
+    w2c_i3 = 1835008u;
+    w2c_i2 &= w2c_i3;
+    w2c_i1 |= w2c_i2;
+    w2c_i0 |= w2c_i1;
+    w2c_j1 = w2c_p0;
+    w2c_i1 = (u32)(w2c_j1);
+    w2c_i1 = i32_load8_u(m, (u64)(w2c_i1) + 3u);
+    w2c_i2 = 63u;
+    w2c_i1 &= w2c_i2;
+    w2c_i0 |= w2c_i1;
+    w2c_p3 = w2c_i0;
+    w2c_j0 = 18446744073709551612ull;
+    w2c_l10 = w2c_j0;
+    w2c_B65:;
+    w2c_j0 = w2c_l10;
+    w2c_j1 = w2c_p1;
+    w2c_j0 += w2c_j1;
+    w2c_l10 = w2c_j0;
+    w2c_i0 = w2c_p3;
+    w2c_i1 = 4294965248u;
+    w2c_i0 += w2c_i1;
+    w2c_i1 = 63487u;
+    w2c_i0 = w2c_i0 > w2c_i1;
+    if (w2c_i0) {goto w2c_B69;}
+    w2c_i0 = w2c_p3;
+    w2c_i1 = 12u;
+    w2c_i0 >>= (w2c_i1 & 31);
+    w2c_i1 = w2c_p3;
+    w2c_i2 = 2u;
+    w2c_i1 <<= (w2c_i2 & 31);
+    w2c_i2 = 16128u;
+    w2c_i1 &= w2c_i2;
+    w2c_i0 |= w2c_i1;
+    w2c_i1 = w2c_p3;
+    w2c_i2 = 16u;
+    w2c_i1 <<= (w2c_i2 & 31);
+    w2c_i2 = 4128768u;
+    w2c_i1 &= w2c_i2;
+    w2c_i0 |= w2c_i1;
+    w2c_i1 = 8421600u;
+    w2c_i0 |= w2c_i1;
+    w2c_l19 = w2c_i0;
+    w2c_j0 = (u64)(w2c_i0);
+    w2c_j1 = 953497ull;
+    w2c_j0 *= w2c_j1;
+    w2c_j1 = 22ull;
+    w2c_j0 >>= (w2c_j1 & 63);
+    w2c_j1 = 1016ull;
+    w2c_j0 &= w2c_j1;
+    w2c_l12 = w2c_j0;
+    w2c_j1 = 66996ull;
+    w2c_j0 += w2c_j1;
+    w2c_i0 = (u32)(w2c_j0);
+    w2c_i0 = i32_load8_u(m, (u64)(w2c_i0));
+    w2c_i1 = 2u;
+    w2c_j2 = w2c_l12;
+    w2c_i2 = (u32)(w2c_j2);
+    w2c_i2 = i32_load(m, (u64)(w2c_i2) + 66992u);
+    w2c_i3 = w2c_l19;
+    w2c_i2 = w2c_i2 == w2c_i3;
+    w2c_i0 = w2c_i2 ? w2c_i0 : w2c_i1;
+    w2c_l19 = w2c_i0;
+    goto w2c_B62;
+    w2c_B69:;
+    w2c_i0 = 0u;
+    w2c_i1 = 2u;
+    w2c_i2 = w2c_p3;
+    w2c_i3 = 4294967248u;
+    w2c_i2 += w2c_i3;
+    w2c_i3 = 10u;
+    w2c_i2 = w2c_i2 < w2c_i3;
+    w2c_i0 = w2c_i2 ? w2c_i0 : w2c_i1;
+    w2c_l19 = w2c_i0;
+    w2c_B62:;
+    w2c_j0 = w2c_l10;
+    w2c_i0 = !(w2c_j0);
+    if (w2c_i0) {goto w2c_B71;}
+    w2c_j0 = w2c_p0;
+    w2c_j1 = w2c_p1;
+    w2c_i0 = w2c_f21(m, w2c_j0, w2c_j1);
+    w2c_l19 = w2c_i0;
+    w2c_i0 = w2c_l18;
+    w2c_i0 = !(w2c_i0);
+    if (w2c_i0) {goto w2c_B60;}
+    w2c_i0 = w2c_p4;
+    w2c_i0 = (u32)(s32)(s8)(u8)(w2c_i0);
+    w2c_i1 = 4294967295u;
+    w2c_i0 = (u32)((s32)w2c_i0 > (s32)w2c_i1);
+    if (w2c_i0) {goto w2c_B58;}
+    w2c_j0 = w2c_p0;
+    w2c_i0 = (u32)(w2c_j0);
+    w2c_i0 = i32_load8_u(m, (u64)(w2c_i0) + 1u);
+    w2c_i1 = 63u;
+    w2c_i0 &= w2c_i1;
+    w2c_p3 = w2c_i0;
+    w2c_i0 = w2c_p4;
+    w2c_i1 = 223u;
+    w2c_i0 = w2c_i0 > w2c_i1;
+    if (w2c_i0) {goto w2c_B70;}
+    w2c_i0 = w2c_p4;
+    w2c_i1 = 6u;
+    w2c_i0 <<= (w2c_i1 & 31);
+    w2c_i1 = 1984u;
+    w2c_i0 &= w2c_i1;
+    w2c_i1 = w2c_p3;
+    w2c_i0 |= w2c_i1;
+    w2c_p4 = w2c_i0;
+    goto w2c_B58;
+    w2c_B71:;
+    w2c_i0 = w2c_l18;
+    w2c_i0 = !(w2c_i0);
+    if (w2c_i0) {goto w2c_B72;}
+    w2c_j0 = w2c_l8;
+    w2c_i1 = w2c_p3;
+    w2c_f22(m, w2c_j0, w2c_i1);
+    w2c_i0 = w2c_l15;
+    w2c_j1 = w2c_l8;
+    w2c_i1 = (u32)(w2c_j1);
+    w2c_i1 = i32_load8_u(m, (u64)(w2c_i1));
+    w2c_i2 = 255u;
+    w2c_i1 &= w2c_i2;
+    w2c_i2 = 1u;
+    w2c_i1 = w2c_i1 == w2c_i2;
+    w2c_i0 |= w2c_i1;
+    w2c_l15 = w2c_i0;
+    w2c_B72:;
+    w2c_i0 = 8u;
+    w2c_i1 = 0u;
+    w2c_i2 = w2c_p3;
+    w2c_i3 = 4294901990u;
+    w2c_i2 += w2c_i3;
+    w2c_i3 = 4294967286u;
+    w2c_i2 = w2c_i2 < w2c_i3;
+    w2c_i0 = w2c_i2 ? w2c_i0 : w2c_i1;
+    w2c_i1 = 0u;
+    w2c_i2 = w2c_p3;
+    w2c_i3 = 4294967238u;
+    w2c_i2 += w2c_i3;
+    w2c_i3 = 4294967286u;
+    w2c_i2 = w2c_i2 < w2c_i3;
+    w2c_i0 = w2c_i2 ? w2c_i0 : w2c_i1;
+    w2c_p3 = w2c_i0;
+    w2c_i0 = 0u;
+    w2c_i1 = 2u;
+    w2c_i2 = w2c_l17;
+    w2c_i0 = w2c_i2 ? w2c_i0 : w2c_i1;
+    w2c_i1 = w2c_l19;
+    w2c_i2 = 255u;
+    w2c_i1 &= w2c_i2;
+    w2c_i1 = !(w2c_i1);
+    w2c_i0 |= w2c_i1;
+    w2c_p4 = w2c_i0;
+    w2c_i0 = w2c_l15;
+    if (w2c_i0) {goto w2c_B55;}
+    goto w2c_B54;
+    w2c_B70:;
+    w2c_j0 = w2c_p0;
+    w2c_i0 = (u32)(w2c_j0);
+    w2c_i0 = i32_load8_u(m, (u64)(w2c_i0) + 2u);
+    w2c_i1 = 63u;
+    w2c_i0 &= w2c_i1;
+    w2c_l18 = w2c_i0;
+    w2c_i0 = w2c_p4;
+    w2c_i1 = 239u;
+    w2c_i0 = w2c_i0 > w2c_i1;
+    if (w2c_i0) {goto w2c_B59;}
+    w2c_i0 = w2c_p3;
+    w2c_i1 = 6u;
+    w2c_i0 <<= (w2c_i1 & 31);
+    w2c_i1 = w2c_p4;
+    w2c_i2 = 12u;
+    w2c_i1 <<= (w2c_i2 & 31);
+    w2c_i2 = 61440u;
+    w2c_i1 &= w2c_i2;
+    w2c_i0 |= w2c_i1;
+    w2c_i1 = w2c_l18;
+    w2c_i0 |= w2c_i1;
+    w2c_p4 = w2c_i0;
+    goto w2c_B58;
+    w2c_B61:;
+    w2c_j0 = w2c_p0;
+    w2c_j1 = 0ull;
+    w2c_i0 = w2c_f21(m, w2c_j0, w2c_j1);
+    w2c_l19 = w2c_i0;
+    w2c_B60:;
+    w2c_i0 = w2c_l15;
+    if (w2c_i0) {goto w2c_B57;}
+    goto w2c_B56;
+    w2c_B59:;
+    w2c_i0 = w2c_l18;
+    w2c_i1 = 6u;
+    w2c_i0 <<= (w2c_i1 & 31);
+    w2c_i1 = w2c_p3;
+    w2c_i2 = 12u;
+    w2c_i1 <<= (w2c_i2 & 31);
+    w2c_i2 = w2c_p4;
+    w2c_i3 = 18u;
+    w2c_i2 <<= (w2c_i3 & 31);
+    w2c_i3 = 1835008u;
+    w2c_i2 &= w2c_i3;
+    w2c_i1 |= w2c_i2;
+    w2c_i0 |= w2c_i1;
+    w2c_j1 = w2c_p0;
+    w2c_i1 = (u32)(w2c_j1);
+    w2c_i1 = i32_load8_u(m, (u64)(w2c_i1) + 3u);
+    w2c_i2 = 63u;
+    w2c_i1 &= w2c_i2;
+    w2c_i0 |= w2c_i1;
+    w2c_p4 = w2c_i0;
+    w2c_B58:;
+    w2c_j0 = w2c_l8;
+    w2c_j1 = 8ull;
+    w2c_j0 += w2c_j1;
+    w2c_i1 = w2c_p4;
+    w2c_f22(m, w2c_j0, w2c_i1);
+    w2c_i0 = w2c_l15;
+    w2c_i1 = 4294967295u;
+    w2c_i0 ^= w2c_i1;
+    w2c_j1 = w2c_l8;
+    w2c_i1 = (u32)(w2c_j1);
+    w2c_i1 = i32_load8_u(m, (u64)(w2c_i1) + 8u);
+    w2c_i2 = 255u;
+    w2c_i1 &= w2c_i2;
+    w2c_i2 = 1u;
+    w2c_i1 = w2c_i1 != w2c_i2;
+    w2c_i0 &= w2c_i1;
+    if (w2c_i0) {goto w2c_B56;}
+    w2c_B57:;
+    w2c_i0 = 0u;
+    w2c_p3 = w2c_i0;
+    w2c_i0 = 0u;
+    w2c_i1 = 2u;
+    w2c_i2 = w2c_l17;
+    w2c_i0 = w2c_i2 ? w2c_i0 : w2c_i1;
+    w2c_i1 = w2c_l19;
+    w2c_i0 |= w2c_i1;
+    w2c_p4 = w2c_i0;
+    goto w2c_B55;
+    w2c_B56:;
+    w2c_i0 = 0u;
+    w2c_p3 = w2c_i0;
+    w2c_i0 = 0u;
+    w2c_i1 = 2u;
+    w2c_i2 = w2c_l17;
+    w2c_i0 = w2c_i2 ? w2c_i0 : w2c_i1;
+    w2c_i1 = w2c_l19;
+    w2c_i0 |= w2c_i1;
+    w2c_p4 = w2c_i0;
+    w2c_j0 = w2c_p0;
+    w2c_j1 = w2c_p1;
+    w2c_i0 = w2c_f23(m, w2c_j0, w2c_j1);
+    w2c_i0 = !(w2c_i0);
+    if (w2c_i0) {goto w2c_B54;}
+    w2c_B55:;
+    w2c_i0 = w2c_p4;
+    w2c_i1 = 4u;
+    w2c_i0 |= w2c_i1;
+    w2c_p4 = w2c_i0;
+    w2c_B54:;
+    w2c_j0 = w2c_p5;
+    w2c_i0 = (u32)(w2c_j0);
+    w2c_j1 = w2c_p2;
+    i64_store(m, (u64)(w2c_i0), w2c_j1);
+    w2c_j0 = w2c_p5;
+    w2c_j1 = 20ull;
+    w2c_j0 += w2c_j1;
+    w2c_i0 = (u32)(w2c_j0);
+    w2c_i1 = 0u;
+    i32_store(m, (u64)(w2c_i0), w2c_i1);
+    w2c_j0 = w2c_p5;
+    w2c_j1 = 16ull;
+    w2c_j0 += w2c_j1;
+    w2c_i0 = (u32)(w2c_j0);
+    w2c_i1 = w2c_p3;
+    w2c_i2 = w2c_p4;
+    w2c_i1 |= w2c_i2;
+    i32_store(m, (u64)(w2c_i0), w2c_i1);
+    w2c_j0 = w2c_p5;
+    w2c_j1 = 8ull;
+    w2c_j0 += w2c_j1;
+    w2c_i0 = (u32)(w2c_j0);
+    w2c_j1 = w2c_l11;
+    i64_store(m, (u64)(w2c_i0), w2c_j1);
+    w2c_j0 = w2c_p5;
+    w2c_j1 = 24ull;
+    w2c_j0 += w2c_j1;
+    w2c_p5 = w2c_j0;
+    w2c_j0 = w2c_p6;
+    w2c_j1 = w2c_l9;
+    w2c_j2 = 1ull;
+    w2c_j1 += w2c_j2;
+    w2c_l9 = w2c_j1;
+    w2c_i0 = w2c_j0 != w2c_j1;
+    if (w2c_i0) {goto w2c_L6;}
+  w2c_j0 = w2c_p6;
+  w2c_l9 = w2c_j0;
+  w2c_B5:;
+  w2c_j0 = w2c_p7;
+  w2c_i0 = (u32)(w2c_j0);
+  w2c_j1 = w2c_l9;
+  i64_store(m, (u64)(w2c_i0), w2c_j1);
+  w2c_B1:;
+  w2c_j0 = w2c_l8;
+  w2c_j1 = 112ull;
+  w2c_j0 += w2c_j1;
+  m->w2c_g0 = w2c_j0;
+  w2c_i0 = w2c_l16;
+  goto w2c_Bfunc;
+  w2c_B0:;
+  UNREACHABLE;
+  w2c_Bfunc:;
+  return w2c_i0;
+}
+
+static void w2c_f27(module *m, u64 w2c_p0, u64 w2c_p1) {
+  u32 w2c_l13 = 0, w2c_l14 = 0, w2c_l15 = 0, w2c_l16 = 0, w2c_l17 = 0, w2c_l18 = 0, w2c_l19 = 0, w2c_l20 = 0, w2c_l21 = 0;
+  u64 w2c_l2 = 0, w2c_l3 = 0, w2c_l4 = 0, w2c_l5 = 0, w2c_l6 = 0, w2c_l7 = 0, w2c_l8 = 0, w2c_l9 = 0, w2c_l10 = 0, w2c_l11 = 0, w2c_l12 = 0;
+  u32 w2c_i0, w2c_i1, w2c_i2, w2c_i3, w2c_i4, w2c_i5, w2c_i6;
+  u64 w2c_j0, w2c_j1, w2c_j2, w2c_j3, w2c_j4, w2c_j5, w2c_j6;
+  w2c_j0 = m->w2c_g0;
+  w2c_j1 = 16ull;
+  w2c_j0 -= w2c_j1;
+  w2c_l2 = w2c_j0;
+  m->w2c_g0 = w2c_j0;
+  w2c_j0 = w2c_l2;
+  w2c_l3 = w2c_j0;
+  w2c_j1 = 16ull;
+  w2c_i0 = (u64)((s64)w2c_j0 < (s64)w2c_j1);
+  if (w2c_i0) {goto w2c_B0;}
+  w2c_j0 = w2c_p1;
+  w2c_j1 = 32ull;
+  w2c_j0 += w2c_j1;
+  w2c_i0 = (u32)(w2c_j0);
+  w2c_j0 = i64_load(m, (u64)(w2c_i0));
+  w2c_l2 = w2c_j0;
+  w2c_j0 = w2c_p1;
+  w2c_j1 = 24ull;
+  w2c_j0 += w2c_j1;
+  w2c_i0 = (u32)(w2c_j0);
+  w2c_j0 = i64_load(m, (u64)(w2c_i0));
+  w2c_l4 = w2c_j0;
+  w2c_j0 = w2c_p1;
+  w2c_j1 = 16ull;
+  w2c_j0 += w2c_j1;
+  w2c_i0 = (u32)(w2c_j0);
+  w2c_j0 = i64_load(m, (u64)(w2c_i0));
+  w2c_l5 = w2c_j0;
+  w2c_j0 = w2c_p1;
+  w2c_j1 = 8ull;
+  w2c_j0 += w2c_j1;
+  w2c_i0 = (u32)(w2c_j0);
+  w2c_j0 = i64_load(m, (u64)(w2c_i0));
+  w2c_l6 = w2c_j0;
+  w2c_j0 = w2c_p1;
+  w2c_i0 = (u32)(w2c_j0);
+  w2c_i0 = i32_load8_u(m, (u64)(w2c_i0) + 1u);
+  w2c_l13 = w2c_i0;
+  w2c_j0 = w2c_p1;
+  w2c_i0 = (u32)(w2c_j0);
+  w2c_i0 = i32_load8_u(m, (u64)(w2c_i0));
+  w2c_l14 = w2c_i0;
+  w2c_L3:
     w2c_j0 = w2c_l4;
-    w2c_p0 = w2c_j0;
+    w2c_l7 = w2c_j0;
+    w2c_j0 = w2c_l5;
+    w2c_j1 = w2c_l2;
+    w2c_l8 = w2c_j1;
+    w2c_j0 -= w2c_j1;
+    w2c_l9 = w2c_j0;
+    w2c_j0 = w2c_l8;
+    w2c_j1 = 3ull;
+    w2c_i0 = w2c_j0 < w2c_j1;
+    if (w2c_i0) {goto w2c_B9;}
+    w2c_j0 = w2c_l7;
+    w2c_i0 = (u32)(w2c_j0);
+    w2c_i0 = i32_load8_u(m, (u64)(w2c_i0));
+    w2c_l15 = w2c_i0;
+    w2c_i1 = 240u;
+    w2c_i0 &= w2c_i1;
+    w2c_i1 = 224u;
+    w2c_i0 = w2c_i0 != w2c_i1;
+    if (w2c_i0) {goto w2c_B8;}
+    w2c_j0 = w2c_l7;
+    w2c_i0 = (u32)(w2c_j0);
+    w2c_i0 = i32_load8_u(m, (u64)(w2c_i0) + 1u);
+    w2c_l16 = w2c_i0;
+    w2c_i1 = 6u;
+    w2c_i0 <<= (w2c_i1 & 31);
+    w2c_i1 = w2c_l15;
+    w2c_i2 = 12u;
+    w2c_i1 <<= (w2c_i2 & 31);
+    w2c_i0 += w2c_i1;
+    w2c_j1 = w2c_l7;
+    w2c_i1 = (u32)(w2c_j1);
+    w2c_i1 = i32_load8_u(m, (u64)(w2c_i1) + 2u);
+    w2c_l17 = w2c_i1;
+    w2c_i0 += w2c_i1;
+    w2c_l18 = w2c_i0;
+    w2c_i1 = 4294041472u;
+    w2c_i0 += w2c_i1;
+    w2c_l19 = w2c_i0;
+    w2c_j0 = w2c_l8;
+    w2c_j1 = 18446744073709551613ull;
+    w2c_j0 += w2c_j1;
+    w2c_l2 = w2c_j0;
+    w2c_j0 = w2c_l7;
+    w2c_j1 = 3ull;
+    w2c_j0 += w2c_j1;
+    w2c_l4 = w2c_j0;
+    w2c_i0 = w2c_l18;
+    w2c_i1 = 947141u;
+    w2c_i0 = w2c_i0 == w2c_i1;
+    if (w2c_i0) {goto w2c_B2;}
+    w2c_i0 = w2c_l18;
+    w2c_i1 = 950143u;
+    w2c_i0 = w2c_i0 == w2c_i1;
+    if (w2c_i0) {goto w2c_B2;}
+    w2c_i0 = w2c_l18;
+    w2c_i1 = 4293976176u;
+    w2c_i0 += w2c_i1;
+    w2c_l20 = w2c_i0;
+    w2c_i1 = 10u;
+    w2c_i0 = w2c_i0 < w2c_i1;
+    if (w2c_i0) {goto w2c_B6;}
+    w2c_i0 = w2c_l16;
+    w2c_i1 = 8u;
+    w2c_i0 <<= (w2c_i1 & 31);
+    w2c_i1 = w2c_l17;
+    w2c_i2 = 16u;
+    w2c_i1 <<= (w2c_i2 & 31);
+    w2c_i0 |= w2c_i1;
+    w2c_i1 = w2c_l15;
+    w2c_i0 |= w2c_i1;
+    w2c_l15 = w2c_i0;
+    w2c_j0 = (u64)(w2c_i0);
+    w2c_j1 = 953497ull;
+    w2c_j0 *= w2c_j1;
+    w2c_j1 = 22ull;
+    w2c_j0 >>= (w2c_j1 & 63);
+    w2c_j1 = 1016ull;
+    w2c_j0 &= w2c_j1;
+    w2c_l10 = w2c_j0;
+    w2c_i0 = (u32)(w2c_j0);
+    w2c_i0 = i32_load(m, (u64)(w2c_i0) + 66992u);
+    w2c_l16 = w2c_i0;
+    w2c_j0 = w2c_l10;
+    w2c_j1 = 66997ull;
+    w2c_j0 += w2c_j1;
+    w2c_i0 = (u32)(w2c_j0);
+    w2c_i0 = i32_load8_u(m, (u64)(w2c_i0));
+    w2c_l21 = w2c_i0;
+    w2c_j0 = w2c_l10;
+    w2c_j1 = 66996ull;
+    w2c_j0 += w2c_j1;
+    w2c_i0 = (u32)(w2c_j0);
+    w2c_i0 = i32_load8_u(m, (u64)(w2c_i0));
+    w2c_l17 = w2c_i0;
+    w2c_i0 = w2c_l18;
+    w2c_i1 = 954680u;
+    w2c_i0 = (u32)((s32)w2c_i0 > (s32)w2c_i1);
+    if (w2c_i0) {goto w2c_B11;}
+    w2c_i0 = w2c_l18;
+    w2c_i1 = 945866u;
+    w2c_i0 = (u32)((s32)w2c_i0 > (s32)w2c_i1);
+    if (w2c_i0) {goto w2c_B12;}
+    w2c_i0 = w2c_l18;
+    w2c_i1 = 4294041440u;
+    w2c_i0 += w2c_i1;
+    switch (w2c_i0) {
+      case 0: goto w2c_B5;
+      case 1: goto w2c_B7;
+      case 2: goto w2c_B7;
+      case 3: goto w2c_B7;
+      case 4: goto w2c_B7;
+      case 5: goto w2c_B5;
+      default: goto w2c_B10;
+    }
+    w2c_B12:;
+    w2c_i0 = w2c_l18;
+    w2c_i1 = 945867u;
+    w2c_i0 = w2c_i0 == w2c_i1;
+    if (w2c_i0) {goto w2c_B5;}
+    w2c_i0 = w2c_l18;
+    w2c_i1 = 946822u;
+    w2c_i0 = w2c_i0 != w2c_i1;
+    if (w2c_i0) {goto w2c_B7;}
+    goto w2c_B5;
+    w2c_B11:;
+    w2c_i0 = w2c_l18;
+    w2c_i1 = 961950u;
+    w2c_i0 = (u32)((s32)w2c_i0 > (s32)w2c_i1);
+    if (w2c_i0) {goto w2c_B13;}
+    w2c_i0 = w2c_l18;
+    w2c_i1 = 954681u;
+    w2c_i0 = w2c_i0 == w2c_i1;
+    if (w2c_i0) {goto w2c_B5;}
+    w2c_i0 = w2c_l18;
+    w2c_i1 = 961824u;
+    w2c_i0 = w2c_i0 != w2c_i1;
+    if (w2c_i0) {goto w2c_B7;}
+    goto w2c_B5;
+    w2c_B13:;
+    w2c_i0 = w2c_l18;
+    w2c_i1 = 961951u;
+    w2c_i0 = w2c_i0 == w2c_i1;
+    if (w2c_i0) {goto w2c_B5;}
+    w2c_i0 = w2c_l18;
+    w2c_i1 = 966494u;
+    w2c_i0 = w2c_i0 == w2c_i1;
+    if (w2c_i0) {goto w2c_B5;}
+    w2c_i0 = w2c_l18;
+    w2c_i1 = 991109u;
+    w2c_i0 = w2c_i0 == w2c_i1;
+    if (w2c_i0) {goto w2c_B5;}
+    goto w2c_B7;
+    w2c_B10:;
+    w2c_i0 = w2c_l18;
+    w2c_i1 = 934546u;
+    w2c_i0 = w2c_i0 != w2c_i1;
+    if (w2c_i0) {goto w2c_B7;}
+    goto w2c_B5;
+    w2c_B9:;
+    w2c_j0 = w2c_l8;
+    w2c_i0 = !(w2c_j0);
+    w2c_i0 = !(w2c_i0);
+    if (w2c_i0) {goto w2c_B14;}
+    w2c_j0 = 0ull;
+    w2c_l2 = w2c_j0;
+    w2c_j0 = 66332ull;
+    w2c_l10 = w2c_j0;
+    w2c_j0 = 0ull;
+    w2c_l6 = w2c_j0;
+    w2c_j0 = 0ull;
+    w2c_l9 = w2c_j0;
+    w2c_j0 = 0ull;
+    w2c_l7 = w2c_j0;
+    w2c_j0 = 0ull;
+    w2c_l4 = w2c_j0;
+    w2c_j0 = 0ull;
+    w2c_l8 = w2c_j0;
+    w2c_j0 = 0ull;
+    w2c_l11 = w2c_j0;
+    goto w2c_B1;
+    w2c_B14:;
+    w2c_j0 = w2c_l7;
+    w2c_i0 = (u32)(w2c_j0);
+    w2c_i0 = i32_load8_u(m, (u64)(w2c_i0));
+    w2c_l15 = w2c_i0;
+    w2c_B8:;
+    w2c_j0 = 1ull;
+    w2c_l4 = w2c_j0;
+    w2c_i0 = w2c_l15;
+    w2c_i0 = (u32)(s32)(s8)(u8)(w2c_i0);
+    w2c_i1 = 4294967295u;
+    w2c_i0 = (u32)((s32)w2c_i0 <= (s32)w2c_i1);
+    if (w2c_i0) {goto w2c_B16;}
+    w2c_i0 = w2c_l15;
+    w2c_l19 = w2c_i0;
+    goto w2c_B15;
+    w2c_B16:;
+    w2c_j0 = w2c_l7;
+    w2c_i0 = (u32)(w2c_j0);
+    w2c_i0 = i32_load8_u(m, (u64)(w2c_i0) + 1u);
+    w2c_i1 = 63u;
+    w2c_i0 &= w2c_i1;
+    w2c_l19 = w2c_i0;
+    w2c_i0 = w2c_l15;
+    w2c_i1 = 223u;
+    w2c_i0 = w2c_i0 > w2c_i1;
+    if (w2c_i0) {goto w2c_B17;}
+    w2c_i0 = w2c_l15;
+    w2c_i1 = 6u;
+    w2c_i0 <<= (w2c_i1 & 31);
+    w2c_i1 = 1984u;
+    w2c_i0 &= w2c_i1;
+    w2c_i1 = w2c_l19;
+    w2c_i0 |= w2c_i1;
+    w2c_l19 = w2c_i0;
+    w2c_j0 = 2ull;
+    w2c_l4 = w2c_j0;
+    goto w2c_B15;
+    w2c_B17:;
+    w2c_j0 = w2c_l7;
+    w2c_i0 = (u32)(w2c_j0);
+    w2c_i0 = i32_load8_u(m, (u64)(w2c_i0) + 2u);
+    w2c_i1 = 63u;
+    w2c_i0 &= w2c_i1;
+    w2c_l18 = w2c_i0;
+    w2c_i0 = w2c_l15;
+    w2c_i1 = 239u;
+    w2c_i0 = w2c_i0 > w2c_i1;
+    if (w2c_i0) {goto w2c_B18;}
+    w2c_i0 = w2c_l19;
+    w2c_i1 = 6u;
+    w2c_i0 <<= (w2c_i1 & 31);
+    w2c_i1 = w2c_l15;
+    w2c_i2 = 12u;
+    w2c_i1 <<= (w2c_i2 & 31);
+    w2c_i2 = 61440u;
+    w2c_i1 &= w2c_i2;
+    w2c_i0 |= w2c_i1;
+    w2c_i1 = w2c_l18;
+    w2c_i0 |= w2c_i1;
+    w2c_l19 = w2c_i0;
+    w2c_j0 = 3ull;
+    w2c_l4 = w2c_j0;
+    goto w2c_B15;
+    w2c_B18:;
+    w2c_i0 = w2c_l18;
+    w2c_i1 = 6u;
+    w2c_i0 <<= (w2c_i1 & 31);
+    w2c_i1 = w2c_l19;
+    w2c_i2 = 12u;
+    w2c_i1 <<= (w2c_i2 & 31);
+    w2c_i2 = w2c_l15;
+    w2c_i3 = 18u;
+    w2c_i2 <<= (w2c_i3 & 31);
+    w2c_i3 = 1835008u;
+    w2c_i2 &= w2c_i3;
+    w2c_i1 |= w2c_i2;
+    w2c_i0 |= w2c_i1;
+    w2c_j1 = w2c_l7;
+    w2c_i1 = (u32)(w2c_j1);
+    w2c_i1 = i32_load8_u(m, (u64)(w2c_i1) + 3u);
+    w2c_i2 = 63u;
+    w2c_i1 &= w2c_i2;
+    w2c_i0 |= w2c_i1;
+    w2c_l19 = w2c_i0;
+    w2c_j0 = 4ull;
+    w2c_l4 = w2c_j0;
+    w2c_B15:;
+    w2c_i0 = w2c_l19;
+    w2c_i1 = 4294965248u;
+    w2c_i0 += w2c_i1;
+    w2c_i1 = 63487u;
+    w2c_i0 = w2c_i0 > w2c_i1;
+    if (w2c_i0) {goto w2c_B20;}
+    w2c_i0 = w2c_l19;
+    w2c_i1 = 12u;
+    w2c_i0 >>= (w2c_i1 & 31);
+    w2c_i1 = w2c_l19;
+    w2c_i2 = 2u;
+    w2c_i1 <<= (w2c_i2 & 31);
+    w2c_i2 = 16128u;
+    w2c_i1 &= w2c_i2;
+    w2c_i0 |= w2c_i1;
+    w2c_i1 = w2c_l19;
+    w2c_i2 = 16u;
+    w2c_i1 <<= (w2c_i2 & 31);
+    w2c_i2 = 4128768u;
+    w2c_i1 &= w2c_i2;
+    w2c_i0 |= w2c_i1;
+    w2c_i1 = 8421600u;
+    w2c_i0 |= w2c_i1;
+    w2c_l15 = w2c_i0;
+    w2c_j0 = (u64)(w2c_i0);
+    w2c_j1 = 953497ull;
+    w2c_j0 *= w2c_j1;
+    w2c_j1 = 22ull;
+    w2c_j0 >>= (w2c_j1 & 63);
+    w2c_j1 = 1016ull;
+    w2c_j0 &= w2c_j1;
+    w2c_l2 = w2c_j0;
+    w2c_j1 = 66997ull;
+    w2c_j0 += w2c_j1;
+    w2c_i0 = (u32)(w2c_j0);
+    w2c_i0 = i32_load8_u(m, (u64)(w2c_i0));
+    w2c_i1 = 0u;
+    w2c_j2 = w2c_l2;
+    w2c_i2 = (u32)(w2c_j2);
+    w2c_i2 = i32_load(m, (u64)(w2c_i2) + 66992u);
+    w2c_i3 = w2c_l15;
+    w2c_i2 = w2c_i2 == w2c_i3;
+    w2c_l15 = w2c_i2;
+    w2c_i0 = w2c_i2 ? w2c_i0 : w2c_i1;
+    w2c_l16 = w2c_i0;
+    w2c_j0 = w2c_l2;
+    w2c_j1 = 66996ull;
+    w2c_j0 += w2c_j1;
+    w2c_i0 = (u32)(w2c_j0);
+    w2c_i0 = i32_load8_u(m, (u64)(w2c_i0));
+    w2c_i1 = 2u;
+    w2c_i2 = w2c_l15;
+    w2c_i0 = w2c_i2 ? w2c_i0 : w2c_i1;
+    w2c_l18 = w2c_i0;
+    goto w2c_B19;
+    w2c_B20:;
+    w2c_i0 = w2c_l19;
+    w2c_i1 = 4294967248u;
+    w2c_i0 += w2c_i1;
+    w2c_l15 = w2c_i0;
+    w2c_i1 = 0u;
+    w2c_i2 = w2c_l15;
+    w2c_i3 = 10u;
+    w2c_i2 = w2c_i2 < w2c_i3;
+    w2c_l15 = w2c_i2;
+    w2c_i0 = w2c_i2 ? w2c_i0 : w2c_i1;
+    w2c_l16 = w2c_i0;
+    w2c_i0 = 0u;
+    w2c_i1 = 2u;
+    w2c_i2 = w2c_l15;
+    w2c_i0 = w2c_i2 ? w2c_i0 : w2c_i1;
+    w2c_l18 = w2c_i0;
+    w2c_B19:;
+    w2c_j0 = w2c_l8;
+    w2c_j1 = w2c_l4;
+    w2c_j0 -= w2c_j1;
+    w2c_l2 = w2c_j0;
+    w2c_j0 = w2c_l7;
+    w2c_j1 = w2c_l4;
+    w2c_j0 += w2c_j1;
+    w2c_l4 = w2c_j0;
+    w2c_i0 = w2c_l19;
+    w2c_i1 = 21317u;
+    w2c_i0 = w2c_i0 == w2c_i1;
+    if (w2c_i0) {goto w2c_B2;}
+    w2c_i0 = w2c_l19;
+    w2c_i1 = 24319u;
+    w2c_i0 = w2c_i0 == w2c_i1;
+    if (w2c_i0) {goto w2c_B2;}
+    w2c_i0 = w2c_l19;
+    w2c_i1 = 4294902000u;
+    w2c_i0 += w2c_i1;
+    w2c_l15 = w2c_i0;
+    w2c_i1 = 10u;
+    w2c_i0 = w2c_i0 < w2c_i1;
+    if (w2c_i0) {goto w2c_B23;}
+    w2c_i0 = w2c_l19;
+    w2c_i1 = 28856u;
+    w2c_i0 = (u32)((s32)w2c_i0 > (s32)w2c_i1);
+    if (w2c_i0) {goto w2c_B26;}
+    w2c_i0 = w2c_l19;
+    w2c_i1 = 20042u;
+    w2c_i0 = (u32)((s32)w2c_i0 > (s32)w2c_i1);
+    if (w2c_i0) {goto w2c_B27;}
+    w2c_i0 = w2c_l19;
+    w2c_i1 = 4294967264u;
+    w2c_i0 += w2c_i1;
+    switch (w2c_i0) {
+      case 0: goto w2c_B22;
+      case 1: goto w2c_B24;
+      case 2: goto w2c_B24;
+      case 3: goto w2c_B24;
+      case 4: goto w2c_B24;
+      case 5: goto w2c_B22;
+      default: goto w2c_B25;
+    }
+    w2c_B27:;
+    w2c_i0 = w2c_l19;
+    w2c_i1 = 20043u;
+    w2c_i0 = w2c_i0 == w2c_i1;
+    if (w2c_i0) {goto w2c_B22;}
+    w2c_i0 = w2c_l19;
+    w2c_i1 = 20998u;
+    w2c_i0 = w2c_i0 != w2c_i1;
+    if (w2c_i0) {goto w2c_B24;}
+    goto w2c_B22;
+    w2c_B26:;
+    w2c_i0 = w2c_l19;
+    w2c_i1 = 36126u;
+    w2c_i0 = (u32)((s32)w2c_i0 > (s32)w2c_i1);
+    if (w2c_i0) {goto w2c_B28;}
+    w2c_i0 = w2c_l19;
+    w2c_i1 = 28857u;
+    w2c_i0 = w2c_i0 == w2c_i1;
+    if (w2c_i0) {goto w2c_B22;}
+    w2c_i0 = w2c_l19;
+    w2c_i1 = 36000u;
+    w2c_i0 = w2c_i0 != w2c_i1;
+    if (w2c_i0) {goto w2c_B24;}
+    goto w2c_B22;
+    w2c_B28:;
+    w2c_i0 = w2c_l19;
+    w2c_i1 = 36127u;
+    w2c_i0 = w2c_i0 == w2c_i1;
+    if (w2c_i0) {goto w2c_B22;}
+    w2c_i0 = w2c_l19;
+    w2c_i1 = 40670u;
+    w2c_i0 = w2c_i0 == w2c_i1;
+    if (w2c_i0) {goto w2c_B22;}
+    w2c_i0 = w2c_l19;
+    w2c_i1 = 65285u;
+    w2c_i0 = w2c_i0 == w2c_i1;
+    if (w2c_i0) {goto w2c_B22;}
+    goto w2c_B24;
+    w2c_B25:;
+    w2c_i0 = w2c_l19;
+    w2c_i1 = 8722u;
+    w2c_i0 = w2c_i0 == w2c_i1;
+    if (w2c_i0) {goto w2c_B22;}
+    w2c_B24:;
+    w2c_i0 = w2c_l19;
+    w2c_i1 = 44u;
+    w2c_i0 = w2c_i0 < w2c_i1;
+    if (w2c_i0) {goto w2c_B21;}
+    w2c_i0 = w2c_l19;
+    w2c_i1 = 47u;
+    w2c_i0 = w2c_i0 < w2c_i1;
+    if (w2c_i0) {goto w2c_B23;}
+    w2c_i0 = w2c_l19;
+    w2c_i1 = 4294902003u;
+    w2c_i0 += w2c_i1;
+    w2c_i1 = 1u;
+    w2c_i0 = w2c_i0 > w2c_i1;
+    if (w2c_i0) {goto w2c_B21;}
+    w2c_B23:;
+    w2c_i0 = w2c_l19;
+    w2c_i1 = 21317u;
+    w2c_i0 = w2c_i0 == w2c_i1;
+    if (w2c_i0) {goto w2c_B2;}
+    w2c_i0 = w2c_l19;
+    w2c_i1 = 24319u;
+    w2c_i0 = w2c_i0 == w2c_i1;
+    if (w2c_i0) {goto w2c_B2;}
+    w2c_i0 = w2c_l15;
+    w2c_i1 = 10u;
+    w2c_i0 = w2c_i0 < w2c_i1;
+    if (w2c_i0) {goto w2c_B2;}
+    w2c_B22:;
+    w2c_i0 = w2c_l14;
+    w2c_i1 = w2c_l13;
+    w2c_j2 = w2c_l6;
+    w2c_j3 = w2c_l9;
+    w2c_i4 = w2c_l19;
+    w2c_j5 = w2c_l4;
+    w2c_j6 = w2c_l2;
+    w2c_i0 = w2c_f28(m, w2c_i0, w2c_i1, w2c_j2, w2c_j3, w2c_i4, w2c_j5, w2c_j6);
+    w2c_i0 = !(w2c_i0);
+    if (w2c_i0) {goto w2c_L3;}
+    goto w2c_B2;
+    w2c_B21:;
+    w2c_i0 = w2c_l18;
+    w2c_i1 = 255u;
+    w2c_i0 &= w2c_i1;
+    w2c_i1 = 2u;
+    w2c_i0 = w2c_i0 == w2c_i1;
+    if (w2c_i0) {goto w2c_L3;}
+    w2c_i0 = w2c_l14;
+    w2c_i1 = w2c_l13;
+    w2c_i2 = w2c_l19;
+    w2c_i3 = w2c_l18;
+    w2c_i4 = w2c_l16;
+    w2c_j5 = w2c_l4;
+    w2c_j6 = w2c_l2;
+    w2c_i0 = w2c_f17(m, w2c_i0, w2c_i1, w2c_i2, w2c_i3, w2c_i4, w2c_j5, w2c_j6);
+    w2c_i0 = !(w2c_i0);
+    if (w2c_i0) {goto w2c_L3;}
+    goto w2c_B2;
+    w2c_B7:;
+    w2c_i0 = w2c_l19;
+    w2c_i1 = 44u;
+    w2c_i0 = w2c_i0 < w2c_i1;
+    if (w2c_i0) {goto w2c_B4;}
+    w2c_i0 = w2c_l19;
+    w2c_i1 = 47u;
+    w2c_i0 = w2c_i0 < w2c_i1;
+    if (w2c_i0) {goto w2c_B6;}
+    w2c_i0 = w2c_l18;
+    w2c_i1 = 4293976179u;
+    w2c_i0 += w2c_i1;
+    w2c_i1 = 1u;
+    w2c_i0 = w2c_i0 > w2c_i1;
+    if (w2c_i0) {goto w2c_B4;}
+    w2c_B6:;
+    w2c_i0 = w2c_l18;
+    w2c_i1 = 947141u;
+    w2c_i0 = w2c_i0 == w2c_i1;
+    if (w2c_i0) {goto w2c_B2;}
+    w2c_i0 = w2c_l18;
+    w2c_i1 = 950143u;
+    w2c_i0 = w2c_i0 == w2c_i1;
+    if (w2c_i0) {goto w2c_B2;}
+    w2c_i0 = w2c_l20;
+    w2c_i1 = 10u;
+    w2c_i0 = w2c_i0 < w2c_i1;
+    if (w2c_i0) {goto w2c_B2;}
+    w2c_B5:;
+    w2c_i0 = w2c_l14;
+    w2c_i1 = w2c_l13;
+    w2c_j2 = w2c_l6;
+    w2c_j3 = w2c_l9;
+    w2c_i4 = w2c_l19;
+    w2c_j5 = w2c_l4;
+    w2c_j6 = w2c_l2;
+    w2c_i0 = w2c_f28(m, w2c_i0, w2c_i1, w2c_j2, w2c_j3, w2c_i4, w2c_j5, w2c_j6);
+    w2c_i0 = !(w2c_i0);
+    if (w2c_i0) {goto w2c_L3;}
+    goto w2c_B2;
+    w2c_B4:;
+    w2c_i0 = w2c_l17;
+    w2c_i1 = 2u;
+    w2c_i2 = w2c_l16;
+    w2c_i3 = w2c_l15;
+    w2c_i2 = w2c_i2 == w2c_i3;
+    w2c_l15 = w2c_i2;
+    w2c_i0 = w2c_i2 ? w2c_i0 : w2c_i1;
+    w2c_l18 = w2c_i0;
+    w2c_i1 = 255u;
+    w2c_i0 &= w2c_i1;
+    w2c_i1 = 2u;
+    w2c_i0 = w2c_i0 == w2c_i1;
+    if (w2c_i0) {goto w2c_L3;}
+    w2c_i0 = w2c_l14;
+    w2c_i1 = w2c_l13;
+    w2c_i2 = w2c_l19;
+    w2c_i3 = w2c_l18;
+    w2c_i4 = w2c_l21;
+    w2c_i5 = 0u;
+    w2c_i6 = w2c_l15;
+    w2c_i4 = w2c_i6 ? w2c_i4 : w2c_i5;
+    w2c_j5 = w2c_l4;
+    w2c_j6 = w2c_l2;
+    w2c_i0 = w2c_f17(m, w2c_i0, w2c_i1, w2c_i2, w2c_i3, w2c_i4, w2c_j5, w2c_j6);
+    w2c_i0 = !(w2c_i0);
+    if (w2c_i0) {goto w2c_L3;}
+  w2c_B2:;
+  w2c_L30:
+    w2c_j0 = w2c_l4;
+    w2c_l10 = w2c_j0;
+    w2c_j0 = w2c_l2;
+    w2c_l11 = w2c_j0;
     w2c_j1 = 3ull;
     w2c_i0 = w2c_j0 < w2c_j1;
     if (w2c_i0) {goto w2c_B33;}
-    w2c_j0 = w2c_l2;
+    w2c_j0 = w2c_l10;
     w2c_i0 = (u32)(w2c_j0);
     w2c_i0 = i32_load8_u(m, (u64)(w2c_i0));
-    w2c_l6 = w2c_i0;
+    w2c_l15 = w2c_i0;
     w2c_i1 = 240u;
     w2c_i0 &= w2c_i1;
     w2c_i1 = 224u;
     w2c_i0 = w2c_i0 != w2c_i1;
     if (w2c_i0) {goto w2c_B32;}
-    w2c_j0 = w2c_l2;
-    w2c_i0 = (u32)(w2c_j0);
-    w2c_i0 = i32_load8_u(m, (u64)(w2c_i0) + 2u);
-    w2c_l7 = w2c_i0;
-    w2c_j0 = w2c_l2;
+    w2c_j0 = w2c_l10;
     w2c_i0 = (u32)(w2c_j0);
     w2c_i0 = i32_load8_u(m, (u64)(w2c_i0) + 1u);
-    w2c_l9 = w2c_i0;
-    w2c_j0 = w2c_p0;
-    w2c_j1 = 18446744073709551613ull;
-    w2c_j0 += w2c_j1;
-    w2c_l4 = w2c_j0;
-    w2c_j0 = w2c_l2;
-    w2c_j1 = 3ull;
-    w2c_j0 += w2c_j1;
-    w2c_l2 = w2c_j0;
-    w2c_i0 = w2c_l9;
+    w2c_l17 = w2c_i0;
     w2c_i1 = 8u;
     w2c_i0 <<= (w2c_i1 & 31);
-    w2c_i1 = w2c_l7;
+    w2c_j1 = w2c_l10;
+    w2c_i1 = (u32)(w2c_j1);
+    w2c_i1 = i32_load8_u(m, (u64)(w2c_i1) + 2u);
+    w2c_l20 = w2c_i1;
     w2c_i2 = 16u;
     w2c_i1 <<= (w2c_i2 & 31);
     w2c_i0 |= w2c_i1;
-    w2c_i1 = w2c_l6;
+    w2c_i1 = w2c_l15;
     w2c_i0 |= w2c_i1;
-    w2c_l6 = w2c_i0;
+    w2c_l18 = w2c_i0;
     w2c_j0 = (u64)(w2c_i0);
     w2c_j1 = 953497ull;
     w2c_j0 *= w2c_j1;
@@ -14488,128 +15592,161 @@ static u32 w2c_f26(module *m, u64 w2c_p0, u64 w2c_p1) {
     w2c_j0 >>= (w2c_j1 & 63);
     w2c_j1 = 1016ull;
     w2c_j0 &= w2c_j1;
-    w2c_p0 = w2c_j0;
-    w2c_j1 = 66992ull;
+    w2c_l2 = w2c_j0;
+    w2c_j1 = 66997ull;
     w2c_j0 += w2c_j1;
     w2c_i0 = (u32)(w2c_j0);
-    w2c_i0 = i32_load(m, (u64)(w2c_i0));
-    w2c_i1 = w2c_l6;
-    w2c_i0 = w2c_i0 != w2c_i1;
-    if (w2c_i0) {goto w2c_L21;}
-    goto w2c_B31;
-    w2c_B33:;
-    w2c_j0 = 0ull;
-    w2c_l4 = w2c_j0;
-    w2c_j0 = w2c_p0;
-    w2c_i0 = !(w2c_j0);
-    if (w2c_i0) {goto w2c_L21;}
+    w2c_i0 = i32_load8_u(m, (u64)(w2c_i0));
+    w2c_i1 = 0u;
+    w2c_j2 = w2c_l2;
+    w2c_i2 = (u32)(w2c_j2);
+    w2c_i2 = i32_load(m, (u64)(w2c_i2) + 66992u);
+    w2c_i3 = w2c_l18;
+    w2c_i2 = w2c_i2 == w2c_i3;
+    w2c_l18 = w2c_i2;
+    w2c_i0 = w2c_i2 ? w2c_i0 : w2c_i1;
+    w2c_l16 = w2c_i0;
     w2c_j0 = w2c_l2;
+    w2c_j1 = 66996ull;
+    w2c_j0 += w2c_j1;
     w2c_i0 = (u32)(w2c_j0);
     w2c_i0 = i32_load8_u(m, (u64)(w2c_i0));
-    w2c_l6 = w2c_i0;
+    w2c_i1 = 2u;
+    w2c_i2 = w2c_l18;
+    w2c_i0 = w2c_i2 ? w2c_i0 : w2c_i1;
+    w2c_l18 = w2c_i0;
+    w2c_i0 = w2c_l15;
+    w2c_i1 = 12u;
+    w2c_i0 <<= (w2c_i1 & 31);
+    w2c_i1 = w2c_l17;
+    w2c_i2 = 6u;
+    w2c_i1 <<= (w2c_i2 & 31);
+    w2c_i0 += w2c_i1;
+    w2c_i1 = w2c_l20;
+    w2c_i0 += w2c_i1;
+    w2c_i1 = 4294041472u;
+    w2c_i0 += w2c_i1;
+    w2c_l15 = w2c_i0;
+    w2c_j0 = w2c_l11;
+    w2c_j1 = 18446744073709551613ull;
+    w2c_j0 += w2c_j1;
+    w2c_l2 = w2c_j0;
+    w2c_j0 = w2c_l10;
+    w2c_j1 = 3ull;
+    w2c_j0 += w2c_j1;
+    w2c_l4 = w2c_j0;
+    goto w2c_B31;
+    w2c_B33:;
+    w2c_j0 = w2c_l11;
+    w2c_i0 = !(w2c_j0);
+    if (w2c_i0) {goto w2c_B29;}
+    w2c_j0 = w2c_l10;
+    w2c_i0 = (u32)(w2c_j0);
+    w2c_i0 = i32_load8_u(m, (u64)(w2c_i0));
+    w2c_l15 = w2c_i0;
     w2c_B32:;
     w2c_j0 = 1ull;
-    w2c_p1 = w2c_j0;
-    w2c_i0 = w2c_l6;
+    w2c_l4 = w2c_j0;
+    w2c_i0 = w2c_l15;
     w2c_i0 = (u32)(s32)(s8)(u8)(w2c_i0);
     w2c_i1 = 4294967295u;
     w2c_i0 = (u32)((s32)w2c_i0 > (s32)w2c_i1);
     if (w2c_i0) {goto w2c_B34;}
-    w2c_j0 = w2c_l2;
+    w2c_j0 = w2c_l10;
     w2c_i0 = (u32)(w2c_j0);
     w2c_i0 = i32_load8_u(m, (u64)(w2c_i0) + 1u);
     w2c_i1 = 63u;
     w2c_i0 &= w2c_i1;
-    w2c_l7 = w2c_i0;
-    w2c_i0 = w2c_l6;
+    w2c_l18 = w2c_i0;
+    w2c_i0 = w2c_l15;
     w2c_i1 = 223u;
     w2c_i0 = w2c_i0 > w2c_i1;
     if (w2c_i0) {goto w2c_B35;}
-    w2c_i0 = w2c_l6;
+    w2c_i0 = w2c_l15;
     w2c_i1 = 6u;
     w2c_i0 <<= (w2c_i1 & 31);
     w2c_i1 = 1984u;
     w2c_i0 &= w2c_i1;
-    w2c_i1 = w2c_l7;
+    w2c_i1 = w2c_l18;
     w2c_i0 |= w2c_i1;
-    w2c_l6 = w2c_i0;
+    w2c_l15 = w2c_i0;
     w2c_j0 = 2ull;
-    w2c_p1 = w2c_j0;
+    w2c_l4 = w2c_j0;
     goto w2c_B34;
     w2c_B35:;
-    w2c_j0 = w2c_l2;
+    w2c_j0 = w2c_l10;
     w2c_i0 = (u32)(w2c_j0);
     w2c_i0 = i32_load8_u(m, (u64)(w2c_i0) + 2u);
     w2c_i1 = 63u;
     w2c_i0 &= w2c_i1;
-    w2c_l9 = w2c_i0;
-    w2c_i0 = w2c_l6;
+    w2c_l16 = w2c_i0;
+    w2c_i0 = w2c_l15;
     w2c_i1 = 239u;
     w2c_i0 = w2c_i0 > w2c_i1;
     if (w2c_i0) {goto w2c_B36;}
-    w2c_i0 = w2c_l7;
+    w2c_i0 = w2c_l18;
     w2c_i1 = 6u;
     w2c_i0 <<= (w2c_i1 & 31);
-    w2c_i1 = w2c_l6;
+    w2c_i1 = w2c_l15;
     w2c_i2 = 12u;
     w2c_i1 <<= (w2c_i2 & 31);
     w2c_i2 = 61440u;
     w2c_i1 &= w2c_i2;
     w2c_i0 |= w2c_i1;
-    w2c_i1 = w2c_l9;
+    w2c_i1 = w2c_l16;
     w2c_i0 |= w2c_i1;
-    w2c_l6 = w2c_i0;
+    w2c_l15 = w2c_i0;
     w2c_j0 = 3ull;
-    w2c_p1 = w2c_j0;
+    w2c_l4 = w2c_j0;
     goto w2c_B34;
     w2c_B36:;
-    w2c_i0 = w2c_l9;
+    w2c_i0 = w2c_l16;
     w2c_i1 = 6u;
     w2c_i0 <<= (w2c_i1 & 31);
-    w2c_i1 = w2c_l7;
+    w2c_i1 = w2c_l18;
     w2c_i2 = 12u;
     w2c_i1 <<= (w2c_i2 & 31);
-    w2c_i2 = w2c_l6;
+    w2c_i2 = w2c_l15;
     w2c_i3 = 18u;
     w2c_i2 <<= (w2c_i3 & 31);
     w2c_i3 = 1835008u;
     w2c_i2 &= w2c_i3;
     w2c_i1 |= w2c_i2;
     w2c_i0 |= w2c_i1;
-    w2c_j1 = w2c_l2;
+    w2c_j1 = w2c_l10;
     w2c_i1 = (u32)(w2c_j1);
     w2c_i1 = i32_load8_u(m, (u64)(w2c_i1) + 3u);
     w2c_i2 = 63u;
     w2c_i1 &= w2c_i2;
     w2c_i0 |= w2c_i1;
-    w2c_l6 = w2c_i0;
+    w2c_l15 = w2c_i0;
     w2c_j0 = 4ull;
-    w2c_p1 = w2c_j0;
-    w2c_B34:;
-    w2c_j0 = w2c_p0;
-    w2c_j1 = w2c_p1;
-    w2c_j0 -= w2c_j1;
     w2c_l4 = w2c_j0;
-    w2c_j0 = w2c_l2;
-    w2c_j1 = w2c_p1;
-    w2c_j0 += w2c_j1;
+    w2c_B34:;
+    w2c_j0 = w2c_l11;
+    w2c_j1 = w2c_l4;
+    w2c_j0 -= w2c_j1;
     w2c_l2 = w2c_j0;
-    w2c_i0 = w2c_l6;
+    w2c_j0 = w2c_l10;
+    w2c_j1 = w2c_l4;
+    w2c_j0 += w2c_j1;
+    w2c_l4 = w2c_j0;
+    w2c_i0 = w2c_l15;
     w2c_i1 = 4294965248u;
     w2c_i0 += w2c_i1;
     w2c_i1 = 63487u;
     w2c_i0 = w2c_i0 > w2c_i1;
     if (w2c_i0) {goto w2c_B37;}
-    w2c_i0 = w2c_l6;
+    w2c_i0 = w2c_l15;
     w2c_i1 = 12u;
     w2c_i0 >>= (w2c_i1 & 31);
-    w2c_i1 = w2c_l6;
+    w2c_i1 = w2c_l15;
     w2c_i2 = 2u;
     w2c_i1 <<= (w2c_i2 & 31);
     w2c_i2 = 16128u;
     w2c_i1 &= w2c_i2;
     w2c_i0 |= w2c_i1;
-    w2c_i1 = w2c_l6;
+    w2c_i1 = w2c_l15;
     w2c_i2 = 16u;
     w2c_i1 <<= (w2c_i2 & 31);
     w2c_i2 = 4128768u;
@@ -14617,7 +15754,7 @@ static u32 w2c_f26(module *m, u64 w2c_p0, u64 w2c_p1) {
     w2c_i0 |= w2c_i1;
     w2c_i1 = 8421600u;
     w2c_i0 |= w2c_i1;
-    w2c_l6 = w2c_i0;
+    w2c_l18 = w2c_i0;
     w2c_j0 = (u64)(w2c_i0);
     w2c_j1 = 953497ull;
     w2c_j0 *= w2c_j1;
@@ -14625,40 +15762,377 @@ static u32 w2c_f26(module *m, u64 w2c_p0, u64 w2c_p1) {
     w2c_j0 >>= (w2c_j1 & 63);
     w2c_j1 = 1016ull;
     w2c_j0 &= w2c_j1;
-    w2c_p0 = w2c_j0;
-    w2c_j1 = 66992ull;
+    w2c_l12 = w2c_j0;
+    w2c_j1 = 66997ull;
     w2c_j0 += w2c_j1;
     w2c_i0 = (u32)(w2c_j0);
-    w2c_i0 = i32_load(m, (u64)(w2c_i0));
-    w2c_i1 = w2c_l6;
-    w2c_i0 = w2c_i0 != w2c_i1;
-    if (w2c_i0) {goto w2c_L21;}
-    goto w2c_B31;
-    w2c_B37:;
-    w2c_i0 = w2c_l6;
-    w2c_i1 = 4294967248u;
-    w2c_i0 += w2c_i1;
-    w2c_i1 = 10u;
-    w2c_i0 = w2c_i0 >= w2c_i1;
-    if (w2c_i0) {goto w2c_L21;}
-    goto w2c_B0;
-    w2c_B31:;
-    w2c_j0 = w2c_p0;
+    w2c_i0 = i32_load8_u(m, (u64)(w2c_i0));
+    w2c_i1 = 0u;
+    w2c_j2 = w2c_l12;
+    w2c_i2 = (u32)(w2c_j2);
+    w2c_i2 = i32_load(m, (u64)(w2c_i2) + 66992u);
+    w2c_i3 = w2c_l18;
+    w2c_i2 = w2c_i2 == w2c_i3;
+    w2c_l18 = w2c_i2;
+    w2c_i0 = w2c_i2 ? w2c_i0 : w2c_i1;
+    w2c_l16 = w2c_i0;
+    w2c_j0 = w2c_l12;
     w2c_j1 = 66996ull;
     w2c_j0 += w2c_j1;
     w2c_i0 = (u32)(w2c_j0);
     w2c_i0 = i32_load8_u(m, (u64)(w2c_i0));
-    if (w2c_i0) {goto w2c_L21;}
-  w2c_B0:;
+    w2c_i1 = 2u;
+    w2c_i2 = w2c_l18;
+    w2c_i0 = w2c_i2 ? w2c_i0 : w2c_i1;
+    w2c_l18 = w2c_i0;
+    goto w2c_B31;
+    w2c_B37:;
+    w2c_i0 = w2c_l15;
+    w2c_i1 = 4294967248u;
+    w2c_i0 += w2c_i1;
+    w2c_l18 = w2c_i0;
+    w2c_i1 = 0u;
+    w2c_i2 = w2c_l18;
+    w2c_i3 = 10u;
+    w2c_i2 = w2c_i2 < w2c_i3;
+    w2c_l18 = w2c_i2;
+    w2c_i0 = w2c_i2 ? w2c_i0 : w2c_i1;
+    w2c_l16 = w2c_i0;
+    w2c_i0 = 0u;
+    w2c_i1 = 2u;
+    w2c_i2 = w2c_l18;
+    w2c_i0 = w2c_i2 ? w2c_i0 : w2c_i1;
+    w2c_l18 = w2c_i0;
+    w2c_B31:;
+    w2c_i0 = w2c_l15;
+    w2c_i1 = 21317u;
+    w2c_i0 = w2c_i0 == w2c_i1;
+    if (w2c_i0) {goto w2c_B38;}
+    w2c_i0 = w2c_l15;
+    w2c_i1 = 24319u;
+    w2c_i0 = w2c_i0 == w2c_i1;
+    if (w2c_i0) {goto w2c_B38;}
+    w2c_i0 = w2c_l15;
+    w2c_i1 = 4294902000u;
+    w2c_i0 += w2c_i1;
+    w2c_l17 = w2c_i0;
+    w2c_i1 = 10u;
+    w2c_i0 = w2c_i0 < w2c_i1;
+    if (w2c_i0) {goto w2c_B41;}
+    w2c_i0 = w2c_l15;
+    w2c_i1 = 28856u;
+    w2c_i0 = (u32)((s32)w2c_i0 > (s32)w2c_i1);
+    if (w2c_i0) {goto w2c_B44;}
+    w2c_i0 = w2c_l15;
+    w2c_i1 = 20042u;
+    w2c_i0 = (u32)((s32)w2c_i0 > (s32)w2c_i1);
+    if (w2c_i0) {goto w2c_B45;}
+    w2c_i0 = w2c_l15;
+    w2c_i1 = 4294967264u;
+    w2c_i0 += w2c_i1;
+    switch (w2c_i0) {
+      case 0: goto w2c_B39;
+      case 1: goto w2c_B42;
+      case 2: goto w2c_B42;
+      case 3: goto w2c_B42;
+      case 4: goto w2c_B42;
+      case 5: goto w2c_B39;
+      default: goto w2c_B43;
+    }
+    w2c_B45:;
+    w2c_i0 = w2c_l15;
+    w2c_i1 = 20043u;
+    w2c_i0 = w2c_i0 == w2c_i1;
+    if (w2c_i0) {goto w2c_B39;}
+    w2c_i0 = w2c_l15;
+    w2c_i1 = 20998u;
+    w2c_i0 = w2c_i0 != w2c_i1;
+    if (w2c_i0) {goto w2c_B42;}
+    goto w2c_B39;
+    w2c_B44:;
+    w2c_i0 = w2c_l15;
+    w2c_i1 = 36126u;
+    w2c_i0 = (u32)((s32)w2c_i0 > (s32)w2c_i1);
+    if (w2c_i0) {goto w2c_B46;}
+    w2c_i0 = w2c_l15;
+    w2c_i1 = 28857u;
+    w2c_i0 = w2c_i0 == w2c_i1;
+    if (w2c_i0) {goto w2c_B39;}
+    w2c_i0 = w2c_l15;
+    w2c_i1 = 36000u;
+    w2c_i0 = w2c_i0 != w2c_i1;
+    if (w2c_i0) {goto w2c_B42;}
+    goto w2c_B39;
+    w2c_B46:;
+    w2c_i0 = w2c_l15;
+    w2c_i1 = 36127u;
+    w2c_i0 = w2c_i0 == w2c_i1;
+    if (w2c_i0) {goto w2c_B39;}
+    w2c_i0 = w2c_l15;
+    w2c_i1 = 40670u;
+    w2c_i0 = w2c_i0 == w2c_i1;
+    if (w2c_i0) {goto w2c_B39;}
+    w2c_i0 = w2c_l15;
+    w2c_i1 = 65285u;
+    w2c_i0 = w2c_i0 == w2c_i1;
+    if (w2c_i0) {goto w2c_B39;}
+    goto w2c_B42;
+    w2c_B43:;
+    w2c_i0 = w2c_l15;
+    w2c_i1 = 8722u;
+    w2c_i0 = w2c_i0 == w2c_i1;
+    if (w2c_i0) {goto w2c_B39;}
+    w2c_B42:;
+    w2c_i0 = w2c_l15;
+    w2c_i1 = 44u;
+    w2c_i0 = w2c_i0 < w2c_i1;
+    if (w2c_i0) {goto w2c_B40;}
+    w2c_i0 = w2c_l15;
+    w2c_i1 = 47u;
+    w2c_i0 = w2c_i0 < w2c_i1;
+    if (w2c_i0) {goto w2c_B41;}
+    w2c_i0 = w2c_l15;
+    w2c_i1 = 4294902003u;
+    w2c_i0 += w2c_i1;
+    w2c_i1 = 1u;
+    w2c_i0 = w2c_i0 > w2c_i1;
+    if (w2c_i0) {goto w2c_B40;}
+    w2c_B41:;
+    w2c_i0 = w2c_l15;
+    w2c_i1 = 21317u;
+    w2c_i0 = w2c_i0 == w2c_i1;
+    if (w2c_i0) {goto w2c_B38;}
+    w2c_i0 = w2c_l15;
+    w2c_i1 = 24319u;
+    w2c_i0 = w2c_i0 == w2c_i1;
+    if (w2c_i0) {goto w2c_B38;}
+    w2c_i0 = w2c_l17;
+    w2c_i1 = 10u;
+    w2c_i0 = w2c_i0 >= w2c_i1;
+    if (w2c_i0) {goto w2c_B39;}
+    goto w2c_B38;
+    w2c_B40:;
+    w2c_i0 = w2c_l18;
+    w2c_i1 = 255u;
+    w2c_i0 &= w2c_i1;
+    w2c_i1 = 2u;
+    w2c_i0 = w2c_i0 == w2c_i1;
+    if (w2c_i0) {goto w2c_B29;}
+    w2c_i0 = w2c_l14;
+    w2c_i1 = w2c_l13;
+    w2c_i2 = w2c_l15;
+    w2c_i3 = w2c_l18;
+    w2c_i4 = w2c_l16;
+    w2c_j5 = w2c_l4;
+    w2c_j6 = w2c_l2;
+    w2c_i0 = w2c_f17(m, w2c_i0, w2c_i1, w2c_i2, w2c_i3, w2c_i4, w2c_j5, w2c_j6);
+    if (w2c_i0) {goto w2c_B38;}
+    goto w2c_B29;
+    w2c_B39:;
+    w2c_i0 = w2c_l14;
+    w2c_i1 = w2c_l13;
+    w2c_j2 = w2c_l6;
+    w2c_j3 = w2c_l5;
+    w2c_j4 = w2c_l11;
+    w2c_j3 -= w2c_j4;
+    w2c_i4 = w2c_l15;
+    w2c_j5 = w2c_l4;
+    w2c_j6 = w2c_l2;
+    w2c_i0 = w2c_f28(m, w2c_i0, w2c_i1, w2c_j2, w2c_j3, w2c_i4, w2c_j5, w2c_j6);
+    w2c_i0 = !(w2c_i0);
+    if (w2c_i0) {goto w2c_B29;}
+    w2c_B38:;
+    w2c_i0 = w2c_l19;
+    w2c_i1 = 4294967248u;
+    w2c_i0 += w2c_i1;
+    w2c_i1 = 10u;
+    w2c_i0 = w2c_i0 < w2c_i1;
+    if (w2c_i0) {goto w2c_B48;}
+    w2c_i0 = w2c_l19;
+    w2c_i1 = 4294902000u;
+    w2c_i0 += w2c_i1;
+    w2c_i1 = 9u;
+    w2c_i0 = w2c_i0 > w2c_i1;
+    if (w2c_i0) {goto w2c_B47;}
+    w2c_B48:;
+    w2c_j0 = w2c_l3;
+    w2c_j1 = 8ull;
+    w2c_j0 += w2c_j1;
+    w2c_i1 = w2c_l15;
+    w2c_f18(m, w2c_j0, w2c_i1);
+    w2c_i0 = w2c_l15;
+    w2c_i1 = 4294967238u;
+    w2c_i0 += w2c_i1;
+    w2c_i1 = 4294967285u;
+    w2c_i0 = w2c_i0 > w2c_i1;
+    if (w2c_i0) {goto w2c_B49;}
+    w2c_j0 = w2c_l3;
+    w2c_i0 = (u32)(w2c_j0);
+    w2c_i0 = i32_load8_u(m, (u64)(w2c_i0) + 8u);
+    w2c_i1 = 255u;
+    w2c_i0 &= w2c_i1;
+    w2c_i1 = 1u;
+    w2c_i0 = w2c_i0 == w2c_i1;
+    if (w2c_i0) {goto w2c_B29;}
+    w2c_B49:;
+    w2c_i0 = w2c_l15;
+    w2c_i1 = 21317u;
+    w2c_i0 = w2c_i0 == w2c_i1;
+    if (w2c_i0) {goto w2c_B29;}
+    w2c_i0 = w2c_l15;
+    w2c_i1 = 24319u;
+    w2c_i0 = w2c_i0 == w2c_i1;
+    if (w2c_i0) {goto w2c_B29;}
+    w2c_B47:;
+    w2c_j0 = w2c_l3;
+    w2c_i1 = w2c_l19;
+    w2c_f18(m, w2c_j0, w2c_i1);
+    w2c_i0 = w2c_l19;
+    w2c_i1 = 4294967238u;
+    w2c_i0 += w2c_i1;
+    w2c_i1 = 4294967285u;
+    w2c_i0 = w2c_i0 > w2c_i1;
+    if (w2c_i0) {goto w2c_B51;}
+    w2c_j0 = w2c_l3;
+    w2c_i0 = (u32)(w2c_j0);
+    w2c_i0 = i32_load8_u(m, (u64)(w2c_i0));
+    w2c_i1 = 255u;
+    w2c_i0 &= w2c_i1;
+    w2c_i1 = 1u;
+    w2c_i0 = w2c_i0 == w2c_i1;
+    if (w2c_i0) {goto w2c_B50;}
+    w2c_B51:;
+    w2c_i0 = w2c_l19;
+    w2c_i1 = 24318u;
+    w2c_i0 = (u32)((s32)w2c_i0 > (s32)w2c_i1);
+    if (w2c_i0) {goto w2c_B52;}
+    w2c_i0 = w2c_l19;
+    w2c_i1 = 21317u;
+    w2c_i0 = w2c_i0 == w2c_i1;
+    if (w2c_i0) {goto w2c_B50;}
+    w2c_i0 = w2c_l19;
+    w2c_i1 = 37u;
+    w2c_i0 = w2c_i0 == w2c_i1;
+    w2c_l18 = w2c_i0;
+    w2c_i0 = w2c_l15;
+    w2c_l19 = w2c_i0;
+    w2c_i0 = w2c_l18;
+    w2c_i0 = !(w2c_i0);
+    if (w2c_i0) {goto w2c_L30;}
+    goto w2c_B29;
+    w2c_B52:;
+    w2c_i0 = w2c_l19;
+    w2c_i1 = 24319u;
+    w2c_i0 = w2c_i0 == w2c_i1;
+    if (w2c_i0) {goto w2c_B50;}
+    w2c_i0 = w2c_l19;
+    w2c_i1 = 65285u;
+    w2c_i0 = w2c_i0 == w2c_i1;
+    w2c_l18 = w2c_i0;
+    w2c_i0 = w2c_l15;
+    w2c_l19 = w2c_i0;
+    w2c_i0 = w2c_l18;
+    w2c_i0 = !(w2c_i0);
+    if (w2c_i0) {goto w2c_L30;}
+    goto w2c_B29;
+    w2c_B50:;
+    w2c_i0 = w2c_l15;
+    w2c_i1 = 4294967248u;
+    w2c_i0 += w2c_i1;
+    w2c_i1 = 10u;
+    w2c_i0 = w2c_i0 < w2c_i1;
+    if (w2c_i0) {goto w2c_B29;}
+    w2c_i0 = w2c_l15;
+    w2c_i1 = 4294902000u;
+    w2c_i0 += w2c_i1;
+    w2c_i1 = 10u;
+    w2c_i0 = w2c_i0 < w2c_i1;
+    if (w2c_i0) {goto w2c_B29;}
+    w2c_i0 = w2c_l19;
+    w2c_i1 = 65285u;
+    w2c_i0 = w2c_i0 == w2c_i1;
+    if (w2c_i0) {goto w2c_B29;}
+    w2c_i0 = w2c_l19;
+    w2c_i1 = 37u;
+    w2c_i0 = w2c_i0 != w2c_i1;
+    w2c_l18 = w2c_i0;
+    w2c_i0 = w2c_l15;
+    w2c_l19 = w2c_i0;
+    w2c_i0 = w2c_l18;
+    if (w2c_i0) {goto w2c_L30;}
+  w2c_B29:;
+  w2c_j0 = w2c_l8;
+  w2c_j1 = w2c_l11;
+  w2c_j0 -= w2c_j1;
+  w2c_l4 = w2c_j0;
+  w2c_j0 = 1ull;
+  w2c_l2 = w2c_j0;
+  w2c_j0 = w2c_l10;
+  w2c_l8 = w2c_j0;
+  w2c_B1:;
+  w2c_j0 = w2c_p1;
+  w2c_j1 = 32ull;
+  w2c_j0 += w2c_j1;
+  w2c_i0 = (u32)(w2c_j0);
+  w2c_j1 = w2c_l11;
+  i64_store(m, (u64)(w2c_i0), w2c_j1);
+  w2c_j0 = w2c_p1;
+  w2c_j1 = 24ull;
+  w2c_j0 += w2c_j1;
+  w2c_i0 = (u32)(w2c_j0);
+  w2c_j1 = w2c_l10;
+  i64_store(m, (u64)(w2c_i0), w2c_j1);
+  w2c_j0 = w2c_p0;
+  w2c_j1 = 48ull;
+  w2c_j0 += w2c_j1;
+  w2c_i0 = (u32)(w2c_j0);
+  w2c_j1 = w2c_l11;
+  i64_store(m, (u64)(w2c_i0), w2c_j1);
+  w2c_j0 = w2c_p0;
+  w2c_j1 = 40ull;
+  w2c_j0 += w2c_j1;
+  w2c_i0 = (u32)(w2c_j0);
+  w2c_j1 = w2c_l8;
+  i64_store(m, (u64)(w2c_i0), w2c_j1);
+  w2c_j0 = w2c_p0;
+  w2c_j1 = 32ull;
+  w2c_j0 += w2c_j1;
+  w2c_i0 = (u32)(w2c_j0);
+  w2c_j1 = w2c_l4;
+  i64_store(m, (u64)(w2c_i0), w2c_j1);
+  w2c_j0 = w2c_p0;
+  w2c_j1 = 24ull;
+  w2c_j0 += w2c_j1;
+  w2c_i0 = (u32)(w2c_j0);
+  w2c_j1 = w2c_l7;
+  i64_store(m, (u64)(w2c_i0), w2c_j1);
+  w2c_j0 = w2c_p0;
+  w2c_j1 = 16ull;
+  w2c_j0 += w2c_j1;
+  w2c_i0 = (u32)(w2c_j0);
+  w2c_j1 = w2c_l9;
+  i64_store(m, (u64)(w2c_i0), w2c_j1);
+  w2c_j0 = w2c_p0;
+  w2c_j1 = 8ull;
+  w2c_j0 += w2c_j1;
+  w2c_i0 = (u32)(w2c_j0);
+  w2c_j1 = w2c_l6;
+  i64_store(m, (u64)(w2c_i0), w2c_j1);
+  w2c_j0 = w2c_p0;
+  w2c_i0 = (u32)(w2c_j0);
+  w2c_j1 = w2c_l2;
+  i64_store(m, (u64)(w2c_i0), w2c_j1);
   w2c_j0 = w2c_l3;
   w2c_j1 = 16ull;
   w2c_j0 += w2c_j1;
   m->w2c_g0 = w2c_j0;
-  w2c_i0 = w2c_l8;
-  return w2c_i0;
+  goto w2c_Bfunc;
+  w2c_B0:;
+  UNREACHABLE;
+  w2c_Bfunc:;
 }
 
-static u32 w2c_f27(module *m, u32 w2c_p0, u32 w2c_p1, u64 w2c_p2, u64 w2c_p3, u32 w2c_p4, u64 w2c_p5, u64 w2c_p6) {
+static u32 w2c_f28(module *m, u32 w2c_p0, u32 w2c_p1, u64 w2c_p2, u64 w2c_p3, u32 w2c_p4, u64 w2c_p5, u64 w2c_p6) {
   u32 w2c_l11 = 0, w2c_l12 = 0, w2c_l13 = 0, w2c_l14 = 0;
   u64 w2c_l7 = 0, w2c_l8 = 0, w2c_l9 = 0, w2c_l10 = 0;
   u32 w2c_i0, w2c_i1, w2c_i2, w2c_i3, w2c_i4;
@@ -16926,7 +18400,7 @@ static u32 w2c_f27(module *m, u32 w2c_p0, u32 w2c_p1, u64 w2c_p2, u64 w2c_p3, u3
   w2c_i1 = w2c_p1;
   w2c_j2 = w2c_p2;
   w2c_j3 = w2c_p3;
-  w2c_i0 = w2c_f28(m, w2c_i0, w2c_i1, w2c_j2, w2c_j3);
+  w2c_i0 = w2c_f29(m, w2c_i0, w2c_i1, w2c_j2, w2c_j3);
   w2c_p4 = w2c_i0;
   w2c_j0 = w2c_p6;
   w2c_i0 = !(w2c_j0);
@@ -17016,7 +18490,7 @@ static u32 w2c_f27(module *m, u32 w2c_p0, u32 w2c_p1, u64 w2c_p2, u64 w2c_p3, u3
   w2c_j3 = w2c_p6;
   w2c_j4 = w2c_p3;
   w2c_j3 -= w2c_j4;
-  w2c_i0 = w2c_f29(m, w2c_i0, w2c_i1, w2c_j2, w2c_j3);
+  w2c_i0 = w2c_f30(m, w2c_i0, w2c_i1, w2c_j2, w2c_j3);
   w2c_l11 = w2c_i0;
   goto w2c_B0;
   w2c_B13:;
@@ -17049,14 +18523,14 @@ static u32 w2c_f27(module *m, u32 w2c_p0, u32 w2c_p1, u64 w2c_p2, u64 w2c_p3, u3
   w2c_i1 = w2c_p1;
   w2c_j2 = w2c_p2;
   w2c_j3 = w2c_l8;
-  w2c_i0 = w2c_f28(m, w2c_i0, w2c_i1, w2c_j2, w2c_j3);
+  w2c_i0 = w2c_f29(m, w2c_i0, w2c_i1, w2c_j2, w2c_j3);
   w2c_i0 = !(w2c_i0);
   if (w2c_i0) {goto w2c_B0;}
   w2c_i0 = w2c_p0;
   w2c_i1 = w2c_p1;
   w2c_j2 = w2c_p5;
   w2c_j3 = w2c_p6;
-  w2c_i0 = w2c_f29(m, w2c_i0, w2c_i1, w2c_j2, w2c_j3);
+  w2c_i0 = w2c_f30(m, w2c_i0, w2c_i1, w2c_j2, w2c_j3);
   w2c_l11 = w2c_i0;
   goto w2c_B0;
   w2c_B11:;
@@ -17064,7 +18538,7 @@ static u32 w2c_f27(module *m, u32 w2c_p0, u32 w2c_p1, u64 w2c_p2, u64 w2c_p3, u3
   w2c_i1 = w2c_p1;
   w2c_j2 = w2c_p2;
   w2c_j3 = w2c_p3;
-  w2c_i0 = w2c_f28(m, w2c_i0, w2c_i1, w2c_j2, w2c_j3);
+  w2c_i0 = w2c_f29(m, w2c_i0, w2c_i1, w2c_j2, w2c_j3);
   w2c_i0 = !(w2c_i0);
   if (w2c_i0) {goto w2c_B101;}
   w2c_i0 = 1u;
@@ -17427,7 +18901,7 @@ static u32 w2c_f27(module *m, u32 w2c_p0, u32 w2c_p1, u64 w2c_p2, u64 w2c_p3, u3
   w2c_i1 = w2c_p1;
   w2c_j2 = w2c_p2;
   w2c_j3 = w2c_p3;
-  w2c_i0 = w2c_f28(m, w2c_i0, w2c_i1, w2c_j2, w2c_j3);
+  w2c_i0 = w2c_f29(m, w2c_i0, w2c_i1, w2c_j2, w2c_j3);
   if (w2c_i0) {goto w2c_B0;}
   w2c_i0 = 1u;
   w2c_l11 = w2c_i0;
@@ -19404,14 +20878,14 @@ static u32 w2c_f27(module *m, u32 w2c_p0, u32 w2c_p1, u64 w2c_p2, u64 w2c_p3, u3
   w2c_i1 = w2c_p1;
   w2c_j2 = w2c_p5;
   w2c_j3 = w2c_p6;
-  w2c_i0 = w2c_f29(m, w2c_i0, w2c_i1, w2c_j2, w2c_j3);
+  w2c_i0 = w2c_f30(m, w2c_i0, w2c_i1, w2c_j2, w2c_j3);
   w2c_i0 = !(w2c_i0);
   if (w2c_i0) {goto w2c_B0;}
   w2c_i0 = w2c_p0;
   w2c_i1 = w2c_p1;
   w2c_j2 = w2c_p2;
   w2c_j3 = w2c_p3;
-  w2c_i0 = w2c_f28(m, w2c_i0, w2c_i1, w2c_j2, w2c_j3);
+  w2c_i0 = w2c_f29(m, w2c_i0, w2c_i1, w2c_j2, w2c_j3);
   if (w2c_i0) {goto w2c_B0;}
   w2c_i0 = 1u;
   w2c_l11 = w2c_i0;
@@ -19643,7 +21117,7 @@ static u32 w2c_f27(module *m, u32 w2c_p0, u32 w2c_p1, u64 w2c_p2, u64 w2c_p3, u3
   return w2c_i0;
 }
 
-static u32 w2c_f28(module *m, u32 w2c_p0, u32 w2c_p1, u64 w2c_p2, u64 w2c_p3) {
+static u32 w2c_f29(module *m, u32 w2c_p0, u32 w2c_p1, u64 w2c_p2, u64 w2c_p3) {
   u32 w2c_l7 = 0, w2c_l8 = 0, w2c_l9 = 0, w2c_l10 = 0;
   u64 w2c_l4 = 0, w2c_l5 = 0, w2c_l6 = 0;
   u32 w2c_i0, w2c_i1, w2c_i2, w2c_i3, w2c_i4;
@@ -19885,7 +21359,7 @@ static u32 w2c_f28(module *m, u32 w2c_p0, u32 w2c_p1, u64 w2c_p2, u64 w2c_p3) {
   return w2c_i0;
 }
 
-static u32 w2c_f29(module *m, u32 w2c_p0, u32 w2c_p1, u64 w2c_p2, u64 w2c_p3) {
+static u32 w2c_f30(module *m, u32 w2c_p0, u32 w2c_p1, u64 w2c_p2, u64 w2c_p3) {
   u32 w2c_l6 = 0, w2c_l7 = 0, w2c_l8 = 0, w2c_l9 = 0;
   u64 w2c_l4 = 0, w2c_l5 = 0;
   u32 w2c_i0, w2c_i1, w2c_i2, w2c_i3, w2c_i4;
@@ -20171,7 +21645,7 @@ static u32 w2c_f29(module *m, u32 w2c_p0, u32 w2c_p1, u64 w2c_p2, u64 w2c_p3) {
   return w2c_i0;
 }
 
-static u64 w2c_f30(module *m, u64 w2c_p0, u64 w2c_p1, u32 w2c_p2, u32 w2c_p3, u64 w2c_p4, u64 w2c_p5) {
+static u64 w2c_f31(module *m, u64 w2c_p0, u64 w2c_p1, u32 w2c_p2, u32 w2c_p3, u64 w2c_p4, u64 w2c_p5) {
   u32 w2c_l16 = 0, w2c_l17 = 0, w2c_l18 = 0, w2c_l19 = 0, w2c_l20 = 0, w2c_l21 = 0;
   u64 w2c_l6 = 0, w2c_l7 = 0, w2c_l8 = 0, w2c_l9 = 0, w2c_l10 = 0, w2c_l11 = 0, w2c_l12 = 0, w2c_l13 = 0, w2c_l14 = 0, w2c_l15 = 0;
   u32 w2c_i0, w2c_i1, w2c_i2, w2c_i3, w2c_i4, w2c_i5, w2c_i6;
@@ -25094,8 +26568,8 @@ static u64 w2c_f30(module *m, u64 w2c_p0, u64 w2c_p1, u32 w2c_p2, u32 w2c_p3, u6
   return w2c_j0;
 }
 
-static void w2c_f31(module *m, u64 w2c_p0, u64 w2c_p1, u64 w2c_p2, u32 w2c_p3) {
-  u32 w2c_l12 = 0, w2c_l13 = 0, w2c_l14 = 0, w2c_l15 = 0;
+static void w2c_f32(module *m, u64 w2c_p0, u64 w2c_p1, u64 w2c_p2, u32 w2c_p3) {
+  u32 w2c_l12 = 0, w2c_l13 = 0, w2c_l14 = 0, w2c_l15 = 0, w2c_l16 = 0;
   u64 w2c_l4 = 0, w2c_l5 = 0, w2c_l6 = 0, w2c_l7 = 0, w2c_l8 = 0, w2c_l9 = 0, w2c_l10 = 0, w2c_l11 = 0;
   u32 w2c_i0, w2c_i1, w2c_i2, w2c_i3, w2c_i4;
   u64 w2c_j0, w2c_j1, w2c_j2, w2c_j3, w2c_j4;
@@ -25108,7 +26582,7 @@ static void w2c_f31(module *m, u64 w2c_p0, u64 w2c_p1, u64 w2c_p2, u32 w2c_p3) {
   w2c_l4 = w2c_j0;
   w2c_j1 = 16ull;
   w2c_i0 = (u64)((s64)w2c_j0 < (s64)w2c_j1);
-  if (w2c_i0) {goto w2c_B2;}
+  if (w2c_i0) {goto w2c_B6;}
   w2c_j0 = w2c_l4;
   w2c_i0 = (u32)(w2c_j0);
   w2c_j1 = 0ull;
@@ -25140,7 +26614,7 @@ static void w2c_f31(module *m, u64 w2c_p0, u64 w2c_p1, u64 w2c_p2, u32 w2c_p3) {
   w2c_j0 = w2c_p2;
   w2c_j1 = 3ull;
   w2c_i0 = w2c_j0 < w2c_j1;
-  if (w2c_i0) {goto w2c_B4;}
+  if (w2c_i0) {goto w2c_B3;}
   w2c_j0 = w2c_p1;
   w2c_i0 = (u32)(w2c_j0);
   w2c_i0 = i32_load8_u(m, (u64)(w2c_i0));
@@ -25149,23 +26623,36 @@ static void w2c_f31(module *m, u64 w2c_p0, u64 w2c_p1, u64 w2c_p2, u32 w2c_p3) {
   w2c_i0 &= w2c_i1;
   w2c_i1 = 224u;
   w2c_i0 = w2c_i0 != w2c_i1;
-  if (w2c_i0) {goto w2c_B4;}
+  if (w2c_i0) {goto w2c_B3;}
   w2c_j0 = w2c_p1;
   w2c_i0 = (u32)(w2c_j0);
   w2c_i0 = i32_load8_u(m, (u64)(w2c_i0) + 1u);
   w2c_l13 = w2c_i0;
-  w2c_i1 = 8u;
+  w2c_i1 = 6u;
   w2c_i0 <<= (w2c_i1 & 31);
+  w2c_i1 = w2c_l12;
+  w2c_i2 = 12u;
+  w2c_i1 <<= (w2c_i2 & 31);
+  w2c_i0 += w2c_i1;
   w2c_j1 = w2c_p1;
   w2c_i1 = (u32)(w2c_j1);
   w2c_i1 = i32_load8_u(m, (u64)(w2c_i1) + 2u);
   w2c_l14 = w2c_i1;
+  w2c_i0 += w2c_i1;
+  w2c_l15 = w2c_i0;
+  w2c_i1 = 4294041472u;
+  w2c_i0 += w2c_i1;
+  w2c_l16 = w2c_i0;
+  w2c_i0 = w2c_l13;
+  w2c_i1 = 8u;
+  w2c_i0 <<= (w2c_i1 & 31);
+  w2c_i1 = w2c_l14;
   w2c_i2 = 16u;
   w2c_i1 <<= (w2c_i2 & 31);
   w2c_i0 |= w2c_i1;
   w2c_i1 = w2c_l12;
   w2c_i0 |= w2c_i1;
-  w2c_l15 = w2c_i0;
+  w2c_l12 = w2c_i0;
   w2c_j0 = (u64)(w2c_i0);
   w2c_j1 = 953497ull;
   w2c_j0 *= w2c_j1;
@@ -25176,9 +26663,9 @@ static void w2c_f31(module *m, u64 w2c_p0, u64 w2c_p1, u64 w2c_p2, u32 w2c_p3) {
   w2c_l5 = w2c_j0;
   w2c_i0 = (u32)(w2c_j0);
   w2c_i0 = i32_load(m, (u64)(w2c_i0) + 66992u);
-  w2c_i1 = w2c_l15;
+  w2c_i1 = w2c_l12;
   w2c_i0 = w2c_i0 != w2c_i1;
-  if (w2c_i0) {goto w2c_B4;}
+  if (w2c_i0) {goto w2c_B7;}
   w2c_j0 = w2c_l5;
   w2c_j1 = 66996ull;
   w2c_j0 += w2c_j1;
@@ -25187,38 +26674,92 @@ static void w2c_f31(module *m, u64 w2c_p0, u64 w2c_p1, u64 w2c_p2, u32 w2c_p3) {
   w2c_i1 = 255u;
   w2c_i0 &= w2c_i1;
   w2c_i1 = 2u;
-  w2c_i0 = w2c_i0 == w2c_i1;
+  w2c_i0 = w2c_i0 != w2c_i1;
   if (w2c_i0) {goto w2c_B4;}
-  w2c_i0 = w2c_l12;
-  w2c_i1 = 12u;
-  w2c_i0 <<= (w2c_i1 & 31);
-  w2c_i1 = w2c_l13;
-  w2c_i2 = 6u;
-  w2c_i1 <<= (w2c_i2 & 31);
+  w2c_B7:;
+  w2c_i0 = w2c_l16;
+  w2c_i1 = 127u;
+  w2c_i0 = w2c_i0 > w2c_i1;
+  if (w2c_i0) {goto w2c_B8;}
+  w2c_i0 = w2c_l15;
+  w2c_i1 = 4294041463u;
   w2c_i0 += w2c_i1;
-  w2c_i1 = w2c_l14;
+  w2c_i1 = 5u;
+  w2c_i0 = w2c_i0 < w2c_i1;
+  if (w2c_i0) {goto w2c_B3;}
+  w2c_i0 = w2c_l15;
+  w2c_i1 = 925856u;
+  w2c_i0 = w2c_i0 != w2c_i1;
+  if (w2c_i0) {goto w2c_B4;}
+  goto w2c_B3;
+  w2c_B8:;
+  w2c_i0 = w2c_l15;
+  w2c_i1 = 4294033280u;
   w2c_i0 += w2c_i1;
-  w2c_i1 = 4294041472u;
+  w2c_i1 = 11u;
+  w2c_i0 = w2c_i0 < w2c_i1;
+  if (w2c_i0) {goto w2c_B3;}
+  w2c_i0 = w2c_l15;
+  w2c_i1 = 934055u;
+  w2c_i0 = (u32)((s32)w2c_i0 > (s32)w2c_i1);
+  if (w2c_i0) {goto w2c_B9;}
+  w2c_i0 = w2c_l15;
+  w2c_i1 = 925957u;
+  w2c_i0 = w2c_i0 == w2c_i1;
+  if (w2c_i0) {goto w2c_B3;}
+  w2c_i0 = w2c_l15;
+  w2c_i1 = 925984u;
+  w2c_i0 = w2c_i0 == w2c_i1;
+  if (w2c_i0) {goto w2c_B3;}
+  w2c_i0 = w2c_l15;
+  w2c_i1 = 931584u;
+  w2c_i0 = w2c_i0 != w2c_i1;
+  if (w2c_i0) {goto w2c_B4;}
+  goto w2c_B3;
+  w2c_B9:;
+  w2c_i0 = w2c_l15;
+  w2c_i1 = 4294033240u;
   w2c_i0 += w2c_i1;
   w2c_l12 = w2c_i0;
-  w2c_j0 = w2c_p1;
-  w2c_j1 = 3ull;
-  w2c_j0 += w2c_j1;
-  w2c_l6 = w2c_j0;
+  w2c_i1 = 55u;
+  w2c_i0 = w2c_i0 > w2c_i1;
+  if (w2c_i0) {goto w2c_B5;}
+  w2c_j0 = 1ull;
+  w2c_i1 = w2c_l12;
+  w2c_j1 = (u64)(w2c_i1);
+  w2c_j0 <<= (w2c_j1 & 63);
+  w2c_j1 = 36028797018964099ull;
+  w2c_j0 &= w2c_j1;
+  w2c_j1 = 0ull;
+  w2c_i0 = w2c_j0 == w2c_j1;
+  if (w2c_i0) {goto w2c_B5;}
+  goto w2c_B3;
+  w2c_B6:;
+  UNREACHABLE;
+  w2c_B5:;
+  w2c_i0 = w2c_l15;
+  w2c_i1 = 938112u;
+  w2c_i0 = w2c_i0 == w2c_i1;
+  if (w2c_i0) {goto w2c_B3;}
+  w2c_B4:;
   w2c_j0 = w2c_p2;
   w2c_j1 = 18446744073709551613ull;
+  w2c_j0 += w2c_j1;
+  w2c_l6 = w2c_j0;
+  w2c_j0 = w2c_p1;
+  w2c_j1 = 3ull;
   w2c_j0 += w2c_j1;
   w2c_l7 = w2c_j0;
   w2c_j0 = 1ull;
   w2c_l8 = w2c_j0;
-  goto w2c_B3;
-  w2c_B4:;
+  goto w2c_B2;
+  w2c_B3:;
   w2c_j0 = w2c_l4;
   w2c_j1 = 288ull;
   w2c_j0 += w2c_j1;
   w2c_j1 = w2c_p1;
   w2c_j2 = w2c_p2;
-  w2c_f32(m, w2c_j0, w2c_j1, w2c_j2);
+  w2c_f33(m, w2c_j0, w2c_j1, w2c_j2);
   w2c_j0 = w2c_l4;
   w2c_i0 = (u32)(w2c_j0);
   w2c_i0 = i32_load8_u(m, (u64)(w2c_i0) + 288u);
@@ -25234,75 +26775,73 @@ static void w2c_f31(module *m, u64 w2c_p0, u64 w2c_p1, u64 w2c_p2, u32 w2c_p3) {
   w2c_j0 = w2c_l4;
   w2c_i0 = (u32)(w2c_j0);
   w2c_j0 = i64_load(m, (u64)(w2c_i0) + 320u);
-  w2c_l7 = w2c_j0;
-  w2c_j0 = w2c_l4;
-  w2c_i0 = (u32)(w2c_j0);
-  w2c_j0 = i64_load(m, (u64)(w2c_i0) + 312u);
   w2c_l6 = w2c_j0;
   w2c_j0 = w2c_l4;
   w2c_i0 = (u32)(w2c_j0);
+  w2c_j0 = i64_load(m, (u64)(w2c_i0) + 312u);
+  w2c_l7 = w2c_j0;
+  w2c_j0 = w2c_l4;
+  w2c_i0 = (u32)(w2c_j0);
   w2c_i0 = i32_load(m, (u64)(w2c_i0) + 296u);
-  w2c_l12 = w2c_i0;
-  w2c_B3:;
+  w2c_l16 = w2c_i0;
+  w2c_B2:;
   w2c_i0 = 0u;
-  w2c_l15 = w2c_i0;
-  w2c_i0 = w2c_l12;
+  w2c_l12 = w2c_i0;
+  w2c_i0 = w2c_l16;
   w2c_i1 = 35999u;
   w2c_i0 = (u32)((s32)w2c_i0 > (s32)w2c_i1);
-  if (w2c_i0) {goto w2c_B6;}
-  w2c_i0 = w2c_l12;
+  if (w2c_i0) {goto w2c_B11;}
+  w2c_i0 = w2c_l16;
   w2c_i1 = 4294967253u;
   w2c_i0 += w2c_i1;
   switch (w2c_i0) {
     case 0: goto w2c_B0;
     case 1: goto w2c_B1;
-    case 2: goto w2c_B5;
-    default: goto w2c_B7;
+    case 2: goto w2c_B10;
+    default: goto w2c_B12;
   }
-  w2c_B7:;
-  w2c_i0 = w2c_l12;
+  w2c_B12:;
+  w2c_i0 = w2c_l16;
   w2c_i1 = 8722u;
   w2c_i0 = w2c_i0 == w2c_i1;
-  if (w2c_i0) {goto w2c_B5;}
-  w2c_i0 = w2c_l12;
+  if (w2c_i0) {goto w2c_B10;}
+  w2c_i0 = w2c_l16;
   w2c_i1 = 27491u;
   w2c_i0 = w2c_i0 == w2c_i1;
   if (w2c_i0) {goto w2c_B0;}
   goto w2c_B1;
-  w2c_B6:;
-  w2c_i0 = w2c_l12;
+  w2c_B11:;
+  w2c_i0 = w2c_l16;
   w2c_i1 = 4294902005u;
   w2c_i0 += w2c_i1;
   switch (w2c_i0) {
     case 0: goto w2c_B0;
     case 1: goto w2c_B1;
-    case 2: goto w2c_B5;
-    default: goto w2c_B8;
+    case 2: goto w2c_B10;
+    default: goto w2c_B13;
   }
-  w2c_B8:;
-  w2c_i0 = w2c_l12;
+  w2c_B13:;
+  w2c_i0 = w2c_l16;
   w2c_i1 = 36127u;
   w2c_i0 = w2c_i0 == w2c_i1;
-  if (w2c_i0) {goto w2c_B5;}
-  w2c_i0 = w2c_l12;
+  if (w2c_i0) {goto w2c_B10;}
+  w2c_i0 = w2c_l16;
   w2c_i1 = 36000u;
   w2c_i0 = w2c_i0 != w2c_i1;
   if (w2c_i0) {goto w2c_B1;}
-  w2c_B5:;
+  w2c_B10:;
   w2c_i0 = 1u;
-  w2c_l15 = w2c_i0;
+  w2c_l12 = w2c_i0;
   goto w2c_B0;
-  w2c_B2:;
-  UNREACHABLE;
   w2c_B1:;
   w2c_j0 = 0ull;
   w2c_l8 = w2c_j0;
   w2c_i0 = 0u;
-  w2c_l15 = w2c_i0;
+  w2c_l12 = w2c_i0;
   w2c_j0 = w2c_p1;
-  w2c_l6 = w2c_j0;
-  w2c_j0 = w2c_p2;
   w2c_l7 = w2c_j0;
+  w2c_j0 = w2c_p2;
+  w2c_l6 = w2c_j0;
   w2c_B0:;
   w2c_j0 = w2c_l4;
   w2c_i0 = (u32)(w2c_j0);
@@ -25411,18 +26950,18 @@ static void w2c_f31(module *m, u64 w2c_p0, u64 w2c_p1, u64 w2c_p2, u32 w2c_p3) {
   w2c_j0 = w2c_l4;
   w2c_j1 = 344ull;
   w2c_j0 += w2c_j1;
-  w2c_j1 = w2c_l6;
-  w2c_j2 = w2c_l7;
-  w2c_f33(m, w2c_j0, w2c_j1, w2c_j2);
-  w2c_j0 = w2c_l7;
+  w2c_j1 = w2c_l7;
+  w2c_j2 = w2c_l6;
+  w2c_f34(m, w2c_j0, w2c_j1, w2c_j2);
+  w2c_j0 = w2c_l6;
   w2c_l5 = w2c_j0;
   w2c_j0 = w2c_l4;
   w2c_i0 = (u32)(w2c_j0);
   w2c_i0 = i32_load8_u(m, (u64)(w2c_i0) + 344u);
   w2c_i1 = 1u;
   w2c_i0 = w2c_i0 != w2c_i1;
-  if (w2c_i0) {goto w2c_B14;}
-  w2c_L16:
+  if (w2c_i0) {goto w2c_B19;}
+  w2c_L21:
     w2c_j0 = w2c_l4;
     w2c_i0 = (u32)(w2c_j0);
     w2c_j0 = i64_load(m, (u64)(w2c_i0) + 368u);
@@ -25434,7 +26973,7 @@ static void w2c_f31(module *m, u64 w2c_p0, u64 w2c_p1, u64 w2c_p2, u32 w2c_p3) {
     w2c_j0 = w2c_l4;
     w2c_i0 = (u32)(w2c_j0);
     w2c_i0 = i32_load(m, (u64)(w2c_i0) + 352u);
-    w2c_l12 = w2c_i0;
+    w2c_l16 = w2c_i0;
     w2c_j0 = w2c_l4;
     w2c_i0 = (u32)(w2c_j0);
     w2c_j1 = 0ull;
@@ -25451,35 +26990,35 @@ static void w2c_f31(module *m, u64 w2c_p0, u64 w2c_p1, u64 w2c_p2, u32 w2c_p3) {
     w2c_i0 = (u32)(w2c_j0);
     w2c_j1 = 0ull;
     i64_store(m, (u64)(w2c_i0) + 288, w2c_j1);
-    w2c_i0 = w2c_l12;
+    w2c_i0 = w2c_l16;
     w2c_i1 = 20998u;
     w2c_i0 = w2c_i0 != w2c_i1;
-    if (w2c_i0) {goto w2c_B17;}
+    if (w2c_i0) {goto w2c_B22;}
     w2c_j0 = w2c_l4;
     w2c_j1 = 288ull;
     w2c_j0 += w2c_j1;
     w2c_j1 = w2c_p1;
     w2c_j2 = w2c_p2;
-    w2c_f33(m, w2c_j0, w2c_j1, w2c_j2);
+    w2c_f34(m, w2c_j0, w2c_j1, w2c_j2);
     w2c_j0 = w2c_l4;
     w2c_i0 = (u32)(w2c_j0);
     w2c_i0 = i32_load8_u(m, (u64)(w2c_i0) + 288u);
     w2c_i1 = 1u;
     w2c_i0 = w2c_i0 != w2c_i1;
-    if (w2c_i0) {goto w2c_B17;}
+    if (w2c_i0) {goto w2c_B22;}
     w2c_j0 = w2c_l4;
     w2c_i0 = (u32)(w2c_j0);
     w2c_i0 = i32_load(m, (u64)(w2c_i0) + 296u);
     w2c_i1 = 20043u;
     w2c_i0 = w2c_i0 == w2c_i1;
-    if (w2c_i0) {goto w2c_B15;}
-    w2c_B17:;
+    if (w2c_i0) {goto w2c_B20;}
+    w2c_B22:;
     w2c_j0 = w2c_l4;
     w2c_j1 = 344ull;
     w2c_j0 += w2c_j1;
     w2c_j1 = w2c_p1;
     w2c_j2 = w2c_p2;
-    w2c_f33(m, w2c_j0, w2c_j1, w2c_j2);
+    w2c_f34(m, w2c_j0, w2c_j1, w2c_j2);
     w2c_j0 = w2c_p2;
     w2c_l5 = w2c_j0;
     w2c_j0 = w2c_l4;
@@ -25487,15 +27026,15 @@ static void w2c_f31(module *m, u64 w2c_p0, u64 w2c_p1, u64 w2c_p2, u32 w2c_p3) {
     w2c_i0 = i32_load8_u(m, (u64)(w2c_i0) + 344u);
     w2c_i1 = 1u;
     w2c_i0 = w2c_i0 == w2c_i1;
-    if (w2c_i0) {goto w2c_L16;}
-    goto w2c_B14;
+    if (w2c_i0) {goto w2c_L21;}
+    goto w2c_B19;
   UNREACHABLE;
-  w2c_B15:;
+  w2c_B20:;
   w2c_j0 = 0ull;
   w2c_p2 = w2c_j0;
   w2c_j0 = 0ull;
   w2c_p1 = w2c_j0;
-  w2c_j0 = w2c_l7;
+  w2c_j0 = w2c_l6;
   w2c_j1 = w2c_l4;
   w2c_i1 = (u32)(w2c_j1);
   w2c_j1 = i64_load(m, (u64)(w2c_i1) + 312u);
@@ -25504,15 +27043,15 @@ static void w2c_f31(module *m, u64 w2c_p0, u64 w2c_p1, u64 w2c_p2, u32 w2c_p3) {
   w2c_l10 = w2c_j0;
   w2c_j1 = 8ull;
   w2c_i0 = w2c_j0 < w2c_j1;
-  if (w2c_i0) {goto w2c_B18;}
+  if (w2c_i0) {goto w2c_B23;}
   w2c_j0 = 0ull;
   w2c_p1 = w2c_j0;
   w2c_j0 = w2c_l10;
   w2c_l11 = w2c_j0;
   w2c_j0 = 0ull;
   w2c_p2 = w2c_j0;
-  w2c_L19:
-    w2c_j0 = w2c_l6;
+  w2c_L24:
+    w2c_j0 = w2c_l7;
     w2c_j1 = w2c_p2;
     w2c_j0 += w2c_j1;
     w2c_i0 = (u32)(w2c_j0);
@@ -25521,7 +27060,7 @@ static void w2c_f31(module *m, u64 w2c_p0, u64 w2c_p1, u64 w2c_p2, u32 w2c_p3) {
     w2c_j0 &= w2c_j1;
     w2c_j1 = 63050398541283552ull;
     w2c_i0 = w2c_j0 != w2c_j1;
-    if (w2c_i0) {goto w2c_B18;}
+    if (w2c_i0) {goto w2c_B23;}
     w2c_j0 = w2c_p1;
     w2c_j1 = 3ull;
     w2c_j0 += w2c_j1;
@@ -25536,22 +27075,22 @@ static void w2c_f31(module *m, u64 w2c_p0, u64 w2c_p1, u64 w2c_p2, u32 w2c_p3) {
     w2c_l11 = w2c_j0;
     w2c_j1 = 7ull;
     w2c_i0 = w2c_j0 > w2c_j1;
-    if (w2c_i0) {goto w2c_L19;}
-  w2c_B18:;
-  w2c_j0 = w2c_l7;
+    if (w2c_i0) {goto w2c_L24;}
+  w2c_B23:;
+  w2c_j0 = w2c_l6;
   w2c_j1 = w2c_l5;
   w2c_j0 -= w2c_j1;
   w2c_l5 = w2c_j0;
   w2c_j0 = w2c_p2;
   w2c_j1 = w2c_l10;
   w2c_i0 = w2c_j0 >= w2c_j1;
-  if (w2c_i0) {goto w2c_B20;}
-  w2c_L21:
+  if (w2c_i0) {goto w2c_B25;}
+  w2c_L26:
     w2c_j0 = w2c_p1;
     w2c_j1 = 1ull;
     w2c_j0 += w2c_j1;
     w2c_p1 = w2c_j0;
-    w2c_j0 = w2c_l6;
+    w2c_j0 = w2c_l7;
     w2c_j1 = w2c_p2;
     w2c_j0 += w2c_j1;
     w2c_i0 = (u32)(w2c_j0);
@@ -25570,8 +27109,8 @@ static void w2c_f31(module *m, u64 w2c_p0, u64 w2c_p1, u64 w2c_p2, u32 w2c_p3) {
     w2c_p2 = w2c_j0;
     w2c_j1 = w2c_l10;
     w2c_i0 = w2c_j0 < w2c_j1;
-    if (w2c_i0) {goto w2c_L21;}
-  w2c_B20:;
+    if (w2c_i0) {goto w2c_L26;}
+  w2c_B25:;
   w2c_j0 = w2c_l4;
   w2c_i0 = (u32)(w2c_j0);
   w2c_j0 = i64_load(m, (u64)(w2c_i0) + 304u);
@@ -25579,29 +27118,29 @@ static void w2c_f31(module *m, u64 w2c_p0, u64 w2c_p1, u64 w2c_p2, u32 w2c_p3) {
   w2c_j0 = w2c_l4;
   w2c_j1 = 256ull;
   w2c_j0 += w2c_j1;
-  w2c_j1 = w2c_l6;
+  w2c_j1 = w2c_l7;
   w2c_j2 = w2c_l5;
-  w2c_f33(m, w2c_j0, w2c_j1, w2c_j2);
+  w2c_f34(m, w2c_j0, w2c_j1, w2c_j2);
   w2c_j0 = w2c_l4;
   w2c_i0 = (u32)(w2c_j0);
   w2c_i0 = i32_load8_u(m, (u64)(w2c_i0) + 256u);
   w2c_i1 = 1u;
   w2c_i0 = w2c_i0 != w2c_i1;
-  if (w2c_i0) {goto w2c_B14;}
+  if (w2c_i0) {goto w2c_B19;}
   w2c_j0 = w2c_l4;
   w2c_j1 = 256ull;
   w2c_j0 += w2c_j1;
   w2c_j1 = w2c_p2;
   w2c_j2 = w2c_l9;
-  w2c_f33(m, w2c_j0, w2c_j1, w2c_j2);
+  w2c_f34(m, w2c_j0, w2c_j1, w2c_j2);
   w2c_j0 = w2c_l4;
   w2c_i0 = (u32)(w2c_j0);
   w2c_i0 = i32_load8_u(m, (u64)(w2c_i0) + 256u);
   w2c_i1 = 1u;
   w2c_i0 = w2c_i0 != w2c_i1;
-  if (w2c_i0) {goto w2c_B14;}
+  if (w2c_i0) {goto w2c_B19;}
   w2c_j0 = 0ull;
-  w2c_l7 = w2c_j0;
+  w2c_l6 = w2c_j0;
   w2c_j0 = w2c_l4;
   w2c_i0 = (u32)(w2c_j0);
   w2c_j1 = 0ull;
@@ -25649,30 +27188,32 @@ static void w2c_f31(module *m, u64 w2c_p0, u64 w2c_p1, u64 w2c_p2, u32 w2c_p3) {
   w2c_j0 = w2c_l5;
   w2c_j1 = 3ull;
   w2c_i0 = w2c_j0 < w2c_j1;
-  if (w2c_i0) {goto w2c_B23;}
-  w2c_j0 = w2c_l6;
+  if (w2c_i0) {goto w2c_B28;}
+  w2c_j0 = w2c_l7;
   w2c_i0 = (u32)(w2c_j0);
   w2c_i0 = i32_load8_u(m, (u64)(w2c_i0));
-  w2c_l12 = w2c_i0;
+  w2c_l16 = w2c_i0;
   w2c_i1 = 240u;
   w2c_i0 &= w2c_i1;
   w2c_i1 = 224u;
   w2c_i0 = w2c_i0 != w2c_i1;
-  if (w2c_i0) {goto w2c_B23;}
-  w2c_j0 = w2c_l6;
+  if (w2c_i0) {goto w2c_B28;}
+  w2c_j0 = w2c_l7;
   w2c_i0 = (u32)(w2c_j0);
   w2c_i0 = i32_load8_u(m, (u64)(w2c_i0) + 1u);
+  w2c_l14 = w2c_i0;
   w2c_i1 = 8u;
   w2c_i0 <<= (w2c_i1 & 31);
-  w2c_j1 = w2c_l6;
+  w2c_j1 = w2c_l7;
   w2c_i1 = (u32)(w2c_j1);
   w2c_i1 = i32_load8_u(m, (u64)(w2c_i1) + 2u);
+  w2c_l15 = w2c_i1;
   w2c_i2 = 16u;
   w2c_i1 <<= (w2c_i2 & 31);
   w2c_i0 |= w2c_i1;
-  w2c_i1 = w2c_l12;
+  w2c_i1 = w2c_l16;
   w2c_i0 |= w2c_i1;
-  w2c_l12 = w2c_i0;
+  w2c_l13 = w2c_i0;
   w2c_j0 = (u64)(w2c_i0);
   w2c_j1 = 953497ull;
   w2c_j0 *= w2c_j1;
@@ -25683,9 +27224,9 @@ static void w2c_f31(module *m, u64 w2c_p0, u64 w2c_p1, u64 w2c_p2, u32 w2c_p3) {
   w2c_l10 = w2c_j0;
   w2c_i0 = (u32)(w2c_j0);
   w2c_i0 = i32_load(m, (u64)(w2c_i0) + 66992u);
-  w2c_i1 = w2c_l12;
+  w2c_i1 = w2c_l13;
   w2c_i0 = w2c_i0 != w2c_i1;
-  if (w2c_i0) {goto w2c_B23;}
+  if (w2c_i0) {goto w2c_B30;}
   w2c_j0 = w2c_l10;
   w2c_j1 = 66996ull;
   w2c_j0 += w2c_j1;
@@ -25694,63 +27235,137 @@ static void w2c_f31(module *m, u64 w2c_p0, u64 w2c_p1, u64 w2c_p2, u32 w2c_p3) {
   w2c_i1 = 255u;
   w2c_i0 &= w2c_i1;
   w2c_i1 = 2u;
+  w2c_i0 = w2c_i0 != w2c_i1;
+  if (w2c_i0) {goto w2c_B29;}
+  w2c_B30:;
+  w2c_i0 = w2c_l14;
+  w2c_i1 = 6u;
+  w2c_i0 <<= (w2c_i1 & 31);
+  w2c_i1 = w2c_l16;
+  w2c_i2 = 12u;
+  w2c_i1 <<= (w2c_i2 & 31);
+  w2c_i0 += w2c_i1;
+  w2c_i1 = w2c_l15;
+  w2c_i0 += w2c_i1;
+  w2c_l16 = w2c_i0;
+  w2c_i1 = 4294967168u;
+  w2c_i0 &= w2c_i1;
+  w2c_i1 = 925824u;
+  w2c_i0 = w2c_i0 != w2c_i1;
+  if (w2c_i0) {goto w2c_B31;}
+  w2c_i0 = w2c_l16;
+  w2c_i1 = 4294041463u;
+  w2c_i0 += w2c_i1;
+  w2c_i1 = 5u;
+  w2c_i0 = w2c_i0 < w2c_i1;
+  if (w2c_i0) {goto w2c_B28;}
+  w2c_i0 = w2c_l16;
+  w2c_i1 = 925856u;
+  w2c_i0 = w2c_i0 != w2c_i1;
+  if (w2c_i0) {goto w2c_B29;}
+  goto w2c_B28;
+  w2c_B31:;
+  w2c_i0 = w2c_l16;
+  w2c_i1 = 4294033280u;
+  w2c_i0 += w2c_i1;
+  w2c_i1 = 11u;
+  w2c_i0 = w2c_i0 < w2c_i1;
+  if (w2c_i0) {goto w2c_B28;}
+  w2c_i0 = w2c_l16;
+  w2c_i1 = 934055u;
+  w2c_i0 = (u32)((s32)w2c_i0 > (s32)w2c_i1);
+  if (w2c_i0) {goto w2c_B32;}
+  w2c_i0 = w2c_l16;
+  w2c_i1 = 925957u;
   w2c_i0 = w2c_i0 == w2c_i1;
-  if (w2c_i0) {goto w2c_B23;}
+  if (w2c_i0) {goto w2c_B28;}
+  w2c_i0 = w2c_l16;
+  w2c_i1 = 925984u;
+  w2c_i0 = w2c_i0 == w2c_i1;
+  if (w2c_i0) {goto w2c_B28;}
+  w2c_i0 = w2c_l16;
+  w2c_i1 = 931584u;
+  w2c_i0 = w2c_i0 != w2c_i1;
+  if (w2c_i0) {goto w2c_B29;}
+  goto w2c_B28;
+  w2c_B32:;
+  w2c_i0 = w2c_l16;
+  w2c_i1 = 4294033240u;
+  w2c_i0 += w2c_i1;
+  w2c_l13 = w2c_i0;
+  w2c_i1 = 55u;
+  w2c_i0 = w2c_i0 > w2c_i1;
+  if (w2c_i0) {goto w2c_B33;}
+  w2c_j0 = 1ull;
+  w2c_i1 = w2c_l13;
+  w2c_j1 = (u64)(w2c_i1);
+  w2c_j0 <<= (w2c_j1 & 63);
+  w2c_j1 = 36028797018964099ull;
+  w2c_j0 &= w2c_j1;
+  w2c_j1 = 0ull;
+  w2c_i0 = w2c_j0 != w2c_j1;
+  if (w2c_i0) {goto w2c_B28;}
+  w2c_B33:;
+  w2c_i0 = w2c_l16;
+  w2c_i1 = 938112u;
+  w2c_i0 = w2c_i0 == w2c_i1;
+  if (w2c_i0) {goto w2c_B28;}
+  w2c_B29:;
   w2c_j0 = 0ull;
   w2c_l10 = w2c_j0;
-  goto w2c_B22;
-  w2c_B23:;
+  goto w2c_B27;
+  w2c_B28:;
   w2c_j0 = w2c_l4;
   w2c_j1 = 344ull;
   w2c_j0 += w2c_j1;
-  w2c_j1 = w2c_l6;
+  w2c_j1 = w2c_l7;
   w2c_j2 = w2c_l5;
-  w2c_f32(m, w2c_j0, w2c_j1, w2c_j2);
+  w2c_f33(m, w2c_j0, w2c_j1, w2c_j2);
   w2c_i0 = 0u;
-  w2c_l12 = w2c_i0;
+  w2c_l16 = w2c_i0;
   w2c_j0 = w2c_l4;
   w2c_i0 = (u32)(w2c_j0);
   w2c_i0 = i32_load8_u(m, (u64)(w2c_i0) + 344u);
   w2c_i1 = 1u;
   w2c_i0 = w2c_i0 != w2c_i1;
-  if (w2c_i0) {goto w2c_B12;}
+  if (w2c_i0) {goto w2c_B17;}
   w2c_j0 = w2c_l4;
   w2c_i0 = (u32)(w2c_j0);
   w2c_j0 = i64_load(m, (u64)(w2c_i0) + 360u);
   w2c_l10 = w2c_j0;
-  w2c_B22:;
+  w2c_B27:;
   w2c_j0 = w2c_l4;
   w2c_j1 = 288ull;
   w2c_j0 += w2c_j1;
   w2c_i1 = w2c_p3;
   w2c_j2 = w2c_l8;
-  w2c_j3 = w2c_l6;
+  w2c_j3 = w2c_l7;
   w2c_j4 = w2c_l5;
-  w2c_f34(m, w2c_j0, w2c_i1, w2c_j2, w2c_j3, w2c_j4);
+  w2c_f35(m, w2c_j0, w2c_i1, w2c_j2, w2c_j3, w2c_j4);
   w2c_j0 = w2c_l4;
   w2c_i0 = (u32)(w2c_j0);
   w2c_j0 = i64_load(m, (u64)(w2c_i0) + 304u);
-  w2c_l7 = w2c_j0;
+  w2c_l6 = w2c_j0;
   w2c_j0 = w2c_l4;
   w2c_i0 = (u32)(w2c_j0);
   w2c_i0 = i32_load8_u(m, (u64)(w2c_i0) + 288u);
   w2c_i0 = !(w2c_i0);
-  if (w2c_i0) {goto w2c_B24;}
+  if (w2c_i0) {goto w2c_B34;}
   w2c_j0 = w2c_l4;
   w2c_i0 = (u32)(w2c_j0);
   w2c_i0 = i32_load8_u(m, (u64)(w2c_i0) + 296u);
-  w2c_l12 = w2c_i0;
-  goto w2c_B12;
-  w2c_B24:;
+  w2c_l16 = w2c_i0;
+  goto w2c_B17;
+  w2c_B34:;
   w2c_j0 = w2c_l10;
   w2c_j1 = w2c_l8;
   w2c_j0 += w2c_j1;
-  w2c_j1 = w2c_l7;
-  w2c_j2 = w2c_l7;
+  w2c_j1 = w2c_l6;
+  w2c_j2 = w2c_l6;
   w2c_j3 = w2c_l4;
   w2c_i3 = (u32)(w2c_j3);
   w2c_j3 = i64_load(m, (u64)(w2c_i3) + 312u);
-  w2c_l6 = w2c_j3;
+  w2c_l7 = w2c_j3;
   w2c_j2 |= w2c_j3;
   w2c_i2 = !(w2c_j2);
   w2c_j3 = w2c_l4;
@@ -25763,14 +27378,14 @@ static void w2c_f31(module *m, u64 w2c_p0, u64 w2c_p1, u64 w2c_p2, u32 w2c_p3) {
   w2c_j0 = w2c_i2 ? w2c_j0 : w2c_j1;
   w2c_l5 = w2c_j0;
   w2c_i0 = 1u;
-  w2c_l12 = w2c_i0;
+  w2c_l16 = w2c_i0;
   w2c_i0 = w2c_l13;
   w2c_i0 = !(w2c_i0);
-  if (w2c_i0) {goto w2c_B25;}
+  if (w2c_i0) {goto w2c_B35;}
   w2c_j0 = w2c_l5;
-  w2c_l7 = w2c_j0;
-  goto w2c_B12;
-  w2c_B25:;
+  w2c_l6 = w2c_j0;
+  goto w2c_B17;
+  w2c_B35:;
   w2c_j0 = w2c_l4;
   w2c_j1 = 208ull;
   w2c_j0 += w2c_j1;
@@ -25780,7 +27395,7 @@ static void w2c_f31(module *m, u64 w2c_p0, u64 w2c_p1, u64 w2c_p2, u32 w2c_p3) {
   w2c_j2 += w2c_j3;
   w2c_j3 = w2c_p2;
   w2c_j4 = w2c_l9;
-  w2c_f34(m, w2c_j0, w2c_i1, w2c_j2, w2c_j3, w2c_j4);
+  w2c_f35(m, w2c_j0, w2c_i1, w2c_j2, w2c_j3, w2c_j4);
   w2c_j0 = w2c_l4;
   w2c_i0 = (u32)(w2c_j0);
   w2c_j0 = i64_load(m, (u64)(w2c_i0) + 224u);
@@ -25788,14 +27403,14 @@ static void w2c_f31(module *m, u64 w2c_p0, u64 w2c_p1, u64 w2c_p2, u32 w2c_p3) {
   w2c_j0 = w2c_l4;
   w2c_i0 = (u32)(w2c_j0);
   w2c_i0 = i32_load8_u(m, (u64)(w2c_i0) + 208u);
-  if (w2c_i0) {goto w2c_B26;}
+  if (w2c_i0) {goto w2c_B36;}
   w2c_j0 = w2c_l4;
   w2c_i0 = (u32)(w2c_j0);
   w2c_j0 = i64_load(m, (u64)(w2c_i0) + 240u);
   w2c_l8 = w2c_j0;
   w2c_j1 = 38ull;
   w2c_i0 = w2c_j0 > w2c_j1;
-  if (w2c_i0) {goto w2c_B13;}
+  if (w2c_i0) {goto w2c_B18;}
   w2c_j0 = w2c_l4;
   w2c_i0 = (u32)(w2c_j0);
   w2c_j0 = i64_load(m, (u64)(w2c_i0) + 232u);
@@ -25832,7 +27447,7 @@ static void w2c_f31(module *m, u64 w2c_p0, u64 w2c_p1, u64 w2c_p2, u32 w2c_p3) {
   w2c_j0 += w2c_j1;
   w2c_j1 = w2c_l10;
   w2c_j2 = 0ull;
-  w2c_j3 = w2c_l6;
+  w2c_j3 = w2c_l7;
   w2c_j4 = 0ull;
   w2c_f3(m, w2c_j0, w2c_j1, w2c_j2, w2c_j3, w2c_j4);
   w2c_j0 = w2c_l4;
@@ -25840,7 +27455,7 @@ static void w2c_f31(module *m, u64 w2c_p0, u64 w2c_p1, u64 w2c_p2, u32 w2c_p3) {
   w2c_j0 += w2c_j1;
   w2c_j1 = w2c_l8;
   w2c_j2 = 0ull;
-  w2c_j3 = w2c_l6;
+  w2c_j3 = w2c_l7;
   w2c_j4 = 0ull;
   w2c_f3(m, w2c_j0, w2c_j1, w2c_j2, w2c_j3, w2c_j4);
   w2c_j0 = w2c_l4;
@@ -25890,31 +27505,31 @@ static void w2c_f31(module *m, u64 w2c_p0, u64 w2c_p1, u64 w2c_p2, u32 w2c_p3) {
   w2c_j0 |= w2c_j1;
   w2c_j1 = 0ull;
   w2c_i0 = w2c_j0 != w2c_j1;
-  if (w2c_i0) {goto w2c_B13;}
+  if (w2c_i0) {goto w2c_B18;}
   w2c_i0 = 2u;
   w2c_i1 = 3u;
-  w2c_j2 = w2c_l7;
+  w2c_j2 = w2c_l6;
   w2c_j3 = 100ull;
   w2c_j2 ^= w2c_j3;
-  w2c_j3 = w2c_l6;
+  w2c_j3 = w2c_l7;
   w2c_j2 |= w2c_j3;
   w2c_i2 = !(w2c_j2);
   w2c_i0 = w2c_i2 ? w2c_i0 : w2c_i1;
-  w2c_l12 = w2c_i0;
+  w2c_l16 = w2c_i0;
   w2c_j0 = w2c_l4;
   w2c_i0 = (u32)(w2c_j0);
   w2c_j0 = i64_load(m, (u64)(w2c_i0) + 16u);
-  w2c_l6 = w2c_j0;
-  goto w2c_B11;
-  w2c_B26:;
+  w2c_l7 = w2c_j0;
+  goto w2c_B16;
+  w2c_B36:;
   w2c_j0 = w2c_l4;
   w2c_i0 = (u32)(w2c_j0);
   w2c_i0 = i32_load8_u(m, (u64)(w2c_i0) + 216u);
-  w2c_l12 = w2c_i0;
+  w2c_l16 = w2c_i0;
   w2c_j0 = w2c_p2;
-  w2c_l7 = w2c_j0;
-  goto w2c_B12;
-  w2c_B14:;
+  w2c_l6 = w2c_j0;
+  goto w2c_B17;
+  w2c_B19:;
   w2c_j0 = w2c_l4;
   w2c_i0 = (u32)(w2c_j0);
   w2c_j1 = 0ull;
@@ -25934,15 +27549,15 @@ static void w2c_f31(module *m, u64 w2c_p0, u64 w2c_p1, u64 w2c_p2, u32 w2c_p3) {
   w2c_j0 = w2c_l4;
   w2c_j1 = 288ull;
   w2c_j0 += w2c_j1;
-  w2c_j1 = w2c_l6;
-  w2c_j2 = w2c_l7;
-  w2c_f35(m, w2c_j0, w2c_j1, w2c_j2);
+  w2c_j1 = w2c_l7;
+  w2c_j2 = w2c_l6;
+  w2c_f36(m, w2c_j0, w2c_j1, w2c_j2);
   w2c_j0 = w2c_l4;
   w2c_i0 = (u32)(w2c_j0);
   w2c_i0 = i32_load8_u(m, (u64)(w2c_i0) + 288u);
   w2c_i1 = 1u;
   w2c_i0 = w2c_i0 != w2c_i1;
-  if (w2c_i0) {goto w2c_B27;}
+  if (w2c_i0) {goto w2c_B37;}
   w2c_j0 = w2c_l4;
   w2c_i0 = (u32)(w2c_j0);
   w2c_j1 = w2c_l4;
@@ -25964,28 +27579,28 @@ static void w2c_f31(module *m, u64 w2c_p0, u64 w2c_p1, u64 w2c_p2, u32 w2c_p3) {
   w2c_j0 = w2c_l4;
   w2c_i0 = (u32)(w2c_j0);
   w2c_i0 = i32_load(m, (u64)(w2c_i0) + 296u);
-  w2c_l12 = w2c_i0;
+  w2c_l16 = w2c_i0;
   w2c_j0 = w2c_l4;
   w2c_j1 = 344ull;
   w2c_j0 += w2c_j1;
   w2c_j1 = w2c_p2;
   w2c_j2 = w2c_p1;
-  w2c_f33(m, w2c_j0, w2c_j1, w2c_j2);
+  w2c_f34(m, w2c_j0, w2c_j1, w2c_j2);
   w2c_j0 = w2c_l4;
   w2c_i0 = (u32)(w2c_j0);
   w2c_i0 = i32_load8_u(m, (u64)(w2c_i0) + 344u);
   w2c_i1 = 1u;
   w2c_i0 = w2c_i0 != w2c_i1;
-  if (w2c_i0) {goto w2c_B27;}
-  w2c_i0 = w2c_l12;
+  if (w2c_i0) {goto w2c_B37;}
+  w2c_i0 = w2c_l16;
   w2c_i1 = 65285u;
   w2c_i0 = w2c_i0 == w2c_i1;
-  if (w2c_i0) {goto w2c_B28;}
-  w2c_i0 = w2c_l12;
+  if (w2c_i0) {goto w2c_B38;}
+  w2c_i0 = w2c_l16;
   w2c_i1 = 37u;
   w2c_i0 = w2c_i0 != w2c_i1;
-  if (w2c_i0) {goto w2c_B27;}
-  w2c_B28:;
+  if (w2c_i0) {goto w2c_B37;}
+  w2c_B38:;
   w2c_j0 = w2c_l4;
   w2c_j1 = 160ull;
   w2c_j0 += w2c_j1;
@@ -25993,7 +27608,7 @@ static void w2c_f31(module *m, u64 w2c_p0, u64 w2c_p1, u64 w2c_p2, u32 w2c_p3) {
   w2c_j2 = w2c_l8;
   w2c_j3 = w2c_p2;
   w2c_j4 = w2c_p1;
-  w2c_f36(m, w2c_j0, w2c_i1, w2c_j2, w2c_j3, w2c_j4);
+  w2c_f37(m, w2c_j0, w2c_i1, w2c_j2, w2c_j3, w2c_j4);
   w2c_j0 = w2c_l4;
   w2c_i0 = (u32)(w2c_j0);
   w2c_j0 = i64_load(m, (u64)(w2c_i0) + 176u);
@@ -26001,14 +27616,14 @@ static void w2c_f31(module *m, u64 w2c_p0, u64 w2c_p1, u64 w2c_p2, u32 w2c_p3) {
   w2c_j0 = w2c_l4;
   w2c_i0 = (u32)(w2c_j0);
   w2c_i0 = i32_load8_u(m, (u64)(w2c_i0) + 160u);
-  if (w2c_i0) {goto w2c_B29;}
+  if (w2c_i0) {goto w2c_B39;}
   w2c_j0 = w2c_l4;
   w2c_i0 = (u32)(w2c_j0);
   w2c_j0 = i64_load(m, (u64)(w2c_i0) + 192u);
   w2c_l5 = w2c_j0;
   w2c_j1 = 38ull;
   w2c_i0 = w2c_j0 > w2c_j1;
-  if (w2c_i0) {goto w2c_B13;}
+  if (w2c_i0) {goto w2c_B18;}
   w2c_j0 = w2c_l4;
   w2c_i0 = (u32)(w2c_j0);
   w2c_j0 = i64_load(m, (u64)(w2c_i0) + 184u);
@@ -26046,45 +27661,45 @@ static void w2c_f31(module *m, u64 w2c_p0, u64 w2c_p1, u64 w2c_p2, u32 w2c_p3) {
   w2c_j1 = w2c_l4;
   w2c_i1 = (u32)(w2c_j1);
   w2c_j1 = i64_load(m, (u64)(w2c_i1) + 72u);
-  w2c_l6 = w2c_j1;
+  w2c_l7 = w2c_j1;
   w2c_j2 = w2c_l4;
   w2c_i2 = (u32)(w2c_j2);
   w2c_j2 = i64_load(m, (u64)(w2c_i2) + 80u);
   w2c_j1 += w2c_j2;
   w2c_l5 = w2c_j1;
-  w2c_j2 = w2c_l6;
+  w2c_j2 = w2c_l7;
   w2c_i1 = w2c_j1 < w2c_j2;
   w2c_j1 = (u64)(w2c_i1);
   w2c_j0 += w2c_j1;
   w2c_j1 = 0ull;
   w2c_i0 = w2c_j0 != w2c_j1;
-  if (w2c_i0) {goto w2c_B13;}
+  if (w2c_i0) {goto w2c_B18;}
   w2c_j0 = w2c_l4;
   w2c_i0 = (u32)(w2c_j0);
   w2c_j0 = i64_load(m, (u64)(w2c_i0) + 64u);
   w2c_j1 = 18446744073709551612ull;
   w2c_j0 &= w2c_j1;
-  w2c_l6 = w2c_j0;
+  w2c_l7 = w2c_j0;
   w2c_i0 = 2u;
-  w2c_l12 = w2c_i0;
-  goto w2c_B11;
-  w2c_B29:;
+  w2c_l16 = w2c_i0;
+  goto w2c_B16;
+  w2c_B39:;
   w2c_j0 = w2c_l4;
   w2c_i0 = (u32)(w2c_j0);
   w2c_i0 = i32_load8_u(m, (u64)(w2c_i0) + 168u);
-  w2c_l12 = w2c_i0;
+  w2c_l16 = w2c_i0;
   w2c_j0 = w2c_p2;
-  w2c_l7 = w2c_j0;
-  goto w2c_B12;
-  w2c_B27:;
+  w2c_l6 = w2c_j0;
+  goto w2c_B17;
+  w2c_B37:;
   w2c_j0 = w2c_l4;
   w2c_j1 = 112ull;
   w2c_j0 += w2c_j1;
   w2c_i1 = w2c_p3;
   w2c_j2 = w2c_l8;
-  w2c_j3 = w2c_l6;
-  w2c_j4 = w2c_l7;
-  w2c_f36(m, w2c_j0, w2c_i1, w2c_j2, w2c_j3, w2c_j4);
+  w2c_j3 = w2c_l7;
+  w2c_j4 = w2c_l6;
+  w2c_f37(m, w2c_j0, w2c_i1, w2c_j2, w2c_j3, w2c_j4);
   w2c_j0 = w2c_l4;
   w2c_i0 = (u32)(w2c_j0);
   w2c_j0 = i64_load(m, (u64)(w2c_i0) + 128u);
@@ -26092,18 +27707,18 @@ static void w2c_f31(module *m, u64 w2c_p0, u64 w2c_p1, u64 w2c_p2, u32 w2c_p3) {
   w2c_j0 = w2c_l4;
   w2c_i0 = (u32)(w2c_j0);
   w2c_i0 = i32_load8_u(m, (u64)(w2c_i0) + 112u);
-  if (w2c_i0) {goto w2c_B30;}
+  if (w2c_i0) {goto w2c_B40;}
   w2c_j0 = w2c_l4;
   w2c_i0 = (u32)(w2c_j0);
   w2c_j0 = i64_load(m, (u64)(w2c_i0) + 144u);
   w2c_p1 = w2c_j0;
   w2c_j1 = 38ull;
   w2c_i0 = w2c_j0 > w2c_j1;
-  if (w2c_i0) {goto w2c_B13;}
+  if (w2c_i0) {goto w2c_B18;}
   w2c_j0 = w2c_p1;
   w2c_j1 = 0ull;
   w2c_i0 = w2c_j0 != w2c_j1;
-  w2c_l12 = w2c_i0;
+  w2c_l16 = w2c_i0;
   w2c_j0 = w2c_p1;
   w2c_j1 = 4ull;
   w2c_j0 <<= (w2c_j1 & 63);
@@ -26118,54 +27733,54 @@ static void w2c_f31(module *m, u64 w2c_p0, u64 w2c_p1, u64 w2c_p2, u32 w2c_p3) {
   w2c_j0 += w2c_j1;
   w2c_i0 = (u32)(w2c_j0);
   w2c_j0 = i64_load(m, (u64)(w2c_i0));
-  w2c_l6 = w2c_j0;
+  w2c_l7 = w2c_j0;
   w2c_j0 = w2c_l4;
   w2c_i0 = (u32)(w2c_j0);
   w2c_j0 = i64_load(m, (u64)(w2c_i0) + 136u);
   w2c_p1 = w2c_j0;
-  goto w2c_B11;
-  w2c_B30:;
+  goto w2c_B16;
+  w2c_B40:;
   w2c_j0 = w2c_l4;
   w2c_i0 = (u32)(w2c_j0);
   w2c_i0 = i32_load8_u(m, (u64)(w2c_i0) + 120u);
-  w2c_l12 = w2c_i0;
+  w2c_l16 = w2c_i0;
   w2c_j0 = w2c_p2;
-  w2c_l7 = w2c_j0;
-  goto w2c_B12;
-  w2c_B13:;
+  w2c_l6 = w2c_j0;
+  goto w2c_B17;
+  w2c_B18:;
   w2c_i0 = 2u;
-  w2c_l12 = w2c_i0;
+  w2c_l16 = w2c_i0;
   w2c_j0 = 0ull;
-  w2c_l7 = w2c_j0;
-  w2c_B12:;
+  w2c_l6 = w2c_j0;
+  w2c_B17:;
   w2c_j0 = 0ull;
   w2c_p1 = w2c_j0;
   w2c_j0 = 0ull;
-  w2c_j1 = w2c_l7;
-  w2c_i2 = w2c_l15;
-  w2c_i3 = w2c_l12;
+  w2c_j1 = w2c_l6;
+  w2c_i2 = w2c_l12;
+  w2c_i3 = w2c_l16;
   w2c_i4 = 255u;
   w2c_i3 &= w2c_i4;
   w2c_i4 = 2u;
   w2c_i3 = w2c_i3 == w2c_i4;
   w2c_i2 &= w2c_i3;
-  w2c_l15 = w2c_i2;
+  w2c_l12 = w2c_i2;
   w2c_j0 = w2c_i2 ? w2c_j0 : w2c_j1;
   w2c_p2 = w2c_j0;
   w2c_i0 = 3u;
-  w2c_i1 = w2c_l12;
-  w2c_i2 = w2c_l15;
+  w2c_i1 = w2c_l16;
+  w2c_i2 = w2c_l12;
   w2c_i0 = w2c_i2 ? w2c_i0 : w2c_i1;
-  w2c_l15 = w2c_i0;
-  w2c_i0 = 0u;
   w2c_l12 = w2c_i0;
+  w2c_i0 = 0u;
+  w2c_l16 = w2c_i0;
   w2c_j0 = 1ull;
-  w2c_l7 = w2c_j0;
-  goto w2c_B10;
-  w2c_B11:;
-  w2c_i0 = w2c_l15;
+  w2c_l6 = w2c_j0;
+  goto w2c_B15;
+  w2c_B16:;
+  w2c_i0 = w2c_l12;
   w2c_i0 = !(w2c_i0);
-  if (w2c_i0) {goto w2c_B34;}
+  if (w2c_i0) {goto w2c_B44;}
   w2c_j0 = w2c_p2;
   w2c_i0 = !(w2c_j0);
   w2c_j1 = w2c_p1;
@@ -26175,18 +27790,18 @@ static void w2c_f31(module *m, u64 w2c_p0, u64 w2c_p1, u64 w2c_p2, u32 w2c_p3) {
   w2c_j3 = 9223372036854775808ull;
   w2c_i2 = w2c_j2 == w2c_j3;
   w2c_i0 = w2c_i2 ? w2c_i0 : w2c_i1;
-  if (w2c_i0) {goto w2c_B32;}
+  if (w2c_i0) {goto w2c_B42;}
   w2c_i0 = 3u;
-  w2c_l15 = w2c_i0;
-  goto w2c_B33;
-  w2c_B34:;
+  w2c_l12 = w2c_i0;
+  goto w2c_B43;
+  w2c_B44:;
   w2c_j0 = w2c_p1;
   w2c_j1 = 0ull;
   w2c_i0 = (u64)((s64)w2c_j0 >= (s64)w2c_j1);
-  if (w2c_i0) {goto w2c_B31;}
+  if (w2c_i0) {goto w2c_B41;}
   w2c_i0 = 2u;
-  w2c_l15 = w2c_i0;
-  w2c_B33:;
+  w2c_l12 = w2c_i0;
+  w2c_B43:;
   w2c_j0 = 0ull;
   w2c_p2 = w2c_j0;
   w2c_j0 = w2c_l4;
@@ -26198,13 +27813,13 @@ static void w2c_f31(module *m, u64 w2c_p0, u64 w2c_p1, u64 w2c_p2, u32 w2c_p3) {
   w2c_j1 = 0ull;
   i64_store(m, (u64)(w2c_i0) + 96, w2c_j1);
   w2c_i0 = 0u;
-  w2c_l12 = w2c_i0;
+  w2c_l16 = w2c_i0;
   w2c_j0 = 1ull;
-  w2c_l7 = w2c_j0;
+  w2c_l6 = w2c_j0;
   w2c_j0 = 0ull;
   w2c_p1 = w2c_j0;
-  goto w2c_B10;
-  w2c_B32:;
+  goto w2c_B15;
+  w2c_B42:;
   w2c_j0 = 0ull;
   w2c_j1 = w2c_p1;
   w2c_j2 = w2c_p2;
@@ -26218,9 +27833,9 @@ static void w2c_f31(module *m, u64 w2c_p0, u64 w2c_p1, u64 w2c_p2, u32 w2c_p3) {
   w2c_j1 = w2c_p2;
   w2c_j0 -= w2c_j1;
   w2c_p2 = w2c_j0;
-  w2c_B31:;
+  w2c_B41:;
   w2c_j0 = 0ull;
-  w2c_l7 = w2c_j0;
+  w2c_l6 = w2c_j0;
   w2c_j0 = w2c_l4;
   w2c_i0 = (u32)(w2c_j0);
   w2c_j1 = 0ull;
@@ -26230,17 +27845,17 @@ static void w2c_f31(module *m, u64 w2c_p0, u64 w2c_p1, u64 w2c_p2, u32 w2c_p3) {
   w2c_j1 = 0ull;
   i64_store(m, (u64)(w2c_i0) + 96, w2c_j1);
   w2c_i0 = 0u;
-  w2c_l15 = w2c_i0;
-  goto w2c_B9;
-  w2c_B10:;
+  w2c_l12 = w2c_i0;
+  goto w2c_B14;
+  w2c_B15:;
   w2c_j0 = 0ull;
-  w2c_l6 = w2c_j0;
+  w2c_l7 = w2c_j0;
   w2c_j0 = 0ull;
   w2c_l5 = w2c_j0;
-  w2c_B9:;
+  w2c_B14:;
   w2c_j0 = w2c_p0;
   w2c_i0 = (u32)(w2c_j0);
-  w2c_j1 = w2c_l7;
+  w2c_j1 = w2c_l6;
   i64_store(m, (u64)(w2c_i0), w2c_j1);
   w2c_j0 = w2c_p0;
   w2c_j1 = 40ull;
@@ -26252,7 +27867,7 @@ static void w2c_f31(module *m, u64 w2c_p0, u64 w2c_p1, u64 w2c_p2, u32 w2c_p3) {
   w2c_j1 = 32ull;
   w2c_j0 += w2c_j1;
   w2c_i0 = (u32)(w2c_j0);
-  w2c_j1 = w2c_l6;
+  w2c_j1 = w2c_l7;
   i64_store(m, (u64)(w2c_i0), w2c_j1);
   w2c_j0 = w2c_p0;
   w2c_j1 = 24ull;
@@ -26270,7 +27885,7 @@ static void w2c_f31(module *m, u64 w2c_p0, u64 w2c_p1, u64 w2c_p2, u32 w2c_p3) {
   w2c_j1 = 48ull;
   w2c_j0 += w2c_j1;
   w2c_i0 = (u32)(w2c_j0);
-  w2c_i1 = w2c_l12;
+  w2c_i1 = w2c_l16;
   i32_store8(m, (u64)(w2c_i0), w2c_i1);
   w2c_j0 = w2c_p0;
   w2c_j1 = 49ull;
@@ -26292,7 +27907,7 @@ static void w2c_f31(module *m, u64 w2c_p0, u64 w2c_p1, u64 w2c_p2, u32 w2c_p3) {
   w2c_j1 = 8ull;
   w2c_j0 += w2c_j1;
   w2c_i0 = (u32)(w2c_j0);
-  w2c_i1 = w2c_l15;
+  w2c_i1 = w2c_l12;
   w2c_j1 = (u64)(w2c_i1);
   w2c_j2 = 255ull;
   w2c_j1 &= w2c_j2;
@@ -26303,7 +27918,7 @@ static void w2c_f31(module *m, u64 w2c_p0, u64 w2c_p1, u64 w2c_p2, u32 w2c_p3) {
   m->w2c_g0 = w2c_j0;
 }
 
-static void w2c_f32(module *m, u64 w2c_p0, u64 w2c_p1, u64 w2c_p2) {
+static void w2c_f33(module *m, u64 w2c_p0, u64 w2c_p1, u64 w2c_p2) {
   u32 w2c_l5 = 0, w2c_l6 = 0, w2c_l7 = 0, w2c_l8 = 0;
   u64 w2c_l3 = 0, w2c_l4 = 0;
   u32 w2c_i0, w2c_i1, w2c_i2, w2c_i3;
@@ -26554,8 +28169,8 @@ static void w2c_f32(module *m, u64 w2c_p0, u64 w2c_p1, u64 w2c_p2) {
   w2c_Bfunc:;
 }
 
-static void w2c_f33(module *m, u64 w2c_p0, u64 w2c_p1, u64 w2c_p2) {
-  u32 w2c_l5 = 0, w2c_l6 = 0, w2c_l7 = 0, w2c_l8 = 0;
+static void w2c_f34(module *m, u64 w2c_p0, u64 w2c_p1, u64 w2c_p2) {
+  u32 w2c_l5 = 0, w2c_l6 = 0, w2c_l7 = 0, w2c_l8 = 0, w2c_l9 = 0;
   u64 w2c_l3 = 0, w2c_l4 = 0;
   u32 w2c_i0, w2c_i1, w2c_i2;
   u64 w2c_j0, w2c_j1, w2c_j2;
@@ -26568,7 +28183,7 @@ static void w2c_f33(module *m, u64 w2c_p0, u64 w2c_p1, u64 w2c_p2) {
   w2c_l3 = w2c_j0;
   w2c_j1 = 16ull;
   w2c_i0 = (u64)((s64)w2c_j0 < (s64)w2c_j1);
-  if (w2c_i0) {goto w2c_B1;}
+  if (w2c_i0) {goto w2c_B6;}
   w2c_j0 = w2c_l3;
   w2c_i0 = (u32)(w2c_j0);
   w2c_j1 = 0ull;
@@ -26592,7 +28207,7 @@ static void w2c_f33(module *m, u64 w2c_p0, u64 w2c_p1, u64 w2c_p2) {
   w2c_j0 = w2c_p2;
   w2c_j1 = 3ull;
   w2c_i0 = w2c_j0 < w2c_j1;
-  if (w2c_i0) {goto w2c_B4;}
+  if (w2c_i0) {goto w2c_B3;}
   w2c_j0 = w2c_p1;
   w2c_i0 = (u32)(w2c_j0);
   w2c_i0 = i32_load8_u(m, (u64)(w2c_i0));
@@ -26601,23 +28216,36 @@ static void w2c_f33(module *m, u64 w2c_p0, u64 w2c_p1, u64 w2c_p2) {
   w2c_i0 &= w2c_i1;
   w2c_i1 = 224u;
   w2c_i0 = w2c_i0 != w2c_i1;
-  if (w2c_i0) {goto w2c_B4;}
+  if (w2c_i0) {goto w2c_B3;}
   w2c_j0 = w2c_p1;
   w2c_i0 = (u32)(w2c_j0);
   w2c_i0 = i32_load8_u(m, (u64)(w2c_i0) + 1u);
   w2c_l6 = w2c_i0;
-  w2c_i1 = 8u;
+  w2c_i1 = 6u;
   w2c_i0 <<= (w2c_i1 & 31);
+  w2c_i1 = w2c_l5;
+  w2c_i2 = 12u;
+  w2c_i1 <<= (w2c_i2 & 31);
+  w2c_i0 += w2c_i1;
   w2c_j1 = w2c_p1;
   w2c_i1 = (u32)(w2c_j1);
   w2c_i1 = i32_load8_u(m, (u64)(w2c_i1) + 2u);
   w2c_l7 = w2c_i1;
+  w2c_i0 += w2c_i1;
+  w2c_l8 = w2c_i0;
+  w2c_i1 = 4294041472u;
+  w2c_i0 += w2c_i1;
+  w2c_l9 = w2c_i0;
+  w2c_i0 = w2c_l6;
+  w2c_i1 = 8u;
+  w2c_i0 <<= (w2c_i1 & 31);
+  w2c_i1 = w2c_l7;
   w2c_i2 = 16u;
   w2c_i1 <<= (w2c_i2 & 31);
   w2c_i0 |= w2c_i1;
   w2c_i1 = w2c_l5;
   w2c_i0 |= w2c_i1;
-  w2c_l8 = w2c_i0;
+  w2c_l5 = w2c_i0;
   w2c_j0 = (u64)(w2c_i0);
   w2c_j1 = 953497ull;
   w2c_j0 *= w2c_j1;
@@ -26628,9 +28256,9 @@ static void w2c_f33(module *m, u64 w2c_p0, u64 w2c_p1, u64 w2c_p2) {
   w2c_l4 = w2c_j0;
   w2c_i0 = (u32)(w2c_j0);
   w2c_i0 = i32_load(m, (u64)(w2c_i0) + 66992u);
-  w2c_i1 = w2c_l8;
+  w2c_i1 = w2c_l5;
   w2c_i0 = w2c_i0 != w2c_i1;
-  if (w2c_i0) {goto w2c_B4;}
+  if (w2c_i0) {goto w2c_B7;}
   w2c_j0 = w2c_l4;
   w2c_j1 = 66996ull;
   w2c_j0 += w2c_j1;
@@ -26639,8 +28267,74 @@ static void w2c_f33(module *m, u64 w2c_p0, u64 w2c_p1, u64 w2c_p2) {
   w2c_i1 = 255u;
   w2c_i0 &= w2c_i1;
   w2c_i1 = 2u;
-  w2c_i0 = w2c_i0 == w2c_i1;
+  w2c_i0 = w2c_i0 != w2c_i1;
   if (w2c_i0) {goto w2c_B4;}
+  w2c_B7:;
+  w2c_i0 = w2c_l9;
+  w2c_i1 = 127u;
+  w2c_i0 = w2c_i0 > w2c_i1;
+  if (w2c_i0) {goto w2c_B8;}
+  w2c_i0 = w2c_l8;
+  w2c_i1 = 4294041463u;
+  w2c_i0 += w2c_i1;
+  w2c_i1 = 5u;
+  w2c_i0 = w2c_i0 < w2c_i1;
+  if (w2c_i0) {goto w2c_B3;}
+  w2c_i0 = w2c_l8;
+  w2c_i1 = 925856u;
+  w2c_i0 = w2c_i0 != w2c_i1;
+  if (w2c_i0) {goto w2c_B4;}
+  goto w2c_B3;
+  w2c_B8:;
+  w2c_i0 = w2c_l8;
+  w2c_i1 = 4294033280u;
+  w2c_i0 += w2c_i1;
+  w2c_i1 = 11u;
+  w2c_i0 = w2c_i0 < w2c_i1;
+  if (w2c_i0) {goto w2c_B3;}
+  w2c_i0 = w2c_l8;
+  w2c_i1 = 934055u;
+  w2c_i0 = (u32)((s32)w2c_i0 > (s32)w2c_i1);
+  if (w2c_i0) {goto w2c_B9;}
+  w2c_i0 = w2c_l8;
+  w2c_i1 = 925957u;
+  w2c_i0 = w2c_i0 == w2c_i1;
+  if (w2c_i0) {goto w2c_B3;}
+  w2c_i0 = w2c_l8;
+  w2c_i1 = 925984u;
+  w2c_i0 = w2c_i0 == w2c_i1;
+  if (w2c_i0) {goto w2c_B3;}
+  w2c_i0 = w2c_l8;
+  w2c_i1 = 931584u;
+  w2c_i0 = w2c_i0 != w2c_i1;
+  if (w2c_i0) {goto w2c_B4;}
+  goto w2c_B3;
+  w2c_B9:;
+  w2c_i0 = w2c_l8;
+  w2c_i1 = 4294033240u;
+  w2c_i0 += w2c_i1;
+  w2c_l5 = w2c_i0;
+  w2c_i1 = 55u;
+  w2c_i0 = w2c_i0 > w2c_i1;
+  if (w2c_i0) {goto w2c_B5;}
+  w2c_j0 = 1ull;
+  w2c_i1 = w2c_l5;
+  w2c_j1 = (u64)(w2c_i1);
+  w2c_j0 <<= (w2c_j1 & 63);
+  w2c_j1 = 36028797018964099ull;
+  w2c_j0 &= w2c_j1;
+  w2c_j1 = 0ull;
+  w2c_i0 = w2c_j0 == w2c_j1;
+  if (w2c_i0) {goto w2c_B5;}
+  goto w2c_B3;
+  w2c_B6:;
+  UNREACHABLE;
+  w2c_B5:;
+  w2c_i0 = w2c_l8;
+  w2c_i1 = 938112u;
+  w2c_i0 = w2c_i0 == w2c_i1;
+  if (w2c_i0) {goto w2c_B3;}
+  w2c_B4:;
   w2c_j0 = w2c_l3;
   w2c_i0 = (u32)(w2c_j0);
   w2c_j1 = 0ull;
@@ -26681,26 +28375,14 @@ static void w2c_f33(module *m, u64 w2c_p0, u64 w2c_p1, u64 w2c_p2) {
   w2c_i1 = (u32)(w2c_j1);
   w2c_i1 = i32_load(m, (u64)(w2c_i1) + 92u);
   i32_store(m, (u64)(w2c_i0) + 48, w2c_i1);
-  w2c_i0 = w2c_l5;
-  w2c_i1 = 12u;
-  w2c_i0 <<= (w2c_i1 & 31);
-  w2c_i1 = w2c_l6;
-  w2c_i2 = 6u;
-  w2c_i1 <<= (w2c_i2 & 31);
-  w2c_i0 += w2c_i1;
-  w2c_i1 = w2c_l7;
-  w2c_i0 += w2c_i1;
-  w2c_i1 = 4294041472u;
-  w2c_i0 += w2c_i1;
-  w2c_l5 = w2c_i0;
-  goto w2c_B3;
-  w2c_B4:;
+  goto w2c_B2;
+  w2c_B3:;
   w2c_j0 = w2c_l3;
   w2c_j1 = 56ull;
   w2c_j0 += w2c_j1;
   w2c_j1 = w2c_p1;
   w2c_j2 = w2c_p2;
-  w2c_f32(m, w2c_j0, w2c_j1, w2c_j2);
+  w2c_f33(m, w2c_j0, w2c_j1, w2c_j2);
   w2c_j0 = w2c_l3;
   w2c_i0 = (u32)(w2c_j0);
   w2c_j1 = w2c_l3;
@@ -26730,12 +28412,12 @@ static void w2c_f33(module *m, u64 w2c_p0, u64 w2c_p1, u64 w2c_p2) {
   w2c_i0 = i32_load8_u(m, (u64)(w2c_i0) + 56u);
   w2c_i1 = 1u;
   w2c_i0 = w2c_i0 != w2c_i1;
-  if (w2c_i0) {goto w2c_B2;}
+  if (w2c_i0) {goto w2c_B1;}
   w2c_j0 = w2c_l3;
   w2c_i0 = (u32)(w2c_j0);
   w2c_i0 = i32_load(m, (u64)(w2c_i0) + 64u);
-  w2c_l5 = w2c_i0;
-  w2c_B3:;
+  w2c_l9 = w2c_i0;
+  w2c_B2:;
   w2c_j0 = w2c_p0;
   w2c_j1 = 12ull;
   w2c_j0 += w2c_j1;
@@ -26771,9 +28453,9 @@ static void w2c_f33(module *m, u64 w2c_p0, u64 w2c_p1, u64 w2c_p2) {
   w2c_j0 = 1ull;
   w2c_p2 = w2c_j0;
   goto w2c_B0;
-  w2c_B2:;
+  w2c_B1:;
   w2c_i0 = 0u;
-  w2c_l5 = w2c_i0;
+  w2c_l9 = w2c_i0;
   w2c_j0 = w2c_p0;
   w2c_j1 = 28ull;
   w2c_j0 += w2c_j1;
@@ -26794,9 +28476,6 @@ static void w2c_f33(module *m, u64 w2c_p0, u64 w2c_p1, u64 w2c_p2) {
   w2c_i0 = (u32)(w2c_j0);
   w2c_j1 = 0ull;
   i64_store(m, (u64)(w2c_i0), w2c_j1);
-  goto w2c_B0;
-  w2c_B1:;
-  UNREACHABLE;
   w2c_B0:;
   w2c_j0 = w2c_p0;
   w2c_i0 = (u32)(w2c_j0);
@@ -26806,7 +28485,7 @@ static void w2c_f33(module *m, u64 w2c_p0, u64 w2c_p1, u64 w2c_p2) {
   w2c_j1 = 8ull;
   w2c_j0 += w2c_j1;
   w2c_i0 = (u32)(w2c_j0);
-  w2c_i1 = w2c_l5;
+  w2c_i1 = w2c_l9;
   i32_store(m, (u64)(w2c_i0), w2c_i1);
   w2c_j0 = w2c_l3;
   w2c_j1 = 96ull;
@@ -26814,7 +28493,7 @@ static void w2c_f33(module *m, u64 w2c_p0, u64 w2c_p1, u64 w2c_p2) {
   m->w2c_g0 = w2c_j0;
 }
 
-static void w2c_f34(module *m, u64 w2c_p0, u32 w2c_p1, u64 w2c_p2, u64 w2c_p3, u64 w2c_p4) {
+static void w2c_f35(module *m, u64 w2c_p0, u32 w2c_p1, u64 w2c_p2, u64 w2c_p3, u64 w2c_p4) {
   u32 w2c_l8 = 0, w2c_l9 = 0, w2c_l10 = 0;
   u64 w2c_l5 = 0, w2c_l6 = 0, w2c_l7 = 0;
   u32 w2c_i0, w2c_i1, w2c_i2;
@@ -26890,7 +28569,7 @@ static void w2c_f34(module *m, u64 w2c_p0, u32 w2c_p1, u64 w2c_p2, u64 w2c_p3, u
   w2c_j0 += w2c_j1;
   w2c_j1 = w2c_p3;
   w2c_j2 = w2c_p4;
-  w2c_f33(m, w2c_j0, w2c_j1, w2c_j2);
+  w2c_f34(m, w2c_j0, w2c_j1, w2c_j2);
   w2c_i0 = 1u;
   w2c_l8 = w2c_i0;
   w2c_j0 = w2c_l5;
@@ -26925,7 +28604,7 @@ static void w2c_f34(module *m, u64 w2c_p0, u32 w2c_p1, u64 w2c_p2, u64 w2c_p3, u
     w2c_j0 += w2c_j1;
     w2c_j1 = w2c_l6;
     w2c_j2 = w2c_l7;
-    w2c_f33(m, w2c_j0, w2c_j1, w2c_j2);
+    w2c_f34(m, w2c_j0, w2c_j1, w2c_j2);
     w2c_i0 = 1u;
     w2c_l9 = w2c_i0;
     w2c_j0 = w2c_l5;
@@ -26948,7 +28627,7 @@ static void w2c_f34(module *m, u64 w2c_p0, u32 w2c_p1, u64 w2c_p2, u64 w2c_p3, u
     w2c_j1 = w2c_l5;
     w2c_i1 = (u32)(w2c_j1);
     w2c_i1 = i32_load(m, (u64)(w2c_i1) + 136u);
-    w2c_f25(m, w2c_j0, w2c_i1);
+    w2c_f22(m, w2c_j0, w2c_i1);
     w2c_j0 = w2c_l5;
     w2c_i0 = (u32)(w2c_j0);
     w2c_i0 = i32_load8_u(m, (u64)(w2c_i0) + 8u);
@@ -26978,7 +28657,7 @@ static void w2c_f34(module *m, u64 w2c_p0, u32 w2c_p1, u64 w2c_p2, u64 w2c_p3, u
   w2c_j2 = w2c_p2;
   w2c_j3 = w2c_p3;
   w2c_j4 = w2c_p4;
-  w2c_f36(m, w2c_j0, w2c_i1, w2c_j2, w2c_j3, w2c_j4);
+  w2c_f37(m, w2c_j0, w2c_i1, w2c_j2, w2c_j3, w2c_j4);
   w2c_j0 = w2c_l5;
   w2c_i0 = (u32)(w2c_j0);
   w2c_i0 = i32_load8_u(m, (u64)(w2c_i0) + 88u);
@@ -26997,7 +28676,7 @@ static void w2c_f34(module *m, u64 w2c_p0, u32 w2c_p1, u64 w2c_p2, u64 w2c_p3, u
   w2c_j3 = 0ull;
   w2c_j4 = w2c_p3;
   w2c_j5 = w2c_p4;
-  w2c_f37(m, w2c_j0, w2c_i1, w2c_j2, w2c_j3, w2c_j4, w2c_j5);
+  w2c_f39(m, w2c_j0, w2c_i1, w2c_j2, w2c_j3, w2c_j4, w2c_j5);
   w2c_i0 = 2u;
   w2c_l8 = w2c_i0;
   w2c_j0 = 0ull;
@@ -27098,7 +28777,7 @@ static void w2c_f34(module *m, u64 w2c_p0, u32 w2c_p1, u64 w2c_p2, u64 w2c_p3, u
   w2c_Bfunc:;
 }
 
-static void w2c_f35(module *m, u64 w2c_p0, u64 w2c_p1, u64 w2c_p2) {
+static void w2c_f36(module *m, u64 w2c_p0, u64 w2c_p1, u64 w2c_p2) {
   u32 w2c_l5 = 0, w2c_l6 = 0, w2c_l7 = 0, w2c_l8 = 0;
   u64 w2c_l3 = 0, w2c_l4 = 0;
   u32 w2c_i0, w2c_i1, w2c_i2, w2c_i3;
@@ -27359,13 +29038,13 @@ static void w2c_f35(module *m, u64 w2c_p0, u64 w2c_p1, u64 w2c_p2) {
   w2c_Bfunc:;
 }
 
-static void w2c_f36(module *m, u64 w2c_p0, u32 w2c_p1, u64 w2c_p2, u64 w2c_p3, u64 w2c_p4) {
+static void w2c_f37(module *m, u64 w2c_p0, u32 w2c_p1, u64 w2c_p2, u64 w2c_p3, u64 w2c_p4) {
   u32 w2c_l14 = 0, w2c_l15 = 0, w2c_l16 = 0;
   u64 w2c_l5 = 0, w2c_l6 = 0, w2c_l7 = 0, w2c_l8 = 0, w2c_l9 = 0, w2c_l10 = 0, w2c_l11 = 0, w2c_l12 = 0, w2c_l13 = 0;
   u32 w2c_i0, w2c_i1, w2c_i2, w2c_i3, w2c_i4;
   u64 w2c_j0, w2c_j1, w2c_j2, w2c_j3, w2c_j4, w2c_j5, w2c_j6;
   w2c_j0 = m->w2c_g0;
-  w2c_j1 = 304ull;
+  w2c_j1 = 352ull;
   w2c_j0 -= w2c_j1;
   w2c_l5 = w2c_j0;
   m->w2c_g0 = w2c_j0;
@@ -27373,11 +29052,23 @@ static void w2c_f36(module *m, u64 w2c_p0, u32 w2c_p1, u64 w2c_p2, u64 w2c_p3, u
   w2c_l5 = w2c_j0;
   w2c_j1 = 16ull;
   w2c_i0 = (u64)((s64)w2c_j0 < (s64)w2c_j1);
-  if (w2c_i0) {goto w2c_B5;}
+  if (w2c_i0) {goto w2c_B1;}
   w2c_j0 = w2c_l5;
   w2c_i0 = (u32)(w2c_j0);
   w2c_j1 = 0ull;
-  i64_store(m, (u64)(w2c_i0) + 232, w2c_j1);
+  i64_store(m, (u64)(w2c_i0) + 280, w2c_j1);
+  w2c_j0 = w2c_l5;
+  w2c_i0 = (u32)(w2c_j0);
+  w2c_j1 = 0ull;
+  i64_store(m, (u64)(w2c_i0) + 272, w2c_j1);
+  w2c_j0 = w2c_l5;
+  w2c_i0 = (u32)(w2c_j0);
+  w2c_j1 = 0ull;
+  i64_store(m, (u64)(w2c_i0) + 264, w2c_j1);
+  w2c_j0 = w2c_l5;
+  w2c_i0 = (u32)(w2c_j0);
+  w2c_j1 = 0ull;
+  i64_store(m, (u64)(w2c_i0) + 256, w2c_j1);
   w2c_j0 = w2c_l5;
   w2c_i0 = (u32)(w2c_j0);
   w2c_j1 = 0ull;
@@ -27385,19 +29076,15 @@ static void w2c_f36(module *m, u64 w2c_p0, u32 w2c_p1, u64 w2c_p2, u64 w2c_p3, u
   w2c_j0 = w2c_l5;
   w2c_i0 = (u32)(w2c_j0);
   w2c_j1 = 0ull;
-  i64_store(m, (u64)(w2c_i0) + 216, w2c_j1);
+  i64_store(m, (u64)(w2c_i0) + 232, w2c_j1);
   w2c_j0 = w2c_l5;
   w2c_i0 = (u32)(w2c_j0);
   w2c_j1 = 0ull;
-  i64_store(m, (u64)(w2c_i0) + 208, w2c_j1);
+  i64_store(m, (u64)(w2c_i0) + 240, w2c_j1);
   w2c_j0 = w2c_l5;
   w2c_i0 = (u32)(w2c_j0);
   w2c_j1 = 0ull;
-  i64_store(m, (u64)(w2c_i0) + 176, w2c_j1);
-  w2c_j0 = w2c_l5;
-  w2c_i0 = (u32)(w2c_j0);
-  w2c_j1 = 0ull;
-  i64_store(m, (u64)(w2c_i0) + 184, w2c_j1);
+  i64_store(m, (u64)(w2c_i0) + 248, w2c_j1);
   w2c_j0 = w2c_l5;
   w2c_i0 = (u32)(w2c_j0);
   w2c_j1 = 0ull;
@@ -27409,422 +29096,446 @@ static void w2c_f36(module *m, u64 w2c_p0, u32 w2c_p1, u64 w2c_p2, u64 w2c_p3, u
   w2c_j0 = w2c_l5;
   w2c_i0 = (u32)(w2c_j0);
   w2c_j1 = 0ull;
-  i64_store(m, (u64)(w2c_i0) + 296, w2c_j1);
+  i64_store(m, (u64)(w2c_i0) + 208, w2c_j1);
   w2c_j0 = w2c_l5;
   w2c_i0 = (u32)(w2c_j0);
   w2c_j1 = 0ull;
-  i64_store(m, (u64)(w2c_i0) + 288, w2c_j1);
+  i64_store(m, (u64)(w2c_i0) + 216, w2c_j1);
   w2c_j0 = w2c_l5;
   w2c_i0 = (u32)(w2c_j0);
   w2c_j1 = 0ull;
-  i64_store(m, (u64)(w2c_i0) + 280, w2c_j1);
+  i64_store(m, (u64)(w2c_i0) + 160, w2c_j1);
   w2c_j0 = w2c_l5;
   w2c_i0 = (u32)(w2c_j0);
   w2c_j1 = 0ull;
-  i64_store(m, (u64)(w2c_i0) + 272, w2c_j1);
+  i64_store(m, (u64)(w2c_i0) + 168, w2c_j1);
   w2c_j0 = w2c_l5;
-  w2c_j1 = 272ull;
+  w2c_i0 = (u32)(w2c_j0);
+  w2c_j1 = 0ull;
+  i64_store(m, (u64)(w2c_i0) + 176, w2c_j1);
+  w2c_j0 = w2c_l5;
+  w2c_i0 = (u32)(w2c_j0);
+  w2c_j1 = 0ull;
+  i64_store(m, (u64)(w2c_i0) + 184, w2c_j1);
+  w2c_j0 = w2c_l5;
+  w2c_i0 = (u32)(w2c_j0);
+  w2c_j1 = 0ull;
+  i64_store(m, (u64)(w2c_i0) + 344, w2c_j1);
+  w2c_j0 = w2c_l5;
+  w2c_i0 = (u32)(w2c_j0);
+  w2c_j1 = 0ull;
+  i64_store(m, (u64)(w2c_i0) + 336, w2c_j1);
+  w2c_j0 = w2c_l5;
+  w2c_i0 = (u32)(w2c_j0);
+  w2c_j1 = 0ull;
+  i64_store(m, (u64)(w2c_i0) + 328, w2c_j1);
+  w2c_j0 = w2c_l5;
+  w2c_i0 = (u32)(w2c_j0);
+  w2c_j1 = 0ull;
+  i64_store(m, (u64)(w2c_i0) + 320, w2c_j1);
+  w2c_j0 = w2c_l5;
+  w2c_j1 = 320ull;
   w2c_j0 += w2c_j1;
   w2c_j1 = w2c_p3;
   w2c_j2 = w2c_p4;
-  w2c_f33(m, w2c_j0, w2c_j1, w2c_j2);
+  w2c_f34(m, w2c_j0, w2c_j1, w2c_j2);
   w2c_j0 = w2c_l5;
   w2c_i0 = (u32)(w2c_j0);
-  w2c_i0 = i32_load8_u(m, (u64)(w2c_i0) + 272u);
+  w2c_i0 = i32_load8_u(m, (u64)(w2c_i0) + 320u);
   w2c_i1 = 1u;
   w2c_i0 = w2c_i0 != w2c_i1;
-  if (w2c_i0) {goto w2c_B6;}
+  if (w2c_i0) {goto w2c_B2;}
   w2c_j0 = w2c_l5;
   w2c_i0 = (u32)(w2c_j0);
-  w2c_j0 = i64_load(m, (u64)(w2c_i0) + 296u);
+  w2c_j0 = i64_load(m, (u64)(w2c_i0) + 344u);
   w2c_l6 = w2c_j0;
   w2c_j0 = w2c_l5;
   w2c_i0 = (u32)(w2c_j0);
-  w2c_j0 = i64_load(m, (u64)(w2c_i0) + 288u);
+  w2c_j0 = i64_load(m, (u64)(w2c_i0) + 336u);
   w2c_l7 = w2c_j0;
-  w2c_j0 = w2c_l5;
-  w2c_j1 = 168ull;
-  w2c_j0 += w2c_j1;
-  w2c_i1 = 0u;
-  w2c_j2 = w2c_l5;
-  w2c_i2 = (u32)(w2c_j2);
-  w2c_i2 = i32_load(m, (u64)(w2c_i2) + 280u);
-  w2c_f38(m, w2c_j0, w2c_i1, w2c_i2);
-  w2c_j0 = w2c_l5;
-  w2c_i0 = (u32)(w2c_j0);
-  w2c_i0 = i32_load8_u(m, (u64)(w2c_i0) + 168u);
-  w2c_i1 = 1u;
-  w2c_i0 = w2c_i0 != w2c_i1;
-  if (w2c_i0) {goto w2c_B6;}
-  w2c_j0 = 1ull;
-  w2c_l8 = w2c_j0;
-  w2c_L8:
-    w2c_j0 = w2c_l8;
-    w2c_l9 = w2c_j0;
-    w2c_j0 = w2c_l5;
-    w2c_j1 = 272ull;
-    w2c_j0 += w2c_j1;
-    w2c_j1 = w2c_l7;
-    w2c_l10 = w2c_j1;
-    w2c_j2 = w2c_l6;
-    w2c_l11 = w2c_j2;
-    w2c_f33(m, w2c_j0, w2c_j1, w2c_j2);
-    w2c_j0 = w2c_l5;
-    w2c_i0 = (u32)(w2c_j0);
-    w2c_i0 = i32_load8_u(m, (u64)(w2c_i0) + 272u);
-    w2c_i1 = 1u;
-    w2c_i0 = w2c_i0 != w2c_i1;
-    if (w2c_i0) {goto w2c_B7;}
-    w2c_j0 = w2c_l5;
-    w2c_i0 = (u32)(w2c_j0);
-    w2c_j0 = i64_load(m, (u64)(w2c_i0) + 296u);
-    w2c_l6 = w2c_j0;
-    w2c_j0 = w2c_l5;
-    w2c_i0 = (u32)(w2c_j0);
-    w2c_j0 = i64_load(m, (u64)(w2c_i0) + 288u);
-    w2c_l7 = w2c_j0;
-    w2c_j0 = w2c_l5;
-    w2c_j1 = 160ull;
-    w2c_j0 += w2c_j1;
-    w2c_i1 = 0u;
-    w2c_j2 = w2c_l5;
-    w2c_i2 = (u32)(w2c_j2);
-    w2c_i2 = i32_load(m, (u64)(w2c_i2) + 280u);
-    w2c_f38(m, w2c_j0, w2c_i1, w2c_i2);
-    w2c_j0 = w2c_l9;
-    w2c_j1 = 1ull;
-    w2c_j0 += w2c_j1;
-    w2c_l8 = w2c_j0;
-    w2c_j0 = w2c_l5;
-    w2c_i0 = (u32)(w2c_j0);
-    w2c_i0 = i32_load8_u(m, (u64)(w2c_i0) + 160u);
-    w2c_i1 = 1u;
-    w2c_i0 = w2c_i0 == w2c_i1;
-    if (w2c_i0) {goto w2c_L8;}
-  w2c_B7:;
-  w2c_j0 = w2c_l9;
-  w2c_i0 = !(w2c_j0);
-  if (w2c_i0) {goto w2c_B6;}
-  w2c_j0 = w2c_l5;
-  w2c_i0 = (u32)(w2c_j0);
-  w2c_j1 = 0ull;
-  i64_store(m, (u64)(w2c_i0) + 296, w2c_j1);
-  w2c_j0 = w2c_l5;
-  w2c_i0 = (u32)(w2c_j0);
-  w2c_j1 = 0ull;
-  i64_store(m, (u64)(w2c_i0) + 288, w2c_j1);
-  w2c_j0 = w2c_l5;
-  w2c_i0 = (u32)(w2c_j0);
-  w2c_j1 = 0ull;
-  i64_store(m, (u64)(w2c_i0) + 280, w2c_j1);
-  w2c_j0 = w2c_l5;
-  w2c_i0 = (u32)(w2c_j0);
-  w2c_j1 = 0ull;
-  i64_store(m, (u64)(w2c_i0) + 272, w2c_j1);
-  w2c_j0 = w2c_l5;
-  w2c_j1 = 272ull;
-  w2c_j0 += w2c_j1;
-  w2c_j1 = w2c_p3;
-  w2c_j2 = w2c_p4;
-  w2c_f33(m, w2c_j0, w2c_j1, w2c_j2);
-  w2c_j0 = w2c_l5;
-  w2c_i0 = (u32)(w2c_j0);
-  w2c_i0 = i32_load8_u(m, (u64)(w2c_i0) + 272u);
-  w2c_i1 = 1u;
-  w2c_i0 = w2c_i0 != w2c_i1;
-  if (w2c_i0) {goto w2c_B10;}
   w2c_j0 = w2c_l5;
   w2c_j1 = 152ull;
   w2c_j0 += w2c_j1;
   w2c_i1 = 0u;
   w2c_j2 = w2c_l5;
   w2c_i2 = (u32)(w2c_j2);
-  w2c_i2 = i32_load(m, (u64)(w2c_i2) + 280u);
-  w2c_f38(m, w2c_j0, w2c_i1, w2c_i2);
+  w2c_i2 = i32_load(m, (u64)(w2c_i2) + 328u);
+  w2c_f40(m, w2c_j0, w2c_i1, w2c_i2);
   w2c_j0 = w2c_l5;
   w2c_i0 = (u32)(w2c_j0);
   w2c_i0 = i32_load8_u(m, (u64)(w2c_i0) + 152u);
   w2c_i1 = 1u;
   w2c_i0 = w2c_i0 != w2c_i1;
-  if (w2c_i0) {goto w2c_B10;}
+  if (w2c_i0) {goto w2c_B2;}
+  w2c_j0 = 1ull;
+  w2c_l8 = w2c_j0;
+  w2c_L4:
+    w2c_j0 = w2c_l8;
+    w2c_l9 = w2c_j0;
+    w2c_j0 = w2c_l5;
+    w2c_j1 = 320ull;
+    w2c_j0 += w2c_j1;
+    w2c_j1 = w2c_l7;
+    w2c_l10 = w2c_j1;
+    w2c_j2 = w2c_l6;
+    w2c_l11 = w2c_j2;
+    w2c_f34(m, w2c_j0, w2c_j1, w2c_j2);
+    w2c_j0 = w2c_l5;
+    w2c_i0 = (u32)(w2c_j0);
+    w2c_i0 = i32_load8_u(m, (u64)(w2c_i0) + 320u);
+    w2c_i1 = 1u;
+    w2c_i0 = w2c_i0 != w2c_i1;
+    if (w2c_i0) {goto w2c_B3;}
+    w2c_j0 = w2c_l5;
+    w2c_i0 = (u32)(w2c_j0);
+    w2c_j0 = i64_load(m, (u64)(w2c_i0) + 344u);
+    w2c_l6 = w2c_j0;
+    w2c_j0 = w2c_l5;
+    w2c_i0 = (u32)(w2c_j0);
+    w2c_j0 = i64_load(m, (u64)(w2c_i0) + 336u);
+    w2c_l7 = w2c_j0;
+    w2c_j0 = w2c_l5;
+    w2c_j1 = 144ull;
+    w2c_j0 += w2c_j1;
+    w2c_i1 = 0u;
+    w2c_j2 = w2c_l5;
+    w2c_i2 = (u32)(w2c_j2);
+    w2c_i2 = i32_load(m, (u64)(w2c_i2) + 328u);
+    w2c_f40(m, w2c_j0, w2c_i1, w2c_i2);
+    w2c_j0 = w2c_l9;
+    w2c_j1 = 1ull;
+    w2c_j0 += w2c_j1;
+    w2c_l8 = w2c_j0;
+    w2c_j0 = w2c_l5;
+    w2c_i0 = (u32)(w2c_j0);
+    w2c_i0 = i32_load8_u(m, (u64)(w2c_i0) + 144u);
+    w2c_i1 = 1u;
+    w2c_i0 = w2c_i0 == w2c_i1;
+    if (w2c_i0) {goto w2c_L4;}
+  w2c_B3:;
+  w2c_j0 = w2c_l9;
+  w2c_i0 = !(w2c_j0);
+  if (w2c_i0) {goto w2c_B2;}
+  w2c_j0 = w2c_l5;
+  w2c_i0 = (u32)(w2c_j0);
+  w2c_j1 = 0ull;
+  i64_store(m, (u64)(w2c_i0) + 344, w2c_j1);
+  w2c_j0 = w2c_l5;
+  w2c_i0 = (u32)(w2c_j0);
+  w2c_j1 = 0ull;
+  i64_store(m, (u64)(w2c_i0) + 336, w2c_j1);
+  w2c_j0 = w2c_l5;
+  w2c_i0 = (u32)(w2c_j0);
+  w2c_j1 = 0ull;
+  i64_store(m, (u64)(w2c_i0) + 328, w2c_j1);
+  w2c_j0 = w2c_l5;
+  w2c_i0 = (u32)(w2c_j0);
+  w2c_j1 = 0ull;
+  i64_store(m, (u64)(w2c_i0) + 320, w2c_j1);
+  w2c_j0 = w2c_l5;
+  w2c_j1 = 320ull;
+  w2c_j0 += w2c_j1;
+  w2c_j1 = w2c_p3;
+  w2c_j2 = w2c_p4;
+  w2c_f34(m, w2c_j0, w2c_j1, w2c_j2);
+  w2c_j0 = w2c_l5;
+  w2c_i0 = (u32)(w2c_j0);
+  w2c_i0 = i32_load8_u(m, (u64)(w2c_i0) + 320u);
+  w2c_i1 = 1u;
+  w2c_i0 = w2c_i0 != w2c_i1;
+  if (w2c_i0) {goto w2c_B6;}
+  w2c_j0 = w2c_l5;
+  w2c_j1 = 136ull;
+  w2c_j0 += w2c_j1;
+  w2c_i1 = 0u;
+  w2c_j2 = w2c_l5;
+  w2c_i2 = (u32)(w2c_j2);
+  w2c_i2 = i32_load(m, (u64)(w2c_i2) + 328u);
+  w2c_f40(m, w2c_j0, w2c_i1, w2c_i2);
+  w2c_j0 = w2c_l5;
+  w2c_i0 = (u32)(w2c_j0);
+  w2c_i0 = i32_load8_u(m, (u64)(w2c_i0) + 136u);
+  w2c_i1 = 1u;
+  w2c_i0 = w2c_i0 != w2c_i1;
+  if (w2c_i0) {goto w2c_B6;}
   w2c_j0 = w2c_l9;
   w2c_j1 = 3ull;
   w2c_i0 = w2c_j0 > w2c_j1;
-  if (w2c_i0) {goto w2c_B10;}
+  if (w2c_i0) {goto w2c_B6;}
   w2c_j0 = w2c_l5;
   w2c_i0 = (u32)(w2c_j0);
-  w2c_i0 = i32_load8_u(m, (u64)(w2c_i0) + 153u);
+  w2c_i0 = i32_load8_u(m, (u64)(w2c_i0) + 137u);
   w2c_i1 = 255u;
   w2c_i0 &= w2c_i1;
   w2c_i0 = !(w2c_i0);
-  if (w2c_i0) {goto w2c_B10;}
+  if (w2c_i0) {goto w2c_B6;}
   w2c_j0 = w2c_l5;
   w2c_i0 = (u32)(w2c_j0);
   w2c_j1 = 0ull;
-  i64_store(m, (u64)(w2c_i0) + 264, w2c_j1);
+  i64_store(m, (u64)(w2c_i0) + 312, w2c_j1);
   w2c_j0 = w2c_l5;
   w2c_i0 = (u32)(w2c_j0);
   w2c_j1 = 0ull;
-  i64_store(m, (u64)(w2c_i0) + 256, w2c_j1);
+  i64_store(m, (u64)(w2c_i0) + 304, w2c_j1);
   w2c_j0 = w2c_l5;
   w2c_i0 = (u32)(w2c_j0);
   w2c_j1 = 0ull;
-  i64_store(m, (u64)(w2c_i0) + 248, w2c_j1);
+  i64_store(m, (u64)(w2c_i0) + 296, w2c_j1);
   w2c_j0 = w2c_l5;
   w2c_i0 = (u32)(w2c_j0);
   w2c_j1 = 0ull;
-  i64_store(m, (u64)(w2c_i0) + 240, w2c_j1);
+  i64_store(m, (u64)(w2c_i0) + 288, w2c_j1);
   w2c_j0 = w2c_l5;
-  w2c_j1 = 240ull;
+  w2c_j1 = 288ull;
   w2c_j0 += w2c_j1;
   w2c_j1 = w2c_l10;
   w2c_j2 = w2c_l11;
-  w2c_f33(m, w2c_j0, w2c_j1, w2c_j2);
+  w2c_f34(m, w2c_j0, w2c_j1, w2c_j2);
   w2c_j0 = w2c_l5;
   w2c_i0 = (u32)(w2c_j0);
-  w2c_i0 = i32_load8_u(m, (u64)(w2c_i0) + 240u);
+  w2c_i0 = i32_load8_u(m, (u64)(w2c_i0) + 288u);
   w2c_i1 = 1u;
   w2c_i0 = w2c_i0 != w2c_i1;
-  if (w2c_i0) {goto w2c_B11;}
+  if (w2c_i0) {goto w2c_B7;}
   w2c_j0 = w2c_l5;
   w2c_i0 = (u32)(w2c_j0);
-  w2c_i0 = i32_load(m, (u64)(w2c_i0) + 248u);
+  w2c_i0 = i32_load(m, (u64)(w2c_i0) + 296u);
   w2c_i1 = 44u;
   w2c_i0 = w2c_i0 != w2c_i1;
-  if (w2c_i0) {goto w2c_B11;}
-  w2c_L12:
+  if (w2c_i0) {goto w2c_B7;}
+  w2c_L8:
     w2c_j0 = w2c_l5;
     w2c_i0 = (u32)(w2c_j0);
-    w2c_j0 = i64_load(m, (u64)(w2c_i0) + 256u);
+    w2c_j0 = i64_load(m, (u64)(w2c_i0) + 304u);
     w2c_l6 = w2c_j0;
     w2c_j0 = w2c_l5;
     w2c_i0 = (u32)(w2c_j0);
-    w2c_j0 = i64_load(m, (u64)(w2c_i0) + 264u);
+    w2c_j0 = i64_load(m, (u64)(w2c_i0) + 312u);
     w2c_l7 = w2c_j0;
     w2c_j0 = w2c_l5;
     w2c_i0 = (u32)(w2c_j0);
     w2c_j1 = 0ull;
-    i64_store(m, (u64)(w2c_i0) + 296, w2c_j1);
+    i64_store(m, (u64)(w2c_i0) + 344, w2c_j1);
     w2c_j0 = w2c_l5;
     w2c_i0 = (u32)(w2c_j0);
     w2c_j1 = 0ull;
-    i64_store(m, (u64)(w2c_i0) + 288, w2c_j1);
+    i64_store(m, (u64)(w2c_i0) + 336, w2c_j1);
     w2c_j0 = w2c_l5;
     w2c_i0 = (u32)(w2c_j0);
     w2c_j1 = 0ull;
-    i64_store(m, (u64)(w2c_i0) + 280, w2c_j1);
+    i64_store(m, (u64)(w2c_i0) + 328, w2c_j1);
     w2c_j0 = w2c_l5;
     w2c_i0 = (u32)(w2c_j0);
     w2c_j1 = 0ull;
-    i64_store(m, (u64)(w2c_i0) + 272, w2c_j1);
+    i64_store(m, (u64)(w2c_i0) + 320, w2c_j1);
     w2c_j0 = w2c_l5;
-    w2c_j1 = 272ull;
+    w2c_j1 = 320ull;
     w2c_j0 += w2c_j1;
     w2c_j1 = w2c_l6;
     w2c_j2 = w2c_l7;
-    w2c_f33(m, w2c_j0, w2c_j1, w2c_j2);
+    w2c_f34(m, w2c_j0, w2c_j1, w2c_j2);
     w2c_j0 = w2c_l5;
     w2c_i0 = (u32)(w2c_j0);
-    w2c_i0 = i32_load8_u(m, (u64)(w2c_i0) + 272u);
+    w2c_i0 = i32_load8_u(m, (u64)(w2c_i0) + 320u);
     w2c_i1 = 1u;
     w2c_i0 = w2c_i0 != w2c_i1;
-    if (w2c_i0) {goto w2c_B11;}
-    w2c_j0 = w2c_l5;
-    w2c_j1 = 128ull;
-    w2c_j0 += w2c_j1;
-    w2c_i1 = 0u;
-    w2c_j2 = w2c_l5;
-    w2c_i2 = (u32)(w2c_j2);
-    w2c_i2 = i32_load(m, (u64)(w2c_i2) + 280u);
-    w2c_f38(m, w2c_j0, w2c_i1, w2c_i2);
-    w2c_j0 = w2c_l5;
-    w2c_i0 = (u32)(w2c_j0);
-    w2c_i0 = i32_load8_u(m, (u64)(w2c_i0) + 128u);
-    w2c_i1 = 1u;
-    w2c_i0 = w2c_i0 != w2c_i1;
-    if (w2c_i0) {goto w2c_B11;}
-    w2c_j0 = w2c_l5;
-    w2c_i0 = (u32)(w2c_j0);
-    w2c_j0 = i64_load(m, (u64)(w2c_i0) + 296u);
-    w2c_l6 = w2c_j0;
-    w2c_j0 = w2c_l5;
-    w2c_i0 = (u32)(w2c_j0);
-    w2c_j0 = i64_load(m, (u64)(w2c_i0) + 288u);
-    w2c_l7 = w2c_j0;
-    w2c_j0 = w2c_l5;
-    w2c_i0 = (u32)(w2c_j0);
-    w2c_j1 = 0ull;
-    i64_store(m, (u64)(w2c_i0) + 296, w2c_j1);
-    w2c_j0 = w2c_l5;
-    w2c_i0 = (u32)(w2c_j0);
-    w2c_j1 = 0ull;
-    i64_store(m, (u64)(w2c_i0) + 288, w2c_j1);
-    w2c_j0 = w2c_l5;
-    w2c_i0 = (u32)(w2c_j0);
-    w2c_j1 = 0ull;
-    i64_store(m, (u64)(w2c_i0) + 280, w2c_j1);
-    w2c_j0 = w2c_l5;
-    w2c_i0 = (u32)(w2c_j0);
-    w2c_j1 = 0ull;
-    i64_store(m, (u64)(w2c_i0) + 272, w2c_j1);
-    w2c_j0 = w2c_l5;
-    w2c_j1 = 272ull;
-    w2c_j0 += w2c_j1;
-    w2c_j1 = w2c_l7;
-    w2c_j2 = w2c_l6;
-    w2c_f33(m, w2c_j0, w2c_j1, w2c_j2);
-    w2c_j0 = w2c_l5;
-    w2c_i0 = (u32)(w2c_j0);
-    w2c_i0 = i32_load8_u(m, (u64)(w2c_i0) + 272u);
-    w2c_i1 = 1u;
-    w2c_i0 = w2c_i0 != w2c_i1;
-    if (w2c_i0) {goto w2c_B11;}
-    w2c_j0 = w2c_l5;
-    w2c_j1 = 120ull;
-    w2c_j0 += w2c_j1;
-    w2c_i1 = 0u;
-    w2c_j2 = w2c_l5;
-    w2c_i2 = (u32)(w2c_j2);
-    w2c_i2 = i32_load(m, (u64)(w2c_i2) + 280u);
-    w2c_f38(m, w2c_j0, w2c_i1, w2c_i2);
-    w2c_j0 = w2c_l5;
-    w2c_i0 = (u32)(w2c_j0);
-    w2c_i0 = i32_load8_u(m, (u64)(w2c_i0) + 120u);
-    w2c_i1 = 1u;
-    w2c_i0 = w2c_i0 != w2c_i1;
-    if (w2c_i0) {goto w2c_B11;}
-    w2c_j0 = w2c_l5;
-    w2c_i0 = (u32)(w2c_j0);
-    w2c_j0 = i64_load(m, (u64)(w2c_i0) + 296u);
-    w2c_l6 = w2c_j0;
-    w2c_j0 = w2c_l5;
-    w2c_i0 = (u32)(w2c_j0);
-    w2c_j0 = i64_load(m, (u64)(w2c_i0) + 288u);
-    w2c_l7 = w2c_j0;
-    w2c_j0 = w2c_l5;
-    w2c_i0 = (u32)(w2c_j0);
-    w2c_j1 = 0ull;
-    i64_store(m, (u64)(w2c_i0) + 296, w2c_j1);
-    w2c_j0 = w2c_l5;
-    w2c_i0 = (u32)(w2c_j0);
-    w2c_j1 = 0ull;
-    i64_store(m, (u64)(w2c_i0) + 288, w2c_j1);
-    w2c_j0 = w2c_l5;
-    w2c_i0 = (u32)(w2c_j0);
-    w2c_j1 = 0ull;
-    i64_store(m, (u64)(w2c_i0) + 280, w2c_j1);
-    w2c_j0 = w2c_l5;
-    w2c_i0 = (u32)(w2c_j0);
-    w2c_j1 = 0ull;
-    i64_store(m, (u64)(w2c_i0) + 272, w2c_j1);
-    w2c_j0 = w2c_l5;
-    w2c_j1 = 272ull;
-    w2c_j0 += w2c_j1;
-    w2c_j1 = w2c_l7;
-    w2c_j2 = w2c_l6;
-    w2c_f33(m, w2c_j0, w2c_j1, w2c_j2);
-    w2c_j0 = w2c_l5;
-    w2c_i0 = (u32)(w2c_j0);
-    w2c_i0 = i32_load8_u(m, (u64)(w2c_i0) + 272u);
-    w2c_i1 = 1u;
-    w2c_i0 = w2c_i0 != w2c_i1;
-    if (w2c_i0) {goto w2c_B11;}
+    if (w2c_i0) {goto w2c_B7;}
     w2c_j0 = w2c_l5;
     w2c_j1 = 112ull;
     w2c_j0 += w2c_j1;
     w2c_i1 = 0u;
     w2c_j2 = w2c_l5;
     w2c_i2 = (u32)(w2c_j2);
-    w2c_i2 = i32_load(m, (u64)(w2c_i2) + 280u);
-    w2c_f38(m, w2c_j0, w2c_i1, w2c_i2);
+    w2c_i2 = i32_load(m, (u64)(w2c_i2) + 328u);
+    w2c_f40(m, w2c_j0, w2c_i1, w2c_i2);
     w2c_j0 = w2c_l5;
     w2c_i0 = (u32)(w2c_j0);
     w2c_i0 = i32_load8_u(m, (u64)(w2c_i0) + 112u);
     w2c_i1 = 1u;
     w2c_i0 = w2c_i0 != w2c_i1;
-    if (w2c_i0) {goto w2c_B11;}
+    if (w2c_i0) {goto w2c_B7;}
     w2c_j0 = w2c_l5;
     w2c_i0 = (u32)(w2c_j0);
-    w2c_j0 = i64_load(m, (u64)(w2c_i0) + 296u);
+    w2c_j0 = i64_load(m, (u64)(w2c_i0) + 344u);
+    w2c_l6 = w2c_j0;
+    w2c_j0 = w2c_l5;
+    w2c_i0 = (u32)(w2c_j0);
+    w2c_j0 = i64_load(m, (u64)(w2c_i0) + 336u);
+    w2c_l7 = w2c_j0;
+    w2c_j0 = w2c_l5;
+    w2c_i0 = (u32)(w2c_j0);
+    w2c_j1 = 0ull;
+    i64_store(m, (u64)(w2c_i0) + 344, w2c_j1);
+    w2c_j0 = w2c_l5;
+    w2c_i0 = (u32)(w2c_j0);
+    w2c_j1 = 0ull;
+    i64_store(m, (u64)(w2c_i0) + 336, w2c_j1);
+    w2c_j0 = w2c_l5;
+    w2c_i0 = (u32)(w2c_j0);
+    w2c_j1 = 0ull;
+    i64_store(m, (u64)(w2c_i0) + 328, w2c_j1);
+    w2c_j0 = w2c_l5;
+    w2c_i0 = (u32)(w2c_j0);
+    w2c_j1 = 0ull;
+    i64_store(m, (u64)(w2c_i0) + 320, w2c_j1);
+    w2c_j0 = w2c_l5;
+    w2c_j1 = 320ull;
+    w2c_j0 += w2c_j1;
+    w2c_j1 = w2c_l7;
+    w2c_j2 = w2c_l6;
+    w2c_f34(m, w2c_j0, w2c_j1, w2c_j2);
+    w2c_j0 = w2c_l5;
+    w2c_i0 = (u32)(w2c_j0);
+    w2c_i0 = i32_load8_u(m, (u64)(w2c_i0) + 320u);
+    w2c_i1 = 1u;
+    w2c_i0 = w2c_i0 != w2c_i1;
+    if (w2c_i0) {goto w2c_B7;}
+    w2c_j0 = w2c_l5;
+    w2c_j1 = 104ull;
+    w2c_j0 += w2c_j1;
+    w2c_i1 = 0u;
+    w2c_j2 = w2c_l5;
+    w2c_i2 = (u32)(w2c_j2);
+    w2c_i2 = i32_load(m, (u64)(w2c_i2) + 328u);
+    w2c_f40(m, w2c_j0, w2c_i1, w2c_i2);
+    w2c_j0 = w2c_l5;
+    w2c_i0 = (u32)(w2c_j0);
+    w2c_i0 = i32_load8_u(m, (u64)(w2c_i0) + 104u);
+    w2c_i1 = 1u;
+    w2c_i0 = w2c_i0 != w2c_i1;
+    if (w2c_i0) {goto w2c_B7;}
+    w2c_j0 = w2c_l5;
+    w2c_i0 = (u32)(w2c_j0);
+    w2c_j0 = i64_load(m, (u64)(w2c_i0) + 344u);
+    w2c_l6 = w2c_j0;
+    w2c_j0 = w2c_l5;
+    w2c_i0 = (u32)(w2c_j0);
+    w2c_j0 = i64_load(m, (u64)(w2c_i0) + 336u);
+    w2c_l7 = w2c_j0;
+    w2c_j0 = w2c_l5;
+    w2c_i0 = (u32)(w2c_j0);
+    w2c_j1 = 0ull;
+    i64_store(m, (u64)(w2c_i0) + 344, w2c_j1);
+    w2c_j0 = w2c_l5;
+    w2c_i0 = (u32)(w2c_j0);
+    w2c_j1 = 0ull;
+    i64_store(m, (u64)(w2c_i0) + 336, w2c_j1);
+    w2c_j0 = w2c_l5;
+    w2c_i0 = (u32)(w2c_j0);
+    w2c_j1 = 0ull;
+    i64_store(m, (u64)(w2c_i0) + 328, w2c_j1);
+    w2c_j0 = w2c_l5;
+    w2c_i0 = (u32)(w2c_j0);
+    w2c_j1 = 0ull;
+    i64_store(m, (u64)(w2c_i0) + 320, w2c_j1);
+    w2c_j0 = w2c_l5;
+    w2c_j1 = 320ull;
+    w2c_j0 += w2c_j1;
+    w2c_j1 = w2c_l7;
+    w2c_j2 = w2c_l6;
+    w2c_f34(m, w2c_j0, w2c_j1, w2c_j2);
+    w2c_j0 = w2c_l5;
+    w2c_i0 = (u32)(w2c_j0);
+    w2c_i0 = i32_load8_u(m, (u64)(w2c_i0) + 320u);
+    w2c_i1 = 1u;
+    w2c_i0 = w2c_i0 != w2c_i1;
+    if (w2c_i0) {goto w2c_B7;}
+    w2c_j0 = w2c_l5;
+    w2c_j1 = 96ull;
+    w2c_j0 += w2c_j1;
+    w2c_i1 = 0u;
+    w2c_j2 = w2c_l5;
+    w2c_i2 = (u32)(w2c_j2);
+    w2c_i2 = i32_load(m, (u64)(w2c_i2) + 328u);
+    w2c_f40(m, w2c_j0, w2c_i1, w2c_i2);
+    w2c_j0 = w2c_l5;
+    w2c_i0 = (u32)(w2c_j0);
+    w2c_i0 = i32_load8_u(m, (u64)(w2c_i0) + 96u);
+    w2c_i1 = 1u;
+    w2c_i0 = w2c_i0 != w2c_i1;
+    if (w2c_i0) {goto w2c_B7;}
+    w2c_j0 = w2c_l5;
+    w2c_i0 = (u32)(w2c_j0);
+    w2c_j0 = i64_load(m, (u64)(w2c_i0) + 344u);
     w2c_l11 = w2c_j0;
     w2c_j0 = w2c_l5;
     w2c_i0 = (u32)(w2c_j0);
-    w2c_j0 = i64_load(m, (u64)(w2c_i0) + 288u);
+    w2c_j0 = i64_load(m, (u64)(w2c_i0) + 336u);
     w2c_l10 = w2c_j0;
     w2c_j0 = w2c_l5;
     w2c_i0 = (u32)(w2c_j0);
     w2c_j1 = 0ull;
-    i64_store(m, (u64)(w2c_i0) + 264, w2c_j1);
+    i64_store(m, (u64)(w2c_i0) + 312, w2c_j1);
     w2c_j0 = w2c_l5;
     w2c_i0 = (u32)(w2c_j0);
     w2c_j1 = 0ull;
-    i64_store(m, (u64)(w2c_i0) + 256, w2c_j1);
+    i64_store(m, (u64)(w2c_i0) + 304, w2c_j1);
     w2c_j0 = w2c_l5;
     w2c_i0 = (u32)(w2c_j0);
     w2c_j1 = 0ull;
-    i64_store(m, (u64)(w2c_i0) + 248, w2c_j1);
+    i64_store(m, (u64)(w2c_i0) + 296, w2c_j1);
     w2c_j0 = w2c_l5;
     w2c_i0 = (u32)(w2c_j0);
     w2c_j1 = 0ull;
-    i64_store(m, (u64)(w2c_i0) + 240, w2c_j1);
+    i64_store(m, (u64)(w2c_i0) + 288, w2c_j1);
     w2c_j0 = w2c_l5;
-    w2c_j1 = 240ull;
+    w2c_j1 = 288ull;
     w2c_j0 += w2c_j1;
     w2c_j1 = w2c_l10;
     w2c_j2 = w2c_l11;
-    w2c_f33(m, w2c_j0, w2c_j1, w2c_j2);
+    w2c_f34(m, w2c_j0, w2c_j1, w2c_j2);
     w2c_j0 = w2c_l5;
     w2c_i0 = (u32)(w2c_j0);
-    w2c_i0 = i32_load8_u(m, (u64)(w2c_i0) + 240u);
+    w2c_i0 = i32_load8_u(m, (u64)(w2c_i0) + 288u);
     w2c_i1 = 1u;
     w2c_i0 = w2c_i0 != w2c_i1;
-    if (w2c_i0) {goto w2c_B11;}
+    if (w2c_i0) {goto w2c_B7;}
     w2c_j0 = w2c_l5;
     w2c_i0 = (u32)(w2c_j0);
-    w2c_i0 = i32_load(m, (u64)(w2c_i0) + 248u);
+    w2c_i0 = i32_load(m, (u64)(w2c_i0) + 296u);
     w2c_i1 = 44u;
     w2c_i0 = w2c_i0 == w2c_i1;
-    if (w2c_i0) {goto w2c_L12;}
-  w2c_B11:;
+    if (w2c_i0) {goto w2c_L8;}
+  w2c_B7:;
   w2c_j0 = w2c_l5;
-  w2c_j1 = 96ull;
+  w2c_j1 = 80ull;
   w2c_j0 += w2c_j1;
   w2c_j1 = w2c_l10;
   w2c_j2 = w2c_l11;
-  w2c_f39(m, w2c_j0, w2c_j1, w2c_j2);
+  w2c_f41(m, w2c_j0, w2c_j1, w2c_j2);
   w2c_j0 = w2c_l5;
   w2c_i0 = (u32)(w2c_j0);
-  w2c_j0 = i64_load(m, (u64)(w2c_i0) + 104u);
+  w2c_j0 = i64_load(m, (u64)(w2c_i0) + 88u);
   w2c_l6 = w2c_j0;
   w2c_j0 = w2c_l5;
   w2c_i0 = (u32)(w2c_j0);
-  w2c_i0 = i32_load8_u(m, (u64)(w2c_i0) + 96u);
+  w2c_i0 = i32_load8_u(m, (u64)(w2c_i0) + 80u);
   w2c_l14 = w2c_i0;
-  goto w2c_B9;
-  w2c_B10:;
+  goto w2c_B5;
+  w2c_B6:;
   w2c_j0 = w2c_l5;
-  w2c_j1 = 136ull;
+  w2c_j1 = 120ull;
   w2c_j0 += w2c_j1;
   w2c_j1 = w2c_l10;
   w2c_j2 = w2c_l11;
-  w2c_f39(m, w2c_j0, w2c_j1, w2c_j2);
+  w2c_f41(m, w2c_j0, w2c_j1, w2c_j2);
   w2c_j0 = w2c_l5;
   w2c_i0 = (u32)(w2c_j0);
-  w2c_j0 = i64_load(m, (u64)(w2c_i0) + 144u);
+  w2c_j0 = i64_load(m, (u64)(w2c_i0) + 128u);
   w2c_l6 = w2c_j0;
   w2c_j0 = w2c_l5;
   w2c_i0 = (u32)(w2c_j0);
-  w2c_i0 = i32_load8_u(m, (u64)(w2c_i0) + 136u);
+  w2c_i0 = i32_load8_u(m, (u64)(w2c_i0) + 120u);
   w2c_l14 = w2c_i0;
-  w2c_B9:;
+  w2c_B5:;
   w2c_i0 = w2c_l14;
   w2c_i1 = 255u;
   w2c_i0 &= w2c_i1;
   w2c_i1 = 1u;
   w2c_i0 = w2c_i0 != w2c_i1;
-  if (w2c_i0) {goto w2c_B6;}
+  if (w2c_i0) {goto w2c_B2;}
   w2c_j0 = w2c_l5;
-  w2c_j1 = 208ull;
+  w2c_j1 = 256ull;
   w2c_j0 += w2c_j1;
   w2c_i1 = w2c_p1;
   w2c_i2 = 0u;
@@ -27832,13 +29543,13 @@ static void w2c_f36(module *m, u64 w2c_p0, u32 w2c_p1, u64 w2c_p2, u64 w2c_p3, u
   w2c_j4 = 0ull;
   w2c_j5 = w2c_p3;
   w2c_j6 = w2c_p4;
-  w2c_f40(m, w2c_j0, w2c_i1, w2c_i2, w2c_j3, w2c_j4, w2c_j5, w2c_j6);
+  w2c_f42(m, w2c_j0, w2c_i1, w2c_i2, w2c_j3, w2c_j4, w2c_j5, w2c_j6);
   w2c_j0 = w2c_l5;
   w2c_i0 = (u32)(w2c_j0);
-  w2c_i0 = i32_load8_u(m, (u64)(w2c_i0) + 208u);
+  w2c_i0 = i32_load8_u(m, (u64)(w2c_i0) + 256u);
   w2c_i1 = 1u;
   w2c_i0 = w2c_i0 == w2c_i1;
-  if (w2c_i0) {goto w2c_B14;}
+  if (w2c_i0) {goto w2c_B10;}
   w2c_j0 = 2ull;
   w2c_l7 = w2c_j0;
   w2c_j0 = 1ull;
@@ -27849,21 +29560,21 @@ static void w2c_f36(module *m, u64 w2c_p0, u32 w2c_p1, u64 w2c_p2, u64 w2c_p3, u
   w2c_p3 = w2c_j0;
   w2c_j0 = 0ull;
   w2c_l6 = w2c_j0;
-  goto w2c_B13;
-  w2c_B14:;
+  goto w2c_B9;
+  w2c_B10:;
   w2c_j0 = 0ull;
   w2c_l9 = w2c_j0;
   w2c_j0 = w2c_l5;
   w2c_i0 = (u32)(w2c_j0);
-  w2c_j0 = i64_load(m, (u64)(w2c_i0) + 232u);
+  w2c_j0 = i64_load(m, (u64)(w2c_i0) + 280u);
   w2c_p3 = w2c_j0;
   w2c_j0 = w2c_l5;
   w2c_i0 = (u32)(w2c_j0);
-  w2c_j0 = i64_load(m, (u64)(w2c_i0) + 224u);
+  w2c_j0 = i64_load(m, (u64)(w2c_i0) + 272u);
   w2c_l8 = w2c_j0;
   w2c_j0 = 0ull;
   w2c_l7 = w2c_j0;
-  w2c_B13:;
+  w2c_B9:;
   w2c_j0 = w2c_p0;
   w2c_i0 = (u32)(w2c_j0);
   w2c_j1 = w2c_l9;
@@ -27899,23 +29610,15 @@ static void w2c_f36(module *m, u64 w2c_p0, u32 w2c_p1, u64 w2c_p2, u64 w2c_p3, u
   w2c_j1 = w2c_l7;
   i64_store(m, (u64)(w2c_i0), w2c_j1);
   goto w2c_B0;
-  w2c_B6:;
+  w2c_B2:;
   w2c_j0 = w2c_l5;
   w2c_i0 = (u32)(w2c_j0);
   w2c_j1 = 0ull;
-  i64_store(m, (u64)(w2c_i0) + 264, w2c_j1);
+  i64_store(m, (u64)(w2c_i0) + 312, w2c_j1);
   w2c_j0 = w2c_l5;
   w2c_i0 = (u32)(w2c_j0);
   w2c_j1 = 0ull;
-  i64_store(m, (u64)(w2c_i0) + 256, w2c_j1);
-  w2c_j0 = w2c_l5;
-  w2c_i0 = (u32)(w2c_j0);
-  w2c_j1 = 0ull;
-  i64_store(m, (u64)(w2c_i0) + 248, w2c_j1);
-  w2c_j0 = w2c_l5;
-  w2c_i0 = (u32)(w2c_j0);
-  w2c_j1 = 0ull;
-  i64_store(m, (u64)(w2c_i0) + 240, w2c_j1);
+  i64_store(m, (u64)(w2c_i0) + 304, w2c_j1);
   w2c_j0 = w2c_l5;
   w2c_i0 = (u32)(w2c_j0);
   w2c_j1 = 0ull;
@@ -27927,627 +29630,688 @@ static void w2c_f36(module *m, u64 w2c_p0, u32 w2c_p1, u64 w2c_p2, u64 w2c_p3, u
   w2c_j0 = w2c_l5;
   w2c_i0 = (u32)(w2c_j0);
   w2c_j1 = 0ull;
-  i64_store(m, (u64)(w2c_i0) + 280, w2c_j1);
+  i64_store(m, (u64)(w2c_i0) + 344, w2c_j1);
   w2c_j0 = w2c_l5;
   w2c_i0 = (u32)(w2c_j0);
   w2c_j1 = 0ull;
-  i64_store(m, (u64)(w2c_i0) + 272, w2c_j1);
+  i64_store(m, (u64)(w2c_i0) + 336, w2c_j1);
+  w2c_j0 = w2c_l5;
+  w2c_i0 = (u32)(w2c_j0);
+  w2c_j1 = 0ull;
+  i64_store(m, (u64)(w2c_i0) + 328, w2c_j1);
+  w2c_j0 = w2c_l5;
+  w2c_i0 = (u32)(w2c_j0);
+  w2c_j1 = 0ull;
+  i64_store(m, (u64)(w2c_i0) + 320, w2c_j1);
   w2c_j0 = w2c_p3;
   w2c_l6 = w2c_j0;
   w2c_j0 = w2c_p4;
   w2c_l7 = w2c_j0;
-  w2c_L20:
+  w2c_L16:
     w2c_j0 = w2c_l5;
-    w2c_j1 = 272ull;
+    w2c_j1 = 320ull;
     w2c_j0 += w2c_j1;
     w2c_j1 = w2c_l6;
     w2c_j2 = w2c_l7;
     w2c_l9 = w2c_j2;
-    w2c_f33(m, w2c_j0, w2c_j1, w2c_j2);
+    w2c_f34(m, w2c_j0, w2c_j1, w2c_j2);
     w2c_j0 = w2c_l5;
     w2c_i0 = (u32)(w2c_j0);
-    w2c_i0 = i32_load8_u(m, (u64)(w2c_i0) + 272u);
+    w2c_i0 = i32_load8_u(m, (u64)(w2c_i0) + 320u);
     w2c_i1 = 1u;
     w2c_i0 = w2c_i0 != w2c_i1;
-    if (w2c_i0) {goto w2c_B19;}
+    if (w2c_i0) {goto w2c_B15;}
     w2c_j0 = w2c_l5;
     w2c_i0 = (u32)(w2c_j0);
-    w2c_j0 = i64_load(m, (u64)(w2c_i0) + 296u);
+    w2c_j0 = i64_load(m, (u64)(w2c_i0) + 344u);
     w2c_l7 = w2c_j0;
     w2c_j0 = w2c_l5;
     w2c_i0 = (u32)(w2c_j0);
-    w2c_j0 = i64_load(m, (u64)(w2c_i0) + 288u);
+    w2c_j0 = i64_load(m, (u64)(w2c_i0) + 336u);
     w2c_l6 = w2c_j0;
     w2c_j0 = w2c_l5;
     w2c_i0 = (u32)(w2c_j0);
-    w2c_i0 = i32_load(m, (u64)(w2c_i0) + 280u);
+    w2c_i0 = i32_load(m, (u64)(w2c_i0) + 328u);
     w2c_l14 = w2c_i0;
     w2c_i1 = 40670u;
     w2c_i0 = w2c_i0 == w2c_i1;
-    if (w2c_i0) {goto w2c_B21;}
+    if (w2c_i0) {goto w2c_B17;}
     w2c_i0 = w2c_l14;
     w2c_i1 = 28857u;
     w2c_i0 = w2c_i0 != w2c_i1;
-    if (w2c_i0) {goto w2c_L20;}
-    w2c_B21:;
+    if (w2c_i0) {goto w2c_L16;}
+    w2c_B17:;
   w2c_j0 = w2c_l5;
-  w2c_j1 = 240ull;
+  w2c_j1 = 288ull;
   w2c_j0 += w2c_j1;
   w2c_j1 = w2c_p3;
   w2c_j2 = w2c_p4;
   w2c_j3 = w2c_l9;
   w2c_j2 -= w2c_j3;
   w2c_l10 = w2c_j2;
-  w2c_f33(m, w2c_j0, w2c_j1, w2c_j2);
+  w2c_f34(m, w2c_j0, w2c_j1, w2c_j2);
   w2c_j0 = w2c_l5;
   w2c_i0 = (u32)(w2c_j0);
-  w2c_i0 = i32_load8_u(m, (u64)(w2c_i0) + 240u);
+  w2c_i0 = i32_load8_u(m, (u64)(w2c_i0) + 288u);
   w2c_i1 = 1u;
   w2c_i0 = w2c_i0 != w2c_i1;
-  if (w2c_i0) {goto w2c_B19;}
+  if (w2c_i0) {goto w2c_B15;}
   w2c_j0 = w2c_l5;
-  w2c_j1 = 80ull;
+  w2c_j1 = 64ull;
   w2c_j0 += w2c_j1;
   w2c_i1 = 1u;
   w2c_j2 = w2c_l6;
   w2c_j3 = w2c_l7;
-  w2c_f41(m, w2c_j0, w2c_i1, w2c_j2, w2c_j3);
+  w2c_f43(m, w2c_j0, w2c_i1, w2c_j2, w2c_j3);
   w2c_j0 = w2c_l5;
   w2c_i0 = (u32)(w2c_j0);
-  w2c_i0 = i32_load8_u(m, (u64)(w2c_i0) + 80u);
-  w2c_l14 = w2c_i0;
+  w2c_i0 = i32_load8_u(m, (u64)(w2c_i0) + 64u);
+  w2c_l15 = w2c_i0;
   w2c_i1 = 1u;
   w2c_i0 = w2c_i0 != w2c_i1;
-  if (w2c_i0) {goto w2c_B19;}
+  if (w2c_i0) {goto w2c_B15;}
   w2c_j0 = w2c_l5;
   w2c_i0 = (u32)(w2c_j0);
-  w2c_j0 = i64_load(m, (u64)(w2c_i0) + 88u);
+  w2c_j0 = i64_load(m, (u64)(w2c_i0) + 72u);
   w2c_l12 = w2c_j0;
   w2c_j0 = w2c_l5;
   w2c_i0 = (u32)(w2c_j0);
   w2c_j1 = 0ull;
-  i64_store(m, (u64)(w2c_i0) + 296, w2c_j1);
+  i64_store(m, (u64)(w2c_i0) + 344, w2c_j1);
   w2c_j0 = w2c_l5;
   w2c_i0 = (u32)(w2c_j0);
   w2c_j1 = 0ull;
-  i64_store(m, (u64)(w2c_i0) + 288, w2c_j1);
+  i64_store(m, (u64)(w2c_i0) + 336, w2c_j1);
   w2c_j0 = w2c_l5;
   w2c_i0 = (u32)(w2c_j0);
   w2c_j1 = 0ull;
-  i64_store(m, (u64)(w2c_i0) + 280, w2c_j1);
+  i64_store(m, (u64)(w2c_i0) + 328, w2c_j1);
   w2c_j0 = w2c_l5;
   w2c_i0 = (u32)(w2c_j0);
   w2c_j1 = 0ull;
-  i64_store(m, (u64)(w2c_i0) + 272, w2c_j1);
+  i64_store(m, (u64)(w2c_i0) + 320, w2c_j1);
   w2c_j0 = w2c_l5;
-  w2c_j1 = 272ull;
+  w2c_j1 = 320ull;
   w2c_j0 += w2c_j1;
   w2c_j1 = w2c_l6;
   w2c_j2 = w2c_l7;
-  w2c_f33(m, w2c_j0, w2c_j1, w2c_j2);
+  w2c_f34(m, w2c_j0, w2c_j1, w2c_j2);
   w2c_j0 = w2c_l6;
   w2c_l9 = w2c_j0;
   w2c_j0 = w2c_l7;
   w2c_l8 = w2c_j0;
   w2c_j0 = w2c_l5;
   w2c_i0 = (u32)(w2c_j0);
-  w2c_i0 = i32_load8_u(m, (u64)(w2c_i0) + 272u);
+  w2c_i0 = i32_load8_u(m, (u64)(w2c_i0) + 320u);
   w2c_i1 = 1u;
   w2c_i0 = w2c_i0 != w2c_i1;
-  if (w2c_i0) {goto w2c_B22;}
+  if (w2c_i0) {goto w2c_B18;}
   w2c_j0 = w2c_l6;
   w2c_l9 = w2c_j0;
   w2c_j0 = w2c_l7;
   w2c_l8 = w2c_j0;
   w2c_j0 = w2c_l5;
   w2c_i0 = (u32)(w2c_j0);
-  w2c_i0 = i32_load(m, (u64)(w2c_i0) + 280u);
-  w2c_l15 = w2c_i0;
+  w2c_i0 = i32_load(m, (u64)(w2c_i0) + 328u);
+  w2c_l14 = w2c_i0;
   w2c_i1 = 4294967248u;
   w2c_i0 += w2c_i1;
   w2c_i1 = 10u;
   w2c_i0 = w2c_i0 < w2c_i1;
-  if (w2c_i0) {goto w2c_B22;}
+  if (w2c_i0) {goto w2c_B18;}
   w2c_j0 = w2c_l5;
   w2c_i0 = (u32)(w2c_j0);
-  w2c_j0 = i64_load(m, (u64)(w2c_i0) + 288u);
+  w2c_j0 = i64_load(m, (u64)(w2c_i0) + 336u);
   w2c_l11 = w2c_j0;
   w2c_j0 = w2c_l5;
   w2c_i0 = (u32)(w2c_j0);
-  w2c_j0 = i64_load(m, (u64)(w2c_i0) + 296u);
+  w2c_j0 = i64_load(m, (u64)(w2c_i0) + 344u);
   w2c_l13 = w2c_j0;
   w2c_j0 = w2c_l5;
-  w2c_j1 = 72ull;
+  w2c_j1 = 56ull;
   w2c_j0 += w2c_j1;
-  w2c_i1 = w2c_l15;
+  w2c_i1 = w2c_l14;
   w2c_f18(m, w2c_j0, w2c_i1);
   w2c_j0 = w2c_l6;
   w2c_l9 = w2c_j0;
   w2c_j0 = w2c_l7;
   w2c_l8 = w2c_j0;
-  w2c_j0 = w2c_l5;
-  w2c_i0 = (u32)(w2c_j0);
-  w2c_i0 = i32_load8_u(m, (u64)(w2c_i0) + 72u);
-  w2c_i1 = 1u;
-  w2c_i0 = w2c_i0 != w2c_i1;
-  if (w2c_i0) {goto w2c_B22;}
-  w2c_L23:
-    w2c_j0 = w2c_l5;
-    w2c_j1 = 272ull;
-    w2c_j0 += w2c_j1;
-    w2c_j1 = w2c_l11;
-    w2c_l9 = w2c_j1;
-    w2c_j2 = w2c_l13;
-    w2c_l8 = w2c_j2;
-    w2c_f33(m, w2c_j0, w2c_j1, w2c_j2);
-    w2c_j0 = w2c_l5;
-    w2c_i0 = (u32)(w2c_j0);
-    w2c_i0 = i32_load8_u(m, (u64)(w2c_i0) + 272u);
-    w2c_i1 = 1u;
-    w2c_i0 = w2c_i0 != w2c_i1;
-    if (w2c_i0) {goto w2c_B22;}
-    w2c_j0 = w2c_l5;
-    w2c_i0 = (u32)(w2c_j0);
-    w2c_i0 = i32_load(m, (u64)(w2c_i0) + 280u);
-    w2c_l15 = w2c_i0;
-    w2c_i1 = 4294967248u;
-    w2c_i0 += w2c_i1;
-    w2c_i1 = 10u;
-    w2c_i0 = w2c_i0 < w2c_i1;
-    if (w2c_i0) {goto w2c_B22;}
-    w2c_j0 = w2c_l5;
-    w2c_i0 = (u32)(w2c_j0);
-    w2c_j0 = i64_load(m, (u64)(w2c_i0) + 296u);
-    w2c_l13 = w2c_j0;
-    w2c_j0 = w2c_l5;
-    w2c_i0 = (u32)(w2c_j0);
-    w2c_j0 = i64_load(m, (u64)(w2c_i0) + 288u);
-    w2c_l11 = w2c_j0;
-    w2c_j0 = w2c_l5;
-    w2c_j1 = 64ull;
-    w2c_j0 += w2c_j1;
-    w2c_i1 = w2c_l15;
-    w2c_f18(m, w2c_j0, w2c_i1);
-    w2c_j0 = w2c_l5;
-    w2c_i0 = (u32)(w2c_j0);
-    w2c_i0 = i32_load8_u(m, (u64)(w2c_i0) + 64u);
-    w2c_i1 = 1u;
-    w2c_i0 = w2c_i0 == w2c_i1;
-    if (w2c_i0) {goto w2c_L23;}
-  w2c_B22:;
-  w2c_j0 = w2c_l5;
-  w2c_i0 = (u32)(w2c_j0);
-  w2c_j1 = 0ull;
-  i64_store(m, (u64)(w2c_i0) + 296, w2c_j1);
-  w2c_j0 = w2c_l5;
-  w2c_i0 = (u32)(w2c_j0);
-  w2c_j1 = 0ull;
-  i64_store(m, (u64)(w2c_i0) + 288, w2c_j1);
-  w2c_j0 = w2c_l5;
-  w2c_i0 = (u32)(w2c_j0);
-  w2c_j1 = 0ull;
-  i64_store(m, (u64)(w2c_i0) + 280, w2c_j1);
-  w2c_j0 = w2c_l5;
-  w2c_i0 = (u32)(w2c_j0);
-  w2c_j1 = 0ull;
-  i64_store(m, (u64)(w2c_i0) + 272, w2c_j1);
-  w2c_j0 = w2c_l5;
-  w2c_j1 = 272ull;
-  w2c_j0 += w2c_j1;
-  w2c_j1 = w2c_p3;
-  w2c_j2 = w2c_l10;
-  w2c_f35(m, w2c_j0, w2c_j1, w2c_j2);
-  w2c_j0 = w2c_l5;
-  w2c_i0 = (u32)(w2c_j0);
-  w2c_i0 = i32_load8_u(m, (u64)(w2c_i0) + 272u);
-  w2c_i1 = 1u;
-  w2c_i0 = w2c_i0 != w2c_i1;
-  if (w2c_i0) {goto w2c_B24;}
-  w2c_j0 = w2c_l5;
-  w2c_i0 = (u32)(w2c_j0);
-  w2c_i0 = i32_load(m, (u64)(w2c_i0) + 280u);
-  w2c_l15 = w2c_i0;
-  w2c_j0 = w2c_l5;
-  w2c_i0 = (u32)(w2c_j0);
-  w2c_j0 = i64_load(m, (u64)(w2c_i0) + 296u);
-  w2c_l11 = w2c_j0;
-  w2c_j0 = w2c_l5;
-  w2c_i0 = (u32)(w2c_j0);
-  w2c_j0 = i64_load(m, (u64)(w2c_i0) + 288u);
-  w2c_l13 = w2c_j0;
-  w2c_j0 = w2c_l5;
-  w2c_i0 = (u32)(w2c_j0);
-  w2c_j1 = 0ull;
-  i64_store(m, (u64)(w2c_i0) + 296, w2c_j1);
-  w2c_j0 = w2c_l5;
-  w2c_i0 = (u32)(w2c_j0);
-  w2c_j1 = 0ull;
-  i64_store(m, (u64)(w2c_i0) + 288, w2c_j1);
-  w2c_j0 = w2c_l5;
-  w2c_i0 = (u32)(w2c_j0);
-  w2c_j1 = 0ull;
-  i64_store(m, (u64)(w2c_i0) + 280, w2c_j1);
-  w2c_j0 = w2c_l5;
-  w2c_i0 = (u32)(w2c_j0);
-  w2c_j1 = 0ull;
-  i64_store(m, (u64)(w2c_i0) + 272, w2c_j1);
-  w2c_j0 = w2c_l5;
-  w2c_j1 = 272ull;
-  w2c_j0 += w2c_j1;
-  w2c_j1 = w2c_l13;
-  w2c_j2 = w2c_l11;
-  w2c_f35(m, w2c_j0, w2c_j1, w2c_j2);
-  w2c_j0 = w2c_l5;
-  w2c_i0 = (u32)(w2c_j0);
-  w2c_i0 = i32_load8_u(m, (u64)(w2c_i0) + 272u);
-  w2c_i1 = 1u;
-  w2c_i0 = w2c_i0 != w2c_i1;
-  if (w2c_i0) {goto w2c_B24;}
-  w2c_j0 = w2c_l5;
-  w2c_j1 = 56ull;
-  w2c_j0 += w2c_j1;
-  w2c_j1 = w2c_l5;
-  w2c_i1 = (u32)(w2c_j1);
-  w2c_i1 = i32_load(m, (u64)(w2c_i1) + 280u);
-  w2c_f25(m, w2c_j0, w2c_i1);
   w2c_j0 = w2c_l5;
   w2c_i0 = (u32)(w2c_j0);
   w2c_i0 = i32_load8_u(m, (u64)(w2c_i0) + 56u);
   w2c_i1 = 1u;
   w2c_i0 = w2c_i0 != w2c_i1;
-  if (w2c_i0) {goto w2c_B24;}
-  w2c_j0 = w2c_l5;
-  w2c_i0 = (u32)(w2c_j0);
-  w2c_i0 = i32_load8_u(m, (u64)(w2c_i0) + 57u);
-  w2c_i1 = 255u;
-  w2c_i0 &= w2c_i1;
-  w2c_i1 = 2u;
-  w2c_i0 = w2c_i0 < w2c_i1;
-  if (w2c_i0) {goto w2c_B24;}
-  w2c_j0 = w2c_l5;
-  w2c_j1 = 48ull;
-  w2c_j0 += w2c_j1;
-  w2c_i1 = w2c_l15;
-  w2c_f18(m, w2c_j0, w2c_i1);
-  w2c_j0 = w2c_l5;
-  w2c_i0 = (u32)(w2c_j0);
-  w2c_i0 = i32_load8_u(m, (u64)(w2c_i0) + 48u);
-  w2c_i1 = 1u;
-  w2c_i0 = w2c_i0 == w2c_i1;
-  if (w2c_i0) {goto w2c_B19;}
-  w2c_B24:;
-  w2c_j0 = w2c_l5;
-  w2c_i0 = (u32)(w2c_j0);
-  w2c_j1 = 0ull;
-  i64_store(m, (u64)(w2c_i0) + 296, w2c_j1);
-  w2c_j0 = w2c_l5;
-  w2c_i0 = (u32)(w2c_j0);
-  w2c_j1 = 0ull;
-  i64_store(m, (u64)(w2c_i0) + 288, w2c_j1);
-  w2c_j0 = w2c_l5;
-  w2c_i0 = (u32)(w2c_j0);
-  w2c_j1 = 0ull;
-  i64_store(m, (u64)(w2c_i0) + 280, w2c_j1);
-  w2c_j0 = w2c_l5;
-  w2c_i0 = (u32)(w2c_j0);
-  w2c_j1 = 0ull;
-  i64_store(m, (u64)(w2c_i0) + 272, w2c_j1);
-  w2c_j0 = w2c_l5;
-  w2c_j1 = 272ull;
-  w2c_j0 += w2c_j1;
-  w2c_j1 = w2c_l9;
-  w2c_j2 = w2c_l8;
-  w2c_f33(m, w2c_j0, w2c_j1, w2c_j2);
-  w2c_j0 = w2c_l5;
-  w2c_i0 = (u32)(w2c_j0);
-  w2c_i0 = i32_load8_u(m, (u64)(w2c_i0) + 272u);
-  w2c_i1 = 1u;
-  w2c_i0 = w2c_i0 != w2c_i1;
   if (w2c_i0) {goto w2c_B18;}
-  w2c_j0 = w2c_l5;
-  w2c_j1 = 40ull;
-  w2c_j0 += w2c_j1;
-  w2c_j1 = w2c_l5;
-  w2c_i1 = (u32)(w2c_j1);
-  w2c_i1 = i32_load(m, (u64)(w2c_i1) + 280u);
-  w2c_f25(m, w2c_j0, w2c_i1);
-  w2c_j0 = w2c_l5;
-  w2c_i0 = (u32)(w2c_j0);
-  w2c_i0 = i32_load8_u(m, (u64)(w2c_i0) + 41u);
-  w2c_l15 = w2c_i0;
-  w2c_j0 = w2c_l5;
-  w2c_i0 = (u32)(w2c_j0);
-  w2c_i0 = i32_load8_u(m, (u64)(w2c_i0) + 40u);
-  w2c_l16 = w2c_i0;
-  w2c_j0 = w2c_l5;
-  w2c_i0 = (u32)(w2c_j0);
-  w2c_j1 = 0ull;
-  i64_store(m, (u64)(w2c_i0) + 296, w2c_j1);
-  w2c_j0 = w2c_l5;
-  w2c_i0 = (u32)(w2c_j0);
-  w2c_j1 = 0ull;
-  i64_store(m, (u64)(w2c_i0) + 288, w2c_j1);
-  w2c_j0 = w2c_l5;
-  w2c_i0 = (u32)(w2c_j0);
-  w2c_j1 = 0ull;
-  i64_store(m, (u64)(w2c_i0) + 280, w2c_j1);
-  w2c_j0 = w2c_l5;
-  w2c_i0 = (u32)(w2c_j0);
-  w2c_j1 = 0ull;
-  i64_store(m, (u64)(w2c_i0) + 272, w2c_j1);
-  w2c_i0 = w2c_l16;
-  w2c_i1 = 1u;
-  w2c_i0 &= w2c_i1;
-  w2c_i0 = !(w2c_i0);
-  if (w2c_i0) {goto w2c_B18;}
-  w2c_j0 = w2c_p3;
-  w2c_l9 = w2c_j0;
-  w2c_j0 = w2c_l10;
-  w2c_l8 = w2c_j0;
-  w2c_L25:
+  w2c_L19:
     w2c_j0 = w2c_l5;
-    w2c_j1 = 272ull;
+    w2c_j1 = 320ull;
     w2c_j0 += w2c_j1;
-    w2c_j1 = w2c_l9;
-    w2c_j2 = w2c_l8;
-    w2c_f33(m, w2c_j0, w2c_j1, w2c_j2);
+    w2c_j1 = w2c_l11;
+    w2c_l9 = w2c_j1;
+    w2c_j2 = w2c_l13;
+    w2c_l8 = w2c_j2;
+    w2c_f34(m, w2c_j0, w2c_j1, w2c_j2);
     w2c_j0 = w2c_l5;
     w2c_i0 = (u32)(w2c_j0);
-    w2c_i0 = i32_load8_u(m, (u64)(w2c_i0) + 272u);
+    w2c_i0 = i32_load8_u(m, (u64)(w2c_i0) + 320u);
     w2c_i1 = 1u;
     w2c_i0 = w2c_i0 != w2c_i1;
     if (w2c_i0) {goto w2c_B18;}
     w2c_j0 = w2c_l5;
     w2c_i0 = (u32)(w2c_j0);
-    w2c_j0 = i64_load(m, (u64)(w2c_i0) + 296u);
-    w2c_l8 = w2c_j0;
-    w2c_j0 = w2c_l5;
-    w2c_i0 = (u32)(w2c_j0);
-    w2c_j0 = i64_load(m, (u64)(w2c_i0) + 288u);
-    w2c_l9 = w2c_j0;
-    w2c_j0 = w2c_l5;
-    w2c_j1 = 24ull;
-    w2c_j0 += w2c_j1;
-    w2c_j1 = w2c_l5;
-    w2c_i1 = (u32)(w2c_j1);
-    w2c_i1 = i32_load(m, (u64)(w2c_i1) + 280u);
-    w2c_f25(m, w2c_j0, w2c_i1);
-    w2c_j0 = w2c_l5;
-    w2c_i0 = (u32)(w2c_j0);
-    w2c_i0 = i32_load8_u(m, (u64)(w2c_i0) + 24u);
-    w2c_i1 = 1u;
-    w2c_i0 = w2c_i0 != w2c_i1;
-    if (w2c_i0) {goto w2c_L25;}
-    w2c_j0 = w2c_l5;
-    w2c_i0 = (u32)(w2c_j0);
-    w2c_i0 = i32_load8_u(m, (u64)(w2c_i0) + 25u);
-    w2c_i1 = 255u;
-    w2c_i0 &= w2c_i1;
-    w2c_i1 = w2c_l15;
-    w2c_i2 = 255u;
-    w2c_i1 &= w2c_i2;
+    w2c_i0 = i32_load(m, (u64)(w2c_i0) + 328u);
+    w2c_l14 = w2c_i0;
+    w2c_i1 = 4294967248u;
+    w2c_i0 += w2c_i1;
+    w2c_i1 = 10u;
     w2c_i0 = w2c_i0 < w2c_i1;
-    if (w2c_i0) {goto w2c_L25;}
-  w2c_B19:;
-  w2c_j0 = w2c_l5;
-  w2c_i0 = (u32)(w2c_j0);
-  w2c_j1 = 0ull;
-  i64_store(m, (u64)(w2c_i0) + 272, w2c_j1);
-  w2c_j0 = w2c_l5;
-  w2c_i0 = (u32)(w2c_j0);
-  w2c_j1 = 0ull;
-  i64_store(m, (u64)(w2c_i0) + 280, w2c_j1);
-  w2c_j0 = w2c_l5;
-  w2c_i0 = (u32)(w2c_j0);
-  w2c_j1 = 0ull;
-  i64_store(m, (u64)(w2c_i0) + 288, w2c_j1);
-  w2c_j0 = w2c_l5;
-  w2c_i0 = (u32)(w2c_j0);
-  w2c_j1 = 0ull;
-  i64_store(m, (u64)(w2c_i0) + 296, w2c_j1);
-  w2c_j0 = w2c_l5;
-  w2c_i0 = (u32)(w2c_j0);
-  w2c_j1 = 0ull;
-  i64_store(m, (u64)(w2c_i0) + 240, w2c_j1);
-  w2c_j0 = w2c_l5;
-  w2c_i0 = (u32)(w2c_j0);
-  w2c_j1 = 0ull;
-  i64_store(m, (u64)(w2c_i0) + 248, w2c_j1);
-  w2c_j0 = w2c_l5;
-  w2c_i0 = (u32)(w2c_j0);
-  w2c_j1 = 0ull;
-  i64_store(m, (u64)(w2c_i0) + 256, w2c_j1);
-  w2c_j0 = w2c_l5;
-  w2c_i0 = (u32)(w2c_j0);
-  w2c_j1 = 0ull;
-  i64_store(m, (u64)(w2c_i0) + 264, w2c_j1);
-  w2c_j0 = w2c_l5;
-  w2c_j1 = 272ull;
-  w2c_j0 += w2c_j1;
-  w2c_j1 = w2c_p3;
-  w2c_j2 = w2c_p4;
-  w2c_f33(m, w2c_j0, w2c_j1, w2c_j2);
-  w2c_j0 = w2c_l5;
-  w2c_i0 = (u32)(w2c_j0);
-  w2c_i0 = i32_load8_u(m, (u64)(w2c_i0) + 272u);
-  w2c_i1 = 1u;
-  w2c_i0 = w2c_i0 != w2c_i1;
-  if (w2c_i0) {goto w2c_B15;}
-  w2c_j0 = w2c_l5;
-  w2c_i0 = (u32)(w2c_j0);
-  w2c_j0 = i64_load(m, (u64)(w2c_i0) + 296u);
-  w2c_l6 = w2c_j0;
-  w2c_j0 = w2c_l5;
-  w2c_i0 = (u32)(w2c_j0);
-  w2c_j0 = i64_load(m, (u64)(w2c_i0) + 288u);
-  w2c_l7 = w2c_j0;
-  w2c_j0 = w2c_l5;
-  w2c_i0 = (u32)(w2c_j0);
-  w2c_i0 = i32_load(m, (u64)(w2c_i0) + 280u);
-  w2c_l14 = w2c_i0;
-  w2c_i1 = 24319u;
-  w2c_i0 = w2c_i0 != w2c_i1;
-  if (w2c_i0) {goto w2c_B17;}
-  w2c_j0 = 20ull;
-  w2c_l9 = w2c_j0;
-  goto w2c_B16;
-  w2c_B18:;
-  w2c_j0 = w2c_l12;
-  w2c_j1 = 0ull;
-  w2c_i2 = w2c_l14;
-  w2c_i3 = 1u;
-  w2c_i2 = w2c_i2 == w2c_i3;
-  w2c_j0 = w2c_i2 ? w2c_j0 : w2c_j1;
-  w2c_p4 = w2c_j0;
-  w2c_j0 = w2c_l5;
-  w2c_i0 = (u32)(w2c_j0);
-  w2c_j1 = 0ull;
-  i64_store(m, (u64)(w2c_i0) + 264, w2c_j1);
-  w2c_j0 = w2c_l5;
-  w2c_i0 = (u32)(w2c_j0);
-  w2c_j1 = 0ull;
-  i64_store(m, (u64)(w2c_i0) + 256, w2c_j1);
-  w2c_j0 = w2c_l5;
-  w2c_i0 = (u32)(w2c_j0);
-  w2c_j1 = 0ull;
-  i64_store(m, (u64)(w2c_i0) + 248, w2c_j1);
-  w2c_j0 = w2c_l5;
-  w2c_i0 = (u32)(w2c_j0);
-  w2c_j1 = 0ull;
-  i64_store(m, (u64)(w2c_i0) + 240, w2c_j1);
-  w2c_j0 = w2c_l5;
-  w2c_i0 = (u32)(w2c_j0);
-  w2c_j1 = 0ull;
-  i64_store(m, (u64)(w2c_i0) + 296, w2c_j1);
-  w2c_j0 = w2c_l5;
-  w2c_i0 = (u32)(w2c_j0);
-  w2c_j1 = 0ull;
-  i64_store(m, (u64)(w2c_i0) + 288, w2c_j1);
-  w2c_j0 = w2c_l5;
-  w2c_i0 = (u32)(w2c_j0);
-  w2c_j1 = 0ull;
-  i64_store(m, (u64)(w2c_i0) + 280, w2c_j1);
-  w2c_j0 = w2c_l5;
-  w2c_i0 = (u32)(w2c_j0);
-  w2c_j1 = 0ull;
-  i64_store(m, (u64)(w2c_i0) + 272, w2c_j1);
-  w2c_j0 = w2c_p3;
-  w2c_l9 = w2c_j0;
-  w2c_j0 = w2c_l10;
-  w2c_l8 = w2c_j0;
-  w2c_L26:
+    if (w2c_i0) {goto w2c_B18;}
     w2c_j0 = w2c_l5;
-    w2c_j1 = 272ull;
+    w2c_i0 = (u32)(w2c_j0);
+    w2c_j0 = i64_load(m, (u64)(w2c_i0) + 344u);
+    w2c_l13 = w2c_j0;
+    w2c_j0 = w2c_l5;
+    w2c_i0 = (u32)(w2c_j0);
+    w2c_j0 = i64_load(m, (u64)(w2c_i0) + 336u);
+    w2c_l11 = w2c_j0;
+    w2c_j0 = w2c_l5;
+    w2c_j1 = 48ull;
     w2c_j0 += w2c_j1;
-    w2c_j1 = w2c_l9;
-    w2c_j2 = w2c_l8;
-    w2c_f33(m, w2c_j0, w2c_j1, w2c_j2);
-    w2c_j0 = w2c_l5;
-    w2c_i0 = (u32)(w2c_j0);
-    w2c_i0 = i32_load8_u(m, (u64)(w2c_i0) + 272u);
-    w2c_i1 = 1u;
-    w2c_i0 = w2c_i0 != w2c_i1;
-    if (w2c_i0) {goto w2c_B4;}
-    w2c_j0 = w2c_l5;
-    w2c_i0 = (u32)(w2c_j0);
-    w2c_j0 = i64_load(m, (u64)(w2c_i0) + 296u);
-    w2c_l8 = w2c_j0;
-    w2c_j0 = w2c_l5;
-    w2c_i0 = (u32)(w2c_j0);
-    w2c_j0 = i64_load(m, (u64)(w2c_i0) + 288u);
-    w2c_l9 = w2c_j0;
-    w2c_j0 = w2c_l5;
-    w2c_j1 = 32ull;
-    w2c_j0 += w2c_j1;
-    w2c_j1 = w2c_l5;
-    w2c_i1 = (u32)(w2c_j1);
-    w2c_i1 = i32_load(m, (u64)(w2c_i1) + 280u);
+    w2c_i1 = w2c_l14;
     w2c_f18(m, w2c_j0, w2c_i1);
     w2c_j0 = w2c_l5;
     w2c_i0 = (u32)(w2c_j0);
-    w2c_i0 = i32_load8_u(m, (u64)(w2c_i0) + 32u);
+    w2c_i0 = i32_load8_u(m, (u64)(w2c_i0) + 48u);
     w2c_i1 = 1u;
     w2c_i0 = w2c_i0 == w2c_i1;
-    if (w2c_i0) {goto w2c_L26;}
-  w2c_j0 = w2c_l5;
-  w2c_j1 = 240ull;
-  w2c_j0 += w2c_j1;
-  w2c_i1 = w2c_p1;
-  w2c_j2 = w2c_p2;
-  w2c_j3 = w2c_p3;
-  w2c_j4 = w2c_l10;
-  w2c_f42(m, w2c_j0, w2c_i1, w2c_j2, w2c_j3, w2c_j4);
-  goto w2c_B1;
-  w2c_B17:;
-  w2c_i0 = w2c_l14;
-  w2c_i1 = 21317u;
-  w2c_i0 = w2c_i0 != w2c_i1;
-  if (w2c_i0) {goto w2c_B15;}
-  w2c_j0 = 30ull;
-  w2c_l9 = w2c_j0;
-  w2c_B16:;
-  w2c_j0 = w2c_l5;
-  w2c_j1 = 240ull;
-  w2c_j0 += w2c_j1;
-  w2c_j1 = w2c_l7;
-  w2c_j2 = w2c_l6;
-  w2c_f33(m, w2c_j0, w2c_j1, w2c_j2);
+    if (w2c_i0) {goto w2c_L19;}
+  w2c_B18:;
   w2c_j0 = w2c_l5;
   w2c_i0 = (u32)(w2c_j0);
-  w2c_i0 = i32_load8_u(m, (u64)(w2c_i0) + 240u);
+  w2c_j1 = 0ull;
+  i64_store(m, (u64)(w2c_i0) + 344, w2c_j1);
+  w2c_j0 = w2c_l5;
+  w2c_i0 = (u32)(w2c_j0);
+  w2c_j1 = 0ull;
+  i64_store(m, (u64)(w2c_i0) + 336, w2c_j1);
+  w2c_j0 = w2c_l5;
+  w2c_i0 = (u32)(w2c_j0);
+  w2c_j1 = 0ull;
+  i64_store(m, (u64)(w2c_i0) + 328, w2c_j1);
+  w2c_j0 = w2c_l5;
+  w2c_i0 = (u32)(w2c_j0);
+  w2c_j1 = 0ull;
+  i64_store(m, (u64)(w2c_i0) + 320, w2c_j1);
+  w2c_j0 = w2c_l5;
+  w2c_j1 = 320ull;
+  w2c_j0 += w2c_j1;
+  w2c_j1 = w2c_p3;
+  w2c_j2 = w2c_l10;
+  w2c_f36(m, w2c_j0, w2c_j1, w2c_j2);
+  w2c_j0 = w2c_l5;
+  w2c_i0 = (u32)(w2c_j0);
+  w2c_i0 = i32_load8_u(m, (u64)(w2c_i0) + 320u);
   w2c_i1 = 1u;
   w2c_i0 = w2c_i0 != w2c_i1;
-  if (w2c_i0) {goto w2c_B27;}
+  if (w2c_i0) {goto w2c_B20;}
   w2c_j0 = w2c_l5;
   w2c_i0 = (u32)(w2c_j0);
-  w2c_i0 = i32_load(m, (u64)(w2c_i0) + 248u);
+  w2c_i0 = i32_load(m, (u64)(w2c_i0) + 328u);
   w2c_l14 = w2c_i0;
   w2c_j0 = w2c_l5;
-  w2c_j1 = 272ull;
+  w2c_i0 = (u32)(w2c_j0);
+  w2c_j0 = i64_load(m, (u64)(w2c_i0) + 344u);
+  w2c_l11 = w2c_j0;
+  w2c_j0 = w2c_l5;
+  w2c_i0 = (u32)(w2c_j0);
+  w2c_j0 = i64_load(m, (u64)(w2c_i0) + 336u);
+  w2c_l13 = w2c_j0;
+  w2c_j0 = w2c_l5;
+  w2c_i0 = (u32)(w2c_j0);
+  w2c_j1 = 0ull;
+  i64_store(m, (u64)(w2c_i0) + 344, w2c_j1);
+  w2c_j0 = w2c_l5;
+  w2c_i0 = (u32)(w2c_j0);
+  w2c_j1 = 0ull;
+  i64_store(m, (u64)(w2c_i0) + 336, w2c_j1);
+  w2c_j0 = w2c_l5;
+  w2c_i0 = (u32)(w2c_j0);
+  w2c_j1 = 0ull;
+  i64_store(m, (u64)(w2c_i0) + 328, w2c_j1);
+  w2c_j0 = w2c_l5;
+  w2c_i0 = (u32)(w2c_j0);
+  w2c_j1 = 0ull;
+  i64_store(m, (u64)(w2c_i0) + 320, w2c_j1);
+  w2c_j0 = w2c_l5;
+  w2c_j1 = 320ull;
+  w2c_j0 += w2c_j1;
+  w2c_j1 = w2c_l13;
+  w2c_j2 = w2c_l11;
+  w2c_f36(m, w2c_j0, w2c_j1, w2c_j2);
+  w2c_j0 = w2c_l5;
+  w2c_i0 = (u32)(w2c_j0);
+  w2c_i0 = i32_load8_u(m, (u64)(w2c_i0) + 320u);
+  w2c_i1 = 1u;
+  w2c_i0 = w2c_i0 != w2c_i1;
+  if (w2c_i0) {goto w2c_B20;}
+  w2c_j0 = w2c_l5;
+  w2c_j1 = 40ull;
   w2c_j0 += w2c_j1;
   w2c_j1 = w2c_l5;
   w2c_i1 = (u32)(w2c_j1);
-  w2c_j1 = i64_load(m, (u64)(w2c_i1) + 256u);
-  w2c_j2 = w2c_l5;
-  w2c_i2 = (u32)(w2c_j2);
-  w2c_j2 = i64_load(m, (u64)(w2c_i2) + 264u);
-  w2c_f33(m, w2c_j0, w2c_j1, w2c_j2);
-  w2c_i0 = w2c_l14;
-  w2c_i1 = 4294967248u;
-  w2c_i0 += w2c_i1;
-  w2c_i1 = 10u;
-  w2c_i0 = w2c_i0 < w2c_i1;
-  if (w2c_i0) {goto w2c_B15;}
+  w2c_i1 = i32_load(m, (u64)(w2c_i1) + 328u);
+  w2c_f22(m, w2c_j0, w2c_i1);
   w2c_j0 = w2c_l5;
   w2c_i0 = (u32)(w2c_j0);
-  w2c_i0 = i32_load8_u(m, (u64)(w2c_i0) + 272u);
+  w2c_i0 = i32_load8_u(m, (u64)(w2c_i0) + 40u);
+  w2c_i1 = 1u;
+  w2c_i0 = w2c_i0 != w2c_i1;
+  if (w2c_i0) {goto w2c_B20;}
+  w2c_j0 = w2c_l5;
+  w2c_i0 = (u32)(w2c_j0);
+  w2c_i0 = i32_load8_u(m, (u64)(w2c_i0) + 41u);
   w2c_i1 = 255u;
   w2c_i0 &= w2c_i1;
-  w2c_i1 = 1u;
-  w2c_i0 = w2c_i0 == w2c_i1;
-  if (w2c_i0) {goto w2c_B15;}
+  w2c_i1 = 2u;
+  w2c_i0 = w2c_i0 < w2c_i1;
+  if (w2c_i0) {goto w2c_B20;}
   w2c_j0 = w2c_l5;
-  w2c_j1 = 16ull;
+  w2c_j1 = 32ull;
   w2c_j0 += w2c_j1;
   w2c_i1 = w2c_l14;
   w2c_f18(m, w2c_j0, w2c_i1);
   w2c_j0 = w2c_l5;
   w2c_i0 = (u32)(w2c_j0);
-  w2c_i0 = i32_load8_u(m, (u64)(w2c_i0) + 16u);
+  w2c_i0 = i32_load8_u(m, (u64)(w2c_i0) + 32u);
+  w2c_i1 = 1u;
+  w2c_i0 = w2c_i0 == w2c_i1;
+  if (w2c_i0) {goto w2c_B15;}
+  w2c_B20:;
+  w2c_j0 = w2c_l5;
+  w2c_i0 = (u32)(w2c_j0);
+  w2c_j1 = 0ull;
+  i64_store(m, (u64)(w2c_i0) + 344, w2c_j1);
+  w2c_j0 = w2c_l5;
+  w2c_i0 = (u32)(w2c_j0);
+  w2c_j1 = 0ull;
+  i64_store(m, (u64)(w2c_i0) + 336, w2c_j1);
+  w2c_j0 = w2c_l5;
+  w2c_i0 = (u32)(w2c_j0);
+  w2c_j1 = 0ull;
+  i64_store(m, (u64)(w2c_i0) + 328, w2c_j1);
+  w2c_j0 = w2c_l5;
+  w2c_i0 = (u32)(w2c_j0);
+  w2c_j1 = 0ull;
+  i64_store(m, (u64)(w2c_i0) + 320, w2c_j1);
+  w2c_j0 = w2c_l5;
+  w2c_j1 = 320ull;
+  w2c_j0 += w2c_j1;
+  w2c_j1 = w2c_l9;
+  w2c_j2 = w2c_l8;
+  w2c_f34(m, w2c_j0, w2c_j1, w2c_j2);
+  w2c_j0 = w2c_l5;
+  w2c_i0 = (u32)(w2c_j0);
+  w2c_i0 = i32_load8_u(m, (u64)(w2c_i0) + 320u);
+  w2c_i1 = 1u;
+  w2c_i0 = w2c_i0 != w2c_i1;
+  if (w2c_i0) {goto w2c_B14;}
+  w2c_j0 = w2c_l5;
+  w2c_j1 = 24ull;
+  w2c_j0 += w2c_j1;
+  w2c_j1 = w2c_l5;
+  w2c_i1 = (u32)(w2c_j1);
+  w2c_i1 = i32_load(m, (u64)(w2c_i1) + 328u);
+  w2c_f22(m, w2c_j0, w2c_i1);
+  w2c_j0 = w2c_l5;
+  w2c_i0 = (u32)(w2c_j0);
+  w2c_i0 = i32_load8_u(m, (u64)(w2c_i0) + 25u);
+  w2c_l14 = w2c_i0;
+  w2c_j0 = w2c_l5;
+  w2c_i0 = (u32)(w2c_j0);
+  w2c_i0 = i32_load8_u(m, (u64)(w2c_i0) + 24u);
+  w2c_l16 = w2c_i0;
+  w2c_j0 = w2c_l5;
+  w2c_i0 = (u32)(w2c_j0);
+  w2c_j1 = 0ull;
+  i64_store(m, (u64)(w2c_i0) + 344, w2c_j1);
+  w2c_j0 = w2c_l5;
+  w2c_i0 = (u32)(w2c_j0);
+  w2c_j1 = 0ull;
+  i64_store(m, (u64)(w2c_i0) + 336, w2c_j1);
+  w2c_j0 = w2c_l5;
+  w2c_i0 = (u32)(w2c_j0);
+  w2c_j1 = 0ull;
+  i64_store(m, (u64)(w2c_i0) + 328, w2c_j1);
+  w2c_j0 = w2c_l5;
+  w2c_i0 = (u32)(w2c_j0);
+  w2c_j1 = 0ull;
+  i64_store(m, (u64)(w2c_i0) + 320, w2c_j1);
+  w2c_i0 = w2c_l16;
   w2c_i1 = 1u;
   w2c_i0 &= w2c_i1;
   w2c_i0 = !(w2c_i0);
-  if (w2c_i0) {goto w2c_B15;}
+  if (w2c_i0) {goto w2c_B14;}
+  w2c_j0 = w2c_p3;
+  w2c_l9 = w2c_j0;
+  w2c_j0 = w2c_l10;
+  w2c_l8 = w2c_j0;
+  w2c_L21:
+    w2c_j0 = w2c_l5;
+    w2c_j1 = 320ull;
+    w2c_j0 += w2c_j1;
+    w2c_j1 = w2c_l9;
+    w2c_j2 = w2c_l8;
+    w2c_f34(m, w2c_j0, w2c_j1, w2c_j2);
+    w2c_j0 = w2c_l5;
+    w2c_i0 = (u32)(w2c_j0);
+    w2c_i0 = i32_load8_u(m, (u64)(w2c_i0) + 320u);
+    w2c_i1 = 1u;
+    w2c_i0 = w2c_i0 != w2c_i1;
+    if (w2c_i0) {goto w2c_B14;}
+    w2c_j0 = w2c_l5;
+    w2c_i0 = (u32)(w2c_j0);
+    w2c_j0 = i64_load(m, (u64)(w2c_i0) + 344u);
+    w2c_l8 = w2c_j0;
+    w2c_j0 = w2c_l5;
+    w2c_i0 = (u32)(w2c_j0);
+    w2c_j0 = i64_load(m, (u64)(w2c_i0) + 336u);
+    w2c_l9 = w2c_j0;
+    w2c_j0 = w2c_l5;
+    w2c_j1 = 16ull;
+    w2c_j0 += w2c_j1;
+    w2c_j1 = w2c_l5;
+    w2c_i1 = (u32)(w2c_j1);
+    w2c_i1 = i32_load(m, (u64)(w2c_i1) + 328u);
+    w2c_f22(m, w2c_j0, w2c_i1);
+    w2c_j0 = w2c_l5;
+    w2c_i0 = (u32)(w2c_j0);
+    w2c_i0 = i32_load8_u(m, (u64)(w2c_i0) + 16u);
+    w2c_i1 = 1u;
+    w2c_i0 = w2c_i0 != w2c_i1;
+    if (w2c_i0) {goto w2c_L21;}
+    w2c_j0 = w2c_l5;
+    w2c_i0 = (u32)(w2c_j0);
+    w2c_i0 = i32_load8_u(m, (u64)(w2c_i0) + 17u);
+    w2c_i1 = 255u;
+    w2c_i0 &= w2c_i1;
+    w2c_i1 = w2c_l14;
+    w2c_i2 = 255u;
+    w2c_i1 &= w2c_i2;
+    w2c_i0 = w2c_i0 < w2c_i1;
+    if (w2c_i0) {goto w2c_L21;}
+  w2c_B15:;
+  w2c_j0 = w2c_l5;
+  w2c_i0 = (u32)(w2c_j0);
+  w2c_j1 = 0ull;
+  i64_store(m, (u64)(w2c_i0) + 320, w2c_j1);
+  w2c_j0 = w2c_l5;
+  w2c_i0 = (u32)(w2c_j0);
+  w2c_j1 = 0ull;
+  i64_store(m, (u64)(w2c_i0) + 328, w2c_j1);
+  w2c_j0 = w2c_l5;
+  w2c_i0 = (u32)(w2c_j0);
+  w2c_j1 = 0ull;
+  i64_store(m, (u64)(w2c_i0) + 336, w2c_j1);
+  w2c_j0 = w2c_l5;
+  w2c_i0 = (u32)(w2c_j0);
+  w2c_j1 = 0ull;
+  i64_store(m, (u64)(w2c_i0) + 344, w2c_j1);
+  w2c_j0 = w2c_l5;
+  w2c_i0 = (u32)(w2c_j0);
+  w2c_j1 = 0ull;
+  i64_store(m, (u64)(w2c_i0) + 288, w2c_j1);
+  w2c_j0 = w2c_l5;
+  w2c_i0 = (u32)(w2c_j0);
+  w2c_j1 = 0ull;
+  i64_store(m, (u64)(w2c_i0) + 296, w2c_j1);
+  w2c_j0 = w2c_l5;
+  w2c_i0 = (u32)(w2c_j0);
+  w2c_j1 = 0ull;
+  i64_store(m, (u64)(w2c_i0) + 304, w2c_j1);
+  w2c_j0 = w2c_l5;
+  w2c_i0 = (u32)(w2c_j0);
+  w2c_j1 = 0ull;
+  i64_store(m, (u64)(w2c_i0) + 312, w2c_j1);
+  w2c_j0 = w2c_l5;
+  w2c_j1 = 320ull;
+  w2c_j0 += w2c_j1;
+  w2c_j1 = w2c_p3;
+  w2c_j2 = w2c_p4;
+  w2c_f34(m, w2c_j0, w2c_j1, w2c_j2);
+  w2c_j0 = w2c_l5;
+  w2c_i0 = (u32)(w2c_j0);
+  w2c_i0 = i32_load8_u(m, (u64)(w2c_i0) + 320u);
+  w2c_i1 = 1u;
+  w2c_i0 = w2c_i0 != w2c_i1;
+  if (w2c_i0) {goto w2c_B11;}
+  w2c_j0 = w2c_l5;
+  w2c_i0 = (u32)(w2c_j0);
+  w2c_j0 = i64_load(m, (u64)(w2c_i0) + 344u);
+  w2c_l6 = w2c_j0;
+  w2c_j0 = w2c_l5;
+  w2c_i0 = (u32)(w2c_j0);
+  w2c_j0 = i64_load(m, (u64)(w2c_i0) + 336u);
+  w2c_l7 = w2c_j0;
+  w2c_j0 = w2c_l5;
+  w2c_i0 = (u32)(w2c_j0);
+  w2c_i0 = i32_load(m, (u64)(w2c_i0) + 328u);
+  w2c_l14 = w2c_i0;
+  w2c_i1 = 24319u;
+  w2c_i0 = w2c_i0 != w2c_i1;
+  if (w2c_i0) {goto w2c_B13;}
+  w2c_j0 = 20ull;
+  w2c_l9 = w2c_j0;
+  goto w2c_B12;
+  w2c_B14:;
+  w2c_j0 = w2c_l5;
+  w2c_j1 = 224ull;
+  w2c_j0 += w2c_j1;
+  w2c_i1 = w2c_p1;
+  w2c_j2 = w2c_p2;
+  w2c_j3 = w2c_p3;
+  w2c_j4 = w2c_l10;
+  w2c_f44(m, w2c_j0, w2c_i1, w2c_j2, w2c_j3, w2c_j4);
+  w2c_j0 = w2c_l5;
+  w2c_i0 = (u32)(w2c_j0);
+  w2c_j0 = i64_load(m, (u64)(w2c_i0) + 240u);
+  w2c_l9 = w2c_j0;
+  w2c_j0 = w2c_l5;
+  w2c_i0 = (u32)(w2c_j0);
+  w2c_i0 = i32_load8_u(m, (u64)(w2c_i0) + 224u);
+  if (w2c_i0) {goto w2c_B22;}
+  w2c_j0 = w2c_l5;
+  w2c_j1 = 192ull;
+  w2c_j0 += w2c_j1;
+  w2c_i1 = w2c_p1;
+  w2c_i2 = 1u;
+  w2c_j3 = w2c_l9;
+  w2c_j4 = w2c_l5;
+  w2c_i4 = (u32)(w2c_j4);
+  w2c_j4 = i64_load(m, (u64)(w2c_i4) + 248u);
+  w2c_j5 = w2c_l6;
+  w2c_j6 = w2c_l7;
+  w2c_f42(m, w2c_j0, w2c_i1, w2c_i2, w2c_j3, w2c_j4, w2c_j5, w2c_j6);
+  w2c_j0 = w2c_l5;
+  w2c_i0 = (u32)(w2c_j0);
+  w2c_i0 = i32_load8_u(m, (u64)(w2c_i0) + 192u);
+  w2c_i1 = 1u;
+  w2c_i0 = w2c_i0 == w2c_i1;
+  if (w2c_i0) {goto w2c_B24;}
+  w2c_j0 = 2ull;
+  w2c_l6 = w2c_j0;
+  w2c_j0 = 1ull;
+  w2c_l7 = w2c_j0;
+  w2c_j0 = 0ull;
+  w2c_l9 = w2c_j0;
+  w2c_j0 = 0ull;
+  w2c_l8 = w2c_j0;
+  w2c_j0 = 0ull;
+  w2c_p3 = w2c_j0;
+  goto w2c_B23;
+  w2c_B24:;
+  w2c_j0 = w2c_l12;
+  w2c_j1 = 0ull;
+  w2c_i2 = w2c_l15;
+  w2c_i3 = 1u;
+  w2c_i2 = w2c_i2 == w2c_i3;
+  w2c_j0 = w2c_i2 ? w2c_j0 : w2c_j1;
+  w2c_p3 = w2c_j0;
+  w2c_j0 = 0ull;
+  w2c_l7 = w2c_j0;
+  w2c_j0 = w2c_l5;
+  w2c_i0 = (u32)(w2c_j0);
+  w2c_j0 = i64_load(m, (u64)(w2c_i0) + 216u);
+  w2c_l8 = w2c_j0;
+  w2c_j0 = w2c_l5;
+  w2c_i0 = (u32)(w2c_j0);
+  w2c_j0 = i64_load(m, (u64)(w2c_i0) + 208u);
+  w2c_l9 = w2c_j0;
+  w2c_j0 = 0ull;
+  w2c_l6 = w2c_j0;
+  w2c_B23:;
+  w2c_j0 = w2c_p0;
+  w2c_i0 = (u32)(w2c_j0);
+  w2c_j1 = w2c_l7;
+  i64_store(m, (u64)(w2c_i0), w2c_j1);
+  w2c_j0 = w2c_p0;
+  w2c_j1 = 24ull;
+  w2c_j0 += w2c_j1;
+  w2c_i0 = (u32)(w2c_j0);
+  w2c_j1 = w2c_l8;
+  i64_store(m, (u64)(w2c_i0), w2c_j1);
+  w2c_j0 = w2c_p0;
+  w2c_j1 = 16ull;
+  w2c_j0 += w2c_j1;
+  w2c_i0 = (u32)(w2c_j0);
+  w2c_j1 = w2c_l9;
+  i64_store(m, (u64)(w2c_i0), w2c_j1);
+  w2c_j0 = w2c_p0;
+  w2c_j1 = 40ull;
+  w2c_j0 += w2c_j1;
+  w2c_i0 = (u32)(w2c_j0);
+  w2c_j1 = 0ull;
+  i64_store(m, (u64)(w2c_i0), w2c_j1);
+  w2c_j0 = w2c_p0;
+  w2c_j1 = 32ull;
+  w2c_j0 += w2c_j1;
+  w2c_i0 = (u32)(w2c_j0);
+  w2c_j1 = w2c_p3;
+  i64_store(m, (u64)(w2c_i0), w2c_j1);
+  w2c_j0 = w2c_p0;
+  w2c_j1 = 8ull;
+  w2c_j0 += w2c_j1;
+  w2c_i0 = (u32)(w2c_j0);
+  w2c_j1 = w2c_l6;
+  i64_store(m, (u64)(w2c_i0), w2c_j1);
+  goto w2c_B0;
+  w2c_B22:;
+  w2c_j0 = w2c_p0;
+  w2c_i0 = (u32)(w2c_j0);
+  w2c_j1 = 1ull;
+  i64_store(m, (u64)(w2c_i0), w2c_j1);
+  w2c_j0 = w2c_p0;
+  w2c_j1 = 24ull;
+  w2c_j0 += w2c_j1;
+  w2c_i0 = (u32)(w2c_j0);
+  w2c_j1 = 0ull;
+  i64_store(m, (u64)(w2c_i0), w2c_j1);
+  w2c_j0 = w2c_p0;
+  w2c_j1 = 16ull;
+  w2c_j0 += w2c_j1;
+  w2c_i0 = (u32)(w2c_j0);
+  w2c_j1 = w2c_l9;
+  i64_store(m, (u64)(w2c_i0), w2c_j1);
+  w2c_j0 = w2c_p0;
+  w2c_j1 = 32ull;
+  w2c_j0 += w2c_j1;
+  w2c_i0 = (u32)(w2c_j0);
+  w2c_j1 = 0ull;
+  i64_store(m, (u64)(w2c_i0), w2c_j1);
+  w2c_j0 = w2c_p0;
+  w2c_j1 = 8ull;
+  w2c_j0 += w2c_j1;
+  w2c_i0 = (u32)(w2c_j0);
+  w2c_j1 = w2c_l5;
+  w2c_i1 = (u32)(w2c_j1);
+  w2c_j1 = i64_load8_u(m, (u64)(w2c_i1) + 232u);
+  i64_store(m, (u64)(w2c_i0), w2c_j1);
+  w2c_j0 = w2c_p0;
+  w2c_j1 = 40ull;
+  w2c_j0 += w2c_j1;
+  w2c_i0 = (u32)(w2c_j0);
+  w2c_j1 = 0ull;
+  i64_store(m, (u64)(w2c_i0), w2c_j1);
+  goto w2c_B0;
+  w2c_B13:;
+  w2c_i0 = w2c_l14;
+  w2c_i1 = 21317u;
+  w2c_i0 = w2c_i0 != w2c_i1;
+  if (w2c_i0) {goto w2c_B11;}
+  w2c_j0 = 30ull;
+  w2c_l9 = w2c_j0;
+  w2c_B12:;
+  w2c_j0 = w2c_l5;
+  w2c_j1 = 288ull;
+  w2c_j0 += w2c_j1;
+  w2c_j1 = w2c_l7;
+  w2c_j2 = w2c_l6;
+  w2c_f34(m, w2c_j0, w2c_j1, w2c_j2);
+  w2c_j0 = w2c_l5;
+  w2c_i0 = (u32)(w2c_j0);
+  w2c_i0 = i32_load8_u(m, (u64)(w2c_i0) + 288u);
+  w2c_i1 = 1u;
+  w2c_i0 = w2c_i0 != w2c_i1;
+  if (w2c_i0) {goto w2c_B25;}
+  w2c_j0 = w2c_l5;
+  w2c_i0 = (u32)(w2c_j0);
+  w2c_i0 = i32_load(m, (u64)(w2c_i0) + 296u);
+  w2c_l14 = w2c_i0;
+  w2c_j0 = w2c_l5;
+  w2c_j1 = 320ull;
+  w2c_j0 += w2c_j1;
+  w2c_j1 = w2c_l5;
+  w2c_i1 = (u32)(w2c_j1);
+  w2c_j1 = i64_load(m, (u64)(w2c_i1) + 304u);
+  w2c_j2 = w2c_l5;
+  w2c_i2 = (u32)(w2c_j2);
+  w2c_j2 = i64_load(m, (u64)(w2c_i2) + 312u);
+  w2c_f34(m, w2c_j0, w2c_j1, w2c_j2);
+  w2c_i0 = w2c_l14;
+  w2c_i1 = 4294967248u;
+  w2c_i0 += w2c_i1;
+  w2c_i1 = 10u;
+  w2c_i0 = w2c_i0 < w2c_i1;
+  if (w2c_i0) {goto w2c_B11;}
+  w2c_j0 = w2c_l5;
+  w2c_i0 = (u32)(w2c_j0);
+  w2c_i0 = i32_load8_u(m, (u64)(w2c_i0) + 320u);
+  w2c_i1 = 255u;
+  w2c_i0 &= w2c_i1;
+  w2c_i1 = 1u;
+  w2c_i0 = w2c_i0 == w2c_i1;
+  if (w2c_i0) {goto w2c_B11;}
+  w2c_j0 = w2c_l5;
+  w2c_j1 = 8ull;
+  w2c_j0 += w2c_j1;
+  w2c_i1 = w2c_l14;
+  w2c_f18(m, w2c_j0, w2c_i1);
+  w2c_j0 = w2c_l5;
+  w2c_i0 = (u32)(w2c_j0);
+  w2c_i0 = i32_load8_u(m, (u64)(w2c_i0) + 8u);
+  w2c_i1 = 1u;
+  w2c_i0 &= w2c_i1;
+  w2c_i0 = !(w2c_i0);
+  if (w2c_i0) {goto w2c_B11;}
   w2c_j0 = w2c_l9;
   w2c_j1 = w2c_l5;
   w2c_i1 = (u32)(w2c_j1);
-  w2c_i1 = i32_load8_u(m, (u64)(w2c_i1) + 17u);
+  w2c_i1 = i32_load8_u(m, (u64)(w2c_i1) + 9u);
   w2c_j1 = (u64)(w2c_i1);
   w2c_j2 = 255ull;
   w2c_j1 &= w2c_j2;
   w2c_j0 += w2c_j1;
   w2c_l9 = w2c_j0;
-  w2c_B27:;
+  w2c_B25:;
   w2c_j0 = w2c_p0;
   w2c_j1 = 24ull;
   w2c_j0 += w2c_j1;
@@ -28581,117 +30345,26 @@ static void w2c_f36(module *m, u64 w2c_p0, u32 w2c_p1, u64 w2c_p2, u64 w2c_p3, u
   w2c_j1 = 0ull;
   i64_store(m, (u64)(w2c_i0), w2c_j1);
   goto w2c_B0;
-  w2c_B15:;
+  w2c_B11:;
   w2c_j0 = w2c_l5;
-  w2c_i0 = (u32)(w2c_j0);
-  w2c_j1 = 0ull;
-  i64_store(m, (u64)(w2c_i0) + 264, w2c_j1);
-  w2c_j0 = w2c_l5;
-  w2c_i0 = (u32)(w2c_j0);
-  w2c_j1 = 0ull;
-  i64_store(m, (u64)(w2c_i0) + 256, w2c_j1);
-  w2c_j0 = w2c_l5;
-  w2c_i0 = (u32)(w2c_j0);
-  w2c_j1 = 0ull;
-  i64_store(m, (u64)(w2c_i0) + 248, w2c_j1);
-  w2c_j0 = w2c_l5;
-  w2c_i0 = (u32)(w2c_j0);
-  w2c_j1 = 0ull;
-  i64_store(m, (u64)(w2c_i0) + 240, w2c_j1);
-  w2c_j0 = w2c_l5;
-  w2c_i0 = (u32)(w2c_j0);
-  w2c_j1 = 0ull;
-  i64_store(m, (u64)(w2c_i0) + 296, w2c_j1);
-  w2c_j0 = w2c_l5;
-  w2c_i0 = (u32)(w2c_j0);
-  w2c_j1 = 0ull;
-  i64_store(m, (u64)(w2c_i0) + 288, w2c_j1);
-  w2c_j0 = w2c_l5;
-  w2c_i0 = (u32)(w2c_j0);
-  w2c_j1 = 0ull;
-  i64_store(m, (u64)(w2c_i0) + 280, w2c_j1);
-  w2c_j0 = w2c_l5;
-  w2c_i0 = (u32)(w2c_j0);
-  w2c_j1 = 0ull;
-  i64_store(m, (u64)(w2c_i0) + 272, w2c_j1);
-  w2c_j0 = w2c_p3;
-  w2c_l6 = w2c_j0;
-  w2c_j0 = w2c_p4;
-  w2c_l7 = w2c_j0;
-  w2c_L28:
-    w2c_j0 = w2c_l5;
-    w2c_j1 = 272ull;
-    w2c_j0 += w2c_j1;
-    w2c_j1 = w2c_l6;
-    w2c_j2 = w2c_l7;
-    w2c_f33(m, w2c_j0, w2c_j1, w2c_j2);
-    w2c_j0 = w2c_l5;
-    w2c_i0 = (u32)(w2c_j0);
-    w2c_i0 = i32_load8_u(m, (u64)(w2c_i0) + 272u);
-    w2c_i1 = 1u;
-    w2c_i0 = w2c_i0 != w2c_i1;
-    if (w2c_i0) {goto w2c_B3;}
-    w2c_j0 = w2c_l5;
-    w2c_i0 = (u32)(w2c_j0);
-    w2c_j0 = i64_load(m, (u64)(w2c_i0) + 296u);
-    w2c_l7 = w2c_j0;
-    w2c_j0 = w2c_l5;
-    w2c_i0 = (u32)(w2c_j0);
-    w2c_j0 = i64_load(m, (u64)(w2c_i0) + 288u);
-    w2c_l6 = w2c_j0;
-    w2c_j0 = w2c_l5;
-    w2c_j1 = 8ull;
-    w2c_j0 += w2c_j1;
-    w2c_j1 = w2c_l5;
-    w2c_i1 = (u32)(w2c_j1);
-    w2c_i1 = i32_load(m, (u64)(w2c_i1) + 280u);
-    w2c_f18(m, w2c_j0, w2c_i1);
-    w2c_j0 = w2c_l5;
-    w2c_i0 = (u32)(w2c_j0);
-    w2c_i0 = i32_load8_u(m, (u64)(w2c_i0) + 8u);
-    w2c_i1 = 1u;
-    w2c_i0 = w2c_i0 == w2c_i1;
-    if (w2c_i0) {goto w2c_L28;}
-  w2c_j0 = w2c_l5;
-  w2c_j1 = 240ull;
+  w2c_j1 = 160ull;
   w2c_j0 += w2c_j1;
   w2c_i1 = w2c_p1;
   w2c_j2 = w2c_p2;
   w2c_j3 = w2c_p3;
   w2c_j4 = w2c_p4;
-  w2c_f42(m, w2c_j0, w2c_i1, w2c_j2, w2c_j3, w2c_j4);
-  goto w2c_B2;
-  w2c_B5:;
-  UNREACHABLE;
-  w2c_B4:;
-  w2c_j0 = w2c_l5;
-  w2c_j1 = 240ull;
-  w2c_j0 += w2c_j1;
-  w2c_j1 = w2c_p2;
-  w2c_j2 = w2c_p3;
-  w2c_j3 = w2c_l10;
-  w2c_f43(m, w2c_j0, w2c_j1, w2c_j2, w2c_j3);
-  goto w2c_B1;
-  w2c_B3:;
-  w2c_j0 = w2c_l5;
-  w2c_j1 = 240ull;
-  w2c_j0 += w2c_j1;
-  w2c_j1 = w2c_p2;
-  w2c_j2 = w2c_p3;
-  w2c_j3 = w2c_p4;
-  w2c_f43(m, w2c_j0, w2c_j1, w2c_j2, w2c_j3);
-  w2c_B2:;
+  w2c_f44(m, w2c_j0, w2c_i1, w2c_j2, w2c_j3, w2c_j4);
   w2c_j0 = w2c_l5;
   w2c_i0 = (u32)(w2c_j0);
-  w2c_j0 = i64_load(m, (u64)(w2c_i0) + 256u);
+  w2c_j0 = i64_load(m, (u64)(w2c_i0) + 176u);
   w2c_l6 = w2c_j0;
   w2c_j0 = w2c_l5;
   w2c_i0 = (u32)(w2c_j0);
-  w2c_i0 = i32_load8_u(m, (u64)(w2c_i0) + 240u);
-  if (w2c_i0) {goto w2c_B29;}
+  w2c_i0 = i32_load8_u(m, (u64)(w2c_i0) + 160u);
+  if (w2c_i0) {goto w2c_B26;}
   w2c_j0 = w2c_l5;
   w2c_i0 = (u32)(w2c_j0);
-  w2c_j0 = i64_load(m, (u64)(w2c_i0) + 264u);
+  w2c_j0 = i64_load(m, (u64)(w2c_i0) + 184u);
   w2c_l7 = w2c_j0;
   w2c_j0 = w2c_p0;
   w2c_i0 = (u32)(w2c_j0);
@@ -28726,11 +30399,7 @@ static void w2c_f36(module *m, u64 w2c_p0, u32 w2c_p1, u64 w2c_p2, u64 w2c_p3, u
   w2c_j1 = 0ull;
   i64_store(m, (u64)(w2c_i0), w2c_j1);
   goto w2c_B0;
-  w2c_B29:;
-  w2c_j0 = w2c_l5;
-  w2c_i0 = (u32)(w2c_j0);
-  w2c_j0 = i64_load8_u(m, (u64)(w2c_i0) + 248u);
-  w2c_l7 = w2c_j0;
+  w2c_B26:;
   w2c_j0 = w2c_p0;
   w2c_i0 = (u32)(w2c_j0);
   w2c_j1 = 1ull;
@@ -28757,7 +30426,9 @@ static void w2c_f36(module *m, u64 w2c_p0, u32 w2c_p1, u64 w2c_p2, u64 w2c_p3, u
   w2c_j1 = 8ull;
   w2c_j0 += w2c_j1;
   w2c_i0 = (u32)(w2c_j0);
-  w2c_j1 = w2c_l7;
+  w2c_j1 = w2c_l5;
+  w2c_i1 = (u32)(w2c_j1);
+  w2c_j1 = i64_load8_u(m, (u64)(w2c_i1) + 168u);
   i64_store(m, (u64)(w2c_i0), w2c_j1);
   w2c_j0 = w2c_p0;
   w2c_j1 = 40ull;
@@ -28767,139 +30438,102 @@ static void w2c_f36(module *m, u64 w2c_p0, u32 w2c_p1, u64 w2c_p2, u64 w2c_p3, u
   i64_store(m, (u64)(w2c_i0), w2c_j1);
   goto w2c_B0;
   w2c_B1:;
-  w2c_j0 = w2c_l5;
-  w2c_i0 = (u32)(w2c_j0);
-  w2c_j0 = i64_load(m, (u64)(w2c_i0) + 256u);
-  w2c_l9 = w2c_j0;
-  w2c_j0 = w2c_l5;
-  w2c_i0 = (u32)(w2c_j0);
-  w2c_i0 = i32_load8_u(m, (u64)(w2c_i0) + 240u);
-  if (w2c_i0) {goto w2c_B30;}
-  w2c_j0 = w2c_l5;
-  w2c_j1 = 176ull;
-  w2c_j0 += w2c_j1;
-  w2c_i1 = w2c_p1;
-  w2c_i2 = 1u;
-  w2c_j3 = w2c_l9;
-  w2c_j4 = w2c_l5;
-  w2c_i4 = (u32)(w2c_j4);
-  w2c_j4 = i64_load(m, (u64)(w2c_i4) + 264u);
-  w2c_j5 = w2c_l6;
-  w2c_j6 = w2c_l7;
-  w2c_f40(m, w2c_j0, w2c_i1, w2c_i2, w2c_j3, w2c_j4, w2c_j5, w2c_j6);
-  w2c_j0 = w2c_l5;
-  w2c_i0 = (u32)(w2c_j0);
-  w2c_i0 = i32_load8_u(m, (u64)(w2c_i0) + 176u);
-  w2c_i1 = 1u;
-  w2c_i0 = w2c_i0 == w2c_i1;
-  if (w2c_i0) {goto w2c_B32;}
-  w2c_j0 = 2ull;
-  w2c_l6 = w2c_j0;
-  w2c_j0 = 1ull;
-  w2c_l7 = w2c_j0;
-  w2c_j0 = 0ull;
-  w2c_l9 = w2c_j0;
-  w2c_j0 = 0ull;
-  w2c_l8 = w2c_j0;
-  w2c_j0 = 0ull;
-  w2c_p4 = w2c_j0;
-  goto w2c_B31;
-  w2c_B32:;
-  w2c_j0 = 0ull;
-  w2c_l7 = w2c_j0;
-  w2c_j0 = w2c_l5;
-  w2c_i0 = (u32)(w2c_j0);
-  w2c_j0 = i64_load(m, (u64)(w2c_i0) + 200u);
-  w2c_l8 = w2c_j0;
-  w2c_j0 = w2c_l5;
-  w2c_i0 = (u32)(w2c_j0);
-  w2c_j0 = i64_load(m, (u64)(w2c_i0) + 192u);
-  w2c_l9 = w2c_j0;
-  w2c_j0 = 0ull;
-  w2c_l6 = w2c_j0;
-  w2c_B31:;
-  w2c_j0 = w2c_p0;
-  w2c_i0 = (u32)(w2c_j0);
-  w2c_j1 = w2c_l7;
-  i64_store(m, (u64)(w2c_i0), w2c_j1);
-  w2c_j0 = w2c_p0;
-  w2c_j1 = 24ull;
-  w2c_j0 += w2c_j1;
-  w2c_i0 = (u32)(w2c_j0);
-  w2c_j1 = w2c_l8;
-  i64_store(m, (u64)(w2c_i0), w2c_j1);
-  w2c_j0 = w2c_p0;
-  w2c_j1 = 16ull;
-  w2c_j0 += w2c_j1;
-  w2c_i0 = (u32)(w2c_j0);
-  w2c_j1 = w2c_l9;
-  i64_store(m, (u64)(w2c_i0), w2c_j1);
-  w2c_j0 = w2c_p0;
-  w2c_j1 = 40ull;
-  w2c_j0 += w2c_j1;
-  w2c_i0 = (u32)(w2c_j0);
-  w2c_j1 = 0ull;
-  i64_store(m, (u64)(w2c_i0), w2c_j1);
-  w2c_j0 = w2c_p0;
-  w2c_j1 = 32ull;
-  w2c_j0 += w2c_j1;
-  w2c_i0 = (u32)(w2c_j0);
-  w2c_j1 = w2c_p4;
-  i64_store(m, (u64)(w2c_i0), w2c_j1);
-  w2c_j0 = w2c_p0;
-  w2c_j1 = 8ull;
-  w2c_j0 += w2c_j1;
-  w2c_i0 = (u32)(w2c_j0);
-  w2c_j1 = w2c_l6;
-  i64_store(m, (u64)(w2c_i0), w2c_j1);
-  goto w2c_B0;
-  w2c_B30:;
-  w2c_j0 = w2c_l5;
-  w2c_i0 = (u32)(w2c_j0);
-  w2c_j0 = i64_load8_u(m, (u64)(w2c_i0) + 248u);
-  w2c_l6 = w2c_j0;
-  w2c_j0 = w2c_p0;
-  w2c_i0 = (u32)(w2c_j0);
-  w2c_j1 = 1ull;
-  i64_store(m, (u64)(w2c_i0), w2c_j1);
-  w2c_j0 = w2c_p0;
-  w2c_j1 = 24ull;
-  w2c_j0 += w2c_j1;
-  w2c_i0 = (u32)(w2c_j0);
-  w2c_j1 = 0ull;
-  i64_store(m, (u64)(w2c_i0), w2c_j1);
-  w2c_j0 = w2c_p0;
-  w2c_j1 = 16ull;
-  w2c_j0 += w2c_j1;
-  w2c_i0 = (u32)(w2c_j0);
-  w2c_j1 = w2c_l9;
-  i64_store(m, (u64)(w2c_i0), w2c_j1);
-  w2c_j0 = w2c_p0;
-  w2c_j1 = 32ull;
-  w2c_j0 += w2c_j1;
-  w2c_i0 = (u32)(w2c_j0);
-  w2c_j1 = 0ull;
-  i64_store(m, (u64)(w2c_i0), w2c_j1);
-  w2c_j0 = w2c_p0;
-  w2c_j1 = 8ull;
-  w2c_j0 += w2c_j1;
-  w2c_i0 = (u32)(w2c_j0);
-  w2c_j1 = w2c_l6;
-  i64_store(m, (u64)(w2c_i0), w2c_j1);
-  w2c_j0 = w2c_p0;
-  w2c_j1 = 40ull;
-  w2c_j0 += w2c_j1;
-  w2c_i0 = (u32)(w2c_j0);
-  w2c_j1 = 0ull;
-  i64_store(m, (u64)(w2c_i0), w2c_j1);
+  UNREACHABLE;
   w2c_B0:;
   w2c_j0 = w2c_l5;
-  w2c_j1 = 304ull;
+  w2c_j1 = 352ull;
   w2c_j0 += w2c_j1;
   m->w2c_g0 = w2c_j0;
 }
 
-static void w2c_f37(module *m, u64 w2c_p0, u32 w2c_p1, u64 w2c_p2, u64 w2c_p3, u64 w2c_p4, u64 w2c_p5) {
+static u64 w2c_f38(module *m, u64 w2c_p0, u64 w2c_p1) {
+  u64 w2c_l2 = 0, w2c_l3 = 0, w2c_l4 = 0;
+  u32 w2c_i0, w2c_i1;
+  u64 w2c_j0, w2c_j1;
+  w2c_j0 = m->w2c_g0;
+  w2c_j1 = 16ull;
+  w2c_i0 = (u64)((s64)w2c_j0 < (s64)w2c_j1);
+  if (w2c_i0) {goto w2c_B0;}
+  w2c_j0 = 0ull;
+  w2c_l2 = w2c_j0;
+  w2c_j0 = 0ull;
+  w2c_l3 = w2c_j0;
+  w2c_j0 = w2c_p1;
+  w2c_j1 = 8ull;
+  w2c_i0 = w2c_j0 < w2c_j1;
+  if (w2c_i0) {goto w2c_B1;}
+  w2c_j0 = 0ull;
+  w2c_l3 = w2c_j0;
+  w2c_j0 = w2c_p1;
+  w2c_l4 = w2c_j0;
+  w2c_j0 = 0ull;
+  w2c_l2 = w2c_j0;
+  w2c_L2:
+    w2c_j0 = w2c_p0;
+    w2c_j1 = w2c_l2;
+    w2c_j0 += w2c_j1;
+    w2c_i0 = (u32)(w2c_j0);
+    w2c_j0 = i64_load(m, (u64)(w2c_i0));
+    w2c_j1 = 67553998437089520ull;
+    w2c_j0 &= w2c_j1;
+    w2c_j1 = 63050398541283552ull;
+    w2c_i0 = w2c_j0 != w2c_j1;
+    if (w2c_i0) {goto w2c_B1;}
+    w2c_j0 = w2c_l3;
+    w2c_j1 = 3ull;
+    w2c_j0 += w2c_j1;
+    w2c_l3 = w2c_j0;
+    w2c_j0 = w2c_l2;
+    w2c_j1 = 9ull;
+    w2c_j0 += w2c_j1;
+    w2c_l2 = w2c_j0;
+    w2c_j0 = w2c_l4;
+    w2c_j1 = 18446744073709551607ull;
+    w2c_j0 += w2c_j1;
+    w2c_l4 = w2c_j0;
+    w2c_j1 = 7ull;
+    w2c_i0 = w2c_j0 > w2c_j1;
+    if (w2c_i0) {goto w2c_L2;}
+  w2c_B1:;
+  w2c_j0 = w2c_l2;
+  w2c_j1 = w2c_p1;
+  w2c_i0 = w2c_j0 >= w2c_j1;
+  if (w2c_i0) {goto w2c_B3;}
+  w2c_L4:
+    w2c_j0 = w2c_l3;
+    w2c_j1 = 1ull;
+    w2c_j0 += w2c_j1;
+    w2c_l3 = w2c_j0;
+    w2c_j0 = w2c_p0;
+    w2c_j1 = w2c_l2;
+    w2c_j0 += w2c_j1;
+    w2c_i0 = (u32)(w2c_j0);
+    w2c_i0 = i32_load8_u(m, (u64)(w2c_i0));
+    w2c_i1 = 1u;
+    w2c_i0 >>= (w2c_i1 & 31);
+    w2c_j0 = (u64)(w2c_i0);
+    w2c_j1 = 120ull;
+    w2c_j0 &= w2c_j1;
+    w2c_j1 = 66848ull;
+    w2c_j0 += w2c_j1;
+    w2c_i0 = (u32)(w2c_j0);
+    w2c_j0 = i64_load(m, (u64)(w2c_i0));
+    w2c_j1 = w2c_l2;
+    w2c_j0 += w2c_j1;
+    w2c_l2 = w2c_j0;
+    w2c_j1 = w2c_p1;
+    w2c_i0 = w2c_j0 < w2c_j1;
+    if (w2c_i0) {goto w2c_L4;}
+  w2c_B3:;
+  w2c_j0 = w2c_l3;
+  goto w2c_Bfunc;
+  w2c_B0:;
+  UNREACHABLE;
+  w2c_Bfunc:;
+  return w2c_j0;
+}
+
+static void w2c_f39(module *m, u64 w2c_p0, u32 w2c_p1, u64 w2c_p2, u64 w2c_p3, u64 w2c_p4, u64 w2c_p5) {
   u64 w2c_l6 = 0, w2c_l7 = 0, w2c_l8 = 0, w2c_l9 = 0;
   u32 w2c_i0, w2c_i1, w2c_i2;
   u64 w2c_j0, w2c_j1, w2c_j2, w2c_j3, w2c_j4;
@@ -28934,7 +30568,7 @@ static void w2c_f37(module *m, u64 w2c_p0, u32 w2c_p1, u64 w2c_p2, u64 w2c_p3, u
   w2c_j0 += w2c_j1;
   w2c_j1 = w2c_p4;
   w2c_j2 = w2c_p5;
-  w2c_f33(m, w2c_j0, w2c_j1, w2c_j2);
+  w2c_f34(m, w2c_j0, w2c_j1, w2c_j2);
   w2c_j0 = w2c_l6;
   w2c_i0 = (u32)(w2c_j0);
   w2c_i0 = i32_load8_u(m, (u64)(w2c_i0) + 80u);
@@ -28965,7 +30599,7 @@ static void w2c_f37(module *m, u64 w2c_p0, u32 w2c_p1, u64 w2c_p2, u64 w2c_p3, u
     w2c_j1 = w2c_l6;
     w2c_i1 = (u32)(w2c_j1);
     w2c_i1 = i32_load(m, (u64)(w2c_i1) + 88u);
-    w2c_f25(m, w2c_j0, w2c_i1);
+    w2c_f22(m, w2c_j0, w2c_i1);
     w2c_j0 = w2c_l6;
     w2c_i0 = (u32)(w2c_j0);
     w2c_i0 = i32_load8_u(m, (u64)(w2c_i0) + 72u);
@@ -29089,7 +30723,7 @@ static void w2c_f37(module *m, u64 w2c_p0, u32 w2c_p1, u64 w2c_p2, u64 w2c_p3, u
     w2c_j0 += w2c_j1;
     w2c_j1 = w2c_p4;
     w2c_j2 = w2c_p5;
-    w2c_f33(m, w2c_j0, w2c_j1, w2c_j2);
+    w2c_f34(m, w2c_j0, w2c_j1, w2c_j2);
     w2c_j0 = w2c_l6;
     w2c_i0 = (u32)(w2c_j0);
     w2c_i0 = i32_load8_u(m, (u64)(w2c_i0) + 80u);
@@ -29146,7 +30780,7 @@ static void w2c_f37(module *m, u64 w2c_p0, u32 w2c_p1, u64 w2c_p2, u64 w2c_p3, u
   w2c_Bfunc:;
 }
 
-static void w2c_f38(module *m, u64 w2c_p0, u32 w2c_p1, u32 w2c_p2) {
+static void w2c_f40(module *m, u64 w2c_p0, u32 w2c_p1, u32 w2c_p2) {
   u32 w2c_l4 = 0;
   u64 w2c_l3 = 0;
   u32 w2c_i0, w2c_i1;
@@ -29289,7 +30923,7 @@ static void w2c_f38(module *m, u64 w2c_p0, u32 w2c_p1, u32 w2c_p2) {
   w2c_Bfunc:;
 }
 
-static void w2c_f39(module *m, u64 w2c_p0, u64 w2c_p1, u64 w2c_p2) {
+static void w2c_f41(module *m, u64 w2c_p0, u64 w2c_p1, u64 w2c_p2) {
   u32 w2c_l5 = 0, w2c_l6 = 0, w2c_l7 = 0, w2c_l8 = 0;
   u64 w2c_l3 = 0, w2c_l4 = 0;
   u32 w2c_i0, w2c_i1, w2c_i2, w2c_i3;
@@ -29327,7 +30961,7 @@ static void w2c_f39(module *m, u64 w2c_p0, u64 w2c_p1, u64 w2c_p2) {
   w2c_j0 += w2c_j1;
   w2c_j1 = w2c_p1;
   w2c_j2 = w2c_p2;
-  w2c_f33(m, w2c_j0, w2c_j1, w2c_j2);
+  w2c_f34(m, w2c_j0, w2c_j1, w2c_j2);
   w2c_i0 = 1u;
   w2c_l5 = w2c_i0;
   w2c_j0 = w2c_l3;
@@ -29358,7 +30992,7 @@ static void w2c_f39(module *m, u64 w2c_p0, u64 w2c_p1, u64 w2c_p2) {
   w2c_j3 = w2c_l3;
   w2c_i3 = (u32)(w2c_j3);
   w2c_j3 = i64_load(m, (u64)(w2c_i3) + 56u);
-  w2c_f41(m, w2c_j0, w2c_i1, w2c_j2, w2c_j3);
+  w2c_f43(m, w2c_j0, w2c_i1, w2c_j2, w2c_j3);
   w2c_j0 = w2c_l3;
   w2c_i0 = (u32)(w2c_j0);
   w2c_j0 = i64_load(m, (u64)(w2c_i0) + 24u);
@@ -29393,7 +31027,7 @@ static void w2c_f39(module *m, u64 w2c_p0, u64 w2c_p1, u64 w2c_p2) {
     w2c_j0 += w2c_j1;
     w2c_j1 = w2c_p1;
     w2c_j2 = w2c_p2;
-    w2c_f33(m, w2c_j0, w2c_j1, w2c_j2);
+    w2c_f34(m, w2c_j0, w2c_j1, w2c_j2);
     w2c_j0 = w2c_l3;
     w2c_i0 = (u32)(w2c_j0);
     w2c_i0 = i32_load8_u(m, (u64)(w2c_i0) + 64u);
@@ -29415,7 +31049,7 @@ static void w2c_f39(module *m, u64 w2c_p0, u64 w2c_p1, u64 w2c_p2) {
     w2c_j1 = w2c_l3;
     w2c_i1 = (u32)(w2c_j1);
     w2c_i1 = i32_load(m, (u64)(w2c_i1) + 72u);
-    w2c_f25(m, w2c_j0, w2c_i1);
+    w2c_f22(m, w2c_j0, w2c_i1);
     w2c_j0 = w2c_l3;
     w2c_i0 = (u32)(w2c_j0);
     w2c_i0 = i32_load8_u(m, (u64)(w2c_i0) + 8u);
@@ -29463,7 +31097,7 @@ static void w2c_f39(module *m, u64 w2c_p0, u64 w2c_p1, u64 w2c_p2) {
   w2c_Bfunc:;
 }
 
-static void w2c_f40(module *m, u64 w2c_p0, u32 w2c_p1, u32 w2c_p2, u64 w2c_p3, u64 w2c_p4, u64 w2c_p5, u64 w2c_p6) {
+static void w2c_f42(module *m, u64 w2c_p0, u32 w2c_p1, u32 w2c_p2, u64 w2c_p3, u64 w2c_p4, u64 w2c_p5, u64 w2c_p6) {
   u32 w2c_l11 = 0;
   u64 w2c_l7 = 0, w2c_l8 = 0, w2c_l9 = 0, w2c_l10 = 0;
   u32 w2c_i0, w2c_i1, w2c_i2;
@@ -29515,7 +31149,7 @@ static void w2c_f40(module *m, u64 w2c_p0, u32 w2c_p1, u32 w2c_p2, u64 w2c_p3, u
   w2c_j0 += w2c_j1;
   w2c_j1 = w2c_p5;
   w2c_j2 = w2c_p6;
-  w2c_f33(m, w2c_j0, w2c_j1, w2c_j2);
+  w2c_f34(m, w2c_j0, w2c_j1, w2c_j2);
   w2c_j0 = w2c_l7;
   w2c_i0 = (u32)(w2c_j0);
   w2c_i0 = i32_load8_u(m, (u64)(w2c_i0) + 80u);
@@ -29538,7 +31172,7 @@ static void w2c_f40(module *m, u64 w2c_p0, u32 w2c_p1, u32 w2c_p2, u64 w2c_p3, u
     w2c_j2 = w2c_l7;
     w2c_i2 = (u32)(w2c_j2);
     w2c_i2 = i32_load(m, (u64)(w2c_i2) + 88u);
-    w2c_f38(m, w2c_j0, w2c_i1, w2c_i2);
+    w2c_f40(m, w2c_j0, w2c_i1, w2c_i2);
     w2c_j0 = w2c_l7;
     w2c_i0 = (u32)(w2c_j0);
     w2c_i0 = i32_load8_u(m, (u64)(w2c_i0) + 40u);
@@ -29618,7 +31252,7 @@ static void w2c_f40(module *m, u64 w2c_p0, u32 w2c_p1, u32 w2c_p2, u64 w2c_p3, u
     w2c_j0 += w2c_j1;
     w2c_j1 = w2c_l9;
     w2c_j2 = w2c_l8;
-    w2c_f33(m, w2c_j0, w2c_j1, w2c_j2);
+    w2c_f34(m, w2c_j0, w2c_j1, w2c_j2);
     w2c_j0 = w2c_l7;
     w2c_i0 = (u32)(w2c_j0);
     w2c_i0 = i32_load8_u(m, (u64)(w2c_i0) + 80u);
@@ -29634,7 +31268,7 @@ static void w2c_f40(module *m, u64 w2c_p0, u32 w2c_p1, u32 w2c_p2, u64 w2c_p3, u
   w2c_j3 = w2c_p4;
   w2c_j4 = w2c_p5;
   w2c_j5 = w2c_p6;
-  w2c_f37(m, w2c_j0, w2c_i1, w2c_j2, w2c_j3, w2c_j4, w2c_j5);
+  w2c_f39(m, w2c_j0, w2c_i1, w2c_j2, w2c_j3, w2c_j4, w2c_j5);
   w2c_j0 = w2c_p0;
   w2c_i0 = (u32)(w2c_j0);
   w2c_j1 = 0ull;
@@ -29689,7 +31323,7 @@ static void w2c_f40(module *m, u64 w2c_p0, u32 w2c_p1, u32 w2c_p2, u64 w2c_p3, u
   m->w2c_g0 = w2c_j0;
 }
 
-static void w2c_f41(module *m, u64 w2c_p0, u32 w2c_p1, u64 w2c_p2, u64 w2c_p3) {
+static void w2c_f43(module *m, u64 w2c_p0, u32 w2c_p1, u64 w2c_p2, u64 w2c_p3) {
   u32 w2c_l9 = 0, w2c_l10 = 0, w2c_l11 = 0;
   u64 w2c_l4 = 0, w2c_l5 = 0, w2c_l6 = 0, w2c_l7 = 0, w2c_l8 = 0;
   u32 w2c_i0, w2c_i1, w2c_i2;
@@ -29727,7 +31361,7 @@ static void w2c_f41(module *m, u64 w2c_p0, u32 w2c_p1, u64 w2c_p2, u64 w2c_p3) {
   w2c_j0 += w2c_j1;
   w2c_j1 = w2c_p2;
   w2c_j2 = w2c_p3;
-  w2c_f33(m, w2c_j0, w2c_j1, w2c_j2);
+  w2c_f34(m, w2c_j0, w2c_j1, w2c_j2);
   w2c_j0 = w2c_l4;
   w2c_i0 = (u32)(w2c_j0);
   w2c_i0 = i32_load8_u(m, (u64)(w2c_i0) + 32u);
@@ -29753,7 +31387,7 @@ static void w2c_f41(module *m, u64 w2c_p0, u32 w2c_p1, u64 w2c_p2, u64 w2c_p3) {
   w2c_j2 = w2c_l4;
   w2c_i2 = (u32)(w2c_j2);
   w2c_i2 = i32_load(m, (u64)(w2c_i2) + 40u);
-  w2c_f38(m, w2c_j0, w2c_i1, w2c_i2);
+  w2c_f40(m, w2c_j0, w2c_i1, w2c_i2);
   w2c_j0 = w2c_l4;
   w2c_i0 = (u32)(w2c_j0);
   w2c_i0 = i32_load8_u(m, (u64)(w2c_i0) + 24u);
@@ -29778,7 +31412,7 @@ static void w2c_f41(module *m, u64 w2c_p0, u32 w2c_p1, u64 w2c_p2, u64 w2c_p3) {
     w2c_p3 = w2c_j1;
     w2c_j2 = w2c_l6;
     w2c_p2 = w2c_j2;
-    w2c_f33(m, w2c_j0, w2c_j1, w2c_j2);
+    w2c_f34(m, w2c_j0, w2c_j1, w2c_j2);
     w2c_j0 = w2c_l4;
     w2c_i0 = (u32)(w2c_j0);
     w2c_i0 = i32_load8_u(m, (u64)(w2c_i0) + 32u);
@@ -29800,7 +31434,7 @@ static void w2c_f41(module *m, u64 w2c_p0, u32 w2c_p1, u64 w2c_p2, u64 w2c_p3) {
     w2c_j2 = w2c_l4;
     w2c_i2 = (u32)(w2c_j2);
     w2c_i2 = i32_load(m, (u64)(w2c_i2) + 40u);
-    w2c_f38(m, w2c_j0, w2c_i1, w2c_i2);
+    w2c_f40(m, w2c_j0, w2c_i1, w2c_i2);
     w2c_j0 = w2c_l8;
     w2c_j1 = 18446744073709551615ull;
     w2c_j0 += w2c_j1;
@@ -29847,7 +31481,7 @@ static void w2c_f41(module *m, u64 w2c_p0, u32 w2c_p1, u64 w2c_p2, u64 w2c_p3) {
     w2c_j0 += w2c_j1;
     w2c_j1 = w2c_p3;
     w2c_j2 = w2c_p2;
-    w2c_f33(m, w2c_j0, w2c_j1, w2c_j2);
+    w2c_f34(m, w2c_j0, w2c_j1, w2c_j2);
     w2c_j0 = w2c_l4;
     w2c_i0 = (u32)(w2c_j0);
     w2c_i0 = i32_load8_u(m, (u64)(w2c_i0) + 32u);
@@ -29872,7 +31506,7 @@ static void w2c_f41(module *m, u64 w2c_p0, u32 w2c_p1, u64 w2c_p2, u64 w2c_p3) {
     w2c_j1 = w2c_l4;
     w2c_i1 = (u32)(w2c_j1);
     w2c_i1 = i32_load(m, (u64)(w2c_i1) + 40u);
-    w2c_f25(m, w2c_j0, w2c_i1);
+    w2c_f22(m, w2c_j0, w2c_i1);
     w2c_j0 = w2c_l4;
     w2c_i0 = (u32)(w2c_j0);
     w2c_i0 = i32_load8_u(m, (u64)(w2c_i0) + 8u);
@@ -29916,13 +31550,13 @@ static void w2c_f41(module *m, u64 w2c_p0, u32 w2c_p1, u64 w2c_p2, u64 w2c_p3) {
   w2c_Bfunc:;
 }
 
-static void w2c_f42(module *m, u64 w2c_p0, u32 w2c_p1, u64 w2c_p2, u64 w2c_p3, u64 w2c_p4) {
-  u32 w2c_l9 = 0, w2c_l10 = 0, w2c_l11 = 0, w2c_l12 = 0, w2c_l13 = 0;
+static void w2c_f44(module *m, u64 w2c_p0, u32 w2c_p1, u64 w2c_p2, u64 w2c_p3, u64 w2c_p4) {
+  u32 w2c_l9 = 0, w2c_l10 = 0, w2c_l11 = 0, w2c_l12 = 0, w2c_l13 = 0, w2c_l14 = 0;
   u64 w2c_l5 = 0, w2c_l6 = 0, w2c_l7 = 0, w2c_l8 = 0;
   u32 w2c_i0, w2c_i1, w2c_i2, w2c_i3, w2c_i4, w2c_i5;
   u64 w2c_j0, w2c_j1, w2c_j2, w2c_j3, w2c_j4, w2c_j5;
   w2c_j0 = m->w2c_g0;
-  w2c_j1 = 144ull;
+  w2c_j1 = 192ull;
   w2c_j0 -= w2c_j1;
   w2c_l5 = w2c_j0;
   m->w2c_g0 = w2c_j0;
@@ -29930,23 +31564,11 @@ static void w2c_f42(module *m, u64 w2c_p0, u32 w2c_p1, u64 w2c_p2, u64 w2c_p3, u
   w2c_l5 = w2c_j0;
   w2c_j1 = 16ull;
   w2c_i0 = (u64)((s64)w2c_j0 < (s64)w2c_j1);
-  if (w2c_i0) {goto w2c_B6;}
+  if (w2c_i0) {goto w2c_B9;}
   w2c_j0 = w2c_l5;
   w2c_i0 = (u32)(w2c_j0);
   w2c_j1 = 0ull;
-  i64_store(m, (u64)(w2c_i0) + 88, w2c_j1);
-  w2c_j0 = w2c_l5;
-  w2c_i0 = (u32)(w2c_j0);
-  w2c_j1 = 0ull;
-  i64_store(m, (u64)(w2c_i0) + 80, w2c_j1);
-  w2c_j0 = w2c_l5;
-  w2c_i0 = (u32)(w2c_j0);
-  w2c_j1 = 0ull;
-  i64_store(m, (u64)(w2c_i0) + 72, w2c_j1);
-  w2c_j0 = w2c_l5;
-  w2c_i0 = (u32)(w2c_j0);
-  w2c_j1 = 0ull;
-  i64_store(m, (u64)(w2c_i0) + 64, w2c_j1);
+  i64_store(m, (u64)(w2c_i0) + 40, w2c_j1);
   w2c_j0 = w2c_l5;
   w2c_i0 = (u32)(w2c_j0);
   w2c_j1 = 0ull;
@@ -29954,7 +31576,97 @@ static void w2c_f42(module *m, u64 w2c_p0, u32 w2c_p1, u64 w2c_p2, u64 w2c_p3, u
   w2c_j0 = w2c_l5;
   w2c_i0 = (u32)(w2c_j0);
   w2c_j1 = 0ull;
-  i64_store(m, (u64)(w2c_i0) + 40, w2c_j1);
+  i64_store(m, (u64)(w2c_i0) + 24, w2c_j1);
+  w2c_j0 = w2c_l5;
+  w2c_i0 = (u32)(w2c_j0);
+  w2c_j1 = 0ull;
+  i64_store(m, (u64)(w2c_i0) + 16, w2c_j1);
+  w2c_j0 = w2c_l5;
+  w2c_i0 = (u32)(w2c_j0);
+  w2c_j1 = 0ull;
+  i64_store(m, (u64)(w2c_i0) + 176, w2c_j1);
+  w2c_j0 = w2c_l5;
+  w2c_i0 = (u32)(w2c_j0);
+  w2c_j1 = 0ull;
+  i64_store(m, (u64)(w2c_i0) + 168, w2c_j1);
+  w2c_j0 = w2c_l5;
+  w2c_i0 = (u32)(w2c_j0);
+  w2c_j1 = 0ull;
+  i64_store(m, (u64)(w2c_i0) + 160, w2c_j1);
+  w2c_j0 = w2c_l5;
+  w2c_i0 = (u32)(w2c_j0);
+  w2c_j1 = 0ull;
+  i64_store(m, (u64)(w2c_i0) + 152, w2c_j1);
+  w2c_j0 = w2c_p3;
+  w2c_l6 = w2c_j0;
+  w2c_j0 = w2c_p4;
+  w2c_l7 = w2c_j0;
+  w2c_L10:
+    w2c_j0 = w2c_l5;
+    w2c_j1 = 152ull;
+    w2c_j0 += w2c_j1;
+    w2c_j1 = w2c_l6;
+    w2c_j2 = w2c_l7;
+    w2c_f34(m, w2c_j0, w2c_j1, w2c_j2);
+    w2c_j0 = w2c_l5;
+    w2c_i0 = (u32)(w2c_j0);
+    w2c_i0 = i32_load8_u(m, (u64)(w2c_i0) + 152u);
+    w2c_i1 = 1u;
+    w2c_i0 = w2c_i0 != w2c_i1;
+    if (w2c_i0) {goto w2c_B8;}
+    w2c_j0 = w2c_l5;
+    w2c_i0 = (u32)(w2c_j0);
+    w2c_j0 = i64_load(m, (u64)(w2c_i0) + 176u);
+    w2c_l7 = w2c_j0;
+    w2c_j0 = w2c_l5;
+    w2c_i0 = (u32)(w2c_j0);
+    w2c_j0 = i64_load(m, (u64)(w2c_i0) + 168u);
+    w2c_l6 = w2c_j0;
+    w2c_j0 = w2c_l5;
+    w2c_j1 = 8ull;
+    w2c_j0 += w2c_j1;
+    w2c_j1 = w2c_l5;
+    w2c_i1 = (u32)(w2c_j1);
+    w2c_i1 = i32_load(m, (u64)(w2c_i1) + 160u);
+    w2c_f18(m, w2c_j0, w2c_i1);
+    w2c_j0 = w2c_l5;
+    w2c_i0 = (u32)(w2c_j0);
+    w2c_i0 = i32_load8_u(m, (u64)(w2c_i0) + 8u);
+    w2c_i1 = 1u;
+    w2c_i0 = w2c_i0 == w2c_i1;
+    if (w2c_i0) {goto w2c_L10;}
+  w2c_j0 = w2c_l5;
+  w2c_i0 = (u32)(w2c_j0);
+  w2c_j1 = 0ull;
+  i64_store(m, (u64)(w2c_i0) + 112, w2c_j1);
+  w2c_j0 = w2c_l5;
+  w2c_i0 = (u32)(w2c_j0);
+  w2c_j1 = 0ull;
+  i64_store(m, (u64)(w2c_i0) + 120, w2c_j1);
+  w2c_j0 = w2c_l5;
+  w2c_i0 = (u32)(w2c_j0);
+  w2c_j1 = 0ull;
+  i64_store(m, (u64)(w2c_i0) + 128, w2c_j1);
+  w2c_j0 = w2c_l5;
+  w2c_i0 = (u32)(w2c_j0);
+  w2c_j1 = 0ull;
+  i64_store(m, (u64)(w2c_i0) + 136, w2c_j1);
+  w2c_j0 = w2c_l5;
+  w2c_i0 = (u32)(w2c_j0);
+  w2c_j1 = 0ull;
+  i64_store(m, (u64)(w2c_i0) + 80, w2c_j1);
+  w2c_j0 = w2c_l5;
+  w2c_i0 = (u32)(w2c_j0);
+  w2c_j1 = 0ull;
+  i64_store(m, (u64)(w2c_i0) + 88, w2c_j1);
+  w2c_j0 = w2c_l5;
+  w2c_i0 = (u32)(w2c_j0);
+  w2c_j1 = 0ull;
+  i64_store(m, (u64)(w2c_i0) + 96, w2c_j1);
+  w2c_j0 = w2c_l5;
+  w2c_i0 = (u32)(w2c_j0);
+  w2c_j1 = 0ull;
+  i64_store(m, (u64)(w2c_i0) + 104, w2c_j1);
   w2c_j0 = w2c_l5;
   w2c_i0 = (u32)(w2c_j0);
   w2c_j1 = 0ull;
@@ -29966,65 +31678,15 @@ static void w2c_f42(module *m, u64 w2c_p0, u32 w2c_p1, u64 w2c_p2, u64 w2c_p3, u
   w2c_j0 = w2c_l5;
   w2c_i0 = (u32)(w2c_j0);
   w2c_j1 = 0ull;
-  i64_store(m, (u64)(w2c_i0), w2c_j1);
-  w2c_j0 = w2c_l5;
-  w2c_i0 = (u32)(w2c_j0);
-  w2c_j1 = 0ull;
-  i64_store(m, (u64)(w2c_i0) + 8, w2c_j1);
-  w2c_j0 = w2c_l5;
-  w2c_i0 = (u32)(w2c_j0);
-  w2c_j1 = 0ull;
-  i64_store(m, (u64)(w2c_i0) + 16, w2c_j1);
-  w2c_j0 = w2c_l5;
-  w2c_i0 = (u32)(w2c_j0);
-  w2c_j1 = 0ull;
-  i64_store(m, (u64)(w2c_i0) + 24, w2c_j1);
-  w2c_j0 = w2c_p4;
-  w2c_i0 = !(w2c_j0);
-  w2c_i0 = !(w2c_i0);
-  if (w2c_i0) {goto w2c_B7;}
-  w2c_j0 = w2c_p0;
-  w2c_i0 = (u32)(w2c_j0);
-  w2c_j1 = 1ull;
-  i64_store(m, (u64)(w2c_i0), w2c_j1);
-  w2c_j0 = w2c_p0;
-  w2c_j1 = 8ull;
-  w2c_j0 += w2c_j1;
-  w2c_i0 = (u32)(w2c_j0);
-  w2c_j1 = 0ull;
-  i64_store(m, (u64)(w2c_i0), w2c_j1);
-  w2c_j0 = w2c_p0;
-  w2c_j1 = 16ull;
-  w2c_j0 += w2c_j1;
-  w2c_i0 = (u32)(w2c_j0);
-  w2c_j1 = 0ull;
-  i64_store(m, (u64)(w2c_i0), w2c_j1);
-  w2c_j0 = w2c_p0;
-  w2c_j1 = 24ull;
-  w2c_j0 += w2c_j1;
-  w2c_i0 = (u32)(w2c_j0);
-  w2c_j1 = w2c_l5;
-  w2c_i1 = (u32)(w2c_j1);
-  w2c_j1 = i64_load(m, (u64)(w2c_i1) + 88u);
-  i64_store(m, (u64)(w2c_i0), w2c_j1);
-  w2c_j0 = w2c_l5;
-  w2c_i0 = (u32)(w2c_j0);
-  w2c_j1 = 0ull;
-  i64_store(m, (u64)(w2c_i0) + 80, w2c_j1);
+  i64_store(m, (u64)(w2c_i0) + 64, w2c_j1);
   w2c_j0 = w2c_l5;
   w2c_i0 = (u32)(w2c_j0);
   w2c_j1 = 0ull;
   i64_store(m, (u64)(w2c_i0) + 72, w2c_j1);
-  goto w2c_B0;
-  w2c_B7:;
-  w2c_j0 = w2c_l5;
-  w2c_i0 = (u32)(w2c_j0);
+  w2c_j0 = w2c_p4;
   w2c_j1 = 0ull;
-  i64_store(m, (u64)(w2c_i0) + 136, w2c_j1);
-  w2c_j0 = w2c_l5;
-  w2c_i0 = (u32)(w2c_j0);
-  w2c_j1 = 0ull;
-  i64_store(m, (u64)(w2c_i0) + 128, w2c_j1);
+  w2c_i0 = w2c_j0 != w2c_j1;
+  if (w2c_i0) {goto w2c_B11;}
   w2c_j0 = w2c_l5;
   w2c_i0 = (u32)(w2c_j0);
   w2c_j1 = 0ull;
@@ -30032,40 +31694,85 @@ static void w2c_f42(module *m, u64 w2c_p0, u32 w2c_p1, u64 w2c_p2, u64 w2c_p3, u
   w2c_j0 = w2c_l5;
   w2c_i0 = (u32)(w2c_j0);
   w2c_j1 = 0ull;
-  i64_store(m, (u64)(w2c_i0) + 112, w2c_j1);
+  i64_store(m, (u64)(w2c_i0) + 128, w2c_j1);
   w2c_j0 = w2c_l5;
   w2c_i0 = (u32)(w2c_j0);
   w2c_j1 = 0ull;
-  i64_store(m, (u64)(w2c_i0) + 104, w2c_j1);
+  i64_store(m, (u64)(w2c_i0) + 32, w2c_j1);
+  w2c_j0 = w2c_l5;
+  w2c_i0 = (u32)(w2c_j0);
+  w2c_j1 = w2c_l5;
+  w2c_i1 = (u32)(w2c_j1);
+  w2c_j1 = i64_load(m, (u64)(w2c_i1) + 136u);
+  i64_store(m, (u64)(w2c_i0) + 40, w2c_j1);
+  w2c_i0 = 1u;
+  w2c_l9 = w2c_i0;
+  w2c_i0 = 0u;
+  w2c_p1 = w2c_i0;
+  goto w2c_B0;
+  w2c_B11:;
+  w2c_j0 = w2c_l5;
+  w2c_i0 = (u32)(w2c_j0);
+  w2c_j1 = 0ull;
+  i64_store(m, (u64)(w2c_i0) + 184, w2c_j1);
+  w2c_j0 = w2c_l5;
+  w2c_i0 = (u32)(w2c_j0);
+  w2c_j1 = 0ull;
+  i64_store(m, (u64)(w2c_i0) + 176, w2c_j1);
+  w2c_j0 = w2c_l5;
+  w2c_i0 = (u32)(w2c_j0);
+  w2c_j1 = 0ull;
+  i64_store(m, (u64)(w2c_i0) + 168, w2c_j1);
+  w2c_j0 = w2c_l5;
+  w2c_i0 = (u32)(w2c_j0);
+  w2c_j1 = 0ull;
+  i64_store(m, (u64)(w2c_i0) + 160, w2c_j1);
+  w2c_j0 = w2c_l5;
+  w2c_i0 = (u32)(w2c_j0);
+  w2c_j1 = 0ull;
+  i64_store(m, (u64)(w2c_i0) + 152, w2c_j1);
   w2c_j0 = w2c_p4;
   w2c_j1 = 3ull;
   w2c_i0 = w2c_j0 < w2c_j1;
-  if (w2c_i0) {goto w2c_B10;}
+  if (w2c_i0) {goto w2c_B5;}
   w2c_j0 = w2c_p3;
   w2c_i0 = (u32)(w2c_j0);
   w2c_i0 = i32_load8_u(m, (u64)(w2c_i0));
-  w2c_l9 = w2c_i0;
+  w2c_l10 = w2c_i0;
   w2c_i1 = 240u;
   w2c_i0 &= w2c_i1;
   w2c_i1 = 224u;
   w2c_i0 = w2c_i0 != w2c_i1;
-  if (w2c_i0) {goto w2c_B10;}
+  if (w2c_i0) {goto w2c_B5;}
   w2c_j0 = w2c_p3;
   w2c_i0 = (u32)(w2c_j0);
   w2c_i0 = i32_load8_u(m, (u64)(w2c_i0) + 1u);
-  w2c_l10 = w2c_i0;
-  w2c_i1 = 8u;
+  w2c_l11 = w2c_i0;
+  w2c_i1 = 6u;
   w2c_i0 <<= (w2c_i1 & 31);
+  w2c_i1 = w2c_l10;
+  w2c_i2 = 12u;
+  w2c_i1 <<= (w2c_i2 & 31);
+  w2c_i0 += w2c_i1;
   w2c_j1 = w2c_p3;
   w2c_i1 = (u32)(w2c_j1);
   w2c_i1 = i32_load8_u(m, (u64)(w2c_i1) + 2u);
-  w2c_l11 = w2c_i1;
+  w2c_l12 = w2c_i1;
+  w2c_i0 += w2c_i1;
+  w2c_l13 = w2c_i0;
+  w2c_i1 = 4294041472u;
+  w2c_i0 += w2c_i1;
+  w2c_l9 = w2c_i0;
+  w2c_i0 = w2c_l11;
+  w2c_i1 = 8u;
+  w2c_i0 <<= (w2c_i1 & 31);
+  w2c_i1 = w2c_l12;
   w2c_i2 = 16u;
   w2c_i1 <<= (w2c_i2 & 31);
   w2c_i0 |= w2c_i1;
-  w2c_i1 = w2c_l9;
+  w2c_i1 = w2c_l10;
   w2c_i0 |= w2c_i1;
-  w2c_l12 = w2c_i0;
+  w2c_l10 = w2c_i0;
   w2c_j0 = (u64)(w2c_i0);
   w2c_j1 = 953497ull;
   w2c_j0 *= w2c_j1;
@@ -30076,9 +31783,9 @@ static void w2c_f42(module *m, u64 w2c_p0, u32 w2c_p1, u64 w2c_p2, u64 w2c_p3, u
   w2c_l6 = w2c_j0;
   w2c_i0 = (u32)(w2c_j0);
   w2c_i0 = i32_load(m, (u64)(w2c_i0) + 66992u);
-  w2c_i1 = w2c_l12;
+  w2c_i1 = w2c_l10;
   w2c_i0 = w2c_i0 != w2c_i1;
-  if (w2c_i0) {goto w2c_B10;}
+  if (w2c_i0) {goto w2c_B12;}
   w2c_j0 = w2c_l6;
   w2c_j1 = 66996ull;
   w2c_j0 += w2c_j1;
@@ -30087,271 +31794,144 @@ static void w2c_f42(module *m, u64 w2c_p0, u32 w2c_p1, u64 w2c_p2, u64 w2c_p3, u
   w2c_i1 = 255u;
   w2c_i0 &= w2c_i1;
   w2c_i1 = 2u;
-  w2c_i0 = w2c_i0 == w2c_i1;
-  if (w2c_i0) {goto w2c_B10;}
+  w2c_i0 = w2c_i0 != w2c_i1;
+  if (w2c_i0) {goto w2c_B6;}
+  w2c_B12:;
   w2c_i0 = w2c_l9;
-  w2c_i1 = 12u;
-  w2c_i0 <<= (w2c_i1 & 31);
+  w2c_i1 = 127u;
+  w2c_i0 = w2c_i0 > w2c_i1;
+  if (w2c_i0) {goto w2c_B13;}
+  w2c_i0 = w2c_l13;
+  w2c_i1 = 4294041463u;
+  w2c_i0 += w2c_i1;
+  w2c_i1 = 5u;
+  w2c_i0 = w2c_i0 < w2c_i1;
+  if (w2c_i0) {goto w2c_B5;}
+  w2c_i0 = w2c_l13;
+  w2c_i1 = 925856u;
+  w2c_i0 = w2c_i0 != w2c_i1;
+  if (w2c_i0) {goto w2c_B6;}
+  goto w2c_B5;
+  w2c_B13:;
+  w2c_i0 = w2c_l13;
+  w2c_i1 = 4294033280u;
+  w2c_i0 += w2c_i1;
+  w2c_i1 = 11u;
+  w2c_i0 = w2c_i0 < w2c_i1;
+  if (w2c_i0) {goto w2c_B5;}
+  w2c_i0 = w2c_l13;
+  w2c_i1 = 934055u;
+  w2c_i0 = (u32)((s32)w2c_i0 > (s32)w2c_i1);
+  if (w2c_i0) {goto w2c_B14;}
+  w2c_i0 = w2c_l13;
+  w2c_i1 = 925957u;
+  w2c_i0 = w2c_i0 == w2c_i1;
+  if (w2c_i0) {goto w2c_B5;}
+  w2c_i0 = w2c_l13;
+  w2c_i1 = 925984u;
+  w2c_i0 = w2c_i0 == w2c_i1;
+  if (w2c_i0) {goto w2c_B5;}
+  w2c_i0 = w2c_l13;
+  w2c_i1 = 931584u;
+  w2c_i0 = w2c_i0 != w2c_i1;
+  if (w2c_i0) {goto w2c_B6;}
+  goto w2c_B5;
+  w2c_B14:;
+  w2c_i0 = w2c_l13;
+  w2c_i1 = 4294033240u;
+  w2c_i0 += w2c_i1;
+  w2c_l10 = w2c_i0;
+  w2c_i1 = 55u;
+  w2c_i0 = w2c_i0 > w2c_i1;
+  if (w2c_i0) {goto w2c_B7;}
+  w2c_j0 = 1ull;
   w2c_i1 = w2c_l10;
-  w2c_i2 = 6u;
-  w2c_i1 <<= (w2c_i2 & 31);
-  w2c_i0 += w2c_i1;
-  w2c_i1 = w2c_l11;
-  w2c_i0 += w2c_i1;
-  w2c_i1 = 4294041472u;
-  w2c_i0 += w2c_i1;
-  w2c_l9 = w2c_i0;
-  w2c_j0 = w2c_p3;
-  w2c_j1 = 3ull;
+  w2c_j1 = (u64)(w2c_i1);
+  w2c_j0 <<= (w2c_j1 & 63);
+  w2c_j1 = 36028797018964099ull;
+  w2c_j0 &= w2c_j1;
+  w2c_j1 = 0ull;
+  w2c_i0 = w2c_j0 == w2c_j1;
+  if (w2c_i0) {goto w2c_B7;}
+  goto w2c_B5;
+  w2c_B9:;
+  UNREACHABLE;
+  w2c_B8:;
+  w2c_j0 = w2c_l5;
+  w2c_j1 = 16ull;
   w2c_j0 += w2c_j1;
-  w2c_p3 = w2c_j0;
+  w2c_j1 = w2c_p2;
+  w2c_j2 = w2c_p3;
+  w2c_j3 = w2c_p4;
+  w2c_f45(m, w2c_j0, w2c_j1, w2c_j2, w2c_j3);
+  w2c_j0 = w2c_l5;
+  w2c_i0 = (u32)(w2c_j0);
+  w2c_i0 = i32_load8_u(m, (u64)(w2c_i0) + 24u);
+  w2c_p1 = w2c_i0;
+  w2c_j0 = w2c_l5;
+  w2c_i0 = (u32)(w2c_j0);
+  w2c_i0 = i32_load8_u(m, (u64)(w2c_i0) + 16u);
+  w2c_l9 = w2c_i0;
+  goto w2c_B0;
+  w2c_B7:;
+  w2c_i0 = w2c_l13;
+  w2c_i1 = 938112u;
+  w2c_i0 = w2c_i0 == w2c_i1;
+  if (w2c_i0) {goto w2c_B5;}
+  w2c_B6:;
   w2c_j0 = w2c_p4;
   w2c_j1 = 18446744073709551613ull;
   w2c_j0 += w2c_j1;
-  w2c_p4 = w2c_j0;
-  w2c_j0 = 0ull;
   w2c_l6 = w2c_j0;
-  goto w2c_B9;
-  w2c_B10:;
-  w2c_j0 = w2c_l5;
-  w2c_j1 = 104ull;
-  w2c_j0 += w2c_j1;
-  w2c_j1 = w2c_p3;
-  w2c_j2 = w2c_p4;
-  w2c_f32(m, w2c_j0, w2c_j1, w2c_j2);
-  w2c_j0 = w2c_l5;
-  w2c_i0 = (u32)(w2c_j0);
-  w2c_i0 = i32_load8_u(m, (u64)(w2c_i0) + 104u);
-  w2c_i1 = 1u;
-  w2c_i0 = w2c_i0 != w2c_i1;
-  if (w2c_i0) {goto w2c_B8;}
-  w2c_j0 = w2c_l5;
-  w2c_i0 = (u32)(w2c_j0);
-  w2c_j0 = i64_load(m, (u64)(w2c_i0) + 136u);
-  w2c_p4 = w2c_j0;
-  w2c_j0 = w2c_l5;
-  w2c_i0 = (u32)(w2c_j0);
-  w2c_j0 = i64_load(m, (u64)(w2c_i0) + 128u);
-  w2c_p3 = w2c_j0;
-  w2c_j0 = w2c_l5;
-  w2c_i0 = (u32)(w2c_j0);
-  w2c_j0 = i64_load(m, (u64)(w2c_i0) + 120u);
-  w2c_l6 = w2c_j0;
-  w2c_j0 = w2c_l5;
-  w2c_i0 = (u32)(w2c_j0);
-  w2c_i0 = i32_load(m, (u64)(w2c_i0) + 112u);
-  w2c_l9 = w2c_i0;
-  w2c_B9:;
-  w2c_j0 = w2c_l6;
-  w2c_j1 = w2c_p2;
+  w2c_j0 = w2c_p3;
+  w2c_j1 = 3ull;
   w2c_j0 += w2c_j1;
   w2c_l7 = w2c_j0;
-  w2c_j0 = w2c_p4;
-  w2c_j1 = 4ull;
-  w2c_i0 = w2c_j0 < w2c_j1;
-  if (w2c_i0) {goto w2c_B14;}
-  w2c_j0 = w2c_p3;
-  w2c_j1 = w2c_p4;
-  w2c_j0 += w2c_j1;
-  w2c_j1 = 18446744073709551612ull;
-  w2c_j0 += w2c_j1;
-  w2c_i0 = (u32)(w2c_j0);
-  w2c_i0 = i32_load(m, (u64)(w2c_i0));
-  w2c_i1 = 8u;
-  w2c_i0 >>= (w2c_i1 & 31);
-  w2c_l12 = w2c_i0;
-  w2c_j0 = (u64)(w2c_i0);
-  w2c_j1 = 953497ull;
-  w2c_j0 *= w2c_j1;
-  w2c_j1 = 22ull;
-  w2c_j0 >>= (w2c_j1 & 63);
-  w2c_j1 = 1016ull;
-  w2c_j0 &= w2c_j1;
-  w2c_l8 = w2c_j0;
-  w2c_j1 = 66992ull;
-  w2c_j0 += w2c_j1;
-  w2c_i0 = (u32)(w2c_j0);
-  w2c_i0 = i32_load(m, (u64)(w2c_i0));
-  w2c_i1 = w2c_l12;
-  w2c_i0 = w2c_i0 != w2c_i1;
-  if (w2c_i0) {goto w2c_B12;}
-  w2c_j0 = w2c_p4;
-  w2c_j1 = 18446744073709551613ull;
-  w2c_j0 += w2c_j1;
-  w2c_p2 = w2c_j0;
-  w2c_j0 = w2c_p3;
-  w2c_l6 = w2c_j0;
-  goto w2c_B13;
-  w2c_B14:;
-  w2c_j0 = w2c_p4;
-  w2c_j1 = 3ull;
-  w2c_i0 = w2c_j0 != w2c_j1;
-  if (w2c_i0) {goto w2c_B12;}
-  w2c_j0 = w2c_p3;
-  w2c_i0 = (u32)(w2c_j0);
-  w2c_i0 = i32_load16_u(m, (u64)(w2c_i0));
-  w2c_j1 = w2c_p3;
-  w2c_i1 = (u32)(w2c_j1);
-  w2c_i1 = i32_load8_u(m, (u64)(w2c_i1) + 2u);
-  w2c_i2 = 16u;
-  w2c_i1 <<= (w2c_i2 & 31);
-  w2c_i0 |= w2c_i1;
-  w2c_l12 = w2c_i0;
-  w2c_j0 = (u64)(w2c_i0);
-  w2c_j1 = 953497ull;
-  w2c_j0 *= w2c_j1;
-  w2c_j1 = 22ull;
-  w2c_j0 >>= (w2c_j1 & 63);
-  w2c_j1 = 1016ull;
-  w2c_j0 &= w2c_j1;
-  w2c_l8 = w2c_j0;
-  w2c_j1 = 66992ull;
-  w2c_j0 += w2c_j1;
-  w2c_i0 = (u32)(w2c_j0);
-  w2c_i0 = i32_load(m, (u64)(w2c_i0));
-  w2c_i1 = w2c_l12;
-  w2c_i0 = w2c_i0 != w2c_i1;
-  if (w2c_i0) {goto w2c_B12;}
-  w2c_j0 = w2c_p3;
-  w2c_j1 = 3ull;
-  w2c_j0 += w2c_j1;
-  w2c_l6 = w2c_j0;
   w2c_j0 = 0ull;
-  w2c_p2 = w2c_j0;
-  w2c_B13:;
-  w2c_j0 = w2c_l8;
-  w2c_j1 = 66996ull;
-  w2c_j0 += w2c_j1;
-  w2c_i0 = (u32)(w2c_j0);
-  w2c_i0 = i32_load8_u(m, (u64)(w2c_i0));
-  w2c_l12 = w2c_i0;
-  w2c_j0 = w2c_l8;
-  w2c_j1 = 66997ull;
-  w2c_j0 += w2c_j1;
-  w2c_i0 = (u32)(w2c_j0);
-  w2c_i0 = i32_load8_u(m, (u64)(w2c_i0));
-  w2c_l11 = w2c_i0;
-  goto w2c_B11;
-  w2c_B12:;
+  w2c_p4 = w2c_j0;
+  goto w2c_B4;
+  w2c_B5:;
   w2c_j0 = w2c_l5;
-  w2c_i0 = (u32)(w2c_j0);
-  w2c_j1 = 0ull;
-  i64_store(m, (u64)(w2c_i0) + 128, w2c_j1);
-  w2c_j0 = w2c_l5;
-  w2c_i0 = (u32)(w2c_j0);
-  w2c_j1 = 0ull;
-  i64_store(m, (u64)(w2c_i0) + 120, w2c_j1);
-  w2c_j0 = w2c_l5;
-  w2c_i0 = (u32)(w2c_j0);
-  w2c_j1 = 0ull;
-  i64_store(m, (u64)(w2c_i0) + 112, w2c_j1);
-  w2c_j0 = w2c_l5;
-  w2c_i0 = (u32)(w2c_j0);
-  w2c_j1 = 0ull;
-  i64_store(m, (u64)(w2c_i0) + 104, w2c_j1);
-  w2c_j0 = w2c_l5;
-  w2c_j1 = 104ull;
+  w2c_j1 = 152ull;
   w2c_j0 += w2c_j1;
   w2c_j1 = w2c_p3;
   w2c_j2 = w2c_p4;
-  w2c_f35(m, w2c_j0, w2c_j1, w2c_j2);
+  w2c_f33(m, w2c_j0, w2c_j1, w2c_j2);
+  w2c_i0 = 1u;
+  w2c_l9 = w2c_i0;
   w2c_j0 = w2c_l5;
   w2c_i0 = (u32)(w2c_j0);
-  w2c_i0 = i32_load8_u(m, (u64)(w2c_i0) + 104u);
+  w2c_i0 = i32_load8_u(m, (u64)(w2c_i0) + 152u);
   w2c_i1 = 1u;
   w2c_i0 = w2c_i0 != w2c_i1;
   if (w2c_i0) {goto w2c_B3;}
   w2c_j0 = w2c_l5;
   w2c_i0 = (u32)(w2c_j0);
-  w2c_i0 = i32_load(m, (u64)(w2c_i0) + 112u);
-  w2c_l12 = w2c_i0;
-  w2c_i1 = 4294965248u;
-  w2c_i0 += w2c_i1;
-  w2c_i1 = 63487u;
-  w2c_i0 = w2c_i0 > w2c_i1;
-  if (w2c_i0) {goto w2c_B16;}
-  w2c_i0 = w2c_l12;
-  w2c_i1 = 12u;
-  w2c_i0 >>= (w2c_i1 & 31);
-  w2c_i1 = w2c_l12;
-  w2c_i2 = 2u;
-  w2c_i1 <<= (w2c_i2 & 31);
-  w2c_i2 = 16128u;
-  w2c_i1 &= w2c_i2;
-  w2c_i0 |= w2c_i1;
-  w2c_i1 = w2c_l12;
-  w2c_i2 = 16u;
-  w2c_i1 <<= (w2c_i2 & 31);
-  w2c_i2 = 4128768u;
-  w2c_i1 &= w2c_i2;
-  w2c_i0 |= w2c_i1;
-  w2c_i1 = 8421600u;
-  w2c_i0 |= w2c_i1;
-  w2c_l12 = w2c_i0;
-  w2c_j0 = (u64)(w2c_i0);
-  w2c_j1 = 953497ull;
-  w2c_j0 *= w2c_j1;
-  w2c_j1 = 22ull;
-  w2c_j0 >>= (w2c_j1 & 63);
-  w2c_j1 = 1016ull;
-  w2c_j0 &= w2c_j1;
-  w2c_p2 = w2c_j0;
-  w2c_j1 = 66997ull;
-  w2c_j0 += w2c_j1;
-  w2c_i0 = (u32)(w2c_j0);
-  w2c_i0 = i32_load8_u(m, (u64)(w2c_i0));
-  w2c_i1 = 0u;
-  w2c_j2 = w2c_p2;
-  w2c_i2 = (u32)(w2c_j2);
-  w2c_i2 = i32_load(m, (u64)(w2c_i2) + 66992u);
-  w2c_i3 = w2c_l12;
-  w2c_i2 = w2c_i2 == w2c_i3;
-  w2c_l12 = w2c_i2;
-  w2c_i0 = w2c_i2 ? w2c_i0 : w2c_i1;
-  w2c_l11 = w2c_i0;
-  w2c_j0 = w2c_p2;
-  w2c_j1 = 66996ull;
-  w2c_j0 += w2c_j1;
-  w2c_i0 = (u32)(w2c_j0);
-  w2c_i0 = i32_load8_u(m, (u64)(w2c_i0));
-  w2c_i1 = 2u;
-  w2c_i2 = w2c_l12;
-  w2c_i0 = w2c_i2 ? w2c_i0 : w2c_i1;
-  w2c_l12 = w2c_i0;
-  goto w2c_B15;
-  w2c_B16:;
-  w2c_i0 = w2c_l12;
-  w2c_i1 = 4294967248u;
-  w2c_i0 += w2c_i1;
-  w2c_l12 = w2c_i0;
-  w2c_i1 = 0u;
-  w2c_i2 = w2c_l12;
-  w2c_i3 = 10u;
-  w2c_i2 = w2c_i2 < w2c_i3;
-  w2c_l12 = w2c_i2;
-  w2c_i0 = w2c_i2 ? w2c_i0 : w2c_i1;
-  w2c_l11 = w2c_i0;
-  w2c_i0 = 0u;
-  w2c_i1 = 2u;
-  w2c_i2 = w2c_l12;
-  w2c_i0 = w2c_i2 ? w2c_i0 : w2c_i1;
-  w2c_l12 = w2c_i0;
-  w2c_B15:;
-  w2c_j0 = w2c_l5;
-  w2c_i0 = (u32)(w2c_j0);
-  w2c_j0 = i64_load(m, (u64)(w2c_i0) + 128u);
-  w2c_p2 = w2c_j0;
-  w2c_j0 = w2c_l5;
-  w2c_i0 = (u32)(w2c_j0);
-  w2c_j0 = i64_load(m, (u64)(w2c_i0) + 120u);
+  w2c_j0 = i64_load(m, (u64)(w2c_i0) + 184u);
   w2c_l6 = w2c_j0;
-  w2c_B11:;
-  w2c_j0 = w2c_p2;
+  w2c_j0 = w2c_l5;
+  w2c_i0 = (u32)(w2c_j0);
+  w2c_j0 = i64_load(m, (u64)(w2c_i0) + 176u);
+  w2c_l7 = w2c_j0;
+  w2c_j0 = w2c_l5;
+  w2c_i0 = (u32)(w2c_j0);
+  w2c_j0 = i64_load(m, (u64)(w2c_i0) + 168u);
+  w2c_p4 = w2c_j0;
+  w2c_j0 = w2c_l5;
+  w2c_i0 = (u32)(w2c_j0);
+  w2c_i0 = i32_load(m, (u64)(w2c_i0) + 160u);
+  w2c_l9 = w2c_i0;
+  w2c_B4:;
+  w2c_j0 = w2c_p4;
+  w2c_j1 = w2c_p2;
+  w2c_j0 += w2c_j1;
+  w2c_p3 = w2c_j0;
+  w2c_j0 = w2c_l6;
   w2c_j1 = 4ull;
   w2c_i0 = w2c_j0 < w2c_j1;
   if (w2c_i0) {goto w2c_B18;}
-  w2c_j0 = w2c_l6;
-  w2c_j1 = w2c_p2;
+  w2c_j0 = w2c_l7;
+  w2c_j1 = w2c_l6;
   w2c_j0 += w2c_j1;
   w2c_j1 = 18446744073709551612ull;
   w2c_j0 += w2c_j1;
@@ -30374,17 +31954,23 @@ static void w2c_f42(module *m, u64 w2c_p0, u32 w2c_p1, u64 w2c_p2, u64 w2c_p3, u
   w2c_i0 = i32_load(m, (u64)(w2c_i0));
   w2c_i1 = w2c_l10;
   w2c_i0 = w2c_i0 != w2c_i1;
-  if (w2c_i0) {goto w2c_B17;}
-  goto w2c_B5;
+  if (w2c_i0) {goto w2c_B16;}
+  w2c_j0 = w2c_l6;
+  w2c_j1 = 18446744073709551613ull;
+  w2c_j0 += w2c_j1;
+  w2c_p4 = w2c_j0;
+  w2c_j0 = w2c_l7;
+  w2c_p2 = w2c_j0;
+  goto w2c_B17;
   w2c_B18:;
-  w2c_j0 = w2c_p2;
+  w2c_j0 = w2c_l6;
   w2c_j1 = 3ull;
   w2c_i0 = w2c_j0 != w2c_j1;
-  if (w2c_i0) {goto w2c_B17;}
-  w2c_j0 = w2c_l6;
+  if (w2c_i0) {goto w2c_B16;}
+  w2c_j0 = w2c_l7;
   w2c_i0 = (u32)(w2c_j0);
   w2c_i0 = i32_load16_u(m, (u64)(w2c_i0));
-  w2c_j1 = w2c_l6;
+  w2c_j1 = w2c_l7;
   w2c_i1 = (u32)(w2c_j1);
   w2c_i1 = i32_load8_u(m, (u64)(w2c_i1) + 2u);
   w2c_i2 = 16u;
@@ -30404,46 +31990,66 @@ static void w2c_f42(module *m, u64 w2c_p0, u32 w2c_p1, u64 w2c_p2, u64 w2c_p3, u
   w2c_i0 = (u32)(w2c_j0);
   w2c_i0 = i32_load(m, (u64)(w2c_i0));
   w2c_i1 = w2c_l10;
-  w2c_i0 = w2c_i0 == w2c_i1;
-  if (w2c_i0) {goto w2c_B5;}
-  w2c_B17:;
-  w2c_j0 = w2c_l5;
-  w2c_i0 = (u32)(w2c_j0);
-  w2c_j1 = 0ull;
-  i64_store(m, (u64)(w2c_i0) + 128, w2c_j1);
-  w2c_j0 = w2c_l5;
-  w2c_i0 = (u32)(w2c_j0);
-  w2c_j1 = 0ull;
-  i64_store(m, (u64)(w2c_i0) + 120, w2c_j1);
-  w2c_j0 = w2c_l5;
-  w2c_i0 = (u32)(w2c_j0);
-  w2c_j1 = 0ull;
-  i64_store(m, (u64)(w2c_i0) + 112, w2c_j1);
-  w2c_j0 = w2c_l5;
-  w2c_i0 = (u32)(w2c_j0);
-  w2c_j1 = 0ull;
-  i64_store(m, (u64)(w2c_i0) + 104, w2c_j1);
-  w2c_j0 = w2c_l5;
-  w2c_j1 = 104ull;
+  w2c_i0 = w2c_i0 != w2c_i1;
+  if (w2c_i0) {goto w2c_B16;}
+  w2c_j0 = w2c_l7;
+  w2c_j1 = 3ull;
   w2c_j0 += w2c_j1;
-  w2c_j1 = w2c_l6;
-  w2c_j2 = w2c_p2;
-  w2c_f35(m, w2c_j0, w2c_j1, w2c_j2);
+  w2c_p2 = w2c_j0;
+  w2c_j0 = 0ull;
+  w2c_p4 = w2c_j0;
+  w2c_B17:;
+  w2c_j0 = w2c_l8;
+  w2c_j1 = 66996ull;
+  w2c_j0 += w2c_j1;
+  w2c_i0 = (u32)(w2c_j0);
+  w2c_i0 = i32_load8_u(m, (u64)(w2c_i0));
+  w2c_l12 = w2c_i0;
+  w2c_j0 = w2c_l8;
+  w2c_j1 = 66997ull;
+  w2c_j0 += w2c_j1;
+  w2c_i0 = (u32)(w2c_j0);
+  w2c_i0 = i32_load8_u(m, (u64)(w2c_i0));
+  w2c_l13 = w2c_i0;
+  goto w2c_B15;
+  w2c_B16:;
   w2c_j0 = w2c_l5;
   w2c_i0 = (u32)(w2c_j0);
-  w2c_i0 = i32_load8_u(m, (u64)(w2c_i0) + 104u);
+  w2c_j1 = 0ull;
+  i64_store(m, (u64)(w2c_i0) + 176, w2c_j1);
+  w2c_j0 = w2c_l5;
+  w2c_i0 = (u32)(w2c_j0);
+  w2c_j1 = 0ull;
+  i64_store(m, (u64)(w2c_i0) + 168, w2c_j1);
+  w2c_j0 = w2c_l5;
+  w2c_i0 = (u32)(w2c_j0);
+  w2c_j1 = 0ull;
+  i64_store(m, (u64)(w2c_i0) + 160, w2c_j1);
+  w2c_j0 = w2c_l5;
+  w2c_i0 = (u32)(w2c_j0);
+  w2c_j1 = 0ull;
+  i64_store(m, (u64)(w2c_i0) + 152, w2c_j1);
+  w2c_j0 = w2c_l5;
+  w2c_j1 = 152ull;
+  w2c_j0 += w2c_j1;
+  w2c_j1 = w2c_l7;
+  w2c_j2 = w2c_l6;
+  w2c_f36(m, w2c_j0, w2c_j1, w2c_j2);
+  w2c_j0 = w2c_l5;
+  w2c_i0 = (u32)(w2c_j0);
+  w2c_i0 = i32_load8_u(m, (u64)(w2c_i0) + 152u);
   w2c_i1 = 1u;
   w2c_i0 = w2c_i0 != w2c_i1;
-  if (w2c_i0) {goto w2c_B3;}
+  if (w2c_i0) {goto w2c_B2;}
   w2c_j0 = w2c_l5;
   w2c_i0 = (u32)(w2c_j0);
-  w2c_i0 = i32_load(m, (u64)(w2c_i0) + 112u);
+  w2c_i0 = i32_load(m, (u64)(w2c_i0) + 160u);
   w2c_l10 = w2c_i0;
   w2c_i1 = 4294965248u;
   w2c_i0 += w2c_i1;
   w2c_i1 = 63487u;
   w2c_i0 = w2c_i0 > w2c_i1;
-  if (w2c_i0) {goto w2c_B19;}
+  if (w2c_i0) {goto w2c_B20;}
   w2c_i0 = w2c_l10;
   w2c_i1 = 12u;
   w2c_i0 >>= (w2c_i1 & 31);
@@ -30469,13 +32075,13 @@ static void w2c_f42(module *m, u64 w2c_p0, u32 w2c_p1, u64 w2c_p2, u64 w2c_p3, u
   w2c_j0 >>= (w2c_j1 & 63);
   w2c_j1 = 1016ull;
   w2c_j0 &= w2c_j1;
-  w2c_l8 = w2c_j0;
+  w2c_p4 = w2c_j0;
   w2c_j1 = 66997ull;
   w2c_j0 += w2c_j1;
   w2c_i0 = (u32)(w2c_j0);
   w2c_i0 = i32_load8_u(m, (u64)(w2c_i0));
   w2c_i1 = 0u;
-  w2c_j2 = w2c_l8;
+  w2c_j2 = w2c_p4;
   w2c_i2 = (u32)(w2c_j2);
   w2c_i2 = i32_load(m, (u64)(w2c_i2) + 66992u);
   w2c_i3 = w2c_l10;
@@ -30483,7 +32089,7 @@ static void w2c_f42(module *m, u64 w2c_p0, u32 w2c_p1, u64 w2c_p2, u64 w2c_p3, u
   w2c_l10 = w2c_i2;
   w2c_i0 = w2c_i2 ? w2c_i0 : w2c_i1;
   w2c_l13 = w2c_i0;
-  w2c_j0 = w2c_l8;
+  w2c_j0 = w2c_p4;
   w2c_j1 = 66996ull;
   w2c_j0 += w2c_j1;
   w2c_i0 = (u32)(w2c_j0);
@@ -30491,9 +32097,9 @@ static void w2c_f42(module *m, u64 w2c_p0, u32 w2c_p1, u64 w2c_p2, u64 w2c_p3, u
   w2c_i1 = 2u;
   w2c_i2 = w2c_l10;
   w2c_i0 = w2c_i2 ? w2c_i0 : w2c_i1;
-  w2c_l10 = w2c_i0;
-  goto w2c_B4;
-  w2c_B19:;
+  w2c_l12 = w2c_i0;
+  goto w2c_B19;
+  w2c_B20:;
   w2c_i0 = w2c_l10;
   w2c_i1 = 4294967248u;
   w2c_i0 += w2c_i1;
@@ -30509,334 +32115,356 @@ static void w2c_f42(module *m, u64 w2c_p0, u32 w2c_p1, u64 w2c_p2, u64 w2c_p3, u
   w2c_i1 = 2u;
   w2c_i2 = w2c_l10;
   w2c_i0 = w2c_i2 ? w2c_i0 : w2c_i1;
+  w2c_l12 = w2c_i0;
+  w2c_B19:;
+  w2c_j0 = w2c_l5;
+  w2c_i0 = (u32)(w2c_j0);
+  w2c_j0 = i64_load(m, (u64)(w2c_i0) + 176u);
+  w2c_p4 = w2c_j0;
+  w2c_j0 = w2c_l5;
+  w2c_i0 = (u32)(w2c_j0);
+  w2c_j0 = i64_load(m, (u64)(w2c_i0) + 168u);
+  w2c_p2 = w2c_j0;
+  w2c_B15:;
+  w2c_j0 = w2c_l5;
+  w2c_i0 = (u32)(w2c_j0);
+  w2c_j1 = 0ull;
+  i64_store(m, (u64)(w2c_i0) + 176, w2c_j1);
+  w2c_j0 = w2c_l5;
+  w2c_i0 = (u32)(w2c_j0);
+  w2c_j1 = 0ull;
+  i64_store(m, (u64)(w2c_i0) + 168, w2c_j1);
+  w2c_j0 = w2c_l5;
+  w2c_i0 = (u32)(w2c_j0);
+  w2c_j1 = 0ull;
+  i64_store(m, (u64)(w2c_i0) + 160, w2c_j1);
+  w2c_j0 = w2c_l5;
+  w2c_i0 = (u32)(w2c_j0);
+  w2c_j1 = 0ull;
+  i64_store(m, (u64)(w2c_i0) + 152, w2c_j1);
+  w2c_j0 = w2c_p4;
+  w2c_j1 = 4ull;
+  w2c_i0 = w2c_j0 < w2c_j1;
+  if (w2c_i0) {goto w2c_B23;}
+  w2c_j0 = w2c_p2;
+  w2c_j1 = w2c_p4;
+  w2c_j0 += w2c_j1;
+  w2c_j1 = 18446744073709551612ull;
+  w2c_j0 += w2c_j1;
+  w2c_i0 = (u32)(w2c_j0);
+  w2c_i0 = i32_load(m, (u64)(w2c_i0));
+  w2c_i1 = 8u;
+  w2c_i0 >>= (w2c_i1 & 31);
   w2c_l10 = w2c_i0;
-  goto w2c_B4;
-  w2c_B8:;
-  w2c_j0 = w2c_p0;
-  w2c_i0 = (u32)(w2c_j0);
-  w2c_j1 = 1ull;
-  i64_store(m, (u64)(w2c_i0), w2c_j1);
-  w2c_j0 = w2c_p0;
-  w2c_j1 = 8ull;
+  w2c_j0 = (u64)(w2c_i0);
+  w2c_j1 = 953497ull;
+  w2c_j0 *= w2c_j1;
+  w2c_j1 = 22ull;
+  w2c_j0 >>= (w2c_j1 & 63);
+  w2c_j1 = 1016ull;
+  w2c_j0 &= w2c_j1;
+  w2c_l8 = w2c_j0;
+  w2c_j1 = 66992ull;
   w2c_j0 += w2c_j1;
   w2c_i0 = (u32)(w2c_j0);
-  w2c_j1 = 0ull;
-  i64_store(m, (u64)(w2c_i0), w2c_j1);
-  w2c_j0 = w2c_p0;
-  w2c_j1 = 16ull;
-  w2c_j0 += w2c_j1;
-  w2c_i0 = (u32)(w2c_j0);
-  w2c_j1 = 0ull;
-  i64_store(m, (u64)(w2c_i0), w2c_j1);
-  w2c_j0 = w2c_p0;
-  w2c_j1 = 24ull;
-  w2c_j0 += w2c_j1;
-  w2c_i0 = (u32)(w2c_j0);
-  w2c_j1 = w2c_l5;
-  w2c_i1 = (u32)(w2c_j1);
-  w2c_j1 = i64_load(m, (u64)(w2c_i1) + 88u);
-  i64_store(m, (u64)(w2c_i0), w2c_j1);
-  w2c_j0 = w2c_l5;
-  w2c_i0 = (u32)(w2c_j0);
-  w2c_j1 = 0ull;
-  i64_store(m, (u64)(w2c_i0) + 80, w2c_j1);
-  w2c_j0 = w2c_l5;
-  w2c_i0 = (u32)(w2c_j0);
-  w2c_j1 = 0ull;
-  i64_store(m, (u64)(w2c_i0) + 72, w2c_j1);
-  goto w2c_B0;
-  w2c_B6:;
-  UNREACHABLE;
-  w2c_B5:;
+  w2c_i0 = i32_load(m, (u64)(w2c_i0));
+  w2c_i1 = w2c_l10;
+  w2c_i0 = w2c_i0 != w2c_i1;
+  if (w2c_i0) {goto w2c_B22;}
   w2c_j0 = w2c_l8;
   w2c_j1 = 66996ull;
   w2c_j0 += w2c_j1;
   w2c_i0 = (u32)(w2c_j0);
   w2c_i0 = i32_load8_u(m, (u64)(w2c_i0));
-  w2c_l10 = w2c_i0;
+  w2c_l11 = w2c_i0;
   w2c_j0 = w2c_l8;
   w2c_j1 = 66997ull;
   w2c_j0 += w2c_j1;
   w2c_i0 = (u32)(w2c_j0);
   w2c_i0 = i32_load8_u(m, (u64)(w2c_i0));
-  w2c_l13 = w2c_i0;
-  w2c_B4:;
+  w2c_l14 = w2c_i0;
+  w2c_i0 = 1u;
+  w2c_l10 = w2c_i0;
+  goto w2c_B21;
+  w2c_B23:;
+  w2c_j0 = w2c_p4;
+  w2c_j1 = 3ull;
+  w2c_i0 = w2c_j0 != w2c_j1;
+  if (w2c_i0) {goto w2c_B22;}
+  w2c_j0 = w2c_p2;
+  w2c_i0 = (u32)(w2c_j0);
+  w2c_i0 = i32_load16_u(m, (u64)(w2c_i0));
+  w2c_j1 = w2c_p2;
+  w2c_i1 = (u32)(w2c_j1);
+  w2c_i1 = i32_load8_u(m, (u64)(w2c_i1) + 2u);
+  w2c_i2 = 16u;
+  w2c_i1 <<= (w2c_i2 & 31);
+  w2c_i0 |= w2c_i1;
+  w2c_l10 = w2c_i0;
+  w2c_j0 = (u64)(w2c_i0);
+  w2c_j1 = 953497ull;
+  w2c_j0 *= w2c_j1;
+  w2c_j1 = 22ull;
+  w2c_j0 >>= (w2c_j1 & 63);
+  w2c_j1 = 1016ull;
+  w2c_j0 &= w2c_j1;
+  w2c_l8 = w2c_j0;
+  w2c_j1 = 66992ull;
+  w2c_j0 += w2c_j1;
+  w2c_i0 = (u32)(w2c_j0);
+  w2c_i0 = i32_load(m, (u64)(w2c_i0));
+  w2c_i1 = w2c_l10;
+  w2c_i0 = w2c_i0 != w2c_i1;
+  if (w2c_i0) {goto w2c_B22;}
+  w2c_j0 = w2c_l8;
+  w2c_j1 = 66996ull;
+  w2c_j0 += w2c_j1;
+  w2c_i0 = (u32)(w2c_j0);
+  w2c_i0 = i32_load8_u(m, (u64)(w2c_i0));
+  w2c_l11 = w2c_i0;
+  w2c_j0 = w2c_l8;
+  w2c_j1 = 66997ull;
+  w2c_j0 += w2c_j1;
+  w2c_i0 = (u32)(w2c_j0);
+  w2c_i0 = i32_load8_u(m, (u64)(w2c_i0));
+  w2c_l14 = w2c_i0;
+  w2c_i0 = 1u;
+  w2c_l10 = w2c_i0;
+  goto w2c_B21;
+  w2c_B22:;
+  w2c_j0 = w2c_l5;
+  w2c_j1 = 152ull;
+  w2c_j0 += w2c_j1;
+  w2c_j1 = w2c_p2;
+  w2c_j2 = w2c_p4;
+  w2c_f46(m, w2c_j0, w2c_j1, w2c_j2);
+  w2c_j0 = w2c_l5;
+  w2c_i0 = (u32)(w2c_j0);
+  w2c_i0 = i32_load8_u(m, (u64)(w2c_i0) + 152u);
+  w2c_i1 = 1u;
+  w2c_i0 = w2c_i0 == w2c_i1;
+  w2c_l10 = w2c_i0;
+  w2c_j0 = w2c_l5;
+  w2c_i0 = (u32)(w2c_j0);
+  w2c_i0 = i32_load8_u(m, (u64)(w2c_i0) + 161u);
+  w2c_l14 = w2c_i0;
+  w2c_j0 = w2c_l5;
+  w2c_i0 = (u32)(w2c_j0);
+  w2c_i0 = i32_load8_u(m, (u64)(w2c_i0) + 160u);
+  w2c_l11 = w2c_i0;
+  w2c_B21:;
   w2c_i0 = w2c_l10;
+  w2c_i0 = !(w2c_i0);
+  if (w2c_i0) {goto w2c_B2;}
+  w2c_i0 = w2c_l11;
   w2c_i1 = 255u;
   w2c_i0 &= w2c_i1;
   w2c_i1 = 1u;
   w2c_i0 = w2c_i0 != w2c_i1;
-  if (w2c_i0) {goto w2c_B3;}
+  if (w2c_i0) {goto w2c_B2;}
   w2c_i0 = w2c_l12;
   w2c_i1 = 255u;
   w2c_i0 &= w2c_i1;
   w2c_i1 = 1u;
   w2c_i0 = w2c_i0 != w2c_i1;
-  w2c_i1 = w2c_l11;
+  w2c_i1 = w2c_l13;
   w2c_i2 = 255u;
   w2c_i1 &= w2c_i2;
   w2c_i1 = !(w2c_i1);
   w2c_i0 |= w2c_i1;
   w2c_i1 = 1u;
   w2c_i0 = w2c_i0 != w2c_i1;
-  if (w2c_i0) {goto w2c_B3;}
-  w2c_i0 = w2c_l13;
+  if (w2c_i0) {goto w2c_B2;}
+  w2c_i0 = w2c_l14;
   w2c_i1 = 255u;
   w2c_i0 &= w2c_i1;
   w2c_i1 = 1u;
   w2c_i0 = w2c_i0 <= w2c_i1;
-  if (w2c_i0) {goto w2c_B3;}
+  if (w2c_i0) {goto w2c_B2;}
   w2c_j0 = w2c_l5;
-  w2c_j1 = 32ull;
+  w2c_j1 = 80ull;
   w2c_j0 += w2c_j1;
   w2c_i1 = w2c_p1;
-  w2c_j2 = w2c_l7;
+  w2c_j2 = w2c_p3;
   w2c_i3 = w2c_l9;
-  w2c_j4 = w2c_l6;
-  w2c_j5 = w2c_p2;
-  w2c_f44(m, w2c_j0, w2c_i1, w2c_j2, w2c_i3, w2c_j4, w2c_j5);
+  w2c_j4 = w2c_p2;
+  w2c_j5 = w2c_p4;
+  w2c_f47(m, w2c_j0, w2c_i1, w2c_j2, w2c_i3, w2c_j4, w2c_j5);
   w2c_j0 = w2c_l5;
   w2c_i0 = (u32)(w2c_j0);
-  w2c_j0 = i64_load(m, (u64)(w2c_i0) + 48u);
-  w2c_p4 = w2c_j0;
+  w2c_j0 = i64_load(m, (u64)(w2c_i0) + 96u);
+  w2c_l6 = w2c_j0;
   w2c_j0 = w2c_l5;
   w2c_i0 = (u32)(w2c_j0);
-  w2c_i0 = i32_load8_u(m, (u64)(w2c_i0) + 32u);
-  if (w2c_i0) {goto w2c_B2;}
+  w2c_i0 = i32_load8_u(m, (u64)(w2c_i0) + 80u);
+  if (w2c_i0) {goto w2c_B1;}
   w2c_i0 = w2c_l12;
   w2c_i1 = 255u;
   w2c_i0 &= w2c_i1;
-  if (w2c_i0) {goto w2c_B1;}
+  if (w2c_i0) {goto w2c_B24;}
   w2c_j0 = w2c_l5;
-  w2c_i1 = w2c_p1;
-  w2c_j2 = w2c_p4;
-  w2c_j3 = w2c_l5;
-  w2c_i3 = (u32)(w2c_j3);
-  w2c_j3 = i64_load(m, (u64)(w2c_i3) + 56u);
-  w2c_i4 = w2c_l13;
-  w2c_i5 = w2c_l11;
-  w2c_f45(m, w2c_j0, w2c_i1, w2c_j2, w2c_j3, w2c_i4, w2c_i5);
-  w2c_j0 = w2c_p0;
-  w2c_j1 = 8ull;
+  w2c_j1 = 48ull;
   w2c_j0 += w2c_j1;
-  w2c_i0 = (u32)(w2c_j0);
-  w2c_j1 = 2ull;
-  w2c_j2 = 0ull;
+  w2c_i1 = w2c_p1;
+  w2c_j2 = w2c_l6;
   w2c_j3 = w2c_l5;
   w2c_i3 = (u32)(w2c_j3);
-  w2c_i3 = i32_load8_u(m, (u64)(w2c_i3));
+  w2c_j3 = i64_load(m, (u64)(w2c_i3) + 104u);
+  w2c_i4 = w2c_l14;
+  w2c_i5 = w2c_l13;
+  w2c_f48(m, w2c_j0, w2c_i1, w2c_j2, w2c_j3, w2c_i4, w2c_i5);
+  w2c_j0 = w2c_l5;
+  w2c_i0 = (u32)(w2c_j0);
+  w2c_j1 = 0ull;
+  w2c_j2 = w2c_l5;
+  w2c_i2 = (u32)(w2c_j2);
+  w2c_j2 = i64_load(m, (u64)(w2c_i2) + 64u);
+  w2c_j3 = w2c_l5;
+  w2c_i3 = (u32)(w2c_j3);
+  w2c_i3 = i32_load8_u(m, (u64)(w2c_i3) + 48u);
   w2c_i4 = 1u;
   w2c_i3 = w2c_i3 != w2c_i4;
-  w2c_p1 = w2c_i3;
+  w2c_l9 = w2c_i3;
   w2c_j1 = w2c_i3 ? w2c_j1 : w2c_j2;
-  i64_store(m, (u64)(w2c_i0), w2c_j1);
-  w2c_j0 = w2c_p0;
-  w2c_i0 = (u32)(w2c_j0);
-  w2c_i1 = w2c_p1;
-  w2c_j1 = (u64)(w2c_i1);
-  i64_store(m, (u64)(w2c_i0), w2c_j1);
-  w2c_j0 = w2c_p0;
-  w2c_j1 = 16ull;
-  w2c_j0 += w2c_j1;
-  w2c_i0 = (u32)(w2c_j0);
-  w2c_j1 = 0ull;
-  w2c_j2 = w2c_l5;
-  w2c_i2 = (u32)(w2c_j2);
-  w2c_j2 = i64_load(m, (u64)(w2c_i2) + 16u);
-  w2c_i3 = w2c_p1;
-  w2c_j1 = w2c_i3 ? w2c_j1 : w2c_j2;
-  w2c_p4 = w2c_j1;
-  i64_store(m, (u64)(w2c_i0), w2c_j1);
-  w2c_j0 = w2c_p0;
-  w2c_j1 = 24ull;
-  w2c_j0 += w2c_j1;
-  w2c_i0 = (u32)(w2c_j0);
-  w2c_j1 = 0ull;
-  w2c_j2 = w2c_l5;
-  w2c_i2 = (u32)(w2c_j2);
-  w2c_j2 = i64_load(m, (u64)(w2c_i2) + 24u);
-  w2c_i3 = w2c_p1;
-  w2c_j1 = w2c_i3 ? w2c_j1 : w2c_j2;
-  w2c_p0 = w2c_j1;
-  i64_store(m, (u64)(w2c_i0), w2c_j1);
+  w2c_l6 = w2c_j1;
+  i64_store(m, (u64)(w2c_i0) + 128, w2c_j1);
   w2c_j0 = w2c_l5;
   w2c_i0 = (u32)(w2c_j0);
+  w2c_j1 = 0ull;
+  w2c_j2 = w2c_l5;
+  w2c_i2 = (u32)(w2c_j2);
+  w2c_j2 = i64_load(m, (u64)(w2c_i2) + 72u);
+  w2c_i3 = w2c_l9;
+  w2c_j1 = w2c_i3 ? w2c_j1 : w2c_j2;
+  w2c_l7 = w2c_j1;
+  i64_store(m, (u64)(w2c_i0) + 136, w2c_j1);
+  w2c_j0 = w2c_l5;
+  w2c_i0 = (u32)(w2c_j0);
+  w2c_j1 = w2c_l6;
+  i64_store(m, (u64)(w2c_i0) + 32, w2c_j1);
+  w2c_j0 = w2c_l5;
+  w2c_i0 = (u32)(w2c_j0);
+  w2c_j1 = w2c_l7;
+  i64_store(m, (u64)(w2c_i0) + 40, w2c_j1);
+  w2c_i0 = 2u;
+  w2c_i1 = 0u;
+  w2c_i2 = w2c_l9;
+  w2c_i0 = w2c_i2 ? w2c_i0 : w2c_i1;
+  w2c_p1 = w2c_i0;
+  goto w2c_B0;
+  w2c_B24:;
+  w2c_j0 = w2c_p2;
   w2c_j1 = w2c_p4;
-  i64_store(m, (u64)(w2c_i0) + 80, w2c_j1);
+  w2c_j0 = w2c_f38(m, w2c_j0, w2c_j1);
+  w2c_l6 = w2c_j0;
   w2c_j0 = w2c_l5;
   w2c_i0 = (u32)(w2c_j0);
-  w2c_j1 = w2c_p0;
-  i64_store(m, (u64)(w2c_i0) + 88, w2c_j1);
+  w2c_j1 = w2c_l5;
+  w2c_i1 = (u32)(w2c_j1);
+  w2c_j1 = i64_load(m, (u64)(w2c_i1) + 136u);
+  i64_store(m, (u64)(w2c_i0) + 40, w2c_j1);
+  w2c_j0 = w2c_l5;
+  w2c_i0 = (u32)(w2c_j0);
+  w2c_j1 = w2c_p3;
+  w2c_j2 = w2c_l6;
+  w2c_j1 += w2c_j2;
+  w2c_j2 = 1ull;
+  w2c_j1 += w2c_j2;
+  w2c_l6 = w2c_j1;
+  i64_store(m, (u64)(w2c_i0) + 32, w2c_j1);
+  w2c_j0 = w2c_l5;
+  w2c_i0 = (u32)(w2c_j0);
+  w2c_j1 = w2c_l6;
+  i64_store(m, (u64)(w2c_i0) + 128, w2c_j1);
+  w2c_i0 = 1u;
+  w2c_p1 = w2c_i0;
+  w2c_i0 = 1u;
+  w2c_l9 = w2c_i0;
   goto w2c_B0;
   w2c_B3:;
   w2c_j0 = w2c_l5;
-  w2c_j1 = 64ull;
-  w2c_j0 += w2c_j1;
-  w2c_i1 = w2c_p1;
-  w2c_j2 = w2c_l7;
-  w2c_i3 = w2c_l9;
-  w2c_j4 = w2c_p3;
-  w2c_j5 = w2c_p4;
-  w2c_f44(m, w2c_j0, w2c_i1, w2c_j2, w2c_i3, w2c_j4, w2c_j5);
-  w2c_j0 = w2c_p0;
+  w2c_i0 = (u32)(w2c_j0);
+  w2c_j1 = 0ull;
+  i64_store(m, (u64)(w2c_i0) + 120, w2c_j1);
+  w2c_j0 = w2c_l5;
+  w2c_i0 = (u32)(w2c_j0);
+  w2c_j1 = 0ull;
+  i64_store(m, (u64)(w2c_i0) + 128, w2c_j1);
+  w2c_j0 = w2c_l5;
+  w2c_i0 = (u32)(w2c_j0);
+  w2c_j1 = 0ull;
+  i64_store(m, (u64)(w2c_i0) + 32, w2c_j1);
+  w2c_j0 = w2c_l5;
   w2c_i0 = (u32)(w2c_j0);
   w2c_j1 = w2c_l5;
   w2c_i1 = (u32)(w2c_j1);
-  w2c_j1 = i64_load8_u(m, (u64)(w2c_i1) + 64u);
-  i64_store(m, (u64)(w2c_i0), w2c_j1);
-  w2c_j0 = w2c_p0;
-  w2c_j1 = 8ull;
-  w2c_j0 += w2c_j1;
-  w2c_i0 = (u32)(w2c_j0);
-  w2c_j1 = w2c_l5;
-  w2c_i1 = (u32)(w2c_j1);
-  w2c_j1 = i64_load8_u(m, (u64)(w2c_i1) + 72u);
-  i64_store(m, (u64)(w2c_i0), w2c_j1);
-  w2c_j0 = w2c_p0;
-  w2c_j1 = 16ull;
-  w2c_j0 += w2c_j1;
-  w2c_i0 = (u32)(w2c_j0);
-  w2c_j1 = w2c_l5;
-  w2c_i1 = (u32)(w2c_j1);
-  w2c_j1 = i64_load(m, (u64)(w2c_i1) + 80u);
-  i64_store(m, (u64)(w2c_i0), w2c_j1);
-  w2c_j0 = w2c_p0;
-  w2c_j1 = 24ull;
-  w2c_j0 += w2c_j1;
-  w2c_i0 = (u32)(w2c_j0);
-  w2c_j1 = w2c_l5;
-  w2c_i1 = (u32)(w2c_j1);
-  w2c_j1 = i64_load(m, (u64)(w2c_i1) + 88u);
-  i64_store(m, (u64)(w2c_i0), w2c_j1);
+  w2c_j1 = i64_load(m, (u64)(w2c_i1) + 136u);
+  i64_store(m, (u64)(w2c_i0) + 40, w2c_j1);
+  w2c_i0 = 0u;
+  w2c_p1 = w2c_i0;
   goto w2c_B0;
   w2c_B2:;
-  w2c_j0 = w2c_p0;
-  w2c_i0 = (u32)(w2c_j0);
-  w2c_j1 = 1ull;
-  i64_store(m, (u64)(w2c_i0), w2c_j1);
-  w2c_j0 = w2c_p0;
-  w2c_j1 = 8ull;
+  w2c_j0 = w2c_l5;
+  w2c_j1 = 112ull;
   w2c_j0 += w2c_j1;
+  w2c_i1 = w2c_p1;
+  w2c_j2 = w2c_p3;
+  w2c_i3 = w2c_l9;
+  w2c_j4 = w2c_l7;
+  w2c_j5 = w2c_l6;
+  w2c_f47(m, w2c_j0, w2c_i1, w2c_j2, w2c_i3, w2c_j4, w2c_j5);
+  w2c_j0 = w2c_l5;
   w2c_i0 = (u32)(w2c_j0);
   w2c_j1 = w2c_l5;
   w2c_i1 = (u32)(w2c_j1);
-  w2c_j1 = i64_load8_u(m, (u64)(w2c_i1) + 40u);
-  i64_store(m, (u64)(w2c_i0), w2c_j1);
-  w2c_j0 = w2c_p0;
-  w2c_j1 = 16ull;
-  w2c_j0 += w2c_j1;
-  w2c_i0 = (u32)(w2c_j0);
-  w2c_j1 = w2c_p4;
-  i64_store(m, (u64)(w2c_i0), w2c_j1);
-  w2c_j0 = w2c_p0;
-  w2c_j1 = 24ull;
-  w2c_j0 += w2c_j1;
-  w2c_i0 = (u32)(w2c_j0);
-  w2c_j1 = 0ull;
-  i64_store(m, (u64)(w2c_i0), w2c_j1);
+  w2c_j1 = i64_load(m, (u64)(w2c_i1) + 128u);
+  i64_store(m, (u64)(w2c_i0) + 32, w2c_j1);
   w2c_j0 = w2c_l5;
   w2c_i0 = (u32)(w2c_j0);
-  w2c_j1 = 0ull;
-  i64_store(m, (u64)(w2c_i0) + 88, w2c_j1);
+  w2c_j1 = w2c_l5;
+  w2c_i1 = (u32)(w2c_j1);
+  w2c_j1 = i64_load(m, (u64)(w2c_i1) + 136u);
+  i64_store(m, (u64)(w2c_i0) + 40, w2c_j1);
   w2c_j0 = w2c_l5;
   w2c_i0 = (u32)(w2c_j0);
-  w2c_j1 = w2c_p4;
-  i64_store(m, (u64)(w2c_i0) + 80, w2c_j1);
+  w2c_i0 = i32_load8_u(m, (u64)(w2c_i0) + 120u);
+  w2c_p1 = w2c_i0;
+  w2c_j0 = w2c_l5;
+  w2c_i0 = (u32)(w2c_j0);
+  w2c_i0 = i32_load8_u(m, (u64)(w2c_i0) + 112u);
+  w2c_l9 = w2c_i0;
   goto w2c_B0;
   w2c_B1:;
-  w2c_j0 = 0ull;
-  w2c_p4 = w2c_j0;
-  w2c_j0 = 0ull;
-  w2c_p3 = w2c_j0;
-  w2c_j0 = w2c_p2;
-  w2c_j1 = 8ull;
-  w2c_i0 = w2c_j0 < w2c_j1;
-  if (w2c_i0) {goto w2c_B20;}
-  w2c_j0 = 0ull;
-  w2c_p3 = w2c_j0;
-  w2c_j0 = w2c_p2;
-  w2c_l8 = w2c_j0;
-  w2c_j0 = 0ull;
-  w2c_p4 = w2c_j0;
-  w2c_L21:
-    w2c_j0 = w2c_l6;
-    w2c_j1 = w2c_p4;
-    w2c_j0 += w2c_j1;
-    w2c_i0 = (u32)(w2c_j0);
-    w2c_j0 = i64_load(m, (u64)(w2c_i0));
-    w2c_j1 = 67553998437089520ull;
-    w2c_j0 &= w2c_j1;
-    w2c_j1 = 63050398541283552ull;
-    w2c_i0 = w2c_j0 != w2c_j1;
-    if (w2c_i0) {goto w2c_B20;}
-    w2c_j0 = w2c_p3;
-    w2c_j1 = 3ull;
-    w2c_j0 += w2c_j1;
-    w2c_p3 = w2c_j0;
-    w2c_j0 = w2c_p4;
-    w2c_j1 = 9ull;
-    w2c_j0 += w2c_j1;
-    w2c_p4 = w2c_j0;
-    w2c_j0 = w2c_l8;
-    w2c_j1 = 18446744073709551607ull;
-    w2c_j0 += w2c_j1;
-    w2c_l8 = w2c_j0;
-    w2c_j1 = 7ull;
-    w2c_i0 = w2c_j0 > w2c_j1;
-    if (w2c_i0) {goto w2c_L21;}
-  w2c_B20:;
-  w2c_j0 = w2c_l7;
-  w2c_j1 = 1ull;
-  w2c_j0 += w2c_j1;
-  w2c_l7 = w2c_j0;
-  w2c_j0 = w2c_p4;
-  w2c_j1 = w2c_p2;
-  w2c_i0 = w2c_j0 >= w2c_j1;
-  if (w2c_i0) {goto w2c_B22;}
-  w2c_L23:
-    w2c_j0 = w2c_p3;
-    w2c_j1 = 1ull;
-    w2c_j0 += w2c_j1;
-    w2c_p3 = w2c_j0;
-    w2c_j0 = w2c_l6;
-    w2c_j1 = w2c_p4;
-    w2c_j0 += w2c_j1;
-    w2c_i0 = (u32)(w2c_j0);
-    w2c_i0 = i32_load8_u(m, (u64)(w2c_i0));
-    w2c_i1 = 1u;
-    w2c_i0 >>= (w2c_i1 & 31);
-    w2c_j0 = (u64)(w2c_i0);
-    w2c_j1 = 120ull;
-    w2c_j0 &= w2c_j1;
-    w2c_j1 = 66848ull;
-    w2c_j0 += w2c_j1;
-    w2c_i0 = (u32)(w2c_j0);
-    w2c_j0 = i64_load(m, (u64)(w2c_i0));
-    w2c_j1 = w2c_p4;
-    w2c_j0 += w2c_j1;
-    w2c_p4 = w2c_j0;
-    w2c_j1 = w2c_p2;
-    w2c_i0 = w2c_j0 < w2c_j1;
-    if (w2c_i0) {goto w2c_L23;}
-  w2c_B22:;
-  w2c_j0 = w2c_p0;
+  w2c_j0 = w2c_l5;
   w2c_i0 = (u32)(w2c_j0);
-  w2c_j1 = 1ull;
-  i64_store(m, (u64)(w2c_i0), w2c_j1);
-  w2c_j0 = w2c_p0;
-  w2c_j1 = 8ull;
-  w2c_j0 += w2c_j1;
+  w2c_j1 = 0ull;
+  i64_store(m, (u64)(w2c_i0) + 136, w2c_j1);
+  w2c_j0 = w2c_l5;
   w2c_i0 = (u32)(w2c_j0);
-  w2c_j1 = 1ull;
-  i64_store(m, (u64)(w2c_i0), w2c_j1);
+  w2c_j1 = w2c_l6;
+  i64_store(m, (u64)(w2c_i0) + 128, w2c_j1);
+  w2c_j0 = w2c_l5;
+  w2c_i0 = (u32)(w2c_j0);
+  w2c_j1 = w2c_l6;
+  i64_store(m, (u64)(w2c_i0) + 32, w2c_j1);
+  w2c_j0 = w2c_l5;
+  w2c_i0 = (u32)(w2c_j0);
+  w2c_j1 = 0ull;
+  i64_store(m, (u64)(w2c_i0) + 40, w2c_j1);
+  w2c_i0 = 1u;
+  w2c_l9 = w2c_i0;
+  w2c_j0 = w2c_l5;
+  w2c_i0 = (u32)(w2c_j0);
+  w2c_i0 = i32_load8_u(m, (u64)(w2c_i0) + 88u);
+  w2c_p1 = w2c_i0;
+  w2c_B0:;
   w2c_j0 = w2c_p0;
   w2c_j1 = 16ull;
   w2c_j0 += w2c_j1;
   w2c_i0 = (u32)(w2c_j0);
-  w2c_j1 = w2c_l7;
-  w2c_j2 = w2c_p3;
-  w2c_j1 += w2c_j2;
-  w2c_p4 = w2c_j1;
+  w2c_j1 = w2c_l5;
+  w2c_i1 = (u32)(w2c_j1);
+  w2c_j1 = i64_load(m, (u64)(w2c_i1) + 32u);
   i64_store(m, (u64)(w2c_i0), w2c_j1);
   w2c_j0 = w2c_p0;
   w2c_j1 = 24ull;
@@ -30844,20 +32472,31 @@ static void w2c_f42(module *m, u64 w2c_p0, u32 w2c_p1, u64 w2c_p2, u64 w2c_p3, u
   w2c_i0 = (u32)(w2c_j0);
   w2c_j1 = w2c_l5;
   w2c_i1 = (u32)(w2c_j1);
-  w2c_j1 = i64_load(m, (u64)(w2c_i1) + 88u);
+  w2c_j1 = i64_load(m, (u64)(w2c_i1) + 40u);
+  i64_store(m, (u64)(w2c_i0), w2c_j1);
+  w2c_j0 = w2c_p0;
+  w2c_j1 = 8ull;
+  w2c_j0 += w2c_j1;
+  w2c_i0 = (u32)(w2c_j0);
+  w2c_i1 = w2c_p1;
+  w2c_j1 = (u64)(w2c_i1);
+  w2c_j2 = 255ull;
+  w2c_j1 &= w2c_j2;
+  i64_store(m, (u64)(w2c_i0), w2c_j1);
+  w2c_j0 = w2c_p0;
+  w2c_i0 = (u32)(w2c_j0);
+  w2c_i1 = w2c_l9;
+  w2c_j1 = (u64)(w2c_i1);
+  w2c_j2 = 255ull;
+  w2c_j1 &= w2c_j2;
   i64_store(m, (u64)(w2c_i0), w2c_j1);
   w2c_j0 = w2c_l5;
-  w2c_i0 = (u32)(w2c_j0);
-  w2c_j1 = w2c_p4;
-  i64_store(m, (u64)(w2c_i0) + 80, w2c_j1);
-  w2c_B0:;
-  w2c_j0 = w2c_l5;
-  w2c_j1 = 144ull;
+  w2c_j1 = 192ull;
   w2c_j0 += w2c_j1;
   m->w2c_g0 = w2c_j0;
 }
 
-static void w2c_f43(module *m, u64 w2c_p0, u64 w2c_p1, u64 w2c_p2, u64 w2c_p3) {
+static void w2c_f45(module *m, u64 w2c_p0, u64 w2c_p1, u64 w2c_p2, u64 w2c_p3) {
   u32 w2c_l15 = 0, w2c_l16 = 0, w2c_l17 = 0, w2c_l18 = 0, w2c_l19 = 0;
   u64 w2c_l4 = 0, w2c_l5 = 0, w2c_l6 = 0, w2c_l7 = 0, w2c_l8 = 0, w2c_l9 = 0, w2c_l10 = 0, w2c_l11 = 0, w2c_l12 = 0, w2c_l13 = 0, w2c_l14 = 0;
   u32 w2c_i0, w2c_i1, w2c_i2, w2c_i3, w2c_i4;
@@ -31497,13 +33136,208 @@ static void w2c_f43(module *m, u64 w2c_p0, u64 w2c_p1, u64 w2c_p2, u64 w2c_p3) {
   w2c_Bfunc:;
 }
 
-static void w2c_f44(module *m, u64 w2c_p0, u32 w2c_p1, u64 w2c_p2, u32 w2c_p3, u64 w2c_p4, u64 w2c_p5) {
+static void w2c_f46(module *m, u64 w2c_p0, u64 w2c_p1, u64 w2c_p2) {
+  u32 w2c_l5 = 0, w2c_l6 = 0;
+  u64 w2c_l3 = 0, w2c_l4 = 0;
+  u32 w2c_i0, w2c_i1, w2c_i2, w2c_i3;
+  u64 w2c_j0, w2c_j1, w2c_j2;
+  w2c_j0 = m->w2c_g0;
+  w2c_j1 = 64ull;
+  w2c_j0 -= w2c_j1;
+  w2c_l3 = w2c_j0;
+  m->w2c_g0 = w2c_j0;
+  w2c_j0 = w2c_l3;
+  w2c_l3 = w2c_j0;
+  w2c_j1 = 16ull;
+  w2c_i0 = (u64)((s64)w2c_j0 < (s64)w2c_j1);
+  if (w2c_i0) {goto w2c_B0;}
+  w2c_j0 = w2c_l3;
+  w2c_i0 = (u32)(w2c_j0);
+  w2c_j1 = 0ull;
+  i64_store(m, (u64)(w2c_i0) + 56, w2c_j1);
+  w2c_j0 = w2c_l3;
+  w2c_i0 = (u32)(w2c_j0);
+  w2c_j1 = 0ull;
+  i64_store(m, (u64)(w2c_i0) + 48, w2c_j1);
+  w2c_j0 = w2c_l3;
+  w2c_i0 = (u32)(w2c_j0);
+  w2c_j1 = 0ull;
+  i64_store(m, (u64)(w2c_i0) + 40, w2c_j1);
+  w2c_j0 = w2c_l3;
+  w2c_i0 = (u32)(w2c_j0);
+  w2c_j1 = 0ull;
+  i64_store(m, (u64)(w2c_i0) + 32, w2c_j1);
+  w2c_j0 = w2c_l3;
+  w2c_i0 = (u32)(w2c_j0);
+  w2c_j1 = 0ull;
+  i64_store(m, (u64)(w2c_i0) + 8, w2c_j1);
+  w2c_j0 = w2c_l3;
+  w2c_i0 = (u32)(w2c_j0);
+  w2c_j1 = 0ull;
+  i64_store(m, (u64)(w2c_i0) + 16, w2c_j1);
+  w2c_j0 = w2c_l3;
+  w2c_i0 = (u32)(w2c_j0);
+  w2c_j1 = 0ull;
+  i64_store(m, (u64)(w2c_i0) + 22, w2c_j1);
+  w2c_j0 = w2c_l3;
+  w2c_j1 = 32ull;
+  w2c_j0 += w2c_j1;
+  w2c_j1 = w2c_p1;
+  w2c_j2 = w2c_p2;
+  w2c_f36(m, w2c_j0, w2c_j1, w2c_j2);
+  w2c_i0 = 0u;
+  w2c_l5 = w2c_i0;
+  w2c_i0 = 0u;
+  w2c_l6 = w2c_i0;
+  w2c_j0 = w2c_l3;
+  w2c_i0 = (u32)(w2c_j0);
+  w2c_j0 = i64_load8_u(m, (u64)(w2c_i0) + 32u);
+  w2c_p2 = w2c_j0;
+  w2c_j1 = 1ull;
+  w2c_i0 = w2c_j0 != w2c_j1;
+  if (w2c_i0) {goto w2c_B1;}
+  w2c_j0 = w2c_l3;
+  w2c_j1 = 48ull;
+  w2c_j0 += w2c_j1;
+  w2c_p1 = w2c_j0;
+  w2c_j0 = w2c_l3;
+  w2c_i0 = (u32)(w2c_j0);
+  w2c_i0 = i32_load(m, (u64)(w2c_i0) + 40u);
+  w2c_l5 = w2c_i0;
+  w2c_i1 = 4294965248u;
+  w2c_i0 += w2c_i1;
+  w2c_i1 = 63487u;
+  w2c_i0 = w2c_i0 > w2c_i1;
+  if (w2c_i0) {goto w2c_B3;}
+  w2c_i0 = w2c_l5;
+  w2c_i1 = 12u;
+  w2c_i0 >>= (w2c_i1 & 31);
+  w2c_i1 = w2c_l5;
+  w2c_i2 = 2u;
+  w2c_i1 <<= (w2c_i2 & 31);
+  w2c_i2 = 16128u;
+  w2c_i1 &= w2c_i2;
+  w2c_i0 |= w2c_i1;
+  w2c_i1 = w2c_l5;
+  w2c_i2 = 16u;
+  w2c_i1 <<= (w2c_i2 & 31);
+  w2c_i2 = 4128768u;
+  w2c_i1 &= w2c_i2;
+  w2c_i0 |= w2c_i1;
+  w2c_i1 = 8421600u;
+  w2c_i0 |= w2c_i1;
+  w2c_l5 = w2c_i0;
+  w2c_j0 = (u64)(w2c_i0);
+  w2c_j1 = 953497ull;
+  w2c_j0 *= w2c_j1;
+  w2c_j1 = 22ull;
+  w2c_j0 >>= (w2c_j1 & 63);
+  w2c_j1 = 1016ull;
+  w2c_j0 &= w2c_j1;
+  w2c_l4 = w2c_j0;
+  w2c_j1 = 66997ull;
+  w2c_j0 += w2c_j1;
+  w2c_i0 = (u32)(w2c_j0);
+  w2c_i0 = i32_load8_u(m, (u64)(w2c_i0));
+  w2c_i1 = 0u;
+  w2c_j2 = w2c_l4;
+  w2c_i2 = (u32)(w2c_j2);
+  w2c_i2 = i32_load(m, (u64)(w2c_i2) + 66992u);
+  w2c_i3 = w2c_l5;
+  w2c_i2 = w2c_i2 == w2c_i3;
+  w2c_l5 = w2c_i2;
+  w2c_i0 = w2c_i2 ? w2c_i0 : w2c_i1;
+  w2c_l6 = w2c_i0;
+  w2c_j0 = w2c_l4;
+  w2c_j1 = 66996ull;
+  w2c_j0 += w2c_j1;
+  w2c_i0 = (u32)(w2c_j0);
+  w2c_i0 = i32_load8_u(m, (u64)(w2c_i0));
+  w2c_i1 = 2u;
+  w2c_i2 = w2c_l5;
+  w2c_i0 = w2c_i2 ? w2c_i0 : w2c_i1;
+  w2c_l5 = w2c_i0;
+  goto w2c_B2;
+  w2c_B3:;
+  w2c_i0 = w2c_l5;
+  w2c_i1 = 4294967248u;
+  w2c_i0 += w2c_i1;
+  w2c_l5 = w2c_i0;
+  w2c_i1 = 0u;
+  w2c_i2 = w2c_l5;
+  w2c_i3 = 10u;
+  w2c_i2 = w2c_i2 < w2c_i3;
+  w2c_l5 = w2c_i2;
+  w2c_i0 = w2c_i2 ? w2c_i0 : w2c_i1;
+  w2c_l6 = w2c_i0;
+  w2c_i0 = 0u;
+  w2c_i1 = 2u;
+  w2c_i2 = w2c_l5;
+  w2c_i0 = w2c_i2 ? w2c_i0 : w2c_i1;
+  w2c_l5 = w2c_i0;
+  w2c_B2:;
+  w2c_j0 = w2c_l3;
+  w2c_i0 = (u32)(w2c_j0);
+  w2c_j1 = w2c_p1;
+  w2c_i1 = (u32)(w2c_j1);
+  w2c_j1 = i64_load(m, (u64)(w2c_i1) + 8u);
+  i64_store(m, (u64)(w2c_i0) + 22, w2c_j1);
+  w2c_j0 = w2c_l3;
+  w2c_i0 = (u32)(w2c_j0);
+  w2c_j1 = w2c_p1;
+  w2c_i1 = (u32)(w2c_j1);
+  w2c_j1 = i64_load(m, (u64)(w2c_i1));
+  i64_store(m, (u64)(w2c_i0) + 14, w2c_j1);
+  w2c_B1:;
+  w2c_j0 = w2c_p0;
+  w2c_i0 = (u32)(w2c_j0);
+  w2c_j1 = w2c_p2;
+  i64_store(m, (u64)(w2c_i0), w2c_j1);
+  w2c_j0 = w2c_p0;
+  w2c_j1 = 9ull;
+  w2c_j0 += w2c_j1;
+  w2c_i0 = (u32)(w2c_j0);
+  w2c_i1 = w2c_l6;
+  i32_store8(m, (u64)(w2c_i0), w2c_i1);
+  w2c_j0 = w2c_p0;
+  w2c_j1 = 8ull;
+  w2c_j0 += w2c_j1;
+  w2c_i0 = (u32)(w2c_j0);
+  w2c_i1 = w2c_l5;
+  i32_store8(m, (u64)(w2c_i0), w2c_i1);
+  w2c_j0 = w2c_p0;
+  w2c_j1 = 16ull;
+  w2c_j0 += w2c_j1;
+  w2c_i0 = (u32)(w2c_j0);
+  w2c_j1 = w2c_l3;
+  w2c_i1 = (u32)(w2c_j1);
+  w2c_j1 = i64_load(m, (u64)(w2c_i1) + 14u);
+  i64_store(m, (u64)(w2c_i0), w2c_j1);
+  w2c_j0 = w2c_p0;
+  w2c_j1 = 24ull;
+  w2c_j0 += w2c_j1;
+  w2c_i0 = (u32)(w2c_j0);
+  w2c_j1 = w2c_l3;
+  w2c_i1 = (u32)(w2c_j1);
+  w2c_j1 = i64_load(m, (u64)(w2c_i1) + 22u);
+  i64_store(m, (u64)(w2c_i0), w2c_j1);
+  w2c_j0 = w2c_l3;
+  w2c_j1 = 64ull;
+  w2c_j0 += w2c_j1;
+  m->w2c_g0 = w2c_j0;
+  goto w2c_Bfunc;
+  w2c_B0:;
+  UNREACHABLE;
+  w2c_Bfunc:;
+}
+
+static void w2c_f47(module *m, u64 w2c_p0, u32 w2c_p1, u64 w2c_p2, u32 w2c_p3, u64 w2c_p4, u64 w2c_p5) {
   u32 w2c_l19 = 0, w2c_l20 = 0, w2c_l21 = 0, w2c_l22 = 0, w2c_l23 = 0;
   u64 w2c_l6 = 0, w2c_l7 = 0, w2c_l8 = 0, w2c_l9 = 0, w2c_l10 = 0, w2c_l11 = 0, w2c_l12 = 0, w2c_l13 = 0, w2c_l14 = 0, w2c_l15 = 0, w2c_l16 = 0, w2c_l17 = 0, w2c_l18 = 0;
   u32 w2c_i0, w2c_i1, w2c_i2, w2c_i3, w2c_i4;
   u64 w2c_j0, w2c_j1, w2c_j2, w2c_j3, w2c_j4;
   w2c_j0 = m->w2c_g0;
-  w2c_j1 = 976ull;
+  w2c_j1 = 720ull;
   w2c_j0 -= w2c_j1;
   w2c_l6 = w2c_j0;
   m->w2c_g0 = w2c_j0;
@@ -31519,7 +33353,7 @@ static void w2c_f44(module *m, u64 w2c_p0, u32 w2c_p1, u64 w2c_p2, u32 w2c_p3, u
   w2c_j0 += w2c_j1;
   w2c_i0 = (u32)(w2c_j0);
   w2c_i1 = 0u;
-  w2c_j2 = 784ull;
+  w2c_j2 = 528ull;
   w2c_i2 = (u32)(w2c_j2);
   memory_fill(m, w2c_i0, w2c_i1, w2c_i2);
   w2c_j0 = w2c_p2;
@@ -31536,7 +33370,7 @@ static void w2c_f44(module *m, u64 w2c_p0, u32 w2c_p1, u64 w2c_p2, u32 w2c_p3, u
   w2c_j0 += w2c_j1;
   w2c_l8 = w2c_j0;
   w2c_j0 = w2c_l6;
-  w2c_j1 = 112ull;
+  w2c_j1 = 128ull;
   w2c_j0 += w2c_j1;
   w2c_l9 = w2c_j0;
   w2c_i0 = 1u;
@@ -31647,34 +33481,34 @@ static void w2c_f44(module *m, u64 w2c_p0, u32 w2c_p1, u64 w2c_p2, u32 w2c_p3, u
     w2c_j0 = w2c_l6;
     w2c_i0 = (u32)(w2c_j0);
     w2c_j1 = 0ull;
-    i64_store(m, (u64)(w2c_i0) + 968, w2c_j1);
+    i64_store(m, (u64)(w2c_i0) + 712, w2c_j1);
     w2c_j0 = w2c_l6;
     w2c_i0 = (u32)(w2c_j0);
     w2c_j1 = 0ull;
-    i64_store(m, (u64)(w2c_i0) + 960, w2c_j1);
+    i64_store(m, (u64)(w2c_i0) + 704, w2c_j1);
     w2c_j0 = w2c_l6;
     w2c_i0 = (u32)(w2c_j0);
     w2c_j1 = 0ull;
-    i64_store(m, (u64)(w2c_i0) + 952, w2c_j1);
+    i64_store(m, (u64)(w2c_i0) + 696, w2c_j1);
     w2c_j0 = w2c_l6;
     w2c_i0 = (u32)(w2c_j0);
     w2c_j1 = 0ull;
-    i64_store(m, (u64)(w2c_i0) + 944, w2c_j1);
+    i64_store(m, (u64)(w2c_i0) + 688, w2c_j1);
     w2c_j0 = w2c_l6;
-    w2c_j1 = 944ull;
+    w2c_j1 = 688ull;
     w2c_j0 += w2c_j1;
     w2c_j1 = w2c_p4;
     w2c_j2 = w2c_p5;
-    w2c_f35(m, w2c_j0, w2c_j1, w2c_j2);
+    w2c_f36(m, w2c_j0, w2c_j1, w2c_j2);
     w2c_j0 = w2c_l6;
     w2c_i0 = (u32)(w2c_j0);
-    w2c_i0 = i32_load8_u(m, (u64)(w2c_i0) + 944u);
+    w2c_i0 = i32_load8_u(m, (u64)(w2c_i0) + 688u);
     w2c_i1 = 1u;
     w2c_i0 = w2c_i0 != w2c_i1;
     if (w2c_i0) {goto w2c_B4;}
     w2c_j0 = w2c_l6;
     w2c_i0 = (u32)(w2c_j0);
-    w2c_i0 = i32_load(m, (u64)(w2c_i0) + 952u);
+    w2c_i0 = i32_load(m, (u64)(w2c_i0) + 696u);
     w2c_p1 = w2c_i0;
     w2c_i1 = 4294965248u;
     w2c_i0 += w2c_i1;
@@ -31750,11 +33584,11 @@ static void w2c_f44(module *m, u64 w2c_p0, u32 w2c_p1, u64 w2c_p2, u32 w2c_p3, u
     w2c_B8:;
     w2c_j0 = w2c_l6;
     w2c_i0 = (u32)(w2c_j0);
-    w2c_j0 = i64_load(m, (u64)(w2c_i0) + 968u);
+    w2c_j0 = i64_load(m, (u64)(w2c_i0) + 712u);
     w2c_p5 = w2c_j0;
     w2c_j0 = w2c_l6;
     w2c_i0 = (u32)(w2c_j0);
-    w2c_j0 = i64_load(m, (u64)(w2c_i0) + 960u);
+    w2c_j0 = i64_load(m, (u64)(w2c_i0) + 704u);
     w2c_p4 = w2c_j0;
     w2c_B5:;
     w2c_i0 = w2c_l23;
@@ -31835,26 +33669,26 @@ static void w2c_f44(module *m, u64 w2c_p0, u32 w2c_p1, u64 w2c_p2, u32 w2c_p3, u
     w2c_B15:;
     w2c_j0 = w2c_l6;
     w2c_i0 = (u32)(w2c_j0);
-    w2c_j0 = i64_load(m, (u64)(w2c_i0) + 928u);
+    w2c_j0 = i64_load(m, (u64)(w2c_i0) + 672u);
     w2c_l12 = w2c_j0;
     w2c_i0 = !(w2c_j0);
     w2c_i0 = !(w2c_i0);
-    if (w2c_i0) {goto w2c_B19;}
+    if (w2c_i0) {goto w2c_B17;}
     w2c_j0 = 0ull;
     w2c_l13 = w2c_j0;
     w2c_j0 = 0ull;
     w2c_l14 = w2c_j0;
-    goto w2c_B18;
-    w2c_B19:;
+    goto w2c_B16;
+    w2c_B17:;
     w2c_j0 = w2c_l9;
     w2c_j1 = w2c_l12;
-    w2c_j2 = 48ull;
-    w2c_j1 *= w2c_j2;
+    w2c_j2 = 5ull;
+    w2c_j1 <<= (w2c_j2 & 63);
     w2c_j0 += w2c_j1;
     w2c_l11 = w2c_j0;
     w2c_j0 = 0ull;
     w2c_l14 = w2c_j0;
-    w2c_L20:
+    w2c_L18:
       w2c_j0 = w2c_l11;
       w2c_i0 = (u32)(w2c_j0);
       w2c_i0 = i32_load8_u(m, (u64)(w2c_i0));
@@ -31862,40 +33696,53 @@ static void w2c_f44(module *m, u64 w2c_p0, u32 w2c_p1, u64 w2c_p2, u32 w2c_p3, u
       w2c_i2 = 255u;
       w2c_i1 &= w2c_i2;
       w2c_i0 = w2c_i0 < w2c_i1;
-      if (w2c_i0) {goto w2c_B21;}
+      if (w2c_i0) {goto w2c_B19;}
       w2c_j0 = w2c_l12;
       w2c_l13 = w2c_j0;
-      goto w2c_B18;
-      w2c_B21:;
-      w2c_j0 = w2c_l11;
-      w2c_j1 = 32ull;
-      w2c_j0 += w2c_j1;
-      w2c_i0 = (u32)(w2c_j0);
-      w2c_j0 = i64_load(m, (u64)(w2c_i0));
-      w2c_l13 = w2c_j0;
+      goto w2c_B16;
+      w2c_B19:;
       w2c_j0 = w2c_l11;
       w2c_j1 = 16ull;
       w2c_j0 += w2c_j1;
       w2c_i0 = (u32)(w2c_j0);
       w2c_j0 = i64_load(m, (u64)(w2c_i0));
       w2c_l15 = w2c_j0;
+      w2c_j0 = w2c_l11;
+      w2c_j1 = 1ull;
+      w2c_j0 += w2c_j1;
+      w2c_i0 = (u32)(w2c_j0);
+      w2c_j0 = i64_load8_u(m, (u64)(w2c_i0));
+      w2c_l13 = w2c_j0;
       w2c_j0 = w2c_l6;
       w2c_i0 = (u32)(w2c_j0);
       w2c_j1 = w2c_l12;
       w2c_j2 = 18446744073709551615ull;
       w2c_j1 += w2c_j2;
       w2c_l12 = w2c_j1;
-      i64_store(m, (u64)(w2c_i0) + 928, w2c_j1);
-      w2c_j0 = 0ull;
-      w2c_l16 = w2c_j0;
+      i64_store(m, (u64)(w2c_i0) + 672, w2c_j1);
+      w2c_j0 = w2c_l13;
+      w2c_j1 = 38ull;
+      w2c_i0 = w2c_j0 > w2c_j1;
+      if (w2c_i0) {goto w2c_B0;}
       w2c_j0 = w2c_l11;
-      w2c_j1 = 40ull;
+      w2c_j1 = 24ull;
       w2c_j0 += w2c_j1;
       w2c_i0 = (u32)(w2c_j0);
       w2c_j0 = i64_load(m, (u64)(w2c_i0));
+      w2c_l16 = w2c_j0;
+      w2c_j0 = 0ull;
       w2c_l17 = w2c_j0;
-      w2c_j0 = w2c_l11;
-      w2c_j1 = 24ull;
+      w2c_j0 = w2c_l13;
+      w2c_j1 = 4ull;
+      w2c_j0 <<= (w2c_j1 & 63);
+      w2c_l18 = w2c_j0;
+      w2c_j1 = 68624ull;
+      w2c_j0 += w2c_j1;
+      w2c_i0 = (u32)(w2c_j0);
+      w2c_j0 = i64_load(m, (u64)(w2c_i0));
+      w2c_l13 = w2c_j0;
+      w2c_j0 = w2c_l18;
+      w2c_j1 = 68632ull;
       w2c_j0 += w2c_j1;
       w2c_i0 = (u32)(w2c_j0);
       w2c_j0 = i64_load(m, (u64)(w2c_i0));
@@ -31904,9 +33751,9 @@ static void w2c_f44(module *m, u64 w2c_p0, u32 w2c_p1, u64 w2c_p2, u32 w2c_p3, u
       w2c_j0 |= w2c_j1;
       w2c_j1 = 0ull;
       w2c_i0 = w2c_j0 != w2c_j1;
-      if (w2c_i0) {goto w2c_B23;}
+      if (w2c_i0) {goto w2c_B21;}
       w2c_j0 = w2c_l6;
-      w2c_j1 = w2c_l15;
+      w2c_j1 = w2c_l13;
       w2c_j2 = w2c_l18;
       w2c_j3 = w2c_l10;
       w2c_j4 = w2c_l14;
@@ -31914,8 +33761,8 @@ static void w2c_f44(module *m, u64 w2c_p0, u32 w2c_p1, u64 w2c_p2, u32 w2c_p3, u
       w2c_j0 = w2c_l6;
       w2c_i0 = (u32)(w2c_j0);
       w2c_j0 = i64_load(m, (u64)(w2c_i0));
-      w2c_l15 = w2c_j0;
-      w2c_j1 = w2c_l13;
+      w2c_l13 = w2c_j0;
+      w2c_j1 = w2c_l15;
       w2c_j2 = 18446744073709551615ull;
       w2c_j1 ^= w2c_j2;
       w2c_i0 = w2c_j0 > w2c_j1;
@@ -31923,7 +33770,7 @@ static void w2c_f44(module *m, u64 w2c_p0, u32 w2c_p1, u64 w2c_p2, u32 w2c_p3, u
       w2c_i1 = (u32)(w2c_j1);
       w2c_j1 = i64_load(m, (u64)(w2c_i1) + 8u);
       w2c_l14 = w2c_j1;
-      w2c_j2 = w2c_l17;
+      w2c_j2 = w2c_l16;
       w2c_j3 = 18446744073709551615ull;
       w2c_j2 ^= w2c_j3;
       w2c_l10 = w2c_j2;
@@ -31932,25 +33779,16 @@ static void w2c_f44(module *m, u64 w2c_p0, u32 w2c_p1, u64 w2c_p2, u32 w2c_p3, u
       w2c_j3 = w2c_l10;
       w2c_i2 = w2c_j2 == w2c_j3;
       w2c_i0 = w2c_i2 ? w2c_i0 : w2c_i1;
-      if (w2c_i0) {goto w2c_B17;}
-      w2c_j0 = w2c_l17;
-      w2c_j1 = w2c_l14;
-      w2c_j0 += w2c_j1;
-      w2c_j1 = w2c_l13;
-      w2c_j2 = w2c_l15;
-      w2c_j1 += w2c_j2;
-      w2c_l10 = w2c_j1;
-      w2c_j2 = w2c_l13;
-      w2c_i1 = w2c_j1 < w2c_j2;
-      w2c_j1 = (u64)(w2c_i1);
-      w2c_j0 += w2c_j1;
-      w2c_l14 = w2c_j0;
-      goto w2c_B22;
-      w2c_B23:;
+      w2c_i0 = !(w2c_i0);
+      if (w2c_i0) {goto w2c_B20;}
+      w2c_j0 = 2ull;
+      w2c_l18 = w2c_j0;
+      goto w2c_B10;
+      w2c_B21:;
       w2c_j0 = w2c_l6;
       w2c_j1 = 32ull;
       w2c_j0 += w2c_j1;
-      w2c_j1 = w2c_l15;
+      w2c_j1 = w2c_l13;
       w2c_j2 = 0ull;
       w2c_j3 = w2c_l10;
       w2c_j4 = 0ull;
@@ -31966,7 +33804,7 @@ static void w2c_f44(module *m, u64 w2c_p0, u32 w2c_p1, u64 w2c_p2, u32 w2c_p3, u
       w2c_j0 = w2c_l6;
       w2c_j1 = 16ull;
       w2c_j0 += w2c_j1;
-      w2c_j1 = w2c_l15;
+      w2c_j1 = w2c_l13;
       w2c_j2 = 0ull;
       w2c_j3 = w2c_l14;
       w2c_j4 = 0ull;
@@ -31987,7 +33825,7 @@ static void w2c_f44(module *m, u64 w2c_p0, u32 w2c_p1, u64 w2c_p2, u32 w2c_p3, u
       w2c_j1 = w2c_l6;
       w2c_i1 = (u32)(w2c_j1);
       w2c_j1 = i64_load(m, (u64)(w2c_i1) + 40u);
-      w2c_l15 = w2c_j1;
+      w2c_l13 = w2c_j1;
       w2c_j2 = w2c_l6;
       w2c_i2 = (u32)(w2c_j2);
       w2c_j2 = i64_load(m, (u64)(w2c_i2) + 64u);
@@ -32006,7 +33844,7 @@ static void w2c_f44(module *m, u64 w2c_p0, u32 w2c_p1, u64 w2c_p2, u32 w2c_p3, u
       w2c_i1 = (u32)(w2c_j1);
       w2c_j1 = i64_load(m, (u64)(w2c_i1) + 72u);
       w2c_j2 = w2c_l10;
-      w2c_j3 = w2c_l15;
+      w2c_j3 = w2c_l13;
       w2c_i2 = w2c_j2 < w2c_j3;
       w2c_j2 = (u64)(w2c_i2);
       w2c_j1 += w2c_j2;
@@ -32015,30 +33853,30 @@ static void w2c_f44(module *m, u64 w2c_p0, u32 w2c_p1, u64 w2c_p2, u32 w2c_p3, u
       w2c_i2 = (u32)(w2c_j2);
       w2c_j2 = i64_load(m, (u64)(w2c_i2) + 48u);
       w2c_j1 += w2c_j2;
-      w2c_l15 = w2c_j1;
+      w2c_l13 = w2c_j1;
       w2c_j0 |= w2c_j1;
       w2c_j1 = w2c_l6;
       w2c_i1 = (u32)(w2c_j1);
       w2c_j1 = i64_load(m, (u64)(w2c_i1) + 56u);
-      w2c_j2 = w2c_l15;
+      w2c_j2 = w2c_l13;
       w2c_j3 = w2c_l10;
       w2c_i2 = w2c_j2 < w2c_j3;
       w2c_j2 = (u64)(w2c_i2);
       w2c_j1 += w2c_j2;
       w2c_j0 |= w2c_j1;
-      w2c_j1 = 0ull;
-      w2c_i0 = w2c_j0 != w2c_j1;
+      w2c_i0 = !(w2c_j0);
+      w2c_i0 = !(w2c_i0);
       if (w2c_i0) {goto w2c_B10;}
       w2c_j0 = w2c_l6;
       w2c_i0 = (u32)(w2c_j0);
       w2c_j0 = i64_load(m, (u64)(w2c_i0) + 32u);
-      w2c_l15 = w2c_j0;
-      w2c_j1 = w2c_l13;
+      w2c_l13 = w2c_j0;
+      w2c_j1 = w2c_l15;
       w2c_j2 = 18446744073709551615ull;
       w2c_j1 ^= w2c_j2;
       w2c_i0 = w2c_j0 > w2c_j1;
       w2c_j1 = w2c_l14;
-      w2c_j2 = w2c_l17;
+      w2c_j2 = w2c_l16;
       w2c_j3 = 18446744073709551615ull;
       w2c_j2 ^= w2c_j3;
       w2c_l10 = w2c_j2;
@@ -32048,21 +33886,21 @@ static void w2c_f44(module *m, u64 w2c_p0, u32 w2c_p1, u64 w2c_p2, u32 w2c_p3, u
       w2c_i2 = w2c_j2 == w2c_j3;
       w2c_i0 = w2c_i2 ? w2c_i0 : w2c_i1;
       if (w2c_i0) {goto w2c_B10;}
+      w2c_B20:;
       w2c_j0 = w2c_l14;
-      w2c_j1 = w2c_l17;
+      w2c_j1 = w2c_l16;
       w2c_j0 += w2c_j1;
-      w2c_j1 = w2c_l15;
-      w2c_j2 = w2c_l13;
+      w2c_j1 = w2c_l13;
+      w2c_j2 = w2c_l15;
       w2c_j1 += w2c_j2;
       w2c_l10 = w2c_j1;
-      w2c_j2 = w2c_l15;
+      w2c_j2 = w2c_l13;
       w2c_i1 = w2c_j1 < w2c_j2;
       w2c_j1 = (u64)(w2c_i1);
       w2c_j0 += w2c_j1;
       w2c_l14 = w2c_j0;
-      w2c_B22:;
       w2c_j0 = w2c_l11;
-      w2c_j1 = 18446744073709551568ull;
+      w2c_j1 = 18446744073709551584ull;
       w2c_j0 += w2c_j1;
       w2c_l11 = w2c_j0;
       w2c_j0 = 0ull;
@@ -32070,8 +33908,8 @@ static void w2c_f44(module *m, u64 w2c_p0, u32 w2c_p1, u64 w2c_p2, u32 w2c_p3, u
       w2c_j0 = w2c_l12;
       w2c_j1 = 0ull;
       w2c_i0 = w2c_j0 != w2c_j1;
-      if (w2c_i0) {goto w2c_L20;}
-    w2c_B18:;
+      if (w2c_i0) {goto w2c_L18;}
+    w2c_B16:;
     w2c_i0 = w2c_p1;
     w2c_i1 = w2c_l19;
     w2c_i0 |= w2c_i1;
@@ -32081,15 +33919,15 @@ static void w2c_f44(module *m, u64 w2c_p0, u32 w2c_p1, u64 w2c_p2, u32 w2c_p3, u
     if (w2c_i0) {goto w2c_B11;}
     w2c_j0 = w2c_l13;
     w2c_i0 = !(w2c_j0);
-    if (w2c_i0) {goto w2c_B24;}
+    if (w2c_i0) {goto w2c_B22;}
     w2c_j0 = w2c_l6;
     w2c_j1 = 160ull;
     w2c_j0 += w2c_j1;
     w2c_j1 = w2c_l13;
-    w2c_j2 = 48ull;
-    w2c_j1 *= w2c_j2;
+    w2c_j2 = 5ull;
+    w2c_j1 <<= (w2c_j2 & 63);
     w2c_j0 += w2c_j1;
-    w2c_j1 = 18446744073709551568ull;
+    w2c_j1 = 18446744073709551584ull;
     w2c_j0 += w2c_j1;
     w2c_i0 = (u32)(w2c_j0);
     w2c_i0 = i32_load8_u(m, (u64)(w2c_i0));
@@ -32098,7 +33936,7 @@ static void w2c_f44(module *m, u64 w2c_p0, u32 w2c_p1, u64 w2c_p2, u32 w2c_p3, u
     w2c_i1 &= w2c_i2;
     w2c_i0 = w2c_i0 == w2c_i1;
     if (w2c_i0) {goto w2c_B11;}
-    w2c_B24:;
+    w2c_B22:;
     w2c_j0 = w2c_l8;
     w2c_i1 = w2c_p1;
     w2c_j1 = (u64)(w2c_i1);
@@ -32108,35 +33946,32 @@ static void w2c_f44(module *m, u64 w2c_p0, u32 w2c_p1, u64 w2c_p2, u32 w2c_p3, u
     w2c_j1 <<= (w2c_j2 & 63);
     w2c_j0 += w2c_j1;
     w2c_i0 = (u32)(w2c_j0);
-    w2c_j0 = i64_load16_u(m, (u64)(w2c_i0));
-    w2c_l12 = w2c_j0;
-    w2c_j1 = 38ull;
-    w2c_i0 = w2c_j0 <= w2c_j1;
-    if (w2c_i0) {goto w2c_B16;}
+    w2c_i0 = i32_load16_u(m, (u64)(w2c_i0));
+    w2c_l19 = w2c_i0;
+    w2c_i1 = 38u;
+    w2c_i0 = w2c_i0 <= w2c_i1;
+    if (w2c_i0) {goto w2c_B23;}
     w2c_j0 = 0ull;
-    w2c_l16 = w2c_j0;
-    w2c_B17:;
+    w2c_l17 = w2c_j0;
     w2c_j0 = 2ull;
     w2c_l18 = w2c_j0;
     goto w2c_B10;
-    w2c_B16:;
+    w2c_B23:;
     w2c_j0 = w2c_l6;
     w2c_j1 = 160ull;
     w2c_j0 += w2c_j1;
     w2c_j1 = w2c_l13;
-    w2c_j2 = 48ull;
-    w2c_j1 *= w2c_j2;
+    w2c_j2 = 5ull;
+    w2c_j1 <<= (w2c_j2 & 63);
     w2c_j0 += w2c_j1;
     w2c_l11 = w2c_j0;
     w2c_i0 = (u32)(w2c_j0);
-    w2c_j1 = w2c_l10;
-    i64_store(m, (u64)(w2c_i0) + 32, w2c_j1);
-    w2c_j0 = 0ull;
-    w2c_l10 = w2c_j0;
+    w2c_j1 = 0ull;
+    i64_store(m, (u64)(w2c_i0) + 2, w2c_j1);
     w2c_j0 = w2c_l11;
     w2c_i0 = (u32)(w2c_j0);
-    w2c_j1 = 0ull;
-    i64_store(m, (u64)(w2c_i0) + 1, w2c_j1);
+    w2c_i1 = w2c_l19;
+    i32_store8(m, (u64)(w2c_i0) + 1, w2c_i1);
     w2c_j0 = w2c_l11;
     w2c_i0 = (u32)(w2c_j0);
     w2c_i1 = w2c_p1;
@@ -32147,39 +33982,26 @@ static void w2c_f44(module *m, u64 w2c_p0, u32 w2c_p1, u64 w2c_p2, u32 w2c_p3, u
     i64_store(m, (u64)(w2c_i0) + 8, w2c_j1);
     w2c_j0 = w2c_l11;
     w2c_i0 = (u32)(w2c_j0);
-    w2c_j1 = w2c_l12;
-    w2c_j2 = 4ull;
-    w2c_j1 <<= (w2c_j2 & 63);
-    w2c_l13 = w2c_j1;
-    w2c_j2 = 68624ull;
-    w2c_j1 += w2c_j2;
-    w2c_i1 = (u32)(w2c_j1);
-    w2c_j1 = i64_load(m, (u64)(w2c_i1));
-    i64_store(m, (u64)(w2c_i0) + 16, w2c_j1);
-    w2c_j0 = w2c_l11;
-    w2c_i0 = (u32)(w2c_j0);
     w2c_j1 = w2c_l14;
-    i64_store(m, (u64)(w2c_i0) + 40, w2c_j1);
+    i64_store(m, (u64)(w2c_i0) + 24, w2c_j1);
     w2c_j0 = w2c_l11;
     w2c_i0 = (u32)(w2c_j0);
-    w2c_j1 = w2c_l13;
-    w2c_j2 = 68632ull;
-    w2c_j1 += w2c_j2;
-    w2c_i1 = (u32)(w2c_j1);
-    w2c_j1 = i64_load(m, (u64)(w2c_i1));
-    i64_store(m, (u64)(w2c_i0) + 24, w2c_j1);
+    w2c_j1 = w2c_l10;
+    i64_store(m, (u64)(w2c_i0) + 16, w2c_j1);
     w2c_j0 = w2c_l6;
     w2c_i0 = (u32)(w2c_j0);
     w2c_j1 = w2c_l6;
     w2c_i1 = (u32)(w2c_j1);
-    w2c_j1 = i64_load(m, (u64)(w2c_i1) + 928u);
+    w2c_j1 = i64_load(m, (u64)(w2c_i1) + 672u);
     w2c_j2 = 1ull;
     w2c_j1 += w2c_j2;
-    i64_store(m, (u64)(w2c_i0) + 928, w2c_j1);
+    i64_store(m, (u64)(w2c_i0) + 672, w2c_j1);
     w2c_i0 = 0u;
     w2c_l20 = w2c_i0;
     w2c_i0 = 1u;
     w2c_l21 = w2c_i0;
+    w2c_j0 = 0ull;
+    w2c_l10 = w2c_j0;
     goto w2c_B2;
     w2c_B11:;
     w2c_j0 = 0ull;
@@ -32189,14 +34011,14 @@ static void w2c_f44(module *m, u64 w2c_p0, u32 w2c_p1, u64 w2c_p2, u32 w2c_p3, u
     w2c_j0 = w2c_p5;
     w2c_j1 = 8ull;
     w2c_i0 = w2c_j0 < w2c_j1;
-    if (w2c_i0) {goto w2c_B25;}
+    if (w2c_i0) {goto w2c_B24;}
     w2c_j0 = 0ull;
     w2c_l14 = w2c_j0;
     w2c_j0 = w2c_p5;
-    w2c_l13 = w2c_j0;
+    w2c_l12 = w2c_j0;
     w2c_j0 = 0ull;
     w2c_l11 = w2c_j0;
-    w2c_L26:
+    w2c_L25:
       w2c_j0 = w2c_p4;
       w2c_j1 = w2c_l11;
       w2c_j0 += w2c_j1;
@@ -32206,7 +34028,7 @@ static void w2c_f44(module *m, u64 w2c_p0, u32 w2c_p1, u64 w2c_p2, u32 w2c_p3, u
       w2c_j0 &= w2c_j1;
       w2c_j1 = 63050398541283552ull;
       w2c_i0 = w2c_j0 != w2c_j1;
-      if (w2c_i0) {goto w2c_B25;}
+      if (w2c_i0) {goto w2c_B24;}
       w2c_j0 = w2c_l14;
       w2c_j1 = 3ull;
       w2c_j0 += w2c_j1;
@@ -32215,19 +34037,19 @@ static void w2c_f44(module *m, u64 w2c_p0, u32 w2c_p1, u64 w2c_p2, u32 w2c_p3, u
       w2c_j1 = 9ull;
       w2c_j0 += w2c_j1;
       w2c_l11 = w2c_j0;
-      w2c_j0 = w2c_l13;
+      w2c_j0 = w2c_l12;
       w2c_j1 = 18446744073709551607ull;
       w2c_j0 += w2c_j1;
-      w2c_l13 = w2c_j0;
+      w2c_l12 = w2c_j0;
       w2c_j1 = 7ull;
       w2c_i0 = w2c_j0 > w2c_j1;
-      if (w2c_i0) {goto w2c_L26;}
-    w2c_B25:;
+      if (w2c_i0) {goto w2c_L25;}
+    w2c_B24:;
     w2c_j0 = w2c_l11;
     w2c_j1 = w2c_p5;
     w2c_i0 = w2c_j0 >= w2c_j1;
-    if (w2c_i0) {goto w2c_B27;}
-    w2c_L28:
+    if (w2c_i0) {goto w2c_B26;}
+    w2c_L27:
       w2c_j0 = w2c_l14;
       w2c_j1 = 1ull;
       w2c_j0 += w2c_j1;
@@ -32251,12 +34073,12 @@ static void w2c_f44(module *m, u64 w2c_p0, u32 w2c_p1, u64 w2c_p2, u32 w2c_p3, u
       w2c_l11 = w2c_j0;
       w2c_j1 = w2c_p5;
       w2c_i0 = w2c_j0 < w2c_j1;
-      if (w2c_i0) {goto w2c_L28;}
-    w2c_B27:;
+      if (w2c_i0) {goto w2c_L27;}
+    w2c_B26:;
     w2c_j0 = w2c_l7;
     w2c_j1 = w2c_l14;
     w2c_j0 += w2c_j1;
-    w2c_l16 = w2c_j0;
+    w2c_l17 = w2c_j0;
     w2c_j0 = 1ull;
     w2c_l18 = w2c_j0;
     w2c_B10:;
@@ -32274,7 +34096,7 @@ static void w2c_f44(module *m, u64 w2c_p0, u32 w2c_p1, u64 w2c_p2, u32 w2c_p3, u
     w2c_j1 = 16ull;
     w2c_j0 += w2c_j1;
     w2c_i0 = (u32)(w2c_j0);
-    w2c_j1 = w2c_l16;
+    w2c_j1 = w2c_l17;
     i64_store(m, (u64)(w2c_i0), w2c_j1);
     w2c_j0 = w2c_p0;
     w2c_j1 = 8ull;
@@ -32289,7 +34111,7 @@ static void w2c_f44(module *m, u64 w2c_p0, u32 w2c_p1, u64 w2c_p2, u32 w2c_p3, u
     w2c_i0 += w2c_i1;
     w2c_i1 = 63487u;
     w2c_i0 = w2c_i0 > w2c_i1;
-    if (w2c_i0) {goto w2c_B34;}
+    if (w2c_i0) {goto w2c_B31;}
     w2c_i0 = w2c_p3;
     w2c_i1 = 12u;
     w2c_i0 >>= (w2c_i1 & 31);
@@ -32320,7 +34142,7 @@ static void w2c_f44(module *m, u64 w2c_p0, u32 w2c_p1, u64 w2c_p2, u32 w2c_p3, u
     w2c_i0 = i32_load(m, (u64)(w2c_i0) + 66992u);
     w2c_i1 = w2c_p1;
     w2c_i0 = w2c_i0 != w2c_i1;
-    if (w2c_i0) {goto w2c_B31;}
+    if (w2c_i0) {goto w2c_B28;}
     w2c_j0 = w2c_l11;
     w2c_j1 = 66997ull;
     w2c_j0 += w2c_j1;
@@ -32334,12 +34156,12 @@ static void w2c_f44(module *m, u64 w2c_p0, u32 w2c_p1, u64 w2c_p2, u32 w2c_p3, u
     w2c_j0 = i64_load8_u(m, (u64)(w2c_i0));
     w2c_i0 = (u32)(w2c_j0);
     switch (w2c_i0) {
-      case 0: goto w2c_B33;
-      case 1: goto w2c_B35;
-      case 2: goto w2c_B31;
-      default: goto w2c_B33;
+      case 0: goto w2c_B30;
+      case 1: goto w2c_B32;
+      case 2: goto w2c_B28;
+      default: goto w2c_B30;
     }
-    w2c_B35:;
+    w2c_B32:;
     w2c_i0 = 10u;
     w2c_l19 = w2c_i0;
     w2c_i0 = w2c_p1;
@@ -32347,17 +34169,17 @@ static void w2c_f44(module *m, u64 w2c_p0, u32 w2c_p1, u64 w2c_p2, u32 w2c_p3, u
     w2c_i0 &= w2c_i1;
     w2c_i1 = 1u;
     w2c_i0 = w2c_i0 != w2c_i1;
-    if (w2c_i0) {goto w2c_B31;}
-    goto w2c_B32;
-    w2c_B34:;
+    if (w2c_i0) {goto w2c_B28;}
+    goto w2c_B29;
+    w2c_B31:;
     w2c_i0 = w2c_p3;
     w2c_i1 = 4294967248u;
     w2c_i0 += w2c_i1;
     w2c_p1 = w2c_i0;
     w2c_i1 = 10u;
     w2c_i0 = w2c_i0 >= w2c_i1;
-    if (w2c_i0) {goto w2c_B31;}
-    w2c_B33:;
+    if (w2c_i0) {goto w2c_B28;}
+    w2c_B30:;
     w2c_i0 = 0u;
     w2c_i1 = w2c_p1;
     w2c_i2 = w2c_l21;
@@ -32372,12 +34194,12 @@ static void w2c_f44(module *m, u64 w2c_p0, u32 w2c_p1, u64 w2c_p2, u32 w2c_p3, u
     w2c_i0 = w2c_l23;
     w2c_i1 = 1u;
     w2c_i0 = w2c_i0 != w2c_i1;
-    if (w2c_i0) {goto w2c_B32;}
+    if (w2c_i0) {goto w2c_B29;}
     w2c_i0 = w2c_p1;
     w2c_i1 = 255u;
     w2c_i0 &= w2c_i1;
-    if (w2c_i0) {goto w2c_B31;}
-    w2c_B32:;
+    if (w2c_i0) {goto w2c_B28;}
+    w2c_B29:;
     w2c_i0 = w2c_l19;
     w2c_j0 = (u64)(w2c_i0);
     w2c_j1 = 255ull;
@@ -32385,73 +34207,88 @@ static void w2c_f44(module *m, u64 w2c_p0, u32 w2c_p1, u64 w2c_p2, u32 w2c_p3, u
     w2c_l11 = w2c_j0;
     w2c_j1 = w2c_l10;
     w2c_j0 += w2c_j1;
-    w2c_l17 = w2c_j0;
+    w2c_l16 = w2c_j0;
     w2c_j1 = w2c_l11;
     w2c_i0 = w2c_j0 < w2c_j1;
     w2c_j0 = (u64)(w2c_i0);
     w2c_l14 = w2c_j0;
     w2c_j0 = w2c_l6;
     w2c_i0 = (u32)(w2c_j0);
-    w2c_j0 = i64_load(m, (u64)(w2c_i0) + 928u);
+    w2c_j0 = i64_load(m, (u64)(w2c_i0) + 672u);
     w2c_l11 = w2c_j0;
     w2c_i0 = !(w2c_j0);
-    if (w2c_i0) {goto w2c_B36;}
+    if (w2c_i0) {goto w2c_B34;}
     w2c_j0 = w2c_l11;
     w2c_j1 = 18446744073709551615ull;
     w2c_j0 += w2c_j1;
-    w2c_l12 = w2c_j0;
+    w2c_l10 = w2c_j0;
     w2c_j0 = w2c_l11;
-    w2c_j1 = 48ull;
-    w2c_j0 *= w2c_j1;
+    w2c_j1 = 5ull;
+    w2c_j0 <<= (w2c_j1 & 63);
     w2c_j1 = w2c_l6;
     w2c_j2 = 160ull;
     w2c_j1 += w2c_j2;
     w2c_j0 += w2c_j1;
-    w2c_j1 = 18446744073709551584ull;
+    w2c_j1 = 18446744073709551585ull;
     w2c_j0 += w2c_j1;
     w2c_l11 = w2c_j0;
-    w2c_L37:
+    w2c_L35:
       w2c_j0 = w2c_l11;
-      w2c_j1 = 16ull;
+      w2c_j1 = 15ull;
       w2c_j0 += w2c_j1;
       w2c_i0 = (u32)(w2c_j0);
       w2c_j0 = i64_load(m, (u64)(w2c_i0));
       w2c_l13 = w2c_j0;
       w2c_j0 = w2c_l11;
       w2c_i0 = (u32)(w2c_j0);
-      w2c_j0 = i64_load(m, (u64)(w2c_i0));
-      w2c_l15 = w2c_j0;
+      w2c_j0 = i64_load8_u(m, (u64)(w2c_i0));
+      w2c_l12 = w2c_j0;
       w2c_j0 = w2c_l6;
       w2c_i0 = (u32)(w2c_j0);
-      w2c_j1 = w2c_l12;
-      i64_store(m, (u64)(w2c_i0) + 928, w2c_j1);
+      w2c_j1 = w2c_l10;
+      i64_store(m, (u64)(w2c_i0) + 672, w2c_j1);
+      w2c_j0 = w2c_l12;
+      w2c_j1 = 38ull;
+      w2c_i0 = w2c_j0 > w2c_j1;
+      if (w2c_i0) {goto w2c_B0;}
       w2c_j0 = w2c_l11;
-      w2c_j1 = 24ull;
+      w2c_j1 = 23ull;
       w2c_j0 += w2c_j1;
       w2c_i0 = (u32)(w2c_j0);
       w2c_j0 = i64_load(m, (u64)(w2c_i0));
-      w2c_l10 = w2c_j0;
-      w2c_j0 = w2c_l11;
+      w2c_l15 = w2c_j0;
+      w2c_j0 = w2c_l12;
+      w2c_j1 = 4ull;
+      w2c_j0 <<= (w2c_j1 & 63);
+      w2c_l18 = w2c_j0;
+      w2c_j1 = 68624ull;
+      w2c_j0 += w2c_j1;
       w2c_i0 = (u32)(w2c_j0);
-      w2c_j0 = i64_load(m, (u64)(w2c_i0) + 8u);
+      w2c_j0 = i64_load(m, (u64)(w2c_i0));
+      w2c_l12 = w2c_j0;
+      w2c_j0 = w2c_l18;
+      w2c_j1 = 68632ull;
+      w2c_j0 += w2c_j1;
+      w2c_i0 = (u32)(w2c_j0);
+      w2c_j0 = i64_load(m, (u64)(w2c_i0));
       w2c_l18 = w2c_j0;
       w2c_j1 = w2c_l14;
       w2c_j0 |= w2c_j1;
       w2c_j1 = 0ull;
       w2c_i0 = w2c_j0 != w2c_j1;
-      if (w2c_i0) {goto w2c_B39;}
+      if (w2c_i0) {goto w2c_B37;}
       w2c_j0 = w2c_l6;
       w2c_j1 = 80ull;
       w2c_j0 += w2c_j1;
-      w2c_j1 = w2c_l15;
+      w2c_j1 = w2c_l12;
       w2c_j2 = w2c_l18;
-      w2c_j3 = w2c_l17;
+      w2c_j3 = w2c_l16;
       w2c_j4 = w2c_l14;
       w2c_f3(m, w2c_j0, w2c_j1, w2c_j2, w2c_j3, w2c_j4);
       w2c_j0 = w2c_l6;
       w2c_i0 = (u32)(w2c_j0);
       w2c_j0 = i64_load(m, (u64)(w2c_i0) + 80u);
-      w2c_l15 = w2c_j0;
+      w2c_l12 = w2c_j0;
       w2c_j1 = w2c_l13;
       w2c_j2 = 18446744073709551615ull;
       w2c_j1 ^= w2c_j2;
@@ -32460,46 +34297,33 @@ static void w2c_f44(module *m, u64 w2c_p0, u32 w2c_p1, u64 w2c_p2, u32 w2c_p3, u
       w2c_i1 = (u32)(w2c_j1);
       w2c_j1 = i64_load(m, (u64)(w2c_i1) + 88u);
       w2c_l14 = w2c_j1;
-      w2c_j2 = w2c_l10;
+      w2c_j2 = w2c_l15;
       w2c_j3 = 18446744073709551615ull;
       w2c_j2 ^= w2c_j3;
-      w2c_l17 = w2c_j2;
+      w2c_l16 = w2c_j2;
       w2c_i1 = w2c_j1 > w2c_j2;
       w2c_j2 = w2c_l14;
-      w2c_j3 = w2c_l17;
+      w2c_j3 = w2c_l16;
       w2c_i2 = w2c_j2 == w2c_j3;
       w2c_i0 = w2c_i2 ? w2c_i0 : w2c_i1;
-      if (w2c_i0) {goto w2c_B40;}
-      w2c_j0 = w2c_l10;
-      w2c_j1 = w2c_l14;
-      w2c_j0 += w2c_j1;
-      w2c_j1 = w2c_l13;
-      w2c_j2 = w2c_l15;
-      w2c_j1 += w2c_j2;
-      w2c_l17 = w2c_j1;
-      w2c_j2 = w2c_l13;
-      w2c_i1 = w2c_j1 < w2c_j2;
-      w2c_j1 = (u64)(w2c_i1);
-      w2c_j0 += w2c_j1;
-      w2c_l14 = w2c_j0;
-      goto w2c_B38;
-      w2c_B40:;
+      w2c_i0 = !(w2c_i0);
+      if (w2c_i0) {goto w2c_B36;}
       w2c_j0 = 0ull;
-      w2c_l17 = w2c_j0;
+      w2c_l16 = w2c_j0;
       w2c_j0 = 1ull;
       w2c_l18 = w2c_j0;
       w2c_j0 = 2ull;
       w2c_p5 = w2c_j0;
       w2c_j0 = 0ull;
       w2c_l14 = w2c_j0;
-      goto w2c_B29;
-      w2c_B39:;
+      goto w2c_B33;
+      w2c_B37:;
       w2c_j0 = w2c_l6;
       w2c_j1 = 112ull;
       w2c_j0 += w2c_j1;
-      w2c_j1 = w2c_l15;
+      w2c_j1 = w2c_l12;
       w2c_j2 = 0ull;
-      w2c_j3 = w2c_l17;
+      w2c_j3 = w2c_l16;
       w2c_j4 = 0ull;
       w2c_f3(m, w2c_j0, w2c_j1, w2c_j2, w2c_j3, w2c_j4);
       w2c_j0 = w2c_l6;
@@ -32507,13 +34331,13 @@ static void w2c_f44(module *m, u64 w2c_p0, u32 w2c_p1, u64 w2c_p2, u32 w2c_p3, u
       w2c_j0 += w2c_j1;
       w2c_j1 = w2c_l18;
       w2c_j2 = 0ull;
-      w2c_j3 = w2c_l17;
+      w2c_j3 = w2c_l16;
       w2c_j4 = 0ull;
       w2c_f3(m, w2c_j0, w2c_j1, w2c_j2, w2c_j3, w2c_j4);
       w2c_j0 = w2c_l6;
       w2c_j1 = 96ull;
       w2c_j0 += w2c_j1;
-      w2c_j1 = w2c_l15;
+      w2c_j1 = w2c_l12;
       w2c_j2 = 0ull;
       w2c_j3 = w2c_l14;
       w2c_j4 = 0ull;
@@ -32536,104 +34360,132 @@ static void w2c_f44(module *m, u64 w2c_p0, u32 w2c_p1, u64 w2c_p2, u32 w2c_p3, u
       w2c_j1 = w2c_l6;
       w2c_i1 = (u32)(w2c_j1);
       w2c_j1 = i64_load(m, (u64)(w2c_i1) + 120u);
-      w2c_l15 = w2c_j1;
+      w2c_l16 = w2c_j1;
       w2c_j2 = w2c_l6;
       w2c_i2 = (u32)(w2c_j2);
       w2c_j2 = i64_load(m, (u64)(w2c_i2) + 144u);
       w2c_j1 += w2c_j2;
-      w2c_l17 = w2c_j1;
+      w2c_l12 = w2c_j1;
       w2c_j2 = w2c_l6;
       w2c_i2 = (u32)(w2c_j2);
       w2c_j2 = i64_load(m, (u64)(w2c_i2) + 96u);
       w2c_j1 += w2c_j2;
       w2c_l14 = w2c_j1;
-      w2c_j2 = w2c_l17;
+      w2c_j2 = w2c_l12;
       w2c_i1 = w2c_j1 < w2c_j2;
       w2c_j1 = (u64)(w2c_i1);
       w2c_j0 += w2c_j1;
       w2c_j1 = w2c_l6;
       w2c_i1 = (u32)(w2c_j1);
       w2c_j1 = i64_load(m, (u64)(w2c_i1) + 152u);
-      w2c_j2 = w2c_l17;
-      w2c_j3 = w2c_l15;
+      w2c_j2 = w2c_l12;
+      w2c_j3 = w2c_l16;
       w2c_i2 = w2c_j2 < w2c_j3;
       w2c_j2 = (u64)(w2c_i2);
       w2c_j1 += w2c_j2;
-      w2c_l17 = w2c_j1;
+      w2c_l12 = w2c_j1;
       w2c_j2 = w2c_l6;
       w2c_i2 = (u32)(w2c_j2);
       w2c_j2 = i64_load(m, (u64)(w2c_i2) + 128u);
       w2c_j1 += w2c_j2;
-      w2c_l15 = w2c_j1;
+      w2c_l16 = w2c_j1;
       w2c_j0 |= w2c_j1;
       w2c_j1 = w2c_l6;
       w2c_i1 = (u32)(w2c_j1);
       w2c_j1 = i64_load(m, (u64)(w2c_i1) + 136u);
-      w2c_j2 = w2c_l15;
-      w2c_j3 = w2c_l17;
+      w2c_j2 = w2c_l16;
+      w2c_j3 = w2c_l12;
       w2c_i2 = w2c_j2 < w2c_j3;
       w2c_j2 = (u64)(w2c_i2);
       w2c_j1 += w2c_j2;
       w2c_j0 |= w2c_j1;
-      w2c_j1 = 0ull;
-      w2c_i0 = w2c_j0 == w2c_j1;
-      if (w2c_i0) {goto w2c_B41;}
+      w2c_i0 = !(w2c_j0);
+      if (w2c_i0) {goto w2c_B38;}
       w2c_j0 = 0ull;
-      w2c_l17 = w2c_j0;
+      w2c_l16 = w2c_j0;
       w2c_j0 = 0ull;
       w2c_l14 = w2c_j0;
-      goto w2c_B29;
-      w2c_B41:;
+      goto w2c_B33;
+      w2c_B38:;
       w2c_j0 = w2c_l6;
       w2c_i0 = (u32)(w2c_j0);
       w2c_j0 = i64_load(m, (u64)(w2c_i0) + 112u);
-      w2c_l15 = w2c_j0;
+      w2c_l12 = w2c_j0;
       w2c_j1 = w2c_l13;
       w2c_j2 = 18446744073709551615ull;
       w2c_j1 ^= w2c_j2;
       w2c_i0 = w2c_j0 > w2c_j1;
       w2c_j1 = w2c_l14;
-      w2c_j2 = w2c_l10;
+      w2c_j2 = w2c_l15;
       w2c_j3 = 18446744073709551615ull;
       w2c_j2 ^= w2c_j3;
-      w2c_l17 = w2c_j2;
+      w2c_l16 = w2c_j2;
       w2c_i1 = w2c_j1 > w2c_j2;
       w2c_j2 = w2c_l14;
-      w2c_j3 = w2c_l17;
+      w2c_j3 = w2c_l16;
       w2c_i2 = w2c_j2 == w2c_j3;
       w2c_i0 = w2c_i2 ? w2c_i0 : w2c_i1;
-      if (w2c_i0) {goto w2c_B30;}
+      w2c_i0 = !(w2c_i0);
+      if (w2c_i0) {goto w2c_B36;}
+      w2c_j0 = 0ull;
+      w2c_l14 = w2c_j0;
+      w2c_j0 = 0ull;
+      w2c_l16 = w2c_j0;
+      goto w2c_B33;
+      w2c_B36:;
       w2c_j0 = w2c_l14;
-      w2c_j1 = w2c_l10;
-      w2c_j0 += w2c_j1;
       w2c_j1 = w2c_l15;
+      w2c_j0 += w2c_j1;
+      w2c_j1 = w2c_l12;
       w2c_j2 = w2c_l13;
       w2c_j1 += w2c_j2;
-      w2c_l17 = w2c_j1;
-      w2c_j2 = w2c_l15;
+      w2c_l16 = w2c_j1;
+      w2c_j2 = w2c_l12;
       w2c_i1 = w2c_j1 < w2c_j2;
       w2c_j1 = (u64)(w2c_i1);
       w2c_j0 += w2c_j1;
       w2c_l14 = w2c_j0;
-      w2c_B38:;
       w2c_j0 = w2c_l11;
-      w2c_j1 = 18446744073709551568ull;
+      w2c_j1 = 18446744073709551584ull;
       w2c_j0 += w2c_j1;
       w2c_l11 = w2c_j0;
-      w2c_j0 = w2c_l12;
+      w2c_j0 = w2c_l10;
       w2c_j1 = 18446744073709551615ull;
       w2c_j0 += w2c_j1;
-      w2c_l12 = w2c_j0;
+      w2c_l10 = w2c_j0;
       w2c_j1 = 18446744073709551615ull;
       w2c_i0 = w2c_j0 != w2c_j1;
-      if (w2c_i0) {goto w2c_L37;}
-    w2c_B36:;
+      if (w2c_i0) {goto w2c_L35;}
+    w2c_B34:;
     w2c_j0 = 0ull;
     w2c_p5 = w2c_j0;
     w2c_j0 = 0ull;
     w2c_l18 = w2c_j0;
-    goto w2c_B29;
-    w2c_B31:;
+    w2c_B33:;
+    w2c_j0 = w2c_p0;
+    w2c_i0 = (u32)(w2c_j0);
+    w2c_j1 = w2c_l18;
+    i64_store(m, (u64)(w2c_i0), w2c_j1);
+    w2c_j0 = w2c_p0;
+    w2c_j1 = 24ull;
+    w2c_j0 += w2c_j1;
+    w2c_i0 = (u32)(w2c_j0);
+    w2c_j1 = w2c_l14;
+    i64_store(m, (u64)(w2c_i0), w2c_j1);
+    w2c_j0 = w2c_p0;
+    w2c_j1 = 16ull;
+    w2c_j0 += w2c_j1;
+    w2c_i0 = (u32)(w2c_j0);
+    w2c_j1 = w2c_l16;
+    i64_store(m, (u64)(w2c_i0), w2c_j1);
+    w2c_j0 = w2c_p0;
+    w2c_j1 = 8ull;
+    w2c_j0 += w2c_j1;
+    w2c_i0 = (u32)(w2c_j0);
+    w2c_j1 = w2c_p5;
+    i64_store(m, (u64)(w2c_i0), w2c_j1);
+    goto w2c_B3;
+    w2c_B28:;
     w2c_j0 = w2c_p0;
     w2c_i0 = (u32)(w2c_j0);
     w2c_j1 = 1ull;
@@ -32656,38 +34508,9 @@ static void w2c_f44(module *m, u64 w2c_p0, u32 w2c_p1, u64 w2c_p2, u32 w2c_p3, u
     w2c_i0 = (u32)(w2c_j0);
     w2c_j1 = 1ull;
     i64_store(m, (u64)(w2c_i0), w2c_j1);
-    goto w2c_B3;
-    w2c_B30:;
-    w2c_j0 = 0ull;
-    w2c_l14 = w2c_j0;
-    w2c_j0 = 0ull;
-    w2c_l17 = w2c_j0;
-    w2c_B29:;
-    w2c_j0 = w2c_p0;
-    w2c_i0 = (u32)(w2c_j0);
-    w2c_j1 = w2c_l18;
-    i64_store(m, (u64)(w2c_i0), w2c_j1);
-    w2c_j0 = w2c_p0;
-    w2c_j1 = 24ull;
-    w2c_j0 += w2c_j1;
-    w2c_i0 = (u32)(w2c_j0);
-    w2c_j1 = w2c_l14;
-    i64_store(m, (u64)(w2c_i0), w2c_j1);
-    w2c_j0 = w2c_p0;
-    w2c_j1 = 16ull;
-    w2c_j0 += w2c_j1;
-    w2c_i0 = (u32)(w2c_j0);
-    w2c_j1 = w2c_l17;
-    i64_store(m, (u64)(w2c_i0), w2c_j1);
-    w2c_j0 = w2c_p0;
-    w2c_j1 = 8ull;
-    w2c_j0 += w2c_j1;
-    w2c_i0 = (u32)(w2c_j0);
-    w2c_j1 = w2c_p5;
-    i64_store(m, (u64)(w2c_i0), w2c_j1);
     w2c_B3:;
     w2c_j0 = w2c_l6;
-    w2c_j1 = 976ull;
+    w2c_j1 = 720ull;
     w2c_j0 += w2c_j1;
     m->w2c_g0 = w2c_j0;
     goto w2c_Bfunc;
@@ -32703,7 +34526,7 @@ static void w2c_f44(module *m, u64 w2c_p0, u32 w2c_p1, u64 w2c_p2, u32 w2c_p3, u
   w2c_Bfunc:;
 }
 
-static void w2c_f45(module *m, u64 w2c_p0, u32 w2c_p1, u64 w2c_p2, u64 w2c_p3, u32 w2c_p4, u32 w2c_p5) {
+static void w2c_f48(module *m, u64 w2c_p0, u32 w2c_p1, u64 w2c_p2, u64 w2c_p3, u32 w2c_p4, u32 w2c_p5) {
   u64 w2c_l6 = 0, w2c_l7 = 0, w2c_l8 = 0, w2c_l9 = 0, w2c_l10 = 0, w2c_l11 = 0, w2c_l12 = 0, w2c_l13 = 0, w2c_l14 = 0, w2c_l15 = 0, w2c_l16 = 0, w2c_l17 = 0, w2c_l18 = 0;
   u32 w2c_i0, w2c_i1, w2c_i2, w2c_i3, w2c_i4, w2c_i5, w2c_i6;
   u64 w2c_j0, w2c_j1, w2c_j2, w2c_j3, w2c_j4, w2c_j5, w2c_j6, w2c_j7;
@@ -33037,173 +34860,262 @@ static void w2c_f45(module *m, u64 w2c_p0, u32 w2c_p1, u64 w2c_p2, u64 w2c_p3, u
   m->w2c_g0 = w2c_j0;
 }
 
-static u32 w2c_f46(module *m, u64 w2c_p0, u64 w2c_p1, u32 w2c_p2, u64 w2c_p3, u64 w2c_p4, u64 w2c_p5) {
-  u32 w2c_l9 = 0;
-  u64 w2c_l6 = 0, w2c_l7 = 0, w2c_l8 = 0;
-  u32 w2c_i0, w2c_i1;
-  u64 w2c_j0, w2c_j1;
+static u32 w2c_f49(module *m, u64 w2c_p0, u64 w2c_p1, u32 w2c_p2, u32 w2c_p3, u64 w2c_p4) {
+  u32 w2c_l9 = 0, w2c_l10 = 0;
+  u64 w2c_l5 = 0, w2c_l6 = 0, w2c_l7 = 0, w2c_l8 = 0;
+  u32 w2c_i0, w2c_i1, w2c_i2;
+  u64 w2c_j0, w2c_j1, w2c_j2, w2c_j3, w2c_j4, w2c_j5;
   w2c_j0 = m->w2c_g0;
+  w2c_j1 = 48ull;
+  w2c_j0 -= w2c_j1;
+  w2c_l5 = w2c_j0;
+  m->w2c_g0 = w2c_j0;
+  w2c_j0 = w2c_l5;
+  w2c_l5 = w2c_j0;
   w2c_j1 = 16ull;
   w2c_i0 = (u64)((s64)w2c_j0 < (s64)w2c_j1);
-  if (w2c_i0) {goto w2c_B0;}
-  w2c_j0 = 0ull;
-  w2c_l6 = w2c_j0;
+  if (w2c_i0) {goto w2c_B2;}
+  w2c_j0 = w2c_p4;
+  w2c_i0 = (u32)(w2c_j0);
+  w2c_j1 = 0ull;
+  i64_store(m, (u64)(w2c_i0) + 24, w2c_j1);
+  w2c_j0 = w2c_p4;
+  w2c_i0 = (u32)(w2c_j0);
+  w2c_j1 = 0ull;
+  i64_store(m, (u64)(w2c_i0) + 16, w2c_j1);
+  w2c_j0 = w2c_p4;
+  w2c_i0 = (u32)(w2c_j0);
+  w2c_j1 = 0ull;
+  i64_store(m, (u64)(w2c_i0) + 8, w2c_j1);
   w2c_j0 = w2c_p4;
   w2c_i0 = (u32)(w2c_j0);
   w2c_j1 = 0ull;
   i64_store(m, (u64)(w2c_i0), w2c_j1);
-  w2c_j0 = w2c_p5;
+  w2c_i0 = 8u;
+  w2c_l9 = w2c_i0;
+  w2c_i0 = w2c_p2;
+  w2c_i1 = 9u;
+  w2c_i0 = w2c_i0 > w2c_i1;
+  if (w2c_i0) {goto w2c_B0;}
+  w2c_i0 = w2c_p2;
+  w2c_j0 = (u64)(w2c_i0);
+  w2c_j1 = 68016ull;
+  w2c_j0 += w2c_j1;
+  w2c_i0 = (u32)(w2c_j0);
+  w2c_i0 = i32_load8_u(m, (u64)(w2c_i0));
+  w2c_l10 = w2c_i0;
+  w2c_i0 = w2c_p3;
+  w2c_i1 = 5u;
+  w2c_i0 = w2c_i0 < w2c_i1;
+  if (w2c_i0) {goto w2c_B5;}
+  w2c_i0 = w2c_p3;
+  w2c_i1 = 5u;
+  w2c_i0 = w2c_i0 == w2c_i1;
+  if (w2c_i0) {goto w2c_B4;}
+  goto w2c_B0;
+  w2c_B5:;
+  w2c_i0 = w2c_p3;
+  w2c_j0 = (u64)(w2c_i0);
+  w2c_j1 = 1ull;
+  w2c_j0 <<= (w2c_j1 & 63);
+  w2c_l6 = w2c_j0;
+  w2c_j1 = 68027ull;
+  w2c_j0 += w2c_j1;
+  w2c_i0 = (u32)(w2c_j0);
+  w2c_i0 = i32_load8_u(m, (u64)(w2c_i0));
+  w2c_p3 = w2c_i0;
+  w2c_j0 = w2c_l6;
+  w2c_j1 = 68026ull;
+  w2c_j0 += w2c_j1;
+  w2c_i0 = (u32)(w2c_j0);
+  w2c_i0 = i32_load8_u(m, (u64)(w2c_i0));
+  w2c_l9 = w2c_i0;
+  goto w2c_B3;
+  w2c_B4:;
+  w2c_j0 = w2c_l5;
+  w2c_j1 = 8ull;
+  w2c_j0 += w2c_j1;
+  w2c_i1 = w2c_l10;
+  w2c_j2 = w2c_p0;
+  w2c_j3 = w2c_p1;
+  w2c_f50(m, w2c_j0, w2c_i1, w2c_j2, w2c_j3);
+  w2c_j0 = w2c_l5;
+  w2c_i0 = (u32)(w2c_j0);
+  w2c_i0 = i32_load8_u(m, (u64)(w2c_i0) + 9u);
+  w2c_p3 = w2c_i0;
+  w2c_j0 = w2c_l5;
+  w2c_i0 = (u32)(w2c_j0);
+  w2c_i0 = i32_load8_u(m, (u64)(w2c_i0) + 8u);
+  w2c_l9 = w2c_i0;
+  w2c_B3:;
+  w2c_i0 = w2c_p2;
+  w2c_i1 = 5u;
+  w2c_i0 = w2c_i0 < w2c_i1;
+  if (w2c_i0) {goto w2c_B6;}
+  w2c_i0 = w2c_l10;
+  w2c_i1 = w2c_l9;
+  w2c_i2 = w2c_p3;
+  w2c_j3 = w2c_p0;
+  w2c_j4 = w2c_p1;
+  w2c_j5 = w2c_p4;
+  w2c_i0 = w2c_f51(m, w2c_i0, w2c_i1, w2c_i2, w2c_j3, w2c_j4, w2c_j5);
+  w2c_l9 = w2c_i0;
+  goto w2c_B0;
+  w2c_B6:;
+  w2c_j0 = w2c_l5;
+  w2c_i0 = (u32)(w2c_j0);
+  w2c_j1 = 0ull;
+  i64_store(m, (u64)(w2c_i0) + 40, w2c_j1);
+  w2c_j0 = w2c_l5;
+  w2c_i0 = (u32)(w2c_j0);
+  w2c_j1 = 0ull;
+  i64_store(m, (u64)(w2c_i0) + 32, w2c_j1);
+  w2c_j0 = w2c_l5;
+  w2c_i0 = (u32)(w2c_j0);
+  w2c_j1 = 0ull;
+  i64_store(m, (u64)(w2c_i0) + 24, w2c_j1);
+  w2c_j0 = w2c_l5;
+  w2c_i0 = (u32)(w2c_j0);
+  w2c_j1 = 0ull;
+  i64_store(m, (u64)(w2c_i0) + 16, w2c_j1);
+  w2c_i0 = w2c_l9;
+  w2c_i1 = 255u;
+  w2c_i0 &= w2c_i1;
+  if (w2c_i0) {goto w2c_B8;}
+  w2c_j0 = w2c_l5;
+  w2c_j1 = 16ull;
+  w2c_j0 += w2c_j1;
+  w2c_j1 = 0ull;
+  w2c_j2 = w2c_p0;
+  w2c_j3 = w2c_p1;
+  w2c_f45(m, w2c_j0, w2c_j1, w2c_j2, w2c_j3);
+  goto w2c_B7;
+  w2c_B8:;
+  w2c_j0 = w2c_l5;
+  w2c_j1 = 16ull;
+  w2c_j0 += w2c_j1;
+  w2c_i1 = w2c_p3;
+  w2c_j2 = 0ull;
+  w2c_j3 = w2c_p0;
+  w2c_j4 = w2c_p1;
+  w2c_f52(m, w2c_j0, w2c_i1, w2c_j2, w2c_j3, w2c_j4);
+  w2c_B7:;
+  w2c_j0 = w2c_p4;
+  w2c_j1 = 16ull;
+  w2c_j0 += w2c_j1;
+  w2c_l6 = w2c_j0;
+  w2c_j0 = w2c_l5;
+  w2c_i0 = (u32)(w2c_j0);
+  w2c_j0 = i64_load(m, (u64)(w2c_i0) + 32u);
+  w2c_l7 = w2c_j0;
+  w2c_j0 = w2c_l5;
+  w2c_i0 = (u32)(w2c_j0);
+  w2c_i0 = i32_load8_u(m, (u64)(w2c_i0) + 16u);
+  if (w2c_i0) {goto w2c_B9;}
+  w2c_i0 = w2c_l10;
+  w2c_j0 = (u64)(w2c_i0);
+  w2c_j1 = 255ull;
+  w2c_j0 &= w2c_j1;
+  w2c_j1 = 5ull;
+  w2c_j0 <<= (w2c_j1 & 63);
+  w2c_p1 = w2c_j0;
+  w2c_i0 = (u32)(w2c_j0);
+  w2c_j0 = i64_load(m, (u64)(w2c_i0) + 68048u);
+  w2c_j1 = w2c_l7;
+  w2c_i0 = w2c_j0 >= w2c_j1;
+  w2c_j1 = w2c_p1;
+  w2c_i1 = (u32)(w2c_j1);
+  w2c_j1 = i64_load(m, (u64)(w2c_i1) + 68056u);
+  w2c_p0 = w2c_j1;
+  w2c_j2 = w2c_l5;
+  w2c_i2 = (u32)(w2c_j2);
+  w2c_j2 = i64_load(m, (u64)(w2c_i2) + 40u);
+  w2c_p1 = w2c_j2;
+  w2c_i1 = w2c_j1 >= w2c_j2;
+  w2c_j2 = w2c_p0;
+  w2c_j3 = w2c_p1;
+  w2c_i2 = w2c_j2 == w2c_j3;
+  w2c_i0 = w2c_i2 ? w2c_i0 : w2c_i1;
+  if (w2c_i0) {goto w2c_B10;}
+  w2c_j0 = w2c_l6;
+  w2c_i0 = (u32)(w2c_j0);
+  w2c_j1 = 0ull;
+  i64_store(m, (u64)(w2c_i0) + 8, w2c_j1);
+  w2c_j0 = w2c_l6;
+  w2c_i0 = (u32)(w2c_j0);
+  w2c_j1 = 0ull;
+  i64_store(m, (u64)(w2c_i0), w2c_j1);
+  goto w2c_B1;
+  w2c_B10:;
+  w2c_j0 = w2c_p4;
+  w2c_i0 = (u32)(w2c_j0);
+  w2c_j1 = w2c_l7;
+  i64_store(m, (u64)(w2c_i0), w2c_j1);
+  w2c_j0 = w2c_p4;
+  w2c_i0 = (u32)(w2c_j0);
+  w2c_j1 = w2c_p1;
+  i64_store(m, (u64)(w2c_i0) + 8, w2c_j1);
+  w2c_i0 = 0u;
+  w2c_l9 = w2c_i0;
+  goto w2c_B0;
+  w2c_B9:;
+  w2c_j0 = w2c_l5;
+  w2c_i0 = (u32)(w2c_j0);
+  w2c_j0 = i64_load8_u(m, (u64)(w2c_i0) + 24u);
+  w2c_l8 = w2c_j0;
+  w2c_j0 = w2c_l6;
+  w2c_i0 = (u32)(w2c_j0);
+  w2c_j1 = 0ull;
+  i64_store(m, (u64)(w2c_i0) + 8, w2c_j1);
+  w2c_j0 = w2c_l6;
   w2c_i0 = (u32)(w2c_j0);
   w2c_j1 = 0ull;
   i64_store(m, (u64)(w2c_i0), w2c_j1);
   w2c_i0 = 1u;
   w2c_l9 = w2c_i0;
-  w2c_i0 = w2c_p2;
-  w2c_j0 = (u64)(w2c_i0);
-  w2c_j1 = 255ull;
-  w2c_j0 &= w2c_j1;
+  w2c_j0 = w2c_l8;
   w2c_i0 = (u32)(w2c_j0);
   switch (w2c_i0) {
-    case 0: goto w2c_B1;
-    case 1: goto w2c_B4;
-    case 2: goto w2c_B3;
-    case 3: goto w2c_B2;
-    default: goto w2c_B1;
+    case 0: goto w2c_B0;
+    case 1: goto w2c_B12;
+    case 2: goto w2c_B1;
+    case 3: goto w2c_B11;
+    default: goto w2c_B0;
   }
-  w2c_B4:;
+  w2c_B12:;
   w2c_j0 = w2c_p4;
   w2c_i0 = (u32)(w2c_j0);
-  w2c_j1 = w2c_p3;
-  i64_store(m, (u64)(w2c_i0), w2c_j1);
-  w2c_j0 = w2c_p1;
-  w2c_j1 = 8ull;
-  w2c_i0 = w2c_j0 >= w2c_j1;
-  if (w2c_i0) {goto w2c_B6;}
-  w2c_j0 = 0ull;
-  w2c_l7 = w2c_j0;
-  goto w2c_B5;
-  w2c_B6:;
-  w2c_j0 = 0ull;
-  w2c_l7 = w2c_j0;
-  w2c_j0 = w2c_p3;
-  w2c_j1 = 3ull;
-  w2c_i0 = w2c_j0 < w2c_j1;
-  if (w2c_i0) {goto w2c_B5;}
-  w2c_j0 = w2c_p1;
-  w2c_j1 = 18446744073709551607ull;
-  w2c_j0 += w2c_j1;
-  w2c_l8 = w2c_j0;
-  w2c_j0 = w2c_p3;
-  w2c_j1 = 18446744073709551613ull;
-  w2c_j0 += w2c_j1;
-  w2c_p4 = w2c_j0;
-  w2c_j0 = 0ull;
-  w2c_l7 = w2c_j0;
-  w2c_j0 = 0ull;
-  w2c_l6 = w2c_j0;
-  w2c_L7:
-    w2c_j0 = w2c_p0;
-    w2c_j1 = w2c_l6;
-    w2c_j0 += w2c_j1;
-    w2c_i0 = (u32)(w2c_j0);
-    w2c_j0 = i64_load(m, (u64)(w2c_i0));
-    w2c_j1 = 67553998437089520ull;
-    w2c_j0 &= w2c_j1;
-    w2c_j1 = 63050398541283552ull;
-    w2c_i0 = w2c_j0 != w2c_j1;
-    if (w2c_i0) {goto w2c_B5;}
-    w2c_j0 = w2c_l7;
-    w2c_j1 = 3ull;
-    w2c_j0 += w2c_j1;
-    w2c_l7 = w2c_j0;
-    w2c_j0 = w2c_l6;
-    w2c_j1 = 9ull;
-    w2c_j0 += w2c_j1;
-    w2c_l6 = w2c_j0;
-    w2c_j0 = w2c_p4;
-    w2c_j1 = 3ull;
-    w2c_i0 = w2c_j0 < w2c_j1;
-    if (w2c_i0) {goto w2c_B5;}
-    w2c_j0 = w2c_p4;
-    w2c_j1 = 18446744073709551613ull;
-    w2c_j0 += w2c_j1;
-    w2c_p4 = w2c_j0;
-    w2c_j0 = w2c_l8;
-    w2c_j1 = 7ull;
-    w2c_i0 = w2c_j0 > w2c_j1;
-    w2c_p2 = w2c_i0;
-    w2c_j0 = w2c_l8;
-    w2c_j1 = 18446744073709551607ull;
-    w2c_j0 += w2c_j1;
-    w2c_l8 = w2c_j0;
-    w2c_i0 = w2c_p2;
-    if (w2c_i0) {goto w2c_L7;}
-  w2c_B5:;
-  w2c_j0 = w2c_p1;
-  w2c_j1 = w2c_l6;
-  w2c_i0 = w2c_j0 <= w2c_j1;
-  if (w2c_i0) {goto w2c_B8;}
-  w2c_j0 = w2c_l7;
-  w2c_j1 = w2c_p3;
-  w2c_i0 = w2c_j0 >= w2c_j1;
-  if (w2c_i0) {goto w2c_B8;}
-  w2c_j0 = w2c_l7;
-  w2c_j1 = 1ull;
-  w2c_j0 += w2c_j1;
-  w2c_p4 = w2c_j0;
-  w2c_L9:
-    w2c_j0 = w2c_p0;
-    w2c_j1 = w2c_l6;
-    w2c_j0 += w2c_j1;
-    w2c_i0 = (u32)(w2c_j0);
-    w2c_i0 = i32_load8_u(m, (u64)(w2c_i0));
-    w2c_i1 = 1u;
-    w2c_i0 >>= (w2c_i1 & 31);
-    w2c_j0 = (u64)(w2c_i0);
-    w2c_j1 = 120ull;
-    w2c_j0 &= w2c_j1;
-    w2c_j1 = 66848ull;
-    w2c_j0 += w2c_j1;
-    w2c_i0 = (u32)(w2c_j0);
-    w2c_j0 = i64_load(m, (u64)(w2c_i0));
-    w2c_j1 = w2c_l6;
-    w2c_j0 += w2c_j1;
-    w2c_l6 = w2c_j0;
-    w2c_j0 = w2c_p4;
-    w2c_j1 = w2c_p3;
-    w2c_i0 = w2c_j0 >= w2c_j1;
-    if (w2c_i0) {goto w2c_B8;}
-    w2c_j0 = w2c_p4;
-    w2c_j1 = 1ull;
-    w2c_j0 += w2c_j1;
-    w2c_p4 = w2c_j0;
-    w2c_j0 = w2c_p1;
-    w2c_j1 = w2c_l6;
-    w2c_i0 = w2c_j0 > w2c_j1;
-    if (w2c_i0) {goto w2c_L9;}
-  w2c_B8:;
-  w2c_j0 = w2c_p5;
+  w2c_j1 = w2c_l7;
+  i64_store(m, (u64)(w2c_i0) + 16, w2c_j1);
+  w2c_j0 = w2c_p4;
   w2c_i0 = (u32)(w2c_j0);
-  w2c_j1 = w2c_l6;
-  i64_store(m, (u64)(w2c_i0), w2c_j1);
+  w2c_j1 = w2c_p0;
+  w2c_j2 = w2c_p1;
+  w2c_j3 = w2c_l7;
+  w2c_j1 = w2c_f14(m, w2c_j1, w2c_j2, w2c_j3);
+  i64_store(m, (u64)(w2c_i0) + 24, w2c_j1);
   w2c_i0 = 2u;
-  goto w2c_Bfunc;
-  w2c_B3:;
-  w2c_i0 = 3u;
-  goto w2c_Bfunc;
-  w2c_B2:;
+  w2c_l9 = w2c_i0;
+  goto w2c_B0;
+  w2c_B11:;
   w2c_i0 = 4u;
   w2c_l9 = w2c_i0;
-  w2c_B1:;
-  w2c_i0 = w2c_l9;
-  goto w2c_Bfunc;
-  w2c_B0:;
+  goto w2c_B0;
+  w2c_B2:;
   UNREACHABLE;
-  w2c_Bfunc:;
+  w2c_B1:;
+  w2c_i0 = 3u;
+  w2c_l9 = w2c_i0;
+  w2c_B0:;
+  w2c_j0 = w2c_l5;
+  w2c_j1 = 48ull;
+  w2c_j0 += w2c_j1;
+  m->w2c_g0 = w2c_j0;
+  w2c_i0 = w2c_l9;
   return w2c_i0;
 }
 
-static void w2c_f47(module *m, u64 w2c_p0, u32 w2c_p1, u64 w2c_p2, u64 w2c_p3) {
+static void w2c_f50(module *m, u64 w2c_p0, u32 w2c_p1, u64 w2c_p2, u64 w2c_p3) {
   u32 w2c_l7 = 0, w2c_l8 = 0, w2c_l9 = 0, w2c_l10 = 0;
   u64 w2c_l4 = 0, w2c_l5 = 0, w2c_l6 = 0;
   u32 w2c_i0, w2c_i1, w2c_i2, w2c_i3;
@@ -33217,7 +35129,13 @@ static void w2c_f47(module *m, u64 w2c_p0, u32 w2c_p1, u64 w2c_p2, u64 w2c_p3) {
   w2c_l5 = w2c_j0;
   w2c_j1 = 16ull;
   w2c_i0 = (u64)((s64)w2c_j0 < (s64)w2c_j1);
-  if (w2c_i0) {goto w2c_B0;}
+  if (w2c_i0) {goto w2c_B6;}
+  w2c_i0 = w2c_p1;
+  w2c_i1 = 255u;
+  w2c_i0 &= w2c_i1;
+  w2c_i1 = 5u;
+  w2c_i0 = w2c_i0 < w2c_i1;
+  if (w2c_i0) {goto w2c_B1;}
   w2c_j0 = w2c_l5;
   w2c_i0 = (u32)(w2c_j0);
   w2c_j1 = 0ull;
@@ -33238,24 +35156,159 @@ static void w2c_f47(module *m, u64 w2c_p0, u32 w2c_p1, u64 w2c_p2, u64 w2c_p3) {
   w2c_i0 = (u32)(w2c_j0);
   w2c_j1 = 0ull;
   i64_store(m, (u64)(w2c_i0) + 8, w2c_j1);
-  w2c_i0 = w2c_p1;
+  w2c_j0 = w2c_p3;
+  w2c_j1 = 3ull;
+  w2c_i0 = w2c_j0 < w2c_j1;
+  if (w2c_i0) {goto w2c_B3;}
+  w2c_j0 = w2c_p2;
+  w2c_i0 = (u32)(w2c_j0);
+  w2c_i0 = i32_load8_u(m, (u64)(w2c_i0));
+  w2c_l7 = w2c_i0;
+  w2c_i1 = 240u;
+  w2c_i0 &= w2c_i1;
+  w2c_i1 = 224u;
+  w2c_i0 = w2c_i0 != w2c_i1;
+  if (w2c_i0) {goto w2c_B3;}
+  w2c_j0 = w2c_p2;
+  w2c_i0 = (u32)(w2c_j0);
+  w2c_i0 = i32_load8_u(m, (u64)(w2c_i0) + 1u);
+  w2c_l8 = w2c_i0;
+  w2c_i1 = 6u;
+  w2c_i0 <<= (w2c_i1 & 31);
+  w2c_i1 = w2c_l7;
+  w2c_i2 = 12u;
+  w2c_i1 <<= (w2c_i2 & 31);
+  w2c_i0 += w2c_i1;
+  w2c_j1 = w2c_p2;
+  w2c_i1 = (u32)(w2c_j1);
+  w2c_i1 = i32_load8_u(m, (u64)(w2c_i1) + 2u);
+  w2c_l9 = w2c_i1;
+  w2c_i0 += w2c_i1;
+  w2c_l10 = w2c_i0;
+  w2c_i1 = 4294041472u;
+  w2c_i0 += w2c_i1;
+  w2c_p1 = w2c_i0;
+  w2c_i0 = w2c_l8;
+  w2c_i1 = 8u;
+  w2c_i0 <<= (w2c_i1 & 31);
+  w2c_i1 = w2c_l9;
+  w2c_i2 = 16u;
+  w2c_i1 <<= (w2c_i2 & 31);
+  w2c_i0 |= w2c_i1;
+  w2c_i1 = w2c_l7;
+  w2c_i0 |= w2c_i1;
+  w2c_l7 = w2c_i0;
+  w2c_j0 = (u64)(w2c_i0);
+  w2c_j1 = 953497ull;
+  w2c_j0 *= w2c_j1;
+  w2c_j1 = 22ull;
+  w2c_j0 >>= (w2c_j1 & 63);
+  w2c_j1 = 1016ull;
+  w2c_j0 &= w2c_j1;
+  w2c_l4 = w2c_j0;
+  w2c_i0 = (u32)(w2c_j0);
+  w2c_i0 = i32_load(m, (u64)(w2c_i0) + 66992u);
+  w2c_i1 = w2c_l7;
+  w2c_i0 = w2c_i0 != w2c_i1;
+  if (w2c_i0) {goto w2c_B7;}
+  w2c_j0 = w2c_l4;
+  w2c_j1 = 66996ull;
+  w2c_j0 += w2c_j1;
+  w2c_i0 = (u32)(w2c_j0);
+  w2c_i0 = i32_load8_u(m, (u64)(w2c_i0));
   w2c_i1 = 255u;
   w2c_i0 &= w2c_i1;
+  w2c_i1 = 2u;
+  w2c_i0 = w2c_i0 != w2c_i1;
+  if (w2c_i0) {goto w2c_B4;}
+  w2c_B7:;
+  w2c_i0 = w2c_p1;
+  w2c_i1 = 127u;
+  w2c_i0 = w2c_i0 > w2c_i1;
+  if (w2c_i0) {goto w2c_B8;}
+  w2c_i0 = w2c_l10;
+  w2c_i1 = 4294041463u;
+  w2c_i0 += w2c_i1;
   w2c_i1 = 5u;
   w2c_i0 = w2c_i0 < w2c_i1;
-  if (w2c_i0) {goto w2c_B2;}
+  if (w2c_i0) {goto w2c_B3;}
+  w2c_i0 = w2c_l10;
+  w2c_i1 = 925856u;
+  w2c_i0 = w2c_i0 != w2c_i1;
+  if (w2c_i0) {goto w2c_B4;}
+  goto w2c_B3;
+  w2c_B8:;
+  w2c_i0 = w2c_l10;
+  w2c_i1 = 4294033280u;
+  w2c_i0 += w2c_i1;
+  w2c_i1 = 11u;
+  w2c_i0 = w2c_i0 < w2c_i1;
+  if (w2c_i0) {goto w2c_B3;}
+  w2c_i0 = w2c_l10;
+  w2c_i1 = 934055u;
+  w2c_i0 = (u32)((s32)w2c_i0 > (s32)w2c_i1);
+  if (w2c_i0) {goto w2c_B9;}
+  w2c_i0 = w2c_l10;
+  w2c_i1 = 925957u;
+  w2c_i0 = w2c_i0 == w2c_i1;
+  if (w2c_i0) {goto w2c_B3;}
+  w2c_i0 = w2c_l10;
+  w2c_i1 = 925984u;
+  w2c_i0 = w2c_i0 == w2c_i1;
+  if (w2c_i0) {goto w2c_B3;}
+  w2c_i0 = w2c_l10;
+  w2c_i1 = 931584u;
+  w2c_i0 = w2c_i0 != w2c_i1;
+  if (w2c_i0) {goto w2c_B4;}
+  goto w2c_B3;
+  w2c_B9:;
+  w2c_i0 = w2c_l10;
+  w2c_i1 = 4294033240u;
+  w2c_i0 += w2c_i1;
+  w2c_l7 = w2c_i0;
+  w2c_i1 = 55u;
+  w2c_i0 = w2c_i0 > w2c_i1;
+  if (w2c_i0) {goto w2c_B5;}
+  w2c_j0 = 1ull;
+  w2c_i1 = w2c_l7;
+  w2c_j1 = (u64)(w2c_i1);
+  w2c_j0 <<= (w2c_j1 & 63);
+  w2c_j1 = 36028797018964099ull;
+  w2c_j0 &= w2c_j1;
+  w2c_j1 = 0ull;
+  w2c_i0 = w2c_j0 == w2c_j1;
+  if (w2c_i0) {goto w2c_B5;}
+  goto w2c_B3;
+  w2c_B6:;
+  UNREACHABLE;
+  w2c_B5:;
+  w2c_i0 = w2c_l10;
+  w2c_i1 = 938112u;
+  w2c_i0 = w2c_i0 == w2c_i1;
+  if (w2c_i0) {goto w2c_B3;}
+  w2c_B4:;
+  w2c_j0 = w2c_p3;
+  w2c_j1 = 18446744073709551613ull;
+  w2c_j0 += w2c_j1;
+  w2c_l6 = w2c_j0;
+  w2c_j0 = w2c_p2;
+  w2c_j1 = 3ull;
+  w2c_j0 += w2c_j1;
+  w2c_l4 = w2c_j0;
+  goto w2c_B2;
+  w2c_B3:;
   w2c_j0 = w2c_l5;
   w2c_j1 = 8ull;
   w2c_j0 += w2c_j1;
   w2c_j1 = w2c_p2;
   w2c_j2 = w2c_p3;
-  w2c_f32(m, w2c_j0, w2c_j1, w2c_j2);
+  w2c_f33(m, w2c_j0, w2c_j1, w2c_j2);
   w2c_j0 = w2c_l5;
   w2c_i0 = (u32)(w2c_j0);
   w2c_i0 = i32_load8_u(m, (u64)(w2c_i0) + 8u);
   w2c_i1 = 1u;
   w2c_i0 = w2c_i0 != w2c_i1;
-  if (w2c_i0) {goto w2c_B2;}
+  if (w2c_i0) {goto w2c_B1;}
   w2c_j0 = w2c_l5;
   w2c_i0 = (u32)(w2c_j0);
   w2c_j0 = i64_load(m, (u64)(w2c_i0) + 40u);
@@ -33268,75 +35321,77 @@ static void w2c_f47(module *m, u64 w2c_p0, u32 w2c_p1, u64 w2c_p2, u64 w2c_p3) {
   w2c_i0 = (u32)(w2c_j0);
   w2c_i0 = i32_load(m, (u64)(w2c_i0) + 16u);
   w2c_p1 = w2c_i0;
+  w2c_B2:;
+  w2c_i0 = w2c_p1;
   w2c_i1 = 27491u;
   w2c_i0 = w2c_i0 == w2c_i1;
-  if (w2c_i0) {goto w2c_B1;}
+  if (w2c_i0) {goto w2c_B0;}
   w2c_i0 = w2c_p1;
   w2c_i1 = 36000u;
   w2c_i0 = w2c_i0 == w2c_i1;
-  if (w2c_i0) {goto w2c_B1;}
+  if (w2c_i0) {goto w2c_B0;}
   w2c_i0 = w2c_p1;
   w2c_i1 = 36127u;
   w2c_i0 = w2c_i0 == w2c_i1;
-  if (w2c_i0) {goto w2c_B1;}
-  w2c_B2:;
+  if (w2c_i0) {goto w2c_B0;}
+  w2c_B1:;
   w2c_j0 = w2c_p2;
   w2c_l4 = w2c_j0;
   w2c_j0 = w2c_p3;
   w2c_l6 = w2c_j0;
-  w2c_B1:;
+  w2c_B0:;
   w2c_i0 = 0u;
-  w2c_l7 = w2c_i0;
+  w2c_l10 = w2c_i0;
   w2c_j0 = w2c_l6;
   w2c_i0 = !(w2c_j0);
-  if (w2c_i0) {goto w2c_B3;}
-  w2c_L4:
+  if (w2c_i0) {goto w2c_B10;}
+  w2c_L11:
     w2c_j0 = w2c_l4;
     w2c_i0 = (u32)(w2c_j0);
     w2c_i0 = i32_load8_s(m, (u64)(w2c_i0));
-    w2c_l8 = w2c_i0;
+    w2c_l7 = w2c_i0;
     w2c_i1 = 255u;
     w2c_i0 &= w2c_i1;
     w2c_p1 = w2c_i0;
     w2c_j0 = 1ull;
     w2c_p3 = w2c_j0;
-    w2c_i0 = w2c_l8;
+    w2c_i0 = w2c_l7;
     w2c_i1 = 4294967295u;
     w2c_i0 = (u32)((s32)w2c_i0 > (s32)w2c_i1);
-    if (w2c_i0) {goto w2c_B5;}
+    if (w2c_i0) {goto w2c_B12;}
     w2c_j0 = w2c_l4;
     w2c_i0 = (u32)(w2c_j0);
     w2c_i0 = i32_load8_u(m, (u64)(w2c_i0) + 1u);
     w2c_i1 = 63u;
     w2c_i0 &= w2c_i1;
-    w2c_l9 = w2c_i0;
-    w2c_i0 = w2c_l8;
+    w2c_l8 = w2c_i0;
+    w2c_i0 = w2c_l7;
     w2c_i1 = 4294967263u;
     w2c_i0 = w2c_i0 > w2c_i1;
-    if (w2c_i0) {goto w2c_B6;}
+    if (w2c_i0) {goto w2c_B13;}
     w2c_i0 = w2c_p1;
     w2c_i1 = 6u;
     w2c_i0 <<= (w2c_i1 & 31);
     w2c_i1 = 1984u;
     w2c_i0 &= w2c_i1;
-    w2c_i1 = w2c_l9;
+    w2c_i1 = w2c_l8;
     w2c_i0 |= w2c_i1;
     w2c_p1 = w2c_i0;
     w2c_j0 = 2ull;
     w2c_p3 = w2c_j0;
-    goto w2c_B5;
-    w2c_B6:;
+    goto w2c_B12;
+    w2c_B13:;
     w2c_j0 = w2c_l4;
     w2c_i0 = (u32)(w2c_j0);
     w2c_i0 = i32_load8_u(m, (u64)(w2c_i0) + 2u);
     w2c_i1 = 63u;
     w2c_i0 &= w2c_i1;
-    w2c_l10 = w2c_i0;
-    w2c_i0 = w2c_l8;
+    w2c_l9 = w2c_i0;
+    w2c_i0 = w2c_l7;
     w2c_i1 = 4294967279u;
     w2c_i0 = w2c_i0 > w2c_i1;
-    if (w2c_i0) {goto w2c_B7;}
-    w2c_i0 = w2c_l9;
+    if (w2c_i0) {goto w2c_B14;}
+    w2c_i0 = w2c_l8;
     w2c_i1 = 6u;
     w2c_i0 <<= (w2c_i1 & 31);
     w2c_i1 = w2c_p1;
@@ -33345,17 +35400,17 @@ static void w2c_f47(module *m, u64 w2c_p0, u32 w2c_p1, u64 w2c_p2, u64 w2c_p3) {
     w2c_i2 = 61440u;
     w2c_i1 &= w2c_i2;
     w2c_i0 |= w2c_i1;
-    w2c_i1 = w2c_l10;
+    w2c_i1 = w2c_l9;
     w2c_i0 |= w2c_i1;
     w2c_p1 = w2c_i0;
     w2c_j0 = 3ull;
     w2c_p3 = w2c_j0;
-    goto w2c_B5;
-    w2c_B7:;
-    w2c_i0 = w2c_l10;
+    goto w2c_B12;
+    w2c_B14:;
+    w2c_i0 = w2c_l9;
     w2c_i1 = 6u;
     w2c_i0 <<= (w2c_i1 & 31);
-    w2c_i1 = w2c_l9;
+    w2c_i1 = w2c_l8;
     w2c_i2 = 12u;
     w2c_i1 <<= (w2c_i2 & 31);
     w2c_i2 = w2c_p1;
@@ -33374,7 +35429,7 @@ static void w2c_f47(module *m, u64 w2c_p0, u32 w2c_p1, u64 w2c_p2, u64 w2c_p3) {
     w2c_p1 = w2c_i0;
     w2c_j0 = 4ull;
     w2c_p3 = w2c_j0;
-    w2c_B5:;
+    w2c_B12:;
     w2c_j0 = w2c_l5;
     w2c_i1 = w2c_p1;
     w2c_f18(m, w2c_j0, w2c_i1);
@@ -33383,65 +35438,65 @@ static void w2c_f47(module *m, u64 w2c_p0, u32 w2c_p1, u64 w2c_p2, u64 w2c_p3) {
     w2c_i0 = i32_load8_u(m, (u64)(w2c_i0));
     w2c_i1 = 1u;
     w2c_i0 = w2c_i0 == w2c_i1;
-    if (w2c_i0) {goto w2c_B8;}
+    if (w2c_i0) {goto w2c_B15;}
     w2c_i0 = w2c_p1;
     w2c_i1 = 127u;
     w2c_i0 = w2c_i0 > w2c_i1;
-    if (w2c_i0) {goto w2c_B9;}
+    if (w2c_i0) {goto w2c_B16;}
     w2c_i0 = w2c_p1;
     w2c_i1 = 4294967287u;
     w2c_i0 += w2c_i1;
     w2c_i1 = 5u;
     w2c_i0 = w2c_i0 < w2c_i1;
-    if (w2c_i0) {goto w2c_B8;}
+    if (w2c_i0) {goto w2c_B15;}
     w2c_i0 = w2c_p1;
     w2c_i1 = 32u;
     w2c_i0 = w2c_i0 == w2c_i1;
-    if (w2c_i0) {goto w2c_B8;}
+    if (w2c_i0) {goto w2c_B15;}
     w2c_i0 = 1u;
-    w2c_l7 = w2c_i0;
-    goto w2c_B3;
-    w2c_B9:;
+    w2c_l10 = w2c_i0;
+    goto w2c_B10;
+    w2c_B16:;
     w2c_i0 = w2c_p1;
     w2c_i1 = 12288u;
     w2c_i0 = w2c_i0 == w2c_i1;
-    if (w2c_i0) {goto w2c_B8;}
+    if (w2c_i0) {goto w2c_B15;}
     w2c_i0 = w2c_p1;
     w2c_i1 = 8287u;
     w2c_i0 = w2c_i0 == w2c_i1;
-    if (w2c_i0) {goto w2c_B8;}
+    if (w2c_i0) {goto w2c_B15;}
     w2c_i0 = w2c_p1;
     w2c_i1 = 8239u;
     w2c_i0 = w2c_i0 == w2c_i1;
-    if (w2c_i0) {goto w2c_B8;}
+    if (w2c_i0) {goto w2c_B15;}
     w2c_i0 = w2c_p1;
     w2c_i1 = 2097150u;
     w2c_i0 &= w2c_i1;
     w2c_i1 = 8232u;
     w2c_i0 = w2c_i0 == w2c_i1;
-    if (w2c_i0) {goto w2c_B8;}
+    if (w2c_i0) {goto w2c_B15;}
     w2c_i0 = w2c_p1;
     w2c_i1 = 4294959104u;
     w2c_i0 += w2c_i1;
     w2c_i1 = 11u;
     w2c_i0 = w2c_i0 < w2c_i1;
-    if (w2c_i0) {goto w2c_B8;}
+    if (w2c_i0) {goto w2c_B15;}
     w2c_i0 = w2c_p1;
     w2c_i1 = 5760u;
     w2c_i0 = w2c_i0 == w2c_i1;
-    if (w2c_i0) {goto w2c_B8;}
+    if (w2c_i0) {goto w2c_B15;}
     w2c_i0 = w2c_p1;
     w2c_i1 = 133u;
     w2c_i0 = w2c_i0 == w2c_i1;
-    if (w2c_i0) {goto w2c_B8;}
+    if (w2c_i0) {goto w2c_B15;}
     w2c_i0 = w2c_p1;
     w2c_i1 = 160u;
     w2c_i0 = w2c_i0 == w2c_i1;
-    if (w2c_i0) {goto w2c_B8;}
+    if (w2c_i0) {goto w2c_B15;}
     w2c_i0 = 1u;
-    w2c_l7 = w2c_i0;
-    goto w2c_B3;
-    w2c_B8:;
+    w2c_l10 = w2c_i0;
+    goto w2c_B10;
+    w2c_B15:;
     w2c_j0 = w2c_l4;
     w2c_j1 = w2c_p3;
     w2c_j0 += w2c_j1;
@@ -33452,33 +35507,940 @@ static void w2c_f47(module *m, u64 w2c_p0, u32 w2c_p1, u64 w2c_p2, u64 w2c_p3) {
     w2c_l6 = w2c_j0;
     w2c_j1 = 0ull;
     w2c_i0 = w2c_j0 != w2c_j1;
-    if (w2c_i0) {goto w2c_L4;}
-  w2c_B3:;
+    if (w2c_i0) {goto w2c_L11;}
+  w2c_B10:;
   w2c_j0 = w2c_p0;
   w2c_i0 = (u32)(w2c_j0);
-  w2c_i1 = w2c_l7;
+  w2c_i1 = w2c_l10;
   i32_store8(m, (u64)(w2c_i0) + 1, w2c_i1);
   w2c_j0 = w2c_p0;
   w2c_i0 = (u32)(w2c_j0);
-  w2c_i1 = w2c_l7;
+  w2c_i1 = w2c_l10;
   i32_store8(m, (u64)(w2c_i0), w2c_i1);
   w2c_j0 = w2c_l5;
   w2c_j1 = 48ull;
   w2c_j0 += w2c_j1;
   m->w2c_g0 = w2c_j0;
-  goto w2c_Bfunc;
-  w2c_B0:;
-  UNREACHABLE;
-  w2c_Bfunc:;
 }
 
-static void w2c_f48(module *m, u64 w2c_p0, u32 w2c_p1, u64 w2c_p2, u64 w2c_p3, u64 w2c_p4) {
-  u32 w2c_l18 = 0, w2c_l19 = 0, w2c_l20 = 0, w2c_l21 = 0, w2c_l22 = 0;
-  u64 w2c_l5 = 0, w2c_l6 = 0, w2c_l7 = 0, w2c_l8 = 0, w2c_l9 = 0, w2c_l10 = 0, w2c_l11 = 0, w2c_l12 = 0, w2c_l13 = 0, w2c_l14 = 0, w2c_l15 = 0, w2c_l16 = 0, w2c_l17 = 0;
-  u32 w2c_i0, w2c_i1, w2c_i2;
+static u32 w2c_f51(module *m, u32 w2c_p0, u32 w2c_p1, u32 w2c_p2, u64 w2c_p3, u64 w2c_p4, u64 w2c_p5) {
+  u32 w2c_l13 = 0, w2c_l14 = 0, w2c_l15 = 0, w2c_l16 = 0;
+  u64 w2c_l6 = 0, w2c_l7 = 0, w2c_l8 = 0, w2c_l9 = 0, w2c_l10 = 0, w2c_l11 = 0, w2c_l12 = 0;
+  u32 w2c_i0, w2c_i1, w2c_i2, w2c_i3, w2c_i4;
   u64 w2c_j0, w2c_j1, w2c_j2, w2c_j3, w2c_j4;
   w2c_j0 = m->w2c_g0;
-  w2c_j1 = 176ull;
+  w2c_j1 = 80ull;
+  w2c_j0 -= w2c_j1;
+  w2c_l6 = w2c_j0;
+  m->w2c_g0 = w2c_j0;
+  w2c_j0 = w2c_l6;
+  w2c_l6 = w2c_j0;
+  w2c_j1 = 16ull;
+  w2c_i0 = (u64)((s64)w2c_j0 < (s64)w2c_j1);
+  if (w2c_i0) {goto w2c_B20;}
+  w2c_i0 = w2c_p1;
+  w2c_i1 = 255u;
+  w2c_i0 &= w2c_i1;
+  if (w2c_i0) {goto w2c_B21;}
+  w2c_j0 = 0ull;
+  w2c_l7 = w2c_j0;
+  w2c_j0 = w2c_l6;
+  w2c_i0 = (u32)(w2c_j0);
+  w2c_j1 = 0ull;
+  i64_store(m, (u64)(w2c_i0) + 24, w2c_j1);
+  w2c_j0 = w2c_l6;
+  w2c_i0 = (u32)(w2c_j0);
+  w2c_j1 = 0ull;
+  i64_store(m, (u64)(w2c_i0) + 16, w2c_j1);
+  w2c_j0 = w2c_l6;
+  w2c_i0 = (u32)(w2c_j0);
+  w2c_j1 = 0ull;
+  i64_store(m, (u64)(w2c_i0) + 8, w2c_j1);
+  w2c_j0 = w2c_l6;
+  w2c_i0 = (u32)(w2c_j0);
+  w2c_j1 = 0ull;
+  i64_store(m, (u64)(w2c_i0), w2c_j1);
+  w2c_j0 = w2c_p3;
+  w2c_l8 = w2c_j0;
+  w2c_j0 = w2c_p4;
+  w2c_l9 = w2c_j0;
+  w2c_i0 = w2c_p0;
+  w2c_i1 = 255u;
+  w2c_i0 &= w2c_i1;
+  w2c_i1 = 5u;
+  w2c_i0 = w2c_i0 < w2c_i1;
+  if (w2c_i0) {goto w2c_B8;}
+  w2c_j0 = 0ull;
+  w2c_l7 = w2c_j0;
+  w2c_j0 = w2c_l6;
+  w2c_i0 = (u32)(w2c_j0);
+  w2c_j1 = 0ull;
+  i64_store(m, (u64)(w2c_i0) + 72, w2c_j1);
+  w2c_j0 = w2c_l6;
+  w2c_i0 = (u32)(w2c_j0);
+  w2c_j1 = 0ull;
+  i64_store(m, (u64)(w2c_i0) + 64, w2c_j1);
+  w2c_j0 = w2c_l6;
+  w2c_i0 = (u32)(w2c_j0);
+  w2c_j1 = 0ull;
+  i64_store(m, (u64)(w2c_i0) + 56, w2c_j1);
+  w2c_j0 = w2c_l6;
+  w2c_i0 = (u32)(w2c_j0);
+  w2c_j1 = 0ull;
+  i64_store(m, (u64)(w2c_i0) + 48, w2c_j1);
+  w2c_j0 = w2c_l6;
+  w2c_i0 = (u32)(w2c_j0);
+  w2c_j1 = 0ull;
+  i64_store(m, (u64)(w2c_i0) + 40, w2c_j1);
+  w2c_j0 = w2c_p4;
+  w2c_j1 = 3ull;
+  w2c_i0 = w2c_j0 < w2c_j1;
+  if (w2c_i0) {goto w2c_B10;}
+  w2c_j0 = w2c_p3;
+  w2c_i0 = (u32)(w2c_j0);
+  w2c_i0 = i32_load8_u(m, (u64)(w2c_i0));
+  w2c_p2 = w2c_i0;
+  w2c_i1 = 240u;
+  w2c_i0 &= w2c_i1;
+  w2c_i1 = 224u;
+  w2c_i0 = w2c_i0 != w2c_i1;
+  if (w2c_i0) {goto w2c_B10;}
+  w2c_j0 = w2c_p3;
+  w2c_i0 = (u32)(w2c_j0);
+  w2c_i0 = i32_load8_u(m, (u64)(w2c_i0) + 1u);
+  w2c_l13 = w2c_i0;
+  w2c_i1 = 6u;
+  w2c_i0 <<= (w2c_i1 & 31);
+  w2c_i1 = w2c_p2;
+  w2c_i2 = 12u;
+  w2c_i1 <<= (w2c_i2 & 31);
+  w2c_i0 += w2c_i1;
+  w2c_j1 = w2c_p3;
+  w2c_i1 = (u32)(w2c_j1);
+  w2c_i1 = i32_load8_u(m, (u64)(w2c_i1) + 2u);
+  w2c_l14 = w2c_i1;
+  w2c_i0 += w2c_i1;
+  w2c_l15 = w2c_i0;
+  w2c_i1 = 4294041472u;
+  w2c_i0 += w2c_i1;
+  w2c_p1 = w2c_i0;
+  w2c_i0 = w2c_l13;
+  w2c_i1 = 8u;
+  w2c_i0 <<= (w2c_i1 & 31);
+  w2c_i1 = w2c_l14;
+  w2c_i2 = 16u;
+  w2c_i1 <<= (w2c_i2 & 31);
+  w2c_i0 |= w2c_i1;
+  w2c_i1 = w2c_p2;
+  w2c_i0 |= w2c_i1;
+  w2c_p2 = w2c_i0;
+  w2c_j0 = (u64)(w2c_i0);
+  w2c_j1 = 953497ull;
+  w2c_j0 *= w2c_j1;
+  w2c_j1 = 22ull;
+  w2c_j0 >>= (w2c_j1 & 63);
+  w2c_j1 = 1016ull;
+  w2c_j0 &= w2c_j1;
+  w2c_l8 = w2c_j0;
+  w2c_i0 = (u32)(w2c_j0);
+  w2c_i0 = i32_load(m, (u64)(w2c_i0) + 66992u);
+  w2c_i1 = w2c_p2;
+  w2c_i0 = w2c_i0 != w2c_i1;
+  if (w2c_i0) {goto w2c_B22;}
+  w2c_j0 = w2c_l8;
+  w2c_j1 = 66996ull;
+  w2c_j0 += w2c_j1;
+  w2c_i0 = (u32)(w2c_j0);
+  w2c_i0 = i32_load8_u(m, (u64)(w2c_i0));
+  w2c_i1 = 255u;
+  w2c_i0 &= w2c_i1;
+  w2c_i1 = 2u;
+  w2c_i0 = w2c_i0 != w2c_i1;
+  if (w2c_i0) {goto w2c_B11;}
+  w2c_B22:;
+  w2c_i0 = w2c_p1;
+  w2c_i1 = 127u;
+  w2c_i0 = w2c_i0 > w2c_i1;
+  if (w2c_i0) {goto w2c_B23;}
+  w2c_i0 = w2c_l15;
+  w2c_i1 = 4294041463u;
+  w2c_i0 += w2c_i1;
+  w2c_i1 = 5u;
+  w2c_i0 = w2c_i0 < w2c_i1;
+  if (w2c_i0) {goto w2c_B10;}
+  w2c_i0 = w2c_l15;
+  w2c_i1 = 925856u;
+  w2c_i0 = w2c_i0 != w2c_i1;
+  if (w2c_i0) {goto w2c_B11;}
+  goto w2c_B10;
+  w2c_B23:;
+  w2c_i0 = w2c_l15;
+  w2c_i1 = 4294033280u;
+  w2c_i0 += w2c_i1;
+  w2c_i1 = 11u;
+  w2c_i0 = w2c_i0 < w2c_i1;
+  if (w2c_i0) {goto w2c_B10;}
+  w2c_i0 = w2c_l15;
+  w2c_i1 = 934055u;
+  w2c_i0 = (u32)((s32)w2c_i0 > (s32)w2c_i1);
+  if (w2c_i0) {goto w2c_B24;}
+  w2c_i0 = w2c_l15;
+  w2c_i1 = 925957u;
+  w2c_i0 = w2c_i0 == w2c_i1;
+  if (w2c_i0) {goto w2c_B10;}
+  w2c_i0 = w2c_l15;
+  w2c_i1 = 925984u;
+  w2c_i0 = w2c_i0 == w2c_i1;
+  if (w2c_i0) {goto w2c_B10;}
+  w2c_i0 = w2c_l15;
+  w2c_i1 = 931584u;
+  w2c_i0 = w2c_i0 != w2c_i1;
+  if (w2c_i0) {goto w2c_B11;}
+  goto w2c_B10;
+  w2c_B24:;
+  w2c_i0 = w2c_l15;
+  w2c_i1 = 4294033240u;
+  w2c_i0 += w2c_i1;
+  w2c_p2 = w2c_i0;
+  w2c_i1 = 55u;
+  w2c_i0 = w2c_i0 > w2c_i1;
+  if (w2c_i0) {goto w2c_B12;}
+  w2c_j0 = 1ull;
+  w2c_i1 = w2c_p2;
+  w2c_j1 = (u64)(w2c_i1);
+  w2c_j0 <<= (w2c_j1 & 63);
+  w2c_j1 = 36028797018964099ull;
+  w2c_j0 &= w2c_j1;
+  w2c_j1 = 0ull;
+  w2c_i0 = w2c_j0 == w2c_j1;
+  if (w2c_i0) {goto w2c_B12;}
+  goto w2c_B10;
+  w2c_B21:;
+  w2c_j0 = 0ull;
+  w2c_l7 = w2c_j0;
+  w2c_j0 = w2c_l6;
+  w2c_i0 = (u32)(w2c_j0);
+  w2c_j1 = 0ull;
+  i64_store(m, (u64)(w2c_i0) + 24, w2c_j1);
+  w2c_j0 = w2c_l6;
+  w2c_i0 = (u32)(w2c_j0);
+  w2c_j1 = 0ull;
+  i64_store(m, (u64)(w2c_i0) + 16, w2c_j1);
+  w2c_j0 = w2c_l6;
+  w2c_i0 = (u32)(w2c_j0);
+  w2c_j1 = 0ull;
+  i64_store(m, (u64)(w2c_i0) + 8, w2c_j1);
+  w2c_j0 = w2c_l6;
+  w2c_i0 = (u32)(w2c_j0);
+  w2c_j1 = 0ull;
+  i64_store(m, (u64)(w2c_i0), w2c_j1);
+  w2c_j0 = w2c_p3;
+  w2c_l8 = w2c_j0;
+  w2c_j0 = w2c_p4;
+  w2c_l9 = w2c_j0;
+  w2c_i0 = w2c_p0;
+  w2c_i1 = 255u;
+  w2c_i0 &= w2c_i1;
+  w2c_i1 = 5u;
+  w2c_i0 = w2c_i0 < w2c_i1;
+  if (w2c_i0) {goto w2c_B15;}
+  w2c_j0 = 0ull;
+  w2c_l7 = w2c_j0;
+  w2c_j0 = w2c_l6;
+  w2c_i0 = (u32)(w2c_j0);
+  w2c_j1 = 0ull;
+  i64_store(m, (u64)(w2c_i0) + 72, w2c_j1);
+  w2c_j0 = w2c_l6;
+  w2c_i0 = (u32)(w2c_j0);
+  w2c_j1 = 0ull;
+  i64_store(m, (u64)(w2c_i0) + 64, w2c_j1);
+  w2c_j0 = w2c_l6;
+  w2c_i0 = (u32)(w2c_j0);
+  w2c_j1 = 0ull;
+  i64_store(m, (u64)(w2c_i0) + 56, w2c_j1);
+  w2c_j0 = w2c_l6;
+  w2c_i0 = (u32)(w2c_j0);
+  w2c_j1 = 0ull;
+  i64_store(m, (u64)(w2c_i0) + 48, w2c_j1);
+  w2c_j0 = w2c_l6;
+  w2c_i0 = (u32)(w2c_j0);
+  w2c_j1 = 0ull;
+  i64_store(m, (u64)(w2c_i0) + 40, w2c_j1);
+  w2c_j0 = w2c_p4;
+  w2c_j1 = 3ull;
+  w2c_i0 = w2c_j0 < w2c_j1;
+  if (w2c_i0) {goto w2c_B17;}
+  w2c_j0 = w2c_p3;
+  w2c_i0 = (u32)(w2c_j0);
+  w2c_i0 = i32_load8_u(m, (u64)(w2c_i0));
+  w2c_l13 = w2c_i0;
+  w2c_i1 = 240u;
+  w2c_i0 &= w2c_i1;
+  w2c_i1 = 224u;
+  w2c_i0 = w2c_i0 != w2c_i1;
+  if (w2c_i0) {goto w2c_B17;}
+  w2c_j0 = w2c_p3;
+  w2c_i0 = (u32)(w2c_j0);
+  w2c_i0 = i32_load8_u(m, (u64)(w2c_i0) + 1u);
+  w2c_l14 = w2c_i0;
+  w2c_i1 = 6u;
+  w2c_i0 <<= (w2c_i1 & 31);
+  w2c_i1 = w2c_l13;
+  w2c_i2 = 12u;
+  w2c_i1 <<= (w2c_i2 & 31);
+  w2c_i0 += w2c_i1;
+  w2c_j1 = w2c_p3;
+  w2c_i1 = (u32)(w2c_j1);
+  w2c_i1 = i32_load8_u(m, (u64)(w2c_i1) + 2u);
+  w2c_l15 = w2c_i1;
+  w2c_i0 += w2c_i1;
+  w2c_l16 = w2c_i0;
+  w2c_i1 = 4294041472u;
+  w2c_i0 += w2c_i1;
+  w2c_p1 = w2c_i0;
+  w2c_i0 = w2c_l14;
+  w2c_i1 = 8u;
+  w2c_i0 <<= (w2c_i1 & 31);
+  w2c_i1 = w2c_l15;
+  w2c_i2 = 16u;
+  w2c_i1 <<= (w2c_i2 & 31);
+  w2c_i0 |= w2c_i1;
+  w2c_i1 = w2c_l13;
+  w2c_i0 |= w2c_i1;
+  w2c_l13 = w2c_i0;
+  w2c_j0 = (u64)(w2c_i0);
+  w2c_j1 = 953497ull;
+  w2c_j0 *= w2c_j1;
+  w2c_j1 = 22ull;
+  w2c_j0 >>= (w2c_j1 & 63);
+  w2c_j1 = 1016ull;
+  w2c_j0 &= w2c_j1;
+  w2c_l8 = w2c_j0;
+  w2c_i0 = (u32)(w2c_j0);
+  w2c_i0 = i32_load(m, (u64)(w2c_i0) + 66992u);
+  w2c_i1 = w2c_l13;
+  w2c_i0 = w2c_i0 != w2c_i1;
+  if (w2c_i0) {goto w2c_B25;}
+  w2c_j0 = w2c_l8;
+  w2c_j1 = 66996ull;
+  w2c_j0 += w2c_j1;
+  w2c_i0 = (u32)(w2c_j0);
+  w2c_i0 = i32_load8_u(m, (u64)(w2c_i0));
+  w2c_i1 = 255u;
+  w2c_i0 &= w2c_i1;
+  w2c_i1 = 2u;
+  w2c_i0 = w2c_i0 != w2c_i1;
+  if (w2c_i0) {goto w2c_B18;}
+  w2c_B25:;
+  w2c_i0 = w2c_p1;
+  w2c_i1 = 127u;
+  w2c_i0 = w2c_i0 > w2c_i1;
+  if (w2c_i0) {goto w2c_B26;}
+  w2c_i0 = w2c_l16;
+  w2c_i1 = 4294041463u;
+  w2c_i0 += w2c_i1;
+  w2c_i1 = 5u;
+  w2c_i0 = w2c_i0 < w2c_i1;
+  if (w2c_i0) {goto w2c_B17;}
+  w2c_i0 = w2c_l16;
+  w2c_i1 = 925856u;
+  w2c_i0 = w2c_i0 != w2c_i1;
+  if (w2c_i0) {goto w2c_B18;}
+  goto w2c_B17;
+  w2c_B26:;
+  w2c_i0 = w2c_l16;
+  w2c_i1 = 4294033280u;
+  w2c_i0 += w2c_i1;
+  w2c_i1 = 11u;
+  w2c_i0 = w2c_i0 < w2c_i1;
+  if (w2c_i0) {goto w2c_B17;}
+  w2c_i0 = w2c_l16;
+  w2c_i1 = 934055u;
+  w2c_i0 = (u32)((s32)w2c_i0 > (s32)w2c_i1);
+  if (w2c_i0) {goto w2c_B27;}
+  w2c_i0 = w2c_l16;
+  w2c_i1 = 925957u;
+  w2c_i0 = w2c_i0 == w2c_i1;
+  if (w2c_i0) {goto w2c_B17;}
+  w2c_i0 = w2c_l16;
+  w2c_i1 = 925984u;
+  w2c_i0 = w2c_i0 == w2c_i1;
+  if (w2c_i0) {goto w2c_B17;}
+  w2c_i0 = w2c_l16;
+  w2c_i1 = 931584u;
+  w2c_i0 = w2c_i0 != w2c_i1;
+  if (w2c_i0) {goto w2c_B18;}
+  goto w2c_B17;
+  w2c_B27:;
+  w2c_i0 = w2c_l16;
+  w2c_i1 = 4294033240u;
+  w2c_i0 += w2c_i1;
+  w2c_l13 = w2c_i0;
+  w2c_i1 = 55u;
+  w2c_i0 = w2c_i0 > w2c_i1;
+  if (w2c_i0) {goto w2c_B19;}
+  w2c_j0 = 1ull;
+  w2c_i1 = w2c_l13;
+  w2c_j1 = (u64)(w2c_i1);
+  w2c_j0 <<= (w2c_j1 & 63);
+  w2c_j1 = 36028797018964099ull;
+  w2c_j0 &= w2c_j1;
+  w2c_j1 = 0ull;
+  w2c_i0 = w2c_j0 == w2c_j1;
+  if (w2c_i0) {goto w2c_B19;}
+  goto w2c_B17;
+  w2c_B20:;
+  UNREACHABLE;
+  w2c_B19:;
+  w2c_i0 = w2c_l16;
+  w2c_i1 = 938112u;
+  w2c_i0 = w2c_i0 == w2c_i1;
+  if (w2c_i0) {goto w2c_B17;}
+  w2c_B18:;
+  w2c_j0 = w2c_p4;
+  w2c_j1 = 18446744073709551613ull;
+  w2c_j0 += w2c_j1;
+  w2c_l10 = w2c_j0;
+  w2c_j0 = w2c_p3;
+  w2c_j1 = 3ull;
+  w2c_j0 += w2c_j1;
+  w2c_l11 = w2c_j0;
+  w2c_j0 = 1ull;
+  w2c_l12 = w2c_j0;
+  goto w2c_B16;
+  w2c_B17:;
+  w2c_j0 = w2c_l6;
+  w2c_j1 = 40ull;
+  w2c_j0 += w2c_j1;
+  w2c_j1 = w2c_p3;
+  w2c_j2 = w2c_p4;
+  w2c_f33(m, w2c_j0, w2c_j1, w2c_j2);
+  w2c_j0 = w2c_p3;
+  w2c_l8 = w2c_j0;
+  w2c_j0 = w2c_p4;
+  w2c_l9 = w2c_j0;
+  w2c_j0 = w2c_l6;
+  w2c_i0 = (u32)(w2c_j0);
+  w2c_i0 = i32_load8_u(m, (u64)(w2c_i0) + 40u);
+  w2c_i1 = 1u;
+  w2c_i0 = w2c_i0 != w2c_i1;
+  if (w2c_i0) {goto w2c_B15;}
+  w2c_j0 = w2c_l6;
+  w2c_i0 = (u32)(w2c_j0);
+  w2c_j0 = i64_load(m, (u64)(w2c_i0) + 56u);
+  w2c_j1 = 1ull;
+  w2c_j0 += w2c_j1;
+  w2c_l12 = w2c_j0;
+  w2c_j0 = w2c_l6;
+  w2c_i0 = (u32)(w2c_j0);
+  w2c_j0 = i64_load(m, (u64)(w2c_i0) + 72u);
+  w2c_l10 = w2c_j0;
+  w2c_j0 = w2c_l6;
+  w2c_i0 = (u32)(w2c_j0);
+  w2c_j0 = i64_load(m, (u64)(w2c_i0) + 64u);
+  w2c_l11 = w2c_j0;
+  w2c_j0 = w2c_l6;
+  w2c_i0 = (u32)(w2c_j0);
+  w2c_i0 = i32_load(m, (u64)(w2c_i0) + 48u);
+  w2c_p1 = w2c_i0;
+  w2c_B16:;
+  w2c_i0 = w2c_p1;
+  w2c_i1 = 36127u;
+  w2c_i0 = w2c_i0 == w2c_i1;
+  if (w2c_i0) {goto w2c_B14;}
+  w2c_i0 = w2c_p1;
+  w2c_i1 = 36000u;
+  w2c_i0 = w2c_i0 == w2c_i1;
+  if (w2c_i0) {goto w2c_B14;}
+  w2c_j0 = 0ull;
+  w2c_l7 = w2c_j0;
+  w2c_j0 = w2c_p3;
+  w2c_l8 = w2c_j0;
+  w2c_j0 = w2c_p4;
+  w2c_l9 = w2c_j0;
+  w2c_i0 = w2c_p1;
+  w2c_i1 = 27491u;
+  w2c_i0 = w2c_i0 != w2c_i1;
+  if (w2c_i0) {goto w2c_B15;}
+  w2c_j0 = w2c_l12;
+  w2c_l7 = w2c_j0;
+  w2c_j0 = w2c_l11;
+  w2c_l8 = w2c_j0;
+  w2c_j0 = w2c_l10;
+  w2c_l9 = w2c_j0;
+  w2c_B15:;
+  w2c_j0 = w2c_l6;
+  w2c_i1 = w2c_p2;
+  w2c_j2 = w2c_l7;
+  w2c_j3 = w2c_l8;
+  w2c_j4 = w2c_l9;
+  w2c_f52(m, w2c_j0, w2c_i1, w2c_j2, w2c_j3, w2c_j4);
+  w2c_i0 = 2u;
+  w2c_p1 = w2c_i0;
+  w2c_i0 = 0u;
+  w2c_p2 = w2c_i0;
+  goto w2c_B13;
+  w2c_B14:;
+  w2c_j0 = w2c_l6;
+  w2c_i1 = w2c_p2;
+  w2c_j2 = w2c_l12;
+  w2c_j3 = w2c_l11;
+  w2c_j4 = w2c_l10;
+  w2c_f52(m, w2c_j0, w2c_i1, w2c_j2, w2c_j3, w2c_j4);
+  w2c_i0 = 3u;
+  w2c_p1 = w2c_i0;
+  w2c_i0 = 1u;
+  w2c_p2 = w2c_i0;
+  w2c_B13:;
+  w2c_j0 = w2c_l6;
+  w2c_i0 = (u32)(w2c_j0);
+  w2c_j0 = i64_load(m, (u64)(w2c_i0) + 24u);
+  w2c_l8 = w2c_j0;
+  w2c_j0 = w2c_l6;
+  w2c_i0 = (u32)(w2c_j0);
+  w2c_j0 = i64_load(m, (u64)(w2c_i0) + 16u);
+  w2c_l7 = w2c_j0;
+  w2c_j0 = w2c_l6;
+  w2c_i0 = (u32)(w2c_j0);
+  w2c_i0 = i32_load8_u(m, (u64)(w2c_i0));
+  if (w2c_i0) {goto w2c_B28;}
+  w2c_j0 = w2c_l7;
+  w2c_i1 = w2c_p0;
+  w2c_j1 = (u64)(w2c_i1);
+  w2c_j2 = 255ull;
+  w2c_j1 &= w2c_j2;
+  w2c_j2 = 5ull;
+  w2c_j1 <<= (w2c_j2 & 63);
+  w2c_j2 = 68064ull;
+  w2c_j3 = 68048ull;
+  w2c_i4 = w2c_p2;
+  w2c_j2 = w2c_i4 ? w2c_j2 : w2c_j3;
+  w2c_j1 += w2c_j2;
+  w2c_l9 = w2c_j1;
+  w2c_i1 = (u32)(w2c_j1);
+  w2c_j1 = i64_load(m, (u64)(w2c_i1));
+  w2c_i0 = w2c_j0 > w2c_j1;
+  w2c_j1 = w2c_l8;
+  w2c_j2 = w2c_l9;
+  w2c_i2 = (u32)(w2c_j2);
+  w2c_j2 = i64_load(m, (u64)(w2c_i2) + 8u);
+  w2c_l9 = w2c_j2;
+  w2c_i1 = w2c_j1 > w2c_j2;
+  w2c_j2 = w2c_l8;
+  w2c_j3 = w2c_l9;
+  w2c_i2 = w2c_j2 == w2c_j3;
+  w2c_i0 = w2c_i2 ? w2c_i0 : w2c_i1;
+  if (w2c_i0) {goto w2c_B5;}
+  w2c_i0 = w2c_p2;
+  w2c_j0 = (u64)(w2c_i0);
+  w2c_l9 = w2c_j0;
+  goto w2c_B3;
+  w2c_B28:;
+  w2c_i0 = w2c_p1;
+  w2c_j1 = w2c_l6;
+  w2c_i1 = (u32)(w2c_j1);
+  w2c_i1 = i32_load8_u(m, (u64)(w2c_i1) + 8u);
+  w2c_p0 = w2c_i1;
+  w2c_i2 = w2c_p0;
+  w2c_i3 = 2u;
+  w2c_i2 = w2c_i2 == w2c_i3;
+  w2c_p0 = w2c_i2;
+  w2c_i0 = w2c_i2 ? w2c_i0 : w2c_i1;
+  w2c_p1 = w2c_i0;
+  w2c_j0 = 0ull;
+  w2c_l8 = w2c_j0;
+  w2c_j0 = 0ull;
+  w2c_j1 = w2c_l7;
+  w2c_i2 = w2c_p0;
+  w2c_j0 = w2c_i2 ? w2c_j0 : w2c_j1;
+  w2c_l9 = w2c_j0;
+  goto w2c_B1;
+  w2c_B12:;
+  w2c_i0 = w2c_l15;
+  w2c_i1 = 938112u;
+  w2c_i0 = w2c_i0 == w2c_i1;
+  if (w2c_i0) {goto w2c_B10;}
+  w2c_B11:;
+  w2c_j0 = w2c_p4;
+  w2c_j1 = 18446744073709551613ull;
+  w2c_j0 += w2c_j1;
+  w2c_l10 = w2c_j0;
+  w2c_j0 = w2c_p3;
+  w2c_j1 = 3ull;
+  w2c_j0 += w2c_j1;
+  w2c_l11 = w2c_j0;
+  w2c_j0 = 1ull;
+  w2c_l12 = w2c_j0;
+  goto w2c_B9;
+  w2c_B10:;
+  w2c_j0 = w2c_l6;
+  w2c_j1 = 40ull;
+  w2c_j0 += w2c_j1;
+  w2c_j1 = w2c_p3;
+  w2c_j2 = w2c_p4;
+  w2c_f33(m, w2c_j0, w2c_j1, w2c_j2);
+  w2c_j0 = w2c_p3;
+  w2c_l8 = w2c_j0;
+  w2c_j0 = w2c_p4;
+  w2c_l9 = w2c_j0;
+  w2c_j0 = w2c_l6;
+  w2c_i0 = (u32)(w2c_j0);
+  w2c_i0 = i32_load8_u(m, (u64)(w2c_i0) + 40u);
+  w2c_i1 = 1u;
+  w2c_i0 = w2c_i0 != w2c_i1;
+  if (w2c_i0) {goto w2c_B8;}
+  w2c_j0 = w2c_l6;
+  w2c_i0 = (u32)(w2c_j0);
+  w2c_j0 = i64_load(m, (u64)(w2c_i0) + 56u);
+  w2c_j1 = 1ull;
+  w2c_j0 += w2c_j1;
+  w2c_l12 = w2c_j0;
+  w2c_j0 = w2c_l6;
+  w2c_i0 = (u32)(w2c_j0);
+  w2c_j0 = i64_load(m, (u64)(w2c_i0) + 72u);
+  w2c_l10 = w2c_j0;
+  w2c_j0 = w2c_l6;
+  w2c_i0 = (u32)(w2c_j0);
+  w2c_j0 = i64_load(m, (u64)(w2c_i0) + 64u);
+  w2c_l11 = w2c_j0;
+  w2c_j0 = w2c_l6;
+  w2c_i0 = (u32)(w2c_j0);
+  w2c_i0 = i32_load(m, (u64)(w2c_i0) + 48u);
+  w2c_p1 = w2c_i0;
+  w2c_B9:;
+  w2c_i0 = w2c_p1;
+  w2c_i1 = 36127u;
+  w2c_i0 = w2c_i0 == w2c_i1;
+  if (w2c_i0) {goto w2c_B7;}
+  w2c_i0 = w2c_p1;
+  w2c_i1 = 36000u;
+  w2c_i0 = w2c_i0 == w2c_i1;
+  if (w2c_i0) {goto w2c_B7;}
+  w2c_j0 = 0ull;
+  w2c_l7 = w2c_j0;
+  w2c_j0 = w2c_p3;
+  w2c_l8 = w2c_j0;
+  w2c_j0 = w2c_p4;
+  w2c_l9 = w2c_j0;
+  w2c_i0 = w2c_p1;
+  w2c_i1 = 27491u;
+  w2c_i0 = w2c_i0 != w2c_i1;
+  if (w2c_i0) {goto w2c_B8;}
+  w2c_j0 = w2c_l12;
+  w2c_l7 = w2c_j0;
+  w2c_j0 = w2c_l11;
+  w2c_l8 = w2c_j0;
+  w2c_j0 = w2c_l10;
+  w2c_l9 = w2c_j0;
+  w2c_B8:;
+  w2c_j0 = w2c_l6;
+  w2c_j1 = w2c_l7;
+  w2c_j2 = w2c_l8;
+  w2c_j3 = w2c_l9;
+  w2c_f45(m, w2c_j0, w2c_j1, w2c_j2, w2c_j3);
+  w2c_i0 = 2u;
+  w2c_p1 = w2c_i0;
+  w2c_i0 = 0u;
+  w2c_p2 = w2c_i0;
+  goto w2c_B6;
+  w2c_B7:;
+  w2c_j0 = w2c_l6;
+  w2c_j1 = w2c_l12;
+  w2c_j2 = w2c_l11;
+  w2c_j3 = w2c_l10;
+  w2c_f45(m, w2c_j0, w2c_j1, w2c_j2, w2c_j3);
+  w2c_i0 = 3u;
+  w2c_p1 = w2c_i0;
+  w2c_i0 = 1u;
+  w2c_p2 = w2c_i0;
+  w2c_B6:;
+  w2c_j0 = w2c_l6;
+  w2c_i0 = (u32)(w2c_j0);
+  w2c_j0 = i64_load(m, (u64)(w2c_i0) + 24u);
+  w2c_l8 = w2c_j0;
+  w2c_j0 = w2c_l6;
+  w2c_i0 = (u32)(w2c_j0);
+  w2c_j0 = i64_load(m, (u64)(w2c_i0) + 16u);
+  w2c_l7 = w2c_j0;
+  w2c_j0 = w2c_l6;
+  w2c_i0 = (u32)(w2c_j0);
+  w2c_i0 = i32_load8_u(m, (u64)(w2c_i0));
+  if (w2c_i0) {goto w2c_B2;}
+  w2c_j0 = w2c_l7;
+  w2c_i1 = w2c_p0;
+  w2c_j1 = (u64)(w2c_i1);
+  w2c_j2 = 255ull;
+  w2c_j1 &= w2c_j2;
+  w2c_j2 = 5ull;
+  w2c_j1 <<= (w2c_j2 & 63);
+  w2c_j2 = 68064ull;
+  w2c_j3 = 68048ull;
+  w2c_i4 = w2c_p2;
+  w2c_j2 = w2c_i4 ? w2c_j2 : w2c_j3;
+  w2c_j1 += w2c_j2;
+  w2c_l9 = w2c_j1;
+  w2c_i1 = (u32)(w2c_j1);
+  w2c_j1 = i64_load(m, (u64)(w2c_i1));
+  w2c_i0 = w2c_j0 > w2c_j1;
+  w2c_j1 = w2c_l8;
+  w2c_j2 = w2c_l9;
+  w2c_i2 = (u32)(w2c_j2);
+  w2c_j2 = i64_load(m, (u64)(w2c_i2) + 8u);
+  w2c_l9 = w2c_j2;
+  w2c_i1 = w2c_j1 > w2c_j2;
+  w2c_j2 = w2c_l8;
+  w2c_j3 = w2c_l9;
+  w2c_i2 = w2c_j2 == w2c_j3;
+  w2c_i0 = w2c_i2 ? w2c_i0 : w2c_i1;
+  w2c_i0 = !(w2c_i0);
+  if (w2c_i0) {goto w2c_B4;}
+  w2c_B5:;
+  w2c_j0 = 0ull;
+  w2c_l7 = w2c_j0;
+  w2c_i0 = 1u;
+  w2c_p0 = w2c_i0;
+  w2c_j0 = 0ull;
+  w2c_l8 = w2c_j0;
+  w2c_j0 = 0ull;
+  w2c_l9 = w2c_j0;
+  goto w2c_B0;
+  w2c_B4:;
+  w2c_i0 = w2c_p2;
+  w2c_j0 = (u64)(w2c_i0);
+  w2c_l9 = w2c_j0;
+  w2c_B3:;
+  w2c_i0 = 0u;
+  w2c_p0 = w2c_i0;
+  w2c_i0 = 0u;
+  w2c_p1 = w2c_i0;
+  goto w2c_B0;
+  w2c_B2:;
+  w2c_i0 = w2c_p1;
+  w2c_j1 = w2c_l6;
+  w2c_i1 = (u32)(w2c_j1);
+  w2c_i1 = i32_load8_u(m, (u64)(w2c_i1) + 8u);
+  w2c_p0 = w2c_i1;
+  w2c_i2 = w2c_p0;
+  w2c_i3 = 2u;
+  w2c_i2 = w2c_i2 == w2c_i3;
+  w2c_p0 = w2c_i2;
+  w2c_i0 = w2c_i2 ? w2c_i0 : w2c_i1;
+  w2c_p1 = w2c_i0;
+  w2c_j0 = 0ull;
+  w2c_l8 = w2c_j0;
+  w2c_j0 = 0ull;
+  w2c_j1 = w2c_l7;
+  w2c_i2 = w2c_p0;
+  w2c_j0 = w2c_i2 ? w2c_j0 : w2c_j1;
+  w2c_l9 = w2c_j0;
+  w2c_B1:;
+  w2c_i0 = 1u;
+  w2c_p0 = w2c_i0;
+  w2c_j0 = 0ull;
+  w2c_l7 = w2c_j0;
+  w2c_B0:;
+  w2c_i0 = w2c_p0;
+  if (w2c_i0) {goto w2c_B30;}
+  w2c_j0 = w2c_p5;
+  w2c_i0 = (u32)(w2c_j0);
+  w2c_j1 = 0ull;
+  w2c_j2 = w2c_l7;
+  w2c_j1 -= w2c_j2;
+  w2c_j2 = w2c_l7;
+  w2c_j3 = w2c_l9;
+  w2c_i3 = (u32)(w2c_j3);
+  w2c_i4 = 1u;
+  w2c_i3 &= w2c_i4;
+  w2c_p1 = w2c_i3;
+  w2c_j1 = w2c_i3 ? w2c_j1 : w2c_j2;
+  i64_store(m, (u64)(w2c_i0), w2c_j1);
+  w2c_j0 = w2c_p5;
+  w2c_i0 = (u32)(w2c_j0);
+  w2c_j1 = 0ull;
+  w2c_j2 = w2c_l8;
+  w2c_j3 = w2c_l7;
+  w2c_j4 = 0ull;
+  w2c_i3 = w2c_j3 != w2c_j4;
+  w2c_j3 = (u64)(w2c_i3);
+  w2c_j2 += w2c_j3;
+  w2c_j1 -= w2c_j2;
+  w2c_j2 = w2c_l8;
+  w2c_i3 = w2c_p1;
+  w2c_j1 = w2c_i3 ? w2c_j1 : w2c_j2;
+  i64_store(m, (u64)(w2c_i0) + 8, w2c_j1);
+  w2c_i0 = 0u;
+  w2c_p0 = w2c_i0;
+  goto w2c_B29;
+  w2c_B30:;
+  w2c_j0 = 0ull;
+  w2c_l7 = w2c_j0;
+  w2c_j0 = w2c_p5;
+  w2c_j1 = 24ull;
+  w2c_j0 += w2c_j1;
+  w2c_i0 = (u32)(w2c_j0);
+  w2c_j1 = 0ull;
+  i64_store(m, (u64)(w2c_i0), w2c_j1);
+  w2c_j0 = w2c_p5;
+  w2c_j1 = 16ull;
+  w2c_j0 += w2c_j1;
+  w2c_l8 = w2c_j0;
+  w2c_i0 = (u32)(w2c_j0);
+  w2c_j1 = 0ull;
+  i64_store(m, (u64)(w2c_i0), w2c_j1);
+  w2c_i0 = 1u;
+  w2c_p0 = w2c_i0;
+  w2c_i0 = w2c_p1;
+  switch (w2c_i0) {
+    case 0: goto w2c_B29;
+    case 1: goto w2c_B33;
+    case 2: goto w2c_B32;
+    case 3: goto w2c_B31;
+    default: goto w2c_B29;
+  }
+  w2c_B33:;
+  w2c_j0 = w2c_l8;
+  w2c_i0 = (u32)(w2c_j0);
+  w2c_j1 = w2c_l9;
+  i64_store(m, (u64)(w2c_i0), w2c_j1);
+  w2c_j0 = w2c_p4;
+  w2c_j1 = 8ull;
+  w2c_i0 = w2c_j0 >= w2c_j1;
+  if (w2c_i0) {goto w2c_B35;}
+  w2c_j0 = 0ull;
+  w2c_l11 = w2c_j0;
+  goto w2c_B34;
+  w2c_B35:;
+  w2c_j0 = 0ull;
+  w2c_l11 = w2c_j0;
+  w2c_j0 = w2c_l9;
+  w2c_j1 = 3ull;
+  w2c_i0 = w2c_j0 < w2c_j1;
+  if (w2c_i0) {goto w2c_B34;}
+  w2c_j0 = w2c_p4;
+  w2c_j1 = 18446744073709551607ull;
+  w2c_j0 += w2c_j1;
+  w2c_l10 = w2c_j0;
+  w2c_j0 = w2c_l9;
+  w2c_j1 = 18446744073709551613ull;
+  w2c_j0 += w2c_j1;
+  w2c_l8 = w2c_j0;
+  w2c_j0 = 0ull;
+  w2c_l11 = w2c_j0;
+  w2c_j0 = 0ull;
+  w2c_l7 = w2c_j0;
+  w2c_L36:
+    w2c_j0 = w2c_p3;
+    w2c_j1 = w2c_l7;
+    w2c_j0 += w2c_j1;
+    w2c_i0 = (u32)(w2c_j0);
+    w2c_j0 = i64_load(m, (u64)(w2c_i0));
+    w2c_j1 = 67553998437089520ull;
+    w2c_j0 &= w2c_j1;
+    w2c_j1 = 63050398541283552ull;
+    w2c_i0 = w2c_j0 != w2c_j1;
+    if (w2c_i0) {goto w2c_B34;}
+    w2c_j0 = w2c_l11;
+    w2c_j1 = 3ull;
+    w2c_j0 += w2c_j1;
+    w2c_l11 = w2c_j0;
+    w2c_j0 = w2c_l7;
+    w2c_j1 = 9ull;
+    w2c_j0 += w2c_j1;
+    w2c_l7 = w2c_j0;
+    w2c_j0 = w2c_l8;
+    w2c_j1 = 3ull;
+    w2c_i0 = w2c_j0 < w2c_j1;
+    if (w2c_i0) {goto w2c_B34;}
+    w2c_j0 = w2c_l8;
+    w2c_j1 = 18446744073709551613ull;
+    w2c_j0 += w2c_j1;
+    w2c_l8 = w2c_j0;
+    w2c_j0 = w2c_l10;
+    w2c_j1 = 7ull;
+    w2c_i0 = w2c_j0 > w2c_j1;
+    w2c_p1 = w2c_i0;
+    w2c_j0 = w2c_l10;
+    w2c_j1 = 18446744073709551607ull;
+    w2c_j0 += w2c_j1;
+    w2c_l10 = w2c_j0;
+    w2c_i0 = w2c_p1;
+    if (w2c_i0) {goto w2c_L36;}
+  w2c_B34:;
+  w2c_j0 = w2c_p4;
+  w2c_j1 = w2c_l7;
+  w2c_i0 = w2c_j0 <= w2c_j1;
+  if (w2c_i0) {goto w2c_B37;}
+  w2c_j0 = w2c_l11;
+  w2c_j1 = w2c_l9;
+  w2c_i0 = w2c_j0 >= w2c_j1;
+  if (w2c_i0) {goto w2c_B37;}
+  w2c_j0 = w2c_l11;
+  w2c_j1 = 1ull;
+  w2c_j0 += w2c_j1;
+  w2c_l8 = w2c_j0;
+  w2c_L38:
+    w2c_j0 = w2c_p3;
+    w2c_j1 = w2c_l7;
+    w2c_j0 += w2c_j1;
+    w2c_i0 = (u32)(w2c_j0);
+    w2c_i0 = i32_load8_u(m, (u64)(w2c_i0));
+    w2c_i1 = 1u;
+    w2c_i0 >>= (w2c_i1 & 31);
+    w2c_j0 = (u64)(w2c_i0);
+    w2c_j1 = 120ull;
+    w2c_j0 &= w2c_j1;
+    w2c_j1 = 66848ull;
+    w2c_j0 += w2c_j1;
+    w2c_i0 = (u32)(w2c_j0);
+    w2c_j0 = i64_load(m, (u64)(w2c_i0));
+    w2c_j1 = w2c_l7;
+    w2c_j0 += w2c_j1;
+    w2c_l7 = w2c_j0;
+    w2c_j0 = w2c_l8;
+    w2c_j1 = w2c_l9;
+    w2c_i0 = w2c_j0 >= w2c_j1;
+    if (w2c_i0) {goto w2c_B37;}
+    w2c_j0 = w2c_l8;
+    w2c_j1 = 1ull;
+    w2c_j0 += w2c_j1;
+    w2c_l8 = w2c_j0;
+    w2c_j0 = w2c_p4;
+    w2c_j1 = w2c_l7;
+    w2c_i0 = w2c_j0 > w2c_j1;
+    if (w2c_i0) {goto w2c_L38;}
+  w2c_B37:;
+  w2c_j0 = w2c_p5;
+  w2c_j1 = 24ull;
+  w2c_j0 += w2c_j1;
+  w2c_i0 = (u32)(w2c_j0);
+  w2c_j1 = w2c_l7;
+  i64_store(m, (u64)(w2c_i0), w2c_j1);
+  w2c_i0 = 2u;
+  w2c_p0 = w2c_i0;
+  goto w2c_B29;
+  w2c_B32:;
+  w2c_i0 = 3u;
+  w2c_p0 = w2c_i0;
+  goto w2c_B29;
+  w2c_B31:;
+  w2c_i0 = 4u;
+  w2c_p0 = w2c_i0;
+  w2c_B29:;
+  w2c_j0 = w2c_l6;
+  w2c_j1 = 80ull;
+  w2c_j0 += w2c_j1;
+  m->w2c_g0 = w2c_j0;
+  w2c_i0 = w2c_p0;
+  return w2c_i0;
+}
+
+static void w2c_f52(module *m, u64 w2c_p0, u32 w2c_p1, u64 w2c_p2, u64 w2c_p3, u64 w2c_p4) {
+  u32 w2c_l18 = 0, w2c_l19 = 0, w2c_l20 = 0, w2c_l21 = 0, w2c_l22 = 0, w2c_l23 = 0;
+  u64 w2c_l5 = 0, w2c_l6 = 0, w2c_l7 = 0, w2c_l8 = 0, w2c_l9 = 0, w2c_l10 = 0, w2c_l11 = 0, w2c_l12 = 0, w2c_l13 = 0, w2c_l14 = 0, w2c_l15 = 0, w2c_l16 = 0, w2c_l17 = 0;
+  u32 w2c_i0, w2c_i1, w2c_i2, w2c_i3, w2c_i4, w2c_i5;
+  u64 w2c_j0, w2c_j1, w2c_j2, w2c_j3, w2c_j4, w2c_j5;
+  w2c_j0 = m->w2c_g0;
+  w2c_j1 = 240ull;
   w2c_j0 -= w2c_j1;
   w2c_l5 = w2c_j0;
   m->w2c_g0 = w2c_j0;
@@ -33490,39 +36452,23 @@ static void w2c_f48(module *m, u64 w2c_p0, u32 w2c_p1, u64 w2c_p2, u64 w2c_p3, u
   w2c_j0 = w2c_l5;
   w2c_i0 = (u32)(w2c_j0);
   w2c_j1 = 0ull;
-  i64_store(m, (u64)(w2c_i0) + 120, w2c_j1);
+  i64_store(m, (u64)(w2c_i0) + 232, w2c_j1);
   w2c_j0 = w2c_l5;
   w2c_i0 = (u32)(w2c_j0);
   w2c_j1 = 0ull;
-  i64_store(m, (u64)(w2c_i0) + 112, w2c_j1);
+  i64_store(m, (u64)(w2c_i0) + 224, w2c_j1);
   w2c_j0 = w2c_l5;
   w2c_i0 = (u32)(w2c_j0);
   w2c_j1 = 0ull;
-  i64_store(m, (u64)(w2c_i0) + 104, w2c_j1);
+  i64_store(m, (u64)(w2c_i0) + 216, w2c_j1);
   w2c_j0 = w2c_l5;
   w2c_i0 = (u32)(w2c_j0);
   w2c_j1 = 0ull;
-  i64_store(m, (u64)(w2c_i0) + 96, w2c_j1);
+  i64_store(m, (u64)(w2c_i0) + 208, w2c_j1);
   w2c_j0 = w2c_l5;
   w2c_i0 = (u32)(w2c_j0);
   w2c_j1 = 0ull;
-  i64_store(m, (u64)(w2c_i0) + 168, w2c_j1);
-  w2c_j0 = w2c_l5;
-  w2c_i0 = (u32)(w2c_j0);
-  w2c_j1 = 0ull;
-  i64_store(m, (u64)(w2c_i0) + 160, w2c_j1);
-  w2c_j0 = w2c_l5;
-  w2c_i0 = (u32)(w2c_j0);
-  w2c_j1 = 0ull;
-  i64_store(m, (u64)(w2c_i0) + 152, w2c_j1);
-  w2c_j0 = w2c_l5;
-  w2c_i0 = (u32)(w2c_j0);
-  w2c_j1 = 0ull;
-  i64_store(m, (u64)(w2c_i0) + 144, w2c_j1);
-  w2c_j0 = w2c_l5;
-  w2c_i0 = (u32)(w2c_j0);
-  w2c_j1 = 0ull;
-  i64_store(m, (u64)(w2c_i0) + 136, w2c_j1);
+  i64_store(m, (u64)(w2c_i0) + 200, w2c_j1);
   w2c_j0 = w2c_p4;
   w2c_j1 = 3ull;
   w2c_i0 = w2c_j0 < w2c_j1;
@@ -33552,7 +36498,7 @@ static void w2c_f48(module *m, u64 w2c_p0, u32 w2c_p1, u64 w2c_p2, u64 w2c_p3, u
   w2c_j0 += w2c_j1;
   w2c_l8 = w2c_j0;
   w2c_j0 = w2c_l5;
-  w2c_j1 = 134ull;
+  w2c_j1 = 198ull;
   w2c_j0 += w2c_j1;
   w2c_l9 = w2c_j0;
   w2c_j0 = 0ull;
@@ -33934,15 +36880,15 @@ static void w2c_f48(module *m, u64 w2c_p0, u32 w2c_p1, u64 w2c_p2, u64 w2c_p3, u
     w2c_i0 = !(w2c_j0);
     w2c_l22 = w2c_i0;
     w2c_i0 = !(w2c_i0);
-    if (w2c_i0) {goto w2c_B31;}
+    if (w2c_i0) {goto w2c_B32;}
     w2c_j0 = 1ull;
     w2c_l16 = w2c_j0;
     w2c_j0 = 0ull;
     w2c_l17 = w2c_j0;
-    goto w2c_B30;
-    w2c_B31:;
+    goto w2c_B31;
+    w2c_B32:;
     w2c_j0 = w2c_l5;
-    w2c_j1 = 136ull;
+    w2c_j1 = 200ull;
     w2c_j0 += w2c_j1;
     w2c_j1 = w2c_l11;
     w2c_j2 = 1ull;
@@ -33976,8 +36922,8 @@ static void w2c_f48(module *m, u64 w2c_p0, u32 w2c_p1, u64 w2c_p2, u64 w2c_p3, u
     w2c_i0 = w2c_l19;
     w2c_i1 = 19u;
     w2c_i0 = w2c_i0 > w2c_i1;
-    if (w2c_i0) {goto w2c_B29;}
-    w2c_B30:;
+    if (w2c_i0) {goto w2c_B30;}
+    w2c_B31:;
     w2c_j0 = w2c_l5;
     w2c_j1 = 48ull;
     w2c_j0 += w2c_j1;
@@ -34022,12 +36968,12 @@ static void w2c_f48(module *m, u64 w2c_p0, u32 w2c_p1, u64 w2c_p2, u64 w2c_p3, u
     w2c_l14 = w2c_j0;
     w2c_i0 = w2c_l20;
     w2c_i0 = !(w2c_i0);
-    if (w2c_i0) {goto w2c_B26;}
+    if (w2c_i0) {goto w2c_B27;}
     w2c_i0 = w2c_l22;
     w2c_i0 = !(w2c_i0);
-    if (w2c_i0) {goto w2c_B28;}
+    if (w2c_i0) {goto w2c_B29;}
     goto w2c_B23;
-    w2c_B29:;
+    w2c_B30:;
     w2c_j0 = w2c_l5;
     w2c_j1 = 64ull;
     w2c_j0 += w2c_j1;
@@ -34096,8 +37042,8 @@ static void w2c_f48(module *m, u64 w2c_p0, u32 w2c_p1, u64 w2c_p2, u64 w2c_p3, u
     w2c_l14 = w2c_j0;
     w2c_i0 = w2c_l20;
     w2c_i0 = !(w2c_i0);
-    if (w2c_i0) {goto w2c_B27;}
-    w2c_B28:;
+    if (w2c_i0) {goto w2c_B28;}
+    w2c_B29:;
     w2c_j0 = w2c_l11;
     w2c_j1 = 1ull;
     w2c_j0 <<= (w2c_j1 & 63);
@@ -34118,7 +37064,7 @@ static void w2c_f48(module *m, u64 w2c_p0, u32 w2c_p1, u64 w2c_p2, u64 w2c_p3, u
       w2c_i1 &= w2c_i2;
       w2c_l19 = w2c_i1;
       w2c_i0 = w2c_i0 >= w2c_i1;
-      if (w2c_i0) {goto w2c_B32;}
+      if (w2c_i0) {goto w2c_B25;}
       w2c_j0 = w2c_l12;
       w2c_j1 = 18446744073709551614ull;
       w2c_j0 += w2c_j1;
@@ -34126,7 +37072,7 @@ static void w2c_f48(module *m, u64 w2c_p0, u32 w2c_p1, u64 w2c_p2, u64 w2c_p3, u
       w2c_j0 = w2c_l5;
       w2c_i0 = (u32)(w2c_j0);
       w2c_j1 = w2c_l15;
-      i64_store(m, (u64)(w2c_i0) + 168, w2c_j1);
+      i64_store(m, (u64)(w2c_i0) + 232, w2c_j1);
       w2c_j0 = w2c_l15;
       w2c_j1 = 18446744073709551615ull;
       w2c_j0 += w2c_j1;
@@ -34136,17 +37082,11 @@ static void w2c_f48(module *m, u64 w2c_p0, u32 w2c_p1, u64 w2c_p2, u64 w2c_p3, u
       if (w2c_i0) {goto w2c_B23;}
       goto w2c_L33;
     UNREACHABLE;
-    w2c_B32:;
-    w2c_i0 = w2c_l19;
-    w2c_i1 = w2c_l20;
-    w2c_i0 = w2c_i0 < w2c_i1;
-    if (w2c_i0) {goto w2c_B24;}
+    w2c_B28:;
+    w2c_i0 = w2c_l21;
+    if (w2c_i0) {goto w2c_B26;}
     goto w2c_B1;
     w2c_B27:;
-    w2c_i0 = w2c_l21;
-    if (w2c_i0) {goto w2c_B25;}
-    goto w2c_B1;
-    w2c_B26:;
     w2c_i0 = w2c_l21;
     w2c_i0 = !(w2c_i0);
     if (w2c_i0) {goto w2c_B1;}
@@ -34156,12 +37096,12 @@ static void w2c_f48(module *m, u64 w2c_p0, u32 w2c_p1, u64 w2c_p2, u64 w2c_p3, u
     w2c_j1 = 1ull;
     w2c_j0 <<= (w2c_j1 & 63);
     w2c_l12 = w2c_j0;
-    w2c_B25:;
+    w2c_B26:;
     w2c_i0 = w2c_l18;
     w2c_i1 = 255u;
     w2c_i0 &= w2c_i1;
     w2c_j1 = w2c_l5;
-    w2c_j2 = 136ull;
+    w2c_j2 = 200ull;
     w2c_j1 += w2c_j2;
     w2c_j2 = w2c_l12;
     w2c_j1 += w2c_j2;
@@ -34171,9 +37111,15 @@ static void w2c_f48(module *m, u64 w2c_p0, u32 w2c_p1, u64 w2c_p2, u64 w2c_p3, u
     w2c_i1 = i32_load8_u(m, (u64)(w2c_i1));
     w2c_i0 = w2c_i0 >= w2c_i1;
     if (w2c_i0) {goto w2c_B1;}
+    goto w2c_B24;
+    w2c_B25:;
+    w2c_i0 = w2c_l19;
+    w2c_i1 = w2c_l20;
+    w2c_i0 = w2c_i0 >= w2c_i1;
+    if (w2c_i0) {goto w2c_B1;}
     w2c_B24:;
     w2c_j0 = w2c_l5;
-    w2c_j1 = 136ull;
+    w2c_j1 = 200ull;
     w2c_j0 += w2c_j1;
     w2c_j1 = w2c_l12;
     w2c_j0 += w2c_j1;
@@ -34206,7 +37152,7 @@ static void w2c_f48(module *m, u64 w2c_p0, u32 w2c_p1, u64 w2c_p2, u64 w2c_p3, u
     w2c_i0 = w2c_j0 > w2c_j1;
     if (w2c_i0) {goto w2c_B1;}
     w2c_j0 = w2c_l5;
-    w2c_j1 = 136ull;
+    w2c_j1 = 200ull;
     w2c_j0 += w2c_j1;
     w2c_j1 = w2c_l12;
     w2c_j0 += w2c_j1;
@@ -34222,11 +37168,11 @@ static void w2c_f48(module *m, u64 w2c_p0, u32 w2c_p1, u64 w2c_p2, u64 w2c_p3, u
     w2c_i0 = (u32)(w2c_j0);
     w2c_j1 = w2c_l5;
     w2c_i1 = (u32)(w2c_j1);
-    w2c_j1 = i64_load(m, (u64)(w2c_i1) + 168u);
+    w2c_j1 = i64_load(m, (u64)(w2c_i1) + 232u);
     w2c_j2 = 1ull;
     w2c_j1 += w2c_j2;
     w2c_l11 = w2c_j1;
-    i64_store(m, (u64)(w2c_i0) + 168, w2c_j1);
+    i64_store(m, (u64)(w2c_i0) + 232, w2c_j1);
     w2c_j0 = w2c_l6;
     w2c_l12 = w2c_j0;
     goto w2c_L5;
@@ -34648,18 +37594,20 @@ static void w2c_f48(module *m, u64 w2c_p0, u32 w2c_p1, u64 w2c_p2, u64 w2c_p3, u
   w2c_j1 = w2c_l10;
   w2c_j0 += w2c_j1;
   w2c_l6 = w2c_j0;
+  w2c_j0 = 0ull;
+  w2c_l12 = w2c_j0;
   w2c_j0 = w2c_l11;
   w2c_i0 = !(w2c_j0);
   w2c_i0 = !(w2c_i0);
-  if (w2c_i0) {goto w2c_B50;}
+  if (w2c_i0) {goto w2c_B49;}
   w2c_j0 = 1ull;
-  w2c_l12 = w2c_j0;
-  w2c_j0 = 0ull;
   w2c_l15 = w2c_j0;
-  goto w2c_B49;
-  w2c_B50:;
+  w2c_j0 = 0ull;
+  w2c_l16 = w2c_j0;
+  goto w2c_B48;
+  w2c_B49:;
   w2c_j0 = w2c_l5;
-  w2c_j1 = 136ull;
+  w2c_j1 = 200ull;
   w2c_j0 += w2c_j1;
   w2c_j1 = w2c_l11;
   w2c_j2 = 1ull;
@@ -34677,26 +37625,26 @@ static void w2c_f48(module *m, u64 w2c_p0, u32 w2c_p1, u64 w2c_p2, u64 w2c_p3, u
   w2c_j0 = (u64)(w2c_i0);
   w2c_j1 = 4ull;
   w2c_j0 <<= (w2c_j1 & 63);
-  w2c_l12 = w2c_j0;
+  w2c_l15 = w2c_j0;
   w2c_j1 = 68632ull;
   w2c_j0 += w2c_j1;
   w2c_i0 = (u32)(w2c_j0);
   w2c_j0 = i64_load(m, (u64)(w2c_i0));
-  w2c_l15 = w2c_j0;
-  w2c_j0 = w2c_l12;
+  w2c_l16 = w2c_j0;
+  w2c_j0 = w2c_l15;
   w2c_j1 = 68624ull;
   w2c_j0 += w2c_j1;
   w2c_i0 = (u32)(w2c_j0);
   w2c_j0 = i64_load(m, (u64)(w2c_i0));
-  w2c_l12 = w2c_j0;
+  w2c_l15 = w2c_j0;
   w2c_i0 = w2c_l18;
   w2c_i1 = 19u;
   w2c_i0 = w2c_i0 > w2c_i1;
-  if (w2c_i0) {goto w2c_B48;}
-  w2c_B49:;
+  if (w2c_i0) {goto w2c_B47;}
+  w2c_B48:;
   w2c_j0 = w2c_l5;
-  w2c_j1 = w2c_l12;
-  w2c_j2 = w2c_l15;
+  w2c_j1 = w2c_l15;
+  w2c_j2 = w2c_l16;
   w2c_j3 = w2c_l6;
   w2c_j4 = 0ull;
   w2c_f3(m, w2c_j0, w2c_j1, w2c_j2, w2c_j3, w2c_j4);
@@ -34704,7 +37652,7 @@ static void w2c_f48(module *m, u64 w2c_p0, u32 w2c_p1, u64 w2c_p2, u64 w2c_p3, u
   w2c_j1 = w2c_l5;
   w2c_i1 = (u32)(w2c_j1);
   w2c_j1 = i64_load(m, (u64)(w2c_i1));
-  w2c_l6 = w2c_j1;
+  w2c_l15 = w2c_j1;
   w2c_j2 = 18446744073709551615ull;
   w2c_j1 ^= w2c_j2;
   w2c_i0 = w2c_j0 > w2c_j1;
@@ -34712,23 +37660,38 @@ static void w2c_f48(module *m, u64 w2c_p0, u32 w2c_p1, u64 w2c_p2, u64 w2c_p3, u
   w2c_j2 = w2c_l5;
   w2c_i2 = (u32)(w2c_j2);
   w2c_j2 = i64_load(m, (u64)(w2c_i2) + 8u);
-  w2c_l12 = w2c_j2;
+  w2c_l16 = w2c_j2;
   w2c_j3 = 18446744073709551615ull;
   w2c_j2 ^= w2c_j3;
-  w2c_l15 = w2c_j2;
+  w2c_l6 = w2c_j2;
   w2c_i1 = w2c_j1 > w2c_j2;
   w2c_j2 = w2c_l14;
-  w2c_j3 = w2c_l15;
+  w2c_j3 = w2c_l6;
   w2c_i2 = w2c_j2 == w2c_j3;
   w2c_i0 = w2c_i2 ? w2c_i0 : w2c_i1;
-  w2c_i0 = !(w2c_i0);
-  if (w2c_i0) {goto w2c_B47;}
-  goto w2c_B1;
-  w2c_B48:;
+  if (w2c_i0) {goto w2c_B1;}
+  w2c_j0 = w2c_l16;
+  w2c_j1 = w2c_l14;
+  w2c_j0 += w2c_j1;
+  w2c_j1 = w2c_l15;
+  w2c_j2 = w2c_l13;
+  w2c_j1 += w2c_j2;
+  w2c_l6 = w2c_j1;
+  w2c_j2 = w2c_l15;
+  w2c_i1 = w2c_j1 < w2c_j2;
+  w2c_j1 = (u64)(w2c_i1);
+  w2c_j0 += w2c_j1;
+  w2c_p4 = w2c_j0;
+  w2c_j0 = 0ull;
+  w2c_p3 = w2c_j0;
+  goto w2c_B0;
+  w2c_B47:;
+  w2c_j0 = 0ull;
+  w2c_l12 = w2c_j0;
   w2c_j0 = w2c_l5;
   w2c_j1 = 16ull;
   w2c_j0 += w2c_j1;
-  w2c_j1 = w2c_l12;
+  w2c_j1 = w2c_l15;
   w2c_j2 = 0ull;
   w2c_j3 = w2c_l6;
   w2c_j4 = 0ull;
@@ -34736,7 +37699,7 @@ static void w2c_f48(module *m, u64 w2c_p0, u32 w2c_p1, u64 w2c_p2, u64 w2c_p3, u
   w2c_j0 = w2c_l5;
   w2c_j1 = 32ull;
   w2c_j0 += w2c_j1;
-  w2c_j1 = w2c_l15;
+  w2c_j1 = w2c_l16;
   w2c_j2 = 0ull;
   w2c_j3 = w2c_l6;
   w2c_j4 = 0ull;
@@ -34752,7 +37715,7 @@ static void w2c_f48(module *m, u64 w2c_p0, u32 w2c_p1, u64 w2c_p2, u64 w2c_p3, u
   w2c_i2 = (u32)(w2c_j2);
   w2c_j2 = i64_load(m, (u64)(w2c_i2) + 32u);
   w2c_j1 += w2c_j2;
-  w2c_l12 = w2c_j1;
+  w2c_l15 = w2c_j1;
   w2c_j2 = w2c_l6;
   w2c_i1 = w2c_j1 < w2c_j2;
   w2c_j1 = (u64)(w2c_i1);
@@ -34764,61 +37727,810 @@ static void w2c_f48(module *m, u64 w2c_p0, u32 w2c_p1, u64 w2c_p2, u64 w2c_p3, u
   w2c_j1 = w2c_l5;
   w2c_i1 = (u32)(w2c_j1);
   w2c_j1 = i64_load(m, (u64)(w2c_i1) + 16u);
-  w2c_l6 = w2c_j1;
+  w2c_l16 = w2c_j1;
   w2c_j2 = 18446744073709551615ull;
   w2c_j1 ^= w2c_j2;
-  w2c_i0 = w2c_j0 > w2c_j1;
+  w2c_i0 = w2c_j0 <= w2c_j1;
   w2c_j1 = w2c_l14;
-  w2c_j2 = w2c_l12;
+  w2c_j2 = w2c_l15;
   w2c_j3 = 18446744073709551615ull;
   w2c_j2 ^= w2c_j3;
-  w2c_l15 = w2c_j2;
-  w2c_i1 = w2c_j1 > w2c_j2;
+  w2c_l6 = w2c_j2;
+  w2c_i1 = w2c_j1 <= w2c_j2;
   w2c_j2 = w2c_l14;
-  w2c_j3 = w2c_l15;
+  w2c_j3 = w2c_l6;
   w2c_i2 = w2c_j2 == w2c_j3;
   w2c_i0 = w2c_i2 ? w2c_i0 : w2c_i1;
+  w2c_i0 = !(w2c_i0);
   if (w2c_i0) {goto w2c_B1;}
-  w2c_B47:;
-  w2c_j0 = w2c_l5;
-  w2c_i0 = (u32)(w2c_j0);
-  w2c_j1 = w2c_l6;
+  w2c_j0 = w2c_l15;
+  w2c_j1 = w2c_l14;
+  w2c_j0 += w2c_j1;
+  w2c_j1 = w2c_l16;
   w2c_j2 = w2c_l13;
   w2c_j1 += w2c_j2;
-  w2c_p3 = w2c_j1;
+  w2c_l6 = w2c_j1;
+  w2c_j2 = w2c_l16;
+  w2c_i1 = w2c_j1 < w2c_j2;
+  w2c_j1 = (u64)(w2c_i1);
+  w2c_j0 += w2c_j1;
+  w2c_p4 = w2c_j0;
+  w2c_j0 = 0ull;
+  w2c_p3 = w2c_j0;
+  goto w2c_B0;
+  w2c_B1:;
+  w2c_j0 = 0ull;
+  w2c_l6 = w2c_j0;
+  w2c_j0 = w2c_l5;
+  w2c_i0 = (u32)(w2c_j0);
+  w2c_j1 = 0ull;
+  i64_store(m, (u64)(w2c_i0) + 160, w2c_j1);
+  w2c_j0 = w2c_l5;
+  w2c_i0 = (u32)(w2c_j0);
+  w2c_j1 = 0ull;
+  i64_store(m, (u64)(w2c_i0) + 168, w2c_j1);
+  w2c_j0 = w2c_l5;
+  w2c_i0 = (u32)(w2c_j0);
+  w2c_j1 = 0ull;
+  i64_store(m, (u64)(w2c_i0) + 176, w2c_j1);
+  w2c_j0 = w2c_l5;
+  w2c_i0 = (u32)(w2c_j0);
+  w2c_j1 = 0ull;
+  i64_store(m, (u64)(w2c_i0) + 184, w2c_j1);
+  w2c_j0 = w2c_l5;
+  w2c_i0 = (u32)(w2c_j0);
+  w2c_j1 = 0ull;
+  i64_store(m, (u64)(w2c_i0) + 128, w2c_j1);
+  w2c_j0 = w2c_l5;
+  w2c_i0 = (u32)(w2c_j0);
+  w2c_j1 = 0ull;
+  i64_store(m, (u64)(w2c_i0) + 136, w2c_j1);
+  w2c_j0 = w2c_l5;
+  w2c_i0 = (u32)(w2c_j0);
+  w2c_j1 = 0ull;
+  i64_store(m, (u64)(w2c_i0) + 144, w2c_j1);
+  w2c_j0 = w2c_l5;
+  w2c_i0 = (u32)(w2c_j0);
+  w2c_j1 = 0ull;
+  i64_store(m, (u64)(w2c_i0) + 152, w2c_j1);
+  w2c_j0 = w2c_l5;
+  w2c_i0 = (u32)(w2c_j0);
+  w2c_j1 = 0ull;
+  i64_store(m, (u64)(w2c_i0) + 96, w2c_j1);
+  w2c_j0 = w2c_l5;
+  w2c_i0 = (u32)(w2c_j0);
+  w2c_j1 = 0ull;
+  i64_store(m, (u64)(w2c_i0) + 104, w2c_j1);
+  w2c_j0 = w2c_l5;
+  w2c_i0 = (u32)(w2c_j0);
+  w2c_j1 = 0ull;
   i64_store(m, (u64)(w2c_i0) + 112, w2c_j1);
   w2c_j0 = w2c_l5;
   w2c_i0 = (u32)(w2c_j0);
-  w2c_j1 = w2c_l12;
-  w2c_j2 = w2c_l14;
-  w2c_j1 += w2c_j2;
-  w2c_j2 = w2c_p3;
-  w2c_j3 = w2c_l6;
-  w2c_i2 = w2c_j2 < w2c_j3;
-  w2c_j2 = (u64)(w2c_i2);
-  w2c_j1 += w2c_j2;
+  w2c_j1 = 0ull;
   i64_store(m, (u64)(w2c_i0) + 120, w2c_j1);
-  w2c_j0 = 0ull;
+  w2c_j0 = w2c_p4;
+  w2c_j1 = 0ull;
+  w2c_i0 = w2c_j0 != w2c_j1;
+  if (w2c_i0) {goto w2c_B51;}
+  w2c_j0 = w2c_l5;
+  w2c_i0 = (u32)(w2c_j0);
+  w2c_j1 = 0ull;
+  i64_store(m, (u64)(w2c_i0) + 176, w2c_j1);
+  w2c_j0 = w2c_l5;
+  w2c_i0 = (u32)(w2c_j0);
+  w2c_j1 = 0ull;
+  i64_store(m, (u64)(w2c_i0) + 168, w2c_j1);
+  w2c_j0 = w2c_l5;
+  w2c_i0 = (u32)(w2c_j0);
+  w2c_j0 = i64_load(m, (u64)(w2c_i0) + 184u);
+  w2c_p4 = w2c_j0;
+  w2c_i0 = 0u;
+  w2c_l20 = w2c_i0;
+  w2c_i0 = 1u;
+  w2c_l18 = w2c_i0;
+  goto w2c_B50;
+  w2c_B51:;
+  w2c_j0 = w2c_l5;
+  w2c_i0 = (u32)(w2c_j0);
+  w2c_j1 = 0ull;
+  i64_store(m, (u64)(w2c_i0) + 232, w2c_j1);
+  w2c_j0 = w2c_l5;
+  w2c_i0 = (u32)(w2c_j0);
+  w2c_j1 = 0ull;
+  i64_store(m, (u64)(w2c_i0) + 224, w2c_j1);
+  w2c_j0 = w2c_l5;
+  w2c_i0 = (u32)(w2c_j0);
+  w2c_j1 = 0ull;
+  i64_store(m, (u64)(w2c_i0) + 216, w2c_j1);
+  w2c_j0 = w2c_l5;
+  w2c_i0 = (u32)(w2c_j0);
+  w2c_j1 = 0ull;
+  i64_store(m, (u64)(w2c_i0) + 208, w2c_j1);
+  w2c_j0 = w2c_l5;
+  w2c_i0 = (u32)(w2c_j0);
+  w2c_j1 = 0ull;
+  i64_store(m, (u64)(w2c_i0) + 200, w2c_j1);
+  w2c_j0 = w2c_p4;
+  w2c_j1 = 3ull;
+  w2c_i0 = w2c_j0 < w2c_j1;
+  if (w2c_i0) {goto w2c_B56;}
+  w2c_j0 = w2c_p3;
+  w2c_i0 = (u32)(w2c_j0);
+  w2c_i0 = i32_load8_u(m, (u64)(w2c_i0));
+  w2c_l20 = w2c_i0;
+  w2c_i1 = 240u;
+  w2c_i0 &= w2c_i1;
+  w2c_i1 = 224u;
+  w2c_i0 = w2c_i0 != w2c_i1;
+  if (w2c_i0) {goto w2c_B56;}
+  w2c_j0 = w2c_p3;
+  w2c_i0 = (u32)(w2c_j0);
+  w2c_i0 = i32_load8_u(m, (u64)(w2c_i0) + 1u);
+  w2c_l19 = w2c_i0;
+  w2c_i1 = 6u;
+  w2c_i0 <<= (w2c_i1 & 31);
+  w2c_i1 = w2c_l20;
+  w2c_i2 = 12u;
+  w2c_i1 <<= (w2c_i2 & 31);
+  w2c_i0 += w2c_i1;
+  w2c_j1 = w2c_p3;
+  w2c_i1 = (u32)(w2c_j1);
+  w2c_i1 = i32_load8_u(m, (u64)(w2c_i1) + 2u);
+  w2c_l22 = w2c_i1;
+  w2c_i0 += w2c_i1;
+  w2c_l21 = w2c_i0;
+  w2c_i1 = 4294041472u;
+  w2c_i0 += w2c_i1;
+  w2c_l18 = w2c_i0;
+  w2c_i0 = w2c_l19;
+  w2c_i1 = 8u;
+  w2c_i0 <<= (w2c_i1 & 31);
+  w2c_i1 = w2c_l22;
+  w2c_i2 = 16u;
+  w2c_i1 <<= (w2c_i2 & 31);
+  w2c_i0 |= w2c_i1;
+  w2c_i1 = w2c_l20;
+  w2c_i0 |= w2c_i1;
+  w2c_l20 = w2c_i0;
+  w2c_j0 = (u64)(w2c_i0);
+  w2c_j1 = 953497ull;
+  w2c_j0 *= w2c_j1;
+  w2c_j1 = 22ull;
+  w2c_j0 >>= (w2c_j1 & 63);
+  w2c_j1 = 1016ull;
+  w2c_j0 &= w2c_j1;
   w2c_l6 = w2c_j0;
+  w2c_i0 = (u32)(w2c_j0);
+  w2c_i0 = i32_load(m, (u64)(w2c_i0) + 66992u);
+  w2c_i1 = w2c_l20;
+  w2c_i0 = w2c_i0 != w2c_i1;
+  if (w2c_i0) {goto w2c_B58;}
+  w2c_j0 = w2c_l6;
+  w2c_j1 = 66996ull;
+  w2c_j0 += w2c_j1;
+  w2c_i0 = (u32)(w2c_j0);
+  w2c_i0 = i32_load8_u(m, (u64)(w2c_i0));
+  w2c_i1 = 255u;
+  w2c_i0 &= w2c_i1;
+  w2c_i1 = 2u;
+  w2c_i0 = w2c_i0 != w2c_i1;
+  if (w2c_i0) {goto w2c_B57;}
+  w2c_B58:;
+  w2c_i0 = w2c_l18;
+  w2c_i1 = 127u;
+  w2c_i0 = w2c_i0 > w2c_i1;
+  if (w2c_i0) {goto w2c_B59;}
+  w2c_i0 = w2c_l21;
+  w2c_i1 = 4294041463u;
+  w2c_i0 += w2c_i1;
+  w2c_i1 = 5u;
+  w2c_i0 = w2c_i0 < w2c_i1;
+  if (w2c_i0) {goto w2c_B56;}
+  w2c_i0 = w2c_l21;
+  w2c_i1 = 925856u;
+  w2c_i0 = w2c_i0 != w2c_i1;
+  if (w2c_i0) {goto w2c_B57;}
+  goto w2c_B56;
+  w2c_B59:;
+  w2c_i0 = w2c_l21;
+  w2c_i1 = 4294033280u;
+  w2c_i0 += w2c_i1;
+  w2c_i1 = 11u;
+  w2c_i0 = w2c_i0 < w2c_i1;
+  if (w2c_i0) {goto w2c_B56;}
+  w2c_i0 = w2c_l21;
+  w2c_i1 = 934055u;
+  w2c_i0 = (u32)((s32)w2c_i0 > (s32)w2c_i1);
+  if (w2c_i0) {goto w2c_B60;}
+  w2c_i0 = w2c_l21;
+  w2c_i1 = 925957u;
+  w2c_i0 = w2c_i0 == w2c_i1;
+  if (w2c_i0) {goto w2c_B56;}
+  w2c_i0 = w2c_l21;
+  w2c_i1 = 925984u;
+  w2c_i0 = w2c_i0 == w2c_i1;
+  if (w2c_i0) {goto w2c_B56;}
+  w2c_i0 = w2c_l21;
+  w2c_i1 = 931584u;
+  w2c_i0 = w2c_i0 != w2c_i1;
+  if (w2c_i0) {goto w2c_B57;}
+  goto w2c_B56;
+  w2c_B60:;
+  w2c_i0 = w2c_l21;
+  w2c_i1 = 4294033240u;
+  w2c_i0 += w2c_i1;
+  w2c_l20 = w2c_i0;
+  w2c_i1 = 55u;
+  w2c_i0 = w2c_i0 > w2c_i1;
+  if (w2c_i0) {goto w2c_B61;}
+  w2c_j0 = 1ull;
+  w2c_i1 = w2c_l20;
+  w2c_j1 = (u64)(w2c_i1);
+  w2c_j0 <<= (w2c_j1 & 63);
+  w2c_j1 = 36028797018964099ull;
+  w2c_j0 &= w2c_j1;
+  w2c_j1 = 0ull;
+  w2c_i0 = w2c_j0 != w2c_j1;
+  if (w2c_i0) {goto w2c_B56;}
+  w2c_B61:;
+  w2c_i0 = w2c_l21;
+  w2c_i1 = 938112u;
+  w2c_i0 = w2c_i0 == w2c_i1;
+  if (w2c_i0) {goto w2c_B56;}
+  w2c_B57:;
+  w2c_j0 = w2c_p4;
+  w2c_j1 = 18446744073709551613ull;
+  w2c_j0 += w2c_j1;
+  w2c_l6 = w2c_j0;
+  w2c_j0 = w2c_p3;
+  w2c_j1 = 3ull;
+  w2c_j0 += w2c_j1;
+  w2c_p4 = w2c_j0;
   w2c_j0 = 0ull;
   w2c_l12 = w2c_j0;
-  goto w2c_B0;
-  w2c_B1:;
+  goto w2c_B55;
+  w2c_B56:;
+  w2c_j0 = w2c_l5;
+  w2c_j1 = 200ull;
+  w2c_j0 += w2c_j1;
+  w2c_j1 = w2c_p3;
+  w2c_j2 = w2c_p4;
+  w2c_f33(m, w2c_j0, w2c_j1, w2c_j2);
+  w2c_i0 = 1u;
+  w2c_l18 = w2c_i0;
+  w2c_j0 = w2c_l5;
+  w2c_i0 = (u32)(w2c_j0);
+  w2c_i0 = i32_load8_u(m, (u64)(w2c_i0) + 200u);
+  w2c_i1 = 1u;
+  w2c_i0 = w2c_i0 != w2c_i1;
+  if (w2c_i0) {goto w2c_B54;}
+  w2c_j0 = w2c_l5;
+  w2c_i0 = (u32)(w2c_j0);
+  w2c_j0 = i64_load(m, (u64)(w2c_i0) + 232u);
+  w2c_l6 = w2c_j0;
+  w2c_j0 = w2c_l5;
+  w2c_i0 = (u32)(w2c_j0);
+  w2c_j0 = i64_load(m, (u64)(w2c_i0) + 224u);
+  w2c_p4 = w2c_j0;
+  w2c_j0 = w2c_l5;
+  w2c_i0 = (u32)(w2c_j0);
+  w2c_j0 = i64_load(m, (u64)(w2c_i0) + 216u);
+  w2c_l12 = w2c_j0;
+  w2c_j0 = w2c_l5;
+  w2c_i0 = (u32)(w2c_j0);
+  w2c_i0 = i32_load(m, (u64)(w2c_i0) + 208u);
+  w2c_l18 = w2c_i0;
+  w2c_B55:;
+  w2c_j0 = w2c_l12;
+  w2c_j1 = w2c_p2;
+  w2c_j0 += w2c_j1;
+  w2c_p3 = w2c_j0;
+  w2c_j0 = w2c_l6;
+  w2c_j1 = 4ull;
+  w2c_i0 = w2c_j0 < w2c_j1;
+  if (w2c_i0) {goto w2c_B65;}
+  w2c_j0 = w2c_p4;
+  w2c_j1 = w2c_l6;
+  w2c_j0 += w2c_j1;
+  w2c_j1 = 18446744073709551612ull;
+  w2c_j0 += w2c_j1;
+  w2c_i0 = (u32)(w2c_j0);
+  w2c_i0 = i32_load(m, (u64)(w2c_i0));
+  w2c_i1 = 8u;
+  w2c_i0 >>= (w2c_i1 & 31);
+  w2c_l20 = w2c_i0;
+  w2c_j0 = (u64)(w2c_i0);
+  w2c_j1 = 953497ull;
+  w2c_j0 *= w2c_j1;
+  w2c_j1 = 22ull;
+  w2c_j0 >>= (w2c_j1 & 63);
+  w2c_j1 = 1016ull;
+  w2c_j0 &= w2c_j1;
+  w2c_l16 = w2c_j0;
+  w2c_j1 = 66992ull;
+  w2c_j0 += w2c_j1;
+  w2c_i0 = (u32)(w2c_j0);
+  w2c_i0 = i32_load(m, (u64)(w2c_i0));
+  w2c_i1 = w2c_l20;
+  w2c_i0 = w2c_i0 != w2c_i1;
+  if (w2c_i0) {goto w2c_B63;}
+  w2c_j0 = w2c_l6;
+  w2c_j1 = 18446744073709551613ull;
+  w2c_j0 += w2c_j1;
+  w2c_l12 = w2c_j0;
+  w2c_j0 = w2c_p4;
+  w2c_l15 = w2c_j0;
+  goto w2c_B64;
+  w2c_B65:;
+  w2c_j0 = w2c_l6;
+  w2c_j1 = 3ull;
+  w2c_i0 = w2c_j0 != w2c_j1;
+  if (w2c_i0) {goto w2c_B63;}
+  w2c_j0 = w2c_p4;
+  w2c_i0 = (u32)(w2c_j0);
+  w2c_i0 = i32_load16_u(m, (u64)(w2c_i0));
+  w2c_j1 = w2c_p4;
+  w2c_i1 = (u32)(w2c_j1);
+  w2c_i1 = i32_load8_u(m, (u64)(w2c_i1) + 2u);
+  w2c_i2 = 16u;
+  w2c_i1 <<= (w2c_i2 & 31);
+  w2c_i0 |= w2c_i1;
+  w2c_l20 = w2c_i0;
+  w2c_j0 = (u64)(w2c_i0);
+  w2c_j1 = 953497ull;
+  w2c_j0 *= w2c_j1;
+  w2c_j1 = 22ull;
+  w2c_j0 >>= (w2c_j1 & 63);
+  w2c_j1 = 1016ull;
+  w2c_j0 &= w2c_j1;
+  w2c_l16 = w2c_j0;
+  w2c_j1 = 66992ull;
+  w2c_j0 += w2c_j1;
+  w2c_i0 = (u32)(w2c_j0);
+  w2c_i0 = i32_load(m, (u64)(w2c_i0));
+  w2c_i1 = w2c_l20;
+  w2c_i0 = w2c_i0 != w2c_i1;
+  if (w2c_i0) {goto w2c_B63;}
+  w2c_j0 = w2c_p4;
+  w2c_j1 = 3ull;
+  w2c_j0 += w2c_j1;
+  w2c_l15 = w2c_j0;
+  w2c_j0 = 0ull;
+  w2c_l12 = w2c_j0;
+  w2c_B64:;
+  w2c_j0 = w2c_l16;
+  w2c_j1 = 66996ull;
+  w2c_j0 += w2c_j1;
+  w2c_i0 = (u32)(w2c_j0);
+  w2c_i0 = i32_load8_u(m, (u64)(w2c_i0));
+  w2c_l22 = w2c_i0;
+  w2c_j0 = w2c_l16;
+  w2c_j1 = 66997ull;
+  w2c_j0 += w2c_j1;
+  w2c_i0 = (u32)(w2c_j0);
+  w2c_i0 = i32_load8_u(m, (u64)(w2c_i0));
+  w2c_l21 = w2c_i0;
+  goto w2c_B62;
+  w2c_B63:;
+  w2c_j0 = w2c_l5;
+  w2c_i0 = (u32)(w2c_j0);
+  w2c_j1 = 0ull;
+  i64_store(m, (u64)(w2c_i0) + 224, w2c_j1);
+  w2c_j0 = w2c_l5;
+  w2c_i0 = (u32)(w2c_j0);
+  w2c_j1 = 0ull;
+  i64_store(m, (u64)(w2c_i0) + 216, w2c_j1);
+  w2c_j0 = w2c_l5;
+  w2c_i0 = (u32)(w2c_j0);
+  w2c_j1 = 0ull;
+  i64_store(m, (u64)(w2c_i0) + 208, w2c_j1);
+  w2c_j0 = w2c_l5;
+  w2c_i0 = (u32)(w2c_j0);
+  w2c_j1 = 0ull;
+  i64_store(m, (u64)(w2c_i0) + 200, w2c_j1);
+  w2c_j0 = w2c_l5;
+  w2c_j1 = 200ull;
+  w2c_j0 += w2c_j1;
+  w2c_j1 = w2c_p4;
+  w2c_j2 = w2c_l6;
+  w2c_f36(m, w2c_j0, w2c_j1, w2c_j2);
+  w2c_j0 = w2c_l5;
+  w2c_i0 = (u32)(w2c_j0);
+  w2c_i0 = i32_load8_u(m, (u64)(w2c_i0) + 200u);
+  w2c_i1 = 1u;
+  w2c_i0 = w2c_i0 != w2c_i1;
+  if (w2c_i0) {goto w2c_B53;}
+  w2c_j0 = w2c_l5;
+  w2c_i0 = (u32)(w2c_j0);
+  w2c_i0 = i32_load(m, (u64)(w2c_i0) + 208u);
+  w2c_l20 = w2c_i0;
+  w2c_i1 = 4294965248u;
+  w2c_i0 += w2c_i1;
+  w2c_i1 = 63487u;
+  w2c_i0 = w2c_i0 > w2c_i1;
+  if (w2c_i0) {goto w2c_B67;}
+  w2c_i0 = w2c_l20;
+  w2c_i1 = 12u;
+  w2c_i0 >>= (w2c_i1 & 31);
+  w2c_i1 = w2c_l20;
+  w2c_i2 = 2u;
+  w2c_i1 <<= (w2c_i2 & 31);
+  w2c_i2 = 16128u;
+  w2c_i1 &= w2c_i2;
+  w2c_i0 |= w2c_i1;
+  w2c_i1 = w2c_l20;
+  w2c_i2 = 16u;
+  w2c_i1 <<= (w2c_i2 & 31);
+  w2c_i2 = 4128768u;
+  w2c_i1 &= w2c_i2;
+  w2c_i0 |= w2c_i1;
+  w2c_i1 = 8421600u;
+  w2c_i0 |= w2c_i1;
+  w2c_l20 = w2c_i0;
+  w2c_j0 = (u64)(w2c_i0);
+  w2c_j1 = 953497ull;
+  w2c_j0 *= w2c_j1;
+  w2c_j1 = 22ull;
+  w2c_j0 >>= (w2c_j1 & 63);
+  w2c_j1 = 1016ull;
+  w2c_j0 &= w2c_j1;
+  w2c_l12 = w2c_j0;
+  w2c_j1 = 66997ull;
+  w2c_j0 += w2c_j1;
+  w2c_i0 = (u32)(w2c_j0);
+  w2c_i0 = i32_load8_u(m, (u64)(w2c_i0));
+  w2c_i1 = 0u;
+  w2c_j2 = w2c_l12;
+  w2c_i2 = (u32)(w2c_j2);
+  w2c_i2 = i32_load(m, (u64)(w2c_i2) + 66992u);
+  w2c_i3 = w2c_l20;
+  w2c_i2 = w2c_i2 == w2c_i3;
+  w2c_l20 = w2c_i2;
+  w2c_i0 = w2c_i2 ? w2c_i0 : w2c_i1;
+  w2c_l21 = w2c_i0;
+  w2c_j0 = w2c_l12;
+  w2c_j1 = 66996ull;
+  w2c_j0 += w2c_j1;
+  w2c_i0 = (u32)(w2c_j0);
+  w2c_i0 = i32_load8_u(m, (u64)(w2c_i0));
+  w2c_i1 = 2u;
+  w2c_i2 = w2c_l20;
+  w2c_i0 = w2c_i2 ? w2c_i0 : w2c_i1;
+  w2c_l22 = w2c_i0;
+  goto w2c_B66;
+  w2c_B67:;
+  w2c_i0 = w2c_l20;
+  w2c_i1 = 4294967248u;
+  w2c_i0 += w2c_i1;
+  w2c_l20 = w2c_i0;
+  w2c_i1 = 0u;
+  w2c_i2 = w2c_l20;
+  w2c_i3 = 10u;
+  w2c_i2 = w2c_i2 < w2c_i3;
+  w2c_l20 = w2c_i2;
+  w2c_i0 = w2c_i2 ? w2c_i0 : w2c_i1;
+  w2c_l21 = w2c_i0;
+  w2c_i0 = 0u;
+  w2c_i1 = 2u;
+  w2c_i2 = w2c_l20;
+  w2c_i0 = w2c_i2 ? w2c_i0 : w2c_i1;
+  w2c_l22 = w2c_i0;
+  w2c_B66:;
+  w2c_j0 = w2c_l5;
+  w2c_i0 = (u32)(w2c_j0);
+  w2c_j0 = i64_load(m, (u64)(w2c_i0) + 224u);
+  w2c_l12 = w2c_j0;
+  w2c_j0 = w2c_l5;
+  w2c_i0 = (u32)(w2c_j0);
+  w2c_j0 = i64_load(m, (u64)(w2c_i0) + 216u);
+  w2c_l15 = w2c_j0;
+  w2c_B62:;
+  w2c_j0 = w2c_l5;
+  w2c_i0 = (u32)(w2c_j0);
+  w2c_j1 = 0ull;
+  i64_store(m, (u64)(w2c_i0) + 224, w2c_j1);
+  w2c_j0 = w2c_l5;
+  w2c_i0 = (u32)(w2c_j0);
+  w2c_j1 = 0ull;
+  i64_store(m, (u64)(w2c_i0) + 216, w2c_j1);
+  w2c_j0 = w2c_l5;
+  w2c_i0 = (u32)(w2c_j0);
+  w2c_j1 = 0ull;
+  i64_store(m, (u64)(w2c_i0) + 208, w2c_j1);
+  w2c_j0 = w2c_l5;
+  w2c_i0 = (u32)(w2c_j0);
+  w2c_j1 = 0ull;
+  i64_store(m, (u64)(w2c_i0) + 200, w2c_j1);
+  w2c_j0 = w2c_l12;
+  w2c_j1 = 4ull;
+  w2c_i0 = w2c_j0 < w2c_j1;
+  if (w2c_i0) {goto w2c_B70;}
+  w2c_j0 = w2c_l15;
+  w2c_j1 = w2c_l12;
+  w2c_j0 += w2c_j1;
+  w2c_j1 = 18446744073709551612ull;
+  w2c_j0 += w2c_j1;
+  w2c_i0 = (u32)(w2c_j0);
+  w2c_i0 = i32_load(m, (u64)(w2c_i0));
+  w2c_i1 = 8u;
+  w2c_i0 >>= (w2c_i1 & 31);
+  w2c_l20 = w2c_i0;
+  w2c_j0 = (u64)(w2c_i0);
+  w2c_j1 = 953497ull;
+  w2c_j0 *= w2c_j1;
+  w2c_j1 = 22ull;
+  w2c_j0 >>= (w2c_j1 & 63);
+  w2c_j1 = 1016ull;
+  w2c_j0 &= w2c_j1;
+  w2c_l16 = w2c_j0;
+  w2c_j1 = 66992ull;
+  w2c_j0 += w2c_j1;
+  w2c_i0 = (u32)(w2c_j0);
+  w2c_i0 = i32_load(m, (u64)(w2c_i0));
+  w2c_i1 = w2c_l20;
+  w2c_i0 = w2c_i0 != w2c_i1;
+  if (w2c_i0) {goto w2c_B69;}
+  w2c_j0 = w2c_l16;
+  w2c_j1 = 66996ull;
+  w2c_j0 += w2c_j1;
+  w2c_i0 = (u32)(w2c_j0);
+  w2c_i0 = i32_load8_u(m, (u64)(w2c_i0));
+  w2c_l19 = w2c_i0;
+  w2c_j0 = w2c_l16;
+  w2c_j1 = 66997ull;
+  w2c_j0 += w2c_j1;
+  w2c_i0 = (u32)(w2c_j0);
+  w2c_i0 = i32_load8_u(m, (u64)(w2c_i0));
+  w2c_l23 = w2c_i0;
+  w2c_i0 = 1u;
+  w2c_l20 = w2c_i0;
+  goto w2c_B68;
+  w2c_B70:;
+  w2c_j0 = w2c_l12;
+  w2c_j1 = 3ull;
+  w2c_i0 = w2c_j0 != w2c_j1;
+  if (w2c_i0) {goto w2c_B69;}
+  w2c_j0 = w2c_l15;
+  w2c_i0 = (u32)(w2c_j0);
+  w2c_i0 = i32_load16_u(m, (u64)(w2c_i0));
+  w2c_j1 = w2c_l15;
+  w2c_i1 = (u32)(w2c_j1);
+  w2c_i1 = i32_load8_u(m, (u64)(w2c_i1) + 2u);
+  w2c_i2 = 16u;
+  w2c_i1 <<= (w2c_i2 & 31);
+  w2c_i0 |= w2c_i1;
+  w2c_l20 = w2c_i0;
+  w2c_j0 = (u64)(w2c_i0);
+  w2c_j1 = 953497ull;
+  w2c_j0 *= w2c_j1;
+  w2c_j1 = 22ull;
+  w2c_j0 >>= (w2c_j1 & 63);
+  w2c_j1 = 1016ull;
+  w2c_j0 &= w2c_j1;
+  w2c_l16 = w2c_j0;
+  w2c_j1 = 66992ull;
+  w2c_j0 += w2c_j1;
+  w2c_i0 = (u32)(w2c_j0);
+  w2c_i0 = i32_load(m, (u64)(w2c_i0));
+  w2c_i1 = w2c_l20;
+  w2c_i0 = w2c_i0 != w2c_i1;
+  if (w2c_i0) {goto w2c_B69;}
+  w2c_j0 = w2c_l16;
+  w2c_j1 = 66996ull;
+  w2c_j0 += w2c_j1;
+  w2c_i0 = (u32)(w2c_j0);
+  w2c_i0 = i32_load8_u(m, (u64)(w2c_i0));
+  w2c_l19 = w2c_i0;
+  w2c_j0 = w2c_l16;
+  w2c_j1 = 66997ull;
+  w2c_j0 += w2c_j1;
+  w2c_i0 = (u32)(w2c_j0);
+  w2c_i0 = i32_load8_u(m, (u64)(w2c_i0));
+  w2c_l23 = w2c_i0;
+  w2c_i0 = 1u;
+  w2c_l20 = w2c_i0;
+  goto w2c_B68;
+  w2c_B69:;
+  w2c_j0 = w2c_l5;
+  w2c_j1 = 200ull;
+  w2c_j0 += w2c_j1;
+  w2c_j1 = w2c_l15;
+  w2c_j2 = w2c_l12;
+  w2c_f46(m, w2c_j0, w2c_j1, w2c_j2);
+  w2c_j0 = w2c_l5;
+  w2c_i0 = (u32)(w2c_j0);
+  w2c_i0 = i32_load8_u(m, (u64)(w2c_i0) + 200u);
+  w2c_i1 = 1u;
+  w2c_i0 = w2c_i0 == w2c_i1;
+  w2c_l20 = w2c_i0;
+  w2c_j0 = w2c_l5;
+  w2c_i0 = (u32)(w2c_j0);
+  w2c_i0 = i32_load8_u(m, (u64)(w2c_i0) + 209u);
+  w2c_l23 = w2c_i0;
+  w2c_j0 = w2c_l5;
+  w2c_i0 = (u32)(w2c_j0);
+  w2c_i0 = i32_load8_u(m, (u64)(w2c_i0) + 208u);
+  w2c_l19 = w2c_i0;
+  w2c_B68:;
+  w2c_i0 = w2c_l20;
+  w2c_i0 = !(w2c_i0);
+  if (w2c_i0) {goto w2c_B53;}
+  w2c_i0 = w2c_l19;
+  w2c_i1 = 255u;
+  w2c_i0 &= w2c_i1;
+  w2c_i1 = 1u;
+  w2c_i0 = w2c_i0 != w2c_i1;
+  if (w2c_i0) {goto w2c_B53;}
+  w2c_i0 = w2c_l22;
+  w2c_i1 = 255u;
+  w2c_i0 &= w2c_i1;
+  w2c_i1 = 1u;
+  w2c_i0 = w2c_i0 != w2c_i1;
+  w2c_i1 = w2c_l21;
+  w2c_i2 = 255u;
+  w2c_i1 &= w2c_i2;
+  w2c_i1 = !(w2c_i1);
+  w2c_i0 |= w2c_i1;
+  w2c_i1 = 1u;
+  w2c_i0 = w2c_i0 != w2c_i1;
+  if (w2c_i0) {goto w2c_B53;}
+  w2c_i0 = w2c_l23;
+  w2c_i1 = 255u;
+  w2c_i0 &= w2c_i1;
+  w2c_i1 = 1u;
+  w2c_i0 = w2c_i0 <= w2c_i1;
+  if (w2c_i0) {goto w2c_B53;}
+  w2c_j0 = w2c_l5;
+  w2c_j1 = 128ull;
+  w2c_j0 += w2c_j1;
+  w2c_i1 = w2c_p1;
+  w2c_j2 = w2c_p3;
+  w2c_i3 = w2c_l18;
+  w2c_j4 = w2c_l15;
+  w2c_j5 = w2c_l12;
+  w2c_f47(m, w2c_j0, w2c_i1, w2c_j2, w2c_i3, w2c_j4, w2c_j5);
+  w2c_j0 = w2c_l5;
+  w2c_i0 = (u32)(w2c_j0);
+  w2c_j0 = i64_load(m, (u64)(w2c_i0) + 144u);
+  w2c_l6 = w2c_j0;
+  w2c_j0 = w2c_l5;
+  w2c_i0 = (u32)(w2c_j0);
+  w2c_i0 = i32_load8_u(m, (u64)(w2c_i0) + 128u);
+  if (w2c_i0) {goto w2c_B52;}
+  w2c_i0 = w2c_l22;
+  w2c_i1 = 255u;
+  w2c_i0 &= w2c_i1;
+  if (w2c_i0) {goto w2c_B71;}
   w2c_j0 = w2c_l5;
   w2c_j1 = 96ull;
   w2c_j0 += w2c_j1;
   w2c_i1 = w2c_p1;
-  w2c_j2 = w2c_p2;
-  w2c_j3 = w2c_p3;
-  w2c_j4 = w2c_p4;
-  w2c_f42(m, w2c_j0, w2c_i1, w2c_j2, w2c_j3, w2c_j4);
+  w2c_j2 = w2c_l6;
+  w2c_j3 = w2c_l5;
+  w2c_i3 = (u32)(w2c_j3);
+  w2c_j3 = i64_load(m, (u64)(w2c_i3) + 152u);
+  w2c_i4 = w2c_l23;
+  w2c_i5 = w2c_l21;
+  w2c_f48(m, w2c_j0, w2c_i1, w2c_j2, w2c_j3, w2c_i4, w2c_i5);
+  w2c_j0 = 0ull;
+  w2c_j1 = w2c_l5;
+  w2c_i1 = (u32)(w2c_j1);
+  w2c_j1 = i64_load(m, (u64)(w2c_i1) + 120u);
+  w2c_j2 = w2c_l5;
+  w2c_i2 = (u32)(w2c_j2);
+  w2c_i2 = i32_load8_u(m, (u64)(w2c_i2) + 96u);
+  w2c_i3 = 1u;
+  w2c_i2 = w2c_i2 != w2c_i3;
+  w2c_l18 = w2c_i2;
+  w2c_j0 = w2c_i2 ? w2c_j0 : w2c_j1;
+  w2c_p4 = w2c_j0;
+  w2c_j0 = 0ull;
+  w2c_j1 = w2c_l5;
+  w2c_i1 = (u32)(w2c_j1);
+  w2c_j1 = i64_load(m, (u64)(w2c_i1) + 112u);
+  w2c_i2 = w2c_l18;
+  w2c_j0 = w2c_i2 ? w2c_j0 : w2c_j1;
+  w2c_l6 = w2c_j0;
+  w2c_i0 = 2u;
+  w2c_i1 = 0u;
+  w2c_i2 = w2c_l18;
+  w2c_i0 = w2c_i2 ? w2c_i0 : w2c_i1;
+  w2c_l20 = w2c_i0;
+  goto w2c_B50;
+  w2c_B71:;
   w2c_j0 = w2c_l5;
   w2c_i0 = (u32)(w2c_j0);
-  w2c_j0 = i64_load8_u(m, (u64)(w2c_i0) + 104u);
+  w2c_j1 = w2c_p3;
+  w2c_j2 = w2c_l15;
+  w2c_j3 = w2c_l12;
+  w2c_j2 = w2c_f38(m, w2c_j2, w2c_j3);
+  w2c_j1 += w2c_j2;
+  w2c_j2 = 1ull;
+  w2c_j1 += w2c_j2;
+  w2c_l6 = w2c_j1;
+  i64_store(m, (u64)(w2c_i0) + 176, w2c_j1);
+  w2c_i0 = 1u;
+  w2c_l18 = w2c_i0;
+  w2c_j0 = w2c_l5;
+  w2c_i0 = (u32)(w2c_j0);
+  w2c_j0 = i64_load(m, (u64)(w2c_i0) + 184u);
+  w2c_p4 = w2c_j0;
+  w2c_i0 = 1u;
+  w2c_l20 = w2c_i0;
+  goto w2c_B50;
+  w2c_B54:;
+  w2c_j0 = 0ull;
   w2c_l6 = w2c_j0;
   w2c_j0 = w2c_l5;
   w2c_i0 = (u32)(w2c_j0);
-  w2c_j0 = i64_load8_u(m, (u64)(w2c_i0) + 96u);
+  w2c_j1 = 0ull;
+  i64_store(m, (u64)(w2c_i0) + 176, w2c_j1);
+  w2c_j0 = w2c_l5;
+  w2c_i0 = (u32)(w2c_j0);
+  w2c_j1 = 0ull;
+  i64_store(m, (u64)(w2c_i0) + 168, w2c_j1);
+  w2c_j0 = w2c_l5;
+  w2c_i0 = (u32)(w2c_j0);
+  w2c_j0 = i64_load(m, (u64)(w2c_i0) + 184u);
+  w2c_p4 = w2c_j0;
+  w2c_i0 = 0u;
+  w2c_l20 = w2c_i0;
+  goto w2c_B50;
+  w2c_B53:;
+  w2c_j0 = w2c_l5;
+  w2c_j1 = 160ull;
+  w2c_j0 += w2c_j1;
+  w2c_i1 = w2c_p1;
+  w2c_j2 = w2c_p3;
+  w2c_i3 = w2c_l18;
+  w2c_j4 = w2c_p4;
+  w2c_j5 = w2c_l6;
+  w2c_f47(m, w2c_j0, w2c_i1, w2c_j2, w2c_i3, w2c_j4, w2c_j5);
+  w2c_j0 = w2c_l5;
+  w2c_i0 = (u32)(w2c_j0);
+  w2c_j0 = i64_load(m, (u64)(w2c_i0) + 184u);
+  w2c_p4 = w2c_j0;
+  w2c_j0 = w2c_l5;
+  w2c_i0 = (u32)(w2c_j0);
+  w2c_j0 = i64_load(m, (u64)(w2c_i0) + 176u);
+  w2c_l6 = w2c_j0;
+  w2c_j0 = w2c_l5;
+  w2c_i0 = (u32)(w2c_j0);
+  w2c_i0 = i32_load8_u(m, (u64)(w2c_i0) + 168u);
+  w2c_l20 = w2c_i0;
+  w2c_j0 = w2c_l5;
+  w2c_i0 = (u32)(w2c_j0);
+  w2c_i0 = i32_load8_u(m, (u64)(w2c_i0) + 160u);
+  w2c_l18 = w2c_i0;
+  goto w2c_B50;
+  w2c_B52:;
+  w2c_j0 = 0ull;
+  w2c_p4 = w2c_j0;
+  w2c_j0 = w2c_l5;
+  w2c_i0 = (u32)(w2c_j0);
+  w2c_j1 = 0ull;
+  i64_store(m, (u64)(w2c_i0) + 184, w2c_j1);
+  w2c_j0 = w2c_l5;
+  w2c_i0 = (u32)(w2c_j0);
+  w2c_j1 = w2c_l6;
+  i64_store(m, (u64)(w2c_i0) + 176, w2c_j1);
+  w2c_i0 = 1u;
+  w2c_l18 = w2c_i0;
+  w2c_j0 = w2c_l5;
+  w2c_i0 = (u32)(w2c_j0);
+  w2c_i0 = i32_load8_u(m, (u64)(w2c_i0) + 136u);
+  w2c_l20 = w2c_i0;
+  w2c_B50:;
+  w2c_i0 = w2c_l20;
+  w2c_j0 = (u64)(w2c_i0);
+  w2c_j1 = 255ull;
+  w2c_j0 &= w2c_j1;
+  w2c_p3 = w2c_j0;
+  w2c_i0 = w2c_l18;
+  w2c_j0 = (u64)(w2c_i0);
+  w2c_j1 = 255ull;
+  w2c_j0 &= w2c_j1;
   w2c_l12 = w2c_j0;
   w2c_B0:;
   w2c_j0 = w2c_p0;
@@ -34826,29 +38538,25 @@ static void w2c_f48(module *m, u64 w2c_p0, u32 w2c_p1, u64 w2c_p2, u64 w2c_p3, u
   w2c_j1 = w2c_l12;
   i64_store(m, (u64)(w2c_i0), w2c_j1);
   w2c_j0 = w2c_p0;
-  w2c_j1 = 8ull;
+  w2c_j1 = 24ull;
   w2c_j0 += w2c_j1;
   w2c_i0 = (u32)(w2c_j0);
-  w2c_j1 = w2c_l6;
+  w2c_j1 = w2c_p4;
   i64_store(m, (u64)(w2c_i0), w2c_j1);
   w2c_j0 = w2c_p0;
   w2c_j1 = 16ull;
   w2c_j0 += w2c_j1;
   w2c_i0 = (u32)(w2c_j0);
-  w2c_j1 = w2c_l5;
-  w2c_i1 = (u32)(w2c_j1);
-  w2c_j1 = i64_load(m, (u64)(w2c_i1) + 112u);
+  w2c_j1 = w2c_l6;
   i64_store(m, (u64)(w2c_i0), w2c_j1);
   w2c_j0 = w2c_p0;
-  w2c_j1 = 24ull;
+  w2c_j1 = 8ull;
   w2c_j0 += w2c_j1;
   w2c_i0 = (u32)(w2c_j0);
-  w2c_j1 = w2c_l5;
-  w2c_i1 = (u32)(w2c_j1);
-  w2c_j1 = i64_load(m, (u64)(w2c_i1) + 120u);
+  w2c_j1 = w2c_p3;
   i64_store(m, (u64)(w2c_i0), w2c_j1);
   w2c_j0 = w2c_l5;
-  w2c_j1 = 176ull;
+  w2c_j1 = 240ull;
   w2c_j0 += w2c_j1;
   m->w2c_g0 = w2c_j0;
 }
@@ -34861,13 +38569,13 @@ static u32 w2c_chinese_number_version(module *m) {
   w2c_f2(m);
   UNREACHABLE;
   w2c_B0:;
-  w2c_f50(m);
+  w2c_f54(m);
   w2c_f1(m);
   w2c_i0 = 1000u;
   return w2c_i0;
 }
 
-static void w2c_f50(module *m) {
+static void w2c_f54(module *m) {
   u32 w2c_i0;
   u64 w2c_j0, w2c_j1;
   w2c_j0 = m->w2c_g0;
@@ -34893,14 +38601,14 @@ static u32 w2c_chinese_amount_print(module *m, u64 w2c_p0, u32 w2c_p1, u32 w2c_p
   w2c_j3 = w2c_p3;
   w2c_j4 = w2c_p4;
   w2c_j5 = w2c_p5;
-  w2c_i0 = w2c_f52(m, w2c_j0, w2c_i1, w2c_i2, w2c_j3, w2c_j4, w2c_j5);
+  w2c_i0 = w2c_f56(m, w2c_j0, w2c_i1, w2c_i2, w2c_j3, w2c_j4, w2c_j5);
   w2c_p2 = w2c_i0;
   w2c_f1(m);
   w2c_i0 = w2c_p2;
   return w2c_i0;
 }
 
-static u32 w2c_f52(module *m, u64 w2c_p0, u32 w2c_p1, u32 w2c_p2, u64 w2c_p3, u64 w2c_p4, u64 w2c_p5) {
+static u32 w2c_f56(module *m, u64 w2c_p0, u32 w2c_p1, u32 w2c_p2, u64 w2c_p3, u64 w2c_p4, u64 w2c_p5) {
   u32 w2c_l8 = 0;
   u64 w2c_l6 = 0, w2c_l7 = 0;
   u32 w2c_i0, w2c_i1, w2c_i2, w2c_i3, w2c_i4;
@@ -35086,14 +38794,14 @@ static u32 w2c_chinese_date_print(module *m, u32 w2c_p0, u32 w2c_p1, u32 w2c_p2,
   w2c_j4 = w2c_p4;
   w2c_j5 = w2c_p5;
   w2c_j6 = w2c_p6;
-  w2c_i0 = w2c_f54(m, w2c_i0, w2c_i1, w2c_i2, w2c_i3, w2c_j4, w2c_j5, w2c_j6);
+  w2c_i0 = w2c_f58(m, w2c_i0, w2c_i1, w2c_i2, w2c_i3, w2c_j4, w2c_j5, w2c_j6);
   w2c_p3 = w2c_i0;
   w2c_f1(m);
   w2c_i0 = w2c_p3;
   return w2c_i0;
 }
 
-static u32 w2c_f54(module *m, u32 w2c_p0, u32 w2c_p1, u32 w2c_p2, u32 w2c_p3, u64 w2c_p4, u64 w2c_p5, u64 w2c_p6) {
+static u32 w2c_f58(module *m, u32 w2c_p0, u32 w2c_p1, u32 w2c_p2, u32 w2c_p3, u64 w2c_p4, u64 w2c_p5, u64 w2c_p6) {
   u32 w2c_l11 = 0, w2c_l12 = 0, w2c_l13 = 0;
   u64 w2c_l7 = 0, w2c_l8 = 0, w2c_l9 = 0, w2c_l10 = 0;
   u32 w2c_i0, w2c_i1, w2c_i2, w2c_i3, w2c_i4;
@@ -35508,14 +39216,14 @@ static u32 w2c_chinese_signed_amount_print(module *m, u64 w2c_p0, u32 w2c_p1, u3
   w2c_j3 = w2c_p3;
   w2c_j4 = w2c_p4;
   w2c_j5 = w2c_p5;
-  w2c_i0 = w2c_f56(m, w2c_j0, w2c_i1, w2c_i2, w2c_j3, w2c_j4, w2c_j5);
+  w2c_i0 = w2c_f60(m, w2c_j0, w2c_i1, w2c_i2, w2c_j3, w2c_j4, w2c_j5);
   w2c_p2 = w2c_i0;
   w2c_f1(m);
   w2c_i0 = w2c_p2;
   return w2c_i0;
 }
 
-static u32 w2c_f56(module *m, u64 w2c_p0, u32 w2c_p1, u32 w2c_p2, u64 w2c_p3, u64 w2c_p4, u64 w2c_p5) {
+static u32 w2c_f60(module *m, u64 w2c_p0, u32 w2c_p1, u32 w2c_p2, u64 w2c_p3, u64 w2c_p4, u64 w2c_p5) {
   u32 w2c_l9 = 0, w2c_l10 = 0;
   u64 w2c_l6 = 0, w2c_l7 = 0, w2c_l8 = 0;
   u32 w2c_i0, w2c_i1, w2c_i2, w2c_i3, w2c_i4;
@@ -35747,14 +39455,14 @@ static u32 w2c_chinese_quantity_figures(module *m, u64 w2c_p0, u64 w2c_p1, u64 w
   w2c_j1 = w2c_p1;
   w2c_j2 = w2c_p2;
   w2c_j3 = w2c_p3;
-  w2c_i0 = w2c_f58(m, w2c_j0, w2c_j1, w2c_j2, w2c_j3);
+  w2c_i0 = w2c_f62(m, w2c_j0, w2c_j1, w2c_j2, w2c_j3);
   w2c_l4 = w2c_i0;
   w2c_f1(m);
   w2c_i0 = w2c_l4;
   return w2c_i0;
 }
 
-static u32 w2c_f58(module *m, u64 w2c_p0, u64 w2c_p1, u64 w2c_p2, u64 w2c_p3) {
+static u32 w2c_f62(module *m, u64 w2c_p0, u64 w2c_p1, u64 w2c_p2, u64 w2c_p3) {
   u32 w2c_l10 = 0;
   u64 w2c_l4 = 0, w2c_l5 = 0, w2c_l6 = 0, w2c_l7 = 0, w2c_l8 = 0, w2c_l9 = 0;
   u32 w2c_i0, w2c_i1, w2c_i2, w2c_i3;
@@ -36020,14 +39728,14 @@ static u32 w2c_chinese_amount_read(module *m, u64 w2c_p0, u64 w2c_p1, u64 w2c_p2
   w2c_j0 = w2c_p0;
   w2c_j1 = w2c_p1;
   w2c_j2 = w2c_p2;
-  w2c_i0 = w2c_f60(m, w2c_j0, w2c_j1, w2c_j2);
+  w2c_i0 = w2c_f64(m, w2c_j0, w2c_j1, w2c_j2);
   w2c_l3 = w2c_i0;
   w2c_f1(m);
   w2c_i0 = w2c_l3;
   return w2c_i0;
 }
 
-static u32 w2c_f60(module *m, u64 w2c_p0, u64 w2c_p1, u64 w2c_p2) {
+static u32 w2c_f64(module *m, u64 w2c_p0, u64 w2c_p1, u64 w2c_p2) {
   u32 w2c_l15 = 0, w2c_l16 = 0, w2c_l17 = 0, w2c_l18 = 0, w2c_l19 = 0, w2c_l20 = 0, w2c_l21 = 0, w2c_l22 = 0;
   u64 w2c_l3 = 0, w2c_l4 = 0, w2c_l5 = 0, w2c_l6 = 0, w2c_l7 = 0, w2c_l8 = 0, w2c_l9 = 0, w2c_l10 = 0, w2c_l11 = 0, w2c_l12 = 0, w2c_l13 = 0, w2c_l14 = 0;
   u32 w2c_i0, w2c_i1, w2c_i2, w2c_i3;
@@ -36063,7 +39771,7 @@ static u32 w2c_f60(module *m, u64 w2c_p0, u64 w2c_p1, u64 w2c_p2) {
   w2c_j0 = w2c_p1;
   w2c_j1 = 4ull;
   w2c_i0 = w2c_j0 < w2c_j1;
-  if (w2c_i0) {goto w2c_B4;}
+  if (w2c_i0) {goto w2c_B6;}
   w2c_j0 = w2c_p0;
   w2c_j1 = w2c_l4;
   w2c_j0 += w2c_j1;
@@ -36072,7 +39780,7 @@ static u32 w2c_f60(module *m, u64 w2c_p0, u64 w2c_p1, u64 w2c_p2) {
   w2c_p0 = w2c_j0;
   w2c_j0 = w2c_p1;
   w2c_l6 = w2c_j0;
-  w2c_L5:
+  w2c_L7:
     w2c_j0 = w2c_p0;
     w2c_j1 = w2c_l6;
     w2c_j0 += w2c_j1;
@@ -36086,29 +39794,31 @@ static u32 w2c_f60(module *m, u64 w2c_p0, u64 w2c_p1, u64 w2c_p2) {
     w2c_i0 &= w2c_i1;
     w2c_i1 = 8421376u;
     w2c_i0 = w2c_i0 != w2c_i1;
-    if (w2c_i0) {goto w2c_B3;}
+    if (w2c_i0) {goto w2c_B5;}
     w2c_j0 = w2c_l6;
     w2c_j1 = 18446744073709551613ull;
     w2c_j0 += w2c_j1;
     w2c_l6 = w2c_j0;
     w2c_j1 = 3ull;
     w2c_i0 = w2c_j0 > w2c_j1;
-    if (w2c_i0) {goto w2c_L5;}
-  w2c_B4:;
+    if (w2c_i0) {goto w2c_L7;}
+  w2c_B6:;
   w2c_j0 = w2c_l6;
   w2c_j1 = 3ull;
   w2c_i0 = w2c_j0 > w2c_j1;
-  if (w2c_i0) {goto w2c_B3;}
+  if (w2c_i0) {goto w2c_B4;}
   w2c_j0 = w2c_l6;
   w2c_i0 = (u32)(w2c_j0);
   switch (w2c_i0) {
     case 0: goto w2c_B2;
-    case 1: goto w2c_B3;
-    case 2: goto w2c_B3;
-    case 3: goto w2c_B6;
+    case 1: goto w2c_B4;
+    case 2: goto w2c_B4;
+    case 3: goto w2c_B8;
     default: goto w2c_B2;
   }
-  w2c_B6:;
+  w2c_B8:;
+  w2c_j0 = 3ull;
+  w2c_l6 = w2c_j0;
   w2c_j0 = w2c_l5;
   w2c_i0 = (u32)(w2c_j0);
   w2c_i0 = i32_load16_u(m, (u64)(w2c_i0));
@@ -36125,20 +39835,48 @@ static u32 w2c_f60(module *m, u64 w2c_p0, u64 w2c_p1, u64 w2c_p2) {
   w2c_i1 = 12632312u;
   w2c_i0 &= w2c_i1;
   w2c_i1 = 8421376u;
-  w2c_i0 = w2c_i0 == w2c_i1;
-  if (w2c_i0) {goto w2c_B2;}
+  w2c_i0 = w2c_i0 != w2c_i1;
+  if (w2c_i0) {goto w2c_B4;}
+  goto w2c_B2;
+  w2c_B5:;
+  w2c_j0 = w2c_l6;
+  w2c_j1 = 7ull;
+  w2c_i0 = w2c_j0 > w2c_j1;
+  if (w2c_i0) {goto w2c_B3;}
+  w2c_B4:;
+  w2c_j0 = 0ull;
+  w2c_p0 = w2c_j0;
+  w2c_L9:
+    w2c_j0 = w2c_l6;
+    w2c_j1 = w2c_p0;
+    w2c_i0 = w2c_j0 == w2c_j1;
+    if (w2c_i0) {goto w2c_B2;}
+    w2c_j0 = w2c_l5;
+    w2c_j1 = w2c_p0;
+    w2c_j0 += w2c_j1;
+    w2c_l4 = w2c_j0;
+    w2c_j0 = w2c_p0;
+    w2c_j1 = 1ull;
+    w2c_j0 += w2c_j1;
+    w2c_p0 = w2c_j0;
+    w2c_j0 = w2c_l4;
+    w2c_i0 = (u32)(w2c_j0);
+    w2c_i0 = i32_load8_s(m, (u64)(w2c_i0));
+    w2c_i1 = 4294967295u;
+    w2c_i0 = (u32)((s32)w2c_i0 > (s32)w2c_i1);
+    if (w2c_i0) {goto w2c_L9;}
   w2c_B3:;
   w2c_i0 = 5u;
   w2c_l15 = w2c_i0;
   w2c_j0 = w2c_l5;
-  w2c_j1 = w2c_p1;
+  w2c_j1 = w2c_l6;
   w2c_i0 = w2c_f12(m, w2c_j0, w2c_j1);
   w2c_i0 = !(w2c_i0);
   if (w2c_i0) {goto w2c_B1;}
   w2c_B2:;
   w2c_j0 = w2c_p1;
   w2c_i0 = !(w2c_j0);
-  if (w2c_i0) {goto w2c_B8;}
+  if (w2c_i0) {goto w2c_B11;}
   w2c_j0 = w2c_p2;
   w2c_j1 = 8ull;
   w2c_j0 += w2c_j1;
@@ -36163,7 +39901,7 @@ static u32 w2c_f60(module *m, u64 w2c_p0, u64 w2c_p1, u64 w2c_p2) {
   w2c_l17 = w2c_i0;
   w2c_i0 = 0u;
   w2c_l18 = w2c_i0;
-  w2c_L9:
+  w2c_L12:
     w2c_i0 = w2c_l17;
     w2c_l19 = w2c_i0;
     w2c_j0 = w2c_l4;
@@ -36178,7 +39916,7 @@ static u32 w2c_f60(module *m, u64 w2c_p0, u64 w2c_p1, u64 w2c_p2) {
     w2c_i0 = w2c_l17;
     w2c_i1 = 4294967295u;
     w2c_i0 = (u32)((s32)w2c_i0 > (s32)w2c_i1);
-    if (w2c_i0) {goto w2c_B10;}
+    if (w2c_i0) {goto w2c_B13;}
     w2c_j0 = w2c_l4;
     w2c_i0 = (u32)(w2c_j0);
     w2c_i0 = i32_load8_u(m, (u64)(w2c_i0) + 1u);
@@ -36188,7 +39926,7 @@ static u32 w2c_f60(module *m, u64 w2c_p0, u64 w2c_p1, u64 w2c_p2) {
     w2c_i0 = w2c_l17;
     w2c_i1 = 4294967263u;
     w2c_i0 = w2c_i0 > w2c_i1;
-    if (w2c_i0) {goto w2c_B11;}
+    if (w2c_i0) {goto w2c_B14;}
     w2c_i0 = w2c_l15;
     w2c_i1 = 6u;
     w2c_i0 <<= (w2c_i1 & 31);
@@ -36199,8 +39937,8 @@ static u32 w2c_f60(module *m, u64 w2c_p0, u64 w2c_p1, u64 w2c_p2) {
     w2c_l15 = w2c_i0;
     w2c_j0 = 2ull;
     w2c_l13 = w2c_j0;
-    goto w2c_B10;
-    w2c_B11:;
+    goto w2c_B13;
+    w2c_B14:;
     w2c_j0 = w2c_l4;
     w2c_i0 = (u32)(w2c_j0);
     w2c_i0 = i32_load8_u(m, (u64)(w2c_i0) + 2u);
@@ -36210,7 +39948,7 @@ static u32 w2c_f60(module *m, u64 w2c_p0, u64 w2c_p1, u64 w2c_p2) {
     w2c_i0 = w2c_l17;
     w2c_i1 = 4294967279u;
     w2c_i0 = w2c_i0 > w2c_i1;
-    if (w2c_i0) {goto w2c_B12;}
+    if (w2c_i0) {goto w2c_B15;}
     w2c_i0 = w2c_l20;
     w2c_i1 = 6u;
     w2c_i0 <<= (w2c_i1 & 31);
@@ -36225,8 +39963,8 @@ static u32 w2c_f60(module *m, u64 w2c_p0, u64 w2c_p1, u64 w2c_p2) {
     w2c_l15 = w2c_i0;
     w2c_j0 = 3ull;
     w2c_l13 = w2c_j0;
-    goto w2c_B10;
-    w2c_B12:;
+    goto w2c_B13;
+    w2c_B15:;
     w2c_i0 = w2c_l21;
     w2c_i1 = 6u;
     w2c_i0 <<= (w2c_i1 & 31);
@@ -36249,7 +39987,7 @@ static u32 w2c_f60(module *m, u64 w2c_p0, u64 w2c_p1, u64 w2c_p2) {
     w2c_l15 = w2c_i0;
     w2c_j0 = 4ull;
     w2c_l13 = w2c_j0;
-    w2c_B10:;
+    w2c_B13:;
     w2c_i0 = w2c_l15;
     w2c_i1 = 3227u;
     w2c_i0 *= w2c_i1;
@@ -36263,7 +40001,7 @@ static u32 w2c_f60(module *m, u64 w2c_p0, u64 w2c_p1, u64 w2c_p2) {
     w2c_i0 = i32_load(m, (u64)(w2c_i0) + 66332u);
     w2c_i1 = w2c_l15;
     w2c_i0 = w2c_i0 != w2c_i1;
-    if (w2c_i0) {goto w2c_B20;}
+    if (w2c_i0) {goto w2c_B23;}
     w2c_j0 = w2c_l6;
     w2c_j1 = 66336ull;
     w2c_j0 += w2c_j1;
@@ -36273,7 +40011,7 @@ static u32 w2c_f60(module *m, u64 w2c_p0, u64 w2c_p1, u64 w2c_p2) {
     w2c_i0 &= w2c_i1;
     w2c_i1 = 1u;
     w2c_i0 = w2c_i0 != w2c_i1;
-    if (w2c_i0) {goto w2c_B20;}
+    if (w2c_i0) {goto w2c_B23;}
     w2c_j0 = w2c_l6;
     w2c_j1 = 66338ull;
     w2c_j0 += w2c_j1;
@@ -36293,83 +40031,83 @@ static u32 w2c_f60(module *m, u64 w2c_p0, u64 w2c_p1, u64 w2c_p2) {
     w2c_i0 = (u32)(w2c_j0);
     w2c_l17 = w2c_i0;
     switch (w2c_i0) {
-      case 0: goto w2c_B36;
-      case 1: goto w2c_B36;
-      case 2: goto w2c_B36;
-      case 3: goto w2c_B36;
-      case 4: goto w2c_B36;
-      case 5: goto w2c_B44;
-      case 6: goto w2c_B43;
-      case 7: goto w2c_B42;
-      case 8: goto w2c_B41;
-      case 9: goto w2c_B40;
-      case 10: goto w2c_B39;
-      case 11: goto w2c_B38;
-      case 12: goto w2c_B37;
-      case 13: goto w2c_B36;
-      case 14: goto w2c_B36;
-      case 15: goto w2c_B36;
-      case 16: goto w2c_B36;
-      case 17: goto w2c_B36;
-      case 18: goto w2c_B36;
-      case 19: goto w2c_B36;
-      default: goto w2c_B36;
+      case 0: goto w2c_B39;
+      case 1: goto w2c_B39;
+      case 2: goto w2c_B39;
+      case 3: goto w2c_B39;
+      case 4: goto w2c_B39;
+      case 5: goto w2c_B47;
+      case 6: goto w2c_B46;
+      case 7: goto w2c_B45;
+      case 8: goto w2c_B44;
+      case 9: goto w2c_B43;
+      case 10: goto w2c_B42;
+      case 11: goto w2c_B41;
+      case 12: goto w2c_B40;
+      case 13: goto w2c_B39;
+      case 14: goto w2c_B39;
+      case 15: goto w2c_B39;
+      case 16: goto w2c_B39;
+      case 17: goto w2c_B39;
+      case 18: goto w2c_B39;
+      case 19: goto w2c_B39;
+      default: goto w2c_B39;
     }
-    w2c_B44:;
+    w2c_B47:;
     w2c_i0 = 1u;
     w2c_i1 = w2c_l15;
     w2c_i0 <<= (w2c_i1 & 31);
     w2c_i1 = 31999u;
     w2c_i0 &= w2c_i1;
-    if (w2c_i0) {goto w2c_B45;}
+    if (w2c_i0) {goto w2c_B48;}
     w2c_i0 = w2c_l15;
     w2c_i1 = 8u;
     w2c_i0 = w2c_i0 == w2c_i1;
-    if (w2c_i0) {goto w2c_B25;}
-    goto w2c_B23;
-    w2c_B45:;
+    if (w2c_i0) {goto w2c_B28;}
+    goto w2c_B26;
+    w2c_B48:;
     w2c_i0 = w2c_l15;
     w2c_i1 = 4294967291u;
     w2c_i0 += w2c_i1;
     w2c_i1 = 10u;
     w2c_i0 = w2c_i0 < w2c_i1;
-    if (w2c_i0) {goto w2c_B46;}
+    if (w2c_i0) {goto w2c_B49;}
     w2c_i0 = 0u;
     w2c_l17 = w2c_i0;
     w2c_i0 = w2c_l15;
     switch (w2c_i0) {
-      case 0: goto w2c_B46;
-      case 1: goto w2c_B46;
-      case 2: goto w2c_B31;
-      case 3: goto w2c_B29;
-      case 4: goto w2c_B19;
-      default: goto w2c_B46;
+      case 0: goto w2c_B49;
+      case 1: goto w2c_B49;
+      case 2: goto w2c_B34;
+      case 3: goto w2c_B32;
+      case 4: goto w2c_B22;
+      default: goto w2c_B49;
     }
-    w2c_B46:;
+    w2c_B49:;
     w2c_i0 = 0u;
     w2c_l17 = w2c_i0;
     w2c_i0 = 6u;
     w2c_l18 = w2c_i0;
     w2c_i0 = w2c_l15;
     switch (w2c_i0) {
-      case 0: goto w2c_B20;
-      case 1: goto w2c_B20;
-      case 2: goto w2c_B20;
-      case 3: goto w2c_B20;
-      case 4: goto w2c_B20;
-      case 5: goto w2c_B14;
-      case 6: goto w2c_B27;
-      case 7: goto w2c_B18;
-      case 8: goto w2c_B20;
-      case 9: goto w2c_B20;
-      case 10: goto w2c_B20;
-      case 11: goto w2c_B20;
-      case 12: goto w2c_B20;
-      case 13: goto w2c_B20;
-      case 14: goto w2c_B20;
-      default: goto w2c_B20;
+      case 0: goto w2c_B23;
+      case 1: goto w2c_B23;
+      case 2: goto w2c_B23;
+      case 3: goto w2c_B23;
+      case 4: goto w2c_B23;
+      case 5: goto w2c_B17;
+      case 6: goto w2c_B30;
+      case 7: goto w2c_B21;
+      case 8: goto w2c_B23;
+      case 9: goto w2c_B23;
+      case 10: goto w2c_B23;
+      case 11: goto w2c_B23;
+      case 12: goto w2c_B23;
+      case 13: goto w2c_B23;
+      case 14: goto w2c_B23;
+      default: goto w2c_B23;
     }
-    w2c_B43:;
+    w2c_B46:;
     w2c_i0 = 3u;
     w2c_l21 = w2c_i0;
     w2c_i0 = 10u;
@@ -36378,24 +40116,24 @@ static u32 w2c_f60(module *m, u64 w2c_p0, u64 w2c_p1, u64 w2c_p2) {
     w2c_l22 = w2c_i0;
     w2c_i0 = w2c_l15;
     switch (w2c_i0) {
-      case 0: goto w2c_B48;
-      case 1: goto w2c_B35;
-      case 2: goto w2c_B47;
-      case 3: goto w2c_B47;
-      case 4: goto w2c_B47;
-      case 5: goto w2c_B20;
-      case 6: goto w2c_B47;
-      case 7: goto w2c_B47;
-      case 8: goto w2c_B47;
-      case 9: goto w2c_B47;
-      case 10: goto w2c_B47;
-      case 11: goto w2c_B47;
-      case 12: goto w2c_B47;
-      case 13: goto w2c_B47;
-      case 14: goto w2c_B47;
-      default: goto w2c_B48;
+      case 0: goto w2c_B51;
+      case 1: goto w2c_B38;
+      case 2: goto w2c_B50;
+      case 3: goto w2c_B50;
+      case 4: goto w2c_B50;
+      case 5: goto w2c_B23;
+      case 6: goto w2c_B50;
+      case 7: goto w2c_B50;
+      case 8: goto w2c_B50;
+      case 9: goto w2c_B50;
+      case 10: goto w2c_B50;
+      case 11: goto w2c_B50;
+      case 12: goto w2c_B50;
+      case 13: goto w2c_B50;
+      case 14: goto w2c_B50;
+      default: goto w2c_B51;
     }
-    w2c_B48:;
+    w2c_B51:;
     w2c_i0 = w2c_l19;
     w2c_i1 = 2u;
     w2c_i0 |= w2c_i1;
@@ -36404,20 +40142,20 @@ static u32 w2c_f60(module *m, u64 w2c_p0, u64 w2c_p1, u64 w2c_p2) {
     w2c_l17 = w2c_i0;
     w2c_i0 = 9u;
     w2c_l18 = w2c_i0;
-    goto w2c_B13;
-    w2c_B47:;
+    goto w2c_B16;
+    w2c_B50:;
     w2c_i0 = 1u;
     w2c_l17 = w2c_i0;
     w2c_i0 = w2c_l15;
     w2c_i1 = 6u;
     w2c_i0 = w2c_i0 == w2c_i1;
-    if (w2c_i0) {goto w2c_B27;}
+    if (w2c_i0) {goto w2c_B30;}
     w2c_i0 = w2c_l15;
     w2c_i1 = 7u;
     w2c_i0 = w2c_i0 == w2c_i1;
-    if (w2c_i0) {goto w2c_B18;}
-    goto w2c_B20;
-    w2c_B42:;
+    if (w2c_i0) {goto w2c_B21;}
+    goto w2c_B23;
+    w2c_B45:;
     w2c_i0 = 3u;
     w2c_l21 = w2c_i0;
     w2c_i0 = 4u;
@@ -36426,24 +40164,24 @@ static u32 w2c_f60(module *m, u64 w2c_p0, u64 w2c_p1, u64 w2c_p2) {
     w2c_l20 = w2c_i0;
     w2c_i0 = w2c_l15;
     switch (w2c_i0) {
-      case 0: goto w2c_B50;
-      case 1: goto w2c_B35;
-      case 2: goto w2c_B49;
-      case 3: goto w2c_B49;
-      case 4: goto w2c_B49;
-      case 5: goto w2c_B20;
-      case 6: goto w2c_B49;
-      case 7: goto w2c_B49;
-      case 8: goto w2c_B49;
-      case 9: goto w2c_B49;
-      case 10: goto w2c_B49;
-      case 11: goto w2c_B49;
-      case 12: goto w2c_B49;
-      case 13: goto w2c_B49;
-      case 14: goto w2c_B49;
-      default: goto w2c_B50;
+      case 0: goto w2c_B53;
+      case 1: goto w2c_B38;
+      case 2: goto w2c_B52;
+      case 3: goto w2c_B52;
+      case 4: goto w2c_B52;
+      case 5: goto w2c_B23;
+      case 6: goto w2c_B52;
+      case 7: goto w2c_B52;
+      case 8: goto w2c_B52;
+      case 9: goto w2c_B52;
+      case 10: goto w2c_B52;
+      case 11: goto w2c_B52;
+      case 12: goto w2c_B52;
+      case 13: goto w2c_B52;
+      case 14: goto w2c_B52;
+      default: goto w2c_B53;
     }
-    w2c_B50:;
+    w2c_B53:;
     w2c_i0 = 3u;
     w2c_l16 = w2c_i0;
     w2c_i0 = w2c_l19;
@@ -36452,8 +40190,8 @@ static u32 w2c_f60(module *m, u64 w2c_p0, u64 w2c_p1, u64 w2c_p2) {
     w2c_l17 = w2c_i0;
     w2c_i0 = 9u;
     w2c_l18 = w2c_i0;
-    goto w2c_B13;
-    w2c_B49:;
+    goto w2c_B16;
+    w2c_B52:;
     w2c_i0 = 1u;
     w2c_l17 = w2c_i0;
     w2c_i0 = 8u;
@@ -36461,13 +40199,13 @@ static u32 w2c_f60(module *m, u64 w2c_p0, u64 w2c_p1, u64 w2c_p2) {
     w2c_i0 = w2c_l15;
     w2c_i1 = 5u;
     w2c_i0 = w2c_i0 == w2c_i1;
-    if (w2c_i0) {goto w2c_B14;}
+    if (w2c_i0) {goto w2c_B17;}
     w2c_i0 = w2c_l15;
     w2c_i1 = 7u;
     w2c_i0 = w2c_i0 == w2c_i1;
-    if (w2c_i0) {goto w2c_B18;}
-    goto w2c_B20;
-    w2c_B41:;
+    if (w2c_i0) {goto w2c_B21;}
+    goto w2c_B23;
+    w2c_B44:;
     w2c_i0 = 1u;
     w2c_l17 = w2c_i0;
     w2c_i0 = 3u;
@@ -36478,24 +40216,24 @@ static u32 w2c_f60(module *m, u64 w2c_p0, u64 w2c_p1, u64 w2c_p2) {
     w2c_l20 = w2c_i0;
     w2c_i0 = w2c_l15;
     switch (w2c_i0) {
-      case 0: goto w2c_B51;
-      case 1: goto w2c_B35;
-      case 2: goto w2c_B20;
-      case 3: goto w2c_B20;
-      case 4: goto w2c_B20;
-      case 5: goto w2c_B20;
-      case 6: goto w2c_B20;
-      case 7: goto w2c_B18;
-      case 8: goto w2c_B20;
-      case 9: goto w2c_B20;
-      case 10: goto w2c_B20;
-      case 11: goto w2c_B20;
-      case 12: goto w2c_B20;
-      case 13: goto w2c_B20;
-      case 14: goto w2c_B20;
-      default: goto w2c_B51;
+      case 0: goto w2c_B54;
+      case 1: goto w2c_B38;
+      case 2: goto w2c_B23;
+      case 3: goto w2c_B23;
+      case 4: goto w2c_B23;
+      case 5: goto w2c_B23;
+      case 6: goto w2c_B23;
+      case 7: goto w2c_B21;
+      case 8: goto w2c_B23;
+      case 9: goto w2c_B23;
+      case 10: goto w2c_B23;
+      case 11: goto w2c_B23;
+      case 12: goto w2c_B23;
+      case 13: goto w2c_B23;
+      case 14: goto w2c_B23;
+      default: goto w2c_B54;
     }
-    w2c_B51:;
+    w2c_B54:;
     w2c_i0 = w2c_l19;
     w2c_i1 = 2u;
     w2c_i0 |= w2c_i1;
@@ -36504,72 +40242,72 @@ static u32 w2c_f60(module *m, u64 w2c_p0, u64 w2c_p1, u64 w2c_p2) {
     w2c_l17 = w2c_i0;
     w2c_i0 = 9u;
     w2c_l18 = w2c_i0;
-    goto w2c_B13;
-    w2c_B40:;
+    goto w2c_B16;
+    w2c_B43:;
     w2c_i0 = w2c_l15;
     w2c_i1 = 1u;
     w2c_i0 = w2c_i0 != w2c_i1;
-    if (w2c_i0) {goto w2c_B20;}
+    if (w2c_i0) {goto w2c_B23;}
     w2c_i0 = 11u;
     w2c_l20 = w2c_i0;
     w2c_i0 = w2c_l19;
     w2c_l22 = w2c_i0;
     w2c_i0 = w2c_l16;
     w2c_l21 = w2c_i0;
-    goto w2c_B35;
-    w2c_B39:;
+    goto w2c_B38;
+    w2c_B42:;
     w2c_i0 = w2c_l16;
     w2c_j0 = (u64)(w2c_i0);
     w2c_j1 = 255ull;
     w2c_j0 &= w2c_j1;
     w2c_i0 = (u32)(w2c_j0);
     switch (w2c_i0) {
-      case 0: goto w2c_B52;
-      case 1: goto w2c_B32;
-      case 2: goto w2c_B30;
-      case 3: goto w2c_B21;
-      default: goto w2c_B52;
+      case 0: goto w2c_B55;
+      case 1: goto w2c_B35;
+      case 2: goto w2c_B33;
+      case 3: goto w2c_B24;
+      default: goto w2c_B55;
     }
-    w2c_B52:;
+    w2c_B55:;
     w2c_i0 = w2c_l19;
     w2c_j0 = (u64)(w2c_i0);
     w2c_j1 = 255ull;
     w2c_j0 &= w2c_j1;
     w2c_i0 = (u32)(w2c_j0);
     switch (w2c_i0) {
-      case 0: goto w2c_B57;
-      case 1: goto w2c_B54;
-      case 2: goto w2c_B56;
-      case 3: goto w2c_B56;
-      case 4: goto w2c_B55;
-      case 5: goto w2c_B53;
-      default: goto w2c_B57;
+      case 0: goto w2c_B60;
+      case 1: goto w2c_B57;
+      case 2: goto w2c_B59;
+      case 3: goto w2c_B59;
+      case 4: goto w2c_B58;
+      case 5: goto w2c_B56;
+      default: goto w2c_B60;
     }
-    w2c_B57:;
+    w2c_B60:;
     w2c_i0 = 0u;
     w2c_l17 = w2c_i0;
     w2c_i0 = 6u;
     w2c_l18 = w2c_i0;
     w2c_i0 = w2c_l15;
     switch (w2c_i0) {
-      case 0: goto w2c_B20;
-      case 1: goto w2c_B20;
-      case 2: goto w2c_B20;
-      case 3: goto w2c_B20;
-      case 4: goto w2c_B20;
-      case 5: goto w2c_B14;
-      case 6: goto w2c_B27;
-      case 7: goto w2c_B18;
-      case 8: goto w2c_B20;
-      case 9: goto w2c_B20;
-      case 10: goto w2c_B20;
-      case 11: goto w2c_B20;
-      case 12: goto w2c_B20;
-      case 13: goto w2c_B20;
-      case 14: goto w2c_B20;
-      default: goto w2c_B20;
+      case 0: goto w2c_B23;
+      case 1: goto w2c_B23;
+      case 2: goto w2c_B23;
+      case 3: goto w2c_B23;
+      case 4: goto w2c_B23;
+      case 5: goto w2c_B17;
+      case 6: goto w2c_B30;
+      case 7: goto w2c_B21;
+      case 8: goto w2c_B23;
+      case 9: goto w2c_B23;
+      case 10: goto w2c_B23;
+      case 11: goto w2c_B23;
+      case 12: goto w2c_B23;
+      case 13: goto w2c_B23;
+      case 14: goto w2c_B23;
+      default: goto w2c_B23;
     }
-    w2c_B56:;
+    w2c_B59:;
     w2c_i0 = 0u;
     w2c_l17 = w2c_i0;
     w2c_i0 = 8u;
@@ -36577,109 +40315,109 @@ static u32 w2c_f60(module *m, u64 w2c_p0, u64 w2c_p1, u64 w2c_p2) {
     w2c_i0 = w2c_l15;
     w2c_i1 = 5u;
     w2c_i0 = w2c_i0 == w2c_i1;
-    if (w2c_i0) {goto w2c_B14;}
+    if (w2c_i0) {goto w2c_B17;}
     w2c_i0 = w2c_l15;
     w2c_i1 = 7u;
     w2c_i0 = w2c_i0 == w2c_i1;
-    if (w2c_i0) {goto w2c_B18;}
-    goto w2c_B20;
-    w2c_B55:;
+    if (w2c_i0) {goto w2c_B21;}
+    goto w2c_B23;
+    w2c_B58:;
     w2c_i0 = w2c_l15;
     w2c_i1 = 5u;
     w2c_i0 = w2c_i0 != w2c_i1;
-    if (w2c_i0) {goto w2c_B20;}
-    goto w2c_B16;
-    w2c_B54:;
+    if (w2c_i0) {goto w2c_B23;}
+    goto w2c_B19;
+    w2c_B57:;
     w2c_i0 = 0u;
     w2c_l17 = w2c_i0;
     w2c_i0 = w2c_l15;
     w2c_i1 = 6u;
     w2c_i0 = w2c_i0 == w2c_i1;
-    if (w2c_i0) {goto w2c_B27;}
+    if (w2c_i0) {goto w2c_B30;}
     w2c_i0 = w2c_l15;
     w2c_i1 = 7u;
     w2c_i0 = w2c_i0 == w2c_i1;
-    if (w2c_i0) {goto w2c_B18;}
-    goto w2c_B20;
-    w2c_B53:;
+    if (w2c_i0) {goto w2c_B21;}
+    goto w2c_B23;
+    w2c_B56:;
     w2c_i0 = w2c_l15;
     w2c_i1 = 7u;
     w2c_i0 = w2c_i0 != w2c_i1;
-    if (w2c_i0) {goto w2c_B20;}
+    if (w2c_i0) {goto w2c_B23;}
     w2c_i0 = 0u;
     w2c_l17 = w2c_i0;
-    goto w2c_B18;
-    w2c_B38:;
+    goto w2c_B21;
+    w2c_B41:;
     w2c_i0 = w2c_l16;
     w2c_j0 = (u64)(w2c_i0);
     w2c_j1 = 255ull;
     w2c_j0 &= w2c_j1;
     w2c_i0 = (u32)(w2c_j0);
     switch (w2c_i0) {
-      case 0: goto w2c_B58;
-      case 1: goto w2c_B59;
-      case 2: goto w2c_B60;
-      case 3: goto w2c_B61;
-      default: goto w2c_B58;
+      case 0: goto w2c_B61;
+      case 1: goto w2c_B62;
+      case 2: goto w2c_B63;
+      case 3: goto w2c_B64;
+      default: goto w2c_B61;
     }
-    w2c_B61:;
+    w2c_B64:;
     w2c_i0 = w2c_l15;
     w2c_i1 = 4294967291u;
     w2c_i0 += w2c_i1;
     w2c_i1 = 10u;
     w2c_i0 = w2c_i0 < w2c_i1;
-    if (w2c_i0) {goto w2c_B62;}
+    if (w2c_i0) {goto w2c_B65;}
     w2c_i0 = w2c_l19;
     w2c_l17 = w2c_i0;
     w2c_i0 = w2c_l15;
     switch (w2c_i0) {
-      case 0: goto w2c_B62;
-      case 1: goto w2c_B62;
-      case 2: goto w2c_B31;
-      case 3: goto w2c_B29;
-      case 4: goto w2c_B28;
-      default: goto w2c_B62;
+      case 0: goto w2c_B65;
+      case 1: goto w2c_B65;
+      case 2: goto w2c_B34;
+      case 3: goto w2c_B32;
+      case 4: goto w2c_B31;
+      default: goto w2c_B65;
     }
-    w2c_B62:;
+    w2c_B65:;
     w2c_i0 = w2c_l19;
     w2c_j0 = (u64)(w2c_i0);
     w2c_j1 = 255ull;
     w2c_j0 &= w2c_j1;
     w2c_i0 = (u32)(w2c_j0);
     switch (w2c_i0) {
-      case 0: goto w2c_B67;
-      case 1: goto w2c_B64;
-      case 2: goto w2c_B66;
-      case 3: goto w2c_B66;
-      case 4: goto w2c_B65;
-      case 5: goto w2c_B63;
-      default: goto w2c_B67;
+      case 0: goto w2c_B70;
+      case 1: goto w2c_B67;
+      case 2: goto w2c_B69;
+      case 3: goto w2c_B69;
+      case 4: goto w2c_B68;
+      case 5: goto w2c_B66;
+      default: goto w2c_B70;
     }
-    w2c_B67:;
+    w2c_B70:;
     w2c_i0 = 0u;
     w2c_l17 = w2c_i0;
     w2c_i0 = 6u;
     w2c_l18 = w2c_i0;
     w2c_i0 = w2c_l15;
     switch (w2c_i0) {
-      case 0: goto w2c_B20;
-      case 1: goto w2c_B20;
-      case 2: goto w2c_B20;
-      case 3: goto w2c_B20;
-      case 4: goto w2c_B20;
-      case 5: goto w2c_B14;
-      case 6: goto w2c_B27;
-      case 7: goto w2c_B18;
-      case 8: goto w2c_B20;
-      case 9: goto w2c_B20;
-      case 10: goto w2c_B20;
-      case 11: goto w2c_B20;
-      case 12: goto w2c_B20;
-      case 13: goto w2c_B20;
-      case 14: goto w2c_B20;
-      default: goto w2c_B20;
+      case 0: goto w2c_B23;
+      case 1: goto w2c_B23;
+      case 2: goto w2c_B23;
+      case 3: goto w2c_B23;
+      case 4: goto w2c_B23;
+      case 5: goto w2c_B17;
+      case 6: goto w2c_B30;
+      case 7: goto w2c_B21;
+      case 8: goto w2c_B23;
+      case 9: goto w2c_B23;
+      case 10: goto w2c_B23;
+      case 11: goto w2c_B23;
+      case 12: goto w2c_B23;
+      case 13: goto w2c_B23;
+      case 14: goto w2c_B23;
+      default: goto w2c_B23;
     }
-    w2c_B66:;
+    w2c_B69:;
     w2c_i0 = 0u;
     w2c_l17 = w2c_i0;
     w2c_i0 = 8u;
@@ -36687,261 +40425,95 @@ static u32 w2c_f60(module *m, u64 w2c_p0, u64 w2c_p1, u64 w2c_p2) {
     w2c_i0 = w2c_l15;
     w2c_i1 = 5u;
     w2c_i0 = w2c_i0 == w2c_i1;
-    if (w2c_i0) {goto w2c_B14;}
+    if (w2c_i0) {goto w2c_B17;}
     w2c_i0 = w2c_l15;
     w2c_i1 = 7u;
     w2c_i0 = w2c_i0 == w2c_i1;
-    if (w2c_i0) {goto w2c_B18;}
-    goto w2c_B20;
-    w2c_B65:;
+    if (w2c_i0) {goto w2c_B21;}
+    goto w2c_B23;
+    w2c_B68:;
     w2c_i0 = w2c_l15;
     w2c_i1 = 5u;
     w2c_i0 = w2c_i0 == w2c_i1;
-    if (w2c_i0) {goto w2c_B16;}
-    goto w2c_B20;
-    w2c_B64:;
+    if (w2c_i0) {goto w2c_B19;}
+    goto w2c_B23;
+    w2c_B67:;
     w2c_i0 = 0u;
     w2c_l17 = w2c_i0;
     w2c_i0 = w2c_l15;
     w2c_i1 = 6u;
     w2c_i0 = w2c_i0 == w2c_i1;
-    if (w2c_i0) {goto w2c_B27;}
+    if (w2c_i0) {goto w2c_B30;}
     w2c_i0 = w2c_l15;
     w2c_i1 = 7u;
     w2c_i0 = w2c_i0 == w2c_i1;
-    if (w2c_i0) {goto w2c_B18;}
-    goto w2c_B20;
-    w2c_B63:;
+    if (w2c_i0) {goto w2c_B21;}
+    goto w2c_B23;
+    w2c_B66:;
     w2c_i0 = w2c_l15;
     w2c_i1 = 7u;
     w2c_i0 = w2c_i0 != w2c_i1;
-    if (w2c_i0) {goto w2c_B20;}
+    if (w2c_i0) {goto w2c_B23;}
     w2c_i0 = 0u;
     w2c_l17 = w2c_i0;
-    goto w2c_B18;
-    w2c_B60:;
+    goto w2c_B21;
+    w2c_B63:;
     w2c_i0 = w2c_l15;
     w2c_i1 = 4294967292u;
     w2c_i0 += w2c_i1;
     w2c_i1 = 11u;
     w2c_i0 = w2c_i0 < w2c_i1;
-    if (w2c_i0) {goto w2c_B68;}
+    if (w2c_i0) {goto w2c_B71;}
     w2c_i0 = w2c_l19;
     w2c_l17 = w2c_i0;
     w2c_i0 = w2c_l15;
     switch (w2c_i0) {
-      case 0: goto w2c_B68;
-      case 1: goto w2c_B68;
-      case 2: goto w2c_B31;
-      case 3: goto w2c_B29;
-      default: goto w2c_B68;
+      case 0: goto w2c_B71;
+      case 1: goto w2c_B71;
+      case 2: goto w2c_B34;
+      case 3: goto w2c_B32;
+      default: goto w2c_B71;
     }
-    w2c_B68:;
-    w2c_i0 = w2c_l19;
-    w2c_j0 = (u64)(w2c_i0);
-    w2c_j1 = 255ull;
-    w2c_j0 &= w2c_j1;
-    w2c_i0 = (u32)(w2c_j0);
-    switch (w2c_i0) {
-      case 0: goto w2c_B73;
-      case 1: goto w2c_B70;
-      case 2: goto w2c_B72;
-      case 3: goto w2c_B72;
-      case 4: goto w2c_B71;
-      case 5: goto w2c_B69;
-      default: goto w2c_B73;
-    }
-    w2c_B73:;
-    w2c_i0 = 0u;
-    w2c_l17 = w2c_i0;
-    w2c_i0 = 6u;
-    w2c_l18 = w2c_i0;
-    w2c_i0 = w2c_l15;
-    switch (w2c_i0) {
-      case 0: goto w2c_B20;
-      case 1: goto w2c_B20;
-      case 2: goto w2c_B20;
-      case 3: goto w2c_B20;
-      case 4: goto w2c_B20;
-      case 5: goto w2c_B14;
-      case 6: goto w2c_B27;
-      case 7: goto w2c_B18;
-      case 8: goto w2c_B20;
-      case 9: goto w2c_B20;
-      case 10: goto w2c_B20;
-      case 11: goto w2c_B20;
-      case 12: goto w2c_B20;
-      case 13: goto w2c_B20;
-      case 14: goto w2c_B20;
-      default: goto w2c_B20;
-    }
-    w2c_B72:;
-    w2c_i0 = 0u;
-    w2c_l17 = w2c_i0;
-    w2c_i0 = 8u;
-    w2c_l18 = w2c_i0;
-    w2c_i0 = w2c_l15;
-    w2c_i1 = 5u;
-    w2c_i0 = w2c_i0 == w2c_i1;
-    if (w2c_i0) {goto w2c_B14;}
-    w2c_i0 = w2c_l15;
-    w2c_i1 = 7u;
-    w2c_i0 = w2c_i0 == w2c_i1;
-    if (w2c_i0) {goto w2c_B18;}
-    goto w2c_B20;
     w2c_B71:;
-    w2c_i0 = w2c_l15;
-    w2c_i1 = 5u;
-    w2c_i0 = w2c_i0 == w2c_i1;
-    if (w2c_i0) {goto w2c_B16;}
-    goto w2c_B20;
-    w2c_B70:;
-    w2c_i0 = 0u;
-    w2c_l17 = w2c_i0;
-    w2c_i0 = w2c_l15;
-    w2c_i1 = 6u;
-    w2c_i0 = w2c_i0 == w2c_i1;
-    if (w2c_i0) {goto w2c_B27;}
-    w2c_i0 = w2c_l15;
-    w2c_i1 = 7u;
-    w2c_i0 = w2c_i0 == w2c_i1;
-    if (w2c_i0) {goto w2c_B18;}
-    goto w2c_B20;
-    w2c_B69:;
-    w2c_i0 = w2c_l15;
-    w2c_i1 = 7u;
-    w2c_i0 = w2c_i0 != w2c_i1;
-    if (w2c_i0) {goto w2c_B20;}
-    w2c_i0 = 0u;
-    w2c_l17 = w2c_i0;
-    goto w2c_B18;
-    w2c_B59:;
-    w2c_i0 = w2c_l15;
-    w2c_i1 = 2u;
-    w2c_i0 = w2c_i0 != w2c_i1;
-    if (w2c_i0) {goto w2c_B74;}
-    w2c_i0 = w2c_l19;
-    w2c_l17 = w2c_i0;
-    goto w2c_B31;
-    w2c_B74:;
     w2c_i0 = w2c_l19;
     w2c_j0 = (u64)(w2c_i0);
     w2c_j1 = 255ull;
     w2c_j0 &= w2c_j1;
     w2c_i0 = (u32)(w2c_j0);
     switch (w2c_i0) {
-      case 0: goto w2c_B79;
-      case 1: goto w2c_B76;
-      case 2: goto w2c_B78;
-      case 3: goto w2c_B78;
-      case 4: goto w2c_B77;
-      case 5: goto w2c_B75;
-      default: goto w2c_B79;
+      case 0: goto w2c_B76;
+      case 1: goto w2c_B73;
+      case 2: goto w2c_B75;
+      case 3: goto w2c_B75;
+      case 4: goto w2c_B74;
+      case 5: goto w2c_B72;
+      default: goto w2c_B76;
     }
-    w2c_B79:;
-    w2c_i0 = 0u;
-    w2c_l17 = w2c_i0;
-    w2c_i0 = 6u;
-    w2c_l18 = w2c_i0;
-    w2c_i0 = w2c_l15;
-    switch (w2c_i0) {
-      case 0: goto w2c_B20;
-      case 1: goto w2c_B20;
-      case 2: goto w2c_B0;
-      case 3: goto w2c_B20;
-      case 4: goto w2c_B20;
-      case 5: goto w2c_B14;
-      case 6: goto w2c_B27;
-      case 7: goto w2c_B18;
-      case 8: goto w2c_B20;
-      case 9: goto w2c_B20;
-      case 10: goto w2c_B20;
-      case 11: goto w2c_B20;
-      case 12: goto w2c_B20;
-      case 13: goto w2c_B20;
-      case 14: goto w2c_B20;
-      default: goto w2c_B20;
-    }
-    w2c_B78:;
-    w2c_i0 = 0u;
-    w2c_l17 = w2c_i0;
-    w2c_i0 = 8u;
-    w2c_l18 = w2c_i0;
-    w2c_i0 = w2c_l15;
-    w2c_i1 = 5u;
-    w2c_i0 = w2c_i0 == w2c_i1;
-    if (w2c_i0) {goto w2c_B14;}
-    w2c_i0 = w2c_l15;
-    w2c_i1 = 7u;
-    w2c_i0 = w2c_i0 == w2c_i1;
-    if (w2c_i0) {goto w2c_B18;}
-    goto w2c_B20;
-    w2c_B77:;
-    w2c_i0 = w2c_l15;
-    w2c_i1 = 5u;
-    w2c_i0 = w2c_i0 == w2c_i1;
-    if (w2c_i0) {goto w2c_B16;}
-    goto w2c_B20;
     w2c_B76:;
     w2c_i0 = 0u;
     w2c_l17 = w2c_i0;
-    w2c_i0 = w2c_l15;
-    w2c_i1 = 6u;
-    w2c_i0 = w2c_i0 == w2c_i1;
-    if (w2c_i0) {goto w2c_B27;}
-    w2c_i0 = w2c_l15;
-    w2c_i1 = 7u;
-    w2c_i0 = w2c_i0 == w2c_i1;
-    if (w2c_i0) {goto w2c_B18;}
-    goto w2c_B20;
-    w2c_B75:;
-    w2c_i0 = w2c_l15;
-    w2c_i1 = 7u;
-    w2c_i0 = w2c_i0 != w2c_i1;
-    if (w2c_i0) {goto w2c_B20;}
-    w2c_i0 = 0u;
-    w2c_l17 = w2c_i0;
-    goto w2c_B18;
-    w2c_B58:;
-    w2c_i0 = w2c_l19;
-    w2c_j0 = (u64)(w2c_i0);
-    w2c_j1 = 255ull;
-    w2c_j0 &= w2c_j1;
-    w2c_i0 = (u32)(w2c_j0);
-    switch (w2c_i0) {
-      case 0: goto w2c_B84;
-      case 1: goto w2c_B81;
-      case 2: goto w2c_B83;
-      case 3: goto w2c_B83;
-      case 4: goto w2c_B82;
-      case 5: goto w2c_B80;
-      default: goto w2c_B84;
-    }
-    w2c_B84:;
-    w2c_i0 = 0u;
-    w2c_l17 = w2c_i0;
     w2c_i0 = 6u;
     w2c_l18 = w2c_i0;
     w2c_i0 = w2c_l15;
     switch (w2c_i0) {
-      case 0: goto w2c_B20;
-      case 1: goto w2c_B20;
-      case 2: goto w2c_B20;
-      case 3: goto w2c_B20;
-      case 4: goto w2c_B20;
-      case 5: goto w2c_B14;
-      case 6: goto w2c_B27;
-      case 7: goto w2c_B18;
-      case 8: goto w2c_B20;
-      case 9: goto w2c_B20;
-      case 10: goto w2c_B20;
-      case 11: goto w2c_B20;
-      case 12: goto w2c_B20;
-      case 13: goto w2c_B20;
-      case 14: goto w2c_B20;
-      default: goto w2c_B20;
+      case 0: goto w2c_B23;
+      case 1: goto w2c_B23;
+      case 2: goto w2c_B23;
+      case 3: goto w2c_B23;
+      case 4: goto w2c_B23;
+      case 5: goto w2c_B17;
+      case 6: goto w2c_B30;
+      case 7: goto w2c_B21;
+      case 8: goto w2c_B23;
+      case 9: goto w2c_B23;
+      case 10: goto w2c_B23;
+      case 11: goto w2c_B23;
+      case 12: goto w2c_B23;
+      case 13: goto w2c_B23;
+      case 14: goto w2c_B23;
+      default: goto w2c_B23;
     }
-    w2c_B83:;
+    w2c_B75:;
     w2c_i0 = 0u;
     w2c_l17 = w2c_i0;
     w2c_i0 = 8u;
@@ -36949,58 +40521,224 @@ static u32 w2c_f60(module *m, u64 w2c_p0, u64 w2c_p1, u64 w2c_p2) {
     w2c_i0 = w2c_l15;
     w2c_i1 = 5u;
     w2c_i0 = w2c_i0 == w2c_i1;
-    if (w2c_i0) {goto w2c_B14;}
+    if (w2c_i0) {goto w2c_B17;}
     w2c_i0 = w2c_l15;
     w2c_i1 = 7u;
     w2c_i0 = w2c_i0 == w2c_i1;
-    if (w2c_i0) {goto w2c_B18;}
-    goto w2c_B20;
-    w2c_B82:;
+    if (w2c_i0) {goto w2c_B21;}
+    goto w2c_B23;
+    w2c_B74:;
     w2c_i0 = w2c_l15;
     w2c_i1 = 5u;
     w2c_i0 = w2c_i0 == w2c_i1;
-    if (w2c_i0) {goto w2c_B16;}
-    goto w2c_B20;
-    w2c_B81:;
+    if (w2c_i0) {goto w2c_B19;}
+    goto w2c_B23;
+    w2c_B73:;
     w2c_i0 = 0u;
     w2c_l17 = w2c_i0;
     w2c_i0 = w2c_l15;
     w2c_i1 = 6u;
     w2c_i0 = w2c_i0 == w2c_i1;
-    if (w2c_i0) {goto w2c_B27;}
+    if (w2c_i0) {goto w2c_B30;}
     w2c_i0 = w2c_l15;
     w2c_i1 = 7u;
     w2c_i0 = w2c_i0 == w2c_i1;
-    if (w2c_i0) {goto w2c_B18;}
-    goto w2c_B20;
-    w2c_B80:;
+    if (w2c_i0) {goto w2c_B21;}
+    goto w2c_B23;
+    w2c_B72:;
     w2c_i0 = w2c_l15;
     w2c_i1 = 7u;
     w2c_i0 = w2c_i0 != w2c_i1;
-    if (w2c_i0) {goto w2c_B20;}
+    if (w2c_i0) {goto w2c_B23;}
     w2c_i0 = 0u;
     w2c_l17 = w2c_i0;
-    goto w2c_B18;
-    w2c_B37:;
+    goto w2c_B21;
+    w2c_B62:;
+    w2c_i0 = w2c_l15;
+    w2c_i1 = 2u;
+    w2c_i0 = w2c_i0 != w2c_i1;
+    if (w2c_i0) {goto w2c_B77;}
+    w2c_i0 = w2c_l19;
+    w2c_l17 = w2c_i0;
+    goto w2c_B34;
+    w2c_B77:;
+    w2c_i0 = w2c_l19;
+    w2c_j0 = (u64)(w2c_i0);
+    w2c_j1 = 255ull;
+    w2c_j0 &= w2c_j1;
+    w2c_i0 = (u32)(w2c_j0);
+    switch (w2c_i0) {
+      case 0: goto w2c_B82;
+      case 1: goto w2c_B79;
+      case 2: goto w2c_B81;
+      case 3: goto w2c_B81;
+      case 4: goto w2c_B80;
+      case 5: goto w2c_B78;
+      default: goto w2c_B82;
+    }
+    w2c_B82:;
+    w2c_i0 = 0u;
+    w2c_l17 = w2c_i0;
+    w2c_i0 = 6u;
+    w2c_l18 = w2c_i0;
+    w2c_i0 = w2c_l15;
+    switch (w2c_i0) {
+      case 0: goto w2c_B23;
+      case 1: goto w2c_B23;
+      case 2: goto w2c_B0;
+      case 3: goto w2c_B23;
+      case 4: goto w2c_B23;
+      case 5: goto w2c_B17;
+      case 6: goto w2c_B30;
+      case 7: goto w2c_B21;
+      case 8: goto w2c_B23;
+      case 9: goto w2c_B23;
+      case 10: goto w2c_B23;
+      case 11: goto w2c_B23;
+      case 12: goto w2c_B23;
+      case 13: goto w2c_B23;
+      case 14: goto w2c_B23;
+      default: goto w2c_B23;
+    }
+    w2c_B81:;
+    w2c_i0 = 0u;
+    w2c_l17 = w2c_i0;
+    w2c_i0 = 8u;
+    w2c_l18 = w2c_i0;
+    w2c_i0 = w2c_l15;
+    w2c_i1 = 5u;
+    w2c_i0 = w2c_i0 == w2c_i1;
+    if (w2c_i0) {goto w2c_B17;}
+    w2c_i0 = w2c_l15;
+    w2c_i1 = 7u;
+    w2c_i0 = w2c_i0 == w2c_i1;
+    if (w2c_i0) {goto w2c_B21;}
+    goto w2c_B23;
+    w2c_B80:;
+    w2c_i0 = w2c_l15;
+    w2c_i1 = 5u;
+    w2c_i0 = w2c_i0 == w2c_i1;
+    if (w2c_i0) {goto w2c_B19;}
+    goto w2c_B23;
+    w2c_B79:;
+    w2c_i0 = 0u;
+    w2c_l17 = w2c_i0;
+    w2c_i0 = w2c_l15;
+    w2c_i1 = 6u;
+    w2c_i0 = w2c_i0 == w2c_i1;
+    if (w2c_i0) {goto w2c_B30;}
+    w2c_i0 = w2c_l15;
+    w2c_i1 = 7u;
+    w2c_i0 = w2c_i0 == w2c_i1;
+    if (w2c_i0) {goto w2c_B21;}
+    goto w2c_B23;
+    w2c_B78:;
+    w2c_i0 = w2c_l15;
+    w2c_i1 = 7u;
+    w2c_i0 = w2c_i0 != w2c_i1;
+    if (w2c_i0) {goto w2c_B23;}
+    w2c_i0 = 0u;
+    w2c_l17 = w2c_i0;
+    goto w2c_B21;
+    w2c_B61:;
+    w2c_i0 = w2c_l19;
+    w2c_j0 = (u64)(w2c_i0);
+    w2c_j1 = 255ull;
+    w2c_j0 &= w2c_j1;
+    w2c_i0 = (u32)(w2c_j0);
+    switch (w2c_i0) {
+      case 0: goto w2c_B87;
+      case 1: goto w2c_B84;
+      case 2: goto w2c_B86;
+      case 3: goto w2c_B86;
+      case 4: goto w2c_B85;
+      case 5: goto w2c_B83;
+      default: goto w2c_B87;
+    }
+    w2c_B87:;
+    w2c_i0 = 0u;
+    w2c_l17 = w2c_i0;
+    w2c_i0 = 6u;
+    w2c_l18 = w2c_i0;
+    w2c_i0 = w2c_l15;
+    switch (w2c_i0) {
+      case 0: goto w2c_B23;
+      case 1: goto w2c_B23;
+      case 2: goto w2c_B23;
+      case 3: goto w2c_B23;
+      case 4: goto w2c_B23;
+      case 5: goto w2c_B17;
+      case 6: goto w2c_B30;
+      case 7: goto w2c_B21;
+      case 8: goto w2c_B23;
+      case 9: goto w2c_B23;
+      case 10: goto w2c_B23;
+      case 11: goto w2c_B23;
+      case 12: goto w2c_B23;
+      case 13: goto w2c_B23;
+      case 14: goto w2c_B23;
+      default: goto w2c_B23;
+    }
+    w2c_B86:;
+    w2c_i0 = 0u;
+    w2c_l17 = w2c_i0;
+    w2c_i0 = 8u;
+    w2c_l18 = w2c_i0;
+    w2c_i0 = w2c_l15;
+    w2c_i1 = 5u;
+    w2c_i0 = w2c_i0 == w2c_i1;
+    if (w2c_i0) {goto w2c_B17;}
+    w2c_i0 = w2c_l15;
+    w2c_i1 = 7u;
+    w2c_i0 = w2c_i0 == w2c_i1;
+    if (w2c_i0) {goto w2c_B21;}
+    goto w2c_B23;
+    w2c_B85:;
+    w2c_i0 = w2c_l15;
+    w2c_i1 = 5u;
+    w2c_i0 = w2c_i0 == w2c_i1;
+    if (w2c_i0) {goto w2c_B19;}
+    goto w2c_B23;
+    w2c_B84:;
+    w2c_i0 = 0u;
+    w2c_l17 = w2c_i0;
+    w2c_i0 = w2c_l15;
+    w2c_i1 = 6u;
+    w2c_i0 = w2c_i0 == w2c_i1;
+    if (w2c_i0) {goto w2c_B30;}
+    w2c_i0 = w2c_l15;
+    w2c_i1 = 7u;
+    w2c_i0 = w2c_i0 == w2c_i1;
+    if (w2c_i0) {goto w2c_B21;}
+    goto w2c_B23;
+    w2c_B83:;
+    w2c_i0 = w2c_l15;
+    w2c_i1 = 7u;
+    w2c_i0 = w2c_i0 != w2c_i1;
+    if (w2c_i0) {goto w2c_B23;}
+    w2c_i0 = 0u;
+    w2c_l17 = w2c_i0;
+    goto w2c_B21;
+    w2c_B40:;
     w2c_i0 = w2c_l16;
     w2c_j0 = (u64)(w2c_i0);
     w2c_j1 = 255ull;
     w2c_j0 &= w2c_j1;
     w2c_i0 = (u32)(w2c_j0);
     switch (w2c_i0) {
-      case 0: goto w2c_B85;
-      case 1: goto w2c_B86;
-      case 2: goto w2c_B87;
-      case 3: goto w2c_B88;
-      default: goto w2c_B85;
+      case 0: goto w2c_B88;
+      case 1: goto w2c_B89;
+      case 2: goto w2c_B90;
+      case 3: goto w2c_B91;
+      default: goto w2c_B88;
     }
-    w2c_B88:;
+    w2c_B91:;
     w2c_i0 = w2c_l15;
     w2c_i1 = 4294967294u;
     w2c_i0 += w2c_i1;
     w2c_i1 = 13u;
     w2c_i0 = w2c_i0 < w2c_i1;
-    if (w2c_i0) {goto w2c_B89;}
+    if (w2c_i0) {goto w2c_B92;}
     w2c_i0 = 1u;
     w2c_l16 = w2c_i0;
     w2c_i0 = 9u;
@@ -37015,26 +40753,26 @@ static u32 w2c_f60(module *m, u64 w2c_p0, u64 w2c_p1, u64 w2c_p2) {
     w2c_l17 = w2c_i0;
     w2c_i0 = w2c_l15;
     switch (w2c_i0) {
-      case 0: goto w2c_B13;
-      case 1: goto w2c_B35;
-      default: goto w2c_B13;
+      case 0: goto w2c_B16;
+      case 1: goto w2c_B38;
+      default: goto w2c_B16;
     }
-    w2c_B89:;
+    w2c_B92:;
     w2c_i0 = w2c_l19;
     w2c_j0 = (u64)(w2c_i0);
     w2c_j1 = 255ull;
     w2c_j0 &= w2c_j1;
     w2c_i0 = (u32)(w2c_j0);
     switch (w2c_i0) {
-      case 0: goto w2c_B94;
-      case 1: goto w2c_B91;
-      case 2: goto w2c_B93;
-      case 3: goto w2c_B93;
-      case 4: goto w2c_B92;
-      case 5: goto w2c_B90;
-      default: goto w2c_B94;
+      case 0: goto w2c_B97;
+      case 1: goto w2c_B94;
+      case 2: goto w2c_B96;
+      case 3: goto w2c_B96;
+      case 4: goto w2c_B95;
+      case 5: goto w2c_B93;
+      default: goto w2c_B97;
     }
-    w2c_B94:;
+    w2c_B97:;
     w2c_i0 = 1u;
     w2c_l17 = w2c_i0;
     w2c_i0 = 6u;
@@ -37043,22 +40781,22 @@ static u32 w2c_f60(module *m, u64 w2c_p0, u64 w2c_p1, u64 w2c_p2) {
     w2c_i1 = 4294967294u;
     w2c_i0 += w2c_i1;
     switch (w2c_i0) {
-      case 0: goto w2c_B20;
-      case 1: goto w2c_B20;
-      case 2: goto w2c_B20;
-      case 3: goto w2c_B14;
-      case 4: goto w2c_B27;
-      case 5: goto w2c_B18;
-      case 6: goto w2c_B20;
-      case 7: goto w2c_B20;
-      case 8: goto w2c_B20;
-      case 9: goto w2c_B20;
-      case 10: goto w2c_B20;
-      case 11: goto w2c_B20;
-      case 12: goto w2c_B20;
-      default: goto w2c_B20;
+      case 0: goto w2c_B23;
+      case 1: goto w2c_B23;
+      case 2: goto w2c_B23;
+      case 3: goto w2c_B17;
+      case 4: goto w2c_B30;
+      case 5: goto w2c_B21;
+      case 6: goto w2c_B23;
+      case 7: goto w2c_B23;
+      case 8: goto w2c_B23;
+      case 9: goto w2c_B23;
+      case 10: goto w2c_B23;
+      case 11: goto w2c_B23;
+      case 12: goto w2c_B23;
+      default: goto w2c_B23;
     }
-    w2c_B93:;
+    w2c_B96:;
     w2c_i0 = 1u;
     w2c_l17 = w2c_i0;
     w2c_i0 = 8u;
@@ -37066,45 +40804,45 @@ static u32 w2c_f60(module *m, u64 w2c_p0, u64 w2c_p1, u64 w2c_p2) {
     w2c_i0 = w2c_l15;
     w2c_i1 = 5u;
     w2c_i0 = w2c_i0 == w2c_i1;
-    if (w2c_i0) {goto w2c_B14;}
+    if (w2c_i0) {goto w2c_B17;}
     w2c_i0 = w2c_l15;
     w2c_i1 = 7u;
     w2c_i0 = w2c_i0 == w2c_i1;
-    if (w2c_i0) {goto w2c_B18;}
-    goto w2c_B20;
-    w2c_B92:;
+    if (w2c_i0) {goto w2c_B21;}
+    goto w2c_B23;
+    w2c_B95:;
     w2c_i0 = w2c_l15;
     w2c_i1 = 5u;
     w2c_i0 = w2c_i0 != w2c_i1;
-    if (w2c_i0) {goto w2c_B20;}
-    goto w2c_B17;
-    w2c_B91:;
+    if (w2c_i0) {goto w2c_B23;}
+    goto w2c_B20;
+    w2c_B94:;
     w2c_i0 = 1u;
     w2c_l17 = w2c_i0;
     w2c_i0 = w2c_l15;
     w2c_i1 = 6u;
     w2c_i0 = w2c_i0 == w2c_i1;
-    if (w2c_i0) {goto w2c_B27;}
+    if (w2c_i0) {goto w2c_B30;}
     w2c_i0 = w2c_l15;
     w2c_i1 = 7u;
     w2c_i0 = w2c_i0 == w2c_i1;
-    if (w2c_i0) {goto w2c_B18;}
-    goto w2c_B20;
-    w2c_B90:;
+    if (w2c_i0) {goto w2c_B21;}
+    goto w2c_B23;
+    w2c_B93:;
     w2c_i0 = w2c_l15;
     w2c_i1 = 7u;
     w2c_i0 = w2c_i0 != w2c_i1;
-    if (w2c_i0) {goto w2c_B20;}
+    if (w2c_i0) {goto w2c_B23;}
     w2c_i0 = 1u;
     w2c_l17 = w2c_i0;
-    goto w2c_B18;
-    w2c_B87:;
+    goto w2c_B21;
+    w2c_B90:;
     w2c_i0 = w2c_l15;
     w2c_i1 = 4294967294u;
     w2c_i0 += w2c_i1;
     w2c_i1 = 13u;
     w2c_i0 = w2c_i0 < w2c_i1;
-    if (w2c_i0) {goto w2c_B95;}
+    if (w2c_i0) {goto w2c_B98;}
     w2c_i0 = 9u;
     w2c_l18 = w2c_i0;
     w2c_i0 = 10u;
@@ -37119,26 +40857,26 @@ static u32 w2c_f60(module *m, u64 w2c_p0, u64 w2c_p1, u64 w2c_p2) {
     w2c_l16 = w2c_i0;
     w2c_i0 = w2c_l15;
     switch (w2c_i0) {
-      case 0: goto w2c_B13;
-      case 1: goto w2c_B35;
-      default: goto w2c_B13;
+      case 0: goto w2c_B16;
+      case 1: goto w2c_B38;
+      default: goto w2c_B16;
     }
-    w2c_B95:;
+    w2c_B98:;
     w2c_i0 = w2c_l19;
     w2c_j0 = (u64)(w2c_i0);
     w2c_j1 = 255ull;
     w2c_j0 &= w2c_j1;
     w2c_i0 = (u32)(w2c_j0);
     switch (w2c_i0) {
-      case 0: goto w2c_B100;
-      case 1: goto w2c_B97;
-      case 2: goto w2c_B99;
-      case 3: goto w2c_B99;
-      case 4: goto w2c_B98;
-      case 5: goto w2c_B96;
-      default: goto w2c_B100;
+      case 0: goto w2c_B103;
+      case 1: goto w2c_B100;
+      case 2: goto w2c_B102;
+      case 3: goto w2c_B102;
+      case 4: goto w2c_B101;
+      case 5: goto w2c_B99;
+      default: goto w2c_B103;
     }
-    w2c_B100:;
+    w2c_B103:;
     w2c_i0 = 1u;
     w2c_l17 = w2c_i0;
     w2c_i0 = 6u;
@@ -37147,22 +40885,22 @@ static u32 w2c_f60(module *m, u64 w2c_p0, u64 w2c_p1, u64 w2c_p2) {
     w2c_i1 = 4294967294u;
     w2c_i0 += w2c_i1;
     switch (w2c_i0) {
-      case 0: goto w2c_B20;
-      case 1: goto w2c_B20;
-      case 2: goto w2c_B20;
-      case 3: goto w2c_B14;
-      case 4: goto w2c_B27;
-      case 5: goto w2c_B18;
-      case 6: goto w2c_B20;
-      case 7: goto w2c_B20;
-      case 8: goto w2c_B20;
-      case 9: goto w2c_B20;
-      case 10: goto w2c_B20;
-      case 11: goto w2c_B20;
-      case 12: goto w2c_B20;
-      default: goto w2c_B20;
+      case 0: goto w2c_B23;
+      case 1: goto w2c_B23;
+      case 2: goto w2c_B23;
+      case 3: goto w2c_B17;
+      case 4: goto w2c_B30;
+      case 5: goto w2c_B21;
+      case 6: goto w2c_B23;
+      case 7: goto w2c_B23;
+      case 8: goto w2c_B23;
+      case 9: goto w2c_B23;
+      case 10: goto w2c_B23;
+      case 11: goto w2c_B23;
+      case 12: goto w2c_B23;
+      default: goto w2c_B23;
     }
-    w2c_B99:;
+    w2c_B102:;
     w2c_i0 = 1u;
     w2c_l17 = w2c_i0;
     w2c_i0 = 8u;
@@ -37170,234 +40908,234 @@ static u32 w2c_f60(module *m, u64 w2c_p0, u64 w2c_p1, u64 w2c_p2) {
     w2c_i0 = w2c_l15;
     w2c_i1 = 5u;
     w2c_i0 = w2c_i0 == w2c_i1;
-    if (w2c_i0) {goto w2c_B14;}
+    if (w2c_i0) {goto w2c_B17;}
     w2c_i0 = w2c_l15;
     w2c_i1 = 7u;
     w2c_i0 = w2c_i0 == w2c_i1;
-    if (w2c_i0) {goto w2c_B18;}
-    goto w2c_B20;
-    w2c_B98:;
+    if (w2c_i0) {goto w2c_B21;}
+    goto w2c_B23;
+    w2c_B101:;
     w2c_i0 = w2c_l15;
     w2c_i1 = 5u;
     w2c_i0 = w2c_i0 == w2c_i1;
-    if (w2c_i0) {goto w2c_B17;}
-    goto w2c_B20;
-    w2c_B97:;
+    if (w2c_i0) {goto w2c_B20;}
+    goto w2c_B23;
+    w2c_B100:;
     w2c_i0 = 1u;
     w2c_l17 = w2c_i0;
     w2c_i0 = w2c_l15;
     w2c_i1 = 6u;
     w2c_i0 = w2c_i0 == w2c_i1;
-    if (w2c_i0) {goto w2c_B27;}
+    if (w2c_i0) {goto w2c_B30;}
     w2c_i0 = w2c_l15;
     w2c_i1 = 7u;
     w2c_i0 = w2c_i0 == w2c_i1;
-    if (w2c_i0) {goto w2c_B18;}
-    goto w2c_B20;
-    w2c_B96:;
+    if (w2c_i0) {goto w2c_B21;}
+    goto w2c_B23;
+    w2c_B99:;
     w2c_i0 = w2c_l15;
     w2c_i1 = 7u;
     w2c_i0 = w2c_i0 != w2c_i1;
-    if (w2c_i0) {goto w2c_B20;}
+    if (w2c_i0) {goto w2c_B23;}
     w2c_i0 = 1u;
     w2c_l17 = w2c_i0;
-    goto w2c_B18;
-    w2c_B86:;
+    goto w2c_B21;
+    w2c_B89:;
     w2c_i0 = w2c_l15;
     w2c_i1 = 1u;
     w2c_i0 = w2c_i0 != w2c_i1;
-    if (w2c_i0) {goto w2c_B101;}
+    if (w2c_i0) {goto w2c_B104;}
     w2c_i0 = 0u;
     w2c_l21 = w2c_i0;
     w2c_i0 = 10u;
     w2c_l20 = w2c_i0;
     w2c_i0 = w2c_l19;
     w2c_l22 = w2c_i0;
-    goto w2c_B35;
-    w2c_B101:;
-    w2c_i0 = w2c_l19;
-    w2c_j0 = (u64)(w2c_i0);
-    w2c_j1 = 255ull;
-    w2c_j0 &= w2c_j1;
-    w2c_i0 = (u32)(w2c_j0);
-    switch (w2c_i0) {
-      case 0: goto w2c_B106;
-      case 1: goto w2c_B103;
-      case 2: goto w2c_B105;
-      case 3: goto w2c_B105;
-      case 4: goto w2c_B104;
-      case 5: goto w2c_B102;
-      default: goto w2c_B106;
-    }
-    w2c_B106:;
-    w2c_i0 = 1u;
-    w2c_l17 = w2c_i0;
-    w2c_i0 = 6u;
-    w2c_l18 = w2c_i0;
-    w2c_i0 = w2c_l15;
-    switch (w2c_i0) {
-      case 0: goto w2c_B20;
-      case 1: goto w2c_B0;
-      case 2: goto w2c_B20;
-      case 3: goto w2c_B20;
-      case 4: goto w2c_B20;
-      case 5: goto w2c_B14;
-      case 6: goto w2c_B27;
-      case 7: goto w2c_B18;
-      case 8: goto w2c_B20;
-      case 9: goto w2c_B20;
-      case 10: goto w2c_B20;
-      case 11: goto w2c_B20;
-      case 12: goto w2c_B20;
-      case 13: goto w2c_B20;
-      case 14: goto w2c_B20;
-      default: goto w2c_B20;
-    }
-    w2c_B105:;
-    w2c_i0 = 1u;
-    w2c_l17 = w2c_i0;
-    w2c_i0 = 8u;
-    w2c_l18 = w2c_i0;
-    w2c_i0 = w2c_l15;
-    w2c_i1 = 5u;
-    w2c_i0 = w2c_i0 == w2c_i1;
-    if (w2c_i0) {goto w2c_B14;}
-    w2c_i0 = w2c_l15;
-    w2c_i1 = 7u;
-    w2c_i0 = w2c_i0 == w2c_i1;
-    if (w2c_i0) {goto w2c_B18;}
-    goto w2c_B20;
+    goto w2c_B38;
     w2c_B104:;
-    w2c_i0 = w2c_l15;
-    w2c_i1 = 5u;
-    w2c_i0 = w2c_i0 == w2c_i1;
-    if (w2c_i0) {goto w2c_B17;}
-    goto w2c_B20;
-    w2c_B103:;
-    w2c_i0 = 1u;
-    w2c_l17 = w2c_i0;
-    w2c_i0 = w2c_l15;
-    w2c_i1 = 6u;
-    w2c_i0 = w2c_i0 == w2c_i1;
-    if (w2c_i0) {goto w2c_B27;}
-    w2c_i0 = w2c_l15;
-    w2c_i1 = 7u;
-    w2c_i0 = w2c_i0 == w2c_i1;
-    if (w2c_i0) {goto w2c_B18;}
-    goto w2c_B20;
-    w2c_B102:;
-    w2c_i0 = w2c_l15;
-    w2c_i1 = 7u;
-    w2c_i0 = w2c_i0 != w2c_i1;
-    if (w2c_i0) {goto w2c_B20;}
-    w2c_i0 = 1u;
-    w2c_l17 = w2c_i0;
-    goto w2c_B18;
-    w2c_B85:;
     w2c_i0 = w2c_l19;
     w2c_j0 = (u64)(w2c_i0);
     w2c_j1 = 255ull;
     w2c_j0 &= w2c_j1;
     w2c_i0 = (u32)(w2c_j0);
     switch (w2c_i0) {
-      case 0: goto w2c_B111;
-      case 1: goto w2c_B108;
-      case 2: goto w2c_B110;
-      case 3: goto w2c_B110;
-      case 4: goto w2c_B109;
-      case 5: goto w2c_B107;
-      default: goto w2c_B111;
+      case 0: goto w2c_B109;
+      case 1: goto w2c_B106;
+      case 2: goto w2c_B108;
+      case 3: goto w2c_B108;
+      case 4: goto w2c_B107;
+      case 5: goto w2c_B105;
+      default: goto w2c_B109;
     }
-    w2c_B111:;
+    w2c_B109:;
     w2c_i0 = 1u;
     w2c_l17 = w2c_i0;
     w2c_i0 = 6u;
     w2c_l18 = w2c_i0;
     w2c_i0 = w2c_l15;
     switch (w2c_i0) {
-      case 0: goto w2c_B20;
-      case 1: goto w2c_B20;
-      case 2: goto w2c_B20;
-      case 3: goto w2c_B20;
-      case 4: goto w2c_B20;
-      case 5: goto w2c_B14;
-      case 6: goto w2c_B27;
-      case 7: goto w2c_B18;
-      case 8: goto w2c_B20;
-      case 9: goto w2c_B20;
-      case 10: goto w2c_B20;
-      case 11: goto w2c_B20;
-      case 12: goto w2c_B20;
-      case 13: goto w2c_B20;
-      case 14: goto w2c_B20;
-      default: goto w2c_B20;
+      case 0: goto w2c_B23;
+      case 1: goto w2c_B0;
+      case 2: goto w2c_B23;
+      case 3: goto w2c_B23;
+      case 4: goto w2c_B23;
+      case 5: goto w2c_B17;
+      case 6: goto w2c_B30;
+      case 7: goto w2c_B21;
+      case 8: goto w2c_B23;
+      case 9: goto w2c_B23;
+      case 10: goto w2c_B23;
+      case 11: goto w2c_B23;
+      case 12: goto w2c_B23;
+      case 13: goto w2c_B23;
+      case 14: goto w2c_B23;
+      default: goto w2c_B23;
     }
-    w2c_B110:;
-    w2c_i0 = 1u;
-    w2c_l17 = w2c_i0;
-    w2c_i0 = 8u;
-    w2c_l18 = w2c_i0;
-    w2c_i0 = w2c_l15;
-    w2c_i1 = 5u;
-    w2c_i0 = w2c_i0 == w2c_i1;
-    if (w2c_i0) {goto w2c_B14;}
-    w2c_i0 = w2c_l15;
-    w2c_i1 = 7u;
-    w2c_i0 = w2c_i0 == w2c_i1;
-    if (w2c_i0) {goto w2c_B18;}
-    goto w2c_B20;
-    w2c_B109:;
-    w2c_i0 = w2c_l15;
-    w2c_i1 = 5u;
-    w2c_i0 = w2c_i0 == w2c_i1;
-    if (w2c_i0) {goto w2c_B17;}
-    goto w2c_B20;
     w2c_B108:;
     w2c_i0 = 1u;
     w2c_l17 = w2c_i0;
+    w2c_i0 = 8u;
+    w2c_l18 = w2c_i0;
+    w2c_i0 = w2c_l15;
+    w2c_i1 = 5u;
+    w2c_i0 = w2c_i0 == w2c_i1;
+    if (w2c_i0) {goto w2c_B17;}
+    w2c_i0 = w2c_l15;
+    w2c_i1 = 7u;
+    w2c_i0 = w2c_i0 == w2c_i1;
+    if (w2c_i0) {goto w2c_B21;}
+    goto w2c_B23;
+    w2c_B107:;
+    w2c_i0 = w2c_l15;
+    w2c_i1 = 5u;
+    w2c_i0 = w2c_i0 == w2c_i1;
+    if (w2c_i0) {goto w2c_B20;}
+    goto w2c_B23;
+    w2c_B106:;
+    w2c_i0 = 1u;
+    w2c_l17 = w2c_i0;
     w2c_i0 = w2c_l15;
     w2c_i1 = 6u;
     w2c_i0 = w2c_i0 == w2c_i1;
-    if (w2c_i0) {goto w2c_B27;}
+    if (w2c_i0) {goto w2c_B30;}
+    w2c_i0 = w2c_l15;
+    w2c_i1 = 7u;
+    w2c_i0 = w2c_i0 == w2c_i1;
+    if (w2c_i0) {goto w2c_B21;}
+    goto w2c_B23;
+    w2c_B105:;
     w2c_i0 = w2c_l15;
     w2c_i1 = 7u;
     w2c_i0 = w2c_i0 != w2c_i1;
-    if (w2c_i0) {goto w2c_B20;}
-    goto w2c_B18;
-    w2c_B107:;
-    w2c_i0 = w2c_l15;
-    w2c_i1 = 7u;
-    w2c_i0 = w2c_i0 != w2c_i1;
-    if (w2c_i0) {goto w2c_B20;}
+    if (w2c_i0) {goto w2c_B23;}
     w2c_i0 = 1u;
     w2c_l17 = w2c_i0;
-    goto w2c_B18;
-    w2c_B36:;
+    goto w2c_B21;
+    w2c_B88:;
+    w2c_i0 = w2c_l19;
+    w2c_j0 = (u64)(w2c_i0);
+    w2c_j1 = 255ull;
+    w2c_j0 &= w2c_j1;
+    w2c_i0 = (u32)(w2c_j0);
+    switch (w2c_i0) {
+      case 0: goto w2c_B114;
+      case 1: goto w2c_B111;
+      case 2: goto w2c_B113;
+      case 3: goto w2c_B113;
+      case 4: goto w2c_B112;
+      case 5: goto w2c_B110;
+      default: goto w2c_B114;
+    }
+    w2c_B114:;
+    w2c_i0 = 1u;
+    w2c_l17 = w2c_i0;
+    w2c_i0 = 6u;
+    w2c_l18 = w2c_i0;
+    w2c_i0 = w2c_l15;
+    switch (w2c_i0) {
+      case 0: goto w2c_B23;
+      case 1: goto w2c_B23;
+      case 2: goto w2c_B23;
+      case 3: goto w2c_B23;
+      case 4: goto w2c_B23;
+      case 5: goto w2c_B17;
+      case 6: goto w2c_B30;
+      case 7: goto w2c_B21;
+      case 8: goto w2c_B23;
+      case 9: goto w2c_B23;
+      case 10: goto w2c_B23;
+      case 11: goto w2c_B23;
+      case 12: goto w2c_B23;
+      case 13: goto w2c_B23;
+      case 14: goto w2c_B23;
+      default: goto w2c_B23;
+    }
+    w2c_B113:;
+    w2c_i0 = 1u;
+    w2c_l17 = w2c_i0;
+    w2c_i0 = 8u;
+    w2c_l18 = w2c_i0;
+    w2c_i0 = w2c_l15;
+    w2c_i1 = 5u;
+    w2c_i0 = w2c_i0 == w2c_i1;
+    if (w2c_i0) {goto w2c_B17;}
+    w2c_i0 = w2c_l15;
+    w2c_i1 = 7u;
+    w2c_i0 = w2c_i0 == w2c_i1;
+    if (w2c_i0) {goto w2c_B21;}
+    goto w2c_B23;
+    w2c_B112:;
+    w2c_i0 = w2c_l15;
+    w2c_i1 = 5u;
+    w2c_i0 = w2c_i0 == w2c_i1;
+    if (w2c_i0) {goto w2c_B20;}
+    goto w2c_B23;
+    w2c_B111:;
+    w2c_i0 = 1u;
+    w2c_l17 = w2c_i0;
+    w2c_i0 = w2c_l15;
+    w2c_i1 = 6u;
+    w2c_i0 = w2c_i0 == w2c_i1;
+    if (w2c_i0) {goto w2c_B30;}
+    w2c_i0 = w2c_l15;
+    w2c_i1 = 7u;
+    w2c_i0 = w2c_i0 != w2c_i1;
+    if (w2c_i0) {goto w2c_B23;}
+    goto w2c_B21;
+    w2c_B110:;
+    w2c_i0 = w2c_l15;
+    w2c_i1 = 7u;
+    w2c_i0 = w2c_i0 != w2c_i1;
+    if (w2c_i0) {goto w2c_B23;}
+    w2c_i0 = 1u;
+    w2c_l17 = w2c_i0;
+    goto w2c_B21;
+    w2c_B39:;
     w2c_i0 = w2c_l17;
     switch (w2c_i0) {
-      case 0: goto w2c_B119;
-      case 1: goto w2c_B118;
-      case 2: goto w2c_B117;
-      case 3: goto w2c_B116;
-      case 4: goto w2c_B115;
-      case 5: goto w2c_B20;
-      case 6: goto w2c_B20;
-      case 7: goto w2c_B20;
-      case 8: goto w2c_B20;
-      case 9: goto w2c_B20;
-      case 10: goto w2c_B20;
-      case 11: goto w2c_B20;
-      case 12: goto w2c_B20;
-      case 13: goto w2c_B114;
-      case 14: goto w2c_B112;
-      case 15: goto w2c_B34;
-      case 16: goto w2c_B26;
-      case 17: goto w2c_B113;
-      case 18: goto w2c_B24;
-      case 19: goto w2c_B20;
-      default: goto w2c_B119;
+      case 0: goto w2c_B122;
+      case 1: goto w2c_B121;
+      case 2: goto w2c_B120;
+      case 3: goto w2c_B119;
+      case 4: goto w2c_B118;
+      case 5: goto w2c_B23;
+      case 6: goto w2c_B23;
+      case 7: goto w2c_B23;
+      case 8: goto w2c_B23;
+      case 9: goto w2c_B23;
+      case 10: goto w2c_B23;
+      case 11: goto w2c_B23;
+      case 12: goto w2c_B23;
+      case 13: goto w2c_B117;
+      case 14: goto w2c_B115;
+      case 15: goto w2c_B37;
+      case 16: goto w2c_B29;
+      case 17: goto w2c_B116;
+      case 18: goto w2c_B27;
+      case 19: goto w2c_B23;
+      default: goto w2c_B122;
     }
-    w2c_B119:;
+    w2c_B122:;
     w2c_i0 = 5u;
     w2c_l20 = w2c_i0;
     w2c_i0 = 0u;
@@ -37412,44 +41150,44 @@ static u32 w2c_f60(module *m, u64 w2c_p0, u64 w2c_p1, u64 w2c_p2) {
     w2c_l16 = w2c_i0;
     w2c_i0 = w2c_l15;
     switch (w2c_i0) {
-      case 0: goto w2c_B33;
-      case 1: goto w2c_B35;
-      case 2: goto w2c_B20;
-      case 3: goto w2c_B20;
-      case 4: goto w2c_B20;
-      case 5: goto w2c_B20;
-      case 6: goto w2c_B20;
-      case 7: goto w2c_B20;
-      case 8: goto w2c_B20;
-      case 9: goto w2c_B20;
-      case 10: goto w2c_B20;
-      case 11: goto w2c_B13;
-      case 12: goto w2c_B20;
-      case 13: goto w2c_B20;
-      case 14: goto w2c_B20;
-      default: goto w2c_B33;
+      case 0: goto w2c_B36;
+      case 1: goto w2c_B38;
+      case 2: goto w2c_B23;
+      case 3: goto w2c_B23;
+      case 4: goto w2c_B23;
+      case 5: goto w2c_B23;
+      case 6: goto w2c_B23;
+      case 7: goto w2c_B23;
+      case 8: goto w2c_B23;
+      case 9: goto w2c_B23;
+      case 10: goto w2c_B23;
+      case 11: goto w2c_B16;
+      case 12: goto w2c_B23;
+      case 13: goto w2c_B23;
+      case 14: goto w2c_B23;
+      default: goto w2c_B36;
     }
-    w2c_B118:;
+    w2c_B121:;
     w2c_i0 = w2c_l15;
     w2c_i1 = 12u;
     w2c_i0 = w2c_i0 != w2c_i1;
-    if (w2c_i0) {goto w2c_B20;}
+    if (w2c_i0) {goto w2c_B23;}
     w2c_i0 = 0u;
     w2c_l17 = w2c_i0;
     w2c_i0 = 2u;
     w2c_l18 = w2c_i0;
-    goto w2c_B22;
-    w2c_B117:;
+    goto w2c_B25;
+    w2c_B120:;
     w2c_i0 = w2c_l15;
     w2c_i1 = 13u;
     w2c_i0 = w2c_i0 != w2c_i1;
-    if (w2c_i0) {goto w2c_B20;}
+    if (w2c_i0) {goto w2c_B23;}
     w2c_i0 = 0u;
     w2c_l17 = w2c_i0;
     w2c_i0 = 3u;
     w2c_l18 = w2c_i0;
-    goto w2c_B22;
-    w2c_B116:;
+    goto w2c_B25;
+    w2c_B119:;
     w2c_i0 = 0u;
     w2c_l22 = w2c_i0;
     w2c_i0 = 5u;
@@ -37458,32 +41196,32 @@ static u32 w2c_f60(module *m, u64 w2c_p0, u64 w2c_p1, u64 w2c_p2) {
     w2c_l21 = w2c_i0;
     w2c_i0 = w2c_l15;
     switch (w2c_i0) {
-      case 0: goto w2c_B33;
-      case 1: goto w2c_B35;
-      case 2: goto w2c_B20;
-      case 3: goto w2c_B20;
-      case 4: goto w2c_B20;
-      case 5: goto w2c_B20;
-      case 6: goto w2c_B20;
-      case 7: goto w2c_B20;
-      case 8: goto w2c_B20;
-      case 9: goto w2c_B20;
-      case 10: goto w2c_B20;
-      case 11: goto w2c_B20;
-      case 12: goto w2c_B20;
-      case 13: goto w2c_B20;
-      case 14: goto w2c_B20;
-      default: goto w2c_B33;
+      case 0: goto w2c_B36;
+      case 1: goto w2c_B38;
+      case 2: goto w2c_B23;
+      case 3: goto w2c_B23;
+      case 4: goto w2c_B23;
+      case 5: goto w2c_B23;
+      case 6: goto w2c_B23;
+      case 7: goto w2c_B23;
+      case 8: goto w2c_B23;
+      case 9: goto w2c_B23;
+      case 10: goto w2c_B23;
+      case 11: goto w2c_B23;
+      case 12: goto w2c_B23;
+      case 13: goto w2c_B23;
+      case 14: goto w2c_B23;
+      default: goto w2c_B36;
     }
-    w2c_B115:;
+    w2c_B118:;
     w2c_i0 = w2c_l15;
     w2c_i1 = 7u;
     w2c_i0 = w2c_i0 != w2c_i1;
-    if (w2c_i0) {goto w2c_B20;}
+    if (w2c_i0) {goto w2c_B23;}
     w2c_i0 = 1u;
     w2c_l17 = w2c_i0;
-    goto w2c_B18;
-    w2c_B114:;
+    goto w2c_B21;
+    w2c_B117:;
     w2c_i0 = 16u;
     w2c_l20 = w2c_i0;
     w2c_i0 = 0u;
@@ -37498,32 +41236,32 @@ static u32 w2c_f60(module *m, u64 w2c_p0, u64 w2c_p1, u64 w2c_p2) {
     w2c_l16 = w2c_i0;
     w2c_i0 = w2c_l15;
     switch (w2c_i0) {
-      case 0: goto w2c_B120;
-      case 1: goto w2c_B35;
-      case 2: goto w2c_B20;
-      case 3: goto w2c_B20;
-      case 4: goto w2c_B20;
-      case 5: goto w2c_B20;
-      case 6: goto w2c_B20;
-      case 7: goto w2c_B20;
-      case 8: goto w2c_B20;
-      case 9: goto w2c_B20;
-      case 10: goto w2c_B13;
-      case 11: goto w2c_B20;
-      case 12: goto w2c_B20;
-      case 13: goto w2c_B20;
-      case 14: goto w2c_B20;
-      default: goto w2c_B120;
+      case 0: goto w2c_B123;
+      case 1: goto w2c_B38;
+      case 2: goto w2c_B23;
+      case 3: goto w2c_B23;
+      case 4: goto w2c_B23;
+      case 5: goto w2c_B23;
+      case 6: goto w2c_B23;
+      case 7: goto w2c_B23;
+      case 8: goto w2c_B23;
+      case 9: goto w2c_B23;
+      case 10: goto w2c_B16;
+      case 11: goto w2c_B23;
+      case 12: goto w2c_B23;
+      case 13: goto w2c_B23;
+      case 14: goto w2c_B23;
+      default: goto w2c_B123;
     }
-    w2c_B120:;
+    w2c_B123:;
     w2c_i0 = w2c_l19;
     w2c_i1 = 1u;
     w2c_i0 &= w2c_i1;
     w2c_l17 = w2c_i0;
     w2c_i0 = 14u;
     w2c_l18 = w2c_i0;
-    goto w2c_B22;
-    w2c_B113:;
+    goto w2c_B25;
+    w2c_B116:;
     w2c_i0 = 18u;
     w2c_l20 = w2c_i0;
     w2c_i0 = 0u;
@@ -37533,25 +41271,25 @@ static u32 w2c_f60(module *m, u64 w2c_p0, u64 w2c_p1, u64 w2c_p2) {
     w2c_i0 = w2c_l15;
     w2c_i1 = 1u;
     w2c_i0 = w2c_i0 != w2c_i1;
-    if (w2c_i0) {goto w2c_B121;}
+    if (w2c_i0) {goto w2c_B124;}
     w2c_i0 = 0u;
     w2c_l22 = w2c_i0;
     w2c_i0 = 0u;
     w2c_l21 = w2c_i0;
-    goto w2c_B35;
-    w2c_B121:;
+    goto w2c_B38;
+    w2c_B124:;
     w2c_i0 = 0u;
     w2c_l16 = w2c_i0;
     w2c_i0 = w2c_l15;
     w2c_i1 = 10u;
     w2c_i0 = w2c_i0 == w2c_i1;
-    if (w2c_i0) {goto w2c_B13;}
-    goto w2c_B20;
-    w2c_B112:;
+    if (w2c_i0) {goto w2c_B16;}
+    goto w2c_B23;
+    w2c_B115:;
     w2c_i0 = w2c_l15;
     w2c_i1 = 1u;
     w2c_i0 = w2c_i0 != w2c_i1;
-    if (w2c_i0) {goto w2c_B20;}
+    if (w2c_i0) {goto w2c_B23;}
     w2c_i0 = w2c_l19;
     w2c_i1 = 1u;
     w2c_i0 &= w2c_i1;
@@ -37560,7 +41298,7 @@ static u32 w2c_f60(module *m, u64 w2c_p0, u64 w2c_p1, u64 w2c_p2) {
     w2c_l21 = w2c_i0;
     w2c_i0 = 15u;
     w2c_l20 = w2c_i0;
-    w2c_B35:;
+    w2c_B38:;
     w2c_i0 = w2c_l20;
     w2c_l18 = w2c_i0;
     w2c_i0 = w2c_l22;
@@ -37569,36 +41307,36 @@ static u32 w2c_f60(module *m, u64 w2c_p0, u64 w2c_p1, u64 w2c_p2) {
     w2c_l16 = w2c_i0;
     w2c_j0 = w2c_l14;
     w2c_l8 = w2c_j0;
-    goto w2c_B13;
-    w2c_B34:;
+    goto w2c_B16;
+    w2c_B37:;
     w2c_i0 = w2c_l19;
     w2c_i1 = 1u;
     w2c_i0 &= w2c_i1;
     w2c_i0 = !(w2c_i0);
-    if (w2c_i0) {goto w2c_B24;}
+    if (w2c_i0) {goto w2c_B27;}
     w2c_i0 = w2c_l15;
     w2c_i1 = 8u;
     w2c_i0 = w2c_i0 == w2c_i1;
-    if (w2c_i0) {goto w2c_B25;}
+    if (w2c_i0) {goto w2c_B28;}
     w2c_i0 = w2c_l15;
     w2c_i1 = 9u;
     w2c_i0 = w2c_i0 == w2c_i1;
-    if (w2c_i0) {goto w2c_B23;}
-    goto w2c_B20;
-    w2c_B33:;
+    if (w2c_i0) {goto w2c_B26;}
+    goto w2c_B23;
+    w2c_B36:;
     w2c_i0 = 0u;
     w2c_l17 = w2c_i0;
     w2c_i0 = 4u;
     w2c_l18 = w2c_i0;
-    goto w2c_B22;
-    w2c_B32:;
+    goto w2c_B25;
+    w2c_B35:;
     w2c_i0 = w2c_l19;
     w2c_l17 = w2c_i0;
     w2c_i0 = w2c_l15;
     w2c_i1 = 2u;
     w2c_i0 = w2c_i0 != w2c_i1;
-    if (w2c_i0) {goto w2c_B20;}
-    w2c_B31:;
+    if (w2c_i0) {goto w2c_B23;}
+    w2c_B34:;
     w2c_j0 = w2c_l8;
     w2c_j1 = 10ull;
     w2c_j0 *= w2c_j1;
@@ -37611,15 +41349,15 @@ static u32 w2c_f60(module *m, u64 w2c_p0, u64 w2c_p1, u64 w2c_p2) {
     w2c_l16 = w2c_i0;
     w2c_i0 = 12u;
     w2c_l18 = w2c_i0;
-    goto w2c_B13;
-    w2c_B30:;
+    goto w2c_B16;
+    w2c_B33:;
     w2c_i0 = w2c_l19;
     w2c_l17 = w2c_i0;
     w2c_i0 = w2c_l15;
     w2c_i1 = 3u;
     w2c_i0 = w2c_i0 != w2c_i1;
-    if (w2c_i0) {goto w2c_B20;}
-    w2c_B29:;
+    if (w2c_i0) {goto w2c_B23;}
+    w2c_B32:;
     w2c_j0 = w2c_l8;
     w2c_j1 = 100ull;
     w2c_j0 *= w2c_j1;
@@ -37632,8 +41370,8 @@ static u32 w2c_f60(module *m, u64 w2c_p0, u64 w2c_p1, u64 w2c_p2) {
     w2c_l16 = w2c_i0;
     w2c_i0 = 12u;
     w2c_l18 = w2c_i0;
-    goto w2c_B13;
-    w2c_B28:;
+    goto w2c_B16;
+    w2c_B31:;
     w2c_i0 = 5u;
     w2c_i1 = w2c_l19;
     w2c_i2 = w2c_l19;
@@ -37643,8 +41381,8 @@ static u32 w2c_f60(module *m, u64 w2c_p0, u64 w2c_p1, u64 w2c_p2) {
     w2c_i2 = w2c_i2 == w2c_i3;
     w2c_i0 = w2c_i2 ? w2c_i0 : w2c_i1;
     w2c_l17 = w2c_i0;
-    goto w2c_B19;
-    w2c_B27:;
+    goto w2c_B22;
+    w2c_B30:;
     w2c_j0 = w2c_l10;
     w2c_j1 = w2c_l8;
     w2c_j0 += w2c_j1;
@@ -37661,13 +41399,13 @@ static u32 w2c_f60(module *m, u64 w2c_p0, u64 w2c_p1, u64 w2c_p2) {
     w2c_l18 = w2c_i0;
     w2c_j0 = 0ull;
     w2c_l8 = w2c_j0;
-    goto w2c_B13;
-    w2c_B26:;
+    goto w2c_B16;
+    w2c_B29:;
     w2c_i0 = w2c_l15;
     w2c_i1 = 8u;
     w2c_i0 = w2c_i0 != w2c_i1;
-    if (w2c_i0) {goto w2c_B20;}
-    w2c_B25:;
+    if (w2c_i0) {goto w2c_B23;}
+    w2c_B28:;
     w2c_j0 = w2c_l12;
     w2c_j1 = w2c_l8;
     w2c_j2 = 10ull;
@@ -37680,13 +41418,13 @@ static u32 w2c_f60(module *m, u64 w2c_p0, u64 w2c_p1, u64 w2c_p2) {
     w2c_l17 = w2c_i0;
     w2c_i0 = 17u;
     w2c_l18 = w2c_i0;
-    goto w2c_B22;
-    w2c_B24:;
+    goto w2c_B25;
+    w2c_B27:;
     w2c_i0 = w2c_l15;
     w2c_i1 = 9u;
     w2c_i0 = w2c_i0 != w2c_i1;
-    if (w2c_i0) {goto w2c_B20;}
-    w2c_B23:;
+    if (w2c_i0) {goto w2c_B23;}
+    w2c_B26:;
     w2c_j0 = w2c_l12;
     w2c_j1 = w2c_l8;
     w2c_j0 += w2c_j1;
@@ -37697,18 +41435,18 @@ static u32 w2c_f60(module *m, u64 w2c_p0, u64 w2c_p1, u64 w2c_p2) {
     w2c_l17 = w2c_i0;
     w2c_i0 = 19u;
     w2c_l18 = w2c_i0;
-    w2c_B22:;
+    w2c_B25:;
     w2c_i0 = 0u;
     w2c_l16 = w2c_i0;
-    goto w2c_B13;
-    w2c_B21:;
+    goto w2c_B16;
+    w2c_B24:;
     w2c_i0 = w2c_l19;
     w2c_l17 = w2c_i0;
     w2c_i0 = w2c_l15;
     w2c_i1 = 4u;
     w2c_i0 = w2c_i0 == w2c_i1;
-    if (w2c_i0) {goto w2c_B19;}
-    w2c_B20:;
+    if (w2c_i0) {goto w2c_B22;}
+    w2c_B23:;
     w2c_j0 = 0ull;
     w2c_l6 = w2c_j0;
     w2c_j0 = w2c_p2;
@@ -37729,17 +41467,17 @@ static u32 w2c_f60(module *m, u64 w2c_p0, u64 w2c_p1, u64 w2c_p2) {
     w2c_j0 = w2c_p1;
     w2c_j1 = 8ull;
     w2c_i0 = w2c_j0 >= w2c_j1;
-    if (w2c_i0) {goto w2c_B123;}
+    if (w2c_i0) {goto w2c_B126;}
     w2c_j0 = 0ull;
     w2c_l9 = w2c_j0;
-    goto w2c_B122;
-    w2c_B123:;
+    goto w2c_B125;
+    w2c_B126:;
     w2c_j0 = 0ull;
     w2c_l9 = w2c_j0;
     w2c_j0 = w2c_l13;
     w2c_j1 = 3ull;
     w2c_i0 = w2c_j0 < w2c_j1;
-    if (w2c_i0) {goto w2c_B122;}
+    if (w2c_i0) {goto w2c_B125;}
     w2c_j0 = w2c_p1;
     w2c_j1 = 18446744073709551607ull;
     w2c_j0 += w2c_j1;
@@ -37748,7 +41486,7 @@ static u32 w2c_f60(module *m, u64 w2c_p0, u64 w2c_p1, u64 w2c_p2) {
     w2c_l9 = w2c_j0;
     w2c_j0 = 0ull;
     w2c_l6 = w2c_j0;
-    w2c_L124:
+    w2c_L127:
       w2c_j0 = w2c_l5;
       w2c_j1 = w2c_l6;
       w2c_j0 += w2c_j1;
@@ -37758,7 +41496,7 @@ static u32 w2c_f60(module *m, u64 w2c_p0, u64 w2c_p1, u64 w2c_p2) {
       w2c_j0 &= w2c_j1;
       w2c_j1 = 63050398541283552ull;
       w2c_i0 = w2c_j0 != w2c_j1;
-      if (w2c_i0) {goto w2c_B122;}
+      if (w2c_i0) {goto w2c_B125;}
       w2c_j0 = w2c_l9;
       w2c_j1 = 3ull;
       w2c_j0 += w2c_j1;
@@ -37770,7 +41508,7 @@ static u32 w2c_f60(module *m, u64 w2c_p0, u64 w2c_p1, u64 w2c_p2) {
       w2c_j0 = w2c_p0;
       w2c_j1 = 3ull;
       w2c_i0 = w2c_j0 < w2c_j1;
-      if (w2c_i0) {goto w2c_B122;}
+      if (w2c_i0) {goto w2c_B125;}
       w2c_j0 = w2c_p0;
       w2c_j1 = 18446744073709551613ull;
       w2c_j0 += w2c_j1;
@@ -37784,21 +41522,21 @@ static u32 w2c_f60(module *m, u64 w2c_p0, u64 w2c_p1, u64 w2c_p2) {
       w2c_j0 += w2c_j1;
       w2c_l4 = w2c_j0;
       w2c_i0 = w2c_l15;
-      if (w2c_i0) {goto w2c_L124;}
-    w2c_B122:;
+      if (w2c_i0) {goto w2c_L127;}
+    w2c_B125:;
     w2c_j0 = w2c_p1;
     w2c_j1 = w2c_l6;
     w2c_i0 = w2c_j0 <= w2c_j1;
-    if (w2c_i0) {goto w2c_B125;}
+    if (w2c_i0) {goto w2c_B128;}
     w2c_j0 = w2c_l9;
     w2c_j1 = w2c_l13;
     w2c_i0 = w2c_j0 >= w2c_j1;
-    if (w2c_i0) {goto w2c_B125;}
+    if (w2c_i0) {goto w2c_B128;}
     w2c_j0 = w2c_l9;
     w2c_j1 = 1ull;
     w2c_j0 += w2c_j1;
     w2c_p0 = w2c_j0;
-    w2c_L126:
+    w2c_L129:
       w2c_j0 = w2c_l5;
       w2c_j1 = w2c_l6;
       w2c_j0 += w2c_j1;
@@ -37819,7 +41557,7 @@ static u32 w2c_f60(module *m, u64 w2c_p0, u64 w2c_p1, u64 w2c_p2) {
       w2c_j0 = w2c_p0;
       w2c_j1 = w2c_l13;
       w2c_i0 = w2c_j0 >= w2c_j1;
-      if (w2c_i0) {goto w2c_B125;}
+      if (w2c_i0) {goto w2c_B128;}
       w2c_j0 = w2c_p0;
       w2c_j1 = 1ull;
       w2c_j0 += w2c_j1;
@@ -37827,8 +41565,8 @@ static u32 w2c_f60(module *m, u64 w2c_p0, u64 w2c_p1, u64 w2c_p2) {
       w2c_j0 = w2c_p1;
       w2c_j1 = w2c_l6;
       w2c_i0 = w2c_j0 > w2c_j1;
-      if (w2c_i0) {goto w2c_L126;}
-    w2c_B125:;
+      if (w2c_i0) {goto w2c_L129;}
+    w2c_B128:;
     w2c_j0 = w2c_p2;
     w2c_i0 = (u32)(w2c_j0);
     w2c_j1 = w2c_l6;
@@ -37837,7 +41575,7 @@ static u32 w2c_f60(module *m, u64 w2c_p0, u64 w2c_p1, u64 w2c_p2) {
     m->w2c_g0 = w2c_j0;
     w2c_i0 = 2u;
     goto w2c_Bfunc;
-    w2c_B19:;
+    w2c_B22:;
     w2c_j0 = w2c_l8;
     w2c_j1 = 1000ull;
     w2c_j0 *= w2c_j1;
@@ -37850,8 +41588,8 @@ static u32 w2c_f60(module *m, u64 w2c_p0, u64 w2c_p1, u64 w2c_p2) {
     w2c_l16 = w2c_i0;
     w2c_i0 = 12u;
     w2c_l18 = w2c_i0;
-    goto w2c_B13;
-    w2c_B18:;
+    goto w2c_B16;
+    w2c_B21:;
     w2c_j0 = w2c_l10;
     w2c_j1 = w2c_l8;
     w2c_j0 += w2c_j1;
@@ -37872,18 +41610,18 @@ static u32 w2c_f60(module *m, u64 w2c_p0, u64 w2c_p1, u64 w2c_p2) {
     w2c_l10 = w2c_j0;
     w2c_j0 = 0ull;
     w2c_l8 = w2c_j0;
-    goto w2c_B13;
-    w2c_B17:;
+    goto w2c_B16;
+    w2c_B20:;
     w2c_i0 = 1u;
     w2c_l17 = w2c_i0;
-    goto w2c_B15;
-    w2c_B16:;
+    goto w2c_B18;
+    w2c_B19:;
     w2c_i0 = 0u;
     w2c_l17 = w2c_i0;
-    w2c_B15:;
+    w2c_B18:;
     w2c_i0 = 8u;
     w2c_l18 = w2c_i0;
-    w2c_B14:;
+    w2c_B17:;
     w2c_j0 = w2c_l10;
     w2c_j1 = w2c_l8;
     w2c_j0 += w2c_j1;
@@ -37898,7 +41636,7 @@ static u32 w2c_f60(module *m, u64 w2c_p0, u64 w2c_p1, u64 w2c_p2) {
     w2c_l16 = w2c_i0;
     w2c_j0 = 0ull;
     w2c_l8 = w2c_j0;
-    w2c_B13:;
+    w2c_B16:;
     w2c_j0 = w2c_l4;
     w2c_j1 = w2c_l13;
     w2c_j0 += w2c_j1;
@@ -37913,23 +41651,23 @@ static u32 w2c_f60(module *m, u64 w2c_p0, u64 w2c_p1, u64 w2c_p2) {
     w2c_l9 = w2c_j0;
     w2c_j1 = 0ull;
     w2c_i0 = w2c_j0 != w2c_j1;
-    if (w2c_i0) {goto w2c_L9;}
+    if (w2c_i0) {goto w2c_L12;}
   w2c_i0 = w2c_l18;
   w2c_i1 = 4294967295u;
   w2c_i0 += w2c_i1;
   w2c_i1 = 16u;
   w2c_i0 = w2c_i0 < w2c_i1;
-  if (w2c_i0) {goto w2c_B8;}
+  if (w2c_i0) {goto w2c_B11;}
   w2c_i0 = w2c_l18;
   w2c_i1 = 4294967279u;
   w2c_i0 += w2c_i1;
   switch (w2c_i0) {
-    case 0: goto w2c_B7;
-    case 1: goto w2c_B8;
-    case 2: goto w2c_B7;
-    default: goto w2c_B7;
+    case 0: goto w2c_B10;
+    case 1: goto w2c_B11;
+    case 2: goto w2c_B10;
+    default: goto w2c_B10;
   }
-  w2c_B8:;
+  w2c_B11:;
   w2c_j0 = w2c_p2;
   w2c_i0 = (u32)(w2c_j0);
   w2c_j1 = 0ull;
@@ -37946,7 +41684,7 @@ static u32 w2c_f60(module *m, u64 w2c_p0, u64 w2c_p1, u64 w2c_p2) {
   m->w2c_g0 = w2c_j0;
   w2c_i0 = 9u;
   goto w2c_Bfunc;
-  w2c_B7:;
+  w2c_B10:;
   w2c_j0 = w2c_l7;
   w2c_i0 = (u32)(w2c_j0);
   w2c_j1 = 0ull;
@@ -37985,14 +41723,14 @@ static u32 w2c_chinese_typed_amount_read(module *m, u64 w2c_p0, u64 w2c_p1, u64 
   w2c_j0 = w2c_p0;
   w2c_j1 = w2c_p1;
   w2c_j2 = w2c_p2;
-  w2c_i0 = w2c_f62(m, w2c_j0, w2c_j1, w2c_j2);
+  w2c_i0 = w2c_f66(m, w2c_j0, w2c_j1, w2c_j2);
   w2c_l3 = w2c_i0;
   w2c_f1(m);
   w2c_i0 = w2c_l3;
   return w2c_i0;
 }
 
-static u32 w2c_f62(module *m, u64 w2c_p0, u64 w2c_p1, u64 w2c_p2) {
+static u32 w2c_f66(module *m, u64 w2c_p0, u64 w2c_p1, u64 w2c_p2) {
   u32 w2c_l14 = 0, w2c_l15 = 0, w2c_l16 = 0, w2c_l17 = 0, w2c_l18 = 0, w2c_l19 = 0, w2c_l20 = 0, w2c_l21 = 0, w2c_l22 = 0;
   u64 w2c_l3 = 0, w2c_l4 = 0, w2c_l5 = 0, w2c_l6 = 0, w2c_l7 = 0, w2c_l8 = 0, w2c_l9 = 0, w2c_l10 = 0, w2c_l11 = 0, w2c_l12 = 0, w2c_l13 = 0;
   u32 w2c_i0, w2c_i1, w2c_i2, w2c_i3, w2c_i4;
@@ -38033,7 +41771,7 @@ static u32 w2c_f62(module *m, u64 w2c_p0, u64 w2c_p1, u64 w2c_p2) {
   w2c_j0 = w2c_p1;
   w2c_j1 = 4ull;
   w2c_i0 = w2c_j0 < w2c_j1;
-  if (w2c_i0) {goto w2c_B4;}
+  if (w2c_i0) {goto w2c_B6;}
   w2c_j0 = w2c_p0;
   w2c_j1 = w2c_l4;
   w2c_j0 += w2c_j1;
@@ -38042,7 +41780,7 @@ static u32 w2c_f62(module *m, u64 w2c_p0, u64 w2c_p1, u64 w2c_p2) {
   w2c_p0 = w2c_j0;
   w2c_j0 = w2c_p1;
   w2c_l6 = w2c_j0;
-  w2c_L5:
+  w2c_L7:
     w2c_j0 = w2c_p0;
     w2c_j1 = w2c_l6;
     w2c_j0 += w2c_j1;
@@ -38056,29 +41794,31 @@ static u32 w2c_f62(module *m, u64 w2c_p0, u64 w2c_p1, u64 w2c_p2) {
     w2c_i0 &= w2c_i1;
     w2c_i1 = 8421376u;
     w2c_i0 = w2c_i0 != w2c_i1;
-    if (w2c_i0) {goto w2c_B3;}
+    if (w2c_i0) {goto w2c_B5;}
     w2c_j0 = w2c_l6;
     w2c_j1 = 18446744073709551613ull;
     w2c_j0 += w2c_j1;
     w2c_l6 = w2c_j0;
     w2c_j1 = 3ull;
     w2c_i0 = w2c_j0 > w2c_j1;
-    if (w2c_i0) {goto w2c_L5;}
-  w2c_B4:;
+    if (w2c_i0) {goto w2c_L7;}
+  w2c_B6:;
   w2c_j0 = w2c_l6;
   w2c_j1 = 3ull;
   w2c_i0 = w2c_j0 > w2c_j1;
-  if (w2c_i0) {goto w2c_B3;}
+  if (w2c_i0) {goto w2c_B4;}
   w2c_j0 = w2c_l6;
   w2c_i0 = (u32)(w2c_j0);
   switch (w2c_i0) {
     case 0: goto w2c_B2;
-    case 1: goto w2c_B3;
-    case 2: goto w2c_B3;
-    case 3: goto w2c_B6;
+    case 1: goto w2c_B4;
+    case 2: goto w2c_B4;
+    case 3: goto w2c_B8;
     default: goto w2c_B2;
   }
-  w2c_B6:;
+  w2c_B8:;
+  w2c_j0 = 3ull;
+  w2c_l6 = w2c_j0;
   w2c_j0 = w2c_l5;
   w2c_i0 = (u32)(w2c_j0);
   w2c_i0 = i32_load16_u(m, (u64)(w2c_i0));
@@ -38095,13 +41835,41 @@ static u32 w2c_f62(module *m, u64 w2c_p0, u64 w2c_p1, u64 w2c_p2) {
   w2c_i1 = 12632312u;
   w2c_i0 &= w2c_i1;
   w2c_i1 = 8421376u;
-  w2c_i0 = w2c_i0 == w2c_i1;
-  if (w2c_i0) {goto w2c_B2;}
+  w2c_i0 = w2c_i0 != w2c_i1;
+  if (w2c_i0) {goto w2c_B4;}
+  goto w2c_B2;
+  w2c_B5:;
+  w2c_j0 = w2c_l6;
+  w2c_j1 = 7ull;
+  w2c_i0 = w2c_j0 > w2c_j1;
+  if (w2c_i0) {goto w2c_B3;}
+  w2c_B4:;
+  w2c_j0 = 0ull;
+  w2c_p0 = w2c_j0;
+  w2c_L9:
+    w2c_j0 = w2c_l6;
+    w2c_j1 = w2c_p0;
+    w2c_i0 = w2c_j0 == w2c_j1;
+    if (w2c_i0) {goto w2c_B2;}
+    w2c_j0 = w2c_l5;
+    w2c_j1 = w2c_p0;
+    w2c_j0 += w2c_j1;
+    w2c_l4 = w2c_j0;
+    w2c_j0 = w2c_p0;
+    w2c_j1 = 1ull;
+    w2c_j0 += w2c_j1;
+    w2c_p0 = w2c_j0;
+    w2c_j0 = w2c_l4;
+    w2c_i0 = (u32)(w2c_j0);
+    w2c_i0 = i32_load8_s(m, (u64)(w2c_i0));
+    w2c_i1 = 4294967295u;
+    w2c_i0 = (u32)((s32)w2c_i0 > (s32)w2c_i1);
+    if (w2c_i0) {goto w2c_L9;}
   w2c_B3:;
   w2c_i0 = 5u;
   w2c_l14 = w2c_i0;
   w2c_j0 = w2c_l5;
-  w2c_j1 = w2c_p1;
+  w2c_j1 = w2c_l6;
   w2c_i0 = w2c_f12(m, w2c_j0, w2c_j1);
   w2c_i0 = !(w2c_i0);
   if (w2c_i0) {goto w2c_B1;}
@@ -38126,7 +41894,7 @@ static u32 w2c_f62(module *m, u64 w2c_p0, u64 w2c_p1, u64 w2c_p2) {
   i32_store(m, (u64)(w2c_i0), w2c_i1);
   w2c_j0 = w2c_p1;
   w2c_i0 = !(w2c_j0);
-  if (w2c_i0) {goto w2c_B7;}
+  if (w2c_i0) {goto w2c_B10;}
   w2c_j0 = w2c_p2;
   w2c_j1 = 8ull;
   w2c_j0 += w2c_j1;
@@ -38151,7 +41919,7 @@ static u32 w2c_f62(module *m, u64 w2c_p0, u64 w2c_p1, u64 w2c_p2) {
   w2c_l16 = w2c_i0;
   w2c_i0 = 0u;
   w2c_l17 = w2c_i0;
-  w2c_L8:
+  w2c_L11:
     w2c_i0 = w2c_l14;
     w2c_l18 = w2c_i0;
     w2c_j0 = w2c_l6;
@@ -38168,15 +41936,15 @@ static u32 w2c_f62(module *m, u64 w2c_p0, u64 w2c_p1, u64 w2c_p2) {
     w2c_i0 = w2c_l19;
     w2c_i1 = 0u;
     w2c_i0 = (u32)((s32)w2c_i0 < (s32)w2c_i1);
-    if (w2c_i0) {goto w2c_B22;}
+    if (w2c_i0) {goto w2c_B25;}
     w2c_j0 = w2c_p0;
     w2c_j1 = 18446744073709551615ull;
     w2c_j0 += w2c_j1;
     w2c_p0 = w2c_j0;
     w2c_j0 = w2c_l12;
     w2c_l6 = w2c_j0;
-    goto w2c_B21;
-    w2c_B22:;
+    goto w2c_B24;
+    w2c_B25:;
     w2c_j0 = w2c_l12;
     w2c_i0 = (u32)(w2c_j0);
     w2c_i0 = i32_load8_u(m, (u64)(w2c_i0));
@@ -38186,7 +41954,7 @@ static u32 w2c_f62(module *m, u64 w2c_p0, u64 w2c_p1, u64 w2c_p2) {
     w2c_i0 = w2c_l19;
     w2c_i1 = 4294967263u;
     w2c_i0 = w2c_i0 > w2c_i1;
-    if (w2c_i0) {goto w2c_B24;}
+    if (w2c_i0) {goto w2c_B27;}
     w2c_i0 = w2c_l14;
     w2c_i1 = 6u;
     w2c_i0 <<= (w2c_i1 & 31);
@@ -38197,8 +41965,8 @@ static u32 w2c_f62(module *m, u64 w2c_p0, u64 w2c_p1, u64 w2c_p2) {
     w2c_l14 = w2c_i0;
     w2c_j0 = 2ull;
     w2c_l12 = w2c_j0;
-    goto w2c_B23;
-    w2c_B24:;
+    goto w2c_B26;
+    w2c_B27:;
     w2c_j0 = w2c_l6;
     w2c_i0 = (u32)(w2c_j0);
     w2c_i0 = i32_load8_u(m, (u64)(w2c_i0) + 2u);
@@ -38208,7 +41976,7 @@ static u32 w2c_f62(module *m, u64 w2c_p0, u64 w2c_p1, u64 w2c_p2) {
     w2c_i0 = w2c_l19;
     w2c_i1 = 4294967279u;
     w2c_i0 = w2c_i0 > w2c_i1;
-    if (w2c_i0) {goto w2c_B25;}
+    if (w2c_i0) {goto w2c_B28;}
     w2c_i0 = w2c_l20;
     w2c_i1 = 6u;
     w2c_i0 <<= (w2c_i1 & 31);
@@ -38223,8 +41991,8 @@ static u32 w2c_f62(module *m, u64 w2c_p0, u64 w2c_p1, u64 w2c_p2) {
     w2c_l14 = w2c_i0;
     w2c_j0 = 3ull;
     w2c_l12 = w2c_j0;
-    goto w2c_B23;
-    w2c_B25:;
+    goto w2c_B26;
+    w2c_B28:;
     w2c_i0 = w2c_l21;
     w2c_i1 = 6u;
     w2c_i0 <<= (w2c_i1 & 31);
@@ -38247,7 +42015,7 @@ static u32 w2c_f62(module *m, u64 w2c_p0, u64 w2c_p1, u64 w2c_p2) {
     w2c_l14 = w2c_i0;
     w2c_j0 = 4ull;
     w2c_l12 = w2c_j0;
-    w2c_B23:;
+    w2c_B26:;
     w2c_j0 = w2c_p0;
     w2c_j1 = w2c_l12;
     w2c_j0 -= w2c_j1;
@@ -38259,51 +42027,51 @@ static u32 w2c_f62(module *m, u64 w2c_p0, u64 w2c_p1, u64 w2c_p2) {
     w2c_i0 = w2c_l14;
     w2c_i1 = 127u;
     w2c_i0 = w2c_i0 > w2c_i1;
-    if (w2c_i0) {goto w2c_B20;}
-    w2c_B21:;
+    if (w2c_i0) {goto w2c_B23;}
+    w2c_B24:;
     w2c_i0 = w2c_l14;
     w2c_i1 = 4294967287u;
     w2c_i0 += w2c_i1;
     w2c_i1 = 5u;
     w2c_i0 = w2c_i0 < w2c_i1;
-    if (w2c_i0) {goto w2c_B18;}
+    if (w2c_i0) {goto w2c_B21;}
     w2c_i0 = w2c_l14;
     w2c_i1 = 32u;
     w2c_i0 = w2c_i0 != w2c_i1;
-    if (w2c_i0) {goto w2c_B19;}
-    goto w2c_B18;
-    w2c_B20:;
+    if (w2c_i0) {goto w2c_B22;}
+    goto w2c_B21;
+    w2c_B23:;
     w2c_i0 = w2c_l14;
     w2c_i1 = 4294959104u;
     w2c_i0 += w2c_i1;
     w2c_i1 = 11u;
     w2c_i0 = w2c_i0 < w2c_i1;
-    if (w2c_i0) {goto w2c_B18;}
+    if (w2c_i0) {goto w2c_B21;}
     w2c_i0 = w2c_l14;
     w2c_i1 = 8231u;
     w2c_i0 = (u32)((s32)w2c_i0 > (s32)w2c_i1);
-    if (w2c_i0) {goto w2c_B26;}
+    if (w2c_i0) {goto w2c_B29;}
     w2c_i0 = w2c_l14;
     w2c_i1 = 133u;
     w2c_i0 = w2c_i0 == w2c_i1;
-    if (w2c_i0) {goto w2c_B18;}
+    if (w2c_i0) {goto w2c_B21;}
     w2c_i0 = w2c_l14;
     w2c_i1 = 160u;
     w2c_i0 = w2c_i0 == w2c_i1;
-    if (w2c_i0) {goto w2c_B18;}
+    if (w2c_i0) {goto w2c_B21;}
     w2c_i0 = w2c_l14;
     w2c_i1 = 5760u;
     w2c_i0 = w2c_i0 != w2c_i1;
-    if (w2c_i0) {goto w2c_B19;}
-    goto w2c_B18;
-    w2c_B26:;
+    if (w2c_i0) {goto w2c_B22;}
+    goto w2c_B21;
+    w2c_B29:;
     w2c_i0 = w2c_l14;
     w2c_i1 = 4294959064u;
     w2c_i0 += w2c_i1;
     w2c_l19 = w2c_i0;
     w2c_i1 = 55u;
     w2c_i0 = w2c_i0 > w2c_i1;
-    if (w2c_i0) {goto w2c_B27;}
+    if (w2c_i0) {goto w2c_B30;}
     w2c_j0 = 1ull;
     w2c_i1 = w2c_l19;
     w2c_j1 = (u64)(w2c_i1);
@@ -38312,28 +42080,28 @@ static u32 w2c_f62(module *m, u64 w2c_p0, u64 w2c_p1, u64 w2c_p2) {
     w2c_j0 &= w2c_j1;
     w2c_j1 = 0ull;
     w2c_i0 = w2c_j0 != w2c_j1;
-    if (w2c_i0) {goto w2c_B18;}
-    w2c_B27:;
+    if (w2c_i0) {goto w2c_B21;}
+    w2c_B30:;
     w2c_i0 = w2c_l14;
     w2c_i1 = 12288u;
     w2c_i0 = w2c_i0 == w2c_i1;
-    if (w2c_i0) {goto w2c_B18;}
-    w2c_B19:;
+    if (w2c_i0) {goto w2c_B21;}
+    w2c_B22:;
     w2c_i0 = w2c_l17;
     w2c_j0 = (u64)(w2c_i0);
     w2c_j1 = 255ull;
     w2c_j0 &= w2c_j1;
     w2c_i0 = (u32)(w2c_j0);
     switch (w2c_i0) {
-      case 0: goto w2c_B17;
-      case 1: goto w2c_B16;
-      case 2: goto w2c_B15;
-      case 3: goto w2c_B11;
-      case 4: goto w2c_B13;
-      case 5: goto w2c_B10;
-      default: goto w2c_B17;
+      case 0: goto w2c_B20;
+      case 1: goto w2c_B19;
+      case 2: goto w2c_B18;
+      case 3: goto w2c_B14;
+      case 4: goto w2c_B16;
+      case 5: goto w2c_B13;
+      default: goto w2c_B20;
     }
-    w2c_B18:;
+    w2c_B21:;
     w2c_j0 = w2c_l3;
     w2c_i0 = (u32)(w2c_j0);
     w2c_j1 = w2c_l3;
@@ -38348,14 +42116,14 @@ static u32 w2c_f62(module *m, u64 w2c_p0, u64 w2c_p1, u64 w2c_p2) {
     i32_store(m, (u64)(w2c_i0), w2c_i1);
     w2c_i0 = w2c_l18;
     w2c_l14 = w2c_i0;
-    goto w2c_B9;
-    w2c_B17:;
+    goto w2c_B12;
+    w2c_B20:;
     w2c_i0 = 1u;
     w2c_l17 = w2c_i0;
     w2c_i0 = w2c_l14;
     w2c_i1 = 8855u;
     w2c_i0 = w2c_i0 == w2c_i1;
-    if (w2c_i0) {goto w2c_B12;}
+    if (w2c_i0) {goto w2c_B15;}
     w2c_i0 = 2u;
     w2c_i1 = 5u;
     w2c_i2 = w2c_l14;
@@ -38363,39 +42131,39 @@ static u32 w2c_f62(module *m, u64 w2c_p0, u64 w2c_p1, u64 w2c_p2) {
     w2c_i2 = w2c_i2 == w2c_i3;
     w2c_i0 = w2c_i2 ? w2c_i0 : w2c_i1;
     w2c_l17 = w2c_i0;
-    goto w2c_B10;
-    w2c_B16:;
+    goto w2c_B13;
+    w2c_B19:;
     w2c_i0 = w2c_l14;
     w2c_i1 = 20154u;
     w2c_i0 = w2c_i0 != w2c_i1;
-    if (w2c_i0) {goto w2c_B14;}
+    if (w2c_i0) {goto w2c_B17;}
     w2c_i0 = 2u;
     w2c_l17 = w2c_i0;
-    goto w2c_B10;
-    w2c_B15:;
+    goto w2c_B13;
+    w2c_B18:;
     w2c_i0 = w2c_l14;
     w2c_i1 = 27665u;
     w2c_i0 = w2c_i0 != w2c_i1;
-    if (w2c_i0) {goto w2c_B14;}
+    if (w2c_i0) {goto w2c_B17;}
     w2c_i0 = 3u;
     w2c_l17 = w2c_i0;
-    goto w2c_B10;
-    w2c_B14:;
+    goto w2c_B13;
+    w2c_B17:;
     w2c_i0 = 5u;
     w2c_l17 = w2c_i0;
-    goto w2c_B10;
-    w2c_B13:;
+    goto w2c_B13;
+    w2c_B16:;
     w2c_i0 = 5u;
     w2c_l17 = w2c_i0;
     w2c_i0 = w2c_l14;
     w2c_i1 = 65306u;
     w2c_i0 = w2c_i0 == w2c_i1;
-    if (w2c_i0) {goto w2c_B12;}
+    if (w2c_i0) {goto w2c_B15;}
     w2c_i0 = w2c_l14;
     w2c_i1 = 58u;
     w2c_i0 = w2c_i0 != w2c_i1;
-    if (w2c_i0) {goto w2c_B10;}
-    w2c_B12:;
+    if (w2c_i0) {goto w2c_B13;}
+    w2c_B15:;
     w2c_j0 = w2c_l3;
     w2c_i0 = (u32)(w2c_j0);
     w2c_i1 = 0u;
@@ -38406,8 +42174,8 @@ static u32 w2c_f62(module *m, u64 w2c_p0, u64 w2c_p1, u64 w2c_p2) {
     i32_store(m, (u64)(w2c_i0), w2c_i1);
     w2c_i0 = w2c_l18;
     w2c_l14 = w2c_i0;
-    goto w2c_B9;
-    w2c_B11:;
+    goto w2c_B12;
+    w2c_B14:;
     w2c_i0 = 4u;
     w2c_i1 = 4u;
     w2c_i2 = 5u;
@@ -38420,7 +42188,7 @@ static u32 w2c_f62(module *m, u64 w2c_p0, u64 w2c_p1, u64 w2c_p2) {
     w2c_i2 = w2c_i2 == w2c_i3;
     w2c_i0 = w2c_i2 ? w2c_i0 : w2c_i1;
     w2c_l17 = w2c_i0;
-    w2c_B10:;
+    w2c_B13:;
     w2c_i0 = w2c_l14;
     w2c_i1 = 3227u;
     w2c_i0 *= w2c_i1;
@@ -38434,7 +42202,7 @@ static u32 w2c_f62(module *m, u64 w2c_p0, u64 w2c_p1, u64 w2c_p2) {
     w2c_i0 = i32_load(m, (u64)(w2c_i0) + 66332u);
     w2c_i1 = w2c_l14;
     w2c_i0 = w2c_i0 != w2c_i1;
-    if (w2c_i0) {goto w2c_B35;}
+    if (w2c_i0) {goto w2c_B38;}
     w2c_j0 = w2c_l12;
     w2c_j1 = 66336ull;
     w2c_j0 += w2c_j1;
@@ -38444,7 +42212,7 @@ static u32 w2c_f62(module *m, u64 w2c_p0, u64 w2c_p1, u64 w2c_p2) {
     w2c_i0 &= w2c_i1;
     w2c_i1 = 1u;
     w2c_i0 = w2c_i0 != w2c_i1;
-    if (w2c_i0) {goto w2c_B35;}
+    if (w2c_i0) {goto w2c_B38;}
     w2c_j0 = w2c_l12;
     w2c_j1 = 66338ull;
     w2c_j0 += w2c_j1;
@@ -38464,83 +42232,83 @@ static u32 w2c_f62(module *m, u64 w2c_p0, u64 w2c_p1, u64 w2c_p2) {
     w2c_i0 = (u32)(w2c_j0);
     w2c_l14 = w2c_i0;
     switch (w2c_i0) {
-      case 0: goto w2c_B51;
-      case 1: goto w2c_B51;
-      case 2: goto w2c_B51;
-      case 3: goto w2c_B51;
-      case 4: goto w2c_B51;
-      case 5: goto w2c_B59;
-      case 6: goto w2c_B58;
-      case 7: goto w2c_B57;
-      case 8: goto w2c_B56;
-      case 9: goto w2c_B55;
-      case 10: goto w2c_B54;
-      case 11: goto w2c_B53;
-      case 12: goto w2c_B52;
-      case 13: goto w2c_B51;
-      case 14: goto w2c_B51;
-      case 15: goto w2c_B51;
-      case 16: goto w2c_B51;
-      case 17: goto w2c_B51;
-      case 18: goto w2c_B51;
-      case 19: goto w2c_B51;
-      default: goto w2c_B51;
+      case 0: goto w2c_B54;
+      case 1: goto w2c_B54;
+      case 2: goto w2c_B54;
+      case 3: goto w2c_B54;
+      case 4: goto w2c_B54;
+      case 5: goto w2c_B62;
+      case 6: goto w2c_B61;
+      case 7: goto w2c_B60;
+      case 8: goto w2c_B59;
+      case 9: goto w2c_B58;
+      case 10: goto w2c_B57;
+      case 11: goto w2c_B56;
+      case 12: goto w2c_B55;
+      case 13: goto w2c_B54;
+      case 14: goto w2c_B54;
+      case 15: goto w2c_B54;
+      case 16: goto w2c_B54;
+      case 17: goto w2c_B54;
+      case 18: goto w2c_B54;
+      case 19: goto w2c_B54;
+      default: goto w2c_B54;
     }
-    w2c_B59:;
+    w2c_B62:;
     w2c_i0 = 1u;
     w2c_i1 = w2c_l19;
     w2c_i0 <<= (w2c_i1 & 31);
     w2c_i1 = 31999u;
     w2c_i0 &= w2c_i1;
-    if (w2c_i0) {goto w2c_B60;}
+    if (w2c_i0) {goto w2c_B63;}
     w2c_i0 = w2c_l19;
     w2c_i1 = 8u;
     w2c_i0 = w2c_i0 == w2c_i1;
-    if (w2c_i0) {goto w2c_B40;}
-    goto w2c_B38;
-    w2c_B60:;
+    if (w2c_i0) {goto w2c_B43;}
+    goto w2c_B41;
+    w2c_B63:;
     w2c_i0 = w2c_l19;
     w2c_i1 = 4294967291u;
     w2c_i0 += w2c_i1;
     w2c_i1 = 10u;
     w2c_i0 = w2c_i0 < w2c_i1;
-    if (w2c_i0) {goto w2c_B61;}
+    if (w2c_i0) {goto w2c_B64;}
     w2c_i0 = 0u;
     w2c_l14 = w2c_i0;
     w2c_i0 = w2c_l19;
     switch (w2c_i0) {
-      case 0: goto w2c_B61;
-      case 1: goto w2c_B61;
-      case 2: goto w2c_B46;
-      case 3: goto w2c_B44;
-      case 4: goto w2c_B34;
-      default: goto w2c_B61;
+      case 0: goto w2c_B64;
+      case 1: goto w2c_B64;
+      case 2: goto w2c_B49;
+      case 3: goto w2c_B47;
+      case 4: goto w2c_B37;
+      default: goto w2c_B64;
     }
-    w2c_B61:;
+    w2c_B64:;
     w2c_i0 = 0u;
     w2c_l14 = w2c_i0;
     w2c_i0 = 6u;
     w2c_l16 = w2c_i0;
     w2c_i0 = w2c_l19;
     switch (w2c_i0) {
-      case 0: goto w2c_B35;
-      case 1: goto w2c_B35;
-      case 2: goto w2c_B35;
-      case 3: goto w2c_B35;
-      case 4: goto w2c_B35;
-      case 5: goto w2c_B29;
-      case 6: goto w2c_B42;
-      case 7: goto w2c_B33;
-      case 8: goto w2c_B35;
-      case 9: goto w2c_B35;
-      case 10: goto w2c_B35;
-      case 11: goto w2c_B35;
-      case 12: goto w2c_B35;
-      case 13: goto w2c_B35;
-      case 14: goto w2c_B35;
-      default: goto w2c_B35;
+      case 0: goto w2c_B38;
+      case 1: goto w2c_B38;
+      case 2: goto w2c_B38;
+      case 3: goto w2c_B38;
+      case 4: goto w2c_B38;
+      case 5: goto w2c_B32;
+      case 6: goto w2c_B45;
+      case 7: goto w2c_B36;
+      case 8: goto w2c_B38;
+      case 9: goto w2c_B38;
+      case 10: goto w2c_B38;
+      case 11: goto w2c_B38;
+      case 12: goto w2c_B38;
+      case 13: goto w2c_B38;
+      case 14: goto w2c_B38;
+      default: goto w2c_B38;
     }
-    w2c_B58:;
+    w2c_B61:;
     w2c_i0 = 3u;
     w2c_l21 = w2c_i0;
     w2c_i0 = 10u;
@@ -38549,24 +42317,24 @@ static u32 w2c_f62(module *m, u64 w2c_p0, u64 w2c_p1, u64 w2c_p2) {
     w2c_l22 = w2c_i0;
     w2c_i0 = w2c_l19;
     switch (w2c_i0) {
-      case 0: goto w2c_B63;
-      case 1: goto w2c_B50;
-      case 2: goto w2c_B62;
-      case 3: goto w2c_B62;
-      case 4: goto w2c_B62;
-      case 5: goto w2c_B35;
-      case 6: goto w2c_B62;
-      case 7: goto w2c_B62;
-      case 8: goto w2c_B62;
-      case 9: goto w2c_B62;
-      case 10: goto w2c_B62;
-      case 11: goto w2c_B62;
-      case 12: goto w2c_B62;
-      case 13: goto w2c_B62;
-      case 14: goto w2c_B62;
-      default: goto w2c_B63;
+      case 0: goto w2c_B66;
+      case 1: goto w2c_B53;
+      case 2: goto w2c_B65;
+      case 3: goto w2c_B65;
+      case 4: goto w2c_B65;
+      case 5: goto w2c_B38;
+      case 6: goto w2c_B65;
+      case 7: goto w2c_B65;
+      case 8: goto w2c_B65;
+      case 9: goto w2c_B65;
+      case 10: goto w2c_B65;
+      case 11: goto w2c_B65;
+      case 12: goto w2c_B65;
+      case 13: goto w2c_B65;
+      case 14: goto w2c_B65;
+      default: goto w2c_B66;
     }
-    w2c_B63:;
+    w2c_B66:;
     w2c_i0 = w2c_l18;
     w2c_i1 = 2u;
     w2c_i0 |= w2c_i1;
@@ -38575,20 +42343,20 @@ static u32 w2c_f62(module *m, u64 w2c_p0, u64 w2c_p1, u64 w2c_p2) {
     w2c_l14 = w2c_i0;
     w2c_i0 = 9u;
     w2c_l16 = w2c_i0;
-    goto w2c_B28;
-    w2c_B62:;
+    goto w2c_B31;
+    w2c_B65:;
     w2c_i0 = 1u;
     w2c_l14 = w2c_i0;
     w2c_i0 = w2c_l19;
     w2c_i1 = 6u;
     w2c_i0 = w2c_i0 == w2c_i1;
-    if (w2c_i0) {goto w2c_B42;}
+    if (w2c_i0) {goto w2c_B45;}
     w2c_i0 = w2c_l19;
     w2c_i1 = 7u;
     w2c_i0 = w2c_i0 == w2c_i1;
-    if (w2c_i0) {goto w2c_B33;}
-    goto w2c_B35;
-    w2c_B57:;
+    if (w2c_i0) {goto w2c_B36;}
+    goto w2c_B38;
+    w2c_B60:;
     w2c_i0 = 3u;
     w2c_l21 = w2c_i0;
     w2c_i0 = 4u;
@@ -38597,24 +42365,24 @@ static u32 w2c_f62(module *m, u64 w2c_p0, u64 w2c_p1, u64 w2c_p2) {
     w2c_l20 = w2c_i0;
     w2c_i0 = w2c_l19;
     switch (w2c_i0) {
-      case 0: goto w2c_B65;
-      case 1: goto w2c_B50;
-      case 2: goto w2c_B64;
-      case 3: goto w2c_B64;
-      case 4: goto w2c_B64;
-      case 5: goto w2c_B35;
-      case 6: goto w2c_B64;
-      case 7: goto w2c_B64;
-      case 8: goto w2c_B64;
-      case 9: goto w2c_B64;
-      case 10: goto w2c_B64;
-      case 11: goto w2c_B64;
-      case 12: goto w2c_B64;
-      case 13: goto w2c_B64;
-      case 14: goto w2c_B64;
-      default: goto w2c_B65;
+      case 0: goto w2c_B68;
+      case 1: goto w2c_B53;
+      case 2: goto w2c_B67;
+      case 3: goto w2c_B67;
+      case 4: goto w2c_B67;
+      case 5: goto w2c_B38;
+      case 6: goto w2c_B67;
+      case 7: goto w2c_B67;
+      case 8: goto w2c_B67;
+      case 9: goto w2c_B67;
+      case 10: goto w2c_B67;
+      case 11: goto w2c_B67;
+      case 12: goto w2c_B67;
+      case 13: goto w2c_B67;
+      case 14: goto w2c_B67;
+      default: goto w2c_B68;
     }
-    w2c_B65:;
+    w2c_B68:;
     w2c_i0 = 3u;
     w2c_l15 = w2c_i0;
     w2c_i0 = w2c_l18;
@@ -38623,8 +42391,8 @@ static u32 w2c_f62(module *m, u64 w2c_p0, u64 w2c_p1, u64 w2c_p2) {
     w2c_l14 = w2c_i0;
     w2c_i0 = 9u;
     w2c_l16 = w2c_i0;
-    goto w2c_B28;
-    w2c_B64:;
+    goto w2c_B31;
+    w2c_B67:;
     w2c_i0 = 1u;
     w2c_l14 = w2c_i0;
     w2c_i0 = 8u;
@@ -38632,13 +42400,13 @@ static u32 w2c_f62(module *m, u64 w2c_p0, u64 w2c_p1, u64 w2c_p2) {
     w2c_i0 = w2c_l19;
     w2c_i1 = 5u;
     w2c_i0 = w2c_i0 == w2c_i1;
-    if (w2c_i0) {goto w2c_B29;}
+    if (w2c_i0) {goto w2c_B32;}
     w2c_i0 = w2c_l19;
     w2c_i1 = 7u;
     w2c_i0 = w2c_i0 == w2c_i1;
-    if (w2c_i0) {goto w2c_B33;}
-    goto w2c_B35;
-    w2c_B56:;
+    if (w2c_i0) {goto w2c_B36;}
+    goto w2c_B38;
+    w2c_B59:;
     w2c_i0 = 1u;
     w2c_l14 = w2c_i0;
     w2c_i0 = 3u;
@@ -38649,24 +42417,24 @@ static u32 w2c_f62(module *m, u64 w2c_p0, u64 w2c_p1, u64 w2c_p2) {
     w2c_l20 = w2c_i0;
     w2c_i0 = w2c_l19;
     switch (w2c_i0) {
-      case 0: goto w2c_B66;
-      case 1: goto w2c_B50;
-      case 2: goto w2c_B35;
-      case 3: goto w2c_B35;
-      case 4: goto w2c_B35;
-      case 5: goto w2c_B35;
-      case 6: goto w2c_B35;
-      case 7: goto w2c_B33;
-      case 8: goto w2c_B35;
-      case 9: goto w2c_B35;
-      case 10: goto w2c_B35;
-      case 11: goto w2c_B35;
-      case 12: goto w2c_B35;
-      case 13: goto w2c_B35;
-      case 14: goto w2c_B35;
-      default: goto w2c_B66;
+      case 0: goto w2c_B69;
+      case 1: goto w2c_B53;
+      case 2: goto w2c_B38;
+      case 3: goto w2c_B38;
+      case 4: goto w2c_B38;
+      case 5: goto w2c_B38;
+      case 6: goto w2c_B38;
+      case 7: goto w2c_B36;
+      case 8: goto w2c_B38;
+      case 9: goto w2c_B38;
+      case 10: goto w2c_B38;
+      case 11: goto w2c_B38;
+      case 12: goto w2c_B38;
+      case 13: goto w2c_B38;
+      case 14: goto w2c_B38;
+      default: goto w2c_B69;
     }
-    w2c_B66:;
+    w2c_B69:;
     w2c_i0 = w2c_l18;
     w2c_i1 = 2u;
     w2c_i0 |= w2c_i1;
@@ -38675,72 +42443,72 @@ static u32 w2c_f62(module *m, u64 w2c_p0, u64 w2c_p1, u64 w2c_p2) {
     w2c_l14 = w2c_i0;
     w2c_i0 = 9u;
     w2c_l16 = w2c_i0;
-    goto w2c_B28;
-    w2c_B55:;
+    goto w2c_B31;
+    w2c_B58:;
     w2c_i0 = w2c_l19;
     w2c_i1 = 1u;
     w2c_i0 = w2c_i0 != w2c_i1;
-    if (w2c_i0) {goto w2c_B35;}
+    if (w2c_i0) {goto w2c_B38;}
     w2c_i0 = 11u;
     w2c_l20 = w2c_i0;
     w2c_i0 = w2c_l18;
     w2c_l22 = w2c_i0;
     w2c_i0 = w2c_l15;
     w2c_l21 = w2c_i0;
-    goto w2c_B50;
-    w2c_B54:;
+    goto w2c_B53;
+    w2c_B57:;
     w2c_i0 = w2c_l15;
     w2c_j0 = (u64)(w2c_i0);
     w2c_j1 = 255ull;
     w2c_j0 &= w2c_j1;
     w2c_i0 = (u32)(w2c_j0);
     switch (w2c_i0) {
-      case 0: goto w2c_B67;
-      case 1: goto w2c_B47;
-      case 2: goto w2c_B45;
-      case 3: goto w2c_B36;
-      default: goto w2c_B67;
+      case 0: goto w2c_B70;
+      case 1: goto w2c_B50;
+      case 2: goto w2c_B48;
+      case 3: goto w2c_B39;
+      default: goto w2c_B70;
     }
-    w2c_B67:;
+    w2c_B70:;
     w2c_i0 = w2c_l18;
     w2c_j0 = (u64)(w2c_i0);
     w2c_j1 = 255ull;
     w2c_j0 &= w2c_j1;
     w2c_i0 = (u32)(w2c_j0);
     switch (w2c_i0) {
-      case 0: goto w2c_B72;
-      case 1: goto w2c_B69;
-      case 2: goto w2c_B71;
-      case 3: goto w2c_B71;
-      case 4: goto w2c_B70;
-      case 5: goto w2c_B68;
-      default: goto w2c_B72;
+      case 0: goto w2c_B75;
+      case 1: goto w2c_B72;
+      case 2: goto w2c_B74;
+      case 3: goto w2c_B74;
+      case 4: goto w2c_B73;
+      case 5: goto w2c_B71;
+      default: goto w2c_B75;
     }
-    w2c_B72:;
+    w2c_B75:;
     w2c_i0 = 0u;
     w2c_l14 = w2c_i0;
     w2c_i0 = 6u;
     w2c_l16 = w2c_i0;
     w2c_i0 = w2c_l19;
     switch (w2c_i0) {
-      case 0: goto w2c_B35;
-      case 1: goto w2c_B35;
-      case 2: goto w2c_B35;
-      case 3: goto w2c_B35;
-      case 4: goto w2c_B35;
-      case 5: goto w2c_B29;
-      case 6: goto w2c_B42;
-      case 7: goto w2c_B33;
-      case 8: goto w2c_B35;
-      case 9: goto w2c_B35;
-      case 10: goto w2c_B35;
-      case 11: goto w2c_B35;
-      case 12: goto w2c_B35;
-      case 13: goto w2c_B35;
-      case 14: goto w2c_B35;
-      default: goto w2c_B35;
+      case 0: goto w2c_B38;
+      case 1: goto w2c_B38;
+      case 2: goto w2c_B38;
+      case 3: goto w2c_B38;
+      case 4: goto w2c_B38;
+      case 5: goto w2c_B32;
+      case 6: goto w2c_B45;
+      case 7: goto w2c_B36;
+      case 8: goto w2c_B38;
+      case 9: goto w2c_B38;
+      case 10: goto w2c_B38;
+      case 11: goto w2c_B38;
+      case 12: goto w2c_B38;
+      case 13: goto w2c_B38;
+      case 14: goto w2c_B38;
+      default: goto w2c_B38;
     }
-    w2c_B71:;
+    w2c_B74:;
     w2c_i0 = 0u;
     w2c_l14 = w2c_i0;
     w2c_i0 = 8u;
@@ -38748,109 +42516,109 @@ static u32 w2c_f62(module *m, u64 w2c_p0, u64 w2c_p1, u64 w2c_p2) {
     w2c_i0 = w2c_l19;
     w2c_i1 = 5u;
     w2c_i0 = w2c_i0 == w2c_i1;
-    if (w2c_i0) {goto w2c_B29;}
+    if (w2c_i0) {goto w2c_B32;}
     w2c_i0 = w2c_l19;
     w2c_i1 = 7u;
     w2c_i0 = w2c_i0 == w2c_i1;
-    if (w2c_i0) {goto w2c_B33;}
-    goto w2c_B35;
-    w2c_B70:;
+    if (w2c_i0) {goto w2c_B36;}
+    goto w2c_B38;
+    w2c_B73:;
     w2c_i0 = w2c_l19;
     w2c_i1 = 5u;
     w2c_i0 = w2c_i0 != w2c_i1;
-    if (w2c_i0) {goto w2c_B35;}
-    goto w2c_B31;
-    w2c_B69:;
+    if (w2c_i0) {goto w2c_B38;}
+    goto w2c_B34;
+    w2c_B72:;
     w2c_i0 = 0u;
     w2c_l14 = w2c_i0;
     w2c_i0 = w2c_l19;
     w2c_i1 = 6u;
     w2c_i0 = w2c_i0 == w2c_i1;
-    if (w2c_i0) {goto w2c_B42;}
+    if (w2c_i0) {goto w2c_B45;}
     w2c_i0 = w2c_l19;
     w2c_i1 = 7u;
     w2c_i0 = w2c_i0 == w2c_i1;
-    if (w2c_i0) {goto w2c_B33;}
-    goto w2c_B35;
-    w2c_B68:;
+    if (w2c_i0) {goto w2c_B36;}
+    goto w2c_B38;
+    w2c_B71:;
     w2c_i0 = w2c_l19;
     w2c_i1 = 7u;
     w2c_i0 = w2c_i0 != w2c_i1;
-    if (w2c_i0) {goto w2c_B35;}
+    if (w2c_i0) {goto w2c_B38;}
     w2c_i0 = 0u;
     w2c_l14 = w2c_i0;
-    goto w2c_B33;
-    w2c_B53:;
+    goto w2c_B36;
+    w2c_B56:;
     w2c_i0 = w2c_l15;
     w2c_j0 = (u64)(w2c_i0);
     w2c_j1 = 255ull;
     w2c_j0 &= w2c_j1;
     w2c_i0 = (u32)(w2c_j0);
     switch (w2c_i0) {
-      case 0: goto w2c_B73;
-      case 1: goto w2c_B74;
-      case 2: goto w2c_B75;
-      case 3: goto w2c_B76;
-      default: goto w2c_B73;
+      case 0: goto w2c_B76;
+      case 1: goto w2c_B77;
+      case 2: goto w2c_B78;
+      case 3: goto w2c_B79;
+      default: goto w2c_B76;
     }
-    w2c_B76:;
+    w2c_B79:;
     w2c_i0 = w2c_l19;
     w2c_i1 = 4294967291u;
     w2c_i0 += w2c_i1;
     w2c_i1 = 10u;
     w2c_i0 = w2c_i0 < w2c_i1;
-    if (w2c_i0) {goto w2c_B77;}
+    if (w2c_i0) {goto w2c_B80;}
     w2c_i0 = w2c_l18;
     w2c_l14 = w2c_i0;
     w2c_i0 = w2c_l19;
     switch (w2c_i0) {
-      case 0: goto w2c_B77;
-      case 1: goto w2c_B77;
-      case 2: goto w2c_B46;
-      case 3: goto w2c_B44;
-      case 4: goto w2c_B43;
-      default: goto w2c_B77;
+      case 0: goto w2c_B80;
+      case 1: goto w2c_B80;
+      case 2: goto w2c_B49;
+      case 3: goto w2c_B47;
+      case 4: goto w2c_B46;
+      default: goto w2c_B80;
     }
-    w2c_B77:;
+    w2c_B80:;
     w2c_i0 = w2c_l18;
     w2c_j0 = (u64)(w2c_i0);
     w2c_j1 = 255ull;
     w2c_j0 &= w2c_j1;
     w2c_i0 = (u32)(w2c_j0);
     switch (w2c_i0) {
-      case 0: goto w2c_B82;
-      case 1: goto w2c_B79;
-      case 2: goto w2c_B81;
-      case 3: goto w2c_B81;
-      case 4: goto w2c_B80;
-      case 5: goto w2c_B78;
-      default: goto w2c_B82;
+      case 0: goto w2c_B85;
+      case 1: goto w2c_B82;
+      case 2: goto w2c_B84;
+      case 3: goto w2c_B84;
+      case 4: goto w2c_B83;
+      case 5: goto w2c_B81;
+      default: goto w2c_B85;
     }
-    w2c_B82:;
+    w2c_B85:;
     w2c_i0 = 0u;
     w2c_l14 = w2c_i0;
     w2c_i0 = 6u;
     w2c_l16 = w2c_i0;
     w2c_i0 = w2c_l19;
     switch (w2c_i0) {
-      case 0: goto w2c_B35;
-      case 1: goto w2c_B35;
-      case 2: goto w2c_B35;
-      case 3: goto w2c_B35;
-      case 4: goto w2c_B35;
-      case 5: goto w2c_B29;
-      case 6: goto w2c_B42;
-      case 7: goto w2c_B33;
-      case 8: goto w2c_B35;
-      case 9: goto w2c_B35;
-      case 10: goto w2c_B35;
-      case 11: goto w2c_B35;
-      case 12: goto w2c_B35;
-      case 13: goto w2c_B35;
-      case 14: goto w2c_B35;
-      default: goto w2c_B35;
+      case 0: goto w2c_B38;
+      case 1: goto w2c_B38;
+      case 2: goto w2c_B38;
+      case 3: goto w2c_B38;
+      case 4: goto w2c_B38;
+      case 5: goto w2c_B32;
+      case 6: goto w2c_B45;
+      case 7: goto w2c_B36;
+      case 8: goto w2c_B38;
+      case 9: goto w2c_B38;
+      case 10: goto w2c_B38;
+      case 11: goto w2c_B38;
+      case 12: goto w2c_B38;
+      case 13: goto w2c_B38;
+      case 14: goto w2c_B38;
+      default: goto w2c_B38;
     }
-    w2c_B81:;
+    w2c_B84:;
     w2c_i0 = 0u;
     w2c_l14 = w2c_i0;
     w2c_i0 = 8u;
@@ -38858,261 +42626,95 @@ static u32 w2c_f62(module *m, u64 w2c_p0, u64 w2c_p1, u64 w2c_p2) {
     w2c_i0 = w2c_l19;
     w2c_i1 = 5u;
     w2c_i0 = w2c_i0 == w2c_i1;
-    if (w2c_i0) {goto w2c_B29;}
+    if (w2c_i0) {goto w2c_B32;}
     w2c_i0 = w2c_l19;
     w2c_i1 = 7u;
     w2c_i0 = w2c_i0 == w2c_i1;
-    if (w2c_i0) {goto w2c_B33;}
-    goto w2c_B35;
-    w2c_B80:;
+    if (w2c_i0) {goto w2c_B36;}
+    goto w2c_B38;
+    w2c_B83:;
     w2c_i0 = w2c_l19;
     w2c_i1 = 5u;
     w2c_i0 = w2c_i0 == w2c_i1;
-    if (w2c_i0) {goto w2c_B31;}
-    goto w2c_B35;
-    w2c_B79:;
+    if (w2c_i0) {goto w2c_B34;}
+    goto w2c_B38;
+    w2c_B82:;
     w2c_i0 = 0u;
     w2c_l14 = w2c_i0;
     w2c_i0 = w2c_l19;
     w2c_i1 = 6u;
     w2c_i0 = w2c_i0 == w2c_i1;
-    if (w2c_i0) {goto w2c_B42;}
+    if (w2c_i0) {goto w2c_B45;}
     w2c_i0 = w2c_l19;
     w2c_i1 = 7u;
     w2c_i0 = w2c_i0 == w2c_i1;
-    if (w2c_i0) {goto w2c_B33;}
-    goto w2c_B35;
-    w2c_B78:;
+    if (w2c_i0) {goto w2c_B36;}
+    goto w2c_B38;
+    w2c_B81:;
     w2c_i0 = w2c_l19;
     w2c_i1 = 7u;
     w2c_i0 = w2c_i0 != w2c_i1;
-    if (w2c_i0) {goto w2c_B35;}
+    if (w2c_i0) {goto w2c_B38;}
     w2c_i0 = 0u;
     w2c_l14 = w2c_i0;
-    goto w2c_B33;
-    w2c_B75:;
+    goto w2c_B36;
+    w2c_B78:;
     w2c_i0 = w2c_l19;
     w2c_i1 = 4294967292u;
     w2c_i0 += w2c_i1;
     w2c_i1 = 11u;
     w2c_i0 = w2c_i0 < w2c_i1;
-    if (w2c_i0) {goto w2c_B83;}
+    if (w2c_i0) {goto w2c_B86;}
     w2c_i0 = w2c_l18;
     w2c_l14 = w2c_i0;
     w2c_i0 = w2c_l19;
     switch (w2c_i0) {
-      case 0: goto w2c_B83;
-      case 1: goto w2c_B83;
-      case 2: goto w2c_B46;
-      case 3: goto w2c_B44;
-      default: goto w2c_B83;
+      case 0: goto w2c_B86;
+      case 1: goto w2c_B86;
+      case 2: goto w2c_B49;
+      case 3: goto w2c_B47;
+      default: goto w2c_B86;
     }
-    w2c_B83:;
-    w2c_i0 = w2c_l18;
-    w2c_j0 = (u64)(w2c_i0);
-    w2c_j1 = 255ull;
-    w2c_j0 &= w2c_j1;
-    w2c_i0 = (u32)(w2c_j0);
-    switch (w2c_i0) {
-      case 0: goto w2c_B88;
-      case 1: goto w2c_B85;
-      case 2: goto w2c_B87;
-      case 3: goto w2c_B87;
-      case 4: goto w2c_B86;
-      case 5: goto w2c_B84;
-      default: goto w2c_B88;
-    }
-    w2c_B88:;
-    w2c_i0 = 0u;
-    w2c_l14 = w2c_i0;
-    w2c_i0 = 6u;
-    w2c_l16 = w2c_i0;
-    w2c_i0 = w2c_l19;
-    switch (w2c_i0) {
-      case 0: goto w2c_B35;
-      case 1: goto w2c_B35;
-      case 2: goto w2c_B35;
-      case 3: goto w2c_B35;
-      case 4: goto w2c_B35;
-      case 5: goto w2c_B29;
-      case 6: goto w2c_B42;
-      case 7: goto w2c_B33;
-      case 8: goto w2c_B35;
-      case 9: goto w2c_B35;
-      case 10: goto w2c_B35;
-      case 11: goto w2c_B35;
-      case 12: goto w2c_B35;
-      case 13: goto w2c_B35;
-      case 14: goto w2c_B35;
-      default: goto w2c_B35;
-    }
-    w2c_B87:;
-    w2c_i0 = 0u;
-    w2c_l14 = w2c_i0;
-    w2c_i0 = 8u;
-    w2c_l16 = w2c_i0;
-    w2c_i0 = w2c_l19;
-    w2c_i1 = 5u;
-    w2c_i0 = w2c_i0 == w2c_i1;
-    if (w2c_i0) {goto w2c_B29;}
-    w2c_i0 = w2c_l19;
-    w2c_i1 = 7u;
-    w2c_i0 = w2c_i0 == w2c_i1;
-    if (w2c_i0) {goto w2c_B33;}
-    goto w2c_B35;
     w2c_B86:;
-    w2c_i0 = w2c_l19;
-    w2c_i1 = 5u;
-    w2c_i0 = w2c_i0 == w2c_i1;
-    if (w2c_i0) {goto w2c_B31;}
-    goto w2c_B35;
-    w2c_B85:;
-    w2c_i0 = 0u;
-    w2c_l14 = w2c_i0;
-    w2c_i0 = w2c_l19;
-    w2c_i1 = 6u;
-    w2c_i0 = w2c_i0 == w2c_i1;
-    if (w2c_i0) {goto w2c_B42;}
-    w2c_i0 = w2c_l19;
-    w2c_i1 = 7u;
-    w2c_i0 = w2c_i0 == w2c_i1;
-    if (w2c_i0) {goto w2c_B33;}
-    goto w2c_B35;
-    w2c_B84:;
-    w2c_i0 = w2c_l19;
-    w2c_i1 = 7u;
-    w2c_i0 = w2c_i0 != w2c_i1;
-    if (w2c_i0) {goto w2c_B35;}
-    w2c_i0 = 0u;
-    w2c_l14 = w2c_i0;
-    goto w2c_B33;
-    w2c_B74:;
-    w2c_i0 = w2c_l19;
-    w2c_i1 = 2u;
-    w2c_i0 = w2c_i0 != w2c_i1;
-    if (w2c_i0) {goto w2c_B89;}
-    w2c_i0 = w2c_l18;
-    w2c_l14 = w2c_i0;
-    goto w2c_B46;
-    w2c_B89:;
     w2c_i0 = w2c_l18;
     w2c_j0 = (u64)(w2c_i0);
     w2c_j1 = 255ull;
     w2c_j0 &= w2c_j1;
     w2c_i0 = (u32)(w2c_j0);
     switch (w2c_i0) {
-      case 0: goto w2c_B94;
-      case 1: goto w2c_B91;
-      case 2: goto w2c_B93;
-      case 3: goto w2c_B93;
-      case 4: goto w2c_B92;
-      case 5: goto w2c_B90;
-      default: goto w2c_B94;
+      case 0: goto w2c_B91;
+      case 1: goto w2c_B88;
+      case 2: goto w2c_B90;
+      case 3: goto w2c_B90;
+      case 4: goto w2c_B89;
+      case 5: goto w2c_B87;
+      default: goto w2c_B91;
     }
-    w2c_B94:;
-    w2c_i0 = 0u;
-    w2c_l14 = w2c_i0;
-    w2c_i0 = 6u;
-    w2c_l16 = w2c_i0;
-    w2c_i0 = w2c_l19;
-    switch (w2c_i0) {
-      case 0: goto w2c_B35;
-      case 1: goto w2c_B35;
-      case 2: goto w2c_B0;
-      case 3: goto w2c_B35;
-      case 4: goto w2c_B35;
-      case 5: goto w2c_B29;
-      case 6: goto w2c_B42;
-      case 7: goto w2c_B33;
-      case 8: goto w2c_B35;
-      case 9: goto w2c_B35;
-      case 10: goto w2c_B35;
-      case 11: goto w2c_B35;
-      case 12: goto w2c_B35;
-      case 13: goto w2c_B35;
-      case 14: goto w2c_B35;
-      default: goto w2c_B35;
-    }
-    w2c_B93:;
-    w2c_i0 = 0u;
-    w2c_l14 = w2c_i0;
-    w2c_i0 = 8u;
-    w2c_l16 = w2c_i0;
-    w2c_i0 = w2c_l19;
-    w2c_i1 = 5u;
-    w2c_i0 = w2c_i0 == w2c_i1;
-    if (w2c_i0) {goto w2c_B29;}
-    w2c_i0 = w2c_l19;
-    w2c_i1 = 7u;
-    w2c_i0 = w2c_i0 == w2c_i1;
-    if (w2c_i0) {goto w2c_B33;}
-    goto w2c_B35;
-    w2c_B92:;
-    w2c_i0 = w2c_l19;
-    w2c_i1 = 5u;
-    w2c_i0 = w2c_i0 == w2c_i1;
-    if (w2c_i0) {goto w2c_B31;}
-    goto w2c_B35;
     w2c_B91:;
     w2c_i0 = 0u;
     w2c_l14 = w2c_i0;
-    w2c_i0 = w2c_l19;
-    w2c_i1 = 6u;
-    w2c_i0 = w2c_i0 == w2c_i1;
-    if (w2c_i0) {goto w2c_B42;}
-    w2c_i0 = w2c_l19;
-    w2c_i1 = 7u;
-    w2c_i0 = w2c_i0 == w2c_i1;
-    if (w2c_i0) {goto w2c_B33;}
-    goto w2c_B35;
-    w2c_B90:;
-    w2c_i0 = w2c_l19;
-    w2c_i1 = 7u;
-    w2c_i0 = w2c_i0 != w2c_i1;
-    if (w2c_i0) {goto w2c_B35;}
-    w2c_i0 = 0u;
-    w2c_l14 = w2c_i0;
-    goto w2c_B33;
-    w2c_B73:;
-    w2c_i0 = w2c_l18;
-    w2c_j0 = (u64)(w2c_i0);
-    w2c_j1 = 255ull;
-    w2c_j0 &= w2c_j1;
-    w2c_i0 = (u32)(w2c_j0);
-    switch (w2c_i0) {
-      case 0: goto w2c_B99;
-      case 1: goto w2c_B96;
-      case 2: goto w2c_B98;
-      case 3: goto w2c_B98;
-      case 4: goto w2c_B97;
-      case 5: goto w2c_B95;
-      default: goto w2c_B99;
-    }
-    w2c_B99:;
-    w2c_i0 = 0u;
-    w2c_l14 = w2c_i0;
     w2c_i0 = 6u;
     w2c_l16 = w2c_i0;
     w2c_i0 = w2c_l19;
     switch (w2c_i0) {
-      case 0: goto w2c_B35;
-      case 1: goto w2c_B35;
-      case 2: goto w2c_B35;
-      case 3: goto w2c_B35;
-      case 4: goto w2c_B35;
-      case 5: goto w2c_B29;
-      case 6: goto w2c_B42;
-      case 7: goto w2c_B33;
-      case 8: goto w2c_B35;
-      case 9: goto w2c_B35;
-      case 10: goto w2c_B35;
-      case 11: goto w2c_B35;
-      case 12: goto w2c_B35;
-      case 13: goto w2c_B35;
-      case 14: goto w2c_B35;
-      default: goto w2c_B35;
+      case 0: goto w2c_B38;
+      case 1: goto w2c_B38;
+      case 2: goto w2c_B38;
+      case 3: goto w2c_B38;
+      case 4: goto w2c_B38;
+      case 5: goto w2c_B32;
+      case 6: goto w2c_B45;
+      case 7: goto w2c_B36;
+      case 8: goto w2c_B38;
+      case 9: goto w2c_B38;
+      case 10: goto w2c_B38;
+      case 11: goto w2c_B38;
+      case 12: goto w2c_B38;
+      case 13: goto w2c_B38;
+      case 14: goto w2c_B38;
+      default: goto w2c_B38;
     }
-    w2c_B98:;
+    w2c_B90:;
     w2c_i0 = 0u;
     w2c_l14 = w2c_i0;
     w2c_i0 = 8u;
@@ -39120,58 +42722,224 @@ static u32 w2c_f62(module *m, u64 w2c_p0, u64 w2c_p1, u64 w2c_p2) {
     w2c_i0 = w2c_l19;
     w2c_i1 = 5u;
     w2c_i0 = w2c_i0 == w2c_i1;
-    if (w2c_i0) {goto w2c_B29;}
+    if (w2c_i0) {goto w2c_B32;}
     w2c_i0 = w2c_l19;
     w2c_i1 = 7u;
     w2c_i0 = w2c_i0 == w2c_i1;
-    if (w2c_i0) {goto w2c_B33;}
-    goto w2c_B35;
-    w2c_B97:;
+    if (w2c_i0) {goto w2c_B36;}
+    goto w2c_B38;
+    w2c_B89:;
     w2c_i0 = w2c_l19;
     w2c_i1 = 5u;
     w2c_i0 = w2c_i0 == w2c_i1;
-    if (w2c_i0) {goto w2c_B31;}
-    goto w2c_B35;
-    w2c_B96:;
+    if (w2c_i0) {goto w2c_B34;}
+    goto w2c_B38;
+    w2c_B88:;
     w2c_i0 = 0u;
     w2c_l14 = w2c_i0;
     w2c_i0 = w2c_l19;
     w2c_i1 = 6u;
     w2c_i0 = w2c_i0 == w2c_i1;
-    if (w2c_i0) {goto w2c_B42;}
+    if (w2c_i0) {goto w2c_B45;}
     w2c_i0 = w2c_l19;
     w2c_i1 = 7u;
     w2c_i0 = w2c_i0 == w2c_i1;
-    if (w2c_i0) {goto w2c_B33;}
-    goto w2c_B35;
-    w2c_B95:;
+    if (w2c_i0) {goto w2c_B36;}
+    goto w2c_B38;
+    w2c_B87:;
     w2c_i0 = w2c_l19;
     w2c_i1 = 7u;
     w2c_i0 = w2c_i0 != w2c_i1;
-    if (w2c_i0) {goto w2c_B35;}
+    if (w2c_i0) {goto w2c_B38;}
     w2c_i0 = 0u;
     w2c_l14 = w2c_i0;
-    goto w2c_B33;
-    w2c_B52:;
+    goto w2c_B36;
+    w2c_B77:;
+    w2c_i0 = w2c_l19;
+    w2c_i1 = 2u;
+    w2c_i0 = w2c_i0 != w2c_i1;
+    if (w2c_i0) {goto w2c_B92;}
+    w2c_i0 = w2c_l18;
+    w2c_l14 = w2c_i0;
+    goto w2c_B49;
+    w2c_B92:;
+    w2c_i0 = w2c_l18;
+    w2c_j0 = (u64)(w2c_i0);
+    w2c_j1 = 255ull;
+    w2c_j0 &= w2c_j1;
+    w2c_i0 = (u32)(w2c_j0);
+    switch (w2c_i0) {
+      case 0: goto w2c_B97;
+      case 1: goto w2c_B94;
+      case 2: goto w2c_B96;
+      case 3: goto w2c_B96;
+      case 4: goto w2c_B95;
+      case 5: goto w2c_B93;
+      default: goto w2c_B97;
+    }
+    w2c_B97:;
+    w2c_i0 = 0u;
+    w2c_l14 = w2c_i0;
+    w2c_i0 = 6u;
+    w2c_l16 = w2c_i0;
+    w2c_i0 = w2c_l19;
+    switch (w2c_i0) {
+      case 0: goto w2c_B38;
+      case 1: goto w2c_B38;
+      case 2: goto w2c_B0;
+      case 3: goto w2c_B38;
+      case 4: goto w2c_B38;
+      case 5: goto w2c_B32;
+      case 6: goto w2c_B45;
+      case 7: goto w2c_B36;
+      case 8: goto w2c_B38;
+      case 9: goto w2c_B38;
+      case 10: goto w2c_B38;
+      case 11: goto w2c_B38;
+      case 12: goto w2c_B38;
+      case 13: goto w2c_B38;
+      case 14: goto w2c_B38;
+      default: goto w2c_B38;
+    }
+    w2c_B96:;
+    w2c_i0 = 0u;
+    w2c_l14 = w2c_i0;
+    w2c_i0 = 8u;
+    w2c_l16 = w2c_i0;
+    w2c_i0 = w2c_l19;
+    w2c_i1 = 5u;
+    w2c_i0 = w2c_i0 == w2c_i1;
+    if (w2c_i0) {goto w2c_B32;}
+    w2c_i0 = w2c_l19;
+    w2c_i1 = 7u;
+    w2c_i0 = w2c_i0 == w2c_i1;
+    if (w2c_i0) {goto w2c_B36;}
+    goto w2c_B38;
+    w2c_B95:;
+    w2c_i0 = w2c_l19;
+    w2c_i1 = 5u;
+    w2c_i0 = w2c_i0 == w2c_i1;
+    if (w2c_i0) {goto w2c_B34;}
+    goto w2c_B38;
+    w2c_B94:;
+    w2c_i0 = 0u;
+    w2c_l14 = w2c_i0;
+    w2c_i0 = w2c_l19;
+    w2c_i1 = 6u;
+    w2c_i0 = w2c_i0 == w2c_i1;
+    if (w2c_i0) {goto w2c_B45;}
+    w2c_i0 = w2c_l19;
+    w2c_i1 = 7u;
+    w2c_i0 = w2c_i0 == w2c_i1;
+    if (w2c_i0) {goto w2c_B36;}
+    goto w2c_B38;
+    w2c_B93:;
+    w2c_i0 = w2c_l19;
+    w2c_i1 = 7u;
+    w2c_i0 = w2c_i0 != w2c_i1;
+    if (w2c_i0) {goto w2c_B38;}
+    w2c_i0 = 0u;
+    w2c_l14 = w2c_i0;
+    goto w2c_B36;
+    w2c_B76:;
+    w2c_i0 = w2c_l18;
+    w2c_j0 = (u64)(w2c_i0);
+    w2c_j1 = 255ull;
+    w2c_j0 &= w2c_j1;
+    w2c_i0 = (u32)(w2c_j0);
+    switch (w2c_i0) {
+      case 0: goto w2c_B102;
+      case 1: goto w2c_B99;
+      case 2: goto w2c_B101;
+      case 3: goto w2c_B101;
+      case 4: goto w2c_B100;
+      case 5: goto w2c_B98;
+      default: goto w2c_B102;
+    }
+    w2c_B102:;
+    w2c_i0 = 0u;
+    w2c_l14 = w2c_i0;
+    w2c_i0 = 6u;
+    w2c_l16 = w2c_i0;
+    w2c_i0 = w2c_l19;
+    switch (w2c_i0) {
+      case 0: goto w2c_B38;
+      case 1: goto w2c_B38;
+      case 2: goto w2c_B38;
+      case 3: goto w2c_B38;
+      case 4: goto w2c_B38;
+      case 5: goto w2c_B32;
+      case 6: goto w2c_B45;
+      case 7: goto w2c_B36;
+      case 8: goto w2c_B38;
+      case 9: goto w2c_B38;
+      case 10: goto w2c_B38;
+      case 11: goto w2c_B38;
+      case 12: goto w2c_B38;
+      case 13: goto w2c_B38;
+      case 14: goto w2c_B38;
+      default: goto w2c_B38;
+    }
+    w2c_B101:;
+    w2c_i0 = 0u;
+    w2c_l14 = w2c_i0;
+    w2c_i0 = 8u;
+    w2c_l16 = w2c_i0;
+    w2c_i0 = w2c_l19;
+    w2c_i1 = 5u;
+    w2c_i0 = w2c_i0 == w2c_i1;
+    if (w2c_i0) {goto w2c_B32;}
+    w2c_i0 = w2c_l19;
+    w2c_i1 = 7u;
+    w2c_i0 = w2c_i0 == w2c_i1;
+    if (w2c_i0) {goto w2c_B36;}
+    goto w2c_B38;
+    w2c_B100:;
+    w2c_i0 = w2c_l19;
+    w2c_i1 = 5u;
+    w2c_i0 = w2c_i0 == w2c_i1;
+    if (w2c_i0) {goto w2c_B34;}
+    goto w2c_B38;
+    w2c_B99:;
+    w2c_i0 = 0u;
+    w2c_l14 = w2c_i0;
+    w2c_i0 = w2c_l19;
+    w2c_i1 = 6u;
+    w2c_i0 = w2c_i0 == w2c_i1;
+    if (w2c_i0) {goto w2c_B45;}
+    w2c_i0 = w2c_l19;
+    w2c_i1 = 7u;
+    w2c_i0 = w2c_i0 == w2c_i1;
+    if (w2c_i0) {goto w2c_B36;}
+    goto w2c_B38;
+    w2c_B98:;
+    w2c_i0 = w2c_l19;
+    w2c_i1 = 7u;
+    w2c_i0 = w2c_i0 != w2c_i1;
+    if (w2c_i0) {goto w2c_B38;}
+    w2c_i0 = 0u;
+    w2c_l14 = w2c_i0;
+    goto w2c_B36;
+    w2c_B55:;
     w2c_i0 = w2c_l15;
     w2c_j0 = (u64)(w2c_i0);
     w2c_j1 = 255ull;
     w2c_j0 &= w2c_j1;
     w2c_i0 = (u32)(w2c_j0);
     switch (w2c_i0) {
-      case 0: goto w2c_B100;
-      case 1: goto w2c_B101;
-      case 2: goto w2c_B102;
-      case 3: goto w2c_B103;
-      default: goto w2c_B100;
+      case 0: goto w2c_B103;
+      case 1: goto w2c_B104;
+      case 2: goto w2c_B105;
+      case 3: goto w2c_B106;
+      default: goto w2c_B103;
     }
-    w2c_B103:;
+    w2c_B106:;
     w2c_i0 = w2c_l19;
     w2c_i1 = 4294967294u;
     w2c_i0 += w2c_i1;
     w2c_i1 = 13u;
     w2c_i0 = w2c_i0 < w2c_i1;
-    if (w2c_i0) {goto w2c_B104;}
+    if (w2c_i0) {goto w2c_B107;}
     w2c_i0 = 1u;
     w2c_l15 = w2c_i0;
     w2c_i0 = 9u;
@@ -39186,26 +42954,26 @@ static u32 w2c_f62(module *m, u64 w2c_p0, u64 w2c_p1, u64 w2c_p2) {
     w2c_l14 = w2c_i0;
     w2c_i0 = w2c_l19;
     switch (w2c_i0) {
-      case 0: goto w2c_B28;
-      case 1: goto w2c_B50;
-      default: goto w2c_B28;
+      case 0: goto w2c_B31;
+      case 1: goto w2c_B53;
+      default: goto w2c_B31;
     }
-    w2c_B104:;
+    w2c_B107:;
     w2c_i0 = w2c_l18;
     w2c_j0 = (u64)(w2c_i0);
     w2c_j1 = 255ull;
     w2c_j0 &= w2c_j1;
     w2c_i0 = (u32)(w2c_j0);
     switch (w2c_i0) {
-      case 0: goto w2c_B109;
-      case 1: goto w2c_B106;
-      case 2: goto w2c_B108;
-      case 3: goto w2c_B108;
-      case 4: goto w2c_B107;
-      case 5: goto w2c_B105;
-      default: goto w2c_B109;
+      case 0: goto w2c_B112;
+      case 1: goto w2c_B109;
+      case 2: goto w2c_B111;
+      case 3: goto w2c_B111;
+      case 4: goto w2c_B110;
+      case 5: goto w2c_B108;
+      default: goto w2c_B112;
     }
-    w2c_B109:;
+    w2c_B112:;
     w2c_i0 = 1u;
     w2c_l14 = w2c_i0;
     w2c_i0 = 6u;
@@ -39214,22 +42982,22 @@ static u32 w2c_f62(module *m, u64 w2c_p0, u64 w2c_p1, u64 w2c_p2) {
     w2c_i1 = 4294967294u;
     w2c_i0 += w2c_i1;
     switch (w2c_i0) {
-      case 0: goto w2c_B35;
-      case 1: goto w2c_B35;
-      case 2: goto w2c_B35;
-      case 3: goto w2c_B29;
-      case 4: goto w2c_B42;
-      case 5: goto w2c_B33;
-      case 6: goto w2c_B35;
-      case 7: goto w2c_B35;
-      case 8: goto w2c_B35;
-      case 9: goto w2c_B35;
-      case 10: goto w2c_B35;
-      case 11: goto w2c_B35;
-      case 12: goto w2c_B35;
-      default: goto w2c_B35;
+      case 0: goto w2c_B38;
+      case 1: goto w2c_B38;
+      case 2: goto w2c_B38;
+      case 3: goto w2c_B32;
+      case 4: goto w2c_B45;
+      case 5: goto w2c_B36;
+      case 6: goto w2c_B38;
+      case 7: goto w2c_B38;
+      case 8: goto w2c_B38;
+      case 9: goto w2c_B38;
+      case 10: goto w2c_B38;
+      case 11: goto w2c_B38;
+      case 12: goto w2c_B38;
+      default: goto w2c_B38;
     }
-    w2c_B108:;
+    w2c_B111:;
     w2c_i0 = 1u;
     w2c_l14 = w2c_i0;
     w2c_i0 = 8u;
@@ -39237,45 +43005,45 @@ static u32 w2c_f62(module *m, u64 w2c_p0, u64 w2c_p1, u64 w2c_p2) {
     w2c_i0 = w2c_l19;
     w2c_i1 = 5u;
     w2c_i0 = w2c_i0 == w2c_i1;
-    if (w2c_i0) {goto w2c_B29;}
+    if (w2c_i0) {goto w2c_B32;}
     w2c_i0 = w2c_l19;
     w2c_i1 = 7u;
     w2c_i0 = w2c_i0 == w2c_i1;
-    if (w2c_i0) {goto w2c_B33;}
-    goto w2c_B35;
-    w2c_B107:;
+    if (w2c_i0) {goto w2c_B36;}
+    goto w2c_B38;
+    w2c_B110:;
     w2c_i0 = w2c_l19;
     w2c_i1 = 5u;
     w2c_i0 = w2c_i0 != w2c_i1;
-    if (w2c_i0) {goto w2c_B35;}
-    goto w2c_B32;
-    w2c_B106:;
+    if (w2c_i0) {goto w2c_B38;}
+    goto w2c_B35;
+    w2c_B109:;
     w2c_i0 = 1u;
     w2c_l14 = w2c_i0;
     w2c_i0 = w2c_l19;
     w2c_i1 = 6u;
     w2c_i0 = w2c_i0 == w2c_i1;
-    if (w2c_i0) {goto w2c_B42;}
+    if (w2c_i0) {goto w2c_B45;}
     w2c_i0 = w2c_l19;
     w2c_i1 = 7u;
     w2c_i0 = w2c_i0 == w2c_i1;
-    if (w2c_i0) {goto w2c_B33;}
-    goto w2c_B35;
-    w2c_B105:;
+    if (w2c_i0) {goto w2c_B36;}
+    goto w2c_B38;
+    w2c_B108:;
     w2c_i0 = w2c_l19;
     w2c_i1 = 7u;
     w2c_i0 = w2c_i0 != w2c_i1;
-    if (w2c_i0) {goto w2c_B35;}
+    if (w2c_i0) {goto w2c_B38;}
     w2c_i0 = 1u;
     w2c_l14 = w2c_i0;
-    goto w2c_B33;
-    w2c_B102:;
+    goto w2c_B36;
+    w2c_B105:;
     w2c_i0 = w2c_l19;
     w2c_i1 = 4294967294u;
     w2c_i0 += w2c_i1;
     w2c_i1 = 13u;
     w2c_i0 = w2c_i0 < w2c_i1;
-    if (w2c_i0) {goto w2c_B110;}
+    if (w2c_i0) {goto w2c_B113;}
     w2c_i0 = 9u;
     w2c_l16 = w2c_i0;
     w2c_i0 = 10u;
@@ -39290,26 +43058,26 @@ static u32 w2c_f62(module *m, u64 w2c_p0, u64 w2c_p1, u64 w2c_p2) {
     w2c_l15 = w2c_i0;
     w2c_i0 = w2c_l19;
     switch (w2c_i0) {
-      case 0: goto w2c_B28;
-      case 1: goto w2c_B50;
-      default: goto w2c_B28;
+      case 0: goto w2c_B31;
+      case 1: goto w2c_B53;
+      default: goto w2c_B31;
     }
-    w2c_B110:;
+    w2c_B113:;
     w2c_i0 = w2c_l18;
     w2c_j0 = (u64)(w2c_i0);
     w2c_j1 = 255ull;
     w2c_j0 &= w2c_j1;
     w2c_i0 = (u32)(w2c_j0);
     switch (w2c_i0) {
-      case 0: goto w2c_B115;
-      case 1: goto w2c_B112;
-      case 2: goto w2c_B114;
-      case 3: goto w2c_B114;
-      case 4: goto w2c_B113;
-      case 5: goto w2c_B111;
-      default: goto w2c_B115;
+      case 0: goto w2c_B118;
+      case 1: goto w2c_B115;
+      case 2: goto w2c_B117;
+      case 3: goto w2c_B117;
+      case 4: goto w2c_B116;
+      case 5: goto w2c_B114;
+      default: goto w2c_B118;
     }
-    w2c_B115:;
+    w2c_B118:;
     w2c_i0 = 1u;
     w2c_l14 = w2c_i0;
     w2c_i0 = 6u;
@@ -39318,22 +43086,22 @@ static u32 w2c_f62(module *m, u64 w2c_p0, u64 w2c_p1, u64 w2c_p2) {
     w2c_i1 = 4294967294u;
     w2c_i0 += w2c_i1;
     switch (w2c_i0) {
-      case 0: goto w2c_B35;
-      case 1: goto w2c_B35;
-      case 2: goto w2c_B35;
-      case 3: goto w2c_B29;
-      case 4: goto w2c_B42;
-      case 5: goto w2c_B33;
-      case 6: goto w2c_B35;
-      case 7: goto w2c_B35;
-      case 8: goto w2c_B35;
-      case 9: goto w2c_B35;
-      case 10: goto w2c_B35;
-      case 11: goto w2c_B35;
-      case 12: goto w2c_B35;
-      default: goto w2c_B35;
+      case 0: goto w2c_B38;
+      case 1: goto w2c_B38;
+      case 2: goto w2c_B38;
+      case 3: goto w2c_B32;
+      case 4: goto w2c_B45;
+      case 5: goto w2c_B36;
+      case 6: goto w2c_B38;
+      case 7: goto w2c_B38;
+      case 8: goto w2c_B38;
+      case 9: goto w2c_B38;
+      case 10: goto w2c_B38;
+      case 11: goto w2c_B38;
+      case 12: goto w2c_B38;
+      default: goto w2c_B38;
     }
-    w2c_B114:;
+    w2c_B117:;
     w2c_i0 = 1u;
     w2c_l14 = w2c_i0;
     w2c_i0 = 8u;
@@ -39341,234 +43109,234 @@ static u32 w2c_f62(module *m, u64 w2c_p0, u64 w2c_p1, u64 w2c_p2) {
     w2c_i0 = w2c_l19;
     w2c_i1 = 5u;
     w2c_i0 = w2c_i0 == w2c_i1;
-    if (w2c_i0) {goto w2c_B29;}
+    if (w2c_i0) {goto w2c_B32;}
     w2c_i0 = w2c_l19;
     w2c_i1 = 7u;
     w2c_i0 = w2c_i0 == w2c_i1;
-    if (w2c_i0) {goto w2c_B33;}
-    goto w2c_B35;
-    w2c_B113:;
+    if (w2c_i0) {goto w2c_B36;}
+    goto w2c_B38;
+    w2c_B116:;
     w2c_i0 = w2c_l19;
     w2c_i1 = 5u;
     w2c_i0 = w2c_i0 == w2c_i1;
-    if (w2c_i0) {goto w2c_B32;}
-    goto w2c_B35;
-    w2c_B112:;
+    if (w2c_i0) {goto w2c_B35;}
+    goto w2c_B38;
+    w2c_B115:;
     w2c_i0 = 1u;
     w2c_l14 = w2c_i0;
     w2c_i0 = w2c_l19;
     w2c_i1 = 6u;
     w2c_i0 = w2c_i0 == w2c_i1;
-    if (w2c_i0) {goto w2c_B42;}
+    if (w2c_i0) {goto w2c_B45;}
     w2c_i0 = w2c_l19;
     w2c_i1 = 7u;
     w2c_i0 = w2c_i0 == w2c_i1;
-    if (w2c_i0) {goto w2c_B33;}
-    goto w2c_B35;
-    w2c_B111:;
+    if (w2c_i0) {goto w2c_B36;}
+    goto w2c_B38;
+    w2c_B114:;
     w2c_i0 = w2c_l19;
     w2c_i1 = 7u;
     w2c_i0 = w2c_i0 != w2c_i1;
-    if (w2c_i0) {goto w2c_B35;}
+    if (w2c_i0) {goto w2c_B38;}
     w2c_i0 = 1u;
     w2c_l14 = w2c_i0;
-    goto w2c_B33;
-    w2c_B101:;
+    goto w2c_B36;
+    w2c_B104:;
     w2c_i0 = w2c_l19;
     w2c_i1 = 1u;
     w2c_i0 = w2c_i0 != w2c_i1;
-    if (w2c_i0) {goto w2c_B116;}
+    if (w2c_i0) {goto w2c_B119;}
     w2c_i0 = 0u;
     w2c_l21 = w2c_i0;
     w2c_i0 = 10u;
     w2c_l20 = w2c_i0;
     w2c_i0 = w2c_l18;
     w2c_l22 = w2c_i0;
-    goto w2c_B50;
-    w2c_B116:;
-    w2c_i0 = w2c_l18;
-    w2c_j0 = (u64)(w2c_i0);
-    w2c_j1 = 255ull;
-    w2c_j0 &= w2c_j1;
-    w2c_i0 = (u32)(w2c_j0);
-    switch (w2c_i0) {
-      case 0: goto w2c_B121;
-      case 1: goto w2c_B118;
-      case 2: goto w2c_B120;
-      case 3: goto w2c_B120;
-      case 4: goto w2c_B119;
-      case 5: goto w2c_B117;
-      default: goto w2c_B121;
-    }
-    w2c_B121:;
-    w2c_i0 = 1u;
-    w2c_l14 = w2c_i0;
-    w2c_i0 = 6u;
-    w2c_l16 = w2c_i0;
-    w2c_i0 = w2c_l19;
-    switch (w2c_i0) {
-      case 0: goto w2c_B35;
-      case 1: goto w2c_B0;
-      case 2: goto w2c_B35;
-      case 3: goto w2c_B35;
-      case 4: goto w2c_B35;
-      case 5: goto w2c_B29;
-      case 6: goto w2c_B42;
-      case 7: goto w2c_B33;
-      case 8: goto w2c_B35;
-      case 9: goto w2c_B35;
-      case 10: goto w2c_B35;
-      case 11: goto w2c_B35;
-      case 12: goto w2c_B35;
-      case 13: goto w2c_B35;
-      case 14: goto w2c_B35;
-      default: goto w2c_B35;
-    }
-    w2c_B120:;
-    w2c_i0 = 1u;
-    w2c_l14 = w2c_i0;
-    w2c_i0 = 8u;
-    w2c_l16 = w2c_i0;
-    w2c_i0 = w2c_l19;
-    w2c_i1 = 5u;
-    w2c_i0 = w2c_i0 == w2c_i1;
-    if (w2c_i0) {goto w2c_B29;}
-    w2c_i0 = w2c_l19;
-    w2c_i1 = 7u;
-    w2c_i0 = w2c_i0 == w2c_i1;
-    if (w2c_i0) {goto w2c_B33;}
-    goto w2c_B35;
+    goto w2c_B53;
     w2c_B119:;
-    w2c_i0 = w2c_l19;
-    w2c_i1 = 5u;
-    w2c_i0 = w2c_i0 == w2c_i1;
-    if (w2c_i0) {goto w2c_B32;}
-    goto w2c_B35;
-    w2c_B118:;
-    w2c_i0 = 1u;
-    w2c_l14 = w2c_i0;
-    w2c_i0 = w2c_l19;
-    w2c_i1 = 6u;
-    w2c_i0 = w2c_i0 == w2c_i1;
-    if (w2c_i0) {goto w2c_B42;}
-    w2c_i0 = w2c_l19;
-    w2c_i1 = 7u;
-    w2c_i0 = w2c_i0 == w2c_i1;
-    if (w2c_i0) {goto w2c_B33;}
-    goto w2c_B35;
-    w2c_B117:;
-    w2c_i0 = w2c_l19;
-    w2c_i1 = 7u;
-    w2c_i0 = w2c_i0 != w2c_i1;
-    if (w2c_i0) {goto w2c_B35;}
-    w2c_i0 = 1u;
-    w2c_l14 = w2c_i0;
-    goto w2c_B33;
-    w2c_B100:;
     w2c_i0 = w2c_l18;
     w2c_j0 = (u64)(w2c_i0);
     w2c_j1 = 255ull;
     w2c_j0 &= w2c_j1;
     w2c_i0 = (u32)(w2c_j0);
     switch (w2c_i0) {
-      case 0: goto w2c_B126;
-      case 1: goto w2c_B123;
-      case 2: goto w2c_B125;
-      case 3: goto w2c_B125;
-      case 4: goto w2c_B124;
-      case 5: goto w2c_B122;
-      default: goto w2c_B126;
+      case 0: goto w2c_B124;
+      case 1: goto w2c_B121;
+      case 2: goto w2c_B123;
+      case 3: goto w2c_B123;
+      case 4: goto w2c_B122;
+      case 5: goto w2c_B120;
+      default: goto w2c_B124;
     }
-    w2c_B126:;
+    w2c_B124:;
     w2c_i0 = 1u;
     w2c_l14 = w2c_i0;
     w2c_i0 = 6u;
     w2c_l16 = w2c_i0;
     w2c_i0 = w2c_l19;
     switch (w2c_i0) {
-      case 0: goto w2c_B35;
-      case 1: goto w2c_B35;
-      case 2: goto w2c_B35;
-      case 3: goto w2c_B35;
-      case 4: goto w2c_B35;
-      case 5: goto w2c_B29;
-      case 6: goto w2c_B42;
-      case 7: goto w2c_B33;
-      case 8: goto w2c_B35;
-      case 9: goto w2c_B35;
-      case 10: goto w2c_B35;
-      case 11: goto w2c_B35;
-      case 12: goto w2c_B35;
-      case 13: goto w2c_B35;
-      case 14: goto w2c_B35;
-      default: goto w2c_B35;
+      case 0: goto w2c_B38;
+      case 1: goto w2c_B0;
+      case 2: goto w2c_B38;
+      case 3: goto w2c_B38;
+      case 4: goto w2c_B38;
+      case 5: goto w2c_B32;
+      case 6: goto w2c_B45;
+      case 7: goto w2c_B36;
+      case 8: goto w2c_B38;
+      case 9: goto w2c_B38;
+      case 10: goto w2c_B38;
+      case 11: goto w2c_B38;
+      case 12: goto w2c_B38;
+      case 13: goto w2c_B38;
+      case 14: goto w2c_B38;
+      default: goto w2c_B38;
     }
-    w2c_B125:;
-    w2c_i0 = 1u;
-    w2c_l14 = w2c_i0;
-    w2c_i0 = 8u;
-    w2c_l16 = w2c_i0;
-    w2c_i0 = w2c_l19;
-    w2c_i1 = 5u;
-    w2c_i0 = w2c_i0 == w2c_i1;
-    if (w2c_i0) {goto w2c_B29;}
-    w2c_i0 = w2c_l19;
-    w2c_i1 = 7u;
-    w2c_i0 = w2c_i0 == w2c_i1;
-    if (w2c_i0) {goto w2c_B33;}
-    goto w2c_B35;
-    w2c_B124:;
-    w2c_i0 = w2c_l19;
-    w2c_i1 = 5u;
-    w2c_i0 = w2c_i0 == w2c_i1;
-    if (w2c_i0) {goto w2c_B32;}
-    goto w2c_B35;
     w2c_B123:;
     w2c_i0 = 1u;
     w2c_l14 = w2c_i0;
+    w2c_i0 = 8u;
+    w2c_l16 = w2c_i0;
+    w2c_i0 = w2c_l19;
+    w2c_i1 = 5u;
+    w2c_i0 = w2c_i0 == w2c_i1;
+    if (w2c_i0) {goto w2c_B32;}
+    w2c_i0 = w2c_l19;
+    w2c_i1 = 7u;
+    w2c_i0 = w2c_i0 == w2c_i1;
+    if (w2c_i0) {goto w2c_B36;}
+    goto w2c_B38;
+    w2c_B122:;
+    w2c_i0 = w2c_l19;
+    w2c_i1 = 5u;
+    w2c_i0 = w2c_i0 == w2c_i1;
+    if (w2c_i0) {goto w2c_B35;}
+    goto w2c_B38;
+    w2c_B121:;
+    w2c_i0 = 1u;
+    w2c_l14 = w2c_i0;
     w2c_i0 = w2c_l19;
     w2c_i1 = 6u;
     w2c_i0 = w2c_i0 == w2c_i1;
-    if (w2c_i0) {goto w2c_B42;}
+    if (w2c_i0) {goto w2c_B45;}
+    w2c_i0 = w2c_l19;
+    w2c_i1 = 7u;
+    w2c_i0 = w2c_i0 == w2c_i1;
+    if (w2c_i0) {goto w2c_B36;}
+    goto w2c_B38;
+    w2c_B120:;
     w2c_i0 = w2c_l19;
     w2c_i1 = 7u;
     w2c_i0 = w2c_i0 != w2c_i1;
-    if (w2c_i0) {goto w2c_B35;}
-    goto w2c_B33;
-    w2c_B122:;
-    w2c_i0 = w2c_l19;
-    w2c_i1 = 7u;
-    w2c_i0 = w2c_i0 != w2c_i1;
-    if (w2c_i0) {goto w2c_B35;}
+    if (w2c_i0) {goto w2c_B38;}
     w2c_i0 = 1u;
     w2c_l14 = w2c_i0;
-    goto w2c_B33;
-    w2c_B51:;
+    goto w2c_B36;
+    w2c_B103:;
+    w2c_i0 = w2c_l18;
+    w2c_j0 = (u64)(w2c_i0);
+    w2c_j1 = 255ull;
+    w2c_j0 &= w2c_j1;
+    w2c_i0 = (u32)(w2c_j0);
+    switch (w2c_i0) {
+      case 0: goto w2c_B129;
+      case 1: goto w2c_B126;
+      case 2: goto w2c_B128;
+      case 3: goto w2c_B128;
+      case 4: goto w2c_B127;
+      case 5: goto w2c_B125;
+      default: goto w2c_B129;
+    }
+    w2c_B129:;
+    w2c_i0 = 1u;
+    w2c_l14 = w2c_i0;
+    w2c_i0 = 6u;
+    w2c_l16 = w2c_i0;
+    w2c_i0 = w2c_l19;
+    switch (w2c_i0) {
+      case 0: goto w2c_B38;
+      case 1: goto w2c_B38;
+      case 2: goto w2c_B38;
+      case 3: goto w2c_B38;
+      case 4: goto w2c_B38;
+      case 5: goto w2c_B32;
+      case 6: goto w2c_B45;
+      case 7: goto w2c_B36;
+      case 8: goto w2c_B38;
+      case 9: goto w2c_B38;
+      case 10: goto w2c_B38;
+      case 11: goto w2c_B38;
+      case 12: goto w2c_B38;
+      case 13: goto w2c_B38;
+      case 14: goto w2c_B38;
+      default: goto w2c_B38;
+    }
+    w2c_B128:;
+    w2c_i0 = 1u;
+    w2c_l14 = w2c_i0;
+    w2c_i0 = 8u;
+    w2c_l16 = w2c_i0;
+    w2c_i0 = w2c_l19;
+    w2c_i1 = 5u;
+    w2c_i0 = w2c_i0 == w2c_i1;
+    if (w2c_i0) {goto w2c_B32;}
+    w2c_i0 = w2c_l19;
+    w2c_i1 = 7u;
+    w2c_i0 = w2c_i0 == w2c_i1;
+    if (w2c_i0) {goto w2c_B36;}
+    goto w2c_B38;
+    w2c_B127:;
+    w2c_i0 = w2c_l19;
+    w2c_i1 = 5u;
+    w2c_i0 = w2c_i0 == w2c_i1;
+    if (w2c_i0) {goto w2c_B35;}
+    goto w2c_B38;
+    w2c_B126:;
+    w2c_i0 = 1u;
+    w2c_l14 = w2c_i0;
+    w2c_i0 = w2c_l19;
+    w2c_i1 = 6u;
+    w2c_i0 = w2c_i0 == w2c_i1;
+    if (w2c_i0) {goto w2c_B45;}
+    w2c_i0 = w2c_l19;
+    w2c_i1 = 7u;
+    w2c_i0 = w2c_i0 != w2c_i1;
+    if (w2c_i0) {goto w2c_B38;}
+    goto w2c_B36;
+    w2c_B125:;
+    w2c_i0 = w2c_l19;
+    w2c_i1 = 7u;
+    w2c_i0 = w2c_i0 != w2c_i1;
+    if (w2c_i0) {goto w2c_B38;}
+    w2c_i0 = 1u;
+    w2c_l14 = w2c_i0;
+    goto w2c_B36;
+    w2c_B54:;
     w2c_i0 = w2c_l14;
     switch (w2c_i0) {
-      case 0: goto w2c_B134;
-      case 1: goto w2c_B133;
-      case 2: goto w2c_B132;
-      case 3: goto w2c_B131;
-      case 4: goto w2c_B130;
-      case 5: goto w2c_B35;
-      case 6: goto w2c_B35;
-      case 7: goto w2c_B35;
-      case 8: goto w2c_B35;
-      case 9: goto w2c_B35;
-      case 10: goto w2c_B35;
-      case 11: goto w2c_B35;
-      case 12: goto w2c_B35;
-      case 13: goto w2c_B129;
-      case 14: goto w2c_B127;
-      case 15: goto w2c_B49;
-      case 16: goto w2c_B41;
-      case 17: goto w2c_B128;
-      case 18: goto w2c_B39;
-      case 19: goto w2c_B35;
-      default: goto w2c_B134;
+      case 0: goto w2c_B137;
+      case 1: goto w2c_B136;
+      case 2: goto w2c_B135;
+      case 3: goto w2c_B134;
+      case 4: goto w2c_B133;
+      case 5: goto w2c_B38;
+      case 6: goto w2c_B38;
+      case 7: goto w2c_B38;
+      case 8: goto w2c_B38;
+      case 9: goto w2c_B38;
+      case 10: goto w2c_B38;
+      case 11: goto w2c_B38;
+      case 12: goto w2c_B38;
+      case 13: goto w2c_B132;
+      case 14: goto w2c_B130;
+      case 15: goto w2c_B52;
+      case 16: goto w2c_B44;
+      case 17: goto w2c_B131;
+      case 18: goto w2c_B42;
+      case 19: goto w2c_B38;
+      default: goto w2c_B137;
     }
-    w2c_B134:;
+    w2c_B137:;
     w2c_i0 = 5u;
     w2c_l20 = w2c_i0;
     w2c_i0 = 0u;
@@ -39583,44 +43351,44 @@ static u32 w2c_f62(module *m, u64 w2c_p0, u64 w2c_p1, u64 w2c_p2) {
     w2c_l15 = w2c_i0;
     w2c_i0 = w2c_l19;
     switch (w2c_i0) {
-      case 0: goto w2c_B48;
-      case 1: goto w2c_B50;
-      case 2: goto w2c_B35;
-      case 3: goto w2c_B35;
-      case 4: goto w2c_B35;
-      case 5: goto w2c_B35;
-      case 6: goto w2c_B35;
-      case 7: goto w2c_B35;
-      case 8: goto w2c_B35;
-      case 9: goto w2c_B35;
-      case 10: goto w2c_B35;
-      case 11: goto w2c_B28;
-      case 12: goto w2c_B35;
-      case 13: goto w2c_B35;
-      case 14: goto w2c_B35;
-      default: goto w2c_B48;
+      case 0: goto w2c_B51;
+      case 1: goto w2c_B53;
+      case 2: goto w2c_B38;
+      case 3: goto w2c_B38;
+      case 4: goto w2c_B38;
+      case 5: goto w2c_B38;
+      case 6: goto w2c_B38;
+      case 7: goto w2c_B38;
+      case 8: goto w2c_B38;
+      case 9: goto w2c_B38;
+      case 10: goto w2c_B38;
+      case 11: goto w2c_B31;
+      case 12: goto w2c_B38;
+      case 13: goto w2c_B38;
+      case 14: goto w2c_B38;
+      default: goto w2c_B51;
     }
-    w2c_B133:;
+    w2c_B136:;
     w2c_i0 = w2c_l19;
     w2c_i1 = 12u;
     w2c_i0 = w2c_i0 != w2c_i1;
-    if (w2c_i0) {goto w2c_B35;}
+    if (w2c_i0) {goto w2c_B38;}
     w2c_i0 = 0u;
     w2c_l14 = w2c_i0;
     w2c_i0 = 2u;
     w2c_l16 = w2c_i0;
-    goto w2c_B37;
-    w2c_B132:;
+    goto w2c_B40;
+    w2c_B135:;
     w2c_i0 = w2c_l19;
     w2c_i1 = 13u;
     w2c_i0 = w2c_i0 != w2c_i1;
-    if (w2c_i0) {goto w2c_B35;}
+    if (w2c_i0) {goto w2c_B38;}
     w2c_i0 = 0u;
     w2c_l14 = w2c_i0;
     w2c_i0 = 3u;
     w2c_l16 = w2c_i0;
-    goto w2c_B37;
-    w2c_B131:;
+    goto w2c_B40;
+    w2c_B134:;
     w2c_i0 = 0u;
     w2c_l22 = w2c_i0;
     w2c_i0 = 5u;
@@ -39629,32 +43397,32 @@ static u32 w2c_f62(module *m, u64 w2c_p0, u64 w2c_p1, u64 w2c_p2) {
     w2c_l21 = w2c_i0;
     w2c_i0 = w2c_l19;
     switch (w2c_i0) {
-      case 0: goto w2c_B48;
-      case 1: goto w2c_B50;
-      case 2: goto w2c_B35;
-      case 3: goto w2c_B35;
-      case 4: goto w2c_B35;
-      case 5: goto w2c_B35;
-      case 6: goto w2c_B35;
-      case 7: goto w2c_B35;
-      case 8: goto w2c_B35;
-      case 9: goto w2c_B35;
-      case 10: goto w2c_B35;
-      case 11: goto w2c_B35;
-      case 12: goto w2c_B35;
-      case 13: goto w2c_B35;
-      case 14: goto w2c_B35;
-      default: goto w2c_B48;
+      case 0: goto w2c_B51;
+      case 1: goto w2c_B53;
+      case 2: goto w2c_B38;
+      case 3: goto w2c_B38;
+      case 4: goto w2c_B38;
+      case 5: goto w2c_B38;
+      case 6: goto w2c_B38;
+      case 7: goto w2c_B38;
+      case 8: goto w2c_B38;
+      case 9: goto w2c_B38;
+      case 10: goto w2c_B38;
+      case 11: goto w2c_B38;
+      case 12: goto w2c_B38;
+      case 13: goto w2c_B38;
+      case 14: goto w2c_B38;
+      default: goto w2c_B51;
     }
-    w2c_B130:;
+    w2c_B133:;
     w2c_i0 = w2c_l19;
     w2c_i1 = 7u;
     w2c_i0 = w2c_i0 != w2c_i1;
-    if (w2c_i0) {goto w2c_B35;}
+    if (w2c_i0) {goto w2c_B38;}
     w2c_i0 = 1u;
     w2c_l14 = w2c_i0;
-    goto w2c_B33;
-    w2c_B129:;
+    goto w2c_B36;
+    w2c_B132:;
     w2c_i0 = 16u;
     w2c_l20 = w2c_i0;
     w2c_i0 = 0u;
@@ -39669,32 +43437,32 @@ static u32 w2c_f62(module *m, u64 w2c_p0, u64 w2c_p1, u64 w2c_p2) {
     w2c_l15 = w2c_i0;
     w2c_i0 = w2c_l19;
     switch (w2c_i0) {
-      case 0: goto w2c_B135;
-      case 1: goto w2c_B50;
-      case 2: goto w2c_B35;
-      case 3: goto w2c_B35;
-      case 4: goto w2c_B35;
-      case 5: goto w2c_B35;
-      case 6: goto w2c_B35;
-      case 7: goto w2c_B35;
-      case 8: goto w2c_B35;
-      case 9: goto w2c_B35;
-      case 10: goto w2c_B28;
-      case 11: goto w2c_B35;
-      case 12: goto w2c_B35;
-      case 13: goto w2c_B35;
-      case 14: goto w2c_B35;
-      default: goto w2c_B135;
+      case 0: goto w2c_B138;
+      case 1: goto w2c_B53;
+      case 2: goto w2c_B38;
+      case 3: goto w2c_B38;
+      case 4: goto w2c_B38;
+      case 5: goto w2c_B38;
+      case 6: goto w2c_B38;
+      case 7: goto w2c_B38;
+      case 8: goto w2c_B38;
+      case 9: goto w2c_B38;
+      case 10: goto w2c_B31;
+      case 11: goto w2c_B38;
+      case 12: goto w2c_B38;
+      case 13: goto w2c_B38;
+      case 14: goto w2c_B38;
+      default: goto w2c_B138;
     }
-    w2c_B135:;
+    w2c_B138:;
     w2c_i0 = w2c_l18;
     w2c_i1 = 1u;
     w2c_i0 &= w2c_i1;
     w2c_l14 = w2c_i0;
     w2c_i0 = 14u;
     w2c_l16 = w2c_i0;
-    goto w2c_B37;
-    w2c_B128:;
+    goto w2c_B40;
+    w2c_B131:;
     w2c_i0 = 18u;
     w2c_l20 = w2c_i0;
     w2c_i0 = 0u;
@@ -39704,25 +43472,25 @@ static u32 w2c_f62(module *m, u64 w2c_p0, u64 w2c_p1, u64 w2c_p2) {
     w2c_i0 = w2c_l19;
     w2c_i1 = 1u;
     w2c_i0 = w2c_i0 != w2c_i1;
-    if (w2c_i0) {goto w2c_B136;}
+    if (w2c_i0) {goto w2c_B139;}
     w2c_i0 = 0u;
     w2c_l22 = w2c_i0;
     w2c_i0 = 0u;
     w2c_l21 = w2c_i0;
-    goto w2c_B50;
-    w2c_B136:;
+    goto w2c_B53;
+    w2c_B139:;
     w2c_i0 = 0u;
     w2c_l15 = w2c_i0;
     w2c_i0 = w2c_l19;
     w2c_i1 = 10u;
     w2c_i0 = w2c_i0 == w2c_i1;
-    if (w2c_i0) {goto w2c_B28;}
-    goto w2c_B35;
-    w2c_B127:;
+    if (w2c_i0) {goto w2c_B31;}
+    goto w2c_B38;
+    w2c_B130:;
     w2c_i0 = w2c_l19;
     w2c_i1 = 1u;
     w2c_i0 = w2c_i0 != w2c_i1;
-    if (w2c_i0) {goto w2c_B35;}
+    if (w2c_i0) {goto w2c_B38;}
     w2c_i0 = w2c_l18;
     w2c_i1 = 1u;
     w2c_i0 &= w2c_i1;
@@ -39731,7 +43499,7 @@ static u32 w2c_f62(module *m, u64 w2c_p0, u64 w2c_p1, u64 w2c_p2) {
     w2c_l21 = w2c_i0;
     w2c_i0 = 15u;
     w2c_l20 = w2c_i0;
-    w2c_B50:;
+    w2c_B53:;
     w2c_i0 = w2c_l20;
     w2c_l16 = w2c_i0;
     w2c_i0 = w2c_l22;
@@ -39740,36 +43508,36 @@ static u32 w2c_f62(module *m, u64 w2c_p0, u64 w2c_p1, u64 w2c_p2) {
     w2c_l15 = w2c_i0;
     w2c_j0 = w2c_l13;
     w2c_l8 = w2c_j0;
-    goto w2c_B28;
-    w2c_B49:;
+    goto w2c_B31;
+    w2c_B52:;
     w2c_i0 = w2c_l18;
     w2c_i1 = 1u;
     w2c_i0 &= w2c_i1;
     w2c_i0 = !(w2c_i0);
-    if (w2c_i0) {goto w2c_B39;}
+    if (w2c_i0) {goto w2c_B42;}
     w2c_i0 = w2c_l19;
     w2c_i1 = 8u;
     w2c_i0 = w2c_i0 == w2c_i1;
-    if (w2c_i0) {goto w2c_B40;}
+    if (w2c_i0) {goto w2c_B43;}
     w2c_i0 = w2c_l19;
     w2c_i1 = 9u;
     w2c_i0 = w2c_i0 == w2c_i1;
-    if (w2c_i0) {goto w2c_B38;}
-    goto w2c_B35;
-    w2c_B48:;
+    if (w2c_i0) {goto w2c_B41;}
+    goto w2c_B38;
+    w2c_B51:;
     w2c_i0 = 0u;
     w2c_l14 = w2c_i0;
     w2c_i0 = 4u;
     w2c_l16 = w2c_i0;
-    goto w2c_B37;
-    w2c_B47:;
+    goto w2c_B40;
+    w2c_B50:;
     w2c_i0 = w2c_l18;
     w2c_l14 = w2c_i0;
     w2c_i0 = w2c_l19;
     w2c_i1 = 2u;
     w2c_i0 = w2c_i0 != w2c_i1;
-    if (w2c_i0) {goto w2c_B35;}
-    w2c_B46:;
+    if (w2c_i0) {goto w2c_B38;}
+    w2c_B49:;
     w2c_j0 = w2c_l8;
     w2c_j1 = 10ull;
     w2c_j0 *= w2c_j1;
@@ -39782,15 +43550,15 @@ static u32 w2c_f62(module *m, u64 w2c_p0, u64 w2c_p1, u64 w2c_p2) {
     w2c_l15 = w2c_i0;
     w2c_i0 = 12u;
     w2c_l16 = w2c_i0;
-    goto w2c_B28;
-    w2c_B45:;
+    goto w2c_B31;
+    w2c_B48:;
     w2c_i0 = w2c_l18;
     w2c_l14 = w2c_i0;
     w2c_i0 = w2c_l19;
     w2c_i1 = 3u;
     w2c_i0 = w2c_i0 != w2c_i1;
-    if (w2c_i0) {goto w2c_B35;}
-    w2c_B44:;
+    if (w2c_i0) {goto w2c_B38;}
+    w2c_B47:;
     w2c_j0 = w2c_l8;
     w2c_j1 = 100ull;
     w2c_j0 *= w2c_j1;
@@ -39803,8 +43571,8 @@ static u32 w2c_f62(module *m, u64 w2c_p0, u64 w2c_p1, u64 w2c_p2) {
     w2c_l15 = w2c_i0;
     w2c_i0 = 12u;
     w2c_l16 = w2c_i0;
-    goto w2c_B28;
-    w2c_B43:;
+    goto w2c_B31;
+    w2c_B46:;
     w2c_i0 = 5u;
     w2c_i1 = w2c_l18;
     w2c_i2 = w2c_l18;
@@ -39814,8 +43582,8 @@ static u32 w2c_f62(module *m, u64 w2c_p0, u64 w2c_p1, u64 w2c_p2) {
     w2c_i2 = w2c_i2 == w2c_i3;
     w2c_i0 = w2c_i2 ? w2c_i0 : w2c_i1;
     w2c_l14 = w2c_i0;
-    goto w2c_B34;
-    w2c_B42:;
+    goto w2c_B37;
+    w2c_B45:;
     w2c_j0 = w2c_l9;
     w2c_j1 = w2c_l8;
     w2c_j0 += w2c_j1;
@@ -39832,13 +43600,13 @@ static u32 w2c_f62(module *m, u64 w2c_p0, u64 w2c_p1, u64 w2c_p2) {
     w2c_l16 = w2c_i0;
     w2c_j0 = 0ull;
     w2c_l8 = w2c_j0;
-    goto w2c_B28;
-    w2c_B41:;
+    goto w2c_B31;
+    w2c_B44:;
     w2c_i0 = w2c_l19;
     w2c_i1 = 8u;
     w2c_i0 = w2c_i0 != w2c_i1;
-    if (w2c_i0) {goto w2c_B35;}
-    w2c_B40:;
+    if (w2c_i0) {goto w2c_B38;}
+    w2c_B43:;
     w2c_j0 = w2c_l11;
     w2c_j1 = w2c_l8;
     w2c_j2 = 10ull;
@@ -39851,13 +43619,13 @@ static u32 w2c_f62(module *m, u64 w2c_p0, u64 w2c_p1, u64 w2c_p2) {
     w2c_l14 = w2c_i0;
     w2c_i0 = 17u;
     w2c_l16 = w2c_i0;
-    goto w2c_B37;
-    w2c_B39:;
+    goto w2c_B40;
+    w2c_B42:;
     w2c_i0 = w2c_l19;
     w2c_i1 = 9u;
     w2c_i0 = w2c_i0 != w2c_i1;
-    if (w2c_i0) {goto w2c_B35;}
-    w2c_B38:;
+    if (w2c_i0) {goto w2c_B38;}
+    w2c_B41:;
     w2c_j0 = w2c_l11;
     w2c_j1 = w2c_l8;
     w2c_j0 += w2c_j1;
@@ -39868,18 +43636,18 @@ static u32 w2c_f62(module *m, u64 w2c_p0, u64 w2c_p1, u64 w2c_p2) {
     w2c_l14 = w2c_i0;
     w2c_i0 = 19u;
     w2c_l16 = w2c_i0;
-    w2c_B37:;
+    w2c_B40:;
     w2c_i0 = 0u;
     w2c_l15 = w2c_i0;
-    goto w2c_B28;
-    w2c_B36:;
+    goto w2c_B31;
+    w2c_B39:;
     w2c_i0 = w2c_l18;
     w2c_l14 = w2c_i0;
     w2c_i0 = w2c_l19;
     w2c_i1 = 4u;
     w2c_i0 = w2c_i0 == w2c_i1;
-    if (w2c_i0) {goto w2c_B34;}
-    w2c_B35:;
+    if (w2c_i0) {goto w2c_B37;}
+    w2c_B38:;
     w2c_j0 = 0ull;
     w2c_l6 = w2c_j0;
     w2c_j0 = w2c_p2;
@@ -39900,17 +43668,17 @@ static u32 w2c_f62(module *m, u64 w2c_p0, u64 w2c_p1, u64 w2c_p2) {
     w2c_j0 = w2c_p1;
     w2c_j1 = 8ull;
     w2c_i0 = w2c_j0 >= w2c_j1;
-    if (w2c_i0) {goto w2c_B138;}
+    if (w2c_i0) {goto w2c_B141;}
     w2c_j0 = 0ull;
     w2c_l8 = w2c_j0;
-    goto w2c_B137;
-    w2c_B138:;
+    goto w2c_B140;
+    w2c_B141:;
     w2c_j0 = 0ull;
     w2c_l8 = w2c_j0;
     w2c_j0 = w2c_l12;
     w2c_j1 = 3ull;
     w2c_i0 = w2c_j0 < w2c_j1;
-    if (w2c_i0) {goto w2c_B137;}
+    if (w2c_i0) {goto w2c_B140;}
     w2c_j0 = w2c_p1;
     w2c_j1 = 18446744073709551607ull;
     w2c_j0 += w2c_j1;
@@ -39919,7 +43687,7 @@ static u32 w2c_f62(module *m, u64 w2c_p0, u64 w2c_p1, u64 w2c_p2) {
     w2c_l8 = w2c_j0;
     w2c_j0 = 0ull;
     w2c_l6 = w2c_j0;
-    w2c_L139:
+    w2c_L142:
       w2c_j0 = w2c_l5;
       w2c_j1 = w2c_l6;
       w2c_j0 += w2c_j1;
@@ -39929,7 +43697,7 @@ static u32 w2c_f62(module *m, u64 w2c_p0, u64 w2c_p1, u64 w2c_p2) {
       w2c_j0 &= w2c_j1;
       w2c_j1 = 63050398541283552ull;
       w2c_i0 = w2c_j0 != w2c_j1;
-      if (w2c_i0) {goto w2c_B137;}
+      if (w2c_i0) {goto w2c_B140;}
       w2c_j0 = w2c_l8;
       w2c_j1 = 3ull;
       w2c_j0 += w2c_j1;
@@ -39941,7 +43709,7 @@ static u32 w2c_f62(module *m, u64 w2c_p0, u64 w2c_p1, u64 w2c_p2) {
       w2c_j0 = w2c_l4;
       w2c_j1 = 3ull;
       w2c_i0 = w2c_j0 < w2c_j1;
-      if (w2c_i0) {goto w2c_B137;}
+      if (w2c_i0) {goto w2c_B140;}
       w2c_j0 = w2c_l4;
       w2c_j1 = 18446744073709551613ull;
       w2c_j0 += w2c_j1;
@@ -39955,21 +43723,21 @@ static u32 w2c_f62(module *m, u64 w2c_p0, u64 w2c_p1, u64 w2c_p2) {
       w2c_j0 += w2c_j1;
       w2c_p0 = w2c_j0;
       w2c_i0 = w2c_l14;
-      if (w2c_i0) {goto w2c_L139;}
-    w2c_B137:;
+      if (w2c_i0) {goto w2c_L142;}
+    w2c_B140:;
     w2c_j0 = w2c_p1;
     w2c_j1 = w2c_l6;
     w2c_i0 = w2c_j0 <= w2c_j1;
-    if (w2c_i0) {goto w2c_B140;}
+    if (w2c_i0) {goto w2c_B143;}
     w2c_j0 = w2c_l8;
     w2c_j1 = w2c_l12;
     w2c_i0 = w2c_j0 >= w2c_j1;
-    if (w2c_i0) {goto w2c_B140;}
+    if (w2c_i0) {goto w2c_B143;}
     w2c_j0 = w2c_l8;
     w2c_j1 = 1ull;
     w2c_j0 += w2c_j1;
     w2c_p0 = w2c_j0;
-    w2c_L141:
+    w2c_L144:
       w2c_j0 = w2c_l5;
       w2c_j1 = w2c_l6;
       w2c_j0 += w2c_j1;
@@ -39990,7 +43758,7 @@ static u32 w2c_f62(module *m, u64 w2c_p0, u64 w2c_p1, u64 w2c_p2) {
       w2c_j0 = w2c_p0;
       w2c_j1 = w2c_l12;
       w2c_i0 = w2c_j0 >= w2c_j1;
-      if (w2c_i0) {goto w2c_B140;}
+      if (w2c_i0) {goto w2c_B143;}
       w2c_j0 = w2c_p0;
       w2c_j1 = 1ull;
       w2c_j0 += w2c_j1;
@@ -39998,8 +43766,8 @@ static u32 w2c_f62(module *m, u64 w2c_p0, u64 w2c_p1, u64 w2c_p2) {
       w2c_j0 = w2c_p1;
       w2c_j1 = w2c_l6;
       w2c_i0 = w2c_j0 > w2c_j1;
-      if (w2c_i0) {goto w2c_L141;}
-    w2c_B140:;
+      if (w2c_i0) {goto w2c_L144;}
+    w2c_B143:;
     w2c_j0 = w2c_p2;
     w2c_i0 = (u32)(w2c_j0);
     w2c_j1 = w2c_l6;
@@ -40007,7 +43775,7 @@ static u32 w2c_f62(module *m, u64 w2c_p0, u64 w2c_p1, u64 w2c_p2) {
     w2c_i0 = 2u;
     w2c_l14 = w2c_i0;
     goto w2c_B1;
-    w2c_B34:;
+    w2c_B37:;
     w2c_j0 = w2c_l8;
     w2c_j1 = 1000ull;
     w2c_j0 *= w2c_j1;
@@ -40020,8 +43788,8 @@ static u32 w2c_f62(module *m, u64 w2c_p0, u64 w2c_p1, u64 w2c_p2) {
     w2c_l15 = w2c_i0;
     w2c_i0 = 12u;
     w2c_l16 = w2c_i0;
-    goto w2c_B28;
-    w2c_B33:;
+    goto w2c_B31;
+    w2c_B36:;
     w2c_j0 = w2c_l9;
     w2c_j1 = w2c_l8;
     w2c_j0 += w2c_j1;
@@ -40042,18 +43810,18 @@ static u32 w2c_f62(module *m, u64 w2c_p0, u64 w2c_p1, u64 w2c_p2) {
     w2c_l9 = w2c_j0;
     w2c_j0 = 0ull;
     w2c_l8 = w2c_j0;
-    goto w2c_B28;
-    w2c_B32:;
+    goto w2c_B31;
+    w2c_B35:;
     w2c_i0 = 1u;
     w2c_l14 = w2c_i0;
-    goto w2c_B30;
-    w2c_B31:;
+    goto w2c_B33;
+    w2c_B34:;
     w2c_i0 = 0u;
     w2c_l14 = w2c_i0;
-    w2c_B30:;
+    w2c_B33:;
     w2c_i0 = 8u;
     w2c_l16 = w2c_i0;
-    w2c_B29:;
+    w2c_B32:;
     w2c_j0 = w2c_l9;
     w2c_j1 = w2c_l8;
     w2c_j0 += w2c_j1;
@@ -40068,7 +43836,7 @@ static u32 w2c_f62(module *m, u64 w2c_p0, u64 w2c_p1, u64 w2c_p2) {
     w2c_l15 = w2c_i0;
     w2c_j0 = 0ull;
     w2c_l8 = w2c_j0;
-    w2c_B28:;
+    w2c_B31:;
     w2c_j0 = w2c_l3;
     w2c_i0 = (u32)(w2c_j0);
     w2c_i1 = 0u;
@@ -40077,7 +43845,7 @@ static u32 w2c_f62(module *m, u64 w2c_p0, u64 w2c_p1, u64 w2c_p2) {
     w2c_i0 = (u32)(w2c_j0);
     w2c_i1 = 0u;
     i32_store(m, (u64)(w2c_i0), w2c_i1);
-    w2c_B9:;
+    w2c_B12:;
     w2c_j0 = w2c_l3;
     w2c_i0 = (u32)(w2c_j0);
     w2c_j1 = w2c_l3;
@@ -40097,24 +43865,24 @@ static u32 w2c_f62(module *m, u64 w2c_p0, u64 w2c_p1, u64 w2c_p2) {
     w2c_j0 = w2c_p0;
     w2c_j1 = 0ull;
     w2c_i0 = w2c_j0 != w2c_j1;
-    if (w2c_i0) {goto w2c_L8;}
+    if (w2c_i0) {goto w2c_L11;}
   w2c_i0 = w2c_l16;
   w2c_i1 = 255u;
   w2c_i0 &= w2c_i1;
   w2c_l14 = w2c_i0;
   w2c_i1 = 17u;
   w2c_i0 = w2c_i0 < w2c_i1;
-  if (w2c_i0) {goto w2c_B7;}
+  if (w2c_i0) {goto w2c_B10;}
   w2c_i0 = w2c_l14;
   w2c_i1 = 4294967279u;
   w2c_i0 += w2c_i1;
   switch (w2c_i0) {
-    case 0: goto w2c_B142;
-    case 1: goto w2c_B7;
-    case 2: goto w2c_B142;
-    default: goto w2c_B142;
+    case 0: goto w2c_B145;
+    case 1: goto w2c_B10;
+    case 2: goto w2c_B145;
+    default: goto w2c_B145;
   }
-  w2c_B142:;
+  w2c_B145:;
   w2c_j0 = w2c_l7;
   w2c_i0 = (u32)(w2c_j0);
   w2c_j1 = 0ull;
@@ -40130,7 +43898,7 @@ static u32 w2c_f62(module *m, u64 w2c_p0, u64 w2c_p1, u64 w2c_p2) {
   w2c_i0 = 0u;
   w2c_l14 = w2c_i0;
   goto w2c_B1;
-  w2c_B7:;
+  w2c_B10:;
   w2c_j0 = w2c_p2;
   w2c_i0 = (u32)(w2c_j0);
   w2c_j1 = 0ull;
@@ -40171,14 +43939,14 @@ static u32 w2c_chinese_date_read(module *m, u64 w2c_p0, u64 w2c_p1, u64 w2c_p2) 
   w2c_j0 = w2c_p0;
   w2c_j1 = w2c_p1;
   w2c_j2 = w2c_p2;
-  w2c_i0 = w2c_f64(m, w2c_j0, w2c_j1, w2c_j2);
+  w2c_i0 = w2c_f68(m, w2c_j0, w2c_j1, w2c_j2);
   w2c_l3 = w2c_i0;
   w2c_f1(m);
   w2c_i0 = w2c_l3;
   return w2c_i0;
 }
 
-static u32 w2c_f64(module *m, u64 w2c_p0, u64 w2c_p1, u64 w2c_p2) {
+static u32 w2c_f68(module *m, u64 w2c_p0, u64 w2c_p1, u64 w2c_p2) {
   u32 w2c_l9 = 0, w2c_l10 = 0, w2c_l11 = 0, w2c_l12 = 0, w2c_l13 = 0, w2c_l14 = 0, w2c_l15 = 0, w2c_l16 = 0, w2c_l17 = 0, w2c_l18 = 0, w2c_l19 = 0, w2c_l20 = 0, w2c_l21 = 0, w2c_l22 = 0, w2c_l23 = 0;
   u64 w2c_l3 = 0, w2c_l4 = 0, w2c_l5 = 0, w2c_l6 = 0, w2c_l7 = 0, w2c_l8 = 0;
   u32 w2c_i0, w2c_i1, w2c_i2, w2c_i3, w2c_i4;
@@ -40187,7 +43955,7 @@ static u32 w2c_f64(module *m, u64 w2c_p0, u64 w2c_p1, u64 w2c_p2) {
   w2c_l3 = w2c_j0;
   w2c_j1 = 16ull;
   w2c_i0 = (u64)((s64)w2c_j0 < (s64)w2c_j1);
-  if (w2c_i0) {goto w2c_B1;}
+  if (w2c_i0) {goto w2c_B3;}
   w2c_j0 = w2c_p0;
   w2c_j1 = 4096ull;
   w2c_j2 = 0ull;
@@ -40218,7 +43986,7 @@ static u32 w2c_f64(module *m, u64 w2c_p0, u64 w2c_p1, u64 w2c_p2) {
   w2c_j0 = w2c_p1;
   w2c_j1 = 4ull;
   w2c_i0 = w2c_j0 < w2c_j1;
-  if (w2c_i0) {goto w2c_B4;}
+  if (w2c_i0) {goto w2c_B6;}
   w2c_j0 = w2c_p0;
   w2c_j1 = w2c_l4;
   w2c_j0 += w2c_j1;
@@ -40227,7 +43995,7 @@ static u32 w2c_f64(module *m, u64 w2c_p0, u64 w2c_p1, u64 w2c_p2) {
   w2c_p0 = w2c_j0;
   w2c_j0 = w2c_p1;
   w2c_l6 = w2c_j0;
-  w2c_L5:
+  w2c_L7:
     w2c_j0 = w2c_p0;
     w2c_j1 = w2c_l6;
     w2c_j0 += w2c_j1;
@@ -40241,29 +44009,37 @@ static u32 w2c_f64(module *m, u64 w2c_p0, u64 w2c_p1, u64 w2c_p2) {
     w2c_i0 &= w2c_i1;
     w2c_i1 = 8421376u;
     w2c_i0 = w2c_i0 != w2c_i1;
-    if (w2c_i0) {goto w2c_B3;}
+    if (w2c_i0) {goto w2c_B5;}
     w2c_j0 = w2c_l6;
     w2c_j1 = 18446744073709551613ull;
     w2c_j0 += w2c_j1;
     w2c_l6 = w2c_j0;
     w2c_j1 = 3ull;
     w2c_i0 = w2c_j0 > w2c_j1;
-    if (w2c_i0) {goto w2c_L5;}
-  w2c_B4:;
+    if (w2c_i0) {goto w2c_L7;}
+  w2c_B6:;
   w2c_j0 = w2c_l6;
   w2c_j1 = 3ull;
   w2c_i0 = w2c_j0 > w2c_j1;
-  if (w2c_i0) {goto w2c_B3;}
+  if (w2c_i0) {goto w2c_B2;}
   w2c_j0 = w2c_l6;
   w2c_i0 = (u32)(w2c_j0);
   switch (w2c_i0) {
-    case 0: goto w2c_B2;
-    case 1: goto w2c_B3;
-    case 2: goto w2c_B3;
-    case 3: goto w2c_B6;
-    default: goto w2c_B2;
+    case 0: goto w2c_B0;
+    case 1: goto w2c_B2;
+    case 2: goto w2c_B2;
+    case 3: goto w2c_B4;
+    default: goto w2c_B0;
   }
-  w2c_B6:;
+  w2c_B5:;
+  w2c_j0 = w2c_l6;
+  w2c_j1 = 7ull;
+  w2c_i0 = w2c_j0 > w2c_j1;
+  if (w2c_i0) {goto w2c_B1;}
+  goto w2c_B2;
+  w2c_B4:;
+  w2c_j0 = 3ull;
+  w2c_l6 = w2c_j0;
   w2c_j0 = w2c_l5;
   w2c_i0 = (u32)(w2c_j0);
   w2c_i0 = i32_load16_u(m, (u64)(w2c_i0));
@@ -40280,21 +44056,46 @@ static u32 w2c_f64(module *m, u64 w2c_p0, u64 w2c_p1, u64 w2c_p2) {
   w2c_i1 = 12632312u;
   w2c_i0 &= w2c_i1;
   w2c_i1 = 8421376u;
-  w2c_i0 = w2c_i0 == w2c_i1;
+  w2c_i0 = w2c_i0 != w2c_i1;
   if (w2c_i0) {goto w2c_B2;}
+  goto w2c_B0;
   w2c_B3:;
+  UNREACHABLE;
+  w2c_B2:;
+  w2c_j0 = 0ull;
+  w2c_p0 = w2c_j0;
+  w2c_L8:
+    w2c_j0 = w2c_l6;
+    w2c_j1 = w2c_p0;
+    w2c_i0 = w2c_j0 == w2c_j1;
+    if (w2c_i0) {goto w2c_B0;}
+    w2c_j0 = w2c_l5;
+    w2c_j1 = w2c_p0;
+    w2c_j0 += w2c_j1;
+    w2c_l4 = w2c_j0;
+    w2c_j0 = w2c_p0;
+    w2c_j1 = 1ull;
+    w2c_j0 += w2c_j1;
+    w2c_p0 = w2c_j0;
+    w2c_j0 = w2c_l4;
+    w2c_i0 = (u32)(w2c_j0);
+    w2c_i0 = i32_load8_s(m, (u64)(w2c_i0));
+    w2c_i1 = 4294967295u;
+    w2c_i0 = (u32)((s32)w2c_i0 > (s32)w2c_i1);
+    if (w2c_i0) {goto w2c_L8;}
+  w2c_B1:;
   w2c_j0 = w2c_l5;
-  w2c_j1 = w2c_p1;
+  w2c_j1 = w2c_l6;
   w2c_i0 = w2c_f12(m, w2c_j0, w2c_j1);
-  if (w2c_i0) {goto w2c_B2;}
+  if (w2c_i0) {goto w2c_B0;}
   w2c_j0 = w2c_l3;
   m->w2c_g0 = w2c_j0;
   w2c_i0 = 5u;
   goto w2c_Bfunc;
-  w2c_B2:;
+  w2c_B0:;
   w2c_j0 = w2c_p1;
   w2c_i0 = !(w2c_j0);
-  if (w2c_i0) {goto w2c_B0;}
+  if (w2c_i0) {goto w2c_B9;}
   w2c_i0 = 0u;
   w2c_l9 = w2c_i0;
   w2c_j0 = 18446744073709551613ull;
@@ -40311,7 +44112,7 @@ static u32 w2c_f64(module *m, u64 w2c_p0, u64 w2c_p1, u64 w2c_p2) {
   w2c_l12 = w2c_i0;
   w2c_i0 = 0u;
   w2c_l13 = w2c_i0;
-  w2c_L9:
+  w2c_L12:
     w2c_j0 = w2c_l6;
     w2c_i0 = (u32)(w2c_j0);
     w2c_i0 = i32_load8_s(m, (u64)(w2c_i0));
@@ -40324,7 +44125,7 @@ static u32 w2c_f64(module *m, u64 w2c_p0, u64 w2c_p1, u64 w2c_p2) {
     w2c_i0 = w2c_l14;
     w2c_i1 = 4294967295u;
     w2c_i0 = (u32)((s32)w2c_i0 > (s32)w2c_i1);
-    if (w2c_i0) {goto w2c_B10;}
+    if (w2c_i0) {goto w2c_B13;}
     w2c_j0 = w2c_l6;
     w2c_i0 = (u32)(w2c_j0);
     w2c_i0 = i32_load8_u(m, (u64)(w2c_i0) + 1u);
@@ -40334,7 +44135,7 @@ static u32 w2c_f64(module *m, u64 w2c_p0, u64 w2c_p1, u64 w2c_p2) {
     w2c_i0 = w2c_l14;
     w2c_i1 = 4294967263u;
     w2c_i0 = w2c_i0 > w2c_i1;
-    if (w2c_i0) {goto w2c_B11;}
+    if (w2c_i0) {goto w2c_B14;}
     w2c_i0 = w2c_l15;
     w2c_i1 = 6u;
     w2c_i0 <<= (w2c_i1 & 31);
@@ -40345,8 +44146,8 @@ static u32 w2c_f64(module *m, u64 w2c_p0, u64 w2c_p1, u64 w2c_p2) {
     w2c_l15 = w2c_i0;
     w2c_j0 = 2ull;
     w2c_l4 = w2c_j0;
-    goto w2c_B10;
-    w2c_B11:;
+    goto w2c_B13;
+    w2c_B14:;
     w2c_j0 = w2c_l6;
     w2c_i0 = (u32)(w2c_j0);
     w2c_i0 = i32_load8_u(m, (u64)(w2c_i0) + 2u);
@@ -40356,7 +44157,7 @@ static u32 w2c_f64(module *m, u64 w2c_p0, u64 w2c_p1, u64 w2c_p2) {
     w2c_i0 = w2c_l14;
     w2c_i1 = 4294967279u;
     w2c_i0 = w2c_i0 > w2c_i1;
-    if (w2c_i0) {goto w2c_B12;}
+    if (w2c_i0) {goto w2c_B15;}
     w2c_i0 = w2c_l16;
     w2c_i1 = 6u;
     w2c_i0 <<= (w2c_i1 & 31);
@@ -40371,8 +44172,8 @@ static u32 w2c_f64(module *m, u64 w2c_p0, u64 w2c_p1, u64 w2c_p2) {
     w2c_l15 = w2c_i0;
     w2c_j0 = 3ull;
     w2c_l4 = w2c_j0;
-    goto w2c_B10;
-    w2c_B12:;
+    goto w2c_B13;
+    w2c_B15:;
     w2c_i0 = w2c_l17;
     w2c_i1 = 6u;
     w2c_i0 <<= (w2c_i1 & 31);
@@ -40395,39 +44196,39 @@ static u32 w2c_f64(module *m, u64 w2c_p0, u64 w2c_p1, u64 w2c_p2) {
     w2c_l15 = w2c_i0;
     w2c_j0 = 4ull;
     w2c_l4 = w2c_j0;
-    w2c_B10:;
+    w2c_B13:;
     w2c_i0 = 1u;
     w2c_l16 = w2c_i0;
     w2c_i0 = w2c_l15;
     w2c_i1 = 26577u;
     w2c_i0 = (u32)((s32)w2c_i0 > (s32)w2c_i1);
-    if (w2c_i0) {goto w2c_B27;}
+    if (w2c_i0) {goto w2c_B30;}
     w2c_i0 = w2c_l15;
     w2c_i1 = 25341u;
     w2c_i0 = (u32)((s32)w2c_i0 > (s32)w2c_i1);
-    if (w2c_i0) {goto w2c_B28;}
+    if (w2c_i0) {goto w2c_B31;}
     w2c_i0 = w2c_l15;
     w2c_i1 = 22776u;
     w2c_i0 = (u32)((s32)w2c_i0 > (s32)w2c_i1);
-    if (w2c_i0) {goto w2c_B29;}
+    if (w2c_i0) {goto w2c_B32;}
     w2c_i0 = w2c_l15;
     w2c_i1 = 20237u;
     w2c_i0 = w2c_i0 == w2c_i1;
-    if (w2c_i0) {goto w2c_B24;}
+    if (w2c_i0) {goto w2c_B27;}
     w2c_i0 = w2c_l15;
     w2c_i1 = 21441u;
     w2c_i0 = w2c_i0 == w2c_i1;
-    if (w2c_i0) {goto w2c_B15;}
-    goto w2c_B16;
-    w2c_B29:;
+    if (w2c_i0) {goto w2c_B18;}
+    goto w2c_B19;
+    w2c_B32:;
     w2c_i0 = w2c_l15;
     w2c_i1 = 22777u;
     w2c_i0 = w2c_i0 == w2c_i1;
-    if (w2c_i0) {goto w2c_B26;}
+    if (w2c_i0) {goto w2c_B29;}
     w2c_i0 = w2c_l15;
     w2c_i1 = 24180u;
     w2c_i0 = w2c_i0 != w2c_i1;
-    if (w2c_i0) {goto w2c_B16;}
+    if (w2c_i0) {goto w2c_B19;}
     w2c_i0 = 0u;
     w2c_l14 = w2c_i0;
     w2c_i0 = 2u;
@@ -40440,32 +44241,32 @@ static u32 w2c_f64(module *m, u64 w2c_p0, u64 w2c_p1, u64 w2c_p2) {
     w2c_l21 = w2c_i0;
     w2c_i0 = 0u;
     w2c_l22 = w2c_i0;
-    goto w2c_B17;
-    w2c_B28:;
+    goto w2c_B20;
+    w2c_B31:;
     w2c_i0 = w2c_l15;
     w2c_i1 = 26084u;
     w2c_i0 = (u32)((s32)w2c_i0 > (s32)w2c_i1);
-    if (w2c_i0) {goto w2c_B30;}
+    if (w2c_i0) {goto w2c_B33;}
     w2c_i0 = w2c_l15;
     w2c_i1 = 25342u;
     w2c_i0 = w2c_i0 == w2c_i1;
-    if (w2c_i0) {goto w2c_B22;}
+    if (w2c_i0) {goto w2c_B25;}
     w2c_i0 = w2c_l15;
     w2c_i1 = 25420u;
     w2c_i0 = w2c_i0 != w2c_i1;
-    if (w2c_i0) {goto w2c_B16;}
+    if (w2c_i0) {goto w2c_B19;}
     w2c_i0 = 8u;
     w2c_l23 = w2c_i0;
-    goto w2c_B14;
-    w2c_B30:;
+    goto w2c_B17;
+    w2c_B33:;
     w2c_i0 = w2c_l15;
     w2c_i1 = 26085u;
     w2c_i0 = w2c_i0 == w2c_i1;
-    if (w2c_i0) {goto w2c_B21;}
+    if (w2c_i0) {goto w2c_B24;}
     w2c_i0 = w2c_l15;
     w2c_i1 = 26376u;
     w2c_i0 = w2c_i0 != w2c_i1;
-    if (w2c_i0) {goto w2c_B16;}
+    if (w2c_i0) {goto w2c_B19;}
     w2c_i0 = 0u;
     w2c_l14 = w2c_i0;
     w2c_i0 = 3u;
@@ -40480,68 +44281,68 @@ static u32 w2c_f64(module *m, u64 w2c_p0, u64 w2c_p1, u64 w2c_p2) {
     w2c_l22 = w2c_i0;
     w2c_i0 = 1u;
     w2c_l16 = w2c_i0;
-    goto w2c_B17;
-    w2c_B27:;
+    goto w2c_B20;
+    w2c_B30:;
     w2c_i0 = w2c_l15;
     w2c_i1 = 36143u;
     w2c_i0 = (u32)((s32)w2c_i0 > (s32)w2c_i1);
-    if (w2c_i0) {goto w2c_B31;}
+    if (w2c_i0) {goto w2c_B34;}
     w2c_i0 = w2c_l15;
     w2c_i1 = 32901u;
     w2c_i0 = (u32)((s32)w2c_i0 > (s32)w2c_i1);
-    if (w2c_i0) {goto w2c_B32;}
+    if (w2c_i0) {goto w2c_B35;}
     w2c_i0 = w2c_l15;
     w2c_i1 = 26578u;
     w2c_i0 = w2c_i0 == w2c_i1;
-    if (w2c_i0) {goto w2c_B23;}
+    if (w2c_i0) {goto w2c_B26;}
     w2c_i0 = w2c_l15;
     w2c_i1 = 29590u;
     w2c_i0 = w2c_i0 != w2c_i1;
-    if (w2c_i0) {goto w2c_B16;}
+    if (w2c_i0) {goto w2c_B19;}
     w2c_i0 = 9u;
     w2c_l23 = w2c_i0;
-    goto w2c_B14;
-    w2c_B32:;
+    goto w2c_B17;
+    w2c_B35:;
     w2c_i0 = w2c_l15;
     w2c_i1 = 32902u;
     w2c_i0 = w2c_i0 == w2c_i1;
-    if (w2c_i0) {goto w2c_B25;}
+    if (w2c_i0) {goto w2c_B28;}
     w2c_i0 = w2c_l15;
     w2c_i1 = 36019u;
     w2c_i0 = w2c_i0 != w2c_i1;
-    if (w2c_i0) {goto w2c_B16;}
-    goto w2c_B19;
-    w2c_B31:;
+    if (w2c_i0) {goto w2c_B19;}
+    goto w2c_B22;
+    w2c_B34:;
     w2c_i0 = w2c_l15;
     w2c_i1 = 38519u;
     w2c_i0 = (u32)((s32)w2c_i0 > (s32)w2c_i1);
-    if (w2c_i0) {goto w2c_B33;}
+    if (w2c_i0) {goto w2c_B36;}
     w2c_i0 = w2c_l15;
     w2c_i1 = 36144u;
     w2c_i0 = w2c_i0 == w2c_i1;
-    if (w2c_i0) {goto w2c_B19;}
+    if (w2c_i0) {goto w2c_B22;}
     w2c_i0 = w2c_l15;
     w2c_i1 = 38470u;
     w2c_i0 = w2c_i0 != w2c_i1;
-    if (w2c_i0) {goto w2c_B16;}
-    goto w2c_B20;
-    w2c_B33:;
+    if (w2c_i0) {goto w2c_B19;}
+    goto w2c_B23;
+    w2c_B36:;
     w2c_i0 = w2c_l15;
     w2c_i1 = 38520u;
     w2c_i0 = w2c_i0 == w2c_i1;
-    if (w2c_i0) {goto w2c_B20;}
+    if (w2c_i0) {goto w2c_B23;}
     w2c_i0 = 0u;
     w2c_l23 = w2c_i0;
     w2c_i0 = w2c_l15;
     w2c_i1 = 38646u;
     w2c_i0 = w2c_i0 != w2c_i1;
-    if (w2c_i0) {goto w2c_B16;}
+    if (w2c_i0) {goto w2c_B19;}
     w2c_i0 = 0u;
     w2c_l14 = w2c_i0;
     w2c_i0 = 1u;
     w2c_l19 = w2c_i0;
-    goto w2c_B18;
-    w2c_B26:;
+    goto w2c_B21;
+    w2c_B29:;
     w2c_i0 = 1u;
     w2c_l21 = w2c_i0;
     w2c_i0 = 0u;
@@ -40558,20 +44359,20 @@ static u32 w2c_f64(module *m, u64 w2c_p0, u64 w2c_p1, u64 w2c_p2) {
     w2c_l16 = w2c_i0;
     w2c_i0 = 1u;
     w2c_l23 = w2c_i0;
-    goto w2c_B13;
-    w2c_B25:;
+    goto w2c_B16;
+    w2c_B28:;
     w2c_i0 = 4u;
     w2c_l23 = w2c_i0;
-    goto w2c_B14;
-    w2c_B24:;
+    goto w2c_B17;
+    w2c_B27:;
     w2c_i0 = 5u;
     w2c_l23 = w2c_i0;
-    goto w2c_B14;
-    w2c_B23:;
+    goto w2c_B17;
+    w2c_B26:;
     w2c_i0 = 7u;
     w2c_l23 = w2c_i0;
-    goto w2c_B14;
-    w2c_B22:;
+    goto w2c_B17;
+    w2c_B25:;
     w2c_i0 = 0u;
     w2c_l14 = w2c_i0;
     w2c_i0 = 1u;
@@ -40586,8 +44387,8 @@ static u32 w2c_f64(module *m, u64 w2c_p0, u64 w2c_p1, u64 w2c_p2) {
     w2c_l18 = w2c_i0;
     w2c_i0 = 1u;
     w2c_l16 = w2c_i0;
-    goto w2c_B17;
-    w2c_B21:;
+    goto w2c_B20;
+    w2c_B24:;
     w2c_i0 = 0u;
     w2c_l20 = w2c_i0;
     w2c_i0 = 4u;
@@ -40602,19 +44403,19 @@ static u32 w2c_f64(module *m, u64 w2c_p0, u64 w2c_p1, u64 w2c_p2) {
     w2c_l22 = w2c_i0;
     w2c_i0 = 1u;
     w2c_l16 = w2c_i0;
-    goto w2c_B17;
-    w2c_B20:;
+    goto w2c_B20;
+    w2c_B23:;
     w2c_i0 = 6u;
     w2c_l23 = w2c_i0;
-    goto w2c_B14;
-    w2c_B19:;
+    goto w2c_B17;
+    w2c_B22:;
     w2c_i0 = 2u;
     w2c_l23 = w2c_i0;
     w2c_i0 = 0u;
     w2c_l14 = w2c_i0;
     w2c_i0 = 0u;
     w2c_l19 = w2c_i0;
-    w2c_B18:;
+    w2c_B21:;
     w2c_i0 = 0u;
     w2c_l20 = w2c_i0;
     w2c_i0 = 1u;
@@ -40623,22 +44424,22 @@ static u32 w2c_f64(module *m, u64 w2c_p0, u64 w2c_p1, u64 w2c_p2) {
     w2c_l22 = w2c_i0;
     w2c_i0 = 0u;
     w2c_l18 = w2c_i0;
-    goto w2c_B13;
-    w2c_B17:;
+    goto w2c_B16;
+    w2c_B20:;
     w2c_i0 = 0u;
     w2c_l23 = w2c_i0;
-    goto w2c_B13;
-    w2c_B16:;
+    goto w2c_B16;
+    w2c_B19:;
     w2c_i0 = w2c_l15;
     w2c_i1 = 4294945853u;
     w2c_i0 += w2c_i1;
     w2c_i1 = 1u;
     w2c_i0 = w2c_i0 > w2c_i1;
-    if (w2c_i0) {goto w2c_B8;}
-    w2c_B15:;
+    if (w2c_i0) {goto w2c_B11;}
+    w2c_B18:;
     w2c_i0 = 3u;
     w2c_l23 = w2c_i0;
-    w2c_B14:;
+    w2c_B17:;
     w2c_i0 = 0u;
     w2c_l14 = w2c_i0;
     w2c_i0 = 0u;
@@ -40653,7 +44454,7 @@ static u32 w2c_f64(module *m, u64 w2c_p0, u64 w2c_p1, u64 w2c_p2) {
     w2c_l18 = w2c_i0;
     w2c_i0 = 0u;
     w2c_l16 = w2c_i0;
-    w2c_B13:;
+    w2c_B16:;
     w2c_i0 = w2c_l12;
     w2c_i1 = 24u;
     w2c_i0 >>= (w2c_i1 & 31);
@@ -40668,29 +44469,29 @@ static u32 w2c_f64(module *m, u64 w2c_p0, u64 w2c_p1, u64 w2c_p2) {
     w2c_j0 &= w2c_j1;
     w2c_i0 = (u32)(w2c_j0);
     switch (w2c_i0) {
-      case 0: goto w2c_B40;
-      case 1: goto w2c_B39;
-      case 2: goto w2c_B38;
-      case 3: goto w2c_B8;
-      default: goto w2c_B40;
+      case 0: goto w2c_B43;
+      case 1: goto w2c_B42;
+      case 2: goto w2c_B41;
+      case 3: goto w2c_B11;
+      default: goto w2c_B43;
     }
-    w2c_B40:;
+    w2c_B43:;
     w2c_i0 = w2c_l18;
     switch (w2c_i0) {
-      case 0: goto w2c_B42;
-      case 1: goto w2c_B8;
-      case 2: goto w2c_B41;
-      case 3: goto w2c_B8;
-      case 4: goto w2c_B8;
-      default: goto w2c_B42;
+      case 0: goto w2c_B45;
+      case 1: goto w2c_B11;
+      case 2: goto w2c_B44;
+      case 3: goto w2c_B11;
+      case 4: goto w2c_B11;
+      default: goto w2c_B45;
     }
-    w2c_B42:;
+    w2c_B45:;
     w2c_i0 = w2c_l12;
     w2c_i1 = 65535u;
     w2c_i0 &= w2c_i1;
     w2c_i1 = 999u;
     w2c_i0 = w2c_i0 > w2c_i1;
-    if (w2c_i0) {goto w2c_B8;}
+    if (w2c_i0) {goto w2c_B11;}
     w2c_i0 = 0u;
     w2c_l9 = w2c_i0;
     w2c_i0 = 0u;
@@ -40709,14 +44510,14 @@ static u32 w2c_f64(module *m, u64 w2c_p0, u64 w2c_p1, u64 w2c_p2) {
     w2c_l14 = w2c_i0;
     w2c_i1 = 65535u;
     w2c_i0 &= w2c_i1;
-    if (w2c_i0) {goto w2c_B34;}
-    goto w2c_B8;
-    w2c_B41:;
+    if (w2c_i0) {goto w2c_B37;}
+    goto w2c_B11;
+    w2c_B44:;
     w2c_i0 = w2c_l12;
     w2c_i1 = 65535u;
     w2c_i0 &= w2c_i1;
     w2c_i0 = !(w2c_i0);
-    if (w2c_i0) {goto w2c_B8;}
+    if (w2c_i0) {goto w2c_B11;}
     w2c_i0 = 1u;
     w2c_l13 = w2c_i0;
     w2c_i0 = 0u;
@@ -40729,46 +44530,46 @@ static u32 w2c_f64(module *m, u64 w2c_p0, u64 w2c_p1, u64 w2c_p2) {
     w2c_l15 = w2c_i0;
     w2c_i0 = w2c_l12;
     w2c_l14 = w2c_i0;
-    goto w2c_B34;
-    w2c_B39:;
+    goto w2c_B37;
+    w2c_B42:;
     w2c_i0 = w2c_l22;
     w2c_i0 = !(w2c_i0);
-    if (w2c_i0) {goto w2c_B43;}
+    if (w2c_i0) {goto w2c_B46;}
     w2c_i0 = w2c_l17;
     w2c_j0 = (u64)(w2c_i0);
     w2c_j1 = 255ull;
     w2c_j0 &= w2c_j1;
     w2c_i0 = (u32)(w2c_j0);
     switch (w2c_i0) {
-      case 0: goto w2c_B8;
-      case 1: goto w2c_B8;
-      case 2: goto w2c_B44;
-      case 3: goto w2c_B47;
-      case 4: goto w2c_B45;
-      case 5: goto w2c_B8;
-      case 6: goto w2c_B46;
-      default: goto w2c_B8;
+      case 0: goto w2c_B11;
+      case 1: goto w2c_B11;
+      case 2: goto w2c_B47;
+      case 3: goto w2c_B50;
+      case 4: goto w2c_B48;
+      case 5: goto w2c_B11;
+      case 6: goto w2c_B49;
+      default: goto w2c_B11;
     }
-    w2c_B47:;
+    w2c_B50:;
     w2c_i0 = w2c_l15;
     w2c_i1 = 10u;
     w2c_i0 *= w2c_i1;
     w2c_l15 = w2c_i0;
-    goto w2c_B44;
-    w2c_B46:;
+    goto w2c_B47;
+    w2c_B49:;
     w2c_i0 = w2c_l15;
     w2c_i1 = 10u;
     w2c_i0 *= w2c_i1;
     w2c_i1 = w2c_l11;
     w2c_i0 += w2c_i1;
     w2c_l15 = w2c_i0;
-    goto w2c_B44;
-    w2c_B45:;
+    goto w2c_B47;
+    w2c_B48:;
     w2c_i0 = w2c_l15;
     w2c_i1 = 1u;
     w2c_i0 = w2c_i0 == w2c_i1;
-    if (w2c_i0) {goto w2c_B8;}
-    w2c_B44:;
+    if (w2c_i0) {goto w2c_B11;}
+    w2c_B47:;
     w2c_i0 = 2u;
     w2c_l13 = w2c_i0;
     w2c_i0 = w2c_l15;
@@ -40776,7 +44577,7 @@ static u32 w2c_f64(module *m, u64 w2c_p0, u64 w2c_p1, u64 w2c_p2) {
     w2c_i0 &= w2c_i1;
     w2c_i1 = 2u;
     w2c_i0 = w2c_i0 != w2c_i1;
-    if (w2c_i0) {goto w2c_B48;}
+    if (w2c_i0) {goto w2c_B51;}
     w2c_i0 = 1u;
     w2c_l18 = w2c_i0;
     w2c_i0 = 0u;
@@ -40787,11 +44588,11 @@ static u32 w2c_f64(module *m, u64 w2c_p0, u64 w2c_p1, u64 w2c_p2) {
     w2c_i1 = 3u;
     w2c_i0 &= w2c_i1;
     w2c_i0 = !(w2c_i0);
-    if (w2c_i0) {goto w2c_B49;}
+    if (w2c_i0) {goto w2c_B52;}
     w2c_i0 = 28u;
     w2c_l10 = w2c_i0;
-    goto w2c_B37;
-    w2c_B49:;
+    goto w2c_B40;
+    w2c_B52:;
     w2c_i0 = 29u;
     w2c_i1 = 28u;
     w2c_i2 = 29u;
@@ -40807,8 +44608,8 @@ static u32 w2c_f64(module *m, u64 w2c_p0, u64 w2c_p1, u64 w2c_p2) {
     w2c_i2 = REM_U(w2c_i2, w2c_i3);
     w2c_i0 = w2c_i2 ? w2c_i0 : w2c_i1;
     w2c_l10 = w2c_i0;
-    goto w2c_B37;
-    w2c_B48:;
+    goto w2c_B40;
+    w2c_B51:;
     w2c_i0 = 30u;
     w2c_i1 = 30u;
     w2c_i2 = 31u;
@@ -40830,27 +44631,27 @@ static u32 w2c_f64(module *m, u64 w2c_p0, u64 w2c_p1, u64 w2c_p2) {
     w2c_l11 = w2c_i0;
     w2c_i0 = w2c_l12;
     w2c_l14 = w2c_i0;
-    goto w2c_B36;
-    w2c_B43:;
+    goto w2c_B39;
+    w2c_B46:;
     w2c_i0 = w2c_l17;
     w2c_j0 = (u64)(w2c_i0);
     w2c_j1 = 255ull;
     w2c_j0 &= w2c_j1;
     w2c_i0 = (u32)(w2c_j0);
     switch (w2c_i0) {
-      case 0: goto w2c_B58;
-      case 1: goto w2c_B57;
-      case 2: goto w2c_B56;
-      case 3: goto w2c_B8;
-      case 4: goto w2c_B55;
-      case 5: goto w2c_B53;
-      case 6: goto w2c_B8;
-      default: goto w2c_B58;
+      case 0: goto w2c_B61;
+      case 1: goto w2c_B60;
+      case 2: goto w2c_B59;
+      case 3: goto w2c_B11;
+      case 4: goto w2c_B58;
+      case 5: goto w2c_B56;
+      case 6: goto w2c_B11;
+      default: goto w2c_B61;
     }
-    w2c_B58:;
+    w2c_B61:;
     w2c_i0 = w2c_l21;
     w2c_i0 = !(w2c_i0);
-    if (w2c_i0) {goto w2c_B8;}
+    if (w2c_i0) {goto w2c_B11;}
     w2c_i0 = 0u;
     w2c_l15 = w2c_i0;
     w2c_i0 = 1u;
@@ -40869,31 +44670,31 @@ static u32 w2c_f64(module *m, u64 w2c_p0, u64 w2c_p1, u64 w2c_p2) {
     w2c_l18 = w2c_i0;
     w2c_i0 = w2c_l23;
     switch (w2c_i0) {
-      case 0: goto w2c_B50;
-      case 1: goto w2c_B52;
-      case 2: goto w2c_B36;
-      default: goto w2c_B52;
+      case 0: goto w2c_B53;
+      case 1: goto w2c_B55;
+      case 2: goto w2c_B39;
+      default: goto w2c_B55;
     }
-    w2c_B57:;
+    w2c_B60:;
     w2c_i0 = w2c_l19;
-    if (w2c_i0) {goto w2c_B8;}
+    if (w2c_i0) {goto w2c_B11;}
     w2c_i0 = 2u;
     w2c_l16 = w2c_i0;
-    goto w2c_B51;
-    w2c_B56:;
+    goto w2c_B54;
+    w2c_B59:;
     w2c_i0 = w2c_l20;
     w2c_i0 = !(w2c_i0);
-    if (w2c_i0) {goto w2c_B8;}
+    if (w2c_i0) {goto w2c_B11;}
     w2c_i0 = 3u;
     w2c_l16 = w2c_i0;
-    goto w2c_B54;
-    w2c_B55:;
+    goto w2c_B57;
+    w2c_B58:;
     w2c_i0 = w2c_l20;
     w2c_i0 = !(w2c_i0);
-    if (w2c_i0) {goto w2c_B8;}
+    if (w2c_i0) {goto w2c_B11;}
     w2c_i0 = 5u;
     w2c_l16 = w2c_i0;
-    w2c_B54:;
+    w2c_B57:;
     w2c_i0 = 1u;
     w2c_l17 = w2c_i0;
     w2c_i0 = w2c_l15;
@@ -40915,11 +44716,11 @@ static u32 w2c_f64(module *m, u64 w2c_p0, u64 w2c_p1, u64 w2c_p2) {
     w2c_i0 = 0u;
     w2c_l18 = w2c_i0;
     w2c_i0 = w2c_l22;
-    if (w2c_i0) {goto w2c_B50;}
-    goto w2c_B36;
-    w2c_B53:;
+    if (w2c_i0) {goto w2c_B53;}
+    goto w2c_B39;
+    w2c_B56:;
     w2c_i0 = w2c_l19;
-    if (w2c_i0) {goto w2c_B8;}
+    if (w2c_i0) {goto w2c_B11;}
     w2c_i0 = 1u;
     w2c_l17 = w2c_i0;
     w2c_i0 = w2c_l15;
@@ -40942,19 +44743,19 @@ static u32 w2c_f64(module *m, u64 w2c_p0, u64 w2c_p1, u64 w2c_p2) {
     w2c_i1 = w2c_l16;
     w2c_i0 &= w2c_i1;
     w2c_i0 = !(w2c_i0);
-    if (w2c_i0) {goto w2c_B36;}
+    if (w2c_i0) {goto w2c_B39;}
     w2c_i0 = 6u;
     w2c_l16 = w2c_i0;
-    goto w2c_B50;
-    w2c_B52:;
+    goto w2c_B53;
+    w2c_B55:;
     w2c_i0 = 4u;
     w2c_l16 = w2c_i0;
-    w2c_B51:;
+    w2c_B54:;
     w2c_i0 = w2c_l23;
     w2c_l17 = w2c_i0;
     w2c_i0 = 0u;
     w2c_l23 = w2c_i0;
-    w2c_B50:;
+    w2c_B53:;
     w2c_i0 = 1u;
     w2c_l13 = w2c_i0;
     w2c_i0 = w2c_l16;
@@ -40967,11 +44768,11 @@ static u32 w2c_f64(module *m, u64 w2c_p0, u64 w2c_p1, u64 w2c_p2) {
     w2c_l14 = w2c_i0;
     w2c_i0 = 1u;
     w2c_l18 = w2c_i0;
-    goto w2c_B36;
-    w2c_B38:;
+    goto w2c_B39;
+    w2c_B41:;
     w2c_i0 = w2c_l14;
     w2c_i0 = !(w2c_i0);
-    if (w2c_i0) {goto w2c_B61;}
+    if (w2c_i0) {goto w2c_B64;}
     w2c_i0 = w2c_l11;
     w2c_j0 = (u64)(w2c_i0);
     w2c_l8 = w2c_j0;
@@ -40994,75 +44795,75 @@ static u32 w2c_f64(module *m, u64 w2c_p0, u64 w2c_p1, u64 w2c_p2) {
     w2c_j0 &= w2c_j1;
     w2c_i0 = (u32)(w2c_j0);
     switch (w2c_i0) {
-      case 0: goto w2c_B8;
-      case 1: goto w2c_B8;
-      case 2: goto w2c_B59;
-      case 3: goto w2c_B63;
-      case 4: goto w2c_B8;
-      case 5: goto w2c_B8;
-      case 6: goto w2c_B62;
-      default: goto w2c_B8;
+      case 0: goto w2c_B11;
+      case 1: goto w2c_B11;
+      case 2: goto w2c_B62;
+      case 3: goto w2c_B66;
+      case 4: goto w2c_B11;
+      case 5: goto w2c_B11;
+      case 6: goto w2c_B65;
+      default: goto w2c_B11;
     }
-    w2c_B63:;
+    w2c_B66:;
     w2c_i0 = w2c_l10;
     w2c_i1 = 10u;
     w2c_i0 *= w2c_i1;
     w2c_l10 = w2c_i0;
-    goto w2c_B60;
-    w2c_B62:;
+    goto w2c_B63;
+    w2c_B65:;
     w2c_i0 = w2c_l10;
     w2c_i1 = 10u;
     w2c_i0 *= w2c_i1;
     w2c_i1 = w2c_l9;
     w2c_i0 += w2c_i1;
     w2c_l10 = w2c_i0;
-    goto w2c_B60;
-    w2c_B61:;
+    goto w2c_B63;
+    w2c_B64:;
     w2c_i0 = w2c_l11;
     w2c_j0 = (u64)(w2c_i0);
     w2c_j1 = 255ull;
     w2c_j0 &= w2c_j1;
     w2c_i0 = (u32)(w2c_j0);
     switch (w2c_i0) {
-      case 0: goto w2c_B72;
-      case 1: goto w2c_B71;
-      case 2: goto w2c_B66;
-      case 3: goto w2c_B8;
-      case 4: goto w2c_B70;
-      case 5: goto w2c_B68;
-      case 6: goto w2c_B8;
-      default: goto w2c_B72;
+      case 0: goto w2c_B75;
+      case 1: goto w2c_B74;
+      case 2: goto w2c_B69;
+      case 3: goto w2c_B11;
+      case 4: goto w2c_B73;
+      case 5: goto w2c_B71;
+      case 6: goto w2c_B11;
+      default: goto w2c_B75;
     }
-    w2c_B72:;
+    w2c_B75:;
     w2c_i0 = w2c_l21;
     w2c_i0 = !(w2c_i0);
-    if (w2c_i0) {goto w2c_B8;}
+    if (w2c_i0) {goto w2c_B11;}
     w2c_i0 = w2c_l19;
-    if (w2c_i0) {goto w2c_B67;}
+    if (w2c_i0) {goto w2c_B70;}
     w2c_i0 = 4u;
     w2c_l20 = w2c_i0;
     w2c_i0 = w2c_l23;
     w2c_l19 = w2c_i0;
-    goto w2c_B69;
-    w2c_B71:;
+    goto w2c_B72;
+    w2c_B74:;
     w2c_i0 = w2c_l19;
-    if (w2c_i0) {goto w2c_B8;}
+    if (w2c_i0) {goto w2c_B11;}
     w2c_i0 = 0u;
     w2c_l22 = w2c_i0;
     w2c_i0 = 2u;
     w2c_l20 = w2c_i0;
     w2c_i0 = w2c_l23;
     w2c_l19 = w2c_i0;
-    goto w2c_B64;
-    w2c_B70:;
+    goto w2c_B67;
+    w2c_B73:;
     w2c_i0 = w2c_l20;
     w2c_i0 = !(w2c_i0);
-    if (w2c_i0) {goto w2c_B8;}
+    if (w2c_i0) {goto w2c_B11;}
     w2c_i0 = 5u;
     w2c_l20 = w2c_i0;
     w2c_i0 = w2c_l10;
     w2c_l19 = w2c_i0;
-    w2c_B69:;
+    w2c_B72:;
     w2c_i0 = 0u;
     w2c_l22 = w2c_i0;
     w2c_i0 = 0u;
@@ -41086,11 +44887,11 @@ static u32 w2c_f64(module *m, u64 w2c_p0, u64 w2c_p1, u64 w2c_p2) {
     w2c_i0 &= w2c_i1;
     w2c_i1 = w2c_l15;
     w2c_i0 = w2c_i0 < w2c_i1;
-    if (w2c_i0) {goto w2c_B64;}
-    goto w2c_B59;
-    w2c_B68:;
+    if (w2c_i0) {goto w2c_B67;}
+    goto w2c_B62;
+    w2c_B71:;
     w2c_i0 = w2c_l19;
-    if (w2c_i0) {goto w2c_B8;}
+    if (w2c_i0) {goto w2c_B11;}
     w2c_i0 = w2c_l23;
     w2c_i1 = w2c_l10;
     w2c_i2 = 10u;
@@ -41100,15 +44901,15 @@ static u32 w2c_f64(module *m, u64 w2c_p0, u64 w2c_p1, u64 w2c_p2) {
     w2c_i0 &= w2c_i1;
     w2c_i1 = w2c_l15;
     w2c_i0 = w2c_i0 > w2c_i1;
-    if (w2c_i0) {goto w2c_B73;}
+    if (w2c_i0) {goto w2c_B76;}
     w2c_i0 = 6u;
     w2c_l20 = w2c_i0;
     w2c_i0 = w2c_l10;
     w2c_l19 = w2c_i0;
     w2c_i0 = w2c_l23;
     w2c_l22 = w2c_i0;
-    goto w2c_B64;
-    w2c_B73:;
+    goto w2c_B67;
+    w2c_B76:;
     w2c_i0 = 0u;
     w2c_l14 = w2c_i0;
     w2c_i0 = 0u;
@@ -41121,19 +44922,19 @@ static u32 w2c_f64(module *m, u64 w2c_p0, u64 w2c_p1, u64 w2c_p2) {
     w2c_l16 = w2c_i0;
     w2c_i0 = 0u;
     w2c_l22 = w2c_i0;
-    goto w2c_B65;
-    w2c_B67:;
+    goto w2c_B68;
+    w2c_B70:;
     w2c_i0 = 0u;
     w2c_l19 = w2c_i0;
     w2c_i0 = 1u;
     w2c_l20 = w2c_i0;
     w2c_i0 = 0u;
     w2c_l22 = w2c_i0;
-    goto w2c_B64;
-    w2c_B66:;
+    goto w2c_B67;
+    w2c_B69:;
     w2c_i0 = w2c_l20;
     w2c_i0 = !(w2c_i0);
-    if (w2c_i0) {goto w2c_B8;}
+    if (w2c_i0) {goto w2c_B11;}
     w2c_i0 = 0u;
     w2c_l22 = w2c_i0;
     w2c_i0 = w2c_l10;
@@ -41143,13 +44944,13 @@ static u32 w2c_f64(module *m, u64 w2c_p0, u64 w2c_p1, u64 w2c_p2) {
     w2c_i0 &= w2c_i1;
     w2c_i1 = w2c_l15;
     w2c_i0 = w2c_i0 > w2c_i1;
-    if (w2c_i0) {goto w2c_B74;}
+    if (w2c_i0) {goto w2c_B77;}
     w2c_i0 = 3u;
     w2c_l20 = w2c_i0;
     w2c_i0 = w2c_l10;
     w2c_l19 = w2c_i0;
-    goto w2c_B64;
-    w2c_B74:;
+    goto w2c_B67;
+    w2c_B77:;
     w2c_i0 = 0u;
     w2c_l14 = w2c_i0;
     w2c_i0 = 0u;
@@ -41160,13 +44961,13 @@ static u32 w2c_f64(module *m, u64 w2c_p0, u64 w2c_p1, u64 w2c_p2) {
     w2c_l11 = w2c_i0;
     w2c_i0 = 0u;
     w2c_l16 = w2c_i0;
-    w2c_B65:;
+    w2c_B68:;
     w2c_i0 = 0u;
     w2c_l13 = w2c_i0;
     w2c_i0 = 0u;
     w2c_l18 = w2c_i0;
-    goto w2c_B59;
-    w2c_B64:;
+    goto w2c_B62;
+    w2c_B67:;
     w2c_i0 = 1u;
     w2c_l18 = w2c_i0;
     w2c_i0 = 2u;
@@ -41181,8 +44982,8 @@ static u32 w2c_f64(module *m, u64 w2c_p0, u64 w2c_p1, u64 w2c_p2) {
     w2c_l11 = w2c_i0;
     w2c_i0 = w2c_l19;
     w2c_l16 = w2c_i0;
-    goto w2c_B59;
-    w2c_B60:;
+    goto w2c_B62;
+    w2c_B63:;
     w2c_i0 = w2c_l12;
     w2c_l14 = w2c_i0;
     w2c_i0 = w2c_l17;
@@ -41191,7 +44992,7 @@ static u32 w2c_f64(module *m, u64 w2c_p0, u64 w2c_p1, u64 w2c_p2) {
     w2c_l16 = w2c_i0;
     w2c_i0 = 0u;
     w2c_l22 = w2c_i0;
-    w2c_B59:;
+    w2c_B62:;
     w2c_i0 = w2c_l10;
     w2c_i1 = 255u;
     w2c_i0 &= w2c_i1;
@@ -41202,13 +45003,13 @@ static u32 w2c_f64(module *m, u64 w2c_p0, u64 w2c_p1, u64 w2c_p2) {
     w2c_i1 &= w2c_i2;
     w2c_i0 |= w2c_i1;
     w2c_l15 = w2c_i0;
-    goto w2c_B35;
-    w2c_B37:;
+    goto w2c_B38;
+    w2c_B40:;
     w2c_i0 = w2c_l12;
     w2c_l14 = w2c_i0;
     w2c_i0 = 2u;
     w2c_l13 = w2c_i0;
-    w2c_B36:;
+    w2c_B39:;
     w2c_i0 = w2c_l10;
     w2c_i1 = 8u;
     w2c_i0 <<= (w2c_i1 & 31);
@@ -41221,15 +45022,15 @@ static u32 w2c_f64(module *m, u64 w2c_p0, u64 w2c_p1, u64 w2c_p2) {
     w2c_l16 = w2c_i0;
     w2c_i0 = 0u;
     w2c_l22 = w2c_i0;
-    w2c_B35:;
+    w2c_B38:;
     w2c_i0 = w2c_l22;
     w2c_l9 = w2c_i0;
     w2c_i0 = w2c_l16;
     w2c_l10 = w2c_i0;
     w2c_i0 = w2c_l18;
     w2c_i0 = !(w2c_i0);
-    if (w2c_i0) {goto w2c_B8;}
-    w2c_B34:;
+    if (w2c_i0) {goto w2c_B11;}
+    w2c_B37:;
     w2c_j0 = w2c_l6;
     w2c_j1 = w2c_l4;
     w2c_j0 += w2c_j1;
@@ -41253,7 +45054,7 @@ static u32 w2c_f64(module *m, u64 w2c_p0, u64 w2c_p1, u64 w2c_p2) {
     w2c_l7 = w2c_j0;
     w2c_j1 = 0ull;
     w2c_i0 = w2c_j0 != w2c_j1;
-    if (w2c_i0) {goto w2c_L9;}
+    if (w2c_i0) {goto w2c_L12;}
   w2c_j0 = w2c_p2;
   w2c_i0 = (u32)(w2c_j0);
   w2c_j1 = 0ull;
@@ -41273,12 +45074,12 @@ static u32 w2c_f64(module *m, u64 w2c_p0, u64 w2c_p1, u64 w2c_p2) {
   w2c_i0 = w2c_l13;
   w2c_i1 = 3u;
   w2c_i0 = w2c_i0 == w2c_i1;
-  if (w2c_i0) {goto w2c_B7;}
+  if (w2c_i0) {goto w2c_B10;}
   w2c_j0 = w2c_l3;
   m->w2c_g0 = w2c_j0;
   w2c_i0 = 9u;
   goto w2c_Bfunc;
-  w2c_B8:;
+  w2c_B11:;
   w2c_j0 = 0ull;
   w2c_l6 = w2c_j0;
   w2c_j0 = w2c_p2;
@@ -41303,17 +45104,17 @@ static u32 w2c_f64(module *m, u64 w2c_p0, u64 w2c_p1, u64 w2c_p2) {
   w2c_j0 = w2c_p1;
   w2c_j1 = 8ull;
   w2c_i0 = w2c_j0 >= w2c_j1;
-  if (w2c_i0) {goto w2c_B76;}
+  if (w2c_i0) {goto w2c_B79;}
   w2c_j0 = 0ull;
   w2c_l8 = w2c_j0;
-  goto w2c_B75;
-  w2c_B76:;
+  goto w2c_B78;
+  w2c_B79:;
   w2c_j0 = 0ull;
   w2c_l8 = w2c_j0;
   w2c_j0 = w2c_l7;
   w2c_j1 = 3ull;
   w2c_i0 = w2c_j0 < w2c_j1;
-  if (w2c_i0) {goto w2c_B75;}
+  if (w2c_i0) {goto w2c_B78;}
   w2c_j0 = w2c_p1;
   w2c_j1 = 18446744073709551607ull;
   w2c_j0 += w2c_j1;
@@ -41322,7 +45123,7 @@ static u32 w2c_f64(module *m, u64 w2c_p0, u64 w2c_p1, u64 w2c_p2) {
   w2c_l8 = w2c_j0;
   w2c_j0 = 0ull;
   w2c_l6 = w2c_j0;
-  w2c_L77:
+  w2c_L80:
     w2c_j0 = w2c_l5;
     w2c_j1 = w2c_l6;
     w2c_j0 += w2c_j1;
@@ -41332,7 +45133,7 @@ static u32 w2c_f64(module *m, u64 w2c_p0, u64 w2c_p1, u64 w2c_p2) {
     w2c_j0 &= w2c_j1;
     w2c_j1 = 63050398541283552ull;
     w2c_i0 = w2c_j0 != w2c_j1;
-    if (w2c_i0) {goto w2c_B75;}
+    if (w2c_i0) {goto w2c_B78;}
     w2c_j0 = w2c_l8;
     w2c_j1 = 3ull;
     w2c_j0 += w2c_j1;
@@ -41344,7 +45145,7 @@ static u32 w2c_f64(module *m, u64 w2c_p0, u64 w2c_p1, u64 w2c_p2) {
     w2c_j0 = w2c_p0;
     w2c_j1 = 3ull;
     w2c_i0 = w2c_j0 < w2c_j1;
-    if (w2c_i0) {goto w2c_B75;}
+    if (w2c_i0) {goto w2c_B78;}
     w2c_j0 = w2c_p0;
     w2c_j1 = 18446744073709551613ull;
     w2c_j0 += w2c_j1;
@@ -41358,21 +45159,21 @@ static u32 w2c_f64(module *m, u64 w2c_p0, u64 w2c_p1, u64 w2c_p2) {
     w2c_j0 += w2c_j1;
     w2c_l4 = w2c_j0;
     w2c_i0 = w2c_l15;
-    if (w2c_i0) {goto w2c_L77;}
-  w2c_B75:;
+    if (w2c_i0) {goto w2c_L80;}
+  w2c_B78:;
   w2c_j0 = w2c_p1;
   w2c_j1 = w2c_l6;
   w2c_i0 = w2c_j0 <= w2c_j1;
-  if (w2c_i0) {goto w2c_B78;}
+  if (w2c_i0) {goto w2c_B81;}
   w2c_j0 = w2c_l8;
   w2c_j1 = w2c_l7;
   w2c_i0 = w2c_j0 >= w2c_j1;
-  if (w2c_i0) {goto w2c_B78;}
+  if (w2c_i0) {goto w2c_B81;}
   w2c_j0 = w2c_l8;
   w2c_j1 = 1ull;
   w2c_j0 += w2c_j1;
   w2c_p0 = w2c_j0;
-  w2c_L79:
+  w2c_L82:
     w2c_j0 = w2c_l5;
     w2c_j1 = w2c_l6;
     w2c_j0 += w2c_j1;
@@ -41393,7 +45194,7 @@ static u32 w2c_f64(module *m, u64 w2c_p0, u64 w2c_p1, u64 w2c_p2) {
     w2c_j0 = w2c_p0;
     w2c_j1 = w2c_l7;
     w2c_i0 = w2c_j0 >= w2c_j1;
-    if (w2c_i0) {goto w2c_B78;}
+    if (w2c_i0) {goto w2c_B81;}
     w2c_j0 = w2c_p0;
     w2c_j1 = 1ull;
     w2c_j0 += w2c_j1;
@@ -41401,8 +45202,8 @@ static u32 w2c_f64(module *m, u64 w2c_p0, u64 w2c_p1, u64 w2c_p2) {
     w2c_j0 = w2c_p1;
     w2c_j1 = w2c_l6;
     w2c_i0 = w2c_j0 > w2c_j1;
-    if (w2c_i0) {goto w2c_L79;}
-  w2c_B78:;
+    if (w2c_i0) {goto w2c_L82;}
+  w2c_B81:;
   w2c_j0 = w2c_p2;
   w2c_i0 = (u32)(w2c_j0);
   w2c_j1 = w2c_l6;
@@ -41411,7 +45212,7 @@ static u32 w2c_f64(module *m, u64 w2c_p0, u64 w2c_p1, u64 w2c_p2) {
   m->w2c_g0 = w2c_j0;
   w2c_i0 = 2u;
   goto w2c_Bfunc;
-  w2c_B7:;
+  w2c_B10:;
   w2c_j0 = w2c_p2;
   w2c_i0 = (u32)(w2c_j0);
   w2c_i1 = w2c_l14;
@@ -41432,9 +45233,7 @@ static u32 w2c_f64(module *m, u64 w2c_p0, u64 w2c_p1, u64 w2c_p2) {
   m->w2c_g0 = w2c_j0;
   w2c_i0 = 0u;
   goto w2c_Bfunc;
-  w2c_B1:;
-  UNREACHABLE;
-  w2c_B0:;
+  w2c_B9:;
   w2c_j0 = w2c_p2;
   w2c_i0 = (u32)(w2c_j0);
   w2c_j1 = 0ull;
@@ -41471,14 +45270,14 @@ static u32 w2c_chinese_figures_read(module *m, u64 w2c_p0, u64 w2c_p1, u64 w2c_p
   w2c_j0 = w2c_p0;
   w2c_j1 = w2c_p1;
   w2c_j2 = w2c_p2;
-  w2c_i0 = w2c_f66(m, w2c_j0, w2c_j1, w2c_j2);
+  w2c_i0 = w2c_f70(m, w2c_j0, w2c_j1, w2c_j2);
   w2c_l3 = w2c_i0;
   w2c_f1(m);
   w2c_i0 = w2c_l3;
   return w2c_i0;
 }
 
-static u32 w2c_f66(module *m, u64 w2c_p0, u64 w2c_p1, u64 w2c_p2) {
+static u32 w2c_f70(module *m, u64 w2c_p0, u64 w2c_p1, u64 w2c_p2) {
   u32 w2c_l9 = 0, w2c_l10 = 0, w2c_l11 = 0, w2c_l12 = 0;
   u64 w2c_l3 = 0, w2c_l4 = 0, w2c_l5 = 0, w2c_l6 = 0, w2c_l7 = 0, w2c_l8 = 0;
   u32 w2c_i0, w2c_i1, w2c_i2, w2c_i3;
@@ -41489,10 +45288,10 @@ static u32 w2c_f66(module *m, u64 w2c_p0, u64 w2c_p1, u64 w2c_p2) {
   w2c_l3 = w2c_j0;
   m->w2c_g0 = w2c_j0;
   w2c_j0 = w2c_l3;
-  w2c_l3 = w2c_j0;
+  w2c_l4 = w2c_j0;
   w2c_j1 = 16ull;
   w2c_i0 = (u64)((s64)w2c_j0 < (s64)w2c_j1);
-  if (w2c_i0) {goto w2c_B3;}
+  if (w2c_i0) {goto w2c_B4;}
   w2c_j0 = w2c_p0;
   w2c_j1 = 4096ull;
   w2c_j2 = 0ull;
@@ -41500,7 +45299,7 @@ static u32 w2c_f66(module *m, u64 w2c_p0, u64 w2c_p1, u64 w2c_p2) {
   w2c_i3 = !(w2c_j3);
   w2c_j1 = w2c_i3 ? w2c_j1 : w2c_j2;
   w2c_j0 += w2c_j1;
-  w2c_l4 = w2c_j0;
+  w2c_l5 = w2c_j0;
   w2c_j0 = w2c_p2;
   w2c_i0 = (u32)(w2c_j0);
   w2c_j1 = 0ull;
@@ -41518,15 +45317,15 @@ static u32 w2c_f66(module *m, u64 w2c_p0, u64 w2c_p1, u64 w2c_p2) {
   w2c_j0 = w2c_p1;
   w2c_j1 = 4ull;
   w2c_i0 = w2c_j0 < w2c_j1;
-  if (w2c_i0) {goto w2c_B6;}
-  w2c_j0 = w2c_l4;
+  if (w2c_i0) {goto w2c_B7;}
+  w2c_j0 = w2c_l5;
   w2c_j1 = 18446744073709551612ull;
   w2c_j0 += w2c_j1;
-  w2c_l5 = w2c_j0;
+  w2c_l3 = w2c_j0;
   w2c_j0 = w2c_p1;
   w2c_p0 = w2c_j0;
-  w2c_L7:
-    w2c_j0 = w2c_l5;
+  w2c_L8:
+    w2c_j0 = w2c_l3;
     w2c_j1 = w2c_p0;
     w2c_j0 += w2c_j1;
     w2c_i0 = (u32)(w2c_j0);
@@ -41539,33 +45338,41 @@ static u32 w2c_f66(module *m, u64 w2c_p0, u64 w2c_p1, u64 w2c_p2) {
     w2c_i0 &= w2c_i1;
     w2c_i1 = 8421376u;
     w2c_i0 = w2c_i0 != w2c_i1;
-    if (w2c_i0) {goto w2c_B5;}
+    if (w2c_i0) {goto w2c_B6;}
     w2c_j0 = w2c_p0;
     w2c_j1 = 18446744073709551613ull;
     w2c_j0 += w2c_j1;
     w2c_p0 = w2c_j0;
     w2c_j1 = 3ull;
     w2c_i0 = w2c_j0 > w2c_j1;
-    if (w2c_i0) {goto w2c_L7;}
-  w2c_B6:;
+    if (w2c_i0) {goto w2c_L8;}
+  w2c_B7:;
   w2c_j0 = w2c_p0;
   w2c_j1 = 3ull;
   w2c_i0 = w2c_j0 > w2c_j1;
-  if (w2c_i0) {goto w2c_B5;}
+  if (w2c_i0) {goto w2c_B3;}
   w2c_j0 = w2c_p0;
   w2c_i0 = (u32)(w2c_j0);
   switch (w2c_i0) {
-    case 0: goto w2c_B4;
-    case 1: goto w2c_B5;
-    case 2: goto w2c_B5;
-    case 3: goto w2c_B8;
-    default: goto w2c_B4;
+    case 0: goto w2c_B1;
+    case 1: goto w2c_B3;
+    case 2: goto w2c_B3;
+    case 3: goto w2c_B5;
+    default: goto w2c_B1;
   }
-  w2c_B8:;
-  w2c_j0 = w2c_l4;
+  w2c_B6:;
+  w2c_j0 = w2c_p0;
+  w2c_j1 = 7ull;
+  w2c_i0 = w2c_j0 > w2c_j1;
+  if (w2c_i0) {goto w2c_B2;}
+  goto w2c_B3;
+  w2c_B5:;
+  w2c_j0 = 3ull;
+  w2c_p0 = w2c_j0;
+  w2c_j0 = w2c_l5;
   w2c_i0 = (u32)(w2c_j0);
   w2c_i0 = i32_load16_u(m, (u64)(w2c_i0));
-  w2c_j1 = w2c_l4;
+  w2c_j1 = w2c_l5;
   w2c_j2 = 2ull;
   w2c_j1 += w2c_j2;
   w2c_i1 = (u32)(w2c_j1);
@@ -41578,45 +45385,70 @@ static u32 w2c_f66(module *m, u64 w2c_p0, u64 w2c_p1, u64 w2c_p2) {
   w2c_i1 = 12632312u;
   w2c_i0 &= w2c_i1;
   w2c_i1 = 8421376u;
-  w2c_i0 = w2c_i0 == w2c_i1;
-  if (w2c_i0) {goto w2c_B4;}
-  w2c_B5:;
-  w2c_j0 = w2c_l4;
-  w2c_j1 = w2c_p1;
+  w2c_i0 = w2c_i0 != w2c_i1;
+  if (w2c_i0) {goto w2c_B3;}
+  goto w2c_B1;
+  w2c_B4:;
+  UNREACHABLE;
+  w2c_B3:;
+  w2c_j0 = 0ull;
+  w2c_l3 = w2c_j0;
+  w2c_L9:
+    w2c_j0 = w2c_p0;
+    w2c_j1 = w2c_l3;
+    w2c_i0 = w2c_j0 == w2c_j1;
+    if (w2c_i0) {goto w2c_B1;}
+    w2c_j0 = w2c_l5;
+    w2c_j1 = w2c_l3;
+    w2c_j0 += w2c_j1;
+    w2c_l6 = w2c_j0;
+    w2c_j0 = w2c_l3;
+    w2c_j1 = 1ull;
+    w2c_j0 += w2c_j1;
+    w2c_l3 = w2c_j0;
+    w2c_j0 = w2c_l6;
+    w2c_i0 = (u32)(w2c_j0);
+    w2c_i0 = i32_load8_s(m, (u64)(w2c_i0));
+    w2c_i1 = 4294967295u;
+    w2c_i0 = (u32)((s32)w2c_i0 > (s32)w2c_i1);
+    if (w2c_i0) {goto w2c_L9;}
+  w2c_B2:;
+  w2c_j0 = w2c_l5;
+  w2c_j1 = w2c_p0;
   w2c_i0 = w2c_f12(m, w2c_j0, w2c_j1);
-  if (w2c_i0) {goto w2c_B4;}
+  if (w2c_i0) {goto w2c_B1;}
   w2c_i0 = 5u;
   w2c_l9 = w2c_i0;
   goto w2c_B0;
-  w2c_B4:;
-  w2c_j0 = w2c_l3;
+  w2c_B1:;
+  w2c_j0 = w2c_l4;
   w2c_i0 = (u32)(w2c_j0);
   w2c_j1 = 0ull;
   i64_store(m, (u64)(w2c_i0) + 24, w2c_j1);
-  w2c_j0 = w2c_l3;
+  w2c_j0 = w2c_l4;
   w2c_i0 = (u32)(w2c_j0);
   w2c_j1 = 0ull;
   i64_store(m, (u64)(w2c_i0) + 32, w2c_j1);
-  w2c_j0 = w2c_l3;
+  w2c_j0 = w2c_l4;
   w2c_i0 = (u32)(w2c_j0);
   w2c_j1 = 0ull;
   i64_store(m, (u64)(w2c_i0) + 40, w2c_j1);
-  w2c_j0 = w2c_l3;
+  w2c_j0 = w2c_l4;
   w2c_i0 = (u32)(w2c_j0);
   w2c_j1 = 0ull;
   i64_store(m, (u64)(w2c_i0), w2c_j1);
-  w2c_j0 = w2c_l3;
+  w2c_j0 = w2c_l4;
   w2c_i0 = (u32)(w2c_j0);
   w2c_j1 = 0ull;
   i64_store(m, (u64)(w2c_i0) + 8, w2c_j1);
-  w2c_j0 = w2c_l3;
+  w2c_j0 = w2c_l4;
   w2c_i0 = (u32)(w2c_j0);
   w2c_j1 = 0ull;
   i64_store(m, (u64)(w2c_i0) + 16, w2c_j1);
   w2c_j0 = w2c_p1;
   w2c_i0 = !(w2c_j0);
-  if (w2c_i0) {goto w2c_B11;}
-  w2c_j0 = w2c_l4;
+  if (w2c_i0) {goto w2c_B13;}
+  w2c_j0 = w2c_l5;
   w2c_i0 = (u32)(w2c_j0);
   w2c_i0 = i32_load8_s(m, (u64)(w2c_i0));
   w2c_l10 = w2c_i0;
@@ -41628,8 +45460,8 @@ static u32 w2c_f66(module *m, u64 w2c_p0, u64 w2c_p1, u64 w2c_p2) {
   w2c_i0 = w2c_l10;
   w2c_i1 = 4294967295u;
   w2c_i0 = (u32)((s32)w2c_i0 > (s32)w2c_i1);
-  if (w2c_i0) {goto w2c_B12;}
-  w2c_j0 = w2c_l4;
+  if (w2c_i0) {goto w2c_B14;}
+  w2c_j0 = w2c_l5;
   w2c_i0 = (u32)(w2c_j0);
   w2c_i0 = i32_load8_u(m, (u64)(w2c_i0) + 1u);
   w2c_i1 = 63u;
@@ -41638,7 +45470,7 @@ static u32 w2c_f66(module *m, u64 w2c_p0, u64 w2c_p1, u64 w2c_p2) {
   w2c_i0 = w2c_l10;
   w2c_i1 = 4294967263u;
   w2c_i0 = w2c_i0 > w2c_i1;
-  if (w2c_i0) {goto w2c_B13;}
+  if (w2c_i0) {goto w2c_B15;}
   w2c_i0 = w2c_l9;
   w2c_i1 = 6u;
   w2c_i0 <<= (w2c_i1 & 31);
@@ -41649,9 +45481,9 @@ static u32 w2c_f66(module *m, u64 w2c_p0, u64 w2c_p1, u64 w2c_p2) {
   w2c_l9 = w2c_i0;
   w2c_j0 = 2ull;
   w2c_p0 = w2c_j0;
-  goto w2c_B12;
-  w2c_B13:;
-  w2c_j0 = w2c_l4;
+  goto w2c_B14;
+  w2c_B15:;
+  w2c_j0 = w2c_l5;
   w2c_i0 = (u32)(w2c_j0);
   w2c_i0 = i32_load8_u(m, (u64)(w2c_i0) + 2u);
   w2c_i1 = 63u;
@@ -41660,7 +45492,7 @@ static u32 w2c_f66(module *m, u64 w2c_p0, u64 w2c_p1, u64 w2c_p2) {
   w2c_i0 = w2c_l10;
   w2c_i1 = 4294967279u;
   w2c_i0 = w2c_i0 > w2c_i1;
-  if (w2c_i0) {goto w2c_B14;}
+  if (w2c_i0) {goto w2c_B16;}
   w2c_i0 = w2c_l11;
   w2c_i1 = 6u;
   w2c_i0 <<= (w2c_i1 & 31);
@@ -41675,8 +45507,8 @@ static u32 w2c_f66(module *m, u64 w2c_p0, u64 w2c_p1, u64 w2c_p2) {
   w2c_l9 = w2c_i0;
   w2c_j0 = 3ull;
   w2c_p0 = w2c_j0;
-  goto w2c_B12;
-  w2c_B14:;
+  goto w2c_B14;
+  w2c_B16:;
   w2c_i0 = w2c_l12;
   w2c_i1 = 6u;
   w2c_i0 <<= (w2c_i1 & 31);
@@ -41690,7 +45522,7 @@ static u32 w2c_f66(module *m, u64 w2c_p0, u64 w2c_p1, u64 w2c_p2) {
   w2c_i2 &= w2c_i3;
   w2c_i1 |= w2c_i2;
   w2c_i0 |= w2c_i1;
-  w2c_j1 = w2c_l4;
+  w2c_j1 = w2c_l5;
   w2c_i1 = (u32)(w2c_j1);
   w2c_i1 = i32_load8_u(m, (u64)(w2c_i1) + 3u);
   w2c_i2 = 63u;
@@ -41699,40 +45531,40 @@ static u32 w2c_f66(module *m, u64 w2c_p0, u64 w2c_p1, u64 w2c_p2) {
   w2c_l9 = w2c_i0;
   w2c_j0 = 4ull;
   w2c_p0 = w2c_j0;
-  w2c_B12:;
+  w2c_B14:;
   w2c_i0 = w2c_l9;
   w2c_i1 = 8722u;
   w2c_i0 = w2c_i0 == w2c_i1;
-  if (w2c_i0) {goto w2c_B15;}
+  if (w2c_i0) {goto w2c_B17;}
   w2c_i0 = w2c_l9;
   w2c_i1 = 45u;
   w2c_i0 = w2c_i0 != w2c_i1;
-  if (w2c_i0) {goto w2c_B11;}
-  w2c_B15:;
-  w2c_j0 = w2c_l3;
-  w2c_j1 = w2c_l4;
+  if (w2c_i0) {goto w2c_B13;}
+  w2c_B17:;
+  w2c_j0 = w2c_l4;
+  w2c_j1 = w2c_l5;
   w2c_j2 = w2c_p0;
   w2c_j1 += w2c_j2;
   w2c_j2 = w2c_p1;
   w2c_j3 = w2c_p0;
   w2c_j2 -= w2c_j3;
-  w2c_f14(m, w2c_j0, w2c_j1, w2c_j2);
-  w2c_j0 = w2c_l3;
+  w2c_f15(m, w2c_j0, w2c_j1, w2c_j2);
+  w2c_j0 = w2c_l4;
   w2c_i0 = (u32)(w2c_j0);
   w2c_i0 = i32_load8_u(m, (u64)(w2c_i0));
-  if (w2c_i0) {goto w2c_B10;}
-  w2c_j0 = w2c_l3;
+  if (w2c_i0) {goto w2c_B12;}
+  w2c_j0 = w2c_l4;
   w2c_i0 = (u32)(w2c_j0);
   w2c_j0 = i64_load(m, (u64)(w2c_i0) + 8u);
   w2c_p0 = w2c_j0;
   w2c_j0 = w2c_p2;
   w2c_j1 = 8ull;
   w2c_j0 += w2c_j1;
-  w2c_l5 = w2c_j0;
+  w2c_l3 = w2c_j0;
   w2c_i0 = (u32)(w2c_j0);
   w2c_j1 = 0ull;
   i64_store(m, (u64)(w2c_i0) + 8, w2c_j1);
-  w2c_j0 = w2c_l5;
+  w2c_j0 = w2c_l3;
   w2c_i0 = (u32)(w2c_j0);
   w2c_j1 = 0ull;
   i64_store(m, (u64)(w2c_i0), w2c_j1);
@@ -41740,23 +45572,23 @@ static u32 w2c_f66(module *m, u64 w2c_p0, u64 w2c_p1, u64 w2c_p2) {
   w2c_j1 = w2c_p0;
   w2c_j0 -= w2c_j1;
   w2c_p0 = w2c_j0;
-  goto w2c_B1;
-  w2c_B11:;
-  w2c_j0 = w2c_l3;
+  goto w2c_B10;
+  w2c_B13:;
+  w2c_j0 = w2c_l4;
   w2c_j1 = 24ull;
   w2c_j0 += w2c_j1;
-  w2c_j1 = w2c_l4;
+  w2c_j1 = w2c_l5;
   w2c_j2 = w2c_p1;
-  w2c_f14(m, w2c_j0, w2c_j1, w2c_j2);
-  w2c_j0 = w2c_l3;
+  w2c_f15(m, w2c_j0, w2c_j1, w2c_j2);
+  w2c_j0 = w2c_l4;
   w2c_i0 = (u32)(w2c_j0);
   w2c_j0 = i64_load(m, (u64)(w2c_i0) + 40u);
-  w2c_l6 = w2c_j0;
-  w2c_j0 = w2c_l3;
+  w2c_l7 = w2c_j0;
+  w2c_j0 = w2c_l4;
   w2c_i0 = (u32)(w2c_j0);
   w2c_i0 = i32_load8_u(m, (u64)(w2c_i0) + 24u);
   w2c_l9 = w2c_i0;
-  w2c_j0 = w2c_l3;
+  w2c_j0 = w2c_l4;
   w2c_i0 = (u32)(w2c_j0);
   w2c_j0 = i64_load(m, (u64)(w2c_i0) + 32u);
   w2c_p0 = w2c_j0;
@@ -41774,17 +45606,17 @@ static u32 w2c_f66(module *m, u64 w2c_p0, u64 w2c_p1, u64 w2c_p2) {
   i64_store(m, (u64)(w2c_i0), w2c_j1);
   w2c_i0 = w2c_l9;
   w2c_i0 = !(w2c_i0);
-  if (w2c_i0) {goto w2c_B1;}
+  if (w2c_i0) {goto w2c_B10;}
   w2c_j0 = w2c_p0;
   w2c_i0 = (u32)(w2c_j0);
   w2c_l10 = w2c_i0;
-  goto w2c_B9;
-  w2c_B10:;
-  w2c_j0 = w2c_l3;
+  goto w2c_B11;
+  w2c_B12:;
+  w2c_j0 = w2c_l4;
   w2c_i0 = (u32)(w2c_j0);
   w2c_j0 = i64_load(m, (u64)(w2c_i0) + 16u);
   w2c_p0 = w2c_j0;
-  w2c_j0 = w2c_l3;
+  w2c_j0 = w2c_l4;
   w2c_i0 = (u32)(w2c_j0);
   w2c_i0 = i32_load8_u(m, (u64)(w2c_i0) + 8u);
   w2c_l10 = w2c_i0;
@@ -41808,8 +45640,8 @@ static u32 w2c_f66(module *m, u64 w2c_p0, u64 w2c_p1, u64 w2c_p2) {
   w2c_i3 = 1u;
   w2c_i2 = w2c_i2 == w2c_i3;
   w2c_j0 = w2c_i2 ? w2c_j0 : w2c_j1;
-  w2c_l6 = w2c_j0;
-  w2c_B9:;
+  w2c_l7 = w2c_j0;
+  w2c_B11:;
   w2c_i0 = 9u;
   w2c_l9 = w2c_i0;
   w2c_i0 = w2c_l10;
@@ -41819,41 +45651,41 @@ static u32 w2c_f66(module *m, u64 w2c_p0, u64 w2c_p1, u64 w2c_p2) {
   w2c_i0 = (u32)(w2c_j0);
   switch (w2c_i0) {
     case 0: goto w2c_B0;
-    case 1: goto w2c_B16;
-    case 2: goto w2c_B2;
+    case 1: goto w2c_B19;
+    case 2: goto w2c_B18;
     default: goto w2c_B0;
   }
-  w2c_B16:;
+  w2c_B19:;
   w2c_j0 = 0ull;
   w2c_p0 = w2c_j0;
   w2c_j0 = w2c_p1;
   w2c_j1 = 8ull;
   w2c_i0 = w2c_j0 >= w2c_j1;
-  if (w2c_i0) {goto w2c_B18;}
+  if (w2c_i0) {goto w2c_B21;}
   w2c_j0 = 0ull;
-  w2c_l7 = w2c_j0;
-  goto w2c_B17;
-  w2c_B18:;
+  w2c_l8 = w2c_j0;
+  goto w2c_B20;
+  w2c_B21:;
   w2c_j0 = 0ull;
-  w2c_l7 = w2c_j0;
-  w2c_j0 = w2c_l6;
+  w2c_l8 = w2c_j0;
+  w2c_j0 = w2c_l7;
   w2c_j1 = 3ull;
   w2c_i0 = w2c_j0 < w2c_j1;
-  if (w2c_i0) {goto w2c_B17;}
+  if (w2c_i0) {goto w2c_B20;}
   w2c_j0 = w2c_p1;
   w2c_j1 = 18446744073709551607ull;
   w2c_j0 += w2c_j1;
-  w2c_l8 = w2c_j0;
-  w2c_j0 = w2c_l6;
+  w2c_l6 = w2c_j0;
+  w2c_j0 = w2c_l7;
   w2c_j1 = 18446744073709551613ull;
   w2c_j0 += w2c_j1;
-  w2c_l5 = w2c_j0;
+  w2c_l3 = w2c_j0;
   w2c_j0 = 0ull;
-  w2c_l7 = w2c_j0;
+  w2c_l8 = w2c_j0;
   w2c_j0 = 0ull;
   w2c_p0 = w2c_j0;
-  w2c_L19:
-    w2c_j0 = w2c_l4;
+  w2c_L22:
+    w2c_j0 = w2c_l5;
     w2c_j1 = w2c_p0;
     w2c_j0 += w2c_j1;
     w2c_i0 = (u32)(w2c_j0);
@@ -41862,48 +45694,48 @@ static u32 w2c_f66(module *m, u64 w2c_p0, u64 w2c_p1, u64 w2c_p2) {
     w2c_j0 &= w2c_j1;
     w2c_j1 = 63050398541283552ull;
     w2c_i0 = w2c_j0 != w2c_j1;
-    if (w2c_i0) {goto w2c_B17;}
-    w2c_j0 = w2c_l7;
+    if (w2c_i0) {goto w2c_B20;}
+    w2c_j0 = w2c_l8;
     w2c_j1 = 3ull;
     w2c_j0 += w2c_j1;
-    w2c_l7 = w2c_j0;
+    w2c_l8 = w2c_j0;
     w2c_j0 = w2c_p0;
     w2c_j1 = 9ull;
     w2c_j0 += w2c_j1;
     w2c_p0 = w2c_j0;
-    w2c_j0 = w2c_l5;
+    w2c_j0 = w2c_l3;
     w2c_j1 = 3ull;
     w2c_i0 = w2c_j0 < w2c_j1;
-    if (w2c_i0) {goto w2c_B17;}
-    w2c_j0 = w2c_l5;
+    if (w2c_i0) {goto w2c_B20;}
+    w2c_j0 = w2c_l3;
     w2c_j1 = 18446744073709551613ull;
     w2c_j0 += w2c_j1;
-    w2c_l5 = w2c_j0;
-    w2c_j0 = w2c_l8;
+    w2c_l3 = w2c_j0;
+    w2c_j0 = w2c_l6;
     w2c_j1 = 7ull;
     w2c_i0 = w2c_j0 > w2c_j1;
     w2c_l9 = w2c_i0;
-    w2c_j0 = w2c_l8;
+    w2c_j0 = w2c_l6;
     w2c_j1 = 18446744073709551607ull;
     w2c_j0 += w2c_j1;
-    w2c_l8 = w2c_j0;
+    w2c_l6 = w2c_j0;
     w2c_i0 = w2c_l9;
-    if (w2c_i0) {goto w2c_L19;}
-  w2c_B17:;
+    if (w2c_i0) {goto w2c_L22;}
+  w2c_B20:;
   w2c_j0 = w2c_p1;
   w2c_j1 = w2c_p0;
   w2c_i0 = w2c_j0 <= w2c_j1;
-  if (w2c_i0) {goto w2c_B20;}
-  w2c_j0 = w2c_l7;
-  w2c_j1 = w2c_l6;
+  if (w2c_i0) {goto w2c_B23;}
+  w2c_j0 = w2c_l8;
+  w2c_j1 = w2c_l7;
   w2c_i0 = w2c_j0 >= w2c_j1;
-  if (w2c_i0) {goto w2c_B20;}
-  w2c_j0 = w2c_l7;
+  if (w2c_i0) {goto w2c_B23;}
+  w2c_j0 = w2c_l8;
   w2c_j1 = 1ull;
   w2c_j0 += w2c_j1;
-  w2c_l5 = w2c_j0;
-  w2c_L21:
-    w2c_j0 = w2c_l4;
+  w2c_l3 = w2c_j0;
+  w2c_L24:
+    w2c_j0 = w2c_l5;
     w2c_j1 = w2c_p0;
     w2c_j0 += w2c_j1;
     w2c_i0 = (u32)(w2c_j0);
@@ -41920,37 +45752,35 @@ static u32 w2c_f66(module *m, u64 w2c_p0, u64 w2c_p1, u64 w2c_p2) {
     w2c_j1 = w2c_p0;
     w2c_j0 += w2c_j1;
     w2c_p0 = w2c_j0;
-    w2c_j0 = w2c_l5;
-    w2c_j1 = w2c_l6;
+    w2c_j0 = w2c_l3;
+    w2c_j1 = w2c_l7;
     w2c_i0 = w2c_j0 >= w2c_j1;
-    if (w2c_i0) {goto w2c_B20;}
-    w2c_j0 = w2c_l5;
+    if (w2c_i0) {goto w2c_B23;}
+    w2c_j0 = w2c_l3;
     w2c_j1 = 1ull;
     w2c_j0 += w2c_j1;
-    w2c_l5 = w2c_j0;
+    w2c_l3 = w2c_j0;
     w2c_j0 = w2c_p1;
     w2c_j1 = w2c_p0;
     w2c_i0 = w2c_j0 > w2c_j1;
-    if (w2c_i0) {goto w2c_L21;}
-  w2c_B20:;
+    if (w2c_i0) {goto w2c_L24;}
+  w2c_B23:;
   w2c_j0 = w2c_p2;
   w2c_i0 = (u32)(w2c_j0);
   w2c_j1 = w2c_p0;
   i64_store(m, (u64)(w2c_i0) + 16, w2c_j1);
   w2c_j0 = w2c_p2;
   w2c_i0 = (u32)(w2c_j0);
-  w2c_j1 = w2c_l6;
+  w2c_j1 = w2c_l7;
   i64_store(m, (u64)(w2c_i0) + 8, w2c_j1);
   w2c_i0 = 2u;
   w2c_l9 = w2c_i0;
   goto w2c_B0;
-  w2c_B3:;
-  UNREACHABLE;
-  w2c_B2:;
+  w2c_B18:;
   w2c_i0 = 3u;
   w2c_l9 = w2c_i0;
   goto w2c_B0;
-  w2c_B1:;
+  w2c_B10:;
   w2c_j0 = w2c_p2;
   w2c_i0 = (u32)(w2c_j0);
   w2c_j1 = w2c_p0;
@@ -41958,7 +45788,7 @@ static u32 w2c_f66(module *m, u64 w2c_p0, u64 w2c_p1, u64 w2c_p2) {
   w2c_i0 = 0u;
   w2c_l9 = w2c_i0;
   w2c_B0:;
-  w2c_j0 = w2c_l3;
+  w2c_j0 = w2c_l4;
   w2c_j1 = 48ull;
   w2c_j0 += w2c_j1;
   m->w2c_g0 = w2c_j0;
@@ -41979,14 +45809,14 @@ static u32 w2c_chinese_signed_amount_read(module *m, u64 w2c_p0, u64 w2c_p1, u64
   w2c_j0 = w2c_p0;
   w2c_j1 = w2c_p1;
   w2c_j2 = w2c_p2;
-  w2c_i0 = w2c_f68(m, w2c_j0, w2c_j1, w2c_j2);
+  w2c_i0 = w2c_f72(m, w2c_j0, w2c_j1, w2c_j2);
   w2c_l3 = w2c_i0;
   w2c_f1(m);
   w2c_i0 = w2c_l3;
   return w2c_i0;
 }
 
-static u32 w2c_f68(module *m, u64 w2c_p0, u64 w2c_p1, u64 w2c_p2) {
+static u32 w2c_f72(module *m, u64 w2c_p0, u64 w2c_p1, u64 w2c_p2) {
   u32 w2c_l15 = 0, w2c_l16 = 0, w2c_l17 = 0, w2c_l18 = 0, w2c_l19 = 0, w2c_l20 = 0, w2c_l21 = 0, w2c_l22 = 0, w2c_l23 = 0;
   u64 w2c_l3 = 0, w2c_l4 = 0, w2c_l5 = 0, w2c_l6 = 0, w2c_l7 = 0, w2c_l8 = 0, w2c_l9 = 0, w2c_l10 = 0, w2c_l11 = 0, w2c_l12 = 0, w2c_l13 = 0, w2c_l14 = 0;
   u32 w2c_i0, w2c_i1, w2c_i2, w2c_i3, w2c_i4;
@@ -42022,7 +45852,7 @@ static u32 w2c_f68(module *m, u64 w2c_p0, u64 w2c_p1, u64 w2c_p2) {
   w2c_j0 = w2c_p1;
   w2c_j1 = 4ull;
   w2c_i0 = w2c_j0 < w2c_j1;
-  if (w2c_i0) {goto w2c_B4;}
+  if (w2c_i0) {goto w2c_B6;}
   w2c_j0 = w2c_p0;
   w2c_j1 = w2c_l4;
   w2c_j0 += w2c_j1;
@@ -42031,7 +45861,7 @@ static u32 w2c_f68(module *m, u64 w2c_p0, u64 w2c_p1, u64 w2c_p2) {
   w2c_p0 = w2c_j0;
   w2c_j0 = w2c_p1;
   w2c_l6 = w2c_j0;
-  w2c_L5:
+  w2c_L7:
     w2c_j0 = w2c_p0;
     w2c_j1 = w2c_l6;
     w2c_j0 += w2c_j1;
@@ -42045,29 +45875,31 @@ static u32 w2c_f68(module *m, u64 w2c_p0, u64 w2c_p1, u64 w2c_p2) {
     w2c_i0 &= w2c_i1;
     w2c_i1 = 8421376u;
     w2c_i0 = w2c_i0 != w2c_i1;
-    if (w2c_i0) {goto w2c_B3;}
+    if (w2c_i0) {goto w2c_B5;}
     w2c_j0 = w2c_l6;
     w2c_j1 = 18446744073709551613ull;
     w2c_j0 += w2c_j1;
     w2c_l6 = w2c_j0;
     w2c_j1 = 3ull;
     w2c_i0 = w2c_j0 > w2c_j1;
-    if (w2c_i0) {goto w2c_L5;}
-  w2c_B4:;
+    if (w2c_i0) {goto w2c_L7;}
+  w2c_B6:;
   w2c_j0 = w2c_l6;
   w2c_j1 = 3ull;
   w2c_i0 = w2c_j0 > w2c_j1;
-  if (w2c_i0) {goto w2c_B3;}
+  if (w2c_i0) {goto w2c_B4;}
   w2c_j0 = w2c_l6;
   w2c_i0 = (u32)(w2c_j0);
   switch (w2c_i0) {
     case 0: goto w2c_B2;
-    case 1: goto w2c_B3;
-    case 2: goto w2c_B3;
-    case 3: goto w2c_B6;
+    case 1: goto w2c_B4;
+    case 2: goto w2c_B4;
+    case 3: goto w2c_B8;
     default: goto w2c_B2;
   }
-  w2c_B6:;
+  w2c_B8:;
+  w2c_j0 = 3ull;
+  w2c_l6 = w2c_j0;
   w2c_j0 = w2c_l5;
   w2c_i0 = (u32)(w2c_j0);
   w2c_i0 = i32_load16_u(m, (u64)(w2c_i0));
@@ -42084,20 +45916,48 @@ static u32 w2c_f68(module *m, u64 w2c_p0, u64 w2c_p1, u64 w2c_p2) {
   w2c_i1 = 12632312u;
   w2c_i0 &= w2c_i1;
   w2c_i1 = 8421376u;
-  w2c_i0 = w2c_i0 == w2c_i1;
-  if (w2c_i0) {goto w2c_B2;}
+  w2c_i0 = w2c_i0 != w2c_i1;
+  if (w2c_i0) {goto w2c_B4;}
+  goto w2c_B2;
+  w2c_B5:;
+  w2c_j0 = w2c_l6;
+  w2c_j1 = 7ull;
+  w2c_i0 = w2c_j0 > w2c_j1;
+  if (w2c_i0) {goto w2c_B3;}
+  w2c_B4:;
+  w2c_j0 = 0ull;
+  w2c_p0 = w2c_j0;
+  w2c_L9:
+    w2c_j0 = w2c_l6;
+    w2c_j1 = w2c_p0;
+    w2c_i0 = w2c_j0 == w2c_j1;
+    if (w2c_i0) {goto w2c_B2;}
+    w2c_j0 = w2c_l5;
+    w2c_j1 = w2c_p0;
+    w2c_j0 += w2c_j1;
+    w2c_l4 = w2c_j0;
+    w2c_j0 = w2c_p0;
+    w2c_j1 = 1ull;
+    w2c_j0 += w2c_j1;
+    w2c_p0 = w2c_j0;
+    w2c_j0 = w2c_l4;
+    w2c_i0 = (u32)(w2c_j0);
+    w2c_i0 = i32_load8_s(m, (u64)(w2c_i0));
+    w2c_i1 = 4294967295u;
+    w2c_i0 = (u32)((s32)w2c_i0 > (s32)w2c_i1);
+    if (w2c_i0) {goto w2c_L9;}
   w2c_B3:;
   w2c_i0 = 5u;
   w2c_l15 = w2c_i0;
   w2c_j0 = w2c_l5;
-  w2c_j1 = w2c_p1;
+  w2c_j1 = w2c_l6;
   w2c_i0 = w2c_f12(m, w2c_j0, w2c_j1);
   w2c_i0 = !(w2c_i0);
   if (w2c_i0) {goto w2c_B1;}
   w2c_B2:;
   w2c_j0 = w2c_p1;
   w2c_i0 = !(w2c_j0);
-  if (w2c_i0) {goto w2c_B8;}
+  if (w2c_i0) {goto w2c_B11;}
   w2c_j0 = w2c_p2;
   w2c_j1 = 8ull;
   w2c_j0 += w2c_j1;
@@ -42124,7 +45984,7 @@ static u32 w2c_f68(module *m, u64 w2c_p0, u64 w2c_p1, u64 w2c_p2) {
   w2c_l17 = w2c_i0;
   w2c_i0 = 0u;
   w2c_l18 = w2c_i0;
-  w2c_L9:
+  w2c_L12:
     w2c_i0 = w2c_l15;
     w2c_l19 = w2c_i0;
     w2c_j0 = w2c_l6;
@@ -42139,7 +45999,7 @@ static u32 w2c_f68(module *m, u64 w2c_p0, u64 w2c_p1, u64 w2c_p2) {
     w2c_i0 = w2c_l20;
     w2c_i1 = 4294967295u;
     w2c_i0 = (u32)((s32)w2c_i0 > (s32)w2c_i1);
-    if (w2c_i0) {goto w2c_B10;}
+    if (w2c_i0) {goto w2c_B13;}
     w2c_j0 = w2c_l6;
     w2c_i0 = (u32)(w2c_j0);
     w2c_i0 = i32_load8_u(m, (u64)(w2c_i0) + 1u);
@@ -42149,7 +46009,7 @@ static u32 w2c_f68(module *m, u64 w2c_p0, u64 w2c_p1, u64 w2c_p2) {
     w2c_i0 = w2c_l20;
     w2c_i1 = 4294967263u;
     w2c_i0 = w2c_i0 > w2c_i1;
-    if (w2c_i0) {goto w2c_B11;}
+    if (w2c_i0) {goto w2c_B14;}
     w2c_i0 = w2c_l15;
     w2c_i1 = 6u;
     w2c_i0 <<= (w2c_i1 & 31);
@@ -42160,8 +46020,8 @@ static u32 w2c_f68(module *m, u64 w2c_p0, u64 w2c_p1, u64 w2c_p2) {
     w2c_l15 = w2c_i0;
     w2c_j0 = 2ull;
     w2c_l4 = w2c_j0;
-    goto w2c_B10;
-    w2c_B11:;
+    goto w2c_B13;
+    w2c_B14:;
     w2c_j0 = w2c_l6;
     w2c_i0 = (u32)(w2c_j0);
     w2c_i0 = i32_load8_u(m, (u64)(w2c_i0) + 2u);
@@ -42171,7 +46031,7 @@ static u32 w2c_f68(module *m, u64 w2c_p0, u64 w2c_p1, u64 w2c_p2) {
     w2c_i0 = w2c_l20;
     w2c_i1 = 4294967279u;
     w2c_i0 = w2c_i0 > w2c_i1;
-    if (w2c_i0) {goto w2c_B12;}
+    if (w2c_i0) {goto w2c_B15;}
     w2c_i0 = w2c_l21;
     w2c_i1 = 6u;
     w2c_i0 <<= (w2c_i1 & 31);
@@ -42186,8 +46046,8 @@ static u32 w2c_f68(module *m, u64 w2c_p0, u64 w2c_p1, u64 w2c_p2) {
     w2c_l15 = w2c_i0;
     w2c_j0 = 3ull;
     w2c_l4 = w2c_j0;
-    goto w2c_B10;
-    w2c_B12:;
+    goto w2c_B13;
+    w2c_B15:;
     w2c_i0 = w2c_l22;
     w2c_i1 = 6u;
     w2c_i0 <<= (w2c_i1 & 31);
@@ -42210,7 +46070,7 @@ static u32 w2c_f68(module *m, u64 w2c_p0, u64 w2c_p1, u64 w2c_p2) {
     w2c_l15 = w2c_i0;
     w2c_j0 = 4ull;
     w2c_l4 = w2c_j0;
-    w2c_B10:;
+    w2c_B13:;
     w2c_i0 = 2u;
     w2c_i1 = 1u;
     w2c_i2 = w2c_l15;
@@ -42226,7 +46086,7 @@ static u32 w2c_f68(module *m, u64 w2c_p0, u64 w2c_p1, u64 w2c_p2) {
     w2c_i1 = 255u;
     w2c_i0 &= w2c_i1;
     w2c_l21 = w2c_i0;
-    if (w2c_i0) {goto w2c_B14;}
+    if (w2c_i0) {goto w2c_B17;}
     w2c_i0 = w2c_l15;
     w2c_i1 = 36000u;
     w2c_i0 = w2c_i0 != w2c_i1;
@@ -42234,13 +46094,13 @@ static u32 w2c_f68(module *m, u64 w2c_p0, u64 w2c_p1, u64 w2c_p2) {
     w2c_i2 = 36127u;
     w2c_i1 = w2c_i1 != w2c_i2;
     w2c_i0 &= w2c_i1;
-    if (w2c_i0) {goto w2c_B14;}
+    if (w2c_i0) {goto w2c_B17;}
     w2c_i0 = w2c_l20;
     w2c_l18 = w2c_i0;
     w2c_i0 = w2c_l19;
     w2c_l15 = w2c_i0;
-    goto w2c_B13;
-    w2c_B14:;
+    goto w2c_B16;
+    w2c_B17:;
     w2c_i0 = w2c_l15;
     w2c_i1 = 3227u;
     w2c_i0 *= w2c_i1;
@@ -42254,7 +46114,7 @@ static u32 w2c_f68(module *m, u64 w2c_p0, u64 w2c_p1, u64 w2c_p2) {
     w2c_i0 = i32_load(m, (u64)(w2c_i0) + 66332u);
     w2c_i1 = w2c_l15;
     w2c_i0 = w2c_i0 != w2c_i1;
-    if (w2c_i0) {goto w2c_B21;}
+    if (w2c_i0) {goto w2c_B24;}
     w2c_j0 = w2c_l13;
     w2c_j1 = 66336ull;
     w2c_j0 += w2c_j1;
@@ -42264,7 +46124,7 @@ static u32 w2c_f68(module *m, u64 w2c_p0, u64 w2c_p1, u64 w2c_p2) {
     w2c_i0 &= w2c_i1;
     w2c_i1 = 1u;
     w2c_i0 = w2c_i0 != w2c_i1;
-    if (w2c_i0) {goto w2c_B21;}
+    if (w2c_i0) {goto w2c_B24;}
     w2c_i0 = w2c_l18;
     w2c_i1 = w2c_l20;
     w2c_i2 = w2c_l21;
@@ -42289,83 +46149,83 @@ static u32 w2c_f68(module *m, u64 w2c_p0, u64 w2c_p1, u64 w2c_p2) {
     w2c_i0 = (u32)(w2c_j0);
     w2c_l15 = w2c_i0;
     switch (w2c_i0) {
-      case 0: goto w2c_B37;
-      case 1: goto w2c_B37;
-      case 2: goto w2c_B37;
-      case 3: goto w2c_B37;
-      case 4: goto w2c_B37;
-      case 5: goto w2c_B45;
-      case 6: goto w2c_B44;
-      case 7: goto w2c_B43;
-      case 8: goto w2c_B42;
-      case 9: goto w2c_B41;
-      case 10: goto w2c_B40;
-      case 11: goto w2c_B39;
-      case 12: goto w2c_B38;
-      case 13: goto w2c_B37;
-      case 14: goto w2c_B37;
-      case 15: goto w2c_B37;
-      case 16: goto w2c_B37;
-      case 17: goto w2c_B37;
-      case 18: goto w2c_B37;
-      case 19: goto w2c_B37;
-      default: goto w2c_B37;
+      case 0: goto w2c_B40;
+      case 1: goto w2c_B40;
+      case 2: goto w2c_B40;
+      case 3: goto w2c_B40;
+      case 4: goto w2c_B40;
+      case 5: goto w2c_B48;
+      case 6: goto w2c_B47;
+      case 7: goto w2c_B46;
+      case 8: goto w2c_B45;
+      case 9: goto w2c_B44;
+      case 10: goto w2c_B43;
+      case 11: goto w2c_B42;
+      case 12: goto w2c_B41;
+      case 13: goto w2c_B40;
+      case 14: goto w2c_B40;
+      case 15: goto w2c_B40;
+      case 16: goto w2c_B40;
+      case 17: goto w2c_B40;
+      case 18: goto w2c_B40;
+      case 19: goto w2c_B40;
+      default: goto w2c_B40;
     }
-    w2c_B45:;
+    w2c_B48:;
     w2c_i0 = 1u;
     w2c_i1 = w2c_l20;
     w2c_i0 <<= (w2c_i1 & 31);
     w2c_i1 = 31999u;
     w2c_i0 &= w2c_i1;
-    if (w2c_i0) {goto w2c_B46;}
+    if (w2c_i0) {goto w2c_B49;}
     w2c_i0 = w2c_l20;
     w2c_i1 = 8u;
     w2c_i0 = w2c_i0 == w2c_i1;
-    if (w2c_i0) {goto w2c_B26;}
-    goto w2c_B24;
-    w2c_B46:;
+    if (w2c_i0) {goto w2c_B29;}
+    goto w2c_B27;
+    w2c_B49:;
     w2c_i0 = w2c_l20;
     w2c_i1 = 4294967291u;
     w2c_i0 += w2c_i1;
     w2c_i1 = 10u;
     w2c_i0 = w2c_i0 < w2c_i1;
-    if (w2c_i0) {goto w2c_B47;}
+    if (w2c_i0) {goto w2c_B50;}
     w2c_i0 = 0u;
     w2c_l15 = w2c_i0;
     w2c_i0 = w2c_l20;
     switch (w2c_i0) {
-      case 0: goto w2c_B47;
-      case 1: goto w2c_B47;
-      case 2: goto w2c_B32;
-      case 3: goto w2c_B30;
-      case 4: goto w2c_B20;
-      default: goto w2c_B47;
+      case 0: goto w2c_B50;
+      case 1: goto w2c_B50;
+      case 2: goto w2c_B35;
+      case 3: goto w2c_B33;
+      case 4: goto w2c_B23;
+      default: goto w2c_B50;
     }
-    w2c_B47:;
+    w2c_B50:;
     w2c_i0 = 0u;
     w2c_l15 = w2c_i0;
     w2c_i0 = 6u;
     w2c_l17 = w2c_i0;
     w2c_i0 = w2c_l20;
     switch (w2c_i0) {
-      case 0: goto w2c_B21;
-      case 1: goto w2c_B21;
-      case 2: goto w2c_B21;
-      case 3: goto w2c_B21;
-      case 4: goto w2c_B21;
-      case 5: goto w2c_B15;
-      case 6: goto w2c_B28;
-      case 7: goto w2c_B19;
-      case 8: goto w2c_B21;
-      case 9: goto w2c_B21;
-      case 10: goto w2c_B21;
-      case 11: goto w2c_B21;
-      case 12: goto w2c_B21;
-      case 13: goto w2c_B21;
-      case 14: goto w2c_B21;
-      default: goto w2c_B21;
+      case 0: goto w2c_B24;
+      case 1: goto w2c_B24;
+      case 2: goto w2c_B24;
+      case 3: goto w2c_B24;
+      case 4: goto w2c_B24;
+      case 5: goto w2c_B18;
+      case 6: goto w2c_B31;
+      case 7: goto w2c_B22;
+      case 8: goto w2c_B24;
+      case 9: goto w2c_B24;
+      case 10: goto w2c_B24;
+      case 11: goto w2c_B24;
+      case 12: goto w2c_B24;
+      case 13: goto w2c_B24;
+      case 14: goto w2c_B24;
+      default: goto w2c_B24;
     }
-    w2c_B44:;
+    w2c_B47:;
     w2c_i0 = 3u;
     w2c_l22 = w2c_i0;
     w2c_i0 = 10u;
@@ -42374,24 +46234,24 @@ static u32 w2c_f68(module *m, u64 w2c_p0, u64 w2c_p1, u64 w2c_p2) {
     w2c_l23 = w2c_i0;
     w2c_i0 = w2c_l20;
     switch (w2c_i0) {
-      case 0: goto w2c_B49;
-      case 1: goto w2c_B36;
-      case 2: goto w2c_B48;
-      case 3: goto w2c_B48;
-      case 4: goto w2c_B48;
-      case 5: goto w2c_B21;
-      case 6: goto w2c_B48;
-      case 7: goto w2c_B48;
-      case 8: goto w2c_B48;
-      case 9: goto w2c_B48;
-      case 10: goto w2c_B48;
-      case 11: goto w2c_B48;
-      case 12: goto w2c_B48;
-      case 13: goto w2c_B48;
-      case 14: goto w2c_B48;
-      default: goto w2c_B49;
+      case 0: goto w2c_B52;
+      case 1: goto w2c_B39;
+      case 2: goto w2c_B51;
+      case 3: goto w2c_B51;
+      case 4: goto w2c_B51;
+      case 5: goto w2c_B24;
+      case 6: goto w2c_B51;
+      case 7: goto w2c_B51;
+      case 8: goto w2c_B51;
+      case 9: goto w2c_B51;
+      case 10: goto w2c_B51;
+      case 11: goto w2c_B51;
+      case 12: goto w2c_B51;
+      case 13: goto w2c_B51;
+      case 14: goto w2c_B51;
+      default: goto w2c_B52;
     }
-    w2c_B49:;
+    w2c_B52:;
     w2c_i0 = w2c_l19;
     w2c_i1 = 2u;
     w2c_i0 |= w2c_i1;
@@ -42400,20 +46260,20 @@ static u32 w2c_f68(module *m, u64 w2c_p0, u64 w2c_p1, u64 w2c_p2) {
     w2c_l15 = w2c_i0;
     w2c_i0 = 9u;
     w2c_l17 = w2c_i0;
-    goto w2c_B13;
-    w2c_B48:;
+    goto w2c_B16;
+    w2c_B51:;
     w2c_i0 = 1u;
     w2c_l15 = w2c_i0;
     w2c_i0 = w2c_l20;
     w2c_i1 = 6u;
     w2c_i0 = w2c_i0 == w2c_i1;
-    if (w2c_i0) {goto w2c_B28;}
+    if (w2c_i0) {goto w2c_B31;}
     w2c_i0 = w2c_l20;
     w2c_i1 = 7u;
     w2c_i0 = w2c_i0 == w2c_i1;
-    if (w2c_i0) {goto w2c_B19;}
-    goto w2c_B21;
-    w2c_B43:;
+    if (w2c_i0) {goto w2c_B22;}
+    goto w2c_B24;
+    w2c_B46:;
     w2c_i0 = 3u;
     w2c_l22 = w2c_i0;
     w2c_i0 = 4u;
@@ -42422,24 +46282,24 @@ static u32 w2c_f68(module *m, u64 w2c_p0, u64 w2c_p1, u64 w2c_p2) {
     w2c_l21 = w2c_i0;
     w2c_i0 = w2c_l20;
     switch (w2c_i0) {
-      case 0: goto w2c_B51;
-      case 1: goto w2c_B36;
-      case 2: goto w2c_B50;
-      case 3: goto w2c_B50;
-      case 4: goto w2c_B50;
-      case 5: goto w2c_B21;
-      case 6: goto w2c_B50;
-      case 7: goto w2c_B50;
-      case 8: goto w2c_B50;
-      case 9: goto w2c_B50;
-      case 10: goto w2c_B50;
-      case 11: goto w2c_B50;
-      case 12: goto w2c_B50;
-      case 13: goto w2c_B50;
-      case 14: goto w2c_B50;
-      default: goto w2c_B51;
+      case 0: goto w2c_B54;
+      case 1: goto w2c_B39;
+      case 2: goto w2c_B53;
+      case 3: goto w2c_B53;
+      case 4: goto w2c_B53;
+      case 5: goto w2c_B24;
+      case 6: goto w2c_B53;
+      case 7: goto w2c_B53;
+      case 8: goto w2c_B53;
+      case 9: goto w2c_B53;
+      case 10: goto w2c_B53;
+      case 11: goto w2c_B53;
+      case 12: goto w2c_B53;
+      case 13: goto w2c_B53;
+      case 14: goto w2c_B53;
+      default: goto w2c_B54;
     }
-    w2c_B51:;
+    w2c_B54:;
     w2c_i0 = 3u;
     w2c_l16 = w2c_i0;
     w2c_i0 = w2c_l19;
@@ -42448,8 +46308,8 @@ static u32 w2c_f68(module *m, u64 w2c_p0, u64 w2c_p1, u64 w2c_p2) {
     w2c_l15 = w2c_i0;
     w2c_i0 = 9u;
     w2c_l17 = w2c_i0;
-    goto w2c_B13;
-    w2c_B50:;
+    goto w2c_B16;
+    w2c_B53:;
     w2c_i0 = 1u;
     w2c_l15 = w2c_i0;
     w2c_i0 = 8u;
@@ -42457,13 +46317,13 @@ static u32 w2c_f68(module *m, u64 w2c_p0, u64 w2c_p1, u64 w2c_p2) {
     w2c_i0 = w2c_l20;
     w2c_i1 = 5u;
     w2c_i0 = w2c_i0 == w2c_i1;
-    if (w2c_i0) {goto w2c_B15;}
+    if (w2c_i0) {goto w2c_B18;}
     w2c_i0 = w2c_l20;
     w2c_i1 = 7u;
     w2c_i0 = w2c_i0 == w2c_i1;
-    if (w2c_i0) {goto w2c_B19;}
-    goto w2c_B21;
-    w2c_B42:;
+    if (w2c_i0) {goto w2c_B22;}
+    goto w2c_B24;
+    w2c_B45:;
     w2c_i0 = 1u;
     w2c_l15 = w2c_i0;
     w2c_i0 = 3u;
@@ -42474,24 +46334,24 @@ static u32 w2c_f68(module *m, u64 w2c_p0, u64 w2c_p1, u64 w2c_p2) {
     w2c_l21 = w2c_i0;
     w2c_i0 = w2c_l20;
     switch (w2c_i0) {
-      case 0: goto w2c_B52;
-      case 1: goto w2c_B36;
-      case 2: goto w2c_B21;
-      case 3: goto w2c_B21;
-      case 4: goto w2c_B21;
-      case 5: goto w2c_B21;
-      case 6: goto w2c_B21;
-      case 7: goto w2c_B19;
-      case 8: goto w2c_B21;
-      case 9: goto w2c_B21;
-      case 10: goto w2c_B21;
-      case 11: goto w2c_B21;
-      case 12: goto w2c_B21;
-      case 13: goto w2c_B21;
-      case 14: goto w2c_B21;
-      default: goto w2c_B52;
+      case 0: goto w2c_B55;
+      case 1: goto w2c_B39;
+      case 2: goto w2c_B24;
+      case 3: goto w2c_B24;
+      case 4: goto w2c_B24;
+      case 5: goto w2c_B24;
+      case 6: goto w2c_B24;
+      case 7: goto w2c_B22;
+      case 8: goto w2c_B24;
+      case 9: goto w2c_B24;
+      case 10: goto w2c_B24;
+      case 11: goto w2c_B24;
+      case 12: goto w2c_B24;
+      case 13: goto w2c_B24;
+      case 14: goto w2c_B24;
+      default: goto w2c_B55;
     }
-    w2c_B52:;
+    w2c_B55:;
     w2c_i0 = w2c_l19;
     w2c_i1 = 2u;
     w2c_i0 |= w2c_i1;
@@ -42500,72 +46360,72 @@ static u32 w2c_f68(module *m, u64 w2c_p0, u64 w2c_p1, u64 w2c_p2) {
     w2c_l15 = w2c_i0;
     w2c_i0 = 9u;
     w2c_l17 = w2c_i0;
-    goto w2c_B13;
-    w2c_B41:;
+    goto w2c_B16;
+    w2c_B44:;
     w2c_i0 = w2c_l20;
     w2c_i1 = 1u;
     w2c_i0 = w2c_i0 != w2c_i1;
-    if (w2c_i0) {goto w2c_B21;}
+    if (w2c_i0) {goto w2c_B24;}
     w2c_i0 = 11u;
     w2c_l21 = w2c_i0;
     w2c_i0 = w2c_l19;
     w2c_l23 = w2c_i0;
     w2c_i0 = w2c_l16;
     w2c_l22 = w2c_i0;
-    goto w2c_B36;
-    w2c_B40:;
+    goto w2c_B39;
+    w2c_B43:;
     w2c_i0 = w2c_l16;
     w2c_j0 = (u64)(w2c_i0);
     w2c_j1 = 255ull;
     w2c_j0 &= w2c_j1;
     w2c_i0 = (u32)(w2c_j0);
     switch (w2c_i0) {
-      case 0: goto w2c_B53;
-      case 1: goto w2c_B33;
-      case 2: goto w2c_B31;
-      case 3: goto w2c_B22;
-      default: goto w2c_B53;
+      case 0: goto w2c_B56;
+      case 1: goto w2c_B36;
+      case 2: goto w2c_B34;
+      case 3: goto w2c_B25;
+      default: goto w2c_B56;
     }
-    w2c_B53:;
+    w2c_B56:;
     w2c_i0 = w2c_l19;
     w2c_j0 = (u64)(w2c_i0);
     w2c_j1 = 255ull;
     w2c_j0 &= w2c_j1;
     w2c_i0 = (u32)(w2c_j0);
     switch (w2c_i0) {
-      case 0: goto w2c_B58;
-      case 1: goto w2c_B55;
-      case 2: goto w2c_B57;
-      case 3: goto w2c_B57;
-      case 4: goto w2c_B56;
-      case 5: goto w2c_B54;
-      default: goto w2c_B58;
+      case 0: goto w2c_B61;
+      case 1: goto w2c_B58;
+      case 2: goto w2c_B60;
+      case 3: goto w2c_B60;
+      case 4: goto w2c_B59;
+      case 5: goto w2c_B57;
+      default: goto w2c_B61;
     }
-    w2c_B58:;
+    w2c_B61:;
     w2c_i0 = 0u;
     w2c_l15 = w2c_i0;
     w2c_i0 = 6u;
     w2c_l17 = w2c_i0;
     w2c_i0 = w2c_l20;
     switch (w2c_i0) {
-      case 0: goto w2c_B21;
-      case 1: goto w2c_B21;
-      case 2: goto w2c_B21;
-      case 3: goto w2c_B21;
-      case 4: goto w2c_B21;
-      case 5: goto w2c_B15;
-      case 6: goto w2c_B28;
-      case 7: goto w2c_B19;
-      case 8: goto w2c_B21;
-      case 9: goto w2c_B21;
-      case 10: goto w2c_B21;
-      case 11: goto w2c_B21;
-      case 12: goto w2c_B21;
-      case 13: goto w2c_B21;
-      case 14: goto w2c_B21;
-      default: goto w2c_B21;
+      case 0: goto w2c_B24;
+      case 1: goto w2c_B24;
+      case 2: goto w2c_B24;
+      case 3: goto w2c_B24;
+      case 4: goto w2c_B24;
+      case 5: goto w2c_B18;
+      case 6: goto w2c_B31;
+      case 7: goto w2c_B22;
+      case 8: goto w2c_B24;
+      case 9: goto w2c_B24;
+      case 10: goto w2c_B24;
+      case 11: goto w2c_B24;
+      case 12: goto w2c_B24;
+      case 13: goto w2c_B24;
+      case 14: goto w2c_B24;
+      default: goto w2c_B24;
     }
-    w2c_B57:;
+    w2c_B60:;
     w2c_i0 = 0u;
     w2c_l15 = w2c_i0;
     w2c_i0 = 8u;
@@ -42573,109 +46433,109 @@ static u32 w2c_f68(module *m, u64 w2c_p0, u64 w2c_p1, u64 w2c_p2) {
     w2c_i0 = w2c_l20;
     w2c_i1 = 5u;
     w2c_i0 = w2c_i0 == w2c_i1;
-    if (w2c_i0) {goto w2c_B15;}
+    if (w2c_i0) {goto w2c_B18;}
     w2c_i0 = w2c_l20;
     w2c_i1 = 7u;
     w2c_i0 = w2c_i0 == w2c_i1;
-    if (w2c_i0) {goto w2c_B19;}
-    goto w2c_B21;
-    w2c_B56:;
+    if (w2c_i0) {goto w2c_B22;}
+    goto w2c_B24;
+    w2c_B59:;
     w2c_i0 = w2c_l20;
     w2c_i1 = 5u;
     w2c_i0 = w2c_i0 != w2c_i1;
-    if (w2c_i0) {goto w2c_B21;}
-    goto w2c_B17;
-    w2c_B55:;
+    if (w2c_i0) {goto w2c_B24;}
+    goto w2c_B20;
+    w2c_B58:;
     w2c_i0 = 0u;
     w2c_l15 = w2c_i0;
     w2c_i0 = w2c_l20;
     w2c_i1 = 6u;
     w2c_i0 = w2c_i0 == w2c_i1;
-    if (w2c_i0) {goto w2c_B28;}
+    if (w2c_i0) {goto w2c_B31;}
     w2c_i0 = w2c_l20;
     w2c_i1 = 7u;
     w2c_i0 = w2c_i0 == w2c_i1;
-    if (w2c_i0) {goto w2c_B19;}
-    goto w2c_B21;
-    w2c_B54:;
+    if (w2c_i0) {goto w2c_B22;}
+    goto w2c_B24;
+    w2c_B57:;
     w2c_i0 = w2c_l20;
     w2c_i1 = 7u;
     w2c_i0 = w2c_i0 != w2c_i1;
-    if (w2c_i0) {goto w2c_B21;}
+    if (w2c_i0) {goto w2c_B24;}
     w2c_i0 = 0u;
     w2c_l15 = w2c_i0;
-    goto w2c_B19;
-    w2c_B39:;
+    goto w2c_B22;
+    w2c_B42:;
     w2c_i0 = w2c_l16;
     w2c_j0 = (u64)(w2c_i0);
     w2c_j1 = 255ull;
     w2c_j0 &= w2c_j1;
     w2c_i0 = (u32)(w2c_j0);
     switch (w2c_i0) {
-      case 0: goto w2c_B59;
-      case 1: goto w2c_B60;
-      case 2: goto w2c_B61;
-      case 3: goto w2c_B62;
-      default: goto w2c_B59;
+      case 0: goto w2c_B62;
+      case 1: goto w2c_B63;
+      case 2: goto w2c_B64;
+      case 3: goto w2c_B65;
+      default: goto w2c_B62;
     }
-    w2c_B62:;
+    w2c_B65:;
     w2c_i0 = w2c_l20;
     w2c_i1 = 4294967291u;
     w2c_i0 += w2c_i1;
     w2c_i1 = 10u;
     w2c_i0 = w2c_i0 < w2c_i1;
-    if (w2c_i0) {goto w2c_B63;}
+    if (w2c_i0) {goto w2c_B66;}
     w2c_i0 = w2c_l19;
     w2c_l15 = w2c_i0;
     w2c_i0 = w2c_l20;
     switch (w2c_i0) {
-      case 0: goto w2c_B63;
-      case 1: goto w2c_B63;
-      case 2: goto w2c_B32;
-      case 3: goto w2c_B30;
-      case 4: goto w2c_B29;
-      default: goto w2c_B63;
+      case 0: goto w2c_B66;
+      case 1: goto w2c_B66;
+      case 2: goto w2c_B35;
+      case 3: goto w2c_B33;
+      case 4: goto w2c_B32;
+      default: goto w2c_B66;
     }
-    w2c_B63:;
+    w2c_B66:;
     w2c_i0 = w2c_l19;
     w2c_j0 = (u64)(w2c_i0);
     w2c_j1 = 255ull;
     w2c_j0 &= w2c_j1;
     w2c_i0 = (u32)(w2c_j0);
     switch (w2c_i0) {
-      case 0: goto w2c_B68;
-      case 1: goto w2c_B65;
-      case 2: goto w2c_B67;
-      case 3: goto w2c_B67;
-      case 4: goto w2c_B66;
-      case 5: goto w2c_B64;
-      default: goto w2c_B68;
+      case 0: goto w2c_B71;
+      case 1: goto w2c_B68;
+      case 2: goto w2c_B70;
+      case 3: goto w2c_B70;
+      case 4: goto w2c_B69;
+      case 5: goto w2c_B67;
+      default: goto w2c_B71;
     }
-    w2c_B68:;
+    w2c_B71:;
     w2c_i0 = 0u;
     w2c_l15 = w2c_i0;
     w2c_i0 = 6u;
     w2c_l17 = w2c_i0;
     w2c_i0 = w2c_l20;
     switch (w2c_i0) {
-      case 0: goto w2c_B21;
-      case 1: goto w2c_B21;
-      case 2: goto w2c_B21;
-      case 3: goto w2c_B21;
-      case 4: goto w2c_B21;
-      case 5: goto w2c_B15;
-      case 6: goto w2c_B28;
-      case 7: goto w2c_B19;
-      case 8: goto w2c_B21;
-      case 9: goto w2c_B21;
-      case 10: goto w2c_B21;
-      case 11: goto w2c_B21;
-      case 12: goto w2c_B21;
-      case 13: goto w2c_B21;
-      case 14: goto w2c_B21;
-      default: goto w2c_B21;
+      case 0: goto w2c_B24;
+      case 1: goto w2c_B24;
+      case 2: goto w2c_B24;
+      case 3: goto w2c_B24;
+      case 4: goto w2c_B24;
+      case 5: goto w2c_B18;
+      case 6: goto w2c_B31;
+      case 7: goto w2c_B22;
+      case 8: goto w2c_B24;
+      case 9: goto w2c_B24;
+      case 10: goto w2c_B24;
+      case 11: goto w2c_B24;
+      case 12: goto w2c_B24;
+      case 13: goto w2c_B24;
+      case 14: goto w2c_B24;
+      default: goto w2c_B24;
     }
-    w2c_B67:;
+    w2c_B70:;
     w2c_i0 = 0u;
     w2c_l15 = w2c_i0;
     w2c_i0 = 8u;
@@ -42683,261 +46543,95 @@ static u32 w2c_f68(module *m, u64 w2c_p0, u64 w2c_p1, u64 w2c_p2) {
     w2c_i0 = w2c_l20;
     w2c_i1 = 5u;
     w2c_i0 = w2c_i0 == w2c_i1;
-    if (w2c_i0) {goto w2c_B15;}
+    if (w2c_i0) {goto w2c_B18;}
     w2c_i0 = w2c_l20;
     w2c_i1 = 7u;
     w2c_i0 = w2c_i0 == w2c_i1;
-    if (w2c_i0) {goto w2c_B19;}
-    goto w2c_B21;
-    w2c_B66:;
+    if (w2c_i0) {goto w2c_B22;}
+    goto w2c_B24;
+    w2c_B69:;
     w2c_i0 = w2c_l20;
     w2c_i1 = 5u;
     w2c_i0 = w2c_i0 == w2c_i1;
-    if (w2c_i0) {goto w2c_B17;}
-    goto w2c_B21;
-    w2c_B65:;
+    if (w2c_i0) {goto w2c_B20;}
+    goto w2c_B24;
+    w2c_B68:;
     w2c_i0 = 0u;
     w2c_l15 = w2c_i0;
     w2c_i0 = w2c_l20;
     w2c_i1 = 6u;
     w2c_i0 = w2c_i0 == w2c_i1;
-    if (w2c_i0) {goto w2c_B28;}
+    if (w2c_i0) {goto w2c_B31;}
     w2c_i0 = w2c_l20;
     w2c_i1 = 7u;
     w2c_i0 = w2c_i0 == w2c_i1;
-    if (w2c_i0) {goto w2c_B19;}
-    goto w2c_B21;
-    w2c_B64:;
+    if (w2c_i0) {goto w2c_B22;}
+    goto w2c_B24;
+    w2c_B67:;
     w2c_i0 = w2c_l20;
     w2c_i1 = 7u;
     w2c_i0 = w2c_i0 != w2c_i1;
-    if (w2c_i0) {goto w2c_B21;}
+    if (w2c_i0) {goto w2c_B24;}
     w2c_i0 = 0u;
     w2c_l15 = w2c_i0;
-    goto w2c_B19;
-    w2c_B61:;
+    goto w2c_B22;
+    w2c_B64:;
     w2c_i0 = w2c_l20;
     w2c_i1 = 4294967292u;
     w2c_i0 += w2c_i1;
     w2c_i1 = 11u;
     w2c_i0 = w2c_i0 < w2c_i1;
-    if (w2c_i0) {goto w2c_B69;}
+    if (w2c_i0) {goto w2c_B72;}
     w2c_i0 = w2c_l19;
     w2c_l15 = w2c_i0;
     w2c_i0 = w2c_l20;
     switch (w2c_i0) {
-      case 0: goto w2c_B69;
-      case 1: goto w2c_B69;
-      case 2: goto w2c_B32;
-      case 3: goto w2c_B30;
-      default: goto w2c_B69;
+      case 0: goto w2c_B72;
+      case 1: goto w2c_B72;
+      case 2: goto w2c_B35;
+      case 3: goto w2c_B33;
+      default: goto w2c_B72;
     }
-    w2c_B69:;
-    w2c_i0 = w2c_l19;
-    w2c_j0 = (u64)(w2c_i0);
-    w2c_j1 = 255ull;
-    w2c_j0 &= w2c_j1;
-    w2c_i0 = (u32)(w2c_j0);
-    switch (w2c_i0) {
-      case 0: goto w2c_B74;
-      case 1: goto w2c_B71;
-      case 2: goto w2c_B73;
-      case 3: goto w2c_B73;
-      case 4: goto w2c_B72;
-      case 5: goto w2c_B70;
-      default: goto w2c_B74;
-    }
-    w2c_B74:;
-    w2c_i0 = 0u;
-    w2c_l15 = w2c_i0;
-    w2c_i0 = 6u;
-    w2c_l17 = w2c_i0;
-    w2c_i0 = w2c_l20;
-    switch (w2c_i0) {
-      case 0: goto w2c_B21;
-      case 1: goto w2c_B21;
-      case 2: goto w2c_B21;
-      case 3: goto w2c_B21;
-      case 4: goto w2c_B21;
-      case 5: goto w2c_B15;
-      case 6: goto w2c_B28;
-      case 7: goto w2c_B19;
-      case 8: goto w2c_B21;
-      case 9: goto w2c_B21;
-      case 10: goto w2c_B21;
-      case 11: goto w2c_B21;
-      case 12: goto w2c_B21;
-      case 13: goto w2c_B21;
-      case 14: goto w2c_B21;
-      default: goto w2c_B21;
-    }
-    w2c_B73:;
-    w2c_i0 = 0u;
-    w2c_l15 = w2c_i0;
-    w2c_i0 = 8u;
-    w2c_l17 = w2c_i0;
-    w2c_i0 = w2c_l20;
-    w2c_i1 = 5u;
-    w2c_i0 = w2c_i0 == w2c_i1;
-    if (w2c_i0) {goto w2c_B15;}
-    w2c_i0 = w2c_l20;
-    w2c_i1 = 7u;
-    w2c_i0 = w2c_i0 == w2c_i1;
-    if (w2c_i0) {goto w2c_B19;}
-    goto w2c_B21;
     w2c_B72:;
-    w2c_i0 = w2c_l20;
-    w2c_i1 = 5u;
-    w2c_i0 = w2c_i0 == w2c_i1;
-    if (w2c_i0) {goto w2c_B17;}
-    goto w2c_B21;
-    w2c_B71:;
-    w2c_i0 = 0u;
-    w2c_l15 = w2c_i0;
-    w2c_i0 = w2c_l20;
-    w2c_i1 = 6u;
-    w2c_i0 = w2c_i0 == w2c_i1;
-    if (w2c_i0) {goto w2c_B28;}
-    w2c_i0 = w2c_l20;
-    w2c_i1 = 7u;
-    w2c_i0 = w2c_i0 == w2c_i1;
-    if (w2c_i0) {goto w2c_B19;}
-    goto w2c_B21;
-    w2c_B70:;
-    w2c_i0 = w2c_l20;
-    w2c_i1 = 7u;
-    w2c_i0 = w2c_i0 != w2c_i1;
-    if (w2c_i0) {goto w2c_B21;}
-    w2c_i0 = 0u;
-    w2c_l15 = w2c_i0;
-    goto w2c_B19;
-    w2c_B60:;
-    w2c_i0 = w2c_l20;
-    w2c_i1 = 2u;
-    w2c_i0 = w2c_i0 != w2c_i1;
-    if (w2c_i0) {goto w2c_B75;}
-    w2c_i0 = w2c_l19;
-    w2c_l15 = w2c_i0;
-    goto w2c_B32;
-    w2c_B75:;
     w2c_i0 = w2c_l19;
     w2c_j0 = (u64)(w2c_i0);
     w2c_j1 = 255ull;
     w2c_j0 &= w2c_j1;
     w2c_i0 = (u32)(w2c_j0);
     switch (w2c_i0) {
-      case 0: goto w2c_B80;
-      case 1: goto w2c_B77;
-      case 2: goto w2c_B79;
-      case 3: goto w2c_B79;
-      case 4: goto w2c_B78;
-      case 5: goto w2c_B76;
-      default: goto w2c_B80;
+      case 0: goto w2c_B77;
+      case 1: goto w2c_B74;
+      case 2: goto w2c_B76;
+      case 3: goto w2c_B76;
+      case 4: goto w2c_B75;
+      case 5: goto w2c_B73;
+      default: goto w2c_B77;
     }
-    w2c_B80:;
-    w2c_i0 = 0u;
-    w2c_l15 = w2c_i0;
-    w2c_i0 = 6u;
-    w2c_l17 = w2c_i0;
-    w2c_i0 = w2c_l20;
-    switch (w2c_i0) {
-      case 0: goto w2c_B21;
-      case 1: goto w2c_B21;
-      case 2: goto w2c_B0;
-      case 3: goto w2c_B21;
-      case 4: goto w2c_B21;
-      case 5: goto w2c_B15;
-      case 6: goto w2c_B28;
-      case 7: goto w2c_B19;
-      case 8: goto w2c_B21;
-      case 9: goto w2c_B21;
-      case 10: goto w2c_B21;
-      case 11: goto w2c_B21;
-      case 12: goto w2c_B21;
-      case 13: goto w2c_B21;
-      case 14: goto w2c_B21;
-      default: goto w2c_B21;
-    }
-    w2c_B79:;
-    w2c_i0 = 0u;
-    w2c_l15 = w2c_i0;
-    w2c_i0 = 8u;
-    w2c_l17 = w2c_i0;
-    w2c_i0 = w2c_l20;
-    w2c_i1 = 5u;
-    w2c_i0 = w2c_i0 == w2c_i1;
-    if (w2c_i0) {goto w2c_B15;}
-    w2c_i0 = w2c_l20;
-    w2c_i1 = 7u;
-    w2c_i0 = w2c_i0 == w2c_i1;
-    if (w2c_i0) {goto w2c_B19;}
-    goto w2c_B21;
-    w2c_B78:;
-    w2c_i0 = w2c_l20;
-    w2c_i1 = 5u;
-    w2c_i0 = w2c_i0 == w2c_i1;
-    if (w2c_i0) {goto w2c_B17;}
-    goto w2c_B21;
     w2c_B77:;
     w2c_i0 = 0u;
     w2c_l15 = w2c_i0;
-    w2c_i0 = w2c_l20;
-    w2c_i1 = 6u;
-    w2c_i0 = w2c_i0 == w2c_i1;
-    if (w2c_i0) {goto w2c_B28;}
-    w2c_i0 = w2c_l20;
-    w2c_i1 = 7u;
-    w2c_i0 = w2c_i0 == w2c_i1;
-    if (w2c_i0) {goto w2c_B19;}
-    goto w2c_B21;
-    w2c_B76:;
-    w2c_i0 = w2c_l20;
-    w2c_i1 = 7u;
-    w2c_i0 = w2c_i0 != w2c_i1;
-    if (w2c_i0) {goto w2c_B21;}
-    w2c_i0 = 0u;
-    w2c_l15 = w2c_i0;
-    goto w2c_B19;
-    w2c_B59:;
-    w2c_i0 = w2c_l19;
-    w2c_j0 = (u64)(w2c_i0);
-    w2c_j1 = 255ull;
-    w2c_j0 &= w2c_j1;
-    w2c_i0 = (u32)(w2c_j0);
-    switch (w2c_i0) {
-      case 0: goto w2c_B85;
-      case 1: goto w2c_B82;
-      case 2: goto w2c_B84;
-      case 3: goto w2c_B84;
-      case 4: goto w2c_B83;
-      case 5: goto w2c_B81;
-      default: goto w2c_B85;
-    }
-    w2c_B85:;
-    w2c_i0 = 0u;
-    w2c_l15 = w2c_i0;
     w2c_i0 = 6u;
     w2c_l17 = w2c_i0;
     w2c_i0 = w2c_l20;
     switch (w2c_i0) {
-      case 0: goto w2c_B21;
-      case 1: goto w2c_B21;
-      case 2: goto w2c_B21;
-      case 3: goto w2c_B21;
-      case 4: goto w2c_B21;
-      case 5: goto w2c_B15;
-      case 6: goto w2c_B28;
-      case 7: goto w2c_B19;
-      case 8: goto w2c_B21;
-      case 9: goto w2c_B21;
-      case 10: goto w2c_B21;
-      case 11: goto w2c_B21;
-      case 12: goto w2c_B21;
-      case 13: goto w2c_B21;
-      case 14: goto w2c_B21;
-      default: goto w2c_B21;
+      case 0: goto w2c_B24;
+      case 1: goto w2c_B24;
+      case 2: goto w2c_B24;
+      case 3: goto w2c_B24;
+      case 4: goto w2c_B24;
+      case 5: goto w2c_B18;
+      case 6: goto w2c_B31;
+      case 7: goto w2c_B22;
+      case 8: goto w2c_B24;
+      case 9: goto w2c_B24;
+      case 10: goto w2c_B24;
+      case 11: goto w2c_B24;
+      case 12: goto w2c_B24;
+      case 13: goto w2c_B24;
+      case 14: goto w2c_B24;
+      default: goto w2c_B24;
     }
-    w2c_B84:;
+    w2c_B76:;
     w2c_i0 = 0u;
     w2c_l15 = w2c_i0;
     w2c_i0 = 8u;
@@ -42945,58 +46639,224 @@ static u32 w2c_f68(module *m, u64 w2c_p0, u64 w2c_p1, u64 w2c_p2) {
     w2c_i0 = w2c_l20;
     w2c_i1 = 5u;
     w2c_i0 = w2c_i0 == w2c_i1;
-    if (w2c_i0) {goto w2c_B15;}
+    if (w2c_i0) {goto w2c_B18;}
     w2c_i0 = w2c_l20;
     w2c_i1 = 7u;
     w2c_i0 = w2c_i0 == w2c_i1;
-    if (w2c_i0) {goto w2c_B19;}
-    goto w2c_B21;
-    w2c_B83:;
+    if (w2c_i0) {goto w2c_B22;}
+    goto w2c_B24;
+    w2c_B75:;
     w2c_i0 = w2c_l20;
     w2c_i1 = 5u;
     w2c_i0 = w2c_i0 == w2c_i1;
-    if (w2c_i0) {goto w2c_B17;}
-    goto w2c_B21;
-    w2c_B82:;
+    if (w2c_i0) {goto w2c_B20;}
+    goto w2c_B24;
+    w2c_B74:;
     w2c_i0 = 0u;
     w2c_l15 = w2c_i0;
     w2c_i0 = w2c_l20;
     w2c_i1 = 6u;
     w2c_i0 = w2c_i0 == w2c_i1;
-    if (w2c_i0) {goto w2c_B28;}
+    if (w2c_i0) {goto w2c_B31;}
     w2c_i0 = w2c_l20;
     w2c_i1 = 7u;
     w2c_i0 = w2c_i0 == w2c_i1;
-    if (w2c_i0) {goto w2c_B19;}
-    goto w2c_B21;
-    w2c_B81:;
+    if (w2c_i0) {goto w2c_B22;}
+    goto w2c_B24;
+    w2c_B73:;
     w2c_i0 = w2c_l20;
     w2c_i1 = 7u;
     w2c_i0 = w2c_i0 != w2c_i1;
-    if (w2c_i0) {goto w2c_B21;}
+    if (w2c_i0) {goto w2c_B24;}
     w2c_i0 = 0u;
     w2c_l15 = w2c_i0;
-    goto w2c_B19;
-    w2c_B38:;
+    goto w2c_B22;
+    w2c_B63:;
+    w2c_i0 = w2c_l20;
+    w2c_i1 = 2u;
+    w2c_i0 = w2c_i0 != w2c_i1;
+    if (w2c_i0) {goto w2c_B78;}
+    w2c_i0 = w2c_l19;
+    w2c_l15 = w2c_i0;
+    goto w2c_B35;
+    w2c_B78:;
+    w2c_i0 = w2c_l19;
+    w2c_j0 = (u64)(w2c_i0);
+    w2c_j1 = 255ull;
+    w2c_j0 &= w2c_j1;
+    w2c_i0 = (u32)(w2c_j0);
+    switch (w2c_i0) {
+      case 0: goto w2c_B83;
+      case 1: goto w2c_B80;
+      case 2: goto w2c_B82;
+      case 3: goto w2c_B82;
+      case 4: goto w2c_B81;
+      case 5: goto w2c_B79;
+      default: goto w2c_B83;
+    }
+    w2c_B83:;
+    w2c_i0 = 0u;
+    w2c_l15 = w2c_i0;
+    w2c_i0 = 6u;
+    w2c_l17 = w2c_i0;
+    w2c_i0 = w2c_l20;
+    switch (w2c_i0) {
+      case 0: goto w2c_B24;
+      case 1: goto w2c_B24;
+      case 2: goto w2c_B0;
+      case 3: goto w2c_B24;
+      case 4: goto w2c_B24;
+      case 5: goto w2c_B18;
+      case 6: goto w2c_B31;
+      case 7: goto w2c_B22;
+      case 8: goto w2c_B24;
+      case 9: goto w2c_B24;
+      case 10: goto w2c_B24;
+      case 11: goto w2c_B24;
+      case 12: goto w2c_B24;
+      case 13: goto w2c_B24;
+      case 14: goto w2c_B24;
+      default: goto w2c_B24;
+    }
+    w2c_B82:;
+    w2c_i0 = 0u;
+    w2c_l15 = w2c_i0;
+    w2c_i0 = 8u;
+    w2c_l17 = w2c_i0;
+    w2c_i0 = w2c_l20;
+    w2c_i1 = 5u;
+    w2c_i0 = w2c_i0 == w2c_i1;
+    if (w2c_i0) {goto w2c_B18;}
+    w2c_i0 = w2c_l20;
+    w2c_i1 = 7u;
+    w2c_i0 = w2c_i0 == w2c_i1;
+    if (w2c_i0) {goto w2c_B22;}
+    goto w2c_B24;
+    w2c_B81:;
+    w2c_i0 = w2c_l20;
+    w2c_i1 = 5u;
+    w2c_i0 = w2c_i0 == w2c_i1;
+    if (w2c_i0) {goto w2c_B20;}
+    goto w2c_B24;
+    w2c_B80:;
+    w2c_i0 = 0u;
+    w2c_l15 = w2c_i0;
+    w2c_i0 = w2c_l20;
+    w2c_i1 = 6u;
+    w2c_i0 = w2c_i0 == w2c_i1;
+    if (w2c_i0) {goto w2c_B31;}
+    w2c_i0 = w2c_l20;
+    w2c_i1 = 7u;
+    w2c_i0 = w2c_i0 == w2c_i1;
+    if (w2c_i0) {goto w2c_B22;}
+    goto w2c_B24;
+    w2c_B79:;
+    w2c_i0 = w2c_l20;
+    w2c_i1 = 7u;
+    w2c_i0 = w2c_i0 != w2c_i1;
+    if (w2c_i0) {goto w2c_B24;}
+    w2c_i0 = 0u;
+    w2c_l15 = w2c_i0;
+    goto w2c_B22;
+    w2c_B62:;
+    w2c_i0 = w2c_l19;
+    w2c_j0 = (u64)(w2c_i0);
+    w2c_j1 = 255ull;
+    w2c_j0 &= w2c_j1;
+    w2c_i0 = (u32)(w2c_j0);
+    switch (w2c_i0) {
+      case 0: goto w2c_B88;
+      case 1: goto w2c_B85;
+      case 2: goto w2c_B87;
+      case 3: goto w2c_B87;
+      case 4: goto w2c_B86;
+      case 5: goto w2c_B84;
+      default: goto w2c_B88;
+    }
+    w2c_B88:;
+    w2c_i0 = 0u;
+    w2c_l15 = w2c_i0;
+    w2c_i0 = 6u;
+    w2c_l17 = w2c_i0;
+    w2c_i0 = w2c_l20;
+    switch (w2c_i0) {
+      case 0: goto w2c_B24;
+      case 1: goto w2c_B24;
+      case 2: goto w2c_B24;
+      case 3: goto w2c_B24;
+      case 4: goto w2c_B24;
+      case 5: goto w2c_B18;
+      case 6: goto w2c_B31;
+      case 7: goto w2c_B22;
+      case 8: goto w2c_B24;
+      case 9: goto w2c_B24;
+      case 10: goto w2c_B24;
+      case 11: goto w2c_B24;
+      case 12: goto w2c_B24;
+      case 13: goto w2c_B24;
+      case 14: goto w2c_B24;
+      default: goto w2c_B24;
+    }
+    w2c_B87:;
+    w2c_i0 = 0u;
+    w2c_l15 = w2c_i0;
+    w2c_i0 = 8u;
+    w2c_l17 = w2c_i0;
+    w2c_i0 = w2c_l20;
+    w2c_i1 = 5u;
+    w2c_i0 = w2c_i0 == w2c_i1;
+    if (w2c_i0) {goto w2c_B18;}
+    w2c_i0 = w2c_l20;
+    w2c_i1 = 7u;
+    w2c_i0 = w2c_i0 == w2c_i1;
+    if (w2c_i0) {goto w2c_B22;}
+    goto w2c_B24;
+    w2c_B86:;
+    w2c_i0 = w2c_l20;
+    w2c_i1 = 5u;
+    w2c_i0 = w2c_i0 == w2c_i1;
+    if (w2c_i0) {goto w2c_B20;}
+    goto w2c_B24;
+    w2c_B85:;
+    w2c_i0 = 0u;
+    w2c_l15 = w2c_i0;
+    w2c_i0 = w2c_l20;
+    w2c_i1 = 6u;
+    w2c_i0 = w2c_i0 == w2c_i1;
+    if (w2c_i0) {goto w2c_B31;}
+    w2c_i0 = w2c_l20;
+    w2c_i1 = 7u;
+    w2c_i0 = w2c_i0 == w2c_i1;
+    if (w2c_i0) {goto w2c_B22;}
+    goto w2c_B24;
+    w2c_B84:;
+    w2c_i0 = w2c_l20;
+    w2c_i1 = 7u;
+    w2c_i0 = w2c_i0 != w2c_i1;
+    if (w2c_i0) {goto w2c_B24;}
+    w2c_i0 = 0u;
+    w2c_l15 = w2c_i0;
+    goto w2c_B22;
+    w2c_B41:;
     w2c_i0 = w2c_l16;
     w2c_j0 = (u64)(w2c_i0);
     w2c_j1 = 255ull;
     w2c_j0 &= w2c_j1;
     w2c_i0 = (u32)(w2c_j0);
     switch (w2c_i0) {
-      case 0: goto w2c_B86;
-      case 1: goto w2c_B87;
-      case 2: goto w2c_B88;
-      case 3: goto w2c_B89;
-      default: goto w2c_B86;
+      case 0: goto w2c_B89;
+      case 1: goto w2c_B90;
+      case 2: goto w2c_B91;
+      case 3: goto w2c_B92;
+      default: goto w2c_B89;
     }
-    w2c_B89:;
+    w2c_B92:;
     w2c_i0 = w2c_l20;
     w2c_i1 = 4294967294u;
     w2c_i0 += w2c_i1;
     w2c_i1 = 13u;
     w2c_i0 = w2c_i0 < w2c_i1;
-    if (w2c_i0) {goto w2c_B90;}
+    if (w2c_i0) {goto w2c_B93;}
     w2c_i0 = 1u;
     w2c_l16 = w2c_i0;
     w2c_i0 = 9u;
@@ -43011,26 +46871,26 @@ static u32 w2c_f68(module *m, u64 w2c_p0, u64 w2c_p1, u64 w2c_p2) {
     w2c_l15 = w2c_i0;
     w2c_i0 = w2c_l20;
     switch (w2c_i0) {
-      case 0: goto w2c_B13;
-      case 1: goto w2c_B36;
-      default: goto w2c_B13;
+      case 0: goto w2c_B16;
+      case 1: goto w2c_B39;
+      default: goto w2c_B16;
     }
-    w2c_B90:;
+    w2c_B93:;
     w2c_i0 = w2c_l19;
     w2c_j0 = (u64)(w2c_i0);
     w2c_j1 = 255ull;
     w2c_j0 &= w2c_j1;
     w2c_i0 = (u32)(w2c_j0);
     switch (w2c_i0) {
-      case 0: goto w2c_B95;
-      case 1: goto w2c_B92;
-      case 2: goto w2c_B94;
-      case 3: goto w2c_B94;
-      case 4: goto w2c_B93;
-      case 5: goto w2c_B91;
-      default: goto w2c_B95;
+      case 0: goto w2c_B98;
+      case 1: goto w2c_B95;
+      case 2: goto w2c_B97;
+      case 3: goto w2c_B97;
+      case 4: goto w2c_B96;
+      case 5: goto w2c_B94;
+      default: goto w2c_B98;
     }
-    w2c_B95:;
+    w2c_B98:;
     w2c_i0 = 1u;
     w2c_l15 = w2c_i0;
     w2c_i0 = 6u;
@@ -43039,22 +46899,22 @@ static u32 w2c_f68(module *m, u64 w2c_p0, u64 w2c_p1, u64 w2c_p2) {
     w2c_i1 = 4294967294u;
     w2c_i0 += w2c_i1;
     switch (w2c_i0) {
-      case 0: goto w2c_B21;
-      case 1: goto w2c_B21;
-      case 2: goto w2c_B21;
-      case 3: goto w2c_B15;
-      case 4: goto w2c_B28;
-      case 5: goto w2c_B19;
-      case 6: goto w2c_B21;
-      case 7: goto w2c_B21;
-      case 8: goto w2c_B21;
-      case 9: goto w2c_B21;
-      case 10: goto w2c_B21;
-      case 11: goto w2c_B21;
-      case 12: goto w2c_B21;
-      default: goto w2c_B21;
+      case 0: goto w2c_B24;
+      case 1: goto w2c_B24;
+      case 2: goto w2c_B24;
+      case 3: goto w2c_B18;
+      case 4: goto w2c_B31;
+      case 5: goto w2c_B22;
+      case 6: goto w2c_B24;
+      case 7: goto w2c_B24;
+      case 8: goto w2c_B24;
+      case 9: goto w2c_B24;
+      case 10: goto w2c_B24;
+      case 11: goto w2c_B24;
+      case 12: goto w2c_B24;
+      default: goto w2c_B24;
     }
-    w2c_B94:;
+    w2c_B97:;
     w2c_i0 = 1u;
     w2c_l15 = w2c_i0;
     w2c_i0 = 8u;
@@ -43062,45 +46922,45 @@ static u32 w2c_f68(module *m, u64 w2c_p0, u64 w2c_p1, u64 w2c_p2) {
     w2c_i0 = w2c_l20;
     w2c_i1 = 5u;
     w2c_i0 = w2c_i0 == w2c_i1;
-    if (w2c_i0) {goto w2c_B15;}
+    if (w2c_i0) {goto w2c_B18;}
     w2c_i0 = w2c_l20;
     w2c_i1 = 7u;
     w2c_i0 = w2c_i0 == w2c_i1;
-    if (w2c_i0) {goto w2c_B19;}
-    goto w2c_B21;
-    w2c_B93:;
+    if (w2c_i0) {goto w2c_B22;}
+    goto w2c_B24;
+    w2c_B96:;
     w2c_i0 = w2c_l20;
     w2c_i1 = 5u;
     w2c_i0 = w2c_i0 != w2c_i1;
-    if (w2c_i0) {goto w2c_B21;}
-    goto w2c_B18;
-    w2c_B92:;
+    if (w2c_i0) {goto w2c_B24;}
+    goto w2c_B21;
+    w2c_B95:;
     w2c_i0 = 1u;
     w2c_l15 = w2c_i0;
     w2c_i0 = w2c_l20;
     w2c_i1 = 6u;
     w2c_i0 = w2c_i0 == w2c_i1;
-    if (w2c_i0) {goto w2c_B28;}
+    if (w2c_i0) {goto w2c_B31;}
     w2c_i0 = w2c_l20;
     w2c_i1 = 7u;
     w2c_i0 = w2c_i0 == w2c_i1;
-    if (w2c_i0) {goto w2c_B19;}
-    goto w2c_B21;
-    w2c_B91:;
+    if (w2c_i0) {goto w2c_B22;}
+    goto w2c_B24;
+    w2c_B94:;
     w2c_i0 = w2c_l20;
     w2c_i1 = 7u;
     w2c_i0 = w2c_i0 != w2c_i1;
-    if (w2c_i0) {goto w2c_B21;}
+    if (w2c_i0) {goto w2c_B24;}
     w2c_i0 = 1u;
     w2c_l15 = w2c_i0;
-    goto w2c_B19;
-    w2c_B88:;
+    goto w2c_B22;
+    w2c_B91:;
     w2c_i0 = w2c_l20;
     w2c_i1 = 4294967294u;
     w2c_i0 += w2c_i1;
     w2c_i1 = 13u;
     w2c_i0 = w2c_i0 < w2c_i1;
-    if (w2c_i0) {goto w2c_B96;}
+    if (w2c_i0) {goto w2c_B99;}
     w2c_i0 = 9u;
     w2c_l17 = w2c_i0;
     w2c_i0 = 10u;
@@ -43115,26 +46975,26 @@ static u32 w2c_f68(module *m, u64 w2c_p0, u64 w2c_p1, u64 w2c_p2) {
     w2c_l16 = w2c_i0;
     w2c_i0 = w2c_l20;
     switch (w2c_i0) {
-      case 0: goto w2c_B13;
-      case 1: goto w2c_B36;
-      default: goto w2c_B13;
+      case 0: goto w2c_B16;
+      case 1: goto w2c_B39;
+      default: goto w2c_B16;
     }
-    w2c_B96:;
+    w2c_B99:;
     w2c_i0 = w2c_l19;
     w2c_j0 = (u64)(w2c_i0);
     w2c_j1 = 255ull;
     w2c_j0 &= w2c_j1;
     w2c_i0 = (u32)(w2c_j0);
     switch (w2c_i0) {
-      case 0: goto w2c_B101;
-      case 1: goto w2c_B98;
-      case 2: goto w2c_B100;
-      case 3: goto w2c_B100;
-      case 4: goto w2c_B99;
-      case 5: goto w2c_B97;
-      default: goto w2c_B101;
+      case 0: goto w2c_B104;
+      case 1: goto w2c_B101;
+      case 2: goto w2c_B103;
+      case 3: goto w2c_B103;
+      case 4: goto w2c_B102;
+      case 5: goto w2c_B100;
+      default: goto w2c_B104;
     }
-    w2c_B101:;
+    w2c_B104:;
     w2c_i0 = 1u;
     w2c_l15 = w2c_i0;
     w2c_i0 = 6u;
@@ -43143,22 +47003,22 @@ static u32 w2c_f68(module *m, u64 w2c_p0, u64 w2c_p1, u64 w2c_p2) {
     w2c_i1 = 4294967294u;
     w2c_i0 += w2c_i1;
     switch (w2c_i0) {
-      case 0: goto w2c_B21;
-      case 1: goto w2c_B21;
-      case 2: goto w2c_B21;
-      case 3: goto w2c_B15;
-      case 4: goto w2c_B28;
-      case 5: goto w2c_B19;
-      case 6: goto w2c_B21;
-      case 7: goto w2c_B21;
-      case 8: goto w2c_B21;
-      case 9: goto w2c_B21;
-      case 10: goto w2c_B21;
-      case 11: goto w2c_B21;
-      case 12: goto w2c_B21;
-      default: goto w2c_B21;
+      case 0: goto w2c_B24;
+      case 1: goto w2c_B24;
+      case 2: goto w2c_B24;
+      case 3: goto w2c_B18;
+      case 4: goto w2c_B31;
+      case 5: goto w2c_B22;
+      case 6: goto w2c_B24;
+      case 7: goto w2c_B24;
+      case 8: goto w2c_B24;
+      case 9: goto w2c_B24;
+      case 10: goto w2c_B24;
+      case 11: goto w2c_B24;
+      case 12: goto w2c_B24;
+      default: goto w2c_B24;
     }
-    w2c_B100:;
+    w2c_B103:;
     w2c_i0 = 1u;
     w2c_l15 = w2c_i0;
     w2c_i0 = 8u;
@@ -43166,234 +47026,234 @@ static u32 w2c_f68(module *m, u64 w2c_p0, u64 w2c_p1, u64 w2c_p2) {
     w2c_i0 = w2c_l20;
     w2c_i1 = 5u;
     w2c_i0 = w2c_i0 == w2c_i1;
-    if (w2c_i0) {goto w2c_B15;}
+    if (w2c_i0) {goto w2c_B18;}
     w2c_i0 = w2c_l20;
     w2c_i1 = 7u;
     w2c_i0 = w2c_i0 == w2c_i1;
-    if (w2c_i0) {goto w2c_B19;}
-    goto w2c_B21;
-    w2c_B99:;
+    if (w2c_i0) {goto w2c_B22;}
+    goto w2c_B24;
+    w2c_B102:;
     w2c_i0 = w2c_l20;
     w2c_i1 = 5u;
     w2c_i0 = w2c_i0 == w2c_i1;
-    if (w2c_i0) {goto w2c_B18;}
-    goto w2c_B21;
-    w2c_B98:;
+    if (w2c_i0) {goto w2c_B21;}
+    goto w2c_B24;
+    w2c_B101:;
     w2c_i0 = 1u;
     w2c_l15 = w2c_i0;
     w2c_i0 = w2c_l20;
     w2c_i1 = 6u;
     w2c_i0 = w2c_i0 == w2c_i1;
-    if (w2c_i0) {goto w2c_B28;}
+    if (w2c_i0) {goto w2c_B31;}
     w2c_i0 = w2c_l20;
     w2c_i1 = 7u;
     w2c_i0 = w2c_i0 == w2c_i1;
-    if (w2c_i0) {goto w2c_B19;}
-    goto w2c_B21;
-    w2c_B97:;
+    if (w2c_i0) {goto w2c_B22;}
+    goto w2c_B24;
+    w2c_B100:;
     w2c_i0 = w2c_l20;
     w2c_i1 = 7u;
     w2c_i0 = w2c_i0 != w2c_i1;
-    if (w2c_i0) {goto w2c_B21;}
+    if (w2c_i0) {goto w2c_B24;}
     w2c_i0 = 1u;
     w2c_l15 = w2c_i0;
-    goto w2c_B19;
-    w2c_B87:;
+    goto w2c_B22;
+    w2c_B90:;
     w2c_i0 = w2c_l20;
     w2c_i1 = 1u;
     w2c_i0 = w2c_i0 != w2c_i1;
-    if (w2c_i0) {goto w2c_B102;}
+    if (w2c_i0) {goto w2c_B105;}
     w2c_i0 = 0u;
     w2c_l22 = w2c_i0;
     w2c_i0 = 10u;
     w2c_l21 = w2c_i0;
     w2c_i0 = w2c_l19;
     w2c_l23 = w2c_i0;
-    goto w2c_B36;
-    w2c_B102:;
-    w2c_i0 = w2c_l19;
-    w2c_j0 = (u64)(w2c_i0);
-    w2c_j1 = 255ull;
-    w2c_j0 &= w2c_j1;
-    w2c_i0 = (u32)(w2c_j0);
-    switch (w2c_i0) {
-      case 0: goto w2c_B107;
-      case 1: goto w2c_B104;
-      case 2: goto w2c_B106;
-      case 3: goto w2c_B106;
-      case 4: goto w2c_B105;
-      case 5: goto w2c_B103;
-      default: goto w2c_B107;
-    }
-    w2c_B107:;
-    w2c_i0 = 1u;
-    w2c_l15 = w2c_i0;
-    w2c_i0 = 6u;
-    w2c_l17 = w2c_i0;
-    w2c_i0 = w2c_l20;
-    switch (w2c_i0) {
-      case 0: goto w2c_B21;
-      case 1: goto w2c_B0;
-      case 2: goto w2c_B21;
-      case 3: goto w2c_B21;
-      case 4: goto w2c_B21;
-      case 5: goto w2c_B15;
-      case 6: goto w2c_B28;
-      case 7: goto w2c_B19;
-      case 8: goto w2c_B21;
-      case 9: goto w2c_B21;
-      case 10: goto w2c_B21;
-      case 11: goto w2c_B21;
-      case 12: goto w2c_B21;
-      case 13: goto w2c_B21;
-      case 14: goto w2c_B21;
-      default: goto w2c_B21;
-    }
-    w2c_B106:;
-    w2c_i0 = 1u;
-    w2c_l15 = w2c_i0;
-    w2c_i0 = 8u;
-    w2c_l17 = w2c_i0;
-    w2c_i0 = w2c_l20;
-    w2c_i1 = 5u;
-    w2c_i0 = w2c_i0 == w2c_i1;
-    if (w2c_i0) {goto w2c_B15;}
-    w2c_i0 = w2c_l20;
-    w2c_i1 = 7u;
-    w2c_i0 = w2c_i0 == w2c_i1;
-    if (w2c_i0) {goto w2c_B19;}
-    goto w2c_B21;
+    goto w2c_B39;
     w2c_B105:;
-    w2c_i0 = w2c_l20;
-    w2c_i1 = 5u;
-    w2c_i0 = w2c_i0 == w2c_i1;
-    if (w2c_i0) {goto w2c_B18;}
-    goto w2c_B21;
-    w2c_B104:;
-    w2c_i0 = 1u;
-    w2c_l15 = w2c_i0;
-    w2c_i0 = w2c_l20;
-    w2c_i1 = 6u;
-    w2c_i0 = w2c_i0 == w2c_i1;
-    if (w2c_i0) {goto w2c_B28;}
-    w2c_i0 = w2c_l20;
-    w2c_i1 = 7u;
-    w2c_i0 = w2c_i0 == w2c_i1;
-    if (w2c_i0) {goto w2c_B19;}
-    goto w2c_B21;
-    w2c_B103:;
-    w2c_i0 = w2c_l20;
-    w2c_i1 = 7u;
-    w2c_i0 = w2c_i0 != w2c_i1;
-    if (w2c_i0) {goto w2c_B21;}
-    w2c_i0 = 1u;
-    w2c_l15 = w2c_i0;
-    goto w2c_B19;
-    w2c_B86:;
     w2c_i0 = w2c_l19;
     w2c_j0 = (u64)(w2c_i0);
     w2c_j1 = 255ull;
     w2c_j0 &= w2c_j1;
     w2c_i0 = (u32)(w2c_j0);
     switch (w2c_i0) {
-      case 0: goto w2c_B112;
-      case 1: goto w2c_B109;
-      case 2: goto w2c_B111;
-      case 3: goto w2c_B111;
-      case 4: goto w2c_B110;
-      case 5: goto w2c_B108;
-      default: goto w2c_B112;
+      case 0: goto w2c_B110;
+      case 1: goto w2c_B107;
+      case 2: goto w2c_B109;
+      case 3: goto w2c_B109;
+      case 4: goto w2c_B108;
+      case 5: goto w2c_B106;
+      default: goto w2c_B110;
     }
-    w2c_B112:;
+    w2c_B110:;
     w2c_i0 = 1u;
     w2c_l15 = w2c_i0;
     w2c_i0 = 6u;
     w2c_l17 = w2c_i0;
     w2c_i0 = w2c_l20;
     switch (w2c_i0) {
-      case 0: goto w2c_B21;
-      case 1: goto w2c_B21;
-      case 2: goto w2c_B21;
-      case 3: goto w2c_B21;
-      case 4: goto w2c_B21;
-      case 5: goto w2c_B15;
-      case 6: goto w2c_B28;
-      case 7: goto w2c_B19;
-      case 8: goto w2c_B21;
-      case 9: goto w2c_B21;
-      case 10: goto w2c_B21;
-      case 11: goto w2c_B21;
-      case 12: goto w2c_B21;
-      case 13: goto w2c_B21;
-      case 14: goto w2c_B21;
-      default: goto w2c_B21;
+      case 0: goto w2c_B24;
+      case 1: goto w2c_B0;
+      case 2: goto w2c_B24;
+      case 3: goto w2c_B24;
+      case 4: goto w2c_B24;
+      case 5: goto w2c_B18;
+      case 6: goto w2c_B31;
+      case 7: goto w2c_B22;
+      case 8: goto w2c_B24;
+      case 9: goto w2c_B24;
+      case 10: goto w2c_B24;
+      case 11: goto w2c_B24;
+      case 12: goto w2c_B24;
+      case 13: goto w2c_B24;
+      case 14: goto w2c_B24;
+      default: goto w2c_B24;
     }
-    w2c_B111:;
-    w2c_i0 = 1u;
-    w2c_l15 = w2c_i0;
-    w2c_i0 = 8u;
-    w2c_l17 = w2c_i0;
-    w2c_i0 = w2c_l20;
-    w2c_i1 = 5u;
-    w2c_i0 = w2c_i0 == w2c_i1;
-    if (w2c_i0) {goto w2c_B15;}
-    w2c_i0 = w2c_l20;
-    w2c_i1 = 7u;
-    w2c_i0 = w2c_i0 == w2c_i1;
-    if (w2c_i0) {goto w2c_B19;}
-    goto w2c_B21;
-    w2c_B110:;
-    w2c_i0 = w2c_l20;
-    w2c_i1 = 5u;
-    w2c_i0 = w2c_i0 == w2c_i1;
-    if (w2c_i0) {goto w2c_B18;}
-    goto w2c_B21;
     w2c_B109:;
     w2c_i0 = 1u;
     w2c_l15 = w2c_i0;
+    w2c_i0 = 8u;
+    w2c_l17 = w2c_i0;
+    w2c_i0 = w2c_l20;
+    w2c_i1 = 5u;
+    w2c_i0 = w2c_i0 == w2c_i1;
+    if (w2c_i0) {goto w2c_B18;}
+    w2c_i0 = w2c_l20;
+    w2c_i1 = 7u;
+    w2c_i0 = w2c_i0 == w2c_i1;
+    if (w2c_i0) {goto w2c_B22;}
+    goto w2c_B24;
+    w2c_B108:;
+    w2c_i0 = w2c_l20;
+    w2c_i1 = 5u;
+    w2c_i0 = w2c_i0 == w2c_i1;
+    if (w2c_i0) {goto w2c_B21;}
+    goto w2c_B24;
+    w2c_B107:;
+    w2c_i0 = 1u;
+    w2c_l15 = w2c_i0;
     w2c_i0 = w2c_l20;
     w2c_i1 = 6u;
     w2c_i0 = w2c_i0 == w2c_i1;
-    if (w2c_i0) {goto w2c_B28;}
+    if (w2c_i0) {goto w2c_B31;}
+    w2c_i0 = w2c_l20;
+    w2c_i1 = 7u;
+    w2c_i0 = w2c_i0 == w2c_i1;
+    if (w2c_i0) {goto w2c_B22;}
+    goto w2c_B24;
+    w2c_B106:;
     w2c_i0 = w2c_l20;
     w2c_i1 = 7u;
     w2c_i0 = w2c_i0 != w2c_i1;
-    if (w2c_i0) {goto w2c_B21;}
-    goto w2c_B19;
-    w2c_B108:;
-    w2c_i0 = w2c_l20;
-    w2c_i1 = 7u;
-    w2c_i0 = w2c_i0 != w2c_i1;
-    if (w2c_i0) {goto w2c_B21;}
+    if (w2c_i0) {goto w2c_B24;}
     w2c_i0 = 1u;
     w2c_l15 = w2c_i0;
-    goto w2c_B19;
-    w2c_B37:;
+    goto w2c_B22;
+    w2c_B89:;
+    w2c_i0 = w2c_l19;
+    w2c_j0 = (u64)(w2c_i0);
+    w2c_j1 = 255ull;
+    w2c_j0 &= w2c_j1;
+    w2c_i0 = (u32)(w2c_j0);
+    switch (w2c_i0) {
+      case 0: goto w2c_B115;
+      case 1: goto w2c_B112;
+      case 2: goto w2c_B114;
+      case 3: goto w2c_B114;
+      case 4: goto w2c_B113;
+      case 5: goto w2c_B111;
+      default: goto w2c_B115;
+    }
+    w2c_B115:;
+    w2c_i0 = 1u;
+    w2c_l15 = w2c_i0;
+    w2c_i0 = 6u;
+    w2c_l17 = w2c_i0;
+    w2c_i0 = w2c_l20;
+    switch (w2c_i0) {
+      case 0: goto w2c_B24;
+      case 1: goto w2c_B24;
+      case 2: goto w2c_B24;
+      case 3: goto w2c_B24;
+      case 4: goto w2c_B24;
+      case 5: goto w2c_B18;
+      case 6: goto w2c_B31;
+      case 7: goto w2c_B22;
+      case 8: goto w2c_B24;
+      case 9: goto w2c_B24;
+      case 10: goto w2c_B24;
+      case 11: goto w2c_B24;
+      case 12: goto w2c_B24;
+      case 13: goto w2c_B24;
+      case 14: goto w2c_B24;
+      default: goto w2c_B24;
+    }
+    w2c_B114:;
+    w2c_i0 = 1u;
+    w2c_l15 = w2c_i0;
+    w2c_i0 = 8u;
+    w2c_l17 = w2c_i0;
+    w2c_i0 = w2c_l20;
+    w2c_i1 = 5u;
+    w2c_i0 = w2c_i0 == w2c_i1;
+    if (w2c_i0) {goto w2c_B18;}
+    w2c_i0 = w2c_l20;
+    w2c_i1 = 7u;
+    w2c_i0 = w2c_i0 == w2c_i1;
+    if (w2c_i0) {goto w2c_B22;}
+    goto w2c_B24;
+    w2c_B113:;
+    w2c_i0 = w2c_l20;
+    w2c_i1 = 5u;
+    w2c_i0 = w2c_i0 == w2c_i1;
+    if (w2c_i0) {goto w2c_B21;}
+    goto w2c_B24;
+    w2c_B112:;
+    w2c_i0 = 1u;
+    w2c_l15 = w2c_i0;
+    w2c_i0 = w2c_l20;
+    w2c_i1 = 6u;
+    w2c_i0 = w2c_i0 == w2c_i1;
+    if (w2c_i0) {goto w2c_B31;}
+    w2c_i0 = w2c_l20;
+    w2c_i1 = 7u;
+    w2c_i0 = w2c_i0 != w2c_i1;
+    if (w2c_i0) {goto w2c_B24;}
+    goto w2c_B22;
+    w2c_B111:;
+    w2c_i0 = w2c_l20;
+    w2c_i1 = 7u;
+    w2c_i0 = w2c_i0 != w2c_i1;
+    if (w2c_i0) {goto w2c_B24;}
+    w2c_i0 = 1u;
+    w2c_l15 = w2c_i0;
+    goto w2c_B22;
+    w2c_B40:;
     w2c_i0 = w2c_l15;
     switch (w2c_i0) {
-      case 0: goto w2c_B120;
-      case 1: goto w2c_B119;
-      case 2: goto w2c_B118;
-      case 3: goto w2c_B117;
-      case 4: goto w2c_B116;
-      case 5: goto w2c_B21;
-      case 6: goto w2c_B21;
-      case 7: goto w2c_B21;
-      case 8: goto w2c_B21;
-      case 9: goto w2c_B21;
-      case 10: goto w2c_B21;
-      case 11: goto w2c_B21;
-      case 12: goto w2c_B21;
-      case 13: goto w2c_B115;
-      case 14: goto w2c_B113;
-      case 15: goto w2c_B35;
-      case 16: goto w2c_B27;
-      case 17: goto w2c_B114;
-      case 18: goto w2c_B25;
-      case 19: goto w2c_B21;
-      default: goto w2c_B120;
+      case 0: goto w2c_B123;
+      case 1: goto w2c_B122;
+      case 2: goto w2c_B121;
+      case 3: goto w2c_B120;
+      case 4: goto w2c_B119;
+      case 5: goto w2c_B24;
+      case 6: goto w2c_B24;
+      case 7: goto w2c_B24;
+      case 8: goto w2c_B24;
+      case 9: goto w2c_B24;
+      case 10: goto w2c_B24;
+      case 11: goto w2c_B24;
+      case 12: goto w2c_B24;
+      case 13: goto w2c_B118;
+      case 14: goto w2c_B116;
+      case 15: goto w2c_B38;
+      case 16: goto w2c_B30;
+      case 17: goto w2c_B117;
+      case 18: goto w2c_B28;
+      case 19: goto w2c_B24;
+      default: goto w2c_B123;
     }
-    w2c_B120:;
+    w2c_B123:;
     w2c_i0 = 5u;
     w2c_l21 = w2c_i0;
     w2c_i0 = 0u;
@@ -43408,44 +47268,44 @@ static u32 w2c_f68(module *m, u64 w2c_p0, u64 w2c_p1, u64 w2c_p2) {
     w2c_l16 = w2c_i0;
     w2c_i0 = w2c_l20;
     switch (w2c_i0) {
-      case 0: goto w2c_B34;
-      case 1: goto w2c_B36;
-      case 2: goto w2c_B21;
-      case 3: goto w2c_B21;
-      case 4: goto w2c_B21;
-      case 5: goto w2c_B21;
-      case 6: goto w2c_B21;
-      case 7: goto w2c_B21;
-      case 8: goto w2c_B21;
-      case 9: goto w2c_B21;
-      case 10: goto w2c_B21;
-      case 11: goto w2c_B13;
-      case 12: goto w2c_B21;
-      case 13: goto w2c_B21;
-      case 14: goto w2c_B21;
-      default: goto w2c_B34;
+      case 0: goto w2c_B37;
+      case 1: goto w2c_B39;
+      case 2: goto w2c_B24;
+      case 3: goto w2c_B24;
+      case 4: goto w2c_B24;
+      case 5: goto w2c_B24;
+      case 6: goto w2c_B24;
+      case 7: goto w2c_B24;
+      case 8: goto w2c_B24;
+      case 9: goto w2c_B24;
+      case 10: goto w2c_B24;
+      case 11: goto w2c_B16;
+      case 12: goto w2c_B24;
+      case 13: goto w2c_B24;
+      case 14: goto w2c_B24;
+      default: goto w2c_B37;
     }
-    w2c_B119:;
+    w2c_B122:;
     w2c_i0 = w2c_l20;
     w2c_i1 = 12u;
     w2c_i0 = w2c_i0 != w2c_i1;
-    if (w2c_i0) {goto w2c_B21;}
+    if (w2c_i0) {goto w2c_B24;}
     w2c_i0 = 0u;
     w2c_l15 = w2c_i0;
     w2c_i0 = 2u;
     w2c_l17 = w2c_i0;
-    goto w2c_B23;
-    w2c_B118:;
+    goto w2c_B26;
+    w2c_B121:;
     w2c_i0 = w2c_l20;
     w2c_i1 = 13u;
     w2c_i0 = w2c_i0 != w2c_i1;
-    if (w2c_i0) {goto w2c_B21;}
+    if (w2c_i0) {goto w2c_B24;}
     w2c_i0 = 0u;
     w2c_l15 = w2c_i0;
     w2c_i0 = 3u;
     w2c_l17 = w2c_i0;
-    goto w2c_B23;
-    w2c_B117:;
+    goto w2c_B26;
+    w2c_B120:;
     w2c_i0 = 0u;
     w2c_l23 = w2c_i0;
     w2c_i0 = 5u;
@@ -43454,32 +47314,32 @@ static u32 w2c_f68(module *m, u64 w2c_p0, u64 w2c_p1, u64 w2c_p2) {
     w2c_l22 = w2c_i0;
     w2c_i0 = w2c_l20;
     switch (w2c_i0) {
-      case 0: goto w2c_B34;
-      case 1: goto w2c_B36;
-      case 2: goto w2c_B21;
-      case 3: goto w2c_B21;
-      case 4: goto w2c_B21;
-      case 5: goto w2c_B21;
-      case 6: goto w2c_B21;
-      case 7: goto w2c_B21;
-      case 8: goto w2c_B21;
-      case 9: goto w2c_B21;
-      case 10: goto w2c_B21;
-      case 11: goto w2c_B21;
-      case 12: goto w2c_B21;
-      case 13: goto w2c_B21;
-      case 14: goto w2c_B21;
-      default: goto w2c_B34;
+      case 0: goto w2c_B37;
+      case 1: goto w2c_B39;
+      case 2: goto w2c_B24;
+      case 3: goto w2c_B24;
+      case 4: goto w2c_B24;
+      case 5: goto w2c_B24;
+      case 6: goto w2c_B24;
+      case 7: goto w2c_B24;
+      case 8: goto w2c_B24;
+      case 9: goto w2c_B24;
+      case 10: goto w2c_B24;
+      case 11: goto w2c_B24;
+      case 12: goto w2c_B24;
+      case 13: goto w2c_B24;
+      case 14: goto w2c_B24;
+      default: goto w2c_B37;
     }
-    w2c_B116:;
+    w2c_B119:;
     w2c_i0 = w2c_l20;
     w2c_i1 = 7u;
     w2c_i0 = w2c_i0 != w2c_i1;
-    if (w2c_i0) {goto w2c_B21;}
+    if (w2c_i0) {goto w2c_B24;}
     w2c_i0 = 1u;
     w2c_l15 = w2c_i0;
-    goto w2c_B19;
-    w2c_B115:;
+    goto w2c_B22;
+    w2c_B118:;
     w2c_i0 = 16u;
     w2c_l21 = w2c_i0;
     w2c_i0 = 0u;
@@ -43494,32 +47354,32 @@ static u32 w2c_f68(module *m, u64 w2c_p0, u64 w2c_p1, u64 w2c_p2) {
     w2c_l16 = w2c_i0;
     w2c_i0 = w2c_l20;
     switch (w2c_i0) {
-      case 0: goto w2c_B121;
-      case 1: goto w2c_B36;
-      case 2: goto w2c_B21;
-      case 3: goto w2c_B21;
-      case 4: goto w2c_B21;
-      case 5: goto w2c_B21;
-      case 6: goto w2c_B21;
-      case 7: goto w2c_B21;
-      case 8: goto w2c_B21;
-      case 9: goto w2c_B21;
-      case 10: goto w2c_B13;
-      case 11: goto w2c_B21;
-      case 12: goto w2c_B21;
-      case 13: goto w2c_B21;
-      case 14: goto w2c_B21;
-      default: goto w2c_B121;
+      case 0: goto w2c_B124;
+      case 1: goto w2c_B39;
+      case 2: goto w2c_B24;
+      case 3: goto w2c_B24;
+      case 4: goto w2c_B24;
+      case 5: goto w2c_B24;
+      case 6: goto w2c_B24;
+      case 7: goto w2c_B24;
+      case 8: goto w2c_B24;
+      case 9: goto w2c_B24;
+      case 10: goto w2c_B16;
+      case 11: goto w2c_B24;
+      case 12: goto w2c_B24;
+      case 13: goto w2c_B24;
+      case 14: goto w2c_B24;
+      default: goto w2c_B124;
     }
-    w2c_B121:;
+    w2c_B124:;
     w2c_i0 = w2c_l19;
     w2c_i1 = 1u;
     w2c_i0 &= w2c_i1;
     w2c_l15 = w2c_i0;
     w2c_i0 = 14u;
     w2c_l17 = w2c_i0;
-    goto w2c_B23;
-    w2c_B114:;
+    goto w2c_B26;
+    w2c_B117:;
     w2c_i0 = 18u;
     w2c_l21 = w2c_i0;
     w2c_i0 = 0u;
@@ -43529,25 +47389,25 @@ static u32 w2c_f68(module *m, u64 w2c_p0, u64 w2c_p1, u64 w2c_p2) {
     w2c_i0 = w2c_l20;
     w2c_i1 = 1u;
     w2c_i0 = w2c_i0 != w2c_i1;
-    if (w2c_i0) {goto w2c_B122;}
+    if (w2c_i0) {goto w2c_B125;}
     w2c_i0 = 0u;
     w2c_l23 = w2c_i0;
     w2c_i0 = 0u;
     w2c_l22 = w2c_i0;
-    goto w2c_B36;
-    w2c_B122:;
+    goto w2c_B39;
+    w2c_B125:;
     w2c_i0 = 0u;
     w2c_l16 = w2c_i0;
     w2c_i0 = w2c_l20;
     w2c_i1 = 10u;
     w2c_i0 = w2c_i0 == w2c_i1;
-    if (w2c_i0) {goto w2c_B13;}
-    goto w2c_B21;
-    w2c_B113:;
+    if (w2c_i0) {goto w2c_B16;}
+    goto w2c_B24;
+    w2c_B116:;
     w2c_i0 = w2c_l20;
     w2c_i1 = 1u;
     w2c_i0 = w2c_i0 != w2c_i1;
-    if (w2c_i0) {goto w2c_B21;}
+    if (w2c_i0) {goto w2c_B24;}
     w2c_i0 = w2c_l19;
     w2c_i1 = 1u;
     w2c_i0 &= w2c_i1;
@@ -43556,7 +47416,7 @@ static u32 w2c_f68(module *m, u64 w2c_p0, u64 w2c_p1, u64 w2c_p2) {
     w2c_l22 = w2c_i0;
     w2c_i0 = 15u;
     w2c_l21 = w2c_i0;
-    w2c_B36:;
+    w2c_B39:;
     w2c_i0 = w2c_l21;
     w2c_l17 = w2c_i0;
     w2c_i0 = w2c_l23;
@@ -43565,36 +47425,36 @@ static u32 w2c_f68(module *m, u64 w2c_p0, u64 w2c_p1, u64 w2c_p2) {
     w2c_l16 = w2c_i0;
     w2c_j0 = w2c_l14;
     w2c_l8 = w2c_j0;
-    goto w2c_B13;
-    w2c_B35:;
+    goto w2c_B16;
+    w2c_B38:;
     w2c_i0 = w2c_l19;
     w2c_i1 = 1u;
     w2c_i0 &= w2c_i1;
     w2c_i0 = !(w2c_i0);
-    if (w2c_i0) {goto w2c_B25;}
+    if (w2c_i0) {goto w2c_B28;}
     w2c_i0 = w2c_l20;
     w2c_i1 = 8u;
     w2c_i0 = w2c_i0 == w2c_i1;
-    if (w2c_i0) {goto w2c_B26;}
+    if (w2c_i0) {goto w2c_B29;}
     w2c_i0 = w2c_l20;
     w2c_i1 = 9u;
     w2c_i0 = w2c_i0 == w2c_i1;
-    if (w2c_i0) {goto w2c_B24;}
-    goto w2c_B21;
-    w2c_B34:;
+    if (w2c_i0) {goto w2c_B27;}
+    goto w2c_B24;
+    w2c_B37:;
     w2c_i0 = 0u;
     w2c_l15 = w2c_i0;
     w2c_i0 = 4u;
     w2c_l17 = w2c_i0;
-    goto w2c_B23;
-    w2c_B33:;
+    goto w2c_B26;
+    w2c_B36:;
     w2c_i0 = w2c_l19;
     w2c_l15 = w2c_i0;
     w2c_i0 = w2c_l20;
     w2c_i1 = 2u;
     w2c_i0 = w2c_i0 != w2c_i1;
-    if (w2c_i0) {goto w2c_B21;}
-    w2c_B32:;
+    if (w2c_i0) {goto w2c_B24;}
+    w2c_B35:;
     w2c_j0 = w2c_l8;
     w2c_j1 = 10ull;
     w2c_j0 *= w2c_j1;
@@ -43607,15 +47467,15 @@ static u32 w2c_f68(module *m, u64 w2c_p0, u64 w2c_p1, u64 w2c_p2) {
     w2c_l16 = w2c_i0;
     w2c_i0 = 12u;
     w2c_l17 = w2c_i0;
-    goto w2c_B13;
-    w2c_B31:;
+    goto w2c_B16;
+    w2c_B34:;
     w2c_i0 = w2c_l19;
     w2c_l15 = w2c_i0;
     w2c_i0 = w2c_l20;
     w2c_i1 = 3u;
     w2c_i0 = w2c_i0 != w2c_i1;
-    if (w2c_i0) {goto w2c_B21;}
-    w2c_B30:;
+    if (w2c_i0) {goto w2c_B24;}
+    w2c_B33:;
     w2c_j0 = w2c_l8;
     w2c_j1 = 100ull;
     w2c_j0 *= w2c_j1;
@@ -43628,8 +47488,8 @@ static u32 w2c_f68(module *m, u64 w2c_p0, u64 w2c_p1, u64 w2c_p2) {
     w2c_l16 = w2c_i0;
     w2c_i0 = 12u;
     w2c_l17 = w2c_i0;
-    goto w2c_B13;
-    w2c_B29:;
+    goto w2c_B16;
+    w2c_B32:;
     w2c_i0 = 5u;
     w2c_i1 = w2c_l19;
     w2c_i2 = w2c_l19;
@@ -43639,8 +47499,8 @@ static u32 w2c_f68(module *m, u64 w2c_p0, u64 w2c_p1, u64 w2c_p2) {
     w2c_i2 = w2c_i2 == w2c_i3;
     w2c_i0 = w2c_i2 ? w2c_i0 : w2c_i1;
     w2c_l15 = w2c_i0;
-    goto w2c_B20;
-    w2c_B28:;
+    goto w2c_B23;
+    w2c_B31:;
     w2c_j0 = w2c_l10;
     w2c_j1 = w2c_l8;
     w2c_j0 += w2c_j1;
@@ -43657,13 +47517,13 @@ static u32 w2c_f68(module *m, u64 w2c_p0, u64 w2c_p1, u64 w2c_p2) {
     w2c_l17 = w2c_i0;
     w2c_j0 = 0ull;
     w2c_l8 = w2c_j0;
-    goto w2c_B13;
-    w2c_B27:;
+    goto w2c_B16;
+    w2c_B30:;
     w2c_i0 = w2c_l20;
     w2c_i1 = 8u;
     w2c_i0 = w2c_i0 != w2c_i1;
-    if (w2c_i0) {goto w2c_B21;}
-    w2c_B26:;
+    if (w2c_i0) {goto w2c_B24;}
+    w2c_B29:;
     w2c_j0 = w2c_l12;
     w2c_j1 = w2c_l8;
     w2c_j2 = 10ull;
@@ -43676,13 +47536,13 @@ static u32 w2c_f68(module *m, u64 w2c_p0, u64 w2c_p1, u64 w2c_p2) {
     w2c_l15 = w2c_i0;
     w2c_i0 = 17u;
     w2c_l17 = w2c_i0;
-    goto w2c_B23;
-    w2c_B25:;
+    goto w2c_B26;
+    w2c_B28:;
     w2c_i0 = w2c_l20;
     w2c_i1 = 9u;
     w2c_i0 = w2c_i0 != w2c_i1;
-    if (w2c_i0) {goto w2c_B21;}
-    w2c_B24:;
+    if (w2c_i0) {goto w2c_B24;}
+    w2c_B27:;
     w2c_j0 = w2c_l12;
     w2c_j1 = w2c_l8;
     w2c_j0 += w2c_j1;
@@ -43693,18 +47553,18 @@ static u32 w2c_f68(module *m, u64 w2c_p0, u64 w2c_p1, u64 w2c_p2) {
     w2c_l15 = w2c_i0;
     w2c_i0 = 19u;
     w2c_l17 = w2c_i0;
-    w2c_B23:;
+    w2c_B26:;
     w2c_i0 = 0u;
     w2c_l16 = w2c_i0;
-    goto w2c_B13;
-    w2c_B22:;
+    goto w2c_B16;
+    w2c_B25:;
     w2c_i0 = w2c_l19;
     w2c_l15 = w2c_i0;
     w2c_i0 = w2c_l20;
     w2c_i1 = 4u;
     w2c_i0 = w2c_i0 == w2c_i1;
-    if (w2c_i0) {goto w2c_B20;}
-    w2c_B21:;
+    if (w2c_i0) {goto w2c_B23;}
+    w2c_B24:;
     w2c_j0 = 0ull;
     w2c_l6 = w2c_j0;
     w2c_j0 = w2c_p2;
@@ -43726,17 +47586,17 @@ static u32 w2c_f68(module *m, u64 w2c_p0, u64 w2c_p1, u64 w2c_p2) {
     w2c_j0 = w2c_p1;
     w2c_j1 = 8ull;
     w2c_i0 = w2c_j0 >= w2c_j1;
-    if (w2c_i0) {goto w2c_B124;}
+    if (w2c_i0) {goto w2c_B127;}
     w2c_j0 = 0ull;
     w2c_l13 = w2c_j0;
-    goto w2c_B123;
-    w2c_B124:;
+    goto w2c_B126;
+    w2c_B127:;
     w2c_j0 = 0ull;
     w2c_l13 = w2c_j0;
     w2c_j0 = w2c_l9;
     w2c_j1 = 3ull;
     w2c_i0 = w2c_j0 < w2c_j1;
-    if (w2c_i0) {goto w2c_B123;}
+    if (w2c_i0) {goto w2c_B126;}
     w2c_j0 = w2c_p1;
     w2c_j1 = 18446744073709551607ull;
     w2c_j0 += w2c_j1;
@@ -43745,7 +47605,7 @@ static u32 w2c_f68(module *m, u64 w2c_p0, u64 w2c_p1, u64 w2c_p2) {
     w2c_l13 = w2c_j0;
     w2c_j0 = 0ull;
     w2c_l6 = w2c_j0;
-    w2c_L125:
+    w2c_L128:
       w2c_j0 = w2c_l5;
       w2c_j1 = w2c_l6;
       w2c_j0 += w2c_j1;
@@ -43755,7 +47615,7 @@ static u32 w2c_f68(module *m, u64 w2c_p0, u64 w2c_p1, u64 w2c_p2) {
       w2c_j0 &= w2c_j1;
       w2c_j1 = 63050398541283552ull;
       w2c_i0 = w2c_j0 != w2c_j1;
-      if (w2c_i0) {goto w2c_B123;}
+      if (w2c_i0) {goto w2c_B126;}
       w2c_j0 = w2c_l13;
       w2c_j1 = 3ull;
       w2c_j0 += w2c_j1;
@@ -43767,7 +47627,7 @@ static u32 w2c_f68(module *m, u64 w2c_p0, u64 w2c_p1, u64 w2c_p2) {
       w2c_j0 = w2c_p0;
       w2c_j1 = 3ull;
       w2c_i0 = w2c_j0 < w2c_j1;
-      if (w2c_i0) {goto w2c_B123;}
+      if (w2c_i0) {goto w2c_B126;}
       w2c_j0 = w2c_p0;
       w2c_j1 = 18446744073709551613ull;
       w2c_j0 += w2c_j1;
@@ -43781,21 +47641,21 @@ static u32 w2c_f68(module *m, u64 w2c_p0, u64 w2c_p1, u64 w2c_p2) {
       w2c_j0 += w2c_j1;
       w2c_l4 = w2c_j0;
       w2c_i0 = w2c_l15;
-      if (w2c_i0) {goto w2c_L125;}
-    w2c_B123:;
+      if (w2c_i0) {goto w2c_L128;}
+    w2c_B126:;
     w2c_j0 = w2c_p1;
     w2c_j1 = w2c_l6;
     w2c_i0 = w2c_j0 <= w2c_j1;
-    if (w2c_i0) {goto w2c_B126;}
+    if (w2c_i0) {goto w2c_B129;}
     w2c_j0 = w2c_l13;
     w2c_j1 = w2c_l9;
     w2c_i0 = w2c_j0 >= w2c_j1;
-    if (w2c_i0) {goto w2c_B126;}
+    if (w2c_i0) {goto w2c_B129;}
     w2c_j0 = w2c_l13;
     w2c_j1 = 1ull;
     w2c_j0 += w2c_j1;
     w2c_p0 = w2c_j0;
-    w2c_L127:
+    w2c_L130:
       w2c_j0 = w2c_l5;
       w2c_j1 = w2c_l6;
       w2c_j0 += w2c_j1;
@@ -43816,7 +47676,7 @@ static u32 w2c_f68(module *m, u64 w2c_p0, u64 w2c_p1, u64 w2c_p2) {
       w2c_j0 = w2c_p0;
       w2c_j1 = w2c_l9;
       w2c_i0 = w2c_j0 >= w2c_j1;
-      if (w2c_i0) {goto w2c_B126;}
+      if (w2c_i0) {goto w2c_B129;}
       w2c_j0 = w2c_p0;
       w2c_j1 = 1ull;
       w2c_j0 += w2c_j1;
@@ -43824,8 +47684,8 @@ static u32 w2c_f68(module *m, u64 w2c_p0, u64 w2c_p1, u64 w2c_p2) {
       w2c_j0 = w2c_p1;
       w2c_j1 = w2c_l6;
       w2c_i0 = w2c_j0 > w2c_j1;
-      if (w2c_i0) {goto w2c_L127;}
-    w2c_B126:;
+      if (w2c_i0) {goto w2c_L130;}
+    w2c_B129:;
     w2c_j0 = w2c_p2;
     w2c_i0 = (u32)(w2c_j0);
     w2c_j1 = w2c_l6;
@@ -43838,7 +47698,7 @@ static u32 w2c_f68(module *m, u64 w2c_p0, u64 w2c_p1, u64 w2c_p2) {
     m->w2c_g0 = w2c_j0;
     w2c_i0 = 2u;
     goto w2c_Bfunc;
-    w2c_B20:;
+    w2c_B23:;
     w2c_j0 = w2c_l8;
     w2c_j1 = 1000ull;
     w2c_j0 *= w2c_j1;
@@ -43851,8 +47711,8 @@ static u32 w2c_f68(module *m, u64 w2c_p0, u64 w2c_p1, u64 w2c_p2) {
     w2c_l16 = w2c_i0;
     w2c_i0 = 12u;
     w2c_l17 = w2c_i0;
-    goto w2c_B13;
-    w2c_B19:;
+    goto w2c_B16;
+    w2c_B22:;
     w2c_j0 = w2c_l10;
     w2c_j1 = w2c_l8;
     w2c_j0 += w2c_j1;
@@ -43873,18 +47733,18 @@ static u32 w2c_f68(module *m, u64 w2c_p0, u64 w2c_p1, u64 w2c_p2) {
     w2c_l10 = w2c_j0;
     w2c_j0 = 0ull;
     w2c_l8 = w2c_j0;
-    goto w2c_B13;
-    w2c_B18:;
+    goto w2c_B16;
+    w2c_B21:;
     w2c_i0 = 1u;
     w2c_l15 = w2c_i0;
-    goto w2c_B16;
-    w2c_B17:;
+    goto w2c_B19;
+    w2c_B20:;
     w2c_i0 = 0u;
     w2c_l15 = w2c_i0;
-    w2c_B16:;
+    w2c_B19:;
     w2c_i0 = 8u;
     w2c_l17 = w2c_i0;
-    w2c_B15:;
+    w2c_B18:;
     w2c_j0 = w2c_l10;
     w2c_j1 = w2c_l8;
     w2c_j0 += w2c_j1;
@@ -43899,7 +47759,7 @@ static u32 w2c_f68(module *m, u64 w2c_p0, u64 w2c_p1, u64 w2c_p2) {
     w2c_l16 = w2c_i0;
     w2c_j0 = 0ull;
     w2c_l8 = w2c_j0;
-    w2c_B13:;
+    w2c_B16:;
     w2c_j0 = w2c_l6;
     w2c_j1 = w2c_l4;
     w2c_j0 += w2c_j1;
@@ -43914,24 +47774,24 @@ static u32 w2c_f68(module *m, u64 w2c_p0, u64 w2c_p1, u64 w2c_p2) {
     w2c_l9 = w2c_j0;
     w2c_j1 = 0ull;
     w2c_i0 = w2c_j0 != w2c_j1;
-    if (w2c_i0) {goto w2c_L9;}
+    if (w2c_i0) {goto w2c_L12;}
   w2c_i0 = w2c_l17;
   w2c_i1 = 255u;
   w2c_i0 &= w2c_i1;
   w2c_l15 = w2c_i0;
   w2c_i1 = 17u;
   w2c_i0 = w2c_i0 < w2c_i1;
-  if (w2c_i0) {goto w2c_B8;}
+  if (w2c_i0) {goto w2c_B11;}
   w2c_i0 = w2c_l15;
   w2c_i1 = 4294967279u;
   w2c_i0 += w2c_i1;
   switch (w2c_i0) {
-    case 0: goto w2c_B7;
-    case 1: goto w2c_B8;
-    case 2: goto w2c_B7;
-    default: goto w2c_B7;
+    case 0: goto w2c_B10;
+    case 1: goto w2c_B11;
+    case 2: goto w2c_B10;
+    default: goto w2c_B10;
   }
-  w2c_B8:;
+  w2c_B11:;
   w2c_j0 = w2c_p2;
   w2c_i0 = (u32)(w2c_j0);
   w2c_j1 = 0ull;
@@ -43948,7 +47808,7 @@ static u32 w2c_f68(module *m, u64 w2c_p0, u64 w2c_p1, u64 w2c_p2) {
   m->w2c_g0 = w2c_j0;
   w2c_i0 = 9u;
   goto w2c_Bfunc;
-  w2c_B7:;
+  w2c_B10:;
   w2c_j0 = w2c_l7;
   w2c_i0 = (u32)(w2c_j0);
   w2c_j1 = 0ull;
@@ -43983,134 +47843,6 @@ static u32 w2c_f68(module *m, u64 w2c_p0, u64 w2c_p1, u64 w2c_p2) {
   return w2c_i0;
 }
 
-static u32 w2c_chinese_number_find(module *m, u64 w2c_p0, u64 w2c_p1, u64 w2c_p2, u32 w2c_p3, u32 w2c_p4, u64 w2c_p5, u64 w2c_p6, u64 w2c_p7) {
-  u32 w2c_i0, w2c_i3, w2c_i4;
-  u64 w2c_j0, w2c_j1, w2c_j2, w2c_j5, w2c_j6, w2c_j7;
-  w2c_i0 = w2c_f0(m);
-  w2c_i0 = !(w2c_i0);
-  if (w2c_i0) {goto w2c_B0;}
-  w2c_f2(m);
-  UNREACHABLE;
-  w2c_B0:;
-  w2c_j0 = w2c_p0;
-  w2c_j1 = w2c_p1;
-  w2c_j2 = w2c_p2;
-  w2c_i3 = w2c_p3;
-  w2c_i4 = w2c_p4;
-  w2c_j5 = w2c_p5;
-  w2c_j6 = w2c_p6;
-  w2c_j7 = w2c_p7;
-  w2c_i0 = w2c_f70(m, w2c_j0, w2c_j1, w2c_j2, w2c_i3, w2c_i4, w2c_j5, w2c_j6, w2c_j7);
-  w2c_p4 = w2c_i0;
-  w2c_f1(m);
-  w2c_i0 = w2c_p4;
-  return w2c_i0;
-}
-
-static u32 w2c_f70(module *m, u64 w2c_p0, u64 w2c_p1, u64 w2c_p2, u32 w2c_p3, u32 w2c_p4, u64 w2c_p5, u64 w2c_p6, u64 w2c_p7) {
-  u64 w2c_l8 = 0;
-  u32 w2c_i0, w2c_i4, w2c_i5, w2c_i9;
-  u64 w2c_j0, w2c_j1, w2c_j2, w2c_j3, w2c_j4, w2c_j6, w2c_j7, w2c_j8, w2c_j9;
-  w2c_j0 = m->w2c_g0;
-  w2c_l8 = w2c_j0;
-  w2c_j1 = 15ull;
-  w2c_i0 = (u64)((s64)w2c_j0 > (s64)w2c_j1);
-  if (w2c_i0) {goto w2c_B0;}
-  UNREACHABLE;
-  w2c_B0:;
-  w2c_i0 = 0u;
-  w2c_j1 = w2c_p0;
-  w2c_j2 = 4096ull;
-  w2c_j3 = 0ull;
-  w2c_j4 = w2c_p0;
-  w2c_i4 = !(w2c_j4);
-  w2c_j2 = w2c_i4 ? w2c_j2 : w2c_j3;
-  w2c_j1 += w2c_j2;
-  w2c_j2 = w2c_p1;
-  w2c_j3 = w2c_p2;
-  w2c_i4 = w2c_p3;
-  w2c_i5 = w2c_p4;
-  w2c_j6 = w2c_p5;
-  w2c_j7 = 4096ull;
-  w2c_j8 = 0ull;
-  w2c_j9 = w2c_p5;
-  w2c_i9 = !(w2c_j9);
-  w2c_j7 = w2c_i9 ? w2c_j7 : w2c_j8;
-  w2c_j6 += w2c_j7;
-  w2c_j7 = w2c_p6;
-  w2c_j8 = w2c_p7;
-  w2c_i0 = w2c_f15(m, w2c_i0, w2c_j1, w2c_j2, w2c_j3, w2c_i4, w2c_i5, w2c_j6, w2c_j7, w2c_j8);
-  w2c_p4 = w2c_i0;
-  w2c_j0 = w2c_l8;
-  m->w2c_g0 = w2c_j0;
-  w2c_i0 = w2c_p4;
-  return w2c_i0;
-}
-
-static u32 w2c_chinese_quantity_find(module *m, u64 w2c_p0, u64 w2c_p1, u64 w2c_p2, u32 w2c_p3, u32 w2c_p4, u64 w2c_p5, u64 w2c_p6, u64 w2c_p7) {
-  u32 w2c_i0, w2c_i3, w2c_i4;
-  u64 w2c_j0, w2c_j1, w2c_j2, w2c_j5, w2c_j6, w2c_j7;
-  w2c_i0 = w2c_f0(m);
-  w2c_i0 = !(w2c_i0);
-  if (w2c_i0) {goto w2c_B0;}
-  w2c_f2(m);
-  UNREACHABLE;
-  w2c_B0:;
-  w2c_j0 = w2c_p0;
-  w2c_j1 = w2c_p1;
-  w2c_j2 = w2c_p2;
-  w2c_i3 = w2c_p3;
-  w2c_i4 = w2c_p4;
-  w2c_j5 = w2c_p5;
-  w2c_j6 = w2c_p6;
-  w2c_j7 = w2c_p7;
-  w2c_i0 = w2c_f72(m, w2c_j0, w2c_j1, w2c_j2, w2c_i3, w2c_i4, w2c_j5, w2c_j6, w2c_j7);
-  w2c_p4 = w2c_i0;
-  w2c_f1(m);
-  w2c_i0 = w2c_p4;
-  return w2c_i0;
-}
-
-static u32 w2c_f72(module *m, u64 w2c_p0, u64 w2c_p1, u64 w2c_p2, u32 w2c_p3, u32 w2c_p4, u64 w2c_p5, u64 w2c_p6, u64 w2c_p7) {
-  u64 w2c_l8 = 0;
-  u32 w2c_i0, w2c_i4, w2c_i5, w2c_i9;
-  u64 w2c_j0, w2c_j1, w2c_j2, w2c_j3, w2c_j4, w2c_j6, w2c_j7, w2c_j8, w2c_j9;
-  w2c_j0 = m->w2c_g0;
-  w2c_l8 = w2c_j0;
-  w2c_j1 = 15ull;
-  w2c_i0 = (u64)((s64)w2c_j0 > (s64)w2c_j1);
-  if (w2c_i0) {goto w2c_B0;}
-  UNREACHABLE;
-  w2c_B0:;
-  w2c_i0 = 1u;
-  w2c_j1 = w2c_p0;
-  w2c_j2 = 4096ull;
-  w2c_j3 = 0ull;
-  w2c_j4 = w2c_p0;
-  w2c_i4 = !(w2c_j4);
-  w2c_j2 = w2c_i4 ? w2c_j2 : w2c_j3;
-  w2c_j1 += w2c_j2;
-  w2c_j2 = w2c_p1;
-  w2c_j3 = w2c_p2;
-  w2c_i4 = w2c_p3;
-  w2c_i5 = w2c_p4;
-  w2c_j6 = w2c_p5;
-  w2c_j7 = 4096ull;
-  w2c_j8 = 0ull;
-  w2c_j9 = w2c_p5;
-  w2c_i9 = !(w2c_j9);
-  w2c_j7 = w2c_i9 ? w2c_j7 : w2c_j8;
-  w2c_j6 += w2c_j7;
-  w2c_j7 = w2c_p6;
-  w2c_j8 = w2c_p7;
-  w2c_i0 = w2c_f15(m, w2c_i0, w2c_j1, w2c_j2, w2c_j3, w2c_i4, w2c_i5, w2c_j6, w2c_j7, w2c_j8);
-  w2c_p4 = w2c_i0;
-  w2c_j0 = w2c_l8;
-  m->w2c_g0 = w2c_j0;
-  w2c_i0 = w2c_p4;
-  return w2c_i0;
-}
-
 static u32 w2c_chinese_number_find_utf8(module *m, u64 w2c_p0, u64 w2c_p1, u64 w2c_p2, u32 w2c_p3, u32 w2c_p4, u64 w2c_p5, u64 w2c_p6, u64 w2c_p7) {
   u32 w2c_i0, w2c_i3, w2c_i4;
   u64 w2c_j0, w2c_j1, w2c_j2, w2c_j5, w2c_j6, w2c_j7;
@@ -44136,77 +47868,33 @@ static u32 w2c_chinese_number_find_utf8(module *m, u64 w2c_p0, u64 w2c_p1, u64 w
 }
 
 static u32 w2c_f74(module *m, u64 w2c_p0, u64 w2c_p1, u64 w2c_p2, u32 w2c_p3, u32 w2c_p4, u64 w2c_p5, u64 w2c_p6, u64 w2c_p7) {
-  u32 w2c_l9 = 0, w2c_l10 = 0;
-  u64 w2c_l8 = 0;
-  u32 w2c_i0, w2c_i1, w2c_i4, w2c_i5, w2c_i9;
-  u64 w2c_j0, w2c_j1, w2c_j2, w2c_j3, w2c_j4, w2c_j5, w2c_j6, w2c_j7, w2c_j8, w2c_j9;
-  w2c_j0 = m->w2c_g0;
-  w2c_l8 = w2c_j0;
-  w2c_j1 = 16ull;
-  w2c_i0 = (u64)((s64)w2c_j0 < (s64)w2c_j1);
-  if (w2c_i0) {goto w2c_B0;}
-  w2c_j0 = w2c_p7;
-  w2c_i0 = (u32)(w2c_j0);
-  w2c_j1 = 0ull;
-  i64_store(m, (u64)(w2c_i0), w2c_j1);
-  w2c_i0 = 0u;
-  w2c_l9 = w2c_i0;
-  w2c_i0 = 8u;
-  w2c_l10 = w2c_i0;
-  w2c_i0 = w2c_p3;
-  switch (w2c_i0) {
-    case 0: goto w2c_B2;
-    case 1: goto w2c_B3;
-    default: goto w2c_B1;
-  }
-  w2c_B3:;
-  w2c_i0 = 1u;
-  w2c_l9 = w2c_i0;
-  w2c_B2:;
-  w2c_i0 = w2c_p4;
-  w2c_i1 = 15u;
-  w2c_i0 = w2c_i0 > w2c_i1;
-  if (w2c_i0) {goto w2c_B1;}
-  w2c_i0 = 0u;
-  w2c_j1 = w2c_p0;
-  w2c_j2 = 4096ull;
-  w2c_j3 = 0ull;
-  w2c_j4 = w2c_p0;
-  w2c_i4 = !(w2c_j4);
-  w2c_j2 = w2c_i4 ? w2c_j2 : w2c_j3;
-  w2c_j1 += w2c_j2;
-  w2c_j2 = w2c_p1;
-  w2c_j3 = w2c_p2;
-  w2c_i4 = w2c_l9;
-  w2c_i5 = w2c_p4;
-  w2c_j5 = (u64)(w2c_i5);
-  w2c_j6 = 66976ull;
+  u32 w2c_i0, w2c_i3, w2c_i4, w2c_i8;
+  u64 w2c_j0, w2c_j1, w2c_j2, w2c_j3, w2c_j5, w2c_j6, w2c_j7, w2c_j8;
+  w2c_j0 = w2c_p0;
+  w2c_j1 = 4096ull;
+  w2c_j2 = 0ull;
+  w2c_j3 = w2c_p0;
+  w2c_i3 = !(w2c_j3);
+  w2c_j1 = w2c_i3 ? w2c_j1 : w2c_j2;
+  w2c_j0 += w2c_j1;
+  w2c_j1 = w2c_p1;
+  w2c_j2 = w2c_p2;
+  w2c_i3 = w2c_p3;
+  w2c_i4 = w2c_p4;
+  w2c_j5 = w2c_p5;
+  w2c_j6 = 4096ull;
+  w2c_j7 = 0ull;
+  w2c_j8 = w2c_p5;
+  w2c_i8 = !(w2c_j8);
+  w2c_j6 = w2c_i8 ? w2c_j6 : w2c_j7;
   w2c_j5 += w2c_j6;
-  w2c_i5 = (u32)(w2c_j5);
-  w2c_i5 = i32_load8_u(m, (u64)(w2c_i5));
-  w2c_j6 = w2c_p5;
-  w2c_j7 = 4096ull;
-  w2c_j8 = 0ull;
-  w2c_j9 = w2c_p5;
-  w2c_i9 = !(w2c_j9);
-  w2c_j7 = w2c_i9 ? w2c_j7 : w2c_j8;
-  w2c_j6 += w2c_j7;
-  w2c_j7 = w2c_p6;
-  w2c_j8 = w2c_p7;
-  w2c_i0 = w2c_f16(m, w2c_i0, w2c_j1, w2c_j2, w2c_j3, w2c_i4, w2c_i5, w2c_j6, w2c_j7, w2c_j8);
-  w2c_l10 = w2c_i0;
-  w2c_B1:;
-  w2c_j0 = w2c_l8;
-  m->w2c_g0 = w2c_j0;
-  w2c_i0 = w2c_l10;
-  goto w2c_Bfunc;
-  w2c_B0:;
-  UNREACHABLE;
-  w2c_Bfunc:;
+  w2c_j6 = w2c_p6;
+  w2c_j7 = w2c_p7;
+  w2c_i0 = w2c_f16(m, w2c_j0, w2c_j1, w2c_j2, w2c_i3, w2c_i4, w2c_j5, w2c_j6, w2c_j7);
   return w2c_i0;
 }
 
-static u32 w2c_chinese_quantity_find_utf8(module *m, u64 w2c_p0, u64 w2c_p1, u64 w2c_p2, u32 w2c_p3, u32 w2c_p4, u64 w2c_p5, u64 w2c_p6, u64 w2c_p7) {
+static u32 w2c_chinese_number_find(module *m, u64 w2c_p0, u64 w2c_p1, u64 w2c_p2, u32 w2c_p3, u32 w2c_p4, u64 w2c_p5, u64 w2c_p6, u64 w2c_p7) {
   u32 w2c_i0, w2c_i3, w2c_i4;
   u64 w2c_j0, w2c_j1, w2c_j2, w2c_j5, w2c_j6, w2c_j7;
   w2c_i0 = w2c_f0(m);
@@ -44231,16 +47919,11 @@ static u32 w2c_chinese_quantity_find_utf8(module *m, u64 w2c_p0, u64 w2c_p1, u64
 }
 
 static u32 w2c_f76(module *m, u64 w2c_p0, u64 w2c_p1, u64 w2c_p2, u32 w2c_p3, u32 w2c_p4, u64 w2c_p5, u64 w2c_p6, u64 w2c_p7) {
-  u32 w2c_l10 = 0, w2c_l11 = 0;
-  u64 w2c_l8 = 0, w2c_l9 = 0;
-  u32 w2c_i0, w2c_i1, w2c_i3;
-  u64 w2c_j0, w2c_j1, w2c_j2, w2c_j3;
+  u32 w2c_l12 = 0;
+  u64 w2c_l8 = 0, w2c_l9 = 0, w2c_l10 = 0, w2c_l11 = 0;
+  u32 w2c_i0, w2c_i1, w2c_i2, w2c_i3, w2c_i4, w2c_i8;
+  u64 w2c_j0, w2c_j1, w2c_j2, w2c_j3, w2c_j5, w2c_j6, w2c_j7, w2c_j8;
   w2c_j0 = m->w2c_g0;
-  w2c_j1 = 128ull;
-  w2c_j0 -= w2c_j1;
-  w2c_l8 = w2c_j0;
-  m->w2c_g0 = w2c_j0;
-  w2c_j0 = w2c_l8;
   w2c_l8 = w2c_j0;
   w2c_j1 = 16ull;
   w2c_i0 = (u64)((s64)w2c_j0 < (s64)w2c_j1);
@@ -44249,20 +47932,12 @@ static u32 w2c_f76(module *m, u64 w2c_p0, u64 w2c_p1, u64 w2c_p2, u32 w2c_p3, u3
   w2c_i0 = (u32)(w2c_j0);
   w2c_j1 = 0ull;
   i64_store(m, (u64)(w2c_i0), w2c_j1);
-  w2c_i0 = 0u;
-  w2c_l10 = w2c_i0;
   w2c_i0 = 8u;
-  w2c_l11 = w2c_i0;
+  w2c_l12 = w2c_i0;
   w2c_i0 = w2c_p3;
-  switch (w2c_i0) {
-    case 0: goto w2c_B2;
-    case 1: goto w2c_B3;
-    default: goto w2c_B1;
-  }
-  w2c_B3:;
-  w2c_i0 = 1u;
-  w2c_l10 = w2c_i0;
-  w2c_B2:;
+  w2c_i1 = 1u;
+  w2c_i0 = w2c_i0 > w2c_i1;
+  if (w2c_i0) {goto w2c_B1;}
   w2c_i0 = w2c_p4;
   w2c_i1 = 15u;
   w2c_i0 = w2c_i0 > w2c_i1;
@@ -44275,190 +47950,372 @@ static u32 w2c_f76(module *m, u64 w2c_p0, u64 w2c_p1, u64 w2c_p2, u32 w2c_p3, u3
   w2c_j1 = w2c_i3 ? w2c_j1 : w2c_j2;
   w2c_j0 += w2c_j1;
   w2c_l9 = w2c_j0;
-  w2c_i0 = w2c_p4;
-  w2c_j0 = (u64)(w2c_i0);
-  w2c_j1 = 66976ull;
-  w2c_j0 += w2c_j1;
-  w2c_i0 = (u32)(w2c_j0);
-  w2c_i0 = i32_load8_u(m, (u64)(w2c_i0));
-  w2c_p4 = w2c_i0;
   w2c_j0 = w2c_p1;
-  w2c_j1 = w2c_p2;
-  w2c_i0 = w2c_j0 == w2c_j1;
-  if (w2c_i0) {goto w2c_B4;}
-  w2c_i0 = 5u;
-  w2c_l11 = w2c_i0;
-  w2c_j0 = w2c_p1;
-  w2c_j1 = w2c_p2;
-  w2c_i0 = w2c_j0 < w2c_j1;
-  if (w2c_i0) {goto w2c_B1;}
-  w2c_j0 = w2c_l9;
-  w2c_j1 = w2c_p2;
-  w2c_j0 += w2c_j1;
-  w2c_i0 = (u32)(w2c_j0);
-  w2c_i0 = i32_load8_s(m, (u64)(w2c_i0));
-  w2c_i1 = 4294967232u;
-  w2c_i0 = (u32)((s32)w2c_i0 < (s32)w2c_i1);
-  if (w2c_i0) {goto w2c_B1;}
-  w2c_B4:;
-  w2c_i0 = 0u;
-  w2c_l11 = w2c_i0;
-  w2c_j0 = w2c_l8;
-  w2c_i0 = (u32)(w2c_j0);
-  w2c_i1 = 0u;
-  i32_store(m, (u64)(w2c_i0) + 90, w2c_i1);
-  w2c_j0 = w2c_l8;
-  w2c_i0 = (u32)(w2c_j0);
-  w2c_i1 = w2c_p4;
-  i32_store8(m, (u64)(w2c_i0) + 89, w2c_i1);
-  w2c_j0 = w2c_l8;
-  w2c_i0 = (u32)(w2c_j0);
-  w2c_i1 = w2c_l10;
-  i32_store8(m, (u64)(w2c_i0) + 88, w2c_i1);
-  w2c_j0 = w2c_l8;
-  w2c_i0 = (u32)(w2c_j0);
-  w2c_i1 = 0u;
-  i32_store16(m, (u64)(w2c_i0) + 94, w2c_i1);
-  w2c_j0 = 0ull;
   w2c_p0 = w2c_j0;
-  w2c_j0 = w2c_l8;
+  w2c_j0 = w2c_p1;
+  w2c_j1 = 4ull;
+  w2c_i0 = w2c_j0 < w2c_j1;
+  if (w2c_i0) {goto w2c_B6;}
+  w2c_j0 = w2c_l9;
+  w2c_j1 = 18446744073709551612ull;
+  w2c_j0 += w2c_j1;
+  w2c_l10 = w2c_j0;
+  w2c_j0 = w2c_p1;
+  w2c_p0 = w2c_j0;
+  w2c_L7:
+    w2c_j0 = w2c_l10;
+    w2c_j1 = w2c_p0;
+    w2c_j0 += w2c_j1;
+    w2c_i0 = (u32)(w2c_j0);
+    w2c_i0 = i32_load(m, (u64)(w2c_i0));
+    w2c_i1 = 8u;
+    w2c_i0 >>= (w2c_i1 & 31);
+    w2c_i1 = 16776989u;
+    w2c_i0 += w2c_i1;
+    w2c_i1 = 12632312u;
+    w2c_i0 &= w2c_i1;
+    w2c_i1 = 8421376u;
+    w2c_i0 = w2c_i0 != w2c_i1;
+    if (w2c_i0) {goto w2c_B5;}
+    w2c_j0 = w2c_p0;
+    w2c_j1 = 18446744073709551613ull;
+    w2c_j0 += w2c_j1;
+    w2c_p0 = w2c_j0;
+    w2c_j1 = 3ull;
+    w2c_i0 = w2c_j0 > w2c_j1;
+    if (w2c_i0) {goto w2c_L7;}
+  w2c_B6:;
+  w2c_j0 = w2c_p0;
+  w2c_j1 = 3ull;
+  w2c_i0 = w2c_j0 > w2c_j1;
+  if (w2c_i0) {goto w2c_B4;}
+  w2c_j0 = w2c_p0;
   w2c_i0 = (u32)(w2c_j0);
-  w2c_j1 = 0ull;
-  i64_store(m, (u64)(w2c_i0) + 32, w2c_j1);
-  w2c_j0 = w2c_l8;
+  switch (w2c_i0) {
+    case 0: goto w2c_B2;
+    case 1: goto w2c_B4;
+    case 2: goto w2c_B4;
+    case 3: goto w2c_B8;
+    default: goto w2c_B2;
+  }
+  w2c_B8:;
+  w2c_j0 = 3ull;
+  w2c_p0 = w2c_j0;
+  w2c_j0 = w2c_l9;
   w2c_i0 = (u32)(w2c_j0);
-  w2c_j1 = 0ull;
-  i64_store(m, (u64)(w2c_i0) + 40, w2c_j1);
-  w2c_j0 = w2c_l8;
-  w2c_i0 = (u32)(w2c_j0);
-  w2c_j1 = 0ull;
-  i64_store(m, (u64)(w2c_i0) + 48, w2c_j1);
-  w2c_j0 = w2c_l8;
-  w2c_i0 = (u32)(w2c_j0);
-  w2c_j1 = 0ull;
-  i64_store(m, (u64)(w2c_i0) + 56, w2c_j1);
-  w2c_j0 = w2c_l8;
-  w2c_i0 = (u32)(w2c_j0);
-  w2c_j1 = 0ull;
-  i64_store(m, (u64)(w2c_i0) + 64, w2c_j1);
-  w2c_j0 = w2c_l8;
-  w2c_i0 = (u32)(w2c_j0);
-  w2c_j1 = 0ull;
-  i64_store(m, (u64)(w2c_i0) + 72, w2c_j1);
-  w2c_j0 = w2c_l8;
-  w2c_i0 = (u32)(w2c_j0);
-  w2c_j1 = 0ull;
-  i64_store(m, (u64)(w2c_i0) + 80, w2c_j1);
-  w2c_j0 = w2c_l8;
-  w2c_i0 = (u32)(w2c_j0);
-  w2c_j1 = 0ull;
-  i64_store(m, (u64)(w2c_i0) + 8, w2c_j1);
-  w2c_j0 = w2c_l8;
-  w2c_i0 = (u32)(w2c_j0);
-  w2c_j1 = 0ull;
-  i64_store(m, (u64)(w2c_i0) + 16, w2c_j1);
-  w2c_j0 = w2c_l8;
-  w2c_i0 = (u32)(w2c_j0);
-  w2c_j1 = 0ull;
-  i64_store(m, (u64)(w2c_i0) + 24, w2c_j1);
-  w2c_j0 = w2c_l8;
-  w2c_i0 = (u32)(w2c_j0);
-  w2c_j1 = w2c_p1;
-  i64_store(m, (u64)(w2c_i0) + 104, w2c_j1);
-  w2c_j0 = w2c_l8;
-  w2c_i0 = (u32)(w2c_j0);
-  w2c_j1 = w2c_p1;
-  w2c_j2 = w2c_p2;
-  w2c_j1 -= w2c_j2;
-  i64_store(m, (u64)(w2c_i0) + 120, w2c_j1);
-  w2c_j0 = w2c_l8;
-  w2c_i0 = (u32)(w2c_j0);
+  w2c_i0 = i32_load16_u(m, (u64)(w2c_i0));
   w2c_j1 = w2c_l9;
-  i64_store(m, (u64)(w2c_i0) + 96, w2c_j1);
-  w2c_j0 = w2c_l8;
-  w2c_i0 = (u32)(w2c_j0);
-  w2c_j1 = w2c_l9;
-  w2c_j2 = w2c_p2;
+  w2c_j2 = 2ull;
   w2c_j1 += w2c_j2;
-  i64_store(m, (u64)(w2c_i0) + 112, w2c_j1);
-  w2c_j0 = w2c_p6;
-  w2c_i0 = !(w2c_j0);
-  if (w2c_i0) {goto w2c_B5;}
-  w2c_j0 = w2c_p5;
+  w2c_i1 = (u32)(w2c_j1);
+  w2c_i1 = i32_load8_u(m, (u64)(w2c_i1));
+  w2c_i2 = 16u;
+  w2c_i1 <<= (w2c_i2 & 31);
+  w2c_i0 |= w2c_i1;
+  w2c_i1 = 16776989u;
+  w2c_i0 += w2c_i1;
+  w2c_i1 = 12632312u;
+  w2c_i0 &= w2c_i1;
+  w2c_i1 = 8421376u;
+  w2c_i0 = w2c_i0 != w2c_i1;
+  if (w2c_i0) {goto w2c_B4;}
+  goto w2c_B2;
+  w2c_B5:;
+  w2c_j0 = w2c_p0;
+  w2c_j1 = 7ull;
+  w2c_i0 = w2c_j0 > w2c_j1;
+  if (w2c_i0) {goto w2c_B3;}
+  w2c_B4:;
+  w2c_j0 = 0ull;
+  w2c_l10 = w2c_j0;
+  w2c_L9:
+    w2c_j0 = w2c_p0;
+    w2c_j1 = w2c_l10;
+    w2c_i0 = w2c_j0 == w2c_j1;
+    if (w2c_i0) {goto w2c_B2;}
+    w2c_j0 = w2c_l9;
+    w2c_j1 = w2c_l10;
+    w2c_j0 += w2c_j1;
+    w2c_l11 = w2c_j0;
+    w2c_j0 = w2c_l10;
+    w2c_j1 = 1ull;
+    w2c_j0 += w2c_j1;
+    w2c_l10 = w2c_j0;
+    w2c_j0 = w2c_l11;
+    w2c_i0 = (u32)(w2c_j0);
+    w2c_i0 = i32_load8_s(m, (u64)(w2c_i0));
+    w2c_i1 = 4294967295u;
+    w2c_i0 = (u32)((s32)w2c_i0 > (s32)w2c_i1);
+    if (w2c_i0) {goto w2c_L9;}
+  w2c_B3:;
+  w2c_i0 = 5u;
+  w2c_l12 = w2c_i0;
+  w2c_j0 = w2c_l9;
+  w2c_j1 = w2c_p0;
+  w2c_i0 = w2c_f12(m, w2c_j0, w2c_j1);
+  w2c_i0 = !(w2c_i0);
+  if (w2c_i0) {goto w2c_B1;}
+  w2c_B2:;
+  w2c_j0 = w2c_l9;
+  w2c_j1 = w2c_p1;
+  w2c_j2 = w2c_p2;
+  w2c_i3 = w2c_p3;
+  w2c_i4 = w2c_p4;
+  w2c_j5 = w2c_p5;
+  w2c_j6 = 4096ull;
+  w2c_j7 = 0ull;
+  w2c_j8 = w2c_p5;
+  w2c_i8 = !(w2c_j8);
+  w2c_j6 = w2c_i8 ? w2c_j6 : w2c_j7;
+  w2c_j5 += w2c_j6;
+  w2c_j6 = w2c_p6;
+  w2c_j7 = w2c_p7;
+  w2c_i0 = w2c_f16(m, w2c_j0, w2c_j1, w2c_j2, w2c_i3, w2c_i4, w2c_j5, w2c_j6, w2c_j7);
+  w2c_l12 = w2c_i0;
+  w2c_B1:;
+  w2c_j0 = w2c_l8;
+  m->w2c_g0 = w2c_j0;
+  w2c_i0 = w2c_l12;
+  goto w2c_Bfunc;
+  w2c_B0:;
+  UNREACHABLE;
+  w2c_Bfunc:;
+  return w2c_i0;
+}
+
+static u32 w2c_chinese_quantity_find_utf8(module *m, u64 w2c_p0, u64 w2c_p1, u64 w2c_p2, u32 w2c_p3, u32 w2c_p4, u64 w2c_p5, u64 w2c_p6, u64 w2c_p7) {
+  u32 w2c_i0, w2c_i3, w2c_i4;
+  u64 w2c_j0, w2c_j1, w2c_j2, w2c_j5, w2c_j6, w2c_j7;
+  w2c_i0 = w2c_f0(m);
+  w2c_i0 = !(w2c_i0);
+  if (w2c_i0) {goto w2c_B0;}
+  w2c_f2(m);
+  UNREACHABLE;
+  w2c_B0:;
+  w2c_j0 = w2c_p0;
+  w2c_j1 = w2c_p1;
+  w2c_j2 = w2c_p2;
+  w2c_i3 = w2c_p3;
+  w2c_i4 = w2c_p4;
+  w2c_j5 = w2c_p5;
+  w2c_j6 = w2c_p6;
+  w2c_j7 = w2c_p7;
+  w2c_i0 = w2c_f78(m, w2c_j0, w2c_j1, w2c_j2, w2c_i3, w2c_i4, w2c_j5, w2c_j6, w2c_j7);
+  w2c_p4 = w2c_i0;
+  w2c_f1(m);
+  w2c_i0 = w2c_p4;
+  return w2c_i0;
+}
+
+static u32 w2c_f78(module *m, u64 w2c_p0, u64 w2c_p1, u64 w2c_p2, u32 w2c_p3, u32 w2c_p4, u64 w2c_p5, u64 w2c_p6, u64 w2c_p7) {
+  u32 w2c_i0, w2c_i3, w2c_i4, w2c_i8;
+  u64 w2c_j0, w2c_j1, w2c_j2, w2c_j3, w2c_j5, w2c_j6, w2c_j7, w2c_j8;
+  w2c_j0 = w2c_p0;
   w2c_j1 = 4096ull;
   w2c_j2 = 0ull;
-  w2c_j3 = w2c_p5;
+  w2c_j3 = w2c_p0;
   w2c_i3 = !(w2c_j3);
   w2c_j1 = w2c_i3 ? w2c_j1 : w2c_j2;
   w2c_j0 += w2c_j1;
-  w2c_p2 = w2c_j0;
-  w2c_j0 = w2c_l8;
-  w2c_j1 = 40ull;
-  w2c_j0 += w2c_j1;
-  w2c_p1 = w2c_j0;
-  w2c_j0 = 0ull;
-  w2c_p0 = w2c_j0;
-  w2c_L6:
-    w2c_j0 = w2c_l8;
-    w2c_j1 = 32ull;
-    w2c_j0 += w2c_j1;
-    w2c_j1 = w2c_l8;
-    w2c_j2 = 88ull;
-    w2c_j1 += w2c_j2;
-    w2c_f20(m, w2c_j0, w2c_j1);
-    w2c_j0 = w2c_l8;
-    w2c_i0 = (u32)(w2c_j0);
-    w2c_i0 = i32_load8_u(m, (u64)(w2c_i0) + 32u);
-    w2c_i1 = 1u;
-    w2c_i0 = w2c_i0 != w2c_i1;
-    if (w2c_i0) {goto w2c_B5;}
-    w2c_j0 = w2c_l8;
-    w2c_j1 = 8ull;
-    w2c_j0 += w2c_j1;
-    w2c_j1 = w2c_p1;
-    w2c_f19(m, w2c_j0, w2c_j1);
-    w2c_j0 = w2c_p2;
-    w2c_i0 = (u32)(w2c_j0);
-    w2c_j1 = w2c_l8;
-    w2c_i1 = (u32)(w2c_j1);
-    w2c_j1 = i64_load(m, (u64)(w2c_i1) + 24u);
-    i64_store(m, (u64)(w2c_i0) + 16, w2c_j1);
-    w2c_j0 = w2c_p2;
-    w2c_i0 = (u32)(w2c_j0);
-    w2c_j1 = w2c_l8;
-    w2c_i1 = (u32)(w2c_j1);
-    w2c_j1 = i64_load(m, (u64)(w2c_i1) + 16u);
-    i64_store(m, (u64)(w2c_i0) + 8, w2c_j1);
-    w2c_j0 = w2c_p2;
-    w2c_i0 = (u32)(w2c_j0);
-    w2c_j1 = w2c_l8;
-    w2c_i1 = (u32)(w2c_j1);
-    w2c_j1 = i64_load(m, (u64)(w2c_i1) + 8u);
-    i64_store(m, (u64)(w2c_i0), w2c_j1);
-    w2c_j0 = w2c_p2;
-    w2c_j1 = 24ull;
-    w2c_j0 += w2c_j1;
-    w2c_p2 = w2c_j0;
-    w2c_j0 = w2c_p6;
-    w2c_j1 = w2c_p0;
-    w2c_j2 = 1ull;
-    w2c_j1 += w2c_j2;
-    w2c_p0 = w2c_j1;
-    w2c_i0 = w2c_j0 != w2c_j1;
-    if (w2c_i0) {goto w2c_L6;}
-  w2c_j0 = w2c_p6;
-  w2c_p0 = w2c_j0;
-  w2c_B5:;
+  w2c_j1 = w2c_p1;
+  w2c_j2 = w2c_p2;
+  w2c_i3 = w2c_p3;
+  w2c_i4 = w2c_p4;
+  w2c_j5 = w2c_p5;
+  w2c_j6 = 4096ull;
+  w2c_j7 = 0ull;
+  w2c_j8 = w2c_p5;
+  w2c_i8 = !(w2c_j8);
+  w2c_j6 = w2c_i8 ? w2c_j6 : w2c_j7;
+  w2c_j5 += w2c_j6;
+  w2c_j6 = w2c_p6;
+  w2c_j7 = w2c_p7;
+  w2c_i0 = w2c_f26(m, w2c_j0, w2c_j1, w2c_j2, w2c_i3, w2c_i4, w2c_j5, w2c_j6, w2c_j7);
+  return w2c_i0;
+}
+
+static u32 w2c_chinese_quantity_find(module *m, u64 w2c_p0, u64 w2c_p1, u64 w2c_p2, u32 w2c_p3, u32 w2c_p4, u64 w2c_p5, u64 w2c_p6, u64 w2c_p7) {
+  u32 w2c_i0, w2c_i3, w2c_i4;
+  u64 w2c_j0, w2c_j1, w2c_j2, w2c_j5, w2c_j6, w2c_j7;
+  w2c_i0 = w2c_f0(m);
+  w2c_i0 = !(w2c_i0);
+  if (w2c_i0) {goto w2c_B0;}
+  w2c_f2(m);
+  UNREACHABLE;
+  w2c_B0:;
+  w2c_j0 = w2c_p0;
+  w2c_j1 = w2c_p1;
+  w2c_j2 = w2c_p2;
+  w2c_i3 = w2c_p3;
+  w2c_i4 = w2c_p4;
+  w2c_j5 = w2c_p5;
+  w2c_j6 = w2c_p6;
+  w2c_j7 = w2c_p7;
+  w2c_i0 = w2c_f80(m, w2c_j0, w2c_j1, w2c_j2, w2c_i3, w2c_i4, w2c_j5, w2c_j6, w2c_j7);
+  w2c_p4 = w2c_i0;
+  w2c_f1(m);
+  w2c_i0 = w2c_p4;
+  return w2c_i0;
+}
+
+static u32 w2c_f80(module *m, u64 w2c_p0, u64 w2c_p1, u64 w2c_p2, u32 w2c_p3, u32 w2c_p4, u64 w2c_p5, u64 w2c_p6, u64 w2c_p7) {
+  u32 w2c_l12 = 0;
+  u64 w2c_l8 = 0, w2c_l9 = 0, w2c_l10 = 0, w2c_l11 = 0;
+  u32 w2c_i0, w2c_i1, w2c_i2, w2c_i3, w2c_i4, w2c_i8;
+  u64 w2c_j0, w2c_j1, w2c_j2, w2c_j3, w2c_j5, w2c_j6, w2c_j7, w2c_j8;
+  w2c_j0 = m->w2c_g0;
+  w2c_l8 = w2c_j0;
+  w2c_j1 = 16ull;
+  w2c_i0 = (u64)((s64)w2c_j0 < (s64)w2c_j1);
+  if (w2c_i0) {goto w2c_B0;}
   w2c_j0 = w2c_p7;
   w2c_i0 = (u32)(w2c_j0);
-  w2c_j1 = w2c_p0;
+  w2c_j1 = 0ull;
   i64_store(m, (u64)(w2c_i0), w2c_j1);
+  w2c_i0 = 8u;
+  w2c_l12 = w2c_i0;
+  w2c_i0 = w2c_p3;
+  w2c_i1 = 1u;
+  w2c_i0 = w2c_i0 > w2c_i1;
+  if (w2c_i0) {goto w2c_B1;}
+  w2c_i0 = w2c_p4;
+  w2c_i1 = 15u;
+  w2c_i0 = w2c_i0 > w2c_i1;
+  if (w2c_i0) {goto w2c_B1;}
+  w2c_j0 = w2c_p0;
+  w2c_j1 = 4096ull;
+  w2c_j2 = 0ull;
+  w2c_j3 = w2c_p0;
+  w2c_i3 = !(w2c_j3);
+  w2c_j1 = w2c_i3 ? w2c_j1 : w2c_j2;
+  w2c_j0 += w2c_j1;
+  w2c_l9 = w2c_j0;
+  w2c_j0 = w2c_p1;
+  w2c_p0 = w2c_j0;
+  w2c_j0 = w2c_p1;
+  w2c_j1 = 4ull;
+  w2c_i0 = w2c_j0 < w2c_j1;
+  if (w2c_i0) {goto w2c_B6;}
+  w2c_j0 = w2c_l9;
+  w2c_j1 = 18446744073709551612ull;
+  w2c_j0 += w2c_j1;
+  w2c_l10 = w2c_j0;
+  w2c_j0 = w2c_p1;
+  w2c_p0 = w2c_j0;
+  w2c_L7:
+    w2c_j0 = w2c_l10;
+    w2c_j1 = w2c_p0;
+    w2c_j0 += w2c_j1;
+    w2c_i0 = (u32)(w2c_j0);
+    w2c_i0 = i32_load(m, (u64)(w2c_i0));
+    w2c_i1 = 8u;
+    w2c_i0 >>= (w2c_i1 & 31);
+    w2c_i1 = 16776989u;
+    w2c_i0 += w2c_i1;
+    w2c_i1 = 12632312u;
+    w2c_i0 &= w2c_i1;
+    w2c_i1 = 8421376u;
+    w2c_i0 = w2c_i0 != w2c_i1;
+    if (w2c_i0) {goto w2c_B5;}
+    w2c_j0 = w2c_p0;
+    w2c_j1 = 18446744073709551613ull;
+    w2c_j0 += w2c_j1;
+    w2c_p0 = w2c_j0;
+    w2c_j1 = 3ull;
+    w2c_i0 = w2c_j0 > w2c_j1;
+    if (w2c_i0) {goto w2c_L7;}
+  w2c_B6:;
+  w2c_j0 = w2c_p0;
+  w2c_j1 = 3ull;
+  w2c_i0 = w2c_j0 > w2c_j1;
+  if (w2c_i0) {goto w2c_B4;}
+  w2c_j0 = w2c_p0;
+  w2c_i0 = (u32)(w2c_j0);
+  switch (w2c_i0) {
+    case 0: goto w2c_B2;
+    case 1: goto w2c_B4;
+    case 2: goto w2c_B4;
+    case 3: goto w2c_B8;
+    default: goto w2c_B2;
+  }
+  w2c_B8:;
+  w2c_j0 = 3ull;
+  w2c_p0 = w2c_j0;
+  w2c_j0 = w2c_l9;
+  w2c_i0 = (u32)(w2c_j0);
+  w2c_i0 = i32_load16_u(m, (u64)(w2c_i0));
+  w2c_j1 = w2c_l9;
+  w2c_j2 = 2ull;
+  w2c_j1 += w2c_j2;
+  w2c_i1 = (u32)(w2c_j1);
+  w2c_i1 = i32_load8_u(m, (u64)(w2c_i1));
+  w2c_i2 = 16u;
+  w2c_i1 <<= (w2c_i2 & 31);
+  w2c_i0 |= w2c_i1;
+  w2c_i1 = 16776989u;
+  w2c_i0 += w2c_i1;
+  w2c_i1 = 12632312u;
+  w2c_i0 &= w2c_i1;
+  w2c_i1 = 8421376u;
+  w2c_i0 = w2c_i0 != w2c_i1;
+  if (w2c_i0) {goto w2c_B4;}
+  goto w2c_B2;
+  w2c_B5:;
+  w2c_j0 = w2c_p0;
+  w2c_j1 = 7ull;
+  w2c_i0 = w2c_j0 > w2c_j1;
+  if (w2c_i0) {goto w2c_B3;}
+  w2c_B4:;
+  w2c_j0 = 0ull;
+  w2c_l10 = w2c_j0;
+  w2c_L9:
+    w2c_j0 = w2c_p0;
+    w2c_j1 = w2c_l10;
+    w2c_i0 = w2c_j0 == w2c_j1;
+    if (w2c_i0) {goto w2c_B2;}
+    w2c_j0 = w2c_l9;
+    w2c_j1 = w2c_l10;
+    w2c_j0 += w2c_j1;
+    w2c_l11 = w2c_j0;
+    w2c_j0 = w2c_l10;
+    w2c_j1 = 1ull;
+    w2c_j0 += w2c_j1;
+    w2c_l10 = w2c_j0;
+    w2c_j0 = w2c_l11;
+    w2c_i0 = (u32)(w2c_j0);
+    w2c_i0 = i32_load8_s(m, (u64)(w2c_i0));
+    w2c_i1 = 4294967295u;
+    w2c_i0 = (u32)((s32)w2c_i0 > (s32)w2c_i1);
+    if (w2c_i0) {goto w2c_L9;}
+  w2c_B3:;
+  w2c_i0 = 5u;
+  w2c_l12 = w2c_i0;
+  w2c_j0 = w2c_l9;
+  w2c_j1 = w2c_p0;
+  w2c_i0 = w2c_f12(m, w2c_j0, w2c_j1);
+  w2c_i0 = !(w2c_i0);
+  if (w2c_i0) {goto w2c_B1;}
+  w2c_B2:;
+  w2c_j0 = w2c_l9;
+  w2c_j1 = w2c_p1;
+  w2c_j2 = w2c_p2;
+  w2c_i3 = w2c_p3;
+  w2c_i4 = w2c_p4;
+  w2c_j5 = w2c_p5;
+  w2c_j6 = 4096ull;
+  w2c_j7 = 0ull;
+  w2c_j8 = w2c_p5;
+  w2c_i8 = !(w2c_j8);
+  w2c_j6 = w2c_i8 ? w2c_j6 : w2c_j7;
+  w2c_j5 += w2c_j6;
+  w2c_j6 = w2c_p6;
+  w2c_j7 = w2c_p7;
+  w2c_i0 = w2c_f26(m, w2c_j0, w2c_j1, w2c_j2, w2c_i3, w2c_i4, w2c_j5, w2c_j6, w2c_j7);
+  w2c_l12 = w2c_i0;
   w2c_B1:;
   w2c_j0 = w2c_l8;
-  w2c_j1 = 128ull;
-  w2c_j0 += w2c_j1;
   m->w2c_g0 = w2c_j0;
-  w2c_i0 = w2c_l11;
+  w2c_i0 = w2c_l12;
   goto w2c_Bfunc;
   w2c_B0:;
   UNREACHABLE;
@@ -44484,14 +48341,14 @@ static u32 w2c_chinese_number_print(module *m, u64 w2c_p0, u64 w2c_p1, u32 w2c_p
   w2c_j6 = w2c_p6;
   w2c_j7 = w2c_p7;
   w2c_j8 = w2c_p8;
-  w2c_i0 = w2c_f78(m, w2c_j0, w2c_j1, w2c_i2, w2c_i3, w2c_i4, w2c_i5, w2c_j6, w2c_j7, w2c_j8);
+  w2c_i0 = w2c_f82(m, w2c_j0, w2c_j1, w2c_i2, w2c_i3, w2c_i4, w2c_i5, w2c_j6, w2c_j7, w2c_j8);
   w2c_p5 = w2c_i0;
   w2c_f1(m);
   w2c_i0 = w2c_p5;
   return w2c_i0;
 }
 
-static u32 w2c_f78(module *m, u64 w2c_p0, u64 w2c_p1, u32 w2c_p2, u32 w2c_p3, u32 w2c_p4, u32 w2c_p5, u64 w2c_p6, u64 w2c_p7, u64 w2c_p8) {
+static u32 w2c_f82(module *m, u64 w2c_p0, u64 w2c_p1, u32 w2c_p2, u32 w2c_p3, u32 w2c_p4, u32 w2c_p5, u64 w2c_p6, u64 w2c_p7, u64 w2c_p8) {
   u32 w2c_l18 = 0, w2c_l19 = 0, w2c_l20 = 0, w2c_l21 = 0;
   u64 w2c_l9 = 0, w2c_l10 = 0, w2c_l11 = 0, w2c_l12 = 0, w2c_l13 = 0, w2c_l14 = 0, w2c_l15 = 0, w2c_l16 = 0, w2c_l17 = 0;
   u32 w2c_i0, w2c_i1, w2c_i2, w2c_i3, w2c_i4;
@@ -45086,7 +48943,7 @@ static u32 w2c_f78(module *m, u64 w2c_p0, u64 w2c_p1, u32 w2c_p2, u32 w2c_p3, u3
   w2c_i3 = w2c_l21;
   w2c_j4 = w2c_p6;
   w2c_j5 = w2c_p0;
-  w2c_j0 = w2c_f30(m, w2c_j0, w2c_j1, w2c_i2, w2c_i3, w2c_j4, w2c_j5);
+  w2c_j0 = w2c_f31(m, w2c_j0, w2c_j1, w2c_i2, w2c_i3, w2c_j4, w2c_j5);
   w2c_p0 = w2c_j0;
   goto w2c_B2;
   w2c_B16:;
@@ -45587,7 +49444,7 @@ static u32 w2c_f78(module *m, u64 w2c_p0, u64 w2c_p1, u32 w2c_p2, u32 w2c_p3, u3
   w2c_i3 = 0u;
   w2c_j4 = w2c_p0;
   w2c_j5 = w2c_p1;
-  w2c_j0 = w2c_f30(m, w2c_j0, w2c_j1, w2c_i2, w2c_i3, w2c_j4, w2c_j5);
+  w2c_j0 = w2c_f31(m, w2c_j0, w2c_j1, w2c_i2, w2c_i3, w2c_j4, w2c_j5);
   w2c_p1 = w2c_j0;
   goto w2c_B4;
   w2c_B6:;
@@ -45844,14 +49701,14 @@ static u32 w2c_chinese_quantities_to_figures(module *m, u64 w2c_p0, u64 w2c_p1, 
   w2c_j6 = w2c_p6;
   w2c_j7 = w2c_p7;
   w2c_j8 = w2c_p8;
-  w2c_i0 = w2c_f80(m, w2c_j0, w2c_j1, w2c_i2, w2c_i3, w2c_i4, w2c_i5, w2c_j6, w2c_j7, w2c_j8);
+  w2c_i0 = w2c_f84(m, w2c_j0, w2c_j1, w2c_i2, w2c_i3, w2c_i4, w2c_i5, w2c_j6, w2c_j7, w2c_j8);
   w2c_p5 = w2c_i0;
   w2c_f1(m);
   w2c_i0 = w2c_p5;
   return w2c_i0;
 }
 
-static u32 w2c_f80(module *m, u64 w2c_p0, u64 w2c_p1, u32 w2c_p2, u32 w2c_p3, u32 w2c_p4, u32 w2c_p5, u64 w2c_p6, u64 w2c_p7, u64 w2c_p8) {
+static u32 w2c_f84(module *m, u64 w2c_p0, u64 w2c_p1, u32 w2c_p2, u32 w2c_p3, u32 w2c_p4, u32 w2c_p5, u64 w2c_p6, u64 w2c_p7, u64 w2c_p8) {
   u32 w2c_l32 = 0, w2c_l33 = 0, w2c_l34 = 0, w2c_l35 = 0;
   u64 w2c_l9 = 0, w2c_l10 = 0, w2c_l11 = 0, w2c_l12 = 0, w2c_l13 = 0, w2c_l14 = 0, w2c_l15 = 0, w2c_l16 = 0, w2c_l17 = 0, w2c_l18 = 0, w2c_l19 = 0, w2c_l20 = 0, w2c_l21 = 0, w2c_l22 = 0, w2c_l23 = 0, w2c_l24 = 0, w2c_l25 = 0, w2c_l26 = 0, w2c_l27 = 0, w2c_l28 = 0, w2c_l29 = 0, w2c_l30 = 0, w2c_l31 = 0;
   u32 w2c_i0, w2c_i1, w2c_i2, w2c_i3, w2c_i4;
@@ -45948,14 +49805,14 @@ static u32 w2c_f80(module *m, u64 w2c_p0, u64 w2c_p1, u32 w2c_p2, u32 w2c_p3, u3
   w2c_j0 = w2c_p1;
   w2c_j1 = 4ull;
   w2c_i0 = w2c_j0 < w2c_j1;
-  if (w2c_i0) {goto w2c_B7;}
+  if (w2c_i0) {goto w2c_B9;}
   w2c_j0 = w2c_l12;
   w2c_j1 = 18446744073709551612ull;
   w2c_j0 += w2c_j1;
   w2c_l13 = w2c_j0;
   w2c_j0 = w2c_p1;
   w2c_l10 = w2c_j0;
-  w2c_L8:
+  w2c_L10:
     w2c_j0 = w2c_l13;
     w2c_j1 = w2c_l10;
     w2c_j0 += w2c_j1;
@@ -45969,29 +49826,31 @@ static u32 w2c_f80(module *m, u64 w2c_p0, u64 w2c_p1, u32 w2c_p2, u32 w2c_p3, u3
     w2c_i0 &= w2c_i1;
     w2c_i1 = 8421376u;
     w2c_i0 = w2c_i0 != w2c_i1;
-    if (w2c_i0) {goto w2c_B6;}
+    if (w2c_i0) {goto w2c_B8;}
     w2c_j0 = w2c_l10;
     w2c_j1 = 18446744073709551613ull;
     w2c_j0 += w2c_j1;
     w2c_l10 = w2c_j0;
     w2c_j1 = 3ull;
     w2c_i0 = w2c_j0 > w2c_j1;
-    if (w2c_i0) {goto w2c_L8;}
-  w2c_B7:;
+    if (w2c_i0) {goto w2c_L10;}
+  w2c_B9:;
   w2c_j0 = w2c_l10;
   w2c_j1 = 3ull;
   w2c_i0 = w2c_j0 > w2c_j1;
-  if (w2c_i0) {goto w2c_B6;}
+  if (w2c_i0) {goto w2c_B7;}
   w2c_j0 = w2c_l10;
   w2c_i0 = (u32)(w2c_j0);
   switch (w2c_i0) {
     case 0: goto w2c_B5;
-    case 1: goto w2c_B6;
-    case 2: goto w2c_B6;
-    case 3: goto w2c_B9;
+    case 1: goto w2c_B7;
+    case 2: goto w2c_B7;
+    case 3: goto w2c_B11;
     default: goto w2c_B5;
   }
-  w2c_B9:;
+  w2c_B11:;
+  w2c_j0 = 3ull;
+  w2c_l10 = w2c_j0;
   w2c_j0 = w2c_l12;
   w2c_i0 = (u32)(w2c_j0);
   w2c_i0 = i32_load16_u(m, (u64)(w2c_i0));
@@ -46008,13 +49867,41 @@ static u32 w2c_f80(module *m, u64 w2c_p0, u64 w2c_p1, u32 w2c_p2, u32 w2c_p3, u3
   w2c_i1 = 12632312u;
   w2c_i0 &= w2c_i1;
   w2c_i1 = 8421376u;
-  w2c_i0 = w2c_i0 == w2c_i1;
-  if (w2c_i0) {goto w2c_B5;}
+  w2c_i0 = w2c_i0 != w2c_i1;
+  if (w2c_i0) {goto w2c_B7;}
+  goto w2c_B5;
+  w2c_B8:;
+  w2c_j0 = w2c_l10;
+  w2c_j1 = 7ull;
+  w2c_i0 = w2c_j0 > w2c_j1;
+  if (w2c_i0) {goto w2c_B6;}
+  w2c_B7:;
+  w2c_j0 = 0ull;
+  w2c_l13 = w2c_j0;
+  w2c_L12:
+    w2c_j0 = w2c_l10;
+    w2c_j1 = w2c_l13;
+    w2c_i0 = w2c_j0 == w2c_j1;
+    if (w2c_i0) {goto w2c_B5;}
+    w2c_j0 = w2c_l12;
+    w2c_j1 = w2c_l13;
+    w2c_j0 += w2c_j1;
+    w2c_l14 = w2c_j0;
+    w2c_j0 = w2c_l13;
+    w2c_j1 = 1ull;
+    w2c_j0 += w2c_j1;
+    w2c_l13 = w2c_j0;
+    w2c_j0 = w2c_l14;
+    w2c_i0 = (u32)(w2c_j0);
+    w2c_i0 = i32_load8_s(m, (u64)(w2c_i0));
+    w2c_i1 = 4294967295u;
+    w2c_i0 = (u32)((s32)w2c_i0 > (s32)w2c_i1);
+    if (w2c_i0) {goto w2c_L12;}
   w2c_B6:;
   w2c_i0 = 5u;
   w2c_l33 = w2c_i0;
   w2c_j0 = w2c_l12;
-  w2c_j1 = w2c_p1;
+  w2c_j1 = w2c_l10;
   w2c_i0 = w2c_f12(m, w2c_j0, w2c_j1);
   w2c_i0 = !(w2c_i0);
   if (w2c_i0) {goto w2c_B1;}
@@ -46025,9 +49912,9 @@ static u32 w2c_f80(module *m, u64 w2c_p0, u64 w2c_p1, u32 w2c_p2, u32 w2c_p3, u3
   w2c_j3 = w2c_p6;
   w2c_i3 = !(w2c_j3);
   w2c_j1 = w2c_i3 ? w2c_j1 : w2c_j2;
-  w2c_l14 = w2c_j1;
+  w2c_l15 = w2c_j1;
   w2c_j0 += w2c_j1;
-  w2c_l15 = w2c_j0;
+  w2c_l16 = w2c_j0;
   w2c_j0 = w2c_l9;
   w2c_i0 = (u32)(w2c_j0);
   w2c_i1 = 0u;
@@ -46061,7 +49948,7 @@ static u32 w2c_f80(module *m, u64 w2c_p0, u64 w2c_p1, u32 w2c_p2, u32 w2c_p3, u3
   w2c_j1 = w2c_l12;
   i64_store(m, (u64)(w2c_i0) + 96, w2c_j1);
   w2c_j0 = 0ull;
-  w2c_l16 = w2c_j0;
+  w2c_l17 = w2c_j0;
   w2c_j0 = w2c_l9;
   w2c_i0 = (u32)(w2c_j0);
   w2c_j1 = 0ull;
@@ -46096,104 +49983,104 @@ static u32 w2c_f80(module *m, u64 w2c_p0, u64 w2c_p1, u32 w2c_p2, u32 w2c_p3, u3
   w2c_j1 = w2c_l9;
   w2c_j2 = 88ull;
   w2c_j1 += w2c_j2;
-  w2c_f20(m, w2c_j0, w2c_j1);
+  w2c_f27(m, w2c_j0, w2c_j1);
   w2c_j0 = 0ull;
-  w2c_l17 = w2c_j0;
+  w2c_l18 = w2c_j0;
   w2c_j0 = w2c_l9;
   w2c_i0 = (u32)(w2c_j0);
   w2c_i0 = i32_load8_u(m, (u64)(w2c_i0) + 32u);
   w2c_i1 = 1u;
   w2c_i0 = w2c_i0 != w2c_i1;
-  if (w2c_i0) {goto w2c_B10;}
+  if (w2c_i0) {goto w2c_B13;}
   w2c_j0 = w2c_l9;
   w2c_j1 = 272ull;
   w2c_j0 += w2c_j1;
-  w2c_l18 = w2c_j0;
-  w2c_j0 = 0ull;
-  w2c_l16 = w2c_j0;
+  w2c_l19 = w2c_j0;
   w2c_j0 = 0ull;
   w2c_l17 = w2c_j0;
-  w2c_L11:
+  w2c_j0 = 0ull;
+  w2c_l18 = w2c_j0;
+  w2c_L14:
     w2c_j0 = w2c_l9;
     w2c_i0 = (u32)(w2c_j0);
     w2c_j0 = i64_load(m, (u64)(w2c_i0) + 40u);
-    w2c_l19 = w2c_j0;
-    w2c_j0 = w2c_l9;
-    w2c_i0 = (u32)(w2c_j0);
-    w2c_j0 = i64_load(m, (u64)(w2c_i0) + 80u);
     w2c_l20 = w2c_j0;
     w2c_j0 = w2c_l9;
     w2c_i0 = (u32)(w2c_j0);
-    w2c_j0 = i64_load(m, (u64)(w2c_i0) + 72u);
+    w2c_j0 = i64_load(m, (u64)(w2c_i0) + 80u);
     w2c_l21 = w2c_j0;
     w2c_j0 = w2c_l9;
     w2c_i0 = (u32)(w2c_j0);
-    w2c_j0 = i64_load(m, (u64)(w2c_i0) + 64u);
+    w2c_j0 = i64_load(m, (u64)(w2c_i0) + 72u);
     w2c_l22 = w2c_j0;
     w2c_j0 = w2c_l9;
     w2c_i0 = (u32)(w2c_j0);
-    w2c_j0 = i64_load(m, (u64)(w2c_i0) + 56u);
+    w2c_j0 = i64_load(m, (u64)(w2c_i0) + 64u);
     w2c_l23 = w2c_j0;
+    w2c_j0 = w2c_l9;
+    w2c_i0 = (u32)(w2c_j0);
+    w2c_j0 = i64_load(m, (u64)(w2c_i0) + 56u);
+    w2c_l24 = w2c_j0;
     w2c_j0 = 18446744073709551615ull;
     w2c_j1 = w2c_l9;
     w2c_i1 = (u32)(w2c_j1);
     w2c_j1 = i64_load(m, (u64)(w2c_i1) + 48u);
-    w2c_l24 = w2c_j1;
-    w2c_j2 = w2c_l17;
-    w2c_j1 -= w2c_j2;
     w2c_l25 = w2c_j1;
-    w2c_j2 = w2c_l16;
-    w2c_l26 = w2c_j2;
+    w2c_j2 = w2c_l18;
+    w2c_j1 -= w2c_j2;
+    w2c_l26 = w2c_j1;
+    w2c_j2 = w2c_l17;
+    w2c_l27 = w2c_j2;
     w2c_j1 += w2c_j2;
     w2c_l10 = w2c_j1;
     w2c_j2 = w2c_l10;
-    w2c_j3 = w2c_l25;
+    w2c_j3 = w2c_l26;
     w2c_i2 = w2c_j2 < w2c_j3;
     w2c_j0 = w2c_i2 ? w2c_j0 : w2c_j1;
-    w2c_l27 = w2c_j0;
+    w2c_l28 = w2c_j0;
     w2c_j1 = w2c_p7;
     w2c_i0 = w2c_j0 > w2c_j1;
-    if (w2c_i0) {goto w2c_B12;}
-    w2c_j0 = w2c_l15;
-    w2c_j1 = w2c_l26;
+    if (w2c_i0) {goto w2c_B15;}
+    w2c_j0 = w2c_l16;
+    w2c_j1 = w2c_l27;
     w2c_j0 += w2c_j1;
-    w2c_l28 = w2c_j0;
-    w2c_j1 = w2c_l19;
-    w2c_j2 = w2c_l17;
+    w2c_l29 = w2c_j0;
+    w2c_j1 = w2c_l20;
+    w2c_j2 = w2c_l18;
     w2c_j1 += w2c_j2;
-    w2c_l29 = w2c_j1;
+    w2c_l30 = w2c_j1;
     w2c_j0 -= w2c_j1;
-    w2c_j1 = w2c_l25;
+    w2c_j1 = w2c_l26;
     w2c_i0 = w2c_j0 >= w2c_j1;
-    if (w2c_i0) {goto w2c_B13;}
-    w2c_j0 = w2c_l25;
+    if (w2c_i0) {goto w2c_B16;}
+    w2c_j0 = w2c_l26;
     w2c_j1 = 3ull;
     w2c_j0 &= w2c_j1;
-    w2c_l30 = w2c_j0;
+    w2c_l31 = w2c_j0;
     w2c_j0 = 0ull;
     w2c_l13 = w2c_j0;
-    w2c_j0 = w2c_l17;
-    w2c_j1 = w2c_l24;
+    w2c_j0 = w2c_l18;
+    w2c_j1 = w2c_l25;
     w2c_j0 -= w2c_j1;
     w2c_j1 = 18446744073709551612ull;
     w2c_i0 = w2c_j0 > w2c_j1;
-    if (w2c_i0) {goto w2c_B14;}
-    w2c_j0 = w2c_l25;
+    if (w2c_i0) {goto w2c_B17;}
+    w2c_j0 = w2c_l26;
     w2c_j1 = 18446744073709551612ull;
     w2c_j0 &= w2c_j1;
-    w2c_l16 = w2c_j0;
+    w2c_l17 = w2c_j0;
     w2c_j0 = 0ull;
     w2c_l13 = w2c_j0;
-    w2c_L15:
-      w2c_j0 = w2c_l28;
+    w2c_L18:
+      w2c_j0 = w2c_l29;
       w2c_j1 = w2c_l13;
       w2c_j0 += w2c_j1;
       w2c_l10 = w2c_j0;
       w2c_i0 = (u32)(w2c_j0);
-      w2c_j1 = w2c_l29;
+      w2c_j1 = w2c_l30;
       w2c_j2 = w2c_l13;
       w2c_j1 += w2c_j2;
-      w2c_l31 = w2c_j1;
+      w2c_l14 = w2c_j1;
       w2c_i1 = (u32)(w2c_j1);
       w2c_i1 = i32_load8_u(m, (u64)(w2c_i1));
       i32_store8(m, (u64)(w2c_i0), w2c_i1);
@@ -46201,7 +50088,7 @@ static u32 w2c_f80(module *m, u64 w2c_p0, u64 w2c_p1, u32 w2c_p2, u32 w2c_p3, u3
       w2c_j1 = 1ull;
       w2c_j0 += w2c_j1;
       w2c_i0 = (u32)(w2c_j0);
-      w2c_j1 = w2c_l31;
+      w2c_j1 = w2c_l14;
       w2c_j2 = 1ull;
       w2c_j1 += w2c_j2;
       w2c_i1 = (u32)(w2c_j1);
@@ -46211,7 +50098,7 @@ static u32 w2c_f80(module *m, u64 w2c_p0, u64 w2c_p1, u32 w2c_p2, u32 w2c_p3, u3
       w2c_j1 = 2ull;
       w2c_j0 += w2c_j1;
       w2c_i0 = (u32)(w2c_j0);
-      w2c_j1 = w2c_l31;
+      w2c_j1 = w2c_l14;
       w2c_j2 = 2ull;
       w2c_j1 += w2c_j2;
       w2c_i1 = (u32)(w2c_j1);
@@ -46221,36 +50108,36 @@ static u32 w2c_f80(module *m, u64 w2c_p0, u64 w2c_p1, u32 w2c_p2, u32 w2c_p3, u3
       w2c_j1 = 3ull;
       w2c_j0 += w2c_j1;
       w2c_i0 = (u32)(w2c_j0);
-      w2c_j1 = w2c_l31;
+      w2c_j1 = w2c_l14;
       w2c_j2 = 3ull;
       w2c_j1 += w2c_j2;
       w2c_i1 = (u32)(w2c_j1);
       w2c_i1 = i32_load8_u(m, (u64)(w2c_i1));
       i32_store8(m, (u64)(w2c_i0), w2c_i1);
-      w2c_j0 = w2c_l16;
+      w2c_j0 = w2c_l17;
       w2c_j1 = w2c_l13;
       w2c_j2 = 4ull;
       w2c_j1 += w2c_j2;
       w2c_l13 = w2c_j1;
       w2c_i0 = w2c_j0 != w2c_j1;
-      if (w2c_i0) {goto w2c_L15;}
-    w2c_j0 = w2c_l30;
+      if (w2c_i0) {goto w2c_L18;}
+    w2c_j0 = w2c_l31;
     w2c_i0 = !(w2c_j0);
-    if (w2c_i0) {goto w2c_B12;}
-    w2c_B14:;
-    w2c_j0 = w2c_l15;
-    w2c_j1 = w2c_l26;
+    if (w2c_i0) {goto w2c_B15;}
+    w2c_B17:;
+    w2c_j0 = w2c_l16;
+    w2c_j1 = w2c_l27;
     w2c_j2 = w2c_l13;
     w2c_j1 += w2c_j2;
     w2c_j0 += w2c_j1;
     w2c_l10 = w2c_j0;
-    w2c_j0 = w2c_l19;
+    w2c_j0 = w2c_l20;
     w2c_j1 = w2c_l13;
-    w2c_j2 = w2c_l17;
+    w2c_j2 = w2c_l18;
     w2c_j1 += w2c_j2;
     w2c_j0 += w2c_j1;
     w2c_l13 = w2c_j0;
-    w2c_L16:
+    w2c_L19:
       w2c_j0 = w2c_l10;
       w2c_i0 = (u32)(w2c_j0);
       w2c_j1 = w2c_l13;
@@ -46265,36 +50152,36 @@ static u32 w2c_f80(module *m, u64 w2c_p0, u64 w2c_p1, u32 w2c_p2, u32 w2c_p3, u3
       w2c_j1 = 1ull;
       w2c_j0 += w2c_j1;
       w2c_l13 = w2c_j0;
-      w2c_j0 = w2c_l30;
+      w2c_j0 = w2c_l31;
       w2c_j1 = 18446744073709551615ull;
       w2c_j0 += w2c_j1;
-      w2c_l30 = w2c_j0;
+      w2c_l31 = w2c_j0;
       w2c_j1 = 0ull;
       w2c_i0 = w2c_j0 != w2c_j1;
-      if (w2c_i0) {goto w2c_L16;}
-      goto w2c_B12;
+      if (w2c_i0) {goto w2c_L19;}
+      goto w2c_B15;
     UNREACHABLE;
-    w2c_B13:;
-    w2c_j0 = w2c_l25;
+    w2c_B16:;
+    w2c_j0 = w2c_l26;
     w2c_i0 = !(w2c_j0);
-    if (w2c_i0) {goto w2c_B12;}
-    w2c_j0 = w2c_l28;
+    if (w2c_i0) {goto w2c_B15;}
+    w2c_j0 = w2c_l29;
     w2c_i0 = (u32)(w2c_j0);
-    w2c_j1 = w2c_l29;
+    w2c_j1 = w2c_l30;
     w2c_i1 = (u32)(w2c_j1);
-    w2c_j2 = w2c_l25;
+    w2c_j2 = w2c_l26;
     w2c_i2 = (u32)(w2c_j2);
     memory_copy(m, w2c_i0, w2c_i1, w2c_i2);
-    w2c_B12:;
+    w2c_B15:;
     w2c_i0 = w2c_p2;
     w2c_i1 = 1u;
     w2c_i0 = w2c_i0 > w2c_i1;
-    if (w2c_i0) {goto w2c_B19;}
-    w2c_j0 = w2c_l22;
-    w2c_j1 = 3ull;
-    w2c_i0 = w2c_j0 < w2c_j1;
     if (w2c_i0) {goto w2c_B22;}
     w2c_j0 = w2c_l23;
+    w2c_j1 = 3ull;
+    w2c_i0 = w2c_j0 < w2c_j1;
+    if (w2c_i0) {goto w2c_B25;}
+    w2c_j0 = w2c_l24;
     w2c_i0 = (u32)(w2c_j0);
     w2c_i0 = i32_load8_u(m, (u64)(w2c_i0));
     w2c_l33 = w2c_i0;
@@ -46302,45 +50189,45 @@ static u32 w2c_f80(module *m, u64 w2c_p0, u64 w2c_p1, u32 w2c_p2, u32 w2c_p3, u3
     w2c_i0 &= w2c_i1;
     w2c_i1 = 224u;
     w2c_i0 = w2c_i0 != w2c_i1;
-    if (w2c_i0) {goto w2c_B21;}
+    if (w2c_i0) {goto w2c_B24;}
     w2c_i0 = w2c_l33;
     w2c_i1 = 12u;
     w2c_i0 <<= (w2c_i1 & 31);
-    w2c_j1 = w2c_l23;
+    w2c_j1 = w2c_l24;
     w2c_i1 = (u32)(w2c_j1);
     w2c_i1 = i32_load8_u(m, (u64)(w2c_i1) + 1u);
     w2c_i2 = 6u;
     w2c_i1 <<= (w2c_i2 & 31);
     w2c_i0 += w2c_i1;
-    w2c_j1 = w2c_l23;
+    w2c_j1 = w2c_l24;
     w2c_i1 = (u32)(w2c_j1);
     w2c_i1 = i32_load8_u(m, (u64)(w2c_i1) + 2u);
     w2c_i0 += w2c_i1;
     w2c_i1 = 4294041472u;
     w2c_i0 += w2c_i1;
     w2c_l33 = w2c_i0;
-    w2c_j0 = w2c_l22;
+    w2c_j0 = w2c_l23;
     w2c_j1 = 18446744073709551613ull;
     w2c_j0 += w2c_j1;
     w2c_l10 = w2c_j0;
-    goto w2c_B20;
-    w2c_B22:;
-    w2c_j0 = w2c_l22;
-    w2c_i0 = !(w2c_j0);
-    if (w2c_i0) {goto w2c_B19;}
+    goto w2c_B23;
+    w2c_B25:;
     w2c_j0 = w2c_l23;
+    w2c_i0 = !(w2c_j0);
+    if (w2c_i0) {goto w2c_B22;}
+    w2c_j0 = w2c_l24;
     w2c_i0 = (u32)(w2c_j0);
     w2c_i0 = i32_load8_u(m, (u64)(w2c_i0));
     w2c_l33 = w2c_i0;
-    w2c_B21:;
+    w2c_B24:;
     w2c_j0 = 18446744073709551615ull;
     w2c_l10 = w2c_j0;
     w2c_i0 = w2c_l33;
     w2c_i0 = (u32)(s32)(s8)(u8)(w2c_i0);
     w2c_i1 = 4294967295u;
     w2c_i0 = (u32)((s32)w2c_i0 > (s32)w2c_i1);
-    if (w2c_i0) {goto w2c_B23;}
-    w2c_j0 = w2c_l23;
+    if (w2c_i0) {goto w2c_B26;}
+    w2c_j0 = w2c_l24;
     w2c_i0 = (u32)(w2c_j0);
     w2c_i0 = i32_load8_u(m, (u64)(w2c_i0) + 1u);
     w2c_i1 = 63u;
@@ -46349,7 +50236,7 @@ static u32 w2c_f80(module *m, u64 w2c_p0, u64 w2c_p1, u32 w2c_p2, u32 w2c_p3, u3
     w2c_i0 = w2c_l33;
     w2c_i1 = 223u;
     w2c_i0 = w2c_i0 > w2c_i1;
-    if (w2c_i0) {goto w2c_B24;}
+    if (w2c_i0) {goto w2c_B27;}
     w2c_i0 = w2c_l33;
     w2c_i1 = 6u;
     w2c_i0 <<= (w2c_i1 & 31);
@@ -46360,9 +50247,9 @@ static u32 w2c_f80(module *m, u64 w2c_p0, u64 w2c_p1, u32 w2c_p2, u32 w2c_p3, u3
     w2c_l33 = w2c_i0;
     w2c_j0 = 18446744073709551614ull;
     w2c_l10 = w2c_j0;
-    goto w2c_B23;
-    w2c_B24:;
-    w2c_j0 = w2c_l23;
+    goto w2c_B26;
+    w2c_B27:;
+    w2c_j0 = w2c_l24;
     w2c_i0 = (u32)(w2c_j0);
     w2c_i0 = i32_load8_u(m, (u64)(w2c_i0) + 2u);
     w2c_i1 = 63u;
@@ -46371,7 +50258,7 @@ static u32 w2c_f80(module *m, u64 w2c_p0, u64 w2c_p1, u32 w2c_p2, u32 w2c_p3, u3
     w2c_i0 = w2c_l33;
     w2c_i1 = 239u;
     w2c_i0 = w2c_i0 > w2c_i1;
-    if (w2c_i0) {goto w2c_B25;}
+    if (w2c_i0) {goto w2c_B28;}
     w2c_i0 = w2c_p3;
     w2c_i1 = 6u;
     w2c_i0 <<= (w2c_i1 & 31);
@@ -46386,8 +50273,8 @@ static u32 w2c_f80(module *m, u64 w2c_p0, u64 w2c_p1, u32 w2c_p2, u32 w2c_p3, u3
     w2c_l33 = w2c_i0;
     w2c_j0 = 18446744073709551613ull;
     w2c_l10 = w2c_j0;
-    goto w2c_B23;
-    w2c_B25:;
+    goto w2c_B26;
+    w2c_B28:;
     w2c_i0 = w2c_p4;
     w2c_i1 = 6u;
     w2c_i0 <<= (w2c_i1 & 31);
@@ -46401,7 +50288,7 @@ static u32 w2c_f80(module *m, u64 w2c_p0, u64 w2c_p1, u32 w2c_p2, u32 w2c_p3, u3
     w2c_i2 &= w2c_i3;
     w2c_i1 |= w2c_i2;
     w2c_i0 |= w2c_i1;
-    w2c_j1 = w2c_l23;
+    w2c_j1 = w2c_l24;
     w2c_i1 = (u32)(w2c_j1);
     w2c_i1 = i32_load8_u(m, (u64)(w2c_i1) + 3u);
     w2c_i2 = 63u;
@@ -46410,40 +50297,110 @@ static u32 w2c_f80(module *m, u64 w2c_p0, u64 w2c_p1, u32 w2c_p2, u32 w2c_p3, u3
     w2c_l33 = w2c_i0;
     w2c_j0 = 18446744073709551612ull;
     w2c_l10 = w2c_j0;
-    w2c_B23:;
+    w2c_B26:;
     w2c_j0 = w2c_l10;
-    w2c_j1 = w2c_l22;
+    w2c_j1 = w2c_l23;
     w2c_j0 += w2c_j1;
     w2c_l10 = w2c_j0;
-    w2c_B20:;
+    w2c_B23:;
     w2c_j0 = w2c_l10;
     w2c_j1 = 0ull;
     w2c_i0 = w2c_j0 != w2c_j1;
-    if (w2c_i0) {goto w2c_B19;}
+    if (w2c_i0) {goto w2c_B22;}
     w2c_i0 = w2c_l33;
     w2c_i1 = 4294967248u;
     w2c_i0 += w2c_i1;
     w2c_i1 = 10u;
     w2c_i0 = w2c_i0 < w2c_i1;
-    if (w2c_i0) {goto w2c_B19;}
+    if (w2c_i0) {goto w2c_B22;}
     w2c_i0 = w2c_l33;
     w2c_i1 = 4294902000u;
     w2c_i0 += w2c_i1;
     w2c_i1 = 9u;
     w2c_i0 = w2c_i0 > w2c_i1;
-    if (w2c_i0) {goto w2c_B18;}
-    w2c_B19:;
+    if (w2c_i0) {goto w2c_B21;}
+    w2c_B22:;
     w2c_i0 = w2c_p2;
     w2c_i1 = 1u;
     w2c_i0 &= w2c_i1;
-    if (w2c_i0) {goto w2c_B26;}
-    w2c_i0 = 1u;
+    if (w2c_i0) {goto w2c_B29;}
+    w2c_j0 = w2c_l25;
+    w2c_j1 = 3ull;
+    w2c_i0 = w2c_j0 < w2c_j1;
+    if (w2c_i0) {goto w2c_B37;}
+    w2c_j0 = w2c_l20;
+    w2c_j1 = w2c_l25;
+    w2c_j0 += w2c_j1;
+    w2c_l10 = w2c_j0;
+    w2c_j1 = 18446744073709551613ull;
+    w2c_j0 += w2c_j1;
+    w2c_i0 = (u32)(w2c_j0);
+    w2c_i0 = i32_load8_u(m, (u64)(w2c_i0));
     w2c_p3 = w2c_i0;
-    w2c_j0 = w2c_l24;
+    w2c_i1 = 240u;
+    w2c_i0 &= w2c_i1;
+    w2c_i1 = 224u;
+    w2c_i0 = w2c_i0 != w2c_i1;
+    if (w2c_i0) {goto w2c_B36;}
+    w2c_i0 = w2c_p3;
+    w2c_i1 = 12u;
+    w2c_i0 <<= (w2c_i1 & 31);
+    w2c_j1 = w2c_l10;
+    w2c_j2 = 18446744073709551615ull;
+    w2c_j1 += w2c_j2;
+    w2c_i1 = (u32)(w2c_j1);
+    w2c_i1 = i32_load8_u(m, (u64)(w2c_i1));
+    w2c_p4 = w2c_i1;
+    w2c_i0 |= w2c_i1;
+    w2c_j1 = w2c_l10;
+    w2c_j2 = 18446744073709551614ull;
+    w2c_j1 += w2c_j2;
+    w2c_i1 = (u32)(w2c_j1);
+    w2c_i1 = i32_load8_u(m, (u64)(w2c_i1));
+    w2c_l32 = w2c_i1;
+    w2c_i2 = 6u;
+    w2c_i1 <<= (w2c_i2 & 31);
+    w2c_i0 += w2c_i1;
+    w2c_i1 = 4294041472u;
+    w2c_i0 += w2c_i1;
+    w2c_l33 = w2c_i0;
+    w2c_j0 = w2c_l25;
+    w2c_j1 = 18446744073709551613ull;
+    w2c_j0 += w2c_j1;
+    w2c_l10 = w2c_j0;
+    w2c_i0 = w2c_l32;
+    w2c_i1 = 8u;
+    w2c_i0 <<= (w2c_i1 & 31);
+    w2c_i1 = w2c_p4;
+    w2c_i2 = 16u;
+    w2c_i1 <<= (w2c_i2 & 31);
+    w2c_i0 |= w2c_i1;
+    w2c_i1 = w2c_p3;
+    w2c_i0 |= w2c_i1;
+    w2c_p3 = w2c_i0;
+    w2c_j0 = (u64)(w2c_i0);
+    w2c_j1 = 953497ull;
+    w2c_j0 *= w2c_j1;
+    w2c_j1 = 22ull;
+    w2c_j0 >>= (w2c_j1 & 63);
+    w2c_j1 = 1016ull;
+    w2c_j0 &= w2c_j1;
+    w2c_l13 = w2c_j0;
+    w2c_j1 = 66992ull;
+    w2c_j0 += w2c_j1;
+    w2c_i0 = (u32)(w2c_j0);
+    w2c_i0 = i32_load(m, (u64)(w2c_i0));
+    w2c_i1 = w2c_p3;
+    w2c_i0 = w2c_i0 == w2c_i1;
+    if (w2c_i0) {goto w2c_B35;}
+    goto w2c_B33;
+    w2c_B37:;
+    w2c_j0 = w2c_l25;
     w2c_i0 = !(w2c_j0);
-    if (w2c_i0) {goto w2c_B27;}
-    w2c_j0 = w2c_l19;
-    w2c_j1 = w2c_l24;
+    if (w2c_i0) {goto w2c_B31;}
+    w2c_B36:;
+    w2c_j0 = w2c_l20;
+    w2c_j1 = w2c_l25;
     w2c_j2 = 18446744073709551615ull;
     w2c_j1 += w2c_j2;
     w2c_l10 = w2c_j1;
@@ -46453,11 +50410,11 @@ static u32 w2c_f80(module *m, u64 w2c_p0, u64 w2c_p1, u32 w2c_p2, u32 w2c_p3, u3
     w2c_l33 = w2c_i0;
     w2c_i1 = 0u;
     w2c_i0 = (u32)((s32)w2c_i0 >= (s32)w2c_i1);
-    if (w2c_i0) {goto w2c_B33;}
+    if (w2c_i0) {goto w2c_B34;}
     w2c_j0 = 18446744073709551614ull;
     w2c_l10 = w2c_j0;
-    w2c_j0 = w2c_l19;
-    w2c_j1 = w2c_l24;
+    w2c_j0 = w2c_l20;
+    w2c_j1 = w2c_l25;
     w2c_j0 += w2c_j1;
     w2c_l13 = w2c_j0;
     w2c_j1 = 18446744073709551614ull;
@@ -46466,7 +50423,7 @@ static u32 w2c_f80(module *m, u64 w2c_p0, u64 w2c_p1, u32 w2c_p2, u32 w2c_p3, u3
     w2c_i0 = i32_load8_u(m, (u64)(w2c_i0));
     w2c_i1 = 191u;
     w2c_i0 = w2c_i0 > w2c_i1;
-    if (w2c_i0) {goto w2c_B34;}
+    if (w2c_i0) {goto w2c_B38;}
     w2c_j0 = 18446744073709551613ull;
     w2c_j1 = 18446744073709551612ull;
     w2c_j2 = w2c_l13;
@@ -46478,10 +50435,10 @@ static u32 w2c_f80(module *m, u64 w2c_p0, u64 w2c_p1, u32 w2c_p2, u32 w2c_p3, u3
     w2c_i2 = w2c_i2 > w2c_i3;
     w2c_j0 = w2c_i2 ? w2c_j0 : w2c_j1;
     w2c_l10 = w2c_j0;
-    w2c_B34:;
-    w2c_j0 = w2c_l19;
+    w2c_B38:;
+    w2c_j0 = w2c_l20;
     w2c_j1 = w2c_l10;
-    w2c_j2 = w2c_l24;
+    w2c_j2 = w2c_l25;
     w2c_j1 += w2c_j2;
     w2c_l10 = w2c_j1;
     w2c_j0 += w2c_j1;
@@ -46495,7 +50452,7 @@ static u32 w2c_f80(module *m, u64 w2c_p0, u64 w2c_p1, u32 w2c_p2, u32 w2c_p3, u3
     w2c_i0 = w2c_p3;
     w2c_i1 = 4294967295u;
     w2c_i0 = (u32)((s32)w2c_i0 > (s32)w2c_i1);
-    if (w2c_i0) {goto w2c_B33;}
+    if (w2c_i0) {goto w2c_B34;}
     w2c_j0 = w2c_l13;
     w2c_i0 = (u32)(w2c_j0);
     w2c_i0 = i32_load8_u(m, (u64)(w2c_i0) + 1u);
@@ -46505,7 +50462,7 @@ static u32 w2c_f80(module *m, u64 w2c_p0, u64 w2c_p1, u32 w2c_p2, u32 w2c_p3, u3
     w2c_i0 = w2c_p3;
     w2c_i1 = 4294967263u;
     w2c_i0 = w2c_i0 > w2c_i1;
-    if (w2c_i0) {goto w2c_B35;}
+    if (w2c_i0) {goto w2c_B39;}
     w2c_i0 = w2c_l33;
     w2c_i1 = 6u;
     w2c_i0 <<= (w2c_i1 & 31);
@@ -46514,8 +50471,8 @@ static u32 w2c_f80(module *m, u64 w2c_p0, u64 w2c_p1, u32 w2c_p2, u32 w2c_p3, u3
     w2c_i1 = w2c_p4;
     w2c_i0 |= w2c_i1;
     w2c_l33 = w2c_i0;
-    goto w2c_B33;
-    w2c_B35:;
+    goto w2c_B34;
+    w2c_B39:;
     w2c_j0 = w2c_l13;
     w2c_i0 = (u32)(w2c_j0);
     w2c_i0 = i32_load8_u(m, (u64)(w2c_i0) + 2u);
@@ -46525,7 +50482,7 @@ static u32 w2c_f80(module *m, u64 w2c_p0, u64 w2c_p1, u32 w2c_p2, u32 w2c_p3, u3
     w2c_i0 = w2c_p3;
     w2c_i1 = 4294967279u;
     w2c_i0 = w2c_i0 > w2c_i1;
-    if (w2c_i0) {goto w2c_B37;}
+    if (w2c_i0) {goto w2c_B41;}
     w2c_i0 = w2c_p4;
     w2c_i1 = 6u;
     w2c_i0 <<= (w2c_i1 & 31);
@@ -46538,8 +50495,8 @@ static u32 w2c_f80(module *m, u64 w2c_p0, u64 w2c_p1, u32 w2c_p2, u32 w2c_p3, u3
     w2c_i1 = w2c_l32;
     w2c_i0 |= w2c_i1;
     w2c_l33 = w2c_i0;
-    goto w2c_B36;
-    w2c_B37:;
+    goto w2c_B40;
+    w2c_B41:;
     w2c_i0 = w2c_l32;
     w2c_i1 = 6u;
     w2c_i0 <<= (w2c_i1 & 31);
@@ -46560,13 +50517,13 @@ static u32 w2c_f80(module *m, u64 w2c_p0, u64 w2c_p1, u32 w2c_p2, u32 w2c_p3, u3
     w2c_i1 &= w2c_i2;
     w2c_i0 |= w2c_i1;
     w2c_l33 = w2c_i0;
-    w2c_B36:;
+    w2c_B40:;
     w2c_i0 = w2c_l33;
     w2c_i1 = 4294965248u;
     w2c_i0 += w2c_i1;
     w2c_i1 = 63487u;
     w2c_i0 = w2c_i0 > w2c_i1;
-    if (w2c_i0) {goto w2c_B33;}
+    if (w2c_i0) {goto w2c_B34;}
     w2c_i0 = w2c_l33;
     w2c_i1 = 12u;
     w2c_i0 >>= (w2c_i1 & 31);
@@ -46593,136 +50550,204 @@ static u32 w2c_f80(module *m, u64 w2c_p0, u64 w2c_p1, u32 w2c_p2, u32 w2c_p3, u3
     w2c_j1 = 1016ull;
     w2c_j0 &= w2c_j1;
     w2c_l13 = w2c_j0;
+    w2c_j1 = 66992ull;
+    w2c_j0 += w2c_j1;
     w2c_i0 = (u32)(w2c_j0);
-    w2c_i0 = i32_load(m, (u64)(w2c_i0) + 66992u);
+    w2c_i0 = i32_load(m, (u64)(w2c_i0));
     w2c_i1 = w2c_p3;
     w2c_i0 = w2c_i0 != w2c_i1;
-    if (w2c_i0) {goto w2c_B32;}
+    if (w2c_i0) {goto w2c_B33;}
+    w2c_B35:;
     w2c_j0 = w2c_l13;
     w2c_j1 = 66996ull;
     w2c_j0 += w2c_j1;
     w2c_i0 = (u32)(w2c_j0);
     w2c_i0 = i32_load8_u(m, (u64)(w2c_i0));
-    w2c_i1 = 255u;
-    w2c_i0 &= w2c_i1;
     w2c_i0 = !(w2c_i0);
-    if (w2c_i0) {goto w2c_B29;}
-    goto w2c_B32;
-    w2c_B33:;
+    if (w2c_i0) {goto w2c_B32;}
+    goto w2c_B33;
+    w2c_B34:;
     w2c_i0 = w2c_l33;
     w2c_i1 = 4294967248u;
     w2c_i0 += w2c_i1;
     w2c_i1 = 10u;
     w2c_i0 = w2c_i0 < w2c_i1;
-    if (w2c_i0) {goto w2c_B29;}
+    if (w2c_i0) {goto w2c_B32;}
+    w2c_B33:;
     w2c_i0 = w2c_l33;
-    w2c_i1 = 128u;
-    w2c_i0 = w2c_i0 >= w2c_i1;
+    w2c_i1 = 24318u;
+    w2c_i0 = (u32)((s32)w2c_i0 > (s32)w2c_i1);
+    if (w2c_i0) {goto w2c_B44;}
+    w2c_i0 = w2c_l33;
+    w2c_i1 = 21316u;
+    w2c_i0 = (u32)((s32)w2c_i0 > (s32)w2c_i1);
+    if (w2c_i0) {goto w2c_B45;}
+    w2c_i0 = w2c_l33;
+    w2c_i1 = 20313u;
+    w2c_i0 = w2c_i0 == w2c_i1;
     if (w2c_i0) {goto w2c_B32;}
     w2c_i0 = w2c_l33;
-    w2c_i1 = 95u;
+    w2c_i1 = 20358u;
     w2c_i0 = w2c_i0 == w2c_i1;
-    if (w2c_i0) {goto w2c_B29;}
+    if (w2c_i0) {goto w2c_B32;}
     w2c_i0 = w2c_l33;
-    w2c_i1 = 95u;
-    w2c_i0 &= w2c_i1;
-    w2c_i1 = 4294967231u;
+    w2c_i1 = 20960u;
+    w2c_i0 = w2c_i0 != w2c_i1;
+    if (w2c_i0) {goto w2c_B43;}
+    goto w2c_B32;
+    w2c_B45:;
+    w2c_i0 = w2c_l33;
+    w2c_i1 = 4294945979u;
     w2c_i0 += w2c_i1;
-    w2c_i1 = 26u;
-    w2c_i0 = w2c_i0 >= w2c_i1;
+    switch (w2c_i0) {
+      case 0: goto w2c_B31;
+      case 1: goto w2c_B43;
+      case 2: goto w2c_B43;
+      case 3: goto w2c_B43;
+      case 4: goto w2c_B43;
+      case 5: goto w2c_B43;
+      case 6: goto w2c_B43;
+      case 7: goto w2c_B31;
+      default: goto w2c_B46;
+    }
+    w2c_B46:;
+    w2c_i0 = w2c_l33;
+    w2c_i1 = 4294943110u;
+    w2c_i0 += w2c_i1;
+    switch (w2c_i0) {
+      case 0: goto w2c_B31;
+      case 1: goto w2c_B43;
+      case 2: goto w2c_B43;
+      case 3: goto w2c_B43;
+      case 4: goto w2c_B32;
+      default: goto w2c_B47;
+    }
+    w2c_B47:;
+    w2c_i0 = w2c_l33;
+    w2c_i1 = 22810u;
+    w2c_i0 = w2c_i0 != w2c_i1;
+    if (w2c_i0) {goto w2c_B43;}
+    goto w2c_B32;
+    w2c_B44:;
+    w2c_i0 = w2c_l33;
+    w2c_i1 = 28856u;
+    w2c_i0 = (u32)((s32)w2c_i0 > (s32)w2c_i1);
+    if (w2c_i0) {goto w2c_B48;}
+    w2c_i0 = w2c_l33;
+    w2c_i1 = 4294941328u;
+    w2c_i0 += w2c_i1;
+    switch (w2c_i0) {
+      case 0: goto w2c_B32;
+      case 1: goto w2c_B43;
+      case 2: goto w2c_B43;
+      case 3: goto w2c_B43;
+      case 4: goto w2c_B43;
+      case 5: goto w2c_B43;
+      case 6: goto w2c_B43;
+      case 7: goto w2c_B43;
+      case 8: goto w2c_B32;
+      default: goto w2c_B49;
+    }
+    w2c_B49:;
+    w2c_i0 = w2c_l33;
+    w2c_i1 = 24319u;
+    w2c_i0 = w2c_i0 == w2c_i1;
     if (w2c_i0) {goto w2c_B31;}
-    goto w2c_B29;
-    w2c_B32:;
+    w2c_i0 = w2c_l33;
+    w2c_i1 = 26469u;
+    w2c_i0 = w2c_i0 != w2c_i1;
+    if (w2c_i0) {goto w2c_B43;}
+    goto w2c_B32;
+    w2c_B48:;
+    w2c_i0 = w2c_l33;
+    w2c_i1 = 28857u;
+    w2c_i0 = w2c_i0 == w2c_i1;
+    if (w2c_i0) {goto w2c_B42;}
+    w2c_i0 = w2c_l33;
+    w2c_i1 = 39192u;
+    w2c_i0 = w2c_i0 == w2c_i1;
+    if (w2c_i0) {goto w2c_B32;}
+    w2c_i0 = w2c_l33;
+    w2c_i1 = 40670u;
+    w2c_i0 = w2c_i0 == w2c_i1;
+    if (w2c_i0) {goto w2c_B42;}
+    w2c_B43:;
+    w2c_i0 = w2c_l33;
+    w2c_i1 = 128u;
+    w2c_i0 = w2c_i0 < w2c_i1;
+    if (w2c_i0) {goto w2c_B50;}
     w2c_i0 = w2c_l33;
     w2c_i1 = 4294902000u;
     w2c_i0 += w2c_i1;
     w2c_i1 = 10u;
     w2c_i0 = w2c_i0 < w2c_i1;
-    if (w2c_i0) {goto w2c_B29;}
+    if (w2c_i0) {goto w2c_B32;}
+    goto w2c_B31;
+    w2c_B50:;
     w2c_i0 = w2c_l33;
-    w2c_i1 = 24318u;
-    w2c_i0 = (u32)((s32)w2c_i0 > (s32)w2c_i1);
-    if (w2c_i0) {goto w2c_B38;}
+    w2c_i1 = 95u;
+    w2c_i0 = w2c_i0 == w2c_i1;
+    if (w2c_i0) {goto w2c_B32;}
     w2c_i0 = w2c_l33;
-    w2c_i1 = 4294945979u;
+    w2c_i1 = 4294967238u;
     w2c_i0 += w2c_i1;
-    switch (w2c_i0) {
-      case 0: goto w2c_B28;
-      case 1: goto w2c_B31;
-      case 2: goto w2c_B31;
-      case 3: goto w2c_B31;
-      case 4: goto w2c_B31;
-      case 5: goto w2c_B31;
-      case 6: goto w2c_B31;
-      case 7: goto w2c_B28;
-      default: goto w2c_B39;
-    }
-    w2c_B39:;
+    w2c_i1 = 4294967285u;
+    w2c_i0 = w2c_i0 > w2c_i1;
+    if (w2c_i0) {goto w2c_B32;}
     w2c_i0 = w2c_l33;
-    w2c_i1 = 24186u;
-    w2c_i0 = w2c_i0 != w2c_i1;
-    if (w2c_i0) {goto w2c_B31;}
-    goto w2c_B28;
-    w2c_B38:;
-    w2c_i0 = w2c_l33;
-    w2c_i1 = 24319u;
-    w2c_i0 = w2c_i0 == w2c_i1;
-    if (w2c_i0) {goto w2c_B28;}
-    w2c_i0 = w2c_l33;
-    w2c_i1 = 28857u;
-    w2c_i0 = w2c_i0 == w2c_i1;
-    if (w2c_i0) {goto w2c_B30;}
-    w2c_i0 = w2c_l33;
-    w2c_i1 = 40670u;
-    w2c_i0 = w2c_i0 == w2c_i1;
-    if (w2c_i0) {goto w2c_B30;}
-    w2c_B31:;
+    w2c_i1 = 95u;
+    w2c_i0 &= w2c_i1;
+    w2c_i1 = 4294967205u;
+    w2c_i0 += w2c_i1;
+    w2c_i1 = 4294967269u;
+    w2c_i0 = w2c_i0 > w2c_i1;
+    if (w2c_i0) {goto w2c_B32;}
     w2c_i0 = w2c_l33;
     w2c_i1 = 4294967252u;
     w2c_i0 += w2c_i1;
     w2c_i1 = 2u;
     w2c_i0 = w2c_i0 > w2c_i1;
-    if (w2c_i0) {goto w2c_B29;}
-    w2c_B30:;
-    w2c_j0 = w2c_l19;
+    if (w2c_i0) {goto w2c_B32;}
+    w2c_B42:;
+    w2c_j0 = w2c_l20;
     w2c_j1 = w2c_l10;
-    w2c_i0 = w2c_f23(m, w2c_j0, w2c_j1);
-    w2c_B29:;
+    w2c_i0 = w2c_f19(m, w2c_j0, w2c_j1);
+    w2c_B32:;
     w2c_i0 = 0u;
     w2c_p3 = w2c_i0;
     w2c_i0 = w2c_l33;
     w2c_i1 = 4294941328u;
     w2c_i0 += w2c_i1;
     switch (w2c_i0) {
-      case 0: goto w2c_B27;
-      case 1: goto w2c_B28;
-      case 2: goto w2c_B28;
-      case 3: goto w2c_B28;
-      case 4: goto w2c_B28;
-      case 5: goto w2c_B28;
-      case 6: goto w2c_B28;
-      case 7: goto w2c_B28;
-      case 8: goto w2c_B27;
-      default: goto w2c_B40;
+      case 0: goto w2c_B30;
+      case 1: goto w2c_B31;
+      case 2: goto w2c_B31;
+      case 3: goto w2c_B31;
+      case 4: goto w2c_B31;
+      case 5: goto w2c_B31;
+      case 6: goto w2c_B31;
+      case 7: goto w2c_B31;
+      case 8: goto w2c_B30;
+      default: goto w2c_B51;
     }
-    w2c_B40:;
+    w2c_B51:;
     w2c_i0 = w2c_l33;
     w2c_i1 = 20960u;
     w2c_i0 = w2c_i0 == w2c_i1;
-    if (w2c_i0) {goto w2c_B27;}
+    if (w2c_i0) {goto w2c_B30;}
     w2c_i0 = w2c_l33;
     w2c_i1 = 24190u;
     w2c_i0 = w2c_i0 == w2c_i1;
-    if (w2c_i0) {goto w2c_B27;}
-    w2c_B28:;
+    if (w2c_i0) {goto w2c_B30;}
+    w2c_B31:;
     w2c_i0 = 1u;
     w2c_p3 = w2c_i0;
-    w2c_B27:;
-    w2c_j0 = w2c_l20;
+    w2c_B30:;
+    w2c_j0 = w2c_l21;
     w2c_j1 = 3ull;
     w2c_i0 = w2c_j0 < w2c_j1;
-    if (w2c_i0) {goto w2c_B52;}
-    w2c_j0 = w2c_l21;
+    if (w2c_i0) {goto w2c_B59;}
+    w2c_j0 = w2c_l22;
     w2c_i0 = (u32)(w2c_j0);
     w2c_i0 = i32_load8_u(m, (u64)(w2c_i0));
     w2c_l33 = w2c_i0;
@@ -46730,14 +50755,14 @@ static u32 w2c_f80(module *m, u64 w2c_p0, u64 w2c_p1, u32 w2c_p2, u32 w2c_p3, u3
     w2c_i0 &= w2c_i1;
     w2c_i1 = 224u;
     w2c_i0 = w2c_i0 != w2c_i1;
-    if (w2c_i0) {goto w2c_B51;}
-    w2c_j0 = w2c_l21;
+    if (w2c_i0) {goto w2c_B58;}
+    w2c_j0 = w2c_l22;
     w2c_i0 = (u32)(w2c_j0);
     w2c_i0 = i32_load8_u(m, (u64)(w2c_i0) + 1u);
     w2c_l32 = w2c_i0;
     w2c_i1 = 8u;
     w2c_i0 <<= (w2c_i1 & 31);
-    w2c_j1 = w2c_l21;
+    w2c_j1 = w2c_l22;
     w2c_i1 = (u32)(w2c_j1);
     w2c_i1 = i32_load8_u(m, (u64)(w2c_i1) + 2u);
     w2c_p5 = w2c_i1;
@@ -46759,11 +50784,11 @@ static u32 w2c_f80(module *m, u64 w2c_p0, u64 w2c_p1, u32 w2c_p2, u32 w2c_p3, u3
     w2c_i1 = 4294041472u;
     w2c_i0 += w2c_i1;
     w2c_l33 = w2c_i0;
-    w2c_j0 = w2c_l20;
+    w2c_j0 = w2c_l21;
     w2c_j1 = 18446744073709551613ull;
     w2c_j0 += w2c_j1;
     w2c_l13 = w2c_j0;
-    w2c_j0 = w2c_l21;
+    w2c_j0 = w2c_l22;
     w2c_j1 = 3ull;
     w2c_j0 += w2c_j1;
     w2c_l10 = w2c_j0;
@@ -46776,31 +50801,31 @@ static u32 w2c_f80(module *m, u64 w2c_p0, u64 w2c_p1, u32 w2c_p2, u32 w2c_p3, u3
     w2c_j1 >>= (w2c_j2 & 63);
     w2c_j2 = 1016ull;
     w2c_j1 &= w2c_j2;
-    w2c_l31 = w2c_j1;
+    w2c_l14 = w2c_j1;
     w2c_j2 = 66992ull;
     w2c_j1 += w2c_j2;
     w2c_i1 = (u32)(w2c_j1);
     w2c_i1 = i32_load(m, (u64)(w2c_i1));
     w2c_i0 = w2c_i0 == w2c_i1;
-    if (w2c_i0) {goto w2c_B50;}
-    goto w2c_B48;
-    w2c_B52:;
-    w2c_j0 = w2c_l20;
-    w2c_i0 = !(w2c_j0);
-    if (w2c_i0) {goto w2c_B42;}
+    if (w2c_i0) {goto w2c_B57;}
+    goto w2c_B55;
+    w2c_B59:;
     w2c_j0 = w2c_l21;
+    w2c_i0 = !(w2c_j0);
+    if (w2c_i0) {goto w2c_B53;}
+    w2c_j0 = w2c_l22;
     w2c_i0 = (u32)(w2c_j0);
     w2c_i0 = i32_load8_u(m, (u64)(w2c_i0));
     w2c_l33 = w2c_i0;
-    w2c_B51:;
+    w2c_B58:;
     w2c_j0 = 1ull;
     w2c_l10 = w2c_j0;
     w2c_i0 = w2c_l33;
     w2c_i0 = (u32)(s32)(s8)(u8)(w2c_i0);
     w2c_i1 = 4294967295u;
     w2c_i0 = (u32)((s32)w2c_i0 > (s32)w2c_i1);
-    if (w2c_i0) {goto w2c_B53;}
-    w2c_j0 = w2c_l21;
+    if (w2c_i0) {goto w2c_B60;}
+    w2c_j0 = w2c_l22;
     w2c_i0 = (u32)(w2c_j0);
     w2c_i0 = i32_load8_u(m, (u64)(w2c_i0) + 1u);
     w2c_i1 = 63u;
@@ -46809,7 +50834,7 @@ static u32 w2c_f80(module *m, u64 w2c_p0, u64 w2c_p1, u32 w2c_p2, u32 w2c_p3, u3
     w2c_i0 = w2c_l33;
     w2c_i1 = 223u;
     w2c_i0 = w2c_i0 > w2c_i1;
-    if (w2c_i0) {goto w2c_B54;}
+    if (w2c_i0) {goto w2c_B61;}
     w2c_i0 = w2c_l33;
     w2c_i1 = 6u;
     w2c_i0 <<= (w2c_i1 & 31);
@@ -46820,9 +50845,9 @@ static u32 w2c_f80(module *m, u64 w2c_p0, u64 w2c_p1, u32 w2c_p2, u32 w2c_p3, u3
     w2c_l33 = w2c_i0;
     w2c_j0 = 2ull;
     w2c_l10 = w2c_j0;
-    goto w2c_B53;
-    w2c_B54:;
-    w2c_j0 = w2c_l21;
+    goto w2c_B60;
+    w2c_B61:;
+    w2c_j0 = w2c_l22;
     w2c_i0 = (u32)(w2c_j0);
     w2c_i0 = i32_load8_u(m, (u64)(w2c_i0) + 2u);
     w2c_i1 = 63u;
@@ -46831,7 +50856,7 @@ static u32 w2c_f80(module *m, u64 w2c_p0, u64 w2c_p1, u32 w2c_p2, u32 w2c_p3, u3
     w2c_i0 = w2c_l33;
     w2c_i1 = 239u;
     w2c_i0 = w2c_i0 > w2c_i1;
-    if (w2c_i0) {goto w2c_B55;}
+    if (w2c_i0) {goto w2c_B62;}
     w2c_i0 = w2c_p4;
     w2c_i1 = 6u;
     w2c_i0 <<= (w2c_i1 & 31);
@@ -46846,8 +50871,8 @@ static u32 w2c_f80(module *m, u64 w2c_p0, u64 w2c_p1, u32 w2c_p2, u32 w2c_p3, u3
     w2c_l33 = w2c_i0;
     w2c_j0 = 3ull;
     w2c_l10 = w2c_j0;
-    goto w2c_B53;
-    w2c_B55:;
+    goto w2c_B60;
+    w2c_B62:;
     w2c_i0 = w2c_l32;
     w2c_i1 = 6u;
     w2c_i0 <<= (w2c_i1 & 31);
@@ -46861,7 +50886,7 @@ static u32 w2c_f80(module *m, u64 w2c_p0, u64 w2c_p1, u32 w2c_p2, u32 w2c_p3, u3
     w2c_i2 &= w2c_i3;
     w2c_i1 |= w2c_i2;
     w2c_i0 |= w2c_i1;
-    w2c_j1 = w2c_l21;
+    w2c_j1 = w2c_l22;
     w2c_i1 = (u32)(w2c_j1);
     w2c_i1 = i32_load8_u(m, (u64)(w2c_i1) + 3u);
     w2c_i2 = 63u;
@@ -46870,12 +50895,12 @@ static u32 w2c_f80(module *m, u64 w2c_p0, u64 w2c_p1, u32 w2c_p2, u32 w2c_p3, u3
     w2c_l33 = w2c_i0;
     w2c_j0 = 4ull;
     w2c_l10 = w2c_j0;
-    w2c_B53:;
-    w2c_j0 = w2c_l20;
+    w2c_B60:;
+    w2c_j0 = w2c_l21;
     w2c_j1 = w2c_l10;
     w2c_j0 -= w2c_j1;
     w2c_l13 = w2c_j0;
-    w2c_j0 = w2c_l21;
+    w2c_j0 = w2c_l22;
     w2c_j1 = w2c_l10;
     w2c_j0 += w2c_j1;
     w2c_l10 = w2c_j0;
@@ -46884,7 +50909,7 @@ static u32 w2c_f80(module *m, u64 w2c_p0, u64 w2c_p1, u32 w2c_p2, u32 w2c_p3, u3
     w2c_i0 += w2c_i1;
     w2c_i1 = 63487u;
     w2c_i0 = w2c_i0 > w2c_i1;
-    if (w2c_i0) {goto w2c_B49;}
+    if (w2c_i0) {goto w2c_B56;}
     w2c_i0 = w2c_l33;
     w2c_i1 = 12u;
     w2c_i0 >>= (w2c_i1 & 31);
@@ -46910,163 +50935,222 @@ static u32 w2c_f80(module *m, u64 w2c_p0, u64 w2c_p1, u32 w2c_p2, u32 w2c_p3, u3
     w2c_j0 >>= (w2c_j1 & 63);
     w2c_j1 = 1016ull;
     w2c_j0 &= w2c_j1;
-    w2c_l31 = w2c_j0;
+    w2c_l14 = w2c_j0;
     w2c_j1 = 66992ull;
     w2c_j0 += w2c_j1;
     w2c_i0 = (u32)(w2c_j0);
     w2c_i0 = i32_load(m, (u64)(w2c_i0));
     w2c_i1 = w2c_p4;
     w2c_i0 = w2c_i0 != w2c_i1;
-    if (w2c_i0) {goto w2c_B47;}
-    w2c_B50:;
-    w2c_j0 = w2c_l31;
+    if (w2c_i0) {goto w2c_B55;}
+    w2c_B57:;
+    w2c_j0 = w2c_l14;
     w2c_j1 = 66996ull;
     w2c_j0 += w2c_j1;
     w2c_i0 = (u32)(w2c_j0);
     w2c_i0 = i32_load8_u(m, (u64)(w2c_i0));
     w2c_i0 = !(w2c_i0);
-    if (w2c_i0) {goto w2c_B43;}
-    goto w2c_B48;
-    w2c_B49:;
+    if (w2c_i0) {goto w2c_B54;}
+    goto w2c_B55;
+    w2c_B56:;
     w2c_i0 = w2c_l33;
     w2c_i1 = 4294967248u;
     w2c_i0 += w2c_i1;
     w2c_i1 = 10u;
     w2c_i0 = w2c_i0 < w2c_i1;
-    if (w2c_i0) {goto w2c_B43;}
-    w2c_B48:;
+    if (w2c_i0) {goto w2c_B54;}
+    w2c_B55:;
+    w2c_i0 = w2c_l33;
+    w2c_i1 = 24318u;
+    w2c_i0 = (u32)((s32)w2c_i0 > (s32)w2c_i1);
+    if (w2c_i0) {goto w2c_B65;}
+    w2c_i0 = w2c_l33;
+    w2c_i1 = 21316u;
+    w2c_i0 = (u32)((s32)w2c_i0 > (s32)w2c_i1);
+    if (w2c_i0) {goto w2c_B66;}
+    w2c_i0 = w2c_l33;
+    w2c_i1 = 20313u;
+    w2c_i0 = w2c_i0 == w2c_i1;
+    if (w2c_i0) {goto w2c_B54;}
+    w2c_i0 = w2c_l33;
+    w2c_i1 = 20358u;
+    w2c_i0 = w2c_i0 == w2c_i1;
+    if (w2c_i0) {goto w2c_B54;}
+    w2c_i0 = w2c_l33;
+    w2c_i1 = 20960u;
+    w2c_i0 = w2c_i0 != w2c_i1;
+    if (w2c_i0) {goto w2c_B64;}
+    goto w2c_B54;
+    w2c_B66:;
+    w2c_i0 = w2c_l33;
+    w2c_i1 = 4294945979u;
+    w2c_i0 += w2c_i1;
+    switch (w2c_i0) {
+      case 0: goto w2c_B53;
+      case 1: goto w2c_B64;
+      case 2: goto w2c_B64;
+      case 3: goto w2c_B64;
+      case 4: goto w2c_B64;
+      case 5: goto w2c_B64;
+      case 6: goto w2c_B64;
+      case 7: goto w2c_B53;
+      default: goto w2c_B67;
+    }
+    w2c_B67:;
+    w2c_i0 = w2c_l33;
+    w2c_i1 = 4294943110u;
+    w2c_i0 += w2c_i1;
+    switch (w2c_i0) {
+      case 0: goto w2c_B53;
+      case 1: goto w2c_B64;
+      case 2: goto w2c_B64;
+      case 3: goto w2c_B64;
+      case 4: goto w2c_B54;
+      default: goto w2c_B68;
+    }
+    w2c_B68:;
+    w2c_i0 = w2c_l33;
+    w2c_i1 = 22810u;
+    w2c_i0 = w2c_i0 != w2c_i1;
+    if (w2c_i0) {goto w2c_B64;}
+    goto w2c_B54;
+    w2c_B65:;
+    w2c_i0 = w2c_l33;
+    w2c_i1 = 28856u;
+    w2c_i0 = (u32)((s32)w2c_i0 > (s32)w2c_i1);
+    if (w2c_i0) {goto w2c_B69;}
+    w2c_i0 = w2c_l33;
+    w2c_i1 = 4294941328u;
+    w2c_i0 += w2c_i1;
+    switch (w2c_i0) {
+      case 0: goto w2c_B54;
+      case 1: goto w2c_B64;
+      case 2: goto w2c_B64;
+      case 3: goto w2c_B64;
+      case 4: goto w2c_B64;
+      case 5: goto w2c_B64;
+      case 6: goto w2c_B64;
+      case 7: goto w2c_B64;
+      case 8: goto w2c_B54;
+      default: goto w2c_B70;
+    }
+    w2c_B70:;
+    w2c_i0 = w2c_l33;
+    w2c_i1 = 24319u;
+    w2c_i0 = w2c_i0 == w2c_i1;
+    if (w2c_i0) {goto w2c_B53;}
+    w2c_i0 = w2c_l33;
+    w2c_i1 = 26469u;
+    w2c_i0 = w2c_i0 != w2c_i1;
+    if (w2c_i0) {goto w2c_B64;}
+    goto w2c_B54;
+    w2c_B69:;
+    w2c_i0 = w2c_l33;
+    w2c_i1 = 28857u;
+    w2c_i0 = w2c_i0 == w2c_i1;
+    if (w2c_i0) {goto w2c_B63;}
+    w2c_i0 = w2c_l33;
+    w2c_i1 = 39192u;
+    w2c_i0 = w2c_i0 == w2c_i1;
+    if (w2c_i0) {goto w2c_B54;}
+    w2c_i0 = w2c_l33;
+    w2c_i1 = 40670u;
+    w2c_i0 = w2c_i0 == w2c_i1;
+    if (w2c_i0) {goto w2c_B63;}
+    w2c_B64:;
     w2c_i0 = w2c_l33;
     w2c_i1 = 128u;
     w2c_i0 = w2c_i0 < w2c_i1;
-    if (w2c_i0) {goto w2c_B46;}
-    w2c_B47:;
+    if (w2c_i0) {goto w2c_B71;}
     w2c_i0 = w2c_l33;
     w2c_i1 = 4294902000u;
     w2c_i0 += w2c_i1;
     w2c_i1 = 10u;
     w2c_i0 = w2c_i0 < w2c_i1;
-    if (w2c_i0) {goto w2c_B43;}
-    w2c_i0 = w2c_l33;
-    w2c_i1 = 24318u;
-    w2c_i0 = (u32)((s32)w2c_i0 > (s32)w2c_i1);
-    if (w2c_i0) {goto w2c_B56;}
-    w2c_i0 = w2c_l33;
-    w2c_i1 = 4294945979u;
-    w2c_i0 += w2c_i1;
-    switch (w2c_i0) {
-      case 0: goto w2c_B42;
-      case 1: goto w2c_B45;
-      case 2: goto w2c_B45;
-      case 3: goto w2c_B45;
-      case 4: goto w2c_B45;
-      case 5: goto w2c_B45;
-      case 6: goto w2c_B45;
-      case 7: goto w2c_B42;
-      default: goto w2c_B57;
-    }
-    w2c_B57:;
-    w2c_i0 = w2c_l33;
-    w2c_i1 = 24186u;
-    w2c_i0 = w2c_i0 != w2c_i1;
-    if (w2c_i0) {goto w2c_B45;}
-    goto w2c_B42;
-    w2c_B56:;
-    w2c_i0 = w2c_l33;
-    w2c_i1 = 24319u;
-    w2c_i0 = w2c_i0 == w2c_i1;
-    if (w2c_i0) {goto w2c_B42;}
-    w2c_i0 = w2c_l33;
-    w2c_i1 = 28857u;
-    w2c_i0 = w2c_i0 == w2c_i1;
-    if (w2c_i0) {goto w2c_B44;}
-    w2c_i0 = w2c_l33;
-    w2c_i1 = 40670u;
-    w2c_i0 = w2c_i0 != w2c_i1;
-    if (w2c_i0) {goto w2c_B45;}
-    goto w2c_B44;
-    w2c_B46:;
+    if (w2c_i0) {goto w2c_B54;}
+    goto w2c_B53;
+    w2c_B71:;
     w2c_i0 = w2c_l33;
     w2c_i1 = 95u;
     w2c_i0 = w2c_i0 == w2c_i1;
-    if (w2c_i0) {goto w2c_B43;}
+    if (w2c_i0) {goto w2c_B54;}
     w2c_i0 = w2c_l33;
-    w2c_i1 = 4294967248u;
+    w2c_i1 = 4294967238u;
     w2c_i0 += w2c_i1;
-    w2c_i1 = 10u;
-    w2c_i0 = w2c_i0 < w2c_i1;
-    if (w2c_i0) {goto w2c_B43;}
+    w2c_i1 = 4294967285u;
+    w2c_i0 = w2c_i0 > w2c_i1;
+    if (w2c_i0) {goto w2c_B54;}
     w2c_i0 = w2c_l33;
     w2c_i1 = 95u;
     w2c_i0 &= w2c_i1;
-    w2c_i1 = 4294967231u;
+    w2c_i1 = 4294967205u;
     w2c_i0 += w2c_i1;
-    w2c_i1 = 26u;
-    w2c_i0 = w2c_i0 < w2c_i1;
-    if (w2c_i0) {goto w2c_B43;}
-    w2c_B45:;
+    w2c_i1 = 4294967269u;
+    w2c_i0 = w2c_i0 > w2c_i1;
+    if (w2c_i0) {goto w2c_B54;}
     w2c_i0 = w2c_l33;
     w2c_i1 = 4294967252u;
     w2c_i0 += w2c_i1;
     w2c_i1 = 2u;
     w2c_i0 = w2c_i0 > w2c_i1;
-    if (w2c_i0) {goto w2c_B43;}
-    w2c_B44:;
+    if (w2c_i0) {goto w2c_B54;}
+    w2c_B63:;
     w2c_j0 = w2c_l10;
     w2c_j1 = w2c_l13;
-    w2c_i0 = w2c_f24(m, w2c_j0, w2c_j1);
-    w2c_B43:;
+    w2c_i0 = w2c_f20(m, w2c_j0, w2c_j1);
+    w2c_B54:;
     w2c_i0 = 1u;
     w2c_p4 = w2c_i0;
     w2c_i0 = w2c_l33;
     w2c_i1 = 22809u;
     w2c_i0 = (u32)((s32)w2c_i0 > (s32)w2c_i1);
-    if (w2c_i0) {goto w2c_B58;}
+    if (w2c_i0) {goto w2c_B72;}
     w2c_i0 = w2c_l33;
     w2c_i1 = 20313u;
     w2c_i0 = w2c_i0 == w2c_i1;
-    if (w2c_i0) {goto w2c_B41;}
+    if (w2c_i0) {goto w2c_B52;}
     w2c_i0 = w2c_l33;
     w2c_i1 = 20358u;
     w2c_i0 = w2c_i0 == w2c_i1;
-    if (w2c_i0) {goto w2c_B41;}
+    if (w2c_i0) {goto w2c_B52;}
     w2c_i0 = w2c_l33;
     w2c_i1 = 20960u;
     w2c_i0 = w2c_i0 != w2c_i1;
-    if (w2c_i0) {goto w2c_B42;}
-    goto w2c_B41;
-    w2c_B58:;
+    if (w2c_i0) {goto w2c_B53;}
+    goto w2c_B52;
+    w2c_B72:;
     w2c_i0 = w2c_l33;
     w2c_i1 = 26468u;
     w2c_i0 = (u32)((s32)w2c_i0 > (s32)w2c_i1);
-    if (w2c_i0) {goto w2c_B59;}
+    if (w2c_i0) {goto w2c_B73;}
     w2c_i0 = w2c_l33;
     w2c_i1 = 22810u;
     w2c_i0 = w2c_i0 == w2c_i1;
-    if (w2c_i0) {goto w2c_B41;}
+    if (w2c_i0) {goto w2c_B52;}
     w2c_i0 = w2c_l33;
     w2c_i1 = 24190u;
     w2c_i0 = w2c_i0 != w2c_i1;
-    if (w2c_i0) {goto w2c_B42;}
-    goto w2c_B41;
-    w2c_B59:;
+    if (w2c_i0) {goto w2c_B53;}
+    goto w2c_B52;
+    w2c_B73:;
     w2c_i0 = w2c_l33;
     w2c_i1 = 26469u;
     w2c_i0 = w2c_i0 == w2c_i1;
-    if (w2c_i0) {goto w2c_B41;}
+    if (w2c_i0) {goto w2c_B52;}
     w2c_i0 = w2c_l33;
     w2c_i1 = 39192u;
     w2c_i0 = w2c_i0 == w2c_i1;
-    if (w2c_i0) {goto w2c_B41;}
-    w2c_B42:;
+    if (w2c_i0) {goto w2c_B52;}
+    w2c_B53:;
     w2c_i0 = 0u;
     w2c_p4 = w2c_i0;
-    w2c_B41:;
-    w2c_j0 = w2c_l22;
+    w2c_B52:;
+    w2c_j0 = w2c_l23;
     w2c_i0 = !(w2c_j0);
     w2c_i1 = w2c_p3;
     w2c_i0 |= w2c_i1;
-    if (w2c_i0) {goto w2c_B61;}
-    w2c_j0 = w2c_l23;
+    if (w2c_i0) {goto w2c_B75;}
+    w2c_j0 = w2c_l24;
     w2c_i0 = (u32)(w2c_j0);
     w2c_i0 = i32_load8_s(m, (u64)(w2c_i0));
     w2c_p3 = w2c_i0;
@@ -47076,8 +51160,8 @@ static u32 w2c_f80(module *m, u64 w2c_p0, u64 w2c_p1, u32 w2c_p2, u32 w2c_p3, u3
     w2c_i0 = w2c_p3;
     w2c_i1 = 4294967295u;
     w2c_i0 = (u32)((s32)w2c_i0 > (s32)w2c_i1);
-    if (w2c_i0) {goto w2c_B62;}
-    w2c_j0 = w2c_l23;
+    if (w2c_i0) {goto w2c_B76;}
+    w2c_j0 = w2c_l24;
     w2c_i0 = (u32)(w2c_j0);
     w2c_i0 = i32_load8_u(m, (u64)(w2c_i0) + 1u);
     w2c_i1 = 63u;
@@ -47086,7 +51170,7 @@ static u32 w2c_f80(module *m, u64 w2c_p0, u64 w2c_p1, u32 w2c_p2, u32 w2c_p3, u3
     w2c_i0 = w2c_p3;
     w2c_i1 = 4294967263u;
     w2c_i0 = w2c_i0 > w2c_i1;
-    if (w2c_i0) {goto w2c_B63;}
+    if (w2c_i0) {goto w2c_B77;}
     w2c_i0 = w2c_l33;
     w2c_i1 = 6u;
     w2c_i0 <<= (w2c_i1 & 31);
@@ -47095,9 +51179,9 @@ static u32 w2c_f80(module *m, u64 w2c_p0, u64 w2c_p1, u32 w2c_p2, u32 w2c_p3, u3
     w2c_i1 = w2c_l32;
     w2c_i0 |= w2c_i1;
     w2c_l33 = w2c_i0;
-    goto w2c_B62;
-    w2c_B63:;
-    w2c_j0 = w2c_l23;
+    goto w2c_B76;
+    w2c_B77:;
+    w2c_j0 = w2c_l24;
     w2c_i0 = (u32)(w2c_j0);
     w2c_i0 = i32_load8_u(m, (u64)(w2c_i0) + 2u);
     w2c_i1 = 63u;
@@ -47106,7 +51190,7 @@ static u32 w2c_f80(module *m, u64 w2c_p0, u64 w2c_p1, u32 w2c_p2, u32 w2c_p3, u3
     w2c_i0 = w2c_p3;
     w2c_i1 = 4294967279u;
     w2c_i0 = w2c_i0 > w2c_i1;
-    if (w2c_i0) {goto w2c_B64;}
+    if (w2c_i0) {goto w2c_B78;}
     w2c_i0 = w2c_l32;
     w2c_i1 = 6u;
     w2c_i0 <<= (w2c_i1 & 31);
@@ -47119,8 +51203,8 @@ static u32 w2c_f80(module *m, u64 w2c_p0, u64 w2c_p1, u32 w2c_p2, u32 w2c_p3, u3
     w2c_i1 = w2c_p5;
     w2c_i0 |= w2c_i1;
     w2c_l33 = w2c_i0;
-    goto w2c_B62;
-    w2c_B64:;
+    goto w2c_B76;
+    w2c_B78:;
     w2c_i0 = w2c_p5;
     w2c_i1 = 6u;
     w2c_i0 <<= (w2c_i1 & 31);
@@ -47134,19 +51218,19 @@ static u32 w2c_f80(module *m, u64 w2c_p0, u64 w2c_p1, u32 w2c_p2, u32 w2c_p3, u3
     w2c_i2 &= w2c_i3;
     w2c_i1 |= w2c_i2;
     w2c_i0 |= w2c_i1;
-    w2c_j1 = w2c_l23;
+    w2c_j1 = w2c_l24;
     w2c_i1 = (u32)(w2c_j1);
     w2c_i1 = i32_load8_u(m, (u64)(w2c_i1) + 3u);
     w2c_i2 = 63u;
     w2c_i1 &= w2c_i2;
     w2c_i0 |= w2c_i1;
     w2c_l33 = w2c_i0;
-    w2c_B62:;
+    w2c_B76:;
     w2c_j0 = w2c_l9;
     w2c_j1 = 24ull;
     w2c_j0 += w2c_j1;
     w2c_i1 = w2c_l33;
-    w2c_f25(m, w2c_j0, w2c_i1);
+    w2c_f22(m, w2c_j0, w2c_i1);
     w2c_i0 = w2c_p4;
     w2c_j1 = w2c_l9;
     w2c_i1 = (u32)(w2c_j1);
@@ -47156,17 +51240,17 @@ static u32 w2c_f80(module *m, u64 w2c_p0, u64 w2c_p1, u32 w2c_p2, u32 w2c_p3, u3
     w2c_i2 = 1u;
     w2c_i1 = w2c_i1 == w2c_i2;
     w2c_i0 |= w2c_i1;
-    if (w2c_i0) {goto w2c_B18;}
-    goto w2c_B60;
-    w2c_B61:;
+    if (w2c_i0) {goto w2c_B21;}
+    goto w2c_B74;
+    w2c_B75:;
     w2c_i0 = w2c_p4;
-    if (w2c_i0) {goto w2c_B18;}
-    w2c_B60:;
-    w2c_j0 = w2c_l23;
-    w2c_j1 = w2c_l22;
-    w2c_i0 = w2c_f26(m, w2c_j0, w2c_j1);
-    if (w2c_i0) {goto w2c_B18;}
-    w2c_B26:;
+    if (w2c_i0) {goto w2c_B21;}
+    w2c_B74:;
+    w2c_j0 = w2c_l24;
+    w2c_j1 = w2c_l23;
+    w2c_i0 = w2c_f23(m, w2c_j0, w2c_j1);
+    if (w2c_i0) {goto w2c_B21;}
+    w2c_B29:;
     w2c_j0 = w2c_l9;
     w2c_i0 = (u32)(w2c_j0);
     w2c_j1 = 0ull;
@@ -47202,50 +51286,50 @@ static u32 w2c_f80(module *m, u64 w2c_p0, u64 w2c_p1, u32 w2c_p2, u32 w2c_p3, u3
     w2c_j0 = w2c_l9;
     w2c_j1 = 256ull;
     w2c_j0 += w2c_j1;
-    w2c_j1 = w2c_l23;
-    w2c_j2 = w2c_l22;
+    w2c_j1 = w2c_l24;
+    w2c_j2 = w2c_l23;
     w2c_i3 = w2c_l35;
-    w2c_f31(m, w2c_j0, w2c_j1, w2c_j2, w2c_i3);
+    w2c_f32(m, w2c_j0, w2c_j1, w2c_j2, w2c_i3);
     w2c_j0 = w2c_l9;
     w2c_i0 = (u32)(w2c_j0);
-    w2c_j1 = w2c_l18;
+    w2c_j1 = w2c_l19;
     w2c_i1 = (u32)(w2c_j1);
     w2c_j1 = i64_load(m, (u64)(w2c_i1));
     i64_store(m, (u64)(w2c_i0) + 128, w2c_j1);
     w2c_j0 = w2c_l9;
     w2c_i0 = (u32)(w2c_j0);
-    w2c_j1 = w2c_l18;
+    w2c_j1 = w2c_l19;
     w2c_i1 = (u32)(w2c_j1);
     w2c_j1 = i64_load(m, (u64)(w2c_i1) + 8u);
     i64_store(m, (u64)(w2c_i0) + 136, w2c_j1);
     w2c_j0 = w2c_l9;
     w2c_i0 = (u32)(w2c_j0);
-    w2c_j1 = w2c_l18;
+    w2c_j1 = w2c_l19;
     w2c_i1 = (u32)(w2c_j1);
     w2c_j1 = i64_load(m, (u64)(w2c_i1) + 16u);
     i64_store(m, (u64)(w2c_i0) + 144, w2c_j1);
     w2c_j0 = w2c_l9;
     w2c_i0 = (u32)(w2c_j0);
-    w2c_j1 = w2c_l18;
+    w2c_j1 = w2c_l19;
     w2c_i1 = (u32)(w2c_j1);
     w2c_j1 = i64_load(m, (u64)(w2c_i1) + 24u);
     i64_store(m, (u64)(w2c_i0) + 152, w2c_j1);
     w2c_j0 = w2c_l9;
     w2c_i0 = (u32)(w2c_j0);
-    w2c_j1 = w2c_l18;
+    w2c_j1 = w2c_l19;
     w2c_i1 = (u32)(w2c_j1);
     w2c_j1 = i64_load(m, (u64)(w2c_i1) + 32u);
     i64_store(m, (u64)(w2c_i0) + 160, w2c_j1);
     w2c_j0 = w2c_l9;
     w2c_i0 = (u32)(w2c_j0);
-    w2c_j1 = w2c_l18;
+    w2c_j1 = w2c_l19;
     w2c_i1 = (u32)(w2c_j1);
     w2c_j1 = i64_load(m, (u64)(w2c_i1) + 40u);
     i64_store(m, (u64)(w2c_i0) + 168, w2c_j1);
     w2c_j0 = w2c_l9;
     w2c_i0 = (u32)(w2c_j0);
     w2c_i0 = i32_load8_u(m, (u64)(w2c_i0) + 256u);
-    if (w2c_i0) {goto w2c_B18;}
+    if (w2c_i0) {goto w2c_B21;}
     w2c_j0 = w2c_l9;
     w2c_j1 = 176ull;
     w2c_j0 += w2c_j1;
@@ -47269,55 +51353,55 @@ static u32 w2c_f80(module *m, u64 w2c_p0, u64 w2c_p1, u32 w2c_p2, u32 w2c_p3, u3
     w2c_i1 = (u32)(w2c_j1);
     w2c_j1 = i64_load(m, (u64)(w2c_i1) + 16u);
     w2c_l10 = w2c_j1;
-    w2c_j2 = w2c_l27;
+    w2c_j2 = w2c_l28;
     w2c_j1 += w2c_j2;
     w2c_l13 = w2c_j1;
     w2c_j2 = w2c_l13;
     w2c_j3 = w2c_l10;
     w2c_i2 = w2c_j2 < w2c_j3;
     w2c_j0 = w2c_i2 ? w2c_j0 : w2c_j1;
-    w2c_l16 = w2c_j0;
+    w2c_l17 = w2c_j0;
     w2c_j1 = w2c_p7;
     w2c_i0 = w2c_j0 > w2c_j1;
-    if (w2c_i0) {goto w2c_B17;}
-    w2c_j0 = w2c_l15;
-    w2c_j1 = w2c_l27;
+    if (w2c_i0) {goto w2c_B20;}
+    w2c_j0 = w2c_l16;
+    w2c_j1 = w2c_l28;
     w2c_j0 += w2c_j1;
-    w2c_l28 = w2c_j0;
+    w2c_l29 = w2c_j0;
     w2c_j1 = w2c_l9;
     w2c_i1 = (u32)(w2c_j1);
     w2c_j1 = i64_load(m, (u64)(w2c_i1) + 8u);
-    w2c_l23 = w2c_j1;
+    w2c_l24 = w2c_j1;
     w2c_j0 -= w2c_j1;
     w2c_j1 = w2c_l10;
     w2c_i0 = w2c_j0 >= w2c_j1;
-    if (w2c_i0) {goto w2c_B65;}
+    if (w2c_i0) {goto w2c_B79;}
     w2c_j0 = w2c_l10;
     w2c_j1 = 3ull;
     w2c_j0 &= w2c_j1;
-    w2c_l30 = w2c_j0;
+    w2c_l31 = w2c_j0;
     w2c_j0 = 0ull;
     w2c_l13 = w2c_j0;
     w2c_j0 = w2c_l10;
     w2c_j1 = 4ull;
     w2c_i0 = w2c_j0 < w2c_j1;
-    if (w2c_i0) {goto w2c_B66;}
+    if (w2c_i0) {goto w2c_B80;}
     w2c_j0 = w2c_l10;
     w2c_j1 = 18446744073709551612ull;
     w2c_j0 &= w2c_j1;
-    w2c_l29 = w2c_j0;
+    w2c_l30 = w2c_j0;
     w2c_j0 = 0ull;
     w2c_l13 = w2c_j0;
-    w2c_L67:
-      w2c_j0 = w2c_l28;
+    w2c_L81:
+      w2c_j0 = w2c_l29;
       w2c_j1 = w2c_l13;
       w2c_j0 += w2c_j1;
       w2c_l10 = w2c_j0;
       w2c_i0 = (u32)(w2c_j0);
-      w2c_j1 = w2c_l23;
+      w2c_j1 = w2c_l24;
       w2c_j2 = w2c_l13;
       w2c_j1 += w2c_j2;
-      w2c_l31 = w2c_j1;
+      w2c_l14 = w2c_j1;
       w2c_i1 = (u32)(w2c_j1);
       w2c_i1 = i32_load8_u(m, (u64)(w2c_i1));
       i32_store8(m, (u64)(w2c_i0), w2c_i1);
@@ -47325,7 +51409,7 @@ static u32 w2c_f80(module *m, u64 w2c_p0, u64 w2c_p1, u32 w2c_p2, u32 w2c_p3, u3
       w2c_j1 = 1ull;
       w2c_j0 += w2c_j1;
       w2c_i0 = (u32)(w2c_j0);
-      w2c_j1 = w2c_l31;
+      w2c_j1 = w2c_l14;
       w2c_j2 = 1ull;
       w2c_j1 += w2c_j2;
       w2c_i1 = (u32)(w2c_j1);
@@ -47335,7 +51419,7 @@ static u32 w2c_f80(module *m, u64 w2c_p0, u64 w2c_p1, u32 w2c_p2, u32 w2c_p3, u3
       w2c_j1 = 2ull;
       w2c_j0 += w2c_j1;
       w2c_i0 = (u32)(w2c_j0);
-      w2c_j1 = w2c_l31;
+      w2c_j1 = w2c_l14;
       w2c_j2 = 2ull;
       w2c_j1 += w2c_j2;
       w2c_i1 = (u32)(w2c_j1);
@@ -47345,44 +51429,44 @@ static u32 w2c_f80(module *m, u64 w2c_p0, u64 w2c_p1, u32 w2c_p2, u32 w2c_p3, u3
       w2c_j1 = 3ull;
       w2c_j0 += w2c_j1;
       w2c_i0 = (u32)(w2c_j0);
-      w2c_j1 = w2c_l31;
+      w2c_j1 = w2c_l14;
       w2c_j2 = 3ull;
       w2c_j1 += w2c_j2;
       w2c_i1 = (u32)(w2c_j1);
       w2c_i1 = i32_load8_u(m, (u64)(w2c_i1));
       i32_store8(m, (u64)(w2c_i0), w2c_i1);
-      w2c_j0 = w2c_l29;
+      w2c_j0 = w2c_l30;
       w2c_j1 = w2c_l13;
       w2c_j2 = 4ull;
       w2c_j1 += w2c_j2;
       w2c_l13 = w2c_j1;
       w2c_i0 = w2c_j0 != w2c_j1;
-      if (w2c_i0) {goto w2c_L67;}
-    w2c_j0 = w2c_l30;
+      if (w2c_i0) {goto w2c_L81;}
+    w2c_j0 = w2c_l31;
     w2c_i0 = !(w2c_j0);
-    if (w2c_i0) {goto w2c_B17;}
-    w2c_B66:;
-    w2c_j0 = w2c_l15;
-    w2c_j1 = w2c_l26;
+    if (w2c_i0) {goto w2c_B20;}
+    w2c_B80:;
+    w2c_j0 = w2c_l16;
+    w2c_j1 = w2c_l27;
     w2c_j2 = w2c_l13;
     w2c_j1 += w2c_j2;
-    w2c_j2 = w2c_l25;
-    w2c_j3 = w2c_l26;
+    w2c_j2 = w2c_l26;
+    w2c_j3 = w2c_l27;
     w2c_j4 = 18446744073709551615ull;
     w2c_j3 ^= w2c_j4;
     w2c_l10 = w2c_j3;
-    w2c_j4 = w2c_l25;
+    w2c_j4 = w2c_l26;
     w2c_j5 = w2c_l10;
     w2c_i4 = w2c_j4 < w2c_j5;
     w2c_j2 = w2c_i4 ? w2c_j2 : w2c_j3;
     w2c_j1 += w2c_j2;
     w2c_j0 += w2c_j1;
     w2c_l10 = w2c_j0;
-    w2c_j0 = w2c_l23;
+    w2c_j0 = w2c_l24;
     w2c_j1 = w2c_l13;
     w2c_j0 += w2c_j1;
     w2c_l13 = w2c_j0;
-    w2c_L68:
+    w2c_L82:
       w2c_j0 = w2c_l10;
       w2c_i0 = (u32)(w2c_j0);
       w2c_j1 = w2c_l13;
@@ -47397,76 +51481,76 @@ static u32 w2c_f80(module *m, u64 w2c_p0, u64 w2c_p1, u32 w2c_p2, u32 w2c_p3, u3
       w2c_j1 = 1ull;
       w2c_j0 += w2c_j1;
       w2c_l13 = w2c_j0;
-      w2c_j0 = w2c_l30;
+      w2c_j0 = w2c_l31;
       w2c_j1 = 18446744073709551615ull;
       w2c_j0 += w2c_j1;
-      w2c_l30 = w2c_j0;
+      w2c_l31 = w2c_j0;
       w2c_j1 = 0ull;
       w2c_i0 = w2c_j0 != w2c_j1;
-      if (w2c_i0) {goto w2c_L68;}
-      goto w2c_B17;
+      if (w2c_i0) {goto w2c_L82;}
+      goto w2c_B20;
     UNREACHABLE;
-    w2c_B65:;
+    w2c_B79:;
     w2c_j0 = w2c_l10;
     w2c_i0 = !(w2c_j0);
-    if (w2c_i0) {goto w2c_B17;}
-    w2c_j0 = w2c_l28;
+    if (w2c_i0) {goto w2c_B20;}
+    w2c_j0 = w2c_l29;
     w2c_i0 = (u32)(w2c_j0);
-    w2c_j1 = w2c_l23;
+    w2c_j1 = w2c_l24;
     w2c_i1 = (u32)(w2c_j1);
     w2c_j2 = w2c_l10;
     w2c_i2 = (u32)(w2c_j2);
     memory_copy(m, w2c_i0, w2c_i1, w2c_i2);
-    goto w2c_B17;
-    w2c_B18:;
+    goto w2c_B20;
+    w2c_B21:;
     w2c_j0 = 18446744073709551615ull;
-    w2c_j1 = w2c_l22;
-    w2c_j2 = w2c_l27;
+    w2c_j1 = w2c_l23;
+    w2c_j2 = w2c_l28;
     w2c_j1 += w2c_j2;
     w2c_l10 = w2c_j1;
     w2c_j2 = w2c_l10;
-    w2c_j3 = w2c_l22;
+    w2c_j3 = w2c_l23;
     w2c_i2 = w2c_j2 < w2c_j3;
     w2c_j0 = w2c_i2 ? w2c_j0 : w2c_j1;
-    w2c_l16 = w2c_j0;
+    w2c_l17 = w2c_j0;
     w2c_j1 = w2c_p7;
     w2c_i0 = w2c_j0 > w2c_j1;
-    if (w2c_i0) {goto w2c_B17;}
-    w2c_j0 = w2c_l15;
-    w2c_j1 = w2c_l27;
+    if (w2c_i0) {goto w2c_B20;}
+    w2c_j0 = w2c_l16;
+    w2c_j1 = w2c_l28;
     w2c_j0 += w2c_j1;
-    w2c_l28 = w2c_j0;
-    w2c_j1 = w2c_l23;
+    w2c_l29 = w2c_j0;
+    w2c_j1 = w2c_l24;
     w2c_j0 -= w2c_j1;
-    w2c_j1 = w2c_l22;
+    w2c_j1 = w2c_l23;
     w2c_i0 = w2c_j0 >= w2c_j1;
-    if (w2c_i0) {goto w2c_B69;}
-    w2c_j0 = w2c_l22;
+    if (w2c_i0) {goto w2c_B83;}
+    w2c_j0 = w2c_l23;
     w2c_j1 = 3ull;
+    w2c_j0 &= w2c_j1;
+    w2c_l31 = w2c_j0;
+    w2c_j0 = 0ull;
+    w2c_l13 = w2c_j0;
+    w2c_j0 = w2c_l23;
+    w2c_j1 = 4ull;
+    w2c_i0 = w2c_j0 < w2c_j1;
+    if (w2c_i0) {goto w2c_B84;}
+    w2c_j0 = w2c_l23;
+    w2c_j1 = 18446744073709551612ull;
     w2c_j0 &= w2c_j1;
     w2c_l30 = w2c_j0;
     w2c_j0 = 0ull;
     w2c_l13 = w2c_j0;
-    w2c_j0 = w2c_l22;
-    w2c_j1 = 4ull;
-    w2c_i0 = w2c_j0 < w2c_j1;
-    if (w2c_i0) {goto w2c_B70;}
-    w2c_j0 = w2c_l22;
-    w2c_j1 = 18446744073709551612ull;
-    w2c_j0 &= w2c_j1;
-    w2c_l29 = w2c_j0;
-    w2c_j0 = 0ull;
-    w2c_l13 = w2c_j0;
-    w2c_L71:
-      w2c_j0 = w2c_l28;
+    w2c_L85:
+      w2c_j0 = w2c_l29;
       w2c_j1 = w2c_l13;
       w2c_j0 += w2c_j1;
       w2c_l10 = w2c_j0;
       w2c_i0 = (u32)(w2c_j0);
-      w2c_j1 = w2c_l23;
+      w2c_j1 = w2c_l24;
       w2c_j2 = w2c_l13;
       w2c_j1 += w2c_j2;
-      w2c_l31 = w2c_j1;
+      w2c_l14 = w2c_j1;
       w2c_i1 = (u32)(w2c_j1);
       w2c_i1 = i32_load8_u(m, (u64)(w2c_i1));
       i32_store8(m, (u64)(w2c_i0), w2c_i1);
@@ -47474,7 +51558,7 @@ static u32 w2c_f80(module *m, u64 w2c_p0, u64 w2c_p1, u32 w2c_p2, u32 w2c_p3, u3
       w2c_j1 = 1ull;
       w2c_j0 += w2c_j1;
       w2c_i0 = (u32)(w2c_j0);
-      w2c_j1 = w2c_l31;
+      w2c_j1 = w2c_l14;
       w2c_j2 = 1ull;
       w2c_j1 += w2c_j2;
       w2c_i1 = (u32)(w2c_j1);
@@ -47484,7 +51568,7 @@ static u32 w2c_f80(module *m, u64 w2c_p0, u64 w2c_p1, u32 w2c_p2, u32 w2c_p3, u3
       w2c_j1 = 2ull;
       w2c_j0 += w2c_j1;
       w2c_i0 = (u32)(w2c_j0);
-      w2c_j1 = w2c_l31;
+      w2c_j1 = w2c_l14;
       w2c_j2 = 2ull;
       w2c_j1 += w2c_j2;
       w2c_i1 = (u32)(w2c_j1);
@@ -47494,44 +51578,44 @@ static u32 w2c_f80(module *m, u64 w2c_p0, u64 w2c_p1, u32 w2c_p2, u32 w2c_p3, u3
       w2c_j1 = 3ull;
       w2c_j0 += w2c_j1;
       w2c_i0 = (u32)(w2c_j0);
-      w2c_j1 = w2c_l31;
+      w2c_j1 = w2c_l14;
       w2c_j2 = 3ull;
       w2c_j1 += w2c_j2;
       w2c_i1 = (u32)(w2c_j1);
       w2c_i1 = i32_load8_u(m, (u64)(w2c_i1));
       i32_store8(m, (u64)(w2c_i0), w2c_i1);
-      w2c_j0 = w2c_l29;
+      w2c_j0 = w2c_l30;
       w2c_j1 = w2c_l13;
       w2c_j2 = 4ull;
       w2c_j1 += w2c_j2;
       w2c_l13 = w2c_j1;
       w2c_i0 = w2c_j0 != w2c_j1;
-      if (w2c_i0) {goto w2c_L71;}
-    w2c_j0 = w2c_l30;
+      if (w2c_i0) {goto w2c_L85;}
+    w2c_j0 = w2c_l31;
     w2c_i0 = !(w2c_j0);
-    if (w2c_i0) {goto w2c_B17;}
-    w2c_B70:;
-    w2c_j0 = w2c_l15;
-    w2c_j1 = w2c_l26;
+    if (w2c_i0) {goto w2c_B20;}
+    w2c_B84:;
+    w2c_j0 = w2c_l16;
+    w2c_j1 = w2c_l27;
     w2c_j2 = w2c_l13;
     w2c_j1 += w2c_j2;
-    w2c_j2 = w2c_l25;
-    w2c_j3 = w2c_l26;
+    w2c_j2 = w2c_l26;
+    w2c_j3 = w2c_l27;
     w2c_j4 = 18446744073709551615ull;
     w2c_j3 ^= w2c_j4;
     w2c_l10 = w2c_j3;
-    w2c_j4 = w2c_l25;
+    w2c_j4 = w2c_l26;
     w2c_j5 = w2c_l10;
     w2c_i4 = w2c_j4 < w2c_j5;
     w2c_j2 = w2c_i4 ? w2c_j2 : w2c_j3;
     w2c_j1 += w2c_j2;
     w2c_j0 += w2c_j1;
     w2c_l10 = w2c_j0;
-    w2c_j0 = w2c_l23;
+    w2c_j0 = w2c_l24;
     w2c_j1 = w2c_l13;
     w2c_j0 += w2c_j1;
     w2c_l13 = w2c_j0;
-    w2c_L72:
+    w2c_L86:
       w2c_j0 = w2c_l10;
       w2c_i0 = (u32)(w2c_j0);
       w2c_j1 = w2c_l13;
@@ -47546,105 +51630,105 @@ static u32 w2c_f80(module *m, u64 w2c_p0, u64 w2c_p1, u32 w2c_p2, u32 w2c_p3, u3
       w2c_j1 = 1ull;
       w2c_j0 += w2c_j1;
       w2c_l13 = w2c_j0;
-      w2c_j0 = w2c_l30;
+      w2c_j0 = w2c_l31;
       w2c_j1 = 18446744073709551615ull;
       w2c_j0 += w2c_j1;
-      w2c_l30 = w2c_j0;
+      w2c_l31 = w2c_j0;
       w2c_j1 = 0ull;
       w2c_i0 = w2c_j0 != w2c_j1;
-      if (w2c_i0) {goto w2c_L72;}
-      goto w2c_B17;
+      if (w2c_i0) {goto w2c_L86;}
+      goto w2c_B20;
     UNREACHABLE;
-    w2c_B69:;
-    w2c_j0 = w2c_l22;
+    w2c_B83:;
+    w2c_j0 = w2c_l23;
     w2c_i0 = !(w2c_j0);
-    if (w2c_i0) {goto w2c_B17;}
-    w2c_j0 = w2c_l28;
+    if (w2c_i0) {goto w2c_B20;}
+    w2c_j0 = w2c_l29;
     w2c_i0 = (u32)(w2c_j0);
-    w2c_j1 = w2c_l23;
+    w2c_j1 = w2c_l24;
     w2c_i1 = (u32)(w2c_j1);
-    w2c_j2 = w2c_l22;
+    w2c_j2 = w2c_l23;
     w2c_i2 = (u32)(w2c_j2);
     memory_copy(m, w2c_i0, w2c_i1, w2c_i2);
-    w2c_B17:;
-    w2c_j0 = w2c_l22;
-    w2c_j1 = w2c_l24;
+    w2c_B20:;
+    w2c_j0 = w2c_l23;
+    w2c_j1 = w2c_l25;
     w2c_j0 += w2c_j1;
-    w2c_l17 = w2c_j0;
+    w2c_l18 = w2c_j0;
     w2c_j0 = w2c_l9;
     w2c_j1 = 32ull;
     w2c_j0 += w2c_j1;
     w2c_j1 = w2c_l9;
     w2c_j2 = 88ull;
     w2c_j1 += w2c_j2;
-    w2c_f20(m, w2c_j0, w2c_j1);
+    w2c_f27(m, w2c_j0, w2c_j1);
     w2c_j0 = w2c_l9;
     w2c_i0 = (u32)(w2c_j0);
     w2c_i0 = i32_load8_u(m, (u64)(w2c_i0) + 32u);
     w2c_i1 = 1u;
     w2c_i0 = w2c_i0 == w2c_i1;
-    if (w2c_i0) {goto w2c_L11;}
-  w2c_B10:;
+    if (w2c_i0) {goto w2c_L14;}
+  w2c_B13:;
   w2c_j0 = 18446744073709551615ull;
   w2c_j1 = w2c_p1;
-  w2c_j2 = w2c_l17;
+  w2c_j2 = w2c_l18;
   w2c_j1 -= w2c_j2;
   w2c_l10 = w2c_j1;
-  w2c_j2 = w2c_l16;
+  w2c_j2 = w2c_l17;
   w2c_j1 += w2c_j2;
   w2c_l13 = w2c_j1;
   w2c_j2 = w2c_l13;
   w2c_j3 = w2c_l10;
   w2c_i2 = w2c_j2 < w2c_j3;
   w2c_j0 = w2c_i2 ? w2c_j0 : w2c_j1;
-  w2c_l29 = w2c_j0;
+  w2c_l30 = w2c_j0;
   w2c_j1 = w2c_p7;
   w2c_i0 = w2c_j0 <= w2c_j1;
-  if (w2c_i0) {goto w2c_B74;}
+  if (w2c_i0) {goto w2c_B88;}
   w2c_i0 = 6u;
   w2c_l33 = w2c_i0;
-  goto w2c_B73;
-  w2c_B74:;
-  w2c_j0 = w2c_l15;
-  w2c_j1 = w2c_l16;
+  goto w2c_B87;
+  w2c_B88:;
+  w2c_j0 = w2c_l16;
+  w2c_j1 = w2c_l17;
   w2c_j0 += w2c_j1;
-  w2c_l22 = w2c_j0;
+  w2c_l23 = w2c_j0;
   w2c_j1 = w2c_l12;
-  w2c_j2 = w2c_l17;
+  w2c_j2 = w2c_l18;
   w2c_j1 += w2c_j2;
-  w2c_l23 = w2c_j1;
+  w2c_l24 = w2c_j1;
   w2c_j0 -= w2c_j1;
   w2c_j1 = w2c_l10;
   w2c_i0 = w2c_j0 >= w2c_j1;
-  if (w2c_i0) {goto w2c_B76;}
+  if (w2c_i0) {goto w2c_B90;}
   w2c_j0 = w2c_l10;
   w2c_j1 = 3ull;
   w2c_j0 &= w2c_j1;
-  w2c_l30 = w2c_j0;
+  w2c_l31 = w2c_j0;
   w2c_j0 = 0ull;
   w2c_l13 = w2c_j0;
-  w2c_j0 = w2c_l17;
+  w2c_j0 = w2c_l18;
   w2c_j1 = w2c_p1;
   w2c_j0 -= w2c_j1;
   w2c_j1 = 18446744073709551612ull;
   w2c_i0 = w2c_j0 > w2c_j1;
-  if (w2c_i0) {goto w2c_B77;}
+  if (w2c_i0) {goto w2c_B91;}
   w2c_j0 = w2c_l10;
   w2c_j1 = 18446744073709551612ull;
   w2c_j0 &= w2c_j1;
-  w2c_l28 = w2c_j0;
+  w2c_l29 = w2c_j0;
   w2c_j0 = 0ull;
   w2c_l13 = w2c_j0;
-  w2c_L78:
-    w2c_j0 = w2c_l22;
+  w2c_L92:
+    w2c_j0 = w2c_l23;
     w2c_j1 = w2c_l13;
     w2c_j0 += w2c_j1;
     w2c_l10 = w2c_j0;
     w2c_i0 = (u32)(w2c_j0);
-    w2c_j1 = w2c_l23;
+    w2c_j1 = w2c_l24;
     w2c_j2 = w2c_l13;
     w2c_j1 += w2c_j2;
-    w2c_l31 = w2c_j1;
+    w2c_l14 = w2c_j1;
     w2c_i1 = (u32)(w2c_j1);
     w2c_i1 = i32_load8_u(m, (u64)(w2c_i1));
     i32_store8(m, (u64)(w2c_i0), w2c_i1);
@@ -47652,7 +51736,7 @@ static u32 w2c_f80(module *m, u64 w2c_p0, u64 w2c_p1, u32 w2c_p2, u32 w2c_p3, u3
     w2c_j1 = 1ull;
     w2c_j0 += w2c_j1;
     w2c_i0 = (u32)(w2c_j0);
-    w2c_j1 = w2c_l31;
+    w2c_j1 = w2c_l14;
     w2c_j2 = 1ull;
     w2c_j1 += w2c_j2;
     w2c_i1 = (u32)(w2c_j1);
@@ -47662,7 +51746,7 @@ static u32 w2c_f80(module *m, u64 w2c_p0, u64 w2c_p1, u32 w2c_p2, u32 w2c_p3, u3
     w2c_j1 = 2ull;
     w2c_j0 += w2c_j1;
     w2c_i0 = (u32)(w2c_j0);
-    w2c_j1 = w2c_l31;
+    w2c_j1 = w2c_l14;
     w2c_j2 = 2ull;
     w2c_j1 += w2c_j2;
     w2c_i1 = (u32)(w2c_j1);
@@ -47672,26 +51756,26 @@ static u32 w2c_f80(module *m, u64 w2c_p0, u64 w2c_p1, u32 w2c_p2, u32 w2c_p3, u3
     w2c_j1 = 3ull;
     w2c_j0 += w2c_j1;
     w2c_i0 = (u32)(w2c_j0);
-    w2c_j1 = w2c_l31;
+    w2c_j1 = w2c_l14;
     w2c_j2 = 3ull;
     w2c_j1 += w2c_j2;
     w2c_i1 = (u32)(w2c_j1);
     w2c_i1 = i32_load8_u(m, (u64)(w2c_i1));
     i32_store8(m, (u64)(w2c_i0), w2c_i1);
-    w2c_j0 = w2c_l28;
+    w2c_j0 = w2c_l29;
     w2c_j1 = w2c_l13;
     w2c_j2 = 4ull;
     w2c_j1 += w2c_j2;
     w2c_l13 = w2c_j1;
     w2c_i0 = w2c_j0 != w2c_j1;
-    if (w2c_i0) {goto w2c_L78;}
-  w2c_j0 = w2c_l30;
+    if (w2c_i0) {goto w2c_L92;}
+  w2c_j0 = w2c_l31;
   w2c_i0 = !(w2c_j0);
-  if (w2c_i0) {goto w2c_B75;}
-  w2c_B77:;
+  if (w2c_i0) {goto w2c_B89;}
+  w2c_B91:;
   w2c_j0 = w2c_p6;
-  w2c_j1 = w2c_l14;
-  w2c_j2 = w2c_l16;
+  w2c_j1 = w2c_l15;
+  w2c_j2 = w2c_l17;
   w2c_j1 += w2c_j2;
   w2c_j2 = w2c_l13;
   w2c_j1 += w2c_j2;
@@ -47699,13 +51783,13 @@ static u32 w2c_f80(module *m, u64 w2c_p0, u64 w2c_p1, u32 w2c_p2, u32 w2c_p3, u3
   w2c_l10 = w2c_j0;
   w2c_j0 = w2c_p0;
   w2c_j1 = w2c_l11;
-  w2c_j2 = w2c_l17;
+  w2c_j2 = w2c_l18;
   w2c_j1 += w2c_j2;
   w2c_j2 = w2c_l13;
   w2c_j1 += w2c_j2;
   w2c_j0 += w2c_j1;
   w2c_l13 = w2c_j0;
-  w2c_L79:
+  w2c_L93:
     w2c_j0 = w2c_l10;
     w2c_i0 = (u32)(w2c_j0);
     w2c_j1 = w2c_l13;
@@ -47720,33 +51804,33 @@ static u32 w2c_f80(module *m, u64 w2c_p0, u64 w2c_p1, u32 w2c_p2, u32 w2c_p3, u3
     w2c_j1 = 1ull;
     w2c_j0 += w2c_j1;
     w2c_l13 = w2c_j0;
-    w2c_j0 = w2c_l30;
+    w2c_j0 = w2c_l31;
     w2c_j1 = 18446744073709551615ull;
     w2c_j0 += w2c_j1;
-    w2c_l30 = w2c_j0;
+    w2c_l31 = w2c_j0;
     w2c_j1 = 0ull;
     w2c_i0 = w2c_j0 != w2c_j1;
-    if (w2c_i0) {goto w2c_L79;}
-    goto w2c_B75;
+    if (w2c_i0) {goto w2c_L93;}
+    goto w2c_B89;
   UNREACHABLE;
-  w2c_B76:;
+  w2c_B90:;
   w2c_j0 = w2c_l10;
   w2c_i0 = !(w2c_j0);
-  if (w2c_i0) {goto w2c_B75;}
-  w2c_j0 = w2c_l22;
+  if (w2c_i0) {goto w2c_B89;}
+  w2c_j0 = w2c_l23;
   w2c_i0 = (u32)(w2c_j0);
-  w2c_j1 = w2c_l23;
+  w2c_j1 = w2c_l24;
   w2c_i1 = (u32)(w2c_j1);
   w2c_j2 = w2c_l10;
   w2c_i2 = (u32)(w2c_j2);
   memory_copy(m, w2c_i0, w2c_i1, w2c_i2);
-  w2c_B75:;
+  w2c_B89:;
   w2c_i0 = 0u;
   w2c_l33 = w2c_i0;
-  w2c_B73:;
+  w2c_B87:;
   w2c_j0 = w2c_p8;
   w2c_i0 = (u32)(w2c_j0);
-  w2c_j1 = w2c_l29;
+  w2c_j1 = w2c_l30;
   i64_store(m, (u64)(w2c_i0), w2c_j1);
   w2c_B1:;
   w2c_j0 = w2c_l9;
@@ -47777,14 +51861,14 @@ static u32 w2c_chinese_quantity_print(module *m, u64 w2c_p0, u32 w2c_p1, u32 w2c
   w2c_j4 = w2c_p4;
   w2c_j5 = w2c_p5;
   w2c_j6 = w2c_p6;
-  w2c_i0 = w2c_f82(m, w2c_j0, w2c_i1, w2c_i2, w2c_i3, w2c_j4, w2c_j5, w2c_j6);
+  w2c_i0 = w2c_f86(m, w2c_j0, w2c_i1, w2c_i2, w2c_i3, w2c_j4, w2c_j5, w2c_j6);
   w2c_p3 = w2c_i0;
   w2c_f1(m);
   w2c_i0 = w2c_p3;
   return w2c_i0;
 }
 
-static u32 w2c_f82(module *m, u64 w2c_p0, u32 w2c_p1, u32 w2c_p2, u32 w2c_p3, u64 w2c_p4, u64 w2c_p5, u64 w2c_p6) {
+static u32 w2c_f86(module *m, u64 w2c_p0, u32 w2c_p1, u32 w2c_p2, u32 w2c_p3, u64 w2c_p4, u64 w2c_p5, u64 w2c_p6) {
   u32 w2c_l27 = 0, w2c_l28 = 0, w2c_l29 = 0, w2c_l30 = 0, w2c_l31 = 0;
   u64 w2c_l7 = 0, w2c_l8 = 0, w2c_l9 = 0, w2c_l10 = 0, w2c_l11 = 0, w2c_l12 = 0, w2c_l13 = 0, w2c_l14 = 0, w2c_l15 = 0, w2c_l16 = 0, w2c_l17 = 0, w2c_l18 = 0, w2c_l19 = 0, w2c_l20 = 0, w2c_l21 = 0, w2c_l22 = 0, w2c_l23 = 0, w2c_l24 = 0, w2c_l25 = 0, w2c_l26 = 0;
   u32 w2c_i0, w2c_i1, w2c_i2, w2c_i3, w2c_i4, w2c_i5, w2c_i6;
@@ -48955,7 +53039,7 @@ static u32 w2c_f82(module *m, u64 w2c_p0, u32 w2c_p1, u32 w2c_p2, u32 w2c_p3, u6
   w2c_i4 = 0u;
   w2c_j5 = w2c_l14;
   w2c_j6 = w2c_l15;
-  w2c_j1 = w2c_f30(m, w2c_j1, w2c_j2, w2c_i3, w2c_i4, w2c_j5, w2c_j6);
+  w2c_j1 = w2c_f31(m, w2c_j1, w2c_j2, w2c_i3, w2c_i4, w2c_j5, w2c_j6);
   w2c_p0 = w2c_j1;
   w2c_j0 -= w2c_j1;
   w2c_l11 = w2c_j0;
@@ -49068,7 +53152,7 @@ static u32 w2c_f82(module *m, u64 w2c_p0, u32 w2c_p1, u32 w2c_p2, u32 w2c_p3, u6
   w2c_i3 = 0u;
   w2c_j4 = w2c_l7;
   w2c_j5 = w2c_l10;
-  w2c_j0 = w2c_f30(m, w2c_j0, w2c_j1, w2c_i2, w2c_i3, w2c_j4, w2c_j5);
+  w2c_j0 = w2c_f31(m, w2c_j0, w2c_j1, w2c_i2, w2c_i3, w2c_j4, w2c_j5);
   w2c_l10 = w2c_j0;
   w2c_j0 = w2c_l12;
   w2c_i0 = (u32)(w2c_j0);
@@ -49210,7 +53294,7 @@ static u32 w2c_f82(module *m, u64 w2c_p0, u32 w2c_p1, u32 w2c_p2, u32 w2c_p3, u6
   w2c_j3 = w2c_l11;
   w2c_j2 -= w2c_j3;
   w2c_l22 = w2c_j2;
-  w2c_f33(m, w2c_j0, w2c_j1, w2c_j2);
+  w2c_f34(m, w2c_j0, w2c_j1, w2c_j2);
   w2c_j0 = w2c_l8;
   w2c_i0 = (u32)(w2c_j0);
   w2c_i0 = i32_load8_u(m, (u64)(w2c_i0) + 992u);
@@ -49223,7 +53307,7 @@ static u32 w2c_f82(module *m, u64 w2c_p0, u32 w2c_p1, u32 w2c_p2, u32 w2c_p3, u6
   w2c_j1 = w2c_l8;
   w2c_i1 = (u32)(w2c_j1);
   w2c_i1 = i32_load(m, (u64)(w2c_i1) + 1000u);
-  w2c_f25(m, w2c_j0, w2c_i1);
+  w2c_f22(m, w2c_j0, w2c_i1);
   w2c_j0 = w2c_l8;
   w2c_i0 = (u32)(w2c_j0);
   w2c_i0 = i32_load8_u(m, (u64)(w2c_i0) + 40u);
@@ -49266,7 +53350,7 @@ static u32 w2c_f82(module *m, u64 w2c_p0, u32 w2c_p1, u32 w2c_p2, u32 w2c_p3, u6
     w2c_j0 += w2c_j1;
     w2c_j1 = w2c_l10;
     w2c_j2 = w2c_l11;
-    w2c_f33(m, w2c_j0, w2c_j1, w2c_j2);
+    w2c_f34(m, w2c_j0, w2c_j1, w2c_j2);
     w2c_j0 = w2c_l8;
     w2c_i0 = (u32)(w2c_j0);
     w2c_i0 = i32_load8_u(m, (u64)(w2c_i0) + 992u);
@@ -49293,7 +53377,7 @@ static u32 w2c_f82(module *m, u64 w2c_p0, u32 w2c_p1, u32 w2c_p2, u32 w2c_p3, u6
     w2c_j1 = w2c_l8;
     w2c_i1 = (u32)(w2c_j1);
     w2c_i1 = i32_load(m, (u64)(w2c_i1) + 1000u);
-    w2c_f25(m, w2c_j0, w2c_i1);
+    w2c_f22(m, w2c_j0, w2c_i1);
     w2c_j0 = w2c_l8;
     w2c_i0 = (u32)(w2c_j0);
     w2c_i0 = i32_load8_u(m, (u64)(w2c_i0) + 32u);
@@ -49435,7 +53519,7 @@ static u32 w2c_f82(module *m, u64 w2c_p0, u32 w2c_p1, u32 w2c_p2, u32 w2c_p3, u6
   w2c_i6 = 0u;
   w2c_j7 = w2c_p0;
   w2c_j8 = w2c_l7;
-  w2c_j3 = w2c_f30(m, w2c_j3, w2c_j4, w2c_i5, w2c_i6, w2c_j7, w2c_j8);
+  w2c_j3 = w2c_f31(m, w2c_j3, w2c_j4, w2c_i5, w2c_i6, w2c_j7, w2c_j8);
   w2c_l12 = w2c_j3;
   w2c_j2 -= w2c_j3;
   w2c_l7 = w2c_j2;
@@ -49658,18 +53742,18 @@ static u32 w2c_chinese_quantity_read(module *m, u64 w2c_p0, u64 w2c_p1, u32 w2c_
   w2c_j1 = w2c_p1;
   w2c_i2 = w2c_p2;
   w2c_j3 = w2c_p3;
-  w2c_i0 = w2c_f84(m, w2c_j0, w2c_j1, w2c_i2, w2c_j3);
+  w2c_i0 = w2c_f88(m, w2c_j0, w2c_j1, w2c_i2, w2c_j3);
   w2c_p2 = w2c_i0;
   w2c_f1(m);
   w2c_i0 = w2c_p2;
   return w2c_i0;
 }
 
-static u32 w2c_f84(module *m, u64 w2c_p0, u64 w2c_p1, u32 w2c_p2, u64 w2c_p3) {
-  u32 w2c_l7 = 0, w2c_l8 = 0;
-  u64 w2c_l4 = 0, w2c_l5 = 0, w2c_l6 = 0;
+static u32 w2c_f88(module *m, u64 w2c_p0, u64 w2c_p1, u32 w2c_p2, u64 w2c_p3) {
+  u32 w2c_l10 = 0;
+  u64 w2c_l4 = 0, w2c_l5 = 0, w2c_l6 = 0, w2c_l7 = 0, w2c_l8 = 0, w2c_l9 = 0;
   u32 w2c_i0, w2c_i1, w2c_i2, w2c_i3, w2c_i4, w2c_i5;
-  u64 w2c_j0, w2c_j1, w2c_j2, w2c_j3, w2c_j4, w2c_j5, w2c_j6;
+  u64 w2c_j0, w2c_j1, w2c_j2, w2c_j3, w2c_j4, w2c_j5;
   w2c_j0 = m->w2c_g0;
   w2c_j1 = 64ull;
   w2c_j0 -= w2c_j1;
@@ -49679,7 +53763,7 @@ static u32 w2c_f84(module *m, u64 w2c_p0, u64 w2c_p1, u32 w2c_p2, u64 w2c_p3) {
   w2c_l4 = w2c_j0;
   w2c_j1 = 16ull;
   w2c_i0 = (u64)((s64)w2c_j0 < (s64)w2c_j1);
-  if (w2c_i0) {goto w2c_B2;}
+  if (w2c_i0) {goto w2c_B4;}
   w2c_j0 = w2c_p3;
   w2c_i0 = (u32)(w2c_j0);
   w2c_j1 = 0ull;
@@ -49741,7 +53825,7 @@ static u32 w2c_f84(module *m, u64 w2c_p0, u64 w2c_p1, u32 w2c_p2, u64 w2c_p3) {
   w2c_j1 = 0ull;
   i64_store(m, (u64)(w2c_i0), w2c_j1);
   w2c_i0 = 8u;
-  w2c_l7 = w2c_i0;
+  w2c_l10 = w2c_i0;
   w2c_i0 = w2c_p2;
   w2c_i1 = 4u;
   w2c_i0 = w2c_i0 > w2c_i1;
@@ -49771,20 +53855,20 @@ static u32 w2c_f84(module *m, u64 w2c_p0, u64 w2c_p1, u32 w2c_p2, u64 w2c_p3) {
   w2c_j0 += w2c_j1;
   w2c_i0 = (u32)(w2c_j0);
   w2c_i0 = i32_load8_u(m, (u64)(w2c_i0));
-  w2c_l8 = w2c_i0;
+  w2c_l10 = w2c_i0;
   w2c_j0 = w2c_p1;
   w2c_p0 = w2c_j0;
   w2c_j0 = w2c_p1;
   w2c_j1 = 4ull;
   w2c_i0 = w2c_j0 < w2c_j1;
-  if (w2c_i0) {goto w2c_B5;}
+  if (w2c_i0) {goto w2c_B7;}
   w2c_j0 = w2c_l6;
   w2c_j1 = 18446744073709551612ull;
   w2c_j0 += w2c_j1;
   w2c_l5 = w2c_j0;
   w2c_j0 = w2c_p1;
   w2c_p0 = w2c_j0;
-  w2c_L6:
+  w2c_L8:
     w2c_j0 = w2c_l5;
     w2c_j1 = w2c_p0;
     w2c_j0 += w2c_j1;
@@ -49798,29 +53882,37 @@ static u32 w2c_f84(module *m, u64 w2c_p0, u64 w2c_p1, u32 w2c_p2, u64 w2c_p3) {
     w2c_i0 &= w2c_i1;
     w2c_i1 = 8421376u;
     w2c_i0 = w2c_i0 != w2c_i1;
-    if (w2c_i0) {goto w2c_B4;}
+    if (w2c_i0) {goto w2c_B6;}
     w2c_j0 = w2c_p0;
     w2c_j1 = 18446744073709551613ull;
     w2c_j0 += w2c_j1;
     w2c_p0 = w2c_j0;
     w2c_j1 = 3ull;
     w2c_i0 = w2c_j0 > w2c_j1;
-    if (w2c_i0) {goto w2c_L6;}
-  w2c_B5:;
+    if (w2c_i0) {goto w2c_L8;}
+  w2c_B7:;
   w2c_j0 = w2c_p0;
   w2c_j1 = 3ull;
   w2c_i0 = w2c_j0 > w2c_j1;
-  if (w2c_i0) {goto w2c_B4;}
+  if (w2c_i0) {goto w2c_B3;}
   w2c_j0 = w2c_p0;
   w2c_i0 = (u32)(w2c_j0);
   switch (w2c_i0) {
-    case 0: goto w2c_B3;
-    case 1: goto w2c_B4;
-    case 2: goto w2c_B4;
-    case 3: goto w2c_B7;
-    default: goto w2c_B3;
+    case 0: goto w2c_B1;
+    case 1: goto w2c_B3;
+    case 2: goto w2c_B3;
+    case 3: goto w2c_B5;
+    default: goto w2c_B1;
   }
-  w2c_B7:;
+  w2c_B6:;
+  w2c_j0 = w2c_p0;
+  w2c_j1 = 7ull;
+  w2c_i0 = w2c_j0 > w2c_j1;
+  if (w2c_i0) {goto w2c_B2;}
+  goto w2c_B3;
+  w2c_B5:;
+  w2c_j0 = 3ull;
+  w2c_p0 = w2c_j0;
   w2c_j0 = w2c_l6;
   w2c_i0 = (u32)(w2c_j0);
   w2c_i0 = i32_load16_u(m, (u64)(w2c_i0));
@@ -49837,25 +53929,50 @@ static u32 w2c_f84(module *m, u64 w2c_p0, u64 w2c_p1, u32 w2c_p2, u64 w2c_p3) {
   w2c_i1 = 12632312u;
   w2c_i0 &= w2c_i1;
   w2c_i1 = 8421376u;
-  w2c_i0 = w2c_i0 == w2c_i1;
+  w2c_i0 = w2c_i0 != w2c_i1;
   if (w2c_i0) {goto w2c_B3;}
+  goto w2c_B1;
   w2c_B4:;
-  w2c_i0 = 5u;
-  w2c_l7 = w2c_i0;
-  w2c_j0 = w2c_l6;
-  w2c_j1 = w2c_p1;
-  w2c_i0 = w2c_f12(m, w2c_j0, w2c_j1);
-  w2c_i0 = !(w2c_i0);
-  if (w2c_i0) {goto w2c_B0;}
+  UNREACHABLE;
   w2c_B3:;
+  w2c_j0 = 0ull;
+  w2c_l5 = w2c_j0;
+  w2c_L9:
+    w2c_j0 = w2c_p0;
+    w2c_j1 = w2c_l5;
+    w2c_i0 = w2c_j0 == w2c_j1;
+    if (w2c_i0) {goto w2c_B1;}
+    w2c_j0 = w2c_l6;
+    w2c_j1 = w2c_l5;
+    w2c_j0 += w2c_j1;
+    w2c_l7 = w2c_j0;
+    w2c_j0 = w2c_l5;
+    w2c_j1 = 1ull;
+    w2c_j0 += w2c_j1;
+    w2c_l5 = w2c_j0;
+    w2c_j0 = w2c_l7;
+    w2c_i0 = (u32)(w2c_j0);
+    w2c_i0 = i32_load8_s(m, (u64)(w2c_i0));
+    w2c_i1 = 4294967295u;
+    w2c_i0 = (u32)((s32)w2c_i0 > (s32)w2c_i1);
+    if (w2c_i0) {goto w2c_L9;}
+  w2c_B2:;
+  w2c_j0 = w2c_l6;
+  w2c_j1 = w2c_p0;
+  w2c_i0 = w2c_f12(m, w2c_j0, w2c_j1);
+  if (w2c_i0) {goto w2c_B1;}
+  w2c_i0 = 5u;
+  w2c_l10 = w2c_i0;
+  goto w2c_B0;
+  w2c_B1:;
   w2c_j0 = w2c_l4;
   w2c_j1 = w2c_l6;
   w2c_j2 = w2c_p1;
   w2c_i3 = 0u;
-  w2c_i4 = w2c_l8;
+  w2c_i4 = w2c_l10;
   w2c_i5 = w2c_p2;
   w2c_i3 = w2c_i5 ? w2c_i3 : w2c_i4;
-  w2c_f31(m, w2c_j0, w2c_j1, w2c_j2, w2c_i3);
+  w2c_f32(m, w2c_j0, w2c_j1, w2c_j2, w2c_i3);
   w2c_j0 = w2c_p3;
   w2c_i0 = (u32)(w2c_j0);
   w2c_j1 = 0ull;
@@ -49887,15 +54004,15 @@ static u32 w2c_f84(module *m, u64 w2c_p0, u64 w2c_p1, u32 w2c_p2, u64 w2c_p3) {
   w2c_j0 = w2c_l4;
   w2c_i0 = (u32)(w2c_j0);
   w2c_j0 = i64_load(m, (u64)(w2c_i0) + 16u);
-  w2c_p0 = w2c_j0;
+  w2c_l7 = w2c_j0;
   w2c_j0 = w2c_l4;
   w2c_i0 = (u32)(w2c_j0);
   w2c_i0 = i32_load8_u(m, (u64)(w2c_i0));
-  if (w2c_i0) {goto w2c_B1;}
+  if (w2c_i0) {goto w2c_B10;}
   w2c_j0 = w2c_l4;
   w2c_i0 = (u32)(w2c_j0);
   w2c_j0 = i64_load(m, (u64)(w2c_i0) + 40u);
-  w2c_p1 = w2c_j0;
+  w2c_l5 = w2c_j0;
   w2c_j0 = w2c_l4;
   w2c_i0 = (u32)(w2c_j0);
   w2c_j0 = i64_load(m, (u64)(w2c_i0) + 32u);
@@ -49903,7 +54020,7 @@ static u32 w2c_f84(module *m, u64 w2c_p0, u64 w2c_p1, u32 w2c_p2, u64 w2c_p3) {
   w2c_j0 = w2c_l4;
   w2c_i0 = (u32)(w2c_j0);
   w2c_j0 = i64_load(m, (u64)(w2c_i0) + 24u);
-  w2c_l5 = w2c_j0;
+  w2c_p0 = w2c_j0;
   w2c_j0 = w2c_p3;
   w2c_i0 = (u32)(w2c_j0);
   w2c_j1 = w2c_l4;
@@ -49916,23 +54033,23 @@ static u32 w2c_f84(module *m, u64 w2c_p0, u64 w2c_p1, u32 w2c_p2, u64 w2c_p3) {
   i64_store(m, (u64)(w2c_i0) + 16, w2c_j1);
   w2c_j0 = w2c_p3;
   w2c_i0 = (u32)(w2c_j0);
-  w2c_j1 = w2c_p1;
+  w2c_j1 = w2c_l5;
   i64_store(m, (u64)(w2c_i0) + 24, w2c_j1);
   w2c_j0 = w2c_p3;
   w2c_i0 = (u32)(w2c_j0);
   w2c_j1 = 0ull;
   w2c_j2 = 0ull;
-  w2c_j3 = w2c_p0;
+  w2c_j3 = w2c_l7;
   w2c_j2 -= w2c_j3;
-  w2c_j3 = w2c_p0;
-  w2c_j4 = w2c_l5;
+  w2c_j3 = w2c_l7;
+  w2c_j4 = w2c_p0;
   w2c_j5 = 0ull;
   w2c_i4 = (u64)((s64)w2c_j4 < (s64)w2c_j5);
   w2c_p2 = w2c_i4;
   w2c_j2 = w2c_i4 ? w2c_j2 : w2c_j3;
-  w2c_p1 = w2c_j2;
+  w2c_l5 = w2c_j2;
   w2c_j1 -= w2c_j2;
-  w2c_j2 = w2c_p1;
+  w2c_j2 = w2c_l5;
   w2c_i3 = w2c_p2;
   w2c_j1 = w2c_i3 ? w2c_j1 : w2c_j2;
   i64_store(m, (u64)(w2c_i0), w2c_j1);
@@ -49940,18 +54057,18 @@ static u32 w2c_f84(module *m, u64 w2c_p0, u64 w2c_p1, u32 w2c_p2, u64 w2c_p3) {
   w2c_i0 = (u32)(w2c_j0);
   w2c_j1 = 0ull;
   w2c_j2 = 0ull;
-  w2c_j3 = w2c_l5;
-  w2c_j4 = w2c_p0;
+  w2c_j3 = w2c_p0;
+  w2c_j4 = w2c_l7;
   w2c_j5 = 0ull;
   w2c_i4 = w2c_j4 != w2c_j5;
   w2c_j4 = (u64)(w2c_i4);
   w2c_j3 += w2c_j4;
   w2c_j2 -= w2c_j3;
-  w2c_j3 = w2c_l5;
+  w2c_j3 = w2c_p0;
   w2c_i4 = w2c_p2;
   w2c_j2 = w2c_i4 ? w2c_j2 : w2c_j3;
   w2c_p0 = w2c_j2;
-  w2c_j3 = w2c_p1;
+  w2c_j3 = w2c_l5;
   w2c_j4 = 0ull;
   w2c_i3 = w2c_j3 != w2c_j4;
   w2c_j3 = (u64)(w2c_i3);
@@ -49962,875 +54079,168 @@ static u32 w2c_f84(module *m, u64 w2c_p0, u64 w2c_p1, u32 w2c_p2, u64 w2c_p3) {
   w2c_j1 = w2c_i3 ? w2c_j1 : w2c_j2;
   i64_store(m, (u64)(w2c_i0) + 8, w2c_j1);
   w2c_i0 = 0u;
-  w2c_l7 = w2c_i0;
+  w2c_l10 = w2c_i0;
   goto w2c_B0;
-  w2c_B2:;
-  UNREACHABLE;
-  w2c_B1:;
-  w2c_j0 = w2c_l6;
-  w2c_j1 = w2c_p1;
-  w2c_j2 = w2c_l4;
-  w2c_i2 = (u32)(w2c_j2);
-  w2c_i2 = i32_load8_u(m, (u64)(w2c_i2) + 8u);
-  w2c_j3 = w2c_p0;
-  w2c_j4 = w2c_p3;
-  w2c_j5 = 40ull;
-  w2c_j4 += w2c_j5;
-  w2c_j5 = w2c_p3;
-  w2c_j6 = 48ull;
-  w2c_j5 += w2c_j6;
-  w2c_i0 = w2c_f46(m, w2c_j0, w2c_j1, w2c_i2, w2c_j3, w2c_j4, w2c_j5);
-  w2c_l7 = w2c_i0;
+  w2c_B10:;
+  w2c_j0 = w2c_l4;
+  w2c_i0 = (u32)(w2c_j0);
+  w2c_i0 = i32_load8_u(m, (u64)(w2c_i0) + 8u);
+  w2c_p2 = w2c_i0;
+  w2c_j0 = w2c_p3;
+  w2c_j1 = 40ull;
+  w2c_j0 += w2c_j1;
+  w2c_p0 = w2c_j0;
+  w2c_i0 = (u32)(w2c_j0);
+  w2c_j1 = 0ull;
+  i64_store(m, (u64)(w2c_i0) + 8, w2c_j1);
+  w2c_j0 = w2c_p0;
+  w2c_i0 = (u32)(w2c_j0);
+  w2c_j1 = 0ull;
+  i64_store(m, (u64)(w2c_i0), w2c_j1);
+  w2c_i0 = 1u;
+  w2c_l10 = w2c_i0;
+  w2c_i0 = w2c_p2;
+  switch (w2c_i0) {
+    case 0: goto w2c_B0;
+    case 1: goto w2c_B13;
+    case 2: goto w2c_B11;
+    case 3: goto w2c_B12;
+    default: goto w2c_B0;
+  }
+  w2c_B13:;
+  w2c_j0 = w2c_p0;
+  w2c_i0 = (u32)(w2c_j0);
+  w2c_j1 = w2c_l7;
+  i64_store(m, (u64)(w2c_i0), w2c_j1);
+  w2c_j0 = 0ull;
+  w2c_p0 = w2c_j0;
+  w2c_j0 = w2c_p1;
+  w2c_j1 = 8ull;
+  w2c_i0 = w2c_j0 >= w2c_j1;
+  if (w2c_i0) {goto w2c_B15;}
+  w2c_j0 = 0ull;
+  w2c_l8 = w2c_j0;
+  goto w2c_B14;
+  w2c_B15:;
+  w2c_j0 = 0ull;
+  w2c_l8 = w2c_j0;
+  w2c_j0 = w2c_l7;
+  w2c_j1 = 3ull;
+  w2c_i0 = w2c_j0 < w2c_j1;
+  if (w2c_i0) {goto w2c_B14;}
+  w2c_j0 = w2c_p1;
+  w2c_j1 = 18446744073709551607ull;
+  w2c_j0 += w2c_j1;
+  w2c_l9 = w2c_j0;
+  w2c_j0 = w2c_l7;
+  w2c_j1 = 18446744073709551613ull;
+  w2c_j0 += w2c_j1;
+  w2c_l5 = w2c_j0;
+  w2c_j0 = 0ull;
+  w2c_l8 = w2c_j0;
+  w2c_j0 = 0ull;
+  w2c_p0 = w2c_j0;
+  w2c_L16:
+    w2c_j0 = w2c_l6;
+    w2c_j1 = w2c_p0;
+    w2c_j0 += w2c_j1;
+    w2c_i0 = (u32)(w2c_j0);
+    w2c_j0 = i64_load(m, (u64)(w2c_i0));
+    w2c_j1 = 67553998437089520ull;
+    w2c_j0 &= w2c_j1;
+    w2c_j1 = 63050398541283552ull;
+    w2c_i0 = w2c_j0 != w2c_j1;
+    if (w2c_i0) {goto w2c_B14;}
+    w2c_j0 = w2c_l8;
+    w2c_j1 = 3ull;
+    w2c_j0 += w2c_j1;
+    w2c_l8 = w2c_j0;
+    w2c_j0 = w2c_p0;
+    w2c_j1 = 9ull;
+    w2c_j0 += w2c_j1;
+    w2c_p0 = w2c_j0;
+    w2c_j0 = w2c_l5;
+    w2c_j1 = 3ull;
+    w2c_i0 = w2c_j0 < w2c_j1;
+    if (w2c_i0) {goto w2c_B14;}
+    w2c_j0 = w2c_l5;
+    w2c_j1 = 18446744073709551613ull;
+    w2c_j0 += w2c_j1;
+    w2c_l5 = w2c_j0;
+    w2c_j0 = w2c_l9;
+    w2c_j1 = 7ull;
+    w2c_i0 = w2c_j0 > w2c_j1;
+    w2c_p2 = w2c_i0;
+    w2c_j0 = w2c_l9;
+    w2c_j1 = 18446744073709551607ull;
+    w2c_j0 += w2c_j1;
+    w2c_l9 = w2c_j0;
+    w2c_i0 = w2c_p2;
+    if (w2c_i0) {goto w2c_L16;}
+  w2c_B14:;
+  w2c_j0 = w2c_p1;
+  w2c_j1 = w2c_p0;
+  w2c_i0 = w2c_j0 <= w2c_j1;
+  if (w2c_i0) {goto w2c_B17;}
+  w2c_j0 = w2c_l8;
+  w2c_j1 = w2c_l7;
+  w2c_i0 = w2c_j0 >= w2c_j1;
+  if (w2c_i0) {goto w2c_B17;}
+  w2c_j0 = w2c_l8;
+  w2c_j1 = 1ull;
+  w2c_j0 += w2c_j1;
+  w2c_l5 = w2c_j0;
+  w2c_L18:
+    w2c_j0 = w2c_l6;
+    w2c_j1 = w2c_p0;
+    w2c_j0 += w2c_j1;
+    w2c_i0 = (u32)(w2c_j0);
+    w2c_i0 = i32_load8_u(m, (u64)(w2c_i0));
+    w2c_i1 = 1u;
+    w2c_i0 >>= (w2c_i1 & 31);
+    w2c_j0 = (u64)(w2c_i0);
+    w2c_j1 = 120ull;
+    w2c_j0 &= w2c_j1;
+    w2c_j1 = 66848ull;
+    w2c_j0 += w2c_j1;
+    w2c_i0 = (u32)(w2c_j0);
+    w2c_j0 = i64_load(m, (u64)(w2c_i0));
+    w2c_j1 = w2c_p0;
+    w2c_j0 += w2c_j1;
+    w2c_p0 = w2c_j0;
+    w2c_j0 = w2c_l5;
+    w2c_j1 = w2c_l7;
+    w2c_i0 = w2c_j0 >= w2c_j1;
+    if (w2c_i0) {goto w2c_B17;}
+    w2c_j0 = w2c_l5;
+    w2c_j1 = 1ull;
+    w2c_j0 += w2c_j1;
+    w2c_l5 = w2c_j0;
+    w2c_j0 = w2c_p1;
+    w2c_j1 = w2c_p0;
+    w2c_i0 = w2c_j0 > w2c_j1;
+    if (w2c_i0) {goto w2c_L18;}
+  w2c_B17:;
+  w2c_j0 = w2c_p3;
+  w2c_i0 = (u32)(w2c_j0);
+  w2c_j1 = w2c_p0;
+  i64_store(m, (u64)(w2c_i0) + 48, w2c_j1);
+  w2c_i0 = 2u;
+  w2c_l10 = w2c_i0;
+  goto w2c_B0;
+  w2c_B12:;
+  w2c_i0 = 4u;
+  w2c_l10 = w2c_i0;
+  goto w2c_B0;
+  w2c_B11:;
+  w2c_i0 = 3u;
+  w2c_l10 = w2c_i0;
   w2c_B0:;
   w2c_j0 = w2c_l4;
   w2c_j1 = 64ull;
   w2c_j0 += w2c_j1;
   m->w2c_g0 = w2c_j0;
-  w2c_i0 = w2c_l7;
-  return w2c_i0;
-}
-
-static u32 w2c_chinese_number_read(module *m, u64 w2c_p0, u64 w2c_p1, u32 w2c_p2, u32 w2c_p3, u64 w2c_p4) {
-  u32 w2c_i0, w2c_i2, w2c_i3;
-  u64 w2c_j0, w2c_j1, w2c_j4;
-  w2c_i0 = w2c_f0(m);
-  w2c_i0 = !(w2c_i0);
-  if (w2c_i0) {goto w2c_B0;}
-  w2c_f2(m);
-  UNREACHABLE;
-  w2c_B0:;
-  w2c_j0 = w2c_p0;
-  w2c_j1 = w2c_p1;
-  w2c_i2 = w2c_p2;
-  w2c_i3 = w2c_p3;
-  w2c_j4 = w2c_p4;
-  w2c_i0 = w2c_f86(m, w2c_j0, w2c_j1, w2c_i2, w2c_i3, w2c_j4);
-  w2c_p3 = w2c_i0;
-  w2c_f1(m);
-  w2c_i0 = w2c_p3;
-  return w2c_i0;
-}
-
-static u32 w2c_f86(module *m, u64 w2c_p0, u64 w2c_p1, u32 w2c_p2, u32 w2c_p3, u64 w2c_p4) {
-  u32 w2c_l12 = 0, w2c_l13 = 0, w2c_l14 = 0, w2c_l15 = 0;
-  u64 w2c_l5 = 0, w2c_l6 = 0, w2c_l7 = 0, w2c_l8 = 0, w2c_l9 = 0, w2c_l10 = 0, w2c_l11 = 0;
-  u32 w2c_i0, w2c_i1, w2c_i2, w2c_i3, w2c_i4;
-  u64 w2c_j0, w2c_j1, w2c_j2, w2c_j3, w2c_j4, w2c_j5;
-  w2c_j0 = m->w2c_g0;
-  w2c_j1 = 96ull;
-  w2c_j0 -= w2c_j1;
-  w2c_l5 = w2c_j0;
-  m->w2c_g0 = w2c_j0;
-  w2c_j0 = w2c_l5;
-  w2c_l6 = w2c_j0;
-  w2c_j1 = 16ull;
-  w2c_i0 = (u64)((s64)w2c_j0 < (s64)w2c_j1);
-  if (w2c_i0) {goto w2c_B13;}
-  w2c_j0 = w2c_p4;
-  w2c_i0 = (u32)(w2c_j0);
-  w2c_j1 = 0ull;
-  i64_store(m, (u64)(w2c_i0) + 24, w2c_j1);
-  w2c_j0 = w2c_p4;
-  w2c_i0 = (u32)(w2c_j0);
-  w2c_j1 = 0ull;
-  i64_store(m, (u64)(w2c_i0) + 16, w2c_j1);
-  w2c_j0 = w2c_p4;
-  w2c_i0 = (u32)(w2c_j0);
-  w2c_j1 = 0ull;
-  i64_store(m, (u64)(w2c_i0) + 8, w2c_j1);
-  w2c_j0 = w2c_p4;
-  w2c_i0 = (u32)(w2c_j0);
-  w2c_j1 = 0ull;
-  i64_store(m, (u64)(w2c_i0), w2c_j1);
-  w2c_i0 = 8u;
-  w2c_l12 = w2c_i0;
-  w2c_i0 = w2c_p2;
-  w2c_i1 = 9u;
-  w2c_i0 = w2c_i0 > w2c_i1;
-  if (w2c_i0) {goto w2c_B0;}
-  w2c_i0 = w2c_p2;
-  w2c_j0 = (u64)(w2c_i0);
-  w2c_j1 = 68016ull;
-  w2c_j0 += w2c_j1;
-  w2c_i0 = (u32)(w2c_j0);
-  w2c_i0 = i32_load8_u(m, (u64)(w2c_i0));
-  w2c_l13 = w2c_i0;
-  w2c_i0 = w2c_p3;
-  w2c_i1 = 4u;
-  w2c_i0 = w2c_i0 > w2c_i1;
-  if (w2c_i0) {goto w2c_B15;}
-  w2c_i0 = w2c_p3;
-  w2c_j0 = (u64)(w2c_i0);
-  w2c_j1 = 1ull;
-  w2c_j0 <<= (w2c_j1 & 63);
-  w2c_l5 = w2c_j0;
-  w2c_j1 = 68027ull;
-  w2c_j0 += w2c_j1;
-  w2c_i0 = (u32)(w2c_j0);
-  w2c_i0 = i32_load8_u(m, (u64)(w2c_i0));
-  w2c_l14 = w2c_i0;
-  w2c_j0 = w2c_l5;
-  w2c_j1 = 68026ull;
-  w2c_j0 += w2c_j1;
-  w2c_i0 = (u32)(w2c_j0);
-  w2c_i0 = i32_load8_u(m, (u64)(w2c_i0));
-  w2c_l15 = w2c_i0;
-  goto w2c_B14;
-  w2c_B15:;
-  w2c_i0 = 0u;
-  w2c_l14 = w2c_i0;
-  w2c_i0 = 0u;
-  w2c_l15 = w2c_i0;
-  w2c_i0 = w2c_p3;
-  w2c_i1 = 5u;
-  w2c_i0 = w2c_i0 != w2c_i1;
-  if (w2c_i0) {goto w2c_B0;}
-  w2c_B14:;
-  w2c_j0 = w2c_p0;
-  w2c_j1 = 4096ull;
-  w2c_j2 = 0ull;
-  w2c_j3 = w2c_p0;
-  w2c_i3 = !(w2c_j3);
-  w2c_j1 = w2c_i3 ? w2c_j1 : w2c_j2;
-  w2c_j0 += w2c_j1;
-  w2c_l7 = w2c_j0;
-  w2c_j0 = w2c_p1;
-  w2c_l5 = w2c_j0;
-  w2c_j0 = w2c_p1;
-  w2c_j1 = 4ull;
-  w2c_i0 = w2c_j0 < w2c_j1;
-  if (w2c_i0) {goto w2c_B18;}
-  w2c_j0 = w2c_l7;
-  w2c_j1 = 18446744073709551612ull;
-  w2c_j0 += w2c_j1;
-  w2c_p0 = w2c_j0;
-  w2c_j0 = w2c_p1;
-  w2c_l5 = w2c_j0;
-  w2c_L19:
-    w2c_j0 = w2c_p0;
-    w2c_j1 = w2c_l5;
-    w2c_j0 += w2c_j1;
-    w2c_i0 = (u32)(w2c_j0);
-    w2c_i0 = i32_load(m, (u64)(w2c_i0));
-    w2c_i1 = 8u;
-    w2c_i0 >>= (w2c_i1 & 31);
-    w2c_i1 = 16776989u;
-    w2c_i0 += w2c_i1;
-    w2c_i1 = 12632312u;
-    w2c_i0 &= w2c_i1;
-    w2c_i1 = 8421376u;
-    w2c_i0 = w2c_i0 != w2c_i1;
-    if (w2c_i0) {goto w2c_B17;}
-    w2c_j0 = w2c_l5;
-    w2c_j1 = 18446744073709551613ull;
-    w2c_j0 += w2c_j1;
-    w2c_l5 = w2c_j0;
-    w2c_j1 = 3ull;
-    w2c_i0 = w2c_j0 > w2c_j1;
-    if (w2c_i0) {goto w2c_L19;}
-  w2c_B18:;
-  w2c_j0 = w2c_l5;
-  w2c_j1 = 3ull;
-  w2c_i0 = w2c_j0 > w2c_j1;
-  if (w2c_i0) {goto w2c_B17;}
-  w2c_j0 = w2c_l5;
-  w2c_i0 = (u32)(w2c_j0);
-  switch (w2c_i0) {
-    case 0: goto w2c_B16;
-    case 1: goto w2c_B17;
-    case 2: goto w2c_B17;
-    case 3: goto w2c_B20;
-    default: goto w2c_B16;
-  }
-  w2c_B20:;
-  w2c_j0 = w2c_l7;
-  w2c_i0 = (u32)(w2c_j0);
-  w2c_i0 = i32_load16_u(m, (u64)(w2c_i0));
-  w2c_j1 = w2c_l7;
-  w2c_j2 = 2ull;
-  w2c_j1 += w2c_j2;
-  w2c_i1 = (u32)(w2c_j1);
-  w2c_i1 = i32_load8_u(m, (u64)(w2c_i1));
-  w2c_i2 = 16u;
-  w2c_i1 <<= (w2c_i2 & 31);
-  w2c_i0 |= w2c_i1;
-  w2c_i1 = 16776989u;
-  w2c_i0 += w2c_i1;
-  w2c_i1 = 12632312u;
-  w2c_i0 &= w2c_i1;
-  w2c_i1 = 8421376u;
-  w2c_i0 = w2c_i0 == w2c_i1;
-  if (w2c_i0) {goto w2c_B16;}
-  w2c_B17:;
-  w2c_i0 = 5u;
-  w2c_l12 = w2c_i0;
-  w2c_j0 = w2c_l7;
-  w2c_j1 = w2c_p1;
-  w2c_i0 = w2c_f12(m, w2c_j0, w2c_j1);
-  w2c_i0 = !(w2c_i0);
-  if (w2c_i0) {goto w2c_B0;}
-  w2c_B16:;
-  w2c_i0 = w2c_l13;
-  w2c_j0 = (u64)(w2c_i0);
-  w2c_l5 = w2c_j0;
-  w2c_i0 = w2c_p3;
-  w2c_i1 = 4u;
-  w2c_i0 = w2c_i0 <= w2c_i1;
-  if (w2c_i0) {goto w2c_B21;}
-  w2c_j0 = w2c_l6;
-  w2c_j1 = 8ull;
-  w2c_j0 += w2c_j1;
-  w2c_i1 = w2c_l13;
-  w2c_j2 = w2c_l7;
-  w2c_j3 = w2c_p1;
-  w2c_f47(m, w2c_j0, w2c_i1, w2c_j2, w2c_j3);
-  w2c_j0 = w2c_l6;
-  w2c_i0 = (u32)(w2c_j0);
-  w2c_i0 = i32_load8_u(m, (u64)(w2c_i0) + 9u);
-  w2c_l14 = w2c_i0;
-  w2c_j0 = w2c_l6;
-  w2c_i0 = (u32)(w2c_j0);
-  w2c_i0 = i32_load8_u(m, (u64)(w2c_i0) + 8u);
-  w2c_l15 = w2c_i0;
-  w2c_B21:;
-  w2c_j0 = w2c_p4;
-  w2c_j1 = 24ull;
-  w2c_j0 += w2c_j1;
-  w2c_l8 = w2c_j0;
-  w2c_j0 = w2c_p4;
-  w2c_j1 = 16ull;
-  w2c_j0 += w2c_j1;
-  w2c_l9 = w2c_j0;
-  w2c_j0 = w2c_l5;
-  w2c_j1 = 255ull;
-  w2c_j0 &= w2c_j1;
-  w2c_l10 = w2c_j0;
-  w2c_i0 = w2c_p2;
-  w2c_i1 = 5u;
-  w2c_i0 = w2c_i0 < w2c_i1;
-  if (w2c_i0) {goto w2c_B22;}
-  w2c_i0 = w2c_l15;
-  w2c_i1 = 255u;
-  w2c_i0 &= w2c_i1;
-  if (w2c_i0) {goto w2c_B23;}
-  w2c_j0 = w2c_l6;
-  w2c_i0 = (u32)(w2c_j0);
-  w2c_j1 = 0ull;
-  i64_store(m, (u64)(w2c_i0) + 40, w2c_j1);
-  w2c_j0 = w2c_l6;
-  w2c_i0 = (u32)(w2c_j0);
-  w2c_j1 = 0ull;
-  i64_store(m, (u64)(w2c_i0) + 32, w2c_j1);
-  w2c_j0 = w2c_l6;
-  w2c_i0 = (u32)(w2c_j0);
-  w2c_j1 = 0ull;
-  i64_store(m, (u64)(w2c_i0) + 24, w2c_j1);
-  w2c_j0 = w2c_l6;
-  w2c_i0 = (u32)(w2c_j0);
-  w2c_j1 = 0ull;
-  i64_store(m, (u64)(w2c_i0) + 16, w2c_j1);
-  w2c_j0 = w2c_l6;
-  w2c_i0 = (u32)(w2c_j0);
-  w2c_j1 = 0ull;
-  i64_store(m, (u64)(w2c_i0) + 80, w2c_j1);
-  w2c_j0 = w2c_l6;
-  w2c_i0 = (u32)(w2c_j0);
-  w2c_j1 = 0ull;
-  i64_store(m, (u64)(w2c_i0) + 72, w2c_j1);
-  w2c_j0 = w2c_l6;
-  w2c_i0 = (u32)(w2c_j0);
-  w2c_j1 = 0ull;
-  i64_store(m, (u64)(w2c_i0) + 64, w2c_j1);
-  w2c_j0 = w2c_l6;
-  w2c_i0 = (u32)(w2c_j0);
-  w2c_j1 = 0ull;
-  i64_store(m, (u64)(w2c_i0) + 56, w2c_j1);
-  w2c_j0 = w2c_l6;
-  w2c_i0 = (u32)(w2c_j0);
-  w2c_j1 = 0ull;
-  i64_store(m, (u64)(w2c_i0) + 48, w2c_j1);
-  w2c_j0 = w2c_l6;
-  w2c_j1 = 48ull;
-  w2c_j0 += w2c_j1;
-  w2c_j1 = w2c_l7;
-  w2c_j2 = w2c_p1;
-  w2c_f32(m, w2c_j0, w2c_j1, w2c_j2);
-  w2c_j0 = w2c_l6;
-  w2c_i0 = (u32)(w2c_j0);
-  w2c_i0 = i32_load8_u(m, (u64)(w2c_i0) + 48u);
-  w2c_i1 = 1u;
-  w2c_i0 = w2c_i0 != w2c_i1;
-  if (w2c_i0) {goto w2c_B26;}
-  w2c_j0 = w2c_l6;
-  w2c_i0 = (u32)(w2c_j0);
-  w2c_j0 = i64_load(m, (u64)(w2c_i0) + 80u);
-  w2c_l5 = w2c_j0;
-  w2c_j0 = w2c_l6;
-  w2c_i0 = (u32)(w2c_j0);
-  w2c_j0 = i64_load(m, (u64)(w2c_i0) + 72u);
-  w2c_p0 = w2c_j0;
-  w2c_j0 = w2c_l6;
-  w2c_i0 = (u32)(w2c_j0);
-  w2c_j0 = i64_load(m, (u64)(w2c_i0) + 64u);
-  w2c_l11 = w2c_j0;
-  w2c_j0 = w2c_l6;
-  w2c_i0 = (u32)(w2c_j0);
-  w2c_i0 = i32_load(m, (u64)(w2c_i0) + 56u);
-  w2c_p2 = w2c_i0;
-  w2c_i1 = 27491u;
-  w2c_i0 = w2c_i0 == w2c_i1;
-  if (w2c_i0) {goto w2c_B25;}
-  w2c_i0 = w2c_p2;
-  w2c_i1 = 36000u;
-  w2c_i0 = w2c_i0 == w2c_i1;
-  if (w2c_i0) {goto w2c_B24;}
-  w2c_i0 = w2c_p2;
-  w2c_i1 = 36127u;
-  w2c_i0 = w2c_i0 == w2c_i1;
-  if (w2c_i0) {goto w2c_B24;}
-  w2c_B26:;
-  w2c_j0 = w2c_l6;
-  w2c_j1 = 16ull;
-  w2c_j0 += w2c_j1;
-  w2c_j1 = 0ull;
-  w2c_j2 = w2c_l7;
-  w2c_j3 = w2c_p1;
-  w2c_f43(m, w2c_j0, w2c_j1, w2c_j2, w2c_j3);
-  goto w2c_B8;
-  w2c_B25:;
-  w2c_j0 = w2c_l6;
-  w2c_j1 = 16ull;
-  w2c_j0 += w2c_j1;
-  w2c_j1 = w2c_l11;
-  w2c_j2 = 1ull;
-  w2c_j1 += w2c_j2;
-  w2c_j2 = w2c_p0;
-  w2c_j3 = w2c_l5;
-  w2c_f43(m, w2c_j0, w2c_j1, w2c_j2, w2c_j3);
-  goto w2c_B8;
-  w2c_B24:;
-  w2c_j0 = w2c_l6;
-  w2c_j1 = 16ull;
-  w2c_j0 += w2c_j1;
-  w2c_j1 = w2c_l11;
-  w2c_j2 = 1ull;
-  w2c_j1 += w2c_j2;
-  w2c_j2 = w2c_p0;
-  w2c_j3 = w2c_l5;
-  w2c_f43(m, w2c_j0, w2c_j1, w2c_j2, w2c_j3);
-  w2c_i0 = 3u;
-  w2c_p2 = w2c_i0;
-  w2c_i0 = 1u;
-  w2c_l12 = w2c_i0;
-  goto w2c_B7;
-  w2c_B23:;
-  w2c_j0 = w2c_l6;
-  w2c_i0 = (u32)(w2c_j0);
-  w2c_j1 = 0ull;
-  i64_store(m, (u64)(w2c_i0) + 40, w2c_j1);
-  w2c_j0 = w2c_l6;
-  w2c_i0 = (u32)(w2c_j0);
-  w2c_j1 = 0ull;
-  i64_store(m, (u64)(w2c_i0) + 32, w2c_j1);
-  w2c_j0 = w2c_l6;
-  w2c_i0 = (u32)(w2c_j0);
-  w2c_j1 = 0ull;
-  i64_store(m, (u64)(w2c_i0) + 24, w2c_j1);
-  w2c_j0 = w2c_l6;
-  w2c_i0 = (u32)(w2c_j0);
-  w2c_j1 = 0ull;
-  i64_store(m, (u64)(w2c_i0) + 16, w2c_j1);
-  w2c_j0 = w2c_l6;
-  w2c_i0 = (u32)(w2c_j0);
-  w2c_j1 = 0ull;
-  i64_store(m, (u64)(w2c_i0) + 80, w2c_j1);
-  w2c_j0 = w2c_l6;
-  w2c_i0 = (u32)(w2c_j0);
-  w2c_j1 = 0ull;
-  i64_store(m, (u64)(w2c_i0) + 72, w2c_j1);
-  w2c_j0 = w2c_l6;
-  w2c_i0 = (u32)(w2c_j0);
-  w2c_j1 = 0ull;
-  i64_store(m, (u64)(w2c_i0) + 64, w2c_j1);
-  w2c_j0 = w2c_l6;
-  w2c_i0 = (u32)(w2c_j0);
-  w2c_j1 = 0ull;
-  i64_store(m, (u64)(w2c_i0) + 56, w2c_j1);
-  w2c_j0 = w2c_l6;
-  w2c_i0 = (u32)(w2c_j0);
-  w2c_j1 = 0ull;
-  i64_store(m, (u64)(w2c_i0) + 48, w2c_j1);
-  w2c_j0 = w2c_l6;
-  w2c_j1 = 48ull;
-  w2c_j0 += w2c_j1;
-  w2c_j1 = w2c_l7;
-  w2c_j2 = w2c_p1;
-  w2c_f32(m, w2c_j0, w2c_j1, w2c_j2);
-  w2c_j0 = w2c_l6;
-  w2c_i0 = (u32)(w2c_j0);
-  w2c_i0 = i32_load8_u(m, (u64)(w2c_i0) + 48u);
-  w2c_i1 = 1u;
-  w2c_i0 = w2c_i0 != w2c_i1;
-  if (w2c_i0) {goto w2c_B29;}
-  w2c_j0 = w2c_l6;
-  w2c_i0 = (u32)(w2c_j0);
-  w2c_j0 = i64_load(m, (u64)(w2c_i0) + 80u);
-  w2c_l5 = w2c_j0;
-  w2c_j0 = w2c_l6;
-  w2c_i0 = (u32)(w2c_j0);
-  w2c_j0 = i64_load(m, (u64)(w2c_i0) + 72u);
-  w2c_p0 = w2c_j0;
-  w2c_j0 = w2c_l6;
-  w2c_i0 = (u32)(w2c_j0);
-  w2c_j0 = i64_load(m, (u64)(w2c_i0) + 64u);
-  w2c_l11 = w2c_j0;
-  w2c_j0 = w2c_l6;
-  w2c_i0 = (u32)(w2c_j0);
-  w2c_i0 = i32_load(m, (u64)(w2c_i0) + 56u);
-  w2c_p2 = w2c_i0;
-  w2c_i1 = 27491u;
-  w2c_i0 = w2c_i0 == w2c_i1;
-  if (w2c_i0) {goto w2c_B28;}
-  w2c_i0 = w2c_p2;
-  w2c_i1 = 36000u;
-  w2c_i0 = w2c_i0 == w2c_i1;
-  if (w2c_i0) {goto w2c_B27;}
-  w2c_i0 = w2c_p2;
-  w2c_i1 = 36127u;
-  w2c_i0 = w2c_i0 == w2c_i1;
-  if (w2c_i0) {goto w2c_B27;}
-  w2c_B29:;
-  w2c_j0 = w2c_l6;
-  w2c_j1 = 16ull;
-  w2c_j0 += w2c_j1;
-  w2c_i1 = w2c_l14;
-  w2c_j2 = 0ull;
-  w2c_j3 = w2c_l7;
-  w2c_j4 = w2c_p1;
-  w2c_f48(m, w2c_j0, w2c_i1, w2c_j2, w2c_j3, w2c_j4);
-  goto w2c_B10;
-  w2c_B28:;
-  w2c_j0 = w2c_l6;
-  w2c_j1 = 16ull;
-  w2c_j0 += w2c_j1;
-  w2c_i1 = w2c_l14;
-  w2c_j2 = w2c_l11;
-  w2c_j3 = 1ull;
-  w2c_j2 += w2c_j3;
-  w2c_j3 = w2c_p0;
-  w2c_j4 = w2c_l5;
-  w2c_f48(m, w2c_j0, w2c_i1, w2c_j2, w2c_j3, w2c_j4);
-  goto w2c_B10;
-  w2c_B27:;
-  w2c_j0 = w2c_l6;
-  w2c_j1 = 16ull;
-  w2c_j0 += w2c_j1;
-  w2c_i1 = w2c_l14;
-  w2c_j2 = w2c_l11;
-  w2c_j3 = 1ull;
-  w2c_j2 += w2c_j3;
-  w2c_j3 = w2c_p0;
-  w2c_j4 = w2c_l5;
-  w2c_f48(m, w2c_j0, w2c_i1, w2c_j2, w2c_j3, w2c_j4);
-  w2c_i0 = 3u;
-  w2c_p2 = w2c_i0;
-  w2c_i0 = 1u;
-  w2c_l12 = w2c_i0;
-  goto w2c_B9;
-  w2c_B22:;
-  w2c_i0 = w2c_l15;
-  w2c_i1 = 255u;
-  w2c_i0 &= w2c_i1;
-  if (w2c_i0) {goto w2c_B33;}
-  w2c_j0 = 0ull;
-  w2c_p0 = w2c_j0;
-  w2c_j0 = w2c_l6;
-  w2c_i0 = (u32)(w2c_j0);
-  w2c_j1 = 0ull;
-  i64_store(m, (u64)(w2c_i0) + 72, w2c_j1);
-  w2c_j0 = w2c_l6;
-  w2c_i0 = (u32)(w2c_j0);
-  w2c_j1 = 0ull;
-  i64_store(m, (u64)(w2c_i0) + 64, w2c_j1);
-  w2c_j0 = w2c_l6;
-  w2c_i0 = (u32)(w2c_j0);
-  w2c_j1 = 0ull;
-  i64_store(m, (u64)(w2c_i0) + 56, w2c_j1);
-  w2c_j0 = w2c_l6;
-  w2c_i0 = (u32)(w2c_j0);
-  w2c_j1 = 0ull;
-  i64_store(m, (u64)(w2c_i0) + 48, w2c_j1);
-  w2c_j0 = w2c_l6;
-  w2c_j1 = 48ull;
-  w2c_j0 += w2c_j1;
-  w2c_j1 = 0ull;
-  w2c_j2 = w2c_l7;
-  w2c_j3 = w2c_p1;
-  w2c_f43(m, w2c_j0, w2c_j1, w2c_j2, w2c_j3);
-  w2c_j0 = w2c_l6;
-  w2c_i0 = (u32)(w2c_j0);
-  w2c_j0 = i64_load(m, (u64)(w2c_i0) + 64u);
-  w2c_l5 = w2c_j0;
-  w2c_j0 = w2c_l6;
-  w2c_i0 = (u32)(w2c_j0);
-  w2c_i0 = i32_load8_u(m, (u64)(w2c_i0) + 48u);
-  if (w2c_i0) {goto w2c_B34;}
-  w2c_j0 = 0ull;
-  w2c_l11 = w2c_j0;
-  w2c_j0 = w2c_l5;
-  w2c_j1 = w2c_l10;
-  w2c_j2 = 5ull;
-  w2c_j1 <<= (w2c_j2 & 63);
-  w2c_l10 = w2c_j1;
-  w2c_i1 = (u32)(w2c_j1);
-  w2c_j1 = i64_load(m, (u64)(w2c_i1) + 68048u);
-  w2c_i0 = w2c_j0 > w2c_j1;
-  w2c_j1 = w2c_l6;
-  w2c_i1 = (u32)(w2c_j1);
-  w2c_j1 = i64_load(m, (u64)(w2c_i1) + 72u);
-  w2c_p0 = w2c_j1;
-  w2c_j2 = w2c_l10;
-  w2c_i2 = (u32)(w2c_j2);
-  w2c_j2 = i64_load(m, (u64)(w2c_i2) + 68056u);
-  w2c_l10 = w2c_j2;
-  w2c_i1 = w2c_j1 > w2c_j2;
-  w2c_j2 = w2c_p0;
-  w2c_j3 = w2c_l10;
-  w2c_i2 = w2c_j2 == w2c_j3;
-  w2c_i0 = w2c_i2 ? w2c_i0 : w2c_i1;
-  w2c_i0 = !(w2c_i0);
-  if (w2c_i0) {goto w2c_B32;}
-  goto w2c_B12;
-  w2c_B34:;
-  w2c_j0 = 0ull;
-  w2c_j1 = w2c_l5;
-  w2c_j2 = w2c_l6;
-  w2c_i2 = (u32)(w2c_j2);
-  w2c_i2 = i32_load8_u(m, (u64)(w2c_i2) + 56u);
-  w2c_l12 = w2c_i2;
-  w2c_i3 = 2u;
-  w2c_i2 = w2c_i2 == w2c_i3;
-  w2c_j0 = w2c_i2 ? w2c_j0 : w2c_j1;
-  w2c_l11 = w2c_j0;
-  goto w2c_B30;
-  w2c_B33:;
-  w2c_j0 = 0ull;
-  w2c_p0 = w2c_j0;
-  w2c_j0 = w2c_l6;
-  w2c_i0 = (u32)(w2c_j0);
-  w2c_j1 = 0ull;
-  i64_store(m, (u64)(w2c_i0) + 72, w2c_j1);
-  w2c_j0 = w2c_l6;
-  w2c_i0 = (u32)(w2c_j0);
-  w2c_j1 = 0ull;
-  i64_store(m, (u64)(w2c_i0) + 64, w2c_j1);
-  w2c_j0 = w2c_l6;
-  w2c_i0 = (u32)(w2c_j0);
-  w2c_j1 = 0ull;
-  i64_store(m, (u64)(w2c_i0) + 56, w2c_j1);
-  w2c_j0 = w2c_l6;
-  w2c_i0 = (u32)(w2c_j0);
-  w2c_j1 = 0ull;
-  i64_store(m, (u64)(w2c_i0) + 48, w2c_j1);
-  w2c_j0 = w2c_l6;
-  w2c_j1 = 48ull;
-  w2c_j0 += w2c_j1;
-  w2c_i1 = w2c_l14;
-  w2c_j2 = 0ull;
-  w2c_j3 = w2c_l7;
-  w2c_j4 = w2c_p1;
-  w2c_f48(m, w2c_j0, w2c_i1, w2c_j2, w2c_j3, w2c_j4);
-  w2c_j0 = w2c_l6;
-  w2c_i0 = (u32)(w2c_j0);
-  w2c_j0 = i64_load(m, (u64)(w2c_i0) + 64u);
-  w2c_l5 = w2c_j0;
-  w2c_j0 = w2c_l6;
-  w2c_i0 = (u32)(w2c_j0);
-  w2c_i0 = i32_load8_u(m, (u64)(w2c_i0) + 48u);
-  if (w2c_i0) {goto w2c_B31;}
-  w2c_j0 = 0ull;
-  w2c_l11 = w2c_j0;
-  w2c_j0 = w2c_l5;
-  w2c_j1 = w2c_l10;
-  w2c_j2 = 5ull;
-  w2c_j1 <<= (w2c_j2 & 63);
-  w2c_l10 = w2c_j1;
-  w2c_i1 = (u32)(w2c_j1);
-  w2c_j1 = i64_load(m, (u64)(w2c_i1) + 68048u);
-  w2c_i0 = w2c_j0 > w2c_j1;
-  w2c_j1 = w2c_l6;
-  w2c_i1 = (u32)(w2c_j1);
-  w2c_j1 = i64_load(m, (u64)(w2c_i1) + 72u);
-  w2c_p0 = w2c_j1;
-  w2c_j2 = w2c_l10;
-  w2c_i2 = (u32)(w2c_j2);
-  w2c_j2 = i64_load(m, (u64)(w2c_i2) + 68056u);
-  w2c_l10 = w2c_j2;
-  w2c_i1 = w2c_j1 > w2c_j2;
-  w2c_j2 = w2c_p0;
-  w2c_j3 = w2c_l10;
-  w2c_i2 = w2c_j2 == w2c_j3;
-  w2c_i0 = w2c_i2 ? w2c_i0 : w2c_i1;
-  if (w2c_i0) {goto w2c_B12;}
-  w2c_B32:;
-  w2c_i0 = 0u;
-  w2c_p2 = w2c_i0;
-  w2c_i0 = 0u;
-  w2c_l12 = w2c_i0;
-  goto w2c_B11;
-  w2c_B31:;
-  w2c_j0 = 0ull;
-  w2c_j1 = w2c_l5;
-  w2c_j2 = w2c_l6;
-  w2c_i2 = (u32)(w2c_j2);
-  w2c_i2 = i32_load8_u(m, (u64)(w2c_i2) + 56u);
-  w2c_l12 = w2c_i2;
-  w2c_i3 = 2u;
-  w2c_i2 = w2c_i2 == w2c_i3;
-  w2c_j0 = w2c_i2 ? w2c_j0 : w2c_j1;
-  w2c_l11 = w2c_j0;
-  w2c_B30:;
-  w2c_i0 = 1u;
-  w2c_p2 = w2c_i0;
-  w2c_j0 = 0ull;
-  w2c_l5 = w2c_j0;
-  goto w2c_B11;
-  w2c_B13:;
-  UNREACHABLE;
-  w2c_B12:;
-  w2c_i0 = 2u;
-  w2c_l12 = w2c_i0;
-  w2c_i0 = 1u;
-  w2c_p2 = w2c_i0;
-  w2c_j0 = 0ull;
-  w2c_l5 = w2c_j0;
-  w2c_j0 = 0ull;
-  w2c_p0 = w2c_j0;
-  w2c_B11:;
-  w2c_i0 = w2c_p2;
-  if (w2c_i0) {goto w2c_B35;}
-  w2c_j0 = w2c_p4;
-  w2c_i0 = (u32)(w2c_j0);
-  w2c_j1 = w2c_p0;
-  i64_store(m, (u64)(w2c_i0) + 8, w2c_j1);
-  w2c_j0 = w2c_p4;
-  w2c_i0 = (u32)(w2c_j0);
-  w2c_j1 = w2c_l5;
-  i64_store(m, (u64)(w2c_i0), w2c_j1);
-  w2c_i0 = 0u;
-  w2c_l12 = w2c_i0;
-  goto w2c_B0;
-  w2c_B35:;
-  w2c_j0 = w2c_l7;
-  w2c_j1 = w2c_p1;
-  w2c_i2 = w2c_l12;
-  w2c_j3 = w2c_l11;
-  w2c_j4 = w2c_l9;
-  w2c_j5 = w2c_l8;
-  w2c_i0 = w2c_f46(m, w2c_j0, w2c_j1, w2c_i2, w2c_j3, w2c_j4, w2c_j5);
-  w2c_l12 = w2c_i0;
-  goto w2c_B0;
-  w2c_B10:;
-  w2c_i0 = 2u;
-  w2c_p2 = w2c_i0;
-  w2c_i0 = 0u;
-  w2c_l12 = w2c_i0;
-  w2c_B9:;
-  w2c_j0 = w2c_l6;
-  w2c_i0 = (u32)(w2c_j0);
-  w2c_j0 = i64_load(m, (u64)(w2c_i0) + 40u);
-  w2c_p0 = w2c_j0;
-  w2c_j0 = w2c_l6;
-  w2c_i0 = (u32)(w2c_j0);
-  w2c_j0 = i64_load(m, (u64)(w2c_i0) + 32u);
-  w2c_l5 = w2c_j0;
-  w2c_j0 = w2c_l6;
-  w2c_i0 = (u32)(w2c_j0);
-  w2c_i0 = i32_load8_u(m, (u64)(w2c_i0) + 16u);
-  if (w2c_i0) {goto w2c_B36;}
-  w2c_j0 = w2c_l5;
-  w2c_j1 = w2c_l10;
-  w2c_j2 = 5ull;
-  w2c_j1 <<= (w2c_j2 & 63);
-  w2c_j2 = 68064ull;
-  w2c_j3 = 68048ull;
-  w2c_i4 = w2c_l12;
-  w2c_j2 = w2c_i4 ? w2c_j2 : w2c_j3;
-  w2c_j1 += w2c_j2;
-  w2c_l10 = w2c_j1;
-  w2c_i1 = (u32)(w2c_j1);
-  w2c_j1 = i64_load(m, (u64)(w2c_i1));
-  w2c_i0 = w2c_j0 > w2c_j1;
-  w2c_j1 = w2c_p0;
-  w2c_j2 = w2c_l10;
-  w2c_i2 = (u32)(w2c_j2);
-  w2c_j2 = i64_load(m, (u64)(w2c_i2) + 8u);
-  w2c_l10 = w2c_j2;
-  w2c_i1 = w2c_j1 > w2c_j2;
-  w2c_j2 = w2c_p0;
-  w2c_j3 = w2c_l10;
-  w2c_i2 = w2c_j2 == w2c_j3;
-  w2c_i0 = w2c_i2 ? w2c_i0 : w2c_i1;
-  if (w2c_i0) {goto w2c_B6;}
-  w2c_i0 = w2c_l12;
-  w2c_j0 = (u64)(w2c_i0);
-  w2c_l10 = w2c_j0;
-  goto w2c_B4;
-  w2c_B36:;
-  w2c_i0 = w2c_p2;
-  w2c_j1 = w2c_l6;
-  w2c_i1 = (u32)(w2c_j1);
-  w2c_i1 = i32_load8_u(m, (u64)(w2c_i1) + 24u);
-  w2c_l12 = w2c_i1;
-  w2c_i2 = w2c_l12;
-  w2c_i3 = 2u;
-  w2c_i2 = w2c_i2 == w2c_i3;
-  w2c_l12 = w2c_i2;
-  w2c_i0 = w2c_i2 ? w2c_i0 : w2c_i1;
-  w2c_p2 = w2c_i0;
-  w2c_j0 = 0ull;
-  w2c_p0 = w2c_j0;
-  w2c_j0 = 0ull;
-  w2c_j1 = w2c_l5;
-  w2c_i2 = w2c_l12;
-  w2c_j0 = w2c_i2 ? w2c_j0 : w2c_j1;
-  w2c_l10 = w2c_j0;
-  goto w2c_B2;
-  w2c_B8:;
-  w2c_i0 = 2u;
-  w2c_p2 = w2c_i0;
-  w2c_i0 = 0u;
-  w2c_l12 = w2c_i0;
-  w2c_B7:;
-  w2c_j0 = w2c_l6;
-  w2c_i0 = (u32)(w2c_j0);
-  w2c_j0 = i64_load(m, (u64)(w2c_i0) + 40u);
-  w2c_p0 = w2c_j0;
-  w2c_j0 = w2c_l6;
-  w2c_i0 = (u32)(w2c_j0);
-  w2c_j0 = i64_load(m, (u64)(w2c_i0) + 32u);
-  w2c_l5 = w2c_j0;
-  w2c_j0 = w2c_l6;
-  w2c_i0 = (u32)(w2c_j0);
-  w2c_i0 = i32_load8_u(m, (u64)(w2c_i0) + 16u);
-  if (w2c_i0) {goto w2c_B3;}
-  w2c_j0 = w2c_l5;
-  w2c_j1 = w2c_l10;
-  w2c_j2 = 5ull;
-  w2c_j1 <<= (w2c_j2 & 63);
-  w2c_j2 = 68064ull;
-  w2c_j3 = 68048ull;
-  w2c_i4 = w2c_l12;
-  w2c_j2 = w2c_i4 ? w2c_j2 : w2c_j3;
-  w2c_j1 += w2c_j2;
-  w2c_l10 = w2c_j1;
-  w2c_i1 = (u32)(w2c_j1);
-  w2c_j1 = i64_load(m, (u64)(w2c_i1));
-  w2c_i0 = w2c_j0 > w2c_j1;
-  w2c_j1 = w2c_p0;
-  w2c_j2 = w2c_l10;
-  w2c_i2 = (u32)(w2c_j2);
-  w2c_j2 = i64_load(m, (u64)(w2c_i2) + 8u);
-  w2c_l10 = w2c_j2;
-  w2c_i1 = w2c_j1 > w2c_j2;
-  w2c_j2 = w2c_p0;
-  w2c_j3 = w2c_l10;
-  w2c_i2 = w2c_j2 == w2c_j3;
-  w2c_i0 = w2c_i2 ? w2c_i0 : w2c_i1;
-  w2c_i0 = !(w2c_i0);
-  if (w2c_i0) {goto w2c_B5;}
-  w2c_B6:;
-  w2c_j0 = 0ull;
-  w2c_l5 = w2c_j0;
-  w2c_i0 = 1u;
-  w2c_l12 = w2c_i0;
-  w2c_j0 = 0ull;
-  w2c_p0 = w2c_j0;
-  w2c_j0 = 0ull;
-  w2c_l10 = w2c_j0;
-  goto w2c_B1;
-  w2c_B5:;
-  w2c_i0 = w2c_l12;
-  w2c_j0 = (u64)(w2c_i0);
-  w2c_l10 = w2c_j0;
-  w2c_B4:;
-  w2c_i0 = 0u;
-  w2c_l12 = w2c_i0;
-  w2c_i0 = 0u;
-  w2c_p2 = w2c_i0;
-  goto w2c_B1;
-  w2c_B3:;
-  w2c_i0 = w2c_p2;
-  w2c_j1 = w2c_l6;
-  w2c_i1 = (u32)(w2c_j1);
-  w2c_i1 = i32_load8_u(m, (u64)(w2c_i1) + 24u);
-  w2c_l12 = w2c_i1;
-  w2c_i2 = w2c_l12;
-  w2c_i3 = 2u;
-  w2c_i2 = w2c_i2 == w2c_i3;
-  w2c_l12 = w2c_i2;
-  w2c_i0 = w2c_i2 ? w2c_i0 : w2c_i1;
-  w2c_p2 = w2c_i0;
-  w2c_j0 = 0ull;
-  w2c_p0 = w2c_j0;
-  w2c_j0 = 0ull;
-  w2c_j1 = w2c_l5;
-  w2c_i2 = w2c_l12;
-  w2c_j0 = w2c_i2 ? w2c_j0 : w2c_j1;
-  w2c_l10 = w2c_j0;
-  w2c_B2:;
-  w2c_i0 = 1u;
-  w2c_l12 = w2c_i0;
-  w2c_j0 = 0ull;
-  w2c_l5 = w2c_j0;
-  w2c_B1:;
-  w2c_i0 = w2c_l12;
-  if (w2c_i0) {goto w2c_B37;}
-  w2c_j0 = w2c_p4;
-  w2c_i0 = (u32)(w2c_j0);
-  w2c_j1 = 0ull;
-  w2c_j2 = w2c_l5;
-  w2c_j1 -= w2c_j2;
-  w2c_j2 = w2c_l5;
-  w2c_j3 = w2c_l10;
-  w2c_i3 = (u32)(w2c_j3);
-  w2c_i4 = 1u;
-  w2c_i3 &= w2c_i4;
-  w2c_p2 = w2c_i3;
-  w2c_j1 = w2c_i3 ? w2c_j1 : w2c_j2;
-  i64_store(m, (u64)(w2c_i0), w2c_j1);
-  w2c_j0 = w2c_p4;
-  w2c_i0 = (u32)(w2c_j0);
-  w2c_j1 = 0ull;
-  w2c_j2 = w2c_p0;
-  w2c_j3 = w2c_l5;
-  w2c_j4 = 0ull;
-  w2c_i3 = w2c_j3 != w2c_j4;
-  w2c_j3 = (u64)(w2c_i3);
-  w2c_j2 += w2c_j3;
-  w2c_j1 -= w2c_j2;
-  w2c_j2 = w2c_p0;
-  w2c_i3 = w2c_p2;
-  w2c_j1 = w2c_i3 ? w2c_j1 : w2c_j2;
-  i64_store(m, (u64)(w2c_i0) + 8, w2c_j1);
-  w2c_i0 = 0u;
-  w2c_l12 = w2c_i0;
-  goto w2c_B0;
-  w2c_B37:;
-  w2c_j0 = w2c_l7;
-  w2c_j1 = w2c_p1;
-  w2c_i2 = w2c_p2;
-  w2c_j3 = w2c_l10;
-  w2c_j4 = w2c_l9;
-  w2c_j5 = w2c_l8;
-  w2c_i0 = w2c_f46(m, w2c_j0, w2c_j1, w2c_i2, w2c_j3, w2c_j4, w2c_j5);
-  w2c_l12 = w2c_i0;
-  w2c_B0:;
-  w2c_j0 = w2c_l6;
-  w2c_j1 = 96ull;
-  w2c_j0 += w2c_j1;
-  m->w2c_g0 = w2c_j0;
-  w2c_i0 = w2c_l12;
+  w2c_i0 = w2c_l10;
   return w2c_i0;
 }
 
@@ -50848,28 +54258,62 @@ static u32 w2c_chinese_number_read_utf8(module *m, u64 w2c_p0, u64 w2c_p1, u32 w
   w2c_i2 = w2c_p2;
   w2c_i3 = w2c_p3;
   w2c_j4 = w2c_p4;
-  w2c_i0 = w2c_f88(m, w2c_j0, w2c_j1, w2c_i2, w2c_i3, w2c_j4);
+  w2c_i0 = w2c_f90(m, w2c_j0, w2c_j1, w2c_i2, w2c_i3, w2c_j4);
   w2c_p3 = w2c_i0;
   w2c_f1(m);
   w2c_i0 = w2c_p3;
   return w2c_i0;
 }
 
-static u32 w2c_f88(module *m, u64 w2c_p0, u64 w2c_p1, u32 w2c_p2, u32 w2c_p3, u64 w2c_p4) {
-  u32 w2c_l12 = 0, w2c_l13 = 0;
-  u64 w2c_l5 = 0, w2c_l6 = 0, w2c_l7 = 0, w2c_l8 = 0, w2c_l9 = 0, w2c_l10 = 0, w2c_l11 = 0;
-  u32 w2c_i0, w2c_i1, w2c_i2, w2c_i3, w2c_i4;
-  u64 w2c_j0, w2c_j1, w2c_j2, w2c_j3, w2c_j4, w2c_j5;
+static u32 w2c_f90(module *m, u64 w2c_p0, u64 w2c_p1, u32 w2c_p2, u32 w2c_p3, u64 w2c_p4) {
+  u32 w2c_i0, w2c_i2, w2c_i3;
+  u64 w2c_j0, w2c_j1, w2c_j2, w2c_j3, w2c_j4;
+  w2c_j0 = w2c_p0;
+  w2c_j1 = 4096ull;
+  w2c_j2 = 0ull;
+  w2c_j3 = w2c_p0;
+  w2c_i3 = !(w2c_j3);
+  w2c_j1 = w2c_i3 ? w2c_j1 : w2c_j2;
+  w2c_j0 += w2c_j1;
+  w2c_j1 = w2c_p1;
+  w2c_i2 = w2c_p2;
+  w2c_i3 = w2c_p3;
+  w2c_j4 = w2c_p4;
+  w2c_i0 = w2c_f49(m, w2c_j0, w2c_j1, w2c_i2, w2c_i3, w2c_j4);
+  return w2c_i0;
+}
+
+static u32 w2c_chinese_number_read(module *m, u64 w2c_p0, u64 w2c_p1, u32 w2c_p2, u32 w2c_p3, u64 w2c_p4) {
+  u32 w2c_i0, w2c_i2, w2c_i3;
+  u64 w2c_j0, w2c_j1, w2c_j4;
+  w2c_i0 = w2c_f0(m);
+  w2c_i0 = !(w2c_i0);
+  if (w2c_i0) {goto w2c_B0;}
+  w2c_f2(m);
+  UNREACHABLE;
+  w2c_B0:;
+  w2c_j0 = w2c_p0;
+  w2c_j1 = w2c_p1;
+  w2c_i2 = w2c_p2;
+  w2c_i3 = w2c_p3;
+  w2c_j4 = w2c_p4;
+  w2c_i0 = w2c_f92(m, w2c_j0, w2c_j1, w2c_i2, w2c_i3, w2c_j4);
+  w2c_p3 = w2c_i0;
+  w2c_f1(m);
+  w2c_i0 = w2c_p3;
+  return w2c_i0;
+}
+
+static u32 w2c_f92(module *m, u64 w2c_p0, u64 w2c_p1, u32 w2c_p2, u32 w2c_p3, u64 w2c_p4) {
+  u32 w2c_l9 = 0;
+  u64 w2c_l5 = 0, w2c_l6 = 0, w2c_l7 = 0, w2c_l8 = 0;
+  u32 w2c_i0, w2c_i1, w2c_i2, w2c_i3;
+  u64 w2c_j0, w2c_j1, w2c_j2, w2c_j3, w2c_j4;
   w2c_j0 = m->w2c_g0;
-  w2c_j1 = 96ull;
-  w2c_j0 -= w2c_j1;
-  w2c_l5 = w2c_j0;
-  m->w2c_g0 = w2c_j0;
-  w2c_j0 = w2c_l5;
   w2c_l5 = w2c_j0;
   w2c_j1 = 16ull;
   w2c_i0 = (u64)((s64)w2c_j0 < (s64)w2c_j1);
-  if (w2c_i0) {goto w2c_B3;}
+  if (w2c_i0) {goto w2c_B0;}
   w2c_j0 = w2c_p4;
   w2c_i0 = (u32)(w2c_j0);
   w2c_j1 = 0ull;
@@ -50887,11 +54331,15 @@ static u32 w2c_f88(module *m, u64 w2c_p0, u64 w2c_p1, u32 w2c_p2, u32 w2c_p3, u6
   w2c_j1 = 0ull;
   i64_store(m, (u64)(w2c_i0), w2c_j1);
   w2c_i0 = 8u;
-  w2c_l12 = w2c_i0;
+  w2c_l9 = w2c_i0;
   w2c_i0 = w2c_p2;
   w2c_i1 = 9u;
   w2c_i0 = w2c_i0 > w2c_i1;
-  if (w2c_i0) {goto w2c_B0;}
+  if (w2c_i0) {goto w2c_B1;}
+  w2c_i0 = w2c_p3;
+  w2c_i1 = 5u;
+  w2c_i0 = w2c_i0 > w2c_i1;
+  if (w2c_i0) {goto w2c_B1;}
   w2c_j0 = w2c_p0;
   w2c_j1 = 4096ull;
   w2c_j2 = 0ull;
@@ -50899,695 +54347,128 @@ static u32 w2c_f88(module *m, u64 w2c_p0, u64 w2c_p1, u32 w2c_p2, u32 w2c_p3, u6
   w2c_i3 = !(w2c_j3);
   w2c_j1 = w2c_i3 ? w2c_j1 : w2c_j2;
   w2c_j0 += w2c_j1;
+  w2c_l6 = w2c_j0;
+  w2c_j0 = w2c_p1;
   w2c_p0 = w2c_j0;
-  w2c_i0 = w2c_p2;
-  w2c_j0 = (u64)(w2c_i0);
-  w2c_j1 = 68016ull;
-  w2c_j0 += w2c_j1;
-  w2c_i0 = (u32)(w2c_j0);
-  w2c_i0 = i32_load8_u(m, (u64)(w2c_i0));
-  w2c_l13 = w2c_i0;
-  w2c_i0 = w2c_p3;
-  w2c_i1 = 5u;
-  w2c_i0 = w2c_i0 < w2c_i1;
-  if (w2c_i0) {goto w2c_B2;}
-  w2c_i0 = w2c_p3;
-  w2c_i1 = 5u;
-  w2c_i0 = w2c_i0 != w2c_i1;
-  if (w2c_i0) {goto w2c_B0;}
-  w2c_j0 = w2c_l5;
-  w2c_j1 = 8ull;
-  w2c_j0 += w2c_j1;
-  w2c_i1 = w2c_l13;
-  w2c_j2 = w2c_p0;
-  w2c_j3 = w2c_p1;
-  w2c_f47(m, w2c_j0, w2c_i1, w2c_j2, w2c_j3);
-  w2c_j0 = w2c_l5;
-  w2c_i0 = (u32)(w2c_j0);
-  w2c_i0 = i32_load8_u(m, (u64)(w2c_i0) + 9u);
-  w2c_p3 = w2c_i0;
-  w2c_j0 = w2c_l5;
-  w2c_i0 = (u32)(w2c_j0);
-  w2c_i0 = i32_load8_u(m, (u64)(w2c_i0) + 8u);
-  w2c_l12 = w2c_i0;
-  goto w2c_B1;
-  w2c_B3:;
-  UNREACHABLE;
-  w2c_B2:;
-  w2c_i0 = w2c_p3;
-  w2c_j0 = (u64)(w2c_i0);
-  w2c_j1 = 1ull;
-  w2c_j0 <<= (w2c_j1 & 63);
-  w2c_l6 = w2c_j0;
-  w2c_j1 = 68027ull;
-  w2c_j0 += w2c_j1;
-  w2c_i0 = (u32)(w2c_j0);
-  w2c_i0 = i32_load8_u(m, (u64)(w2c_i0));
-  w2c_p3 = w2c_i0;
-  w2c_j0 = w2c_l6;
-  w2c_j1 = 68026ull;
-  w2c_j0 += w2c_j1;
-  w2c_i0 = (u32)(w2c_j0);
-  w2c_i0 = i32_load8_u(m, (u64)(w2c_i0));
-  w2c_l12 = w2c_i0;
-  w2c_B1:;
-  w2c_j0 = w2c_p4;
-  w2c_j1 = 24ull;
-  w2c_j0 += w2c_j1;
-  w2c_l7 = w2c_j0;
-  w2c_j0 = w2c_p4;
-  w2c_j1 = 16ull;
-  w2c_j0 += w2c_j1;
-  w2c_l8 = w2c_j0;
-  w2c_i0 = w2c_l13;
-  w2c_j0 = (u64)(w2c_i0);
-  w2c_j1 = 255ull;
-  w2c_j0 &= w2c_j1;
-  w2c_l9 = w2c_j0;
-  w2c_i0 = w2c_p2;
-  w2c_i1 = 5u;
-  w2c_i0 = w2c_i0 < w2c_i1;
-  if (w2c_i0) {goto w2c_B14;}
-  w2c_i0 = w2c_l12;
-  w2c_i1 = 255u;
-  w2c_i0 &= w2c_i1;
-  if (w2c_i0) {goto w2c_B15;}
-  w2c_j0 = w2c_l5;
-  w2c_i0 = (u32)(w2c_j0);
-  w2c_j1 = 0ull;
-  i64_store(m, (u64)(w2c_i0) + 40, w2c_j1);
-  w2c_j0 = w2c_l5;
-  w2c_i0 = (u32)(w2c_j0);
-  w2c_j1 = 0ull;
-  i64_store(m, (u64)(w2c_i0) + 32, w2c_j1);
-  w2c_j0 = w2c_l5;
-  w2c_i0 = (u32)(w2c_j0);
-  w2c_j1 = 0ull;
-  i64_store(m, (u64)(w2c_i0) + 24, w2c_j1);
-  w2c_j0 = w2c_l5;
-  w2c_i0 = (u32)(w2c_j0);
-  w2c_j1 = 0ull;
-  i64_store(m, (u64)(w2c_i0) + 16, w2c_j1);
-  w2c_j0 = w2c_l5;
-  w2c_i0 = (u32)(w2c_j0);
-  w2c_j1 = 0ull;
-  i64_store(m, (u64)(w2c_i0) + 80, w2c_j1);
-  w2c_j0 = w2c_l5;
-  w2c_i0 = (u32)(w2c_j0);
-  w2c_j1 = 0ull;
-  i64_store(m, (u64)(w2c_i0) + 72, w2c_j1);
-  w2c_j0 = w2c_l5;
-  w2c_i0 = (u32)(w2c_j0);
-  w2c_j1 = 0ull;
-  i64_store(m, (u64)(w2c_i0) + 64, w2c_j1);
-  w2c_j0 = w2c_l5;
-  w2c_i0 = (u32)(w2c_j0);
-  w2c_j1 = 0ull;
-  i64_store(m, (u64)(w2c_i0) + 56, w2c_j1);
-  w2c_j0 = w2c_l5;
-  w2c_i0 = (u32)(w2c_j0);
-  w2c_j1 = 0ull;
-  i64_store(m, (u64)(w2c_i0) + 48, w2c_j1);
-  w2c_j0 = w2c_l5;
-  w2c_j1 = 48ull;
-  w2c_j0 += w2c_j1;
-  w2c_j1 = w2c_p0;
-  w2c_j2 = w2c_p1;
-  w2c_f32(m, w2c_j0, w2c_j1, w2c_j2);
-  w2c_j0 = w2c_l5;
-  w2c_i0 = (u32)(w2c_j0);
-  w2c_i0 = i32_load8_u(m, (u64)(w2c_i0) + 48u);
-  w2c_i1 = 1u;
-  w2c_i0 = w2c_i0 != w2c_i1;
-  if (w2c_i0) {goto w2c_B18;}
-  w2c_j0 = w2c_l5;
-  w2c_i0 = (u32)(w2c_j0);
-  w2c_j0 = i64_load(m, (u64)(w2c_i0) + 80u);
-  w2c_l6 = w2c_j0;
-  w2c_j0 = w2c_l5;
-  w2c_i0 = (u32)(w2c_j0);
-  w2c_j0 = i64_load(m, (u64)(w2c_i0) + 72u);
-  w2c_l10 = w2c_j0;
-  w2c_j0 = w2c_l5;
-  w2c_i0 = (u32)(w2c_j0);
-  w2c_j0 = i64_load(m, (u64)(w2c_i0) + 64u);
-  w2c_l11 = w2c_j0;
-  w2c_j0 = w2c_l5;
-  w2c_i0 = (u32)(w2c_j0);
-  w2c_i0 = i32_load(m, (u64)(w2c_i0) + 56u);
-  w2c_p2 = w2c_i0;
-  w2c_i1 = 27491u;
-  w2c_i0 = w2c_i0 == w2c_i1;
-  if (w2c_i0) {goto w2c_B17;}
-  w2c_i0 = w2c_p2;
-  w2c_i1 = 36000u;
-  w2c_i0 = w2c_i0 == w2c_i1;
-  if (w2c_i0) {goto w2c_B16;}
-  w2c_i0 = w2c_p2;
-  w2c_i1 = 36127u;
-  w2c_i0 = w2c_i0 == w2c_i1;
-  if (w2c_i0) {goto w2c_B16;}
-  w2c_B18:;
-  w2c_j0 = w2c_l5;
-  w2c_j1 = 16ull;
-  w2c_j0 += w2c_j1;
-  w2c_j1 = 0ull;
-  w2c_j2 = w2c_p0;
-  w2c_j3 = w2c_p1;
-  w2c_f43(m, w2c_j0, w2c_j1, w2c_j2, w2c_j3);
-  goto w2c_B11;
-  w2c_B17:;
-  w2c_j0 = w2c_l5;
-  w2c_j1 = 16ull;
-  w2c_j0 += w2c_j1;
-  w2c_j1 = w2c_l11;
-  w2c_j2 = 1ull;
-  w2c_j1 += w2c_j2;
-  w2c_j2 = w2c_l10;
-  w2c_j3 = w2c_l6;
-  w2c_f43(m, w2c_j0, w2c_j1, w2c_j2, w2c_j3);
-  goto w2c_B11;
-  w2c_B16:;
-  w2c_j0 = w2c_l5;
-  w2c_j1 = 16ull;
-  w2c_j0 += w2c_j1;
-  w2c_j1 = w2c_l11;
-  w2c_j2 = 1ull;
-  w2c_j1 += w2c_j2;
-  w2c_j2 = w2c_l10;
-  w2c_j3 = w2c_l6;
-  w2c_f43(m, w2c_j0, w2c_j1, w2c_j2, w2c_j3);
-  w2c_i0 = 3u;
-  w2c_p2 = w2c_i0;
-  w2c_i0 = 1u;
-  w2c_l12 = w2c_i0;
-  goto w2c_B10;
-  w2c_B15:;
-  w2c_j0 = w2c_l5;
-  w2c_i0 = (u32)(w2c_j0);
-  w2c_j1 = 0ull;
-  i64_store(m, (u64)(w2c_i0) + 40, w2c_j1);
-  w2c_j0 = w2c_l5;
-  w2c_i0 = (u32)(w2c_j0);
-  w2c_j1 = 0ull;
-  i64_store(m, (u64)(w2c_i0) + 32, w2c_j1);
-  w2c_j0 = w2c_l5;
-  w2c_i0 = (u32)(w2c_j0);
-  w2c_j1 = 0ull;
-  i64_store(m, (u64)(w2c_i0) + 24, w2c_j1);
-  w2c_j0 = w2c_l5;
-  w2c_i0 = (u32)(w2c_j0);
-  w2c_j1 = 0ull;
-  i64_store(m, (u64)(w2c_i0) + 16, w2c_j1);
-  w2c_j0 = w2c_l5;
-  w2c_i0 = (u32)(w2c_j0);
-  w2c_j1 = 0ull;
-  i64_store(m, (u64)(w2c_i0) + 80, w2c_j1);
-  w2c_j0 = w2c_l5;
-  w2c_i0 = (u32)(w2c_j0);
-  w2c_j1 = 0ull;
-  i64_store(m, (u64)(w2c_i0) + 72, w2c_j1);
-  w2c_j0 = w2c_l5;
-  w2c_i0 = (u32)(w2c_j0);
-  w2c_j1 = 0ull;
-  i64_store(m, (u64)(w2c_i0) + 64, w2c_j1);
-  w2c_j0 = w2c_l5;
-  w2c_i0 = (u32)(w2c_j0);
-  w2c_j1 = 0ull;
-  i64_store(m, (u64)(w2c_i0) + 56, w2c_j1);
-  w2c_j0 = w2c_l5;
-  w2c_i0 = (u32)(w2c_j0);
-  w2c_j1 = 0ull;
-  i64_store(m, (u64)(w2c_i0) + 48, w2c_j1);
-  w2c_j0 = w2c_l5;
-  w2c_j1 = 48ull;
-  w2c_j0 += w2c_j1;
-  w2c_j1 = w2c_p0;
-  w2c_j2 = w2c_p1;
-  w2c_f32(m, w2c_j0, w2c_j1, w2c_j2);
-  w2c_j0 = w2c_l5;
-  w2c_i0 = (u32)(w2c_j0);
-  w2c_i0 = i32_load8_u(m, (u64)(w2c_i0) + 48u);
-  w2c_i1 = 1u;
-  w2c_i0 = w2c_i0 != w2c_i1;
-  if (w2c_i0) {goto w2c_B21;}
-  w2c_j0 = w2c_l5;
-  w2c_i0 = (u32)(w2c_j0);
-  w2c_j0 = i64_load(m, (u64)(w2c_i0) + 80u);
-  w2c_l6 = w2c_j0;
-  w2c_j0 = w2c_l5;
-  w2c_i0 = (u32)(w2c_j0);
-  w2c_j0 = i64_load(m, (u64)(w2c_i0) + 72u);
-  w2c_l10 = w2c_j0;
-  w2c_j0 = w2c_l5;
-  w2c_i0 = (u32)(w2c_j0);
-  w2c_j0 = i64_load(m, (u64)(w2c_i0) + 64u);
-  w2c_l11 = w2c_j0;
-  w2c_j0 = w2c_l5;
-  w2c_i0 = (u32)(w2c_j0);
-  w2c_i0 = i32_load(m, (u64)(w2c_i0) + 56u);
-  w2c_p2 = w2c_i0;
-  w2c_i1 = 27491u;
-  w2c_i0 = w2c_i0 == w2c_i1;
-  if (w2c_i0) {goto w2c_B20;}
-  w2c_i0 = w2c_p2;
-  w2c_i1 = 36000u;
-  w2c_i0 = w2c_i0 == w2c_i1;
-  if (w2c_i0) {goto w2c_B19;}
-  w2c_i0 = w2c_p2;
-  w2c_i1 = 36127u;
-  w2c_i0 = w2c_i0 == w2c_i1;
-  if (w2c_i0) {goto w2c_B19;}
-  w2c_B21:;
-  w2c_j0 = w2c_l5;
-  w2c_j1 = 16ull;
-  w2c_j0 += w2c_j1;
-  w2c_i1 = w2c_p3;
-  w2c_j2 = 0ull;
-  w2c_j3 = w2c_p0;
-  w2c_j4 = w2c_p1;
-  w2c_f48(m, w2c_j0, w2c_i1, w2c_j2, w2c_j3, w2c_j4);
-  goto w2c_B13;
-  w2c_B20:;
-  w2c_j0 = w2c_l5;
-  w2c_j1 = 16ull;
-  w2c_j0 += w2c_j1;
-  w2c_i1 = w2c_p3;
-  w2c_j2 = w2c_l11;
-  w2c_j3 = 1ull;
-  w2c_j2 += w2c_j3;
-  w2c_j3 = w2c_l10;
-  w2c_j4 = w2c_l6;
-  w2c_f48(m, w2c_j0, w2c_i1, w2c_j2, w2c_j3, w2c_j4);
-  goto w2c_B13;
-  w2c_B19:;
-  w2c_j0 = w2c_l5;
-  w2c_j1 = 16ull;
-  w2c_j0 += w2c_j1;
-  w2c_i1 = w2c_p3;
-  w2c_j2 = w2c_l11;
-  w2c_j3 = 1ull;
-  w2c_j2 += w2c_j3;
-  w2c_j3 = w2c_l10;
-  w2c_j4 = w2c_l6;
-  w2c_f48(m, w2c_j0, w2c_i1, w2c_j2, w2c_j3, w2c_j4);
-  w2c_i0 = 3u;
-  w2c_p2 = w2c_i0;
-  w2c_i0 = 1u;
-  w2c_l12 = w2c_i0;
-  goto w2c_B12;
-  w2c_B14:;
-  w2c_i0 = w2c_l12;
-  w2c_i1 = 255u;
-  w2c_i0 &= w2c_i1;
-  if (w2c_i0) {goto w2c_B27;}
-  w2c_j0 = 0ull;
-  w2c_l10 = w2c_j0;
-  w2c_j0 = w2c_l5;
-  w2c_i0 = (u32)(w2c_j0);
-  w2c_j1 = 0ull;
-  i64_store(m, (u64)(w2c_i0) + 72, w2c_j1);
-  w2c_j0 = w2c_l5;
-  w2c_i0 = (u32)(w2c_j0);
-  w2c_j1 = 0ull;
-  i64_store(m, (u64)(w2c_i0) + 64, w2c_j1);
-  w2c_j0 = w2c_l5;
-  w2c_i0 = (u32)(w2c_j0);
-  w2c_j1 = 0ull;
-  i64_store(m, (u64)(w2c_i0) + 56, w2c_j1);
-  w2c_j0 = w2c_l5;
-  w2c_i0 = (u32)(w2c_j0);
-  w2c_j1 = 0ull;
-  i64_store(m, (u64)(w2c_i0) + 48, w2c_j1);
-  w2c_j0 = w2c_l5;
-  w2c_j1 = 48ull;
-  w2c_j0 += w2c_j1;
-  w2c_j1 = 0ull;
-  w2c_j2 = w2c_p0;
-  w2c_j3 = w2c_p1;
-  w2c_f43(m, w2c_j0, w2c_j1, w2c_j2, w2c_j3);
-  w2c_j0 = w2c_l5;
-  w2c_i0 = (u32)(w2c_j0);
-  w2c_j0 = i64_load(m, (u64)(w2c_i0) + 64u);
-  w2c_l6 = w2c_j0;
-  w2c_j0 = w2c_l5;
-  w2c_i0 = (u32)(w2c_j0);
-  w2c_i0 = i32_load8_u(m, (u64)(w2c_i0) + 48u);
-  if (w2c_i0) {goto w2c_B28;}
-  w2c_j0 = 0ull;
-  w2c_l11 = w2c_j0;
-  w2c_j0 = w2c_l6;
-  w2c_j1 = w2c_l9;
-  w2c_j2 = 5ull;
-  w2c_j1 <<= (w2c_j2 & 63);
-  w2c_l9 = w2c_j1;
-  w2c_i1 = (u32)(w2c_j1);
-  w2c_j1 = i64_load(m, (u64)(w2c_i1) + 68048u);
-  w2c_i0 = w2c_j0 > w2c_j1;
-  w2c_j1 = w2c_l5;
-  w2c_i1 = (u32)(w2c_j1);
-  w2c_j1 = i64_load(m, (u64)(w2c_i1) + 72u);
-  w2c_l10 = w2c_j1;
-  w2c_j2 = w2c_l9;
-  w2c_i2 = (u32)(w2c_j2);
-  w2c_j2 = i64_load(m, (u64)(w2c_i2) + 68056u);
-  w2c_l9 = w2c_j2;
-  w2c_i1 = w2c_j1 > w2c_j2;
-  w2c_j2 = w2c_l10;
-  w2c_j3 = w2c_l9;
-  w2c_i2 = w2c_j2 == w2c_j3;
-  w2c_i0 = w2c_i2 ? w2c_i0 : w2c_i1;
-  w2c_i0 = !(w2c_i0);
-  if (w2c_i0) {goto w2c_B26;}
-  goto w2c_B23;
-  w2c_B28:;
-  w2c_j0 = 0ull;
-  w2c_j1 = w2c_l6;
-  w2c_j2 = w2c_l5;
-  w2c_i2 = (u32)(w2c_j2);
-  w2c_i2 = i32_load8_u(m, (u64)(w2c_i2) + 56u);
-  w2c_l12 = w2c_i2;
-  w2c_i3 = 2u;
-  w2c_i2 = w2c_i2 == w2c_i3;
-  w2c_j0 = w2c_i2 ? w2c_j0 : w2c_j1;
-  w2c_l11 = w2c_j0;
-  goto w2c_B24;
-  w2c_B27:;
-  w2c_j0 = 0ull;
-  w2c_l10 = w2c_j0;
-  w2c_j0 = w2c_l5;
-  w2c_i0 = (u32)(w2c_j0);
-  w2c_j1 = 0ull;
-  i64_store(m, (u64)(w2c_i0) + 72, w2c_j1);
-  w2c_j0 = w2c_l5;
-  w2c_i0 = (u32)(w2c_j0);
-  w2c_j1 = 0ull;
-  i64_store(m, (u64)(w2c_i0) + 64, w2c_j1);
-  w2c_j0 = w2c_l5;
-  w2c_i0 = (u32)(w2c_j0);
-  w2c_j1 = 0ull;
-  i64_store(m, (u64)(w2c_i0) + 56, w2c_j1);
-  w2c_j0 = w2c_l5;
-  w2c_i0 = (u32)(w2c_j0);
-  w2c_j1 = 0ull;
-  i64_store(m, (u64)(w2c_i0) + 48, w2c_j1);
-  w2c_j0 = w2c_l5;
-  w2c_j1 = 48ull;
-  w2c_j0 += w2c_j1;
-  w2c_i1 = w2c_p3;
-  w2c_j2 = 0ull;
-  w2c_j3 = w2c_p0;
-  w2c_j4 = w2c_p1;
-  w2c_f48(m, w2c_j0, w2c_i1, w2c_j2, w2c_j3, w2c_j4);
-  w2c_j0 = w2c_l5;
-  w2c_i0 = (u32)(w2c_j0);
-  w2c_j0 = i64_load(m, (u64)(w2c_i0) + 64u);
-  w2c_l6 = w2c_j0;
-  w2c_j0 = w2c_l5;
-  w2c_i0 = (u32)(w2c_j0);
-  w2c_i0 = i32_load8_u(m, (u64)(w2c_i0) + 48u);
-  if (w2c_i0) {goto w2c_B25;}
-  w2c_j0 = 0ull;
-  w2c_l11 = w2c_j0;
-  w2c_j0 = w2c_l6;
-  w2c_j1 = w2c_l9;
-  w2c_j2 = 5ull;
-  w2c_j1 <<= (w2c_j2 & 63);
-  w2c_l9 = w2c_j1;
-  w2c_i1 = (u32)(w2c_j1);
-  w2c_j1 = i64_load(m, (u64)(w2c_i1) + 68048u);
-  w2c_i0 = w2c_j0 > w2c_j1;
-  w2c_j1 = w2c_l5;
-  w2c_i1 = (u32)(w2c_j1);
-  w2c_j1 = i64_load(m, (u64)(w2c_i1) + 72u);
-  w2c_l10 = w2c_j1;
-  w2c_j2 = w2c_l9;
-  w2c_i2 = (u32)(w2c_j2);
-  w2c_j2 = i64_load(m, (u64)(w2c_i2) + 68056u);
-  w2c_l9 = w2c_j2;
-  w2c_i1 = w2c_j1 > w2c_j2;
-  w2c_j2 = w2c_l10;
-  w2c_j3 = w2c_l9;
-  w2c_i2 = w2c_j2 == w2c_j3;
-  w2c_i0 = w2c_i2 ? w2c_i0 : w2c_i1;
-  if (w2c_i0) {goto w2c_B23;}
-  w2c_B26:;
-  w2c_i0 = 0u;
-  w2c_p2 = w2c_i0;
-  w2c_i0 = 0u;
-  w2c_l12 = w2c_i0;
-  goto w2c_B22;
-  w2c_B25:;
-  w2c_j0 = 0ull;
-  w2c_j1 = w2c_l6;
-  w2c_j2 = w2c_l5;
-  w2c_i2 = (u32)(w2c_j2);
-  w2c_i2 = i32_load8_u(m, (u64)(w2c_i2) + 56u);
-  w2c_l12 = w2c_i2;
-  w2c_i3 = 2u;
-  w2c_i2 = w2c_i2 == w2c_i3;
-  w2c_j0 = w2c_i2 ? w2c_j0 : w2c_j1;
-  w2c_l11 = w2c_j0;
-  w2c_B24:;
-  w2c_i0 = 1u;
-  w2c_p2 = w2c_i0;
-  w2c_j0 = 0ull;
-  w2c_l6 = w2c_j0;
-  goto w2c_B22;
-  w2c_B23:;
-  w2c_i0 = 2u;
-  w2c_l12 = w2c_i0;
-  w2c_i0 = 1u;
-  w2c_p2 = w2c_i0;
-  w2c_j0 = 0ull;
-  w2c_l6 = w2c_j0;
-  w2c_j0 = 0ull;
-  w2c_l10 = w2c_j0;
-  w2c_B22:;
-  w2c_i0 = w2c_p2;
-  if (w2c_i0) {goto w2c_B29;}
-  w2c_j0 = w2c_p4;
-  w2c_i0 = (u32)(w2c_j0);
-  w2c_j1 = w2c_l10;
-  i64_store(m, (u64)(w2c_i0) + 8, w2c_j1);
-  w2c_j0 = w2c_p4;
-  w2c_i0 = (u32)(w2c_j0);
-  w2c_j1 = w2c_l6;
-  i64_store(m, (u64)(w2c_i0), w2c_j1);
-  w2c_i0 = 0u;
-  w2c_l12 = w2c_i0;
-  goto w2c_B0;
-  w2c_B29:;
-  w2c_j0 = w2c_p0;
-  w2c_j1 = w2c_p1;
-  w2c_i2 = w2c_l12;
-  w2c_j3 = w2c_l11;
-  w2c_j4 = w2c_l8;
-  w2c_j5 = w2c_l7;
-  w2c_i0 = w2c_f46(m, w2c_j0, w2c_j1, w2c_i2, w2c_j3, w2c_j4, w2c_j5);
-  w2c_l12 = w2c_i0;
-  goto w2c_B0;
-  w2c_B13:;
-  w2c_i0 = 2u;
-  w2c_p2 = w2c_i0;
-  w2c_i0 = 0u;
-  w2c_l12 = w2c_i0;
-  w2c_B12:;
-  w2c_j0 = w2c_l5;
-  w2c_i0 = (u32)(w2c_j0);
-  w2c_j0 = i64_load(m, (u64)(w2c_i0) + 40u);
-  w2c_l10 = w2c_j0;
-  w2c_j0 = w2c_l5;
-  w2c_i0 = (u32)(w2c_j0);
-  w2c_j0 = i64_load(m, (u64)(w2c_i0) + 32u);
-  w2c_l6 = w2c_j0;
-  w2c_j0 = w2c_l5;
-  w2c_i0 = (u32)(w2c_j0);
-  w2c_i0 = i32_load8_u(m, (u64)(w2c_i0) + 16u);
-  if (w2c_i0) {goto w2c_B30;}
-  w2c_j0 = w2c_l6;
-  w2c_j1 = w2c_l9;
-  w2c_j2 = 5ull;
-  w2c_j1 <<= (w2c_j2 & 63);
-  w2c_j2 = 68064ull;
-  w2c_j3 = 68048ull;
-  w2c_i4 = w2c_l12;
-  w2c_j2 = w2c_i4 ? w2c_j2 : w2c_j3;
-  w2c_j1 += w2c_j2;
-  w2c_l9 = w2c_j1;
-  w2c_i1 = (u32)(w2c_j1);
-  w2c_j1 = i64_load(m, (u64)(w2c_i1));
-  w2c_i0 = w2c_j0 > w2c_j1;
-  w2c_j1 = w2c_l10;
-  w2c_j2 = w2c_l9;
-  w2c_i2 = (u32)(w2c_j2);
-  w2c_j2 = i64_load(m, (u64)(w2c_i2) + 8u);
-  w2c_l9 = w2c_j2;
-  w2c_i1 = w2c_j1 > w2c_j2;
-  w2c_j2 = w2c_l10;
-  w2c_j3 = w2c_l9;
-  w2c_i2 = w2c_j2 == w2c_j3;
-  w2c_i0 = w2c_i2 ? w2c_i0 : w2c_i1;
-  if (w2c_i0) {goto w2c_B9;}
-  w2c_i0 = w2c_l12;
-  w2c_j0 = (u64)(w2c_i0);
-  w2c_l9 = w2c_j0;
-  goto w2c_B7;
-  w2c_B30:;
-  w2c_i0 = w2c_p2;
-  w2c_j1 = w2c_l5;
-  w2c_i1 = (u32)(w2c_j1);
-  w2c_i1 = i32_load8_u(m, (u64)(w2c_i1) + 24u);
-  w2c_l12 = w2c_i1;
-  w2c_i2 = w2c_l12;
-  w2c_i3 = 2u;
-  w2c_i2 = w2c_i2 == w2c_i3;
-  w2c_l12 = w2c_i2;
-  w2c_i0 = w2c_i2 ? w2c_i0 : w2c_i1;
-  w2c_p2 = w2c_i0;
-  w2c_j0 = 0ull;
-  w2c_l10 = w2c_j0;
-  w2c_j0 = 0ull;
-  w2c_j1 = w2c_l6;
-  w2c_i2 = w2c_l12;
-  w2c_j0 = w2c_i2 ? w2c_j0 : w2c_j1;
-  w2c_l9 = w2c_j0;
-  goto w2c_B5;
-  w2c_B11:;
-  w2c_i0 = 2u;
-  w2c_p2 = w2c_i0;
-  w2c_i0 = 0u;
-  w2c_l12 = w2c_i0;
-  w2c_B10:;
-  w2c_j0 = w2c_l5;
-  w2c_i0 = (u32)(w2c_j0);
-  w2c_j0 = i64_load(m, (u64)(w2c_i0) + 40u);
-  w2c_l10 = w2c_j0;
-  w2c_j0 = w2c_l5;
-  w2c_i0 = (u32)(w2c_j0);
-  w2c_j0 = i64_load(m, (u64)(w2c_i0) + 32u);
-  w2c_l6 = w2c_j0;
-  w2c_j0 = w2c_l5;
-  w2c_i0 = (u32)(w2c_j0);
-  w2c_i0 = i32_load8_u(m, (u64)(w2c_i0) + 16u);
+  w2c_j0 = w2c_p1;
+  w2c_j1 = 4ull;
+  w2c_i0 = w2c_j0 < w2c_j1;
   if (w2c_i0) {goto w2c_B6;}
   w2c_j0 = w2c_l6;
-  w2c_j1 = w2c_l9;
-  w2c_j2 = 5ull;
-  w2c_j1 <<= (w2c_j2 & 63);
-  w2c_j2 = 68064ull;
-  w2c_j3 = 68048ull;
-  w2c_i4 = w2c_l12;
-  w2c_j2 = w2c_i4 ? w2c_j2 : w2c_j3;
-  w2c_j1 += w2c_j2;
-  w2c_l9 = w2c_j1;
-  w2c_i1 = (u32)(w2c_j1);
-  w2c_j1 = i64_load(m, (u64)(w2c_i1));
-  w2c_i0 = w2c_j0 > w2c_j1;
-  w2c_j1 = w2c_l10;
-  w2c_j2 = w2c_l9;
-  w2c_i2 = (u32)(w2c_j2);
-  w2c_j2 = i64_load(m, (u64)(w2c_i2) + 8u);
-  w2c_l9 = w2c_j2;
-  w2c_i1 = w2c_j1 > w2c_j2;
-  w2c_j2 = w2c_l10;
-  w2c_j3 = w2c_l9;
-  w2c_i2 = w2c_j2 == w2c_j3;
-  w2c_i0 = w2c_i2 ? w2c_i0 : w2c_i1;
-  w2c_i0 = !(w2c_i0);
-  if (w2c_i0) {goto w2c_B8;}
-  w2c_B9:;
-  w2c_j0 = 0ull;
-  w2c_l6 = w2c_j0;
-  w2c_i0 = 1u;
-  w2c_l12 = w2c_i0;
-  w2c_j0 = 0ull;
-  w2c_l10 = w2c_j0;
-  w2c_j0 = 0ull;
-  w2c_l9 = w2c_j0;
-  goto w2c_B4;
-  w2c_B8:;
-  w2c_i0 = w2c_l12;
-  w2c_j0 = (u64)(w2c_i0);
-  w2c_l9 = w2c_j0;
-  w2c_B7:;
-  w2c_i0 = 0u;
-  w2c_l12 = w2c_i0;
-  w2c_i0 = 0u;
-  w2c_p2 = w2c_i0;
-  goto w2c_B4;
+  w2c_j1 = 18446744073709551612ull;
+  w2c_j0 += w2c_j1;
+  w2c_l7 = w2c_j0;
+  w2c_j0 = w2c_p1;
+  w2c_p0 = w2c_j0;
+  w2c_L7:
+    w2c_j0 = w2c_l7;
+    w2c_j1 = w2c_p0;
+    w2c_j0 += w2c_j1;
+    w2c_i0 = (u32)(w2c_j0);
+    w2c_i0 = i32_load(m, (u64)(w2c_i0));
+    w2c_i1 = 8u;
+    w2c_i0 >>= (w2c_i1 & 31);
+    w2c_i1 = 16776989u;
+    w2c_i0 += w2c_i1;
+    w2c_i1 = 12632312u;
+    w2c_i0 &= w2c_i1;
+    w2c_i1 = 8421376u;
+    w2c_i0 = w2c_i0 != w2c_i1;
+    if (w2c_i0) {goto w2c_B5;}
+    w2c_j0 = w2c_p0;
+    w2c_j1 = 18446744073709551613ull;
+    w2c_j0 += w2c_j1;
+    w2c_p0 = w2c_j0;
+    w2c_j1 = 3ull;
+    w2c_i0 = w2c_j0 > w2c_j1;
+    if (w2c_i0) {goto w2c_L7;}
   w2c_B6:;
-  w2c_i0 = w2c_p2;
-  w2c_j1 = w2c_l5;
-  w2c_i1 = (u32)(w2c_j1);
-  w2c_i1 = i32_load8_u(m, (u64)(w2c_i1) + 24u);
-  w2c_l12 = w2c_i1;
-  w2c_i2 = w2c_l12;
-  w2c_i3 = 2u;
-  w2c_i2 = w2c_i2 == w2c_i3;
-  w2c_l12 = w2c_i2;
-  w2c_i0 = w2c_i2 ? w2c_i0 : w2c_i1;
-  w2c_p2 = w2c_i0;
-  w2c_j0 = 0ull;
-  w2c_l10 = w2c_j0;
-  w2c_j0 = 0ull;
-  w2c_j1 = w2c_l6;
-  w2c_i2 = w2c_l12;
-  w2c_j0 = w2c_i2 ? w2c_j0 : w2c_j1;
-  w2c_l9 = w2c_j0;
-  w2c_B5:;
-  w2c_i0 = 1u;
-  w2c_l12 = w2c_i0;
-  w2c_j0 = 0ull;
-  w2c_l6 = w2c_j0;
-  w2c_B4:;
-  w2c_i0 = w2c_l12;
-  if (w2c_i0) {goto w2c_B31;}
-  w2c_j0 = w2c_p4;
-  w2c_i0 = (u32)(w2c_j0);
-  w2c_j1 = 0ull;
-  w2c_j2 = w2c_l6;
-  w2c_j1 -= w2c_j2;
-  w2c_j2 = w2c_l6;
-  w2c_j3 = w2c_l9;
-  w2c_i3 = (u32)(w2c_j3);
-  w2c_i4 = 1u;
-  w2c_i3 &= w2c_i4;
-  w2c_p2 = w2c_i3;
-  w2c_j1 = w2c_i3 ? w2c_j1 : w2c_j2;
-  i64_store(m, (u64)(w2c_i0), w2c_j1);
-  w2c_j0 = w2c_p4;
-  w2c_i0 = (u32)(w2c_j0);
-  w2c_j1 = 0ull;
-  w2c_j2 = w2c_l10;
-  w2c_j3 = w2c_l6;
-  w2c_j4 = 0ull;
-  w2c_i3 = w2c_j3 != w2c_j4;
-  w2c_j3 = (u64)(w2c_i3);
-  w2c_j2 += w2c_j3;
-  w2c_j1 -= w2c_j2;
-  w2c_j2 = w2c_l10;
-  w2c_i3 = w2c_p2;
-  w2c_j1 = w2c_i3 ? w2c_j1 : w2c_j2;
-  i64_store(m, (u64)(w2c_i0) + 8, w2c_j1);
-  w2c_i0 = 0u;
-  w2c_l12 = w2c_i0;
-  goto w2c_B0;
-  w2c_B31:;
   w2c_j0 = w2c_p0;
+  w2c_j1 = 3ull;
+  w2c_i0 = w2c_j0 > w2c_j1;
+  if (w2c_i0) {goto w2c_B4;}
+  w2c_j0 = w2c_p0;
+  w2c_i0 = (u32)(w2c_j0);
+  switch (w2c_i0) {
+    case 0: goto w2c_B2;
+    case 1: goto w2c_B4;
+    case 2: goto w2c_B4;
+    case 3: goto w2c_B8;
+    default: goto w2c_B2;
+  }
+  w2c_B8:;
+  w2c_j0 = 3ull;
+  w2c_p0 = w2c_j0;
+  w2c_j0 = w2c_l6;
+  w2c_i0 = (u32)(w2c_j0);
+  w2c_i0 = i32_load16_u(m, (u64)(w2c_i0));
+  w2c_j1 = w2c_l6;
+  w2c_j2 = 2ull;
+  w2c_j1 += w2c_j2;
+  w2c_i1 = (u32)(w2c_j1);
+  w2c_i1 = i32_load8_u(m, (u64)(w2c_i1));
+  w2c_i2 = 16u;
+  w2c_i1 <<= (w2c_i2 & 31);
+  w2c_i0 |= w2c_i1;
+  w2c_i1 = 16776989u;
+  w2c_i0 += w2c_i1;
+  w2c_i1 = 12632312u;
+  w2c_i0 &= w2c_i1;
+  w2c_i1 = 8421376u;
+  w2c_i0 = w2c_i0 != w2c_i1;
+  if (w2c_i0) {goto w2c_B4;}
+  goto w2c_B2;
+  w2c_B5:;
+  w2c_j0 = w2c_p0;
+  w2c_j1 = 7ull;
+  w2c_i0 = w2c_j0 > w2c_j1;
+  if (w2c_i0) {goto w2c_B3;}
+  w2c_B4:;
+  w2c_j0 = 0ull;
+  w2c_l7 = w2c_j0;
+  w2c_L9:
+    w2c_j0 = w2c_p0;
+    w2c_j1 = w2c_l7;
+    w2c_i0 = w2c_j0 == w2c_j1;
+    if (w2c_i0) {goto w2c_B2;}
+    w2c_j0 = w2c_l6;
+    w2c_j1 = w2c_l7;
+    w2c_j0 += w2c_j1;
+    w2c_l8 = w2c_j0;
+    w2c_j0 = w2c_l7;
+    w2c_j1 = 1ull;
+    w2c_j0 += w2c_j1;
+    w2c_l7 = w2c_j0;
+    w2c_j0 = w2c_l8;
+    w2c_i0 = (u32)(w2c_j0);
+    w2c_i0 = i32_load8_s(m, (u64)(w2c_i0));
+    w2c_i1 = 4294967295u;
+    w2c_i0 = (u32)((s32)w2c_i0 > (s32)w2c_i1);
+    if (w2c_i0) {goto w2c_L9;}
+  w2c_B3:;
+  w2c_i0 = 5u;
+  w2c_l9 = w2c_i0;
+  w2c_j0 = w2c_l6;
+  w2c_j1 = w2c_p0;
+  w2c_i0 = w2c_f12(m, w2c_j0, w2c_j1);
+  w2c_i0 = !(w2c_i0);
+  if (w2c_i0) {goto w2c_B1;}
+  w2c_B2:;
+  w2c_j0 = w2c_l6;
   w2c_j1 = w2c_p1;
   w2c_i2 = w2c_p2;
-  w2c_j3 = w2c_l9;
-  w2c_j4 = w2c_l8;
-  w2c_j5 = w2c_l7;
-  w2c_i0 = w2c_f46(m, w2c_j0, w2c_j1, w2c_i2, w2c_j3, w2c_j4, w2c_j5);
-  w2c_l12 = w2c_i0;
-  w2c_B0:;
+  w2c_i3 = w2c_p3;
+  w2c_j4 = w2c_p4;
+  w2c_i0 = w2c_f49(m, w2c_j0, w2c_j1, w2c_i2, w2c_i3, w2c_j4);
+  w2c_l9 = w2c_i0;
+  w2c_B1:;
   w2c_j0 = w2c_l5;
-  w2c_j1 = 96ull;
-  w2c_j0 += w2c_j1;
   m->w2c_g0 = w2c_j0;
-  w2c_i0 = w2c_l12;
+  w2c_i0 = w2c_l9;
+  goto w2c_Bfunc;
+  w2c_B0:;
+  UNREACHABLE;
+  w2c_Bfunc:;
   return w2c_i0;
 }
 #if defined(__GNUC__)
