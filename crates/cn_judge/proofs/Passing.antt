@@ -1,15 +1,18 @@
 -- Characters that are passed over, each by its first byte.
-use Rattle.std.proofs.Common.{◌≡◌, ◌-◌, ◌%◌, ℕ, zero, suc, ◌+◌, ◌/◌, ◌<◌, ◌≤◌, List, [], ◌∷◌, ◌++◌, length, get_or, take, drop, chars, encode_utf8_all, IsUtf8, refl, sym, ap, subst, ◌∙◌, arith, length-append, length-drop, get_or-drop, drop-drop}
+use Rattle.std.proofs.Common.{◌≡◌, ◌-◌, ◌%◌, ℕ, true, zero, suc, ◌+◌, ◌/◌, ◌<◌, ◌≤◌, List, [], ◌∷◌, ◌++◌, length, get_or, take, drop, chars, encode_utf8_all, IsUtf8, refl, sym, ap, subst, ◌∙◌, arith, length-append, length-drop, get_or-drop, drop-drop}
 use Rattle.std.specs.Array.{IsFirstChunk}
 use Rattle.std.specs.Int.{w64, from_le_bytes}
-use Rattle.std.specs.Str.{continuation_len}
+use Rattle.std.specs.Char.{is_whitespace}
+use Rattle.std.specs.Str.{IsCharBoundary, continuation_len}
+use Rattle.std.proofs.lemmas.Bool.Decides.{nat_tests}
 use Rattle.std.proofs.lemmas.List.{get_or-take, take_all}
-use Rattle.std.proofs.lemmas.Str.{encodes-append, encodes-chars}
+use Rattle.std.proofs.lemmas.Str.{IsCharBoundary-after_ascii, IsCharBoundary-from_drop, IsUtf8-past_char, chars_past_char, encode_ascii, encodes-append, encodes-chars}
 use lib.Utf8.{encode}
 use Rattle.cn_core.proofs.Chars.{chars-from_empty}
 use Rattle.cn_judge.specs.ByteIndex.{byte_index}
-use Rattle.cn_judge.specs.Private.FirstKey.{BeginsThreeThrees}
+use Rattle.cn_judge.specs.Private.FirstKey.{BeginsThreeThrees, BeginsWithSpace}
 use Rattle.cn_judge.proofs.FirstBytes.{len_three, starts}
+use Rattle.cn_judge.proofs.ThreeBytes.{first-boundary, first-three}
 
 -- this byte stands behind so many characters
 pub record Passed (text : List ℕ) (count at : ℕ) : Type 0 where
@@ -152,3 +155,78 @@ Passed-end text count at index passed whole end far =
     ap (λ l. length (encode_utf8_all l)) (take_all index (chars text) (omega (arith, all, far)))
     ∙ ap length (encodes-chars text whole) in
     omega (arith, passed.within, end, whole-text)
+
+-- a text behind a space
+front-ascii : (bytes : List ℕ) → 0 < length bytes → get_or bytes 0 0 < 128
+    → bytes ≡ encode (get_or bytes 0 0) ++ drop 1 bytes
+front-ascii [] some low = absurd (omega (arith, some))
+front-ascii (a ∷ rest) some low =
+    ap (λ l. a ∷ l) (sym (drop-none rest)) ∙ ap (λ l. l ++ drop 0 rest) (sym (encode_ascii a low))
+
+pub ascii-first : (bytes text : List ℕ) → bytes ≡ text → IsUtf8 text → 0 < length bytes
+    → get_or bytes 0 0 < 128
+    → (chars text ≡ get_or bytes 0 0 ∷ chars (drop 1 text)) × IsCharBoundary text 1
+ascii-first bytes text same utf8 some low =
+    let whole : IsUtf8 bytes = subst IsUtf8 (sym same) utf8 in
+    subst (λ l. (chars l ≡ get_or bytes 0 0 ∷ chars (drop 1 l)) × IsCharBoundary l 1) same (
+      chars_past_char bytes (drop 1 bytes) _ whole (front-ascii bytes some low),
+      IsCharBoundary-after_ascii bytes 0 whole some low,
+    )
+
+ascii-space : (bytes text : List ℕ) → bytes ≡ text → IsUtf8 text → 0 < length bytes
+    → is_whitespace (get_or bytes 0 0) ≡ true → get_or bytes 0 0 < 128 → BeginsWithSpace text 1
+ascii-space bytes text same utf8 some white low =
+    let first = ascii-first bytes text same utf8 some low in
+    record {
+      code = get_or bytes 0 0;
+      white = white;
+      within = omega (arith, some, ap length same);
+      boundary = first.1;
+      parts = first.0;
+    }
+
+pub one-space : (bytes text : List ℕ) → bytes ≡ text → IsUtf8 text → 0 < length bytes
+    → get_or bytes 0 0 ≡ 0x20 → BeginsWithSpace text 1
+one-space bytes text same utf8 some is =
+    ascii-space bytes text same utf8 some (grind (arith, nat_tests, is)) (omega (arith, is))
+
+pub control-space : (bytes text : List ℕ) → bytes ≡ text → IsUtf8 text → 0 < length bytes
+    → 9 ≤ get_or bytes 0 0 → get_or bytes 0 0 ≤ 13 → BeginsWithSpace text 1
+control-space bytes text same utf8 some low high =
+    ascii-space bytes text same utf8 some (grind (arith, nat_tests, low, high)) (omega (arith, high))
+
+pub wide-space : (bytes text : List ℕ) → bytes ≡ text → IsUtf8 text → 3 ≤ length bytes
+    → get_or bytes 0 0 ≡ 0xE3 → get_or bytes 1 0 ≡ 0x80 → get_or bytes 2 0 ≡ 0x80
+    → BeginsWithSpace text 3
+wide-space bytes text same utf8 long a b d =
+    let whole : IsUtf8 bytes = subst IsUtf8 (sym same) utf8 in
+    subst (λ l. BeginsWithSpace l 3) same (record {
+      code = 12288;
+      white = refl;
+      within = long;
+      boundary = first-boundary bytes 0xE3 whole long (sym a) (omega arith) (omega arith);
+      parts = first-three bytes (drop 3 bytes) 0xE3 0x80 0x80 12288 whole long refl (sym a) (sym b)
+          (sym d) (omega arith) (omega arith) refl;
+    })
+
+front-hard : (bytes : List ℕ) → 2 ≤ length bytes → get_or bytes 0 0 ≡ 0xC2
+    → get_or bytes 1 0 ≡ 0xA0 → bytes ≡ encode 160 ++ drop 2 bytes
+unfolding encode
+front-hard [] long p q = absurd (omega (arith, long))
+front-hard (a ∷ []) long p q = absurd (omega (arith, long))
+front-hard (a ∷ b ∷ rest) long p q =
+    (λ k. p k ∷ q k ∷ rest) ∙ ap (λ l. 0xC2 ∷ 0xA0 ∷ l) (sym (drop-none rest))
+
+pub hard-space : (bytes text : List ℕ) → bytes ≡ text → IsUtf8 text → 2 ≤ length bytes
+    → get_or bytes 0 0 ≡ 0xC2 → get_or bytes 1 0 ≡ 0xA0 → BeginsWithSpace text 2
+hard-space bytes text same utf8 long p q =
+    let whole : IsUtf8 bytes = subst IsUtf8 (sym same) utf8 in
+    let front = front-hard bytes long p q in
+    let rest = IsUtf8-past_char bytes (drop 2 bytes) 160 whole front in
+    subst (λ l. BeginsWithSpace l 2) same (record {
+      code = 160;
+      white = refl;
+      within = long;
+      boundary = IsCharBoundary-from_drop bytes 2 long rest;
+      parts = chars_past_char bytes (drop 2 bytes) 160 whole front;
+    })

@@ -18,7 +18,7 @@ ghost use Rattle.cn_judge.specs.Private.Walk.{digit_next, walked_answer, HasNoTa
 use crate::ChineseToNumberError;
 use crate::mark::{Mark, mark_of};
 use crate::open_units::OpenUnits;
-use crate::text::{count_chars, split_first, split_last_mark};
+use crate::text::{count_chars, first_behind, skip_spaces, split_first, split_last_mark};
 use crate::walk::{is_at_digit, separates_digits, walk};
 use cn_core::{ChineseCountMethod, Sign, Unit, Whole, scale, sign_of};
 
@@ -26,34 +26,40 @@ use cn_core::{ChineseCountMethod, Sign, Unit, Whole, scale, sign_of};
 #[derive(Copy, Clone)]
 pub struct AfterSign<'a> {
     pub sign: Option<Sign>,
-    /// How many characters stand before the rest, the sign and white space before it.
+    /// How many characters stand before the rest: the sign, if there is one, and white space before it.
     pub skipped: usize,
     pub rest: &'a str,
 }
 
-/// Takes off one sign at the start of a text that is read for a signed type.
 // By a call a number takes 30 instructions more.
+/// Takes off one sign at the start of a text that is read for a signed type, and the spaces there.
 #[inline(always)]
 pub fn split_sign(signed: bool, text: &str) -> AfterSign<'_>
     ensures sign { result.sign ≡ leading_sign signed (text_of text.now) }
     ensures rest { StandsAt text.now (chars result.rest.now) result.skipped (sign_len result.sign) }
     ensures within { result.skipped + length result.rest.now ≤ length text.now }
 {
-    if signed {
-        if let Some(first) = split_first(text) {
-            if let Some(sign) = sign_of(first.character) {
-                return AfterSign {
-                    sign: Some(sign),
-                    skipped: first.skipped + 1,
-                    rest: first.rest,
-                };
-            }
+    if !signed {
+        return AfterSign {
+            sign: None,
+            skipped: 0,
+            rest: text,
+        };
+    }
+    let behind = skip_spaces(text);
+    if let Some(first) = first_behind(behind) {
+        if let Some(sign) = sign_of(first.character) {
+            return AfterSign {
+                sign: Some(sign),
+                skipped: first.skipped + 1,
+                rest: first.rest,
+            };
         }
     }
     AfterSign {
         sign: None,
-        skipped: 0,
-        rest: text,
+        skipped: behind.skipped,
+        rest: behind.rest,
     }
 }
 
@@ -154,8 +160,8 @@ fn add_tail(method: ChineseCountMethod, number: u128, unit: Unit, digit: u8) -> 
     number.checked_add(digit as u128 * (size / 10))
 }
 
-/// The answer to a text without sign, which stands after so many characters of the caller's string.
 // By a call a refusal takes 20 instructions more.
+/// The answer to a text without sign, which stands after so many characters of the caller's string.
 #[inline(always)]
 pub fn judge_text(
     method: ChineseCountMethod,

@@ -1,6 +1,6 @@
 // Walking a text: its characters from either end, and those that are no white space. Their marks
 // too: of characters of three bytes quickly, of any other as it comes.
-ghost use Rattle.std.specs.Prelude.{◌≡◌, ℕ, ◌+◌, ◌*◌, ◌<◌, ◌≤◌, [], ◌∷◌, ◌++◌, length, chars, false, IfSome, IfNone, IsTrue, MatchOption};
+ghost use Rattle.std.specs.Prelude.{◌≡◌, ℕ, ◌+◌, ◌*◌, ◌^◌, ◌<◌, ◌≤◌, List, [], ◌∷◌, ◌++◌, length, chars, false, IfSome, IfNone, IsTrue, MatchOption};
 ghost use Rattle.std.specs.Char.{is_whitespace};
 ghost use Rattle.std.specs.Str.{continuation_len};
 ghost use Rattle.cn_core.specs.Mark.{digit, mark_of, other};
@@ -8,7 +8,7 @@ ghost use Rattle.cn_core.specs.Text.{text_of};
 ghost use Rattle.cn_judge.specs.ByteIndex.{byte_index};
 ghost use Rattle.cn_judge.specs.Marked.{marked};
 ghost use Rattle.cn_judge.specs.Piece.{StandsAt, EndsWith};
-ghost use Rattle.cn_judge.specs.Private.FirstKey.{BeginsThreeThrees, EndsWithKey, StartsWithKey};
+ghost use Rattle.cn_judge.specs.Private.FirstKey.{BeginsThreeThrees, BeginsWithSpace, EndsWithKey, StartsWithKey};
 
 use crate::mark::{Mark, known_mark, mark_of, mark_of_key};
 use cn_core::split_first_char;
@@ -32,7 +32,7 @@ fn first_key(text: &str) -> Option<u32>
 }
 
 /// The first character where it takes three bytes, its mark, and what stands after it. Looked up by
-/// its bytes, each is passed in 16 instructions fewer.
+/// its bytes, each is passed in 16 instructions fewer. `None` says nothing of a text.
 #[inline(always)]
 pub fn split_first_three(text: &str) -> Option<(char, Mark, &str)>
     ensures parts { IfSome result (λ r. (chars text.now ≡ r.0 ∷ chars r.2.now)
@@ -81,6 +81,22 @@ fn split_first_dark(text: &str) -> Option<(char, &str)>
     }
 }
 
+// The first character where it is of ASCII and no white space, and what stands after it. `None` says
+// nothing of a text.
+#[inline(always)]
+fn split_first_graphic(text: &str) -> Option<(char, &str)>
+    ensures parts { IfSome result (λ r. chars text.now ≡ r.0 ∷ chars r.1.now) }
+    ensures dark { IfSome result (λ r. is_whitespace r.0 ≡ false) }
+    ensures shorter { IfSome result (λ r. length r.1.now < length text.now) }
+{
+    let bytes = text.as_bytes();
+    if bytes.is_empty() || !bytes[0].is_ascii_graphic() {
+        return None;
+    }
+    let (_, after) = text.split_at(1);
+    Some((bytes[0] as char, after))
+}
+
 /// The first character of a text that is no white space.
 #[derive(Copy, Clone)]
 pub struct First<'a> {
@@ -91,18 +107,68 @@ pub struct First<'a> {
     pub rest: &'a str,
 }
 
-/// The first character that is no white space, by decoding. It stands by itself, so that what calls it is
-/// short: a sign is neither digit nor unit, but for 正.
-#[inline(never)]
-pub(crate) fn split_first_slowly(text: &str) -> Option<First<'_>>
-    ensures parts { MatchOption result (text_of text.now ≡ [])
-        (λ first. StandsAt text.now (first.character ∷ chars first.rest.now) first.skipped 0) }
-    ensures dark { IfSome result (λ first. is_whitespace first.character ≡ false) }
-    ensures within { IfSome result
-        (λ first. first.skipped + length first.rest.now < length text.now) }
+// What stands behind white space.
+#[derive(Copy, Clone)]
+pub(crate) struct Behind<'a> {
+    // How many characters stand before it.
+    pub skipped: usize,
+    pub rest: &'a str,
+}
+
+// How many bytes the white space takes with which a text begins, if that is of ASCII, a no-break space
+// or one of full width, as nearly all is; else 0. So 三十 behind any of these is read as soon as alone.
+#[inline(always)]
+fn space_len(text: &str) -> usize
+    ensures { 0 < result → BeginsWithSpace text.now result }
 {
-    let mut rest = text;
-    let mut skipped = 0;
+    let bytes = text.as_bytes();
+    if bytes.is_empty() {
+        return 0;
+    }
+    match bytes[0] {
+        0x09..=0x0D | 0x20 => 1,
+        0xC2 if bytes.len() >= 2 && bytes[1] == 0xA0 => 2,
+        0xE3 if bytes.len() >= 3 && bytes[1] == 0x80 && bytes[2] == 0x80 => 3,
+        _ => 0,
+    }
+}
+
+// What stands behind the spaces at the start of a text.
+#[inline(always)]
+pub(crate) fn skip_spaces(text: &str) -> Behind<'_>
+    ensures at { StandsAt text.now (chars result.rest.now) result.skipped 0 }
+    ensures within { result.skipped + length result.rest.now ≤ length text.now }
+{
+    let mut behind = Behind {
+        skipped: 0,
+        rest: text,
+    };
+    let mut len = space_len(text);
+    'skipping: while len > 0 {
+        let (_, rest) = behind.rest.split_at(len);
+        behind = Behind {
+            skipped: behind.skipped + 1,
+            rest,
+        };
+        len = space_len(rest);
+    }
+    behind
+}
+
+// The first character there that is no white space, by decoding. It stands by itself, so that what calls
+// it is short.
+#[inline(never)]
+fn first_behind_slowly(behind: Behind<'_>) -> Option<First<'_>>
+    requires { behind.skipped + length behind.rest.now < 2 ^ 64 }
+    ensures parts { (text : List ℕ) → StandsAt text (chars behind.entry.rest.now) behind.entry.skipped 0
+        → MatchOption result (text_of text ≡ [])
+        (λ first. StandsAt text (first.character ∷ chars first.rest.now) first.skipped 0) }
+    ensures dark { IfSome result (λ first. is_whitespace first.character ≡ false) }
+    ensures within { IfSome result (λ first. first.skipped + length first.rest.now
+        < behind.entry.skipped + length behind.entry.rest.now) }
+{
+    let mut rest = behind.rest;
+    let mut skipped = behind.skipped;
     'skipping: while let Some((character, after)) = split_first_char(rest) {
         if !character.is_whitespace() {
             return Some(First {
@@ -117,6 +183,27 @@ pub(crate) fn split_first_slowly(text: &str) -> Option<First<'_>>
     None
 }
 
+// The first character there that is no white space.
+#[inline(always)]
+pub(crate) fn first_behind(behind: Behind<'_>) -> Option<First<'_>>
+    requires { behind.skipped + length behind.rest.now < 2 ^ 64 }
+    ensures parts { (text : List ℕ) → StandsAt text (chars behind.entry.rest.now) behind.entry.skipped 0
+        → MatchOption result (text_of text ≡ [])
+        (λ first. StandsAt text (first.character ∷ chars first.rest.now) first.skipped 0) }
+    ensures dark { IfSome result (λ first. is_whitespace first.character ≡ false) }
+    ensures within { IfSome result (λ first. first.skipped + length first.rest.now
+        < behind.entry.skipped + length behind.entry.rest.now) }
+{
+    match split_first_dark(behind.rest).or(split_first_graphic(behind.rest)) {
+        Some((character, rest)) => Some(First {
+            character,
+            skipped: behind.skipped,
+            rest,
+        }),
+        None => first_behind_slowly(behind),
+    }
+}
+
 /// The first character that is no white space.
 #[inline(always)]
 pub fn split_first(text: &str) -> Option<First<'_>>
@@ -126,14 +213,7 @@ pub fn split_first(text: &str) -> Option<First<'_>>
     ensures within { IfSome result
         (λ first. first.skipped + length first.rest.now < length text.now) }
 {
-    match split_first_dark(text) {
-        Some((character, rest)) => Some(First {
-            character,
-            skipped: 0,
-            rest,
-        }),
-        None => split_first_slowly(text),
-    }
+    first_behind(skip_spaces(text))
 }
 
 /// The last character, and what stands before it.
@@ -350,18 +430,22 @@ pub fn split_last_mark(text: &str) -> Option<(Mark, &str)>
     split_last_slowly(text)
 }
 
-// The mark of the last character that is no white space, by std's decoding, and what stands before
-// it.
+// The mark of the last character that is no white space, of which the table of marks has not all, and
+// what stands before it.
 fn split_last_slowly(text: &str) -> Option<(Mark, &str)>
     ensures parts { IfSome result (λ r. (c : ℕ) × EndsWith text.now c r.1.now
         × (marked r.0 ≡ mark_of c)) }
     ensures none { IfNone result (text_of text.now ≡ []) }
     ensures shorter { IfSome result (λ r. length r.1.now < length text.now) }
 {
-    match split_last(text) {
-        Some((c, before)) => Some((mark_of(c), before)),
-        None => None,
+    let mut ahead = text;
+    'skipping: while let Some((c, mark, before)) = split_end_mark(ahead) {
+        if !c.is_whitespace() {
+            return Some((mark, before));
+        }
+        ahead = before;
     }
+    None
 }
 
 /// The first character where it is a digit of three bytes, and what stands after it.

@@ -1,6 +1,6 @@
 -- What a text starts or ends with, by the bytes of its first or last character.
-use Rattle.std.specs.Prelude.{◌≡◌, ℕ, ◌+◌, ◌-◌, ◌*◌, ◌/◌, ◌%◌, ◌<◌, ◌≤◌, List, [], ◌∷◌, ◌++◌, length, get_or, take, drop, chars, IsCharBoundary}
-use Rattle.std.specs.Char.{IsScalar}
+use Rattle.std.specs.Prelude.{◌≡◌, ℕ, ◌+◌, ◌-◌, ◌*◌, ◌/◌, ◌%◌, ◌<◌, ◌≤◌, List, [], ◌∷◌, ◌++◌, length, get_or, take, drop, chars, true, IsCharBoundary}
+use Rattle.std.specs.Char.{IsScalar, is_whitespace}
 use Rattle.cn_judge.specs.Marked.{key_of}
 
 -- the first character takes three bytes, and this is its key
@@ -33,3 +33,11 @@ pub record BeginsThreeThrees (bytes : List ℕ) (at : ℕ) : Type 0 where
   pub first : get_or bytes at 0 / 16 ≡ 14
   pub second : get_or bytes (at + 3) 0 / 16 ≡ 14
   pub third : get_or bytes (at + 6) 0 / 16 ≡ 14
+
+-- the first character is white space of so many bytes
+pub record BeginsWithSpace (text : List ℕ) (len : ℕ) : Type 0 where
+  pub code : ℕ
+  pub white : is_whitespace code ≡ true
+  pub within : len ≤ length text
+  pub boundary : IsCharBoundary text len
+  pub parts : chars text ≡ code ∷ chars (drop len text)

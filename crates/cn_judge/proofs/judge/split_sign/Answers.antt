@@ -3,4 +3,4 @@ use Rattle.cn_judge.proofs.judge.split_sign.Goals as goal
 
 pub returns-in-Some-sign_of-clause-rest : goal.returns-in-Some-sign_of-clause-rest
 returns-in-Some-sign_of-clause-rest c =
-    StandsAt-dark _ _ _ _ _ c.in-Some.ensures.parts c.in-Some.ensures.dark
+    StandsAt-dark _ _ _ _ _ (c.in-Some.ensures.parts _ c.skip_spaces-behind.ensures.at) c.in-Some.ensures.dark
