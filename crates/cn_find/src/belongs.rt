@@ -1,8 +1,8 @@
 // Whether a character of a text is one of a number.
-ghost use Rattle.std.specs.Prelude.{◌≡◌, ◌&&◌, nat_le, chars};
+ghost use Rattle.std.specs.Prelude.{◌≡◌, ◌&&◌, ℕ, nat_le, true, chars};
 ghost use Rattle.cn_core.specs.Characters.{rank};
 ghost use Rattle.cn_core.specs.Mark.{mark_of};
-ghost use Rattle.cn_judge.specs.Marked.{marked};
+ghost use Rattle.cn_judge.specs.Marked.{marked, unit_mark};
 ghost use Rattle.cn_find.specs.Belongs.{begins_measure, belongs, counts_next, is_chinese_digit, is_great, is_mega, is_parted, is_upper, is_wanted, is_wanted_mark};
 
 use crate::Wanted;
@@ -10,6 +10,7 @@ use cn_core::{Unit, digit_of, split_first_char};
 use cn_judge::{Mark, split_first_mark};
 
 // The forms that stand in the upper case alone.
+#[inline(always)]
 #[tactic(auto, unfolding(crate::specs::Belongs::is_upper))]
 fn is_upper(c: char) -> bool
     ensures { result ≡ is_upper c }
@@ -115,6 +116,20 @@ fn counts_next(wanted: Wanted, text: &str) -> bool
     is_great(mark) && is_wanted(wanted, c, mark) && !is_mega(c, mark, after)
 }
 
+// Whether a unit that is looked for is one of a number, by what follows it.
+#[inline(always)]
+#[tactic(auto, unfolding(crate::specs::Belongs::belongs))]
+fn unit_belongs(wanted: Wanted, unit: Unit, after: &str) -> bool
+    ensures { (c : ℕ) → unit_mark unit ≡ mark_of c → is_wanted wanted c ≡ true
+        → result ≡ belongs wanted c (chars after.now) }
+{
+    match unit {
+        Unit::Ge => counts_next(wanted, after),
+        Unit::Zhao => !begins_measure(after),
+        _ => true,
+    }
+}
+
 /// Whether a character with its mark is one of a number, by what follows it.
 #[inline(always)]
 #[tactic(auto, unfolding(crate::specs::Belongs::belongs))]
@@ -125,25 +140,9 @@ pub fn belongs(wanted: Wanted, c: char, mark: Mark, after: &str) -> bool
     // Most characters of a text are neither digit nor unit, so they are told apart first.
     match mark {
         Mark::Other => false,
-        _ => known_belongs(wanted, c, mark, after),
-    }
-}
-
-// Whether a digit or a unit is one of a number, by what follows it. It stands by itself, and what is
-// asked of 個 and 兆 too, so that the walk over other characters is short.
-#[inline(never)]
-#[tactic(auto, unfolding(crate::specs::Belongs::belongs))]
-fn known_belongs(wanted: Wanted, c: char, mark: Mark, after: &str) -> bool
-    requires { marked mark ≡ mark_of c }
-    ensures { result ≡ belongs wanted c (chars after.now) }
-{
-    if !is_wanted(wanted, c, mark) {
-        return false;
-    }
-    match mark {
+        _ if !is_wanted(wanted, c, mark) => false,
         Mark::Digit(_) => true,
-        Mark::Unit(Unit::Ge) => counts_next(wanted, after),
-        _ => !is_mega(c, mark, after),
+        Mark::Unit(unit) => unit_belongs(wanted, unit, after),
     }
 }
 
@@ -159,5 +158,5 @@ pub fn is_chinese_digit(c: char) -> bool
 pub fn is_parted(c: char, next: char) -> bool
     ensures { result ≡ is_parted c next }
 {
-    (c.is_ascii_digit() && is_chinese_digit(next)) || (is_chinese_digit(c) && next.is_ascii_digit())
+    (c.is_ascii_digit() && is_chinese_digit(next)) || (next.is_ascii_digit() && is_chinese_digit(c))
 }

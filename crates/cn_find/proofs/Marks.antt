@@ -1,0 +1,94 @@
+-- What the mark of a character tells.
+use Rattle.std.proofs.Common.{◌≡◌, ◌≢◌, ◌+◌, ℕ, ◌<◌, List, drop, get_or, length-drop, subst, [], ◌∷◌, length, chars, IsUtf8, encode_utf8_all, Bool, true, false, not, Option, None, Some, is_some, refl, ap, ◌∙◌, sym, arith}
+use Rattle.std.specs.List.{list_all}
+use Rattle.std.specs.Prelude.{codes}
+use Rattle.std.proofs.lemmas.Bool.Decides.{nat_tests}
+use Rattle.std.proofs.lemmas.List.{append-nil}
+use Rattle.std.proofs.lemmas.Str.{encodes-chars, length-encode, len_utf8_bounds}
+use lib.Utf8.{encode}
+use Rattle.cn_core.specs.Characters.{digit_of, rank_of, digit_rows, unit_rows, row_with}
+use Rattle.cn_core.specs.Mark.{digit, other, mark_of, mark_from}
+use Rattle.cn_core.specs.declared.unit.Unit.{Unit as NumeralUnit}
+use Rattle.cn_judge.specs.Marked.{marked}
+use Rattle.cn_judge.specs.declared.mark.Mark.{Mark as ReadMark}
+use Rattle.cn_judge.specs.declared.mark.Mark.TheVariants.{Digit, Unit, Other}
+use Rattle.std.specs.Str.{continuation_len}
+use Rattle.cn_core.proofs.Chars.{chars-from_empty}
+use Rattle.cn_judge.proofs.FirstBytes.{starts}
+use Rattle.cn_judge.proofs.Passing.{ascii-first}
+use Rattle.cn_judge.proofs.Walking.{rows_have}
+use Rattle.cn_find.specs.Belongs.{begins_with}
+use Rattle.cn_find.specs.Flags.{clings}
+
+none-from : (x : Option ℕ) → not (is_some x) ≡ true → false ≡ is_some x
+none-from None e = refl
+none-from (Some value) e = cc
+
+-- a digit is no unit, and any other character is neither
+no-unit : (d r : Option ℕ) (value : ℕ) → mark_from d r ≡ digit value → d ≡ Some value
+no-unit (Some v) r value e = cc
+no-unit None (Some r) value e = cc
+no-unit None None value e = cc
+
+no-rank : (d r : Option ℕ) → mark_from d r ≡ other → false ≡ is_some r
+no-rank (Some v) r e = cc
+no-rank None (Some r) e = cc
+no-rank None None e = refl
+
+pub unit_by_mark : (c : ℕ) (mark : ReadMark) → marked mark ≡ mark_of c
+    → ((which : NumeralUnit) → mark ≡ Unit which → ⊥) → false ≡ is_some (rank_of c)
+unfolding digit_of rank_of
+unit_by_mark c (Digit value) same none =
+    none-from (rank_of c) (rows_have (λ d. not (is_some (row_with d unit_rows))) digit_rows c value refl
+    (no-unit (digit_of c) (rank_of c) value (sym same)))
+unit_by_mark c (Unit which) same none = absurd (none which refl)
+unit_by_mark c Other same none = no-rank (digit_of c) (rank_of c) (sym same)
+
+-- one byte is a character
+pub one_byte : (text bytes : List ℕ) → bytes ≡ text → IsUtf8 text → length bytes ≡ 1
+    → chars text ≡ get_or bytes 0 0 ∷ []
+one_byte text bytes same utf8 one =
+    let whole : IsUtf8 bytes = subst IsUtf8 (sym same) utf8 in
+    let first = starts bytes (continuation_len (get_or bytes 0 0) + 1) whole (omega (arith, one)) refl in
+    let within = first.within in
+    let low : get_or bytes 0 0 < 128 = grind (arith, nat_tests, within, one) in
+    let ascii = ascii-first bytes text same utf8 (omega (arith, one)) low in
+    let left = length-drop 1 text in
+    ascii.0 ∙ ap (λ l. get_or bytes 0 0 ∷ l)
+    (chars-from_empty (drop 1 text) (omega (arith, left, one, ap length same)))
+
+-- a character takes at most four bytes
+pub no_character : (text : List ℕ) (c : ℕ) → IsUtf8 text → 4 < length text → chars text ≢ c ∷ []
+no_character text c whole long same =
+    let size : length text ≡ length (encode_utf8_all (c ∷ [])) =
+    ap length (sym (encodes-chars text whole) ∙ ap encode_utf8_all same) in
+    let few = len_utf8_bounds c in
+    let one = length-encode c in
+    let none : encode_utf8_all (c ∷ []) ≡ encode c = append-nil (encode c) in
+    omega (arith, size, few, one, ap length none, long)
+
+-- a number goes on with a digit that it touches, and no digit says that it is about so much
+not-so : (b : Bool) → not b ≡ true → b ≡ false
+not-so true e = cc
+not-so false e = refl
+
+of-digit : (p : ℕ → Bool) (c : ℕ) (d : Option ℕ) → digit_of c ≡ d
+    → list_all (list_all p) digit_rows ≡ true → is_some d ≡ true → p c ≡ true
+unfolding digit_of
+of-digit p c (Some value) e all is = rows_have p digit_rows c value all e
+of-digit p c None e all is = cc
+
+pub digit_clings : (c : ℕ) → is_some (digit_of c) ≡ true → clings c ≡ true
+unfolding clings digit_of
+digit_clings c is = of-digit (λ d. clings d) c (digit_of c) refl refl is
+
+pub digit_no_next : (c : ℕ) → is_some (digit_of c) ≡ true
+    → begins_with (codes "几幾数數") (c ∷ []) ≡ false
+digit_no_next c is =
+    not-so _ (of-digit (λ d. not (begins_with (codes "几幾数數") (d ∷ []))) c (digit_of c) refl refl is)
+
+pub digit_no_last : (c : ℕ) → is_some (digit_of c) ≡ true
+    → begins_with (codes "几幾多余餘来來") (c ∷ []) ≡ false
+digit_no_last c is =
+    not-so _ (of-digit (λ d. not (begins_with (codes "几幾多余餘来來") (d ∷ []))) c (digit_of c) refl
+    refl is)
