@@ -1,131 +1,286 @@
--- Characters of three bytes.
-use Rattle.std.proofs.Common.{◌≡◌, ◌<◌, ◌≤◌, ◌+◌, ◌-◌, ◌*◌, ◌/◌, ℕ, suc, Bool, false, true, ◌&&◌, nat_lt, ltb, List, [], ◌∷◌, length, take, drop, get_or, drop-cons, refl, ap, ◌∙◌, ◌%◌, ◌++◌, zero, sym, subst, arith, rules, length-drop}
-use Rattle.std.proofs.Math.Seq.{take-append_seam, take-length}
+-- The bytes of one character, and what stands behind them.
+use Rattle.std.proofs.Common.{◌≡◌, ◌<◌, ◌≤◌, ◌+◌, ◌-◌, ◌*◌, ◌/◌, ◌%◌, ℕ, zero, suc, Bool, false, true, ◌&&◌, ltb, List, [], ◌∷◌, ◌++◌, length, take, drop, get_or, refl, ap, ◌∙◌, sym, subst, arith, rules, length-drop, get_or-drop}
+use Rattle.std.proofs.Math.Logic.{⊎_elim}
+use Rattle.std.proofs.lemmas.Bool.{ltb-false}
 use Rattle.std.proofs.lemmas.Bool.Decides.{nat_tests}
-use Rattle.std.proofs.lemmas.Str.{IsCharBoundary-at_seam, IsUtf8-append, IsUtf8-encode, IsUtf8-from_ascii, IsUtf8-from_is_utf8, IsUtf8-nil, IsUtf8-take, is_utf8-from_IsUtf8}
-use Rattle.std.specs.List.{list_all}
-use Rattle.std.specs.Str.{is_utf8}
-use Rattle.std.proofs.lemmas.List.{append_assoc, take-append-drop}
+use Rattle.std.proofs.lemmas.List.{get_or-take, take-append-drop, take_all}
+use Rattle.std.proofs.lemmas.Str.{IsCharBoundary-from_take, IsUtf8-append, IsUtf8-drop, IsUtf8-encode, IsUtf8-from_ascii, IsUtf8-from_is_utf8, IsUtf8-nil, is_utf8-from_IsUtf8}
+use Rattle.std.specs.Array.{IsFirstChunk}
+use Rattle.std.specs.Int.{IsInRange, from_le_bytes, w32}
 use Rattle.std.specs.Prelude.{IsUtf8}
-use Rattle.std.specs.Int.{IsInRange}
-use Rattle.cn_judge.proofs.ThreeBytes.{HasBytes}
-use lib.Utf8.{encode, next, low_scalar}
+use Rattle.std.specs.Str.{is_utf8}
+use Rattle.cn_judge.proofs.ThreeBytes.{bytes_by, below, encode-by}
+use Rattle.cn_faces.specs.Private.CharacterBytes.{IsTwo, IsThree, IsFour}
+use lib.Utf8.{encode, encodes, next, scalar, scalars, scalar_cases, low_scalar}
 
-three_bytes : (c : ℕ) → 2048 ≤ c → c < 55296
-    → encode c ≡ (224 + c / 4096) ∷ next (c / 64) ∷ next c ∷ []
-unfolding encode
-three_bytes c low high =
-    let a : ltb c 128 ≡ false = search (rules, nat_tests) in
-    let b : ltb c 2048 ≡ false = search (rules, nat_tests) in
-    let d : ltb c 65536 ≡ true = search (rules, nat_tests) in
-    rw (a, b, d) refl
+encoded : (c : ℕ) (x y z : Bool) → ltb c 128 ≡ x → ltb c 2048 ≡ y → ltb c 65536 ≡ z
+    → encode c ≡ bytes_by x y z c
+encoded c x y z p q r = rw (encode-by c, p, q, r) refl
+
+high_scalar : (c : ℕ) → 57344 ≤ c → c < 1114112 → scalar c ≡ true
+high_scalar c low high = search (rules, nat_tests)
+
+other_scalar : (c : ℕ) → c < 65536 → (55296 ≤ c → 57344 ≤ c) → scalar c ≡ true
+other_scalar c high past = by (ltb c 55296) refl where
+  by : (x : Bool) → ltb c 55296 ≡ x → scalar c ≡ true
+  by true s = low_scalar c (below c 55296 s)
+  by false s = high_scalar c (past (ltb-false c 55296 s)) (omega (arith, high))
 
 -- bytes in these ranges are a character
-pub IsUtf8-three : (x y z : ℕ) → IsInRange 0xE3 0xEA x → IsInRange 0x80 0xBF y
-    → IsInRange 0x80 0xBF z → IsUtf8 (x ∷ y ∷ z ∷ [])
-IsUtf8-three x y z first second third =
-    let c = (x - 224) * 4096 + (y - 128) * 64 + (z - 128) in
-    let p : 224 + c / 4096 ≡ x = omega arith in
-    let q : next (c / 64) ≡ y = omega arith in
-    let r : next c ≡ z = omega arith in
-    subst IsUtf8 (three_bytes c (omega arith) (omega arith) ∙ (λ k. p k ∷ q k ∷ r k ∷ []))
-    (IsUtf8-encode c (low_scalar c (omega arith)))
+pub one_is_utf8 : (bytes : List ℕ) → 0 < length bytes → get_or bytes 0 0 < 128
+    → IsUtf8 (take 1 bytes)
+one_is_utf8 [] some low = absurd (omega (arith, some))
+one_is_utf8 (a ∷ rest) some low =
+    subst IsUtf8 (encoded a true _ _ (search (rules, nat_tests)) refl refl)
+    (IsUtf8-encode a (low_scalar a (omega (arith, low))))
 
--- the next three bytes
-next_three : (bytes : List ℕ) (len : ℕ) → len + 2 < length bytes
-    → take 3 (drop len bytes) ≡ get_or bytes len 0 ∷ get_or bytes (len + 1) 0
-    ∷ get_or bytes (len + 2) 0 ∷ []
-next_three bytes len within =
-    let e : suc len ≡ len + 1 = omega arith in
-    let f : suc (len + 1) ≡ len + 2 = omega arith in
-    let first : drop len bytes ≡ get_or bytes len 0 ∷ drop (len + 1) bytes =
-    drop-cons bytes len 0 (omega arith) ∙ ap (λ (n : ℕ). get_or bytes len 0 ∷ drop n bytes) e in
-    let second : drop (len + 1) bytes ≡ get_or bytes (len + 1) 0 ∷ drop (len + 2) bytes =
-    drop-cons bytes (len + 1) 0 (omega arith)
-    ∙ ap (λ (n : ℕ). get_or bytes (len + 1) 0 ∷ drop n bytes) f in
-    let third : drop (len + 2) bytes ≡ get_or bytes (len + 2) 0 ∷ drop (suc (len + 2)) bytes =
-    drop-cons bytes (len + 2) 0 within in
-    rw (first, second, third) refl
+pub two_are_utf8 : (bytes : List ℕ) → IsTwo (get_or bytes 0 0) (get_or bytes 1 0)
+    → IsUtf8 (take 2 bytes)
+two_are_utf8 [] is = absurd (omega (arith, is.0))
+two_are_utf8 (a ∷ []) is = absurd (omega (arith, is.1))
+two_are_utf8 (a ∷ b ∷ rest) is =
+    let c = (a - 192) * 64 + (b - 128) in
+    let p : 192 + c / 64 ≡ a = omega (arith, is.0, is.1) in
+    let q : next c ≡ b = omega (arith, is.0, is.1) in
+    let e : ltb c 128 ≡ false = grind (arith, nat_tests, is.0, is.1) in
+    let f : ltb c 2048 ≡ true = grind (arith, nat_tests, is.0, is.1) in
+    subst IsUtf8 (encoded c false true _ e f refl ∙ (λ k. p k ∷ q k ∷ []))
+    (IsUtf8-encode c (low_scalar c (omega (arith, is.0, is.1))))
 
--- what stands behind the first of these bytes is UTF-8
-abbrev pub IsUtf8After : List ℕ → List ℕ → Type 0
-IsUtf8After bytes rest = (after : List ℕ) × (bytes ≡ rest ++ after) × IsUtf8 after
+pub three_are_utf8 : (bytes : List ℕ)
+    → IsThree (get_or bytes 0 0) (get_or bytes 1 0) (get_or bytes 2 0) → IsUtf8 (take 3 bytes)
+three_are_utf8 [] is = absurd (omega (arith, is.0))
+three_are_utf8 (a ∷ []) is = absurd (omega (arith, is.1))
+three_are_utf8 (a ∷ b ∷ []) is = absurd (omega (arith, is.2))
+three_are_utf8 (a ∷ b ∷ d ∷ rest) is =
+    let c = (a - 224) * 4096 + (b - 128) * 64 + (d - 128) in
+    let p : 224 + c / 4096 ≡ a = omega (arith, is.0, is.1, is.2) in
+    let q : next (c / 64) ≡ b = omega (arith, is.0, is.1, is.2) in
+    let r : next c ≡ d = omega (arith, is.0, is.1, is.2) in
+    let low : 2048 ≤ c = omega (arith, is.0, is.1, is.2, is.3) in
+    let high : c < 65536 = omega (arith, is.0, is.1, is.2) in
+    let e : ltb c 128 ≡ false = search (rules, nat_tests) in
+    let f : ltb c 2048 ≡ false = search (rules, nat_tests) in
+    let g : ltb c 65536 ≡ true = search (rules, nat_tests) in
+    let past : 55296 ≤ c → 57344 ≤ c = λ far.
+    let behind = is.4 (omega (arith, far, is.0, is.1, is.2)) in
+    omega (arith, behind, is.0, is.1, is.2) in
+    subst IsUtf8 (encoded c false false true e f g ∙ (λ k. p k ∷ q k ∷ r k ∷ []))
+    (IsUtf8-encode c (other_scalar c high past))
 
-pub empty_is_utf8 : (bytes : List ℕ) → length bytes ≡ 0 → IsUtf8 bytes
-empty_is_utf8 [] none = IsUtf8-nil
-empty_is_utf8 (byte ∷ bytes) none = absurd (omega (arith, none))
+pub four_are_utf8 : (bytes : List ℕ)
+    → IsFour (get_or bytes 0 0) (get_or bytes 1 0) (get_or bytes 2 0) (get_or bytes 3 0)
+    → IsUtf8 (take 4 bytes)
+four_are_utf8 [] is = absurd (omega (arith, is.0))
+four_are_utf8 (a ∷ []) is = absurd (omega (arith, is.0))
+four_are_utf8 (a ∷ b ∷ []) is = absurd (omega (arith, is.1))
+four_are_utf8 (a ∷ b ∷ d ∷ []) is = absurd (omega (arith, is.2))
+four_are_utf8 (a ∷ b ∷ d ∷ h ∷ rest) is =
+    let c = (a - 240) * 262144 + (b - 128) * 4096 + (d - 128) * 64 + (h - 128) in
+    let p : 240 + c / 262144 ≡ a = omega (arith, is.0, is.1, is.2, is.3) in
+    let q : next (c / 4096) ≡ b = omega (arith, is.0, is.1, is.2, is.3) in
+    let r : next (c / 64) ≡ d = omega (arith, is.0, is.1, is.2, is.3) in
+    let s : next c ≡ h = omega (arith, is.0, is.1, is.2, is.3) in
+    let low : 65536 ≤ c = omega (arith, is.0, is.1, is.2, is.3) in
+    let high : c < 1114112 = omega (arith, is.0, is.1, is.2, is.3) in
+    let e : ltb c 128 ≡ false = search (rules, nat_tests) in
+    let f : ltb c 2048 ≡ false = search (rules, nat_tests) in
+    let g : ltb c 65536 ≡ false = search (rules, nat_tests) in
+    subst IsUtf8 (encoded c false false false e f g ∙ (λ k. p k ∷ q k ∷ r k ∷ s k ∷ []))
+    (IsUtf8-encode c (high_scalar c (omega (arith, low)) high))
 
-one_ascii : (byte : ℕ) → nat_lt byte 128 ≡ true → IsUtf8 (byte ∷ [])
-one_ascii byte is = IsUtf8-from_ascii (byte ∷ []) (λ i. by i) where
-  by : (i : ℕ) → get_or (byte ∷ []) i 0 < 128
-  by zero = grind (arith, nat_tests)
-  by (suc i) = omega arith
+and-left : (x y : Bool) → (x && y) ≡ true → x ≡ true
+and-left true y e = refl
+and-left false y e = e
 
-pub ascii_is_utf8 : (bytes : List ℕ) → list_all (λ byte. nat_lt byte 128) bytes ≡ true
-    → IsUtf8 bytes
-ascii_is_utf8 [] all = IsUtf8-nil
-ascii_is_utf8 (byte ∷ bytes) all =
-    by (nat_lt byte 128) refl all (ascii_is_utf8 bytes) where
-      by : (low : Bool) → nat_lt byte 128 ≡ low
-          → (low && list_all (λ byte. nat_lt byte 128) bytes) ≡ true
-          → (list_all (λ byte. nat_lt byte 128) bytes ≡ true → IsUtf8 bytes)
-          → IsUtf8 (byte ∷ bytes)
-      by true is more others = IsUtf8-append (byte ∷ []) bytes (one_ascii byte is) (others more)
-      by false is more others = cc
+-- and no other bytes are
+one-of-these : (c : ℕ) (rest : List ℕ) → scalar c ≡ true → 128 ≤ get_or (encode c ++ rest) 0 0
+    → ¬ (IsTwo (get_or (encode c ++ rest) 0 0) (get_or (encode c ++ rest) 1 0))
+    → ¬ (IsThree (get_or (encode c ++ rest) 0 0) (get_or (encode c ++ rest) 1 0)
+    (get_or (encode c ++ rest) 2 0))
+    → ¬ (IsFour (get_or (encode c ++ rest) 0 0) (get_or (encode c ++ rest) 1 0)
+    (get_or (encode c ++ rest) 2 0) (get_or (encode c ++ rest) 3 0))
+    → ⊥
+one-of-these c rest valid =
+    rw (encode-by c) (by (ltb c 128) (ltb c 2048) (ltb c 65536) refl refl refl) where
+      by : (x y z : Bool) → ltb c 128 ≡ x → ltb c 2048 ≡ y → ltb c 65536 ≡ z
+          → 128 ≤ get_or (bytes_by x y z c ++ rest) 0 0
+          → ¬ (IsTwo (get_or (bytes_by x y z c ++ rest) 0 0) (get_or (bytes_by x y z c ++ rest) 1 0))
+          → ¬ (IsThree (get_or (bytes_by x y z c ++ rest) 0 0)
+          (get_or (bytes_by x y z c ++ rest) 1 0) (get_or (bytes_by x y z c ++ rest) 2 0))
+          → ¬ (IsFour (get_or (bytes_by x y z c ++ rest) 0 0)
+          (get_or (bytes_by x y z c ++ rest) 1 0) (get_or (bytes_by x y z c ++ rest) 2 0)
+          (get_or (bytes_by x y z c ++ rest) 3 0))
+          → ⊥
+      by true y z p q r low two three four = omega (arith, below c 128 p, low)
+      by false true z p q r low two three four =
+          let great = ltb-false c 128 p in
+          let small = below c 2048 q in
+          two ((omega (arith, great), omega (arith, small)), (omega arith, omega arith))
+      by false false true p q r low two three four =
+          let great = ltb-false c 2048 q in
+          let small = below c 65536 r in
+          three (
+            (omega arith, omega (arith, small)),
+            (omega arith, omega arith),
+            (omega arith, omega arith),
+            omega (arith, great),
+            λ far. ⊎_elim (λ h. absurd (omega (arith, h, far))) (λ h. omega (arith, h.0))
+                (scalar_cases c valid),
+          )
+      by false false false p q r low two three four =
+          let great = ltb-false c 65536 r in
+          let small : c < 1114112 = ⊎_elim (λ h. omega (arith, h)) (λ h. h.1) (scalar_cases c valid) in
+          four (
+            (omega arith, omega arith),
+            (omega arith, omega arith),
+            (omega arith, omega arith),
+            (omega (arith, great), omega (arith, small)),
+          )
 
--- three bytes by their key are a character
-pub one_character : (bytes : List ℕ) (key : ℕ) → length bytes ≡ 3
-    → HasBytes key (get_or bytes 0 0) (get_or bytes 1 0) (get_or bytes 2 0)
-    → IsInRange 0xE3 0xEA (key % 256) → IsInRange 0x80 0xBF (key / 256 % 256)
-    → IsInRange 0x80 0xBF (key / 65536) → IsUtf8 bytes
-one_character bytes key long has first second third =
-    let last = sym (ap (λ n. take n bytes) (sym long) ∙ take-length bytes)
-    ∙ next_three bytes 0 (omega (arith, long)) in
-    subst IsUtf8 (sym last) (IsUtf8-three _ _ _ (rw has.one at first) (rw has.two at second)
-    (rw has.three at third))
+others_are_not : (bytes : List ℕ) → 0 < length bytes → 128 ≤ get_or bytes 0 0
+    → ¬ (IsTwo (get_or bytes 0 0) (get_or bytes 1 0))
+    → ¬ (IsThree (get_or bytes 0 0) (get_or bytes 1 0) (get_or bytes 2 0))
+    → ¬ (IsFour (get_or bytes 0 0) (get_or bytes 1 0) (get_or bytes 2 0) (get_or bytes 3 0))
+    → is_utf8 bytes ≡ false
+others_are_not bytes some low two three four = by (is_utf8 bytes) refl where
+  from : (cs : List ℕ) → scalars cs ≡ true → encodes cs ≡ bytes → ⊥
+  from [] valid e = omega (arith, some, ap length e)
+  from (c ∷ cs) valid e =
+      one-of-these c (encodes cs) (and-left (scalar c) (scalars cs) valid)
+      (subst (λ l. 128 ≤ get_or l 0 0) (sym e) low)
+      (subst (λ l. ¬ (IsTwo (get_or l 0 0) (get_or l 1 0))) (sym e) two)
+      (subst (λ l. ¬ (IsThree (get_or l 0 0) (get_or l 1 0) (get_or l 2 0))) (sym e) three)
+      (subst (λ l. ¬ (IsFour (get_or l 0 0) (get_or l 1 0) (get_or l 2 0) (get_or l 3 0))) (sym e) four)
 
--- one more character of three bytes in front of it
-pub one_more_character : (bytes rest : List ℕ) (start key : ℕ) → IsUtf8After bytes rest
-    → length rest ≡ start + 3
-    → HasBytes key (get_or rest start 0) (get_or rest (start + 1) 0) (get_or rest (start + 2) 0)
-    → IsInRange 0xE3 0xEA (key % 256) → IsInRange 0x80 0xBF (key / 256 % 256)
-    → IsInRange 0x80 0xBF (key / 65536) → IsUtf8After bytes (take start rest)
-one_more_character bytes rest start key behind long has first second third =
-    let size : length (drop start rest) ≡ 3 = omega (arith, length-drop start rest, long) in
-    let last = sym (ap (λ n. take n (drop start rest)) (sym size) ∙ take-length (drop start rest))
-    ∙ next_three rest start (omega (arith, long)) in
-    let three = IsUtf8-three _ _ _ (rw has.one at first) (rw has.two at second)
-    (rw has.three at third) in (
-      drop start rest ++ behind.0,
-      behind.1 ∙ ap (λ l. l ++ behind.0) (sym (take-append-drop start rest))
-          ∙ append_assoc (take start rest) (drop start rest) behind.0,
-      IsUtf8-append (drop start rest) behind.0 (subst IsUtf8 (sym last) three) behind.2,
-    )
+  by : (all : Bool) → is_utf8 bytes ≡ all → all ≡ false
+  by false e = refl
+  by true e = let whole = IsUtf8-from_is_utf8 bytes e in absurd (from whole.0 whole.1.0 whole.1.1)
 
--- what stands in front of it is UTF-8 where all is
-pub same_utf8 : (bytes rest : List ℕ) → IsUtf8After bytes rest → is_utf8 rest ≡ is_utf8 bytes
-same_utf8 bytes rest behind = by (is_utf8 rest) (is_utf8 bytes) refl refl where
-  by : (one all : Bool) → is_utf8 rest ≡ one → is_utf8 bytes ≡ all → one ≡ all
+pub no_two : (bytes : List ℕ) → 0 < length bytes → 128 ≤ get_or bytes 0 0 → get_or bytes 0 0 < 224
+    → ¬ (IsTwo (get_or bytes 0 0) (get_or bytes 1 0)) → is_utf8 bytes ≡ false
+no_two bytes some low high none =
+    others_are_not bytes some low none (λ is. omega (arith, high, is.0))
+    (λ is. omega (arith, high, is.0, is.3))
+
+pub no_three : (bytes : List ℕ) → 0 < length bytes → 224 ≤ get_or bytes 0 0
+    → get_or bytes 0 0 < 240
+    → ¬ (IsThree (get_or bytes 0 0) (get_or bytes 1 0) (get_or bytes 2 0)) → is_utf8 bytes ≡ false
+no_three bytes some low high none =
+    others_are_not bytes some (omega (arith, low)) (λ is. omega (arith, low, is.0)) none
+    (λ is. omega (arith, high, is.0, is.3))
+
+pub no_four : (bytes : List ℕ) → 0 < length bytes → 240 ≤ get_or bytes 0 0
+    → ¬ (IsFour (get_or bytes 0 0) (get_or bytes 1 0) (get_or bytes 2 0) (get_or bytes 3 0))
+    → is_utf8 bytes ≡ false
+no_four bytes some low none =
+    others_are_not bytes some (omega (arith, low)) (λ is. omega (arith, low, is.0))
+    (λ is. omega (arith, low, is.0)) none
+
+pub none_are_utf8 : (bytes : List ℕ) → length bytes ≡ 0 → is_utf8 bytes ≡ true
+none_are_utf8 [] none = is_utf8-from_IsUtf8 [] IsUtf8-nil
+none_are_utf8 (byte ∷ bytes) none = absurd (omega (arith, none))
+
+-- what stands behind characters is UTF-8 where all is
+behind_utf8 : (bytes : List ℕ) (len : ℕ) → len ≤ length bytes → IsUtf8 (take len bytes)
+    → is_utf8 (drop len bytes) ≡ is_utf8 bytes
+behind_utf8 bytes len within front = by (is_utf8 (drop len bytes)) (is_utf8 bytes) refl refl where
+  by : (rest all : Bool) → is_utf8 (drop len bytes) ≡ rest → is_utf8 bytes ≡ all → rest ≡ all
   by true true e f = refl
   by false false e f = refl
   by true false e f =
-      let whole = IsUtf8-append rest behind.0 (IsUtf8-from_is_utf8 rest e) behind.2 in
-      absurd (let is = is_utf8-from_IsUtf8 bytes (subst IsUtf8 (sym behind.1) whole) in cc)
+      let whole = subst IsUtf8 (take-append-drop len bytes)
+      (IsUtf8-append (take len bytes) (drop len bytes) front (IsUtf8-from_is_utf8 _ e)) in
+      absurd (let is = is_utf8-from_IsUtf8 bytes whole in cc)
   by false true e f =
-      let seam = IsCharBoundary-at_seam bytes rest behind.0 behind.1 behind.2 in
-      let front = IsUtf8-take bytes (length rest) (IsUtf8-from_is_utf8 bytes f) seam in
-      let same : take (length rest) bytes ≡ rest =
-      ap (take (length rest)) behind.1 ∙ take-append_seam rest behind.0 in
-      absurd (let is = is_utf8-from_IsUtf8 rest (subst IsUtf8 same front) in cc)
+      let whole = IsUtf8-from_is_utf8 bytes f in
+      let seam = IsCharBoundary-from_take bytes len whole within front in
+      absurd (let is = is_utf8-from_IsUtf8 _ (IsUtf8-drop bytes len whole seam) in cc)
 
-front-fits : (rest after : List ℕ) → ((i : ℕ) → get_or (rest ++ after) i 0 < 256)
-    → (i : ℕ) → get_or rest i 0 < 256
-front-fits [] after fits i = omega arith
-front-fits (x ∷ rest) after fits zero = fits zero
-front-fits (x ∷ rest) after fits (suc i) = front-fits rest after (λ j. fits (suc j)) i
+all-behind : (bytes : List ℕ) (len : ℕ) → take (length bytes - len) (drop len bytes) ≡ drop len bytes
+all-behind bytes len =
+    let left = length-drop len bytes in take_all (length bytes - len) (drop len bytes) (omega (arith, left))
 
--- what stands in front of it are bytes
-pub fits-behind : (bytes rest : List ℕ) → IsUtf8After bytes rest
-    → ((i : ℕ) → get_or bytes i 0 < 256) → (i : ℕ) → get_or rest i 0 < 256
-fits-behind bytes rest behind fits =
-    front-fits rest behind.0 (λ i. subst (λ l. get_or l i 0 < 256) behind.1 (fits i))
+pub past_utf8 : (bytes : List ℕ) (len : ℕ) → len ≤ length bytes → IsUtf8 (take len bytes)
+    → is_utf8 (take (length bytes - len) (drop len bytes)) ≡ is_utf8 bytes
+past_utf8 bytes len within front =
+    ap is_utf8 (all-behind bytes len) ∙ behind_utf8 bytes len within front
+
+-- an end of bytes
+abbrev pub IsBehind : List ℕ → List ℕ → Type 0
+IsBehind bytes rest = (is_utf8 rest ≡ is_utf8 bytes) × (length rest ≤ length bytes)
+    × ((i : ℕ) → get_or rest i 0 < 256)
+
+pub past_character : (bytes rest : List ℕ) (len : ℕ) → IsBehind bytes rest → len ≤ length rest
+    → IsUtf8 (take len rest) → IsBehind bytes (take (length rest - len) (drop len rest))
+past_character bytes rest len behind within front =
+    let left = length-drop len rest in
+    subst (IsBehind bytes) (sym (all-behind rest len)) (
+      behind_utf8 rest len within front ∙ behind.0,
+      omega (arith, left, behind.1),
+      λ i. subst (λ n. n < 256) (sym (get_or-drop len rest i 0)) (behind.2 (len + i)),
+    )
+
+-- the first four bytes, by the word that they are
+pub record StartsWithWord (bytes : List ℕ) (word : ℕ) : Type 0 where
+  pub within : 4 ≤ length bytes
+  pub first : word % 256 ≡ get_or bytes 0 0
+  pub second : word / 256 % 256 ≡ get_or bytes 1 0
+  pub third : word / 65536 % 256 ≡ get_or bytes 2 0
+  pub fourth : word / 16777216 ≡ get_or bytes 3 0
+
+pub starts-with-word : (bytes four : List ℕ) (word : ℕ) → ((i : ℕ) → get_or bytes i 0 < 256)
+    → IsFirstChunk bytes four 4 → word ≡ from_le_bytes w32 four → StartsWithWord bytes word
+starts-with-word bytes four word fits chunk is =
+    let e = at 0 (omega arith) in
+    let f = at 1 (omega arith) in
+    let g = at 2 (omega arith) in
+    let h = at 3 (omega arith) in
+    let p = fits 0 in
+    let q = fits 1 in
+    let r = fits 2 in
+    let s = fits 3 in
+    record {
+      within = chunk.enough;
+      first = omega (arith, is, e, f, g, h, p, q, r, s);
+      second = omega (arith, is, e, f, g, h, p, q, r, s);
+      third = omega (arith, is, e, f, g, h, p, q, r, s);
+      fourth = omega (arith, is, e, f, g, h, p, q, r, s);
+    } where
+      at : (i : ℕ) → i < 4 → get_or four i 0 ≡ get_or bytes i 0
+      at i low = ap (λ l. get_or l i 0) chunk.same ∙ get_or-take 4 bytes i 0 low
+
+-- three bytes of which these are the key are a character
+pub common_is_utf8 : (bytes : List ℕ) (first second third : ℕ) → first ≡ get_or bytes 0 0
+    → second ≡ get_or bytes 1 0 → third ≡ get_or bytes 2 0 → IsInRange 0xE3 0xEA first
+    → IsInRange 0x80 0xBF second → IsInRange 0x80 0xBF third → IsUtf8 (take 3 bytes)
+common_is_utf8 bytes first second third e f g p q r =
+    three_are_utf8 bytes (
+      (omega (arith, e, p), omega (arith, e, p)),
+      (omega (arith, f, q), omega (arith, f, q)),
+      (omega (arith, g, r), omega (arith, g, r)),
+      omega (arith, e, p, f, q),
+      λ far. absurd (omega (arith, e, p, f, q, far)),
+    )
+
+pub ascii_are_utf8 : (bytes : List ℕ) → 4 ≤ length bytes → get_or bytes 0 0 < 128
+    → get_or bytes 1 0 < 128 → get_or bytes 2 0 < 128 → get_or bytes 3 0 < 128
+    → IsUtf8 (take 4 bytes)
+ascii_are_utf8 (a ∷ b ∷ c ∷ d ∷ rest) long p q r s = IsUtf8-from_ascii (a ∷ b ∷ c ∷ d ∷ []) by where
+  by : (i : ℕ) → get_or (a ∷ b ∷ c ∷ d ∷ []) i 0 < 128
+  by zero = p
+  by (suc zero) = q
+  by (suc (suc zero)) = r
+  by (suc (suc (suc zero))) = s
+  by (suc (suc (suc (suc i)))) = omega arith
+ascii_are_utf8 [] long p q r s = absurd (omega (arith, long))
+ascii_are_utf8 (a ∷ []) long p q r s = absurd (omega (arith, long))
+ascii_are_utf8 (a ∷ b ∷ []) long p q r s = absurd (omega (arith, long))
+ascii_are_utf8 (a ∷ b ∷ c ∷ []) long p q r s = absurd (omega (arith, long))
+
+pub all_is_utf8 : (bytes rest : List ℕ) → IsBehind bytes rest → is_utf8 rest ≡ true → IsUtf8 bytes
+all_is_utf8 bytes rest behind is = IsUtf8-from_is_utf8 bytes (sym behind.0 ∙ is)
+
+pub three_alone : (bytes : List ℕ) → length bytes ≡ 3 → IsUtf8 (take 3 bytes) → is_utf8 bytes ≡ true
+three_alone bytes long is =
+    is_utf8-from_IsUtf8 bytes (subst IsUtf8 (take_all 3 bytes (omega (arith, long))) is)

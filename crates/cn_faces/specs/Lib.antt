@@ -1,4 +1,5 @@
 pub mod Decimal
 pub mod Either
 pub mod IntegerTypes
+pub mod Private
 pub mod Ways

@@ -33,9 +33,9 @@ fn is_plain(text: &str) -> bool
     is_digits_and_white(text)
 }
 
+// It stands by itself, so that reading in a way that is named is short.
 /// The way in which a text is read either way, as a number of a type: plain digits as such, and any
 /// other text by `TenThousand`.
-// It stands by itself, so that reading in a way that is named is short.
 #[inline(never)]
 pub fn either_way(integer: IntegerType, text: &str) -> Way
     ensures { result ≡ either_way (the_kind integer) text.now }

@@ -1,66 +1,30 @@
 // Bytes that are text.
-ghost use Rattle.std.specs.Prelude.{◌≡◌, ◌/◌, ◌%◌, ◌<◌, nat_lt, true, false, IsTrue, IsUtf8, MatchOption};
+ghost use Rattle.std.specs.Prelude.{◌≡◌, ◌↔◌, ◌/◌, ◌%◌, ◌<◌, ◌≤◌, true, false, take, get_or, length, IsTrue, IsUtf8, MatchOption};
 ghost use Rattle.std.specs.Int.{IsInRange};
-ghost use Rattle.std.specs.List.{list_all};
 ghost use Rattle.std.specs.Str.{is_utf8};
+ghost use Rattle.cn_faces.specs.Private.CharacterBytes.{IsContinuation, IsTwo, IsThree, IsFour, leading};
 
 use std::str;
 
-// Whether three bytes, of which the first is the lowest of the key, are a character from U+3000 to
-// U+AFFF, as most in numerals are. By what the subtraction leaves of the first byte, all is one test.
+// Whether the first three bytes of a word are a character from U+3000 to U+AFFF, as most in numerals
+// are. By what the subtraction leaves of the first byte, all is one test.
 #[inline(always)]
-fn is_common(key: u32) -> bool
-    requires { key < 16777216 }
-    ensures first { IsTrue result → IsInRange 0xE3 0xEA (key % 256) }
-    ensures second { IsTrue result → IsInRange 0x80 0xBF (key / 256 % 256) }
-    ensures third { IsTrue result → IsInRange 0x80 0xBF (key / 65536) }
+fn is_common(word: u32) -> bool
+    ensures first { IsTrue result → IsInRange 0xE3 0xEA (word % 256) }
+    ensures second { IsTrue result → IsInRange 0x80 0xBF (word / 256 % 256) }
+    ensures third { IsTrue result → IsInRange 0x80 0xBF (word / 65536 % 256) }
 {
-    let above = key.wrapping_sub(0xE3);
+    let above = word.wrapping_sub(0xE3);
     (above % 256 / 8 == 0) & (above / 256 % 256 / 64 == 2) & (above / 65_536 % 256 / 64 == 2)
 }
 
-// What stands in front of such characters at the end of these bytes, from the last one on: where that
-// is UTF-8, the bytes are. The three bytes of each but the first are loaded at once, with the one in
-// front of them.
+// Whether these bytes are one such character.
 #[inline(always)]
-fn before_common(bytes: &[u8]) -> &[u8]
-    ensures { is_utf8 result.now ≡ is_utf8 bytes.now }
-{
-    let mut rest = bytes;
-    'characters: while let Some(four) = rest.last_chunk::<4>() {
-        if !is_common(u32::from_le_bytes(*four) / 256) {
-            return rest;
-        }
-        rest = &rest[..rest.len() - 3];
-    }
-    rest
-}
-
-// Whether these bytes are all of ASCII.
-#[inline(always)]
-fn are_ascii(bytes: &[u8]) -> bool
-    ensures { result ≡ list_all (λ byte. nat_lt byte 128) bytes.now }
-{
-    bytes.iter().all(|byte| *byte < 128)
-}
-
-// Whether these bytes are few, and all of ASCII: so 3月 is found in 50 instructions fewer than by
-// `from_utf8`.
-#[inline(always)]
-#[tactic(auto, using(crate::proofs::Characters::ascii_is_utf8))]
-fn are_few_ascii(bytes: &[u8]) -> bool
-    ensures { IsTrue result → IsUtf8 bytes.now }
-{
-    bytes.len() < 8 && are_ascii(bytes)
-}
-
-// Whether these bytes are none, or one such character.
-#[inline(always)]
-fn are_none_or_common(bytes: &[u8]) -> bool
-    ensures { IsTrue result → IsUtf8 bytes.now }
+fn is_common_alone(bytes: &[u8]) -> bool
+    ensures long { IsTrue result → length bytes.now ≡ 3 }
+    ensures some { IsTrue result → IsUtf8 (take 3 bytes.now) }
 {
     match bytes {
-        [] => true,
         [first, second, third] => {
             is_common(*first as u32 + *second as u32 * 256 + *third as u32 * 65_536)
         }
@@ -68,32 +32,152 @@ fn are_none_or_common(bytes: &[u8]) -> bool
     }
 }
 
-// Whether these bytes are soon told to be UTF-8.
+/// Whether these bytes are characters from U+3000 to U+AFFF alone, as those of most numerals are, so
+/// that they are UTF-8. The three bytes of each but the last are loaded at once, with the one behind
+/// them. `false` says nothing of the bytes.
 #[inline(always)]
-fn are_soon_utf8(bytes: &[u8]) -> bool
+pub fn are_common(bytes: &[u8]) -> bool
     ensures { IsTrue result → IsUtf8 bytes.now }
 {
-    are_none_or_common(bytes) || are_few_ascii(bytes)
+    let mut rest = bytes;
+    'characters: while let Some(four) = rest.first_chunk::<4>() {
+        if !is_common(u32::from_le_bytes(*four)) {
+            return false;
+        }
+        rest = &rest[3..];
+    }
+    rest.is_empty() || is_common_alone(rest)
 }
 
-// Whether any bytes are UTF-8. It stands by itself, so that the short test is short where it is
-// inlined.
-#[inline(never)]
-fn are_utf8_at_all(bytes: &[u8]) -> bool
-    ensures { result ≡ is_utf8 bytes.now }
+// Whether the four bytes of a word are of ASCII.
+#[inline(always)]
+fn is_ascii(word: u32) -> bool
+    ensures first { IsTrue result → word % 256 < 128 }
+    ensures second { IsTrue result → word / 256 % 256 < 128 }
+    ensures third { IsTrue result → word / 65536 % 256 < 128 }
+    ensures fourth { IsTrue result → word / 16777216 < 128 }
 {
-    match str::from_utf8(bytes) {
-        Ok(_) => true,
-        Err(_) => false,
+    (word / 0x80 % 2 == 0)
+        & (word / 0x8000 % 2 == 0)
+        & (word / 0x80_0000 % 2 == 0)
+        & (word / 0x8000_0000 == 0)
+}
+
+// The byte at a place, or 0 behind the last.
+#[inline(always)]
+fn byte_at(bytes: &[u8], index: usize) -> u8
+    ensures { result ≡ get_or bytes.now index 0 }
+{
+    bytes.get(index).copied().unwrap_or(0)
+}
+
+#[inline(always)]
+fn is_continuation(byte: u8) -> bool
+    ensures { IsTrue result ↔ IsContinuation byte }
+{
+    byte / 64 == 2
+}
+
+// The first two bytes of a character, as one number.
+#[inline(always)]
+fn leading(first: u8, second: u8) -> u32
+    ensures { result ≡ leading first second }
+{
+    first as u32 * 64 + second as u32
+}
+
+#[inline(always)]
+fn is_two(first: u8, second: u8) -> bool
+    ensures { IsTrue result ↔ IsTwo first second }
+{
+    matches!(first, 0xC2..=0xDF) && is_continuation(second)
+}
+
+#[inline(always)]
+fn is_three(first: u8, second: u8, third: u8) -> bool
+    ensures { IsTrue result ↔ IsThree first second third }
+{
+    let two = leading(first, second);
+    let is_surrogate = leading(0xED, 0xA0) <= two && two < leading(0xEE, 0x80);
+    matches!(first, 0xE0..=0xEF)
+        && is_continuation(second)
+        && is_continuation(third)
+        && leading(0xE0, 0xA0) <= two
+        && !is_surrogate
+}
+
+#[inline(always)]
+fn is_four(first: u8, second: u8, third: u8, fourth: u8) -> bool
+    ensures { IsTrue result ↔ IsFour first second third fourth }
+{
+    let two = leading(first, second);
+    is_continuation(second)
+        && is_continuation(third)
+        && is_continuation(fourth)
+        && leading(0xF0, 0x90) <= two
+        && two <= leading(0xF4, 0x8F)
+}
+
+// How many bytes the character has with which these bytes begin, or 0 where they begin with none.
+#[inline(always)]
+fn first_len(bytes: &[u8]) -> usize
+    requires { 0 < length bytes.now }
+    ensures within { result ≤ length bytes.now }
+    ensures some { IsUtf8 (take result bytes.now) }
+    ensures none { result ≡ 0 → is_utf8 bytes.now ≡ false }
+{
+    let (first, second, third) = (byte_at(bytes, 0), byte_at(bytes, 1), byte_at(bytes, 2));
+    if first < 0x80 {
+        1
+    } else if first < 0xE0 {
+        if is_two(first, second) { 2 } else { 0 }
+    } else if first < 0xF0 {
+        if is_three(first, second, third) { 3 } else { 0 }
+    } else if is_four(first, second, third, byte_at(bytes, 3)) {
+        4
+    } else {
+        0
     }
 }
 
+// How many bytes some characters have with which these bytes begin, or 0 where they begin with none.
+#[inline(always)]
+fn front_len(bytes: &[u8]) -> usize
+    requires { 0 < length bytes.now }
+    ensures within { result ≤ length bytes.now }
+    ensures some { IsUtf8 (take result bytes.now) }
+    ensures none { result ≡ 0 → is_utf8 bytes.now ≡ false }
+{
+    if let Some(four) = bytes.first_chunk::<4>() {
+        let word = u32::from_le_bytes(*four);
+        if is_common(word) {
+            return 3;
+        }
+        if is_ascii(word) {
+            return 4;
+        }
+    }
+    if is_common_alone(bytes) {
+        return 3;
+    }
+    first_len(bytes)
+}
+
+// Whether any bytes are UTF-8. By std's `from_utf8` 三é takes 80 instructions more to be read, and three
+// bytes that are none 60; of ASCII alone each byte takes 2 fewer by it.
 #[inline(always)]
 fn are_utf8(bytes: &[u8]) -> bool
     ensures { result ≡ is_utf8 bytes.now }
 {
-    let rest = before_common(bytes);
-    are_soon_utf8(rest) || are_utf8_at_all(rest)
+    let mut rest = bytes;
+    'characters: while !rest.is_empty() {
+        let len = front_len(rest);
+        if len == 0 {
+            return false;
+        }
+        rest = &rest[len..];
+    }
+    true
 }
 
 /// The text of these bytes, if they are UTF-8.

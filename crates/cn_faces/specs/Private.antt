@@ -1,0 +1,2 @@
+-- Words that contracts of private functions alone cite.
+pub mod CharacterBytes
