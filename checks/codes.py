@@ -3,8 +3,8 @@
 
 Usage: codes.py CN_C BINDINGS
 
-The tables of `codes.rt` give a type, way, script, case, form or unit its place as its code, `ANY` is
-the way behind them; `status.rt`, `flags.rt` and `quantity_form.rt` name the statuses, the flags of
+The tables of `codes.rt` give a way, script, case or form its place as its code, and two of its
+functions a type and a unit its number; `ANY` is the way behind the others; `status.rt`, `flags.rt` and `quantity_form.rt` name the statuses, the flags of
 what is found, and the forms of a quantity. The header, the Rust crate, the Python file and the Go
 file name each of them once, with the same number or in this order, and no other, as the JavaScript
 file lists them; but what a form is made of is named by the header alone, of which Go also takes the
@@ -29,6 +29,12 @@ NUMBERED = {
 }
 ANY = re.compile(r"^pub const ANY: u32 = (\d+);", re.MULTILINE)
 TABLE = re.compile(r"^pub static (\w+): \[.*?\] = \[(.*?)\];", re.MULTILINE | re.DOTALL)
+# A function that gives each of a kind a number.
+NUMBERING = re.compile(
+    r"^pub fn (\w+)_of\(code: u32\)[^}]*\}\n\{\n    Some\(match code \{\n(.*?)\n    \}\)",
+    re.MULTILINE | re.DOTALL,
+)
+ARM = re.compile(r"(\d+) => \w+::(\w+),")
 NAMED = re.compile(
     r"(?:^|[,;{])[ \t]*(?:pub const )?(?:CN_)?(\w+)(?:: u32)? = (\d+)\b", re.MULTILINE
 )
@@ -198,9 +204,12 @@ def of_sources(crate):
     """The tables, by name: each name with its code."""
     text = text_of(crate / "src/codes.rt")
     tables = dict(TABLE.findall(text))
-    if tuple(tables) != TABLES:
-        sys.exit(f"codes: codes.rt has the tables {list(tables)}, and not {list(TABLES)}")
-    found = {}
+    found = {
+        f"{name.upper()}S": {inherited(it): int(code) for code, it in ARM.findall(arms)}
+        for name, arms in NUMBERING.findall(text)
+    }
+    if sorted([*tables, *found]) != sorted(TABLES):
+        sys.exit(f"codes: codes.rt has {[*tables, *found]}, and not {list(TABLES)}")
     for name, table in tables.items():
         names = re.findall(r"(\w+)\)?\s*(?:,|$)", table.strip())
         found[name] = numbered(map(inherited, names))

@@ -7,10 +7,11 @@ ghost use Rattle.cn_c.specs.Quantities.{TellsQuantity, IsQuantityRead, method_of
 use crate::codes::way_of;
 use crate::number::{Number, bits_of, halves, signed_number};
 use crate::quantity_form::{form_code, quantity_form_of};
-use crate::reading::tell_refusal;
+use crate::reading::refusal_status;
 use crate::status::{DONE, NOT_UTF8, UNKNOWN};
 use chinese_number::{ChineseCountMethod, ChineseToNumberError, chinese_to_quantity};
 use cn_faces::{SignedMagnitude, Way, utf8_text};
+use cn_judge::byte_index;
 
 /// A quantity, as it is read and printed: the numbers above and below the line and the code of the
 /// form; or of the character at fault how many characters and how many bytes of the text stand in
@@ -70,12 +71,13 @@ fn tell_quantity(
             quantity.form = form_code(exact.form);
             DONE
         }
-        Err(error) => tell_refusal(
-            text,
-            error,
-            &mut quantity.char_index,
-            &mut quantity.byte_index,
-        ),
+        Err(error) => {
+            if let ChineseToNumberError::ChineseNumberIncorrect { char_index } = error {
+                quantity.char_index = char_index;
+                quantity.byte_index = byte_index(text, char_index);
+            }
+            refusal_status(error)
+        }
     }
 }
 

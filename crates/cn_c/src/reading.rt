@@ -1,15 +1,16 @@
 // Reading.
-ghost use Rattle.std.specs.Prelude.{◌≡◌, true, false, IsUtf8};
+ghost use Rattle.std.specs.Prelude.{◌≡◌, IsSome, slice_get, true, false, IsUtf8};
 ghost use Rattle.chinese_number.specs.Answer.{refusal_of};
-ghost use Rattle.cn_c.specs.declared.codes.ReadingWay.TheVariants.{By};
-ghost use Rattle.cn_c.specs.Reads.{ReadsInto, TellsRefusal, IsRead, no_number, way_meant};
+ghost use Rattle.cn_c.specs.declared.codes.ReadingWay.TheVariants.{By, Either};
+ghost use Rattle.cn_c.specs.Codes.{kinds, reading_ways, refusal_status};
+ghost use Rattle.cn_c.specs.Reads.{ReadsInto, IsRead, bytes_in_front, chars_in_front, no_number};
 ghost use Rattle.cn_faces.specs.IntegerTypes.{the_kind};
 
 use crate::codes::{ReadingWay, kind_of, reading_way_of};
 use crate::number::{Number, halves, halves_of};
 use crate::status::{DONE, EMPTY, INCORRECT, NOT_UTF8, TOO_LARGE, TOO_SMALL, UNKNOWN};
 use chinese_number::ChineseToNumberError;
-use cn_faces::{IntegerType, Way, either_way, read_as, read_unsigned, utf8_text};
+use cn_faces::{IntegerType, Way, are_common, either_way, read_as, read_unsigned, utf8_text};
 use cn_judge::byte_index;
 use std::str;
 
@@ -29,94 +30,109 @@ const NOTHING: Reading = Reading {
     byte_index: 0,
 };
 
-/// Tells why a text is refused: the status, and where the character at fault stands.
+/// The status that tells a refusal.
 #[inline(always)]
-pub fn tell_refusal(
-    text: &str,
-    error: ChineseToNumberError,
-    chars: &mut usize,
-    bytes: &mut usize,
-) -> u32
-    ensures { TellsRefusal text.now (refusal_of error) result chars.new bytes.new }
+pub fn refusal_status(error: ChineseToNumberError) -> u32
+    ensures { result ≡ refusal_status (refusal_of error) }
 {
-    (*chars, *bytes) = (0, 0);
     match error {
         ChineseToNumberError::ChineseNumberEmpty => EMPTY,
-        ChineseToNumberError::ChineseNumberIncorrect { char_index } => {
-            *chars = char_index;
-            *bytes = byte_index(text, char_index);
-            INCORRECT
-        }
+        ChineseToNumberError::ChineseNumberIncorrect { .. } => INCORRECT,
         ChineseToNumberError::Overflow => TOO_LARGE,
         ChineseToNumberError::Underflow => TOO_SMALL,
     }
 }
 
-// The way in which a text is read as a number of a type.
+// Tells why a text is refused: the status, and where the character at fault stands.
 #[inline(always)]
-fn way_meant(integer: IntegerType, way: ReadingWay, text: &str) -> Way
-    ensures { result ≡ way_meant (the_kind integer) way text.now }
+fn tell_refusal(text: &str, error: ChineseToNumberError, reading: &mut Reading) -> u32
+    ensures status { result ≡ refusal_status (refusal_of error) }
+    ensures reading { reading.new ≡ no_number (chars_in_front (refusal_of error))
+        (bytes_in_front text.now (refusal_of error)) }
 {
-    match way {
-        ReadingWay::By(way) => way,
-        ReadingWay::Either => either_way(integer, text),
+    if let ChineseToNumberError::ChineseNumberIncorrect { char_index } = error {
+        *reading = Reading {
+            char_index,
+            byte_index: byte_index(text, char_index),
+            ..NOTHING
+        };
+        return INCORRECT;
     }
+    *reading = NOTHING;
+    refusal_status(error)
 }
 
-// Reads a text as a number of a signed type. It stands by itself, so that reading one of an unsigned
-// type is short.
+// Reads a text as a number of a signed type. It stands by itself, as does what follows, so that what
+// calls it is short.
 #[inline(never)]
-fn read_signed_text(integer: IntegerType, way: Way, text: &str, reading: &mut Reading) -> u32
-    requires signed { (the_kind integer).signed ≡ true }
-    requires fresh { reading.old ≡ no_number 0 0 }
+fn read_signed_text(text: &str, integer: IntegerType, way: Way, reading: &mut Reading) -> u32
+    requires { (the_kind integer).signed ≡ true }
     ensures { ReadsInto (the_kind integer) (By way) text.now result reading.new }
 {
     match read_as(integer, way, text) {
         Ok(number) => {
-            reading.number = halves(number);
+            *reading = Reading {
+                number: halves(number),
+                ..NOTHING
+            };
             DONE
         }
-        Err(error) => tell_refusal(
-            text,
-            error,
-            &mut reading.char_index,
-            &mut reading.byte_index,
-        ),
+        Err(error) => tell_refusal(text, error, reading),
     }
 }
 
 // Reads a text as a number of an unsigned type.
-#[inline(always)]
-fn read_unsigned_text(integer: IntegerType, way: Way, text: &str, reading: &mut Reading) -> u32
-    requires unsigned { (the_kind integer).signed ≡ false }
-    requires fresh { reading.old ≡ no_number 0 0 }
+#[inline(never)]
+fn read_unsigned_text(text: &str, integer: IntegerType, way: Way, reading: &mut Reading) -> u32
+    requires { (the_kind integer).signed ≡ false }
     ensures { ReadsInto (the_kind integer) (By way) text.now result reading.new }
 {
     match read_unsigned(integer, way, text) {
         Ok(number) => {
-            reading.number = halves_of(number);
+            *reading = Reading {
+                number: halves_of(number),
+                ..NOTHING
+            };
             DONE
         }
-        Err(error) => tell_refusal(
-            text,
-            error,
-            &mut reading.char_index,
-            &mut reading.byte_index,
-        ),
+        Err(error) => tell_refusal(text, error, reading),
     }
 }
 
-// Reads a text as a number of a type, and tells it to C.
+// Reads a text in a way as a number of a type.
 #[inline(always)]
-fn read_text(integer: IntegerType, way: ReadingWay, text: &str, reading: &mut Reading) -> u32
-    requires { reading.old ≡ no_number 0 0 }
-    ensures { ReadsInto (the_kind integer) way text.now result reading.new }
+fn read_text(text: &str, integer: IntegerType, way: Way, reading: &mut Reading) -> u32
+    ensures { ReadsInto (the_kind integer) (By way) text.now result reading.new }
 {
-    let way = way_meant(integer, way, text);
     if integer.is_signed() {
-        read_signed_text(integer, way, text, reading)
+        read_signed_text(text, integer, way, reading)
     } else {
-        read_unsigned_text(integer, way, text, reading)
+        read_unsigned_text(text, integer, way, reading)
+    }
+}
+
+// Reads a text either way as a number of a type.
+#[inline(never)]
+fn read_either(text: &str, integer: IntegerType, reading: &mut Reading) -> u32
+    ensures { ReadsInto (the_kind integer) Either text.now result reading.new }
+{
+    read_text(text, integer, either_way(integer, text), reading)
+}
+
+// Reads bytes that are not all common characters. It stands by itself, so that what calls it keeps
+// nothing over a test: so each of the others is read in some 16 instructions fewer.
+#[inline(never)]
+fn read_uncommon(text: &[u8], kind: u32, way: u32, reading: &mut Reading) -> u32
+    requires kind { IsSome (slice_get kinds kind) }
+    requires way { IsSome (slice_get reading_ways way) }
+    ensures { IsRead text.now kind way result reading.new }
+{
+    match utf8_text(text) {
+        Some(_) => unsafe { chinese_number_read_utf8(text, kind, way, reading) },
+        None => {
+            *reading = NOTHING;
+            NOT_UTF8
+        }
     }
 }
 
@@ -132,14 +148,14 @@ pub extern "C" fn chinese_number_read(
 ) -> u32
     ensures { IsRead text.now kind way result reading.new }
 {
-    *reading = NOTHING;
     let (Some(_), Some(_)) = (kind_of(kind), reading_way_of(way)) else {
+        *reading = NOTHING;
         return UNKNOWN;
     };
-    match utf8_text(text) {
-        Some(_) => unsafe { chinese_number_read_utf8(text, kind, way, reading) },
-        None => NOT_UTF8,
+    if are_common(text) {
+        return unsafe { chinese_number_read_utf8(text, kind, way, reading) };
     }
+    read_uncommon(text, kind, way, reading)
 }
 
 /// Reads a numeral as `chinese_number_read` does, where the caller knows that the bytes are UTF-8.
@@ -153,13 +169,13 @@ pub unsafe extern "C" fn chinese_number_read_utf8(
     requires { IsUtf8 text.now }
     ensures { IsRead text.now kind way result reading.new }
 {
-    *reading = NOTHING;
-    let Some(integer) = kind_of(kind) else {
-        return UNKNOWN;
-    };
-    let Some(way) = reading_way_of(way) else {
+    let (Some(integer), Some(way)) = (kind_of(kind), reading_way_of(way)) else {
+        *reading = NOTHING;
         return UNKNOWN;
     };
     let text = unsafe { str::from_utf8_unchecked(text) };
-    read_text(integer, way, text, reading)
+    match way {
+        ReadingWay::By(way) => read_text(text, integer, way, reading),
+        ReadingWay::Either => read_either(text, integer, reading),
+    }
 }
