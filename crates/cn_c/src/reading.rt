@@ -10,7 +10,7 @@ use crate::codes::{ReadingWay, kind_of, reading_way_of};
 use crate::number::{Number, halves, halves_of};
 use crate::status::{DONE, EMPTY, INCORRECT, NOT_UTF8, TOO_LARGE, TOO_SMALL, UNKNOWN};
 use chinese_number::ChineseToNumberError;
-use cn_faces::{IntegerType, Way, are_common, either_way, read_as, read_unsigned, utf8_text};
+use cn_faces::{IntegerType, Way, are_common, are_utf8_at_all, either_way, read_as, read_unsigned};
 use cn_judge::byte_index;
 use std::str;
 
@@ -127,13 +127,11 @@ fn read_uncommon(text: &[u8], kind: u32, way: u32, reading: &mut Reading) -> u32
     requires way { IsSome (slice_get reading_ways way) }
     ensures { IsRead text.now kind way result reading.new }
 {
-    match utf8_text(text) {
-        Some(_) => unsafe { chinese_number_read_utf8(text, kind, way, reading) },
-        None => {
-            *reading = NOTHING;
-            NOT_UTF8
-        }
+    if !are_utf8_at_all(text) {
+        *reading = NOTHING;
+        return NOT_UTF8;
     }
+    unsafe { chinese_number_read_utf8(text, kind, way, reading) }
 }
 
 /// Reads a numeral as a number of a type.

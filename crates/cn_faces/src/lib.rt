@@ -14,5 +14,5 @@ mod way;
 pub use either::either_way;
 pub use integer_type::IntegerType;
 pub use read::{read_as, read_unsigned};
-pub use utf8::{are_common, utf8_text};
+pub use utf8::{are_common, are_utf8_at_all, utf8_text};
 pub use way::{SignedMagnitude, Way, put_by, read_by, way_named};

@@ -163,10 +163,11 @@ fn front_len(bytes: &[u8]) -> usize
     first_len(bytes)
 }
 
-// Whether any bytes are UTF-8. By std's `from_utf8` 三é takes 80 instructions more to be read, and three
-// bytes that are none 60; of ASCII alone each byte takes 2 fewer by it.
+// By std's `from_utf8` 三é takes 80 instructions more to be read, and three bytes that are none 60; of
+// ASCII alone each byte takes 2 fewer by it.
+/// Whether any bytes are UTF-8.
 #[inline(always)]
-fn are_utf8(bytes: &[u8]) -> bool
+pub fn are_utf8_at_all(bytes: &[u8]) -> bool
     ensures { result ≡ is_utf8 bytes.now }
 {
     let mut rest = bytes;
@@ -178,6 +179,13 @@ fn are_utf8(bytes: &[u8]) -> bool
         rest = &rest[len..];
     }
     true
+}
+
+#[inline(always)]
+fn are_utf8(bytes: &[u8]) -> bool
+    ensures { result ≡ is_utf8 bytes.now }
+{
+    are_common(bytes) || are_utf8_at_all(bytes)
 }
 
 /// The text of these bytes, if they are UTF-8.

@@ -1,11 +1,7 @@
-use Rattle.std.proofs.Common.{◌∙◌, rules}
-use Rattle.cn_faces.proofs.Characters.{none_are_utf8, past_utf8}
+use Rattle.std.proofs.Common.{sym, ◌∙◌}
+use Rattle.std.proofs.lemmas.Str.{is_utf8-from_IsUtf8}
 use Rattle.cn_faces.proofs.utf8.are_utf8.Goals as goal
 
-pub characters-preserved : goal.characters-preserved
-characters-preserved c =
-    let len = c.front_len-len.ensures in
-    past_utf8 _ _ len.within len.some ∙ c.characters.invariant
-
-pub returns : goal.returns
-returns c = search (rules, none_are_utf8)
+pub returns-then-are_common : goal.returns-then-are_common
+returns-then-are_common c =
+    let is = c.if-are_common.true in is ∙ sym (is_utf8-from_IsUtf8 _ (c.are_common.ensures is))
