@@ -8,7 +8,7 @@ use crate::codes::{unit_of, upper_of};
 use crate::flags::flags_of;
 use crate::status::{DONE, NOT_UTF8, UNKNOWN};
 use chinese_number::{Found, Numbers, SearchRule, Wanted, find_numbers_from, find_quantities_from};
-use cn_faces::utf8_text;
+use cn_faces::{are_common, are_utf8_at_all, utf8_text};
 use std::str;
 
 /// Where a run stands in its text, in bytes, and what is told of it: flags, added together.
@@ -90,9 +90,13 @@ pub extern "C" fn chinese_number_find(
     let Some(_) = wanted_of(upper, greatest) else {
         return UNKNOWN;
     };
-    match utf8_text(text) {
-        Some(_) => unsafe { chinese_number_find_utf8(text, from, upper, greatest, spans, count) },
-        None => NOT_UTF8,
+    if are_common(text) {
+        return unsafe { chinese_number_find_utf8(text, from, upper, greatest, spans, count) };
+    }
+    if are_utf8_at_all(text) {
+        unsafe { chinese_number_find_utf8(text, from, upper, greatest, spans, count) }
+    } else {
+        NOT_UTF8
     }
 }
 

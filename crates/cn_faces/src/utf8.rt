@@ -181,11 +181,19 @@ pub fn are_utf8_at_all(bytes: &[u8]) -> bool
     true
 }
 
+// It stands by itself, so that the calls that seldom come here are short.
+#[inline(never)]
+fn are_utf8_alone(bytes: &[u8]) -> bool
+    ensures { result ≡ is_utf8 bytes.now }
+{
+    are_utf8_at_all(bytes)
+}
+
 #[inline(always)]
 fn are_utf8(bytes: &[u8]) -> bool
     ensures { result ≡ is_utf8 bytes.now }
 {
-    are_common(bytes) || are_utf8_at_all(bytes)
+    are_common(bytes) || are_utf8_alone(bytes)
 }
 
 /// The text of these bytes, if they are UTF-8.
