@@ -591,85 +591,86 @@ static void w2c_f8(module *, u64, u32, u64);
 static void w2c_f9(module *, u64, u32);
 static void w2c_f10(module *, u64, u32);
 static void w2c_f11(module *, u64, u64, u64);
-static void w2c_f12(module *, u64, u64, u64);
-static u32 w2c_f13(module *, u64, u64, u64, u32, u32, u64, u64, u64);
-static u32 w2c_f14(module *, u64, u64);
-static u32 w2c_f15(module *, u32, u32, u64, u64);
-static void w2c_f16(module *, u64, u32);
-static void w2c_f17(module *, u64, u64, u64, u64, u64, u64, u64);
-static u32 w2c_f18(module *, u64, u64);
+static u32 w2c_f12(module *, u64, u64);
+static void w2c_f13(module *, u64, u64, u64);
+static u32 w2c_f14(module *, u64, u64, u64, u32, u32, u64, u64, u64);
+static u32 w2c_f15(module *, u64, u64);
+static u32 w2c_f16(module *, u32, u32, u64, u64);
+static void w2c_f17(module *, u64, u32);
+static void w2c_f18(module *, u64, u64, u64, u64, u64, u64, u64);
 static u32 w2c_f19(module *, u64, u64);
-static u32 w2c_f20(module *, u64, u64, u64, u32, u32, u64, u64, u64);
-static void w2c_f21(module *, u64, u64);
-static u32 w2c_f22(module *, u32, u32, u64, u64, u32, u64, u64);
-static u32 w2c_f23(module *, u32, u32, u32, u32, u32, u64, u64);
-static u32 w2c_f24(module *, u32, u32, u64, u64);
+static u32 w2c_f20(module *, u64, u64);
+static u32 w2c_f21(module *, u64, u64, u64, u32, u32, u64, u64, u64);
+static void w2c_f22(module *, u64, u64);
+static u32 w2c_f23(module *, u32, u32, u64, u64, u32, u64, u64);
+static u32 w2c_f24(module *, u32, u32, u32, u32, u32, u64, u64);
 static u32 w2c_f25(module *, u32, u32, u64, u64);
-static u64 w2c_f26(module *, u64, u64, u32, u32, u64, u64);
-static void w2c_f27(module *, u64, u64, u64, u32);
-static void w2c_f28(module *, u64, u64);
-static void w2c_f29(module *, u64, u64, u64);
-static void w2c_f30(module *, u64, u32, u64, u64, u64);
-static void w2c_f31(module *, u64, u64, u64);
-static void w2c_f32(module *, u64, u32, u64, u64, u64);
-static u64 w2c_f33(module *, u64, u64);
-static void w2c_f34(module *, u64, u32);
-static void w2c_f35(module *, u64, u32, u64, u64, u64, u64);
-static void w2c_f36(module *, u64, u32, u32);
-static void w2c_f37(module *, u64, u64, u64);
-static void w2c_f38(module *, u64, u32, u32, u64, u64, u64, u64);
-static void w2c_f39(module *, u64, u32, u64, u64);
-static void w2c_f40(module *, u64, u32, u64, u64, u64);
-static void w2c_f41(module *, u64, u64, u64, u64);
-static void w2c_f42(module *, u64, u64, u64);
-static void w2c_f43(module *, u64, u32, u64, u32, u64, u64);
-static void w2c_f44(module *, u64, u32, u64, u64, u32, u32);
-static u32 w2c_f45(module *, u64, u64, u32, u32, u32, u64);
-static void w2c_f46(module *, u64, u32, u64, u64, u64);
-static u32 w2c_f47(module *, u64, u64, u32, u32, u32, u64);
-static u32 w2c_f48(module *, u64, u64, u32, u64);
-static void w2c_f49(module *, u64, u32, u64, u64);
-static u32 w2c_f50(module *, u64, u64, u32, u32, u64);
+static u32 w2c_f26(module *, u32, u32, u64, u64);
+static u64 w2c_f27(module *, u64, u64, u32, u32, u64, u64);
+static void w2c_f28(module *, u64, u64, u64, u32);
+static void w2c_f29(module *, u64, u64);
+static void w2c_f30(module *, u64, u64, u64);
+static void w2c_f31(module *, u64, u32, u64, u64, u64);
+static void w2c_f32(module *, u64, u64, u64);
+static void w2c_f33(module *, u64, u32, u64, u64, u64);
+static u64 w2c_f34(module *, u64, u64);
+static void w2c_f35(module *, u64, u32);
+static void w2c_f36(module *, u64, u32, u64, u64, u64, u64);
+static void w2c_f37(module *, u64, u32, u32);
+static void w2c_f38(module *, u64, u64, u64);
+static void w2c_f39(module *, u64, u32, u32, u64, u64, u64, u64);
+static void w2c_f40(module *, u64, u32, u64, u64);
+static void w2c_f41(module *, u64, u32, u64, u64, u64);
+static void w2c_f42(module *, u64, u64, u64, u64);
+static void w2c_f43(module *, u64, u64, u64);
+static void w2c_f44(module *, u64, u32, u64, u32, u64, u64);
+static void w2c_f45(module *, u64, u32, u64, u64, u32, u32);
+static u32 w2c_f46(module *, u64, u64, u32, u32, u32, u64);
+static void w2c_f47(module *, u64, u32, u64, u64, u64);
+static u32 w2c_f48(module *, u64, u64, u32, u32, u32, u64);
+static u32 w2c_f49(module *, u64, u64, u32, u64);
+static void w2c_f50(module *, u64, u32, u64, u64);
+static u32 w2c_f51(module *, u64, u64, u32, u32, u64);
 static u32 w2c_chinese_number_version(module *);
-static void w2c_f52(module *);
+static void w2c_f53(module *);
 static u32 w2c_chinese_amount_print(module *, u64, u32, u32, u64, u64, u64);
-static u32 w2c_f54(module *, u64, u32, u32, u64, u64, u64);
+static u32 w2c_f55(module *, u64, u32, u32, u64, u64, u64);
 static u32 w2c_chinese_date_print(module *, u32, u32, u32, u32, u64, u64, u64);
-static u32 w2c_f56(module *, u32, u32, u32, u32, u64, u64, u64);
+static u32 w2c_f57(module *, u32, u32, u32, u32, u64, u64, u64);
 static u32 w2c_chinese_signed_amount_print(module *, u64, u32, u32, u64, u64, u64);
-static u32 w2c_f58(module *, u64, u32, u32, u64, u64, u64);
+static u32 w2c_f59(module *, u64, u32, u32, u64, u64, u64);
 static u32 w2c_chinese_quantity_figures(module *, u64, u64, u64, u64);
-static u32 w2c_f60(module *, u64, u64, u64, u64);
+static u32 w2c_f61(module *, u64, u64, u64, u64);
 static u32 w2c_chinese_amount_read(module *, u64, u64, u64);
-static u32 w2c_f62(module *, u64, u64, u64);
+static u32 w2c_f63(module *, u64, u64, u64);
 static u32 w2c_chinese_typed_amount_read(module *, u64, u64, u64);
-static u32 w2c_f64(module *, u64, u64, u64);
+static u32 w2c_f65(module *, u64, u64, u64);
 static u32 w2c_chinese_date_read(module *, u64, u64, u64);
-static u32 w2c_f66(module *, u64, u64, u64);
+static u32 w2c_f67(module *, u64, u64, u64);
 static u32 w2c_chinese_figures_read(module *, u64, u64, u64);
-static u32 w2c_f68(module *, u64, u64, u64);
+static u32 w2c_f69(module *, u64, u64, u64);
 static u32 w2c_chinese_signed_amount_read(module *, u64, u64, u64);
-static u32 w2c_f70(module *, u64, u64, u64);
+static u32 w2c_f71(module *, u64, u64, u64);
 static u32 w2c_chinese_number_find_utf8(module *, u64, u64, u64, u32, u32, u64, u64, u64);
-static u32 w2c_f72(module *, u64, u64, u64, u32, u32, u64, u64, u64);
+static u32 w2c_f73(module *, u64, u64, u64, u32, u32, u64, u64, u64);
 static u32 w2c_chinese_number_find(module *, u64, u64, u64, u32, u32, u64, u64, u64);
-static u32 w2c_f74(module *, u64, u64, u64, u32, u32, u64, u64, u64);
+static u32 w2c_f75(module *, u64, u64, u64, u32, u32, u64, u64, u64);
 static u32 w2c_chinese_quantity_find_utf8(module *, u64, u64, u64, u32, u32, u64, u64, u64);
-static u32 w2c_f76(module *, u64, u64, u64, u32, u32, u64, u64, u64);
+static u32 w2c_f77(module *, u64, u64, u64, u32, u32, u64, u64, u64);
 static u32 w2c_chinese_quantity_find(module *, u64, u64, u64, u32, u32, u64, u64, u64);
-static u32 w2c_f78(module *, u64, u64, u64, u32, u32, u64, u64, u64);
+static u32 w2c_f79(module *, u64, u64, u64, u32, u32, u64, u64, u64);
 static u32 w2c_chinese_number_print(module *, u64, u64, u32, u32, u32, u32, u64, u64, u64);
-static u32 w2c_f80(module *, u64, u64, u32, u32, u32, u32, u64, u64, u64);
+static u32 w2c_f81(module *, u64, u64, u32, u32, u32, u32, u64, u64, u64);
 static u32 w2c_chinese_quantities_to_figures(module *, u64, u64, u32, u32, u32, u32, u64, u64, u64);
-static u32 w2c_f82(module *, u64, u64, u32, u32, u32, u32, u64, u64, u64);
+static u32 w2c_f83(module *, u64, u64, u32, u32, u32, u32, u64, u64, u64);
 static u32 w2c_chinese_quantity_print(module *, u64, u32, u32, u32, u64, u64, u64);
-static u32 w2c_f84(module *, u64, u32, u32, u32, u64, u64, u64);
+static u32 w2c_f85(module *, u64, u32, u32, u32, u64, u64, u64);
 static u32 w2c_chinese_quantity_read(module *, u64, u64, u32, u64);
-static u32 w2c_f86(module *, u64, u64, u32, u64);
+static u32 w2c_f87(module *, u64, u64, u32, u64);
 static u32 w2c_chinese_number_read_utf8(module *, u64, u64, u32, u32, u64);
-static u32 w2c_f88(module *, u64, u64, u32, u32, u64);
+static u32 w2c_f89(module *, u64, u64, u32, u32, u64);
 static u32 w2c_chinese_number_read(module *, u64, u64, u32, u32, u64);
-static u32 w2c_f90(module *, u64, u64, u32, u32, u64);
+static u32 w2c_f91(module *, u64, u64, u32, u32, u64);
 
 static u32 w2c_f0(module *m) {
   u32 w2c_l0 = 0;
@@ -6819,7 +6820,259 @@ static void w2c_f11(module *m, u64 w2c_p0, u64 w2c_p1, u64 w2c_p2) {
   m->w2c_g0 = w2c_j0;
 }
 
-static void w2c_f12(module *m, u64 w2c_p0, u64 w2c_p1, u64 w2c_p2) {
+static u32 w2c_f12(module *m, u64 w2c_p0, u64 w2c_p1) {
+  u32 w2c_l2 = 0, w2c_l3 = 0, w2c_l4 = 0, w2c_l5 = 0, w2c_l6 = 0;
+  u64 w2c_l7 = 0;
+  u32 w2c_i0, w2c_i1, w2c_i2;
+  u64 w2c_j0, w2c_j1, w2c_j2;
+  w2c_j0 = m->w2c_g0;
+  w2c_j1 = 16ull;
+  w2c_i0 = (u64)((s64)w2c_j0 < (s64)w2c_j1);
+  if (w2c_i0) {goto w2c_B0;}
+  w2c_j0 = w2c_p1;
+  w2c_i0 = !(w2c_j0);
+  if (w2c_i0) {goto w2c_B2;}
+  w2c_L3:
+    w2c_j0 = w2c_p1;
+    w2c_j1 = 4ull;
+    w2c_i0 = w2c_j0 < w2c_j1;
+    if (w2c_i0) {goto w2c_B8;}
+    w2c_j0 = w2c_p0;
+    w2c_i0 = (u32)(w2c_j0);
+    w2c_i0 = i32_load(m, (u64)(w2c_i0));
+    w2c_l2 = w2c_i0;
+    w2c_i1 = 16776989u;
+    w2c_i0 += w2c_i1;
+    w2c_i1 = 12632312u;
+    w2c_i0 &= w2c_i1;
+    w2c_i1 = 8421376u;
+    w2c_i0 = w2c_i0 != w2c_i1;
+    if (w2c_i0) {goto w2c_B9;}
+    w2c_j0 = 3ull;
+    w2c_l7 = w2c_j0;
+    goto w2c_B4;
+    w2c_B9:;
+    w2c_i0 = w2c_l2;
+    w2c_i1 = 2155905152u;
+    w2c_i0 &= w2c_i1;
+    if (w2c_i0) {goto w2c_B7;}
+    w2c_j0 = 4ull;
+    w2c_l7 = w2c_j0;
+    goto w2c_B4;
+    w2c_B8:;
+    w2c_j0 = w2c_p0;
+    w2c_i0 = (u32)(w2c_j0);
+    w2c_i0 = i32_load8_u(m, (u64)(w2c_i0));
+    w2c_l2 = w2c_i0;
+    w2c_i0 = 0u;
+    w2c_l3 = w2c_i0;
+    w2c_j0 = w2c_p1;
+    w2c_j1 = 18446744073709551615ull;
+    w2c_j0 += w2c_j1;
+    w2c_l7 = w2c_j0;
+    w2c_j1 = 2ull;
+    w2c_i0 = w2c_j0 > w2c_j1;
+    if (w2c_i0) {goto w2c_B6;}
+    w2c_i0 = 0u;
+    w2c_l4 = w2c_i0;
+    w2c_j0 = w2c_l7;
+    w2c_i0 = (u32)(w2c_j0);
+    switch (w2c_i0) {
+      case 0: goto w2c_B5;
+      case 1: goto w2c_B6;
+      case 2: goto w2c_B10;
+      default: goto w2c_B5;
+    }
+    w2c_B10:;
+    w2c_j0 = w2c_p0;
+    w2c_j1 = 1ull;
+    w2c_j0 += w2c_j1;
+    w2c_i0 = (u32)(w2c_j0);
+    w2c_i0 = i32_load8_u(m, (u64)(w2c_i0));
+    w2c_i1 = 8u;
+    w2c_i0 <<= (w2c_i1 & 31);
+    w2c_i1 = w2c_l2;
+    w2c_i0 |= w2c_i1;
+    w2c_j1 = w2c_p0;
+    w2c_j2 = 2ull;
+    w2c_j1 += w2c_j2;
+    w2c_i1 = (u32)(w2c_j1);
+    w2c_i1 = i32_load8_u(m, (u64)(w2c_i1));
+    w2c_i2 = 16u;
+    w2c_i1 <<= (w2c_i2 & 31);
+    w2c_i0 |= w2c_i1;
+    w2c_i1 = 16776989u;
+    w2c_i0 += w2c_i1;
+    w2c_i1 = 12632312u;
+    w2c_i0 &= w2c_i1;
+    w2c_i1 = 8421376u;
+    w2c_i0 = w2c_i0 != w2c_i1;
+    if (w2c_i0) {goto w2c_B7;}
+    w2c_j0 = 3ull;
+    w2c_l7 = w2c_j0;
+    goto w2c_B4;
+    w2c_B7:;
+    w2c_j0 = w2c_p0;
+    w2c_j1 = 2ull;
+    w2c_j0 += w2c_j1;
+    w2c_i0 = (u32)(w2c_j0);
+    w2c_i0 = i32_load8_s(m, (u64)(w2c_i0));
+    w2c_i1 = 4294967232u;
+    w2c_i0 = (u32)((s32)w2c_i0 < (s32)w2c_i1);
+    w2c_l3 = w2c_i0;
+    w2c_j0 = w2c_p0;
+    w2c_j1 = 1ull;
+    w2c_j0 += w2c_j1;
+    w2c_i0 = (u32)(w2c_j0);
+    w2c_i0 = i32_load8_u(m, (u64)(w2c_i0));
+    w2c_l4 = w2c_i0;
+    goto w2c_B5;
+    w2c_B6:;
+    w2c_j0 = w2c_p0;
+    w2c_j1 = 1ull;
+    w2c_j0 += w2c_j1;
+    w2c_i0 = (u32)(w2c_j0);
+    w2c_i0 = i32_load8_u(m, (u64)(w2c_i0));
+    w2c_l4 = w2c_i0;
+    w2c_B5:;
+    w2c_i0 = w2c_l2;
+    w2c_i0 = (u32)(s32)(s8)(u8)(w2c_i0);
+    w2c_i1 = 4294967295u;
+    w2c_i0 = (u32)((s32)w2c_i0 <= (s32)w2c_i1);
+    if (w2c_i0) {goto w2c_B11;}
+    w2c_j0 = 1ull;
+    w2c_l7 = w2c_j0;
+    goto w2c_B4;
+    w2c_B11:;
+    w2c_i0 = w2c_l2;
+    w2c_i1 = 255u;
+    w2c_i0 &= w2c_i1;
+    w2c_l5 = w2c_i0;
+    w2c_i1 = 223u;
+    w2c_i0 = w2c_i0 > w2c_i1;
+    if (w2c_i0) {goto w2c_B12;}
+    w2c_i0 = 0u;
+    w2c_l6 = w2c_i0;
+    w2c_i0 = w2c_l5;
+    w2c_i1 = 194u;
+    w2c_i0 = w2c_i0 < w2c_i1;
+    if (w2c_i0) {goto w2c_B1;}
+    w2c_i0 = w2c_l4;
+    w2c_i0 = (u32)(s32)(s8)(u8)(w2c_i0);
+    w2c_i1 = 4294967232u;
+    w2c_i0 = (u32)((s32)w2c_i0 >= (s32)w2c_i1);
+    if (w2c_i0) {goto w2c_B1;}
+    w2c_j0 = 2ull;
+    w2c_l7 = w2c_j0;
+    goto w2c_B4;
+    w2c_B12:;
+    w2c_i0 = w2c_l5;
+    w2c_i1 = 239u;
+    w2c_i0 = w2c_i0 > w2c_i1;
+    if (w2c_i0) {goto w2c_B13;}
+    w2c_i0 = 0u;
+    w2c_l6 = w2c_i0;
+    w2c_i0 = w2c_l4;
+    w2c_i0 = (u32)(s32)(s8)(u8)(w2c_i0);
+    w2c_i1 = 4294967231u;
+    w2c_i0 = (u32)((s32)w2c_i0 > (s32)w2c_i1);
+    w2c_i1 = w2c_l3;
+    w2c_i2 = 1u;
+    w2c_i1 ^= w2c_i2;
+    w2c_i0 |= w2c_i1;
+    if (w2c_i0) {goto w2c_B1;}
+    w2c_i0 = w2c_l2;
+    w2c_i1 = 255u;
+    w2c_i0 &= w2c_i1;
+    w2c_i1 = 6u;
+    w2c_i0 <<= (w2c_i1 & 31);
+    w2c_i1 = w2c_l4;
+    w2c_i2 = 255u;
+    w2c_i1 &= w2c_i2;
+    w2c_i0 += w2c_i1;
+    w2c_l2 = w2c_i0;
+    w2c_i1 = 14496u;
+    w2c_i0 = w2c_i0 < w2c_i1;
+    if (w2c_i0) {goto w2c_B1;}
+    w2c_i0 = w2c_l2;
+    w2c_i1 = 32736u;
+    w2c_i0 &= w2c_i1;
+    w2c_i1 = 15328u;
+    w2c_i0 = w2c_i0 == w2c_i1;
+    if (w2c_i0) {goto w2c_B1;}
+    w2c_j0 = 3ull;
+    w2c_l7 = w2c_j0;
+    goto w2c_B4;
+    w2c_B13:;
+    w2c_j0 = 4ull;
+    w2c_l7 = w2c_j0;
+    w2c_i0 = 0u;
+    w2c_l6 = w2c_i0;
+    w2c_i0 = 0u;
+    w2c_l5 = w2c_i0;
+    w2c_j0 = w2c_p1;
+    w2c_j1 = 4ull;
+    w2c_i0 = w2c_j0 < w2c_j1;
+    if (w2c_i0) {goto w2c_B14;}
+    w2c_j0 = w2c_p0;
+    w2c_j1 = 3ull;
+    w2c_j0 += w2c_j1;
+    w2c_i0 = (u32)(w2c_j0);
+    w2c_i0 = i32_load8_s(m, (u64)(w2c_i0));
+    w2c_i1 = 4294967232u;
+    w2c_i0 = (u32)((s32)w2c_i0 < (s32)w2c_i1);
+    w2c_l5 = w2c_i0;
+    w2c_B14:;
+    w2c_i0 = w2c_l3;
+    w2c_i1 = w2c_l4;
+    w2c_i1 = (u32)(s32)(s8)(u8)(w2c_i1);
+    w2c_i2 = 4294967232u;
+    w2c_i1 = (u32)((s32)w2c_i1 < (s32)w2c_i2);
+    w2c_i2 = w2c_l5;
+    w2c_i1 &= w2c_i2;
+    w2c_i0 &= w2c_i1;
+    w2c_i1 = 1u;
+    w2c_i0 = w2c_i0 != w2c_i1;
+    if (w2c_i0) {goto w2c_B1;}
+    w2c_i0 = w2c_l2;
+    w2c_i1 = 255u;
+    w2c_i0 &= w2c_i1;
+    w2c_i1 = 6u;
+    w2c_i0 <<= (w2c_i1 & 31);
+    w2c_i1 = w2c_l4;
+    w2c_i2 = 255u;
+    w2c_i1 &= w2c_i2;
+    w2c_i0 += w2c_i1;
+    w2c_i1 = 4294951792u;
+    w2c_i0 += w2c_i1;
+    w2c_i1 = 255u;
+    w2c_i0 = w2c_i0 > w2c_i1;
+    if (w2c_i0) {goto w2c_B1;}
+    w2c_B4:;
+    w2c_j0 = w2c_p0;
+    w2c_j1 = w2c_l7;
+    w2c_j0 += w2c_j1;
+    w2c_p0 = w2c_j0;
+    w2c_j0 = w2c_p1;
+    w2c_j1 = w2c_l7;
+    w2c_j0 -= w2c_j1;
+    w2c_p1 = w2c_j0;
+    w2c_j1 = 0ull;
+    w2c_i0 = w2c_j0 != w2c_j1;
+    if (w2c_i0) {goto w2c_L3;}
+  w2c_B2:;
+  w2c_i0 = 1u;
+  w2c_l6 = w2c_i0;
+  w2c_B1:;
+  w2c_i0 = w2c_l6;
+  goto w2c_Bfunc;
+  w2c_B0:;
+  UNREACHABLE;
+  w2c_Bfunc:;
+  return w2c_i0;
+}
+
+static void w2c_f13(module *m, u64 w2c_p0, u64 w2c_p1, u64 w2c_p2) {
   u32 w2c_l9 = 0, w2c_l10 = 0, w2c_l11 = 0, w2c_l12 = 0, w2c_l13 = 0, w2c_l14 = 0;
   u64 w2c_l3 = 0, w2c_l4 = 0, w2c_l5 = 0, w2c_l6 = 0, w2c_l7 = 0, w2c_l8 = 0;
   u32 w2c_i0, w2c_i1, w2c_i2, w2c_i3, w2c_i4;
@@ -7430,7 +7683,7 @@ static void w2c_f12(module *m, u64 w2c_p0, u64 w2c_p1, u64 w2c_p2) {
   w2c_Bfunc:;
 }
 
-static u32 w2c_f13(module *m, u64 w2c_p0, u64 w2c_p1, u64 w2c_p2, u32 w2c_p3, u32 w2c_p4, u64 w2c_p5, u64 w2c_p6, u64 w2c_p7) {
+static u32 w2c_f14(module *m, u64 w2c_p0, u64 w2c_p1, u64 w2c_p2, u32 w2c_p3, u32 w2c_p4, u64 w2c_p5, u64 w2c_p6, u64 w2c_p7) {
   u32 w2c_l17 = 0, w2c_l18 = 0, w2c_l19 = 0, w2c_l20 = 0, w2c_l21 = 0;
   u64 w2c_l8 = 0, w2c_l9 = 0, w2c_l10 = 0, w2c_l11 = 0, w2c_l12 = 0, w2c_l13 = 0, w2c_l14 = 0, w2c_l15 = 0, w2c_l16 = 0;
   u32 w2c_i0, w2c_i1, w2c_i2, w2c_i3;
@@ -7717,7 +7970,7 @@ static u32 w2c_f13(module *m, u64 w2c_p0, u64 w2c_p1, u64 w2c_p2, u32 w2c_p3, u3
       if (w2c_i0) {goto w2c_B10;}
       w2c_j0 = w2c_l8;
       w2c_j1 = w2c_l13;
-      w2c_i0 = w2c_f14(m, w2c_j0, w2c_j1);
+      w2c_i0 = w2c_f15(m, w2c_j0, w2c_j1);
       if (w2c_i0) {goto w2c_L7;}
       w2c_i0 = w2c_l17;
       w2c_i1 = 4294041472u;
@@ -8011,7 +8264,7 @@ static u32 w2c_f13(module *m, u64 w2c_p0, u64 w2c_p1, u64 w2c_p2, u32 w2c_p3, u3
       if (w2c_i0) {goto w2c_B6;}
       w2c_j0 = w2c_l8;
       w2c_j1 = w2c_l13;
-      w2c_i0 = w2c_f14(m, w2c_j0, w2c_j1);
+      w2c_i0 = w2c_f15(m, w2c_j0, w2c_j1);
       if (w2c_i0) {goto w2c_L7;}
       goto w2c_B6;
       w2c_B11:;
@@ -8031,7 +8284,7 @@ static u32 w2c_f13(module *m, u64 w2c_p0, u64 w2c_p1, u64 w2c_p2, u32 w2c_p3, u3
       w2c_i1 = w2c_p4;
       w2c_j2 = w2c_l8;
       w2c_j3 = w2c_l13;
-      w2c_i0 = w2c_f15(m, w2c_i0, w2c_i1, w2c_j2, w2c_j3);
+      w2c_i0 = w2c_f16(m, w2c_i0, w2c_i1, w2c_j2, w2c_j3);
       w2c_i0 = !(w2c_i0);
       if (w2c_i0) {goto w2c_L7;}
       w2c_i0 = w2c_l17;
@@ -8044,7 +8297,7 @@ static u32 w2c_f13(module *m, u64 w2c_p0, u64 w2c_p1, u64 w2c_p2, u32 w2c_p3, u3
       w2c_i1 = w2c_p4;
       w2c_j2 = w2c_l8;
       w2c_j3 = w2c_l13;
-      w2c_i0 = w2c_f15(m, w2c_i0, w2c_i1, w2c_j2, w2c_j3);
+      w2c_i0 = w2c_f16(m, w2c_i0, w2c_i1, w2c_j2, w2c_j3);
       w2c_i0 = !(w2c_i0);
       if (w2c_i0) {goto w2c_L7;}
     w2c_B6:;
@@ -8415,7 +8668,7 @@ static u32 w2c_f13(module *m, u64 w2c_p0, u64 w2c_p1, u64 w2c_p2, u32 w2c_p3, u3
       if (w2c_i0) {goto w2c_B55;}
       w2c_j0 = w2c_l8;
       w2c_j1 = w2c_l13;
-      w2c_i0 = w2c_f14(m, w2c_j0, w2c_j1);
+      w2c_i0 = w2c_f15(m, w2c_j0, w2c_j1);
       w2c_i0 = !(w2c_i0);
       if (w2c_i0) {goto w2c_B54;}
       goto w2c_B36;
@@ -8424,7 +8677,7 @@ static u32 w2c_f13(module *m, u64 w2c_p0, u64 w2c_p1, u64 w2c_p2, u32 w2c_p3, u3
       w2c_i1 = w2c_p4;
       w2c_j2 = w2c_l8;
       w2c_j3 = w2c_l13;
-      w2c_i0 = w2c_f15(m, w2c_i0, w2c_i1, w2c_j2, w2c_j3);
+      w2c_i0 = w2c_f16(m, w2c_i0, w2c_i1, w2c_j2, w2c_j3);
       w2c_i0 = !(w2c_i0);
       if (w2c_i0) {goto w2c_B36;}
       w2c_B54:;
@@ -8438,7 +8691,7 @@ static u32 w2c_f13(module *m, u64 w2c_p0, u64 w2c_p1, u64 w2c_p2, u32 w2c_p3, u3
       w2c_j1 = 8ull;
       w2c_j0 += w2c_j1;
       w2c_i1 = w2c_l17;
-      w2c_f16(m, w2c_j0, w2c_i1);
+      w2c_f17(m, w2c_j0, w2c_i1);
       w2c_i0 = w2c_l17;
       w2c_i1 = 4294967238u;
       w2c_i0 += w2c_i1;
@@ -8462,7 +8715,7 @@ static u32 w2c_f13(module *m, u64 w2c_p0, u64 w2c_p1, u64 w2c_p2, u32 w2c_p3, u3
       if (w2c_i0) {goto w2c_L37;}
       w2c_j0 = w2c_l9;
       w2c_i1 = w2c_l20;
-      w2c_f16(m, w2c_j0, w2c_i1);
+      w2c_f17(m, w2c_j0, w2c_i1);
       w2c_i0 = w2c_l20;
       w2c_i1 = 4294967238u;
       w2c_i0 += w2c_i1;
@@ -8493,7 +8746,7 @@ static u32 w2c_f13(module *m, u64 w2c_p0, u64 w2c_p1, u64 w2c_p2, u32 w2c_p3, u3
     w2c_j4 -= w2c_j5;
     w2c_j5 = w2c_l11;
     w2c_j6 = w2c_l12;
-    w2c_f17(m, w2c_j0, w2c_j1, w2c_j2, w2c_j3, w2c_j4, w2c_j5, w2c_j6);
+    w2c_f18(m, w2c_j0, w2c_j1, w2c_j2, w2c_j3, w2c_j4, w2c_j5, w2c_j6);
     w2c_j0 = w2c_l9;
     w2c_i0 = (u32)(w2c_j0);
     w2c_i0 = i32_load8_u(m, (u64)(w2c_i0) + 15u);
@@ -8576,7 +8829,7 @@ static u32 w2c_f13(module *m, u64 w2c_p0, u64 w2c_p1, u64 w2c_p2, u32 w2c_p3, u3
   return w2c_i0;
 }
 
-static u32 w2c_f14(module *m, u64 w2c_p0, u64 w2c_p1) {
+static u32 w2c_f15(module *m, u64 w2c_p0, u64 w2c_p1) {
   u32 w2c_l2 = 0, w2c_l3 = 0, w2c_l4 = 0, w2c_l5 = 0, w2c_l6 = 0;
   u64 w2c_l7 = 0;
   u32 w2c_i0, w2c_i1, w2c_i2, w2c_i3;
@@ -8968,7 +9221,7 @@ static u32 w2c_f14(module *m, u64 w2c_p0, u64 w2c_p1) {
   return w2c_i0;
 }
 
-static u32 w2c_f15(module *m, u32 w2c_p0, u32 w2c_p1, u64 w2c_p2, u64 w2c_p3) {
+static u32 w2c_f16(module *m, u32 w2c_p0, u32 w2c_p1, u64 w2c_p2, u64 w2c_p3) {
   u32 w2c_l7 = 0, w2c_l8 = 0, w2c_l9 = 0, w2c_l10 = 0, w2c_l11 = 0;
   u64 w2c_l4 = 0, w2c_l5 = 0, w2c_l6 = 0;
   u32 w2c_i0, w2c_i1, w2c_i2, w2c_i3;
@@ -9348,7 +9601,7 @@ static u32 w2c_f15(module *m, u32 w2c_p0, u32 w2c_p1, u64 w2c_p2, u64 w2c_p3) {
   if (w2c_i0) {goto w2c_B9;}
   w2c_j0 = w2c_p2;
   w2c_j1 = w2c_p3;
-  w2c_i0 = w2c_f14(m, w2c_j0, w2c_j1);
+  w2c_i0 = w2c_f15(m, w2c_j0, w2c_j1);
   w2c_i1 = 1u;
   w2c_i0 ^= w2c_i1;
   w2c_l8 = w2c_i0;
@@ -9363,7 +9616,7 @@ static u32 w2c_f15(module *m, u32 w2c_p0, u32 w2c_p1, u64 w2c_p2, u64 w2c_p3) {
   return w2c_i0;
 }
 
-static void w2c_f16(module *m, u64 w2c_p0, u32 w2c_p1) {
+static void w2c_f17(module *m, u64 w2c_p0, u32 w2c_p1) {
   u32 w2c_l2 = 0, w2c_l3 = 0;
   u32 w2c_i0, w2c_i1;
   u64 w2c_j0, w2c_j1;
@@ -9631,7 +9884,7 @@ static void w2c_f16(module *m, u64 w2c_p0, u32 w2c_p1) {
   i32_store8(m, (u64)(w2c_i0), w2c_i1);
 }
 
-static void w2c_f17(module *m, u64 w2c_p0, u64 w2c_p1, u64 w2c_p2, u64 w2c_p3, u64 w2c_p4, u64 w2c_p5, u64 w2c_p6) {
+static void w2c_f18(module *m, u64 w2c_p0, u64 w2c_p1, u64 w2c_p2, u64 w2c_p3, u64 w2c_p4, u64 w2c_p5, u64 w2c_p6) {
   u32 w2c_l10 = 0, w2c_l11 = 0, w2c_l12 = 0, w2c_l13 = 0, w2c_l14 = 0, w2c_l15 = 0, w2c_l16 = 0, w2c_l17 = 0;
   u64 w2c_l7 = 0, w2c_l8 = 0, w2c_l9 = 0;
   u32 w2c_i0, w2c_i1, w2c_i2, w2c_i3;
@@ -11698,7 +11951,7 @@ static void w2c_f17(module *m, u64 w2c_p0, u64 w2c_p1, u64 w2c_p2, u64 w2c_p3, u
   w2c_i0 = w2c_l14;
   w2c_j1 = w2c_p3;
   w2c_j2 = w2c_p4;
-  w2c_i1 = w2c_f18(m, w2c_j1, w2c_j2);
+  w2c_i1 = w2c_f19(m, w2c_j1, w2c_j2);
   w2c_i0 |= w2c_i1;
   w2c_i0 = !(w2c_i0);
   if (w2c_i0) {goto w2c_B106;}
@@ -11711,7 +11964,7 @@ static void w2c_f17(module *m, u64 w2c_p0, u64 w2c_p1, u64 w2c_p2, u64 w2c_p3, u
   w2c_l13 = w2c_i0;
   w2c_j0 = w2c_p3;
   w2c_j1 = w2c_p4;
-  w2c_i0 = w2c_f19(m, w2c_j0, w2c_j1);
+  w2c_i0 = w2c_f20(m, w2c_j0, w2c_j1);
   w2c_l11 = w2c_i0;
   goto w2c_B83;
   w2c_B105:;
@@ -11746,7 +11999,7 @@ static void w2c_f17(module *m, u64 w2c_p0, u64 w2c_p1, u64 w2c_p2, u64 w2c_p3, u
   m->w2c_g0 = w2c_j0;
 }
 
-static u32 w2c_f18(module *m, u64 w2c_p0, u64 w2c_p1) {
+static u32 w2c_f19(module *m, u64 w2c_p0, u64 w2c_p1) {
   u32 w2c_l2 = 0, w2c_l3 = 0, w2c_l4 = 0;
   u32 w2c_i0, w2c_i1, w2c_i2, w2c_i3;
   u64 w2c_j0, w2c_j1, w2c_j2;
@@ -11953,7 +12206,7 @@ static u32 w2c_f18(module *m, u64 w2c_p0, u64 w2c_p1) {
   return w2c_i0;
 }
 
-static u32 w2c_f19(module *m, u64 w2c_p0, u64 w2c_p1) {
+static u32 w2c_f20(module *m, u64 w2c_p0, u64 w2c_p1) {
   u32 w2c_l2 = 0, w2c_l3 = 0, w2c_l4 = 0, w2c_l5 = 0, w2c_l6 = 0, w2c_l7 = 0;
   u64 w2c_l8 = 0, w2c_l9 = 0, w2c_l10 = 0;
   u32 w2c_i0, w2c_i1, w2c_i2, w2c_i3;
@@ -12889,7 +13142,7 @@ static u32 w2c_f19(module *m, u64 w2c_p0, u64 w2c_p1) {
   return w2c_i0;
 }
 
-static u32 w2c_f20(module *m, u64 w2c_p0, u64 w2c_p1, u64 w2c_p2, u32 w2c_p3, u32 w2c_p4, u64 w2c_p5, u64 w2c_p6, u64 w2c_p7) {
+static u32 w2c_f21(module *m, u64 w2c_p0, u64 w2c_p1, u64 w2c_p2, u32 w2c_p3, u32 w2c_p4, u64 w2c_p5, u64 w2c_p6, u64 w2c_p7) {
   u32 w2c_l13 = 0, w2c_l14 = 0, w2c_l15 = 0;
   u64 w2c_l8 = 0, w2c_l9 = 0, w2c_l10 = 0, w2c_l11 = 0, w2c_l12 = 0;
   u32 w2c_i0, w2c_i1, w2c_i2, w2c_i3;
@@ -13017,7 +13270,7 @@ static u32 w2c_f20(module *m, u64 w2c_p0, u64 w2c_p1, u64 w2c_p2, u32 w2c_p3, u3
     w2c_j1 = w2c_l8;
     w2c_j2 = 64ull;
     w2c_j1 += w2c_j2;
-    w2c_f21(m, w2c_j0, w2c_j1);
+    w2c_f22(m, w2c_j0, w2c_j1);
     w2c_j0 = w2c_l8;
     w2c_i0 = (u32)(w2c_j0);
     w2c_i0 = i32_load8_u(m, (u64)(w2c_i0) + 8u);
@@ -13061,7 +13314,7 @@ static u32 w2c_f20(module *m, u64 w2c_p0, u64 w2c_p1, u64 w2c_p2, u32 w2c_p3, u3
     w2c_j4 = w2c_p1;
     w2c_j5 = w2c_l10;
     w2c_j6 = w2c_p0;
-    w2c_f17(m, w2c_j0, w2c_j1, w2c_j2, w2c_j3, w2c_j4, w2c_j5, w2c_j6);
+    w2c_f18(m, w2c_j0, w2c_j1, w2c_j2, w2c_j3, w2c_j4, w2c_j5, w2c_j6);
     w2c_j0 = w2c_l8;
     w2c_i0 = (u32)(w2c_j0);
     w2c_i0 = i32_load8_u(m, (u64)(w2c_i0) + 111u);
@@ -13147,7 +13400,7 @@ static u32 w2c_f20(module *m, u64 w2c_p0, u64 w2c_p1, u64 w2c_p2, u32 w2c_p3, u3
   return w2c_i0;
 }
 
-static void w2c_f21(module *m, u64 w2c_p0, u64 w2c_p1) {
+static void w2c_f22(module *m, u64 w2c_p0, u64 w2c_p1) {
   u32 w2c_l13 = 0, w2c_l14 = 0, w2c_l15 = 0, w2c_l16 = 0, w2c_l17 = 0, w2c_l18 = 0, w2c_l19 = 0, w2c_l20 = 0, w2c_l21 = 0;
   u64 w2c_l2 = 0, w2c_l3 = 0, w2c_l4 = 0, w2c_l5 = 0, w2c_l6 = 0, w2c_l7 = 0, w2c_l8 = 0, w2c_l9 = 0, w2c_l10 = 0, w2c_l11 = 0, w2c_l12 = 0;
   u32 w2c_i0, w2c_i1, w2c_i2, w2c_i3, w2c_i4;
@@ -13659,7 +13912,7 @@ static void w2c_f21(module *m, u64 w2c_p0, u64 w2c_p1) {
     w2c_i4 = w2c_l19;
     w2c_j5 = w2c_l4;
     w2c_j6 = w2c_l2;
-    w2c_i0 = w2c_f22(m, w2c_i0, w2c_i1, w2c_j2, w2c_j3, w2c_i4, w2c_j5, w2c_j6);
+    w2c_i0 = w2c_f23(m, w2c_i0, w2c_i1, w2c_j2, w2c_j3, w2c_i4, w2c_j5, w2c_j6);
     w2c_i0 = !(w2c_i0);
     if (w2c_i0) {goto w2c_L3;}
     goto w2c_B1;
@@ -13800,7 +14053,7 @@ static void w2c_f21(module *m, u64 w2c_p0, u64 w2c_p1) {
     if (w2c_i0) {goto w2c_B1;}
     w2c_j0 = w2c_l4;
     w2c_j1 = w2c_l2;
-    w2c_i0 = w2c_f14(m, w2c_j0, w2c_j1);
+    w2c_i0 = w2c_f15(m, w2c_j0, w2c_j1);
     if (w2c_i0) {goto w2c_L3;}
     goto w2c_B1;
     w2c_B38:;
@@ -13808,7 +14061,7 @@ static void w2c_f21(module *m, u64 w2c_p0, u64 w2c_p1) {
     w2c_i1 = w2c_l13;
     w2c_j2 = w2c_l4;
     w2c_j3 = w2c_l2;
-    w2c_i0 = w2c_f15(m, w2c_i0, w2c_i1, w2c_j2, w2c_j3);
+    w2c_i0 = w2c_f16(m, w2c_i0, w2c_i1, w2c_j2, w2c_j3);
     w2c_i0 = !(w2c_i0);
     if (w2c_i0) {goto w2c_L3;}
     goto w2c_B1;
@@ -13848,7 +14101,7 @@ static void w2c_f21(module *m, u64 w2c_p0, u64 w2c_p1) {
     w2c_i4 = w2c_l19;
     w2c_j5 = w2c_l4;
     w2c_j6 = w2c_l2;
-    w2c_i0 = w2c_f22(m, w2c_i0, w2c_i1, w2c_j2, w2c_j3, w2c_i4, w2c_j5, w2c_j6);
+    w2c_i0 = w2c_f23(m, w2c_i0, w2c_i1, w2c_j2, w2c_j3, w2c_i4, w2c_j5, w2c_j6);
     w2c_i0 = !(w2c_i0);
     if (w2c_i0) {goto w2c_L3;}
     goto w2c_B1;
@@ -14001,7 +14254,7 @@ static void w2c_f21(module *m, u64 w2c_p0, u64 w2c_p1) {
     if (w2c_i0) {goto w2c_B1;}
     w2c_j0 = w2c_l4;
     w2c_j1 = w2c_l2;
-    w2c_i0 = w2c_f14(m, w2c_j0, w2c_j1);
+    w2c_i0 = w2c_f15(m, w2c_j0, w2c_j1);
     if (w2c_i0) {goto w2c_L3;}
     goto w2c_B1;
     w2c_B48:;
@@ -14009,7 +14262,7 @@ static void w2c_f21(module *m, u64 w2c_p0, u64 w2c_p1) {
     w2c_i1 = w2c_l13;
     w2c_j2 = w2c_l4;
     w2c_j3 = w2c_l2;
-    w2c_i0 = w2c_f15(m, w2c_i0, w2c_i1, w2c_j2, w2c_j3);
+    w2c_i0 = w2c_f16(m, w2c_i0, w2c_i1, w2c_j2, w2c_j3);
     w2c_i0 = !(w2c_i0);
     if (w2c_i0) {goto w2c_L3;}
     goto w2c_B1;
@@ -14385,7 +14638,7 @@ static void w2c_f21(module *m, u64 w2c_p0, u64 w2c_p1) {
     w2c_i4 = w2c_l15;
     w2c_j5 = w2c_l4;
     w2c_j6 = w2c_l2;
-    w2c_i0 = w2c_f22(m, w2c_i0, w2c_i1, w2c_j2, w2c_j3, w2c_i4, w2c_j5, w2c_j6);
+    w2c_i0 = w2c_f23(m, w2c_i0, w2c_i1, w2c_j2, w2c_j3, w2c_i4, w2c_j5, w2c_j6);
     if (w2c_i0) {goto w2c_B58;}
     goto w2c_B49;
     w2c_B59:;
@@ -14527,7 +14780,7 @@ static void w2c_f21(module *m, u64 w2c_p0, u64 w2c_p1) {
     if (w2c_i0) {goto w2c_B76;}
     w2c_j0 = w2c_l4;
     w2c_j1 = w2c_l2;
-    w2c_i0 = w2c_f14(m, w2c_j0, w2c_j1);
+    w2c_i0 = w2c_f15(m, w2c_j0, w2c_j1);
     w2c_i0 = !(w2c_i0);
     if (w2c_i0) {goto w2c_B58;}
     goto w2c_B49;
@@ -14536,7 +14789,7 @@ static void w2c_f21(module *m, u64 w2c_p0, u64 w2c_p1) {
     w2c_i1 = w2c_l13;
     w2c_j2 = w2c_l4;
     w2c_j3 = w2c_l2;
-    w2c_i0 = w2c_f15(m, w2c_i0, w2c_i1, w2c_j2, w2c_j3);
+    w2c_i0 = w2c_f16(m, w2c_i0, w2c_i1, w2c_j2, w2c_j3);
     w2c_i0 = !(w2c_i0);
     if (w2c_i0) {goto w2c_B49;}
     w2c_B58:;
@@ -14557,7 +14810,7 @@ static void w2c_f21(module *m, u64 w2c_p0, u64 w2c_p1) {
     w2c_j1 = 8ull;
     w2c_j0 += w2c_j1;
     w2c_i1 = w2c_l15;
-    w2c_f16(m, w2c_j0, w2c_i1);
+    w2c_f17(m, w2c_j0, w2c_i1);
     w2c_i0 = w2c_l15;
     w2c_i1 = 4294967238u;
     w2c_i0 += w2c_i1;
@@ -14584,7 +14837,7 @@ static void w2c_f21(module *m, u64 w2c_p0, u64 w2c_p1) {
     w2c_B77:;
     w2c_j0 = w2c_l3;
     w2c_i1 = w2c_l19;
-    w2c_f16(m, w2c_j0, w2c_i1);
+    w2c_f17(m, w2c_j0, w2c_i1);
     w2c_i0 = w2c_l19;
     w2c_i1 = 4294967238u;
     w2c_i0 += w2c_i1;
@@ -14726,7 +14979,7 @@ static void w2c_f21(module *m, u64 w2c_p0, u64 w2c_p1) {
   m->w2c_g0 = w2c_j0;
 }
 
-static u32 w2c_f22(module *m, u32 w2c_p0, u32 w2c_p1, u64 w2c_p2, u64 w2c_p3, u32 w2c_p4, u64 w2c_p5, u64 w2c_p6) {
+static u32 w2c_f23(module *m, u32 w2c_p0, u32 w2c_p1, u64 w2c_p2, u64 w2c_p3, u32 w2c_p4, u64 w2c_p5, u64 w2c_p6) {
   u32 w2c_l11 = 0, w2c_l12 = 0, w2c_l13 = 0, w2c_l14 = 0;
   u64 w2c_l7 = 0, w2c_l8 = 0, w2c_l9 = 0, w2c_l10 = 0;
   u32 w2c_i0, w2c_i1, w2c_i2, w2c_i3, w2c_i4;
@@ -15106,7 +15359,7 @@ static u32 w2c_f22(module *m, u32 w2c_p0, u32 w2c_p1, u64 w2c_p2, u64 w2c_p3, u3
   w2c_i4 = w2c_l12;
   w2c_j5 = 66332ull;
   w2c_j6 = 0ull;
-  w2c_i0 = w2c_f23(m, w2c_i0, w2c_i1, w2c_i2, w2c_i3, w2c_i4, w2c_j5, w2c_j6);
+  w2c_i0 = w2c_f24(m, w2c_i0, w2c_i1, w2c_i2, w2c_i3, w2c_i4, w2c_j5, w2c_j6);
   w2c_i0 = !(w2c_i0);
   if (w2c_i0) {goto w2c_B2;}
   w2c_j0 = w2c_p6;
@@ -15361,7 +15614,7 @@ static u32 w2c_f22(module *m, u32 w2c_p0, u32 w2c_p1, u64 w2c_p2, u64 w2c_p3, u3
   w2c_j1 = 8ull;
   w2c_j0 += w2c_j1;
   w2c_i1 = w2c_p4;
-  w2c_f16(m, w2c_j0, w2c_i1);
+  w2c_f17(m, w2c_j0, w2c_i1);
   w2c_i0 = w2c_p4;
   w2c_i1 = 4294967238u;
   w2c_i0 += w2c_i1;
@@ -15708,7 +15961,7 @@ static u32 w2c_f22(module *m, u32 w2c_p0, u32 w2c_p1, u64 w2c_p2, u64 w2c_p3, u3
   w2c_B52:;
   w2c_j0 = w2c_l7;
   w2c_i1 = w2c_p4;
-  w2c_f16(m, w2c_j0, w2c_i1);
+  w2c_f17(m, w2c_j0, w2c_i1);
   w2c_i0 = 1u;
   w2c_l11 = w2c_i0;
   w2c_j0 = w2c_p2;
@@ -17083,7 +17336,7 @@ static u32 w2c_f22(module *m, u32 w2c_p0, u32 w2c_p1, u64 w2c_p2, u64 w2c_p3, u3
   if (w2c_i0) {goto w2c_B0;}
   w2c_j0 = w2c_p2;
   w2c_j1 = w2c_p3;
-  w2c_i0 = w2c_f14(m, w2c_j0, w2c_j1);
+  w2c_i0 = w2c_f15(m, w2c_j0, w2c_j1);
   w2c_i0 = !(w2c_i0);
   if (w2c_i0) {goto w2c_B0;}
   w2c_B91:;
@@ -17101,7 +17354,7 @@ static u32 w2c_f22(module *m, u32 w2c_p0, u32 w2c_p1, u64 w2c_p2, u64 w2c_p3, u3
   w2c_i1 = w2c_p1;
   w2c_j2 = w2c_p2;
   w2c_j3 = w2c_p3;
-  w2c_i0 = w2c_f24(m, w2c_i0, w2c_i1, w2c_j2, w2c_j3);
+  w2c_i0 = w2c_f25(m, w2c_i0, w2c_i1, w2c_j2, w2c_j3);
   w2c_p4 = w2c_i0;
   w2c_j0 = w2c_p6;
   w2c_i0 = !(w2c_j0);
@@ -17191,7 +17444,7 @@ static u32 w2c_f22(module *m, u32 w2c_p0, u32 w2c_p1, u64 w2c_p2, u64 w2c_p3, u3
   w2c_j3 = w2c_p6;
   w2c_j4 = w2c_p3;
   w2c_j3 -= w2c_j4;
-  w2c_i0 = w2c_f25(m, w2c_i0, w2c_i1, w2c_j2, w2c_j3);
+  w2c_i0 = w2c_f26(m, w2c_i0, w2c_i1, w2c_j2, w2c_j3);
   w2c_l11 = w2c_i0;
   goto w2c_B0;
   w2c_B13:;
@@ -17224,14 +17477,14 @@ static u32 w2c_f22(module *m, u32 w2c_p0, u32 w2c_p1, u64 w2c_p2, u64 w2c_p3, u3
   w2c_i1 = w2c_p1;
   w2c_j2 = w2c_p2;
   w2c_j3 = w2c_l8;
-  w2c_i0 = w2c_f24(m, w2c_i0, w2c_i1, w2c_j2, w2c_j3);
+  w2c_i0 = w2c_f25(m, w2c_i0, w2c_i1, w2c_j2, w2c_j3);
   w2c_i0 = !(w2c_i0);
   if (w2c_i0) {goto w2c_B0;}
   w2c_i0 = w2c_p0;
   w2c_i1 = w2c_p1;
   w2c_j2 = w2c_p5;
   w2c_j3 = w2c_p6;
-  w2c_i0 = w2c_f25(m, w2c_i0, w2c_i1, w2c_j2, w2c_j3);
+  w2c_i0 = w2c_f26(m, w2c_i0, w2c_i1, w2c_j2, w2c_j3);
   w2c_l11 = w2c_i0;
   goto w2c_B0;
   w2c_B11:;
@@ -17239,7 +17492,7 @@ static u32 w2c_f22(module *m, u32 w2c_p0, u32 w2c_p1, u64 w2c_p2, u64 w2c_p3, u3
   w2c_i1 = w2c_p1;
   w2c_j2 = w2c_p2;
   w2c_j3 = w2c_p3;
-  w2c_i0 = w2c_f24(m, w2c_i0, w2c_i1, w2c_j2, w2c_j3);
+  w2c_i0 = w2c_f25(m, w2c_i0, w2c_i1, w2c_j2, w2c_j3);
   w2c_i0 = !(w2c_i0);
   if (w2c_i0) {goto w2c_B107;}
   w2c_i0 = 1u;
@@ -17602,7 +17855,7 @@ static u32 w2c_f22(module *m, u32 w2c_p0, u32 w2c_p1, u64 w2c_p2, u64 w2c_p3, u3
   w2c_i1 = w2c_p1;
   w2c_j2 = w2c_p2;
   w2c_j3 = w2c_p3;
-  w2c_i0 = w2c_f24(m, w2c_i0, w2c_i1, w2c_j2, w2c_j3);
+  w2c_i0 = w2c_f25(m, w2c_i0, w2c_i1, w2c_j2, w2c_j3);
   if (w2c_i0) {goto w2c_B0;}
   w2c_i0 = 1u;
   w2c_l11 = w2c_i0;
@@ -19579,14 +19832,14 @@ static u32 w2c_f22(module *m, u32 w2c_p0, u32 w2c_p1, u64 w2c_p2, u64 w2c_p3, u3
   w2c_i1 = w2c_p1;
   w2c_j2 = w2c_p5;
   w2c_j3 = w2c_p6;
-  w2c_i0 = w2c_f25(m, w2c_i0, w2c_i1, w2c_j2, w2c_j3);
+  w2c_i0 = w2c_f26(m, w2c_i0, w2c_i1, w2c_j2, w2c_j3);
   w2c_i0 = !(w2c_i0);
   if (w2c_i0) {goto w2c_B0;}
   w2c_i0 = w2c_p0;
   w2c_i1 = w2c_p1;
   w2c_j2 = w2c_p2;
   w2c_j3 = w2c_p3;
-  w2c_i0 = w2c_f24(m, w2c_i0, w2c_i1, w2c_j2, w2c_j3);
+  w2c_i0 = w2c_f25(m, w2c_i0, w2c_i1, w2c_j2, w2c_j3);
   if (w2c_i0) {goto w2c_B0;}
   w2c_i0 = 1u;
   w2c_l11 = w2c_i0;
@@ -19818,7 +20071,7 @@ static u32 w2c_f22(module *m, u32 w2c_p0, u32 w2c_p1, u64 w2c_p2, u64 w2c_p3, u3
   return w2c_i0;
 }
 
-static u32 w2c_f23(module *m, u32 w2c_p0, u32 w2c_p1, u32 w2c_p2, u32 w2c_p3, u32 w2c_p4, u64 w2c_p5, u64 w2c_p6) {
+static u32 w2c_f24(module *m, u32 w2c_p0, u32 w2c_p1, u32 w2c_p2, u32 w2c_p3, u32 w2c_p4, u64 w2c_p5, u64 w2c_p6) {
   u32 w2c_l8 = 0;
   u64 w2c_l7 = 0;
   u32 w2c_i0, w2c_i1, w2c_i2;
@@ -19969,7 +20222,7 @@ static u32 w2c_f23(module *m, u32 w2c_p0, u32 w2c_p1, u32 w2c_p2, u32 w2c_p3, u3
   w2c_i1 = w2c_p1;
   w2c_j2 = w2c_p5;
   w2c_j3 = w2c_p6;
-  w2c_i0 = w2c_f15(m, w2c_i0, w2c_i1, w2c_j2, w2c_j3);
+  w2c_i0 = w2c_f16(m, w2c_i0, w2c_i1, w2c_j2, w2c_j3);
   w2c_i0 = !(w2c_i0);
   if (w2c_i0) {goto w2c_B3;}
   w2c_j0 = w2c_l7;
@@ -19979,7 +20232,7 @@ static u32 w2c_f23(module *m, u32 w2c_p0, u32 w2c_p1, u32 w2c_p2, u32 w2c_p3, u3
   w2c_B13:;
   w2c_j0 = w2c_p5;
   w2c_j1 = w2c_p6;
-  w2c_i0 = w2c_f14(m, w2c_j0, w2c_j1);
+  w2c_i0 = w2c_f15(m, w2c_j0, w2c_j1);
   if (w2c_i0) {goto w2c_B3;}
   w2c_j0 = w2c_l7;
   m->w2c_g0 = w2c_j0;
@@ -20014,7 +20267,7 @@ static u32 w2c_f23(module *m, u32 w2c_p0, u32 w2c_p1, u32 w2c_p2, u32 w2c_p3, u3
   return w2c_i0;
 }
 
-static u32 w2c_f24(module *m, u32 w2c_p0, u32 w2c_p1, u64 w2c_p2, u64 w2c_p3) {
+static u32 w2c_f25(module *m, u32 w2c_p0, u32 w2c_p1, u64 w2c_p2, u64 w2c_p3) {
   u32 w2c_l7 = 0, w2c_l8 = 0, w2c_l9 = 0, w2c_l10 = 0;
   u64 w2c_l4 = 0, w2c_l5 = 0, w2c_l6 = 0;
   u32 w2c_i0, w2c_i1, w2c_i2, w2c_i3, w2c_i4;
@@ -20228,7 +20481,7 @@ static u32 w2c_f24(module *m, u32 w2c_p0, u32 w2c_p1, u64 w2c_p2, u64 w2c_p3) {
   w2c_i4 = w2c_l8;
   w2c_j5 = 66332ull;
   w2c_j6 = 0ull;
-  w2c_i0 = w2c_f23(m, w2c_i0, w2c_i1, w2c_i2, w2c_i3, w2c_i4, w2c_j5, w2c_j6);
+  w2c_i0 = w2c_f24(m, w2c_i0, w2c_i1, w2c_i2, w2c_i3, w2c_i4, w2c_j5, w2c_j6);
   w2c_l7 = w2c_i0;
   w2c_j0 = w2c_l4;
   m->w2c_g0 = w2c_j0;
@@ -20240,7 +20493,7 @@ static u32 w2c_f24(module *m, u32 w2c_p0, u32 w2c_p1, u64 w2c_p2, u64 w2c_p3) {
   return w2c_i0;
 }
 
-static u32 w2c_f25(module *m, u32 w2c_p0, u32 w2c_p1, u64 w2c_p2, u64 w2c_p3) {
+static u32 w2c_f26(module *m, u32 w2c_p0, u32 w2c_p1, u64 w2c_p2, u64 w2c_p3) {
   u32 w2c_l6 = 0, w2c_l7 = 0, w2c_l8 = 0, w2c_l9 = 0, w2c_l10 = 0;
   u64 w2c_l4 = 0, w2c_l5 = 0;
   u32 w2c_i0, w2c_i1, w2c_i2, w2c_i3, w2c_i4;
@@ -20511,7 +20764,7 @@ static u32 w2c_f25(module *m, u32 w2c_p0, u32 w2c_p1, u64 w2c_p2, u64 w2c_p3) {
   w2c_i4 = w2c_l9;
   w2c_j5 = w2c_p2;
   w2c_j6 = w2c_p3;
-  w2c_i0 = w2c_f23(m, w2c_i0, w2c_i1, w2c_i2, w2c_i3, w2c_i4, w2c_j5, w2c_j6);
+  w2c_i0 = w2c_f24(m, w2c_i0, w2c_i1, w2c_i2, w2c_i3, w2c_i4, w2c_j5, w2c_j6);
   w2c_l6 = w2c_i0;
   w2c_j0 = w2c_l4;
   m->w2c_g0 = w2c_j0;
@@ -20523,7 +20776,7 @@ static u32 w2c_f25(module *m, u32 w2c_p0, u32 w2c_p1, u64 w2c_p2, u64 w2c_p3) {
   return w2c_i0;
 }
 
-static u64 w2c_f26(module *m, u64 w2c_p0, u64 w2c_p1, u32 w2c_p2, u32 w2c_p3, u64 w2c_p4, u64 w2c_p5) {
+static u64 w2c_f27(module *m, u64 w2c_p0, u64 w2c_p1, u32 w2c_p2, u32 w2c_p3, u64 w2c_p4, u64 w2c_p5) {
   u32 w2c_l16 = 0, w2c_l17 = 0, w2c_l18 = 0, w2c_l19 = 0, w2c_l20 = 0, w2c_l21 = 0;
   u64 w2c_l6 = 0, w2c_l7 = 0, w2c_l8 = 0, w2c_l9 = 0, w2c_l10 = 0, w2c_l11 = 0, w2c_l12 = 0, w2c_l13 = 0, w2c_l14 = 0, w2c_l15 = 0;
   u32 w2c_i0, w2c_i1, w2c_i2, w2c_i3, w2c_i4, w2c_i5, w2c_i6;
@@ -25446,7 +25699,7 @@ static u64 w2c_f26(module *m, u64 w2c_p0, u64 w2c_p1, u32 w2c_p2, u32 w2c_p3, u6
   return w2c_j0;
 }
 
-static void w2c_f27(module *m, u64 w2c_p0, u64 w2c_p1, u64 w2c_p2, u32 w2c_p3) {
+static void w2c_f28(module *m, u64 w2c_p0, u64 w2c_p1, u64 w2c_p2, u32 w2c_p3) {
   u32 w2c_l14 = 0, w2c_l15 = 0, w2c_l16 = 0, w2c_l17 = 0, w2c_l18 = 0;
   u64 w2c_l4 = 0, w2c_l5 = 0, w2c_l6 = 0, w2c_l7 = 0, w2c_l8 = 0, w2c_l9 = 0, w2c_l10 = 0, w2c_l11 = 0, w2c_l12 = 0, w2c_l13 = 0;
   u32 w2c_i0, w2c_i1, w2c_i2, w2c_i3, w2c_i4;
@@ -26007,7 +26260,7 @@ static void w2c_f27(module *m, u64 w2c_p0, u64 w2c_p1, u64 w2c_p2, u32 w2c_p3) {
   w2c_j1 = w2c_l4;
   w2c_j2 = 208ull;
   w2c_j1 += w2c_j2;
-  w2c_f28(m, w2c_j0, w2c_j1);
+  w2c_f29(m, w2c_j0, w2c_j1);
   w2c_j0 = w2c_l4;
   w2c_i0 = (u32)(w2c_j0);
   w2c_i0 = i32_load8_u(m, (u64)(w2c_i0) + 288u);
@@ -26205,7 +26458,7 @@ static void w2c_f27(module *m, u64 w2c_p0, u64 w2c_p1, u64 w2c_p2, u32 w2c_p3) {
   w2c_j0 += w2c_j1;
   w2c_j1 = w2c_p1;
   w2c_j2 = w2c_p2;
-  w2c_f29(m, w2c_j0, w2c_j1, w2c_j2);
+  w2c_f30(m, w2c_j0, w2c_j1, w2c_j2);
   w2c_j0 = w2c_p2;
   w2c_l6 = w2c_j0;
   w2c_j0 = w2c_l4;
@@ -26252,7 +26505,7 @@ static void w2c_f27(module *m, u64 w2c_p0, u64 w2c_p1, u64 w2c_p2, u32 w2c_p3) {
     w2c_j0 += w2c_j1;
     w2c_j1 = w2c_l8;
     w2c_j2 = w2c_l7;
-    w2c_f29(m, w2c_j0, w2c_j1, w2c_j2);
+    w2c_f30(m, w2c_j0, w2c_j1, w2c_j2);
     w2c_j0 = w2c_l4;
     w2c_i0 = (u32)(w2c_j0);
     w2c_i0 = i32_load8_u(m, (u64)(w2c_i0) + 288u);
@@ -26271,7 +26524,7 @@ static void w2c_f27(module *m, u64 w2c_p0, u64 w2c_p1, u64 w2c_p2, u32 w2c_p3) {
     w2c_j0 += w2c_j1;
     w2c_j1 = w2c_l8;
     w2c_j2 = w2c_l7;
-    w2c_f29(m, w2c_j0, w2c_j1, w2c_j2);
+    w2c_f30(m, w2c_j0, w2c_j1, w2c_j2);
     w2c_j0 = w2c_l7;
     w2c_l6 = w2c_j0;
     w2c_j0 = w2c_l4;
@@ -26373,7 +26626,7 @@ static void w2c_f27(module *m, u64 w2c_p0, u64 w2c_p1, u64 w2c_p2, u32 w2c_p3) {
   w2c_j0 += w2c_j1;
   w2c_j1 = w2c_p1;
   w2c_j2 = w2c_l6;
-  w2c_f29(m, w2c_j0, w2c_j1, w2c_j2);
+  w2c_f30(m, w2c_j0, w2c_j1, w2c_j2);
   w2c_j0 = w2c_l4;
   w2c_i0 = (u32)(w2c_j0);
   w2c_i0 = i32_load8_u(m, (u64)(w2c_i0) + 256u);
@@ -26385,7 +26638,7 @@ static void w2c_f27(module *m, u64 w2c_p0, u64 w2c_p1, u64 w2c_p2, u32 w2c_p3) {
   w2c_j0 += w2c_j1;
   w2c_j1 = w2c_l12;
   w2c_j2 = w2c_l11;
-  w2c_f29(m, w2c_j0, w2c_j1, w2c_j2);
+  w2c_f30(m, w2c_j0, w2c_j1, w2c_j2);
   w2c_j0 = w2c_l4;
   w2c_i0 = (u32)(w2c_j0);
   w2c_i0 = i32_load8_u(m, (u64)(w2c_i0) + 256u);
@@ -26916,7 +27169,7 @@ static void w2c_f27(module *m, u64 w2c_p0, u64 w2c_p1, u64 w2c_p2, u32 w2c_p3) {
   w2c_j1 = w2c_l4;
   w2c_j2 = 256ull;
   w2c_j1 += w2c_j2;
-  w2c_f28(m, w2c_j0, w2c_j1);
+  w2c_f29(m, w2c_j0, w2c_j1);
   w2c_j0 = w2c_l4;
   w2c_i0 = (u32)(w2c_j0);
   w2c_i0 = i32_load8_u(m, (u64)(w2c_i0) + 344u);
@@ -26935,7 +27188,7 @@ static void w2c_f27(module *m, u64 w2c_p0, u64 w2c_p1, u64 w2c_p2, u32 w2c_p3) {
   w2c_j2 = w2c_l9;
   w2c_j3 = w2c_p1;
   w2c_j4 = w2c_l6;
-  w2c_f30(m, w2c_j0, w2c_i1, w2c_j2, w2c_j3, w2c_j4);
+  w2c_f31(m, w2c_j0, w2c_i1, w2c_j2, w2c_j3, w2c_j4);
   w2c_j0 = w2c_l4;
   w2c_i0 = (u32)(w2c_j0);
   w2c_j0 = i64_load(m, (u64)(w2c_i0) + 304u);
@@ -26989,7 +27242,7 @@ static void w2c_f27(module *m, u64 w2c_p0, u64 w2c_p1, u64 w2c_p2, u32 w2c_p3) {
   w2c_j2 += w2c_j3;
   w2c_j3 = w2c_l12;
   w2c_j4 = w2c_l11;
-  w2c_f30(m, w2c_j0, w2c_i1, w2c_j2, w2c_j3, w2c_j4);
+  w2c_f31(m, w2c_j0, w2c_i1, w2c_j2, w2c_j3, w2c_j4);
   w2c_j0 = w2c_l4;
   w2c_i0 = (u32)(w2c_j0);
   w2c_j0 = i64_load(m, (u64)(w2c_i0) + 224u);
@@ -27151,7 +27404,7 @@ static void w2c_f27(module *m, u64 w2c_p0, u64 w2c_p1, u64 w2c_p2, u32 w2c_p3) {
   w2c_j0 += w2c_j1;
   w2c_j1 = w2c_p1;
   w2c_j2 = w2c_p2;
-  w2c_f31(m, w2c_j0, w2c_j1, w2c_j2);
+  w2c_f32(m, w2c_j0, w2c_j1, w2c_j2);
   w2c_j0 = w2c_l4;
   w2c_i0 = (u32)(w2c_j0);
   w2c_i0 = i32_load8_u(m, (u64)(w2c_i0) + 288u);
@@ -27173,7 +27426,7 @@ static void w2c_f27(module *m, u64 w2c_p0, u64 w2c_p1, u64 w2c_p2, u32 w2c_p3) {
   w2c_i2 = (u32)(w2c_j2);
   w2c_j2 = i64_load(m, (u64)(w2c_i2) + 312u);
   w2c_l8 = w2c_j2;
-  w2c_f29(m, w2c_j0, w2c_j1, w2c_j2);
+  w2c_f30(m, w2c_j0, w2c_j1, w2c_j2);
   w2c_j0 = w2c_l4;
   w2c_i0 = (u32)(w2c_j0);
   w2c_i0 = i32_load8_u(m, (u64)(w2c_i0) + 288u);
@@ -27196,7 +27449,7 @@ static void w2c_f27(module *m, u64 w2c_p0, u64 w2c_p1, u64 w2c_p2, u32 w2c_p3) {
   w2c_j2 = w2c_l9;
   w2c_j3 = w2c_l7;
   w2c_j4 = w2c_l8;
-  w2c_f32(m, w2c_j0, w2c_i1, w2c_j2, w2c_j3, w2c_j4);
+  w2c_f33(m, w2c_j0, w2c_i1, w2c_j2, w2c_j3, w2c_j4);
   w2c_j0 = w2c_l4;
   w2c_i0 = (u32)(w2c_j0);
   w2c_j0 = i64_load(m, (u64)(w2c_i0) + 176u);
@@ -27287,7 +27540,7 @@ static void w2c_f27(module *m, u64 w2c_p0, u64 w2c_p1, u64 w2c_p2, u32 w2c_p3) {
   w2c_j2 = w2c_l9;
   w2c_j3 = w2c_p1;
   w2c_j4 = w2c_p2;
-  w2c_f32(m, w2c_j0, w2c_i1, w2c_j2, w2c_j3, w2c_j4);
+  w2c_f33(m, w2c_j0, w2c_i1, w2c_j2, w2c_j3, w2c_j4);
   w2c_j0 = w2c_l4;
   w2c_i0 = (u32)(w2c_j0);
   w2c_j0 = i64_load(m, (u64)(w2c_i0) + 128u);
@@ -27506,7 +27759,7 @@ static void w2c_f27(module *m, u64 w2c_p0, u64 w2c_p1, u64 w2c_p2, u32 w2c_p3) {
   m->w2c_g0 = w2c_j0;
 }
 
-static void w2c_f28(module *m, u64 w2c_p0, u64 w2c_p1) {
+static void w2c_f29(module *m, u64 w2c_p0, u64 w2c_p1) {
   u32 w2c_l5 = 0, w2c_l6 = 0, w2c_l7 = 0, w2c_l8 = 0;
   u64 w2c_l2 = 0, w2c_l3 = 0, w2c_l4 = 0;
   u32 w2c_i0, w2c_i1, w2c_i2, w2c_i3;
@@ -27766,7 +28019,7 @@ static void w2c_f28(module *m, u64 w2c_p0, u64 w2c_p1) {
   w2c_Bfunc:;
 }
 
-static void w2c_f29(module *m, u64 w2c_p0, u64 w2c_p1, u64 w2c_p2) {
+static void w2c_f30(module *m, u64 w2c_p0, u64 w2c_p1, u64 w2c_p2) {
   u32 w2c_l8 = 0, w2c_l9 = 0, w2c_l10 = 0, w2c_l11 = 0, w2c_l12 = 0;
   u64 w2c_l3 = 0, w2c_l4 = 0, w2c_l5 = 0, w2c_l6 = 0, w2c_l7 = 0;
   u32 w2c_i0, w2c_i1, w2c_i2;
@@ -28280,7 +28533,7 @@ static void w2c_f29(module *m, u64 w2c_p0, u64 w2c_p1, u64 w2c_p2) {
   w2c_j1 = w2c_l3;
   w2c_j2 = 96ull;
   w2c_j1 += w2c_j2;
-  w2c_f28(m, w2c_j0, w2c_j1);
+  w2c_f29(m, w2c_j0, w2c_j1);
   w2c_j0 = w2c_l3;
   w2c_i0 = (u32)(w2c_j0);
   w2c_i0 = i32_load8_u(m, (u64)(w2c_i0) + 120u);
@@ -28398,7 +28651,7 @@ static void w2c_f29(module *m, u64 w2c_p0, u64 w2c_p1, u64 w2c_p2) {
   m->w2c_g0 = w2c_j0;
 }
 
-static void w2c_f30(module *m, u64 w2c_p0, u32 w2c_p1, u64 w2c_p2, u64 w2c_p3, u64 w2c_p4) {
+static void w2c_f31(module *m, u64 w2c_p0, u32 w2c_p1, u64 w2c_p2, u64 w2c_p3, u64 w2c_p4) {
   u32 w2c_l8 = 0, w2c_l9 = 0, w2c_l10 = 0;
   u64 w2c_l5 = 0, w2c_l6 = 0, w2c_l7 = 0;
   u32 w2c_i0, w2c_i1, w2c_i2;
@@ -28474,7 +28727,7 @@ static void w2c_f30(module *m, u64 w2c_p0, u32 w2c_p1, u64 w2c_p2, u64 w2c_p3, u
   w2c_j0 += w2c_j1;
   w2c_j1 = w2c_p3;
   w2c_j2 = w2c_p4;
-  w2c_f29(m, w2c_j0, w2c_j1, w2c_j2);
+  w2c_f30(m, w2c_j0, w2c_j1, w2c_j2);
   w2c_i0 = 1u;
   w2c_l8 = w2c_i0;
   w2c_j0 = w2c_l5;
@@ -28509,7 +28762,7 @@ static void w2c_f30(module *m, u64 w2c_p0, u32 w2c_p1, u64 w2c_p2, u64 w2c_p3, u
     w2c_j0 += w2c_j1;
     w2c_j1 = w2c_l6;
     w2c_j2 = w2c_l7;
-    w2c_f29(m, w2c_j0, w2c_j1, w2c_j2);
+    w2c_f30(m, w2c_j0, w2c_j1, w2c_j2);
     w2c_i0 = 1u;
     w2c_l9 = w2c_i0;
     w2c_j0 = w2c_l5;
@@ -28532,7 +28785,7 @@ static void w2c_f30(module *m, u64 w2c_p0, u32 w2c_p1, u64 w2c_p2, u64 w2c_p3, u
     w2c_j1 = w2c_l5;
     w2c_i1 = (u32)(w2c_j1);
     w2c_i1 = i32_load(m, (u64)(w2c_i1) + 136u);
-    w2c_f34(m, w2c_j0, w2c_i1);
+    w2c_f35(m, w2c_j0, w2c_i1);
     w2c_j0 = w2c_l5;
     w2c_i0 = (u32)(w2c_j0);
     w2c_i0 = i32_load8_u(m, (u64)(w2c_i0) + 8u);
@@ -28562,7 +28815,7 @@ static void w2c_f30(module *m, u64 w2c_p0, u32 w2c_p1, u64 w2c_p2, u64 w2c_p3, u
   w2c_j2 = w2c_p2;
   w2c_j3 = w2c_p3;
   w2c_j4 = w2c_p4;
-  w2c_f32(m, w2c_j0, w2c_i1, w2c_j2, w2c_j3, w2c_j4);
+  w2c_f33(m, w2c_j0, w2c_i1, w2c_j2, w2c_j3, w2c_j4);
   w2c_j0 = w2c_l5;
   w2c_i0 = (u32)(w2c_j0);
   w2c_i0 = i32_load8_u(m, (u64)(w2c_i0) + 88u);
@@ -28581,7 +28834,7 @@ static void w2c_f30(module *m, u64 w2c_p0, u32 w2c_p1, u64 w2c_p2, u64 w2c_p3, u
   w2c_j3 = 0ull;
   w2c_j4 = w2c_p3;
   w2c_j5 = w2c_p4;
-  w2c_f35(m, w2c_j0, w2c_i1, w2c_j2, w2c_j3, w2c_j4, w2c_j5);
+  w2c_f36(m, w2c_j0, w2c_i1, w2c_j2, w2c_j3, w2c_j4, w2c_j5);
   w2c_i0 = 2u;
   w2c_l8 = w2c_i0;
   w2c_j0 = 0ull;
@@ -28682,7 +28935,7 @@ static void w2c_f30(module *m, u64 w2c_p0, u32 w2c_p1, u64 w2c_p2, u64 w2c_p3, u
   w2c_Bfunc:;
 }
 
-static void w2c_f31(module *m, u64 w2c_p0, u64 w2c_p1, u64 w2c_p2) {
+static void w2c_f32(module *m, u64 w2c_p0, u64 w2c_p1, u64 w2c_p2) {
   u32 w2c_l5 = 0, w2c_l6 = 0, w2c_l7 = 0, w2c_l8 = 0;
   u64 w2c_l3 = 0, w2c_l4 = 0;
   u32 w2c_i0, w2c_i1, w2c_i2, w2c_i3;
@@ -28943,7 +29196,7 @@ static void w2c_f31(module *m, u64 w2c_p0, u64 w2c_p1, u64 w2c_p2) {
   w2c_Bfunc:;
 }
 
-static void w2c_f32(module *m, u64 w2c_p0, u32 w2c_p1, u64 w2c_p2, u64 w2c_p3, u64 w2c_p4) {
+static void w2c_f33(module *m, u64 w2c_p0, u32 w2c_p1, u64 w2c_p2, u64 w2c_p3, u64 w2c_p4) {
   u32 w2c_l14 = 0, w2c_l15 = 0, w2c_l16 = 0;
   u64 w2c_l5 = 0, w2c_l6 = 0, w2c_l7 = 0, w2c_l8 = 0, w2c_l9 = 0, w2c_l10 = 0, w2c_l11 = 0, w2c_l12 = 0, w2c_l13 = 0;
   u32 w2c_i0, w2c_i1, w2c_i2, w2c_i3, w2c_i4;
@@ -29043,7 +29296,7 @@ static void w2c_f32(module *m, u64 w2c_p0, u32 w2c_p1, u64 w2c_p2, u64 w2c_p3, u
   w2c_j0 += w2c_j1;
   w2c_j1 = w2c_p3;
   w2c_j2 = w2c_p4;
-  w2c_f29(m, w2c_j0, w2c_j1, w2c_j2);
+  w2c_f30(m, w2c_j0, w2c_j1, w2c_j2);
   w2c_j0 = w2c_l5;
   w2c_i0 = (u32)(w2c_j0);
   w2c_i0 = i32_load8_u(m, (u64)(w2c_i0) + 352u);
@@ -29065,7 +29318,7 @@ static void w2c_f32(module *m, u64 w2c_p0, u32 w2c_p1, u64 w2c_p2, u64 w2c_p3, u
   w2c_j2 = w2c_l5;
   w2c_i2 = (u32)(w2c_j2);
   w2c_i2 = i32_load(m, (u64)(w2c_i2) + 360u);
-  w2c_f36(m, w2c_j0, w2c_i1, w2c_i2);
+  w2c_f37(m, w2c_j0, w2c_i1, w2c_i2);
   w2c_j0 = w2c_l5;
   w2c_i0 = (u32)(w2c_j0);
   w2c_i0 = i32_load8_u(m, (u64)(w2c_i0) + 152u);
@@ -29084,7 +29337,7 @@ static void w2c_f32(module *m, u64 w2c_p0, u32 w2c_p1, u64 w2c_p2, u64 w2c_p3, u
     w2c_l10 = w2c_j1;
     w2c_j2 = w2c_l6;
     w2c_l11 = w2c_j2;
-    w2c_f29(m, w2c_j0, w2c_j1, w2c_j2);
+    w2c_f30(m, w2c_j0, w2c_j1, w2c_j2);
     w2c_j0 = w2c_l5;
     w2c_i0 = (u32)(w2c_j0);
     w2c_i0 = i32_load8_u(m, (u64)(w2c_i0) + 352u);
@@ -29106,7 +29359,7 @@ static void w2c_f32(module *m, u64 w2c_p0, u32 w2c_p1, u64 w2c_p2, u64 w2c_p3, u
     w2c_j2 = w2c_l5;
     w2c_i2 = (u32)(w2c_j2);
     w2c_i2 = i32_load(m, (u64)(w2c_i2) + 360u);
-    w2c_f36(m, w2c_j0, w2c_i1, w2c_i2);
+    w2c_f37(m, w2c_j0, w2c_i1, w2c_i2);
     w2c_j0 = w2c_l9;
     w2c_j1 = 1ull;
     w2c_j0 += w2c_j1;
@@ -29142,7 +29395,7 @@ static void w2c_f32(module *m, u64 w2c_p0, u32 w2c_p1, u64 w2c_p2, u64 w2c_p3, u
   w2c_j0 += w2c_j1;
   w2c_j1 = w2c_p3;
   w2c_j2 = w2c_p4;
-  w2c_f29(m, w2c_j0, w2c_j1, w2c_j2);
+  w2c_f30(m, w2c_j0, w2c_j1, w2c_j2);
   w2c_j0 = w2c_l5;
   w2c_i0 = (u32)(w2c_j0);
   w2c_i0 = i32_load8_u(m, (u64)(w2c_i0) + 352u);
@@ -29156,7 +29409,7 @@ static void w2c_f32(module *m, u64 w2c_p0, u32 w2c_p1, u64 w2c_p2, u64 w2c_p3, u
   w2c_j2 = w2c_l5;
   w2c_i2 = (u32)(w2c_j2);
   w2c_i2 = i32_load(m, (u64)(w2c_i2) + 360u);
-  w2c_f36(m, w2c_j0, w2c_i1, w2c_i2);
+  w2c_f37(m, w2c_j0, w2c_i1, w2c_i2);
   w2c_j0 = w2c_l5;
   w2c_i0 = (u32)(w2c_j0);
   w2c_i0 = i32_load8_u(m, (u64)(w2c_i0) + 136u);
@@ -29195,7 +29448,7 @@ static void w2c_f32(module *m, u64 w2c_p0, u32 w2c_p1, u64 w2c_p2, u64 w2c_p3, u
   w2c_j0 += w2c_j1;
   w2c_j1 = w2c_l10;
   w2c_j2 = w2c_l11;
-  w2c_f29(m, w2c_j0, w2c_j1, w2c_j2);
+  w2c_f30(m, w2c_j0, w2c_j1, w2c_j2);
   w2c_j0 = w2c_l5;
   w2c_i0 = (u32)(w2c_j0);
   w2c_i0 = i32_load8_u(m, (u64)(w2c_i0) + 320u);
@@ -29238,7 +29491,7 @@ static void w2c_f32(module *m, u64 w2c_p0, u32 w2c_p1, u64 w2c_p2, u64 w2c_p3, u
     w2c_j0 += w2c_j1;
     w2c_j1 = w2c_l6;
     w2c_j2 = w2c_l7;
-    w2c_f29(m, w2c_j0, w2c_j1, w2c_j2);
+    w2c_f30(m, w2c_j0, w2c_j1, w2c_j2);
     w2c_j0 = w2c_l5;
     w2c_i0 = (u32)(w2c_j0);
     w2c_i0 = i32_load8_u(m, (u64)(w2c_i0) + 352u);
@@ -29252,7 +29505,7 @@ static void w2c_f32(module *m, u64 w2c_p0, u32 w2c_p1, u64 w2c_p2, u64 w2c_p3, u
     w2c_j2 = w2c_l5;
     w2c_i2 = (u32)(w2c_j2);
     w2c_i2 = i32_load(m, (u64)(w2c_i2) + 360u);
-    w2c_f36(m, w2c_j0, w2c_i1, w2c_i2);
+    w2c_f37(m, w2c_j0, w2c_i1, w2c_i2);
     w2c_j0 = w2c_l5;
     w2c_i0 = (u32)(w2c_j0);
     w2c_i0 = i32_load8_u(m, (u64)(w2c_i0) + 112u);
@@ -29288,7 +29541,7 @@ static void w2c_f32(module *m, u64 w2c_p0, u32 w2c_p1, u64 w2c_p2, u64 w2c_p3, u
     w2c_j0 += w2c_j1;
     w2c_j1 = w2c_l7;
     w2c_j2 = w2c_l6;
-    w2c_f29(m, w2c_j0, w2c_j1, w2c_j2);
+    w2c_f30(m, w2c_j0, w2c_j1, w2c_j2);
     w2c_j0 = w2c_l5;
     w2c_i0 = (u32)(w2c_j0);
     w2c_i0 = i32_load8_u(m, (u64)(w2c_i0) + 352u);
@@ -29302,7 +29555,7 @@ static void w2c_f32(module *m, u64 w2c_p0, u32 w2c_p1, u64 w2c_p2, u64 w2c_p3, u
     w2c_j2 = w2c_l5;
     w2c_i2 = (u32)(w2c_j2);
     w2c_i2 = i32_load(m, (u64)(w2c_i2) + 360u);
-    w2c_f36(m, w2c_j0, w2c_i1, w2c_i2);
+    w2c_f37(m, w2c_j0, w2c_i1, w2c_i2);
     w2c_j0 = w2c_l5;
     w2c_i0 = (u32)(w2c_j0);
     w2c_i0 = i32_load8_u(m, (u64)(w2c_i0) + 104u);
@@ -29338,7 +29591,7 @@ static void w2c_f32(module *m, u64 w2c_p0, u32 w2c_p1, u64 w2c_p2, u64 w2c_p3, u
     w2c_j0 += w2c_j1;
     w2c_j1 = w2c_l7;
     w2c_j2 = w2c_l6;
-    w2c_f29(m, w2c_j0, w2c_j1, w2c_j2);
+    w2c_f30(m, w2c_j0, w2c_j1, w2c_j2);
     w2c_j0 = w2c_l5;
     w2c_i0 = (u32)(w2c_j0);
     w2c_i0 = i32_load8_u(m, (u64)(w2c_i0) + 352u);
@@ -29352,7 +29605,7 @@ static void w2c_f32(module *m, u64 w2c_p0, u32 w2c_p1, u64 w2c_p2, u64 w2c_p3, u
     w2c_j2 = w2c_l5;
     w2c_i2 = (u32)(w2c_j2);
     w2c_i2 = i32_load(m, (u64)(w2c_i2) + 360u);
-    w2c_f36(m, w2c_j0, w2c_i1, w2c_i2);
+    w2c_f37(m, w2c_j0, w2c_i1, w2c_i2);
     w2c_j0 = w2c_l5;
     w2c_i0 = (u32)(w2c_j0);
     w2c_i0 = i32_load8_u(m, (u64)(w2c_i0) + 96u);
@@ -29388,7 +29641,7 @@ static void w2c_f32(module *m, u64 w2c_p0, u32 w2c_p1, u64 w2c_p2, u64 w2c_p3, u
     w2c_j0 += w2c_j1;
     w2c_j1 = w2c_l10;
     w2c_j2 = w2c_l11;
-    w2c_f29(m, w2c_j0, w2c_j1, w2c_j2);
+    w2c_f30(m, w2c_j0, w2c_j1, w2c_j2);
     w2c_j0 = w2c_l5;
     w2c_i0 = (u32)(w2c_j0);
     w2c_i0 = i32_load8_u(m, (u64)(w2c_i0) + 320u);
@@ -29407,7 +29660,7 @@ static void w2c_f32(module *m, u64 w2c_p0, u32 w2c_p1, u64 w2c_p2, u64 w2c_p3, u
   w2c_j0 += w2c_j1;
   w2c_j1 = w2c_l10;
   w2c_j2 = w2c_l11;
-  w2c_f37(m, w2c_j0, w2c_j1, w2c_j2);
+  w2c_f38(m, w2c_j0, w2c_j1, w2c_j2);
   w2c_j0 = w2c_l5;
   w2c_i0 = (u32)(w2c_j0);
   w2c_j0 = i64_load(m, (u64)(w2c_i0) + 88u);
@@ -29423,7 +29676,7 @@ static void w2c_f32(module *m, u64 w2c_p0, u32 w2c_p1, u64 w2c_p2, u64 w2c_p3, u
   w2c_j0 += w2c_j1;
   w2c_j1 = w2c_l10;
   w2c_j2 = w2c_l11;
-  w2c_f37(m, w2c_j0, w2c_j1, w2c_j2);
+  w2c_f38(m, w2c_j0, w2c_j1, w2c_j2);
   w2c_j0 = w2c_l5;
   w2c_i0 = (u32)(w2c_j0);
   w2c_j0 = i64_load(m, (u64)(w2c_i0) + 128u);
@@ -29448,7 +29701,7 @@ static void w2c_f32(module *m, u64 w2c_p0, u32 w2c_p1, u64 w2c_p2, u64 w2c_p3, u
   w2c_j4 = 0ull;
   w2c_j5 = w2c_p3;
   w2c_j6 = w2c_p4;
-  w2c_f38(m, w2c_j0, w2c_i1, w2c_i2, w2c_j3, w2c_j4, w2c_j5, w2c_j6);
+  w2c_f39(m, w2c_j0, w2c_i1, w2c_i2, w2c_j3, w2c_j4, w2c_j5, w2c_j6);
   w2c_j0 = w2c_l5;
   w2c_i0 = (u32)(w2c_j0);
   w2c_i0 = i32_load8_u(m, (u64)(w2c_i0) + 256u);
@@ -29559,7 +29812,7 @@ static void w2c_f32(module *m, u64 w2c_p0, u32 w2c_p1, u64 w2c_p2, u64 w2c_p3, u
     w2c_j1 = w2c_l6;
     w2c_j2 = w2c_l7;
     w2c_l9 = w2c_j2;
-    w2c_f29(m, w2c_j0, w2c_j1, w2c_j2);
+    w2c_f30(m, w2c_j0, w2c_j1, w2c_j2);
     w2c_j0 = w2c_l5;
     w2c_i0 = (u32)(w2c_j0);
     w2c_i0 = i32_load8_u(m, (u64)(w2c_i0) + 352u);
@@ -29594,7 +29847,7 @@ static void w2c_f32(module *m, u64 w2c_p0, u32 w2c_p1, u64 w2c_p2, u64 w2c_p3, u
   w2c_j3 = w2c_l9;
   w2c_j2 -= w2c_j3;
   w2c_l10 = w2c_j2;
-  w2c_f29(m, w2c_j0, w2c_j1, w2c_j2);
+  w2c_f30(m, w2c_j0, w2c_j1, w2c_j2);
   w2c_j0 = w2c_l5;
   w2c_i0 = (u32)(w2c_j0);
   w2c_i0 = i32_load8_u(m, (u64)(w2c_i0) + 288u);
@@ -29607,7 +29860,7 @@ static void w2c_f32(module *m, u64 w2c_p0, u32 w2c_p1, u64 w2c_p2, u64 w2c_p3, u
   w2c_i1 = 1u;
   w2c_j2 = w2c_l6;
   w2c_j3 = w2c_l7;
-  w2c_f39(m, w2c_j0, w2c_i1, w2c_j2, w2c_j3);
+  w2c_f40(m, w2c_j0, w2c_i1, w2c_j2, w2c_j3);
   w2c_j0 = w2c_l5;
   w2c_i0 = (u32)(w2c_j0);
   w2c_i0 = i32_load8_u(m, (u64)(w2c_i0) + 64u);
@@ -29640,7 +29893,7 @@ static void w2c_f32(module *m, u64 w2c_p0, u32 w2c_p1, u64 w2c_p2, u64 w2c_p3, u
   w2c_j0 += w2c_j1;
   w2c_j1 = w2c_l6;
   w2c_j2 = w2c_l7;
-  w2c_f29(m, w2c_j0, w2c_j1, w2c_j2);
+  w2c_f30(m, w2c_j0, w2c_j1, w2c_j2);
   w2c_j0 = w2c_l6;
   w2c_l9 = w2c_j0;
   w2c_j0 = w2c_l7;
@@ -29676,7 +29929,7 @@ static void w2c_f32(module *m, u64 w2c_p0, u32 w2c_p1, u64 w2c_p2, u64 w2c_p3, u
   w2c_j1 = 56ull;
   w2c_j0 += w2c_j1;
   w2c_i1 = w2c_l14;
-  w2c_f16(m, w2c_j0, w2c_i1);
+  w2c_f17(m, w2c_j0, w2c_i1);
   w2c_j0 = w2c_l6;
   w2c_l9 = w2c_j0;
   w2c_j0 = w2c_l7;
@@ -29695,7 +29948,7 @@ static void w2c_f32(module *m, u64 w2c_p0, u32 w2c_p1, u64 w2c_p2, u64 w2c_p3, u
     w2c_l9 = w2c_j1;
     w2c_j2 = w2c_l13;
     w2c_l8 = w2c_j2;
-    w2c_f29(m, w2c_j0, w2c_j1, w2c_j2);
+    w2c_f30(m, w2c_j0, w2c_j1, w2c_j2);
     w2c_j0 = w2c_l5;
     w2c_i0 = (u32)(w2c_j0);
     w2c_i0 = i32_load8_u(m, (u64)(w2c_i0) + 352u);
@@ -29723,7 +29976,7 @@ static void w2c_f32(module *m, u64 w2c_p0, u32 w2c_p1, u64 w2c_p2, u64 w2c_p3, u
     w2c_j1 = 48ull;
     w2c_j0 += w2c_j1;
     w2c_i1 = w2c_l14;
-    w2c_f16(m, w2c_j0, w2c_i1);
+    w2c_f17(m, w2c_j0, w2c_i1);
     w2c_j0 = w2c_l5;
     w2c_i0 = (u32)(w2c_j0);
     w2c_i0 = i32_load8_u(m, (u64)(w2c_i0) + 48u);
@@ -29768,7 +30021,7 @@ static void w2c_f32(module *m, u64 w2c_p0, u32 w2c_p1, u64 w2c_p2, u64 w2c_p3, u
   w2c_j0 += w2c_j1;
   w2c_j1 = w2c_p3;
   w2c_j2 = w2c_l10;
-  w2c_f31(m, w2c_j0, w2c_j1, w2c_j2);
+  w2c_f32(m, w2c_j0, w2c_j1, w2c_j2);
   w2c_j0 = w2c_l5;
   w2c_i0 = (u32)(w2c_j0);
   w2c_i0 = i32_load8_u(m, (u64)(w2c_i0) + 352u);
@@ -29788,7 +30041,7 @@ static void w2c_f32(module *m, u64 w2c_p0, u32 w2c_p1, u64 w2c_p2, u64 w2c_p3, u
   w2c_j2 = w2c_l5;
   w2c_i2 = (u32)(w2c_j2);
   w2c_j2 = i64_load(m, (u64)(w2c_i2) + 376u);
-  w2c_f31(m, w2c_j0, w2c_j1, w2c_j2);
+  w2c_f32(m, w2c_j0, w2c_j1, w2c_j2);
   w2c_j0 = w2c_l5;
   w2c_i0 = (u32)(w2c_j0);
   w2c_i0 = i32_load8_u(m, (u64)(w2c_i0) + 320u);
@@ -29801,7 +30054,7 @@ static void w2c_f32(module *m, u64 w2c_p0, u32 w2c_p1, u64 w2c_p2, u64 w2c_p3, u
   w2c_j1 = w2c_l5;
   w2c_i1 = (u32)(w2c_j1);
   w2c_i1 = i32_load(m, (u64)(w2c_i1) + 328u);
-  w2c_f34(m, w2c_j0, w2c_i1);
+  w2c_f35(m, w2c_j0, w2c_i1);
   w2c_j0 = w2c_l5;
   w2c_i0 = (u32)(w2c_j0);
   w2c_i0 = i32_load8_u(m, (u64)(w2c_i0) + 40u);
@@ -29820,7 +30073,7 @@ static void w2c_f32(module *m, u64 w2c_p0, u32 w2c_p1, u64 w2c_p2, u64 w2c_p3, u
   w2c_j1 = 32ull;
   w2c_j0 += w2c_j1;
   w2c_i1 = w2c_l14;
-  w2c_f16(m, w2c_j0, w2c_i1);
+  w2c_f17(m, w2c_j0, w2c_i1);
   w2c_j0 = w2c_l5;
   w2c_i0 = (u32)(w2c_j0);
   w2c_i0 = i32_load8_u(m, (u64)(w2c_i0) + 32u);
@@ -29849,7 +30102,7 @@ static void w2c_f32(module *m, u64 w2c_p0, u32 w2c_p1, u64 w2c_p2, u64 w2c_p3, u
   w2c_j0 += w2c_j1;
   w2c_j1 = w2c_l9;
   w2c_j2 = w2c_l8;
-  w2c_f29(m, w2c_j0, w2c_j1, w2c_j2);
+  w2c_f30(m, w2c_j0, w2c_j1, w2c_j2);
   w2c_j0 = w2c_l5;
   w2c_i0 = (u32)(w2c_j0);
   w2c_i0 = i32_load8_u(m, (u64)(w2c_i0) + 352u);
@@ -29862,7 +30115,7 @@ static void w2c_f32(module *m, u64 w2c_p0, u32 w2c_p1, u64 w2c_p2, u64 w2c_p3, u
   w2c_j1 = w2c_l5;
   w2c_i1 = (u32)(w2c_j1);
   w2c_i1 = i32_load(m, (u64)(w2c_i1) + 360u);
-  w2c_f34(m, w2c_j0, w2c_i1);
+  w2c_f35(m, w2c_j0, w2c_i1);
   w2c_j0 = w2c_l5;
   w2c_i0 = (u32)(w2c_j0);
   w2c_i0 = i32_load8_u(m, (u64)(w2c_i0) + 25u);
@@ -29902,7 +30155,7 @@ static void w2c_f32(module *m, u64 w2c_p0, u32 w2c_p1, u64 w2c_p2, u64 w2c_p3, u
     w2c_j0 += w2c_j1;
     w2c_j1 = w2c_l9;
     w2c_j2 = w2c_l8;
-    w2c_f29(m, w2c_j0, w2c_j1, w2c_j2);
+    w2c_f30(m, w2c_j0, w2c_j1, w2c_j2);
     w2c_j0 = w2c_l5;
     w2c_i0 = (u32)(w2c_j0);
     w2c_i0 = i32_load8_u(m, (u64)(w2c_i0) + 352u);
@@ -29923,7 +30176,7 @@ static void w2c_f32(module *m, u64 w2c_p0, u32 w2c_p1, u64 w2c_p2, u64 w2c_p3, u
     w2c_j1 = w2c_l5;
     w2c_i1 = (u32)(w2c_j1);
     w2c_i1 = i32_load(m, (u64)(w2c_i1) + 360u);
-    w2c_f34(m, w2c_j0, w2c_i1);
+    w2c_f35(m, w2c_j0, w2c_i1);
     w2c_j0 = w2c_l5;
     w2c_i0 = (u32)(w2c_j0);
     w2c_i0 = i32_load8_u(m, (u64)(w2c_i0) + 16u);
@@ -29978,7 +30231,7 @@ static void w2c_f32(module *m, u64 w2c_p0, u32 w2c_p1, u64 w2c_p2, u64 w2c_p3, u
   w2c_j0 += w2c_j1;
   w2c_j1 = w2c_p3;
   w2c_j2 = w2c_p4;
-  w2c_f29(m, w2c_j0, w2c_j1, w2c_j2);
+  w2c_f30(m, w2c_j0, w2c_j1, w2c_j2);
   w2c_j0 = w2c_l5;
   w2c_i0 = (u32)(w2c_j0);
   w2c_i0 = i32_load8_u(m, (u64)(w2c_i0) + 352u);
@@ -30011,7 +30264,7 @@ static void w2c_f32(module *m, u64 w2c_p0, u32 w2c_p1, u64 w2c_p2, u64 w2c_p3, u
   w2c_j2 = w2c_p2;
   w2c_j3 = w2c_p3;
   w2c_j4 = w2c_l10;
-  w2c_f40(m, w2c_j0, w2c_i1, w2c_j2, w2c_j3, w2c_j4);
+  w2c_f41(m, w2c_j0, w2c_i1, w2c_j2, w2c_j3, w2c_j4);
   w2c_j0 = w2c_l5;
   w2c_i0 = (u32)(w2c_j0);
   w2c_j0 = i64_load(m, (u64)(w2c_i0) + 240u);
@@ -30031,7 +30284,7 @@ static void w2c_f32(module *m, u64 w2c_p0, u32 w2c_p1, u64 w2c_p2, u64 w2c_p3, u
   w2c_j4 = i64_load(m, (u64)(w2c_i4) + 248u);
   w2c_j5 = w2c_l6;
   w2c_j6 = w2c_l7;
-  w2c_f38(m, w2c_j0, w2c_i1, w2c_i2, w2c_j3, w2c_j4, w2c_j5, w2c_j6);
+  w2c_f39(m, w2c_j0, w2c_i1, w2c_i2, w2c_j3, w2c_j4, w2c_j5, w2c_j6);
   w2c_j0 = w2c_l5;
   w2c_i0 = (u32)(w2c_j0);
   w2c_i0 = i32_load8_u(m, (u64)(w2c_i0) + 192u);
@@ -30156,7 +30409,7 @@ static void w2c_f32(module *m, u64 w2c_p0, u32 w2c_p1, u64 w2c_p2, u64 w2c_p3, u
   w2c_j0 += w2c_j1;
   w2c_j1 = w2c_l7;
   w2c_j2 = w2c_l6;
-  w2c_f29(m, w2c_j0, w2c_j1, w2c_j2);
+  w2c_f30(m, w2c_j0, w2c_j1, w2c_j2);
   w2c_j0 = w2c_l5;
   w2c_i0 = (u32)(w2c_j0);
   w2c_i0 = i32_load8_u(m, (u64)(w2c_i0) + 320u);
@@ -30176,7 +30429,7 @@ static void w2c_f32(module *m, u64 w2c_p0, u32 w2c_p1, u64 w2c_p2, u64 w2c_p3, u
   w2c_j2 = w2c_l5;
   w2c_i2 = (u32)(w2c_j2);
   w2c_j2 = i64_load(m, (u64)(w2c_i2) + 344u);
-  w2c_f29(m, w2c_j0, w2c_j1, w2c_j2);
+  w2c_f30(m, w2c_j0, w2c_j1, w2c_j2);
   w2c_i0 = w2c_l14;
   w2c_i1 = 4294967248u;
   w2c_i0 += w2c_i1;
@@ -30195,7 +30448,7 @@ static void w2c_f32(module *m, u64 w2c_p0, u32 w2c_p1, u64 w2c_p2, u64 w2c_p3, u
   w2c_j1 = 8ull;
   w2c_j0 += w2c_j1;
   w2c_i1 = w2c_l14;
-  w2c_f16(m, w2c_j0, w2c_i1);
+  w2c_f17(m, w2c_j0, w2c_i1);
   w2c_j0 = w2c_l5;
   w2c_i0 = (u32)(w2c_j0);
   w2c_i0 = i32_load8_u(m, (u64)(w2c_i0) + 8u);
@@ -30254,7 +30507,7 @@ static void w2c_f32(module *m, u64 w2c_p0, u32 w2c_p1, u64 w2c_p2, u64 w2c_p3, u
   w2c_j2 = w2c_p2;
   w2c_j3 = w2c_p3;
   w2c_j4 = w2c_p4;
-  w2c_f40(m, w2c_j0, w2c_i1, w2c_j2, w2c_j3, w2c_j4);
+  w2c_f41(m, w2c_j0, w2c_i1, w2c_j2, w2c_j3, w2c_j4);
   w2c_j0 = w2c_l5;
   w2c_i0 = (u32)(w2c_j0);
   w2c_j0 = i64_load(m, (u64)(w2c_i0) + 176u);
@@ -30347,7 +30600,7 @@ static void w2c_f32(module *m, u64 w2c_p0, u32 w2c_p1, u64 w2c_p2, u64 w2c_p3, u
   m->w2c_g0 = w2c_j0;
 }
 
-static u64 w2c_f33(module *m, u64 w2c_p0, u64 w2c_p1) {
+static u64 w2c_f34(module *m, u64 w2c_p0, u64 w2c_p1) {
   u64 w2c_l2 = 0, w2c_l3 = 0, w2c_l4 = 0;
   u32 w2c_i0, w2c_i1;
   u64 w2c_j0, w2c_j1;
@@ -30434,7 +30687,7 @@ static u64 w2c_f33(module *m, u64 w2c_p0, u64 w2c_p1) {
   return w2c_j0;
 }
 
-static void w2c_f34(module *m, u64 w2c_p0, u32 w2c_p1) {
+static void w2c_f35(module *m, u64 w2c_p0, u32 w2c_p1) {
   u32 w2c_l2 = 0, w2c_l3 = 0;
   u32 w2c_i0, w2c_i1;
   u64 w2c_j0, w2c_j1;
@@ -30690,7 +30943,7 @@ static void w2c_f34(module *m, u64 w2c_p0, u32 w2c_p1) {
   i32_store8(m, (u64)(w2c_i0), w2c_i1);
 }
 
-static void w2c_f35(module *m, u64 w2c_p0, u32 w2c_p1, u64 w2c_p2, u64 w2c_p3, u64 w2c_p4, u64 w2c_p5) {
+static void w2c_f36(module *m, u64 w2c_p0, u32 w2c_p1, u64 w2c_p2, u64 w2c_p3, u64 w2c_p4, u64 w2c_p5) {
   u64 w2c_l6 = 0, w2c_l7 = 0, w2c_l8 = 0, w2c_l9 = 0;
   u32 w2c_i0, w2c_i1, w2c_i2;
   u64 w2c_j0, w2c_j1, w2c_j2, w2c_j3, w2c_j4;
@@ -30725,7 +30978,7 @@ static void w2c_f35(module *m, u64 w2c_p0, u32 w2c_p1, u64 w2c_p2, u64 w2c_p3, u
   w2c_j0 += w2c_j1;
   w2c_j1 = w2c_p4;
   w2c_j2 = w2c_p5;
-  w2c_f29(m, w2c_j0, w2c_j1, w2c_j2);
+  w2c_f30(m, w2c_j0, w2c_j1, w2c_j2);
   w2c_j0 = w2c_l6;
   w2c_i0 = (u32)(w2c_j0);
   w2c_i0 = i32_load8_u(m, (u64)(w2c_i0) + 80u);
@@ -30756,7 +31009,7 @@ static void w2c_f35(module *m, u64 w2c_p0, u32 w2c_p1, u64 w2c_p2, u64 w2c_p3, u
     w2c_j1 = w2c_l6;
     w2c_i1 = (u32)(w2c_j1);
     w2c_i1 = i32_load(m, (u64)(w2c_i1) + 88u);
-    w2c_f34(m, w2c_j0, w2c_i1);
+    w2c_f35(m, w2c_j0, w2c_i1);
     w2c_j0 = w2c_l6;
     w2c_i0 = (u32)(w2c_j0);
     w2c_i0 = i32_load8_u(m, (u64)(w2c_i0) + 72u);
@@ -30880,7 +31133,7 @@ static void w2c_f35(module *m, u64 w2c_p0, u32 w2c_p1, u64 w2c_p2, u64 w2c_p3, u
     w2c_j0 += w2c_j1;
     w2c_j1 = w2c_p4;
     w2c_j2 = w2c_p5;
-    w2c_f29(m, w2c_j0, w2c_j1, w2c_j2);
+    w2c_f30(m, w2c_j0, w2c_j1, w2c_j2);
     w2c_j0 = w2c_l6;
     w2c_i0 = (u32)(w2c_j0);
     w2c_i0 = i32_load8_u(m, (u64)(w2c_i0) + 80u);
@@ -30937,7 +31190,7 @@ static void w2c_f35(module *m, u64 w2c_p0, u32 w2c_p1, u64 w2c_p2, u64 w2c_p3, u
   w2c_Bfunc:;
 }
 
-static void w2c_f36(module *m, u64 w2c_p0, u32 w2c_p1, u32 w2c_p2) {
+static void w2c_f37(module *m, u64 w2c_p0, u32 w2c_p1, u32 w2c_p2) {
   u32 w2c_l4 = 0;
   u64 w2c_l3 = 0;
   u32 w2c_i0, w2c_i1;
@@ -31052,7 +31305,7 @@ static void w2c_f36(module *m, u64 w2c_p0, u32 w2c_p1, u32 w2c_p2) {
   w2c_j1 = 8ull;
   w2c_j0 += w2c_j1;
   w2c_i1 = w2c_p2;
-  w2c_f16(m, w2c_j0, w2c_i1);
+  w2c_f17(m, w2c_j0, w2c_i1);
   w2c_j0 = w2c_l3;
   w2c_i0 = (u32)(w2c_j0);
   w2c_i0 = i32_load8_u(m, (u64)(w2c_i0) + 9u);
@@ -31080,7 +31333,7 @@ static void w2c_f36(module *m, u64 w2c_p0, u32 w2c_p1, u32 w2c_p2) {
   w2c_Bfunc:;
 }
 
-static void w2c_f37(module *m, u64 w2c_p0, u64 w2c_p1, u64 w2c_p2) {
+static void w2c_f38(module *m, u64 w2c_p0, u64 w2c_p1, u64 w2c_p2) {
   u32 w2c_l5 = 0, w2c_l6 = 0, w2c_l7 = 0, w2c_l8 = 0;
   u64 w2c_l3 = 0, w2c_l4 = 0;
   u32 w2c_i0, w2c_i1, w2c_i2, w2c_i3;
@@ -31118,7 +31371,7 @@ static void w2c_f37(module *m, u64 w2c_p0, u64 w2c_p1, u64 w2c_p2) {
   w2c_j0 += w2c_j1;
   w2c_j1 = w2c_p1;
   w2c_j2 = w2c_p2;
-  w2c_f29(m, w2c_j0, w2c_j1, w2c_j2);
+  w2c_f30(m, w2c_j0, w2c_j1, w2c_j2);
   w2c_i0 = 1u;
   w2c_l5 = w2c_i0;
   w2c_j0 = w2c_l3;
@@ -31149,7 +31402,7 @@ static void w2c_f37(module *m, u64 w2c_p0, u64 w2c_p1, u64 w2c_p2) {
   w2c_j3 = w2c_l3;
   w2c_i3 = (u32)(w2c_j3);
   w2c_j3 = i64_load(m, (u64)(w2c_i3) + 56u);
-  w2c_f39(m, w2c_j0, w2c_i1, w2c_j2, w2c_j3);
+  w2c_f40(m, w2c_j0, w2c_i1, w2c_j2, w2c_j3);
   w2c_j0 = w2c_l3;
   w2c_i0 = (u32)(w2c_j0);
   w2c_j0 = i64_load(m, (u64)(w2c_i0) + 24u);
@@ -31184,7 +31437,7 @@ static void w2c_f37(module *m, u64 w2c_p0, u64 w2c_p1, u64 w2c_p2) {
     w2c_j0 += w2c_j1;
     w2c_j1 = w2c_p1;
     w2c_j2 = w2c_p2;
-    w2c_f29(m, w2c_j0, w2c_j1, w2c_j2);
+    w2c_f30(m, w2c_j0, w2c_j1, w2c_j2);
     w2c_j0 = w2c_l3;
     w2c_i0 = (u32)(w2c_j0);
     w2c_i0 = i32_load8_u(m, (u64)(w2c_i0) + 64u);
@@ -31206,7 +31459,7 @@ static void w2c_f37(module *m, u64 w2c_p0, u64 w2c_p1, u64 w2c_p2) {
     w2c_j1 = w2c_l3;
     w2c_i1 = (u32)(w2c_j1);
     w2c_i1 = i32_load(m, (u64)(w2c_i1) + 72u);
-    w2c_f34(m, w2c_j0, w2c_i1);
+    w2c_f35(m, w2c_j0, w2c_i1);
     w2c_j0 = w2c_l3;
     w2c_i0 = (u32)(w2c_j0);
     w2c_i0 = i32_load8_u(m, (u64)(w2c_i0) + 8u);
@@ -31254,7 +31507,7 @@ static void w2c_f37(module *m, u64 w2c_p0, u64 w2c_p1, u64 w2c_p2) {
   w2c_Bfunc:;
 }
 
-static void w2c_f38(module *m, u64 w2c_p0, u32 w2c_p1, u32 w2c_p2, u64 w2c_p3, u64 w2c_p4, u64 w2c_p5, u64 w2c_p6) {
+static void w2c_f39(module *m, u64 w2c_p0, u32 w2c_p1, u32 w2c_p2, u64 w2c_p3, u64 w2c_p4, u64 w2c_p5, u64 w2c_p6) {
   u32 w2c_l11 = 0;
   u64 w2c_l7 = 0, w2c_l8 = 0, w2c_l9 = 0, w2c_l10 = 0;
   u32 w2c_i0, w2c_i1, w2c_i2;
@@ -31306,7 +31559,7 @@ static void w2c_f38(module *m, u64 w2c_p0, u32 w2c_p1, u32 w2c_p2, u64 w2c_p3, u
   w2c_j0 += w2c_j1;
   w2c_j1 = w2c_p5;
   w2c_j2 = w2c_p6;
-  w2c_f29(m, w2c_j0, w2c_j1, w2c_j2);
+  w2c_f30(m, w2c_j0, w2c_j1, w2c_j2);
   w2c_j0 = w2c_l7;
   w2c_i0 = (u32)(w2c_j0);
   w2c_i0 = i32_load8_u(m, (u64)(w2c_i0) + 80u);
@@ -31329,7 +31582,7 @@ static void w2c_f38(module *m, u64 w2c_p0, u32 w2c_p1, u32 w2c_p2, u64 w2c_p3, u
     w2c_j2 = w2c_l7;
     w2c_i2 = (u32)(w2c_j2);
     w2c_i2 = i32_load(m, (u64)(w2c_i2) + 88u);
-    w2c_f36(m, w2c_j0, w2c_i1, w2c_i2);
+    w2c_f37(m, w2c_j0, w2c_i1, w2c_i2);
     w2c_j0 = w2c_l7;
     w2c_i0 = (u32)(w2c_j0);
     w2c_i0 = i32_load8_u(m, (u64)(w2c_i0) + 40u);
@@ -31409,7 +31662,7 @@ static void w2c_f38(module *m, u64 w2c_p0, u32 w2c_p1, u32 w2c_p2, u64 w2c_p3, u
     w2c_j0 += w2c_j1;
     w2c_j1 = w2c_l9;
     w2c_j2 = w2c_l8;
-    w2c_f29(m, w2c_j0, w2c_j1, w2c_j2);
+    w2c_f30(m, w2c_j0, w2c_j1, w2c_j2);
     w2c_j0 = w2c_l7;
     w2c_i0 = (u32)(w2c_j0);
     w2c_i0 = i32_load8_u(m, (u64)(w2c_i0) + 80u);
@@ -31425,7 +31678,7 @@ static void w2c_f38(module *m, u64 w2c_p0, u32 w2c_p1, u32 w2c_p2, u64 w2c_p3, u
   w2c_j3 = w2c_p4;
   w2c_j4 = w2c_p5;
   w2c_j5 = w2c_p6;
-  w2c_f35(m, w2c_j0, w2c_i1, w2c_j2, w2c_j3, w2c_j4, w2c_j5);
+  w2c_f36(m, w2c_j0, w2c_i1, w2c_j2, w2c_j3, w2c_j4, w2c_j5);
   w2c_j0 = w2c_p0;
   w2c_i0 = (u32)(w2c_j0);
   w2c_j1 = 0ull;
@@ -31480,7 +31733,7 @@ static void w2c_f38(module *m, u64 w2c_p0, u32 w2c_p1, u32 w2c_p2, u64 w2c_p3, u
   m->w2c_g0 = w2c_j0;
 }
 
-static void w2c_f39(module *m, u64 w2c_p0, u32 w2c_p1, u64 w2c_p2, u64 w2c_p3) {
+static void w2c_f40(module *m, u64 w2c_p0, u32 w2c_p1, u64 w2c_p2, u64 w2c_p3) {
   u32 w2c_l9 = 0, w2c_l10 = 0, w2c_l11 = 0;
   u64 w2c_l4 = 0, w2c_l5 = 0, w2c_l6 = 0, w2c_l7 = 0, w2c_l8 = 0;
   u32 w2c_i0, w2c_i1, w2c_i2;
@@ -31518,7 +31771,7 @@ static void w2c_f39(module *m, u64 w2c_p0, u32 w2c_p1, u64 w2c_p2, u64 w2c_p3) {
   w2c_j0 += w2c_j1;
   w2c_j1 = w2c_p2;
   w2c_j2 = w2c_p3;
-  w2c_f29(m, w2c_j0, w2c_j1, w2c_j2);
+  w2c_f30(m, w2c_j0, w2c_j1, w2c_j2);
   w2c_j0 = w2c_l4;
   w2c_i0 = (u32)(w2c_j0);
   w2c_i0 = i32_load8_u(m, (u64)(w2c_i0) + 32u);
@@ -31544,7 +31797,7 @@ static void w2c_f39(module *m, u64 w2c_p0, u32 w2c_p1, u64 w2c_p2, u64 w2c_p3) {
   w2c_j2 = w2c_l4;
   w2c_i2 = (u32)(w2c_j2);
   w2c_i2 = i32_load(m, (u64)(w2c_i2) + 40u);
-  w2c_f36(m, w2c_j0, w2c_i1, w2c_i2);
+  w2c_f37(m, w2c_j0, w2c_i1, w2c_i2);
   w2c_j0 = w2c_l4;
   w2c_i0 = (u32)(w2c_j0);
   w2c_i0 = i32_load8_u(m, (u64)(w2c_i0) + 24u);
@@ -31569,7 +31822,7 @@ static void w2c_f39(module *m, u64 w2c_p0, u32 w2c_p1, u64 w2c_p2, u64 w2c_p3) {
     w2c_p3 = w2c_j1;
     w2c_j2 = w2c_l6;
     w2c_p2 = w2c_j2;
-    w2c_f29(m, w2c_j0, w2c_j1, w2c_j2);
+    w2c_f30(m, w2c_j0, w2c_j1, w2c_j2);
     w2c_j0 = w2c_l4;
     w2c_i0 = (u32)(w2c_j0);
     w2c_i0 = i32_load8_u(m, (u64)(w2c_i0) + 32u);
@@ -31591,7 +31844,7 @@ static void w2c_f39(module *m, u64 w2c_p0, u32 w2c_p1, u64 w2c_p2, u64 w2c_p3) {
     w2c_j2 = w2c_l4;
     w2c_i2 = (u32)(w2c_j2);
     w2c_i2 = i32_load(m, (u64)(w2c_i2) + 40u);
-    w2c_f36(m, w2c_j0, w2c_i1, w2c_i2);
+    w2c_f37(m, w2c_j0, w2c_i1, w2c_i2);
     w2c_j0 = w2c_l8;
     w2c_j1 = 18446744073709551615ull;
     w2c_j0 += w2c_j1;
@@ -31638,7 +31891,7 @@ static void w2c_f39(module *m, u64 w2c_p0, u32 w2c_p1, u64 w2c_p2, u64 w2c_p3) {
     w2c_j0 += w2c_j1;
     w2c_j1 = w2c_p3;
     w2c_j2 = w2c_p2;
-    w2c_f29(m, w2c_j0, w2c_j1, w2c_j2);
+    w2c_f30(m, w2c_j0, w2c_j1, w2c_j2);
     w2c_j0 = w2c_l4;
     w2c_i0 = (u32)(w2c_j0);
     w2c_i0 = i32_load8_u(m, (u64)(w2c_i0) + 32u);
@@ -31663,7 +31916,7 @@ static void w2c_f39(module *m, u64 w2c_p0, u32 w2c_p1, u64 w2c_p2, u64 w2c_p3) {
     w2c_j1 = w2c_l4;
     w2c_i1 = (u32)(w2c_j1);
     w2c_i1 = i32_load(m, (u64)(w2c_i1) + 40u);
-    w2c_f34(m, w2c_j0, w2c_i1);
+    w2c_f35(m, w2c_j0, w2c_i1);
     w2c_j0 = w2c_l4;
     w2c_i0 = (u32)(w2c_j0);
     w2c_i0 = i32_load8_u(m, (u64)(w2c_i0) + 8u);
@@ -31707,7 +31960,7 @@ static void w2c_f39(module *m, u64 w2c_p0, u32 w2c_p1, u64 w2c_p2, u64 w2c_p3) {
   w2c_Bfunc:;
 }
 
-static void w2c_f40(module *m, u64 w2c_p0, u32 w2c_p1, u64 w2c_p2, u64 w2c_p3, u64 w2c_p4) {
+static void w2c_f41(module *m, u64 w2c_p0, u32 w2c_p1, u64 w2c_p2, u64 w2c_p3, u64 w2c_p4) {
   u32 w2c_l10 = 0, w2c_l11 = 0, w2c_l12 = 0, w2c_l13 = 0, w2c_l14 = 0, w2c_l15 = 0;
   u64 w2c_l5 = 0, w2c_l6 = 0, w2c_l7 = 0, w2c_l8 = 0, w2c_l9 = 0;
   u32 w2c_i0, w2c_i1, w2c_i2, w2c_i3, w2c_i4, w2c_i5;
@@ -31764,7 +32017,7 @@ static void w2c_f40(module *m, u64 w2c_p0, u32 w2c_p1, u64 w2c_p2, u64 w2c_p3, u
     w2c_j0 += w2c_j1;
     w2c_j1 = w2c_l6;
     w2c_j2 = w2c_l7;
-    w2c_f29(m, w2c_j0, w2c_j1, w2c_j2);
+    w2c_f30(m, w2c_j0, w2c_j1, w2c_j2);
     w2c_j0 = w2c_l5;
     w2c_i0 = (u32)(w2c_j0);
     w2c_i0 = i32_load8_u(m, (u64)(w2c_i0) + 168u);
@@ -31785,7 +32038,7 @@ static void w2c_f40(module *m, u64 w2c_p0, u32 w2c_p1, u64 w2c_p2, u64 w2c_p3, u
     w2c_j1 = w2c_l5;
     w2c_i1 = (u32)(w2c_j1);
     w2c_i1 = i32_load(m, (u64)(w2c_i1) + 176u);
-    w2c_f16(m, w2c_j0, w2c_i1);
+    w2c_f17(m, w2c_j0, w2c_i1);
     w2c_j0 = w2c_l5;
     w2c_i0 = (u32)(w2c_j0);
     w2c_i0 = i32_load8_u(m, (u64)(w2c_i0) + 8u);
@@ -31990,7 +32243,7 @@ static void w2c_f40(module *m, u64 w2c_p0, u32 w2c_p1, u64 w2c_p2, u64 w2c_p3, u
   w2c_j1 = w2c_p2;
   w2c_j2 = w2c_p3;
   w2c_j3 = w2c_p4;
-  w2c_f41(m, w2c_j0, w2c_j1, w2c_j2, w2c_j3);
+  w2c_f42(m, w2c_j0, w2c_j1, w2c_j2, w2c_j3);
   w2c_j0 = w2c_l5;
   w2c_i0 = (u32)(w2c_j0);
   w2c_i0 = i32_load8_u(m, (u64)(w2c_i0) + 24u);
@@ -32435,7 +32688,7 @@ static void w2c_f40(module *m, u64 w2c_p0, u32 w2c_p1, u64 w2c_p2, u64 w2c_p3, u
   w2c_j1 = w2c_l5;
   w2c_j2 = 144ull;
   w2c_j1 += w2c_j2;
-  w2c_f28(m, w2c_j0, w2c_j1);
+  w2c_f29(m, w2c_j0, w2c_j1);
   w2c_i0 = 1u;
   w2c_l10 = w2c_i0;
   w2c_j0 = w2c_l5;
@@ -32573,7 +32826,7 @@ static void w2c_f40(module *m, u64 w2c_p0, u32 w2c_p1, u64 w2c_p2, u64 w2c_p3, u
   w2c_j0 += w2c_j1;
   w2c_j1 = w2c_l8;
   w2c_j2 = w2c_l6;
-  w2c_f42(m, w2c_j0, w2c_j1, w2c_j2);
+  w2c_f43(m, w2c_j0, w2c_j1, w2c_j2);
   w2c_j0 = w2c_l5;
   w2c_i0 = (u32)(w2c_j0);
   w2c_i0 = i32_load8_u(m, (u64)(w2c_i0) + 168u);
@@ -32708,7 +32961,7 @@ static void w2c_f40(module *m, u64 w2c_p0, u32 w2c_p1, u64 w2c_p2, u64 w2c_p3, u
   w2c_j0 += w2c_j1;
   w2c_j1 = w2c_p4;
   w2c_j2 = w2c_l7;
-  w2c_f42(m, w2c_j0, w2c_j1, w2c_j2);
+  w2c_f43(m, w2c_j0, w2c_j1, w2c_j2);
   w2c_j0 = w2c_l5;
   w2c_i0 = (u32)(w2c_j0);
   w2c_i0 = i32_load8_u(m, (u64)(w2c_i0) + 168u);
@@ -32760,7 +33013,7 @@ static void w2c_f40(module *m, u64 w2c_p0, u32 w2c_p1, u64 w2c_p2, u64 w2c_p3, u
   w2c_i3 = w2c_l14;
   w2c_j4 = w2c_p4;
   w2c_j5 = w2c_l7;
-  w2c_f43(m, w2c_j0, w2c_i1, w2c_j2, w2c_i3, w2c_j4, w2c_j5);
+  w2c_f44(m, w2c_j0, w2c_i1, w2c_j2, w2c_i3, w2c_j4, w2c_j5);
   w2c_j0 = w2c_l5;
   w2c_i0 = (u32)(w2c_j0);
   w2c_j0 = i64_load(m, (u64)(w2c_i0) + 96u);
@@ -32783,7 +33036,7 @@ static void w2c_f40(module *m, u64 w2c_p0, u32 w2c_p1, u64 w2c_p2, u64 w2c_p3, u
   w2c_j3 = i64_load(m, (u64)(w2c_i3) + 104u);
   w2c_i4 = w2c_l15;
   w2c_i5 = w2c_l13;
-  w2c_f44(m, w2c_j0, w2c_i1, w2c_j2, w2c_j3, w2c_i4, w2c_i5);
+  w2c_f45(m, w2c_j0, w2c_i1, w2c_j2, w2c_j3, w2c_i4, w2c_i5);
   w2c_j0 = w2c_l5;
   w2c_i0 = (u32)(w2c_j0);
   w2c_j1 = 0ull;
@@ -32826,7 +33079,7 @@ static void w2c_f40(module *m, u64 w2c_p0, u32 w2c_p1, u64 w2c_p2, u64 w2c_p3, u
   w2c_B42:;
   w2c_j0 = w2c_p4;
   w2c_j1 = w2c_l7;
-  w2c_j0 = w2c_f33(m, w2c_j0, w2c_j1);
+  w2c_j0 = w2c_f34(m, w2c_j0, w2c_j1);
   w2c_l6 = w2c_j0;
   w2c_j0 = w2c_l5;
   w2c_i0 = (u32)(w2c_j0);
@@ -32883,7 +33136,7 @@ static void w2c_f40(module *m, u64 w2c_p0, u32 w2c_p1, u64 w2c_p2, u64 w2c_p3, u
   w2c_i3 = w2c_l14;
   w2c_j4 = w2c_l8;
   w2c_j5 = w2c_l6;
-  w2c_f43(m, w2c_j0, w2c_i1, w2c_j2, w2c_i3, w2c_j4, w2c_j5);
+  w2c_f44(m, w2c_j0, w2c_i1, w2c_j2, w2c_i3, w2c_j4, w2c_j5);
   w2c_j0 = w2c_l5;
   w2c_i0 = (u32)(w2c_j0);
   w2c_j1 = w2c_l5;
@@ -32967,7 +33220,7 @@ static void w2c_f40(module *m, u64 w2c_p0, u32 w2c_p1, u64 w2c_p2, u64 w2c_p3, u
   m->w2c_g0 = w2c_j0;
 }
 
-static void w2c_f41(module *m, u64 w2c_p0, u64 w2c_p1, u64 w2c_p2, u64 w2c_p3) {
+static void w2c_f42(module *m, u64 w2c_p0, u64 w2c_p1, u64 w2c_p2, u64 w2c_p3) {
   u32 w2c_l15 = 0, w2c_l16 = 0, w2c_l17 = 0, w2c_l18 = 0, w2c_l19 = 0;
   u64 w2c_l4 = 0, w2c_l5 = 0, w2c_l6 = 0, w2c_l7 = 0, w2c_l8 = 0, w2c_l9 = 0, w2c_l10 = 0, w2c_l11 = 0, w2c_l12 = 0, w2c_l13 = 0, w2c_l14 = 0;
   u32 w2c_i0, w2c_i1, w2c_i2, w2c_i3, w2c_i4;
@@ -33607,7 +33860,7 @@ static void w2c_f41(module *m, u64 w2c_p0, u64 w2c_p1, u64 w2c_p2, u64 w2c_p3) {
   w2c_Bfunc:;
 }
 
-static void w2c_f42(module *m, u64 w2c_p0, u64 w2c_p1, u64 w2c_p2) {
+static void w2c_f43(module *m, u64 w2c_p0, u64 w2c_p1, u64 w2c_p2) {
   u32 w2c_l5 = 0, w2c_l6 = 0, w2c_l7 = 0, w2c_l8 = 0, w2c_l9 = 0;
   u64 w2c_l3 = 0, w2c_l4 = 0;
   u32 w2c_i0, w2c_i1, w2c_i2, w2c_i3;
@@ -34035,7 +34288,7 @@ static void w2c_f42(module *m, u64 w2c_p0, u64 w2c_p1, u64 w2c_p2) {
   w2c_Bfunc:;
 }
 
-static void w2c_f43(module *m, u64 w2c_p0, u32 w2c_p1, u64 w2c_p2, u32 w2c_p3, u64 w2c_p4, u64 w2c_p5) {
+static void w2c_f44(module *m, u64 w2c_p0, u32 w2c_p1, u64 w2c_p2, u32 w2c_p3, u64 w2c_p4, u64 w2c_p5) {
   u32 w2c_l19 = 0, w2c_l20 = 0, w2c_l21 = 0, w2c_l22 = 0, w2c_l23 = 0;
   u64 w2c_l6 = 0, w2c_l7 = 0, w2c_l8 = 0, w2c_l9 = 0, w2c_l10 = 0, w2c_l11 = 0, w2c_l12 = 0, w2c_l13 = 0, w2c_l14 = 0, w2c_l15 = 0, w2c_l16 = 0, w2c_l17 = 0, w2c_l18 = 0;
   u32 w2c_i0, w2c_i1, w2c_i2, w2c_i3, w2c_i4;
@@ -34192,7 +34445,7 @@ static void w2c_f43(module *m, u64 w2c_p0, u32 w2c_p1, u64 w2c_p2, u32 w2c_p3, u
     w2c_j0 += w2c_j1;
     w2c_j1 = w2c_p4;
     w2c_j2 = w2c_p5;
-    w2c_f42(m, w2c_j0, w2c_j1, w2c_j2);
+    w2c_f43(m, w2c_j0, w2c_j1, w2c_j2);
     w2c_j0 = w2c_l6;
     w2c_i0 = (u32)(w2c_j0);
     w2c_i0 = i32_load8_u(m, (u64)(w2c_i0) + 688u);
@@ -35151,7 +35404,7 @@ static void w2c_f43(module *m, u64 w2c_p0, u32 w2c_p1, u64 w2c_p2, u32 w2c_p3, u
   w2c_Bfunc:;
 }
 
-static void w2c_f44(module *m, u64 w2c_p0, u32 w2c_p1, u64 w2c_p2, u64 w2c_p3, u32 w2c_p4, u32 w2c_p5) {
+static void w2c_f45(module *m, u64 w2c_p0, u32 w2c_p1, u64 w2c_p2, u64 w2c_p3, u32 w2c_p4, u32 w2c_p5) {
   u64 w2c_l6 = 0, w2c_l7 = 0, w2c_l8 = 0, w2c_l9 = 0, w2c_l10 = 0, w2c_l11 = 0, w2c_l12 = 0, w2c_l13 = 0, w2c_l14 = 0, w2c_l15 = 0, w2c_l16 = 0, w2c_l17 = 0, w2c_l18 = 0;
   u32 w2c_i0, w2c_i1, w2c_i2, w2c_i3, w2c_i4, w2c_i5, w2c_i6;
   u64 w2c_j0, w2c_j1, w2c_j2, w2c_j3, w2c_j4, w2c_j5, w2c_j6, w2c_j7;
@@ -35485,7 +35738,7 @@ static void w2c_f44(module *m, u64 w2c_p0, u32 w2c_p1, u64 w2c_p2, u64 w2c_p3, u
   m->w2c_g0 = w2c_j0;
 }
 
-static u32 w2c_f45(module *m, u64 w2c_p0, u64 w2c_p1, u32 w2c_p2, u32 w2c_p3, u32 w2c_p4, u64 w2c_p5) {
+static u32 w2c_f46(module *m, u64 w2c_p0, u64 w2c_p1, u32 w2c_p2, u32 w2c_p3, u32 w2c_p4, u64 w2c_p5) {
   u32 w2c_l14 = 0, w2c_l15 = 0, w2c_l16 = 0, w2c_l17 = 0;
   u64 w2c_l6 = 0, w2c_l7 = 0, w2c_l8 = 0, w2c_l9 = 0, w2c_l10 = 0, w2c_l11 = 0, w2c_l12 = 0, w2c_l13 = 0;
   u32 w2c_i0, w2c_i1, w2c_i2, w2c_i3, w2c_i4;
@@ -36328,7 +36581,7 @@ static u32 w2c_f45(module *m, u64 w2c_p0, u64 w2c_p1, u32 w2c_p2, u32 w2c_p3, u3
   w2c_j1 = w2c_l7;
   w2c_j2 = 32ull;
   w2c_j1 += w2c_j2;
-  w2c_f28(m, w2c_j0, w2c_j1);
+  w2c_f29(m, w2c_j0, w2c_j1);
   w2c_j0 = w2c_l7;
   w2c_i0 = (u32)(w2c_j0);
   w2c_i0 = i32_load8_u(m, (u64)(w2c_i0) + 56u);
@@ -36385,7 +36638,7 @@ static u32 w2c_f45(module *m, u64 w2c_p0, u64 w2c_p1, u32 w2c_p2, u32 w2c_p3, u3
   w2c_j2 += w2c_j3;
   w2c_j3 = w2c_l13;
   w2c_j4 = w2c_l12;
-  w2c_f46(m, w2c_j0, w2c_i1, w2c_j2, w2c_j3, w2c_j4);
+  w2c_f47(m, w2c_j0, w2c_i1, w2c_j2, w2c_j3, w2c_j4);
   w2c_i0 = 3u;
   w2c_i1 = 2u;
   w2c_i2 = w2c_l14;
@@ -36398,7 +36651,7 @@ static u32 w2c_f45(module *m, u64 w2c_p0, u64 w2c_p1, u32 w2c_p2, u32 w2c_p3, u3
   w2c_j2 = w2c_l8;
   w2c_j3 = w2c_l6;
   w2c_j4 = w2c_l9;
-  w2c_f46(m, w2c_j0, w2c_i1, w2c_j2, w2c_j3, w2c_j4);
+  w2c_f47(m, w2c_j0, w2c_i1, w2c_j2, w2c_j3, w2c_j4);
   w2c_i0 = 2u;
   w2c_p3 = w2c_i0;
   w2c_i0 = 0u;
@@ -36778,7 +37031,7 @@ static u32 w2c_f45(module *m, u64 w2c_p0, u64 w2c_p1, u32 w2c_p2, u32 w2c_p3, u3
   w2c_j1 = w2c_l7;
   w2c_j2 = 32ull;
   w2c_j1 += w2c_j2;
-  w2c_f28(m, w2c_j0, w2c_j1);
+  w2c_f29(m, w2c_j0, w2c_j1);
   w2c_j0 = w2c_l7;
   w2c_i0 = (u32)(w2c_j0);
   w2c_i0 = i32_load8_u(m, (u64)(w2c_i0) + 56u);
@@ -36834,7 +37087,7 @@ static u32 w2c_f45(module *m, u64 w2c_p0, u64 w2c_p1, u32 w2c_p2, u32 w2c_p3, u3
   w2c_j1 += w2c_j2;
   w2c_j2 = w2c_l13;
   w2c_j3 = w2c_l12;
-  w2c_f41(m, w2c_j0, w2c_j1, w2c_j2, w2c_j3);
+  w2c_f42(m, w2c_j0, w2c_j1, w2c_j2, w2c_j3);
   w2c_i0 = 3u;
   w2c_i1 = 2u;
   w2c_i2 = w2c_p4;
@@ -36846,7 +37099,7 @@ static u32 w2c_f45(module *m, u64 w2c_p0, u64 w2c_p1, u32 w2c_p2, u32 w2c_p3, u3
   w2c_j1 = w2c_l8;
   w2c_j2 = w2c_l6;
   w2c_j3 = w2c_l9;
-  w2c_f41(m, w2c_j0, w2c_j1, w2c_j2, w2c_j3);
+  w2c_f42(m, w2c_j0, w2c_j1, w2c_j2, w2c_j3);
   w2c_i0 = 2u;
   w2c_p3 = w2c_i0;
   w2c_i0 = 0u;
@@ -37143,7 +37396,7 @@ static u32 w2c_f45(module *m, u64 w2c_p0, u64 w2c_p1, u32 w2c_p2, u32 w2c_p3, u3
   return w2c_i0;
 }
 
-static void w2c_f46(module *m, u64 w2c_p0, u32 w2c_p1, u64 w2c_p2, u64 w2c_p3, u64 w2c_p4) {
+static void w2c_f47(module *m, u64 w2c_p0, u32 w2c_p1, u64 w2c_p2, u64 w2c_p3, u64 w2c_p4) {
   u32 w2c_l18 = 0, w2c_l19 = 0, w2c_l20 = 0, w2c_l21 = 0, w2c_l22 = 0, w2c_l23 = 0;
   u64 w2c_l5 = 0, w2c_l6 = 0, w2c_l7 = 0, w2c_l8 = 0, w2c_l9 = 0, w2c_l10 = 0, w2c_l11 = 0, w2c_l12 = 0, w2c_l13 = 0, w2c_l14 = 0, w2c_l15 = 0, w2c_l16 = 0, w2c_l17 = 0;
   u32 w2c_i0, w2c_i1, w2c_i2, w2c_i3, w2c_i4, w2c_i5;
@@ -39088,7 +39341,7 @@ static void w2c_f46(module *m, u64 w2c_p0, u32 w2c_p1, u64 w2c_p2, u64 w2c_p3, u
   w2c_j1 = w2c_l5;
   w2c_j2 = 192ull;
   w2c_j1 += w2c_j2;
-  w2c_f28(m, w2c_j0, w2c_j1);
+  w2c_f29(m, w2c_j0, w2c_j1);
   w2c_i0 = 1u;
   w2c_l18 = w2c_i0;
   w2c_j0 = w2c_l5;
@@ -39226,7 +39479,7 @@ static void w2c_f46(module *m, u64 w2c_p0, u32 w2c_p1, u64 w2c_p2, u64 w2c_p3, u
   w2c_j0 += w2c_j1;
   w2c_j1 = w2c_l15;
   w2c_j2 = w2c_l6;
-  w2c_f42(m, w2c_j0, w2c_j1, w2c_j2);
+  w2c_f43(m, w2c_j0, w2c_j1, w2c_j2);
   w2c_j0 = w2c_l5;
   w2c_i0 = (u32)(w2c_j0);
   w2c_i0 = i32_load8_u(m, (u64)(w2c_i0) + 216u);
@@ -39361,7 +39614,7 @@ static void w2c_f46(module *m, u64 w2c_p0, u32 w2c_p1, u64 w2c_p2, u64 w2c_p3, u
   w2c_j0 += w2c_j1;
   w2c_j1 = w2c_l12;
   w2c_j2 = w2c_p3;
-  w2c_f42(m, w2c_j0, w2c_j1, w2c_j2);
+  w2c_f43(m, w2c_j0, w2c_j1, w2c_j2);
   w2c_j0 = w2c_l5;
   w2c_i0 = (u32)(w2c_j0);
   w2c_i0 = i32_load8_u(m, (u64)(w2c_i0) + 216u);
@@ -39413,7 +39666,7 @@ static void w2c_f46(module *m, u64 w2c_p0, u32 w2c_p1, u64 w2c_p2, u64 w2c_p3, u
   w2c_i3 = w2c_l20;
   w2c_j4 = w2c_l12;
   w2c_j5 = w2c_p3;
-  w2c_f43(m, w2c_j0, w2c_i1, w2c_j2, w2c_i3, w2c_j4, w2c_j5);
+  w2c_f44(m, w2c_j0, w2c_i1, w2c_j2, w2c_i3, w2c_j4, w2c_j5);
   w2c_j0 = w2c_l5;
   w2c_i0 = (u32)(w2c_j0);
   w2c_j0 = i64_load(m, (u64)(w2c_i0) + 144u);
@@ -39436,7 +39689,7 @@ static void w2c_f46(module *m, u64 w2c_p0, u32 w2c_p1, u64 w2c_p2, u64 w2c_p3, u
   w2c_j3 = i64_load(m, (u64)(w2c_i3) + 152u);
   w2c_i4 = w2c_l23;
   w2c_i5 = w2c_l21;
-  w2c_f44(m, w2c_j0, w2c_i1, w2c_j2, w2c_j3, w2c_i4, w2c_i5);
+  w2c_f45(m, w2c_j0, w2c_i1, w2c_j2, w2c_j3, w2c_i4, w2c_i5);
   w2c_j0 = 0ull;
   w2c_j1 = w2c_l5;
   w2c_i1 = (u32)(w2c_j1);
@@ -39468,7 +39721,7 @@ static void w2c_f46(module *m, u64 w2c_p0, u32 w2c_p1, u64 w2c_p2, u64 w2c_p3, u
   w2c_j1 = w2c_p4;
   w2c_j2 = w2c_l12;
   w2c_j3 = w2c_p3;
-  w2c_j2 = w2c_f33(m, w2c_j2, w2c_j3);
+  w2c_j2 = w2c_f34(m, w2c_j2, w2c_j3);
   w2c_j1 += w2c_j2;
   w2c_j2 = 1ull;
   w2c_j1 += w2c_j2;
@@ -39510,7 +39763,7 @@ static void w2c_f46(module *m, u64 w2c_p0, u32 w2c_p1, u64 w2c_p2, u64 w2c_p3, u
   w2c_i3 = w2c_l20;
   w2c_j4 = w2c_l15;
   w2c_j5 = w2c_l6;
-  w2c_f43(m, w2c_j0, w2c_i1, w2c_j2, w2c_i3, w2c_j4, w2c_j5);
+  w2c_f44(m, w2c_j0, w2c_i1, w2c_j2, w2c_i3, w2c_j4, w2c_j5);
   w2c_j0 = w2c_l5;
   w2c_i0 = (u32)(w2c_j0);
   w2c_j0 = i64_load(m, (u64)(w2c_i0) + 184u);
@@ -39585,7 +39838,7 @@ static void w2c_f46(module *m, u64 w2c_p0, u32 w2c_p1, u64 w2c_p2, u64 w2c_p3, u
   m->w2c_g0 = w2c_j0;
 }
 
-static u32 w2c_f47(module *m, u64 w2c_p0, u64 w2c_p1, u32 w2c_p2, u32 w2c_p3, u32 w2c_p4, u64 w2c_p5) {
+static u32 w2c_f48(module *m, u64 w2c_p0, u64 w2c_p1, u32 w2c_p2, u32 w2c_p3, u32 w2c_p4, u64 w2c_p5) {
   u64 w2c_l6 = 0, w2c_l7 = 0, w2c_l8 = 0, w2c_l9 = 0, w2c_l10 = 0, w2c_l11 = 0;
   u32 w2c_i0, w2c_i1, w2c_i2;
   u64 w2c_j0, w2c_j1, w2c_j2, w2c_j3, w2c_j4;
@@ -39623,7 +39876,7 @@ static u32 w2c_f47(module *m, u64 w2c_p0, u64 w2c_p1, u32 w2c_p2, u32 w2c_p3, u3
   w2c_j1 = 0ull;
   w2c_j2 = w2c_p0;
   w2c_j3 = w2c_p1;
-  w2c_f41(m, w2c_j0, w2c_j1, w2c_j2, w2c_j3);
+  w2c_f42(m, w2c_j0, w2c_j1, w2c_j2, w2c_j3);
   goto w2c_B1;
   w2c_B2:;
   w2c_j0 = w2c_l7;
@@ -39631,7 +39884,7 @@ static u32 w2c_f47(module *m, u64 w2c_p0, u64 w2c_p1, u32 w2c_p2, u32 w2c_p3, u3
   w2c_j2 = 0ull;
   w2c_j3 = w2c_p0;
   w2c_j4 = w2c_p1;
-  w2c_f46(m, w2c_j0, w2c_i1, w2c_j2, w2c_j3, w2c_j4);
+  w2c_f47(m, w2c_j0, w2c_i1, w2c_j2, w2c_j3, w2c_j4);
   w2c_B1:;
   w2c_j0 = w2c_l7;
   w2c_i0 = (u32)(w2c_j0);
@@ -39882,7 +40135,7 @@ static u32 w2c_f47(module *m, u64 w2c_p0, u64 w2c_p1, u32 w2c_p2, u32 w2c_p3, u3
   return w2c_i0;
 }
 
-static u32 w2c_f48(module *m, u64 w2c_p0, u64 w2c_p1, u32 w2c_p2, u64 w2c_p3) {
+static u32 w2c_f49(module *m, u64 w2c_p0, u64 w2c_p1, u32 w2c_p2, u64 w2c_p3) {
   u32 w2c_l5 = 0, w2c_l6 = 0;
   u64 w2c_l4 = 0;
   u32 w2c_i0, w2c_i1, w2c_i2, w2c_i3, w2c_i4;
@@ -39903,7 +40156,7 @@ static u32 w2c_f48(module *m, u64 w2c_p0, u64 w2c_p1, u32 w2c_p2, u64 w2c_p3) {
   w2c_i1 = w2c_p2;
   w2c_j2 = w2c_p0;
   w2c_j3 = w2c_p1;
-  w2c_f49(m, w2c_j0, w2c_i1, w2c_j2, w2c_j3);
+  w2c_f50(m, w2c_j0, w2c_i1, w2c_j2, w2c_j3);
   w2c_j0 = w2c_l4;
   w2c_i0 = (u32)(w2c_j0);
   w2c_i0 = i32_load8_u(m, (u64)(w2c_i0) + 9u);
@@ -39924,7 +40177,7 @@ static u32 w2c_f48(module *m, u64 w2c_p0, u64 w2c_p1, u32 w2c_p2, u64 w2c_p3) {
   w2c_i3 = w2c_l6;
   w2c_i4 = w2c_l5;
   w2c_j5 = w2c_p3;
-  w2c_i0 = w2c_f45(m, w2c_j0, w2c_j1, w2c_i2, w2c_i3, w2c_i4, w2c_j5);
+  w2c_i0 = w2c_f46(m, w2c_j0, w2c_j1, w2c_i2, w2c_i3, w2c_i4, w2c_j5);
   w2c_p2 = w2c_i0;
   goto w2c_B1;
   w2c_B2:;
@@ -39934,7 +40187,7 @@ static u32 w2c_f48(module *m, u64 w2c_p0, u64 w2c_p1, u32 w2c_p2, u64 w2c_p3) {
   w2c_i3 = w2c_l6;
   w2c_i4 = w2c_l5;
   w2c_j5 = w2c_p3;
-  w2c_i0 = w2c_f47(m, w2c_j0, w2c_j1, w2c_i2, w2c_i3, w2c_i4, w2c_j5);
+  w2c_i0 = w2c_f48(m, w2c_j0, w2c_j1, w2c_i2, w2c_i3, w2c_i4, w2c_j5);
   w2c_p2 = w2c_i0;
   w2c_B1:;
   w2c_j0 = w2c_l4;
@@ -39949,7 +40202,7 @@ static u32 w2c_f48(module *m, u64 w2c_p0, u64 w2c_p1, u32 w2c_p2, u64 w2c_p3) {
   return w2c_i0;
 }
 
-static void w2c_f49(module *m, u64 w2c_p0, u32 w2c_p1, u64 w2c_p2, u64 w2c_p3) {
+static void w2c_f50(module *m, u64 w2c_p0, u32 w2c_p1, u64 w2c_p2, u64 w2c_p3) {
   u32 w2c_l9 = 0, w2c_l10 = 0, w2c_l11 = 0, w2c_l12 = 0;
   u64 w2c_l4 = 0, w2c_l5 = 0, w2c_l6 = 0, w2c_l7 = 0, w2c_l8 = 0;
   u32 w2c_i0, w2c_i1, w2c_i2, w2c_i3;
@@ -40478,7 +40731,7 @@ static void w2c_f49(module *m, u64 w2c_p0, u32 w2c_p1, u64 w2c_p2, u64 w2c_p3) {
   w2c_j1 = w2c_l5;
   w2c_j2 = 16ull;
   w2c_j1 += w2c_j2;
-  w2c_f28(m, w2c_j0, w2c_j1);
+  w2c_f29(m, w2c_j0, w2c_j1);
   w2c_j0 = w2c_l5;
   w2c_i0 = (u32)(w2c_j0);
   w2c_i0 = i32_load8_u(m, (u64)(w2c_i0) + 40u);
@@ -40617,7 +40870,7 @@ static void w2c_f49(module *m, u64 w2c_p0, u32 w2c_p1, u64 w2c_p2, u64 w2c_p3) {
     w2c_j1 = 8ull;
     w2c_j0 += w2c_j1;
     w2c_i1 = w2c_p1;
-    w2c_f16(m, w2c_j0, w2c_i1);
+    w2c_f17(m, w2c_j0, w2c_i1);
     w2c_j0 = w2c_l5;
     w2c_i0 = (u32)(w2c_j0);
     w2c_i0 = i32_load8_u(m, (u64)(w2c_i0) + 8u);
@@ -40708,7 +40961,7 @@ static void w2c_f49(module *m, u64 w2c_p0, u32 w2c_p1, u64 w2c_p2, u64 w2c_p3) {
   m->w2c_g0 = w2c_j0;
 }
 
-static u32 w2c_f50(module *m, u64 w2c_p0, u64 w2c_p1, u32 w2c_p2, u32 w2c_p3, u64 w2c_p4) {
+static u32 w2c_f51(module *m, u64 w2c_p0, u64 w2c_p1, u32 w2c_p2, u32 w2c_p3, u64 w2c_p4) {
   u32 w2c_l9 = 0, w2c_l10 = 0, w2c_l11 = 0, w2c_l12 = 0;
   u64 w2c_l5 = 0, w2c_l6 = 0, w2c_l7 = 0, w2c_l8 = 0;
   u32 w2c_i0, w2c_i1, w2c_i2, w2c_i3, w2c_i4;
@@ -40964,7 +41217,7 @@ static u32 w2c_f50(module *m, u64 w2c_p0, u64 w2c_p1, u32 w2c_p2, u32 w2c_p3, u6
   w2c_j1 = w2c_p1;
   w2c_i2 = w2c_p2;
   w2c_j3 = w2c_p4;
-  w2c_i0 = w2c_f48(m, w2c_j0, w2c_j1, w2c_i2, w2c_j3);
+  w2c_i0 = w2c_f49(m, w2c_j0, w2c_j1, w2c_i2, w2c_j3);
   w2c_l9 = w2c_i0;
   w2c_j0 = w2c_l5;
   m->w2c_g0 = w2c_j0;
@@ -41044,7 +41297,7 @@ static u32 w2c_f50(module *m, u64 w2c_p0, u64 w2c_p1, u32 w2c_p2, u32 w2c_p3, u6
   w2c_i3 = w2c_l11;
   w2c_i4 = w2c_l9;
   w2c_j5 = w2c_p4;
-  w2c_i0 = w2c_f45(m, w2c_j0, w2c_j1, w2c_i2, w2c_i3, w2c_i4, w2c_j5);
+  w2c_i0 = w2c_f46(m, w2c_j0, w2c_j1, w2c_i2, w2c_i3, w2c_i4, w2c_j5);
   w2c_l9 = w2c_i0;
   w2c_j0 = w2c_l5;
   m->w2c_g0 = w2c_j0;
@@ -41057,7 +41310,7 @@ static u32 w2c_f50(module *m, u64 w2c_p0, u64 w2c_p1, u32 w2c_p2, u32 w2c_p3, u6
   w2c_i3 = w2c_l11;
   w2c_i4 = w2c_l9;
   w2c_j5 = w2c_p4;
-  w2c_i0 = w2c_f47(m, w2c_j0, w2c_j1, w2c_i2, w2c_i3, w2c_i4, w2c_j5);
+  w2c_i0 = w2c_f48(m, w2c_j0, w2c_j1, w2c_i2, w2c_i3, w2c_i4, w2c_j5);
   w2c_l9 = w2c_i0;
   w2c_j0 = w2c_l5;
   m->w2c_g0 = w2c_j0;
@@ -41077,13 +41330,13 @@ static u32 w2c_chinese_number_version(module *m) {
   w2c_f2(m);
   UNREACHABLE;
   w2c_B0:;
-  w2c_f52(m);
+  w2c_f53(m);
   w2c_f1(m);
   w2c_i0 = 1000u;
   return w2c_i0;
 }
 
-static void w2c_f52(module *m) {
+static void w2c_f53(module *m) {
   u32 w2c_i0;
   u64 w2c_j0, w2c_j1;
   w2c_j0 = m->w2c_g0;
@@ -41109,14 +41362,14 @@ static u32 w2c_chinese_amount_print(module *m, u64 w2c_p0, u32 w2c_p1, u32 w2c_p
   w2c_j3 = w2c_p3;
   w2c_j4 = w2c_p4;
   w2c_j5 = w2c_p5;
-  w2c_i0 = w2c_f54(m, w2c_j0, w2c_i1, w2c_i2, w2c_j3, w2c_j4, w2c_j5);
+  w2c_i0 = w2c_f55(m, w2c_j0, w2c_i1, w2c_i2, w2c_j3, w2c_j4, w2c_j5);
   w2c_p2 = w2c_i0;
   w2c_f1(m);
   w2c_i0 = w2c_p2;
   return w2c_i0;
 }
 
-static u32 w2c_f54(module *m, u64 w2c_p0, u32 w2c_p1, u32 w2c_p2, u64 w2c_p3, u64 w2c_p4, u64 w2c_p5) {
+static u32 w2c_f55(module *m, u64 w2c_p0, u32 w2c_p1, u32 w2c_p2, u64 w2c_p3, u64 w2c_p4, u64 w2c_p5) {
   u32 w2c_l8 = 0;
   u64 w2c_l6 = 0, w2c_l7 = 0;
   u32 w2c_i0, w2c_i1, w2c_i2, w2c_i3, w2c_i4;
@@ -41302,14 +41555,14 @@ static u32 w2c_chinese_date_print(module *m, u32 w2c_p0, u32 w2c_p1, u32 w2c_p2,
   w2c_j4 = w2c_p4;
   w2c_j5 = w2c_p5;
   w2c_j6 = w2c_p6;
-  w2c_i0 = w2c_f56(m, w2c_i0, w2c_i1, w2c_i2, w2c_i3, w2c_j4, w2c_j5, w2c_j6);
+  w2c_i0 = w2c_f57(m, w2c_i0, w2c_i1, w2c_i2, w2c_i3, w2c_j4, w2c_j5, w2c_j6);
   w2c_p3 = w2c_i0;
   w2c_f1(m);
   w2c_i0 = w2c_p3;
   return w2c_i0;
 }
 
-static u32 w2c_f56(module *m, u32 w2c_p0, u32 w2c_p1, u32 w2c_p2, u32 w2c_p3, u64 w2c_p4, u64 w2c_p5, u64 w2c_p6) {
+static u32 w2c_f57(module *m, u32 w2c_p0, u32 w2c_p1, u32 w2c_p2, u32 w2c_p3, u64 w2c_p4, u64 w2c_p5, u64 w2c_p6) {
   u32 w2c_l11 = 0, w2c_l12 = 0, w2c_l13 = 0;
   u64 w2c_l7 = 0, w2c_l8 = 0, w2c_l9 = 0, w2c_l10 = 0;
   u32 w2c_i0, w2c_i1, w2c_i2, w2c_i3, w2c_i4;
@@ -41724,14 +41977,14 @@ static u32 w2c_chinese_signed_amount_print(module *m, u64 w2c_p0, u32 w2c_p1, u3
   w2c_j3 = w2c_p3;
   w2c_j4 = w2c_p4;
   w2c_j5 = w2c_p5;
-  w2c_i0 = w2c_f58(m, w2c_j0, w2c_i1, w2c_i2, w2c_j3, w2c_j4, w2c_j5);
+  w2c_i0 = w2c_f59(m, w2c_j0, w2c_i1, w2c_i2, w2c_j3, w2c_j4, w2c_j5);
   w2c_p2 = w2c_i0;
   w2c_f1(m);
   w2c_i0 = w2c_p2;
   return w2c_i0;
 }
 
-static u32 w2c_f58(module *m, u64 w2c_p0, u32 w2c_p1, u32 w2c_p2, u64 w2c_p3, u64 w2c_p4, u64 w2c_p5) {
+static u32 w2c_f59(module *m, u64 w2c_p0, u32 w2c_p1, u32 w2c_p2, u64 w2c_p3, u64 w2c_p4, u64 w2c_p5) {
   u32 w2c_l9 = 0, w2c_l10 = 0;
   u64 w2c_l6 = 0, w2c_l7 = 0, w2c_l8 = 0;
   u32 w2c_i0, w2c_i1, w2c_i2, w2c_i3, w2c_i4;
@@ -41963,14 +42216,14 @@ static u32 w2c_chinese_quantity_figures(module *m, u64 w2c_p0, u64 w2c_p1, u64 w
   w2c_j1 = w2c_p1;
   w2c_j2 = w2c_p2;
   w2c_j3 = w2c_p3;
-  w2c_i0 = w2c_f60(m, w2c_j0, w2c_j1, w2c_j2, w2c_j3);
+  w2c_i0 = w2c_f61(m, w2c_j0, w2c_j1, w2c_j2, w2c_j3);
   w2c_l4 = w2c_i0;
   w2c_f1(m);
   w2c_i0 = w2c_l4;
   return w2c_i0;
 }
 
-static u32 w2c_f60(module *m, u64 w2c_p0, u64 w2c_p1, u64 w2c_p2, u64 w2c_p3) {
+static u32 w2c_f61(module *m, u64 w2c_p0, u64 w2c_p1, u64 w2c_p2, u64 w2c_p3) {
   u32 w2c_l10 = 0;
   u64 w2c_l4 = 0, w2c_l5 = 0, w2c_l6 = 0, w2c_l7 = 0, w2c_l8 = 0, w2c_l9 = 0;
   u32 w2c_i0, w2c_i1, w2c_i2, w2c_i3;
@@ -42236,19 +42489,20 @@ static u32 w2c_chinese_amount_read(module *m, u64 w2c_p0, u64 w2c_p1, u64 w2c_p2
   w2c_j0 = w2c_p0;
   w2c_j1 = w2c_p1;
   w2c_j2 = w2c_p2;
-  w2c_i0 = w2c_f62(m, w2c_j0, w2c_j1, w2c_j2);
+  w2c_i0 = w2c_f63(m, w2c_j0, w2c_j1, w2c_j2);
   w2c_l3 = w2c_i0;
   w2c_f1(m);
   w2c_i0 = w2c_l3;
   return w2c_i0;
 }
 
-static u32 w2c_f62(module *m, u64 w2c_p0, u64 w2c_p1, u64 w2c_p2) {
-  u32 w2c_l14 = 0, w2c_l15 = 0, w2c_l16 = 0, w2c_l17 = 0, w2c_l18 = 0, w2c_l19 = 0, w2c_l20 = 0, w2c_l21 = 0, w2c_l22 = 0;
-  u64 w2c_l3 = 0, w2c_l4 = 0, w2c_l5 = 0, w2c_l6 = 0, w2c_l7 = 0, w2c_l8 = 0, w2c_l9 = 0, w2c_l10 = 0, w2c_l11 = 0, w2c_l12 = 0, w2c_l13 = 0;
+static u32 w2c_f63(module *m, u64 w2c_p0, u64 w2c_p1, u64 w2c_p2) {
+  u32 w2c_l15 = 0, w2c_l16 = 0, w2c_l17 = 0, w2c_l18 = 0, w2c_l19 = 0, w2c_l20 = 0, w2c_l21 = 0, w2c_l22 = 0;
+  u64 w2c_l3 = 0, w2c_l4 = 0, w2c_l5 = 0, w2c_l6 = 0, w2c_l7 = 0, w2c_l8 = 0, w2c_l9 = 0, w2c_l10 = 0, w2c_l11 = 0, w2c_l12 = 0, w2c_l13 = 0, w2c_l14 = 0;
   u32 w2c_i0, w2c_i1, w2c_i2, w2c_i3;
   u64 w2c_j0, w2c_j1, w2c_j2, w2c_j3;
   w2c_j0 = m->w2c_g0;
+  w2c_l3 = w2c_j0;
   w2c_j1 = 16ull;
   w2c_i0 = (u64)((s64)w2c_j0 < (s64)w2c_j1);
   if (w2c_i0) {goto w2c_B0;}
@@ -42265,7 +42519,7 @@ static u32 w2c_f62(module *m, u64 w2c_p0, u64 w2c_p1, u64 w2c_p2) {
   w2c_j1 = 0ull;
   i64_store(m, (u64)(w2c_i0), w2c_j1);
   w2c_j0 = w2c_p1;
-  w2c_l3 = w2c_j0;
+  w2c_l4 = w2c_j0;
   w2c_j0 = w2c_p0;
   w2c_j1 = 4096ull;
   w2c_j2 = 0ull;
@@ -42273,16 +42527,16 @@ static u32 w2c_f62(module *m, u64 w2c_p0, u64 w2c_p1, u64 w2c_p2) {
   w2c_i3 = !(w2c_j3);
   w2c_j1 = w2c_i3 ? w2c_j1 : w2c_j2;
   w2c_j0 += w2c_j1;
-  w2c_l4 = w2c_j0;
+  w2c_l5 = w2c_j0;
   w2c_p0 = w2c_j0;
   w2c_j0 = w2c_p1;
   w2c_j1 = 4ull;
   w2c_i0 = w2c_j0 < w2c_j1;
   if (w2c_i0) {goto w2c_B4;}
-  w2c_j0 = w2c_l4;
+  w2c_j0 = w2c_l5;
   w2c_p0 = w2c_j0;
   w2c_j0 = w2c_p1;
-  w2c_l3 = w2c_j0;
+  w2c_l4 = w2c_j0;
   w2c_L5:
     w2c_j0 = w2c_p0;
     w2c_i0 = (u32)(w2c_j0);
@@ -42298,19 +42552,19 @@ static u32 w2c_f62(module *m, u64 w2c_p0, u64 w2c_p1, u64 w2c_p2) {
     w2c_j1 = 3ull;
     w2c_j0 += w2c_j1;
     w2c_p0 = w2c_j0;
-    w2c_j0 = w2c_l3;
+    w2c_j0 = w2c_l4;
     w2c_j1 = 18446744073709551613ull;
     w2c_j0 += w2c_j1;
-    w2c_l3 = w2c_j0;
+    w2c_l4 = w2c_j0;
     w2c_j1 = 3ull;
     w2c_i0 = w2c_j0 > w2c_j1;
     if (w2c_i0) {goto w2c_L5;}
   w2c_B4:;
-  w2c_j0 = w2c_l3;
+  w2c_j0 = w2c_l4;
   w2c_j1 = 3ull;
   w2c_i0 = w2c_j0 > w2c_j1;
   if (w2c_i0) {goto w2c_B3;}
-  w2c_j0 = w2c_l3;
+  w2c_j0 = w2c_l4;
   w2c_i0 = (u32)(w2c_j0);
   switch (w2c_i0) {
     case 0: goto w2c_B2;
@@ -42339,333 +42593,93 @@ static u32 w2c_f62(module *m, u64 w2c_p0, u64 w2c_p1, u64 w2c_p2) {
   w2c_i0 = w2c_i0 == w2c_i1;
   if (w2c_i0) {goto w2c_B2;}
   w2c_B3:;
-  w2c_j0 = w2c_p1;
-  w2c_i0 = !(w2c_j0);
+  w2c_i0 = 5u;
+  w2c_l15 = w2c_i0;
+  w2c_j0 = w2c_l5;
+  w2c_j1 = w2c_p1;
+  w2c_i0 = w2c_f12(m, w2c_j0, w2c_j1);
   w2c_i0 = !(w2c_i0);
-  if (w2c_i0) {goto w2c_B7;}
-  w2c_i0 = 9u;
-  goto w2c_Bfunc;
-  w2c_B7:;
-  w2c_j0 = w2c_l4;
-  w2c_l3 = w2c_j0;
-  w2c_j0 = w2c_p1;
-  w2c_p0 = w2c_j0;
-  w2c_L8:
-    w2c_j0 = w2c_p0;
-    w2c_j1 = 4ull;
-    w2c_i0 = w2c_j0 < w2c_j1;
-    if (w2c_i0) {goto w2c_B12;}
-    w2c_j0 = w2c_l3;
-    w2c_i0 = (u32)(w2c_j0);
-    w2c_i0 = i32_load(m, (u64)(w2c_i0));
-    w2c_l14 = w2c_i0;
-    w2c_i1 = 16776989u;
-    w2c_i0 += w2c_i1;
-    w2c_i1 = 12632312u;
-    w2c_i0 &= w2c_i1;
-    w2c_i1 = 8421376u;
-    w2c_i0 = w2c_i0 != w2c_i1;
-    if (w2c_i0) {goto w2c_B13;}
-    w2c_j0 = 3ull;
-    w2c_l5 = w2c_j0;
-    goto w2c_B9;
-    w2c_B13:;
-    w2c_i0 = w2c_l14;
-    w2c_i1 = 2155905152u;
-    w2c_i0 &= w2c_i1;
-    w2c_i0 = !(w2c_i0);
-    if (w2c_i0) {goto w2c_B14;}
-    w2c_i0 = w2c_l14;
-    w2c_i1 = 8u;
-    w2c_i0 >>= (w2c_i1 & 31);
-    w2c_l15 = w2c_i0;
-    w2c_i0 = w2c_l14;
-    w2c_i1 = 16u;
-    w2c_i0 >>= (w2c_i1 & 31);
-    w2c_l16 = w2c_i0;
-    goto w2c_B11;
-    w2c_B14:;
-    w2c_j0 = 4ull;
-    w2c_l5 = w2c_j0;
-    goto w2c_B9;
-    w2c_B12:;
-    w2c_j0 = w2c_l3;
-    w2c_i0 = (u32)(w2c_j0);
-    w2c_i0 = i32_load8_u(m, (u64)(w2c_i0));
-    w2c_l14 = w2c_i0;
-    w2c_i0 = 0u;
-    w2c_l16 = w2c_i0;
-    w2c_j0 = w2c_p0;
-    w2c_j1 = 18446744073709551615ull;
-    w2c_j0 += w2c_j1;
-    w2c_l5 = w2c_j0;
-    w2c_j1 = 2ull;
-    w2c_i0 = w2c_j0 > w2c_j1;
-    if (w2c_i0) {goto w2c_B15;}
-    w2c_i0 = 0u;
-    w2c_l15 = w2c_i0;
-    w2c_j0 = w2c_l5;
-    w2c_i0 = (u32)(w2c_j0);
-    switch (w2c_i0) {
-      case 0: goto w2c_B10;
-      case 1: goto w2c_B15;
-      case 2: goto w2c_B16;
-      default: goto w2c_B10;
-    }
-    w2c_B16:;
-    w2c_j0 = w2c_l3;
-    w2c_j1 = 1ull;
-    w2c_j0 += w2c_j1;
-    w2c_i0 = (u32)(w2c_j0);
-    w2c_i0 = i32_load8_u(m, (u64)(w2c_i0));
-    w2c_l15 = w2c_i0;
-    w2c_i1 = 8u;
-    w2c_i0 <<= (w2c_i1 & 31);
-    w2c_i1 = w2c_l14;
-    w2c_i0 |= w2c_i1;
-    w2c_j1 = w2c_l3;
-    w2c_j2 = 2ull;
-    w2c_j1 += w2c_j2;
-    w2c_i1 = (u32)(w2c_j1);
-    w2c_i1 = i32_load8_u(m, (u64)(w2c_i1));
-    w2c_l16 = w2c_i1;
-    w2c_i2 = 16u;
-    w2c_i1 <<= (w2c_i2 & 31);
-    w2c_i0 |= w2c_i1;
-    w2c_i1 = 16776989u;
-    w2c_i0 += w2c_i1;
-    w2c_i1 = 12632312u;
-    w2c_i0 &= w2c_i1;
-    w2c_i1 = 8421376u;
-    w2c_i0 = w2c_i0 != w2c_i1;
-    if (w2c_i0) {goto w2c_B11;}
-    w2c_j0 = 3ull;
-    w2c_l5 = w2c_j0;
-    goto w2c_B9;
-    w2c_B15:;
-    w2c_j0 = w2c_l3;
-    w2c_j1 = 1ull;
-    w2c_j0 += w2c_j1;
-    w2c_i0 = (u32)(w2c_j0);
-    w2c_i0 = i32_load8_u(m, (u64)(w2c_i0));
-    w2c_l15 = w2c_i0;
-    goto w2c_B10;
-    w2c_B11:;
-    w2c_i0 = w2c_l16;
-    w2c_i0 = (u32)(s32)(s8)(u8)(w2c_i0);
-    w2c_i1 = 4294967232u;
-    w2c_i0 = (u32)((s32)w2c_i0 < (s32)w2c_i1);
-    w2c_l16 = w2c_i0;
-    w2c_B10:;
-    w2c_i0 = w2c_l14;
-    w2c_i0 = (u32)(s32)(s8)(u8)(w2c_i0);
-    w2c_i1 = 4294967295u;
-    w2c_i0 = (u32)((s32)w2c_i0 <= (s32)w2c_i1);
-    if (w2c_i0) {goto w2c_B17;}
-    w2c_j0 = 1ull;
-    w2c_l5 = w2c_j0;
-    goto w2c_B9;
-    w2c_B17:;
-    w2c_i0 = w2c_l14;
-    w2c_i1 = 255u;
-    w2c_i0 &= w2c_i1;
-    w2c_l17 = w2c_i0;
-    w2c_i1 = 223u;
-    w2c_i0 = w2c_i0 > w2c_i1;
-    if (w2c_i0) {goto w2c_B18;}
-    w2c_i0 = 5u;
-    w2c_l18 = w2c_i0;
-    w2c_i0 = w2c_l15;
-    w2c_i0 = (u32)(s32)(s8)(u8)(w2c_i0);
-    w2c_i1 = 4294967231u;
-    w2c_i0 = (u32)((s32)w2c_i0 > (s32)w2c_i1);
-    if (w2c_i0) {goto w2c_B1;}
-    w2c_i0 = w2c_l14;
-    w2c_i1 = 255u;
-    w2c_i0 &= w2c_i1;
-    w2c_i1 = 193u;
-    w2c_i0 = w2c_i0 <= w2c_i1;
-    if (w2c_i0) {goto w2c_B1;}
-    w2c_j0 = 2ull;
-    w2c_l5 = w2c_j0;
-    goto w2c_B9;
-    w2c_B18:;
-    w2c_i0 = w2c_l17;
-    w2c_i1 = 239u;
-    w2c_i0 = w2c_i0 > w2c_i1;
-    if (w2c_i0) {goto w2c_B19;}
-    w2c_i0 = 5u;
-    w2c_l18 = w2c_i0;
-    w2c_i0 = w2c_l15;
-    w2c_i0 = (u32)(s32)(s8)(u8)(w2c_i0);
-    w2c_i1 = 4294967231u;
-    w2c_i0 = (u32)((s32)w2c_i0 > (s32)w2c_i1);
-    w2c_i1 = w2c_l16;
-    w2c_i2 = 1u;
-    w2c_i1 ^= w2c_i2;
-    w2c_i0 |= w2c_i1;
-    if (w2c_i0) {goto w2c_B1;}
-    w2c_i0 = w2c_l14;
-    w2c_i1 = 255u;
-    w2c_i0 &= w2c_i1;
-    w2c_i1 = 6u;
-    w2c_i0 <<= (w2c_i1 & 31);
-    w2c_i1 = w2c_l15;
-    w2c_i2 = 255u;
-    w2c_i1 &= w2c_i2;
-    w2c_i0 += w2c_i1;
-    w2c_l14 = w2c_i0;
-    w2c_i1 = 14496u;
-    w2c_i0 = w2c_i0 < w2c_i1;
-    if (w2c_i0) {goto w2c_B1;}
-    w2c_i0 = w2c_l14;
-    w2c_i1 = 32736u;
-    w2c_i0 &= w2c_i1;
-    w2c_i1 = 15328u;
-    w2c_i0 = w2c_i0 == w2c_i1;
-    if (w2c_i0) {goto w2c_B1;}
-    w2c_j0 = 3ull;
-    w2c_l5 = w2c_j0;
-    goto w2c_B9;
-    w2c_B19:;
-    w2c_j0 = 4ull;
-    w2c_l5 = w2c_j0;
-    w2c_i0 = 0u;
-    w2c_l17 = w2c_i0;
-    w2c_j0 = w2c_p0;
-    w2c_j1 = 4ull;
-    w2c_i0 = w2c_j0 < w2c_j1;
-    if (w2c_i0) {goto w2c_B20;}
-    w2c_j0 = w2c_l3;
-    w2c_j1 = 3ull;
-    w2c_j0 += w2c_j1;
-    w2c_i0 = (u32)(w2c_j0);
-    w2c_i0 = i32_load8_s(m, (u64)(w2c_i0));
-    w2c_i1 = 4294967232u;
-    w2c_i0 = (u32)((s32)w2c_i0 < (s32)w2c_i1);
-    w2c_l17 = w2c_i0;
-    w2c_B20:;
-    w2c_i0 = 5u;
-    w2c_l18 = w2c_i0;
-    w2c_i0 = w2c_l16;
-    w2c_i1 = w2c_l15;
-    w2c_i1 = (u32)(s32)(s8)(u8)(w2c_i1);
-    w2c_i2 = 4294967232u;
-    w2c_i1 = (u32)((s32)w2c_i1 < (s32)w2c_i2);
-    w2c_i2 = w2c_l17;
-    w2c_i1 &= w2c_i2;
-    w2c_i0 &= w2c_i1;
-    w2c_i1 = 1u;
-    w2c_i0 = w2c_i0 != w2c_i1;
-    if (w2c_i0) {goto w2c_B1;}
-    w2c_i0 = w2c_l15;
-    w2c_i1 = 255u;
-    w2c_i0 &= w2c_i1;
-    w2c_i1 = w2c_l14;
-    w2c_i2 = 255u;
-    w2c_i1 &= w2c_i2;
-    w2c_i2 = 6u;
-    w2c_i1 <<= (w2c_i2 & 31);
-    w2c_i0 += w2c_i1;
-    w2c_i1 = 4294951792u;
-    w2c_i0 += w2c_i1;
-    w2c_i1 = 255u;
-    w2c_i0 = w2c_i0 > w2c_i1;
-    if (w2c_i0) {goto w2c_B1;}
-    w2c_B9:;
-    w2c_j0 = w2c_l3;
-    w2c_j1 = w2c_l5;
-    w2c_j0 += w2c_j1;
-    w2c_l3 = w2c_j0;
-    w2c_j0 = w2c_p0;
-    w2c_j1 = w2c_l5;
-    w2c_j0 -= w2c_j1;
-    w2c_p0 = w2c_j0;
-    w2c_j1 = 0ull;
-    w2c_i0 = w2c_j0 != w2c_j1;
-    if (w2c_i0) {goto w2c_L8;}
+  if (w2c_i0) {goto w2c_B1;}
   w2c_B2:;
-  w2c_i0 = 9u;
-  w2c_l18 = w2c_i0;
   w2c_j0 = w2c_p1;
   w2c_i0 = !(w2c_j0);
-  if (w2c_i0) {goto w2c_B1;}
+  if (w2c_i0) {goto w2c_B8;}
   w2c_j0 = w2c_p2;
   w2c_j1 = 8ull;
   w2c_j0 += w2c_j1;
   w2c_l6 = w2c_j0;
   w2c_i0 = 0u;
-  w2c_l19 = w2c_i0;
+  w2c_l16 = w2c_i0;
   w2c_j0 = 0ull;
   w2c_l7 = w2c_j0;
   w2c_j0 = 18446744073709551613ull;
-  w2c_l3 = w2c_j0;
+  w2c_l4 = w2c_j0;
   w2c_j0 = w2c_p1;
   w2c_l8 = w2c_j0;
-  w2c_j0 = w2c_l4;
-  w2c_l5 = w2c_j0;
-  w2c_j0 = 0ull;
+  w2c_j0 = w2c_l5;
   w2c_l9 = w2c_j0;
   w2c_j0 = 0ull;
   w2c_l10 = w2c_j0;
   w2c_j0 = 0ull;
   w2c_l11 = w2c_j0;
+  w2c_j0 = 0ull;
+  w2c_l12 = w2c_j0;
   w2c_i0 = 0u;
-  w2c_l15 = w2c_i0;
+  w2c_l17 = w2c_i0;
   w2c_i0 = 0u;
-  w2c_l16 = w2c_i0;
-  w2c_L21:
-    w2c_i0 = w2c_l15;
-    w2c_l17 = w2c_i0;
-    w2c_j0 = w2c_l5;
+  w2c_l18 = w2c_i0;
+  w2c_L9:
+    w2c_i0 = w2c_l17;
+    w2c_l19 = w2c_i0;
+    w2c_j0 = w2c_l9;
     w2c_i0 = (u32)(w2c_j0);
     w2c_i0 = i32_load8_s(m, (u64)(w2c_i0));
-    w2c_l15 = w2c_i0;
+    w2c_l17 = w2c_i0;
     w2c_i1 = 255u;
     w2c_i0 &= w2c_i1;
-    w2c_l14 = w2c_i0;
+    w2c_l15 = w2c_i0;
     w2c_j0 = 1ull;
-    w2c_l12 = w2c_j0;
-    w2c_i0 = w2c_l15;
+    w2c_l13 = w2c_j0;
+    w2c_i0 = w2c_l17;
     w2c_i1 = 4294967295u;
     w2c_i0 = (u32)((s32)w2c_i0 > (s32)w2c_i1);
-    if (w2c_i0) {goto w2c_B22;}
-    w2c_j0 = w2c_l5;
+    if (w2c_i0) {goto w2c_B10;}
+    w2c_j0 = w2c_l9;
     w2c_i0 = (u32)(w2c_j0);
     w2c_i0 = i32_load8_u(m, (u64)(w2c_i0) + 1u);
     w2c_i1 = 63u;
     w2c_i0 &= w2c_i1;
     w2c_l20 = w2c_i0;
-    w2c_i0 = w2c_l15;
+    w2c_i0 = w2c_l17;
     w2c_i1 = 4294967263u;
     w2c_i0 = w2c_i0 > w2c_i1;
-    if (w2c_i0) {goto w2c_B23;}
-    w2c_i0 = w2c_l14;
+    if (w2c_i0) {goto w2c_B11;}
+    w2c_i0 = w2c_l15;
     w2c_i1 = 6u;
     w2c_i0 <<= (w2c_i1 & 31);
     w2c_i1 = 1984u;
     w2c_i0 &= w2c_i1;
     w2c_i1 = w2c_l20;
     w2c_i0 |= w2c_i1;
-    w2c_l14 = w2c_i0;
+    w2c_l15 = w2c_i0;
     w2c_j0 = 2ull;
-    w2c_l12 = w2c_j0;
-    goto w2c_B22;
-    w2c_B23:;
-    w2c_j0 = w2c_l5;
+    w2c_l13 = w2c_j0;
+    goto w2c_B10;
+    w2c_B11:;
+    w2c_j0 = w2c_l9;
     w2c_i0 = (u32)(w2c_j0);
     w2c_i0 = i32_load8_u(m, (u64)(w2c_i0) + 2u);
     w2c_i1 = 63u;
     w2c_i0 &= w2c_i1;
     w2c_l21 = w2c_i0;
-    w2c_i0 = w2c_l15;
+    w2c_i0 = w2c_l17;
     w2c_i1 = 4294967279u;
     w2c_i0 = w2c_i0 > w2c_i1;
-    if (w2c_i0) {goto w2c_B24;}
+    if (w2c_i0) {goto w2c_B12;}
     w2c_i0 = w2c_l20;
     w2c_i1 = 6u;
     w2c_i0 <<= (w2c_i1 & 31);
-    w2c_i1 = w2c_l14;
+    w2c_i1 = w2c_l15;
     w2c_i2 = 12u;
     w2c_i1 <<= (w2c_i2 & 31);
     w2c_i2 = 61440u;
@@ -42673,35 +42687,35 @@ static u32 w2c_f62(module *m, u64 w2c_p0, u64 w2c_p1, u64 w2c_p2) {
     w2c_i0 |= w2c_i1;
     w2c_i1 = w2c_l21;
     w2c_i0 |= w2c_i1;
-    w2c_l14 = w2c_i0;
+    w2c_l15 = w2c_i0;
     w2c_j0 = 3ull;
-    w2c_l12 = w2c_j0;
-    goto w2c_B22;
-    w2c_B24:;
+    w2c_l13 = w2c_j0;
+    goto w2c_B10;
+    w2c_B12:;
     w2c_i0 = w2c_l21;
     w2c_i1 = 6u;
     w2c_i0 <<= (w2c_i1 & 31);
     w2c_i1 = w2c_l20;
     w2c_i2 = 12u;
     w2c_i1 <<= (w2c_i2 & 31);
-    w2c_i2 = w2c_l14;
+    w2c_i2 = w2c_l15;
     w2c_i3 = 18u;
     w2c_i2 <<= (w2c_i3 & 31);
     w2c_i3 = 1835008u;
     w2c_i2 &= w2c_i3;
     w2c_i1 |= w2c_i2;
     w2c_i0 |= w2c_i1;
-    w2c_j1 = w2c_l5;
+    w2c_j1 = w2c_l9;
     w2c_i1 = (u32)(w2c_j1);
     w2c_i1 = i32_load8_u(m, (u64)(w2c_i1) + 3u);
     w2c_i2 = 63u;
     w2c_i1 &= w2c_i2;
     w2c_i0 |= w2c_i1;
-    w2c_l14 = w2c_i0;
+    w2c_l15 = w2c_i0;
     w2c_j0 = 4ull;
-    w2c_l12 = w2c_j0;
-    w2c_B22:;
-    w2c_i0 = w2c_l14;
+    w2c_l13 = w2c_j0;
+    w2c_B10:;
+    w2c_i0 = w2c_l15;
     w2c_i1 = 3227u;
     w2c_i0 *= w2c_i1;
     w2c_i1 = 7u;
@@ -42712,9 +42726,9 @@ static u32 w2c_f62(module *m, u64 w2c_p0, u64 w2c_p1, u64 w2c_p2) {
     w2c_p0 = w2c_j0;
     w2c_i0 = (u32)(w2c_j0);
     w2c_i0 = i32_load(m, (u64)(w2c_i0) + 66332u);
-    w2c_i1 = w2c_l14;
+    w2c_i1 = w2c_l15;
     w2c_i0 = w2c_i0 != w2c_i1;
-    if (w2c_i0) {goto w2c_B32;}
+    if (w2c_i0) {goto w2c_B20;}
     w2c_j0 = w2c_p0;
     w2c_j1 = 66336ull;
     w2c_j0 += w2c_j1;
@@ -42724,375 +42738,558 @@ static u32 w2c_f62(module *m, u64 w2c_p0, u64 w2c_p1, u64 w2c_p2) {
     w2c_i0 &= w2c_i1;
     w2c_i1 = 1u;
     w2c_i0 = w2c_i0 != w2c_i1;
-    if (w2c_i0) {goto w2c_B32;}
+    if (w2c_i0) {goto w2c_B20;}
     w2c_j0 = w2c_p0;
     w2c_j1 = 66338ull;
     w2c_j0 += w2c_j1;
     w2c_i0 = (u32)(w2c_j0);
     w2c_j0 = i64_load8_u(m, (u64)(w2c_i0));
-    w2c_l13 = w2c_j0;
+    w2c_l14 = w2c_j0;
     w2c_j0 = w2c_p0;
     w2c_j1 = 66337ull;
     w2c_j0 += w2c_j1;
     w2c_i0 = (u32)(w2c_j0);
     w2c_i0 = i32_load8_u(m, (u64)(w2c_i0));
-    w2c_l14 = w2c_i0;
-    w2c_i0 = w2c_l16;
+    w2c_l15 = w2c_i0;
+    w2c_i0 = w2c_l18;
     w2c_j0 = (u64)(w2c_i0);
     w2c_j1 = 255ull;
     w2c_j0 &= w2c_j1;
     w2c_i0 = (u32)(w2c_j0);
-    w2c_l15 = w2c_i0;
+    w2c_l17 = w2c_i0;
     switch (w2c_i0) {
-      case 0: goto w2c_B48;
-      case 1: goto w2c_B48;
-      case 2: goto w2c_B48;
-      case 3: goto w2c_B48;
-      case 4: goto w2c_B48;
-      case 5: goto w2c_B56;
-      case 6: goto w2c_B55;
-      case 7: goto w2c_B54;
-      case 8: goto w2c_B53;
-      case 9: goto w2c_B52;
-      case 10: goto w2c_B51;
-      case 11: goto w2c_B50;
-      case 12: goto w2c_B49;
-      case 13: goto w2c_B48;
-      case 14: goto w2c_B48;
-      case 15: goto w2c_B48;
-      case 16: goto w2c_B48;
-      case 17: goto w2c_B48;
-      case 18: goto w2c_B48;
-      case 19: goto w2c_B48;
-      default: goto w2c_B48;
+      case 0: goto w2c_B36;
+      case 1: goto w2c_B36;
+      case 2: goto w2c_B36;
+      case 3: goto w2c_B36;
+      case 4: goto w2c_B36;
+      case 5: goto w2c_B44;
+      case 6: goto w2c_B43;
+      case 7: goto w2c_B42;
+      case 8: goto w2c_B41;
+      case 9: goto w2c_B40;
+      case 10: goto w2c_B39;
+      case 11: goto w2c_B38;
+      case 12: goto w2c_B37;
+      case 13: goto w2c_B36;
+      case 14: goto w2c_B36;
+      case 15: goto w2c_B36;
+      case 16: goto w2c_B36;
+      case 17: goto w2c_B36;
+      case 18: goto w2c_B36;
+      case 19: goto w2c_B36;
+      default: goto w2c_B36;
     }
-    w2c_B56:;
+    w2c_B44:;
     w2c_i0 = 1u;
-    w2c_i1 = w2c_l14;
+    w2c_i1 = w2c_l15;
     w2c_i0 <<= (w2c_i1 & 31);
     w2c_i1 = 31999u;
     w2c_i0 &= w2c_i1;
-    if (w2c_i0) {goto w2c_B57;}
-    w2c_i0 = w2c_l14;
+    if (w2c_i0) {goto w2c_B45;}
+    w2c_i0 = w2c_l15;
     w2c_i1 = 8u;
     w2c_i0 = w2c_i0 == w2c_i1;
-    if (w2c_i0) {goto w2c_B37;}
-    goto w2c_B35;
-    w2c_B57:;
-    w2c_i0 = w2c_l14;
+    if (w2c_i0) {goto w2c_B25;}
+    goto w2c_B23;
+    w2c_B45:;
+    w2c_i0 = w2c_l15;
     w2c_i1 = 4294967291u;
     w2c_i0 += w2c_i1;
     w2c_i1 = 10u;
     w2c_i0 = w2c_i0 < w2c_i1;
-    if (w2c_i0) {goto w2c_B58;}
+    if (w2c_i0) {goto w2c_B46;}
     w2c_i0 = 0u;
-    w2c_l15 = w2c_i0;
-    w2c_i0 = w2c_l14;
+    w2c_l17 = w2c_i0;
+    w2c_i0 = w2c_l15;
     switch (w2c_i0) {
-      case 0: goto w2c_B58;
-      case 1: goto w2c_B58;
-      case 2: goto w2c_B43;
-      case 3: goto w2c_B41;
-      case 4: goto w2c_B31;
-      default: goto w2c_B58;
+      case 0: goto w2c_B46;
+      case 1: goto w2c_B46;
+      case 2: goto w2c_B31;
+      case 3: goto w2c_B29;
+      case 4: goto w2c_B19;
+      default: goto w2c_B46;
     }
-    w2c_B58:;
+    w2c_B46:;
     w2c_i0 = 0u;
-    w2c_l15 = w2c_i0;
+    w2c_l17 = w2c_i0;
     w2c_i0 = 6u;
-    w2c_l16 = w2c_i0;
-    w2c_i0 = w2c_l14;
+    w2c_l18 = w2c_i0;
+    w2c_i0 = w2c_l15;
     switch (w2c_i0) {
-      case 0: goto w2c_B32;
-      case 1: goto w2c_B32;
-      case 2: goto w2c_B32;
-      case 3: goto w2c_B32;
-      case 4: goto w2c_B32;
-      case 5: goto w2c_B26;
-      case 6: goto w2c_B39;
-      case 7: goto w2c_B30;
-      case 8: goto w2c_B32;
-      case 9: goto w2c_B32;
-      case 10: goto w2c_B32;
-      case 11: goto w2c_B32;
-      case 12: goto w2c_B32;
-      case 13: goto w2c_B32;
-      case 14: goto w2c_B32;
-      default: goto w2c_B32;
+      case 0: goto w2c_B20;
+      case 1: goto w2c_B20;
+      case 2: goto w2c_B20;
+      case 3: goto w2c_B20;
+      case 4: goto w2c_B20;
+      case 5: goto w2c_B14;
+      case 6: goto w2c_B27;
+      case 7: goto w2c_B18;
+      case 8: goto w2c_B20;
+      case 9: goto w2c_B20;
+      case 10: goto w2c_B20;
+      case 11: goto w2c_B20;
+      case 12: goto w2c_B20;
+      case 13: goto w2c_B20;
+      case 14: goto w2c_B20;
+      default: goto w2c_B20;
     }
-    w2c_B55:;
+    w2c_B43:;
     w2c_i0 = 3u;
     w2c_l21 = w2c_i0;
     w2c_i0 = 10u;
     w2c_l20 = w2c_i0;
-    w2c_i0 = w2c_l14;
+    w2c_i0 = w2c_l15;
     w2c_l22 = w2c_i0;
-    w2c_i0 = w2c_l14;
+    w2c_i0 = w2c_l15;
     switch (w2c_i0) {
-      case 0: goto w2c_B60;
-      case 1: goto w2c_B47;
-      case 2: goto w2c_B59;
-      case 3: goto w2c_B59;
-      case 4: goto w2c_B59;
-      case 5: goto w2c_B32;
-      case 6: goto w2c_B59;
-      case 7: goto w2c_B59;
-      case 8: goto w2c_B59;
-      case 9: goto w2c_B59;
-      case 10: goto w2c_B59;
-      case 11: goto w2c_B59;
-      case 12: goto w2c_B59;
-      case 13: goto w2c_B59;
-      case 14: goto w2c_B59;
-      default: goto w2c_B60;
+      case 0: goto w2c_B48;
+      case 1: goto w2c_B35;
+      case 2: goto w2c_B47;
+      case 3: goto w2c_B47;
+      case 4: goto w2c_B47;
+      case 5: goto w2c_B20;
+      case 6: goto w2c_B47;
+      case 7: goto w2c_B47;
+      case 8: goto w2c_B47;
+      case 9: goto w2c_B47;
+      case 10: goto w2c_B47;
+      case 11: goto w2c_B47;
+      case 12: goto w2c_B47;
+      case 13: goto w2c_B47;
+      case 14: goto w2c_B47;
+      default: goto w2c_B48;
     }
-    w2c_B60:;
-    w2c_i0 = w2c_l17;
+    w2c_B48:;
+    w2c_i0 = w2c_l19;
     w2c_i1 = 2u;
     w2c_i0 |= w2c_i1;
-    w2c_l19 = w2c_i0;
-    w2c_i0 = 1u;
-    w2c_l15 = w2c_i0;
-    w2c_i0 = 9u;
     w2c_l16 = w2c_i0;
-    goto w2c_B25;
-    w2c_B59:;
     w2c_i0 = 1u;
-    w2c_l15 = w2c_i0;
-    w2c_i0 = w2c_l14;
+    w2c_l17 = w2c_i0;
+    w2c_i0 = 9u;
+    w2c_l18 = w2c_i0;
+    goto w2c_B13;
+    w2c_B47:;
+    w2c_i0 = 1u;
+    w2c_l17 = w2c_i0;
+    w2c_i0 = w2c_l15;
     w2c_i1 = 6u;
     w2c_i0 = w2c_i0 == w2c_i1;
-    if (w2c_i0) {goto w2c_B39;}
-    w2c_i0 = w2c_l14;
+    if (w2c_i0) {goto w2c_B27;}
+    w2c_i0 = w2c_l15;
     w2c_i1 = 7u;
     w2c_i0 = w2c_i0 == w2c_i1;
-    if (w2c_i0) {goto w2c_B30;}
-    goto w2c_B32;
-    w2c_B54:;
+    if (w2c_i0) {goto w2c_B18;}
+    goto w2c_B20;
+    w2c_B42:;
     w2c_i0 = 3u;
     w2c_l21 = w2c_i0;
     w2c_i0 = 4u;
     w2c_l22 = w2c_i0;
     w2c_i0 = 10u;
     w2c_l20 = w2c_i0;
-    w2c_i0 = w2c_l14;
+    w2c_i0 = w2c_l15;
     switch (w2c_i0) {
-      case 0: goto w2c_B62;
-      case 1: goto w2c_B47;
-      case 2: goto w2c_B61;
-      case 3: goto w2c_B61;
-      case 4: goto w2c_B61;
-      case 5: goto w2c_B32;
-      case 6: goto w2c_B61;
-      case 7: goto w2c_B61;
-      case 8: goto w2c_B61;
-      case 9: goto w2c_B61;
-      case 10: goto w2c_B61;
-      case 11: goto w2c_B61;
-      case 12: goto w2c_B61;
-      case 13: goto w2c_B61;
-      case 14: goto w2c_B61;
-      default: goto w2c_B62;
+      case 0: goto w2c_B50;
+      case 1: goto w2c_B35;
+      case 2: goto w2c_B49;
+      case 3: goto w2c_B49;
+      case 4: goto w2c_B49;
+      case 5: goto w2c_B20;
+      case 6: goto w2c_B49;
+      case 7: goto w2c_B49;
+      case 8: goto w2c_B49;
+      case 9: goto w2c_B49;
+      case 10: goto w2c_B49;
+      case 11: goto w2c_B49;
+      case 12: goto w2c_B49;
+      case 13: goto w2c_B49;
+      case 14: goto w2c_B49;
+      default: goto w2c_B50;
     }
-    w2c_B62:;
+    w2c_B50:;
     w2c_i0 = 3u;
-    w2c_l19 = w2c_i0;
-    w2c_i0 = w2c_l17;
+    w2c_l16 = w2c_i0;
+    w2c_i0 = w2c_l19;
     w2c_i1 = 3u;
     w2c_i0 ^= w2c_i1;
-    w2c_l15 = w2c_i0;
+    w2c_l17 = w2c_i0;
     w2c_i0 = 9u;
-    w2c_l16 = w2c_i0;
-    goto w2c_B25;
-    w2c_B61:;
+    w2c_l18 = w2c_i0;
+    goto w2c_B13;
+    w2c_B49:;
     w2c_i0 = 1u;
-    w2c_l15 = w2c_i0;
+    w2c_l17 = w2c_i0;
     w2c_i0 = 8u;
-    w2c_l16 = w2c_i0;
-    w2c_i0 = w2c_l14;
+    w2c_l18 = w2c_i0;
+    w2c_i0 = w2c_l15;
     w2c_i1 = 5u;
     w2c_i0 = w2c_i0 == w2c_i1;
-    if (w2c_i0) {goto w2c_B26;}
-    w2c_i0 = w2c_l14;
+    if (w2c_i0) {goto w2c_B14;}
+    w2c_i0 = w2c_l15;
     w2c_i1 = 7u;
     w2c_i0 = w2c_i0 == w2c_i1;
-    if (w2c_i0) {goto w2c_B30;}
-    goto w2c_B32;
-    w2c_B53:;
+    if (w2c_i0) {goto w2c_B18;}
+    goto w2c_B20;
+    w2c_B41:;
     w2c_i0 = 1u;
-    w2c_l15 = w2c_i0;
+    w2c_l17 = w2c_i0;
     w2c_i0 = 3u;
     w2c_l21 = w2c_i0;
     w2c_i0 = 5u;
     w2c_l22 = w2c_i0;
     w2c_i0 = 10u;
     w2c_l20 = w2c_i0;
-    w2c_i0 = w2c_l14;
+    w2c_i0 = w2c_l15;
     switch (w2c_i0) {
-      case 0: goto w2c_B63;
-      case 1: goto w2c_B47;
-      case 2: goto w2c_B32;
-      case 3: goto w2c_B32;
-      case 4: goto w2c_B32;
-      case 5: goto w2c_B32;
-      case 6: goto w2c_B32;
-      case 7: goto w2c_B30;
-      case 8: goto w2c_B32;
-      case 9: goto w2c_B32;
-      case 10: goto w2c_B32;
-      case 11: goto w2c_B32;
-      case 12: goto w2c_B32;
-      case 13: goto w2c_B32;
-      case 14: goto w2c_B32;
-      default: goto w2c_B63;
+      case 0: goto w2c_B51;
+      case 1: goto w2c_B35;
+      case 2: goto w2c_B20;
+      case 3: goto w2c_B20;
+      case 4: goto w2c_B20;
+      case 5: goto w2c_B20;
+      case 6: goto w2c_B20;
+      case 7: goto w2c_B18;
+      case 8: goto w2c_B20;
+      case 9: goto w2c_B20;
+      case 10: goto w2c_B20;
+      case 11: goto w2c_B20;
+      case 12: goto w2c_B20;
+      case 13: goto w2c_B20;
+      case 14: goto w2c_B20;
+      default: goto w2c_B51;
     }
-    w2c_B63:;
-    w2c_i0 = w2c_l17;
-    w2c_i1 = 2u;
-    w2c_i0 |= w2c_i1;
-    w2c_l19 = w2c_i0;
-    w2c_i0 = 5u;
-    w2c_l15 = w2c_i0;
-    w2c_i0 = 9u;
-    w2c_l16 = w2c_i0;
-    goto w2c_B25;
-    w2c_B52:;
-    w2c_i0 = w2c_l14;
-    w2c_i1 = 1u;
-    w2c_i0 = w2c_i0 != w2c_i1;
-    if (w2c_i0) {goto w2c_B32;}
-    w2c_i0 = 11u;
-    w2c_l20 = w2c_i0;
-    w2c_i0 = w2c_l17;
-    w2c_l22 = w2c_i0;
-    w2c_i0 = w2c_l19;
-    w2c_l21 = w2c_i0;
-    goto w2c_B47;
     w2c_B51:;
     w2c_i0 = w2c_l19;
-    w2c_j0 = (u64)(w2c_i0);
-    w2c_j1 = 255ull;
-    w2c_j0 &= w2c_j1;
-    w2c_i0 = (u32)(w2c_j0);
-    switch (w2c_i0) {
-      case 0: goto w2c_B64;
-      case 1: goto w2c_B44;
-      case 2: goto w2c_B42;
-      case 3: goto w2c_B33;
-      default: goto w2c_B64;
-    }
-    w2c_B64:;
-    w2c_i0 = w2c_l17;
-    w2c_j0 = (u64)(w2c_i0);
-    w2c_j1 = 255ull;
-    w2c_j0 &= w2c_j1;
-    w2c_i0 = (u32)(w2c_j0);
-    switch (w2c_i0) {
-      case 0: goto w2c_B69;
-      case 1: goto w2c_B66;
-      case 2: goto w2c_B68;
-      case 3: goto w2c_B68;
-      case 4: goto w2c_B67;
-      case 5: goto w2c_B65;
-      default: goto w2c_B69;
-    }
-    w2c_B69:;
-    w2c_i0 = 0u;
-    w2c_l15 = w2c_i0;
-    w2c_i0 = 6u;
+    w2c_i1 = 2u;
+    w2c_i0 |= w2c_i1;
     w2c_l16 = w2c_i0;
-    w2c_i0 = w2c_l14;
+    w2c_i0 = 5u;
+    w2c_l17 = w2c_i0;
+    w2c_i0 = 9u;
+    w2c_l18 = w2c_i0;
+    goto w2c_B13;
+    w2c_B40:;
+    w2c_i0 = w2c_l15;
+    w2c_i1 = 1u;
+    w2c_i0 = w2c_i0 != w2c_i1;
+    if (w2c_i0) {goto w2c_B20;}
+    w2c_i0 = 11u;
+    w2c_l20 = w2c_i0;
+    w2c_i0 = w2c_l19;
+    w2c_l22 = w2c_i0;
+    w2c_i0 = w2c_l16;
+    w2c_l21 = w2c_i0;
+    goto w2c_B35;
+    w2c_B39:;
+    w2c_i0 = w2c_l16;
+    w2c_j0 = (u64)(w2c_i0);
+    w2c_j1 = 255ull;
+    w2c_j0 &= w2c_j1;
+    w2c_i0 = (u32)(w2c_j0);
     switch (w2c_i0) {
-      case 0: goto w2c_B32;
+      case 0: goto w2c_B52;
       case 1: goto w2c_B32;
-      case 2: goto w2c_B32;
-      case 3: goto w2c_B32;
-      case 4: goto w2c_B32;
-      case 5: goto w2c_B26;
-      case 6: goto w2c_B39;
-      case 7: goto w2c_B30;
-      case 8: goto w2c_B32;
-      case 9: goto w2c_B32;
-      case 10: goto w2c_B32;
-      case 11: goto w2c_B32;
-      case 12: goto w2c_B32;
-      case 13: goto w2c_B32;
-      case 14: goto w2c_B32;
-      default: goto w2c_B32;
+      case 2: goto w2c_B30;
+      case 3: goto w2c_B21;
+      default: goto w2c_B52;
     }
-    w2c_B68:;
-    w2c_i0 = 0u;
-    w2c_l15 = w2c_i0;
-    w2c_i0 = 8u;
-    w2c_l16 = w2c_i0;
-    w2c_i0 = w2c_l14;
-    w2c_i1 = 5u;
-    w2c_i0 = w2c_i0 == w2c_i1;
-    if (w2c_i0) {goto w2c_B26;}
-    w2c_i0 = w2c_l14;
-    w2c_i1 = 7u;
-    w2c_i0 = w2c_i0 == w2c_i1;
-    if (w2c_i0) {goto w2c_B30;}
-    goto w2c_B32;
-    w2c_B67:;
-    w2c_i0 = w2c_l14;
-    w2c_i1 = 5u;
-    w2c_i0 = w2c_i0 != w2c_i1;
-    if (w2c_i0) {goto w2c_B32;}
-    goto w2c_B28;
-    w2c_B66:;
-    w2c_i0 = 0u;
-    w2c_l15 = w2c_i0;
-    w2c_i0 = w2c_l14;
-    w2c_i1 = 6u;
-    w2c_i0 = w2c_i0 == w2c_i1;
-    if (w2c_i0) {goto w2c_B39;}
-    w2c_i0 = w2c_l14;
-    w2c_i1 = 7u;
-    w2c_i0 = w2c_i0 == w2c_i1;
-    if (w2c_i0) {goto w2c_B30;}
-    goto w2c_B32;
-    w2c_B65:;
-    w2c_i0 = w2c_l14;
-    w2c_i1 = 7u;
-    w2c_i0 = w2c_i0 != w2c_i1;
-    if (w2c_i0) {goto w2c_B32;}
-    w2c_i0 = 0u;
-    w2c_l15 = w2c_i0;
-    goto w2c_B30;
-    w2c_B50:;
+    w2c_B52:;
     w2c_i0 = w2c_l19;
     w2c_j0 = (u64)(w2c_i0);
     w2c_j1 = 255ull;
     w2c_j0 &= w2c_j1;
     w2c_i0 = (u32)(w2c_j0);
     switch (w2c_i0) {
-      case 0: goto w2c_B70;
-      case 1: goto w2c_B71;
-      case 2: goto w2c_B72;
-      case 3: goto w2c_B73;
-      default: goto w2c_B70;
+      case 0: goto w2c_B57;
+      case 1: goto w2c_B54;
+      case 2: goto w2c_B56;
+      case 3: goto w2c_B56;
+      case 4: goto w2c_B55;
+      case 5: goto w2c_B53;
+      default: goto w2c_B57;
     }
-    w2c_B73:;
-    w2c_i0 = w2c_l14;
+    w2c_B57:;
+    w2c_i0 = 0u;
+    w2c_l17 = w2c_i0;
+    w2c_i0 = 6u;
+    w2c_l18 = w2c_i0;
+    w2c_i0 = w2c_l15;
+    switch (w2c_i0) {
+      case 0: goto w2c_B20;
+      case 1: goto w2c_B20;
+      case 2: goto w2c_B20;
+      case 3: goto w2c_B20;
+      case 4: goto w2c_B20;
+      case 5: goto w2c_B14;
+      case 6: goto w2c_B27;
+      case 7: goto w2c_B18;
+      case 8: goto w2c_B20;
+      case 9: goto w2c_B20;
+      case 10: goto w2c_B20;
+      case 11: goto w2c_B20;
+      case 12: goto w2c_B20;
+      case 13: goto w2c_B20;
+      case 14: goto w2c_B20;
+      default: goto w2c_B20;
+    }
+    w2c_B56:;
+    w2c_i0 = 0u;
+    w2c_l17 = w2c_i0;
+    w2c_i0 = 8u;
+    w2c_l18 = w2c_i0;
+    w2c_i0 = w2c_l15;
+    w2c_i1 = 5u;
+    w2c_i0 = w2c_i0 == w2c_i1;
+    if (w2c_i0) {goto w2c_B14;}
+    w2c_i0 = w2c_l15;
+    w2c_i1 = 7u;
+    w2c_i0 = w2c_i0 == w2c_i1;
+    if (w2c_i0) {goto w2c_B18;}
+    goto w2c_B20;
+    w2c_B55:;
+    w2c_i0 = w2c_l15;
+    w2c_i1 = 5u;
+    w2c_i0 = w2c_i0 != w2c_i1;
+    if (w2c_i0) {goto w2c_B20;}
+    goto w2c_B16;
+    w2c_B54:;
+    w2c_i0 = 0u;
+    w2c_l17 = w2c_i0;
+    w2c_i0 = w2c_l15;
+    w2c_i1 = 6u;
+    w2c_i0 = w2c_i0 == w2c_i1;
+    if (w2c_i0) {goto w2c_B27;}
+    w2c_i0 = w2c_l15;
+    w2c_i1 = 7u;
+    w2c_i0 = w2c_i0 == w2c_i1;
+    if (w2c_i0) {goto w2c_B18;}
+    goto w2c_B20;
+    w2c_B53:;
+    w2c_i0 = w2c_l15;
+    w2c_i1 = 7u;
+    w2c_i0 = w2c_i0 != w2c_i1;
+    if (w2c_i0) {goto w2c_B20;}
+    w2c_i0 = 0u;
+    w2c_l17 = w2c_i0;
+    goto w2c_B18;
+    w2c_B38:;
+    w2c_i0 = w2c_l16;
+    w2c_j0 = (u64)(w2c_i0);
+    w2c_j1 = 255ull;
+    w2c_j0 &= w2c_j1;
+    w2c_i0 = (u32)(w2c_j0);
+    switch (w2c_i0) {
+      case 0: goto w2c_B58;
+      case 1: goto w2c_B59;
+      case 2: goto w2c_B60;
+      case 3: goto w2c_B61;
+      default: goto w2c_B58;
+    }
+    w2c_B61:;
+    w2c_i0 = w2c_l15;
     w2c_i1 = 4294967291u;
     w2c_i0 += w2c_i1;
     w2c_i1 = 10u;
     w2c_i0 = w2c_i0 < w2c_i1;
-    if (w2c_i0) {goto w2c_B74;}
-    w2c_i0 = w2c_l17;
-    w2c_l15 = w2c_i0;
-    w2c_i0 = w2c_l14;
+    if (w2c_i0) {goto w2c_B62;}
+    w2c_i0 = w2c_l19;
+    w2c_l17 = w2c_i0;
+    w2c_i0 = w2c_l15;
     switch (w2c_i0) {
-      case 0: goto w2c_B74;
-      case 1: goto w2c_B74;
-      case 2: goto w2c_B43;
-      case 3: goto w2c_B41;
-      case 4: goto w2c_B40;
-      default: goto w2c_B74;
+      case 0: goto w2c_B62;
+      case 1: goto w2c_B62;
+      case 2: goto w2c_B31;
+      case 3: goto w2c_B29;
+      case 4: goto w2c_B28;
+      default: goto w2c_B62;
     }
+    w2c_B62:;
+    w2c_i0 = w2c_l19;
+    w2c_j0 = (u64)(w2c_i0);
+    w2c_j1 = 255ull;
+    w2c_j0 &= w2c_j1;
+    w2c_i0 = (u32)(w2c_j0);
+    switch (w2c_i0) {
+      case 0: goto w2c_B67;
+      case 1: goto w2c_B64;
+      case 2: goto w2c_B66;
+      case 3: goto w2c_B66;
+      case 4: goto w2c_B65;
+      case 5: goto w2c_B63;
+      default: goto w2c_B67;
+    }
+    w2c_B67:;
+    w2c_i0 = 0u;
+    w2c_l17 = w2c_i0;
+    w2c_i0 = 6u;
+    w2c_l18 = w2c_i0;
+    w2c_i0 = w2c_l15;
+    switch (w2c_i0) {
+      case 0: goto w2c_B20;
+      case 1: goto w2c_B20;
+      case 2: goto w2c_B20;
+      case 3: goto w2c_B20;
+      case 4: goto w2c_B20;
+      case 5: goto w2c_B14;
+      case 6: goto w2c_B27;
+      case 7: goto w2c_B18;
+      case 8: goto w2c_B20;
+      case 9: goto w2c_B20;
+      case 10: goto w2c_B20;
+      case 11: goto w2c_B20;
+      case 12: goto w2c_B20;
+      case 13: goto w2c_B20;
+      case 14: goto w2c_B20;
+      default: goto w2c_B20;
+    }
+    w2c_B66:;
+    w2c_i0 = 0u;
+    w2c_l17 = w2c_i0;
+    w2c_i0 = 8u;
+    w2c_l18 = w2c_i0;
+    w2c_i0 = w2c_l15;
+    w2c_i1 = 5u;
+    w2c_i0 = w2c_i0 == w2c_i1;
+    if (w2c_i0) {goto w2c_B14;}
+    w2c_i0 = w2c_l15;
+    w2c_i1 = 7u;
+    w2c_i0 = w2c_i0 == w2c_i1;
+    if (w2c_i0) {goto w2c_B18;}
+    goto w2c_B20;
+    w2c_B65:;
+    w2c_i0 = w2c_l15;
+    w2c_i1 = 5u;
+    w2c_i0 = w2c_i0 == w2c_i1;
+    if (w2c_i0) {goto w2c_B16;}
+    goto w2c_B20;
+    w2c_B64:;
+    w2c_i0 = 0u;
+    w2c_l17 = w2c_i0;
+    w2c_i0 = w2c_l15;
+    w2c_i1 = 6u;
+    w2c_i0 = w2c_i0 == w2c_i1;
+    if (w2c_i0) {goto w2c_B27;}
+    w2c_i0 = w2c_l15;
+    w2c_i1 = 7u;
+    w2c_i0 = w2c_i0 == w2c_i1;
+    if (w2c_i0) {goto w2c_B18;}
+    goto w2c_B20;
+    w2c_B63:;
+    w2c_i0 = w2c_l15;
+    w2c_i1 = 7u;
+    w2c_i0 = w2c_i0 != w2c_i1;
+    if (w2c_i0) {goto w2c_B20;}
+    w2c_i0 = 0u;
+    w2c_l17 = w2c_i0;
+    goto w2c_B18;
+    w2c_B60:;
+    w2c_i0 = w2c_l15;
+    w2c_i1 = 4294967292u;
+    w2c_i0 += w2c_i1;
+    w2c_i1 = 11u;
+    w2c_i0 = w2c_i0 < w2c_i1;
+    if (w2c_i0) {goto w2c_B68;}
+    w2c_i0 = w2c_l19;
+    w2c_l17 = w2c_i0;
+    w2c_i0 = w2c_l15;
+    switch (w2c_i0) {
+      case 0: goto w2c_B68;
+      case 1: goto w2c_B68;
+      case 2: goto w2c_B31;
+      case 3: goto w2c_B29;
+      default: goto w2c_B68;
+    }
+    w2c_B68:;
+    w2c_i0 = w2c_l19;
+    w2c_j0 = (u64)(w2c_i0);
+    w2c_j1 = 255ull;
+    w2c_j0 &= w2c_j1;
+    w2c_i0 = (u32)(w2c_j0);
+    switch (w2c_i0) {
+      case 0: goto w2c_B73;
+      case 1: goto w2c_B70;
+      case 2: goto w2c_B72;
+      case 3: goto w2c_B72;
+      case 4: goto w2c_B71;
+      case 5: goto w2c_B69;
+      default: goto w2c_B73;
+    }
+    w2c_B73:;
+    w2c_i0 = 0u;
+    w2c_l17 = w2c_i0;
+    w2c_i0 = 6u;
+    w2c_l18 = w2c_i0;
+    w2c_i0 = w2c_l15;
+    switch (w2c_i0) {
+      case 0: goto w2c_B20;
+      case 1: goto w2c_B20;
+      case 2: goto w2c_B20;
+      case 3: goto w2c_B20;
+      case 4: goto w2c_B20;
+      case 5: goto w2c_B14;
+      case 6: goto w2c_B27;
+      case 7: goto w2c_B18;
+      case 8: goto w2c_B20;
+      case 9: goto w2c_B20;
+      case 10: goto w2c_B20;
+      case 11: goto w2c_B20;
+      case 12: goto w2c_B20;
+      case 13: goto w2c_B20;
+      case 14: goto w2c_B20;
+      default: goto w2c_B20;
+    }
+    w2c_B72:;
+    w2c_i0 = 0u;
+    w2c_l17 = w2c_i0;
+    w2c_i0 = 8u;
+    w2c_l18 = w2c_i0;
+    w2c_i0 = w2c_l15;
+    w2c_i1 = 5u;
+    w2c_i0 = w2c_i0 == w2c_i1;
+    if (w2c_i0) {goto w2c_B14;}
+    w2c_i0 = w2c_l15;
+    w2c_i1 = 7u;
+    w2c_i0 = w2c_i0 == w2c_i1;
+    if (w2c_i0) {goto w2c_B18;}
+    goto w2c_B20;
+    w2c_B71:;
+    w2c_i0 = w2c_l15;
+    w2c_i1 = 5u;
+    w2c_i0 = w2c_i0 == w2c_i1;
+    if (w2c_i0) {goto w2c_B16;}
+    goto w2c_B20;
+    w2c_B70:;
+    w2c_i0 = 0u;
+    w2c_l17 = w2c_i0;
+    w2c_i0 = w2c_l15;
+    w2c_i1 = 6u;
+    w2c_i0 = w2c_i0 == w2c_i1;
+    if (w2c_i0) {goto w2c_B27;}
+    w2c_i0 = w2c_l15;
+    w2c_i1 = 7u;
+    w2c_i0 = w2c_i0 == w2c_i1;
+    if (w2c_i0) {goto w2c_B18;}
+    goto w2c_B20;
+    w2c_B69:;
+    w2c_i0 = w2c_l15;
+    w2c_i1 = 7u;
+    w2c_i0 = w2c_i0 != w2c_i1;
+    if (w2c_i0) {goto w2c_B20;}
+    w2c_i0 = 0u;
+    w2c_l17 = w2c_i0;
+    goto w2c_B18;
+    w2c_B59:;
+    w2c_i0 = w2c_l15;
+    w2c_i1 = 2u;
+    w2c_i0 = w2c_i0 != w2c_i1;
+    if (w2c_i0) {goto w2c_B74;}
+    w2c_i0 = w2c_l19;
+    w2c_l17 = w2c_i0;
+    goto w2c_B31;
     w2c_B74:;
-    w2c_i0 = w2c_l17;
+    w2c_i0 = w2c_l19;
     w2c_j0 = (u64)(w2c_i0);
     w2c_j1 = 255ull;
     w2c_j0 &= w2c_j1;
@@ -43108,370 +43305,382 @@ static u32 w2c_f62(module *m, u64 w2c_p0, u64 w2c_p1, u64 w2c_p2) {
     }
     w2c_B79:;
     w2c_i0 = 0u;
-    w2c_l15 = w2c_i0;
+    w2c_l17 = w2c_i0;
     w2c_i0 = 6u;
-    w2c_l16 = w2c_i0;
-    w2c_i0 = w2c_l14;
+    w2c_l18 = w2c_i0;
+    w2c_i0 = w2c_l15;
     switch (w2c_i0) {
-      case 0: goto w2c_B32;
-      case 1: goto w2c_B32;
-      case 2: goto w2c_B32;
-      case 3: goto w2c_B32;
-      case 4: goto w2c_B32;
-      case 5: goto w2c_B26;
-      case 6: goto w2c_B39;
-      case 7: goto w2c_B30;
-      case 8: goto w2c_B32;
-      case 9: goto w2c_B32;
-      case 10: goto w2c_B32;
-      case 11: goto w2c_B32;
-      case 12: goto w2c_B32;
-      case 13: goto w2c_B32;
-      case 14: goto w2c_B32;
-      default: goto w2c_B32;
+      case 0: goto w2c_B20;
+      case 1: goto w2c_B20;
+      case 2: goto w2c_B0;
+      case 3: goto w2c_B20;
+      case 4: goto w2c_B20;
+      case 5: goto w2c_B14;
+      case 6: goto w2c_B27;
+      case 7: goto w2c_B18;
+      case 8: goto w2c_B20;
+      case 9: goto w2c_B20;
+      case 10: goto w2c_B20;
+      case 11: goto w2c_B20;
+      case 12: goto w2c_B20;
+      case 13: goto w2c_B20;
+      case 14: goto w2c_B20;
+      default: goto w2c_B20;
     }
     w2c_B78:;
     w2c_i0 = 0u;
-    w2c_l15 = w2c_i0;
+    w2c_l17 = w2c_i0;
     w2c_i0 = 8u;
-    w2c_l16 = w2c_i0;
-    w2c_i0 = w2c_l14;
+    w2c_l18 = w2c_i0;
+    w2c_i0 = w2c_l15;
     w2c_i1 = 5u;
     w2c_i0 = w2c_i0 == w2c_i1;
-    if (w2c_i0) {goto w2c_B26;}
-    w2c_i0 = w2c_l14;
+    if (w2c_i0) {goto w2c_B14;}
+    w2c_i0 = w2c_l15;
     w2c_i1 = 7u;
     w2c_i0 = w2c_i0 == w2c_i1;
-    if (w2c_i0) {goto w2c_B30;}
-    goto w2c_B32;
+    if (w2c_i0) {goto w2c_B18;}
+    goto w2c_B20;
     w2c_B77:;
-    w2c_i0 = w2c_l14;
+    w2c_i0 = w2c_l15;
     w2c_i1 = 5u;
     w2c_i0 = w2c_i0 == w2c_i1;
-    if (w2c_i0) {goto w2c_B28;}
-    goto w2c_B32;
+    if (w2c_i0) {goto w2c_B16;}
+    goto w2c_B20;
     w2c_B76:;
     w2c_i0 = 0u;
-    w2c_l15 = w2c_i0;
-    w2c_i0 = w2c_l14;
+    w2c_l17 = w2c_i0;
+    w2c_i0 = w2c_l15;
     w2c_i1 = 6u;
     w2c_i0 = w2c_i0 == w2c_i1;
-    if (w2c_i0) {goto w2c_B39;}
-    w2c_i0 = w2c_l14;
+    if (w2c_i0) {goto w2c_B27;}
+    w2c_i0 = w2c_l15;
     w2c_i1 = 7u;
     w2c_i0 = w2c_i0 == w2c_i1;
-    if (w2c_i0) {goto w2c_B30;}
-    goto w2c_B32;
+    if (w2c_i0) {goto w2c_B18;}
+    goto w2c_B20;
     w2c_B75:;
-    w2c_i0 = w2c_l14;
+    w2c_i0 = w2c_l15;
     w2c_i1 = 7u;
     w2c_i0 = w2c_i0 != w2c_i1;
-    if (w2c_i0) {goto w2c_B32;}
+    if (w2c_i0) {goto w2c_B20;}
     w2c_i0 = 0u;
-    w2c_l15 = w2c_i0;
-    goto w2c_B30;
-    w2c_B72:;
-    w2c_i0 = w2c_l14;
-    w2c_i1 = 4294967292u;
-    w2c_i0 += w2c_i1;
-    w2c_i1 = 11u;
-    w2c_i0 = w2c_i0 < w2c_i1;
-    if (w2c_i0) {goto w2c_B80;}
-    w2c_i0 = w2c_l17;
-    w2c_l15 = w2c_i0;
-    w2c_i0 = w2c_l14;
-    switch (w2c_i0) {
-      case 0: goto w2c_B80;
-      case 1: goto w2c_B80;
-      case 2: goto w2c_B43;
-      case 3: goto w2c_B41;
-      default: goto w2c_B80;
-    }
-    w2c_B80:;
-    w2c_i0 = w2c_l17;
-    w2c_j0 = (u64)(w2c_i0);
-    w2c_j1 = 255ull;
-    w2c_j0 &= w2c_j1;
-    w2c_i0 = (u32)(w2c_j0);
-    switch (w2c_i0) {
-      case 0: goto w2c_B85;
-      case 1: goto w2c_B82;
-      case 2: goto w2c_B84;
-      case 3: goto w2c_B84;
-      case 4: goto w2c_B83;
-      case 5: goto w2c_B81;
-      default: goto w2c_B85;
-    }
-    w2c_B85:;
-    w2c_i0 = 0u;
-    w2c_l15 = w2c_i0;
-    w2c_i0 = 6u;
-    w2c_l16 = w2c_i0;
-    w2c_i0 = w2c_l14;
-    switch (w2c_i0) {
-      case 0: goto w2c_B32;
-      case 1: goto w2c_B32;
-      case 2: goto w2c_B32;
-      case 3: goto w2c_B32;
-      case 4: goto w2c_B32;
-      case 5: goto w2c_B26;
-      case 6: goto w2c_B39;
-      case 7: goto w2c_B30;
-      case 8: goto w2c_B32;
-      case 9: goto w2c_B32;
-      case 10: goto w2c_B32;
-      case 11: goto w2c_B32;
-      case 12: goto w2c_B32;
-      case 13: goto w2c_B32;
-      case 14: goto w2c_B32;
-      default: goto w2c_B32;
-    }
-    w2c_B84:;
-    w2c_i0 = 0u;
-    w2c_l15 = w2c_i0;
-    w2c_i0 = 8u;
-    w2c_l16 = w2c_i0;
-    w2c_i0 = w2c_l14;
-    w2c_i1 = 5u;
-    w2c_i0 = w2c_i0 == w2c_i1;
-    if (w2c_i0) {goto w2c_B26;}
-    w2c_i0 = w2c_l14;
-    w2c_i1 = 7u;
-    w2c_i0 = w2c_i0 == w2c_i1;
-    if (w2c_i0) {goto w2c_B30;}
-    goto w2c_B32;
-    w2c_B83:;
-    w2c_i0 = w2c_l14;
-    w2c_i1 = 5u;
-    w2c_i0 = w2c_i0 == w2c_i1;
-    if (w2c_i0) {goto w2c_B28;}
-    goto w2c_B32;
-    w2c_B82:;
-    w2c_i0 = 0u;
-    w2c_l15 = w2c_i0;
-    w2c_i0 = w2c_l14;
-    w2c_i1 = 6u;
-    w2c_i0 = w2c_i0 == w2c_i1;
-    if (w2c_i0) {goto w2c_B39;}
-    w2c_i0 = w2c_l14;
-    w2c_i1 = 7u;
-    w2c_i0 = w2c_i0 == w2c_i1;
-    if (w2c_i0) {goto w2c_B30;}
-    goto w2c_B32;
-    w2c_B81:;
-    w2c_i0 = w2c_l14;
-    w2c_i1 = 7u;
-    w2c_i0 = w2c_i0 != w2c_i1;
-    if (w2c_i0) {goto w2c_B32;}
-    w2c_i0 = 0u;
-    w2c_l15 = w2c_i0;
-    goto w2c_B30;
-    w2c_B71:;
-    w2c_i0 = w2c_l14;
-    w2c_i1 = 2u;
-    w2c_i0 = w2c_i0 != w2c_i1;
-    if (w2c_i0) {goto w2c_B86;}
-    w2c_i0 = w2c_l17;
-    w2c_l15 = w2c_i0;
-    goto w2c_B43;
-    w2c_B86:;
-    w2c_i0 = w2c_l17;
-    w2c_j0 = (u64)(w2c_i0);
-    w2c_j1 = 255ull;
-    w2c_j0 &= w2c_j1;
-    w2c_i0 = (u32)(w2c_j0);
-    switch (w2c_i0) {
-      case 0: goto w2c_B91;
-      case 1: goto w2c_B88;
-      case 2: goto w2c_B90;
-      case 3: goto w2c_B90;
-      case 4: goto w2c_B89;
-      case 5: goto w2c_B87;
-      default: goto w2c_B91;
-    }
-    w2c_B91:;
-    w2c_i0 = 0u;
-    w2c_l15 = w2c_i0;
-    w2c_i0 = 6u;
-    w2c_l16 = w2c_i0;
-    w2c_i0 = w2c_l14;
-    switch (w2c_i0) {
-      case 0: goto w2c_B32;
-      case 1: goto w2c_B32;
-      case 2: goto w2c_B0;
-      case 3: goto w2c_B32;
-      case 4: goto w2c_B32;
-      case 5: goto w2c_B26;
-      case 6: goto w2c_B39;
-      case 7: goto w2c_B30;
-      case 8: goto w2c_B32;
-      case 9: goto w2c_B32;
-      case 10: goto w2c_B32;
-      case 11: goto w2c_B32;
-      case 12: goto w2c_B32;
-      case 13: goto w2c_B32;
-      case 14: goto w2c_B32;
-      default: goto w2c_B32;
-    }
-    w2c_B90:;
-    w2c_i0 = 0u;
-    w2c_l15 = w2c_i0;
-    w2c_i0 = 8u;
-    w2c_l16 = w2c_i0;
-    w2c_i0 = w2c_l14;
-    w2c_i1 = 5u;
-    w2c_i0 = w2c_i0 == w2c_i1;
-    if (w2c_i0) {goto w2c_B26;}
-    w2c_i0 = w2c_l14;
-    w2c_i1 = 7u;
-    w2c_i0 = w2c_i0 == w2c_i1;
-    if (w2c_i0) {goto w2c_B30;}
-    goto w2c_B32;
-    w2c_B89:;
-    w2c_i0 = w2c_l14;
-    w2c_i1 = 5u;
-    w2c_i0 = w2c_i0 == w2c_i1;
-    if (w2c_i0) {goto w2c_B28;}
-    goto w2c_B32;
-    w2c_B88:;
-    w2c_i0 = 0u;
-    w2c_l15 = w2c_i0;
-    w2c_i0 = w2c_l14;
-    w2c_i1 = 6u;
-    w2c_i0 = w2c_i0 == w2c_i1;
-    if (w2c_i0) {goto w2c_B39;}
-    w2c_i0 = w2c_l14;
-    w2c_i1 = 7u;
-    w2c_i0 = w2c_i0 == w2c_i1;
-    if (w2c_i0) {goto w2c_B30;}
-    goto w2c_B32;
-    w2c_B87:;
-    w2c_i0 = w2c_l14;
-    w2c_i1 = 7u;
-    w2c_i0 = w2c_i0 != w2c_i1;
-    if (w2c_i0) {goto w2c_B32;}
-    w2c_i0 = 0u;
-    w2c_l15 = w2c_i0;
-    goto w2c_B30;
-    w2c_B70:;
-    w2c_i0 = w2c_l17;
-    w2c_j0 = (u64)(w2c_i0);
-    w2c_j1 = 255ull;
-    w2c_j0 &= w2c_j1;
-    w2c_i0 = (u32)(w2c_j0);
-    switch (w2c_i0) {
-      case 0: goto w2c_B96;
-      case 1: goto w2c_B93;
-      case 2: goto w2c_B95;
-      case 3: goto w2c_B95;
-      case 4: goto w2c_B94;
-      case 5: goto w2c_B92;
-      default: goto w2c_B96;
-    }
-    w2c_B96:;
-    w2c_i0 = 0u;
-    w2c_l15 = w2c_i0;
-    w2c_i0 = 6u;
-    w2c_l16 = w2c_i0;
-    w2c_i0 = w2c_l14;
-    switch (w2c_i0) {
-      case 0: goto w2c_B32;
-      case 1: goto w2c_B32;
-      case 2: goto w2c_B32;
-      case 3: goto w2c_B32;
-      case 4: goto w2c_B32;
-      case 5: goto w2c_B26;
-      case 6: goto w2c_B39;
-      case 7: goto w2c_B30;
-      case 8: goto w2c_B32;
-      case 9: goto w2c_B32;
-      case 10: goto w2c_B32;
-      case 11: goto w2c_B32;
-      case 12: goto w2c_B32;
-      case 13: goto w2c_B32;
-      case 14: goto w2c_B32;
-      default: goto w2c_B32;
-    }
-    w2c_B95:;
-    w2c_i0 = 0u;
-    w2c_l15 = w2c_i0;
-    w2c_i0 = 8u;
-    w2c_l16 = w2c_i0;
-    w2c_i0 = w2c_l14;
-    w2c_i1 = 5u;
-    w2c_i0 = w2c_i0 == w2c_i1;
-    if (w2c_i0) {goto w2c_B26;}
-    w2c_i0 = w2c_l14;
-    w2c_i1 = 7u;
-    w2c_i0 = w2c_i0 == w2c_i1;
-    if (w2c_i0) {goto w2c_B30;}
-    goto w2c_B32;
-    w2c_B94:;
-    w2c_i0 = w2c_l14;
-    w2c_i1 = 5u;
-    w2c_i0 = w2c_i0 == w2c_i1;
-    if (w2c_i0) {goto w2c_B28;}
-    goto w2c_B32;
-    w2c_B93:;
-    w2c_i0 = 0u;
-    w2c_l15 = w2c_i0;
-    w2c_i0 = w2c_l14;
-    w2c_i1 = 6u;
-    w2c_i0 = w2c_i0 == w2c_i1;
-    if (w2c_i0) {goto w2c_B39;}
-    w2c_i0 = w2c_l14;
-    w2c_i1 = 7u;
-    w2c_i0 = w2c_i0 == w2c_i1;
-    if (w2c_i0) {goto w2c_B30;}
-    goto w2c_B32;
-    w2c_B92:;
-    w2c_i0 = w2c_l14;
-    w2c_i1 = 7u;
-    w2c_i0 = w2c_i0 != w2c_i1;
-    if (w2c_i0) {goto w2c_B32;}
-    w2c_i0 = 0u;
-    w2c_l15 = w2c_i0;
-    goto w2c_B30;
-    w2c_B49:;
+    w2c_l17 = w2c_i0;
+    goto w2c_B18;
+    w2c_B58:;
     w2c_i0 = w2c_l19;
     w2c_j0 = (u64)(w2c_i0);
     w2c_j1 = 255ull;
     w2c_j0 &= w2c_j1;
     w2c_i0 = (u32)(w2c_j0);
     switch (w2c_i0) {
-      case 0: goto w2c_B97;
-      case 1: goto w2c_B98;
-      case 2: goto w2c_B99;
-      case 3: goto w2c_B100;
-      default: goto w2c_B97;
+      case 0: goto w2c_B84;
+      case 1: goto w2c_B81;
+      case 2: goto w2c_B83;
+      case 3: goto w2c_B83;
+      case 4: goto w2c_B82;
+      case 5: goto w2c_B80;
+      default: goto w2c_B84;
     }
-    w2c_B100:;
-    w2c_i0 = w2c_l14;
+    w2c_B84:;
+    w2c_i0 = 0u;
+    w2c_l17 = w2c_i0;
+    w2c_i0 = 6u;
+    w2c_l18 = w2c_i0;
+    w2c_i0 = w2c_l15;
+    switch (w2c_i0) {
+      case 0: goto w2c_B20;
+      case 1: goto w2c_B20;
+      case 2: goto w2c_B20;
+      case 3: goto w2c_B20;
+      case 4: goto w2c_B20;
+      case 5: goto w2c_B14;
+      case 6: goto w2c_B27;
+      case 7: goto w2c_B18;
+      case 8: goto w2c_B20;
+      case 9: goto w2c_B20;
+      case 10: goto w2c_B20;
+      case 11: goto w2c_B20;
+      case 12: goto w2c_B20;
+      case 13: goto w2c_B20;
+      case 14: goto w2c_B20;
+      default: goto w2c_B20;
+    }
+    w2c_B83:;
+    w2c_i0 = 0u;
+    w2c_l17 = w2c_i0;
+    w2c_i0 = 8u;
+    w2c_l18 = w2c_i0;
+    w2c_i0 = w2c_l15;
+    w2c_i1 = 5u;
+    w2c_i0 = w2c_i0 == w2c_i1;
+    if (w2c_i0) {goto w2c_B14;}
+    w2c_i0 = w2c_l15;
+    w2c_i1 = 7u;
+    w2c_i0 = w2c_i0 == w2c_i1;
+    if (w2c_i0) {goto w2c_B18;}
+    goto w2c_B20;
+    w2c_B82:;
+    w2c_i0 = w2c_l15;
+    w2c_i1 = 5u;
+    w2c_i0 = w2c_i0 == w2c_i1;
+    if (w2c_i0) {goto w2c_B16;}
+    goto w2c_B20;
+    w2c_B81:;
+    w2c_i0 = 0u;
+    w2c_l17 = w2c_i0;
+    w2c_i0 = w2c_l15;
+    w2c_i1 = 6u;
+    w2c_i0 = w2c_i0 == w2c_i1;
+    if (w2c_i0) {goto w2c_B27;}
+    w2c_i0 = w2c_l15;
+    w2c_i1 = 7u;
+    w2c_i0 = w2c_i0 == w2c_i1;
+    if (w2c_i0) {goto w2c_B18;}
+    goto w2c_B20;
+    w2c_B80:;
+    w2c_i0 = w2c_l15;
+    w2c_i1 = 7u;
+    w2c_i0 = w2c_i0 != w2c_i1;
+    if (w2c_i0) {goto w2c_B20;}
+    w2c_i0 = 0u;
+    w2c_l17 = w2c_i0;
+    goto w2c_B18;
+    w2c_B37:;
+    w2c_i0 = w2c_l16;
+    w2c_j0 = (u64)(w2c_i0);
+    w2c_j1 = 255ull;
+    w2c_j0 &= w2c_j1;
+    w2c_i0 = (u32)(w2c_j0);
+    switch (w2c_i0) {
+      case 0: goto w2c_B85;
+      case 1: goto w2c_B86;
+      case 2: goto w2c_B87;
+      case 3: goto w2c_B88;
+      default: goto w2c_B85;
+    }
+    w2c_B88:;
+    w2c_i0 = w2c_l15;
     w2c_i1 = 4294967294u;
     w2c_i0 += w2c_i1;
     w2c_i1 = 13u;
     w2c_i0 = w2c_i0 < w2c_i1;
-    if (w2c_i0) {goto w2c_B101;}
+    if (w2c_i0) {goto w2c_B89;}
     w2c_i0 = 1u;
-    w2c_l19 = w2c_i0;
-    w2c_i0 = 9u;
     w2c_l16 = w2c_i0;
+    w2c_i0 = 9u;
+    w2c_l18 = w2c_i0;
     w2c_i0 = 2u;
     w2c_l21 = w2c_i0;
     w2c_i0 = 10u;
     w2c_l20 = w2c_i0;
-    w2c_i0 = w2c_l17;
+    w2c_i0 = w2c_l19;
     w2c_l22 = w2c_i0;
-    w2c_i0 = w2c_l17;
-    w2c_l15 = w2c_i0;
-    w2c_i0 = w2c_l14;
+    w2c_i0 = w2c_l19;
+    w2c_l17 = w2c_i0;
+    w2c_i0 = w2c_l15;
     switch (w2c_i0) {
-      case 0: goto w2c_B25;
-      case 1: goto w2c_B47;
-      default: goto w2c_B25;
+      case 0: goto w2c_B13;
+      case 1: goto w2c_B35;
+      default: goto w2c_B13;
     }
+    w2c_B89:;
+    w2c_i0 = w2c_l19;
+    w2c_j0 = (u64)(w2c_i0);
+    w2c_j1 = 255ull;
+    w2c_j0 &= w2c_j1;
+    w2c_i0 = (u32)(w2c_j0);
+    switch (w2c_i0) {
+      case 0: goto w2c_B94;
+      case 1: goto w2c_B91;
+      case 2: goto w2c_B93;
+      case 3: goto w2c_B93;
+      case 4: goto w2c_B92;
+      case 5: goto w2c_B90;
+      default: goto w2c_B94;
+    }
+    w2c_B94:;
+    w2c_i0 = 1u;
+    w2c_l17 = w2c_i0;
+    w2c_i0 = 6u;
+    w2c_l18 = w2c_i0;
+    w2c_i0 = w2c_l15;
+    w2c_i1 = 4294967294u;
+    w2c_i0 += w2c_i1;
+    switch (w2c_i0) {
+      case 0: goto w2c_B20;
+      case 1: goto w2c_B20;
+      case 2: goto w2c_B20;
+      case 3: goto w2c_B14;
+      case 4: goto w2c_B27;
+      case 5: goto w2c_B18;
+      case 6: goto w2c_B20;
+      case 7: goto w2c_B20;
+      case 8: goto w2c_B20;
+      case 9: goto w2c_B20;
+      case 10: goto w2c_B20;
+      case 11: goto w2c_B20;
+      case 12: goto w2c_B20;
+      default: goto w2c_B20;
+    }
+    w2c_B93:;
+    w2c_i0 = 1u;
+    w2c_l17 = w2c_i0;
+    w2c_i0 = 8u;
+    w2c_l18 = w2c_i0;
+    w2c_i0 = w2c_l15;
+    w2c_i1 = 5u;
+    w2c_i0 = w2c_i0 == w2c_i1;
+    if (w2c_i0) {goto w2c_B14;}
+    w2c_i0 = w2c_l15;
+    w2c_i1 = 7u;
+    w2c_i0 = w2c_i0 == w2c_i1;
+    if (w2c_i0) {goto w2c_B18;}
+    goto w2c_B20;
+    w2c_B92:;
+    w2c_i0 = w2c_l15;
+    w2c_i1 = 5u;
+    w2c_i0 = w2c_i0 != w2c_i1;
+    if (w2c_i0) {goto w2c_B20;}
+    goto w2c_B17;
+    w2c_B91:;
+    w2c_i0 = 1u;
+    w2c_l17 = w2c_i0;
+    w2c_i0 = w2c_l15;
+    w2c_i1 = 6u;
+    w2c_i0 = w2c_i0 == w2c_i1;
+    if (w2c_i0) {goto w2c_B27;}
+    w2c_i0 = w2c_l15;
+    w2c_i1 = 7u;
+    w2c_i0 = w2c_i0 == w2c_i1;
+    if (w2c_i0) {goto w2c_B18;}
+    goto w2c_B20;
+    w2c_B90:;
+    w2c_i0 = w2c_l15;
+    w2c_i1 = 7u;
+    w2c_i0 = w2c_i0 != w2c_i1;
+    if (w2c_i0) {goto w2c_B20;}
+    w2c_i0 = 1u;
+    w2c_l17 = w2c_i0;
+    goto w2c_B18;
+    w2c_B87:;
+    w2c_i0 = w2c_l15;
+    w2c_i1 = 4294967294u;
+    w2c_i0 += w2c_i1;
+    w2c_i1 = 13u;
+    w2c_i0 = w2c_i0 < w2c_i1;
+    if (w2c_i0) {goto w2c_B95;}
+    w2c_i0 = 9u;
+    w2c_l18 = w2c_i0;
+    w2c_i0 = 10u;
+    w2c_l20 = w2c_i0;
+    w2c_i0 = w2c_l19;
+    w2c_l22 = w2c_i0;
+    w2c_i0 = w2c_l15;
+    w2c_l21 = w2c_i0;
+    w2c_i0 = w2c_l19;
+    w2c_l17 = w2c_i0;
+    w2c_i0 = w2c_l15;
+    w2c_l16 = w2c_i0;
+    w2c_i0 = w2c_l15;
+    switch (w2c_i0) {
+      case 0: goto w2c_B13;
+      case 1: goto w2c_B35;
+      default: goto w2c_B13;
+    }
+    w2c_B95:;
+    w2c_i0 = w2c_l19;
+    w2c_j0 = (u64)(w2c_i0);
+    w2c_j1 = 255ull;
+    w2c_j0 &= w2c_j1;
+    w2c_i0 = (u32)(w2c_j0);
+    switch (w2c_i0) {
+      case 0: goto w2c_B100;
+      case 1: goto w2c_B97;
+      case 2: goto w2c_B99;
+      case 3: goto w2c_B99;
+      case 4: goto w2c_B98;
+      case 5: goto w2c_B96;
+      default: goto w2c_B100;
+    }
+    w2c_B100:;
+    w2c_i0 = 1u;
+    w2c_l17 = w2c_i0;
+    w2c_i0 = 6u;
+    w2c_l18 = w2c_i0;
+    w2c_i0 = w2c_l15;
+    w2c_i1 = 4294967294u;
+    w2c_i0 += w2c_i1;
+    switch (w2c_i0) {
+      case 0: goto w2c_B20;
+      case 1: goto w2c_B20;
+      case 2: goto w2c_B20;
+      case 3: goto w2c_B14;
+      case 4: goto w2c_B27;
+      case 5: goto w2c_B18;
+      case 6: goto w2c_B20;
+      case 7: goto w2c_B20;
+      case 8: goto w2c_B20;
+      case 9: goto w2c_B20;
+      case 10: goto w2c_B20;
+      case 11: goto w2c_B20;
+      case 12: goto w2c_B20;
+      default: goto w2c_B20;
+    }
+    w2c_B99:;
+    w2c_i0 = 1u;
+    w2c_l17 = w2c_i0;
+    w2c_i0 = 8u;
+    w2c_l18 = w2c_i0;
+    w2c_i0 = w2c_l15;
+    w2c_i1 = 5u;
+    w2c_i0 = w2c_i0 == w2c_i1;
+    if (w2c_i0) {goto w2c_B14;}
+    w2c_i0 = w2c_l15;
+    w2c_i1 = 7u;
+    w2c_i0 = w2c_i0 == w2c_i1;
+    if (w2c_i0) {goto w2c_B18;}
+    goto w2c_B20;
+    w2c_B98:;
+    w2c_i0 = w2c_l15;
+    w2c_i1 = 5u;
+    w2c_i0 = w2c_i0 == w2c_i1;
+    if (w2c_i0) {goto w2c_B17;}
+    goto w2c_B20;
+    w2c_B97:;
+    w2c_i0 = 1u;
+    w2c_l17 = w2c_i0;
+    w2c_i0 = w2c_l15;
+    w2c_i1 = 6u;
+    w2c_i0 = w2c_i0 == w2c_i1;
+    if (w2c_i0) {goto w2c_B27;}
+    w2c_i0 = w2c_l15;
+    w2c_i1 = 7u;
+    w2c_i0 = w2c_i0 == w2c_i1;
+    if (w2c_i0) {goto w2c_B18;}
+    goto w2c_B20;
+    w2c_B96:;
+    w2c_i0 = w2c_l15;
+    w2c_i1 = 7u;
+    w2c_i0 = w2c_i0 != w2c_i1;
+    if (w2c_i0) {goto w2c_B20;}
+    w2c_i0 = 1u;
+    w2c_l17 = w2c_i0;
+    goto w2c_B18;
+    w2c_B86:;
+    w2c_i0 = w2c_l15;
+    w2c_i1 = 1u;
+    w2c_i0 = w2c_i0 != w2c_i1;
+    if (w2c_i0) {goto w2c_B101;}
+    w2c_i0 = 0u;
+    w2c_l21 = w2c_i0;
+    w2c_i0 = 10u;
+    w2c_l20 = w2c_i0;
+    w2c_i0 = w2c_l19;
+    w2c_l22 = w2c_i0;
+    goto w2c_B35;
     w2c_B101:;
-    w2c_i0 = w2c_l17;
+    w2c_i0 = w2c_l19;
     w2c_j0 = (u64)(w2c_i0);
     w2c_j1 = 255ull;
     w2c_j0 &= w2c_j1;
@@ -43487,523 +43696,328 @@ static u32 w2c_f62(module *m, u64 w2c_p0, u64 w2c_p1, u64 w2c_p2) {
     }
     w2c_B106:;
     w2c_i0 = 1u;
-    w2c_l15 = w2c_i0;
+    w2c_l17 = w2c_i0;
     w2c_i0 = 6u;
-    w2c_l16 = w2c_i0;
-    w2c_i0 = w2c_l14;
-    w2c_i1 = 4294967294u;
-    w2c_i0 += w2c_i1;
+    w2c_l18 = w2c_i0;
+    w2c_i0 = w2c_l15;
     switch (w2c_i0) {
-      case 0: goto w2c_B32;
-      case 1: goto w2c_B32;
-      case 2: goto w2c_B32;
-      case 3: goto w2c_B26;
-      case 4: goto w2c_B39;
-      case 5: goto w2c_B30;
-      case 6: goto w2c_B32;
-      case 7: goto w2c_B32;
-      case 8: goto w2c_B32;
-      case 9: goto w2c_B32;
-      case 10: goto w2c_B32;
-      case 11: goto w2c_B32;
-      case 12: goto w2c_B32;
-      default: goto w2c_B32;
+      case 0: goto w2c_B20;
+      case 1: goto w2c_B0;
+      case 2: goto w2c_B20;
+      case 3: goto w2c_B20;
+      case 4: goto w2c_B20;
+      case 5: goto w2c_B14;
+      case 6: goto w2c_B27;
+      case 7: goto w2c_B18;
+      case 8: goto w2c_B20;
+      case 9: goto w2c_B20;
+      case 10: goto w2c_B20;
+      case 11: goto w2c_B20;
+      case 12: goto w2c_B20;
+      case 13: goto w2c_B20;
+      case 14: goto w2c_B20;
+      default: goto w2c_B20;
     }
     w2c_B105:;
     w2c_i0 = 1u;
-    w2c_l15 = w2c_i0;
+    w2c_l17 = w2c_i0;
     w2c_i0 = 8u;
-    w2c_l16 = w2c_i0;
-    w2c_i0 = w2c_l14;
+    w2c_l18 = w2c_i0;
+    w2c_i0 = w2c_l15;
     w2c_i1 = 5u;
     w2c_i0 = w2c_i0 == w2c_i1;
-    if (w2c_i0) {goto w2c_B26;}
-    w2c_i0 = w2c_l14;
+    if (w2c_i0) {goto w2c_B14;}
+    w2c_i0 = w2c_l15;
     w2c_i1 = 7u;
     w2c_i0 = w2c_i0 == w2c_i1;
-    if (w2c_i0) {goto w2c_B30;}
-    goto w2c_B32;
+    if (w2c_i0) {goto w2c_B18;}
+    goto w2c_B20;
     w2c_B104:;
-    w2c_i0 = w2c_l14;
+    w2c_i0 = w2c_l15;
     w2c_i1 = 5u;
-    w2c_i0 = w2c_i0 != w2c_i1;
-    if (w2c_i0) {goto w2c_B32;}
-    goto w2c_B29;
+    w2c_i0 = w2c_i0 == w2c_i1;
+    if (w2c_i0) {goto w2c_B17;}
+    goto w2c_B20;
     w2c_B103:;
     w2c_i0 = 1u;
-    w2c_l15 = w2c_i0;
-    w2c_i0 = w2c_l14;
+    w2c_l17 = w2c_i0;
+    w2c_i0 = w2c_l15;
     w2c_i1 = 6u;
     w2c_i0 = w2c_i0 == w2c_i1;
-    if (w2c_i0) {goto w2c_B39;}
-    w2c_i0 = w2c_l14;
+    if (w2c_i0) {goto w2c_B27;}
+    w2c_i0 = w2c_l15;
     w2c_i1 = 7u;
     w2c_i0 = w2c_i0 == w2c_i1;
-    if (w2c_i0) {goto w2c_B30;}
-    goto w2c_B32;
+    if (w2c_i0) {goto w2c_B18;}
+    goto w2c_B20;
     w2c_B102:;
-    w2c_i0 = w2c_l14;
+    w2c_i0 = w2c_l15;
     w2c_i1 = 7u;
     w2c_i0 = w2c_i0 != w2c_i1;
-    if (w2c_i0) {goto w2c_B32;}
+    if (w2c_i0) {goto w2c_B20;}
     w2c_i0 = 1u;
-    w2c_l15 = w2c_i0;
-    goto w2c_B30;
-    w2c_B99:;
-    w2c_i0 = w2c_l14;
-    w2c_i1 = 4294967294u;
-    w2c_i0 += w2c_i1;
-    w2c_i1 = 13u;
-    w2c_i0 = w2c_i0 < w2c_i1;
-    if (w2c_i0) {goto w2c_B107;}
-    w2c_i0 = 9u;
-    w2c_l16 = w2c_i0;
-    w2c_i0 = 10u;
-    w2c_l20 = w2c_i0;
-    w2c_i0 = w2c_l17;
-    w2c_l22 = w2c_i0;
-    w2c_i0 = w2c_l14;
-    w2c_l21 = w2c_i0;
-    w2c_i0 = w2c_l17;
-    w2c_l15 = w2c_i0;
-    w2c_i0 = w2c_l14;
-    w2c_l19 = w2c_i0;
-    w2c_i0 = w2c_l14;
-    switch (w2c_i0) {
-      case 0: goto w2c_B25;
-      case 1: goto w2c_B47;
-      default: goto w2c_B25;
-    }
-    w2c_B107:;
-    w2c_i0 = w2c_l17;
+    w2c_l17 = w2c_i0;
+    goto w2c_B18;
+    w2c_B85:;
+    w2c_i0 = w2c_l19;
     w2c_j0 = (u64)(w2c_i0);
     w2c_j1 = 255ull;
     w2c_j0 &= w2c_j1;
     w2c_i0 = (u32)(w2c_j0);
     switch (w2c_i0) {
-      case 0: goto w2c_B112;
-      case 1: goto w2c_B109;
-      case 2: goto w2c_B111;
-      case 3: goto w2c_B111;
-      case 4: goto w2c_B110;
-      case 5: goto w2c_B108;
-      default: goto w2c_B112;
-    }
-    w2c_B112:;
-    w2c_i0 = 1u;
-    w2c_l15 = w2c_i0;
-    w2c_i0 = 6u;
-    w2c_l16 = w2c_i0;
-    w2c_i0 = w2c_l14;
-    w2c_i1 = 4294967294u;
-    w2c_i0 += w2c_i1;
-    switch (w2c_i0) {
-      case 0: goto w2c_B32;
-      case 1: goto w2c_B32;
-      case 2: goto w2c_B32;
-      case 3: goto w2c_B26;
-      case 4: goto w2c_B39;
-      case 5: goto w2c_B30;
-      case 6: goto w2c_B32;
-      case 7: goto w2c_B32;
-      case 8: goto w2c_B32;
-      case 9: goto w2c_B32;
-      case 10: goto w2c_B32;
-      case 11: goto w2c_B32;
-      case 12: goto w2c_B32;
-      default: goto w2c_B32;
+      case 0: goto w2c_B111;
+      case 1: goto w2c_B108;
+      case 2: goto w2c_B110;
+      case 3: goto w2c_B110;
+      case 4: goto w2c_B109;
+      case 5: goto w2c_B107;
+      default: goto w2c_B111;
     }
     w2c_B111:;
     w2c_i0 = 1u;
-    w2c_l15 = w2c_i0;
-    w2c_i0 = 8u;
-    w2c_l16 = w2c_i0;
-    w2c_i0 = w2c_l14;
-    w2c_i1 = 5u;
-    w2c_i0 = w2c_i0 == w2c_i1;
-    if (w2c_i0) {goto w2c_B26;}
-    w2c_i0 = w2c_l14;
-    w2c_i1 = 7u;
-    w2c_i0 = w2c_i0 == w2c_i1;
-    if (w2c_i0) {goto w2c_B30;}
-    goto w2c_B32;
-    w2c_B110:;
-    w2c_i0 = w2c_l14;
-    w2c_i1 = 5u;
-    w2c_i0 = w2c_i0 == w2c_i1;
-    if (w2c_i0) {goto w2c_B29;}
-    goto w2c_B32;
-    w2c_B109:;
-    w2c_i0 = 1u;
-    w2c_l15 = w2c_i0;
-    w2c_i0 = w2c_l14;
-    w2c_i1 = 6u;
-    w2c_i0 = w2c_i0 == w2c_i1;
-    if (w2c_i0) {goto w2c_B39;}
-    w2c_i0 = w2c_l14;
-    w2c_i1 = 7u;
-    w2c_i0 = w2c_i0 == w2c_i1;
-    if (w2c_i0) {goto w2c_B30;}
-    goto w2c_B32;
-    w2c_B108:;
-    w2c_i0 = w2c_l14;
-    w2c_i1 = 7u;
-    w2c_i0 = w2c_i0 != w2c_i1;
-    if (w2c_i0) {goto w2c_B32;}
-    w2c_i0 = 1u;
-    w2c_l15 = w2c_i0;
-    goto w2c_B30;
-    w2c_B98:;
-    w2c_i0 = w2c_l14;
-    w2c_i1 = 1u;
-    w2c_i0 = w2c_i0 != w2c_i1;
-    if (w2c_i0) {goto w2c_B113;}
-    w2c_i0 = 0u;
-    w2c_l21 = w2c_i0;
-    w2c_i0 = 10u;
-    w2c_l20 = w2c_i0;
-    w2c_i0 = w2c_l17;
-    w2c_l22 = w2c_i0;
-    goto w2c_B47;
-    w2c_B113:;
-    w2c_i0 = w2c_l17;
-    w2c_j0 = (u64)(w2c_i0);
-    w2c_j1 = 255ull;
-    w2c_j0 &= w2c_j1;
-    w2c_i0 = (u32)(w2c_j0);
-    switch (w2c_i0) {
-      case 0: goto w2c_B118;
-      case 1: goto w2c_B115;
-      case 2: goto w2c_B117;
-      case 3: goto w2c_B117;
-      case 4: goto w2c_B116;
-      case 5: goto w2c_B114;
-      default: goto w2c_B118;
-    }
-    w2c_B118:;
-    w2c_i0 = 1u;
-    w2c_l15 = w2c_i0;
+    w2c_l17 = w2c_i0;
     w2c_i0 = 6u;
-    w2c_l16 = w2c_i0;
-    w2c_i0 = w2c_l14;
-    switch (w2c_i0) {
-      case 0: goto w2c_B32;
-      case 1: goto w2c_B0;
-      case 2: goto w2c_B32;
-      case 3: goto w2c_B32;
-      case 4: goto w2c_B32;
-      case 5: goto w2c_B26;
-      case 6: goto w2c_B39;
-      case 7: goto w2c_B30;
-      case 8: goto w2c_B32;
-      case 9: goto w2c_B32;
-      case 10: goto w2c_B32;
-      case 11: goto w2c_B32;
-      case 12: goto w2c_B32;
-      case 13: goto w2c_B32;
-      case 14: goto w2c_B32;
-      default: goto w2c_B32;
-    }
-    w2c_B117:;
-    w2c_i0 = 1u;
-    w2c_l15 = w2c_i0;
-    w2c_i0 = 8u;
-    w2c_l16 = w2c_i0;
-    w2c_i0 = w2c_l14;
-    w2c_i1 = 5u;
-    w2c_i0 = w2c_i0 == w2c_i1;
-    if (w2c_i0) {goto w2c_B26;}
-    w2c_i0 = w2c_l14;
-    w2c_i1 = 7u;
-    w2c_i0 = w2c_i0 == w2c_i1;
-    if (w2c_i0) {goto w2c_B30;}
-    goto w2c_B32;
-    w2c_B116:;
-    w2c_i0 = w2c_l14;
-    w2c_i1 = 5u;
-    w2c_i0 = w2c_i0 == w2c_i1;
-    if (w2c_i0) {goto w2c_B29;}
-    goto w2c_B32;
-    w2c_B115:;
-    w2c_i0 = 1u;
-    w2c_l15 = w2c_i0;
-    w2c_i0 = w2c_l14;
-    w2c_i1 = 6u;
-    w2c_i0 = w2c_i0 == w2c_i1;
-    if (w2c_i0) {goto w2c_B39;}
-    w2c_i0 = w2c_l14;
-    w2c_i1 = 7u;
-    w2c_i0 = w2c_i0 == w2c_i1;
-    if (w2c_i0) {goto w2c_B30;}
-    goto w2c_B32;
-    w2c_B114:;
-    w2c_i0 = w2c_l14;
-    w2c_i1 = 7u;
-    w2c_i0 = w2c_i0 != w2c_i1;
-    if (w2c_i0) {goto w2c_B32;}
-    w2c_i0 = 1u;
-    w2c_l15 = w2c_i0;
-    goto w2c_B30;
-    w2c_B97:;
-    w2c_i0 = w2c_l17;
-    w2c_j0 = (u64)(w2c_i0);
-    w2c_j1 = 255ull;
-    w2c_j0 &= w2c_j1;
-    w2c_i0 = (u32)(w2c_j0);
-    switch (w2c_i0) {
-      case 0: goto w2c_B123;
-      case 1: goto w2c_B120;
-      case 2: goto w2c_B122;
-      case 3: goto w2c_B122;
-      case 4: goto w2c_B121;
-      case 5: goto w2c_B119;
-      default: goto w2c_B123;
-    }
-    w2c_B123:;
-    w2c_i0 = 1u;
-    w2c_l15 = w2c_i0;
-    w2c_i0 = 6u;
-    w2c_l16 = w2c_i0;
-    w2c_i0 = w2c_l14;
-    switch (w2c_i0) {
-      case 0: goto w2c_B32;
-      case 1: goto w2c_B32;
-      case 2: goto w2c_B32;
-      case 3: goto w2c_B32;
-      case 4: goto w2c_B32;
-      case 5: goto w2c_B26;
-      case 6: goto w2c_B39;
-      case 7: goto w2c_B30;
-      case 8: goto w2c_B32;
-      case 9: goto w2c_B32;
-      case 10: goto w2c_B32;
-      case 11: goto w2c_B32;
-      case 12: goto w2c_B32;
-      case 13: goto w2c_B32;
-      case 14: goto w2c_B32;
-      default: goto w2c_B32;
-    }
-    w2c_B122:;
-    w2c_i0 = 1u;
-    w2c_l15 = w2c_i0;
-    w2c_i0 = 8u;
-    w2c_l16 = w2c_i0;
-    w2c_i0 = w2c_l14;
-    w2c_i1 = 5u;
-    w2c_i0 = w2c_i0 == w2c_i1;
-    if (w2c_i0) {goto w2c_B26;}
-    w2c_i0 = w2c_l14;
-    w2c_i1 = 7u;
-    w2c_i0 = w2c_i0 == w2c_i1;
-    if (w2c_i0) {goto w2c_B30;}
-    goto w2c_B32;
-    w2c_B121:;
-    w2c_i0 = w2c_l14;
-    w2c_i1 = 5u;
-    w2c_i0 = w2c_i0 == w2c_i1;
-    if (w2c_i0) {goto w2c_B29;}
-    goto w2c_B32;
-    w2c_B120:;
-    w2c_i0 = 1u;
-    w2c_l15 = w2c_i0;
-    w2c_i0 = w2c_l14;
-    w2c_i1 = 6u;
-    w2c_i0 = w2c_i0 == w2c_i1;
-    if (w2c_i0) {goto w2c_B39;}
-    w2c_i0 = w2c_l14;
-    w2c_i1 = 7u;
-    w2c_i0 = w2c_i0 != w2c_i1;
-    if (w2c_i0) {goto w2c_B32;}
-    goto w2c_B30;
-    w2c_B119:;
-    w2c_i0 = w2c_l14;
-    w2c_i1 = 7u;
-    w2c_i0 = w2c_i0 != w2c_i1;
-    if (w2c_i0) {goto w2c_B32;}
-    w2c_i0 = 1u;
-    w2c_l15 = w2c_i0;
-    goto w2c_B30;
-    w2c_B48:;
+    w2c_l18 = w2c_i0;
     w2c_i0 = w2c_l15;
     switch (w2c_i0) {
-      case 0: goto w2c_B131;
-      case 1: goto w2c_B130;
-      case 2: goto w2c_B129;
-      case 3: goto w2c_B128;
-      case 4: goto w2c_B127;
-      case 5: goto w2c_B32;
-      case 6: goto w2c_B32;
-      case 7: goto w2c_B32;
-      case 8: goto w2c_B32;
-      case 9: goto w2c_B32;
-      case 10: goto w2c_B32;
-      case 11: goto w2c_B32;
-      case 12: goto w2c_B32;
-      case 13: goto w2c_B126;
-      case 14: goto w2c_B124;
-      case 15: goto w2c_B46;
-      case 16: goto w2c_B38;
-      case 17: goto w2c_B125;
-      case 18: goto w2c_B36;
-      case 19: goto w2c_B32;
-      default: goto w2c_B131;
+      case 0: goto w2c_B20;
+      case 1: goto w2c_B20;
+      case 2: goto w2c_B20;
+      case 3: goto w2c_B20;
+      case 4: goto w2c_B20;
+      case 5: goto w2c_B14;
+      case 6: goto w2c_B27;
+      case 7: goto w2c_B18;
+      case 8: goto w2c_B20;
+      case 9: goto w2c_B20;
+      case 10: goto w2c_B20;
+      case 11: goto w2c_B20;
+      case 12: goto w2c_B20;
+      case 13: goto w2c_B20;
+      case 14: goto w2c_B20;
+      default: goto w2c_B20;
     }
-    w2c_B131:;
-    w2c_i0 = 5u;
-    w2c_l20 = w2c_i0;
-    w2c_i0 = 0u;
-    w2c_l22 = w2c_i0;
+    w2c_B110:;
     w2c_i0 = 1u;
-    w2c_l16 = w2c_i0;
-    w2c_i0 = 0u;
-    w2c_l21 = w2c_i0;
-    w2c_i0 = 0u;
-    w2c_l15 = w2c_i0;
-    w2c_i0 = 0u;
-    w2c_l19 = w2c_i0;
-    w2c_i0 = w2c_l14;
-    switch (w2c_i0) {
-      case 0: goto w2c_B45;
-      case 1: goto w2c_B47;
-      case 2: goto w2c_B32;
-      case 3: goto w2c_B32;
-      case 4: goto w2c_B32;
-      case 5: goto w2c_B32;
-      case 6: goto w2c_B32;
-      case 7: goto w2c_B32;
-      case 8: goto w2c_B32;
-      case 9: goto w2c_B32;
-      case 10: goto w2c_B32;
-      case 11: goto w2c_B25;
-      case 12: goto w2c_B32;
-      case 13: goto w2c_B32;
-      case 14: goto w2c_B32;
-      default: goto w2c_B45;
-    }
-    w2c_B130:;
-    w2c_i0 = w2c_l14;
-    w2c_i1 = 12u;
-    w2c_i0 = w2c_i0 != w2c_i1;
-    if (w2c_i0) {goto w2c_B32;}
-    w2c_i0 = 0u;
-    w2c_l15 = w2c_i0;
-    w2c_i0 = 2u;
-    w2c_l16 = w2c_i0;
-    goto w2c_B34;
-    w2c_B129:;
-    w2c_i0 = w2c_l14;
-    w2c_i1 = 13u;
-    w2c_i0 = w2c_i0 != w2c_i1;
-    if (w2c_i0) {goto w2c_B32;}
-    w2c_i0 = 0u;
-    w2c_l15 = w2c_i0;
-    w2c_i0 = 3u;
-    w2c_l16 = w2c_i0;
-    goto w2c_B34;
-    w2c_B128:;
-    w2c_i0 = 0u;
-    w2c_l22 = w2c_i0;
-    w2c_i0 = 5u;
-    w2c_l20 = w2c_i0;
-    w2c_i0 = 0u;
-    w2c_l21 = w2c_i0;
-    w2c_i0 = w2c_l14;
-    switch (w2c_i0) {
-      case 0: goto w2c_B45;
-      case 1: goto w2c_B47;
-      case 2: goto w2c_B32;
-      case 3: goto w2c_B32;
-      case 4: goto w2c_B32;
-      case 5: goto w2c_B32;
-      case 6: goto w2c_B32;
-      case 7: goto w2c_B32;
-      case 8: goto w2c_B32;
-      case 9: goto w2c_B32;
-      case 10: goto w2c_B32;
-      case 11: goto w2c_B32;
-      case 12: goto w2c_B32;
-      case 13: goto w2c_B32;
-      case 14: goto w2c_B32;
-      default: goto w2c_B45;
-    }
-    w2c_B127:;
-    w2c_i0 = w2c_l14;
+    w2c_l17 = w2c_i0;
+    w2c_i0 = 8u;
+    w2c_l18 = w2c_i0;
+    w2c_i0 = w2c_l15;
+    w2c_i1 = 5u;
+    w2c_i0 = w2c_i0 == w2c_i1;
+    if (w2c_i0) {goto w2c_B14;}
+    w2c_i0 = w2c_l15;
+    w2c_i1 = 7u;
+    w2c_i0 = w2c_i0 == w2c_i1;
+    if (w2c_i0) {goto w2c_B18;}
+    goto w2c_B20;
+    w2c_B109:;
+    w2c_i0 = w2c_l15;
+    w2c_i1 = 5u;
+    w2c_i0 = w2c_i0 == w2c_i1;
+    if (w2c_i0) {goto w2c_B17;}
+    goto w2c_B20;
+    w2c_B108:;
+    w2c_i0 = 1u;
+    w2c_l17 = w2c_i0;
+    w2c_i0 = w2c_l15;
+    w2c_i1 = 6u;
+    w2c_i0 = w2c_i0 == w2c_i1;
+    if (w2c_i0) {goto w2c_B27;}
+    w2c_i0 = w2c_l15;
     w2c_i1 = 7u;
     w2c_i0 = w2c_i0 != w2c_i1;
-    if (w2c_i0) {goto w2c_B32;}
+    if (w2c_i0) {goto w2c_B20;}
+    goto w2c_B18;
+    w2c_B107:;
+    w2c_i0 = w2c_l15;
+    w2c_i1 = 7u;
+    w2c_i0 = w2c_i0 != w2c_i1;
+    if (w2c_i0) {goto w2c_B20;}
     w2c_i0 = 1u;
-    w2c_l15 = w2c_i0;
-    goto w2c_B30;
-    w2c_B126:;
+    w2c_l17 = w2c_i0;
+    goto w2c_B18;
+    w2c_B36:;
+    w2c_i0 = w2c_l17;
+    switch (w2c_i0) {
+      case 0: goto w2c_B119;
+      case 1: goto w2c_B118;
+      case 2: goto w2c_B117;
+      case 3: goto w2c_B116;
+      case 4: goto w2c_B115;
+      case 5: goto w2c_B20;
+      case 6: goto w2c_B20;
+      case 7: goto w2c_B20;
+      case 8: goto w2c_B20;
+      case 9: goto w2c_B20;
+      case 10: goto w2c_B20;
+      case 11: goto w2c_B20;
+      case 12: goto w2c_B20;
+      case 13: goto w2c_B114;
+      case 14: goto w2c_B112;
+      case 15: goto w2c_B34;
+      case 16: goto w2c_B26;
+      case 17: goto w2c_B113;
+      case 18: goto w2c_B24;
+      case 19: goto w2c_B20;
+      default: goto w2c_B119;
+    }
+    w2c_B119:;
+    w2c_i0 = 5u;
+    w2c_l20 = w2c_i0;
+    w2c_i0 = 0u;
+    w2c_l22 = w2c_i0;
+    w2c_i0 = 1u;
+    w2c_l18 = w2c_i0;
+    w2c_i0 = 0u;
+    w2c_l21 = w2c_i0;
+    w2c_i0 = 0u;
+    w2c_l17 = w2c_i0;
+    w2c_i0 = 0u;
+    w2c_l16 = w2c_i0;
+    w2c_i0 = w2c_l15;
+    switch (w2c_i0) {
+      case 0: goto w2c_B33;
+      case 1: goto w2c_B35;
+      case 2: goto w2c_B20;
+      case 3: goto w2c_B20;
+      case 4: goto w2c_B20;
+      case 5: goto w2c_B20;
+      case 6: goto w2c_B20;
+      case 7: goto w2c_B20;
+      case 8: goto w2c_B20;
+      case 9: goto w2c_B20;
+      case 10: goto w2c_B20;
+      case 11: goto w2c_B13;
+      case 12: goto w2c_B20;
+      case 13: goto w2c_B20;
+      case 14: goto w2c_B20;
+      default: goto w2c_B33;
+    }
+    w2c_B118:;
+    w2c_i0 = w2c_l15;
+    w2c_i1 = 12u;
+    w2c_i0 = w2c_i0 != w2c_i1;
+    if (w2c_i0) {goto w2c_B20;}
+    w2c_i0 = 0u;
+    w2c_l17 = w2c_i0;
+    w2c_i0 = 2u;
+    w2c_l18 = w2c_i0;
+    goto w2c_B22;
+    w2c_B117:;
+    w2c_i0 = w2c_l15;
+    w2c_i1 = 13u;
+    w2c_i0 = w2c_i0 != w2c_i1;
+    if (w2c_i0) {goto w2c_B20;}
+    w2c_i0 = 0u;
+    w2c_l17 = w2c_i0;
+    w2c_i0 = 3u;
+    w2c_l18 = w2c_i0;
+    goto w2c_B22;
+    w2c_B116:;
+    w2c_i0 = 0u;
+    w2c_l22 = w2c_i0;
+    w2c_i0 = 5u;
+    w2c_l20 = w2c_i0;
+    w2c_i0 = 0u;
+    w2c_l21 = w2c_i0;
+    w2c_i0 = w2c_l15;
+    switch (w2c_i0) {
+      case 0: goto w2c_B33;
+      case 1: goto w2c_B35;
+      case 2: goto w2c_B20;
+      case 3: goto w2c_B20;
+      case 4: goto w2c_B20;
+      case 5: goto w2c_B20;
+      case 6: goto w2c_B20;
+      case 7: goto w2c_B20;
+      case 8: goto w2c_B20;
+      case 9: goto w2c_B20;
+      case 10: goto w2c_B20;
+      case 11: goto w2c_B20;
+      case 12: goto w2c_B20;
+      case 13: goto w2c_B20;
+      case 14: goto w2c_B20;
+      default: goto w2c_B33;
+    }
+    w2c_B115:;
+    w2c_i0 = w2c_l15;
+    w2c_i1 = 7u;
+    w2c_i0 = w2c_i0 != w2c_i1;
+    if (w2c_i0) {goto w2c_B20;}
+    w2c_i0 = 1u;
+    w2c_l17 = w2c_i0;
+    goto w2c_B18;
+    w2c_B114:;
     w2c_i0 = 16u;
     w2c_l20 = w2c_i0;
     w2c_i0 = 0u;
     w2c_l22 = w2c_i0;
     w2c_i0 = 19u;
-    w2c_l16 = w2c_i0;
+    w2c_l18 = w2c_i0;
     w2c_i0 = 0u;
     w2c_l21 = w2c_i0;
     w2c_i0 = 0u;
-    w2c_l15 = w2c_i0;
+    w2c_l17 = w2c_i0;
     w2c_i0 = 0u;
-    w2c_l19 = w2c_i0;
-    w2c_i0 = w2c_l14;
+    w2c_l16 = w2c_i0;
+    w2c_i0 = w2c_l15;
     switch (w2c_i0) {
-      case 0: goto w2c_B132;
-      case 1: goto w2c_B47;
-      case 2: goto w2c_B32;
-      case 3: goto w2c_B32;
-      case 4: goto w2c_B32;
-      case 5: goto w2c_B32;
-      case 6: goto w2c_B32;
-      case 7: goto w2c_B32;
-      case 8: goto w2c_B32;
-      case 9: goto w2c_B32;
-      case 10: goto w2c_B25;
-      case 11: goto w2c_B32;
-      case 12: goto w2c_B32;
-      case 13: goto w2c_B32;
-      case 14: goto w2c_B32;
-      default: goto w2c_B132;
+      case 0: goto w2c_B120;
+      case 1: goto w2c_B35;
+      case 2: goto w2c_B20;
+      case 3: goto w2c_B20;
+      case 4: goto w2c_B20;
+      case 5: goto w2c_B20;
+      case 6: goto w2c_B20;
+      case 7: goto w2c_B20;
+      case 8: goto w2c_B20;
+      case 9: goto w2c_B20;
+      case 10: goto w2c_B13;
+      case 11: goto w2c_B20;
+      case 12: goto w2c_B20;
+      case 13: goto w2c_B20;
+      case 14: goto w2c_B20;
+      default: goto w2c_B120;
     }
-    w2c_B132:;
-    w2c_i0 = w2c_l17;
+    w2c_B120:;
+    w2c_i0 = w2c_l19;
     w2c_i1 = 1u;
     w2c_i0 &= w2c_i1;
-    w2c_l15 = w2c_i0;
+    w2c_l17 = w2c_i0;
     w2c_i0 = 14u;
-    w2c_l16 = w2c_i0;
-    goto w2c_B34;
-    w2c_B125:;
+    w2c_l18 = w2c_i0;
+    goto w2c_B22;
+    w2c_B113:;
     w2c_i0 = 18u;
     w2c_l20 = w2c_i0;
     w2c_i0 = 0u;
-    w2c_l15 = w2c_i0;
+    w2c_l17 = w2c_i0;
     w2c_i0 = 19u;
-    w2c_l16 = w2c_i0;
-    w2c_i0 = w2c_l14;
+    w2c_l18 = w2c_i0;
+    w2c_i0 = w2c_l15;
     w2c_i1 = 1u;
     w2c_i0 = w2c_i0 != w2c_i1;
-    if (w2c_i0) {goto w2c_B133;}
+    if (w2c_i0) {goto w2c_B121;}
     w2c_i0 = 0u;
     w2c_l22 = w2c_i0;
     w2c_i0 = 0u;
     w2c_l21 = w2c_i0;
-    goto w2c_B47;
-    w2c_B133:;
+    goto w2c_B35;
+    w2c_B121:;
     w2c_i0 = 0u;
-    w2c_l19 = w2c_i0;
-    w2c_i0 = w2c_l14;
+    w2c_l16 = w2c_i0;
+    w2c_i0 = w2c_l15;
     w2c_i1 = 10u;
     w2c_i0 = w2c_i0 == w2c_i1;
-    if (w2c_i0) {goto w2c_B25;}
-    goto w2c_B32;
-    w2c_B124:;
-    w2c_i0 = w2c_l14;
+    if (w2c_i0) {goto w2c_B13;}
+    goto w2c_B20;
+    w2c_B112:;
+    w2c_i0 = w2c_l15;
     w2c_i1 = 1u;
     w2c_i0 = w2c_i0 != w2c_i1;
-    if (w2c_i0) {goto w2c_B32;}
-    w2c_i0 = w2c_l17;
+    if (w2c_i0) {goto w2c_B20;}
+    w2c_i0 = w2c_l19;
     w2c_i1 = 1u;
     w2c_i0 &= w2c_i1;
     w2c_l22 = w2c_i0;
@@ -44011,188 +44025,196 @@ static u32 w2c_f62(module *m, u64 w2c_p0, u64 w2c_p1, u64 w2c_p2) {
     w2c_l21 = w2c_i0;
     w2c_i0 = 15u;
     w2c_l20 = w2c_i0;
-    w2c_B47:;
+    w2c_B35:;
     w2c_i0 = w2c_l20;
-    w2c_l16 = w2c_i0;
+    w2c_l18 = w2c_i0;
     w2c_i0 = w2c_l22;
-    w2c_l15 = w2c_i0;
+    w2c_l17 = w2c_i0;
     w2c_i0 = w2c_l21;
-    w2c_l19 = w2c_i0;
-    w2c_j0 = w2c_l13;
+    w2c_l16 = w2c_i0;
+    w2c_j0 = w2c_l14;
     w2c_l7 = w2c_j0;
-    goto w2c_B25;
-    w2c_B46:;
-    w2c_i0 = w2c_l17;
+    goto w2c_B13;
+    w2c_B34:;
+    w2c_i0 = w2c_l19;
     w2c_i1 = 1u;
     w2c_i0 &= w2c_i1;
     w2c_i0 = !(w2c_i0);
-    if (w2c_i0) {goto w2c_B36;}
-    w2c_i0 = w2c_l14;
+    if (w2c_i0) {goto w2c_B24;}
+    w2c_i0 = w2c_l15;
     w2c_i1 = 8u;
     w2c_i0 = w2c_i0 == w2c_i1;
-    if (w2c_i0) {goto w2c_B37;}
-    w2c_i0 = w2c_l14;
+    if (w2c_i0) {goto w2c_B25;}
+    w2c_i0 = w2c_l15;
     w2c_i1 = 9u;
     w2c_i0 = w2c_i0 == w2c_i1;
-    if (w2c_i0) {goto w2c_B35;}
-    goto w2c_B32;
-    w2c_B45:;
+    if (w2c_i0) {goto w2c_B23;}
+    goto w2c_B20;
+    w2c_B33:;
     w2c_i0 = 0u;
-    w2c_l15 = w2c_i0;
+    w2c_l17 = w2c_i0;
     w2c_i0 = 4u;
-    w2c_l16 = w2c_i0;
-    goto w2c_B34;
-    w2c_B44:;
-    w2c_i0 = w2c_l17;
-    w2c_l15 = w2c_i0;
-    w2c_i0 = w2c_l14;
+    w2c_l18 = w2c_i0;
+    goto w2c_B22;
+    w2c_B32:;
+    w2c_i0 = w2c_l19;
+    w2c_l17 = w2c_i0;
+    w2c_i0 = w2c_l15;
     w2c_i1 = 2u;
     w2c_i0 = w2c_i0 != w2c_i1;
-    if (w2c_i0) {goto w2c_B32;}
-    w2c_B43:;
+    if (w2c_i0) {goto w2c_B20;}
+    w2c_B31:;
     w2c_j0 = w2c_l7;
     w2c_j1 = 10ull;
     w2c_j0 *= w2c_j1;
-    w2c_j1 = w2c_l9;
+    w2c_j1 = w2c_l10;
     w2c_j0 += w2c_j1;
-    w2c_l9 = w2c_j0;
+    w2c_l10 = w2c_j0;
     w2c_j0 = 0ull;
     w2c_l7 = w2c_j0;
     w2c_i0 = 1u;
-    w2c_l19 = w2c_i0;
-    w2c_i0 = 12u;
     w2c_l16 = w2c_i0;
-    goto w2c_B25;
-    w2c_B42:;
-    w2c_i0 = w2c_l17;
-    w2c_l15 = w2c_i0;
-    w2c_i0 = w2c_l14;
+    w2c_i0 = 12u;
+    w2c_l18 = w2c_i0;
+    goto w2c_B13;
+    w2c_B30:;
+    w2c_i0 = w2c_l19;
+    w2c_l17 = w2c_i0;
+    w2c_i0 = w2c_l15;
     w2c_i1 = 3u;
     w2c_i0 = w2c_i0 != w2c_i1;
-    if (w2c_i0) {goto w2c_B32;}
-    w2c_B41:;
+    if (w2c_i0) {goto w2c_B20;}
+    w2c_B29:;
     w2c_j0 = w2c_l7;
     w2c_j1 = 100ull;
     w2c_j0 *= w2c_j1;
-    w2c_j1 = w2c_l9;
+    w2c_j1 = w2c_l10;
     w2c_j0 += w2c_j1;
-    w2c_l9 = w2c_j0;
+    w2c_l10 = w2c_j0;
     w2c_j0 = 0ull;
     w2c_l7 = w2c_j0;
     w2c_i0 = 2u;
-    w2c_l19 = w2c_i0;
-    w2c_i0 = 12u;
     w2c_l16 = w2c_i0;
-    goto w2c_B25;
-    w2c_B40:;
+    w2c_i0 = 12u;
+    w2c_l18 = w2c_i0;
+    goto w2c_B13;
+    w2c_B28:;
     w2c_i0 = 5u;
-    w2c_i1 = w2c_l17;
-    w2c_i2 = w2c_l17;
+    w2c_i1 = w2c_l19;
+    w2c_i2 = w2c_l19;
     w2c_i3 = 255u;
     w2c_i2 &= w2c_i3;
     w2c_i3 = 3u;
     w2c_i2 = w2c_i2 == w2c_i3;
     w2c_i0 = w2c_i2 ? w2c_i0 : w2c_i1;
-    w2c_l15 = w2c_i0;
-    goto w2c_B31;
-    w2c_B39:;
-    w2c_j0 = w2c_l9;
+    w2c_l17 = w2c_i0;
+    goto w2c_B19;
+    w2c_B27:;
+    w2c_j0 = w2c_l10;
     w2c_j1 = w2c_l7;
     w2c_j0 += w2c_j1;
-    w2c_j1 = w2c_l10;
+    w2c_j1 = w2c_l11;
     w2c_j0 += w2c_j1;
     w2c_j1 = 100000000ull;
     w2c_j0 *= w2c_j1;
-    w2c_l10 = w2c_j0;
+    w2c_l11 = w2c_j0;
     w2c_j0 = 0ull;
-    w2c_l9 = w2c_j0;
+    w2c_l10 = w2c_j0;
     w2c_i0 = 0u;
-    w2c_l19 = w2c_i0;
-    w2c_i0 = 7u;
     w2c_l16 = w2c_i0;
+    w2c_i0 = 7u;
+    w2c_l18 = w2c_i0;
     w2c_j0 = 0ull;
     w2c_l7 = w2c_j0;
-    goto w2c_B25;
-    w2c_B38:;
-    w2c_i0 = w2c_l14;
+    goto w2c_B13;
+    w2c_B26:;
+    w2c_i0 = w2c_l15;
     w2c_i1 = 8u;
     w2c_i0 = w2c_i0 != w2c_i1;
-    if (w2c_i0) {goto w2c_B32;}
-    w2c_B37:;
-    w2c_j0 = w2c_l11;
+    if (w2c_i0) {goto w2c_B20;}
+    w2c_B25:;
+    w2c_j0 = w2c_l12;
     w2c_j1 = w2c_l7;
     w2c_j2 = 10ull;
     w2c_j1 *= w2c_j2;
     w2c_j0 += w2c_j1;
-    w2c_l11 = w2c_j0;
+    w2c_l12 = w2c_j0;
     w2c_j0 = 0ull;
     w2c_l7 = w2c_j0;
     w2c_i0 = 0u;
-    w2c_l15 = w2c_i0;
+    w2c_l17 = w2c_i0;
     w2c_i0 = 17u;
-    w2c_l16 = w2c_i0;
-    goto w2c_B34;
-    w2c_B36:;
-    w2c_i0 = w2c_l14;
+    w2c_l18 = w2c_i0;
+    goto w2c_B22;
+    w2c_B24:;
+    w2c_i0 = w2c_l15;
     w2c_i1 = 9u;
     w2c_i0 = w2c_i0 != w2c_i1;
-    if (w2c_i0) {goto w2c_B32;}
-    w2c_B35:;
-    w2c_j0 = w2c_l11;
+    if (w2c_i0) {goto w2c_B20;}
+    w2c_B23:;
+    w2c_j0 = w2c_l12;
     w2c_j1 = w2c_l7;
     w2c_j0 += w2c_j1;
-    w2c_l11 = w2c_j0;
+    w2c_l12 = w2c_j0;
     w2c_j0 = 0ull;
     w2c_l7 = w2c_j0;
     w2c_i0 = 0u;
-    w2c_l15 = w2c_i0;
+    w2c_l17 = w2c_i0;
     w2c_i0 = 19u;
-    w2c_l16 = w2c_i0;
-    w2c_B34:;
+    w2c_l18 = w2c_i0;
+    w2c_B22:;
     w2c_i0 = 0u;
-    w2c_l19 = w2c_i0;
-    goto w2c_B25;
-    w2c_B33:;
-    w2c_i0 = w2c_l17;
-    w2c_l15 = w2c_i0;
-    w2c_i0 = w2c_l14;
+    w2c_l16 = w2c_i0;
+    goto w2c_B13;
+    w2c_B21:;
+    w2c_i0 = w2c_l19;
+    w2c_l17 = w2c_i0;
+    w2c_i0 = w2c_l15;
     w2c_i1 = 4u;
     w2c_i0 = w2c_i0 == w2c_i1;
-    if (w2c_i0) {goto w2c_B31;}
-    w2c_B32:;
-    w2c_j0 = w2c_l6;
-    w2c_i0 = (u32)(w2c_j0);
-    w2c_j1 = w2c_l3;
-    w2c_j2 = 3ull;
-    w2c_j1 += w2c_j2;
-    w2c_l12 = w2c_j1;
-    i64_store(m, (u64)(w2c_i0), w2c_j1);
+    if (w2c_i0) {goto w2c_B19;}
+    w2c_B20:;
     w2c_j0 = 0ull;
     w2c_p0 = w2c_j0;
+    w2c_j0 = w2c_p2;
+    w2c_i0 = (u32)(w2c_j0);
+    w2c_j1 = 0ull;
+    i64_store(m, (u64)(w2c_i0) + 16, w2c_j1);
+    w2c_j0 = w2c_p2;
+    w2c_i0 = (u32)(w2c_j0);
+    w2c_j1 = 0ull;
+    i64_store(m, (u64)(w2c_i0), w2c_j1);
+    w2c_j0 = w2c_p2;
+    w2c_i0 = (u32)(w2c_j0);
+    w2c_j1 = w2c_l4;
+    w2c_j2 = 3ull;
+    w2c_j1 += w2c_j2;
+    w2c_l13 = w2c_j1;
+    i64_store(m, (u64)(w2c_i0) + 8, w2c_j1);
     w2c_j0 = w2c_p1;
     w2c_j1 = 8ull;
     w2c_i0 = w2c_j0 >= w2c_j1;
-    if (w2c_i0) {goto w2c_B135;}
+    if (w2c_i0) {goto w2c_B123;}
     w2c_j0 = 0ull;
     w2c_l8 = w2c_j0;
-    goto w2c_B134;
-    w2c_B135:;
+    goto w2c_B122;
+    w2c_B123:;
     w2c_j0 = 0ull;
     w2c_l8 = w2c_j0;
-    w2c_j0 = w2c_l12;
+    w2c_j0 = w2c_l13;
     w2c_j1 = 3ull;
     w2c_i0 = w2c_j0 < w2c_j1;
-    if (w2c_i0) {goto w2c_B134;}
+    if (w2c_i0) {goto w2c_B122;}
     w2c_j0 = w2c_p1;
     w2c_j1 = 18446744073709551607ull;
     w2c_j0 += w2c_j1;
-    w2c_l5 = w2c_j0;
+    w2c_l9 = w2c_j0;
     w2c_j0 = 0ull;
     w2c_l8 = w2c_j0;
     w2c_j0 = 0ull;
     w2c_p0 = w2c_j0;
-    w2c_L136:
-      w2c_j0 = w2c_l4;
+    w2c_L124:
+      w2c_j0 = w2c_l5;
       w2c_j1 = w2c_p0;
       w2c_j0 += w2c_j1;
       w2c_i0 = (u32)(w2c_j0);
@@ -44201,7 +44223,7 @@ static u32 w2c_f62(module *m, u64 w2c_p0, u64 w2c_p1, u64 w2c_p2) {
       w2c_j0 &= w2c_j1;
       w2c_j1 = 63050398541283552ull;
       w2c_i0 = w2c_j0 != w2c_j1;
-      if (w2c_i0) {goto w2c_B134;}
+      if (w2c_i0) {goto w2c_B122;}
       w2c_j0 = w2c_l8;
       w2c_j1 = 3ull;
       w2c_j0 += w2c_j1;
@@ -44210,39 +44232,39 @@ static u32 w2c_f62(module *m, u64 w2c_p0, u64 w2c_p1, u64 w2c_p2) {
       w2c_j1 = 9ull;
       w2c_j0 += w2c_j1;
       w2c_p0 = w2c_j0;
-      w2c_j0 = w2c_l3;
+      w2c_j0 = w2c_l4;
       w2c_j1 = 3ull;
       w2c_i0 = w2c_j0 < w2c_j1;
-      if (w2c_i0) {goto w2c_B134;}
-      w2c_j0 = w2c_l3;
+      if (w2c_i0) {goto w2c_B122;}
+      w2c_j0 = w2c_l4;
       w2c_j1 = 18446744073709551613ull;
       w2c_j0 += w2c_j1;
-      w2c_l3 = w2c_j0;
-      w2c_j0 = w2c_l5;
+      w2c_l4 = w2c_j0;
+      w2c_j0 = w2c_l9;
       w2c_j1 = 7ull;
       w2c_i0 = w2c_j0 > w2c_j1;
-      w2c_l14 = w2c_i0;
-      w2c_j0 = w2c_l5;
+      w2c_l15 = w2c_i0;
+      w2c_j0 = w2c_l9;
       w2c_j1 = 18446744073709551607ull;
       w2c_j0 += w2c_j1;
-      w2c_l5 = w2c_j0;
-      w2c_i0 = w2c_l14;
-      if (w2c_i0) {goto w2c_L136;}
-    w2c_B134:;
+      w2c_l9 = w2c_j0;
+      w2c_i0 = w2c_l15;
+      if (w2c_i0) {goto w2c_L124;}
+    w2c_B122:;
     w2c_j0 = w2c_p1;
     w2c_j1 = w2c_p0;
     w2c_i0 = w2c_j0 <= w2c_j1;
-    if (w2c_i0) {goto w2c_B137;}
+    if (w2c_i0) {goto w2c_B125;}
     w2c_j0 = w2c_l8;
-    w2c_j1 = w2c_l12;
+    w2c_j1 = w2c_l13;
     w2c_i0 = w2c_j0 >= w2c_j1;
-    if (w2c_i0) {goto w2c_B137;}
+    if (w2c_i0) {goto w2c_B125;}
     w2c_j0 = w2c_l8;
     w2c_j1 = 1ull;
     w2c_j0 += w2c_j1;
-    w2c_l3 = w2c_j0;
-    w2c_L138:
-      w2c_j0 = w2c_l4;
+    w2c_l4 = w2c_j0;
+    w2c_L126:
+      w2c_j0 = w2c_l5;
       w2c_j1 = w2c_p0;
       w2c_j0 += w2c_j1;
       w2c_i0 = (u32)(w2c_j0);
@@ -44259,46 +44281,78 @@ static u32 w2c_f62(module *m, u64 w2c_p0, u64 w2c_p1, u64 w2c_p2) {
       w2c_j1 = w2c_p0;
       w2c_j0 += w2c_j1;
       w2c_p0 = w2c_j0;
-      w2c_j0 = w2c_l3;
-      w2c_j1 = w2c_l12;
+      w2c_j0 = w2c_l4;
+      w2c_j1 = w2c_l13;
       w2c_i0 = w2c_j0 >= w2c_j1;
-      if (w2c_i0) {goto w2c_B137;}
-      w2c_j0 = w2c_l3;
+      if (w2c_i0) {goto w2c_B125;}
+      w2c_j0 = w2c_l4;
       w2c_j1 = 1ull;
       w2c_j0 += w2c_j1;
-      w2c_l3 = w2c_j0;
+      w2c_l4 = w2c_j0;
       w2c_j0 = w2c_p1;
       w2c_j1 = w2c_p0;
       w2c_i0 = w2c_j0 > w2c_j1;
-      if (w2c_i0) {goto w2c_L138;}
-    w2c_B137:;
+      if (w2c_i0) {goto w2c_L126;}
+    w2c_B125:;
     w2c_j0 = w2c_p2;
     w2c_i0 = (u32)(w2c_j0);
     w2c_j1 = w2c_p0;
     i64_store(m, (u64)(w2c_i0) + 16, w2c_j1);
+    w2c_j0 = w2c_l3;
+    m->w2c_g0 = w2c_j0;
     w2c_i0 = 2u;
     goto w2c_Bfunc;
-    w2c_B31:;
+    w2c_B19:;
     w2c_j0 = w2c_l7;
     w2c_j1 = 1000ull;
     w2c_j0 *= w2c_j1;
-    w2c_j1 = w2c_l9;
+    w2c_j1 = w2c_l10;
     w2c_j0 += w2c_j1;
-    w2c_l9 = w2c_j0;
+    w2c_l10 = w2c_j0;
     w2c_j0 = 0ull;
     w2c_l7 = w2c_j0;
     w2c_i0 = 3u;
-    w2c_l19 = w2c_i0;
-    w2c_i0 = 12u;
     w2c_l16 = w2c_i0;
-    goto w2c_B25;
-    w2c_B30:;
-    w2c_j0 = w2c_l9;
+    w2c_i0 = 12u;
+    w2c_l18 = w2c_i0;
+    goto w2c_B13;
+    w2c_B18:;
+    w2c_j0 = w2c_l10;
     w2c_j1 = w2c_l7;
     w2c_j0 += w2c_j1;
-    w2c_j1 = w2c_l10;
+    w2c_j1 = w2c_l11;
     w2c_j0 += w2c_j1;
     w2c_j1 = 100ull;
+    w2c_j0 *= w2c_j1;
+    w2c_j1 = w2c_l12;
+    w2c_j0 += w2c_j1;
+    w2c_l12 = w2c_j0;
+    w2c_j0 = 0ull;
+    w2c_l11 = w2c_j0;
+    w2c_i0 = 0u;
+    w2c_l16 = w2c_i0;
+    w2c_i0 = 13u;
+    w2c_l18 = w2c_i0;
+    w2c_j0 = 0ull;
+    w2c_l10 = w2c_j0;
+    w2c_j0 = 0ull;
+    w2c_l7 = w2c_j0;
+    goto w2c_B13;
+    w2c_B17:;
+    w2c_i0 = 1u;
+    w2c_l17 = w2c_i0;
+    goto w2c_B15;
+    w2c_B16:;
+    w2c_i0 = 0u;
+    w2c_l17 = w2c_i0;
+    w2c_B15:;
+    w2c_i0 = 8u;
+    w2c_l18 = w2c_i0;
+    w2c_B14:;
+    w2c_j0 = w2c_l10;
+    w2c_j1 = w2c_l7;
+    w2c_j0 += w2c_j1;
+    w2c_j1 = 10000ull;
     w2c_j0 *= w2c_j1;
     w2c_j1 = w2c_l11;
     w2c_j0 += w2c_j1;
@@ -44306,71 +44360,58 @@ static u32 w2c_f62(module *m, u64 w2c_p0, u64 w2c_p1, u64 w2c_p2) {
     w2c_j0 = 0ull;
     w2c_l10 = w2c_j0;
     w2c_i0 = 0u;
-    w2c_l19 = w2c_i0;
-    w2c_i0 = 13u;
     w2c_l16 = w2c_i0;
-    w2c_j0 = 0ull;
-    w2c_l9 = w2c_j0;
     w2c_j0 = 0ull;
     w2c_l7 = w2c_j0;
-    goto w2c_B25;
-    w2c_B29:;
-    w2c_i0 = 1u;
-    w2c_l15 = w2c_i0;
-    goto w2c_B27;
-    w2c_B28:;
-    w2c_i0 = 0u;
-    w2c_l15 = w2c_i0;
-    w2c_B27:;
-    w2c_i0 = 8u;
-    w2c_l16 = w2c_i0;
-    w2c_B26:;
+    w2c_B13:;
     w2c_j0 = w2c_l9;
-    w2c_j1 = w2c_l7;
+    w2c_j1 = w2c_l13;
     w2c_j0 += w2c_j1;
-    w2c_j1 = 10000ull;
-    w2c_j0 *= w2c_j1;
-    w2c_j1 = w2c_l10;
-    w2c_j0 += w2c_j1;
-    w2c_l10 = w2c_j0;
-    w2c_j0 = 0ull;
     w2c_l9 = w2c_j0;
-    w2c_i0 = 0u;
-    w2c_l19 = w2c_i0;
-    w2c_j0 = 0ull;
-    w2c_l7 = w2c_j0;
-    w2c_B25:;
-    w2c_j0 = w2c_l5;
-    w2c_j1 = w2c_l12;
-    w2c_j0 += w2c_j1;
-    w2c_l5 = w2c_j0;
-    w2c_j0 = w2c_l3;
+    w2c_j0 = w2c_l4;
     w2c_j1 = 1ull;
     w2c_j0 += w2c_j1;
-    w2c_l3 = w2c_j0;
+    w2c_l4 = w2c_j0;
     w2c_j0 = w2c_l8;
-    w2c_j1 = w2c_l12;
+    w2c_j1 = w2c_l13;
     w2c_j0 -= w2c_j1;
     w2c_l8 = w2c_j0;
     w2c_j1 = 0ull;
     w2c_i0 = w2c_j0 != w2c_j1;
-    if (w2c_i0) {goto w2c_L21;}
-  w2c_i0 = w2c_l16;
+    if (w2c_i0) {goto w2c_L9;}
+  w2c_i0 = w2c_l18;
   w2c_i1 = 4294967295u;
   w2c_i0 += w2c_i1;
   w2c_i1 = 16u;
   w2c_i0 = w2c_i0 < w2c_i1;
-  if (w2c_i0) {goto w2c_B1;}
-  w2c_i0 = w2c_l16;
+  if (w2c_i0) {goto w2c_B8;}
+  w2c_i0 = w2c_l18;
   w2c_i1 = 4294967279u;
   w2c_i0 += w2c_i1;
   switch (w2c_i0) {
-    case 0: goto w2c_B139;
-    case 1: goto w2c_B1;
-    case 2: goto w2c_B139;
-    default: goto w2c_B139;
+    case 0: goto w2c_B7;
+    case 1: goto w2c_B8;
+    case 2: goto w2c_B7;
+    default: goto w2c_B7;
   }
-  w2c_B139:;
+  w2c_B8:;
+  w2c_j0 = w2c_p2;
+  w2c_i0 = (u32)(w2c_j0);
+  w2c_j1 = 0ull;
+  i64_store(m, (u64)(w2c_i0) + 16, w2c_j1);
+  w2c_j0 = w2c_p2;
+  w2c_i0 = (u32)(w2c_j0);
+  w2c_j1 = 0ull;
+  i64_store(m, (u64)(w2c_i0) + 8, w2c_j1);
+  w2c_j0 = w2c_p2;
+  w2c_i0 = (u32)(w2c_j0);
+  w2c_j1 = 0ull;
+  i64_store(m, (u64)(w2c_i0), w2c_j1);
+  w2c_j0 = w2c_l3;
+  m->w2c_g0 = w2c_j0;
+  w2c_i0 = 9u;
+  goto w2c_Bfunc;
+  w2c_B7:;
   w2c_j0 = w2c_l6;
   w2c_i0 = (u32)(w2c_j0);
   w2c_j1 = 0ull;
@@ -44381,12 +44422,14 @@ static u32 w2c_f62(module *m, u64 w2c_p0, u64 w2c_p1, u64 w2c_p2) {
   i64_store(m, (u64)(w2c_i0), w2c_j1);
   w2c_j0 = w2c_p2;
   w2c_i0 = (u32)(w2c_j0);
-  w2c_j1 = w2c_l11;
+  w2c_j1 = w2c_l12;
   i64_store(m, (u64)(w2c_i0), w2c_j1);
   w2c_i0 = 0u;
-  w2c_l18 = w2c_i0;
+  w2c_l15 = w2c_i0;
   w2c_B1:;
-  w2c_i0 = w2c_l18;
+  w2c_j0 = w2c_l3;
+  m->w2c_g0 = w2c_j0;
+  w2c_i0 = w2c_l15;
   goto w2c_Bfunc;
   w2c_B0:;
   UNREACHABLE;
@@ -44407,14 +44450,14 @@ static u32 w2c_chinese_typed_amount_read(module *m, u64 w2c_p0, u64 w2c_p1, u64 
   w2c_j0 = w2c_p0;
   w2c_j1 = w2c_p1;
   w2c_j2 = w2c_p2;
-  w2c_i0 = w2c_f64(m, w2c_j0, w2c_j1, w2c_j2);
+  w2c_i0 = w2c_f65(m, w2c_j0, w2c_j1, w2c_j2);
   w2c_l3 = w2c_i0;
   w2c_f1(m);
   w2c_i0 = w2c_l3;
   return w2c_i0;
 }
 
-static u32 w2c_f64(module *m, u64 w2c_p0, u64 w2c_p1, u64 w2c_p2) {
+static u32 w2c_f65(module *m, u64 w2c_p0, u64 w2c_p1, u64 w2c_p2) {
   u32 w2c_l14 = 0, w2c_l15 = 0, w2c_l16 = 0, w2c_l17 = 0, w2c_l18 = 0, w2c_l19 = 0, w2c_l20 = 0, w2c_l21 = 0, w2c_l22 = 0;
   u64 w2c_l3 = 0, w2c_l4 = 0, w2c_l5 = 0, w2c_l6 = 0, w2c_l7 = 0, w2c_l8 = 0, w2c_l9 = 0, w2c_l10 = 0, w2c_l11 = 0, w2c_l12 = 0, w2c_l13 = 0;
   u32 w2c_i0, w2c_i1, w2c_i2, w2c_i3, w2c_i4;
@@ -44422,6 +44465,9 @@ static u32 w2c_f64(module *m, u64 w2c_p0, u64 w2c_p1, u64 w2c_p2) {
   w2c_j0 = m->w2c_g0;
   w2c_j1 = 16ull;
   w2c_j0 -= w2c_j1;
+  w2c_l3 = w2c_j0;
+  m->w2c_g0 = w2c_j0;
+  w2c_j0 = w2c_l3;
   w2c_l3 = w2c_j0;
   w2c_j1 = 16ull;
   w2c_i0 = (u64)((s64)w2c_j0 < (s64)w2c_j1);
@@ -44448,2433 +44494,15 @@ static u32 w2c_f64(module *m, u64 w2c_p0, u64 w2c_p1, u64 w2c_p2) {
   w2c_j1 = w2c_i3 ? w2c_j1 : w2c_j2;
   w2c_j0 += w2c_j1;
   w2c_l5 = w2c_j0;
-  w2c_l6 = w2c_j0;
-  w2c_j0 = w2c_p1;
-  w2c_j1 = 4ull;
-  w2c_i0 = w2c_j0 < w2c_j1;
-  if (w2c_i0) {goto w2c_B6;}
-  w2c_j0 = w2c_l5;
-  w2c_l6 = w2c_j0;
-  w2c_j0 = w2c_p1;
-  w2c_l4 = w2c_j0;
-  w2c_L7:
-    w2c_j0 = w2c_l6;
-    w2c_i0 = (u32)(w2c_j0);
-    w2c_i0 = i32_load(m, (u64)(w2c_i0));
-    w2c_i1 = 16776989u;
-    w2c_i0 += w2c_i1;
-    w2c_i1 = 12632312u;
-    w2c_i0 &= w2c_i1;
-    w2c_i1 = 8421376u;
-    w2c_i0 = w2c_i0 != w2c_i1;
-    if (w2c_i0) {goto w2c_B5;}
-    w2c_j0 = w2c_l6;
-    w2c_j1 = 3ull;
-    w2c_j0 += w2c_j1;
-    w2c_l6 = w2c_j0;
-    w2c_j0 = w2c_l4;
-    w2c_j1 = 18446744073709551613ull;
-    w2c_j0 += w2c_j1;
-    w2c_l4 = w2c_j0;
-    w2c_j1 = 3ull;
-    w2c_i0 = w2c_j0 > w2c_j1;
-    if (w2c_i0) {goto w2c_L7;}
-  w2c_B6:;
-  w2c_j0 = w2c_l4;
-  w2c_j1 = 3ull;
-  w2c_i0 = w2c_j0 > w2c_j1;
-  if (w2c_i0) {goto w2c_B5;}
-  w2c_j0 = w2c_l4;
-  w2c_i0 = (u32)(w2c_j0);
-  switch (w2c_i0) {
-    case 0: goto w2c_B3;
-    case 1: goto w2c_B5;
-    case 2: goto w2c_B5;
-    case 3: goto w2c_B8;
-    default: goto w2c_B3;
-  }
-  w2c_B8:;
-  w2c_j0 = w2c_p1;
-  w2c_i0 = !(w2c_j0);
-  if (w2c_i0) {goto w2c_B3;}
-  w2c_j0 = w2c_l5;
-  w2c_p0 = w2c_j0;
-  w2c_j0 = w2c_p1;
-  w2c_l4 = w2c_j0;
-  w2c_j0 = w2c_l6;
-  w2c_i0 = (u32)(w2c_j0);
-  w2c_i0 = i32_load16_u(m, (u64)(w2c_i0));
-  w2c_j1 = w2c_l6;
-  w2c_j2 = 2ull;
-  w2c_j1 += w2c_j2;
-  w2c_i1 = (u32)(w2c_j1);
-  w2c_i1 = i32_load8_u(m, (u64)(w2c_i1));
-  w2c_i2 = 16u;
-  w2c_i1 <<= (w2c_i2 & 31);
-  w2c_i0 |= w2c_i1;
-  w2c_i1 = 16776989u;
-  w2c_i0 += w2c_i1;
-  w2c_i1 = 12632312u;
-  w2c_i0 &= w2c_i1;
-  w2c_i1 = 8421376u;
-  w2c_i0 = w2c_i0 != w2c_i1;
-  if (w2c_i0) {goto w2c_B4;}
-  goto w2c_B3;
-  w2c_B5:;
-  w2c_j0 = w2c_l5;
-  w2c_p0 = w2c_j0;
-  w2c_j0 = w2c_p1;
-  w2c_l4 = w2c_j0;
-  w2c_j0 = w2c_p1;
-  w2c_j1 = 0ull;
-  w2c_i0 = w2c_j0 == w2c_j1;
-  if (w2c_i0) {goto w2c_B2;}
-  w2c_B4:;
-  w2c_L9:
-    w2c_j0 = w2c_l4;
-    w2c_j1 = 4ull;
-    w2c_i0 = w2c_j0 < w2c_j1;
-    if (w2c_i0) {goto w2c_B13;}
-    w2c_j0 = w2c_p0;
-    w2c_i0 = (u32)(w2c_j0);
-    w2c_i0 = i32_load(m, (u64)(w2c_i0));
-    w2c_l14 = w2c_i0;
-    w2c_i1 = 16776989u;
-    w2c_i0 += w2c_i1;
-    w2c_i1 = 12632312u;
-    w2c_i0 &= w2c_i1;
-    w2c_i1 = 8421376u;
-    w2c_i0 = w2c_i0 != w2c_i1;
-    if (w2c_i0) {goto w2c_B14;}
-    w2c_j0 = 3ull;
-    w2c_l6 = w2c_j0;
-    goto w2c_B10;
-    w2c_B14:;
-    w2c_i0 = w2c_l14;
-    w2c_i1 = 2155905152u;
-    w2c_i0 &= w2c_i1;
-    w2c_i0 = !(w2c_i0);
-    if (w2c_i0) {goto w2c_B15;}
-    w2c_i0 = w2c_l14;
-    w2c_i1 = 8u;
-    w2c_i0 >>= (w2c_i1 & 31);
-    w2c_l15 = w2c_i0;
-    w2c_i0 = w2c_l14;
-    w2c_i1 = 16u;
-    w2c_i0 >>= (w2c_i1 & 31);
-    w2c_l16 = w2c_i0;
-    goto w2c_B12;
-    w2c_B15:;
-    w2c_j0 = 4ull;
-    w2c_l6 = w2c_j0;
-    goto w2c_B10;
-    w2c_B13:;
-    w2c_j0 = w2c_p0;
-    w2c_i0 = (u32)(w2c_j0);
-    w2c_i0 = i32_load8_u(m, (u64)(w2c_i0));
-    w2c_l14 = w2c_i0;
-    w2c_i0 = 0u;
-    w2c_l16 = w2c_i0;
-    w2c_j0 = w2c_l4;
-    w2c_j1 = 18446744073709551615ull;
-    w2c_j0 += w2c_j1;
-    w2c_l6 = w2c_j0;
-    w2c_j1 = 2ull;
-    w2c_i0 = w2c_j0 > w2c_j1;
-    if (w2c_i0) {goto w2c_B16;}
-    w2c_i0 = 0u;
-    w2c_l15 = w2c_i0;
-    w2c_j0 = w2c_l6;
-    w2c_i0 = (u32)(w2c_j0);
-    switch (w2c_i0) {
-      case 0: goto w2c_B11;
-      case 1: goto w2c_B16;
-      case 2: goto w2c_B17;
-      default: goto w2c_B11;
-    }
-    w2c_B17:;
-    w2c_j0 = w2c_p0;
-    w2c_j1 = 1ull;
-    w2c_j0 += w2c_j1;
-    w2c_i0 = (u32)(w2c_j0);
-    w2c_i0 = i32_load8_u(m, (u64)(w2c_i0));
-    w2c_l15 = w2c_i0;
-    w2c_i1 = 8u;
-    w2c_i0 <<= (w2c_i1 & 31);
-    w2c_i1 = w2c_l14;
-    w2c_i0 |= w2c_i1;
-    w2c_j1 = w2c_p0;
-    w2c_j2 = 2ull;
-    w2c_j1 += w2c_j2;
-    w2c_i1 = (u32)(w2c_j1);
-    w2c_i1 = i32_load8_u(m, (u64)(w2c_i1));
-    w2c_l16 = w2c_i1;
-    w2c_i2 = 16u;
-    w2c_i1 <<= (w2c_i2 & 31);
-    w2c_i0 |= w2c_i1;
-    w2c_i1 = 16776989u;
-    w2c_i0 += w2c_i1;
-    w2c_i1 = 12632312u;
-    w2c_i0 &= w2c_i1;
-    w2c_i1 = 8421376u;
-    w2c_i0 = w2c_i0 != w2c_i1;
-    if (w2c_i0) {goto w2c_B12;}
-    w2c_j0 = 3ull;
-    w2c_l6 = w2c_j0;
-    goto w2c_B10;
-    w2c_B16:;
-    w2c_j0 = w2c_p0;
-    w2c_j1 = 1ull;
-    w2c_j0 += w2c_j1;
-    w2c_i0 = (u32)(w2c_j0);
-    w2c_i0 = i32_load8_u(m, (u64)(w2c_i0));
-    w2c_l15 = w2c_i0;
-    goto w2c_B11;
-    w2c_B12:;
-    w2c_i0 = w2c_l16;
-    w2c_i0 = (u32)(s32)(s8)(u8)(w2c_i0);
-    w2c_i1 = 4294967232u;
-    w2c_i0 = (u32)((s32)w2c_i0 < (s32)w2c_i1);
-    w2c_l16 = w2c_i0;
-    w2c_B11:;
-    w2c_i0 = w2c_l14;
-    w2c_i0 = (u32)(s32)(s8)(u8)(w2c_i0);
-    w2c_i1 = 4294967295u;
-    w2c_i0 = (u32)((s32)w2c_i0 <= (s32)w2c_i1);
-    if (w2c_i0) {goto w2c_B18;}
-    w2c_j0 = 1ull;
-    w2c_l6 = w2c_j0;
-    goto w2c_B10;
-    w2c_B18:;
-    w2c_i0 = w2c_l14;
-    w2c_i1 = 255u;
-    w2c_i0 &= w2c_i1;
-    w2c_l17 = w2c_i0;
-    w2c_i1 = 223u;
-    w2c_i0 = w2c_i0 > w2c_i1;
-    if (w2c_i0) {goto w2c_B19;}
-    w2c_i0 = 5u;
-    w2c_l17 = w2c_i0;
-    w2c_i0 = w2c_l15;
-    w2c_i0 = (u32)(s32)(s8)(u8)(w2c_i0);
-    w2c_i1 = 4294967231u;
-    w2c_i0 = (u32)((s32)w2c_i0 > (s32)w2c_i1);
-    if (w2c_i0) {goto w2c_B1;}
-    w2c_i0 = w2c_l14;
-    w2c_i1 = 255u;
-    w2c_i0 &= w2c_i1;
-    w2c_i1 = 193u;
-    w2c_i0 = w2c_i0 <= w2c_i1;
-    if (w2c_i0) {goto w2c_B1;}
-    w2c_j0 = 2ull;
-    w2c_l6 = w2c_j0;
-    goto w2c_B10;
-    w2c_B19:;
-    w2c_i0 = w2c_l17;
-    w2c_i1 = 239u;
-    w2c_i0 = w2c_i0 > w2c_i1;
-    if (w2c_i0) {goto w2c_B20;}
-    w2c_i0 = 5u;
-    w2c_l17 = w2c_i0;
-    w2c_i0 = w2c_l15;
-    w2c_i0 = (u32)(s32)(s8)(u8)(w2c_i0);
-    w2c_i1 = 4294967231u;
-    w2c_i0 = (u32)((s32)w2c_i0 > (s32)w2c_i1);
-    w2c_i1 = w2c_l16;
-    w2c_i2 = 1u;
-    w2c_i1 ^= w2c_i2;
-    w2c_i0 |= w2c_i1;
-    if (w2c_i0) {goto w2c_B1;}
-    w2c_i0 = w2c_l14;
-    w2c_i1 = 255u;
-    w2c_i0 &= w2c_i1;
-    w2c_i1 = 6u;
-    w2c_i0 <<= (w2c_i1 & 31);
-    w2c_i1 = w2c_l15;
-    w2c_i2 = 255u;
-    w2c_i1 &= w2c_i2;
-    w2c_i0 += w2c_i1;
-    w2c_l14 = w2c_i0;
-    w2c_i1 = 14496u;
-    w2c_i0 = w2c_i0 < w2c_i1;
-    if (w2c_i0) {goto w2c_B1;}
-    w2c_i0 = w2c_l14;
-    w2c_i1 = 32736u;
-    w2c_i0 &= w2c_i1;
-    w2c_i1 = 15328u;
-    w2c_i0 = w2c_i0 == w2c_i1;
-    if (w2c_i0) {goto w2c_B1;}
-    w2c_j0 = 3ull;
-    w2c_l6 = w2c_j0;
-    goto w2c_B10;
-    w2c_B20:;
-    w2c_j0 = 4ull;
-    w2c_l6 = w2c_j0;
-    w2c_i0 = 0u;
-    w2c_l18 = w2c_i0;
-    w2c_j0 = w2c_l4;
-    w2c_j1 = 4ull;
-    w2c_i0 = w2c_j0 < w2c_j1;
-    if (w2c_i0) {goto w2c_B21;}
-    w2c_j0 = w2c_p0;
-    w2c_j1 = 3ull;
-    w2c_j0 += w2c_j1;
-    w2c_i0 = (u32)(w2c_j0);
-    w2c_i0 = i32_load8_s(m, (u64)(w2c_i0));
-    w2c_i1 = 4294967232u;
-    w2c_i0 = (u32)((s32)w2c_i0 < (s32)w2c_i1);
-    w2c_l18 = w2c_i0;
-    w2c_B21:;
-    w2c_i0 = 5u;
-    w2c_l17 = w2c_i0;
-    w2c_i0 = w2c_l16;
-    w2c_i1 = w2c_l15;
-    w2c_i1 = (u32)(s32)(s8)(u8)(w2c_i1);
-    w2c_i2 = 4294967232u;
-    w2c_i1 = (u32)((s32)w2c_i1 < (s32)w2c_i2);
-    w2c_i2 = w2c_l18;
-    w2c_i1 &= w2c_i2;
-    w2c_i0 &= w2c_i1;
-    w2c_i1 = 1u;
-    w2c_i0 = w2c_i0 != w2c_i1;
-    if (w2c_i0) {goto w2c_B1;}
-    w2c_i0 = w2c_l15;
-    w2c_i1 = 255u;
-    w2c_i0 &= w2c_i1;
-    w2c_i1 = w2c_l14;
-    w2c_i2 = 255u;
-    w2c_i1 &= w2c_i2;
-    w2c_i2 = 6u;
-    w2c_i1 <<= (w2c_i2 & 31);
-    w2c_i0 += w2c_i1;
-    w2c_i1 = 4294951792u;
-    w2c_i0 += w2c_i1;
-    w2c_i1 = 255u;
-    w2c_i0 = w2c_i0 > w2c_i1;
-    if (w2c_i0) {goto w2c_B1;}
-    w2c_B10:;
-    w2c_j0 = w2c_p0;
-    w2c_j1 = w2c_l6;
-    w2c_j0 += w2c_j1;
-    w2c_p0 = w2c_j0;
-    w2c_j0 = w2c_l4;
-    w2c_j1 = w2c_l6;
-    w2c_j0 -= w2c_j1;
-    w2c_l4 = w2c_j0;
-    w2c_j1 = 0ull;
-    w2c_i0 = w2c_j0 != w2c_j1;
-    if (w2c_i0) {goto w2c_L9;}
-  w2c_B3:;
-  w2c_i0 = 0u;
-  w2c_l19 = w2c_i0;
-  w2c_j0 = w2c_l3;
-  w2c_i0 = (u32)(w2c_j0);
-  w2c_i1 = 0u;
-  i32_store(m, (u64)(w2c_i0) + 8, w2c_i1);
-  w2c_j0 = w2c_l3;
-  w2c_i0 = (u32)(w2c_j0);
-  w2c_i1 = 0u;
-  i32_store8(m, (u64)(w2c_i0) + 12, w2c_i1);
-  w2c_j0 = w2c_l3;
-  w2c_i0 = (u32)(w2c_j0);
-  w2c_i1 = 0u;
-  i32_store8(m, (u64)(w2c_i0) + 4, w2c_i1);
-  w2c_j0 = w2c_l3;
-  w2c_i0 = (u32)(w2c_j0);
-  w2c_i1 = 0u;
-  i32_store(m, (u64)(w2c_i0), w2c_i1);
-  w2c_j0 = w2c_p1;
-  w2c_i0 = !(w2c_j0);
-  if (w2c_i0) {goto w2c_B2;}
-  w2c_j0 = w2c_p2;
-  w2c_j1 = 8ull;
-  w2c_j0 += w2c_j1;
-  w2c_l7 = w2c_j0;
-  w2c_j0 = 0ull;
-  w2c_l8 = w2c_j0;
-  w2c_j0 = 18446744073709551613ull;
-  w2c_l6 = w2c_j0;
-  w2c_j0 = w2c_p1;
-  w2c_p0 = w2c_j0;
-  w2c_j0 = w2c_l5;
-  w2c_l4 = w2c_j0;
-  w2c_j0 = 0ull;
-  w2c_l9 = w2c_j0;
-  w2c_j0 = 0ull;
-  w2c_l10 = w2c_j0;
-  w2c_j0 = 0ull;
-  w2c_l11 = w2c_j0;
-  w2c_i0 = 0u;
-  w2c_l14 = w2c_i0;
-  w2c_i0 = 0u;
-  w2c_l20 = w2c_i0;
-  w2c_i0 = 0u;
-  w2c_l21 = w2c_i0;
-  w2c_L22:
-    w2c_i0 = w2c_l14;
-    w2c_l16 = w2c_i0;
-    w2c_j0 = w2c_l4;
-    w2c_j1 = 1ull;
-    w2c_j0 += w2c_j1;
-    w2c_l12 = w2c_j0;
-    w2c_j0 = w2c_l4;
-    w2c_i0 = (u32)(w2c_j0);
-    w2c_i0 = i32_load8_s(m, (u64)(w2c_i0));
-    w2c_l15 = w2c_i0;
-    w2c_i1 = 255u;
-    w2c_i0 &= w2c_i1;
-    w2c_l14 = w2c_i0;
-    w2c_i0 = w2c_l15;
-    w2c_i1 = 0u;
-    w2c_i0 = (u32)((s32)w2c_i0 < (s32)w2c_i1);
-    if (w2c_i0) {goto w2c_B36;}
-    w2c_j0 = w2c_p0;
-    w2c_j1 = 18446744073709551615ull;
-    w2c_j0 += w2c_j1;
-    w2c_p0 = w2c_j0;
-    w2c_j0 = w2c_l12;
-    w2c_l4 = w2c_j0;
-    goto w2c_B35;
-    w2c_B36:;
-    w2c_j0 = w2c_l12;
-    w2c_i0 = (u32)(w2c_j0);
-    w2c_i0 = i32_load8_u(m, (u64)(w2c_i0));
-    w2c_i1 = 63u;
-    w2c_i0 &= w2c_i1;
-    w2c_l17 = w2c_i0;
-    w2c_i0 = w2c_l15;
-    w2c_i1 = 4294967263u;
-    w2c_i0 = w2c_i0 > w2c_i1;
-    if (w2c_i0) {goto w2c_B38;}
-    w2c_i0 = w2c_l14;
-    w2c_i1 = 6u;
-    w2c_i0 <<= (w2c_i1 & 31);
-    w2c_i1 = 1984u;
-    w2c_i0 &= w2c_i1;
-    w2c_i1 = w2c_l17;
-    w2c_i0 |= w2c_i1;
-    w2c_l14 = w2c_i0;
-    w2c_j0 = 2ull;
-    w2c_l12 = w2c_j0;
-    goto w2c_B37;
-    w2c_B38:;
-    w2c_j0 = w2c_l4;
-    w2c_i0 = (u32)(w2c_j0);
-    w2c_i0 = i32_load8_u(m, (u64)(w2c_i0) + 2u);
-    w2c_i1 = 63u;
-    w2c_i0 &= w2c_i1;
-    w2c_l18 = w2c_i0;
-    w2c_i0 = w2c_l15;
-    w2c_i1 = 4294967279u;
-    w2c_i0 = w2c_i0 > w2c_i1;
-    if (w2c_i0) {goto w2c_B39;}
-    w2c_i0 = w2c_l17;
-    w2c_i1 = 6u;
-    w2c_i0 <<= (w2c_i1 & 31);
-    w2c_i1 = w2c_l14;
-    w2c_i2 = 12u;
-    w2c_i1 <<= (w2c_i2 & 31);
-    w2c_i2 = 61440u;
-    w2c_i1 &= w2c_i2;
-    w2c_i0 |= w2c_i1;
-    w2c_i1 = w2c_l18;
-    w2c_i0 |= w2c_i1;
-    w2c_l14 = w2c_i0;
-    w2c_j0 = 3ull;
-    w2c_l12 = w2c_j0;
-    goto w2c_B37;
-    w2c_B39:;
-    w2c_i0 = w2c_l18;
-    w2c_i1 = 6u;
-    w2c_i0 <<= (w2c_i1 & 31);
-    w2c_i1 = w2c_l17;
-    w2c_i2 = 12u;
-    w2c_i1 <<= (w2c_i2 & 31);
-    w2c_i2 = w2c_l14;
-    w2c_i3 = 18u;
-    w2c_i2 <<= (w2c_i3 & 31);
-    w2c_i3 = 1835008u;
-    w2c_i2 &= w2c_i3;
-    w2c_i1 |= w2c_i2;
-    w2c_i0 |= w2c_i1;
-    w2c_j1 = w2c_l4;
-    w2c_i1 = (u32)(w2c_j1);
-    w2c_i1 = i32_load8_u(m, (u64)(w2c_i1) + 3u);
-    w2c_i2 = 63u;
-    w2c_i1 &= w2c_i2;
-    w2c_i0 |= w2c_i1;
-    w2c_l14 = w2c_i0;
-    w2c_j0 = 4ull;
-    w2c_l12 = w2c_j0;
-    w2c_B37:;
-    w2c_j0 = w2c_p0;
-    w2c_j1 = w2c_l12;
-    w2c_j0 -= w2c_j1;
-    w2c_p0 = w2c_j0;
-    w2c_j0 = w2c_l4;
-    w2c_j1 = w2c_l12;
-    w2c_j0 += w2c_j1;
-    w2c_l4 = w2c_j0;
-    w2c_i0 = w2c_l14;
-    w2c_i1 = 127u;
-    w2c_i0 = w2c_i0 > w2c_i1;
-    if (w2c_i0) {goto w2c_B34;}
-    w2c_B35:;
-    w2c_i0 = w2c_l14;
-    w2c_i1 = 4294967287u;
-    w2c_i0 += w2c_i1;
-    w2c_i1 = 5u;
-    w2c_i0 = w2c_i0 < w2c_i1;
-    if (w2c_i0) {goto w2c_B32;}
-    w2c_i0 = w2c_l14;
-    w2c_i1 = 32u;
-    w2c_i0 = w2c_i0 != w2c_i1;
-    if (w2c_i0) {goto w2c_B33;}
-    goto w2c_B32;
-    w2c_B34:;
-    w2c_i0 = w2c_l14;
-    w2c_i1 = 4294959104u;
-    w2c_i0 += w2c_i1;
-    w2c_i1 = 11u;
-    w2c_i0 = w2c_i0 < w2c_i1;
-    if (w2c_i0) {goto w2c_B32;}
-    w2c_i0 = w2c_l14;
-    w2c_i1 = 8231u;
-    w2c_i0 = (u32)((s32)w2c_i0 > (s32)w2c_i1);
-    if (w2c_i0) {goto w2c_B40;}
-    w2c_i0 = w2c_l14;
-    w2c_i1 = 133u;
-    w2c_i0 = w2c_i0 == w2c_i1;
-    if (w2c_i0) {goto w2c_B32;}
-    w2c_i0 = w2c_l14;
-    w2c_i1 = 160u;
-    w2c_i0 = w2c_i0 == w2c_i1;
-    if (w2c_i0) {goto w2c_B32;}
-    w2c_i0 = w2c_l14;
-    w2c_i1 = 5760u;
-    w2c_i0 = w2c_i0 != w2c_i1;
-    if (w2c_i0) {goto w2c_B33;}
-    goto w2c_B32;
-    w2c_B40:;
-    w2c_i0 = w2c_l14;
-    w2c_i1 = 4294959064u;
-    w2c_i0 += w2c_i1;
-    w2c_l15 = w2c_i0;
-    w2c_i1 = 55u;
-    w2c_i0 = w2c_i0 > w2c_i1;
-    if (w2c_i0) {goto w2c_B41;}
-    w2c_j0 = 1ull;
-    w2c_i1 = w2c_l15;
-    w2c_j1 = (u64)(w2c_i1);
-    w2c_j0 <<= (w2c_j1 & 63);
-    w2c_j1 = 36028797018964099ull;
-    w2c_j0 &= w2c_j1;
-    w2c_j1 = 0ull;
-    w2c_i0 = w2c_j0 != w2c_j1;
-    if (w2c_i0) {goto w2c_B32;}
-    w2c_B41:;
-    w2c_i0 = w2c_l14;
-    w2c_i1 = 12288u;
-    w2c_i0 = w2c_i0 == w2c_i1;
-    if (w2c_i0) {goto w2c_B32;}
-    w2c_B33:;
-    w2c_i0 = w2c_l21;
-    w2c_j0 = (u64)(w2c_i0);
-    w2c_j1 = 255ull;
-    w2c_j0 &= w2c_j1;
-    w2c_i0 = (u32)(w2c_j0);
-    switch (w2c_i0) {
-      case 0: goto w2c_B31;
-      case 1: goto w2c_B30;
-      case 2: goto w2c_B29;
-      case 3: goto w2c_B25;
-      case 4: goto w2c_B27;
-      case 5: goto w2c_B24;
-      default: goto w2c_B31;
-    }
-    w2c_B32:;
-    w2c_j0 = w2c_l3;
-    w2c_i0 = (u32)(w2c_j0);
-    w2c_j1 = w2c_l3;
-    w2c_i1 = (u32)(w2c_j1);
-    w2c_i1 = i32_load8_u(m, (u64)(w2c_i1) + 12u);
-    i32_store8(m, (u64)(w2c_i0) + 4, w2c_i1);
-    w2c_j0 = w2c_l3;
-    w2c_i0 = (u32)(w2c_j0);
-    w2c_j1 = w2c_l3;
-    w2c_i1 = (u32)(w2c_j1);
-    w2c_i1 = i32_load(m, (u64)(w2c_i1) + 8u);
-    i32_store(m, (u64)(w2c_i0), w2c_i1);
-    w2c_i0 = w2c_l16;
-    w2c_l14 = w2c_i0;
-    goto w2c_B23;
-    w2c_B31:;
-    w2c_i0 = 1u;
-    w2c_l21 = w2c_i0;
-    w2c_i0 = w2c_l14;
-    w2c_i1 = 8855u;
-    w2c_i0 = w2c_i0 == w2c_i1;
-    if (w2c_i0) {goto w2c_B26;}
-    w2c_i0 = 2u;
-    w2c_i1 = 5u;
-    w2c_i2 = w2c_l14;
-    w2c_i3 = 20154u;
-    w2c_i2 = w2c_i2 == w2c_i3;
-    w2c_i0 = w2c_i2 ? w2c_i0 : w2c_i1;
-    w2c_l21 = w2c_i0;
-    goto w2c_B24;
-    w2c_B30:;
-    w2c_i0 = w2c_l14;
-    w2c_i1 = 20154u;
-    w2c_i0 = w2c_i0 != w2c_i1;
-    if (w2c_i0) {goto w2c_B28;}
-    w2c_i0 = 2u;
-    w2c_l21 = w2c_i0;
-    goto w2c_B24;
-    w2c_B29:;
-    w2c_i0 = w2c_l14;
-    w2c_i1 = 27665u;
-    w2c_i0 = w2c_i0 != w2c_i1;
-    if (w2c_i0) {goto w2c_B28;}
-    w2c_i0 = 3u;
-    w2c_l21 = w2c_i0;
-    goto w2c_B24;
-    w2c_B28:;
-    w2c_i0 = 5u;
-    w2c_l21 = w2c_i0;
-    goto w2c_B24;
-    w2c_B27:;
-    w2c_i0 = 5u;
-    w2c_l21 = w2c_i0;
-    w2c_i0 = w2c_l14;
-    w2c_i1 = 65306u;
-    w2c_i0 = w2c_i0 == w2c_i1;
-    if (w2c_i0) {goto w2c_B26;}
-    w2c_i0 = w2c_l14;
-    w2c_i1 = 58u;
-    w2c_i0 = w2c_i0 != w2c_i1;
-    if (w2c_i0) {goto w2c_B24;}
-    w2c_B26:;
-    w2c_j0 = w2c_l3;
-    w2c_i0 = (u32)(w2c_j0);
-    w2c_i1 = 0u;
-    i32_store8(m, (u64)(w2c_i0) + 4, w2c_i1);
-    w2c_j0 = w2c_l3;
-    w2c_i0 = (u32)(w2c_j0);
-    w2c_i1 = 0u;
-    i32_store(m, (u64)(w2c_i0), w2c_i1);
-    w2c_i0 = w2c_l16;
-    w2c_l14 = w2c_i0;
-    goto w2c_B23;
-    w2c_B25:;
-    w2c_i0 = 4u;
-    w2c_i1 = 4u;
-    w2c_i2 = 5u;
-    w2c_i3 = w2c_l14;
-    w2c_i4 = 24163u;
-    w2c_i3 = w2c_i3 == w2c_i4;
-    w2c_i1 = w2c_i3 ? w2c_i1 : w2c_i2;
-    w2c_i2 = w2c_l14;
-    w2c_i3 = 24065u;
-    w2c_i2 = w2c_i2 == w2c_i3;
-    w2c_i0 = w2c_i2 ? w2c_i0 : w2c_i1;
-    w2c_l21 = w2c_i0;
-    w2c_B24:;
-    w2c_i0 = w2c_l14;
-    w2c_i1 = 3227u;
-    w2c_i0 *= w2c_i1;
-    w2c_i1 = 7u;
-    w2c_i0 >>= (w2c_i1 & 31);
-    w2c_j0 = (u64)(w2c_i0);
-    w2c_j1 = 504ull;
-    w2c_j0 &= w2c_j1;
-    w2c_l12 = w2c_j0;
-    w2c_i0 = (u32)(w2c_j0);
-    w2c_i0 = i32_load(m, (u64)(w2c_i0) + 66332u);
-    w2c_i1 = w2c_l14;
-    w2c_i0 = w2c_i0 != w2c_i1;
-    if (w2c_i0) {goto w2c_B49;}
-    w2c_j0 = w2c_l12;
-    w2c_j1 = 66336ull;
-    w2c_j0 += w2c_j1;
-    w2c_i0 = (u32)(w2c_j0);
-    w2c_i0 = i32_load8_u(m, (u64)(w2c_i0));
-    w2c_i1 = 255u;
-    w2c_i0 &= w2c_i1;
-    w2c_i1 = 1u;
-    w2c_i0 = w2c_i0 != w2c_i1;
-    if (w2c_i0) {goto w2c_B49;}
-    w2c_j0 = w2c_l12;
-    w2c_j1 = 66338ull;
-    w2c_j0 += w2c_j1;
-    w2c_i0 = (u32)(w2c_j0);
-    w2c_j0 = i64_load8_u(m, (u64)(w2c_i0));
-    w2c_l13 = w2c_j0;
-    w2c_j0 = w2c_l12;
-    w2c_j1 = 66337ull;
-    w2c_j0 += w2c_j1;
-    w2c_i0 = (u32)(w2c_j0);
-    w2c_i0 = i32_load8_u(m, (u64)(w2c_i0));
-    w2c_l15 = w2c_i0;
-    w2c_i0 = w2c_l20;
-    w2c_j0 = (u64)(w2c_i0);
-    w2c_j1 = 255ull;
-    w2c_j0 &= w2c_j1;
-    w2c_i0 = (u32)(w2c_j0);
-    w2c_l14 = w2c_i0;
-    switch (w2c_i0) {
-      case 0: goto w2c_B65;
-      case 1: goto w2c_B65;
-      case 2: goto w2c_B65;
-      case 3: goto w2c_B65;
-      case 4: goto w2c_B65;
-      case 5: goto w2c_B73;
-      case 6: goto w2c_B72;
-      case 7: goto w2c_B71;
-      case 8: goto w2c_B70;
-      case 9: goto w2c_B69;
-      case 10: goto w2c_B68;
-      case 11: goto w2c_B67;
-      case 12: goto w2c_B66;
-      case 13: goto w2c_B65;
-      case 14: goto w2c_B65;
-      case 15: goto w2c_B65;
-      case 16: goto w2c_B65;
-      case 17: goto w2c_B65;
-      case 18: goto w2c_B65;
-      case 19: goto w2c_B65;
-      default: goto w2c_B65;
-    }
-    w2c_B73:;
-    w2c_i0 = 1u;
-    w2c_i1 = w2c_l15;
-    w2c_i0 <<= (w2c_i1 & 31);
-    w2c_i1 = 31999u;
-    w2c_i0 &= w2c_i1;
-    if (w2c_i0) {goto w2c_B74;}
-    w2c_i0 = w2c_l15;
-    w2c_i1 = 8u;
-    w2c_i0 = w2c_i0 == w2c_i1;
-    if (w2c_i0) {goto w2c_B54;}
-    goto w2c_B52;
-    w2c_B74:;
-    w2c_i0 = w2c_l15;
-    w2c_i1 = 4294967291u;
-    w2c_i0 += w2c_i1;
-    w2c_i1 = 10u;
-    w2c_i0 = w2c_i0 < w2c_i1;
-    if (w2c_i0) {goto w2c_B75;}
-    w2c_i0 = 0u;
-    w2c_l14 = w2c_i0;
-    w2c_i0 = w2c_l15;
-    switch (w2c_i0) {
-      case 0: goto w2c_B75;
-      case 1: goto w2c_B75;
-      case 2: goto w2c_B60;
-      case 3: goto w2c_B58;
-      case 4: goto w2c_B48;
-      default: goto w2c_B75;
-    }
-    w2c_B75:;
-    w2c_i0 = 0u;
-    w2c_l14 = w2c_i0;
-    w2c_i0 = 6u;
-    w2c_l20 = w2c_i0;
-    w2c_i0 = w2c_l15;
-    switch (w2c_i0) {
-      case 0: goto w2c_B49;
-      case 1: goto w2c_B49;
-      case 2: goto w2c_B49;
-      case 3: goto w2c_B49;
-      case 4: goto w2c_B49;
-      case 5: goto w2c_B43;
-      case 6: goto w2c_B56;
-      case 7: goto w2c_B47;
-      case 8: goto w2c_B49;
-      case 9: goto w2c_B49;
-      case 10: goto w2c_B49;
-      case 11: goto w2c_B49;
-      case 12: goto w2c_B49;
-      case 13: goto w2c_B49;
-      case 14: goto w2c_B49;
-      default: goto w2c_B49;
-    }
-    w2c_B72:;
-    w2c_i0 = 3u;
-    w2c_l18 = w2c_i0;
-    w2c_i0 = 10u;
-    w2c_l17 = w2c_i0;
-    w2c_i0 = w2c_l15;
-    w2c_l22 = w2c_i0;
-    w2c_i0 = w2c_l15;
-    switch (w2c_i0) {
-      case 0: goto w2c_B77;
-      case 1: goto w2c_B64;
-      case 2: goto w2c_B76;
-      case 3: goto w2c_B76;
-      case 4: goto w2c_B76;
-      case 5: goto w2c_B49;
-      case 6: goto w2c_B76;
-      case 7: goto w2c_B76;
-      case 8: goto w2c_B76;
-      case 9: goto w2c_B76;
-      case 10: goto w2c_B76;
-      case 11: goto w2c_B76;
-      case 12: goto w2c_B76;
-      case 13: goto w2c_B76;
-      case 14: goto w2c_B76;
-      default: goto w2c_B77;
-    }
-    w2c_B77:;
-    w2c_i0 = w2c_l16;
-    w2c_i1 = 2u;
-    w2c_i0 |= w2c_i1;
-    w2c_l19 = w2c_i0;
-    w2c_i0 = 1u;
-    w2c_l14 = w2c_i0;
-    w2c_i0 = 9u;
-    w2c_l20 = w2c_i0;
-    goto w2c_B42;
-    w2c_B76:;
-    w2c_i0 = 1u;
-    w2c_l14 = w2c_i0;
-    w2c_i0 = w2c_l15;
-    w2c_i1 = 6u;
-    w2c_i0 = w2c_i0 == w2c_i1;
-    if (w2c_i0) {goto w2c_B56;}
-    w2c_i0 = w2c_l15;
-    w2c_i1 = 7u;
-    w2c_i0 = w2c_i0 == w2c_i1;
-    if (w2c_i0) {goto w2c_B47;}
-    goto w2c_B49;
-    w2c_B71:;
-    w2c_i0 = 3u;
-    w2c_l18 = w2c_i0;
-    w2c_i0 = 4u;
-    w2c_l22 = w2c_i0;
-    w2c_i0 = 10u;
-    w2c_l17 = w2c_i0;
-    w2c_i0 = w2c_l15;
-    switch (w2c_i0) {
-      case 0: goto w2c_B79;
-      case 1: goto w2c_B64;
-      case 2: goto w2c_B78;
-      case 3: goto w2c_B78;
-      case 4: goto w2c_B78;
-      case 5: goto w2c_B49;
-      case 6: goto w2c_B78;
-      case 7: goto w2c_B78;
-      case 8: goto w2c_B78;
-      case 9: goto w2c_B78;
-      case 10: goto w2c_B78;
-      case 11: goto w2c_B78;
-      case 12: goto w2c_B78;
-      case 13: goto w2c_B78;
-      case 14: goto w2c_B78;
-      default: goto w2c_B79;
-    }
-    w2c_B79:;
-    w2c_i0 = 3u;
-    w2c_l19 = w2c_i0;
-    w2c_i0 = w2c_l16;
-    w2c_i1 = 3u;
-    w2c_i0 ^= w2c_i1;
-    w2c_l14 = w2c_i0;
-    w2c_i0 = 9u;
-    w2c_l20 = w2c_i0;
-    goto w2c_B42;
-    w2c_B78:;
-    w2c_i0 = 1u;
-    w2c_l14 = w2c_i0;
-    w2c_i0 = 8u;
-    w2c_l20 = w2c_i0;
-    w2c_i0 = w2c_l15;
-    w2c_i1 = 5u;
-    w2c_i0 = w2c_i0 == w2c_i1;
-    if (w2c_i0) {goto w2c_B43;}
-    w2c_i0 = w2c_l15;
-    w2c_i1 = 7u;
-    w2c_i0 = w2c_i0 == w2c_i1;
-    if (w2c_i0) {goto w2c_B47;}
-    goto w2c_B49;
-    w2c_B70:;
-    w2c_i0 = 1u;
-    w2c_l14 = w2c_i0;
-    w2c_i0 = 3u;
-    w2c_l18 = w2c_i0;
-    w2c_i0 = 5u;
-    w2c_l22 = w2c_i0;
-    w2c_i0 = 10u;
-    w2c_l17 = w2c_i0;
-    w2c_i0 = w2c_l15;
-    switch (w2c_i0) {
-      case 0: goto w2c_B80;
-      case 1: goto w2c_B64;
-      case 2: goto w2c_B49;
-      case 3: goto w2c_B49;
-      case 4: goto w2c_B49;
-      case 5: goto w2c_B49;
-      case 6: goto w2c_B49;
-      case 7: goto w2c_B47;
-      case 8: goto w2c_B49;
-      case 9: goto w2c_B49;
-      case 10: goto w2c_B49;
-      case 11: goto w2c_B49;
-      case 12: goto w2c_B49;
-      case 13: goto w2c_B49;
-      case 14: goto w2c_B49;
-      default: goto w2c_B80;
-    }
-    w2c_B80:;
-    w2c_i0 = w2c_l16;
-    w2c_i1 = 2u;
-    w2c_i0 |= w2c_i1;
-    w2c_l19 = w2c_i0;
-    w2c_i0 = 5u;
-    w2c_l14 = w2c_i0;
-    w2c_i0 = 9u;
-    w2c_l20 = w2c_i0;
-    goto w2c_B42;
-    w2c_B69:;
-    w2c_i0 = w2c_l15;
-    w2c_i1 = 1u;
-    w2c_i0 = w2c_i0 != w2c_i1;
-    if (w2c_i0) {goto w2c_B49;}
-    w2c_i0 = 11u;
-    w2c_l17 = w2c_i0;
-    w2c_i0 = w2c_l16;
-    w2c_l22 = w2c_i0;
-    w2c_i0 = w2c_l19;
-    w2c_l18 = w2c_i0;
-    goto w2c_B64;
-    w2c_B68:;
-    w2c_i0 = w2c_l19;
-    w2c_j0 = (u64)(w2c_i0);
-    w2c_j1 = 255ull;
-    w2c_j0 &= w2c_j1;
-    w2c_i0 = (u32)(w2c_j0);
-    switch (w2c_i0) {
-      case 0: goto w2c_B81;
-      case 1: goto w2c_B61;
-      case 2: goto w2c_B59;
-      case 3: goto w2c_B50;
-      default: goto w2c_B81;
-    }
-    w2c_B81:;
-    w2c_i0 = w2c_l16;
-    w2c_j0 = (u64)(w2c_i0);
-    w2c_j1 = 255ull;
-    w2c_j0 &= w2c_j1;
-    w2c_i0 = (u32)(w2c_j0);
-    switch (w2c_i0) {
-      case 0: goto w2c_B86;
-      case 1: goto w2c_B83;
-      case 2: goto w2c_B85;
-      case 3: goto w2c_B85;
-      case 4: goto w2c_B84;
-      case 5: goto w2c_B82;
-      default: goto w2c_B86;
-    }
-    w2c_B86:;
-    w2c_i0 = 0u;
-    w2c_l14 = w2c_i0;
-    w2c_i0 = 6u;
-    w2c_l20 = w2c_i0;
-    w2c_i0 = w2c_l15;
-    switch (w2c_i0) {
-      case 0: goto w2c_B49;
-      case 1: goto w2c_B49;
-      case 2: goto w2c_B49;
-      case 3: goto w2c_B49;
-      case 4: goto w2c_B49;
-      case 5: goto w2c_B43;
-      case 6: goto w2c_B56;
-      case 7: goto w2c_B47;
-      case 8: goto w2c_B49;
-      case 9: goto w2c_B49;
-      case 10: goto w2c_B49;
-      case 11: goto w2c_B49;
-      case 12: goto w2c_B49;
-      case 13: goto w2c_B49;
-      case 14: goto w2c_B49;
-      default: goto w2c_B49;
-    }
-    w2c_B85:;
-    w2c_i0 = 0u;
-    w2c_l14 = w2c_i0;
-    w2c_i0 = 8u;
-    w2c_l20 = w2c_i0;
-    w2c_i0 = w2c_l15;
-    w2c_i1 = 5u;
-    w2c_i0 = w2c_i0 == w2c_i1;
-    if (w2c_i0) {goto w2c_B43;}
-    w2c_i0 = w2c_l15;
-    w2c_i1 = 7u;
-    w2c_i0 = w2c_i0 == w2c_i1;
-    if (w2c_i0) {goto w2c_B47;}
-    goto w2c_B49;
-    w2c_B84:;
-    w2c_i0 = w2c_l15;
-    w2c_i1 = 5u;
-    w2c_i0 = w2c_i0 != w2c_i1;
-    if (w2c_i0) {goto w2c_B49;}
-    goto w2c_B45;
-    w2c_B83:;
-    w2c_i0 = 0u;
-    w2c_l14 = w2c_i0;
-    w2c_i0 = w2c_l15;
-    w2c_i1 = 6u;
-    w2c_i0 = w2c_i0 == w2c_i1;
-    if (w2c_i0) {goto w2c_B56;}
-    w2c_i0 = w2c_l15;
-    w2c_i1 = 7u;
-    w2c_i0 = w2c_i0 == w2c_i1;
-    if (w2c_i0) {goto w2c_B47;}
-    goto w2c_B49;
-    w2c_B82:;
-    w2c_i0 = w2c_l15;
-    w2c_i1 = 7u;
-    w2c_i0 = w2c_i0 != w2c_i1;
-    if (w2c_i0) {goto w2c_B49;}
-    w2c_i0 = 0u;
-    w2c_l14 = w2c_i0;
-    goto w2c_B47;
-    w2c_B67:;
-    w2c_i0 = w2c_l19;
-    w2c_j0 = (u64)(w2c_i0);
-    w2c_j1 = 255ull;
-    w2c_j0 &= w2c_j1;
-    w2c_i0 = (u32)(w2c_j0);
-    switch (w2c_i0) {
-      case 0: goto w2c_B87;
-      case 1: goto w2c_B88;
-      case 2: goto w2c_B89;
-      case 3: goto w2c_B90;
-      default: goto w2c_B87;
-    }
-    w2c_B90:;
-    w2c_i0 = w2c_l15;
-    w2c_i1 = 4294967291u;
-    w2c_i0 += w2c_i1;
-    w2c_i1 = 10u;
-    w2c_i0 = w2c_i0 < w2c_i1;
-    if (w2c_i0) {goto w2c_B91;}
-    w2c_i0 = w2c_l16;
-    w2c_l14 = w2c_i0;
-    w2c_i0 = w2c_l15;
-    switch (w2c_i0) {
-      case 0: goto w2c_B91;
-      case 1: goto w2c_B91;
-      case 2: goto w2c_B60;
-      case 3: goto w2c_B58;
-      case 4: goto w2c_B57;
-      default: goto w2c_B91;
-    }
-    w2c_B91:;
-    w2c_i0 = w2c_l16;
-    w2c_j0 = (u64)(w2c_i0);
-    w2c_j1 = 255ull;
-    w2c_j0 &= w2c_j1;
-    w2c_i0 = (u32)(w2c_j0);
-    switch (w2c_i0) {
-      case 0: goto w2c_B96;
-      case 1: goto w2c_B93;
-      case 2: goto w2c_B95;
-      case 3: goto w2c_B95;
-      case 4: goto w2c_B94;
-      case 5: goto w2c_B92;
-      default: goto w2c_B96;
-    }
-    w2c_B96:;
-    w2c_i0 = 0u;
-    w2c_l14 = w2c_i0;
-    w2c_i0 = 6u;
-    w2c_l20 = w2c_i0;
-    w2c_i0 = w2c_l15;
-    switch (w2c_i0) {
-      case 0: goto w2c_B49;
-      case 1: goto w2c_B49;
-      case 2: goto w2c_B49;
-      case 3: goto w2c_B49;
-      case 4: goto w2c_B49;
-      case 5: goto w2c_B43;
-      case 6: goto w2c_B56;
-      case 7: goto w2c_B47;
-      case 8: goto w2c_B49;
-      case 9: goto w2c_B49;
-      case 10: goto w2c_B49;
-      case 11: goto w2c_B49;
-      case 12: goto w2c_B49;
-      case 13: goto w2c_B49;
-      case 14: goto w2c_B49;
-      default: goto w2c_B49;
-    }
-    w2c_B95:;
-    w2c_i0 = 0u;
-    w2c_l14 = w2c_i0;
-    w2c_i0 = 8u;
-    w2c_l20 = w2c_i0;
-    w2c_i0 = w2c_l15;
-    w2c_i1 = 5u;
-    w2c_i0 = w2c_i0 == w2c_i1;
-    if (w2c_i0) {goto w2c_B43;}
-    w2c_i0 = w2c_l15;
-    w2c_i1 = 7u;
-    w2c_i0 = w2c_i0 == w2c_i1;
-    if (w2c_i0) {goto w2c_B47;}
-    goto w2c_B49;
-    w2c_B94:;
-    w2c_i0 = w2c_l15;
-    w2c_i1 = 5u;
-    w2c_i0 = w2c_i0 == w2c_i1;
-    if (w2c_i0) {goto w2c_B45;}
-    goto w2c_B49;
-    w2c_B93:;
-    w2c_i0 = 0u;
-    w2c_l14 = w2c_i0;
-    w2c_i0 = w2c_l15;
-    w2c_i1 = 6u;
-    w2c_i0 = w2c_i0 == w2c_i1;
-    if (w2c_i0) {goto w2c_B56;}
-    w2c_i0 = w2c_l15;
-    w2c_i1 = 7u;
-    w2c_i0 = w2c_i0 == w2c_i1;
-    if (w2c_i0) {goto w2c_B47;}
-    goto w2c_B49;
-    w2c_B92:;
-    w2c_i0 = w2c_l15;
-    w2c_i1 = 7u;
-    w2c_i0 = w2c_i0 != w2c_i1;
-    if (w2c_i0) {goto w2c_B49;}
-    w2c_i0 = 0u;
-    w2c_l14 = w2c_i0;
-    goto w2c_B47;
-    w2c_B89:;
-    w2c_i0 = w2c_l15;
-    w2c_i1 = 4294967292u;
-    w2c_i0 += w2c_i1;
-    w2c_i1 = 11u;
-    w2c_i0 = w2c_i0 < w2c_i1;
-    if (w2c_i0) {goto w2c_B97;}
-    w2c_i0 = w2c_l16;
-    w2c_l14 = w2c_i0;
-    w2c_i0 = w2c_l15;
-    switch (w2c_i0) {
-      case 0: goto w2c_B97;
-      case 1: goto w2c_B97;
-      case 2: goto w2c_B60;
-      case 3: goto w2c_B58;
-      default: goto w2c_B97;
-    }
-    w2c_B97:;
-    w2c_i0 = w2c_l16;
-    w2c_j0 = (u64)(w2c_i0);
-    w2c_j1 = 255ull;
-    w2c_j0 &= w2c_j1;
-    w2c_i0 = (u32)(w2c_j0);
-    switch (w2c_i0) {
-      case 0: goto w2c_B102;
-      case 1: goto w2c_B99;
-      case 2: goto w2c_B101;
-      case 3: goto w2c_B101;
-      case 4: goto w2c_B100;
-      case 5: goto w2c_B98;
-      default: goto w2c_B102;
-    }
-    w2c_B102:;
-    w2c_i0 = 0u;
-    w2c_l14 = w2c_i0;
-    w2c_i0 = 6u;
-    w2c_l20 = w2c_i0;
-    w2c_i0 = w2c_l15;
-    switch (w2c_i0) {
-      case 0: goto w2c_B49;
-      case 1: goto w2c_B49;
-      case 2: goto w2c_B49;
-      case 3: goto w2c_B49;
-      case 4: goto w2c_B49;
-      case 5: goto w2c_B43;
-      case 6: goto w2c_B56;
-      case 7: goto w2c_B47;
-      case 8: goto w2c_B49;
-      case 9: goto w2c_B49;
-      case 10: goto w2c_B49;
-      case 11: goto w2c_B49;
-      case 12: goto w2c_B49;
-      case 13: goto w2c_B49;
-      case 14: goto w2c_B49;
-      default: goto w2c_B49;
-    }
-    w2c_B101:;
-    w2c_i0 = 0u;
-    w2c_l14 = w2c_i0;
-    w2c_i0 = 8u;
-    w2c_l20 = w2c_i0;
-    w2c_i0 = w2c_l15;
-    w2c_i1 = 5u;
-    w2c_i0 = w2c_i0 == w2c_i1;
-    if (w2c_i0) {goto w2c_B43;}
-    w2c_i0 = w2c_l15;
-    w2c_i1 = 7u;
-    w2c_i0 = w2c_i0 == w2c_i1;
-    if (w2c_i0) {goto w2c_B47;}
-    goto w2c_B49;
-    w2c_B100:;
-    w2c_i0 = w2c_l15;
-    w2c_i1 = 5u;
-    w2c_i0 = w2c_i0 == w2c_i1;
-    if (w2c_i0) {goto w2c_B45;}
-    goto w2c_B49;
-    w2c_B99:;
-    w2c_i0 = 0u;
-    w2c_l14 = w2c_i0;
-    w2c_i0 = w2c_l15;
-    w2c_i1 = 6u;
-    w2c_i0 = w2c_i0 == w2c_i1;
-    if (w2c_i0) {goto w2c_B56;}
-    w2c_i0 = w2c_l15;
-    w2c_i1 = 7u;
-    w2c_i0 = w2c_i0 == w2c_i1;
-    if (w2c_i0) {goto w2c_B47;}
-    goto w2c_B49;
-    w2c_B98:;
-    w2c_i0 = w2c_l15;
-    w2c_i1 = 7u;
-    w2c_i0 = w2c_i0 != w2c_i1;
-    if (w2c_i0) {goto w2c_B49;}
-    w2c_i0 = 0u;
-    w2c_l14 = w2c_i0;
-    goto w2c_B47;
-    w2c_B88:;
-    w2c_i0 = w2c_l15;
-    w2c_i1 = 2u;
-    w2c_i0 = w2c_i0 != w2c_i1;
-    if (w2c_i0) {goto w2c_B103;}
-    w2c_i0 = w2c_l16;
-    w2c_l14 = w2c_i0;
-    goto w2c_B60;
-    w2c_B103:;
-    w2c_i0 = w2c_l16;
-    w2c_j0 = (u64)(w2c_i0);
-    w2c_j1 = 255ull;
-    w2c_j0 &= w2c_j1;
-    w2c_i0 = (u32)(w2c_j0);
-    switch (w2c_i0) {
-      case 0: goto w2c_B108;
-      case 1: goto w2c_B105;
-      case 2: goto w2c_B107;
-      case 3: goto w2c_B107;
-      case 4: goto w2c_B106;
-      case 5: goto w2c_B104;
-      default: goto w2c_B108;
-    }
-    w2c_B108:;
-    w2c_i0 = 0u;
-    w2c_l14 = w2c_i0;
-    w2c_i0 = 6u;
-    w2c_l20 = w2c_i0;
-    w2c_i0 = w2c_l15;
-    switch (w2c_i0) {
-      case 0: goto w2c_B49;
-      case 1: goto w2c_B49;
-      case 2: goto w2c_B0;
-      case 3: goto w2c_B49;
-      case 4: goto w2c_B49;
-      case 5: goto w2c_B43;
-      case 6: goto w2c_B56;
-      case 7: goto w2c_B47;
-      case 8: goto w2c_B49;
-      case 9: goto w2c_B49;
-      case 10: goto w2c_B49;
-      case 11: goto w2c_B49;
-      case 12: goto w2c_B49;
-      case 13: goto w2c_B49;
-      case 14: goto w2c_B49;
-      default: goto w2c_B49;
-    }
-    w2c_B107:;
-    w2c_i0 = 0u;
-    w2c_l14 = w2c_i0;
-    w2c_i0 = 8u;
-    w2c_l20 = w2c_i0;
-    w2c_i0 = w2c_l15;
-    w2c_i1 = 5u;
-    w2c_i0 = w2c_i0 == w2c_i1;
-    if (w2c_i0) {goto w2c_B43;}
-    w2c_i0 = w2c_l15;
-    w2c_i1 = 7u;
-    w2c_i0 = w2c_i0 == w2c_i1;
-    if (w2c_i0) {goto w2c_B47;}
-    goto w2c_B49;
-    w2c_B106:;
-    w2c_i0 = w2c_l15;
-    w2c_i1 = 5u;
-    w2c_i0 = w2c_i0 == w2c_i1;
-    if (w2c_i0) {goto w2c_B45;}
-    goto w2c_B49;
-    w2c_B105:;
-    w2c_i0 = 0u;
-    w2c_l14 = w2c_i0;
-    w2c_i0 = w2c_l15;
-    w2c_i1 = 6u;
-    w2c_i0 = w2c_i0 == w2c_i1;
-    if (w2c_i0) {goto w2c_B56;}
-    w2c_i0 = w2c_l15;
-    w2c_i1 = 7u;
-    w2c_i0 = w2c_i0 == w2c_i1;
-    if (w2c_i0) {goto w2c_B47;}
-    goto w2c_B49;
-    w2c_B104:;
-    w2c_i0 = w2c_l15;
-    w2c_i1 = 7u;
-    w2c_i0 = w2c_i0 != w2c_i1;
-    if (w2c_i0) {goto w2c_B49;}
-    w2c_i0 = 0u;
-    w2c_l14 = w2c_i0;
-    goto w2c_B47;
-    w2c_B87:;
-    w2c_i0 = w2c_l16;
-    w2c_j0 = (u64)(w2c_i0);
-    w2c_j1 = 255ull;
-    w2c_j0 &= w2c_j1;
-    w2c_i0 = (u32)(w2c_j0);
-    switch (w2c_i0) {
-      case 0: goto w2c_B113;
-      case 1: goto w2c_B110;
-      case 2: goto w2c_B112;
-      case 3: goto w2c_B112;
-      case 4: goto w2c_B111;
-      case 5: goto w2c_B109;
-      default: goto w2c_B113;
-    }
-    w2c_B113:;
-    w2c_i0 = 0u;
-    w2c_l14 = w2c_i0;
-    w2c_i0 = 6u;
-    w2c_l20 = w2c_i0;
-    w2c_i0 = w2c_l15;
-    switch (w2c_i0) {
-      case 0: goto w2c_B49;
-      case 1: goto w2c_B49;
-      case 2: goto w2c_B49;
-      case 3: goto w2c_B49;
-      case 4: goto w2c_B49;
-      case 5: goto w2c_B43;
-      case 6: goto w2c_B56;
-      case 7: goto w2c_B47;
-      case 8: goto w2c_B49;
-      case 9: goto w2c_B49;
-      case 10: goto w2c_B49;
-      case 11: goto w2c_B49;
-      case 12: goto w2c_B49;
-      case 13: goto w2c_B49;
-      case 14: goto w2c_B49;
-      default: goto w2c_B49;
-    }
-    w2c_B112:;
-    w2c_i0 = 0u;
-    w2c_l14 = w2c_i0;
-    w2c_i0 = 8u;
-    w2c_l20 = w2c_i0;
-    w2c_i0 = w2c_l15;
-    w2c_i1 = 5u;
-    w2c_i0 = w2c_i0 == w2c_i1;
-    if (w2c_i0) {goto w2c_B43;}
-    w2c_i0 = w2c_l15;
-    w2c_i1 = 7u;
-    w2c_i0 = w2c_i0 == w2c_i1;
-    if (w2c_i0) {goto w2c_B47;}
-    goto w2c_B49;
-    w2c_B111:;
-    w2c_i0 = w2c_l15;
-    w2c_i1 = 5u;
-    w2c_i0 = w2c_i0 == w2c_i1;
-    if (w2c_i0) {goto w2c_B45;}
-    goto w2c_B49;
-    w2c_B110:;
-    w2c_i0 = 0u;
-    w2c_l14 = w2c_i0;
-    w2c_i0 = w2c_l15;
-    w2c_i1 = 6u;
-    w2c_i0 = w2c_i0 == w2c_i1;
-    if (w2c_i0) {goto w2c_B56;}
-    w2c_i0 = w2c_l15;
-    w2c_i1 = 7u;
-    w2c_i0 = w2c_i0 == w2c_i1;
-    if (w2c_i0) {goto w2c_B47;}
-    goto w2c_B49;
-    w2c_B109:;
-    w2c_i0 = w2c_l15;
-    w2c_i1 = 7u;
-    w2c_i0 = w2c_i0 != w2c_i1;
-    if (w2c_i0) {goto w2c_B49;}
-    w2c_i0 = 0u;
-    w2c_l14 = w2c_i0;
-    goto w2c_B47;
-    w2c_B66:;
-    w2c_i0 = w2c_l19;
-    w2c_j0 = (u64)(w2c_i0);
-    w2c_j1 = 255ull;
-    w2c_j0 &= w2c_j1;
-    w2c_i0 = (u32)(w2c_j0);
-    switch (w2c_i0) {
-      case 0: goto w2c_B114;
-      case 1: goto w2c_B115;
-      case 2: goto w2c_B116;
-      case 3: goto w2c_B117;
-      default: goto w2c_B114;
-    }
-    w2c_B117:;
-    w2c_i0 = w2c_l15;
-    w2c_i1 = 4294967294u;
-    w2c_i0 += w2c_i1;
-    w2c_i1 = 13u;
-    w2c_i0 = w2c_i0 < w2c_i1;
-    if (w2c_i0) {goto w2c_B118;}
-    w2c_i0 = 1u;
-    w2c_l19 = w2c_i0;
-    w2c_i0 = 9u;
-    w2c_l20 = w2c_i0;
-    w2c_i0 = 2u;
-    w2c_l18 = w2c_i0;
-    w2c_i0 = 10u;
-    w2c_l17 = w2c_i0;
-    w2c_i0 = w2c_l16;
-    w2c_l22 = w2c_i0;
-    w2c_i0 = w2c_l16;
-    w2c_l14 = w2c_i0;
-    w2c_i0 = w2c_l15;
-    switch (w2c_i0) {
-      case 0: goto w2c_B42;
-      case 1: goto w2c_B64;
-      default: goto w2c_B42;
-    }
-    w2c_B118:;
-    w2c_i0 = w2c_l16;
-    w2c_j0 = (u64)(w2c_i0);
-    w2c_j1 = 255ull;
-    w2c_j0 &= w2c_j1;
-    w2c_i0 = (u32)(w2c_j0);
-    switch (w2c_i0) {
-      case 0: goto w2c_B123;
-      case 1: goto w2c_B120;
-      case 2: goto w2c_B122;
-      case 3: goto w2c_B122;
-      case 4: goto w2c_B121;
-      case 5: goto w2c_B119;
-      default: goto w2c_B123;
-    }
-    w2c_B123:;
-    w2c_i0 = 1u;
-    w2c_l14 = w2c_i0;
-    w2c_i0 = 6u;
-    w2c_l20 = w2c_i0;
-    w2c_i0 = w2c_l15;
-    w2c_i1 = 4294967294u;
-    w2c_i0 += w2c_i1;
-    switch (w2c_i0) {
-      case 0: goto w2c_B49;
-      case 1: goto w2c_B49;
-      case 2: goto w2c_B49;
-      case 3: goto w2c_B43;
-      case 4: goto w2c_B56;
-      case 5: goto w2c_B47;
-      case 6: goto w2c_B49;
-      case 7: goto w2c_B49;
-      case 8: goto w2c_B49;
-      case 9: goto w2c_B49;
-      case 10: goto w2c_B49;
-      case 11: goto w2c_B49;
-      case 12: goto w2c_B49;
-      default: goto w2c_B49;
-    }
-    w2c_B122:;
-    w2c_i0 = 1u;
-    w2c_l14 = w2c_i0;
-    w2c_i0 = 8u;
-    w2c_l20 = w2c_i0;
-    w2c_i0 = w2c_l15;
-    w2c_i1 = 5u;
-    w2c_i0 = w2c_i0 == w2c_i1;
-    if (w2c_i0) {goto w2c_B43;}
-    w2c_i0 = w2c_l15;
-    w2c_i1 = 7u;
-    w2c_i0 = w2c_i0 == w2c_i1;
-    if (w2c_i0) {goto w2c_B47;}
-    goto w2c_B49;
-    w2c_B121:;
-    w2c_i0 = w2c_l15;
-    w2c_i1 = 5u;
-    w2c_i0 = w2c_i0 != w2c_i1;
-    if (w2c_i0) {goto w2c_B49;}
-    goto w2c_B46;
-    w2c_B120:;
-    w2c_i0 = 1u;
-    w2c_l14 = w2c_i0;
-    w2c_i0 = w2c_l15;
-    w2c_i1 = 6u;
-    w2c_i0 = w2c_i0 == w2c_i1;
-    if (w2c_i0) {goto w2c_B56;}
-    w2c_i0 = w2c_l15;
-    w2c_i1 = 7u;
-    w2c_i0 = w2c_i0 == w2c_i1;
-    if (w2c_i0) {goto w2c_B47;}
-    goto w2c_B49;
-    w2c_B119:;
-    w2c_i0 = w2c_l15;
-    w2c_i1 = 7u;
-    w2c_i0 = w2c_i0 != w2c_i1;
-    if (w2c_i0) {goto w2c_B49;}
-    w2c_i0 = 1u;
-    w2c_l14 = w2c_i0;
-    goto w2c_B47;
-    w2c_B116:;
-    w2c_i0 = w2c_l15;
-    w2c_i1 = 4294967294u;
-    w2c_i0 += w2c_i1;
-    w2c_i1 = 13u;
-    w2c_i0 = w2c_i0 < w2c_i1;
-    if (w2c_i0) {goto w2c_B124;}
-    w2c_i0 = 9u;
-    w2c_l20 = w2c_i0;
-    w2c_i0 = 10u;
-    w2c_l17 = w2c_i0;
-    w2c_i0 = w2c_l16;
-    w2c_l22 = w2c_i0;
-    w2c_i0 = w2c_l15;
-    w2c_l18 = w2c_i0;
-    w2c_i0 = w2c_l16;
-    w2c_l14 = w2c_i0;
-    w2c_i0 = w2c_l15;
-    w2c_l19 = w2c_i0;
-    w2c_i0 = w2c_l15;
-    switch (w2c_i0) {
-      case 0: goto w2c_B42;
-      case 1: goto w2c_B64;
-      default: goto w2c_B42;
-    }
-    w2c_B124:;
-    w2c_i0 = w2c_l16;
-    w2c_j0 = (u64)(w2c_i0);
-    w2c_j1 = 255ull;
-    w2c_j0 &= w2c_j1;
-    w2c_i0 = (u32)(w2c_j0);
-    switch (w2c_i0) {
-      case 0: goto w2c_B129;
-      case 1: goto w2c_B126;
-      case 2: goto w2c_B128;
-      case 3: goto w2c_B128;
-      case 4: goto w2c_B127;
-      case 5: goto w2c_B125;
-      default: goto w2c_B129;
-    }
-    w2c_B129:;
-    w2c_i0 = 1u;
-    w2c_l14 = w2c_i0;
-    w2c_i0 = 6u;
-    w2c_l20 = w2c_i0;
-    w2c_i0 = w2c_l15;
-    w2c_i1 = 4294967294u;
-    w2c_i0 += w2c_i1;
-    switch (w2c_i0) {
-      case 0: goto w2c_B49;
-      case 1: goto w2c_B49;
-      case 2: goto w2c_B49;
-      case 3: goto w2c_B43;
-      case 4: goto w2c_B56;
-      case 5: goto w2c_B47;
-      case 6: goto w2c_B49;
-      case 7: goto w2c_B49;
-      case 8: goto w2c_B49;
-      case 9: goto w2c_B49;
-      case 10: goto w2c_B49;
-      case 11: goto w2c_B49;
-      case 12: goto w2c_B49;
-      default: goto w2c_B49;
-    }
-    w2c_B128:;
-    w2c_i0 = 1u;
-    w2c_l14 = w2c_i0;
-    w2c_i0 = 8u;
-    w2c_l20 = w2c_i0;
-    w2c_i0 = w2c_l15;
-    w2c_i1 = 5u;
-    w2c_i0 = w2c_i0 == w2c_i1;
-    if (w2c_i0) {goto w2c_B43;}
-    w2c_i0 = w2c_l15;
-    w2c_i1 = 7u;
-    w2c_i0 = w2c_i0 == w2c_i1;
-    if (w2c_i0) {goto w2c_B47;}
-    goto w2c_B49;
-    w2c_B127:;
-    w2c_i0 = w2c_l15;
-    w2c_i1 = 5u;
-    w2c_i0 = w2c_i0 == w2c_i1;
-    if (w2c_i0) {goto w2c_B46;}
-    goto w2c_B49;
-    w2c_B126:;
-    w2c_i0 = 1u;
-    w2c_l14 = w2c_i0;
-    w2c_i0 = w2c_l15;
-    w2c_i1 = 6u;
-    w2c_i0 = w2c_i0 == w2c_i1;
-    if (w2c_i0) {goto w2c_B56;}
-    w2c_i0 = w2c_l15;
-    w2c_i1 = 7u;
-    w2c_i0 = w2c_i0 == w2c_i1;
-    if (w2c_i0) {goto w2c_B47;}
-    goto w2c_B49;
-    w2c_B125:;
-    w2c_i0 = w2c_l15;
-    w2c_i1 = 7u;
-    w2c_i0 = w2c_i0 != w2c_i1;
-    if (w2c_i0) {goto w2c_B49;}
-    w2c_i0 = 1u;
-    w2c_l14 = w2c_i0;
-    goto w2c_B47;
-    w2c_B115:;
-    w2c_i0 = w2c_l15;
-    w2c_i1 = 1u;
-    w2c_i0 = w2c_i0 != w2c_i1;
-    if (w2c_i0) {goto w2c_B130;}
-    w2c_i0 = 0u;
-    w2c_l18 = w2c_i0;
-    w2c_i0 = 10u;
-    w2c_l17 = w2c_i0;
-    w2c_i0 = w2c_l16;
-    w2c_l22 = w2c_i0;
-    goto w2c_B64;
-    w2c_B130:;
-    w2c_i0 = w2c_l16;
-    w2c_j0 = (u64)(w2c_i0);
-    w2c_j1 = 255ull;
-    w2c_j0 &= w2c_j1;
-    w2c_i0 = (u32)(w2c_j0);
-    switch (w2c_i0) {
-      case 0: goto w2c_B135;
-      case 1: goto w2c_B132;
-      case 2: goto w2c_B134;
-      case 3: goto w2c_B134;
-      case 4: goto w2c_B133;
-      case 5: goto w2c_B131;
-      default: goto w2c_B135;
-    }
-    w2c_B135:;
-    w2c_i0 = 1u;
-    w2c_l14 = w2c_i0;
-    w2c_i0 = 6u;
-    w2c_l20 = w2c_i0;
-    w2c_i0 = w2c_l15;
-    switch (w2c_i0) {
-      case 0: goto w2c_B49;
-      case 1: goto w2c_B0;
-      case 2: goto w2c_B49;
-      case 3: goto w2c_B49;
-      case 4: goto w2c_B49;
-      case 5: goto w2c_B43;
-      case 6: goto w2c_B56;
-      case 7: goto w2c_B47;
-      case 8: goto w2c_B49;
-      case 9: goto w2c_B49;
-      case 10: goto w2c_B49;
-      case 11: goto w2c_B49;
-      case 12: goto w2c_B49;
-      case 13: goto w2c_B49;
-      case 14: goto w2c_B49;
-      default: goto w2c_B49;
-    }
-    w2c_B134:;
-    w2c_i0 = 1u;
-    w2c_l14 = w2c_i0;
-    w2c_i0 = 8u;
-    w2c_l20 = w2c_i0;
-    w2c_i0 = w2c_l15;
-    w2c_i1 = 5u;
-    w2c_i0 = w2c_i0 == w2c_i1;
-    if (w2c_i0) {goto w2c_B43;}
-    w2c_i0 = w2c_l15;
-    w2c_i1 = 7u;
-    w2c_i0 = w2c_i0 == w2c_i1;
-    if (w2c_i0) {goto w2c_B47;}
-    goto w2c_B49;
-    w2c_B133:;
-    w2c_i0 = w2c_l15;
-    w2c_i1 = 5u;
-    w2c_i0 = w2c_i0 == w2c_i1;
-    if (w2c_i0) {goto w2c_B46;}
-    goto w2c_B49;
-    w2c_B132:;
-    w2c_i0 = 1u;
-    w2c_l14 = w2c_i0;
-    w2c_i0 = w2c_l15;
-    w2c_i1 = 6u;
-    w2c_i0 = w2c_i0 == w2c_i1;
-    if (w2c_i0) {goto w2c_B56;}
-    w2c_i0 = w2c_l15;
-    w2c_i1 = 7u;
-    w2c_i0 = w2c_i0 == w2c_i1;
-    if (w2c_i0) {goto w2c_B47;}
-    goto w2c_B49;
-    w2c_B131:;
-    w2c_i0 = w2c_l15;
-    w2c_i1 = 7u;
-    w2c_i0 = w2c_i0 != w2c_i1;
-    if (w2c_i0) {goto w2c_B49;}
-    w2c_i0 = 1u;
-    w2c_l14 = w2c_i0;
-    goto w2c_B47;
-    w2c_B114:;
-    w2c_i0 = w2c_l16;
-    w2c_j0 = (u64)(w2c_i0);
-    w2c_j1 = 255ull;
-    w2c_j0 &= w2c_j1;
-    w2c_i0 = (u32)(w2c_j0);
-    switch (w2c_i0) {
-      case 0: goto w2c_B140;
-      case 1: goto w2c_B137;
-      case 2: goto w2c_B139;
-      case 3: goto w2c_B139;
-      case 4: goto w2c_B138;
-      case 5: goto w2c_B136;
-      default: goto w2c_B140;
-    }
-    w2c_B140:;
-    w2c_i0 = 1u;
-    w2c_l14 = w2c_i0;
-    w2c_i0 = 6u;
-    w2c_l20 = w2c_i0;
-    w2c_i0 = w2c_l15;
-    switch (w2c_i0) {
-      case 0: goto w2c_B49;
-      case 1: goto w2c_B49;
-      case 2: goto w2c_B49;
-      case 3: goto w2c_B49;
-      case 4: goto w2c_B49;
-      case 5: goto w2c_B43;
-      case 6: goto w2c_B56;
-      case 7: goto w2c_B47;
-      case 8: goto w2c_B49;
-      case 9: goto w2c_B49;
-      case 10: goto w2c_B49;
-      case 11: goto w2c_B49;
-      case 12: goto w2c_B49;
-      case 13: goto w2c_B49;
-      case 14: goto w2c_B49;
-      default: goto w2c_B49;
-    }
-    w2c_B139:;
-    w2c_i0 = 1u;
-    w2c_l14 = w2c_i0;
-    w2c_i0 = 8u;
-    w2c_l20 = w2c_i0;
-    w2c_i0 = w2c_l15;
-    w2c_i1 = 5u;
-    w2c_i0 = w2c_i0 == w2c_i1;
-    if (w2c_i0) {goto w2c_B43;}
-    w2c_i0 = w2c_l15;
-    w2c_i1 = 7u;
-    w2c_i0 = w2c_i0 == w2c_i1;
-    if (w2c_i0) {goto w2c_B47;}
-    goto w2c_B49;
-    w2c_B138:;
-    w2c_i0 = w2c_l15;
-    w2c_i1 = 5u;
-    w2c_i0 = w2c_i0 == w2c_i1;
-    if (w2c_i0) {goto w2c_B46;}
-    goto w2c_B49;
-    w2c_B137:;
-    w2c_i0 = 1u;
-    w2c_l14 = w2c_i0;
-    w2c_i0 = w2c_l15;
-    w2c_i1 = 6u;
-    w2c_i0 = w2c_i0 == w2c_i1;
-    if (w2c_i0) {goto w2c_B56;}
-    w2c_i0 = w2c_l15;
-    w2c_i1 = 7u;
-    w2c_i0 = w2c_i0 != w2c_i1;
-    if (w2c_i0) {goto w2c_B49;}
-    goto w2c_B47;
-    w2c_B136:;
-    w2c_i0 = w2c_l15;
-    w2c_i1 = 7u;
-    w2c_i0 = w2c_i0 != w2c_i1;
-    if (w2c_i0) {goto w2c_B49;}
-    w2c_i0 = 1u;
-    w2c_l14 = w2c_i0;
-    goto w2c_B47;
-    w2c_B65:;
-    w2c_i0 = w2c_l14;
-    switch (w2c_i0) {
-      case 0: goto w2c_B148;
-      case 1: goto w2c_B147;
-      case 2: goto w2c_B146;
-      case 3: goto w2c_B145;
-      case 4: goto w2c_B144;
-      case 5: goto w2c_B49;
-      case 6: goto w2c_B49;
-      case 7: goto w2c_B49;
-      case 8: goto w2c_B49;
-      case 9: goto w2c_B49;
-      case 10: goto w2c_B49;
-      case 11: goto w2c_B49;
-      case 12: goto w2c_B49;
-      case 13: goto w2c_B143;
-      case 14: goto w2c_B141;
-      case 15: goto w2c_B63;
-      case 16: goto w2c_B55;
-      case 17: goto w2c_B142;
-      case 18: goto w2c_B53;
-      case 19: goto w2c_B49;
-      default: goto w2c_B148;
-    }
-    w2c_B148:;
-    w2c_i0 = 5u;
-    w2c_l17 = w2c_i0;
-    w2c_i0 = 0u;
-    w2c_l22 = w2c_i0;
-    w2c_i0 = 1u;
-    w2c_l20 = w2c_i0;
-    w2c_i0 = 0u;
-    w2c_l18 = w2c_i0;
-    w2c_i0 = 0u;
-    w2c_l14 = w2c_i0;
-    w2c_i0 = 0u;
-    w2c_l19 = w2c_i0;
-    w2c_i0 = w2c_l15;
-    switch (w2c_i0) {
-      case 0: goto w2c_B62;
-      case 1: goto w2c_B64;
-      case 2: goto w2c_B49;
-      case 3: goto w2c_B49;
-      case 4: goto w2c_B49;
-      case 5: goto w2c_B49;
-      case 6: goto w2c_B49;
-      case 7: goto w2c_B49;
-      case 8: goto w2c_B49;
-      case 9: goto w2c_B49;
-      case 10: goto w2c_B49;
-      case 11: goto w2c_B42;
-      case 12: goto w2c_B49;
-      case 13: goto w2c_B49;
-      case 14: goto w2c_B49;
-      default: goto w2c_B62;
-    }
-    w2c_B147:;
-    w2c_i0 = w2c_l15;
-    w2c_i1 = 12u;
-    w2c_i0 = w2c_i0 != w2c_i1;
-    if (w2c_i0) {goto w2c_B49;}
-    w2c_i0 = 0u;
-    w2c_l14 = w2c_i0;
-    w2c_i0 = 2u;
-    w2c_l20 = w2c_i0;
-    goto w2c_B51;
-    w2c_B146:;
-    w2c_i0 = w2c_l15;
-    w2c_i1 = 13u;
-    w2c_i0 = w2c_i0 != w2c_i1;
-    if (w2c_i0) {goto w2c_B49;}
-    w2c_i0 = 0u;
-    w2c_l14 = w2c_i0;
-    w2c_i0 = 3u;
-    w2c_l20 = w2c_i0;
-    goto w2c_B51;
-    w2c_B145:;
-    w2c_i0 = 0u;
-    w2c_l22 = w2c_i0;
-    w2c_i0 = 5u;
-    w2c_l17 = w2c_i0;
-    w2c_i0 = 0u;
-    w2c_l18 = w2c_i0;
-    w2c_i0 = w2c_l15;
-    switch (w2c_i0) {
-      case 0: goto w2c_B62;
-      case 1: goto w2c_B64;
-      case 2: goto w2c_B49;
-      case 3: goto w2c_B49;
-      case 4: goto w2c_B49;
-      case 5: goto w2c_B49;
-      case 6: goto w2c_B49;
-      case 7: goto w2c_B49;
-      case 8: goto w2c_B49;
-      case 9: goto w2c_B49;
-      case 10: goto w2c_B49;
-      case 11: goto w2c_B49;
-      case 12: goto w2c_B49;
-      case 13: goto w2c_B49;
-      case 14: goto w2c_B49;
-      default: goto w2c_B62;
-    }
-    w2c_B144:;
-    w2c_i0 = w2c_l15;
-    w2c_i1 = 7u;
-    w2c_i0 = w2c_i0 != w2c_i1;
-    if (w2c_i0) {goto w2c_B49;}
-    w2c_i0 = 1u;
-    w2c_l14 = w2c_i0;
-    goto w2c_B47;
-    w2c_B143:;
-    w2c_i0 = 16u;
-    w2c_l17 = w2c_i0;
-    w2c_i0 = 0u;
-    w2c_l22 = w2c_i0;
-    w2c_i0 = 19u;
-    w2c_l20 = w2c_i0;
-    w2c_i0 = 0u;
-    w2c_l18 = w2c_i0;
-    w2c_i0 = 0u;
-    w2c_l14 = w2c_i0;
-    w2c_i0 = 0u;
-    w2c_l19 = w2c_i0;
-    w2c_i0 = w2c_l15;
-    switch (w2c_i0) {
-      case 0: goto w2c_B149;
-      case 1: goto w2c_B64;
-      case 2: goto w2c_B49;
-      case 3: goto w2c_B49;
-      case 4: goto w2c_B49;
-      case 5: goto w2c_B49;
-      case 6: goto w2c_B49;
-      case 7: goto w2c_B49;
-      case 8: goto w2c_B49;
-      case 9: goto w2c_B49;
-      case 10: goto w2c_B42;
-      case 11: goto w2c_B49;
-      case 12: goto w2c_B49;
-      case 13: goto w2c_B49;
-      case 14: goto w2c_B49;
-      default: goto w2c_B149;
-    }
-    w2c_B149:;
-    w2c_i0 = w2c_l16;
-    w2c_i1 = 1u;
-    w2c_i0 &= w2c_i1;
-    w2c_l14 = w2c_i0;
-    w2c_i0 = 14u;
-    w2c_l20 = w2c_i0;
-    goto w2c_B51;
-    w2c_B142:;
-    w2c_i0 = 18u;
-    w2c_l17 = w2c_i0;
-    w2c_i0 = 0u;
-    w2c_l14 = w2c_i0;
-    w2c_i0 = 19u;
-    w2c_l20 = w2c_i0;
-    w2c_i0 = w2c_l15;
-    w2c_i1 = 1u;
-    w2c_i0 = w2c_i0 != w2c_i1;
-    if (w2c_i0) {goto w2c_B150;}
-    w2c_i0 = 0u;
-    w2c_l22 = w2c_i0;
-    w2c_i0 = 0u;
-    w2c_l18 = w2c_i0;
-    goto w2c_B64;
-    w2c_B150:;
-    w2c_i0 = 0u;
-    w2c_l19 = w2c_i0;
-    w2c_i0 = w2c_l15;
-    w2c_i1 = 10u;
-    w2c_i0 = w2c_i0 == w2c_i1;
-    if (w2c_i0) {goto w2c_B42;}
-    goto w2c_B49;
-    w2c_B141:;
-    w2c_i0 = w2c_l15;
-    w2c_i1 = 1u;
-    w2c_i0 = w2c_i0 != w2c_i1;
-    if (w2c_i0) {goto w2c_B49;}
-    w2c_i0 = w2c_l16;
-    w2c_i1 = 1u;
-    w2c_i0 &= w2c_i1;
-    w2c_l22 = w2c_i0;
-    w2c_i0 = 0u;
-    w2c_l18 = w2c_i0;
-    w2c_i0 = 15u;
-    w2c_l17 = w2c_i0;
-    w2c_B64:;
-    w2c_i0 = w2c_l17;
-    w2c_l20 = w2c_i0;
-    w2c_i0 = w2c_l22;
-    w2c_l14 = w2c_i0;
-    w2c_i0 = w2c_l18;
-    w2c_l19 = w2c_i0;
-    w2c_j0 = w2c_l13;
-    w2c_l8 = w2c_j0;
-    goto w2c_B42;
-    w2c_B63:;
-    w2c_i0 = w2c_l16;
-    w2c_i1 = 1u;
-    w2c_i0 &= w2c_i1;
-    w2c_i0 = !(w2c_i0);
-    if (w2c_i0) {goto w2c_B53;}
-    w2c_i0 = w2c_l15;
-    w2c_i1 = 8u;
-    w2c_i0 = w2c_i0 == w2c_i1;
-    if (w2c_i0) {goto w2c_B54;}
-    w2c_i0 = w2c_l15;
-    w2c_i1 = 9u;
-    w2c_i0 = w2c_i0 == w2c_i1;
-    if (w2c_i0) {goto w2c_B52;}
-    goto w2c_B49;
-    w2c_B62:;
-    w2c_i0 = 0u;
-    w2c_l14 = w2c_i0;
-    w2c_i0 = 4u;
-    w2c_l20 = w2c_i0;
-    goto w2c_B51;
-    w2c_B61:;
-    w2c_i0 = w2c_l16;
-    w2c_l14 = w2c_i0;
-    w2c_i0 = w2c_l15;
-    w2c_i1 = 2u;
-    w2c_i0 = w2c_i0 != w2c_i1;
-    if (w2c_i0) {goto w2c_B49;}
-    w2c_B60:;
-    w2c_j0 = w2c_l8;
-    w2c_j1 = 10ull;
-    w2c_j0 *= w2c_j1;
-    w2c_j1 = w2c_l9;
-    w2c_j0 += w2c_j1;
-    w2c_l9 = w2c_j0;
-    w2c_j0 = 0ull;
-    w2c_l8 = w2c_j0;
-    w2c_i0 = 1u;
-    w2c_l19 = w2c_i0;
-    w2c_i0 = 12u;
-    w2c_l20 = w2c_i0;
-    goto w2c_B42;
-    w2c_B59:;
-    w2c_i0 = w2c_l16;
-    w2c_l14 = w2c_i0;
-    w2c_i0 = w2c_l15;
-    w2c_i1 = 3u;
-    w2c_i0 = w2c_i0 != w2c_i1;
-    if (w2c_i0) {goto w2c_B49;}
-    w2c_B58:;
-    w2c_j0 = w2c_l8;
-    w2c_j1 = 100ull;
-    w2c_j0 *= w2c_j1;
-    w2c_j1 = w2c_l9;
-    w2c_j0 += w2c_j1;
-    w2c_l9 = w2c_j0;
-    w2c_j0 = 0ull;
-    w2c_l8 = w2c_j0;
-    w2c_i0 = 2u;
-    w2c_l19 = w2c_i0;
-    w2c_i0 = 12u;
-    w2c_l20 = w2c_i0;
-    goto w2c_B42;
-    w2c_B57:;
-    w2c_i0 = 5u;
-    w2c_i1 = w2c_l16;
-    w2c_i2 = w2c_l16;
-    w2c_i3 = 255u;
-    w2c_i2 &= w2c_i3;
-    w2c_i3 = 3u;
-    w2c_i2 = w2c_i2 == w2c_i3;
-    w2c_i0 = w2c_i2 ? w2c_i0 : w2c_i1;
-    w2c_l14 = w2c_i0;
-    goto w2c_B48;
-    w2c_B56:;
-    w2c_j0 = w2c_l9;
-    w2c_j1 = w2c_l8;
-    w2c_j0 += w2c_j1;
-    w2c_j1 = w2c_l10;
-    w2c_j0 += w2c_j1;
-    w2c_j1 = 100000000ull;
-    w2c_j0 *= w2c_j1;
-    w2c_l10 = w2c_j0;
-    w2c_j0 = 0ull;
-    w2c_l9 = w2c_j0;
-    w2c_i0 = 0u;
-    w2c_l19 = w2c_i0;
-    w2c_i0 = 7u;
-    w2c_l20 = w2c_i0;
-    w2c_j0 = 0ull;
-    w2c_l8 = w2c_j0;
-    goto w2c_B42;
-    w2c_B55:;
-    w2c_i0 = w2c_l15;
-    w2c_i1 = 8u;
-    w2c_i0 = w2c_i0 != w2c_i1;
-    if (w2c_i0) {goto w2c_B49;}
-    w2c_B54:;
-    w2c_j0 = w2c_l11;
-    w2c_j1 = w2c_l8;
-    w2c_j2 = 10ull;
-    w2c_j1 *= w2c_j2;
-    w2c_j0 += w2c_j1;
-    w2c_l11 = w2c_j0;
-    w2c_j0 = 0ull;
-    w2c_l8 = w2c_j0;
-    w2c_i0 = 0u;
-    w2c_l14 = w2c_i0;
-    w2c_i0 = 17u;
-    w2c_l20 = w2c_i0;
-    goto w2c_B51;
-    w2c_B53:;
-    w2c_i0 = w2c_l15;
-    w2c_i1 = 9u;
-    w2c_i0 = w2c_i0 != w2c_i1;
-    if (w2c_i0) {goto w2c_B49;}
-    w2c_B52:;
-    w2c_j0 = w2c_l11;
-    w2c_j1 = w2c_l8;
-    w2c_j0 += w2c_j1;
-    w2c_l11 = w2c_j0;
-    w2c_j0 = 0ull;
-    w2c_l8 = w2c_j0;
-    w2c_i0 = 0u;
-    w2c_l14 = w2c_i0;
-    w2c_i0 = 19u;
-    w2c_l20 = w2c_i0;
-    w2c_B51:;
-    w2c_i0 = 0u;
-    w2c_l19 = w2c_i0;
-    goto w2c_B42;
-    w2c_B50:;
-    w2c_i0 = w2c_l16;
-    w2c_l14 = w2c_i0;
-    w2c_i0 = w2c_l15;
-    w2c_i1 = 4u;
-    w2c_i0 = w2c_i0 == w2c_i1;
-    if (w2c_i0) {goto w2c_B48;}
-    w2c_B49:;
-    w2c_j0 = 0ull;
-    w2c_l3 = w2c_j0;
-    w2c_j0 = w2c_p2;
-    w2c_i0 = (u32)(w2c_j0);
-    w2c_j1 = 0ull;
-    i64_store(m, (u64)(w2c_i0) + 16, w2c_j1);
-    w2c_j0 = w2c_p2;
-    w2c_i0 = (u32)(w2c_j0);
-    w2c_j1 = 0ull;
-    i64_store(m, (u64)(w2c_i0), w2c_j1);
-    w2c_j0 = w2c_p2;
-    w2c_i0 = (u32)(w2c_j0);
-    w2c_j1 = w2c_l6;
-    w2c_j2 = 3ull;
-    w2c_j1 += w2c_j2;
-    w2c_p0 = w2c_j1;
-    i64_store(m, (u64)(w2c_i0) + 8, w2c_j1);
-    w2c_j0 = w2c_p1;
-    w2c_j1 = 8ull;
-    w2c_i0 = w2c_j0 >= w2c_j1;
-    if (w2c_i0) {goto w2c_B152;}
-    w2c_j0 = 0ull;
-    w2c_l12 = w2c_j0;
-    goto w2c_B151;
-    w2c_B152:;
-    w2c_j0 = 0ull;
-    w2c_l12 = w2c_j0;
-    w2c_j0 = w2c_p0;
-    w2c_j1 = 3ull;
-    w2c_i0 = w2c_j0 < w2c_j1;
-    if (w2c_i0) {goto w2c_B151;}
-    w2c_j0 = w2c_p1;
-    w2c_j1 = 18446744073709551607ull;
-    w2c_j0 += w2c_j1;
-    w2c_l4 = w2c_j0;
-    w2c_j0 = 0ull;
-    w2c_l12 = w2c_j0;
-    w2c_j0 = 0ull;
-    w2c_l3 = w2c_j0;
-    w2c_L153:
-      w2c_j0 = w2c_l5;
-      w2c_j1 = w2c_l3;
-      w2c_j0 += w2c_j1;
-      w2c_i0 = (u32)(w2c_j0);
-      w2c_j0 = i64_load(m, (u64)(w2c_i0));
-      w2c_j1 = 67553998437089520ull;
-      w2c_j0 &= w2c_j1;
-      w2c_j1 = 63050398541283552ull;
-      w2c_i0 = w2c_j0 != w2c_j1;
-      if (w2c_i0) {goto w2c_B151;}
-      w2c_j0 = w2c_l12;
-      w2c_j1 = 3ull;
-      w2c_j0 += w2c_j1;
-      w2c_l12 = w2c_j0;
-      w2c_j0 = w2c_l3;
-      w2c_j1 = 9ull;
-      w2c_j0 += w2c_j1;
-      w2c_l3 = w2c_j0;
-      w2c_j0 = w2c_l6;
-      w2c_j1 = 3ull;
-      w2c_i0 = w2c_j0 < w2c_j1;
-      if (w2c_i0) {goto w2c_B151;}
-      w2c_j0 = w2c_l6;
-      w2c_j1 = 18446744073709551613ull;
-      w2c_j0 += w2c_j1;
-      w2c_l6 = w2c_j0;
-      w2c_j0 = w2c_l4;
-      w2c_j1 = 7ull;
-      w2c_i0 = w2c_j0 > w2c_j1;
-      w2c_l14 = w2c_i0;
-      w2c_j0 = w2c_l4;
-      w2c_j1 = 18446744073709551607ull;
-      w2c_j0 += w2c_j1;
-      w2c_l4 = w2c_j0;
-      w2c_i0 = w2c_l14;
-      if (w2c_i0) {goto w2c_L153;}
-    w2c_B151:;
-    w2c_j0 = w2c_p1;
-    w2c_j1 = w2c_l3;
-    w2c_i0 = w2c_j0 <= w2c_j1;
-    if (w2c_i0) {goto w2c_B154;}
-    w2c_j0 = w2c_l12;
-    w2c_j1 = w2c_p0;
-    w2c_i0 = w2c_j0 >= w2c_j1;
-    if (w2c_i0) {goto w2c_B154;}
-    w2c_j0 = w2c_l12;
-    w2c_j1 = 1ull;
-    w2c_j0 += w2c_j1;
-    w2c_l4 = w2c_j0;
-    w2c_L155:
-      w2c_j0 = w2c_l5;
-      w2c_j1 = w2c_l3;
-      w2c_j0 += w2c_j1;
-      w2c_i0 = (u32)(w2c_j0);
-      w2c_i0 = i32_load8_u(m, (u64)(w2c_i0));
-      w2c_i1 = 1u;
-      w2c_i0 >>= (w2c_i1 & 31);
-      w2c_j0 = (u64)(w2c_i0);
-      w2c_j1 = 120ull;
-      w2c_j0 &= w2c_j1;
-      w2c_j1 = 66848ull;
-      w2c_j0 += w2c_j1;
-      w2c_i0 = (u32)(w2c_j0);
-      w2c_j0 = i64_load(m, (u64)(w2c_i0));
-      w2c_j1 = w2c_l3;
-      w2c_j0 += w2c_j1;
-      w2c_l3 = w2c_j0;
-      w2c_j0 = w2c_l4;
-      w2c_j1 = w2c_p0;
-      w2c_i0 = w2c_j0 >= w2c_j1;
-      if (w2c_i0) {goto w2c_B154;}
-      w2c_j0 = w2c_l4;
-      w2c_j1 = 1ull;
-      w2c_j0 += w2c_j1;
-      w2c_l4 = w2c_j0;
-      w2c_j0 = w2c_p1;
-      w2c_j1 = w2c_l3;
-      w2c_i0 = w2c_j0 > w2c_j1;
-      if (w2c_i0) {goto w2c_L155;}
-    w2c_B154:;
-    w2c_j0 = w2c_p2;
-    w2c_i0 = (u32)(w2c_j0);
-    w2c_j1 = w2c_l3;
-    i64_store(m, (u64)(w2c_i0) + 16, w2c_j1);
-    w2c_i0 = 2u;
-    goto w2c_Bfunc;
-    w2c_B48:;
-    w2c_j0 = w2c_l8;
-    w2c_j1 = 1000ull;
-    w2c_j0 *= w2c_j1;
-    w2c_j1 = w2c_l9;
-    w2c_j0 += w2c_j1;
-    w2c_l9 = w2c_j0;
-    w2c_j0 = 0ull;
-    w2c_l8 = w2c_j0;
-    w2c_i0 = 3u;
-    w2c_l19 = w2c_i0;
-    w2c_i0 = 12u;
-    w2c_l20 = w2c_i0;
-    goto w2c_B42;
-    w2c_B47:;
-    w2c_j0 = w2c_l9;
-    w2c_j1 = w2c_l8;
-    w2c_j0 += w2c_j1;
-    w2c_j1 = w2c_l10;
-    w2c_j0 += w2c_j1;
-    w2c_j1 = 100ull;
-    w2c_j0 *= w2c_j1;
-    w2c_j1 = w2c_l11;
-    w2c_j0 += w2c_j1;
-    w2c_l11 = w2c_j0;
-    w2c_j0 = 0ull;
-    w2c_l10 = w2c_j0;
-    w2c_i0 = 0u;
-    w2c_l19 = w2c_i0;
-    w2c_i0 = 13u;
-    w2c_l20 = w2c_i0;
-    w2c_j0 = 0ull;
-    w2c_l9 = w2c_j0;
-    w2c_j0 = 0ull;
-    w2c_l8 = w2c_j0;
-    goto w2c_B42;
-    w2c_B46:;
-    w2c_i0 = 1u;
-    w2c_l14 = w2c_i0;
-    goto w2c_B44;
-    w2c_B45:;
-    w2c_i0 = 0u;
-    w2c_l14 = w2c_i0;
-    w2c_B44:;
-    w2c_i0 = 8u;
-    w2c_l20 = w2c_i0;
-    w2c_B43:;
-    w2c_j0 = w2c_l9;
-    w2c_j1 = w2c_l8;
-    w2c_j0 += w2c_j1;
-    w2c_j1 = 10000ull;
-    w2c_j0 *= w2c_j1;
-    w2c_j1 = w2c_l10;
-    w2c_j0 += w2c_j1;
-    w2c_l10 = w2c_j0;
-    w2c_j0 = 0ull;
-    w2c_l9 = w2c_j0;
-    w2c_i0 = 0u;
-    w2c_l19 = w2c_i0;
-    w2c_j0 = 0ull;
-    w2c_l8 = w2c_j0;
-    w2c_B42:;
-    w2c_j0 = w2c_l3;
-    w2c_i0 = (u32)(w2c_j0);
-    w2c_i1 = 0u;
-    i32_store8(m, (u64)(w2c_i0) + 4, w2c_i1);
-    w2c_j0 = w2c_l3;
-    w2c_i0 = (u32)(w2c_j0);
-    w2c_i1 = 0u;
-    i32_store(m, (u64)(w2c_i0), w2c_i1);
-    w2c_B23:;
-    w2c_j0 = w2c_l3;
-    w2c_i0 = (u32)(w2c_j0);
-    w2c_j1 = w2c_l3;
-    w2c_i1 = (u32)(w2c_j1);
-    w2c_i1 = i32_load8_u(m, (u64)(w2c_i1) + 4u);
-    i32_store8(m, (u64)(w2c_i0) + 12, w2c_i1);
-    w2c_j0 = w2c_l3;
-    w2c_i0 = (u32)(w2c_j0);
-    w2c_j1 = w2c_l3;
-    w2c_i1 = (u32)(w2c_j1);
-    w2c_i1 = i32_load(m, (u64)(w2c_i1));
-    i32_store(m, (u64)(w2c_i0) + 8, w2c_i1);
-    w2c_j0 = w2c_l6;
-    w2c_j1 = 1ull;
-    w2c_j0 += w2c_j1;
-    w2c_l6 = w2c_j0;
-    w2c_j0 = w2c_p0;
-    w2c_j1 = 0ull;
-    w2c_i0 = w2c_j0 != w2c_j1;
-    if (w2c_i0) {goto w2c_L22;}
-  w2c_i0 = w2c_l20;
-  w2c_i1 = 255u;
-  w2c_i0 &= w2c_i1;
-  w2c_l14 = w2c_i0;
-  w2c_i1 = 17u;
-  w2c_i0 = w2c_i0 < w2c_i1;
-  if (w2c_i0) {goto w2c_B2;}
-  w2c_i0 = w2c_l14;
-  w2c_i1 = 4294967279u;
-  w2c_i0 += w2c_i1;
-  switch (w2c_i0) {
-    case 0: goto w2c_B156;
-    case 1: goto w2c_B2;
-    case 2: goto w2c_B156;
-    default: goto w2c_B156;
-  }
-  w2c_B156:;
-  w2c_j0 = w2c_l7;
-  w2c_i0 = (u32)(w2c_j0);
-  w2c_j1 = 0ull;
-  i64_store(m, (u64)(w2c_i0) + 8, w2c_j1);
-  w2c_j0 = w2c_l7;
-  w2c_i0 = (u32)(w2c_j0);
-  w2c_j1 = 0ull;
-  i64_store(m, (u64)(w2c_i0), w2c_j1);
-  w2c_j0 = w2c_p2;
-  w2c_i0 = (u32)(w2c_j0);
-  w2c_j1 = w2c_l11;
-  i64_store(m, (u64)(w2c_i0), w2c_j1);
-  w2c_i0 = 0u;
-  goto w2c_Bfunc;
-  w2c_B2:;
-  w2c_j0 = w2c_p2;
-  w2c_i0 = (u32)(w2c_j0);
-  w2c_j1 = 0ull;
-  i64_store(m, (u64)(w2c_i0) + 16, w2c_j1);
-  w2c_j0 = w2c_p2;
-  w2c_i0 = (u32)(w2c_j0);
-  w2c_j1 = 0ull;
-  i64_store(m, (u64)(w2c_i0) + 8, w2c_j1);
-  w2c_j0 = w2c_p2;
-  w2c_i0 = (u32)(w2c_j0);
-  w2c_j1 = 0ull;
-  i64_store(m, (u64)(w2c_i0), w2c_j1);
-  w2c_i0 = 9u;
-  w2c_l17 = w2c_i0;
-  w2c_B1:;
-  w2c_i0 = w2c_l17;
-  goto w2c_Bfunc;
-  w2c_B0:;
-  UNREACHABLE;
-  w2c_Bfunc:;
-  return w2c_i0;
-}
-
-static u32 w2c_chinese_date_read(module *m, u64 w2c_p0, u64 w2c_p1, u64 w2c_p2) {
-  u32 w2c_l3 = 0;
-  u32 w2c_i0;
-  u64 w2c_j0, w2c_j1, w2c_j2;
-  w2c_i0 = w2c_f0(m);
-  w2c_i0 = !(w2c_i0);
-  if (w2c_i0) {goto w2c_B0;}
-  w2c_f2(m);
-  UNREACHABLE;
-  w2c_B0:;
-  w2c_j0 = w2c_p0;
-  w2c_j1 = w2c_p1;
-  w2c_j2 = w2c_p2;
-  w2c_i0 = w2c_f66(m, w2c_j0, w2c_j1, w2c_j2);
-  w2c_l3 = w2c_i0;
-  w2c_f1(m);
-  w2c_i0 = w2c_l3;
-  return w2c_i0;
-}
-
-static u32 w2c_f66(module *m, u64 w2c_p0, u64 w2c_p1, u64 w2c_p2) {
-  u32 w2c_l8 = 0, w2c_l9 = 0, w2c_l10 = 0, w2c_l11 = 0, w2c_l12 = 0, w2c_l13 = 0, w2c_l14 = 0, w2c_l15 = 0, w2c_l16 = 0, w2c_l17 = 0, w2c_l18 = 0, w2c_l19 = 0, w2c_l20 = 0, w2c_l21 = 0, w2c_l22 = 0, w2c_l23 = 0;
-  u64 w2c_l3 = 0, w2c_l4 = 0, w2c_l5 = 0, w2c_l6 = 0, w2c_l7 = 0;
-  u32 w2c_i0, w2c_i1, w2c_i2, w2c_i3, w2c_i4;
-  u64 w2c_j0, w2c_j1, w2c_j2, w2c_j3;
-  w2c_j0 = m->w2c_g0;
-  w2c_j1 = 16ull;
-  w2c_i0 = (u64)((s64)w2c_j0 < (s64)w2c_j1);
-  if (w2c_i0) {goto w2c_B0;}
-  w2c_j0 = w2c_p2;
-  w2c_i0 = (u32)(w2c_j0);
-  w2c_j1 = 0ull;
-  i64_store(m, (u64)(w2c_i0) + 24, w2c_j1);
-  w2c_j0 = w2c_p2;
-  w2c_i0 = (u32)(w2c_j0);
-  w2c_j1 = 0ull;
-  i64_store(m, (u64)(w2c_i0) + 16, w2c_j1);
-  w2c_j0 = w2c_p2;
-  w2c_i0 = (u32)(w2c_j0);
-  w2c_j1 = 0ull;
-  i64_store(m, (u64)(w2c_i0) + 8, w2c_j1);
-  w2c_j0 = w2c_p2;
-  w2c_i0 = (u32)(w2c_j0);
-  w2c_j1 = 0ull;
-  i64_store(m, (u64)(w2c_i0), w2c_j1);
-  w2c_j0 = w2c_p1;
-  w2c_l3 = w2c_j0;
-  w2c_j0 = w2c_p0;
-  w2c_j1 = 4096ull;
-  w2c_j2 = 0ull;
-  w2c_j3 = w2c_p0;
-  w2c_i3 = !(w2c_j3);
-  w2c_j1 = w2c_i3 ? w2c_j1 : w2c_j2;
-  w2c_j0 += w2c_j1;
-  w2c_l4 = w2c_j0;
   w2c_p0 = w2c_j0;
   w2c_j0 = w2c_p1;
   w2c_j1 = 4ull;
   w2c_i0 = w2c_j0 < w2c_j1;
   if (w2c_i0) {goto w2c_B4;}
-  w2c_j0 = w2c_l4;
+  w2c_j0 = w2c_l5;
   w2c_p0 = w2c_j0;
   w2c_j0 = w2c_p1;
-  w2c_l3 = w2c_j0;
+  w2c_l4 = w2c_j0;
   w2c_L5:
     w2c_j0 = w2c_p0;
     w2c_i0 = (u32)(w2c_j0);
@@ -46890,19 +44518,19 @@ static u32 w2c_f66(module *m, u64 w2c_p0, u64 w2c_p1, u64 w2c_p2) {
     w2c_j1 = 3ull;
     w2c_j0 += w2c_j1;
     w2c_p0 = w2c_j0;
-    w2c_j0 = w2c_l3;
+    w2c_j0 = w2c_l4;
     w2c_j1 = 18446744073709551613ull;
     w2c_j0 += w2c_j1;
-    w2c_l3 = w2c_j0;
+    w2c_l4 = w2c_j0;
     w2c_j1 = 3ull;
     w2c_i0 = w2c_j0 > w2c_j1;
     if (w2c_i0) {goto w2c_L5;}
   w2c_B4:;
-  w2c_j0 = w2c_l3;
+  w2c_j0 = w2c_l4;
   w2c_j1 = 3ull;
   w2c_i0 = w2c_j0 > w2c_j1;
   if (w2c_i0) {goto w2c_B3;}
-  w2c_j0 = w2c_l3;
+  w2c_j0 = w2c_l4;
   w2c_i0 = (u32)(w2c_j0);
   switch (w2c_i0) {
     case 0: goto w2c_B2;
@@ -46931,307 +44559,105 @@ static u32 w2c_f66(module *m, u64 w2c_p0, u64 w2c_p1, u64 w2c_p2) {
   w2c_i0 = w2c_i0 == w2c_i1;
   if (w2c_i0) {goto w2c_B2;}
   w2c_B3:;
-  w2c_j0 = w2c_p1;
-  w2c_i0 = !(w2c_j0);
+  w2c_i0 = 5u;
+  w2c_l14 = w2c_i0;
+  w2c_j0 = w2c_l5;
+  w2c_j1 = w2c_p1;
+  w2c_i0 = w2c_f12(m, w2c_j0, w2c_j1);
   w2c_i0 = !(w2c_i0);
-  if (w2c_i0) {goto w2c_B7;}
-  w2c_i0 = 9u;
-  goto w2c_Bfunc;
-  w2c_B7:;
-  w2c_j0 = w2c_l4;
-  w2c_l3 = w2c_j0;
-  w2c_j0 = w2c_p1;
-  w2c_p0 = w2c_j0;
-  w2c_L8:
-    w2c_j0 = w2c_p0;
-    w2c_j1 = 4ull;
-    w2c_i0 = w2c_j0 < w2c_j1;
-    if (w2c_i0) {goto w2c_B12;}
-    w2c_j0 = w2c_l3;
-    w2c_i0 = (u32)(w2c_j0);
-    w2c_i0 = i32_load(m, (u64)(w2c_i0));
-    w2c_l8 = w2c_i0;
-    w2c_i1 = 16776989u;
-    w2c_i0 += w2c_i1;
-    w2c_i1 = 12632312u;
-    w2c_i0 &= w2c_i1;
-    w2c_i1 = 8421376u;
-    w2c_i0 = w2c_i0 != w2c_i1;
-    if (w2c_i0) {goto w2c_B13;}
-    w2c_j0 = 3ull;
-    w2c_l5 = w2c_j0;
-    goto w2c_B9;
-    w2c_B13:;
-    w2c_i0 = w2c_l8;
-    w2c_i1 = 2155905152u;
-    w2c_i0 &= w2c_i1;
-    w2c_i0 = !(w2c_i0);
-    if (w2c_i0) {goto w2c_B14;}
-    w2c_i0 = w2c_l8;
-    w2c_i1 = 8u;
-    w2c_i0 >>= (w2c_i1 & 31);
-    w2c_l9 = w2c_i0;
-    w2c_i0 = w2c_l8;
-    w2c_i1 = 16u;
-    w2c_i0 >>= (w2c_i1 & 31);
-    w2c_l10 = w2c_i0;
-    goto w2c_B11;
-    w2c_B14:;
-    w2c_j0 = 4ull;
-    w2c_l5 = w2c_j0;
-    goto w2c_B9;
-    w2c_B12:;
-    w2c_j0 = w2c_l3;
-    w2c_i0 = (u32)(w2c_j0);
-    w2c_i0 = i32_load8_u(m, (u64)(w2c_i0));
-    w2c_l8 = w2c_i0;
-    w2c_i0 = 0u;
-    w2c_l10 = w2c_i0;
-    w2c_j0 = w2c_p0;
-    w2c_j1 = 18446744073709551615ull;
-    w2c_j0 += w2c_j1;
-    w2c_l5 = w2c_j0;
-    w2c_j1 = 2ull;
-    w2c_i0 = w2c_j0 > w2c_j1;
-    if (w2c_i0) {goto w2c_B15;}
-    w2c_i0 = 0u;
-    w2c_l9 = w2c_i0;
-    w2c_j0 = w2c_l5;
-    w2c_i0 = (u32)(w2c_j0);
-    switch (w2c_i0) {
-      case 0: goto w2c_B10;
-      case 1: goto w2c_B15;
-      case 2: goto w2c_B16;
-      default: goto w2c_B10;
-    }
-    w2c_B16:;
-    w2c_j0 = w2c_l3;
-    w2c_j1 = 1ull;
-    w2c_j0 += w2c_j1;
-    w2c_i0 = (u32)(w2c_j0);
-    w2c_i0 = i32_load8_u(m, (u64)(w2c_i0));
-    w2c_l9 = w2c_i0;
-    w2c_i1 = 8u;
-    w2c_i0 <<= (w2c_i1 & 31);
-    w2c_i1 = w2c_l8;
-    w2c_i0 |= w2c_i1;
-    w2c_j1 = w2c_l3;
-    w2c_j2 = 2ull;
-    w2c_j1 += w2c_j2;
-    w2c_i1 = (u32)(w2c_j1);
-    w2c_i1 = i32_load8_u(m, (u64)(w2c_i1));
-    w2c_l10 = w2c_i1;
-    w2c_i2 = 16u;
-    w2c_i1 <<= (w2c_i2 & 31);
-    w2c_i0 |= w2c_i1;
-    w2c_i1 = 16776989u;
-    w2c_i0 += w2c_i1;
-    w2c_i1 = 12632312u;
-    w2c_i0 &= w2c_i1;
-    w2c_i1 = 8421376u;
-    w2c_i0 = w2c_i0 != w2c_i1;
-    if (w2c_i0) {goto w2c_B11;}
-    w2c_j0 = 3ull;
-    w2c_l5 = w2c_j0;
-    goto w2c_B9;
-    w2c_B15:;
-    w2c_j0 = w2c_l3;
-    w2c_j1 = 1ull;
-    w2c_j0 += w2c_j1;
-    w2c_i0 = (u32)(w2c_j0);
-    w2c_i0 = i32_load8_u(m, (u64)(w2c_i0));
-    w2c_l9 = w2c_i0;
-    goto w2c_B10;
-    w2c_B11:;
-    w2c_i0 = w2c_l10;
-    w2c_i0 = (u32)(s32)(s8)(u8)(w2c_i0);
-    w2c_i1 = 4294967232u;
-    w2c_i0 = (u32)((s32)w2c_i0 < (s32)w2c_i1);
-    w2c_l10 = w2c_i0;
-    w2c_B10:;
-    w2c_i0 = w2c_l8;
-    w2c_i0 = (u32)(s32)(s8)(u8)(w2c_i0);
-    w2c_i1 = 4294967295u;
-    w2c_i0 = (u32)((s32)w2c_i0 <= (s32)w2c_i1);
-    if (w2c_i0) {goto w2c_B17;}
-    w2c_j0 = 1ull;
-    w2c_l5 = w2c_j0;
-    goto w2c_B9;
-    w2c_B17:;
-    w2c_i0 = w2c_l8;
-    w2c_i1 = 255u;
-    w2c_i0 &= w2c_i1;
-    w2c_l11 = w2c_i0;
-    w2c_i1 = 223u;
-    w2c_i0 = w2c_i0 > w2c_i1;
-    if (w2c_i0) {goto w2c_B18;}
-    w2c_i0 = 5u;
-    w2c_l12 = w2c_i0;
-    w2c_i0 = w2c_l9;
-    w2c_i0 = (u32)(s32)(s8)(u8)(w2c_i0);
-    w2c_i1 = 4294967231u;
-    w2c_i0 = (u32)((s32)w2c_i0 > (s32)w2c_i1);
-    if (w2c_i0) {goto w2c_B1;}
-    w2c_i0 = w2c_l8;
-    w2c_i1 = 255u;
-    w2c_i0 &= w2c_i1;
-    w2c_i1 = 193u;
-    w2c_i0 = w2c_i0 <= w2c_i1;
-    if (w2c_i0) {goto w2c_B1;}
-    w2c_j0 = 2ull;
-    w2c_l5 = w2c_j0;
-    goto w2c_B9;
-    w2c_B18:;
-    w2c_i0 = w2c_l11;
-    w2c_i1 = 239u;
-    w2c_i0 = w2c_i0 > w2c_i1;
-    if (w2c_i0) {goto w2c_B19;}
-    w2c_i0 = 5u;
-    w2c_l12 = w2c_i0;
-    w2c_i0 = w2c_l9;
-    w2c_i0 = (u32)(s32)(s8)(u8)(w2c_i0);
-    w2c_i1 = 4294967231u;
-    w2c_i0 = (u32)((s32)w2c_i0 > (s32)w2c_i1);
-    w2c_i1 = w2c_l10;
-    w2c_i2 = 1u;
-    w2c_i1 ^= w2c_i2;
-    w2c_i0 |= w2c_i1;
-    if (w2c_i0) {goto w2c_B1;}
-    w2c_i0 = w2c_l8;
-    w2c_i1 = 255u;
-    w2c_i0 &= w2c_i1;
-    w2c_i1 = 6u;
-    w2c_i0 <<= (w2c_i1 & 31);
-    w2c_i1 = w2c_l9;
-    w2c_i2 = 255u;
-    w2c_i1 &= w2c_i2;
-    w2c_i0 += w2c_i1;
-    w2c_l8 = w2c_i0;
-    w2c_i1 = 14496u;
-    w2c_i0 = w2c_i0 < w2c_i1;
-    if (w2c_i0) {goto w2c_B1;}
-    w2c_i0 = w2c_l8;
-    w2c_i1 = 32736u;
-    w2c_i0 &= w2c_i1;
-    w2c_i1 = 15328u;
-    w2c_i0 = w2c_i0 == w2c_i1;
-    if (w2c_i0) {goto w2c_B1;}
-    w2c_j0 = 3ull;
-    w2c_l5 = w2c_j0;
-    goto w2c_B9;
-    w2c_B19:;
-    w2c_j0 = 4ull;
-    w2c_l5 = w2c_j0;
-    w2c_i0 = 0u;
-    w2c_l11 = w2c_i0;
-    w2c_j0 = w2c_p0;
-    w2c_j1 = 4ull;
-    w2c_i0 = w2c_j0 < w2c_j1;
-    if (w2c_i0) {goto w2c_B20;}
-    w2c_j0 = w2c_l3;
-    w2c_j1 = 3ull;
-    w2c_j0 += w2c_j1;
-    w2c_i0 = (u32)(w2c_j0);
-    w2c_i0 = i32_load8_s(m, (u64)(w2c_i0));
-    w2c_i1 = 4294967232u;
-    w2c_i0 = (u32)((s32)w2c_i0 < (s32)w2c_i1);
-    w2c_l11 = w2c_i0;
-    w2c_B20:;
-    w2c_i0 = 5u;
-    w2c_l12 = w2c_i0;
-    w2c_i0 = w2c_l10;
-    w2c_i1 = w2c_l9;
-    w2c_i1 = (u32)(s32)(s8)(u8)(w2c_i1);
-    w2c_i2 = 4294967232u;
-    w2c_i1 = (u32)((s32)w2c_i1 < (s32)w2c_i2);
-    w2c_i2 = w2c_l11;
-    w2c_i1 &= w2c_i2;
-    w2c_i0 &= w2c_i1;
-    w2c_i1 = 1u;
-    w2c_i0 = w2c_i0 != w2c_i1;
-    if (w2c_i0) {goto w2c_B1;}
-    w2c_i0 = w2c_l9;
-    w2c_i1 = 255u;
-    w2c_i0 &= w2c_i1;
-    w2c_i1 = w2c_l8;
-    w2c_i2 = 255u;
-    w2c_i1 &= w2c_i2;
-    w2c_i2 = 6u;
-    w2c_i1 <<= (w2c_i2 & 31);
-    w2c_i0 += w2c_i1;
-    w2c_i1 = 4294951792u;
-    w2c_i0 += w2c_i1;
-    w2c_i1 = 255u;
-    w2c_i0 = w2c_i0 > w2c_i1;
-    if (w2c_i0) {goto w2c_B1;}
-    w2c_B9:;
-    w2c_j0 = w2c_l3;
-    w2c_j1 = w2c_l5;
-    w2c_j0 += w2c_j1;
-    w2c_l3 = w2c_j0;
-    w2c_j0 = w2c_p0;
-    w2c_j1 = w2c_l5;
-    w2c_j0 -= w2c_j1;
-    w2c_p0 = w2c_j0;
-    w2c_j1 = 0ull;
-    w2c_i0 = w2c_j0 != w2c_j1;
-    if (w2c_i0) {goto w2c_L8;}
+  if (w2c_i0) {goto w2c_B1;}
   w2c_B2:;
-  w2c_i0 = 9u;
-  w2c_l12 = w2c_i0;
+  w2c_i0 = 0u;
+  w2c_l15 = w2c_i0;
+  w2c_j0 = w2c_l3;
+  w2c_i0 = (u32)(w2c_j0);
+  w2c_i1 = 0u;
+  i32_store(m, (u64)(w2c_i0) + 8, w2c_i1);
+  w2c_j0 = w2c_l3;
+  w2c_i0 = (u32)(w2c_j0);
+  w2c_i1 = 0u;
+  i32_store8(m, (u64)(w2c_i0) + 12, w2c_i1);
+  w2c_j0 = w2c_l3;
+  w2c_i0 = (u32)(w2c_j0);
+  w2c_i1 = 0u;
+  i32_store8(m, (u64)(w2c_i0) + 4, w2c_i1);
+  w2c_j0 = w2c_l3;
+  w2c_i0 = (u32)(w2c_j0);
+  w2c_i1 = 0u;
+  i32_store(m, (u64)(w2c_i0), w2c_i1);
   w2c_j0 = w2c_p1;
   w2c_i0 = !(w2c_j0);
-  if (w2c_i0) {goto w2c_B1;}
-  w2c_i0 = 0u;
-  w2c_l13 = w2c_i0;
-  w2c_j0 = 18446744073709551613ull;
-  w2c_l3 = w2c_j0;
-  w2c_j0 = w2c_p1;
+  if (w2c_i0) {goto w2c_B7;}
+  w2c_j0 = w2c_p2;
+  w2c_j1 = 8ull;
+  w2c_j0 += w2c_j1;
   w2c_l6 = w2c_j0;
-  w2c_j0 = w2c_l4;
+  w2c_j0 = 0ull;
+  w2c_l7 = w2c_j0;
+  w2c_j0 = 18446744073709551613ull;
+  w2c_l8 = w2c_j0;
+  w2c_j0 = w2c_p1;
+  w2c_l4 = w2c_j0;
+  w2c_j0 = w2c_l5;
   w2c_p0 = w2c_j0;
+  w2c_j0 = 0ull;
+  w2c_l9 = w2c_j0;
+  w2c_j0 = 0ull;
+  w2c_l10 = w2c_j0;
+  w2c_j0 = 0ull;
+  w2c_l11 = w2c_j0;
   w2c_i0 = 0u;
   w2c_l14 = w2c_i0;
   w2c_i0 = 0u;
-  w2c_l15 = w2c_i0;
+  w2c_l16 = w2c_i0;
   w2c_i0 = 0u;
-  w2c_l9 = w2c_i0;
-  w2c_i0 = 0u;
-  w2c_l11 = w2c_i0;
-  w2c_L22:
+  w2c_l17 = w2c_i0;
+  w2c_L8:
+    w2c_i0 = w2c_l14;
+    w2c_l18 = w2c_i0;
+    w2c_j0 = w2c_p0;
+    w2c_j1 = 1ull;
+    w2c_j0 += w2c_j1;
+    w2c_l12 = w2c_j0;
     w2c_j0 = w2c_p0;
     w2c_i0 = (u32)(w2c_j0);
     w2c_i0 = i32_load8_s(m, (u64)(w2c_i0));
-    w2c_l10 = w2c_i0;
+    w2c_l19 = w2c_i0;
     w2c_i1 = 255u;
     w2c_i0 &= w2c_i1;
-    w2c_l8 = w2c_i0;
-    w2c_j0 = 1ull;
-    w2c_l5 = w2c_j0;
-    w2c_i0 = w2c_l10;
-    w2c_i1 = 4294967295u;
-    w2c_i0 = (u32)((s32)w2c_i0 > (s32)w2c_i1);
-    if (w2c_i0) {goto w2c_B23;}
-    w2c_j0 = w2c_p0;
+    w2c_l14 = w2c_i0;
+    w2c_i0 = w2c_l19;
+    w2c_i1 = 0u;
+    w2c_i0 = (u32)((s32)w2c_i0 < (s32)w2c_i1);
+    if (w2c_i0) {goto w2c_B22;}
+    w2c_j0 = w2c_l4;
+    w2c_j1 = 18446744073709551615ull;
+    w2c_j0 += w2c_j1;
+    w2c_l4 = w2c_j0;
+    w2c_j0 = w2c_l12;
+    w2c_p0 = w2c_j0;
+    goto w2c_B21;
+    w2c_B22:;
+    w2c_j0 = w2c_l12;
     w2c_i0 = (u32)(w2c_j0);
-    w2c_i0 = i32_load8_u(m, (u64)(w2c_i0) + 1u);
+    w2c_i0 = i32_load8_u(m, (u64)(w2c_i0));
     w2c_i1 = 63u;
     w2c_i0 &= w2c_i1;
-    w2c_l16 = w2c_i0;
-    w2c_i0 = w2c_l10;
+    w2c_l20 = w2c_i0;
+    w2c_i0 = w2c_l19;
     w2c_i1 = 4294967263u;
     w2c_i0 = w2c_i0 > w2c_i1;
     if (w2c_i0) {goto w2c_B24;}
-    w2c_i0 = w2c_l8;
+    w2c_i0 = w2c_l14;
     w2c_i1 = 6u;
     w2c_i0 <<= (w2c_i1 & 31);
     w2c_i1 = 1984u;
     w2c_i0 &= w2c_i1;
-    w2c_i1 = w2c_l16;
+    w2c_i1 = w2c_l20;
     w2c_i0 |= w2c_i1;
-    w2c_l8 = w2c_i0;
+    w2c_l14 = w2c_i0;
     w2c_j0 = 2ull;
-    w2c_l5 = w2c_j0;
+    w2c_l12 = w2c_j0;
     goto w2c_B23;
     w2c_B24:;
     w2c_j0 = w2c_p0;
@@ -47239,34 +44665,34 @@ static u32 w2c_f66(module *m, u64 w2c_p0, u64 w2c_p1, u64 w2c_p2) {
     w2c_i0 = i32_load8_u(m, (u64)(w2c_i0) + 2u);
     w2c_i1 = 63u;
     w2c_i0 &= w2c_i1;
-    w2c_l17 = w2c_i0;
-    w2c_i0 = w2c_l10;
+    w2c_l21 = w2c_i0;
+    w2c_i0 = w2c_l19;
     w2c_i1 = 4294967279u;
     w2c_i0 = w2c_i0 > w2c_i1;
     if (w2c_i0) {goto w2c_B25;}
-    w2c_i0 = w2c_l16;
+    w2c_i0 = w2c_l20;
     w2c_i1 = 6u;
     w2c_i0 <<= (w2c_i1 & 31);
-    w2c_i1 = w2c_l8;
+    w2c_i1 = w2c_l14;
     w2c_i2 = 12u;
     w2c_i1 <<= (w2c_i2 & 31);
     w2c_i2 = 61440u;
     w2c_i1 &= w2c_i2;
     w2c_i0 |= w2c_i1;
-    w2c_i1 = w2c_l17;
+    w2c_i1 = w2c_l21;
     w2c_i0 |= w2c_i1;
-    w2c_l8 = w2c_i0;
+    w2c_l14 = w2c_i0;
     w2c_j0 = 3ull;
-    w2c_l5 = w2c_j0;
+    w2c_l12 = w2c_j0;
     goto w2c_B23;
     w2c_B25:;
-    w2c_i0 = w2c_l17;
+    w2c_i0 = w2c_l21;
     w2c_i1 = 6u;
     w2c_i0 <<= (w2c_i1 & 31);
-    w2c_i1 = w2c_l16;
+    w2c_i1 = w2c_l20;
     w2c_i2 = 12u;
     w2c_i1 <<= (w2c_i2 & 31);
-    w2c_i2 = w2c_l8;
+    w2c_i2 = w2c_l14;
     w2c_i3 = 18u;
     w2c_i2 <<= (w2c_i3 & 31);
     w2c_i3 = 1835008u;
@@ -47279,44 +44705,2188 @@ static u32 w2c_f66(module *m, u64 w2c_p0, u64 w2c_p1, u64 w2c_p2) {
     w2c_i2 = 63u;
     w2c_i1 &= w2c_i2;
     w2c_i0 |= w2c_i1;
-    w2c_l8 = w2c_i0;
+    w2c_l14 = w2c_i0;
     w2c_j0 = 4ull;
-    w2c_l5 = w2c_j0;
+    w2c_l12 = w2c_j0;
     w2c_B23:;
+    w2c_j0 = w2c_l4;
+    w2c_j1 = w2c_l12;
+    w2c_j0 -= w2c_j1;
+    w2c_l4 = w2c_j0;
+    w2c_j0 = w2c_p0;
+    w2c_j1 = w2c_l12;
+    w2c_j0 += w2c_j1;
+    w2c_p0 = w2c_j0;
+    w2c_i0 = w2c_l14;
+    w2c_i1 = 127u;
+    w2c_i0 = w2c_i0 > w2c_i1;
+    if (w2c_i0) {goto w2c_B20;}
+    w2c_B21:;
+    w2c_i0 = w2c_l14;
+    w2c_i1 = 4294967287u;
+    w2c_i0 += w2c_i1;
+    w2c_i1 = 5u;
+    w2c_i0 = w2c_i0 < w2c_i1;
+    if (w2c_i0) {goto w2c_B18;}
+    w2c_i0 = w2c_l14;
+    w2c_i1 = 32u;
+    w2c_i0 = w2c_i0 != w2c_i1;
+    if (w2c_i0) {goto w2c_B19;}
+    goto w2c_B18;
+    w2c_B20:;
+    w2c_i0 = w2c_l14;
+    w2c_i1 = 4294959104u;
+    w2c_i0 += w2c_i1;
+    w2c_i1 = 11u;
+    w2c_i0 = w2c_i0 < w2c_i1;
+    if (w2c_i0) {goto w2c_B18;}
+    w2c_i0 = w2c_l14;
+    w2c_i1 = 8231u;
+    w2c_i0 = (u32)((s32)w2c_i0 > (s32)w2c_i1);
+    if (w2c_i0) {goto w2c_B26;}
+    w2c_i0 = w2c_l14;
+    w2c_i1 = 133u;
+    w2c_i0 = w2c_i0 == w2c_i1;
+    if (w2c_i0) {goto w2c_B18;}
+    w2c_i0 = w2c_l14;
+    w2c_i1 = 160u;
+    w2c_i0 = w2c_i0 == w2c_i1;
+    if (w2c_i0) {goto w2c_B18;}
+    w2c_i0 = w2c_l14;
+    w2c_i1 = 5760u;
+    w2c_i0 = w2c_i0 != w2c_i1;
+    if (w2c_i0) {goto w2c_B19;}
+    goto w2c_B18;
+    w2c_B26:;
+    w2c_i0 = w2c_l14;
+    w2c_i1 = 4294959064u;
+    w2c_i0 += w2c_i1;
+    w2c_l19 = w2c_i0;
+    w2c_i1 = 55u;
+    w2c_i0 = w2c_i0 > w2c_i1;
+    if (w2c_i0) {goto w2c_B27;}
+    w2c_j0 = 1ull;
+    w2c_i1 = w2c_l19;
+    w2c_j1 = (u64)(w2c_i1);
+    w2c_j0 <<= (w2c_j1 & 63);
+    w2c_j1 = 36028797018964099ull;
+    w2c_j0 &= w2c_j1;
+    w2c_j1 = 0ull;
+    w2c_i0 = w2c_j0 != w2c_j1;
+    if (w2c_i0) {goto w2c_B18;}
+    w2c_B27:;
+    w2c_i0 = w2c_l14;
+    w2c_i1 = 12288u;
+    w2c_i0 = w2c_i0 == w2c_i1;
+    if (w2c_i0) {goto w2c_B18;}
+    w2c_B19:;
+    w2c_i0 = w2c_l17;
+    w2c_j0 = (u64)(w2c_i0);
+    w2c_j1 = 255ull;
+    w2c_j0 &= w2c_j1;
+    w2c_i0 = (u32)(w2c_j0);
+    switch (w2c_i0) {
+      case 0: goto w2c_B17;
+      case 1: goto w2c_B16;
+      case 2: goto w2c_B15;
+      case 3: goto w2c_B11;
+      case 4: goto w2c_B13;
+      case 5: goto w2c_B10;
+      default: goto w2c_B17;
+    }
+    w2c_B18:;
+    w2c_j0 = w2c_l3;
+    w2c_i0 = (u32)(w2c_j0);
+    w2c_j1 = w2c_l3;
+    w2c_i1 = (u32)(w2c_j1);
+    w2c_i1 = i32_load8_u(m, (u64)(w2c_i1) + 12u);
+    i32_store8(m, (u64)(w2c_i0) + 4, w2c_i1);
+    w2c_j0 = w2c_l3;
+    w2c_i0 = (u32)(w2c_j0);
+    w2c_j1 = w2c_l3;
+    w2c_i1 = (u32)(w2c_j1);
+    w2c_i1 = i32_load(m, (u64)(w2c_i1) + 8u);
+    i32_store(m, (u64)(w2c_i0), w2c_i1);
+    w2c_i0 = w2c_l18;
+    w2c_l14 = w2c_i0;
+    goto w2c_B9;
+    w2c_B17:;
+    w2c_i0 = 1u;
+    w2c_l17 = w2c_i0;
+    w2c_i0 = w2c_l14;
+    w2c_i1 = 8855u;
+    w2c_i0 = w2c_i0 == w2c_i1;
+    if (w2c_i0) {goto w2c_B12;}
+    w2c_i0 = 2u;
+    w2c_i1 = 5u;
+    w2c_i2 = w2c_l14;
+    w2c_i3 = 20154u;
+    w2c_i2 = w2c_i2 == w2c_i3;
+    w2c_i0 = w2c_i2 ? w2c_i0 : w2c_i1;
+    w2c_l17 = w2c_i0;
+    goto w2c_B10;
+    w2c_B16:;
+    w2c_i0 = w2c_l14;
+    w2c_i1 = 20154u;
+    w2c_i0 = w2c_i0 != w2c_i1;
+    if (w2c_i0) {goto w2c_B14;}
+    w2c_i0 = 2u;
+    w2c_l17 = w2c_i0;
+    goto w2c_B10;
+    w2c_B15:;
+    w2c_i0 = w2c_l14;
+    w2c_i1 = 27665u;
+    w2c_i0 = w2c_i0 != w2c_i1;
+    if (w2c_i0) {goto w2c_B14;}
+    w2c_i0 = 3u;
+    w2c_l17 = w2c_i0;
+    goto w2c_B10;
+    w2c_B14:;
+    w2c_i0 = 5u;
+    w2c_l17 = w2c_i0;
+    goto w2c_B10;
+    w2c_B13:;
+    w2c_i0 = 5u;
+    w2c_l17 = w2c_i0;
+    w2c_i0 = w2c_l14;
+    w2c_i1 = 65306u;
+    w2c_i0 = w2c_i0 == w2c_i1;
+    if (w2c_i0) {goto w2c_B12;}
+    w2c_i0 = w2c_l14;
+    w2c_i1 = 58u;
+    w2c_i0 = w2c_i0 != w2c_i1;
+    if (w2c_i0) {goto w2c_B10;}
+    w2c_B12:;
+    w2c_j0 = w2c_l3;
+    w2c_i0 = (u32)(w2c_j0);
+    w2c_i1 = 0u;
+    i32_store8(m, (u64)(w2c_i0) + 4, w2c_i1);
+    w2c_j0 = w2c_l3;
+    w2c_i0 = (u32)(w2c_j0);
+    w2c_i1 = 0u;
+    i32_store(m, (u64)(w2c_i0), w2c_i1);
+    w2c_i0 = w2c_l18;
+    w2c_l14 = w2c_i0;
+    goto w2c_B9;
+    w2c_B11:;
+    w2c_i0 = 4u;
+    w2c_i1 = 4u;
+    w2c_i2 = 5u;
+    w2c_i3 = w2c_l14;
+    w2c_i4 = 24163u;
+    w2c_i3 = w2c_i3 == w2c_i4;
+    w2c_i1 = w2c_i3 ? w2c_i1 : w2c_i2;
+    w2c_i2 = w2c_l14;
+    w2c_i3 = 24065u;
+    w2c_i2 = w2c_i2 == w2c_i3;
+    w2c_i0 = w2c_i2 ? w2c_i0 : w2c_i1;
+    w2c_l17 = w2c_i0;
+    w2c_B10:;
+    w2c_i0 = w2c_l14;
+    w2c_i1 = 3227u;
+    w2c_i0 *= w2c_i1;
+    w2c_i1 = 7u;
+    w2c_i0 >>= (w2c_i1 & 31);
+    w2c_j0 = (u64)(w2c_i0);
+    w2c_j1 = 504ull;
+    w2c_j0 &= w2c_j1;
+    w2c_l12 = w2c_j0;
+    w2c_i0 = (u32)(w2c_j0);
+    w2c_i0 = i32_load(m, (u64)(w2c_i0) + 66332u);
+    w2c_i1 = w2c_l14;
+    w2c_i0 = w2c_i0 != w2c_i1;
+    if (w2c_i0) {goto w2c_B35;}
+    w2c_j0 = w2c_l12;
+    w2c_j1 = 66336ull;
+    w2c_j0 += w2c_j1;
+    w2c_i0 = (u32)(w2c_j0);
+    w2c_i0 = i32_load8_u(m, (u64)(w2c_i0));
+    w2c_i1 = 255u;
+    w2c_i0 &= w2c_i1;
+    w2c_i1 = 1u;
+    w2c_i0 = w2c_i0 != w2c_i1;
+    if (w2c_i0) {goto w2c_B35;}
+    w2c_j0 = w2c_l12;
+    w2c_j1 = 66338ull;
+    w2c_j0 += w2c_j1;
+    w2c_i0 = (u32)(w2c_j0);
+    w2c_j0 = i64_load8_u(m, (u64)(w2c_i0));
+    w2c_l13 = w2c_j0;
+    w2c_j0 = w2c_l12;
+    w2c_j1 = 66337ull;
+    w2c_j0 += w2c_j1;
+    w2c_i0 = (u32)(w2c_j0);
+    w2c_i0 = i32_load8_u(m, (u64)(w2c_i0));
+    w2c_l19 = w2c_i0;
+    w2c_i0 = w2c_l16;
+    w2c_j0 = (u64)(w2c_i0);
+    w2c_j1 = 255ull;
+    w2c_j0 &= w2c_j1;
+    w2c_i0 = (u32)(w2c_j0);
+    w2c_l14 = w2c_i0;
+    switch (w2c_i0) {
+      case 0: goto w2c_B51;
+      case 1: goto w2c_B51;
+      case 2: goto w2c_B51;
+      case 3: goto w2c_B51;
+      case 4: goto w2c_B51;
+      case 5: goto w2c_B59;
+      case 6: goto w2c_B58;
+      case 7: goto w2c_B57;
+      case 8: goto w2c_B56;
+      case 9: goto w2c_B55;
+      case 10: goto w2c_B54;
+      case 11: goto w2c_B53;
+      case 12: goto w2c_B52;
+      case 13: goto w2c_B51;
+      case 14: goto w2c_B51;
+      case 15: goto w2c_B51;
+      case 16: goto w2c_B51;
+      case 17: goto w2c_B51;
+      case 18: goto w2c_B51;
+      case 19: goto w2c_B51;
+      default: goto w2c_B51;
+    }
+    w2c_B59:;
+    w2c_i0 = 1u;
+    w2c_i1 = w2c_l19;
+    w2c_i0 <<= (w2c_i1 & 31);
+    w2c_i1 = 31999u;
+    w2c_i0 &= w2c_i1;
+    if (w2c_i0) {goto w2c_B60;}
+    w2c_i0 = w2c_l19;
+    w2c_i1 = 8u;
+    w2c_i0 = w2c_i0 == w2c_i1;
+    if (w2c_i0) {goto w2c_B40;}
+    goto w2c_B38;
+    w2c_B60:;
+    w2c_i0 = w2c_l19;
+    w2c_i1 = 4294967291u;
+    w2c_i0 += w2c_i1;
+    w2c_i1 = 10u;
+    w2c_i0 = w2c_i0 < w2c_i1;
+    if (w2c_i0) {goto w2c_B61;}
+    w2c_i0 = 0u;
+    w2c_l14 = w2c_i0;
+    w2c_i0 = w2c_l19;
+    switch (w2c_i0) {
+      case 0: goto w2c_B61;
+      case 1: goto w2c_B61;
+      case 2: goto w2c_B46;
+      case 3: goto w2c_B44;
+      case 4: goto w2c_B34;
+      default: goto w2c_B61;
+    }
+    w2c_B61:;
+    w2c_i0 = 0u;
+    w2c_l14 = w2c_i0;
+    w2c_i0 = 6u;
+    w2c_l16 = w2c_i0;
+    w2c_i0 = w2c_l19;
+    switch (w2c_i0) {
+      case 0: goto w2c_B35;
+      case 1: goto w2c_B35;
+      case 2: goto w2c_B35;
+      case 3: goto w2c_B35;
+      case 4: goto w2c_B35;
+      case 5: goto w2c_B29;
+      case 6: goto w2c_B42;
+      case 7: goto w2c_B33;
+      case 8: goto w2c_B35;
+      case 9: goto w2c_B35;
+      case 10: goto w2c_B35;
+      case 11: goto w2c_B35;
+      case 12: goto w2c_B35;
+      case 13: goto w2c_B35;
+      case 14: goto w2c_B35;
+      default: goto w2c_B35;
+    }
+    w2c_B58:;
+    w2c_i0 = 3u;
+    w2c_l21 = w2c_i0;
+    w2c_i0 = 10u;
+    w2c_l20 = w2c_i0;
+    w2c_i0 = w2c_l19;
+    w2c_l22 = w2c_i0;
+    w2c_i0 = w2c_l19;
+    switch (w2c_i0) {
+      case 0: goto w2c_B63;
+      case 1: goto w2c_B50;
+      case 2: goto w2c_B62;
+      case 3: goto w2c_B62;
+      case 4: goto w2c_B62;
+      case 5: goto w2c_B35;
+      case 6: goto w2c_B62;
+      case 7: goto w2c_B62;
+      case 8: goto w2c_B62;
+      case 9: goto w2c_B62;
+      case 10: goto w2c_B62;
+      case 11: goto w2c_B62;
+      case 12: goto w2c_B62;
+      case 13: goto w2c_B62;
+      case 14: goto w2c_B62;
+      default: goto w2c_B63;
+    }
+    w2c_B63:;
+    w2c_i0 = w2c_l18;
+    w2c_i1 = 2u;
+    w2c_i0 |= w2c_i1;
+    w2c_l15 = w2c_i0;
+    w2c_i0 = 1u;
+    w2c_l14 = w2c_i0;
+    w2c_i0 = 9u;
+    w2c_l16 = w2c_i0;
+    goto w2c_B28;
+    w2c_B62:;
+    w2c_i0 = 1u;
+    w2c_l14 = w2c_i0;
+    w2c_i0 = w2c_l19;
+    w2c_i1 = 6u;
+    w2c_i0 = w2c_i0 == w2c_i1;
+    if (w2c_i0) {goto w2c_B42;}
+    w2c_i0 = w2c_l19;
+    w2c_i1 = 7u;
+    w2c_i0 = w2c_i0 == w2c_i1;
+    if (w2c_i0) {goto w2c_B33;}
+    goto w2c_B35;
+    w2c_B57:;
+    w2c_i0 = 3u;
+    w2c_l21 = w2c_i0;
+    w2c_i0 = 4u;
+    w2c_l22 = w2c_i0;
+    w2c_i0 = 10u;
+    w2c_l20 = w2c_i0;
+    w2c_i0 = w2c_l19;
+    switch (w2c_i0) {
+      case 0: goto w2c_B65;
+      case 1: goto w2c_B50;
+      case 2: goto w2c_B64;
+      case 3: goto w2c_B64;
+      case 4: goto w2c_B64;
+      case 5: goto w2c_B35;
+      case 6: goto w2c_B64;
+      case 7: goto w2c_B64;
+      case 8: goto w2c_B64;
+      case 9: goto w2c_B64;
+      case 10: goto w2c_B64;
+      case 11: goto w2c_B64;
+      case 12: goto w2c_B64;
+      case 13: goto w2c_B64;
+      case 14: goto w2c_B64;
+      default: goto w2c_B65;
+    }
+    w2c_B65:;
+    w2c_i0 = 3u;
+    w2c_l15 = w2c_i0;
+    w2c_i0 = w2c_l18;
+    w2c_i1 = 3u;
+    w2c_i0 ^= w2c_i1;
+    w2c_l14 = w2c_i0;
+    w2c_i0 = 9u;
+    w2c_l16 = w2c_i0;
+    goto w2c_B28;
+    w2c_B64:;
+    w2c_i0 = 1u;
+    w2c_l14 = w2c_i0;
+    w2c_i0 = 8u;
+    w2c_l16 = w2c_i0;
+    w2c_i0 = w2c_l19;
+    w2c_i1 = 5u;
+    w2c_i0 = w2c_i0 == w2c_i1;
+    if (w2c_i0) {goto w2c_B29;}
+    w2c_i0 = w2c_l19;
+    w2c_i1 = 7u;
+    w2c_i0 = w2c_i0 == w2c_i1;
+    if (w2c_i0) {goto w2c_B33;}
+    goto w2c_B35;
+    w2c_B56:;
+    w2c_i0 = 1u;
+    w2c_l14 = w2c_i0;
+    w2c_i0 = 3u;
+    w2c_l21 = w2c_i0;
+    w2c_i0 = 5u;
+    w2c_l22 = w2c_i0;
+    w2c_i0 = 10u;
+    w2c_l20 = w2c_i0;
+    w2c_i0 = w2c_l19;
+    switch (w2c_i0) {
+      case 0: goto w2c_B66;
+      case 1: goto w2c_B50;
+      case 2: goto w2c_B35;
+      case 3: goto w2c_B35;
+      case 4: goto w2c_B35;
+      case 5: goto w2c_B35;
+      case 6: goto w2c_B35;
+      case 7: goto w2c_B33;
+      case 8: goto w2c_B35;
+      case 9: goto w2c_B35;
+      case 10: goto w2c_B35;
+      case 11: goto w2c_B35;
+      case 12: goto w2c_B35;
+      case 13: goto w2c_B35;
+      case 14: goto w2c_B35;
+      default: goto w2c_B66;
+    }
+    w2c_B66:;
+    w2c_i0 = w2c_l18;
+    w2c_i1 = 2u;
+    w2c_i0 |= w2c_i1;
+    w2c_l15 = w2c_i0;
+    w2c_i0 = 5u;
+    w2c_l14 = w2c_i0;
+    w2c_i0 = 9u;
+    w2c_l16 = w2c_i0;
+    goto w2c_B28;
+    w2c_B55:;
+    w2c_i0 = w2c_l19;
+    w2c_i1 = 1u;
+    w2c_i0 = w2c_i0 != w2c_i1;
+    if (w2c_i0) {goto w2c_B35;}
+    w2c_i0 = 11u;
+    w2c_l20 = w2c_i0;
+    w2c_i0 = w2c_l18;
+    w2c_l22 = w2c_i0;
+    w2c_i0 = w2c_l15;
+    w2c_l21 = w2c_i0;
+    goto w2c_B50;
+    w2c_B54:;
+    w2c_i0 = w2c_l15;
+    w2c_j0 = (u64)(w2c_i0);
+    w2c_j1 = 255ull;
+    w2c_j0 &= w2c_j1;
+    w2c_i0 = (u32)(w2c_j0);
+    switch (w2c_i0) {
+      case 0: goto w2c_B67;
+      case 1: goto w2c_B47;
+      case 2: goto w2c_B45;
+      case 3: goto w2c_B36;
+      default: goto w2c_B67;
+    }
+    w2c_B67:;
+    w2c_i0 = w2c_l18;
+    w2c_j0 = (u64)(w2c_i0);
+    w2c_j1 = 255ull;
+    w2c_j0 &= w2c_j1;
+    w2c_i0 = (u32)(w2c_j0);
+    switch (w2c_i0) {
+      case 0: goto w2c_B72;
+      case 1: goto w2c_B69;
+      case 2: goto w2c_B71;
+      case 3: goto w2c_B71;
+      case 4: goto w2c_B70;
+      case 5: goto w2c_B68;
+      default: goto w2c_B72;
+    }
+    w2c_B72:;
+    w2c_i0 = 0u;
+    w2c_l14 = w2c_i0;
+    w2c_i0 = 6u;
+    w2c_l16 = w2c_i0;
+    w2c_i0 = w2c_l19;
+    switch (w2c_i0) {
+      case 0: goto w2c_B35;
+      case 1: goto w2c_B35;
+      case 2: goto w2c_B35;
+      case 3: goto w2c_B35;
+      case 4: goto w2c_B35;
+      case 5: goto w2c_B29;
+      case 6: goto w2c_B42;
+      case 7: goto w2c_B33;
+      case 8: goto w2c_B35;
+      case 9: goto w2c_B35;
+      case 10: goto w2c_B35;
+      case 11: goto w2c_B35;
+      case 12: goto w2c_B35;
+      case 13: goto w2c_B35;
+      case 14: goto w2c_B35;
+      default: goto w2c_B35;
+    }
+    w2c_B71:;
+    w2c_i0 = 0u;
+    w2c_l14 = w2c_i0;
+    w2c_i0 = 8u;
+    w2c_l16 = w2c_i0;
+    w2c_i0 = w2c_l19;
+    w2c_i1 = 5u;
+    w2c_i0 = w2c_i0 == w2c_i1;
+    if (w2c_i0) {goto w2c_B29;}
+    w2c_i0 = w2c_l19;
+    w2c_i1 = 7u;
+    w2c_i0 = w2c_i0 == w2c_i1;
+    if (w2c_i0) {goto w2c_B33;}
+    goto w2c_B35;
+    w2c_B70:;
+    w2c_i0 = w2c_l19;
+    w2c_i1 = 5u;
+    w2c_i0 = w2c_i0 != w2c_i1;
+    if (w2c_i0) {goto w2c_B35;}
+    goto w2c_B31;
+    w2c_B69:;
+    w2c_i0 = 0u;
+    w2c_l14 = w2c_i0;
+    w2c_i0 = w2c_l19;
+    w2c_i1 = 6u;
+    w2c_i0 = w2c_i0 == w2c_i1;
+    if (w2c_i0) {goto w2c_B42;}
+    w2c_i0 = w2c_l19;
+    w2c_i1 = 7u;
+    w2c_i0 = w2c_i0 == w2c_i1;
+    if (w2c_i0) {goto w2c_B33;}
+    goto w2c_B35;
+    w2c_B68:;
+    w2c_i0 = w2c_l19;
+    w2c_i1 = 7u;
+    w2c_i0 = w2c_i0 != w2c_i1;
+    if (w2c_i0) {goto w2c_B35;}
+    w2c_i0 = 0u;
+    w2c_l14 = w2c_i0;
+    goto w2c_B33;
+    w2c_B53:;
+    w2c_i0 = w2c_l15;
+    w2c_j0 = (u64)(w2c_i0);
+    w2c_j1 = 255ull;
+    w2c_j0 &= w2c_j1;
+    w2c_i0 = (u32)(w2c_j0);
+    switch (w2c_i0) {
+      case 0: goto w2c_B73;
+      case 1: goto w2c_B74;
+      case 2: goto w2c_B75;
+      case 3: goto w2c_B76;
+      default: goto w2c_B73;
+    }
+    w2c_B76:;
+    w2c_i0 = w2c_l19;
+    w2c_i1 = 4294967291u;
+    w2c_i0 += w2c_i1;
+    w2c_i1 = 10u;
+    w2c_i0 = w2c_i0 < w2c_i1;
+    if (w2c_i0) {goto w2c_B77;}
+    w2c_i0 = w2c_l18;
+    w2c_l14 = w2c_i0;
+    w2c_i0 = w2c_l19;
+    switch (w2c_i0) {
+      case 0: goto w2c_B77;
+      case 1: goto w2c_B77;
+      case 2: goto w2c_B46;
+      case 3: goto w2c_B44;
+      case 4: goto w2c_B43;
+      default: goto w2c_B77;
+    }
+    w2c_B77:;
+    w2c_i0 = w2c_l18;
+    w2c_j0 = (u64)(w2c_i0);
+    w2c_j1 = 255ull;
+    w2c_j0 &= w2c_j1;
+    w2c_i0 = (u32)(w2c_j0);
+    switch (w2c_i0) {
+      case 0: goto w2c_B82;
+      case 1: goto w2c_B79;
+      case 2: goto w2c_B81;
+      case 3: goto w2c_B81;
+      case 4: goto w2c_B80;
+      case 5: goto w2c_B78;
+      default: goto w2c_B82;
+    }
+    w2c_B82:;
+    w2c_i0 = 0u;
+    w2c_l14 = w2c_i0;
+    w2c_i0 = 6u;
+    w2c_l16 = w2c_i0;
+    w2c_i0 = w2c_l19;
+    switch (w2c_i0) {
+      case 0: goto w2c_B35;
+      case 1: goto w2c_B35;
+      case 2: goto w2c_B35;
+      case 3: goto w2c_B35;
+      case 4: goto w2c_B35;
+      case 5: goto w2c_B29;
+      case 6: goto w2c_B42;
+      case 7: goto w2c_B33;
+      case 8: goto w2c_B35;
+      case 9: goto w2c_B35;
+      case 10: goto w2c_B35;
+      case 11: goto w2c_B35;
+      case 12: goto w2c_B35;
+      case 13: goto w2c_B35;
+      case 14: goto w2c_B35;
+      default: goto w2c_B35;
+    }
+    w2c_B81:;
+    w2c_i0 = 0u;
+    w2c_l14 = w2c_i0;
+    w2c_i0 = 8u;
+    w2c_l16 = w2c_i0;
+    w2c_i0 = w2c_l19;
+    w2c_i1 = 5u;
+    w2c_i0 = w2c_i0 == w2c_i1;
+    if (w2c_i0) {goto w2c_B29;}
+    w2c_i0 = w2c_l19;
+    w2c_i1 = 7u;
+    w2c_i0 = w2c_i0 == w2c_i1;
+    if (w2c_i0) {goto w2c_B33;}
+    goto w2c_B35;
+    w2c_B80:;
+    w2c_i0 = w2c_l19;
+    w2c_i1 = 5u;
+    w2c_i0 = w2c_i0 == w2c_i1;
+    if (w2c_i0) {goto w2c_B31;}
+    goto w2c_B35;
+    w2c_B79:;
+    w2c_i0 = 0u;
+    w2c_l14 = w2c_i0;
+    w2c_i0 = w2c_l19;
+    w2c_i1 = 6u;
+    w2c_i0 = w2c_i0 == w2c_i1;
+    if (w2c_i0) {goto w2c_B42;}
+    w2c_i0 = w2c_l19;
+    w2c_i1 = 7u;
+    w2c_i0 = w2c_i0 == w2c_i1;
+    if (w2c_i0) {goto w2c_B33;}
+    goto w2c_B35;
+    w2c_B78:;
+    w2c_i0 = w2c_l19;
+    w2c_i1 = 7u;
+    w2c_i0 = w2c_i0 != w2c_i1;
+    if (w2c_i0) {goto w2c_B35;}
+    w2c_i0 = 0u;
+    w2c_l14 = w2c_i0;
+    goto w2c_B33;
+    w2c_B75:;
+    w2c_i0 = w2c_l19;
+    w2c_i1 = 4294967292u;
+    w2c_i0 += w2c_i1;
+    w2c_i1 = 11u;
+    w2c_i0 = w2c_i0 < w2c_i1;
+    if (w2c_i0) {goto w2c_B83;}
+    w2c_i0 = w2c_l18;
+    w2c_l14 = w2c_i0;
+    w2c_i0 = w2c_l19;
+    switch (w2c_i0) {
+      case 0: goto w2c_B83;
+      case 1: goto w2c_B83;
+      case 2: goto w2c_B46;
+      case 3: goto w2c_B44;
+      default: goto w2c_B83;
+    }
+    w2c_B83:;
+    w2c_i0 = w2c_l18;
+    w2c_j0 = (u64)(w2c_i0);
+    w2c_j1 = 255ull;
+    w2c_j0 &= w2c_j1;
+    w2c_i0 = (u32)(w2c_j0);
+    switch (w2c_i0) {
+      case 0: goto w2c_B88;
+      case 1: goto w2c_B85;
+      case 2: goto w2c_B87;
+      case 3: goto w2c_B87;
+      case 4: goto w2c_B86;
+      case 5: goto w2c_B84;
+      default: goto w2c_B88;
+    }
+    w2c_B88:;
+    w2c_i0 = 0u;
+    w2c_l14 = w2c_i0;
+    w2c_i0 = 6u;
+    w2c_l16 = w2c_i0;
+    w2c_i0 = w2c_l19;
+    switch (w2c_i0) {
+      case 0: goto w2c_B35;
+      case 1: goto w2c_B35;
+      case 2: goto w2c_B35;
+      case 3: goto w2c_B35;
+      case 4: goto w2c_B35;
+      case 5: goto w2c_B29;
+      case 6: goto w2c_B42;
+      case 7: goto w2c_B33;
+      case 8: goto w2c_B35;
+      case 9: goto w2c_B35;
+      case 10: goto w2c_B35;
+      case 11: goto w2c_B35;
+      case 12: goto w2c_B35;
+      case 13: goto w2c_B35;
+      case 14: goto w2c_B35;
+      default: goto w2c_B35;
+    }
+    w2c_B87:;
+    w2c_i0 = 0u;
+    w2c_l14 = w2c_i0;
+    w2c_i0 = 8u;
+    w2c_l16 = w2c_i0;
+    w2c_i0 = w2c_l19;
+    w2c_i1 = 5u;
+    w2c_i0 = w2c_i0 == w2c_i1;
+    if (w2c_i0) {goto w2c_B29;}
+    w2c_i0 = w2c_l19;
+    w2c_i1 = 7u;
+    w2c_i0 = w2c_i0 == w2c_i1;
+    if (w2c_i0) {goto w2c_B33;}
+    goto w2c_B35;
+    w2c_B86:;
+    w2c_i0 = w2c_l19;
+    w2c_i1 = 5u;
+    w2c_i0 = w2c_i0 == w2c_i1;
+    if (w2c_i0) {goto w2c_B31;}
+    goto w2c_B35;
+    w2c_B85:;
+    w2c_i0 = 0u;
+    w2c_l14 = w2c_i0;
+    w2c_i0 = w2c_l19;
+    w2c_i1 = 6u;
+    w2c_i0 = w2c_i0 == w2c_i1;
+    if (w2c_i0) {goto w2c_B42;}
+    w2c_i0 = w2c_l19;
+    w2c_i1 = 7u;
+    w2c_i0 = w2c_i0 == w2c_i1;
+    if (w2c_i0) {goto w2c_B33;}
+    goto w2c_B35;
+    w2c_B84:;
+    w2c_i0 = w2c_l19;
+    w2c_i1 = 7u;
+    w2c_i0 = w2c_i0 != w2c_i1;
+    if (w2c_i0) {goto w2c_B35;}
+    w2c_i0 = 0u;
+    w2c_l14 = w2c_i0;
+    goto w2c_B33;
+    w2c_B74:;
+    w2c_i0 = w2c_l19;
+    w2c_i1 = 2u;
+    w2c_i0 = w2c_i0 != w2c_i1;
+    if (w2c_i0) {goto w2c_B89;}
+    w2c_i0 = w2c_l18;
+    w2c_l14 = w2c_i0;
+    goto w2c_B46;
+    w2c_B89:;
+    w2c_i0 = w2c_l18;
+    w2c_j0 = (u64)(w2c_i0);
+    w2c_j1 = 255ull;
+    w2c_j0 &= w2c_j1;
+    w2c_i0 = (u32)(w2c_j0);
+    switch (w2c_i0) {
+      case 0: goto w2c_B94;
+      case 1: goto w2c_B91;
+      case 2: goto w2c_B93;
+      case 3: goto w2c_B93;
+      case 4: goto w2c_B92;
+      case 5: goto w2c_B90;
+      default: goto w2c_B94;
+    }
+    w2c_B94:;
+    w2c_i0 = 0u;
+    w2c_l14 = w2c_i0;
+    w2c_i0 = 6u;
+    w2c_l16 = w2c_i0;
+    w2c_i0 = w2c_l19;
+    switch (w2c_i0) {
+      case 0: goto w2c_B35;
+      case 1: goto w2c_B35;
+      case 2: goto w2c_B0;
+      case 3: goto w2c_B35;
+      case 4: goto w2c_B35;
+      case 5: goto w2c_B29;
+      case 6: goto w2c_B42;
+      case 7: goto w2c_B33;
+      case 8: goto w2c_B35;
+      case 9: goto w2c_B35;
+      case 10: goto w2c_B35;
+      case 11: goto w2c_B35;
+      case 12: goto w2c_B35;
+      case 13: goto w2c_B35;
+      case 14: goto w2c_B35;
+      default: goto w2c_B35;
+    }
+    w2c_B93:;
+    w2c_i0 = 0u;
+    w2c_l14 = w2c_i0;
+    w2c_i0 = 8u;
+    w2c_l16 = w2c_i0;
+    w2c_i0 = w2c_l19;
+    w2c_i1 = 5u;
+    w2c_i0 = w2c_i0 == w2c_i1;
+    if (w2c_i0) {goto w2c_B29;}
+    w2c_i0 = w2c_l19;
+    w2c_i1 = 7u;
+    w2c_i0 = w2c_i0 == w2c_i1;
+    if (w2c_i0) {goto w2c_B33;}
+    goto w2c_B35;
+    w2c_B92:;
+    w2c_i0 = w2c_l19;
+    w2c_i1 = 5u;
+    w2c_i0 = w2c_i0 == w2c_i1;
+    if (w2c_i0) {goto w2c_B31;}
+    goto w2c_B35;
+    w2c_B91:;
+    w2c_i0 = 0u;
+    w2c_l14 = w2c_i0;
+    w2c_i0 = w2c_l19;
+    w2c_i1 = 6u;
+    w2c_i0 = w2c_i0 == w2c_i1;
+    if (w2c_i0) {goto w2c_B42;}
+    w2c_i0 = w2c_l19;
+    w2c_i1 = 7u;
+    w2c_i0 = w2c_i0 == w2c_i1;
+    if (w2c_i0) {goto w2c_B33;}
+    goto w2c_B35;
+    w2c_B90:;
+    w2c_i0 = w2c_l19;
+    w2c_i1 = 7u;
+    w2c_i0 = w2c_i0 != w2c_i1;
+    if (w2c_i0) {goto w2c_B35;}
+    w2c_i0 = 0u;
+    w2c_l14 = w2c_i0;
+    goto w2c_B33;
+    w2c_B73:;
+    w2c_i0 = w2c_l18;
+    w2c_j0 = (u64)(w2c_i0);
+    w2c_j1 = 255ull;
+    w2c_j0 &= w2c_j1;
+    w2c_i0 = (u32)(w2c_j0);
+    switch (w2c_i0) {
+      case 0: goto w2c_B99;
+      case 1: goto w2c_B96;
+      case 2: goto w2c_B98;
+      case 3: goto w2c_B98;
+      case 4: goto w2c_B97;
+      case 5: goto w2c_B95;
+      default: goto w2c_B99;
+    }
+    w2c_B99:;
+    w2c_i0 = 0u;
+    w2c_l14 = w2c_i0;
+    w2c_i0 = 6u;
+    w2c_l16 = w2c_i0;
+    w2c_i0 = w2c_l19;
+    switch (w2c_i0) {
+      case 0: goto w2c_B35;
+      case 1: goto w2c_B35;
+      case 2: goto w2c_B35;
+      case 3: goto w2c_B35;
+      case 4: goto w2c_B35;
+      case 5: goto w2c_B29;
+      case 6: goto w2c_B42;
+      case 7: goto w2c_B33;
+      case 8: goto w2c_B35;
+      case 9: goto w2c_B35;
+      case 10: goto w2c_B35;
+      case 11: goto w2c_B35;
+      case 12: goto w2c_B35;
+      case 13: goto w2c_B35;
+      case 14: goto w2c_B35;
+      default: goto w2c_B35;
+    }
+    w2c_B98:;
+    w2c_i0 = 0u;
+    w2c_l14 = w2c_i0;
+    w2c_i0 = 8u;
+    w2c_l16 = w2c_i0;
+    w2c_i0 = w2c_l19;
+    w2c_i1 = 5u;
+    w2c_i0 = w2c_i0 == w2c_i1;
+    if (w2c_i0) {goto w2c_B29;}
+    w2c_i0 = w2c_l19;
+    w2c_i1 = 7u;
+    w2c_i0 = w2c_i0 == w2c_i1;
+    if (w2c_i0) {goto w2c_B33;}
+    goto w2c_B35;
+    w2c_B97:;
+    w2c_i0 = w2c_l19;
+    w2c_i1 = 5u;
+    w2c_i0 = w2c_i0 == w2c_i1;
+    if (w2c_i0) {goto w2c_B31;}
+    goto w2c_B35;
+    w2c_B96:;
+    w2c_i0 = 0u;
+    w2c_l14 = w2c_i0;
+    w2c_i0 = w2c_l19;
+    w2c_i1 = 6u;
+    w2c_i0 = w2c_i0 == w2c_i1;
+    if (w2c_i0) {goto w2c_B42;}
+    w2c_i0 = w2c_l19;
+    w2c_i1 = 7u;
+    w2c_i0 = w2c_i0 == w2c_i1;
+    if (w2c_i0) {goto w2c_B33;}
+    goto w2c_B35;
+    w2c_B95:;
+    w2c_i0 = w2c_l19;
+    w2c_i1 = 7u;
+    w2c_i0 = w2c_i0 != w2c_i1;
+    if (w2c_i0) {goto w2c_B35;}
+    w2c_i0 = 0u;
+    w2c_l14 = w2c_i0;
+    goto w2c_B33;
+    w2c_B52:;
+    w2c_i0 = w2c_l15;
+    w2c_j0 = (u64)(w2c_i0);
+    w2c_j1 = 255ull;
+    w2c_j0 &= w2c_j1;
+    w2c_i0 = (u32)(w2c_j0);
+    switch (w2c_i0) {
+      case 0: goto w2c_B100;
+      case 1: goto w2c_B101;
+      case 2: goto w2c_B102;
+      case 3: goto w2c_B103;
+      default: goto w2c_B100;
+    }
+    w2c_B103:;
+    w2c_i0 = w2c_l19;
+    w2c_i1 = 4294967294u;
+    w2c_i0 += w2c_i1;
+    w2c_i1 = 13u;
+    w2c_i0 = w2c_i0 < w2c_i1;
+    if (w2c_i0) {goto w2c_B104;}
+    w2c_i0 = 1u;
+    w2c_l15 = w2c_i0;
+    w2c_i0 = 9u;
+    w2c_l16 = w2c_i0;
+    w2c_i0 = 2u;
+    w2c_l21 = w2c_i0;
+    w2c_i0 = 10u;
+    w2c_l20 = w2c_i0;
+    w2c_i0 = w2c_l18;
+    w2c_l22 = w2c_i0;
+    w2c_i0 = w2c_l18;
+    w2c_l14 = w2c_i0;
+    w2c_i0 = w2c_l19;
+    switch (w2c_i0) {
+      case 0: goto w2c_B28;
+      case 1: goto w2c_B50;
+      default: goto w2c_B28;
+    }
+    w2c_B104:;
+    w2c_i0 = w2c_l18;
+    w2c_j0 = (u64)(w2c_i0);
+    w2c_j1 = 255ull;
+    w2c_j0 &= w2c_j1;
+    w2c_i0 = (u32)(w2c_j0);
+    switch (w2c_i0) {
+      case 0: goto w2c_B109;
+      case 1: goto w2c_B106;
+      case 2: goto w2c_B108;
+      case 3: goto w2c_B108;
+      case 4: goto w2c_B107;
+      case 5: goto w2c_B105;
+      default: goto w2c_B109;
+    }
+    w2c_B109:;
+    w2c_i0 = 1u;
+    w2c_l14 = w2c_i0;
+    w2c_i0 = 6u;
+    w2c_l16 = w2c_i0;
+    w2c_i0 = w2c_l19;
+    w2c_i1 = 4294967294u;
+    w2c_i0 += w2c_i1;
+    switch (w2c_i0) {
+      case 0: goto w2c_B35;
+      case 1: goto w2c_B35;
+      case 2: goto w2c_B35;
+      case 3: goto w2c_B29;
+      case 4: goto w2c_B42;
+      case 5: goto w2c_B33;
+      case 6: goto w2c_B35;
+      case 7: goto w2c_B35;
+      case 8: goto w2c_B35;
+      case 9: goto w2c_B35;
+      case 10: goto w2c_B35;
+      case 11: goto w2c_B35;
+      case 12: goto w2c_B35;
+      default: goto w2c_B35;
+    }
+    w2c_B108:;
+    w2c_i0 = 1u;
+    w2c_l14 = w2c_i0;
+    w2c_i0 = 8u;
+    w2c_l16 = w2c_i0;
+    w2c_i0 = w2c_l19;
+    w2c_i1 = 5u;
+    w2c_i0 = w2c_i0 == w2c_i1;
+    if (w2c_i0) {goto w2c_B29;}
+    w2c_i0 = w2c_l19;
+    w2c_i1 = 7u;
+    w2c_i0 = w2c_i0 == w2c_i1;
+    if (w2c_i0) {goto w2c_B33;}
+    goto w2c_B35;
+    w2c_B107:;
+    w2c_i0 = w2c_l19;
+    w2c_i1 = 5u;
+    w2c_i0 = w2c_i0 != w2c_i1;
+    if (w2c_i0) {goto w2c_B35;}
+    goto w2c_B32;
+    w2c_B106:;
+    w2c_i0 = 1u;
+    w2c_l14 = w2c_i0;
+    w2c_i0 = w2c_l19;
+    w2c_i1 = 6u;
+    w2c_i0 = w2c_i0 == w2c_i1;
+    if (w2c_i0) {goto w2c_B42;}
+    w2c_i0 = w2c_l19;
+    w2c_i1 = 7u;
+    w2c_i0 = w2c_i0 == w2c_i1;
+    if (w2c_i0) {goto w2c_B33;}
+    goto w2c_B35;
+    w2c_B105:;
+    w2c_i0 = w2c_l19;
+    w2c_i1 = 7u;
+    w2c_i0 = w2c_i0 != w2c_i1;
+    if (w2c_i0) {goto w2c_B35;}
+    w2c_i0 = 1u;
+    w2c_l14 = w2c_i0;
+    goto w2c_B33;
+    w2c_B102:;
+    w2c_i0 = w2c_l19;
+    w2c_i1 = 4294967294u;
+    w2c_i0 += w2c_i1;
+    w2c_i1 = 13u;
+    w2c_i0 = w2c_i0 < w2c_i1;
+    if (w2c_i0) {goto w2c_B110;}
+    w2c_i0 = 9u;
+    w2c_l16 = w2c_i0;
+    w2c_i0 = 10u;
+    w2c_l20 = w2c_i0;
+    w2c_i0 = w2c_l18;
+    w2c_l22 = w2c_i0;
+    w2c_i0 = w2c_l19;
+    w2c_l21 = w2c_i0;
+    w2c_i0 = w2c_l18;
+    w2c_l14 = w2c_i0;
+    w2c_i0 = w2c_l19;
+    w2c_l15 = w2c_i0;
+    w2c_i0 = w2c_l19;
+    switch (w2c_i0) {
+      case 0: goto w2c_B28;
+      case 1: goto w2c_B50;
+      default: goto w2c_B28;
+    }
+    w2c_B110:;
+    w2c_i0 = w2c_l18;
+    w2c_j0 = (u64)(w2c_i0);
+    w2c_j1 = 255ull;
+    w2c_j0 &= w2c_j1;
+    w2c_i0 = (u32)(w2c_j0);
+    switch (w2c_i0) {
+      case 0: goto w2c_B115;
+      case 1: goto w2c_B112;
+      case 2: goto w2c_B114;
+      case 3: goto w2c_B114;
+      case 4: goto w2c_B113;
+      case 5: goto w2c_B111;
+      default: goto w2c_B115;
+    }
+    w2c_B115:;
+    w2c_i0 = 1u;
+    w2c_l14 = w2c_i0;
+    w2c_i0 = 6u;
+    w2c_l16 = w2c_i0;
+    w2c_i0 = w2c_l19;
+    w2c_i1 = 4294967294u;
+    w2c_i0 += w2c_i1;
+    switch (w2c_i0) {
+      case 0: goto w2c_B35;
+      case 1: goto w2c_B35;
+      case 2: goto w2c_B35;
+      case 3: goto w2c_B29;
+      case 4: goto w2c_B42;
+      case 5: goto w2c_B33;
+      case 6: goto w2c_B35;
+      case 7: goto w2c_B35;
+      case 8: goto w2c_B35;
+      case 9: goto w2c_B35;
+      case 10: goto w2c_B35;
+      case 11: goto w2c_B35;
+      case 12: goto w2c_B35;
+      default: goto w2c_B35;
+    }
+    w2c_B114:;
+    w2c_i0 = 1u;
+    w2c_l14 = w2c_i0;
+    w2c_i0 = 8u;
+    w2c_l16 = w2c_i0;
+    w2c_i0 = w2c_l19;
+    w2c_i1 = 5u;
+    w2c_i0 = w2c_i0 == w2c_i1;
+    if (w2c_i0) {goto w2c_B29;}
+    w2c_i0 = w2c_l19;
+    w2c_i1 = 7u;
+    w2c_i0 = w2c_i0 == w2c_i1;
+    if (w2c_i0) {goto w2c_B33;}
+    goto w2c_B35;
+    w2c_B113:;
+    w2c_i0 = w2c_l19;
+    w2c_i1 = 5u;
+    w2c_i0 = w2c_i0 == w2c_i1;
+    if (w2c_i0) {goto w2c_B32;}
+    goto w2c_B35;
+    w2c_B112:;
+    w2c_i0 = 1u;
+    w2c_l14 = w2c_i0;
+    w2c_i0 = w2c_l19;
+    w2c_i1 = 6u;
+    w2c_i0 = w2c_i0 == w2c_i1;
+    if (w2c_i0) {goto w2c_B42;}
+    w2c_i0 = w2c_l19;
+    w2c_i1 = 7u;
+    w2c_i0 = w2c_i0 == w2c_i1;
+    if (w2c_i0) {goto w2c_B33;}
+    goto w2c_B35;
+    w2c_B111:;
+    w2c_i0 = w2c_l19;
+    w2c_i1 = 7u;
+    w2c_i0 = w2c_i0 != w2c_i1;
+    if (w2c_i0) {goto w2c_B35;}
+    w2c_i0 = 1u;
+    w2c_l14 = w2c_i0;
+    goto w2c_B33;
+    w2c_B101:;
+    w2c_i0 = w2c_l19;
+    w2c_i1 = 1u;
+    w2c_i0 = w2c_i0 != w2c_i1;
+    if (w2c_i0) {goto w2c_B116;}
+    w2c_i0 = 0u;
+    w2c_l21 = w2c_i0;
+    w2c_i0 = 10u;
+    w2c_l20 = w2c_i0;
+    w2c_i0 = w2c_l18;
+    w2c_l22 = w2c_i0;
+    goto w2c_B50;
+    w2c_B116:;
+    w2c_i0 = w2c_l18;
+    w2c_j0 = (u64)(w2c_i0);
+    w2c_j1 = 255ull;
+    w2c_j0 &= w2c_j1;
+    w2c_i0 = (u32)(w2c_j0);
+    switch (w2c_i0) {
+      case 0: goto w2c_B121;
+      case 1: goto w2c_B118;
+      case 2: goto w2c_B120;
+      case 3: goto w2c_B120;
+      case 4: goto w2c_B119;
+      case 5: goto w2c_B117;
+      default: goto w2c_B121;
+    }
+    w2c_B121:;
+    w2c_i0 = 1u;
+    w2c_l14 = w2c_i0;
+    w2c_i0 = 6u;
+    w2c_l16 = w2c_i0;
+    w2c_i0 = w2c_l19;
+    switch (w2c_i0) {
+      case 0: goto w2c_B35;
+      case 1: goto w2c_B0;
+      case 2: goto w2c_B35;
+      case 3: goto w2c_B35;
+      case 4: goto w2c_B35;
+      case 5: goto w2c_B29;
+      case 6: goto w2c_B42;
+      case 7: goto w2c_B33;
+      case 8: goto w2c_B35;
+      case 9: goto w2c_B35;
+      case 10: goto w2c_B35;
+      case 11: goto w2c_B35;
+      case 12: goto w2c_B35;
+      case 13: goto w2c_B35;
+      case 14: goto w2c_B35;
+      default: goto w2c_B35;
+    }
+    w2c_B120:;
+    w2c_i0 = 1u;
+    w2c_l14 = w2c_i0;
+    w2c_i0 = 8u;
+    w2c_l16 = w2c_i0;
+    w2c_i0 = w2c_l19;
+    w2c_i1 = 5u;
+    w2c_i0 = w2c_i0 == w2c_i1;
+    if (w2c_i0) {goto w2c_B29;}
+    w2c_i0 = w2c_l19;
+    w2c_i1 = 7u;
+    w2c_i0 = w2c_i0 == w2c_i1;
+    if (w2c_i0) {goto w2c_B33;}
+    goto w2c_B35;
+    w2c_B119:;
+    w2c_i0 = w2c_l19;
+    w2c_i1 = 5u;
+    w2c_i0 = w2c_i0 == w2c_i1;
+    if (w2c_i0) {goto w2c_B32;}
+    goto w2c_B35;
+    w2c_B118:;
+    w2c_i0 = 1u;
+    w2c_l14 = w2c_i0;
+    w2c_i0 = w2c_l19;
+    w2c_i1 = 6u;
+    w2c_i0 = w2c_i0 == w2c_i1;
+    if (w2c_i0) {goto w2c_B42;}
+    w2c_i0 = w2c_l19;
+    w2c_i1 = 7u;
+    w2c_i0 = w2c_i0 == w2c_i1;
+    if (w2c_i0) {goto w2c_B33;}
+    goto w2c_B35;
+    w2c_B117:;
+    w2c_i0 = w2c_l19;
+    w2c_i1 = 7u;
+    w2c_i0 = w2c_i0 != w2c_i1;
+    if (w2c_i0) {goto w2c_B35;}
+    w2c_i0 = 1u;
+    w2c_l14 = w2c_i0;
+    goto w2c_B33;
+    w2c_B100:;
+    w2c_i0 = w2c_l18;
+    w2c_j0 = (u64)(w2c_i0);
+    w2c_j1 = 255ull;
+    w2c_j0 &= w2c_j1;
+    w2c_i0 = (u32)(w2c_j0);
+    switch (w2c_i0) {
+      case 0: goto w2c_B126;
+      case 1: goto w2c_B123;
+      case 2: goto w2c_B125;
+      case 3: goto w2c_B125;
+      case 4: goto w2c_B124;
+      case 5: goto w2c_B122;
+      default: goto w2c_B126;
+    }
+    w2c_B126:;
+    w2c_i0 = 1u;
+    w2c_l14 = w2c_i0;
+    w2c_i0 = 6u;
+    w2c_l16 = w2c_i0;
+    w2c_i0 = w2c_l19;
+    switch (w2c_i0) {
+      case 0: goto w2c_B35;
+      case 1: goto w2c_B35;
+      case 2: goto w2c_B35;
+      case 3: goto w2c_B35;
+      case 4: goto w2c_B35;
+      case 5: goto w2c_B29;
+      case 6: goto w2c_B42;
+      case 7: goto w2c_B33;
+      case 8: goto w2c_B35;
+      case 9: goto w2c_B35;
+      case 10: goto w2c_B35;
+      case 11: goto w2c_B35;
+      case 12: goto w2c_B35;
+      case 13: goto w2c_B35;
+      case 14: goto w2c_B35;
+      default: goto w2c_B35;
+    }
+    w2c_B125:;
+    w2c_i0 = 1u;
+    w2c_l14 = w2c_i0;
+    w2c_i0 = 8u;
+    w2c_l16 = w2c_i0;
+    w2c_i0 = w2c_l19;
+    w2c_i1 = 5u;
+    w2c_i0 = w2c_i0 == w2c_i1;
+    if (w2c_i0) {goto w2c_B29;}
+    w2c_i0 = w2c_l19;
+    w2c_i1 = 7u;
+    w2c_i0 = w2c_i0 == w2c_i1;
+    if (w2c_i0) {goto w2c_B33;}
+    goto w2c_B35;
+    w2c_B124:;
+    w2c_i0 = w2c_l19;
+    w2c_i1 = 5u;
+    w2c_i0 = w2c_i0 == w2c_i1;
+    if (w2c_i0) {goto w2c_B32;}
+    goto w2c_B35;
+    w2c_B123:;
+    w2c_i0 = 1u;
+    w2c_l14 = w2c_i0;
+    w2c_i0 = w2c_l19;
+    w2c_i1 = 6u;
+    w2c_i0 = w2c_i0 == w2c_i1;
+    if (w2c_i0) {goto w2c_B42;}
+    w2c_i0 = w2c_l19;
+    w2c_i1 = 7u;
+    w2c_i0 = w2c_i0 != w2c_i1;
+    if (w2c_i0) {goto w2c_B35;}
+    goto w2c_B33;
+    w2c_B122:;
+    w2c_i0 = w2c_l19;
+    w2c_i1 = 7u;
+    w2c_i0 = w2c_i0 != w2c_i1;
+    if (w2c_i0) {goto w2c_B35;}
+    w2c_i0 = 1u;
+    w2c_l14 = w2c_i0;
+    goto w2c_B33;
+    w2c_B51:;
+    w2c_i0 = w2c_l14;
+    switch (w2c_i0) {
+      case 0: goto w2c_B134;
+      case 1: goto w2c_B133;
+      case 2: goto w2c_B132;
+      case 3: goto w2c_B131;
+      case 4: goto w2c_B130;
+      case 5: goto w2c_B35;
+      case 6: goto w2c_B35;
+      case 7: goto w2c_B35;
+      case 8: goto w2c_B35;
+      case 9: goto w2c_B35;
+      case 10: goto w2c_B35;
+      case 11: goto w2c_B35;
+      case 12: goto w2c_B35;
+      case 13: goto w2c_B129;
+      case 14: goto w2c_B127;
+      case 15: goto w2c_B49;
+      case 16: goto w2c_B41;
+      case 17: goto w2c_B128;
+      case 18: goto w2c_B39;
+      case 19: goto w2c_B35;
+      default: goto w2c_B134;
+    }
+    w2c_B134:;
+    w2c_i0 = 5u;
+    w2c_l20 = w2c_i0;
+    w2c_i0 = 0u;
+    w2c_l22 = w2c_i0;
     w2c_i0 = 1u;
     w2c_l16 = w2c_i0;
-    w2c_i0 = w2c_l8;
-    w2c_i1 = 26577u;
-    w2c_i0 = (u32)((s32)w2c_i0 > (s32)w2c_i1);
-    if (w2c_i0) {goto w2c_B40;}
-    w2c_i0 = w2c_l8;
-    w2c_i1 = 25341u;
-    w2c_i0 = (u32)((s32)w2c_i0 > (s32)w2c_i1);
-    if (w2c_i0) {goto w2c_B41;}
-    w2c_i0 = w2c_l8;
-    w2c_i1 = 22776u;
-    w2c_i0 = (u32)((s32)w2c_i0 > (s32)w2c_i1);
-    if (w2c_i0) {goto w2c_B42;}
-    w2c_i0 = w2c_l8;
-    w2c_i1 = 20237u;
-    w2c_i0 = w2c_i0 == w2c_i1;
-    if (w2c_i0) {goto w2c_B37;}
-    w2c_i0 = w2c_l8;
-    w2c_i1 = 21441u;
+    w2c_i0 = 0u;
+    w2c_l21 = w2c_i0;
+    w2c_i0 = 0u;
+    w2c_l14 = w2c_i0;
+    w2c_i0 = 0u;
+    w2c_l15 = w2c_i0;
+    w2c_i0 = w2c_l19;
+    switch (w2c_i0) {
+      case 0: goto w2c_B48;
+      case 1: goto w2c_B50;
+      case 2: goto w2c_B35;
+      case 3: goto w2c_B35;
+      case 4: goto w2c_B35;
+      case 5: goto w2c_B35;
+      case 6: goto w2c_B35;
+      case 7: goto w2c_B35;
+      case 8: goto w2c_B35;
+      case 9: goto w2c_B35;
+      case 10: goto w2c_B35;
+      case 11: goto w2c_B28;
+      case 12: goto w2c_B35;
+      case 13: goto w2c_B35;
+      case 14: goto w2c_B35;
+      default: goto w2c_B48;
+    }
+    w2c_B133:;
+    w2c_i0 = w2c_l19;
+    w2c_i1 = 12u;
+    w2c_i0 = w2c_i0 != w2c_i1;
+    if (w2c_i0) {goto w2c_B35;}
+    w2c_i0 = 0u;
+    w2c_l14 = w2c_i0;
+    w2c_i0 = 2u;
+    w2c_l16 = w2c_i0;
+    goto w2c_B37;
+    w2c_B132:;
+    w2c_i0 = w2c_l19;
+    w2c_i1 = 13u;
+    w2c_i0 = w2c_i0 != w2c_i1;
+    if (w2c_i0) {goto w2c_B35;}
+    w2c_i0 = 0u;
+    w2c_l14 = w2c_i0;
+    w2c_i0 = 3u;
+    w2c_l16 = w2c_i0;
+    goto w2c_B37;
+    w2c_B131:;
+    w2c_i0 = 0u;
+    w2c_l22 = w2c_i0;
+    w2c_i0 = 5u;
+    w2c_l20 = w2c_i0;
+    w2c_i0 = 0u;
+    w2c_l21 = w2c_i0;
+    w2c_i0 = w2c_l19;
+    switch (w2c_i0) {
+      case 0: goto w2c_B48;
+      case 1: goto w2c_B50;
+      case 2: goto w2c_B35;
+      case 3: goto w2c_B35;
+      case 4: goto w2c_B35;
+      case 5: goto w2c_B35;
+      case 6: goto w2c_B35;
+      case 7: goto w2c_B35;
+      case 8: goto w2c_B35;
+      case 9: goto w2c_B35;
+      case 10: goto w2c_B35;
+      case 11: goto w2c_B35;
+      case 12: goto w2c_B35;
+      case 13: goto w2c_B35;
+      case 14: goto w2c_B35;
+      default: goto w2c_B48;
+    }
+    w2c_B130:;
+    w2c_i0 = w2c_l19;
+    w2c_i1 = 7u;
+    w2c_i0 = w2c_i0 != w2c_i1;
+    if (w2c_i0) {goto w2c_B35;}
+    w2c_i0 = 1u;
+    w2c_l14 = w2c_i0;
+    goto w2c_B33;
+    w2c_B129:;
+    w2c_i0 = 16u;
+    w2c_l20 = w2c_i0;
+    w2c_i0 = 0u;
+    w2c_l22 = w2c_i0;
+    w2c_i0 = 19u;
+    w2c_l16 = w2c_i0;
+    w2c_i0 = 0u;
+    w2c_l21 = w2c_i0;
+    w2c_i0 = 0u;
+    w2c_l14 = w2c_i0;
+    w2c_i0 = 0u;
+    w2c_l15 = w2c_i0;
+    w2c_i0 = w2c_l19;
+    switch (w2c_i0) {
+      case 0: goto w2c_B135;
+      case 1: goto w2c_B50;
+      case 2: goto w2c_B35;
+      case 3: goto w2c_B35;
+      case 4: goto w2c_B35;
+      case 5: goto w2c_B35;
+      case 6: goto w2c_B35;
+      case 7: goto w2c_B35;
+      case 8: goto w2c_B35;
+      case 9: goto w2c_B35;
+      case 10: goto w2c_B28;
+      case 11: goto w2c_B35;
+      case 12: goto w2c_B35;
+      case 13: goto w2c_B35;
+      case 14: goto w2c_B35;
+      default: goto w2c_B135;
+    }
+    w2c_B135:;
+    w2c_i0 = w2c_l18;
+    w2c_i1 = 1u;
+    w2c_i0 &= w2c_i1;
+    w2c_l14 = w2c_i0;
+    w2c_i0 = 14u;
+    w2c_l16 = w2c_i0;
+    goto w2c_B37;
+    w2c_B128:;
+    w2c_i0 = 18u;
+    w2c_l20 = w2c_i0;
+    w2c_i0 = 0u;
+    w2c_l14 = w2c_i0;
+    w2c_i0 = 19u;
+    w2c_l16 = w2c_i0;
+    w2c_i0 = w2c_l19;
+    w2c_i1 = 1u;
+    w2c_i0 = w2c_i0 != w2c_i1;
+    if (w2c_i0) {goto w2c_B136;}
+    w2c_i0 = 0u;
+    w2c_l22 = w2c_i0;
+    w2c_i0 = 0u;
+    w2c_l21 = w2c_i0;
+    goto w2c_B50;
+    w2c_B136:;
+    w2c_i0 = 0u;
+    w2c_l15 = w2c_i0;
+    w2c_i0 = w2c_l19;
+    w2c_i1 = 10u;
     w2c_i0 = w2c_i0 == w2c_i1;
     if (w2c_i0) {goto w2c_B28;}
-    goto w2c_B29;
+    goto w2c_B35;
+    w2c_B127:;
+    w2c_i0 = w2c_l19;
+    w2c_i1 = 1u;
+    w2c_i0 = w2c_i0 != w2c_i1;
+    if (w2c_i0) {goto w2c_B35;}
+    w2c_i0 = w2c_l18;
+    w2c_i1 = 1u;
+    w2c_i0 &= w2c_i1;
+    w2c_l22 = w2c_i0;
+    w2c_i0 = 0u;
+    w2c_l21 = w2c_i0;
+    w2c_i0 = 15u;
+    w2c_l20 = w2c_i0;
+    w2c_B50:;
+    w2c_i0 = w2c_l20;
+    w2c_l16 = w2c_i0;
+    w2c_i0 = w2c_l22;
+    w2c_l14 = w2c_i0;
+    w2c_i0 = w2c_l21;
+    w2c_l15 = w2c_i0;
+    w2c_j0 = w2c_l13;
+    w2c_l7 = w2c_j0;
+    goto w2c_B28;
+    w2c_B49:;
+    w2c_i0 = w2c_l18;
+    w2c_i1 = 1u;
+    w2c_i0 &= w2c_i1;
+    w2c_i0 = !(w2c_i0);
+    if (w2c_i0) {goto w2c_B39;}
+    w2c_i0 = w2c_l19;
+    w2c_i1 = 8u;
+    w2c_i0 = w2c_i0 == w2c_i1;
+    if (w2c_i0) {goto w2c_B40;}
+    w2c_i0 = w2c_l19;
+    w2c_i1 = 9u;
+    w2c_i0 = w2c_i0 == w2c_i1;
+    if (w2c_i0) {goto w2c_B38;}
+    goto w2c_B35;
+    w2c_B48:;
+    w2c_i0 = 0u;
+    w2c_l14 = w2c_i0;
+    w2c_i0 = 4u;
+    w2c_l16 = w2c_i0;
+    goto w2c_B37;
+    w2c_B47:;
+    w2c_i0 = w2c_l18;
+    w2c_l14 = w2c_i0;
+    w2c_i0 = w2c_l19;
+    w2c_i1 = 2u;
+    w2c_i0 = w2c_i0 != w2c_i1;
+    if (w2c_i0) {goto w2c_B35;}
+    w2c_B46:;
+    w2c_j0 = w2c_l7;
+    w2c_j1 = 10ull;
+    w2c_j0 *= w2c_j1;
+    w2c_j1 = w2c_l9;
+    w2c_j0 += w2c_j1;
+    w2c_l9 = w2c_j0;
+    w2c_j0 = 0ull;
+    w2c_l7 = w2c_j0;
+    w2c_i0 = 1u;
+    w2c_l15 = w2c_i0;
+    w2c_i0 = 12u;
+    w2c_l16 = w2c_i0;
+    goto w2c_B28;
+    w2c_B45:;
+    w2c_i0 = w2c_l18;
+    w2c_l14 = w2c_i0;
+    w2c_i0 = w2c_l19;
+    w2c_i1 = 3u;
+    w2c_i0 = w2c_i0 != w2c_i1;
+    if (w2c_i0) {goto w2c_B35;}
+    w2c_B44:;
+    w2c_j0 = w2c_l7;
+    w2c_j1 = 100ull;
+    w2c_j0 *= w2c_j1;
+    w2c_j1 = w2c_l9;
+    w2c_j0 += w2c_j1;
+    w2c_l9 = w2c_j0;
+    w2c_j0 = 0ull;
+    w2c_l7 = w2c_j0;
+    w2c_i0 = 2u;
+    w2c_l15 = w2c_i0;
+    w2c_i0 = 12u;
+    w2c_l16 = w2c_i0;
+    goto w2c_B28;
+    w2c_B43:;
+    w2c_i0 = 5u;
+    w2c_i1 = w2c_l18;
+    w2c_i2 = w2c_l18;
+    w2c_i3 = 255u;
+    w2c_i2 &= w2c_i3;
+    w2c_i3 = 3u;
+    w2c_i2 = w2c_i2 == w2c_i3;
+    w2c_i0 = w2c_i2 ? w2c_i0 : w2c_i1;
+    w2c_l14 = w2c_i0;
+    goto w2c_B34;
     w2c_B42:;
-    w2c_i0 = w2c_l8;
+    w2c_j0 = w2c_l9;
+    w2c_j1 = w2c_l7;
+    w2c_j0 += w2c_j1;
+    w2c_j1 = w2c_l10;
+    w2c_j0 += w2c_j1;
+    w2c_j1 = 100000000ull;
+    w2c_j0 *= w2c_j1;
+    w2c_l10 = w2c_j0;
+    w2c_j0 = 0ull;
+    w2c_l9 = w2c_j0;
+    w2c_i0 = 0u;
+    w2c_l15 = w2c_i0;
+    w2c_i0 = 7u;
+    w2c_l16 = w2c_i0;
+    w2c_j0 = 0ull;
+    w2c_l7 = w2c_j0;
+    goto w2c_B28;
+    w2c_B41:;
+    w2c_i0 = w2c_l19;
+    w2c_i1 = 8u;
+    w2c_i0 = w2c_i0 != w2c_i1;
+    if (w2c_i0) {goto w2c_B35;}
+    w2c_B40:;
+    w2c_j0 = w2c_l11;
+    w2c_j1 = w2c_l7;
+    w2c_j2 = 10ull;
+    w2c_j1 *= w2c_j2;
+    w2c_j0 += w2c_j1;
+    w2c_l11 = w2c_j0;
+    w2c_j0 = 0ull;
+    w2c_l7 = w2c_j0;
+    w2c_i0 = 0u;
+    w2c_l14 = w2c_i0;
+    w2c_i0 = 17u;
+    w2c_l16 = w2c_i0;
+    goto w2c_B37;
+    w2c_B39:;
+    w2c_i0 = w2c_l19;
+    w2c_i1 = 9u;
+    w2c_i0 = w2c_i0 != w2c_i1;
+    if (w2c_i0) {goto w2c_B35;}
+    w2c_B38:;
+    w2c_j0 = w2c_l11;
+    w2c_j1 = w2c_l7;
+    w2c_j0 += w2c_j1;
+    w2c_l11 = w2c_j0;
+    w2c_j0 = 0ull;
+    w2c_l7 = w2c_j0;
+    w2c_i0 = 0u;
+    w2c_l14 = w2c_i0;
+    w2c_i0 = 19u;
+    w2c_l16 = w2c_i0;
+    w2c_B37:;
+    w2c_i0 = 0u;
+    w2c_l15 = w2c_i0;
+    goto w2c_B28;
+    w2c_B36:;
+    w2c_i0 = w2c_l18;
+    w2c_l14 = w2c_i0;
+    w2c_i0 = w2c_l19;
+    w2c_i1 = 4u;
+    w2c_i0 = w2c_i0 == w2c_i1;
+    if (w2c_i0) {goto w2c_B34;}
+    w2c_B35:;
+    w2c_j0 = 0ull;
+    w2c_p0 = w2c_j0;
+    w2c_j0 = w2c_p2;
+    w2c_i0 = (u32)(w2c_j0);
+    w2c_j1 = 0ull;
+    i64_store(m, (u64)(w2c_i0) + 16, w2c_j1);
+    w2c_j0 = w2c_p2;
+    w2c_i0 = (u32)(w2c_j0);
+    w2c_j1 = 0ull;
+    i64_store(m, (u64)(w2c_i0), w2c_j1);
+    w2c_j0 = w2c_p2;
+    w2c_i0 = (u32)(w2c_j0);
+    w2c_j1 = w2c_l8;
+    w2c_j2 = 3ull;
+    w2c_j1 += w2c_j2;
+    w2c_l12 = w2c_j1;
+    i64_store(m, (u64)(w2c_i0) + 8, w2c_j1);
+    w2c_j0 = w2c_p1;
+    w2c_j1 = 8ull;
+    w2c_i0 = w2c_j0 >= w2c_j1;
+    if (w2c_i0) {goto w2c_B138;}
+    w2c_j0 = 0ull;
+    w2c_l7 = w2c_j0;
+    goto w2c_B137;
+    w2c_B138:;
+    w2c_j0 = 0ull;
+    w2c_l7 = w2c_j0;
+    w2c_j0 = w2c_l12;
+    w2c_j1 = 3ull;
+    w2c_i0 = w2c_j0 < w2c_j1;
+    if (w2c_i0) {goto w2c_B137;}
+    w2c_j0 = w2c_p1;
+    w2c_j1 = 18446744073709551607ull;
+    w2c_j0 += w2c_j1;
+    w2c_l4 = w2c_j0;
+    w2c_j0 = 0ull;
+    w2c_l7 = w2c_j0;
+    w2c_j0 = 0ull;
+    w2c_p0 = w2c_j0;
+    w2c_L139:
+      w2c_j0 = w2c_l5;
+      w2c_j1 = w2c_p0;
+      w2c_j0 += w2c_j1;
+      w2c_i0 = (u32)(w2c_j0);
+      w2c_j0 = i64_load(m, (u64)(w2c_i0));
+      w2c_j1 = 67553998437089520ull;
+      w2c_j0 &= w2c_j1;
+      w2c_j1 = 63050398541283552ull;
+      w2c_i0 = w2c_j0 != w2c_j1;
+      if (w2c_i0) {goto w2c_B137;}
+      w2c_j0 = w2c_l7;
+      w2c_j1 = 3ull;
+      w2c_j0 += w2c_j1;
+      w2c_l7 = w2c_j0;
+      w2c_j0 = w2c_p0;
+      w2c_j1 = 9ull;
+      w2c_j0 += w2c_j1;
+      w2c_p0 = w2c_j0;
+      w2c_j0 = w2c_l8;
+      w2c_j1 = 3ull;
+      w2c_i0 = w2c_j0 < w2c_j1;
+      if (w2c_i0) {goto w2c_B137;}
+      w2c_j0 = w2c_l8;
+      w2c_j1 = 18446744073709551613ull;
+      w2c_j0 += w2c_j1;
+      w2c_l8 = w2c_j0;
+      w2c_j0 = w2c_l4;
+      w2c_j1 = 7ull;
+      w2c_i0 = w2c_j0 > w2c_j1;
+      w2c_l14 = w2c_i0;
+      w2c_j0 = w2c_l4;
+      w2c_j1 = 18446744073709551607ull;
+      w2c_j0 += w2c_j1;
+      w2c_l4 = w2c_j0;
+      w2c_i0 = w2c_l14;
+      if (w2c_i0) {goto w2c_L139;}
+    w2c_B137:;
+    w2c_j0 = w2c_p1;
+    w2c_j1 = w2c_p0;
+    w2c_i0 = w2c_j0 <= w2c_j1;
+    if (w2c_i0) {goto w2c_B140;}
+    w2c_j0 = w2c_l7;
+    w2c_j1 = w2c_l12;
+    w2c_i0 = w2c_j0 >= w2c_j1;
+    if (w2c_i0) {goto w2c_B140;}
+    w2c_j0 = w2c_l7;
+    w2c_j1 = 1ull;
+    w2c_j0 += w2c_j1;
+    w2c_l4 = w2c_j0;
+    w2c_L141:
+      w2c_j0 = w2c_l5;
+      w2c_j1 = w2c_p0;
+      w2c_j0 += w2c_j1;
+      w2c_i0 = (u32)(w2c_j0);
+      w2c_i0 = i32_load8_u(m, (u64)(w2c_i0));
+      w2c_i1 = 1u;
+      w2c_i0 >>= (w2c_i1 & 31);
+      w2c_j0 = (u64)(w2c_i0);
+      w2c_j1 = 120ull;
+      w2c_j0 &= w2c_j1;
+      w2c_j1 = 66848ull;
+      w2c_j0 += w2c_j1;
+      w2c_i0 = (u32)(w2c_j0);
+      w2c_j0 = i64_load(m, (u64)(w2c_i0));
+      w2c_j1 = w2c_p0;
+      w2c_j0 += w2c_j1;
+      w2c_p0 = w2c_j0;
+      w2c_j0 = w2c_l4;
+      w2c_j1 = w2c_l12;
+      w2c_i0 = w2c_j0 >= w2c_j1;
+      if (w2c_i0) {goto w2c_B140;}
+      w2c_j0 = w2c_l4;
+      w2c_j1 = 1ull;
+      w2c_j0 += w2c_j1;
+      w2c_l4 = w2c_j0;
+      w2c_j0 = w2c_p1;
+      w2c_j1 = w2c_p0;
+      w2c_i0 = w2c_j0 > w2c_j1;
+      if (w2c_i0) {goto w2c_L141;}
+    w2c_B140:;
+    w2c_j0 = w2c_p2;
+    w2c_i0 = (u32)(w2c_j0);
+    w2c_j1 = w2c_p0;
+    i64_store(m, (u64)(w2c_i0) + 16, w2c_j1);
+    w2c_i0 = 2u;
+    w2c_l14 = w2c_i0;
+    goto w2c_B1;
+    w2c_B34:;
+    w2c_j0 = w2c_l7;
+    w2c_j1 = 1000ull;
+    w2c_j0 *= w2c_j1;
+    w2c_j1 = w2c_l9;
+    w2c_j0 += w2c_j1;
+    w2c_l9 = w2c_j0;
+    w2c_j0 = 0ull;
+    w2c_l7 = w2c_j0;
+    w2c_i0 = 3u;
+    w2c_l15 = w2c_i0;
+    w2c_i0 = 12u;
+    w2c_l16 = w2c_i0;
+    goto w2c_B28;
+    w2c_B33:;
+    w2c_j0 = w2c_l9;
+    w2c_j1 = w2c_l7;
+    w2c_j0 += w2c_j1;
+    w2c_j1 = w2c_l10;
+    w2c_j0 += w2c_j1;
+    w2c_j1 = 100ull;
+    w2c_j0 *= w2c_j1;
+    w2c_j1 = w2c_l11;
+    w2c_j0 += w2c_j1;
+    w2c_l11 = w2c_j0;
+    w2c_j0 = 0ull;
+    w2c_l10 = w2c_j0;
+    w2c_i0 = 0u;
+    w2c_l15 = w2c_i0;
+    w2c_i0 = 13u;
+    w2c_l16 = w2c_i0;
+    w2c_j0 = 0ull;
+    w2c_l9 = w2c_j0;
+    w2c_j0 = 0ull;
+    w2c_l7 = w2c_j0;
+    goto w2c_B28;
+    w2c_B32:;
+    w2c_i0 = 1u;
+    w2c_l14 = w2c_i0;
+    goto w2c_B30;
+    w2c_B31:;
+    w2c_i0 = 0u;
+    w2c_l14 = w2c_i0;
+    w2c_B30:;
+    w2c_i0 = 8u;
+    w2c_l16 = w2c_i0;
+    w2c_B29:;
+    w2c_j0 = w2c_l9;
+    w2c_j1 = w2c_l7;
+    w2c_j0 += w2c_j1;
+    w2c_j1 = 10000ull;
+    w2c_j0 *= w2c_j1;
+    w2c_j1 = w2c_l10;
+    w2c_j0 += w2c_j1;
+    w2c_l10 = w2c_j0;
+    w2c_j0 = 0ull;
+    w2c_l9 = w2c_j0;
+    w2c_i0 = 0u;
+    w2c_l15 = w2c_i0;
+    w2c_j0 = 0ull;
+    w2c_l7 = w2c_j0;
+    w2c_B28:;
+    w2c_j0 = w2c_l3;
+    w2c_i0 = (u32)(w2c_j0);
+    w2c_i1 = 0u;
+    i32_store8(m, (u64)(w2c_i0) + 4, w2c_i1);
+    w2c_j0 = w2c_l3;
+    w2c_i0 = (u32)(w2c_j0);
+    w2c_i1 = 0u;
+    i32_store(m, (u64)(w2c_i0), w2c_i1);
+    w2c_B9:;
+    w2c_j0 = w2c_l3;
+    w2c_i0 = (u32)(w2c_j0);
+    w2c_j1 = w2c_l3;
+    w2c_i1 = (u32)(w2c_j1);
+    w2c_i1 = i32_load8_u(m, (u64)(w2c_i1) + 4u);
+    i32_store8(m, (u64)(w2c_i0) + 12, w2c_i1);
+    w2c_j0 = w2c_l3;
+    w2c_i0 = (u32)(w2c_j0);
+    w2c_j1 = w2c_l3;
+    w2c_i1 = (u32)(w2c_j1);
+    w2c_i1 = i32_load(m, (u64)(w2c_i1));
+    i32_store(m, (u64)(w2c_i0) + 8, w2c_i1);
+    w2c_j0 = w2c_l8;
+    w2c_j1 = 1ull;
+    w2c_j0 += w2c_j1;
+    w2c_l8 = w2c_j0;
+    w2c_j0 = w2c_l4;
+    w2c_j1 = 0ull;
+    w2c_i0 = w2c_j0 != w2c_j1;
+    if (w2c_i0) {goto w2c_L8;}
+  w2c_i0 = w2c_l16;
+  w2c_i1 = 255u;
+  w2c_i0 &= w2c_i1;
+  w2c_l14 = w2c_i0;
+  w2c_i1 = 17u;
+  w2c_i0 = w2c_i0 < w2c_i1;
+  if (w2c_i0) {goto w2c_B7;}
+  w2c_i0 = w2c_l14;
+  w2c_i1 = 4294967279u;
+  w2c_i0 += w2c_i1;
+  switch (w2c_i0) {
+    case 0: goto w2c_B142;
+    case 1: goto w2c_B7;
+    case 2: goto w2c_B142;
+    default: goto w2c_B142;
+  }
+  w2c_B142:;
+  w2c_j0 = w2c_l6;
+  w2c_i0 = (u32)(w2c_j0);
+  w2c_j1 = 0ull;
+  i64_store(m, (u64)(w2c_i0) + 8, w2c_j1);
+  w2c_j0 = w2c_l6;
+  w2c_i0 = (u32)(w2c_j0);
+  w2c_j1 = 0ull;
+  i64_store(m, (u64)(w2c_i0), w2c_j1);
+  w2c_j0 = w2c_p2;
+  w2c_i0 = (u32)(w2c_j0);
+  w2c_j1 = w2c_l11;
+  i64_store(m, (u64)(w2c_i0), w2c_j1);
+  w2c_i0 = 0u;
+  w2c_l14 = w2c_i0;
+  goto w2c_B1;
+  w2c_B7:;
+  w2c_j0 = w2c_p2;
+  w2c_i0 = (u32)(w2c_j0);
+  w2c_j1 = 0ull;
+  i64_store(m, (u64)(w2c_i0) + 16, w2c_j1);
+  w2c_j0 = w2c_p2;
+  w2c_i0 = (u32)(w2c_j0);
+  w2c_j1 = 0ull;
+  i64_store(m, (u64)(w2c_i0) + 8, w2c_j1);
+  w2c_j0 = w2c_p2;
+  w2c_i0 = (u32)(w2c_j0);
+  w2c_j1 = 0ull;
+  i64_store(m, (u64)(w2c_i0), w2c_j1);
+  w2c_i0 = 9u;
+  w2c_l14 = w2c_i0;
+  w2c_B1:;
+  w2c_j0 = w2c_l3;
+  w2c_j1 = 16ull;
+  w2c_j0 += w2c_j1;
+  m->w2c_g0 = w2c_j0;
+  w2c_i0 = w2c_l14;
+  goto w2c_Bfunc;
+  w2c_B0:;
+  UNREACHABLE;
+  w2c_Bfunc:;
+  return w2c_i0;
+}
+
+static u32 w2c_chinese_date_read(module *m, u64 w2c_p0, u64 w2c_p1, u64 w2c_p2) {
+  u32 w2c_l3 = 0;
+  u32 w2c_i0;
+  u64 w2c_j0, w2c_j1, w2c_j2;
+  w2c_i0 = w2c_f0(m);
+  w2c_i0 = !(w2c_i0);
+  if (w2c_i0) {goto w2c_B0;}
+  w2c_f2(m);
+  UNREACHABLE;
+  w2c_B0:;
+  w2c_j0 = w2c_p0;
+  w2c_j1 = w2c_p1;
+  w2c_j2 = w2c_p2;
+  w2c_i0 = w2c_f67(m, w2c_j0, w2c_j1, w2c_j2);
+  w2c_l3 = w2c_i0;
+  w2c_f1(m);
+  w2c_i0 = w2c_l3;
+  return w2c_i0;
+}
+
+static u32 w2c_f67(module *m, u64 w2c_p0, u64 w2c_p1, u64 w2c_p2) {
+  u32 w2c_l9 = 0, w2c_l10 = 0, w2c_l11 = 0, w2c_l12 = 0, w2c_l13 = 0, w2c_l14 = 0, w2c_l15 = 0, w2c_l16 = 0, w2c_l17 = 0, w2c_l18 = 0, w2c_l19 = 0, w2c_l20 = 0, w2c_l21 = 0, w2c_l22 = 0, w2c_l23 = 0;
+  u64 w2c_l3 = 0, w2c_l4 = 0, w2c_l5 = 0, w2c_l6 = 0, w2c_l7 = 0, w2c_l8 = 0;
+  u32 w2c_i0, w2c_i1, w2c_i2, w2c_i3, w2c_i4;
+  u64 w2c_j0, w2c_j1, w2c_j2, w2c_j3;
+  w2c_j0 = m->w2c_g0;
+  w2c_l3 = w2c_j0;
+  w2c_j1 = 16ull;
+  w2c_i0 = (u64)((s64)w2c_j0 < (s64)w2c_j1);
+  if (w2c_i0) {goto w2c_B1;}
+  w2c_j0 = w2c_p2;
+  w2c_i0 = (u32)(w2c_j0);
+  w2c_j1 = 0ull;
+  i64_store(m, (u64)(w2c_i0) + 24, w2c_j1);
+  w2c_j0 = w2c_p2;
+  w2c_i0 = (u32)(w2c_j0);
+  w2c_j1 = 0ull;
+  i64_store(m, (u64)(w2c_i0) + 16, w2c_j1);
+  w2c_j0 = w2c_p2;
+  w2c_i0 = (u32)(w2c_j0);
+  w2c_j1 = 0ull;
+  i64_store(m, (u64)(w2c_i0) + 8, w2c_j1);
+  w2c_j0 = w2c_p2;
+  w2c_i0 = (u32)(w2c_j0);
+  w2c_j1 = 0ull;
+  i64_store(m, (u64)(w2c_i0), w2c_j1);
+  w2c_j0 = w2c_p1;
+  w2c_l4 = w2c_j0;
+  w2c_j0 = w2c_p0;
+  w2c_j1 = 4096ull;
+  w2c_j2 = 0ull;
+  w2c_j3 = w2c_p0;
+  w2c_i3 = !(w2c_j3);
+  w2c_j1 = w2c_i3 ? w2c_j1 : w2c_j2;
+  w2c_j0 += w2c_j1;
+  w2c_l5 = w2c_j0;
+  w2c_p0 = w2c_j0;
+  w2c_j0 = w2c_p1;
+  w2c_j1 = 4ull;
+  w2c_i0 = w2c_j0 < w2c_j1;
+  if (w2c_i0) {goto w2c_B4;}
+  w2c_j0 = w2c_l5;
+  w2c_p0 = w2c_j0;
+  w2c_j0 = w2c_p1;
+  w2c_l4 = w2c_j0;
+  w2c_L5:
+    w2c_j0 = w2c_p0;
+    w2c_i0 = (u32)(w2c_j0);
+    w2c_i0 = i32_load(m, (u64)(w2c_i0));
+    w2c_i1 = 16776989u;
+    w2c_i0 += w2c_i1;
+    w2c_i1 = 12632312u;
+    w2c_i0 &= w2c_i1;
+    w2c_i1 = 8421376u;
+    w2c_i0 = w2c_i0 != w2c_i1;
+    if (w2c_i0) {goto w2c_B3;}
+    w2c_j0 = w2c_p0;
+    w2c_j1 = 3ull;
+    w2c_j0 += w2c_j1;
+    w2c_p0 = w2c_j0;
+    w2c_j0 = w2c_l4;
+    w2c_j1 = 18446744073709551613ull;
+    w2c_j0 += w2c_j1;
+    w2c_l4 = w2c_j0;
+    w2c_j1 = 3ull;
+    w2c_i0 = w2c_j0 > w2c_j1;
+    if (w2c_i0) {goto w2c_L5;}
+  w2c_B4:;
+  w2c_j0 = w2c_l4;
+  w2c_j1 = 3ull;
+  w2c_i0 = w2c_j0 > w2c_j1;
+  if (w2c_i0) {goto w2c_B3;}
+  w2c_j0 = w2c_l4;
+  w2c_i0 = (u32)(w2c_j0);
+  switch (w2c_i0) {
+    case 0: goto w2c_B2;
+    case 1: goto w2c_B3;
+    case 2: goto w2c_B3;
+    case 3: goto w2c_B6;
+    default: goto w2c_B2;
+  }
+  w2c_B6:;
+  w2c_j0 = w2c_p0;
+  w2c_i0 = (u32)(w2c_j0);
+  w2c_i0 = i32_load16_u(m, (u64)(w2c_i0));
+  w2c_j1 = w2c_p0;
+  w2c_j2 = 2ull;
+  w2c_j1 += w2c_j2;
+  w2c_i1 = (u32)(w2c_j1);
+  w2c_i1 = i32_load8_u(m, (u64)(w2c_i1));
+  w2c_i2 = 16u;
+  w2c_i1 <<= (w2c_i2 & 31);
+  w2c_i0 |= w2c_i1;
+  w2c_i1 = 16776989u;
+  w2c_i0 += w2c_i1;
+  w2c_i1 = 12632312u;
+  w2c_i0 &= w2c_i1;
+  w2c_i1 = 8421376u;
+  w2c_i0 = w2c_i0 == w2c_i1;
+  if (w2c_i0) {goto w2c_B2;}
+  w2c_B3:;
+  w2c_j0 = w2c_l5;
+  w2c_j1 = w2c_p1;
+  w2c_i0 = w2c_f12(m, w2c_j0, w2c_j1);
+  if (w2c_i0) {goto w2c_B2;}
+  w2c_j0 = w2c_l3;
+  m->w2c_g0 = w2c_j0;
+  w2c_i0 = 5u;
+  goto w2c_Bfunc;
+  w2c_B2:;
+  w2c_j0 = w2c_p1;
+  w2c_i0 = !(w2c_j0);
+  if (w2c_i0) {goto w2c_B0;}
+  w2c_i0 = 0u;
+  w2c_l9 = w2c_i0;
+  w2c_j0 = 18446744073709551613ull;
+  w2c_l4 = w2c_j0;
+  w2c_j0 = w2c_p1;
+  w2c_l6 = w2c_j0;
+  w2c_j0 = w2c_l5;
+  w2c_p0 = w2c_j0;
+  w2c_i0 = 0u;
+  w2c_l10 = w2c_i0;
+  w2c_i0 = 0u;
+  w2c_l11 = w2c_i0;
+  w2c_i0 = 0u;
+  w2c_l12 = w2c_i0;
+  w2c_i0 = 0u;
+  w2c_l13 = w2c_i0;
+  w2c_L9:
+    w2c_j0 = w2c_p0;
+    w2c_i0 = (u32)(w2c_j0);
+    w2c_i0 = i32_load8_s(m, (u64)(w2c_i0));
+    w2c_l14 = w2c_i0;
+    w2c_i1 = 255u;
+    w2c_i0 &= w2c_i1;
+    w2c_l15 = w2c_i0;
+    w2c_j0 = 1ull;
+    w2c_l7 = w2c_j0;
+    w2c_i0 = w2c_l14;
+    w2c_i1 = 4294967295u;
+    w2c_i0 = (u32)((s32)w2c_i0 > (s32)w2c_i1);
+    if (w2c_i0) {goto w2c_B10;}
+    w2c_j0 = w2c_p0;
+    w2c_i0 = (u32)(w2c_j0);
+    w2c_i0 = i32_load8_u(m, (u64)(w2c_i0) + 1u);
+    w2c_i1 = 63u;
+    w2c_i0 &= w2c_i1;
+    w2c_l16 = w2c_i0;
+    w2c_i0 = w2c_l14;
+    w2c_i1 = 4294967263u;
+    w2c_i0 = w2c_i0 > w2c_i1;
+    if (w2c_i0) {goto w2c_B11;}
+    w2c_i0 = w2c_l15;
+    w2c_i1 = 6u;
+    w2c_i0 <<= (w2c_i1 & 31);
+    w2c_i1 = 1984u;
+    w2c_i0 &= w2c_i1;
+    w2c_i1 = w2c_l16;
+    w2c_i0 |= w2c_i1;
+    w2c_l15 = w2c_i0;
+    w2c_j0 = 2ull;
+    w2c_l7 = w2c_j0;
+    goto w2c_B10;
+    w2c_B11:;
+    w2c_j0 = w2c_p0;
+    w2c_i0 = (u32)(w2c_j0);
+    w2c_i0 = i32_load8_u(m, (u64)(w2c_i0) + 2u);
+    w2c_i1 = 63u;
+    w2c_i0 &= w2c_i1;
+    w2c_l17 = w2c_i0;
+    w2c_i0 = w2c_l14;
+    w2c_i1 = 4294967279u;
+    w2c_i0 = w2c_i0 > w2c_i1;
+    if (w2c_i0) {goto w2c_B12;}
+    w2c_i0 = w2c_l16;
+    w2c_i1 = 6u;
+    w2c_i0 <<= (w2c_i1 & 31);
+    w2c_i1 = w2c_l15;
+    w2c_i2 = 12u;
+    w2c_i1 <<= (w2c_i2 & 31);
+    w2c_i2 = 61440u;
+    w2c_i1 &= w2c_i2;
+    w2c_i0 |= w2c_i1;
+    w2c_i1 = w2c_l17;
+    w2c_i0 |= w2c_i1;
+    w2c_l15 = w2c_i0;
+    w2c_j0 = 3ull;
+    w2c_l7 = w2c_j0;
+    goto w2c_B10;
+    w2c_B12:;
+    w2c_i0 = w2c_l17;
+    w2c_i1 = 6u;
+    w2c_i0 <<= (w2c_i1 & 31);
+    w2c_i1 = w2c_l16;
+    w2c_i2 = 12u;
+    w2c_i1 <<= (w2c_i2 & 31);
+    w2c_i2 = w2c_l15;
+    w2c_i3 = 18u;
+    w2c_i2 <<= (w2c_i3 & 31);
+    w2c_i3 = 1835008u;
+    w2c_i2 &= w2c_i3;
+    w2c_i1 |= w2c_i2;
+    w2c_i0 |= w2c_i1;
+    w2c_j1 = w2c_p0;
+    w2c_i1 = (u32)(w2c_j1);
+    w2c_i1 = i32_load8_u(m, (u64)(w2c_i1) + 3u);
+    w2c_i2 = 63u;
+    w2c_i1 &= w2c_i2;
+    w2c_i0 |= w2c_i1;
+    w2c_l15 = w2c_i0;
+    w2c_j0 = 4ull;
+    w2c_l7 = w2c_j0;
+    w2c_B10:;
+    w2c_i0 = 1u;
+    w2c_l16 = w2c_i0;
+    w2c_i0 = w2c_l15;
+    w2c_i1 = 26577u;
+    w2c_i0 = (u32)((s32)w2c_i0 > (s32)w2c_i1);
+    if (w2c_i0) {goto w2c_B27;}
+    w2c_i0 = w2c_l15;
+    w2c_i1 = 25341u;
+    w2c_i0 = (u32)((s32)w2c_i0 > (s32)w2c_i1);
+    if (w2c_i0) {goto w2c_B28;}
+    w2c_i0 = w2c_l15;
+    w2c_i1 = 22776u;
+    w2c_i0 = (u32)((s32)w2c_i0 > (s32)w2c_i1);
+    if (w2c_i0) {goto w2c_B29;}
+    w2c_i0 = w2c_l15;
+    w2c_i1 = 20237u;
+    w2c_i0 = w2c_i0 == w2c_i1;
+    if (w2c_i0) {goto w2c_B24;}
+    w2c_i0 = w2c_l15;
+    w2c_i1 = 21441u;
+    w2c_i0 = w2c_i0 == w2c_i1;
+    if (w2c_i0) {goto w2c_B15;}
+    goto w2c_B16;
+    w2c_B29:;
+    w2c_i0 = w2c_l15;
     w2c_i1 = 22777u;
     w2c_i0 = w2c_i0 == w2c_i1;
-    if (w2c_i0) {goto w2c_B39;}
-    w2c_i0 = w2c_l8;
+    if (w2c_i0) {goto w2c_B26;}
+    w2c_i0 = w2c_l15;
     w2c_i1 = 24180u;
     w2c_i0 = w2c_i0 != w2c_i1;
-    if (w2c_i0) {goto w2c_B29;}
+    if (w2c_i0) {goto w2c_B16;}
     w2c_i0 = 0u;
-    w2c_l10 = w2c_i0;
+    w2c_l14 = w2c_i0;
     w2c_i0 = 2u;
     w2c_l18 = w2c_i0;
     w2c_i0 = 1u;
@@ -47327,34 +46897,34 @@ static u32 w2c_f66(module *m, u64 w2c_p0, u64 w2c_p1, u64 w2c_p2) {
     w2c_l21 = w2c_i0;
     w2c_i0 = 0u;
     w2c_l22 = w2c_i0;
-    goto w2c_B30;
-    w2c_B41:;
-    w2c_i0 = w2c_l8;
+    goto w2c_B17;
+    w2c_B28:;
+    w2c_i0 = w2c_l15;
     w2c_i1 = 26084u;
     w2c_i0 = (u32)((s32)w2c_i0 > (s32)w2c_i1);
-    if (w2c_i0) {goto w2c_B43;}
-    w2c_i0 = w2c_l8;
+    if (w2c_i0) {goto w2c_B30;}
+    w2c_i0 = w2c_l15;
     w2c_i1 = 25342u;
     w2c_i0 = w2c_i0 == w2c_i1;
-    if (w2c_i0) {goto w2c_B35;}
-    w2c_i0 = w2c_l8;
+    if (w2c_i0) {goto w2c_B22;}
+    w2c_i0 = w2c_l15;
     w2c_i1 = 25420u;
     w2c_i0 = w2c_i0 != w2c_i1;
-    if (w2c_i0) {goto w2c_B29;}
+    if (w2c_i0) {goto w2c_B16;}
     w2c_i0 = 8u;
     w2c_l23 = w2c_i0;
-    goto w2c_B27;
-    w2c_B43:;
-    w2c_i0 = w2c_l8;
+    goto w2c_B14;
+    w2c_B30:;
+    w2c_i0 = w2c_l15;
     w2c_i1 = 26085u;
     w2c_i0 = w2c_i0 == w2c_i1;
-    if (w2c_i0) {goto w2c_B34;}
-    w2c_i0 = w2c_l8;
+    if (w2c_i0) {goto w2c_B21;}
+    w2c_i0 = w2c_l15;
     w2c_i1 = 26376u;
     w2c_i0 = w2c_i0 != w2c_i1;
-    if (w2c_i0) {goto w2c_B29;}
+    if (w2c_i0) {goto w2c_B16;}
     w2c_i0 = 0u;
-    w2c_l10 = w2c_i0;
+    w2c_l14 = w2c_i0;
     w2c_i0 = 3u;
     w2c_l18 = w2c_i0;
     w2c_i0 = 1u;
@@ -47367,72 +46937,72 @@ static u32 w2c_f66(module *m, u64 w2c_p0, u64 w2c_p1, u64 w2c_p2) {
     w2c_l22 = w2c_i0;
     w2c_i0 = 1u;
     w2c_l16 = w2c_i0;
-    goto w2c_B30;
-    w2c_B40:;
-    w2c_i0 = w2c_l8;
+    goto w2c_B17;
+    w2c_B27:;
+    w2c_i0 = w2c_l15;
     w2c_i1 = 36143u;
     w2c_i0 = (u32)((s32)w2c_i0 > (s32)w2c_i1);
-    if (w2c_i0) {goto w2c_B44;}
-    w2c_i0 = w2c_l8;
+    if (w2c_i0) {goto w2c_B31;}
+    w2c_i0 = w2c_l15;
     w2c_i1 = 32901u;
     w2c_i0 = (u32)((s32)w2c_i0 > (s32)w2c_i1);
-    if (w2c_i0) {goto w2c_B45;}
-    w2c_i0 = w2c_l8;
+    if (w2c_i0) {goto w2c_B32;}
+    w2c_i0 = w2c_l15;
     w2c_i1 = 26578u;
     w2c_i0 = w2c_i0 == w2c_i1;
-    if (w2c_i0) {goto w2c_B36;}
-    w2c_i0 = w2c_l8;
+    if (w2c_i0) {goto w2c_B23;}
+    w2c_i0 = w2c_l15;
     w2c_i1 = 29590u;
     w2c_i0 = w2c_i0 != w2c_i1;
-    if (w2c_i0) {goto w2c_B29;}
+    if (w2c_i0) {goto w2c_B16;}
     w2c_i0 = 9u;
     w2c_l23 = w2c_i0;
-    goto w2c_B27;
-    w2c_B45:;
-    w2c_i0 = w2c_l8;
+    goto w2c_B14;
+    w2c_B32:;
+    w2c_i0 = w2c_l15;
     w2c_i1 = 32902u;
     w2c_i0 = w2c_i0 == w2c_i1;
-    if (w2c_i0) {goto w2c_B38;}
-    w2c_i0 = w2c_l8;
+    if (w2c_i0) {goto w2c_B25;}
+    w2c_i0 = w2c_l15;
     w2c_i1 = 36019u;
     w2c_i0 = w2c_i0 != w2c_i1;
-    if (w2c_i0) {goto w2c_B29;}
-    goto w2c_B32;
-    w2c_B44:;
-    w2c_i0 = w2c_l8;
+    if (w2c_i0) {goto w2c_B16;}
+    goto w2c_B19;
+    w2c_B31:;
+    w2c_i0 = w2c_l15;
     w2c_i1 = 38519u;
     w2c_i0 = (u32)((s32)w2c_i0 > (s32)w2c_i1);
-    if (w2c_i0) {goto w2c_B46;}
-    w2c_i0 = w2c_l8;
+    if (w2c_i0) {goto w2c_B33;}
+    w2c_i0 = w2c_l15;
     w2c_i1 = 36144u;
     w2c_i0 = w2c_i0 == w2c_i1;
-    if (w2c_i0) {goto w2c_B32;}
-    w2c_i0 = w2c_l8;
+    if (w2c_i0) {goto w2c_B19;}
+    w2c_i0 = w2c_l15;
     w2c_i1 = 38470u;
     w2c_i0 = w2c_i0 != w2c_i1;
-    if (w2c_i0) {goto w2c_B29;}
-    goto w2c_B33;
-    w2c_B46:;
-    w2c_i0 = w2c_l8;
+    if (w2c_i0) {goto w2c_B16;}
+    goto w2c_B20;
+    w2c_B33:;
+    w2c_i0 = w2c_l15;
     w2c_i1 = 38520u;
     w2c_i0 = w2c_i0 == w2c_i1;
-    if (w2c_i0) {goto w2c_B33;}
+    if (w2c_i0) {goto w2c_B20;}
     w2c_i0 = 0u;
     w2c_l23 = w2c_i0;
-    w2c_i0 = w2c_l8;
+    w2c_i0 = w2c_l15;
     w2c_i1 = 38646u;
     w2c_i0 = w2c_i0 != w2c_i1;
-    if (w2c_i0) {goto w2c_B29;}
+    if (w2c_i0) {goto w2c_B16;}
     w2c_i0 = 0u;
-    w2c_l10 = w2c_i0;
+    w2c_l14 = w2c_i0;
     w2c_i0 = 1u;
     w2c_l19 = w2c_i0;
-    goto w2c_B31;
-    w2c_B39:;
+    goto w2c_B18;
+    w2c_B26:;
     w2c_i0 = 1u;
     w2c_l21 = w2c_i0;
     w2c_i0 = 0u;
-    w2c_l10 = w2c_i0;
+    w2c_l14 = w2c_i0;
     w2c_i0 = 0u;
     w2c_l19 = w2c_i0;
     w2c_i0 = 0u;
@@ -47445,22 +47015,22 @@ static u32 w2c_f66(module *m, u64 w2c_p0, u64 w2c_p1, u64 w2c_p2) {
     w2c_l16 = w2c_i0;
     w2c_i0 = 1u;
     w2c_l23 = w2c_i0;
-    goto w2c_B26;
-    w2c_B38:;
+    goto w2c_B13;
+    w2c_B25:;
     w2c_i0 = 4u;
     w2c_l23 = w2c_i0;
-    goto w2c_B27;
-    w2c_B37:;
+    goto w2c_B14;
+    w2c_B24:;
     w2c_i0 = 5u;
     w2c_l23 = w2c_i0;
-    goto w2c_B27;
-    w2c_B36:;
+    goto w2c_B14;
+    w2c_B23:;
     w2c_i0 = 7u;
     w2c_l23 = w2c_i0;
-    goto w2c_B27;
-    w2c_B35:;
+    goto w2c_B14;
+    w2c_B22:;
     w2c_i0 = 0u;
-    w2c_l10 = w2c_i0;
+    w2c_l14 = w2c_i0;
     w2c_i0 = 1u;
     w2c_l19 = w2c_i0;
     w2c_i0 = 1u;
@@ -47473,14 +47043,14 @@ static u32 w2c_f66(module *m, u64 w2c_p0, u64 w2c_p1, u64 w2c_p2) {
     w2c_l18 = w2c_i0;
     w2c_i0 = 1u;
     w2c_l16 = w2c_i0;
-    goto w2c_B30;
-    w2c_B34:;
+    goto w2c_B17;
+    w2c_B21:;
     w2c_i0 = 0u;
     w2c_l20 = w2c_i0;
     w2c_i0 = 4u;
     w2c_l18 = w2c_i0;
     w2c_i0 = 1u;
-    w2c_l10 = w2c_i0;
+    w2c_l14 = w2c_i0;
     w2c_i0 = 1u;
     w2c_l19 = w2c_i0;
     w2c_i0 = 0u;
@@ -47489,19 +47059,19 @@ static u32 w2c_f66(module *m, u64 w2c_p0, u64 w2c_p1, u64 w2c_p2) {
     w2c_l22 = w2c_i0;
     w2c_i0 = 1u;
     w2c_l16 = w2c_i0;
-    goto w2c_B30;
-    w2c_B33:;
+    goto w2c_B17;
+    w2c_B20:;
     w2c_i0 = 6u;
     w2c_l23 = w2c_i0;
-    goto w2c_B27;
-    w2c_B32:;
+    goto w2c_B14;
+    w2c_B19:;
     w2c_i0 = 2u;
     w2c_l23 = w2c_i0;
     w2c_i0 = 0u;
-    w2c_l10 = w2c_i0;
+    w2c_l14 = w2c_i0;
     w2c_i0 = 0u;
     w2c_l19 = w2c_i0;
-    w2c_B31:;
+    w2c_B18:;
     w2c_i0 = 0u;
     w2c_l20 = w2c_i0;
     w2c_i0 = 1u;
@@ -47510,24 +47080,24 @@ static u32 w2c_f66(module *m, u64 w2c_p0, u64 w2c_p1, u64 w2c_p2) {
     w2c_l22 = w2c_i0;
     w2c_i0 = 0u;
     w2c_l18 = w2c_i0;
-    goto w2c_B26;
-    w2c_B30:;
+    goto w2c_B13;
+    w2c_B17:;
     w2c_i0 = 0u;
     w2c_l23 = w2c_i0;
-    goto w2c_B26;
-    w2c_B29:;
-    w2c_i0 = w2c_l8;
+    goto w2c_B13;
+    w2c_B16:;
+    w2c_i0 = w2c_l15;
     w2c_i1 = 4294945853u;
     w2c_i0 += w2c_i1;
     w2c_i1 = 1u;
     w2c_i0 = w2c_i0 > w2c_i1;
-    if (w2c_i0) {goto w2c_B21;}
-    w2c_B28:;
+    if (w2c_i0) {goto w2c_B8;}
+    w2c_B15:;
     w2c_i0 = 3u;
     w2c_l23 = w2c_i0;
-    w2c_B27:;
+    w2c_B14:;
     w2c_i0 = 0u;
-    w2c_l10 = w2c_i0;
+    w2c_l14 = w2c_i0;
     w2c_i0 = 0u;
     w2c_l19 = w2c_i0;
     w2c_i0 = 0u;
@@ -47540,430 +47110,430 @@ static u32 w2c_f66(module *m, u64 w2c_p0, u64 w2c_p1, u64 w2c_p2) {
     w2c_l18 = w2c_i0;
     w2c_i0 = 0u;
     w2c_l16 = w2c_i0;
-    w2c_B26:;
-    w2c_i0 = w2c_l9;
+    w2c_B13:;
+    w2c_i0 = w2c_l12;
     w2c_i1 = 24u;
     w2c_i0 >>= (w2c_i1 & 31);
-    w2c_l8 = w2c_i0;
-    w2c_i0 = w2c_l9;
+    w2c_l15 = w2c_i0;
+    w2c_i0 = w2c_l12;
     w2c_i1 = 16u;
     w2c_i0 >>= (w2c_i1 & 31);
     w2c_l17 = w2c_i0;
-    w2c_i0 = w2c_l11;
+    w2c_i0 = w2c_l13;
     w2c_j0 = (u64)(w2c_i0);
     w2c_j1 = 255ull;
     w2c_j0 &= w2c_j1;
     w2c_i0 = (u32)(w2c_j0);
     switch (w2c_i0) {
-      case 0: goto w2c_B53;
-      case 1: goto w2c_B52;
-      case 2: goto w2c_B51;
-      case 3: goto w2c_B21;
-      default: goto w2c_B53;
+      case 0: goto w2c_B40;
+      case 1: goto w2c_B39;
+      case 2: goto w2c_B38;
+      case 3: goto w2c_B8;
+      default: goto w2c_B40;
     }
-    w2c_B53:;
+    w2c_B40:;
     w2c_i0 = w2c_l18;
     switch (w2c_i0) {
-      case 0: goto w2c_B55;
-      case 1: goto w2c_B21;
-      case 2: goto w2c_B54;
-      case 3: goto w2c_B21;
-      case 4: goto w2c_B21;
-      default: goto w2c_B55;
+      case 0: goto w2c_B42;
+      case 1: goto w2c_B8;
+      case 2: goto w2c_B41;
+      case 3: goto w2c_B8;
+      case 4: goto w2c_B8;
+      default: goto w2c_B42;
     }
-    w2c_B55:;
-    w2c_i0 = w2c_l9;
+    w2c_B42:;
+    w2c_i0 = w2c_l12;
     w2c_i1 = 65535u;
     w2c_i0 &= w2c_i1;
     w2c_i1 = 999u;
     w2c_i0 = w2c_i0 > w2c_i1;
-    if (w2c_i0) {goto w2c_B21;}
+    if (w2c_i0) {goto w2c_B8;}
     w2c_i0 = 0u;
-    w2c_l13 = w2c_i0;
+    w2c_l9 = w2c_i0;
     w2c_i0 = 0u;
-    w2c_l14 = w2c_i0;
+    w2c_l10 = w2c_i0;
+    w2c_i0 = 0u;
+    w2c_l11 = w2c_i0;
     w2c_i0 = 0u;
     w2c_l15 = w2c_i0;
     w2c_i0 = 0u;
-    w2c_l8 = w2c_i0;
-    w2c_i0 = 0u;
-    w2c_l11 = w2c_i0;
-    w2c_i0 = w2c_l9;
+    w2c_l13 = w2c_i0;
+    w2c_i0 = w2c_l12;
     w2c_i1 = 10u;
     w2c_i0 *= w2c_i1;
     w2c_i1 = w2c_l23;
     w2c_i0 += w2c_i1;
-    w2c_l10 = w2c_i0;
+    w2c_l14 = w2c_i0;
     w2c_i1 = 65535u;
     w2c_i0 &= w2c_i1;
-    if (w2c_i0) {goto w2c_B47;}
-    goto w2c_B21;
-    w2c_B54:;
-    w2c_i0 = w2c_l9;
+    if (w2c_i0) {goto w2c_B34;}
+    goto w2c_B8;
+    w2c_B41:;
+    w2c_i0 = w2c_l12;
     w2c_i1 = 65535u;
     w2c_i0 &= w2c_i1;
     w2c_i0 = !(w2c_i0);
-    if (w2c_i0) {goto w2c_B21;}
+    if (w2c_i0) {goto w2c_B8;}
     w2c_i0 = 1u;
-    w2c_l11 = w2c_i0;
-    w2c_i0 = 0u;
     w2c_l13 = w2c_i0;
     w2c_i0 = 0u;
-    w2c_l14 = w2c_i0;
+    w2c_l9 = w2c_i0;
+    w2c_i0 = 0u;
+    w2c_l10 = w2c_i0;
+    w2c_i0 = 0u;
+    w2c_l11 = w2c_i0;
     w2c_i0 = 0u;
     w2c_l15 = w2c_i0;
-    w2c_i0 = 0u;
-    w2c_l8 = w2c_i0;
-    w2c_i0 = w2c_l9;
-    w2c_l10 = w2c_i0;
-    goto w2c_B47;
-    w2c_B52:;
+    w2c_i0 = w2c_l12;
+    w2c_l14 = w2c_i0;
+    goto w2c_B34;
+    w2c_B39:;
     w2c_i0 = w2c_l22;
     w2c_i0 = !(w2c_i0);
-    if (w2c_i0) {goto w2c_B56;}
+    if (w2c_i0) {goto w2c_B43;}
     w2c_i0 = w2c_l17;
     w2c_j0 = (u64)(w2c_i0);
     w2c_j1 = 255ull;
     w2c_j0 &= w2c_j1;
     w2c_i0 = (u32)(w2c_j0);
     switch (w2c_i0) {
-      case 0: goto w2c_B21;
-      case 1: goto w2c_B21;
-      case 2: goto w2c_B57;
-      case 3: goto w2c_B60;
-      case 4: goto w2c_B58;
-      case 5: goto w2c_B21;
-      case 6: goto w2c_B59;
-      default: goto w2c_B21;
+      case 0: goto w2c_B8;
+      case 1: goto w2c_B8;
+      case 2: goto w2c_B44;
+      case 3: goto w2c_B47;
+      case 4: goto w2c_B45;
+      case 5: goto w2c_B8;
+      case 6: goto w2c_B46;
+      default: goto w2c_B8;
     }
-    w2c_B60:;
-    w2c_i0 = w2c_l8;
+    w2c_B47:;
+    w2c_i0 = w2c_l15;
     w2c_i1 = 10u;
     w2c_i0 *= w2c_i1;
-    w2c_l8 = w2c_i0;
-    goto w2c_B57;
-    w2c_B59:;
-    w2c_i0 = w2c_l8;
+    w2c_l15 = w2c_i0;
+    goto w2c_B44;
+    w2c_B46:;
+    w2c_i0 = w2c_l15;
     w2c_i1 = 10u;
     w2c_i0 *= w2c_i1;
-    w2c_i1 = w2c_l15;
+    w2c_i1 = w2c_l11;
     w2c_i0 += w2c_i1;
-    w2c_l8 = w2c_i0;
-    goto w2c_B57;
-    w2c_B58:;
-    w2c_i0 = w2c_l8;
+    w2c_l15 = w2c_i0;
+    goto w2c_B44;
+    w2c_B45:;
+    w2c_i0 = w2c_l15;
     w2c_i1 = 1u;
     w2c_i0 = w2c_i0 == w2c_i1;
-    if (w2c_i0) {goto w2c_B21;}
-    w2c_B57:;
+    if (w2c_i0) {goto w2c_B8;}
+    w2c_B44:;
     w2c_i0 = 2u;
-    w2c_l11 = w2c_i0;
-    w2c_i0 = w2c_l8;
+    w2c_l13 = w2c_i0;
+    w2c_i0 = w2c_l15;
     w2c_i1 = 255u;
     w2c_i0 &= w2c_i1;
     w2c_i1 = 2u;
     w2c_i0 = w2c_i0 != w2c_i1;
-    if (w2c_i0) {goto w2c_B61;}
+    if (w2c_i0) {goto w2c_B48;}
     w2c_i0 = 1u;
     w2c_l18 = w2c_i0;
     w2c_i0 = 0u;
-    w2c_l15 = w2c_i0;
+    w2c_l11 = w2c_i0;
     w2c_i0 = 2u;
-    w2c_l8 = w2c_i0;
-    w2c_i0 = w2c_l9;
+    w2c_l15 = w2c_i0;
+    w2c_i0 = w2c_l12;
     w2c_i1 = 3u;
     w2c_i0 &= w2c_i1;
     w2c_i0 = !(w2c_i0);
-    if (w2c_i0) {goto w2c_B62;}
+    if (w2c_i0) {goto w2c_B49;}
     w2c_i0 = 28u;
-    w2c_l14 = w2c_i0;
-    goto w2c_B50;
-    w2c_B62:;
+    w2c_l10 = w2c_i0;
+    goto w2c_B37;
+    w2c_B49:;
     w2c_i0 = 29u;
     w2c_i1 = 28u;
     w2c_i2 = 29u;
-    w2c_i3 = w2c_l9;
+    w2c_i3 = w2c_l12;
     w2c_i4 = 65535u;
     w2c_i3 &= w2c_i4;
-    w2c_l10 = w2c_i3;
+    w2c_l14 = w2c_i3;
     w2c_i4 = 400u;
     w2c_i3 = REM_U(w2c_i3, w2c_i4);
     w2c_i1 = w2c_i3 ? w2c_i1 : w2c_i2;
-    w2c_i2 = w2c_l10;
+    w2c_i2 = w2c_l14;
     w2c_i3 = 100u;
     w2c_i2 = REM_U(w2c_i2, w2c_i3);
     w2c_i0 = w2c_i2 ? w2c_i0 : w2c_i1;
-    w2c_l14 = w2c_i0;
-    goto w2c_B50;
-    w2c_B61:;
+    w2c_l10 = w2c_i0;
+    goto w2c_B37;
+    w2c_B48:;
     w2c_i0 = 30u;
     w2c_i1 = 30u;
     w2c_i2 = 31u;
-    w2c_i3 = w2c_l8;
+    w2c_i3 = w2c_l15;
     w2c_i4 = 253u;
     w2c_i3 &= w2c_i4;
-    w2c_l10 = w2c_i3;
+    w2c_l14 = w2c_i3;
     w2c_i4 = 9u;
     w2c_i3 = w2c_i3 == w2c_i4;
     w2c_i1 = w2c_i3 ? w2c_i1 : w2c_i2;
-    w2c_i2 = w2c_l10;
+    w2c_i2 = w2c_l14;
     w2c_i3 = 4u;
     w2c_i2 = w2c_i2 == w2c_i3;
     w2c_i0 = w2c_i2 ? w2c_i0 : w2c_i1;
-    w2c_l14 = w2c_i0;
+    w2c_l10 = w2c_i0;
     w2c_i0 = 1u;
     w2c_l18 = w2c_i0;
     w2c_i0 = 0u;
-    w2c_l15 = w2c_i0;
-    w2c_i0 = w2c_l9;
-    w2c_l10 = w2c_i0;
-    goto w2c_B49;
-    w2c_B56:;
+    w2c_l11 = w2c_i0;
+    w2c_i0 = w2c_l12;
+    w2c_l14 = w2c_i0;
+    goto w2c_B36;
+    w2c_B43:;
     w2c_i0 = w2c_l17;
     w2c_j0 = (u64)(w2c_i0);
     w2c_j1 = 255ull;
     w2c_j0 &= w2c_j1;
     w2c_i0 = (u32)(w2c_j0);
     switch (w2c_i0) {
-      case 0: goto w2c_B71;
-      case 1: goto w2c_B70;
-      case 2: goto w2c_B69;
-      case 3: goto w2c_B21;
-      case 4: goto w2c_B68;
-      case 5: goto w2c_B66;
-      case 6: goto w2c_B21;
-      default: goto w2c_B71;
+      case 0: goto w2c_B58;
+      case 1: goto w2c_B57;
+      case 2: goto w2c_B56;
+      case 3: goto w2c_B8;
+      case 4: goto w2c_B55;
+      case 5: goto w2c_B53;
+      case 6: goto w2c_B8;
+      default: goto w2c_B58;
     }
-    w2c_B71:;
+    w2c_B58:;
     w2c_i0 = w2c_l21;
     w2c_i0 = !(w2c_i0);
-    if (w2c_i0) {goto w2c_B21;}
+    if (w2c_i0) {goto w2c_B8;}
     w2c_i0 = 0u;
-    w2c_l8 = w2c_i0;
+    w2c_l15 = w2c_i0;
     w2c_i0 = 1u;
     w2c_l16 = w2c_i0;
     w2c_i0 = w2c_l23;
     w2c_l17 = w2c_i0;
-    w2c_i0 = 0u;
-    w2c_l14 = w2c_i0;
-    w2c_i0 = 0u;
-    w2c_l15 = w2c_i0;
     w2c_i0 = 0u;
     w2c_l10 = w2c_i0;
     w2c_i0 = 0u;
     w2c_l11 = w2c_i0;
     w2c_i0 = 0u;
+    w2c_l14 = w2c_i0;
+    w2c_i0 = 0u;
+    w2c_l13 = w2c_i0;
+    w2c_i0 = 0u;
     w2c_l18 = w2c_i0;
     w2c_i0 = w2c_l23;
     switch (w2c_i0) {
-      case 0: goto w2c_B63;
-      case 1: goto w2c_B65;
-      case 2: goto w2c_B49;
-      default: goto w2c_B65;
+      case 0: goto w2c_B50;
+      case 1: goto w2c_B52;
+      case 2: goto w2c_B36;
+      default: goto w2c_B52;
     }
-    w2c_B70:;
+    w2c_B57:;
     w2c_i0 = w2c_l19;
-    if (w2c_i0) {goto w2c_B21;}
+    if (w2c_i0) {goto w2c_B8;}
     w2c_i0 = 2u;
     w2c_l16 = w2c_i0;
-    goto w2c_B64;
-    w2c_B69:;
+    goto w2c_B51;
+    w2c_B56:;
     w2c_i0 = w2c_l20;
     w2c_i0 = !(w2c_i0);
-    if (w2c_i0) {goto w2c_B21;}
+    if (w2c_i0) {goto w2c_B8;}
     w2c_i0 = 3u;
     w2c_l16 = w2c_i0;
-    goto w2c_B67;
-    w2c_B68:;
+    goto w2c_B54;
+    w2c_B55:;
     w2c_i0 = w2c_l20;
     w2c_i0 = !(w2c_i0);
-    if (w2c_i0) {goto w2c_B21;}
+    if (w2c_i0) {goto w2c_B8;}
     w2c_i0 = 5u;
     w2c_l16 = w2c_i0;
-    w2c_B67:;
+    w2c_B54:;
     w2c_i0 = 1u;
     w2c_l17 = w2c_i0;
-    w2c_i0 = w2c_l8;
+    w2c_i0 = w2c_l15;
     w2c_i1 = 1u;
     w2c_i0 = w2c_i0 == w2c_i1;
     w2c_l22 = w2c_i0;
     w2c_i0 = 0u;
     w2c_l23 = w2c_i0;
     w2c_i0 = 0u;
-    w2c_l8 = w2c_i0;
-    w2c_i0 = 0u;
-    w2c_l14 = w2c_i0;
-    w2c_i0 = 0u;
     w2c_l15 = w2c_i0;
     w2c_i0 = 0u;
     w2c_l10 = w2c_i0;
     w2c_i0 = 0u;
     w2c_l11 = w2c_i0;
     w2c_i0 = 0u;
+    w2c_l14 = w2c_i0;
+    w2c_i0 = 0u;
+    w2c_l13 = w2c_i0;
+    w2c_i0 = 0u;
     w2c_l18 = w2c_i0;
     w2c_i0 = w2c_l22;
-    if (w2c_i0) {goto w2c_B63;}
-    goto w2c_B49;
-    w2c_B66:;
+    if (w2c_i0) {goto w2c_B50;}
+    goto w2c_B36;
+    w2c_B53:;
     w2c_i0 = w2c_l19;
-    if (w2c_i0) {goto w2c_B21;}
+    if (w2c_i0) {goto w2c_B8;}
     w2c_i0 = 1u;
     w2c_l17 = w2c_i0;
-    w2c_i0 = w2c_l8;
+    w2c_i0 = w2c_l15;
     w2c_i1 = 1u;
     w2c_i0 = w2c_i0 == w2c_i1;
     w2c_l22 = w2c_i0;
     w2c_i0 = 0u;
-    w2c_l8 = w2c_i0;
-    w2c_i0 = 0u;
-    w2c_l14 = w2c_i0;
-    w2c_i0 = 0u;
     w2c_l15 = w2c_i0;
     w2c_i0 = 0u;
     w2c_l10 = w2c_i0;
     w2c_i0 = 0u;
     w2c_l11 = w2c_i0;
+    w2c_i0 = 0u;
+    w2c_l14 = w2c_i0;
+    w2c_i0 = 0u;
+    w2c_l13 = w2c_i0;
     w2c_i0 = 0u;
     w2c_l18 = w2c_i0;
     w2c_i0 = w2c_l22;
     w2c_i1 = w2c_l16;
     w2c_i0 &= w2c_i1;
     w2c_i0 = !(w2c_i0);
-    if (w2c_i0) {goto w2c_B49;}
+    if (w2c_i0) {goto w2c_B36;}
     w2c_i0 = 6u;
     w2c_l16 = w2c_i0;
-    goto w2c_B63;
-    w2c_B65:;
+    goto w2c_B50;
+    w2c_B52:;
     w2c_i0 = 4u;
     w2c_l16 = w2c_i0;
-    w2c_B64:;
+    w2c_B51:;
     w2c_i0 = w2c_l23;
     w2c_l17 = w2c_i0;
     w2c_i0 = 0u;
     w2c_l23 = w2c_i0;
-    w2c_B63:;
+    w2c_B50:;
     w2c_i0 = 1u;
-    w2c_l11 = w2c_i0;
+    w2c_l13 = w2c_i0;
     w2c_i0 = w2c_l16;
-    w2c_l8 = w2c_i0;
-    w2c_i0 = w2c_l17;
-    w2c_l14 = w2c_i0;
-    w2c_i0 = w2c_l23;
     w2c_l15 = w2c_i0;
-    w2c_i0 = w2c_l9;
+    w2c_i0 = w2c_l17;
     w2c_l10 = w2c_i0;
+    w2c_i0 = w2c_l23;
+    w2c_l11 = w2c_i0;
+    w2c_i0 = w2c_l12;
+    w2c_l14 = w2c_i0;
     w2c_i0 = 1u;
     w2c_l18 = w2c_i0;
-    goto w2c_B49;
-    w2c_B51:;
-    w2c_i0 = w2c_l10;
+    goto w2c_B36;
+    w2c_B38:;
+    w2c_i0 = w2c_l14;
     w2c_i0 = !(w2c_i0);
-    if (w2c_i0) {goto w2c_B74;}
-    w2c_i0 = w2c_l15;
+    if (w2c_i0) {goto w2c_B61;}
+    w2c_i0 = w2c_l11;
     w2c_j0 = (u64)(w2c_i0);
-    w2c_l7 = w2c_j0;
+    w2c_l8 = w2c_j0;
     w2c_i0 = 1u;
     w2c_l18 = w2c_i0;
     w2c_i0 = 3u;
-    w2c_l11 = w2c_i0;
+    w2c_l13 = w2c_i0;
     w2c_i0 = 0u;
-    w2c_l15 = w2c_i0;
-    w2c_i0 = w2c_l9;
-    w2c_l10 = w2c_i0;
+    w2c_l11 = w2c_i0;
+    w2c_i0 = w2c_l12;
+    w2c_l14 = w2c_i0;
     w2c_i0 = w2c_l17;
     w2c_l23 = w2c_i0;
     w2c_i0 = 0u;
     w2c_l16 = w2c_i0;
     w2c_i0 = 0u;
     w2c_l22 = w2c_i0;
-    w2c_j0 = w2c_l7;
+    w2c_j0 = w2c_l8;
     w2c_j1 = 255ull;
     w2c_j0 &= w2c_j1;
     w2c_i0 = (u32)(w2c_j0);
     switch (w2c_i0) {
-      case 0: goto w2c_B21;
-      case 1: goto w2c_B21;
-      case 2: goto w2c_B72;
-      case 3: goto w2c_B76;
-      case 4: goto w2c_B21;
-      case 5: goto w2c_B21;
-      case 6: goto w2c_B75;
-      default: goto w2c_B21;
+      case 0: goto w2c_B8;
+      case 1: goto w2c_B8;
+      case 2: goto w2c_B59;
+      case 3: goto w2c_B63;
+      case 4: goto w2c_B8;
+      case 5: goto w2c_B8;
+      case 6: goto w2c_B62;
+      default: goto w2c_B8;
     }
-    w2c_B76:;
-    w2c_i0 = w2c_l14;
+    w2c_B63:;
+    w2c_i0 = w2c_l10;
     w2c_i1 = 10u;
     w2c_i0 *= w2c_i1;
-    w2c_l14 = w2c_i0;
-    goto w2c_B73;
-    w2c_B75:;
-    w2c_i0 = w2c_l14;
+    w2c_l10 = w2c_i0;
+    goto w2c_B60;
+    w2c_B62:;
+    w2c_i0 = w2c_l10;
     w2c_i1 = 10u;
     w2c_i0 *= w2c_i1;
-    w2c_i1 = w2c_l13;
+    w2c_i1 = w2c_l9;
     w2c_i0 += w2c_i1;
-    w2c_l14 = w2c_i0;
-    goto w2c_B73;
-    w2c_B74:;
-    w2c_i0 = w2c_l15;
+    w2c_l10 = w2c_i0;
+    goto w2c_B60;
+    w2c_B61:;
+    w2c_i0 = w2c_l11;
     w2c_j0 = (u64)(w2c_i0);
     w2c_j1 = 255ull;
     w2c_j0 &= w2c_j1;
     w2c_i0 = (u32)(w2c_j0);
     switch (w2c_i0) {
-      case 0: goto w2c_B85;
-      case 1: goto w2c_B84;
-      case 2: goto w2c_B79;
-      case 3: goto w2c_B21;
-      case 4: goto w2c_B83;
-      case 5: goto w2c_B81;
-      case 6: goto w2c_B21;
-      default: goto w2c_B85;
+      case 0: goto w2c_B72;
+      case 1: goto w2c_B71;
+      case 2: goto w2c_B66;
+      case 3: goto w2c_B8;
+      case 4: goto w2c_B70;
+      case 5: goto w2c_B68;
+      case 6: goto w2c_B8;
+      default: goto w2c_B72;
     }
-    w2c_B85:;
+    w2c_B72:;
     w2c_i0 = w2c_l21;
     w2c_i0 = !(w2c_i0);
-    if (w2c_i0) {goto w2c_B21;}
+    if (w2c_i0) {goto w2c_B8;}
     w2c_i0 = w2c_l19;
-    if (w2c_i0) {goto w2c_B80;}
+    if (w2c_i0) {goto w2c_B67;}
     w2c_i0 = 4u;
     w2c_l20 = w2c_i0;
     w2c_i0 = w2c_l23;
     w2c_l19 = w2c_i0;
-    goto w2c_B82;
-    w2c_B84:;
+    goto w2c_B69;
+    w2c_B71:;
     w2c_i0 = w2c_l19;
-    if (w2c_i0) {goto w2c_B21;}
+    if (w2c_i0) {goto w2c_B8;}
     w2c_i0 = 0u;
     w2c_l22 = w2c_i0;
     w2c_i0 = 2u;
     w2c_l20 = w2c_i0;
     w2c_i0 = w2c_l23;
     w2c_l19 = w2c_i0;
-    goto w2c_B77;
-    w2c_B83:;
+    goto w2c_B64;
+    w2c_B70:;
     w2c_i0 = w2c_l20;
     w2c_i0 = !(w2c_i0);
-    if (w2c_i0) {goto w2c_B21;}
+    if (w2c_i0) {goto w2c_B8;}
     w2c_i0 = 5u;
     w2c_l20 = w2c_i0;
-    w2c_i0 = w2c_l14;
+    w2c_i0 = w2c_l10;
     w2c_l19 = w2c_i0;
-    w2c_B82:;
+    w2c_B69:;
     w2c_i0 = 0u;
     w2c_l22 = w2c_i0;
     w2c_i0 = 0u;
-    w2c_l10 = w2c_i0;
+    w2c_l14 = w2c_i0;
     w2c_i0 = 0u;
     w2c_l23 = w2c_i0;
     w2c_i0 = 0u;
-    w2c_l14 = w2c_i0;
+    w2c_l10 = w2c_i0;
     w2c_i0 = 0u;
-    w2c_l15 = w2c_i0;
+    w2c_l11 = w2c_i0;
     w2c_i0 = 0u;
     w2c_l16 = w2c_i0;
     w2c_i0 = 0u;
-    w2c_l11 = w2c_i0;
+    w2c_l13 = w2c_i0;
     w2c_i0 = 0u;
     w2c_l18 = w2c_i0;
     w2c_i0 = w2c_l19;
@@ -47971,115 +47541,115 @@ static u32 w2c_f66(module *m, u64 w2c_p0, u64 w2c_p1, u64 w2c_p2) {
     w2c_i0 *= w2c_i1;
     w2c_i1 = 254u;
     w2c_i0 &= w2c_i1;
-    w2c_i1 = w2c_l8;
+    w2c_i1 = w2c_l15;
     w2c_i0 = w2c_i0 < w2c_i1;
-    if (w2c_i0) {goto w2c_B77;}
-    goto w2c_B72;
-    w2c_B81:;
+    if (w2c_i0) {goto w2c_B64;}
+    goto w2c_B59;
+    w2c_B68:;
     w2c_i0 = w2c_l19;
-    if (w2c_i0) {goto w2c_B21;}
+    if (w2c_i0) {goto w2c_B8;}
     w2c_i0 = w2c_l23;
-    w2c_i1 = w2c_l14;
+    w2c_i1 = w2c_l10;
     w2c_i2 = 10u;
     w2c_i1 *= w2c_i2;
     w2c_i0 += w2c_i1;
     w2c_i1 = 255u;
     w2c_i0 &= w2c_i1;
-    w2c_i1 = w2c_l8;
+    w2c_i1 = w2c_l15;
     w2c_i0 = w2c_i0 > w2c_i1;
-    if (w2c_i0) {goto w2c_B86;}
+    if (w2c_i0) {goto w2c_B73;}
     w2c_i0 = 6u;
     w2c_l20 = w2c_i0;
-    w2c_i0 = w2c_l14;
+    w2c_i0 = w2c_l10;
     w2c_l19 = w2c_i0;
     w2c_i0 = w2c_l23;
     w2c_l22 = w2c_i0;
-    goto w2c_B77;
-    w2c_B86:;
-    w2c_i0 = 0u;
-    w2c_l10 = w2c_i0;
-    w2c_i0 = 0u;
-    w2c_l23 = w2c_i0;
+    goto w2c_B64;
+    w2c_B73:;
     w2c_i0 = 0u;
     w2c_l14 = w2c_i0;
     w2c_i0 = 0u;
-    w2c_l15 = w2c_i0;
+    w2c_l23 = w2c_i0;
+    w2c_i0 = 0u;
+    w2c_l10 = w2c_i0;
+    w2c_i0 = 0u;
+    w2c_l11 = w2c_i0;
     w2c_i0 = 0u;
     w2c_l16 = w2c_i0;
     w2c_i0 = 0u;
     w2c_l22 = w2c_i0;
-    goto w2c_B78;
-    w2c_B80:;
+    goto w2c_B65;
+    w2c_B67:;
     w2c_i0 = 0u;
     w2c_l19 = w2c_i0;
     w2c_i0 = 1u;
     w2c_l20 = w2c_i0;
     w2c_i0 = 0u;
     w2c_l22 = w2c_i0;
-    goto w2c_B77;
-    w2c_B79:;
+    goto w2c_B64;
+    w2c_B66:;
     w2c_i0 = w2c_l20;
     w2c_i0 = !(w2c_i0);
-    if (w2c_i0) {goto w2c_B21;}
+    if (w2c_i0) {goto w2c_B8;}
     w2c_i0 = 0u;
     w2c_l22 = w2c_i0;
-    w2c_i0 = w2c_l14;
+    w2c_i0 = w2c_l10;
     w2c_i1 = 10u;
     w2c_i0 *= w2c_i1;
     w2c_i1 = 254u;
     w2c_i0 &= w2c_i1;
-    w2c_i1 = w2c_l8;
+    w2c_i1 = w2c_l15;
     w2c_i0 = w2c_i0 > w2c_i1;
-    if (w2c_i0) {goto w2c_B87;}
+    if (w2c_i0) {goto w2c_B74;}
     w2c_i0 = 3u;
     w2c_l20 = w2c_i0;
-    w2c_i0 = w2c_l14;
+    w2c_i0 = w2c_l10;
     w2c_l19 = w2c_i0;
-    goto w2c_B77;
-    w2c_B87:;
-    w2c_i0 = 0u;
-    w2c_l10 = w2c_i0;
-    w2c_i0 = 0u;
-    w2c_l23 = w2c_i0;
+    goto w2c_B64;
+    w2c_B74:;
     w2c_i0 = 0u;
     w2c_l14 = w2c_i0;
     w2c_i0 = 0u;
-    w2c_l15 = w2c_i0;
+    w2c_l23 = w2c_i0;
     w2c_i0 = 0u;
-    w2c_l16 = w2c_i0;
-    w2c_B78:;
+    w2c_l10 = w2c_i0;
     w2c_i0 = 0u;
     w2c_l11 = w2c_i0;
     w2c_i0 = 0u;
+    w2c_l16 = w2c_i0;
+    w2c_B65:;
+    w2c_i0 = 0u;
+    w2c_l13 = w2c_i0;
+    w2c_i0 = 0u;
     w2c_l18 = w2c_i0;
-    goto w2c_B72;
-    w2c_B77:;
+    goto w2c_B59;
+    w2c_B64:;
     w2c_i0 = 1u;
     w2c_l18 = w2c_i0;
     w2c_i0 = 2u;
-    w2c_l11 = w2c_i0;
-    w2c_i0 = w2c_l9;
-    w2c_l10 = w2c_i0;
+    w2c_l13 = w2c_i0;
+    w2c_i0 = w2c_l12;
+    w2c_l14 = w2c_i0;
     w2c_i0 = w2c_l17;
     w2c_l23 = w2c_i0;
-    w2c_i0 = w2c_l8;
-    w2c_l14 = w2c_i0;
+    w2c_i0 = w2c_l15;
+    w2c_l10 = w2c_i0;
     w2c_i0 = w2c_l20;
-    w2c_l15 = w2c_i0;
+    w2c_l11 = w2c_i0;
     w2c_i0 = w2c_l19;
     w2c_l16 = w2c_i0;
-    goto w2c_B72;
-    w2c_B73:;
-    w2c_i0 = w2c_l9;
-    w2c_l10 = w2c_i0;
+    goto w2c_B59;
+    w2c_B60:;
+    w2c_i0 = w2c_l12;
+    w2c_l14 = w2c_i0;
     w2c_i0 = w2c_l17;
     w2c_l23 = w2c_i0;
     w2c_i0 = 0u;
     w2c_l16 = w2c_i0;
     w2c_i0 = 0u;
     w2c_l22 = w2c_i0;
-    w2c_B72:;
-    w2c_i0 = w2c_l14;
+    w2c_B59:;
+    w2c_i0 = w2c_l10;
     w2c_i1 = 255u;
     w2c_i0 &= w2c_i1;
     w2c_i1 = 8u;
@@ -48088,115 +47658,129 @@ static u32 w2c_f66(module *m, u64 w2c_p0, u64 w2c_p1, u64 w2c_p2) {
     w2c_i2 = 255u;
     w2c_i1 &= w2c_i2;
     w2c_i0 |= w2c_i1;
-    w2c_l8 = w2c_i0;
-    goto w2c_B48;
-    w2c_B50:;
-    w2c_i0 = w2c_l9;
-    w2c_l10 = w2c_i0;
+    w2c_l15 = w2c_i0;
+    goto w2c_B35;
+    w2c_B37:;
+    w2c_i0 = w2c_l12;
+    w2c_l14 = w2c_i0;
     w2c_i0 = 2u;
-    w2c_l11 = w2c_i0;
-    w2c_B49:;
-    w2c_i0 = w2c_l14;
+    w2c_l13 = w2c_i0;
+    w2c_B36:;
+    w2c_i0 = w2c_l10;
     w2c_i1 = 8u;
     w2c_i0 <<= (w2c_i1 & 31);
-    w2c_i1 = w2c_l8;
+    w2c_i1 = w2c_l15;
     w2c_i2 = 255u;
     w2c_i1 &= w2c_i2;
     w2c_i0 |= w2c_i1;
-    w2c_l8 = w2c_i0;
+    w2c_l15 = w2c_i0;
     w2c_i0 = 0u;
     w2c_l16 = w2c_i0;
     w2c_i0 = 0u;
     w2c_l22 = w2c_i0;
-    w2c_B48:;
+    w2c_B35:;
     w2c_i0 = w2c_l22;
-    w2c_l13 = w2c_i0;
+    w2c_l9 = w2c_i0;
     w2c_i0 = w2c_l16;
-    w2c_l14 = w2c_i0;
+    w2c_l10 = w2c_i0;
     w2c_i0 = w2c_l18;
     w2c_i0 = !(w2c_i0);
-    if (w2c_i0) {goto w2c_B21;}
-    w2c_B47:;
+    if (w2c_i0) {goto w2c_B8;}
+    w2c_B34:;
     w2c_j0 = w2c_p0;
-    w2c_j1 = w2c_l5;
+    w2c_j1 = w2c_l7;
     w2c_j0 += w2c_j1;
     w2c_p0 = w2c_j0;
-    w2c_i0 = w2c_l8;
+    w2c_i0 = w2c_l15;
     w2c_i1 = 16u;
     w2c_i0 <<= (w2c_i1 & 31);
-    w2c_i1 = w2c_l10;
+    w2c_i1 = w2c_l14;
     w2c_i2 = 65535u;
     w2c_i1 &= w2c_i2;
-    w2c_l10 = w2c_i1;
+    w2c_l14 = w2c_i1;
     w2c_i0 |= w2c_i1;
-    w2c_l9 = w2c_i0;
-    w2c_j0 = w2c_l3;
+    w2c_l12 = w2c_i0;
+    w2c_j0 = w2c_l4;
     w2c_j1 = 1ull;
     w2c_j0 += w2c_j1;
-    w2c_l3 = w2c_j0;
+    w2c_l4 = w2c_j0;
     w2c_j0 = w2c_l6;
-    w2c_j1 = w2c_l5;
+    w2c_j1 = w2c_l7;
     w2c_j0 -= w2c_j1;
     w2c_l6 = w2c_j0;
     w2c_j1 = 0ull;
     w2c_i0 = w2c_j0 != w2c_j1;
-    if (w2c_i0) {goto w2c_L22;}
-  w2c_i0 = w2c_l11;
+    if (w2c_i0) {goto w2c_L9;}
+  w2c_j0 = w2c_p2;
+  w2c_i0 = (u32)(w2c_j0);
+  w2c_j1 = 0ull;
+  i64_store(m, (u64)(w2c_i0) + 24, w2c_j1);
+  w2c_j0 = w2c_p2;
+  w2c_i0 = (u32)(w2c_j0);
+  w2c_j1 = 0ull;
+  i64_store(m, (u64)(w2c_i0) + 16, w2c_j1);
+  w2c_j0 = w2c_p2;
+  w2c_i0 = (u32)(w2c_j0);
+  w2c_j1 = 0ull;
+  i64_store(m, (u64)(w2c_i0) + 8, w2c_j1);
+  w2c_j0 = w2c_p2;
+  w2c_i0 = (u32)(w2c_j0);
+  w2c_j1 = 0ull;
+  i64_store(m, (u64)(w2c_i0), w2c_j1);
+  w2c_i0 = w2c_l13;
   w2c_i1 = 3u;
-  w2c_i0 = w2c_i0 != w2c_i1;
-  if (w2c_i0) {goto w2c_B1;}
-  w2c_j0 = w2c_p2;
-  w2c_i0 = (u32)(w2c_j0);
-  w2c_i1 = w2c_l10;
-  i32_store(m, (u64)(w2c_i0), w2c_i1);
-  w2c_j0 = w2c_p2;
-  w2c_i0 = (u32)(w2c_j0);
-  w2c_i1 = w2c_l8;
-  w2c_i2 = 8u;
-  w2c_i1 >>= (w2c_i2 & 31);
-  i32_store(m, (u64)(w2c_i0) + 8, w2c_i1);
-  w2c_j0 = w2c_p2;
-  w2c_i0 = (u32)(w2c_j0);
-  w2c_i1 = w2c_l8;
-  w2c_i2 = 255u;
-  w2c_i1 &= w2c_i2;
-  i32_store(m, (u64)(w2c_i0) + 4, w2c_i1);
-  w2c_i0 = 0u;
+  w2c_i0 = w2c_i0 == w2c_i1;
+  if (w2c_i0) {goto w2c_B7;}
+  w2c_j0 = w2c_l3;
+  m->w2c_g0 = w2c_j0;
+  w2c_i0 = 9u;
   goto w2c_Bfunc;
-  w2c_B21:;
+  w2c_B8:;
+  w2c_j0 = 0ull;
+  w2c_p0 = w2c_j0;
   w2c_j0 = w2c_p2;
   w2c_i0 = (u32)(w2c_j0);
-  w2c_j1 = w2c_l3;
+  w2c_j1 = 0ull;
+  i64_store(m, (u64)(w2c_i0) + 24, w2c_j1);
+  w2c_j0 = w2c_p2;
+  w2c_i0 = (u32)(w2c_j0);
+  w2c_j1 = 0ull;
+  i64_store(m, (u64)(w2c_i0) + 8, w2c_j1);
+  w2c_j0 = w2c_p2;
+  w2c_i0 = (u32)(w2c_j0);
+  w2c_j1 = 0ull;
+  i64_store(m, (u64)(w2c_i0), w2c_j1);
+  w2c_j0 = w2c_p2;
+  w2c_i0 = (u32)(w2c_j0);
+  w2c_j1 = w2c_l4;
   w2c_j2 = 3ull;
   w2c_j1 += w2c_j2;
   w2c_l6 = w2c_j1;
   i64_store(m, (u64)(w2c_i0) + 16, w2c_j1);
-  w2c_j0 = 0ull;
-  w2c_p0 = w2c_j0;
   w2c_j0 = w2c_p1;
   w2c_j1 = 8ull;
   w2c_i0 = w2c_j0 >= w2c_j1;
-  if (w2c_i0) {goto w2c_B89;}
+  if (w2c_i0) {goto w2c_B76;}
   w2c_j0 = 0ull;
-  w2c_l7 = w2c_j0;
-  goto w2c_B88;
-  w2c_B89:;
+  w2c_l8 = w2c_j0;
+  goto w2c_B75;
+  w2c_B76:;
   w2c_j0 = 0ull;
-  w2c_l7 = w2c_j0;
+  w2c_l8 = w2c_j0;
   w2c_j0 = w2c_l6;
   w2c_j1 = 3ull;
   w2c_i0 = w2c_j0 < w2c_j1;
-  if (w2c_i0) {goto w2c_B88;}
+  if (w2c_i0) {goto w2c_B75;}
   w2c_j0 = w2c_p1;
   w2c_j1 = 18446744073709551607ull;
   w2c_j0 += w2c_j1;
-  w2c_l5 = w2c_j0;
-  w2c_j0 = 0ull;
   w2c_l7 = w2c_j0;
   w2c_j0 = 0ull;
+  w2c_l8 = w2c_j0;
+  w2c_j0 = 0ull;
   w2c_p0 = w2c_j0;
-  w2c_L90:
-    w2c_j0 = w2c_l4;
+  w2c_L77:
+    w2c_j0 = w2c_l5;
     w2c_j1 = w2c_p0;
     w2c_j0 += w2c_j1;
     w2c_i0 = (u32)(w2c_j0);
@@ -48205,48 +47789,48 @@ static u32 w2c_f66(module *m, u64 w2c_p0, u64 w2c_p1, u64 w2c_p2) {
     w2c_j0 &= w2c_j1;
     w2c_j1 = 63050398541283552ull;
     w2c_i0 = w2c_j0 != w2c_j1;
-    if (w2c_i0) {goto w2c_B88;}
-    w2c_j0 = w2c_l7;
+    if (w2c_i0) {goto w2c_B75;}
+    w2c_j0 = w2c_l8;
     w2c_j1 = 3ull;
     w2c_j0 += w2c_j1;
-    w2c_l7 = w2c_j0;
+    w2c_l8 = w2c_j0;
     w2c_j0 = w2c_p0;
     w2c_j1 = 9ull;
     w2c_j0 += w2c_j1;
     w2c_p0 = w2c_j0;
-    w2c_j0 = w2c_l3;
+    w2c_j0 = w2c_l4;
     w2c_j1 = 3ull;
     w2c_i0 = w2c_j0 < w2c_j1;
-    if (w2c_i0) {goto w2c_B88;}
-    w2c_j0 = w2c_l3;
+    if (w2c_i0) {goto w2c_B75;}
+    w2c_j0 = w2c_l4;
     w2c_j1 = 18446744073709551613ull;
     w2c_j0 += w2c_j1;
-    w2c_l3 = w2c_j0;
-    w2c_j0 = w2c_l5;
+    w2c_l4 = w2c_j0;
+    w2c_j0 = w2c_l7;
     w2c_j1 = 7ull;
     w2c_i0 = w2c_j0 > w2c_j1;
-    w2c_l8 = w2c_i0;
-    w2c_j0 = w2c_l5;
+    w2c_l15 = w2c_i0;
+    w2c_j0 = w2c_l7;
     w2c_j1 = 18446744073709551607ull;
     w2c_j0 += w2c_j1;
-    w2c_l5 = w2c_j0;
-    w2c_i0 = w2c_l8;
-    if (w2c_i0) {goto w2c_L90;}
-  w2c_B88:;
+    w2c_l7 = w2c_j0;
+    w2c_i0 = w2c_l15;
+    if (w2c_i0) {goto w2c_L77;}
+  w2c_B75:;
   w2c_j0 = w2c_p1;
   w2c_j1 = w2c_p0;
   w2c_i0 = w2c_j0 <= w2c_j1;
-  if (w2c_i0) {goto w2c_B91;}
-  w2c_j0 = w2c_l7;
+  if (w2c_i0) {goto w2c_B78;}
+  w2c_j0 = w2c_l8;
   w2c_j1 = w2c_l6;
   w2c_i0 = w2c_j0 >= w2c_j1;
-  if (w2c_i0) {goto w2c_B91;}
-  w2c_j0 = w2c_l7;
+  if (w2c_i0) {goto w2c_B78;}
+  w2c_j0 = w2c_l8;
   w2c_j1 = 1ull;
   w2c_j0 += w2c_j1;
-  w2c_l3 = w2c_j0;
-  w2c_L92:
-    w2c_j0 = w2c_l4;
+  w2c_l4 = w2c_j0;
+  w2c_L79:
+    w2c_j0 = w2c_l5;
     w2c_j1 = w2c_p0;
     w2c_j0 += w2c_j1;
     w2c_i0 = (u32)(w2c_j0);
@@ -48263,30 +47847,70 @@ static u32 w2c_f66(module *m, u64 w2c_p0, u64 w2c_p1, u64 w2c_p2) {
     w2c_j1 = w2c_p0;
     w2c_j0 += w2c_j1;
     w2c_p0 = w2c_j0;
-    w2c_j0 = w2c_l3;
+    w2c_j0 = w2c_l4;
     w2c_j1 = w2c_l6;
     w2c_i0 = w2c_j0 >= w2c_j1;
-    if (w2c_i0) {goto w2c_B91;}
-    w2c_j0 = w2c_l3;
+    if (w2c_i0) {goto w2c_B78;}
+    w2c_j0 = w2c_l4;
     w2c_j1 = 1ull;
     w2c_j0 += w2c_j1;
-    w2c_l3 = w2c_j0;
+    w2c_l4 = w2c_j0;
     w2c_j0 = w2c_p1;
     w2c_j1 = w2c_p0;
     w2c_i0 = w2c_j0 > w2c_j1;
-    if (w2c_i0) {goto w2c_L92;}
-  w2c_B91:;
+    if (w2c_i0) {goto w2c_L79;}
+  w2c_B78:;
   w2c_j0 = w2c_p2;
   w2c_i0 = (u32)(w2c_j0);
   w2c_j1 = w2c_p0;
   i64_store(m, (u64)(w2c_i0) + 24, w2c_j1);
+  w2c_j0 = w2c_l3;
+  m->w2c_g0 = w2c_j0;
   w2c_i0 = 2u;
-  w2c_l12 = w2c_i0;
-  w2c_B1:;
-  w2c_i0 = w2c_l12;
   goto w2c_Bfunc;
-  w2c_B0:;
+  w2c_B7:;
+  w2c_j0 = w2c_p2;
+  w2c_i0 = (u32)(w2c_j0);
+  w2c_i1 = w2c_l14;
+  i32_store(m, (u64)(w2c_i0), w2c_i1);
+  w2c_j0 = w2c_p2;
+  w2c_i0 = (u32)(w2c_j0);
+  w2c_i1 = w2c_l15;
+  w2c_i2 = 8u;
+  w2c_i1 >>= (w2c_i2 & 31);
+  i32_store(m, (u64)(w2c_i0) + 8, w2c_i1);
+  w2c_j0 = w2c_p2;
+  w2c_i0 = (u32)(w2c_j0);
+  w2c_i1 = w2c_l15;
+  w2c_i2 = 255u;
+  w2c_i1 &= w2c_i2;
+  i32_store(m, (u64)(w2c_i0) + 4, w2c_i1);
+  w2c_j0 = w2c_l3;
+  m->w2c_g0 = w2c_j0;
+  w2c_i0 = 0u;
+  goto w2c_Bfunc;
+  w2c_B1:;
   UNREACHABLE;
+  w2c_B0:;
+  w2c_j0 = w2c_p2;
+  w2c_i0 = (u32)(w2c_j0);
+  w2c_j1 = 0ull;
+  i64_store(m, (u64)(w2c_i0) + 24, w2c_j1);
+  w2c_j0 = w2c_p2;
+  w2c_i0 = (u32)(w2c_j0);
+  w2c_j1 = 0ull;
+  i64_store(m, (u64)(w2c_i0) + 16, w2c_j1);
+  w2c_j0 = w2c_p2;
+  w2c_i0 = (u32)(w2c_j0);
+  w2c_j1 = 0ull;
+  i64_store(m, (u64)(w2c_i0) + 8, w2c_j1);
+  w2c_j0 = w2c_p2;
+  w2c_i0 = (u32)(w2c_j0);
+  w2c_j1 = 0ull;
+  i64_store(m, (u64)(w2c_i0), w2c_j1);
+  w2c_j0 = w2c_l3;
+  m->w2c_g0 = w2c_j0;
+  w2c_i0 = 9u;
   w2c_Bfunc:;
   return w2c_i0;
 }
@@ -48304,15 +47928,15 @@ static u32 w2c_chinese_figures_read(module *m, u64 w2c_p0, u64 w2c_p1, u64 w2c_p
   w2c_j0 = w2c_p0;
   w2c_j1 = w2c_p1;
   w2c_j2 = w2c_p2;
-  w2c_i0 = w2c_f68(m, w2c_j0, w2c_j1, w2c_j2);
+  w2c_i0 = w2c_f69(m, w2c_j0, w2c_j1, w2c_j2);
   w2c_l3 = w2c_i0;
   w2c_f1(m);
   w2c_i0 = w2c_l3;
   return w2c_i0;
 }
 
-static u32 w2c_f68(module *m, u64 w2c_p0, u64 w2c_p1, u64 w2c_p2) {
-  u32 w2c_l9 = 0, w2c_l10 = 0, w2c_l11 = 0, w2c_l12 = 0, w2c_l13 = 0;
+static u32 w2c_f69(module *m, u64 w2c_p0, u64 w2c_p1, u64 w2c_p2) {
+  u32 w2c_l9 = 0, w2c_l10 = 0, w2c_l11 = 0, w2c_l12 = 0;
   u64 w2c_l3 = 0, w2c_l4 = 0, w2c_l5 = 0, w2c_l6 = 0, w2c_l7 = 0, w2c_l8 = 0;
   u32 w2c_i0, w2c_i1, w2c_i2, w2c_i3;
   u64 w2c_j0, w2c_j1, w2c_j2, w2c_j3;
@@ -48325,7 +47949,7 @@ static u32 w2c_f68(module *m, u64 w2c_p0, u64 w2c_p1, u64 w2c_p2) {
   w2c_l4 = w2c_j0;
   w2c_j1 = 16ull;
   w2c_i0 = (u64)((s64)w2c_j0 < (s64)w2c_j1);
-  if (w2c_i0) {goto w2c_B6;}
+  if (w2c_i0) {goto w2c_B3;}
   w2c_j0 = w2c_p2;
   w2c_i0 = (u32)(w2c_j0);
   w2c_j1 = 0ull;
@@ -48348,17 +47972,17 @@ static u32 w2c_f68(module *m, u64 w2c_p0, u64 w2c_p1, u64 w2c_p2) {
   w2c_j1 = w2c_i3 ? w2c_j1 : w2c_j2;
   w2c_j0 += w2c_j1;
   w2c_l5 = w2c_j0;
-  w2c_l6 = w2c_j0;
+  w2c_p0 = w2c_j0;
   w2c_j0 = w2c_p1;
   w2c_j1 = 4ull;
   w2c_i0 = w2c_j0 < w2c_j1;
-  if (w2c_i0) {goto w2c_B8;}
+  if (w2c_i0) {goto w2c_B6;}
   w2c_j0 = w2c_l5;
-  w2c_l6 = w2c_j0;
+  w2c_p0 = w2c_j0;
   w2c_j0 = w2c_p1;
   w2c_l3 = w2c_j0;
-  w2c_L9:
-    w2c_j0 = w2c_l6;
+  w2c_L7:
+    w2c_j0 = w2c_p0;
     w2c_i0 = (u32)(w2c_j0);
     w2c_i0 = i32_load(m, (u64)(w2c_i0));
     w2c_i1 = 16776989u;
@@ -48367,44 +47991,37 @@ static u32 w2c_f68(module *m, u64 w2c_p0, u64 w2c_p1, u64 w2c_p2) {
     w2c_i0 &= w2c_i1;
     w2c_i1 = 8421376u;
     w2c_i0 = w2c_i0 != w2c_i1;
-    if (w2c_i0) {goto w2c_B7;}
-    w2c_j0 = w2c_l6;
+    if (w2c_i0) {goto w2c_B5;}
+    w2c_j0 = w2c_p0;
     w2c_j1 = 3ull;
     w2c_j0 += w2c_j1;
-    w2c_l6 = w2c_j0;
+    w2c_p0 = w2c_j0;
     w2c_j0 = w2c_l3;
     w2c_j1 = 18446744073709551613ull;
     w2c_j0 += w2c_j1;
     w2c_l3 = w2c_j0;
     w2c_j1 = 3ull;
     w2c_i0 = w2c_j0 > w2c_j1;
-    if (w2c_i0) {goto w2c_L9;}
-  w2c_B8:;
+    if (w2c_i0) {goto w2c_L7;}
+  w2c_B6:;
   w2c_j0 = w2c_l3;
   w2c_j1 = 3ull;
   w2c_i0 = w2c_j0 > w2c_j1;
-  if (w2c_i0) {goto w2c_B7;}
+  if (w2c_i0) {goto w2c_B5;}
   w2c_j0 = w2c_l3;
   w2c_i0 = (u32)(w2c_j0);
   switch (w2c_i0) {
     case 0: goto w2c_B4;
-    case 1: goto w2c_B7;
-    case 2: goto w2c_B7;
-    case 3: goto w2c_B10;
+    case 1: goto w2c_B5;
+    case 2: goto w2c_B5;
+    case 3: goto w2c_B8;
     default: goto w2c_B4;
   }
-  w2c_B10:;
-  w2c_j0 = w2c_p1;
-  w2c_i0 = !(w2c_j0);
-  if (w2c_i0) {goto w2c_B4;}
-  w2c_j0 = w2c_l5;
-  w2c_p0 = w2c_j0;
-  w2c_j0 = w2c_p1;
-  w2c_l3 = w2c_j0;
-  w2c_j0 = w2c_l6;
+  w2c_B8:;
+  w2c_j0 = w2c_p0;
   w2c_i0 = (u32)(w2c_j0);
   w2c_i0 = i32_load16_u(m, (u64)(w2c_i0));
-  w2c_j1 = w2c_l6;
+  w2c_j1 = w2c_p0;
   w2c_j2 = 2ull;
   w2c_j1 += w2c_j2;
   w2c_i1 = (u32)(w2c_j1);
@@ -48419,266 +48036,14 @@ static u32 w2c_f68(module *m, u64 w2c_p0, u64 w2c_p1, u64 w2c_p2) {
   w2c_i1 = 8421376u;
   w2c_i0 = w2c_i0 == w2c_i1;
   if (w2c_i0) {goto w2c_B4;}
-  goto w2c_B5;
-  w2c_B7:;
-  w2c_j0 = w2c_l5;
-  w2c_p0 = w2c_j0;
-  w2c_j0 = w2c_p1;
-  w2c_l3 = w2c_j0;
-  w2c_j0 = w2c_p1;
-  w2c_j1 = 0ull;
-  w2c_i0 = w2c_j0 != w2c_j1;
-  if (w2c_i0) {goto w2c_B5;}
-  w2c_j0 = w2c_l4;
-  w2c_i0 = (u32)(w2c_j0);
-  w2c_j1 = 0ull;
-  i64_store(m, (u64)(w2c_i0) + 24, w2c_j1);
-  w2c_j0 = w2c_l4;
-  w2c_i0 = (u32)(w2c_j0);
-  w2c_j1 = 0ull;
-  i64_store(m, (u64)(w2c_i0) + 32, w2c_j1);
-  w2c_j0 = w2c_l4;
-  w2c_i0 = (u32)(w2c_j0);
-  w2c_j1 = 0ull;
-  i64_store(m, (u64)(w2c_i0) + 40, w2c_j1);
-  goto w2c_B3;
-  w2c_B6:;
-  UNREACHABLE;
   w2c_B5:;
-  w2c_L11:
-    w2c_j0 = w2c_l3;
-    w2c_j1 = 4ull;
-    w2c_i0 = w2c_j0 < w2c_j1;
-    if (w2c_i0) {goto w2c_B15;}
-    w2c_j0 = w2c_p0;
-    w2c_i0 = (u32)(w2c_j0);
-    w2c_i0 = i32_load(m, (u64)(w2c_i0));
-    w2c_l9 = w2c_i0;
-    w2c_i1 = 16776989u;
-    w2c_i0 += w2c_i1;
-    w2c_i1 = 12632312u;
-    w2c_i0 &= w2c_i1;
-    w2c_i1 = 8421376u;
-    w2c_i0 = w2c_i0 != w2c_i1;
-    if (w2c_i0) {goto w2c_B16;}
-    w2c_j0 = 3ull;
-    w2c_l6 = w2c_j0;
-    goto w2c_B12;
-    w2c_B16:;
-    w2c_i0 = w2c_l9;
-    w2c_i1 = 2155905152u;
-    w2c_i0 &= w2c_i1;
-    w2c_i0 = !(w2c_i0);
-    if (w2c_i0) {goto w2c_B17;}
-    w2c_i0 = w2c_l9;
-    w2c_i1 = 8u;
-    w2c_i0 >>= (w2c_i1 & 31);
-    w2c_l10 = w2c_i0;
-    w2c_i0 = w2c_l9;
-    w2c_i1 = 16u;
-    w2c_i0 >>= (w2c_i1 & 31);
-    w2c_l11 = w2c_i0;
-    goto w2c_B14;
-    w2c_B17:;
-    w2c_j0 = 4ull;
-    w2c_l6 = w2c_j0;
-    goto w2c_B12;
-    w2c_B15:;
-    w2c_j0 = w2c_p0;
-    w2c_i0 = (u32)(w2c_j0);
-    w2c_i0 = i32_load8_u(m, (u64)(w2c_i0));
-    w2c_l9 = w2c_i0;
-    w2c_i0 = 0u;
-    w2c_l11 = w2c_i0;
-    w2c_j0 = w2c_l3;
-    w2c_j1 = 18446744073709551615ull;
-    w2c_j0 += w2c_j1;
-    w2c_l6 = w2c_j0;
-    w2c_j1 = 2ull;
-    w2c_i0 = w2c_j0 > w2c_j1;
-    if (w2c_i0) {goto w2c_B18;}
-    w2c_i0 = 0u;
-    w2c_l10 = w2c_i0;
-    w2c_j0 = w2c_l6;
-    w2c_i0 = (u32)(w2c_j0);
-    switch (w2c_i0) {
-      case 0: goto w2c_B13;
-      case 1: goto w2c_B18;
-      case 2: goto w2c_B19;
-      default: goto w2c_B13;
-    }
-    w2c_B19:;
-    w2c_j0 = w2c_p0;
-    w2c_j1 = 1ull;
-    w2c_j0 += w2c_j1;
-    w2c_i0 = (u32)(w2c_j0);
-    w2c_i0 = i32_load8_u(m, (u64)(w2c_i0));
-    w2c_l10 = w2c_i0;
-    w2c_i1 = 8u;
-    w2c_i0 <<= (w2c_i1 & 31);
-    w2c_i1 = w2c_l9;
-    w2c_i0 |= w2c_i1;
-    w2c_j1 = w2c_p0;
-    w2c_j2 = 2ull;
-    w2c_j1 += w2c_j2;
-    w2c_i1 = (u32)(w2c_j1);
-    w2c_i1 = i32_load8_u(m, (u64)(w2c_i1));
-    w2c_l11 = w2c_i1;
-    w2c_i2 = 16u;
-    w2c_i1 <<= (w2c_i2 & 31);
-    w2c_i0 |= w2c_i1;
-    w2c_i1 = 16776989u;
-    w2c_i0 += w2c_i1;
-    w2c_i1 = 12632312u;
-    w2c_i0 &= w2c_i1;
-    w2c_i1 = 8421376u;
-    w2c_i0 = w2c_i0 != w2c_i1;
-    if (w2c_i0) {goto w2c_B14;}
-    w2c_j0 = 3ull;
-    w2c_l6 = w2c_j0;
-    goto w2c_B12;
-    w2c_B18:;
-    w2c_j0 = w2c_p0;
-    w2c_j1 = 1ull;
-    w2c_j0 += w2c_j1;
-    w2c_i0 = (u32)(w2c_j0);
-    w2c_i0 = i32_load8_u(m, (u64)(w2c_i0));
-    w2c_l10 = w2c_i0;
-    goto w2c_B13;
-    w2c_B14:;
-    w2c_i0 = w2c_l11;
-    w2c_i0 = (u32)(s32)(s8)(u8)(w2c_i0);
-    w2c_i1 = 4294967232u;
-    w2c_i0 = (u32)((s32)w2c_i0 < (s32)w2c_i1);
-    w2c_l11 = w2c_i0;
-    w2c_B13:;
-    w2c_i0 = w2c_l9;
-    w2c_i0 = (u32)(s32)(s8)(u8)(w2c_i0);
-    w2c_i1 = 4294967295u;
-    w2c_i0 = (u32)((s32)w2c_i0 <= (s32)w2c_i1);
-    if (w2c_i0) {goto w2c_B20;}
-    w2c_j0 = 1ull;
-    w2c_l6 = w2c_j0;
-    goto w2c_B12;
-    w2c_B20:;
-    w2c_i0 = w2c_l9;
-    w2c_i1 = 255u;
-    w2c_i0 &= w2c_i1;
-    w2c_l12 = w2c_i0;
-    w2c_i1 = 223u;
-    w2c_i0 = w2c_i0 > w2c_i1;
-    if (w2c_i0) {goto w2c_B21;}
-    w2c_i0 = 5u;
-    w2c_l12 = w2c_i0;
-    w2c_i0 = w2c_l10;
-    w2c_i0 = (u32)(s32)(s8)(u8)(w2c_i0);
-    w2c_i1 = 4294967231u;
-    w2c_i0 = (u32)((s32)w2c_i0 > (s32)w2c_i1);
-    if (w2c_i0) {goto w2c_B0;}
-    w2c_i0 = w2c_l9;
-    w2c_i1 = 255u;
-    w2c_i0 &= w2c_i1;
-    w2c_i1 = 193u;
-    w2c_i0 = w2c_i0 <= w2c_i1;
-    if (w2c_i0) {goto w2c_B0;}
-    w2c_j0 = 2ull;
-    w2c_l6 = w2c_j0;
-    goto w2c_B12;
-    w2c_B21:;
-    w2c_i0 = w2c_l12;
-    w2c_i1 = 239u;
-    w2c_i0 = w2c_i0 > w2c_i1;
-    if (w2c_i0) {goto w2c_B22;}
-    w2c_i0 = 5u;
-    w2c_l12 = w2c_i0;
-    w2c_i0 = w2c_l10;
-    w2c_i0 = (u32)(s32)(s8)(u8)(w2c_i0);
-    w2c_i1 = 4294967231u;
-    w2c_i0 = (u32)((s32)w2c_i0 > (s32)w2c_i1);
-    w2c_i1 = w2c_l11;
-    w2c_i2 = 1u;
-    w2c_i1 ^= w2c_i2;
-    w2c_i0 |= w2c_i1;
-    if (w2c_i0) {goto w2c_B0;}
-    w2c_i0 = w2c_l9;
-    w2c_i1 = 255u;
-    w2c_i0 &= w2c_i1;
-    w2c_i1 = 6u;
-    w2c_i0 <<= (w2c_i1 & 31);
-    w2c_i1 = w2c_l10;
-    w2c_i2 = 255u;
-    w2c_i1 &= w2c_i2;
-    w2c_i0 += w2c_i1;
-    w2c_l9 = w2c_i0;
-    w2c_i1 = 14496u;
-    w2c_i0 = w2c_i0 < w2c_i1;
-    if (w2c_i0) {goto w2c_B0;}
-    w2c_i0 = w2c_l9;
-    w2c_i1 = 32736u;
-    w2c_i0 &= w2c_i1;
-    w2c_i1 = 15328u;
-    w2c_i0 = w2c_i0 == w2c_i1;
-    if (w2c_i0) {goto w2c_B0;}
-    w2c_j0 = 3ull;
-    w2c_l6 = w2c_j0;
-    goto w2c_B12;
-    w2c_B22:;
-    w2c_j0 = 4ull;
-    w2c_l6 = w2c_j0;
-    w2c_i0 = 0u;
-    w2c_l13 = w2c_i0;
-    w2c_j0 = w2c_l3;
-    w2c_j1 = 4ull;
-    w2c_i0 = w2c_j0 < w2c_j1;
-    if (w2c_i0) {goto w2c_B23;}
-    w2c_j0 = w2c_p0;
-    w2c_j1 = 3ull;
-    w2c_j0 += w2c_j1;
-    w2c_i0 = (u32)(w2c_j0);
-    w2c_i0 = i32_load8_s(m, (u64)(w2c_i0));
-    w2c_i1 = 4294967232u;
-    w2c_i0 = (u32)((s32)w2c_i0 < (s32)w2c_i1);
-    w2c_l13 = w2c_i0;
-    w2c_B23:;
-    w2c_i0 = 5u;
-    w2c_l12 = w2c_i0;
-    w2c_i0 = w2c_l11;
-    w2c_i1 = w2c_l10;
-    w2c_i1 = (u32)(s32)(s8)(u8)(w2c_i1);
-    w2c_i2 = 4294967232u;
-    w2c_i1 = (u32)((s32)w2c_i1 < (s32)w2c_i2);
-    w2c_i2 = w2c_l13;
-    w2c_i1 &= w2c_i2;
-    w2c_i0 &= w2c_i1;
-    w2c_i1 = 1u;
-    w2c_i0 = w2c_i0 != w2c_i1;
-    if (w2c_i0) {goto w2c_B0;}
-    w2c_i0 = w2c_l10;
-    w2c_i1 = 255u;
-    w2c_i0 &= w2c_i1;
-    w2c_i1 = w2c_l9;
-    w2c_i2 = 255u;
-    w2c_i1 &= w2c_i2;
-    w2c_i2 = 6u;
-    w2c_i1 <<= (w2c_i2 & 31);
-    w2c_i0 += w2c_i1;
-    w2c_i1 = 4294951792u;
-    w2c_i0 += w2c_i1;
-    w2c_i1 = 255u;
-    w2c_i0 = w2c_i0 > w2c_i1;
-    if (w2c_i0) {goto w2c_B0;}
-    w2c_B12:;
-    w2c_j0 = w2c_p0;
-    w2c_j1 = w2c_l6;
-    w2c_j0 += w2c_j1;
-    w2c_p0 = w2c_j0;
-    w2c_j0 = w2c_l3;
-    w2c_j1 = w2c_l6;
-    w2c_j0 -= w2c_j1;
-    w2c_l3 = w2c_j0;
-    w2c_j1 = 0ull;
-    w2c_i0 = w2c_j0 != w2c_j1;
-    if (w2c_i0) {goto w2c_L11;}
+  w2c_j0 = w2c_l5;
+  w2c_j1 = w2c_p1;
+  w2c_i0 = w2c_f12(m, w2c_j0, w2c_j1);
+  if (w2c_i0) {goto w2c_B4;}
+  w2c_i0 = 5u;
+  w2c_l9 = w2c_i0;
+  goto w2c_B0;
   w2c_B4:;
   w2c_j0 = w2c_l4;
   w2c_i0 = (u32)(w2c_j0);
@@ -48706,7 +48071,7 @@ static u32 w2c_f68(module *m, u64 w2c_p0, u64 w2c_p1, u64 w2c_p2) {
   i64_store(m, (u64)(w2c_i0) + 16, w2c_j1);
   w2c_j0 = w2c_p1;
   w2c_i0 = !(w2c_j0);
-  if (w2c_i0) {goto w2c_B3;}
+  if (w2c_i0) {goto w2c_B11;}
   w2c_j0 = w2c_l5;
   w2c_i0 = (u32)(w2c_j0);
   w2c_i0 = i32_load8_s(m, (u64)(w2c_i0));
@@ -48715,11 +48080,11 @@ static u32 w2c_f68(module *m, u64 w2c_p0, u64 w2c_p1, u64 w2c_p2) {
   w2c_i0 &= w2c_i1;
   w2c_l9 = w2c_i0;
   w2c_j0 = 1ull;
-  w2c_l3 = w2c_j0;
+  w2c_p0 = w2c_j0;
   w2c_i0 = w2c_l10;
   w2c_i1 = 4294967295u;
   w2c_i0 = (u32)((s32)w2c_i0 > (s32)w2c_i1);
-  if (w2c_i0) {goto w2c_B24;}
+  if (w2c_i0) {goto w2c_B12;}
   w2c_j0 = w2c_l5;
   w2c_i0 = (u32)(w2c_j0);
   w2c_i0 = i32_load8_u(m, (u64)(w2c_i0) + 1u);
@@ -48729,7 +48094,7 @@ static u32 w2c_f68(module *m, u64 w2c_p0, u64 w2c_p1, u64 w2c_p2) {
   w2c_i0 = w2c_l10;
   w2c_i1 = 4294967263u;
   w2c_i0 = w2c_i0 > w2c_i1;
-  if (w2c_i0) {goto w2c_B25;}
+  if (w2c_i0) {goto w2c_B13;}
   w2c_i0 = w2c_l9;
   w2c_i1 = 6u;
   w2c_i0 <<= (w2c_i1 & 31);
@@ -48739,9 +48104,9 @@ static u32 w2c_f68(module *m, u64 w2c_p0, u64 w2c_p1, u64 w2c_p2) {
   w2c_i0 |= w2c_i1;
   w2c_l9 = w2c_i0;
   w2c_j0 = 2ull;
-  w2c_l3 = w2c_j0;
-  goto w2c_B24;
-  w2c_B25:;
+  w2c_p0 = w2c_j0;
+  goto w2c_B12;
+  w2c_B13:;
   w2c_j0 = w2c_l5;
   w2c_i0 = (u32)(w2c_j0);
   w2c_i0 = i32_load8_u(m, (u64)(w2c_i0) + 2u);
@@ -48751,7 +48116,7 @@ static u32 w2c_f68(module *m, u64 w2c_p0, u64 w2c_p1, u64 w2c_p2) {
   w2c_i0 = w2c_l10;
   w2c_i1 = 4294967279u;
   w2c_i0 = w2c_i0 > w2c_i1;
-  if (w2c_i0) {goto w2c_B26;}
+  if (w2c_i0) {goto w2c_B14;}
   w2c_i0 = w2c_l11;
   w2c_i1 = 6u;
   w2c_i0 <<= (w2c_i1 & 31);
@@ -48765,9 +48130,9 @@ static u32 w2c_f68(module *m, u64 w2c_p0, u64 w2c_p1, u64 w2c_p2) {
   w2c_i0 |= w2c_i1;
   w2c_l9 = w2c_i0;
   w2c_j0 = 3ull;
-  w2c_l3 = w2c_j0;
-  goto w2c_B24;
-  w2c_B26:;
+  w2c_p0 = w2c_j0;
+  goto w2c_B12;
+  w2c_B14:;
   w2c_i0 = w2c_l12;
   w2c_i1 = 6u;
   w2c_i0 <<= (w2c_i1 & 31);
@@ -48789,91 +48154,60 @@ static u32 w2c_f68(module *m, u64 w2c_p0, u64 w2c_p1, u64 w2c_p2) {
   w2c_i0 |= w2c_i1;
   w2c_l9 = w2c_i0;
   w2c_j0 = 4ull;
-  w2c_l3 = w2c_j0;
-  w2c_B24:;
+  w2c_p0 = w2c_j0;
+  w2c_B12:;
   w2c_i0 = w2c_l9;
   w2c_i1 = 8722u;
   w2c_i0 = w2c_i0 == w2c_i1;
-  if (w2c_i0) {goto w2c_B27;}
+  if (w2c_i0) {goto w2c_B15;}
   w2c_i0 = w2c_l9;
   w2c_i1 = 45u;
   w2c_i0 = w2c_i0 != w2c_i1;
-  if (w2c_i0) {goto w2c_B3;}
-  w2c_B27:;
+  if (w2c_i0) {goto w2c_B11;}
+  w2c_B15:;
   w2c_j0 = w2c_l4;
   w2c_j1 = w2c_l5;
-  w2c_j2 = w2c_l3;
+  w2c_j2 = w2c_p0;
   w2c_j1 += w2c_j2;
   w2c_j2 = w2c_p1;
-  w2c_j3 = w2c_l3;
+  w2c_j3 = w2c_p0;
   w2c_j2 -= w2c_j3;
-  w2c_f12(m, w2c_j0, w2c_j1, w2c_j2);
+  w2c_f13(m, w2c_j0, w2c_j1, w2c_j2);
   w2c_j0 = w2c_l4;
   w2c_i0 = (u32)(w2c_j0);
   w2c_i0 = i32_load8_u(m, (u64)(w2c_i0));
-  if (w2c_i0) {goto w2c_B28;}
+  if (w2c_i0) {goto w2c_B10;}
   w2c_j0 = w2c_l4;
   w2c_i0 = (u32)(w2c_j0);
   w2c_j0 = i64_load(m, (u64)(w2c_i0) + 8u);
-  w2c_l3 = w2c_j0;
+  w2c_p0 = w2c_j0;
   w2c_j0 = w2c_p2;
   w2c_j1 = 8ull;
   w2c_j0 += w2c_j1;
-  w2c_p0 = w2c_j0;
+  w2c_l3 = w2c_j0;
   w2c_i0 = (u32)(w2c_j0);
   w2c_j1 = 0ull;
   i64_store(m, (u64)(w2c_i0) + 8, w2c_j1);
-  w2c_j0 = w2c_p0;
+  w2c_j0 = w2c_l3;
   w2c_i0 = (u32)(w2c_j0);
   w2c_j1 = 0ull;
   i64_store(m, (u64)(w2c_i0), w2c_j1);
   w2c_j0 = 0ull;
-  w2c_j1 = w2c_l3;
+  w2c_j1 = w2c_p0;
   w2c_j0 -= w2c_j1;
-  w2c_l3 = w2c_j0;
-  goto w2c_B2;
-  w2c_B28:;
-  w2c_j0 = w2c_l4;
-  w2c_i0 = (u32)(w2c_j0);
-  w2c_j0 = i64_load(m, (u64)(w2c_i0) + 16u);
-  w2c_l3 = w2c_j0;
-  w2c_j0 = w2c_l4;
-  w2c_i0 = (u32)(w2c_j0);
-  w2c_i0 = i32_load8_u(m, (u64)(w2c_i0) + 8u);
-  w2c_l9 = w2c_i0;
-  w2c_j0 = w2c_p2;
-  w2c_i0 = (u32)(w2c_j0);
-  w2c_j1 = 0ull;
-  i64_store(m, (u64)(w2c_i0) + 16, w2c_j1);
-  w2c_j0 = w2c_p2;
-  w2c_i0 = (u32)(w2c_j0);
-  w2c_j1 = 0ull;
-  i64_store(m, (u64)(w2c_i0) + 8, w2c_j1);
-  w2c_j0 = w2c_p2;
-  w2c_i0 = (u32)(w2c_j0);
-  w2c_j1 = 0ull;
-  i64_store(m, (u64)(w2c_i0), w2c_j1);
-  w2c_j0 = w2c_l3;
-  w2c_j1 = 1ull;
-  w2c_j0 += w2c_j1;
-  w2c_j1 = 0ull;
-  w2c_i2 = w2c_l9;
-  w2c_i3 = 1u;
-  w2c_i2 = w2c_i2 == w2c_i3;
-  w2c_j0 = w2c_i2 ? w2c_j0 : w2c_j1;
-  w2c_l7 = w2c_j0;
+  w2c_p0 = w2c_j0;
   goto w2c_B1;
-  w2c_B3:;
+  w2c_B11:;
   w2c_j0 = w2c_l4;
   w2c_j1 = 24ull;
   w2c_j0 += w2c_j1;
   w2c_j1 = w2c_l5;
   w2c_j2 = w2c_p1;
-  w2c_f12(m, w2c_j0, w2c_j1, w2c_j2);
+  w2c_f13(m, w2c_j0, w2c_j1, w2c_j2);
   w2c_j0 = w2c_l4;
   w2c_i0 = (u32)(w2c_j0);
   w2c_j0 = i64_load(m, (u64)(w2c_i0) + 40u);
-  w2c_l7 = w2c_j0;
+  w2c_l6 = w2c_j0;
   w2c_j0 = w2c_l4;
   w2c_i0 = (u32)(w2c_j0);
   w2c_i0 = i32_load8_u(m, (u64)(w2c_i0) + 24u);
@@ -48881,7 +48215,7 @@ static u32 w2c_f68(module *m, u64 w2c_p0, u64 w2c_p1, u64 w2c_p2) {
   w2c_j0 = w2c_l4;
   w2c_i0 = (u32)(w2c_j0);
   w2c_j0 = i64_load(m, (u64)(w2c_i0) + 32u);
-  w2c_l3 = w2c_j0;
+  w2c_p0 = w2c_j0;
   w2c_j0 = w2c_p2;
   w2c_i0 = (u32)(w2c_j0);
   w2c_j1 = 0ull;
@@ -48896,65 +48230,87 @@ static u32 w2c_f68(module *m, u64 w2c_p0, u64 w2c_p1, u64 w2c_p2) {
   i64_store(m, (u64)(w2c_i0), w2c_j1);
   w2c_i0 = w2c_l9;
   w2c_i0 = !(w2c_i0);
-  if (w2c_i0) {goto w2c_B2;}
-  w2c_j0 = w2c_l3;
+  if (w2c_i0) {goto w2c_B1;}
+  w2c_j0 = w2c_p0;
   w2c_i0 = (u32)(w2c_j0);
-  w2c_l9 = w2c_i0;
-  goto w2c_B1;
-  w2c_B2:;
+  w2c_l10 = w2c_i0;
+  goto w2c_B9;
+  w2c_B10:;
+  w2c_j0 = w2c_l4;
+  w2c_i0 = (u32)(w2c_j0);
+  w2c_j0 = i64_load(m, (u64)(w2c_i0) + 16u);
+  w2c_p0 = w2c_j0;
+  w2c_j0 = w2c_l4;
+  w2c_i0 = (u32)(w2c_j0);
+  w2c_i0 = i32_load8_u(m, (u64)(w2c_i0) + 8u);
+  w2c_l10 = w2c_i0;
   w2c_j0 = w2c_p2;
   w2c_i0 = (u32)(w2c_j0);
-  w2c_j1 = w2c_l3;
+  w2c_j1 = 0ull;
+  i64_store(m, (u64)(w2c_i0) + 16, w2c_j1);
+  w2c_j0 = w2c_p2;
+  w2c_i0 = (u32)(w2c_j0);
+  w2c_j1 = 0ull;
+  i64_store(m, (u64)(w2c_i0) + 8, w2c_j1);
+  w2c_j0 = w2c_p2;
+  w2c_i0 = (u32)(w2c_j0);
+  w2c_j1 = 0ull;
   i64_store(m, (u64)(w2c_i0), w2c_j1);
-  w2c_i0 = 0u;
-  w2c_l12 = w2c_i0;
-  goto w2c_B0;
-  w2c_B1:;
+  w2c_j0 = w2c_p0;
+  w2c_j1 = 1ull;
+  w2c_j0 += w2c_j1;
+  w2c_j1 = 0ull;
+  w2c_i2 = w2c_l10;
+  w2c_i3 = 1u;
+  w2c_i2 = w2c_i2 == w2c_i3;
+  w2c_j0 = w2c_i2 ? w2c_j0 : w2c_j1;
+  w2c_l6 = w2c_j0;
+  w2c_B9:;
   w2c_i0 = 9u;
-  w2c_l12 = w2c_i0;
-  w2c_i0 = w2c_l9;
+  w2c_l9 = w2c_i0;
+  w2c_i0 = w2c_l10;
   w2c_j0 = (u64)(w2c_i0);
   w2c_j1 = 255ull;
   w2c_j0 &= w2c_j1;
   w2c_i0 = (u32)(w2c_j0);
   switch (w2c_i0) {
     case 0: goto w2c_B0;
-    case 1: goto w2c_B30;
-    case 2: goto w2c_B29;
+    case 1: goto w2c_B16;
+    case 2: goto w2c_B2;
     default: goto w2c_B0;
   }
-  w2c_B30:;
+  w2c_B16:;
   w2c_j0 = 0ull;
-  w2c_l3 = w2c_j0;
+  w2c_p0 = w2c_j0;
   w2c_j0 = w2c_p1;
   w2c_j1 = 8ull;
   w2c_i0 = w2c_j0 >= w2c_j1;
-  if (w2c_i0) {goto w2c_B32;}
+  if (w2c_i0) {goto w2c_B18;}
   w2c_j0 = 0ull;
-  w2c_l8 = w2c_j0;
-  goto w2c_B31;
-  w2c_B32:;
+  w2c_l7 = w2c_j0;
+  goto w2c_B17;
+  w2c_B18:;
   w2c_j0 = 0ull;
-  w2c_l8 = w2c_j0;
-  w2c_j0 = w2c_l7;
+  w2c_l7 = w2c_j0;
+  w2c_j0 = w2c_l6;
   w2c_j1 = 3ull;
   w2c_i0 = w2c_j0 < w2c_j1;
-  if (w2c_i0) {goto w2c_B31;}
+  if (w2c_i0) {goto w2c_B17;}
   w2c_j0 = w2c_p1;
   w2c_j1 = 18446744073709551607ull;
   w2c_j0 += w2c_j1;
-  w2c_l6 = w2c_j0;
-  w2c_j0 = w2c_l7;
+  w2c_l8 = w2c_j0;
+  w2c_j0 = w2c_l6;
   w2c_j1 = 18446744073709551613ull;
   w2c_j0 += w2c_j1;
-  w2c_p0 = w2c_j0;
-  w2c_j0 = 0ull;
-  w2c_l8 = w2c_j0;
-  w2c_j0 = 0ull;
   w2c_l3 = w2c_j0;
-  w2c_L33:
+  w2c_j0 = 0ull;
+  w2c_l7 = w2c_j0;
+  w2c_j0 = 0ull;
+  w2c_p0 = w2c_j0;
+  w2c_L19:
     w2c_j0 = w2c_l5;
-    w2c_j1 = w2c_l3;
+    w2c_j1 = w2c_p0;
     w2c_j0 += w2c_j1;
     w2c_i0 = (u32)(w2c_j0);
     w2c_j0 = i64_load(m, (u64)(w2c_i0));
@@ -48962,49 +48318,49 @@ static u32 w2c_f68(module *m, u64 w2c_p0, u64 w2c_p1, u64 w2c_p2) {
     w2c_j0 &= w2c_j1;
     w2c_j1 = 63050398541283552ull;
     w2c_i0 = w2c_j0 != w2c_j1;
-    if (w2c_i0) {goto w2c_B31;}
-    w2c_j0 = w2c_l8;
+    if (w2c_i0) {goto w2c_B17;}
+    w2c_j0 = w2c_l7;
     w2c_j1 = 3ull;
     w2c_j0 += w2c_j1;
-    w2c_l8 = w2c_j0;
-    w2c_j0 = w2c_l3;
+    w2c_l7 = w2c_j0;
+    w2c_j0 = w2c_p0;
     w2c_j1 = 9ull;
     w2c_j0 += w2c_j1;
-    w2c_l3 = w2c_j0;
-    w2c_j0 = w2c_p0;
+    w2c_p0 = w2c_j0;
+    w2c_j0 = w2c_l3;
     w2c_j1 = 3ull;
     w2c_i0 = w2c_j0 < w2c_j1;
-    if (w2c_i0) {goto w2c_B31;}
-    w2c_j0 = w2c_p0;
+    if (w2c_i0) {goto w2c_B17;}
+    w2c_j0 = w2c_l3;
     w2c_j1 = 18446744073709551613ull;
     w2c_j0 += w2c_j1;
-    w2c_p0 = w2c_j0;
-    w2c_j0 = w2c_l6;
+    w2c_l3 = w2c_j0;
+    w2c_j0 = w2c_l8;
     w2c_j1 = 7ull;
     w2c_i0 = w2c_j0 > w2c_j1;
     w2c_l9 = w2c_i0;
-    w2c_j0 = w2c_l6;
+    w2c_j0 = w2c_l8;
     w2c_j1 = 18446744073709551607ull;
     w2c_j0 += w2c_j1;
-    w2c_l6 = w2c_j0;
+    w2c_l8 = w2c_j0;
     w2c_i0 = w2c_l9;
-    if (w2c_i0) {goto w2c_L33;}
-  w2c_B31:;
+    if (w2c_i0) {goto w2c_L19;}
+  w2c_B17:;
   w2c_j0 = w2c_p1;
-  w2c_j1 = w2c_l3;
+  w2c_j1 = w2c_p0;
   w2c_i0 = w2c_j0 <= w2c_j1;
-  if (w2c_i0) {goto w2c_B34;}
-  w2c_j0 = w2c_l8;
-  w2c_j1 = w2c_l7;
+  if (w2c_i0) {goto w2c_B20;}
+  w2c_j0 = w2c_l7;
+  w2c_j1 = w2c_l6;
   w2c_i0 = w2c_j0 >= w2c_j1;
-  if (w2c_i0) {goto w2c_B34;}
-  w2c_j0 = w2c_l8;
+  if (w2c_i0) {goto w2c_B20;}
+  w2c_j0 = w2c_l7;
   w2c_j1 = 1ull;
   w2c_j0 += w2c_j1;
-  w2c_p0 = w2c_j0;
-  w2c_L35:
+  w2c_l3 = w2c_j0;
+  w2c_L21:
     w2c_j0 = w2c_l5;
-    w2c_j1 = w2c_l3;
+    w2c_j1 = w2c_p0;
     w2c_j0 += w2c_j1;
     w2c_i0 = (u32)(w2c_j0);
     w2c_i0 = i32_load8_u(m, (u64)(w2c_i0));
@@ -49017,42 +48373,52 @@ static u32 w2c_f68(module *m, u64 w2c_p0, u64 w2c_p1, u64 w2c_p2) {
     w2c_j0 += w2c_j1;
     w2c_i0 = (u32)(w2c_j0);
     w2c_j0 = i64_load(m, (u64)(w2c_i0));
-    w2c_j1 = w2c_l3;
-    w2c_j0 += w2c_j1;
-    w2c_l3 = w2c_j0;
-    w2c_j0 = w2c_p0;
-    w2c_j1 = w2c_l7;
-    w2c_i0 = w2c_j0 >= w2c_j1;
-    if (w2c_i0) {goto w2c_B34;}
-    w2c_j0 = w2c_p0;
-    w2c_j1 = 1ull;
+    w2c_j1 = w2c_p0;
     w2c_j0 += w2c_j1;
     w2c_p0 = w2c_j0;
+    w2c_j0 = w2c_l3;
+    w2c_j1 = w2c_l6;
+    w2c_i0 = w2c_j0 >= w2c_j1;
+    if (w2c_i0) {goto w2c_B20;}
+    w2c_j0 = w2c_l3;
+    w2c_j1 = 1ull;
+    w2c_j0 += w2c_j1;
+    w2c_l3 = w2c_j0;
     w2c_j0 = w2c_p1;
-    w2c_j1 = w2c_l3;
+    w2c_j1 = w2c_p0;
     w2c_i0 = w2c_j0 > w2c_j1;
-    if (w2c_i0) {goto w2c_L35;}
-  w2c_B34:;
+    if (w2c_i0) {goto w2c_L21;}
+  w2c_B20:;
   w2c_j0 = w2c_p2;
   w2c_i0 = (u32)(w2c_j0);
-  w2c_j1 = w2c_l3;
+  w2c_j1 = w2c_p0;
   i64_store(m, (u64)(w2c_i0) + 16, w2c_j1);
   w2c_j0 = w2c_p2;
   w2c_i0 = (u32)(w2c_j0);
-  w2c_j1 = w2c_l7;
+  w2c_j1 = w2c_l6;
   i64_store(m, (u64)(w2c_i0) + 8, w2c_j1);
   w2c_i0 = 2u;
-  w2c_l12 = w2c_i0;
+  w2c_l9 = w2c_i0;
   goto w2c_B0;
-  w2c_B29:;
+  w2c_B3:;
+  UNREACHABLE;
+  w2c_B2:;
   w2c_i0 = 3u;
-  w2c_l12 = w2c_i0;
+  w2c_l9 = w2c_i0;
+  goto w2c_B0;
+  w2c_B1:;
+  w2c_j0 = w2c_p2;
+  w2c_i0 = (u32)(w2c_j0);
+  w2c_j1 = w2c_p0;
+  i64_store(m, (u64)(w2c_i0), w2c_j1);
+  w2c_i0 = 0u;
+  w2c_l9 = w2c_i0;
   w2c_B0:;
   w2c_j0 = w2c_l4;
   w2c_j1 = 48ull;
   w2c_j0 += w2c_j1;
   m->w2c_g0 = w2c_j0;
-  w2c_i0 = w2c_l12;
+  w2c_i0 = w2c_l9;
   return w2c_i0;
 }
 
@@ -49069,19 +48435,20 @@ static u32 w2c_chinese_signed_amount_read(module *m, u64 w2c_p0, u64 w2c_p1, u64
   w2c_j0 = w2c_p0;
   w2c_j1 = w2c_p1;
   w2c_j2 = w2c_p2;
-  w2c_i0 = w2c_f70(m, w2c_j0, w2c_j1, w2c_j2);
+  w2c_i0 = w2c_f71(m, w2c_j0, w2c_j1, w2c_j2);
   w2c_l3 = w2c_i0;
   w2c_f1(m);
   w2c_i0 = w2c_l3;
   return w2c_i0;
 }
 
-static u32 w2c_f70(module *m, u64 w2c_p0, u64 w2c_p1, u64 w2c_p2) {
-  u32 w2c_l14 = 0, w2c_l15 = 0, w2c_l16 = 0, w2c_l17 = 0, w2c_l18 = 0, w2c_l19 = 0, w2c_l20 = 0, w2c_l21 = 0, w2c_l22 = 0, w2c_l23 = 0;
-  u64 w2c_l3 = 0, w2c_l4 = 0, w2c_l5 = 0, w2c_l6 = 0, w2c_l7 = 0, w2c_l8 = 0, w2c_l9 = 0, w2c_l10 = 0, w2c_l11 = 0, w2c_l12 = 0, w2c_l13 = 0;
+static u32 w2c_f71(module *m, u64 w2c_p0, u64 w2c_p1, u64 w2c_p2) {
+  u32 w2c_l15 = 0, w2c_l16 = 0, w2c_l17 = 0, w2c_l18 = 0, w2c_l19 = 0, w2c_l20 = 0, w2c_l21 = 0, w2c_l22 = 0, w2c_l23 = 0;
+  u64 w2c_l3 = 0, w2c_l4 = 0, w2c_l5 = 0, w2c_l6 = 0, w2c_l7 = 0, w2c_l8 = 0, w2c_l9 = 0, w2c_l10 = 0, w2c_l11 = 0, w2c_l12 = 0, w2c_l13 = 0, w2c_l14 = 0;
   u32 w2c_i0, w2c_i1, w2c_i2, w2c_i3, w2c_i4;
   u64 w2c_j0, w2c_j1, w2c_j2, w2c_j3;
   w2c_j0 = m->w2c_g0;
+  w2c_l3 = w2c_j0;
   w2c_j1 = 16ull;
   w2c_i0 = (u64)((s64)w2c_j0 < (s64)w2c_j1);
   if (w2c_i0) {goto w2c_B0;}
@@ -49098,7 +48465,7 @@ static u32 w2c_f70(module *m, u64 w2c_p0, u64 w2c_p1, u64 w2c_p2) {
   w2c_j1 = 0ull;
   i64_store(m, (u64)(w2c_i0), w2c_j1);
   w2c_j0 = w2c_p1;
-  w2c_l3 = w2c_j0;
+  w2c_l4 = w2c_j0;
   w2c_j0 = w2c_p0;
   w2c_j1 = 4096ull;
   w2c_j2 = 0ull;
@@ -49106,16 +48473,16 @@ static u32 w2c_f70(module *m, u64 w2c_p0, u64 w2c_p1, u64 w2c_p2) {
   w2c_i3 = !(w2c_j3);
   w2c_j1 = w2c_i3 ? w2c_j1 : w2c_j2;
   w2c_j0 += w2c_j1;
-  w2c_l4 = w2c_j0;
+  w2c_l5 = w2c_j0;
   w2c_p0 = w2c_j0;
   w2c_j0 = w2c_p1;
   w2c_j1 = 4ull;
   w2c_i0 = w2c_j0 < w2c_j1;
   if (w2c_i0) {goto w2c_B4;}
-  w2c_j0 = w2c_l4;
+  w2c_j0 = w2c_l5;
   w2c_p0 = w2c_j0;
   w2c_j0 = w2c_p1;
-  w2c_l3 = w2c_j0;
+  w2c_l4 = w2c_j0;
   w2c_L5:
     w2c_j0 = w2c_p0;
     w2c_i0 = (u32)(w2c_j0);
@@ -49131,19 +48498,19 @@ static u32 w2c_f70(module *m, u64 w2c_p0, u64 w2c_p1, u64 w2c_p2) {
     w2c_j1 = 3ull;
     w2c_j0 += w2c_j1;
     w2c_p0 = w2c_j0;
-    w2c_j0 = w2c_l3;
+    w2c_j0 = w2c_l4;
     w2c_j1 = 18446744073709551613ull;
     w2c_j0 += w2c_j1;
-    w2c_l3 = w2c_j0;
+    w2c_l4 = w2c_j0;
     w2c_j1 = 3ull;
     w2c_i0 = w2c_j0 > w2c_j1;
     if (w2c_i0) {goto w2c_L5;}
   w2c_B4:;
-  w2c_j0 = w2c_l3;
+  w2c_j0 = w2c_l4;
   w2c_j1 = 3ull;
   w2c_i0 = w2c_j0 > w2c_j1;
   if (w2c_i0) {goto w2c_B3;}
-  w2c_j0 = w2c_l3;
+  w2c_j0 = w2c_l4;
   w2c_i0 = (u32)(w2c_j0);
   switch (w2c_i0) {
     case 0: goto w2c_B2;
@@ -49172,270 +48539,30 @@ static u32 w2c_f70(module *m, u64 w2c_p0, u64 w2c_p1, u64 w2c_p2) {
   w2c_i0 = w2c_i0 == w2c_i1;
   if (w2c_i0) {goto w2c_B2;}
   w2c_B3:;
-  w2c_j0 = w2c_p1;
-  w2c_i0 = !(w2c_j0);
+  w2c_i0 = 5u;
+  w2c_l15 = w2c_i0;
+  w2c_j0 = w2c_l5;
+  w2c_j1 = w2c_p1;
+  w2c_i0 = w2c_f12(m, w2c_j0, w2c_j1);
   w2c_i0 = !(w2c_i0);
-  if (w2c_i0) {goto w2c_B7;}
-  w2c_i0 = 9u;
-  goto w2c_Bfunc;
-  w2c_B7:;
-  w2c_j0 = w2c_l4;
-  w2c_l3 = w2c_j0;
-  w2c_j0 = w2c_p1;
-  w2c_p0 = w2c_j0;
-  w2c_L8:
-    w2c_j0 = w2c_p0;
-    w2c_j1 = 4ull;
-    w2c_i0 = w2c_j0 < w2c_j1;
-    if (w2c_i0) {goto w2c_B12;}
-    w2c_j0 = w2c_l3;
-    w2c_i0 = (u32)(w2c_j0);
-    w2c_i0 = i32_load(m, (u64)(w2c_i0));
-    w2c_l14 = w2c_i0;
-    w2c_i1 = 16776989u;
-    w2c_i0 += w2c_i1;
-    w2c_i1 = 12632312u;
-    w2c_i0 &= w2c_i1;
-    w2c_i1 = 8421376u;
-    w2c_i0 = w2c_i0 != w2c_i1;
-    if (w2c_i0) {goto w2c_B13;}
-    w2c_j0 = 3ull;
-    w2c_l5 = w2c_j0;
-    goto w2c_B9;
-    w2c_B13:;
-    w2c_i0 = w2c_l14;
-    w2c_i1 = 2155905152u;
-    w2c_i0 &= w2c_i1;
-    w2c_i0 = !(w2c_i0);
-    if (w2c_i0) {goto w2c_B14;}
-    w2c_i0 = w2c_l14;
-    w2c_i1 = 8u;
-    w2c_i0 >>= (w2c_i1 & 31);
-    w2c_l15 = w2c_i0;
-    w2c_i0 = w2c_l14;
-    w2c_i1 = 16u;
-    w2c_i0 >>= (w2c_i1 & 31);
-    w2c_l16 = w2c_i0;
-    goto w2c_B11;
-    w2c_B14:;
-    w2c_j0 = 4ull;
-    w2c_l5 = w2c_j0;
-    goto w2c_B9;
-    w2c_B12:;
-    w2c_j0 = w2c_l3;
-    w2c_i0 = (u32)(w2c_j0);
-    w2c_i0 = i32_load8_u(m, (u64)(w2c_i0));
-    w2c_l14 = w2c_i0;
-    w2c_i0 = 0u;
-    w2c_l16 = w2c_i0;
-    w2c_j0 = w2c_p0;
-    w2c_j1 = 18446744073709551615ull;
-    w2c_j0 += w2c_j1;
-    w2c_l5 = w2c_j0;
-    w2c_j1 = 2ull;
-    w2c_i0 = w2c_j0 > w2c_j1;
-    if (w2c_i0) {goto w2c_B15;}
-    w2c_i0 = 0u;
-    w2c_l15 = w2c_i0;
-    w2c_j0 = w2c_l5;
-    w2c_i0 = (u32)(w2c_j0);
-    switch (w2c_i0) {
-      case 0: goto w2c_B10;
-      case 1: goto w2c_B15;
-      case 2: goto w2c_B16;
-      default: goto w2c_B10;
-    }
-    w2c_B16:;
-    w2c_j0 = w2c_l3;
-    w2c_j1 = 1ull;
-    w2c_j0 += w2c_j1;
-    w2c_i0 = (u32)(w2c_j0);
-    w2c_i0 = i32_load8_u(m, (u64)(w2c_i0));
-    w2c_l15 = w2c_i0;
-    w2c_i1 = 8u;
-    w2c_i0 <<= (w2c_i1 & 31);
-    w2c_i1 = w2c_l14;
-    w2c_i0 |= w2c_i1;
-    w2c_j1 = w2c_l3;
-    w2c_j2 = 2ull;
-    w2c_j1 += w2c_j2;
-    w2c_i1 = (u32)(w2c_j1);
-    w2c_i1 = i32_load8_u(m, (u64)(w2c_i1));
-    w2c_l16 = w2c_i1;
-    w2c_i2 = 16u;
-    w2c_i1 <<= (w2c_i2 & 31);
-    w2c_i0 |= w2c_i1;
-    w2c_i1 = 16776989u;
-    w2c_i0 += w2c_i1;
-    w2c_i1 = 12632312u;
-    w2c_i0 &= w2c_i1;
-    w2c_i1 = 8421376u;
-    w2c_i0 = w2c_i0 != w2c_i1;
-    if (w2c_i0) {goto w2c_B11;}
-    w2c_j0 = 3ull;
-    w2c_l5 = w2c_j0;
-    goto w2c_B9;
-    w2c_B15:;
-    w2c_j0 = w2c_l3;
-    w2c_j1 = 1ull;
-    w2c_j0 += w2c_j1;
-    w2c_i0 = (u32)(w2c_j0);
-    w2c_i0 = i32_load8_u(m, (u64)(w2c_i0));
-    w2c_l15 = w2c_i0;
-    goto w2c_B10;
-    w2c_B11:;
-    w2c_i0 = w2c_l16;
-    w2c_i0 = (u32)(s32)(s8)(u8)(w2c_i0);
-    w2c_i1 = 4294967232u;
-    w2c_i0 = (u32)((s32)w2c_i0 < (s32)w2c_i1);
-    w2c_l16 = w2c_i0;
-    w2c_B10:;
-    w2c_i0 = w2c_l14;
-    w2c_i0 = (u32)(s32)(s8)(u8)(w2c_i0);
-    w2c_i1 = 4294967295u;
-    w2c_i0 = (u32)((s32)w2c_i0 <= (s32)w2c_i1);
-    if (w2c_i0) {goto w2c_B17;}
-    w2c_j0 = 1ull;
-    w2c_l5 = w2c_j0;
-    goto w2c_B9;
-    w2c_B17:;
-    w2c_i0 = w2c_l14;
-    w2c_i1 = 255u;
-    w2c_i0 &= w2c_i1;
-    w2c_l17 = w2c_i0;
-    w2c_i1 = 223u;
-    w2c_i0 = w2c_i0 > w2c_i1;
-    if (w2c_i0) {goto w2c_B18;}
-    w2c_i0 = 5u;
-    w2c_l18 = w2c_i0;
-    w2c_i0 = w2c_l15;
-    w2c_i0 = (u32)(s32)(s8)(u8)(w2c_i0);
-    w2c_i1 = 4294967231u;
-    w2c_i0 = (u32)((s32)w2c_i0 > (s32)w2c_i1);
-    if (w2c_i0) {goto w2c_B1;}
-    w2c_i0 = w2c_l14;
-    w2c_i1 = 255u;
-    w2c_i0 &= w2c_i1;
-    w2c_i1 = 193u;
-    w2c_i0 = w2c_i0 <= w2c_i1;
-    if (w2c_i0) {goto w2c_B1;}
-    w2c_j0 = 2ull;
-    w2c_l5 = w2c_j0;
-    goto w2c_B9;
-    w2c_B18:;
-    w2c_i0 = w2c_l17;
-    w2c_i1 = 239u;
-    w2c_i0 = w2c_i0 > w2c_i1;
-    if (w2c_i0) {goto w2c_B19;}
-    w2c_i0 = 5u;
-    w2c_l18 = w2c_i0;
-    w2c_i0 = w2c_l15;
-    w2c_i0 = (u32)(s32)(s8)(u8)(w2c_i0);
-    w2c_i1 = 4294967231u;
-    w2c_i0 = (u32)((s32)w2c_i0 > (s32)w2c_i1);
-    w2c_i1 = w2c_l16;
-    w2c_i2 = 1u;
-    w2c_i1 ^= w2c_i2;
-    w2c_i0 |= w2c_i1;
-    if (w2c_i0) {goto w2c_B1;}
-    w2c_i0 = w2c_l14;
-    w2c_i1 = 255u;
-    w2c_i0 &= w2c_i1;
-    w2c_i1 = 6u;
-    w2c_i0 <<= (w2c_i1 & 31);
-    w2c_i1 = w2c_l15;
-    w2c_i2 = 255u;
-    w2c_i1 &= w2c_i2;
-    w2c_i0 += w2c_i1;
-    w2c_l14 = w2c_i0;
-    w2c_i1 = 14496u;
-    w2c_i0 = w2c_i0 < w2c_i1;
-    if (w2c_i0) {goto w2c_B1;}
-    w2c_i0 = w2c_l14;
-    w2c_i1 = 32736u;
-    w2c_i0 &= w2c_i1;
-    w2c_i1 = 15328u;
-    w2c_i0 = w2c_i0 == w2c_i1;
-    if (w2c_i0) {goto w2c_B1;}
-    w2c_j0 = 3ull;
-    w2c_l5 = w2c_j0;
-    goto w2c_B9;
-    w2c_B19:;
-    w2c_j0 = 4ull;
-    w2c_l5 = w2c_j0;
-    w2c_i0 = 0u;
-    w2c_l17 = w2c_i0;
-    w2c_j0 = w2c_p0;
-    w2c_j1 = 4ull;
-    w2c_i0 = w2c_j0 < w2c_j1;
-    if (w2c_i0) {goto w2c_B20;}
-    w2c_j0 = w2c_l3;
-    w2c_j1 = 3ull;
-    w2c_j0 += w2c_j1;
-    w2c_i0 = (u32)(w2c_j0);
-    w2c_i0 = i32_load8_s(m, (u64)(w2c_i0));
-    w2c_i1 = 4294967232u;
-    w2c_i0 = (u32)((s32)w2c_i0 < (s32)w2c_i1);
-    w2c_l17 = w2c_i0;
-    w2c_B20:;
-    w2c_i0 = 5u;
-    w2c_l18 = w2c_i0;
-    w2c_i0 = w2c_l16;
-    w2c_i1 = w2c_l15;
-    w2c_i1 = (u32)(s32)(s8)(u8)(w2c_i1);
-    w2c_i2 = 4294967232u;
-    w2c_i1 = (u32)((s32)w2c_i1 < (s32)w2c_i2);
-    w2c_i2 = w2c_l17;
-    w2c_i1 &= w2c_i2;
-    w2c_i0 &= w2c_i1;
-    w2c_i1 = 1u;
-    w2c_i0 = w2c_i0 != w2c_i1;
-    if (w2c_i0) {goto w2c_B1;}
-    w2c_i0 = w2c_l15;
-    w2c_i1 = 255u;
-    w2c_i0 &= w2c_i1;
-    w2c_i1 = w2c_l14;
-    w2c_i2 = 255u;
-    w2c_i1 &= w2c_i2;
-    w2c_i2 = 6u;
-    w2c_i1 <<= (w2c_i2 & 31);
-    w2c_i0 += w2c_i1;
-    w2c_i1 = 4294951792u;
-    w2c_i0 += w2c_i1;
-    w2c_i1 = 255u;
-    w2c_i0 = w2c_i0 > w2c_i1;
-    if (w2c_i0) {goto w2c_B1;}
-    w2c_B9:;
-    w2c_j0 = w2c_l3;
-    w2c_j1 = w2c_l5;
-    w2c_j0 += w2c_j1;
-    w2c_l3 = w2c_j0;
-    w2c_j0 = w2c_p0;
-    w2c_j1 = w2c_l5;
-    w2c_j0 -= w2c_j1;
-    w2c_p0 = w2c_j0;
-    w2c_j1 = 0ull;
-    w2c_i0 = w2c_j0 != w2c_j1;
-    if (w2c_i0) {goto w2c_L8;}
+  if (w2c_i0) {goto w2c_B1;}
   w2c_B2:;
-  w2c_i0 = 9u;
-  w2c_l18 = w2c_i0;
   w2c_j0 = w2c_p1;
   w2c_i0 = !(w2c_j0);
-  if (w2c_i0) {goto w2c_B1;}
+  if (w2c_i0) {goto w2c_B8;}
   w2c_j0 = w2c_p2;
   w2c_j1 = 8ull;
   w2c_j0 += w2c_j1;
   w2c_l6 = w2c_j0;
   w2c_i0 = 0u;
-  w2c_l19 = w2c_i0;
+  w2c_l16 = w2c_i0;
   w2c_j0 = 0ull;
   w2c_l7 = w2c_j0;
   w2c_j0 = 18446744073709551613ull;
-  w2c_l3 = w2c_j0;
+  w2c_l4 = w2c_j0;
   w2c_j0 = w2c_p1;
   w2c_l8 = w2c_j0;
-  w2c_j0 = w2c_l4;
+  w2c_j0 = w2c_l5;
   w2c_p0 = w2c_j0;
   w2c_j0 = 0ull;
   w2c_l9 = w2c_j0;
@@ -49444,63 +48571,63 @@ static u32 w2c_f70(module *m, u64 w2c_p0, u64 w2c_p1, u64 w2c_p2) {
   w2c_j0 = 0ull;
   w2c_l11 = w2c_j0;
   w2c_i0 = 0u;
-  w2c_l14 = w2c_i0;
-  w2c_i0 = 0u;
-  w2c_l20 = w2c_i0;
-  w2c_i0 = 0u;
   w2c_l15 = w2c_i0;
-  w2c_L21:
-    w2c_i0 = w2c_l14;
-    w2c_l17 = w2c_i0;
+  w2c_i0 = 0u;
+  w2c_l17 = w2c_i0;
+  w2c_i0 = 0u;
+  w2c_l18 = w2c_i0;
+  w2c_L9:
+    w2c_i0 = w2c_l15;
+    w2c_l19 = w2c_i0;
     w2c_j0 = w2c_p0;
     w2c_i0 = (u32)(w2c_j0);
     w2c_i0 = i32_load8_s(m, (u64)(w2c_i0));
-    w2c_l16 = w2c_i0;
+    w2c_l20 = w2c_i0;
     w2c_i1 = 255u;
     w2c_i0 &= w2c_i1;
-    w2c_l14 = w2c_i0;
+    w2c_l15 = w2c_i0;
     w2c_j0 = 1ull;
-    w2c_l5 = w2c_j0;
-    w2c_i0 = w2c_l16;
+    w2c_l12 = w2c_j0;
+    w2c_i0 = w2c_l20;
     w2c_i1 = 4294967295u;
     w2c_i0 = (u32)((s32)w2c_i0 > (s32)w2c_i1);
-    if (w2c_i0) {goto w2c_B22;}
+    if (w2c_i0) {goto w2c_B10;}
     w2c_j0 = w2c_p0;
     w2c_i0 = (u32)(w2c_j0);
     w2c_i0 = i32_load8_u(m, (u64)(w2c_i0) + 1u);
     w2c_i1 = 63u;
     w2c_i0 &= w2c_i1;
     w2c_l21 = w2c_i0;
-    w2c_i0 = w2c_l16;
+    w2c_i0 = w2c_l20;
     w2c_i1 = 4294967263u;
     w2c_i0 = w2c_i0 > w2c_i1;
-    if (w2c_i0) {goto w2c_B23;}
-    w2c_i0 = w2c_l14;
+    if (w2c_i0) {goto w2c_B11;}
+    w2c_i0 = w2c_l15;
     w2c_i1 = 6u;
     w2c_i0 <<= (w2c_i1 & 31);
     w2c_i1 = 1984u;
     w2c_i0 &= w2c_i1;
     w2c_i1 = w2c_l21;
     w2c_i0 |= w2c_i1;
-    w2c_l14 = w2c_i0;
+    w2c_l15 = w2c_i0;
     w2c_j0 = 2ull;
-    w2c_l5 = w2c_j0;
-    goto w2c_B22;
-    w2c_B23:;
+    w2c_l12 = w2c_j0;
+    goto w2c_B10;
+    w2c_B11:;
     w2c_j0 = w2c_p0;
     w2c_i0 = (u32)(w2c_j0);
     w2c_i0 = i32_load8_u(m, (u64)(w2c_i0) + 2u);
     w2c_i1 = 63u;
     w2c_i0 &= w2c_i1;
     w2c_l22 = w2c_i0;
-    w2c_i0 = w2c_l16;
+    w2c_i0 = w2c_l20;
     w2c_i1 = 4294967279u;
     w2c_i0 = w2c_i0 > w2c_i1;
-    if (w2c_i0) {goto w2c_B24;}
+    if (w2c_i0) {goto w2c_B12;}
     w2c_i0 = w2c_l21;
     w2c_i1 = 6u;
     w2c_i0 <<= (w2c_i1 & 31);
-    w2c_i1 = w2c_l14;
+    w2c_i1 = w2c_l15;
     w2c_i2 = 12u;
     w2c_i1 <<= (w2c_i2 & 31);
     w2c_i2 = 61440u;
@@ -49508,18 +48635,18 @@ static u32 w2c_f70(module *m, u64 w2c_p0, u64 w2c_p1, u64 w2c_p2) {
     w2c_i0 |= w2c_i1;
     w2c_i1 = w2c_l22;
     w2c_i0 |= w2c_i1;
-    w2c_l14 = w2c_i0;
+    w2c_l15 = w2c_i0;
     w2c_j0 = 3ull;
-    w2c_l5 = w2c_j0;
-    goto w2c_B22;
-    w2c_B24:;
+    w2c_l12 = w2c_j0;
+    goto w2c_B10;
+    w2c_B12:;
     w2c_i0 = w2c_l22;
     w2c_i1 = 6u;
     w2c_i0 <<= (w2c_i1 & 31);
     w2c_i1 = w2c_l21;
     w2c_i2 = 12u;
     w2c_i1 <<= (w2c_i2 & 31);
-    w2c_i2 = w2c_l14;
+    w2c_i2 = w2c_l15;
     w2c_i3 = 18u;
     w2c_i2 <<= (w2c_i3 & 31);
     w2c_i3 = 1835008u;
@@ -49532,41 +48659,41 @@ static u32 w2c_f70(module *m, u64 w2c_p0, u64 w2c_p1, u64 w2c_p2) {
     w2c_i2 = 63u;
     w2c_i1 &= w2c_i2;
     w2c_i0 |= w2c_i1;
-    w2c_l14 = w2c_i0;
+    w2c_l15 = w2c_i0;
     w2c_j0 = 4ull;
-    w2c_l5 = w2c_j0;
-    w2c_B22:;
+    w2c_l12 = w2c_j0;
+    w2c_B10:;
     w2c_i0 = 2u;
     w2c_i1 = 1u;
-    w2c_i2 = w2c_l14;
+    w2c_i2 = w2c_l15;
     w2c_i3 = 36000u;
     w2c_i2 = w2c_i2 == w2c_i3;
-    w2c_i3 = w2c_l14;
+    w2c_i3 = w2c_l15;
     w2c_i4 = 36127u;
     w2c_i3 = w2c_i3 == w2c_i4;
     w2c_i2 |= w2c_i3;
     w2c_i0 = w2c_i2 ? w2c_i0 : w2c_i1;
-    w2c_l16 = w2c_i0;
-    w2c_i0 = w2c_l15;
+    w2c_l20 = w2c_i0;
+    w2c_i0 = w2c_l18;
     w2c_i1 = 255u;
     w2c_i0 &= w2c_i1;
     w2c_l21 = w2c_i0;
-    if (w2c_i0) {goto w2c_B26;}
-    w2c_i0 = w2c_l14;
+    if (w2c_i0) {goto w2c_B14;}
+    w2c_i0 = w2c_l15;
     w2c_i1 = 36000u;
     w2c_i0 = w2c_i0 != w2c_i1;
-    w2c_i1 = w2c_l14;
+    w2c_i1 = w2c_l15;
     w2c_i2 = 36127u;
     w2c_i1 = w2c_i1 != w2c_i2;
     w2c_i0 &= w2c_i1;
-    if (w2c_i0) {goto w2c_B26;}
-    w2c_i0 = w2c_l16;
+    if (w2c_i0) {goto w2c_B14;}
+    w2c_i0 = w2c_l20;
+    w2c_l18 = w2c_i0;
+    w2c_i0 = w2c_l19;
     w2c_l15 = w2c_i0;
-    w2c_i0 = w2c_l17;
-    w2c_l14 = w2c_i0;
-    goto w2c_B25;
-    w2c_B26:;
-    w2c_i0 = w2c_l14;
+    goto w2c_B13;
+    w2c_B14:;
+    w2c_i0 = w2c_l15;
     w2c_i1 = 3227u;
     w2c_i0 *= w2c_i1;
     w2c_i1 = 7u;
@@ -49574,13 +48701,13 @@ static u32 w2c_f70(module *m, u64 w2c_p0, u64 w2c_p1, u64 w2c_p2) {
     w2c_j0 = (u64)(w2c_i0);
     w2c_j1 = 504ull;
     w2c_j0 &= w2c_j1;
-    w2c_l12 = w2c_j0;
+    w2c_l13 = w2c_j0;
     w2c_i0 = (u32)(w2c_j0);
     w2c_i0 = i32_load(m, (u64)(w2c_i0) + 66332u);
-    w2c_i1 = w2c_l14;
+    w2c_i1 = w2c_l15;
     w2c_i0 = w2c_i0 != w2c_i1;
-    if (w2c_i0) {goto w2c_B33;}
-    w2c_j0 = w2c_l12;
+    if (w2c_i0) {goto w2c_B21;}
+    w2c_j0 = w2c_l13;
     w2c_j1 = 66336ull;
     w2c_j0 += w2c_j1;
     w2c_i0 = (u32)(w2c_j0);
@@ -49589,380 +48716,563 @@ static u32 w2c_f70(module *m, u64 w2c_p0, u64 w2c_p1, u64 w2c_p2) {
     w2c_i0 &= w2c_i1;
     w2c_i1 = 1u;
     w2c_i0 = w2c_i0 != w2c_i1;
-    if (w2c_i0) {goto w2c_B33;}
-    w2c_i0 = w2c_l15;
-    w2c_i1 = w2c_l16;
+    if (w2c_i0) {goto w2c_B21;}
+    w2c_i0 = w2c_l18;
+    w2c_i1 = w2c_l20;
     w2c_i2 = w2c_l21;
     w2c_i0 = w2c_i2 ? w2c_i0 : w2c_i1;
-    w2c_l15 = w2c_i0;
-    w2c_j0 = w2c_l12;
+    w2c_l18 = w2c_i0;
+    w2c_j0 = w2c_l13;
     w2c_j1 = 66338ull;
     w2c_j0 += w2c_j1;
     w2c_i0 = (u32)(w2c_j0);
     w2c_j0 = i64_load8_u(m, (u64)(w2c_i0));
-    w2c_l13 = w2c_j0;
-    w2c_j0 = w2c_l12;
+    w2c_l14 = w2c_j0;
+    w2c_j0 = w2c_l13;
     w2c_j1 = 66337ull;
     w2c_j0 += w2c_j1;
     w2c_i0 = (u32)(w2c_j0);
     w2c_i0 = i32_load8_u(m, (u64)(w2c_i0));
-    w2c_l16 = w2c_i0;
-    w2c_i0 = w2c_l20;
+    w2c_l20 = w2c_i0;
+    w2c_i0 = w2c_l17;
     w2c_j0 = (u64)(w2c_i0);
     w2c_j1 = 255ull;
     w2c_j0 &= w2c_j1;
     w2c_i0 = (u32)(w2c_j0);
-    w2c_l14 = w2c_i0;
+    w2c_l15 = w2c_i0;
     switch (w2c_i0) {
-      case 0: goto w2c_B49;
-      case 1: goto w2c_B49;
-      case 2: goto w2c_B49;
-      case 3: goto w2c_B49;
-      case 4: goto w2c_B49;
-      case 5: goto w2c_B57;
-      case 6: goto w2c_B56;
-      case 7: goto w2c_B55;
-      case 8: goto w2c_B54;
-      case 9: goto w2c_B53;
-      case 10: goto w2c_B52;
-      case 11: goto w2c_B51;
-      case 12: goto w2c_B50;
-      case 13: goto w2c_B49;
-      case 14: goto w2c_B49;
-      case 15: goto w2c_B49;
-      case 16: goto w2c_B49;
-      case 17: goto w2c_B49;
-      case 18: goto w2c_B49;
-      case 19: goto w2c_B49;
-      default: goto w2c_B49;
+      case 0: goto w2c_B37;
+      case 1: goto w2c_B37;
+      case 2: goto w2c_B37;
+      case 3: goto w2c_B37;
+      case 4: goto w2c_B37;
+      case 5: goto w2c_B45;
+      case 6: goto w2c_B44;
+      case 7: goto w2c_B43;
+      case 8: goto w2c_B42;
+      case 9: goto w2c_B41;
+      case 10: goto w2c_B40;
+      case 11: goto w2c_B39;
+      case 12: goto w2c_B38;
+      case 13: goto w2c_B37;
+      case 14: goto w2c_B37;
+      case 15: goto w2c_B37;
+      case 16: goto w2c_B37;
+      case 17: goto w2c_B37;
+      case 18: goto w2c_B37;
+      case 19: goto w2c_B37;
+      default: goto w2c_B37;
     }
-    w2c_B57:;
+    w2c_B45:;
     w2c_i0 = 1u;
-    w2c_i1 = w2c_l16;
+    w2c_i1 = w2c_l20;
     w2c_i0 <<= (w2c_i1 & 31);
     w2c_i1 = 31999u;
     w2c_i0 &= w2c_i1;
-    if (w2c_i0) {goto w2c_B58;}
-    w2c_i0 = w2c_l16;
+    if (w2c_i0) {goto w2c_B46;}
+    w2c_i0 = w2c_l20;
     w2c_i1 = 8u;
     w2c_i0 = w2c_i0 == w2c_i1;
-    if (w2c_i0) {goto w2c_B38;}
-    goto w2c_B36;
-    w2c_B58:;
-    w2c_i0 = w2c_l16;
+    if (w2c_i0) {goto w2c_B26;}
+    goto w2c_B24;
+    w2c_B46:;
+    w2c_i0 = w2c_l20;
     w2c_i1 = 4294967291u;
     w2c_i0 += w2c_i1;
     w2c_i1 = 10u;
     w2c_i0 = w2c_i0 < w2c_i1;
-    if (w2c_i0) {goto w2c_B59;}
+    if (w2c_i0) {goto w2c_B47;}
     w2c_i0 = 0u;
-    w2c_l14 = w2c_i0;
-    w2c_i0 = w2c_l16;
+    w2c_l15 = w2c_i0;
+    w2c_i0 = w2c_l20;
     switch (w2c_i0) {
-      case 0: goto w2c_B59;
-      case 1: goto w2c_B59;
-      case 2: goto w2c_B44;
-      case 3: goto w2c_B42;
-      case 4: goto w2c_B32;
-      default: goto w2c_B59;
+      case 0: goto w2c_B47;
+      case 1: goto w2c_B47;
+      case 2: goto w2c_B32;
+      case 3: goto w2c_B30;
+      case 4: goto w2c_B20;
+      default: goto w2c_B47;
     }
-    w2c_B59:;
+    w2c_B47:;
     w2c_i0 = 0u;
-    w2c_l14 = w2c_i0;
+    w2c_l15 = w2c_i0;
     w2c_i0 = 6u;
-    w2c_l20 = w2c_i0;
-    w2c_i0 = w2c_l16;
+    w2c_l17 = w2c_i0;
+    w2c_i0 = w2c_l20;
     switch (w2c_i0) {
-      case 0: goto w2c_B33;
-      case 1: goto w2c_B33;
-      case 2: goto w2c_B33;
-      case 3: goto w2c_B33;
-      case 4: goto w2c_B33;
-      case 5: goto w2c_B27;
-      case 6: goto w2c_B40;
-      case 7: goto w2c_B31;
-      case 8: goto w2c_B33;
-      case 9: goto w2c_B33;
-      case 10: goto w2c_B33;
-      case 11: goto w2c_B33;
-      case 12: goto w2c_B33;
-      case 13: goto w2c_B33;
-      case 14: goto w2c_B33;
-      default: goto w2c_B33;
+      case 0: goto w2c_B21;
+      case 1: goto w2c_B21;
+      case 2: goto w2c_B21;
+      case 3: goto w2c_B21;
+      case 4: goto w2c_B21;
+      case 5: goto w2c_B15;
+      case 6: goto w2c_B28;
+      case 7: goto w2c_B19;
+      case 8: goto w2c_B21;
+      case 9: goto w2c_B21;
+      case 10: goto w2c_B21;
+      case 11: goto w2c_B21;
+      case 12: goto w2c_B21;
+      case 13: goto w2c_B21;
+      case 14: goto w2c_B21;
+      default: goto w2c_B21;
     }
-    w2c_B56:;
+    w2c_B44:;
     w2c_i0 = 3u;
     w2c_l22 = w2c_i0;
     w2c_i0 = 10u;
     w2c_l21 = w2c_i0;
-    w2c_i0 = w2c_l16;
+    w2c_i0 = w2c_l20;
     w2c_l23 = w2c_i0;
-    w2c_i0 = w2c_l16;
+    w2c_i0 = w2c_l20;
     switch (w2c_i0) {
-      case 0: goto w2c_B61;
-      case 1: goto w2c_B48;
-      case 2: goto w2c_B60;
-      case 3: goto w2c_B60;
-      case 4: goto w2c_B60;
-      case 5: goto w2c_B33;
-      case 6: goto w2c_B60;
-      case 7: goto w2c_B60;
-      case 8: goto w2c_B60;
-      case 9: goto w2c_B60;
-      case 10: goto w2c_B60;
-      case 11: goto w2c_B60;
-      case 12: goto w2c_B60;
-      case 13: goto w2c_B60;
-      case 14: goto w2c_B60;
-      default: goto w2c_B61;
+      case 0: goto w2c_B49;
+      case 1: goto w2c_B36;
+      case 2: goto w2c_B48;
+      case 3: goto w2c_B48;
+      case 4: goto w2c_B48;
+      case 5: goto w2c_B21;
+      case 6: goto w2c_B48;
+      case 7: goto w2c_B48;
+      case 8: goto w2c_B48;
+      case 9: goto w2c_B48;
+      case 10: goto w2c_B48;
+      case 11: goto w2c_B48;
+      case 12: goto w2c_B48;
+      case 13: goto w2c_B48;
+      case 14: goto w2c_B48;
+      default: goto w2c_B49;
     }
-    w2c_B61:;
-    w2c_i0 = w2c_l17;
+    w2c_B49:;
+    w2c_i0 = w2c_l19;
     w2c_i1 = 2u;
     w2c_i0 |= w2c_i1;
-    w2c_l19 = w2c_i0;
+    w2c_l16 = w2c_i0;
     w2c_i0 = 1u;
-    w2c_l14 = w2c_i0;
+    w2c_l15 = w2c_i0;
     w2c_i0 = 9u;
-    w2c_l20 = w2c_i0;
-    goto w2c_B25;
-    w2c_B60:;
+    w2c_l17 = w2c_i0;
+    goto w2c_B13;
+    w2c_B48:;
     w2c_i0 = 1u;
-    w2c_l14 = w2c_i0;
-    w2c_i0 = w2c_l16;
+    w2c_l15 = w2c_i0;
+    w2c_i0 = w2c_l20;
     w2c_i1 = 6u;
     w2c_i0 = w2c_i0 == w2c_i1;
-    if (w2c_i0) {goto w2c_B40;}
-    w2c_i0 = w2c_l16;
+    if (w2c_i0) {goto w2c_B28;}
+    w2c_i0 = w2c_l20;
     w2c_i1 = 7u;
     w2c_i0 = w2c_i0 == w2c_i1;
-    if (w2c_i0) {goto w2c_B31;}
-    goto w2c_B33;
-    w2c_B55:;
+    if (w2c_i0) {goto w2c_B19;}
+    goto w2c_B21;
+    w2c_B43:;
     w2c_i0 = 3u;
     w2c_l22 = w2c_i0;
     w2c_i0 = 4u;
     w2c_l23 = w2c_i0;
     w2c_i0 = 10u;
     w2c_l21 = w2c_i0;
-    w2c_i0 = w2c_l16;
+    w2c_i0 = w2c_l20;
     switch (w2c_i0) {
-      case 0: goto w2c_B63;
-      case 1: goto w2c_B48;
-      case 2: goto w2c_B62;
-      case 3: goto w2c_B62;
-      case 4: goto w2c_B62;
-      case 5: goto w2c_B33;
-      case 6: goto w2c_B62;
-      case 7: goto w2c_B62;
-      case 8: goto w2c_B62;
-      case 9: goto w2c_B62;
-      case 10: goto w2c_B62;
-      case 11: goto w2c_B62;
-      case 12: goto w2c_B62;
-      case 13: goto w2c_B62;
-      case 14: goto w2c_B62;
-      default: goto w2c_B63;
+      case 0: goto w2c_B51;
+      case 1: goto w2c_B36;
+      case 2: goto w2c_B50;
+      case 3: goto w2c_B50;
+      case 4: goto w2c_B50;
+      case 5: goto w2c_B21;
+      case 6: goto w2c_B50;
+      case 7: goto w2c_B50;
+      case 8: goto w2c_B50;
+      case 9: goto w2c_B50;
+      case 10: goto w2c_B50;
+      case 11: goto w2c_B50;
+      case 12: goto w2c_B50;
+      case 13: goto w2c_B50;
+      case 14: goto w2c_B50;
+      default: goto w2c_B51;
     }
-    w2c_B63:;
+    w2c_B51:;
     w2c_i0 = 3u;
-    w2c_l19 = w2c_i0;
-    w2c_i0 = w2c_l17;
+    w2c_l16 = w2c_i0;
+    w2c_i0 = w2c_l19;
     w2c_i1 = 3u;
     w2c_i0 ^= w2c_i1;
-    w2c_l14 = w2c_i0;
+    w2c_l15 = w2c_i0;
     w2c_i0 = 9u;
-    w2c_l20 = w2c_i0;
-    goto w2c_B25;
-    w2c_B62:;
+    w2c_l17 = w2c_i0;
+    goto w2c_B13;
+    w2c_B50:;
     w2c_i0 = 1u;
-    w2c_l14 = w2c_i0;
+    w2c_l15 = w2c_i0;
     w2c_i0 = 8u;
-    w2c_l20 = w2c_i0;
-    w2c_i0 = w2c_l16;
+    w2c_l17 = w2c_i0;
+    w2c_i0 = w2c_l20;
     w2c_i1 = 5u;
     w2c_i0 = w2c_i0 == w2c_i1;
-    if (w2c_i0) {goto w2c_B27;}
-    w2c_i0 = w2c_l16;
+    if (w2c_i0) {goto w2c_B15;}
+    w2c_i0 = w2c_l20;
     w2c_i1 = 7u;
     w2c_i0 = w2c_i0 == w2c_i1;
-    if (w2c_i0) {goto w2c_B31;}
-    goto w2c_B33;
-    w2c_B54:;
+    if (w2c_i0) {goto w2c_B19;}
+    goto w2c_B21;
+    w2c_B42:;
     w2c_i0 = 1u;
-    w2c_l14 = w2c_i0;
+    w2c_l15 = w2c_i0;
     w2c_i0 = 3u;
     w2c_l22 = w2c_i0;
     w2c_i0 = 5u;
     w2c_l23 = w2c_i0;
     w2c_i0 = 10u;
     w2c_l21 = w2c_i0;
-    w2c_i0 = w2c_l16;
+    w2c_i0 = w2c_l20;
     switch (w2c_i0) {
-      case 0: goto w2c_B64;
-      case 1: goto w2c_B48;
-      case 2: goto w2c_B33;
-      case 3: goto w2c_B33;
-      case 4: goto w2c_B33;
-      case 5: goto w2c_B33;
-      case 6: goto w2c_B33;
-      case 7: goto w2c_B31;
-      case 8: goto w2c_B33;
-      case 9: goto w2c_B33;
-      case 10: goto w2c_B33;
-      case 11: goto w2c_B33;
-      case 12: goto w2c_B33;
-      case 13: goto w2c_B33;
-      case 14: goto w2c_B33;
-      default: goto w2c_B64;
+      case 0: goto w2c_B52;
+      case 1: goto w2c_B36;
+      case 2: goto w2c_B21;
+      case 3: goto w2c_B21;
+      case 4: goto w2c_B21;
+      case 5: goto w2c_B21;
+      case 6: goto w2c_B21;
+      case 7: goto w2c_B19;
+      case 8: goto w2c_B21;
+      case 9: goto w2c_B21;
+      case 10: goto w2c_B21;
+      case 11: goto w2c_B21;
+      case 12: goto w2c_B21;
+      case 13: goto w2c_B21;
+      case 14: goto w2c_B21;
+      default: goto w2c_B52;
     }
-    w2c_B64:;
-    w2c_i0 = w2c_l17;
-    w2c_i1 = 2u;
-    w2c_i0 |= w2c_i1;
-    w2c_l19 = w2c_i0;
-    w2c_i0 = 5u;
-    w2c_l14 = w2c_i0;
-    w2c_i0 = 9u;
-    w2c_l20 = w2c_i0;
-    goto w2c_B25;
-    w2c_B53:;
-    w2c_i0 = w2c_l16;
-    w2c_i1 = 1u;
-    w2c_i0 = w2c_i0 != w2c_i1;
-    if (w2c_i0) {goto w2c_B33;}
-    w2c_i0 = 11u;
-    w2c_l21 = w2c_i0;
-    w2c_i0 = w2c_l17;
-    w2c_l23 = w2c_i0;
-    w2c_i0 = w2c_l19;
-    w2c_l22 = w2c_i0;
-    goto w2c_B48;
     w2c_B52:;
     w2c_i0 = w2c_l19;
-    w2c_j0 = (u64)(w2c_i0);
-    w2c_j1 = 255ull;
-    w2c_j0 &= w2c_j1;
-    w2c_i0 = (u32)(w2c_j0);
-    switch (w2c_i0) {
-      case 0: goto w2c_B65;
-      case 1: goto w2c_B45;
-      case 2: goto w2c_B43;
-      case 3: goto w2c_B34;
-      default: goto w2c_B65;
-    }
-    w2c_B65:;
-    w2c_i0 = w2c_l17;
-    w2c_j0 = (u64)(w2c_i0);
-    w2c_j1 = 255ull;
-    w2c_j0 &= w2c_j1;
-    w2c_i0 = (u32)(w2c_j0);
-    switch (w2c_i0) {
-      case 0: goto w2c_B70;
-      case 1: goto w2c_B67;
-      case 2: goto w2c_B69;
-      case 3: goto w2c_B69;
-      case 4: goto w2c_B68;
-      case 5: goto w2c_B66;
-      default: goto w2c_B70;
-    }
-    w2c_B70:;
-    w2c_i0 = 0u;
-    w2c_l14 = w2c_i0;
-    w2c_i0 = 6u;
-    w2c_l20 = w2c_i0;
+    w2c_i1 = 2u;
+    w2c_i0 |= w2c_i1;
+    w2c_l16 = w2c_i0;
+    w2c_i0 = 5u;
+    w2c_l15 = w2c_i0;
+    w2c_i0 = 9u;
+    w2c_l17 = w2c_i0;
+    goto w2c_B13;
+    w2c_B41:;
+    w2c_i0 = w2c_l20;
+    w2c_i1 = 1u;
+    w2c_i0 = w2c_i0 != w2c_i1;
+    if (w2c_i0) {goto w2c_B21;}
+    w2c_i0 = 11u;
+    w2c_l21 = w2c_i0;
+    w2c_i0 = w2c_l19;
+    w2c_l23 = w2c_i0;
     w2c_i0 = w2c_l16;
+    w2c_l22 = w2c_i0;
+    goto w2c_B36;
+    w2c_B40:;
+    w2c_i0 = w2c_l16;
+    w2c_j0 = (u64)(w2c_i0);
+    w2c_j1 = 255ull;
+    w2c_j0 &= w2c_j1;
+    w2c_i0 = (u32)(w2c_j0);
     switch (w2c_i0) {
-      case 0: goto w2c_B33;
+      case 0: goto w2c_B53;
       case 1: goto w2c_B33;
-      case 2: goto w2c_B33;
-      case 3: goto w2c_B33;
-      case 4: goto w2c_B33;
-      case 5: goto w2c_B27;
-      case 6: goto w2c_B40;
-      case 7: goto w2c_B31;
-      case 8: goto w2c_B33;
-      case 9: goto w2c_B33;
-      case 10: goto w2c_B33;
-      case 11: goto w2c_B33;
-      case 12: goto w2c_B33;
-      case 13: goto w2c_B33;
-      case 14: goto w2c_B33;
-      default: goto w2c_B33;
+      case 2: goto w2c_B31;
+      case 3: goto w2c_B22;
+      default: goto w2c_B53;
     }
-    w2c_B69:;
-    w2c_i0 = 0u;
-    w2c_l14 = w2c_i0;
-    w2c_i0 = 8u;
-    w2c_l20 = w2c_i0;
-    w2c_i0 = w2c_l16;
-    w2c_i1 = 5u;
-    w2c_i0 = w2c_i0 == w2c_i1;
-    if (w2c_i0) {goto w2c_B27;}
-    w2c_i0 = w2c_l16;
-    w2c_i1 = 7u;
-    w2c_i0 = w2c_i0 == w2c_i1;
-    if (w2c_i0) {goto w2c_B31;}
-    goto w2c_B33;
-    w2c_B68:;
-    w2c_i0 = w2c_l16;
-    w2c_i1 = 5u;
-    w2c_i0 = w2c_i0 != w2c_i1;
-    if (w2c_i0) {goto w2c_B33;}
-    goto w2c_B29;
-    w2c_B67:;
-    w2c_i0 = 0u;
-    w2c_l14 = w2c_i0;
-    w2c_i0 = w2c_l16;
-    w2c_i1 = 6u;
-    w2c_i0 = w2c_i0 == w2c_i1;
-    if (w2c_i0) {goto w2c_B40;}
-    w2c_i0 = w2c_l16;
-    w2c_i1 = 7u;
-    w2c_i0 = w2c_i0 == w2c_i1;
-    if (w2c_i0) {goto w2c_B31;}
-    goto w2c_B33;
-    w2c_B66:;
-    w2c_i0 = w2c_l16;
-    w2c_i1 = 7u;
-    w2c_i0 = w2c_i0 != w2c_i1;
-    if (w2c_i0) {goto w2c_B33;}
-    w2c_i0 = 0u;
-    w2c_l14 = w2c_i0;
-    goto w2c_B31;
-    w2c_B51:;
+    w2c_B53:;
     w2c_i0 = w2c_l19;
     w2c_j0 = (u64)(w2c_i0);
     w2c_j1 = 255ull;
     w2c_j0 &= w2c_j1;
     w2c_i0 = (u32)(w2c_j0);
     switch (w2c_i0) {
-      case 0: goto w2c_B71;
-      case 1: goto w2c_B72;
-      case 2: goto w2c_B73;
-      case 3: goto w2c_B74;
-      default: goto w2c_B71;
+      case 0: goto w2c_B58;
+      case 1: goto w2c_B55;
+      case 2: goto w2c_B57;
+      case 3: goto w2c_B57;
+      case 4: goto w2c_B56;
+      case 5: goto w2c_B54;
+      default: goto w2c_B58;
     }
-    w2c_B74:;
+    w2c_B58:;
+    w2c_i0 = 0u;
+    w2c_l15 = w2c_i0;
+    w2c_i0 = 6u;
+    w2c_l17 = w2c_i0;
+    w2c_i0 = w2c_l20;
+    switch (w2c_i0) {
+      case 0: goto w2c_B21;
+      case 1: goto w2c_B21;
+      case 2: goto w2c_B21;
+      case 3: goto w2c_B21;
+      case 4: goto w2c_B21;
+      case 5: goto w2c_B15;
+      case 6: goto w2c_B28;
+      case 7: goto w2c_B19;
+      case 8: goto w2c_B21;
+      case 9: goto w2c_B21;
+      case 10: goto w2c_B21;
+      case 11: goto w2c_B21;
+      case 12: goto w2c_B21;
+      case 13: goto w2c_B21;
+      case 14: goto w2c_B21;
+      default: goto w2c_B21;
+    }
+    w2c_B57:;
+    w2c_i0 = 0u;
+    w2c_l15 = w2c_i0;
+    w2c_i0 = 8u;
+    w2c_l17 = w2c_i0;
+    w2c_i0 = w2c_l20;
+    w2c_i1 = 5u;
+    w2c_i0 = w2c_i0 == w2c_i1;
+    if (w2c_i0) {goto w2c_B15;}
+    w2c_i0 = w2c_l20;
+    w2c_i1 = 7u;
+    w2c_i0 = w2c_i0 == w2c_i1;
+    if (w2c_i0) {goto w2c_B19;}
+    goto w2c_B21;
+    w2c_B56:;
+    w2c_i0 = w2c_l20;
+    w2c_i1 = 5u;
+    w2c_i0 = w2c_i0 != w2c_i1;
+    if (w2c_i0) {goto w2c_B21;}
+    goto w2c_B17;
+    w2c_B55:;
+    w2c_i0 = 0u;
+    w2c_l15 = w2c_i0;
+    w2c_i0 = w2c_l20;
+    w2c_i1 = 6u;
+    w2c_i0 = w2c_i0 == w2c_i1;
+    if (w2c_i0) {goto w2c_B28;}
+    w2c_i0 = w2c_l20;
+    w2c_i1 = 7u;
+    w2c_i0 = w2c_i0 == w2c_i1;
+    if (w2c_i0) {goto w2c_B19;}
+    goto w2c_B21;
+    w2c_B54:;
+    w2c_i0 = w2c_l20;
+    w2c_i1 = 7u;
+    w2c_i0 = w2c_i0 != w2c_i1;
+    if (w2c_i0) {goto w2c_B21;}
+    w2c_i0 = 0u;
+    w2c_l15 = w2c_i0;
+    goto w2c_B19;
+    w2c_B39:;
     w2c_i0 = w2c_l16;
+    w2c_j0 = (u64)(w2c_i0);
+    w2c_j1 = 255ull;
+    w2c_j0 &= w2c_j1;
+    w2c_i0 = (u32)(w2c_j0);
+    switch (w2c_i0) {
+      case 0: goto w2c_B59;
+      case 1: goto w2c_B60;
+      case 2: goto w2c_B61;
+      case 3: goto w2c_B62;
+      default: goto w2c_B59;
+    }
+    w2c_B62:;
+    w2c_i0 = w2c_l20;
     w2c_i1 = 4294967291u;
     w2c_i0 += w2c_i1;
     w2c_i1 = 10u;
     w2c_i0 = w2c_i0 < w2c_i1;
-    if (w2c_i0) {goto w2c_B75;}
-    w2c_i0 = w2c_l17;
-    w2c_l14 = w2c_i0;
-    w2c_i0 = w2c_l16;
+    if (w2c_i0) {goto w2c_B63;}
+    w2c_i0 = w2c_l19;
+    w2c_l15 = w2c_i0;
+    w2c_i0 = w2c_l20;
     switch (w2c_i0) {
-      case 0: goto w2c_B75;
-      case 1: goto w2c_B75;
-      case 2: goto w2c_B44;
-      case 3: goto w2c_B42;
-      case 4: goto w2c_B41;
-      default: goto w2c_B75;
+      case 0: goto w2c_B63;
+      case 1: goto w2c_B63;
+      case 2: goto w2c_B32;
+      case 3: goto w2c_B30;
+      case 4: goto w2c_B29;
+      default: goto w2c_B63;
     }
+    w2c_B63:;
+    w2c_i0 = w2c_l19;
+    w2c_j0 = (u64)(w2c_i0);
+    w2c_j1 = 255ull;
+    w2c_j0 &= w2c_j1;
+    w2c_i0 = (u32)(w2c_j0);
+    switch (w2c_i0) {
+      case 0: goto w2c_B68;
+      case 1: goto w2c_B65;
+      case 2: goto w2c_B67;
+      case 3: goto w2c_B67;
+      case 4: goto w2c_B66;
+      case 5: goto w2c_B64;
+      default: goto w2c_B68;
+    }
+    w2c_B68:;
+    w2c_i0 = 0u;
+    w2c_l15 = w2c_i0;
+    w2c_i0 = 6u;
+    w2c_l17 = w2c_i0;
+    w2c_i0 = w2c_l20;
+    switch (w2c_i0) {
+      case 0: goto w2c_B21;
+      case 1: goto w2c_B21;
+      case 2: goto w2c_B21;
+      case 3: goto w2c_B21;
+      case 4: goto w2c_B21;
+      case 5: goto w2c_B15;
+      case 6: goto w2c_B28;
+      case 7: goto w2c_B19;
+      case 8: goto w2c_B21;
+      case 9: goto w2c_B21;
+      case 10: goto w2c_B21;
+      case 11: goto w2c_B21;
+      case 12: goto w2c_B21;
+      case 13: goto w2c_B21;
+      case 14: goto w2c_B21;
+      default: goto w2c_B21;
+    }
+    w2c_B67:;
+    w2c_i0 = 0u;
+    w2c_l15 = w2c_i0;
+    w2c_i0 = 8u;
+    w2c_l17 = w2c_i0;
+    w2c_i0 = w2c_l20;
+    w2c_i1 = 5u;
+    w2c_i0 = w2c_i0 == w2c_i1;
+    if (w2c_i0) {goto w2c_B15;}
+    w2c_i0 = w2c_l20;
+    w2c_i1 = 7u;
+    w2c_i0 = w2c_i0 == w2c_i1;
+    if (w2c_i0) {goto w2c_B19;}
+    goto w2c_B21;
+    w2c_B66:;
+    w2c_i0 = w2c_l20;
+    w2c_i1 = 5u;
+    w2c_i0 = w2c_i0 == w2c_i1;
+    if (w2c_i0) {goto w2c_B17;}
+    goto w2c_B21;
+    w2c_B65:;
+    w2c_i0 = 0u;
+    w2c_l15 = w2c_i0;
+    w2c_i0 = w2c_l20;
+    w2c_i1 = 6u;
+    w2c_i0 = w2c_i0 == w2c_i1;
+    if (w2c_i0) {goto w2c_B28;}
+    w2c_i0 = w2c_l20;
+    w2c_i1 = 7u;
+    w2c_i0 = w2c_i0 == w2c_i1;
+    if (w2c_i0) {goto w2c_B19;}
+    goto w2c_B21;
+    w2c_B64:;
+    w2c_i0 = w2c_l20;
+    w2c_i1 = 7u;
+    w2c_i0 = w2c_i0 != w2c_i1;
+    if (w2c_i0) {goto w2c_B21;}
+    w2c_i0 = 0u;
+    w2c_l15 = w2c_i0;
+    goto w2c_B19;
+    w2c_B61:;
+    w2c_i0 = w2c_l20;
+    w2c_i1 = 4294967292u;
+    w2c_i0 += w2c_i1;
+    w2c_i1 = 11u;
+    w2c_i0 = w2c_i0 < w2c_i1;
+    if (w2c_i0) {goto w2c_B69;}
+    w2c_i0 = w2c_l19;
+    w2c_l15 = w2c_i0;
+    w2c_i0 = w2c_l20;
+    switch (w2c_i0) {
+      case 0: goto w2c_B69;
+      case 1: goto w2c_B69;
+      case 2: goto w2c_B32;
+      case 3: goto w2c_B30;
+      default: goto w2c_B69;
+    }
+    w2c_B69:;
+    w2c_i0 = w2c_l19;
+    w2c_j0 = (u64)(w2c_i0);
+    w2c_j1 = 255ull;
+    w2c_j0 &= w2c_j1;
+    w2c_i0 = (u32)(w2c_j0);
+    switch (w2c_i0) {
+      case 0: goto w2c_B74;
+      case 1: goto w2c_B71;
+      case 2: goto w2c_B73;
+      case 3: goto w2c_B73;
+      case 4: goto w2c_B72;
+      case 5: goto w2c_B70;
+      default: goto w2c_B74;
+    }
+    w2c_B74:;
+    w2c_i0 = 0u;
+    w2c_l15 = w2c_i0;
+    w2c_i0 = 6u;
+    w2c_l17 = w2c_i0;
+    w2c_i0 = w2c_l20;
+    switch (w2c_i0) {
+      case 0: goto w2c_B21;
+      case 1: goto w2c_B21;
+      case 2: goto w2c_B21;
+      case 3: goto w2c_B21;
+      case 4: goto w2c_B21;
+      case 5: goto w2c_B15;
+      case 6: goto w2c_B28;
+      case 7: goto w2c_B19;
+      case 8: goto w2c_B21;
+      case 9: goto w2c_B21;
+      case 10: goto w2c_B21;
+      case 11: goto w2c_B21;
+      case 12: goto w2c_B21;
+      case 13: goto w2c_B21;
+      case 14: goto w2c_B21;
+      default: goto w2c_B21;
+    }
+    w2c_B73:;
+    w2c_i0 = 0u;
+    w2c_l15 = w2c_i0;
+    w2c_i0 = 8u;
+    w2c_l17 = w2c_i0;
+    w2c_i0 = w2c_l20;
+    w2c_i1 = 5u;
+    w2c_i0 = w2c_i0 == w2c_i1;
+    if (w2c_i0) {goto w2c_B15;}
+    w2c_i0 = w2c_l20;
+    w2c_i1 = 7u;
+    w2c_i0 = w2c_i0 == w2c_i1;
+    if (w2c_i0) {goto w2c_B19;}
+    goto w2c_B21;
+    w2c_B72:;
+    w2c_i0 = w2c_l20;
+    w2c_i1 = 5u;
+    w2c_i0 = w2c_i0 == w2c_i1;
+    if (w2c_i0) {goto w2c_B17;}
+    goto w2c_B21;
+    w2c_B71:;
+    w2c_i0 = 0u;
+    w2c_l15 = w2c_i0;
+    w2c_i0 = w2c_l20;
+    w2c_i1 = 6u;
+    w2c_i0 = w2c_i0 == w2c_i1;
+    if (w2c_i0) {goto w2c_B28;}
+    w2c_i0 = w2c_l20;
+    w2c_i1 = 7u;
+    w2c_i0 = w2c_i0 == w2c_i1;
+    if (w2c_i0) {goto w2c_B19;}
+    goto w2c_B21;
+    w2c_B70:;
+    w2c_i0 = w2c_l20;
+    w2c_i1 = 7u;
+    w2c_i0 = w2c_i0 != w2c_i1;
+    if (w2c_i0) {goto w2c_B21;}
+    w2c_i0 = 0u;
+    w2c_l15 = w2c_i0;
+    goto w2c_B19;
+    w2c_B60:;
+    w2c_i0 = w2c_l20;
+    w2c_i1 = 2u;
+    w2c_i0 = w2c_i0 != w2c_i1;
+    if (w2c_i0) {goto w2c_B75;}
+    w2c_i0 = w2c_l19;
+    w2c_l15 = w2c_i0;
+    goto w2c_B32;
     w2c_B75:;
-    w2c_i0 = w2c_l17;
+    w2c_i0 = w2c_l19;
     w2c_j0 = (u64)(w2c_i0);
     w2c_j1 = 255ull;
     w2c_j0 &= w2c_j1;
@@ -49978,370 +49288,382 @@ static u32 w2c_f70(module *m, u64 w2c_p0, u64 w2c_p1, u64 w2c_p2) {
     }
     w2c_B80:;
     w2c_i0 = 0u;
-    w2c_l14 = w2c_i0;
+    w2c_l15 = w2c_i0;
     w2c_i0 = 6u;
-    w2c_l20 = w2c_i0;
-    w2c_i0 = w2c_l16;
+    w2c_l17 = w2c_i0;
+    w2c_i0 = w2c_l20;
     switch (w2c_i0) {
-      case 0: goto w2c_B33;
-      case 1: goto w2c_B33;
-      case 2: goto w2c_B33;
-      case 3: goto w2c_B33;
-      case 4: goto w2c_B33;
-      case 5: goto w2c_B27;
-      case 6: goto w2c_B40;
-      case 7: goto w2c_B31;
-      case 8: goto w2c_B33;
-      case 9: goto w2c_B33;
-      case 10: goto w2c_B33;
-      case 11: goto w2c_B33;
-      case 12: goto w2c_B33;
-      case 13: goto w2c_B33;
-      case 14: goto w2c_B33;
-      default: goto w2c_B33;
+      case 0: goto w2c_B21;
+      case 1: goto w2c_B21;
+      case 2: goto w2c_B0;
+      case 3: goto w2c_B21;
+      case 4: goto w2c_B21;
+      case 5: goto w2c_B15;
+      case 6: goto w2c_B28;
+      case 7: goto w2c_B19;
+      case 8: goto w2c_B21;
+      case 9: goto w2c_B21;
+      case 10: goto w2c_B21;
+      case 11: goto w2c_B21;
+      case 12: goto w2c_B21;
+      case 13: goto w2c_B21;
+      case 14: goto w2c_B21;
+      default: goto w2c_B21;
     }
     w2c_B79:;
     w2c_i0 = 0u;
-    w2c_l14 = w2c_i0;
+    w2c_l15 = w2c_i0;
     w2c_i0 = 8u;
-    w2c_l20 = w2c_i0;
-    w2c_i0 = w2c_l16;
+    w2c_l17 = w2c_i0;
+    w2c_i0 = w2c_l20;
     w2c_i1 = 5u;
     w2c_i0 = w2c_i0 == w2c_i1;
-    if (w2c_i0) {goto w2c_B27;}
-    w2c_i0 = w2c_l16;
+    if (w2c_i0) {goto w2c_B15;}
+    w2c_i0 = w2c_l20;
     w2c_i1 = 7u;
     w2c_i0 = w2c_i0 == w2c_i1;
-    if (w2c_i0) {goto w2c_B31;}
-    goto w2c_B33;
+    if (w2c_i0) {goto w2c_B19;}
+    goto w2c_B21;
     w2c_B78:;
-    w2c_i0 = w2c_l16;
+    w2c_i0 = w2c_l20;
     w2c_i1 = 5u;
     w2c_i0 = w2c_i0 == w2c_i1;
-    if (w2c_i0) {goto w2c_B29;}
-    goto w2c_B33;
+    if (w2c_i0) {goto w2c_B17;}
+    goto w2c_B21;
     w2c_B77:;
     w2c_i0 = 0u;
-    w2c_l14 = w2c_i0;
-    w2c_i0 = w2c_l16;
+    w2c_l15 = w2c_i0;
+    w2c_i0 = w2c_l20;
     w2c_i1 = 6u;
     w2c_i0 = w2c_i0 == w2c_i1;
-    if (w2c_i0) {goto w2c_B40;}
-    w2c_i0 = w2c_l16;
+    if (w2c_i0) {goto w2c_B28;}
+    w2c_i0 = w2c_l20;
     w2c_i1 = 7u;
     w2c_i0 = w2c_i0 == w2c_i1;
-    if (w2c_i0) {goto w2c_B31;}
-    goto w2c_B33;
+    if (w2c_i0) {goto w2c_B19;}
+    goto w2c_B21;
     w2c_B76:;
-    w2c_i0 = w2c_l16;
+    w2c_i0 = w2c_l20;
     w2c_i1 = 7u;
     w2c_i0 = w2c_i0 != w2c_i1;
-    if (w2c_i0) {goto w2c_B33;}
+    if (w2c_i0) {goto w2c_B21;}
     w2c_i0 = 0u;
-    w2c_l14 = w2c_i0;
-    goto w2c_B31;
-    w2c_B73:;
-    w2c_i0 = w2c_l16;
-    w2c_i1 = 4294967292u;
-    w2c_i0 += w2c_i1;
-    w2c_i1 = 11u;
-    w2c_i0 = w2c_i0 < w2c_i1;
-    if (w2c_i0) {goto w2c_B81;}
-    w2c_i0 = w2c_l17;
-    w2c_l14 = w2c_i0;
-    w2c_i0 = w2c_l16;
-    switch (w2c_i0) {
-      case 0: goto w2c_B81;
-      case 1: goto w2c_B81;
-      case 2: goto w2c_B44;
-      case 3: goto w2c_B42;
-      default: goto w2c_B81;
-    }
-    w2c_B81:;
-    w2c_i0 = w2c_l17;
-    w2c_j0 = (u64)(w2c_i0);
-    w2c_j1 = 255ull;
-    w2c_j0 &= w2c_j1;
-    w2c_i0 = (u32)(w2c_j0);
-    switch (w2c_i0) {
-      case 0: goto w2c_B86;
-      case 1: goto w2c_B83;
-      case 2: goto w2c_B85;
-      case 3: goto w2c_B85;
-      case 4: goto w2c_B84;
-      case 5: goto w2c_B82;
-      default: goto w2c_B86;
-    }
-    w2c_B86:;
-    w2c_i0 = 0u;
-    w2c_l14 = w2c_i0;
-    w2c_i0 = 6u;
-    w2c_l20 = w2c_i0;
-    w2c_i0 = w2c_l16;
-    switch (w2c_i0) {
-      case 0: goto w2c_B33;
-      case 1: goto w2c_B33;
-      case 2: goto w2c_B33;
-      case 3: goto w2c_B33;
-      case 4: goto w2c_B33;
-      case 5: goto w2c_B27;
-      case 6: goto w2c_B40;
-      case 7: goto w2c_B31;
-      case 8: goto w2c_B33;
-      case 9: goto w2c_B33;
-      case 10: goto w2c_B33;
-      case 11: goto w2c_B33;
-      case 12: goto w2c_B33;
-      case 13: goto w2c_B33;
-      case 14: goto w2c_B33;
-      default: goto w2c_B33;
-    }
-    w2c_B85:;
-    w2c_i0 = 0u;
-    w2c_l14 = w2c_i0;
-    w2c_i0 = 8u;
-    w2c_l20 = w2c_i0;
-    w2c_i0 = w2c_l16;
-    w2c_i1 = 5u;
-    w2c_i0 = w2c_i0 == w2c_i1;
-    if (w2c_i0) {goto w2c_B27;}
-    w2c_i0 = w2c_l16;
-    w2c_i1 = 7u;
-    w2c_i0 = w2c_i0 == w2c_i1;
-    if (w2c_i0) {goto w2c_B31;}
-    goto w2c_B33;
-    w2c_B84:;
-    w2c_i0 = w2c_l16;
-    w2c_i1 = 5u;
-    w2c_i0 = w2c_i0 == w2c_i1;
-    if (w2c_i0) {goto w2c_B29;}
-    goto w2c_B33;
-    w2c_B83:;
-    w2c_i0 = 0u;
-    w2c_l14 = w2c_i0;
-    w2c_i0 = w2c_l16;
-    w2c_i1 = 6u;
-    w2c_i0 = w2c_i0 == w2c_i1;
-    if (w2c_i0) {goto w2c_B40;}
-    w2c_i0 = w2c_l16;
-    w2c_i1 = 7u;
-    w2c_i0 = w2c_i0 == w2c_i1;
-    if (w2c_i0) {goto w2c_B31;}
-    goto w2c_B33;
-    w2c_B82:;
-    w2c_i0 = w2c_l16;
-    w2c_i1 = 7u;
-    w2c_i0 = w2c_i0 != w2c_i1;
-    if (w2c_i0) {goto w2c_B33;}
-    w2c_i0 = 0u;
-    w2c_l14 = w2c_i0;
-    goto w2c_B31;
-    w2c_B72:;
-    w2c_i0 = w2c_l16;
-    w2c_i1 = 2u;
-    w2c_i0 = w2c_i0 != w2c_i1;
-    if (w2c_i0) {goto w2c_B87;}
-    w2c_i0 = w2c_l17;
-    w2c_l14 = w2c_i0;
-    goto w2c_B44;
-    w2c_B87:;
-    w2c_i0 = w2c_l17;
-    w2c_j0 = (u64)(w2c_i0);
-    w2c_j1 = 255ull;
-    w2c_j0 &= w2c_j1;
-    w2c_i0 = (u32)(w2c_j0);
-    switch (w2c_i0) {
-      case 0: goto w2c_B92;
-      case 1: goto w2c_B89;
-      case 2: goto w2c_B91;
-      case 3: goto w2c_B91;
-      case 4: goto w2c_B90;
-      case 5: goto w2c_B88;
-      default: goto w2c_B92;
-    }
-    w2c_B92:;
-    w2c_i0 = 0u;
-    w2c_l14 = w2c_i0;
-    w2c_i0 = 6u;
-    w2c_l20 = w2c_i0;
-    w2c_i0 = w2c_l16;
-    switch (w2c_i0) {
-      case 0: goto w2c_B33;
-      case 1: goto w2c_B33;
-      case 2: goto w2c_B0;
-      case 3: goto w2c_B33;
-      case 4: goto w2c_B33;
-      case 5: goto w2c_B27;
-      case 6: goto w2c_B40;
-      case 7: goto w2c_B31;
-      case 8: goto w2c_B33;
-      case 9: goto w2c_B33;
-      case 10: goto w2c_B33;
-      case 11: goto w2c_B33;
-      case 12: goto w2c_B33;
-      case 13: goto w2c_B33;
-      case 14: goto w2c_B33;
-      default: goto w2c_B33;
-    }
-    w2c_B91:;
-    w2c_i0 = 0u;
-    w2c_l14 = w2c_i0;
-    w2c_i0 = 8u;
-    w2c_l20 = w2c_i0;
-    w2c_i0 = w2c_l16;
-    w2c_i1 = 5u;
-    w2c_i0 = w2c_i0 == w2c_i1;
-    if (w2c_i0) {goto w2c_B27;}
-    w2c_i0 = w2c_l16;
-    w2c_i1 = 7u;
-    w2c_i0 = w2c_i0 == w2c_i1;
-    if (w2c_i0) {goto w2c_B31;}
-    goto w2c_B33;
-    w2c_B90:;
-    w2c_i0 = w2c_l16;
-    w2c_i1 = 5u;
-    w2c_i0 = w2c_i0 == w2c_i1;
-    if (w2c_i0) {goto w2c_B29;}
-    goto w2c_B33;
-    w2c_B89:;
-    w2c_i0 = 0u;
-    w2c_l14 = w2c_i0;
-    w2c_i0 = w2c_l16;
-    w2c_i1 = 6u;
-    w2c_i0 = w2c_i0 == w2c_i1;
-    if (w2c_i0) {goto w2c_B40;}
-    w2c_i0 = w2c_l16;
-    w2c_i1 = 7u;
-    w2c_i0 = w2c_i0 == w2c_i1;
-    if (w2c_i0) {goto w2c_B31;}
-    goto w2c_B33;
-    w2c_B88:;
-    w2c_i0 = w2c_l16;
-    w2c_i1 = 7u;
-    w2c_i0 = w2c_i0 != w2c_i1;
-    if (w2c_i0) {goto w2c_B33;}
-    w2c_i0 = 0u;
-    w2c_l14 = w2c_i0;
-    goto w2c_B31;
-    w2c_B71:;
-    w2c_i0 = w2c_l17;
-    w2c_j0 = (u64)(w2c_i0);
-    w2c_j1 = 255ull;
-    w2c_j0 &= w2c_j1;
-    w2c_i0 = (u32)(w2c_j0);
-    switch (w2c_i0) {
-      case 0: goto w2c_B97;
-      case 1: goto w2c_B94;
-      case 2: goto w2c_B96;
-      case 3: goto w2c_B96;
-      case 4: goto w2c_B95;
-      case 5: goto w2c_B93;
-      default: goto w2c_B97;
-    }
-    w2c_B97:;
-    w2c_i0 = 0u;
-    w2c_l14 = w2c_i0;
-    w2c_i0 = 6u;
-    w2c_l20 = w2c_i0;
-    w2c_i0 = w2c_l16;
-    switch (w2c_i0) {
-      case 0: goto w2c_B33;
-      case 1: goto w2c_B33;
-      case 2: goto w2c_B33;
-      case 3: goto w2c_B33;
-      case 4: goto w2c_B33;
-      case 5: goto w2c_B27;
-      case 6: goto w2c_B40;
-      case 7: goto w2c_B31;
-      case 8: goto w2c_B33;
-      case 9: goto w2c_B33;
-      case 10: goto w2c_B33;
-      case 11: goto w2c_B33;
-      case 12: goto w2c_B33;
-      case 13: goto w2c_B33;
-      case 14: goto w2c_B33;
-      default: goto w2c_B33;
-    }
-    w2c_B96:;
-    w2c_i0 = 0u;
-    w2c_l14 = w2c_i0;
-    w2c_i0 = 8u;
-    w2c_l20 = w2c_i0;
-    w2c_i0 = w2c_l16;
-    w2c_i1 = 5u;
-    w2c_i0 = w2c_i0 == w2c_i1;
-    if (w2c_i0) {goto w2c_B27;}
-    w2c_i0 = w2c_l16;
-    w2c_i1 = 7u;
-    w2c_i0 = w2c_i0 == w2c_i1;
-    if (w2c_i0) {goto w2c_B31;}
-    goto w2c_B33;
-    w2c_B95:;
-    w2c_i0 = w2c_l16;
-    w2c_i1 = 5u;
-    w2c_i0 = w2c_i0 == w2c_i1;
-    if (w2c_i0) {goto w2c_B29;}
-    goto w2c_B33;
-    w2c_B94:;
-    w2c_i0 = 0u;
-    w2c_l14 = w2c_i0;
-    w2c_i0 = w2c_l16;
-    w2c_i1 = 6u;
-    w2c_i0 = w2c_i0 == w2c_i1;
-    if (w2c_i0) {goto w2c_B40;}
-    w2c_i0 = w2c_l16;
-    w2c_i1 = 7u;
-    w2c_i0 = w2c_i0 == w2c_i1;
-    if (w2c_i0) {goto w2c_B31;}
-    goto w2c_B33;
-    w2c_B93:;
-    w2c_i0 = w2c_l16;
-    w2c_i1 = 7u;
-    w2c_i0 = w2c_i0 != w2c_i1;
-    if (w2c_i0) {goto w2c_B33;}
-    w2c_i0 = 0u;
-    w2c_l14 = w2c_i0;
-    goto w2c_B31;
-    w2c_B50:;
+    w2c_l15 = w2c_i0;
+    goto w2c_B19;
+    w2c_B59:;
     w2c_i0 = w2c_l19;
     w2c_j0 = (u64)(w2c_i0);
     w2c_j1 = 255ull;
     w2c_j0 &= w2c_j1;
     w2c_i0 = (u32)(w2c_j0);
     switch (w2c_i0) {
-      case 0: goto w2c_B98;
-      case 1: goto w2c_B99;
-      case 2: goto w2c_B100;
-      case 3: goto w2c_B101;
-      default: goto w2c_B98;
+      case 0: goto w2c_B85;
+      case 1: goto w2c_B82;
+      case 2: goto w2c_B84;
+      case 3: goto w2c_B84;
+      case 4: goto w2c_B83;
+      case 5: goto w2c_B81;
+      default: goto w2c_B85;
     }
-    w2c_B101:;
+    w2c_B85:;
+    w2c_i0 = 0u;
+    w2c_l15 = w2c_i0;
+    w2c_i0 = 6u;
+    w2c_l17 = w2c_i0;
+    w2c_i0 = w2c_l20;
+    switch (w2c_i0) {
+      case 0: goto w2c_B21;
+      case 1: goto w2c_B21;
+      case 2: goto w2c_B21;
+      case 3: goto w2c_B21;
+      case 4: goto w2c_B21;
+      case 5: goto w2c_B15;
+      case 6: goto w2c_B28;
+      case 7: goto w2c_B19;
+      case 8: goto w2c_B21;
+      case 9: goto w2c_B21;
+      case 10: goto w2c_B21;
+      case 11: goto w2c_B21;
+      case 12: goto w2c_B21;
+      case 13: goto w2c_B21;
+      case 14: goto w2c_B21;
+      default: goto w2c_B21;
+    }
+    w2c_B84:;
+    w2c_i0 = 0u;
+    w2c_l15 = w2c_i0;
+    w2c_i0 = 8u;
+    w2c_l17 = w2c_i0;
+    w2c_i0 = w2c_l20;
+    w2c_i1 = 5u;
+    w2c_i0 = w2c_i0 == w2c_i1;
+    if (w2c_i0) {goto w2c_B15;}
+    w2c_i0 = w2c_l20;
+    w2c_i1 = 7u;
+    w2c_i0 = w2c_i0 == w2c_i1;
+    if (w2c_i0) {goto w2c_B19;}
+    goto w2c_B21;
+    w2c_B83:;
+    w2c_i0 = w2c_l20;
+    w2c_i1 = 5u;
+    w2c_i0 = w2c_i0 == w2c_i1;
+    if (w2c_i0) {goto w2c_B17;}
+    goto w2c_B21;
+    w2c_B82:;
+    w2c_i0 = 0u;
+    w2c_l15 = w2c_i0;
+    w2c_i0 = w2c_l20;
+    w2c_i1 = 6u;
+    w2c_i0 = w2c_i0 == w2c_i1;
+    if (w2c_i0) {goto w2c_B28;}
+    w2c_i0 = w2c_l20;
+    w2c_i1 = 7u;
+    w2c_i0 = w2c_i0 == w2c_i1;
+    if (w2c_i0) {goto w2c_B19;}
+    goto w2c_B21;
+    w2c_B81:;
+    w2c_i0 = w2c_l20;
+    w2c_i1 = 7u;
+    w2c_i0 = w2c_i0 != w2c_i1;
+    if (w2c_i0) {goto w2c_B21;}
+    w2c_i0 = 0u;
+    w2c_l15 = w2c_i0;
+    goto w2c_B19;
+    w2c_B38:;
     w2c_i0 = w2c_l16;
+    w2c_j0 = (u64)(w2c_i0);
+    w2c_j1 = 255ull;
+    w2c_j0 &= w2c_j1;
+    w2c_i0 = (u32)(w2c_j0);
+    switch (w2c_i0) {
+      case 0: goto w2c_B86;
+      case 1: goto w2c_B87;
+      case 2: goto w2c_B88;
+      case 3: goto w2c_B89;
+      default: goto w2c_B86;
+    }
+    w2c_B89:;
+    w2c_i0 = w2c_l20;
     w2c_i1 = 4294967294u;
     w2c_i0 += w2c_i1;
     w2c_i1 = 13u;
     w2c_i0 = w2c_i0 < w2c_i1;
-    if (w2c_i0) {goto w2c_B102;}
+    if (w2c_i0) {goto w2c_B90;}
     w2c_i0 = 1u;
-    w2c_l19 = w2c_i0;
+    w2c_l16 = w2c_i0;
     w2c_i0 = 9u;
-    w2c_l20 = w2c_i0;
+    w2c_l17 = w2c_i0;
     w2c_i0 = 2u;
     w2c_l22 = w2c_i0;
     w2c_i0 = 10u;
     w2c_l21 = w2c_i0;
-    w2c_i0 = w2c_l17;
+    w2c_i0 = w2c_l19;
     w2c_l23 = w2c_i0;
-    w2c_i0 = w2c_l17;
-    w2c_l14 = w2c_i0;
-    w2c_i0 = w2c_l16;
+    w2c_i0 = w2c_l19;
+    w2c_l15 = w2c_i0;
+    w2c_i0 = w2c_l20;
     switch (w2c_i0) {
-      case 0: goto w2c_B25;
-      case 1: goto w2c_B48;
-      default: goto w2c_B25;
+      case 0: goto w2c_B13;
+      case 1: goto w2c_B36;
+      default: goto w2c_B13;
     }
+    w2c_B90:;
+    w2c_i0 = w2c_l19;
+    w2c_j0 = (u64)(w2c_i0);
+    w2c_j1 = 255ull;
+    w2c_j0 &= w2c_j1;
+    w2c_i0 = (u32)(w2c_j0);
+    switch (w2c_i0) {
+      case 0: goto w2c_B95;
+      case 1: goto w2c_B92;
+      case 2: goto w2c_B94;
+      case 3: goto w2c_B94;
+      case 4: goto w2c_B93;
+      case 5: goto w2c_B91;
+      default: goto w2c_B95;
+    }
+    w2c_B95:;
+    w2c_i0 = 1u;
+    w2c_l15 = w2c_i0;
+    w2c_i0 = 6u;
+    w2c_l17 = w2c_i0;
+    w2c_i0 = w2c_l20;
+    w2c_i1 = 4294967294u;
+    w2c_i0 += w2c_i1;
+    switch (w2c_i0) {
+      case 0: goto w2c_B21;
+      case 1: goto w2c_B21;
+      case 2: goto w2c_B21;
+      case 3: goto w2c_B15;
+      case 4: goto w2c_B28;
+      case 5: goto w2c_B19;
+      case 6: goto w2c_B21;
+      case 7: goto w2c_B21;
+      case 8: goto w2c_B21;
+      case 9: goto w2c_B21;
+      case 10: goto w2c_B21;
+      case 11: goto w2c_B21;
+      case 12: goto w2c_B21;
+      default: goto w2c_B21;
+    }
+    w2c_B94:;
+    w2c_i0 = 1u;
+    w2c_l15 = w2c_i0;
+    w2c_i0 = 8u;
+    w2c_l17 = w2c_i0;
+    w2c_i0 = w2c_l20;
+    w2c_i1 = 5u;
+    w2c_i0 = w2c_i0 == w2c_i1;
+    if (w2c_i0) {goto w2c_B15;}
+    w2c_i0 = w2c_l20;
+    w2c_i1 = 7u;
+    w2c_i0 = w2c_i0 == w2c_i1;
+    if (w2c_i0) {goto w2c_B19;}
+    goto w2c_B21;
+    w2c_B93:;
+    w2c_i0 = w2c_l20;
+    w2c_i1 = 5u;
+    w2c_i0 = w2c_i0 != w2c_i1;
+    if (w2c_i0) {goto w2c_B21;}
+    goto w2c_B18;
+    w2c_B92:;
+    w2c_i0 = 1u;
+    w2c_l15 = w2c_i0;
+    w2c_i0 = w2c_l20;
+    w2c_i1 = 6u;
+    w2c_i0 = w2c_i0 == w2c_i1;
+    if (w2c_i0) {goto w2c_B28;}
+    w2c_i0 = w2c_l20;
+    w2c_i1 = 7u;
+    w2c_i0 = w2c_i0 == w2c_i1;
+    if (w2c_i0) {goto w2c_B19;}
+    goto w2c_B21;
+    w2c_B91:;
+    w2c_i0 = w2c_l20;
+    w2c_i1 = 7u;
+    w2c_i0 = w2c_i0 != w2c_i1;
+    if (w2c_i0) {goto w2c_B21;}
+    w2c_i0 = 1u;
+    w2c_l15 = w2c_i0;
+    goto w2c_B19;
+    w2c_B88:;
+    w2c_i0 = w2c_l20;
+    w2c_i1 = 4294967294u;
+    w2c_i0 += w2c_i1;
+    w2c_i1 = 13u;
+    w2c_i0 = w2c_i0 < w2c_i1;
+    if (w2c_i0) {goto w2c_B96;}
+    w2c_i0 = 9u;
+    w2c_l17 = w2c_i0;
+    w2c_i0 = 10u;
+    w2c_l21 = w2c_i0;
+    w2c_i0 = w2c_l19;
+    w2c_l23 = w2c_i0;
+    w2c_i0 = w2c_l20;
+    w2c_l22 = w2c_i0;
+    w2c_i0 = w2c_l19;
+    w2c_l15 = w2c_i0;
+    w2c_i0 = w2c_l20;
+    w2c_l16 = w2c_i0;
+    w2c_i0 = w2c_l20;
+    switch (w2c_i0) {
+      case 0: goto w2c_B13;
+      case 1: goto w2c_B36;
+      default: goto w2c_B13;
+    }
+    w2c_B96:;
+    w2c_i0 = w2c_l19;
+    w2c_j0 = (u64)(w2c_i0);
+    w2c_j1 = 255ull;
+    w2c_j0 &= w2c_j1;
+    w2c_i0 = (u32)(w2c_j0);
+    switch (w2c_i0) {
+      case 0: goto w2c_B101;
+      case 1: goto w2c_B98;
+      case 2: goto w2c_B100;
+      case 3: goto w2c_B100;
+      case 4: goto w2c_B99;
+      case 5: goto w2c_B97;
+      default: goto w2c_B101;
+    }
+    w2c_B101:;
+    w2c_i0 = 1u;
+    w2c_l15 = w2c_i0;
+    w2c_i0 = 6u;
+    w2c_l17 = w2c_i0;
+    w2c_i0 = w2c_l20;
+    w2c_i1 = 4294967294u;
+    w2c_i0 += w2c_i1;
+    switch (w2c_i0) {
+      case 0: goto w2c_B21;
+      case 1: goto w2c_B21;
+      case 2: goto w2c_B21;
+      case 3: goto w2c_B15;
+      case 4: goto w2c_B28;
+      case 5: goto w2c_B19;
+      case 6: goto w2c_B21;
+      case 7: goto w2c_B21;
+      case 8: goto w2c_B21;
+      case 9: goto w2c_B21;
+      case 10: goto w2c_B21;
+      case 11: goto w2c_B21;
+      case 12: goto w2c_B21;
+      default: goto w2c_B21;
+    }
+    w2c_B100:;
+    w2c_i0 = 1u;
+    w2c_l15 = w2c_i0;
+    w2c_i0 = 8u;
+    w2c_l17 = w2c_i0;
+    w2c_i0 = w2c_l20;
+    w2c_i1 = 5u;
+    w2c_i0 = w2c_i0 == w2c_i1;
+    if (w2c_i0) {goto w2c_B15;}
+    w2c_i0 = w2c_l20;
+    w2c_i1 = 7u;
+    w2c_i0 = w2c_i0 == w2c_i1;
+    if (w2c_i0) {goto w2c_B19;}
+    goto w2c_B21;
+    w2c_B99:;
+    w2c_i0 = w2c_l20;
+    w2c_i1 = 5u;
+    w2c_i0 = w2c_i0 == w2c_i1;
+    if (w2c_i0) {goto w2c_B18;}
+    goto w2c_B21;
+    w2c_B98:;
+    w2c_i0 = 1u;
+    w2c_l15 = w2c_i0;
+    w2c_i0 = w2c_l20;
+    w2c_i1 = 6u;
+    w2c_i0 = w2c_i0 == w2c_i1;
+    if (w2c_i0) {goto w2c_B28;}
+    w2c_i0 = w2c_l20;
+    w2c_i1 = 7u;
+    w2c_i0 = w2c_i0 == w2c_i1;
+    if (w2c_i0) {goto w2c_B19;}
+    goto w2c_B21;
+    w2c_B97:;
+    w2c_i0 = w2c_l20;
+    w2c_i1 = 7u;
+    w2c_i0 = w2c_i0 != w2c_i1;
+    if (w2c_i0) {goto w2c_B21;}
+    w2c_i0 = 1u;
+    w2c_l15 = w2c_i0;
+    goto w2c_B19;
+    w2c_B87:;
+    w2c_i0 = w2c_l20;
+    w2c_i1 = 1u;
+    w2c_i0 = w2c_i0 != w2c_i1;
+    if (w2c_i0) {goto w2c_B102;}
+    w2c_i0 = 0u;
+    w2c_l22 = w2c_i0;
+    w2c_i0 = 10u;
+    w2c_l21 = w2c_i0;
+    w2c_i0 = w2c_l19;
+    w2c_l23 = w2c_i0;
+    goto w2c_B36;
     w2c_B102:;
-    w2c_i0 = w2c_l17;
+    w2c_i0 = w2c_l19;
     w2c_j0 = (u64)(w2c_i0);
     w2c_j1 = 255ull;
     w2c_j0 &= w2c_j1;
@@ -50357,523 +49679,328 @@ static u32 w2c_f70(module *m, u64 w2c_p0, u64 w2c_p1, u64 w2c_p2) {
     }
     w2c_B107:;
     w2c_i0 = 1u;
-    w2c_l14 = w2c_i0;
+    w2c_l15 = w2c_i0;
     w2c_i0 = 6u;
-    w2c_l20 = w2c_i0;
-    w2c_i0 = w2c_l16;
-    w2c_i1 = 4294967294u;
-    w2c_i0 += w2c_i1;
+    w2c_l17 = w2c_i0;
+    w2c_i0 = w2c_l20;
     switch (w2c_i0) {
-      case 0: goto w2c_B33;
-      case 1: goto w2c_B33;
-      case 2: goto w2c_B33;
-      case 3: goto w2c_B27;
-      case 4: goto w2c_B40;
-      case 5: goto w2c_B31;
-      case 6: goto w2c_B33;
-      case 7: goto w2c_B33;
-      case 8: goto w2c_B33;
-      case 9: goto w2c_B33;
-      case 10: goto w2c_B33;
-      case 11: goto w2c_B33;
-      case 12: goto w2c_B33;
-      default: goto w2c_B33;
+      case 0: goto w2c_B21;
+      case 1: goto w2c_B0;
+      case 2: goto w2c_B21;
+      case 3: goto w2c_B21;
+      case 4: goto w2c_B21;
+      case 5: goto w2c_B15;
+      case 6: goto w2c_B28;
+      case 7: goto w2c_B19;
+      case 8: goto w2c_B21;
+      case 9: goto w2c_B21;
+      case 10: goto w2c_B21;
+      case 11: goto w2c_B21;
+      case 12: goto w2c_B21;
+      case 13: goto w2c_B21;
+      case 14: goto w2c_B21;
+      default: goto w2c_B21;
     }
     w2c_B106:;
     w2c_i0 = 1u;
-    w2c_l14 = w2c_i0;
+    w2c_l15 = w2c_i0;
     w2c_i0 = 8u;
-    w2c_l20 = w2c_i0;
-    w2c_i0 = w2c_l16;
+    w2c_l17 = w2c_i0;
+    w2c_i0 = w2c_l20;
     w2c_i1 = 5u;
     w2c_i0 = w2c_i0 == w2c_i1;
-    if (w2c_i0) {goto w2c_B27;}
-    w2c_i0 = w2c_l16;
+    if (w2c_i0) {goto w2c_B15;}
+    w2c_i0 = w2c_l20;
     w2c_i1 = 7u;
     w2c_i0 = w2c_i0 == w2c_i1;
-    if (w2c_i0) {goto w2c_B31;}
-    goto w2c_B33;
+    if (w2c_i0) {goto w2c_B19;}
+    goto w2c_B21;
     w2c_B105:;
-    w2c_i0 = w2c_l16;
+    w2c_i0 = w2c_l20;
     w2c_i1 = 5u;
-    w2c_i0 = w2c_i0 != w2c_i1;
-    if (w2c_i0) {goto w2c_B33;}
-    goto w2c_B30;
+    w2c_i0 = w2c_i0 == w2c_i1;
+    if (w2c_i0) {goto w2c_B18;}
+    goto w2c_B21;
     w2c_B104:;
     w2c_i0 = 1u;
-    w2c_l14 = w2c_i0;
-    w2c_i0 = w2c_l16;
+    w2c_l15 = w2c_i0;
+    w2c_i0 = w2c_l20;
     w2c_i1 = 6u;
     w2c_i0 = w2c_i0 == w2c_i1;
-    if (w2c_i0) {goto w2c_B40;}
-    w2c_i0 = w2c_l16;
+    if (w2c_i0) {goto w2c_B28;}
+    w2c_i0 = w2c_l20;
     w2c_i1 = 7u;
     w2c_i0 = w2c_i0 == w2c_i1;
-    if (w2c_i0) {goto w2c_B31;}
-    goto w2c_B33;
+    if (w2c_i0) {goto w2c_B19;}
+    goto w2c_B21;
     w2c_B103:;
-    w2c_i0 = w2c_l16;
+    w2c_i0 = w2c_l20;
     w2c_i1 = 7u;
     w2c_i0 = w2c_i0 != w2c_i1;
-    if (w2c_i0) {goto w2c_B33;}
+    if (w2c_i0) {goto w2c_B21;}
     w2c_i0 = 1u;
-    w2c_l14 = w2c_i0;
-    goto w2c_B31;
-    w2c_B100:;
-    w2c_i0 = w2c_l16;
-    w2c_i1 = 4294967294u;
-    w2c_i0 += w2c_i1;
-    w2c_i1 = 13u;
-    w2c_i0 = w2c_i0 < w2c_i1;
-    if (w2c_i0) {goto w2c_B108;}
-    w2c_i0 = 9u;
-    w2c_l20 = w2c_i0;
-    w2c_i0 = 10u;
-    w2c_l21 = w2c_i0;
-    w2c_i0 = w2c_l17;
-    w2c_l23 = w2c_i0;
-    w2c_i0 = w2c_l16;
-    w2c_l22 = w2c_i0;
-    w2c_i0 = w2c_l17;
-    w2c_l14 = w2c_i0;
-    w2c_i0 = w2c_l16;
-    w2c_l19 = w2c_i0;
-    w2c_i0 = w2c_l16;
-    switch (w2c_i0) {
-      case 0: goto w2c_B25;
-      case 1: goto w2c_B48;
-      default: goto w2c_B25;
-    }
-    w2c_B108:;
-    w2c_i0 = w2c_l17;
+    w2c_l15 = w2c_i0;
+    goto w2c_B19;
+    w2c_B86:;
+    w2c_i0 = w2c_l19;
     w2c_j0 = (u64)(w2c_i0);
     w2c_j1 = 255ull;
     w2c_j0 &= w2c_j1;
     w2c_i0 = (u32)(w2c_j0);
     switch (w2c_i0) {
-      case 0: goto w2c_B113;
-      case 1: goto w2c_B110;
-      case 2: goto w2c_B112;
-      case 3: goto w2c_B112;
-      case 4: goto w2c_B111;
-      case 5: goto w2c_B109;
-      default: goto w2c_B113;
-    }
-    w2c_B113:;
-    w2c_i0 = 1u;
-    w2c_l14 = w2c_i0;
-    w2c_i0 = 6u;
-    w2c_l20 = w2c_i0;
-    w2c_i0 = w2c_l16;
-    w2c_i1 = 4294967294u;
-    w2c_i0 += w2c_i1;
-    switch (w2c_i0) {
-      case 0: goto w2c_B33;
-      case 1: goto w2c_B33;
-      case 2: goto w2c_B33;
-      case 3: goto w2c_B27;
-      case 4: goto w2c_B40;
-      case 5: goto w2c_B31;
-      case 6: goto w2c_B33;
-      case 7: goto w2c_B33;
-      case 8: goto w2c_B33;
-      case 9: goto w2c_B33;
-      case 10: goto w2c_B33;
-      case 11: goto w2c_B33;
-      case 12: goto w2c_B33;
-      default: goto w2c_B33;
+      case 0: goto w2c_B112;
+      case 1: goto w2c_B109;
+      case 2: goto w2c_B111;
+      case 3: goto w2c_B111;
+      case 4: goto w2c_B110;
+      case 5: goto w2c_B108;
+      default: goto w2c_B112;
     }
     w2c_B112:;
     w2c_i0 = 1u;
-    w2c_l14 = w2c_i0;
+    w2c_l15 = w2c_i0;
+    w2c_i0 = 6u;
+    w2c_l17 = w2c_i0;
+    w2c_i0 = w2c_l20;
+    switch (w2c_i0) {
+      case 0: goto w2c_B21;
+      case 1: goto w2c_B21;
+      case 2: goto w2c_B21;
+      case 3: goto w2c_B21;
+      case 4: goto w2c_B21;
+      case 5: goto w2c_B15;
+      case 6: goto w2c_B28;
+      case 7: goto w2c_B19;
+      case 8: goto w2c_B21;
+      case 9: goto w2c_B21;
+      case 10: goto w2c_B21;
+      case 11: goto w2c_B21;
+      case 12: goto w2c_B21;
+      case 13: goto w2c_B21;
+      case 14: goto w2c_B21;
+      default: goto w2c_B21;
+    }
+    w2c_B111:;
+    w2c_i0 = 1u;
+    w2c_l15 = w2c_i0;
     w2c_i0 = 8u;
-    w2c_l20 = w2c_i0;
-    w2c_i0 = w2c_l16;
+    w2c_l17 = w2c_i0;
+    w2c_i0 = w2c_l20;
     w2c_i1 = 5u;
     w2c_i0 = w2c_i0 == w2c_i1;
-    if (w2c_i0) {goto w2c_B27;}
-    w2c_i0 = w2c_l16;
+    if (w2c_i0) {goto w2c_B15;}
+    w2c_i0 = w2c_l20;
     w2c_i1 = 7u;
     w2c_i0 = w2c_i0 == w2c_i1;
-    if (w2c_i0) {goto w2c_B31;}
-    goto w2c_B33;
-    w2c_B111:;
-    w2c_i0 = w2c_l16;
+    if (w2c_i0) {goto w2c_B19;}
+    goto w2c_B21;
+    w2c_B110:;
+    w2c_i0 = w2c_l20;
     w2c_i1 = 5u;
     w2c_i0 = w2c_i0 == w2c_i1;
-    if (w2c_i0) {goto w2c_B30;}
-    goto w2c_B33;
-    w2c_B110:;
+    if (w2c_i0) {goto w2c_B18;}
+    goto w2c_B21;
+    w2c_B109:;
     w2c_i0 = 1u;
-    w2c_l14 = w2c_i0;
-    w2c_i0 = w2c_l16;
+    w2c_l15 = w2c_i0;
+    w2c_i0 = w2c_l20;
     w2c_i1 = 6u;
     w2c_i0 = w2c_i0 == w2c_i1;
-    if (w2c_i0) {goto w2c_B40;}
-    w2c_i0 = w2c_l16;
-    w2c_i1 = 7u;
-    w2c_i0 = w2c_i0 == w2c_i1;
-    if (w2c_i0) {goto w2c_B31;}
-    goto w2c_B33;
-    w2c_B109:;
-    w2c_i0 = w2c_l16;
+    if (w2c_i0) {goto w2c_B28;}
+    w2c_i0 = w2c_l20;
     w2c_i1 = 7u;
     w2c_i0 = w2c_i0 != w2c_i1;
-    if (w2c_i0) {goto w2c_B33;}
+    if (w2c_i0) {goto w2c_B21;}
+    goto w2c_B19;
+    w2c_B108:;
+    w2c_i0 = w2c_l20;
+    w2c_i1 = 7u;
+    w2c_i0 = w2c_i0 != w2c_i1;
+    if (w2c_i0) {goto w2c_B21;}
     w2c_i0 = 1u;
-    w2c_l14 = w2c_i0;
-    goto w2c_B31;
-    w2c_B99:;
-    w2c_i0 = w2c_l16;
-    w2c_i1 = 1u;
-    w2c_i0 = w2c_i0 != w2c_i1;
-    if (w2c_i0) {goto w2c_B114;}
+    w2c_l15 = w2c_i0;
+    goto w2c_B19;
+    w2c_B37:;
+    w2c_i0 = w2c_l15;
+    switch (w2c_i0) {
+      case 0: goto w2c_B120;
+      case 1: goto w2c_B119;
+      case 2: goto w2c_B118;
+      case 3: goto w2c_B117;
+      case 4: goto w2c_B116;
+      case 5: goto w2c_B21;
+      case 6: goto w2c_B21;
+      case 7: goto w2c_B21;
+      case 8: goto w2c_B21;
+      case 9: goto w2c_B21;
+      case 10: goto w2c_B21;
+      case 11: goto w2c_B21;
+      case 12: goto w2c_B21;
+      case 13: goto w2c_B115;
+      case 14: goto w2c_B113;
+      case 15: goto w2c_B35;
+      case 16: goto w2c_B27;
+      case 17: goto w2c_B114;
+      case 18: goto w2c_B25;
+      case 19: goto w2c_B21;
+      default: goto w2c_B120;
+    }
+    w2c_B120:;
+    w2c_i0 = 5u;
+    w2c_l21 = w2c_i0;
+    w2c_i0 = 0u;
+    w2c_l23 = w2c_i0;
+    w2c_i0 = 1u;
+    w2c_l17 = w2c_i0;
     w2c_i0 = 0u;
     w2c_l22 = w2c_i0;
-    w2c_i0 = 10u;
-    w2c_l21 = w2c_i0;
-    w2c_i0 = w2c_l17;
-    w2c_l23 = w2c_i0;
-    goto w2c_B48;
-    w2c_B114:;
-    w2c_i0 = w2c_l17;
-    w2c_j0 = (u64)(w2c_i0);
-    w2c_j1 = 255ull;
-    w2c_j0 &= w2c_j1;
-    w2c_i0 = (u32)(w2c_j0);
+    w2c_i0 = 0u;
+    w2c_l15 = w2c_i0;
+    w2c_i0 = 0u;
+    w2c_l16 = w2c_i0;
+    w2c_i0 = w2c_l20;
     switch (w2c_i0) {
-      case 0: goto w2c_B119;
-      case 1: goto w2c_B116;
-      case 2: goto w2c_B118;
-      case 3: goto w2c_B118;
-      case 4: goto w2c_B117;
-      case 5: goto w2c_B115;
-      default: goto w2c_B119;
+      case 0: goto w2c_B34;
+      case 1: goto w2c_B36;
+      case 2: goto w2c_B21;
+      case 3: goto w2c_B21;
+      case 4: goto w2c_B21;
+      case 5: goto w2c_B21;
+      case 6: goto w2c_B21;
+      case 7: goto w2c_B21;
+      case 8: goto w2c_B21;
+      case 9: goto w2c_B21;
+      case 10: goto w2c_B21;
+      case 11: goto w2c_B13;
+      case 12: goto w2c_B21;
+      case 13: goto w2c_B21;
+      case 14: goto w2c_B21;
+      default: goto w2c_B34;
     }
     w2c_B119:;
-    w2c_i0 = 1u;
-    w2c_l14 = w2c_i0;
-    w2c_i0 = 6u;
-    w2c_l20 = w2c_i0;
-    w2c_i0 = w2c_l16;
-    switch (w2c_i0) {
-      case 0: goto w2c_B33;
-      case 1: goto w2c_B0;
-      case 2: goto w2c_B33;
-      case 3: goto w2c_B33;
-      case 4: goto w2c_B33;
-      case 5: goto w2c_B27;
-      case 6: goto w2c_B40;
-      case 7: goto w2c_B31;
-      case 8: goto w2c_B33;
-      case 9: goto w2c_B33;
-      case 10: goto w2c_B33;
-      case 11: goto w2c_B33;
-      case 12: goto w2c_B33;
-      case 13: goto w2c_B33;
-      case 14: goto w2c_B33;
-      default: goto w2c_B33;
-    }
-    w2c_B118:;
-    w2c_i0 = 1u;
-    w2c_l14 = w2c_i0;
-    w2c_i0 = 8u;
-    w2c_l20 = w2c_i0;
-    w2c_i0 = w2c_l16;
-    w2c_i1 = 5u;
-    w2c_i0 = w2c_i0 == w2c_i1;
-    if (w2c_i0) {goto w2c_B27;}
-    w2c_i0 = w2c_l16;
-    w2c_i1 = 7u;
-    w2c_i0 = w2c_i0 == w2c_i1;
-    if (w2c_i0) {goto w2c_B31;}
-    goto w2c_B33;
-    w2c_B117:;
-    w2c_i0 = w2c_l16;
-    w2c_i1 = 5u;
-    w2c_i0 = w2c_i0 == w2c_i1;
-    if (w2c_i0) {goto w2c_B30;}
-    goto w2c_B33;
-    w2c_B116:;
-    w2c_i0 = 1u;
-    w2c_l14 = w2c_i0;
-    w2c_i0 = w2c_l16;
-    w2c_i1 = 6u;
-    w2c_i0 = w2c_i0 == w2c_i1;
-    if (w2c_i0) {goto w2c_B40;}
-    w2c_i0 = w2c_l16;
-    w2c_i1 = 7u;
-    w2c_i0 = w2c_i0 == w2c_i1;
-    if (w2c_i0) {goto w2c_B31;}
-    goto w2c_B33;
-    w2c_B115:;
-    w2c_i0 = w2c_l16;
-    w2c_i1 = 7u;
-    w2c_i0 = w2c_i0 != w2c_i1;
-    if (w2c_i0) {goto w2c_B33;}
-    w2c_i0 = 1u;
-    w2c_l14 = w2c_i0;
-    goto w2c_B31;
-    w2c_B98:;
-    w2c_i0 = w2c_l17;
-    w2c_j0 = (u64)(w2c_i0);
-    w2c_j1 = 255ull;
-    w2c_j0 &= w2c_j1;
-    w2c_i0 = (u32)(w2c_j0);
-    switch (w2c_i0) {
-      case 0: goto w2c_B124;
-      case 1: goto w2c_B121;
-      case 2: goto w2c_B123;
-      case 3: goto w2c_B123;
-      case 4: goto w2c_B122;
-      case 5: goto w2c_B120;
-      default: goto w2c_B124;
-    }
-    w2c_B124:;
-    w2c_i0 = 1u;
-    w2c_l14 = w2c_i0;
-    w2c_i0 = 6u;
-    w2c_l20 = w2c_i0;
-    w2c_i0 = w2c_l16;
-    switch (w2c_i0) {
-      case 0: goto w2c_B33;
-      case 1: goto w2c_B33;
-      case 2: goto w2c_B33;
-      case 3: goto w2c_B33;
-      case 4: goto w2c_B33;
-      case 5: goto w2c_B27;
-      case 6: goto w2c_B40;
-      case 7: goto w2c_B31;
-      case 8: goto w2c_B33;
-      case 9: goto w2c_B33;
-      case 10: goto w2c_B33;
-      case 11: goto w2c_B33;
-      case 12: goto w2c_B33;
-      case 13: goto w2c_B33;
-      case 14: goto w2c_B33;
-      default: goto w2c_B33;
-    }
-    w2c_B123:;
-    w2c_i0 = 1u;
-    w2c_l14 = w2c_i0;
-    w2c_i0 = 8u;
-    w2c_l20 = w2c_i0;
-    w2c_i0 = w2c_l16;
-    w2c_i1 = 5u;
-    w2c_i0 = w2c_i0 == w2c_i1;
-    if (w2c_i0) {goto w2c_B27;}
-    w2c_i0 = w2c_l16;
-    w2c_i1 = 7u;
-    w2c_i0 = w2c_i0 == w2c_i1;
-    if (w2c_i0) {goto w2c_B31;}
-    goto w2c_B33;
-    w2c_B122:;
-    w2c_i0 = w2c_l16;
-    w2c_i1 = 5u;
-    w2c_i0 = w2c_i0 == w2c_i1;
-    if (w2c_i0) {goto w2c_B30;}
-    goto w2c_B33;
-    w2c_B121:;
-    w2c_i0 = 1u;
-    w2c_l14 = w2c_i0;
-    w2c_i0 = w2c_l16;
-    w2c_i1 = 6u;
-    w2c_i0 = w2c_i0 == w2c_i1;
-    if (w2c_i0) {goto w2c_B40;}
-    w2c_i0 = w2c_l16;
-    w2c_i1 = 7u;
-    w2c_i0 = w2c_i0 != w2c_i1;
-    if (w2c_i0) {goto w2c_B33;}
-    goto w2c_B31;
-    w2c_B120:;
-    w2c_i0 = w2c_l16;
-    w2c_i1 = 7u;
-    w2c_i0 = w2c_i0 != w2c_i1;
-    if (w2c_i0) {goto w2c_B33;}
-    w2c_i0 = 1u;
-    w2c_l14 = w2c_i0;
-    goto w2c_B31;
-    w2c_B49:;
-    w2c_i0 = w2c_l14;
-    switch (w2c_i0) {
-      case 0: goto w2c_B132;
-      case 1: goto w2c_B131;
-      case 2: goto w2c_B130;
-      case 3: goto w2c_B129;
-      case 4: goto w2c_B128;
-      case 5: goto w2c_B33;
-      case 6: goto w2c_B33;
-      case 7: goto w2c_B33;
-      case 8: goto w2c_B33;
-      case 9: goto w2c_B33;
-      case 10: goto w2c_B33;
-      case 11: goto w2c_B33;
-      case 12: goto w2c_B33;
-      case 13: goto w2c_B127;
-      case 14: goto w2c_B125;
-      case 15: goto w2c_B47;
-      case 16: goto w2c_B39;
-      case 17: goto w2c_B126;
-      case 18: goto w2c_B37;
-      case 19: goto w2c_B33;
-      default: goto w2c_B132;
-    }
-    w2c_B132:;
-    w2c_i0 = 5u;
-    w2c_l21 = w2c_i0;
-    w2c_i0 = 0u;
-    w2c_l23 = w2c_i0;
-    w2c_i0 = 1u;
-    w2c_l20 = w2c_i0;
-    w2c_i0 = 0u;
-    w2c_l22 = w2c_i0;
-    w2c_i0 = 0u;
-    w2c_l14 = w2c_i0;
-    w2c_i0 = 0u;
-    w2c_l19 = w2c_i0;
-    w2c_i0 = w2c_l16;
-    switch (w2c_i0) {
-      case 0: goto w2c_B46;
-      case 1: goto w2c_B48;
-      case 2: goto w2c_B33;
-      case 3: goto w2c_B33;
-      case 4: goto w2c_B33;
-      case 5: goto w2c_B33;
-      case 6: goto w2c_B33;
-      case 7: goto w2c_B33;
-      case 8: goto w2c_B33;
-      case 9: goto w2c_B33;
-      case 10: goto w2c_B33;
-      case 11: goto w2c_B25;
-      case 12: goto w2c_B33;
-      case 13: goto w2c_B33;
-      case 14: goto w2c_B33;
-      default: goto w2c_B46;
-    }
-    w2c_B131:;
-    w2c_i0 = w2c_l16;
+    w2c_i0 = w2c_l20;
     w2c_i1 = 12u;
     w2c_i0 = w2c_i0 != w2c_i1;
-    if (w2c_i0) {goto w2c_B33;}
+    if (w2c_i0) {goto w2c_B21;}
     w2c_i0 = 0u;
-    w2c_l14 = w2c_i0;
+    w2c_l15 = w2c_i0;
     w2c_i0 = 2u;
-    w2c_l20 = w2c_i0;
-    goto w2c_B35;
-    w2c_B130:;
-    w2c_i0 = w2c_l16;
+    w2c_l17 = w2c_i0;
+    goto w2c_B23;
+    w2c_B118:;
+    w2c_i0 = w2c_l20;
     w2c_i1 = 13u;
     w2c_i0 = w2c_i0 != w2c_i1;
-    if (w2c_i0) {goto w2c_B33;}
+    if (w2c_i0) {goto w2c_B21;}
     w2c_i0 = 0u;
-    w2c_l14 = w2c_i0;
+    w2c_l15 = w2c_i0;
     w2c_i0 = 3u;
-    w2c_l20 = w2c_i0;
-    goto w2c_B35;
-    w2c_B129:;
+    w2c_l17 = w2c_i0;
+    goto w2c_B23;
+    w2c_B117:;
     w2c_i0 = 0u;
     w2c_l23 = w2c_i0;
     w2c_i0 = 5u;
     w2c_l21 = w2c_i0;
     w2c_i0 = 0u;
     w2c_l22 = w2c_i0;
-    w2c_i0 = w2c_l16;
+    w2c_i0 = w2c_l20;
     switch (w2c_i0) {
-      case 0: goto w2c_B46;
-      case 1: goto w2c_B48;
-      case 2: goto w2c_B33;
-      case 3: goto w2c_B33;
-      case 4: goto w2c_B33;
-      case 5: goto w2c_B33;
-      case 6: goto w2c_B33;
-      case 7: goto w2c_B33;
-      case 8: goto w2c_B33;
-      case 9: goto w2c_B33;
-      case 10: goto w2c_B33;
-      case 11: goto w2c_B33;
-      case 12: goto w2c_B33;
-      case 13: goto w2c_B33;
-      case 14: goto w2c_B33;
-      default: goto w2c_B46;
+      case 0: goto w2c_B34;
+      case 1: goto w2c_B36;
+      case 2: goto w2c_B21;
+      case 3: goto w2c_B21;
+      case 4: goto w2c_B21;
+      case 5: goto w2c_B21;
+      case 6: goto w2c_B21;
+      case 7: goto w2c_B21;
+      case 8: goto w2c_B21;
+      case 9: goto w2c_B21;
+      case 10: goto w2c_B21;
+      case 11: goto w2c_B21;
+      case 12: goto w2c_B21;
+      case 13: goto w2c_B21;
+      case 14: goto w2c_B21;
+      default: goto w2c_B34;
     }
-    w2c_B128:;
-    w2c_i0 = w2c_l16;
+    w2c_B116:;
+    w2c_i0 = w2c_l20;
     w2c_i1 = 7u;
     w2c_i0 = w2c_i0 != w2c_i1;
-    if (w2c_i0) {goto w2c_B33;}
+    if (w2c_i0) {goto w2c_B21;}
     w2c_i0 = 1u;
-    w2c_l14 = w2c_i0;
-    goto w2c_B31;
-    w2c_B127:;
+    w2c_l15 = w2c_i0;
+    goto w2c_B19;
+    w2c_B115:;
     w2c_i0 = 16u;
     w2c_l21 = w2c_i0;
     w2c_i0 = 0u;
     w2c_l23 = w2c_i0;
     w2c_i0 = 19u;
-    w2c_l20 = w2c_i0;
+    w2c_l17 = w2c_i0;
     w2c_i0 = 0u;
     w2c_l22 = w2c_i0;
     w2c_i0 = 0u;
-    w2c_l14 = w2c_i0;
+    w2c_l15 = w2c_i0;
     w2c_i0 = 0u;
-    w2c_l19 = w2c_i0;
-    w2c_i0 = w2c_l16;
+    w2c_l16 = w2c_i0;
+    w2c_i0 = w2c_l20;
     switch (w2c_i0) {
-      case 0: goto w2c_B133;
-      case 1: goto w2c_B48;
-      case 2: goto w2c_B33;
-      case 3: goto w2c_B33;
-      case 4: goto w2c_B33;
-      case 5: goto w2c_B33;
-      case 6: goto w2c_B33;
-      case 7: goto w2c_B33;
-      case 8: goto w2c_B33;
-      case 9: goto w2c_B33;
-      case 10: goto w2c_B25;
-      case 11: goto w2c_B33;
-      case 12: goto w2c_B33;
-      case 13: goto w2c_B33;
-      case 14: goto w2c_B33;
-      default: goto w2c_B133;
+      case 0: goto w2c_B121;
+      case 1: goto w2c_B36;
+      case 2: goto w2c_B21;
+      case 3: goto w2c_B21;
+      case 4: goto w2c_B21;
+      case 5: goto w2c_B21;
+      case 6: goto w2c_B21;
+      case 7: goto w2c_B21;
+      case 8: goto w2c_B21;
+      case 9: goto w2c_B21;
+      case 10: goto w2c_B13;
+      case 11: goto w2c_B21;
+      case 12: goto w2c_B21;
+      case 13: goto w2c_B21;
+      case 14: goto w2c_B21;
+      default: goto w2c_B121;
     }
-    w2c_B133:;
-    w2c_i0 = w2c_l17;
+    w2c_B121:;
+    w2c_i0 = w2c_l19;
     w2c_i1 = 1u;
     w2c_i0 &= w2c_i1;
-    w2c_l14 = w2c_i0;
+    w2c_l15 = w2c_i0;
     w2c_i0 = 14u;
-    w2c_l20 = w2c_i0;
-    goto w2c_B35;
-    w2c_B126:;
+    w2c_l17 = w2c_i0;
+    goto w2c_B23;
+    w2c_B114:;
     w2c_i0 = 18u;
     w2c_l21 = w2c_i0;
     w2c_i0 = 0u;
-    w2c_l14 = w2c_i0;
+    w2c_l15 = w2c_i0;
     w2c_i0 = 19u;
-    w2c_l20 = w2c_i0;
-    w2c_i0 = w2c_l16;
+    w2c_l17 = w2c_i0;
+    w2c_i0 = w2c_l20;
     w2c_i1 = 1u;
     w2c_i0 = w2c_i0 != w2c_i1;
-    if (w2c_i0) {goto w2c_B134;}
+    if (w2c_i0) {goto w2c_B122;}
     w2c_i0 = 0u;
     w2c_l23 = w2c_i0;
     w2c_i0 = 0u;
     w2c_l22 = w2c_i0;
-    goto w2c_B48;
-    w2c_B134:;
+    goto w2c_B36;
+    w2c_B122:;
     w2c_i0 = 0u;
-    w2c_l19 = w2c_i0;
-    w2c_i0 = w2c_l16;
+    w2c_l16 = w2c_i0;
+    w2c_i0 = w2c_l20;
     w2c_i1 = 10u;
     w2c_i0 = w2c_i0 == w2c_i1;
-    if (w2c_i0) {goto w2c_B25;}
-    goto w2c_B33;
-    w2c_B125:;
-    w2c_i0 = w2c_l16;
+    if (w2c_i0) {goto w2c_B13;}
+    goto w2c_B21;
+    w2c_B113:;
+    w2c_i0 = w2c_l20;
     w2c_i1 = 1u;
     w2c_i0 = w2c_i0 != w2c_i1;
-    if (w2c_i0) {goto w2c_B33;}
-    w2c_i0 = w2c_l17;
+    if (w2c_i0) {goto w2c_B21;}
+    w2c_i0 = w2c_l19;
     w2c_i1 = 1u;
     w2c_i0 &= w2c_i1;
     w2c_l23 = w2c_i0;
@@ -50881,45 +50008,45 @@ static u32 w2c_f70(module *m, u64 w2c_p0, u64 w2c_p1, u64 w2c_p2) {
     w2c_l22 = w2c_i0;
     w2c_i0 = 15u;
     w2c_l21 = w2c_i0;
-    w2c_B48:;
+    w2c_B36:;
     w2c_i0 = w2c_l21;
-    w2c_l20 = w2c_i0;
+    w2c_l17 = w2c_i0;
     w2c_i0 = w2c_l23;
-    w2c_l14 = w2c_i0;
+    w2c_l15 = w2c_i0;
     w2c_i0 = w2c_l22;
-    w2c_l19 = w2c_i0;
-    w2c_j0 = w2c_l13;
+    w2c_l16 = w2c_i0;
+    w2c_j0 = w2c_l14;
     w2c_l7 = w2c_j0;
-    goto w2c_B25;
-    w2c_B47:;
-    w2c_i0 = w2c_l17;
+    goto w2c_B13;
+    w2c_B35:;
+    w2c_i0 = w2c_l19;
     w2c_i1 = 1u;
     w2c_i0 &= w2c_i1;
     w2c_i0 = !(w2c_i0);
-    if (w2c_i0) {goto w2c_B37;}
-    w2c_i0 = w2c_l16;
+    if (w2c_i0) {goto w2c_B25;}
+    w2c_i0 = w2c_l20;
     w2c_i1 = 8u;
     w2c_i0 = w2c_i0 == w2c_i1;
-    if (w2c_i0) {goto w2c_B38;}
-    w2c_i0 = w2c_l16;
+    if (w2c_i0) {goto w2c_B26;}
+    w2c_i0 = w2c_l20;
     w2c_i1 = 9u;
     w2c_i0 = w2c_i0 == w2c_i1;
-    if (w2c_i0) {goto w2c_B36;}
-    goto w2c_B33;
-    w2c_B46:;
+    if (w2c_i0) {goto w2c_B24;}
+    goto w2c_B21;
+    w2c_B34:;
     w2c_i0 = 0u;
-    w2c_l14 = w2c_i0;
+    w2c_l15 = w2c_i0;
     w2c_i0 = 4u;
-    w2c_l20 = w2c_i0;
-    goto w2c_B35;
-    w2c_B45:;
-    w2c_i0 = w2c_l17;
-    w2c_l14 = w2c_i0;
-    w2c_i0 = w2c_l16;
+    w2c_l17 = w2c_i0;
+    goto w2c_B23;
+    w2c_B33:;
+    w2c_i0 = w2c_l19;
+    w2c_l15 = w2c_i0;
+    w2c_i0 = w2c_l20;
     w2c_i1 = 2u;
     w2c_i0 = w2c_i0 != w2c_i1;
-    if (w2c_i0) {goto w2c_B33;}
-    w2c_B44:;
+    if (w2c_i0) {goto w2c_B21;}
+    w2c_B32:;
     w2c_j0 = w2c_l7;
     w2c_j1 = 10ull;
     w2c_j0 *= w2c_j1;
@@ -50929,18 +50056,18 @@ static u32 w2c_f70(module *m, u64 w2c_p0, u64 w2c_p1, u64 w2c_p2) {
     w2c_j0 = 0ull;
     w2c_l7 = w2c_j0;
     w2c_i0 = 1u;
-    w2c_l19 = w2c_i0;
+    w2c_l16 = w2c_i0;
     w2c_i0 = 12u;
-    w2c_l20 = w2c_i0;
-    goto w2c_B25;
-    w2c_B43:;
-    w2c_i0 = w2c_l17;
-    w2c_l14 = w2c_i0;
-    w2c_i0 = w2c_l16;
+    w2c_l17 = w2c_i0;
+    goto w2c_B13;
+    w2c_B31:;
+    w2c_i0 = w2c_l19;
+    w2c_l15 = w2c_i0;
+    w2c_i0 = w2c_l20;
     w2c_i1 = 3u;
     w2c_i0 = w2c_i0 != w2c_i1;
-    if (w2c_i0) {goto w2c_B33;}
-    w2c_B42:;
+    if (w2c_i0) {goto w2c_B21;}
+    w2c_B30:;
     w2c_j0 = w2c_l7;
     w2c_j1 = 100ull;
     w2c_j0 *= w2c_j1;
@@ -50950,22 +50077,22 @@ static u32 w2c_f70(module *m, u64 w2c_p0, u64 w2c_p1, u64 w2c_p2) {
     w2c_j0 = 0ull;
     w2c_l7 = w2c_j0;
     w2c_i0 = 2u;
-    w2c_l19 = w2c_i0;
+    w2c_l16 = w2c_i0;
     w2c_i0 = 12u;
-    w2c_l20 = w2c_i0;
-    goto w2c_B25;
-    w2c_B41:;
+    w2c_l17 = w2c_i0;
+    goto w2c_B13;
+    w2c_B29:;
     w2c_i0 = 5u;
-    w2c_i1 = w2c_l17;
-    w2c_i2 = w2c_l17;
+    w2c_i1 = w2c_l19;
+    w2c_i2 = w2c_l19;
     w2c_i3 = 255u;
     w2c_i2 &= w2c_i3;
     w2c_i3 = 3u;
     w2c_i2 = w2c_i2 == w2c_i3;
     w2c_i0 = w2c_i2 ? w2c_i0 : w2c_i1;
-    w2c_l14 = w2c_i0;
-    goto w2c_B32;
-    w2c_B40:;
+    w2c_l15 = w2c_i0;
+    goto w2c_B20;
+    w2c_B28:;
     w2c_j0 = w2c_l9;
     w2c_j1 = w2c_l7;
     w2c_j0 += w2c_j1;
@@ -50977,18 +50104,18 @@ static u32 w2c_f70(module *m, u64 w2c_p0, u64 w2c_p1, u64 w2c_p2) {
     w2c_j0 = 0ull;
     w2c_l9 = w2c_j0;
     w2c_i0 = 0u;
-    w2c_l19 = w2c_i0;
+    w2c_l16 = w2c_i0;
     w2c_i0 = 7u;
-    w2c_l20 = w2c_i0;
+    w2c_l17 = w2c_i0;
     w2c_j0 = 0ull;
     w2c_l7 = w2c_j0;
-    goto w2c_B25;
-    w2c_B39:;
-    w2c_i0 = w2c_l16;
+    goto w2c_B13;
+    w2c_B27:;
+    w2c_i0 = w2c_l20;
     w2c_i1 = 8u;
     w2c_i0 = w2c_i0 != w2c_i1;
-    if (w2c_i0) {goto w2c_B33;}
-    w2c_B38:;
+    if (w2c_i0) {goto w2c_B21;}
+    w2c_B26:;
     w2c_j0 = w2c_l11;
     w2c_j1 = w2c_l7;
     w2c_j2 = 10ull;
@@ -50998,16 +50125,16 @@ static u32 w2c_f70(module *m, u64 w2c_p0, u64 w2c_p1, u64 w2c_p2) {
     w2c_j0 = 0ull;
     w2c_l7 = w2c_j0;
     w2c_i0 = 0u;
-    w2c_l14 = w2c_i0;
+    w2c_l15 = w2c_i0;
     w2c_i0 = 17u;
-    w2c_l20 = w2c_i0;
-    goto w2c_B35;
-    w2c_B37:;
-    w2c_i0 = w2c_l16;
+    w2c_l17 = w2c_i0;
+    goto w2c_B23;
+    w2c_B25:;
+    w2c_i0 = w2c_l20;
     w2c_i1 = 9u;
     w2c_i0 = w2c_i0 != w2c_i1;
-    if (w2c_i0) {goto w2c_B33;}
-    w2c_B36:;
+    if (w2c_i0) {goto w2c_B21;}
+    w2c_B24:;
     w2c_j0 = w2c_l11;
     w2c_j1 = w2c_l7;
     w2c_j0 += w2c_j1;
@@ -51015,51 +50142,63 @@ static u32 w2c_f70(module *m, u64 w2c_p0, u64 w2c_p1, u64 w2c_p2) {
     w2c_j0 = 0ull;
     w2c_l7 = w2c_j0;
     w2c_i0 = 0u;
-    w2c_l14 = w2c_i0;
+    w2c_l15 = w2c_i0;
     w2c_i0 = 19u;
-    w2c_l20 = w2c_i0;
-    w2c_B35:;
+    w2c_l17 = w2c_i0;
+    w2c_B23:;
     w2c_i0 = 0u;
-    w2c_l19 = w2c_i0;
-    goto w2c_B25;
-    w2c_B34:;
-    w2c_i0 = w2c_l17;
-    w2c_l14 = w2c_i0;
-    w2c_i0 = w2c_l16;
+    w2c_l16 = w2c_i0;
+    goto w2c_B13;
+    w2c_B22:;
+    w2c_i0 = w2c_l19;
+    w2c_l15 = w2c_i0;
+    w2c_i0 = w2c_l20;
     w2c_i1 = 4u;
     w2c_i0 = w2c_i0 == w2c_i1;
-    if (w2c_i0) {goto w2c_B32;}
-    w2c_B33:;
-    w2c_j0 = w2c_l3;
+    if (w2c_i0) {goto w2c_B20;}
+    w2c_B21:;
+    w2c_j0 = 0ull;
+    w2c_p0 = w2c_j0;
+    w2c_j0 = w2c_p2;
+    w2c_i0 = (u32)(w2c_j0);
+    w2c_j1 = 0ull;
+    i64_store(m, (u64)(w2c_i0) + 16, w2c_j1);
+    w2c_j0 = w2c_p2;
+    w2c_i0 = (u32)(w2c_j0);
+    w2c_j1 = 0ull;
+    i64_store(m, (u64)(w2c_i0) + 8, w2c_j1);
+    w2c_j0 = w2c_p2;
+    w2c_i0 = (u32)(w2c_j0);
+    w2c_j1 = 0ull;
+    i64_store(m, (u64)(w2c_i0), w2c_j1);
+    w2c_j0 = w2c_l4;
     w2c_j1 = 3ull;
     w2c_j0 += w2c_j1;
     w2c_l8 = w2c_j0;
-    w2c_j0 = 0ull;
-    w2c_p0 = w2c_j0;
     w2c_j0 = w2c_p1;
     w2c_j1 = 8ull;
     w2c_i0 = w2c_j0 >= w2c_j1;
-    if (w2c_i0) {goto w2c_B136;}
+    if (w2c_i0) {goto w2c_B124;}
     w2c_j0 = 0ull;
-    w2c_l12 = w2c_j0;
-    goto w2c_B135;
-    w2c_B136:;
+    w2c_l13 = w2c_j0;
+    goto w2c_B123;
+    w2c_B124:;
     w2c_j0 = 0ull;
-    w2c_l12 = w2c_j0;
+    w2c_l13 = w2c_j0;
     w2c_j0 = w2c_l8;
     w2c_j1 = 3ull;
     w2c_i0 = w2c_j0 < w2c_j1;
-    if (w2c_i0) {goto w2c_B135;}
+    if (w2c_i0) {goto w2c_B123;}
     w2c_j0 = w2c_p1;
     w2c_j1 = 18446744073709551607ull;
     w2c_j0 += w2c_j1;
-    w2c_l5 = w2c_j0;
-    w2c_j0 = 0ull;
     w2c_l12 = w2c_j0;
     w2c_j0 = 0ull;
+    w2c_l13 = w2c_j0;
+    w2c_j0 = 0ull;
     w2c_p0 = w2c_j0;
-    w2c_L137:
-      w2c_j0 = w2c_l4;
+    w2c_L125:
+      w2c_j0 = w2c_l5;
       w2c_j1 = w2c_p0;
       w2c_j0 += w2c_j1;
       w2c_i0 = (u32)(w2c_j0);
@@ -51068,48 +50207,48 @@ static u32 w2c_f70(module *m, u64 w2c_p0, u64 w2c_p1, u64 w2c_p2) {
       w2c_j0 &= w2c_j1;
       w2c_j1 = 63050398541283552ull;
       w2c_i0 = w2c_j0 != w2c_j1;
-      if (w2c_i0) {goto w2c_B135;}
-      w2c_j0 = w2c_l12;
+      if (w2c_i0) {goto w2c_B123;}
+      w2c_j0 = w2c_l13;
       w2c_j1 = 3ull;
       w2c_j0 += w2c_j1;
-      w2c_l12 = w2c_j0;
+      w2c_l13 = w2c_j0;
       w2c_j0 = w2c_p0;
       w2c_j1 = 9ull;
       w2c_j0 += w2c_j1;
       w2c_p0 = w2c_j0;
-      w2c_j0 = w2c_l3;
+      w2c_j0 = w2c_l4;
       w2c_j1 = 3ull;
       w2c_i0 = w2c_j0 < w2c_j1;
-      if (w2c_i0) {goto w2c_B135;}
-      w2c_j0 = w2c_l3;
+      if (w2c_i0) {goto w2c_B123;}
+      w2c_j0 = w2c_l4;
       w2c_j1 = 18446744073709551613ull;
       w2c_j0 += w2c_j1;
-      w2c_l3 = w2c_j0;
-      w2c_j0 = w2c_l5;
+      w2c_l4 = w2c_j0;
+      w2c_j0 = w2c_l12;
       w2c_j1 = 7ull;
       w2c_i0 = w2c_j0 > w2c_j1;
-      w2c_l14 = w2c_i0;
-      w2c_j0 = w2c_l5;
+      w2c_l15 = w2c_i0;
+      w2c_j0 = w2c_l12;
       w2c_j1 = 18446744073709551607ull;
       w2c_j0 += w2c_j1;
-      w2c_l5 = w2c_j0;
-      w2c_i0 = w2c_l14;
-      if (w2c_i0) {goto w2c_L137;}
-    w2c_B135:;
+      w2c_l12 = w2c_j0;
+      w2c_i0 = w2c_l15;
+      if (w2c_i0) {goto w2c_L125;}
+    w2c_B123:;
     w2c_j0 = w2c_p1;
     w2c_j1 = w2c_p0;
     w2c_i0 = w2c_j0 <= w2c_j1;
-    if (w2c_i0) {goto w2c_B138;}
-    w2c_j0 = w2c_l12;
+    if (w2c_i0) {goto w2c_B126;}
+    w2c_j0 = w2c_l13;
     w2c_j1 = w2c_l8;
     w2c_i0 = w2c_j0 >= w2c_j1;
-    if (w2c_i0) {goto w2c_B138;}
-    w2c_j0 = w2c_l12;
+    if (w2c_i0) {goto w2c_B126;}
+    w2c_j0 = w2c_l13;
     w2c_j1 = 1ull;
     w2c_j0 += w2c_j1;
-    w2c_l3 = w2c_j0;
-    w2c_L139:
-      w2c_j0 = w2c_l4;
+    w2c_l4 = w2c_j0;
+    w2c_L127:
+      w2c_j0 = w2c_l5;
       w2c_j1 = w2c_p0;
       w2c_j0 += w2c_j1;
       w2c_i0 = (u32)(w2c_j0);
@@ -51126,19 +50265,19 @@ static u32 w2c_f70(module *m, u64 w2c_p0, u64 w2c_p1, u64 w2c_p2) {
       w2c_j1 = w2c_p0;
       w2c_j0 += w2c_j1;
       w2c_p0 = w2c_j0;
-      w2c_j0 = w2c_l3;
+      w2c_j0 = w2c_l4;
       w2c_j1 = w2c_l8;
       w2c_i0 = w2c_j0 >= w2c_j1;
-      if (w2c_i0) {goto w2c_B138;}
-      w2c_j0 = w2c_l3;
+      if (w2c_i0) {goto w2c_B126;}
+      w2c_j0 = w2c_l4;
       w2c_j1 = 1ull;
       w2c_j0 += w2c_j1;
-      w2c_l3 = w2c_j0;
+      w2c_l4 = w2c_j0;
       w2c_j0 = w2c_p1;
       w2c_j1 = w2c_p0;
       w2c_i0 = w2c_j0 > w2c_j1;
-      if (w2c_i0) {goto w2c_L139;}
-    w2c_B138:;
+      if (w2c_i0) {goto w2c_L127;}
+    w2c_B126:;
     w2c_j0 = w2c_p2;
     w2c_i0 = (u32)(w2c_j0);
     w2c_j1 = w2c_p0;
@@ -51147,9 +50286,11 @@ static u32 w2c_f70(module *m, u64 w2c_p0, u64 w2c_p1, u64 w2c_p2) {
     w2c_i0 = (u32)(w2c_j0);
     w2c_j1 = w2c_l8;
     i64_store(m, (u64)(w2c_i0) + 8, w2c_j1);
+    w2c_j0 = w2c_l3;
+    m->w2c_g0 = w2c_j0;
     w2c_i0 = 2u;
     goto w2c_Bfunc;
-    w2c_B32:;
+    w2c_B20:;
     w2c_j0 = w2c_l7;
     w2c_j1 = 1000ull;
     w2c_j0 *= w2c_j1;
@@ -51159,11 +50300,11 @@ static u32 w2c_f70(module *m, u64 w2c_p0, u64 w2c_p1, u64 w2c_p2) {
     w2c_j0 = 0ull;
     w2c_l7 = w2c_j0;
     w2c_i0 = 3u;
-    w2c_l19 = w2c_i0;
+    w2c_l16 = w2c_i0;
     w2c_i0 = 12u;
-    w2c_l20 = w2c_i0;
-    goto w2c_B25;
-    w2c_B31:;
+    w2c_l17 = w2c_i0;
+    goto w2c_B13;
+    w2c_B19:;
     w2c_j0 = w2c_l9;
     w2c_j1 = w2c_l7;
     w2c_j0 += w2c_j1;
@@ -51177,25 +50318,25 @@ static u32 w2c_f70(module *m, u64 w2c_p0, u64 w2c_p1, u64 w2c_p2) {
     w2c_j0 = 0ull;
     w2c_l10 = w2c_j0;
     w2c_i0 = 0u;
-    w2c_l19 = w2c_i0;
+    w2c_l16 = w2c_i0;
     w2c_i0 = 13u;
-    w2c_l20 = w2c_i0;
+    w2c_l17 = w2c_i0;
     w2c_j0 = 0ull;
     w2c_l9 = w2c_j0;
     w2c_j0 = 0ull;
     w2c_l7 = w2c_j0;
-    goto w2c_B25;
-    w2c_B30:;
+    goto w2c_B13;
+    w2c_B18:;
     w2c_i0 = 1u;
-    w2c_l14 = w2c_i0;
-    goto w2c_B28;
-    w2c_B29:;
+    w2c_l15 = w2c_i0;
+    goto w2c_B16;
+    w2c_B17:;
     w2c_i0 = 0u;
-    w2c_l14 = w2c_i0;
-    w2c_B28:;
+    w2c_l15 = w2c_i0;
+    w2c_B16:;
     w2c_i0 = 8u;
-    w2c_l20 = w2c_i0;
-    w2c_B27:;
+    w2c_l17 = w2c_i0;
+    w2c_B15:;
     w2c_j0 = w2c_l9;
     w2c_j1 = w2c_l7;
     w2c_j0 += w2c_j1;
@@ -51207,42 +50348,59 @@ static u32 w2c_f70(module *m, u64 w2c_p0, u64 w2c_p1, u64 w2c_p2) {
     w2c_j0 = 0ull;
     w2c_l9 = w2c_j0;
     w2c_i0 = 0u;
-    w2c_l19 = w2c_i0;
+    w2c_l16 = w2c_i0;
     w2c_j0 = 0ull;
     w2c_l7 = w2c_j0;
-    w2c_B25:;
+    w2c_B13:;
     w2c_j0 = w2c_p0;
-    w2c_j1 = w2c_l5;
+    w2c_j1 = w2c_l12;
     w2c_j0 += w2c_j1;
     w2c_p0 = w2c_j0;
-    w2c_j0 = w2c_l3;
+    w2c_j0 = w2c_l4;
     w2c_j1 = 1ull;
     w2c_j0 += w2c_j1;
-    w2c_l3 = w2c_j0;
+    w2c_l4 = w2c_j0;
     w2c_j0 = w2c_l8;
-    w2c_j1 = w2c_l5;
+    w2c_j1 = w2c_l12;
     w2c_j0 -= w2c_j1;
     w2c_l8 = w2c_j0;
     w2c_j1 = 0ull;
     w2c_i0 = w2c_j0 != w2c_j1;
-    if (w2c_i0) {goto w2c_L21;}
-  w2c_i0 = w2c_l20;
+    if (w2c_i0) {goto w2c_L9;}
+  w2c_i0 = w2c_l17;
   w2c_i1 = 255u;
   w2c_i0 &= w2c_i1;
-  w2c_l14 = w2c_i0;
+  w2c_l15 = w2c_i0;
   w2c_i1 = 17u;
   w2c_i0 = w2c_i0 < w2c_i1;
-  if (w2c_i0) {goto w2c_B1;}
-  w2c_i0 = w2c_l14;
+  if (w2c_i0) {goto w2c_B8;}
+  w2c_i0 = w2c_l15;
   w2c_i1 = 4294967279u;
   w2c_i0 += w2c_i1;
   switch (w2c_i0) {
-    case 0: goto w2c_B140;
-    case 1: goto w2c_B1;
-    case 2: goto w2c_B140;
-    default: goto w2c_B140;
+    case 0: goto w2c_B7;
+    case 1: goto w2c_B8;
+    case 2: goto w2c_B7;
+    default: goto w2c_B7;
   }
-  w2c_B140:;
+  w2c_B8:;
+  w2c_j0 = w2c_p2;
+  w2c_i0 = (u32)(w2c_j0);
+  w2c_j1 = 0ull;
+  i64_store(m, (u64)(w2c_i0) + 16, w2c_j1);
+  w2c_j0 = w2c_p2;
+  w2c_i0 = (u32)(w2c_j0);
+  w2c_j1 = 0ull;
+  i64_store(m, (u64)(w2c_i0) + 8, w2c_j1);
+  w2c_j0 = w2c_p2;
+  w2c_i0 = (u32)(w2c_j0);
+  w2c_j1 = 0ull;
+  i64_store(m, (u64)(w2c_i0), w2c_j1);
+  w2c_j0 = w2c_l3;
+  m->w2c_g0 = w2c_j0;
+  w2c_i0 = 9u;
+  goto w2c_Bfunc;
+  w2c_B7:;
   w2c_j0 = w2c_l6;
   w2c_i0 = (u32)(w2c_j0);
   w2c_j1 = 0ull;
@@ -51257,7 +50415,7 @@ static u32 w2c_f70(module *m, u64 w2c_p0, u64 w2c_p1, u64 w2c_p2) {
   w2c_j2 = w2c_l11;
   w2c_j1 -= w2c_j2;
   w2c_j2 = w2c_l11;
-  w2c_i3 = w2c_l15;
+  w2c_i3 = w2c_l18;
   w2c_i4 = 255u;
   w2c_i3 &= w2c_i4;
   w2c_i4 = 2u;
@@ -51265,9 +50423,11 @@ static u32 w2c_f70(module *m, u64 w2c_p0, u64 w2c_p1, u64 w2c_p2) {
   w2c_j1 = w2c_i3 ? w2c_j1 : w2c_j2;
   i64_store(m, (u64)(w2c_i0), w2c_j1);
   w2c_i0 = 0u;
-  w2c_l18 = w2c_i0;
+  w2c_l15 = w2c_i0;
   w2c_B1:;
-  w2c_i0 = w2c_l18;
+  w2c_j0 = w2c_l3;
+  m->w2c_g0 = w2c_j0;
+  w2c_i0 = w2c_l15;
   goto w2c_Bfunc;
   w2c_B0:;
   UNREACHABLE;
@@ -51292,14 +50452,14 @@ static u32 w2c_chinese_number_find_utf8(module *m, u64 w2c_p0, u64 w2c_p1, u64 w
   w2c_j5 = w2c_p5;
   w2c_j6 = w2c_p6;
   w2c_j7 = w2c_p7;
-  w2c_i0 = w2c_f72(m, w2c_j0, w2c_j1, w2c_j2, w2c_i3, w2c_i4, w2c_j5, w2c_j6, w2c_j7);
+  w2c_i0 = w2c_f73(m, w2c_j0, w2c_j1, w2c_j2, w2c_i3, w2c_i4, w2c_j5, w2c_j6, w2c_j7);
   w2c_p4 = w2c_i0;
   w2c_f1(m);
   w2c_i0 = w2c_p4;
   return w2c_i0;
 }
 
-static u32 w2c_f72(module *m, u64 w2c_p0, u64 w2c_p1, u64 w2c_p2, u32 w2c_p3, u32 w2c_p4, u64 w2c_p5, u64 w2c_p6, u64 w2c_p7) {
+static u32 w2c_f73(module *m, u64 w2c_p0, u64 w2c_p1, u64 w2c_p2, u32 w2c_p3, u32 w2c_p4, u64 w2c_p5, u64 w2c_p6, u64 w2c_p7) {
   u32 w2c_i0, w2c_i3, w2c_i4, w2c_i8;
   u64 w2c_j0, w2c_j1, w2c_j2, w2c_j3, w2c_j5, w2c_j6, w2c_j7, w2c_j8;
   w2c_j0 = w2c_p0;
@@ -51322,7 +50482,7 @@ static u32 w2c_f72(module *m, u64 w2c_p0, u64 w2c_p1, u64 w2c_p2, u32 w2c_p3, u3
   w2c_j5 += w2c_j6;
   w2c_j6 = w2c_p6;
   w2c_j7 = w2c_p7;
-  w2c_i0 = w2c_f13(m, w2c_j0, w2c_j1, w2c_j2, w2c_i3, w2c_i4, w2c_j5, w2c_j6, w2c_j7);
+  w2c_i0 = w2c_f14(m, w2c_j0, w2c_j1, w2c_j2, w2c_i3, w2c_i4, w2c_j5, w2c_j6, w2c_j7);
   return w2c_i0;
 }
 
@@ -51343,18 +50503,18 @@ static u32 w2c_chinese_number_find(module *m, u64 w2c_p0, u64 w2c_p1, u64 w2c_p2
   w2c_j5 = w2c_p5;
   w2c_j6 = w2c_p6;
   w2c_j7 = w2c_p7;
-  w2c_i0 = w2c_f74(m, w2c_j0, w2c_j1, w2c_j2, w2c_i3, w2c_i4, w2c_j5, w2c_j6, w2c_j7);
+  w2c_i0 = w2c_f75(m, w2c_j0, w2c_j1, w2c_j2, w2c_i3, w2c_i4, w2c_j5, w2c_j6, w2c_j7);
   w2c_p4 = w2c_i0;
   w2c_f1(m);
   w2c_i0 = w2c_p4;
   return w2c_i0;
 }
 
-static u32 w2c_f74(module *m, u64 w2c_p0, u64 w2c_p1, u64 w2c_p2, u32 w2c_p3, u32 w2c_p4, u64 w2c_p5, u64 w2c_p6, u64 w2c_p7) {
+static u32 w2c_f75(module *m, u64 w2c_p0, u64 w2c_p1, u64 w2c_p2, u32 w2c_p3, u32 w2c_p4, u64 w2c_p5, u64 w2c_p6, u64 w2c_p7) {
   u32 w2c_l12 = 0, w2c_l13 = 0, w2c_l14 = 0, w2c_l15 = 0, w2c_l16 = 0;
   u64 w2c_l8 = 0, w2c_l9 = 0, w2c_l10 = 0, w2c_l11 = 0;
-  u32 w2c_i0, w2c_i1, w2c_i2, w2c_i3, w2c_i4, w2c_i8;
-  u64 w2c_j0, w2c_j1, w2c_j2, w2c_j3, w2c_j5, w2c_j6, w2c_j7, w2c_j8;
+  u32 w2c_i0, w2c_i1, w2c_i2, w2c_i3, w2c_i4;
+  u64 w2c_j0, w2c_j1, w2c_j2, w2c_j3, w2c_j5, w2c_j6, w2c_j7;
   w2c_j0 = m->w2c_g0;
   w2c_l8 = w2c_j0;
   w2c_j1 = 16ull;
@@ -51374,8 +50534,16 @@ static u32 w2c_f74(module *m, u64 w2c_p0, u64 w2c_p1, u64 w2c_p2, u32 w2c_p3, u3
   w2c_i1 = 15u;
   w2c_i0 = w2c_i0 > w2c_i1;
   if (w2c_i0) {goto w2c_B1;}
-  w2c_j0 = w2c_p1;
+  w2c_j0 = w2c_p5;
+  w2c_j1 = 4096ull;
+  w2c_j2 = 0ull;
+  w2c_j3 = w2c_p5;
+  w2c_i3 = !(w2c_j3);
+  w2c_j1 = w2c_i3 ? w2c_j1 : w2c_j2;
+  w2c_j0 += w2c_j1;
   w2c_l9 = w2c_j0;
+  w2c_j0 = w2c_p1;
+  w2c_l10 = w2c_j0;
   w2c_j0 = w2c_p0;
   w2c_j1 = 4096ull;
   w2c_j2 = 0ull;
@@ -51383,18 +50551,18 @@ static u32 w2c_f74(module *m, u64 w2c_p0, u64 w2c_p1, u64 w2c_p2, u32 w2c_p3, u3
   w2c_i3 = !(w2c_j3);
   w2c_j1 = w2c_i3 ? w2c_j1 : w2c_j2;
   w2c_j0 += w2c_j1;
-  w2c_l10 = w2c_j0;
-  w2c_p0 = w2c_j0;
+  w2c_l11 = w2c_j0;
+  w2c_p5 = w2c_j0;
   w2c_j0 = w2c_p1;
   w2c_j1 = 4ull;
   w2c_i0 = w2c_j0 < w2c_j1;
-  if (w2c_i0) {goto w2c_B5;}
-  w2c_j0 = w2c_l10;
-  w2c_p0 = w2c_j0;
+  if (w2c_i0) {goto w2c_B4;}
+  w2c_j0 = w2c_l11;
+  w2c_p5 = w2c_j0;
   w2c_j0 = w2c_p1;
-  w2c_l9 = w2c_j0;
-  w2c_L6:
-    w2c_j0 = w2c_p0;
+  w2c_l10 = w2c_j0;
+  w2c_L5:
+    w2c_j0 = w2c_p5;
     w2c_i0 = (u32)(w2c_j0);
     w2c_i0 = i32_load(m, (u64)(w2c_i0));
     w2c_i1 = 16776989u;
@@ -51403,40 +50571,37 @@ static u32 w2c_f74(module *m, u64 w2c_p0, u64 w2c_p1, u64 w2c_p2, u32 w2c_p3, u3
     w2c_i0 &= w2c_i1;
     w2c_i1 = 8421376u;
     w2c_i0 = w2c_i0 != w2c_i1;
-    if (w2c_i0) {goto w2c_B4;}
-    w2c_j0 = w2c_p0;
+    if (w2c_i0) {goto w2c_B3;}
+    w2c_j0 = w2c_p5;
     w2c_j1 = 3ull;
     w2c_j0 += w2c_j1;
-    w2c_p0 = w2c_j0;
-    w2c_j0 = w2c_l9;
+    w2c_p5 = w2c_j0;
+    w2c_j0 = w2c_l10;
     w2c_j1 = 18446744073709551613ull;
     w2c_j0 += w2c_j1;
-    w2c_l9 = w2c_j0;
+    w2c_l10 = w2c_j0;
     w2c_j1 = 3ull;
     w2c_i0 = w2c_j0 > w2c_j1;
-    if (w2c_i0) {goto w2c_L6;}
-  w2c_B5:;
-  w2c_j0 = w2c_l9;
+    if (w2c_i0) {goto w2c_L5;}
+  w2c_B4:;
+  w2c_j0 = w2c_l10;
   w2c_j1 = 3ull;
   w2c_i0 = w2c_j0 > w2c_j1;
-  if (w2c_i0) {goto w2c_B4;}
-  w2c_j0 = w2c_l9;
+  if (w2c_i0) {goto w2c_B3;}
+  w2c_j0 = w2c_l10;
   w2c_i0 = (u32)(w2c_j0);
   switch (w2c_i0) {
     case 0: goto w2c_B2;
-    case 1: goto w2c_B4;
-    case 2: goto w2c_B4;
-    case 3: goto w2c_B7;
+    case 1: goto w2c_B3;
+    case 2: goto w2c_B3;
+    case 3: goto w2c_B6;
     default: goto w2c_B2;
   }
-  w2c_B7:;
-  w2c_j0 = w2c_p1;
-  w2c_i0 = !(w2c_j0);
-  if (w2c_i0) {goto w2c_B2;}
-  w2c_j0 = w2c_p0;
+  w2c_B6:;
+  w2c_j0 = w2c_p5;
   w2c_i0 = (u32)(w2c_j0);
   w2c_i0 = i32_load16_u(m, (u64)(w2c_i0));
-  w2c_j1 = w2c_p0;
+  w2c_j1 = w2c_p5;
   w2c_j2 = 2ull;
   w2c_j1 += w2c_j2;
   w2c_i1 = (u32)(w2c_j1);
@@ -51449,24 +50614,22 @@ static u32 w2c_f74(module *m, u64 w2c_p0, u64 w2c_p1, u64 w2c_p2, u32 w2c_p3, u3
   w2c_i1 = 12632312u;
   w2c_i0 &= w2c_i1;
   w2c_i1 = 8421376u;
-  w2c_i0 = w2c_i0 != w2c_i1;
-  if (w2c_i0) {goto w2c_B3;}
-  goto w2c_B2;
-  w2c_B4:;
+  w2c_i0 = w2c_i0 == w2c_i1;
+  if (w2c_i0) {goto w2c_B2;}
+  w2c_B3:;
   w2c_j0 = w2c_p1;
   w2c_i0 = !(w2c_j0);
   if (w2c_i0) {goto w2c_B2;}
-  w2c_B3:;
-  w2c_j0 = w2c_l10;
-  w2c_l9 = w2c_j0;
+  w2c_j0 = w2c_l11;
+  w2c_l10 = w2c_j0;
   w2c_j0 = w2c_p1;
-  w2c_p0 = w2c_j0;
-  w2c_L8:
-    w2c_j0 = w2c_p0;
+  w2c_p5 = w2c_j0;
+  w2c_L7:
+    w2c_j0 = w2c_p5;
     w2c_j1 = 4ull;
     w2c_i0 = w2c_j0 < w2c_j1;
-    if (w2c_i0) {goto w2c_B12;}
-    w2c_j0 = w2c_l9;
+    if (w2c_i0) {goto w2c_B11;}
+    w2c_j0 = w2c_l10;
     w2c_i0 = (u32)(w2c_j0);
     w2c_i0 = i32_load(m, (u64)(w2c_i0));
     w2c_l13 = w2c_i0;
@@ -51476,16 +50639,16 @@ static u32 w2c_f74(module *m, u64 w2c_p0, u64 w2c_p1, u64 w2c_p2, u32 w2c_p3, u3
     w2c_i0 &= w2c_i1;
     w2c_i1 = 8421376u;
     w2c_i0 = w2c_i0 != w2c_i1;
-    if (w2c_i0) {goto w2c_B13;}
+    if (w2c_i0) {goto w2c_B12;}
     w2c_j0 = 3ull;
-    w2c_l11 = w2c_j0;
-    goto w2c_B9;
-    w2c_B13:;
+    w2c_p0 = w2c_j0;
+    goto w2c_B8;
+    w2c_B12:;
     w2c_i0 = w2c_l13;
     w2c_i1 = 2155905152u;
     w2c_i0 &= w2c_i1;
     w2c_i0 = !(w2c_i0);
-    if (w2c_i0) {goto w2c_B14;}
+    if (w2c_i0) {goto w2c_B13;}
     w2c_i0 = w2c_l13;
     w2c_i1 = 8u;
     w2c_i0 >>= (w2c_i1 & 31);
@@ -51494,37 +50657,37 @@ static u32 w2c_f74(module *m, u64 w2c_p0, u64 w2c_p1, u64 w2c_p2, u32 w2c_p3, u3
     w2c_i1 = 16u;
     w2c_i0 >>= (w2c_i1 & 31);
     w2c_l15 = w2c_i0;
-    goto w2c_B11;
-    w2c_B14:;
+    goto w2c_B10;
+    w2c_B13:;
     w2c_j0 = 4ull;
-    w2c_l11 = w2c_j0;
-    goto w2c_B9;
-    w2c_B12:;
-    w2c_j0 = w2c_l9;
+    w2c_p0 = w2c_j0;
+    goto w2c_B8;
+    w2c_B11:;
+    w2c_j0 = w2c_l10;
     w2c_i0 = (u32)(w2c_j0);
     w2c_i0 = i32_load8_u(m, (u64)(w2c_i0));
     w2c_l13 = w2c_i0;
     w2c_i0 = 0u;
     w2c_l15 = w2c_i0;
-    w2c_j0 = w2c_p0;
+    w2c_j0 = w2c_p5;
     w2c_j1 = 18446744073709551615ull;
     w2c_j0 += w2c_j1;
-    w2c_l11 = w2c_j0;
+    w2c_p0 = w2c_j0;
     w2c_j1 = 2ull;
     w2c_i0 = w2c_j0 > w2c_j1;
-    if (w2c_i0) {goto w2c_B15;}
+    if (w2c_i0) {goto w2c_B14;}
     w2c_i0 = 0u;
     w2c_l14 = w2c_i0;
-    w2c_j0 = w2c_l11;
+    w2c_j0 = w2c_p0;
     w2c_i0 = (u32)(w2c_j0);
     switch (w2c_i0) {
-      case 0: goto w2c_B10;
-      case 1: goto w2c_B15;
-      case 2: goto w2c_B16;
-      default: goto w2c_B10;
+      case 0: goto w2c_B9;
+      case 1: goto w2c_B14;
+      case 2: goto w2c_B15;
+      default: goto w2c_B9;
     }
-    w2c_B16:;
-    w2c_j0 = w2c_l9;
+    w2c_B15:;
+    w2c_j0 = w2c_l10;
     w2c_j1 = 1ull;
     w2c_j0 += w2c_j1;
     w2c_i0 = (u32)(w2c_j0);
@@ -51534,7 +50697,7 @@ static u32 w2c_f74(module *m, u64 w2c_p0, u64 w2c_p1, u64 w2c_p2, u32 w2c_p3, u3
     w2c_i0 <<= (w2c_i1 & 31);
     w2c_i1 = w2c_l13;
     w2c_i0 |= w2c_i1;
-    w2c_j1 = w2c_l9;
+    w2c_j1 = w2c_l10;
     w2c_j2 = 2ull;
     w2c_j1 += w2c_j2;
     w2c_i1 = (u32)(w2c_j1);
@@ -51549,41 +50712,41 @@ static u32 w2c_f74(module *m, u64 w2c_p0, u64 w2c_p1, u64 w2c_p2, u32 w2c_p3, u3
     w2c_i0 &= w2c_i1;
     w2c_i1 = 8421376u;
     w2c_i0 = w2c_i0 != w2c_i1;
-    if (w2c_i0) {goto w2c_B11;}
+    if (w2c_i0) {goto w2c_B10;}
     w2c_j0 = 3ull;
-    w2c_l11 = w2c_j0;
-    goto w2c_B9;
-    w2c_B15:;
-    w2c_j0 = w2c_l9;
+    w2c_p0 = w2c_j0;
+    goto w2c_B8;
+    w2c_B14:;
+    w2c_j0 = w2c_l10;
     w2c_j1 = 1ull;
     w2c_j0 += w2c_j1;
     w2c_i0 = (u32)(w2c_j0);
     w2c_i0 = i32_load8_u(m, (u64)(w2c_i0));
     w2c_l14 = w2c_i0;
-    goto w2c_B10;
-    w2c_B11:;
+    goto w2c_B9;
+    w2c_B10:;
     w2c_i0 = w2c_l15;
     w2c_i0 = (u32)(s32)(s8)(u8)(w2c_i0);
     w2c_i1 = 4294967232u;
     w2c_i0 = (u32)((s32)w2c_i0 < (s32)w2c_i1);
     w2c_l15 = w2c_i0;
-    w2c_B10:;
+    w2c_B9:;
     w2c_i0 = w2c_l13;
     w2c_i0 = (u32)(s32)(s8)(u8)(w2c_i0);
     w2c_i1 = 4294967295u;
     w2c_i0 = (u32)((s32)w2c_i0 <= (s32)w2c_i1);
-    if (w2c_i0) {goto w2c_B17;}
+    if (w2c_i0) {goto w2c_B16;}
     w2c_j0 = 1ull;
-    w2c_l11 = w2c_j0;
-    goto w2c_B9;
-    w2c_B17:;
+    w2c_p0 = w2c_j0;
+    goto w2c_B8;
+    w2c_B16:;
     w2c_i0 = w2c_l13;
     w2c_i1 = 255u;
     w2c_i0 &= w2c_i1;
     w2c_l12 = w2c_i0;
     w2c_i1 = 223u;
     w2c_i0 = w2c_i0 > w2c_i1;
-    if (w2c_i0) {goto w2c_B18;}
+    if (w2c_i0) {goto w2c_B17;}
     w2c_i0 = 5u;
     w2c_l12 = w2c_i0;
     w2c_i0 = w2c_l14;
@@ -51598,13 +50761,13 @@ static u32 w2c_f74(module *m, u64 w2c_p0, u64 w2c_p1, u64 w2c_p2, u32 w2c_p3, u3
     w2c_i0 = w2c_i0 <= w2c_i1;
     if (w2c_i0) {goto w2c_B1;}
     w2c_j0 = 2ull;
-    w2c_l11 = w2c_j0;
-    goto w2c_B9;
-    w2c_B18:;
+    w2c_p0 = w2c_j0;
+    goto w2c_B8;
+    w2c_B17:;
     w2c_i0 = w2c_l12;
     w2c_i1 = 239u;
     w2c_i0 = w2c_i0 > w2c_i1;
-    if (w2c_i0) {goto w2c_B19;}
+    if (w2c_i0) {goto w2c_B18;}
     w2c_i0 = 5u;
     w2c_l12 = w2c_i0;
     w2c_i0 = w2c_l14;
@@ -51636,18 +50799,18 @@ static u32 w2c_f74(module *m, u64 w2c_p0, u64 w2c_p1, u64 w2c_p2, u32 w2c_p3, u3
     w2c_i0 = w2c_i0 == w2c_i1;
     if (w2c_i0) {goto w2c_B1;}
     w2c_j0 = 3ull;
-    w2c_l11 = w2c_j0;
-    goto w2c_B9;
-    w2c_B19:;
+    w2c_p0 = w2c_j0;
+    goto w2c_B8;
+    w2c_B18:;
     w2c_j0 = 4ull;
-    w2c_l11 = w2c_j0;
+    w2c_p0 = w2c_j0;
     w2c_i0 = 0u;
     w2c_l16 = w2c_i0;
-    w2c_j0 = w2c_p0;
+    w2c_j0 = w2c_p5;
     w2c_j1 = 4ull;
     w2c_i0 = w2c_j0 < w2c_j1;
-    if (w2c_i0) {goto w2c_B20;}
-    w2c_j0 = w2c_l9;
+    if (w2c_i0) {goto w2c_B19;}
+    w2c_j0 = w2c_l10;
     w2c_j1 = 3ull;
     w2c_j0 += w2c_j1;
     w2c_i0 = (u32)(w2c_j0);
@@ -51655,7 +50818,7 @@ static u32 w2c_f74(module *m, u64 w2c_p0, u64 w2c_p1, u64 w2c_p2, u32 w2c_p3, u3
     w2c_i1 = 4294967232u;
     w2c_i0 = (u32)((s32)w2c_i0 < (s32)w2c_i1);
     w2c_l16 = w2c_i0;
-    w2c_B20:;
+    w2c_B19:;
     w2c_i0 = 5u;
     w2c_l12 = w2c_i0;
     w2c_i0 = w2c_l15;
@@ -51683,34 +50846,28 @@ static u32 w2c_f74(module *m, u64 w2c_p0, u64 w2c_p1, u64 w2c_p2, u32 w2c_p3, u3
     w2c_i1 = 255u;
     w2c_i0 = w2c_i0 > w2c_i1;
     if (w2c_i0) {goto w2c_B1;}
-    w2c_B9:;
-    w2c_j0 = w2c_l9;
-    w2c_j1 = w2c_l11;
+    w2c_B8:;
+    w2c_j0 = w2c_l10;
+    w2c_j1 = w2c_p0;
     w2c_j0 += w2c_j1;
-    w2c_l9 = w2c_j0;
-    w2c_j0 = w2c_p0;
-    w2c_j1 = w2c_l11;
+    w2c_l10 = w2c_j0;
+    w2c_j0 = w2c_p5;
+    w2c_j1 = w2c_p0;
     w2c_j0 -= w2c_j1;
-    w2c_p0 = w2c_j0;
+    w2c_p5 = w2c_j0;
     w2c_j1 = 0ull;
     w2c_i0 = w2c_j0 != w2c_j1;
-    if (w2c_i0) {goto w2c_L8;}
+    if (w2c_i0) {goto w2c_L7;}
   w2c_B2:;
-  w2c_j0 = w2c_l10;
+  w2c_j0 = w2c_l11;
   w2c_j1 = w2c_p1;
   w2c_j2 = w2c_p2;
   w2c_i3 = w2c_p3;
   w2c_i4 = w2c_p4;
-  w2c_j5 = w2c_p5;
-  w2c_j6 = 4096ull;
-  w2c_j7 = 0ull;
-  w2c_j8 = w2c_p5;
-  w2c_i8 = !(w2c_j8);
-  w2c_j6 = w2c_i8 ? w2c_j6 : w2c_j7;
-  w2c_j5 += w2c_j6;
+  w2c_j5 = w2c_l9;
   w2c_j6 = w2c_p6;
   w2c_j7 = w2c_p7;
-  w2c_i0 = w2c_f13(m, w2c_j0, w2c_j1, w2c_j2, w2c_i3, w2c_i4, w2c_j5, w2c_j6, w2c_j7);
+  w2c_i0 = w2c_f14(m, w2c_j0, w2c_j1, w2c_j2, w2c_i3, w2c_i4, w2c_j5, w2c_j6, w2c_j7);
   w2c_l12 = w2c_i0;
   w2c_B1:;
   w2c_j0 = w2c_l8;
@@ -51740,14 +50897,14 @@ static u32 w2c_chinese_quantity_find_utf8(module *m, u64 w2c_p0, u64 w2c_p1, u64
   w2c_j5 = w2c_p5;
   w2c_j6 = w2c_p6;
   w2c_j7 = w2c_p7;
-  w2c_i0 = w2c_f76(m, w2c_j0, w2c_j1, w2c_j2, w2c_i3, w2c_i4, w2c_j5, w2c_j6, w2c_j7);
+  w2c_i0 = w2c_f77(m, w2c_j0, w2c_j1, w2c_j2, w2c_i3, w2c_i4, w2c_j5, w2c_j6, w2c_j7);
   w2c_p4 = w2c_i0;
   w2c_f1(m);
   w2c_i0 = w2c_p4;
   return w2c_i0;
 }
 
-static u32 w2c_f76(module *m, u64 w2c_p0, u64 w2c_p1, u64 w2c_p2, u32 w2c_p3, u32 w2c_p4, u64 w2c_p5, u64 w2c_p6, u64 w2c_p7) {
+static u32 w2c_f77(module *m, u64 w2c_p0, u64 w2c_p1, u64 w2c_p2, u32 w2c_p3, u32 w2c_p4, u64 w2c_p5, u64 w2c_p6, u64 w2c_p7) {
   u32 w2c_i0, w2c_i3, w2c_i4, w2c_i8;
   u64 w2c_j0, w2c_j1, w2c_j2, w2c_j3, w2c_j5, w2c_j6, w2c_j7, w2c_j8;
   w2c_j0 = w2c_p0;
@@ -51770,7 +50927,7 @@ static u32 w2c_f76(module *m, u64 w2c_p0, u64 w2c_p1, u64 w2c_p2, u32 w2c_p3, u3
   w2c_j5 += w2c_j6;
   w2c_j6 = w2c_p6;
   w2c_j7 = w2c_p7;
-  w2c_i0 = w2c_f20(m, w2c_j0, w2c_j1, w2c_j2, w2c_i3, w2c_i4, w2c_j5, w2c_j6, w2c_j7);
+  w2c_i0 = w2c_f21(m, w2c_j0, w2c_j1, w2c_j2, w2c_i3, w2c_i4, w2c_j5, w2c_j6, w2c_j7);
   return w2c_i0;
 }
 
@@ -51791,16 +50948,16 @@ static u32 w2c_chinese_quantity_find(module *m, u64 w2c_p0, u64 w2c_p1, u64 w2c_
   w2c_j5 = w2c_p5;
   w2c_j6 = w2c_p6;
   w2c_j7 = w2c_p7;
-  w2c_i0 = w2c_f78(m, w2c_j0, w2c_j1, w2c_j2, w2c_i3, w2c_i4, w2c_j5, w2c_j6, w2c_j7);
+  w2c_i0 = w2c_f79(m, w2c_j0, w2c_j1, w2c_j2, w2c_i3, w2c_i4, w2c_j5, w2c_j6, w2c_j7);
   w2c_p4 = w2c_i0;
   w2c_f1(m);
   w2c_i0 = w2c_p4;
   return w2c_i0;
 }
 
-static u32 w2c_f78(module *m, u64 w2c_p0, u64 w2c_p1, u64 w2c_p2, u32 w2c_p3, u32 w2c_p4, u64 w2c_p5, u64 w2c_p6, u64 w2c_p7) {
-  u32 w2c_l12 = 0, w2c_l13 = 0, w2c_l14 = 0, w2c_l15 = 0, w2c_l16 = 0;
-  u64 w2c_l8 = 0, w2c_l9 = 0, w2c_l10 = 0, w2c_l11 = 0;
+static u32 w2c_f79(module *m, u64 w2c_p0, u64 w2c_p1, u64 w2c_p2, u32 w2c_p3, u32 w2c_p4, u64 w2c_p5, u64 w2c_p6, u64 w2c_p7) {
+  u32 w2c_l11 = 0;
+  u64 w2c_l8 = 0, w2c_l9 = 0, w2c_l10 = 0;
   u32 w2c_i0, w2c_i1, w2c_i2, w2c_i3, w2c_i4, w2c_i8;
   u64 w2c_j0, w2c_j1, w2c_j2, w2c_j3, w2c_j5, w2c_j6, w2c_j7, w2c_j8;
   w2c_j0 = m->w2c_g0;
@@ -51813,7 +50970,7 @@ static u32 w2c_f78(module *m, u64 w2c_p0, u64 w2c_p1, u64 w2c_p2, u32 w2c_p3, u3
   w2c_j1 = 0ull;
   i64_store(m, (u64)(w2c_i0), w2c_j1);
   w2c_i0 = 8u;
-  w2c_l12 = w2c_i0;
+  w2c_l11 = w2c_i0;
   w2c_i0 = w2c_p3;
   w2c_i1 = 1u;
   w2c_i0 = w2c_i0 > w2c_i1;
@@ -51836,12 +50993,12 @@ static u32 w2c_f78(module *m, u64 w2c_p0, u64 w2c_p1, u64 w2c_p2, u32 w2c_p3, u3
   w2c_j0 = w2c_p1;
   w2c_j1 = 4ull;
   w2c_i0 = w2c_j0 < w2c_j1;
-  if (w2c_i0) {goto w2c_B5;}
+  if (w2c_i0) {goto w2c_B4;}
   w2c_j0 = w2c_l10;
   w2c_p0 = w2c_j0;
   w2c_j0 = w2c_p1;
   w2c_l9 = w2c_j0;
-  w2c_L6:
+  w2c_L5:
     w2c_j0 = w2c_p0;
     w2c_i0 = (u32)(w2c_j0);
     w2c_i0 = i32_load(m, (u64)(w2c_i0));
@@ -51851,7 +51008,7 @@ static u32 w2c_f78(module *m, u64 w2c_p0, u64 w2c_p1, u64 w2c_p2, u32 w2c_p3, u3
     w2c_i0 &= w2c_i1;
     w2c_i1 = 8421376u;
     w2c_i0 = w2c_i0 != w2c_i1;
-    if (w2c_i0) {goto w2c_B4;}
+    if (w2c_i0) {goto w2c_B3;}
     w2c_j0 = w2c_p0;
     w2c_j1 = 3ull;
     w2c_j0 += w2c_j1;
@@ -51862,25 +51019,22 @@ static u32 w2c_f78(module *m, u64 w2c_p0, u64 w2c_p1, u64 w2c_p2, u32 w2c_p3, u3
     w2c_l9 = w2c_j0;
     w2c_j1 = 3ull;
     w2c_i0 = w2c_j0 > w2c_j1;
-    if (w2c_i0) {goto w2c_L6;}
-  w2c_B5:;
+    if (w2c_i0) {goto w2c_L5;}
+  w2c_B4:;
   w2c_j0 = w2c_l9;
   w2c_j1 = 3ull;
   w2c_i0 = w2c_j0 > w2c_j1;
-  if (w2c_i0) {goto w2c_B4;}
+  if (w2c_i0) {goto w2c_B3;}
   w2c_j0 = w2c_l9;
   w2c_i0 = (u32)(w2c_j0);
   switch (w2c_i0) {
     case 0: goto w2c_B2;
-    case 1: goto w2c_B4;
-    case 2: goto w2c_B4;
-    case 3: goto w2c_B7;
+    case 1: goto w2c_B3;
+    case 2: goto w2c_B3;
+    case 3: goto w2c_B6;
     default: goto w2c_B2;
   }
-  w2c_B7:;
-  w2c_j0 = w2c_p1;
-  w2c_i0 = !(w2c_j0);
-  if (w2c_i0) {goto w2c_B2;}
+  w2c_B6:;
   w2c_j0 = w2c_p0;
   w2c_i0 = (u32)(w2c_j0);
   w2c_i0 = i32_load16_u(m, (u64)(w2c_i0));
@@ -51897,252 +51051,16 @@ static u32 w2c_f78(module *m, u64 w2c_p0, u64 w2c_p1, u64 w2c_p2, u32 w2c_p3, u3
   w2c_i1 = 12632312u;
   w2c_i0 &= w2c_i1;
   w2c_i1 = 8421376u;
-  w2c_i0 = w2c_i0 != w2c_i1;
-  if (w2c_i0) {goto w2c_B3;}
-  goto w2c_B2;
-  w2c_B4:;
-  w2c_j0 = w2c_p1;
-  w2c_i0 = !(w2c_j0);
+  w2c_i0 = w2c_i0 == w2c_i1;
   if (w2c_i0) {goto w2c_B2;}
   w2c_B3:;
+  w2c_i0 = 5u;
+  w2c_l11 = w2c_i0;
   w2c_j0 = w2c_l10;
-  w2c_l9 = w2c_j0;
-  w2c_j0 = w2c_p1;
-  w2c_p0 = w2c_j0;
-  w2c_L8:
-    w2c_j0 = w2c_p0;
-    w2c_j1 = 4ull;
-    w2c_i0 = w2c_j0 < w2c_j1;
-    if (w2c_i0) {goto w2c_B12;}
-    w2c_j0 = w2c_l9;
-    w2c_i0 = (u32)(w2c_j0);
-    w2c_i0 = i32_load(m, (u64)(w2c_i0));
-    w2c_l13 = w2c_i0;
-    w2c_i1 = 16776989u;
-    w2c_i0 += w2c_i1;
-    w2c_i1 = 12632312u;
-    w2c_i0 &= w2c_i1;
-    w2c_i1 = 8421376u;
-    w2c_i0 = w2c_i0 != w2c_i1;
-    if (w2c_i0) {goto w2c_B13;}
-    w2c_j0 = 3ull;
-    w2c_l11 = w2c_j0;
-    goto w2c_B9;
-    w2c_B13:;
-    w2c_i0 = w2c_l13;
-    w2c_i1 = 2155905152u;
-    w2c_i0 &= w2c_i1;
-    w2c_i0 = !(w2c_i0);
-    if (w2c_i0) {goto w2c_B14;}
-    w2c_i0 = w2c_l13;
-    w2c_i1 = 8u;
-    w2c_i0 >>= (w2c_i1 & 31);
-    w2c_l14 = w2c_i0;
-    w2c_i0 = w2c_l13;
-    w2c_i1 = 16u;
-    w2c_i0 >>= (w2c_i1 & 31);
-    w2c_l15 = w2c_i0;
-    goto w2c_B11;
-    w2c_B14:;
-    w2c_j0 = 4ull;
-    w2c_l11 = w2c_j0;
-    goto w2c_B9;
-    w2c_B12:;
-    w2c_j0 = w2c_l9;
-    w2c_i0 = (u32)(w2c_j0);
-    w2c_i0 = i32_load8_u(m, (u64)(w2c_i0));
-    w2c_l13 = w2c_i0;
-    w2c_i0 = 0u;
-    w2c_l15 = w2c_i0;
-    w2c_j0 = w2c_p0;
-    w2c_j1 = 18446744073709551615ull;
-    w2c_j0 += w2c_j1;
-    w2c_l11 = w2c_j0;
-    w2c_j1 = 2ull;
-    w2c_i0 = w2c_j0 > w2c_j1;
-    if (w2c_i0) {goto w2c_B15;}
-    w2c_i0 = 0u;
-    w2c_l14 = w2c_i0;
-    w2c_j0 = w2c_l11;
-    w2c_i0 = (u32)(w2c_j0);
-    switch (w2c_i0) {
-      case 0: goto w2c_B10;
-      case 1: goto w2c_B15;
-      case 2: goto w2c_B16;
-      default: goto w2c_B10;
-    }
-    w2c_B16:;
-    w2c_j0 = w2c_l9;
-    w2c_j1 = 1ull;
-    w2c_j0 += w2c_j1;
-    w2c_i0 = (u32)(w2c_j0);
-    w2c_i0 = i32_load8_u(m, (u64)(w2c_i0));
-    w2c_l14 = w2c_i0;
-    w2c_i1 = 8u;
-    w2c_i0 <<= (w2c_i1 & 31);
-    w2c_i1 = w2c_l13;
-    w2c_i0 |= w2c_i1;
-    w2c_j1 = w2c_l9;
-    w2c_j2 = 2ull;
-    w2c_j1 += w2c_j2;
-    w2c_i1 = (u32)(w2c_j1);
-    w2c_i1 = i32_load8_u(m, (u64)(w2c_i1));
-    w2c_l15 = w2c_i1;
-    w2c_i2 = 16u;
-    w2c_i1 <<= (w2c_i2 & 31);
-    w2c_i0 |= w2c_i1;
-    w2c_i1 = 16776989u;
-    w2c_i0 += w2c_i1;
-    w2c_i1 = 12632312u;
-    w2c_i0 &= w2c_i1;
-    w2c_i1 = 8421376u;
-    w2c_i0 = w2c_i0 != w2c_i1;
-    if (w2c_i0) {goto w2c_B11;}
-    w2c_j0 = 3ull;
-    w2c_l11 = w2c_j0;
-    goto w2c_B9;
-    w2c_B15:;
-    w2c_j0 = w2c_l9;
-    w2c_j1 = 1ull;
-    w2c_j0 += w2c_j1;
-    w2c_i0 = (u32)(w2c_j0);
-    w2c_i0 = i32_load8_u(m, (u64)(w2c_i0));
-    w2c_l14 = w2c_i0;
-    goto w2c_B10;
-    w2c_B11:;
-    w2c_i0 = w2c_l15;
-    w2c_i0 = (u32)(s32)(s8)(u8)(w2c_i0);
-    w2c_i1 = 4294967232u;
-    w2c_i0 = (u32)((s32)w2c_i0 < (s32)w2c_i1);
-    w2c_l15 = w2c_i0;
-    w2c_B10:;
-    w2c_i0 = w2c_l13;
-    w2c_i0 = (u32)(s32)(s8)(u8)(w2c_i0);
-    w2c_i1 = 4294967295u;
-    w2c_i0 = (u32)((s32)w2c_i0 <= (s32)w2c_i1);
-    if (w2c_i0) {goto w2c_B17;}
-    w2c_j0 = 1ull;
-    w2c_l11 = w2c_j0;
-    goto w2c_B9;
-    w2c_B17:;
-    w2c_i0 = w2c_l13;
-    w2c_i1 = 255u;
-    w2c_i0 &= w2c_i1;
-    w2c_l12 = w2c_i0;
-    w2c_i1 = 223u;
-    w2c_i0 = w2c_i0 > w2c_i1;
-    if (w2c_i0) {goto w2c_B18;}
-    w2c_i0 = 5u;
-    w2c_l12 = w2c_i0;
-    w2c_i0 = w2c_l14;
-    w2c_i0 = (u32)(s32)(s8)(u8)(w2c_i0);
-    w2c_i1 = 4294967231u;
-    w2c_i0 = (u32)((s32)w2c_i0 > (s32)w2c_i1);
-    if (w2c_i0) {goto w2c_B1;}
-    w2c_i0 = w2c_l13;
-    w2c_i1 = 255u;
-    w2c_i0 &= w2c_i1;
-    w2c_i1 = 193u;
-    w2c_i0 = w2c_i0 <= w2c_i1;
-    if (w2c_i0) {goto w2c_B1;}
-    w2c_j0 = 2ull;
-    w2c_l11 = w2c_j0;
-    goto w2c_B9;
-    w2c_B18:;
-    w2c_i0 = w2c_l12;
-    w2c_i1 = 239u;
-    w2c_i0 = w2c_i0 > w2c_i1;
-    if (w2c_i0) {goto w2c_B19;}
-    w2c_i0 = 5u;
-    w2c_l12 = w2c_i0;
-    w2c_i0 = w2c_l14;
-    w2c_i0 = (u32)(s32)(s8)(u8)(w2c_i0);
-    w2c_i1 = 4294967231u;
-    w2c_i0 = (u32)((s32)w2c_i0 > (s32)w2c_i1);
-    w2c_i1 = w2c_l15;
-    w2c_i2 = 1u;
-    w2c_i1 ^= w2c_i2;
-    w2c_i0 |= w2c_i1;
-    if (w2c_i0) {goto w2c_B1;}
-    w2c_i0 = w2c_l13;
-    w2c_i1 = 255u;
-    w2c_i0 &= w2c_i1;
-    w2c_i1 = 6u;
-    w2c_i0 <<= (w2c_i1 & 31);
-    w2c_i1 = w2c_l14;
-    w2c_i2 = 255u;
-    w2c_i1 &= w2c_i2;
-    w2c_i0 += w2c_i1;
-    w2c_l13 = w2c_i0;
-    w2c_i1 = 14496u;
-    w2c_i0 = w2c_i0 < w2c_i1;
-    if (w2c_i0) {goto w2c_B1;}
-    w2c_i0 = w2c_l13;
-    w2c_i1 = 32736u;
-    w2c_i0 &= w2c_i1;
-    w2c_i1 = 15328u;
-    w2c_i0 = w2c_i0 == w2c_i1;
-    if (w2c_i0) {goto w2c_B1;}
-    w2c_j0 = 3ull;
-    w2c_l11 = w2c_j0;
-    goto w2c_B9;
-    w2c_B19:;
-    w2c_j0 = 4ull;
-    w2c_l11 = w2c_j0;
-    w2c_i0 = 0u;
-    w2c_l16 = w2c_i0;
-    w2c_j0 = w2c_p0;
-    w2c_j1 = 4ull;
-    w2c_i0 = w2c_j0 < w2c_j1;
-    if (w2c_i0) {goto w2c_B20;}
-    w2c_j0 = w2c_l9;
-    w2c_j1 = 3ull;
-    w2c_j0 += w2c_j1;
-    w2c_i0 = (u32)(w2c_j0);
-    w2c_i0 = i32_load8_s(m, (u64)(w2c_i0));
-    w2c_i1 = 4294967232u;
-    w2c_i0 = (u32)((s32)w2c_i0 < (s32)w2c_i1);
-    w2c_l16 = w2c_i0;
-    w2c_B20:;
-    w2c_i0 = 5u;
-    w2c_l12 = w2c_i0;
-    w2c_i0 = w2c_l15;
-    w2c_i1 = w2c_l14;
-    w2c_i1 = (u32)(s32)(s8)(u8)(w2c_i1);
-    w2c_i2 = 4294967232u;
-    w2c_i1 = (u32)((s32)w2c_i1 < (s32)w2c_i2);
-    w2c_i2 = w2c_l16;
-    w2c_i1 &= w2c_i2;
-    w2c_i0 &= w2c_i1;
-    w2c_i1 = 1u;
-    w2c_i0 = w2c_i0 != w2c_i1;
-    if (w2c_i0) {goto w2c_B1;}
-    w2c_i0 = w2c_l14;
-    w2c_i1 = 255u;
-    w2c_i0 &= w2c_i1;
-    w2c_i1 = w2c_l13;
-    w2c_i2 = 255u;
-    w2c_i1 &= w2c_i2;
-    w2c_i2 = 6u;
-    w2c_i1 <<= (w2c_i2 & 31);
-    w2c_i0 += w2c_i1;
-    w2c_i1 = 4294951792u;
-    w2c_i0 += w2c_i1;
-    w2c_i1 = 255u;
-    w2c_i0 = w2c_i0 > w2c_i1;
-    if (w2c_i0) {goto w2c_B1;}
-    w2c_B9:;
-    w2c_j0 = w2c_l9;
-    w2c_j1 = w2c_l11;
-    w2c_j0 += w2c_j1;
-    w2c_l9 = w2c_j0;
-    w2c_j0 = w2c_p0;
-    w2c_j1 = w2c_l11;
-    w2c_j0 -= w2c_j1;
-    w2c_p0 = w2c_j0;
-    w2c_j1 = 0ull;
-    w2c_i0 = w2c_j0 != w2c_j1;
-    if (w2c_i0) {goto w2c_L8;}
+  w2c_j1 = w2c_p1;
+  w2c_i0 = w2c_f12(m, w2c_j0, w2c_j1);
+  w2c_i0 = !(w2c_i0);
+  if (w2c_i0) {goto w2c_B1;}
   w2c_B2:;
   w2c_j0 = w2c_l10;
   w2c_j1 = w2c_p1;
@@ -52158,12 +51076,12 @@ static u32 w2c_f78(module *m, u64 w2c_p0, u64 w2c_p1, u64 w2c_p2, u32 w2c_p3, u3
   w2c_j5 += w2c_j6;
   w2c_j6 = w2c_p6;
   w2c_j7 = w2c_p7;
-  w2c_i0 = w2c_f20(m, w2c_j0, w2c_j1, w2c_j2, w2c_i3, w2c_i4, w2c_j5, w2c_j6, w2c_j7);
-  w2c_l12 = w2c_i0;
+  w2c_i0 = w2c_f21(m, w2c_j0, w2c_j1, w2c_j2, w2c_i3, w2c_i4, w2c_j5, w2c_j6, w2c_j7);
+  w2c_l11 = w2c_i0;
   w2c_B1:;
   w2c_j0 = w2c_l8;
   m->w2c_g0 = w2c_j0;
-  w2c_i0 = w2c_l12;
+  w2c_i0 = w2c_l11;
   goto w2c_Bfunc;
   w2c_B0:;
   UNREACHABLE;
@@ -52189,14 +51107,14 @@ static u32 w2c_chinese_number_print(module *m, u64 w2c_p0, u64 w2c_p1, u32 w2c_p
   w2c_j6 = w2c_p6;
   w2c_j7 = w2c_p7;
   w2c_j8 = w2c_p8;
-  w2c_i0 = w2c_f80(m, w2c_j0, w2c_j1, w2c_i2, w2c_i3, w2c_i4, w2c_i5, w2c_j6, w2c_j7, w2c_j8);
+  w2c_i0 = w2c_f81(m, w2c_j0, w2c_j1, w2c_i2, w2c_i3, w2c_i4, w2c_i5, w2c_j6, w2c_j7, w2c_j8);
   w2c_p5 = w2c_i0;
   w2c_f1(m);
   w2c_i0 = w2c_p5;
   return w2c_i0;
 }
 
-static u32 w2c_f80(module *m, u64 w2c_p0, u64 w2c_p1, u32 w2c_p2, u32 w2c_p3, u32 w2c_p4, u32 w2c_p5, u64 w2c_p6, u64 w2c_p7, u64 w2c_p8) {
+static u32 w2c_f81(module *m, u64 w2c_p0, u64 w2c_p1, u32 w2c_p2, u32 w2c_p3, u32 w2c_p4, u32 w2c_p5, u64 w2c_p6, u64 w2c_p7, u64 w2c_p8) {
   u32 w2c_l18 = 0, w2c_l19 = 0, w2c_l20 = 0, w2c_l21 = 0, w2c_l22 = 0;
   u64 w2c_l9 = 0, w2c_l10 = 0, w2c_l11 = 0, w2c_l12 = 0, w2c_l13 = 0, w2c_l14 = 0, w2c_l15 = 0, w2c_l16 = 0, w2c_l17 = 0;
   u32 w2c_i0, w2c_i1, w2c_i2, w2c_i3, w2c_i4;
@@ -52785,7 +51703,7 @@ static u32 w2c_f80(module *m, u64 w2c_p0, u64 w2c_p1, u32 w2c_p2, u32 w2c_p3, u3
   w2c_i3 = w2c_l22;
   w2c_j4 = w2c_p6;
   w2c_j5 = w2c_p0;
-  w2c_j0 = w2c_f26(m, w2c_j0, w2c_j1, w2c_i2, w2c_i3, w2c_j4, w2c_j5);
+  w2c_j0 = w2c_f27(m, w2c_j0, w2c_j1, w2c_i2, w2c_i3, w2c_j4, w2c_j5);
   w2c_p0 = w2c_j0;
   goto w2c_B2;
   w2c_B16:;
@@ -53287,7 +52205,7 @@ static u32 w2c_f80(module *m, u64 w2c_p0, u64 w2c_p1, u32 w2c_p2, u32 w2c_p3, u3
   w2c_i3 = 0u;
   w2c_j4 = w2c_p0;
   w2c_j5 = w2c_p1;
-  w2c_j0 = w2c_f26(m, w2c_j0, w2c_j1, w2c_i2, w2c_i3, w2c_j4, w2c_j5);
+  w2c_j0 = w2c_f27(m, w2c_j0, w2c_j1, w2c_i2, w2c_i3, w2c_j4, w2c_j5);
   w2c_p1 = w2c_j0;
   goto w2c_B4;
   w2c_B6:;
@@ -53544,15 +52462,15 @@ static u32 w2c_chinese_quantities_to_figures(module *m, u64 w2c_p0, u64 w2c_p1, 
   w2c_j6 = w2c_p6;
   w2c_j7 = w2c_p7;
   w2c_j8 = w2c_p8;
-  w2c_i0 = w2c_f82(m, w2c_j0, w2c_j1, w2c_i2, w2c_i3, w2c_i4, w2c_i5, w2c_j6, w2c_j7, w2c_j8);
+  w2c_i0 = w2c_f83(m, w2c_j0, w2c_j1, w2c_i2, w2c_i3, w2c_i4, w2c_i5, w2c_j6, w2c_j7, w2c_j8);
   w2c_p5 = w2c_i0;
   w2c_f1(m);
   w2c_i0 = w2c_p5;
   return w2c_i0;
 }
 
-static u32 w2c_f82(module *m, u64 w2c_p0, u64 w2c_p1, u32 w2c_p2, u32 w2c_p3, u32 w2c_p4, u32 w2c_p5, u64 w2c_p6, u64 w2c_p7, u64 w2c_p8) {
-  u32 w2c_l32 = 0, w2c_l33 = 0, w2c_l34 = 0, w2c_l35 = 0, w2c_l36 = 0;
+static u32 w2c_f83(module *m, u64 w2c_p0, u64 w2c_p1, u32 w2c_p2, u32 w2c_p3, u32 w2c_p4, u32 w2c_p5, u64 w2c_p6, u64 w2c_p7, u64 w2c_p8) {
+  u32 w2c_l32 = 0, w2c_l33 = 0, w2c_l34 = 0;
   u64 w2c_l9 = 0, w2c_l10 = 0, w2c_l11 = 0, w2c_l12 = 0, w2c_l13 = 0, w2c_l14 = 0, w2c_l15 = 0, w2c_l16 = 0, w2c_l17 = 0, w2c_l18 = 0, w2c_l19 = 0, w2c_l20 = 0, w2c_l21 = 0, w2c_l22 = 0, w2c_l23 = 0, w2c_l24 = 0, w2c_l25 = 0, w2c_l26 = 0, w2c_l27 = 0, w2c_l28 = 0, w2c_l29 = 0, w2c_l30 = 0, w2c_l31 = 0;
   u32 w2c_i0, w2c_i1, w2c_i2, w2c_i3, w2c_i4;
   u64 w2c_j0, w2c_j1, w2c_j2, w2c_j3, w2c_j4, w2c_j5;
@@ -53612,7 +52530,7 @@ static u32 w2c_f82(module *m, u64 w2c_p0, u64 w2c_p1, u32 w2c_p2, u32 w2c_p3, u3
   w2c_i0 = w2c_p5;
   w2c_i1 = 30u;
   w2c_i0 = I32_ROTL(w2c_i0, w2c_i1);
-  w2c_p5 = w2c_i0;
+  w2c_p4 = w2c_i0;
   w2c_i1 = 3u;
   w2c_i0 = w2c_i0 > w2c_i1;
   if (w2c_i0) {goto w2c_B1;}
@@ -53634,12 +52552,12 @@ static u32 w2c_f82(module *m, u64 w2c_p0, u64 w2c_p1, u32 w2c_p2, u32 w2c_p3, u3
   w2c_j0 = w2c_p1;
   w2c_j1 = 4ull;
   w2c_i0 = w2c_j0 < w2c_j1;
-  if (w2c_i0) {goto w2c_B6;}
+  if (w2c_i0) {goto w2c_B5;}
   w2c_j0 = w2c_l13;
   w2c_l10 = w2c_j0;
   w2c_j0 = w2c_p1;
   w2c_l11 = w2c_j0;
-  w2c_L7:
+  w2c_L6:
     w2c_j0 = w2c_l10;
     w2c_i0 = (u32)(w2c_j0);
     w2c_i0 = i32_load(m, (u64)(w2c_i0));
@@ -53649,7 +52567,7 @@ static u32 w2c_f82(module *m, u64 w2c_p0, u64 w2c_p1, u32 w2c_p2, u32 w2c_p3, u3
     w2c_i0 &= w2c_i1;
     w2c_i1 = 8421376u;
     w2c_i0 = w2c_i0 != w2c_i1;
-    if (w2c_i0) {goto w2c_B5;}
+    if (w2c_i0) {goto w2c_B4;}
     w2c_j0 = w2c_l10;
     w2c_j1 = 3ull;
     w2c_j0 += w2c_j1;
@@ -53660,25 +52578,22 @@ static u32 w2c_f82(module *m, u64 w2c_p0, u64 w2c_p1, u32 w2c_p2, u32 w2c_p3, u3
     w2c_l11 = w2c_j0;
     w2c_j1 = 3ull;
     w2c_i0 = w2c_j0 > w2c_j1;
-    if (w2c_i0) {goto w2c_L7;}
-  w2c_B6:;
+    if (w2c_i0) {goto w2c_L6;}
+  w2c_B5:;
   w2c_j0 = w2c_l11;
   w2c_j1 = 3ull;
   w2c_i0 = w2c_j0 > w2c_j1;
-  if (w2c_i0) {goto w2c_B5;}
+  if (w2c_i0) {goto w2c_B4;}
   w2c_j0 = w2c_l11;
   w2c_i0 = (u32)(w2c_j0);
   switch (w2c_i0) {
     case 0: goto w2c_B3;
-    case 1: goto w2c_B5;
-    case 2: goto w2c_B5;
-    case 3: goto w2c_B8;
+    case 1: goto w2c_B4;
+    case 2: goto w2c_B4;
+    case 3: goto w2c_B7;
     default: goto w2c_B3;
   }
-  w2c_B8:;
-  w2c_j0 = w2c_p1;
-  w2c_i0 = !(w2c_j0);
-  if (w2c_i0) {goto w2c_B3;}
+  w2c_B7:;
   w2c_j0 = w2c_l10;
   w2c_i0 = (u32)(w2c_j0);
   w2c_i0 = i32_load16_u(m, (u64)(w2c_i0));
@@ -53695,252 +52610,16 @@ static u32 w2c_f82(module *m, u64 w2c_p0, u64 w2c_p1, u32 w2c_p2, u32 w2c_p3, u3
   w2c_i1 = 12632312u;
   w2c_i0 &= w2c_i1;
   w2c_i1 = 8421376u;
-  w2c_i0 = w2c_i0 != w2c_i1;
-  if (w2c_i0) {goto w2c_B4;}
-  goto w2c_B3;
-  w2c_B5:;
-  w2c_j0 = w2c_p1;
-  w2c_i0 = !(w2c_j0);
+  w2c_i0 = w2c_i0 == w2c_i1;
   if (w2c_i0) {goto w2c_B3;}
   w2c_B4:;
+  w2c_i0 = 5u;
+  w2c_l32 = w2c_i0;
   w2c_j0 = w2c_l13;
-  w2c_l11 = w2c_j0;
-  w2c_j0 = w2c_p1;
-  w2c_l10 = w2c_j0;
-  w2c_L9:
-    w2c_j0 = w2c_l10;
-    w2c_j1 = 4ull;
-    w2c_i0 = w2c_j0 < w2c_j1;
-    if (w2c_i0) {goto w2c_B13;}
-    w2c_j0 = w2c_l11;
-    w2c_i0 = (u32)(w2c_j0);
-    w2c_i0 = i32_load(m, (u64)(w2c_i0));
-    w2c_p4 = w2c_i0;
-    w2c_i1 = 16776989u;
-    w2c_i0 += w2c_i1;
-    w2c_i1 = 12632312u;
-    w2c_i0 &= w2c_i1;
-    w2c_i1 = 8421376u;
-    w2c_i0 = w2c_i0 != w2c_i1;
-    if (w2c_i0) {goto w2c_B14;}
-    w2c_j0 = 3ull;
-    w2c_l14 = w2c_j0;
-    goto w2c_B10;
-    w2c_B14:;
-    w2c_i0 = w2c_p4;
-    w2c_i1 = 2155905152u;
-    w2c_i0 &= w2c_i1;
-    w2c_i0 = !(w2c_i0);
-    if (w2c_i0) {goto w2c_B15;}
-    w2c_i0 = w2c_p4;
-    w2c_i1 = 8u;
-    w2c_i0 >>= (w2c_i1 & 31);
-    w2c_l33 = w2c_i0;
-    w2c_i0 = w2c_p4;
-    w2c_i1 = 16u;
-    w2c_i0 >>= (w2c_i1 & 31);
-    w2c_l32 = w2c_i0;
-    goto w2c_B12;
-    w2c_B15:;
-    w2c_j0 = 4ull;
-    w2c_l14 = w2c_j0;
-    goto w2c_B10;
-    w2c_B13:;
-    w2c_j0 = w2c_l11;
-    w2c_i0 = (u32)(w2c_j0);
-    w2c_i0 = i32_load8_u(m, (u64)(w2c_i0));
-    w2c_p4 = w2c_i0;
-    w2c_i0 = 0u;
-    w2c_l35 = w2c_i0;
-    w2c_j0 = w2c_l10;
-    w2c_j1 = 18446744073709551615ull;
-    w2c_j0 += w2c_j1;
-    w2c_l14 = w2c_j0;
-    w2c_j1 = 2ull;
-    w2c_i0 = w2c_j0 > w2c_j1;
-    if (w2c_i0) {goto w2c_B16;}
-    w2c_i0 = 0u;
-    w2c_l33 = w2c_i0;
-    w2c_j0 = w2c_l14;
-    w2c_i0 = (u32)(w2c_j0);
-    switch (w2c_i0) {
-      case 0: goto w2c_B11;
-      case 1: goto w2c_B16;
-      case 2: goto w2c_B17;
-      default: goto w2c_B11;
-    }
-    w2c_B17:;
-    w2c_j0 = w2c_l11;
-    w2c_j1 = 1ull;
-    w2c_j0 += w2c_j1;
-    w2c_i0 = (u32)(w2c_j0);
-    w2c_i0 = i32_load8_u(m, (u64)(w2c_i0));
-    w2c_l33 = w2c_i0;
-    w2c_i1 = 8u;
-    w2c_i0 <<= (w2c_i1 & 31);
-    w2c_i1 = w2c_p4;
-    w2c_i0 |= w2c_i1;
-    w2c_j1 = w2c_l11;
-    w2c_j2 = 2ull;
-    w2c_j1 += w2c_j2;
-    w2c_i1 = (u32)(w2c_j1);
-    w2c_i1 = i32_load8_u(m, (u64)(w2c_i1));
-    w2c_l32 = w2c_i1;
-    w2c_i2 = 16u;
-    w2c_i1 <<= (w2c_i2 & 31);
-    w2c_i0 |= w2c_i1;
-    w2c_i1 = 16776989u;
-    w2c_i0 += w2c_i1;
-    w2c_i1 = 12632312u;
-    w2c_i0 &= w2c_i1;
-    w2c_i1 = 8421376u;
-    w2c_i0 = w2c_i0 != w2c_i1;
-    if (w2c_i0) {goto w2c_B12;}
-    w2c_j0 = 3ull;
-    w2c_l14 = w2c_j0;
-    goto w2c_B10;
-    w2c_B16:;
-    w2c_j0 = w2c_l11;
-    w2c_j1 = 1ull;
-    w2c_j0 += w2c_j1;
-    w2c_i0 = (u32)(w2c_j0);
-    w2c_i0 = i32_load8_u(m, (u64)(w2c_i0));
-    w2c_l33 = w2c_i0;
-    goto w2c_B11;
-    w2c_B12:;
-    w2c_i0 = w2c_l32;
-    w2c_i0 = (u32)(s32)(s8)(u8)(w2c_i0);
-    w2c_i1 = 4294967232u;
-    w2c_i0 = (u32)((s32)w2c_i0 < (s32)w2c_i1);
-    w2c_l35 = w2c_i0;
-    w2c_B11:;
-    w2c_i0 = w2c_p4;
-    w2c_i0 = (u32)(s32)(s8)(u8)(w2c_i0);
-    w2c_i1 = 4294967295u;
-    w2c_i0 = (u32)((s32)w2c_i0 <= (s32)w2c_i1);
-    if (w2c_i0) {goto w2c_B18;}
-    w2c_j0 = 1ull;
-    w2c_l14 = w2c_j0;
-    goto w2c_B10;
-    w2c_B18:;
-    w2c_i0 = w2c_p4;
-    w2c_i1 = 255u;
-    w2c_i0 &= w2c_i1;
-    w2c_l32 = w2c_i0;
-    w2c_i1 = 223u;
-    w2c_i0 = w2c_i0 > w2c_i1;
-    if (w2c_i0) {goto w2c_B19;}
-    w2c_i0 = 5u;
-    w2c_l32 = w2c_i0;
-    w2c_i0 = w2c_l33;
-    w2c_i0 = (u32)(s32)(s8)(u8)(w2c_i0);
-    w2c_i1 = 4294967231u;
-    w2c_i0 = (u32)((s32)w2c_i0 > (s32)w2c_i1);
-    if (w2c_i0) {goto w2c_B1;}
-    w2c_i0 = w2c_p4;
-    w2c_i1 = 255u;
-    w2c_i0 &= w2c_i1;
-    w2c_i1 = 193u;
-    w2c_i0 = w2c_i0 <= w2c_i1;
-    if (w2c_i0) {goto w2c_B1;}
-    w2c_j0 = 2ull;
-    w2c_l14 = w2c_j0;
-    goto w2c_B10;
-    w2c_B19:;
-    w2c_i0 = w2c_l32;
-    w2c_i1 = 239u;
-    w2c_i0 = w2c_i0 > w2c_i1;
-    if (w2c_i0) {goto w2c_B20;}
-    w2c_i0 = 5u;
-    w2c_l32 = w2c_i0;
-    w2c_i0 = w2c_l33;
-    w2c_i0 = (u32)(s32)(s8)(u8)(w2c_i0);
-    w2c_i1 = 4294967231u;
-    w2c_i0 = (u32)((s32)w2c_i0 > (s32)w2c_i1);
-    w2c_i1 = w2c_l35;
-    w2c_i2 = 1u;
-    w2c_i1 ^= w2c_i2;
-    w2c_i0 |= w2c_i1;
-    if (w2c_i0) {goto w2c_B1;}
-    w2c_i0 = w2c_p4;
-    w2c_i1 = 255u;
-    w2c_i0 &= w2c_i1;
-    w2c_i1 = 6u;
-    w2c_i0 <<= (w2c_i1 & 31);
-    w2c_i1 = w2c_l33;
-    w2c_i2 = 255u;
-    w2c_i1 &= w2c_i2;
-    w2c_i0 += w2c_i1;
-    w2c_p4 = w2c_i0;
-    w2c_i1 = 14496u;
-    w2c_i0 = w2c_i0 < w2c_i1;
-    if (w2c_i0) {goto w2c_B1;}
-    w2c_i0 = w2c_p4;
-    w2c_i1 = 32736u;
-    w2c_i0 &= w2c_i1;
-    w2c_i1 = 15328u;
-    w2c_i0 = w2c_i0 == w2c_i1;
-    if (w2c_i0) {goto w2c_B1;}
-    w2c_j0 = 3ull;
-    w2c_l14 = w2c_j0;
-    goto w2c_B10;
-    w2c_B20:;
-    w2c_j0 = 4ull;
-    w2c_l14 = w2c_j0;
-    w2c_i0 = 0u;
-    w2c_l36 = w2c_i0;
-    w2c_j0 = w2c_l10;
-    w2c_j1 = 4ull;
-    w2c_i0 = w2c_j0 < w2c_j1;
-    if (w2c_i0) {goto w2c_B21;}
-    w2c_j0 = w2c_l11;
-    w2c_j1 = 3ull;
-    w2c_j0 += w2c_j1;
-    w2c_i0 = (u32)(w2c_j0);
-    w2c_i0 = i32_load8_s(m, (u64)(w2c_i0));
-    w2c_i1 = 4294967232u;
-    w2c_i0 = (u32)((s32)w2c_i0 < (s32)w2c_i1);
-    w2c_l36 = w2c_i0;
-    w2c_B21:;
-    w2c_i0 = 5u;
-    w2c_l32 = w2c_i0;
-    w2c_i0 = w2c_l35;
-    w2c_i1 = w2c_l33;
-    w2c_i1 = (u32)(s32)(s8)(u8)(w2c_i1);
-    w2c_i2 = 4294967232u;
-    w2c_i1 = (u32)((s32)w2c_i1 < (s32)w2c_i2);
-    w2c_i2 = w2c_l36;
-    w2c_i1 &= w2c_i2;
-    w2c_i0 &= w2c_i1;
-    w2c_i1 = 1u;
-    w2c_i0 = w2c_i0 != w2c_i1;
-    if (w2c_i0) {goto w2c_B1;}
-    w2c_i0 = w2c_l33;
-    w2c_i1 = 255u;
-    w2c_i0 &= w2c_i1;
-    w2c_i1 = w2c_p4;
-    w2c_i2 = 255u;
-    w2c_i1 &= w2c_i2;
-    w2c_i2 = 6u;
-    w2c_i1 <<= (w2c_i2 & 31);
-    w2c_i0 += w2c_i1;
-    w2c_i1 = 4294951792u;
-    w2c_i0 += w2c_i1;
-    w2c_i1 = 255u;
-    w2c_i0 = w2c_i0 > w2c_i1;
-    if (w2c_i0) {goto w2c_B1;}
-    w2c_B10:;
-    w2c_j0 = w2c_l11;
-    w2c_j1 = w2c_l14;
-    w2c_j0 += w2c_j1;
-    w2c_l11 = w2c_j0;
-    w2c_j0 = w2c_l10;
-    w2c_j1 = w2c_l14;
-    w2c_j0 -= w2c_j1;
-    w2c_l10 = w2c_j0;
-    w2c_j1 = 0ull;
-    w2c_i0 = w2c_j0 != w2c_j1;
-    if (w2c_i0) {goto w2c_L9;}
+  w2c_j1 = w2c_p1;
+  w2c_i0 = w2c_f12(m, w2c_j0, w2c_j1);
+  w2c_i0 = !(w2c_i0);
+  if (w2c_i0) {goto w2c_B1;}
   w2c_B3:;
   w2c_j0 = w2c_p6;
   w2c_j1 = 4096ull;
@@ -53948,9 +52627,9 @@ static u32 w2c_f82(module *m, u64 w2c_p0, u64 w2c_p1, u32 w2c_p2, u32 w2c_p3, u3
   w2c_j3 = w2c_p6;
   w2c_i3 = !(w2c_j3);
   w2c_j1 = w2c_i3 ? w2c_j1 : w2c_j2;
-  w2c_l15 = w2c_j1;
+  w2c_l14 = w2c_j1;
   w2c_j0 += w2c_j1;
-  w2c_l16 = w2c_j0;
+  w2c_l15 = w2c_j0;
   w2c_j0 = w2c_l9;
   w2c_i0 = (u32)(w2c_j0);
   w2c_i1 = 0u;
@@ -53989,7 +52668,7 @@ static u32 w2c_f82(module *m, u64 w2c_p0, u64 w2c_p1, u32 w2c_p2, u32 w2c_p3, u3
   w2c_j1 = w2c_l13;
   i64_store(m, (u64)(w2c_i0) + 80, w2c_j1);
   w2c_j0 = 0ull;
-  w2c_l17 = w2c_j0;
+  w2c_l16 = w2c_j0;
   w2c_j0 = w2c_l9;
   w2c_i0 = (u32)(w2c_j0);
   w2c_j1 = 0ull;
@@ -54024,104 +52703,104 @@ static u32 w2c_f82(module *m, u64 w2c_p0, u64 w2c_p1, u32 w2c_p2, u32 w2c_p3, u3
   w2c_j1 = w2c_l9;
   w2c_j2 = 72ull;
   w2c_j1 += w2c_j2;
-  w2c_f21(m, w2c_j0, w2c_j1);
+  w2c_f22(m, w2c_j0, w2c_j1);
   w2c_j0 = 0ull;
-  w2c_l18 = w2c_j0;
+  w2c_l17 = w2c_j0;
   w2c_j0 = w2c_l9;
   w2c_i0 = (u32)(w2c_j0);
   w2c_i0 = i32_load8_u(m, (u64)(w2c_i0) + 16u);
   w2c_i1 = 1u;
   w2c_i0 = w2c_i0 != w2c_i1;
-  if (w2c_i0) {goto w2c_B22;}
+  if (w2c_i0) {goto w2c_B8;}
   w2c_j0 = w2c_l9;
   w2c_j1 = 256ull;
   w2c_j0 += w2c_j1;
-  w2c_l19 = w2c_j0;
+  w2c_l18 = w2c_j0;
+  w2c_j0 = 0ull;
+  w2c_l16 = w2c_j0;
   w2c_j0 = 0ull;
   w2c_l17 = w2c_j0;
-  w2c_j0 = 0ull;
-  w2c_l18 = w2c_j0;
-  w2c_L23:
+  w2c_L9:
     w2c_j0 = w2c_l9;
     w2c_i0 = (u32)(w2c_j0);
     w2c_j0 = i64_load(m, (u64)(w2c_i0) + 24u);
-    w2c_l20 = w2c_j0;
+    w2c_l19 = w2c_j0;
     w2c_j0 = w2c_l9;
     w2c_i0 = (u32)(w2c_j0);
     w2c_j0 = i64_load(m, (u64)(w2c_i0) + 64u);
-    w2c_l21 = w2c_j0;
+    w2c_l20 = w2c_j0;
     w2c_j0 = w2c_l9;
     w2c_i0 = (u32)(w2c_j0);
     w2c_j0 = i64_load(m, (u64)(w2c_i0) + 56u);
-    w2c_l22 = w2c_j0;
+    w2c_l21 = w2c_j0;
     w2c_j0 = w2c_l9;
     w2c_i0 = (u32)(w2c_j0);
     w2c_j0 = i64_load(m, (u64)(w2c_i0) + 48u);
-    w2c_l23 = w2c_j0;
+    w2c_l22 = w2c_j0;
     w2c_j0 = w2c_l9;
     w2c_i0 = (u32)(w2c_j0);
     w2c_j0 = i64_load(m, (u64)(w2c_i0) + 40u);
-    w2c_l24 = w2c_j0;
+    w2c_l23 = w2c_j0;
     w2c_j0 = 18446744073709551615ull;
     w2c_j1 = w2c_l9;
     w2c_i1 = (u32)(w2c_j1);
     w2c_j1 = i64_load(m, (u64)(w2c_i1) + 32u);
-    w2c_l25 = w2c_j1;
-    w2c_j2 = w2c_l18;
-    w2c_j1 -= w2c_j2;
-    w2c_l26 = w2c_j1;
+    w2c_l24 = w2c_j1;
     w2c_j2 = w2c_l17;
-    w2c_l27 = w2c_j2;
+    w2c_j1 -= w2c_j2;
+    w2c_l25 = w2c_j1;
+    w2c_j2 = w2c_l16;
+    w2c_l26 = w2c_j2;
     w2c_j1 += w2c_j2;
     w2c_l10 = w2c_j1;
     w2c_j2 = w2c_l10;
-    w2c_j3 = w2c_l26;
+    w2c_j3 = w2c_l25;
     w2c_i2 = w2c_j2 < w2c_j3;
     w2c_j0 = w2c_i2 ? w2c_j0 : w2c_j1;
-    w2c_l28 = w2c_j0;
+    w2c_l27 = w2c_j0;
     w2c_j1 = w2c_p7;
     w2c_i0 = w2c_j0 > w2c_j1;
-    if (w2c_i0) {goto w2c_B24;}
-    w2c_j0 = w2c_l16;
-    w2c_j1 = w2c_l27;
-    w2c_j0 += w2c_j1;
-    w2c_l29 = w2c_j0;
-    w2c_j1 = w2c_l20;
-    w2c_j2 = w2c_l18;
-    w2c_j1 += w2c_j2;
-    w2c_l30 = w2c_j1;
-    w2c_j0 -= w2c_j1;
+    if (w2c_i0) {goto w2c_B10;}
+    w2c_j0 = w2c_l15;
     w2c_j1 = w2c_l26;
+    w2c_j0 += w2c_j1;
+    w2c_l28 = w2c_j0;
+    w2c_j1 = w2c_l19;
+    w2c_j2 = w2c_l17;
+    w2c_j1 += w2c_j2;
+    w2c_l29 = w2c_j1;
+    w2c_j0 -= w2c_j1;
+    w2c_j1 = w2c_l25;
     w2c_i0 = w2c_j0 >= w2c_j1;
-    if (w2c_i0) {goto w2c_B25;}
-    w2c_j0 = w2c_l26;
+    if (w2c_i0) {goto w2c_B11;}
+    w2c_j0 = w2c_l25;
     w2c_j1 = 3ull;
     w2c_j0 &= w2c_j1;
-    w2c_l31 = w2c_j0;
+    w2c_l30 = w2c_j0;
     w2c_j0 = 0ull;
     w2c_l11 = w2c_j0;
-    w2c_j0 = w2c_l18;
-    w2c_j1 = w2c_l25;
+    w2c_j0 = w2c_l17;
+    w2c_j1 = w2c_l24;
     w2c_j0 -= w2c_j1;
     w2c_j1 = 18446744073709551612ull;
     w2c_i0 = w2c_j0 > w2c_j1;
-    if (w2c_i0) {goto w2c_B26;}
-    w2c_j0 = w2c_l26;
+    if (w2c_i0) {goto w2c_B12;}
+    w2c_j0 = w2c_l25;
     w2c_j1 = 18446744073709551612ull;
     w2c_j0 &= w2c_j1;
-    w2c_l17 = w2c_j0;
+    w2c_l16 = w2c_j0;
     w2c_j0 = 0ull;
     w2c_l11 = w2c_j0;
-    w2c_L27:
-      w2c_j0 = w2c_l29;
+    w2c_L13:
+      w2c_j0 = w2c_l28;
       w2c_j1 = w2c_l11;
       w2c_j0 += w2c_j1;
       w2c_l10 = w2c_j0;
       w2c_i0 = (u32)(w2c_j0);
-      w2c_j1 = w2c_l30;
+      w2c_j1 = w2c_l29;
       w2c_j2 = w2c_l11;
       w2c_j1 += w2c_j2;
-      w2c_l14 = w2c_j1;
+      w2c_l31 = w2c_j1;
       w2c_i1 = (u32)(w2c_j1);
       w2c_i1 = i32_load8_u(m, (u64)(w2c_i1));
       i32_store8(m, (u64)(w2c_i0), w2c_i1);
@@ -54129,7 +52808,7 @@ static u32 w2c_f82(module *m, u64 w2c_p0, u64 w2c_p1, u32 w2c_p2, u32 w2c_p3, u3
       w2c_j1 = 1ull;
       w2c_j0 += w2c_j1;
       w2c_i0 = (u32)(w2c_j0);
-      w2c_j1 = w2c_l14;
+      w2c_j1 = w2c_l31;
       w2c_j2 = 1ull;
       w2c_j1 += w2c_j2;
       w2c_i1 = (u32)(w2c_j1);
@@ -54139,7 +52818,7 @@ static u32 w2c_f82(module *m, u64 w2c_p0, u64 w2c_p1, u32 w2c_p2, u32 w2c_p3, u3
       w2c_j1 = 2ull;
       w2c_j0 += w2c_j1;
       w2c_i0 = (u32)(w2c_j0);
-      w2c_j1 = w2c_l14;
+      w2c_j1 = w2c_l31;
       w2c_j2 = 2ull;
       w2c_j1 += w2c_j2;
       w2c_i1 = (u32)(w2c_j1);
@@ -54149,36 +52828,36 @@ static u32 w2c_f82(module *m, u64 w2c_p0, u64 w2c_p1, u32 w2c_p2, u32 w2c_p3, u3
       w2c_j1 = 3ull;
       w2c_j0 += w2c_j1;
       w2c_i0 = (u32)(w2c_j0);
-      w2c_j1 = w2c_l14;
+      w2c_j1 = w2c_l31;
       w2c_j2 = 3ull;
       w2c_j1 += w2c_j2;
       w2c_i1 = (u32)(w2c_j1);
       w2c_i1 = i32_load8_u(m, (u64)(w2c_i1));
       i32_store8(m, (u64)(w2c_i0), w2c_i1);
-      w2c_j0 = w2c_l17;
+      w2c_j0 = w2c_l16;
       w2c_j1 = w2c_l11;
       w2c_j2 = 4ull;
       w2c_j1 += w2c_j2;
       w2c_l11 = w2c_j1;
       w2c_i0 = w2c_j0 != w2c_j1;
-      if (w2c_i0) {goto w2c_L27;}
-    w2c_j0 = w2c_l31;
+      if (w2c_i0) {goto w2c_L13;}
+    w2c_j0 = w2c_l30;
     w2c_i0 = !(w2c_j0);
-    if (w2c_i0) {goto w2c_B24;}
-    w2c_B26:;
-    w2c_j0 = w2c_l16;
-    w2c_j1 = w2c_l27;
+    if (w2c_i0) {goto w2c_B10;}
+    w2c_B12:;
+    w2c_j0 = w2c_l15;
+    w2c_j1 = w2c_l26;
     w2c_j2 = w2c_l11;
     w2c_j1 += w2c_j2;
     w2c_j0 += w2c_j1;
     w2c_l10 = w2c_j0;
-    w2c_j0 = w2c_l20;
+    w2c_j0 = w2c_l19;
     w2c_j1 = w2c_l11;
-    w2c_j2 = w2c_l18;
+    w2c_j2 = w2c_l17;
     w2c_j1 += w2c_j2;
     w2c_j0 += w2c_j1;
     w2c_l11 = w2c_j0;
-    w2c_L28:
+    w2c_L14:
       w2c_j0 = w2c_l10;
       w2c_i0 = (u32)(w2c_j0);
       w2c_j1 = w2c_l11;
@@ -54193,212 +52872,212 @@ static u32 w2c_f82(module *m, u64 w2c_p0, u64 w2c_p1, u32 w2c_p2, u32 w2c_p3, u3
       w2c_j1 = 1ull;
       w2c_j0 += w2c_j1;
       w2c_l11 = w2c_j0;
-      w2c_j0 = w2c_l31;
+      w2c_j0 = w2c_l30;
       w2c_j1 = 18446744073709551615ull;
       w2c_j0 += w2c_j1;
-      w2c_l31 = w2c_j0;
+      w2c_l30 = w2c_j0;
       w2c_j1 = 0ull;
       w2c_i0 = w2c_j0 != w2c_j1;
-      if (w2c_i0) {goto w2c_L28;}
-      goto w2c_B24;
+      if (w2c_i0) {goto w2c_L14;}
+      goto w2c_B10;
     UNREACHABLE;
-    w2c_B25:;
-    w2c_j0 = w2c_l26;
+    w2c_B11:;
+    w2c_j0 = w2c_l25;
     w2c_i0 = !(w2c_j0);
-    if (w2c_i0) {goto w2c_B24;}
-    w2c_j0 = w2c_l29;
+    if (w2c_i0) {goto w2c_B10;}
+    w2c_j0 = w2c_l28;
     w2c_i0 = (u32)(w2c_j0);
-    w2c_j1 = w2c_l30;
+    w2c_j1 = w2c_l29;
     w2c_i1 = (u32)(w2c_j1);
-    w2c_j2 = w2c_l26;
+    w2c_j2 = w2c_l25;
     w2c_i2 = (u32)(w2c_j2);
     memory_copy(m, w2c_i0, w2c_i1, w2c_i2);
-    w2c_B24:;
-    w2c_i0 = w2c_p5;
+    w2c_B10:;
+    w2c_i0 = w2c_p4;
     w2c_i1 = 1u;
     w2c_i0 = w2c_i0 > w2c_i1;
-    if (w2c_i0) {goto w2c_B31;}
-    w2c_j0 = w2c_l23;
+    if (w2c_i0) {goto w2c_B17;}
+    w2c_j0 = w2c_l22;
     w2c_j1 = 1ull;
     w2c_i0 = w2c_j0 != w2c_j1;
-    if (w2c_i0) {goto w2c_B33;}
-    w2c_j0 = w2c_l24;
+    if (w2c_i0) {goto w2c_B19;}
+    w2c_j0 = w2c_l23;
     w2c_i0 = (u32)(w2c_j0);
     w2c_i0 = i32_load8_u(m, (u64)(w2c_i0));
-    w2c_p4 = w2c_i0;
-    goto w2c_B32;
-    w2c_B33:;
-    w2c_j0 = w2c_l23;
+    w2c_l32 = w2c_i0;
+    goto w2c_B18;
+    w2c_B19:;
+    w2c_j0 = w2c_l22;
     w2c_j1 = 4ull;
     w2c_i0 = w2c_j0 > w2c_j1;
-    if (w2c_i0) {goto w2c_B31;}
-    w2c_j0 = w2c_l23;
+    if (w2c_i0) {goto w2c_B17;}
+    w2c_j0 = w2c_l22;
     w2c_j1 = 3ull;
     w2c_i0 = w2c_j0 < w2c_j1;
-    if (w2c_i0) {goto w2c_B36;}
-    w2c_j0 = w2c_l24;
+    if (w2c_i0) {goto w2c_B22;}
+    w2c_j0 = w2c_l23;
     w2c_i0 = (u32)(w2c_j0);
     w2c_i0 = i32_load8_u(m, (u64)(w2c_i0));
-    w2c_p4 = w2c_i0;
+    w2c_l32 = w2c_i0;
     w2c_i1 = 240u;
     w2c_i0 &= w2c_i1;
     w2c_i1 = 224u;
     w2c_i0 = w2c_i0 != w2c_i1;
-    if (w2c_i0) {goto w2c_B35;}
-    w2c_i0 = w2c_p4;
+    if (w2c_i0) {goto w2c_B21;}
+    w2c_i0 = w2c_l32;
     w2c_i1 = 12u;
     w2c_i0 <<= (w2c_i1 & 31);
-    w2c_j1 = w2c_l24;
+    w2c_j1 = w2c_l23;
     w2c_i1 = (u32)(w2c_j1);
     w2c_i1 = i32_load8_u(m, (u64)(w2c_i1) + 1u);
     w2c_i2 = 6u;
     w2c_i1 <<= (w2c_i2 & 31);
     w2c_i0 += w2c_i1;
-    w2c_j1 = w2c_l24;
+    w2c_j1 = w2c_l23;
     w2c_i1 = (u32)(w2c_j1);
     w2c_i1 = i32_load8_u(m, (u64)(w2c_i1) + 2u);
     w2c_i0 += w2c_i1;
     w2c_i1 = 4294041472u;
     w2c_i0 += w2c_i1;
-    w2c_p4 = w2c_i0;
-    w2c_j0 = w2c_l23;
+    w2c_l32 = w2c_i0;
+    w2c_j0 = w2c_l22;
     w2c_j1 = 18446744073709551613ull;
     w2c_j0 += w2c_j1;
     w2c_l10 = w2c_j0;
-    goto w2c_B34;
-    w2c_B36:;
-    w2c_j0 = w2c_l23;
+    goto w2c_B20;
+    w2c_B22:;
+    w2c_j0 = w2c_l22;
     w2c_i0 = !(w2c_j0);
-    if (w2c_i0) {goto w2c_B31;}
-    w2c_j0 = w2c_l24;
+    if (w2c_i0) {goto w2c_B17;}
+    w2c_j0 = w2c_l23;
     w2c_i0 = (u32)(w2c_j0);
     w2c_i0 = i32_load8_u(m, (u64)(w2c_i0));
-    w2c_p4 = w2c_i0;
-    w2c_B35:;
+    w2c_l32 = w2c_i0;
+    w2c_B21:;
     w2c_j0 = 18446744073709551615ull;
     w2c_l10 = w2c_j0;
-    w2c_i0 = w2c_p4;
+    w2c_i0 = w2c_l32;
     w2c_i0 = (u32)(s32)(s8)(u8)(w2c_i0);
     w2c_i1 = 4294967295u;
     w2c_i0 = (u32)((s32)w2c_i0 > (s32)w2c_i1);
-    if (w2c_i0) {goto w2c_B37;}
-    w2c_j0 = w2c_l24;
+    if (w2c_i0) {goto w2c_B23;}
+    w2c_j0 = w2c_l23;
     w2c_i0 = (u32)(w2c_j0);
     w2c_i0 = i32_load8_u(m, (u64)(w2c_i0) + 1u);
     w2c_i1 = 63u;
     w2c_i0 &= w2c_i1;
-    w2c_l32 = w2c_i0;
-    w2c_i0 = w2c_p4;
+    w2c_p2 = w2c_i0;
+    w2c_i0 = w2c_l32;
     w2c_i1 = 223u;
     w2c_i0 = w2c_i0 > w2c_i1;
-    if (w2c_i0) {goto w2c_B38;}
-    w2c_i0 = w2c_p4;
+    if (w2c_i0) {goto w2c_B24;}
+    w2c_i0 = w2c_l32;
     w2c_i1 = 6u;
     w2c_i0 <<= (w2c_i1 & 31);
     w2c_i1 = 1984u;
     w2c_i0 &= w2c_i1;
-    w2c_i1 = w2c_l32;
+    w2c_i1 = w2c_p2;
     w2c_i0 |= w2c_i1;
-    w2c_p4 = w2c_i0;
+    w2c_l32 = w2c_i0;
     w2c_j0 = 18446744073709551614ull;
     w2c_l10 = w2c_j0;
-    goto w2c_B37;
-    w2c_B38:;
-    w2c_j0 = w2c_l24;
+    goto w2c_B23;
+    w2c_B24:;
+    w2c_j0 = w2c_l23;
     w2c_i0 = (u32)(w2c_j0);
     w2c_i0 = i32_load8_u(m, (u64)(w2c_i0) + 2u);
     w2c_i1 = 63u;
     w2c_i0 &= w2c_i1;
-    w2c_p2 = w2c_i0;
-    w2c_i0 = w2c_p4;
+    w2c_p3 = w2c_i0;
+    w2c_i0 = w2c_l32;
     w2c_i1 = 239u;
     w2c_i0 = w2c_i0 > w2c_i1;
-    if (w2c_i0) {goto w2c_B39;}
-    w2c_i0 = w2c_l32;
-    w2c_i1 = 6u;
-    w2c_i0 <<= (w2c_i1 & 31);
-    w2c_i1 = w2c_p4;
-    w2c_i2 = 12u;
-    w2c_i1 <<= (w2c_i2 & 31);
-    w2c_i2 = 61440u;
-    w2c_i1 &= w2c_i2;
-    w2c_i0 |= w2c_i1;
-    w2c_i1 = w2c_p2;
-    w2c_i0 |= w2c_i1;
-    w2c_p4 = w2c_i0;
-    w2c_j0 = 18446744073709551613ull;
-    w2c_l10 = w2c_j0;
-    goto w2c_B37;
-    w2c_B39:;
+    if (w2c_i0) {goto w2c_B25;}
     w2c_i0 = w2c_p2;
     w2c_i1 = 6u;
     w2c_i0 <<= (w2c_i1 & 31);
     w2c_i1 = w2c_l32;
     w2c_i2 = 12u;
     w2c_i1 <<= (w2c_i2 & 31);
-    w2c_i2 = w2c_p4;
+    w2c_i2 = 61440u;
+    w2c_i1 &= w2c_i2;
+    w2c_i0 |= w2c_i1;
+    w2c_i1 = w2c_p3;
+    w2c_i0 |= w2c_i1;
+    w2c_l32 = w2c_i0;
+    w2c_j0 = 18446744073709551613ull;
+    w2c_l10 = w2c_j0;
+    goto w2c_B23;
+    w2c_B25:;
+    w2c_i0 = w2c_p3;
+    w2c_i1 = 6u;
+    w2c_i0 <<= (w2c_i1 & 31);
+    w2c_i1 = w2c_p2;
+    w2c_i2 = 12u;
+    w2c_i1 <<= (w2c_i2 & 31);
+    w2c_i2 = w2c_l32;
     w2c_i3 = 18u;
     w2c_i2 <<= (w2c_i3 & 31);
     w2c_i3 = 1835008u;
     w2c_i2 &= w2c_i3;
     w2c_i1 |= w2c_i2;
     w2c_i0 |= w2c_i1;
-    w2c_j1 = w2c_l24;
+    w2c_j1 = w2c_l23;
     w2c_i1 = (u32)(w2c_j1);
     w2c_i1 = i32_load8_u(m, (u64)(w2c_i1) + 3u);
     w2c_i2 = 63u;
     w2c_i1 &= w2c_i2;
     w2c_i0 |= w2c_i1;
-    w2c_p4 = w2c_i0;
+    w2c_l32 = w2c_i0;
     w2c_j0 = 18446744073709551612ull;
     w2c_l10 = w2c_j0;
-    w2c_B37:;
+    w2c_B23:;
     w2c_j0 = w2c_l10;
-    w2c_j1 = w2c_l23;
+    w2c_j1 = w2c_l22;
     w2c_j0 += w2c_j1;
     w2c_l10 = w2c_j0;
-    w2c_B34:;
+    w2c_B20:;
     w2c_j0 = w2c_l10;
     w2c_j1 = 0ull;
     w2c_i0 = w2c_j0 != w2c_j1;
-    if (w2c_i0) {goto w2c_B31;}
-    w2c_B32:;
-    w2c_i0 = w2c_p4;
+    if (w2c_i0) {goto w2c_B17;}
+    w2c_B18:;
+    w2c_i0 = w2c_l32;
     w2c_i1 = 4294967248u;
     w2c_i0 += w2c_i1;
     w2c_i1 = 10u;
     w2c_i0 = w2c_i0 < w2c_i1;
-    if (w2c_i0) {goto w2c_B31;}
-    w2c_i0 = w2c_p4;
+    if (w2c_i0) {goto w2c_B17;}
+    w2c_i0 = w2c_l32;
     w2c_i1 = 4294902000u;
     w2c_i0 += w2c_i1;
     w2c_i1 = 9u;
     w2c_i0 = w2c_i0 > w2c_i1;
-    if (w2c_i0) {goto w2c_B30;}
-    w2c_B31:;
-    w2c_i0 = w2c_p5;
+    if (w2c_i0) {goto w2c_B16;}
+    w2c_B17:;
+    w2c_i0 = w2c_p4;
     w2c_i1 = 1u;
     w2c_i0 &= w2c_i1;
-    if (w2c_i0) {goto w2c_B40;}
-    w2c_j0 = w2c_l25;
+    if (w2c_i0) {goto w2c_B26;}
+    w2c_j0 = w2c_l24;
     w2c_j1 = 3ull;
     w2c_i0 = w2c_j0 < w2c_j1;
-    if (w2c_i0) {goto w2c_B48;}
-    w2c_j0 = w2c_l20;
-    w2c_j1 = w2c_l25;
+    if (w2c_i0) {goto w2c_B34;}
+    w2c_j0 = w2c_l19;
+    w2c_j1 = w2c_l24;
     w2c_j0 += w2c_j1;
     w2c_l10 = w2c_j0;
     w2c_j1 = 18446744073709551613ull;
     w2c_j0 += w2c_j1;
     w2c_i0 = (u32)(w2c_j0);
     w2c_i0 = i32_load8_u(m, (u64)(w2c_i0));
-    w2c_l32 = w2c_i0;
+    w2c_p2 = w2c_i0;
     w2c_i1 = 240u;
     w2c_i0 &= w2c_i1;
     w2c_i1 = 224u;
     w2c_i0 = w2c_i0 != w2c_i1;
-    if (w2c_i0) {goto w2c_B47;}
-    w2c_i0 = w2c_l32;
+    if (w2c_i0) {goto w2c_B33;}
+    w2c_i0 = w2c_p2;
     w2c_i1 = 12u;
     w2c_i0 <<= (w2c_i1 & 31);
     w2c_j1 = w2c_l10;
@@ -54406,30 +53085,30 @@ static u32 w2c_f82(module *m, u64 w2c_p0, u64 w2c_p1, u32 w2c_p2, u32 w2c_p3, u3
     w2c_j1 += w2c_j2;
     w2c_i1 = (u32)(w2c_j1);
     w2c_i1 = i32_load8_u(m, (u64)(w2c_i1));
-    w2c_p2 = w2c_i1;
+    w2c_p3 = w2c_i1;
     w2c_i0 |= w2c_i1;
     w2c_j1 = w2c_l10;
     w2c_j2 = 18446744073709551614ull;
     w2c_j1 += w2c_j2;
     w2c_i1 = (u32)(w2c_j1);
     w2c_i1 = i32_load8_u(m, (u64)(w2c_i1));
-    w2c_p3 = w2c_i1;
+    w2c_p5 = w2c_i1;
     w2c_i2 = 6u;
     w2c_i1 <<= (w2c_i2 & 31);
     w2c_i0 += w2c_i1;
     w2c_i1 = 4294041472u;
     w2c_i0 += w2c_i1;
-    w2c_p4 = w2c_i0;
-    w2c_i0 = w2c_p3;
+    w2c_l32 = w2c_i0;
+    w2c_i0 = w2c_p5;
     w2c_i1 = 8u;
     w2c_i0 <<= (w2c_i1 & 31);
-    w2c_i1 = w2c_p2;
+    w2c_i1 = w2c_p3;
     w2c_i2 = 16u;
     w2c_i1 <<= (w2c_i2 & 31);
     w2c_i0 |= w2c_i1;
-    w2c_i1 = w2c_l32;
+    w2c_i1 = w2c_p2;
     w2c_i0 |= w2c_i1;
-    w2c_l32 = w2c_i0;
+    w2c_p2 = w2c_i0;
     w2c_j0 = (u64)(w2c_i0);
     w2c_j1 = 953497ull;
     w2c_j0 *= w2c_j1;
@@ -54442,29 +53121,29 @@ static u32 w2c_f82(module *m, u64 w2c_p0, u64 w2c_p1, u32 w2c_p2, u32 w2c_p3, u3
     w2c_j0 += w2c_j1;
     w2c_i0 = (u32)(w2c_j0);
     w2c_i0 = i32_load(m, (u64)(w2c_i0));
-    w2c_i1 = w2c_l32;
+    w2c_i1 = w2c_p2;
     w2c_i0 = w2c_i0 == w2c_i1;
-    if (w2c_i0) {goto w2c_B46;}
-    goto w2c_B44;
-    w2c_B48:;
-    w2c_j0 = w2c_l25;
+    if (w2c_i0) {goto w2c_B32;}
+    goto w2c_B30;
+    w2c_B34:;
+    w2c_j0 = w2c_l24;
     w2c_i0 = !(w2c_j0);
-    if (w2c_i0) {goto w2c_B42;}
-    w2c_B47:;
+    if (w2c_i0) {goto w2c_B28;}
+    w2c_B33:;
     w2c_i0 = 0u;
-    w2c_l32 = w2c_i0;
-    w2c_j0 = w2c_l20;
-    w2c_j1 = w2c_l25;
+    w2c_p2 = w2c_i0;
+    w2c_j0 = w2c_l19;
+    w2c_j1 = w2c_l24;
     w2c_j0 += w2c_j1;
     w2c_l10 = w2c_j0;
     w2c_j1 = 18446744073709551615ull;
     w2c_j0 += w2c_j1;
     w2c_i0 = (u32)(w2c_j0);
     w2c_i0 = i32_load8_s(m, (u64)(w2c_i0));
-    w2c_p4 = w2c_i0;
+    w2c_l32 = w2c_i0;
     w2c_i1 = 0u;
     w2c_i0 = (u32)((s32)w2c_i0 >= (s32)w2c_i1);
-    if (w2c_i0) {goto w2c_B45;}
+    if (w2c_i0) {goto w2c_B31;}
     w2c_j0 = 18446744073709551614ull;
     w2c_l11 = w2c_j0;
     w2c_j0 = w2c_l10;
@@ -54474,7 +53153,7 @@ static u32 w2c_f82(module *m, u64 w2c_p0, u64 w2c_p1, u32 w2c_p2, u32 w2c_p3, u3
     w2c_i0 = i32_load8_u(m, (u64)(w2c_i0));
     w2c_i1 = 191u;
     w2c_i0 = w2c_i0 > w2c_i1;
-    if (w2c_i0) {goto w2c_B49;}
+    if (w2c_i0) {goto w2c_B35;}
     w2c_j0 = 18446744073709551613ull;
     w2c_j1 = 18446744073709551612ull;
     w2c_j2 = w2c_l10;
@@ -54486,57 +53165,57 @@ static u32 w2c_f82(module *m, u64 w2c_p0, u64 w2c_p1, u32 w2c_p2, u32 w2c_p3, u3
     w2c_i2 = w2c_i2 > w2c_i3;
     w2c_j0 = w2c_i2 ? w2c_j0 : w2c_j1;
     w2c_l11 = w2c_j0;
-    w2c_B49:;
-    w2c_j0 = w2c_l20;
+    w2c_B35:;
+    w2c_j0 = w2c_l19;
     w2c_j1 = w2c_l11;
     w2c_j0 += w2c_j1;
-    w2c_j1 = w2c_l25;
+    w2c_j1 = w2c_l24;
     w2c_j0 += w2c_j1;
     w2c_l10 = w2c_j0;
     w2c_i0 = (u32)(w2c_j0);
     w2c_i0 = i32_load8_s(m, (u64)(w2c_i0));
-    w2c_p2 = w2c_i0;
+    w2c_p3 = w2c_i0;
     w2c_i1 = 255u;
     w2c_i0 &= w2c_i1;
-    w2c_p4 = w2c_i0;
-    w2c_i0 = w2c_p2;
+    w2c_l32 = w2c_i0;
+    w2c_i0 = w2c_p3;
     w2c_i1 = 4294967295u;
     w2c_i0 = (u32)((s32)w2c_i0 > (s32)w2c_i1);
-    if (w2c_i0) {goto w2c_B45;}
+    if (w2c_i0) {goto w2c_B31;}
     w2c_j0 = w2c_l10;
     w2c_i0 = (u32)(w2c_j0);
     w2c_i0 = i32_load8_u(m, (u64)(w2c_i0) + 1u);
     w2c_i1 = 63u;
     w2c_i0 &= w2c_i1;
-    w2c_p3 = w2c_i0;
-    w2c_i0 = w2c_p2;
+    w2c_p5 = w2c_i0;
+    w2c_i0 = w2c_p3;
     w2c_i1 = 4294967263u;
     w2c_i0 = w2c_i0 > w2c_i1;
-    if (w2c_i0) {goto w2c_B50;}
-    w2c_i0 = w2c_p4;
+    if (w2c_i0) {goto w2c_B36;}
+    w2c_i0 = w2c_l32;
     w2c_i1 = 6u;
     w2c_i0 <<= (w2c_i1 & 31);
     w2c_i1 = 1984u;
     w2c_i0 &= w2c_i1;
-    w2c_i1 = w2c_p3;
+    w2c_i1 = w2c_p5;
     w2c_i0 |= w2c_i1;
-    w2c_p4 = w2c_i0;
-    goto w2c_B45;
-    w2c_B50:;
+    w2c_l32 = w2c_i0;
+    goto w2c_B31;
+    w2c_B36:;
     w2c_j0 = w2c_l10;
     w2c_i0 = (u32)(w2c_j0);
     w2c_i0 = i32_load8_u(m, (u64)(w2c_i0) + 2u);
     w2c_i1 = 63u;
     w2c_i0 &= w2c_i1;
     w2c_l33 = w2c_i0;
-    w2c_i0 = w2c_p2;
+    w2c_i0 = w2c_p3;
     w2c_i1 = 4294967279u;
     w2c_i0 = w2c_i0 > w2c_i1;
-    if (w2c_i0) {goto w2c_B52;}
-    w2c_i0 = w2c_p3;
+    if (w2c_i0) {goto w2c_B38;}
+    w2c_i0 = w2c_p5;
     w2c_i1 = 6u;
     w2c_i0 <<= (w2c_i1 & 31);
-    w2c_i1 = w2c_p4;
+    w2c_i1 = w2c_l32;
     w2c_i2 = 12u;
     w2c_i1 <<= (w2c_i2 & 31);
     w2c_i2 = 61440u;
@@ -54544,16 +53223,16 @@ static u32 w2c_f82(module *m, u64 w2c_p0, u64 w2c_p1, u32 w2c_p2, u32 w2c_p3, u3
     w2c_i0 |= w2c_i1;
     w2c_i1 = w2c_l33;
     w2c_i0 |= w2c_i1;
-    w2c_p4 = w2c_i0;
-    goto w2c_B51;
-    w2c_B52:;
+    w2c_l32 = w2c_i0;
+    goto w2c_B37;
+    w2c_B38:;
     w2c_i0 = w2c_l33;
     w2c_i1 = 6u;
     w2c_i0 <<= (w2c_i1 & 31);
-    w2c_i1 = w2c_p3;
+    w2c_i1 = w2c_p5;
     w2c_i2 = 12u;
     w2c_i1 <<= (w2c_i2 & 31);
-    w2c_i2 = w2c_p4;
+    w2c_i2 = w2c_l32;
     w2c_i3 = 18u;
     w2c_i2 <<= (w2c_i3 & 31);
     w2c_i3 = 1835008u;
@@ -54566,24 +53245,24 @@ static u32 w2c_f82(module *m, u64 w2c_p0, u64 w2c_p1, u32 w2c_p2, u32 w2c_p3, u3
     w2c_i2 = 63u;
     w2c_i1 &= w2c_i2;
     w2c_i0 |= w2c_i1;
-    w2c_p4 = w2c_i0;
-    w2c_B51:;
-    w2c_i0 = w2c_p4;
+    w2c_l32 = w2c_i0;
+    w2c_B37:;
+    w2c_i0 = w2c_l32;
     w2c_i1 = 4294965248u;
     w2c_i0 += w2c_i1;
     w2c_i1 = 63487u;
     w2c_i0 = w2c_i0 > w2c_i1;
-    if (w2c_i0) {goto w2c_B45;}
-    w2c_i0 = w2c_p4;
+    if (w2c_i0) {goto w2c_B31;}
+    w2c_i0 = w2c_l32;
     w2c_i1 = 12u;
     w2c_i0 >>= (w2c_i1 & 31);
-    w2c_i1 = w2c_p4;
+    w2c_i1 = w2c_l32;
     w2c_i2 = 2u;
     w2c_i1 <<= (w2c_i2 & 31);
     w2c_i2 = 16128u;
     w2c_i1 &= w2c_i2;
     w2c_i0 |= w2c_i1;
-    w2c_i1 = w2c_p4;
+    w2c_i1 = w2c_l32;
     w2c_i2 = 16u;
     w2c_i1 <<= (w2c_i2 & 31);
     w2c_i2 = 4128768u;
@@ -54591,7 +53270,7 @@ static u32 w2c_f82(module *m, u64 w2c_p0, u64 w2c_p1, u32 w2c_p2, u32 w2c_p3, u3
     w2c_i0 |= w2c_i1;
     w2c_i1 = 8421600u;
     w2c_i0 |= w2c_i1;
-    w2c_l32 = w2c_i0;
+    w2c_p2 = w2c_i0;
     w2c_j0 = (u64)(w2c_i0);
     w2c_j1 = 953497ull;
     w2c_j0 *= w2c_j1;
@@ -54604,200 +53283,200 @@ static u32 w2c_f82(module *m, u64 w2c_p0, u64 w2c_p1, u32 w2c_p2, u32 w2c_p3, u3
     w2c_j0 += w2c_j1;
     w2c_i0 = (u32)(w2c_j0);
     w2c_i0 = i32_load(m, (u64)(w2c_i0));
-    w2c_i1 = w2c_l32;
+    w2c_i1 = w2c_p2;
     w2c_i0 = w2c_i0 != w2c_i1;
-    if (w2c_i0) {goto w2c_B43;}
-    w2c_B46:;
+    if (w2c_i0) {goto w2c_B29;}
+    w2c_B32:;
     w2c_j0 = w2c_l10;
     w2c_j1 = 66980ull;
     w2c_j0 += w2c_j1;
     w2c_i0 = (u32)(w2c_j0);
     w2c_i0 = i32_load8_u(m, (u64)(w2c_i0));
     w2c_i0 = !(w2c_i0);
-    if (w2c_i0) {goto w2c_B42;}
-    goto w2c_B44;
-    w2c_B45:;
-    w2c_i0 = w2c_p4;
+    if (w2c_i0) {goto w2c_B28;}
+    goto w2c_B30;
+    w2c_B31:;
+    w2c_i0 = w2c_l32;
     w2c_i1 = 4294967248u;
     w2c_i0 += w2c_i1;
     w2c_i1 = 10u;
     w2c_i0 = w2c_i0 < w2c_i1;
-    if (w2c_i0) {goto w2c_B41;}
-    w2c_B44:;
-    w2c_i0 = w2c_p4;
+    if (w2c_i0) {goto w2c_B27;}
+    w2c_B30:;
+    w2c_i0 = w2c_l32;
     w2c_i1 = 127u;
     w2c_i0 = w2c_i0 > w2c_i1;
-    if (w2c_i0) {goto w2c_B43;}
+    if (w2c_i0) {goto w2c_B29;}
     w2c_i0 = 0u;
-    w2c_l32 = w2c_i0;
-    w2c_i0 = w2c_p4;
+    w2c_p2 = w2c_i0;
+    w2c_i0 = w2c_l32;
     w2c_i1 = 95u;
     w2c_i0 = w2c_i0 == w2c_i1;
-    if (w2c_i0) {goto w2c_B41;}
-    w2c_i0 = w2c_p4;
+    if (w2c_i0) {goto w2c_B27;}
+    w2c_i0 = w2c_l32;
     w2c_i1 = 4294967252u;
     w2c_i0 += w2c_i1;
     w2c_i1 = 3u;
     w2c_i0 = w2c_i0 < w2c_i1;
-    if (w2c_i0) {goto w2c_B42;}
-    w2c_i0 = w2c_p4;
+    if (w2c_i0) {goto w2c_B28;}
+    w2c_i0 = w2c_l32;
     w2c_i1 = 4294967248u;
     w2c_i0 += w2c_i1;
     w2c_i1 = 10u;
     w2c_i0 = w2c_i0 < w2c_i1;
-    if (w2c_i0) {goto w2c_B41;}
-    w2c_i0 = w2c_p4;
+    if (w2c_i0) {goto w2c_B27;}
+    w2c_i0 = w2c_l32;
     w2c_i1 = 95u;
     w2c_i0 &= w2c_i1;
     w2c_i1 = 4294967231u;
     w2c_i0 += w2c_i1;
     w2c_i1 = 26u;
     w2c_i0 = w2c_i0 >= w2c_i1;
-    if (w2c_i0) {goto w2c_B42;}
-    goto w2c_B41;
-    w2c_B43:;
+    if (w2c_i0) {goto w2c_B28;}
+    goto w2c_B27;
+    w2c_B29:;
     w2c_i0 = 1u;
-    w2c_l32 = w2c_i0;
-    w2c_i0 = w2c_p4;
+    w2c_p2 = w2c_i0;
+    w2c_i0 = w2c_l32;
     w2c_i1 = 24318u;
     w2c_i0 = (u32)((s32)w2c_i0 > (s32)w2c_i1);
-    if (w2c_i0) {goto w2c_B55;}
-    w2c_i0 = w2c_p4;
+    if (w2c_i0) {goto w2c_B41;}
+    w2c_i0 = w2c_l32;
     w2c_i1 = 21316u;
     w2c_i0 = (u32)((s32)w2c_i0 > (s32)w2c_i1);
-    if (w2c_i0) {goto w2c_B56;}
-    w2c_i0 = w2c_p4;
+    if (w2c_i0) {goto w2c_B42;}
+    w2c_i0 = w2c_l32;
     w2c_i1 = 20313u;
     w2c_i0 = w2c_i0 == w2c_i1;
-    if (w2c_i0) {goto w2c_B42;}
-    w2c_i0 = w2c_p4;
+    if (w2c_i0) {goto w2c_B28;}
+    w2c_i0 = w2c_l32;
     w2c_i1 = 20358u;
     w2c_i0 = w2c_i0 == w2c_i1;
-    if (w2c_i0) {goto w2c_B42;}
-    w2c_i0 = w2c_p4;
+    if (w2c_i0) {goto w2c_B28;}
+    w2c_i0 = w2c_l32;
     w2c_i1 = 20960u;
     w2c_i0 = w2c_i0 != w2c_i1;
-    if (w2c_i0) {goto w2c_B53;}
-    goto w2c_B41;
-    w2c_B56:;
-    w2c_i0 = w2c_p4;
+    if (w2c_i0) {goto w2c_B39;}
+    goto w2c_B27;
+    w2c_B42:;
+    w2c_i0 = w2c_l32;
     w2c_i1 = 4294945979u;
     w2c_i0 += w2c_i1;
     switch (w2c_i0) {
-      case 0: goto w2c_B42;
-      case 1: goto w2c_B53;
-      case 2: goto w2c_B53;
-      case 3: goto w2c_B53;
-      case 4: goto w2c_B53;
-      case 5: goto w2c_B53;
-      case 6: goto w2c_B53;
-      case 7: goto w2c_B42;
-      default: goto w2c_B57;
+      case 0: goto w2c_B28;
+      case 1: goto w2c_B39;
+      case 2: goto w2c_B39;
+      case 3: goto w2c_B39;
+      case 4: goto w2c_B39;
+      case 5: goto w2c_B39;
+      case 6: goto w2c_B39;
+      case 7: goto w2c_B28;
+      default: goto w2c_B43;
     }
-    w2c_B57:;
-    w2c_i0 = w2c_p4;
+    w2c_B43:;
+    w2c_i0 = w2c_l32;
     w2c_i1 = 4294943110u;
     w2c_i0 += w2c_i1;
     switch (w2c_i0) {
-      case 0: goto w2c_B42;
-      case 1: goto w2c_B53;
-      case 2: goto w2c_B53;
-      case 3: goto w2c_B53;
-      case 4: goto w2c_B41;
-      default: goto w2c_B54;
+      case 0: goto w2c_B28;
+      case 1: goto w2c_B39;
+      case 2: goto w2c_B39;
+      case 3: goto w2c_B39;
+      case 4: goto w2c_B27;
+      default: goto w2c_B40;
     }
-    w2c_B55:;
-    w2c_i0 = w2c_p4;
+    w2c_B41:;
+    w2c_i0 = w2c_l32;
     w2c_i1 = 28856u;
     w2c_i0 = (u32)((s32)w2c_i0 > (s32)w2c_i1);
-    if (w2c_i0) {goto w2c_B58;}
-    w2c_i0 = w2c_p4;
+    if (w2c_i0) {goto w2c_B44;}
+    w2c_i0 = w2c_l32;
     w2c_i1 = 4294941328u;
     w2c_i0 += w2c_i1;
     switch (w2c_i0) {
-      case 0: goto w2c_B41;
-      case 1: goto w2c_B53;
-      case 2: goto w2c_B53;
-      case 3: goto w2c_B53;
-      case 4: goto w2c_B53;
-      case 5: goto w2c_B53;
-      case 6: goto w2c_B53;
-      case 7: goto w2c_B53;
-      case 8: goto w2c_B41;
-      default: goto w2c_B59;
+      case 0: goto w2c_B27;
+      case 1: goto w2c_B39;
+      case 2: goto w2c_B39;
+      case 3: goto w2c_B39;
+      case 4: goto w2c_B39;
+      case 5: goto w2c_B39;
+      case 6: goto w2c_B39;
+      case 7: goto w2c_B39;
+      case 8: goto w2c_B27;
+      default: goto w2c_B45;
     }
-    w2c_B59:;
-    w2c_i0 = w2c_p4;
+    w2c_B45:;
+    w2c_i0 = w2c_l32;
     w2c_i1 = 24319u;
     w2c_i0 = w2c_i0 == w2c_i1;
-    if (w2c_i0) {goto w2c_B42;}
-    w2c_i0 = w2c_p4;
+    if (w2c_i0) {goto w2c_B28;}
+    w2c_i0 = w2c_l32;
     w2c_i1 = 26469u;
     w2c_i0 = w2c_i0 != w2c_i1;
-    if (w2c_i0) {goto w2c_B53;}
-    goto w2c_B42;
-    w2c_B58:;
-    w2c_i0 = w2c_p4;
+    if (w2c_i0) {goto w2c_B39;}
+    goto w2c_B28;
+    w2c_B44:;
+    w2c_i0 = w2c_l32;
     w2c_i1 = 28857u;
     w2c_i0 = w2c_i0 == w2c_i1;
-    if (w2c_i0) {goto w2c_B42;}
-    w2c_i0 = w2c_p4;
+    if (w2c_i0) {goto w2c_B28;}
+    w2c_i0 = w2c_l32;
     w2c_i1 = 39192u;
     w2c_i0 = w2c_i0 == w2c_i1;
-    if (w2c_i0) {goto w2c_B42;}
-    w2c_i0 = w2c_p4;
+    if (w2c_i0) {goto w2c_B28;}
+    w2c_i0 = w2c_l32;
     w2c_i1 = 40670u;
     w2c_i0 = w2c_i0 == w2c_i1;
-    if (w2c_i0) {goto w2c_B42;}
-    goto w2c_B53;
-    w2c_B54:;
-    w2c_i0 = w2c_p4;
+    if (w2c_i0) {goto w2c_B28;}
+    goto w2c_B39;
+    w2c_B40:;
+    w2c_i0 = w2c_l32;
     w2c_i1 = 22810u;
     w2c_i0 = w2c_i0 == w2c_i1;
-    if (w2c_i0) {goto w2c_B42;}
-    w2c_B53:;
-    w2c_i0 = w2c_p4;
+    if (w2c_i0) {goto w2c_B28;}
+    w2c_B39:;
+    w2c_i0 = w2c_l32;
     w2c_i1 = 4294902000u;
     w2c_i0 += w2c_i1;
     w2c_i1 = 9u;
     w2c_i0 = w2c_i0 > w2c_i1;
-    w2c_B42:;
+    w2c_B28:;
     w2c_i0 = 0u;
-    w2c_l32 = w2c_i0;
-    w2c_B41:;
-    w2c_j0 = w2c_l21;
+    w2c_p2 = w2c_i0;
+    w2c_B27:;
+    w2c_j0 = w2c_l20;
     w2c_j1 = 3ull;
     w2c_i0 = w2c_j0 < w2c_j1;
-    if (w2c_i0) {goto w2c_B66;}
-    w2c_j0 = w2c_l22;
+    if (w2c_i0) {goto w2c_B52;}
+    w2c_j0 = w2c_l21;
     w2c_i0 = (u32)(w2c_j0);
     w2c_i0 = i32_load8_u(m, (u64)(w2c_i0));
-    w2c_p4 = w2c_i0;
+    w2c_l32 = w2c_i0;
     w2c_i1 = 240u;
     w2c_i0 &= w2c_i1;
     w2c_i1 = 224u;
     w2c_i0 = w2c_i0 != w2c_i1;
-    if (w2c_i0) {goto w2c_B65;}
-    w2c_j0 = w2c_l22;
+    if (w2c_i0) {goto w2c_B51;}
+    w2c_j0 = w2c_l21;
     w2c_i0 = (u32)(w2c_j0);
     w2c_i0 = i32_load8_u(m, (u64)(w2c_i0) + 1u);
-    w2c_p3 = w2c_i0;
+    w2c_p5 = w2c_i0;
     w2c_i1 = 8u;
     w2c_i0 <<= (w2c_i1 & 31);
-    w2c_j1 = w2c_l22;
+    w2c_j1 = w2c_l21;
     w2c_i1 = (u32)(w2c_j1);
     w2c_i1 = i32_load8_u(m, (u64)(w2c_i1) + 2u);
     w2c_l33 = w2c_i1;
     w2c_i2 = 16u;
     w2c_i1 <<= (w2c_i2 & 31);
     w2c_i0 |= w2c_i1;
-    w2c_i1 = w2c_p4;
+    w2c_i1 = w2c_l32;
     w2c_i0 |= w2c_i1;
-    w2c_p2 = w2c_i0;
-    w2c_i0 = w2c_p4;
+    w2c_p3 = w2c_i0;
+    w2c_i0 = w2c_l32;
     w2c_i1 = 12u;
     w2c_i0 <<= (w2c_i1 & 31);
-    w2c_i1 = w2c_p3;
+    w2c_i1 = w2c_p5;
     w2c_i2 = 6u;
     w2c_i1 <<= (w2c_i2 & 31);
     w2c_i0 += w2c_i1;
@@ -54805,9 +53484,9 @@ static u32 w2c_f82(module *m, u64 w2c_p0, u64 w2c_p1, u32 w2c_p2, u32 w2c_p3, u3
     w2c_i0 += w2c_i1;
     w2c_i1 = 4294041472u;
     w2c_i0 += w2c_i1;
-    w2c_p4 = w2c_i0;
-    w2c_i0 = w2c_p2;
-    w2c_i1 = w2c_p2;
+    w2c_l32 = w2c_i0;
+    w2c_i0 = w2c_p3;
+    w2c_i1 = w2c_p3;
     w2c_j1 = (u64)(w2c_i1);
     w2c_j2 = 953497ull;
     w2c_j1 *= w2c_j2;
@@ -54821,103 +53500,103 @@ static u32 w2c_f82(module *m, u64 w2c_p0, u64 w2c_p1, u32 w2c_p2, u32 w2c_p3, u3
     w2c_i1 = (u32)(w2c_j1);
     w2c_i1 = i32_load(m, (u64)(w2c_i1));
     w2c_i0 = w2c_i0 != w2c_i1;
-    if (w2c_i0) {goto w2c_B63;}
-    goto w2c_B64;
-    w2c_B66:;
-    w2c_j0 = w2c_l21;
+    if (w2c_i0) {goto w2c_B49;}
+    goto w2c_B50;
+    w2c_B52:;
+    w2c_j0 = w2c_l20;
     w2c_i0 = !(w2c_j0);
-    if (w2c_i0) {goto w2c_B61;}
-    w2c_j0 = w2c_l22;
+    if (w2c_i0) {goto w2c_B47;}
+    w2c_j0 = w2c_l21;
     w2c_i0 = (u32)(w2c_j0);
     w2c_i0 = i32_load8_u(m, (u64)(w2c_i0));
-    w2c_p4 = w2c_i0;
-    w2c_B65:;
-    w2c_i0 = w2c_p4;
+    w2c_l32 = w2c_i0;
+    w2c_B51:;
+    w2c_i0 = w2c_l32;
     w2c_i0 = (u32)(s32)(s8)(u8)(w2c_i0);
     w2c_i1 = 4294967295u;
     w2c_i0 = (u32)((s32)w2c_i0 > (s32)w2c_i1);
-    if (w2c_i0) {goto w2c_B67;}
-    w2c_j0 = w2c_l22;
+    if (w2c_i0) {goto w2c_B53;}
+    w2c_j0 = w2c_l21;
     w2c_i0 = (u32)(w2c_j0);
     w2c_i0 = i32_load8_u(m, (u64)(w2c_i0) + 1u);
     w2c_i1 = 63u;
     w2c_i0 &= w2c_i1;
-    w2c_p2 = w2c_i0;
-    w2c_i0 = w2c_p4;
+    w2c_p3 = w2c_i0;
+    w2c_i0 = w2c_l32;
     w2c_i1 = 223u;
     w2c_i0 = w2c_i0 > w2c_i1;
-    if (w2c_i0) {goto w2c_B68;}
-    w2c_i0 = w2c_p4;
+    if (w2c_i0) {goto w2c_B54;}
+    w2c_i0 = w2c_l32;
     w2c_i1 = 6u;
     w2c_i0 <<= (w2c_i1 & 31);
     w2c_i1 = 1984u;
     w2c_i0 &= w2c_i1;
-    w2c_i1 = w2c_p2;
+    w2c_i1 = w2c_p3;
     w2c_i0 |= w2c_i1;
-    w2c_p4 = w2c_i0;
-    goto w2c_B67;
-    w2c_B68:;
-    w2c_j0 = w2c_l22;
+    w2c_l32 = w2c_i0;
+    goto w2c_B53;
+    w2c_B54:;
+    w2c_j0 = w2c_l21;
     w2c_i0 = (u32)(w2c_j0);
     w2c_i0 = i32_load8_u(m, (u64)(w2c_i0) + 2u);
     w2c_i1 = 63u;
     w2c_i0 &= w2c_i1;
-    w2c_p3 = w2c_i0;
-    w2c_i0 = w2c_p4;
+    w2c_p5 = w2c_i0;
+    w2c_i0 = w2c_l32;
     w2c_i1 = 239u;
     w2c_i0 = w2c_i0 > w2c_i1;
-    if (w2c_i0) {goto w2c_B69;}
-    w2c_i0 = w2c_p2;
+    if (w2c_i0) {goto w2c_B55;}
+    w2c_i0 = w2c_p3;
     w2c_i1 = 6u;
     w2c_i0 <<= (w2c_i1 & 31);
-    w2c_i1 = w2c_p4;
+    w2c_i1 = w2c_l32;
     w2c_i2 = 12u;
     w2c_i1 <<= (w2c_i2 & 31);
     w2c_i2 = 61440u;
     w2c_i1 &= w2c_i2;
     w2c_i0 |= w2c_i1;
-    w2c_i1 = w2c_p3;
+    w2c_i1 = w2c_p5;
     w2c_i0 |= w2c_i1;
-    w2c_p4 = w2c_i0;
-    goto w2c_B67;
-    w2c_B69:;
-    w2c_i0 = w2c_p3;
+    w2c_l32 = w2c_i0;
+    goto w2c_B53;
+    w2c_B55:;
+    w2c_i0 = w2c_p5;
     w2c_i1 = 6u;
     w2c_i0 <<= (w2c_i1 & 31);
-    w2c_i1 = w2c_p2;
+    w2c_i1 = w2c_p3;
     w2c_i2 = 12u;
     w2c_i1 <<= (w2c_i2 & 31);
-    w2c_i2 = w2c_p4;
+    w2c_i2 = w2c_l32;
     w2c_i3 = 18u;
     w2c_i2 <<= (w2c_i3 & 31);
     w2c_i3 = 1835008u;
     w2c_i2 &= w2c_i3;
     w2c_i1 |= w2c_i2;
     w2c_i0 |= w2c_i1;
-    w2c_j1 = w2c_l22;
+    w2c_j1 = w2c_l21;
     w2c_i1 = (u32)(w2c_j1);
     w2c_i1 = i32_load8_u(m, (u64)(w2c_i1) + 3u);
     w2c_i2 = 63u;
     w2c_i1 &= w2c_i2;
     w2c_i0 |= w2c_i1;
-    w2c_p4 = w2c_i0;
-    w2c_B67:;
-    w2c_i0 = w2c_p4;
+    w2c_l32 = w2c_i0;
+    w2c_B53:;
+    w2c_i0 = w2c_l32;
     w2c_i1 = 4294965248u;
     w2c_i0 += w2c_i1;
     w2c_i1 = 63487u;
     w2c_i0 = w2c_i0 > w2c_i1;
-    if (w2c_i0) {goto w2c_B70;}
-    w2c_i0 = w2c_p4;
+    if (w2c_i0) {goto w2c_B56;}
+    w2c_i0 = w2c_l32;
     w2c_i1 = 12u;
     w2c_i0 >>= (w2c_i1 & 31);
-    w2c_i1 = w2c_p4;
+    w2c_i1 = w2c_l32;
     w2c_i2 = 2u;
     w2c_i1 <<= (w2c_i2 & 31);
     w2c_i2 = 16128u;
     w2c_i1 &= w2c_i2;
     w2c_i0 |= w2c_i1;
-    w2c_i1 = w2c_p4;
+    w2c_i1 = w2c_l32;
     w2c_i2 = 16u;
     w2c_i1 <<= (w2c_i2 & 31);
     w2c_i2 = 4128768u;
@@ -54925,7 +53604,7 @@ static u32 w2c_f82(module *m, u64 w2c_p0, u64 w2c_p1, u32 w2c_p2, u32 w2c_p3, u3
     w2c_i0 |= w2c_i1;
     w2c_i1 = 8421600u;
     w2c_i0 |= w2c_i1;
-    w2c_p2 = w2c_i0;
+    w2c_p3 = w2c_i0;
     w2c_j0 = (u64)(w2c_i0);
     w2c_j1 = 953497ull;
     w2c_j0 *= w2c_j1;
@@ -54938,188 +53617,188 @@ static u32 w2c_f82(module *m, u64 w2c_p0, u64 w2c_p1, u32 w2c_p2, u32 w2c_p3, u3
     w2c_j0 += w2c_j1;
     w2c_i0 = (u32)(w2c_j0);
     w2c_i0 = i32_load(m, (u64)(w2c_i0));
-    w2c_i1 = w2c_p2;
+    w2c_i1 = w2c_p3;
     w2c_i0 = w2c_i0 == w2c_i1;
-    if (w2c_i0) {goto w2c_B64;}
-    goto w2c_B62;
-    w2c_B70:;
-    w2c_i0 = w2c_p4;
+    if (w2c_i0) {goto w2c_B50;}
+    goto w2c_B48;
+    w2c_B56:;
+    w2c_i0 = w2c_l32;
     w2c_i1 = 4294967248u;
     w2c_i0 += w2c_i1;
     w2c_i1 = 10u;
     w2c_i0 = w2c_i0 < w2c_i1;
-    if (w2c_i0) {goto w2c_B61;}
-    goto w2c_B63;
-    w2c_B64:;
+    if (w2c_i0) {goto w2c_B47;}
+    goto w2c_B49;
+    w2c_B50:;
     w2c_j0 = w2c_l10;
     w2c_j1 = 66980ull;
     w2c_j0 += w2c_j1;
     w2c_i0 = (u32)(w2c_j0);
     w2c_i0 = i32_load8_u(m, (u64)(w2c_i0));
     w2c_i0 = !(w2c_i0);
-    if (w2c_i0) {goto w2c_B61;}
-    w2c_B63:;
-    w2c_i0 = w2c_p4;
+    if (w2c_i0) {goto w2c_B47;}
+    w2c_B49:;
+    w2c_i0 = w2c_l32;
     w2c_i1 = 127u;
     w2c_i0 = w2c_i0 > w2c_i1;
-    if (w2c_i0) {goto w2c_B62;}
+    if (w2c_i0) {goto w2c_B48;}
     w2c_i0 = 0u;
-    w2c_p2 = w2c_i0;
-    w2c_i0 = w2c_p4;
+    w2c_p3 = w2c_i0;
+    w2c_i0 = w2c_l32;
     w2c_i1 = 95u;
     w2c_i0 = w2c_i0 == w2c_i1;
-    if (w2c_i0) {goto w2c_B60;}
-    w2c_i0 = w2c_p4;
+    if (w2c_i0) {goto w2c_B46;}
+    w2c_i0 = w2c_l32;
     w2c_i1 = 4294967252u;
     w2c_i0 += w2c_i1;
     w2c_i1 = 3u;
     w2c_i0 = w2c_i0 < w2c_i1;
-    if (w2c_i0) {goto w2c_B61;}
-    w2c_i0 = w2c_p4;
+    if (w2c_i0) {goto w2c_B47;}
+    w2c_i0 = w2c_l32;
     w2c_i1 = 4294967248u;
     w2c_i0 += w2c_i1;
     w2c_i1 = 10u;
     w2c_i0 = w2c_i0 < w2c_i1;
-    if (w2c_i0) {goto w2c_B60;}
-    w2c_i0 = w2c_p4;
+    if (w2c_i0) {goto w2c_B46;}
+    w2c_i0 = w2c_l32;
     w2c_i1 = 95u;
     w2c_i0 &= w2c_i1;
     w2c_i1 = 4294967231u;
     w2c_i0 += w2c_i1;
     w2c_i1 = 26u;
     w2c_i0 = w2c_i0 >= w2c_i1;
-    if (w2c_i0) {goto w2c_B61;}
-    goto w2c_B60;
-    w2c_B62:;
+    if (w2c_i0) {goto w2c_B47;}
+    goto w2c_B46;
+    w2c_B48:;
     w2c_i0 = 1u;
-    w2c_p2 = w2c_i0;
-    w2c_i0 = w2c_p4;
+    w2c_p3 = w2c_i0;
+    w2c_i0 = w2c_l32;
     w2c_i1 = 24318u;
     w2c_i0 = (u32)((s32)w2c_i0 > (s32)w2c_i1);
-    if (w2c_i0) {goto w2c_B72;}
-    w2c_i0 = w2c_p4;
+    if (w2c_i0) {goto w2c_B58;}
+    w2c_i0 = w2c_l32;
     w2c_i1 = 21316u;
     w2c_i0 = (u32)((s32)w2c_i0 > (s32)w2c_i1);
-    if (w2c_i0) {goto w2c_B73;}
-    w2c_i0 = w2c_p4;
+    if (w2c_i0) {goto w2c_B59;}
+    w2c_i0 = w2c_l32;
     w2c_i1 = 20313u;
     w2c_i0 = w2c_i0 == w2c_i1;
-    if (w2c_i0) {goto w2c_B60;}
-    w2c_i0 = w2c_p4;
+    if (w2c_i0) {goto w2c_B46;}
+    w2c_i0 = w2c_l32;
     w2c_i1 = 20358u;
     w2c_i0 = w2c_i0 == w2c_i1;
-    if (w2c_i0) {goto w2c_B60;}
-    w2c_i0 = w2c_p4;
+    if (w2c_i0) {goto w2c_B46;}
+    w2c_i0 = w2c_l32;
     w2c_i1 = 20960u;
     w2c_i0 = w2c_i0 != w2c_i1;
-    if (w2c_i0) {goto w2c_B71;}
-    goto w2c_B60;
-    w2c_B73:;
-    w2c_i0 = w2c_p4;
+    if (w2c_i0) {goto w2c_B57;}
+    goto w2c_B46;
+    w2c_B59:;
+    w2c_i0 = w2c_l32;
     w2c_i1 = 4294945979u;
     w2c_i0 += w2c_i1;
     switch (w2c_i0) {
-      case 0: goto w2c_B61;
-      case 1: goto w2c_B71;
-      case 2: goto w2c_B71;
-      case 3: goto w2c_B71;
-      case 4: goto w2c_B71;
-      case 5: goto w2c_B71;
-      case 6: goto w2c_B71;
-      case 7: goto w2c_B61;
-      default: goto w2c_B74;
+      case 0: goto w2c_B47;
+      case 1: goto w2c_B57;
+      case 2: goto w2c_B57;
+      case 3: goto w2c_B57;
+      case 4: goto w2c_B57;
+      case 5: goto w2c_B57;
+      case 6: goto w2c_B57;
+      case 7: goto w2c_B47;
+      default: goto w2c_B60;
     }
-    w2c_B74:;
-    w2c_i0 = w2c_p4;
+    w2c_B60:;
+    w2c_i0 = w2c_l32;
     w2c_i1 = 4294943110u;
     w2c_i0 += w2c_i1;
     switch (w2c_i0) {
-      case 0: goto w2c_B61;
-      case 1: goto w2c_B71;
-      case 2: goto w2c_B71;
-      case 3: goto w2c_B71;
-      case 4: goto w2c_B60;
-      default: goto w2c_B75;
+      case 0: goto w2c_B47;
+      case 1: goto w2c_B57;
+      case 2: goto w2c_B57;
+      case 3: goto w2c_B57;
+      case 4: goto w2c_B46;
+      default: goto w2c_B61;
     }
-    w2c_B75:;
-    w2c_i0 = w2c_p4;
+    w2c_B61:;
+    w2c_i0 = w2c_l32;
     w2c_i1 = 22810u;
     w2c_i0 = w2c_i0 != w2c_i1;
-    if (w2c_i0) {goto w2c_B71;}
-    goto w2c_B60;
-    w2c_B72:;
-    w2c_i0 = w2c_p4;
+    if (w2c_i0) {goto w2c_B57;}
+    goto w2c_B46;
+    w2c_B58:;
+    w2c_i0 = w2c_l32;
     w2c_i1 = 28856u;
     w2c_i0 = (u32)((s32)w2c_i0 > (s32)w2c_i1);
-    if (w2c_i0) {goto w2c_B76;}
-    w2c_i0 = w2c_p4;
+    if (w2c_i0) {goto w2c_B62;}
+    w2c_i0 = w2c_l32;
     w2c_i1 = 4294941328u;
     w2c_i0 += w2c_i1;
     switch (w2c_i0) {
-      case 0: goto w2c_B61;
-      case 1: goto w2c_B71;
-      case 2: goto w2c_B71;
-      case 3: goto w2c_B71;
-      case 4: goto w2c_B71;
-      case 5: goto w2c_B71;
-      case 6: goto w2c_B71;
-      case 7: goto w2c_B71;
-      case 8: goto w2c_B61;
-      default: goto w2c_B77;
+      case 0: goto w2c_B47;
+      case 1: goto w2c_B57;
+      case 2: goto w2c_B57;
+      case 3: goto w2c_B57;
+      case 4: goto w2c_B57;
+      case 5: goto w2c_B57;
+      case 6: goto w2c_B57;
+      case 7: goto w2c_B57;
+      case 8: goto w2c_B47;
+      default: goto w2c_B63;
     }
-    w2c_B77:;
-    w2c_i0 = w2c_p4;
+    w2c_B63:;
+    w2c_i0 = w2c_l32;
     w2c_i1 = 24319u;
     w2c_i0 = w2c_i0 == w2c_i1;
-    if (w2c_i0) {goto w2c_B61;}
-    w2c_i0 = w2c_p4;
+    if (w2c_i0) {goto w2c_B47;}
+    w2c_i0 = w2c_l32;
     w2c_i1 = 26469u;
     w2c_i0 = w2c_i0 != w2c_i1;
-    if (w2c_i0) {goto w2c_B71;}
-    goto w2c_B60;
-    w2c_B76:;
-    w2c_i0 = w2c_p4;
+    if (w2c_i0) {goto w2c_B57;}
+    goto w2c_B46;
+    w2c_B62:;
+    w2c_i0 = w2c_l32;
     w2c_i1 = 28857u;
     w2c_i0 = w2c_i0 == w2c_i1;
-    if (w2c_i0) {goto w2c_B61;}
-    w2c_i0 = w2c_p4;
+    if (w2c_i0) {goto w2c_B47;}
+    w2c_i0 = w2c_l32;
     w2c_i1 = 39192u;
     w2c_i0 = w2c_i0 == w2c_i1;
-    if (w2c_i0) {goto w2c_B60;}
-    w2c_i0 = w2c_p4;
+    if (w2c_i0) {goto w2c_B46;}
+    w2c_i0 = w2c_l32;
     w2c_i1 = 40670u;
     w2c_i0 = w2c_i0 == w2c_i1;
-    if (w2c_i0) {goto w2c_B61;}
-    w2c_B71:;
-    w2c_i0 = w2c_p4;
+    if (w2c_i0) {goto w2c_B47;}
+    w2c_B57:;
+    w2c_i0 = w2c_l32;
     w2c_i1 = 4294902000u;
     w2c_i0 += w2c_i1;
     w2c_i1 = 9u;
     w2c_i0 = w2c_i0 > w2c_i1;
-    w2c_B61:;
+    w2c_B47:;
     w2c_i0 = 0u;
-    w2c_p2 = w2c_i0;
-    w2c_B60:;
-    w2c_i0 = w2c_l32;
-    w2c_i0 = !(w2c_i0);
-    if (w2c_i0) {goto w2c_B79;}
+    w2c_p3 = w2c_i0;
+    w2c_B46:;
     w2c_i0 = w2c_p2;
-    w2c_j1 = w2c_l24;
-    w2c_j2 = w2c_l23;
-    w2c_i1 = w2c_f18(m, w2c_j1, w2c_j2);
+    w2c_i0 = !(w2c_i0);
+    if (w2c_i0) {goto w2c_B65;}
+    w2c_i0 = w2c_p3;
+    w2c_j1 = w2c_l23;
+    w2c_j2 = w2c_l22;
+    w2c_i1 = w2c_f19(m, w2c_j1, w2c_j2);
     w2c_i0 |= w2c_i1;
     w2c_i0 = !(w2c_i0);
-    if (w2c_i0) {goto w2c_B78;}
-    goto w2c_B30;
-    w2c_B79:;
-    w2c_i0 = w2c_p2;
-    if (w2c_i0) {goto w2c_B30;}
-    w2c_B78:;
-    w2c_j0 = w2c_l24;
-    w2c_j1 = w2c_l23;
-    w2c_i0 = w2c_f19(m, w2c_j0, w2c_j1);
-    if (w2c_i0) {goto w2c_B30;}
-    w2c_B40:;
+    if (w2c_i0) {goto w2c_B64;}
+    goto w2c_B16;
+    w2c_B65:;
+    w2c_i0 = w2c_p3;
+    if (w2c_i0) {goto w2c_B16;}
+    w2c_B64:;
+    w2c_j0 = w2c_l23;
+    w2c_j1 = w2c_l22;
+    w2c_i0 = w2c_f20(m, w2c_j0, w2c_j1);
+    if (w2c_i0) {goto w2c_B16;}
+    w2c_B26:;
     w2c_j0 = w2c_l9;
     w2c_i0 = (u32)(w2c_j0);
     w2c_j1 = 0ull;
@@ -55155,50 +53834,50 @@ static u32 w2c_f82(module *m, u64 w2c_p0, u64 w2c_p1, u32 w2c_p2, u32 w2c_p3, u3
     w2c_j0 = w2c_l9;
     w2c_j1 = 240ull;
     w2c_j0 += w2c_j1;
-    w2c_j1 = w2c_l24;
-    w2c_j2 = w2c_l23;
+    w2c_j1 = w2c_l23;
+    w2c_j2 = w2c_l22;
     w2c_i3 = w2c_l34;
-    w2c_f27(m, w2c_j0, w2c_j1, w2c_j2, w2c_i3);
+    w2c_f28(m, w2c_j0, w2c_j1, w2c_j2, w2c_i3);
     w2c_j0 = w2c_l9;
     w2c_i0 = (u32)(w2c_j0);
-    w2c_j1 = w2c_l19;
+    w2c_j1 = w2c_l18;
     w2c_i1 = (u32)(w2c_j1);
     w2c_j1 = i64_load(m, (u64)(w2c_i1));
     i64_store(m, (u64)(w2c_i0) + 112, w2c_j1);
     w2c_j0 = w2c_l9;
     w2c_i0 = (u32)(w2c_j0);
-    w2c_j1 = w2c_l19;
+    w2c_j1 = w2c_l18;
     w2c_i1 = (u32)(w2c_j1);
     w2c_j1 = i64_load(m, (u64)(w2c_i1) + 8u);
     i64_store(m, (u64)(w2c_i0) + 120, w2c_j1);
     w2c_j0 = w2c_l9;
     w2c_i0 = (u32)(w2c_j0);
-    w2c_j1 = w2c_l19;
+    w2c_j1 = w2c_l18;
     w2c_i1 = (u32)(w2c_j1);
     w2c_j1 = i64_load(m, (u64)(w2c_i1) + 16u);
     i64_store(m, (u64)(w2c_i0) + 128, w2c_j1);
     w2c_j0 = w2c_l9;
     w2c_i0 = (u32)(w2c_j0);
-    w2c_j1 = w2c_l19;
+    w2c_j1 = w2c_l18;
     w2c_i1 = (u32)(w2c_j1);
     w2c_j1 = i64_load(m, (u64)(w2c_i1) + 24u);
     i64_store(m, (u64)(w2c_i0) + 136, w2c_j1);
     w2c_j0 = w2c_l9;
     w2c_i0 = (u32)(w2c_j0);
-    w2c_j1 = w2c_l19;
+    w2c_j1 = w2c_l18;
     w2c_i1 = (u32)(w2c_j1);
     w2c_j1 = i64_load(m, (u64)(w2c_i1) + 32u);
     i64_store(m, (u64)(w2c_i0) + 144, w2c_j1);
     w2c_j0 = w2c_l9;
     w2c_i0 = (u32)(w2c_j0);
-    w2c_j1 = w2c_l19;
+    w2c_j1 = w2c_l18;
     w2c_i1 = (u32)(w2c_j1);
     w2c_j1 = i64_load(m, (u64)(w2c_i1) + 40u);
     i64_store(m, (u64)(w2c_i0) + 152, w2c_j1);
     w2c_j0 = w2c_l9;
     w2c_i0 = (u32)(w2c_j0);
     w2c_i0 = i32_load8_u(m, (u64)(w2c_i0) + 240u);
-    if (w2c_i0) {goto w2c_B30;}
+    if (w2c_i0) {goto w2c_B16;}
     w2c_j0 = w2c_l9;
     w2c_j1 = 160ull;
     w2c_j0 += w2c_j1;
@@ -55220,55 +53899,55 @@ static u32 w2c_f82(module *m, u64 w2c_p0, u64 w2c_p1, u32 w2c_p2, u32 w2c_p3, u3
     w2c_i1 = (u32)(w2c_j1);
     w2c_j1 = i64_load(m, (u64)(w2c_i1) + 8u);
     w2c_l10 = w2c_j1;
-    w2c_j2 = w2c_l28;
+    w2c_j2 = w2c_l27;
     w2c_j1 += w2c_j2;
     w2c_l11 = w2c_j1;
     w2c_j2 = w2c_l11;
     w2c_j3 = w2c_l10;
     w2c_i2 = w2c_j2 < w2c_j3;
     w2c_j0 = w2c_i2 ? w2c_j0 : w2c_j1;
-    w2c_l17 = w2c_j0;
+    w2c_l16 = w2c_j0;
     w2c_j1 = w2c_p7;
     w2c_i0 = w2c_j0 > w2c_j1;
-    if (w2c_i0) {goto w2c_B29;}
-    w2c_j0 = w2c_l16;
-    w2c_j1 = w2c_l28;
+    if (w2c_i0) {goto w2c_B15;}
+    w2c_j0 = w2c_l15;
+    w2c_j1 = w2c_l27;
     w2c_j0 += w2c_j1;
-    w2c_l29 = w2c_j0;
+    w2c_l28 = w2c_j0;
     w2c_j1 = w2c_l9;
     w2c_i1 = (u32)(w2c_j1);
     w2c_j1 = i64_load(m, (u64)(w2c_i1));
-    w2c_l24 = w2c_j1;
+    w2c_l23 = w2c_j1;
     w2c_j0 -= w2c_j1;
     w2c_j1 = w2c_l10;
     w2c_i0 = w2c_j0 >= w2c_j1;
-    if (w2c_i0) {goto w2c_B80;}
+    if (w2c_i0) {goto w2c_B66;}
     w2c_j0 = w2c_l10;
     w2c_j1 = 3ull;
     w2c_j0 &= w2c_j1;
-    w2c_l31 = w2c_j0;
+    w2c_l30 = w2c_j0;
     w2c_j0 = 0ull;
     w2c_l11 = w2c_j0;
     w2c_j0 = w2c_l10;
     w2c_j1 = 4ull;
     w2c_i0 = w2c_j0 < w2c_j1;
-    if (w2c_i0) {goto w2c_B81;}
+    if (w2c_i0) {goto w2c_B67;}
     w2c_j0 = w2c_l10;
     w2c_j1 = 18446744073709551612ull;
     w2c_j0 &= w2c_j1;
-    w2c_l30 = w2c_j0;
+    w2c_l29 = w2c_j0;
     w2c_j0 = 0ull;
     w2c_l11 = w2c_j0;
-    w2c_L82:
-      w2c_j0 = w2c_l29;
+    w2c_L68:
+      w2c_j0 = w2c_l28;
       w2c_j1 = w2c_l11;
       w2c_j0 += w2c_j1;
       w2c_l10 = w2c_j0;
       w2c_i0 = (u32)(w2c_j0);
-      w2c_j1 = w2c_l24;
+      w2c_j1 = w2c_l23;
       w2c_j2 = w2c_l11;
       w2c_j1 += w2c_j2;
-      w2c_l14 = w2c_j1;
+      w2c_l31 = w2c_j1;
       w2c_i1 = (u32)(w2c_j1);
       w2c_i1 = i32_load8_u(m, (u64)(w2c_i1));
       i32_store8(m, (u64)(w2c_i0), w2c_i1);
@@ -55276,7 +53955,7 @@ static u32 w2c_f82(module *m, u64 w2c_p0, u64 w2c_p1, u32 w2c_p2, u32 w2c_p3, u3
       w2c_j1 = 1ull;
       w2c_j0 += w2c_j1;
       w2c_i0 = (u32)(w2c_j0);
-      w2c_j1 = w2c_l14;
+      w2c_j1 = w2c_l31;
       w2c_j2 = 1ull;
       w2c_j1 += w2c_j2;
       w2c_i1 = (u32)(w2c_j1);
@@ -55286,7 +53965,7 @@ static u32 w2c_f82(module *m, u64 w2c_p0, u64 w2c_p1, u32 w2c_p2, u32 w2c_p3, u3
       w2c_j1 = 2ull;
       w2c_j0 += w2c_j1;
       w2c_i0 = (u32)(w2c_j0);
-      w2c_j1 = w2c_l14;
+      w2c_j1 = w2c_l31;
       w2c_j2 = 2ull;
       w2c_j1 += w2c_j2;
       w2c_i1 = (u32)(w2c_j1);
@@ -55296,44 +53975,44 @@ static u32 w2c_f82(module *m, u64 w2c_p0, u64 w2c_p1, u32 w2c_p2, u32 w2c_p3, u3
       w2c_j1 = 3ull;
       w2c_j0 += w2c_j1;
       w2c_i0 = (u32)(w2c_j0);
-      w2c_j1 = w2c_l14;
+      w2c_j1 = w2c_l31;
       w2c_j2 = 3ull;
       w2c_j1 += w2c_j2;
       w2c_i1 = (u32)(w2c_j1);
       w2c_i1 = i32_load8_u(m, (u64)(w2c_i1));
       i32_store8(m, (u64)(w2c_i0), w2c_i1);
-      w2c_j0 = w2c_l30;
+      w2c_j0 = w2c_l29;
       w2c_j1 = w2c_l11;
       w2c_j2 = 4ull;
       w2c_j1 += w2c_j2;
       w2c_l11 = w2c_j1;
       w2c_i0 = w2c_j0 != w2c_j1;
-      if (w2c_i0) {goto w2c_L82;}
-    w2c_j0 = w2c_l31;
+      if (w2c_i0) {goto w2c_L68;}
+    w2c_j0 = w2c_l30;
     w2c_i0 = !(w2c_j0);
-    if (w2c_i0) {goto w2c_B29;}
-    w2c_B81:;
-    w2c_j0 = w2c_l16;
-    w2c_j1 = w2c_l27;
+    if (w2c_i0) {goto w2c_B15;}
+    w2c_B67:;
+    w2c_j0 = w2c_l15;
+    w2c_j1 = w2c_l26;
     w2c_j2 = w2c_l11;
     w2c_j1 += w2c_j2;
-    w2c_j2 = w2c_l26;
-    w2c_j3 = w2c_l27;
+    w2c_j2 = w2c_l25;
+    w2c_j3 = w2c_l26;
     w2c_j4 = 18446744073709551615ull;
     w2c_j3 ^= w2c_j4;
     w2c_l10 = w2c_j3;
-    w2c_j4 = w2c_l26;
+    w2c_j4 = w2c_l25;
     w2c_j5 = w2c_l10;
     w2c_i4 = w2c_j4 < w2c_j5;
     w2c_j2 = w2c_i4 ? w2c_j2 : w2c_j3;
     w2c_j1 += w2c_j2;
     w2c_j0 += w2c_j1;
     w2c_l10 = w2c_j0;
-    w2c_j0 = w2c_l24;
+    w2c_j0 = w2c_l23;
     w2c_j1 = w2c_l11;
     w2c_j0 += w2c_j1;
     w2c_l11 = w2c_j0;
-    w2c_L83:
+    w2c_L69:
       w2c_j0 = w2c_l10;
       w2c_i0 = (u32)(w2c_j0);
       w2c_j1 = w2c_l11;
@@ -55348,76 +54027,76 @@ static u32 w2c_f82(module *m, u64 w2c_p0, u64 w2c_p1, u32 w2c_p2, u32 w2c_p3, u3
       w2c_j1 = 1ull;
       w2c_j0 += w2c_j1;
       w2c_l11 = w2c_j0;
-      w2c_j0 = w2c_l31;
+      w2c_j0 = w2c_l30;
       w2c_j1 = 18446744073709551615ull;
       w2c_j0 += w2c_j1;
-      w2c_l31 = w2c_j0;
+      w2c_l30 = w2c_j0;
       w2c_j1 = 0ull;
       w2c_i0 = w2c_j0 != w2c_j1;
-      if (w2c_i0) {goto w2c_L83;}
-      goto w2c_B29;
+      if (w2c_i0) {goto w2c_L69;}
+      goto w2c_B15;
     UNREACHABLE;
-    w2c_B80:;
+    w2c_B66:;
     w2c_j0 = w2c_l10;
     w2c_i0 = !(w2c_j0);
-    if (w2c_i0) {goto w2c_B29;}
-    w2c_j0 = w2c_l29;
+    if (w2c_i0) {goto w2c_B15;}
+    w2c_j0 = w2c_l28;
     w2c_i0 = (u32)(w2c_j0);
-    w2c_j1 = w2c_l24;
+    w2c_j1 = w2c_l23;
     w2c_i1 = (u32)(w2c_j1);
     w2c_j2 = w2c_l10;
     w2c_i2 = (u32)(w2c_j2);
     memory_copy(m, w2c_i0, w2c_i1, w2c_i2);
-    goto w2c_B29;
-    w2c_B30:;
+    goto w2c_B15;
+    w2c_B16:;
     w2c_j0 = 18446744073709551615ull;
-    w2c_j1 = w2c_l23;
-    w2c_j2 = w2c_l28;
+    w2c_j1 = w2c_l22;
+    w2c_j2 = w2c_l27;
     w2c_j1 += w2c_j2;
     w2c_l10 = w2c_j1;
     w2c_j2 = w2c_l10;
-    w2c_j3 = w2c_l23;
+    w2c_j3 = w2c_l22;
     w2c_i2 = w2c_j2 < w2c_j3;
     w2c_j0 = w2c_i2 ? w2c_j0 : w2c_j1;
-    w2c_l17 = w2c_j0;
+    w2c_l16 = w2c_j0;
     w2c_j1 = w2c_p7;
     w2c_i0 = w2c_j0 > w2c_j1;
-    if (w2c_i0) {goto w2c_B29;}
-    w2c_j0 = w2c_l16;
-    w2c_j1 = w2c_l28;
+    if (w2c_i0) {goto w2c_B15;}
+    w2c_j0 = w2c_l15;
+    w2c_j1 = w2c_l27;
     w2c_j0 += w2c_j1;
-    w2c_l29 = w2c_j0;
-    w2c_j1 = w2c_l24;
-    w2c_j0 -= w2c_j1;
+    w2c_l28 = w2c_j0;
     w2c_j1 = w2c_l23;
+    w2c_j0 -= w2c_j1;
+    w2c_j1 = w2c_l22;
     w2c_i0 = w2c_j0 >= w2c_j1;
-    if (w2c_i0) {goto w2c_B84;}
-    w2c_j0 = w2c_l23;
+    if (w2c_i0) {goto w2c_B70;}
+    w2c_j0 = w2c_l22;
     w2c_j1 = 3ull;
-    w2c_j0 &= w2c_j1;
-    w2c_l31 = w2c_j0;
-    w2c_j0 = 0ull;
-    w2c_l11 = w2c_j0;
-    w2c_j0 = w2c_l23;
-    w2c_j1 = 4ull;
-    w2c_i0 = w2c_j0 < w2c_j1;
-    if (w2c_i0) {goto w2c_B85;}
-    w2c_j0 = w2c_l23;
-    w2c_j1 = 18446744073709551612ull;
     w2c_j0 &= w2c_j1;
     w2c_l30 = w2c_j0;
     w2c_j0 = 0ull;
     w2c_l11 = w2c_j0;
-    w2c_L86:
-      w2c_j0 = w2c_l29;
+    w2c_j0 = w2c_l22;
+    w2c_j1 = 4ull;
+    w2c_i0 = w2c_j0 < w2c_j1;
+    if (w2c_i0) {goto w2c_B71;}
+    w2c_j0 = w2c_l22;
+    w2c_j1 = 18446744073709551612ull;
+    w2c_j0 &= w2c_j1;
+    w2c_l29 = w2c_j0;
+    w2c_j0 = 0ull;
+    w2c_l11 = w2c_j0;
+    w2c_L72:
+      w2c_j0 = w2c_l28;
       w2c_j1 = w2c_l11;
       w2c_j0 += w2c_j1;
       w2c_l10 = w2c_j0;
       w2c_i0 = (u32)(w2c_j0);
-      w2c_j1 = w2c_l24;
+      w2c_j1 = w2c_l23;
       w2c_j2 = w2c_l11;
       w2c_j1 += w2c_j2;
-      w2c_l14 = w2c_j1;
+      w2c_l31 = w2c_j1;
       w2c_i1 = (u32)(w2c_j1);
       w2c_i1 = i32_load8_u(m, (u64)(w2c_i1));
       i32_store8(m, (u64)(w2c_i0), w2c_i1);
@@ -55425,7 +54104,7 @@ static u32 w2c_f82(module *m, u64 w2c_p0, u64 w2c_p1, u32 w2c_p2, u32 w2c_p3, u3
       w2c_j1 = 1ull;
       w2c_j0 += w2c_j1;
       w2c_i0 = (u32)(w2c_j0);
-      w2c_j1 = w2c_l14;
+      w2c_j1 = w2c_l31;
       w2c_j2 = 1ull;
       w2c_j1 += w2c_j2;
       w2c_i1 = (u32)(w2c_j1);
@@ -55435,7 +54114,7 @@ static u32 w2c_f82(module *m, u64 w2c_p0, u64 w2c_p1, u32 w2c_p2, u32 w2c_p3, u3
       w2c_j1 = 2ull;
       w2c_j0 += w2c_j1;
       w2c_i0 = (u32)(w2c_j0);
-      w2c_j1 = w2c_l14;
+      w2c_j1 = w2c_l31;
       w2c_j2 = 2ull;
       w2c_j1 += w2c_j2;
       w2c_i1 = (u32)(w2c_j1);
@@ -55445,44 +54124,44 @@ static u32 w2c_f82(module *m, u64 w2c_p0, u64 w2c_p1, u32 w2c_p2, u32 w2c_p3, u3
       w2c_j1 = 3ull;
       w2c_j0 += w2c_j1;
       w2c_i0 = (u32)(w2c_j0);
-      w2c_j1 = w2c_l14;
+      w2c_j1 = w2c_l31;
       w2c_j2 = 3ull;
       w2c_j1 += w2c_j2;
       w2c_i1 = (u32)(w2c_j1);
       w2c_i1 = i32_load8_u(m, (u64)(w2c_i1));
       i32_store8(m, (u64)(w2c_i0), w2c_i1);
-      w2c_j0 = w2c_l30;
+      w2c_j0 = w2c_l29;
       w2c_j1 = w2c_l11;
       w2c_j2 = 4ull;
       w2c_j1 += w2c_j2;
       w2c_l11 = w2c_j1;
       w2c_i0 = w2c_j0 != w2c_j1;
-      if (w2c_i0) {goto w2c_L86;}
-    w2c_j0 = w2c_l31;
+      if (w2c_i0) {goto w2c_L72;}
+    w2c_j0 = w2c_l30;
     w2c_i0 = !(w2c_j0);
-    if (w2c_i0) {goto w2c_B29;}
-    w2c_B85:;
-    w2c_j0 = w2c_l16;
-    w2c_j1 = w2c_l27;
+    if (w2c_i0) {goto w2c_B15;}
+    w2c_B71:;
+    w2c_j0 = w2c_l15;
+    w2c_j1 = w2c_l26;
     w2c_j2 = w2c_l11;
     w2c_j1 += w2c_j2;
-    w2c_j2 = w2c_l26;
-    w2c_j3 = w2c_l27;
+    w2c_j2 = w2c_l25;
+    w2c_j3 = w2c_l26;
     w2c_j4 = 18446744073709551615ull;
     w2c_j3 ^= w2c_j4;
     w2c_l10 = w2c_j3;
-    w2c_j4 = w2c_l26;
+    w2c_j4 = w2c_l25;
     w2c_j5 = w2c_l10;
     w2c_i4 = w2c_j4 < w2c_j5;
     w2c_j2 = w2c_i4 ? w2c_j2 : w2c_j3;
     w2c_j1 += w2c_j2;
     w2c_j0 += w2c_j1;
     w2c_l10 = w2c_j0;
-    w2c_j0 = w2c_l24;
+    w2c_j0 = w2c_l23;
     w2c_j1 = w2c_l11;
     w2c_j0 += w2c_j1;
     w2c_l11 = w2c_j0;
-    w2c_L87:
+    w2c_L73:
       w2c_j0 = w2c_l10;
       w2c_i0 = (u32)(w2c_j0);
       w2c_j1 = w2c_l11;
@@ -55497,105 +54176,105 @@ static u32 w2c_f82(module *m, u64 w2c_p0, u64 w2c_p1, u32 w2c_p2, u32 w2c_p3, u3
       w2c_j1 = 1ull;
       w2c_j0 += w2c_j1;
       w2c_l11 = w2c_j0;
-      w2c_j0 = w2c_l31;
+      w2c_j0 = w2c_l30;
       w2c_j1 = 18446744073709551615ull;
       w2c_j0 += w2c_j1;
-      w2c_l31 = w2c_j0;
+      w2c_l30 = w2c_j0;
       w2c_j1 = 0ull;
       w2c_i0 = w2c_j0 != w2c_j1;
-      if (w2c_i0) {goto w2c_L87;}
-      goto w2c_B29;
+      if (w2c_i0) {goto w2c_L73;}
+      goto w2c_B15;
     UNREACHABLE;
-    w2c_B84:;
-    w2c_j0 = w2c_l23;
+    w2c_B70:;
+    w2c_j0 = w2c_l22;
     w2c_i0 = !(w2c_j0);
-    if (w2c_i0) {goto w2c_B29;}
-    w2c_j0 = w2c_l29;
+    if (w2c_i0) {goto w2c_B15;}
+    w2c_j0 = w2c_l28;
     w2c_i0 = (u32)(w2c_j0);
-    w2c_j1 = w2c_l24;
+    w2c_j1 = w2c_l23;
     w2c_i1 = (u32)(w2c_j1);
-    w2c_j2 = w2c_l23;
+    w2c_j2 = w2c_l22;
     w2c_i2 = (u32)(w2c_j2);
     memory_copy(m, w2c_i0, w2c_i1, w2c_i2);
-    w2c_B29:;
-    w2c_j0 = w2c_l23;
-    w2c_j1 = w2c_l25;
+    w2c_B15:;
+    w2c_j0 = w2c_l22;
+    w2c_j1 = w2c_l24;
     w2c_j0 += w2c_j1;
-    w2c_l18 = w2c_j0;
+    w2c_l17 = w2c_j0;
     w2c_j0 = w2c_l9;
     w2c_j1 = 16ull;
     w2c_j0 += w2c_j1;
     w2c_j1 = w2c_l9;
     w2c_j2 = 72ull;
     w2c_j1 += w2c_j2;
-    w2c_f21(m, w2c_j0, w2c_j1);
+    w2c_f22(m, w2c_j0, w2c_j1);
     w2c_j0 = w2c_l9;
     w2c_i0 = (u32)(w2c_j0);
     w2c_i0 = i32_load8_u(m, (u64)(w2c_i0) + 16u);
     w2c_i1 = 1u;
     w2c_i0 = w2c_i0 == w2c_i1;
-    if (w2c_i0) {goto w2c_L23;}
-  w2c_B22:;
+    if (w2c_i0) {goto w2c_L9;}
+  w2c_B8:;
   w2c_j0 = 18446744073709551615ull;
   w2c_j1 = w2c_p1;
-  w2c_j2 = w2c_l18;
+  w2c_j2 = w2c_l17;
   w2c_j1 -= w2c_j2;
   w2c_l10 = w2c_j1;
-  w2c_j2 = w2c_l17;
+  w2c_j2 = w2c_l16;
   w2c_j1 += w2c_j2;
   w2c_l11 = w2c_j1;
   w2c_j2 = w2c_l11;
   w2c_j3 = w2c_l10;
   w2c_i2 = w2c_j2 < w2c_j3;
   w2c_j0 = w2c_i2 ? w2c_j0 : w2c_j1;
-  w2c_l30 = w2c_j0;
+  w2c_l29 = w2c_j0;
   w2c_j1 = w2c_p7;
   w2c_i0 = w2c_j0 <= w2c_j1;
-  if (w2c_i0) {goto w2c_B89;}
+  if (w2c_i0) {goto w2c_B75;}
   w2c_i0 = 6u;
   w2c_l32 = w2c_i0;
-  goto w2c_B88;
-  w2c_B89:;
-  w2c_j0 = w2c_l16;
-  w2c_j1 = w2c_l17;
+  goto w2c_B74;
+  w2c_B75:;
+  w2c_j0 = w2c_l15;
+  w2c_j1 = w2c_l16;
   w2c_j0 += w2c_j1;
-  w2c_l23 = w2c_j0;
+  w2c_l22 = w2c_j0;
   w2c_j1 = w2c_l13;
-  w2c_j2 = w2c_l18;
+  w2c_j2 = w2c_l17;
   w2c_j1 += w2c_j2;
-  w2c_l24 = w2c_j1;
+  w2c_l23 = w2c_j1;
   w2c_j0 -= w2c_j1;
   w2c_j1 = w2c_l10;
   w2c_i0 = w2c_j0 >= w2c_j1;
-  if (w2c_i0) {goto w2c_B91;}
+  if (w2c_i0) {goto w2c_B77;}
   w2c_j0 = w2c_l10;
   w2c_j1 = 3ull;
   w2c_j0 &= w2c_j1;
-  w2c_l31 = w2c_j0;
+  w2c_l30 = w2c_j0;
   w2c_j0 = 0ull;
   w2c_l11 = w2c_j0;
-  w2c_j0 = w2c_l18;
+  w2c_j0 = w2c_l17;
   w2c_j1 = w2c_p1;
   w2c_j0 -= w2c_j1;
   w2c_j1 = 18446744073709551612ull;
   w2c_i0 = w2c_j0 > w2c_j1;
-  if (w2c_i0) {goto w2c_B92;}
+  if (w2c_i0) {goto w2c_B78;}
   w2c_j0 = w2c_l10;
   w2c_j1 = 18446744073709551612ull;
   w2c_j0 &= w2c_j1;
-  w2c_l29 = w2c_j0;
+  w2c_l28 = w2c_j0;
   w2c_j0 = 0ull;
   w2c_l11 = w2c_j0;
-  w2c_L93:
-    w2c_j0 = w2c_l23;
+  w2c_L79:
+    w2c_j0 = w2c_l22;
     w2c_j1 = w2c_l11;
     w2c_j0 += w2c_j1;
     w2c_l10 = w2c_j0;
     w2c_i0 = (u32)(w2c_j0);
-    w2c_j1 = w2c_l24;
+    w2c_j1 = w2c_l23;
     w2c_j2 = w2c_l11;
     w2c_j1 += w2c_j2;
-    w2c_l14 = w2c_j1;
+    w2c_l31 = w2c_j1;
     w2c_i1 = (u32)(w2c_j1);
     w2c_i1 = i32_load8_u(m, (u64)(w2c_i1));
     i32_store8(m, (u64)(w2c_i0), w2c_i1);
@@ -55603,7 +54282,7 @@ static u32 w2c_f82(module *m, u64 w2c_p0, u64 w2c_p1, u32 w2c_p2, u32 w2c_p3, u3
     w2c_j1 = 1ull;
     w2c_j0 += w2c_j1;
     w2c_i0 = (u32)(w2c_j0);
-    w2c_j1 = w2c_l14;
+    w2c_j1 = w2c_l31;
     w2c_j2 = 1ull;
     w2c_j1 += w2c_j2;
     w2c_i1 = (u32)(w2c_j1);
@@ -55613,7 +54292,7 @@ static u32 w2c_f82(module *m, u64 w2c_p0, u64 w2c_p1, u32 w2c_p2, u32 w2c_p3, u3
     w2c_j1 = 2ull;
     w2c_j0 += w2c_j1;
     w2c_i0 = (u32)(w2c_j0);
-    w2c_j1 = w2c_l14;
+    w2c_j1 = w2c_l31;
     w2c_j2 = 2ull;
     w2c_j1 += w2c_j2;
     w2c_i1 = (u32)(w2c_j1);
@@ -55623,26 +54302,26 @@ static u32 w2c_f82(module *m, u64 w2c_p0, u64 w2c_p1, u32 w2c_p2, u32 w2c_p3, u3
     w2c_j1 = 3ull;
     w2c_j0 += w2c_j1;
     w2c_i0 = (u32)(w2c_j0);
-    w2c_j1 = w2c_l14;
+    w2c_j1 = w2c_l31;
     w2c_j2 = 3ull;
     w2c_j1 += w2c_j2;
     w2c_i1 = (u32)(w2c_j1);
     w2c_i1 = i32_load8_u(m, (u64)(w2c_i1));
     i32_store8(m, (u64)(w2c_i0), w2c_i1);
-    w2c_j0 = w2c_l29;
+    w2c_j0 = w2c_l28;
     w2c_j1 = w2c_l11;
     w2c_j2 = 4ull;
     w2c_j1 += w2c_j2;
     w2c_l11 = w2c_j1;
     w2c_i0 = w2c_j0 != w2c_j1;
-    if (w2c_i0) {goto w2c_L93;}
-  w2c_j0 = w2c_l31;
+    if (w2c_i0) {goto w2c_L79;}
+  w2c_j0 = w2c_l30;
   w2c_i0 = !(w2c_j0);
-  if (w2c_i0) {goto w2c_B90;}
-  w2c_B92:;
+  if (w2c_i0) {goto w2c_B76;}
+  w2c_B78:;
   w2c_j0 = w2c_p6;
-  w2c_j1 = w2c_l15;
-  w2c_j2 = w2c_l17;
+  w2c_j1 = w2c_l14;
+  w2c_j2 = w2c_l16;
   w2c_j1 += w2c_j2;
   w2c_j2 = w2c_l11;
   w2c_j1 += w2c_j2;
@@ -55650,13 +54329,13 @@ static u32 w2c_f82(module *m, u64 w2c_p0, u64 w2c_p1, u32 w2c_p2, u32 w2c_p3, u3
   w2c_l10 = w2c_j0;
   w2c_j0 = w2c_p0;
   w2c_j1 = w2c_l12;
-  w2c_j2 = w2c_l18;
+  w2c_j2 = w2c_l17;
   w2c_j1 += w2c_j2;
   w2c_j2 = w2c_l11;
   w2c_j1 += w2c_j2;
   w2c_j0 += w2c_j1;
   w2c_l11 = w2c_j0;
-  w2c_L94:
+  w2c_L80:
     w2c_j0 = w2c_l10;
     w2c_i0 = (u32)(w2c_j0);
     w2c_j1 = w2c_l11;
@@ -55671,33 +54350,33 @@ static u32 w2c_f82(module *m, u64 w2c_p0, u64 w2c_p1, u32 w2c_p2, u32 w2c_p3, u3
     w2c_j1 = 1ull;
     w2c_j0 += w2c_j1;
     w2c_l11 = w2c_j0;
-    w2c_j0 = w2c_l31;
+    w2c_j0 = w2c_l30;
     w2c_j1 = 18446744073709551615ull;
     w2c_j0 += w2c_j1;
-    w2c_l31 = w2c_j0;
+    w2c_l30 = w2c_j0;
     w2c_j1 = 0ull;
     w2c_i0 = w2c_j0 != w2c_j1;
-    if (w2c_i0) {goto w2c_L94;}
-    goto w2c_B90;
+    if (w2c_i0) {goto w2c_L80;}
+    goto w2c_B76;
   UNREACHABLE;
-  w2c_B91:;
+  w2c_B77:;
   w2c_j0 = w2c_l10;
   w2c_i0 = !(w2c_j0);
-  if (w2c_i0) {goto w2c_B90;}
-  w2c_j0 = w2c_l23;
+  if (w2c_i0) {goto w2c_B76;}
+  w2c_j0 = w2c_l22;
   w2c_i0 = (u32)(w2c_j0);
-  w2c_j1 = w2c_l24;
+  w2c_j1 = w2c_l23;
   w2c_i1 = (u32)(w2c_j1);
   w2c_j2 = w2c_l10;
   w2c_i2 = (u32)(w2c_j2);
   memory_copy(m, w2c_i0, w2c_i1, w2c_i2);
-  w2c_B90:;
+  w2c_B76:;
   w2c_i0 = 0u;
   w2c_l32 = w2c_i0;
-  w2c_B88:;
+  w2c_B74:;
   w2c_j0 = w2c_p8;
   w2c_i0 = (u32)(w2c_j0);
-  w2c_j1 = w2c_l30;
+  w2c_j1 = w2c_l29;
   i64_store(m, (u64)(w2c_i0), w2c_j1);
   w2c_B1:;
   w2c_j0 = w2c_l9;
@@ -55728,14 +54407,14 @@ static u32 w2c_chinese_quantity_print(module *m, u64 w2c_p0, u32 w2c_p1, u32 w2c
   w2c_j4 = w2c_p4;
   w2c_j5 = w2c_p5;
   w2c_j6 = w2c_p6;
-  w2c_i0 = w2c_f84(m, w2c_j0, w2c_i1, w2c_i2, w2c_i3, w2c_j4, w2c_j5, w2c_j6);
+  w2c_i0 = w2c_f85(m, w2c_j0, w2c_i1, w2c_i2, w2c_i3, w2c_j4, w2c_j5, w2c_j6);
   w2c_p3 = w2c_i0;
   w2c_f1(m);
   w2c_i0 = w2c_p3;
   return w2c_i0;
 }
 
-static u32 w2c_f84(module *m, u64 w2c_p0, u32 w2c_p1, u32 w2c_p2, u32 w2c_p3, u64 w2c_p4, u64 w2c_p5, u64 w2c_p6) {
+static u32 w2c_f85(module *m, u64 w2c_p0, u32 w2c_p1, u32 w2c_p2, u32 w2c_p3, u64 w2c_p4, u64 w2c_p5, u64 w2c_p6) {
   u32 w2c_l27 = 0, w2c_l28 = 0, w2c_l29 = 0, w2c_l30 = 0, w2c_l31 = 0;
   u64 w2c_l7 = 0, w2c_l8 = 0, w2c_l9 = 0, w2c_l10 = 0, w2c_l11 = 0, w2c_l12 = 0, w2c_l13 = 0, w2c_l14 = 0, w2c_l15 = 0, w2c_l16 = 0, w2c_l17 = 0, w2c_l18 = 0, w2c_l19 = 0, w2c_l20 = 0, w2c_l21 = 0, w2c_l22 = 0, w2c_l23 = 0, w2c_l24 = 0, w2c_l25 = 0, w2c_l26 = 0;
   u32 w2c_i0, w2c_i1, w2c_i2, w2c_i3, w2c_i4, w2c_i5, w2c_i6;
@@ -56906,7 +55585,7 @@ static u32 w2c_f84(module *m, u64 w2c_p0, u32 w2c_p1, u32 w2c_p2, u32 w2c_p3, u6
   w2c_i4 = 0u;
   w2c_j5 = w2c_l14;
   w2c_j6 = w2c_l15;
-  w2c_j1 = w2c_f26(m, w2c_j1, w2c_j2, w2c_i3, w2c_i4, w2c_j5, w2c_j6);
+  w2c_j1 = w2c_f27(m, w2c_j1, w2c_j2, w2c_i3, w2c_i4, w2c_j5, w2c_j6);
   w2c_p0 = w2c_j1;
   w2c_j0 -= w2c_j1;
   w2c_l11 = w2c_j0;
@@ -57019,7 +55698,7 @@ static u32 w2c_f84(module *m, u64 w2c_p0, u32 w2c_p1, u32 w2c_p2, u32 w2c_p3, u6
   w2c_i3 = 0u;
   w2c_j4 = w2c_l7;
   w2c_j5 = w2c_l10;
-  w2c_j0 = w2c_f26(m, w2c_j0, w2c_j1, w2c_i2, w2c_i3, w2c_j4, w2c_j5);
+  w2c_j0 = w2c_f27(m, w2c_j0, w2c_j1, w2c_i2, w2c_i3, w2c_j4, w2c_j5);
   w2c_l10 = w2c_j0;
   w2c_j0 = w2c_l12;
   w2c_i0 = (u32)(w2c_j0);
@@ -57161,7 +55840,7 @@ static u32 w2c_f84(module *m, u64 w2c_p0, u32 w2c_p1, u32 w2c_p2, u32 w2c_p3, u6
   w2c_j3 = w2c_l11;
   w2c_j2 -= w2c_j3;
   w2c_l22 = w2c_j2;
-  w2c_f29(m, w2c_j0, w2c_j1, w2c_j2);
+  w2c_f30(m, w2c_j0, w2c_j1, w2c_j2);
   w2c_j0 = w2c_l8;
   w2c_i0 = (u32)(w2c_j0);
   w2c_i0 = i32_load8_u(m, (u64)(w2c_i0) + 992u);
@@ -57174,7 +55853,7 @@ static u32 w2c_f84(module *m, u64 w2c_p0, u32 w2c_p1, u32 w2c_p2, u32 w2c_p3, u6
   w2c_j1 = w2c_l8;
   w2c_i1 = (u32)(w2c_j1);
   w2c_i1 = i32_load(m, (u64)(w2c_i1) + 1000u);
-  w2c_f34(m, w2c_j0, w2c_i1);
+  w2c_f35(m, w2c_j0, w2c_i1);
   w2c_j0 = w2c_l8;
   w2c_i0 = (u32)(w2c_j0);
   w2c_i0 = i32_load8_u(m, (u64)(w2c_i0) + 40u);
@@ -57217,7 +55896,7 @@ static u32 w2c_f84(module *m, u64 w2c_p0, u32 w2c_p1, u32 w2c_p2, u32 w2c_p3, u6
     w2c_j0 += w2c_j1;
     w2c_j1 = w2c_l10;
     w2c_j2 = w2c_l11;
-    w2c_f29(m, w2c_j0, w2c_j1, w2c_j2);
+    w2c_f30(m, w2c_j0, w2c_j1, w2c_j2);
     w2c_j0 = w2c_l8;
     w2c_i0 = (u32)(w2c_j0);
     w2c_i0 = i32_load8_u(m, (u64)(w2c_i0) + 992u);
@@ -57244,7 +55923,7 @@ static u32 w2c_f84(module *m, u64 w2c_p0, u32 w2c_p1, u32 w2c_p2, u32 w2c_p3, u6
     w2c_j1 = w2c_l8;
     w2c_i1 = (u32)(w2c_j1);
     w2c_i1 = i32_load(m, (u64)(w2c_i1) + 1000u);
-    w2c_f34(m, w2c_j0, w2c_i1);
+    w2c_f35(m, w2c_j0, w2c_i1);
     w2c_j0 = w2c_l8;
     w2c_i0 = (u32)(w2c_j0);
     w2c_i0 = i32_load8_u(m, (u64)(w2c_i0) + 32u);
@@ -57386,7 +56065,7 @@ static u32 w2c_f84(module *m, u64 w2c_p0, u32 w2c_p1, u32 w2c_p2, u32 w2c_p3, u6
   w2c_i6 = 0u;
   w2c_j7 = w2c_p0;
   w2c_j8 = w2c_l7;
-  w2c_j3 = w2c_f26(m, w2c_j3, w2c_j4, w2c_i5, w2c_i6, w2c_j7, w2c_j8);
+  w2c_j3 = w2c_f27(m, w2c_j3, w2c_j4, w2c_i5, w2c_i6, w2c_j7, w2c_j8);
   w2c_l12 = w2c_j3;
   w2c_j2 -= w2c_j3;
   w2c_l7 = w2c_j2;
@@ -57609,15 +56288,15 @@ static u32 w2c_chinese_quantity_read(module *m, u64 w2c_p0, u64 w2c_p1, u32 w2c_
   w2c_j1 = w2c_p1;
   w2c_i2 = w2c_p2;
   w2c_j3 = w2c_p3;
-  w2c_i0 = w2c_f86(m, w2c_j0, w2c_j1, w2c_i2, w2c_j3);
+  w2c_i0 = w2c_f87(m, w2c_j0, w2c_j1, w2c_i2, w2c_j3);
   w2c_p2 = w2c_i0;
   w2c_f1(m);
   w2c_i0 = w2c_p2;
   return w2c_i0;
 }
 
-static u32 w2c_f86(module *m, u64 w2c_p0, u64 w2c_p1, u32 w2c_p2, u64 w2c_p3) {
-  u32 w2c_l10 = 0, w2c_l11 = 0, w2c_l12 = 0, w2c_l13 = 0, w2c_l14 = 0, w2c_l15 = 0;
+static u32 w2c_f87(module *m, u64 w2c_p0, u64 w2c_p1, u32 w2c_p2, u64 w2c_p3) {
+  u32 w2c_l10 = 0;
   u64 w2c_l4 = 0, w2c_l5 = 0, w2c_l6 = 0, w2c_l7 = 0, w2c_l8 = 0, w2c_l9 = 0;
   u32 w2c_i0, w2c_i1, w2c_i2, w2c_i3, w2c_i4, w2c_i5;
   u64 w2c_j0, w2c_j1, w2c_j2, w2c_j3, w2c_j4, w2c_j5;
@@ -57627,10 +56306,10 @@ static u32 w2c_f86(module *m, u64 w2c_p0, u64 w2c_p1, u32 w2c_p2, u64 w2c_p3) {
   w2c_l4 = w2c_j0;
   m->w2c_g0 = w2c_j0;
   w2c_j0 = w2c_l4;
-  w2c_l5 = w2c_j0;
+  w2c_l4 = w2c_j0;
   w2c_j1 = 16ull;
   w2c_i0 = (u64)((s64)w2c_j0 < (s64)w2c_j1);
-  if (w2c_i0) {goto w2c_B0;}
+  if (w2c_i0) {goto w2c_B2;}
   w2c_j0 = w2c_p3;
   w2c_i0 = (u32)(w2c_j0);
   w2c_j1 = 0ull;
@@ -57659,35 +56338,35 @@ static u32 w2c_f86(module *m, u64 w2c_p0, u64 w2c_p1, u32 w2c_p2, u64 w2c_p3) {
   w2c_i0 = (u32)(w2c_j0);
   w2c_j1 = 0ull;
   i64_store(m, (u64)(w2c_i0) + 48, w2c_j1);
-  w2c_j0 = w2c_l5;
+  w2c_j0 = w2c_l4;
   w2c_i0 = (u32)(w2c_j0);
   w2c_j1 = 0ull;
   i64_store(m, (u64)(w2c_i0) + 56, w2c_j1);
-  w2c_j0 = w2c_l5;
+  w2c_j0 = w2c_l4;
   w2c_i0 = (u32)(w2c_j0);
   w2c_j1 = 0ull;
   i64_store(m, (u64)(w2c_i0) + 48, w2c_j1);
-  w2c_j0 = w2c_l5;
+  w2c_j0 = w2c_l4;
   w2c_i0 = (u32)(w2c_j0);
   w2c_j1 = 0ull;
   i64_store(m, (u64)(w2c_i0) + 40, w2c_j1);
-  w2c_j0 = w2c_l5;
+  w2c_j0 = w2c_l4;
   w2c_i0 = (u32)(w2c_j0);
   w2c_j1 = 0ull;
   i64_store(m, (u64)(w2c_i0) + 32, w2c_j1);
-  w2c_j0 = w2c_l5;
+  w2c_j0 = w2c_l4;
   w2c_i0 = (u32)(w2c_j0);
   w2c_j1 = 0ull;
   i64_store(m, (u64)(w2c_i0) + 24, w2c_j1);
-  w2c_j0 = w2c_l5;
+  w2c_j0 = w2c_l4;
   w2c_i0 = (u32)(w2c_j0);
   w2c_j1 = 0ull;
   i64_store(m, (u64)(w2c_i0) + 16, w2c_j1);
-  w2c_j0 = w2c_l5;
+  w2c_j0 = w2c_l4;
   w2c_i0 = (u32)(w2c_j0);
   w2c_j1 = 0ull;
   i64_store(m, (u64)(w2c_i0) + 8, w2c_j1);
-  w2c_j0 = w2c_l5;
+  w2c_j0 = w2c_l4;
   w2c_i0 = (u32)(w2c_j0);
   w2c_j1 = 0ull;
   i64_store(m, (u64)(w2c_i0), w2c_j1);
@@ -57696,27 +56375,27 @@ static u32 w2c_f86(module *m, u64 w2c_p0, u64 w2c_p1, u32 w2c_p2, u64 w2c_p3) {
   w2c_i0 = w2c_p2;
   w2c_i1 = 4u;
   w2c_i0 = w2c_i0 > w2c_i1;
-  if (w2c_i0) {goto w2c_B1;}
+  if (w2c_i0) {goto w2c_B0;}
   w2c_j0 = 1ull;
   w2c_i1 = w2c_p2;
   w2c_j1 = (u64)(w2c_i1);
   w2c_j2 = 1ull;
   w2c_j1 <<= (w2c_j2 & 63);
-  w2c_l4 = w2c_j1;
+  w2c_l5 = w2c_j1;
   w2c_j0 <<= (w2c_j1 & 63);
   w2c_j1 = 340ull;
   w2c_j0 &= w2c_j1;
   w2c_i0 = !(w2c_j0);
-  w2c_l11 = w2c_i0;
-  if (w2c_i0) {goto w2c_B1;}
-  w2c_j0 = w2c_l4;
+  w2c_p2 = w2c_i0;
+  if (w2c_i0) {goto w2c_B0;}
+  w2c_j0 = w2c_l5;
   w2c_j1 = 68001ull;
   w2c_j0 += w2c_j1;
   w2c_i0 = (u32)(w2c_j0);
   w2c_i0 = i32_load8_u(m, (u64)(w2c_i0));
-  w2c_l12 = w2c_i0;
+  w2c_l10 = w2c_i0;
   w2c_j0 = w2c_p1;
-  w2c_l6 = w2c_j0;
+  w2c_l5 = w2c_j0;
   w2c_j0 = w2c_p0;
   w2c_j1 = 4096ull;
   w2c_j2 = 0ull;
@@ -57724,18 +56403,18 @@ static u32 w2c_f86(module *m, u64 w2c_p0, u64 w2c_p1, u32 w2c_p2, u64 w2c_p3) {
   w2c_i3 = !(w2c_j3);
   w2c_j1 = w2c_i3 ? w2c_j1 : w2c_j2;
   w2c_j0 += w2c_j1;
-  w2c_l7 = w2c_j0;
-  w2c_l4 = w2c_j0;
+  w2c_l6 = w2c_j0;
+  w2c_p0 = w2c_j0;
   w2c_j0 = w2c_p1;
   w2c_j1 = 4ull;
   w2c_i0 = w2c_j0 < w2c_j1;
   if (w2c_i0) {goto w2c_B5;}
-  w2c_j0 = w2c_l7;
-  w2c_l4 = w2c_j0;
+  w2c_j0 = w2c_l6;
+  w2c_p0 = w2c_j0;
   w2c_j0 = w2c_p1;
-  w2c_l6 = w2c_j0;
+  w2c_l5 = w2c_j0;
   w2c_L6:
-    w2c_j0 = w2c_l4;
+    w2c_j0 = w2c_p0;
     w2c_i0 = (u32)(w2c_j0);
     w2c_i0 = i32_load(m, (u64)(w2c_i0));
     w2c_i1 = 16776989u;
@@ -57745,39 +56424,36 @@ static u32 w2c_f86(module *m, u64 w2c_p0, u64 w2c_p1, u32 w2c_p2, u64 w2c_p3) {
     w2c_i1 = 8421376u;
     w2c_i0 = w2c_i0 != w2c_i1;
     if (w2c_i0) {goto w2c_B4;}
-    w2c_j0 = w2c_l4;
+    w2c_j0 = w2c_p0;
     w2c_j1 = 3ull;
     w2c_j0 += w2c_j1;
-    w2c_l4 = w2c_j0;
-    w2c_j0 = w2c_l6;
+    w2c_p0 = w2c_j0;
+    w2c_j0 = w2c_l5;
     w2c_j1 = 18446744073709551613ull;
     w2c_j0 += w2c_j1;
-    w2c_l6 = w2c_j0;
+    w2c_l5 = w2c_j0;
     w2c_j1 = 3ull;
     w2c_i0 = w2c_j0 > w2c_j1;
     if (w2c_i0) {goto w2c_L6;}
   w2c_B5:;
-  w2c_j0 = w2c_l6;
+  w2c_j0 = w2c_l5;
   w2c_j1 = 3ull;
   w2c_i0 = w2c_j0 > w2c_j1;
   if (w2c_i0) {goto w2c_B4;}
-  w2c_j0 = w2c_l6;
+  w2c_j0 = w2c_l5;
   w2c_i0 = (u32)(w2c_j0);
   switch (w2c_i0) {
-    case 0: goto w2c_B2;
+    case 0: goto w2c_B3;
     case 1: goto w2c_B4;
     case 2: goto w2c_B4;
     case 3: goto w2c_B7;
-    default: goto w2c_B2;
+    default: goto w2c_B3;
   }
   w2c_B7:;
-  w2c_j0 = w2c_p1;
-  w2c_i0 = !(w2c_j0);
-  if (w2c_i0) {goto w2c_B2;}
-  w2c_j0 = w2c_l4;
+  w2c_j0 = w2c_p0;
   w2c_i0 = (u32)(w2c_j0);
   w2c_i0 = i32_load16_u(m, (u64)(w2c_i0));
-  w2c_j1 = w2c_l4;
+  w2c_j1 = w2c_p0;
   w2c_j2 = 2ull;
   w2c_j1 += w2c_j2;
   w2c_i1 = (u32)(w2c_j1);
@@ -57790,261 +56466,25 @@ static u32 w2c_f86(module *m, u64 w2c_p0, u64 w2c_p1, u32 w2c_p2, u64 w2c_p3) {
   w2c_i1 = 12632312u;
   w2c_i0 &= w2c_i1;
   w2c_i1 = 8421376u;
-  w2c_i0 = w2c_i0 != w2c_i1;
+  w2c_i0 = w2c_i0 == w2c_i1;
   if (w2c_i0) {goto w2c_B3;}
-  goto w2c_B2;
   w2c_B4:;
-  w2c_j0 = w2c_p1;
-  w2c_i0 = !(w2c_j0);
-  if (w2c_i0) {goto w2c_B2;}
+  w2c_j0 = w2c_l6;
+  w2c_j1 = w2c_p1;
+  w2c_i0 = w2c_f12(m, w2c_j0, w2c_j1);
+  if (w2c_i0) {goto w2c_B3;}
+  w2c_i0 = 5u;
+  w2c_l10 = w2c_i0;
+  goto w2c_B0;
   w2c_B3:;
-  w2c_j0 = w2c_l7;
-  w2c_l6 = w2c_j0;
-  w2c_j0 = w2c_p1;
-  w2c_l4 = w2c_j0;
-  w2c_L8:
-    w2c_j0 = w2c_l4;
-    w2c_j1 = 4ull;
-    w2c_i0 = w2c_j0 < w2c_j1;
-    if (w2c_i0) {goto w2c_B12;}
-    w2c_j0 = w2c_l6;
-    w2c_i0 = (u32)(w2c_j0);
-    w2c_i0 = i32_load(m, (u64)(w2c_i0));
-    w2c_p2 = w2c_i0;
-    w2c_i1 = 16776989u;
-    w2c_i0 += w2c_i1;
-    w2c_i1 = 12632312u;
-    w2c_i0 &= w2c_i1;
-    w2c_i1 = 8421376u;
-    w2c_i0 = w2c_i0 != w2c_i1;
-    if (w2c_i0) {goto w2c_B13;}
-    w2c_j0 = 3ull;
-    w2c_p0 = w2c_j0;
-    goto w2c_B9;
-    w2c_B13:;
-    w2c_i0 = w2c_p2;
-    w2c_i1 = 2155905152u;
-    w2c_i0 &= w2c_i1;
-    w2c_i0 = !(w2c_i0);
-    if (w2c_i0) {goto w2c_B14;}
-    w2c_i0 = w2c_p2;
-    w2c_i1 = 8u;
-    w2c_i0 >>= (w2c_i1 & 31);
-    w2c_l13 = w2c_i0;
-    w2c_i0 = w2c_p2;
-    w2c_i1 = 16u;
-    w2c_i0 >>= (w2c_i1 & 31);
-    w2c_l10 = w2c_i0;
-    goto w2c_B11;
-    w2c_B14:;
-    w2c_j0 = 4ull;
-    w2c_p0 = w2c_j0;
-    goto w2c_B9;
-    w2c_B12:;
-    w2c_j0 = w2c_l6;
-    w2c_i0 = (u32)(w2c_j0);
-    w2c_i0 = i32_load8_u(m, (u64)(w2c_i0));
-    w2c_p2 = w2c_i0;
-    w2c_i0 = 0u;
-    w2c_l14 = w2c_i0;
-    w2c_j0 = w2c_l4;
-    w2c_j1 = 18446744073709551615ull;
-    w2c_j0 += w2c_j1;
-    w2c_p0 = w2c_j0;
-    w2c_j1 = 2ull;
-    w2c_i0 = w2c_j0 > w2c_j1;
-    if (w2c_i0) {goto w2c_B15;}
-    w2c_i0 = 0u;
-    w2c_l13 = w2c_i0;
-    w2c_j0 = w2c_p0;
-    w2c_i0 = (u32)(w2c_j0);
-    switch (w2c_i0) {
-      case 0: goto w2c_B10;
-      case 1: goto w2c_B15;
-      case 2: goto w2c_B16;
-      default: goto w2c_B10;
-    }
-    w2c_B16:;
-    w2c_j0 = w2c_l6;
-    w2c_j1 = 1ull;
-    w2c_j0 += w2c_j1;
-    w2c_i0 = (u32)(w2c_j0);
-    w2c_i0 = i32_load8_u(m, (u64)(w2c_i0));
-    w2c_l13 = w2c_i0;
-    w2c_i1 = 8u;
-    w2c_i0 <<= (w2c_i1 & 31);
-    w2c_i1 = w2c_p2;
-    w2c_i0 |= w2c_i1;
-    w2c_j1 = w2c_l6;
-    w2c_j2 = 2ull;
-    w2c_j1 += w2c_j2;
-    w2c_i1 = (u32)(w2c_j1);
-    w2c_i1 = i32_load8_u(m, (u64)(w2c_i1));
-    w2c_l10 = w2c_i1;
-    w2c_i2 = 16u;
-    w2c_i1 <<= (w2c_i2 & 31);
-    w2c_i0 |= w2c_i1;
-    w2c_i1 = 16776989u;
-    w2c_i0 += w2c_i1;
-    w2c_i1 = 12632312u;
-    w2c_i0 &= w2c_i1;
-    w2c_i1 = 8421376u;
-    w2c_i0 = w2c_i0 != w2c_i1;
-    if (w2c_i0) {goto w2c_B11;}
-    w2c_j0 = 3ull;
-    w2c_p0 = w2c_j0;
-    goto w2c_B9;
-    w2c_B15:;
-    w2c_j0 = w2c_l6;
-    w2c_j1 = 1ull;
-    w2c_j0 += w2c_j1;
-    w2c_i0 = (u32)(w2c_j0);
-    w2c_i0 = i32_load8_u(m, (u64)(w2c_i0));
-    w2c_l13 = w2c_i0;
-    goto w2c_B10;
-    w2c_B11:;
-    w2c_i0 = w2c_l10;
-    w2c_i0 = (u32)(s32)(s8)(u8)(w2c_i0);
-    w2c_i1 = 4294967232u;
-    w2c_i0 = (u32)((s32)w2c_i0 < (s32)w2c_i1);
-    w2c_l14 = w2c_i0;
-    w2c_B10:;
-    w2c_i0 = w2c_p2;
-    w2c_i0 = (u32)(s32)(s8)(u8)(w2c_i0);
-    w2c_i1 = 4294967295u;
-    w2c_i0 = (u32)((s32)w2c_i0 <= (s32)w2c_i1);
-    if (w2c_i0) {goto w2c_B17;}
-    w2c_j0 = 1ull;
-    w2c_p0 = w2c_j0;
-    goto w2c_B9;
-    w2c_B17:;
-    w2c_i0 = w2c_p2;
-    w2c_i1 = 255u;
-    w2c_i0 &= w2c_i1;
-    w2c_l10 = w2c_i0;
-    w2c_i1 = 223u;
-    w2c_i0 = w2c_i0 > w2c_i1;
-    if (w2c_i0) {goto w2c_B18;}
-    w2c_i0 = 5u;
-    w2c_l10 = w2c_i0;
-    w2c_i0 = w2c_l13;
-    w2c_i0 = (u32)(s32)(s8)(u8)(w2c_i0);
-    w2c_i1 = 4294967231u;
-    w2c_i0 = (u32)((s32)w2c_i0 > (s32)w2c_i1);
-    if (w2c_i0) {goto w2c_B1;}
-    w2c_i0 = w2c_p2;
-    w2c_i1 = 255u;
-    w2c_i0 &= w2c_i1;
-    w2c_i1 = 193u;
-    w2c_i0 = w2c_i0 <= w2c_i1;
-    if (w2c_i0) {goto w2c_B1;}
-    w2c_j0 = 2ull;
-    w2c_p0 = w2c_j0;
-    goto w2c_B9;
-    w2c_B18:;
-    w2c_i0 = w2c_l10;
-    w2c_i1 = 239u;
-    w2c_i0 = w2c_i0 > w2c_i1;
-    if (w2c_i0) {goto w2c_B19;}
-    w2c_i0 = 5u;
-    w2c_l10 = w2c_i0;
-    w2c_i0 = w2c_l13;
-    w2c_i0 = (u32)(s32)(s8)(u8)(w2c_i0);
-    w2c_i1 = 4294967231u;
-    w2c_i0 = (u32)((s32)w2c_i0 > (s32)w2c_i1);
-    w2c_i1 = w2c_l14;
-    w2c_i2 = 1u;
-    w2c_i1 ^= w2c_i2;
-    w2c_i0 |= w2c_i1;
-    if (w2c_i0) {goto w2c_B1;}
-    w2c_i0 = w2c_p2;
-    w2c_i1 = 255u;
-    w2c_i0 &= w2c_i1;
-    w2c_i1 = 6u;
-    w2c_i0 <<= (w2c_i1 & 31);
-    w2c_i1 = w2c_l13;
-    w2c_i2 = 255u;
-    w2c_i1 &= w2c_i2;
-    w2c_i0 += w2c_i1;
-    w2c_p2 = w2c_i0;
-    w2c_i1 = 14496u;
-    w2c_i0 = w2c_i0 < w2c_i1;
-    if (w2c_i0) {goto w2c_B1;}
-    w2c_i0 = w2c_p2;
-    w2c_i1 = 32736u;
-    w2c_i0 &= w2c_i1;
-    w2c_i1 = 15328u;
-    w2c_i0 = w2c_i0 == w2c_i1;
-    if (w2c_i0) {goto w2c_B1;}
-    w2c_j0 = 3ull;
-    w2c_p0 = w2c_j0;
-    goto w2c_B9;
-    w2c_B19:;
-    w2c_j0 = 4ull;
-    w2c_p0 = w2c_j0;
-    w2c_i0 = 0u;
-    w2c_l15 = w2c_i0;
-    w2c_j0 = w2c_l4;
-    w2c_j1 = 4ull;
-    w2c_i0 = w2c_j0 < w2c_j1;
-    if (w2c_i0) {goto w2c_B20;}
-    w2c_j0 = w2c_l6;
-    w2c_j1 = 3ull;
-    w2c_j0 += w2c_j1;
-    w2c_i0 = (u32)(w2c_j0);
-    w2c_i0 = i32_load8_s(m, (u64)(w2c_i0));
-    w2c_i1 = 4294967232u;
-    w2c_i0 = (u32)((s32)w2c_i0 < (s32)w2c_i1);
-    w2c_l15 = w2c_i0;
-    w2c_B20:;
-    w2c_i0 = 5u;
-    w2c_l10 = w2c_i0;
-    w2c_i0 = w2c_l14;
-    w2c_i1 = w2c_l13;
-    w2c_i1 = (u32)(s32)(s8)(u8)(w2c_i1);
-    w2c_i2 = 4294967232u;
-    w2c_i1 = (u32)((s32)w2c_i1 < (s32)w2c_i2);
-    w2c_i2 = w2c_l15;
-    w2c_i1 &= w2c_i2;
-    w2c_i0 &= w2c_i1;
-    w2c_i1 = 1u;
-    w2c_i0 = w2c_i0 != w2c_i1;
-    if (w2c_i0) {goto w2c_B1;}
-    w2c_i0 = w2c_l13;
-    w2c_i1 = 255u;
-    w2c_i0 &= w2c_i1;
-    w2c_i1 = w2c_p2;
-    w2c_i2 = 255u;
-    w2c_i1 &= w2c_i2;
-    w2c_i2 = 6u;
-    w2c_i1 <<= (w2c_i2 & 31);
-    w2c_i0 += w2c_i1;
-    w2c_i1 = 4294951792u;
-    w2c_i0 += w2c_i1;
-    w2c_i1 = 255u;
-    w2c_i0 = w2c_i0 > w2c_i1;
-    if (w2c_i0) {goto w2c_B1;}
-    w2c_B9:;
-    w2c_j0 = w2c_l6;
-    w2c_j1 = w2c_p0;
-    w2c_j0 += w2c_j1;
-    w2c_l6 = w2c_j0;
-    w2c_j0 = w2c_l4;
-    w2c_j1 = w2c_p0;
-    w2c_j0 -= w2c_j1;
-    w2c_l4 = w2c_j0;
-    w2c_j1 = 0ull;
-    w2c_i0 = w2c_j0 != w2c_j1;
-    if (w2c_i0) {goto w2c_L8;}
-  w2c_B2:;
-  w2c_j0 = w2c_l5;
-  w2c_j1 = w2c_l7;
+  w2c_j0 = w2c_l4;
+  w2c_j1 = w2c_l6;
   w2c_j2 = w2c_p1;
   w2c_i3 = 0u;
-  w2c_i4 = w2c_l12;
-  w2c_i5 = w2c_l11;
+  w2c_i4 = w2c_l10;
+  w2c_i5 = w2c_p2;
   w2c_i3 = w2c_i5 ? w2c_i3 : w2c_i4;
-  w2c_f27(m, w2c_j0, w2c_j1, w2c_j2, w2c_i3);
+  w2c_f28(m, w2c_j0, w2c_j1, w2c_j2, w2c_i3);
   w2c_j0 = w2c_p3;
   w2c_i0 = (u32)(w2c_j0);
   w2c_j1 = 0ull;
@@ -58073,29 +56513,29 @@ static u32 w2c_f86(module *m, u64 w2c_p0, u64 w2c_p1, u32 w2c_p2, u64 w2c_p3) {
   w2c_i0 = (u32)(w2c_j0);
   w2c_j1 = 0ull;
   i64_store(m, (u64)(w2c_i0) + 48, w2c_j1);
-  w2c_j0 = w2c_l5;
+  w2c_j0 = w2c_l4;
   w2c_i0 = (u32)(w2c_j0);
   w2c_j0 = i64_load(m, (u64)(w2c_i0) + 16u);
-  w2c_p0 = w2c_j0;
-  w2c_j0 = w2c_l5;
+  w2c_l7 = w2c_j0;
+  w2c_j0 = w2c_l4;
   w2c_i0 = (u32)(w2c_j0);
   w2c_i0 = i32_load8_u(m, (u64)(w2c_i0));
-  if (w2c_i0) {goto w2c_B21;}
-  w2c_j0 = w2c_l5;
+  if (w2c_i0) {goto w2c_B8;}
+  w2c_j0 = w2c_l4;
   w2c_i0 = (u32)(w2c_j0);
   w2c_j0 = i64_load(m, (u64)(w2c_i0) + 40u);
-  w2c_l6 = w2c_j0;
-  w2c_j0 = w2c_l5;
+  w2c_l5 = w2c_j0;
+  w2c_j0 = w2c_l4;
   w2c_i0 = (u32)(w2c_j0);
   w2c_j0 = i64_load(m, (u64)(w2c_i0) + 32u);
   w2c_p1 = w2c_j0;
-  w2c_j0 = w2c_l5;
+  w2c_j0 = w2c_l4;
   w2c_i0 = (u32)(w2c_j0);
   w2c_j0 = i64_load(m, (u64)(w2c_i0) + 24u);
-  w2c_l4 = w2c_j0;
+  w2c_p0 = w2c_j0;
   w2c_j0 = w2c_p3;
   w2c_i0 = (u32)(w2c_j0);
-  w2c_j1 = w2c_l5;
+  w2c_j1 = w2c_l4;
   w2c_i1 = (u32)(w2c_j1);
   w2c_i1 = i32_load8_u(m, (u64)(w2c_i1) + 48u);
   i32_store(m, (u64)(w2c_i0) + 32, w2c_i1);
@@ -58105,23 +56545,23 @@ static u32 w2c_f86(module *m, u64 w2c_p0, u64 w2c_p1, u32 w2c_p2, u64 w2c_p3) {
   i64_store(m, (u64)(w2c_i0) + 16, w2c_j1);
   w2c_j0 = w2c_p3;
   w2c_i0 = (u32)(w2c_j0);
-  w2c_j1 = w2c_l6;
+  w2c_j1 = w2c_l5;
   i64_store(m, (u64)(w2c_i0) + 24, w2c_j1);
   w2c_j0 = w2c_p3;
   w2c_i0 = (u32)(w2c_j0);
   w2c_j1 = 0ull;
   w2c_j2 = 0ull;
-  w2c_j3 = w2c_p0;
+  w2c_j3 = w2c_l7;
   w2c_j2 -= w2c_j3;
-  w2c_j3 = w2c_p0;
-  w2c_j4 = w2c_l4;
+  w2c_j3 = w2c_l7;
+  w2c_j4 = w2c_p0;
   w2c_j5 = 0ull;
   w2c_i4 = (u64)((s64)w2c_j4 < (s64)w2c_j5);
   w2c_p2 = w2c_i4;
   w2c_j2 = w2c_i4 ? w2c_j2 : w2c_j3;
-  w2c_l6 = w2c_j2;
+  w2c_l5 = w2c_j2;
   w2c_j1 -= w2c_j2;
-  w2c_j2 = w2c_l6;
+  w2c_j2 = w2c_l5;
   w2c_i3 = w2c_p2;
   w2c_j1 = w2c_i3 ? w2c_j1 : w2c_j2;
   i64_store(m, (u64)(w2c_i0), w2c_j1);
@@ -58129,79 +56569,79 @@ static u32 w2c_f86(module *m, u64 w2c_p0, u64 w2c_p1, u32 w2c_p2, u64 w2c_p3) {
   w2c_i0 = (u32)(w2c_j0);
   w2c_j1 = 0ull;
   w2c_j2 = 0ull;
-  w2c_j3 = w2c_l4;
-  w2c_j4 = w2c_p0;
+  w2c_j3 = w2c_p0;
+  w2c_j4 = w2c_l7;
   w2c_j5 = 0ull;
   w2c_i4 = w2c_j4 != w2c_j5;
   w2c_j4 = (u64)(w2c_i4);
   w2c_j3 += w2c_j4;
   w2c_j2 -= w2c_j3;
-  w2c_j3 = w2c_l4;
+  w2c_j3 = w2c_p0;
   w2c_i4 = w2c_p2;
   w2c_j2 = w2c_i4 ? w2c_j2 : w2c_j3;
-  w2c_l4 = w2c_j2;
-  w2c_j3 = w2c_l6;
+  w2c_p0 = w2c_j2;
+  w2c_j3 = w2c_l5;
   w2c_j4 = 0ull;
   w2c_i3 = w2c_j3 != w2c_j4;
   w2c_j3 = (u64)(w2c_i3);
   w2c_j2 += w2c_j3;
   w2c_j1 -= w2c_j2;
-  w2c_j2 = w2c_l4;
+  w2c_j2 = w2c_p0;
   w2c_i3 = w2c_p2;
   w2c_j1 = w2c_i3 ? w2c_j1 : w2c_j2;
   i64_store(m, (u64)(w2c_i0) + 8, w2c_j1);
   w2c_i0 = 0u;
   w2c_l10 = w2c_i0;
-  goto w2c_B1;
-  w2c_B21:;
+  goto w2c_B0;
+  w2c_B8:;
   w2c_i0 = 1u;
   w2c_l10 = w2c_i0;
-  w2c_j0 = w2c_l5;
+  w2c_j0 = w2c_l4;
   w2c_i0 = (u32)(w2c_j0);
   w2c_i0 = i32_load8_u(m, (u64)(w2c_i0) + 8u);
   switch (w2c_i0) {
-    case 0: goto w2c_B1;
-    case 1: goto w2c_B24;
-    case 2: goto w2c_B22;
-    case 3: goto w2c_B23;
-    default: goto w2c_B1;
+    case 0: goto w2c_B0;
+    case 1: goto w2c_B10;
+    case 2: goto w2c_B1;
+    case 3: goto w2c_B9;
+    default: goto w2c_B0;
   }
-  w2c_B24:;
+  w2c_B10:;
   w2c_j0 = w2c_p3;
   w2c_i0 = (u32)(w2c_j0);
-  w2c_j1 = w2c_p0;
+  w2c_j1 = w2c_l7;
   i64_store(m, (u64)(w2c_i0) + 40, w2c_j1);
   w2c_j0 = 0ull;
-  w2c_l4 = w2c_j0;
+  w2c_p0 = w2c_j0;
   w2c_j0 = w2c_p1;
   w2c_j1 = 8ull;
   w2c_i0 = w2c_j0 >= w2c_j1;
-  if (w2c_i0) {goto w2c_B26;}
+  if (w2c_i0) {goto w2c_B12;}
   w2c_j0 = 0ull;
   w2c_l8 = w2c_j0;
-  goto w2c_B25;
-  w2c_B26:;
+  goto w2c_B11;
+  w2c_B12:;
   w2c_j0 = 0ull;
   w2c_l8 = w2c_j0;
-  w2c_j0 = w2c_p0;
+  w2c_j0 = w2c_l7;
   w2c_j1 = 3ull;
   w2c_i0 = w2c_j0 < w2c_j1;
-  if (w2c_i0) {goto w2c_B25;}
+  if (w2c_i0) {goto w2c_B11;}
   w2c_j0 = w2c_p1;
   w2c_j1 = 18446744073709551607ull;
   w2c_j0 += w2c_j1;
   w2c_l9 = w2c_j0;
-  w2c_j0 = w2c_p0;
+  w2c_j0 = w2c_l7;
   w2c_j1 = 18446744073709551613ull;
   w2c_j0 += w2c_j1;
-  w2c_l6 = w2c_j0;
+  w2c_l5 = w2c_j0;
   w2c_j0 = 0ull;
   w2c_l8 = w2c_j0;
   w2c_j0 = 0ull;
-  w2c_l4 = w2c_j0;
-  w2c_L27:
-    w2c_j0 = w2c_l7;
-    w2c_j1 = w2c_l4;
+  w2c_p0 = w2c_j0;
+  w2c_L13:
+    w2c_j0 = w2c_l6;
+    w2c_j1 = w2c_p0;
     w2c_j0 += w2c_j1;
     w2c_i0 = (u32)(w2c_j0);
     w2c_j0 = i64_load(m, (u64)(w2c_i0));
@@ -58209,23 +56649,23 @@ static u32 w2c_f86(module *m, u64 w2c_p0, u64 w2c_p1, u32 w2c_p2, u64 w2c_p3) {
     w2c_j0 &= w2c_j1;
     w2c_j1 = 63050398541283552ull;
     w2c_i0 = w2c_j0 != w2c_j1;
-    if (w2c_i0) {goto w2c_B25;}
+    if (w2c_i0) {goto w2c_B11;}
     w2c_j0 = w2c_l8;
     w2c_j1 = 3ull;
     w2c_j0 += w2c_j1;
     w2c_l8 = w2c_j0;
-    w2c_j0 = w2c_l4;
+    w2c_j0 = w2c_p0;
     w2c_j1 = 9ull;
     w2c_j0 += w2c_j1;
-    w2c_l4 = w2c_j0;
-    w2c_j0 = w2c_l6;
+    w2c_p0 = w2c_j0;
+    w2c_j0 = w2c_l5;
     w2c_j1 = 3ull;
     w2c_i0 = w2c_j0 < w2c_j1;
-    if (w2c_i0) {goto w2c_B25;}
-    w2c_j0 = w2c_l6;
+    if (w2c_i0) {goto w2c_B11;}
+    w2c_j0 = w2c_l5;
     w2c_j1 = 18446744073709551613ull;
     w2c_j0 += w2c_j1;
-    w2c_l6 = w2c_j0;
+    w2c_l5 = w2c_j0;
     w2c_j0 = w2c_l9;
     w2c_j1 = 7ull;
     w2c_i0 = w2c_j0 > w2c_j1;
@@ -58235,23 +56675,23 @@ static u32 w2c_f86(module *m, u64 w2c_p0, u64 w2c_p1, u32 w2c_p2, u64 w2c_p3) {
     w2c_j0 += w2c_j1;
     w2c_l9 = w2c_j0;
     w2c_i0 = w2c_p2;
-    if (w2c_i0) {goto w2c_L27;}
-  w2c_B25:;
+    if (w2c_i0) {goto w2c_L13;}
+  w2c_B11:;
   w2c_j0 = w2c_p1;
-  w2c_j1 = w2c_l4;
-  w2c_i0 = w2c_j0 <= w2c_j1;
-  if (w2c_i0) {goto w2c_B28;}
-  w2c_j0 = w2c_l8;
   w2c_j1 = w2c_p0;
+  w2c_i0 = w2c_j0 <= w2c_j1;
+  if (w2c_i0) {goto w2c_B14;}
+  w2c_j0 = w2c_l8;
+  w2c_j1 = w2c_l7;
   w2c_i0 = w2c_j0 >= w2c_j1;
-  if (w2c_i0) {goto w2c_B28;}
+  if (w2c_i0) {goto w2c_B14;}
   w2c_j0 = w2c_l8;
   w2c_j1 = 1ull;
   w2c_j0 += w2c_j1;
-  w2c_l6 = w2c_j0;
-  w2c_L29:
-    w2c_j0 = w2c_l7;
-    w2c_j1 = w2c_l4;
+  w2c_l5 = w2c_j0;
+  w2c_L15:
+    w2c_j0 = w2c_l6;
+    w2c_j1 = w2c_p0;
     w2c_j0 += w2c_j1;
     w2c_i0 = (u32)(w2c_j0);
     w2c_i0 = i32_load8_u(m, (u64)(w2c_i0));
@@ -58264,46 +56704,44 @@ static u32 w2c_f86(module *m, u64 w2c_p0, u64 w2c_p1, u32 w2c_p2, u64 w2c_p3) {
     w2c_j0 += w2c_j1;
     w2c_i0 = (u32)(w2c_j0);
     w2c_j0 = i64_load(m, (u64)(w2c_i0));
-    w2c_j1 = w2c_l4;
-    w2c_j0 += w2c_j1;
-    w2c_l4 = w2c_j0;
-    w2c_j0 = w2c_l6;
     w2c_j1 = w2c_p0;
+    w2c_j0 += w2c_j1;
+    w2c_p0 = w2c_j0;
+    w2c_j0 = w2c_l5;
+    w2c_j1 = w2c_l7;
     w2c_i0 = w2c_j0 >= w2c_j1;
-    if (w2c_i0) {goto w2c_B28;}
-    w2c_j0 = w2c_l6;
+    if (w2c_i0) {goto w2c_B14;}
+    w2c_j0 = w2c_l5;
     w2c_j1 = 1ull;
     w2c_j0 += w2c_j1;
-    w2c_l6 = w2c_j0;
+    w2c_l5 = w2c_j0;
     w2c_j0 = w2c_p1;
-    w2c_j1 = w2c_l4;
+    w2c_j1 = w2c_p0;
     w2c_i0 = w2c_j0 > w2c_j1;
-    if (w2c_i0) {goto w2c_L29;}
-  w2c_B28:;
+    if (w2c_i0) {goto w2c_L15;}
+  w2c_B14:;
   w2c_j0 = w2c_p3;
   w2c_i0 = (u32)(w2c_j0);
-  w2c_j1 = w2c_l4;
+  w2c_j1 = w2c_p0;
   i64_store(m, (u64)(w2c_i0) + 48, w2c_j1);
   w2c_i0 = 2u;
   w2c_l10 = w2c_i0;
-  goto w2c_B1;
-  w2c_B23:;
+  goto w2c_B0;
+  w2c_B9:;
   w2c_i0 = 4u;
   w2c_l10 = w2c_i0;
-  goto w2c_B1;
-  w2c_B22:;
+  goto w2c_B0;
+  w2c_B2:;
+  UNREACHABLE;
+  w2c_B1:;
   w2c_i0 = 3u;
   w2c_l10 = w2c_i0;
-  w2c_B1:;
-  w2c_j0 = w2c_l5;
+  w2c_B0:;
+  w2c_j0 = w2c_l4;
   w2c_j1 = 64ull;
   w2c_j0 += w2c_j1;
   m->w2c_g0 = w2c_j0;
   w2c_i0 = w2c_l10;
-  goto w2c_Bfunc;
-  w2c_B0:;
-  UNREACHABLE;
-  w2c_Bfunc:;
   return w2c_i0;
 }
 
@@ -58321,14 +56759,14 @@ static u32 w2c_chinese_number_read_utf8(module *m, u64 w2c_p0, u64 w2c_p1, u32 w
   w2c_i2 = w2c_p2;
   w2c_i3 = w2c_p3;
   w2c_j4 = w2c_p4;
-  w2c_i0 = w2c_f88(m, w2c_j0, w2c_j1, w2c_i2, w2c_i3, w2c_j4);
+  w2c_i0 = w2c_f89(m, w2c_j0, w2c_j1, w2c_i2, w2c_i3, w2c_j4);
   w2c_p3 = w2c_i0;
   w2c_f1(m);
   w2c_i0 = w2c_p3;
   return w2c_i0;
 }
 
-static u32 w2c_f88(module *m, u64 w2c_p0, u64 w2c_p1, u32 w2c_p2, u32 w2c_p3, u64 w2c_p4) {
+static u32 w2c_f89(module *m, u64 w2c_p0, u64 w2c_p1, u32 w2c_p2, u32 w2c_p3, u64 w2c_p4) {
   u32 w2c_l7 = 0;
   u64 w2c_l5 = 0, w2c_l6 = 0;
   u32 w2c_i0, w2c_i1, w2c_i2, w2c_i3, w2c_i4;
@@ -58362,7 +56800,7 @@ static u32 w2c_f88(module *m, u64 w2c_p0, u64 w2c_p1, u32 w2c_p2, u32 w2c_p3, u6
   w2c_j1 = w2c_p1;
   w2c_i2 = w2c_p2;
   w2c_j3 = w2c_p4;
-  w2c_i0 = w2c_f48(m, w2c_j0, w2c_j1, w2c_i2, w2c_j3);
+  w2c_i0 = w2c_f49(m, w2c_j0, w2c_j1, w2c_i2, w2c_j3);
   w2c_p2 = w2c_i0;
   w2c_j0 = w2c_l5;
   m->w2c_g0 = w2c_j0;
@@ -58421,7 +56859,7 @@ static u32 w2c_f88(module *m, u64 w2c_p0, u64 w2c_p1, u32 w2c_p2, u32 w2c_p3, u6
   w2c_i3 = w2c_l7;
   w2c_i4 = w2c_p3;
   w2c_j5 = w2c_p4;
-  w2c_i0 = w2c_f45(m, w2c_j0, w2c_j1, w2c_i2, w2c_i3, w2c_i4, w2c_j5);
+  w2c_i0 = w2c_f46(m, w2c_j0, w2c_j1, w2c_i2, w2c_i3, w2c_i4, w2c_j5);
   w2c_p2 = w2c_i0;
   w2c_j0 = w2c_l5;
   m->w2c_g0 = w2c_j0;
@@ -58436,7 +56874,7 @@ static u32 w2c_f88(module *m, u64 w2c_p0, u64 w2c_p1, u32 w2c_p2, u32 w2c_p3, u6
   w2c_i3 = w2c_l7;
   w2c_i4 = w2c_p3;
   w2c_j5 = w2c_p4;
-  w2c_i0 = w2c_f47(m, w2c_j0, w2c_j1, w2c_i2, w2c_i3, w2c_i4, w2c_j5);
+  w2c_i0 = w2c_f48(m, w2c_j0, w2c_j1, w2c_i2, w2c_i3, w2c_i4, w2c_j5);
   w2c_p2 = w2c_i0;
   w2c_j0 = w2c_l5;
   m->w2c_g0 = w2c_j0;
@@ -58459,14 +56897,14 @@ static u32 w2c_chinese_number_read(module *m, u64 w2c_p0, u64 w2c_p1, u32 w2c_p2
   w2c_i2 = w2c_p2;
   w2c_i3 = w2c_p3;
   w2c_j4 = w2c_p4;
-  w2c_i0 = w2c_f90(m, w2c_j0, w2c_j1, w2c_i2, w2c_i3, w2c_j4);
+  w2c_i0 = w2c_f91(m, w2c_j0, w2c_j1, w2c_i2, w2c_i3, w2c_j4);
   w2c_p3 = w2c_i0;
   w2c_f1(m);
   w2c_i0 = w2c_p3;
   return w2c_i0;
 }
 
-static u32 w2c_f90(module *m, u64 w2c_p0, u64 w2c_p1, u32 w2c_p2, u32 w2c_p3, u64 w2c_p4) {
+static u32 w2c_f91(module *m, u64 w2c_p0, u64 w2c_p1, u32 w2c_p2, u32 w2c_p3, u64 w2c_p4) {
   u32 w2c_l8 = 0;
   u64 w2c_l5 = 0, w2c_l6 = 0, w2c_l7 = 0;
   u32 w2c_i0, w2c_i1, w2c_i2, w2c_i3, w2c_i4;
@@ -58585,7 +57023,7 @@ static u32 w2c_f90(module *m, u64 w2c_p0, u64 w2c_p1, u32 w2c_p2, u32 w2c_p3, u6
   w2c_i3 = w2c_l8;
   w2c_i4 = w2c_p3;
   w2c_j5 = w2c_p4;
-  w2c_i0 = w2c_f45(m, w2c_j0, w2c_j1, w2c_i2, w2c_i3, w2c_i4, w2c_j5);
+  w2c_i0 = w2c_f46(m, w2c_j0, w2c_j1, w2c_i2, w2c_i3, w2c_i4, w2c_j5);
   w2c_p2 = w2c_i0;
   w2c_j0 = w2c_l5;
   m->w2c_g0 = w2c_j0;
@@ -58598,7 +57036,7 @@ static u32 w2c_f90(module *m, u64 w2c_p0, u64 w2c_p1, u32 w2c_p2, u32 w2c_p3, u6
   w2c_i3 = w2c_l8;
   w2c_i4 = w2c_p3;
   w2c_j5 = w2c_p4;
-  w2c_i0 = w2c_f47(m, w2c_j0, w2c_j1, w2c_i2, w2c_i3, w2c_i4, w2c_j5);
+  w2c_i0 = w2c_f48(m, w2c_j0, w2c_j1, w2c_i2, w2c_i3, w2c_i4, w2c_j5);
   w2c_p2 = w2c_i0;
   w2c_j0 = w2c_l5;
   m->w2c_g0 = w2c_j0;
@@ -58609,7 +57047,7 @@ static u32 w2c_f90(module *m, u64 w2c_p0, u64 w2c_p1, u32 w2c_p2, u32 w2c_p3, u6
   w2c_j1 = w2c_p1;
   w2c_i2 = w2c_p2;
   w2c_j3 = w2c_p4;
-  w2c_i0 = w2c_f48(m, w2c_j0, w2c_j1, w2c_i2, w2c_j3);
+  w2c_i0 = w2c_f49(m, w2c_j0, w2c_j1, w2c_i2, w2c_j3);
   w2c_p2 = w2c_i0;
   w2c_j0 = w2c_l5;
   m->w2c_g0 = w2c_j0;
@@ -58621,7 +57059,7 @@ static u32 w2c_f90(module *m, u64 w2c_p0, u64 w2c_p1, u32 w2c_p2, u32 w2c_p3, u6
   w2c_i2 = w2c_p2;
   w2c_i3 = w2c_p3;
   w2c_j4 = w2c_p4;
-  w2c_i0 = w2c_f50(m, w2c_j0, w2c_j1, w2c_i2, w2c_i3, w2c_j4);
+  w2c_i0 = w2c_f51(m, w2c_j0, w2c_j1, w2c_i2, w2c_i3, w2c_j4);
   w2c_p2 = w2c_i0;
   w2c_j0 = w2c_l5;
   m->w2c_g0 = w2c_j0;
