@@ -1,12 +1,17 @@
 // Amounts of money.
-ghost use Rattle.std.specs.Prelude.{◌≤◌};
+ghost use Rattle.std.specs.Prelude.{◌<◌, ◌≤◌, encode_utf8_all};
 ghost use Rattle.chinese_number.specs.AmountAnswer.{answer_of};
+ghost use Rattle.chinese_number.specs.AmountPlaces.{amount_limit};
+ghost use Rattle.chinese_number.specs.AmountWrites.{amount_text};
 ghost use Rattle.cn_c.specs.Amounts.{TellsAmount, IsAmountPrinted, IsAmountRead};
+ghost use Rattle.cn_c.specs.Prints.{PutsIfItFits};
 
 use crate::codes::{form_of, script_of};
 use crate::room::put_text;
-use crate::status::{DONE, INCORRECT, NOT_UTF8, TOO_LARGE, UNFINISHED, UNKNOWN};
-use chinese_number::{AMOUNT_LIMIT, ChineseToAmountError, chinese_to_amount};
+use crate::status::{DONE, INCORRECT, NOT_UTF8, TOO_LARGE, UNFINISHED, UNKNOWN, tell_none};
+use chinese_number::{
+    AMOUNT_LIMIT, AmountForm, ChineseToAmountError, ChineseVariant, chinese_to_amount,
+};
 use cn_amount::amount_text;
 use cn_faces::utf8_text;
 use cn_judge::byte_index;
@@ -28,6 +33,23 @@ pub const NOTHING: Amount = Amount {
     byte_index: 0,
 };
 
+// Prints an amount below the limit. It stands by itself, so that a refusal saves no register.
+#[inline(never)]
+fn print_amount(
+    fen: u64,
+    script: ChineseVariant,
+    form: AmountForm,
+    room: &mut [u8],
+    len: &mut usize,
+) -> u32
+    requires { fen < amount_limit }
+    ensures printed { PutsIfItFits (encode_utf8_all (amount_text script form fen)) room.old result room.new
+        len.new }
+    ensures bound { len.new ≤ 117 }
+{
+    put_text(amount_text(script, form, fen).as_bytes(), room, len)
+}
+
 /// Prints an amount of fen in a form into the caller's room, where 117 bytes are enough for any.
 ///
 /// Writes `*len`, and the bytes in front of it where the text fits; all else in the room stays.
@@ -42,17 +64,16 @@ pub extern "C" fn chinese_amount_print(
     ensures printed { IsAmountPrinted fen script form room.old result room.new len.new }
     ensures bound { len.new ≤ 117 }
 {
-    *len = 0;
     let Some(script) = script_of(script) else {
-        return UNKNOWN;
+        return tell_none(len, UNKNOWN);
     };
     let Some(form) = form_of(form) else {
-        return UNKNOWN;
+        return tell_none(len, UNKNOWN);
     };
     if fen >= AMOUNT_LIMIT {
-        return TOO_LARGE;
+        return tell_none(len, TOO_LARGE);
     }
-    put_text(amount_text(script, form, fen).as_bytes(), room, len)
+    print_amount(fen, script, form, room, len)
 }
 
 /// Tells an answer to a text to C.

@@ -6,7 +6,7 @@ ghost use Rattle.cn_faces.specs.IntegerTypes.{the_kind};
 use crate::codes::{case_of, kind_of, script_of, way_of};
 use crate::number::{Number, bits_of, signed_number};
 use crate::room::put_text;
-use crate::status::{NOT_HELD, TOO_LARGE, TOO_SMALL, UNKNOWN};
+use crate::status::{NOT_HELD, TOO_LARGE, TOO_SMALL, UNKNOWN, tell_none};
 use chinese_number::{ChineseCase, ChineseVariant, MOST_BYTES, NumberToChineseError, Whole};
 use cn_faces::{IntegerType, SignedMagnitude, Way, put_by};
 
@@ -26,20 +26,19 @@ fn print_as<T: Whole>(
     room: &mut [u8],
     len: &mut usize,
 ) -> u32
-    requires { len.old ≡ 0 }
     ensures printed { PrintsNumber (the_kind integer) style.way style.script style.case
         (T.number value) room.old result room.new len.new }
     ensures bound { len.new ≤ 234 }
 {
     if !integer.holds(SignedMagnitude::of(value)) {
-        return NOT_HELD;
+        return tell_none(len, NOT_HELD);
     }
     let Style { way, script, case } = style;
     let mut scratch = [0; MOST_BYTES];
     match put_by(&mut scratch, way, script, case, value) {
         Ok(text) => put_text(text.as_bytes(), room, len),
-        Err(NumberToChineseError::Underflow) => TOO_SMALL,
-        Err(_) => TOO_LARGE,
+        Err(NumberToChineseError::Underflow) => tell_none(len, TOO_SMALL),
+        Err(_) => tell_none(len, TOO_LARGE),
     }
 }
 
@@ -61,18 +60,17 @@ pub extern "C" fn chinese_number_print(
     ensures printed { IsPrinted low high kind way script case room.old result room.new len.new }
     ensures bound { len.new ≤ 234 }
 {
-    *len = 0;
     let Some(integer) = kind_of(kind) else {
-        return UNKNOWN;
+        return tell_none(len, UNKNOWN);
     };
     let Some(way) = way_of(way) else {
-        return UNKNOWN;
+        return tell_none(len, UNKNOWN);
     };
     let Some(script) = script_of(script) else {
-        return UNKNOWN;
+        return tell_none(len, UNKNOWN);
     };
     let Some(case) = case_of(case) else {
-        return UNKNOWN;
+        return tell_none(len, UNKNOWN);
     };
     let number = Number { low, high };
     let style = Style { way, script, case };

@@ -43,6 +43,15 @@ pub fn refusal_status(error: ChineseToNumberError) -> u32
     }
 }
 
+// Tells that nothing was read, and why.
+#[inline(always)]
+fn tell_nothing(reading: &mut Reading, status: u32) -> u32
+    ensures { (result ≡ status) × (reading.new ≡ no_number 0 0) }
+{
+    *reading = NOTHING;
+    status
+}
+
 // Tells why a text is refused: the status, and where the character at fault stands.
 #[inline(always)]
 fn tell_refusal(text: &str, error: ChineseToNumberError, reading: &mut Reading) -> u32
@@ -128,8 +137,7 @@ fn read_uncommon(text: &[u8], kind: u32, way: u32, reading: &mut Reading) -> u32
     ensures { IsRead text.now kind way result reading.new }
 {
     if !are_utf8_at_all(text) {
-        *reading = NOTHING;
-        return NOT_UTF8;
+        return tell_nothing(reading, NOT_UTF8);
     }
     unsafe { chinese_number_read_utf8(text, kind, way, reading) }
 }
@@ -146,9 +154,11 @@ pub extern "C" fn chinese_number_read(
 ) -> u32
     ensures { IsRead text.now kind way result reading.new }
 {
-    let (Some(_), Some(_)) = (kind_of(kind), reading_way_of(way)) else {
-        *reading = NOTHING;
-        return UNKNOWN;
+    let Some(_) = kind_of(kind) else {
+        return tell_nothing(reading, UNKNOWN);
+    };
+    let Some(_) = reading_way_of(way) else {
+        return tell_nothing(reading, UNKNOWN);
     };
     if are_common(text) {
         return unsafe { chinese_number_read_utf8(text, kind, way, reading) };
@@ -168,8 +178,7 @@ pub unsafe extern "C" fn chinese_number_read_utf8(
     ensures { IsRead text.now kind way result reading.new }
 {
     let (Some(integer), Some(way)) = (kind_of(kind), reading_way_of(way)) else {
-        *reading = NOTHING;
-        return UNKNOWN;
+        return tell_nothing(reading, UNKNOWN);
     };
     let text = unsafe { str::from_utf8_unchecked(text) };
     match way {

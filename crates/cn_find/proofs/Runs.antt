@@ -361,3 +361,8 @@ pub all-left : (rule : Rule) (whole : List ℕ) → left_by rule whole whole ≡
 all-left rule whole =
     ap (λ l. spans_after rule false l (chars whole))
     (ap in_front (seam-front whole [] whole refl) ∙ ap reverse chars-nil)
+
+pub none_left_of_empty : (rule : Rule) (whole rest : List ℕ) → length rest ≡ 0
+    → left_by rule whole rest ≡ []
+none_left_of_empty rule whole [] none = none_left rule whole
+none_left_of_empty rule whole (c ∷ rest) none = absurd (omega (arith, none))

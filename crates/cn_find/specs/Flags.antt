@@ -9,6 +9,10 @@ use Rattle.cn_find.specs.Belongs.{begins_with, is_chinese_digit}
 abbrev pub is_wide_digit : ℕ → Bool
 is_wide_digit c = is_in_range 65296 65305 c
 
+-- neither an ASCII nor a full-width digit
+abbrev pub is_no_figure : ℕ → Bool
+is_no_figure c = not (is_ascii_digit c) && not (is_wide_digit c)
+
 -- the character clings to a number that it touches: an ASCII letter, a digit of any kind, or one of
 -- these others
 unfoldable pub clings : ℕ → Bool
@@ -84,5 +88,5 @@ is_about before text after =
 
 -- one character, and no ASCII or full-width digit: a Chinese one, of a number
 abbrev pub is_one_character : List ℕ → Bool
-is_one_character (c ∷ []) = not (is_ascii_digit c) && not (is_wide_digit c)
+is_one_character (c ∷ []) = is_no_figure c
 is_one_character text = false

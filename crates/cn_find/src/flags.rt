@@ -8,10 +8,10 @@ ghost use Rattle.cn_judge.specs.Marked.{marked};
 ghost use Rattle.cn_find.specs.Belongs.{begins_with};
 ghost use Rattle.cn_find.specs.Number.{is_plain};
 ghost use Rattle.cn_find.specs.Private.{does_cling, does_link, estimates_last, estimates_next};
-ghost use Rattle.cn_find.specs.Flags.{are_near, begins_linked, begins_with_unit, clings, goes_on, is_about, is_estimate, is_link, is_one_character, is_one_estimate, is_wide_digit, pairs, stands_alone};
+ghost use Rattle.cn_find.specs.Flags.{are_near, begins_linked, begins_with_unit, clings, goes_on, is_about, is_estimate, is_link, is_no_figure, is_one_character, is_one_estimate, is_wide_digit, pairs, stands_alone};
 
 use cn_core::split_first_char;
-use cn_judge::{Mark, mark_of, split_end_mark, split_first_mark};
+use cn_judge::{Mark, mark_of, split_end_mark, split_first_known, split_first_mark};
 
 /// Whether a character is a full-width digit.
 pub fn is_wide_digit(c: char) -> bool
@@ -23,7 +23,7 @@ pub fn is_wide_digit(c: char) -> bool
 // Whether a character is neither an ASCII nor a full-width digit.
 #[inline(always)]
 fn is_no_figure(c: char) -> bool
-    ensures { result ≡ (not (is_ascii_digit c) && not (is_wide_digit c)) }
+    ensures { result ≡ is_no_figure c }
 {
     !c.is_ascii_digit() && !is_wide_digit(c)
 }
@@ -70,8 +70,8 @@ enum Neighbour {
     Estimates,
 }
 
-// All is told by one `match`: by one for each question a number takes some 20 instructions more. ASCII
-// is told apart first, so that a Chinese character is soon told to be nothing.
+// All is told by one `match`, and not by one for each question. ASCII is told apart first, so that a
+// Chinese character is soon told to be nothing.
 #[inline(always)]
 #[tactic(auto, unfolding(crate::specs::Flags::clings, crate::specs::Flags::is_link))]
 fn neighbour_of(c: char) -> Neighbour
@@ -153,9 +153,14 @@ fn ends_linked(before: &str) -> bool
 
 // Whether a link in front of this text leads into it.
 #[inline(always)]
+#[tactic(auto, unfolding(crate::specs::Flags::clings))]
 fn begins_linked(after: &str) -> bool
     ensures { result ≡ begins_linked (chars after.now) }
 {
+    // Most that stand there are digits, which the table of marks has.
+    if let Some((Mark::Digit(_), _)) = split_first_known(after) {
+        return true;
+    }
     match split_first_mark(after) {
         Some((far, mark, _)) => is_linked(far, mark),
         None => false,
@@ -348,26 +353,60 @@ pub fn is_about(before: &str, text: &str, after: &str) -> bool
     estimates(look_before(before), text, look_after(after))
 }
 
-// The only character of a text and its mark, where no other stands there.
+// The mark of the only character of a text where the table of marks has it: it is Chinese.
 #[inline(always)]
-fn only_mark(text: &str) -> Option<(char, Mark)>
-    ensures { MatchOption result ((c : ℕ) → chars text.now ≢ c ∷ [])
-        (λ r. (chars text.now ≡ r.0 ∷ []) × (marked r.1 ≡ mark_of r.0)) }
+fn only_known(text: &str) -> Option<Mark>
+    ensures { IfSome result (λ mark. (c : ℕ) × (chars text.now ≡ c ∷ []) × (marked mark ≡ mark_of c)
+        × (is_no_figure c ≡ true)) }
 {
-    let bytes = text.as_bytes();
-    if bytes.len() == 1 {
-        let c = bytes[0] as char;
-        return Some((c, mark_of(c)));
-    }
-    // No character takes more bytes.
-    if bytes.len() > 4 {
+    if text.len() != 3 {
         return None;
     }
+    match split_first_known(text) {
+        Some((Mark::Digit(value), _)) => Some(Mark::Digit(value)),
+        Some((Mark::Unit(unit), _)) => Some(Mark::Unit(unit)),
+        _ => None,
+    }
+}
+
+// By decoding: it stands by itself, as it is seldom asked.
+#[inline(never)]
+fn only_mark_slowly(text: &str) -> Option<(Mark, bool)>
+    ensures { MatchOption result ((c : ℕ) → chars text.now ≢ c ∷ [])
+        (λ r. (c : ℕ) × (chars text.now ≡ c ∷ []) × (marked r.0 ≡ mark_of c)
+        × (r.1 ≡ is_no_figure c)) }
+{
     let (c, mark, others) = split_first_mark(text)?;
     match split_first_char(others) {
         Some(_) => None,
-        None => Some((c, mark)),
+        None => Some((mark, is_no_figure(c))),
     }
+}
+
+// The mark of the only character of a text, and whether that is neither an ASCII nor a full-width
+// digit.
+#[inline(always)]
+fn only_mark(text: &str) -> Option<(Mark, bool)>
+    ensures { MatchOption result ((c : ℕ) → chars text.now ≢ c ∷ [])
+        (λ r. (c : ℕ) × (chars text.now ≡ c ∷ []) × (marked r.0 ≡ mark_of c)
+        × (r.1 ≡ is_no_figure c)) }
+{
+    if let Some(mark) = only_known(text) {
+        return Some((mark, true));
+    }
+    let bytes = text.as_bytes();
+    if bytes.len() == 1 {
+        let c = bytes[0] as char;
+        return Some((mark_of(c), is_no_figure(c)));
+    }
+    // No character takes more bytes, and none of ASCII more than one.
+    if bytes.len() > 4 {
+        return None;
+    }
+    if bytes.len() > 1 && bytes[0].is_ascii() {
+        return None;
+    }
+    only_mark_slowly(text)
 }
 
 /// Whether a number is one Chinese character, as the 一 of 一般, the 十 of 十分 and the 零 of 零下 are: no
@@ -382,7 +421,7 @@ pub fn is_one_character(text: &str) -> bool
     ensures { result ≡ is_one_character (chars text.now) }
 {
     match only_mark(text) {
-        Some((c, _)) => is_no_figure(c),
+        Some((_, is_no_figure)) => is_no_figure,
         None => false,
     }
 }
@@ -418,11 +457,11 @@ pub fn told_of(before: &str, text: &str, after: &str) -> Told
     let behind = look_after(after);
     let stands_alone = !front.goes_on && !behind.goes_on;
     match only_mark(text) {
-        Some((c, mark)) => Told {
+        Some((mark, is_no_figure)) => Told {
             is_plain: is_digit(mark),
             stands_alone,
             is_about: (front.estimates && is_unit(mark)) || behind.estimates,
-            is_one_character: is_no_figure(c),
+            is_one_character: is_no_figure,
         },
         None => Told {
             is_plain: is_plain(text),

@@ -107,8 +107,12 @@ impl<'a, R: SearchRule> Iterator for Numbers<'a, R> {
 
     ghost remaining = { item_count (λ left. left) };
 
-    #[tactic(auto, using(crate::proofs::Runs::none_left))]
+    #[tactic(auto, using(crate::proofs::Runs::none_left, crate::proofs::Runs::none_left_of_empty))]
     fn next(&mut self) -> Option<Found<'a>> {
+        // So an empty text is answered at once.
+        if self.rest.is_empty() {
+            return None;
+        }
         match next_run(self.rule, self.whole, self.rest) {
             Some(found) => {
                 self.rest = found.after;

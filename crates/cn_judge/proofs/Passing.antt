@@ -1,18 +1,19 @@
 -- Characters that are passed over, each by its first byte.
-use Rattle.std.proofs.Common.{◌≡◌, ◌-◌, ◌%◌, ℕ, true, zero, suc, ◌+◌, ◌/◌, ◌<◌, ◌≤◌, List, [], ◌∷◌, ◌++◌, length, get_or, take, drop, chars, encode_utf8_all, IsUtf8, refl, sym, ap, subst, ◌∙◌, arith, length-append, length-drop, get_or-drop, drop-drop}
+use Rattle.std.proofs.Common.{◌≡◌, ◌||◌, ltb, Bool, false, ◌-◌, ◌%◌, ℕ, true, zero, suc, ◌+◌, ◌/◌, ◌<◌, ◌≤◌, List, [], ◌∷◌, ◌++◌, length, get_or, take, drop, chars, encode_utf8_all, IsUtf8, refl, sym, ap, subst, ◌∙◌, arith, length-append, length-drop, get_or-drop, drop-drop}
 use Rattle.std.specs.Array.{IsFirstChunk}
 use Rattle.std.specs.Int.{w64, from_le_bytes}
 use Rattle.std.specs.Char.{is_whitespace}
 use Rattle.std.specs.Str.{IsCharBoundary, continuation_len}
+use Rattle.std.proofs.lemmas.Bool.{ltb-false}
 use Rattle.std.proofs.lemmas.Bool.Decides.{nat_tests}
 use Rattle.std.proofs.lemmas.List.{get_or-take, take_all}
-use Rattle.std.proofs.lemmas.Str.{IsCharBoundary-after_ascii, IsCharBoundary-from_drop, IsUtf8-past_char, chars_past_char, encode_ascii, encodes-append, encodes-chars}
+use Rattle.std.proofs.lemmas.Str.{IsCharBoundary-after_ascii, chars_past_char, encode_ascii, encodes-append, encodes-chars}
 use lib.Utf8.{encode}
 use Rattle.cn_core.proofs.Chars.{chars-from_empty}
 use Rattle.cn_judge.specs.ByteIndex.{byte_index}
-use Rattle.cn_judge.specs.Private.FirstKey.{BeginsThreeThrees, BeginsWithSpace}
+use Rattle.cn_judge.specs.Private.FirstKey.{BeginsDark, BeginsThreeThrees, StandsBehindSpace, is_ascii_space, may_begin_space}
 use Rattle.cn_judge.proofs.FirstBytes.{len_three, starts}
-use Rattle.cn_judge.proofs.ThreeBytes.{first-boundary, first-three}
+use Rattle.cn_judge.proofs.ThreeBytes.{below, bytes_by, encode-by}
 
 -- this byte stands behind so many characters
 pub record Passed (text : List ℕ) (count at : ℕ) : Type 0 where
@@ -173,60 +174,47 @@ ascii-first bytes text same utf8 some low =
       IsCharBoundary-after_ascii bytes 0 whole some low,
     )
 
-ascii-space : (bytes text : List ℕ) → bytes ≡ text → IsUtf8 text → 0 < length bytes
-    → is_whitespace (get_or bytes 0 0) ≡ true → get_or bytes 0 0 < 128 → BeginsWithSpace text 1
-ascii-space bytes text same utf8 some white low =
-    let first = ascii-first bytes text same utf8 some low in
+pub ascii-low : (b : ℕ) → is_ascii_space b ≡ true → b < 128
+ascii-low b space = grind (arith, nat_tests, space)
+
+pub ascii-space : (bytes text : List ℕ) → bytes ≡ text → IsUtf8 text → 0 < length bytes
+    → is_ascii_space (get_or bytes 0 0) ≡ true → StandsBehindSpace text (drop 1 text)
+ascii-space bytes text same utf8 some space =
     record {
       code = get_or bytes 0 0;
-      white = white;
-      within = omega (arith, some, ap length same);
-      boundary = first.1;
-      parts = first.0;
+      white = grind (arith, nat_tests, space);
+      parts = (ascii-first bytes text same utf8 some (ascii-low _ space)).0;
     }
 
-pub one-space : (bytes text : List ℕ) → bytes ≡ text → IsUtf8 text → 0 < length bytes
-    → get_or bytes 0 0 ≡ 0x20 → BeginsWithSpace text 1
-one-space bytes text same utf8 some is =
-    ascii-space bytes text same utf8 some (grind (arith, nat_tests, is)) (omega (arith, is))
+abbrev begins_space : ℕ → Bool
+begins_space b = is_ascii_space b || may_begin_space b
 
-pub control-space : (bytes text : List ℕ) → bytes ≡ text → IsUtf8 text → 0 < length bytes
-    → 9 ≤ get_or bytes 0 0 → get_or bytes 0 0 ≤ 13 → BeginsWithSpace text 1
-control-space bytes text same utf8 some low high =
-    ascii-space bytes text same utf8 some (grind (arith, nat_tests, low, high)) (omega (arith, high))
+white-first : (c : ℕ) (rest : List ℕ) → is_whitespace c ≡ true
+    → begins_space (get_or (encode c ++ rest) 0 0) ≡ true
+white-first c rest white = rw (encode-by c) (by (ltb c 128) (ltb c 2048) (ltb c 65536) refl refl refl) where
+  by : (x y z : Bool) → ltb c 128 ≡ x → ltb c 2048 ≡ y → ltb c 65536 ≡ z
+      → begins_space (get_or (bytes_by x y z c ++ rest) 0 0) ≡ true
+  by true y z p q r = let small = below c 128 p in grind (arith, nat_tests, white, small)
+  by false true z p q r =
+      let small = below c 2048 q in
+      let large = ltb-false c 128 p in grind (arith, nat_tests, white, small, large)
+  by false false true p q r =
+      let small = below c 65536 r in
+      let large = ltb-false c 2048 q in grind (arith, nat_tests, white, small, large)
+  by false false false p q r =
+      let large = ltb-false c 65536 r in grind (arith, nat_tests, white, large)
 
-pub wide-space : (bytes text : List ℕ) → bytes ≡ text → IsUtf8 text → 3 ≤ length bytes
-    → get_or bytes 0 0 ≡ 0xE3 → get_or bytes 1 0 ≡ 0x80 → get_or bytes 2 0 ≡ 0x80
-    → BeginsWithSpace text 3
-wide-space bytes text same utf8 long a b d =
-    let whole : IsUtf8 bytes = subst IsUtf8 (sym same) utf8 in
-    subst (λ l. BeginsWithSpace l 3) same (record {
-      code = 12288;
-      white = refl;
-      within = long;
-      boundary = first-boundary bytes 0xE3 whole long (sym a) (omega arith) (omega arith);
-      parts = first-three bytes (drop 3 bytes) 0xE3 0x80 0x80 12288 whole long refl (sym a) (sym b)
-          (sym d) (omega arith) (omega arith) refl;
-    })
+pub dark-first : (bytes text : List ℕ) → bytes ≡ text → IsUtf8 text
+    → is_ascii_space (get_or bytes 0 0) ≡ false → may_begin_space (get_or bytes 0 0) ≡ false
+    → BeginsDark text
+dark-first bytes text same utf8 ascii wide c rest parts = by (is_whitespace c) refl where
+  front : text ≡ encode c ++ encode_utf8_all rest
+  front = sym (encodes-chars text utf8) ∙ ap encode_utf8_all parts
 
-front-hard : (bytes : List ℕ) → 2 ≤ length bytes → get_or bytes 0 0 ≡ 0xC2
-    → get_or bytes 1 0 ≡ 0xA0 → bytes ≡ encode 160 ++ drop 2 bytes
-unfolding encode
-front-hard [] long p q = absurd (omega (arith, long))
-front-hard (a ∷ []) long p q = absurd (omega (arith, long))
-front-hard (a ∷ b ∷ rest) long p q =
-    (λ k. p k ∷ q k ∷ rest) ∙ ap (λ l. 0xC2 ∷ 0xA0 ∷ l) (sym (drop-none rest))
+  by : (b : Bool) → is_whitespace c ≡ b → b ≡ false
+  by false e = refl
+  by true e = sym (white-first c (encode_utf8_all rest) e)
+      ∙ ap (λ l. begins_space (get_or l 0 0)) (sym (same ∙ front)) ∙ grind (arith, nat_tests, ascii, wide)
 
-pub hard-space : (bytes text : List ℕ) → bytes ≡ text → IsUtf8 text → 2 ≤ length bytes
-    → get_or bytes 0 0 ≡ 0xC2 → get_or bytes 1 0 ≡ 0xA0 → BeginsWithSpace text 2
-hard-space bytes text same utf8 long p q =
-    let whole : IsUtf8 bytes = subst IsUtf8 (sym same) utf8 in
-    let front = front-hard bytes long p q in
-    let rest = IsUtf8-past_char bytes (drop 2 bytes) 160 whole front in
-    subst (λ l. BeginsWithSpace l 2) same (record {
-      code = 160;
-      white = refl;
-      within = long;
-      boundary = IsCharBoundary-from_drop bytes 2 long rest;
-      parts = chars_past_char bytes (drop 2 bytes) 160 whole front;
-    })
+pub dark-empty : (text : List ℕ) → length text ≡ 0 → BeginsDark text
+dark-empty text none c rest parts = absurd (let gone = ap length (sym (chars-from_empty text none) ∙ parts) in omega (arith, gone))

@@ -31,7 +31,7 @@ pub struct AfterSign<'a> {
     pub rest: &'a str,
 }
 
-// By a call a number takes 30 instructions more.
+// Inlined, since by a call each number of a signed type takes more instructions.
 /// Takes off one sign at the start of a text that is read for a signed type, and the spaces there.
 #[inline(always)]
 pub fn split_sign(signed: bool, text: &str) -> AfterSign<'_>
@@ -85,7 +85,9 @@ pub fn first_digit(first: Mark, at_digit: bool) -> Option<u8>
     }
 }
 
-// The answer to a first character and what follows it, read as it stands.
+// The answer to a first character and what follows it, read as it stands. It is cold, so that where a
+// numeral is read quickly first, the registers are that reader's.
+#[cold]
 fn judge_walked(
     method: ChineseCountMethod,
     char_index: usize,

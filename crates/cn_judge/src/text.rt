@@ -8,7 +8,7 @@ ghost use Rattle.cn_core.specs.Text.{text_of};
 ghost use Rattle.cn_judge.specs.ByteIndex.{byte_index};
 ghost use Rattle.cn_judge.specs.Marked.{marked};
 ghost use Rattle.cn_judge.specs.Piece.{StandsAt, EndsWith};
-ghost use Rattle.cn_judge.specs.Private.FirstKey.{BeginsThreeThrees, BeginsWithSpace, EndsWithKey, StartsWithKey};
+ghost use Rattle.cn_judge.specs.Private.FirstKey.{BeginsDark, BeginsThreeThrees, EndsWithKey, StandsBehindSpace, StartsWithKey, is_ascii_space, may_begin_space};
 
 use crate::mark::{Mark, known_mark, mark_of, mark_of_key};
 use cn_core::split_first_char;
@@ -60,41 +60,18 @@ pub fn split_first_mark(text: &str) -> Option<(char, Mark, &str)>
     Some((c, mark_of(c), after))
 }
 
-// The first character where it takes three bytes and is no white space, and what stands after it. By
-// std's decoding a refusal takes 20 instructions more. `None` says nothing of a text.
+// The first character, and what stands after it: one of three bytes by them, as most are, and any other
+// by std's decoding.
 #[inline(always)]
-fn split_first_dark(text: &str) -> Option<(char, &str)>
-    ensures parts { IfSome result (λ r. chars text.now ≡ r.0 ∷ chars r.1.now) }
-    ensures dark { IfSome result (λ r. is_whitespace r.0 ≡ false) }
+fn split_first_quickly(text: &str) -> Option<(char, &str)>
+    ensures parts { MatchOption result (chars text.now ≡ [])
+        (λ r. chars text.now ≡ r.0 ∷ chars r.1.now) }
     ensures shorter { IfSome result (λ r. length r.1.now < length text.now) }
 {
-    let (c, mark, after) = split_first_three(text)?;
-    match mark {
-        Mark::Other => {
-            if c.is_whitespace() {
-                None
-            } else {
-                Some((c, after))
-            }
-        }
-        _ => Some((c, after)),
+    match split_first_three(text) {
+        Some((c, _, after)) => Some((c, after)),
+        None => split_first_char(text),
     }
-}
-
-// The first character where it is of ASCII and no white space, and what stands after it. `None` says
-// nothing of a text.
-#[inline(always)]
-fn split_first_graphic(text: &str) -> Option<(char, &str)>
-    ensures parts { IfSome result (λ r. chars text.now ≡ r.0 ∷ chars r.1.now) }
-    ensures dark { IfSome result (λ r. is_whitespace r.0 ≡ false) }
-    ensures shorter { IfSome result (λ r. length r.1.now < length text.now) }
-{
-    let bytes = text.as_bytes();
-    if bytes.is_empty() || !bytes[0].is_ascii_graphic() {
-        return None;
-    }
-    let (_, after) = text.split_at(1);
-    Some((bytes[0] as char, after))
 }
 
 /// The first character of a text that is no white space.
@@ -115,78 +92,79 @@ pub(crate) struct Behind<'a> {
     pub rest: &'a str,
 }
 
-// How many bytes the white space takes with which a text begins, if that is of ASCII, a no-break space
-// or one of full width, as nearly all is; else 0. So 三十 behind any of these is read as soon as alone.
+// What stands behind the first character where that is white space, by decoding.
 #[inline(always)]
-fn space_len(text: &str) -> usize
-    ensures { 0 < result → BeginsWithSpace text.now result }
+fn behind_decoded_space(text: &str) -> Option<&str>
+    ensures parts { MatchOption result (BeginsDark text.now)
+        (λ rest. StandsBehindSpace text.now rest.now) }
+    ensures shorter { IfSome result (λ rest. length rest.now < length text.now) }
+{
+    let (c, after) = split_first_quickly(text)?;
+    if c.is_whitespace() { Some(after) } else { None }
+}
+
+#[inline(always)]
+fn is_ascii_space(first: u8) -> bool
+    ensures { result ≡ is_ascii_space first }
+{
+    matches!(first, 0x09..=0x0D | 0x20)
+}
+
+// Whether white space that is not of ASCII may begin with this byte.
+#[inline(always)]
+fn may_begin_space(first: u8) -> bool
+    ensures { result ≡ may_begin_space first }
+{
+    matches!(first, 0xC2 | 0xE1..=0xE3)
+}
+
+// What stands behind the first character where that is white space. Most others are told apart by
+// their first byte.
+#[inline(always)]
+fn behind_space(text: &str) -> Option<&str>
+    ensures parts { MatchOption result (BeginsDark text.now)
+        (λ rest. StandsBehindSpace text.now rest.now) }
+    ensures shorter { IfSome result (λ rest. length rest.now < length text.now) }
 {
     let bytes = text.as_bytes();
     if bytes.is_empty() {
-        return 0;
+        return None;
     }
-    match bytes[0] {
-        0x09..=0x0D | 0x20 => 1,
-        0xC2 if bytes.len() >= 2 && bytes[1] == 0xA0 => 2,
-        0xE3 if bytes.len() >= 3 && bytes[1] == 0x80 && bytes[2] == 0x80 => 3,
-        _ => 0,
+    if is_ascii_space(bytes[0]) {
+        let (_, after) = text.split_at(1);
+        return Some(after);
+    }
+    if may_begin_space(bytes[0]) {
+        behind_decoded_space(text)
+    } else {
+        None
     }
 }
 
-// What stands behind the spaces at the start of a text.
+// What stands behind the white space at the start of a text.
 #[inline(always)]
 pub(crate) fn skip_spaces(text: &str) -> Behind<'_>
     ensures at { StandsAt text.now (chars result.rest.now) result.skipped 0 }
+    ensures dark { BeginsDark result.rest.now }
     ensures within { result.skipped + length result.rest.now ≤ length text.now }
 {
     let mut behind = Behind {
         skipped: 0,
         rest: text,
     };
-    let mut len = space_len(text);
-    'skipping: while len > 0 {
-        let (_, rest) = behind.rest.split_at(len);
+    'skipping: while let Some(rest) = behind_space(behind.rest) {
         behind = Behind {
             skipped: behind.skipped + 1,
             rest,
         };
-        len = space_len(rest);
     }
     behind
 }
 
-// The first character there that is no white space, by decoding. It stands by itself, so that what calls
-// it is short.
-#[inline(never)]
-fn first_behind_slowly(behind: Behind<'_>) -> Option<First<'_>>
-    requires { behind.skipped + length behind.rest.now < 2 ^ 64 }
-    ensures parts { (text : List ℕ) → StandsAt text (chars behind.entry.rest.now) behind.entry.skipped 0
-        → MatchOption result (text_of text ≡ [])
-        (λ first. StandsAt text (first.character ∷ chars first.rest.now) first.skipped 0) }
-    ensures dark { IfSome result (λ first. is_whitespace first.character ≡ false) }
-    ensures within { IfSome result (λ first. first.skipped + length first.rest.now
-        < behind.entry.skipped + length behind.entry.rest.now) }
-{
-    let mut rest = behind.rest;
-    let mut skipped = behind.skipped;
-    'skipping: while let Some((character, after)) = split_first_char(rest) {
-        if !character.is_whitespace() {
-            return Some(First {
-                character,
-                skipped,
-                rest: after,
-            });
-        }
-        skipped += 1;
-        rest = after;
-    }
-    None
-}
-
-// The first character there that is no white space.
+// The first character there.
 #[inline(always)]
 pub(crate) fn first_behind(behind: Behind<'_>) -> Option<First<'_>>
-    requires { behind.skipped + length behind.rest.now < 2 ^ 64 }
+    requires { BeginsDark behind.rest.now }
     ensures parts { (text : List ℕ) → StandsAt text (chars behind.entry.rest.now) behind.entry.skipped 0
         → MatchOption result (text_of text ≡ [])
         (λ first. StandsAt text (first.character ∷ chars first.rest.now) first.skipped 0) }
@@ -194,14 +172,12 @@ pub(crate) fn first_behind(behind: Behind<'_>) -> Option<First<'_>>
     ensures within { IfSome result (λ first. first.skipped + length first.rest.now
         < behind.entry.skipped + length behind.entry.rest.now) }
 {
-    match split_first_dark(behind.rest).or(split_first_graphic(behind.rest)) {
-        Some((character, rest)) => Some(First {
-            character,
-            skipped: behind.skipped,
-            rest,
-        }),
-        None => first_behind_slowly(behind),
-    }
+    let (character, rest) = split_first_quickly(behind.rest)?;
+    Some(First {
+        character,
+        skipped: behind.skipped,
+        rest,
+    })
 }
 
 /// The first character that is no white space.

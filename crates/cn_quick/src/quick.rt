@@ -43,7 +43,10 @@ pub fn read_quickly(method: ChineseCountMethod, text: &str) -> Option<u128>
         last: Unit::Ge,
         at_digit: false,
     };
-    let second = text.len().checked_sub(3)?;
+    if text.len() < 3 {
+        return None;
+    }
+    let second = text.len() - 3;
     let mut ahead = text;
     'walking: while ahead.len() > 3 {
         let (mark, before) = split_last_known(ahead)?;

@@ -77,28 +77,6 @@ first_digit Jiao = Some AfterJiao
 first_digit Fen = Some Complete
 first_digit capital = digit_below Top Thousands capital
 
--- outside of a section
-abbrev pub outside : State → Capital → Option State
-outside Beginning Ren = Some AfterRen
-outside AfterRen Min = Some AfterMin
-outside AfterMin Bi = Some AfterCurrency
-outside Beginning Ling = Some NoYuan
-outside AfterCurrency Ling = Some NoYuan
-outside Beginning (Digit value) = Some FirstDigit
-outside AfterCurrency (Digit value) = Some FirstDigit
-outside NoYuan Yuan = Some (AfterYuan true)
-outside (AfterYuan is_round) Zheng = Some Complete
-outside AfterJiao Zheng = Some Complete
-outside (AfterYuan is_round) Ling = Some (AfterYuanLing is_round)
-outside (AfterYuan is_round) (Digit value) = Some JiaoDigit
-outside (AfterYuanLing is_round) (Digit value) = Some (SmallDigit is_round)
-outside JiaoDigit Jiao = Some AfterJiao
-outside (SmallDigit true) Jiao = Some AfterJiao
-outside FenDigit Fen = Some Complete
-outside (SmallDigit is_round) Fen = Some Complete
-outside AfterJiao (Digit value) = Some FenDigit
-outside state capital = None
-
 -- the state after one more capital, if an amount can go on so
 abbrev pub step : State → Capital → Option State
 step FirstDigit capital = first_digit capital
@@ -109,7 +87,25 @@ step (AfterLing stage place) (Digit value) = Some (DigitBelow stage place)
 step (DigitAt stage place) capital = digit_at stage place capital
 step (DigitBelow stage place) capital = digit_below stage place capital
 step (AfterUnit stage place) capital = after_unit stage place capital
-step state capital = outside state capital
+step Beginning Ren = Some AfterRen
+step AfterRen Min = Some AfterMin
+step AfterMin Bi = Some AfterCurrency
+step Beginning Ling = Some NoYuan
+step AfterCurrency Ling = Some NoYuan
+step Beginning (Digit value) = Some FirstDigit
+step AfterCurrency (Digit value) = Some FirstDigit
+step NoYuan Yuan = Some (AfterYuan true)
+step (AfterYuan is_round) Zheng = Some Complete
+step AfterJiao Zheng = Some Complete
+step (AfterYuan is_round) Ling = Some (AfterYuanLing is_round)
+step (AfterYuan is_round) (Digit value) = Some JiaoDigit
+step (AfterYuanLing is_round) (Digit value) = Some (SmallDigit is_round)
+step JiaoDigit Jiao = Some AfterJiao
+step (SmallDigit true) Jiao = Some AfterJiao
+step FenDigit Fen = Some Complete
+step (SmallDigit is_round) Fen = Some Complete
+step AfterJiao (Digit value) = Some FenDigit
+step state capital = None
 
 abbrev pub is_end : State → Bool
 is_end AfterJiao = true

@@ -1,5 +1,5 @@
 -- What a text starts or ends with, by the bytes of its first or last character.
-use Rattle.std.specs.Prelude.{◌≡◌, ℕ, ◌+◌, ◌-◌, ◌*◌, ◌/◌, ◌%◌, ◌<◌, ◌≤◌, List, [], ◌∷◌, ◌++◌, length, get_or, take, drop, chars, true, IsCharBoundary}
+use Rattle.std.specs.Prelude.{◌≡◌, ◌==◌, ◌&&◌, ◌||◌, nat_lt, Bool, ℕ, ◌+◌, ◌-◌, ◌*◌, ◌/◌, ◌%◌, ◌<◌, ◌≤◌, List, [], ◌∷◌, ◌++◌, length, get_or, take, drop, chars, false, true, IsCharBoundary}
 use Rattle.std.specs.Char.{IsScalar, is_whitespace}
 use Rattle.cn_judge.specs.Marked.{key_of}
 
@@ -34,10 +34,20 @@ pub record BeginsThreeThrees (bytes : List ℕ) (at : ℕ) : Type 0 where
   pub second : get_or bytes (at + 3) 0 / 16 ≡ 14
   pub third : get_or bytes (at + 6) 0 / 16 ≡ 14
 
--- the first character is white space of so many bytes
-pub record BeginsWithSpace (text : List ℕ) (len : ℕ) : Type 0 where
+-- the first character is white space, and this stands behind it
+pub record StandsBehindSpace (text rest : List ℕ) : Type 0 where
   pub code : ℕ
   pub white : is_whitespace code ≡ true
-  pub within : len ≤ length text
-  pub boundary : IsCharBoundary text len
-  pub parts : chars text ≡ code ∷ chars (drop len text)
+  pub parts : chars text ≡ code ∷ chars rest
+
+-- whether a byte is a white space of ASCII
+abbrev pub is_ascii_space : ℕ → Bool
+is_ascii_space b = (nat_lt 8 b && nat_lt b 14) || b == 32
+
+-- whether another one may begin with it
+abbrev pub may_begin_space : ℕ → Bool
+may_begin_space b = b == 194 || (nat_lt 224 b && nat_lt b 228)
+
+-- no white space comes first
+abbrev pub BeginsDark : List ℕ → Type 0
+BeginsDark text = (c : ℕ) → (rest : List ℕ) → chars text ≡ c ∷ rest → is_whitespace c ≡ false

@@ -1,13 +1,11 @@
-use Rattle.std.proofs.Common.{◌+◌, ◌≤◌, ◌<◌, length, chars}
+use Rattle.std.proofs.Common.{◌+◌, ◌≤◌, length, chars}
 use Rattle.cn_judge.specs.Piece.{StandsAt}
-use Rattle.cn_judge.specs.Private.FirstKey.{BeginsWithSpace}
 use Rattle.cn_judge.proofs.text.skip_spaces.Given as goal
 
 abbrev pub invariant-skipping : goal.invariant-skipping
 invariant-skipping l = record {
   at : StandsAt l.fn.text (chars l.behind.rest.now) l.behind.skipped 0;
   within : l.behind.skipped + length l.behind.rest.now ≤ length l.fn.text;
-  space : 0 < l.len → BeginsWithSpace l.behind.rest.now l.len;
 }
 
 abbrev pub decreases-skipping : goal.decreases-skipping

@@ -1,4 +1,4 @@
-use Rattle.std.proofs.Common.{◌≡◌, length, arith, rules}
+use Rattle.std.proofs.Common.{◌≡◌, ◌-◌, length, arith, rules}
 use Rattle.cn_core.specs.Text.{marks_of}
 use Rattle.cn_judge.specs.Marked.{marked}
 use Rattle.cn_quick.proofs.RegularSteps.{stepped-all, stepped-more, stepped-second}
@@ -16,8 +16,9 @@ pub walking-preserved : goal.walking-preserved
 walking-preserved c =
     let s = c.walking.invariant.stepped in
     let parts = c.in_ok-mark.ensures.parts in
-    let second = stepped-second c.args.method _ _ _ _ c.in_ok-second.second s
-    (omega (arith, c.in_ok-second.ensures)) in
+    let long = c.if-text-lt3.false in
+    let second = stepped-second c.args.method _ _ _ _ (length c.args.text.now - 3) s
+    (omega (arith, long)) in
     record {
       stepped = stepped-more c.args.method _ _ _ _ _ _ _ parts.0 (marked c.in_ok-mark.mark) s
           parts.1 parts.2 parts.3 c.in_ok-mark.ensures.shorter
