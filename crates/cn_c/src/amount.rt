@@ -38,16 +38,16 @@ pub const NOTHING: Amount = Amount {
 fn print_amount(
     fen: u64,
     script: ChineseVariant,
-    form: AmountForm,
+    form: &AmountForm,
     room: &mut [u8],
     len: &mut usize,
 ) -> u32
     requires { fen < amount_limit }
-    ensures printed { PutsIfItFits (encode_utf8_all (amount_text script form fen)) room.old result room.new
+    ensures printed { PutsIfItFits (encode_utf8_all (amount_text script form.now fen)) room.old result room.new
         len.new }
     ensures bound { len.new ≤ 117 }
 {
-    put_text(amount_text(script, form, fen).as_bytes(), room, len)
+    put_text(amount_text(script, *form, fen).as_bytes(), room, len)
 }
 
 /// Prints an amount of fen in a form into the caller's room, where 117 bytes are enough for any.

@@ -51,7 +51,7 @@ pub extern "C" fn chinese_signed_amount_print(
     if fen.unsigned_abs() >= AMOUNT_LIMIT {
         return if fen < 0 { TOO_SMALL } else { TOO_LARGE };
     }
-    put_text(signed_amount_text(script, form, fen).as_bytes(), room, len)
+    put_text(signed_amount_text(script, *form, fen).as_bytes(), room, len)
 }
 
 // Tells where a text is incorrect.
