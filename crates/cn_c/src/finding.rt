@@ -75,8 +75,8 @@ fn wanted_of(upper: u32, greatest: u32) -> Option<Wanted>
 }
 
 // Finds the numbers of a text. It stands by itself, and takes what it is given where C put it, so that
-// what stands in front of it saves no register: so nothing is found in an empty text in some 50
-// instructions fewer.
+// what stands in front of it saves no register: so an empty text is answered in 20 instructions, and
+// in 64 without.
 #[inline(never)]
 fn find_ahead(
     text: &str,

@@ -1,8 +1,7 @@
 -- What is known of a text while it is read, and what the answers to it rest on.
-use Rattle.std.proofs.Common.{◌≡◌, ℕ, ◌+◌, ◌<◌, List, [], ◌∷◌, ◌++◌, length, take, chars, Option, Some, None, refl, sym, ap, ap₂, subst, ◌∙◌, append-nil, append_assoc, length-append, arith}
+use Rattle.std.proofs.Common.{◌≡◌, ℕ, ◌+◌, ◌<◌, List, [], ◌∷◌, ◌++◌, length, take, chars, Some, None, sym, ap, ap₂, subst, ◌∙◌, append-nil, append_assoc, length-append, arith}
 use Rattle.std.proofs.Math.Seq.{take-append_seam}
-use Rattle.cn_core.proofs.Chars.{chars-from_empty}
-use Rattle.cn_capitals.specs.Answers.{Answers, Begins, ended}
+use Rattle.cn_capitals.specs.Answers.{Begins}
 use Rattle.cn_capitals.specs.Machine.{run, Machine, Leads, Reads}
 use Rattle.cn_capitals.proofs.Runs.{some-is, run-ran, run-behind, run-more}
 
@@ -90,20 +89,3 @@ pub reading-ended : {S A : Type 0} (machine : Machine S A) (text rest : List ℕ
 reading-ended machine text rest state count r none =
     ap (run machine.step machine.begin) (r.is ∙ ap (λ l. r.start ++ l) none ∙ append-nil r.start)
     ∙ r.runs
-
--- the answer there
-pub answered-end : {S A : Type 0} (IsForm : List ℕ → A → Type 0) (machine : Machine S A)
-    → Reads IsForm machine → (text : List ℕ) (state : S) → Leads machine text state
-    → Answers IsForm text (ended (machine.end state))
-answered-end {S} {A} IsForm machine reads text state leads = by (machine.end state) refl where
-  by : (value : Option A) → machine.end state ≡ value → Answers IsForm text (ended value)
-  by None e = unfinished-read IsForm machine reads text state leads e
-  by (Some value) e = reads.only text state value leads e
-
--- no text leads to the first state
-pub answered-none : {S A : Type 0} (IsForm : List ℕ → A → Type 0) (machine : Machine S A)
-    → Reads IsForm machine → (text : List ℕ) → length text ≡ 0
-    → Answers IsForm (chars text) (ended (machine.end machine.begin))
-answered-none IsForm machine reads text none =
-    answered-end IsForm machine reads (chars text) machine.begin
-    (ap (run machine.step machine.begin) (chars-from_empty text none))

@@ -1,5 +1,5 @@
 -- What is answered of a text, where it is said which texts are forms, and of which value.
-use Rattle.std.specs.Prelude.{ℕ, ◌+◌, ◌<◌, List, ◌++◌, length, take, Option, Some, None, Result, Ok, Err}
+use Rattle.std.specs.Prelude.{ℕ, ◌+◌, ◌<◌, List, ◌++◌, length, take, Result, Ok, Err}
 use Rattle.cn_capitals.specs.declared.refusal.Refusal.{Refusal}
 use Rattle.cn_capitals.specs.declared.refusal.Refusal.TheVariants.{Unfinished, Incorrect}
 
@@ -15,8 +15,3 @@ Answers {A} IsForm text (Err Unfinished) =
 Answers IsForm text (Err (Incorrect place)) =
     (place < length text) × Begins IsForm (take place text)
     × ¬ Begins IsForm (take (place + 1) text)
-
--- the answer where a text ends, by the value where a form may end there
-abbrev pub ended : {A : Type 0} → Option A → Result A Refusal
-ended None = Err Unfinished
-ended (Some value) = Ok value

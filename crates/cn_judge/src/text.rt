@@ -60,8 +60,7 @@ pub fn split_first_mark(text: &str) -> Option<(char, Mark, &str)>
     Some((c, mark_of(c), after))
 }
 
-// The first character, and what stands after it: one of three bytes by them, as most are, and any other
-// by std's decoding.
+// The first character, and what stands after it. One of three bytes, as most are, is told by these.
 #[inline(always)]
 fn split_first_quickly(text: &str) -> Option<(char, &str)>
     ensures parts { MatchOption result (chars text.now ≡ [])

@@ -1,5 +1,5 @@
-use Rattle.std.proofs.Common.{◌≡◌, length, sym, ◌∙◌, arith, rules}
-use Rattle.cn_capitals.proofs.Reading.{answered-end, answered-none, reading-more, reading-refused, reading-ended}
+use Rattle.std.proofs.Common.{sym, ◌∙◌, arith, rules}
+use Rattle.cn_capitals.proofs.Reading.{unfinished-read, reading-more, reading-refused, reading-ended}
 use Rattle.cn_capitals.proofs.reader.read.Goals as goal
 
 pub returns-in-None : goal.returns-in-None
@@ -17,14 +17,8 @@ reading-preserved g c = record {
   utf8 = search rules;
 }
 
-pub returns : goal.returns
-returns g c =
-    rw c.ended-2.ensures (answered-end g.G.Grammar.is_form g.G.Grammar.machine c.requires _ c.reading.state
+pub returns-in-None-end : goal.returns-in-None-end
+returns-in-None-end g c =
+    unfinished-read g.G.Grammar.is_form g.G.Grammar.machine c.requires _ c.reading.state
     (reading-ended g.G.Grammar.machine _ _ c.reading.state _ c.reading.invariant.reading
-    c.in_default.ensures.parts))
-
-pub returns-then-is_empty : goal.returns-then-is_empty
-returns-then-is_empty g c =
-    let none : length c.args.text.now ≡ 0 = search rules in
-    rw c.ended.ensures (rw c.begin-state.ensures
-    (answered-none g.G.Grammar.is_form g.G.Grammar.machine c.requires c.args.text.now none))
+    c.in_default.ensures.parts) (sym c.end.ensures ∙ c.in-None-end.is)
