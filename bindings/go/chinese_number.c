@@ -60,7 +60,7 @@ typedef int64_t s64;
  * - behind it, for the one call that writes a text as long as any, the caller's room, where it is.
  *
  * An access outside, or a write to its constants or the text, ends the program by abort(). */
-#define STACK_BYTES UINT64_C(2160)
+#define STACK_BYTES UINT64_C(2112)
 #define LENT_BYTES UINT64_C(544)
 #define OWN_BYTES (STACK_BYTES + LENT_BYTES)
 #define FIRST_CONSTANT UINT64_C(65536)
@@ -88,9 +88,7 @@ typedef struct module {
 } module;
 
 static const u8 constants[] = {
-  0x00, 0x01, 0x00, 0x00, 0x00, 0x01, 0x00, 0x00, 0x00, 0x01, 0x00, 0x01,
-  0x01, 0x00, 0x00, 0x00, 0x01, 0x01, 0x00, 0x01, 0x00, 0x01, 0x01, 0x01,
-  0x01, 0x01, 0x00, 0x00, 0xf6, 0x96, 0x00, 0x00, 0x00, 0x4e, 0x00, 0x00,
+  0x00, 0x01, 0x00, 0x00, 0xf6, 0x96, 0x00, 0x00, 0x00, 0x4e, 0x00, 0x00,
   0x8c, 0x4e, 0x00, 0x00, 0x09, 0x4e, 0x00, 0x00, 0xdb, 0x56, 0x00, 0x00,
   0x94, 0x4e, 0x00, 0x00, 0x6d, 0x51, 0x00, 0x00, 0x03, 0x4e, 0x00, 0x00,
   0x6b, 0x51, 0x00, 0x00, 0x5d, 0x4e, 0x00, 0x00, 0x0b, 0x50, 0x00, 0x00,
@@ -154,7 +152,9 @@ static const u8 constants[] = {
   0x87, 0xe4, 0xba, 0xbf, 0xe5, 0x85, 0x86, 0xe4, 0xba, 0xac, 0xe5, 0x9e,
   0x93, 0xe7, 0xa7, 0xad, 0xe7, 0xa9, 0xb0, 0xe6, 0xb2, 0x9f, 0xe6, 0xb6,
   0xa7, 0xe6, 0xad, 0xa3, 0xe8, 0xbd, 0xbd, 0xe6, 0x9e, 0x81, 0xe8, 0xb4,
-  0x9f, 0x00, 0x00, 0x00, 0x96, 0x73, 0x00, 0x00, 0x01, 0x01, 0x09, 0x00,
+  0x9f, 0x00, 0x00, 0x00, 0x00, 0x00, 0x00, 0x01, 0x00, 0x00, 0x00, 0x01,
+  0x00, 0x01, 0x01, 0x00, 0x00, 0x00, 0x01, 0x01, 0x00, 0x01, 0x00, 0x01,
+  0x01, 0x01, 0x01, 0x01, 0x96, 0x73, 0x00, 0x00, 0x01, 0x01, 0x09, 0x00,
   0x21, 0x71, 0x00, 0x00, 0x00, 0x00, 0x00, 0x00, 0x21, 0x71, 0x00, 0x00,
   0x00, 0x00, 0x00, 0x00, 0x21, 0x71, 0x00, 0x00, 0x00, 0x00, 0x00, 0x00,
   0x21, 0x71, 0x00, 0x00, 0x00, 0x00, 0x00, 0x00, 0x2c, 0x84, 0x00, 0x00,
@@ -585,56 +585,56 @@ static void w2c_f2(module *);
 static void w2c_f3(module *, u64, u64, u64, u64, u64);
 static void w2c_f4(module *, u64, u64, u64, u32);
 static void w2c_f5(module *, u64, u64, u64, u32);
-static void w2c_f6(module *, u64, u64);
-static void w2c_f7(module *, u64, u32, u64);
-static void w2c_f8(module *, u64, u32, u64);
-static void w2c_f9(module *, u64, u32);
-static void w2c_f10(module *, u64, u32);
+static void w2c_f6(module *, u64, u32);
+static void w2c_f7(module *, u64, u32);
+static void w2c_f8(module *, u64, u64);
+static void w2c_f9(module *, u64, u32, u64);
+static void w2c_f10(module *, u64, u32, u64);
 static void w2c_f11(module *, u64, u64, u64);
 static u32 w2c_f12(module *, u64, u64);
-static void w2c_f13(module *, u64, u64, u64);
-static u32 w2c_f14(module *, u64, u64, u64, u32, u32, u64, u64, u64);
-static u32 w2c_f15(module *, u64, u64);
-static u32 w2c_f16(module *, u32, u32, u64, u64);
-static void w2c_f17(module *, u64, u32);
-static void w2c_f18(module *, u64, u64, u64, u64, u64, u64, u64);
-static u32 w2c_f19(module *, u64, u64);
-static u32 w2c_f20(module *, u64, u64);
-static u32 w2c_f21(module *, u64, u64, u64, u32, u32, u64, u64, u64);
-static void w2c_f22(module *, u64, u64);
-static u32 w2c_f23(module *, u32, u32, u64, u64, u32, u64, u64);
-static u32 w2c_f24(module *, u32, u32, u32, u32, u32, u64, u64);
-static u32 w2c_f25(module *, u32, u32, u64, u64);
-static u32 w2c_f26(module *, u32, u32, u64, u64);
-static u64 w2c_f27(module *, u64, u64, u32, u32, u64, u64);
-static void w2c_f28(module *, u64, u64, u64, u32);
-static void w2c_f29(module *, u64, u64);
-static void w2c_f30(module *, u64, u64, u64);
-static void w2c_f31(module *, u64, u32, u64, u64, u64);
+static u32 w2c_f13(module *, u64, u32, u64, u64, u64, u64);
+static void w2c_f14(module *, u64, u64, u64);
+static u32 w2c_f15(module *, u64, u64, u64, u32, u32, u64, u64, u64);
+static u32 w2c_f16(module *, u64, u64, u64, u32, u32, u64, u64, u64);
+static u32 w2c_f17(module *, u64, u64);
+static u32 w2c_f18(module *, u32, u32, u64, u64);
+static void w2c_f19(module *, u64, u32);
+static void w2c_f20(module *, u64, u64, u64);
+static u32 w2c_f21(module *, u64, u64);
+static u32 w2c_f22(module *, u64, u64);
+static u32 w2c_f23(module *, u64, u64);
+static u32 w2c_f24(module *, u64, u64, u64, u32, u32, u64, u64, u64);
+static void w2c_f25(module *, u64, u64);
+static u32 w2c_f26(module *, u32, u32, u64, u64, u32, u64, u64);
+static u32 w2c_f27(module *, u32, u32, u32, u32, u32, u64, u64);
+static u32 w2c_f28(module *, u32, u32, u64, u64);
+static u32 w2c_f29(module *, u32, u32, u64, u64);
+static u64 w2c_f30(module *, u64, u64, u32, u32, u64, u64);
+static void w2c_f31(module *, u64, u64, u64, u32);
 static void w2c_f32(module *, u64, u64, u64);
 static void w2c_f33(module *, u64, u32, u64, u64, u64);
-static u64 w2c_f34(module *, u64, u64);
-static void w2c_f35(module *, u64, u32);
-static void w2c_f36(module *, u64, u32, u64, u64, u64, u64);
-static void w2c_f37(module *, u64, u32, u32);
-static void w2c_f38(module *, u64, u64, u64);
-static void w2c_f39(module *, u64, u32, u32, u64, u64, u64, u64);
-static void w2c_f40(module *, u64, u32, u64, u64);
-static void w2c_f41(module *, u64, u32, u64, u64, u64);
-static void w2c_f42(module *, u64, u64, u64, u64);
-static void w2c_f43(module *, u64, u64, u64);
-static void w2c_f44(module *, u64, u32, u64, u32, u64, u64);
-static void w2c_f45(module *, u64, u32, u64, u64, u32, u32);
-static u32 w2c_f46(module *, u64, u64, u32, u32, u32, u64);
-static void w2c_f47(module *, u64, u32, u64, u64, u64);
+static void w2c_f34(module *, u64, u64, u64);
+static void w2c_f35(module *, u64, u32, u64, u64, u64);
+static u64 w2c_f36(module *, u64, u64);
+static void w2c_f37(module *, u64, u32);
+static void w2c_f38(module *, u64, u32, u64, u64, u64, u64);
+static void w2c_f39(module *, u64, u32, u32);
+static void w2c_f40(module *, u64, u64, u64);
+static void w2c_f41(module *, u64, u32, u32, u64, u64, u64, u64);
+static void w2c_f42(module *, u64, u32, u64, u64);
+static void w2c_f43(module *, u64, u32, u64, u64, u64);
+static void w2c_f44(module *, u64, u64, u64);
+static void w2c_f45(module *, u64, u32, u64, u32, u64, u64);
+static void w2c_f46(module *, u64, u32, u64, u64, u32, u32);
+static void w2c_f47(module *, u64, u64, u64, u64);
 static u32 w2c_f48(module *, u64, u64, u32, u32, u32, u64);
-static u32 w2c_f49(module *, u64, u64, u32, u64);
-static void w2c_f50(module *, u64, u32, u64, u64);
-static u32 w2c_f51(module *, u64, u64, u32, u32, u64);
+static void w2c_f49(module *, u64, u32, u64, u64, u64);
+static u32 w2c_f50(module *, u64, u64, u32, u32, u32, u64);
+static u32 w2c_f51(module *, u64, u64, u32, u64);
+static void w2c_f52(module *, u64, u32, u64, u64);
+static u32 w2c_f53(module *, u64, u64, u32, u32, u64);
 static u32 w2c_chinese_number_version(module *);
-static void w2c_f53(module *);
-static u32 w2c_chinese_amount_print(module *, u64, u32, u32, u64, u64, u64);
-static u32 w2c_f55(module *, u64, u32, u32, u64, u64, u64);
+static void w2c_f55(module *);
 static u32 w2c_chinese_date_print(module *, u32, u32, u32, u32, u64, u64, u64);
 static u32 w2c_f57(module *, u32, u32, u32, u32, u64, u64, u64);
 static u32 w2c_chinese_signed_amount_print(module *, u64, u32, u32, u64, u64, u64);
@@ -647,30 +647,32 @@ static u32 w2c_chinese_typed_amount_read(module *, u64, u64, u64);
 static u32 w2c_f65(module *, u64, u64, u64);
 static u32 w2c_chinese_date_read(module *, u64, u64, u64);
 static u32 w2c_f67(module *, u64, u64, u64);
+static u32 w2c_chinese_amount_print(module *, u64, u32, u32, u64, u64, u64);
+static u32 w2c_f69(module *, u64, u32, u32, u64, u64, u64);
 static u32 w2c_chinese_figures_read(module *, u64, u64, u64);
-static u32 w2c_f69(module *, u64, u64, u64);
-static u32 w2c_chinese_signed_amount_read(module *, u64, u64, u64);
 static u32 w2c_f71(module *, u64, u64, u64);
-static u32 w2c_chinese_number_find_utf8(module *, u64, u64, u64, u32, u32, u64, u64, u64);
-static u32 w2c_f73(module *, u64, u64, u64, u32, u32, u64, u64, u64);
+static u32 w2c_chinese_signed_amount_read(module *, u64, u64, u64);
+static u32 w2c_f73(module *, u64, u64, u64);
 static u32 w2c_chinese_number_find(module *, u64, u64, u64, u32, u32, u64, u64, u64);
 static u32 w2c_f75(module *, u64, u64, u64, u32, u32, u64, u64, u64);
-static u32 w2c_chinese_quantity_find_utf8(module *, u64, u64, u64, u32, u32, u64, u64, u64);
+static u32 w2c_chinese_number_find_utf8(module *, u64, u64, u64, u32, u32, u64, u64, u64);
 static u32 w2c_f77(module *, u64, u64, u64, u32, u32, u64, u64, u64);
-static u32 w2c_chinese_quantity_find(module *, u64, u64, u64, u32, u32, u64, u64, u64);
+static u32 w2c_chinese_quantity_find_utf8(module *, u64, u64, u64, u32, u32, u64, u64, u64);
 static u32 w2c_f79(module *, u64, u64, u64, u32, u32, u64, u64, u64);
+static u32 w2c_chinese_quantity_find(module *, u64, u64, u64, u32, u32, u64, u64, u64);
+static u32 w2c_f81(module *, u64, u64, u64, u32, u32, u64, u64, u64);
 static u32 w2c_chinese_number_print(module *, u64, u64, u32, u32, u32, u32, u64, u64, u64);
-static u32 w2c_f81(module *, u64, u64, u32, u32, u32, u32, u64, u64, u64);
-static u32 w2c_chinese_quantities_to_figures(module *, u64, u64, u32, u32, u32, u32, u64, u64, u64);
 static u32 w2c_f83(module *, u64, u64, u32, u32, u32, u32, u64, u64, u64);
+static u32 w2c_chinese_quantities_to_figures(module *, u64, u64, u32, u32, u32, u32, u64, u64, u64);
+static u32 w2c_f85(module *, u64, u64, u32, u32, u32, u32, u64, u64, u64);
 static u32 w2c_chinese_quantity_print(module *, u64, u32, u32, u32, u64, u64, u64);
-static u32 w2c_f85(module *, u64, u32, u32, u32, u64, u64, u64);
+static u32 w2c_f87(module *, u64, u32, u32, u32, u64, u64, u64);
 static u32 w2c_chinese_quantity_read(module *, u64, u64, u32, u64);
-static u32 w2c_f87(module *, u64, u64, u32, u64);
+static u32 w2c_f89(module *, u64, u64, u32, u64);
 static u32 w2c_chinese_number_read_utf8(module *, u64, u64, u32, u32, u64);
-static u32 w2c_f89(module *, u64, u64, u32, u32, u64);
-static u32 w2c_chinese_number_read(module *, u64, u64, u32, u32, u64);
 static u32 w2c_f91(module *, u64, u64, u32, u32, u64);
+static u32 w2c_chinese_number_read(module *, u64, u64, u32, u32, u64);
+static u32 w2c_f93(module *, u64, u64, u32, u32, u64);
 
 static u32 w2c_f0(module *m) {
   u32 w2c_l0 = 0;
@@ -862,7 +864,406 @@ static void w2c_f5(module *m, u64 w2c_p0, u64 w2c_p1, u64 w2c_p2, u32 w2c_p3) {
   i64_store(m, (u64)(w2c_i0), w2c_j1);
 }
 
-static void w2c_f6(module *m, u64 w2c_p0, u64 w2c_p1) {
+static void w2c_f6(module *m, u64 w2c_p0, u32 w2c_p1) {
+  u32 w2c_l5 = 0;
+  u64 w2c_l2 = 0, w2c_l3 = 0, w2c_l4 = 0;
+  u32 w2c_i0, w2c_i1, w2c_i2, w2c_i3;
+  u64 w2c_j0, w2c_j1, w2c_j2;
+  w2c_j0 = m->w2c_g0;
+  w2c_l2 = w2c_j0;
+  w2c_j1 = 16ull;
+  w2c_i0 = (u64)((s64)w2c_j0 < (s64)w2c_j1);
+  if (w2c_i0) {goto w2c_B0;}
+  w2c_i0 = w2c_p1;
+  w2c_i1 = 65535u;
+  w2c_i0 &= w2c_i1;
+  w2c_l5 = w2c_i0;
+  w2c_i0 = !(w2c_i0);
+  if (w2c_i0) {goto w2c_B1;}
+  w2c_j0 = w2c_p0;
+  w2c_i1 = w2c_l5;
+  w2c_i2 = 10u;
+  w2c_i1 = DIV_U(w2c_i1, w2c_i2);
+  w2c_l5 = w2c_i1;
+  w2c_f6(m, w2c_j0, w2c_i1);
+  w2c_j0 = 66116ull;
+  w2c_j1 = 65732ull;
+  w2c_j2 = w2c_p0;
+  w2c_i2 = (u32)(w2c_j2);
+  w2c_i2 = i32_load8_u(m, (u64)(w2c_i2));
+  w2c_j0 = w2c_i2 ? w2c_j0 : w2c_j1;
+  w2c_i1 = w2c_p1;
+  w2c_i2 = w2c_l5;
+  w2c_i3 = 10u;
+  w2c_i2 *= w2c_i3;
+  w2c_i1 -= w2c_i2;
+  w2c_i2 = 2u;
+  w2c_i1 <<= (w2c_i2 & 31);
+  w2c_j1 = (u64)(w2c_i1);
+  w2c_j2 = 65532ull;
+  w2c_j1 &= w2c_j2;
+  w2c_j0 += w2c_j1;
+  w2c_i0 = (u32)(w2c_j0);
+  w2c_i0 = i32_load(m, (u64)(w2c_i0));
+  w2c_p1 = w2c_i0;
+  w2c_i1 = 4294912000u;
+  w2c_i0 += w2c_i1;
+  w2c_i1 = 4294914047u;
+  w2c_i0 = w2c_i0 <= w2c_i1;
+  if (w2c_i0) {goto w2c_B0;}
+  w2c_j0 = w2c_p0;
+  w2c_j1 = 128ull;
+  w2c_j0 += w2c_j1;
+  w2c_l3 = w2c_j0;
+  w2c_i0 = (u32)(w2c_j0);
+  w2c_j0 = i64_load(m, (u64)(w2c_i0));
+  w2c_l4 = w2c_j0;
+  w2c_j1 = 18446744073709551498ull;
+  w2c_j0 += w2c_j1;
+  w2c_j1 = 3ull;
+  w2c_i0 = w2c_j0 < w2c_j1;
+  if (w2c_i0) {goto w2c_B1;}
+  w2c_j0 = w2c_p0;
+  w2c_j1 = w2c_l4;
+  w2c_j0 += w2c_j1;
+  w2c_p0 = w2c_j0;
+  w2c_j1 = 3ull;
+  w2c_j0 += w2c_j1;
+  w2c_i0 = (u32)(w2c_j0);
+  w2c_i1 = w2c_p1;
+  w2c_i2 = 63u;
+  w2c_i1 &= w2c_i2;
+  w2c_i2 = 128u;
+  w2c_i1 |= w2c_i2;
+  i32_store8(m, (u64)(w2c_i0), w2c_i1);
+  w2c_j0 = w2c_p0;
+  w2c_j1 = 1ull;
+  w2c_j0 += w2c_j1;
+  w2c_i0 = (u32)(w2c_j0);
+  w2c_i1 = w2c_p1;
+  w2c_i2 = 12u;
+  w2c_i1 >>= (w2c_i2 & 31);
+  w2c_i2 = 224u;
+  w2c_i1 |= w2c_i2;
+  i32_store8(m, (u64)(w2c_i0), w2c_i1);
+  w2c_j0 = w2c_p0;
+  w2c_j1 = 2ull;
+  w2c_j0 += w2c_j1;
+  w2c_i0 = (u32)(w2c_j0);
+  w2c_i1 = w2c_p1;
+  w2c_i2 = 6u;
+  w2c_i1 >>= (w2c_i2 & 31);
+  w2c_i2 = 63u;
+  w2c_i1 &= w2c_i2;
+  w2c_i2 = 128u;
+  w2c_i1 |= w2c_i2;
+  i32_store8(m, (u64)(w2c_i0), w2c_i1);
+  w2c_j0 = w2c_l3;
+  w2c_i0 = (u32)(w2c_j0);
+  w2c_j1 = w2c_l4;
+  w2c_j2 = 3ull;
+  w2c_j1 += w2c_j2;
+  i64_store(m, (u64)(w2c_i0), w2c_j1);
+  w2c_B1:;
+  w2c_j0 = w2c_l2;
+  m->w2c_g0 = w2c_j0;
+  goto w2c_Bfunc;
+  w2c_B0:;
+  UNREACHABLE;
+  w2c_Bfunc:;
+}
+
+static void w2c_f7(module *m, u64 w2c_p0, u32 w2c_p1) {
+  u32 w2c_l2 = 0, w2c_l3 = 0;
+  u64 w2c_l4 = 0, w2c_l5 = 0, w2c_l6 = 0;
+  u32 w2c_i0, w2c_i1, w2c_i2;
+  u64 w2c_j0, w2c_j1, w2c_j2;
+  w2c_j0 = m->w2c_g0;
+  w2c_j1 = 16ull;
+  w2c_i0 = (u64)((s64)w2c_j0 < (s64)w2c_j1);
+  if (w2c_i0) {goto w2c_B0;}
+  w2c_i0 = w2c_p1;
+  w2c_i1 = 255u;
+  w2c_i0 &= w2c_i1;
+  w2c_l2 = w2c_i0;
+  w2c_i1 = 9u;
+  w2c_i0 = w2c_i0 > w2c_i1;
+  if (w2c_i0) {goto w2c_B2;}
+  w2c_j0 = 66116ull;
+  w2c_j1 = 65732ull;
+  w2c_j2 = w2c_p0;
+  w2c_i2 = (u32)(w2c_j2);
+  w2c_i2 = i32_load8_u(m, (u64)(w2c_i2));
+  w2c_j0 = w2c_i2 ? w2c_j0 : w2c_j1;
+  w2c_i1 = w2c_p1;
+  w2c_i2 = 2u;
+  w2c_i1 <<= (w2c_i2 & 31);
+  w2c_j1 = (u64)(w2c_i1);
+  w2c_j2 = 252ull;
+  w2c_j1 &= w2c_j2;
+  w2c_j0 += w2c_j1;
+  w2c_i0 = (u32)(w2c_j0);
+  w2c_i0 = i32_load(m, (u64)(w2c_i0));
+  w2c_p1 = w2c_i0;
+  w2c_i1 = 4294912000u;
+  w2c_i0 += w2c_i1;
+  w2c_i1 = 4294914047u;
+  w2c_i0 = w2c_i0 <= w2c_i1;
+  if (w2c_i0) {goto w2c_B0;}
+  w2c_j0 = w2c_p0;
+  w2c_j1 = 128ull;
+  w2c_j0 += w2c_j1;
+  w2c_l4 = w2c_j0;
+  w2c_i0 = (u32)(w2c_j0);
+  w2c_j0 = i64_load(m, (u64)(w2c_i0));
+  w2c_l5 = w2c_j0;
+  w2c_j1 = 18446744073709551498ull;
+  w2c_j0 += w2c_j1;
+  w2c_j1 = 3ull;
+  w2c_i0 = w2c_j0 < w2c_j1;
+  if (w2c_i0) {goto w2c_B1;}
+  w2c_j0 = w2c_p0;
+  w2c_j1 = w2c_l5;
+  w2c_j0 += w2c_j1;
+  w2c_p0 = w2c_j0;
+  w2c_j1 = 3ull;
+  w2c_j0 += w2c_j1;
+  w2c_i0 = (u32)(w2c_j0);
+  w2c_i1 = w2c_p1;
+  w2c_i2 = 63u;
+  w2c_i1 &= w2c_i2;
+  w2c_i2 = 128u;
+  w2c_i1 |= w2c_i2;
+  i32_store8(m, (u64)(w2c_i0), w2c_i1);
+  w2c_j0 = w2c_p0;
+  w2c_j1 = 1ull;
+  w2c_j0 += w2c_j1;
+  w2c_i0 = (u32)(w2c_j0);
+  w2c_i1 = w2c_p1;
+  w2c_i2 = 12u;
+  w2c_i1 >>= (w2c_i2 & 31);
+  w2c_i2 = 224u;
+  w2c_i1 |= w2c_i2;
+  i32_store8(m, (u64)(w2c_i0), w2c_i1);
+  w2c_j0 = w2c_p0;
+  w2c_j1 = 2ull;
+  w2c_j0 += w2c_j1;
+  w2c_i0 = (u32)(w2c_j0);
+  w2c_i1 = w2c_p1;
+  w2c_i2 = 6u;
+  w2c_i1 >>= (w2c_i2 & 31);
+  w2c_i2 = 63u;
+  w2c_i1 &= w2c_i2;
+  w2c_i2 = 128u;
+  w2c_i1 |= w2c_i2;
+  i32_store8(m, (u64)(w2c_i0), w2c_i1);
+  w2c_j0 = w2c_l4;
+  w2c_i0 = (u32)(w2c_j0);
+  w2c_j1 = w2c_l5;
+  w2c_j2 = 3ull;
+  w2c_j1 += w2c_j2;
+  i64_store(m, (u64)(w2c_i0), w2c_j1);
+  goto w2c_Bfunc;
+  w2c_B2:;
+  w2c_j0 = 66116ull;
+  w2c_j1 = 65732ull;
+  w2c_j2 = w2c_p0;
+  w2c_i2 = (u32)(w2c_j2);
+  w2c_i2 = i32_load8_u(m, (u64)(w2c_i2));
+  w2c_j0 = w2c_i2 ? w2c_j0 : w2c_j1;
+  w2c_i1 = w2c_l2;
+  w2c_i2 = 10u;
+  w2c_i1 = DIV_U(w2c_i1, w2c_i2);
+  w2c_l3 = w2c_i1;
+  w2c_i2 = 2u;
+  w2c_i1 <<= (w2c_i2 & 31);
+  w2c_j1 = (u64)(w2c_i1);
+  w2c_j0 += w2c_j1;
+  w2c_i0 = (u32)(w2c_j0);
+  w2c_i0 = i32_load(m, (u64)(w2c_i0));
+  w2c_l2 = w2c_i0;
+  w2c_i1 = 4294912000u;
+  w2c_i0 += w2c_i1;
+  w2c_i1 = 4294914047u;
+  w2c_i0 = w2c_i0 <= w2c_i1;
+  if (w2c_i0) {goto w2c_B0;}
+  w2c_j0 = w2c_p0;
+  w2c_j1 = 128ull;
+  w2c_j0 += w2c_j1;
+  w2c_l4 = w2c_j0;
+  w2c_i0 = (u32)(w2c_j0);
+  w2c_j0 = i64_load(m, (u64)(w2c_i0));
+  w2c_l5 = w2c_j0;
+  w2c_j1 = 18446744073709551498ull;
+  w2c_j0 += w2c_j1;
+  w2c_j1 = 3ull;
+  w2c_i0 = w2c_j0 < w2c_j1;
+  if (w2c_i0) {goto w2c_B3;}
+  w2c_j0 = w2c_p0;
+  w2c_j1 = w2c_l5;
+  w2c_j0 += w2c_j1;
+  w2c_l6 = w2c_j0;
+  w2c_j1 = 3ull;
+  w2c_j0 += w2c_j1;
+  w2c_i0 = (u32)(w2c_j0);
+  w2c_i1 = w2c_l2;
+  w2c_i2 = 63u;
+  w2c_i1 &= w2c_i2;
+  w2c_i2 = 128u;
+  w2c_i1 |= w2c_i2;
+  i32_store8(m, (u64)(w2c_i0), w2c_i1);
+  w2c_j0 = w2c_l6;
+  w2c_j1 = 1ull;
+  w2c_j0 += w2c_j1;
+  w2c_i0 = (u32)(w2c_j0);
+  w2c_i1 = w2c_l2;
+  w2c_i2 = 12u;
+  w2c_i1 >>= (w2c_i2 & 31);
+  w2c_i2 = 224u;
+  w2c_i1 |= w2c_i2;
+  i32_store8(m, (u64)(w2c_i0), w2c_i1);
+  w2c_j0 = w2c_l6;
+  w2c_j1 = 2ull;
+  w2c_j0 += w2c_j1;
+  w2c_i0 = (u32)(w2c_j0);
+  w2c_i1 = w2c_l2;
+  w2c_i2 = 6u;
+  w2c_i1 >>= (w2c_i2 & 31);
+  w2c_i2 = 63u;
+  w2c_i1 &= w2c_i2;
+  w2c_i2 = 128u;
+  w2c_i1 |= w2c_i2;
+  i32_store8(m, (u64)(w2c_i0), w2c_i1);
+  w2c_j0 = w2c_l4;
+  w2c_i0 = (u32)(w2c_j0);
+  w2c_j1 = w2c_l5;
+  w2c_j2 = 3ull;
+  w2c_j1 += w2c_j2;
+  w2c_l6 = w2c_j1;
+  i64_store(m, (u64)(w2c_i0), w2c_j1);
+  w2c_j0 = w2c_l5;
+  w2c_j1 = 18446744073709551501ull;
+  w2c_j0 += w2c_j1;
+  w2c_j1 = 3ull;
+  w2c_i0 = w2c_j0 >= w2c_j1;
+  if (w2c_i0) {goto w2c_B4;}
+  w2c_j0 = w2c_l6;
+  w2c_l5 = w2c_j0;
+  goto w2c_B3;
+  w2c_B4:;
+  w2c_j0 = w2c_p0;
+  w2c_j1 = w2c_l6;
+  w2c_j0 += w2c_j1;
+  w2c_l4 = w2c_j0;
+  w2c_j1 = 3ull;
+  w2c_j0 += w2c_j1;
+  w2c_i0 = (u32)(w2c_j0);
+  w2c_i1 = 190u;
+  i32_store8(m, (u64)(w2c_i0), w2c_i1);
+  w2c_j0 = w2c_l4;
+  w2c_j1 = 1ull;
+  w2c_j0 += w2c_j1;
+  w2c_i0 = (u32)(w2c_j0);
+  w2c_i1 = 35814u;
+  i32_store16(m, (u64)(w2c_i0), w2c_i1);
+  w2c_j0 = w2c_p0;
+  w2c_j1 = 128ull;
+  w2c_j0 += w2c_j1;
+  w2c_i0 = (u32)(w2c_j0);
+  w2c_j1 = w2c_l5;
+  w2c_j2 = 6ull;
+  w2c_j1 += w2c_j2;
+  w2c_l5 = w2c_j1;
+  i64_store(m, (u64)(w2c_i0), w2c_j1);
+  w2c_B3:;
+  w2c_i0 = w2c_p1;
+  w2c_i1 = w2c_l3;
+  w2c_i2 = 10u;
+  w2c_i1 *= w2c_i2;
+  w2c_i0 -= w2c_i1;
+  w2c_p1 = w2c_i0;
+  w2c_i1 = 255u;
+  w2c_i0 &= w2c_i1;
+  w2c_i0 = !(w2c_i0);
+  if (w2c_i0) {goto w2c_B1;}
+  w2c_j0 = 66116ull;
+  w2c_j1 = 65732ull;
+  w2c_j2 = w2c_p0;
+  w2c_i2 = (u32)(w2c_j2);
+  w2c_i2 = i32_load8_u(m, (u64)(w2c_i2));
+  w2c_j0 = w2c_i2 ? w2c_j0 : w2c_j1;
+  w2c_i1 = w2c_p1;
+  w2c_i2 = 2u;
+  w2c_i1 <<= (w2c_i2 & 31);
+  w2c_j1 = (u64)(w2c_i1);
+  w2c_j2 = 252ull;
+  w2c_j1 &= w2c_j2;
+  w2c_j0 += w2c_j1;
+  w2c_i0 = (u32)(w2c_j0);
+  w2c_i0 = i32_load(m, (u64)(w2c_i0));
+  w2c_p1 = w2c_i0;
+  w2c_i1 = 4294912000u;
+  w2c_i0 += w2c_i1;
+  w2c_i1 = 4294914047u;
+  w2c_i0 = w2c_i0 <= w2c_i1;
+  if (w2c_i0) {goto w2c_B0;}
+  w2c_j0 = w2c_l5;
+  w2c_j1 = 18446744073709551498ull;
+  w2c_j0 += w2c_j1;
+  w2c_j1 = 3ull;
+  w2c_i0 = w2c_j0 < w2c_j1;
+  if (w2c_i0) {goto w2c_B1;}
+  w2c_j0 = w2c_p0;
+  w2c_j1 = w2c_l5;
+  w2c_j0 += w2c_j1;
+  w2c_l4 = w2c_j0;
+  w2c_j1 = 3ull;
+  w2c_j0 += w2c_j1;
+  w2c_i0 = (u32)(w2c_j0);
+  w2c_i1 = w2c_p1;
+  w2c_i2 = 63u;
+  w2c_i1 &= w2c_i2;
+  w2c_i2 = 128u;
+  w2c_i1 |= w2c_i2;
+  i32_store8(m, (u64)(w2c_i0), w2c_i1);
+  w2c_j0 = w2c_l4;
+  w2c_j1 = 1ull;
+  w2c_j0 += w2c_j1;
+  w2c_i0 = (u32)(w2c_j0);
+  w2c_i1 = w2c_p1;
+  w2c_i2 = 12u;
+  w2c_i1 >>= (w2c_i2 & 31);
+  w2c_i2 = 224u;
+  w2c_i1 |= w2c_i2;
+  i32_store8(m, (u64)(w2c_i0), w2c_i1);
+  w2c_j0 = w2c_l4;
+  w2c_j1 = 2ull;
+  w2c_j0 += w2c_j1;
+  w2c_i0 = (u32)(w2c_j0);
+  w2c_i1 = w2c_p1;
+  w2c_i2 = 6u;
+  w2c_i1 >>= (w2c_i2 & 31);
+  w2c_i2 = 63u;
+  w2c_i1 &= w2c_i2;
+  w2c_i2 = 128u;
+  w2c_i1 |= w2c_i2;
+  i32_store8(m, (u64)(w2c_i0), w2c_i1);
+  w2c_j0 = w2c_p0;
+  w2c_j1 = 128ull;
+  w2c_j0 += w2c_j1;
+  w2c_i0 = (u32)(w2c_j0);
+  w2c_j1 = w2c_l5;
+  w2c_j2 = 3ull;
+  w2c_j1 += w2c_j2;
+  i64_store(m, (u64)(w2c_i0), w2c_j1);
+  w2c_B1:;
+  goto w2c_Bfunc;
+  w2c_B0:;
+  UNREACHABLE;
+  w2c_Bfunc:;
+}
+
+static void w2c_f8(module *m, u64 w2c_p0, u64 w2c_p1) {
   u32 w2c_l3 = 0, w2c_l4 = 0;
   u64 w2c_l2 = 0;
   u32 w2c_i0, w2c_i1, w2c_i2, w2c_i3, w2c_i4;
@@ -1042,7 +1443,7 @@ static void w2c_f6(module *m, u64 w2c_p0, u64 w2c_p1) {
   w2c_Bfunc:;
 }
 
-static void w2c_f7(module *m, u64 w2c_p0, u32 w2c_p1, u64 w2c_p2) {
+static void w2c_f9(module *m, u64 w2c_p0, u32 w2c_p1, u64 w2c_p2) {
   u32 w2c_l7 = 0, w2c_l8 = 0, w2c_l9 = 0, w2c_l10 = 0, w2c_l11 = 0, w2c_l12 = 0;
   u64 w2c_l3 = 0, w2c_l4 = 0, w2c_l5 = 0, w2c_l6 = 0;
   u32 w2c_i0, w2c_i1, w2c_i2, w2c_i3, w2c_i4;
@@ -1206,7 +1607,7 @@ static void w2c_f7(module *m, u64 w2c_p0, u32 w2c_p1, u64 w2c_p2) {
   w2c_j2 = w2c_l3;
   w2c_j3 = 12ull;
   w2c_j2 += w2c_j3;
-  w2c_f8(m, w2c_j0, w2c_i1, w2c_j2);
+  w2c_f10(m, w2c_j0, w2c_i1, w2c_j2);
   w2c_j0 = w2c_p0;
   w2c_j1 = 128ull;
   w2c_j0 += w2c_j1;
@@ -1282,7 +1683,7 @@ static void w2c_f7(module *m, u64 w2c_p0, u32 w2c_p1, u64 w2c_p2) {
   w2c_j2 = w2c_l3;
   w2c_j3 = 12ull;
   w2c_j2 += w2c_j3;
-  w2c_f8(m, w2c_j0, w2c_i1, w2c_j2);
+  w2c_f10(m, w2c_j0, w2c_i1, w2c_j2);
   w2c_i0 = w2c_l12;
   w2c_i1 = w2c_l11;
   w2c_i0 |= w2c_i1;
@@ -1382,7 +1783,7 @@ static void w2c_f7(module *m, u64 w2c_p0, u32 w2c_p1, u64 w2c_p2) {
   w2c_j2 = w2c_l3;
   w2c_j3 = 12ull;
   w2c_j2 += w2c_j3;
-  w2c_f8(m, w2c_j0, w2c_i1, w2c_j2);
+  w2c_f10(m, w2c_j0, w2c_i1, w2c_j2);
   w2c_j0 = w2c_p0;
   w2c_j1 = 128ull;
   w2c_j0 += w2c_j1;
@@ -1462,7 +1863,7 @@ static void w2c_f7(module *m, u64 w2c_p0, u32 w2c_p1, u64 w2c_p2) {
   w2c_j2 = w2c_l3;
   w2c_j3 = 12ull;
   w2c_j2 += w2c_j3;
-  w2c_f8(m, w2c_j0, w2c_i1, w2c_j2);
+  w2c_f10(m, w2c_j0, w2c_i1, w2c_j2);
   w2c_i0 = w2c_l8;
   w2c_i1 = w2c_l7;
   w2c_i0 |= w2c_i1;
@@ -1657,8 +2058,8 @@ static void w2c_f7(module *m, u64 w2c_p0, u32 w2c_p1, u64 w2c_p2) {
   w2c_i0 &= w2c_i1;
   w2c_i0 = !(w2c_i0);
   if (w2c_i0) {goto w2c_B11;}
-  w2c_j0 = 66140ull;
-  w2c_j1 = 65756ull;
+  w2c_j0 = 66116ull;
+  w2c_j1 = 65732ull;
   w2c_j2 = w2c_p0;
   w2c_i2 = (u32)(w2c_j2);
   w2c_i2 = i32_load8_u(m, (u64)(w2c_i2));
@@ -1818,8 +2219,8 @@ static void w2c_f7(module *m, u64 w2c_p0, u32 w2c_p1, u64 w2c_p2) {
   w2c_j1 += w2c_j2;
   i64_store(m, (u64)(w2c_i0), w2c_j1);
   w2c_B13:;
-  w2c_j0 = 66140ull;
-  w2c_j1 = 65756ull;
+  w2c_j0 = 66116ull;
+  w2c_j1 = 65732ull;
   w2c_j2 = w2c_p0;
   w2c_i2 = (u32)(w2c_j2);
   w2c_i2 = i32_load8_u(m, (u64)(w2c_i2));
@@ -1976,7 +2377,7 @@ static void w2c_f7(module *m, u64 w2c_p0, u32 w2c_p1, u64 w2c_p2) {
   w2c_Bfunc:;
 }
 
-static void w2c_f8(module *m, u64 w2c_p0, u32 w2c_p1, u64 w2c_p2) {
+static void w2c_f10(module *m, u64 w2c_p0, u32 w2c_p1, u64 w2c_p2) {
   u32 w2c_l3 = 0, w2c_l4 = 0, w2c_l5 = 0, w2c_l6 = 0, w2c_l7 = 0;
   u64 w2c_l8 = 0, w2c_l9 = 0, w2c_l10 = 0;
   u32 w2c_i0, w2c_i1, w2c_i2;
@@ -2046,8 +2447,8 @@ static void w2c_f8(module *m, u64 w2c_p0, u32 w2c_p1, u64 w2c_p2) {
   w2c_j1 += w2c_j2;
   i64_store(m, (u64)(w2c_i0), w2c_j1);
   w2c_B2:;
-  w2c_j0 = 66140ull;
-  w2c_j1 = 65756ull;
+  w2c_j0 = 66116ull;
+  w2c_j1 = 65732ull;
   w2c_j2 = w2c_p0;
   w2c_i2 = (u32)(w2c_j2);
   w2c_i2 = i32_load8_u(m, (u64)(w2c_i2));
@@ -2199,8 +2600,8 @@ static void w2c_f8(module *m, u64 w2c_p0, u32 w2c_p1, u64 w2c_p2) {
   w2c_j1 += w2c_j2;
   i64_store(m, (u64)(w2c_i0), w2c_j1);
   w2c_B4:;
-  w2c_j0 = 66140ull;
-  w2c_j1 = 65756ull;
+  w2c_j0 = 66116ull;
+  w2c_j1 = 65732ull;
   w2c_j2 = w2c_p0;
   w2c_i2 = (u32)(w2c_j2);
   w2c_i2 = i32_load8_u(m, (u64)(w2c_i2));
@@ -2363,8 +2764,8 @@ static void w2c_f8(module *m, u64 w2c_p0, u32 w2c_p1, u64 w2c_p2) {
   w2c_j1 += w2c_j2;
   i64_store(m, (u64)(w2c_i0), w2c_j1);
   w2c_B6:;
-  w2c_j0 = 66140ull;
-  w2c_j1 = 65756ull;
+  w2c_j0 = 66116ull;
+  w2c_j1 = 65732ull;
   w2c_j2 = w2c_p0;
   w2c_i2 = (u32)(w2c_j2);
   w2c_i2 = i32_load8_u(m, (u64)(w2c_i2));
@@ -2522,8 +2923,8 @@ static void w2c_f8(module *m, u64 w2c_p0, u32 w2c_p1, u64 w2c_p2) {
   w2c_j1 += w2c_j2;
   i64_store(m, (u64)(w2c_i0), w2c_j1);
   w2c_B8:;
-  w2c_j0 = 66140ull;
-  w2c_j1 = 65756ull;
+  w2c_j0 = 66116ull;
+  w2c_j1 = 65732ull;
   w2c_j2 = w2c_p0;
   w2c_i2 = (u32)(w2c_j2);
   w2c_i2 = i32_load8_u(m, (u64)(w2c_i2));
@@ -2594,405 +2995,6 @@ static void w2c_f8(module *m, u64 w2c_p0, u32 w2c_p1, u64 w2c_p2) {
   w2c_j1 += w2c_j2;
   i64_store(m, (u64)(w2c_i0), w2c_j1);
   w2c_B7:;
-  goto w2c_Bfunc;
-  w2c_B0:;
-  UNREACHABLE;
-  w2c_Bfunc:;
-}
-
-static void w2c_f9(module *m, u64 w2c_p0, u32 w2c_p1) {
-  u32 w2c_l5 = 0;
-  u64 w2c_l2 = 0, w2c_l3 = 0, w2c_l4 = 0;
-  u32 w2c_i0, w2c_i1, w2c_i2, w2c_i3;
-  u64 w2c_j0, w2c_j1, w2c_j2;
-  w2c_j0 = m->w2c_g0;
-  w2c_l2 = w2c_j0;
-  w2c_j1 = 16ull;
-  w2c_i0 = (u64)((s64)w2c_j0 < (s64)w2c_j1);
-  if (w2c_i0) {goto w2c_B0;}
-  w2c_i0 = w2c_p1;
-  w2c_i1 = 65535u;
-  w2c_i0 &= w2c_i1;
-  w2c_l5 = w2c_i0;
-  w2c_i0 = !(w2c_i0);
-  if (w2c_i0) {goto w2c_B1;}
-  w2c_j0 = w2c_p0;
-  w2c_i1 = w2c_l5;
-  w2c_i2 = 10u;
-  w2c_i1 = DIV_U(w2c_i1, w2c_i2);
-  w2c_l5 = w2c_i1;
-  w2c_f9(m, w2c_j0, w2c_i1);
-  w2c_j0 = 66140ull;
-  w2c_j1 = 65756ull;
-  w2c_j2 = w2c_p0;
-  w2c_i2 = (u32)(w2c_j2);
-  w2c_i2 = i32_load8_u(m, (u64)(w2c_i2));
-  w2c_j0 = w2c_i2 ? w2c_j0 : w2c_j1;
-  w2c_i1 = w2c_p1;
-  w2c_i2 = w2c_l5;
-  w2c_i3 = 10u;
-  w2c_i2 *= w2c_i3;
-  w2c_i1 -= w2c_i2;
-  w2c_i2 = 2u;
-  w2c_i1 <<= (w2c_i2 & 31);
-  w2c_j1 = (u64)(w2c_i1);
-  w2c_j2 = 65532ull;
-  w2c_j1 &= w2c_j2;
-  w2c_j0 += w2c_j1;
-  w2c_i0 = (u32)(w2c_j0);
-  w2c_i0 = i32_load(m, (u64)(w2c_i0));
-  w2c_p1 = w2c_i0;
-  w2c_i1 = 4294912000u;
-  w2c_i0 += w2c_i1;
-  w2c_i1 = 4294914047u;
-  w2c_i0 = w2c_i0 <= w2c_i1;
-  if (w2c_i0) {goto w2c_B0;}
-  w2c_j0 = w2c_p0;
-  w2c_j1 = 128ull;
-  w2c_j0 += w2c_j1;
-  w2c_l3 = w2c_j0;
-  w2c_i0 = (u32)(w2c_j0);
-  w2c_j0 = i64_load(m, (u64)(w2c_i0));
-  w2c_l4 = w2c_j0;
-  w2c_j1 = 18446744073709551498ull;
-  w2c_j0 += w2c_j1;
-  w2c_j1 = 3ull;
-  w2c_i0 = w2c_j0 < w2c_j1;
-  if (w2c_i0) {goto w2c_B1;}
-  w2c_j0 = w2c_p0;
-  w2c_j1 = w2c_l4;
-  w2c_j0 += w2c_j1;
-  w2c_p0 = w2c_j0;
-  w2c_j1 = 3ull;
-  w2c_j0 += w2c_j1;
-  w2c_i0 = (u32)(w2c_j0);
-  w2c_i1 = w2c_p1;
-  w2c_i2 = 63u;
-  w2c_i1 &= w2c_i2;
-  w2c_i2 = 128u;
-  w2c_i1 |= w2c_i2;
-  i32_store8(m, (u64)(w2c_i0), w2c_i1);
-  w2c_j0 = w2c_p0;
-  w2c_j1 = 1ull;
-  w2c_j0 += w2c_j1;
-  w2c_i0 = (u32)(w2c_j0);
-  w2c_i1 = w2c_p1;
-  w2c_i2 = 12u;
-  w2c_i1 >>= (w2c_i2 & 31);
-  w2c_i2 = 224u;
-  w2c_i1 |= w2c_i2;
-  i32_store8(m, (u64)(w2c_i0), w2c_i1);
-  w2c_j0 = w2c_p0;
-  w2c_j1 = 2ull;
-  w2c_j0 += w2c_j1;
-  w2c_i0 = (u32)(w2c_j0);
-  w2c_i1 = w2c_p1;
-  w2c_i2 = 6u;
-  w2c_i1 >>= (w2c_i2 & 31);
-  w2c_i2 = 63u;
-  w2c_i1 &= w2c_i2;
-  w2c_i2 = 128u;
-  w2c_i1 |= w2c_i2;
-  i32_store8(m, (u64)(w2c_i0), w2c_i1);
-  w2c_j0 = w2c_l3;
-  w2c_i0 = (u32)(w2c_j0);
-  w2c_j1 = w2c_l4;
-  w2c_j2 = 3ull;
-  w2c_j1 += w2c_j2;
-  i64_store(m, (u64)(w2c_i0), w2c_j1);
-  w2c_B1:;
-  w2c_j0 = w2c_l2;
-  m->w2c_g0 = w2c_j0;
-  goto w2c_Bfunc;
-  w2c_B0:;
-  UNREACHABLE;
-  w2c_Bfunc:;
-}
-
-static void w2c_f10(module *m, u64 w2c_p0, u32 w2c_p1) {
-  u32 w2c_l2 = 0, w2c_l3 = 0;
-  u64 w2c_l4 = 0, w2c_l5 = 0, w2c_l6 = 0;
-  u32 w2c_i0, w2c_i1, w2c_i2;
-  u64 w2c_j0, w2c_j1, w2c_j2;
-  w2c_j0 = m->w2c_g0;
-  w2c_j1 = 16ull;
-  w2c_i0 = (u64)((s64)w2c_j0 < (s64)w2c_j1);
-  if (w2c_i0) {goto w2c_B0;}
-  w2c_i0 = w2c_p1;
-  w2c_i1 = 255u;
-  w2c_i0 &= w2c_i1;
-  w2c_l2 = w2c_i0;
-  w2c_i1 = 9u;
-  w2c_i0 = w2c_i0 > w2c_i1;
-  if (w2c_i0) {goto w2c_B2;}
-  w2c_j0 = 66140ull;
-  w2c_j1 = 65756ull;
-  w2c_j2 = w2c_p0;
-  w2c_i2 = (u32)(w2c_j2);
-  w2c_i2 = i32_load8_u(m, (u64)(w2c_i2));
-  w2c_j0 = w2c_i2 ? w2c_j0 : w2c_j1;
-  w2c_i1 = w2c_p1;
-  w2c_i2 = 2u;
-  w2c_i1 <<= (w2c_i2 & 31);
-  w2c_j1 = (u64)(w2c_i1);
-  w2c_j2 = 252ull;
-  w2c_j1 &= w2c_j2;
-  w2c_j0 += w2c_j1;
-  w2c_i0 = (u32)(w2c_j0);
-  w2c_i0 = i32_load(m, (u64)(w2c_i0));
-  w2c_p1 = w2c_i0;
-  w2c_i1 = 4294912000u;
-  w2c_i0 += w2c_i1;
-  w2c_i1 = 4294914047u;
-  w2c_i0 = w2c_i0 <= w2c_i1;
-  if (w2c_i0) {goto w2c_B0;}
-  w2c_j0 = w2c_p0;
-  w2c_j1 = 128ull;
-  w2c_j0 += w2c_j1;
-  w2c_l4 = w2c_j0;
-  w2c_i0 = (u32)(w2c_j0);
-  w2c_j0 = i64_load(m, (u64)(w2c_i0));
-  w2c_l5 = w2c_j0;
-  w2c_j1 = 18446744073709551498ull;
-  w2c_j0 += w2c_j1;
-  w2c_j1 = 3ull;
-  w2c_i0 = w2c_j0 < w2c_j1;
-  if (w2c_i0) {goto w2c_B1;}
-  w2c_j0 = w2c_p0;
-  w2c_j1 = w2c_l5;
-  w2c_j0 += w2c_j1;
-  w2c_p0 = w2c_j0;
-  w2c_j1 = 3ull;
-  w2c_j0 += w2c_j1;
-  w2c_i0 = (u32)(w2c_j0);
-  w2c_i1 = w2c_p1;
-  w2c_i2 = 63u;
-  w2c_i1 &= w2c_i2;
-  w2c_i2 = 128u;
-  w2c_i1 |= w2c_i2;
-  i32_store8(m, (u64)(w2c_i0), w2c_i1);
-  w2c_j0 = w2c_p0;
-  w2c_j1 = 1ull;
-  w2c_j0 += w2c_j1;
-  w2c_i0 = (u32)(w2c_j0);
-  w2c_i1 = w2c_p1;
-  w2c_i2 = 12u;
-  w2c_i1 >>= (w2c_i2 & 31);
-  w2c_i2 = 224u;
-  w2c_i1 |= w2c_i2;
-  i32_store8(m, (u64)(w2c_i0), w2c_i1);
-  w2c_j0 = w2c_p0;
-  w2c_j1 = 2ull;
-  w2c_j0 += w2c_j1;
-  w2c_i0 = (u32)(w2c_j0);
-  w2c_i1 = w2c_p1;
-  w2c_i2 = 6u;
-  w2c_i1 >>= (w2c_i2 & 31);
-  w2c_i2 = 63u;
-  w2c_i1 &= w2c_i2;
-  w2c_i2 = 128u;
-  w2c_i1 |= w2c_i2;
-  i32_store8(m, (u64)(w2c_i0), w2c_i1);
-  w2c_j0 = w2c_l4;
-  w2c_i0 = (u32)(w2c_j0);
-  w2c_j1 = w2c_l5;
-  w2c_j2 = 3ull;
-  w2c_j1 += w2c_j2;
-  i64_store(m, (u64)(w2c_i0), w2c_j1);
-  goto w2c_Bfunc;
-  w2c_B2:;
-  w2c_j0 = 66140ull;
-  w2c_j1 = 65756ull;
-  w2c_j2 = w2c_p0;
-  w2c_i2 = (u32)(w2c_j2);
-  w2c_i2 = i32_load8_u(m, (u64)(w2c_i2));
-  w2c_j0 = w2c_i2 ? w2c_j0 : w2c_j1;
-  w2c_i1 = w2c_l2;
-  w2c_i2 = 10u;
-  w2c_i1 = DIV_U(w2c_i1, w2c_i2);
-  w2c_l3 = w2c_i1;
-  w2c_i2 = 2u;
-  w2c_i1 <<= (w2c_i2 & 31);
-  w2c_j1 = (u64)(w2c_i1);
-  w2c_j0 += w2c_j1;
-  w2c_i0 = (u32)(w2c_j0);
-  w2c_i0 = i32_load(m, (u64)(w2c_i0));
-  w2c_l2 = w2c_i0;
-  w2c_i1 = 4294912000u;
-  w2c_i0 += w2c_i1;
-  w2c_i1 = 4294914047u;
-  w2c_i0 = w2c_i0 <= w2c_i1;
-  if (w2c_i0) {goto w2c_B0;}
-  w2c_j0 = w2c_p0;
-  w2c_j1 = 128ull;
-  w2c_j0 += w2c_j1;
-  w2c_l4 = w2c_j0;
-  w2c_i0 = (u32)(w2c_j0);
-  w2c_j0 = i64_load(m, (u64)(w2c_i0));
-  w2c_l5 = w2c_j0;
-  w2c_j1 = 18446744073709551498ull;
-  w2c_j0 += w2c_j1;
-  w2c_j1 = 3ull;
-  w2c_i0 = w2c_j0 < w2c_j1;
-  if (w2c_i0) {goto w2c_B3;}
-  w2c_j0 = w2c_p0;
-  w2c_j1 = w2c_l5;
-  w2c_j0 += w2c_j1;
-  w2c_l6 = w2c_j0;
-  w2c_j1 = 3ull;
-  w2c_j0 += w2c_j1;
-  w2c_i0 = (u32)(w2c_j0);
-  w2c_i1 = w2c_l2;
-  w2c_i2 = 63u;
-  w2c_i1 &= w2c_i2;
-  w2c_i2 = 128u;
-  w2c_i1 |= w2c_i2;
-  i32_store8(m, (u64)(w2c_i0), w2c_i1);
-  w2c_j0 = w2c_l6;
-  w2c_j1 = 1ull;
-  w2c_j0 += w2c_j1;
-  w2c_i0 = (u32)(w2c_j0);
-  w2c_i1 = w2c_l2;
-  w2c_i2 = 12u;
-  w2c_i1 >>= (w2c_i2 & 31);
-  w2c_i2 = 224u;
-  w2c_i1 |= w2c_i2;
-  i32_store8(m, (u64)(w2c_i0), w2c_i1);
-  w2c_j0 = w2c_l6;
-  w2c_j1 = 2ull;
-  w2c_j0 += w2c_j1;
-  w2c_i0 = (u32)(w2c_j0);
-  w2c_i1 = w2c_l2;
-  w2c_i2 = 6u;
-  w2c_i1 >>= (w2c_i2 & 31);
-  w2c_i2 = 63u;
-  w2c_i1 &= w2c_i2;
-  w2c_i2 = 128u;
-  w2c_i1 |= w2c_i2;
-  i32_store8(m, (u64)(w2c_i0), w2c_i1);
-  w2c_j0 = w2c_l4;
-  w2c_i0 = (u32)(w2c_j0);
-  w2c_j1 = w2c_l5;
-  w2c_j2 = 3ull;
-  w2c_j1 += w2c_j2;
-  w2c_l6 = w2c_j1;
-  i64_store(m, (u64)(w2c_i0), w2c_j1);
-  w2c_j0 = w2c_l5;
-  w2c_j1 = 18446744073709551501ull;
-  w2c_j0 += w2c_j1;
-  w2c_j1 = 3ull;
-  w2c_i0 = w2c_j0 >= w2c_j1;
-  if (w2c_i0) {goto w2c_B4;}
-  w2c_j0 = w2c_l6;
-  w2c_l5 = w2c_j0;
-  goto w2c_B3;
-  w2c_B4:;
-  w2c_j0 = w2c_p0;
-  w2c_j1 = w2c_l6;
-  w2c_j0 += w2c_j1;
-  w2c_l4 = w2c_j0;
-  w2c_j1 = 3ull;
-  w2c_j0 += w2c_j1;
-  w2c_i0 = (u32)(w2c_j0);
-  w2c_i1 = 190u;
-  i32_store8(m, (u64)(w2c_i0), w2c_i1);
-  w2c_j0 = w2c_l4;
-  w2c_j1 = 1ull;
-  w2c_j0 += w2c_j1;
-  w2c_i0 = (u32)(w2c_j0);
-  w2c_i1 = 35814u;
-  i32_store16(m, (u64)(w2c_i0), w2c_i1);
-  w2c_j0 = w2c_p0;
-  w2c_j1 = 128ull;
-  w2c_j0 += w2c_j1;
-  w2c_i0 = (u32)(w2c_j0);
-  w2c_j1 = w2c_l5;
-  w2c_j2 = 6ull;
-  w2c_j1 += w2c_j2;
-  w2c_l5 = w2c_j1;
-  i64_store(m, (u64)(w2c_i0), w2c_j1);
-  w2c_B3:;
-  w2c_i0 = w2c_p1;
-  w2c_i1 = w2c_l3;
-  w2c_i2 = 10u;
-  w2c_i1 *= w2c_i2;
-  w2c_i0 -= w2c_i1;
-  w2c_p1 = w2c_i0;
-  w2c_i1 = 255u;
-  w2c_i0 &= w2c_i1;
-  w2c_i0 = !(w2c_i0);
-  if (w2c_i0) {goto w2c_B1;}
-  w2c_j0 = 66140ull;
-  w2c_j1 = 65756ull;
-  w2c_j2 = w2c_p0;
-  w2c_i2 = (u32)(w2c_j2);
-  w2c_i2 = i32_load8_u(m, (u64)(w2c_i2));
-  w2c_j0 = w2c_i2 ? w2c_j0 : w2c_j1;
-  w2c_i1 = w2c_p1;
-  w2c_i2 = 2u;
-  w2c_i1 <<= (w2c_i2 & 31);
-  w2c_j1 = (u64)(w2c_i1);
-  w2c_j2 = 252ull;
-  w2c_j1 &= w2c_j2;
-  w2c_j0 += w2c_j1;
-  w2c_i0 = (u32)(w2c_j0);
-  w2c_i0 = i32_load(m, (u64)(w2c_i0));
-  w2c_p1 = w2c_i0;
-  w2c_i1 = 4294912000u;
-  w2c_i0 += w2c_i1;
-  w2c_i1 = 4294914047u;
-  w2c_i0 = w2c_i0 <= w2c_i1;
-  if (w2c_i0) {goto w2c_B0;}
-  w2c_j0 = w2c_l5;
-  w2c_j1 = 18446744073709551498ull;
-  w2c_j0 += w2c_j1;
-  w2c_j1 = 3ull;
-  w2c_i0 = w2c_j0 < w2c_j1;
-  if (w2c_i0) {goto w2c_B1;}
-  w2c_j0 = w2c_p0;
-  w2c_j1 = w2c_l5;
-  w2c_j0 += w2c_j1;
-  w2c_l4 = w2c_j0;
-  w2c_j1 = 3ull;
-  w2c_j0 += w2c_j1;
-  w2c_i0 = (u32)(w2c_j0);
-  w2c_i1 = w2c_p1;
-  w2c_i2 = 63u;
-  w2c_i1 &= w2c_i2;
-  w2c_i2 = 128u;
-  w2c_i1 |= w2c_i2;
-  i32_store8(m, (u64)(w2c_i0), w2c_i1);
-  w2c_j0 = w2c_l4;
-  w2c_j1 = 1ull;
-  w2c_j0 += w2c_j1;
-  w2c_i0 = (u32)(w2c_j0);
-  w2c_i1 = w2c_p1;
-  w2c_i2 = 12u;
-  w2c_i1 >>= (w2c_i2 & 31);
-  w2c_i2 = 224u;
-  w2c_i1 |= w2c_i2;
-  i32_store8(m, (u64)(w2c_i0), w2c_i1);
-  w2c_j0 = w2c_l4;
-  w2c_j1 = 2ull;
-  w2c_j0 += w2c_j1;
-  w2c_i0 = (u32)(w2c_j0);
-  w2c_i1 = w2c_p1;
-  w2c_i2 = 6u;
-  w2c_i1 >>= (w2c_i2 & 31);
-  w2c_i2 = 63u;
-  w2c_i1 &= w2c_i2;
-  w2c_i2 = 128u;
-  w2c_i1 |= w2c_i2;
-  i32_store8(m, (u64)(w2c_i0), w2c_i1);
-  w2c_j0 = w2c_p0;
-  w2c_j1 = 128ull;
-  w2c_j0 += w2c_j1;
-  w2c_i0 = (u32)(w2c_j0);
-  w2c_j1 = w2c_l5;
-  w2c_j2 = 3ull;
-  w2c_j1 += w2c_j2;
-  i64_store(m, (u64)(w2c_i0), w2c_j1);
-  w2c_B1:;
   goto w2c_Bfunc;
   w2c_B0:;
   UNREACHABLE;
@@ -7072,7 +7074,130 @@ static u32 w2c_f12(module *m, u64 w2c_p0, u64 w2c_p1) {
   return w2c_i0;
 }
 
-static void w2c_f13(module *m, u64 w2c_p0, u64 w2c_p1, u64 w2c_p2) {
+static u32 w2c_f13(module *m, u64 w2c_p0, u32 w2c_p1, u64 w2c_p2, u64 w2c_p3, u64 w2c_p4, u64 w2c_p5) {
+  u32 w2c_l7 = 0, w2c_l8 = 0;
+  u64 w2c_l6 = 0;
+  u32 w2c_i0, w2c_i1, w2c_i2, w2c_i3;
+  u64 w2c_j0, w2c_j1, w2c_j2, w2c_j3;
+  w2c_j0 = m->w2c_g0;
+  w2c_j1 = 304ull;
+  w2c_j0 -= w2c_j1;
+  w2c_l6 = w2c_j0;
+  m->w2c_g0 = w2c_j0;
+  w2c_j0 = w2c_l6;
+  w2c_l6 = w2c_j0;
+  w2c_j1 = 16ull;
+  w2c_i0 = (u64)((s64)w2c_j0 < (s64)w2c_j1);
+  if (w2c_i0) {goto w2c_B0;}
+  w2c_j0 = w2c_p2;
+  w2c_i0 = (u32)(w2c_j0);
+  w2c_i0 = i32_load8_u(m, (u64)(w2c_i0));
+  w2c_l7 = w2c_i0;
+  w2c_j0 = w2c_p2;
+  w2c_i0 = (u32)(w2c_j0);
+  w2c_i0 = i32_load16_u(m, (u64)(w2c_i0) + 1u);
+  w2c_l8 = w2c_i0;
+  w2c_j0 = w2c_l6;
+  w2c_i0 = (u32)(w2c_j0);
+  w2c_i1 = 0u;
+  i32_store16(m, (u64)(w2c_i0) + 160, w2c_i1);
+  w2c_j0 = w2c_l6;
+  w2c_i0 = (u32)(w2c_j0);
+  w2c_j1 = 0ull;
+  i64_store(m, (u64)(w2c_i0) + 152, w2c_j1);
+  w2c_j0 = w2c_l6;
+  w2c_i0 = (u32)(w2c_j0);
+  w2c_j1 = 0ull;
+  i64_store(m, (u64)(w2c_i0) + 144, w2c_j1);
+  w2c_j0 = w2c_l6;
+  w2c_i0 = (u32)(w2c_j0);
+  w2c_i1 = w2c_l8;
+  w2c_i2 = 16u;
+  w2c_i1 <<= (w2c_i2 & 31);
+  w2c_i2 = w2c_p1;
+  w2c_i3 = 255u;
+  w2c_i2 &= w2c_i3;
+  w2c_i1 |= w2c_i2;
+  w2c_i2 = w2c_l7;
+  w2c_i3 = 8u;
+  w2c_i2 <<= (w2c_i3 & 31);
+  w2c_i1 |= w2c_i2;
+  i32_store(m, (u64)(w2c_i0) + 168, w2c_i1);
+  w2c_j0 = w2c_l6;
+  w2c_j1 = 168ull;
+  w2c_j0 += w2c_j1;
+  w2c_j1 = 4ull;
+  w2c_j0 |= w2c_j1;
+  w2c_p2 = w2c_j0;
+  w2c_i0 = (u32)(w2c_j0);
+  w2c_i1 = 0u;
+  w2c_j2 = 132ull;
+  w2c_i2 = (u32)(w2c_j2);
+  memory_fill(m, w2c_i0, w2c_i1, w2c_i2);
+  w2c_j0 = w2c_l6;
+  w2c_j1 = 144ull;
+  w2c_j0 += w2c_j1;
+  w2c_j1 = w2c_p0;
+  w2c_f8(m, w2c_j0, w2c_j1);
+  w2c_j0 = w2c_l6;
+  w2c_j1 = 168ull;
+  w2c_j0 += w2c_j1;
+  w2c_i1 = w2c_l7;
+  w2c_j2 = w2c_l6;
+  w2c_j3 = 144ull;
+  w2c_j2 += w2c_j3;
+  w2c_f9(m, w2c_j0, w2c_i1, w2c_j2);
+  w2c_j0 = w2c_l6;
+  w2c_j1 = 12ull;
+  w2c_j0 += w2c_j1;
+  w2c_i0 = (u32)(w2c_j0);
+  w2c_j1 = w2c_p2;
+  w2c_i1 = (u32)(w2c_j1);
+  w2c_j2 = 132ull;
+  w2c_i2 = (u32)(w2c_j2);
+  memory_copy(m, w2c_i0, w2c_i1, w2c_i2);
+  w2c_j0 = w2c_p5;
+  w2c_i0 = (u32)(w2c_j0);
+  w2c_j1 = w2c_l6;
+  w2c_i1 = (u32)(w2c_j1);
+  w2c_j1 = i64_load(m, (u64)(w2c_i1) + 136u);
+  w2c_p2 = w2c_j1;
+  i64_store(m, (u64)(w2c_i0), w2c_j1);
+  w2c_i0 = 6u;
+  w2c_l7 = w2c_i0;
+  w2c_j0 = w2c_p4;
+  w2c_j1 = w2c_p2;
+  w2c_i0 = w2c_j0 < w2c_j1;
+  if (w2c_i0) {goto w2c_B1;}
+  w2c_j0 = w2c_p2;
+  w2c_i0 = !(w2c_j0);
+  if (w2c_i0) {goto w2c_B2;}
+  w2c_j0 = w2c_p3;
+  w2c_i0 = (u32)(w2c_j0);
+  w2c_j1 = w2c_l6;
+  w2c_j2 = 12ull;
+  w2c_j1 += w2c_j2;
+  w2c_i1 = (u32)(w2c_j1);
+  w2c_j2 = w2c_p2;
+  w2c_i2 = (u32)(w2c_j2);
+  memory_copy(m, w2c_i0, w2c_i1, w2c_i2);
+  w2c_B2:;
+  w2c_i0 = 0u;
+  w2c_l7 = w2c_i0;
+  w2c_B1:;
+  w2c_j0 = w2c_l6;
+  w2c_j1 = 304ull;
+  w2c_j0 += w2c_j1;
+  m->w2c_g0 = w2c_j0;
+  w2c_i0 = w2c_l7;
+  goto w2c_Bfunc;
+  w2c_B0:;
+  UNREACHABLE;
+  w2c_Bfunc:;
+  return w2c_i0;
+}
+
+static void w2c_f14(module *m, u64 w2c_p0, u64 w2c_p1, u64 w2c_p2) {
   u32 w2c_l9 = 0, w2c_l10 = 0, w2c_l11 = 0, w2c_l12 = 0, w2c_l13 = 0, w2c_l14 = 0;
   u64 w2c_l3 = 0, w2c_l4 = 0, w2c_l5 = 0, w2c_l6 = 0, w2c_l7 = 0, w2c_l8 = 0;
   u32 w2c_i0, w2c_i1, w2c_i2, w2c_i3, w2c_i4;
@@ -7683,11 +7808,354 @@ static void w2c_f13(module *m, u64 w2c_p0, u64 w2c_p1, u64 w2c_p2) {
   w2c_Bfunc:;
 }
 
-static u32 w2c_f14(module *m, u64 w2c_p0, u64 w2c_p1, u64 w2c_p2, u32 w2c_p3, u32 w2c_p4, u64 w2c_p5, u64 w2c_p6, u64 w2c_p7) {
-  u32 w2c_l17 = 0, w2c_l18 = 0, w2c_l19 = 0, w2c_l20 = 0, w2c_l21 = 0;
-  u64 w2c_l8 = 0, w2c_l9 = 0, w2c_l10 = 0, w2c_l11 = 0, w2c_l12 = 0, w2c_l13 = 0, w2c_l14 = 0, w2c_l15 = 0, w2c_l16 = 0;
+static u32 w2c_f15(module *m, u64 w2c_p0, u64 w2c_p1, u64 w2c_p2, u32 w2c_p3, u32 w2c_p4, u64 w2c_p5, u64 w2c_p6, u64 w2c_p7) {
+  u32 w2c_l12 = 0, w2c_l13 = 0, w2c_l14 = 0, w2c_l15 = 0;
+  u64 w2c_l8 = 0, w2c_l9 = 0, w2c_l10 = 0, w2c_l11 = 0;
+  u32 w2c_i0, w2c_i1, w2c_i2, w2c_i3, w2c_i4;
+  u64 w2c_j0, w2c_j1, w2c_j2, w2c_j5, w2c_j6, w2c_j7;
+  w2c_j0 = m->w2c_g0;
+  w2c_l8 = w2c_j0;
+  w2c_j1 = 16ull;
+  w2c_i0 = (u64)((s64)w2c_j0 < (s64)w2c_j1);
+  if (w2c_i0) {goto w2c_B0;}
+  w2c_j0 = w2c_p1;
+  w2c_l9 = w2c_j0;
+  w2c_j0 = w2c_p0;
+  w2c_l10 = w2c_j0;
+  w2c_j0 = w2c_p1;
+  w2c_j1 = 4ull;
+  w2c_i0 = w2c_j0 < w2c_j1;
+  if (w2c_i0) {goto w2c_B5;}
+  w2c_j0 = w2c_p0;
+  w2c_l10 = w2c_j0;
+  w2c_j0 = w2c_p1;
+  w2c_l9 = w2c_j0;
+  w2c_L6:
+    w2c_j0 = w2c_l10;
+    w2c_i0 = (u32)(w2c_j0);
+    w2c_i0 = i32_load(m, (u64)(w2c_i0));
+    w2c_i1 = 16776989u;
+    w2c_i0 += w2c_i1;
+    w2c_i1 = 12632312u;
+    w2c_i0 &= w2c_i1;
+    w2c_i1 = 8421376u;
+    w2c_i0 = w2c_i0 != w2c_i1;
+    if (w2c_i0) {goto w2c_B4;}
+    w2c_j0 = w2c_l10;
+    w2c_j1 = 3ull;
+    w2c_j0 += w2c_j1;
+    w2c_l10 = w2c_j0;
+    w2c_j0 = w2c_l9;
+    w2c_j1 = 18446744073709551613ull;
+    w2c_j0 += w2c_j1;
+    w2c_l9 = w2c_j0;
+    w2c_j1 = 3ull;
+    w2c_i0 = w2c_j0 > w2c_j1;
+    if (w2c_i0) {goto w2c_L6;}
+  w2c_B5:;
+  w2c_j0 = w2c_l9;
+  w2c_j1 = 3ull;
+  w2c_i0 = w2c_j0 > w2c_j1;
+  if (w2c_i0) {goto w2c_B4;}
+  w2c_j0 = w2c_l9;
+  w2c_i0 = (u32)(w2c_j0);
+  switch (w2c_i0) {
+    case 0: goto w2c_B2;
+    case 1: goto w2c_B4;
+    case 2: goto w2c_B4;
+    case 3: goto w2c_B7;
+    default: goto w2c_B2;
+  }
+  w2c_B7:;
+  w2c_j0 = w2c_l10;
+  w2c_i0 = (u32)(w2c_j0);
+  w2c_i0 = i32_load16_u(m, (u64)(w2c_i0));
+  w2c_j1 = w2c_l10;
+  w2c_j2 = 2ull;
+  w2c_j1 += w2c_j2;
+  w2c_i1 = (u32)(w2c_j1);
+  w2c_i1 = i32_load8_u(m, (u64)(w2c_i1));
+  w2c_i2 = 16u;
+  w2c_i1 <<= (w2c_i2 & 31);
+  w2c_i0 |= w2c_i1;
+  w2c_i1 = 16776989u;
+  w2c_i0 += w2c_i1;
+  w2c_i1 = 12632312u;
+  w2c_i0 &= w2c_i1;
+  w2c_i1 = 8421376u;
+  w2c_i0 = w2c_i0 == w2c_i1;
+  if (w2c_i0) {goto w2c_B2;}
+  w2c_j0 = w2c_p1;
+  w2c_i0 = !(w2c_j0);
+  w2c_i0 = !(w2c_i0);
+  if (w2c_i0) {goto w2c_B3;}
+  goto w2c_B2;
+  w2c_B4:;
+  w2c_j0 = w2c_p1;
+  w2c_i0 = !(w2c_j0);
+  if (w2c_i0) {goto w2c_B2;}
+  w2c_B3:;
+  w2c_j0 = w2c_p0;
+  w2c_l10 = w2c_j0;
+  w2c_j0 = w2c_p1;
+  w2c_l9 = w2c_j0;
+  w2c_L8:
+    w2c_j0 = w2c_l9;
+    w2c_j1 = 4ull;
+    w2c_i0 = w2c_j0 < w2c_j1;
+    if (w2c_i0) {goto w2c_B13;}
+    w2c_j0 = w2c_l10;
+    w2c_i0 = (u32)(w2c_j0);
+    w2c_i0 = i32_load(m, (u64)(w2c_i0));
+    w2c_l12 = w2c_i0;
+    w2c_i1 = 16776989u;
+    w2c_i0 += w2c_i1;
+    w2c_i1 = 12632312u;
+    w2c_i0 &= w2c_i1;
+    w2c_i1 = 8421376u;
+    w2c_i0 = w2c_i0 != w2c_i1;
+    if (w2c_i0) {goto w2c_B14;}
+    w2c_j0 = 3ull;
+    w2c_l11 = w2c_j0;
+    goto w2c_B9;
+    w2c_B14:;
+    w2c_i0 = w2c_l12;
+    w2c_i1 = 2155905152u;
+    w2c_i0 &= w2c_i1;
+    if (w2c_i0) {goto w2c_B12;}
+    w2c_j0 = 4ull;
+    w2c_l11 = w2c_j0;
+    goto w2c_B9;
+    w2c_B13:;
+    w2c_j0 = w2c_l10;
+    w2c_i0 = (u32)(w2c_j0);
+    w2c_i0 = i32_load8_u(m, (u64)(w2c_i0));
+    w2c_l12 = w2c_i0;
+    w2c_i0 = 0u;
+    w2c_l13 = w2c_i0;
+    w2c_j0 = w2c_l9;
+    w2c_j1 = 18446744073709551615ull;
+    w2c_j0 += w2c_j1;
+    w2c_l11 = w2c_j0;
+    w2c_j1 = 2ull;
+    w2c_i0 = w2c_j0 > w2c_j1;
+    if (w2c_i0) {goto w2c_B11;}
+    w2c_i0 = 0u;
+    w2c_l14 = w2c_i0;
+    w2c_j0 = w2c_l11;
+    w2c_i0 = (u32)(w2c_j0);
+    switch (w2c_i0) {
+      case 0: goto w2c_B10;
+      case 1: goto w2c_B11;
+      case 2: goto w2c_B15;
+      default: goto w2c_B10;
+    }
+    w2c_B15:;
+    w2c_j0 = w2c_l10;
+    w2c_j1 = 1ull;
+    w2c_j0 += w2c_j1;
+    w2c_i0 = (u32)(w2c_j0);
+    w2c_i0 = i32_load8_u(m, (u64)(w2c_i0));
+    w2c_i1 = 8u;
+    w2c_i0 <<= (w2c_i1 & 31);
+    w2c_i1 = w2c_l12;
+    w2c_i0 |= w2c_i1;
+    w2c_j1 = w2c_l10;
+    w2c_j2 = 2ull;
+    w2c_j1 += w2c_j2;
+    w2c_i1 = (u32)(w2c_j1);
+    w2c_i1 = i32_load8_u(m, (u64)(w2c_i1));
+    w2c_i2 = 16u;
+    w2c_i1 <<= (w2c_i2 & 31);
+    w2c_i0 |= w2c_i1;
+    w2c_i1 = 16776989u;
+    w2c_i0 += w2c_i1;
+    w2c_i1 = 12632312u;
+    w2c_i0 &= w2c_i1;
+    w2c_i1 = 8421376u;
+    w2c_i0 = w2c_i0 != w2c_i1;
+    if (w2c_i0) {goto w2c_B12;}
+    w2c_j0 = 3ull;
+    w2c_l11 = w2c_j0;
+    goto w2c_B9;
+    w2c_B12:;
+    w2c_j0 = w2c_l10;
+    w2c_j1 = 2ull;
+    w2c_j0 += w2c_j1;
+    w2c_i0 = (u32)(w2c_j0);
+    w2c_i0 = i32_load8_s(m, (u64)(w2c_i0));
+    w2c_i1 = 4294967232u;
+    w2c_i0 = (u32)((s32)w2c_i0 < (s32)w2c_i1);
+    w2c_l13 = w2c_i0;
+    w2c_j0 = w2c_l10;
+    w2c_j1 = 1ull;
+    w2c_j0 += w2c_j1;
+    w2c_i0 = (u32)(w2c_j0);
+    w2c_i0 = i32_load8_u(m, (u64)(w2c_i0));
+    w2c_l14 = w2c_i0;
+    goto w2c_B10;
+    w2c_B11:;
+    w2c_j0 = w2c_l10;
+    w2c_j1 = 1ull;
+    w2c_j0 += w2c_j1;
+    w2c_i0 = (u32)(w2c_j0);
+    w2c_i0 = i32_load8_u(m, (u64)(w2c_i0));
+    w2c_l14 = w2c_i0;
+    w2c_B10:;
+    w2c_i0 = w2c_l12;
+    w2c_i0 = (u32)(s32)(s8)(u8)(w2c_i0);
+    w2c_i1 = 4294967295u;
+    w2c_i0 = (u32)((s32)w2c_i0 <= (s32)w2c_i1);
+    if (w2c_i0) {goto w2c_B16;}
+    w2c_j0 = 1ull;
+    w2c_l11 = w2c_j0;
+    goto w2c_B9;
+    w2c_B16:;
+    w2c_i0 = w2c_l12;
+    w2c_i1 = 255u;
+    w2c_i0 &= w2c_i1;
+    w2c_l15 = w2c_i0;
+    w2c_i1 = 223u;
+    w2c_i0 = w2c_i0 > w2c_i1;
+    if (w2c_i0) {goto w2c_B17;}
+    w2c_i0 = w2c_l15;
+    w2c_i1 = 194u;
+    w2c_i0 = w2c_i0 < w2c_i1;
+    if (w2c_i0) {goto w2c_B1;}
+    w2c_i0 = w2c_l14;
+    w2c_i0 = (u32)(s32)(s8)(u8)(w2c_i0);
+    w2c_i1 = 4294967232u;
+    w2c_i0 = (u32)((s32)w2c_i0 >= (s32)w2c_i1);
+    if (w2c_i0) {goto w2c_B1;}
+    w2c_j0 = 2ull;
+    w2c_l11 = w2c_j0;
+    goto w2c_B9;
+    w2c_B17:;
+    w2c_i0 = w2c_l15;
+    w2c_i1 = 239u;
+    w2c_i0 = w2c_i0 > w2c_i1;
+    if (w2c_i0) {goto w2c_B18;}
+    w2c_i0 = w2c_l14;
+    w2c_i0 = (u32)(s32)(s8)(u8)(w2c_i0);
+    w2c_i1 = 4294967231u;
+    w2c_i0 = (u32)((s32)w2c_i0 > (s32)w2c_i1);
+    w2c_i1 = w2c_l13;
+    w2c_i2 = 1u;
+    w2c_i1 ^= w2c_i2;
+    w2c_i0 |= w2c_i1;
+    if (w2c_i0) {goto w2c_B1;}
+    w2c_i0 = w2c_l12;
+    w2c_i1 = 255u;
+    w2c_i0 &= w2c_i1;
+    w2c_i1 = 6u;
+    w2c_i0 <<= (w2c_i1 & 31);
+    w2c_i1 = w2c_l14;
+    w2c_i2 = 255u;
+    w2c_i1 &= w2c_i2;
+    w2c_i0 += w2c_i1;
+    w2c_l12 = w2c_i0;
+    w2c_i1 = 14496u;
+    w2c_i0 = w2c_i0 < w2c_i1;
+    if (w2c_i0) {goto w2c_B1;}
+    w2c_i0 = w2c_l12;
+    w2c_i1 = 32736u;
+    w2c_i0 &= w2c_i1;
+    w2c_i1 = 15328u;
+    w2c_i0 = w2c_i0 == w2c_i1;
+    if (w2c_i0) {goto w2c_B1;}
+    w2c_j0 = 3ull;
+    w2c_l11 = w2c_j0;
+    goto w2c_B9;
+    w2c_B18:;
+    w2c_j0 = 4ull;
+    w2c_l11 = w2c_j0;
+    w2c_i0 = 0u;
+    w2c_l15 = w2c_i0;
+    w2c_j0 = w2c_l9;
+    w2c_j1 = 4ull;
+    w2c_i0 = w2c_j0 < w2c_j1;
+    if (w2c_i0) {goto w2c_B19;}
+    w2c_j0 = w2c_l10;
+    w2c_j1 = 3ull;
+    w2c_j0 += w2c_j1;
+    w2c_i0 = (u32)(w2c_j0);
+    w2c_i0 = i32_load8_s(m, (u64)(w2c_i0));
+    w2c_i1 = 4294967232u;
+    w2c_i0 = (u32)((s32)w2c_i0 < (s32)w2c_i1);
+    w2c_l15 = w2c_i0;
+    w2c_B19:;
+    w2c_i0 = w2c_l13;
+    w2c_i1 = w2c_l14;
+    w2c_i1 = (u32)(s32)(s8)(u8)(w2c_i1);
+    w2c_i2 = 4294967232u;
+    w2c_i1 = (u32)((s32)w2c_i1 < (s32)w2c_i2);
+    w2c_i2 = w2c_l15;
+    w2c_i1 &= w2c_i2;
+    w2c_i0 &= w2c_i1;
+    w2c_i1 = 1u;
+    w2c_i0 = w2c_i0 != w2c_i1;
+    if (w2c_i0) {goto w2c_B1;}
+    w2c_i0 = w2c_l12;
+    w2c_i1 = 255u;
+    w2c_i0 &= w2c_i1;
+    w2c_i1 = 6u;
+    w2c_i0 <<= (w2c_i1 & 31);
+    w2c_i1 = w2c_l14;
+    w2c_i2 = 255u;
+    w2c_i1 &= w2c_i2;
+    w2c_i0 += w2c_i1;
+    w2c_i1 = 4294951792u;
+    w2c_i0 += w2c_i1;
+    w2c_i1 = 255u;
+    w2c_i0 = w2c_i0 > w2c_i1;
+    if (w2c_i0) {goto w2c_B1;}
+    w2c_B9:;
+    w2c_j0 = w2c_l10;
+    w2c_j1 = w2c_l11;
+    w2c_j0 += w2c_j1;
+    w2c_l10 = w2c_j0;
+    w2c_j0 = w2c_l9;
+    w2c_j1 = w2c_l11;
+    w2c_j0 -= w2c_j1;
+    w2c_l9 = w2c_j0;
+    w2c_j1 = 0ull;
+    w2c_i0 = w2c_j0 != w2c_j1;
+    if (w2c_i0) {goto w2c_L8;}
+  w2c_B2:;
+  w2c_j0 = w2c_p0;
+  w2c_j1 = w2c_p1;
+  w2c_j2 = w2c_p2;
+  w2c_i3 = w2c_p3;
+  w2c_i4 = w2c_p4;
+  w2c_j5 = w2c_p5;
+  w2c_j6 = w2c_p6;
+  w2c_j7 = w2c_p7;
+  w2c_i0 = w2c_f16(m, w2c_j0, w2c_j1, w2c_j2, w2c_i3, w2c_i4, w2c_j5, w2c_j6, w2c_j7);
+  w2c_l12 = w2c_i0;
+  w2c_j0 = w2c_l8;
+  m->w2c_g0 = w2c_j0;
+  w2c_i0 = w2c_l12;
+  goto w2c_Bfunc;
+  w2c_B1:;
+  w2c_j0 = w2c_p7;
+  w2c_i0 = (u32)(w2c_j0);
+  w2c_j1 = 0ull;
+  i64_store(m, (u64)(w2c_i0), w2c_j1);
+  w2c_j0 = w2c_l8;
+  m->w2c_g0 = w2c_j0;
+  w2c_i0 = 5u;
+  goto w2c_Bfunc;
+  w2c_B0:;
+  UNREACHABLE;
+  w2c_Bfunc:;
+  return w2c_i0;
+}
+
+static u32 w2c_f16(module *m, u64 w2c_p0, u64 w2c_p1, u64 w2c_p2, u32 w2c_p3, u32 w2c_p4, u64 w2c_p5, u64 w2c_p6, u64 w2c_p7) {
+  u32 w2c_l18 = 0, w2c_l19 = 0, w2c_l20 = 0, w2c_l21 = 0, w2c_l22 = 0, w2c_l23 = 0, w2c_l24 = 0;
+  u64 w2c_l8 = 0, w2c_l9 = 0, w2c_l10 = 0, w2c_l11 = 0, w2c_l12 = 0, w2c_l13 = 0, w2c_l14 = 0, w2c_l15 = 0, w2c_l16 = 0, w2c_l17 = 0;
   u32 w2c_i0, w2c_i1, w2c_i2, w2c_i3;
-  u64 w2c_j0, w2c_j1, w2c_j2, w2c_j3, w2c_j4, w2c_j5, w2c_j6;
+  u64 w2c_j0, w2c_j1, w2c_j2, w2c_j3;
   w2c_j0 = m->w2c_g0;
   w2c_j1 = 16ull;
   w2c_j0 -= w2c_j1;
@@ -7698,26 +8166,14 @@ static u32 w2c_f14(module *m, u64 w2c_p0, u64 w2c_p1, u64 w2c_p2, u32 w2c_p3, u3
   w2c_j1 = 16ull;
   w2c_i0 = (u64)((s64)w2c_j0 < (s64)w2c_j1);
   if (w2c_i0) {goto w2c_B0;}
-  w2c_j0 = w2c_p7;
-  w2c_i0 = (u32)(w2c_j0);
-  w2c_j1 = 0ull;
-  i64_store(m, (u64)(w2c_i0), w2c_j1);
-  w2c_i0 = 8u;
-  w2c_l17 = w2c_i0;
-  w2c_i0 = w2c_p3;
-  w2c_i1 = 1u;
-  w2c_i0 = w2c_i0 > w2c_i1;
-  if (w2c_i0) {goto w2c_B1;}
-  w2c_i0 = w2c_p4;
-  w2c_i1 = 15u;
-  w2c_i0 = w2c_i0 > w2c_i1;
-  if (w2c_i0) {goto w2c_B1;}
   w2c_j0 = w2c_p1;
   w2c_j1 = w2c_p2;
   w2c_i0 = w2c_j0 == w2c_j1;
   if (w2c_i0) {goto w2c_B2;}
   w2c_i0 = 5u;
-  w2c_l17 = w2c_i0;
+  w2c_l18 = w2c_i0;
+  w2c_j0 = 0ull;
+  w2c_l10 = w2c_j0;
   w2c_j0 = w2c_p1;
   w2c_j1 = w2c_p2;
   w2c_i0 = w2c_j0 < w2c_j1;
@@ -7731,615 +8187,618 @@ static u32 w2c_f14(module *m, u64 w2c_p0, u64 w2c_p1, u64 w2c_p2, u32 w2c_p3, u3
   w2c_i0 = (u32)((s32)w2c_i0 < (s32)w2c_i1);
   if (w2c_i0) {goto w2c_B1;}
   w2c_B2:;
-  w2c_j0 = w2c_p6;
-  w2c_i0 = !(w2c_j0);
-  w2c_i0 = !(w2c_i0);
-  if (w2c_i0) {goto w2c_B4;}
+  w2c_i0 = 0u;
+  w2c_l18 = w2c_i0;
   w2c_j0 = 0ull;
   w2c_l10 = w2c_j0;
-  goto w2c_B3;
-  w2c_B4:;
-  w2c_j0 = w2c_p0;
-  w2c_j1 = w2c_p2;
-  w2c_j0 += w2c_j1;
-  w2c_l11 = w2c_j0;
   w2c_j0 = w2c_p1;
   w2c_j1 = w2c_p2;
   w2c_j0 -= w2c_j1;
+  w2c_l11 = w2c_j0;
+  w2c_i0 = !(w2c_j0);
+  w2c_i0 = !(w2c_i0);
+  if (w2c_i0) {goto w2c_B3;}
+  w2c_i0 = 0u;
+  w2c_l18 = w2c_i0;
+  goto w2c_B1;
+  w2c_B3:;
+  w2c_j0 = w2c_p6;
+  w2c_i0 = !(w2c_j0);
+  if (w2c_i0) {goto w2c_B1;}
+  w2c_j0 = w2c_p0;
+  w2c_j1 = w2c_p2;
+  w2c_j0 += w2c_j1;
   w2c_l12 = w2c_j0;
   w2c_j0 = 0ull;
   w2c_l10 = w2c_j0;
-  w2c_L5:
+  w2c_L4:
+    w2c_j0 = w2c_l12;
+    w2c_p2 = w2c_j0;
     w2c_j0 = w2c_l11;
     w2c_l8 = w2c_j0;
-    w2c_j0 = w2c_l12;
+    w2c_j1 = 3ull;
+    w2c_i0 = w2c_j0 < w2c_j1;
+    if (w2c_i0) {goto w2c_B11;}
+    w2c_j0 = w2c_p2;
+    w2c_i0 = (u32)(w2c_j0);
+    w2c_i0 = i32_load8_u(m, (u64)(w2c_i0));
+    w2c_l18 = w2c_i0;
+    w2c_i1 = 240u;
+    w2c_i0 &= w2c_i1;
+    w2c_i1 = 224u;
+    w2c_i0 = w2c_i0 != w2c_i1;
+    if (w2c_i0) {goto w2c_B10;}
+    w2c_j0 = w2c_p2;
+    w2c_i0 = (u32)(w2c_j0);
+    w2c_i0 = i32_load8_u(m, (u64)(w2c_i0) + 1u);
+    w2c_l19 = w2c_i0;
+    w2c_i1 = 8u;
+    w2c_i0 <<= (w2c_i1 & 31);
+    w2c_j1 = w2c_p2;
+    w2c_i1 = (u32)(w2c_j1);
+    w2c_i1 = i32_load8_u(m, (u64)(w2c_i1) + 2u);
+    w2c_l20 = w2c_i1;
+    w2c_i2 = 16u;
+    w2c_i1 <<= (w2c_i2 & 31);
+    w2c_i0 |= w2c_i1;
+    w2c_i1 = w2c_l18;
+    w2c_i0 |= w2c_i1;
+    w2c_l21 = w2c_i0;
+    w2c_j0 = (u64)(w2c_i0);
+    w2c_j1 = 953497ull;
+    w2c_j0 *= w2c_j1;
+    w2c_j1 = 22ull;
+    w2c_j0 >>= (w2c_j1 & 63);
+    w2c_j1 = 1016ull;
+    w2c_j0 &= w2c_j1;
     w2c_l13 = w2c_j0;
-    w2c_L7:
-      w2c_j0 = w2c_l8;
-      w2c_p2 = w2c_j0;
-      w2c_j0 = w2c_l13;
-      w2c_l14 = w2c_j0;
+    w2c_j1 = 66981ull;
+    w2c_j0 += w2c_j1;
+    w2c_i0 = (u32)(w2c_j0);
+    w2c_i0 = i32_load8_u(m, (u64)(w2c_i0));
+    w2c_i1 = 0u;
+    w2c_j2 = w2c_l13;
+    w2c_i2 = (u32)(w2c_j2);
+    w2c_i2 = i32_load(m, (u64)(w2c_i2) + 66976u);
+    w2c_i3 = w2c_l21;
+    w2c_i2 = w2c_i2 == w2c_i3;
+    w2c_l21 = w2c_i2;
+    w2c_i0 = w2c_i2 ? w2c_i0 : w2c_i1;
+    w2c_l22 = w2c_i0;
+    w2c_j0 = w2c_l8;
+    w2c_j1 = 18446744073709551613ull;
+    w2c_j0 += w2c_j1;
+    w2c_l11 = w2c_j0;
+    w2c_j0 = w2c_p2;
+    w2c_j1 = 3ull;
+    w2c_j0 += w2c_j1;
+    w2c_l12 = w2c_j0;
+    w2c_j0 = w2c_l13;
+    w2c_j1 = 66980ull;
+    w2c_j0 += w2c_j1;
+    w2c_i0 = (u32)(w2c_j0);
+    w2c_i0 = i32_load8_u(m, (u64)(w2c_i0));
+    w2c_i1 = 2u;
+    w2c_i2 = w2c_l21;
+    w2c_i0 = w2c_i2 ? w2c_i0 : w2c_i1;
+    w2c_l21 = w2c_i0;
+    w2c_j0 = (u64)(w2c_i0);
+    w2c_j1 = 255ull;
+    w2c_j0 &= w2c_j1;
+    w2c_i0 = (u32)(w2c_j0);
+    switch (w2c_i0) {
+      case 0: goto w2c_B12;
+      case 1: goto w2c_B13;
+      case 2: goto w2c_L4;
+      default: goto w2c_B12;
+    }
+    w2c_B13:;
+    w2c_i0 = w2c_p4;
+    w2c_i1 = 255u;
+    w2c_i0 &= w2c_i1;
+    w2c_i1 = w2c_l22;
+    w2c_i2 = 255u;
+    w2c_i1 &= w2c_i2;
+    w2c_i0 = w2c_i0 < w2c_i1;
+    if (w2c_i0) {goto w2c_L4;}
+    w2c_B12:;
+    w2c_i0 = w2c_l18;
+    w2c_i1 = 12u;
+    w2c_i0 <<= (w2c_i1 & 31);
+    w2c_i1 = w2c_l20;
+    w2c_i0 |= w2c_i1;
+    w2c_i1 = w2c_l19;
+    w2c_i2 = 6u;
+    w2c_i1 <<= (w2c_i2 & 31);
+    w2c_i0 += w2c_i1;
+    w2c_l18 = w2c_i0;
+    w2c_i0 = w2c_p3;
+    if (w2c_i0) {goto w2c_B14;}
+    w2c_i0 = w2c_l18;
+    w2c_i1 = 955413u;
+    w2c_i0 = (u32)((s32)w2c_i0 > (s32)w2c_i1);
+    if (w2c_i0) {goto w2c_B16;}
+    w2c_i0 = w2c_l18;
+    w2c_i1 = 948600u;
+    w2c_i0 = (u32)((s32)w2c_i0 > (s32)w2c_i1);
+    if (w2c_i0) {goto w2c_B17;}
+    w2c_i0 = w2c_l18;
+    w2c_i1 = 946015u;
+    w2c_i0 = w2c_i0 == w2c_i1;
+    if (w2c_i0) {goto w2c_L4;}
+    w2c_i0 = w2c_l18;
+    w2c_i1 = 946061u;
+    w2c_i0 = w2c_i0 == w2c_i1;
+    if (w2c_i0) {goto w2c_L4;}
+    w2c_i0 = w2c_l18;
+    w2c_i1 = 946160u;
+    w2c_i0 = w2c_i0 == w2c_i1;
+    if (w2c_i0) {goto w2c_L4;}
+    goto w2c_B15;
+    w2c_B17:;
+    w2c_i0 = w2c_l18;
+    w2c_i1 = 951243u;
+    w2c_i0 = (u32)((s32)w2c_i0 > (s32)w2c_i1);
+    if (w2c_i0) {goto w2c_B18;}
+    w2c_i0 = w2c_l18;
+    w2c_i1 = 948601u;
+    w2c_i0 = w2c_i0 == w2c_i1;
+    if (w2c_i0) {goto w2c_L4;}
+    w2c_i0 = w2c_l18;
+    w2c_i1 = 951166u;
+    w2c_i0 = w2c_i0 == w2c_i1;
+    if (w2c_i0) {goto w2c_L4;}
+    goto w2c_B15;
+    w2c_B18:;
+    w2c_i0 = w2c_l18;
+    w2c_i1 = 951244u;
+    w2c_i0 = w2c_i0 == w2c_i1;
+    if (w2c_i0) {goto w2c_L4;}
+    w2c_i0 = w2c_l18;
+    w2c_i1 = 952402u;
+    w2c_i0 = w2c_i0 == w2c_i1;
+    if (w2c_i0) {goto w2c_L4;}
+    goto w2c_B15;
+    w2c_B16:;
+    w2c_i0 = w2c_l18;
+    w2c_i1 = 961967u;
+    w2c_i0 = (u32)((s32)w2c_i0 > (s32)w2c_i1);
+    if (w2c_i0) {goto w2c_B19;}
+    w2c_i0 = w2c_l18;
+    w2c_i1 = 4294005458u;
+    w2c_i0 += w2c_i1;
+    switch (w2c_i0) {
+      case 0: goto w2c_L4;
+      case 1: goto w2c_B15;
+      case 2: goto w2c_B15;
+      case 3: goto w2c_B15;
+      case 4: goto w2c_B15;
+      case 5: goto w2c_L4;
+      default: goto w2c_B20;
+    }
+    w2c_B20:;
+    w2c_i0 = w2c_l18;
+    w2c_i1 = 955414u;
+    w2c_i0 = w2c_i0 == w2c_i1;
+    if (w2c_i0) {goto w2c_L4;}
+    w2c_i0 = w2c_l18;
+    w2c_i1 = 958726u;
+    w2c_i0 = w2c_i0 == w2c_i1;
+    if (w2c_i0) {goto w2c_L4;}
+    goto w2c_B15;
+    w2c_B19:;
+    w2c_i0 = w2c_l18;
+    w2c_i1 = 961968u;
+    w2c_i0 = w2c_i0 == w2c_i1;
+    if (w2c_i0) {goto w2c_L4;}
+    w2c_i0 = w2c_l18;
+    w2c_i1 = 964294u;
+    w2c_i0 = w2c_i0 == w2c_i1;
+    if (w2c_i0) {goto w2c_L4;}
+    w2c_i0 = w2c_l18;
+    w2c_i1 = 964344u;
+    w2c_i0 = w2c_i0 == w2c_i1;
+    if (w2c_i0) {goto w2c_L4;}
+    w2c_B15:;
+    w2c_i0 = w2c_l18;
+    w2c_i1 = 4294020031u;
+    w2c_i0 += w2c_i1;
+    w2c_i1 = 4u;
+    w2c_i0 = w2c_i0 < w2c_i1;
+    if (w2c_i0) {goto w2c_L4;}
+    w2c_B14:;
+    w2c_i0 = w2c_l21;
+    w2c_i1 = 255u;
+    w2c_i0 &= w2c_i1;
+    w2c_i1 = 1u;
+    w2c_i0 = w2c_i0 != w2c_i1;
+    if (w2c_i0) {goto w2c_B9;}
+    w2c_i0 = w2c_l22;
+    w2c_i1 = 255u;
+    w2c_i0 &= w2c_i1;
+    w2c_l21 = w2c_i0;
+    w2c_i0 = !(w2c_i0);
+    if (w2c_i0) {goto w2c_B7;}
+    w2c_i0 = w2c_l21;
+    w2c_i1 = 6u;
+    w2c_i0 = w2c_i0 != w2c_i1;
+    if (w2c_i0) {goto w2c_B8;}
+    w2c_j0 = w2c_l12;
+    w2c_j1 = w2c_l11;
+    w2c_i0 = w2c_f17(m, w2c_j0, w2c_j1);
+    if (w2c_i0) {goto w2c_L4;}
+    w2c_i0 = w2c_l18;
+    w2c_i1 = 4294041472u;
+    w2c_i0 += w2c_i1;
+    w2c_l18 = w2c_i0;
+    goto w2c_B5;
+    w2c_B11:;
+    w2c_j0 = w2c_l8;
+    w2c_i0 = !(w2c_j0);
+    w2c_i0 = !(w2c_i0);
+    if (w2c_i0) {goto w2c_B21;}
+    w2c_i0 = 0u;
+    w2c_l18 = w2c_i0;
+    goto w2c_B1;
+    w2c_B21:;
+    w2c_j0 = w2c_p2;
+    w2c_i0 = (u32)(w2c_j0);
+    w2c_i0 = i32_load8_u(m, (u64)(w2c_i0));
+    w2c_l18 = w2c_i0;
+    w2c_B10:;
+    w2c_j0 = 1ull;
+    w2c_l12 = w2c_j0;
+    w2c_i0 = w2c_l18;
+    w2c_i0 = (u32)(s32)(s8)(u8)(w2c_i0);
+    w2c_i1 = 4294967295u;
+    w2c_i0 = (u32)((s32)w2c_i0 > (s32)w2c_i1);
+    if (w2c_i0) {goto w2c_B22;}
+    w2c_j0 = w2c_p2;
+    w2c_i0 = (u32)(w2c_j0);
+    w2c_i0 = i32_load8_u(m, (u64)(w2c_i0) + 1u);
+    w2c_i1 = 63u;
+    w2c_i0 &= w2c_i1;
+    w2c_l21 = w2c_i0;
+    w2c_i0 = w2c_l18;
+    w2c_i1 = 223u;
+    w2c_i0 = w2c_i0 > w2c_i1;
+    if (w2c_i0) {goto w2c_B23;}
+    w2c_i0 = w2c_l18;
+    w2c_i1 = 6u;
+    w2c_i0 <<= (w2c_i1 & 31);
+    w2c_i1 = 1984u;
+    w2c_i0 &= w2c_i1;
+    w2c_i1 = w2c_l21;
+    w2c_i0 |= w2c_i1;
+    w2c_l18 = w2c_i0;
+    w2c_j0 = 2ull;
+    w2c_l12 = w2c_j0;
+    goto w2c_B22;
+    w2c_B23:;
+    w2c_j0 = w2c_p2;
+    w2c_i0 = (u32)(w2c_j0);
+    w2c_i0 = i32_load8_u(m, (u64)(w2c_i0) + 2u);
+    w2c_i1 = 63u;
+    w2c_i0 &= w2c_i1;
+    w2c_l22 = w2c_i0;
+    w2c_i0 = w2c_l18;
+    w2c_i1 = 239u;
+    w2c_i0 = w2c_i0 > w2c_i1;
+    if (w2c_i0) {goto w2c_B24;}
+    w2c_i0 = w2c_l21;
+    w2c_i1 = 6u;
+    w2c_i0 <<= (w2c_i1 & 31);
+    w2c_i1 = w2c_l18;
+    w2c_i2 = 12u;
+    w2c_i1 <<= (w2c_i2 & 31);
+    w2c_i2 = 61440u;
+    w2c_i1 &= w2c_i2;
+    w2c_i0 |= w2c_i1;
+    w2c_i1 = w2c_l22;
+    w2c_i0 |= w2c_i1;
+    w2c_l18 = w2c_i0;
+    w2c_j0 = 3ull;
+    w2c_l12 = w2c_j0;
+    goto w2c_B22;
+    w2c_B24:;
+    w2c_i0 = w2c_l22;
+    w2c_i1 = 6u;
+    w2c_i0 <<= (w2c_i1 & 31);
+    w2c_i1 = w2c_l21;
+    w2c_i2 = 12u;
+    w2c_i1 <<= (w2c_i2 & 31);
+    w2c_i2 = w2c_l18;
+    w2c_i3 = 18u;
+    w2c_i2 <<= (w2c_i3 & 31);
+    w2c_i3 = 1835008u;
+    w2c_i2 &= w2c_i3;
+    w2c_i1 |= w2c_i2;
+    w2c_i0 |= w2c_i1;
+    w2c_j1 = w2c_p2;
+    w2c_i1 = (u32)(w2c_j1);
+    w2c_i1 = i32_load8_u(m, (u64)(w2c_i1) + 3u);
+    w2c_i2 = 63u;
+    w2c_i1 &= w2c_i2;
+    w2c_i0 |= w2c_i1;
+    w2c_l18 = w2c_i0;
+    w2c_j0 = 4ull;
+    w2c_l12 = w2c_j0;
+    w2c_B22:;
+    w2c_j0 = w2c_l8;
+    w2c_j1 = w2c_l12;
+    w2c_j0 -= w2c_j1;
+    w2c_l11 = w2c_j0;
+    w2c_j0 = w2c_p2;
+    w2c_j1 = w2c_l12;
+    w2c_j0 += w2c_j1;
+    w2c_l12 = w2c_j0;
+    w2c_i0 = w2c_l18;
+    w2c_i1 = 4294965248u;
+    w2c_i0 += w2c_i1;
+    w2c_i1 = 63487u;
+    w2c_i0 = w2c_i0 > w2c_i1;
+    if (w2c_i0) {goto w2c_B27;}
+    w2c_i0 = w2c_l18;
+    w2c_i1 = 12u;
+    w2c_i0 >>= (w2c_i1 & 31);
+    w2c_i1 = w2c_l18;
+    w2c_i2 = 2u;
+    w2c_i1 <<= (w2c_i2 & 31);
+    w2c_i2 = 16128u;
+    w2c_i1 &= w2c_i2;
+    w2c_i0 |= w2c_i1;
+    w2c_i1 = w2c_l18;
+    w2c_i2 = 16u;
+    w2c_i1 <<= (w2c_i2 & 31);
+    w2c_i2 = 4128768u;
+    w2c_i1 &= w2c_i2;
+    w2c_i0 |= w2c_i1;
+    w2c_i1 = 8421600u;
+    w2c_i0 |= w2c_i1;
+    w2c_l21 = w2c_i0;
+    w2c_j0 = (u64)(w2c_i0);
+    w2c_j1 = 953497ull;
+    w2c_j0 *= w2c_j1;
+    w2c_j1 = 22ull;
+    w2c_j0 >>= (w2c_j1 & 63);
+    w2c_j1 = 1016ull;
+    w2c_j0 &= w2c_j1;
+    w2c_l13 = w2c_j0;
+    w2c_i0 = (u32)(w2c_j0);
+    w2c_i0 = i32_load(m, (u64)(w2c_i0) + 66976u);
+    w2c_i1 = w2c_l21;
+    w2c_i0 = w2c_i0 != w2c_i1;
+    if (w2c_i0) {goto w2c_L4;}
+    w2c_j0 = w2c_l13;
+    w2c_j1 = 66981ull;
+    w2c_j0 += w2c_j1;
+    w2c_i0 = (u32)(w2c_j0);
+    w2c_i0 = i32_load8_u(m, (u64)(w2c_i0));
+    w2c_l21 = w2c_i0;
+    w2c_i0 = 0u;
+    w2c_l22 = w2c_i0;
+    w2c_j0 = w2c_l13;
+    w2c_j1 = 66980ull;
+    w2c_j0 += w2c_j1;
+    w2c_i0 = (u32)(w2c_j0);
+    w2c_j0 = i64_load8_u(m, (u64)(w2c_i0));
+    w2c_i0 = (u32)(w2c_j0);
+    switch (w2c_i0) {
+      case 0: goto w2c_B25;
+      case 1: goto w2c_B26;
+      case 2: goto w2c_L4;
+      default: goto w2c_B25;
+    }
+    w2c_B27:;
+    w2c_i0 = w2c_l18;
+    w2c_i1 = 4294967248u;
+    w2c_i0 += w2c_i1;
+    w2c_l21 = w2c_i0;
+    w2c_i1 = 10u;
+    w2c_i0 = w2c_i0 >= w2c_i1;
+    if (w2c_i0) {goto w2c_L4;}
+    w2c_i0 = 0u;
+    w2c_l22 = w2c_i0;
+    goto w2c_B25;
+    w2c_B26:;
+    w2c_i0 = w2c_p4;
+    w2c_i1 = 255u;
+    w2c_i0 &= w2c_i1;
+    w2c_i1 = w2c_l21;
+    w2c_i2 = 255u;
+    w2c_i1 &= w2c_i2;
+    w2c_i0 = w2c_i0 < w2c_i1;
+    if (w2c_i0) {goto w2c_L4;}
+    w2c_i0 = 1u;
+    w2c_l22 = w2c_i0;
+    w2c_B25:;
+    w2c_i0 = w2c_p3;
+    if (w2c_i0) {goto w2c_B28;}
+    w2c_i0 = w2c_l18;
+    w2c_i1 = 29589u;
+    w2c_i0 = (u32)((s32)w2c_i0 > (s32)w2c_i1);
+    if (w2c_i0) {goto w2c_B30;}
+    w2c_i0 = w2c_l18;
+    w2c_i1 = 22776u;
+    w2c_i0 = (u32)((s32)w2c_i0 > (s32)w2c_i1);
+    if (w2c_i0) {goto w2c_B31;}
+    w2c_i0 = w2c_l18;
+    w2c_i1 = 20191u;
+    w2c_i0 = w2c_i0 == w2c_i1;
+    if (w2c_i0) {goto w2c_L4;}
+    w2c_i0 = w2c_l18;
+    w2c_i1 = 20237u;
+    w2c_i0 = w2c_i0 == w2c_i1;
+    if (w2c_i0) {goto w2c_L4;}
+    w2c_i0 = w2c_l18;
+    w2c_i1 = 20336u;
+    w2c_i0 = w2c_i0 == w2c_i1;
+    if (w2c_i0) {goto w2c_L4;}
+    goto w2c_B29;
+    w2c_B31:;
+    w2c_i0 = w2c_l18;
+    w2c_i1 = 25419u;
+    w2c_i0 = (u32)((s32)w2c_i0 > (s32)w2c_i1);
+    if (w2c_i0) {goto w2c_B32;}
+    w2c_i0 = w2c_l18;
+    w2c_i1 = 22777u;
+    w2c_i0 = w2c_i0 == w2c_i1;
+    if (w2c_i0) {goto w2c_L4;}
+    w2c_i0 = w2c_l18;
+    w2c_i1 = 25342u;
+    w2c_i0 = w2c_i0 == w2c_i1;
+    if (w2c_i0) {goto w2c_L4;}
+    goto w2c_B29;
+    w2c_B32:;
+    w2c_i0 = w2c_l18;
+    w2c_i1 = 25420u;
+    w2c_i0 = w2c_i0 == w2c_i1;
+    if (w2c_i0) {goto w2c_L4;}
+    w2c_i0 = w2c_l18;
+    w2c_i1 = 26578u;
+    w2c_i0 = w2c_i0 == w2c_i1;
+    if (w2c_i0) {goto w2c_L4;}
+    goto w2c_B29;
+    w2c_B30:;
+    w2c_i0 = w2c_l18;
+    w2c_i1 = 36143u;
+    w2c_i0 = (u32)((s32)w2c_i0 > (s32)w2c_i1);
+    if (w2c_i0) {goto w2c_B33;}
+    w2c_i0 = w2c_l18;
+    w2c_i1 = 4294931282u;
+    w2c_i0 += w2c_i1;
+    switch (w2c_i0) {
+      case 0: goto w2c_L4;
+      case 1: goto w2c_B29;
+      case 2: goto w2c_B29;
+      case 3: goto w2c_B29;
+      case 4: goto w2c_B29;
+      case 5: goto w2c_L4;
+      default: goto w2c_B34;
+    }
+    w2c_B34:;
+    w2c_i0 = w2c_l18;
+    w2c_i1 = 29590u;
+    w2c_i0 = w2c_i0 == w2c_i1;
+    if (w2c_i0) {goto w2c_L4;}
+    w2c_i0 = w2c_l18;
+    w2c_i1 = 32902u;
+    w2c_i0 = w2c_i0 == w2c_i1;
+    if (w2c_i0) {goto w2c_L4;}
+    goto w2c_B29;
+    w2c_B33:;
+    w2c_i0 = w2c_l18;
+    w2c_i1 = 36144u;
+    w2c_i0 = w2c_i0 == w2c_i1;
+    if (w2c_i0) {goto w2c_L4;}
+    w2c_i0 = w2c_l18;
+    w2c_i1 = 38470u;
+    w2c_i0 = w2c_i0 == w2c_i1;
+    if (w2c_i0) {goto w2c_L4;}
+    w2c_i0 = w2c_l18;
+    w2c_i1 = 38520u;
+    w2c_i0 = w2c_i0 == w2c_i1;
+    if (w2c_i0) {goto w2c_L4;}
+    w2c_B29:;
+    w2c_i0 = w2c_l18;
+    w2c_i1 = 4294945855u;
+    w2c_i0 += w2c_i1;
+    w2c_i1 = 4u;
+    w2c_i0 = w2c_i0 < w2c_i1;
+    if (w2c_i0) {goto w2c_L4;}
+    w2c_B28:;
+    w2c_i0 = w2c_l22;
+    w2c_i0 = !(w2c_i0);
+    if (w2c_i0) {goto w2c_B5;}
+    w2c_i0 = w2c_l21;
+    w2c_i1 = 255u;
+    w2c_i0 &= w2c_i1;
+    w2c_l21 = w2c_i0;
+    w2c_i0 = !(w2c_i0);
+    if (w2c_i0) {goto w2c_B6;}
+    w2c_i0 = w2c_l21;
+    w2c_i1 = 6u;
+    w2c_i0 = w2c_i0 != w2c_i1;
+    if (w2c_i0) {goto w2c_B5;}
+    w2c_j0 = w2c_l12;
+    w2c_j1 = w2c_l11;
+    w2c_i0 = w2c_f17(m, w2c_j0, w2c_j1);
+    if (w2c_i0) {goto w2c_L4;}
+    goto w2c_B5;
+    w2c_B9:;
+    w2c_i0 = w2c_l18;
+    w2c_i1 = 4294041472u;
+    w2c_i0 += w2c_i1;
+    w2c_l18 = w2c_i0;
+    goto w2c_B5;
+    w2c_B8:;
+    w2c_i0 = w2c_l18;
+    w2c_i1 = 4294041472u;
+    w2c_i0 += w2c_i1;
+    w2c_l18 = w2c_i0;
+    goto w2c_B5;
+    w2c_B7:;
+    w2c_i0 = w2c_p3;
+    w2c_i1 = w2c_p4;
+    w2c_j2 = w2c_l12;
+    w2c_j3 = w2c_l11;
+    w2c_i0 = w2c_f18(m, w2c_i0, w2c_i1, w2c_j2, w2c_j3);
+    w2c_i0 = !(w2c_i0);
+    if (w2c_i0) {goto w2c_L4;}
+    w2c_i0 = w2c_l18;
+    w2c_i1 = 4294041472u;
+    w2c_i0 += w2c_i1;
+    w2c_l18 = w2c_i0;
+    goto w2c_B5;
+    w2c_B6:;
+    w2c_i0 = w2c_p3;
+    w2c_i1 = w2c_p4;
+    w2c_j2 = w2c_l12;
+    w2c_j3 = w2c_l11;
+    w2c_i0 = w2c_f18(m, w2c_i0, w2c_i1, w2c_j2, w2c_j3);
+    w2c_i0 = !(w2c_i0);
+    if (w2c_i0) {goto w2c_L4;}
+    w2c_B5:;
+    w2c_j0 = w2c_p1;
+    w2c_j1 = w2c_l8;
+    w2c_j0 -= w2c_j1;
+    w2c_l14 = w2c_j0;
+    w2c_L36:
+      w2c_j0 = w2c_l12;
+      w2c_l13 = w2c_j0;
+      w2c_i0 = w2c_l18;
+      w2c_l21 = w2c_i0;
+      w2c_j0 = w2c_l11;
+      w2c_l15 = w2c_j0;
       w2c_j1 = 3ull;
       w2c_i0 = w2c_j0 < w2c_j1;
-      if (w2c_i0) {goto w2c_B13;}
-      w2c_j0 = w2c_p2;
+      w2c_l20 = w2c_i0;
+      if (w2c_i0) {goto w2c_B42;}
+      w2c_j0 = w2c_l13;
       w2c_i0 = (u32)(w2c_j0);
       w2c_i0 = i32_load8_u(m, (u64)(w2c_i0));
-      w2c_l17 = w2c_i0;
+      w2c_l18 = w2c_i0;
       w2c_i1 = 240u;
       w2c_i0 &= w2c_i1;
       w2c_i1 = 224u;
       w2c_i0 = w2c_i0 != w2c_i1;
-      if (w2c_i0) {goto w2c_B12;}
-      w2c_j0 = w2c_p2;
+      if (w2c_i0) {goto w2c_B41;}
+      w2c_j0 = w2c_l13;
       w2c_i0 = (u32)(w2c_j0);
       w2c_i0 = i32_load8_u(m, (u64)(w2c_i0) + 1u);
-      w2c_l18 = w2c_i0;
+      w2c_l19 = w2c_i0;
       w2c_i1 = 8u;
       w2c_i0 <<= (w2c_i1 & 31);
-      w2c_j1 = w2c_p2;
+      w2c_j1 = w2c_l13;
       w2c_i1 = (u32)(w2c_j1);
       w2c_i1 = i32_load8_u(m, (u64)(w2c_i1) + 2u);
-      w2c_l19 = w2c_i1;
+      w2c_l23 = w2c_i1;
       w2c_i2 = 16u;
       w2c_i1 <<= (w2c_i2 & 31);
-      w2c_i0 |= w2c_i1;
-      w2c_i1 = w2c_l17;
-      w2c_i0 |= w2c_i1;
-      w2c_l20 = w2c_i0;
-      w2c_j0 = (u64)(w2c_i0);
-      w2c_j1 = 953497ull;
-      w2c_j0 *= w2c_j1;
-      w2c_j1 = 22ull;
-      w2c_j0 >>= (w2c_j1 & 63);
-      w2c_j1 = 1016ull;
-      w2c_j0 &= w2c_j1;
-      w2c_l11 = w2c_j0;
-      w2c_j1 = 66981ull;
-      w2c_j0 += w2c_j1;
-      w2c_i0 = (u32)(w2c_j0);
-      w2c_i0 = i32_load8_u(m, (u64)(w2c_i0));
-      w2c_i1 = 0u;
-      w2c_j2 = w2c_l11;
-      w2c_i2 = (u32)(w2c_j2);
-      w2c_i2 = i32_load(m, (u64)(w2c_i2) + 66976u);
-      w2c_i3 = w2c_l20;
-      w2c_i2 = w2c_i2 == w2c_i3;
-      w2c_l20 = w2c_i2;
-      w2c_i0 = w2c_i2 ? w2c_i0 : w2c_i1;
-      w2c_l21 = w2c_i0;
-      w2c_j0 = w2c_l14;
-      w2c_j1 = 18446744073709551613ull;
-      w2c_j0 += w2c_j1;
-      w2c_l13 = w2c_j0;
-      w2c_j0 = w2c_p2;
-      w2c_j1 = 3ull;
-      w2c_j0 += w2c_j1;
-      w2c_l8 = w2c_j0;
-      w2c_j0 = w2c_l11;
-      w2c_j1 = 66980ull;
-      w2c_j0 += w2c_j1;
-      w2c_i0 = (u32)(w2c_j0);
-      w2c_i0 = i32_load8_u(m, (u64)(w2c_i0));
-      w2c_i1 = 2u;
-      w2c_i2 = w2c_l20;
-      w2c_i0 = w2c_i2 ? w2c_i0 : w2c_i1;
-      w2c_l20 = w2c_i0;
-      w2c_j0 = (u64)(w2c_i0);
-      w2c_j1 = 255ull;
-      w2c_j0 &= w2c_j1;
-      w2c_i0 = (u32)(w2c_j0);
-      switch (w2c_i0) {
-        case 0: goto w2c_B14;
-        case 1: goto w2c_B15;
-        case 2: goto w2c_L7;
-        default: goto w2c_B14;
-      }
-      w2c_B15:;
-      w2c_i0 = w2c_l21;
-      w2c_i1 = 255u;
-      w2c_i0 &= w2c_i1;
-      w2c_i1 = w2c_p4;
-      w2c_i2 = 255u;
-      w2c_i1 &= w2c_i2;
-      w2c_i0 = w2c_i0 > w2c_i1;
-      if (w2c_i0) {goto w2c_L7;}
-      w2c_B14:;
-      w2c_i0 = w2c_l17;
-      w2c_i1 = 12u;
-      w2c_i0 <<= (w2c_i1 & 31);
-      w2c_i1 = w2c_l19;
       w2c_i0 |= w2c_i1;
       w2c_i1 = w2c_l18;
-      w2c_i2 = 6u;
-      w2c_i1 <<= (w2c_i2 & 31);
-      w2c_i0 += w2c_i1;
-      w2c_l17 = w2c_i0;
-      w2c_i0 = w2c_p3;
-      w2c_i1 = 1u;
-      w2c_i0 &= w2c_i1;
-      if (w2c_i0) {goto w2c_B16;}
-      w2c_i0 = w2c_l17;
-      w2c_i1 = 955413u;
-      w2c_i0 = (u32)((s32)w2c_i0 > (s32)w2c_i1);
-      if (w2c_i0) {goto w2c_B18;}
-      w2c_i0 = w2c_l17;
-      w2c_i1 = 948600u;
-      w2c_i0 = (u32)((s32)w2c_i0 > (s32)w2c_i1);
-      if (w2c_i0) {goto w2c_B19;}
-      w2c_i0 = w2c_l17;
-      w2c_i1 = 946015u;
-      w2c_i0 = w2c_i0 == w2c_i1;
-      if (w2c_i0) {goto w2c_L7;}
-      w2c_i0 = w2c_l17;
-      w2c_i1 = 946061u;
-      w2c_i0 = w2c_i0 == w2c_i1;
-      if (w2c_i0) {goto w2c_L7;}
-      w2c_i0 = w2c_l17;
-      w2c_i1 = 946160u;
-      w2c_i0 = w2c_i0 == w2c_i1;
-      if (w2c_i0) {goto w2c_L7;}
-      goto w2c_B17;
-      w2c_B19:;
-      w2c_i0 = w2c_l17;
-      w2c_i1 = 951243u;
-      w2c_i0 = (u32)((s32)w2c_i0 > (s32)w2c_i1);
-      if (w2c_i0) {goto w2c_B20;}
-      w2c_i0 = w2c_l17;
-      w2c_i1 = 948601u;
-      w2c_i0 = w2c_i0 == w2c_i1;
-      if (w2c_i0) {goto w2c_L7;}
-      w2c_i0 = w2c_l17;
-      w2c_i1 = 951166u;
-      w2c_i0 = w2c_i0 == w2c_i1;
-      if (w2c_i0) {goto w2c_L7;}
-      goto w2c_B17;
-      w2c_B20:;
-      w2c_i0 = w2c_l17;
-      w2c_i1 = 951244u;
-      w2c_i0 = w2c_i0 == w2c_i1;
-      if (w2c_i0) {goto w2c_L7;}
-      w2c_i0 = w2c_l17;
-      w2c_i1 = 952402u;
-      w2c_i0 = w2c_i0 == w2c_i1;
-      if (w2c_i0) {goto w2c_L7;}
-      goto w2c_B17;
-      w2c_B18:;
-      w2c_i0 = w2c_l17;
-      w2c_i1 = 961967u;
-      w2c_i0 = (u32)((s32)w2c_i0 > (s32)w2c_i1);
-      if (w2c_i0) {goto w2c_B21;}
-      w2c_i0 = w2c_l17;
-      w2c_i1 = 4294005458u;
-      w2c_i0 += w2c_i1;
-      switch (w2c_i0) {
-        case 0: goto w2c_L7;
-        case 1: goto w2c_B17;
-        case 2: goto w2c_B17;
-        case 3: goto w2c_B17;
-        case 4: goto w2c_B17;
-        case 5: goto w2c_L7;
-        default: goto w2c_B22;
-      }
-      w2c_B22:;
-      w2c_i0 = w2c_l17;
-      w2c_i1 = 955414u;
-      w2c_i0 = w2c_i0 == w2c_i1;
-      if (w2c_i0) {goto w2c_L7;}
-      w2c_i0 = w2c_l17;
-      w2c_i1 = 958726u;
-      w2c_i0 = w2c_i0 == w2c_i1;
-      if (w2c_i0) {goto w2c_L7;}
-      goto w2c_B17;
-      w2c_B21:;
-      w2c_i0 = w2c_l17;
-      w2c_i1 = 961968u;
-      w2c_i0 = w2c_i0 == w2c_i1;
-      if (w2c_i0) {goto w2c_L7;}
-      w2c_i0 = w2c_l17;
-      w2c_i1 = 964294u;
-      w2c_i0 = w2c_i0 == w2c_i1;
-      if (w2c_i0) {goto w2c_L7;}
-      w2c_i0 = w2c_l17;
-      w2c_i1 = 964344u;
-      w2c_i0 = w2c_i0 == w2c_i1;
-      if (w2c_i0) {goto w2c_L7;}
-      w2c_B17:;
-      w2c_i0 = w2c_l17;
-      w2c_i1 = 4294020031u;
-      w2c_i0 += w2c_i1;
-      w2c_i1 = 4u;
-      w2c_i0 = w2c_i0 < w2c_i1;
-      if (w2c_i0) {goto w2c_L7;}
-      w2c_B16:;
-      w2c_i0 = w2c_l20;
-      w2c_i1 = 255u;
-      w2c_i0 &= w2c_i1;
-      w2c_i1 = 1u;
-      w2c_i0 = w2c_i0 != w2c_i1;
-      if (w2c_i0) {goto w2c_B11;}
-      w2c_i0 = w2c_l21;
-      w2c_i1 = 255u;
-      w2c_i0 &= w2c_i1;
-      w2c_l20 = w2c_i0;
-      w2c_i0 = !(w2c_i0);
-      if (w2c_i0) {goto w2c_B9;}
-      w2c_i0 = w2c_l20;
-      w2c_i1 = 6u;
-      w2c_i0 = w2c_i0 != w2c_i1;
-      if (w2c_i0) {goto w2c_B10;}
-      w2c_j0 = w2c_l8;
-      w2c_j1 = w2c_l13;
-      w2c_i0 = w2c_f15(m, w2c_j0, w2c_j1);
-      if (w2c_i0) {goto w2c_L7;}
-      w2c_i0 = w2c_l17;
-      w2c_i1 = 4294041472u;
-      w2c_i0 += w2c_i1;
-      w2c_l17 = w2c_i0;
-      goto w2c_B6;
-      w2c_B13:;
-      w2c_j0 = w2c_l14;
-      w2c_i0 = !(w2c_j0);
-      if (w2c_i0) {goto w2c_B3;}
-      w2c_j0 = w2c_p2;
-      w2c_i0 = (u32)(w2c_j0);
-      w2c_i0 = i32_load8_u(m, (u64)(w2c_i0));
-      w2c_l17 = w2c_i0;
-      w2c_B12:;
-      w2c_j0 = 1ull;
-      w2c_l8 = w2c_j0;
-      w2c_i0 = w2c_l17;
-      w2c_i0 = (u32)(s32)(s8)(u8)(w2c_i0);
-      w2c_i1 = 4294967295u;
-      w2c_i0 = (u32)((s32)w2c_i0 > (s32)w2c_i1);
-      if (w2c_i0) {goto w2c_B23;}
-      w2c_j0 = w2c_p2;
-      w2c_i0 = (u32)(w2c_j0);
-      w2c_i0 = i32_load8_u(m, (u64)(w2c_i0) + 1u);
-      w2c_i1 = 63u;
-      w2c_i0 &= w2c_i1;
-      w2c_l20 = w2c_i0;
-      w2c_i0 = w2c_l17;
-      w2c_i1 = 223u;
-      w2c_i0 = w2c_i0 > w2c_i1;
-      if (w2c_i0) {goto w2c_B24;}
-      w2c_i0 = w2c_l17;
-      w2c_i1 = 6u;
-      w2c_i0 <<= (w2c_i1 & 31);
-      w2c_i1 = 1984u;
-      w2c_i0 &= w2c_i1;
-      w2c_i1 = w2c_l20;
       w2c_i0 |= w2c_i1;
-      w2c_l17 = w2c_i0;
-      w2c_j0 = 2ull;
-      w2c_l8 = w2c_j0;
-      goto w2c_B23;
-      w2c_B24:;
-      w2c_j0 = w2c_p2;
-      w2c_i0 = (u32)(w2c_j0);
-      w2c_i0 = i32_load8_u(m, (u64)(w2c_i0) + 2u);
-      w2c_i1 = 63u;
-      w2c_i0 &= w2c_i1;
-      w2c_l21 = w2c_i0;
-      w2c_i0 = w2c_l17;
-      w2c_i1 = 239u;
-      w2c_i0 = w2c_i0 > w2c_i1;
-      if (w2c_i0) {goto w2c_B25;}
-      w2c_i0 = w2c_l20;
-      w2c_i1 = 6u;
-      w2c_i0 <<= (w2c_i1 & 31);
-      w2c_i1 = w2c_l17;
-      w2c_i2 = 12u;
-      w2c_i1 <<= (w2c_i2 & 31);
-      w2c_i2 = 61440u;
-      w2c_i1 &= w2c_i2;
-      w2c_i0 |= w2c_i1;
-      w2c_i1 = w2c_l21;
-      w2c_i0 |= w2c_i1;
-      w2c_l17 = w2c_i0;
-      w2c_j0 = 3ull;
-      w2c_l8 = w2c_j0;
-      goto w2c_B23;
-      w2c_B25:;
-      w2c_i0 = w2c_l21;
-      w2c_i1 = 6u;
-      w2c_i0 <<= (w2c_i1 & 31);
-      w2c_i1 = w2c_l20;
-      w2c_i2 = 12u;
-      w2c_i1 <<= (w2c_i2 & 31);
-      w2c_i2 = w2c_l17;
-      w2c_i3 = 18u;
-      w2c_i2 <<= (w2c_i3 & 31);
-      w2c_i3 = 1835008u;
-      w2c_i2 &= w2c_i3;
-      w2c_i1 |= w2c_i2;
-      w2c_i0 |= w2c_i1;
-      w2c_j1 = w2c_p2;
-      w2c_i1 = (u32)(w2c_j1);
-      w2c_i1 = i32_load8_u(m, (u64)(w2c_i1) + 3u);
-      w2c_i2 = 63u;
-      w2c_i1 &= w2c_i2;
-      w2c_i0 |= w2c_i1;
-      w2c_l17 = w2c_i0;
-      w2c_j0 = 4ull;
-      w2c_l8 = w2c_j0;
-      w2c_B23:;
-      w2c_j0 = w2c_l14;
-      w2c_j1 = w2c_l8;
-      w2c_j0 -= w2c_j1;
-      w2c_l13 = w2c_j0;
-      w2c_j0 = w2c_p2;
-      w2c_j1 = w2c_l8;
-      w2c_j0 += w2c_j1;
-      w2c_l8 = w2c_j0;
-      w2c_i0 = w2c_l17;
-      w2c_i1 = 4294965248u;
-      w2c_i0 += w2c_i1;
-      w2c_i1 = 63487u;
-      w2c_i0 = w2c_i0 > w2c_i1;
-      if (w2c_i0) {goto w2c_B28;}
-      w2c_i0 = w2c_l17;
-      w2c_i1 = 12u;
-      w2c_i0 >>= (w2c_i1 & 31);
-      w2c_i1 = w2c_l17;
-      w2c_i2 = 2u;
-      w2c_i1 <<= (w2c_i2 & 31);
-      w2c_i2 = 16128u;
-      w2c_i1 &= w2c_i2;
-      w2c_i0 |= w2c_i1;
-      w2c_i1 = w2c_l17;
-      w2c_i2 = 16u;
-      w2c_i1 <<= (w2c_i2 & 31);
-      w2c_i2 = 4128768u;
-      w2c_i1 &= w2c_i2;
-      w2c_i0 |= w2c_i1;
-      w2c_i1 = 8421600u;
-      w2c_i0 |= w2c_i1;
-      w2c_l20 = w2c_i0;
-      w2c_j0 = (u64)(w2c_i0);
-      w2c_j1 = 953497ull;
-      w2c_j0 *= w2c_j1;
-      w2c_j1 = 22ull;
-      w2c_j0 >>= (w2c_j1 & 63);
-      w2c_j1 = 1016ull;
-      w2c_j0 &= w2c_j1;
-      w2c_l11 = w2c_j0;
-      w2c_i0 = (u32)(w2c_j0);
-      w2c_i0 = i32_load(m, (u64)(w2c_i0) + 66976u);
-      w2c_i1 = w2c_l20;
-      w2c_i0 = w2c_i0 != w2c_i1;
-      if (w2c_i0) {goto w2c_L7;}
-      w2c_j0 = w2c_l11;
-      w2c_j1 = 66981ull;
-      w2c_j0 += w2c_j1;
-      w2c_i0 = (u32)(w2c_j0);
-      w2c_i0 = i32_load8_u(m, (u64)(w2c_i0));
-      w2c_l20 = w2c_i0;
-      w2c_i0 = 0u;
-      w2c_l21 = w2c_i0;
-      w2c_j0 = w2c_l11;
-      w2c_j1 = 66980ull;
-      w2c_j0 += w2c_j1;
-      w2c_i0 = (u32)(w2c_j0);
-      w2c_j0 = i64_load8_u(m, (u64)(w2c_i0));
-      w2c_i0 = (u32)(w2c_j0);
-      switch (w2c_i0) {
-        case 0: goto w2c_B26;
-        case 1: goto w2c_B27;
-        case 2: goto w2c_L7;
-        default: goto w2c_B26;
-      }
-      w2c_B28:;
-      w2c_i0 = w2c_l17;
-      w2c_i1 = 4294967248u;
-      w2c_i0 += w2c_i1;
-      w2c_l20 = w2c_i0;
-      w2c_i1 = 10u;
-      w2c_i0 = w2c_i0 >= w2c_i1;
-      if (w2c_i0) {goto w2c_L7;}
-      w2c_i0 = 0u;
-      w2c_l21 = w2c_i0;
-      goto w2c_B26;
-      w2c_B27:;
-      w2c_i0 = w2c_l20;
-      w2c_i1 = 255u;
-      w2c_i0 &= w2c_i1;
-      w2c_i1 = w2c_p4;
-      w2c_i2 = 255u;
-      w2c_i1 &= w2c_i2;
-      w2c_i0 = w2c_i0 > w2c_i1;
-      if (w2c_i0) {goto w2c_L7;}
-      w2c_i0 = 1u;
-      w2c_l21 = w2c_i0;
-      w2c_B26:;
-      w2c_i0 = w2c_p3;
-      w2c_i1 = 1u;
-      w2c_i0 &= w2c_i1;
-      if (w2c_i0) {goto w2c_B29;}
-      w2c_i0 = w2c_l17;
-      w2c_i1 = 29589u;
-      w2c_i0 = (u32)((s32)w2c_i0 > (s32)w2c_i1);
-      if (w2c_i0) {goto w2c_B31;}
-      w2c_i0 = w2c_l17;
-      w2c_i1 = 22776u;
-      w2c_i0 = (u32)((s32)w2c_i0 > (s32)w2c_i1);
-      if (w2c_i0) {goto w2c_B32;}
-      w2c_i0 = w2c_l17;
-      w2c_i1 = 20191u;
-      w2c_i0 = w2c_i0 == w2c_i1;
-      if (w2c_i0) {goto w2c_L7;}
-      w2c_i0 = w2c_l17;
-      w2c_i1 = 20237u;
-      w2c_i0 = w2c_i0 == w2c_i1;
-      if (w2c_i0) {goto w2c_L7;}
-      w2c_i0 = w2c_l17;
-      w2c_i1 = 20336u;
-      w2c_i0 = w2c_i0 == w2c_i1;
-      if (w2c_i0) {goto w2c_L7;}
-      goto w2c_B30;
-      w2c_B32:;
-      w2c_i0 = w2c_l17;
-      w2c_i1 = 25419u;
-      w2c_i0 = (u32)((s32)w2c_i0 > (s32)w2c_i1);
-      if (w2c_i0) {goto w2c_B33;}
-      w2c_i0 = w2c_l17;
-      w2c_i1 = 22777u;
-      w2c_i0 = w2c_i0 == w2c_i1;
-      if (w2c_i0) {goto w2c_L7;}
-      w2c_i0 = w2c_l17;
-      w2c_i1 = 25342u;
-      w2c_i0 = w2c_i0 == w2c_i1;
-      if (w2c_i0) {goto w2c_L7;}
-      goto w2c_B30;
-      w2c_B33:;
-      w2c_i0 = w2c_l17;
-      w2c_i1 = 25420u;
-      w2c_i0 = w2c_i0 == w2c_i1;
-      if (w2c_i0) {goto w2c_L7;}
-      w2c_i0 = w2c_l17;
-      w2c_i1 = 26578u;
-      w2c_i0 = w2c_i0 == w2c_i1;
-      if (w2c_i0) {goto w2c_L7;}
-      goto w2c_B30;
-      w2c_B31:;
-      w2c_i0 = w2c_l17;
-      w2c_i1 = 36143u;
-      w2c_i0 = (u32)((s32)w2c_i0 > (s32)w2c_i1);
-      if (w2c_i0) {goto w2c_B34;}
-      w2c_i0 = w2c_l17;
-      w2c_i1 = 4294931282u;
-      w2c_i0 += w2c_i1;
-      switch (w2c_i0) {
-        case 0: goto w2c_L7;
-        case 1: goto w2c_B30;
-        case 2: goto w2c_B30;
-        case 3: goto w2c_B30;
-        case 4: goto w2c_B30;
-        case 5: goto w2c_L7;
-        default: goto w2c_B35;
-      }
-      w2c_B35:;
-      w2c_i0 = w2c_l17;
-      w2c_i1 = 29590u;
-      w2c_i0 = w2c_i0 == w2c_i1;
-      if (w2c_i0) {goto w2c_L7;}
-      w2c_i0 = w2c_l17;
-      w2c_i1 = 32902u;
-      w2c_i0 = w2c_i0 == w2c_i1;
-      if (w2c_i0) {goto w2c_L7;}
-      goto w2c_B30;
-      w2c_B34:;
-      w2c_i0 = w2c_l17;
-      w2c_i1 = 36144u;
-      w2c_i0 = w2c_i0 == w2c_i1;
-      if (w2c_i0) {goto w2c_L7;}
-      w2c_i0 = w2c_l17;
-      w2c_i1 = 38470u;
-      w2c_i0 = w2c_i0 == w2c_i1;
-      if (w2c_i0) {goto w2c_L7;}
-      w2c_i0 = w2c_l17;
-      w2c_i1 = 38520u;
-      w2c_i0 = w2c_i0 == w2c_i1;
-      if (w2c_i0) {goto w2c_L7;}
-      w2c_B30:;
-      w2c_i0 = w2c_l17;
-      w2c_i1 = 4294945855u;
-      w2c_i0 += w2c_i1;
-      w2c_i1 = 4u;
-      w2c_i0 = w2c_i0 < w2c_i1;
-      if (w2c_i0) {goto w2c_L7;}
-      w2c_B29:;
-      w2c_i0 = w2c_l21;
-      w2c_i0 = !(w2c_i0);
-      if (w2c_i0) {goto w2c_B6;}
-      w2c_i0 = w2c_l20;
-      w2c_i1 = 255u;
-      w2c_i0 &= w2c_i1;
-      w2c_l20 = w2c_i0;
-      w2c_i0 = !(w2c_i0);
-      if (w2c_i0) {goto w2c_B8;}
-      w2c_i0 = w2c_l20;
-      w2c_i1 = 6u;
-      w2c_i0 = w2c_i0 != w2c_i1;
-      if (w2c_i0) {goto w2c_B6;}
-      w2c_j0 = w2c_l8;
-      w2c_j1 = w2c_l13;
-      w2c_i0 = w2c_f15(m, w2c_j0, w2c_j1);
-      if (w2c_i0) {goto w2c_L7;}
-      goto w2c_B6;
-      w2c_B11:;
-      w2c_i0 = w2c_l17;
-      w2c_i1 = 4294041472u;
-      w2c_i0 += w2c_i1;
-      w2c_l17 = w2c_i0;
-      goto w2c_B6;
-      w2c_B10:;
-      w2c_i0 = w2c_l17;
-      w2c_i1 = 4294041472u;
-      w2c_i0 += w2c_i1;
-      w2c_l17 = w2c_i0;
-      goto w2c_B6;
-      w2c_B9:;
-      w2c_i0 = w2c_p3;
-      w2c_i1 = w2c_p4;
-      w2c_j2 = w2c_l8;
-      w2c_j3 = w2c_l13;
-      w2c_i0 = w2c_f16(m, w2c_i0, w2c_i1, w2c_j2, w2c_j3);
-      w2c_i0 = !(w2c_i0);
-      if (w2c_i0) {goto w2c_L7;}
-      w2c_i0 = w2c_l17;
-      w2c_i1 = 4294041472u;
-      w2c_i0 += w2c_i1;
-      w2c_l17 = w2c_i0;
-      goto w2c_B6;
-      w2c_B8:;
-      w2c_i0 = w2c_p3;
-      w2c_i1 = w2c_p4;
-      w2c_j2 = w2c_l8;
-      w2c_j3 = w2c_l13;
-      w2c_i0 = w2c_f16(m, w2c_i0, w2c_i1, w2c_j2, w2c_j3);
-      w2c_i0 = !(w2c_i0);
-      if (w2c_i0) {goto w2c_L7;}
-    w2c_B6:;
-    w2c_j0 = w2c_p1;
-    w2c_j1 = w2c_l14;
-    w2c_j0 -= w2c_j1;
-    w2c_l15 = w2c_j0;
-    w2c_L37:
-      w2c_j0 = w2c_l8;
-      w2c_l11 = w2c_j0;
-      w2c_i0 = w2c_l17;
-      w2c_l20 = w2c_i0;
-      w2c_j0 = w2c_l13;
-      w2c_l12 = w2c_j0;
-      w2c_j1 = 3ull;
-      w2c_i0 = w2c_j0 < w2c_j1;
-      if (w2c_i0) {goto w2c_B43;}
-      w2c_j0 = w2c_l11;
-      w2c_i0 = (u32)(w2c_j0);
-      w2c_i0 = i32_load8_u(m, (u64)(w2c_i0));
-      w2c_l17 = w2c_i0;
-      w2c_i1 = 240u;
-      w2c_i0 &= w2c_i1;
-      w2c_i1 = 224u;
-      w2c_i0 = w2c_i0 != w2c_i1;
-      if (w2c_i0) {goto w2c_B42;}
-      w2c_j0 = w2c_l11;
-      w2c_i0 = (u32)(w2c_j0);
-      w2c_i0 = i32_load8_u(m, (u64)(w2c_i0) + 1u);
-      w2c_l18 = w2c_i0;
-      w2c_i1 = 8u;
-      w2c_i0 <<= (w2c_i1 & 31);
-      w2c_j1 = w2c_l11;
-      w2c_i1 = (u32)(w2c_j1);
-      w2c_i1 = i32_load8_u(m, (u64)(w2c_i1) + 2u);
-      w2c_l19 = w2c_i1;
-      w2c_i2 = 16u;
-      w2c_i1 <<= (w2c_i2 & 31);
-      w2c_i0 |= w2c_i1;
-      w2c_i1 = w2c_l17;
-      w2c_i0 |= w2c_i1;
-      w2c_l21 = w2c_i0;
+      w2c_l22 = w2c_i0;
       w2c_j0 = (u64)(w2c_i0);
       w2c_j1 = 953497ull;
       w2c_j0 *= w2c_j1;
@@ -8352,141 +8811,150 @@ static u32 w2c_f14(module *m, u64 w2c_p0, u64 w2c_p1, u64 w2c_p2, u32 w2c_p3, u3
       w2c_j0 += w2c_j1;
       w2c_i0 = (u32)(w2c_j0);
       w2c_i0 = i32_load(m, (u64)(w2c_i0));
-      w2c_i1 = w2c_l21;
+      w2c_i1 = w2c_l22;
       w2c_i0 = w2c_i0 != w2c_i1;
-      if (w2c_i0) {goto w2c_B36;}
-      w2c_i0 = w2c_l17;
+      if (w2c_i0) {goto w2c_B43;}
+      w2c_i0 = w2c_l18;
       w2c_i1 = 12u;
       w2c_i0 <<= (w2c_i1 & 31);
-      w2c_i1 = w2c_l18;
+      w2c_i1 = w2c_l19;
       w2c_i2 = 6u;
       w2c_i1 <<= (w2c_i2 & 31);
       w2c_i0 += w2c_i1;
-      w2c_i1 = w2c_l19;
+      w2c_i1 = w2c_l23;
       w2c_i0 += w2c_i1;
       w2c_i1 = 4294041472u;
       w2c_i0 += w2c_i1;
-      w2c_l17 = w2c_i0;
-      w2c_j0 = w2c_l12;
+      w2c_l18 = w2c_i0;
+      w2c_j0 = w2c_l15;
       w2c_j1 = 18446744073709551613ull;
       w2c_j0 += w2c_j1;
-      w2c_l13 = w2c_j0;
-      w2c_j0 = w2c_l11;
+      w2c_l11 = w2c_j0;
+      w2c_j0 = w2c_l13;
       w2c_j1 = 3ull;
       w2c_j0 += w2c_j1;
-      w2c_l8 = w2c_j0;
-      goto w2c_B41;
+      w2c_l12 = w2c_j0;
+      goto w2c_B40;
       w2c_B43:;
-      w2c_j0 = w2c_l12;
+      w2c_i0 = 0u;
+      w2c_l20 = w2c_i0;
+      goto w2c_B35;
+      w2c_B42:;
+      w2c_j0 = w2c_l15;
       w2c_i0 = !(w2c_j0);
-      if (w2c_i0) {goto w2c_B36;}
-      w2c_j0 = w2c_l11;
+      w2c_i0 = !(w2c_i0);
+      if (w2c_i0) {goto w2c_B44;}
+      w2c_i0 = 1u;
+      w2c_l20 = w2c_i0;
+      goto w2c_B35;
+      w2c_B44:;
+      w2c_j0 = w2c_l13;
       w2c_i0 = (u32)(w2c_j0);
       w2c_i0 = i32_load8_u(m, (u64)(w2c_i0));
-      w2c_l17 = w2c_i0;
-      w2c_B42:;
+      w2c_l18 = w2c_i0;
+      w2c_B41:;
       w2c_j0 = 1ull;
-      w2c_l8 = w2c_j0;
-      w2c_i0 = w2c_l17;
+      w2c_l12 = w2c_j0;
+      w2c_i0 = w2c_l18;
       w2c_i0 = (u32)(s32)(s8)(u8)(w2c_i0);
       w2c_i1 = 4294967295u;
       w2c_i0 = (u32)((s32)w2c_i0 > (s32)w2c_i1);
-      if (w2c_i0) {goto w2c_B44;}
-      w2c_j0 = w2c_l11;
+      if (w2c_i0) {goto w2c_B45;}
+      w2c_j0 = w2c_l13;
       w2c_i0 = (u32)(w2c_j0);
       w2c_i0 = i32_load8_u(m, (u64)(w2c_i0) + 1u);
       w2c_i1 = 63u;
       w2c_i0 &= w2c_i1;
-      w2c_l21 = w2c_i0;
-      w2c_i0 = w2c_l17;
+      w2c_l22 = w2c_i0;
+      w2c_i0 = w2c_l18;
       w2c_i1 = 223u;
-      w2c_i0 = w2c_i0 > w2c_i1;
-      if (w2c_i0) {goto w2c_B45;}
-      w2c_i0 = w2c_l17;
-      w2c_i1 = 6u;
-      w2c_i0 <<= (w2c_i1 & 31);
-      w2c_i1 = 1984u;
-      w2c_i0 &= w2c_i1;
-      w2c_i1 = w2c_l21;
-      w2c_i0 |= w2c_i1;
-      w2c_l17 = w2c_i0;
-      w2c_j0 = 2ull;
-      w2c_l8 = w2c_j0;
-      goto w2c_B44;
-      w2c_B45:;
-      w2c_j0 = w2c_l11;
-      w2c_i0 = (u32)(w2c_j0);
-      w2c_i0 = i32_load8_u(m, (u64)(w2c_i0) + 2u);
-      w2c_i1 = 63u;
-      w2c_i0 &= w2c_i1;
-      w2c_l18 = w2c_i0;
-      w2c_i0 = w2c_l17;
-      w2c_i1 = 239u;
       w2c_i0 = w2c_i0 > w2c_i1;
       if (w2c_i0) {goto w2c_B46;}
-      w2c_i0 = w2c_l21;
+      w2c_i0 = w2c_l18;
       w2c_i1 = 6u;
       w2c_i0 <<= (w2c_i1 & 31);
-      w2c_i1 = w2c_l17;
+      w2c_i1 = 1984u;
+      w2c_i0 &= w2c_i1;
+      w2c_i1 = w2c_l22;
+      w2c_i0 |= w2c_i1;
+      w2c_l18 = w2c_i0;
+      w2c_j0 = 2ull;
+      w2c_l12 = w2c_j0;
+      goto w2c_B45;
+      w2c_B46:;
+      w2c_j0 = w2c_l13;
+      w2c_i0 = (u32)(w2c_j0);
+      w2c_i0 = i32_load8_u(m, (u64)(w2c_i0) + 2u);
+      w2c_i1 = 63u;
+      w2c_i0 &= w2c_i1;
+      w2c_l19 = w2c_i0;
+      w2c_i0 = w2c_l18;
+      w2c_i1 = 239u;
+      w2c_i0 = w2c_i0 > w2c_i1;
+      if (w2c_i0) {goto w2c_B47;}
+      w2c_i0 = w2c_l22;
+      w2c_i1 = 6u;
+      w2c_i0 <<= (w2c_i1 & 31);
+      w2c_i1 = w2c_l18;
       w2c_i2 = 12u;
       w2c_i1 <<= (w2c_i2 & 31);
       w2c_i2 = 61440u;
       w2c_i1 &= w2c_i2;
       w2c_i0 |= w2c_i1;
-      w2c_i1 = w2c_l18;
+      w2c_i1 = w2c_l19;
       w2c_i0 |= w2c_i1;
-      w2c_l17 = w2c_i0;
+      w2c_l18 = w2c_i0;
       w2c_j0 = 3ull;
-      w2c_l8 = w2c_j0;
-      goto w2c_B44;
-      w2c_B46:;
-      w2c_i0 = w2c_l18;
+      w2c_l12 = w2c_j0;
+      goto w2c_B45;
+      w2c_B47:;
+      w2c_i0 = w2c_l19;
       w2c_i1 = 6u;
       w2c_i0 <<= (w2c_i1 & 31);
-      w2c_i1 = w2c_l21;
+      w2c_i1 = w2c_l22;
       w2c_i2 = 12u;
       w2c_i1 <<= (w2c_i2 & 31);
-      w2c_i2 = w2c_l17;
+      w2c_i2 = w2c_l18;
       w2c_i3 = 18u;
       w2c_i2 <<= (w2c_i3 & 31);
       w2c_i3 = 1835008u;
       w2c_i2 &= w2c_i3;
       w2c_i1 |= w2c_i2;
       w2c_i0 |= w2c_i1;
-      w2c_j1 = w2c_l11;
+      w2c_j1 = w2c_l13;
       w2c_i1 = (u32)(w2c_j1);
       w2c_i1 = i32_load8_u(m, (u64)(w2c_i1) + 3u);
       w2c_i2 = 63u;
       w2c_i1 &= w2c_i2;
       w2c_i0 |= w2c_i1;
-      w2c_l17 = w2c_i0;
+      w2c_l18 = w2c_i0;
       w2c_j0 = 4ull;
-      w2c_l8 = w2c_j0;
-      w2c_B44:;
-      w2c_j0 = w2c_l12;
-      w2c_j1 = w2c_l8;
+      w2c_l12 = w2c_j0;
+      w2c_B45:;
+      w2c_j0 = w2c_l15;
+      w2c_j1 = w2c_l12;
       w2c_j0 -= w2c_j1;
-      w2c_l13 = w2c_j0;
-      w2c_j0 = w2c_l11;
-      w2c_j1 = w2c_l8;
+      w2c_l11 = w2c_j0;
+      w2c_j0 = w2c_l13;
+      w2c_j1 = w2c_l12;
       w2c_j0 += w2c_j1;
-      w2c_l8 = w2c_j0;
-      w2c_i0 = w2c_l17;
+      w2c_l12 = w2c_j0;
+      w2c_i0 = w2c_l18;
       w2c_i1 = 4294965248u;
       w2c_i0 += w2c_i1;
       w2c_i1 = 63487u;
       w2c_i0 = w2c_i0 > w2c_i1;
-      if (w2c_i0) {goto w2c_B40;}
-      w2c_i0 = w2c_l17;
+      if (w2c_i0) {goto w2c_B39;}
+      w2c_i0 = w2c_l18;
       w2c_i1 = 12u;
       w2c_i0 >>= (w2c_i1 & 31);
-      w2c_i1 = w2c_l17;
+      w2c_i1 = w2c_l18;
       w2c_i2 = 2u;
       w2c_i1 <<= (w2c_i2 & 31);
       w2c_i2 = 16128u;
       w2c_i1 &= w2c_i2;
       w2c_i0 |= w2c_i1;
-      w2c_i1 = w2c_l17;
+      w2c_i1 = w2c_l18;
       w2c_i2 = 16u;
       w2c_i1 <<= (w2c_i2 & 31);
       w2c_i2 = 4128768u;
@@ -8494,7 +8962,7 @@ static u32 w2c_f14(module *m, u64 w2c_p0, u64 w2c_p1, u64 w2c_p2, u32 w2c_p3, u3
       w2c_i0 |= w2c_i1;
       w2c_i1 = 8421600u;
       w2c_i0 |= w2c_i1;
-      w2c_l21 = w2c_i0;
+      w2c_l22 = w2c_i0;
       w2c_j0 = (u64)(w2c_i0);
       w2c_j1 = 953497ull;
       w2c_j0 *= w2c_j1;
@@ -8507,18 +8975,18 @@ static u32 w2c_f14(module *m, u64 w2c_p0, u64 w2c_p1, u64 w2c_p2, u32 w2c_p3, u3
       w2c_j0 += w2c_j1;
       w2c_i0 = (u32)(w2c_j0);
       w2c_i0 = i32_load(m, (u64)(w2c_i0));
-      w2c_i1 = w2c_l21;
+      w2c_i1 = w2c_l22;
       w2c_i0 = w2c_i0 != w2c_i1;
-      if (w2c_i0) {goto w2c_B36;}
-      w2c_B41:;
+      if (w2c_i0) {goto w2c_B35;}
+      w2c_B40:;
       w2c_j0 = w2c_l16;
       w2c_j1 = 66981ull;
       w2c_j0 += w2c_j1;
       w2c_i0 = (u32)(w2c_j0);
       w2c_i0 = i32_load8_u(m, (u64)(w2c_i0));
-      w2c_l18 = w2c_i0;
+      w2c_l19 = w2c_i0;
       w2c_i0 = 0u;
-      w2c_l21 = w2c_i0;
+      w2c_l22 = w2c_i0;
       w2c_j0 = w2c_l16;
       w2c_j1 = 66980ull;
       w2c_j0 += w2c_j1;
@@ -8526,178 +8994,176 @@ static u32 w2c_f14(module *m, u64 w2c_p0, u64 w2c_p1, u64 w2c_p2, u32 w2c_p3, u3
       w2c_j0 = i64_load8_u(m, (u64)(w2c_i0));
       w2c_i0 = (u32)(w2c_j0);
       switch (w2c_i0) {
-        case 0: goto w2c_B38;
-        case 1: goto w2c_B39;
-        case 2: goto w2c_B36;
-        default: goto w2c_B38;
+        case 0: goto w2c_B37;
+        case 1: goto w2c_B38;
+        case 2: goto w2c_B35;
+        default: goto w2c_B37;
       }
-      w2c_B40:;
-      w2c_i0 = w2c_l17;
-      w2c_i1 = 4294967248u;
-      w2c_i0 += w2c_i1;
-      w2c_l18 = w2c_i0;
-      w2c_i1 = 10u;
-      w2c_i0 = w2c_i0 >= w2c_i1;
-      if (w2c_i0) {goto w2c_B36;}
-      w2c_i0 = 0u;
-      w2c_l21 = w2c_i0;
-      goto w2c_B38;
       w2c_B39:;
       w2c_i0 = w2c_l18;
+      w2c_i1 = 4294967248u;
+      w2c_i0 += w2c_i1;
+      w2c_l19 = w2c_i0;
+      w2c_i1 = 10u;
+      w2c_i0 = w2c_i0 >= w2c_i1;
+      if (w2c_i0) {goto w2c_B35;}
+      w2c_i0 = 0u;
+      w2c_l22 = w2c_i0;
+      goto w2c_B37;
+      w2c_B38:;
+      w2c_i0 = w2c_p4;
       w2c_i1 = 255u;
       w2c_i0 &= w2c_i1;
-      w2c_i1 = w2c_p4;
+      w2c_i1 = w2c_l19;
       w2c_i2 = 255u;
       w2c_i1 &= w2c_i2;
-      w2c_i0 = w2c_i0 > w2c_i1;
-      if (w2c_i0) {goto w2c_B36;}
+      w2c_i0 = w2c_i0 < w2c_i1;
+      if (w2c_i0) {goto w2c_B35;}
       w2c_i0 = 1u;
-      w2c_l21 = w2c_i0;
-      w2c_B38:;
+      w2c_l22 = w2c_i0;
+      w2c_B37:;
       w2c_i0 = w2c_p3;
-      w2c_i1 = 1u;
-      w2c_i0 &= w2c_i1;
-      if (w2c_i0) {goto w2c_B47;}
-      w2c_i0 = w2c_l17;
+      if (w2c_i0) {goto w2c_B48;}
+      w2c_i0 = w2c_l18;
       w2c_i1 = 29589u;
       w2c_i0 = (u32)((s32)w2c_i0 > (s32)w2c_i1);
-      if (w2c_i0) {goto w2c_B49;}
-      w2c_i0 = w2c_l17;
+      if (w2c_i0) {goto w2c_B50;}
+      w2c_i0 = w2c_l18;
       w2c_i1 = 22776u;
       w2c_i0 = (u32)((s32)w2c_i0 > (s32)w2c_i1);
-      if (w2c_i0) {goto w2c_B50;}
-      w2c_i0 = w2c_l17;
+      if (w2c_i0) {goto w2c_B51;}
+      w2c_i0 = w2c_l18;
       w2c_i1 = 20191u;
       w2c_i0 = w2c_i0 == w2c_i1;
-      if (w2c_i0) {goto w2c_B36;}
-      w2c_i0 = w2c_l17;
+      if (w2c_i0) {goto w2c_B35;}
+      w2c_i0 = w2c_l18;
       w2c_i1 = 20237u;
       w2c_i0 = w2c_i0 == w2c_i1;
-      if (w2c_i0) {goto w2c_B36;}
-      w2c_i0 = w2c_l17;
+      if (w2c_i0) {goto w2c_B35;}
+      w2c_i0 = w2c_l18;
       w2c_i1 = 20336u;
       w2c_i0 = w2c_i0 != w2c_i1;
-      if (w2c_i0) {goto w2c_B48;}
-      goto w2c_B36;
-      w2c_B50:;
-      w2c_i0 = w2c_l17;
+      if (w2c_i0) {goto w2c_B49;}
+      goto w2c_B35;
+      w2c_B51:;
+      w2c_i0 = w2c_l18;
       w2c_i1 = 25419u;
       w2c_i0 = (u32)((s32)w2c_i0 > (s32)w2c_i1);
-      if (w2c_i0) {goto w2c_B51;}
-      w2c_i0 = w2c_l17;
+      if (w2c_i0) {goto w2c_B52;}
+      w2c_i0 = w2c_l18;
       w2c_i1 = 22777u;
       w2c_i0 = w2c_i0 == w2c_i1;
-      if (w2c_i0) {goto w2c_B36;}
-      w2c_i0 = w2c_l17;
+      if (w2c_i0) {goto w2c_B35;}
+      w2c_i0 = w2c_l18;
       w2c_i1 = 25342u;
       w2c_i0 = w2c_i0 != w2c_i1;
-      if (w2c_i0) {goto w2c_B48;}
-      goto w2c_B36;
-      w2c_B51:;
-      w2c_i0 = w2c_l17;
+      if (w2c_i0) {goto w2c_B49;}
+      goto w2c_B35;
+      w2c_B52:;
+      w2c_i0 = w2c_l18;
       w2c_i1 = 25420u;
       w2c_i0 = w2c_i0 == w2c_i1;
-      if (w2c_i0) {goto w2c_B36;}
-      w2c_i0 = w2c_l17;
+      if (w2c_i0) {goto w2c_B35;}
+      w2c_i0 = w2c_l18;
       w2c_i1 = 26578u;
       w2c_i0 = w2c_i0 != w2c_i1;
-      if (w2c_i0) {goto w2c_B48;}
-      goto w2c_B36;
-      w2c_B49:;
-      w2c_i0 = w2c_l17;
+      if (w2c_i0) {goto w2c_B49;}
+      goto w2c_B35;
+      w2c_B50:;
+      w2c_i0 = w2c_l18;
       w2c_i1 = 36143u;
       w2c_i0 = (u32)((s32)w2c_i0 > (s32)w2c_i1);
-      if (w2c_i0) {goto w2c_B52;}
-      w2c_i0 = w2c_l17;
+      if (w2c_i0) {goto w2c_B53;}
+      w2c_i0 = w2c_l18;
       w2c_i1 = 4294931282u;
       w2c_i0 += w2c_i1;
       switch (w2c_i0) {
-        case 0: goto w2c_B36;
-        case 1: goto w2c_B48;
-        case 2: goto w2c_B48;
-        case 3: goto w2c_B48;
-        case 4: goto w2c_B48;
-        case 5: goto w2c_B36;
-        default: goto w2c_B53;
+        case 0: goto w2c_B35;
+        case 1: goto w2c_B49;
+        case 2: goto w2c_B49;
+        case 3: goto w2c_B49;
+        case 4: goto w2c_B49;
+        case 5: goto w2c_B35;
+        default: goto w2c_B54;
       }
-      w2c_B53:;
-      w2c_i0 = w2c_l17;
+      w2c_B54:;
+      w2c_i0 = w2c_l18;
       w2c_i1 = 29590u;
       w2c_i0 = w2c_i0 == w2c_i1;
-      if (w2c_i0) {goto w2c_B36;}
-      w2c_i0 = w2c_l17;
+      if (w2c_i0) {goto w2c_B35;}
+      w2c_i0 = w2c_l18;
       w2c_i1 = 32902u;
       w2c_i0 = w2c_i0 != w2c_i1;
-      if (w2c_i0) {goto w2c_B48;}
-      goto w2c_B36;
-      w2c_B52:;
-      w2c_i0 = w2c_l17;
+      if (w2c_i0) {goto w2c_B49;}
+      goto w2c_B35;
+      w2c_B53:;
+      w2c_i0 = w2c_l18;
       w2c_i1 = 36144u;
       w2c_i0 = w2c_i0 == w2c_i1;
-      if (w2c_i0) {goto w2c_B36;}
-      w2c_i0 = w2c_l17;
+      if (w2c_i0) {goto w2c_B35;}
+      w2c_i0 = w2c_l18;
       w2c_i1 = 38470u;
       w2c_i0 = w2c_i0 == w2c_i1;
-      if (w2c_i0) {goto w2c_B36;}
-      w2c_i0 = w2c_l17;
+      if (w2c_i0) {goto w2c_B35;}
+      w2c_i0 = w2c_l18;
       w2c_i1 = 38520u;
       w2c_i0 = w2c_i0 == w2c_i1;
-      if (w2c_i0) {goto w2c_B36;}
-      w2c_B48:;
-      w2c_i0 = w2c_l17;
+      if (w2c_i0) {goto w2c_B35;}
+      w2c_B49:;
+      w2c_i0 = w2c_l18;
       w2c_i1 = 4294945855u;
       w2c_i0 += w2c_i1;
       w2c_i1 = 4u;
       w2c_i0 = w2c_i0 < w2c_i1;
-      if (w2c_i0) {goto w2c_B36;}
-      w2c_B47:;
-      w2c_i0 = w2c_l21;
+      if (w2c_i0) {goto w2c_B35;}
+      w2c_B48:;
+      w2c_i0 = w2c_l22;
       w2c_i0 = !(w2c_i0);
-      if (w2c_i0) {goto w2c_B54;}
+      if (w2c_i0) {goto w2c_B55;}
       w2c_i0 = 1u;
-      w2c_i1 = w2c_l18;
+      w2c_i1 = w2c_l19;
       w2c_i2 = 255u;
       w2c_i1 &= w2c_i2;
-      w2c_l21 = w2c_i1;
+      w2c_l22 = w2c_i1;
       w2c_i0 <<= (w2c_i1 & 31);
       w2c_i1 = 65470u;
       w2c_i0 &= w2c_i1;
-      if (w2c_i0) {goto w2c_B54;}
-      w2c_i0 = w2c_l21;
+      if (w2c_i0) {goto w2c_B55;}
+      w2c_i0 = w2c_l22;
+      w2c_i0 = !(w2c_i0);
+      if (w2c_i0) {goto w2c_B56;}
+      w2c_j0 = w2c_l12;
+      w2c_j1 = w2c_l11;
+      w2c_i0 = w2c_f17(m, w2c_j0, w2c_j1);
       w2c_i0 = !(w2c_i0);
       if (w2c_i0) {goto w2c_B55;}
-      w2c_j0 = w2c_l8;
-      w2c_j1 = w2c_l13;
-      w2c_i0 = w2c_f15(m, w2c_j0, w2c_j1);
-      w2c_i0 = !(w2c_i0);
-      if (w2c_i0) {goto w2c_B54;}
-      goto w2c_B36;
-      w2c_B55:;
+      goto w2c_B35;
+      w2c_B56:;
       w2c_i0 = w2c_p3;
       w2c_i1 = w2c_p4;
-      w2c_j2 = w2c_l8;
-      w2c_j3 = w2c_l13;
-      w2c_i0 = w2c_f16(m, w2c_i0, w2c_i1, w2c_j2, w2c_j3);
+      w2c_j2 = w2c_l12;
+      w2c_j3 = w2c_l11;
+      w2c_i0 = w2c_f18(m, w2c_i0, w2c_i1, w2c_j2, w2c_j3);
       w2c_i0 = !(w2c_i0);
-      if (w2c_i0) {goto w2c_B36;}
-      w2c_B54:;
-      w2c_i0 = w2c_l20;
+      if (w2c_i0) {goto w2c_B35;}
+      w2c_B55:;
+      w2c_i0 = w2c_l21;
       w2c_i1 = 4294967248u;
       w2c_i0 += w2c_i1;
       w2c_i1 = 9u;
       w2c_i0 = w2c_i0 > w2c_i1;
-      if (w2c_i0) {goto w2c_B56;}
+      if (w2c_i0) {goto w2c_B57;}
       w2c_j0 = w2c_l9;
       w2c_j1 = 8ull;
       w2c_j0 += w2c_j1;
-      w2c_i1 = w2c_l17;
-      w2c_f17(m, w2c_j0, w2c_i1);
-      w2c_i0 = w2c_l17;
+      w2c_i1 = w2c_l18;
+      w2c_f19(m, w2c_j0, w2c_i1);
+      w2c_i0 = w2c_l18;
       w2c_i1 = 4294967238u;
       w2c_i0 += w2c_i1;
       w2c_i1 = 4294967285u;
       w2c_i0 = w2c_i0 > w2c_i1;
-      if (w2c_i0) {goto w2c_B56;}
+      if (w2c_i0) {goto w2c_B57;}
       w2c_j0 = w2c_l9;
       w2c_i0 = (u32)(w2c_j0);
       w2c_i0 = i32_load8_u(m, (u64)(w2c_i0) + 8u);
@@ -8705,23 +9171,23 @@ static u32 w2c_f14(module *m, u64 w2c_p0, u64 w2c_p1, u64 w2c_p2, u32 w2c_p3, u3
       w2c_i0 &= w2c_i1;
       w2c_i1 = 1u;
       w2c_i0 = w2c_i0 == w2c_i1;
-      if (w2c_i0) {goto w2c_B36;}
-      w2c_B56:;
-      w2c_i0 = w2c_l17;
+      if (w2c_i0) {goto w2c_B35;}
+      w2c_B57:;
+      w2c_i0 = w2c_l18;
       w2c_i1 = 4294967248u;
       w2c_i0 += w2c_i1;
       w2c_i1 = 9u;
       w2c_i0 = w2c_i0 > w2c_i1;
-      if (w2c_i0) {goto w2c_L37;}
+      if (w2c_i0) {goto w2c_L36;}
       w2c_j0 = w2c_l9;
-      w2c_i1 = w2c_l20;
-      w2c_f17(m, w2c_j0, w2c_i1);
-      w2c_i0 = w2c_l20;
+      w2c_i1 = w2c_l21;
+      w2c_f19(m, w2c_j0, w2c_i1);
+      w2c_i0 = w2c_l21;
       w2c_i1 = 4294967238u;
       w2c_i0 += w2c_i1;
       w2c_i1 = 4294967285u;
       w2c_i0 = w2c_i0 > w2c_i1;
-      if (w2c_i0) {goto w2c_L37;}
+      if (w2c_i0) {goto w2c_L36;}
       w2c_j0 = w2c_l9;
       w2c_i0 = (u32)(w2c_j0);
       w2c_i0 = i32_load8_u(m, (u64)(w2c_i0));
@@ -8729,39 +9195,1802 @@ static u32 w2c_f14(module *m, u64 w2c_p0, u64 w2c_p1, u64 w2c_p2, u32 w2c_p3, u3
       w2c_i0 &= w2c_i1;
       w2c_i1 = 1u;
       w2c_i0 = w2c_i0 != w2c_i1;
-      if (w2c_i0) {goto w2c_L37;}
-    w2c_B36:;
+      if (w2c_i0) {goto w2c_L36;}
+    w2c_B35:;
+    w2c_j0 = w2c_l14;
+    w2c_j1 = 3ull;
+    w2c_i0 = w2c_j0 < w2c_j1;
+    if (w2c_i0) {goto w2c_B71;}
+    w2c_j0 = w2c_p0;
+    w2c_j1 = w2c_l14;
+    w2c_j0 += w2c_j1;
+    w2c_l11 = w2c_j0;
+    w2c_j1 = 18446744073709551613ull;
+    w2c_j0 += w2c_j1;
+    w2c_i0 = (u32)(w2c_j0);
+    w2c_i0 = i32_load8_u(m, (u64)(w2c_i0));
+    w2c_l21 = w2c_i0;
+    w2c_i1 = 240u;
+    w2c_i0 &= w2c_i1;
+    w2c_i1 = 224u;
+    w2c_i0 = w2c_i0 != w2c_i1;
+    if (w2c_i0) {goto w2c_B70;}
+    w2c_i0 = w2c_l21;
+    w2c_i1 = 12u;
+    w2c_i0 <<= (w2c_i1 & 31);
+    w2c_j1 = w2c_l11;
+    w2c_j2 = 18446744073709551615ull;
+    w2c_j1 += w2c_j2;
+    w2c_i1 = (u32)(w2c_j1);
+    w2c_i1 = i32_load8_u(m, (u64)(w2c_i1));
+    w2c_l22 = w2c_i1;
+    w2c_i0 |= w2c_i1;
+    w2c_j1 = w2c_l11;
+    w2c_j2 = 18446744073709551614ull;
+    w2c_j1 += w2c_j2;
+    w2c_i1 = (u32)(w2c_j1);
+    w2c_i1 = i32_load8_u(m, (u64)(w2c_i1));
+    w2c_l19 = w2c_i1;
+    w2c_i2 = 6u;
+    w2c_i1 <<= (w2c_i2 & 31);
+    w2c_i0 += w2c_i1;
+    w2c_i1 = 4294041472u;
+    w2c_i0 += w2c_i1;
+    w2c_l18 = w2c_i0;
+    w2c_j0 = w2c_l14;
+    w2c_j1 = 18446744073709551613ull;
+    w2c_j0 += w2c_j1;
+    w2c_l11 = w2c_j0;
+    w2c_i0 = w2c_l19;
+    w2c_i1 = 8u;
+    w2c_i0 <<= (w2c_i1 & 31);
+    w2c_i1 = w2c_l22;
+    w2c_i2 = 16u;
+    w2c_i1 <<= (w2c_i2 & 31);
+    w2c_i0 |= w2c_i1;
+    w2c_i1 = w2c_l21;
+    w2c_i0 |= w2c_i1;
+    w2c_l21 = w2c_i0;
+    w2c_j0 = (u64)(w2c_i0);
+    w2c_j1 = 953497ull;
+    w2c_j0 *= w2c_j1;
+    w2c_j1 = 22ull;
+    w2c_j0 >>= (w2c_j1 & 63);
+    w2c_j1 = 1016ull;
+    w2c_j0 &= w2c_j1;
+    w2c_l12 = w2c_j0;
+    w2c_j1 = 66976ull;
+    w2c_j0 += w2c_j1;
+    w2c_i0 = (u32)(w2c_j0);
+    w2c_i0 = i32_load(m, (u64)(w2c_i0));
+    w2c_i1 = w2c_l21;
+    w2c_i0 = w2c_i0 == w2c_i1;
+    if (w2c_i0) {goto w2c_B69;}
+    goto w2c_B67;
+    w2c_B71:;
+    w2c_j0 = w2c_p1;
+    w2c_j1 = w2c_l8;
+    w2c_i0 = w2c_j0 != w2c_j1;
+    if (w2c_i0) {goto w2c_B70;}
+    w2c_i0 = 0u;
+    w2c_l22 = w2c_i0;
+    w2c_j0 = w2c_p1;
+    w2c_l12 = w2c_j0;
+    w2c_i0 = 0u;
+    w2c_l23 = w2c_i0;
+    goto w2c_B58;
+    w2c_B70:;
+    w2c_i0 = 0u;
+    w2c_l22 = w2c_i0;
+    w2c_j0 = w2c_p0;
+    w2c_j1 = w2c_l14;
+    w2c_j2 = 18446744073709551615ull;
+    w2c_j1 += w2c_j2;
+    w2c_l11 = w2c_j1;
+    w2c_j0 += w2c_j1;
+    w2c_i0 = (u32)(w2c_j0);
+    w2c_i0 = i32_load8_s(m, (u64)(w2c_i0));
+    w2c_l18 = w2c_i0;
+    w2c_i1 = 0u;
+    w2c_i0 = (u32)((s32)w2c_i0 >= (s32)w2c_i1);
+    if (w2c_i0) {goto w2c_B68;}
+    w2c_j0 = 18446744073709551614ull;
+    w2c_l11 = w2c_j0;
+    w2c_j0 = w2c_p0;
+    w2c_j1 = w2c_l14;
+    w2c_j0 += w2c_j1;
+    w2c_l12 = w2c_j0;
+    w2c_j1 = 18446744073709551614ull;
+    w2c_j0 += w2c_j1;
+    w2c_i0 = (u32)(w2c_j0);
+    w2c_i0 = i32_load8_u(m, (u64)(w2c_i0));
+    w2c_i1 = 191u;
+    w2c_i0 = w2c_i0 > w2c_i1;
+    if (w2c_i0) {goto w2c_B72;}
+    w2c_j0 = 18446744073709551613ull;
+    w2c_j1 = 18446744073709551612ull;
+    w2c_j2 = w2c_l12;
+    w2c_j3 = 18446744073709551613ull;
+    w2c_j2 += w2c_j3;
+    w2c_i2 = (u32)(w2c_j2);
+    w2c_i2 = i32_load8_u(m, (u64)(w2c_i2));
+    w2c_i3 = 191u;
+    w2c_i2 = w2c_i2 > w2c_i3;
+    w2c_j0 = w2c_i2 ? w2c_j0 : w2c_j1;
+    w2c_l11 = w2c_j0;
+    w2c_B72:;
+    w2c_j0 = w2c_p0;
+    w2c_j1 = w2c_l11;
+    w2c_j2 = w2c_l14;
+    w2c_j1 += w2c_j2;
+    w2c_l11 = w2c_j1;
+    w2c_j0 += w2c_j1;
+    w2c_l12 = w2c_j0;
+    w2c_i0 = (u32)(w2c_j0);
+    w2c_i0 = i32_load8_s(m, (u64)(w2c_i0));
+    w2c_l21 = w2c_i0;
+    w2c_i1 = 255u;
+    w2c_i0 &= w2c_i1;
+    w2c_l18 = w2c_i0;
+    w2c_i0 = w2c_l21;
+    w2c_i1 = 4294967295u;
+    w2c_i0 = (u32)((s32)w2c_i0 > (s32)w2c_i1);
+    if (w2c_i0) {goto w2c_B68;}
+    w2c_j0 = w2c_l12;
+    w2c_i0 = (u32)(w2c_j0);
+    w2c_i0 = i32_load8_u(m, (u64)(w2c_i0) + 1u);
+    w2c_i1 = 63u;
+    w2c_i0 &= w2c_i1;
+    w2c_l19 = w2c_i0;
+    w2c_i0 = w2c_l21;
+    w2c_i1 = 4294967263u;
+    w2c_i0 = w2c_i0 > w2c_i1;
+    if (w2c_i0) {goto w2c_B73;}
+    w2c_i0 = w2c_l18;
+    w2c_i1 = 6u;
+    w2c_i0 <<= (w2c_i1 & 31);
+    w2c_i1 = 1984u;
+    w2c_i0 &= w2c_i1;
+    w2c_i1 = w2c_l19;
+    w2c_i0 |= w2c_i1;
+    w2c_l18 = w2c_i0;
+    goto w2c_B68;
+    w2c_B73:;
+    w2c_j0 = w2c_l12;
+    w2c_i0 = (u32)(w2c_j0);
+    w2c_i0 = i32_load8_u(m, (u64)(w2c_i0) + 2u);
+    w2c_i1 = 63u;
+    w2c_i0 &= w2c_i1;
+    w2c_l23 = w2c_i0;
+    w2c_i0 = w2c_l21;
+    w2c_i1 = 4294967279u;
+    w2c_i0 = w2c_i0 > w2c_i1;
+    if (w2c_i0) {goto w2c_B75;}
+    w2c_i0 = w2c_l19;
+    w2c_i1 = 6u;
+    w2c_i0 <<= (w2c_i1 & 31);
+    w2c_i1 = w2c_l18;
+    w2c_i2 = 12u;
+    w2c_i1 <<= (w2c_i2 & 31);
+    w2c_i2 = 61440u;
+    w2c_i1 &= w2c_i2;
+    w2c_i0 |= w2c_i1;
+    w2c_i1 = w2c_l23;
+    w2c_i0 |= w2c_i1;
+    w2c_l18 = w2c_i0;
+    goto w2c_B74;
+    w2c_B75:;
+    w2c_i0 = w2c_l23;
+    w2c_i1 = 6u;
+    w2c_i0 <<= (w2c_i1 & 31);
+    w2c_i1 = w2c_l19;
+    w2c_i2 = 12u;
+    w2c_i1 <<= (w2c_i2 & 31);
+    w2c_i2 = w2c_l18;
+    w2c_i3 = 18u;
+    w2c_i2 <<= (w2c_i3 & 31);
+    w2c_i3 = 1835008u;
+    w2c_i2 &= w2c_i3;
+    w2c_i1 |= w2c_i2;
+    w2c_i0 |= w2c_i1;
+    w2c_j1 = w2c_l12;
+    w2c_i1 = (u32)(w2c_j1);
+    w2c_i1 = i32_load8_u(m, (u64)(w2c_i1) + 3u);
+    w2c_i2 = 63u;
+    w2c_i1 &= w2c_i2;
+    w2c_i0 |= w2c_i1;
+    w2c_l18 = w2c_i0;
+    w2c_B74:;
+    w2c_i0 = w2c_l18;
+    w2c_i1 = 4294965248u;
+    w2c_i0 += w2c_i1;
+    w2c_i1 = 63487u;
+    w2c_i0 = w2c_i0 > w2c_i1;
+    if (w2c_i0) {goto w2c_B68;}
+    w2c_i0 = w2c_l18;
+    w2c_i1 = 12u;
+    w2c_i0 >>= (w2c_i1 & 31);
+    w2c_i1 = w2c_l18;
+    w2c_i2 = 2u;
+    w2c_i1 <<= (w2c_i2 & 31);
+    w2c_i2 = 16128u;
+    w2c_i1 &= w2c_i2;
+    w2c_i0 |= w2c_i1;
+    w2c_i1 = w2c_l18;
+    w2c_i2 = 16u;
+    w2c_i1 <<= (w2c_i2 & 31);
+    w2c_i2 = 4128768u;
+    w2c_i1 &= w2c_i2;
+    w2c_i0 |= w2c_i1;
+    w2c_i1 = 8421600u;
+    w2c_i0 |= w2c_i1;
+    w2c_l21 = w2c_i0;
+    w2c_j0 = (u64)(w2c_i0);
+    w2c_j1 = 953497ull;
+    w2c_j0 *= w2c_j1;
+    w2c_j1 = 22ull;
+    w2c_j0 >>= (w2c_j1 & 63);
+    w2c_j1 = 1016ull;
+    w2c_j0 &= w2c_j1;
+    w2c_l12 = w2c_j0;
+    w2c_j1 = 66976ull;
+    w2c_j0 += w2c_j1;
+    w2c_i0 = (u32)(w2c_j0);
+    w2c_i0 = i32_load(m, (u64)(w2c_i0));
+    w2c_i1 = w2c_l21;
+    w2c_i0 = w2c_i0 != w2c_i1;
+    if (w2c_i0) {goto w2c_B66;}
+    w2c_B69:;
+    w2c_j0 = w2c_l12;
+    w2c_j1 = 66980ull;
+    w2c_j0 += w2c_j1;
+    w2c_i0 = (u32)(w2c_j0);
+    w2c_i0 = i32_load8_u(m, (u64)(w2c_i0));
+    if (w2c_i0) {goto w2c_B67;}
+    goto w2c_B60;
+    w2c_B68:;
+    w2c_i0 = w2c_l18;
+    w2c_i1 = 4294967248u;
+    w2c_i0 += w2c_i1;
+    w2c_i1 = 10u;
+    w2c_i0 = w2c_i0 < w2c_i1;
+    if (w2c_i0) {goto w2c_B64;}
+    w2c_B67:;
+    w2c_i0 = w2c_l18;
+    w2c_i1 = 127u;
+    w2c_i0 = w2c_i0 > w2c_i1;
+    if (w2c_i0) {goto w2c_B66;}
+    w2c_i0 = 1u;
+    w2c_l23 = w2c_i0;
+    w2c_i0 = 0u;
+    w2c_l22 = w2c_i0;
+    w2c_i0 = w2c_l18;
+    w2c_i1 = 95u;
+    w2c_i0 = w2c_i0 == w2c_i1;
+    if (w2c_i0) {goto w2c_B59;}
+    w2c_i0 = w2c_l18;
+    w2c_i1 = 4294967252u;
+    w2c_i0 += w2c_i1;
+    w2c_i1 = 3u;
+    w2c_i0 = w2c_i0 < w2c_i1;
+    if (w2c_i0) {goto w2c_B65;}
+    w2c_i0 = w2c_l18;
+    w2c_i1 = 4294967248u;
+    w2c_i0 += w2c_i1;
+    w2c_i1 = 10u;
+    w2c_i0 = w2c_i0 < w2c_i1;
+    if (w2c_i0) {goto w2c_B59;}
+    w2c_j0 = w2c_l8;
+    w2c_l12 = w2c_j0;
+    w2c_i0 = w2c_l18;
+    w2c_i1 = 95u;
+    w2c_i0 &= w2c_i1;
+    w2c_i1 = 4294967231u;
+    w2c_i0 += w2c_i1;
+    w2c_i1 = 26u;
+    w2c_i0 = w2c_i0 >= w2c_i1;
+    if (w2c_i0) {goto w2c_B62;}
+    goto w2c_B58;
+    w2c_B66:;
+    w2c_i0 = 0u;
+    w2c_l23 = w2c_i0;
+    w2c_i0 = 1u;
+    w2c_l22 = w2c_i0;
+    w2c_i0 = w2c_l18;
+    w2c_i1 = 24318u;
+    w2c_i0 = (u32)((s32)w2c_i0 > (s32)w2c_i1);
+    if (w2c_i0) {goto w2c_B77;}
+    w2c_i0 = w2c_l18;
+    w2c_i1 = 21316u;
+    w2c_i0 = (u32)((s32)w2c_i0 > (s32)w2c_i1);
+    if (w2c_i0) {goto w2c_B78;}
+    w2c_i0 = w2c_l18;
+    w2c_i1 = 20313u;
+    w2c_i0 = w2c_i0 == w2c_i1;
+    if (w2c_i0) {goto w2c_B62;}
+    w2c_i0 = w2c_l18;
+    w2c_i1 = 20358u;
+    w2c_i0 = w2c_i0 == w2c_i1;
+    if (w2c_i0) {goto w2c_B62;}
+    w2c_j0 = w2c_l8;
+    w2c_l12 = w2c_j0;
+    w2c_i0 = w2c_l18;
+    w2c_i1 = 20960u;
+    w2c_i0 = w2c_i0 != w2c_i1;
+    if (w2c_i0) {goto w2c_B63;}
+    goto w2c_B58;
+    w2c_B78:;
+    w2c_i0 = w2c_l18;
+    w2c_i1 = 4294945979u;
+    w2c_i0 += w2c_i1;
+    switch (w2c_i0) {
+      case 0: goto w2c_B60;
+      case 1: goto w2c_B63;
+      case 2: goto w2c_B63;
+      case 3: goto w2c_B63;
+      case 4: goto w2c_B63;
+      case 5: goto w2c_B63;
+      case 6: goto w2c_B63;
+      case 7: goto w2c_B60;
+      default: goto w2c_B79;
+    }
+    w2c_B79:;
+    w2c_j0 = w2c_l8;
+    w2c_l12 = w2c_j0;
+    w2c_i0 = w2c_l18;
+    w2c_i1 = 4294943110u;
+    w2c_i0 += w2c_i1;
+    switch (w2c_i0) {
+      case 0: goto w2c_B60;
+      case 1: goto w2c_B63;
+      case 2: goto w2c_B63;
+      case 3: goto w2c_B63;
+      case 4: goto w2c_B58;
+      default: goto w2c_B76;
+    }
+    w2c_B77:;
+    w2c_i0 = w2c_l18;
+    w2c_i1 = 28856u;
+    w2c_i0 = (u32)((s32)w2c_i0 > (s32)w2c_i1);
+    if (w2c_i0) {goto w2c_B80;}
+    w2c_j0 = w2c_l8;
+    w2c_l12 = w2c_j0;
+    w2c_i0 = w2c_l18;
+    w2c_i1 = 4294941328u;
+    w2c_i0 += w2c_i1;
+    switch (w2c_i0) {
+      case 0: goto w2c_B58;
+      case 1: goto w2c_B63;
+      case 2: goto w2c_B63;
+      case 3: goto w2c_B63;
+      case 4: goto w2c_B63;
+      case 5: goto w2c_B63;
+      case 6: goto w2c_B63;
+      case 7: goto w2c_B63;
+      case 8: goto w2c_B58;
+      default: goto w2c_B81;
+    }
+    w2c_B81:;
+    w2c_i0 = w2c_l18;
+    w2c_i1 = 24319u;
+    w2c_i0 = w2c_i0 == w2c_i1;
+    if (w2c_i0) {goto w2c_B60;}
+    w2c_i0 = w2c_l18;
+    w2c_i1 = 26469u;
+    w2c_i0 = w2c_i0 != w2c_i1;
+    if (w2c_i0) {goto w2c_B63;}
+    goto w2c_B62;
+    w2c_B80:;
+    w2c_i0 = w2c_l18;
+    w2c_i1 = 28857u;
+    w2c_i0 = w2c_i0 == w2c_i1;
+    if (w2c_i0) {goto w2c_B65;}
+    w2c_i0 = w2c_l18;
+    w2c_i1 = 39192u;
+    w2c_i0 = w2c_i0 == w2c_i1;
+    if (w2c_i0) {goto w2c_B62;}
+    w2c_i0 = w2c_l18;
+    w2c_i1 = 40670u;
+    w2c_i0 = w2c_i0 == w2c_i1;
+    if (w2c_i0) {goto w2c_B65;}
+    goto w2c_B63;
+    w2c_B76:;
+    w2c_i0 = w2c_l18;
+    w2c_i1 = 22810u;
+    w2c_i0 = w2c_i0 != w2c_i1;
+    if (w2c_i0) {goto w2c_B63;}
+    goto w2c_B62;
+    w2c_B65:;
+    w2c_j0 = w2c_l11;
+    w2c_j1 = 3ull;
+    w2c_i0 = w2c_j0 < w2c_j1;
+    if (w2c_i0) {goto w2c_B87;}
+    w2c_j0 = w2c_p0;
+    w2c_j1 = w2c_l11;
+    w2c_j0 += w2c_j1;
+    w2c_l12 = w2c_j0;
+    w2c_j1 = 18446744073709551613ull;
+    w2c_j0 += w2c_j1;
+    w2c_i0 = (u32)(w2c_j0);
+    w2c_i0 = i32_load8_u(m, (u64)(w2c_i0));
+    w2c_l21 = w2c_i0;
+    w2c_i1 = 240u;
+    w2c_i0 &= w2c_i1;
+    w2c_i1 = 224u;
+    w2c_i0 = w2c_i0 != w2c_i1;
+    if (w2c_i0) {goto w2c_B86;}
+    w2c_i0 = w2c_l21;
+    w2c_i1 = 12u;
+    w2c_i0 <<= (w2c_i1 & 31);
+    w2c_j1 = w2c_l12;
+    w2c_j2 = 18446744073709551614ull;
+    w2c_j1 += w2c_j2;
+    w2c_i1 = (u32)(w2c_j1);
+    w2c_i1 = i32_load8_u(m, (u64)(w2c_i1));
+    w2c_l22 = w2c_i1;
+    w2c_i2 = 6u;
+    w2c_i1 <<= (w2c_i2 & 31);
+    w2c_i0 += w2c_i1;
+    w2c_j1 = w2c_l12;
+    w2c_j2 = 18446744073709551615ull;
+    w2c_j1 += w2c_j2;
+    w2c_i1 = (u32)(w2c_j1);
+    w2c_i1 = i32_load8_u(m, (u64)(w2c_i1));
+    w2c_l19 = w2c_i1;
+    w2c_i0 += w2c_i1;
+    w2c_i1 = 4294041472u;
+    w2c_i0 += w2c_i1;
+    w2c_l18 = w2c_i0;
+    w2c_i0 = w2c_l22;
+    w2c_i1 = 8u;
+    w2c_i0 <<= (w2c_i1 & 31);
+    w2c_i1 = w2c_l19;
+    w2c_i2 = 16u;
+    w2c_i1 <<= (w2c_i2 & 31);
+    w2c_i0 |= w2c_i1;
+    w2c_i1 = w2c_l21;
+    w2c_i0 |= w2c_i1;
+    w2c_l21 = w2c_i0;
+    w2c_j0 = (u64)(w2c_i0);
+    w2c_j1 = 953497ull;
+    w2c_j0 *= w2c_j1;
+    w2c_j1 = 22ull;
+    w2c_j0 >>= (w2c_j1 & 63);
+    w2c_j1 = 1016ull;
+    w2c_j0 &= w2c_j1;
+    w2c_l11 = w2c_j0;
+    w2c_j1 = 66976ull;
+    w2c_j0 += w2c_j1;
+    w2c_i0 = (u32)(w2c_j0);
+    w2c_i0 = i32_load(m, (u64)(w2c_i0));
+    w2c_i1 = w2c_l21;
+    w2c_i0 = w2c_i0 == w2c_i1;
+    if (w2c_i0) {goto w2c_B85;}
+    goto w2c_B83;
+    w2c_B87:;
+    w2c_j0 = w2c_l11;
+    w2c_i0 = !(w2c_j0);
+    if (w2c_i0) {goto w2c_B62;}
+    w2c_B86:;
+    w2c_i0 = 0u;
+    w2c_l22 = w2c_i0;
+    w2c_j0 = w2c_p0;
+    w2c_j1 = w2c_l11;
+    w2c_j0 += w2c_j1;
+    w2c_l12 = w2c_j0;
+    w2c_j1 = 18446744073709551615ull;
+    w2c_j0 += w2c_j1;
+    w2c_i0 = (u32)(w2c_j0);
+    w2c_i0 = i32_load8_s(m, (u64)(w2c_i0));
+    w2c_l18 = w2c_i0;
+    w2c_i1 = 0u;
+    w2c_i0 = (u32)((s32)w2c_i0 >= (s32)w2c_i1);
+    if (w2c_i0) {goto w2c_B84;}
+    w2c_j0 = 18446744073709551614ull;
+    w2c_l16 = w2c_j0;
+    w2c_j0 = w2c_l12;
+    w2c_j1 = 18446744073709551614ull;
+    w2c_j0 += w2c_j1;
+    w2c_i0 = (u32)(w2c_j0);
+    w2c_i0 = i32_load8_u(m, (u64)(w2c_i0));
+    w2c_i1 = 191u;
+    w2c_i0 = w2c_i0 > w2c_i1;
+    if (w2c_i0) {goto w2c_B88;}
+    w2c_j0 = 18446744073709551613ull;
+    w2c_j1 = 18446744073709551612ull;
+    w2c_j2 = w2c_l12;
+    w2c_j3 = 18446744073709551613ull;
+    w2c_j2 += w2c_j3;
+    w2c_i2 = (u32)(w2c_j2);
+    w2c_i2 = i32_load8_u(m, (u64)(w2c_i2));
+    w2c_i3 = 191u;
+    w2c_i2 = w2c_i2 > w2c_i3;
+    w2c_j0 = w2c_i2 ? w2c_j0 : w2c_j1;
+    w2c_l16 = w2c_j0;
+    w2c_B88:;
+    w2c_j0 = w2c_p0;
+    w2c_j1 = w2c_l16;
+    w2c_j0 += w2c_j1;
+    w2c_j1 = w2c_l11;
+    w2c_j0 += w2c_j1;
+    w2c_l11 = w2c_j0;
+    w2c_i0 = (u32)(w2c_j0);
+    w2c_i0 = i32_load8_s(m, (u64)(w2c_i0));
+    w2c_l21 = w2c_i0;
+    w2c_i1 = 255u;
+    w2c_i0 &= w2c_i1;
+    w2c_l18 = w2c_i0;
+    w2c_i0 = w2c_l21;
+    w2c_i1 = 4294967295u;
+    w2c_i0 = (u32)((s32)w2c_i0 > (s32)w2c_i1);
+    if (w2c_i0) {goto w2c_B84;}
+    w2c_j0 = w2c_l11;
+    w2c_i0 = (u32)(w2c_j0);
+    w2c_i0 = i32_load8_u(m, (u64)(w2c_i0) + 1u);
+    w2c_i1 = 63u;
+    w2c_i0 &= w2c_i1;
+    w2c_l19 = w2c_i0;
+    w2c_i0 = w2c_l21;
+    w2c_i1 = 4294967263u;
+    w2c_i0 = w2c_i0 > w2c_i1;
+    if (w2c_i0) {goto w2c_B89;}
+    w2c_i0 = w2c_l18;
+    w2c_i1 = 6u;
+    w2c_i0 <<= (w2c_i1 & 31);
+    w2c_i1 = 1984u;
+    w2c_i0 &= w2c_i1;
+    w2c_i1 = w2c_l19;
+    w2c_i0 |= w2c_i1;
+    w2c_l18 = w2c_i0;
+    goto w2c_B84;
+    w2c_B89:;
+    w2c_j0 = w2c_l11;
+    w2c_i0 = (u32)(w2c_j0);
+    w2c_i0 = i32_load8_u(m, (u64)(w2c_i0) + 2u);
+    w2c_i1 = 63u;
+    w2c_i0 &= w2c_i1;
+    w2c_l23 = w2c_i0;
+    w2c_i0 = w2c_l21;
+    w2c_i1 = 4294967279u;
+    w2c_i0 = w2c_i0 > w2c_i1;
+    if (w2c_i0) {goto w2c_B91;}
+    w2c_i0 = w2c_l19;
+    w2c_i1 = 6u;
+    w2c_i0 <<= (w2c_i1 & 31);
+    w2c_i1 = w2c_l18;
+    w2c_i2 = 12u;
+    w2c_i1 <<= (w2c_i2 & 31);
+    w2c_i2 = 61440u;
+    w2c_i1 &= w2c_i2;
+    w2c_i0 |= w2c_i1;
+    w2c_i1 = w2c_l23;
+    w2c_i0 |= w2c_i1;
+    w2c_l18 = w2c_i0;
+    goto w2c_B90;
+    w2c_B91:;
+    w2c_i0 = w2c_l23;
+    w2c_i1 = 6u;
+    w2c_i0 <<= (w2c_i1 & 31);
+    w2c_i1 = w2c_l19;
+    w2c_i2 = 12u;
+    w2c_i1 <<= (w2c_i2 & 31);
+    w2c_i2 = w2c_l18;
+    w2c_i3 = 18u;
+    w2c_i2 <<= (w2c_i3 & 31);
+    w2c_i3 = 1835008u;
+    w2c_i2 &= w2c_i3;
+    w2c_i1 |= w2c_i2;
+    w2c_i0 |= w2c_i1;
+    w2c_j1 = w2c_l11;
+    w2c_i1 = (u32)(w2c_j1);
+    w2c_i1 = i32_load8_u(m, (u64)(w2c_i1) + 3u);
+    w2c_i2 = 63u;
+    w2c_i1 &= w2c_i2;
+    w2c_i0 |= w2c_i1;
+    w2c_l18 = w2c_i0;
+    w2c_B90:;
+    w2c_i0 = w2c_l18;
+    w2c_i1 = 4294965248u;
+    w2c_i0 += w2c_i1;
+    w2c_i1 = 63487u;
+    w2c_i0 = w2c_i0 > w2c_i1;
+    if (w2c_i0) {goto w2c_B84;}
+    w2c_i0 = w2c_l18;
+    w2c_i1 = 12u;
+    w2c_i0 >>= (w2c_i1 & 31);
+    w2c_i1 = w2c_l18;
+    w2c_i2 = 2u;
+    w2c_i1 <<= (w2c_i2 & 31);
+    w2c_i2 = 16128u;
+    w2c_i1 &= w2c_i2;
+    w2c_i0 |= w2c_i1;
+    w2c_i1 = w2c_l18;
+    w2c_i2 = 16u;
+    w2c_i1 <<= (w2c_i2 & 31);
+    w2c_i2 = 4128768u;
+    w2c_i1 &= w2c_i2;
+    w2c_i0 |= w2c_i1;
+    w2c_i1 = 8421600u;
+    w2c_i0 |= w2c_i1;
+    w2c_l21 = w2c_i0;
+    w2c_j0 = (u64)(w2c_i0);
+    w2c_j1 = 953497ull;
+    w2c_j0 *= w2c_j1;
+    w2c_j1 = 22ull;
+    w2c_j0 >>= (w2c_j1 & 63);
+    w2c_j1 = 1016ull;
+    w2c_j0 &= w2c_j1;
+    w2c_l11 = w2c_j0;
+    w2c_j1 = 66976ull;
+    w2c_j0 += w2c_j1;
+    w2c_i0 = (u32)(w2c_j0);
+    w2c_i0 = i32_load(m, (u64)(w2c_i0));
+    w2c_i1 = w2c_l21;
+    w2c_i0 = w2c_i0 != w2c_i1;
+    if (w2c_i0) {goto w2c_B82;}
+    w2c_B85:;
+    w2c_j0 = w2c_l11;
+    w2c_j1 = 66980ull;
+    w2c_j0 += w2c_j1;
+    w2c_i0 = (u32)(w2c_j0);
+    w2c_i0 = i32_load8_u(m, (u64)(w2c_i0));
+    w2c_i1 = 2u;
+    w2c_i0 = w2c_i0 != w2c_i1;
+    if (w2c_i0) {goto w2c_B60;}
+    goto w2c_B83;
+    w2c_B84:;
+    w2c_i0 = w2c_l18;
+    w2c_i1 = 4294967248u;
+    w2c_i0 += w2c_i1;
+    w2c_i1 = 10u;
+    w2c_i0 = w2c_i0 < w2c_i1;
+    if (w2c_i0) {goto w2c_B64;}
+    w2c_B83:;
+    w2c_i0 = w2c_l18;
+    w2c_i1 = 127u;
+    w2c_i0 = w2c_i0 > w2c_i1;
+    if (w2c_i0) {goto w2c_B82;}
+    w2c_i0 = w2c_l18;
+    w2c_i1 = 95u;
+    w2c_i0 = w2c_i0 == w2c_i1;
+    if (w2c_i0) {goto w2c_B60;}
+    w2c_i0 = 0u;
+    w2c_l22 = w2c_i0;
+    w2c_i0 = w2c_l18;
+    w2c_i1 = 4294967252u;
+    w2c_i0 += w2c_i1;
+    w2c_i1 = 3u;
+    w2c_i0 = w2c_i0 < w2c_i1;
+    if (w2c_i0) {goto w2c_B61;}
+    w2c_i0 = w2c_l18;
+    w2c_i1 = 4294967248u;
+    w2c_i0 += w2c_i1;
+    w2c_i1 = 10u;
+    w2c_i0 = w2c_i0 < w2c_i1;
+    w2c_i1 = w2c_l18;
+    w2c_i2 = 95u;
+    w2c_i1 &= w2c_i2;
+    w2c_i2 = 4294967231u;
+    w2c_i1 += w2c_i2;
+    w2c_i2 = 26u;
+    w2c_i1 = w2c_i1 < w2c_i2;
+    w2c_i0 |= w2c_i1;
+    w2c_l23 = w2c_i0;
+    goto w2c_B59;
+    w2c_B82:;
+    w2c_i0 = 0u;
+    w2c_l22 = w2c_i0;
+    w2c_i0 = w2c_l18;
+    w2c_i1 = 24318u;
+    w2c_i0 = (u32)((s32)w2c_i0 > (s32)w2c_i1);
+    if (w2c_i0) {goto w2c_B93;}
+    w2c_i0 = w2c_l18;
+    w2c_i1 = 21316u;
+    w2c_i0 = (u32)((s32)w2c_i0 > (s32)w2c_i1);
+    if (w2c_i0) {goto w2c_B94;}
+    w2c_i0 = w2c_l18;
+    w2c_i1 = 20313u;
+    w2c_i0 = w2c_i0 == w2c_i1;
+    if (w2c_i0) {goto w2c_B61;}
+    w2c_i0 = w2c_l18;
+    w2c_i1 = 20358u;
+    w2c_i0 = w2c_i0 == w2c_i1;
+    if (w2c_i0) {goto w2c_B61;}
+    w2c_i0 = w2c_l18;
+    w2c_i1 = 20960u;
+    w2c_i0 = w2c_i0 == w2c_i1;
+    if (w2c_i0) {goto w2c_B61;}
+    goto w2c_B92;
+    w2c_B94:;
+    w2c_i0 = w2c_l18;
+    w2c_i1 = 4294945979u;
+    w2c_i0 += w2c_i1;
+    switch (w2c_i0) {
+      case 0: goto w2c_B64;
+      case 1: goto w2c_B92;
+      case 2: goto w2c_B92;
+      case 3: goto w2c_B92;
+      case 4: goto w2c_B92;
+      case 5: goto w2c_B92;
+      case 6: goto w2c_B92;
+      case 7: goto w2c_B64;
+      default: goto w2c_B95;
+    }
+    w2c_B95:;
+    w2c_j0 = w2c_l8;
+    w2c_l12 = w2c_j0;
+    w2c_i0 = 0u;
+    w2c_l23 = w2c_i0;
+    w2c_i0 = w2c_l18;
+    w2c_i1 = 4294943110u;
+    w2c_i0 += w2c_i1;
+    switch (w2c_i0) {
+      case 0: goto w2c_B64;
+      case 1: goto w2c_B92;
+      case 2: goto w2c_B92;
+      case 3: goto w2c_B92;
+      case 4: goto w2c_B58;
+      default: goto w2c_B96;
+    }
+    w2c_B96:;
+    w2c_i0 = w2c_l18;
+    w2c_i1 = 22810u;
+    w2c_i0 = w2c_i0 == w2c_i1;
+    if (w2c_i0) {goto w2c_B61;}
+    goto w2c_B92;
+    w2c_B93:;
+    w2c_i0 = w2c_l18;
+    w2c_i1 = 28856u;
+    w2c_i0 = (u32)((s32)w2c_i0 > (s32)w2c_i1);
+    if (w2c_i0) {goto w2c_B97;}
+    w2c_j0 = w2c_l8;
+    w2c_l12 = w2c_j0;
+    w2c_i0 = 0u;
+    w2c_l23 = w2c_i0;
+    w2c_i0 = w2c_l18;
+    w2c_i1 = 4294941328u;
+    w2c_i0 += w2c_i1;
+    switch (w2c_i0) {
+      case 0: goto w2c_B58;
+      case 1: goto w2c_B92;
+      case 2: goto w2c_B92;
+      case 3: goto w2c_B92;
+      case 4: goto w2c_B92;
+      case 5: goto w2c_B92;
+      case 6: goto w2c_B92;
+      case 7: goto w2c_B92;
+      case 8: goto w2c_B58;
+      default: goto w2c_B98;
+    }
+    w2c_B98:;
+    w2c_i0 = w2c_l18;
+    w2c_i1 = 24319u;
+    w2c_i0 = w2c_i0 == w2c_i1;
+    if (w2c_i0) {goto w2c_B64;}
+    w2c_i0 = w2c_l18;
+    w2c_i1 = 26469u;
+    w2c_i0 = w2c_i0 == w2c_i1;
+    if (w2c_i0) {goto w2c_B61;}
+    goto w2c_B92;
+    w2c_B97:;
+    w2c_i0 = w2c_l18;
+    w2c_i1 = 28857u;
+    w2c_i0 = w2c_i0 == w2c_i1;
+    if (w2c_i0) {goto w2c_B61;}
+    w2c_i0 = w2c_l18;
+    w2c_i1 = 39192u;
+    w2c_i0 = w2c_i0 == w2c_i1;
+    if (w2c_i0) {goto w2c_B61;}
+    w2c_i0 = w2c_l18;
+    w2c_i1 = 40670u;
+    w2c_i0 = w2c_i0 == w2c_i1;
+    if (w2c_i0) {goto w2c_B61;}
+    w2c_B92:;
+    w2c_i0 = w2c_l18;
+    w2c_i1 = 4294902000u;
+    w2c_i0 += w2c_i1;
+    w2c_i1 = 9u;
+    w2c_i0 = w2c_i0 > w2c_i1;
+    if (w2c_i0) {goto w2c_B61;}
+    w2c_B64:;
+    w2c_i0 = 1u;
+    w2c_l23 = w2c_i0;
+    goto w2c_B59;
+    w2c_B63:;
+    w2c_i0 = w2c_l18;
+    w2c_i1 = 4294902000u;
+    w2c_i0 += w2c_i1;
+    w2c_i1 = 9u;
+    w2c_i0 = w2c_i0 <= w2c_i1;
+    if (w2c_i0) {goto w2c_B60;}
+    w2c_B62:;
+    w2c_i0 = 0u;
+    w2c_l22 = w2c_i0;
+    w2c_B61:;
+    w2c_j0 = w2c_l8;
+    w2c_l12 = w2c_j0;
+    w2c_i0 = 0u;
+    w2c_l23 = w2c_i0;
+    goto w2c_B58;
+    w2c_B60:;
+    w2c_i0 = 1u;
+    w2c_l23 = w2c_i0;
+    w2c_i0 = 0u;
+    w2c_l22 = w2c_i0;
+    w2c_B59:;
+    w2c_j0 = w2c_l8;
+    w2c_l12 = w2c_j0;
+    w2c_B58:;
+    w2c_i0 = w2c_l20;
+    if (w2c_i0) {goto w2c_B107;}
+    w2c_j0 = w2c_l13;
+    w2c_i0 = (u32)(w2c_j0);
+    w2c_i0 = i32_load8_u(m, (u64)(w2c_i0));
+    w2c_l18 = w2c_i0;
+    w2c_i1 = 240u;
+    w2c_i0 &= w2c_i1;
+    w2c_i1 = 224u;
+    w2c_i0 = w2c_i0 != w2c_i1;
+    if (w2c_i0) {goto w2c_B106;}
+    w2c_j0 = w2c_l13;
+    w2c_i0 = (u32)(w2c_j0);
+    w2c_i0 = i32_load8_u(m, (u64)(w2c_i0) + 1u);
+    w2c_l19 = w2c_i0;
+    w2c_i1 = 8u;
+    w2c_i0 <<= (w2c_i1 & 31);
+    w2c_j1 = w2c_l13;
+    w2c_i1 = (u32)(w2c_j1);
+    w2c_i1 = i32_load8_u(m, (u64)(w2c_i1) + 2u);
+    w2c_l20 = w2c_i1;
+    w2c_i2 = 16u;
+    w2c_i1 <<= (w2c_i2 & 31);
+    w2c_i0 |= w2c_i1;
+    w2c_i1 = w2c_l18;
+    w2c_i0 |= w2c_i1;
+    w2c_l21 = w2c_i0;
+    w2c_i0 = w2c_l18;
+    w2c_i1 = 12u;
+    w2c_i0 <<= (w2c_i1 & 31);
+    w2c_i1 = w2c_l19;
+    w2c_i2 = 6u;
+    w2c_i1 <<= (w2c_i2 & 31);
+    w2c_i0 += w2c_i1;
+    w2c_i1 = w2c_l20;
+    w2c_i0 += w2c_i1;
+    w2c_i1 = 4294041472u;
+    w2c_i0 += w2c_i1;
+    w2c_l18 = w2c_i0;
+    w2c_j0 = w2c_l15;
+    w2c_j1 = 18446744073709551613ull;
+    w2c_j0 += w2c_j1;
+    w2c_l16 = w2c_j0;
+    w2c_j0 = w2c_l13;
+    w2c_j1 = 3ull;
+    w2c_j0 += w2c_j1;
+    w2c_l11 = w2c_j0;
+    w2c_i0 = w2c_l21;
+    w2c_i1 = w2c_l21;
+    w2c_j1 = (u64)(w2c_i1);
+    w2c_j2 = 953497ull;
+    w2c_j1 *= w2c_j2;
+    w2c_j2 = 22ull;
+    w2c_j1 >>= (w2c_j2 & 63);
+    w2c_j2 = 1016ull;
+    w2c_j1 &= w2c_j2;
+    w2c_l17 = w2c_j1;
+    w2c_j2 = 66976ull;
+    w2c_j1 += w2c_j2;
+    w2c_i1 = (u32)(w2c_j1);
+    w2c_i1 = i32_load(m, (u64)(w2c_i1));
+    w2c_i0 = w2c_i0 != w2c_i1;
+    if (w2c_i0) {goto w2c_B104;}
+    goto w2c_B105;
+    w2c_B107:;
+    w2c_j0 = w2c_l15;
+    w2c_i0 = !(w2c_j0);
+    if (w2c_i0) {goto w2c_B100;}
+    w2c_j0 = w2c_l13;
+    w2c_i0 = (u32)(w2c_j0);
+    w2c_i0 = i32_load8_u(m, (u64)(w2c_i0));
+    w2c_l18 = w2c_i0;
+    w2c_B106:;
+    w2c_j0 = 1ull;
+    w2c_l11 = w2c_j0;
+    w2c_i0 = w2c_l18;
+    w2c_i0 = (u32)(s32)(s8)(u8)(w2c_i0);
+    w2c_i1 = 4294967295u;
+    w2c_i0 = (u32)((s32)w2c_i0 > (s32)w2c_i1);
+    if (w2c_i0) {goto w2c_B108;}
+    w2c_j0 = w2c_l13;
+    w2c_i0 = (u32)(w2c_j0);
+    w2c_i0 = i32_load8_u(m, (u64)(w2c_i0) + 1u);
+    w2c_i1 = 63u;
+    w2c_i0 &= w2c_i1;
+    w2c_l21 = w2c_i0;
+    w2c_i0 = w2c_l18;
+    w2c_i1 = 223u;
+    w2c_i0 = w2c_i0 > w2c_i1;
+    if (w2c_i0) {goto w2c_B109;}
+    w2c_i0 = w2c_l18;
+    w2c_i1 = 6u;
+    w2c_i0 <<= (w2c_i1 & 31);
+    w2c_i1 = 1984u;
+    w2c_i0 &= w2c_i1;
+    w2c_i1 = w2c_l21;
+    w2c_i0 |= w2c_i1;
+    w2c_l18 = w2c_i0;
+    w2c_j0 = 2ull;
+    w2c_l11 = w2c_j0;
+    goto w2c_B108;
+    w2c_B109:;
+    w2c_j0 = w2c_l13;
+    w2c_i0 = (u32)(w2c_j0);
+    w2c_i0 = i32_load8_u(m, (u64)(w2c_i0) + 2u);
+    w2c_i1 = 63u;
+    w2c_i0 &= w2c_i1;
+    w2c_l19 = w2c_i0;
+    w2c_i0 = w2c_l18;
+    w2c_i1 = 239u;
+    w2c_i0 = w2c_i0 > w2c_i1;
+    if (w2c_i0) {goto w2c_B110;}
+    w2c_i0 = w2c_l21;
+    w2c_i1 = 6u;
+    w2c_i0 <<= (w2c_i1 & 31);
+    w2c_i1 = w2c_l18;
+    w2c_i2 = 12u;
+    w2c_i1 <<= (w2c_i2 & 31);
+    w2c_i2 = 61440u;
+    w2c_i1 &= w2c_i2;
+    w2c_i0 |= w2c_i1;
+    w2c_i1 = w2c_l19;
+    w2c_i0 |= w2c_i1;
+    w2c_l18 = w2c_i0;
+    w2c_j0 = 3ull;
+    w2c_l11 = w2c_j0;
+    goto w2c_B108;
+    w2c_B110:;
+    w2c_i0 = w2c_l19;
+    w2c_i1 = 6u;
+    w2c_i0 <<= (w2c_i1 & 31);
+    w2c_i1 = w2c_l21;
+    w2c_i2 = 12u;
+    w2c_i1 <<= (w2c_i2 & 31);
+    w2c_i2 = w2c_l18;
+    w2c_i3 = 18u;
+    w2c_i2 <<= (w2c_i3 & 31);
+    w2c_i3 = 1835008u;
+    w2c_i2 &= w2c_i3;
+    w2c_i1 |= w2c_i2;
+    w2c_i0 |= w2c_i1;
+    w2c_j1 = w2c_l13;
+    w2c_i1 = (u32)(w2c_j1);
+    w2c_i1 = i32_load8_u(m, (u64)(w2c_i1) + 3u);
+    w2c_i2 = 63u;
+    w2c_i1 &= w2c_i2;
+    w2c_i0 |= w2c_i1;
+    w2c_l18 = w2c_i0;
+    w2c_j0 = 4ull;
+    w2c_l11 = w2c_j0;
+    w2c_B108:;
+    w2c_j0 = w2c_l15;
+    w2c_j1 = w2c_l11;
+    w2c_j0 -= w2c_j1;
+    w2c_l16 = w2c_j0;
+    w2c_j0 = w2c_l13;
+    w2c_j1 = w2c_l11;
+    w2c_j0 += w2c_j1;
+    w2c_l11 = w2c_j0;
+    w2c_i0 = w2c_l18;
+    w2c_i1 = 4294965248u;
+    w2c_i0 += w2c_i1;
+    w2c_i1 = 63487u;
+    w2c_i0 = w2c_i0 > w2c_i1;
+    if (w2c_i0) {goto w2c_B111;}
+    w2c_i0 = w2c_l18;
+    w2c_i1 = 12u;
+    w2c_i0 >>= (w2c_i1 & 31);
+    w2c_i1 = w2c_l18;
+    w2c_i2 = 2u;
+    w2c_i1 <<= (w2c_i2 & 31);
+    w2c_i2 = 16128u;
+    w2c_i1 &= w2c_i2;
+    w2c_i0 |= w2c_i1;
+    w2c_i1 = w2c_l18;
+    w2c_i2 = 16u;
+    w2c_i1 <<= (w2c_i2 & 31);
+    w2c_i2 = 4128768u;
+    w2c_i1 &= w2c_i2;
+    w2c_i0 |= w2c_i1;
+    w2c_i1 = 8421600u;
+    w2c_i0 |= w2c_i1;
+    w2c_l21 = w2c_i0;
+    w2c_j0 = (u64)(w2c_i0);
+    w2c_j1 = 953497ull;
+    w2c_j0 *= w2c_j1;
+    w2c_j1 = 22ull;
+    w2c_j0 >>= (w2c_j1 & 63);
+    w2c_j1 = 1016ull;
+    w2c_j0 &= w2c_j1;
+    w2c_l17 = w2c_j0;
+    w2c_j1 = 66976ull;
+    w2c_j0 += w2c_j1;
+    w2c_i0 = (u32)(w2c_j0);
+    w2c_i0 = i32_load(m, (u64)(w2c_i0));
+    w2c_i1 = w2c_l21;
+    w2c_i0 = w2c_i0 == w2c_i1;
+    if (w2c_i0) {goto w2c_B105;}
+    goto w2c_B103;
+    w2c_B111:;
+    w2c_i0 = w2c_l18;
+    w2c_i1 = 4294967248u;
+    w2c_i0 += w2c_i1;
+    w2c_i1 = 10u;
+    w2c_i0 = w2c_i0 >= w2c_i1;
+    if (w2c_i0) {goto w2c_B104;}
+    goto w2c_B101;
+    w2c_B105:;
+    w2c_j0 = w2c_l17;
+    w2c_j1 = 66980ull;
+    w2c_j0 += w2c_j1;
+    w2c_i0 = (u32)(w2c_j0);
+    w2c_i0 = i32_load8_u(m, (u64)(w2c_i0));
+    w2c_i0 = !(w2c_i0);
+    if (w2c_i0) {goto w2c_B101;}
+    w2c_B104:;
+    w2c_i0 = w2c_l18;
+    w2c_i1 = 127u;
+    w2c_i0 = w2c_i0 > w2c_i1;
+    if (w2c_i0) {goto w2c_B103;}
+    w2c_i0 = 1u;
+    w2c_l21 = w2c_i0;
+    w2c_i0 = 0u;
+    w2c_l19 = w2c_i0;
+    w2c_i0 = w2c_l18;
+    w2c_i1 = 95u;
+    w2c_i0 = w2c_i0 == w2c_i1;
+    if (w2c_i0) {goto w2c_B99;}
+    w2c_i0 = w2c_l18;
+    w2c_i1 = 4294967252u;
+    w2c_i0 += w2c_i1;
+    w2c_i1 = 3u;
+    w2c_i0 = w2c_i0 < w2c_i1;
+    if (w2c_i0) {goto w2c_B102;}
+    w2c_i0 = w2c_l18;
+    w2c_i1 = 4294967248u;
+    w2c_i0 += w2c_i1;
+    w2c_i1 = 10u;
+    w2c_i0 = w2c_i0 < w2c_i1;
+    if (w2c_i0) {goto w2c_B99;}
+    w2c_i0 = w2c_l18;
+    w2c_i1 = 95u;
+    w2c_i0 &= w2c_i1;
+    w2c_i1 = 4294967231u;
+    w2c_i0 += w2c_i1;
+    w2c_i1 = 26u;
+    w2c_i0 = w2c_i0 >= w2c_i1;
+    if (w2c_i0) {goto w2c_B100;}
+    goto w2c_B99;
+    w2c_B103:;
+    w2c_i0 = 0u;
+    w2c_l21 = w2c_i0;
+    w2c_i0 = 1u;
+    w2c_l19 = w2c_i0;
+    w2c_i0 = w2c_l18;
+    w2c_i1 = 24318u;
+    w2c_i0 = (u32)((s32)w2c_i0 > (s32)w2c_i1);
+    if (w2c_i0) {goto w2c_B113;}
+    w2c_i0 = w2c_l18;
+    w2c_i1 = 21316u;
+    w2c_i0 = (u32)((s32)w2c_i0 > (s32)w2c_i1);
+    if (w2c_i0) {goto w2c_B114;}
+    w2c_i0 = w2c_l18;
+    w2c_i1 = 20313u;
+    w2c_i0 = w2c_i0 == w2c_i1;
+    if (w2c_i0) {goto w2c_B99;}
+    w2c_i0 = w2c_l18;
+    w2c_i1 = 20358u;
+    w2c_i0 = w2c_i0 == w2c_i1;
+    if (w2c_i0) {goto w2c_B99;}
+    w2c_i0 = w2c_l18;
+    w2c_i1 = 20960u;
+    w2c_i0 = w2c_i0 != w2c_i1;
+    if (w2c_i0) {goto w2c_B112;}
+    goto w2c_B99;
+    w2c_B114:;
+    w2c_i0 = w2c_l18;
+    w2c_i1 = 4294945979u;
+    w2c_i0 += w2c_i1;
+    switch (w2c_i0) {
+      case 0: goto w2c_B101;
+      case 1: goto w2c_B112;
+      case 2: goto w2c_B112;
+      case 3: goto w2c_B112;
+      case 4: goto w2c_B112;
+      case 5: goto w2c_B112;
+      case 6: goto w2c_B112;
+      case 7: goto w2c_B101;
+      default: goto w2c_B115;
+    }
+    w2c_B115:;
+    w2c_i0 = w2c_l18;
+    w2c_i1 = 4294943110u;
+    w2c_i0 += w2c_i1;
+    switch (w2c_i0) {
+      case 0: goto w2c_B101;
+      case 1: goto w2c_B112;
+      case 2: goto w2c_B112;
+      case 3: goto w2c_B112;
+      case 4: goto w2c_B99;
+      default: goto w2c_B116;
+    }
+    w2c_B116:;
+    w2c_i0 = w2c_l18;
+    w2c_i1 = 22810u;
+    w2c_i0 = w2c_i0 != w2c_i1;
+    if (w2c_i0) {goto w2c_B112;}
+    goto w2c_B99;
+    w2c_B113:;
+    w2c_i0 = w2c_l18;
+    w2c_i1 = 28856u;
+    w2c_i0 = (u32)((s32)w2c_i0 > (s32)w2c_i1);
+    if (w2c_i0) {goto w2c_B117;}
+    w2c_i0 = w2c_l18;
+    w2c_i1 = 4294941328u;
+    w2c_i0 += w2c_i1;
+    switch (w2c_i0) {
+      case 0: goto w2c_B100;
+      case 1: goto w2c_B112;
+      case 2: goto w2c_B112;
+      case 3: goto w2c_B112;
+      case 4: goto w2c_B112;
+      case 5: goto w2c_B112;
+      case 6: goto w2c_B112;
+      case 7: goto w2c_B112;
+      case 8: goto w2c_B100;
+      default: goto w2c_B118;
+    }
+    w2c_B118:;
+    w2c_i0 = w2c_l18;
+    w2c_i1 = 24319u;
+    w2c_i0 = w2c_i0 == w2c_i1;
+    if (w2c_i0) {goto w2c_B101;}
+    w2c_i0 = w2c_l18;
+    w2c_i1 = 26469u;
+    w2c_i0 = w2c_i0 != w2c_i1;
+    if (w2c_i0) {goto w2c_B112;}
+    goto w2c_B99;
+    w2c_B117:;
+    w2c_i0 = w2c_l18;
+    w2c_i1 = 28857u;
+    w2c_i0 = w2c_i0 == w2c_i1;
+    if (w2c_i0) {goto w2c_B102;}
+    w2c_i0 = w2c_l18;
+    w2c_i1 = 39192u;
+    w2c_i0 = w2c_i0 == w2c_i1;
+    if (w2c_i0) {goto w2c_B99;}
+    w2c_i0 = w2c_l18;
+    w2c_i1 = 40670u;
+    w2c_i0 = w2c_i0 == w2c_i1;
+    if (w2c_i0) {goto w2c_B102;}
+    w2c_B112:;
+    w2c_i0 = w2c_l18;
+    w2c_i1 = 4294902000u;
+    w2c_i0 += w2c_i1;
+    w2c_i1 = 9u;
+    w2c_i0 = w2c_i0 > w2c_i1;
+    if (w2c_i0) {goto w2c_B100;}
+    goto w2c_B101;
+    w2c_B102:;
+    w2c_j0 = w2c_l16;
+    w2c_j1 = 3ull;
+    w2c_i0 = w2c_j0 < w2c_j1;
+    if (w2c_i0) {goto w2c_B123;}
+    w2c_j0 = w2c_l11;
+    w2c_i0 = (u32)(w2c_j0);
+    w2c_i0 = i32_load8_u(m, (u64)(w2c_i0) + 1u);
+    w2c_l19 = w2c_i0;
+    w2c_i1 = 8u;
+    w2c_i0 <<= (w2c_i1 & 31);
+    w2c_j1 = w2c_l11;
+    w2c_i1 = (u32)(w2c_j1);
+    w2c_i1 = i32_load8_u(m, (u64)(w2c_i1) + 2u);
+    w2c_l20 = w2c_i1;
+    w2c_i2 = 16u;
+    w2c_i1 <<= (w2c_i2 & 31);
+    w2c_i0 |= w2c_i1;
+    w2c_j1 = w2c_l11;
+    w2c_i1 = (u32)(w2c_j1);
+    w2c_i1 = i32_load8_u(m, (u64)(w2c_i1));
+    w2c_l18 = w2c_i1;
+    w2c_i0 |= w2c_i1;
+    w2c_l21 = w2c_i0;
+    w2c_j0 = (u64)(w2c_i0);
+    w2c_j1 = 953497ull;
+    w2c_j0 *= w2c_j1;
+    w2c_j1 = 22ull;
+    w2c_j0 >>= (w2c_j1 & 63);
+    w2c_j1 = 1016ull;
+    w2c_j0 &= w2c_j1;
+    w2c_l16 = w2c_j0;
+    w2c_j1 = 66976ull;
+    w2c_j0 += w2c_j1;
+    w2c_i0 = (u32)(w2c_j0);
+    w2c_i0 = i32_load(m, (u64)(w2c_i0));
+    w2c_l24 = w2c_i0;
+    w2c_i1 = w2c_l21;
+    w2c_i0 = w2c_i0 != w2c_i1;
+    if (w2c_i0) {goto w2c_B124;}
+    w2c_j0 = w2c_l16;
+    w2c_j1 = 66980ull;
+    w2c_j0 += w2c_j1;
+    w2c_i0 = (u32)(w2c_j0);
+    w2c_i0 = i32_load8_u(m, (u64)(w2c_i0));
+    w2c_i0 = !(w2c_i0);
+    if (w2c_i0) {goto w2c_B101;}
+    w2c_B124:;
+    w2c_i0 = w2c_l18;
+    w2c_i1 = 240u;
+    w2c_i0 &= w2c_i1;
+    w2c_i1 = 224u;
+    w2c_i0 = w2c_i0 != w2c_i1;
+    if (w2c_i0) {goto w2c_B122;}
+    w2c_i0 = w2c_l18;
+    w2c_i1 = 12u;
+    w2c_i0 <<= (w2c_i1 & 31);
+    w2c_i1 = w2c_l19;
+    w2c_i2 = 6u;
+    w2c_i1 <<= (w2c_i2 & 31);
+    w2c_i0 += w2c_i1;
+    w2c_i1 = w2c_l20;
+    w2c_i0 += w2c_i1;
+    w2c_i1 = 4294041472u;
+    w2c_i0 += w2c_i1;
+    w2c_l18 = w2c_i0;
+    w2c_i0 = w2c_l24;
+    w2c_i1 = w2c_l21;
+    w2c_i0 = w2c_i0 != w2c_i1;
+    if (w2c_i0) {goto w2c_B120;}
+    goto w2c_B121;
+    w2c_B123:;
+    w2c_j0 = w2c_l16;
+    w2c_i0 = !(w2c_j0);
+    if (w2c_i0) {goto w2c_B100;}
+    w2c_j0 = w2c_l11;
+    w2c_i0 = (u32)(w2c_j0);
+    w2c_i0 = i32_load8_u(m, (u64)(w2c_i0));
+    w2c_l18 = w2c_i0;
+    w2c_B122:;
+    w2c_i0 = w2c_l18;
+    w2c_i0 = (u32)(s32)(s8)(u8)(w2c_i0);
+    w2c_i1 = 4294967295u;
+    w2c_i0 = (u32)((s32)w2c_i0 > (s32)w2c_i1);
+    if (w2c_i0) {goto w2c_B125;}
+    w2c_j0 = w2c_l11;
+    w2c_i0 = (u32)(w2c_j0);
+    w2c_i0 = i32_load8_u(m, (u64)(w2c_i0) + 1u);
+    w2c_i1 = 63u;
+    w2c_i0 &= w2c_i1;
+    w2c_l21 = w2c_i0;
+    w2c_i0 = w2c_l18;
+    w2c_i1 = 223u;
+    w2c_i0 = w2c_i0 > w2c_i1;
+    if (w2c_i0) {goto w2c_B126;}
+    w2c_i0 = w2c_l18;
+    w2c_i1 = 6u;
+    w2c_i0 <<= (w2c_i1 & 31);
+    w2c_i1 = 1984u;
+    w2c_i0 &= w2c_i1;
+    w2c_i1 = w2c_l21;
+    w2c_i0 |= w2c_i1;
+    w2c_l18 = w2c_i0;
+    goto w2c_B125;
+    w2c_B126:;
+    w2c_j0 = w2c_l11;
+    w2c_i0 = (u32)(w2c_j0);
+    w2c_i0 = i32_load8_u(m, (u64)(w2c_i0) + 2u);
+    w2c_i1 = 63u;
+    w2c_i0 &= w2c_i1;
+    w2c_l19 = w2c_i0;
+    w2c_i0 = w2c_l18;
+    w2c_i1 = 239u;
+    w2c_i0 = w2c_i0 > w2c_i1;
+    if (w2c_i0) {goto w2c_B127;}
+    w2c_i0 = w2c_l21;
+    w2c_i1 = 6u;
+    w2c_i0 <<= (w2c_i1 & 31);
+    w2c_i1 = w2c_l18;
+    w2c_i2 = 12u;
+    w2c_i1 <<= (w2c_i2 & 31);
+    w2c_i2 = 61440u;
+    w2c_i1 &= w2c_i2;
+    w2c_i0 |= w2c_i1;
+    w2c_i1 = w2c_l19;
+    w2c_i0 |= w2c_i1;
+    w2c_l18 = w2c_i0;
+    goto w2c_B125;
+    w2c_B127:;
+    w2c_i0 = w2c_l19;
+    w2c_i1 = 6u;
+    w2c_i0 <<= (w2c_i1 & 31);
+    w2c_i1 = w2c_l21;
+    w2c_i2 = 12u;
+    w2c_i1 <<= (w2c_i2 & 31);
+    w2c_i2 = w2c_l18;
+    w2c_i3 = 18u;
+    w2c_i2 <<= (w2c_i3 & 31);
+    w2c_i3 = 1835008u;
+    w2c_i2 &= w2c_i3;
+    w2c_i1 |= w2c_i2;
+    w2c_i0 |= w2c_i1;
+    w2c_j1 = w2c_l11;
+    w2c_i1 = (u32)(w2c_j1);
+    w2c_i1 = i32_load8_u(m, (u64)(w2c_i1) + 3u);
+    w2c_i2 = 63u;
+    w2c_i1 &= w2c_i2;
+    w2c_i0 |= w2c_i1;
+    w2c_l18 = w2c_i0;
+    w2c_B125:;
+    w2c_i0 = w2c_l18;
+    w2c_i1 = 4294965248u;
+    w2c_i0 += w2c_i1;
+    w2c_i1 = 63487u;
+    w2c_i0 = w2c_i0 > w2c_i1;
+    if (w2c_i0) {goto w2c_B128;}
+    w2c_i0 = w2c_l18;
+    w2c_i1 = 12u;
+    w2c_i0 >>= (w2c_i1 & 31);
+    w2c_i1 = w2c_l18;
+    w2c_i2 = 2u;
+    w2c_i1 <<= (w2c_i2 & 31);
+    w2c_i2 = 16128u;
+    w2c_i1 &= w2c_i2;
+    w2c_i0 |= w2c_i1;
+    w2c_i1 = w2c_l18;
+    w2c_i2 = 16u;
+    w2c_i1 <<= (w2c_i2 & 31);
+    w2c_i2 = 4128768u;
+    w2c_i1 &= w2c_i2;
+    w2c_i0 |= w2c_i1;
+    w2c_i1 = 8421600u;
+    w2c_i0 |= w2c_i1;
+    w2c_l21 = w2c_i0;
+    w2c_j0 = (u64)(w2c_i0);
+    w2c_j1 = 953497ull;
+    w2c_j0 *= w2c_j1;
+    w2c_j1 = 22ull;
+    w2c_j0 >>= (w2c_j1 & 63);
+    w2c_j1 = 1016ull;
+    w2c_j0 &= w2c_j1;
+    w2c_l16 = w2c_j0;
+    w2c_j1 = 66976ull;
+    w2c_j0 += w2c_j1;
+    w2c_i0 = (u32)(w2c_j0);
+    w2c_i0 = i32_load(m, (u64)(w2c_i0));
+    w2c_i1 = w2c_l21;
+    w2c_i0 = w2c_i0 == w2c_i1;
+    if (w2c_i0) {goto w2c_B121;}
+    goto w2c_B119;
+    w2c_B128:;
+    w2c_i0 = w2c_l18;
+    w2c_i1 = 4294967248u;
+    w2c_i0 += w2c_i1;
+    w2c_i1 = 10u;
+    w2c_i0 = w2c_i0 < w2c_i1;
+    if (w2c_i0) {goto w2c_B101;}
+    goto w2c_B120;
+    w2c_B121:;
+    w2c_j0 = w2c_l16;
+    w2c_j1 = 66980ull;
+    w2c_j0 += w2c_j1;
+    w2c_i0 = (u32)(w2c_j0);
+    w2c_i0 = i32_load8_u(m, (u64)(w2c_i0));
+    w2c_i1 = 2u;
+    w2c_i0 = w2c_i0 != w2c_i1;
+    if (w2c_i0) {goto w2c_B101;}
+    w2c_B120:;
+    w2c_i0 = w2c_l18;
+    w2c_i1 = 127u;
+    w2c_i0 = w2c_i0 > w2c_i1;
+    if (w2c_i0) {goto w2c_B119;}
+    w2c_i0 = w2c_l18;
+    w2c_i1 = 95u;
+    w2c_i0 = w2c_i0 == w2c_i1;
+    if (w2c_i0) {goto w2c_B101;}
+    w2c_i0 = 0u;
+    w2c_l19 = w2c_i0;
+    w2c_i0 = w2c_l18;
+    w2c_i1 = 4294967252u;
+    w2c_i0 += w2c_i1;
+    w2c_i1 = 3u;
+    w2c_i0 = w2c_i0 >= w2c_i1;
+    if (w2c_i0) {goto w2c_B129;}
+    w2c_i0 = 0u;
+    w2c_l21 = w2c_i0;
+    goto w2c_B99;
+    w2c_B129:;
+    w2c_i0 = w2c_l18;
+    w2c_i1 = 4294967248u;
+    w2c_i0 += w2c_i1;
+    w2c_i1 = 10u;
+    w2c_i0 = w2c_i0 < w2c_i1;
+    w2c_i1 = w2c_l18;
+    w2c_i2 = 95u;
+    w2c_i1 &= w2c_i2;
+    w2c_i2 = 4294967231u;
+    w2c_i1 += w2c_i2;
+    w2c_i2 = 26u;
+    w2c_i1 = w2c_i1 < w2c_i2;
+    w2c_i0 |= w2c_i1;
+    w2c_l21 = w2c_i0;
+    goto w2c_B99;
+    w2c_B119:;
+    w2c_i0 = 0u;
+    w2c_l19 = w2c_i0;
+    w2c_i0 = w2c_l18;
+    w2c_i1 = 24318u;
+    w2c_i0 = (u32)((s32)w2c_i0 > (s32)w2c_i1);
+    if (w2c_i0) {goto w2c_B132;}
+    w2c_i0 = w2c_l18;
+    w2c_i1 = 21316u;
+    w2c_i0 = (u32)((s32)w2c_i0 > (s32)w2c_i1);
+    if (w2c_i0) {goto w2c_B133;}
+    w2c_i0 = w2c_l18;
+    w2c_i1 = 20313u;
+    w2c_i0 = w2c_i0 != w2c_i1;
+    if (w2c_i0) {goto w2c_B134;}
+    w2c_i0 = 0u;
+    w2c_l21 = w2c_i0;
+    goto w2c_B99;
+    w2c_B134:;
+    w2c_i0 = w2c_l18;
+    w2c_i1 = 20358u;
+    w2c_i0 = w2c_i0 != w2c_i1;
+    if (w2c_i0) {goto w2c_B135;}
+    w2c_i0 = 0u;
+    w2c_l21 = w2c_i0;
+    goto w2c_B99;
+    w2c_B135:;
+    w2c_i0 = w2c_l18;
+    w2c_i1 = 20960u;
+    w2c_i0 = w2c_i0 != w2c_i1;
+    if (w2c_i0) {goto w2c_B131;}
+    w2c_i0 = 0u;
+    w2c_l21 = w2c_i0;
+    goto w2c_B99;
+    w2c_B133:;
+    w2c_i0 = w2c_l18;
+    w2c_i1 = 4294945979u;
+    w2c_i0 += w2c_i1;
+    switch (w2c_i0) {
+      case 0: goto w2c_B130;
+      case 1: goto w2c_B131;
+      case 2: goto w2c_B131;
+      case 3: goto w2c_B131;
+      case 4: goto w2c_B131;
+      case 5: goto w2c_B131;
+      case 6: goto w2c_B131;
+      case 7: goto w2c_B130;
+      default: goto w2c_B136;
+    }
+    w2c_B136:;
+    w2c_i0 = 0u;
+    w2c_l21 = w2c_i0;
+    w2c_i0 = w2c_l18;
+    w2c_i1 = 4294943110u;
+    w2c_i0 += w2c_i1;
+    switch (w2c_i0) {
+      case 0: goto w2c_B130;
+      case 1: goto w2c_B131;
+      case 2: goto w2c_B131;
+      case 3: goto w2c_B131;
+      case 4: goto w2c_B99;
+      default: goto w2c_B137;
+    }
+    w2c_B137:;
+    w2c_i0 = w2c_l18;
+    w2c_i1 = 22810u;
+    w2c_i0 = w2c_i0 != w2c_i1;
+    if (w2c_i0) {goto w2c_B131;}
+    w2c_i0 = 0u;
+    w2c_l21 = w2c_i0;
+    goto w2c_B99;
+    w2c_B132:;
+    w2c_i0 = w2c_l18;
+    w2c_i1 = 28856u;
+    w2c_i0 = (u32)((s32)w2c_i0 > (s32)w2c_i1);
+    if (w2c_i0) {goto w2c_B138;}
+    w2c_i0 = 0u;
+    w2c_l21 = w2c_i0;
+    w2c_i0 = w2c_l18;
+    w2c_i1 = 4294941328u;
+    w2c_i0 += w2c_i1;
+    switch (w2c_i0) {
+      case 0: goto w2c_B99;
+      case 1: goto w2c_B131;
+      case 2: goto w2c_B131;
+      case 3: goto w2c_B131;
+      case 4: goto w2c_B131;
+      case 5: goto w2c_B131;
+      case 6: goto w2c_B131;
+      case 7: goto w2c_B131;
+      case 8: goto w2c_B99;
+      default: goto w2c_B139;
+    }
+    w2c_B139:;
+    w2c_i0 = w2c_l18;
+    w2c_i1 = 24319u;
+    w2c_i0 = w2c_i0 == w2c_i1;
+    if (w2c_i0) {goto w2c_B130;}
+    w2c_i0 = w2c_l18;
+    w2c_i1 = 26469u;
+    w2c_i0 = w2c_i0 != w2c_i1;
+    if (w2c_i0) {goto w2c_B131;}
+    w2c_i0 = 0u;
+    w2c_l21 = w2c_i0;
+    goto w2c_B99;
+    w2c_B138:;
+    w2c_i0 = w2c_l18;
+    w2c_i1 = 28857u;
+    w2c_i0 = w2c_i0 != w2c_i1;
+    if (w2c_i0) {goto w2c_B140;}
+    w2c_i0 = 0u;
+    w2c_l21 = w2c_i0;
+    goto w2c_B99;
+    w2c_B140:;
+    w2c_i0 = w2c_l18;
+    w2c_i1 = 39192u;
+    w2c_i0 = w2c_i0 != w2c_i1;
+    if (w2c_i0) {goto w2c_B141;}
+    w2c_i0 = 0u;
+    w2c_l21 = w2c_i0;
+    goto w2c_B99;
+    w2c_B141:;
+    w2c_i0 = w2c_l18;
+    w2c_i1 = 40670u;
+    w2c_i0 = w2c_i0 != w2c_i1;
+    if (w2c_i0) {goto w2c_B131;}
+    w2c_i0 = 0u;
+    w2c_l21 = w2c_i0;
+    goto w2c_B99;
+    w2c_B131:;
+    w2c_i0 = w2c_l18;
+    w2c_i1 = 4294902000u;
+    w2c_i0 += w2c_i1;
+    w2c_i1 = 9u;
+    w2c_i0 = w2c_i0 <= w2c_i1;
+    if (w2c_i0) {goto w2c_B130;}
+    w2c_i0 = 0u;
+    w2c_l21 = w2c_i0;
+    goto w2c_B99;
+    w2c_B130:;
+    w2c_i0 = 1u;
+    w2c_l21 = w2c_i0;
+    goto w2c_B99;
+    w2c_B101:;
+    w2c_i0 = 1u;
+    w2c_l21 = w2c_i0;
+    w2c_i0 = 0u;
+    w2c_l19 = w2c_i0;
+    goto w2c_B99;
+    w2c_B100:;
+    w2c_i0 = 0u;
+    w2c_l19 = w2c_i0;
+    w2c_i0 = 0u;
+    w2c_l21 = w2c_i0;
+    w2c_B99:;
     w2c_j0 = w2c_l9;
     w2c_i0 = (u32)(w2c_j0);
     w2c_i1 = 0u;
     i32_store(m, (u64)(w2c_i0) + 12, w2c_i1);
+    w2c_i0 = w2c_l23;
+    w2c_i1 = w2c_l21;
+    w2c_i0 |= w2c_i1;
+    w2c_l18 = w2c_i0;
+    w2c_j0 = w2c_l8;
+    w2c_j1 = w2c_l15;
+    w2c_j0 -= w2c_j1;
+    w2c_l8 = w2c_j0;
+    w2c_j1 = 18446744073709551615ull;
+    w2c_j0 += w2c_j1;
+    w2c_l11 = w2c_j0;
+    w2c_j1 = 2ull;
+    w2c_i0 = w2c_j0 > w2c_j1;
+    if (w2c_i0) {goto w2c_B149;}
+    w2c_j0 = w2c_l11;
+    w2c_i0 = (u32)(w2c_j0);
+    switch (w2c_i0) {
+      case 0: goto w2c_B146;
+      case 1: goto w2c_B149;
+      case 2: goto w2c_B150;
+      default: goto w2c_B146;
+    }
+    w2c_B150:;
+    w2c_j0 = w2c_p2;
+    w2c_i0 = (u32)(w2c_j0);
+    w2c_i0 = i32_load8_u(m, (u64)(w2c_i0) + 1u);
+    w2c_i1 = 8u;
+    w2c_i0 <<= (w2c_i1 & 31);
+    w2c_j1 = w2c_p2;
+    w2c_i1 = (u32)(w2c_j1);
+    w2c_i1 = i32_load8_u(m, (u64)(w2c_i1));
+    w2c_l23 = w2c_i1;
+    w2c_i0 |= w2c_i1;
+    w2c_j1 = w2c_p2;
+    w2c_i1 = (u32)(w2c_j1);
+    w2c_i1 = i32_load8_u(m, (u64)(w2c_i1) + 2u);
+    w2c_i2 = 16u;
+    w2c_i1 <<= (w2c_i2 & 31);
+    w2c_i0 |= w2c_i1;
+    w2c_l21 = w2c_i0;
+    w2c_j0 = (u64)(w2c_i0);
+    w2c_j1 = 953497ull;
+    w2c_j0 *= w2c_j1;
+    w2c_j1 = 22ull;
+    w2c_j0 >>= (w2c_j1 & 63);
+    w2c_j1 = 1016ull;
+    w2c_j0 &= w2c_j1;
+    w2c_l11 = w2c_j0;
+    w2c_j1 = 66976ull;
+    w2c_j0 += w2c_j1;
+    w2c_i0 = (u32)(w2c_j0);
+    w2c_i0 = i32_load(m, (u64)(w2c_i0));
+    w2c_i1 = w2c_l21;
+    w2c_i0 = w2c_i0 != w2c_i1;
+    if (w2c_i0) {goto w2c_B148;}
+    w2c_i0 = 1u;
+    w2c_l20 = w2c_i0;
+    w2c_j0 = w2c_l11;
+    w2c_j1 = 66980ull;
+    w2c_j0 += w2c_j1;
+    w2c_i0 = (u32)(w2c_j0);
+    w2c_i0 = i32_load8_u(m, (u64)(w2c_i0));
+    w2c_l21 = w2c_i0;
+    w2c_i1 = 2u;
+    w2c_i0 = w2c_i0 == w2c_i1;
+    if (w2c_i0) {goto w2c_B148;}
+    goto w2c_B145;
+    w2c_B149:;
+    w2c_j0 = w2c_l8;
+    w2c_j1 = 4ull;
+    w2c_i0 = w2c_j0 > w2c_j1;
+    if (w2c_i0) {goto w2c_B144;}
+    w2c_j0 = w2c_l12;
+    w2c_j1 = w2c_l15;
+    w2c_i0 = w2c_j0 == w2c_j1;
+    if (w2c_i0) {goto w2c_B147;}
+    w2c_j0 = w2c_p2;
+    w2c_i0 = (u32)(w2c_j0);
+    w2c_i0 = i32_load8_u(m, (u64)(w2c_i0));
+    w2c_l23 = w2c_i0;
+    w2c_B148:;
+    w2c_i0 = w2c_l23;
+    w2c_i0 = (u32)(s32)(s8)(u8)(w2c_i0);
+    w2c_i1 = 4294967295u;
+    w2c_i0 = (u32)((s32)w2c_i0 > (s32)w2c_i1);
+    if (w2c_i0) {goto w2c_B144;}
+    w2c_B147:;
     w2c_j0 = w2c_l9;
     w2c_j1 = 12ull;
     w2c_j0 += w2c_j1;
-    w2c_j1 = w2c_p0;
-    w2c_j2 = w2c_l15;
-    w2c_j3 = w2c_p2;
-    w2c_j4 = w2c_l14;
-    w2c_j5 = w2c_l12;
-    w2c_j4 -= w2c_j5;
-    w2c_j5 = w2c_l11;
-    w2c_j6 = w2c_l12;
-    w2c_f18(m, w2c_j0, w2c_j1, w2c_j2, w2c_j3, w2c_j4, w2c_j5, w2c_j6);
-    w2c_j0 = w2c_l9;
-    w2c_i0 = (u32)(w2c_j0);
-    w2c_i0 = i32_load8_u(m, (u64)(w2c_i0) + 15u);
-    w2c_l17 = w2c_i0;
+    w2c_j1 = w2c_p2;
+    w2c_j2 = w2c_l8;
+    w2c_f20(m, w2c_j0, w2c_j1, w2c_j2);
     w2c_j0 = w2c_l9;
     w2c_i0 = (u32)(w2c_j0);
     w2c_i0 = i32_load8_u(m, (u64)(w2c_i0) + 12u);
+    w2c_i1 = 1u;
+    w2c_i0 = w2c_i0 != w2c_i1;
+    if (w2c_i0) {goto w2c_B144;}
+    w2c_j0 = w2c_l9;
+    w2c_i0 = (u32)(w2c_j0);
+    w2c_i0 = i32_load8_u(m, (u64)(w2c_i0) + 15u);
     w2c_l20 = w2c_i0;
     w2c_j0 = w2c_l9;
     w2c_i0 = (u32)(w2c_j0);
     w2c_i0 = i32_load8_u(m, (u64)(w2c_i0) + 13u);
     w2c_l21 = w2c_i0;
-    w2c_j0 = w2c_l9;
-    w2c_i0 = (u32)(w2c_j0);
-    w2c_i0 = i32_load8_u(m, (u64)(w2c_i0) + 14u);
+    goto w2c_B145;
+    w2c_B146:;
+    w2c_i0 = 2u;
+    w2c_i1 = 0u;
+    w2c_j2 = w2c_p2;
+    w2c_i2 = (u32)(w2c_j2);
+    w2c_i2 = i32_load8_u(m, (u64)(w2c_i2));
+    w2c_i3 = 4294967238u;
+    w2c_i2 += w2c_i3;
+    w2c_i3 = 255u;
+    w2c_i2 &= w2c_i3;
+    w2c_i3 = 246u;
+    w2c_i2 = w2c_i2 < w2c_i3;
+    w2c_l20 = w2c_i2;
+    w2c_i0 = w2c_i2 ? w2c_i0 : w2c_i1;
+    w2c_l21 = w2c_i0;
+    w2c_B145:;
+    w2c_i0 = 0u;
+    w2c_i1 = 2u;
+    w2c_i2 = w2c_l18;
+    w2c_i3 = 1u;
+    w2c_i2 &= w2c_i3;
+    w2c_i0 = w2c_i2 ? w2c_i0 : w2c_i1;
+    w2c_i1 = w2c_l21;
+    w2c_i2 = 255u;
+    w2c_i1 &= w2c_i2;
+    w2c_l18 = w2c_i1;
+    w2c_i1 = !(w2c_i1);
+    w2c_i0 |= w2c_i1;
+    w2c_l21 = w2c_i0;
+    w2c_i0 = 8u;
+    w2c_i1 = 0u;
+    w2c_i2 = w2c_l20;
+    w2c_i3 = 1u;
+    w2c_i2 &= w2c_i3;
+    w2c_i0 = w2c_i2 ? w2c_i0 : w2c_i1;
+    w2c_l20 = w2c_i0;
+    w2c_i0 = w2c_l19;
+    w2c_i1 = w2c_l22;
+    w2c_i2 = w2c_l18;
+    w2c_i3 = 1u;
+    w2c_i2 = w2c_i2 == w2c_i3;
+    w2c_i1 &= w2c_i2;
+    w2c_i0 |= w2c_i1;
+    if (w2c_i0) {goto w2c_B143;}
+    goto w2c_B142;
+    w2c_B144:;
+    w2c_j0 = w2c_p2;
+    w2c_j1 = w2c_l8;
+    w2c_i0 = w2c_f21(m, w2c_j0, w2c_j1);
+    w2c_l21 = w2c_i0;
+    w2c_i0 = w2c_l22;
+    w2c_i0 = !(w2c_i0);
+    if (w2c_i0) {goto w2c_B153;}
+    w2c_i0 = w2c_l19;
+    w2c_j1 = w2c_p2;
+    w2c_j2 = w2c_l8;
+    w2c_i1 = w2c_f22(m, w2c_j1, w2c_j2);
+    w2c_i0 |= w2c_i1;
+    if (w2c_i0) {goto w2c_B152;}
+    goto w2c_B151;
+    w2c_B153:;
+    w2c_i0 = w2c_l19;
+    w2c_i0 = !(w2c_i0);
+    if (w2c_i0) {goto w2c_B151;}
+    w2c_B152:;
+    w2c_i0 = 0u;
+    w2c_l20 = w2c_i0;
+    w2c_i0 = 0u;
+    w2c_i1 = 2u;
+    w2c_i2 = w2c_l18;
+    w2c_i3 = 1u;
+    w2c_i2 &= w2c_i3;
+    w2c_i0 = w2c_i2 ? w2c_i0 : w2c_i1;
+    w2c_i1 = w2c_l21;
+    w2c_i0 |= w2c_i1;
+    w2c_l21 = w2c_i0;
+    goto w2c_B143;
+    w2c_B151:;
+    w2c_i0 = 0u;
+    w2c_l20 = w2c_i0;
+    w2c_i0 = 0u;
+    w2c_i1 = 2u;
+    w2c_i2 = w2c_l18;
+    w2c_i3 = 1u;
+    w2c_i2 &= w2c_i3;
+    w2c_i0 = w2c_i2 ? w2c_i0 : w2c_i1;
+    w2c_i1 = w2c_l21;
+    w2c_i0 |= w2c_i1;
+    w2c_l21 = w2c_i0;
+    w2c_j0 = w2c_p2;
+    w2c_j1 = w2c_l8;
+    w2c_i0 = w2c_f23(m, w2c_j0, w2c_j1);
+    w2c_i0 = !(w2c_i0);
+    if (w2c_i0) {goto w2c_B142;}
+    w2c_B143:;
+    w2c_i0 = w2c_l21;
+    w2c_i1 = 4u;
+    w2c_i0 |= w2c_i1;
+    w2c_l21 = w2c_i0;
+    w2c_B142:;
+    w2c_i0 = 0u;
     w2c_l18 = w2c_i0;
     w2c_j0 = w2c_p5;
     w2c_j1 = w2c_l10;
@@ -8774,54 +11003,45 @@ static u32 w2c_f14(module *m, u64 w2c_p0, u64 w2c_p1, u64 w2c_p2, u32 w2c_p3, u3
     i32_store(m, (u64)(w2c_i0) + 20, w2c_i1);
     w2c_j0 = w2c_p2;
     w2c_i0 = (u32)(w2c_j0);
+    w2c_i1 = w2c_l20;
+    w2c_i2 = w2c_l21;
+    w2c_i1 |= w2c_i2;
+    i32_store(m, (u64)(w2c_i0) + 16, w2c_i1);
+    w2c_j0 = w2c_p2;
+    w2c_i0 = (u32)(w2c_j0);
     w2c_j1 = w2c_p1;
-    w2c_j2 = w2c_l12;
+    w2c_j2 = w2c_l15;
     w2c_j1 -= w2c_j2;
     i64_store(m, (u64)(w2c_i0) + 8, w2c_j1);
     w2c_j0 = w2c_p2;
     w2c_i0 = (u32)(w2c_j0);
-    w2c_j1 = w2c_l15;
+    w2c_j1 = w2c_l14;
     i64_store(m, (u64)(w2c_i0), w2c_j1);
-    w2c_j0 = w2c_p2;
-    w2c_i0 = (u32)(w2c_j0);
-    w2c_i1 = w2c_l20;
-    w2c_i2 = w2c_l21;
-    w2c_i3 = 1u;
-    w2c_i2 <<= (w2c_i3 & 31);
-    w2c_i1 |= w2c_i2;
-    w2c_i2 = w2c_l18;
-    w2c_i3 = 2u;
-    w2c_i2 <<= (w2c_i3 & 31);
-    w2c_i1 |= w2c_i2;
-    w2c_i2 = w2c_l17;
-    w2c_i3 = 3u;
-    w2c_i2 <<= (w2c_i3 & 31);
-    w2c_i1 |= w2c_i2;
-    w2c_i2 = 15u;
-    w2c_i1 &= w2c_i2;
-    i32_store(m, (u64)(w2c_i0) + 16, w2c_i1);
     w2c_j0 = w2c_l10;
     w2c_j1 = 1ull;
     w2c_j0 += w2c_j1;
     w2c_l10 = w2c_j0;
     w2c_j1 = w2c_p6;
+    w2c_i0 = w2c_j0 >= w2c_j1;
+    if (w2c_i0) {goto w2c_B1;}
+    w2c_j0 = w2c_l15;
+    w2c_l11 = w2c_j0;
+    w2c_j0 = w2c_l13;
+    w2c_l12 = w2c_j0;
+    w2c_j0 = w2c_l15;
+    w2c_j1 = 0ull;
     w2c_i0 = w2c_j0 != w2c_j1;
-    if (w2c_i0) {goto w2c_L5;}
-  w2c_j0 = w2c_p6;
-  w2c_l10 = w2c_j0;
-  w2c_B3:;
+    if (w2c_i0) {goto w2c_L4;}
+  w2c_B1:;
   w2c_j0 = w2c_p7;
   w2c_i0 = (u32)(w2c_j0);
   w2c_j1 = w2c_l10;
   i64_store(m, (u64)(w2c_i0), w2c_j1);
-  w2c_i0 = 0u;
-  w2c_l17 = w2c_i0;
-  w2c_B1:;
   w2c_j0 = w2c_l9;
   w2c_j1 = 16ull;
   w2c_j0 += w2c_j1;
   m->w2c_g0 = w2c_j0;
-  w2c_i0 = w2c_l17;
+  w2c_i0 = w2c_l18;
   goto w2c_Bfunc;
   w2c_B0:;
   UNREACHABLE;
@@ -8829,7 +11049,7 @@ static u32 w2c_f14(module *m, u64 w2c_p0, u64 w2c_p1, u64 w2c_p2, u32 w2c_p3, u3
   return w2c_i0;
 }
 
-static u32 w2c_f15(module *m, u64 w2c_p0, u64 w2c_p1) {
+static u32 w2c_f17(module *m, u64 w2c_p0, u64 w2c_p1) {
   u32 w2c_l2 = 0, w2c_l3 = 0, w2c_l4 = 0, w2c_l5 = 0, w2c_l6 = 0;
   u64 w2c_l7 = 0;
   u32 w2c_i0, w2c_i1, w2c_i2, w2c_i3;
@@ -9221,7 +11441,7 @@ static u32 w2c_f15(module *m, u64 w2c_p0, u64 w2c_p1) {
   return w2c_i0;
 }
 
-static u32 w2c_f16(module *m, u32 w2c_p0, u32 w2c_p1, u64 w2c_p2, u64 w2c_p3) {
+static u32 w2c_f18(module *m, u32 w2c_p0, u32 w2c_p1, u64 w2c_p2, u64 w2c_p3) {
   u32 w2c_l7 = 0, w2c_l8 = 0, w2c_l9 = 0, w2c_l10 = 0, w2c_l11 = 0;
   u64 w2c_l4 = 0, w2c_l5 = 0, w2c_l6 = 0;
   u32 w2c_i0, w2c_i1, w2c_i2, w2c_i3;
@@ -9601,7 +11821,7 @@ static u32 w2c_f16(module *m, u32 w2c_p0, u32 w2c_p1, u64 w2c_p2, u64 w2c_p3) {
   if (w2c_i0) {goto w2c_B9;}
   w2c_j0 = w2c_p2;
   w2c_j1 = w2c_p3;
-  w2c_i0 = w2c_f15(m, w2c_j0, w2c_j1);
+  w2c_i0 = w2c_f17(m, w2c_j0, w2c_j1);
   w2c_i1 = 1u;
   w2c_i0 ^= w2c_i1;
   w2c_l8 = w2c_i0;
@@ -9616,7 +11836,7 @@ static u32 w2c_f16(module *m, u32 w2c_p0, u32 w2c_p1, u64 w2c_p2, u64 w2c_p3) {
   return w2c_i0;
 }
 
-static void w2c_f17(module *m, u64 w2c_p0, u32 w2c_p1) {
+static void w2c_f19(module *m, u64 w2c_p0, u32 w2c_p1) {
   u32 w2c_l2 = 0, w2c_l3 = 0;
   u32 w2c_i0, w2c_i1;
   u64 w2c_j0, w2c_j1;
@@ -9884,236 +12104,44 @@ static void w2c_f17(module *m, u64 w2c_p0, u32 w2c_p1) {
   i32_store8(m, (u64)(w2c_i0), w2c_i1);
 }
 
-static void w2c_f18(module *m, u64 w2c_p0, u64 w2c_p1, u64 w2c_p2, u64 w2c_p3, u64 w2c_p4, u64 w2c_p5, u64 w2c_p6) {
-  u32 w2c_l10 = 0, w2c_l11 = 0, w2c_l12 = 0, w2c_l13 = 0, w2c_l14 = 0, w2c_l15 = 0, w2c_l16 = 0, w2c_l17 = 0;
-  u64 w2c_l7 = 0, w2c_l8 = 0, w2c_l9 = 0;
+static void w2c_f20(module *m, u64 w2c_p0, u64 w2c_p1, u64 w2c_p2) {
+  u32 w2c_l3 = 0, w2c_l4 = 0, w2c_l5 = 0, w2c_l6 = 0, w2c_l7 = 0, w2c_l8 = 0, w2c_l9 = 0;
+  u64 w2c_l10 = 0;
   u32 w2c_i0, w2c_i1, w2c_i2, w2c_i3;
-  u64 w2c_j0, w2c_j1, w2c_j2, w2c_j3;
+  u64 w2c_j0, w2c_j1, w2c_j2;
   w2c_j0 = m->w2c_g0;
-  w2c_l7 = w2c_j0;
   w2c_j1 = 16ull;
   w2c_i0 = (u64)((s64)w2c_j0 < (s64)w2c_j1);
-  if (w2c_i0) {goto w2c_B10;}
+  if (w2c_i0) {goto w2c_B1;}
   w2c_j0 = w2c_p2;
   w2c_j1 = 3ull;
   w2c_i0 = w2c_j0 < w2c_j1;
-  if (w2c_i0) {goto w2c_B13;}
+  if (w2c_i0) {goto w2c_B4;}
   w2c_j0 = w2c_p1;
-  w2c_j1 = w2c_p2;
-  w2c_j0 += w2c_j1;
-  w2c_l8 = w2c_j0;
-  w2c_j1 = 18446744073709551613ull;
-  w2c_j0 += w2c_j1;
   w2c_i0 = (u32)(w2c_j0);
   w2c_i0 = i32_load8_u(m, (u64)(w2c_i0));
-  w2c_l10 = w2c_i0;
+  w2c_l3 = w2c_i0;
   w2c_i1 = 240u;
   w2c_i0 &= w2c_i1;
   w2c_i1 = 224u;
   w2c_i0 = w2c_i0 != w2c_i1;
-  if (w2c_i0) {goto w2c_B12;}
-  w2c_j0 = w2c_l8;
-  w2c_j1 = 18446744073709551615ull;
-  w2c_j0 += w2c_j1;
-  w2c_i0 = (u32)(w2c_j0);
-  w2c_i0 = i32_load8_u(m, (u64)(w2c_i0));
-  w2c_l11 = w2c_i0;
-  w2c_j1 = w2c_l8;
-  w2c_j2 = 18446744073709551614ull;
-  w2c_j1 += w2c_j2;
-  w2c_i1 = (u32)(w2c_j1);
-  w2c_i1 = i32_load8_u(m, (u64)(w2c_i1));
-  w2c_l12 = w2c_i1;
-  w2c_i2 = 6u;
-  w2c_i1 <<= (w2c_i2 & 31);
-  w2c_i0 += w2c_i1;
-  w2c_i1 = w2c_l10;
-  w2c_i2 = 12u;
-  w2c_i1 <<= (w2c_i2 & 31);
-  w2c_i0 += w2c_i1;
-  w2c_i1 = 4294041472u;
-  w2c_i0 += w2c_i1;
-  w2c_l13 = w2c_i0;
-  w2c_j0 = w2c_p2;
-  w2c_j1 = 18446744073709551613ull;
-  w2c_j0 += w2c_j1;
-  w2c_l8 = w2c_j0;
-  w2c_i0 = w2c_l12;
-  w2c_i1 = 8u;
-  w2c_i0 <<= (w2c_i1 & 31);
-  w2c_i1 = w2c_l11;
-  w2c_i2 = 16u;
-  w2c_i1 <<= (w2c_i2 & 31);
-  w2c_i0 |= w2c_i1;
-  w2c_i1 = w2c_l10;
-  w2c_i0 |= w2c_i1;
-  w2c_l10 = w2c_i0;
-  w2c_j0 = (u64)(w2c_i0);
-  w2c_j1 = 953497ull;
-  w2c_j0 *= w2c_j1;
-  w2c_j1 = 22ull;
-  w2c_j0 >>= (w2c_j1 & 63);
-  w2c_j1 = 1016ull;
-  w2c_j0 &= w2c_j1;
-  w2c_p2 = w2c_j0;
-  w2c_j1 = 66976ull;
-  w2c_j0 += w2c_j1;
-  w2c_i0 = (u32)(w2c_j0);
-  w2c_i0 = i32_load(m, (u64)(w2c_i0));
-  w2c_i1 = w2c_l10;
-  w2c_i0 = w2c_i0 == w2c_i1;
-  if (w2c_i0) {goto w2c_B11;}
-  goto w2c_B8;
-  w2c_B13:;
-  w2c_j0 = w2c_p2;
-  w2c_i0 = !(w2c_j0);
-  if (w2c_i0) {goto w2c_B2;}
-  w2c_B12:;
-  w2c_i0 = 0u;
-  w2c_l11 = w2c_i0;
+  if (w2c_i0) {goto w2c_B3;}
   w2c_j0 = w2c_p1;
-  w2c_j1 = w2c_p2;
-  w2c_j2 = 18446744073709551615ull;
-  w2c_j1 += w2c_j2;
-  w2c_l8 = w2c_j1;
-  w2c_j0 += w2c_j1;
-  w2c_i0 = (u32)(w2c_j0);
-  w2c_i0 = i32_load8_s(m, (u64)(w2c_i0));
-  w2c_l13 = w2c_i0;
-  w2c_i1 = 0u;
-  w2c_i0 = (u32)((s32)w2c_i0 >= (s32)w2c_i1);
-  if (w2c_i0) {goto w2c_B9;}
-  w2c_j0 = 18446744073709551614ull;
-  w2c_l8 = w2c_j0;
-  w2c_j0 = w2c_p1;
-  w2c_j1 = w2c_p2;
-  w2c_j0 += w2c_j1;
-  w2c_l9 = w2c_j0;
-  w2c_j1 = 18446744073709551614ull;
-  w2c_j0 += w2c_j1;
-  w2c_i0 = (u32)(w2c_j0);
-  w2c_i0 = i32_load8_u(m, (u64)(w2c_i0));
-  w2c_i1 = 191u;
-  w2c_i0 = w2c_i0 > w2c_i1;
-  if (w2c_i0) {goto w2c_B14;}
-  w2c_j0 = 18446744073709551613ull;
-  w2c_j1 = 18446744073709551612ull;
-  w2c_j2 = w2c_l9;
-  w2c_j3 = 18446744073709551613ull;
-  w2c_j2 += w2c_j3;
-  w2c_i2 = (u32)(w2c_j2);
-  w2c_i2 = i32_load8_u(m, (u64)(w2c_i2));
-  w2c_i3 = 191u;
-  w2c_i2 = w2c_i2 > w2c_i3;
-  w2c_j0 = w2c_i2 ? w2c_j0 : w2c_j1;
-  w2c_l8 = w2c_j0;
-  w2c_B14:;
-  w2c_j0 = w2c_p1;
-  w2c_j1 = w2c_l8;
-  w2c_j2 = w2c_p2;
-  w2c_j1 += w2c_j2;
-  w2c_l8 = w2c_j1;
-  w2c_j0 += w2c_j1;
-  w2c_p2 = w2c_j0;
-  w2c_i0 = (u32)(w2c_j0);
-  w2c_i0 = i32_load8_s(m, (u64)(w2c_i0));
-  w2c_l10 = w2c_i0;
-  w2c_i1 = 255u;
-  w2c_i0 &= w2c_i1;
-  w2c_l13 = w2c_i0;
-  w2c_i0 = w2c_l10;
-  w2c_i1 = 4294967295u;
-  w2c_i0 = (u32)((s32)w2c_i0 > (s32)w2c_i1);
-  if (w2c_i0) {goto w2c_B9;}
-  w2c_j0 = w2c_p2;
   w2c_i0 = (u32)(w2c_j0);
   w2c_i0 = i32_load8_u(m, (u64)(w2c_i0) + 1u);
-  w2c_i1 = 63u;
-  w2c_i0 &= w2c_i1;
-  w2c_l12 = w2c_i0;
-  w2c_i0 = w2c_l10;
-  w2c_i1 = 4294967263u;
-  w2c_i0 = w2c_i0 > w2c_i1;
-  if (w2c_i0) {goto w2c_B15;}
-  w2c_i0 = w2c_l13;
-  w2c_i1 = 6u;
+  w2c_l4 = w2c_i0;
+  w2c_i1 = 8u;
   w2c_i0 <<= (w2c_i1 & 31);
-  w2c_i1 = 1984u;
-  w2c_i0 &= w2c_i1;
-  w2c_i1 = w2c_l12;
-  w2c_i0 |= w2c_i1;
-  w2c_l13 = w2c_i0;
-  goto w2c_B9;
-  w2c_B15:;
-  w2c_j0 = w2c_p2;
-  w2c_i0 = (u32)(w2c_j0);
-  w2c_i0 = i32_load8_u(m, (u64)(w2c_i0) + 2u);
-  w2c_i1 = 63u;
-  w2c_i0 &= w2c_i1;
-  w2c_l14 = w2c_i0;
-  w2c_i0 = w2c_l10;
-  w2c_i1 = 4294967279u;
-  w2c_i0 = w2c_i0 > w2c_i1;
-  if (w2c_i0) {goto w2c_B17;}
-  w2c_i0 = w2c_l12;
-  w2c_i1 = 6u;
-  w2c_i0 <<= (w2c_i1 & 31);
-  w2c_i1 = w2c_l13;
-  w2c_i2 = 12u;
-  w2c_i1 <<= (w2c_i2 & 31);
-  w2c_i2 = 61440u;
-  w2c_i1 &= w2c_i2;
-  w2c_i0 |= w2c_i1;
-  w2c_i1 = w2c_l14;
-  w2c_i0 |= w2c_i1;
-  w2c_l13 = w2c_i0;
-  goto w2c_B16;
-  w2c_B17:;
-  w2c_i0 = w2c_l14;
-  w2c_i1 = 6u;
-  w2c_i0 <<= (w2c_i1 & 31);
-  w2c_i1 = w2c_l12;
-  w2c_i2 = 12u;
-  w2c_i1 <<= (w2c_i2 & 31);
-  w2c_i2 = w2c_l13;
-  w2c_i3 = 18u;
-  w2c_i2 <<= (w2c_i3 & 31);
-  w2c_i3 = 1835008u;
-  w2c_i2 &= w2c_i3;
-  w2c_i1 |= w2c_i2;
-  w2c_i0 |= w2c_i1;
-  w2c_j1 = w2c_p2;
+  w2c_j1 = w2c_p1;
   w2c_i1 = (u32)(w2c_j1);
-  w2c_i1 = i32_load8_u(m, (u64)(w2c_i1) + 3u);
-  w2c_i2 = 63u;
-  w2c_i1 &= w2c_i2;
-  w2c_i0 |= w2c_i1;
-  w2c_l13 = w2c_i0;
-  w2c_B16:;
-  w2c_i0 = w2c_l13;
-  w2c_i1 = 4294965248u;
-  w2c_i0 += w2c_i1;
-  w2c_i1 = 63487u;
-  w2c_i0 = w2c_i0 > w2c_i1;
-  if (w2c_i0) {goto w2c_B9;}
-  w2c_i0 = w2c_l13;
-  w2c_i1 = 12u;
-  w2c_i0 >>= (w2c_i1 & 31);
-  w2c_i1 = w2c_l13;
-  w2c_i2 = 2u;
-  w2c_i1 <<= (w2c_i2 & 31);
-  w2c_i2 = 16128u;
-  w2c_i1 &= w2c_i2;
-  w2c_i0 |= w2c_i1;
-  w2c_i1 = w2c_l13;
+  w2c_i1 = i32_load8_u(m, (u64)(w2c_i1) + 2u);
+  w2c_l5 = w2c_i1;
   w2c_i2 = 16u;
   w2c_i1 <<= (w2c_i2 & 31);
-  w2c_i2 = 4128768u;
-  w2c_i1 &= w2c_i2;
   w2c_i0 |= w2c_i1;
-  w2c_i1 = 8421600u;
+  w2c_i1 = w2c_l3;
   w2c_i0 |= w2c_i1;
-  w2c_l10 = w2c_i0;
+  w2c_l6 = w2c_i0;
   w2c_j0 = (u64)(w2c_i0);
   w2c_j1 = 953497ull;
   w2c_j0 *= w2c_j1;
@@ -10121,373 +12149,153 @@ static void w2c_f18(module *m, u64 w2c_p0, u64 w2c_p1, u64 w2c_p2, u64 w2c_p3, u
   w2c_j0 >>= (w2c_j1 & 63);
   w2c_j1 = 1016ull;
   w2c_j0 &= w2c_j1;
-  w2c_p2 = w2c_j0;
-  w2c_j1 = 66976ull;
+  w2c_p1 = w2c_j0;
+  w2c_j1 = 66981ull;
   w2c_j0 += w2c_j1;
   w2c_i0 = (u32)(w2c_j0);
-  w2c_i0 = i32_load(m, (u64)(w2c_i0));
-  w2c_i1 = w2c_l10;
-  w2c_i0 = w2c_i0 != w2c_i1;
-  if (w2c_i0) {goto w2c_B7;}
-  w2c_B11:;
-  w2c_j0 = w2c_p2;
+  w2c_i0 = i32_load8_u(m, (u64)(w2c_i0));
+  w2c_i1 = 0u;
+  w2c_j2 = w2c_p1;
+  w2c_i2 = (u32)(w2c_j2);
+  w2c_i2 = i32_load(m, (u64)(w2c_i2) + 66976u);
+  w2c_i3 = w2c_l6;
+  w2c_i2 = w2c_i2 == w2c_i3;
+  w2c_l6 = w2c_i2;
+  w2c_i0 = w2c_i2 ? w2c_i0 : w2c_i1;
+  w2c_l7 = w2c_i0;
+  w2c_j0 = w2c_p1;
   w2c_j1 = 66980ull;
   w2c_j0 += w2c_j1;
   w2c_i0 = (u32)(w2c_j0);
   w2c_i0 = i32_load8_u(m, (u64)(w2c_i0));
-  if (w2c_i0) {goto w2c_B8;}
-  goto w2c_B4;
-  w2c_B10:;
-  UNREACHABLE;
-  w2c_B9:;
-  w2c_i0 = w2c_l13;
-  w2c_i1 = 4294967248u;
+  w2c_i1 = 2u;
+  w2c_i2 = w2c_l6;
+  w2c_i0 = w2c_i2 ? w2c_i0 : w2c_i1;
+  w2c_l8 = w2c_i0;
+  w2c_i0 = w2c_l3;
+  w2c_i1 = 12u;
+  w2c_i0 <<= (w2c_i1 & 31);
+  w2c_i1 = w2c_l4;
+  w2c_i2 = 6u;
+  w2c_i1 <<= (w2c_i2 & 31);
   w2c_i0 += w2c_i1;
-  w2c_i1 = 10u;
-  w2c_i0 = w2c_i0 < w2c_i1;
-  if (w2c_i0) {goto w2c_B3;}
-  w2c_B8:;
-  w2c_i0 = w2c_l13;
-  w2c_i1 = 127u;
-  w2c_i0 = w2c_i0 > w2c_i1;
-  if (w2c_i0) {goto w2c_B7;}
-  w2c_i0 = 1u;
-  w2c_l15 = w2c_i0;
-  w2c_i0 = 0u;
-  w2c_l11 = w2c_i0;
-  w2c_i0 = w2c_l13;
-  w2c_i1 = 95u;
-  w2c_i0 = w2c_i0 == w2c_i1;
+  w2c_i1 = w2c_l5;
+  w2c_i0 += w2c_i1;
+  w2c_i1 = 4294041472u;
+  w2c_i0 += w2c_i1;
+  w2c_l3 = w2c_i0;
+  w2c_j0 = w2c_p2;
+  w2c_j1 = 18446744073709551613ull;
+  w2c_j0 += w2c_j1;
+  w2c_p2 = w2c_j0;
+  goto w2c_B2;
+  w2c_B4:;
+  w2c_j0 = w2c_p2;
+  w2c_i0 = !(w2c_j0);
   if (w2c_i0) {goto w2c_B0;}
-  w2c_i0 = w2c_l13;
-  w2c_i1 = 4294967252u;
-  w2c_i0 += w2c_i1;
-  w2c_i1 = 3u;
-  w2c_i0 = w2c_i0 < w2c_i1;
-  if (w2c_i0) {goto w2c_B6;}
-  w2c_i0 = w2c_l13;
-  w2c_i1 = 4294967248u;
-  w2c_i0 += w2c_i1;
-  w2c_i1 = 10u;
-  w2c_i0 = w2c_i0 < w2c_i1;
-  if (w2c_i0) {goto w2c_B0;}
-  w2c_i0 = w2c_l13;
-  w2c_i1 = 95u;
-  w2c_i0 &= w2c_i1;
-  w2c_i1 = 4294967231u;
-  w2c_i0 += w2c_i1;
-  w2c_i1 = 26u;
-  w2c_i0 = w2c_i0 >= w2c_i1;
-  if (w2c_i0) {goto w2c_B2;}
-  goto w2c_B0;
-  w2c_B7:;
-  w2c_i0 = 0u;
-  w2c_l15 = w2c_i0;
-  w2c_i0 = 1u;
-  w2c_l11 = w2c_i0;
-  w2c_i0 = w2c_l13;
-  w2c_i1 = 24318u;
+  w2c_j0 = w2c_p1;
+  w2c_i0 = (u32)(w2c_j0);
+  w2c_i0 = i32_load8_u(m, (u64)(w2c_i0));
+  w2c_l3 = w2c_i0;
+  w2c_B3:;
+  w2c_j0 = 18446744073709551615ull;
+  w2c_l10 = w2c_j0;
+  w2c_i0 = w2c_l3;
+  w2c_i0 = (u32)(s32)(s8)(u8)(w2c_i0);
+  w2c_i1 = 4294967295u;
   w2c_i0 = (u32)((s32)w2c_i0 > (s32)w2c_i1);
-  if (w2c_i0) {goto w2c_B19;}
-  w2c_i0 = w2c_l13;
-  w2c_i1 = 21316u;
-  w2c_i0 = (u32)((s32)w2c_i0 > (s32)w2c_i1);
-  if (w2c_i0) {goto w2c_B20;}
-  w2c_i0 = w2c_l13;
-  w2c_i1 = 20313u;
-  w2c_i0 = w2c_i0 == w2c_i1;
-  if (w2c_i0) {goto w2c_B2;}
-  w2c_i0 = w2c_l13;
-  w2c_i1 = 20358u;
-  w2c_i0 = w2c_i0 == w2c_i1;
-  if (w2c_i0) {goto w2c_B2;}
-  w2c_i0 = w2c_l13;
-  w2c_i1 = 20960u;
-  w2c_i0 = w2c_i0 != w2c_i1;
   if (w2c_i0) {goto w2c_B5;}
-  goto w2c_B0;
-  w2c_B20:;
-  w2c_i0 = w2c_l13;
-  w2c_i1 = 4294945979u;
-  w2c_i0 += w2c_i1;
-  switch (w2c_i0) {
-    case 0: goto w2c_B4;
-    case 1: goto w2c_B5;
-    case 2: goto w2c_B5;
-    case 3: goto w2c_B5;
-    case 4: goto w2c_B5;
-    case 5: goto w2c_B5;
-    case 6: goto w2c_B5;
-    case 7: goto w2c_B4;
-    default: goto w2c_B21;
-  }
-  w2c_B21:;
-  w2c_i0 = w2c_l13;
-  w2c_i1 = 4294943110u;
-  w2c_i0 += w2c_i1;
-  switch (w2c_i0) {
-    case 0: goto w2c_B4;
-    case 1: goto w2c_B5;
-    case 2: goto w2c_B5;
-    case 3: goto w2c_B5;
-    case 4: goto w2c_B0;
-    default: goto w2c_B18;
-  }
-  w2c_B19:;
-  w2c_i0 = w2c_l13;
-  w2c_i1 = 28856u;
-  w2c_i0 = (u32)((s32)w2c_i0 > (s32)w2c_i1);
-  if (w2c_i0) {goto w2c_B22;}
-  w2c_i0 = w2c_l13;
-  w2c_i1 = 4294941328u;
-  w2c_i0 += w2c_i1;
-  switch (w2c_i0) {
-    case 0: goto w2c_B0;
-    case 1: goto w2c_B5;
-    case 2: goto w2c_B5;
-    case 3: goto w2c_B5;
-    case 4: goto w2c_B5;
-    case 5: goto w2c_B5;
-    case 6: goto w2c_B5;
-    case 7: goto w2c_B5;
-    case 8: goto w2c_B0;
-    default: goto w2c_B23;
-  }
-  w2c_B23:;
-  w2c_i0 = w2c_l13;
-  w2c_i1 = 24319u;
-  w2c_i0 = w2c_i0 == w2c_i1;
-  if (w2c_i0) {goto w2c_B4;}
-  w2c_i0 = w2c_l13;
-  w2c_i1 = 26469u;
-  w2c_i0 = w2c_i0 == w2c_i1;
-  if (w2c_i0) {goto w2c_B2;}
-  goto w2c_B5;
-  w2c_B22:;
-  w2c_i0 = w2c_l13;
-  w2c_i1 = 28857u;
-  w2c_i0 = w2c_i0 == w2c_i1;
+  w2c_j0 = w2c_p1;
+  w2c_i0 = (u32)(w2c_j0);
+  w2c_i0 = i32_load8_u(m, (u64)(w2c_i0) + 1u);
+  w2c_i1 = 63u;
+  w2c_i0 &= w2c_i1;
+  w2c_l4 = w2c_i0;
+  w2c_i0 = w2c_l3;
+  w2c_i1 = 223u;
+  w2c_i0 = w2c_i0 > w2c_i1;
   if (w2c_i0) {goto w2c_B6;}
-  w2c_i0 = w2c_l13;
-  w2c_i1 = 39192u;
-  w2c_i0 = w2c_i0 == w2c_i1;
-  if (w2c_i0) {goto w2c_B2;}
-  w2c_i0 = w2c_l13;
-  w2c_i1 = 40670u;
-  w2c_i0 = w2c_i0 == w2c_i1;
-  if (w2c_i0) {goto w2c_B6;}
-  goto w2c_B5;
-  w2c_B18:;
-  w2c_i0 = w2c_l13;
-  w2c_i1 = 22810u;
-  w2c_i0 = w2c_i0 == w2c_i1;
-  if (w2c_i0) {goto w2c_B2;}
+  w2c_i0 = w2c_l3;
+  w2c_i1 = 6u;
+  w2c_i0 <<= (w2c_i1 & 31);
+  w2c_i1 = 1984u;
+  w2c_i0 &= w2c_i1;
+  w2c_i1 = w2c_l4;
+  w2c_i0 |= w2c_i1;
+  w2c_l3 = w2c_i0;
+  w2c_j0 = 18446744073709551614ull;
+  w2c_l10 = w2c_j0;
   goto w2c_B5;
   w2c_B6:;
-  w2c_j0 = w2c_l8;
-  w2c_j1 = 3ull;
-  w2c_i0 = w2c_j0 < w2c_j1;
-  if (w2c_i0) {goto w2c_B29;}
   w2c_j0 = w2c_p1;
-  w2c_j1 = w2c_l8;
-  w2c_j0 += w2c_j1;
-  w2c_p2 = w2c_j0;
-  w2c_j1 = 18446744073709551613ull;
-  w2c_j0 += w2c_j1;
-  w2c_i0 = (u32)(w2c_j0);
-  w2c_i0 = i32_load8_u(m, (u64)(w2c_i0));
-  w2c_l10 = w2c_i0;
-  w2c_i1 = 240u;
-  w2c_i0 &= w2c_i1;
-  w2c_i1 = 224u;
-  w2c_i0 = w2c_i0 != w2c_i1;
-  if (w2c_i0) {goto w2c_B28;}
-  w2c_i0 = w2c_l10;
-  w2c_i1 = 12u;
-  w2c_i0 <<= (w2c_i1 & 31);
-  w2c_j1 = w2c_p2;
-  w2c_j2 = 18446744073709551614ull;
-  w2c_j1 += w2c_j2;
-  w2c_i1 = (u32)(w2c_j1);
-  w2c_i1 = i32_load8_u(m, (u64)(w2c_i1));
-  w2c_l11 = w2c_i1;
-  w2c_i2 = 6u;
-  w2c_i1 <<= (w2c_i2 & 31);
-  w2c_i0 += w2c_i1;
-  w2c_j1 = w2c_p2;
-  w2c_j2 = 18446744073709551615ull;
-  w2c_j1 += w2c_j2;
-  w2c_i1 = (u32)(w2c_j1);
-  w2c_i1 = i32_load8_u(m, (u64)(w2c_i1));
-  w2c_l12 = w2c_i1;
-  w2c_i0 += w2c_i1;
-  w2c_i1 = 4294041472u;
-  w2c_i0 += w2c_i1;
-  w2c_l13 = w2c_i0;
-  w2c_i0 = w2c_l11;
-  w2c_i1 = 8u;
-  w2c_i0 <<= (w2c_i1 & 31);
-  w2c_i1 = w2c_l12;
-  w2c_i2 = 16u;
-  w2c_i1 <<= (w2c_i2 & 31);
-  w2c_i0 |= w2c_i1;
-  w2c_i1 = w2c_l10;
-  w2c_i0 |= w2c_i1;
-  w2c_l10 = w2c_i0;
-  w2c_j0 = (u64)(w2c_i0);
-  w2c_j1 = 953497ull;
-  w2c_j0 *= w2c_j1;
-  w2c_j1 = 22ull;
-  w2c_j0 >>= (w2c_j1 & 63);
-  w2c_j1 = 1016ull;
-  w2c_j0 &= w2c_j1;
-  w2c_p2 = w2c_j0;
-  w2c_j1 = 66976ull;
-  w2c_j0 += w2c_j1;
-  w2c_i0 = (u32)(w2c_j0);
-  w2c_i0 = i32_load(m, (u64)(w2c_i0));
-  w2c_i1 = w2c_l10;
-  w2c_i0 = w2c_i0 == w2c_i1;
-  if (w2c_i0) {goto w2c_B27;}
-  goto w2c_B25;
-  w2c_B29:;
-  w2c_j0 = w2c_l8;
-  w2c_i0 = !(w2c_j0);
-  if (w2c_i0) {goto w2c_B2;}
-  w2c_B28:;
-  w2c_i0 = 0u;
-  w2c_l11 = w2c_i0;
-  w2c_j0 = w2c_p1;
-  w2c_j1 = w2c_l8;
-  w2c_j0 += w2c_j1;
-  w2c_p2 = w2c_j0;
-  w2c_j1 = 18446744073709551615ull;
-  w2c_j0 += w2c_j1;
-  w2c_i0 = (u32)(w2c_j0);
-  w2c_i0 = i32_load8_s(m, (u64)(w2c_i0));
-  w2c_l13 = w2c_i0;
-  w2c_i1 = 0u;
-  w2c_i0 = (u32)((s32)w2c_i0 >= (s32)w2c_i1);
-  if (w2c_i0) {goto w2c_B26;}
-  w2c_j0 = 18446744073709551614ull;
-  w2c_l9 = w2c_j0;
-  w2c_j0 = w2c_p2;
-  w2c_j1 = 18446744073709551614ull;
-  w2c_j0 += w2c_j1;
-  w2c_i0 = (u32)(w2c_j0);
-  w2c_i0 = i32_load8_u(m, (u64)(w2c_i0));
-  w2c_i1 = 191u;
-  w2c_i0 = w2c_i0 > w2c_i1;
-  if (w2c_i0) {goto w2c_B30;}
-  w2c_j0 = 18446744073709551613ull;
-  w2c_j1 = 18446744073709551612ull;
-  w2c_j2 = w2c_p2;
-  w2c_j3 = 18446744073709551613ull;
-  w2c_j2 += w2c_j3;
-  w2c_i2 = (u32)(w2c_j2);
-  w2c_i2 = i32_load8_u(m, (u64)(w2c_i2));
-  w2c_i3 = 191u;
-  w2c_i2 = w2c_i2 > w2c_i3;
-  w2c_j0 = w2c_i2 ? w2c_j0 : w2c_j1;
-  w2c_l9 = w2c_j0;
-  w2c_B30:;
-  w2c_j0 = w2c_p1;
-  w2c_j1 = w2c_l9;
-  w2c_j0 += w2c_j1;
-  w2c_j1 = w2c_l8;
-  w2c_j0 += w2c_j1;
-  w2c_p2 = w2c_j0;
-  w2c_i0 = (u32)(w2c_j0);
-  w2c_i0 = i32_load8_s(m, (u64)(w2c_i0));
-  w2c_l10 = w2c_i0;
-  w2c_i1 = 255u;
-  w2c_i0 &= w2c_i1;
-  w2c_l13 = w2c_i0;
-  w2c_i0 = w2c_l10;
-  w2c_i1 = 4294967295u;
-  w2c_i0 = (u32)((s32)w2c_i0 > (s32)w2c_i1);
-  if (w2c_i0) {goto w2c_B26;}
-  w2c_j0 = w2c_p2;
-  w2c_i0 = (u32)(w2c_j0);
-  w2c_i0 = i32_load8_u(m, (u64)(w2c_i0) + 1u);
-  w2c_i1 = 63u;
-  w2c_i0 &= w2c_i1;
-  w2c_l12 = w2c_i0;
-  w2c_i0 = w2c_l10;
-  w2c_i1 = 4294967263u;
-  w2c_i0 = w2c_i0 > w2c_i1;
-  if (w2c_i0) {goto w2c_B31;}
-  w2c_i0 = w2c_l13;
-  w2c_i1 = 6u;
-  w2c_i0 <<= (w2c_i1 & 31);
-  w2c_i1 = 1984u;
-  w2c_i0 &= w2c_i1;
-  w2c_i1 = w2c_l12;
-  w2c_i0 |= w2c_i1;
-  w2c_l13 = w2c_i0;
-  goto w2c_B26;
-  w2c_B31:;
-  w2c_j0 = w2c_p2;
   w2c_i0 = (u32)(w2c_j0);
   w2c_i0 = i32_load8_u(m, (u64)(w2c_i0) + 2u);
   w2c_i1 = 63u;
   w2c_i0 &= w2c_i1;
-  w2c_l14 = w2c_i0;
-  w2c_i0 = w2c_l10;
-  w2c_i1 = 4294967279u;
+  w2c_l5 = w2c_i0;
+  w2c_i0 = w2c_l3;
+  w2c_i1 = 239u;
   w2c_i0 = w2c_i0 > w2c_i1;
-  if (w2c_i0) {goto w2c_B33;}
-  w2c_i0 = w2c_l12;
+  if (w2c_i0) {goto w2c_B7;}
+  w2c_i0 = w2c_l4;
   w2c_i1 = 6u;
   w2c_i0 <<= (w2c_i1 & 31);
-  w2c_i1 = w2c_l13;
+  w2c_i1 = w2c_l3;
   w2c_i2 = 12u;
   w2c_i1 <<= (w2c_i2 & 31);
   w2c_i2 = 61440u;
   w2c_i1 &= w2c_i2;
   w2c_i0 |= w2c_i1;
-  w2c_i1 = w2c_l14;
+  w2c_i1 = w2c_l5;
   w2c_i0 |= w2c_i1;
-  w2c_l13 = w2c_i0;
-  goto w2c_B32;
-  w2c_B33:;
-  w2c_i0 = w2c_l14;
+  w2c_l3 = w2c_i0;
+  w2c_j0 = 18446744073709551613ull;
+  w2c_l10 = w2c_j0;
+  goto w2c_B5;
+  w2c_B7:;
+  w2c_i0 = w2c_l5;
   w2c_i1 = 6u;
   w2c_i0 <<= (w2c_i1 & 31);
-  w2c_i1 = w2c_l12;
+  w2c_i1 = w2c_l4;
   w2c_i2 = 12u;
   w2c_i1 <<= (w2c_i2 & 31);
-  w2c_i2 = w2c_l13;
+  w2c_i2 = w2c_l3;
   w2c_i3 = 18u;
   w2c_i2 <<= (w2c_i3 & 31);
   w2c_i3 = 1835008u;
   w2c_i2 &= w2c_i3;
   w2c_i1 |= w2c_i2;
   w2c_i0 |= w2c_i1;
-  w2c_j1 = w2c_p2;
+  w2c_j1 = w2c_p1;
   w2c_i1 = (u32)(w2c_j1);
   w2c_i1 = i32_load8_u(m, (u64)(w2c_i1) + 3u);
   w2c_i2 = 63u;
   w2c_i1 &= w2c_i2;
   w2c_i0 |= w2c_i1;
-  w2c_l13 = w2c_i0;
-  w2c_B32:;
-  w2c_i0 = w2c_l13;
+  w2c_l3 = w2c_i0;
+  w2c_j0 = 18446744073709551612ull;
+  w2c_l10 = w2c_j0;
+  w2c_B5:;
+  w2c_j0 = w2c_l10;
+  w2c_j1 = w2c_p2;
+  w2c_j0 += w2c_j1;
+  w2c_p2 = w2c_j0;
+  w2c_i0 = w2c_l3;
   w2c_i1 = 4294965248u;
   w2c_i0 += w2c_i1;
   w2c_i1 = 63487u;
   w2c_i0 = w2c_i0 > w2c_i1;
-  if (w2c_i0) {goto w2c_B26;}
-  w2c_i0 = w2c_l13;
+  if (w2c_i0) {goto w2c_B8;}
+  w2c_i0 = w2c_l3;
   w2c_i1 = 12u;
   w2c_i0 >>= (w2c_i1 & 31);
-  w2c_i1 = w2c_l13;
+  w2c_i1 = w2c_l3;
   w2c_i2 = 2u;
   w2c_i1 <<= (w2c_i2 & 31);
   w2c_i2 = 16128u;
   w2c_i1 &= w2c_i2;
   w2c_i0 |= w2c_i1;
-  w2c_i1 = w2c_l13;
+  w2c_i1 = w2c_l3;
   w2c_i2 = 16u;
   w2c_i1 <<= (w2c_i2 & 31);
   w2c_i2 = 4128768u;
@@ -10495,7 +12303,7 @@ static void w2c_f18(module *m, u64 w2c_p0, u64 w2c_p1, u64 w2c_p2, u64 w2c_p3, u
   w2c_i0 |= w2c_i1;
   w2c_i1 = 8421600u;
   w2c_i0 |= w2c_i1;
-  w2c_l10 = w2c_i0;
+  w2c_l4 = w2c_i0;
   w2c_j0 = (u64)(w2c_i0);
   w2c_j1 = 953497ull;
   w2c_j0 *= w2c_j1;
@@ -10503,1257 +12311,149 @@ static void w2c_f18(module *m, u64 w2c_p0, u64 w2c_p1, u64 w2c_p2, u64 w2c_p3, u
   w2c_j0 >>= (w2c_j1 & 63);
   w2c_j1 = 1016ull;
   w2c_j0 &= w2c_j1;
-  w2c_p2 = w2c_j0;
-  w2c_j1 = 66976ull;
+  w2c_p1 = w2c_j0;
+  w2c_j1 = 66981ull;
   w2c_j0 += w2c_j1;
   w2c_i0 = (u32)(w2c_j0);
-  w2c_i0 = i32_load(m, (u64)(w2c_i0));
-  w2c_i1 = w2c_l10;
-  w2c_i0 = w2c_i0 != w2c_i1;
-  if (w2c_i0) {goto w2c_B24;}
-  w2c_B27:;
-  w2c_j0 = w2c_p2;
+  w2c_i0 = i32_load8_u(m, (u64)(w2c_i0));
+  w2c_i1 = 0u;
+  w2c_j2 = w2c_p1;
+  w2c_i2 = (u32)(w2c_j2);
+  w2c_i2 = i32_load(m, (u64)(w2c_i2) + 66976u);
+  w2c_i3 = w2c_l4;
+  w2c_i2 = w2c_i2 == w2c_i3;
+  w2c_l4 = w2c_i2;
+  w2c_i0 = w2c_i2 ? w2c_i0 : w2c_i1;
+  w2c_l7 = w2c_i0;
+  w2c_j0 = w2c_p1;
   w2c_j1 = 66980ull;
   w2c_j0 += w2c_j1;
   w2c_i0 = (u32)(w2c_j0);
   w2c_i0 = i32_load8_u(m, (u64)(w2c_i0));
   w2c_i1 = 2u;
-  w2c_i0 = w2c_i0 != w2c_i1;
-  if (w2c_i0) {goto w2c_B4;}
-  goto w2c_B25;
-  w2c_B26:;
-  w2c_i0 = w2c_l13;
+  w2c_i2 = w2c_l4;
+  w2c_i0 = w2c_i2 ? w2c_i0 : w2c_i1;
+  w2c_l8 = w2c_i0;
+  goto w2c_B2;
+  w2c_B8:;
+  w2c_i0 = w2c_l3;
   w2c_i1 = 4294967248u;
   w2c_i0 += w2c_i1;
-  w2c_i1 = 10u;
-  w2c_i0 = w2c_i0 < w2c_i1;
-  if (w2c_i0) {goto w2c_B3;}
-  w2c_B25:;
-  w2c_i0 = w2c_l13;
-  w2c_i1 = 127u;
-  w2c_i0 = w2c_i0 > w2c_i1;
-  if (w2c_i0) {goto w2c_B24;}
-  w2c_i0 = w2c_l13;
-  w2c_i1 = 95u;
-  w2c_i0 = w2c_i0 == w2c_i1;
-  if (w2c_i0) {goto w2c_B4;}
+  w2c_l4 = w2c_i0;
+  w2c_i1 = 0u;
+  w2c_i2 = w2c_l4;
+  w2c_i3 = 10u;
+  w2c_i2 = w2c_i2 < w2c_i3;
+  w2c_l4 = w2c_i2;
+  w2c_i0 = w2c_i2 ? w2c_i0 : w2c_i1;
+  w2c_l7 = w2c_i0;
   w2c_i0 = 0u;
-  w2c_l11 = w2c_i0;
-  w2c_i0 = w2c_l13;
-  w2c_i1 = 4294967252u;
-  w2c_i0 += w2c_i1;
-  w2c_i1 = 3u;
-  w2c_i0 = w2c_i0 < w2c_i1;
-  if (w2c_i0) {goto w2c_B1;}
-  w2c_i0 = w2c_l13;
-  w2c_i1 = 4294967248u;
-  w2c_i0 += w2c_i1;
-  w2c_i1 = 10u;
-  w2c_i0 = w2c_i0 < w2c_i1;
-  w2c_i1 = w2c_l13;
-  w2c_i2 = 95u;
-  w2c_i1 &= w2c_i2;
-  w2c_i2 = 4294967231u;
-  w2c_i1 += w2c_i2;
-  w2c_i2 = 26u;
-  w2c_i1 = w2c_i1 < w2c_i2;
-  w2c_i0 |= w2c_i1;
-  w2c_l15 = w2c_i0;
-  goto w2c_B0;
-  w2c_B24:;
-  w2c_i0 = 0u;
-  w2c_l11 = w2c_i0;
-  w2c_i0 = w2c_l13;
-  w2c_i1 = 24318u;
-  w2c_i0 = (u32)((s32)w2c_i0 > (s32)w2c_i1);
-  if (w2c_i0) {goto w2c_B35;}
-  w2c_i0 = w2c_l13;
-  w2c_i1 = 21316u;
-  w2c_i0 = (u32)((s32)w2c_i0 > (s32)w2c_i1);
-  if (w2c_i0) {goto w2c_B36;}
-  w2c_i0 = w2c_l13;
-  w2c_i1 = 20313u;
-  w2c_i0 = w2c_i0 == w2c_i1;
-  if (w2c_i0) {goto w2c_B1;}
-  w2c_i0 = w2c_l13;
-  w2c_i1 = 20358u;
-  w2c_i0 = w2c_i0 == w2c_i1;
-  if (w2c_i0) {goto w2c_B1;}
-  w2c_i0 = w2c_l13;
-  w2c_i1 = 20960u;
-  w2c_i0 = w2c_i0 != w2c_i1;
-  if (w2c_i0) {goto w2c_B34;}
-  goto w2c_B1;
-  w2c_B36:;
-  w2c_i0 = w2c_l13;
-  w2c_i1 = 4294945979u;
-  w2c_i0 += w2c_i1;
-  switch (w2c_i0) {
-    case 0: goto w2c_B3;
-    case 1: goto w2c_B34;
-    case 2: goto w2c_B34;
-    case 3: goto w2c_B34;
-    case 4: goto w2c_B34;
-    case 5: goto w2c_B34;
-    case 6: goto w2c_B34;
-    case 7: goto w2c_B3;
-    default: goto w2c_B37;
-  }
-  w2c_B37:;
-  w2c_i0 = 0u;
-  w2c_l15 = w2c_i0;
-  w2c_i0 = w2c_l13;
-  w2c_i1 = 4294943110u;
-  w2c_i0 += w2c_i1;
-  switch (w2c_i0) {
-    case 0: goto w2c_B3;
-    case 1: goto w2c_B34;
-    case 2: goto w2c_B34;
-    case 3: goto w2c_B34;
-    case 4: goto w2c_B0;
-    default: goto w2c_B38;
-  }
-  w2c_B38:;
-  w2c_i0 = w2c_l13;
-  w2c_i1 = 22810u;
-  w2c_i0 = w2c_i0 != w2c_i1;
-  if (w2c_i0) {goto w2c_B34;}
-  goto w2c_B1;
-  w2c_B35:;
-  w2c_i0 = w2c_l13;
-  w2c_i1 = 28856u;
-  w2c_i0 = (u32)((s32)w2c_i0 > (s32)w2c_i1);
-  if (w2c_i0) {goto w2c_B39;}
-  w2c_i0 = 0u;
-  w2c_l15 = w2c_i0;
-  w2c_i0 = w2c_l13;
-  w2c_i1 = 4294941328u;
-  w2c_i0 += w2c_i1;
-  switch (w2c_i0) {
-    case 0: goto w2c_B0;
-    case 1: goto w2c_B34;
-    case 2: goto w2c_B34;
-    case 3: goto w2c_B34;
-    case 4: goto w2c_B34;
-    case 5: goto w2c_B34;
-    case 6: goto w2c_B34;
-    case 7: goto w2c_B34;
-    case 8: goto w2c_B0;
-    default: goto w2c_B40;
-  }
-  w2c_B40:;
-  w2c_i0 = w2c_l13;
-  w2c_i1 = 24319u;
-  w2c_i0 = w2c_i0 == w2c_i1;
-  if (w2c_i0) {goto w2c_B3;}
-  w2c_i0 = w2c_l13;
-  w2c_i1 = 26469u;
-  w2c_i0 = w2c_i0 != w2c_i1;
-  if (w2c_i0) {goto w2c_B34;}
-  goto w2c_B1;
-  w2c_B39:;
-  w2c_i0 = w2c_l13;
-  w2c_i1 = 28857u;
-  w2c_i0 = w2c_i0 == w2c_i1;
-  if (w2c_i0) {goto w2c_B1;}
-  w2c_i0 = w2c_l13;
-  w2c_i1 = 39192u;
-  w2c_i0 = w2c_i0 == w2c_i1;
-  if (w2c_i0) {goto w2c_B1;}
-  w2c_i0 = w2c_l13;
-  w2c_i1 = 40670u;
-  w2c_i0 = w2c_i0 == w2c_i1;
-  if (w2c_i0) {goto w2c_B1;}
-  w2c_B34:;
-  w2c_i0 = w2c_l13;
-  w2c_i1 = 4294902000u;
-  w2c_i0 += w2c_i1;
-  w2c_i1 = 9u;
-  w2c_i0 = w2c_i0 <= w2c_i1;
-  if (w2c_i0) {goto w2c_B3;}
-  goto w2c_B1;
-  w2c_B5:;
-  w2c_i0 = w2c_l13;
-  w2c_i1 = 4294902000u;
-  w2c_i0 += w2c_i1;
-  w2c_i1 = 9u;
-  w2c_i0 = w2c_i0 > w2c_i1;
-  if (w2c_i0) {goto w2c_B2;}
-  w2c_B4:;
-  w2c_i0 = 1u;
-  w2c_l15 = w2c_i0;
-  w2c_i0 = 0u;
-  w2c_l11 = w2c_i0;
-  goto w2c_B0;
-  w2c_B3:;
-  w2c_i0 = 1u;
-  w2c_l15 = w2c_i0;
-  goto w2c_B0;
+  w2c_i1 = 2u;
+  w2c_i2 = w2c_l4;
+  w2c_i0 = w2c_i2 ? w2c_i0 : w2c_i1;
+  w2c_l8 = w2c_i0;
   w2c_B2:;
   w2c_i0 = 0u;
-  w2c_l11 = w2c_i0;
-  w2c_B1:;
+  w2c_l4 = w2c_i0;
   w2c_i0 = 0u;
-  w2c_l15 = w2c_i0;
-  w2c_B0:;
-  w2c_j0 = w2c_p6;
-  w2c_j1 = 3ull;
-  w2c_i0 = w2c_j0 < w2c_j1;
-  if (w2c_i0) {goto w2c_B49;}
-  w2c_j0 = w2c_p5;
-  w2c_i0 = (u32)(w2c_j0);
-  w2c_i0 = i32_load8_u(m, (u64)(w2c_i0));
-  w2c_l13 = w2c_i0;
-  w2c_i1 = 240u;
-  w2c_i0 &= w2c_i1;
-  w2c_i1 = 224u;
-  w2c_i0 = w2c_i0 != w2c_i1;
-  if (w2c_i0) {goto w2c_B48;}
-  w2c_j0 = w2c_p5;
-  w2c_i0 = (u32)(w2c_j0);
-  w2c_i0 = i32_load8_u(m, (u64)(w2c_i0) + 1u);
-  w2c_l12 = w2c_i0;
-  w2c_i1 = 8u;
-  w2c_i0 <<= (w2c_i1 & 31);
-  w2c_j1 = w2c_p5;
-  w2c_i1 = (u32)(w2c_j1);
-  w2c_i1 = i32_load8_u(m, (u64)(w2c_i1) + 2u);
-  w2c_l14 = w2c_i1;
-  w2c_i2 = 16u;
-  w2c_i1 <<= (w2c_i2 & 31);
-  w2c_i0 |= w2c_i1;
-  w2c_i1 = w2c_l13;
-  w2c_i0 |= w2c_i1;
-  w2c_l10 = w2c_i0;
-  w2c_i0 = w2c_l13;
-  w2c_i1 = 12u;
-  w2c_i0 <<= (w2c_i1 & 31);
-  w2c_i1 = w2c_l12;
-  w2c_i2 = 6u;
-  w2c_i1 <<= (w2c_i2 & 31);
-  w2c_i0 += w2c_i1;
-  w2c_i1 = w2c_l14;
-  w2c_i0 += w2c_i1;
-  w2c_i1 = 4294041472u;
-  w2c_i0 += w2c_i1;
-  w2c_l13 = w2c_i0;
-  w2c_j0 = w2c_p6;
-  w2c_j1 = 18446744073709551613ull;
-  w2c_j0 += w2c_j1;
-  w2c_p6 = w2c_j0;
-  w2c_j0 = w2c_p5;
-  w2c_j1 = 3ull;
-  w2c_j0 += w2c_j1;
-  w2c_p2 = w2c_j0;
-  w2c_i0 = w2c_l10;
-  w2c_i1 = w2c_l10;
-  w2c_j1 = (u64)(w2c_i1);
-  w2c_j2 = 953497ull;
-  w2c_j1 *= w2c_j2;
-  w2c_j2 = 22ull;
-  w2c_j1 >>= (w2c_j2 & 63);
-  w2c_j2 = 1016ull;
-  w2c_j1 &= w2c_j2;
-  w2c_p5 = w2c_j1;
-  w2c_j2 = 66976ull;
-  w2c_j1 += w2c_j2;
-  w2c_i1 = (u32)(w2c_j1);
-  w2c_i1 = i32_load(m, (u64)(w2c_i1));
-  w2c_i0 = w2c_i0 != w2c_i1;
-  if (w2c_i0) {goto w2c_B46;}
-  goto w2c_B47;
-  w2c_B49:;
-  w2c_j0 = w2c_p6;
+  w2c_l5 = w2c_i0;
+  w2c_i0 = 0u;
+  w2c_l6 = w2c_i0;
+  w2c_i0 = 0u;
+  w2c_l9 = w2c_i0;
+  w2c_j0 = w2c_p2;
   w2c_i0 = !(w2c_j0);
-  if (w2c_i0) {goto w2c_B42;}
-  w2c_j0 = w2c_p5;
-  w2c_i0 = (u32)(w2c_j0);
-  w2c_i0 = i32_load8_u(m, (u64)(w2c_i0));
-  w2c_l13 = w2c_i0;
-  w2c_B48:;
-  w2c_j0 = 1ull;
-  w2c_p2 = w2c_j0;
-  w2c_i0 = w2c_l13;
-  w2c_i0 = (u32)(s32)(s8)(u8)(w2c_i0);
-  w2c_i1 = 4294967295u;
-  w2c_i0 = (u32)((s32)w2c_i0 > (s32)w2c_i1);
-  if (w2c_i0) {goto w2c_B50;}
-  w2c_j0 = w2c_p5;
-  w2c_i0 = (u32)(w2c_j0);
-  w2c_i0 = i32_load8_u(m, (u64)(w2c_i0) + 1u);
-  w2c_i1 = 63u;
-  w2c_i0 &= w2c_i1;
-  w2c_l10 = w2c_i0;
-  w2c_i0 = w2c_l13;
-  w2c_i1 = 223u;
-  w2c_i0 = w2c_i0 > w2c_i1;
-  if (w2c_i0) {goto w2c_B51;}
-  w2c_i0 = w2c_l13;
-  w2c_i1 = 6u;
-  w2c_i0 <<= (w2c_i1 & 31);
-  w2c_i1 = 1984u;
-  w2c_i0 &= w2c_i1;
-  w2c_i1 = w2c_l10;
-  w2c_i0 |= w2c_i1;
-  w2c_l13 = w2c_i0;
-  w2c_j0 = 2ull;
-  w2c_p2 = w2c_j0;
-  goto w2c_B50;
-  w2c_B51:;
-  w2c_j0 = w2c_p5;
-  w2c_i0 = (u32)(w2c_j0);
-  w2c_i0 = i32_load8_u(m, (u64)(w2c_i0) + 2u);
-  w2c_i1 = 63u;
-  w2c_i0 &= w2c_i1;
-  w2c_l12 = w2c_i0;
-  w2c_i0 = w2c_l13;
-  w2c_i1 = 239u;
-  w2c_i0 = w2c_i0 > w2c_i1;
-  if (w2c_i0) {goto w2c_B52;}
-  w2c_i0 = w2c_l10;
-  w2c_i1 = 6u;
-  w2c_i0 <<= (w2c_i1 & 31);
-  w2c_i1 = w2c_l13;
-  w2c_i2 = 12u;
-  w2c_i1 <<= (w2c_i2 & 31);
-  w2c_i2 = 61440u;
-  w2c_i1 &= w2c_i2;
-  w2c_i0 |= w2c_i1;
-  w2c_i1 = w2c_l12;
-  w2c_i0 |= w2c_i1;
-  w2c_l13 = w2c_i0;
-  w2c_j0 = 3ull;
-  w2c_p2 = w2c_j0;
-  goto w2c_B50;
-  w2c_B52:;
-  w2c_i0 = w2c_l12;
-  w2c_i1 = 6u;
-  w2c_i0 <<= (w2c_i1 & 31);
-  w2c_i1 = w2c_l10;
-  w2c_i2 = 12u;
-  w2c_i1 <<= (w2c_i2 & 31);
-  w2c_i2 = w2c_l13;
-  w2c_i3 = 18u;
-  w2c_i2 <<= (w2c_i3 & 31);
-  w2c_i3 = 1835008u;
-  w2c_i2 &= w2c_i3;
-  w2c_i1 |= w2c_i2;
-  w2c_i0 |= w2c_i1;
-  w2c_j1 = w2c_p5;
-  w2c_i1 = (u32)(w2c_j1);
-  w2c_i1 = i32_load8_u(m, (u64)(w2c_i1) + 3u);
-  w2c_i2 = 63u;
-  w2c_i1 &= w2c_i2;
-  w2c_i0 |= w2c_i1;
-  w2c_l13 = w2c_i0;
-  w2c_j0 = 4ull;
-  w2c_p2 = w2c_j0;
-  w2c_B50:;
-  w2c_j0 = w2c_p6;
-  w2c_j1 = w2c_p2;
-  w2c_j0 -= w2c_j1;
-  w2c_p6 = w2c_j0;
-  w2c_j0 = w2c_p5;
-  w2c_j1 = w2c_p2;
-  w2c_j0 += w2c_j1;
-  w2c_p2 = w2c_j0;
-  w2c_i0 = w2c_l13;
-  w2c_i1 = 4294965248u;
-  w2c_i0 += w2c_i1;
-  w2c_i1 = 63487u;
-  w2c_i0 = w2c_i0 > w2c_i1;
-  if (w2c_i0) {goto w2c_B53;}
-  w2c_i0 = w2c_l13;
-  w2c_i1 = 12u;
-  w2c_i0 >>= (w2c_i1 & 31);
-  w2c_i1 = w2c_l13;
-  w2c_i2 = 2u;
-  w2c_i1 <<= (w2c_i2 & 31);
-  w2c_i2 = 16128u;
-  w2c_i1 &= w2c_i2;
-  w2c_i0 |= w2c_i1;
-  w2c_i1 = w2c_l13;
-  w2c_i2 = 16u;
-  w2c_i1 <<= (w2c_i2 & 31);
-  w2c_i2 = 4128768u;
-  w2c_i1 &= w2c_i2;
-  w2c_i0 |= w2c_i1;
-  w2c_i1 = 8421600u;
-  w2c_i0 |= w2c_i1;
-  w2c_l10 = w2c_i0;
-  w2c_j0 = (u64)(w2c_i0);
-  w2c_j1 = 953497ull;
-  w2c_j0 *= w2c_j1;
-  w2c_j1 = 22ull;
-  w2c_j0 >>= (w2c_j1 & 63);
-  w2c_j1 = 1016ull;
-  w2c_j0 &= w2c_j1;
-  w2c_p5 = w2c_j0;
-  w2c_j1 = 66976ull;
-  w2c_j0 += w2c_j1;
-  w2c_i0 = (u32)(w2c_j0);
-  w2c_i0 = i32_load(m, (u64)(w2c_i0));
-  w2c_i1 = w2c_l10;
-  w2c_i0 = w2c_i0 == w2c_i1;
-  if (w2c_i0) {goto w2c_B47;}
-  goto w2c_B45;
-  w2c_B53:;
-  w2c_i0 = w2c_l13;
-  w2c_i1 = 4294967248u;
-  w2c_i0 += w2c_i1;
-  w2c_i1 = 10u;
-  w2c_i0 = w2c_i0 >= w2c_i1;
-  if (w2c_i0) {goto w2c_B46;}
-  goto w2c_B43;
-  w2c_B47:;
-  w2c_j0 = w2c_p5;
-  w2c_j1 = 66980ull;
-  w2c_j0 += w2c_j1;
-  w2c_i0 = (u32)(w2c_j0);
-  w2c_i0 = i32_load8_u(m, (u64)(w2c_i0));
   w2c_i0 = !(w2c_i0);
-  if (w2c_i0) {goto w2c_B43;}
-  w2c_B46:;
-  w2c_i0 = w2c_l13;
-  w2c_i1 = 127u;
-  w2c_i0 = w2c_i0 > w2c_i1;
-  if (w2c_i0) {goto w2c_B45;}
-  w2c_i0 = 1u;
-  w2c_l12 = w2c_i0;
-  w2c_i0 = 0u;
-  w2c_l14 = w2c_i0;
-  w2c_i0 = w2c_l13;
-  w2c_i1 = 95u;
-  w2c_i0 = w2c_i0 == w2c_i1;
-  if (w2c_i0) {goto w2c_B41;}
-  w2c_i0 = w2c_l13;
-  w2c_i1 = 4294967252u;
-  w2c_i0 += w2c_i1;
-  w2c_i1 = 3u;
-  w2c_i0 = w2c_i0 < w2c_i1;
-  if (w2c_i0) {goto w2c_B44;}
-  w2c_i0 = w2c_l13;
-  w2c_i1 = 4294967248u;
-  w2c_i0 += w2c_i1;
-  w2c_i1 = 10u;
-  w2c_i0 = w2c_i0 < w2c_i1;
-  if (w2c_i0) {goto w2c_B41;}
-  w2c_i0 = w2c_l13;
-  w2c_i1 = 95u;
-  w2c_i0 &= w2c_i1;
-  w2c_i1 = 4294967231u;
-  w2c_i0 += w2c_i1;
-  w2c_i1 = 26u;
-  w2c_i0 = w2c_i0 >= w2c_i1;
-  if (w2c_i0) {goto w2c_B42;}
-  goto w2c_B41;
-  w2c_B45:;
-  w2c_i0 = 0u;
-  w2c_l12 = w2c_i0;
-  w2c_i0 = 1u;
-  w2c_l14 = w2c_i0;
-  w2c_i0 = w2c_l13;
-  w2c_i1 = 24318u;
-  w2c_i0 = (u32)((s32)w2c_i0 > (s32)w2c_i1);
-  if (w2c_i0) {goto w2c_B55;}
-  w2c_i0 = w2c_l13;
-  w2c_i1 = 21316u;
-  w2c_i0 = (u32)((s32)w2c_i0 > (s32)w2c_i1);
-  if (w2c_i0) {goto w2c_B56;}
-  w2c_i0 = w2c_l13;
-  w2c_i1 = 20313u;
-  w2c_i0 = w2c_i0 == w2c_i1;
-  if (w2c_i0) {goto w2c_B41;}
-  w2c_i0 = w2c_l13;
-  w2c_i1 = 20358u;
-  w2c_i0 = w2c_i0 == w2c_i1;
-  if (w2c_i0) {goto w2c_B41;}
-  w2c_i0 = w2c_l13;
-  w2c_i1 = 20960u;
-  w2c_i0 = w2c_i0 != w2c_i1;
-  if (w2c_i0) {goto w2c_B54;}
-  goto w2c_B41;
-  w2c_B56:;
-  w2c_i0 = w2c_l13;
-  w2c_i1 = 4294945979u;
-  w2c_i0 += w2c_i1;
-  switch (w2c_i0) {
-    case 0: goto w2c_B43;
-    case 1: goto w2c_B54;
-    case 2: goto w2c_B54;
-    case 3: goto w2c_B54;
-    case 4: goto w2c_B54;
-    case 5: goto w2c_B54;
-    case 6: goto w2c_B54;
-    case 7: goto w2c_B43;
-    default: goto w2c_B57;
-  }
-  w2c_B57:;
-  w2c_i0 = w2c_l13;
-  w2c_i1 = 4294943110u;
-  w2c_i0 += w2c_i1;
-  switch (w2c_i0) {
-    case 0: goto w2c_B43;
-    case 1: goto w2c_B54;
-    case 2: goto w2c_B54;
-    case 3: goto w2c_B54;
-    case 4: goto w2c_B41;
-    default: goto w2c_B58;
-  }
-  w2c_B58:;
-  w2c_i0 = w2c_l13;
-  w2c_i1 = 22810u;
-  w2c_i0 = w2c_i0 != w2c_i1;
-  if (w2c_i0) {goto w2c_B54;}
-  goto w2c_B41;
-  w2c_B55:;
-  w2c_i0 = w2c_l13;
-  w2c_i1 = 28856u;
-  w2c_i0 = (u32)((s32)w2c_i0 > (s32)w2c_i1);
-  if (w2c_i0) {goto w2c_B59;}
-  w2c_i0 = w2c_l13;
-  w2c_i1 = 4294941328u;
-  w2c_i0 += w2c_i1;
-  switch (w2c_i0) {
-    case 0: goto w2c_B42;
-    case 1: goto w2c_B54;
-    case 2: goto w2c_B54;
-    case 3: goto w2c_B54;
-    case 4: goto w2c_B54;
-    case 5: goto w2c_B54;
-    case 6: goto w2c_B54;
-    case 7: goto w2c_B54;
-    case 8: goto w2c_B42;
-    default: goto w2c_B60;
-  }
-  w2c_B60:;
-  w2c_i0 = w2c_l13;
-  w2c_i1 = 24319u;
-  w2c_i0 = w2c_i0 == w2c_i1;
-  if (w2c_i0) {goto w2c_B43;}
-  w2c_i0 = w2c_l13;
-  w2c_i1 = 26469u;
-  w2c_i0 = w2c_i0 != w2c_i1;
-  if (w2c_i0) {goto w2c_B54;}
-  goto w2c_B41;
-  w2c_B59:;
-  w2c_i0 = w2c_l13;
-  w2c_i1 = 28857u;
-  w2c_i0 = w2c_i0 == w2c_i1;
-  if (w2c_i0) {goto w2c_B44;}
-  w2c_i0 = w2c_l13;
-  w2c_i1 = 39192u;
-  w2c_i0 = w2c_i0 == w2c_i1;
-  if (w2c_i0) {goto w2c_B41;}
-  w2c_i0 = w2c_l13;
-  w2c_i1 = 40670u;
-  w2c_i0 = w2c_i0 == w2c_i1;
-  if (w2c_i0) {goto w2c_B44;}
-  w2c_B54:;
-  w2c_i0 = w2c_l13;
-  w2c_i1 = 4294902000u;
-  w2c_i0 += w2c_i1;
-  w2c_i1 = 9u;
-  w2c_i0 = w2c_i0 > w2c_i1;
-  if (w2c_i0) {goto w2c_B42;}
-  goto w2c_B43;
-  w2c_B44:;
-  w2c_j0 = w2c_p6;
-  w2c_j1 = 3ull;
-  w2c_i0 = w2c_j0 < w2c_j1;
-  if (w2c_i0) {goto w2c_B65;}
-  w2c_j0 = w2c_p2;
-  w2c_i0 = (u32)(w2c_j0);
-  w2c_i0 = i32_load8_u(m, (u64)(w2c_i0));
-  w2c_l13 = w2c_i0;
-  w2c_i1 = 240u;
-  w2c_i0 &= w2c_i1;
-  w2c_i1 = 224u;
-  w2c_i0 = w2c_i0 != w2c_i1;
-  if (w2c_i0) {goto w2c_B64;}
-  w2c_j0 = w2c_p2;
-  w2c_i0 = (u32)(w2c_j0);
-  w2c_i0 = i32_load8_u(m, (u64)(w2c_i0) + 1u);
-  w2c_l12 = w2c_i0;
-  w2c_i1 = 8u;
-  w2c_i0 <<= (w2c_i1 & 31);
-  w2c_j1 = w2c_p2;
-  w2c_i1 = (u32)(w2c_j1);
-  w2c_i1 = i32_load8_u(m, (u64)(w2c_i1) + 2u);
-  w2c_l14 = w2c_i1;
-  w2c_i2 = 16u;
-  w2c_i1 <<= (w2c_i2 & 31);
-  w2c_i0 |= w2c_i1;
-  w2c_i1 = w2c_l13;
-  w2c_i0 |= w2c_i1;
-  w2c_l10 = w2c_i0;
-  w2c_i0 = w2c_l13;
-  w2c_i1 = 12u;
-  w2c_i0 <<= (w2c_i1 & 31);
-  w2c_i1 = w2c_l12;
-  w2c_i2 = 6u;
-  w2c_i1 <<= (w2c_i2 & 31);
-  w2c_i0 += w2c_i1;
-  w2c_i1 = w2c_l14;
-  w2c_i0 += w2c_i1;
-  w2c_i1 = 4294041472u;
-  w2c_i0 += w2c_i1;
-  w2c_l13 = w2c_i0;
-  w2c_i0 = w2c_l10;
-  w2c_i1 = w2c_l10;
-  w2c_j1 = (u64)(w2c_i1);
-  w2c_j2 = 953497ull;
-  w2c_j1 *= w2c_j2;
-  w2c_j2 = 22ull;
-  w2c_j1 >>= (w2c_j2 & 63);
-  w2c_j2 = 1016ull;
-  w2c_j1 &= w2c_j2;
-  w2c_p2 = w2c_j1;
-  w2c_j2 = 66976ull;
-  w2c_j1 += w2c_j2;
-  w2c_i1 = (u32)(w2c_j1);
-  w2c_i1 = i32_load(m, (u64)(w2c_i1));
-  w2c_i0 = w2c_i0 != w2c_i1;
-  if (w2c_i0) {goto w2c_B62;}
-  goto w2c_B63;
-  w2c_B65:;
-  w2c_j0 = w2c_p6;
-  w2c_i0 = !(w2c_j0);
-  if (w2c_i0) {goto w2c_B42;}
-  w2c_j0 = w2c_p2;
-  w2c_i0 = (u32)(w2c_j0);
-  w2c_i0 = i32_load8_u(m, (u64)(w2c_i0));
-  w2c_l13 = w2c_i0;
-  w2c_B64:;
-  w2c_i0 = w2c_l13;
-  w2c_i0 = (u32)(s32)(s8)(u8)(w2c_i0);
-  w2c_i1 = 4294967295u;
-  w2c_i0 = (u32)((s32)w2c_i0 > (s32)w2c_i1);
-  if (w2c_i0) {goto w2c_B66;}
-  w2c_j0 = w2c_p2;
-  w2c_i0 = (u32)(w2c_j0);
-  w2c_i0 = i32_load8_u(m, (u64)(w2c_i0) + 1u);
-  w2c_i1 = 63u;
-  w2c_i0 &= w2c_i1;
-  w2c_l10 = w2c_i0;
-  w2c_i0 = w2c_l13;
-  w2c_i1 = 223u;
-  w2c_i0 = w2c_i0 > w2c_i1;
-  if (w2c_i0) {goto w2c_B67;}
-  w2c_i0 = w2c_l13;
-  w2c_i1 = 6u;
-  w2c_i0 <<= (w2c_i1 & 31);
-  w2c_i1 = 1984u;
-  w2c_i0 &= w2c_i1;
-  w2c_i1 = w2c_l10;
-  w2c_i0 |= w2c_i1;
-  w2c_l13 = w2c_i0;
-  goto w2c_B66;
-  w2c_B67:;
-  w2c_j0 = w2c_p2;
-  w2c_i0 = (u32)(w2c_j0);
-  w2c_i0 = i32_load8_u(m, (u64)(w2c_i0) + 2u);
-  w2c_i1 = 63u;
-  w2c_i0 &= w2c_i1;
-  w2c_l12 = w2c_i0;
-  w2c_i0 = w2c_l13;
-  w2c_i1 = 239u;
-  w2c_i0 = w2c_i0 > w2c_i1;
-  if (w2c_i0) {goto w2c_B68;}
-  w2c_i0 = w2c_l10;
-  w2c_i1 = 6u;
-  w2c_i0 <<= (w2c_i1 & 31);
-  w2c_i1 = w2c_l13;
-  w2c_i2 = 12u;
-  w2c_i1 <<= (w2c_i2 & 31);
-  w2c_i2 = 61440u;
-  w2c_i1 &= w2c_i2;
-  w2c_i0 |= w2c_i1;
-  w2c_i1 = w2c_l12;
-  w2c_i0 |= w2c_i1;
-  w2c_l13 = w2c_i0;
-  goto w2c_B66;
-  w2c_B68:;
-  w2c_i0 = w2c_l12;
-  w2c_i1 = 6u;
-  w2c_i0 <<= (w2c_i1 & 31);
-  w2c_i1 = w2c_l10;
-  w2c_i2 = 12u;
-  w2c_i1 <<= (w2c_i2 & 31);
-  w2c_i2 = w2c_l13;
-  w2c_i3 = 18u;
-  w2c_i2 <<= (w2c_i3 & 31);
-  w2c_i3 = 1835008u;
-  w2c_i2 &= w2c_i3;
-  w2c_i1 |= w2c_i2;
-  w2c_i0 |= w2c_i1;
-  w2c_j1 = w2c_p2;
-  w2c_i1 = (u32)(w2c_j1);
-  w2c_i1 = i32_load8_u(m, (u64)(w2c_i1) + 3u);
-  w2c_i2 = 63u;
-  w2c_i1 &= w2c_i2;
-  w2c_i0 |= w2c_i1;
-  w2c_l13 = w2c_i0;
-  w2c_B66:;
-  w2c_i0 = w2c_l13;
-  w2c_i1 = 4294965248u;
-  w2c_i0 += w2c_i1;
-  w2c_i1 = 63487u;
-  w2c_i0 = w2c_i0 > w2c_i1;
-  if (w2c_i0) {goto w2c_B69;}
-  w2c_i0 = w2c_l13;
-  w2c_i1 = 12u;
-  w2c_i0 >>= (w2c_i1 & 31);
-  w2c_i1 = w2c_l13;
-  w2c_i2 = 2u;
-  w2c_i1 <<= (w2c_i2 & 31);
-  w2c_i2 = 16128u;
-  w2c_i1 &= w2c_i2;
-  w2c_i0 |= w2c_i1;
-  w2c_i1 = w2c_l13;
-  w2c_i2 = 16u;
-  w2c_i1 <<= (w2c_i2 & 31);
-  w2c_i2 = 4128768u;
-  w2c_i1 &= w2c_i2;
-  w2c_i0 |= w2c_i1;
-  w2c_i1 = 8421600u;
-  w2c_i0 |= w2c_i1;
-  w2c_l10 = w2c_i0;
-  w2c_j0 = (u64)(w2c_i0);
-  w2c_j1 = 953497ull;
-  w2c_j0 *= w2c_j1;
-  w2c_j1 = 22ull;
-  w2c_j0 >>= (w2c_j1 & 63);
-  w2c_j1 = 1016ull;
-  w2c_j0 &= w2c_j1;
-  w2c_p2 = w2c_j0;
-  w2c_j1 = 66976ull;
-  w2c_j0 += w2c_j1;
-  w2c_i0 = (u32)(w2c_j0);
-  w2c_i0 = i32_load(m, (u64)(w2c_i0));
-  w2c_i1 = w2c_l10;
-  w2c_i0 = w2c_i0 == w2c_i1;
-  if (w2c_i0) {goto w2c_B63;}
-  goto w2c_B61;
-  w2c_B69:;
-  w2c_i0 = w2c_l13;
-  w2c_i1 = 4294967248u;
-  w2c_i0 += w2c_i1;
-  w2c_i1 = 10u;
-  w2c_i0 = w2c_i0 < w2c_i1;
-  if (w2c_i0) {goto w2c_B43;}
-  goto w2c_B62;
-  w2c_B63:;
-  w2c_j0 = w2c_p2;
-  w2c_j1 = 66980ull;
-  w2c_j0 += w2c_j1;
-  w2c_i0 = (u32)(w2c_j0);
-  w2c_i0 = i32_load8_u(m, (u64)(w2c_i0));
-  w2c_i1 = 2u;
-  w2c_i0 = w2c_i0 != w2c_i1;
-  if (w2c_i0) {goto w2c_B43;}
-  w2c_B62:;
-  w2c_i0 = w2c_l13;
-  w2c_i1 = 127u;
-  w2c_i0 = w2c_i0 > w2c_i1;
-  if (w2c_i0) {goto w2c_B61;}
-  w2c_i0 = w2c_l13;
-  w2c_i1 = 95u;
-  w2c_i0 = w2c_i0 == w2c_i1;
-  if (w2c_i0) {goto w2c_B43;}
-  w2c_i0 = 0u;
-  w2c_l14 = w2c_i0;
-  w2c_i0 = w2c_l13;
-  w2c_i1 = 4294967252u;
-  w2c_i0 += w2c_i1;
-  w2c_i1 = 3u;
-  w2c_i0 = w2c_i0 >= w2c_i1;
-  if (w2c_i0) {goto w2c_B70;}
-  w2c_i0 = 0u;
-  w2c_l12 = w2c_i0;
-  goto w2c_B41;
-  w2c_B70:;
-  w2c_i0 = w2c_l13;
-  w2c_i1 = 4294967248u;
-  w2c_i0 += w2c_i1;
-  w2c_i1 = 10u;
-  w2c_i0 = w2c_i0 < w2c_i1;
-  w2c_i1 = w2c_l13;
-  w2c_i2 = 95u;
-  w2c_i1 &= w2c_i2;
-  w2c_i2 = 4294967231u;
-  w2c_i1 += w2c_i2;
-  w2c_i2 = 26u;
-  w2c_i1 = w2c_i1 < w2c_i2;
-  w2c_i0 |= w2c_i1;
-  w2c_l12 = w2c_i0;
-  goto w2c_B41;
-  w2c_B61:;
-  w2c_i0 = 0u;
-  w2c_l14 = w2c_i0;
-  w2c_i0 = w2c_l13;
-  w2c_i1 = 24318u;
-  w2c_i0 = (u32)((s32)w2c_i0 > (s32)w2c_i1);
-  if (w2c_i0) {goto w2c_B73;}
-  w2c_i0 = w2c_l13;
-  w2c_i1 = 21316u;
-  w2c_i0 = (u32)((s32)w2c_i0 > (s32)w2c_i1);
-  if (w2c_i0) {goto w2c_B74;}
-  w2c_i0 = w2c_l13;
-  w2c_i1 = 20313u;
-  w2c_i0 = w2c_i0 != w2c_i1;
-  if (w2c_i0) {goto w2c_B75;}
-  w2c_i0 = 0u;
-  w2c_l12 = w2c_i0;
-  goto w2c_B41;
-  w2c_B75:;
-  w2c_i0 = w2c_l13;
-  w2c_i1 = 20358u;
-  w2c_i0 = w2c_i0 != w2c_i1;
-  if (w2c_i0) {goto w2c_B76;}
-  w2c_i0 = 0u;
-  w2c_l12 = w2c_i0;
-  goto w2c_B41;
-  w2c_B76:;
-  w2c_i0 = w2c_l13;
-  w2c_i1 = 20960u;
-  w2c_i0 = w2c_i0 != w2c_i1;
-  if (w2c_i0) {goto w2c_B72;}
-  w2c_i0 = 0u;
-  w2c_l12 = w2c_i0;
-  goto w2c_B41;
-  w2c_B74:;
-  w2c_i0 = w2c_l13;
-  w2c_i1 = 4294945979u;
-  w2c_i0 += w2c_i1;
-  switch (w2c_i0) {
-    case 0: goto w2c_B71;
-    case 1: goto w2c_B72;
-    case 2: goto w2c_B72;
-    case 3: goto w2c_B72;
-    case 4: goto w2c_B72;
-    case 5: goto w2c_B72;
-    case 6: goto w2c_B72;
-    case 7: goto w2c_B71;
-    default: goto w2c_B77;
-  }
-  w2c_B77:;
-  w2c_i0 = 0u;
-  w2c_l12 = w2c_i0;
-  w2c_i0 = w2c_l13;
-  w2c_i1 = 4294943110u;
-  w2c_i0 += w2c_i1;
-  switch (w2c_i0) {
-    case 0: goto w2c_B71;
-    case 1: goto w2c_B72;
-    case 2: goto w2c_B72;
-    case 3: goto w2c_B72;
-    case 4: goto w2c_B41;
-    default: goto w2c_B78;
-  }
-  w2c_B78:;
-  w2c_i0 = w2c_l13;
-  w2c_i1 = 22810u;
-  w2c_i0 = w2c_i0 != w2c_i1;
-  if (w2c_i0) {goto w2c_B72;}
-  w2c_i0 = 0u;
-  w2c_l12 = w2c_i0;
-  goto w2c_B41;
-  w2c_B73:;
-  w2c_i0 = w2c_l13;
-  w2c_i1 = 28856u;
-  w2c_i0 = (u32)((s32)w2c_i0 > (s32)w2c_i1);
-  if (w2c_i0) {goto w2c_B79;}
-  w2c_i0 = 0u;
-  w2c_l12 = w2c_i0;
-  w2c_i0 = w2c_l13;
-  w2c_i1 = 4294941328u;
-  w2c_i0 += w2c_i1;
-  switch (w2c_i0) {
-    case 0: goto w2c_B41;
-    case 1: goto w2c_B72;
-    case 2: goto w2c_B72;
-    case 3: goto w2c_B72;
-    case 4: goto w2c_B72;
-    case 5: goto w2c_B72;
-    case 6: goto w2c_B72;
-    case 7: goto w2c_B72;
-    case 8: goto w2c_B41;
-    default: goto w2c_B80;
-  }
-  w2c_B80:;
-  w2c_i0 = w2c_l13;
-  w2c_i1 = 24319u;
-  w2c_i0 = w2c_i0 == w2c_i1;
-  if (w2c_i0) {goto w2c_B71;}
-  w2c_i0 = w2c_l13;
-  w2c_i1 = 26469u;
-  w2c_i0 = w2c_i0 != w2c_i1;
-  if (w2c_i0) {goto w2c_B72;}
-  w2c_i0 = 0u;
-  w2c_l12 = w2c_i0;
-  goto w2c_B41;
-  w2c_B79:;
-  w2c_i0 = w2c_l13;
-  w2c_i1 = 28857u;
-  w2c_i0 = w2c_i0 != w2c_i1;
-  if (w2c_i0) {goto w2c_B81;}
-  w2c_i0 = 0u;
-  w2c_l12 = w2c_i0;
-  goto w2c_B41;
-  w2c_B81:;
-  w2c_i0 = w2c_l13;
-  w2c_i1 = 39192u;
-  w2c_i0 = w2c_i0 != w2c_i1;
-  if (w2c_i0) {goto w2c_B82;}
-  w2c_i0 = 0u;
-  w2c_l12 = w2c_i0;
-  goto w2c_B41;
-  w2c_B82:;
-  w2c_i0 = w2c_l13;
-  w2c_i1 = 40670u;
-  w2c_i0 = w2c_i0 != w2c_i1;
-  if (w2c_i0) {goto w2c_B72;}
-  w2c_i0 = 0u;
-  w2c_l12 = w2c_i0;
-  goto w2c_B41;
-  w2c_B72:;
-  w2c_i0 = w2c_l13;
-  w2c_i1 = 4294902000u;
-  w2c_i0 += w2c_i1;
-  w2c_i1 = 9u;
-  w2c_i0 = w2c_i0 <= w2c_i1;
-  if (w2c_i0) {goto w2c_B71;}
-  w2c_i0 = 0u;
-  w2c_l12 = w2c_i0;
-  goto w2c_B41;
-  w2c_B71:;
-  w2c_i0 = 1u;
-  w2c_l12 = w2c_i0;
-  goto w2c_B41;
-  w2c_B43:;
-  w2c_i0 = 1u;
-  w2c_l12 = w2c_i0;
-  w2c_i0 = 0u;
-  w2c_l14 = w2c_i0;
-  goto w2c_B41;
-  w2c_B42:;
-  w2c_i0 = 0u;
-  w2c_l14 = w2c_i0;
-  w2c_i0 = 0u;
-  w2c_l12 = w2c_i0;
-  w2c_B41:;
-  w2c_j0 = w2c_p4;
-  w2c_j1 = 1ull;
-  w2c_i0 = w2c_j0 != w2c_j1;
-  if (w2c_i0) {goto w2c_B86;}
-  w2c_i0 = 0u;
-  w2c_i1 = 2u;
-  w2c_j2 = w2c_p3;
-  w2c_i2 = (u32)(w2c_j2);
-  w2c_i2 = i32_load8_u(m, (u64)(w2c_i2));
-  w2c_l13 = w2c_i2;
-  w2c_i3 = 4294967248u;
-  w2c_i2 += w2c_i3;
-  w2c_i3 = 255u;
-  w2c_i2 &= w2c_i3;
-  w2c_i3 = 10u;
-  w2c_i2 = w2c_i2 < w2c_i3;
-  w2c_i0 = w2c_i2 ? w2c_i0 : w2c_i1;
-  w2c_l10 = w2c_i0;
-  goto w2c_B85;
-  w2c_B86:;
-  w2c_j0 = w2c_p3;
-  w2c_p2 = w2c_j0;
-  w2c_j0 = w2c_p4;
-  w2c_p5 = w2c_j0;
-  w2c_j0 = w2c_p4;
-  w2c_j1 = 4ull;
-  w2c_i0 = w2c_j0 > w2c_j1;
-  if (w2c_i0) {goto w2c_B84;}
-  w2c_j0 = w2c_p4;
-  w2c_j1 = 3ull;
-  w2c_i0 = w2c_j0 < w2c_j1;
-  if (w2c_i0) {goto w2c_B89;}
-  w2c_j0 = w2c_p3;
-  w2c_i0 = (u32)(w2c_j0);
-  w2c_i0 = i32_load8_u(m, (u64)(w2c_i0));
-  w2c_l13 = w2c_i0;
-  w2c_i1 = 240u;
-  w2c_i0 &= w2c_i1;
-  w2c_i1 = 224u;
-  w2c_i0 = w2c_i0 != w2c_i1;
-  if (w2c_i0) {goto w2c_B88;}
-  w2c_j0 = w2c_p3;
-  w2c_i0 = (u32)(w2c_j0);
-  w2c_i0 = i32_load8_u(m, (u64)(w2c_i0) + 1u);
-  w2c_l16 = w2c_i0;
-  w2c_i1 = 8u;
-  w2c_i0 <<= (w2c_i1 & 31);
-  w2c_j1 = w2c_p3;
-  w2c_i1 = (u32)(w2c_j1);
-  w2c_i1 = i32_load8_u(m, (u64)(w2c_i1) + 2u);
-  w2c_l17 = w2c_i1;
-  w2c_i2 = 16u;
-  w2c_i1 <<= (w2c_i2 & 31);
-  w2c_i0 |= w2c_i1;
-  w2c_i1 = w2c_l13;
-  w2c_i0 |= w2c_i1;
-  w2c_l10 = w2c_i0;
-  w2c_j0 = (u64)(w2c_i0);
-  w2c_j1 = 953497ull;
-  w2c_j0 *= w2c_j1;
-  w2c_j1 = 22ull;
-  w2c_j0 >>= (w2c_j1 & 63);
-  w2c_j1 = 1016ull;
-  w2c_j0 &= w2c_j1;
-  w2c_p2 = w2c_j0;
-  w2c_j1 = 66980ull;
-  w2c_j0 += w2c_j1;
-  w2c_i0 = (u32)(w2c_j0);
-  w2c_i0 = i32_load8_u(m, (u64)(w2c_i0));
-  w2c_i1 = 2u;
-  w2c_j2 = w2c_p2;
-  w2c_i2 = (u32)(w2c_j2);
-  w2c_i2 = i32_load(m, (u64)(w2c_i2) + 66976u);
-  w2c_i3 = w2c_l10;
-  w2c_i2 = w2c_i2 == w2c_i3;
-  w2c_i0 = w2c_i2 ? w2c_i0 : w2c_i1;
-  w2c_l10 = w2c_i0;
-  w2c_i0 = w2c_l13;
-  w2c_i1 = 12u;
-  w2c_i0 <<= (w2c_i1 & 31);
-  w2c_i1 = w2c_l16;
-  w2c_i2 = 6u;
-  w2c_i1 <<= (w2c_i2 & 31);
-  w2c_i0 += w2c_i1;
-  w2c_i1 = w2c_l17;
-  w2c_i0 += w2c_i1;
-  w2c_i1 = 4294041472u;
-  w2c_i0 += w2c_i1;
-  w2c_l13 = w2c_i0;
-  w2c_j0 = w2c_p4;
-  w2c_j1 = 18446744073709551613ull;
-  w2c_j0 += w2c_j1;
-  w2c_p6 = w2c_j0;
-  goto w2c_B87;
-  w2c_B89:;
-  w2c_j0 = w2c_p3;
-  w2c_p2 = w2c_j0;
-  w2c_j0 = w2c_p4;
-  w2c_p5 = w2c_j0;
-  w2c_j0 = w2c_p4;
-  w2c_j1 = 0ull;
-  w2c_i0 = w2c_j0 == w2c_j1;
-  if (w2c_i0) {goto w2c_B84;}
-  w2c_j0 = w2c_p3;
-  w2c_i0 = (u32)(w2c_j0);
-  w2c_i0 = i32_load8_u(m, (u64)(w2c_i0));
-  w2c_l13 = w2c_i0;
-  w2c_B88:;
-  w2c_j0 = 18446744073709551615ull;
-  w2c_p2 = w2c_j0;
-  w2c_i0 = w2c_l13;
-  w2c_i0 = (u32)(s32)(s8)(u8)(w2c_i0);
-  w2c_i1 = 4294967295u;
-  w2c_i0 = (u32)((s32)w2c_i0 > (s32)w2c_i1);
-  if (w2c_i0) {goto w2c_B90;}
-  w2c_j0 = w2c_p3;
-  w2c_i0 = (u32)(w2c_j0);
-  w2c_i0 = i32_load8_u(m, (u64)(w2c_i0) + 1u);
-  w2c_i1 = 63u;
-  w2c_i0 &= w2c_i1;
-  w2c_l10 = w2c_i0;
-  w2c_i0 = w2c_l13;
-  w2c_i1 = 223u;
-  w2c_i0 = w2c_i0 > w2c_i1;
-  if (w2c_i0) {goto w2c_B91;}
-  w2c_i0 = w2c_l13;
-  w2c_i1 = 6u;
-  w2c_i0 <<= (w2c_i1 & 31);
-  w2c_i1 = 1984u;
-  w2c_i0 &= w2c_i1;
-  w2c_i1 = w2c_l10;
-  w2c_i0 |= w2c_i1;
-  w2c_l13 = w2c_i0;
-  w2c_j0 = 18446744073709551614ull;
-  w2c_p2 = w2c_j0;
-  goto w2c_B90;
-  w2c_B91:;
-  w2c_j0 = w2c_p3;
-  w2c_i0 = (u32)(w2c_j0);
-  w2c_i0 = i32_load8_u(m, (u64)(w2c_i0) + 2u);
-  w2c_i1 = 63u;
-  w2c_i0 &= w2c_i1;
-  w2c_l16 = w2c_i0;
-  w2c_i0 = w2c_l13;
-  w2c_i1 = 239u;
-  w2c_i0 = w2c_i0 > w2c_i1;
-  if (w2c_i0) {goto w2c_B92;}
-  w2c_i0 = w2c_l10;
-  w2c_i1 = 6u;
-  w2c_i0 <<= (w2c_i1 & 31);
-  w2c_i1 = w2c_l13;
-  w2c_i2 = 12u;
-  w2c_i1 <<= (w2c_i2 & 31);
-  w2c_i2 = 61440u;
-  w2c_i1 &= w2c_i2;
-  w2c_i0 |= w2c_i1;
-  w2c_i1 = w2c_l16;
-  w2c_i0 |= w2c_i1;
-  w2c_l13 = w2c_i0;
-  w2c_j0 = 18446744073709551613ull;
-  w2c_p2 = w2c_j0;
-  goto w2c_B90;
-  w2c_B92:;
-  w2c_i0 = w2c_l16;
-  w2c_i1 = 6u;
-  w2c_i0 <<= (w2c_i1 & 31);
-  w2c_i1 = w2c_l10;
-  w2c_i2 = 12u;
-  w2c_i1 <<= (w2c_i2 & 31);
-  w2c_i2 = w2c_l13;
-  w2c_i3 = 18u;
-  w2c_i2 <<= (w2c_i3 & 31);
-  w2c_i3 = 1835008u;
-  w2c_i2 &= w2c_i3;
-  w2c_i1 |= w2c_i2;
-  w2c_i0 |= w2c_i1;
-  w2c_j1 = w2c_p3;
-  w2c_i1 = (u32)(w2c_j1);
-  w2c_i1 = i32_load8_u(m, (u64)(w2c_i1) + 3u);
-  w2c_i2 = 63u;
-  w2c_i1 &= w2c_i2;
-  w2c_i0 |= w2c_i1;
-  w2c_l13 = w2c_i0;
-  w2c_j0 = 18446744073709551612ull;
-  w2c_p2 = w2c_j0;
-  w2c_B90:;
-  w2c_j0 = w2c_p2;
-  w2c_j1 = w2c_p4;
-  w2c_j0 += w2c_j1;
-  w2c_p6 = w2c_j0;
-  w2c_i0 = w2c_l13;
-  w2c_i1 = 4294965248u;
-  w2c_i0 += w2c_i1;
-  w2c_i1 = 63487u;
-  w2c_i0 = w2c_i0 > w2c_i1;
-  if (w2c_i0) {goto w2c_B93;}
-  w2c_i0 = w2c_l13;
-  w2c_i1 = 12u;
-  w2c_i0 >>= (w2c_i1 & 31);
-  w2c_i1 = w2c_l13;
-  w2c_i2 = 2u;
-  w2c_i1 <<= (w2c_i2 & 31);
-  w2c_i2 = 16128u;
-  w2c_i1 &= w2c_i2;
-  w2c_i0 |= w2c_i1;
-  w2c_i1 = w2c_l13;
-  w2c_i2 = 16u;
-  w2c_i1 <<= (w2c_i2 & 31);
-  w2c_i2 = 4128768u;
-  w2c_i1 &= w2c_i2;
-  w2c_i0 |= w2c_i1;
-  w2c_i1 = 8421600u;
-  w2c_i0 |= w2c_i1;
-  w2c_l10 = w2c_i0;
-  w2c_j0 = (u64)(w2c_i0);
-  w2c_j1 = 953497ull;
-  w2c_j0 *= w2c_j1;
-  w2c_j1 = 22ull;
-  w2c_j0 >>= (w2c_j1 & 63);
-  w2c_j1 = 1016ull;
-  w2c_j0 &= w2c_j1;
-  w2c_p2 = w2c_j0;
-  w2c_j1 = 66980ull;
-  w2c_j0 += w2c_j1;
-  w2c_i0 = (u32)(w2c_j0);
-  w2c_i0 = i32_load8_u(m, (u64)(w2c_i0));
-  w2c_i1 = 2u;
-  w2c_j2 = w2c_p2;
-  w2c_i2 = (u32)(w2c_j2);
-  w2c_i2 = i32_load(m, (u64)(w2c_i2) + 66976u);
-  w2c_i3 = w2c_l10;
-  w2c_i2 = w2c_i2 == w2c_i3;
-  w2c_i0 = w2c_i2 ? w2c_i0 : w2c_i1;
-  w2c_l10 = w2c_i0;
-  goto w2c_B87;
-  w2c_B93:;
-  w2c_i0 = 0u;
-  w2c_i1 = 2u;
-  w2c_i2 = w2c_l13;
-  w2c_i3 = 4294967248u;
-  w2c_i2 += w2c_i3;
-  w2c_i3 = 10u;
-  w2c_i2 = w2c_i2 < w2c_i3;
-  w2c_i0 = w2c_i2 ? w2c_i0 : w2c_i1;
-  w2c_l10 = w2c_i0;
-  w2c_B87:;
-  w2c_j0 = w2c_p3;
-  w2c_p2 = w2c_j0;
-  w2c_j0 = w2c_p4;
-  w2c_p5 = w2c_j0;
-  w2c_j0 = w2c_p6;
-  w2c_j1 = 0ull;
-  w2c_i0 = w2c_j0 != w2c_j1;
-  if (w2c_i0) {goto w2c_B84;}
-  w2c_B85:;
-  w2c_i0 = w2c_l13;
+  if (w2c_i0) {goto w2c_B9;}
+  w2c_i0 = w2c_l3;
   w2c_i1 = 4294967238u;
   w2c_i0 += w2c_i1;
   w2c_i1 = 4294967286u;
   w2c_i0 = w2c_i0 < w2c_i1;
-  w2c_i1 = w2c_l13;
+  w2c_i1 = w2c_l3;
   w2c_i2 = 4294901990u;
   w2c_i1 += w2c_i2;
   w2c_i2 = 4294967286u;
   w2c_i1 = w2c_i1 < w2c_i2;
   w2c_i0 &= w2c_i1;
-  w2c_l13 = w2c_i0;
-  w2c_i0 = w2c_l14;
-  w2c_i1 = w2c_l11;
-  w2c_i2 = w2c_l10;
-  w2c_i3 = 255u;
-  w2c_i2 &= w2c_i3;
-  w2c_l10 = w2c_i2;
-  w2c_i3 = 1u;
-  w2c_i2 = w2c_i2 == w2c_i3;
-  w2c_i1 &= w2c_i2;
-  w2c_i0 |= w2c_i1;
-  w2c_l11 = w2c_i0;
-  w2c_i0 = w2c_l10;
-  w2c_i0 = !(w2c_i0);
-  w2c_l10 = w2c_i0;
-  goto w2c_B83;
-  w2c_B84:;
-  w2c_L96:
-    w2c_j0 = w2c_p5;
+  w2c_l9 = w2c_i0;
+  w2c_i0 = 1u;
+  w2c_l4 = w2c_i0;
+  w2c_i0 = w2c_l8;
+  w2c_l5 = w2c_i0;
+  w2c_i0 = w2c_l7;
+  w2c_l6 = w2c_i0;
+  w2c_B9:;
+  w2c_j0 = w2c_p0;
+  w2c_i0 = (u32)(w2c_j0);
+  w2c_i1 = w2c_l4;
+  i32_store8(m, (u64)(w2c_i0), w2c_i1);
+  w2c_j0 = w2c_p0;
+  w2c_j1 = 3ull;
+  w2c_j0 += w2c_j1;
+  w2c_i0 = (u32)(w2c_j0);
+  w2c_i1 = w2c_l9;
+  i32_store8(m, (u64)(w2c_i0), w2c_i1);
+  w2c_j0 = w2c_p0;
+  w2c_j1 = 2ull;
+  w2c_j0 += w2c_j1;
+  w2c_i0 = (u32)(w2c_j0);
+  w2c_i1 = w2c_l6;
+  i32_store8(m, (u64)(w2c_i0), w2c_i1);
+  w2c_j0 = w2c_p0;
+  w2c_j1 = 1ull;
+  w2c_j0 += w2c_j1;
+  w2c_i0 = (u32)(w2c_j0);
+  w2c_i1 = w2c_l5;
+  i32_store8(m, (u64)(w2c_i0), w2c_i1);
+  goto w2c_Bfunc;
+  w2c_B1:;
+  UNREACHABLE;
+  w2c_B0:;
+  w2c_j0 = w2c_p0;
+  w2c_i0 = (u32)(w2c_j0);
+  w2c_i1 = 0u;
+  i32_store(m, (u64)(w2c_i0), w2c_i1);
+  w2c_Bfunc:;
+}
+
+static u32 w2c_f21(module *m, u64 w2c_p0, u64 w2c_p1) {
+  u32 w2c_l2 = 0, w2c_l3 = 0, w2c_l4 = 0;
+  u64 w2c_l5 = 0;
+  u32 w2c_i0, w2c_i1, w2c_i2, w2c_i3;
+  u64 w2c_j0, w2c_j1;
+  w2c_j0 = m->w2c_g0;
+  w2c_j1 = 16ull;
+  w2c_i0 = (u64)((s64)w2c_j0 < (s64)w2c_j1);
+  if (w2c_i0) {goto w2c_B0;}
+  w2c_L3:
+    w2c_j0 = w2c_p1;
     w2c_j1 = 3ull;
     w2c_i0 = w2c_j0 < w2c_j1;
-    if (w2c_i0) {goto w2c_B99;}
-    w2c_j0 = w2c_p2;
+    if (w2c_i0) {goto w2c_B6;}
+    w2c_j0 = w2c_p0;
     w2c_i0 = (u32)(w2c_j0);
     w2c_i0 = i32_load8_u(m, (u64)(w2c_i0));
-    w2c_l13 = w2c_i0;
+    w2c_l2 = w2c_i0;
     w2c_i1 = 240u;
     w2c_i0 &= w2c_i1;
     w2c_i1 = 224u;
     w2c_i0 = w2c_i0 != w2c_i1;
-    if (w2c_i0) {goto w2c_B98;}
-    w2c_j0 = w2c_p2;
+    if (w2c_i0) {goto w2c_B5;}
+    w2c_j0 = w2c_p0;
     w2c_i0 = (u32)(w2c_j0);
     w2c_i0 = i32_load8_u(m, (u64)(w2c_i0) + 1u);
     w2c_i1 = 8u;
     w2c_i0 <<= (w2c_i1 & 31);
-    w2c_j1 = w2c_p2;
+    w2c_j1 = w2c_p0;
     w2c_i1 = (u32)(w2c_j1);
     w2c_i1 = i32_load8_u(m, (u64)(w2c_i1) + 2u);
     w2c_i2 = 16u;
     w2c_i1 <<= (w2c_i2 & 31);
     w2c_i0 |= w2c_i1;
-    w2c_i1 = w2c_l13;
+    w2c_i1 = w2c_l2;
     w2c_i0 |= w2c_i1;
-    w2c_l13 = w2c_i0;
+    w2c_l2 = w2c_i0;
     w2c_j0 = (u64)(w2c_i0);
     w2c_j1 = 953497ull;
     w2c_j0 *= w2c_j1;
@@ -11761,143 +12461,142 @@ static void w2c_f18(module *m, u64 w2c_p0, u64 w2c_p1, u64 w2c_p2, u64 w2c_p3, u
     w2c_j0 >>= (w2c_j1 & 63);
     w2c_j1 = 1016ull;
     w2c_j0 &= w2c_j1;
-    w2c_p6 = w2c_j0;
+    w2c_l5 = w2c_j0;
     w2c_i0 = (u32)(w2c_j0);
     w2c_i0 = i32_load(m, (u64)(w2c_i0) + 66976u);
-    w2c_i1 = w2c_l13;
+    w2c_i1 = w2c_l2;
     w2c_i0 = w2c_i0 != w2c_i1;
-    if (w2c_i0) {goto w2c_B95;}
-    w2c_j0 = w2c_p6;
+    if (w2c_i0) {goto w2c_B2;}
+    w2c_j0 = w2c_l5;
     w2c_j1 = 66980ull;
     w2c_j0 += w2c_j1;
     w2c_i0 = (u32)(w2c_j0);
     w2c_i0 = i32_load8_u(m, (u64)(w2c_i0));
-    w2c_l10 = w2c_i0;
-    w2c_j0 = w2c_p5;
+    w2c_l3 = w2c_i0;
+    w2c_j0 = w2c_p1;
     w2c_j1 = 18446744073709551613ull;
     w2c_j0 += w2c_j1;
-    w2c_p5 = w2c_j0;
-    w2c_j0 = w2c_p2;
+    w2c_p1 = w2c_j0;
+    w2c_j0 = w2c_p0;
     w2c_j1 = 3ull;
     w2c_j0 += w2c_j1;
-    w2c_p2 = w2c_j0;
-    goto w2c_B97;
-    w2c_B99:;
-    w2c_j0 = w2c_p5;
+    w2c_p0 = w2c_j0;
+    goto w2c_B4;
+    w2c_B6:;
+    w2c_j0 = w2c_p1;
     w2c_i0 = !(w2c_j0);
     w2c_i0 = !(w2c_i0);
-    if (w2c_i0) {goto w2c_B100;}
+    if (w2c_i0) {goto w2c_B7;}
     w2c_i0 = 1u;
-    w2c_l10 = w2c_i0;
-    goto w2c_B94;
-    w2c_B100:;
-    w2c_j0 = w2c_p2;
+    goto w2c_Bfunc;
+    w2c_B7:;
+    w2c_j0 = w2c_p0;
     w2c_i0 = (u32)(w2c_j0);
     w2c_i0 = i32_load8_u(m, (u64)(w2c_i0));
-    w2c_l13 = w2c_i0;
-    w2c_B98:;
+    w2c_l2 = w2c_i0;
+    w2c_B5:;
     w2c_j0 = 1ull;
-    w2c_p6 = w2c_j0;
-    w2c_i0 = w2c_l13;
+    w2c_l5 = w2c_j0;
+    w2c_i0 = w2c_l2;
     w2c_i0 = (u32)(s32)(s8)(u8)(w2c_i0);
     w2c_i1 = 4294967295u;
     w2c_i0 = (u32)((s32)w2c_i0 > (s32)w2c_i1);
-    if (w2c_i0) {goto w2c_B101;}
-    w2c_j0 = w2c_p2;
+    if (w2c_i0) {goto w2c_B8;}
+    w2c_j0 = w2c_p0;
     w2c_i0 = (u32)(w2c_j0);
     w2c_i0 = i32_load8_u(m, (u64)(w2c_i0) + 1u);
     w2c_i1 = 63u;
     w2c_i0 &= w2c_i1;
-    w2c_l10 = w2c_i0;
-    w2c_i0 = w2c_l13;
+    w2c_l3 = w2c_i0;
+    w2c_i0 = w2c_l2;
     w2c_i1 = 223u;
     w2c_i0 = w2c_i0 > w2c_i1;
-    if (w2c_i0) {goto w2c_B102;}
-    w2c_i0 = w2c_l13;
+    if (w2c_i0) {goto w2c_B9;}
+    w2c_i0 = w2c_l2;
     w2c_i1 = 6u;
     w2c_i0 <<= (w2c_i1 & 31);
     w2c_i1 = 1984u;
     w2c_i0 &= w2c_i1;
-    w2c_i1 = w2c_l10;
+    w2c_i1 = w2c_l3;
     w2c_i0 |= w2c_i1;
-    w2c_l13 = w2c_i0;
+    w2c_l2 = w2c_i0;
     w2c_j0 = 2ull;
-    w2c_p6 = w2c_j0;
-    goto w2c_B101;
-    w2c_B102:;
-    w2c_j0 = w2c_p2;
+    w2c_l5 = w2c_j0;
+    goto w2c_B8;
+    w2c_B9:;
+    w2c_j0 = w2c_p0;
     w2c_i0 = (u32)(w2c_j0);
     w2c_i0 = i32_load8_u(m, (u64)(w2c_i0) + 2u);
     w2c_i1 = 63u;
     w2c_i0 &= w2c_i1;
-    w2c_l16 = w2c_i0;
-    w2c_i0 = w2c_l13;
+    w2c_l4 = w2c_i0;
+    w2c_i0 = w2c_l2;
     w2c_i1 = 239u;
     w2c_i0 = w2c_i0 > w2c_i1;
-    if (w2c_i0) {goto w2c_B103;}
-    w2c_i0 = w2c_l10;
+    if (w2c_i0) {goto w2c_B10;}
+    w2c_i0 = w2c_l3;
     w2c_i1 = 6u;
     w2c_i0 <<= (w2c_i1 & 31);
-    w2c_i1 = w2c_l13;
+    w2c_i1 = w2c_l2;
     w2c_i2 = 12u;
     w2c_i1 <<= (w2c_i2 & 31);
     w2c_i2 = 61440u;
     w2c_i1 &= w2c_i2;
     w2c_i0 |= w2c_i1;
-    w2c_i1 = w2c_l16;
+    w2c_i1 = w2c_l4;
     w2c_i0 |= w2c_i1;
-    w2c_l13 = w2c_i0;
+    w2c_l2 = w2c_i0;
     w2c_j0 = 3ull;
-    w2c_p6 = w2c_j0;
-    goto w2c_B101;
-    w2c_B103:;
-    w2c_i0 = w2c_l16;
+    w2c_l5 = w2c_j0;
+    goto w2c_B8;
+    w2c_B10:;
+    w2c_i0 = w2c_l4;
     w2c_i1 = 6u;
     w2c_i0 <<= (w2c_i1 & 31);
-    w2c_i1 = w2c_l10;
+    w2c_i1 = w2c_l3;
     w2c_i2 = 12u;
     w2c_i1 <<= (w2c_i2 & 31);
-    w2c_i2 = w2c_l13;
+    w2c_i2 = w2c_l2;
     w2c_i3 = 18u;
     w2c_i2 <<= (w2c_i3 & 31);
     w2c_i3 = 1835008u;
     w2c_i2 &= w2c_i3;
     w2c_i1 |= w2c_i2;
     w2c_i0 |= w2c_i1;
-    w2c_j1 = w2c_p2;
+    w2c_j1 = w2c_p0;
     w2c_i1 = (u32)(w2c_j1);
     w2c_i1 = i32_load8_u(m, (u64)(w2c_i1) + 3u);
     w2c_i2 = 63u;
     w2c_i1 &= w2c_i2;
     w2c_i0 |= w2c_i1;
-    w2c_l13 = w2c_i0;
+    w2c_l2 = w2c_i0;
     w2c_j0 = 4ull;
-    w2c_p6 = w2c_j0;
-    w2c_B101:;
-    w2c_j0 = w2c_p5;
-    w2c_j1 = w2c_p6;
+    w2c_l5 = w2c_j0;
+    w2c_B8:;
+    w2c_j0 = w2c_p1;
+    w2c_j1 = w2c_l5;
     w2c_j0 -= w2c_j1;
-    w2c_p5 = w2c_j0;
-    w2c_j0 = w2c_p2;
-    w2c_j1 = w2c_p6;
+    w2c_p1 = w2c_j0;
+    w2c_j0 = w2c_p0;
+    w2c_j1 = w2c_l5;
     w2c_j0 += w2c_j1;
-    w2c_p2 = w2c_j0;
-    w2c_i0 = w2c_l13;
+    w2c_p0 = w2c_j0;
+    w2c_i0 = w2c_l2;
     w2c_i1 = 4294965248u;
     w2c_i0 += w2c_i1;
     w2c_i1 = 63487u;
     w2c_i0 = w2c_i0 > w2c_i1;
-    if (w2c_i0) {goto w2c_B104;}
-    w2c_i0 = w2c_l13;
+    if (w2c_i0) {goto w2c_B11;}
+    w2c_i0 = w2c_l2;
     w2c_i1 = 12u;
     w2c_i0 >>= (w2c_i1 & 31);
-    w2c_i1 = w2c_l13;
+    w2c_i1 = w2c_l2;
     w2c_i2 = 2u;
     w2c_i1 <<= (w2c_i2 & 31);
     w2c_i2 = 16128u;
     w2c_i1 &= w2c_i2;
     w2c_i0 |= w2c_i1;
-    w2c_i1 = w2c_l13;
+    w2c_i1 = w2c_l2;
     w2c_i2 = 16u;
     w2c_i1 <<= (w2c_i2 & 31);
     w2c_i2 = 4128768u;
@@ -11905,7 +12604,7 @@ static void w2c_f18(module *m, u64 w2c_p0, u64 w2c_p1, u64 w2c_p2, u64 w2c_p3, u
     w2c_i0 |= w2c_i1;
     w2c_i1 = 8421600u;
     w2c_i0 |= w2c_i1;
-    w2c_l13 = w2c_i0;
+    w2c_l2 = w2c_i0;
     w2c_j0 = (u64)(w2c_i0);
     w2c_j1 = 953497ull;
     w2c_j0 *= w2c_j1;
@@ -11913,93 +12612,47 @@ static void w2c_f18(module *m, u64 w2c_p0, u64 w2c_p1, u64 w2c_p2, u64 w2c_p3, u
     w2c_j0 >>= (w2c_j1 & 63);
     w2c_j1 = 1016ull;
     w2c_j0 &= w2c_j1;
-    w2c_p6 = w2c_j0;
+    w2c_l5 = w2c_j0;
     w2c_i0 = (u32)(w2c_j0);
     w2c_i0 = i32_load(m, (u64)(w2c_i0) + 66976u);
-    w2c_i1 = w2c_l13;
+    w2c_i1 = w2c_l2;
     w2c_i0 = w2c_i0 != w2c_i1;
-    if (w2c_i0) {goto w2c_B95;}
-    w2c_j0 = w2c_p6;
+    if (w2c_i0) {goto w2c_B2;}
+    w2c_j0 = w2c_l5;
     w2c_j1 = 66980ull;
     w2c_j0 += w2c_j1;
     w2c_i0 = (u32)(w2c_j0);
     w2c_i0 = i32_load8_u(m, (u64)(w2c_i0));
-    w2c_l10 = w2c_i0;
-    goto w2c_B97;
-    w2c_B104:;
+    w2c_l3 = w2c_i0;
+    goto w2c_B4;
+    w2c_B11:;
     w2c_i0 = 0u;
-    w2c_l10 = w2c_i0;
-    w2c_i0 = w2c_l13;
+    w2c_l3 = w2c_i0;
+    w2c_i0 = w2c_l2;
     w2c_i1 = 4294967248u;
     w2c_i0 += w2c_i1;
     w2c_i1 = 9u;
     w2c_i0 = w2c_i0 > w2c_i1;
-    if (w2c_i0) {goto w2c_B94;}
-    w2c_B97:;
-    w2c_i0 = w2c_l10;
+    if (w2c_i0) {goto w2c_B1;}
+    w2c_B4:;
+    w2c_i0 = w2c_l3;
     w2c_i1 = 255u;
     w2c_i0 &= w2c_i1;
     w2c_i0 = !(w2c_i0);
-    if (w2c_i0) {goto w2c_L96;}
-  w2c_B95:;
+    if (w2c_i0) {goto w2c_L3;}
+  w2c_B2:;
   w2c_i0 = 0u;
-  w2c_l10 = w2c_i0;
-  w2c_B94:;
-  w2c_i0 = w2c_l11;
-  w2c_i0 = !(w2c_i0);
-  if (w2c_i0) {goto w2c_B107;}
-  w2c_i0 = w2c_l14;
-  w2c_j1 = w2c_p3;
-  w2c_j2 = w2c_p4;
-  w2c_i1 = w2c_f19(m, w2c_j1, w2c_j2);
-  w2c_i0 |= w2c_i1;
-  w2c_i0 = !(w2c_i0);
-  if (w2c_i0) {goto w2c_B106;}
-  goto w2c_B105;
-  w2c_B107:;
-  w2c_i0 = w2c_l14;
-  if (w2c_i0) {goto w2c_B105;}
-  w2c_B106:;
-  w2c_i0 = 0u;
-  w2c_l13 = w2c_i0;
-  w2c_j0 = w2c_p3;
-  w2c_j1 = w2c_p4;
-  w2c_i0 = w2c_f20(m, w2c_j0, w2c_j1);
-  w2c_l11 = w2c_i0;
-  goto w2c_B83;
-  w2c_B105:;
-  w2c_i0 = 0u;
-  w2c_l13 = w2c_i0;
-  w2c_i0 = 1u;
-  w2c_l11 = w2c_i0;
-  w2c_B83:;
-  w2c_j0 = w2c_p0;
-  w2c_i0 = (u32)(w2c_j0);
-  w2c_i1 = w2c_l13;
-  i32_store8(m, (u64)(w2c_i0) + 3, w2c_i1);
-  w2c_j0 = w2c_p0;
-  w2c_i0 = (u32)(w2c_j0);
-  w2c_i1 = w2c_l11;
-  i32_store8(m, (u64)(w2c_i0) + 2, w2c_i1);
-  w2c_j0 = w2c_p0;
-  w2c_i0 = (u32)(w2c_j0);
-  w2c_i1 = w2c_l10;
-  i32_store8(m, (u64)(w2c_i0), w2c_i1);
-  w2c_j0 = w2c_p0;
-  w2c_i0 = (u32)(w2c_j0);
-  w2c_i1 = w2c_l15;
-  w2c_i2 = w2c_l12;
-  w2c_i1 |= w2c_i2;
-  w2c_i2 = 4294967295u;
-  w2c_i1 ^= w2c_i2;
-  w2c_i2 = 1u;
-  w2c_i1 &= w2c_i2;
-  i32_store8(m, (u64)(w2c_i0) + 1, w2c_i1);
-  w2c_j0 = w2c_l7;
-  m->w2c_g0 = w2c_j0;
+  w2c_l3 = w2c_i0;
+  w2c_B1:;
+  w2c_i0 = w2c_l3;
+  goto w2c_Bfunc;
+  w2c_B0:;
+  UNREACHABLE;
+  w2c_Bfunc:;
+  return w2c_i0;
 }
 
-static u32 w2c_f19(module *m, u64 w2c_p0, u64 w2c_p1) {
+static u32 w2c_f22(module *m, u64 w2c_p0, u64 w2c_p1) {
   u32 w2c_l2 = 0, w2c_l3 = 0, w2c_l4 = 0;
   u32 w2c_i0, w2c_i1, w2c_i2, w2c_i3;
   u64 w2c_j0, w2c_j1, w2c_j2;
@@ -12206,7 +12859,7 @@ static u32 w2c_f19(module *m, u64 w2c_p0, u64 w2c_p1) {
   return w2c_i0;
 }
 
-static u32 w2c_f20(module *m, u64 w2c_p0, u64 w2c_p1) {
+static u32 w2c_f23(module *m, u64 w2c_p0, u64 w2c_p1) {
   u32 w2c_l2 = 0, w2c_l3 = 0, w2c_l4 = 0, w2c_l5 = 0, w2c_l6 = 0, w2c_l7 = 0;
   u64 w2c_l8 = 0, w2c_l9 = 0, w2c_l10 = 0;
   u32 w2c_i0, w2c_i1, w2c_i2, w2c_i3;
@@ -13142,11 +13795,11 @@ static u32 w2c_f20(module *m, u64 w2c_p0, u64 w2c_p1) {
   return w2c_i0;
 }
 
-static u32 w2c_f21(module *m, u64 w2c_p0, u64 w2c_p1, u64 w2c_p2, u32 w2c_p3, u32 w2c_p4, u64 w2c_p5, u64 w2c_p6, u64 w2c_p7) {
-  u32 w2c_l13 = 0, w2c_l14 = 0, w2c_l15 = 0;
-  u64 w2c_l8 = 0, w2c_l9 = 0, w2c_l10 = 0, w2c_l11 = 0, w2c_l12 = 0;
+static u32 w2c_f24(module *m, u64 w2c_p0, u64 w2c_p1, u64 w2c_p2, u32 w2c_p3, u32 w2c_p4, u64 w2c_p5, u64 w2c_p6, u64 w2c_p7) {
+  u32 w2c_l16 = 0, w2c_l17 = 0, w2c_l18 = 0, w2c_l19 = 0, w2c_l20 = 0, w2c_l21 = 0;
+  u64 w2c_l8 = 0, w2c_l9 = 0, w2c_l10 = 0, w2c_l11 = 0, w2c_l12 = 0, w2c_l13 = 0, w2c_l14 = 0, w2c_l15 = 0;
   u32 w2c_i0, w2c_i1, w2c_i2, w2c_i3;
-  u64 w2c_j0, w2c_j1, w2c_j2, w2c_j3, w2c_j4, w2c_j5, w2c_j6;
+  u64 w2c_j0, w2c_j1, w2c_j2, w2c_j3;
   w2c_j0 = m->w2c_g0;
   w2c_j1 = 112ull;
   w2c_j0 -= w2c_j1;
@@ -13157,12 +13810,10 @@ static u32 w2c_f21(module *m, u64 w2c_p0, u64 w2c_p1, u64 w2c_p2, u32 w2c_p3, u3
   w2c_j1 = 16ull;
   w2c_i0 = (u64)((s64)w2c_j0 < (s64)w2c_j1);
   if (w2c_i0) {goto w2c_B0;}
-  w2c_j0 = w2c_p7;
-  w2c_i0 = (u32)(w2c_j0);
-  w2c_j1 = 0ull;
-  i64_store(m, (u64)(w2c_i0), w2c_j1);
   w2c_i0 = 8u;
-  w2c_l13 = w2c_i0;
+  w2c_l16 = w2c_i0;
+  w2c_j0 = 0ull;
+  w2c_l9 = w2c_j0;
   w2c_i0 = w2c_p3;
   w2c_i1 = 1u;
   w2c_i0 = w2c_i0 > w2c_i1;
@@ -13176,7 +13827,7 @@ static u32 w2c_f21(module *m, u64 w2c_p0, u64 w2c_p1, u64 w2c_p2, u32 w2c_p3, u3
   w2c_i0 = w2c_j0 == w2c_j1;
   if (w2c_i0) {goto w2c_B2;}
   w2c_i0 = 5u;
-  w2c_l13 = w2c_i0;
+  w2c_l16 = w2c_i0;
   w2c_j0 = w2c_p1;
   w2c_j1 = w2c_p2;
   w2c_i0 = w2c_j0 < w2c_j1;
@@ -13191,7 +13842,7 @@ static u32 w2c_f21(module *m, u64 w2c_p0, u64 w2c_p1, u64 w2c_p2, u32 w2c_p3, u3
   if (w2c_i0) {goto w2c_B1;}
   w2c_B2:;
   w2c_i0 = 0u;
-  w2c_l13 = w2c_i0;
+  w2c_l16 = w2c_i0;
   w2c_j0 = w2c_l8;
   w2c_i0 = (u32)(w2c_j0);
   w2c_i1 = 0u;
@@ -13260,77 +13911,1821 @@ static u32 w2c_f21(module *m, u64 w2c_p0, u64 w2c_p1, u64 w2c_p2, u32 w2c_p3, u3
   i64_store(m, (u64)(w2c_i0) + 88, w2c_j1);
   w2c_j0 = w2c_p6;
   w2c_i0 = !(w2c_j0);
-  if (w2c_i0) {goto w2c_B3;}
+  if (w2c_i0) {goto w2c_B1;}
   w2c_j0 = 0ull;
   w2c_l9 = w2c_j0;
-  w2c_L4:
+  w2c_L3:
     w2c_j0 = w2c_l8;
     w2c_j1 = 8ull;
     w2c_j0 += w2c_j1;
     w2c_j1 = w2c_l8;
     w2c_j2 = 64ull;
     w2c_j1 += w2c_j2;
-    w2c_f22(m, w2c_j0, w2c_j1);
+    w2c_f25(m, w2c_j0, w2c_j1);
     w2c_j0 = w2c_l8;
     w2c_i0 = (u32)(w2c_j0);
     w2c_i0 = i32_load8_u(m, (u64)(w2c_i0) + 8u);
     w2c_i1 = 1u;
     w2c_i0 = w2c_i0 != w2c_i1;
-    if (w2c_i0) {goto w2c_B3;}
-    w2c_j0 = w2c_l8;
-    w2c_i0 = (u32)(w2c_j0);
-    w2c_j0 = i64_load(m, (u64)(w2c_i0) + 56u);
-    w2c_p0 = w2c_j0;
-    w2c_j0 = w2c_l8;
-    w2c_i0 = (u32)(w2c_j0);
-    w2c_j0 = i64_load(m, (u64)(w2c_i0) + 48u);
-    w2c_l10 = w2c_j0;
+    if (w2c_i0) {goto w2c_B1;}
     w2c_j0 = w2c_l8;
     w2c_i0 = (u32)(w2c_j0);
     w2c_j0 = i64_load(m, (u64)(w2c_i0) + 40u);
     w2c_p1 = w2c_j0;
     w2c_j0 = w2c_l8;
     w2c_i0 = (u32)(w2c_j0);
-    w2c_j0 = i64_load(m, (u64)(w2c_i0) + 32u);
+    w2c_j0 = i64_load(m, (u64)(w2c_i0) + 56u);
+    w2c_l10 = w2c_j0;
+    w2c_j0 = w2c_l8;
+    w2c_i0 = (u32)(w2c_j0);
+    w2c_j0 = i64_load(m, (u64)(w2c_i0) + 48u);
     w2c_l11 = w2c_j0;
     w2c_j0 = w2c_l8;
     w2c_i0 = (u32)(w2c_j0);
-    w2c_j0 = i64_load(m, (u64)(w2c_i0) + 24u);
-    w2c_p2 = w2c_j0;
+    w2c_j0 = i64_load(m, (u64)(w2c_i0) + 32u);
+    w2c_p0 = w2c_j0;
     w2c_j0 = w2c_l8;
     w2c_i0 = (u32)(w2c_j0);
     w2c_j0 = i64_load(m, (u64)(w2c_i0) + 16u);
     w2c_l12 = w2c_j0;
     w2c_j0 = w2c_l8;
     w2c_i0 = (u32)(w2c_j0);
+    w2c_j0 = i64_load(m, (u64)(w2c_i0) + 24u);
+    w2c_p2 = w2c_j0;
+    w2c_j1 = 3ull;
+    w2c_i0 = w2c_j0 < w2c_j1;
+    if (w2c_i0) {goto w2c_B16;}
+    w2c_j0 = w2c_l12;
+    w2c_j1 = w2c_p2;
+    w2c_j0 += w2c_j1;
+    w2c_l13 = w2c_j0;
+    w2c_j1 = 18446744073709551613ull;
+    w2c_j0 += w2c_j1;
+    w2c_i0 = (u32)(w2c_j0);
+    w2c_i0 = i32_load8_u(m, (u64)(w2c_i0));
+    w2c_p4 = w2c_i0;
+    w2c_i1 = 240u;
+    w2c_i0 &= w2c_i1;
+    w2c_i1 = 224u;
+    w2c_i0 = w2c_i0 != w2c_i1;
+    if (w2c_i0) {goto w2c_B15;}
+    w2c_i0 = w2c_p4;
+    w2c_i1 = 12u;
+    w2c_i0 <<= (w2c_i1 & 31);
+    w2c_j1 = w2c_l13;
+    w2c_j2 = 18446744073709551615ull;
+    w2c_j1 += w2c_j2;
+    w2c_i1 = (u32)(w2c_j1);
+    w2c_i1 = i32_load8_u(m, (u64)(w2c_i1));
+    w2c_l17 = w2c_i1;
+    w2c_i0 |= w2c_i1;
+    w2c_j1 = w2c_l13;
+    w2c_j2 = 18446744073709551614ull;
+    w2c_j1 += w2c_j2;
+    w2c_i1 = (u32)(w2c_j1);
+    w2c_i1 = i32_load8_u(m, (u64)(w2c_i1));
+    w2c_l18 = w2c_i1;
+    w2c_i2 = 6u;
+    w2c_i1 <<= (w2c_i2 & 31);
+    w2c_i0 += w2c_i1;
+    w2c_i1 = 4294041472u;
+    w2c_i0 += w2c_i1;
+    w2c_p3 = w2c_i0;
+    w2c_j0 = w2c_p2;
+    w2c_j1 = 18446744073709551613ull;
+    w2c_j0 += w2c_j1;
+    w2c_l13 = w2c_j0;
+    w2c_i0 = w2c_l18;
+    w2c_i1 = 8u;
+    w2c_i0 <<= (w2c_i1 & 31);
+    w2c_i1 = w2c_l17;
+    w2c_i2 = 16u;
+    w2c_i1 <<= (w2c_i2 & 31);
+    w2c_i0 |= w2c_i1;
+    w2c_i1 = w2c_p4;
+    w2c_i0 |= w2c_i1;
+    w2c_p4 = w2c_i0;
+    w2c_j0 = (u64)(w2c_i0);
+    w2c_j1 = 953497ull;
+    w2c_j0 *= w2c_j1;
+    w2c_j1 = 22ull;
+    w2c_j0 >>= (w2c_j1 & 63);
+    w2c_j1 = 1016ull;
+    w2c_j0 &= w2c_j1;
+    w2c_l14 = w2c_j0;
+    w2c_j1 = 66976ull;
+    w2c_j0 += w2c_j1;
+    w2c_i0 = (u32)(w2c_j0);
+    w2c_i0 = i32_load(m, (u64)(w2c_i0));
+    w2c_i1 = w2c_p4;
+    w2c_i0 = w2c_i0 == w2c_i1;
+    if (w2c_i0) {goto w2c_B14;}
+    goto w2c_B12;
+    w2c_B16:;
+    w2c_j0 = w2c_p2;
+    w2c_i0 = !(w2c_j0);
+    if (w2c_i0) {goto w2c_B6;}
+    w2c_B15:;
+    w2c_i0 = 0u;
+    w2c_p4 = w2c_i0;
+    w2c_j0 = w2c_l12;
+    w2c_j1 = w2c_p2;
+    w2c_j2 = 18446744073709551615ull;
+    w2c_j1 += w2c_j2;
+    w2c_l13 = w2c_j1;
+    w2c_j0 += w2c_j1;
+    w2c_i0 = (u32)(w2c_j0);
+    w2c_i0 = i32_load8_s(m, (u64)(w2c_i0));
+    w2c_p3 = w2c_i0;
+    w2c_i1 = 0u;
+    w2c_i0 = (u32)((s32)w2c_i0 >= (s32)w2c_i1);
+    if (w2c_i0) {goto w2c_B13;}
+    w2c_j0 = 18446744073709551614ull;
+    w2c_l13 = w2c_j0;
+    w2c_j0 = w2c_l12;
+    w2c_j1 = w2c_p2;
+    w2c_j0 += w2c_j1;
+    w2c_l14 = w2c_j0;
+    w2c_j1 = 18446744073709551614ull;
+    w2c_j0 += w2c_j1;
+    w2c_i0 = (u32)(w2c_j0);
+    w2c_i0 = i32_load8_u(m, (u64)(w2c_i0));
+    w2c_i1 = 191u;
+    w2c_i0 = w2c_i0 > w2c_i1;
+    if (w2c_i0) {goto w2c_B17;}
+    w2c_j0 = 18446744073709551613ull;
+    w2c_j1 = 18446744073709551612ull;
+    w2c_j2 = w2c_l14;
+    w2c_j3 = 18446744073709551613ull;
+    w2c_j2 += w2c_j3;
+    w2c_i2 = (u32)(w2c_j2);
+    w2c_i2 = i32_load8_u(m, (u64)(w2c_i2));
+    w2c_i3 = 191u;
+    w2c_i2 = w2c_i2 > w2c_i3;
+    w2c_j0 = w2c_i2 ? w2c_j0 : w2c_j1;
+    w2c_l13 = w2c_j0;
+    w2c_B17:;
+    w2c_j0 = w2c_l12;
+    w2c_j1 = w2c_l13;
+    w2c_j2 = w2c_p2;
+    w2c_j1 += w2c_j2;
+    w2c_l13 = w2c_j1;
+    w2c_j0 += w2c_j1;
+    w2c_l14 = w2c_j0;
+    w2c_i0 = (u32)(w2c_j0);
+    w2c_i0 = i32_load8_s(m, (u64)(w2c_i0));
+    w2c_l17 = w2c_i0;
+    w2c_i1 = 255u;
+    w2c_i0 &= w2c_i1;
+    w2c_p3 = w2c_i0;
+    w2c_i0 = w2c_l17;
+    w2c_i1 = 4294967295u;
+    w2c_i0 = (u32)((s32)w2c_i0 > (s32)w2c_i1);
+    if (w2c_i0) {goto w2c_B13;}
+    w2c_j0 = w2c_l14;
+    w2c_i0 = (u32)(w2c_j0);
+    w2c_i0 = i32_load8_u(m, (u64)(w2c_i0) + 1u);
+    w2c_i1 = 63u;
+    w2c_i0 &= w2c_i1;
+    w2c_l18 = w2c_i0;
+    w2c_i0 = w2c_l17;
+    w2c_i1 = 4294967263u;
+    w2c_i0 = w2c_i0 > w2c_i1;
+    if (w2c_i0) {goto w2c_B18;}
+    w2c_i0 = w2c_p3;
+    w2c_i1 = 6u;
+    w2c_i0 <<= (w2c_i1 & 31);
+    w2c_i1 = 1984u;
+    w2c_i0 &= w2c_i1;
+    w2c_i1 = w2c_l18;
+    w2c_i0 |= w2c_i1;
+    w2c_p3 = w2c_i0;
+    goto w2c_B13;
+    w2c_B18:;
+    w2c_j0 = w2c_l14;
+    w2c_i0 = (u32)(w2c_j0);
+    w2c_i0 = i32_load8_u(m, (u64)(w2c_i0) + 2u);
+    w2c_i1 = 63u;
+    w2c_i0 &= w2c_i1;
+    w2c_l19 = w2c_i0;
+    w2c_i0 = w2c_l17;
+    w2c_i1 = 4294967279u;
+    w2c_i0 = w2c_i0 > w2c_i1;
+    if (w2c_i0) {goto w2c_B20;}
+    w2c_i0 = w2c_l18;
+    w2c_i1 = 6u;
+    w2c_i0 <<= (w2c_i1 & 31);
+    w2c_i1 = w2c_p3;
+    w2c_i2 = 12u;
+    w2c_i1 <<= (w2c_i2 & 31);
+    w2c_i2 = 61440u;
+    w2c_i1 &= w2c_i2;
+    w2c_i0 |= w2c_i1;
+    w2c_i1 = w2c_l19;
+    w2c_i0 |= w2c_i1;
+    w2c_p3 = w2c_i0;
+    goto w2c_B19;
+    w2c_B20:;
+    w2c_i0 = w2c_l19;
+    w2c_i1 = 6u;
+    w2c_i0 <<= (w2c_i1 & 31);
+    w2c_i1 = w2c_l18;
+    w2c_i2 = 12u;
+    w2c_i1 <<= (w2c_i2 & 31);
+    w2c_i2 = w2c_p3;
+    w2c_i3 = 18u;
+    w2c_i2 <<= (w2c_i3 & 31);
+    w2c_i3 = 1835008u;
+    w2c_i2 &= w2c_i3;
+    w2c_i1 |= w2c_i2;
+    w2c_i0 |= w2c_i1;
+    w2c_j1 = w2c_l14;
+    w2c_i1 = (u32)(w2c_j1);
+    w2c_i1 = i32_load8_u(m, (u64)(w2c_i1) + 3u);
+    w2c_i2 = 63u;
+    w2c_i1 &= w2c_i2;
+    w2c_i0 |= w2c_i1;
+    w2c_p3 = w2c_i0;
+    w2c_B19:;
+    w2c_i0 = w2c_p3;
+    w2c_i1 = 4294965248u;
+    w2c_i0 += w2c_i1;
+    w2c_i1 = 63487u;
+    w2c_i0 = w2c_i0 > w2c_i1;
+    if (w2c_i0) {goto w2c_B13;}
+    w2c_i0 = w2c_p3;
+    w2c_i1 = 12u;
+    w2c_i0 >>= (w2c_i1 & 31);
+    w2c_i1 = w2c_p3;
+    w2c_i2 = 2u;
+    w2c_i1 <<= (w2c_i2 & 31);
+    w2c_i2 = 16128u;
+    w2c_i1 &= w2c_i2;
+    w2c_i0 |= w2c_i1;
+    w2c_i1 = w2c_p3;
+    w2c_i2 = 16u;
+    w2c_i1 <<= (w2c_i2 & 31);
+    w2c_i2 = 4128768u;
+    w2c_i1 &= w2c_i2;
+    w2c_i0 |= w2c_i1;
+    w2c_i1 = 8421600u;
+    w2c_i0 |= w2c_i1;
+    w2c_p4 = w2c_i0;
+    w2c_j0 = (u64)(w2c_i0);
+    w2c_j1 = 953497ull;
+    w2c_j0 *= w2c_j1;
+    w2c_j1 = 22ull;
+    w2c_j0 >>= (w2c_j1 & 63);
+    w2c_j1 = 1016ull;
+    w2c_j0 &= w2c_j1;
+    w2c_l14 = w2c_j0;
+    w2c_j1 = 66976ull;
+    w2c_j0 += w2c_j1;
+    w2c_i0 = (u32)(w2c_j0);
+    w2c_i0 = i32_load(m, (u64)(w2c_i0));
+    w2c_i1 = w2c_p4;
+    w2c_i0 = w2c_i0 != w2c_i1;
+    if (w2c_i0) {goto w2c_B11;}
+    w2c_B14:;
+    w2c_j0 = w2c_l14;
+    w2c_j1 = 66980ull;
+    w2c_j0 += w2c_j1;
+    w2c_i0 = (u32)(w2c_j0);
+    w2c_i0 = i32_load8_u(m, (u64)(w2c_i0));
+    if (w2c_i0) {goto w2c_B12;}
+    goto w2c_B8;
+    w2c_B13:;
+    w2c_i0 = w2c_p3;
+    w2c_i1 = 4294967248u;
+    w2c_i0 += w2c_i1;
+    w2c_i1 = 10u;
+    w2c_i0 = w2c_i0 < w2c_i1;
+    if (w2c_i0) {goto w2c_B7;}
+    w2c_B12:;
+    w2c_i0 = w2c_p3;
+    w2c_i1 = 127u;
+    w2c_i0 = w2c_i0 > w2c_i1;
+    if (w2c_i0) {goto w2c_B11;}
+    w2c_i0 = 1u;
+    w2c_l19 = w2c_i0;
+    w2c_i0 = 0u;
+    w2c_p4 = w2c_i0;
+    w2c_i0 = w2c_p3;
+    w2c_i1 = 95u;
+    w2c_i0 = w2c_i0 == w2c_i1;
+    if (w2c_i0) {goto w2c_B4;}
+    w2c_i0 = w2c_p3;
+    w2c_i1 = 4294967252u;
+    w2c_i0 += w2c_i1;
+    w2c_i1 = 3u;
+    w2c_i0 = w2c_i0 < w2c_i1;
+    if (w2c_i0) {goto w2c_B10;}
+    w2c_i0 = w2c_p3;
+    w2c_i1 = 4294967248u;
+    w2c_i0 += w2c_i1;
+    w2c_i1 = 10u;
+    w2c_i0 = w2c_i0 < w2c_i1;
+    if (w2c_i0) {goto w2c_B4;}
+    w2c_i0 = w2c_p3;
+    w2c_i1 = 95u;
+    w2c_i0 &= w2c_i1;
+    w2c_i1 = 4294967231u;
+    w2c_i0 += w2c_i1;
+    w2c_i1 = 26u;
+    w2c_i0 = w2c_i0 >= w2c_i1;
+    if (w2c_i0) {goto w2c_B6;}
+    goto w2c_B4;
+    w2c_B11:;
+    w2c_i0 = 0u;
+    w2c_l19 = w2c_i0;
+    w2c_i0 = 1u;
+    w2c_p4 = w2c_i0;
+    w2c_i0 = w2c_p3;
+    w2c_i1 = 24318u;
+    w2c_i0 = (u32)((s32)w2c_i0 > (s32)w2c_i1);
+    if (w2c_i0) {goto w2c_B22;}
+    w2c_i0 = w2c_p3;
+    w2c_i1 = 21316u;
+    w2c_i0 = (u32)((s32)w2c_i0 > (s32)w2c_i1);
+    if (w2c_i0) {goto w2c_B23;}
+    w2c_i0 = w2c_p3;
+    w2c_i1 = 20313u;
+    w2c_i0 = w2c_i0 == w2c_i1;
+    if (w2c_i0) {goto w2c_B6;}
+    w2c_i0 = w2c_p3;
+    w2c_i1 = 20358u;
+    w2c_i0 = w2c_i0 == w2c_i1;
+    if (w2c_i0) {goto w2c_B6;}
+    w2c_i0 = w2c_p3;
+    w2c_i1 = 20960u;
+    w2c_i0 = w2c_i0 != w2c_i1;
+    if (w2c_i0) {goto w2c_B9;}
+    goto w2c_B4;
+    w2c_B23:;
+    w2c_i0 = w2c_p3;
+    w2c_i1 = 4294945979u;
+    w2c_i0 += w2c_i1;
+    switch (w2c_i0) {
+      case 0: goto w2c_B8;
+      case 1: goto w2c_B9;
+      case 2: goto w2c_B9;
+      case 3: goto w2c_B9;
+      case 4: goto w2c_B9;
+      case 5: goto w2c_B9;
+      case 6: goto w2c_B9;
+      case 7: goto w2c_B8;
+      default: goto w2c_B24;
+    }
+    w2c_B24:;
+    w2c_i0 = w2c_p3;
+    w2c_i1 = 4294943110u;
+    w2c_i0 += w2c_i1;
+    switch (w2c_i0) {
+      case 0: goto w2c_B8;
+      case 1: goto w2c_B9;
+      case 2: goto w2c_B9;
+      case 3: goto w2c_B9;
+      case 4: goto w2c_B4;
+      default: goto w2c_B21;
+    }
+    w2c_B22:;
+    w2c_i0 = w2c_p3;
+    w2c_i1 = 28856u;
+    w2c_i0 = (u32)((s32)w2c_i0 > (s32)w2c_i1);
+    if (w2c_i0) {goto w2c_B25;}
+    w2c_i0 = w2c_p3;
+    w2c_i1 = 4294941328u;
+    w2c_i0 += w2c_i1;
+    switch (w2c_i0) {
+      case 0: goto w2c_B4;
+      case 1: goto w2c_B9;
+      case 2: goto w2c_B9;
+      case 3: goto w2c_B9;
+      case 4: goto w2c_B9;
+      case 5: goto w2c_B9;
+      case 6: goto w2c_B9;
+      case 7: goto w2c_B9;
+      case 8: goto w2c_B4;
+      default: goto w2c_B26;
+    }
+    w2c_B26:;
+    w2c_i0 = w2c_p3;
+    w2c_i1 = 24319u;
+    w2c_i0 = w2c_i0 == w2c_i1;
+    if (w2c_i0) {goto w2c_B8;}
+    w2c_i0 = w2c_p3;
+    w2c_i1 = 26469u;
+    w2c_i0 = w2c_i0 == w2c_i1;
+    if (w2c_i0) {goto w2c_B6;}
+    goto w2c_B9;
+    w2c_B25:;
+    w2c_i0 = w2c_p3;
+    w2c_i1 = 28857u;
+    w2c_i0 = w2c_i0 == w2c_i1;
+    if (w2c_i0) {goto w2c_B10;}
+    w2c_i0 = w2c_p3;
+    w2c_i1 = 39192u;
+    w2c_i0 = w2c_i0 == w2c_i1;
+    if (w2c_i0) {goto w2c_B6;}
+    w2c_i0 = w2c_p3;
+    w2c_i1 = 40670u;
+    w2c_i0 = w2c_i0 == w2c_i1;
+    if (w2c_i0) {goto w2c_B10;}
+    goto w2c_B9;
+    w2c_B21:;
+    w2c_i0 = w2c_p3;
+    w2c_i1 = 22810u;
+    w2c_i0 = w2c_i0 == w2c_i1;
+    if (w2c_i0) {goto w2c_B6;}
+    goto w2c_B9;
+    w2c_B10:;
+    w2c_j0 = w2c_l13;
+    w2c_j1 = 3ull;
+    w2c_i0 = w2c_j0 < w2c_j1;
+    if (w2c_i0) {goto w2c_B32;}
+    w2c_j0 = w2c_l12;
+    w2c_j1 = w2c_l13;
+    w2c_j0 += w2c_j1;
+    w2c_l14 = w2c_j0;
+    w2c_j1 = 18446744073709551613ull;
+    w2c_j0 += w2c_j1;
+    w2c_i0 = (u32)(w2c_j0);
+    w2c_i0 = i32_load8_u(m, (u64)(w2c_i0));
+    w2c_p4 = w2c_i0;
+    w2c_i1 = 240u;
+    w2c_i0 &= w2c_i1;
+    w2c_i1 = 224u;
+    w2c_i0 = w2c_i0 != w2c_i1;
+    if (w2c_i0) {goto w2c_B31;}
+    w2c_i0 = w2c_p4;
+    w2c_i1 = 12u;
+    w2c_i0 <<= (w2c_i1 & 31);
+    w2c_j1 = w2c_l14;
+    w2c_j2 = 18446744073709551614ull;
+    w2c_j1 += w2c_j2;
+    w2c_i1 = (u32)(w2c_j1);
+    w2c_i1 = i32_load8_u(m, (u64)(w2c_i1));
+    w2c_l17 = w2c_i1;
+    w2c_i2 = 6u;
+    w2c_i1 <<= (w2c_i2 & 31);
+    w2c_i0 += w2c_i1;
+    w2c_j1 = w2c_l14;
+    w2c_j2 = 18446744073709551615ull;
+    w2c_j1 += w2c_j2;
+    w2c_i1 = (u32)(w2c_j1);
+    w2c_i1 = i32_load8_u(m, (u64)(w2c_i1));
+    w2c_l18 = w2c_i1;
+    w2c_i0 += w2c_i1;
+    w2c_i1 = 4294041472u;
+    w2c_i0 += w2c_i1;
+    w2c_p3 = w2c_i0;
+    w2c_i0 = w2c_l17;
+    w2c_i1 = 8u;
+    w2c_i0 <<= (w2c_i1 & 31);
+    w2c_i1 = w2c_l18;
+    w2c_i2 = 16u;
+    w2c_i1 <<= (w2c_i2 & 31);
+    w2c_i0 |= w2c_i1;
+    w2c_i1 = w2c_p4;
+    w2c_i0 |= w2c_i1;
+    w2c_p4 = w2c_i0;
+    w2c_j0 = (u64)(w2c_i0);
+    w2c_j1 = 953497ull;
+    w2c_j0 *= w2c_j1;
+    w2c_j1 = 22ull;
+    w2c_j0 >>= (w2c_j1 & 63);
+    w2c_j1 = 1016ull;
+    w2c_j0 &= w2c_j1;
+    w2c_l12 = w2c_j0;
+    w2c_j1 = 66976ull;
+    w2c_j0 += w2c_j1;
+    w2c_i0 = (u32)(w2c_j0);
+    w2c_i0 = i32_load(m, (u64)(w2c_i0));
+    w2c_i1 = w2c_p4;
+    w2c_i0 = w2c_i0 == w2c_i1;
+    if (w2c_i0) {goto w2c_B30;}
+    goto w2c_B28;
+    w2c_B32:;
+    w2c_j0 = w2c_l13;
+    w2c_i0 = !(w2c_j0);
+    if (w2c_i0) {goto w2c_B6;}
+    w2c_B31:;
+    w2c_i0 = 0u;
+    w2c_p4 = w2c_i0;
+    w2c_j0 = w2c_l12;
+    w2c_j1 = w2c_l13;
+    w2c_j0 += w2c_j1;
+    w2c_l14 = w2c_j0;
+    w2c_j1 = 18446744073709551615ull;
+    w2c_j0 += w2c_j1;
+    w2c_i0 = (u32)(w2c_j0);
+    w2c_i0 = i32_load8_s(m, (u64)(w2c_i0));
+    w2c_p3 = w2c_i0;
+    w2c_i1 = 0u;
+    w2c_i0 = (u32)((s32)w2c_i0 >= (s32)w2c_i1);
+    if (w2c_i0) {goto w2c_B29;}
+    w2c_j0 = 18446744073709551614ull;
+    w2c_l15 = w2c_j0;
+    w2c_j0 = w2c_l14;
+    w2c_j1 = 18446744073709551614ull;
+    w2c_j0 += w2c_j1;
+    w2c_i0 = (u32)(w2c_j0);
+    w2c_i0 = i32_load8_u(m, (u64)(w2c_i0));
+    w2c_i1 = 191u;
+    w2c_i0 = w2c_i0 > w2c_i1;
+    if (w2c_i0) {goto w2c_B33;}
+    w2c_j0 = 18446744073709551613ull;
+    w2c_j1 = 18446744073709551612ull;
+    w2c_j2 = w2c_l14;
+    w2c_j3 = 18446744073709551613ull;
+    w2c_j2 += w2c_j3;
+    w2c_i2 = (u32)(w2c_j2);
+    w2c_i2 = i32_load8_u(m, (u64)(w2c_i2));
+    w2c_i3 = 191u;
+    w2c_i2 = w2c_i2 > w2c_i3;
+    w2c_j0 = w2c_i2 ? w2c_j0 : w2c_j1;
+    w2c_l15 = w2c_j0;
+    w2c_B33:;
+    w2c_j0 = w2c_l12;
+    w2c_j1 = w2c_l15;
+    w2c_j0 += w2c_j1;
+    w2c_j1 = w2c_l13;
+    w2c_j0 += w2c_j1;
+    w2c_l12 = w2c_j0;
+    w2c_i0 = (u32)(w2c_j0);
+    w2c_i0 = i32_load8_s(m, (u64)(w2c_i0));
+    w2c_l17 = w2c_i0;
+    w2c_i1 = 255u;
+    w2c_i0 &= w2c_i1;
+    w2c_p3 = w2c_i0;
+    w2c_i0 = w2c_l17;
+    w2c_i1 = 4294967295u;
+    w2c_i0 = (u32)((s32)w2c_i0 > (s32)w2c_i1);
+    if (w2c_i0) {goto w2c_B29;}
+    w2c_j0 = w2c_l12;
+    w2c_i0 = (u32)(w2c_j0);
+    w2c_i0 = i32_load8_u(m, (u64)(w2c_i0) + 1u);
+    w2c_i1 = 63u;
+    w2c_i0 &= w2c_i1;
+    w2c_l18 = w2c_i0;
+    w2c_i0 = w2c_l17;
+    w2c_i1 = 4294967263u;
+    w2c_i0 = w2c_i0 > w2c_i1;
+    if (w2c_i0) {goto w2c_B34;}
+    w2c_i0 = w2c_p3;
+    w2c_i1 = 6u;
+    w2c_i0 <<= (w2c_i1 & 31);
+    w2c_i1 = 1984u;
+    w2c_i0 &= w2c_i1;
+    w2c_i1 = w2c_l18;
+    w2c_i0 |= w2c_i1;
+    w2c_p3 = w2c_i0;
+    goto w2c_B29;
+    w2c_B34:;
+    w2c_j0 = w2c_l12;
+    w2c_i0 = (u32)(w2c_j0);
+    w2c_i0 = i32_load8_u(m, (u64)(w2c_i0) + 2u);
+    w2c_i1 = 63u;
+    w2c_i0 &= w2c_i1;
+    w2c_l19 = w2c_i0;
+    w2c_i0 = w2c_l17;
+    w2c_i1 = 4294967279u;
+    w2c_i0 = w2c_i0 > w2c_i1;
+    if (w2c_i0) {goto w2c_B36;}
+    w2c_i0 = w2c_l18;
+    w2c_i1 = 6u;
+    w2c_i0 <<= (w2c_i1 & 31);
+    w2c_i1 = w2c_p3;
+    w2c_i2 = 12u;
+    w2c_i1 <<= (w2c_i2 & 31);
+    w2c_i2 = 61440u;
+    w2c_i1 &= w2c_i2;
+    w2c_i0 |= w2c_i1;
+    w2c_i1 = w2c_l19;
+    w2c_i0 |= w2c_i1;
+    w2c_p3 = w2c_i0;
+    goto w2c_B35;
+    w2c_B36:;
+    w2c_i0 = w2c_l19;
+    w2c_i1 = 6u;
+    w2c_i0 <<= (w2c_i1 & 31);
+    w2c_i1 = w2c_l18;
+    w2c_i2 = 12u;
+    w2c_i1 <<= (w2c_i2 & 31);
+    w2c_i2 = w2c_p3;
+    w2c_i3 = 18u;
+    w2c_i2 <<= (w2c_i3 & 31);
+    w2c_i3 = 1835008u;
+    w2c_i2 &= w2c_i3;
+    w2c_i1 |= w2c_i2;
+    w2c_i0 |= w2c_i1;
+    w2c_j1 = w2c_l12;
+    w2c_i1 = (u32)(w2c_j1);
+    w2c_i1 = i32_load8_u(m, (u64)(w2c_i1) + 3u);
+    w2c_i2 = 63u;
+    w2c_i1 &= w2c_i2;
+    w2c_i0 |= w2c_i1;
+    w2c_p3 = w2c_i0;
+    w2c_B35:;
+    w2c_i0 = w2c_p3;
+    w2c_i1 = 4294965248u;
+    w2c_i0 += w2c_i1;
+    w2c_i1 = 63487u;
+    w2c_i0 = w2c_i0 > w2c_i1;
+    if (w2c_i0) {goto w2c_B29;}
+    w2c_i0 = w2c_p3;
+    w2c_i1 = 12u;
+    w2c_i0 >>= (w2c_i1 & 31);
+    w2c_i1 = w2c_p3;
+    w2c_i2 = 2u;
+    w2c_i1 <<= (w2c_i2 & 31);
+    w2c_i2 = 16128u;
+    w2c_i1 &= w2c_i2;
+    w2c_i0 |= w2c_i1;
+    w2c_i1 = w2c_p3;
+    w2c_i2 = 16u;
+    w2c_i1 <<= (w2c_i2 & 31);
+    w2c_i2 = 4128768u;
+    w2c_i1 &= w2c_i2;
+    w2c_i0 |= w2c_i1;
+    w2c_i1 = 8421600u;
+    w2c_i0 |= w2c_i1;
+    w2c_p4 = w2c_i0;
+    w2c_j0 = (u64)(w2c_i0);
+    w2c_j1 = 953497ull;
+    w2c_j0 *= w2c_j1;
+    w2c_j1 = 22ull;
+    w2c_j0 >>= (w2c_j1 & 63);
+    w2c_j1 = 1016ull;
+    w2c_j0 &= w2c_j1;
+    w2c_l12 = w2c_j0;
+    w2c_j1 = 66976ull;
+    w2c_j0 += w2c_j1;
+    w2c_i0 = (u32)(w2c_j0);
+    w2c_i0 = i32_load(m, (u64)(w2c_i0));
+    w2c_i1 = w2c_p4;
+    w2c_i0 = w2c_i0 != w2c_i1;
+    if (w2c_i0) {goto w2c_B27;}
+    w2c_B30:;
+    w2c_j0 = w2c_l12;
+    w2c_j1 = 66980ull;
+    w2c_j0 += w2c_j1;
+    w2c_i0 = (u32)(w2c_j0);
+    w2c_i0 = i32_load8_u(m, (u64)(w2c_i0));
+    w2c_i1 = 2u;
+    w2c_i0 = w2c_i0 != w2c_i1;
+    if (w2c_i0) {goto w2c_B8;}
+    goto w2c_B28;
+    w2c_B29:;
+    w2c_i0 = w2c_p3;
+    w2c_i1 = 4294967248u;
+    w2c_i0 += w2c_i1;
+    w2c_i1 = 10u;
+    w2c_i0 = w2c_i0 < w2c_i1;
+    if (w2c_i0) {goto w2c_B7;}
+    w2c_B28:;
+    w2c_i0 = w2c_p3;
+    w2c_i1 = 127u;
+    w2c_i0 = w2c_i0 > w2c_i1;
+    if (w2c_i0) {goto w2c_B27;}
+    w2c_i0 = w2c_p3;
+    w2c_i1 = 95u;
+    w2c_i0 = w2c_i0 == w2c_i1;
+    if (w2c_i0) {goto w2c_B8;}
+    w2c_i0 = 0u;
+    w2c_p4 = w2c_i0;
+    w2c_i0 = w2c_p3;
+    w2c_i1 = 4294967252u;
+    w2c_i0 += w2c_i1;
+    w2c_i1 = 3u;
+    w2c_i0 = w2c_i0 < w2c_i1;
+    if (w2c_i0) {goto w2c_B5;}
+    w2c_i0 = w2c_p3;
+    w2c_i1 = 4294967248u;
+    w2c_i0 += w2c_i1;
+    w2c_i1 = 10u;
+    w2c_i0 = w2c_i0 < w2c_i1;
+    w2c_i1 = w2c_p3;
+    w2c_i2 = 95u;
+    w2c_i1 &= w2c_i2;
+    w2c_i2 = 4294967231u;
+    w2c_i1 += w2c_i2;
+    w2c_i2 = 26u;
+    w2c_i1 = w2c_i1 < w2c_i2;
+    w2c_i0 |= w2c_i1;
+    w2c_l19 = w2c_i0;
+    goto w2c_B4;
+    w2c_B27:;
+    w2c_i0 = 0u;
+    w2c_p4 = w2c_i0;
+    w2c_i0 = w2c_p3;
+    w2c_i1 = 24318u;
+    w2c_i0 = (u32)((s32)w2c_i0 > (s32)w2c_i1);
+    if (w2c_i0) {goto w2c_B38;}
+    w2c_i0 = w2c_p3;
+    w2c_i1 = 21316u;
+    w2c_i0 = (u32)((s32)w2c_i0 > (s32)w2c_i1);
+    if (w2c_i0) {goto w2c_B39;}
+    w2c_i0 = w2c_p3;
+    w2c_i1 = 20313u;
+    w2c_i0 = w2c_i0 == w2c_i1;
+    if (w2c_i0) {goto w2c_B5;}
+    w2c_i0 = w2c_p3;
+    w2c_i1 = 20358u;
+    w2c_i0 = w2c_i0 == w2c_i1;
+    if (w2c_i0) {goto w2c_B5;}
+    w2c_i0 = w2c_p3;
+    w2c_i1 = 20960u;
+    w2c_i0 = w2c_i0 != w2c_i1;
+    if (w2c_i0) {goto w2c_B37;}
+    goto w2c_B5;
+    w2c_B39:;
+    w2c_i0 = w2c_p3;
+    w2c_i1 = 4294945979u;
+    w2c_i0 += w2c_i1;
+    switch (w2c_i0) {
+      case 0: goto w2c_B7;
+      case 1: goto w2c_B37;
+      case 2: goto w2c_B37;
+      case 3: goto w2c_B37;
+      case 4: goto w2c_B37;
+      case 5: goto w2c_B37;
+      case 6: goto w2c_B37;
+      case 7: goto w2c_B7;
+      default: goto w2c_B40;
+    }
+    w2c_B40:;
+    w2c_i0 = 0u;
+    w2c_l19 = w2c_i0;
+    w2c_i0 = w2c_p3;
+    w2c_i1 = 4294943110u;
+    w2c_i0 += w2c_i1;
+    switch (w2c_i0) {
+      case 0: goto w2c_B7;
+      case 1: goto w2c_B37;
+      case 2: goto w2c_B37;
+      case 3: goto w2c_B37;
+      case 4: goto w2c_B4;
+      default: goto w2c_B41;
+    }
+    w2c_B41:;
+    w2c_i0 = w2c_p3;
+    w2c_i1 = 22810u;
+    w2c_i0 = w2c_i0 != w2c_i1;
+    if (w2c_i0) {goto w2c_B37;}
+    goto w2c_B5;
+    w2c_B38:;
+    w2c_i0 = w2c_p3;
+    w2c_i1 = 28856u;
+    w2c_i0 = (u32)((s32)w2c_i0 > (s32)w2c_i1);
+    if (w2c_i0) {goto w2c_B42;}
+    w2c_i0 = 0u;
+    w2c_l19 = w2c_i0;
+    w2c_i0 = w2c_p3;
+    w2c_i1 = 4294941328u;
+    w2c_i0 += w2c_i1;
+    switch (w2c_i0) {
+      case 0: goto w2c_B4;
+      case 1: goto w2c_B37;
+      case 2: goto w2c_B37;
+      case 3: goto w2c_B37;
+      case 4: goto w2c_B37;
+      case 5: goto w2c_B37;
+      case 6: goto w2c_B37;
+      case 7: goto w2c_B37;
+      case 8: goto w2c_B4;
+      default: goto w2c_B43;
+    }
+    w2c_B43:;
+    w2c_i0 = w2c_p3;
+    w2c_i1 = 24319u;
+    w2c_i0 = w2c_i0 == w2c_i1;
+    if (w2c_i0) {goto w2c_B7;}
+    w2c_i0 = w2c_p3;
+    w2c_i1 = 26469u;
+    w2c_i0 = w2c_i0 != w2c_i1;
+    if (w2c_i0) {goto w2c_B37;}
+    goto w2c_B5;
+    w2c_B42:;
+    w2c_i0 = w2c_p3;
+    w2c_i1 = 28857u;
+    w2c_i0 = w2c_i0 == w2c_i1;
+    if (w2c_i0) {goto w2c_B5;}
+    w2c_i0 = w2c_p3;
+    w2c_i1 = 39192u;
+    w2c_i0 = w2c_i0 == w2c_i1;
+    if (w2c_i0) {goto w2c_B5;}
+    w2c_i0 = w2c_p3;
+    w2c_i1 = 40670u;
+    w2c_i0 = w2c_i0 == w2c_i1;
+    if (w2c_i0) {goto w2c_B5;}
+    w2c_B37:;
+    w2c_i0 = w2c_p3;
+    w2c_i1 = 4294902000u;
+    w2c_i0 += w2c_i1;
+    w2c_i1 = 9u;
+    w2c_i0 = w2c_i0 <= w2c_i1;
+    if (w2c_i0) {goto w2c_B7;}
+    goto w2c_B5;
+    w2c_B9:;
+    w2c_i0 = w2c_p3;
+    w2c_i1 = 4294902000u;
+    w2c_i0 += w2c_i1;
+    w2c_i1 = 9u;
+    w2c_i0 = w2c_i0 > w2c_i1;
+    if (w2c_i0) {goto w2c_B6;}
+    w2c_B8:;
+    w2c_i0 = 1u;
+    w2c_l19 = w2c_i0;
+    w2c_i0 = 0u;
+    w2c_p4 = w2c_i0;
+    goto w2c_B4;
+    w2c_B7:;
+    w2c_i0 = 1u;
+    w2c_l19 = w2c_i0;
+    goto w2c_B4;
+    w2c_B6:;
+    w2c_i0 = 0u;
+    w2c_p4 = w2c_i0;
+    w2c_B5:;
+    w2c_i0 = 0u;
+    w2c_l19 = w2c_i0;
+    w2c_B4:;
+    w2c_j0 = w2c_l10;
+    w2c_j1 = 3ull;
+    w2c_i0 = w2c_j0 < w2c_j1;
+    if (w2c_i0) {goto w2c_B52;}
+    w2c_j0 = w2c_l11;
+    w2c_i0 = (u32)(w2c_j0);
+    w2c_i0 = i32_load8_u(m, (u64)(w2c_i0));
+    w2c_p3 = w2c_i0;
+    w2c_i1 = 240u;
+    w2c_i0 &= w2c_i1;
+    w2c_i1 = 224u;
+    w2c_i0 = w2c_i0 != w2c_i1;
+    if (w2c_i0) {goto w2c_B51;}
+    w2c_j0 = w2c_l11;
+    w2c_i0 = (u32)(w2c_j0);
+    w2c_i0 = i32_load8_u(m, (u64)(w2c_i0) + 1u);
+    w2c_l18 = w2c_i0;
+    w2c_i1 = 8u;
+    w2c_i0 <<= (w2c_i1 & 31);
+    w2c_j1 = w2c_l11;
+    w2c_i1 = (u32)(w2c_j1);
+    w2c_i1 = i32_load8_u(m, (u64)(w2c_i1) + 2u);
+    w2c_l20 = w2c_i1;
+    w2c_i2 = 16u;
+    w2c_i1 <<= (w2c_i2 & 31);
+    w2c_i0 |= w2c_i1;
+    w2c_i1 = w2c_p3;
+    w2c_i0 |= w2c_i1;
+    w2c_l17 = w2c_i0;
+    w2c_i0 = w2c_p3;
+    w2c_i1 = 12u;
+    w2c_i0 <<= (w2c_i1 & 31);
+    w2c_i1 = w2c_l18;
+    w2c_i2 = 6u;
+    w2c_i1 <<= (w2c_i2 & 31);
+    w2c_i0 += w2c_i1;
+    w2c_i1 = w2c_l20;
+    w2c_i0 += w2c_i1;
+    w2c_i1 = 4294041472u;
+    w2c_i0 += w2c_i1;
+    w2c_p3 = w2c_i0;
+    w2c_j0 = w2c_l10;
+    w2c_j1 = 18446744073709551613ull;
+    w2c_j0 += w2c_j1;
+    w2c_l10 = w2c_j0;
+    w2c_j0 = w2c_l11;
+    w2c_j1 = 3ull;
+    w2c_j0 += w2c_j1;
+    w2c_l11 = w2c_j0;
+    w2c_i0 = w2c_l17;
+    w2c_i1 = w2c_l17;
+    w2c_j1 = (u64)(w2c_i1);
+    w2c_j2 = 953497ull;
+    w2c_j1 *= w2c_j2;
+    w2c_j2 = 22ull;
+    w2c_j1 >>= (w2c_j2 & 63);
+    w2c_j2 = 1016ull;
+    w2c_j1 &= w2c_j2;
+    w2c_l12 = w2c_j1;
+    w2c_j2 = 66976ull;
+    w2c_j1 += w2c_j2;
+    w2c_i1 = (u32)(w2c_j1);
+    w2c_i1 = i32_load(m, (u64)(w2c_i1));
+    w2c_i0 = w2c_i0 != w2c_i1;
+    if (w2c_i0) {goto w2c_B49;}
+    goto w2c_B50;
+    w2c_B52:;
+    w2c_j0 = w2c_l10;
+    w2c_i0 = !(w2c_j0);
+    if (w2c_i0) {goto w2c_B45;}
+    w2c_j0 = w2c_l11;
+    w2c_i0 = (u32)(w2c_j0);
+    w2c_i0 = i32_load8_u(m, (u64)(w2c_i0));
+    w2c_p3 = w2c_i0;
+    w2c_B51:;
+    w2c_j0 = 1ull;
+    w2c_l12 = w2c_j0;
+    w2c_i0 = w2c_p3;
+    w2c_i0 = (u32)(s32)(s8)(u8)(w2c_i0);
+    w2c_i1 = 4294967295u;
+    w2c_i0 = (u32)((s32)w2c_i0 > (s32)w2c_i1);
+    if (w2c_i0) {goto w2c_B53;}
+    w2c_j0 = w2c_l11;
+    w2c_i0 = (u32)(w2c_j0);
+    w2c_i0 = i32_load8_u(m, (u64)(w2c_i0) + 1u);
+    w2c_i1 = 63u;
+    w2c_i0 &= w2c_i1;
+    w2c_l17 = w2c_i0;
+    w2c_i0 = w2c_p3;
+    w2c_i1 = 223u;
+    w2c_i0 = w2c_i0 > w2c_i1;
+    if (w2c_i0) {goto w2c_B54;}
+    w2c_i0 = w2c_p3;
+    w2c_i1 = 6u;
+    w2c_i0 <<= (w2c_i1 & 31);
+    w2c_i1 = 1984u;
+    w2c_i0 &= w2c_i1;
+    w2c_i1 = w2c_l17;
+    w2c_i0 |= w2c_i1;
+    w2c_p3 = w2c_i0;
+    w2c_j0 = 2ull;
+    w2c_l12 = w2c_j0;
+    goto w2c_B53;
+    w2c_B54:;
+    w2c_j0 = w2c_l11;
+    w2c_i0 = (u32)(w2c_j0);
+    w2c_i0 = i32_load8_u(m, (u64)(w2c_i0) + 2u);
+    w2c_i1 = 63u;
+    w2c_i0 &= w2c_i1;
+    w2c_l18 = w2c_i0;
+    w2c_i0 = w2c_p3;
+    w2c_i1 = 239u;
+    w2c_i0 = w2c_i0 > w2c_i1;
+    if (w2c_i0) {goto w2c_B55;}
+    w2c_i0 = w2c_l17;
+    w2c_i1 = 6u;
+    w2c_i0 <<= (w2c_i1 & 31);
+    w2c_i1 = w2c_p3;
+    w2c_i2 = 12u;
+    w2c_i1 <<= (w2c_i2 & 31);
+    w2c_i2 = 61440u;
+    w2c_i1 &= w2c_i2;
+    w2c_i0 |= w2c_i1;
+    w2c_i1 = w2c_l18;
+    w2c_i0 |= w2c_i1;
+    w2c_p3 = w2c_i0;
+    w2c_j0 = 3ull;
+    w2c_l12 = w2c_j0;
+    goto w2c_B53;
+    w2c_B55:;
+    w2c_i0 = w2c_l18;
+    w2c_i1 = 6u;
+    w2c_i0 <<= (w2c_i1 & 31);
+    w2c_i1 = w2c_l17;
+    w2c_i2 = 12u;
+    w2c_i1 <<= (w2c_i2 & 31);
+    w2c_i2 = w2c_p3;
+    w2c_i3 = 18u;
+    w2c_i2 <<= (w2c_i3 & 31);
+    w2c_i3 = 1835008u;
+    w2c_i2 &= w2c_i3;
+    w2c_i1 |= w2c_i2;
+    w2c_i0 |= w2c_i1;
+    w2c_j1 = w2c_l11;
+    w2c_i1 = (u32)(w2c_j1);
+    w2c_i1 = i32_load8_u(m, (u64)(w2c_i1) + 3u);
+    w2c_i2 = 63u;
+    w2c_i1 &= w2c_i2;
+    w2c_i0 |= w2c_i1;
+    w2c_p3 = w2c_i0;
+    w2c_j0 = 4ull;
+    w2c_l12 = w2c_j0;
+    w2c_B53:;
+    w2c_j0 = w2c_l10;
+    w2c_j1 = w2c_l12;
+    w2c_j0 -= w2c_j1;
+    w2c_l10 = w2c_j0;
+    w2c_j0 = w2c_l11;
+    w2c_j1 = w2c_l12;
+    w2c_j0 += w2c_j1;
+    w2c_l11 = w2c_j0;
+    w2c_i0 = w2c_p3;
+    w2c_i1 = 4294965248u;
+    w2c_i0 += w2c_i1;
+    w2c_i1 = 63487u;
+    w2c_i0 = w2c_i0 > w2c_i1;
+    if (w2c_i0) {goto w2c_B56;}
+    w2c_i0 = w2c_p3;
+    w2c_i1 = 12u;
+    w2c_i0 >>= (w2c_i1 & 31);
+    w2c_i1 = w2c_p3;
+    w2c_i2 = 2u;
+    w2c_i1 <<= (w2c_i2 & 31);
+    w2c_i2 = 16128u;
+    w2c_i1 &= w2c_i2;
+    w2c_i0 |= w2c_i1;
+    w2c_i1 = w2c_p3;
+    w2c_i2 = 16u;
+    w2c_i1 <<= (w2c_i2 & 31);
+    w2c_i2 = 4128768u;
+    w2c_i1 &= w2c_i2;
+    w2c_i0 |= w2c_i1;
+    w2c_i1 = 8421600u;
+    w2c_i0 |= w2c_i1;
+    w2c_l17 = w2c_i0;
+    w2c_j0 = (u64)(w2c_i0);
+    w2c_j1 = 953497ull;
+    w2c_j0 *= w2c_j1;
+    w2c_j1 = 22ull;
+    w2c_j0 >>= (w2c_j1 & 63);
+    w2c_j1 = 1016ull;
+    w2c_j0 &= w2c_j1;
+    w2c_l12 = w2c_j0;
+    w2c_j1 = 66976ull;
+    w2c_j0 += w2c_j1;
+    w2c_i0 = (u32)(w2c_j0);
+    w2c_i0 = i32_load(m, (u64)(w2c_i0));
+    w2c_i1 = w2c_l17;
+    w2c_i0 = w2c_i0 == w2c_i1;
+    if (w2c_i0) {goto w2c_B50;}
+    goto w2c_B48;
+    w2c_B56:;
+    w2c_i0 = w2c_p3;
+    w2c_i1 = 4294967248u;
+    w2c_i0 += w2c_i1;
+    w2c_i1 = 10u;
+    w2c_i0 = w2c_i0 >= w2c_i1;
+    if (w2c_i0) {goto w2c_B49;}
+    goto w2c_B46;
+    w2c_B50:;
+    w2c_j0 = w2c_l12;
+    w2c_j1 = 66980ull;
+    w2c_j0 += w2c_j1;
+    w2c_i0 = (u32)(w2c_j0);
+    w2c_i0 = i32_load8_u(m, (u64)(w2c_i0));
+    w2c_i0 = !(w2c_i0);
+    if (w2c_i0) {goto w2c_B46;}
+    w2c_B49:;
+    w2c_i0 = w2c_p3;
+    w2c_i1 = 127u;
+    w2c_i0 = w2c_i0 > w2c_i1;
+    if (w2c_i0) {goto w2c_B48;}
+    w2c_i0 = 1u;
+    w2c_l17 = w2c_i0;
+    w2c_i0 = 0u;
+    w2c_l18 = w2c_i0;
+    w2c_i0 = w2c_p3;
+    w2c_i1 = 95u;
+    w2c_i0 = w2c_i0 == w2c_i1;
+    if (w2c_i0) {goto w2c_B44;}
+    w2c_i0 = w2c_p3;
+    w2c_i1 = 4294967252u;
+    w2c_i0 += w2c_i1;
+    w2c_i1 = 3u;
+    w2c_i0 = w2c_i0 < w2c_i1;
+    if (w2c_i0) {goto w2c_B47;}
+    w2c_i0 = w2c_p3;
+    w2c_i1 = 4294967248u;
+    w2c_i0 += w2c_i1;
+    w2c_i1 = 10u;
+    w2c_i0 = w2c_i0 < w2c_i1;
+    if (w2c_i0) {goto w2c_B44;}
+    w2c_i0 = w2c_p3;
+    w2c_i1 = 95u;
+    w2c_i0 &= w2c_i1;
+    w2c_i1 = 4294967231u;
+    w2c_i0 += w2c_i1;
+    w2c_i1 = 26u;
+    w2c_i0 = w2c_i0 >= w2c_i1;
+    if (w2c_i0) {goto w2c_B45;}
+    goto w2c_B44;
+    w2c_B48:;
+    w2c_i0 = 0u;
+    w2c_l17 = w2c_i0;
+    w2c_i0 = 1u;
+    w2c_l18 = w2c_i0;
+    w2c_i0 = w2c_p3;
+    w2c_i1 = 24318u;
+    w2c_i0 = (u32)((s32)w2c_i0 > (s32)w2c_i1);
+    if (w2c_i0) {goto w2c_B58;}
+    w2c_i0 = w2c_p3;
+    w2c_i1 = 21316u;
+    w2c_i0 = (u32)((s32)w2c_i0 > (s32)w2c_i1);
+    if (w2c_i0) {goto w2c_B59;}
+    w2c_i0 = w2c_p3;
+    w2c_i1 = 20313u;
+    w2c_i0 = w2c_i0 == w2c_i1;
+    if (w2c_i0) {goto w2c_B44;}
+    w2c_i0 = w2c_p3;
+    w2c_i1 = 20358u;
+    w2c_i0 = w2c_i0 == w2c_i1;
+    if (w2c_i0) {goto w2c_B44;}
+    w2c_i0 = w2c_p3;
+    w2c_i1 = 20960u;
+    w2c_i0 = w2c_i0 != w2c_i1;
+    if (w2c_i0) {goto w2c_B57;}
+    goto w2c_B44;
+    w2c_B59:;
+    w2c_i0 = w2c_p3;
+    w2c_i1 = 4294945979u;
+    w2c_i0 += w2c_i1;
+    switch (w2c_i0) {
+      case 0: goto w2c_B46;
+      case 1: goto w2c_B57;
+      case 2: goto w2c_B57;
+      case 3: goto w2c_B57;
+      case 4: goto w2c_B57;
+      case 5: goto w2c_B57;
+      case 6: goto w2c_B57;
+      case 7: goto w2c_B46;
+      default: goto w2c_B60;
+    }
+    w2c_B60:;
+    w2c_i0 = w2c_p3;
+    w2c_i1 = 4294943110u;
+    w2c_i0 += w2c_i1;
+    switch (w2c_i0) {
+      case 0: goto w2c_B46;
+      case 1: goto w2c_B57;
+      case 2: goto w2c_B57;
+      case 3: goto w2c_B57;
+      case 4: goto w2c_B44;
+      default: goto w2c_B61;
+    }
+    w2c_B61:;
+    w2c_i0 = w2c_p3;
+    w2c_i1 = 22810u;
+    w2c_i0 = w2c_i0 != w2c_i1;
+    if (w2c_i0) {goto w2c_B57;}
+    goto w2c_B44;
+    w2c_B58:;
+    w2c_i0 = w2c_p3;
+    w2c_i1 = 28856u;
+    w2c_i0 = (u32)((s32)w2c_i0 > (s32)w2c_i1);
+    if (w2c_i0) {goto w2c_B62;}
+    w2c_i0 = w2c_p3;
+    w2c_i1 = 4294941328u;
+    w2c_i0 += w2c_i1;
+    switch (w2c_i0) {
+      case 0: goto w2c_B45;
+      case 1: goto w2c_B57;
+      case 2: goto w2c_B57;
+      case 3: goto w2c_B57;
+      case 4: goto w2c_B57;
+      case 5: goto w2c_B57;
+      case 6: goto w2c_B57;
+      case 7: goto w2c_B57;
+      case 8: goto w2c_B45;
+      default: goto w2c_B63;
+    }
+    w2c_B63:;
+    w2c_i0 = w2c_p3;
+    w2c_i1 = 24319u;
+    w2c_i0 = w2c_i0 == w2c_i1;
+    if (w2c_i0) {goto w2c_B46;}
+    w2c_i0 = w2c_p3;
+    w2c_i1 = 26469u;
+    w2c_i0 = w2c_i0 != w2c_i1;
+    if (w2c_i0) {goto w2c_B57;}
+    goto w2c_B44;
+    w2c_B62:;
+    w2c_i0 = w2c_p3;
+    w2c_i1 = 28857u;
+    w2c_i0 = w2c_i0 == w2c_i1;
+    if (w2c_i0) {goto w2c_B47;}
+    w2c_i0 = w2c_p3;
+    w2c_i1 = 39192u;
+    w2c_i0 = w2c_i0 == w2c_i1;
+    if (w2c_i0) {goto w2c_B44;}
+    w2c_i0 = w2c_p3;
+    w2c_i1 = 40670u;
+    w2c_i0 = w2c_i0 == w2c_i1;
+    if (w2c_i0) {goto w2c_B47;}
+    w2c_B57:;
+    w2c_i0 = w2c_p3;
+    w2c_i1 = 4294902000u;
+    w2c_i0 += w2c_i1;
+    w2c_i1 = 9u;
+    w2c_i0 = w2c_i0 > w2c_i1;
+    if (w2c_i0) {goto w2c_B45;}
+    goto w2c_B46;
+    w2c_B47:;
+    w2c_j0 = w2c_l10;
+    w2c_j1 = 3ull;
+    w2c_i0 = w2c_j0 < w2c_j1;
+    if (w2c_i0) {goto w2c_B68;}
+    w2c_j0 = w2c_l11;
+    w2c_i0 = (u32)(w2c_j0);
+    w2c_i0 = i32_load8_u(m, (u64)(w2c_i0) + 1u);
+    w2c_l18 = w2c_i0;
+    w2c_i1 = 8u;
+    w2c_i0 <<= (w2c_i1 & 31);
+    w2c_j1 = w2c_l11;
+    w2c_i1 = (u32)(w2c_j1);
+    w2c_i1 = i32_load8_u(m, (u64)(w2c_i1) + 2u);
+    w2c_l20 = w2c_i1;
+    w2c_i2 = 16u;
+    w2c_i1 <<= (w2c_i2 & 31);
+    w2c_i0 |= w2c_i1;
+    w2c_j1 = w2c_l11;
+    w2c_i1 = (u32)(w2c_j1);
+    w2c_i1 = i32_load8_u(m, (u64)(w2c_i1));
+    w2c_p3 = w2c_i1;
+    w2c_i0 |= w2c_i1;
+    w2c_l17 = w2c_i0;
+    w2c_j0 = (u64)(w2c_i0);
+    w2c_j1 = 953497ull;
+    w2c_j0 *= w2c_j1;
+    w2c_j1 = 22ull;
+    w2c_j0 >>= (w2c_j1 & 63);
+    w2c_j1 = 1016ull;
+    w2c_j0 &= w2c_j1;
+    w2c_l10 = w2c_j0;
+    w2c_j1 = 66976ull;
+    w2c_j0 += w2c_j1;
+    w2c_i0 = (u32)(w2c_j0);
+    w2c_i0 = i32_load(m, (u64)(w2c_i0));
+    w2c_l21 = w2c_i0;
+    w2c_i1 = w2c_l17;
+    w2c_i0 = w2c_i0 != w2c_i1;
+    if (w2c_i0) {goto w2c_B69;}
+    w2c_j0 = w2c_l10;
+    w2c_j1 = 66980ull;
+    w2c_j0 += w2c_j1;
+    w2c_i0 = (u32)(w2c_j0);
+    w2c_i0 = i32_load8_u(m, (u64)(w2c_i0));
+    w2c_i0 = !(w2c_i0);
+    if (w2c_i0) {goto w2c_B46;}
+    w2c_B69:;
+    w2c_i0 = w2c_p3;
+    w2c_i1 = 240u;
+    w2c_i0 &= w2c_i1;
+    w2c_i1 = 224u;
+    w2c_i0 = w2c_i0 != w2c_i1;
+    if (w2c_i0) {goto w2c_B67;}
+    w2c_i0 = w2c_p3;
+    w2c_i1 = 12u;
+    w2c_i0 <<= (w2c_i1 & 31);
+    w2c_i1 = w2c_l18;
+    w2c_i2 = 6u;
+    w2c_i1 <<= (w2c_i2 & 31);
+    w2c_i0 += w2c_i1;
+    w2c_i1 = w2c_l20;
+    w2c_i0 += w2c_i1;
+    w2c_i1 = 4294041472u;
+    w2c_i0 += w2c_i1;
+    w2c_p3 = w2c_i0;
+    w2c_i0 = w2c_l21;
+    w2c_i1 = w2c_l17;
+    w2c_i0 = w2c_i0 != w2c_i1;
+    if (w2c_i0) {goto w2c_B65;}
+    goto w2c_B66;
+    w2c_B68:;
+    w2c_j0 = w2c_l10;
+    w2c_i0 = !(w2c_j0);
+    if (w2c_i0) {goto w2c_B45;}
+    w2c_j0 = w2c_l11;
+    w2c_i0 = (u32)(w2c_j0);
+    w2c_i0 = i32_load8_u(m, (u64)(w2c_i0));
+    w2c_p3 = w2c_i0;
+    w2c_B67:;
+    w2c_i0 = w2c_p3;
+    w2c_i0 = (u32)(s32)(s8)(u8)(w2c_i0);
+    w2c_i1 = 4294967295u;
+    w2c_i0 = (u32)((s32)w2c_i0 > (s32)w2c_i1);
+    if (w2c_i0) {goto w2c_B70;}
+    w2c_j0 = w2c_l11;
+    w2c_i0 = (u32)(w2c_j0);
+    w2c_i0 = i32_load8_u(m, (u64)(w2c_i0) + 1u);
+    w2c_i1 = 63u;
+    w2c_i0 &= w2c_i1;
+    w2c_l17 = w2c_i0;
+    w2c_i0 = w2c_p3;
+    w2c_i1 = 223u;
+    w2c_i0 = w2c_i0 > w2c_i1;
+    if (w2c_i0) {goto w2c_B71;}
+    w2c_i0 = w2c_p3;
+    w2c_i1 = 6u;
+    w2c_i0 <<= (w2c_i1 & 31);
+    w2c_i1 = 1984u;
+    w2c_i0 &= w2c_i1;
+    w2c_i1 = w2c_l17;
+    w2c_i0 |= w2c_i1;
+    w2c_p3 = w2c_i0;
+    goto w2c_B70;
+    w2c_B71:;
+    w2c_j0 = w2c_l11;
+    w2c_i0 = (u32)(w2c_j0);
+    w2c_i0 = i32_load8_u(m, (u64)(w2c_i0) + 2u);
+    w2c_i1 = 63u;
+    w2c_i0 &= w2c_i1;
+    w2c_l18 = w2c_i0;
+    w2c_i0 = w2c_p3;
+    w2c_i1 = 239u;
+    w2c_i0 = w2c_i0 > w2c_i1;
+    if (w2c_i0) {goto w2c_B72;}
+    w2c_i0 = w2c_l17;
+    w2c_i1 = 6u;
+    w2c_i0 <<= (w2c_i1 & 31);
+    w2c_i1 = w2c_p3;
+    w2c_i2 = 12u;
+    w2c_i1 <<= (w2c_i2 & 31);
+    w2c_i2 = 61440u;
+    w2c_i1 &= w2c_i2;
+    w2c_i0 |= w2c_i1;
+    w2c_i1 = w2c_l18;
+    w2c_i0 |= w2c_i1;
+    w2c_p3 = w2c_i0;
+    goto w2c_B70;
+    w2c_B72:;
+    w2c_i0 = w2c_l18;
+    w2c_i1 = 6u;
+    w2c_i0 <<= (w2c_i1 & 31);
+    w2c_i1 = w2c_l17;
+    w2c_i2 = 12u;
+    w2c_i1 <<= (w2c_i2 & 31);
+    w2c_i2 = w2c_p3;
+    w2c_i3 = 18u;
+    w2c_i2 <<= (w2c_i3 & 31);
+    w2c_i3 = 1835008u;
+    w2c_i2 &= w2c_i3;
+    w2c_i1 |= w2c_i2;
+    w2c_i0 |= w2c_i1;
+    w2c_j1 = w2c_l11;
+    w2c_i1 = (u32)(w2c_j1);
+    w2c_i1 = i32_load8_u(m, (u64)(w2c_i1) + 3u);
+    w2c_i2 = 63u;
+    w2c_i1 &= w2c_i2;
+    w2c_i0 |= w2c_i1;
+    w2c_p3 = w2c_i0;
+    w2c_B70:;
+    w2c_i0 = w2c_p3;
+    w2c_i1 = 4294965248u;
+    w2c_i0 += w2c_i1;
+    w2c_i1 = 63487u;
+    w2c_i0 = w2c_i0 > w2c_i1;
+    if (w2c_i0) {goto w2c_B73;}
+    w2c_i0 = w2c_p3;
+    w2c_i1 = 12u;
+    w2c_i0 >>= (w2c_i1 & 31);
+    w2c_i1 = w2c_p3;
+    w2c_i2 = 2u;
+    w2c_i1 <<= (w2c_i2 & 31);
+    w2c_i2 = 16128u;
+    w2c_i1 &= w2c_i2;
+    w2c_i0 |= w2c_i1;
+    w2c_i1 = w2c_p3;
+    w2c_i2 = 16u;
+    w2c_i1 <<= (w2c_i2 & 31);
+    w2c_i2 = 4128768u;
+    w2c_i1 &= w2c_i2;
+    w2c_i0 |= w2c_i1;
+    w2c_i1 = 8421600u;
+    w2c_i0 |= w2c_i1;
+    w2c_l17 = w2c_i0;
+    w2c_j0 = (u64)(w2c_i0);
+    w2c_j1 = 953497ull;
+    w2c_j0 *= w2c_j1;
+    w2c_j1 = 22ull;
+    w2c_j0 >>= (w2c_j1 & 63);
+    w2c_j1 = 1016ull;
+    w2c_j0 &= w2c_j1;
+    w2c_l10 = w2c_j0;
+    w2c_j1 = 66976ull;
+    w2c_j0 += w2c_j1;
+    w2c_i0 = (u32)(w2c_j0);
+    w2c_i0 = i32_load(m, (u64)(w2c_i0));
+    w2c_i1 = w2c_l17;
+    w2c_i0 = w2c_i0 == w2c_i1;
+    if (w2c_i0) {goto w2c_B66;}
+    goto w2c_B64;
+    w2c_B73:;
+    w2c_i0 = w2c_p3;
+    w2c_i1 = 4294967248u;
+    w2c_i0 += w2c_i1;
+    w2c_i1 = 10u;
+    w2c_i0 = w2c_i0 < w2c_i1;
+    if (w2c_i0) {goto w2c_B46;}
+    goto w2c_B65;
+    w2c_B66:;
+    w2c_j0 = w2c_l10;
+    w2c_j1 = 66980ull;
+    w2c_j0 += w2c_j1;
+    w2c_i0 = (u32)(w2c_j0);
+    w2c_i0 = i32_load8_u(m, (u64)(w2c_i0));
+    w2c_i1 = 2u;
+    w2c_i0 = w2c_i0 != w2c_i1;
+    if (w2c_i0) {goto w2c_B46;}
+    w2c_B65:;
+    w2c_i0 = w2c_p3;
+    w2c_i1 = 127u;
+    w2c_i0 = w2c_i0 > w2c_i1;
+    if (w2c_i0) {goto w2c_B64;}
+    w2c_i0 = w2c_p3;
+    w2c_i1 = 95u;
+    w2c_i0 = w2c_i0 == w2c_i1;
+    if (w2c_i0) {goto w2c_B46;}
+    w2c_i0 = 0u;
+    w2c_l18 = w2c_i0;
+    w2c_i0 = w2c_p3;
+    w2c_i1 = 4294967252u;
+    w2c_i0 += w2c_i1;
+    w2c_i1 = 3u;
+    w2c_i0 = w2c_i0 >= w2c_i1;
+    if (w2c_i0) {goto w2c_B74;}
+    w2c_i0 = 0u;
+    w2c_l17 = w2c_i0;
+    goto w2c_B44;
+    w2c_B74:;
+    w2c_i0 = w2c_p3;
+    w2c_i1 = 4294967248u;
+    w2c_i0 += w2c_i1;
+    w2c_i1 = 10u;
+    w2c_i0 = w2c_i0 < w2c_i1;
+    w2c_i1 = w2c_p3;
+    w2c_i2 = 95u;
+    w2c_i1 &= w2c_i2;
+    w2c_i2 = 4294967231u;
+    w2c_i1 += w2c_i2;
+    w2c_i2 = 26u;
+    w2c_i1 = w2c_i1 < w2c_i2;
+    w2c_i0 |= w2c_i1;
+    w2c_l17 = w2c_i0;
+    goto w2c_B44;
+    w2c_B64:;
+    w2c_i0 = 0u;
+    w2c_l18 = w2c_i0;
+    w2c_i0 = w2c_p3;
+    w2c_i1 = 24318u;
+    w2c_i0 = (u32)((s32)w2c_i0 > (s32)w2c_i1);
+    if (w2c_i0) {goto w2c_B77;}
+    w2c_i0 = w2c_p3;
+    w2c_i1 = 21316u;
+    w2c_i0 = (u32)((s32)w2c_i0 > (s32)w2c_i1);
+    if (w2c_i0) {goto w2c_B78;}
+    w2c_i0 = w2c_p3;
+    w2c_i1 = 20313u;
+    w2c_i0 = w2c_i0 != w2c_i1;
+    if (w2c_i0) {goto w2c_B79;}
+    w2c_i0 = 0u;
+    w2c_l17 = w2c_i0;
+    goto w2c_B44;
+    w2c_B79:;
+    w2c_i0 = w2c_p3;
+    w2c_i1 = 20358u;
+    w2c_i0 = w2c_i0 != w2c_i1;
+    if (w2c_i0) {goto w2c_B80;}
+    w2c_i0 = 0u;
+    w2c_l17 = w2c_i0;
+    goto w2c_B44;
+    w2c_B80:;
+    w2c_i0 = w2c_p3;
+    w2c_i1 = 20960u;
+    w2c_i0 = w2c_i0 != w2c_i1;
+    if (w2c_i0) {goto w2c_B76;}
+    w2c_i0 = 0u;
+    w2c_l17 = w2c_i0;
+    goto w2c_B44;
+    w2c_B78:;
+    w2c_i0 = w2c_p3;
+    w2c_i1 = 4294945979u;
+    w2c_i0 += w2c_i1;
+    switch (w2c_i0) {
+      case 0: goto w2c_B75;
+      case 1: goto w2c_B76;
+      case 2: goto w2c_B76;
+      case 3: goto w2c_B76;
+      case 4: goto w2c_B76;
+      case 5: goto w2c_B76;
+      case 6: goto w2c_B76;
+      case 7: goto w2c_B75;
+      default: goto w2c_B81;
+    }
+    w2c_B81:;
+    w2c_i0 = 0u;
+    w2c_l17 = w2c_i0;
+    w2c_i0 = w2c_p3;
+    w2c_i1 = 4294943110u;
+    w2c_i0 += w2c_i1;
+    switch (w2c_i0) {
+      case 0: goto w2c_B75;
+      case 1: goto w2c_B76;
+      case 2: goto w2c_B76;
+      case 3: goto w2c_B76;
+      case 4: goto w2c_B44;
+      default: goto w2c_B82;
+    }
+    w2c_B82:;
+    w2c_i0 = w2c_p3;
+    w2c_i1 = 22810u;
+    w2c_i0 = w2c_i0 != w2c_i1;
+    if (w2c_i0) {goto w2c_B76;}
+    w2c_i0 = 0u;
+    w2c_l17 = w2c_i0;
+    goto w2c_B44;
+    w2c_B77:;
+    w2c_i0 = w2c_p3;
+    w2c_i1 = 28856u;
+    w2c_i0 = (u32)((s32)w2c_i0 > (s32)w2c_i1);
+    if (w2c_i0) {goto w2c_B83;}
+    w2c_i0 = 0u;
+    w2c_l17 = w2c_i0;
+    w2c_i0 = w2c_p3;
+    w2c_i1 = 4294941328u;
+    w2c_i0 += w2c_i1;
+    switch (w2c_i0) {
+      case 0: goto w2c_B44;
+      case 1: goto w2c_B76;
+      case 2: goto w2c_B76;
+      case 3: goto w2c_B76;
+      case 4: goto w2c_B76;
+      case 5: goto w2c_B76;
+      case 6: goto w2c_B76;
+      case 7: goto w2c_B76;
+      case 8: goto w2c_B44;
+      default: goto w2c_B84;
+    }
+    w2c_B84:;
+    w2c_i0 = w2c_p3;
+    w2c_i1 = 24319u;
+    w2c_i0 = w2c_i0 == w2c_i1;
+    if (w2c_i0) {goto w2c_B75;}
+    w2c_i0 = w2c_p3;
+    w2c_i1 = 26469u;
+    w2c_i0 = w2c_i0 != w2c_i1;
+    if (w2c_i0) {goto w2c_B76;}
+    w2c_i0 = 0u;
+    w2c_l17 = w2c_i0;
+    goto w2c_B44;
+    w2c_B83:;
+    w2c_i0 = w2c_p3;
+    w2c_i1 = 28857u;
+    w2c_i0 = w2c_i0 != w2c_i1;
+    if (w2c_i0) {goto w2c_B85;}
+    w2c_i0 = 0u;
+    w2c_l17 = w2c_i0;
+    goto w2c_B44;
+    w2c_B85:;
+    w2c_i0 = w2c_p3;
+    w2c_i1 = 39192u;
+    w2c_i0 = w2c_i0 != w2c_i1;
+    if (w2c_i0) {goto w2c_B86;}
+    w2c_i0 = 0u;
+    w2c_l17 = w2c_i0;
+    goto w2c_B44;
+    w2c_B86:;
+    w2c_i0 = w2c_p3;
+    w2c_i1 = 40670u;
+    w2c_i0 = w2c_i0 != w2c_i1;
+    if (w2c_i0) {goto w2c_B76;}
+    w2c_i0 = 0u;
+    w2c_l17 = w2c_i0;
+    goto w2c_B44;
+    w2c_B76:;
+    w2c_i0 = w2c_p3;
+    w2c_i1 = 4294902000u;
+    w2c_i0 += w2c_i1;
+    w2c_i1 = 9u;
+    w2c_i0 = w2c_i0 <= w2c_i1;
+    if (w2c_i0) {goto w2c_B75;}
+    w2c_i0 = 0u;
+    w2c_l17 = w2c_i0;
+    goto w2c_B44;
+    w2c_B75:;
+    w2c_i0 = 1u;
+    w2c_l17 = w2c_i0;
+    goto w2c_B44;
+    w2c_B46:;
+    w2c_i0 = 1u;
+    w2c_l17 = w2c_i0;
+    w2c_i0 = 0u;
+    w2c_l18 = w2c_i0;
+    goto w2c_B44;
+    w2c_B45:;
+    w2c_i0 = 0u;
+    w2c_l18 = w2c_i0;
+    w2c_i0 = 0u;
+    w2c_l17 = w2c_i0;
+    w2c_B44:;
+    w2c_j0 = w2c_p1;
+    w2c_j1 = w2c_p2;
+    w2c_j0 += w2c_j1;
+    w2c_l11 = w2c_j0;
+    w2c_j0 = w2c_l8;
+    w2c_i0 = (u32)(w2c_j0);
     w2c_i1 = 0u;
     i32_store(m, (u64)(w2c_i0) + 108, w2c_i1);
+    w2c_i0 = w2c_l19;
+    w2c_i1 = w2c_l17;
+    w2c_i0 |= w2c_i1;
+    w2c_p3 = w2c_i0;
+    w2c_j0 = w2c_p1;
+    w2c_j1 = 18446744073709551615ull;
+    w2c_j0 += w2c_j1;
+    w2c_l10 = w2c_j0;
+    w2c_j1 = 2ull;
+    w2c_i0 = w2c_j0 > w2c_j1;
+    if (w2c_i0) {goto w2c_B94;}
+    w2c_j0 = w2c_l10;
+    w2c_i0 = (u32)(w2c_j0);
+    switch (w2c_i0) {
+      case 0: goto w2c_B91;
+      case 1: goto w2c_B94;
+      case 2: goto w2c_B95;
+      default: goto w2c_B91;
+    }
+    w2c_B95:;
+    w2c_j0 = w2c_p0;
+    w2c_i0 = (u32)(w2c_j0);
+    w2c_i0 = i32_load8_u(m, (u64)(w2c_i0) + 1u);
+    w2c_i1 = 8u;
+    w2c_i0 <<= (w2c_i1 & 31);
+    w2c_j1 = w2c_p0;
+    w2c_i1 = (u32)(w2c_j1);
+    w2c_i1 = i32_load8_u(m, (u64)(w2c_i1));
+    w2c_l20 = w2c_i1;
+    w2c_i0 |= w2c_i1;
+    w2c_j1 = w2c_p0;
+    w2c_i1 = (u32)(w2c_j1);
+    w2c_i1 = i32_load8_u(m, (u64)(w2c_i1) + 2u);
+    w2c_i2 = 16u;
+    w2c_i1 <<= (w2c_i2 & 31);
+    w2c_i0 |= w2c_i1;
+    w2c_l17 = w2c_i0;
+    w2c_j0 = (u64)(w2c_i0);
+    w2c_j1 = 953497ull;
+    w2c_j0 *= w2c_j1;
+    w2c_j1 = 22ull;
+    w2c_j0 >>= (w2c_j1 & 63);
+    w2c_j1 = 1016ull;
+    w2c_j0 &= w2c_j1;
+    w2c_l10 = w2c_j0;
+    w2c_j1 = 66976ull;
+    w2c_j0 += w2c_j1;
+    w2c_i0 = (u32)(w2c_j0);
+    w2c_i0 = i32_load(m, (u64)(w2c_i0));
+    w2c_i1 = w2c_l17;
+    w2c_i0 = w2c_i0 != w2c_i1;
+    if (w2c_i0) {goto w2c_B93;}
+    w2c_i0 = 1u;
+    w2c_l17 = w2c_i0;
+    w2c_j0 = w2c_l10;
+    w2c_j1 = 66980ull;
+    w2c_j0 += w2c_j1;
+    w2c_i0 = (u32)(w2c_j0);
+    w2c_i0 = i32_load8_u(m, (u64)(w2c_i0));
+    w2c_l19 = w2c_i0;
+    w2c_i1 = 2u;
+    w2c_i0 = w2c_i0 == w2c_i1;
+    if (w2c_i0) {goto w2c_B93;}
+    goto w2c_B90;
+    w2c_B94:;
+    w2c_j0 = w2c_p1;
+    w2c_j1 = 4ull;
+    w2c_i0 = w2c_j0 > w2c_j1;
+    if (w2c_i0) {goto w2c_B89;}
+    w2c_j0 = w2c_p1;
+    w2c_i0 = !(w2c_j0);
+    if (w2c_i0) {goto w2c_B92;}
+    w2c_j0 = w2c_p0;
+    w2c_i0 = (u32)(w2c_j0);
+    w2c_i0 = i32_load8_u(m, (u64)(w2c_i0));
+    w2c_l20 = w2c_i0;
+    w2c_B93:;
+    w2c_i0 = w2c_l20;
+    w2c_i0 = (u32)(s32)(s8)(u8)(w2c_i0);
+    w2c_i1 = 4294967295u;
+    w2c_i0 = (u32)((s32)w2c_i0 > (s32)w2c_i1);
+    if (w2c_i0) {goto w2c_B89;}
+    w2c_B92:;
     w2c_j0 = w2c_l8;
     w2c_j1 = 108ull;
     w2c_j0 += w2c_j1;
-    w2c_j1 = w2c_l12;
-    w2c_j2 = w2c_p2;
-    w2c_j3 = w2c_l11;
-    w2c_j4 = w2c_p1;
-    w2c_j5 = w2c_l10;
-    w2c_j6 = w2c_p0;
-    w2c_f18(m, w2c_j0, w2c_j1, w2c_j2, w2c_j3, w2c_j4, w2c_j5, w2c_j6);
-    w2c_j0 = w2c_l8;
-    w2c_i0 = (u32)(w2c_j0);
-    w2c_i0 = i32_load8_u(m, (u64)(w2c_i0) + 111u);
-    w2c_p3 = w2c_i0;
+    w2c_j1 = w2c_p0;
+    w2c_j2 = w2c_p1;
+    w2c_f20(m, w2c_j0, w2c_j1, w2c_j2);
     w2c_j0 = w2c_l8;
     w2c_i0 = (u32)(w2c_j0);
     w2c_i0 = i32_load8_u(m, (u64)(w2c_i0) + 108u);
-    w2c_p4 = w2c_i0;
+    w2c_i1 = 1u;
+    w2c_i0 = w2c_i0 != w2c_i1;
+    if (w2c_i0) {goto w2c_B89;}
+    w2c_j0 = w2c_l8;
+    w2c_i0 = (u32)(w2c_j0);
+    w2c_i0 = i32_load8_u(m, (u64)(w2c_i0) + 111u);
+    w2c_l17 = w2c_i0;
     w2c_j0 = w2c_l8;
     w2c_i0 = (u32)(w2c_j0);
     w2c_i0 = i32_load8_u(m, (u64)(w2c_i0) + 109u);
-    w2c_l14 = w2c_i0;
-    w2c_j0 = w2c_l8;
+    w2c_l19 = w2c_i0;
+    goto w2c_B90;
+    w2c_B91:;
+    w2c_i0 = 2u;
+    w2c_i1 = 0u;
+    w2c_j2 = w2c_p0;
+    w2c_i2 = (u32)(w2c_j2);
+    w2c_i2 = i32_load8_u(m, (u64)(w2c_i2));
+    w2c_i3 = 4294967238u;
+    w2c_i2 += w2c_i3;
+    w2c_i3 = 255u;
+    w2c_i2 &= w2c_i3;
+    w2c_i3 = 246u;
+    w2c_i2 = w2c_i2 < w2c_i3;
+    w2c_l17 = w2c_i2;
+    w2c_i0 = w2c_i2 ? w2c_i0 : w2c_i1;
+    w2c_l19 = w2c_i0;
+    w2c_B90:;
+    w2c_i0 = 0u;
+    w2c_i1 = 2u;
+    w2c_i2 = w2c_p3;
+    w2c_i3 = 1u;
+    w2c_i2 &= w2c_i3;
+    w2c_i0 = w2c_i2 ? w2c_i0 : w2c_i1;
+    w2c_i1 = w2c_l19;
+    w2c_i2 = 255u;
+    w2c_i1 &= w2c_i2;
+    w2c_l19 = w2c_i1;
+    w2c_i1 = !(w2c_i1);
+    w2c_i0 |= w2c_i1;
+    w2c_p3 = w2c_i0;
+    w2c_i0 = 8u;
+    w2c_i1 = 0u;
+    w2c_i2 = w2c_l17;
+    w2c_i3 = 1u;
+    w2c_i2 &= w2c_i3;
+    w2c_i0 = w2c_i2 ? w2c_i0 : w2c_i1;
+    w2c_l17 = w2c_i0;
+    w2c_i0 = w2c_l18;
+    w2c_i1 = w2c_p4;
+    w2c_i2 = w2c_l19;
+    w2c_i3 = 1u;
+    w2c_i2 = w2c_i2 == w2c_i3;
+    w2c_i1 &= w2c_i2;
+    w2c_i0 |= w2c_i1;
+    if (w2c_i0) {goto w2c_B88;}
+    goto w2c_B87;
+    w2c_B89:;
+    w2c_j0 = w2c_p0;
+    w2c_j1 = w2c_p1;
+    w2c_i0 = w2c_f21(m, w2c_j0, w2c_j1);
+    w2c_l19 = w2c_i0;
+    w2c_i0 = w2c_p4;
+    w2c_i0 = !(w2c_i0);
+    if (w2c_i0) {goto w2c_B98;}
+    w2c_i0 = w2c_l18;
+    w2c_j1 = w2c_p0;
+    w2c_j2 = w2c_p1;
+    w2c_i1 = w2c_f22(m, w2c_j1, w2c_j2);
+    w2c_i0 |= w2c_i1;
+    if (w2c_i0) {goto w2c_B97;}
+    goto w2c_B96;
+    w2c_B98:;
+    w2c_i0 = w2c_l18;
+    w2c_i0 = !(w2c_i0);
+    if (w2c_i0) {goto w2c_B96;}
+    w2c_B97:;
+    w2c_i0 = 0u;
+    w2c_l17 = w2c_i0;
+    w2c_i0 = 0u;
+    w2c_i1 = 2u;
+    w2c_i2 = w2c_p3;
+    w2c_i3 = 1u;
+    w2c_i2 &= w2c_i3;
+    w2c_i0 = w2c_i2 ? w2c_i0 : w2c_i1;
+    w2c_i1 = w2c_l19;
+    w2c_i0 |= w2c_i1;
+    w2c_p3 = w2c_i0;
+    goto w2c_B88;
+    w2c_B96:;
+    w2c_i0 = 0u;
+    w2c_l17 = w2c_i0;
+    w2c_i0 = 0u;
+    w2c_i1 = 2u;
+    w2c_i2 = w2c_p3;
+    w2c_i3 = 1u;
+    w2c_i2 &= w2c_i3;
+    w2c_i0 = w2c_i2 ? w2c_i0 : w2c_i1;
+    w2c_i1 = w2c_l19;
+    w2c_i0 |= w2c_i1;
+    w2c_p3 = w2c_i0;
+    w2c_j0 = w2c_p0;
+    w2c_j1 = w2c_p1;
+    w2c_i0 = w2c_f23(m, w2c_j0, w2c_j1);
+    w2c_i0 = !(w2c_i0);
+    if (w2c_i0) {goto w2c_B87;}
+    w2c_B88:;
+    w2c_i0 = w2c_p3;
+    w2c_i1 = 4u;
+    w2c_i0 |= w2c_i1;
+    w2c_p3 = w2c_i0;
+    w2c_B87:;
+    w2c_j0 = w2c_p5;
     w2c_i0 = (u32)(w2c_j0);
-    w2c_i0 = i32_load8_u(m, (u64)(w2c_i0) + 110u);
-    w2c_l15 = w2c_i0;
+    w2c_j1 = w2c_p2;
+    i64_store(m, (u64)(w2c_i0), w2c_j1);
     w2c_j0 = w2c_p5;
     w2c_j1 = 20ull;
     w2c_j0 += w2c_j1;
@@ -13338,37 +15733,19 @@ static u32 w2c_f21(module *m, u64 w2c_p0, u64 w2c_p1, u64 w2c_p2, u32 w2c_p3, u3
     w2c_i1 = 0u;
     i32_store(m, (u64)(w2c_i0), w2c_i1);
     w2c_j0 = w2c_p5;
-    w2c_j1 = 8ull;
-    w2c_j0 += w2c_j1;
-    w2c_i0 = (u32)(w2c_j0);
-    w2c_j1 = w2c_p1;
-    w2c_j2 = w2c_p2;
-    w2c_j1 += w2c_j2;
-    i64_store(m, (u64)(w2c_i0), w2c_j1);
-    w2c_j0 = w2c_p5;
-    w2c_i0 = (u32)(w2c_j0);
-    w2c_j1 = w2c_p2;
-    i64_store(m, (u64)(w2c_i0), w2c_j1);
-    w2c_j0 = w2c_p5;
     w2c_j1 = 16ull;
     w2c_j0 += w2c_j1;
     w2c_i0 = (u32)(w2c_j0);
-    w2c_i1 = w2c_p4;
-    w2c_i2 = w2c_l14;
-    w2c_i3 = 1u;
-    w2c_i2 <<= (w2c_i3 & 31);
-    w2c_i1 |= w2c_i2;
-    w2c_i2 = w2c_l15;
-    w2c_i3 = 2u;
-    w2c_i2 <<= (w2c_i3 & 31);
-    w2c_i1 |= w2c_i2;
+    w2c_i1 = w2c_l17;
     w2c_i2 = w2c_p3;
-    w2c_i3 = 3u;
-    w2c_i2 <<= (w2c_i3 & 31);
     w2c_i1 |= w2c_i2;
-    w2c_i2 = 15u;
-    w2c_i1 &= w2c_i2;
     i32_store(m, (u64)(w2c_i0), w2c_i1);
+    w2c_j0 = w2c_p5;
+    w2c_j1 = 8ull;
+    w2c_j0 += w2c_j1;
+    w2c_i0 = (u32)(w2c_j0);
+    w2c_j1 = w2c_l11;
+    i64_store(m, (u64)(w2c_i0), w2c_j1);
     w2c_j0 = w2c_p5;
     w2c_j1 = 24ull;
     w2c_j0 += w2c_j1;
@@ -13379,20 +15756,19 @@ static u32 w2c_f21(module *m, u64 w2c_p0, u64 w2c_p1, u64 w2c_p2, u32 w2c_p3, u3
     w2c_j1 += w2c_j2;
     w2c_l9 = w2c_j1;
     w2c_i0 = w2c_j0 != w2c_j1;
-    if (w2c_i0) {goto w2c_L4;}
+    if (w2c_i0) {goto w2c_L3;}
   w2c_j0 = w2c_p6;
   w2c_l9 = w2c_j0;
-  w2c_B3:;
+  w2c_B1:;
   w2c_j0 = w2c_p7;
   w2c_i0 = (u32)(w2c_j0);
   w2c_j1 = w2c_l9;
   i64_store(m, (u64)(w2c_i0), w2c_j1);
-  w2c_B1:;
   w2c_j0 = w2c_l8;
   w2c_j1 = 112ull;
   w2c_j0 += w2c_j1;
   m->w2c_g0 = w2c_j0;
-  w2c_i0 = w2c_l13;
+  w2c_i0 = w2c_l16;
   goto w2c_Bfunc;
   w2c_B0:;
   UNREACHABLE;
@@ -13400,7 +15776,7 @@ static u32 w2c_f21(module *m, u64 w2c_p0, u64 w2c_p1, u64 w2c_p2, u32 w2c_p3, u3
   return w2c_i0;
 }
 
-static void w2c_f22(module *m, u64 w2c_p0, u64 w2c_p1) {
+static void w2c_f25(module *m, u64 w2c_p0, u64 w2c_p1) {
   u32 w2c_l13 = 0, w2c_l14 = 0, w2c_l15 = 0, w2c_l16 = 0, w2c_l17 = 0, w2c_l18 = 0, w2c_l19 = 0, w2c_l20 = 0, w2c_l21 = 0;
   u64 w2c_l2 = 0, w2c_l3 = 0, w2c_l4 = 0, w2c_l5 = 0, w2c_l6 = 0, w2c_l7 = 0, w2c_l8 = 0, w2c_l9 = 0, w2c_l10 = 0, w2c_l11 = 0, w2c_l12 = 0;
   u32 w2c_i0, w2c_i1, w2c_i2, w2c_i3, w2c_i4;
@@ -13414,13 +15790,46 @@ static void w2c_f22(module *m, u64 w2c_p0, u64 w2c_p1) {
   w2c_l3 = w2c_j0;
   w2c_j1 = 16ull;
   w2c_i0 = (u64)((s64)w2c_j0 < (s64)w2c_j1);
-  if (w2c_i0) {goto w2c_B2;}
+  if (w2c_i0) {goto w2c_B3;}
   w2c_j0 = w2c_p1;
   w2c_j1 = 32ull;
   w2c_j0 += w2c_j1;
   w2c_i0 = (u32)(w2c_j0);
   w2c_j0 = i64_load(m, (u64)(w2c_i0));
   w2c_l2 = w2c_j0;
+  w2c_i0 = !(w2c_j0);
+  w2c_i0 = !(w2c_i0);
+  if (w2c_i0) {goto w2c_B4;}
+  w2c_j0 = w2c_p0;
+  w2c_i0 = (u32)(w2c_j0);
+  w2c_j1 = 0ull;
+  i64_store(m, (u64)(w2c_i0) + 48, w2c_j1);
+  w2c_j0 = w2c_p0;
+  w2c_i0 = (u32)(w2c_j0);
+  w2c_j1 = 0ull;
+  i64_store(m, (u64)(w2c_i0) + 40, w2c_j1);
+  w2c_j0 = w2c_p0;
+  w2c_i0 = (u32)(w2c_j0);
+  w2c_j1 = 0ull;
+  i64_store(m, (u64)(w2c_i0) + 32, w2c_j1);
+  w2c_j0 = w2c_p0;
+  w2c_i0 = (u32)(w2c_j0);
+  w2c_j1 = 0ull;
+  i64_store(m, (u64)(w2c_i0) + 24, w2c_j1);
+  w2c_j0 = w2c_p0;
+  w2c_i0 = (u32)(w2c_j0);
+  w2c_j1 = 0ull;
+  i64_store(m, (u64)(w2c_i0) + 16, w2c_j1);
+  w2c_j0 = w2c_p0;
+  w2c_i0 = (u32)(w2c_j0);
+  w2c_j1 = 0ull;
+  i64_store(m, (u64)(w2c_i0) + 8, w2c_j1);
+  w2c_j0 = w2c_p0;
+  w2c_i0 = (u32)(w2c_j0);
+  w2c_j1 = 0ull;
+  i64_store(m, (u64)(w2c_i0), w2c_j1);
+  goto w2c_B0;
+  w2c_B4:;
   w2c_j0 = w2c_p1;
   w2c_j1 = 24ull;
   w2c_j0 += w2c_j1;
@@ -13447,7 +15856,7 @@ static void w2c_f22(module *m, u64 w2c_p0, u64 w2c_p1) {
   w2c_i0 = (u32)(w2c_j0);
   w2c_i0 = i32_load8_u(m, (u64)(w2c_i0));
   w2c_l14 = w2c_i0;
-  w2c_L3:
+  w2c_L5:
     w2c_j0 = w2c_l4;
     w2c_l7 = w2c_j0;
     w2c_j0 = w2c_l5;
@@ -13458,7 +15867,7 @@ static void w2c_f22(module *m, u64 w2c_p0, u64 w2c_p1) {
     w2c_j0 = w2c_l8;
     w2c_j1 = 3ull;
     w2c_i0 = w2c_j0 < w2c_j1;
-    if (w2c_i0) {goto w2c_B9;}
+    if (w2c_i0) {goto w2c_B11;}
     w2c_j0 = w2c_l7;
     w2c_i0 = (u32)(w2c_j0);
     w2c_i0 = i32_load8_u(m, (u64)(w2c_i0));
@@ -13467,7 +15876,7 @@ static void w2c_f22(module *m, u64 w2c_p0, u64 w2c_p1) {
     w2c_i0 &= w2c_i1;
     w2c_i1 = 224u;
     w2c_i0 = w2c_i0 != w2c_i1;
-    if (w2c_i0) {goto w2c_B8;}
+    if (w2c_i0) {goto w2c_B10;}
     w2c_j0 = w2c_l7;
     w2c_i0 = (u32)(w2c_j0);
     w2c_i0 = i32_load8_u(m, (u64)(w2c_i0) + 1u);
@@ -13498,18 +15907,18 @@ static void w2c_f22(module *m, u64 w2c_p0, u64 w2c_p1) {
     w2c_i0 = w2c_l18;
     w2c_i1 = 950143u;
     w2c_i0 = w2c_i0 == w2c_i1;
-    if (w2c_i0) {goto w2c_B1;}
+    if (w2c_i0) {goto w2c_B2;}
     w2c_i0 = w2c_l18;
     w2c_i1 = 947141u;
     w2c_i0 = w2c_i0 == w2c_i1;
-    if (w2c_i0) {goto w2c_B1;}
+    if (w2c_i0) {goto w2c_B2;}
     w2c_i0 = w2c_l18;
     w2c_i1 = 4293976176u;
     w2c_i0 += w2c_i1;
     w2c_l20 = w2c_i0;
     w2c_i1 = 10u;
     w2c_i0 = w2c_i0 < w2c_i1;
-    if (w2c_i0) {goto w2c_B6;}
+    if (w2c_i0) {goto w2c_B8;}
     w2c_i0 = w2c_l16;
     w2c_i1 = 8u;
     w2c_i0 <<= (w2c_i1 & 31);
@@ -13546,106 +15955,106 @@ static void w2c_f22(module *m, u64 w2c_p0, u64 w2c_p1) {
     w2c_i0 = w2c_l18;
     w2c_i1 = 954680u;
     w2c_i0 = (u32)((s32)w2c_i0 > (s32)w2c_i1);
-    if (w2c_i0) {goto w2c_B11;}
+    if (w2c_i0) {goto w2c_B13;}
     w2c_i0 = w2c_l18;
     w2c_i1 = 945866u;
     w2c_i0 = (u32)((s32)w2c_i0 > (s32)w2c_i1);
-    if (w2c_i0) {goto w2c_B12;}
+    if (w2c_i0) {goto w2c_B14;}
     w2c_i0 = w2c_l18;
     w2c_i1 = 4294041440u;
     w2c_i0 += w2c_i1;
     switch (w2c_i0) {
-      case 0: goto w2c_B5;
-      case 1: goto w2c_B7;
-      case 2: goto w2c_B7;
-      case 3: goto w2c_B7;
-      case 4: goto w2c_B7;
-      case 5: goto w2c_B5;
-      default: goto w2c_B10;
+      case 0: goto w2c_B7;
+      case 1: goto w2c_B9;
+      case 2: goto w2c_B9;
+      case 3: goto w2c_B9;
+      case 4: goto w2c_B9;
+      case 5: goto w2c_B7;
+      default: goto w2c_B12;
     }
-    w2c_B12:;
+    w2c_B14:;
     w2c_i0 = w2c_l18;
     w2c_i1 = 945867u;
     w2c_i0 = w2c_i0 == w2c_i1;
-    if (w2c_i0) {goto w2c_B5;}
+    if (w2c_i0) {goto w2c_B7;}
     w2c_i0 = w2c_l18;
     w2c_i1 = 946822u;
     w2c_i0 = w2c_i0 != w2c_i1;
-    if (w2c_i0) {goto w2c_B7;}
-    goto w2c_B5;
-    w2c_B11:;
+    if (w2c_i0) {goto w2c_B9;}
+    goto w2c_B7;
+    w2c_B13:;
     w2c_i0 = w2c_l18;
     w2c_i1 = 961950u;
     w2c_i0 = (u32)((s32)w2c_i0 > (s32)w2c_i1);
-    if (w2c_i0) {goto w2c_B13;}
+    if (w2c_i0) {goto w2c_B15;}
     w2c_i0 = w2c_l18;
     w2c_i1 = 954681u;
     w2c_i0 = w2c_i0 == w2c_i1;
-    if (w2c_i0) {goto w2c_B5;}
+    if (w2c_i0) {goto w2c_B7;}
     w2c_i0 = w2c_l18;
     w2c_i1 = 961824u;
     w2c_i0 = w2c_i0 != w2c_i1;
-    if (w2c_i0) {goto w2c_B7;}
-    goto w2c_B5;
-    w2c_B13:;
+    if (w2c_i0) {goto w2c_B9;}
+    goto w2c_B7;
+    w2c_B15:;
     w2c_i0 = w2c_l18;
     w2c_i1 = 961951u;
     w2c_i0 = w2c_i0 == w2c_i1;
-    if (w2c_i0) {goto w2c_B5;}
+    if (w2c_i0) {goto w2c_B7;}
     w2c_i0 = w2c_l18;
     w2c_i1 = 966494u;
     w2c_i0 = w2c_i0 == w2c_i1;
-    if (w2c_i0) {goto w2c_B5;}
+    if (w2c_i0) {goto w2c_B7;}
     w2c_i0 = w2c_l18;
     w2c_i1 = 991109u;
     w2c_i0 = w2c_i0 == w2c_i1;
-    if (w2c_i0) {goto w2c_B5;}
-    goto w2c_B7;
-    w2c_B10:;
+    if (w2c_i0) {goto w2c_B7;}
+    goto w2c_B9;
+    w2c_B12:;
     w2c_i0 = w2c_l18;
     w2c_i1 = 934546u;
     w2c_i0 = w2c_i0 != w2c_i1;
-    if (w2c_i0) {goto w2c_B7;}
-    goto w2c_B5;
-    w2c_B9:;
+    if (w2c_i0) {goto w2c_B9;}
+    goto w2c_B7;
+    w2c_B11:;
     w2c_j0 = w2c_l8;
     w2c_i0 = !(w2c_j0);
     w2c_i0 = !(w2c_i0);
-    if (w2c_i0) {goto w2c_B14;}
+    if (w2c_i0) {goto w2c_B16;}
     w2c_j0 = 0ull;
-    w2c_l2 = w2c_j0;
+    w2c_l7 = w2c_j0;
     w2c_j0 = 66332ull;
     w2c_l10 = w2c_j0;
+    w2c_j0 = 0ull;
+    w2c_l2 = w2c_j0;
     w2c_j0 = 0ull;
     w2c_l6 = w2c_j0;
     w2c_j0 = 0ull;
     w2c_l9 = w2c_j0;
-    w2c_j0 = 0ull;
-    w2c_l7 = w2c_j0;
     w2c_j0 = 0ull;
     w2c_l4 = w2c_j0;
     w2c_j0 = 0ull;
     w2c_l8 = w2c_j0;
     w2c_j0 = 0ull;
     w2c_l11 = w2c_j0;
-    goto w2c_B0;
-    w2c_B14:;
+    goto w2c_B1;
+    w2c_B16:;
     w2c_j0 = w2c_l7;
     w2c_i0 = (u32)(w2c_j0);
     w2c_i0 = i32_load8_u(m, (u64)(w2c_i0));
     w2c_l15 = w2c_i0;
-    w2c_B8:;
+    w2c_B10:;
     w2c_j0 = 1ull;
     w2c_l4 = w2c_j0;
     w2c_i0 = w2c_l15;
     w2c_i0 = (u32)(s32)(s8)(u8)(w2c_i0);
     w2c_i1 = 4294967295u;
     w2c_i0 = (u32)((s32)w2c_i0 <= (s32)w2c_i1);
-    if (w2c_i0) {goto w2c_B16;}
+    if (w2c_i0) {goto w2c_B18;}
     w2c_i0 = w2c_l15;
     w2c_l19 = w2c_i0;
-    goto w2c_B15;
-    w2c_B16:;
+    goto w2c_B17;
+    w2c_B18:;
     w2c_j0 = w2c_l7;
     w2c_i0 = (u32)(w2c_j0);
     w2c_i0 = i32_load8_u(m, (u64)(w2c_i0) + 1u);
@@ -13655,7 +16064,7 @@ static void w2c_f22(module *m, u64 w2c_p0, u64 w2c_p1) {
     w2c_i0 = w2c_l15;
     w2c_i1 = 223u;
     w2c_i0 = w2c_i0 > w2c_i1;
-    if (w2c_i0) {goto w2c_B17;}
+    if (w2c_i0) {goto w2c_B19;}
     w2c_i0 = w2c_l15;
     w2c_i1 = 6u;
     w2c_i0 <<= (w2c_i1 & 31);
@@ -13666,8 +16075,8 @@ static void w2c_f22(module *m, u64 w2c_p0, u64 w2c_p1) {
     w2c_l19 = w2c_i0;
     w2c_j0 = 2ull;
     w2c_l4 = w2c_j0;
-    goto w2c_B15;
-    w2c_B17:;
+    goto w2c_B17;
+    w2c_B19:;
     w2c_j0 = w2c_l7;
     w2c_i0 = (u32)(w2c_j0);
     w2c_i0 = i32_load8_u(m, (u64)(w2c_i0) + 2u);
@@ -13677,7 +16086,7 @@ static void w2c_f22(module *m, u64 w2c_p0, u64 w2c_p1) {
     w2c_i0 = w2c_l15;
     w2c_i1 = 239u;
     w2c_i0 = w2c_i0 > w2c_i1;
-    if (w2c_i0) {goto w2c_B18;}
+    if (w2c_i0) {goto w2c_B20;}
     w2c_i0 = w2c_l19;
     w2c_i1 = 6u;
     w2c_i0 <<= (w2c_i1 & 31);
@@ -13692,8 +16101,8 @@ static void w2c_f22(module *m, u64 w2c_p0, u64 w2c_p1) {
     w2c_l19 = w2c_i0;
     w2c_j0 = 3ull;
     w2c_l4 = w2c_j0;
-    goto w2c_B15;
-    w2c_B18:;
+    goto w2c_B17;
+    w2c_B20:;
     w2c_i0 = w2c_l18;
     w2c_i1 = 6u;
     w2c_i0 <<= (w2c_i1 & 31);
@@ -13716,13 +16125,13 @@ static void w2c_f22(module *m, u64 w2c_p0, u64 w2c_p1) {
     w2c_l19 = w2c_i0;
     w2c_j0 = 4ull;
     w2c_l4 = w2c_j0;
-    w2c_B15:;
+    w2c_B17:;
     w2c_i0 = w2c_l19;
     w2c_i1 = 4294965248u;
     w2c_i0 += w2c_i1;
     w2c_i1 = 63487u;
     w2c_i0 = w2c_i0 > w2c_i1;
-    if (w2c_i0) {goto w2c_B20;}
+    if (w2c_i0) {goto w2c_B22;}
     w2c_i0 = w2c_l19;
     w2c_i1 = 12u;
     w2c_i0 >>= (w2c_i1 & 31);
@@ -13771,8 +16180,8 @@ static void w2c_f22(module *m, u64 w2c_p0, u64 w2c_p1) {
     w2c_i2 = w2c_l15;
     w2c_i0 = w2c_i2 ? w2c_i0 : w2c_i1;
     w2c_l18 = w2c_i0;
-    goto w2c_B19;
-    w2c_B20:;
+    goto w2c_B21;
+    w2c_B22:;
     w2c_i0 = w2c_l19;
     w2c_i1 = 4294967248u;
     w2c_i0 += w2c_i1;
@@ -13789,7 +16198,7 @@ static void w2c_f22(module *m, u64 w2c_p0, u64 w2c_p1) {
     w2c_i2 = w2c_l15;
     w2c_i0 = w2c_i2 ? w2c_i0 : w2c_i1;
     w2c_l18 = w2c_i0;
-    w2c_B19:;
+    w2c_B21:;
     w2c_j0 = w2c_l8;
     w2c_j1 = w2c_l4;
     w2c_j0 -= w2c_j1;
@@ -13801,110 +16210,110 @@ static void w2c_f22(module *m, u64 w2c_p0, u64 w2c_p1) {
     w2c_i0 = w2c_l19;
     w2c_i1 = 21317u;
     w2c_i0 = w2c_i0 == w2c_i1;
-    if (w2c_i0) {goto w2c_B1;}
+    if (w2c_i0) {goto w2c_B2;}
     w2c_i0 = w2c_l19;
     w2c_i1 = 24319u;
     w2c_i0 = w2c_i0 == w2c_i1;
-    if (w2c_i0) {goto w2c_B1;}
+    if (w2c_i0) {goto w2c_B2;}
     w2c_i0 = w2c_l19;
     w2c_i1 = 4294902000u;
     w2c_i0 += w2c_i1;
     w2c_l15 = w2c_i0;
     w2c_i1 = 10u;
     w2c_i0 = w2c_i0 < w2c_i1;
-    if (w2c_i0) {goto w2c_B23;}
+    if (w2c_i0) {goto w2c_B25;}
     w2c_i0 = w2c_l19;
     w2c_i1 = 28856u;
     w2c_i0 = (u32)((s32)w2c_i0 > (s32)w2c_i1);
-    if (w2c_i0) {goto w2c_B26;}
+    if (w2c_i0) {goto w2c_B28;}
     w2c_i0 = w2c_l19;
     w2c_i1 = 20042u;
     w2c_i0 = (u32)((s32)w2c_i0 > (s32)w2c_i1);
-    if (w2c_i0) {goto w2c_B27;}
+    if (w2c_i0) {goto w2c_B29;}
     w2c_i0 = w2c_l19;
     w2c_i1 = 4294967264u;
     w2c_i0 += w2c_i1;
     switch (w2c_i0) {
-      case 0: goto w2c_B22;
-      case 1: goto w2c_B24;
-      case 2: goto w2c_B24;
-      case 3: goto w2c_B24;
-      case 4: goto w2c_B24;
-      case 5: goto w2c_B22;
-      default: goto w2c_B25;
+      case 0: goto w2c_B24;
+      case 1: goto w2c_B26;
+      case 2: goto w2c_B26;
+      case 3: goto w2c_B26;
+      case 4: goto w2c_B26;
+      case 5: goto w2c_B24;
+      default: goto w2c_B27;
     }
-    w2c_B27:;
+    w2c_B29:;
     w2c_i0 = w2c_l19;
     w2c_i1 = 20043u;
     w2c_i0 = w2c_i0 == w2c_i1;
-    if (w2c_i0) {goto w2c_B22;}
+    if (w2c_i0) {goto w2c_B24;}
     w2c_i0 = w2c_l19;
     w2c_i1 = 20998u;
     w2c_i0 = w2c_i0 != w2c_i1;
-    if (w2c_i0) {goto w2c_B24;}
-    goto w2c_B22;
-    w2c_B26:;
+    if (w2c_i0) {goto w2c_B26;}
+    goto w2c_B24;
+    w2c_B28:;
     w2c_i0 = w2c_l19;
     w2c_i1 = 36126u;
     w2c_i0 = (u32)((s32)w2c_i0 > (s32)w2c_i1);
-    if (w2c_i0) {goto w2c_B28;}
+    if (w2c_i0) {goto w2c_B30;}
     w2c_i0 = w2c_l19;
     w2c_i1 = 28857u;
     w2c_i0 = w2c_i0 == w2c_i1;
-    if (w2c_i0) {goto w2c_B22;}
+    if (w2c_i0) {goto w2c_B24;}
     w2c_i0 = w2c_l19;
     w2c_i1 = 36000u;
     w2c_i0 = w2c_i0 != w2c_i1;
-    if (w2c_i0) {goto w2c_B24;}
-    goto w2c_B22;
-    w2c_B28:;
+    if (w2c_i0) {goto w2c_B26;}
+    goto w2c_B24;
+    w2c_B30:;
     w2c_i0 = w2c_l19;
     w2c_i1 = 36127u;
     w2c_i0 = w2c_i0 == w2c_i1;
-    if (w2c_i0) {goto w2c_B22;}
+    if (w2c_i0) {goto w2c_B24;}
     w2c_i0 = w2c_l19;
     w2c_i1 = 40670u;
     w2c_i0 = w2c_i0 == w2c_i1;
-    if (w2c_i0) {goto w2c_B22;}
+    if (w2c_i0) {goto w2c_B24;}
     w2c_i0 = w2c_l19;
     w2c_i1 = 65285u;
     w2c_i0 = w2c_i0 == w2c_i1;
-    if (w2c_i0) {goto w2c_B22;}
-    goto w2c_B24;
-    w2c_B25:;
+    if (w2c_i0) {goto w2c_B24;}
+    goto w2c_B26;
+    w2c_B27:;
     w2c_i0 = w2c_l19;
     w2c_i1 = 8722u;
     w2c_i0 = w2c_i0 == w2c_i1;
-    if (w2c_i0) {goto w2c_B22;}
-    w2c_B24:;
+    if (w2c_i0) {goto w2c_B24;}
+    w2c_B26:;
     w2c_i0 = w2c_l19;
     w2c_i1 = 44u;
     w2c_i0 = w2c_i0 < w2c_i1;
-    if (w2c_i0) {goto w2c_B21;}
+    if (w2c_i0) {goto w2c_B23;}
     w2c_i0 = w2c_l19;
     w2c_i1 = 47u;
     w2c_i0 = w2c_i0 < w2c_i1;
-    if (w2c_i0) {goto w2c_B23;}
+    if (w2c_i0) {goto w2c_B25;}
     w2c_i0 = w2c_l19;
     w2c_i1 = 4294902003u;
     w2c_i0 += w2c_i1;
     w2c_i1 = 1u;
     w2c_i0 = w2c_i0 > w2c_i1;
-    if (w2c_i0) {goto w2c_B21;}
-    w2c_B23:;
+    if (w2c_i0) {goto w2c_B23;}
+    w2c_B25:;
     w2c_i0 = w2c_l19;
     w2c_i1 = 21317u;
     w2c_i0 = w2c_i0 == w2c_i1;
-    if (w2c_i0) {goto w2c_B1;}
+    if (w2c_i0) {goto w2c_B2;}
     w2c_i0 = w2c_l19;
     w2c_i1 = 24319u;
     w2c_i0 = w2c_i0 == w2c_i1;
-    if (w2c_i0) {goto w2c_B1;}
+    if (w2c_i0) {goto w2c_B2;}
     w2c_i0 = w2c_l15;
     w2c_i1 = 10u;
     w2c_i0 = w2c_i0 < w2c_i1;
-    if (w2c_i0) {goto w2c_B1;}
-    w2c_B22:;
+    if (w2c_i0) {goto w2c_B2;}
+    w2c_B24:;
     w2c_i0 = w2c_l14;
     w2c_i1 = w2c_l13;
     w2c_j2 = w2c_l6;
@@ -13912,23 +16321,23 @@ static void w2c_f22(module *m, u64 w2c_p0, u64 w2c_p1) {
     w2c_i4 = w2c_l19;
     w2c_j5 = w2c_l4;
     w2c_j6 = w2c_l2;
-    w2c_i0 = w2c_f23(m, w2c_i0, w2c_i1, w2c_j2, w2c_j3, w2c_i4, w2c_j5, w2c_j6);
+    w2c_i0 = w2c_f26(m, w2c_i0, w2c_i1, w2c_j2, w2c_j3, w2c_i4, w2c_j5, w2c_j6);
     w2c_i0 = !(w2c_i0);
-    if (w2c_i0) {goto w2c_L3;}
-    goto w2c_B1;
-    w2c_B21:;
+    if (w2c_i0) {goto w2c_L5;}
+    goto w2c_B2;
+    w2c_B23:;
     w2c_i0 = w2c_l18;
     w2c_j0 = (u64)(w2c_i0);
     w2c_j1 = 255ull;
     w2c_j0 &= w2c_j1;
     w2c_i0 = (u32)(w2c_j0);
     switch (w2c_i0) {
-      case 0: goto w2c_B29;
-      case 1: goto w2c_B30;
-      case 2: goto w2c_L3;
-      default: goto w2c_B29;
+      case 0: goto w2c_B31;
+      case 1: goto w2c_B32;
+      case 2: goto w2c_L5;
+      default: goto w2c_B31;
     }
-    w2c_B30:;
+    w2c_B32:;
     w2c_i0 = w2c_l13;
     w2c_i1 = 255u;
     w2c_i0 &= w2c_i1;
@@ -13936,164 +16345,164 @@ static void w2c_f22(module *m, u64 w2c_p0, u64 w2c_p1) {
     w2c_i2 = 255u;
     w2c_i1 &= w2c_i2;
     w2c_i0 = w2c_i0 < w2c_i1;
-    if (w2c_i0) {goto w2c_L3;}
-    w2c_B29:;
+    if (w2c_i0) {goto w2c_L5;}
+    w2c_B31:;
     w2c_i0 = w2c_l14;
     w2c_i1 = 1u;
     w2c_i0 &= w2c_i1;
-    if (w2c_i0) {goto w2c_B31;}
+    if (w2c_i0) {goto w2c_B33;}
     w2c_i0 = w2c_l19;
     w2c_i1 = 29589u;
     w2c_i0 = (u32)((s32)w2c_i0 > (s32)w2c_i1);
-    if (w2c_i0) {goto w2c_B33;}
+    if (w2c_i0) {goto w2c_B35;}
     w2c_i0 = w2c_l19;
     w2c_i1 = 22776u;
     w2c_i0 = (u32)((s32)w2c_i0 > (s32)w2c_i1);
-    if (w2c_i0) {goto w2c_B34;}
+    if (w2c_i0) {goto w2c_B36;}
     w2c_i0 = w2c_l19;
     w2c_i1 = 20191u;
     w2c_i0 = w2c_i0 == w2c_i1;
-    if (w2c_i0) {goto w2c_L3;}
+    if (w2c_i0) {goto w2c_L5;}
     w2c_i0 = w2c_l19;
     w2c_i1 = 20237u;
     w2c_i0 = w2c_i0 == w2c_i1;
-    if (w2c_i0) {goto w2c_L3;}
+    if (w2c_i0) {goto w2c_L5;}
     w2c_i0 = w2c_l19;
     w2c_i1 = 20336u;
     w2c_i0 = w2c_i0 == w2c_i1;
-    if (w2c_i0) {goto w2c_L3;}
-    goto w2c_B32;
-    w2c_B34:;
+    if (w2c_i0) {goto w2c_L5;}
+    goto w2c_B34;
+    w2c_B36:;
     w2c_i0 = w2c_l19;
     w2c_i1 = 25419u;
     w2c_i0 = (u32)((s32)w2c_i0 > (s32)w2c_i1);
-    if (w2c_i0) {goto w2c_B35;}
+    if (w2c_i0) {goto w2c_B37;}
     w2c_i0 = w2c_l19;
     w2c_i1 = 22777u;
     w2c_i0 = w2c_i0 == w2c_i1;
-    if (w2c_i0) {goto w2c_L3;}
+    if (w2c_i0) {goto w2c_L5;}
     w2c_i0 = w2c_l19;
     w2c_i1 = 25342u;
     w2c_i0 = w2c_i0 == w2c_i1;
-    if (w2c_i0) {goto w2c_L3;}
-    goto w2c_B32;
-    w2c_B35:;
+    if (w2c_i0) {goto w2c_L5;}
+    goto w2c_B34;
+    w2c_B37:;
     w2c_i0 = w2c_l19;
     w2c_i1 = 25420u;
     w2c_i0 = w2c_i0 == w2c_i1;
-    if (w2c_i0) {goto w2c_L3;}
+    if (w2c_i0) {goto w2c_L5;}
     w2c_i0 = w2c_l19;
     w2c_i1 = 26578u;
     w2c_i0 = w2c_i0 == w2c_i1;
-    if (w2c_i0) {goto w2c_L3;}
-    goto w2c_B32;
-    w2c_B33:;
+    if (w2c_i0) {goto w2c_L5;}
+    goto w2c_B34;
+    w2c_B35:;
     w2c_i0 = w2c_l19;
     w2c_i1 = 36143u;
     w2c_i0 = (u32)((s32)w2c_i0 > (s32)w2c_i1);
-    if (w2c_i0) {goto w2c_B36;}
+    if (w2c_i0) {goto w2c_B38;}
     w2c_i0 = w2c_l19;
     w2c_i1 = 4294931282u;
     w2c_i0 += w2c_i1;
     switch (w2c_i0) {
-      case 0: goto w2c_L3;
-      case 1: goto w2c_B32;
-      case 2: goto w2c_B32;
-      case 3: goto w2c_B32;
-      case 4: goto w2c_B32;
-      case 5: goto w2c_L3;
-      default: goto w2c_B37;
+      case 0: goto w2c_L5;
+      case 1: goto w2c_B34;
+      case 2: goto w2c_B34;
+      case 3: goto w2c_B34;
+      case 4: goto w2c_B34;
+      case 5: goto w2c_L5;
+      default: goto w2c_B39;
     }
-    w2c_B37:;
+    w2c_B39:;
     w2c_i0 = w2c_l19;
     w2c_i1 = 29590u;
     w2c_i0 = w2c_i0 == w2c_i1;
-    if (w2c_i0) {goto w2c_L3;}
+    if (w2c_i0) {goto w2c_L5;}
     w2c_i0 = w2c_l19;
     w2c_i1 = 32902u;
     w2c_i0 = w2c_i0 == w2c_i1;
-    if (w2c_i0) {goto w2c_L3;}
-    goto w2c_B32;
-    w2c_B36:;
+    if (w2c_i0) {goto w2c_L5;}
+    goto w2c_B34;
+    w2c_B38:;
     w2c_i0 = w2c_l19;
     w2c_i1 = 36144u;
     w2c_i0 = w2c_i0 == w2c_i1;
-    if (w2c_i0) {goto w2c_L3;}
+    if (w2c_i0) {goto w2c_L5;}
     w2c_i0 = w2c_l19;
     w2c_i1 = 38470u;
     w2c_i0 = w2c_i0 == w2c_i1;
-    if (w2c_i0) {goto w2c_L3;}
+    if (w2c_i0) {goto w2c_L5;}
     w2c_i0 = w2c_l19;
     w2c_i1 = 38520u;
     w2c_i0 = w2c_i0 == w2c_i1;
-    if (w2c_i0) {goto w2c_L3;}
-    w2c_B32:;
+    if (w2c_i0) {goto w2c_L5;}
+    w2c_B34:;
     w2c_i0 = w2c_l19;
     w2c_i1 = 4294945855u;
     w2c_i0 += w2c_i1;
     w2c_i1 = 4u;
     w2c_i0 = w2c_i0 < w2c_i1;
-    if (w2c_i0) {goto w2c_L3;}
-    w2c_B31:;
+    if (w2c_i0) {goto w2c_L5;}
+    w2c_B33:;
     w2c_i0 = w2c_l18;
     w2c_i1 = 255u;
     w2c_i0 &= w2c_i1;
     w2c_i1 = 1u;
     w2c_i0 = w2c_i0 != w2c_i1;
-    if (w2c_i0) {goto w2c_B1;}
+    if (w2c_i0) {goto w2c_B2;}
     w2c_i0 = w2c_l16;
     w2c_i1 = 255u;
     w2c_i0 &= w2c_i1;
     w2c_l15 = w2c_i0;
     w2c_i0 = !(w2c_i0);
-    if (w2c_i0) {goto w2c_B38;}
+    if (w2c_i0) {goto w2c_B40;}
     w2c_i0 = w2c_l15;
     w2c_i1 = 6u;
     w2c_i0 = w2c_i0 != w2c_i1;
-    if (w2c_i0) {goto w2c_B1;}
+    if (w2c_i0) {goto w2c_B2;}
     w2c_j0 = w2c_l4;
     w2c_j1 = w2c_l2;
-    w2c_i0 = w2c_f15(m, w2c_j0, w2c_j1);
-    if (w2c_i0) {goto w2c_L3;}
-    goto w2c_B1;
-    w2c_B38:;
+    w2c_i0 = w2c_f17(m, w2c_j0, w2c_j1);
+    if (w2c_i0) {goto w2c_L5;}
+    goto w2c_B2;
+    w2c_B40:;
     w2c_i0 = w2c_l14;
     w2c_i1 = w2c_l13;
     w2c_j2 = w2c_l4;
     w2c_j3 = w2c_l2;
-    w2c_i0 = w2c_f16(m, w2c_i0, w2c_i1, w2c_j2, w2c_j3);
+    w2c_i0 = w2c_f18(m, w2c_i0, w2c_i1, w2c_j2, w2c_j3);
     w2c_i0 = !(w2c_i0);
-    if (w2c_i0) {goto w2c_L3;}
-    goto w2c_B1;
-    w2c_B7:;
+    if (w2c_i0) {goto w2c_L5;}
+    goto w2c_B2;
+    w2c_B9:;
     w2c_i0 = w2c_l19;
     w2c_i1 = 44u;
     w2c_i0 = w2c_i0 < w2c_i1;
-    if (w2c_i0) {goto w2c_B4;}
+    if (w2c_i0) {goto w2c_B6;}
     w2c_i0 = w2c_l19;
     w2c_i1 = 47u;
     w2c_i0 = w2c_i0 < w2c_i1;
-    if (w2c_i0) {goto w2c_B6;}
+    if (w2c_i0) {goto w2c_B8;}
     w2c_i0 = w2c_l18;
     w2c_i1 = 4293976179u;
     w2c_i0 += w2c_i1;
     w2c_i1 = 1u;
     w2c_i0 = w2c_i0 > w2c_i1;
-    if (w2c_i0) {goto w2c_B4;}
-    w2c_B6:;
+    if (w2c_i0) {goto w2c_B6;}
+    w2c_B8:;
     w2c_i0 = w2c_l18;
     w2c_i1 = 947141u;
     w2c_i0 = w2c_i0 == w2c_i1;
-    if (w2c_i0) {goto w2c_B1;}
+    if (w2c_i0) {goto w2c_B2;}
     w2c_i0 = w2c_l18;
     w2c_i1 = 950143u;
     w2c_i0 = w2c_i0 == w2c_i1;
-    if (w2c_i0) {goto w2c_B1;}
+    if (w2c_i0) {goto w2c_B2;}
     w2c_i0 = w2c_l20;
     w2c_i1 = 10u;
     w2c_i0 = w2c_i0 < w2c_i1;
-    if (w2c_i0) {goto w2c_B1;}
-    w2c_B5:;
+    if (w2c_i0) {goto w2c_B2;}
+    w2c_B7:;
     w2c_i0 = w2c_l14;
     w2c_i1 = w2c_l13;
     w2c_j2 = w2c_l6;
@@ -14101,11 +16510,11 @@ static void w2c_f22(module *m, u64 w2c_p0, u64 w2c_p1) {
     w2c_i4 = w2c_l19;
     w2c_j5 = w2c_l4;
     w2c_j6 = w2c_l2;
-    w2c_i0 = w2c_f23(m, w2c_i0, w2c_i1, w2c_j2, w2c_j3, w2c_i4, w2c_j5, w2c_j6);
+    w2c_i0 = w2c_f26(m, w2c_i0, w2c_i1, w2c_j2, w2c_j3, w2c_i4, w2c_j5, w2c_j6);
     w2c_i0 = !(w2c_i0);
-    if (w2c_i0) {goto w2c_L3;}
-    goto w2c_B1;
-    w2c_B4:;
+    if (w2c_i0) {goto w2c_L5;}
+    goto w2c_B2;
+    w2c_B6:;
     w2c_i0 = w2c_l17;
     w2c_i1 = 0u;
     w2c_i2 = w2c_l16;
@@ -14124,12 +16533,12 @@ static void w2c_f22(module *m, u64 w2c_p0, u64 w2c_p1) {
     w2c_j0 &= w2c_j1;
     w2c_i0 = (u32)(w2c_j0);
     switch (w2c_i0) {
-      case 0: goto w2c_B39;
-      case 1: goto w2c_B40;
-      case 2: goto w2c_L3;
-      default: goto w2c_B39;
+      case 0: goto w2c_B41;
+      case 1: goto w2c_B42;
+      case 2: goto w2c_L5;
+      default: goto w2c_B41;
     }
-    w2c_B40:;
+    w2c_B42:;
     w2c_i0 = w2c_l13;
     w2c_i1 = 255u;
     w2c_i0 &= w2c_i1;
@@ -14137,147 +16546,147 @@ static void w2c_f22(module *m, u64 w2c_p0, u64 w2c_p1) {
     w2c_i2 = 255u;
     w2c_i1 &= w2c_i2;
     w2c_i0 = w2c_i0 < w2c_i1;
-    if (w2c_i0) {goto w2c_L3;}
-    w2c_B39:;
+    if (w2c_i0) {goto w2c_L5;}
+    w2c_B41:;
     w2c_i0 = w2c_l14;
     w2c_i1 = 1u;
     w2c_i0 &= w2c_i1;
-    if (w2c_i0) {goto w2c_B41;}
+    if (w2c_i0) {goto w2c_B43;}
     w2c_i0 = w2c_l18;
     w2c_i1 = 955413u;
     w2c_i0 = (u32)((s32)w2c_i0 > (s32)w2c_i1);
-    if (w2c_i0) {goto w2c_B43;}
+    if (w2c_i0) {goto w2c_B45;}
     w2c_i0 = w2c_l18;
     w2c_i1 = 948600u;
     w2c_i0 = (u32)((s32)w2c_i0 > (s32)w2c_i1);
-    if (w2c_i0) {goto w2c_B44;}
+    if (w2c_i0) {goto w2c_B46;}
     w2c_i0 = w2c_l18;
     w2c_i1 = 946015u;
     w2c_i0 = w2c_i0 == w2c_i1;
-    if (w2c_i0) {goto w2c_L3;}
+    if (w2c_i0) {goto w2c_L5;}
     w2c_i0 = w2c_l18;
     w2c_i1 = 946061u;
     w2c_i0 = w2c_i0 == w2c_i1;
-    if (w2c_i0) {goto w2c_L3;}
+    if (w2c_i0) {goto w2c_L5;}
     w2c_i0 = w2c_l18;
     w2c_i1 = 946160u;
     w2c_i0 = w2c_i0 == w2c_i1;
-    if (w2c_i0) {goto w2c_L3;}
-    goto w2c_B42;
-    w2c_B44:;
+    if (w2c_i0) {goto w2c_L5;}
+    goto w2c_B44;
+    w2c_B46:;
     w2c_i0 = w2c_l18;
     w2c_i1 = 951243u;
     w2c_i0 = (u32)((s32)w2c_i0 > (s32)w2c_i1);
-    if (w2c_i0) {goto w2c_B45;}
+    if (w2c_i0) {goto w2c_B47;}
     w2c_i0 = w2c_l18;
     w2c_i1 = 948601u;
     w2c_i0 = w2c_i0 == w2c_i1;
-    if (w2c_i0) {goto w2c_L3;}
+    if (w2c_i0) {goto w2c_L5;}
     w2c_i0 = w2c_l18;
     w2c_i1 = 951166u;
     w2c_i0 = w2c_i0 == w2c_i1;
-    if (w2c_i0) {goto w2c_L3;}
-    goto w2c_B42;
-    w2c_B45:;
+    if (w2c_i0) {goto w2c_L5;}
+    goto w2c_B44;
+    w2c_B47:;
     w2c_i0 = w2c_l18;
     w2c_i1 = 951244u;
     w2c_i0 = w2c_i0 == w2c_i1;
-    if (w2c_i0) {goto w2c_L3;}
+    if (w2c_i0) {goto w2c_L5;}
     w2c_i0 = w2c_l18;
     w2c_i1 = 952402u;
     w2c_i0 = w2c_i0 == w2c_i1;
-    if (w2c_i0) {goto w2c_L3;}
-    goto w2c_B42;
-    w2c_B43:;
+    if (w2c_i0) {goto w2c_L5;}
+    goto w2c_B44;
+    w2c_B45:;
     w2c_i0 = w2c_l18;
     w2c_i1 = 961967u;
     w2c_i0 = (u32)((s32)w2c_i0 > (s32)w2c_i1);
-    if (w2c_i0) {goto w2c_B46;}
+    if (w2c_i0) {goto w2c_B48;}
     w2c_i0 = w2c_l18;
     w2c_i1 = 4294005458u;
     w2c_i0 += w2c_i1;
     switch (w2c_i0) {
-      case 0: goto w2c_L3;
-      case 1: goto w2c_B42;
-      case 2: goto w2c_B42;
-      case 3: goto w2c_B42;
-      case 4: goto w2c_B42;
-      case 5: goto w2c_L3;
-      default: goto w2c_B47;
+      case 0: goto w2c_L5;
+      case 1: goto w2c_B44;
+      case 2: goto w2c_B44;
+      case 3: goto w2c_B44;
+      case 4: goto w2c_B44;
+      case 5: goto w2c_L5;
+      default: goto w2c_B49;
     }
-    w2c_B47:;
+    w2c_B49:;
     w2c_i0 = w2c_l18;
     w2c_i1 = 955414u;
     w2c_i0 = w2c_i0 == w2c_i1;
-    if (w2c_i0) {goto w2c_L3;}
+    if (w2c_i0) {goto w2c_L5;}
     w2c_i0 = w2c_l18;
     w2c_i1 = 958726u;
     w2c_i0 = w2c_i0 == w2c_i1;
-    if (w2c_i0) {goto w2c_L3;}
-    goto w2c_B42;
-    w2c_B46:;
+    if (w2c_i0) {goto w2c_L5;}
+    goto w2c_B44;
+    w2c_B48:;
     w2c_i0 = w2c_l18;
     w2c_i1 = 961968u;
     w2c_i0 = w2c_i0 == w2c_i1;
-    if (w2c_i0) {goto w2c_L3;}
+    if (w2c_i0) {goto w2c_L5;}
     w2c_i0 = w2c_l18;
     w2c_i1 = 964294u;
     w2c_i0 = w2c_i0 == w2c_i1;
-    if (w2c_i0) {goto w2c_L3;}
+    if (w2c_i0) {goto w2c_L5;}
     w2c_i0 = w2c_l18;
     w2c_i1 = 964344u;
     w2c_i0 = w2c_i0 == w2c_i1;
-    if (w2c_i0) {goto w2c_L3;}
-    w2c_B42:;
+    if (w2c_i0) {goto w2c_L5;}
+    w2c_B44:;
     w2c_i0 = w2c_l18;
     w2c_i1 = 4294020031u;
     w2c_i0 += w2c_i1;
     w2c_i1 = 4u;
     w2c_i0 = w2c_i0 < w2c_i1;
-    if (w2c_i0) {goto w2c_L3;}
-    w2c_B41:;
+    if (w2c_i0) {goto w2c_L5;}
+    w2c_B43:;
     w2c_i0 = w2c_l15;
     w2c_i1 = 255u;
     w2c_i0 &= w2c_i1;
     w2c_i1 = 1u;
     w2c_i0 = w2c_i0 != w2c_i1;
-    if (w2c_i0) {goto w2c_B1;}
+    if (w2c_i0) {goto w2c_B2;}
     w2c_i0 = w2c_l16;
     w2c_i1 = 255u;
     w2c_i0 &= w2c_i1;
     w2c_l15 = w2c_i0;
     w2c_i0 = !(w2c_i0);
-    if (w2c_i0) {goto w2c_B48;}
+    if (w2c_i0) {goto w2c_B50;}
     w2c_i0 = w2c_l15;
     w2c_i1 = 6u;
     w2c_i0 = w2c_i0 != w2c_i1;
-    if (w2c_i0) {goto w2c_B1;}
+    if (w2c_i0) {goto w2c_B2;}
     w2c_j0 = w2c_l4;
     w2c_j1 = w2c_l2;
-    w2c_i0 = w2c_f15(m, w2c_j0, w2c_j1);
-    if (w2c_i0) {goto w2c_L3;}
-    goto w2c_B1;
-    w2c_B48:;
+    w2c_i0 = w2c_f17(m, w2c_j0, w2c_j1);
+    if (w2c_i0) {goto w2c_L5;}
+    goto w2c_B2;
+    w2c_B50:;
     w2c_i0 = w2c_l14;
     w2c_i1 = w2c_l13;
     w2c_j2 = w2c_l4;
     w2c_j3 = w2c_l2;
-    w2c_i0 = w2c_f16(m, w2c_i0, w2c_i1, w2c_j2, w2c_j3);
+    w2c_i0 = w2c_f18(m, w2c_i0, w2c_i1, w2c_j2, w2c_j3);
     w2c_i0 = !(w2c_i0);
-    if (w2c_i0) {goto w2c_L3;}
-    goto w2c_B1;
+    if (w2c_i0) {goto w2c_L5;}
+    goto w2c_B2;
+  UNREACHABLE;
+  w2c_B3:;
   UNREACHABLE;
   w2c_B2:;
-  UNREACHABLE;
-  w2c_B1:;
-  w2c_L50:
+  w2c_L52:
     w2c_j0 = w2c_l4;
     w2c_l10 = w2c_j0;
     w2c_j0 = w2c_l2;
     w2c_l11 = w2c_j0;
     w2c_j1 = 3ull;
     w2c_i0 = w2c_j0 < w2c_j1;
-    if (w2c_i0) {goto w2c_B53;}
+    if (w2c_i0) {goto w2c_B55;}
     w2c_j0 = w2c_l10;
     w2c_i0 = (u32)(w2c_j0);
     w2c_i0 = i32_load8_u(m, (u64)(w2c_i0));
@@ -14286,7 +16695,7 @@ static void w2c_f22(module *m, u64 w2c_p0, u64 w2c_p1) {
     w2c_i0 &= w2c_i1;
     w2c_i1 = 224u;
     w2c_i0 = w2c_i0 != w2c_i1;
-    if (w2c_i0) {goto w2c_B52;}
+    if (w2c_i0) {goto w2c_B54;}
     w2c_j0 = w2c_l10;
     w2c_i0 = (u32)(w2c_j0);
     w2c_i0 = i32_load8_u(m, (u64)(w2c_i0) + 1u);
@@ -14353,23 +16762,23 @@ static void w2c_f22(module *m, u64 w2c_p0, u64 w2c_p1) {
     w2c_j1 = 3ull;
     w2c_j0 += w2c_j1;
     w2c_l4 = w2c_j0;
-    goto w2c_B51;
-    w2c_B53:;
+    goto w2c_B53;
+    w2c_B55:;
     w2c_j0 = w2c_l11;
     w2c_i0 = !(w2c_j0);
-    if (w2c_i0) {goto w2c_B49;}
+    if (w2c_i0) {goto w2c_B51;}
     w2c_j0 = w2c_l10;
     w2c_i0 = (u32)(w2c_j0);
     w2c_i0 = i32_load8_u(m, (u64)(w2c_i0));
     w2c_l15 = w2c_i0;
-    w2c_B52:;
+    w2c_B54:;
     w2c_j0 = 1ull;
     w2c_l4 = w2c_j0;
     w2c_i0 = w2c_l15;
     w2c_i0 = (u32)(s32)(s8)(u8)(w2c_i0);
     w2c_i1 = 4294967295u;
     w2c_i0 = (u32)((s32)w2c_i0 > (s32)w2c_i1);
-    if (w2c_i0) {goto w2c_B54;}
+    if (w2c_i0) {goto w2c_B56;}
     w2c_j0 = w2c_l10;
     w2c_i0 = (u32)(w2c_j0);
     w2c_i0 = i32_load8_u(m, (u64)(w2c_i0) + 1u);
@@ -14379,7 +16788,7 @@ static void w2c_f22(module *m, u64 w2c_p0, u64 w2c_p1) {
     w2c_i0 = w2c_l15;
     w2c_i1 = 223u;
     w2c_i0 = w2c_i0 > w2c_i1;
-    if (w2c_i0) {goto w2c_B55;}
+    if (w2c_i0) {goto w2c_B57;}
     w2c_i0 = w2c_l15;
     w2c_i1 = 6u;
     w2c_i0 <<= (w2c_i1 & 31);
@@ -14390,8 +16799,8 @@ static void w2c_f22(module *m, u64 w2c_p0, u64 w2c_p1) {
     w2c_l15 = w2c_i0;
     w2c_j0 = 2ull;
     w2c_l4 = w2c_j0;
-    goto w2c_B54;
-    w2c_B55:;
+    goto w2c_B56;
+    w2c_B57:;
     w2c_j0 = w2c_l10;
     w2c_i0 = (u32)(w2c_j0);
     w2c_i0 = i32_load8_u(m, (u64)(w2c_i0) + 2u);
@@ -14401,7 +16810,7 @@ static void w2c_f22(module *m, u64 w2c_p0, u64 w2c_p1) {
     w2c_i0 = w2c_l15;
     w2c_i1 = 239u;
     w2c_i0 = w2c_i0 > w2c_i1;
-    if (w2c_i0) {goto w2c_B56;}
+    if (w2c_i0) {goto w2c_B58;}
     w2c_i0 = w2c_l18;
     w2c_i1 = 6u;
     w2c_i0 <<= (w2c_i1 & 31);
@@ -14416,8 +16825,8 @@ static void w2c_f22(module *m, u64 w2c_p0, u64 w2c_p1) {
     w2c_l15 = w2c_i0;
     w2c_j0 = 3ull;
     w2c_l4 = w2c_j0;
-    goto w2c_B54;
-    w2c_B56:;
+    goto w2c_B56;
+    w2c_B58:;
     w2c_i0 = w2c_l16;
     w2c_i1 = 6u;
     w2c_i0 <<= (w2c_i1 & 31);
@@ -14440,7 +16849,7 @@ static void w2c_f22(module *m, u64 w2c_p0, u64 w2c_p1) {
     w2c_l15 = w2c_i0;
     w2c_j0 = 4ull;
     w2c_l4 = w2c_j0;
-    w2c_B54:;
+    w2c_B56:;
     w2c_j0 = w2c_l11;
     w2c_j1 = w2c_l4;
     w2c_j0 -= w2c_j1;
@@ -14454,7 +16863,7 @@ static void w2c_f22(module *m, u64 w2c_p0, u64 w2c_p1) {
     w2c_i0 += w2c_i1;
     w2c_i1 = 63487u;
     w2c_i0 = w2c_i0 > w2c_i1;
-    if (w2c_i0) {goto w2c_B57;}
+    if (w2c_i0) {goto w2c_B59;}
     w2c_i0 = w2c_l15;
     w2c_i1 = 12u;
     w2c_i0 >>= (w2c_i1 & 31);
@@ -14503,8 +16912,8 @@ static void w2c_f22(module *m, u64 w2c_p0, u64 w2c_p1) {
     w2c_i2 = w2c_l18;
     w2c_i0 = w2c_i2 ? w2c_i0 : w2c_i1;
     w2c_l18 = w2c_i0;
-    goto w2c_B51;
-    w2c_B57:;
+    goto w2c_B53;
+    w2c_B59:;
     w2c_i0 = w2c_l15;
     w2c_i1 = 4294967248u;
     w2c_i0 += w2c_i1;
@@ -14521,114 +16930,114 @@ static void w2c_f22(module *m, u64 w2c_p0, u64 w2c_p1) {
     w2c_i2 = w2c_l18;
     w2c_i0 = w2c_i2 ? w2c_i0 : w2c_i1;
     w2c_l18 = w2c_i0;
-    w2c_B51:;
+    w2c_B53:;
     w2c_i0 = w2c_l15;
     w2c_i1 = 21317u;
     w2c_i0 = w2c_i0 == w2c_i1;
-    if (w2c_i0) {goto w2c_B58;}
+    if (w2c_i0) {goto w2c_B60;}
     w2c_i0 = w2c_l15;
     w2c_i1 = 24319u;
     w2c_i0 = w2c_i0 == w2c_i1;
-    if (w2c_i0) {goto w2c_B58;}
+    if (w2c_i0) {goto w2c_B60;}
     w2c_i0 = w2c_l15;
     w2c_i1 = 4294902000u;
     w2c_i0 += w2c_i1;
     w2c_l17 = w2c_i0;
     w2c_i1 = 10u;
     w2c_i0 = w2c_i0 < w2c_i1;
-    if (w2c_i0) {goto w2c_B61;}
+    if (w2c_i0) {goto w2c_B63;}
     w2c_i0 = w2c_l15;
     w2c_i1 = 28856u;
     w2c_i0 = (u32)((s32)w2c_i0 > (s32)w2c_i1);
-    if (w2c_i0) {goto w2c_B63;}
+    if (w2c_i0) {goto w2c_B65;}
     w2c_i0 = w2c_l15;
     w2c_i1 = 20042u;
     w2c_i0 = (u32)((s32)w2c_i0 > (s32)w2c_i1);
-    if (w2c_i0) {goto w2c_B64;}
+    if (w2c_i0) {goto w2c_B66;}
     w2c_i0 = w2c_l15;
     w2c_i1 = 4294967264u;
     w2c_i0 += w2c_i1;
     switch (w2c_i0) {
-      case 0: goto w2c_B60;
-      case 1: goto w2c_B62;
-      case 2: goto w2c_B62;
-      case 3: goto w2c_B62;
-      case 4: goto w2c_B62;
-      case 5: goto w2c_B60;
-      default: goto w2c_B65;
+      case 0: goto w2c_B62;
+      case 1: goto w2c_B64;
+      case 2: goto w2c_B64;
+      case 3: goto w2c_B64;
+      case 4: goto w2c_B64;
+      case 5: goto w2c_B62;
+      default: goto w2c_B67;
     }
-    w2c_B65:;
+    w2c_B67:;
     w2c_i0 = w2c_l15;
     w2c_i1 = 8722u;
     w2c_i0 = w2c_i0 != w2c_i1;
-    if (w2c_i0) {goto w2c_B62;}
-    goto w2c_B60;
-    w2c_B64:;
+    if (w2c_i0) {goto w2c_B64;}
+    goto w2c_B62;
+    w2c_B66:;
     w2c_i0 = w2c_l15;
     w2c_i1 = 20043u;
     w2c_i0 = w2c_i0 == w2c_i1;
-    if (w2c_i0) {goto w2c_B60;}
+    if (w2c_i0) {goto w2c_B62;}
     w2c_i0 = w2c_l15;
     w2c_i1 = 20998u;
     w2c_i0 = w2c_i0 != w2c_i1;
-    if (w2c_i0) {goto w2c_B62;}
-    goto w2c_B60;
-    w2c_B63:;
+    if (w2c_i0) {goto w2c_B64;}
+    goto w2c_B62;
+    w2c_B65:;
     w2c_i0 = w2c_l15;
     w2c_i1 = 36126u;
     w2c_i0 = (u32)((s32)w2c_i0 > (s32)w2c_i1);
-    if (w2c_i0) {goto w2c_B66;}
+    if (w2c_i0) {goto w2c_B68;}
     w2c_i0 = w2c_l15;
     w2c_i1 = 28857u;
     w2c_i0 = w2c_i0 == w2c_i1;
-    if (w2c_i0) {goto w2c_B60;}
+    if (w2c_i0) {goto w2c_B62;}
     w2c_i0 = w2c_l15;
     w2c_i1 = 36000u;
     w2c_i0 = w2c_i0 != w2c_i1;
-    if (w2c_i0) {goto w2c_B62;}
-    goto w2c_B60;
-    w2c_B66:;
+    if (w2c_i0) {goto w2c_B64;}
+    goto w2c_B62;
+    w2c_B68:;
     w2c_i0 = w2c_l15;
     w2c_i1 = 36127u;
     w2c_i0 = w2c_i0 == w2c_i1;
-    if (w2c_i0) {goto w2c_B60;}
+    if (w2c_i0) {goto w2c_B62;}
     w2c_i0 = w2c_l15;
     w2c_i1 = 40670u;
     w2c_i0 = w2c_i0 == w2c_i1;
-    if (w2c_i0) {goto w2c_B60;}
+    if (w2c_i0) {goto w2c_B62;}
     w2c_i0 = w2c_l15;
     w2c_i1 = 65285u;
     w2c_i0 = w2c_i0 == w2c_i1;
-    if (w2c_i0) {goto w2c_B60;}
-    w2c_B62:;
+    if (w2c_i0) {goto w2c_B62;}
+    w2c_B64:;
     w2c_i0 = w2c_l15;
     w2c_i1 = 44u;
     w2c_i0 = w2c_i0 < w2c_i1;
-    if (w2c_i0) {goto w2c_B59;}
+    if (w2c_i0) {goto w2c_B61;}
     w2c_i0 = w2c_l15;
     w2c_i1 = 47u;
     w2c_i0 = w2c_i0 < w2c_i1;
-    if (w2c_i0) {goto w2c_B61;}
+    if (w2c_i0) {goto w2c_B63;}
     w2c_i0 = w2c_l15;
     w2c_i1 = 4294902003u;
     w2c_i0 += w2c_i1;
     w2c_i1 = 1u;
     w2c_i0 = w2c_i0 > w2c_i1;
-    if (w2c_i0) {goto w2c_B59;}
-    w2c_B61:;
+    if (w2c_i0) {goto w2c_B61;}
+    w2c_B63:;
     w2c_i0 = w2c_l15;
     w2c_i1 = 21317u;
     w2c_i0 = w2c_i0 == w2c_i1;
-    if (w2c_i0) {goto w2c_B58;}
+    if (w2c_i0) {goto w2c_B60;}
     w2c_i0 = w2c_l15;
     w2c_i1 = 24319u;
     w2c_i0 = w2c_i0 == w2c_i1;
-    if (w2c_i0) {goto w2c_B58;}
+    if (w2c_i0) {goto w2c_B60;}
     w2c_i0 = w2c_l17;
     w2c_i1 = 10u;
     w2c_i0 = w2c_i0 < w2c_i1;
-    if (w2c_i0) {goto w2c_B58;}
-    w2c_B60:;
+    if (w2c_i0) {goto w2c_B60;}
+    w2c_B62:;
     w2c_i0 = w2c_l14;
     w2c_i1 = w2c_l13;
     w2c_j2 = w2c_l6;
@@ -14638,22 +17047,22 @@ static void w2c_f22(module *m, u64 w2c_p0, u64 w2c_p1) {
     w2c_i4 = w2c_l15;
     w2c_j5 = w2c_l4;
     w2c_j6 = w2c_l2;
-    w2c_i0 = w2c_f23(m, w2c_i0, w2c_i1, w2c_j2, w2c_j3, w2c_i4, w2c_j5, w2c_j6);
-    if (w2c_i0) {goto w2c_B58;}
-    goto w2c_B49;
-    w2c_B59:;
+    w2c_i0 = w2c_f26(m, w2c_i0, w2c_i1, w2c_j2, w2c_j3, w2c_i4, w2c_j5, w2c_j6);
+    if (w2c_i0) {goto w2c_B60;}
+    goto w2c_B51;
+    w2c_B61:;
     w2c_i0 = w2c_l18;
     w2c_j0 = (u64)(w2c_i0);
     w2c_j1 = 255ull;
     w2c_j0 &= w2c_j1;
     w2c_i0 = (u32)(w2c_j0);
     switch (w2c_i0) {
-      case 0: goto w2c_B67;
-      case 1: goto w2c_B68;
-      case 2: goto w2c_B49;
-      default: goto w2c_B67;
+      case 0: goto w2c_B69;
+      case 1: goto w2c_B70;
+      case 2: goto w2c_B51;
+      default: goto w2c_B69;
     }
-    w2c_B68:;
+    w2c_B70:;
     w2c_i0 = w2c_l13;
     w2c_i1 = 255u;
     w2c_i0 &= w2c_i1;
@@ -14661,111 +17070,111 @@ static void w2c_f22(module *m, u64 w2c_p0, u64 w2c_p1) {
     w2c_i2 = 255u;
     w2c_i1 &= w2c_i2;
     w2c_i0 = w2c_i0 < w2c_i1;
-    if (w2c_i0) {goto w2c_B49;}
-    w2c_B67:;
+    if (w2c_i0) {goto w2c_B51;}
+    w2c_B69:;
     w2c_i0 = w2c_l14;
     w2c_i1 = 1u;
     w2c_i0 &= w2c_i1;
-    if (w2c_i0) {goto w2c_B69;}
+    if (w2c_i0) {goto w2c_B71;}
     w2c_i0 = w2c_l15;
     w2c_i1 = 29589u;
     w2c_i0 = (u32)((s32)w2c_i0 > (s32)w2c_i1);
-    if (w2c_i0) {goto w2c_B71;}
+    if (w2c_i0) {goto w2c_B73;}
     w2c_i0 = w2c_l15;
     w2c_i1 = 22776u;
     w2c_i0 = (u32)((s32)w2c_i0 > (s32)w2c_i1);
-    if (w2c_i0) {goto w2c_B72;}
+    if (w2c_i0) {goto w2c_B74;}
     w2c_i0 = w2c_l15;
     w2c_i1 = 20191u;
     w2c_i0 = w2c_i0 == w2c_i1;
-    if (w2c_i0) {goto w2c_B49;}
+    if (w2c_i0) {goto w2c_B51;}
     w2c_i0 = w2c_l15;
     w2c_i1 = 20237u;
     w2c_i0 = w2c_i0 == w2c_i1;
-    if (w2c_i0) {goto w2c_B49;}
+    if (w2c_i0) {goto w2c_B51;}
     w2c_i0 = w2c_l15;
     w2c_i1 = 20336u;
     w2c_i0 = w2c_i0 != w2c_i1;
-    if (w2c_i0) {goto w2c_B70;}
-    goto w2c_B49;
-    w2c_B72:;
+    if (w2c_i0) {goto w2c_B72;}
+    goto w2c_B51;
+    w2c_B74:;
     w2c_i0 = w2c_l15;
     w2c_i1 = 25419u;
     w2c_i0 = (u32)((s32)w2c_i0 > (s32)w2c_i1);
-    if (w2c_i0) {goto w2c_B73;}
+    if (w2c_i0) {goto w2c_B75;}
     w2c_i0 = w2c_l15;
     w2c_i1 = 22777u;
     w2c_i0 = w2c_i0 == w2c_i1;
-    if (w2c_i0) {goto w2c_B49;}
+    if (w2c_i0) {goto w2c_B51;}
     w2c_i0 = w2c_l15;
     w2c_i1 = 25342u;
     w2c_i0 = w2c_i0 != w2c_i1;
-    if (w2c_i0) {goto w2c_B70;}
-    goto w2c_B49;
-    w2c_B73:;
+    if (w2c_i0) {goto w2c_B72;}
+    goto w2c_B51;
+    w2c_B75:;
     w2c_i0 = w2c_l15;
     w2c_i1 = 25420u;
     w2c_i0 = w2c_i0 == w2c_i1;
-    if (w2c_i0) {goto w2c_B49;}
+    if (w2c_i0) {goto w2c_B51;}
     w2c_i0 = w2c_l15;
     w2c_i1 = 26578u;
     w2c_i0 = w2c_i0 != w2c_i1;
-    if (w2c_i0) {goto w2c_B70;}
-    goto w2c_B49;
-    w2c_B71:;
+    if (w2c_i0) {goto w2c_B72;}
+    goto w2c_B51;
+    w2c_B73:;
     w2c_i0 = w2c_l15;
     w2c_i1 = 36143u;
     w2c_i0 = (u32)((s32)w2c_i0 > (s32)w2c_i1);
-    if (w2c_i0) {goto w2c_B74;}
+    if (w2c_i0) {goto w2c_B76;}
     w2c_i0 = w2c_l15;
     w2c_i1 = 4294931282u;
     w2c_i0 += w2c_i1;
     switch (w2c_i0) {
-      case 0: goto w2c_B49;
-      case 1: goto w2c_B70;
-      case 2: goto w2c_B70;
-      case 3: goto w2c_B70;
-      case 4: goto w2c_B70;
-      case 5: goto w2c_B49;
-      default: goto w2c_B75;
+      case 0: goto w2c_B51;
+      case 1: goto w2c_B72;
+      case 2: goto w2c_B72;
+      case 3: goto w2c_B72;
+      case 4: goto w2c_B72;
+      case 5: goto w2c_B51;
+      default: goto w2c_B77;
     }
-    w2c_B75:;
+    w2c_B77:;
     w2c_i0 = w2c_l15;
     w2c_i1 = 29590u;
     w2c_i0 = w2c_i0 == w2c_i1;
-    if (w2c_i0) {goto w2c_B49;}
+    if (w2c_i0) {goto w2c_B51;}
     w2c_i0 = w2c_l15;
     w2c_i1 = 32902u;
     w2c_i0 = w2c_i0 != w2c_i1;
-    if (w2c_i0) {goto w2c_B70;}
-    goto w2c_B49;
-    w2c_B74:;
+    if (w2c_i0) {goto w2c_B72;}
+    goto w2c_B51;
+    w2c_B76:;
     w2c_i0 = w2c_l15;
     w2c_i1 = 36144u;
     w2c_i0 = w2c_i0 == w2c_i1;
-    if (w2c_i0) {goto w2c_B49;}
+    if (w2c_i0) {goto w2c_B51;}
     w2c_i0 = w2c_l15;
     w2c_i1 = 38470u;
     w2c_i0 = w2c_i0 == w2c_i1;
-    if (w2c_i0) {goto w2c_B49;}
+    if (w2c_i0) {goto w2c_B51;}
     w2c_i0 = w2c_l15;
     w2c_i1 = 38520u;
     w2c_i0 = w2c_i0 == w2c_i1;
-    if (w2c_i0) {goto w2c_B49;}
-    w2c_B70:;
+    if (w2c_i0) {goto w2c_B51;}
+    w2c_B72:;
     w2c_i0 = w2c_l15;
     w2c_i1 = 4294945855u;
     w2c_i0 += w2c_i1;
     w2c_i1 = 4u;
     w2c_i0 = w2c_i0 < w2c_i1;
-    if (w2c_i0) {goto w2c_B49;}
-    w2c_B69:;
+    if (w2c_i0) {goto w2c_B51;}
+    w2c_B71:;
     w2c_i0 = w2c_l18;
     w2c_i1 = 255u;
     w2c_i0 &= w2c_i1;
     w2c_i1 = 1u;
     w2c_i0 = w2c_i0 != w2c_i1;
-    if (w2c_i0) {goto w2c_B58;}
+    if (w2c_i0) {goto w2c_B60;}
     w2c_i0 = 1u;
     w2c_i1 = w2c_l16;
     w2c_i2 = 255u;
@@ -14774,71 +17183,44 @@ static void w2c_f22(module *m, u64 w2c_p0, u64 w2c_p1) {
     w2c_i0 <<= (w2c_i1 & 31);
     w2c_i1 = 65470u;
     w2c_i0 &= w2c_i1;
-    if (w2c_i0) {goto w2c_B58;}
+    if (w2c_i0) {goto w2c_B60;}
     w2c_i0 = w2c_l18;
     w2c_i0 = !(w2c_i0);
-    if (w2c_i0) {goto w2c_B76;}
+    if (w2c_i0) {goto w2c_B78;}
     w2c_j0 = w2c_l4;
     w2c_j1 = w2c_l2;
-    w2c_i0 = w2c_f15(m, w2c_j0, w2c_j1);
+    w2c_i0 = w2c_f17(m, w2c_j0, w2c_j1);
     w2c_i0 = !(w2c_i0);
-    if (w2c_i0) {goto w2c_B58;}
-    goto w2c_B49;
-    w2c_B76:;
+    if (w2c_i0) {goto w2c_B60;}
+    goto w2c_B51;
+    w2c_B78:;
     w2c_i0 = w2c_l14;
     w2c_i1 = w2c_l13;
     w2c_j2 = w2c_l4;
     w2c_j3 = w2c_l2;
-    w2c_i0 = w2c_f16(m, w2c_i0, w2c_i1, w2c_j2, w2c_j3);
+    w2c_i0 = w2c_f18(m, w2c_i0, w2c_i1, w2c_j2, w2c_j3);
     w2c_i0 = !(w2c_i0);
-    if (w2c_i0) {goto w2c_B49;}
-    w2c_B58:;
+    if (w2c_i0) {goto w2c_B51;}
+    w2c_B60:;
     w2c_i0 = w2c_l19;
     w2c_i1 = 4294967248u;
     w2c_i0 += w2c_i1;
     w2c_i1 = 10u;
     w2c_i0 = w2c_i0 < w2c_i1;
-    if (w2c_i0) {goto w2c_B78;}
+    if (w2c_i0) {goto w2c_B80;}
     w2c_i0 = w2c_l19;
     w2c_i1 = 4294902000u;
     w2c_i0 += w2c_i1;
     w2c_i1 = 9u;
     w2c_i0 = w2c_i0 > w2c_i1;
-    if (w2c_i0) {goto w2c_B77;}
-    w2c_B78:;
+    if (w2c_i0) {goto w2c_B79;}
+    w2c_B80:;
     w2c_j0 = w2c_l3;
     w2c_j1 = 8ull;
     w2c_j0 += w2c_j1;
     w2c_i1 = w2c_l15;
-    w2c_f17(m, w2c_j0, w2c_i1);
+    w2c_f19(m, w2c_j0, w2c_i1);
     w2c_i0 = w2c_l15;
-    w2c_i1 = 4294967238u;
-    w2c_i0 += w2c_i1;
-    w2c_i1 = 4294967285u;
-    w2c_i0 = w2c_i0 > w2c_i1;
-    if (w2c_i0) {goto w2c_B79;}
-    w2c_j0 = w2c_l3;
-    w2c_i0 = (u32)(w2c_j0);
-    w2c_i0 = i32_load8_u(m, (u64)(w2c_i0) + 8u);
-    w2c_i1 = 255u;
-    w2c_i0 &= w2c_i1;
-    w2c_i1 = 1u;
-    w2c_i0 = w2c_i0 == w2c_i1;
-    if (w2c_i0) {goto w2c_B49;}
-    w2c_B79:;
-    w2c_i0 = w2c_l15;
-    w2c_i1 = 21317u;
-    w2c_i0 = w2c_i0 == w2c_i1;
-    if (w2c_i0) {goto w2c_B49;}
-    w2c_i0 = w2c_l15;
-    w2c_i1 = 24319u;
-    w2c_i0 = w2c_i0 == w2c_i1;
-    if (w2c_i0) {goto w2c_B49;}
-    w2c_B77:;
-    w2c_j0 = w2c_l3;
-    w2c_i1 = w2c_l19;
-    w2c_f17(m, w2c_j0, w2c_i1);
-    w2c_i0 = w2c_l19;
     w2c_i1 = 4294967238u;
     w2c_i0 += w2c_i1;
     w2c_i1 = 4294967285u;
@@ -14846,21 +17228,48 @@ static void w2c_f22(module *m, u64 w2c_p0, u64 w2c_p1) {
     if (w2c_i0) {goto w2c_B81;}
     w2c_j0 = w2c_l3;
     w2c_i0 = (u32)(w2c_j0);
+    w2c_i0 = i32_load8_u(m, (u64)(w2c_i0) + 8u);
+    w2c_i1 = 255u;
+    w2c_i0 &= w2c_i1;
+    w2c_i1 = 1u;
+    w2c_i0 = w2c_i0 == w2c_i1;
+    if (w2c_i0) {goto w2c_B51;}
+    w2c_B81:;
+    w2c_i0 = w2c_l15;
+    w2c_i1 = 21317u;
+    w2c_i0 = w2c_i0 == w2c_i1;
+    if (w2c_i0) {goto w2c_B51;}
+    w2c_i0 = w2c_l15;
+    w2c_i1 = 24319u;
+    w2c_i0 = w2c_i0 == w2c_i1;
+    if (w2c_i0) {goto w2c_B51;}
+    w2c_B79:;
+    w2c_j0 = w2c_l3;
+    w2c_i1 = w2c_l19;
+    w2c_f19(m, w2c_j0, w2c_i1);
+    w2c_i0 = w2c_l19;
+    w2c_i1 = 4294967238u;
+    w2c_i0 += w2c_i1;
+    w2c_i1 = 4294967285u;
+    w2c_i0 = w2c_i0 > w2c_i1;
+    if (w2c_i0) {goto w2c_B83;}
+    w2c_j0 = w2c_l3;
+    w2c_i0 = (u32)(w2c_j0);
     w2c_i0 = i32_load8_u(m, (u64)(w2c_i0));
     w2c_i1 = 255u;
     w2c_i0 &= w2c_i1;
     w2c_i1 = 1u;
     w2c_i0 = w2c_i0 == w2c_i1;
-    if (w2c_i0) {goto w2c_B80;}
-    w2c_B81:;
+    if (w2c_i0) {goto w2c_B82;}
+    w2c_B83:;
     w2c_i0 = w2c_l19;
     w2c_i1 = 24318u;
     w2c_i0 = (u32)((s32)w2c_i0 > (s32)w2c_i1);
-    if (w2c_i0) {goto w2c_B82;}
+    if (w2c_i0) {goto w2c_B84;}
     w2c_i0 = w2c_l19;
     w2c_i1 = 21317u;
     w2c_i0 = w2c_i0 == w2c_i1;
-    if (w2c_i0) {goto w2c_B80;}
+    if (w2c_i0) {goto w2c_B82;}
     w2c_i0 = w2c_l19;
     w2c_i1 = 37u;
     w2c_i0 = w2c_i0 == w2c_i1;
@@ -14869,13 +17278,13 @@ static void w2c_f22(module *m, u64 w2c_p0, u64 w2c_p1) {
     w2c_l19 = w2c_i0;
     w2c_i0 = w2c_l18;
     w2c_i0 = !(w2c_i0);
-    if (w2c_i0) {goto w2c_L50;}
-    goto w2c_B49;
-    w2c_B82:;
+    if (w2c_i0) {goto w2c_L52;}
+    goto w2c_B51;
+    w2c_B84:;
     w2c_i0 = w2c_l19;
     w2c_i1 = 24319u;
     w2c_i0 = w2c_i0 == w2c_i1;
-    if (w2c_i0) {goto w2c_B80;}
+    if (w2c_i0) {goto w2c_B82;}
     w2c_i0 = w2c_l19;
     w2c_i1 = 65285u;
     w2c_i0 = w2c_i0 == w2c_i1;
@@ -14884,25 +17293,25 @@ static void w2c_f22(module *m, u64 w2c_p0, u64 w2c_p1) {
     w2c_l19 = w2c_i0;
     w2c_i0 = w2c_l18;
     w2c_i0 = !(w2c_i0);
-    if (w2c_i0) {goto w2c_L50;}
-    goto w2c_B49;
-    w2c_B80:;
+    if (w2c_i0) {goto w2c_L52;}
+    goto w2c_B51;
+    w2c_B82:;
     w2c_i0 = w2c_l15;
     w2c_i1 = 4294967248u;
     w2c_i0 += w2c_i1;
     w2c_i1 = 10u;
     w2c_i0 = w2c_i0 < w2c_i1;
-    if (w2c_i0) {goto w2c_B49;}
+    if (w2c_i0) {goto w2c_B51;}
     w2c_i0 = w2c_l15;
     w2c_i1 = 4294902000u;
     w2c_i0 += w2c_i1;
     w2c_i1 = 10u;
     w2c_i0 = w2c_i0 < w2c_i1;
-    if (w2c_i0) {goto w2c_B49;}
+    if (w2c_i0) {goto w2c_B51;}
     w2c_i0 = w2c_l19;
     w2c_i1 = 65285u;
     w2c_i0 = w2c_i0 == w2c_i1;
-    if (w2c_i0) {goto w2c_B49;}
+    if (w2c_i0) {goto w2c_B51;}
     w2c_i0 = w2c_l19;
     w2c_i1 = 37u;
     w2c_i0 = w2c_i0 != w2c_i1;
@@ -14910,8 +17319,8 @@ static void w2c_f22(module *m, u64 w2c_p0, u64 w2c_p1) {
     w2c_i0 = w2c_l15;
     w2c_l19 = w2c_i0;
     w2c_i0 = w2c_l18;
-    if (w2c_i0) {goto w2c_L50;}
-  w2c_B49:;
+    if (w2c_i0) {goto w2c_L52;}
+  w2c_B51:;
   w2c_j0 = w2c_l8;
   w2c_j1 = w2c_l11;
   w2c_j0 -= w2c_j1;
@@ -14920,7 +17329,7 @@ static void w2c_f22(module *m, u64 w2c_p0, u64 w2c_p1) {
   w2c_l2 = w2c_j0;
   w2c_j0 = w2c_l10;
   w2c_l8 = w2c_j0;
-  w2c_B0:;
+  w2c_B1:;
   w2c_j0 = w2c_p1;
   w2c_j1 = 32ull;
   w2c_j0 += w2c_j1;
@@ -14973,13 +17382,14 @@ static void w2c_f22(module *m, u64 w2c_p0, u64 w2c_p1) {
   w2c_i0 = (u32)(w2c_j0);
   w2c_j1 = w2c_l2;
   i64_store(m, (u64)(w2c_i0), w2c_j1);
+  w2c_B0:;
   w2c_j0 = w2c_l3;
   w2c_j1 = 16ull;
   w2c_j0 += w2c_j1;
   m->w2c_g0 = w2c_j0;
 }
 
-static u32 w2c_f23(module *m, u32 w2c_p0, u32 w2c_p1, u64 w2c_p2, u64 w2c_p3, u32 w2c_p4, u64 w2c_p5, u64 w2c_p6) {
+static u32 w2c_f26(module *m, u32 w2c_p0, u32 w2c_p1, u64 w2c_p2, u64 w2c_p3, u32 w2c_p4, u64 w2c_p5, u64 w2c_p6) {
   u32 w2c_l11 = 0, w2c_l12 = 0, w2c_l13 = 0, w2c_l14 = 0;
   u64 w2c_l7 = 0, w2c_l8 = 0, w2c_l9 = 0, w2c_l10 = 0;
   u32 w2c_i0, w2c_i1, w2c_i2, w2c_i3, w2c_i4;
@@ -15359,7 +17769,7 @@ static u32 w2c_f23(module *m, u32 w2c_p0, u32 w2c_p1, u64 w2c_p2, u64 w2c_p3, u3
   w2c_i4 = w2c_l12;
   w2c_j5 = 66332ull;
   w2c_j6 = 0ull;
-  w2c_i0 = w2c_f24(m, w2c_i0, w2c_i1, w2c_i2, w2c_i3, w2c_i4, w2c_j5, w2c_j6);
+  w2c_i0 = w2c_f27(m, w2c_i0, w2c_i1, w2c_i2, w2c_i3, w2c_i4, w2c_j5, w2c_j6);
   w2c_i0 = !(w2c_i0);
   if (w2c_i0) {goto w2c_B2;}
   w2c_j0 = w2c_p6;
@@ -15614,7 +18024,7 @@ static u32 w2c_f23(module *m, u32 w2c_p0, u32 w2c_p1, u64 w2c_p2, u64 w2c_p3, u3
   w2c_j1 = 8ull;
   w2c_j0 += w2c_j1;
   w2c_i1 = w2c_p4;
-  w2c_f17(m, w2c_j0, w2c_i1);
+  w2c_f19(m, w2c_j0, w2c_i1);
   w2c_i0 = w2c_p4;
   w2c_i1 = 4294967238u;
   w2c_i0 += w2c_i1;
@@ -15961,7 +18371,7 @@ static u32 w2c_f23(module *m, u32 w2c_p0, u32 w2c_p1, u64 w2c_p2, u64 w2c_p3, u3
   w2c_B52:;
   w2c_j0 = w2c_l7;
   w2c_i1 = w2c_p4;
-  w2c_f17(m, w2c_j0, w2c_i1);
+  w2c_f19(m, w2c_j0, w2c_i1);
   w2c_i0 = 1u;
   w2c_l11 = w2c_i0;
   w2c_j0 = w2c_p2;
@@ -17336,7 +19746,7 @@ static u32 w2c_f23(module *m, u32 w2c_p0, u32 w2c_p1, u64 w2c_p2, u64 w2c_p3, u3
   if (w2c_i0) {goto w2c_B0;}
   w2c_j0 = w2c_p2;
   w2c_j1 = w2c_p3;
-  w2c_i0 = w2c_f15(m, w2c_j0, w2c_j1);
+  w2c_i0 = w2c_f17(m, w2c_j0, w2c_j1);
   w2c_i0 = !(w2c_i0);
   if (w2c_i0) {goto w2c_B0;}
   w2c_B91:;
@@ -17354,7 +19764,7 @@ static u32 w2c_f23(module *m, u32 w2c_p0, u32 w2c_p1, u64 w2c_p2, u64 w2c_p3, u3
   w2c_i1 = w2c_p1;
   w2c_j2 = w2c_p2;
   w2c_j3 = w2c_p3;
-  w2c_i0 = w2c_f25(m, w2c_i0, w2c_i1, w2c_j2, w2c_j3);
+  w2c_i0 = w2c_f28(m, w2c_i0, w2c_i1, w2c_j2, w2c_j3);
   w2c_p4 = w2c_i0;
   w2c_j0 = w2c_p6;
   w2c_i0 = !(w2c_j0);
@@ -17444,7 +19854,7 @@ static u32 w2c_f23(module *m, u32 w2c_p0, u32 w2c_p1, u64 w2c_p2, u64 w2c_p3, u3
   w2c_j3 = w2c_p6;
   w2c_j4 = w2c_p3;
   w2c_j3 -= w2c_j4;
-  w2c_i0 = w2c_f26(m, w2c_i0, w2c_i1, w2c_j2, w2c_j3);
+  w2c_i0 = w2c_f29(m, w2c_i0, w2c_i1, w2c_j2, w2c_j3);
   w2c_l11 = w2c_i0;
   goto w2c_B0;
   w2c_B13:;
@@ -17477,14 +19887,14 @@ static u32 w2c_f23(module *m, u32 w2c_p0, u32 w2c_p1, u64 w2c_p2, u64 w2c_p3, u3
   w2c_i1 = w2c_p1;
   w2c_j2 = w2c_p2;
   w2c_j3 = w2c_l8;
-  w2c_i0 = w2c_f25(m, w2c_i0, w2c_i1, w2c_j2, w2c_j3);
+  w2c_i0 = w2c_f28(m, w2c_i0, w2c_i1, w2c_j2, w2c_j3);
   w2c_i0 = !(w2c_i0);
   if (w2c_i0) {goto w2c_B0;}
   w2c_i0 = w2c_p0;
   w2c_i1 = w2c_p1;
   w2c_j2 = w2c_p5;
   w2c_j3 = w2c_p6;
-  w2c_i0 = w2c_f26(m, w2c_i0, w2c_i1, w2c_j2, w2c_j3);
+  w2c_i0 = w2c_f29(m, w2c_i0, w2c_i1, w2c_j2, w2c_j3);
   w2c_l11 = w2c_i0;
   goto w2c_B0;
   w2c_B11:;
@@ -17492,7 +19902,7 @@ static u32 w2c_f23(module *m, u32 w2c_p0, u32 w2c_p1, u64 w2c_p2, u64 w2c_p3, u3
   w2c_i1 = w2c_p1;
   w2c_j2 = w2c_p2;
   w2c_j3 = w2c_p3;
-  w2c_i0 = w2c_f25(m, w2c_i0, w2c_i1, w2c_j2, w2c_j3);
+  w2c_i0 = w2c_f28(m, w2c_i0, w2c_i1, w2c_j2, w2c_j3);
   w2c_i0 = !(w2c_i0);
   if (w2c_i0) {goto w2c_B107;}
   w2c_i0 = 1u;
@@ -17855,7 +20265,7 @@ static u32 w2c_f23(module *m, u32 w2c_p0, u32 w2c_p1, u64 w2c_p2, u64 w2c_p3, u3
   w2c_i1 = w2c_p1;
   w2c_j2 = w2c_p2;
   w2c_j3 = w2c_p3;
-  w2c_i0 = w2c_f25(m, w2c_i0, w2c_i1, w2c_j2, w2c_j3);
+  w2c_i0 = w2c_f28(m, w2c_i0, w2c_i1, w2c_j2, w2c_j3);
   if (w2c_i0) {goto w2c_B0;}
   w2c_i0 = 1u;
   w2c_l11 = w2c_i0;
@@ -19832,14 +22242,14 @@ static u32 w2c_f23(module *m, u32 w2c_p0, u32 w2c_p1, u64 w2c_p2, u64 w2c_p3, u3
   w2c_i1 = w2c_p1;
   w2c_j2 = w2c_p5;
   w2c_j3 = w2c_p6;
-  w2c_i0 = w2c_f26(m, w2c_i0, w2c_i1, w2c_j2, w2c_j3);
+  w2c_i0 = w2c_f29(m, w2c_i0, w2c_i1, w2c_j2, w2c_j3);
   w2c_i0 = !(w2c_i0);
   if (w2c_i0) {goto w2c_B0;}
   w2c_i0 = w2c_p0;
   w2c_i1 = w2c_p1;
   w2c_j2 = w2c_p2;
   w2c_j3 = w2c_p3;
-  w2c_i0 = w2c_f25(m, w2c_i0, w2c_i1, w2c_j2, w2c_j3);
+  w2c_i0 = w2c_f28(m, w2c_i0, w2c_i1, w2c_j2, w2c_j3);
   if (w2c_i0) {goto w2c_B0;}
   w2c_i0 = 1u;
   w2c_l11 = w2c_i0;
@@ -20071,7 +22481,7 @@ static u32 w2c_f23(module *m, u32 w2c_p0, u32 w2c_p1, u64 w2c_p2, u64 w2c_p3, u3
   return w2c_i0;
 }
 
-static u32 w2c_f24(module *m, u32 w2c_p0, u32 w2c_p1, u32 w2c_p2, u32 w2c_p3, u32 w2c_p4, u64 w2c_p5, u64 w2c_p6) {
+static u32 w2c_f27(module *m, u32 w2c_p0, u32 w2c_p1, u32 w2c_p2, u32 w2c_p3, u32 w2c_p4, u64 w2c_p5, u64 w2c_p6) {
   u32 w2c_l8 = 0;
   u64 w2c_l7 = 0;
   u32 w2c_i0, w2c_i1, w2c_i2;
@@ -20222,7 +22632,7 @@ static u32 w2c_f24(module *m, u32 w2c_p0, u32 w2c_p1, u32 w2c_p2, u32 w2c_p3, u3
   w2c_i1 = w2c_p1;
   w2c_j2 = w2c_p5;
   w2c_j3 = w2c_p6;
-  w2c_i0 = w2c_f16(m, w2c_i0, w2c_i1, w2c_j2, w2c_j3);
+  w2c_i0 = w2c_f18(m, w2c_i0, w2c_i1, w2c_j2, w2c_j3);
   w2c_i0 = !(w2c_i0);
   if (w2c_i0) {goto w2c_B3;}
   w2c_j0 = w2c_l7;
@@ -20232,7 +22642,7 @@ static u32 w2c_f24(module *m, u32 w2c_p0, u32 w2c_p1, u32 w2c_p2, u32 w2c_p3, u3
   w2c_B13:;
   w2c_j0 = w2c_p5;
   w2c_j1 = w2c_p6;
-  w2c_i0 = w2c_f15(m, w2c_j0, w2c_j1);
+  w2c_i0 = w2c_f17(m, w2c_j0, w2c_j1);
   if (w2c_i0) {goto w2c_B3;}
   w2c_j0 = w2c_l7;
   m->w2c_g0 = w2c_j0;
@@ -20267,7 +22677,7 @@ static u32 w2c_f24(module *m, u32 w2c_p0, u32 w2c_p1, u32 w2c_p2, u32 w2c_p3, u3
   return w2c_i0;
 }
 
-static u32 w2c_f25(module *m, u32 w2c_p0, u32 w2c_p1, u64 w2c_p2, u64 w2c_p3) {
+static u32 w2c_f28(module *m, u32 w2c_p0, u32 w2c_p1, u64 w2c_p2, u64 w2c_p3) {
   u32 w2c_l7 = 0, w2c_l8 = 0, w2c_l9 = 0, w2c_l10 = 0;
   u64 w2c_l4 = 0, w2c_l5 = 0, w2c_l6 = 0;
   u32 w2c_i0, w2c_i1, w2c_i2, w2c_i3, w2c_i4;
@@ -20481,7 +22891,7 @@ static u32 w2c_f25(module *m, u32 w2c_p0, u32 w2c_p1, u64 w2c_p2, u64 w2c_p3) {
   w2c_i4 = w2c_l8;
   w2c_j5 = 66332ull;
   w2c_j6 = 0ull;
-  w2c_i0 = w2c_f24(m, w2c_i0, w2c_i1, w2c_i2, w2c_i3, w2c_i4, w2c_j5, w2c_j6);
+  w2c_i0 = w2c_f27(m, w2c_i0, w2c_i1, w2c_i2, w2c_i3, w2c_i4, w2c_j5, w2c_j6);
   w2c_l7 = w2c_i0;
   w2c_j0 = w2c_l4;
   m->w2c_g0 = w2c_j0;
@@ -20493,7 +22903,7 @@ static u32 w2c_f25(module *m, u32 w2c_p0, u32 w2c_p1, u64 w2c_p2, u64 w2c_p3) {
   return w2c_i0;
 }
 
-static u32 w2c_f26(module *m, u32 w2c_p0, u32 w2c_p1, u64 w2c_p2, u64 w2c_p3) {
+static u32 w2c_f29(module *m, u32 w2c_p0, u32 w2c_p1, u64 w2c_p2, u64 w2c_p3) {
   u32 w2c_l6 = 0, w2c_l7 = 0, w2c_l8 = 0, w2c_l9 = 0, w2c_l10 = 0;
   u64 w2c_l4 = 0, w2c_l5 = 0;
   u32 w2c_i0, w2c_i1, w2c_i2, w2c_i3, w2c_i4;
@@ -20764,7 +23174,7 @@ static u32 w2c_f26(module *m, u32 w2c_p0, u32 w2c_p1, u64 w2c_p2, u64 w2c_p3) {
   w2c_i4 = w2c_l9;
   w2c_j5 = w2c_p2;
   w2c_j6 = w2c_p3;
-  w2c_i0 = w2c_f24(m, w2c_i0, w2c_i1, w2c_i2, w2c_i3, w2c_i4, w2c_j5, w2c_j6);
+  w2c_i0 = w2c_f27(m, w2c_i0, w2c_i1, w2c_i2, w2c_i3, w2c_i4, w2c_j5, w2c_j6);
   w2c_l6 = w2c_i0;
   w2c_j0 = w2c_l4;
   m->w2c_g0 = w2c_j0;
@@ -20776,7 +23186,7 @@ static u32 w2c_f26(module *m, u32 w2c_p0, u32 w2c_p1, u64 w2c_p2, u64 w2c_p3) {
   return w2c_i0;
 }
 
-static u64 w2c_f27(module *m, u64 w2c_p0, u64 w2c_p1, u32 w2c_p2, u32 w2c_p3, u64 w2c_p4, u64 w2c_p5) {
+static u64 w2c_f30(module *m, u64 w2c_p0, u64 w2c_p1, u32 w2c_p2, u32 w2c_p3, u64 w2c_p4, u64 w2c_p5) {
   u32 w2c_l16 = 0, w2c_l17 = 0, w2c_l18 = 0, w2c_l19 = 0, w2c_l20 = 0, w2c_l21 = 0;
   u64 w2c_l6 = 0, w2c_l7 = 0, w2c_l8 = 0, w2c_l9 = 0, w2c_l10 = 0, w2c_l11 = 0, w2c_l12 = 0, w2c_l13 = 0, w2c_l14 = 0, w2c_l15 = 0;
   u32 w2c_i0, w2c_i1, w2c_i2, w2c_i3, w2c_i4, w2c_i5, w2c_i6;
@@ -25699,13 +28109,13 @@ static u64 w2c_f27(module *m, u64 w2c_p0, u64 w2c_p1, u32 w2c_p2, u32 w2c_p3, u6
   return w2c_j0;
 }
 
-static void w2c_f28(module *m, u64 w2c_p0, u64 w2c_p1, u64 w2c_p2, u32 w2c_p3) {
-  u32 w2c_l14 = 0, w2c_l15 = 0, w2c_l16 = 0, w2c_l17 = 0, w2c_l18 = 0;
+static void w2c_f31(module *m, u64 w2c_p0, u64 w2c_p1, u64 w2c_p2, u32 w2c_p3) {
+  u32 w2c_l14 = 0, w2c_l15 = 0, w2c_l16 = 0, w2c_l17 = 0;
   u64 w2c_l4 = 0, w2c_l5 = 0, w2c_l6 = 0, w2c_l7 = 0, w2c_l8 = 0, w2c_l9 = 0, w2c_l10 = 0, w2c_l11 = 0, w2c_l12 = 0, w2c_l13 = 0;
   u32 w2c_i0, w2c_i1, w2c_i2, w2c_i3, w2c_i4;
   u64 w2c_j0, w2c_j1, w2c_j2, w2c_j3, w2c_j4;
   w2c_j0 = m->w2c_g0;
-  w2c_j1 = 384ull;
+  w2c_j1 = 368ull;
   w2c_j0 -= w2c_j1;
   w2c_l4 = w2c_j0;
   m->w2c_g0 = w2c_j0;
@@ -25713,9 +28123,7 @@ static void w2c_f28(module *m, u64 w2c_p0, u64 w2c_p1, u64 w2c_p2, u32 w2c_p3) {
   w2c_l4 = w2c_j0;
   w2c_j1 = 16ull;
   w2c_i0 = (u64)((s64)w2c_j0 < (s64)w2c_j1);
-  if (w2c_i0) {goto w2c_B11;}
-  w2c_j0 = 0ull;
-  w2c_l5 = w2c_j0;
+  if (w2c_i0) {goto w2c_B2;}
   w2c_j0 = w2c_l4;
   w2c_i0 = (u32)(w2c_j0);
   w2c_j1 = 0ull;
@@ -25724,628 +28132,407 @@ static void w2c_f28(module *m, u64 w2c_p0, u64 w2c_p1, u64 w2c_p2, u32 w2c_p3) {
   w2c_i0 = (u32)(w2c_j0);
   w2c_j1 = 0ull;
   i64_store(m, (u64)(w2c_i0) + 96, w2c_j1);
-  w2c_j0 = 0ull;
-  w2c_l6 = w2c_j0;
-  w2c_j0 = w2c_p1;
-  w2c_l7 = w2c_j0;
   w2c_j0 = w2c_p2;
   w2c_i0 = !(w2c_j0);
-  if (w2c_i0) {goto w2c_B12;}
+  if (w2c_i0) {goto w2c_B3;}
   w2c_j0 = 1ull;
+  w2c_l5 = w2c_j0;
+  w2c_j0 = w2c_p2;
   w2c_l6 = w2c_j0;
-  w2c_j0 = 1ull;
-  w2c_l8 = w2c_j0;
-  w2c_j0 = w2c_p1;
-  w2c_i0 = (u32)(w2c_j0);
-  w2c_i0 = i32_load8_u(m, (u64)(w2c_i0));
-  w2c_l14 = w2c_i0;
-  w2c_i1 = 32u;
-  w2c_i0 = w2c_i0 == w2c_i1;
-  if (w2c_i0) {goto w2c_B13;}
-  w2c_i0 = w2c_l14;
-  w2c_i1 = 227u;
-  w2c_i0 = w2c_i0 == w2c_i1;
-  if (w2c_i0) {goto w2c_B16;}
-  w2c_i0 = w2c_l14;
-  w2c_i1 = 194u;
-  w2c_i0 = w2c_i0 != w2c_i1;
-  if (w2c_i0) {goto w2c_B15;}
-  w2c_j0 = 1ull;
-  w2c_l9 = w2c_j0;
-  w2c_j0 = w2c_p2;
-  w2c_j1 = 1ull;
-  w2c_i0 = w2c_j0 != w2c_j1;
-  if (w2c_i0) {goto w2c_B17;}
-  w2c_j0 = 0ull;
-  w2c_l8 = w2c_j0;
   w2c_j0 = w2c_p1;
   w2c_l7 = w2c_j0;
-  goto w2c_B9;
-  w2c_B17:;
-  w2c_j0 = w2c_p1;
-  w2c_i0 = (u32)(w2c_j0);
-  w2c_i0 = i32_load8_u(m, (u64)(w2c_i0) + 1u);
-  w2c_i1 = 160u;
-  w2c_i0 = w2c_i0 == w2c_i1;
-  if (w2c_i0) {goto w2c_B14;}
-  goto w2c_B8;
-  w2c_B16:;
-  w2c_j0 = w2c_p2;
-  w2c_j1 = 3ull;
-  w2c_i0 = w2c_j0 >= w2c_j1;
-  if (w2c_i0) {goto w2c_B18;}
-  w2c_j0 = 0ull;
-  w2c_l8 = w2c_j0;
-  w2c_j0 = w2c_p1;
-  w2c_l7 = w2c_j0;
-  w2c_j0 = w2c_p2;
-  w2c_l9 = w2c_j0;
-  goto w2c_B9;
-  w2c_B18:;
-  w2c_j0 = 0ull;
-  w2c_l8 = w2c_j0;
-  w2c_j0 = w2c_p1;
-  w2c_i0 = (u32)(w2c_j0);
-  w2c_i0 = i32_load8_u(m, (u64)(w2c_i0) + 1u);
-  w2c_i1 = 128u;
-  w2c_i0 = w2c_i0 == w2c_i1;
-  if (w2c_i0) {goto w2c_B19;}
-  w2c_j0 = w2c_p1;
-  w2c_l7 = w2c_j0;
-  w2c_j0 = w2c_p2;
-  w2c_l9 = w2c_j0;
-  goto w2c_B10;
-  w2c_B19:;
-  w2c_j0 = w2c_p1;
-  w2c_l7 = w2c_j0;
-  w2c_j0 = w2c_p2;
-  w2c_l9 = w2c_j0;
-  w2c_j0 = w2c_p1;
-  w2c_i0 = (u32)(w2c_j0);
-  w2c_i0 = i32_load8_u(m, (u64)(w2c_i0) + 2u);
-  w2c_i1 = 128u;
-  w2c_i0 = w2c_i0 != w2c_i1;
-  if (w2c_i0) {goto w2c_B10;}
-  w2c_j0 = 3ull;
-  w2c_l8 = w2c_j0;
-  goto w2c_B13;
-  w2c_B15:;
-  w2c_j0 = 1ull;
-  w2c_l8 = w2c_j0;
-  w2c_i0 = w2c_l14;
-  w2c_i1 = 4294967287u;
-  w2c_i0 += w2c_i1;
-  w2c_i1 = 255u;
-  w2c_i0 &= w2c_i1;
-  w2c_i1 = 4u;
-  w2c_i0 = w2c_i0 > w2c_i1;
-  if (w2c_i0) {goto w2c_B8;}
-  goto w2c_B13;
-  w2c_B14:;
-  w2c_j0 = 2ull;
-  w2c_l8 = w2c_j0;
-  w2c_B13:;
-  w2c_j0 = w2c_p1;
-  w2c_j1 = w2c_l8;
-  w2c_j0 += w2c_j1;
-  w2c_l7 = w2c_j0;
-  w2c_j0 = w2c_p2;
-  w2c_j1 = w2c_l8;
-  w2c_j0 -= w2c_j1;
-  w2c_l9 = w2c_j0;
-  w2c_i0 = !(w2c_j0);
-  if (w2c_i0) {goto w2c_B12;}
-  w2c_j0 = 1ull;
-  w2c_l6 = w2c_j0;
-  w2c_L20:
-    w2c_j0 = 1ull;
+  w2c_L6:
+    w2c_j0 = w2c_l6;
     w2c_l8 = w2c_j0;
     w2c_j0 = w2c_l7;
+    w2c_l9 = w2c_j0;
     w2c_i0 = (u32)(w2c_j0);
     w2c_i0 = i32_load8_u(m, (u64)(w2c_i0));
     w2c_l14 = w2c_i0;
     w2c_i1 = 32u;
-    w2c_i0 = w2c_i0 == w2c_i1;
-    if (w2c_i0) {goto w2c_B21;}
-    w2c_i0 = w2c_l14;
-    w2c_i1 = 227u;
-    w2c_i0 = w2c_i0 == w2c_i1;
-    if (w2c_i0) {goto w2c_B24;}
-    w2c_i0 = w2c_l14;
-    w2c_i1 = 194u;
-    w2c_i0 = w2c_i0 != w2c_i1;
-    if (w2c_i0) {goto w2c_B23;}
-    w2c_j0 = w2c_l9;
-    w2c_j1 = 1ull;
-    w2c_i0 = w2c_j0 != w2c_j1;
-    if (w2c_i0) {goto w2c_B25;}
-    w2c_j0 = w2c_l6;
-    w2c_l8 = w2c_j0;
+    w2c_i0 = w2c_i0 > w2c_i1;
+    if (w2c_i0) {goto w2c_B8;}
     w2c_j0 = 1ull;
-    w2c_l9 = w2c_j0;
-    goto w2c_B9;
-    w2c_B25:;
-    w2c_j0 = w2c_l7;
-    w2c_i0 = (u32)(w2c_j0);
-    w2c_i0 = i32_load8_u(m, (u64)(w2c_i0) + 1u);
-    w2c_i1 = 160u;
-    w2c_i0 = w2c_i0 == w2c_i1;
-    if (w2c_i0) {goto w2c_B22;}
-    w2c_j0 = w2c_l6;
-    w2c_l8 = w2c_j0;
-    goto w2c_B7;
-    w2c_B24:;
-    w2c_j0 = w2c_l9;
-    w2c_j1 = 3ull;
-    w2c_i0 = w2c_j0 >= w2c_j1;
-    if (w2c_i0) {goto w2c_B26;}
-    w2c_j0 = w2c_l6;
-    w2c_l8 = w2c_j0;
-    goto w2c_B9;
-    w2c_B26:;
-    w2c_j0 = w2c_l7;
-    w2c_i0 = (u32)(w2c_j0);
-    w2c_i0 = i32_load8_u(m, (u64)(w2c_i0) + 1u);
-    w2c_i1 = 128u;
-    w2c_i0 = w2c_i0 == w2c_i1;
-    if (w2c_i0) {goto w2c_B27;}
-    w2c_j0 = w2c_l6;
-    w2c_l8 = w2c_j0;
-    goto w2c_B10;
-    w2c_B27:;
-    w2c_j0 = w2c_l7;
-    w2c_i0 = (u32)(w2c_j0);
-    w2c_i0 = i32_load8_u(m, (u64)(w2c_i0) + 2u);
-    w2c_i1 = 128u;
-    w2c_i0 = w2c_i0 == w2c_i1;
-    if (w2c_i0) {goto w2c_B28;}
-    w2c_j0 = w2c_l6;
-    w2c_l8 = w2c_j0;
-    goto w2c_B10;
-    w2c_B28:;
-    w2c_j0 = 3ull;
-    w2c_l8 = w2c_j0;
-    goto w2c_B21;
-    w2c_B23:;
-    w2c_j0 = 1ull;
-    w2c_l8 = w2c_j0;
-    w2c_i0 = w2c_l14;
-    w2c_i1 = 4294967287u;
-    w2c_i0 += w2c_i1;
-    w2c_i1 = 255u;
-    w2c_i0 &= w2c_i1;
-    w2c_i1 = 4u;
-    w2c_i0 = w2c_i0 <= w2c_i1;
-    if (w2c_i0) {goto w2c_B21;}
-    w2c_j0 = w2c_l6;
-    w2c_l8 = w2c_j0;
-    goto w2c_B7;
-    w2c_B22:;
-    w2c_j0 = 2ull;
-    w2c_l8 = w2c_j0;
-    w2c_B21:;
-    w2c_j0 = w2c_l6;
-    w2c_j1 = 1ull;
+    w2c_i1 = w2c_l14;
+    w2c_j1 = (u64)(w2c_i1);
+    w2c_j0 <<= (w2c_j1 & 63);
+    w2c_j1 = 4294983168ull;
+    w2c_j0 &= w2c_j1;
+    w2c_j1 = 0ull;
+    w2c_i0 = w2c_j0 == w2c_j1;
+    if (w2c_i0) {goto w2c_B8;}
+    w2c_j0 = w2c_l8;
+    w2c_j1 = 18446744073709551615ull;
     w2c_j0 += w2c_j1;
     w2c_l6 = w2c_j0;
-    w2c_j0 = w2c_l7;
-    w2c_j1 = w2c_l8;
+    w2c_j0 = w2c_l9;
+    w2c_j1 = 1ull;
     w2c_j0 += w2c_j1;
     w2c_l7 = w2c_j0;
-    w2c_j0 = w2c_l9;
-    w2c_j1 = w2c_l8;
-    w2c_j0 -= w2c_j1;
-    w2c_l9 = w2c_j0;
+    goto w2c_B7;
+    w2c_B8:;
+    w2c_i0 = w2c_l14;
+    w2c_i1 = 4294967102u;
+    w2c_i0 += w2c_i1;
+    w2c_l15 = w2c_i0;
+    w2c_i1 = 33u;
+    w2c_i0 = w2c_i0 > w2c_i1;
+    if (w2c_i0) {goto w2c_B11;}
+    w2c_j0 = 1ull;
+    w2c_i1 = w2c_l15;
+    w2c_j1 = (u64)(w2c_i1);
+    w2c_j0 <<= (w2c_j1 & 63);
+    w2c_j1 = 15032385537ull;
+    w2c_j0 &= w2c_j1;
     w2c_j1 = 0ull;
     w2c_i0 = w2c_j0 != w2c_j1;
-    if (w2c_i0) {goto w2c_L20;}
-  w2c_B12:;
-  w2c_j0 = w2c_l4;
-  w2c_i0 = (u32)(w2c_j0);
-  w2c_j1 = 0ull;
-  i64_store(m, (u64)(w2c_i0) + 288, w2c_j1);
-  w2c_j0 = w2c_l4;
-  w2c_i0 = (u32)(w2c_j0);
-  w2c_j1 = 0ull;
-  i64_store(m, (u64)(w2c_i0) + 296, w2c_j1);
-  w2c_j0 = w2c_l4;
-  w2c_i0 = (u32)(w2c_j0);
-  w2c_j1 = 0ull;
-  i64_store(m, (u64)(w2c_i0) + 304, w2c_j1);
-  w2c_j0 = w2c_l4;
-  w2c_i0 = (u32)(w2c_j0);
-  w2c_j1 = 0ull;
-  i64_store(m, (u64)(w2c_i0) + 312, w2c_j1);
-  w2c_j0 = w2c_l4;
-  w2c_i0 = (u32)(w2c_j0);
-  w2c_j1 = 0ull;
-  i64_store(m, (u64)(w2c_i0) + 320, w2c_j1);
-  goto w2c_B3;
-  w2c_B11:;
+    if (w2c_i0) {goto w2c_B10;}
+    w2c_B11:;
+    w2c_i0 = w2c_l14;
+    w2c_i1 = 240u;
+    w2c_i0 &= w2c_i1;
+    w2c_l16 = w2c_i0;
+    goto w2c_B9;
+    w2c_B10:;
+    w2c_i0 = w2c_l14;
+    w2c_i1 = 240u;
+    w2c_i0 &= w2c_i1;
+    w2c_l16 = w2c_i0;
+    w2c_j0 = w2c_l9;
+    w2c_i0 = (u32)(w2c_j0);
+    w2c_i0 = i32_load8_u(m, (u64)(w2c_i0) + 1u);
+    w2c_l15 = w2c_i0;
+    w2c_j0 = w2c_l8;
+    w2c_j1 = 3ull;
+    w2c_i0 = w2c_j0 < w2c_j1;
+    if (w2c_i0) {goto w2c_B13;}
+    w2c_i0 = w2c_l16;
+    w2c_i1 = 224u;
+    w2c_i0 = w2c_i0 != w2c_i1;
+    if (w2c_i0) {goto w2c_B13;}
+    w2c_i0 = w2c_l14;
+    w2c_i1 = 12u;
+    w2c_i0 <<= (w2c_i1 & 31);
+    w2c_i1 = w2c_l15;
+    w2c_i2 = 6u;
+    w2c_i1 <<= (w2c_i2 & 31);
+    w2c_i0 += w2c_i1;
+    w2c_j1 = w2c_l9;
+    w2c_i1 = (u32)(w2c_j1);
+    w2c_i1 = i32_load8_u(m, (u64)(w2c_i1) + 2u);
+    w2c_i0 += w2c_i1;
+    w2c_i1 = 4294041472u;
+    w2c_i0 += w2c_i1;
+    w2c_l15 = w2c_i0;
+    w2c_j0 = w2c_l8;
+    w2c_j1 = 18446744073709551613ull;
+    w2c_j0 += w2c_j1;
+    w2c_l6 = w2c_j0;
+    w2c_j0 = w2c_l9;
+    w2c_j1 = 3ull;
+    w2c_j0 += w2c_j1;
+    w2c_l7 = w2c_j0;
+    goto w2c_B12;
+    w2c_B13:;
+    w2c_i0 = w2c_l15;
+    w2c_i1 = 63u;
+    w2c_i0 &= w2c_i1;
+    w2c_l15 = w2c_i0;
+    w2c_i0 = w2c_l14;
+    w2c_i1 = 223u;
+    w2c_i0 = w2c_i0 > w2c_i1;
+    if (w2c_i0) {goto w2c_B15;}
+    w2c_i0 = w2c_l14;
+    w2c_i1 = 6u;
+    w2c_i0 <<= (w2c_i1 & 31);
+    w2c_i1 = 1984u;
+    w2c_i0 &= w2c_i1;
+    w2c_i1 = w2c_l15;
+    w2c_i0 |= w2c_i1;
+    w2c_l15 = w2c_i0;
+    w2c_j0 = 2ull;
+    w2c_l7 = w2c_j0;
+    goto w2c_B14;
+    w2c_B15:;
+    w2c_i0 = w2c_l15;
+    w2c_i1 = 6u;
+    w2c_i0 <<= (w2c_i1 & 31);
+    w2c_i1 = w2c_l14;
+    w2c_i2 = 12u;
+    w2c_i1 <<= (w2c_i2 & 31);
+    w2c_i2 = 61440u;
+    w2c_i1 &= w2c_i2;
+    w2c_i0 |= w2c_i1;
+    w2c_j1 = w2c_l9;
+    w2c_i1 = (u32)(w2c_j1);
+    w2c_i1 = i32_load8_u(m, (u64)(w2c_i1) + 2u);
+    w2c_i2 = 63u;
+    w2c_i1 &= w2c_i2;
+    w2c_i0 |= w2c_i1;
+    w2c_l15 = w2c_i0;
+    w2c_j0 = 3ull;
+    w2c_l7 = w2c_j0;
+    w2c_B14:;
+    w2c_j0 = w2c_l8;
+    w2c_j1 = w2c_l7;
+    w2c_j0 -= w2c_j1;
+    w2c_l6 = w2c_j0;
+    w2c_j0 = w2c_l9;
+    w2c_j1 = w2c_l7;
+    w2c_j0 += w2c_j1;
+    w2c_l7 = w2c_j0;
+    w2c_B12:;
+    w2c_i0 = w2c_l15;
+    w2c_i1 = 127u;
+    w2c_i0 = w2c_i0 > w2c_i1;
+    if (w2c_i0) {goto w2c_B16;}
+    w2c_i0 = w2c_l15;
+    w2c_i1 = 4294967287u;
+    w2c_i0 += w2c_i1;
+    w2c_i1 = 5u;
+    w2c_i0 = w2c_i0 < w2c_i1;
+    if (w2c_i0) {goto w2c_B7;}
+    w2c_i0 = w2c_l15;
+    w2c_i1 = 32u;
+    w2c_i0 = w2c_i0 != w2c_i1;
+    if (w2c_i0) {goto w2c_B9;}
+    goto w2c_B7;
+    w2c_B16:;
+    w2c_i0 = w2c_l15;
+    w2c_i1 = 4294959104u;
+    w2c_i0 += w2c_i1;
+    w2c_i1 = 11u;
+    w2c_i0 = w2c_i0 < w2c_i1;
+    if (w2c_i0) {goto w2c_B7;}
+    w2c_i0 = w2c_l15;
+    w2c_i1 = 8231u;
+    w2c_i0 = (u32)((s32)w2c_i0 > (s32)w2c_i1);
+    if (w2c_i0) {goto w2c_B17;}
+    w2c_i0 = w2c_l15;
+    w2c_i1 = 133u;
+    w2c_i0 = w2c_i0 == w2c_i1;
+    if (w2c_i0) {goto w2c_B7;}
+    w2c_i0 = w2c_l15;
+    w2c_i1 = 160u;
+    w2c_i0 = w2c_i0 == w2c_i1;
+    if (w2c_i0) {goto w2c_B7;}
+    w2c_i0 = w2c_l15;
+    w2c_i1 = 5760u;
+    w2c_i0 = w2c_i0 != w2c_i1;
+    if (w2c_i0) {goto w2c_B9;}
+    goto w2c_B7;
+    w2c_B17:;
+    w2c_i0 = w2c_l15;
+    w2c_i1 = 4294959064u;
+    w2c_i0 += w2c_i1;
+    w2c_l17 = w2c_i0;
+    w2c_i1 = 55u;
+    w2c_i0 = w2c_i0 > w2c_i1;
+    if (w2c_i0) {goto w2c_B18;}
+    w2c_j0 = 1ull;
+    w2c_i1 = w2c_l17;
+    w2c_j1 = (u64)(w2c_i1);
+    w2c_j0 <<= (w2c_j1 & 63);
+    w2c_j1 = 36028797018964099ull;
+    w2c_j0 &= w2c_j1;
+    w2c_j1 = 0ull;
+    w2c_i0 = w2c_j0 != w2c_j1;
+    if (w2c_i0) {goto w2c_B7;}
+    w2c_B18:;
+    w2c_i0 = w2c_l15;
+    w2c_i1 = 12288u;
+    w2c_i0 = w2c_i0 == w2c_i1;
+    if (w2c_i0) {goto w2c_B7;}
+    w2c_B9:;
+    w2c_j0 = w2c_l8;
+    w2c_j1 = 3ull;
+    w2c_i0 = w2c_j0 < w2c_j1;
+    if (w2c_i0) {goto w2c_B5;}
+    w2c_i0 = w2c_l16;
+    w2c_i1 = 224u;
+    w2c_i0 = w2c_i0 != w2c_i1;
+    if (w2c_i0) {goto w2c_B5;}
+    w2c_i0 = w2c_l14;
+    w2c_i1 = 12u;
+    w2c_i0 <<= (w2c_i1 & 31);
+    w2c_j1 = w2c_l9;
+    w2c_i1 = (u32)(w2c_j1);
+    w2c_i1 = i32_load8_u(m, (u64)(w2c_i1) + 1u);
+    w2c_i2 = 6u;
+    w2c_i1 <<= (w2c_i2 & 31);
+    w2c_i0 += w2c_i1;
+    w2c_j1 = w2c_l9;
+    w2c_i1 = (u32)(w2c_j1);
+    w2c_i1 = i32_load8_u(m, (u64)(w2c_i1) + 2u);
+    w2c_i0 += w2c_i1;
+    w2c_i1 = 4294041472u;
+    w2c_i0 += w2c_i1;
+    w2c_l14 = w2c_i0;
+    w2c_j0 = w2c_l8;
+    w2c_j1 = 18446744073709551613ull;
+    w2c_j0 += w2c_j1;
+    w2c_l10 = w2c_j0;
+    w2c_j0 = w2c_l9;
+    w2c_j1 = 3ull;
+    w2c_j0 += w2c_j1;
+    w2c_l7 = w2c_j0;
+    goto w2c_B4;
+    w2c_B7:;
+    w2c_j0 = w2c_l5;
+    w2c_j1 = 1ull;
+    w2c_j0 += w2c_j1;
+    w2c_l5 = w2c_j0;
+    w2c_j0 = w2c_l6;
+    w2c_i0 = !(w2c_j0);
+    w2c_i0 = !(w2c_i0);
+    if (w2c_i0) {goto w2c_L6;}
+    goto w2c_B3;
   UNREACHABLE;
-  w2c_B10:;
-  w2c_j0 = w2c_l4;
-  w2c_i0 = (u32)(w2c_j0);
-  w2c_j1 = 0ull;
-  i64_store(m, (u64)(w2c_i0) + 288, w2c_j1);
-  w2c_j0 = w2c_l4;
-  w2c_i0 = (u32)(w2c_j0);
-  w2c_j1 = 0ull;
-  i64_store(m, (u64)(w2c_i0) + 296, w2c_j1);
-  w2c_j0 = w2c_l4;
-  w2c_i0 = (u32)(w2c_j0);
-  w2c_j1 = 0ull;
-  i64_store(m, (u64)(w2c_i0) + 304, w2c_j1);
-  w2c_j0 = w2c_l4;
-  w2c_i0 = (u32)(w2c_j0);
-  w2c_j1 = 0ull;
-  i64_store(m, (u64)(w2c_i0) + 312, w2c_j1);
-  w2c_j0 = w2c_l4;
-  w2c_i0 = (u32)(w2c_j0);
-  w2c_j1 = 0ull;
-  i64_store(m, (u64)(w2c_i0) + 320, w2c_j1);
-  w2c_j0 = w2c_l4;
-  w2c_i0 = (u32)(w2c_j0);
-  w2c_j1 = 0ull;
-  i64_store(m, (u64)(w2c_i0) + 208, w2c_j1);
-  w2c_j0 = w2c_l4;
-  w2c_i0 = (u32)(w2c_j0);
-  w2c_j1 = 0ull;
-  i64_store(m, (u64)(w2c_i0) + 216, w2c_j1);
-  w2c_j0 = w2c_l4;
-  w2c_i0 = (u32)(w2c_j0);
-  w2c_j1 = 0ull;
-  i64_store(m, (u64)(w2c_i0) + 224, w2c_j1);
-  goto w2c_B5;
-  w2c_B9:;
-  w2c_j0 = w2c_l4;
-  w2c_i0 = (u32)(w2c_j0);
-  w2c_j1 = 0ull;
-  i64_store(m, (u64)(w2c_i0) + 288, w2c_j1);
-  w2c_j0 = w2c_l4;
-  w2c_i0 = (u32)(w2c_j0);
-  w2c_j1 = 0ull;
-  i64_store(m, (u64)(w2c_i0) + 296, w2c_j1);
-  w2c_j0 = w2c_l4;
-  w2c_i0 = (u32)(w2c_j0);
-  w2c_j1 = 0ull;
-  i64_store(m, (u64)(w2c_i0) + 304, w2c_j1);
-  w2c_j0 = w2c_l4;
-  w2c_i0 = (u32)(w2c_j0);
-  w2c_j1 = 0ull;
-  i64_store(m, (u64)(w2c_i0) + 312, w2c_j1);
-  w2c_j0 = w2c_l4;
-  w2c_i0 = (u32)(w2c_j0);
-  w2c_j1 = 0ull;
-  i64_store(m, (u64)(w2c_i0) + 320, w2c_j1);
-  w2c_j0 = w2c_l4;
-  w2c_i0 = (u32)(w2c_j0);
-  w2c_j1 = 0ull;
-  i64_store(m, (u64)(w2c_i0) + 208, w2c_j1);
-  w2c_j0 = w2c_l4;
-  w2c_i0 = (u32)(w2c_j0);
-  w2c_j1 = 0ull;
-  i64_store(m, (u64)(w2c_i0) + 216, w2c_j1);
-  w2c_j0 = w2c_l4;
-  w2c_i0 = (u32)(w2c_j0);
-  w2c_j1 = 0ull;
-  i64_store(m, (u64)(w2c_i0) + 224, w2c_j1);
-  goto w2c_B6;
-  w2c_B8:;
-  w2c_j0 = 0ull;
-  w2c_l8 = w2c_j0;
-  w2c_j0 = w2c_p1;
-  w2c_l7 = w2c_j0;
-  w2c_j0 = w2c_p2;
-  w2c_l9 = w2c_j0;
-  w2c_B7:;
-  w2c_j0 = w2c_l4;
-  w2c_i0 = (u32)(w2c_j0);
-  w2c_j1 = 0ull;
-  i64_store(m, (u64)(w2c_i0) + 288, w2c_j1);
-  w2c_j0 = w2c_l4;
-  w2c_i0 = (u32)(w2c_j0);
-  w2c_j1 = 0ull;
-  i64_store(m, (u64)(w2c_i0) + 296, w2c_j1);
-  w2c_j0 = w2c_l4;
-  w2c_i0 = (u32)(w2c_j0);
-  w2c_j1 = 0ull;
-  i64_store(m, (u64)(w2c_i0) + 304, w2c_j1);
-  w2c_j0 = w2c_l4;
-  w2c_i0 = (u32)(w2c_j0);
-  w2c_j1 = 0ull;
-  i64_store(m, (u64)(w2c_i0) + 312, w2c_j1);
-  w2c_j0 = w2c_l4;
-  w2c_i0 = (u32)(w2c_j0);
-  w2c_j1 = 0ull;
-  i64_store(m, (u64)(w2c_i0) + 320, w2c_j1);
-  w2c_j0 = w2c_l4;
-  w2c_i0 = (u32)(w2c_j0);
-  w2c_j1 = 0ull;
-  i64_store(m, (u64)(w2c_i0) + 208, w2c_j1);
-  w2c_j0 = w2c_l4;
-  w2c_i0 = (u32)(w2c_j0);
-  w2c_j1 = 0ull;
-  i64_store(m, (u64)(w2c_i0) + 216, w2c_j1);
-  w2c_j0 = w2c_l4;
-  w2c_i0 = (u32)(w2c_j0);
-  w2c_j1 = 0ull;
-  i64_store(m, (u64)(w2c_i0) + 224, w2c_j1);
-  w2c_j0 = w2c_l9;
-  w2c_j1 = 3ull;
-  w2c_i0 = w2c_j0 >= w2c_j1;
-  if (w2c_i0) {goto w2c_B5;}
-  w2c_B6:;
-  w2c_j0 = w2c_l7;
-  w2c_i0 = (u32)(w2c_j0);
-  w2c_i0 = i32_load8_u(m, (u64)(w2c_i0));
-  w2c_l15 = w2c_i0;
-  goto w2c_B4;
   w2c_B5:;
-  w2c_j0 = w2c_l7;
-  w2c_i0 = (u32)(w2c_j0);
-  w2c_i0 = i32_load8_u(m, (u64)(w2c_i0));
-  w2c_l15 = w2c_i0;
-  w2c_i1 = 240u;
-  w2c_i0 &= w2c_i1;
-  w2c_i1 = 224u;
-  w2c_i0 = w2c_i0 != w2c_i1;
-  if (w2c_i0) {goto w2c_B4;}
-  w2c_j0 = w2c_l7;
+  w2c_j0 = 1ull;
+  w2c_l6 = w2c_j0;
+  w2c_i0 = w2c_l14;
+  w2c_i0 = (u32)(s32)(s8)(u8)(w2c_i0);
+  w2c_i1 = 4294967295u;
+  w2c_i0 = (u32)((s32)w2c_i0 > (s32)w2c_i1);
+  if (w2c_i0) {goto w2c_B19;}
+  w2c_j0 = w2c_l9;
   w2c_i0 = (u32)(w2c_j0);
   w2c_i0 = i32_load8_u(m, (u64)(w2c_i0) + 1u);
+  w2c_i1 = 63u;
+  w2c_i0 &= w2c_i1;
+  w2c_l15 = w2c_i0;
+  w2c_i0 = w2c_l14;
+  w2c_i1 = 223u;
+  w2c_i0 = w2c_i0 > w2c_i1;
+  if (w2c_i0) {goto w2c_B20;}
+  w2c_i0 = w2c_l14;
+  w2c_i1 = 6u;
+  w2c_i0 <<= (w2c_i1 & 31);
+  w2c_i1 = 1984u;
+  w2c_i0 &= w2c_i1;
+  w2c_i1 = w2c_l15;
+  w2c_i0 |= w2c_i1;
+  w2c_l14 = w2c_i0;
+  w2c_j0 = 2ull;
+  w2c_l6 = w2c_j0;
+  goto w2c_B19;
+  w2c_B20:;
+  w2c_j0 = w2c_l9;
+  w2c_i0 = (u32)(w2c_j0);
+  w2c_i0 = i32_load8_u(m, (u64)(w2c_i0) + 2u);
+  w2c_i1 = 63u;
+  w2c_i0 &= w2c_i1;
   w2c_l16 = w2c_i0;
+  w2c_i0 = w2c_l14;
+  w2c_i1 = 239u;
+  w2c_i0 = w2c_i0 > w2c_i1;
+  if (w2c_i0) {goto w2c_B21;}
+  w2c_i0 = w2c_l15;
+  w2c_i1 = 6u;
+  w2c_i0 <<= (w2c_i1 & 31);
+  w2c_i1 = w2c_l14;
+  w2c_i2 = 12u;
+  w2c_i1 <<= (w2c_i2 & 31);
+  w2c_i2 = 61440u;
+  w2c_i1 &= w2c_i2;
+  w2c_i0 |= w2c_i1;
+  w2c_i1 = w2c_l16;
+  w2c_i0 |= w2c_i1;
+  w2c_l14 = w2c_i0;
+  w2c_j0 = 3ull;
+  w2c_l6 = w2c_j0;
+  goto w2c_B19;
+  w2c_B21:;
+  w2c_i0 = w2c_l16;
   w2c_i1 = 6u;
   w2c_i0 <<= (w2c_i1 & 31);
   w2c_i1 = w2c_l15;
   w2c_i2 = 12u;
   w2c_i1 <<= (w2c_i2 & 31);
-  w2c_i0 += w2c_i1;
-  w2c_j1 = w2c_l7;
+  w2c_i2 = w2c_l14;
+  w2c_i3 = 18u;
+  w2c_i2 <<= (w2c_i3 & 31);
+  w2c_i3 = 1835008u;
+  w2c_i2 &= w2c_i3;
+  w2c_i1 |= w2c_i2;
+  w2c_i0 |= w2c_i1;
+  w2c_j1 = w2c_l9;
   w2c_i1 = (u32)(w2c_j1);
-  w2c_i1 = i32_load8_u(m, (u64)(w2c_i1) + 2u);
-  w2c_l17 = w2c_i1;
-  w2c_i0 += w2c_i1;
-  w2c_l18 = w2c_i0;
-  w2c_i1 = 4294041472u;
-  w2c_i0 += w2c_i1;
+  w2c_i1 = i32_load8_u(m, (u64)(w2c_i1) + 3u);
+  w2c_i2 = 63u;
+  w2c_i1 &= w2c_i2;
+  w2c_i0 |= w2c_i1;
   w2c_l14 = w2c_i0;
-  w2c_j0 = w2c_l9;
-  w2c_j1 = 18446744073709551613ull;
-  w2c_j0 += w2c_j1;
+  w2c_j0 = 4ull;
   w2c_l6 = w2c_j0;
-  w2c_j0 = w2c_l7;
-  w2c_j1 = 3ull;
-  w2c_j0 += w2c_j1;
-  w2c_l5 = w2c_j0;
-  w2c_i0 = w2c_l16;
-  w2c_i1 = 8u;
-  w2c_i0 <<= (w2c_i1 & 31);
-  w2c_i1 = w2c_l17;
-  w2c_i2 = 16u;
-  w2c_i1 <<= (w2c_i2 & 31);
-  w2c_i0 |= w2c_i1;
-  w2c_i1 = w2c_l15;
-  w2c_i0 |= w2c_i1;
-  w2c_l16 = w2c_i0;
-  w2c_j0 = (u64)(w2c_i0);
-  w2c_j1 = 953497ull;
-  w2c_j0 *= w2c_j1;
-  w2c_j1 = 22ull;
-  w2c_j0 >>= (w2c_j1 & 63);
-  w2c_j1 = 1016ull;
-  w2c_j0 &= w2c_j1;
-  w2c_l10 = w2c_j0;
-  w2c_i0 = (u32)(w2c_j0);
-  w2c_i0 = i32_load(m, (u64)(w2c_i0) + 66976u);
-  w2c_i1 = w2c_l16;
-  w2c_i0 = w2c_i0 != w2c_i1;
-  if (w2c_i0) {goto w2c_B29;}
-  w2c_j0 = w2c_l10;
-  w2c_j1 = 66980ull;
-  w2c_j0 += w2c_j1;
-  w2c_i0 = (u32)(w2c_j0);
-  w2c_i0 = i32_load8_u(m, (u64)(w2c_i0));
-  w2c_i1 = 255u;
-  w2c_i0 &= w2c_i1;
-  w2c_i1 = 2u;
-  w2c_i0 = w2c_i0 != w2c_i1;
-  if (w2c_i0) {goto w2c_B2;}
-  w2c_B29:;
-  w2c_i0 = w2c_l14;
-  w2c_i1 = 127u;
-  w2c_i0 = w2c_i0 > w2c_i1;
-  if (w2c_i0) {goto w2c_B30;}
-  w2c_i0 = w2c_l18;
-  w2c_i1 = 4294041463u;
-  w2c_i0 += w2c_i1;
-  w2c_i1 = 5u;
-  w2c_i0 = w2c_i0 < w2c_i1;
-  if (w2c_i0) {goto w2c_B4;}
-  w2c_i0 = w2c_l18;
-  w2c_i1 = 925856u;
-  w2c_i0 = w2c_i0 == w2c_i1;
-  if (w2c_i0) {goto w2c_B4;}
-  goto w2c_B2;
-  w2c_B30:;
-  w2c_i0 = w2c_l18;
-  w2c_i1 = 4294033280u;
-  w2c_i0 += w2c_i1;
-  w2c_i1 = 11u;
-  w2c_i0 = w2c_i0 < w2c_i1;
-  if (w2c_i0) {goto w2c_B4;}
-  w2c_i0 = w2c_l18;
-  w2c_i1 = 934055u;
-  w2c_i0 = (u32)((s32)w2c_i0 > (s32)w2c_i1);
-  if (w2c_i0) {goto w2c_B31;}
-  w2c_i0 = w2c_l18;
-  w2c_i1 = 925957u;
-  w2c_i0 = w2c_i0 == w2c_i1;
-  if (w2c_i0) {goto w2c_B4;}
-  w2c_i0 = w2c_l18;
-  w2c_i1 = 925984u;
-  w2c_i0 = w2c_i0 == w2c_i1;
-  if (w2c_i0) {goto w2c_B4;}
-  w2c_i0 = w2c_l18;
-  w2c_i1 = 931584u;
-  w2c_i0 = w2c_i0 == w2c_i1;
-  if (w2c_i0) {goto w2c_B4;}
-  goto w2c_B2;
-  w2c_B31:;
-  w2c_i0 = w2c_l18;
-  w2c_i1 = 4294033240u;
-  w2c_i0 += w2c_i1;
-  w2c_l16 = w2c_i0;
-  w2c_i1 = 55u;
-  w2c_i0 = w2c_i0 > w2c_i1;
-  if (w2c_i0) {goto w2c_B32;}
-  w2c_j0 = 1ull;
-  w2c_i1 = w2c_l16;
-  w2c_j1 = (u64)(w2c_i1);
-  w2c_j0 <<= (w2c_j1 & 63);
-  w2c_j1 = 36028797018964099ull;
-  w2c_j0 &= w2c_j1;
-  w2c_j1 = 0ull;
-  w2c_i0 = w2c_j0 != w2c_j1;
-  if (w2c_i0) {goto w2c_B4;}
-  w2c_B32:;
-  w2c_i0 = w2c_l18;
-  w2c_i1 = 938112u;
-  w2c_i0 = w2c_i0 != w2c_i1;
-  if (w2c_i0) {goto w2c_B2;}
-  w2c_B4:;
-  w2c_i0 = w2c_l15;
-  w2c_i1 = 4294967263u;
-  w2c_i0 += w2c_i1;
-  w2c_i1 = 255u;
-  w2c_i0 &= w2c_i1;
-  w2c_i1 = 93u;
-  w2c_i0 = w2c_i0 <= w2c_i1;
-  if (w2c_i0) {goto w2c_B33;}
-  w2c_j0 = w2c_l9;
-  w2c_l5 = w2c_j0;
+  w2c_B19:;
   w2c_j0 = w2c_l8;
-  w2c_l6 = w2c_j0;
-  goto w2c_B3;
-  w2c_B33:;
-  w2c_i0 = w2c_l15;
-  w2c_i1 = 255u;
-  w2c_i0 &= w2c_i1;
-  w2c_l14 = w2c_i0;
-  w2c_j0 = w2c_l7;
-  w2c_j1 = 1ull;
-  w2c_j0 += w2c_j1;
-  w2c_l5 = w2c_j0;
-  w2c_j0 = w2c_l9;
-  w2c_j1 = 18446744073709551615ull;
-  w2c_j0 += w2c_j1;
-  w2c_l6 = w2c_j0;
-  goto w2c_B2;
-  w2c_B3:;
-  w2c_j0 = w2c_l4;
-  w2c_i0 = (u32)(w2c_j0);
-  w2c_j1 = w2c_l5;
-  i64_store(m, (u64)(w2c_i0) + 224, w2c_j1);
-  w2c_j0 = w2c_l4;
-  w2c_i0 = (u32)(w2c_j0);
-  w2c_j1 = w2c_l7;
-  i64_store(m, (u64)(w2c_i0) + 216, w2c_j1);
-  w2c_j0 = w2c_l4;
-  w2c_i0 = (u32)(w2c_j0);
   w2c_j1 = w2c_l6;
-  i64_store(m, (u64)(w2c_i0) + 208, w2c_j1);
-  w2c_j0 = w2c_l4;
-  w2c_j1 = 288ull;
+  w2c_j0 -= w2c_j1;
+  w2c_l10 = w2c_j0;
+  w2c_j0 = w2c_l9;
+  w2c_j1 = w2c_l6;
   w2c_j0 += w2c_j1;
-  w2c_j1 = w2c_l4;
-  w2c_j2 = 208ull;
-  w2c_j1 += w2c_j2;
-  w2c_f29(m, w2c_j0, w2c_j1);
-  w2c_j0 = w2c_l4;
-  w2c_i0 = (u32)(w2c_j0);
-  w2c_i0 = i32_load8_u(m, (u64)(w2c_i0) + 288u);
-  w2c_i1 = 1u;
-  w2c_i0 = w2c_i0 != w2c_i1;
-  if (w2c_i0) {goto w2c_B1;}
-  w2c_j0 = w2c_l4;
-  w2c_i0 = (u32)(w2c_j0);
-  w2c_j0 = i64_load(m, (u64)(w2c_i0) + 320u);
-  w2c_l6 = w2c_j0;
-  w2c_j0 = w2c_l4;
-  w2c_i0 = (u32)(w2c_j0);
-  w2c_j0 = i64_load(m, (u64)(w2c_i0) + 312u);
-  w2c_l5 = w2c_j0;
-  w2c_j0 = w2c_l4;
-  w2c_i0 = (u32)(w2c_j0);
-  w2c_j0 = i64_load(m, (u64)(w2c_i0) + 304u);
-  w2c_l8 = w2c_j0;
-  w2c_j0 = w2c_l4;
-  w2c_i0 = (u32)(w2c_j0);
-  w2c_i0 = i32_load(m, (u64)(w2c_i0) + 296u);
-  w2c_l14 = w2c_i0;
-  w2c_B2:;
-  w2c_j0 = 0ull;
-  w2c_l9 = w2c_j0;
-  w2c_i0 = 0u;
+  w2c_l7 = w2c_j0;
+  w2c_B4:;
+  w2c_i0 = 1u;
   w2c_l15 = w2c_i0;
   w2c_i0 = w2c_l14;
   w2c_i1 = 35999u;
   w2c_i0 = (u32)((s32)w2c_i0 > (s32)w2c_i1);
-  if (w2c_i0) {goto w2c_B36;}
+  if (w2c_i0) {goto w2c_B22;}
   w2c_i0 = w2c_l14;
   w2c_i1 = 4294967253u;
   w2c_i0 += w2c_i1;
   switch (w2c_i0) {
-    case 0: goto w2c_B34;
-    case 1: goto w2c_B0;
-    case 2: goto w2c_B35;
-    default: goto w2c_B37;
+    case 0: goto w2c_B1;
+    case 1: goto w2c_B3;
+    case 2: goto w2c_B0;
+    default: goto w2c_B23;
   }
-  w2c_B37:;
+  w2c_B23:;
   w2c_i0 = w2c_l14;
   w2c_i1 = 8722u;
   w2c_i0 = w2c_i0 == w2c_i1;
-  if (w2c_i0) {goto w2c_B35;}
+  if (w2c_i0) {goto w2c_B0;}
   w2c_i0 = w2c_l14;
   w2c_i1 = 27491u;
-  w2c_i0 = w2c_i0 == w2c_i1;
-  if (w2c_i0) {goto w2c_B34;}
-  goto w2c_B0;
-  w2c_B36:;
+  w2c_i0 = w2c_i0 != w2c_i1;
+  if (w2c_i0) {goto w2c_B3;}
+  goto w2c_B1;
+  w2c_B22:;
   w2c_i0 = w2c_l14;
   w2c_i1 = 4294902005u;
   w2c_i0 += w2c_i1;
   switch (w2c_i0) {
-    case 0: goto w2c_B34;
-    case 1: goto w2c_B0;
-    case 2: goto w2c_B35;
-    default: goto w2c_B38;
+    case 0: goto w2c_B1;
+    case 1: goto w2c_B3;
+    case 2: goto w2c_B0;
+    default: goto w2c_B24;
   }
-  w2c_B38:;
+  w2c_B24:;
+  w2c_i0 = w2c_l14;
+  w2c_i1 = 36000u;
+  w2c_i0 = w2c_i0 == w2c_i1;
+  if (w2c_i0) {goto w2c_B0;}
   w2c_i0 = w2c_l14;
   w2c_i1 = 36127u;
   w2c_i0 = w2c_i0 == w2c_i1;
-  if (w2c_i0) {goto w2c_B35;}
-  w2c_i0 = w2c_l14;
-  w2c_i1 = 36000u;
-  w2c_i0 = w2c_i0 != w2c_i1;
   if (w2c_i0) {goto w2c_B0;}
-  w2c_B35:;
-  w2c_i0 = 1u;
+  w2c_B3:;
+  w2c_i0 = 0u;
   w2c_l15 = w2c_i0;
-  w2c_B34:;
-  w2c_j0 = w2c_l8;
-  w2c_j1 = 1ull;
-  w2c_j0 += w2c_j1;
-  w2c_l9 = w2c_j0;
-  w2c_j0 = w2c_l5;
-  w2c_p1 = w2c_j0;
-  w2c_j0 = w2c_l6;
-  w2c_p2 = w2c_j0;
-  goto w2c_B0;
-  w2c_B1:;
   w2c_j0 = 0ull;
-  w2c_l9 = w2c_j0;
+  w2c_l5 = w2c_j0;
+  w2c_j0 = w2c_p1;
+  w2c_l7 = w2c_j0;
+  w2c_j0 = w2c_p2;
+  w2c_l10 = w2c_j0;
+  goto w2c_B0;
+  w2c_B2:;
+  UNREACHABLE;
+  w2c_B1:;
   w2c_i0 = 0u;
   w2c_l15 = w2c_i0;
   w2c_B0:;
@@ -26440,125 +28627,125 @@ static void w2c_f28(module *m, u64 w2c_p0, u64 w2c_p1, u64 w2c_p2, u32 w2c_p3) {
   w2c_j0 = w2c_l4;
   w2c_i0 = (u32)(w2c_j0);
   w2c_j1 = 0ull;
-  i64_store(m, (u64)(w2c_i0) + 368, w2c_j1);
+  i64_store(m, (u64)(w2c_i0) + 312, w2c_j1);
   w2c_j0 = w2c_l4;
   w2c_i0 = (u32)(w2c_j0);
   w2c_j1 = 0ull;
-  i64_store(m, (u64)(w2c_i0) + 360, w2c_j1);
+  i64_store(m, (u64)(w2c_i0) + 304, w2c_j1);
   w2c_j0 = w2c_l4;
   w2c_i0 = (u32)(w2c_j0);
   w2c_j1 = 0ull;
-  i64_store(m, (u64)(w2c_i0) + 352, w2c_j1);
+  i64_store(m, (u64)(w2c_i0) + 296, w2c_j1);
   w2c_j0 = w2c_l4;
   w2c_i0 = (u32)(w2c_j0);
   w2c_j1 = 0ull;
-  i64_store(m, (u64)(w2c_i0) + 344, w2c_j1);
+  i64_store(m, (u64)(w2c_i0) + 288, w2c_j1);
   w2c_j0 = w2c_l4;
-  w2c_j1 = 344ull;
+  w2c_j1 = 288ull;
   w2c_j0 += w2c_j1;
-  w2c_j1 = w2c_p1;
-  w2c_j2 = w2c_p2;
-  w2c_f30(m, w2c_j0, w2c_j1, w2c_j2);
-  w2c_j0 = w2c_p2;
-  w2c_l6 = w2c_j0;
+  w2c_j1 = w2c_l7;
+  w2c_j2 = w2c_l10;
+  w2c_f32(m, w2c_j0, w2c_j1, w2c_j2);
+  w2c_j0 = w2c_l10;
+  w2c_l8 = w2c_j0;
   w2c_j0 = w2c_l4;
   w2c_i0 = (u32)(w2c_j0);
-  w2c_i0 = i32_load8_u(m, (u64)(w2c_i0) + 344u);
+  w2c_i0 = i32_load8_u(m, (u64)(w2c_i0) + 288u);
   w2c_i1 = 1u;
   w2c_i0 = w2c_i0 != w2c_i1;
-  if (w2c_i0) {goto w2c_B44;}
-  w2c_L46:
+  if (w2c_i0) {goto w2c_B30;}
+  w2c_L32:
     w2c_j0 = w2c_l4;
     w2c_i0 = (u32)(w2c_j0);
-    w2c_j0 = i64_load(m, (u64)(w2c_i0) + 368u);
-    w2c_l7 = w2c_j0;
+    w2c_j0 = i64_load(m, (u64)(w2c_i0) + 312u);
+    w2c_l6 = w2c_j0;
     w2c_j0 = w2c_l4;
     w2c_i0 = (u32)(w2c_j0);
-    w2c_j0 = i64_load(m, (u64)(w2c_i0) + 360u);
-    w2c_l8 = w2c_j0;
+    w2c_j0 = i64_load(m, (u64)(w2c_i0) + 304u);
+    w2c_l9 = w2c_j0;
     w2c_j0 = w2c_l4;
     w2c_i0 = (u32)(w2c_j0);
-    w2c_i0 = i32_load(m, (u64)(w2c_i0) + 352u);
+    w2c_i0 = i32_load(m, (u64)(w2c_i0) + 296u);
     w2c_l14 = w2c_i0;
     w2c_j0 = w2c_l4;
     w2c_i0 = (u32)(w2c_j0);
     w2c_j1 = 0ull;
-    i64_store(m, (u64)(w2c_i0) + 312, w2c_j1);
+    i64_store(m, (u64)(w2c_i0) + 344, w2c_j1);
     w2c_j0 = w2c_l4;
     w2c_i0 = (u32)(w2c_j0);
     w2c_j1 = 0ull;
-    i64_store(m, (u64)(w2c_i0) + 304, w2c_j1);
+    i64_store(m, (u64)(w2c_i0) + 336, w2c_j1);
     w2c_j0 = w2c_l4;
     w2c_i0 = (u32)(w2c_j0);
     w2c_j1 = 0ull;
-    i64_store(m, (u64)(w2c_i0) + 296, w2c_j1);
+    i64_store(m, (u64)(w2c_i0) + 328, w2c_j1);
     w2c_j0 = w2c_l4;
     w2c_i0 = (u32)(w2c_j0);
     w2c_j1 = 0ull;
-    i64_store(m, (u64)(w2c_i0) + 288, w2c_j1);
+    i64_store(m, (u64)(w2c_i0) + 320, w2c_j1);
     w2c_i0 = w2c_l14;
     w2c_i1 = 20998u;
     w2c_i0 = w2c_i0 != w2c_i1;
-    if (w2c_i0) {goto w2c_B47;}
+    if (w2c_i0) {goto w2c_B33;}
+    w2c_j0 = w2c_l4;
+    w2c_j1 = 320ull;
+    w2c_j0 += w2c_j1;
+    w2c_j1 = w2c_l9;
+    w2c_j2 = w2c_l6;
+    w2c_f32(m, w2c_j0, w2c_j1, w2c_j2);
+    w2c_j0 = w2c_l4;
+    w2c_i0 = (u32)(w2c_j0);
+    w2c_i0 = i32_load8_u(m, (u64)(w2c_i0) + 320u);
+    w2c_i1 = 1u;
+    w2c_i0 = w2c_i0 != w2c_i1;
+    if (w2c_i0) {goto w2c_B33;}
+    w2c_j0 = w2c_l4;
+    w2c_i0 = (u32)(w2c_j0);
+    w2c_i0 = i32_load(m, (u64)(w2c_i0) + 328u);
+    w2c_i1 = 20043u;
+    w2c_i0 = w2c_i0 == w2c_i1;
+    if (w2c_i0) {goto w2c_B31;}
+    w2c_B33:;
     w2c_j0 = w2c_l4;
     w2c_j1 = 288ull;
     w2c_j0 += w2c_j1;
-    w2c_j1 = w2c_l8;
-    w2c_j2 = w2c_l7;
-    w2c_f30(m, w2c_j0, w2c_j1, w2c_j2);
+    w2c_j1 = w2c_l9;
+    w2c_j2 = w2c_l6;
+    w2c_f32(m, w2c_j0, w2c_j1, w2c_j2);
+    w2c_j0 = w2c_l6;
+    w2c_l8 = w2c_j0;
     w2c_j0 = w2c_l4;
     w2c_i0 = (u32)(w2c_j0);
     w2c_i0 = i32_load8_u(m, (u64)(w2c_i0) + 288u);
     w2c_i1 = 1u;
-    w2c_i0 = w2c_i0 != w2c_i1;
-    if (w2c_i0) {goto w2c_B47;}
-    w2c_j0 = w2c_l4;
-    w2c_i0 = (u32)(w2c_j0);
-    w2c_i0 = i32_load(m, (u64)(w2c_i0) + 296u);
-    w2c_i1 = 20043u;
     w2c_i0 = w2c_i0 == w2c_i1;
-    if (w2c_i0) {goto w2c_B45;}
-    w2c_B47:;
-    w2c_j0 = w2c_l4;
-    w2c_j1 = 344ull;
-    w2c_j0 += w2c_j1;
-    w2c_j1 = w2c_l8;
-    w2c_j2 = w2c_l7;
-    w2c_f30(m, w2c_j0, w2c_j1, w2c_j2);
-    w2c_j0 = w2c_l7;
-    w2c_l6 = w2c_j0;
-    w2c_j0 = w2c_l4;
-    w2c_i0 = (u32)(w2c_j0);
-    w2c_i0 = i32_load8_u(m, (u64)(w2c_i0) + 344u);
-    w2c_i1 = 1u;
-    w2c_i0 = w2c_i0 == w2c_i1;
-    if (w2c_i0) {goto w2c_L46;}
-    goto w2c_B44;
+    if (w2c_i0) {goto w2c_L32;}
+    goto w2c_B30;
   UNREACHABLE;
-  w2c_B45:;
+  w2c_B31:;
   w2c_j0 = 0ull;
-  w2c_l7 = w2c_j0;
+  w2c_l6 = w2c_j0;
   w2c_j0 = 0ull;
-  w2c_l8 = w2c_j0;
-  w2c_j0 = w2c_p2;
+  w2c_l9 = w2c_j0;
+  w2c_j0 = w2c_l10;
   w2c_j1 = w2c_l4;
   w2c_i1 = (u32)(w2c_j1);
-  w2c_j1 = i64_load(m, (u64)(w2c_i1) + 312u);
+  w2c_j1 = i64_load(m, (u64)(w2c_i1) + 344u);
   w2c_l11 = w2c_j1;
   w2c_j0 -= w2c_j1;
-  w2c_l5 = w2c_j0;
+  w2c_p2 = w2c_j0;
   w2c_j1 = 8ull;
   w2c_i0 = w2c_j0 < w2c_j1;
-  if (w2c_i0) {goto w2c_B48;}
+  if (w2c_i0) {goto w2c_B34;}
   w2c_j0 = 0ull;
-  w2c_l8 = w2c_j0;
-  w2c_j0 = w2c_l5;
-  w2c_l10 = w2c_j0;
+  w2c_l9 = w2c_j0;
+  w2c_j0 = w2c_p2;
+  w2c_p1 = w2c_j0;
   w2c_j0 = 0ull;
-  w2c_l7 = w2c_j0;
-  w2c_L49:
-    w2c_j0 = w2c_p1;
-    w2c_j1 = w2c_l7;
+  w2c_l6 = w2c_j0;
+  w2c_L35:
+    w2c_j0 = w2c_l7;
+    w2c_j1 = w2c_l6;
     w2c_j0 += w2c_j1;
     w2c_i0 = (u32)(w2c_j0);
     w2c_j0 = i64_load(m, (u64)(w2c_i0));
@@ -26566,38 +28753,38 @@ static void w2c_f28(module *m, u64 w2c_p0, u64 w2c_p1, u64 w2c_p2, u32 w2c_p3) {
     w2c_j0 &= w2c_j1;
     w2c_j1 = 63050398541283552ull;
     w2c_i0 = w2c_j0 != w2c_j1;
-    if (w2c_i0) {goto w2c_B48;}
-    w2c_j0 = w2c_l8;
+    if (w2c_i0) {goto w2c_B34;}
+    w2c_j0 = w2c_l9;
     w2c_j1 = 3ull;
     w2c_j0 += w2c_j1;
-    w2c_l8 = w2c_j0;
-    w2c_j0 = w2c_l7;
+    w2c_l9 = w2c_j0;
+    w2c_j0 = w2c_l6;
     w2c_j1 = 9ull;
     w2c_j0 += w2c_j1;
-    w2c_l7 = w2c_j0;
-    w2c_j0 = w2c_l10;
+    w2c_l6 = w2c_j0;
+    w2c_j0 = w2c_p1;
     w2c_j1 = 18446744073709551607ull;
     w2c_j0 += w2c_j1;
-    w2c_l10 = w2c_j0;
+    w2c_p1 = w2c_j0;
     w2c_j1 = 7ull;
     w2c_i0 = w2c_j0 > w2c_j1;
-    if (w2c_i0) {goto w2c_L49;}
-  w2c_B48:;
-  w2c_j0 = w2c_p2;
-  w2c_j1 = w2c_l6;
+    if (w2c_i0) {goto w2c_L35;}
+  w2c_B34:;
+  w2c_j0 = w2c_l10;
+  w2c_j1 = w2c_l8;
   w2c_j0 -= w2c_j1;
-  w2c_l6 = w2c_j0;
-  w2c_j0 = w2c_l7;
-  w2c_j1 = w2c_l5;
+  w2c_l12 = w2c_j0;
+  w2c_j0 = w2c_l6;
+  w2c_j1 = w2c_p2;
   w2c_i0 = w2c_j0 >= w2c_j1;
-  if (w2c_i0) {goto w2c_B50;}
-  w2c_L51:
-    w2c_j0 = w2c_l8;
+  if (w2c_i0) {goto w2c_B36;}
+  w2c_L37:
+    w2c_j0 = w2c_l9;
     w2c_j1 = 1ull;
     w2c_j0 += w2c_j1;
-    w2c_l8 = w2c_j0;
-    w2c_j0 = w2c_p1;
-    w2c_j1 = w2c_l7;
+    w2c_l9 = w2c_j0;
+    w2c_j0 = w2c_l7;
+    w2c_j1 = w2c_l6;
     w2c_j0 += w2c_j1;
     w2c_i0 = (u32)(w2c_j0);
     w2c_i0 = i32_load8_u(m, (u64)(w2c_i0));
@@ -26610,43 +28797,480 @@ static void w2c_f28(module *m, u64 w2c_p0, u64 w2c_p1, u64 w2c_p2, u32 w2c_p3) {
     w2c_j0 += w2c_j1;
     w2c_i0 = (u32)(w2c_j0);
     w2c_j0 = i64_load(m, (u64)(w2c_i0));
-    w2c_j1 = w2c_l7;
+    w2c_j1 = w2c_l6;
     w2c_j0 += w2c_j1;
-    w2c_l7 = w2c_j0;
-    w2c_j1 = w2c_l5;
+    w2c_l6 = w2c_j0;
+    w2c_j1 = w2c_p2;
     w2c_i0 = w2c_j0 < w2c_j1;
-    if (w2c_i0) {goto w2c_L51;}
+    if (w2c_i0) {goto w2c_L37;}
+  w2c_B36:;
+  w2c_j0 = w2c_l4;
+  w2c_i0 = (u32)(w2c_j0);
+  w2c_j0 = i64_load(m, (u64)(w2c_i0) + 336u);
+  w2c_l13 = w2c_j0;
+  w2c_j0 = w2c_l4;
+  w2c_j1 = 256ull;
+  w2c_j0 += w2c_j1;
+  w2c_j1 = w2c_l7;
+  w2c_j2 = w2c_l12;
+  w2c_f32(m, w2c_j0, w2c_j1, w2c_j2);
+  w2c_j0 = w2c_l4;
+  w2c_i0 = (u32)(w2c_j0);
+  w2c_i0 = i32_load8_u(m, (u64)(w2c_i0) + 256u);
+  w2c_i1 = 1u;
+  w2c_i0 = w2c_i0 != w2c_i1;
+  if (w2c_i0) {goto w2c_B30;}
+  w2c_j0 = w2c_l4;
+  w2c_j1 = 256ull;
+  w2c_j0 += w2c_j1;
+  w2c_j1 = w2c_l13;
+  w2c_j2 = w2c_l11;
+  w2c_f32(m, w2c_j0, w2c_j1, w2c_j2);
+  w2c_j0 = w2c_l4;
+  w2c_i0 = (u32)(w2c_j0);
+  w2c_i0 = i32_load8_u(m, (u64)(w2c_i0) + 256u);
+  w2c_i1 = 1u;
+  w2c_i0 = w2c_i0 != w2c_i1;
+  if (w2c_i0) {goto w2c_B30;}
+  w2c_j0 = 0ull;
+  w2c_l10 = w2c_j0;
+  w2c_j0 = w2c_l4;
+  w2c_i0 = (u32)(w2c_j0);
+  w2c_j1 = 0ull;
+  i64_store(m, (u64)(w2c_i0) + 360, w2c_j1);
+  w2c_j0 = w2c_l4;
+  w2c_i0 = (u32)(w2c_j0);
+  w2c_j1 = 0ull;
+  i64_store(m, (u64)(w2c_i0) + 352, w2c_j1);
+  w2c_j0 = w2c_l4;
+  w2c_i0 = (u32)(w2c_j0);
+  w2c_j1 = 0ull;
+  i64_store(m, (u64)(w2c_i0) + 344, w2c_j1);
+  w2c_j0 = w2c_l4;
+  w2c_i0 = (u32)(w2c_j0);
+  w2c_j1 = 0ull;
+  i64_store(m, (u64)(w2c_i0) + 336, w2c_j1);
+  w2c_j0 = w2c_l4;
+  w2c_i0 = (u32)(w2c_j0);
+  w2c_j1 = 0ull;
+  i64_store(m, (u64)(w2c_i0) + 328, w2c_j1);
+  w2c_j0 = w2c_l4;
+  w2c_i0 = (u32)(w2c_j0);
+  w2c_j1 = 0ull;
+  i64_store(m, (u64)(w2c_i0) + 320, w2c_j1);
+  w2c_i0 = 0u;
+  w2c_l14 = w2c_i0;
+  w2c_j0 = w2c_l12;
+  w2c_i0 = !(w2c_j0);
+  if (w2c_i0) {goto w2c_B28;}
+  w2c_j0 = w2c_l5;
+  w2c_p2 = w2c_j0;
+  w2c_j0 = w2c_l12;
+  w2c_l8 = w2c_j0;
+  w2c_j0 = w2c_l7;
+  w2c_l6 = w2c_j0;
+  w2c_L39:
+    w2c_j0 = w2c_l6;
+    w2c_i0 = (u32)(w2c_j0);
+    w2c_i0 = i32_load8_u(m, (u64)(w2c_i0));
+    w2c_l16 = w2c_i0;
+    w2c_i1 = 32u;
+    w2c_i0 = w2c_i0 > w2c_i1;
+    if (w2c_i0) {goto w2c_B41;}
+    w2c_j0 = 1ull;
+    w2c_i1 = w2c_l16;
+    w2c_j1 = (u64)(w2c_i1);
+    w2c_j0 <<= (w2c_j1 & 63);
+    w2c_j1 = 4294983168ull;
+    w2c_j0 &= w2c_j1;
+    w2c_j1 = 0ull;
+    w2c_i0 = w2c_j0 == w2c_j1;
+    if (w2c_i0) {goto w2c_B41;}
+    w2c_j0 = w2c_l8;
+    w2c_j1 = 18446744073709551615ull;
+    w2c_j0 += w2c_j1;
+    w2c_l8 = w2c_j0;
+    w2c_j0 = w2c_l6;
+    w2c_j1 = 1ull;
+    w2c_j0 += w2c_j1;
+    w2c_l6 = w2c_j0;
+    goto w2c_B40;
+    w2c_B41:;
+    w2c_i0 = w2c_l16;
+    w2c_i1 = 4294967102u;
+    w2c_i0 += w2c_i1;
+    w2c_l17 = w2c_i0;
+    w2c_i1 = 33u;
+    w2c_i0 = w2c_i0 > w2c_i1;
+    if (w2c_i0) {goto w2c_B42;}
+    w2c_j0 = 1ull;
+    w2c_i1 = w2c_l17;
+    w2c_j1 = (u64)(w2c_i1);
+    w2c_j0 <<= (w2c_j1 & 63);
+    w2c_j1 = 15032385537ull;
+    w2c_j0 &= w2c_j1;
+    w2c_j1 = 0ull;
+    w2c_i0 = w2c_j0 == w2c_j1;
+    if (w2c_i0) {goto w2c_B42;}
+    w2c_j0 = w2c_l6;
+    w2c_i0 = (u32)(w2c_j0);
+    w2c_i0 = i32_load8_u(m, (u64)(w2c_i0) + 1u);
+    w2c_l17 = w2c_i0;
+    w2c_j0 = w2c_l8;
+    w2c_j1 = 3ull;
+    w2c_i0 = w2c_j0 < w2c_j1;
+    if (w2c_i0) {goto w2c_B44;}
+    w2c_i0 = w2c_l16;
+    w2c_i1 = 240u;
+    w2c_i0 &= w2c_i1;
+    w2c_i1 = 224u;
+    w2c_i0 = w2c_i0 != w2c_i1;
+    if (w2c_i0) {goto w2c_B44;}
+    w2c_i0 = w2c_l16;
+    w2c_i1 = 12u;
+    w2c_i0 <<= (w2c_i1 & 31);
+    w2c_i1 = w2c_l17;
+    w2c_i2 = 6u;
+    w2c_i1 <<= (w2c_i2 & 31);
+    w2c_i0 += w2c_i1;
+    w2c_j1 = w2c_l6;
+    w2c_i1 = (u32)(w2c_j1);
+    w2c_i1 = i32_load8_u(m, (u64)(w2c_i1) + 2u);
+    w2c_i0 += w2c_i1;
+    w2c_i1 = 4294041472u;
+    w2c_i0 += w2c_i1;
+    w2c_l16 = w2c_i0;
+    w2c_j0 = w2c_l8;
+    w2c_j1 = 18446744073709551613ull;
+    w2c_j0 += w2c_j1;
+    w2c_l8 = w2c_j0;
+    w2c_j0 = w2c_l6;
+    w2c_j1 = 3ull;
+    w2c_j0 += w2c_j1;
+    w2c_l6 = w2c_j0;
+    goto w2c_B43;
+    w2c_B44:;
+    w2c_i0 = w2c_l17;
+    w2c_i1 = 63u;
+    w2c_i0 &= w2c_i1;
+    w2c_l17 = w2c_i0;
+    w2c_i0 = w2c_l16;
+    w2c_i1 = 223u;
+    w2c_i0 = w2c_i0 > w2c_i1;
+    if (w2c_i0) {goto w2c_B46;}
+    w2c_i0 = w2c_l16;
+    w2c_i1 = 6u;
+    w2c_i0 <<= (w2c_i1 & 31);
+    w2c_i1 = 1984u;
+    w2c_i0 &= w2c_i1;
+    w2c_i1 = w2c_l17;
+    w2c_i0 |= w2c_i1;
+    w2c_l16 = w2c_i0;
+    w2c_j0 = 2ull;
+    w2c_p1 = w2c_j0;
+    goto w2c_B45;
+    w2c_B46:;
+    w2c_i0 = w2c_l17;
+    w2c_i1 = 6u;
+    w2c_i0 <<= (w2c_i1 & 31);
+    w2c_i1 = w2c_l16;
+    w2c_i2 = 12u;
+    w2c_i1 <<= (w2c_i2 & 31);
+    w2c_i2 = 61440u;
+    w2c_i1 &= w2c_i2;
+    w2c_i0 |= w2c_i1;
+    w2c_j1 = w2c_l6;
+    w2c_i1 = (u32)(w2c_j1);
+    w2c_i1 = i32_load8_u(m, (u64)(w2c_i1) + 2u);
+    w2c_i2 = 63u;
+    w2c_i1 &= w2c_i2;
+    w2c_i0 |= w2c_i1;
+    w2c_l16 = w2c_i0;
+    w2c_j0 = 3ull;
+    w2c_p1 = w2c_j0;
+    w2c_B45:;
+    w2c_j0 = w2c_l8;
+    w2c_j1 = w2c_p1;
+    w2c_j0 -= w2c_j1;
+    w2c_l8 = w2c_j0;
+    w2c_j0 = w2c_l6;
+    w2c_j1 = w2c_p1;
+    w2c_j0 += w2c_j1;
+    w2c_l6 = w2c_j0;
+    w2c_B43:;
+    w2c_i0 = w2c_l16;
+    w2c_i1 = 127u;
+    w2c_i0 = w2c_i0 > w2c_i1;
+    if (w2c_i0) {goto w2c_B47;}
+    w2c_i0 = w2c_l16;
+    w2c_i1 = 4294967287u;
+    w2c_i0 += w2c_i1;
+    w2c_i1 = 5u;
+    w2c_i0 = w2c_i0 < w2c_i1;
+    if (w2c_i0) {goto w2c_B40;}
+    w2c_i0 = w2c_l16;
+    w2c_i1 = 32u;
+    w2c_i0 = w2c_i0 != w2c_i1;
+    if (w2c_i0) {goto w2c_B42;}
+    goto w2c_B40;
+    w2c_B47:;
+    w2c_i0 = w2c_l16;
+    w2c_i1 = 4294959104u;
+    w2c_i0 += w2c_i1;
+    w2c_i1 = 11u;
+    w2c_i0 = w2c_i0 < w2c_i1;
+    if (w2c_i0) {goto w2c_B40;}
+    w2c_i0 = w2c_l16;
+    w2c_i1 = 8231u;
+    w2c_i0 = (u32)((s32)w2c_i0 > (s32)w2c_i1);
+    if (w2c_i0) {goto w2c_B48;}
+    w2c_i0 = w2c_l16;
+    w2c_i1 = 133u;
+    w2c_i0 = w2c_i0 == w2c_i1;
+    if (w2c_i0) {goto w2c_B40;}
+    w2c_i0 = w2c_l16;
+    w2c_i1 = 160u;
+    w2c_i0 = w2c_i0 == w2c_i1;
+    if (w2c_i0) {goto w2c_B40;}
+    w2c_i0 = w2c_l16;
+    w2c_i1 = 5760u;
+    w2c_i0 = w2c_i0 != w2c_i1;
+    if (w2c_i0) {goto w2c_B42;}
+    goto w2c_B40;
+    w2c_B48:;
+    w2c_i0 = w2c_l16;
+    w2c_i1 = 4294959064u;
+    w2c_i0 += w2c_i1;
+    w2c_l17 = w2c_i0;
+    w2c_i1 = 55u;
+    w2c_i0 = w2c_i0 > w2c_i1;
+    if (w2c_i0) {goto w2c_B49;}
+    w2c_j0 = 1ull;
+    w2c_i1 = w2c_l17;
+    w2c_j1 = (u64)(w2c_i1);
+    w2c_j0 <<= (w2c_j1 & 63);
+    w2c_j1 = 36028797018964099ull;
+    w2c_j0 &= w2c_j1;
+    w2c_j1 = 0ull;
+    w2c_i0 = w2c_j0 != w2c_j1;
+    if (w2c_i0) {goto w2c_B40;}
+    w2c_B49:;
+    w2c_i0 = w2c_l16;
+    w2c_i1 = 12288u;
+    w2c_i0 = w2c_i0 == w2c_i1;
+    if (w2c_i0) {goto w2c_B40;}
+    w2c_B42:;
+    w2c_j0 = w2c_l4;
+    w2c_j1 = 320ull;
+    w2c_j0 += w2c_j1;
+    w2c_i1 = w2c_p3;
+    w2c_j2 = w2c_l5;
+    w2c_j3 = w2c_l7;
+    w2c_j4 = w2c_l12;
+    w2c_f33(m, w2c_j0, w2c_i1, w2c_j2, w2c_j3, w2c_j4);
+    w2c_j0 = w2c_l4;
+    w2c_i0 = (u32)(w2c_j0);
+    w2c_j0 = i64_load(m, (u64)(w2c_i0) + 336u);
+    w2c_l10 = w2c_j0;
+    w2c_j0 = w2c_l4;
+    w2c_i0 = (u32)(w2c_j0);
+    w2c_i0 = i32_load8_u(m, (u64)(w2c_i0) + 320u);
+    w2c_i0 = !(w2c_i0);
+    if (w2c_i0) {goto w2c_B38;}
+    w2c_j0 = w2c_l4;
+    w2c_i0 = (u32)(w2c_j0);
+    w2c_i0 = i32_load8_u(m, (u64)(w2c_i0) + 328u);
+    w2c_l14 = w2c_i0;
+    goto w2c_B28;
+    w2c_B40:;
+    w2c_j0 = w2c_p2;
+    w2c_j1 = 1ull;
+    w2c_j0 += w2c_j1;
+    w2c_p2 = w2c_j0;
+    w2c_j0 = w2c_l8;
+    w2c_i0 = !(w2c_j0);
+    w2c_i0 = !(w2c_i0);
+    if (w2c_i0) {goto w2c_L39;}
+    goto w2c_B28;
+  UNREACHABLE;
+  w2c_B38:;
+  w2c_j0 = w2c_l10;
+  w2c_j1 = w2c_l4;
+  w2c_i1 = (u32)(w2c_j1);
+  w2c_j1 = i64_load(m, (u64)(w2c_i1) + 344u);
+  w2c_l7 = w2c_j1;
+  w2c_j0 |= w2c_j1;
+  w2c_i0 = !(w2c_j0);
+  w2c_j1 = w2c_l4;
+  w2c_i1 = (u32)(w2c_j1);
+  w2c_j1 = i64_load(m, (u64)(w2c_i1) + 352u);
+  w2c_j2 = 0ull;
+  w2c_i1 = w2c_j1 != w2c_j2;
+  w2c_i0 |= w2c_i1;
+  w2c_l14 = w2c_i0;
+  w2c_i0 = !(w2c_i0);
+  if (w2c_i0) {goto w2c_B50;}
+  w2c_j0 = w2c_p2;
+  w2c_j1 = w2c_l10;
+  w2c_i2 = w2c_l14;
+  w2c_j0 = w2c_i2 ? w2c_j0 : w2c_j1;
+  w2c_l10 = w2c_j0;
+  w2c_i0 = 1u;
+  w2c_l14 = w2c_i0;
+  goto w2c_B28;
   w2c_B50:;
   w2c_j0 = w2c_l4;
-  w2c_i0 = (u32)(w2c_j0);
-  w2c_j0 = i64_load(m, (u64)(w2c_i0) + 304u);
-  w2c_l12 = w2c_j0;
-  w2c_j0 = w2c_l4;
-  w2c_j1 = 256ull;
+  w2c_j1 = 208ull;
   w2c_j0 += w2c_j1;
-  w2c_j1 = w2c_p1;
-  w2c_j2 = w2c_l6;
-  w2c_f30(m, w2c_j0, w2c_j1, w2c_j2);
+  w2c_i1 = w2c_p3;
+  w2c_j2 = w2c_l9;
+  w2c_j3 = w2c_l5;
+  w2c_j2 += w2c_j3;
+  w2c_j3 = w2c_l13;
+  w2c_j4 = w2c_l11;
+  w2c_f33(m, w2c_j0, w2c_i1, w2c_j2, w2c_j3, w2c_j4);
   w2c_j0 = w2c_l4;
   w2c_i0 = (u32)(w2c_j0);
-  w2c_i0 = i32_load8_u(m, (u64)(w2c_i0) + 256u);
-  w2c_i1 = 1u;
-  w2c_i0 = w2c_i0 != w2c_i1;
-  if (w2c_i0) {goto w2c_B44;}
+  w2c_j0 = i64_load(m, (u64)(w2c_i0) + 224u);
+  w2c_l6 = w2c_j0;
   w2c_j0 = w2c_l4;
-  w2c_j1 = 256ull;
+  w2c_i0 = (u32)(w2c_j0);
+  w2c_i0 = i32_load8_u(m, (u64)(w2c_i0) + 208u);
+  if (w2c_i0) {goto w2c_B51;}
+  w2c_j0 = w2c_l4;
+  w2c_i0 = (u32)(w2c_j0);
+  w2c_j0 = i64_load(m, (u64)(w2c_i0) + 240u);
+  w2c_l8 = w2c_j0;
+  w2c_j1 = 38ull;
+  w2c_i0 = w2c_j0 > w2c_j1;
+  if (w2c_i0) {goto w2c_B29;}
+  w2c_j0 = w2c_l4;
+  w2c_i0 = (u32)(w2c_j0);
+  w2c_j0 = i64_load(m, (u64)(w2c_i0) + 232u);
+  w2c_l9 = w2c_j0;
+  w2c_j0 = w2c_l4;
+  w2c_j1 = 16ull;
   w2c_j0 += w2c_j1;
-  w2c_j1 = w2c_l12;
-  w2c_j2 = w2c_l11;
-  w2c_f30(m, w2c_j0, w2c_j1, w2c_j2);
+  w2c_j1 = w2c_l8;
+  w2c_j2 = 4ull;
+  w2c_j1 <<= (w2c_j2 & 63);
+  w2c_l8 = w2c_j1;
+  w2c_j2 = 68608ull;
+  w2c_j1 += w2c_j2;
+  w2c_i1 = (u32)(w2c_j1);
+  w2c_j1 = i64_load(m, (u64)(w2c_i1));
+  w2c_l5 = w2c_j1;
+  w2c_j2 = 0ull;
+  w2c_j3 = w2c_l10;
+  w2c_j4 = 0ull;
+  w2c_f3(m, w2c_j0, w2c_j1, w2c_j2, w2c_j3, w2c_j4);
+  w2c_j0 = w2c_l4;
+  w2c_j1 = 48ull;
+  w2c_j0 += w2c_j1;
+  w2c_j1 = w2c_l8;
+  w2c_j2 = 68616ull;
+  w2c_j1 += w2c_j2;
+  w2c_i1 = (u32)(w2c_j1);
+  w2c_j1 = i64_load(m, (u64)(w2c_i1));
+  w2c_l8 = w2c_j1;
+  w2c_j2 = 0ull;
+  w2c_j3 = w2c_l10;
+  w2c_j4 = 0ull;
+  w2c_f3(m, w2c_j0, w2c_j1, w2c_j2, w2c_j3, w2c_j4);
+  w2c_j0 = w2c_l4;
+  w2c_j1 = w2c_l5;
+  w2c_j2 = 0ull;
+  w2c_j3 = w2c_l7;
+  w2c_j4 = 0ull;
+  w2c_f3(m, w2c_j0, w2c_j1, w2c_j2, w2c_j3, w2c_j4);
+  w2c_j0 = w2c_l4;
+  w2c_j1 = 32ull;
+  w2c_j0 += w2c_j1;
+  w2c_j1 = w2c_l8;
+  w2c_j2 = 0ull;
+  w2c_j3 = w2c_l7;
+  w2c_j4 = 0ull;
+  w2c_f3(m, w2c_j0, w2c_j1, w2c_j2, w2c_j3, w2c_j4);
   w2c_j0 = w2c_l4;
   w2c_i0 = (u32)(w2c_j0);
-  w2c_i0 = i32_load8_u(m, (u64)(w2c_i0) + 256u);
-  w2c_i1 = 1u;
-  w2c_i0 = w2c_i0 != w2c_i1;
-  if (w2c_i0) {goto w2c_B44;}
-  w2c_j0 = 0ull;
-  w2c_l13 = w2c_j0;
+  w2c_j0 = i64_load(m, (u64)(w2c_i0) + 8u);
+  w2c_j1 = w2c_l4;
+  w2c_i1 = (u32)(w2c_j1);
+  w2c_j1 = i64_load(m, (u64)(w2c_i1) + 24u);
+  w2c_p2 = w2c_j1;
+  w2c_j2 = w2c_l4;
+  w2c_i2 = (u32)(w2c_j2);
+  w2c_j2 = i64_load(m, (u64)(w2c_i2) + 48u);
+  w2c_j1 += w2c_j2;
+  w2c_l5 = w2c_j1;
+  w2c_j2 = w2c_l4;
+  w2c_i2 = (u32)(w2c_j2);
+  w2c_j2 = i64_load(m, (u64)(w2c_i2));
+  w2c_j1 += w2c_j2;
+  w2c_l8 = w2c_j1;
+  w2c_j2 = w2c_l5;
+  w2c_i1 = w2c_j1 < w2c_j2;
+  w2c_j1 = (u64)(w2c_i1);
+  w2c_j0 += w2c_j1;
+  w2c_j1 = w2c_l4;
+  w2c_i1 = (u32)(w2c_j1);
+  w2c_j1 = i64_load(m, (u64)(w2c_i1) + 56u);
+  w2c_j2 = w2c_l5;
+  w2c_j3 = w2c_p2;
+  w2c_i2 = w2c_j2 < w2c_j3;
+  w2c_j2 = (u64)(w2c_i2);
+  w2c_j1 += w2c_j2;
+  w2c_l5 = w2c_j1;
+  w2c_j2 = w2c_l4;
+  w2c_i2 = (u32)(w2c_j2);
+  w2c_j2 = i64_load(m, (u64)(w2c_i2) + 32u);
+  w2c_j1 += w2c_j2;
+  w2c_p2 = w2c_j1;
+  w2c_j0 |= w2c_j1;
+  w2c_j1 = w2c_l4;
+  w2c_i1 = (u32)(w2c_j1);
+  w2c_j1 = i64_load(m, (u64)(w2c_i1) + 40u);
+  w2c_j2 = w2c_p2;
+  w2c_j3 = w2c_l5;
+  w2c_i2 = w2c_j2 < w2c_j3;
+  w2c_j2 = (u64)(w2c_i2);
+  w2c_j1 += w2c_j2;
+  w2c_j0 |= w2c_j1;
+  w2c_j1 = 0ull;
+  w2c_i0 = w2c_j0 != w2c_j1;
+  if (w2c_i0) {goto w2c_B29;}
+  w2c_i0 = 2u;
+  w2c_i1 = 3u;
+  w2c_j2 = w2c_l10;
+  w2c_j3 = 100ull;
+  w2c_j2 ^= w2c_j3;
+  w2c_j3 = w2c_l7;
+  w2c_j2 |= w2c_j3;
+  w2c_i2 = !(w2c_j2);
+  w2c_i0 = w2c_i2 ? w2c_i0 : w2c_i1;
+  w2c_l14 = w2c_i0;
+  w2c_j0 = w2c_l4;
+  w2c_i0 = (u32)(w2c_j0);
+  w2c_j0 = i64_load(m, (u64)(w2c_i0) + 16u);
+  w2c_l5 = w2c_j0;
+  goto w2c_B27;
+  w2c_B51:;
+  w2c_j0 = w2c_l4;
+  w2c_i0 = (u32)(w2c_j0);
+  w2c_i0 = i32_load8_u(m, (u64)(w2c_i0) + 216u);
+  w2c_l14 = w2c_i0;
+  w2c_j0 = w2c_l6;
+  w2c_l10 = w2c_j0;
+  goto w2c_B28;
+  w2c_B30:;
+  w2c_j0 = w2c_l4;
+  w2c_i0 = (u32)(w2c_j0);
+  w2c_j1 = 0ull;
+  i64_store(m, (u64)(w2c_i0) + 344, w2c_j1);
+  w2c_j0 = w2c_l4;
+  w2c_i0 = (u32)(w2c_j0);
+  w2c_j1 = 0ull;
+  i64_store(m, (u64)(w2c_i0) + 336, w2c_j1);
   w2c_j0 = w2c_l4;
   w2c_i0 = (u32)(w2c_j0);
   w2c_j1 = 0ull;
@@ -26656,826 +29280,82 @@ static void w2c_f28(module *m, u64 w2c_p0, u64 w2c_p1, u64 w2c_p2, u32 w2c_p3) {
   w2c_j1 = 0ull;
   i64_store(m, (u64)(w2c_i0) + 320, w2c_j1);
   w2c_j0 = w2c_l4;
-  w2c_i0 = (u32)(w2c_j0);
-  w2c_j1 = 0ull;
-  i64_store(m, (u64)(w2c_i0) + 312, w2c_j1);
-  w2c_j0 = w2c_l4;
-  w2c_i0 = (u32)(w2c_j0);
-  w2c_j1 = 0ull;
-  i64_store(m, (u64)(w2c_i0) + 304, w2c_j1);
-  w2c_j0 = w2c_l4;
-  w2c_i0 = (u32)(w2c_j0);
-  w2c_j1 = 0ull;
-  i64_store(m, (u64)(w2c_i0) + 296, w2c_j1);
-  w2c_j0 = w2c_l4;
-  w2c_i0 = (u32)(w2c_j0);
-  w2c_j1 = 0ull;
-  i64_store(m, (u64)(w2c_i0) + 288, w2c_j1);
-  w2c_j0 = 0ull;
-  w2c_l5 = w2c_j0;
-  w2c_j0 = w2c_p1;
-  w2c_l7 = w2c_j0;
-  w2c_j0 = w2c_l6;
-  w2c_i0 = !(w2c_j0);
-  if (w2c_i0) {goto w2c_B64;}
-  w2c_j0 = 1ull;
-  w2c_p2 = w2c_j0;
-  w2c_j0 = w2c_p1;
-  w2c_i0 = (u32)(w2c_j0);
-  w2c_i0 = i32_load8_u(m, (u64)(w2c_i0));
-  w2c_l14 = w2c_i0;
-  w2c_i1 = 32u;
-  w2c_i0 = w2c_i0 == w2c_i1;
-  if (w2c_i0) {goto w2c_B65;}
-  w2c_i0 = w2c_l14;
-  w2c_i1 = 227u;
-  w2c_i0 = w2c_i0 == w2c_i1;
-  if (w2c_i0) {goto w2c_B68;}
-  w2c_i0 = w2c_l14;
-  w2c_i1 = 194u;
-  w2c_i0 = w2c_i0 != w2c_i1;
-  if (w2c_i0) {goto w2c_B67;}
-  w2c_j0 = 1ull;
-  w2c_l10 = w2c_j0;
-  w2c_j0 = w2c_l6;
-  w2c_j1 = 1ull;
-  w2c_i0 = w2c_j0 != w2c_j1;
-  if (w2c_i0) {goto w2c_B69;}
-  w2c_j0 = 0ull;
-  w2c_l5 = w2c_j0;
-  w2c_j0 = w2c_p1;
-  w2c_l7 = w2c_j0;
-  goto w2c_B62;
-  w2c_B69:;
-  w2c_j0 = w2c_p1;
-  w2c_i0 = (u32)(w2c_j0);
-  w2c_i0 = i32_load8_u(m, (u64)(w2c_i0) + 1u);
-  w2c_i1 = 160u;
-  w2c_i0 = w2c_i0 == w2c_i1;
-  if (w2c_i0) {goto w2c_B66;}
-  goto w2c_B61;
-  w2c_B68:;
-  w2c_j0 = w2c_l6;
-  w2c_j1 = 3ull;
-  w2c_i0 = w2c_j0 >= w2c_j1;
-  if (w2c_i0) {goto w2c_B70;}
-  w2c_j0 = 0ull;
-  w2c_l5 = w2c_j0;
-  w2c_j0 = w2c_p1;
-  w2c_l7 = w2c_j0;
-  w2c_j0 = w2c_l6;
-  w2c_l10 = w2c_j0;
-  goto w2c_B62;
-  w2c_B70:;
-  w2c_j0 = 0ull;
-  w2c_l5 = w2c_j0;
-  w2c_j0 = w2c_p1;
-  w2c_i0 = (u32)(w2c_j0);
-  w2c_i0 = i32_load8_u(m, (u64)(w2c_i0) + 1u);
-  w2c_i1 = 128u;
-  w2c_i0 = w2c_i0 == w2c_i1;
-  if (w2c_i0) {goto w2c_B71;}
-  w2c_j0 = w2c_p1;
-  w2c_l7 = w2c_j0;
-  w2c_j0 = w2c_l6;
-  w2c_l10 = w2c_j0;
-  goto w2c_B63;
-  w2c_B71:;
-  w2c_j0 = w2c_p1;
-  w2c_l7 = w2c_j0;
-  w2c_j0 = w2c_l6;
-  w2c_l10 = w2c_j0;
-  w2c_j0 = w2c_p1;
-  w2c_i0 = (u32)(w2c_j0);
-  w2c_i0 = i32_load8_u(m, (u64)(w2c_i0) + 2u);
-  w2c_i1 = 128u;
-  w2c_i0 = w2c_i0 != w2c_i1;
-  if (w2c_i0) {goto w2c_B63;}
-  w2c_j0 = 3ull;
-  w2c_p2 = w2c_j0;
-  goto w2c_B65;
-  w2c_B67:;
-  w2c_j0 = 1ull;
-  w2c_p2 = w2c_j0;
-  w2c_i0 = w2c_l14;
-  w2c_i1 = 4294967287u;
-  w2c_i0 += w2c_i1;
-  w2c_i1 = 255u;
-  w2c_i0 &= w2c_i1;
-  w2c_i1 = 4u;
-  w2c_i0 = w2c_i0 > w2c_i1;
-  if (w2c_i0) {goto w2c_B61;}
-  goto w2c_B65;
-  w2c_B66:;
-  w2c_j0 = 2ull;
-  w2c_p2 = w2c_j0;
-  w2c_B65:;
-  w2c_j0 = w2c_p1;
-  w2c_j1 = w2c_p2;
+  w2c_j1 = 320ull;
   w2c_j0 += w2c_j1;
-  w2c_l7 = w2c_j0;
-  w2c_j0 = w2c_l6;
-  w2c_j1 = w2c_p2;
-  w2c_j0 -= w2c_j1;
-  w2c_l10 = w2c_j0;
-  w2c_i0 = !(w2c_j0);
-  w2c_i0 = !(w2c_i0);
-  if (w2c_i0) {goto w2c_B72;}
-  w2c_j0 = 1ull;
-  w2c_l5 = w2c_j0;
-  goto w2c_B64;
-  w2c_B72:;
-  w2c_j0 = 1ull;
-  w2c_l5 = w2c_j0;
-  w2c_L73:
-    w2c_j0 = 1ull;
-    w2c_p2 = w2c_j0;
-    w2c_j0 = w2c_l7;
-    w2c_i0 = (u32)(w2c_j0);
-    w2c_i0 = i32_load8_u(m, (u64)(w2c_i0));
-    w2c_l14 = w2c_i0;
-    w2c_i1 = 32u;
-    w2c_i0 = w2c_i0 == w2c_i1;
-    if (w2c_i0) {goto w2c_B74;}
-    w2c_i0 = w2c_l14;
-    w2c_i1 = 227u;
-    w2c_i0 = w2c_i0 == w2c_i1;
-    if (w2c_i0) {goto w2c_B76;}
-    w2c_i0 = w2c_l14;
-    w2c_i1 = 194u;
-    w2c_i0 = w2c_i0 != w2c_i1;
-    if (w2c_i0) {goto w2c_B75;}
-    w2c_j0 = w2c_l10;
-    w2c_j1 = 1ull;
-    w2c_i0 = w2c_j0 != w2c_j1;
-    if (w2c_i0) {goto w2c_B77;}
-    w2c_j0 = 1ull;
-    w2c_l10 = w2c_j0;
-    goto w2c_B62;
-    w2c_B77:;
-    w2c_j0 = w2c_l7;
-    w2c_i0 = (u32)(w2c_j0);
-    w2c_i0 = i32_load8_u(m, (u64)(w2c_i0) + 1u);
-    w2c_i1 = 160u;
-    w2c_i0 = w2c_i0 != w2c_i1;
-    if (w2c_i0) {goto w2c_B60;}
-    w2c_j0 = 2ull;
-    w2c_p2 = w2c_j0;
-    goto w2c_B74;
-    w2c_B76:;
-    w2c_j0 = w2c_l10;
-    w2c_j1 = 3ull;
-    w2c_i0 = w2c_j0 < w2c_j1;
-    if (w2c_i0) {goto w2c_B62;}
-    w2c_j0 = w2c_l7;
-    w2c_i0 = (u32)(w2c_j0);
-    w2c_i0 = i32_load8_u(m, (u64)(w2c_i0) + 1u);
-    w2c_i1 = 128u;
-    w2c_i0 = w2c_i0 != w2c_i1;
-    if (w2c_i0) {goto w2c_B63;}
-    w2c_j0 = w2c_l7;
-    w2c_i0 = (u32)(w2c_j0);
-    w2c_i0 = i32_load8_u(m, (u64)(w2c_i0) + 2u);
-    w2c_i1 = 128u;
-    w2c_i0 = w2c_i0 != w2c_i1;
-    if (w2c_i0) {goto w2c_B63;}
-    w2c_j0 = 3ull;
-    w2c_p2 = w2c_j0;
-    goto w2c_B74;
-    w2c_B75:;
-    w2c_j0 = 1ull;
-    w2c_p2 = w2c_j0;
-    w2c_i0 = w2c_l14;
-    w2c_i1 = 4294967287u;
-    w2c_i0 += w2c_i1;
-    w2c_i1 = 255u;
-    w2c_i0 &= w2c_i1;
-    w2c_i1 = 4u;
-    w2c_i0 = w2c_i0 > w2c_i1;
-    if (w2c_i0) {goto w2c_B60;}
-    w2c_B74:;
-    w2c_j0 = w2c_l5;
-    w2c_j1 = 1ull;
-    w2c_j0 += w2c_j1;
-    w2c_l5 = w2c_j0;
-    w2c_j0 = w2c_l7;
-    w2c_j1 = w2c_p2;
-    w2c_j0 += w2c_j1;
-    w2c_l7 = w2c_j0;
-    w2c_j0 = w2c_l10;
-    w2c_j1 = w2c_p2;
-    w2c_j0 -= w2c_j1;
-    w2c_l10 = w2c_j0;
-    w2c_j1 = 0ull;
-    w2c_i0 = w2c_j0 != w2c_j1;
-    if (w2c_i0) {goto w2c_L73;}
-  w2c_B64:;
-  w2c_j0 = w2c_l4;
-  w2c_i0 = (u32)(w2c_j0);
-  w2c_j1 = 0ull;
-  i64_store(m, (u64)(w2c_i0) + 344, w2c_j1);
-  w2c_j0 = w2c_l4;
-  w2c_i0 = (u32)(w2c_j0);
-  w2c_j1 = 0ull;
-  i64_store(m, (u64)(w2c_i0) + 352, w2c_j1);
-  w2c_j0 = w2c_l4;
-  w2c_i0 = (u32)(w2c_j0);
-  w2c_j1 = 0ull;
-  i64_store(m, (u64)(w2c_i0) + 360, w2c_j1);
-  w2c_j0 = w2c_l4;
-  w2c_i0 = (u32)(w2c_j0);
-  w2c_j1 = 0ull;
-  i64_store(m, (u64)(w2c_i0) + 368, w2c_j1);
-  w2c_j0 = w2c_l4;
-  w2c_i0 = (u32)(w2c_j0);
-  w2c_j1 = 0ull;
-  i64_store(m, (u64)(w2c_i0) + 376, w2c_j1);
-  goto w2c_B54;
-  w2c_B63:;
-  w2c_j0 = w2c_l4;
-  w2c_i0 = (u32)(w2c_j0);
-  w2c_j1 = 0ull;
-  i64_store(m, (u64)(w2c_i0) + 344, w2c_j1);
-  w2c_j0 = w2c_l4;
-  w2c_i0 = (u32)(w2c_j0);
-  w2c_j1 = 0ull;
-  i64_store(m, (u64)(w2c_i0) + 352, w2c_j1);
-  w2c_j0 = w2c_l4;
-  w2c_i0 = (u32)(w2c_j0);
-  w2c_j1 = 0ull;
-  i64_store(m, (u64)(w2c_i0) + 360, w2c_j1);
-  w2c_j0 = w2c_l4;
-  w2c_i0 = (u32)(w2c_j0);
-  w2c_j1 = 0ull;
-  i64_store(m, (u64)(w2c_i0) + 368, w2c_j1);
-  w2c_j0 = w2c_l4;
-  w2c_i0 = (u32)(w2c_j0);
-  w2c_j1 = 0ull;
-  i64_store(m, (u64)(w2c_i0) + 376, w2c_j1);
-  w2c_j0 = w2c_l4;
-  w2c_i0 = (u32)(w2c_j0);
-  w2c_j1 = 0ull;
-  i64_store(m, (u64)(w2c_i0) + 256, w2c_j1);
-  w2c_j0 = w2c_l4;
-  w2c_i0 = (u32)(w2c_j0);
-  w2c_j1 = 0ull;
-  i64_store(m, (u64)(w2c_i0) + 264, w2c_j1);
-  w2c_j0 = w2c_l4;
-  w2c_i0 = (u32)(w2c_j0);
-  w2c_j1 = 0ull;
-  i64_store(m, (u64)(w2c_i0) + 272, w2c_j1);
-  goto w2c_B58;
-  w2c_B62:;
-  w2c_j0 = w2c_l4;
-  w2c_i0 = (u32)(w2c_j0);
-  w2c_j1 = 0ull;
-  i64_store(m, (u64)(w2c_i0) + 344, w2c_j1);
-  w2c_j0 = w2c_l4;
-  w2c_i0 = (u32)(w2c_j0);
-  w2c_j1 = 0ull;
-  i64_store(m, (u64)(w2c_i0) + 352, w2c_j1);
-  w2c_j0 = w2c_l4;
-  w2c_i0 = (u32)(w2c_j0);
-  w2c_j1 = 0ull;
-  i64_store(m, (u64)(w2c_i0) + 360, w2c_j1);
-  w2c_j0 = w2c_l4;
-  w2c_i0 = (u32)(w2c_j0);
-  w2c_j1 = 0ull;
-  i64_store(m, (u64)(w2c_i0) + 368, w2c_j1);
-  w2c_j0 = w2c_l4;
-  w2c_i0 = (u32)(w2c_j0);
-  w2c_j1 = 0ull;
-  i64_store(m, (u64)(w2c_i0) + 376, w2c_j1);
-  w2c_j0 = w2c_l4;
-  w2c_i0 = (u32)(w2c_j0);
-  w2c_j1 = 0ull;
-  i64_store(m, (u64)(w2c_i0) + 256, w2c_j1);
-  w2c_j0 = w2c_l4;
-  w2c_i0 = (u32)(w2c_j0);
-  w2c_j1 = 0ull;
-  i64_store(m, (u64)(w2c_i0) + 264, w2c_j1);
-  w2c_j0 = w2c_l4;
-  w2c_i0 = (u32)(w2c_j0);
-  w2c_j1 = 0ull;
-  i64_store(m, (u64)(w2c_i0) + 272, w2c_j1);
-  goto w2c_B59;
-  w2c_B61:;
-  w2c_j0 = 0ull;
-  w2c_l5 = w2c_j0;
-  w2c_j0 = w2c_p1;
-  w2c_l7 = w2c_j0;
-  w2c_j0 = w2c_l6;
-  w2c_l10 = w2c_j0;
-  w2c_B60:;
-  w2c_j0 = w2c_l4;
-  w2c_i0 = (u32)(w2c_j0);
-  w2c_j1 = 0ull;
-  i64_store(m, (u64)(w2c_i0) + 344, w2c_j1);
-  w2c_j0 = w2c_l4;
-  w2c_i0 = (u32)(w2c_j0);
-  w2c_j1 = 0ull;
-  i64_store(m, (u64)(w2c_i0) + 352, w2c_j1);
-  w2c_j0 = w2c_l4;
-  w2c_i0 = (u32)(w2c_j0);
-  w2c_j1 = 0ull;
-  i64_store(m, (u64)(w2c_i0) + 360, w2c_j1);
-  w2c_j0 = w2c_l4;
-  w2c_i0 = (u32)(w2c_j0);
-  w2c_j1 = 0ull;
-  i64_store(m, (u64)(w2c_i0) + 368, w2c_j1);
-  w2c_j0 = w2c_l4;
-  w2c_i0 = (u32)(w2c_j0);
-  w2c_j1 = 0ull;
-  i64_store(m, (u64)(w2c_i0) + 376, w2c_j1);
-  w2c_j0 = w2c_l4;
-  w2c_i0 = (u32)(w2c_j0);
-  w2c_j1 = 0ull;
-  i64_store(m, (u64)(w2c_i0) + 256, w2c_j1);
-  w2c_j0 = w2c_l4;
-  w2c_i0 = (u32)(w2c_j0);
-  w2c_j1 = 0ull;
-  i64_store(m, (u64)(w2c_i0) + 264, w2c_j1);
-  w2c_j0 = w2c_l4;
-  w2c_i0 = (u32)(w2c_j0);
-  w2c_j1 = 0ull;
-  i64_store(m, (u64)(w2c_i0) + 272, w2c_j1);
-  w2c_j0 = w2c_l10;
-  w2c_j1 = 3ull;
-  w2c_i0 = w2c_j0 >= w2c_j1;
-  if (w2c_i0) {goto w2c_B58;}
-  w2c_B59:;
-  w2c_j0 = w2c_l7;
-  w2c_i0 = (u32)(w2c_j0);
-  w2c_i0 = i32_load8_u(m, (u64)(w2c_i0));
-  w2c_l14 = w2c_i0;
-  goto w2c_B57;
-  w2c_B58:;
-  w2c_j0 = w2c_l7;
-  w2c_i0 = (u32)(w2c_j0);
-  w2c_i0 = i32_load8_u(m, (u64)(w2c_i0));
-  w2c_l14 = w2c_i0;
-  w2c_i1 = 240u;
-  w2c_i0 &= w2c_i1;
-  w2c_i1 = 224u;
-  w2c_i0 = w2c_i0 != w2c_i1;
-  if (w2c_i0) {goto w2c_B57;}
-  w2c_j0 = w2c_l7;
-  w2c_i0 = (u32)(w2c_j0);
-  w2c_i0 = i32_load8_u(m, (u64)(w2c_i0) + 1u);
-  w2c_l17 = w2c_i0;
-  w2c_i1 = 8u;
-  w2c_i0 <<= (w2c_i1 & 31);
   w2c_j1 = w2c_l7;
-  w2c_i1 = (u32)(w2c_j1);
-  w2c_i1 = i32_load8_u(m, (u64)(w2c_i1) + 2u);
-  w2c_l18 = w2c_i1;
-  w2c_i2 = 16u;
-  w2c_i1 <<= (w2c_i2 & 31);
-  w2c_i0 |= w2c_i1;
-  w2c_i1 = w2c_l14;
-  w2c_i0 |= w2c_i1;
-  w2c_l16 = w2c_i0;
-  w2c_j0 = (u64)(w2c_i0);
-  w2c_j1 = 953497ull;
-  w2c_j0 *= w2c_j1;
-  w2c_j1 = 22ull;
-  w2c_j0 >>= (w2c_j1 & 63);
-  w2c_j1 = 1016ull;
-  w2c_j0 &= w2c_j1;
-  w2c_p2 = w2c_j0;
-  w2c_i0 = (u32)(w2c_j0);
-  w2c_i0 = i32_load(m, (u64)(w2c_i0) + 66976u);
-  w2c_i1 = w2c_l16;
-  w2c_i0 = w2c_i0 != w2c_i1;
-  if (w2c_i0) {goto w2c_B78;}
-  w2c_j0 = w2c_p2;
-  w2c_j1 = 66980ull;
-  w2c_j0 += w2c_j1;
-  w2c_i0 = (u32)(w2c_j0);
-  w2c_i0 = i32_load8_u(m, (u64)(w2c_i0));
-  w2c_i1 = 255u;
-  w2c_i0 &= w2c_i1;
-  w2c_i1 = 2u;
-  w2c_i0 = w2c_i0 != w2c_i1;
-  if (w2c_i0) {goto w2c_B53;}
-  w2c_B78:;
-  w2c_i0 = w2c_l17;
-  w2c_i1 = 6u;
-  w2c_i0 <<= (w2c_i1 & 31);
-  w2c_i1 = w2c_l14;
-  w2c_i2 = 12u;
-  w2c_i1 <<= (w2c_i2 & 31);
-  w2c_i0 += w2c_i1;
-  w2c_i1 = w2c_l18;
-  w2c_i0 += w2c_i1;
-  w2c_l16 = w2c_i0;
-  w2c_i1 = 4294967168u;
-  w2c_i0 &= w2c_i1;
-  w2c_i1 = 925824u;
-  w2c_i0 = w2c_i0 != w2c_i1;
-  if (w2c_i0) {goto w2c_B79;}
-  w2c_i0 = w2c_l16;
-  w2c_i1 = 4294041463u;
-  w2c_i0 += w2c_i1;
-  w2c_i1 = 5u;
-  w2c_i0 = w2c_i0 < w2c_i1;
-  if (w2c_i0) {goto w2c_B57;}
-  w2c_j0 = w2c_l10;
-  w2c_l13 = w2c_j0;
-  w2c_i0 = w2c_l16;
-  w2c_i1 = 925856u;
-  w2c_i0 = w2c_i0 == w2c_i1;
-  if (w2c_i0) {goto w2c_B55;}
-  goto w2c_B53;
-  w2c_B79:;
-  w2c_i0 = w2c_l16;
-  w2c_i1 = 4294033280u;
-  w2c_i0 += w2c_i1;
-  w2c_i1 = 11u;
-  w2c_i0 = w2c_i0 < w2c_i1;
-  if (w2c_i0) {goto w2c_B57;}
-  w2c_i0 = w2c_l16;
-  w2c_i1 = 934055u;
-  w2c_i0 = (u32)((s32)w2c_i0 > (s32)w2c_i1);
-  if (w2c_i0) {goto w2c_B80;}
-  w2c_i0 = w2c_l16;
-  w2c_i1 = 925957u;
-  w2c_i0 = w2c_i0 == w2c_i1;
-  if (w2c_i0) {goto w2c_B57;}
-  w2c_i0 = w2c_l16;
-  w2c_i1 = 925984u;
-  w2c_i0 = w2c_i0 == w2c_i1;
-  if (w2c_i0) {goto w2c_B57;}
-  w2c_j0 = w2c_l10;
-  w2c_l13 = w2c_j0;
-  w2c_i0 = w2c_l16;
-  w2c_i1 = 931584u;
-  w2c_i0 = w2c_i0 == w2c_i1;
-  if (w2c_i0) {goto w2c_B55;}
-  goto w2c_B53;
-  w2c_B80:;
-  w2c_i0 = w2c_l16;
-  w2c_i1 = 4294033240u;
-  w2c_i0 += w2c_i1;
-  w2c_l17 = w2c_i0;
-  w2c_i1 = 55u;
-  w2c_i0 = w2c_i0 > w2c_i1;
-  if (w2c_i0) {goto w2c_B56;}
-  w2c_j0 = 1ull;
-  w2c_i1 = w2c_l17;
-  w2c_j1 = (u64)(w2c_i1);
-  w2c_j0 <<= (w2c_j1 & 63);
-  w2c_j1 = 36028797018964099ull;
-  w2c_j0 &= w2c_j1;
-  w2c_j1 = 0ull;
-  w2c_i0 = w2c_j0 == w2c_j1;
-  if (w2c_i0) {goto w2c_B56;}
-  w2c_B57:;
-  w2c_j0 = w2c_l10;
-  w2c_l13 = w2c_j0;
-  goto w2c_B55;
-  w2c_B56:;
-  w2c_j0 = w2c_l10;
-  w2c_l13 = w2c_j0;
-  w2c_i0 = w2c_l16;
-  w2c_i1 = 938112u;
-  w2c_i0 = w2c_i0 != w2c_i1;
-  if (w2c_i0) {goto w2c_B53;}
-  w2c_B55:;
-  w2c_i0 = w2c_l14;
-  w2c_i1 = 4294967263u;
-  w2c_i0 += w2c_i1;
-  w2c_i1 = 255u;
-  w2c_i0 &= w2c_i1;
-  w2c_i1 = 93u;
-  w2c_i0 = w2c_i0 <= w2c_i1;
-  if (w2c_i0) {goto w2c_B53;}
-  w2c_B54:;
+  w2c_j2 = w2c_l10;
+  w2c_f34(m, w2c_j0, w2c_j1, w2c_j2);
   w2c_j0 = w2c_l4;
   w2c_i0 = (u32)(w2c_j0);
-  w2c_j1 = w2c_l13;
-  i64_store(m, (u64)(w2c_i0) + 272, w2c_j1);
-  w2c_j0 = w2c_l4;
-  w2c_i0 = (u32)(w2c_j0);
-  w2c_j1 = w2c_l7;
-  i64_store(m, (u64)(w2c_i0) + 264, w2c_j1);
-  w2c_j0 = w2c_l4;
-  w2c_i0 = (u32)(w2c_j0);
-  w2c_j1 = w2c_l5;
-  i64_store(m, (u64)(w2c_i0) + 256, w2c_j1);
-  w2c_j0 = w2c_l4;
-  w2c_j1 = 344ull;
-  w2c_j0 += w2c_j1;
-  w2c_j1 = w2c_l4;
-  w2c_j2 = 256ull;
-  w2c_j1 += w2c_j2;
-  w2c_f29(m, w2c_j0, w2c_j1);
-  w2c_j0 = w2c_l4;
-  w2c_i0 = (u32)(w2c_j0);
-  w2c_i0 = i32_load8_u(m, (u64)(w2c_i0) + 344u);
+  w2c_i0 = i32_load8_u(m, (u64)(w2c_i0) + 320u);
   w2c_i1 = 1u;
   w2c_i0 = w2c_i0 != w2c_i1;
   if (w2c_i0) {goto w2c_B52;}
   w2c_j0 = w2c_l4;
   w2c_i0 = (u32)(w2c_j0);
-  w2c_j0 = i64_load(m, (u64)(w2c_i0) + 360u);
-  w2c_l5 = w2c_j0;
-  w2c_B53:;
-  w2c_j0 = w2c_l4;
-  w2c_j1 = 288ull;
-  w2c_j0 += w2c_j1;
-  w2c_i1 = w2c_p3;
-  w2c_j2 = w2c_l9;
-  w2c_j3 = w2c_p1;
-  w2c_j4 = w2c_l6;
-  w2c_f31(m, w2c_j0, w2c_i1, w2c_j2, w2c_j3, w2c_j4);
-  w2c_j0 = w2c_l4;
-  w2c_i0 = (u32)(w2c_j0);
-  w2c_j0 = i64_load(m, (u64)(w2c_i0) + 304u);
-  w2c_p1 = w2c_j0;
-  w2c_j0 = w2c_l4;
-  w2c_i0 = (u32)(w2c_j0);
-  w2c_i0 = i32_load8_u(m, (u64)(w2c_i0) + 288u);
-  w2c_i0 = !(w2c_i0);
-  if (w2c_i0) {goto w2c_B81;}
-  w2c_j0 = w2c_l4;
-  w2c_i0 = (u32)(w2c_j0);
-  w2c_i0 = i32_load8_u(m, (u64)(w2c_i0) + 296u);
+  w2c_i0 = i32_load(m, (u64)(w2c_i0) + 328u);
   w2c_l14 = w2c_i0;
-  goto w2c_B42;
-  w2c_B81:;
-  w2c_j0 = w2c_l5;
-  w2c_j1 = w2c_l9;
+  w2c_j0 = w2c_l4;
+  w2c_j1 = 320ull;
   w2c_j0 += w2c_j1;
-  w2c_j1 = w2c_p1;
-  w2c_j2 = w2c_p1;
-  w2c_j3 = w2c_l4;
-  w2c_i3 = (u32)(w2c_j3);
-  w2c_j3 = i64_load(m, (u64)(w2c_i3) + 312u);
-  w2c_p2 = w2c_j3;
-  w2c_j2 |= w2c_j3;
-  w2c_i2 = !(w2c_j2);
-  w2c_j3 = w2c_l4;
-  w2c_i3 = (u32)(w2c_j3);
-  w2c_j3 = i64_load(m, (u64)(w2c_i3) + 320u);
-  w2c_j4 = 0ull;
-  w2c_i3 = w2c_j3 != w2c_j4;
-  w2c_i2 |= w2c_i3;
-  w2c_l16 = w2c_i2;
-  w2c_j0 = w2c_i2 ? w2c_j0 : w2c_j1;
-  w2c_l6 = w2c_j0;
-  w2c_i0 = 1u;
-  w2c_l14 = w2c_i0;
-  w2c_i0 = w2c_l16;
-  w2c_i0 = !(w2c_i0);
-  if (w2c_i0) {goto w2c_B82;}
-  w2c_j0 = w2c_l6;
-  w2c_p1 = w2c_j0;
-  goto w2c_B42;
-  w2c_B82:;
-  w2c_j0 = w2c_l4;
-  w2c_j1 = 208ull;
-  w2c_j0 += w2c_j1;
-  w2c_i1 = w2c_p3;
-  w2c_j2 = w2c_l8;
-  w2c_j3 = w2c_l9;
-  w2c_j2 += w2c_j3;
-  w2c_j3 = w2c_l12;
-  w2c_j4 = w2c_l11;
-  w2c_f31(m, w2c_j0, w2c_i1, w2c_j2, w2c_j3, w2c_j4);
-  w2c_j0 = w2c_l4;
-  w2c_i0 = (u32)(w2c_j0);
-  w2c_j0 = i64_load(m, (u64)(w2c_i0) + 224u);
-  w2c_l7 = w2c_j0;
-  w2c_j0 = w2c_l4;
-  w2c_i0 = (u32)(w2c_j0);
-  w2c_i0 = i32_load8_u(m, (u64)(w2c_i0) + 208u);
-  if (w2c_i0) {goto w2c_B83;}
-  w2c_j0 = w2c_l4;
-  w2c_i0 = (u32)(w2c_j0);
-  w2c_j0 = i64_load(m, (u64)(w2c_i0) + 240u);
-  w2c_l9 = w2c_j0;
-  w2c_j1 = 38ull;
-  w2c_i0 = w2c_j0 > w2c_j1;
-  if (w2c_i0) {goto w2c_B43;}
-  w2c_j0 = w2c_l4;
-  w2c_i0 = (u32)(w2c_j0);
-  w2c_j0 = i64_load(m, (u64)(w2c_i0) + 232u);
-  w2c_l8 = w2c_j0;
-  w2c_j0 = w2c_l4;
-  w2c_j1 = 16ull;
-  w2c_j0 += w2c_j1;
-  w2c_j1 = w2c_l9;
-  w2c_j2 = 4ull;
-  w2c_j1 <<= (w2c_j2 & 63);
-  w2c_l9 = w2c_j1;
-  w2c_j2 = 68608ull;
-  w2c_j1 += w2c_j2;
-  w2c_i1 = (u32)(w2c_j1);
-  w2c_j1 = i64_load(m, (u64)(w2c_i1));
-  w2c_l5 = w2c_j1;
-  w2c_j2 = 0ull;
-  w2c_j3 = w2c_l6;
-  w2c_j4 = 0ull;
-  w2c_f3(m, w2c_j0, w2c_j1, w2c_j2, w2c_j3, w2c_j4);
-  w2c_j0 = w2c_l4;
-  w2c_j1 = w2c_l9;
-  w2c_j2 = 68616ull;
-  w2c_j1 += w2c_j2;
-  w2c_i1 = (u32)(w2c_j1);
-  w2c_j1 = i64_load(m, (u64)(w2c_i1));
-  w2c_l9 = w2c_j1;
-  w2c_j2 = 0ull;
-  w2c_j3 = w2c_l6;
-  w2c_j4 = 0ull;
-  w2c_f3(m, w2c_j0, w2c_j1, w2c_j2, w2c_j3, w2c_j4);
-  w2c_j0 = w2c_l4;
-  w2c_j1 = 32ull;
-  w2c_j0 += w2c_j1;
-  w2c_j1 = w2c_l5;
-  w2c_j2 = 0ull;
-  w2c_j3 = w2c_p2;
-  w2c_j4 = 0ull;
-  w2c_f3(m, w2c_j0, w2c_j1, w2c_j2, w2c_j3, w2c_j4);
-  w2c_j0 = w2c_l4;
-  w2c_j1 = 48ull;
-  w2c_j0 += w2c_j1;
-  w2c_j1 = w2c_l9;
-  w2c_j2 = 0ull;
-  w2c_j3 = w2c_p2;
-  w2c_j4 = 0ull;
-  w2c_f3(m, w2c_j0, w2c_j1, w2c_j2, w2c_j3, w2c_j4);
-  w2c_j0 = w2c_l4;
-  w2c_i0 = (u32)(w2c_j0);
-  w2c_j0 = i64_load(m, (u64)(w2c_i0) + 40u);
   w2c_j1 = w2c_l4;
   w2c_i1 = (u32)(w2c_j1);
-  w2c_j1 = i64_load(m, (u64)(w2c_i1) + 24u);
-  w2c_l5 = w2c_j1;
-  w2c_j2 = w2c_l4;
-  w2c_i2 = (u32)(w2c_j2);
-  w2c_j2 = i64_load(m, (u64)(w2c_i2));
-  w2c_j1 += w2c_j2;
-  w2c_l9 = w2c_j1;
-  w2c_j2 = w2c_l4;
-  w2c_i2 = (u32)(w2c_j2);
-  w2c_j2 = i64_load(m, (u64)(w2c_i2) + 32u);
-  w2c_j1 += w2c_j2;
+  w2c_j1 = i64_load(m, (u64)(w2c_i1) + 336u);
   w2c_l6 = w2c_j1;
-  w2c_j2 = w2c_l9;
-  w2c_i1 = w2c_j1 < w2c_j2;
-  w2c_j1 = (u64)(w2c_i1);
-  w2c_j0 += w2c_j1;
-  w2c_j1 = w2c_l4;
-  w2c_i1 = (u32)(w2c_j1);
-  w2c_j1 = i64_load(m, (u64)(w2c_i1) + 8u);
-  w2c_j2 = w2c_l9;
-  w2c_j3 = w2c_l5;
-  w2c_i2 = w2c_j2 < w2c_j3;
-  w2c_j2 = (u64)(w2c_i2);
-  w2c_j1 += w2c_j2;
-  w2c_l9 = w2c_j1;
   w2c_j2 = w2c_l4;
   w2c_i2 = (u32)(w2c_j2);
-  w2c_j2 = i64_load(m, (u64)(w2c_i2) + 48u);
-  w2c_j1 += w2c_j2;
-  w2c_l5 = w2c_j1;
-  w2c_j0 |= w2c_j1;
-  w2c_j1 = w2c_l4;
-  w2c_i1 = (u32)(w2c_j1);
-  w2c_j1 = i64_load(m, (u64)(w2c_i1) + 56u);
-  w2c_j2 = w2c_l5;
-  w2c_j3 = w2c_l9;
-  w2c_i2 = w2c_j2 < w2c_j3;
-  w2c_j2 = (u64)(w2c_i2);
-  w2c_j1 += w2c_j2;
-  w2c_j0 |= w2c_j1;
-  w2c_j1 = 0ull;
-  w2c_i0 = w2c_j0 != w2c_j1;
-  if (w2c_i0) {goto w2c_B43;}
-  w2c_i0 = 2u;
-  w2c_i1 = 3u;
-  w2c_j2 = w2c_p1;
-  w2c_j3 = 100ull;
-  w2c_j2 ^= w2c_j3;
-  w2c_j3 = w2c_p2;
-  w2c_j2 |= w2c_j3;
-  w2c_i2 = !(w2c_j2);
-  w2c_i0 = w2c_i2 ? w2c_i0 : w2c_i1;
-  w2c_l14 = w2c_i0;
-  w2c_j0 = w2c_l4;
-  w2c_i0 = (u32)(w2c_j0);
-  w2c_j0 = i64_load(m, (u64)(w2c_i0) + 16u);
-  w2c_p1 = w2c_j0;
-  goto w2c_B41;
-  w2c_B83:;
-  w2c_j0 = w2c_l4;
-  w2c_i0 = (u32)(w2c_j0);
-  w2c_i0 = i32_load8_u(m, (u64)(w2c_i0) + 216u);
-  w2c_l14 = w2c_i0;
-  w2c_j0 = w2c_l7;
-  w2c_p1 = w2c_j0;
-  goto w2c_B42;
-  w2c_B52:;
-  w2c_j0 = 0ull;
-  w2c_p1 = w2c_j0;
-  w2c_i0 = 0u;
-  w2c_l14 = w2c_i0;
-  goto w2c_B42;
-  w2c_B44:;
-  w2c_j0 = w2c_l4;
-  w2c_i0 = (u32)(w2c_j0);
-  w2c_j1 = 0ull;
-  i64_store(m, (u64)(w2c_i0) + 312, w2c_j1);
-  w2c_j0 = w2c_l4;
-  w2c_i0 = (u32)(w2c_j0);
-  w2c_j1 = 0ull;
-  i64_store(m, (u64)(w2c_i0) + 304, w2c_j1);
-  w2c_j0 = w2c_l4;
-  w2c_i0 = (u32)(w2c_j0);
-  w2c_j1 = 0ull;
-  i64_store(m, (u64)(w2c_i0) + 296, w2c_j1);
-  w2c_j0 = w2c_l4;
-  w2c_i0 = (u32)(w2c_j0);
-  w2c_j1 = 0ull;
-  i64_store(m, (u64)(w2c_i0) + 288, w2c_j1);
-  w2c_j0 = w2c_l4;
-  w2c_j1 = 288ull;
-  w2c_j0 += w2c_j1;
-  w2c_j1 = w2c_p1;
-  w2c_j2 = w2c_p2;
+  w2c_j2 = i64_load(m, (u64)(w2c_i2) + 344u);
+  w2c_l9 = w2c_j2;
   w2c_f32(m, w2c_j0, w2c_j1, w2c_j2);
   w2c_j0 = w2c_l4;
   w2c_i0 = (u32)(w2c_j0);
-  w2c_i0 = i32_load8_u(m, (u64)(w2c_i0) + 288u);
+  w2c_i0 = i32_load8_u(m, (u64)(w2c_i0) + 320u);
   w2c_i1 = 1u;
   w2c_i0 = w2c_i0 != w2c_i1;
-  if (w2c_i0) {goto w2c_B84;}
-  w2c_j0 = w2c_l4;
-  w2c_i0 = (u32)(w2c_j0);
-  w2c_i0 = i32_load(m, (u64)(w2c_i0) + 296u);
-  w2c_l14 = w2c_i0;
-  w2c_j0 = w2c_l4;
-  w2c_j1 = 288ull;
-  w2c_j0 += w2c_j1;
-  w2c_j1 = w2c_l4;
-  w2c_i1 = (u32)(w2c_j1);
-  w2c_j1 = i64_load(m, (u64)(w2c_i1) + 304u);
-  w2c_l7 = w2c_j1;
-  w2c_j2 = w2c_l4;
-  w2c_i2 = (u32)(w2c_j2);
-  w2c_j2 = i64_load(m, (u64)(w2c_i2) + 312u);
-  w2c_l8 = w2c_j2;
-  w2c_f30(m, w2c_j0, w2c_j1, w2c_j2);
-  w2c_j0 = w2c_l4;
-  w2c_i0 = (u32)(w2c_j0);
-  w2c_i0 = i32_load8_u(m, (u64)(w2c_i0) + 288u);
-  w2c_i1 = 1u;
-  w2c_i0 = w2c_i0 != w2c_i1;
-  if (w2c_i0) {goto w2c_B84;}
+  if (w2c_i0) {goto w2c_B52;}
   w2c_i0 = w2c_l14;
   w2c_i1 = 65285u;
   w2c_i0 = w2c_i0 == w2c_i1;
-  if (w2c_i0) {goto w2c_B85;}
+  if (w2c_i0) {goto w2c_B53;}
   w2c_i0 = w2c_l14;
   w2c_i1 = 37u;
   w2c_i0 = w2c_i0 != w2c_i1;
-  if (w2c_i0) {goto w2c_B84;}
-  w2c_B85:;
+  if (w2c_i0) {goto w2c_B52;}
+  w2c_B53:;
   w2c_j0 = w2c_l4;
   w2c_j1 = 160ull;
   w2c_j0 += w2c_j1;
   w2c_i1 = w2c_p3;
-  w2c_j2 = w2c_l9;
-  w2c_j3 = w2c_l7;
-  w2c_j4 = w2c_l8;
-  w2c_f33(m, w2c_j0, w2c_i1, w2c_j2, w2c_j3, w2c_j4);
+  w2c_j2 = w2c_l5;
+  w2c_j3 = w2c_l6;
+  w2c_j4 = w2c_l9;
+  w2c_f35(m, w2c_j0, w2c_i1, w2c_j2, w2c_j3, w2c_j4);
   w2c_j0 = w2c_l4;
   w2c_i0 = (u32)(w2c_j0);
   w2c_j0 = i64_load(m, (u64)(w2c_i0) + 176u);
-  w2c_l7 = w2c_j0;
+  w2c_l6 = w2c_j0;
   w2c_j0 = w2c_l4;
   w2c_i0 = (u32)(w2c_j0);
   w2c_i0 = i32_load8_u(m, (u64)(w2c_i0) + 160u);
-  if (w2c_i0) {goto w2c_B86;}
+  if (w2c_i0) {goto w2c_B54;}
   w2c_j0 = w2c_l4;
   w2c_i0 = (u32)(w2c_j0);
   w2c_j0 = i64_load(m, (u64)(w2c_i0) + 192u);
-  w2c_l6 = w2c_j0;
+  w2c_l8 = w2c_j0;
   w2c_j1 = 38ull;
   w2c_i0 = w2c_j0 > w2c_j1;
-  if (w2c_i0) {goto w2c_B43;}
+  if (w2c_i0) {goto w2c_B29;}
   w2c_j0 = w2c_l4;
   w2c_i0 = (u32)(w2c_j0);
   w2c_j0 = i64_load(m, (u64)(w2c_i0) + 184u);
-  w2c_l8 = w2c_j0;
+  w2c_l9 = w2c_j0;
   w2c_j0 = w2c_l4;
   w2c_j1 = 64ull;
   w2c_j0 += w2c_j1;
-  w2c_j1 = w2c_l6;
+  w2c_j1 = w2c_l8;
   w2c_j2 = 4ull;
   w2c_j1 <<= (w2c_j2 & 63);
-  w2c_l6 = w2c_j1;
+  w2c_l8 = w2c_j1;
   w2c_j2 = 68608ull;
   w2c_j1 += w2c_j2;
   w2c_i1 = (u32)(w2c_j1);
@@ -27487,7 +29367,7 @@ static void w2c_f28(module *m, u64 w2c_p0, u64 w2c_p1, u64 w2c_p2, u32 w2c_p3) {
   w2c_j0 = w2c_l4;
   w2c_j1 = 80ull;
   w2c_j0 += w2c_j1;
-  w2c_j1 = w2c_l6;
+  w2c_j1 = w2c_l8;
   w2c_j2 = 68616ull;
   w2c_j1 += w2c_j2;
   w2c_i1 = (u32)(w2c_j1);
@@ -27502,102 +29382,102 @@ static void w2c_f28(module *m, u64 w2c_p0, u64 w2c_p1, u64 w2c_p2, u32 w2c_p3) {
   w2c_j1 = w2c_l4;
   w2c_i1 = (u32)(w2c_j1);
   w2c_j1 = i64_load(m, (u64)(w2c_i1) + 72u);
-  w2c_p1 = w2c_j1;
+  w2c_l5 = w2c_j1;
   w2c_j2 = w2c_l4;
   w2c_i2 = (u32)(w2c_j2);
   w2c_j2 = i64_load(m, (u64)(w2c_i2) + 80u);
   w2c_j1 += w2c_j2;
-  w2c_l6 = w2c_j1;
-  w2c_j2 = w2c_p1;
+  w2c_l8 = w2c_j1;
+  w2c_j2 = w2c_l5;
   w2c_i1 = w2c_j1 < w2c_j2;
   w2c_j1 = (u64)(w2c_i1);
   w2c_j0 += w2c_j1;
   w2c_j1 = 0ull;
   w2c_i0 = w2c_j0 != w2c_j1;
-  if (w2c_i0) {goto w2c_B43;}
+  if (w2c_i0) {goto w2c_B29;}
   w2c_j0 = w2c_l4;
   w2c_i0 = (u32)(w2c_j0);
   w2c_j0 = i64_load(m, (u64)(w2c_i0) + 64u);
   w2c_j1 = 18446744073709551612ull;
   w2c_j0 &= w2c_j1;
-  w2c_p1 = w2c_j0;
+  w2c_l5 = w2c_j0;
   w2c_i0 = 2u;
   w2c_l14 = w2c_i0;
-  goto w2c_B41;
-  w2c_B86:;
+  goto w2c_B27;
+  w2c_B54:;
   w2c_j0 = w2c_l4;
   w2c_i0 = (u32)(w2c_j0);
   w2c_i0 = i32_load8_u(m, (u64)(w2c_i0) + 168u);
   w2c_l14 = w2c_i0;
-  w2c_j0 = w2c_l7;
-  w2c_p1 = w2c_j0;
-  goto w2c_B42;
-  w2c_B84:;
+  w2c_j0 = w2c_l6;
+  w2c_l10 = w2c_j0;
+  goto w2c_B28;
+  w2c_B52:;
   w2c_j0 = w2c_l4;
   w2c_j1 = 112ull;
   w2c_j0 += w2c_j1;
   w2c_i1 = w2c_p3;
-  w2c_j2 = w2c_l9;
-  w2c_j3 = w2c_p1;
-  w2c_j4 = w2c_p2;
-  w2c_f33(m, w2c_j0, w2c_i1, w2c_j2, w2c_j3, w2c_j4);
+  w2c_j2 = w2c_l5;
+  w2c_j3 = w2c_l7;
+  w2c_j4 = w2c_l10;
+  w2c_f35(m, w2c_j0, w2c_i1, w2c_j2, w2c_j3, w2c_j4);
   w2c_j0 = w2c_l4;
   w2c_i0 = (u32)(w2c_j0);
   w2c_j0 = i64_load(m, (u64)(w2c_i0) + 128u);
-  w2c_l7 = w2c_j0;
+  w2c_l6 = w2c_j0;
   w2c_j0 = w2c_l4;
   w2c_i0 = (u32)(w2c_j0);
   w2c_i0 = i32_load8_u(m, (u64)(w2c_i0) + 112u);
-  if (w2c_i0) {goto w2c_B87;}
+  if (w2c_i0) {goto w2c_B55;}
   w2c_j0 = w2c_l4;
   w2c_i0 = (u32)(w2c_j0);
   w2c_j0 = i64_load(m, (u64)(w2c_i0) + 144u);
-  w2c_l8 = w2c_j0;
+  w2c_l9 = w2c_j0;
   w2c_j1 = 38ull;
   w2c_i0 = w2c_j0 > w2c_j1;
-  if (w2c_i0) {goto w2c_B43;}
-  w2c_j0 = w2c_l8;
+  if (w2c_i0) {goto w2c_B29;}
+  w2c_j0 = w2c_l9;
   w2c_j1 = 0ull;
   w2c_i0 = w2c_j0 != w2c_j1;
   w2c_l14 = w2c_i0;
-  w2c_j0 = w2c_l8;
+  w2c_j0 = w2c_l9;
   w2c_j1 = 4ull;
   w2c_j0 <<= (w2c_j1 & 63);
-  w2c_l8 = w2c_j0;
+  w2c_l9 = w2c_j0;
   w2c_j1 = 68616ull;
   w2c_j0 += w2c_j1;
   w2c_i0 = (u32)(w2c_j0);
   w2c_j0 = i64_load(m, (u64)(w2c_i0));
-  w2c_l6 = w2c_j0;
-  w2c_j0 = w2c_l8;
+  w2c_l8 = w2c_j0;
+  w2c_j0 = w2c_l9;
   w2c_j1 = 68608ull;
   w2c_j0 += w2c_j1;
   w2c_i0 = (u32)(w2c_j0);
   w2c_j0 = i64_load(m, (u64)(w2c_i0));
-  w2c_p1 = w2c_j0;
+  w2c_l5 = w2c_j0;
   w2c_j0 = w2c_l4;
   w2c_i0 = (u32)(w2c_j0);
   w2c_j0 = i64_load(m, (u64)(w2c_i0) + 136u);
-  w2c_l8 = w2c_j0;
-  goto w2c_B41;
-  w2c_B87:;
+  w2c_l9 = w2c_j0;
+  goto w2c_B27;
+  w2c_B55:;
   w2c_j0 = w2c_l4;
   w2c_i0 = (u32)(w2c_j0);
   w2c_i0 = i32_load8_u(m, (u64)(w2c_i0) + 120u);
   w2c_l14 = w2c_i0;
-  w2c_j0 = w2c_l7;
-  w2c_p1 = w2c_j0;
-  goto w2c_B42;
-  w2c_B43:;
+  w2c_j0 = w2c_l6;
+  w2c_l10 = w2c_j0;
+  goto w2c_B28;
+  w2c_B29:;
   w2c_i0 = 2u;
   w2c_l14 = w2c_i0;
   w2c_j0 = 0ull;
-  w2c_p1 = w2c_j0;
-  w2c_B42:;
+  w2c_l10 = w2c_j0;
+  w2c_B28:;
   w2c_j0 = 0ull;
-  w2c_l8 = w2c_j0;
+  w2c_l9 = w2c_j0;
   w2c_j0 = 0ull;
-  w2c_j1 = w2c_p1;
+  w2c_j1 = w2c_l10;
   w2c_i2 = w2c_l15;
   w2c_i3 = w2c_l14;
   w2c_i4 = 255u;
@@ -27607,7 +29487,7 @@ static void w2c_f28(module *m, u64 w2c_p0, u64 w2c_p1, u64 w2c_p2, u32 w2c_p3) {
   w2c_i2 &= w2c_i3;
   w2c_l15 = w2c_i2;
   w2c_j0 = w2c_i2 ? w2c_j0 : w2c_j1;
-  w2c_l7 = w2c_j0;
+  w2c_l6 = w2c_j0;
   w2c_i0 = 3u;
   w2c_i1 = w2c_l14;
   w2c_i2 = w2c_l15;
@@ -27616,35 +29496,35 @@ static void w2c_f28(module *m, u64 w2c_p0, u64 w2c_p1, u64 w2c_p2, u32 w2c_p3) {
   w2c_i0 = 0u;
   w2c_l14 = w2c_i0;
   w2c_j0 = 1ull;
-  w2c_p2 = w2c_j0;
-  goto w2c_B40;
-  w2c_B41:;
+  w2c_l7 = w2c_j0;
+  goto w2c_B26;
+  w2c_B27:;
   w2c_i0 = w2c_l15;
   w2c_i0 = !(w2c_i0);
-  if (w2c_i0) {goto w2c_B91;}
-  w2c_j0 = w2c_l7;
+  if (w2c_i0) {goto w2c_B59;}
+  w2c_j0 = w2c_l6;
   w2c_i0 = !(w2c_j0);
-  w2c_j1 = w2c_l8;
+  w2c_j1 = w2c_l9;
   w2c_j2 = 18446744073709551615ull;
   w2c_i1 = (u64)((s64)w2c_j1 > (s64)w2c_j2);
-  w2c_j2 = w2c_l8;
+  w2c_j2 = w2c_l9;
   w2c_j3 = 9223372036854775808ull;
   w2c_i2 = w2c_j2 == w2c_j3;
   w2c_i0 = w2c_i2 ? w2c_i0 : w2c_i1;
-  if (w2c_i0) {goto w2c_B89;}
+  if (w2c_i0) {goto w2c_B57;}
   w2c_i0 = 3u;
   w2c_l15 = w2c_i0;
-  goto w2c_B90;
-  w2c_B91:;
-  w2c_j0 = w2c_l8;
+  goto w2c_B58;
+  w2c_B59:;
+  w2c_j0 = w2c_l9;
   w2c_j1 = 0ull;
   w2c_i0 = (u64)((s64)w2c_j0 >= (s64)w2c_j1);
-  if (w2c_i0) {goto w2c_B88;}
+  if (w2c_i0) {goto w2c_B56;}
   w2c_i0 = 2u;
   w2c_l15 = w2c_i0;
-  w2c_B90:;
+  w2c_B58:;
   w2c_j0 = 0ull;
-  w2c_l7 = w2c_j0;
+  w2c_l6 = w2c_j0;
   w2c_j0 = w2c_l4;
   w2c_i0 = (u32)(w2c_j0);
   w2c_j1 = 0ull;
@@ -27656,27 +29536,27 @@ static void w2c_f28(module *m, u64 w2c_p0, u64 w2c_p1, u64 w2c_p2, u32 w2c_p3) {
   w2c_i0 = 0u;
   w2c_l14 = w2c_i0;
   w2c_j0 = 1ull;
-  w2c_p2 = w2c_j0;
+  w2c_l7 = w2c_j0;
   w2c_j0 = 0ull;
-  w2c_l8 = w2c_j0;
-  goto w2c_B40;
-  w2c_B89:;
+  w2c_l9 = w2c_j0;
+  goto w2c_B26;
+  w2c_B57:;
   w2c_j0 = 0ull;
-  w2c_j1 = w2c_l8;
-  w2c_j2 = w2c_l7;
+  w2c_j1 = w2c_l9;
+  w2c_j2 = w2c_l6;
   w2c_j3 = 0ull;
   w2c_i2 = w2c_j2 != w2c_j3;
   w2c_j2 = (u64)(w2c_i2);
   w2c_j1 += w2c_j2;
   w2c_j0 -= w2c_j1;
-  w2c_l8 = w2c_j0;
+  w2c_l9 = w2c_j0;
   w2c_j0 = 0ull;
-  w2c_j1 = w2c_l7;
+  w2c_j1 = w2c_l6;
   w2c_j0 -= w2c_j1;
-  w2c_l7 = w2c_j0;
-  w2c_B88:;
+  w2c_l6 = w2c_j0;
+  w2c_B56:;
   w2c_j0 = 0ull;
-  w2c_p2 = w2c_j0;
+  w2c_l7 = w2c_j0;
   w2c_j0 = w2c_l4;
   w2c_i0 = (u32)(w2c_j0);
   w2c_j1 = 0ull;
@@ -27687,40 +29567,40 @@ static void w2c_f28(module *m, u64 w2c_p0, u64 w2c_p1, u64 w2c_p2, u32 w2c_p3) {
   i64_store(m, (u64)(w2c_i0) + 96, w2c_j1);
   w2c_i0 = 0u;
   w2c_l15 = w2c_i0;
-  goto w2c_B39;
-  w2c_B40:;
+  goto w2c_B25;
+  w2c_B26:;
   w2c_j0 = 0ull;
-  w2c_p1 = w2c_j0;
+  w2c_l5 = w2c_j0;
   w2c_j0 = 0ull;
-  w2c_l6 = w2c_j0;
-  w2c_B39:;
+  w2c_l8 = w2c_j0;
+  w2c_B25:;
   w2c_j0 = w2c_p0;
   w2c_i0 = (u32)(w2c_j0);
-  w2c_j1 = w2c_p2;
+  w2c_j1 = w2c_l7;
   i64_store(m, (u64)(w2c_i0), w2c_j1);
   w2c_j0 = w2c_p0;
   w2c_j1 = 40ull;
   w2c_j0 += w2c_j1;
   w2c_i0 = (u32)(w2c_j0);
-  w2c_j1 = w2c_l6;
+  w2c_j1 = w2c_l8;
   i64_store(m, (u64)(w2c_i0), w2c_j1);
   w2c_j0 = w2c_p0;
   w2c_j1 = 32ull;
   w2c_j0 += w2c_j1;
   w2c_i0 = (u32)(w2c_j0);
-  w2c_j1 = w2c_p1;
+  w2c_j1 = w2c_l5;
   i64_store(m, (u64)(w2c_i0), w2c_j1);
   w2c_j0 = w2c_p0;
   w2c_j1 = 24ull;
   w2c_j0 += w2c_j1;
   w2c_i0 = (u32)(w2c_j0);
-  w2c_j1 = w2c_l8;
+  w2c_j1 = w2c_l9;
   i64_store(m, (u64)(w2c_i0), w2c_j1);
   w2c_j0 = w2c_p0;
   w2c_j1 = 16ull;
   w2c_j0 += w2c_j1;
   w2c_i0 = (u32)(w2c_j0);
-  w2c_j1 = w2c_l7;
+  w2c_j1 = w2c_l6;
   i64_store(m, (u64)(w2c_i0), w2c_j1);
   w2c_j0 = w2c_p0;
   w2c_j1 = 48ull;
@@ -27754,249 +29634,262 @@ static void w2c_f28(module *m, u64 w2c_p0, u64 w2c_p1, u64 w2c_p2, u32 w2c_p3) {
   w2c_j1 &= w2c_j2;
   i64_store(m, (u64)(w2c_i0), w2c_j1);
   w2c_j0 = w2c_l4;
-  w2c_j1 = 384ull;
+  w2c_j1 = 368ull;
   w2c_j0 += w2c_j1;
   m->w2c_g0 = w2c_j0;
 }
 
-static void w2c_f29(module *m, u64 w2c_p0, u64 w2c_p1) {
-  u32 w2c_l5 = 0, w2c_l6 = 0, w2c_l7 = 0, w2c_l8 = 0;
-  u64 w2c_l2 = 0, w2c_l3 = 0, w2c_l4 = 0;
+static void w2c_f32(module *m, u64 w2c_p0, u64 w2c_p1, u64 w2c_p2) {
+  u32 w2c_l5 = 0, w2c_l6 = 0, w2c_l7 = 0;
+  u64 w2c_l3 = 0, w2c_l4 = 0;
   u32 w2c_i0, w2c_i1, w2c_i2, w2c_i3;
   u64 w2c_j0, w2c_j1;
   w2c_j0 = m->w2c_g0;
   w2c_j1 = 16ull;
   w2c_i0 = (u64)((s64)w2c_j0 < (s64)w2c_j1);
   if (w2c_i0) {goto w2c_B0;}
-  w2c_j0 = w2c_p1;
-  w2c_i0 = (u32)(w2c_j0);
-  w2c_j0 = i64_load(m, (u64)(w2c_i0) + 16u);
-  w2c_l2 = w2c_j0;
+  w2c_j0 = w2c_p2;
   w2c_i0 = !(w2c_j0);
-  if (w2c_i0) {goto w2c_B1;}
-  w2c_j0 = w2c_p1;
-  w2c_i0 = (u32)(w2c_j0);
-  w2c_j0 = i64_load(m, (u64)(w2c_i0) + 8u);
-  w2c_l3 = w2c_j0;
-  w2c_j0 = w2c_p1;
-  w2c_i0 = (u32)(w2c_j0);
-  w2c_j0 = i64_load(m, (u64)(w2c_i0));
-  w2c_p1 = w2c_j0;
-  w2c_L2:
+  if (w2c_i0) {goto w2c_B3;}
+  w2c_L4:
+    w2c_j0 = w2c_p2;
+    w2c_l3 = w2c_j0;
+    w2c_j0 = w2c_p1;
+    w2c_l4 = w2c_j0;
+    w2c_i0 = (u32)(w2c_j0);
+    w2c_i0 = i32_load8_u(m, (u64)(w2c_i0));
+    w2c_l5 = w2c_i0;
+    w2c_i1 = 32u;
+    w2c_i0 = w2c_i0 > w2c_i1;
+    if (w2c_i0) {goto w2c_B6;}
+    w2c_j0 = 1ull;
+    w2c_i1 = w2c_l5;
+    w2c_j1 = (u64)(w2c_i1);
+    w2c_j0 <<= (w2c_j1 & 63);
+    w2c_j1 = 4294983168ull;
+    w2c_j0 &= w2c_j1;
+    w2c_j1 = 0ull;
+    w2c_i0 = w2c_j0 == w2c_j1;
+    if (w2c_i0) {goto w2c_B6;}
     w2c_j0 = w2c_l3;
+    w2c_j1 = 18446744073709551615ull;
+    w2c_j0 += w2c_j1;
+    w2c_p2 = w2c_j0;
+    w2c_j0 = w2c_l4;
     w2c_j1 = 1ull;
     w2c_j0 += w2c_j1;
-    w2c_l4 = w2c_j0;
-    w2c_j0 = w2c_l3;
+    w2c_p1 = w2c_j0;
+    goto w2c_B5;
+    w2c_B6:;
+    w2c_i0 = w2c_l5;
+    w2c_i1 = 4294967102u;
+    w2c_i0 += w2c_i1;
+    w2c_l6 = w2c_i0;
+    w2c_i1 = 33u;
+    w2c_i0 = w2c_i0 > w2c_i1;
+    if (w2c_i0) {goto w2c_B7;}
+    w2c_j0 = 1ull;
+    w2c_i1 = w2c_l6;
+    w2c_j1 = (u64)(w2c_i1);
+    w2c_j0 <<= (w2c_j1 & 63);
+    w2c_j1 = 15032385537ull;
+    w2c_j0 &= w2c_j1;
+    w2c_j1 = 0ull;
+    w2c_i0 = w2c_j0 == w2c_j1;
+    if (w2c_i0) {goto w2c_B7;}
+    w2c_j0 = w2c_l4;
     w2c_i0 = (u32)(w2c_j0);
-    w2c_i0 = i32_load8_s(m, (u64)(w2c_i0));
+    w2c_i0 = i32_load8_u(m, (u64)(w2c_i0) + 1u);
+    w2c_l6 = w2c_i0;
+    w2c_j0 = w2c_l3;
+    w2c_j1 = 3ull;
+    w2c_i0 = w2c_j0 < w2c_j1;
+    if (w2c_i0) {goto w2c_B9;}
+    w2c_i0 = w2c_l5;
+    w2c_i1 = 240u;
+    w2c_i0 &= w2c_i1;
+    w2c_i1 = 224u;
+    w2c_i0 = w2c_i0 != w2c_i1;
+    if (w2c_i0) {goto w2c_B9;}
+    w2c_i0 = w2c_l5;
+    w2c_i1 = 12u;
+    w2c_i0 <<= (w2c_i1 & 31);
+    w2c_i1 = w2c_l6;
+    w2c_i2 = 6u;
+    w2c_i1 <<= (w2c_i2 & 31);
+    w2c_i0 += w2c_i1;
+    w2c_j1 = w2c_l4;
+    w2c_i1 = (u32)(w2c_j1);
+    w2c_i1 = i32_load8_u(m, (u64)(w2c_i1) + 2u);
+    w2c_i0 += w2c_i1;
+    w2c_i1 = 4294041472u;
+    w2c_i0 += w2c_i1;
     w2c_l5 = w2c_i0;
-    w2c_i1 = 255u;
+    w2c_j0 = w2c_l3;
+    w2c_j1 = 18446744073709551613ull;
+    w2c_j0 += w2c_j1;
+    w2c_p2 = w2c_j0;
+    w2c_j0 = w2c_l4;
+    w2c_j1 = 3ull;
+    w2c_j0 += w2c_j1;
+    w2c_p1 = w2c_j0;
+    goto w2c_B8;
+    w2c_B9:;
+    w2c_i0 = w2c_l6;
+    w2c_i1 = 63u;
     w2c_i0 &= w2c_i1;
     w2c_l6 = w2c_i0;
     w2c_i0 = w2c_l5;
-    w2c_i1 = 0u;
-    w2c_i0 = (u32)((s32)w2c_i0 < (s32)w2c_i1);
-    if (w2c_i0) {goto w2c_B7;}
-    w2c_j0 = w2c_l2;
-    w2c_j1 = 18446744073709551615ull;
-    w2c_j0 += w2c_j1;
-    w2c_l2 = w2c_j0;
-    w2c_j0 = w2c_l4;
-    w2c_l3 = w2c_j0;
-    goto w2c_B6;
-    w2c_B7:;
-    w2c_j0 = w2c_l4;
-    w2c_i0 = (u32)(w2c_j0);
-    w2c_i0 = i32_load8_u(m, (u64)(w2c_i0));
-    w2c_i1 = 63u;
-    w2c_i0 &= w2c_i1;
-    w2c_l7 = w2c_i0;
-    w2c_i0 = w2c_l5;
-    w2c_i1 = 4294967263u;
+    w2c_i1 = 223u;
     w2c_i0 = w2c_i0 > w2c_i1;
-    if (w2c_i0) {goto w2c_B9;}
-    w2c_i0 = w2c_l6;
+    if (w2c_i0) {goto w2c_B11;}
+    w2c_i0 = w2c_l5;
     w2c_i1 = 6u;
     w2c_i0 <<= (w2c_i1 & 31);
     w2c_i1 = 1984u;
     w2c_i0 &= w2c_i1;
-    w2c_i1 = w2c_l7;
+    w2c_i1 = w2c_l6;
     w2c_i0 |= w2c_i1;
-    w2c_l6 = w2c_i0;
+    w2c_l5 = w2c_i0;
     w2c_j0 = 2ull;
-    w2c_l4 = w2c_j0;
-    goto w2c_B8;
-    w2c_B9:;
-    w2c_j0 = w2c_l3;
-    w2c_i0 = (u32)(w2c_j0);
-    w2c_i0 = i32_load8_u(m, (u64)(w2c_i0) + 2u);
-    w2c_i1 = 63u;
-    w2c_i0 &= w2c_i1;
-    w2c_l8 = w2c_i0;
-    w2c_i0 = w2c_l5;
-    w2c_i1 = 4294967279u;
-    w2c_i0 = w2c_i0 > w2c_i1;
-    if (w2c_i0) {goto w2c_B10;}
-    w2c_i0 = w2c_l7;
+    w2c_p1 = w2c_j0;
+    goto w2c_B10;
+    w2c_B11:;
+    w2c_i0 = w2c_l6;
     w2c_i1 = 6u;
     w2c_i0 <<= (w2c_i1 & 31);
-    w2c_i1 = w2c_l6;
+    w2c_i1 = w2c_l5;
     w2c_i2 = 12u;
     w2c_i1 <<= (w2c_i2 & 31);
     w2c_i2 = 61440u;
     w2c_i1 &= w2c_i2;
     w2c_i0 |= w2c_i1;
-    w2c_i1 = w2c_l8;
-    w2c_i0 |= w2c_i1;
-    w2c_l6 = w2c_i0;
-    w2c_j0 = 3ull;
-    w2c_l4 = w2c_j0;
-    goto w2c_B8;
-    w2c_B10:;
-    w2c_i0 = w2c_l8;
-    w2c_i1 = 6u;
-    w2c_i0 <<= (w2c_i1 & 31);
-    w2c_i1 = w2c_l7;
-    w2c_i2 = 12u;
-    w2c_i1 <<= (w2c_i2 & 31);
-    w2c_i2 = w2c_l6;
-    w2c_i3 = 18u;
-    w2c_i2 <<= (w2c_i3 & 31);
-    w2c_i3 = 1835008u;
-    w2c_i2 &= w2c_i3;
-    w2c_i1 |= w2c_i2;
-    w2c_i0 |= w2c_i1;
-    w2c_j1 = w2c_l3;
+    w2c_j1 = w2c_l4;
     w2c_i1 = (u32)(w2c_j1);
-    w2c_i1 = i32_load8_u(m, (u64)(w2c_i1) + 3u);
+    w2c_i1 = i32_load8_u(m, (u64)(w2c_i1) + 2u);
     w2c_i2 = 63u;
     w2c_i1 &= w2c_i2;
     w2c_i0 |= w2c_i1;
-    w2c_l6 = w2c_i0;
-    w2c_j0 = 4ull;
-    w2c_l4 = w2c_j0;
-    w2c_B8:;
-    w2c_j0 = w2c_l2;
-    w2c_j1 = w2c_l4;
-    w2c_j0 -= w2c_j1;
-    w2c_l2 = w2c_j0;
+    w2c_l5 = w2c_i0;
+    w2c_j0 = 3ull;
+    w2c_p1 = w2c_j0;
+    w2c_B10:;
     w2c_j0 = w2c_l3;
-    w2c_j1 = w2c_l4;
+    w2c_j1 = w2c_p1;
+    w2c_j0 -= w2c_j1;
+    w2c_p2 = w2c_j0;
+    w2c_j0 = w2c_l4;
+    w2c_j1 = w2c_p1;
     w2c_j0 += w2c_j1;
-    w2c_l3 = w2c_j0;
-    w2c_i0 = w2c_l6;
+    w2c_p1 = w2c_j0;
+    w2c_B8:;
+    w2c_i0 = w2c_l5;
     w2c_i1 = 127u;
     w2c_i0 = w2c_i0 > w2c_i1;
-    if (w2c_i0) {goto w2c_B5;}
-    w2c_B6:;
-    w2c_i0 = w2c_l6;
+    if (w2c_i0) {goto w2c_B12;}
+    w2c_i0 = w2c_l5;
     w2c_i1 = 4294967287u;
     w2c_i0 += w2c_i1;
     w2c_i1 = 5u;
     w2c_i0 = w2c_i0 < w2c_i1;
-    if (w2c_i0) {goto w2c_B3;}
-    w2c_i0 = w2c_l6;
+    if (w2c_i0) {goto w2c_B5;}
+    w2c_i0 = w2c_l5;
     w2c_i1 = 32u;
     w2c_i0 = w2c_i0 != w2c_i1;
-    if (w2c_i0) {goto w2c_B4;}
-    goto w2c_B3;
-    w2c_B5:;
-    w2c_i0 = w2c_l6;
+    if (w2c_i0) {goto w2c_B7;}
+    goto w2c_B5;
+    w2c_B12:;
+    w2c_i0 = w2c_l5;
     w2c_i1 = 4294959104u;
     w2c_i0 += w2c_i1;
     w2c_i1 = 11u;
     w2c_i0 = w2c_i0 < w2c_i1;
-    if (w2c_i0) {goto w2c_B3;}
-    w2c_i0 = w2c_l6;
+    if (w2c_i0) {goto w2c_B5;}
+    w2c_i0 = w2c_l5;
     w2c_i1 = 8231u;
     w2c_i0 = (u32)((s32)w2c_i0 > (s32)w2c_i1);
-    if (w2c_i0) {goto w2c_B11;}
-    w2c_i0 = w2c_l6;
+    if (w2c_i0) {goto w2c_B13;}
+    w2c_i0 = w2c_l5;
     w2c_i1 = 133u;
     w2c_i0 = w2c_i0 == w2c_i1;
-    if (w2c_i0) {goto w2c_B3;}
-    w2c_i0 = w2c_l6;
+    if (w2c_i0) {goto w2c_B5;}
+    w2c_i0 = w2c_l5;
     w2c_i1 = 160u;
     w2c_i0 = w2c_i0 == w2c_i1;
-    if (w2c_i0) {goto w2c_B3;}
-    w2c_i0 = w2c_l6;
+    if (w2c_i0) {goto w2c_B5;}
+    w2c_i0 = w2c_l5;
     w2c_i1 = 5760u;
     w2c_i0 = w2c_i0 != w2c_i1;
-    if (w2c_i0) {goto w2c_B4;}
-    goto w2c_B3;
-    w2c_B11:;
-    w2c_i0 = w2c_l6;
+    if (w2c_i0) {goto w2c_B7;}
+    goto w2c_B5;
+    w2c_B13:;
+    w2c_i0 = w2c_l5;
     w2c_i1 = 4294959064u;
     w2c_i0 += w2c_i1;
-    w2c_l5 = w2c_i0;
+    w2c_l6 = w2c_i0;
     w2c_i1 = 55u;
     w2c_i0 = w2c_i0 > w2c_i1;
-    if (w2c_i0) {goto w2c_B12;}
+    if (w2c_i0) {goto w2c_B14;}
     w2c_j0 = 1ull;
-    w2c_i1 = w2c_l5;
+    w2c_i1 = w2c_l6;
     w2c_j1 = (u64)(w2c_i1);
     w2c_j0 <<= (w2c_j1 & 63);
     w2c_j1 = 36028797018964099ull;
     w2c_j0 &= w2c_j1;
     w2c_j1 = 0ull;
     w2c_i0 = w2c_j0 != w2c_j1;
-    if (w2c_i0) {goto w2c_B3;}
-    w2c_B12:;
-    w2c_i0 = w2c_l6;
+    if (w2c_i0) {goto w2c_B5;}
+    w2c_B14:;
+    w2c_i0 = w2c_l5;
     w2c_i1 = 12288u;
     w2c_i0 = w2c_i0 == w2c_i1;
-    if (w2c_i0) {goto w2c_B3;}
-    w2c_B4:;
-    w2c_j0 = w2c_p0;
+    if (w2c_i0) {goto w2c_B5;}
+    w2c_B7:;
+    w2c_j0 = w2c_l4;
     w2c_i0 = (u32)(w2c_j0);
-    w2c_j1 = 1ull;
-    i64_store(m, (u64)(w2c_i0), w2c_j1);
-    w2c_j0 = w2c_p0;
-    w2c_j1 = 32ull;
+    w2c_i0 = i32_load8_u(m, (u64)(w2c_i0));
+    w2c_l5 = w2c_i0;
+    w2c_j0 = w2c_l3;
+    w2c_j1 = 3ull;
+    w2c_i0 = w2c_j0 < w2c_j1;
+    if (w2c_i0) {goto w2c_B2;}
+    w2c_i0 = w2c_l5;
+    w2c_i1 = 240u;
+    w2c_i0 &= w2c_i1;
+    w2c_i1 = 224u;
+    w2c_i0 = w2c_i0 != w2c_i1;
+    if (w2c_i0) {goto w2c_B2;}
+    w2c_i0 = w2c_l5;
+    w2c_i1 = 12u;
+    w2c_i0 <<= (w2c_i1 & 31);
+    w2c_j1 = w2c_l4;
+    w2c_i1 = (u32)(w2c_j1);
+    w2c_i1 = i32_load8_u(m, (u64)(w2c_i1) + 1u);
+    w2c_i2 = 6u;
+    w2c_i1 <<= (w2c_i2 & 31);
+    w2c_i0 += w2c_i1;
+    w2c_j1 = w2c_l4;
+    w2c_i1 = (u32)(w2c_j1);
+    w2c_i1 = i32_load8_u(m, (u64)(w2c_i1) + 2u);
+    w2c_i0 += w2c_i1;
+    w2c_i1 = 4294041472u;
+    w2c_i0 += w2c_i1;
+    w2c_l5 = w2c_i0;
+    w2c_j0 = w2c_l3;
+    w2c_j1 = 18446744073709551613ull;
     w2c_j0 += w2c_j1;
-    w2c_i0 = (u32)(w2c_j0);
-    w2c_j1 = w2c_l2;
-    i64_store(m, (u64)(w2c_i0), w2c_j1);
-    w2c_j0 = w2c_p0;
-    w2c_j1 = 24ull;
+    w2c_p2 = w2c_j0;
+    w2c_j0 = w2c_l4;
+    w2c_j1 = 3ull;
     w2c_j0 += w2c_j1;
-    w2c_i0 = (u32)(w2c_j0);
-    w2c_j1 = w2c_l3;
-    i64_store(m, (u64)(w2c_i0), w2c_j1);
-    w2c_j0 = w2c_p0;
-    w2c_j1 = 16ull;
-    w2c_j0 += w2c_j1;
-    w2c_i0 = (u32)(w2c_j0);
-    w2c_j1 = w2c_p1;
-    i64_store(m, (u64)(w2c_i0), w2c_j1);
-    w2c_j0 = w2c_p0;
-    w2c_j1 = 12ull;
-    w2c_j0 += w2c_j1;
-    w2c_i0 = (u32)(w2c_j0);
-    w2c_i1 = 0u;
-    i32_store(m, (u64)(w2c_i0), w2c_i1);
-    w2c_j0 = w2c_p0;
-    w2c_j1 = 8ull;
-    w2c_j0 += w2c_j1;
-    w2c_i0 = (u32)(w2c_j0);
-    w2c_i1 = w2c_l6;
-    i32_store(m, (u64)(w2c_i0), w2c_i1);
-    goto w2c_Bfunc;
-    w2c_B3:;
-    w2c_j0 = w2c_p1;
-    w2c_j1 = 1ull;
-    w2c_j0 += w2c_j1;
-    w2c_p1 = w2c_j0;
-    w2c_j0 = w2c_l2;
-    w2c_j1 = 0ull;
-    w2c_i0 = w2c_j0 != w2c_j1;
-    if (w2c_i0) {goto w2c_L2;}
-  w2c_B1:;
-  w2c_j0 = w2c_p0;
-  w2c_i0 = (u32)(w2c_j0);
-  w2c_j1 = 0ull;
-  i64_store(m, (u64)(w2c_i0) + 32, w2c_j1);
+    w2c_l4 = w2c_j0;
+    goto w2c_B1;
+    w2c_B5:;
+    w2c_j0 = w2c_p2;
+    w2c_i0 = !(w2c_j0);
+    w2c_i0 = !(w2c_i0);
+    if (w2c_i0) {goto w2c_L4;}
+  w2c_B3:;
   w2c_j0 = w2c_p0;
   w2c_i0 = (u32)(w2c_j0);
   w2c_j1 = 0ull;
@@ -28014,644 +29907,131 @@ static void w2c_f29(module *m, u64 w2c_p0, u64 w2c_p1) {
   w2c_j1 = 0ull;
   i64_store(m, (u64)(w2c_i0), w2c_j1);
   goto w2c_Bfunc;
+  w2c_B2:;
+  w2c_i0 = w2c_l5;
+  w2c_i0 = (u32)(s32)(s8)(u8)(w2c_i0);
+  w2c_i1 = 4294967295u;
+  w2c_i0 = (u32)((s32)w2c_i0 <= (s32)w2c_i1);
+  if (w2c_i0) {goto w2c_B16;}
+  w2c_j0 = 1ull;
+  w2c_p1 = w2c_j0;
+  goto w2c_B15;
+  w2c_B16:;
+  w2c_j0 = w2c_l4;
+  w2c_i0 = (u32)(w2c_j0);
+  w2c_i0 = i32_load8_u(m, (u64)(w2c_i0) + 1u);
+  w2c_i1 = 63u;
+  w2c_i0 &= w2c_i1;
+  w2c_l6 = w2c_i0;
+  w2c_i0 = w2c_l5;
+  w2c_i1 = 223u;
+  w2c_i0 = w2c_i0 > w2c_i1;
+  if (w2c_i0) {goto w2c_B17;}
+  w2c_i0 = w2c_l5;
+  w2c_i1 = 6u;
+  w2c_i0 <<= (w2c_i1 & 31);
+  w2c_i1 = 1984u;
+  w2c_i0 &= w2c_i1;
+  w2c_i1 = w2c_l6;
+  w2c_i0 |= w2c_i1;
+  w2c_l5 = w2c_i0;
+  w2c_j0 = 2ull;
+  w2c_p1 = w2c_j0;
+  goto w2c_B15;
+  w2c_B17:;
+  w2c_j0 = w2c_l4;
+  w2c_i0 = (u32)(w2c_j0);
+  w2c_i0 = i32_load8_u(m, (u64)(w2c_i0) + 2u);
+  w2c_i1 = 63u;
+  w2c_i0 &= w2c_i1;
+  w2c_l7 = w2c_i0;
+  w2c_i0 = w2c_l5;
+  w2c_i1 = 239u;
+  w2c_i0 = w2c_i0 > w2c_i1;
+  if (w2c_i0) {goto w2c_B18;}
+  w2c_i0 = w2c_l6;
+  w2c_i1 = 6u;
+  w2c_i0 <<= (w2c_i1 & 31);
+  w2c_i1 = w2c_l5;
+  w2c_i2 = 12u;
+  w2c_i1 <<= (w2c_i2 & 31);
+  w2c_i2 = 61440u;
+  w2c_i1 &= w2c_i2;
+  w2c_i0 |= w2c_i1;
+  w2c_i1 = w2c_l7;
+  w2c_i0 |= w2c_i1;
+  w2c_l5 = w2c_i0;
+  w2c_j0 = 3ull;
+  w2c_p1 = w2c_j0;
+  goto w2c_B15;
+  w2c_B18:;
+  w2c_i0 = w2c_l7;
+  w2c_i1 = 6u;
+  w2c_i0 <<= (w2c_i1 & 31);
+  w2c_i1 = w2c_l6;
+  w2c_i2 = 12u;
+  w2c_i1 <<= (w2c_i2 & 31);
+  w2c_i2 = w2c_l5;
+  w2c_i3 = 18u;
+  w2c_i2 <<= (w2c_i3 & 31);
+  w2c_i3 = 1835008u;
+  w2c_i2 &= w2c_i3;
+  w2c_i1 |= w2c_i2;
+  w2c_i0 |= w2c_i1;
+  w2c_j1 = w2c_l4;
+  w2c_i1 = (u32)(w2c_j1);
+  w2c_i1 = i32_load8_u(m, (u64)(w2c_i1) + 3u);
+  w2c_i2 = 63u;
+  w2c_i1 &= w2c_i2;
+  w2c_i0 |= w2c_i1;
+  w2c_l5 = w2c_i0;
+  w2c_j0 = 4ull;
+  w2c_p1 = w2c_j0;
+  w2c_B15:;
+  w2c_j0 = w2c_l3;
+  w2c_j1 = w2c_p1;
+  w2c_j0 -= w2c_j1;
+  w2c_p2 = w2c_j0;
+  w2c_j0 = w2c_l4;
+  w2c_j1 = w2c_p1;
+  w2c_j0 += w2c_j1;
+  w2c_l4 = w2c_j0;
+  w2c_B1:;
+  w2c_j0 = w2c_p0;
+  w2c_i0 = (u32)(w2c_j0);
+  w2c_j1 = 1ull;
+  i64_store(m, (u64)(w2c_i0), w2c_j1);
+  w2c_j0 = w2c_p0;
+  w2c_j1 = 24ull;
+  w2c_j0 += w2c_j1;
+  w2c_i0 = (u32)(w2c_j0);
+  w2c_j1 = w2c_p2;
+  i64_store(m, (u64)(w2c_i0), w2c_j1);
+  w2c_j0 = w2c_p0;
+  w2c_j1 = 16ull;
+  w2c_j0 += w2c_j1;
+  w2c_i0 = (u32)(w2c_j0);
+  w2c_j1 = w2c_l4;
+  i64_store(m, (u64)(w2c_i0), w2c_j1);
+  w2c_j0 = w2c_p0;
+  w2c_j1 = 12ull;
+  w2c_j0 += w2c_j1;
+  w2c_i0 = (u32)(w2c_j0);
+  w2c_i1 = 0u;
+  i32_store(m, (u64)(w2c_i0), w2c_i1);
+  w2c_j0 = w2c_p0;
+  w2c_j1 = 8ull;
+  w2c_j0 += w2c_j1;
+  w2c_i0 = (u32)(w2c_j0);
+  w2c_i1 = w2c_l5;
+  i32_store(m, (u64)(w2c_i0), w2c_i1);
+  goto w2c_Bfunc;
   w2c_B0:;
   UNREACHABLE;
   w2c_Bfunc:;
 }
 
-static void w2c_f30(module *m, u64 w2c_p0, u64 w2c_p1, u64 w2c_p2) {
-  u32 w2c_l8 = 0, w2c_l9 = 0, w2c_l10 = 0, w2c_l11 = 0, w2c_l12 = 0;
-  u64 w2c_l3 = 0, w2c_l4 = 0, w2c_l5 = 0, w2c_l6 = 0, w2c_l7 = 0;
-  u32 w2c_i0, w2c_i1, w2c_i2;
-  u64 w2c_j0, w2c_j1, w2c_j2;
-  w2c_j0 = m->w2c_g0;
-  w2c_j1 = 160ull;
-  w2c_j0 -= w2c_j1;
-  w2c_l3 = w2c_j0;
-  m->w2c_g0 = w2c_j0;
-  w2c_j0 = w2c_l3;
-  w2c_l3 = w2c_j0;
-  w2c_j1 = 16ull;
-  w2c_i0 = (u64)((s64)w2c_j0 < (s64)w2c_j1);
-  if (w2c_i0) {goto w2c_B5;}
-  w2c_j0 = w2c_l3;
-  w2c_i0 = (u32)(w2c_j0);
-  w2c_i1 = 0u;
-  i32_store(m, (u64)(w2c_i0) + 56, w2c_i1);
-  w2c_j0 = w2c_l3;
-  w2c_i0 = (u32)(w2c_j0);
-  w2c_j1 = 0ull;
-  i64_store(m, (u64)(w2c_i0) + 48, w2c_j1);
-  w2c_j0 = w2c_l3;
-  w2c_i0 = (u32)(w2c_j0);
-  w2c_j1 = 0ull;
-  i64_store(m, (u64)(w2c_i0) + 40, w2c_j1);
-  w2c_j0 = w2c_l3;
-  w2c_i0 = (u32)(w2c_j0);
-  w2c_j1 = 0ull;
-  i64_store(m, (u64)(w2c_i0) + 32, w2c_j1);
-  w2c_j0 = w2c_l3;
-  w2c_i0 = (u32)(w2c_j0);
-  w2c_j1 = 0ull;
-  i64_store(m, (u64)(w2c_i0) + 8, w2c_j1);
-  w2c_j0 = w2c_l3;
-  w2c_i0 = (u32)(w2c_j0);
-  w2c_j1 = 0ull;
-  i64_store(m, (u64)(w2c_i0) + 16, w2c_j1);
-  w2c_j0 = w2c_l3;
-  w2c_i0 = (u32)(w2c_j0);
-  w2c_i1 = 0u;
-  i32_store(m, (u64)(w2c_i0) + 24, w2c_i1);
-  w2c_j0 = w2c_l3;
-  w2c_i0 = (u32)(w2c_j0);
-  w2c_i1 = 0u;
-  i32_store(m, (u64)(w2c_i0) + 88, w2c_i1);
-  w2c_j0 = w2c_l3;
-  w2c_i0 = (u32)(w2c_j0);
-  w2c_j1 = 0ull;
-  i64_store(m, (u64)(w2c_i0) + 80, w2c_j1);
-  w2c_j0 = w2c_l3;
-  w2c_i0 = (u32)(w2c_j0);
-  w2c_j1 = 0ull;
-  i64_store(m, (u64)(w2c_i0) + 72, w2c_j1);
-  w2c_j0 = w2c_l3;
-  w2c_i0 = (u32)(w2c_j0);
-  w2c_j1 = 0ull;
-  i64_store(m, (u64)(w2c_i0) + 64, w2c_j1);
-  w2c_j0 = w2c_p2;
-  w2c_i0 = !(w2c_j0);
-  w2c_i0 = !(w2c_i0);
-  if (w2c_i0) {goto w2c_B7;}
-  w2c_j0 = 0ull;
-  w2c_l4 = w2c_j0;
-  w2c_j0 = 0ull;
-  w2c_p2 = w2c_j0;
-  goto w2c_B6;
-  w2c_B7:;
-  w2c_j0 = 1ull;
-  w2c_l4 = w2c_j0;
-  w2c_j0 = 1ull;
-  w2c_l5 = w2c_j0;
-  w2c_j0 = w2c_p1;
-  w2c_i0 = (u32)(w2c_j0);
-  w2c_i0 = i32_load8_u(m, (u64)(w2c_i0));
-  w2c_l8 = w2c_i0;
-  w2c_i1 = 32u;
-  w2c_i0 = w2c_i0 == w2c_i1;
-  if (w2c_i0) {goto w2c_B8;}
-  w2c_i0 = w2c_l8;
-  w2c_i1 = 227u;
-  w2c_i0 = w2c_i0 == w2c_i1;
-  if (w2c_i0) {goto w2c_B11;}
-  w2c_i0 = w2c_l8;
-  w2c_i1 = 194u;
-  w2c_i0 = w2c_i0 != w2c_i1;
-  if (w2c_i0) {goto w2c_B10;}
-  w2c_j0 = w2c_p2;
-  w2c_j1 = 1ull;
-  w2c_i0 = w2c_j0 != w2c_j1;
-  if (w2c_i0) {goto w2c_B12;}
-  w2c_j0 = 0ull;
-  w2c_l4 = w2c_j0;
-  w2c_j0 = 1ull;
-  w2c_p2 = w2c_j0;
-  goto w2c_B6;
-  w2c_B12:;
-  w2c_j0 = w2c_p1;
-  w2c_i0 = (u32)(w2c_j0);
-  w2c_i0 = i32_load8_u(m, (u64)(w2c_i0) + 1u);
-  w2c_i1 = 160u;
-  w2c_i0 = w2c_i0 == w2c_i1;
-  if (w2c_i0) {goto w2c_B9;}
-  w2c_j0 = 0ull;
-  w2c_l4 = w2c_j0;
-  goto w2c_B6;
-  w2c_B11:;
-  w2c_j0 = w2c_p2;
-  w2c_j1 = 3ull;
-  w2c_i0 = w2c_j0 >= w2c_j1;
-  if (w2c_i0) {goto w2c_B13;}
-  w2c_j0 = 0ull;
-  w2c_l4 = w2c_j0;
-  goto w2c_B6;
-  w2c_B13:;
-  w2c_j0 = w2c_p1;
-  w2c_i0 = (u32)(w2c_j0);
-  w2c_i0 = i32_load8_u(m, (u64)(w2c_i0) + 1u);
-  w2c_i1 = 128u;
-  w2c_i0 = w2c_i0 == w2c_i1;
-  if (w2c_i0) {goto w2c_B14;}
-  w2c_j0 = 0ull;
-  w2c_l4 = w2c_j0;
-  goto w2c_B6;
-  w2c_B14:;
-  w2c_j0 = w2c_p1;
-  w2c_i0 = (u32)(w2c_j0);
-  w2c_i0 = i32_load8_u(m, (u64)(w2c_i0) + 2u);
-  w2c_i1 = 128u;
-  w2c_i0 = w2c_i0 == w2c_i1;
-  if (w2c_i0) {goto w2c_B15;}
-  w2c_j0 = 0ull;
-  w2c_l4 = w2c_j0;
-  goto w2c_B6;
-  w2c_B15:;
-  w2c_j0 = 3ull;
-  w2c_l5 = w2c_j0;
-  goto w2c_B8;
-  w2c_B10:;
-  w2c_j0 = 1ull;
-  w2c_l5 = w2c_j0;
-  w2c_i0 = w2c_l8;
-  w2c_i1 = 4294967287u;
-  w2c_i0 += w2c_i1;
-  w2c_i1 = 255u;
-  w2c_i0 &= w2c_i1;
-  w2c_i1 = 4u;
-  w2c_i0 = w2c_i0 <= w2c_i1;
-  if (w2c_i0) {goto w2c_B8;}
-  w2c_j0 = 0ull;
-  w2c_l4 = w2c_j0;
-  goto w2c_B6;
-  w2c_B9:;
-  w2c_j0 = 2ull;
-  w2c_l5 = w2c_j0;
-  w2c_B8:;
-  w2c_j0 = w2c_p1;
-  w2c_j1 = w2c_l5;
-  w2c_j0 += w2c_j1;
-  w2c_p1 = w2c_j0;
-  w2c_j0 = w2c_p2;
-  w2c_j1 = w2c_l5;
-  w2c_j0 -= w2c_j1;
-  w2c_l6 = w2c_j0;
-  w2c_i0 = !(w2c_j0);
-  w2c_i0 = !(w2c_i0);
-  if (w2c_i0) {goto w2c_B16;}
-  w2c_j0 = 0ull;
-  w2c_p2 = w2c_j0;
-  goto w2c_B6;
-  w2c_B16:;
-  w2c_j0 = 1ull;
-  w2c_l4 = w2c_j0;
-  w2c_L17:
-    w2c_j0 = 1ull;
-    w2c_l5 = w2c_j0;
-    w2c_j0 = w2c_p1;
-    w2c_i0 = (u32)(w2c_j0);
-    w2c_i0 = i32_load8_u(m, (u64)(w2c_i0));
-    w2c_l8 = w2c_i0;
-    w2c_i1 = 32u;
-    w2c_i0 = w2c_i0 == w2c_i1;
-    if (w2c_i0) {goto w2c_B18;}
-    w2c_i0 = w2c_l8;
-    w2c_i1 = 227u;
-    w2c_i0 = w2c_i0 == w2c_i1;
-    if (w2c_i0) {goto w2c_B21;}
-    w2c_i0 = w2c_l8;
-    w2c_i1 = 194u;
-    w2c_i0 = w2c_i0 != w2c_i1;
-    if (w2c_i0) {goto w2c_B20;}
-    w2c_j0 = 1ull;
-    w2c_p2 = w2c_j0;
-    w2c_j0 = w2c_l6;
-    w2c_j1 = 1ull;
-    w2c_i0 = w2c_j0 == w2c_j1;
-    if (w2c_i0) {goto w2c_B6;}
-    w2c_j0 = w2c_p1;
-    w2c_i0 = (u32)(w2c_j0);
-    w2c_i0 = i32_load8_u(m, (u64)(w2c_i0) + 1u);
-    w2c_i1 = 160u;
-    w2c_i0 = w2c_i0 == w2c_i1;
-    if (w2c_i0) {goto w2c_B19;}
-    w2c_j0 = w2c_l6;
-    w2c_p2 = w2c_j0;
-    goto w2c_B6;
-    w2c_B21:;
-    w2c_j0 = w2c_l6;
-    w2c_j1 = 3ull;
-    w2c_i0 = w2c_j0 >= w2c_j1;
-    if (w2c_i0) {goto w2c_B22;}
-    w2c_j0 = w2c_l6;
-    w2c_p2 = w2c_j0;
-    goto w2c_B6;
-    w2c_B22:;
-    w2c_j0 = w2c_p1;
-    w2c_i0 = (u32)(w2c_j0);
-    w2c_i0 = i32_load8_u(m, (u64)(w2c_i0) + 1u);
-    w2c_i1 = 128u;
-    w2c_i0 = w2c_i0 == w2c_i1;
-    if (w2c_i0) {goto w2c_B23;}
-    w2c_j0 = w2c_l6;
-    w2c_p2 = w2c_j0;
-    goto w2c_B6;
-    w2c_B23:;
-    w2c_j0 = w2c_p1;
-    w2c_i0 = (u32)(w2c_j0);
-    w2c_i0 = i32_load8_u(m, (u64)(w2c_i0) + 2u);
-    w2c_i1 = 128u;
-    w2c_i0 = w2c_i0 == w2c_i1;
-    if (w2c_i0) {goto w2c_B24;}
-    w2c_j0 = w2c_l6;
-    w2c_p2 = w2c_j0;
-    goto w2c_B6;
-    w2c_B24:;
-    w2c_j0 = 3ull;
-    w2c_l5 = w2c_j0;
-    goto w2c_B18;
-    w2c_B20:;
-    w2c_j0 = 1ull;
-    w2c_l5 = w2c_j0;
-    w2c_i0 = w2c_l8;
-    w2c_i1 = 4294967287u;
-    w2c_i0 += w2c_i1;
-    w2c_i1 = 255u;
-    w2c_i0 &= w2c_i1;
-    w2c_i1 = 4u;
-    w2c_i0 = w2c_i0 <= w2c_i1;
-    if (w2c_i0) {goto w2c_B18;}
-    w2c_j0 = w2c_l6;
-    w2c_p2 = w2c_j0;
-    goto w2c_B6;
-    w2c_B19:;
-    w2c_j0 = 2ull;
-    w2c_l5 = w2c_j0;
-    w2c_B18:;
-    w2c_j0 = w2c_l4;
-    w2c_j1 = 1ull;
-    w2c_j0 += w2c_j1;
-    w2c_l4 = w2c_j0;
-    w2c_j0 = w2c_p1;
-    w2c_j1 = w2c_l5;
-    w2c_j0 += w2c_j1;
-    w2c_p1 = w2c_j0;
-    w2c_j0 = 0ull;
-    w2c_p2 = w2c_j0;
-    w2c_j0 = w2c_l6;
-    w2c_j1 = w2c_l5;
-    w2c_j0 -= w2c_j1;
-    w2c_l6 = w2c_j0;
-    w2c_j1 = 0ull;
-    w2c_i0 = w2c_j0 != w2c_j1;
-    if (w2c_i0) {goto w2c_L17;}
-  w2c_B6:;
-  w2c_j0 = w2c_l3;
-  w2c_i0 = (u32)(w2c_j0);
-  w2c_j1 = 0ull;
-  i64_store(m, (u64)(w2c_i0) + 120, w2c_j1);
-  w2c_j0 = w2c_l3;
-  w2c_i0 = (u32)(w2c_j0);
-  w2c_j1 = 0ull;
-  i64_store(m, (u64)(w2c_i0) + 128, w2c_j1);
-  w2c_j0 = w2c_l3;
-  w2c_i0 = (u32)(w2c_j0);
-  w2c_j1 = 0ull;
-  i64_store(m, (u64)(w2c_i0) + 136, w2c_j1);
-  w2c_j0 = w2c_l3;
-  w2c_i0 = (u32)(w2c_j0);
-  w2c_j1 = 0ull;
-  i64_store(m, (u64)(w2c_i0) + 144, w2c_j1);
-  w2c_j0 = w2c_l3;
-  w2c_i0 = (u32)(w2c_j0);
-  w2c_j1 = 0ull;
-  i64_store(m, (u64)(w2c_i0) + 152, w2c_j1);
-  w2c_j0 = w2c_l3;
-  w2c_i0 = (u32)(w2c_j0);
-  w2c_j1 = 0ull;
-  i64_store(m, (u64)(w2c_i0) + 96, w2c_j1);
-  w2c_j0 = w2c_l3;
-  w2c_i0 = (u32)(w2c_j0);
-  w2c_j1 = 0ull;
-  i64_store(m, (u64)(w2c_i0) + 104, w2c_j1);
-  w2c_j0 = w2c_l3;
-  w2c_i0 = (u32)(w2c_j0);
-  w2c_j1 = 0ull;
-  i64_store(m, (u64)(w2c_i0) + 112, w2c_j1);
-  w2c_j0 = w2c_p2;
-  w2c_j1 = 3ull;
-  w2c_i0 = w2c_j0 < w2c_j1;
-  if (w2c_i0) {goto w2c_B25;}
-  w2c_j0 = w2c_p1;
-  w2c_i0 = (u32)(w2c_j0);
-  w2c_i0 = i32_load8_u(m, (u64)(w2c_i0));
-  w2c_l9 = w2c_i0;
-  w2c_i1 = 240u;
-  w2c_i0 &= w2c_i1;
-  w2c_i1 = 224u;
-  w2c_i0 = w2c_i0 != w2c_i1;
-  if (w2c_i0) {goto w2c_B3;}
-  w2c_j0 = w2c_p1;
-  w2c_i0 = (u32)(w2c_j0);
-  w2c_i0 = i32_load8_u(m, (u64)(w2c_i0) + 1u);
-  w2c_l10 = w2c_i0;
-  w2c_i1 = 6u;
-  w2c_i0 <<= (w2c_i1 & 31);
-  w2c_i1 = w2c_l9;
-  w2c_i2 = 12u;
-  w2c_i1 <<= (w2c_i2 & 31);
-  w2c_i0 += w2c_i1;
-  w2c_j1 = w2c_p1;
-  w2c_i1 = (u32)(w2c_j1);
-  w2c_i1 = i32_load8_u(m, (u64)(w2c_i1) + 2u);
-  w2c_l11 = w2c_i1;
-  w2c_i0 += w2c_i1;
-  w2c_l12 = w2c_i0;
-  w2c_i1 = 4294041472u;
-  w2c_i0 += w2c_i1;
-  w2c_l8 = w2c_i0;
-  w2c_j0 = w2c_p2;
-  w2c_j1 = 18446744073709551613ull;
-  w2c_j0 += w2c_j1;
-  w2c_l5 = w2c_j0;
-  w2c_j0 = w2c_p1;
-  w2c_j1 = 3ull;
-  w2c_j0 += w2c_j1;
-  w2c_l6 = w2c_j0;
-  w2c_i0 = w2c_l10;
-  w2c_i1 = 8u;
-  w2c_i0 <<= (w2c_i1 & 31);
-  w2c_i1 = w2c_l11;
-  w2c_i2 = 16u;
-  w2c_i1 <<= (w2c_i2 & 31);
-  w2c_i0 |= w2c_i1;
-  w2c_i1 = w2c_l9;
-  w2c_i0 |= w2c_i1;
-  w2c_l10 = w2c_i0;
-  w2c_j0 = (u64)(w2c_i0);
-  w2c_j1 = 953497ull;
-  w2c_j0 *= w2c_j1;
-  w2c_j1 = 22ull;
-  w2c_j0 >>= (w2c_j1 & 63);
-  w2c_j1 = 1016ull;
-  w2c_j0 &= w2c_j1;
-  w2c_l7 = w2c_j0;
-  w2c_i0 = (u32)(w2c_j0);
-  w2c_i0 = i32_load(m, (u64)(w2c_i0) + 66976u);
-  w2c_i1 = w2c_l10;
-  w2c_i0 = w2c_i0 != w2c_i1;
-  if (w2c_i0) {goto w2c_B26;}
-  w2c_j0 = w2c_l7;
-  w2c_j1 = 66980ull;
-  w2c_j0 += w2c_j1;
-  w2c_i0 = (u32)(w2c_j0);
-  w2c_i0 = i32_load8_u(m, (u64)(w2c_i0));
-  w2c_i1 = 255u;
-  w2c_i0 &= w2c_i1;
-  w2c_i1 = 2u;
-  w2c_i0 = w2c_i0 != w2c_i1;
-  if (w2c_i0) {goto w2c_B2;}
-  w2c_B26:;
-  w2c_i0 = w2c_l8;
-  w2c_i1 = 127u;
-  w2c_i0 = w2c_i0 > w2c_i1;
-  if (w2c_i0) {goto w2c_B27;}
-  w2c_i0 = w2c_l12;
-  w2c_i1 = 4294041463u;
-  w2c_i0 += w2c_i1;
-  w2c_i1 = 5u;
-  w2c_i0 = w2c_i0 < w2c_i1;
-  if (w2c_i0) {goto w2c_B3;}
-  w2c_i0 = w2c_l12;
-  w2c_i1 = 925856u;
-  w2c_i0 = w2c_i0 == w2c_i1;
-  if (w2c_i0) {goto w2c_B3;}
-  goto w2c_B2;
-  w2c_B27:;
-  w2c_i0 = w2c_l12;
-  w2c_i1 = 4294033280u;
-  w2c_i0 += w2c_i1;
-  w2c_i1 = 11u;
-  w2c_i0 = w2c_i0 < w2c_i1;
-  if (w2c_i0) {goto w2c_B3;}
-  w2c_i0 = w2c_l12;
-  w2c_i1 = 934055u;
-  w2c_i0 = (u32)((s32)w2c_i0 > (s32)w2c_i1);
-  if (w2c_i0) {goto w2c_B28;}
-  w2c_i0 = w2c_l12;
-  w2c_i1 = 925957u;
-  w2c_i0 = w2c_i0 == w2c_i1;
-  if (w2c_i0) {goto w2c_B3;}
-  w2c_i0 = w2c_l12;
-  w2c_i1 = 925984u;
-  w2c_i0 = w2c_i0 == w2c_i1;
-  if (w2c_i0) {goto w2c_B3;}
-  w2c_i0 = w2c_l12;
-  w2c_i1 = 931584u;
-  w2c_i0 = w2c_i0 == w2c_i1;
-  if (w2c_i0) {goto w2c_B3;}
-  goto w2c_B2;
-  w2c_B28:;
-  w2c_i0 = w2c_l12;
-  w2c_i1 = 4294033240u;
-  w2c_i0 += w2c_i1;
-  w2c_l10 = w2c_i0;
-  w2c_i1 = 55u;
-  w2c_i0 = w2c_i0 > w2c_i1;
-  if (w2c_i0) {goto w2c_B4;}
-  w2c_j0 = 1ull;
-  w2c_i1 = w2c_l10;
-  w2c_j1 = (u64)(w2c_i1);
-  w2c_j0 <<= (w2c_j1 & 63);
-  w2c_j1 = 36028797018964099ull;
-  w2c_j0 &= w2c_j1;
-  w2c_j1 = 0ull;
-  w2c_i0 = w2c_j0 == w2c_j1;
-  if (w2c_i0) {goto w2c_B4;}
-  goto w2c_B3;
-  w2c_B25:;
-  w2c_j0 = w2c_p2;
-  w2c_i0 = !(w2c_j0);
-  if (w2c_i0) {goto w2c_B1;}
-  w2c_j0 = w2c_p1;
-  w2c_i0 = (u32)(w2c_j0);
-  w2c_i0 = i32_load8_u(m, (u64)(w2c_i0));
-  w2c_l9 = w2c_i0;
-  goto w2c_B3;
-  w2c_B5:;
-  UNREACHABLE;
-  w2c_B4:;
-  w2c_i0 = w2c_l12;
-  w2c_i1 = 938112u;
-  w2c_i0 = w2c_i0 != w2c_i1;
-  if (w2c_i0) {goto w2c_B2;}
-  w2c_B3:;
-  w2c_i0 = w2c_l9;
-  w2c_i1 = 4294967263u;
-  w2c_i0 += w2c_i1;
-  w2c_i1 = 255u;
-  w2c_i0 &= w2c_i1;
-  w2c_i1 = 93u;
-  w2c_i0 = w2c_i0 > w2c_i1;
-  if (w2c_i0) {goto w2c_B1;}
-  w2c_i0 = w2c_l9;
-  w2c_i1 = 255u;
-  w2c_i0 &= w2c_i1;
-  w2c_l8 = w2c_i0;
-  w2c_j0 = w2c_p1;
-  w2c_j1 = 1ull;
-  w2c_j0 += w2c_j1;
-  w2c_l6 = w2c_j0;
-  w2c_j0 = w2c_p2;
-  w2c_j1 = 18446744073709551615ull;
-  w2c_j0 += w2c_j1;
-  w2c_l5 = w2c_j0;
-  w2c_B2:;
-  w2c_j0 = w2c_l3;
-  w2c_i0 = (u32)(w2c_j0);
-  w2c_j1 = w2c_l5;
-  i64_store(m, (u64)(w2c_i0) + 152, w2c_j1);
-  w2c_j0 = w2c_l3;
-  w2c_i0 = (u32)(w2c_j0);
-  w2c_j1 = w2c_l6;
-  i64_store(m, (u64)(w2c_i0) + 144, w2c_j1);
-  w2c_j0 = w2c_l3;
-  w2c_i0 = (u32)(w2c_j0);
-  w2c_j1 = w2c_l4;
-  i64_store(m, (u64)(w2c_i0) + 136, w2c_j1);
-  w2c_j0 = w2c_l3;
-  w2c_i0 = (u32)(w2c_j0);
-  w2c_i1 = 0u;
-  i32_store(m, (u64)(w2c_i0) + 132, w2c_i1);
-  w2c_i0 = 1u;
-  w2c_l9 = w2c_i0;
-  goto w2c_B0;
-  w2c_B1:;
-  w2c_j0 = w2c_l3;
-  w2c_i0 = (u32)(w2c_j0);
-  w2c_j1 = w2c_p2;
-  i64_store(m, (u64)(w2c_i0) + 112, w2c_j1);
-  w2c_j0 = w2c_l3;
-  w2c_i0 = (u32)(w2c_j0);
-  w2c_j1 = w2c_p1;
-  i64_store(m, (u64)(w2c_i0) + 104, w2c_j1);
-  w2c_j0 = w2c_l3;
-  w2c_i0 = (u32)(w2c_j0);
-  w2c_j1 = w2c_l4;
-  i64_store(m, (u64)(w2c_i0) + 96, w2c_j1);
-  w2c_j0 = w2c_l3;
-  w2c_j1 = 120ull;
-  w2c_j0 += w2c_j1;
-  w2c_j1 = w2c_l3;
-  w2c_j2 = 96ull;
-  w2c_j1 += w2c_j2;
-  w2c_f29(m, w2c_j0, w2c_j1);
-  w2c_j0 = w2c_l3;
-  w2c_i0 = (u32)(w2c_j0);
-  w2c_i0 = i32_load8_u(m, (u64)(w2c_i0) + 120u);
-  w2c_i1 = 1u;
-  w2c_i0 = w2c_i0 == w2c_i1;
-  w2c_l9 = w2c_i0;
-  w2c_j0 = w2c_l3;
-  w2c_i0 = (u32)(w2c_j0);
-  w2c_i0 = i32_load(m, (u64)(w2c_i0) + 128u);
-  w2c_l8 = w2c_i0;
-  w2c_B0:;
-  w2c_j0 = w2c_l3;
-  w2c_i0 = (u32)(w2c_j0);
-  w2c_j1 = w2c_l3;
-  w2c_i1 = (u32)(w2c_j1);
-  w2c_j1 = i64_load(m, (u64)(w2c_i1) + 132u);
-  i64_store(m, (u64)(w2c_i0) + 32, w2c_j1);
-  w2c_j0 = w2c_l3;
-  w2c_i0 = (u32)(w2c_j0);
-  w2c_j1 = w2c_l3;
-  w2c_i1 = (u32)(w2c_j1);
-  w2c_j1 = i64_load(m, (u64)(w2c_i1) + 140u);
-  i64_store(m, (u64)(w2c_i0) + 40, w2c_j1);
-  w2c_j0 = w2c_l3;
-  w2c_i0 = (u32)(w2c_j0);
-  w2c_j1 = w2c_l3;
-  w2c_i1 = (u32)(w2c_j1);
-  w2c_j1 = i64_load(m, (u64)(w2c_i1) + 148u);
-  i64_store(m, (u64)(w2c_i0) + 48, w2c_j1);
-  w2c_j0 = w2c_l3;
-  w2c_i0 = (u32)(w2c_j0);
-  w2c_j1 = w2c_l3;
-  w2c_i1 = (u32)(w2c_j1);
-  w2c_i1 = i32_load(m, (u64)(w2c_i1) + 156u);
-  i32_store(m, (u64)(w2c_i0) + 56, w2c_i1);
-  w2c_i0 = w2c_l9;
-  w2c_i0 = !(w2c_i0);
-  if (w2c_i0) {goto w2c_B30;}
-  w2c_j0 = w2c_l3;
-  w2c_i0 = (u32)(w2c_j0);
-  w2c_j1 = w2c_l3;
-  w2c_i1 = (u32)(w2c_j1);
-  w2c_j1 = i64_load(m, (u64)(w2c_i1) + 44u);
-  i64_store(m, (u64)(w2c_i0) + 12, w2c_j1);
-  w2c_j0 = w2c_p0;
-  w2c_j1 = 12ull;
-  w2c_j0 += w2c_j1;
-  w2c_i0 = (u32)(w2c_j0);
-  w2c_j1 = w2c_l3;
-  w2c_i1 = (u32)(w2c_j1);
-  w2c_j1 = i64_load(m, (u64)(w2c_i1) + 8u);
-  i64_store(m, (u64)(w2c_i0), w2c_j1);
-  w2c_j0 = w2c_l3;
-  w2c_i0 = (u32)(w2c_j0);
-  w2c_j1 = w2c_l3;
-  w2c_i1 = (u32)(w2c_j1);
-  w2c_j1 = i64_load(m, (u64)(w2c_i1) + 52u);
-  i64_store(m, (u64)(w2c_i0) + 20, w2c_j1);
-  w2c_j0 = w2c_p0;
-  w2c_j1 = 20ull;
-  w2c_j0 += w2c_j1;
-  w2c_i0 = (u32)(w2c_j0);
-  w2c_j1 = w2c_l3;
-  w2c_i1 = (u32)(w2c_j1);
-  w2c_j1 = i64_load(m, (u64)(w2c_i1) + 16u);
-  i64_store(m, (u64)(w2c_i0), w2c_j1);
-  w2c_j0 = w2c_p0;
-  w2c_j1 = 28ull;
-  w2c_j0 += w2c_j1;
-  w2c_i0 = (u32)(w2c_j0);
-  w2c_j1 = w2c_l3;
-  w2c_i1 = (u32)(w2c_j1);
-  w2c_i1 = i32_load(m, (u64)(w2c_i1) + 24u);
-  i32_store(m, (u64)(w2c_i0), w2c_i1);
-  w2c_j0 = 1ull;
-  w2c_p1 = w2c_j0;
-  goto w2c_B29;
-  w2c_B30:;
-  w2c_i0 = 0u;
-  w2c_l8 = w2c_i0;
-  w2c_j0 = w2c_p0;
-  w2c_j1 = 28ull;
-  w2c_j0 += w2c_j1;
-  w2c_i0 = (u32)(w2c_j0);
-  w2c_i1 = 0u;
-  i32_store(m, (u64)(w2c_i0), w2c_i1);
-  w2c_j0 = 0ull;
-  w2c_p1 = w2c_j0;
-  w2c_j0 = w2c_p0;
-  w2c_j1 = 20ull;
-  w2c_j0 += w2c_j1;
-  w2c_i0 = (u32)(w2c_j0);
-  w2c_j1 = 0ull;
-  i64_store(m, (u64)(w2c_i0), w2c_j1);
-  w2c_j0 = w2c_p0;
-  w2c_j1 = 12ull;
-  w2c_j0 += w2c_j1;
-  w2c_i0 = (u32)(w2c_j0);
-  w2c_j1 = 0ull;
-  i64_store(m, (u64)(w2c_i0), w2c_j1);
-  w2c_B29:;
-  w2c_j0 = w2c_p0;
-  w2c_i0 = (u32)(w2c_j0);
-  w2c_j1 = w2c_p1;
-  i64_store(m, (u64)(w2c_i0), w2c_j1);
-  w2c_j0 = w2c_p0;
-  w2c_j1 = 8ull;
-  w2c_j0 += w2c_j1;
-  w2c_i0 = (u32)(w2c_j0);
-  w2c_i1 = w2c_l8;
-  i32_store(m, (u64)(w2c_i0), w2c_i1);
-  w2c_j0 = w2c_l3;
-  w2c_j1 = 160ull;
-  w2c_j0 += w2c_j1;
-  m->w2c_g0 = w2c_j0;
-}
-
-static void w2c_f31(module *m, u64 w2c_p0, u32 w2c_p1, u64 w2c_p2, u64 w2c_p3, u64 w2c_p4) {
+static void w2c_f33(module *m, u64 w2c_p0, u32 w2c_p1, u64 w2c_p2, u64 w2c_p3, u64 w2c_p4) {
   u32 w2c_l8 = 0, w2c_l9 = 0, w2c_l10 = 0;
   u64 w2c_l5 = 0, w2c_l6 = 0, w2c_l7 = 0;
   u32 w2c_i0, w2c_i1, w2c_i2;
@@ -28727,7 +30107,7 @@ static void w2c_f31(module *m, u64 w2c_p0, u32 w2c_p1, u64 w2c_p2, u64 w2c_p3, u
   w2c_j0 += w2c_j1;
   w2c_j1 = w2c_p3;
   w2c_j2 = w2c_p4;
-  w2c_f30(m, w2c_j0, w2c_j1, w2c_j2);
+  w2c_f32(m, w2c_j0, w2c_j1, w2c_j2);
   w2c_i0 = 1u;
   w2c_l8 = w2c_i0;
   w2c_j0 = w2c_l5;
@@ -28762,7 +30142,7 @@ static void w2c_f31(module *m, u64 w2c_p0, u32 w2c_p1, u64 w2c_p2, u64 w2c_p3, u
     w2c_j0 += w2c_j1;
     w2c_j1 = w2c_l6;
     w2c_j2 = w2c_l7;
-    w2c_f30(m, w2c_j0, w2c_j1, w2c_j2);
+    w2c_f32(m, w2c_j0, w2c_j1, w2c_j2);
     w2c_i0 = 1u;
     w2c_l9 = w2c_i0;
     w2c_j0 = w2c_l5;
@@ -28785,7 +30165,7 @@ static void w2c_f31(module *m, u64 w2c_p0, u32 w2c_p1, u64 w2c_p2, u64 w2c_p3, u
     w2c_j1 = w2c_l5;
     w2c_i1 = (u32)(w2c_j1);
     w2c_i1 = i32_load(m, (u64)(w2c_i1) + 136u);
-    w2c_f35(m, w2c_j0, w2c_i1);
+    w2c_f37(m, w2c_j0, w2c_i1);
     w2c_j0 = w2c_l5;
     w2c_i0 = (u32)(w2c_j0);
     w2c_i0 = i32_load8_u(m, (u64)(w2c_i0) + 8u);
@@ -28815,7 +30195,7 @@ static void w2c_f31(module *m, u64 w2c_p0, u32 w2c_p1, u64 w2c_p2, u64 w2c_p3, u
   w2c_j2 = w2c_p2;
   w2c_j3 = w2c_p3;
   w2c_j4 = w2c_p4;
-  w2c_f33(m, w2c_j0, w2c_i1, w2c_j2, w2c_j3, w2c_j4);
+  w2c_f35(m, w2c_j0, w2c_i1, w2c_j2, w2c_j3, w2c_j4);
   w2c_j0 = w2c_l5;
   w2c_i0 = (u32)(w2c_j0);
   w2c_i0 = i32_load8_u(m, (u64)(w2c_i0) + 88u);
@@ -28834,7 +30214,7 @@ static void w2c_f31(module *m, u64 w2c_p0, u32 w2c_p1, u64 w2c_p2, u64 w2c_p3, u
   w2c_j3 = 0ull;
   w2c_j4 = w2c_p3;
   w2c_j5 = w2c_p4;
-  w2c_f36(m, w2c_j0, w2c_i1, w2c_j2, w2c_j3, w2c_j4, w2c_j5);
+  w2c_f38(m, w2c_j0, w2c_i1, w2c_j2, w2c_j3, w2c_j4, w2c_j5);
   w2c_i0 = 2u;
   w2c_l8 = w2c_i0;
   w2c_j0 = 0ull;
@@ -28935,7 +30315,7 @@ static void w2c_f31(module *m, u64 w2c_p0, u32 w2c_p1, u64 w2c_p2, u64 w2c_p3, u
   w2c_Bfunc:;
 }
 
-static void w2c_f32(module *m, u64 w2c_p0, u64 w2c_p1, u64 w2c_p2) {
+static void w2c_f34(module *m, u64 w2c_p0, u64 w2c_p1, u64 w2c_p2) {
   u32 w2c_l5 = 0, w2c_l6 = 0, w2c_l7 = 0, w2c_l8 = 0;
   u64 w2c_l3 = 0, w2c_l4 = 0;
   u32 w2c_i0, w2c_i1, w2c_i2, w2c_i3;
@@ -29196,7 +30576,7 @@ static void w2c_f32(module *m, u64 w2c_p0, u64 w2c_p1, u64 w2c_p2) {
   w2c_Bfunc:;
 }
 
-static void w2c_f33(module *m, u64 w2c_p0, u32 w2c_p1, u64 w2c_p2, u64 w2c_p3, u64 w2c_p4) {
+static void w2c_f35(module *m, u64 w2c_p0, u32 w2c_p1, u64 w2c_p2, u64 w2c_p3, u64 w2c_p4) {
   u32 w2c_l14 = 0, w2c_l15 = 0, w2c_l16 = 0;
   u64 w2c_l5 = 0, w2c_l6 = 0, w2c_l7 = 0, w2c_l8 = 0, w2c_l9 = 0, w2c_l10 = 0, w2c_l11 = 0, w2c_l12 = 0, w2c_l13 = 0;
   u32 w2c_i0, w2c_i1, w2c_i2, w2c_i3, w2c_i4;
@@ -29296,7 +30676,7 @@ static void w2c_f33(module *m, u64 w2c_p0, u32 w2c_p1, u64 w2c_p2, u64 w2c_p3, u
   w2c_j0 += w2c_j1;
   w2c_j1 = w2c_p3;
   w2c_j2 = w2c_p4;
-  w2c_f30(m, w2c_j0, w2c_j1, w2c_j2);
+  w2c_f32(m, w2c_j0, w2c_j1, w2c_j2);
   w2c_j0 = w2c_l5;
   w2c_i0 = (u32)(w2c_j0);
   w2c_i0 = i32_load8_u(m, (u64)(w2c_i0) + 352u);
@@ -29318,7 +30698,7 @@ static void w2c_f33(module *m, u64 w2c_p0, u32 w2c_p1, u64 w2c_p2, u64 w2c_p3, u
   w2c_j2 = w2c_l5;
   w2c_i2 = (u32)(w2c_j2);
   w2c_i2 = i32_load(m, (u64)(w2c_i2) + 360u);
-  w2c_f37(m, w2c_j0, w2c_i1, w2c_i2);
+  w2c_f39(m, w2c_j0, w2c_i1, w2c_i2);
   w2c_j0 = w2c_l5;
   w2c_i0 = (u32)(w2c_j0);
   w2c_i0 = i32_load8_u(m, (u64)(w2c_i0) + 152u);
@@ -29337,7 +30717,7 @@ static void w2c_f33(module *m, u64 w2c_p0, u32 w2c_p1, u64 w2c_p2, u64 w2c_p3, u
     w2c_l10 = w2c_j1;
     w2c_j2 = w2c_l6;
     w2c_l11 = w2c_j2;
-    w2c_f30(m, w2c_j0, w2c_j1, w2c_j2);
+    w2c_f32(m, w2c_j0, w2c_j1, w2c_j2);
     w2c_j0 = w2c_l5;
     w2c_i0 = (u32)(w2c_j0);
     w2c_i0 = i32_load8_u(m, (u64)(w2c_i0) + 352u);
@@ -29359,7 +30739,7 @@ static void w2c_f33(module *m, u64 w2c_p0, u32 w2c_p1, u64 w2c_p2, u64 w2c_p3, u
     w2c_j2 = w2c_l5;
     w2c_i2 = (u32)(w2c_j2);
     w2c_i2 = i32_load(m, (u64)(w2c_i2) + 360u);
-    w2c_f37(m, w2c_j0, w2c_i1, w2c_i2);
+    w2c_f39(m, w2c_j0, w2c_i1, w2c_i2);
     w2c_j0 = w2c_l9;
     w2c_j1 = 1ull;
     w2c_j0 += w2c_j1;
@@ -29395,7 +30775,7 @@ static void w2c_f33(module *m, u64 w2c_p0, u32 w2c_p1, u64 w2c_p2, u64 w2c_p3, u
   w2c_j0 += w2c_j1;
   w2c_j1 = w2c_p3;
   w2c_j2 = w2c_p4;
-  w2c_f30(m, w2c_j0, w2c_j1, w2c_j2);
+  w2c_f32(m, w2c_j0, w2c_j1, w2c_j2);
   w2c_j0 = w2c_l5;
   w2c_i0 = (u32)(w2c_j0);
   w2c_i0 = i32_load8_u(m, (u64)(w2c_i0) + 352u);
@@ -29409,7 +30789,7 @@ static void w2c_f33(module *m, u64 w2c_p0, u32 w2c_p1, u64 w2c_p2, u64 w2c_p3, u
   w2c_j2 = w2c_l5;
   w2c_i2 = (u32)(w2c_j2);
   w2c_i2 = i32_load(m, (u64)(w2c_i2) + 360u);
-  w2c_f37(m, w2c_j0, w2c_i1, w2c_i2);
+  w2c_f39(m, w2c_j0, w2c_i1, w2c_i2);
   w2c_j0 = w2c_l5;
   w2c_i0 = (u32)(w2c_j0);
   w2c_i0 = i32_load8_u(m, (u64)(w2c_i0) + 136u);
@@ -29448,7 +30828,7 @@ static void w2c_f33(module *m, u64 w2c_p0, u32 w2c_p1, u64 w2c_p2, u64 w2c_p3, u
   w2c_j0 += w2c_j1;
   w2c_j1 = w2c_l10;
   w2c_j2 = w2c_l11;
-  w2c_f30(m, w2c_j0, w2c_j1, w2c_j2);
+  w2c_f32(m, w2c_j0, w2c_j1, w2c_j2);
   w2c_j0 = w2c_l5;
   w2c_i0 = (u32)(w2c_j0);
   w2c_i0 = i32_load8_u(m, (u64)(w2c_i0) + 320u);
@@ -29491,7 +30871,7 @@ static void w2c_f33(module *m, u64 w2c_p0, u32 w2c_p1, u64 w2c_p2, u64 w2c_p3, u
     w2c_j0 += w2c_j1;
     w2c_j1 = w2c_l6;
     w2c_j2 = w2c_l7;
-    w2c_f30(m, w2c_j0, w2c_j1, w2c_j2);
+    w2c_f32(m, w2c_j0, w2c_j1, w2c_j2);
     w2c_j0 = w2c_l5;
     w2c_i0 = (u32)(w2c_j0);
     w2c_i0 = i32_load8_u(m, (u64)(w2c_i0) + 352u);
@@ -29505,7 +30885,7 @@ static void w2c_f33(module *m, u64 w2c_p0, u32 w2c_p1, u64 w2c_p2, u64 w2c_p3, u
     w2c_j2 = w2c_l5;
     w2c_i2 = (u32)(w2c_j2);
     w2c_i2 = i32_load(m, (u64)(w2c_i2) + 360u);
-    w2c_f37(m, w2c_j0, w2c_i1, w2c_i2);
+    w2c_f39(m, w2c_j0, w2c_i1, w2c_i2);
     w2c_j0 = w2c_l5;
     w2c_i0 = (u32)(w2c_j0);
     w2c_i0 = i32_load8_u(m, (u64)(w2c_i0) + 112u);
@@ -29541,7 +30921,7 @@ static void w2c_f33(module *m, u64 w2c_p0, u32 w2c_p1, u64 w2c_p2, u64 w2c_p3, u
     w2c_j0 += w2c_j1;
     w2c_j1 = w2c_l7;
     w2c_j2 = w2c_l6;
-    w2c_f30(m, w2c_j0, w2c_j1, w2c_j2);
+    w2c_f32(m, w2c_j0, w2c_j1, w2c_j2);
     w2c_j0 = w2c_l5;
     w2c_i0 = (u32)(w2c_j0);
     w2c_i0 = i32_load8_u(m, (u64)(w2c_i0) + 352u);
@@ -29555,7 +30935,7 @@ static void w2c_f33(module *m, u64 w2c_p0, u32 w2c_p1, u64 w2c_p2, u64 w2c_p3, u
     w2c_j2 = w2c_l5;
     w2c_i2 = (u32)(w2c_j2);
     w2c_i2 = i32_load(m, (u64)(w2c_i2) + 360u);
-    w2c_f37(m, w2c_j0, w2c_i1, w2c_i2);
+    w2c_f39(m, w2c_j0, w2c_i1, w2c_i2);
     w2c_j0 = w2c_l5;
     w2c_i0 = (u32)(w2c_j0);
     w2c_i0 = i32_load8_u(m, (u64)(w2c_i0) + 104u);
@@ -29591,7 +30971,7 @@ static void w2c_f33(module *m, u64 w2c_p0, u32 w2c_p1, u64 w2c_p2, u64 w2c_p3, u
     w2c_j0 += w2c_j1;
     w2c_j1 = w2c_l7;
     w2c_j2 = w2c_l6;
-    w2c_f30(m, w2c_j0, w2c_j1, w2c_j2);
+    w2c_f32(m, w2c_j0, w2c_j1, w2c_j2);
     w2c_j0 = w2c_l5;
     w2c_i0 = (u32)(w2c_j0);
     w2c_i0 = i32_load8_u(m, (u64)(w2c_i0) + 352u);
@@ -29605,7 +30985,7 @@ static void w2c_f33(module *m, u64 w2c_p0, u32 w2c_p1, u64 w2c_p2, u64 w2c_p3, u
     w2c_j2 = w2c_l5;
     w2c_i2 = (u32)(w2c_j2);
     w2c_i2 = i32_load(m, (u64)(w2c_i2) + 360u);
-    w2c_f37(m, w2c_j0, w2c_i1, w2c_i2);
+    w2c_f39(m, w2c_j0, w2c_i1, w2c_i2);
     w2c_j0 = w2c_l5;
     w2c_i0 = (u32)(w2c_j0);
     w2c_i0 = i32_load8_u(m, (u64)(w2c_i0) + 96u);
@@ -29641,7 +31021,7 @@ static void w2c_f33(module *m, u64 w2c_p0, u32 w2c_p1, u64 w2c_p2, u64 w2c_p3, u
     w2c_j0 += w2c_j1;
     w2c_j1 = w2c_l10;
     w2c_j2 = w2c_l11;
-    w2c_f30(m, w2c_j0, w2c_j1, w2c_j2);
+    w2c_f32(m, w2c_j0, w2c_j1, w2c_j2);
     w2c_j0 = w2c_l5;
     w2c_i0 = (u32)(w2c_j0);
     w2c_i0 = i32_load8_u(m, (u64)(w2c_i0) + 320u);
@@ -29660,7 +31040,7 @@ static void w2c_f33(module *m, u64 w2c_p0, u32 w2c_p1, u64 w2c_p2, u64 w2c_p3, u
   w2c_j0 += w2c_j1;
   w2c_j1 = w2c_l10;
   w2c_j2 = w2c_l11;
-  w2c_f38(m, w2c_j0, w2c_j1, w2c_j2);
+  w2c_f40(m, w2c_j0, w2c_j1, w2c_j2);
   w2c_j0 = w2c_l5;
   w2c_i0 = (u32)(w2c_j0);
   w2c_j0 = i64_load(m, (u64)(w2c_i0) + 88u);
@@ -29676,7 +31056,7 @@ static void w2c_f33(module *m, u64 w2c_p0, u32 w2c_p1, u64 w2c_p2, u64 w2c_p3, u
   w2c_j0 += w2c_j1;
   w2c_j1 = w2c_l10;
   w2c_j2 = w2c_l11;
-  w2c_f38(m, w2c_j0, w2c_j1, w2c_j2);
+  w2c_f40(m, w2c_j0, w2c_j1, w2c_j2);
   w2c_j0 = w2c_l5;
   w2c_i0 = (u32)(w2c_j0);
   w2c_j0 = i64_load(m, (u64)(w2c_i0) + 128u);
@@ -29701,7 +31081,7 @@ static void w2c_f33(module *m, u64 w2c_p0, u32 w2c_p1, u64 w2c_p2, u64 w2c_p3, u
   w2c_j4 = 0ull;
   w2c_j5 = w2c_p3;
   w2c_j6 = w2c_p4;
-  w2c_f39(m, w2c_j0, w2c_i1, w2c_i2, w2c_j3, w2c_j4, w2c_j5, w2c_j6);
+  w2c_f41(m, w2c_j0, w2c_i1, w2c_i2, w2c_j3, w2c_j4, w2c_j5, w2c_j6);
   w2c_j0 = w2c_l5;
   w2c_i0 = (u32)(w2c_j0);
   w2c_i0 = i32_load8_u(m, (u64)(w2c_i0) + 256u);
@@ -29812,7 +31192,7 @@ static void w2c_f33(module *m, u64 w2c_p0, u32 w2c_p1, u64 w2c_p2, u64 w2c_p3, u
     w2c_j1 = w2c_l6;
     w2c_j2 = w2c_l7;
     w2c_l9 = w2c_j2;
-    w2c_f30(m, w2c_j0, w2c_j1, w2c_j2);
+    w2c_f32(m, w2c_j0, w2c_j1, w2c_j2);
     w2c_j0 = w2c_l5;
     w2c_i0 = (u32)(w2c_j0);
     w2c_i0 = i32_load8_u(m, (u64)(w2c_i0) + 352u);
@@ -29847,7 +31227,7 @@ static void w2c_f33(module *m, u64 w2c_p0, u32 w2c_p1, u64 w2c_p2, u64 w2c_p3, u
   w2c_j3 = w2c_l9;
   w2c_j2 -= w2c_j3;
   w2c_l10 = w2c_j2;
-  w2c_f30(m, w2c_j0, w2c_j1, w2c_j2);
+  w2c_f32(m, w2c_j0, w2c_j1, w2c_j2);
   w2c_j0 = w2c_l5;
   w2c_i0 = (u32)(w2c_j0);
   w2c_i0 = i32_load8_u(m, (u64)(w2c_i0) + 288u);
@@ -29860,7 +31240,7 @@ static void w2c_f33(module *m, u64 w2c_p0, u32 w2c_p1, u64 w2c_p2, u64 w2c_p3, u
   w2c_i1 = 1u;
   w2c_j2 = w2c_l6;
   w2c_j3 = w2c_l7;
-  w2c_f40(m, w2c_j0, w2c_i1, w2c_j2, w2c_j3);
+  w2c_f42(m, w2c_j0, w2c_i1, w2c_j2, w2c_j3);
   w2c_j0 = w2c_l5;
   w2c_i0 = (u32)(w2c_j0);
   w2c_i0 = i32_load8_u(m, (u64)(w2c_i0) + 64u);
@@ -29893,7 +31273,7 @@ static void w2c_f33(module *m, u64 w2c_p0, u32 w2c_p1, u64 w2c_p2, u64 w2c_p3, u
   w2c_j0 += w2c_j1;
   w2c_j1 = w2c_l6;
   w2c_j2 = w2c_l7;
-  w2c_f30(m, w2c_j0, w2c_j1, w2c_j2);
+  w2c_f32(m, w2c_j0, w2c_j1, w2c_j2);
   w2c_j0 = w2c_l6;
   w2c_l9 = w2c_j0;
   w2c_j0 = w2c_l7;
@@ -29929,7 +31309,7 @@ static void w2c_f33(module *m, u64 w2c_p0, u32 w2c_p1, u64 w2c_p2, u64 w2c_p3, u
   w2c_j1 = 56ull;
   w2c_j0 += w2c_j1;
   w2c_i1 = w2c_l14;
-  w2c_f17(m, w2c_j0, w2c_i1);
+  w2c_f19(m, w2c_j0, w2c_i1);
   w2c_j0 = w2c_l6;
   w2c_l9 = w2c_j0;
   w2c_j0 = w2c_l7;
@@ -29948,7 +31328,7 @@ static void w2c_f33(module *m, u64 w2c_p0, u32 w2c_p1, u64 w2c_p2, u64 w2c_p3, u
     w2c_l9 = w2c_j1;
     w2c_j2 = w2c_l13;
     w2c_l8 = w2c_j2;
-    w2c_f30(m, w2c_j0, w2c_j1, w2c_j2);
+    w2c_f32(m, w2c_j0, w2c_j1, w2c_j2);
     w2c_j0 = w2c_l5;
     w2c_i0 = (u32)(w2c_j0);
     w2c_i0 = i32_load8_u(m, (u64)(w2c_i0) + 352u);
@@ -29976,7 +31356,7 @@ static void w2c_f33(module *m, u64 w2c_p0, u32 w2c_p1, u64 w2c_p2, u64 w2c_p3, u
     w2c_j1 = 48ull;
     w2c_j0 += w2c_j1;
     w2c_i1 = w2c_l14;
-    w2c_f17(m, w2c_j0, w2c_i1);
+    w2c_f19(m, w2c_j0, w2c_i1);
     w2c_j0 = w2c_l5;
     w2c_i0 = (u32)(w2c_j0);
     w2c_i0 = i32_load8_u(m, (u64)(w2c_i0) + 48u);
@@ -30021,7 +31401,7 @@ static void w2c_f33(module *m, u64 w2c_p0, u32 w2c_p1, u64 w2c_p2, u64 w2c_p3, u
   w2c_j0 += w2c_j1;
   w2c_j1 = w2c_p3;
   w2c_j2 = w2c_l10;
-  w2c_f32(m, w2c_j0, w2c_j1, w2c_j2);
+  w2c_f34(m, w2c_j0, w2c_j1, w2c_j2);
   w2c_j0 = w2c_l5;
   w2c_i0 = (u32)(w2c_j0);
   w2c_i0 = i32_load8_u(m, (u64)(w2c_i0) + 352u);
@@ -30041,7 +31421,7 @@ static void w2c_f33(module *m, u64 w2c_p0, u32 w2c_p1, u64 w2c_p2, u64 w2c_p3, u
   w2c_j2 = w2c_l5;
   w2c_i2 = (u32)(w2c_j2);
   w2c_j2 = i64_load(m, (u64)(w2c_i2) + 376u);
-  w2c_f32(m, w2c_j0, w2c_j1, w2c_j2);
+  w2c_f34(m, w2c_j0, w2c_j1, w2c_j2);
   w2c_j0 = w2c_l5;
   w2c_i0 = (u32)(w2c_j0);
   w2c_i0 = i32_load8_u(m, (u64)(w2c_i0) + 320u);
@@ -30054,7 +31434,7 @@ static void w2c_f33(module *m, u64 w2c_p0, u32 w2c_p1, u64 w2c_p2, u64 w2c_p3, u
   w2c_j1 = w2c_l5;
   w2c_i1 = (u32)(w2c_j1);
   w2c_i1 = i32_load(m, (u64)(w2c_i1) + 328u);
-  w2c_f35(m, w2c_j0, w2c_i1);
+  w2c_f37(m, w2c_j0, w2c_i1);
   w2c_j0 = w2c_l5;
   w2c_i0 = (u32)(w2c_j0);
   w2c_i0 = i32_load8_u(m, (u64)(w2c_i0) + 40u);
@@ -30073,7 +31453,7 @@ static void w2c_f33(module *m, u64 w2c_p0, u32 w2c_p1, u64 w2c_p2, u64 w2c_p3, u
   w2c_j1 = 32ull;
   w2c_j0 += w2c_j1;
   w2c_i1 = w2c_l14;
-  w2c_f17(m, w2c_j0, w2c_i1);
+  w2c_f19(m, w2c_j0, w2c_i1);
   w2c_j0 = w2c_l5;
   w2c_i0 = (u32)(w2c_j0);
   w2c_i0 = i32_load8_u(m, (u64)(w2c_i0) + 32u);
@@ -30102,7 +31482,7 @@ static void w2c_f33(module *m, u64 w2c_p0, u32 w2c_p1, u64 w2c_p2, u64 w2c_p3, u
   w2c_j0 += w2c_j1;
   w2c_j1 = w2c_l9;
   w2c_j2 = w2c_l8;
-  w2c_f30(m, w2c_j0, w2c_j1, w2c_j2);
+  w2c_f32(m, w2c_j0, w2c_j1, w2c_j2);
   w2c_j0 = w2c_l5;
   w2c_i0 = (u32)(w2c_j0);
   w2c_i0 = i32_load8_u(m, (u64)(w2c_i0) + 352u);
@@ -30115,7 +31495,7 @@ static void w2c_f33(module *m, u64 w2c_p0, u32 w2c_p1, u64 w2c_p2, u64 w2c_p3, u
   w2c_j1 = w2c_l5;
   w2c_i1 = (u32)(w2c_j1);
   w2c_i1 = i32_load(m, (u64)(w2c_i1) + 360u);
-  w2c_f35(m, w2c_j0, w2c_i1);
+  w2c_f37(m, w2c_j0, w2c_i1);
   w2c_j0 = w2c_l5;
   w2c_i0 = (u32)(w2c_j0);
   w2c_i0 = i32_load8_u(m, (u64)(w2c_i0) + 25u);
@@ -30155,7 +31535,7 @@ static void w2c_f33(module *m, u64 w2c_p0, u32 w2c_p1, u64 w2c_p2, u64 w2c_p3, u
     w2c_j0 += w2c_j1;
     w2c_j1 = w2c_l9;
     w2c_j2 = w2c_l8;
-    w2c_f30(m, w2c_j0, w2c_j1, w2c_j2);
+    w2c_f32(m, w2c_j0, w2c_j1, w2c_j2);
     w2c_j0 = w2c_l5;
     w2c_i0 = (u32)(w2c_j0);
     w2c_i0 = i32_load8_u(m, (u64)(w2c_i0) + 352u);
@@ -30176,7 +31556,7 @@ static void w2c_f33(module *m, u64 w2c_p0, u32 w2c_p1, u64 w2c_p2, u64 w2c_p3, u
     w2c_j1 = w2c_l5;
     w2c_i1 = (u32)(w2c_j1);
     w2c_i1 = i32_load(m, (u64)(w2c_i1) + 360u);
-    w2c_f35(m, w2c_j0, w2c_i1);
+    w2c_f37(m, w2c_j0, w2c_i1);
     w2c_j0 = w2c_l5;
     w2c_i0 = (u32)(w2c_j0);
     w2c_i0 = i32_load8_u(m, (u64)(w2c_i0) + 16u);
@@ -30231,7 +31611,7 @@ static void w2c_f33(module *m, u64 w2c_p0, u32 w2c_p1, u64 w2c_p2, u64 w2c_p3, u
   w2c_j0 += w2c_j1;
   w2c_j1 = w2c_p3;
   w2c_j2 = w2c_p4;
-  w2c_f30(m, w2c_j0, w2c_j1, w2c_j2);
+  w2c_f32(m, w2c_j0, w2c_j1, w2c_j2);
   w2c_j0 = w2c_l5;
   w2c_i0 = (u32)(w2c_j0);
   w2c_i0 = i32_load8_u(m, (u64)(w2c_i0) + 352u);
@@ -30264,7 +31644,7 @@ static void w2c_f33(module *m, u64 w2c_p0, u32 w2c_p1, u64 w2c_p2, u64 w2c_p3, u
   w2c_j2 = w2c_p2;
   w2c_j3 = w2c_p3;
   w2c_j4 = w2c_l10;
-  w2c_f41(m, w2c_j0, w2c_i1, w2c_j2, w2c_j3, w2c_j4);
+  w2c_f43(m, w2c_j0, w2c_i1, w2c_j2, w2c_j3, w2c_j4);
   w2c_j0 = w2c_l5;
   w2c_i0 = (u32)(w2c_j0);
   w2c_j0 = i64_load(m, (u64)(w2c_i0) + 240u);
@@ -30284,7 +31664,7 @@ static void w2c_f33(module *m, u64 w2c_p0, u32 w2c_p1, u64 w2c_p2, u64 w2c_p3, u
   w2c_j4 = i64_load(m, (u64)(w2c_i4) + 248u);
   w2c_j5 = w2c_l6;
   w2c_j6 = w2c_l7;
-  w2c_f39(m, w2c_j0, w2c_i1, w2c_i2, w2c_j3, w2c_j4, w2c_j5, w2c_j6);
+  w2c_f41(m, w2c_j0, w2c_i1, w2c_i2, w2c_j3, w2c_j4, w2c_j5, w2c_j6);
   w2c_j0 = w2c_l5;
   w2c_i0 = (u32)(w2c_j0);
   w2c_i0 = i32_load8_u(m, (u64)(w2c_i0) + 192u);
@@ -30409,7 +31789,7 @@ static void w2c_f33(module *m, u64 w2c_p0, u32 w2c_p1, u64 w2c_p2, u64 w2c_p3, u
   w2c_j0 += w2c_j1;
   w2c_j1 = w2c_l7;
   w2c_j2 = w2c_l6;
-  w2c_f30(m, w2c_j0, w2c_j1, w2c_j2);
+  w2c_f32(m, w2c_j0, w2c_j1, w2c_j2);
   w2c_j0 = w2c_l5;
   w2c_i0 = (u32)(w2c_j0);
   w2c_i0 = i32_load8_u(m, (u64)(w2c_i0) + 320u);
@@ -30429,7 +31809,7 @@ static void w2c_f33(module *m, u64 w2c_p0, u32 w2c_p1, u64 w2c_p2, u64 w2c_p3, u
   w2c_j2 = w2c_l5;
   w2c_i2 = (u32)(w2c_j2);
   w2c_j2 = i64_load(m, (u64)(w2c_i2) + 344u);
-  w2c_f30(m, w2c_j0, w2c_j1, w2c_j2);
+  w2c_f32(m, w2c_j0, w2c_j1, w2c_j2);
   w2c_i0 = w2c_l14;
   w2c_i1 = 4294967248u;
   w2c_i0 += w2c_i1;
@@ -30448,7 +31828,7 @@ static void w2c_f33(module *m, u64 w2c_p0, u32 w2c_p1, u64 w2c_p2, u64 w2c_p3, u
   w2c_j1 = 8ull;
   w2c_j0 += w2c_j1;
   w2c_i1 = w2c_l14;
-  w2c_f17(m, w2c_j0, w2c_i1);
+  w2c_f19(m, w2c_j0, w2c_i1);
   w2c_j0 = w2c_l5;
   w2c_i0 = (u32)(w2c_j0);
   w2c_i0 = i32_load8_u(m, (u64)(w2c_i0) + 8u);
@@ -30507,7 +31887,7 @@ static void w2c_f33(module *m, u64 w2c_p0, u32 w2c_p1, u64 w2c_p2, u64 w2c_p3, u
   w2c_j2 = w2c_p2;
   w2c_j3 = w2c_p3;
   w2c_j4 = w2c_p4;
-  w2c_f41(m, w2c_j0, w2c_i1, w2c_j2, w2c_j3, w2c_j4);
+  w2c_f43(m, w2c_j0, w2c_i1, w2c_j2, w2c_j3, w2c_j4);
   w2c_j0 = w2c_l5;
   w2c_i0 = (u32)(w2c_j0);
   w2c_j0 = i64_load(m, (u64)(w2c_i0) + 176u);
@@ -30600,7 +31980,7 @@ static void w2c_f33(module *m, u64 w2c_p0, u32 w2c_p1, u64 w2c_p2, u64 w2c_p3, u
   m->w2c_g0 = w2c_j0;
 }
 
-static u64 w2c_f34(module *m, u64 w2c_p0, u64 w2c_p1) {
+static u64 w2c_f36(module *m, u64 w2c_p0, u64 w2c_p1) {
   u64 w2c_l2 = 0, w2c_l3 = 0, w2c_l4 = 0;
   u32 w2c_i0, w2c_i1;
   u64 w2c_j0, w2c_j1;
@@ -30687,7 +32067,7 @@ static u64 w2c_f34(module *m, u64 w2c_p0, u64 w2c_p1) {
   return w2c_j0;
 }
 
-static void w2c_f35(module *m, u64 w2c_p0, u32 w2c_p1) {
+static void w2c_f37(module *m, u64 w2c_p0, u32 w2c_p1) {
   u32 w2c_l2 = 0, w2c_l3 = 0;
   u32 w2c_i0, w2c_i1;
   u64 w2c_j0, w2c_j1;
@@ -30943,7 +32323,7 @@ static void w2c_f35(module *m, u64 w2c_p0, u32 w2c_p1) {
   i32_store8(m, (u64)(w2c_i0), w2c_i1);
 }
 
-static void w2c_f36(module *m, u64 w2c_p0, u32 w2c_p1, u64 w2c_p2, u64 w2c_p3, u64 w2c_p4, u64 w2c_p5) {
+static void w2c_f38(module *m, u64 w2c_p0, u32 w2c_p1, u64 w2c_p2, u64 w2c_p3, u64 w2c_p4, u64 w2c_p5) {
   u64 w2c_l6 = 0, w2c_l7 = 0, w2c_l8 = 0, w2c_l9 = 0;
   u32 w2c_i0, w2c_i1, w2c_i2;
   u64 w2c_j0, w2c_j1, w2c_j2, w2c_j3, w2c_j4;
@@ -30978,7 +32358,7 @@ static void w2c_f36(module *m, u64 w2c_p0, u32 w2c_p1, u64 w2c_p2, u64 w2c_p3, u
   w2c_j0 += w2c_j1;
   w2c_j1 = w2c_p4;
   w2c_j2 = w2c_p5;
-  w2c_f30(m, w2c_j0, w2c_j1, w2c_j2);
+  w2c_f32(m, w2c_j0, w2c_j1, w2c_j2);
   w2c_j0 = w2c_l6;
   w2c_i0 = (u32)(w2c_j0);
   w2c_i0 = i32_load8_u(m, (u64)(w2c_i0) + 80u);
@@ -31009,7 +32389,7 @@ static void w2c_f36(module *m, u64 w2c_p0, u32 w2c_p1, u64 w2c_p2, u64 w2c_p3, u
     w2c_j1 = w2c_l6;
     w2c_i1 = (u32)(w2c_j1);
     w2c_i1 = i32_load(m, (u64)(w2c_i1) + 88u);
-    w2c_f35(m, w2c_j0, w2c_i1);
+    w2c_f37(m, w2c_j0, w2c_i1);
     w2c_j0 = w2c_l6;
     w2c_i0 = (u32)(w2c_j0);
     w2c_i0 = i32_load8_u(m, (u64)(w2c_i0) + 72u);
@@ -31133,7 +32513,7 @@ static void w2c_f36(module *m, u64 w2c_p0, u32 w2c_p1, u64 w2c_p2, u64 w2c_p3, u
     w2c_j0 += w2c_j1;
     w2c_j1 = w2c_p4;
     w2c_j2 = w2c_p5;
-    w2c_f30(m, w2c_j0, w2c_j1, w2c_j2);
+    w2c_f32(m, w2c_j0, w2c_j1, w2c_j2);
     w2c_j0 = w2c_l6;
     w2c_i0 = (u32)(w2c_j0);
     w2c_i0 = i32_load8_u(m, (u64)(w2c_i0) + 80u);
@@ -31190,7 +32570,7 @@ static void w2c_f36(module *m, u64 w2c_p0, u32 w2c_p1, u64 w2c_p2, u64 w2c_p3, u
   w2c_Bfunc:;
 }
 
-static void w2c_f37(module *m, u64 w2c_p0, u32 w2c_p1, u32 w2c_p2) {
+static void w2c_f39(module *m, u64 w2c_p0, u32 w2c_p1, u32 w2c_p2) {
   u32 w2c_l4 = 0;
   u64 w2c_l3 = 0;
   u32 w2c_i0, w2c_i1;
@@ -31305,7 +32685,7 @@ static void w2c_f37(module *m, u64 w2c_p0, u32 w2c_p1, u32 w2c_p2) {
   w2c_j1 = 8ull;
   w2c_j0 += w2c_j1;
   w2c_i1 = w2c_p2;
-  w2c_f17(m, w2c_j0, w2c_i1);
+  w2c_f19(m, w2c_j0, w2c_i1);
   w2c_j0 = w2c_l3;
   w2c_i0 = (u32)(w2c_j0);
   w2c_i0 = i32_load8_u(m, (u64)(w2c_i0) + 9u);
@@ -31333,7 +32713,7 @@ static void w2c_f37(module *m, u64 w2c_p0, u32 w2c_p1, u32 w2c_p2) {
   w2c_Bfunc:;
 }
 
-static void w2c_f38(module *m, u64 w2c_p0, u64 w2c_p1, u64 w2c_p2) {
+static void w2c_f40(module *m, u64 w2c_p0, u64 w2c_p1, u64 w2c_p2) {
   u32 w2c_l5 = 0, w2c_l6 = 0, w2c_l7 = 0, w2c_l8 = 0;
   u64 w2c_l3 = 0, w2c_l4 = 0;
   u32 w2c_i0, w2c_i1, w2c_i2, w2c_i3;
@@ -31371,7 +32751,7 @@ static void w2c_f38(module *m, u64 w2c_p0, u64 w2c_p1, u64 w2c_p2) {
   w2c_j0 += w2c_j1;
   w2c_j1 = w2c_p1;
   w2c_j2 = w2c_p2;
-  w2c_f30(m, w2c_j0, w2c_j1, w2c_j2);
+  w2c_f32(m, w2c_j0, w2c_j1, w2c_j2);
   w2c_i0 = 1u;
   w2c_l5 = w2c_i0;
   w2c_j0 = w2c_l3;
@@ -31402,7 +32782,7 @@ static void w2c_f38(module *m, u64 w2c_p0, u64 w2c_p1, u64 w2c_p2) {
   w2c_j3 = w2c_l3;
   w2c_i3 = (u32)(w2c_j3);
   w2c_j3 = i64_load(m, (u64)(w2c_i3) + 56u);
-  w2c_f40(m, w2c_j0, w2c_i1, w2c_j2, w2c_j3);
+  w2c_f42(m, w2c_j0, w2c_i1, w2c_j2, w2c_j3);
   w2c_j0 = w2c_l3;
   w2c_i0 = (u32)(w2c_j0);
   w2c_j0 = i64_load(m, (u64)(w2c_i0) + 24u);
@@ -31437,7 +32817,7 @@ static void w2c_f38(module *m, u64 w2c_p0, u64 w2c_p1, u64 w2c_p2) {
     w2c_j0 += w2c_j1;
     w2c_j1 = w2c_p1;
     w2c_j2 = w2c_p2;
-    w2c_f30(m, w2c_j0, w2c_j1, w2c_j2);
+    w2c_f32(m, w2c_j0, w2c_j1, w2c_j2);
     w2c_j0 = w2c_l3;
     w2c_i0 = (u32)(w2c_j0);
     w2c_i0 = i32_load8_u(m, (u64)(w2c_i0) + 64u);
@@ -31459,7 +32839,7 @@ static void w2c_f38(module *m, u64 w2c_p0, u64 w2c_p1, u64 w2c_p2) {
     w2c_j1 = w2c_l3;
     w2c_i1 = (u32)(w2c_j1);
     w2c_i1 = i32_load(m, (u64)(w2c_i1) + 72u);
-    w2c_f35(m, w2c_j0, w2c_i1);
+    w2c_f37(m, w2c_j0, w2c_i1);
     w2c_j0 = w2c_l3;
     w2c_i0 = (u32)(w2c_j0);
     w2c_i0 = i32_load8_u(m, (u64)(w2c_i0) + 8u);
@@ -31507,7 +32887,7 @@ static void w2c_f38(module *m, u64 w2c_p0, u64 w2c_p1, u64 w2c_p2) {
   w2c_Bfunc:;
 }
 
-static void w2c_f39(module *m, u64 w2c_p0, u32 w2c_p1, u32 w2c_p2, u64 w2c_p3, u64 w2c_p4, u64 w2c_p5, u64 w2c_p6) {
+static void w2c_f41(module *m, u64 w2c_p0, u32 w2c_p1, u32 w2c_p2, u64 w2c_p3, u64 w2c_p4, u64 w2c_p5, u64 w2c_p6) {
   u32 w2c_l11 = 0;
   u64 w2c_l7 = 0, w2c_l8 = 0, w2c_l9 = 0, w2c_l10 = 0;
   u32 w2c_i0, w2c_i1, w2c_i2;
@@ -31559,7 +32939,7 @@ static void w2c_f39(module *m, u64 w2c_p0, u32 w2c_p1, u32 w2c_p2, u64 w2c_p3, u
   w2c_j0 += w2c_j1;
   w2c_j1 = w2c_p5;
   w2c_j2 = w2c_p6;
-  w2c_f30(m, w2c_j0, w2c_j1, w2c_j2);
+  w2c_f32(m, w2c_j0, w2c_j1, w2c_j2);
   w2c_j0 = w2c_l7;
   w2c_i0 = (u32)(w2c_j0);
   w2c_i0 = i32_load8_u(m, (u64)(w2c_i0) + 80u);
@@ -31582,7 +32962,7 @@ static void w2c_f39(module *m, u64 w2c_p0, u32 w2c_p1, u32 w2c_p2, u64 w2c_p3, u
     w2c_j2 = w2c_l7;
     w2c_i2 = (u32)(w2c_j2);
     w2c_i2 = i32_load(m, (u64)(w2c_i2) + 88u);
-    w2c_f37(m, w2c_j0, w2c_i1, w2c_i2);
+    w2c_f39(m, w2c_j0, w2c_i1, w2c_i2);
     w2c_j0 = w2c_l7;
     w2c_i0 = (u32)(w2c_j0);
     w2c_i0 = i32_load8_u(m, (u64)(w2c_i0) + 40u);
@@ -31662,7 +33042,7 @@ static void w2c_f39(module *m, u64 w2c_p0, u32 w2c_p1, u32 w2c_p2, u64 w2c_p3, u
     w2c_j0 += w2c_j1;
     w2c_j1 = w2c_l9;
     w2c_j2 = w2c_l8;
-    w2c_f30(m, w2c_j0, w2c_j1, w2c_j2);
+    w2c_f32(m, w2c_j0, w2c_j1, w2c_j2);
     w2c_j0 = w2c_l7;
     w2c_i0 = (u32)(w2c_j0);
     w2c_i0 = i32_load8_u(m, (u64)(w2c_i0) + 80u);
@@ -31678,7 +33058,7 @@ static void w2c_f39(module *m, u64 w2c_p0, u32 w2c_p1, u32 w2c_p2, u64 w2c_p3, u
   w2c_j3 = w2c_p4;
   w2c_j4 = w2c_p5;
   w2c_j5 = w2c_p6;
-  w2c_f36(m, w2c_j0, w2c_i1, w2c_j2, w2c_j3, w2c_j4, w2c_j5);
+  w2c_f38(m, w2c_j0, w2c_i1, w2c_j2, w2c_j3, w2c_j4, w2c_j5);
   w2c_j0 = w2c_p0;
   w2c_i0 = (u32)(w2c_j0);
   w2c_j1 = 0ull;
@@ -31733,7 +33113,7 @@ static void w2c_f39(module *m, u64 w2c_p0, u32 w2c_p1, u32 w2c_p2, u64 w2c_p3, u
   m->w2c_g0 = w2c_j0;
 }
 
-static void w2c_f40(module *m, u64 w2c_p0, u32 w2c_p1, u64 w2c_p2, u64 w2c_p3) {
+static void w2c_f42(module *m, u64 w2c_p0, u32 w2c_p1, u64 w2c_p2, u64 w2c_p3) {
   u32 w2c_l9 = 0, w2c_l10 = 0, w2c_l11 = 0;
   u64 w2c_l4 = 0, w2c_l5 = 0, w2c_l6 = 0, w2c_l7 = 0, w2c_l8 = 0;
   u32 w2c_i0, w2c_i1, w2c_i2;
@@ -31771,7 +33151,7 @@ static void w2c_f40(module *m, u64 w2c_p0, u32 w2c_p1, u64 w2c_p2, u64 w2c_p3) {
   w2c_j0 += w2c_j1;
   w2c_j1 = w2c_p2;
   w2c_j2 = w2c_p3;
-  w2c_f30(m, w2c_j0, w2c_j1, w2c_j2);
+  w2c_f32(m, w2c_j0, w2c_j1, w2c_j2);
   w2c_j0 = w2c_l4;
   w2c_i0 = (u32)(w2c_j0);
   w2c_i0 = i32_load8_u(m, (u64)(w2c_i0) + 32u);
@@ -31797,7 +33177,7 @@ static void w2c_f40(module *m, u64 w2c_p0, u32 w2c_p1, u64 w2c_p2, u64 w2c_p3) {
   w2c_j2 = w2c_l4;
   w2c_i2 = (u32)(w2c_j2);
   w2c_i2 = i32_load(m, (u64)(w2c_i2) + 40u);
-  w2c_f37(m, w2c_j0, w2c_i1, w2c_i2);
+  w2c_f39(m, w2c_j0, w2c_i1, w2c_i2);
   w2c_j0 = w2c_l4;
   w2c_i0 = (u32)(w2c_j0);
   w2c_i0 = i32_load8_u(m, (u64)(w2c_i0) + 24u);
@@ -31822,7 +33202,7 @@ static void w2c_f40(module *m, u64 w2c_p0, u32 w2c_p1, u64 w2c_p2, u64 w2c_p3) {
     w2c_p3 = w2c_j1;
     w2c_j2 = w2c_l6;
     w2c_p2 = w2c_j2;
-    w2c_f30(m, w2c_j0, w2c_j1, w2c_j2);
+    w2c_f32(m, w2c_j0, w2c_j1, w2c_j2);
     w2c_j0 = w2c_l4;
     w2c_i0 = (u32)(w2c_j0);
     w2c_i0 = i32_load8_u(m, (u64)(w2c_i0) + 32u);
@@ -31844,7 +33224,7 @@ static void w2c_f40(module *m, u64 w2c_p0, u32 w2c_p1, u64 w2c_p2, u64 w2c_p3) {
     w2c_j2 = w2c_l4;
     w2c_i2 = (u32)(w2c_j2);
     w2c_i2 = i32_load(m, (u64)(w2c_i2) + 40u);
-    w2c_f37(m, w2c_j0, w2c_i1, w2c_i2);
+    w2c_f39(m, w2c_j0, w2c_i1, w2c_i2);
     w2c_j0 = w2c_l8;
     w2c_j1 = 18446744073709551615ull;
     w2c_j0 += w2c_j1;
@@ -31891,7 +33271,7 @@ static void w2c_f40(module *m, u64 w2c_p0, u32 w2c_p1, u64 w2c_p2, u64 w2c_p3) {
     w2c_j0 += w2c_j1;
     w2c_j1 = w2c_p3;
     w2c_j2 = w2c_p2;
-    w2c_f30(m, w2c_j0, w2c_j1, w2c_j2);
+    w2c_f32(m, w2c_j0, w2c_j1, w2c_j2);
     w2c_j0 = w2c_l4;
     w2c_i0 = (u32)(w2c_j0);
     w2c_i0 = i32_load8_u(m, (u64)(w2c_i0) + 32u);
@@ -31916,7 +33296,7 @@ static void w2c_f40(module *m, u64 w2c_p0, u32 w2c_p1, u64 w2c_p2, u64 w2c_p3) {
     w2c_j1 = w2c_l4;
     w2c_i1 = (u32)(w2c_j1);
     w2c_i1 = i32_load(m, (u64)(w2c_i1) + 40u);
-    w2c_f35(m, w2c_j0, w2c_i1);
+    w2c_f37(m, w2c_j0, w2c_i1);
     w2c_j0 = w2c_l4;
     w2c_i0 = (u32)(w2c_j0);
     w2c_i0 = i32_load8_u(m, (u64)(w2c_i0) + 8u);
@@ -31960,13 +33340,13 @@ static void w2c_f40(module *m, u64 w2c_p0, u32 w2c_p1, u64 w2c_p2, u64 w2c_p3) {
   w2c_Bfunc:;
 }
 
-static void w2c_f41(module *m, u64 w2c_p0, u32 w2c_p1, u64 w2c_p2, u64 w2c_p3, u64 w2c_p4) {
-  u32 w2c_l10 = 0, w2c_l11 = 0, w2c_l12 = 0, w2c_l13 = 0, w2c_l14 = 0, w2c_l15 = 0;
-  u64 w2c_l5 = 0, w2c_l6 = 0, w2c_l7 = 0, w2c_l8 = 0, w2c_l9 = 0;
+static void w2c_f43(module *m, u64 w2c_p0, u32 w2c_p1, u64 w2c_p2, u64 w2c_p3, u64 w2c_p4) {
+  u32 w2c_l9 = 0, w2c_l10 = 0, w2c_l11 = 0, w2c_l12 = 0, w2c_l13 = 0, w2c_l14 = 0;
+  u64 w2c_l5 = 0, w2c_l6 = 0, w2c_l7 = 0, w2c_l8 = 0;
   u32 w2c_i0, w2c_i1, w2c_i2, w2c_i3, w2c_i4, w2c_i5;
   u64 w2c_j0, w2c_j1, w2c_j2, w2c_j3, w2c_j4, w2c_j5;
   w2c_j0 = m->w2c_g0;
-  w2c_j1 = 208ull;
+  w2c_j1 = 176ull;
   w2c_j0 -= w2c_j1;
   w2c_l5 = w2c_j0;
   m->w2c_g0 = w2c_j0;
@@ -31974,7 +33354,7 @@ static void w2c_f41(module *m, u64 w2c_p0, u32 w2c_p1, u64 w2c_p2, u64 w2c_p3, u
   w2c_l5 = w2c_j0;
   w2c_j1 = 16ull;
   w2c_i0 = (u64)((s64)w2c_j0 < (s64)w2c_j1);
-  if (w2c_i0) {goto w2c_B17;}
+  if (w2c_i0) {goto w2c_B2;}
   w2c_j0 = w2c_l5;
   w2c_i0 = (u32)(w2c_j0);
   w2c_j1 = 0ull;
@@ -31994,57 +33374,57 @@ static void w2c_f41(module *m, u64 w2c_p0, u32 w2c_p1, u64 w2c_p2, u64 w2c_p3, u
   w2c_j0 = w2c_l5;
   w2c_i0 = (u32)(w2c_j0);
   w2c_j1 = 0ull;
-  i64_store(m, (u64)(w2c_i0) + 192, w2c_j1);
-  w2c_j0 = w2c_l5;
-  w2c_i0 = (u32)(w2c_j0);
-  w2c_j1 = 0ull;
-  i64_store(m, (u64)(w2c_i0) + 184, w2c_j1);
-  w2c_j0 = w2c_l5;
-  w2c_i0 = (u32)(w2c_j0);
-  w2c_j1 = 0ull;
-  i64_store(m, (u64)(w2c_i0) + 176, w2c_j1);
-  w2c_j0 = w2c_l5;
-  w2c_i0 = (u32)(w2c_j0);
-  w2c_j1 = 0ull;
   i64_store(m, (u64)(w2c_i0) + 168, w2c_j1);
+  w2c_j0 = w2c_l5;
+  w2c_i0 = (u32)(w2c_j0);
+  w2c_j1 = 0ull;
+  i64_store(m, (u64)(w2c_i0) + 160, w2c_j1);
+  w2c_j0 = w2c_l5;
+  w2c_i0 = (u32)(w2c_j0);
+  w2c_j1 = 0ull;
+  i64_store(m, (u64)(w2c_i0) + 152, w2c_j1);
+  w2c_j0 = w2c_l5;
+  w2c_i0 = (u32)(w2c_j0);
+  w2c_j1 = 0ull;
+  i64_store(m, (u64)(w2c_i0) + 144, w2c_j1);
   w2c_j0 = w2c_p3;
   w2c_l6 = w2c_j0;
   w2c_j0 = w2c_p4;
   w2c_l7 = w2c_j0;
-  w2c_L18:
+  w2c_L4:
     w2c_j0 = w2c_l5;
-    w2c_j1 = 168ull;
+    w2c_j1 = 144ull;
     w2c_j0 += w2c_j1;
     w2c_j1 = w2c_l6;
     w2c_j2 = w2c_l7;
-    w2c_f30(m, w2c_j0, w2c_j1, w2c_j2);
+    w2c_f32(m, w2c_j0, w2c_j1, w2c_j2);
     w2c_j0 = w2c_l5;
     w2c_i0 = (u32)(w2c_j0);
-    w2c_i0 = i32_load8_u(m, (u64)(w2c_i0) + 168u);
+    w2c_i0 = i32_load8_u(m, (u64)(w2c_i0) + 144u);
     w2c_i1 = 1u;
     w2c_i0 = w2c_i0 != w2c_i1;
-    if (w2c_i0) {goto w2c_B16;}
+    if (w2c_i0) {goto w2c_B3;}
     w2c_j0 = w2c_l5;
     w2c_i0 = (u32)(w2c_j0);
-    w2c_j0 = i64_load(m, (u64)(w2c_i0) + 192u);
+    w2c_j0 = i64_load(m, (u64)(w2c_i0) + 168u);
     w2c_l7 = w2c_j0;
     w2c_j0 = w2c_l5;
     w2c_i0 = (u32)(w2c_j0);
-    w2c_j0 = i64_load(m, (u64)(w2c_i0) + 184u);
+    w2c_j0 = i64_load(m, (u64)(w2c_i0) + 160u);
     w2c_l6 = w2c_j0;
     w2c_j0 = w2c_l5;
     w2c_j1 = 8ull;
     w2c_j0 += w2c_j1;
     w2c_j1 = w2c_l5;
     w2c_i1 = (u32)(w2c_j1);
-    w2c_i1 = i32_load(m, (u64)(w2c_i1) + 176u);
-    w2c_f17(m, w2c_j0, w2c_i1);
+    w2c_i1 = i32_load(m, (u64)(w2c_i1) + 152u);
+    w2c_f19(m, w2c_j0, w2c_i1);
     w2c_j0 = w2c_l5;
     w2c_i0 = (u32)(w2c_j0);
     w2c_i0 = i32_load8_u(m, (u64)(w2c_i0) + 8u);
     w2c_i1 = 1u;
     w2c_i0 = w2c_i0 == w2c_i1;
-    if (w2c_i0) {goto w2c_L18;}
+    if (w2c_i0) {goto w2c_L4;}
   w2c_j0 = w2c_l5;
   w2c_i0 = (u32)(w2c_j0);
   w2c_j1 = 0ull;
@@ -32094,9 +33474,9 @@ static void w2c_f41(module *m, u64 w2c_p0, u32 w2c_p1, u64 w2c_p2, u64 w2c_p3, u
   w2c_j1 = 0ull;
   i64_store(m, (u64)(w2c_i0) + 72, w2c_j1);
   w2c_j0 = w2c_p4;
-  w2c_j1 = 0ull;
-  w2c_i0 = w2c_j0 != w2c_j1;
-  if (w2c_i0) {goto w2c_B19;}
+  w2c_i0 = !(w2c_j0);
+  w2c_i0 = !(w2c_i0);
+  if (w2c_i0) {goto w2c_B5;}
   w2c_j0 = w2c_l5;
   w2c_i0 = (u32)(w2c_j0);
   w2c_j1 = 0ull;
@@ -32115,631 +33495,381 @@ static void w2c_f41(module *m, u64 w2c_p0, u32 w2c_p1, u64 w2c_p2, u64 w2c_p3, u
   w2c_i1 = (u32)(w2c_j1);
   w2c_j1 = i64_load(m, (u64)(w2c_i1) + 136u);
   i64_store(m, (u64)(w2c_i0) + 40, w2c_j1);
-  w2c_i0 = 1u;
-  w2c_l10 = w2c_i0;
-  w2c_i0 = 0u;
-  w2c_p1 = w2c_i0;
-  goto w2c_B0;
-  w2c_B19:;
-  w2c_j0 = 1ull;
-  w2c_l7 = w2c_j0;
-  w2c_j0 = 1ull;
-  w2c_l6 = w2c_j0;
-  w2c_j0 = w2c_p3;
-  w2c_i0 = (u32)(w2c_j0);
-  w2c_i0 = i32_load8_u(m, (u64)(w2c_i0));
-  w2c_l10 = w2c_i0;
-  w2c_i1 = 32u;
-  w2c_i0 = w2c_i0 == w2c_i1;
-  if (w2c_i0) {goto w2c_B15;}
-  w2c_i0 = w2c_l10;
-  w2c_i1 = 227u;
-  w2c_i0 = w2c_i0 == w2c_i1;
-  if (w2c_i0) {goto w2c_B23;}
-  w2c_i0 = w2c_l10;
-  w2c_i1 = 194u;
-  w2c_i0 = w2c_i0 != w2c_i1;
-  if (w2c_i0) {goto w2c_B22;}
-  w2c_j0 = w2c_p4;
-  w2c_j1 = 1ull;
-  w2c_i0 = w2c_j0 != w2c_j1;
-  if (w2c_i0) {goto w2c_B24;}
-  w2c_j0 = 0ull;
-  w2c_l7 = w2c_j0;
-  w2c_j0 = 1ull;
-  w2c_p4 = w2c_j0;
-  goto w2c_B14;
-  w2c_B24:;
-  w2c_j0 = w2c_p3;
-  w2c_i0 = (u32)(w2c_j0);
-  w2c_i0 = i32_load8_u(m, (u64)(w2c_i0) + 1u);
-  w2c_i1 = 160u;
-  w2c_i0 = w2c_i0 != w2c_i1;
-  if (w2c_i0) {goto w2c_B21;}
-  w2c_j0 = 2ull;
-  w2c_l6 = w2c_j0;
-  goto w2c_B15;
-  w2c_B23:;
-  w2c_j0 = w2c_p4;
-  w2c_j1 = 3ull;
-  w2c_i0 = w2c_j0 >= w2c_j1;
-  if (w2c_i0) {goto w2c_B25;}
-  w2c_j0 = 0ull;
-  w2c_l7 = w2c_j0;
-  goto w2c_B14;
-  w2c_B25:;
-  w2c_j0 = w2c_p3;
-  w2c_i0 = (u32)(w2c_j0);
-  w2c_i0 = i32_load8_u(m, (u64)(w2c_i0) + 1u);
-  w2c_i1 = 128u;
-  w2c_i0 = w2c_i0 != w2c_i1;
-  if (w2c_i0) {goto w2c_B20;}
-  w2c_j0 = w2c_p3;
-  w2c_i0 = (u32)(w2c_j0);
-  w2c_i0 = i32_load8_u(m, (u64)(w2c_i0) + 2u);
-  w2c_i1 = 128u;
-  w2c_i0 = w2c_i0 != w2c_i1;
-  if (w2c_i0) {goto w2c_B20;}
-  w2c_j0 = 3ull;
-  w2c_l6 = w2c_j0;
-  goto w2c_B15;
-  w2c_B22:;
-  w2c_j0 = 1ull;
-  w2c_l6 = w2c_j0;
-  w2c_i0 = w2c_l10;
-  w2c_i1 = 4294967287u;
-  w2c_i0 += w2c_i1;
-  w2c_i1 = 255u;
-  w2c_i0 &= w2c_i1;
-  w2c_i1 = 4u;
-  w2c_i0 = w2c_i0 <= w2c_i1;
-  if (w2c_i0) {goto w2c_B15;}
-  w2c_B21:;
-  w2c_j0 = 0ull;
-  w2c_l7 = w2c_j0;
-  goto w2c_B11;
-  w2c_B20:;
-  w2c_j0 = 0ull;
-  w2c_l7 = w2c_j0;
-  w2c_j0 = w2c_l5;
-  w2c_i0 = (u32)(w2c_j0);
-  w2c_j1 = 0ull;
-  i64_store(m, (u64)(w2c_i0) + 168, w2c_j1);
-  w2c_j0 = w2c_l5;
-  w2c_i0 = (u32)(w2c_j0);
-  w2c_j1 = 0ull;
-  i64_store(m, (u64)(w2c_i0) + 176, w2c_j1);
-  w2c_j0 = w2c_l5;
-  w2c_i0 = (u32)(w2c_j0);
-  w2c_j1 = 0ull;
-  i64_store(m, (u64)(w2c_i0) + 184, w2c_j1);
-  w2c_j0 = w2c_l5;
-  w2c_i0 = (u32)(w2c_j0);
-  w2c_j1 = 0ull;
-  i64_store(m, (u64)(w2c_i0) + 192, w2c_j1);
-  w2c_j0 = w2c_l5;
-  w2c_i0 = (u32)(w2c_j0);
-  w2c_j1 = 0ull;
-  i64_store(m, (u64)(w2c_i0) + 200, w2c_j1);
-  w2c_j0 = w2c_l5;
-  w2c_i0 = (u32)(w2c_j0);
-  w2c_j1 = 0ull;
-  i64_store(m, (u64)(w2c_i0) + 144, w2c_j1);
-  w2c_j0 = w2c_l5;
-  w2c_i0 = (u32)(w2c_j0);
-  w2c_j1 = 0ull;
-  i64_store(m, (u64)(w2c_i0) + 152, w2c_j1);
-  w2c_j0 = w2c_l5;
-  w2c_i0 = (u32)(w2c_j0);
-  w2c_j1 = 0ull;
-  i64_store(m, (u64)(w2c_i0) + 160, w2c_j1);
-  goto w2c_B9;
-  w2c_B17:;
-  UNREACHABLE;
-  w2c_B16:;
-  w2c_j0 = w2c_l5;
-  w2c_j1 = 16ull;
-  w2c_j0 += w2c_j1;
-  w2c_j1 = w2c_p2;
-  w2c_j2 = w2c_p3;
-  w2c_j3 = w2c_p4;
-  w2c_f42(m, w2c_j0, w2c_j1, w2c_j2, w2c_j3);
-  w2c_j0 = w2c_l5;
-  w2c_i0 = (u32)(w2c_j0);
-  w2c_i0 = i32_load8_u(m, (u64)(w2c_i0) + 24u);
-  w2c_p1 = w2c_i0;
-  w2c_j0 = w2c_l5;
-  w2c_i0 = (u32)(w2c_j0);
-  w2c_i0 = i32_load8_u(m, (u64)(w2c_i0) + 16u);
-  w2c_l10 = w2c_i0;
-  goto w2c_B0;
-  w2c_B15:;
-  w2c_j0 = w2c_p3;
-  w2c_j1 = w2c_l6;
-  w2c_j0 += w2c_j1;
-  w2c_p3 = w2c_j0;
-  w2c_j0 = w2c_p4;
-  w2c_j1 = w2c_l6;
-  w2c_j0 -= w2c_j1;
-  w2c_l8 = w2c_j0;
-  w2c_i0 = !(w2c_j0);
-  w2c_i0 = !(w2c_i0);
-  if (w2c_i0) {goto w2c_B26;}
-  w2c_j0 = 0ull;
-  w2c_p4 = w2c_j0;
-  goto w2c_B14;
-  w2c_B26:;
-  w2c_j0 = 1ull;
-  w2c_l7 = w2c_j0;
-  w2c_L27:
-    w2c_j0 = 1ull;
-    w2c_l6 = w2c_j0;
-    w2c_j0 = w2c_p3;
-    w2c_i0 = (u32)(w2c_j0);
-    w2c_i0 = i32_load8_u(m, (u64)(w2c_i0));
-    w2c_l10 = w2c_i0;
-    w2c_i1 = 32u;
-    w2c_i0 = w2c_i0 == w2c_i1;
-    if (w2c_i0) {goto w2c_B28;}
-    w2c_i0 = w2c_l10;
-    w2c_i1 = 227u;
-    w2c_i0 = w2c_i0 == w2c_i1;
-    if (w2c_i0) {goto w2c_B31;}
-    w2c_i0 = w2c_l10;
-    w2c_i1 = 194u;
-    w2c_i0 = w2c_i0 != w2c_i1;
-    if (w2c_i0) {goto w2c_B30;}
-    w2c_j0 = w2c_l8;
-    w2c_j1 = 1ull;
-    w2c_i0 = w2c_j0 == w2c_j1;
-    if (w2c_i0) {goto w2c_B12;}
-    w2c_j0 = w2c_p3;
-    w2c_i0 = (u32)(w2c_j0);
-    w2c_i0 = i32_load8_u(m, (u64)(w2c_i0) + 1u);
-    w2c_i1 = 160u;
-    w2c_i0 = w2c_i0 == w2c_i1;
-    if (w2c_i0) {goto w2c_B29;}
-    w2c_j0 = w2c_l8;
-    w2c_p4 = w2c_j0;
-    goto w2c_B11;
-    w2c_B31:;
-    w2c_j0 = w2c_l8;
-    w2c_j1 = 3ull;
-    w2c_i0 = w2c_j0 < w2c_j1;
-    if (w2c_i0) {goto w2c_B12;}
-    w2c_j0 = w2c_p3;
-    w2c_i0 = (u32)(w2c_j0);
-    w2c_i0 = i32_load8_u(m, (u64)(w2c_i0) + 1u);
-    w2c_i1 = 128u;
-    w2c_i0 = w2c_i0 != w2c_i1;
-    if (w2c_i0) {goto w2c_B13;}
-    w2c_j0 = w2c_p3;
-    w2c_i0 = (u32)(w2c_j0);
-    w2c_i0 = i32_load8_u(m, (u64)(w2c_i0) + 2u);
-    w2c_i1 = 128u;
-    w2c_i0 = w2c_i0 != w2c_i1;
-    if (w2c_i0) {goto w2c_B13;}
-    w2c_j0 = 3ull;
-    w2c_l6 = w2c_j0;
-    goto w2c_B28;
-    w2c_B30:;
-    w2c_j0 = 1ull;
-    w2c_l6 = w2c_j0;
-    w2c_i0 = w2c_l10;
-    w2c_i1 = 4294967287u;
-    w2c_i0 += w2c_i1;
-    w2c_i1 = 255u;
-    w2c_i0 &= w2c_i1;
-    w2c_i1 = 4u;
-    w2c_i0 = w2c_i0 <= w2c_i1;
-    if (w2c_i0) {goto w2c_B28;}
-    w2c_j0 = w2c_l8;
-    w2c_p4 = w2c_j0;
-    goto w2c_B11;
-    w2c_B29:;
-    w2c_j0 = 2ull;
-    w2c_l6 = w2c_j0;
-    w2c_B28:;
-    w2c_j0 = w2c_l7;
-    w2c_j1 = 1ull;
-    w2c_j0 += w2c_j1;
+  goto w2c_B1;
+  w2c_B5:;
+  w2c_L8:
+    w2c_j0 = w2c_p4;
     w2c_l7 = w2c_j0;
     w2c_j0 = w2c_p3;
-    w2c_j1 = w2c_l6;
+    w2c_l6 = w2c_j0;
+    w2c_i0 = (u32)(w2c_j0);
+    w2c_i0 = i32_load8_u(m, (u64)(w2c_i0));
+    w2c_l9 = w2c_i0;
+    w2c_i1 = 32u;
+    w2c_i0 = w2c_i0 > w2c_i1;
+    if (w2c_i0) {goto w2c_B10;}
+    w2c_j0 = 1ull;
+    w2c_i1 = w2c_l9;
+    w2c_j1 = (u64)(w2c_i1);
+    w2c_j0 <<= (w2c_j1 & 63);
+    w2c_j1 = 4294983168ull;
+    w2c_j0 &= w2c_j1;
+    w2c_j1 = 0ull;
+    w2c_i0 = w2c_j0 == w2c_j1;
+    if (w2c_i0) {goto w2c_B10;}
+    w2c_j0 = w2c_l7;
+    w2c_j1 = 18446744073709551615ull;
+    w2c_j0 += w2c_j1;
+    w2c_p4 = w2c_j0;
+    w2c_j0 = w2c_l6;
+    w2c_j1 = 1ull;
     w2c_j0 += w2c_j1;
     w2c_p3 = w2c_j0;
-    w2c_j0 = 0ull;
-    w2c_p4 = w2c_j0;
-    w2c_j0 = w2c_l8;
+    goto w2c_B9;
+    w2c_B10:;
+    w2c_i0 = w2c_l9;
+    w2c_i1 = 4294967102u;
+    w2c_i0 += w2c_i1;
+    w2c_l10 = w2c_i0;
+    w2c_i1 = 33u;
+    w2c_i0 = w2c_i0 > w2c_i1;
+    if (w2c_i0) {goto w2c_B11;}
+    w2c_j0 = 1ull;
+    w2c_i1 = w2c_l10;
+    w2c_j1 = (u64)(w2c_i1);
+    w2c_j0 <<= (w2c_j1 & 63);
+    w2c_j1 = 15032385537ull;
+    w2c_j0 &= w2c_j1;
+    w2c_j1 = 0ull;
+    w2c_i0 = w2c_j0 == w2c_j1;
+    if (w2c_i0) {goto w2c_B11;}
+    w2c_j0 = w2c_l6;
+    w2c_i0 = (u32)(w2c_j0);
+    w2c_i0 = i32_load8_u(m, (u64)(w2c_i0) + 1u);
+    w2c_l10 = w2c_i0;
+    w2c_j0 = w2c_l7;
+    w2c_j1 = 3ull;
+    w2c_i0 = w2c_j0 < w2c_j1;
+    if (w2c_i0) {goto w2c_B13;}
+    w2c_i0 = w2c_l9;
+    w2c_i1 = 240u;
+    w2c_i0 &= w2c_i1;
+    w2c_i1 = 224u;
+    w2c_i0 = w2c_i0 != w2c_i1;
+    if (w2c_i0) {goto w2c_B13;}
+    w2c_i0 = w2c_l9;
+    w2c_i1 = 12u;
+    w2c_i0 <<= (w2c_i1 & 31);
+    w2c_i1 = w2c_l10;
+    w2c_i2 = 6u;
+    w2c_i1 <<= (w2c_i2 & 31);
+    w2c_i0 += w2c_i1;
     w2c_j1 = w2c_l6;
+    w2c_i1 = (u32)(w2c_j1);
+    w2c_i1 = i32_load8_u(m, (u64)(w2c_i1) + 2u);
+    w2c_i0 += w2c_i1;
+    w2c_i1 = 4294041472u;
+    w2c_i0 += w2c_i1;
+    w2c_l9 = w2c_i0;
+    w2c_j0 = w2c_l7;
+    w2c_j1 = 18446744073709551613ull;
+    w2c_j0 += w2c_j1;
+    w2c_p4 = w2c_j0;
+    w2c_j0 = w2c_l6;
+    w2c_j1 = 3ull;
+    w2c_j0 += w2c_j1;
+    w2c_p3 = w2c_j0;
+    goto w2c_B12;
+    w2c_B13:;
+    w2c_i0 = w2c_l10;
+    w2c_i1 = 63u;
+    w2c_i0 &= w2c_i1;
+    w2c_l10 = w2c_i0;
+    w2c_i0 = w2c_l9;
+    w2c_i1 = 223u;
+    w2c_i0 = w2c_i0 > w2c_i1;
+    if (w2c_i0) {goto w2c_B15;}
+    w2c_i0 = w2c_l9;
+    w2c_i1 = 6u;
+    w2c_i0 <<= (w2c_i1 & 31);
+    w2c_i1 = 1984u;
+    w2c_i0 &= w2c_i1;
+    w2c_i1 = w2c_l10;
+    w2c_i0 |= w2c_i1;
+    w2c_l9 = w2c_i0;
+    w2c_j0 = 2ull;
+    w2c_p3 = w2c_j0;
+    goto w2c_B14;
+    w2c_B15:;
+    w2c_i0 = w2c_l10;
+    w2c_i1 = 6u;
+    w2c_i0 <<= (w2c_i1 & 31);
+    w2c_i1 = w2c_l9;
+    w2c_i2 = 12u;
+    w2c_i1 <<= (w2c_i2 & 31);
+    w2c_i2 = 61440u;
+    w2c_i1 &= w2c_i2;
+    w2c_i0 |= w2c_i1;
+    w2c_j1 = w2c_l6;
+    w2c_i1 = (u32)(w2c_j1);
+    w2c_i1 = i32_load8_u(m, (u64)(w2c_i1) + 2u);
+    w2c_i2 = 63u;
+    w2c_i1 &= w2c_i2;
+    w2c_i0 |= w2c_i1;
+    w2c_l9 = w2c_i0;
+    w2c_j0 = 3ull;
+    w2c_p3 = w2c_j0;
+    w2c_B14:;
+    w2c_j0 = w2c_l7;
+    w2c_j1 = w2c_p3;
     w2c_j0 -= w2c_j1;
-    w2c_l8 = w2c_j0;
+    w2c_p4 = w2c_j0;
+    w2c_j0 = w2c_l6;
+    w2c_j1 = w2c_p3;
+    w2c_j0 += w2c_j1;
+    w2c_p3 = w2c_j0;
+    w2c_B12:;
+    w2c_i0 = w2c_l9;
+    w2c_i1 = 127u;
+    w2c_i0 = w2c_i0 > w2c_i1;
+    if (w2c_i0) {goto w2c_B16;}
+    w2c_i0 = w2c_l9;
+    w2c_i1 = 4294967287u;
+    w2c_i0 += w2c_i1;
+    w2c_i1 = 5u;
+    w2c_i0 = w2c_i0 < w2c_i1;
+    if (w2c_i0) {goto w2c_B9;}
+    w2c_i0 = w2c_l9;
+    w2c_i1 = 32u;
+    w2c_i0 = w2c_i0 != w2c_i1;
+    if (w2c_i0) {goto w2c_B11;}
+    goto w2c_B9;
+    w2c_B16:;
+    w2c_i0 = w2c_l9;
+    w2c_i1 = 4294959104u;
+    w2c_i0 += w2c_i1;
+    w2c_i1 = 11u;
+    w2c_i0 = w2c_i0 < w2c_i1;
+    if (w2c_i0) {goto w2c_B9;}
+    w2c_i0 = w2c_l9;
+    w2c_i1 = 8231u;
+    w2c_i0 = (u32)((s32)w2c_i0 > (s32)w2c_i1);
+    if (w2c_i0) {goto w2c_B17;}
+    w2c_i0 = w2c_l9;
+    w2c_i1 = 133u;
+    w2c_i0 = w2c_i0 == w2c_i1;
+    if (w2c_i0) {goto w2c_B9;}
+    w2c_i0 = w2c_l9;
+    w2c_i1 = 160u;
+    w2c_i0 = w2c_i0 == w2c_i1;
+    if (w2c_i0) {goto w2c_B9;}
+    w2c_i0 = w2c_l9;
+    w2c_i1 = 5760u;
+    w2c_i0 = w2c_i0 != w2c_i1;
+    if (w2c_i0) {goto w2c_B11;}
+    goto w2c_B9;
+    w2c_B17:;
+    w2c_i0 = w2c_l9;
+    w2c_i1 = 4294959064u;
+    w2c_i0 += w2c_i1;
+    w2c_l10 = w2c_i0;
+    w2c_i1 = 55u;
+    w2c_i0 = w2c_i0 > w2c_i1;
+    if (w2c_i0) {goto w2c_B18;}
+    w2c_j0 = 1ull;
+    w2c_i1 = w2c_l10;
+    w2c_j1 = (u64)(w2c_i1);
+    w2c_j0 <<= (w2c_j1 & 63);
+    w2c_j1 = 36028797018964099ull;
+    w2c_j0 &= w2c_j1;
     w2c_j1 = 0ull;
     w2c_i0 = w2c_j0 != w2c_j1;
-    if (w2c_i0) {goto w2c_L27;}
-  w2c_B14:;
+    if (w2c_i0) {goto w2c_B9;}
+    w2c_B18:;
+    w2c_i0 = w2c_l9;
+    w2c_i1 = 12288u;
+    w2c_i0 = w2c_i0 == w2c_i1;
+    if (w2c_i0) {goto w2c_B9;}
+    w2c_B11:;
+    w2c_j0 = w2c_l6;
+    w2c_i0 = (u32)(w2c_j0);
+    w2c_i0 = i32_load8_u(m, (u64)(w2c_i0));
+    w2c_l9 = w2c_i0;
+    w2c_j0 = w2c_l7;
+    w2c_j1 = 3ull;
+    w2c_i0 = w2c_j0 < w2c_j1;
+    if (w2c_i0) {goto w2c_B7;}
+    w2c_i0 = w2c_l9;
+    w2c_i1 = 240u;
+    w2c_i0 &= w2c_i1;
+    w2c_i1 = 224u;
+    w2c_i0 = w2c_i0 != w2c_i1;
+    if (w2c_i0) {goto w2c_B7;}
+    w2c_i0 = w2c_l9;
+    w2c_i1 = 12u;
+    w2c_i0 <<= (w2c_i1 & 31);
+    w2c_j1 = w2c_l6;
+    w2c_i1 = (u32)(w2c_j1);
+    w2c_i1 = i32_load8_u(m, (u64)(w2c_i1) + 1u);
+    w2c_i2 = 6u;
+    w2c_i1 <<= (w2c_i2 & 31);
+    w2c_i0 += w2c_i1;
+    w2c_j1 = w2c_l6;
+    w2c_i1 = (u32)(w2c_j1);
+    w2c_i1 = i32_load8_u(m, (u64)(w2c_i1) + 2u);
+    w2c_i0 += w2c_i1;
+    w2c_i1 = 4294041472u;
+    w2c_i0 += w2c_i1;
+    w2c_l9 = w2c_i0;
+    w2c_j0 = w2c_l7;
+    w2c_j1 = 18446744073709551613ull;
+    w2c_j0 += w2c_j1;
+    w2c_l7 = w2c_j0;
+    w2c_j0 = w2c_l6;
+    w2c_j1 = 3ull;
+    w2c_j0 += w2c_j1;
+    w2c_l6 = w2c_j0;
+    goto w2c_B6;
+    w2c_B9:;
+    w2c_j0 = w2c_p2;
+    w2c_j1 = 1ull;
+    w2c_j0 += w2c_j1;
+    w2c_p2 = w2c_j0;
+    w2c_j0 = w2c_p4;
+    w2c_i0 = !(w2c_j0);
+    w2c_i0 = !(w2c_i0);
+    if (w2c_i0) {goto w2c_L8;}
   w2c_j0 = w2c_l5;
   w2c_i0 = (u32)(w2c_j0);
   w2c_j1 = 0ull;
-  i64_store(m, (u64)(w2c_i0) + 168, w2c_j1);
+  i64_store(m, (u64)(w2c_i0) + 120, w2c_j1);
   w2c_j0 = w2c_l5;
   w2c_i0 = (u32)(w2c_j0);
   w2c_j1 = 0ull;
-  i64_store(m, (u64)(w2c_i0) + 176, w2c_j1);
+  i64_store(m, (u64)(w2c_i0) + 128, w2c_j1);
   w2c_j0 = w2c_l5;
   w2c_i0 = (u32)(w2c_j0);
   w2c_j1 = 0ull;
-  i64_store(m, (u64)(w2c_i0) + 184, w2c_j1);
+  i64_store(m, (u64)(w2c_i0) + 32, w2c_j1);
   w2c_j0 = w2c_l5;
   w2c_i0 = (u32)(w2c_j0);
-  w2c_j1 = 0ull;
-  i64_store(m, (u64)(w2c_i0) + 192, w2c_j1);
-  w2c_j0 = w2c_l5;
-  w2c_i0 = (u32)(w2c_j0);
-  w2c_j1 = 0ull;
-  i64_store(m, (u64)(w2c_i0) + 200, w2c_j1);
-  w2c_j0 = w2c_l5;
-  w2c_i0 = (u32)(w2c_j0);
-  w2c_j1 = 0ull;
-  i64_store(m, (u64)(w2c_i0) + 144, w2c_j1);
-  w2c_j0 = w2c_l5;
-  w2c_i0 = (u32)(w2c_j0);
-  w2c_j1 = 0ull;
-  i64_store(m, (u64)(w2c_i0) + 152, w2c_j1);
-  w2c_j0 = w2c_l5;
-  w2c_i0 = (u32)(w2c_j0);
-  w2c_j1 = 0ull;
-  i64_store(m, (u64)(w2c_i0) + 160, w2c_j1);
-  goto w2c_B10;
-  w2c_B13:;
-  w2c_j0 = w2c_l5;
-  w2c_i0 = (u32)(w2c_j0);
-  w2c_j1 = 0ull;
-  i64_store(m, (u64)(w2c_i0) + 168, w2c_j1);
-  w2c_j0 = w2c_l5;
-  w2c_i0 = (u32)(w2c_j0);
-  w2c_j1 = 0ull;
-  i64_store(m, (u64)(w2c_i0) + 176, w2c_j1);
-  w2c_j0 = w2c_l5;
-  w2c_i0 = (u32)(w2c_j0);
-  w2c_j1 = 0ull;
-  i64_store(m, (u64)(w2c_i0) + 184, w2c_j1);
-  w2c_j0 = w2c_l5;
-  w2c_i0 = (u32)(w2c_j0);
-  w2c_j1 = 0ull;
-  i64_store(m, (u64)(w2c_i0) + 192, w2c_j1);
-  w2c_j0 = w2c_l5;
-  w2c_i0 = (u32)(w2c_j0);
-  w2c_j1 = 0ull;
-  i64_store(m, (u64)(w2c_i0) + 200, w2c_j1);
-  w2c_j0 = w2c_l5;
-  w2c_i0 = (u32)(w2c_j0);
-  w2c_j1 = 0ull;
-  i64_store(m, (u64)(w2c_i0) + 144, w2c_j1);
-  w2c_j0 = w2c_l5;
-  w2c_i0 = (u32)(w2c_j0);
-  w2c_j1 = 0ull;
-  i64_store(m, (u64)(w2c_i0) + 152, w2c_j1);
-  w2c_j0 = w2c_l5;
-  w2c_i0 = (u32)(w2c_j0);
-  w2c_j1 = 0ull;
-  i64_store(m, (u64)(w2c_i0) + 160, w2c_j1);
-  w2c_j0 = w2c_l8;
+  w2c_j1 = w2c_l5;
+  w2c_i1 = (u32)(w2c_j1);
+  w2c_j1 = i64_load(m, (u64)(w2c_i1) + 136u);
+  i64_store(m, (u64)(w2c_i0) + 40, w2c_j1);
+  goto w2c_B1;
+  w2c_B7:;
+  w2c_i0 = w2c_l9;
+  w2c_i0 = (u32)(s32)(s8)(u8)(w2c_i0);
+  w2c_i1 = 4294967295u;
+  w2c_i0 = (u32)((s32)w2c_i0 <= (s32)w2c_i1);
+  if (w2c_i0) {goto w2c_B20;}
+  w2c_j0 = 1ull;
   w2c_p4 = w2c_j0;
-  goto w2c_B9;
-  w2c_B12:;
-  w2c_j0 = w2c_l5;
-  w2c_i0 = (u32)(w2c_j0);
-  w2c_j1 = 0ull;
-  i64_store(m, (u64)(w2c_i0) + 168, w2c_j1);
-  w2c_j0 = w2c_l5;
-  w2c_i0 = (u32)(w2c_j0);
-  w2c_j1 = 0ull;
-  i64_store(m, (u64)(w2c_i0) + 176, w2c_j1);
-  w2c_j0 = w2c_l5;
-  w2c_i0 = (u32)(w2c_j0);
-  w2c_j1 = 0ull;
-  i64_store(m, (u64)(w2c_i0) + 184, w2c_j1);
-  w2c_j0 = w2c_l5;
-  w2c_i0 = (u32)(w2c_j0);
-  w2c_j1 = 0ull;
-  i64_store(m, (u64)(w2c_i0) + 192, w2c_j1);
-  w2c_j0 = w2c_l5;
-  w2c_i0 = (u32)(w2c_j0);
-  w2c_j1 = 0ull;
-  i64_store(m, (u64)(w2c_i0) + 200, w2c_j1);
-  w2c_j0 = w2c_l5;
-  w2c_i0 = (u32)(w2c_j0);
-  w2c_j1 = 0ull;
-  i64_store(m, (u64)(w2c_i0) + 144, w2c_j1);
-  w2c_j0 = w2c_l5;
-  w2c_i0 = (u32)(w2c_j0);
-  w2c_j1 = 0ull;
-  i64_store(m, (u64)(w2c_i0) + 152, w2c_j1);
-  w2c_j0 = w2c_l5;
-  w2c_i0 = (u32)(w2c_j0);
-  w2c_j1 = 0ull;
-  i64_store(m, (u64)(w2c_i0) + 160, w2c_j1);
-  w2c_j0 = w2c_l8;
-  w2c_p4 = w2c_j0;
-  goto w2c_B8;
-  w2c_B11:;
-  w2c_j0 = w2c_l5;
-  w2c_i0 = (u32)(w2c_j0);
-  w2c_j1 = 0ull;
-  i64_store(m, (u64)(w2c_i0) + 168, w2c_j1);
-  w2c_j0 = w2c_l5;
-  w2c_i0 = (u32)(w2c_j0);
-  w2c_j1 = 0ull;
-  i64_store(m, (u64)(w2c_i0) + 176, w2c_j1);
-  w2c_j0 = w2c_l5;
-  w2c_i0 = (u32)(w2c_j0);
-  w2c_j1 = 0ull;
-  i64_store(m, (u64)(w2c_i0) + 184, w2c_j1);
-  w2c_j0 = w2c_l5;
-  w2c_i0 = (u32)(w2c_j0);
-  w2c_j1 = 0ull;
-  i64_store(m, (u64)(w2c_i0) + 192, w2c_j1);
-  w2c_j0 = w2c_l5;
-  w2c_i0 = (u32)(w2c_j0);
-  w2c_j1 = 0ull;
-  i64_store(m, (u64)(w2c_i0) + 200, w2c_j1);
-  w2c_j0 = w2c_l5;
-  w2c_i0 = (u32)(w2c_j0);
-  w2c_j1 = 0ull;
-  i64_store(m, (u64)(w2c_i0) + 144, w2c_j1);
-  w2c_j0 = w2c_l5;
-  w2c_i0 = (u32)(w2c_j0);
-  w2c_j1 = 0ull;
-  i64_store(m, (u64)(w2c_i0) + 152, w2c_j1);
-  w2c_j0 = w2c_l5;
-  w2c_i0 = (u32)(w2c_j0);
-  w2c_j1 = 0ull;
-  i64_store(m, (u64)(w2c_i0) + 160, w2c_j1);
-  w2c_j0 = w2c_p4;
-  w2c_j1 = 3ull;
-  w2c_i0 = w2c_j0 >= w2c_j1;
-  if (w2c_i0) {goto w2c_B9;}
-  w2c_B10:;
-  w2c_j0 = w2c_p4;
-  w2c_i0 = !(w2c_j0);
-  w2c_i0 = !(w2c_i0);
-  if (w2c_i0) {goto w2c_B8;}
-  w2c_j0 = 0ull;
-  w2c_p4 = w2c_j0;
-  goto w2c_B5;
-  w2c_B9:;
-  w2c_j0 = w2c_p3;
-  w2c_i0 = (u32)(w2c_j0);
-  w2c_i0 = i32_load8_u(m, (u64)(w2c_i0));
-  w2c_l10 = w2c_i0;
-  w2c_i1 = 240u;
-  w2c_i0 &= w2c_i1;
-  w2c_i1 = 224u;
-  w2c_i0 = w2c_i0 != w2c_i1;
-  if (w2c_i0) {goto w2c_B6;}
-  w2c_j0 = w2c_p3;
+  goto w2c_B19;
+  w2c_B20:;
+  w2c_j0 = w2c_l6;
   w2c_i0 = (u32)(w2c_j0);
   w2c_i0 = i32_load8_u(m, (u64)(w2c_i0) + 1u);
+  w2c_i1 = 63u;
+  w2c_i0 &= w2c_i1;
+  w2c_l10 = w2c_i0;
+  w2c_i0 = w2c_l9;
+  w2c_i1 = 223u;
+  w2c_i0 = w2c_i0 > w2c_i1;
+  if (w2c_i0) {goto w2c_B21;}
+  w2c_i0 = w2c_l9;
+  w2c_i1 = 6u;
+  w2c_i0 <<= (w2c_i1 & 31);
+  w2c_i1 = 1984u;
+  w2c_i0 &= w2c_i1;
+  w2c_i1 = w2c_l10;
+  w2c_i0 |= w2c_i1;
+  w2c_l9 = w2c_i0;
+  w2c_j0 = 2ull;
+  w2c_p4 = w2c_j0;
+  goto w2c_B19;
+  w2c_B21:;
+  w2c_j0 = w2c_l6;
+  w2c_i0 = (u32)(w2c_j0);
+  w2c_i0 = i32_load8_u(m, (u64)(w2c_i0) + 2u);
+  w2c_i1 = 63u;
+  w2c_i0 &= w2c_i1;
   w2c_l11 = w2c_i0;
+  w2c_i0 = w2c_l9;
+  w2c_i1 = 239u;
+  w2c_i0 = w2c_i0 > w2c_i1;
+  if (w2c_i0) {goto w2c_B22;}
+  w2c_i0 = w2c_l10;
+  w2c_i1 = 6u;
+  w2c_i0 <<= (w2c_i1 & 31);
+  w2c_i1 = w2c_l9;
+  w2c_i2 = 12u;
+  w2c_i1 <<= (w2c_i2 & 31);
+  w2c_i2 = 61440u;
+  w2c_i1 &= w2c_i2;
+  w2c_i0 |= w2c_i1;
+  w2c_i1 = w2c_l11;
+  w2c_i0 |= w2c_i1;
+  w2c_l9 = w2c_i0;
+  w2c_j0 = 3ull;
+  w2c_p4 = w2c_j0;
+  goto w2c_B19;
+  w2c_B22:;
+  w2c_i0 = w2c_l11;
   w2c_i1 = 6u;
   w2c_i0 <<= (w2c_i1 & 31);
   w2c_i1 = w2c_l10;
   w2c_i2 = 12u;
   w2c_i1 <<= (w2c_i2 & 31);
-  w2c_i0 += w2c_i1;
-  w2c_j1 = w2c_p3;
+  w2c_i2 = w2c_l9;
+  w2c_i3 = 18u;
+  w2c_i2 <<= (w2c_i3 & 31);
+  w2c_i3 = 1835008u;
+  w2c_i2 &= w2c_i3;
+  w2c_i1 |= w2c_i2;
+  w2c_i0 |= w2c_i1;
+  w2c_j1 = w2c_l6;
   w2c_i1 = (u32)(w2c_j1);
-  w2c_i1 = i32_load8_u(m, (u64)(w2c_i1) + 2u);
-  w2c_l12 = w2c_i1;
-  w2c_i0 += w2c_i1;
-  w2c_l13 = w2c_i0;
-  w2c_i1 = 4294041472u;
-  w2c_i0 += w2c_i1;
-  w2c_l14 = w2c_i0;
-  w2c_j0 = w2c_p4;
-  w2c_j1 = 18446744073709551613ull;
+  w2c_i1 = i32_load8_u(m, (u64)(w2c_i1) + 3u);
+  w2c_i2 = 63u;
+  w2c_i1 &= w2c_i2;
+  w2c_i0 |= w2c_i1;
+  w2c_l9 = w2c_i0;
+  w2c_j0 = 4ull;
+  w2c_p4 = w2c_j0;
+  w2c_B19:;
+  w2c_j0 = w2c_l7;
+  w2c_j1 = w2c_p4;
+  w2c_j0 -= w2c_j1;
+  w2c_l7 = w2c_j0;
+  w2c_j0 = w2c_l6;
+  w2c_j1 = w2c_p4;
   w2c_j0 += w2c_j1;
   w2c_l6 = w2c_j0;
-  w2c_j0 = w2c_p3;
-  w2c_j1 = 3ull;
-  w2c_j0 += w2c_j1;
-  w2c_l8 = w2c_j0;
-  w2c_i0 = w2c_l11;
-  w2c_i1 = 8u;
-  w2c_i0 <<= (w2c_i1 & 31);
-  w2c_i1 = w2c_l12;
-  w2c_i2 = 16u;
-  w2c_i1 <<= (w2c_i2 & 31);
-  w2c_i0 |= w2c_i1;
-  w2c_i1 = w2c_l10;
-  w2c_i0 |= w2c_i1;
-  w2c_l11 = w2c_i0;
-  w2c_j0 = (u64)(w2c_i0);
-  w2c_j1 = 953497ull;
-  w2c_j0 *= w2c_j1;
-  w2c_j1 = 22ull;
-  w2c_j0 >>= (w2c_j1 & 63);
-  w2c_j1 = 1016ull;
-  w2c_j0 &= w2c_j1;
-  w2c_l9 = w2c_j0;
-  w2c_i0 = (u32)(w2c_j0);
-  w2c_i0 = i32_load(m, (u64)(w2c_i0) + 66976u);
-  w2c_i1 = w2c_l11;
-  w2c_i0 = w2c_i0 != w2c_i1;
-  if (w2c_i0) {goto w2c_B32;}
-  w2c_j0 = w2c_l9;
-  w2c_j1 = 66980ull;
-  w2c_j0 += w2c_j1;
-  w2c_i0 = (u32)(w2c_j0);
-  w2c_i0 = i32_load8_u(m, (u64)(w2c_i0));
-  w2c_i1 = 255u;
-  w2c_i0 &= w2c_i1;
-  w2c_i1 = 2u;
-  w2c_i0 = w2c_i0 != w2c_i1;
-  if (w2c_i0) {goto w2c_B4;}
-  w2c_B32:;
-  w2c_i0 = w2c_l14;
-  w2c_i1 = 127u;
-  w2c_i0 = w2c_i0 > w2c_i1;
-  if (w2c_i0) {goto w2c_B33;}
-  w2c_i0 = w2c_l13;
-  w2c_i1 = 4294041463u;
-  w2c_i0 += w2c_i1;
-  w2c_i1 = 5u;
-  w2c_i0 = w2c_i0 < w2c_i1;
-  if (w2c_i0) {goto w2c_B6;}
-  w2c_i0 = w2c_l13;
-  w2c_i1 = 925856u;
-  w2c_i0 = w2c_i0 == w2c_i1;
-  if (w2c_i0) {goto w2c_B6;}
-  goto w2c_B4;
-  w2c_B33:;
-  w2c_i0 = w2c_l13;
-  w2c_i1 = 4294033280u;
-  w2c_i0 += w2c_i1;
-  w2c_i1 = 11u;
-  w2c_i0 = w2c_i0 < w2c_i1;
-  if (w2c_i0) {goto w2c_B6;}
-  w2c_i0 = w2c_l13;
-  w2c_i1 = 934055u;
-  w2c_i0 = (u32)((s32)w2c_i0 > (s32)w2c_i1);
-  if (w2c_i0) {goto w2c_B34;}
-  w2c_i0 = w2c_l13;
-  w2c_i1 = 925957u;
-  w2c_i0 = w2c_i0 == w2c_i1;
-  if (w2c_i0) {goto w2c_B6;}
-  w2c_i0 = w2c_l13;
-  w2c_i1 = 925984u;
-  w2c_i0 = w2c_i0 == w2c_i1;
-  if (w2c_i0) {goto w2c_B6;}
-  w2c_i0 = w2c_l13;
-  w2c_i1 = 931584u;
-  w2c_i0 = w2c_i0 == w2c_i1;
-  if (w2c_i0) {goto w2c_B6;}
-  goto w2c_B4;
-  w2c_B34:;
-  w2c_i0 = w2c_l13;
-  w2c_i1 = 4294033240u;
-  w2c_i0 += w2c_i1;
-  w2c_l11 = w2c_i0;
-  w2c_i1 = 55u;
-  w2c_i0 = w2c_i0 > w2c_i1;
-  if (w2c_i0) {goto w2c_B7;}
-  w2c_j0 = 1ull;
-  w2c_i1 = w2c_l11;
-  w2c_j1 = (u64)(w2c_i1);
-  w2c_j0 <<= (w2c_j1 & 63);
-  w2c_j1 = 36028797018964099ull;
-  w2c_j0 &= w2c_j1;
-  w2c_j1 = 0ull;
-  w2c_i0 = w2c_j0 == w2c_j1;
-  if (w2c_i0) {goto w2c_B7;}
-  goto w2c_B6;
-  w2c_B8:;
-  w2c_j0 = w2c_p3;
-  w2c_i0 = (u32)(w2c_j0);
-  w2c_i0 = i32_load8_u(m, (u64)(w2c_i0));
-  w2c_l10 = w2c_i0;
-  goto w2c_B6;
-  w2c_B7:;
-  w2c_i0 = w2c_l13;
-  w2c_i1 = 938112u;
-  w2c_i0 = w2c_i0 != w2c_i1;
-  if (w2c_i0) {goto w2c_B4;}
   w2c_B6:;
-  w2c_i0 = w2c_l10;
-  w2c_i1 = 4294967263u;
-  w2c_i0 += w2c_i1;
-  w2c_i1 = 255u;
-  w2c_i0 &= w2c_i1;
-  w2c_i1 = 93u;
-  w2c_i0 = w2c_i0 > w2c_i1;
-  if (w2c_i0) {goto w2c_B5;}
-  w2c_i0 = w2c_l10;
-  w2c_i1 = 255u;
-  w2c_i0 &= w2c_i1;
-  w2c_l14 = w2c_i0;
-  w2c_j0 = w2c_p3;
-  w2c_j1 = 1ull;
-  w2c_j0 += w2c_j1;
-  w2c_l8 = w2c_j0;
-  w2c_j0 = w2c_p4;
-  w2c_j1 = 18446744073709551615ull;
-  w2c_j0 += w2c_j1;
-  w2c_l6 = w2c_j0;
-  goto w2c_B4;
-  w2c_B5:;
   w2c_j0 = w2c_l5;
   w2c_i0 = (u32)(w2c_j0);
-  w2c_j1 = w2c_p4;
+  w2c_j1 = 0ull;
+  i64_store(m, (u64)(w2c_i0) + 168, w2c_j1);
+  w2c_j0 = w2c_l5;
+  w2c_i0 = (u32)(w2c_j0);
+  w2c_j1 = 0ull;
   i64_store(m, (u64)(w2c_i0) + 160, w2c_j1);
   w2c_j0 = w2c_l5;
   w2c_i0 = (u32)(w2c_j0);
-  w2c_j1 = w2c_p3;
+  w2c_j1 = 0ull;
   i64_store(m, (u64)(w2c_i0) + 152, w2c_j1);
   w2c_j0 = w2c_l5;
   w2c_i0 = (u32)(w2c_j0);
-  w2c_j1 = w2c_l7;
+  w2c_j1 = 0ull;
   i64_store(m, (u64)(w2c_i0) + 144, w2c_j1);
-  w2c_j0 = w2c_l5;
-  w2c_j1 = 168ull;
-  w2c_j0 += w2c_j1;
-  w2c_j1 = w2c_l5;
-  w2c_j2 = 144ull;
-  w2c_j1 += w2c_j2;
-  w2c_f29(m, w2c_j0, w2c_j1);
-  w2c_i0 = 1u;
-  w2c_l10 = w2c_i0;
-  w2c_j0 = w2c_l5;
-  w2c_i0 = (u32)(w2c_j0);
-  w2c_i0 = i32_load8_u(m, (u64)(w2c_i0) + 168u);
-  w2c_i1 = 1u;
-  w2c_i0 = w2c_i0 != w2c_i1;
-  if (w2c_i0) {goto w2c_B3;}
-  w2c_j0 = w2c_l5;
-  w2c_i0 = (u32)(w2c_j0);
-  w2c_j0 = i64_load(m, (u64)(w2c_i0) + 200u);
-  w2c_l6 = w2c_j0;
-  w2c_j0 = w2c_l5;
-  w2c_i0 = (u32)(w2c_j0);
-  w2c_j0 = i64_load(m, (u64)(w2c_i0) + 192u);
-  w2c_l8 = w2c_j0;
-  w2c_j0 = w2c_l5;
-  w2c_i0 = (u32)(w2c_j0);
-  w2c_j0 = i64_load(m, (u64)(w2c_i0) + 184u);
-  w2c_l7 = w2c_j0;
-  w2c_j0 = w2c_l5;
-  w2c_i0 = (u32)(w2c_j0);
-  w2c_i0 = i32_load(m, (u64)(w2c_i0) + 176u);
-  w2c_l14 = w2c_i0;
-  w2c_B4:;
-  w2c_j0 = w2c_l5;
-  w2c_i0 = (u32)(w2c_j0);
-  w2c_j1 = 0ull;
-  i64_store(m, (u64)(w2c_i0) + 192, w2c_j1);
-  w2c_j0 = w2c_l5;
-  w2c_i0 = (u32)(w2c_j0);
-  w2c_j1 = 0ull;
-  i64_store(m, (u64)(w2c_i0) + 184, w2c_j1);
-  w2c_j0 = w2c_l5;
-  w2c_i0 = (u32)(w2c_j0);
-  w2c_j1 = 0ull;
-  i64_store(m, (u64)(w2c_i0) + 176, w2c_j1);
-  w2c_j0 = w2c_l5;
-  w2c_i0 = (u32)(w2c_j0);
-  w2c_j1 = 0ull;
-  i64_store(m, (u64)(w2c_i0) + 168, w2c_j1);
   w2c_j0 = w2c_l7;
-  w2c_j1 = w2c_p2;
-  w2c_j0 += w2c_j1;
-  w2c_p3 = w2c_j0;
-  w2c_j0 = w2c_l6;
   w2c_j1 = 4ull;
   w2c_i0 = w2c_j0 < w2c_j1;
-  if (w2c_i0) {goto w2c_B38;}
-  w2c_j0 = w2c_l8;
-  w2c_j1 = w2c_l6;
+  if (w2c_i0) {goto w2c_B28;}
+  w2c_j0 = w2c_l6;
+  w2c_j1 = w2c_l7;
   w2c_j0 += w2c_j1;
   w2c_j1 = 18446744073709551612ull;
   w2c_j0 += w2c_j1;
@@ -32755,30 +33885,30 @@ static void w2c_f41(module *m, u64 w2c_p0, u32 w2c_p1, u64 w2c_p2, u64 w2c_p3, u
   w2c_j0 >>= (w2c_j1 & 63);
   w2c_j1 = 1016ull;
   w2c_j0 &= w2c_j1;
-  w2c_p2 = w2c_j0;
+  w2c_l8 = w2c_j0;
   w2c_j1 = 66976ull;
   w2c_j0 += w2c_j1;
   w2c_i0 = (u32)(w2c_j0);
   w2c_i0 = i32_load(m, (u64)(w2c_i0));
   w2c_i1 = w2c_l10;
   w2c_i0 = w2c_i0 != w2c_i1;
-  if (w2c_i0) {goto w2c_B36;}
-  w2c_j0 = w2c_l6;
+  if (w2c_i0) {goto w2c_B26;}
+  w2c_j0 = w2c_l7;
   w2c_j1 = 18446744073709551613ull;
   w2c_j0 += w2c_j1;
-  w2c_l7 = w2c_j0;
-  w2c_j0 = w2c_l8;
   w2c_p4 = w2c_j0;
-  goto w2c_B37;
-  w2c_B38:;
   w2c_j0 = w2c_l6;
+  w2c_p3 = w2c_j0;
+  goto w2c_B27;
+  w2c_B28:;
+  w2c_j0 = w2c_l7;
   w2c_j1 = 3ull;
   w2c_i0 = w2c_j0 != w2c_j1;
-  if (w2c_i0) {goto w2c_B36;}
-  w2c_j0 = w2c_l8;
+  if (w2c_i0) {goto w2c_B26;}
+  w2c_j0 = w2c_l6;
   w2c_i0 = (u32)(w2c_j0);
   w2c_i0 = i32_load16_u(m, (u64)(w2c_i0));
-  w2c_j1 = w2c_l8;
+  w2c_j1 = w2c_l6;
   w2c_i1 = (u32)(w2c_j1);
   w2c_i1 = i32_load8_u(m, (u64)(w2c_i1) + 2u);
   w2c_i2 = 16u;
@@ -32792,86 +33922,86 @@ static void w2c_f41(module *m, u64 w2c_p0, u32 w2c_p1, u64 w2c_p2, u64 w2c_p3, u
   w2c_j0 >>= (w2c_j1 & 63);
   w2c_j1 = 1016ull;
   w2c_j0 &= w2c_j1;
-  w2c_p2 = w2c_j0;
+  w2c_l8 = w2c_j0;
   w2c_j1 = 66976ull;
   w2c_j0 += w2c_j1;
   w2c_i0 = (u32)(w2c_j0);
   w2c_i0 = i32_load(m, (u64)(w2c_i0));
   w2c_i1 = w2c_l10;
   w2c_i0 = w2c_i0 != w2c_i1;
-  if (w2c_i0) {goto w2c_B36;}
-  w2c_j0 = w2c_l8;
+  if (w2c_i0) {goto w2c_B26;}
+  w2c_j0 = w2c_l6;
   w2c_j1 = 3ull;
   w2c_j0 += w2c_j1;
-  w2c_p4 = w2c_j0;
+  w2c_p3 = w2c_j0;
   w2c_j0 = 0ull;
-  w2c_l7 = w2c_j0;
-  w2c_B37:;
-  w2c_j0 = w2c_p2;
+  w2c_p4 = w2c_j0;
+  w2c_B27:;
+  w2c_j0 = w2c_l8;
   w2c_j1 = 66980ull;
   w2c_j0 += w2c_j1;
   w2c_i0 = (u32)(w2c_j0);
   w2c_i0 = i32_load8_u(m, (u64)(w2c_i0));
   w2c_l12 = w2c_i0;
-  w2c_j0 = w2c_p2;
+  w2c_j0 = w2c_l8;
   w2c_j1 = 66981ull;
   w2c_j0 += w2c_j1;
   w2c_i0 = (u32)(w2c_j0);
   w2c_i0 = i32_load8_u(m, (u64)(w2c_i0));
   w2c_l13 = w2c_i0;
-  goto w2c_B35;
-  w2c_B36:;
+  goto w2c_B25;
+  w2c_B26:;
   w2c_j0 = w2c_l5;
-  w2c_j1 = 168ull;
+  w2c_j1 = 144ull;
   w2c_j0 += w2c_j1;
-  w2c_j1 = w2c_l8;
-  w2c_j2 = w2c_l6;
-  w2c_f43(m, w2c_j0, w2c_j1, w2c_j2);
+  w2c_j1 = w2c_l6;
+  w2c_j2 = w2c_l7;
+  w2c_f44(m, w2c_j0, w2c_j1, w2c_j2);
   w2c_j0 = w2c_l5;
   w2c_i0 = (u32)(w2c_j0);
-  w2c_i0 = i32_load8_u(m, (u64)(w2c_i0) + 168u);
+  w2c_i0 = i32_load8_u(m, (u64)(w2c_i0) + 144u);
   w2c_i1 = 1u;
   w2c_i0 = w2c_i0 != w2c_i1;
-  if (w2c_i0) {goto w2c_B2;}
+  if (w2c_i0) {goto w2c_B24;}
   w2c_j0 = w2c_l5;
   w2c_i0 = (u32)(w2c_j0);
-  w2c_j0 = i64_load(m, (u64)(w2c_i0) + 192u);
-  w2c_l7 = w2c_j0;
-  w2c_j0 = w2c_l5;
-  w2c_i0 = (u32)(w2c_j0);
-  w2c_j0 = i64_load(m, (u64)(w2c_i0) + 184u);
+  w2c_j0 = i64_load(m, (u64)(w2c_i0) + 168u);
   w2c_p4 = w2c_j0;
   w2c_j0 = w2c_l5;
   w2c_i0 = (u32)(w2c_j0);
-  w2c_i0 = i32_load8_u(m, (u64)(w2c_i0) + 177u);
+  w2c_j0 = i64_load(m, (u64)(w2c_i0) + 160u);
+  w2c_p3 = w2c_j0;
+  w2c_j0 = w2c_l5;
+  w2c_i0 = (u32)(w2c_j0);
+  w2c_i0 = i32_load8_u(m, (u64)(w2c_i0) + 153u);
   w2c_l13 = w2c_i0;
   w2c_j0 = w2c_l5;
   w2c_i0 = (u32)(w2c_j0);
-  w2c_i0 = i32_load8_u(m, (u64)(w2c_i0) + 176u);
+  w2c_i0 = i32_load8_u(m, (u64)(w2c_i0) + 152u);
   w2c_l12 = w2c_i0;
-  w2c_B35:;
-  w2c_j0 = w2c_l5;
-  w2c_i0 = (u32)(w2c_j0);
-  w2c_j1 = 0ull;
-  i64_store(m, (u64)(w2c_i0) + 192, w2c_j1);
-  w2c_j0 = w2c_l5;
-  w2c_i0 = (u32)(w2c_j0);
-  w2c_j1 = 0ull;
-  i64_store(m, (u64)(w2c_i0) + 184, w2c_j1);
-  w2c_j0 = w2c_l5;
-  w2c_i0 = (u32)(w2c_j0);
-  w2c_j1 = 0ull;
-  i64_store(m, (u64)(w2c_i0) + 176, w2c_j1);
+  w2c_B25:;
   w2c_j0 = w2c_l5;
   w2c_i0 = (u32)(w2c_j0);
   w2c_j1 = 0ull;
   i64_store(m, (u64)(w2c_i0) + 168, w2c_j1);
-  w2c_j0 = w2c_l7;
+  w2c_j0 = w2c_l5;
+  w2c_i0 = (u32)(w2c_j0);
+  w2c_j1 = 0ull;
+  i64_store(m, (u64)(w2c_i0) + 160, w2c_j1);
+  w2c_j0 = w2c_l5;
+  w2c_i0 = (u32)(w2c_j0);
+  w2c_j1 = 0ull;
+  i64_store(m, (u64)(w2c_i0) + 152, w2c_j1);
+  w2c_j0 = w2c_l5;
+  w2c_i0 = (u32)(w2c_j0);
+  w2c_j1 = 0ull;
+  i64_store(m, (u64)(w2c_i0) + 144, w2c_j1);
+  w2c_j0 = w2c_p4;
   w2c_j1 = 4ull;
   w2c_i0 = w2c_j0 < w2c_j1;
-  if (w2c_i0) {goto w2c_B41;}
-  w2c_j0 = w2c_p4;
-  w2c_j1 = w2c_l7;
+  if (w2c_i0) {goto w2c_B31;}
+  w2c_j0 = w2c_p3;
+  w2c_j1 = w2c_p4;
   w2c_j0 += w2c_j1;
   w2c_j1 = 18446744073709551612ull;
   w2c_j0 += w2c_j1;
@@ -32887,38 +34017,38 @@ static void w2c_f41(module *m, u64 w2c_p0, u32 w2c_p1, u64 w2c_p2, u64 w2c_p3, u
   w2c_j0 >>= (w2c_j1 & 63);
   w2c_j1 = 1016ull;
   w2c_j0 &= w2c_j1;
-  w2c_p2 = w2c_j0;
+  w2c_l8 = w2c_j0;
   w2c_j1 = 66976ull;
   w2c_j0 += w2c_j1;
   w2c_i0 = (u32)(w2c_j0);
   w2c_i0 = i32_load(m, (u64)(w2c_i0));
   w2c_i1 = w2c_l10;
   w2c_i0 = w2c_i0 != w2c_i1;
-  if (w2c_i0) {goto w2c_B40;}
-  w2c_j0 = w2c_p2;
+  if (w2c_i0) {goto w2c_B30;}
+  w2c_j0 = w2c_l8;
   w2c_j1 = 66980ull;
   w2c_j0 += w2c_j1;
   w2c_i0 = (u32)(w2c_j0);
   w2c_i0 = i32_load8_u(m, (u64)(w2c_i0));
   w2c_l11 = w2c_i0;
-  w2c_j0 = w2c_p2;
+  w2c_j0 = w2c_l8;
   w2c_j1 = 66981ull;
   w2c_j0 += w2c_j1;
   w2c_i0 = (u32)(w2c_j0);
   w2c_i0 = i32_load8_u(m, (u64)(w2c_i0));
-  w2c_l15 = w2c_i0;
+  w2c_l14 = w2c_i0;
   w2c_i0 = 1u;
   w2c_l10 = w2c_i0;
-  goto w2c_B39;
-  w2c_B41:;
-  w2c_j0 = w2c_l7;
+  goto w2c_B29;
+  w2c_B31:;
+  w2c_j0 = w2c_p4;
   w2c_j1 = 3ull;
   w2c_i0 = w2c_j0 != w2c_j1;
-  if (w2c_i0) {goto w2c_B40;}
-  w2c_j0 = w2c_p4;
+  if (w2c_i0) {goto w2c_B30;}
+  w2c_j0 = w2c_p3;
   w2c_i0 = (u32)(w2c_j0);
   w2c_i0 = i32_load16_u(m, (u64)(w2c_i0));
-  w2c_j1 = w2c_p4;
+  w2c_j1 = w2c_p3;
   w2c_i1 = (u32)(w2c_j1);
   w2c_i1 = i32_load8_u(m, (u64)(w2c_i1) + 2u);
   w2c_i2 = 16u;
@@ -32932,60 +34062,60 @@ static void w2c_f41(module *m, u64 w2c_p0, u32 w2c_p1, u64 w2c_p2, u64 w2c_p3, u
   w2c_j0 >>= (w2c_j1 & 63);
   w2c_j1 = 1016ull;
   w2c_j0 &= w2c_j1;
-  w2c_p2 = w2c_j0;
+  w2c_l8 = w2c_j0;
   w2c_j1 = 66976ull;
   w2c_j0 += w2c_j1;
   w2c_i0 = (u32)(w2c_j0);
   w2c_i0 = i32_load(m, (u64)(w2c_i0));
   w2c_i1 = w2c_l10;
   w2c_i0 = w2c_i0 != w2c_i1;
-  if (w2c_i0) {goto w2c_B40;}
-  w2c_j0 = w2c_p2;
+  if (w2c_i0) {goto w2c_B30;}
+  w2c_j0 = w2c_l8;
   w2c_j1 = 66980ull;
   w2c_j0 += w2c_j1;
   w2c_i0 = (u32)(w2c_j0);
   w2c_i0 = i32_load8_u(m, (u64)(w2c_i0));
   w2c_l11 = w2c_i0;
-  w2c_j0 = w2c_p2;
+  w2c_j0 = w2c_l8;
   w2c_j1 = 66981ull;
   w2c_j0 += w2c_j1;
   w2c_i0 = (u32)(w2c_j0);
   w2c_i0 = i32_load8_u(m, (u64)(w2c_i0));
-  w2c_l15 = w2c_i0;
+  w2c_l14 = w2c_i0;
   w2c_i0 = 1u;
   w2c_l10 = w2c_i0;
-  goto w2c_B39;
-  w2c_B40:;
+  goto w2c_B29;
+  w2c_B30:;
   w2c_j0 = w2c_l5;
-  w2c_j1 = 168ull;
+  w2c_j1 = 144ull;
   w2c_j0 += w2c_j1;
-  w2c_j1 = w2c_p4;
-  w2c_j2 = w2c_l7;
-  w2c_f43(m, w2c_j0, w2c_j1, w2c_j2);
+  w2c_j1 = w2c_p3;
+  w2c_j2 = w2c_p4;
+  w2c_f44(m, w2c_j0, w2c_j1, w2c_j2);
   w2c_j0 = w2c_l5;
   w2c_i0 = (u32)(w2c_j0);
-  w2c_i0 = i32_load8_u(m, (u64)(w2c_i0) + 168u);
+  w2c_i0 = i32_load8_u(m, (u64)(w2c_i0) + 144u);
   w2c_i1 = 1u;
   w2c_i0 = w2c_i0 == w2c_i1;
   w2c_l10 = w2c_i0;
   w2c_j0 = w2c_l5;
   w2c_i0 = (u32)(w2c_j0);
-  w2c_i0 = i32_load8_u(m, (u64)(w2c_i0) + 177u);
-  w2c_l15 = w2c_i0;
+  w2c_i0 = i32_load8_u(m, (u64)(w2c_i0) + 153u);
+  w2c_l14 = w2c_i0;
   w2c_j0 = w2c_l5;
   w2c_i0 = (u32)(w2c_j0);
-  w2c_i0 = i32_load8_u(m, (u64)(w2c_i0) + 176u);
+  w2c_i0 = i32_load8_u(m, (u64)(w2c_i0) + 152u);
   w2c_l11 = w2c_i0;
-  w2c_B39:;
+  w2c_B29:;
   w2c_i0 = w2c_l10;
   w2c_i0 = !(w2c_i0);
-  if (w2c_i0) {goto w2c_B2;}
+  if (w2c_i0) {goto w2c_B24;}
   w2c_i0 = w2c_l11;
   w2c_i1 = 255u;
   w2c_i0 &= w2c_i1;
   w2c_i1 = 1u;
   w2c_i0 = w2c_i0 != w2c_i1;
-  if (w2c_i0) {goto w2c_B2;}
+  if (w2c_i0) {goto w2c_B24;}
   w2c_i0 = w2c_l12;
   w2c_i1 = 255u;
   w2c_i0 &= w2c_i1;
@@ -32998,22 +34128,22 @@ static void w2c_f41(module *m, u64 w2c_p0, u32 w2c_p1, u64 w2c_p2, u64 w2c_p3, u
   w2c_i0 |= w2c_i1;
   w2c_i1 = 1u;
   w2c_i0 = w2c_i0 != w2c_i1;
-  if (w2c_i0) {goto w2c_B2;}
-  w2c_i0 = w2c_l15;
+  if (w2c_i0) {goto w2c_B24;}
+  w2c_i0 = w2c_l14;
   w2c_i1 = 255u;
   w2c_i0 &= w2c_i1;
   w2c_i1 = 1u;
   w2c_i0 = w2c_i0 <= w2c_i1;
-  if (w2c_i0) {goto w2c_B2;}
+  if (w2c_i0) {goto w2c_B24;}
   w2c_j0 = w2c_l5;
   w2c_j1 = 80ull;
   w2c_j0 += w2c_j1;
   w2c_i1 = w2c_p1;
-  w2c_j2 = w2c_p3;
-  w2c_i3 = w2c_l14;
-  w2c_j4 = w2c_p4;
-  w2c_j5 = w2c_l7;
-  w2c_f44(m, w2c_j0, w2c_i1, w2c_j2, w2c_i3, w2c_j4, w2c_j5);
+  w2c_j2 = w2c_p2;
+  w2c_i3 = w2c_l9;
+  w2c_j4 = w2c_p3;
+  w2c_j5 = w2c_p4;
+  w2c_f45(m, w2c_j0, w2c_i1, w2c_j2, w2c_i3, w2c_j4, w2c_j5);
   w2c_j0 = w2c_l5;
   w2c_i0 = (u32)(w2c_j0);
   w2c_j0 = i64_load(m, (u64)(w2c_i0) + 96u);
@@ -33021,11 +34151,11 @@ static void w2c_f41(module *m, u64 w2c_p0, u32 w2c_p1, u64 w2c_p2, u64 w2c_p3, u
   w2c_j0 = w2c_l5;
   w2c_i0 = (u32)(w2c_j0);
   w2c_i0 = i32_load8_u(m, (u64)(w2c_i0) + 80u);
-  if (w2c_i0) {goto w2c_B1;}
+  if (w2c_i0) {goto w2c_B23;}
   w2c_i0 = w2c_l12;
   w2c_i1 = 255u;
   w2c_i0 &= w2c_i1;
-  if (w2c_i0) {goto w2c_B42;}
+  if (w2c_i0) {goto w2c_B32;}
   w2c_j0 = w2c_l5;
   w2c_j1 = 48ull;
   w2c_j0 += w2c_j1;
@@ -33034,9 +34164,9 @@ static void w2c_f41(module *m, u64 w2c_p0, u32 w2c_p1, u64 w2c_p2, u64 w2c_p3, u
   w2c_j3 = w2c_l5;
   w2c_i3 = (u32)(w2c_j3);
   w2c_j3 = i64_load(m, (u64)(w2c_i3) + 104u);
-  w2c_i4 = w2c_l15;
+  w2c_i4 = w2c_l14;
   w2c_i5 = w2c_l13;
-  w2c_f45(m, w2c_j0, w2c_i1, w2c_j2, w2c_j3, w2c_i4, w2c_i5);
+  w2c_f46(m, w2c_j0, w2c_i1, w2c_j2, w2c_j3, w2c_i4, w2c_i5);
   w2c_j0 = w2c_l5;
   w2c_i0 = (u32)(w2c_j0);
   w2c_j1 = 0ull;
@@ -33048,7 +34178,7 @@ static void w2c_f41(module *m, u64 w2c_p0, u32 w2c_p1, u64 w2c_p2, u64 w2c_p3, u
   w2c_i3 = i32_load8_u(m, (u64)(w2c_i3) + 48u);
   w2c_i4 = 1u;
   w2c_i3 = w2c_i3 != w2c_i4;
-  w2c_l10 = w2c_i3;
+  w2c_l9 = w2c_i3;
   w2c_j1 = w2c_i3 ? w2c_j1 : w2c_j2;
   w2c_l6 = w2c_j1;
   i64_store(m, (u64)(w2c_i0) + 128, w2c_j1);
@@ -33058,7 +34188,7 @@ static void w2c_f41(module *m, u64 w2c_p0, u32 w2c_p1, u64 w2c_p2, u64 w2c_p3, u
   w2c_j2 = w2c_l5;
   w2c_i2 = (u32)(w2c_j2);
   w2c_j2 = i64_load(m, (u64)(w2c_i2) + 72u);
-  w2c_i3 = w2c_l10;
+  w2c_i3 = w2c_l9;
   w2c_j1 = w2c_i3 ? w2c_j1 : w2c_j2;
   w2c_l7 = w2c_j1;
   i64_store(m, (u64)(w2c_i0) + 136, w2c_j1);
@@ -33072,14 +34202,14 @@ static void w2c_f41(module *m, u64 w2c_p0, u32 w2c_p1, u64 w2c_p2, u64 w2c_p3, u
   i64_store(m, (u64)(w2c_i0) + 40, w2c_j1);
   w2c_i0 = 2u;
   w2c_i1 = 0u;
-  w2c_i2 = w2c_l10;
+  w2c_i2 = w2c_l9;
   w2c_i0 = w2c_i2 ? w2c_i0 : w2c_i1;
-  w2c_p1 = w2c_i0;
+  w2c_l10 = w2c_i0;
   goto w2c_B0;
-  w2c_B42:;
-  w2c_j0 = w2c_p4;
-  w2c_j1 = w2c_l7;
-  w2c_j0 = w2c_f34(m, w2c_j0, w2c_j1);
+  w2c_B32:;
+  w2c_j0 = w2c_p3;
+  w2c_j1 = w2c_p4;
+  w2c_j0 = w2c_f36(m, w2c_j0, w2c_j1);
   w2c_l6 = w2c_j0;
   w2c_j0 = w2c_l5;
   w2c_i0 = (u32)(w2c_j0);
@@ -33089,8 +34219,8 @@ static void w2c_f41(module *m, u64 w2c_p0, u32 w2c_p1, u64 w2c_p2, u64 w2c_p3, u
   i64_store(m, (u64)(w2c_i0) + 40, w2c_j1);
   w2c_j0 = w2c_l5;
   w2c_i0 = (u32)(w2c_j0);
-  w2c_j1 = w2c_p3;
-  w2c_j2 = w2c_l6;
+  w2c_j1 = w2c_l6;
+  w2c_j2 = w2c_p2;
   w2c_j1 += w2c_j2;
   w2c_j2 = 1ull;
   w2c_j1 += w2c_j2;
@@ -33101,42 +34231,20 @@ static void w2c_f41(module *m, u64 w2c_p0, u32 w2c_p1, u64 w2c_p2, u64 w2c_p3, u
   w2c_j1 = w2c_l6;
   i64_store(m, (u64)(w2c_i0) + 128, w2c_j1);
   w2c_i0 = 1u;
-  w2c_p1 = w2c_i0;
-  w2c_i0 = 1u;
   w2c_l10 = w2c_i0;
+  w2c_i0 = 1u;
+  w2c_l9 = w2c_i0;
   goto w2c_B0;
-  w2c_B3:;
-  w2c_j0 = w2c_l5;
-  w2c_i0 = (u32)(w2c_j0);
-  w2c_j1 = 0ull;
-  i64_store(m, (u64)(w2c_i0) + 120, w2c_j1);
-  w2c_j0 = w2c_l5;
-  w2c_i0 = (u32)(w2c_j0);
-  w2c_j1 = 0ull;
-  i64_store(m, (u64)(w2c_i0) + 128, w2c_j1);
-  w2c_j0 = w2c_l5;
-  w2c_i0 = (u32)(w2c_j0);
-  w2c_j1 = 0ull;
-  i64_store(m, (u64)(w2c_i0) + 32, w2c_j1);
-  w2c_j0 = w2c_l5;
-  w2c_i0 = (u32)(w2c_j0);
-  w2c_j1 = w2c_l5;
-  w2c_i1 = (u32)(w2c_j1);
-  w2c_j1 = i64_load(m, (u64)(w2c_i1) + 136u);
-  i64_store(m, (u64)(w2c_i0) + 40, w2c_j1);
-  w2c_i0 = 0u;
-  w2c_p1 = w2c_i0;
-  goto w2c_B0;
-  w2c_B2:;
+  w2c_B24:;
   w2c_j0 = w2c_l5;
   w2c_j1 = 112ull;
   w2c_j0 += w2c_j1;
   w2c_i1 = w2c_p1;
-  w2c_j2 = w2c_p3;
-  w2c_i3 = w2c_l14;
-  w2c_j4 = w2c_l8;
-  w2c_j5 = w2c_l6;
-  w2c_f44(m, w2c_j0, w2c_i1, w2c_j2, w2c_i3, w2c_j4, w2c_j5);
+  w2c_j2 = w2c_p2;
+  w2c_i3 = w2c_l9;
+  w2c_j4 = w2c_l6;
+  w2c_j5 = w2c_l7;
+  w2c_f45(m, w2c_j0, w2c_i1, w2c_j2, w2c_i3, w2c_j4, w2c_j5);
   w2c_j0 = w2c_l5;
   w2c_i0 = (u32)(w2c_j0);
   w2c_j1 = w2c_l5;
@@ -33152,13 +34260,13 @@ static void w2c_f41(module *m, u64 w2c_p0, u32 w2c_p1, u64 w2c_p2, u64 w2c_p3, u
   w2c_j0 = w2c_l5;
   w2c_i0 = (u32)(w2c_j0);
   w2c_i0 = i32_load8_u(m, (u64)(w2c_i0) + 120u);
-  w2c_p1 = w2c_i0;
+  w2c_l10 = w2c_i0;
   w2c_j0 = w2c_l5;
   w2c_i0 = (u32)(w2c_j0);
   w2c_i0 = i32_load8_u(m, (u64)(w2c_i0) + 112u);
-  w2c_l10 = w2c_i0;
+  w2c_l9 = w2c_i0;
   goto w2c_B0;
-  w2c_B1:;
+  w2c_B23:;
   w2c_j0 = w2c_l5;
   w2c_i0 = (u32)(w2c_j0);
   w2c_j1 = 0ull;
@@ -33176,11 +34284,36 @@ static void w2c_f41(module *m, u64 w2c_p0, u32 w2c_p1, u64 w2c_p2, u64 w2c_p3, u
   w2c_j1 = 0ull;
   i64_store(m, (u64)(w2c_i0) + 40, w2c_j1);
   w2c_i0 = 1u;
-  w2c_l10 = w2c_i0;
+  w2c_l9 = w2c_i0;
   w2c_j0 = w2c_l5;
   w2c_i0 = (u32)(w2c_j0);
   w2c_i0 = i32_load8_u(m, (u64)(w2c_i0) + 88u);
-  w2c_p1 = w2c_i0;
+  w2c_l10 = w2c_i0;
+  goto w2c_B0;
+  w2c_B3:;
+  w2c_j0 = w2c_l5;
+  w2c_j1 = 16ull;
+  w2c_j0 += w2c_j1;
+  w2c_j1 = w2c_p2;
+  w2c_j2 = w2c_p3;
+  w2c_j3 = w2c_p4;
+  w2c_f47(m, w2c_j0, w2c_j1, w2c_j2, w2c_j3);
+  w2c_j0 = w2c_l5;
+  w2c_i0 = (u32)(w2c_j0);
+  w2c_i0 = i32_load8_u(m, (u64)(w2c_i0) + 24u);
+  w2c_l10 = w2c_i0;
+  w2c_j0 = w2c_l5;
+  w2c_i0 = (u32)(w2c_j0);
+  w2c_i0 = i32_load8_u(m, (u64)(w2c_i0) + 16u);
+  w2c_l9 = w2c_i0;
+  goto w2c_B0;
+  w2c_B2:;
+  UNREACHABLE;
+  w2c_B1:;
+  w2c_i0 = 1u;
+  w2c_l9 = w2c_i0;
+  w2c_i0 = 0u;
+  w2c_l10 = w2c_i0;
   w2c_B0:;
   w2c_j0 = w2c_p0;
   w2c_j1 = 16ull;
@@ -33202,665 +34335,25 @@ static void w2c_f41(module *m, u64 w2c_p0, u32 w2c_p1, u64 w2c_p2, u64 w2c_p3, u
   w2c_j1 = 8ull;
   w2c_j0 += w2c_j1;
   w2c_i0 = (u32)(w2c_j0);
-  w2c_i1 = w2c_p1;
+  w2c_i1 = w2c_l10;
   w2c_j1 = (u64)(w2c_i1);
   w2c_j2 = 255ull;
   w2c_j1 &= w2c_j2;
   i64_store(m, (u64)(w2c_i0), w2c_j1);
   w2c_j0 = w2c_p0;
   w2c_i0 = (u32)(w2c_j0);
-  w2c_i1 = w2c_l10;
+  w2c_i1 = w2c_l9;
   w2c_j1 = (u64)(w2c_i1);
   w2c_j2 = 255ull;
   w2c_j1 &= w2c_j2;
   i64_store(m, (u64)(w2c_i0), w2c_j1);
   w2c_j0 = w2c_l5;
-  w2c_j1 = 208ull;
+  w2c_j1 = 176ull;
   w2c_j0 += w2c_j1;
   m->w2c_g0 = w2c_j0;
 }
 
-static void w2c_f42(module *m, u64 w2c_p0, u64 w2c_p1, u64 w2c_p2, u64 w2c_p3) {
-  u32 w2c_l15 = 0, w2c_l16 = 0, w2c_l17 = 0, w2c_l18 = 0, w2c_l19 = 0;
-  u64 w2c_l4 = 0, w2c_l5 = 0, w2c_l6 = 0, w2c_l7 = 0, w2c_l8 = 0, w2c_l9 = 0, w2c_l10 = 0, w2c_l11 = 0, w2c_l12 = 0, w2c_l13 = 0, w2c_l14 = 0;
-  u32 w2c_i0, w2c_i1, w2c_i2, w2c_i3, w2c_i4;
-  u64 w2c_j0, w2c_j1, w2c_j2, w2c_j3, w2c_j4;
-  w2c_j0 = m->w2c_g0;
-  w2c_j1 = 48ull;
-  w2c_j0 -= w2c_j1;
-  w2c_l4 = w2c_j0;
-  m->w2c_g0 = w2c_j0;
-  w2c_j0 = w2c_l4;
-  w2c_l5 = w2c_j0;
-  w2c_j1 = 16ull;
-  w2c_i0 = (u64)((s64)w2c_j0 < (s64)w2c_j1);
-  if (w2c_i0) {goto w2c_B0;}
-  w2c_j0 = 0ull;
-  w2c_l6 = w2c_j0;
-  w2c_i0 = 1u;
-  w2c_l15 = w2c_i0;
-  w2c_j0 = 0ull;
-  w2c_l7 = w2c_j0;
-  w2c_L1:
-    w2c_j0 = w2c_p3;
-    w2c_j1 = 3ull;
-    w2c_i0 = w2c_j0 < w2c_j1;
-    if (w2c_i0) {goto w2c_B14;}
-    w2c_j0 = 1ull;
-    w2c_l8 = w2c_j0;
-    w2c_j0 = w2c_p3;
-    w2c_j1 = 18446744073709551613ull;
-    w2c_j0 += w2c_j1;
-    w2c_j1 = 3ull;
-    w2c_j0 = DIV_U(w2c_j0, w2c_j1);
-    w2c_l4 = w2c_j0;
-    w2c_j1 = 18ull;
-    w2c_j2 = w2c_l4;
-    w2c_j3 = 18ull;
-    w2c_i2 = w2c_j2 < w2c_j3;
-    w2c_j0 = w2c_i2 ? w2c_j0 : w2c_j1;
-    w2c_l4 = w2c_j0;
-    w2c_j1 = 1ull;
-    w2c_j0 += w2c_j1;
-    w2c_l9 = w2c_j0;
-    w2c_j0 = w2c_l4;
-    w2c_j1 = 3ull;
-    w2c_j0 *= w2c_j1;
-    w2c_j1 = 3ull;
-    w2c_j0 += w2c_j1;
-    w2c_l10 = w2c_j0;
-    w2c_j0 = 0ull;
-    w2c_l11 = w2c_j0;
-    w2c_j0 = 0ull;
-    w2c_l4 = w2c_j0;
-    w2c_j0 = 0ull;
-    w2c_l12 = w2c_j0;
-    w2c_L16:
-      w2c_j0 = w2c_p2;
-      w2c_j1 = w2c_l4;
-      w2c_j0 += w2c_j1;
-      w2c_l13 = w2c_j0;
-      w2c_i0 = (u32)(w2c_j0);
-      w2c_i0 = i32_load16_u(m, (u64)(w2c_i0));
-      w2c_j1 = w2c_l13;
-      w2c_j2 = 2ull;
-      w2c_j1 += w2c_j2;
-      w2c_i1 = (u32)(w2c_j1);
-      w2c_i1 = i32_load8_u(m, (u64)(w2c_i1));
-      w2c_i2 = 16u;
-      w2c_i1 <<= (w2c_i2 & 31);
-      w2c_i0 |= w2c_i1;
-      w2c_l16 = w2c_i0;
-      w2c_j0 = (u64)(w2c_i0);
-      w2c_j1 = 953497ull;
-      w2c_j0 *= w2c_j1;
-      w2c_j1 = 22ull;
-      w2c_j0 >>= (w2c_j1 & 63);
-      w2c_j1 = 1016ull;
-      w2c_j0 &= w2c_j1;
-      w2c_l14 = w2c_j0;
-      w2c_i0 = (u32)(w2c_j0);
-      w2c_i0 = i32_load(m, (u64)(w2c_i0) + 66976u);
-      w2c_i1 = w2c_l16;
-      w2c_i0 = w2c_i0 != w2c_i1;
-      if (w2c_i0) {goto w2c_B15;}
-      w2c_j0 = w2c_l14;
-      w2c_j1 = 66980ull;
-      w2c_j0 += w2c_j1;
-      w2c_i0 = (u32)(w2c_j0);
-      w2c_i0 = i32_load8_u(m, (u64)(w2c_i0));
-      if (w2c_i0) {goto w2c_B15;}
-      w2c_j0 = w2c_l8;
-      w2c_j1 = 10ull;
-      w2c_j0 *= w2c_j1;
-      w2c_l8 = w2c_j0;
-      w2c_j0 = w2c_l12;
-      w2c_j1 = 1ull;
-      w2c_j0 += w2c_j1;
-      w2c_l12 = w2c_j0;
-      w2c_j0 = w2c_l11;
-      w2c_j1 = 10ull;
-      w2c_j0 *= w2c_j1;
-      w2c_j1 = w2c_l14;
-      w2c_j2 = 66981ull;
-      w2c_j1 += w2c_j2;
-      w2c_i1 = (u32)(w2c_j1);
-      w2c_j1 = i64_load8_u(m, (u64)(w2c_i1));
-      w2c_j0 += w2c_j1;
-      w2c_l11 = w2c_j0;
-      w2c_j0 = w2c_l10;
-      w2c_j1 = w2c_l4;
-      w2c_j2 = 3ull;
-      w2c_j1 += w2c_j2;
-      w2c_l4 = w2c_j1;
-      w2c_i0 = w2c_j0 != w2c_j1;
-      if (w2c_i0) {goto w2c_L16;}
-    w2c_j0 = w2c_p2;
-    w2c_j1 = w2c_l4;
-    w2c_j0 += w2c_j1;
-    w2c_p2 = w2c_j0;
-    w2c_j0 = w2c_p3;
-    w2c_j1 = w2c_l4;
-    w2c_j0 -= w2c_j1;
-    w2c_p3 = w2c_j0;
-    w2c_j0 = w2c_l9;
-    w2c_l12 = w2c_j0;
-    goto w2c_B7;
-    w2c_B15:;
-    w2c_j0 = w2c_l4;
-    w2c_j1 = 0ull;
-    w2c_i0 = w2c_j0 == w2c_j1;
-    if (w2c_i0) {goto w2c_B17;}
-    w2c_j0 = w2c_p3;
-    w2c_j1 = w2c_l4;
-    w2c_j0 -= w2c_j1;
-    w2c_p3 = w2c_j0;
-    w2c_j0 = w2c_l13;
-    w2c_p2 = w2c_j0;
-    goto w2c_B7;
-    w2c_B17:;
-    w2c_j0 = w2c_p2;
-    w2c_i0 = (u32)(w2c_j0);
-    w2c_i0 = i32_load8_u(m, (u64)(w2c_i0));
-    w2c_l16 = w2c_i0;
-    w2c_i1 = 240u;
-    w2c_i0 &= w2c_i1;
-    w2c_i1 = 224u;
-    w2c_i0 = w2c_i0 != w2c_i1;
-    if (w2c_i0) {goto w2c_B13;}
-    w2c_j0 = w2c_p2;
-    w2c_i0 = (u32)(w2c_j0);
-    w2c_i0 = i32_load8_u(m, (u64)(w2c_i0) + 1u);
-    w2c_l17 = w2c_i0;
-    w2c_i1 = 8u;
-    w2c_i0 <<= (w2c_i1 & 31);
-    w2c_j1 = w2c_p2;
-    w2c_i1 = (u32)(w2c_j1);
-    w2c_i1 = i32_load8_u(m, (u64)(w2c_i1) + 2u);
-    w2c_l18 = w2c_i1;
-    w2c_i2 = 16u;
-    w2c_i1 <<= (w2c_i2 & 31);
-    w2c_i0 |= w2c_i1;
-    w2c_i1 = w2c_l16;
-    w2c_i0 |= w2c_i1;
-    w2c_l19 = w2c_i0;
-    w2c_i0 = w2c_l16;
-    w2c_i1 = 12u;
-    w2c_i0 <<= (w2c_i1 & 31);
-    w2c_i1 = w2c_l17;
-    w2c_i2 = 6u;
-    w2c_i1 <<= (w2c_i2 & 31);
-    w2c_i0 += w2c_i1;
-    w2c_i1 = w2c_l18;
-    w2c_i0 += w2c_i1;
-    w2c_i1 = 4294041472u;
-    w2c_i0 += w2c_i1;
-    w2c_l16 = w2c_i0;
-    w2c_j0 = w2c_p3;
-    w2c_j1 = 18446744073709551613ull;
-    w2c_j0 += w2c_j1;
-    w2c_p3 = w2c_j0;
-    w2c_j0 = w2c_p2;
-    w2c_j1 = 3ull;
-    w2c_j0 += w2c_j1;
-    w2c_p2 = w2c_j0;
-    w2c_i0 = w2c_l19;
-    w2c_i1 = w2c_l19;
-    w2c_j1 = (u64)(w2c_i1);
-    w2c_j2 = 953497ull;
-    w2c_j1 *= w2c_j2;
-    w2c_j2 = 22ull;
-    w2c_j1 >>= (w2c_j2 & 63);
-    w2c_j2 = 1016ull;
-    w2c_j1 &= w2c_j2;
-    w2c_l4 = w2c_j1;
-    w2c_j2 = 66976ull;
-    w2c_j1 += w2c_j2;
-    w2c_i1 = (u32)(w2c_j1);
-    w2c_i1 = i32_load(m, (u64)(w2c_i1));
-    w2c_i0 = w2c_i0 == w2c_i1;
-    if (w2c_i0) {goto w2c_B12;}
-    goto w2c_B10;
-    w2c_B14:;
-    w2c_j0 = w2c_p3;
-    w2c_i0 = !(w2c_j0);
-    if (w2c_i0) {goto w2c_B6;}
-    w2c_j0 = w2c_p2;
-    w2c_i0 = (u32)(w2c_j0);
-    w2c_i0 = i32_load8_u(m, (u64)(w2c_i0));
-    w2c_l16 = w2c_i0;
-    w2c_B13:;
-    w2c_j0 = 1ull;
-    w2c_l4 = w2c_j0;
-    w2c_i0 = w2c_l16;
-    w2c_i0 = (u32)(s32)(s8)(u8)(w2c_i0);
-    w2c_i1 = 4294967295u;
-    w2c_i0 = (u32)((s32)w2c_i0 > (s32)w2c_i1);
-    if (w2c_i0) {goto w2c_B18;}
-    w2c_j0 = w2c_p2;
-    w2c_i0 = (u32)(w2c_j0);
-    w2c_i0 = i32_load8_u(m, (u64)(w2c_i0) + 1u);
-    w2c_i1 = 63u;
-    w2c_i0 &= w2c_i1;
-    w2c_l19 = w2c_i0;
-    w2c_i0 = w2c_l16;
-    w2c_i1 = 223u;
-    w2c_i0 = w2c_i0 > w2c_i1;
-    if (w2c_i0) {goto w2c_B19;}
-    w2c_i0 = w2c_l16;
-    w2c_i1 = 6u;
-    w2c_i0 <<= (w2c_i1 & 31);
-    w2c_i1 = 1984u;
-    w2c_i0 &= w2c_i1;
-    w2c_i1 = w2c_l19;
-    w2c_i0 |= w2c_i1;
-    w2c_l16 = w2c_i0;
-    w2c_j0 = 2ull;
-    w2c_l4 = w2c_j0;
-    goto w2c_B18;
-    w2c_B19:;
-    w2c_j0 = w2c_p2;
-    w2c_i0 = (u32)(w2c_j0);
-    w2c_i0 = i32_load8_u(m, (u64)(w2c_i0) + 2u);
-    w2c_i1 = 63u;
-    w2c_i0 &= w2c_i1;
-    w2c_l17 = w2c_i0;
-    w2c_i0 = w2c_l16;
-    w2c_i1 = 239u;
-    w2c_i0 = w2c_i0 > w2c_i1;
-    if (w2c_i0) {goto w2c_B20;}
-    w2c_i0 = w2c_l19;
-    w2c_i1 = 6u;
-    w2c_i0 <<= (w2c_i1 & 31);
-    w2c_i1 = w2c_l16;
-    w2c_i2 = 12u;
-    w2c_i1 <<= (w2c_i2 & 31);
-    w2c_i2 = 61440u;
-    w2c_i1 &= w2c_i2;
-    w2c_i0 |= w2c_i1;
-    w2c_i1 = w2c_l17;
-    w2c_i0 |= w2c_i1;
-    w2c_l16 = w2c_i0;
-    w2c_j0 = 3ull;
-    w2c_l4 = w2c_j0;
-    goto w2c_B18;
-    w2c_B20:;
-    w2c_i0 = w2c_l17;
-    w2c_i1 = 6u;
-    w2c_i0 <<= (w2c_i1 & 31);
-    w2c_i1 = w2c_l19;
-    w2c_i2 = 12u;
-    w2c_i1 <<= (w2c_i2 & 31);
-    w2c_i2 = w2c_l16;
-    w2c_i3 = 18u;
-    w2c_i2 <<= (w2c_i3 & 31);
-    w2c_i3 = 1835008u;
-    w2c_i2 &= w2c_i3;
-    w2c_i1 |= w2c_i2;
-    w2c_i0 |= w2c_i1;
-    w2c_j1 = w2c_p2;
-    w2c_i1 = (u32)(w2c_j1);
-    w2c_i1 = i32_load8_u(m, (u64)(w2c_i1) + 3u);
-    w2c_i2 = 63u;
-    w2c_i1 &= w2c_i2;
-    w2c_i0 |= w2c_i1;
-    w2c_l16 = w2c_i0;
-    w2c_j0 = 4ull;
-    w2c_l4 = w2c_j0;
-    w2c_B18:;
-    w2c_j0 = w2c_p3;
-    w2c_j1 = w2c_l4;
-    w2c_j0 -= w2c_j1;
-    w2c_p3 = w2c_j0;
-    w2c_j0 = w2c_p2;
-    w2c_j1 = w2c_l4;
-    w2c_j0 += w2c_j1;
-    w2c_p2 = w2c_j0;
-    w2c_i0 = w2c_l16;
-    w2c_i1 = 4294965248u;
-    w2c_i0 += w2c_i1;
-    w2c_i1 = 63487u;
-    w2c_i0 = w2c_i0 > w2c_i1;
-    if (w2c_i0) {goto w2c_B11;}
-    w2c_i0 = w2c_l16;
-    w2c_i1 = 12u;
-    w2c_i0 >>= (w2c_i1 & 31);
-    w2c_i1 = w2c_l16;
-    w2c_i2 = 2u;
-    w2c_i1 <<= (w2c_i2 & 31);
-    w2c_i2 = 16128u;
-    w2c_i1 &= w2c_i2;
-    w2c_i0 |= w2c_i1;
-    w2c_i1 = w2c_l16;
-    w2c_i2 = 16u;
-    w2c_i1 <<= (w2c_i2 & 31);
-    w2c_i2 = 4128768u;
-    w2c_i1 &= w2c_i2;
-    w2c_i0 |= w2c_i1;
-    w2c_i1 = 8421600u;
-    w2c_i0 |= w2c_i1;
-    w2c_l19 = w2c_i0;
-    w2c_j0 = (u64)(w2c_i0);
-    w2c_j1 = 953497ull;
-    w2c_j0 *= w2c_j1;
-    w2c_j1 = 22ull;
-    w2c_j0 >>= (w2c_j1 & 63);
-    w2c_j1 = 1016ull;
-    w2c_j0 &= w2c_j1;
-    w2c_l4 = w2c_j0;
-    w2c_j1 = 66976ull;
-    w2c_j0 += w2c_j1;
-    w2c_i0 = (u32)(w2c_j0);
-    w2c_i0 = i32_load(m, (u64)(w2c_i0));
-    w2c_i1 = w2c_l19;
-    w2c_i0 = w2c_i0 != w2c_i1;
-    if (w2c_i0) {goto w2c_B9;}
-    w2c_B12:;
-    w2c_j0 = w2c_l4;
-    w2c_j1 = 66981ull;
-    w2c_j0 += w2c_j1;
-    w2c_i0 = (u32)(w2c_j0);
-    w2c_i0 = i32_load8_u(m, (u64)(w2c_i0));
-    w2c_l19 = w2c_i0;
-    w2c_j0 = w2c_l4;
-    w2c_j1 = 66980ull;
-    w2c_j0 += w2c_j1;
-    w2c_i0 = (u32)(w2c_j0);
-    w2c_j0 = i64_load8_u(m, (u64)(w2c_i0));
-    w2c_i0 = (u32)(w2c_j0);
-    switch (w2c_i0) {
-      case 0: goto w2c_B8;
-      case 1: goto w2c_B4;
-      case 2: goto w2c_B10;
-      default: goto w2c_B8;
-    }
-    w2c_B11:;
-    w2c_i0 = w2c_l16;
-    w2c_i1 = 4294967248u;
-    w2c_i0 += w2c_i1;
-    w2c_l19 = w2c_i0;
-    w2c_i1 = 10u;
-    w2c_i0 = w2c_i0 < w2c_i1;
-    if (w2c_i0) {goto w2c_B8;}
-    w2c_B10:;
-    w2c_i0 = w2c_l16;
-    w2c_i1 = 127u;
-    w2c_i0 = w2c_i0 > w2c_i1;
-    if (w2c_i0) {goto w2c_B9;}
-    w2c_j0 = 1ull;
-    w2c_l4 = w2c_j0;
-    w2c_i0 = w2c_l16;
-    w2c_i1 = 4294967287u;
-    w2c_i0 += w2c_i1;
-    w2c_i1 = 5u;
-    w2c_i0 = w2c_i0 < w2c_i1;
-    if (w2c_i0) {goto w2c_B2;}
-    w2c_i0 = w2c_l16;
-    w2c_i1 = 32u;
-    w2c_i0 = w2c_i0 == w2c_i1;
-    if (w2c_i0) {goto w2c_B2;}
-    goto w2c_B4;
-    w2c_B9:;
-    w2c_j0 = 1ull;
-    w2c_l4 = w2c_j0;
-    w2c_i0 = w2c_l16;
-    w2c_i1 = 4294959104u;
-    w2c_i0 += w2c_i1;
-    w2c_i1 = 11u;
-    w2c_i0 = w2c_i0 < w2c_i1;
-    if (w2c_i0) {goto w2c_B2;}
-    w2c_i0 = w2c_l16;
-    w2c_i1 = 8231u;
-    w2c_i0 = (u32)((s32)w2c_i0 > (s32)w2c_i1);
-    if (w2c_i0) {goto w2c_B21;}
-    w2c_i0 = w2c_l16;
-    w2c_i1 = 133u;
-    w2c_i0 = w2c_i0 == w2c_i1;
-    if (w2c_i0) {goto w2c_B2;}
-    w2c_i0 = w2c_l16;
-    w2c_i1 = 160u;
-    w2c_i0 = w2c_i0 == w2c_i1;
-    if (w2c_i0) {goto w2c_B2;}
-    w2c_i0 = w2c_l16;
-    w2c_i1 = 5760u;
-    w2c_i0 = w2c_i0 != w2c_i1;
-    if (w2c_i0) {goto w2c_B4;}
-    goto w2c_B2;
-    w2c_B21:;
-    w2c_i0 = w2c_l16;
-    w2c_i1 = 4294959064u;
-    w2c_i0 += w2c_i1;
-    w2c_l19 = w2c_i0;
-    w2c_i1 = 55u;
-    w2c_i0 = w2c_i0 > w2c_i1;
-    if (w2c_i0) {goto w2c_B5;}
-    w2c_j0 = 1ull;
-    w2c_i1 = w2c_l19;
-    w2c_j1 = (u64)(w2c_i1);
-    w2c_j0 <<= (w2c_j1 & 63);
-    w2c_j1 = 36028797018964099ull;
-    w2c_j0 &= w2c_j1;
-    w2c_j1 = 0ull;
-    w2c_i0 = w2c_j0 != w2c_j1;
-    if (w2c_i0) {goto w2c_B2;}
-    goto w2c_B5;
-    w2c_B8:;
-    w2c_i0 = w2c_l19;
-    w2c_j0 = (u64)(w2c_i0);
-    w2c_j1 = 255ull;
-    w2c_j0 &= w2c_j1;
-    w2c_l11 = w2c_j0;
-    w2c_j0 = 10ull;
-    w2c_l8 = w2c_j0;
-    w2c_j0 = 1ull;
-    w2c_l12 = w2c_j0;
-    w2c_B7:;
-    w2c_j0 = w2c_l6;
-    w2c_j1 = 0ull;
-    w2c_i0 = w2c_j0 != w2c_j1;
-    if (w2c_i0) {goto w2c_B22;}
-    w2c_j0 = w2c_l5;
-    w2c_j1 = w2c_l7;
-    w2c_j2 = w2c_l6;
-    w2c_j3 = w2c_l8;
-    w2c_j4 = 0ull;
-    w2c_f3(m, w2c_j0, w2c_j1, w2c_j2, w2c_j3, w2c_j4);
-    w2c_j0 = w2c_l5;
-    w2c_i0 = (u32)(w2c_j0);
-    w2c_j0 = i64_load(m, (u64)(w2c_i0) + 8u);
-    w2c_j1 = w2c_l5;
-    w2c_i1 = (u32)(w2c_j1);
-    w2c_j1 = i64_load(m, (u64)(w2c_i1));
-    w2c_l4 = w2c_j1;
-    w2c_j2 = w2c_l11;
-    w2c_j1 += w2c_j2;
-    w2c_l7 = w2c_j1;
-    w2c_j2 = w2c_l4;
-    w2c_i1 = w2c_j1 < w2c_j2;
-    w2c_j1 = (u64)(w2c_i1);
-    w2c_j0 += w2c_j1;
-    w2c_l6 = w2c_j0;
-    w2c_i0 = 0u;
-    w2c_l15 = w2c_i0;
-    w2c_j0 = w2c_l12;
-    w2c_j1 = w2c_p1;
-    w2c_j0 += w2c_j1;
-    w2c_p1 = w2c_j0;
-    goto w2c_L1;
-    w2c_B22:;
-    w2c_j0 = w2c_l5;
-    w2c_j1 = 16ull;
-    w2c_j0 += w2c_j1;
-    w2c_j1 = w2c_l7;
-    w2c_j2 = 0ull;
-    w2c_j3 = w2c_l8;
-    w2c_j4 = 0ull;
-    w2c_f3(m, w2c_j0, w2c_j1, w2c_j2, w2c_j3, w2c_j4);
-    w2c_j0 = w2c_l5;
-    w2c_j1 = 32ull;
-    w2c_j0 += w2c_j1;
-    w2c_j1 = w2c_l6;
-    w2c_j2 = 0ull;
-    w2c_j3 = w2c_l8;
-    w2c_j4 = 0ull;
-    w2c_f3(m, w2c_j0, w2c_j1, w2c_j2, w2c_j3, w2c_j4);
-    w2c_j0 = w2c_l5;
-    w2c_i0 = (u32)(w2c_j0);
-    w2c_j0 = i64_load(m, (u64)(w2c_i0) + 40u);
-    w2c_j1 = w2c_l5;
-    w2c_i1 = (u32)(w2c_j1);
-    w2c_j1 = i64_load(m, (u64)(w2c_i1) + 24u);
-    w2c_l14 = w2c_j1;
-    w2c_j2 = w2c_l5;
-    w2c_i2 = (u32)(w2c_j2);
-    w2c_j2 = i64_load(m, (u64)(w2c_i2) + 32u);
-    w2c_j1 += w2c_j2;
-    w2c_l4 = w2c_j1;
-    w2c_j2 = w2c_l14;
-    w2c_i1 = w2c_j1 < w2c_j2;
-    w2c_j1 = (u64)(w2c_i1);
-    w2c_j0 += w2c_j1;
-    w2c_j1 = 0ull;
-    w2c_i0 = w2c_j0 != w2c_j1;
-    if (w2c_i0) {goto w2c_B23;}
-    w2c_i0 = 0u;
-    w2c_l15 = w2c_i0;
-    w2c_j0 = w2c_l5;
-    w2c_i0 = (u32)(w2c_j0);
-    w2c_j0 = i64_load(m, (u64)(w2c_i0) + 16u);
-    w2c_l14 = w2c_j0;
-    w2c_j1 = w2c_l11;
-    w2c_j2 = 18446744073709551615ull;
-    w2c_j1 ^= w2c_j2;
-    w2c_i0 = w2c_j0 > w2c_j1;
-    w2c_i1 = 0u;
-    w2c_j2 = w2c_l4;
-    w2c_j3 = 18446744073709551615ull;
-    w2c_i2 = w2c_j2 == w2c_j3;
-    w2c_i0 = w2c_i2 ? w2c_i0 : w2c_i1;
-    if (w2c_i0) {goto w2c_B23;}
-    w2c_j0 = w2c_l4;
-    w2c_j1 = w2c_l14;
-    w2c_j2 = w2c_l11;
-    w2c_j1 += w2c_j2;
-    w2c_l7 = w2c_j1;
-    w2c_j2 = w2c_l14;
-    w2c_i1 = w2c_j1 < w2c_j2;
-    w2c_j1 = (u64)(w2c_i1);
-    w2c_j0 += w2c_j1;
-    w2c_l6 = w2c_j0;
-    w2c_j0 = w2c_l12;
-    w2c_j1 = w2c_p1;
-    w2c_j0 += w2c_j1;
-    w2c_p1 = w2c_j0;
-    goto w2c_L1;
-    w2c_B23:;
-    w2c_j0 = w2c_p0;
-    w2c_i0 = (u32)(w2c_j0);
-    w2c_j1 = 1ull;
-    i64_store(m, (u64)(w2c_i0), w2c_j1);
-    w2c_j0 = w2c_p0;
-    w2c_j1 = 24ull;
-    w2c_j0 += w2c_j1;
-    w2c_i0 = (u32)(w2c_j0);
-    w2c_j1 = 0ull;
-    i64_store(m, (u64)(w2c_i0), w2c_j1);
-    w2c_j0 = w2c_p0;
-    w2c_j1 = 16ull;
-    w2c_j0 += w2c_j1;
-    w2c_i0 = (u32)(w2c_j0);
-    w2c_j1 = 0ull;
-    i64_store(m, (u64)(w2c_i0), w2c_j1);
-    w2c_j0 = w2c_p0;
-    w2c_j1 = 8ull;
-    w2c_j0 += w2c_j1;
-    w2c_i0 = (u32)(w2c_j0);
-    w2c_j1 = 2ull;
-    i64_store(m, (u64)(w2c_i0), w2c_j1);
-    goto w2c_B3;
-    w2c_B6:;
-    w2c_j0 = w2c_p0;
-    w2c_j1 = 8ull;
-    w2c_j0 += w2c_j1;
-    w2c_i0 = (u32)(w2c_j0);
-    w2c_j1 = 0ull;
-    i64_store(m, (u64)(w2c_i0), w2c_j1);
-    w2c_j0 = w2c_p0;
-    w2c_j1 = 24ull;
-    w2c_j0 += w2c_j1;
-    w2c_i0 = (u32)(w2c_j0);
-    w2c_j1 = 0ull;
-    w2c_j2 = w2c_l6;
-    w2c_i3 = w2c_l15;
-    w2c_i4 = 1u;
-    w2c_i3 &= w2c_i4;
-    w2c_l16 = w2c_i3;
-    w2c_j1 = w2c_i3 ? w2c_j1 : w2c_j2;
-    i64_store(m, (u64)(w2c_i0), w2c_j1);
-    w2c_j0 = w2c_p0;
-    w2c_j1 = 16ull;
-    w2c_j0 += w2c_j1;
-    w2c_i0 = (u32)(w2c_j0);
-    w2c_j1 = 0ull;
-    w2c_j2 = w2c_l7;
-    w2c_i3 = w2c_l16;
-    w2c_j1 = w2c_i3 ? w2c_j1 : w2c_j2;
-    i64_store(m, (u64)(w2c_i0), w2c_j1);
-    w2c_j0 = w2c_p0;
-    w2c_i0 = (u32)(w2c_j0);
-    w2c_i1 = w2c_l15;
-    w2c_j1 = (u64)(w2c_i1);
-    w2c_j2 = 1ull;
-    w2c_j1 &= w2c_j2;
-    i64_store(m, (u64)(w2c_i0), w2c_j1);
-    goto w2c_B3;
-    w2c_B5:;
-    w2c_i0 = w2c_l16;
-    w2c_i1 = 12288u;
-    w2c_i0 = w2c_i0 == w2c_i1;
-    if (w2c_i0) {goto w2c_B2;}
-    w2c_B4:;
-    w2c_j0 = w2c_p0;
-    w2c_i0 = (u32)(w2c_j0);
-    w2c_j1 = 1ull;
-    i64_store(m, (u64)(w2c_i0), w2c_j1);
-    w2c_j0 = w2c_p0;
-    w2c_j1 = 24ull;
-    w2c_j0 += w2c_j1;
-    w2c_i0 = (u32)(w2c_j0);
-    w2c_j1 = 0ull;
-    i64_store(m, (u64)(w2c_i0), w2c_j1);
-    w2c_j0 = w2c_p0;
-    w2c_j1 = 16ull;
-    w2c_j0 += w2c_j1;
-    w2c_i0 = (u32)(w2c_j0);
-    w2c_j1 = w2c_p1;
-    i64_store(m, (u64)(w2c_i0), w2c_j1);
-    w2c_j0 = w2c_p0;
-    w2c_j1 = 8ull;
-    w2c_j0 += w2c_j1;
-    w2c_i0 = (u32)(w2c_j0);
-    w2c_j1 = 1ull;
-    i64_store(m, (u64)(w2c_i0), w2c_j1);
-    w2c_B3:;
-    w2c_j0 = w2c_l5;
-    w2c_j1 = 48ull;
-    w2c_j0 += w2c_j1;
-    m->w2c_g0 = w2c_j0;
-    goto w2c_Bfunc;
-    w2c_B2:;
-    w2c_j0 = w2c_l4;
-    w2c_j1 = w2c_p1;
-    w2c_j0 += w2c_j1;
-    w2c_p1 = w2c_j0;
-    goto w2c_L1;
-  UNREACHABLE;
-  w2c_B0:;
-  UNREACHABLE;
-  w2c_Bfunc:;
-}
-
-static void w2c_f43(module *m, u64 w2c_p0, u64 w2c_p1, u64 w2c_p2) {
+static void w2c_f44(module *m, u64 w2c_p0, u64 w2c_p1, u64 w2c_p2) {
   u32 w2c_l5 = 0, w2c_l6 = 0, w2c_l7 = 0, w2c_l8 = 0, w2c_l9 = 0;
   u64 w2c_l3 = 0, w2c_l4 = 0;
   u32 w2c_i0, w2c_i1, w2c_i2, w2c_i3;
@@ -34288,7 +34781,7 @@ static void w2c_f43(module *m, u64 w2c_p0, u64 w2c_p1, u64 w2c_p2) {
   w2c_Bfunc:;
 }
 
-static void w2c_f44(module *m, u64 w2c_p0, u32 w2c_p1, u64 w2c_p2, u32 w2c_p3, u64 w2c_p4, u64 w2c_p5) {
+static void w2c_f45(module *m, u64 w2c_p0, u32 w2c_p1, u64 w2c_p2, u32 w2c_p3, u64 w2c_p4, u64 w2c_p5) {
   u32 w2c_l19 = 0, w2c_l20 = 0, w2c_l21 = 0, w2c_l22 = 0, w2c_l23 = 0;
   u64 w2c_l6 = 0, w2c_l7 = 0, w2c_l8 = 0, w2c_l9 = 0, w2c_l10 = 0, w2c_l11 = 0, w2c_l12 = 0, w2c_l13 = 0, w2c_l14 = 0, w2c_l15 = 0, w2c_l16 = 0, w2c_l17 = 0, w2c_l18 = 0;
   u32 w2c_i0, w2c_i1, w2c_i2, w2c_i3, w2c_i4;
@@ -34445,7 +34938,7 @@ static void w2c_f44(module *m, u64 w2c_p0, u32 w2c_p1, u64 w2c_p2, u32 w2c_p3, u
     w2c_j0 += w2c_j1;
     w2c_j1 = w2c_p4;
     w2c_j2 = w2c_p5;
-    w2c_f43(m, w2c_j0, w2c_j1, w2c_j2);
+    w2c_f44(m, w2c_j0, w2c_j1, w2c_j2);
     w2c_j0 = w2c_l6;
     w2c_i0 = (u32)(w2c_j0);
     w2c_i0 = i32_load8_u(m, (u64)(w2c_i0) + 688u);
@@ -35404,7 +35897,7 @@ static void w2c_f44(module *m, u64 w2c_p0, u32 w2c_p1, u64 w2c_p2, u32 w2c_p3, u
   w2c_Bfunc:;
 }
 
-static void w2c_f45(module *m, u64 w2c_p0, u32 w2c_p1, u64 w2c_p2, u64 w2c_p3, u32 w2c_p4, u32 w2c_p5) {
+static void w2c_f46(module *m, u64 w2c_p0, u32 w2c_p1, u64 w2c_p2, u64 w2c_p3, u32 w2c_p4, u32 w2c_p5) {
   u64 w2c_l6 = 0, w2c_l7 = 0, w2c_l8 = 0, w2c_l9 = 0, w2c_l10 = 0, w2c_l11 = 0, w2c_l12 = 0, w2c_l13 = 0, w2c_l14 = 0, w2c_l15 = 0, w2c_l16 = 0, w2c_l17 = 0, w2c_l18 = 0;
   u32 w2c_i0, w2c_i1, w2c_i2, w2c_i3, w2c_i4, w2c_i5, w2c_i6;
   u64 w2c_j0, w2c_j1, w2c_j2, w2c_j3, w2c_j4, w2c_j5, w2c_j6, w2c_j7;
@@ -35738,13 +36231,653 @@ static void w2c_f45(module *m, u64 w2c_p0, u32 w2c_p1, u64 w2c_p2, u64 w2c_p3, u
   m->w2c_g0 = w2c_j0;
 }
 
-static u32 w2c_f46(module *m, u64 w2c_p0, u64 w2c_p1, u32 w2c_p2, u32 w2c_p3, u32 w2c_p4, u64 w2c_p5) {
-  u32 w2c_l14 = 0, w2c_l15 = 0, w2c_l16 = 0, w2c_l17 = 0;
-  u64 w2c_l6 = 0, w2c_l7 = 0, w2c_l8 = 0, w2c_l9 = 0, w2c_l10 = 0, w2c_l11 = 0, w2c_l12 = 0, w2c_l13 = 0;
+static void w2c_f47(module *m, u64 w2c_p0, u64 w2c_p1, u64 w2c_p2, u64 w2c_p3) {
+  u32 w2c_l15 = 0, w2c_l16 = 0, w2c_l17 = 0, w2c_l18 = 0, w2c_l19 = 0;
+  u64 w2c_l4 = 0, w2c_l5 = 0, w2c_l6 = 0, w2c_l7 = 0, w2c_l8 = 0, w2c_l9 = 0, w2c_l10 = 0, w2c_l11 = 0, w2c_l12 = 0, w2c_l13 = 0, w2c_l14 = 0;
   u32 w2c_i0, w2c_i1, w2c_i2, w2c_i3, w2c_i4;
   u64 w2c_j0, w2c_j1, w2c_j2, w2c_j3, w2c_j4;
   w2c_j0 = m->w2c_g0;
-  w2c_j1 = 96ull;
+  w2c_j1 = 48ull;
+  w2c_j0 -= w2c_j1;
+  w2c_l4 = w2c_j0;
+  m->w2c_g0 = w2c_j0;
+  w2c_j0 = w2c_l4;
+  w2c_l5 = w2c_j0;
+  w2c_j1 = 16ull;
+  w2c_i0 = (u64)((s64)w2c_j0 < (s64)w2c_j1);
+  if (w2c_i0) {goto w2c_B0;}
+  w2c_j0 = 0ull;
+  w2c_l6 = w2c_j0;
+  w2c_i0 = 1u;
+  w2c_l15 = w2c_i0;
+  w2c_j0 = 0ull;
+  w2c_l7 = w2c_j0;
+  w2c_L1:
+    w2c_j0 = w2c_p3;
+    w2c_j1 = 3ull;
+    w2c_i0 = w2c_j0 < w2c_j1;
+    if (w2c_i0) {goto w2c_B14;}
+    w2c_j0 = 1ull;
+    w2c_l8 = w2c_j0;
+    w2c_j0 = w2c_p3;
+    w2c_j1 = 18446744073709551613ull;
+    w2c_j0 += w2c_j1;
+    w2c_j1 = 3ull;
+    w2c_j0 = DIV_U(w2c_j0, w2c_j1);
+    w2c_l4 = w2c_j0;
+    w2c_j1 = 18ull;
+    w2c_j2 = w2c_l4;
+    w2c_j3 = 18ull;
+    w2c_i2 = w2c_j2 < w2c_j3;
+    w2c_j0 = w2c_i2 ? w2c_j0 : w2c_j1;
+    w2c_l4 = w2c_j0;
+    w2c_j1 = 1ull;
+    w2c_j0 += w2c_j1;
+    w2c_l9 = w2c_j0;
+    w2c_j0 = w2c_l4;
+    w2c_j1 = 3ull;
+    w2c_j0 *= w2c_j1;
+    w2c_j1 = 3ull;
+    w2c_j0 += w2c_j1;
+    w2c_l10 = w2c_j0;
+    w2c_j0 = 0ull;
+    w2c_l11 = w2c_j0;
+    w2c_j0 = 0ull;
+    w2c_l4 = w2c_j0;
+    w2c_j0 = 0ull;
+    w2c_l12 = w2c_j0;
+    w2c_L16:
+      w2c_j0 = w2c_p2;
+      w2c_j1 = w2c_l4;
+      w2c_j0 += w2c_j1;
+      w2c_l13 = w2c_j0;
+      w2c_i0 = (u32)(w2c_j0);
+      w2c_i0 = i32_load16_u(m, (u64)(w2c_i0));
+      w2c_j1 = w2c_l13;
+      w2c_j2 = 2ull;
+      w2c_j1 += w2c_j2;
+      w2c_i1 = (u32)(w2c_j1);
+      w2c_i1 = i32_load8_u(m, (u64)(w2c_i1));
+      w2c_i2 = 16u;
+      w2c_i1 <<= (w2c_i2 & 31);
+      w2c_i0 |= w2c_i1;
+      w2c_l16 = w2c_i0;
+      w2c_j0 = (u64)(w2c_i0);
+      w2c_j1 = 953497ull;
+      w2c_j0 *= w2c_j1;
+      w2c_j1 = 22ull;
+      w2c_j0 >>= (w2c_j1 & 63);
+      w2c_j1 = 1016ull;
+      w2c_j0 &= w2c_j1;
+      w2c_l14 = w2c_j0;
+      w2c_i0 = (u32)(w2c_j0);
+      w2c_i0 = i32_load(m, (u64)(w2c_i0) + 66976u);
+      w2c_i1 = w2c_l16;
+      w2c_i0 = w2c_i0 != w2c_i1;
+      if (w2c_i0) {goto w2c_B15;}
+      w2c_j0 = w2c_l14;
+      w2c_j1 = 66980ull;
+      w2c_j0 += w2c_j1;
+      w2c_i0 = (u32)(w2c_j0);
+      w2c_i0 = i32_load8_u(m, (u64)(w2c_i0));
+      if (w2c_i0) {goto w2c_B15;}
+      w2c_j0 = w2c_l8;
+      w2c_j1 = 10ull;
+      w2c_j0 *= w2c_j1;
+      w2c_l8 = w2c_j0;
+      w2c_j0 = w2c_l12;
+      w2c_j1 = 1ull;
+      w2c_j0 += w2c_j1;
+      w2c_l12 = w2c_j0;
+      w2c_j0 = w2c_l11;
+      w2c_j1 = 10ull;
+      w2c_j0 *= w2c_j1;
+      w2c_j1 = w2c_l14;
+      w2c_j2 = 66981ull;
+      w2c_j1 += w2c_j2;
+      w2c_i1 = (u32)(w2c_j1);
+      w2c_j1 = i64_load8_u(m, (u64)(w2c_i1));
+      w2c_j0 += w2c_j1;
+      w2c_l11 = w2c_j0;
+      w2c_j0 = w2c_l10;
+      w2c_j1 = w2c_l4;
+      w2c_j2 = 3ull;
+      w2c_j1 += w2c_j2;
+      w2c_l4 = w2c_j1;
+      w2c_i0 = w2c_j0 != w2c_j1;
+      if (w2c_i0) {goto w2c_L16;}
+    w2c_j0 = w2c_p2;
+    w2c_j1 = w2c_l4;
+    w2c_j0 += w2c_j1;
+    w2c_p2 = w2c_j0;
+    w2c_j0 = w2c_p3;
+    w2c_j1 = w2c_l4;
+    w2c_j0 -= w2c_j1;
+    w2c_p3 = w2c_j0;
+    w2c_j0 = w2c_l9;
+    w2c_l12 = w2c_j0;
+    goto w2c_B7;
+    w2c_B15:;
+    w2c_j0 = w2c_l4;
+    w2c_j1 = 0ull;
+    w2c_i0 = w2c_j0 == w2c_j1;
+    if (w2c_i0) {goto w2c_B17;}
+    w2c_j0 = w2c_p3;
+    w2c_j1 = w2c_l4;
+    w2c_j0 -= w2c_j1;
+    w2c_p3 = w2c_j0;
+    w2c_j0 = w2c_l13;
+    w2c_p2 = w2c_j0;
+    goto w2c_B7;
+    w2c_B17:;
+    w2c_j0 = w2c_p2;
+    w2c_i0 = (u32)(w2c_j0);
+    w2c_i0 = i32_load8_u(m, (u64)(w2c_i0));
+    w2c_l16 = w2c_i0;
+    w2c_i1 = 240u;
+    w2c_i0 &= w2c_i1;
+    w2c_i1 = 224u;
+    w2c_i0 = w2c_i0 != w2c_i1;
+    if (w2c_i0) {goto w2c_B13;}
+    w2c_j0 = w2c_p2;
+    w2c_i0 = (u32)(w2c_j0);
+    w2c_i0 = i32_load8_u(m, (u64)(w2c_i0) + 1u);
+    w2c_l17 = w2c_i0;
+    w2c_i1 = 8u;
+    w2c_i0 <<= (w2c_i1 & 31);
+    w2c_j1 = w2c_p2;
+    w2c_i1 = (u32)(w2c_j1);
+    w2c_i1 = i32_load8_u(m, (u64)(w2c_i1) + 2u);
+    w2c_l18 = w2c_i1;
+    w2c_i2 = 16u;
+    w2c_i1 <<= (w2c_i2 & 31);
+    w2c_i0 |= w2c_i1;
+    w2c_i1 = w2c_l16;
+    w2c_i0 |= w2c_i1;
+    w2c_l19 = w2c_i0;
+    w2c_i0 = w2c_l16;
+    w2c_i1 = 12u;
+    w2c_i0 <<= (w2c_i1 & 31);
+    w2c_i1 = w2c_l17;
+    w2c_i2 = 6u;
+    w2c_i1 <<= (w2c_i2 & 31);
+    w2c_i0 += w2c_i1;
+    w2c_i1 = w2c_l18;
+    w2c_i0 += w2c_i1;
+    w2c_i1 = 4294041472u;
+    w2c_i0 += w2c_i1;
+    w2c_l16 = w2c_i0;
+    w2c_j0 = w2c_p3;
+    w2c_j1 = 18446744073709551613ull;
+    w2c_j0 += w2c_j1;
+    w2c_p3 = w2c_j0;
+    w2c_j0 = w2c_p2;
+    w2c_j1 = 3ull;
+    w2c_j0 += w2c_j1;
+    w2c_p2 = w2c_j0;
+    w2c_i0 = w2c_l19;
+    w2c_i1 = w2c_l19;
+    w2c_j1 = (u64)(w2c_i1);
+    w2c_j2 = 953497ull;
+    w2c_j1 *= w2c_j2;
+    w2c_j2 = 22ull;
+    w2c_j1 >>= (w2c_j2 & 63);
+    w2c_j2 = 1016ull;
+    w2c_j1 &= w2c_j2;
+    w2c_l4 = w2c_j1;
+    w2c_j2 = 66976ull;
+    w2c_j1 += w2c_j2;
+    w2c_i1 = (u32)(w2c_j1);
+    w2c_i1 = i32_load(m, (u64)(w2c_i1));
+    w2c_i0 = w2c_i0 == w2c_i1;
+    if (w2c_i0) {goto w2c_B12;}
+    goto w2c_B10;
+    w2c_B14:;
+    w2c_j0 = w2c_p3;
+    w2c_i0 = !(w2c_j0);
+    if (w2c_i0) {goto w2c_B6;}
+    w2c_j0 = w2c_p2;
+    w2c_i0 = (u32)(w2c_j0);
+    w2c_i0 = i32_load8_u(m, (u64)(w2c_i0));
+    w2c_l16 = w2c_i0;
+    w2c_B13:;
+    w2c_j0 = 1ull;
+    w2c_l4 = w2c_j0;
+    w2c_i0 = w2c_l16;
+    w2c_i0 = (u32)(s32)(s8)(u8)(w2c_i0);
+    w2c_i1 = 4294967295u;
+    w2c_i0 = (u32)((s32)w2c_i0 > (s32)w2c_i1);
+    if (w2c_i0) {goto w2c_B18;}
+    w2c_j0 = w2c_p2;
+    w2c_i0 = (u32)(w2c_j0);
+    w2c_i0 = i32_load8_u(m, (u64)(w2c_i0) + 1u);
+    w2c_i1 = 63u;
+    w2c_i0 &= w2c_i1;
+    w2c_l19 = w2c_i0;
+    w2c_i0 = w2c_l16;
+    w2c_i1 = 223u;
+    w2c_i0 = w2c_i0 > w2c_i1;
+    if (w2c_i0) {goto w2c_B19;}
+    w2c_i0 = w2c_l16;
+    w2c_i1 = 6u;
+    w2c_i0 <<= (w2c_i1 & 31);
+    w2c_i1 = 1984u;
+    w2c_i0 &= w2c_i1;
+    w2c_i1 = w2c_l19;
+    w2c_i0 |= w2c_i1;
+    w2c_l16 = w2c_i0;
+    w2c_j0 = 2ull;
+    w2c_l4 = w2c_j0;
+    goto w2c_B18;
+    w2c_B19:;
+    w2c_j0 = w2c_p2;
+    w2c_i0 = (u32)(w2c_j0);
+    w2c_i0 = i32_load8_u(m, (u64)(w2c_i0) + 2u);
+    w2c_i1 = 63u;
+    w2c_i0 &= w2c_i1;
+    w2c_l17 = w2c_i0;
+    w2c_i0 = w2c_l16;
+    w2c_i1 = 239u;
+    w2c_i0 = w2c_i0 > w2c_i1;
+    if (w2c_i0) {goto w2c_B20;}
+    w2c_i0 = w2c_l19;
+    w2c_i1 = 6u;
+    w2c_i0 <<= (w2c_i1 & 31);
+    w2c_i1 = w2c_l16;
+    w2c_i2 = 12u;
+    w2c_i1 <<= (w2c_i2 & 31);
+    w2c_i2 = 61440u;
+    w2c_i1 &= w2c_i2;
+    w2c_i0 |= w2c_i1;
+    w2c_i1 = w2c_l17;
+    w2c_i0 |= w2c_i1;
+    w2c_l16 = w2c_i0;
+    w2c_j0 = 3ull;
+    w2c_l4 = w2c_j0;
+    goto w2c_B18;
+    w2c_B20:;
+    w2c_i0 = w2c_l17;
+    w2c_i1 = 6u;
+    w2c_i0 <<= (w2c_i1 & 31);
+    w2c_i1 = w2c_l19;
+    w2c_i2 = 12u;
+    w2c_i1 <<= (w2c_i2 & 31);
+    w2c_i2 = w2c_l16;
+    w2c_i3 = 18u;
+    w2c_i2 <<= (w2c_i3 & 31);
+    w2c_i3 = 1835008u;
+    w2c_i2 &= w2c_i3;
+    w2c_i1 |= w2c_i2;
+    w2c_i0 |= w2c_i1;
+    w2c_j1 = w2c_p2;
+    w2c_i1 = (u32)(w2c_j1);
+    w2c_i1 = i32_load8_u(m, (u64)(w2c_i1) + 3u);
+    w2c_i2 = 63u;
+    w2c_i1 &= w2c_i2;
+    w2c_i0 |= w2c_i1;
+    w2c_l16 = w2c_i0;
+    w2c_j0 = 4ull;
+    w2c_l4 = w2c_j0;
+    w2c_B18:;
+    w2c_j0 = w2c_p3;
+    w2c_j1 = w2c_l4;
+    w2c_j0 -= w2c_j1;
+    w2c_p3 = w2c_j0;
+    w2c_j0 = w2c_p2;
+    w2c_j1 = w2c_l4;
+    w2c_j0 += w2c_j1;
+    w2c_p2 = w2c_j0;
+    w2c_i0 = w2c_l16;
+    w2c_i1 = 4294965248u;
+    w2c_i0 += w2c_i1;
+    w2c_i1 = 63487u;
+    w2c_i0 = w2c_i0 > w2c_i1;
+    if (w2c_i0) {goto w2c_B11;}
+    w2c_i0 = w2c_l16;
+    w2c_i1 = 12u;
+    w2c_i0 >>= (w2c_i1 & 31);
+    w2c_i1 = w2c_l16;
+    w2c_i2 = 2u;
+    w2c_i1 <<= (w2c_i2 & 31);
+    w2c_i2 = 16128u;
+    w2c_i1 &= w2c_i2;
+    w2c_i0 |= w2c_i1;
+    w2c_i1 = w2c_l16;
+    w2c_i2 = 16u;
+    w2c_i1 <<= (w2c_i2 & 31);
+    w2c_i2 = 4128768u;
+    w2c_i1 &= w2c_i2;
+    w2c_i0 |= w2c_i1;
+    w2c_i1 = 8421600u;
+    w2c_i0 |= w2c_i1;
+    w2c_l19 = w2c_i0;
+    w2c_j0 = (u64)(w2c_i0);
+    w2c_j1 = 953497ull;
+    w2c_j0 *= w2c_j1;
+    w2c_j1 = 22ull;
+    w2c_j0 >>= (w2c_j1 & 63);
+    w2c_j1 = 1016ull;
+    w2c_j0 &= w2c_j1;
+    w2c_l4 = w2c_j0;
+    w2c_j1 = 66976ull;
+    w2c_j0 += w2c_j1;
+    w2c_i0 = (u32)(w2c_j0);
+    w2c_i0 = i32_load(m, (u64)(w2c_i0));
+    w2c_i1 = w2c_l19;
+    w2c_i0 = w2c_i0 != w2c_i1;
+    if (w2c_i0) {goto w2c_B9;}
+    w2c_B12:;
+    w2c_j0 = w2c_l4;
+    w2c_j1 = 66981ull;
+    w2c_j0 += w2c_j1;
+    w2c_i0 = (u32)(w2c_j0);
+    w2c_i0 = i32_load8_u(m, (u64)(w2c_i0));
+    w2c_l19 = w2c_i0;
+    w2c_j0 = w2c_l4;
+    w2c_j1 = 66980ull;
+    w2c_j0 += w2c_j1;
+    w2c_i0 = (u32)(w2c_j0);
+    w2c_j0 = i64_load8_u(m, (u64)(w2c_i0));
+    w2c_i0 = (u32)(w2c_j0);
+    switch (w2c_i0) {
+      case 0: goto w2c_B8;
+      case 1: goto w2c_B4;
+      case 2: goto w2c_B10;
+      default: goto w2c_B8;
+    }
+    w2c_B11:;
+    w2c_i0 = w2c_l16;
+    w2c_i1 = 4294967248u;
+    w2c_i0 += w2c_i1;
+    w2c_l19 = w2c_i0;
+    w2c_i1 = 10u;
+    w2c_i0 = w2c_i0 < w2c_i1;
+    if (w2c_i0) {goto w2c_B8;}
+    w2c_B10:;
+    w2c_i0 = w2c_l16;
+    w2c_i1 = 127u;
+    w2c_i0 = w2c_i0 > w2c_i1;
+    if (w2c_i0) {goto w2c_B9;}
+    w2c_j0 = 1ull;
+    w2c_l4 = w2c_j0;
+    w2c_i0 = w2c_l16;
+    w2c_i1 = 4294967287u;
+    w2c_i0 += w2c_i1;
+    w2c_i1 = 5u;
+    w2c_i0 = w2c_i0 < w2c_i1;
+    if (w2c_i0) {goto w2c_B2;}
+    w2c_i0 = w2c_l16;
+    w2c_i1 = 32u;
+    w2c_i0 = w2c_i0 == w2c_i1;
+    if (w2c_i0) {goto w2c_B2;}
+    goto w2c_B4;
+    w2c_B9:;
+    w2c_j0 = 1ull;
+    w2c_l4 = w2c_j0;
+    w2c_i0 = w2c_l16;
+    w2c_i1 = 4294959104u;
+    w2c_i0 += w2c_i1;
+    w2c_i1 = 11u;
+    w2c_i0 = w2c_i0 < w2c_i1;
+    if (w2c_i0) {goto w2c_B2;}
+    w2c_i0 = w2c_l16;
+    w2c_i1 = 8231u;
+    w2c_i0 = (u32)((s32)w2c_i0 > (s32)w2c_i1);
+    if (w2c_i0) {goto w2c_B21;}
+    w2c_i0 = w2c_l16;
+    w2c_i1 = 133u;
+    w2c_i0 = w2c_i0 == w2c_i1;
+    if (w2c_i0) {goto w2c_B2;}
+    w2c_i0 = w2c_l16;
+    w2c_i1 = 160u;
+    w2c_i0 = w2c_i0 == w2c_i1;
+    if (w2c_i0) {goto w2c_B2;}
+    w2c_i0 = w2c_l16;
+    w2c_i1 = 5760u;
+    w2c_i0 = w2c_i0 != w2c_i1;
+    if (w2c_i0) {goto w2c_B4;}
+    goto w2c_B2;
+    w2c_B21:;
+    w2c_i0 = w2c_l16;
+    w2c_i1 = 4294959064u;
+    w2c_i0 += w2c_i1;
+    w2c_l19 = w2c_i0;
+    w2c_i1 = 55u;
+    w2c_i0 = w2c_i0 > w2c_i1;
+    if (w2c_i0) {goto w2c_B5;}
+    w2c_j0 = 1ull;
+    w2c_i1 = w2c_l19;
+    w2c_j1 = (u64)(w2c_i1);
+    w2c_j0 <<= (w2c_j1 & 63);
+    w2c_j1 = 36028797018964099ull;
+    w2c_j0 &= w2c_j1;
+    w2c_j1 = 0ull;
+    w2c_i0 = w2c_j0 != w2c_j1;
+    if (w2c_i0) {goto w2c_B2;}
+    goto w2c_B5;
+    w2c_B8:;
+    w2c_i0 = w2c_l19;
+    w2c_j0 = (u64)(w2c_i0);
+    w2c_j1 = 255ull;
+    w2c_j0 &= w2c_j1;
+    w2c_l11 = w2c_j0;
+    w2c_j0 = 10ull;
+    w2c_l8 = w2c_j0;
+    w2c_j0 = 1ull;
+    w2c_l12 = w2c_j0;
+    w2c_B7:;
+    w2c_j0 = w2c_l6;
+    w2c_j1 = 0ull;
+    w2c_i0 = w2c_j0 != w2c_j1;
+    if (w2c_i0) {goto w2c_B22;}
+    w2c_j0 = w2c_l5;
+    w2c_j1 = w2c_l7;
+    w2c_j2 = w2c_l6;
+    w2c_j3 = w2c_l8;
+    w2c_j4 = 0ull;
+    w2c_f3(m, w2c_j0, w2c_j1, w2c_j2, w2c_j3, w2c_j4);
+    w2c_j0 = w2c_l5;
+    w2c_i0 = (u32)(w2c_j0);
+    w2c_j0 = i64_load(m, (u64)(w2c_i0) + 8u);
+    w2c_j1 = w2c_l5;
+    w2c_i1 = (u32)(w2c_j1);
+    w2c_j1 = i64_load(m, (u64)(w2c_i1));
+    w2c_l4 = w2c_j1;
+    w2c_j2 = w2c_l11;
+    w2c_j1 += w2c_j2;
+    w2c_l7 = w2c_j1;
+    w2c_j2 = w2c_l4;
+    w2c_i1 = w2c_j1 < w2c_j2;
+    w2c_j1 = (u64)(w2c_i1);
+    w2c_j0 += w2c_j1;
+    w2c_l6 = w2c_j0;
+    w2c_i0 = 0u;
+    w2c_l15 = w2c_i0;
+    w2c_j0 = w2c_l12;
+    w2c_j1 = w2c_p1;
+    w2c_j0 += w2c_j1;
+    w2c_p1 = w2c_j0;
+    goto w2c_L1;
+    w2c_B22:;
+    w2c_j0 = w2c_l5;
+    w2c_j1 = 16ull;
+    w2c_j0 += w2c_j1;
+    w2c_j1 = w2c_l7;
+    w2c_j2 = 0ull;
+    w2c_j3 = w2c_l8;
+    w2c_j4 = 0ull;
+    w2c_f3(m, w2c_j0, w2c_j1, w2c_j2, w2c_j3, w2c_j4);
+    w2c_j0 = w2c_l5;
+    w2c_j1 = 32ull;
+    w2c_j0 += w2c_j1;
+    w2c_j1 = w2c_l6;
+    w2c_j2 = 0ull;
+    w2c_j3 = w2c_l8;
+    w2c_j4 = 0ull;
+    w2c_f3(m, w2c_j0, w2c_j1, w2c_j2, w2c_j3, w2c_j4);
+    w2c_j0 = w2c_l5;
+    w2c_i0 = (u32)(w2c_j0);
+    w2c_j0 = i64_load(m, (u64)(w2c_i0) + 40u);
+    w2c_j1 = w2c_l5;
+    w2c_i1 = (u32)(w2c_j1);
+    w2c_j1 = i64_load(m, (u64)(w2c_i1) + 24u);
+    w2c_l14 = w2c_j1;
+    w2c_j2 = w2c_l5;
+    w2c_i2 = (u32)(w2c_j2);
+    w2c_j2 = i64_load(m, (u64)(w2c_i2) + 32u);
+    w2c_j1 += w2c_j2;
+    w2c_l4 = w2c_j1;
+    w2c_j2 = w2c_l14;
+    w2c_i1 = w2c_j1 < w2c_j2;
+    w2c_j1 = (u64)(w2c_i1);
+    w2c_j0 += w2c_j1;
+    w2c_j1 = 0ull;
+    w2c_i0 = w2c_j0 != w2c_j1;
+    if (w2c_i0) {goto w2c_B23;}
+    w2c_i0 = 0u;
+    w2c_l15 = w2c_i0;
+    w2c_j0 = w2c_l5;
+    w2c_i0 = (u32)(w2c_j0);
+    w2c_j0 = i64_load(m, (u64)(w2c_i0) + 16u);
+    w2c_l14 = w2c_j0;
+    w2c_j1 = w2c_l11;
+    w2c_j2 = 18446744073709551615ull;
+    w2c_j1 ^= w2c_j2;
+    w2c_i0 = w2c_j0 > w2c_j1;
+    w2c_i1 = 0u;
+    w2c_j2 = w2c_l4;
+    w2c_j3 = 18446744073709551615ull;
+    w2c_i2 = w2c_j2 == w2c_j3;
+    w2c_i0 = w2c_i2 ? w2c_i0 : w2c_i1;
+    if (w2c_i0) {goto w2c_B23;}
+    w2c_j0 = w2c_l4;
+    w2c_j1 = w2c_l14;
+    w2c_j2 = w2c_l11;
+    w2c_j1 += w2c_j2;
+    w2c_l7 = w2c_j1;
+    w2c_j2 = w2c_l14;
+    w2c_i1 = w2c_j1 < w2c_j2;
+    w2c_j1 = (u64)(w2c_i1);
+    w2c_j0 += w2c_j1;
+    w2c_l6 = w2c_j0;
+    w2c_j0 = w2c_l12;
+    w2c_j1 = w2c_p1;
+    w2c_j0 += w2c_j1;
+    w2c_p1 = w2c_j0;
+    goto w2c_L1;
+    w2c_B23:;
+    w2c_j0 = w2c_p0;
+    w2c_i0 = (u32)(w2c_j0);
+    w2c_j1 = 1ull;
+    i64_store(m, (u64)(w2c_i0), w2c_j1);
+    w2c_j0 = w2c_p0;
+    w2c_j1 = 24ull;
+    w2c_j0 += w2c_j1;
+    w2c_i0 = (u32)(w2c_j0);
+    w2c_j1 = 0ull;
+    i64_store(m, (u64)(w2c_i0), w2c_j1);
+    w2c_j0 = w2c_p0;
+    w2c_j1 = 16ull;
+    w2c_j0 += w2c_j1;
+    w2c_i0 = (u32)(w2c_j0);
+    w2c_j1 = 0ull;
+    i64_store(m, (u64)(w2c_i0), w2c_j1);
+    w2c_j0 = w2c_p0;
+    w2c_j1 = 8ull;
+    w2c_j0 += w2c_j1;
+    w2c_i0 = (u32)(w2c_j0);
+    w2c_j1 = 2ull;
+    i64_store(m, (u64)(w2c_i0), w2c_j1);
+    goto w2c_B3;
+    w2c_B6:;
+    w2c_j0 = w2c_p0;
+    w2c_j1 = 8ull;
+    w2c_j0 += w2c_j1;
+    w2c_i0 = (u32)(w2c_j0);
+    w2c_j1 = 0ull;
+    i64_store(m, (u64)(w2c_i0), w2c_j1);
+    w2c_j0 = w2c_p0;
+    w2c_j1 = 24ull;
+    w2c_j0 += w2c_j1;
+    w2c_i0 = (u32)(w2c_j0);
+    w2c_j1 = 0ull;
+    w2c_j2 = w2c_l6;
+    w2c_i3 = w2c_l15;
+    w2c_i4 = 1u;
+    w2c_i3 &= w2c_i4;
+    w2c_l16 = w2c_i3;
+    w2c_j1 = w2c_i3 ? w2c_j1 : w2c_j2;
+    i64_store(m, (u64)(w2c_i0), w2c_j1);
+    w2c_j0 = w2c_p0;
+    w2c_j1 = 16ull;
+    w2c_j0 += w2c_j1;
+    w2c_i0 = (u32)(w2c_j0);
+    w2c_j1 = 0ull;
+    w2c_j2 = w2c_l7;
+    w2c_i3 = w2c_l16;
+    w2c_j1 = w2c_i3 ? w2c_j1 : w2c_j2;
+    i64_store(m, (u64)(w2c_i0), w2c_j1);
+    w2c_j0 = w2c_p0;
+    w2c_i0 = (u32)(w2c_j0);
+    w2c_i1 = w2c_l15;
+    w2c_j1 = (u64)(w2c_i1);
+    w2c_j2 = 1ull;
+    w2c_j1 &= w2c_j2;
+    i64_store(m, (u64)(w2c_i0), w2c_j1);
+    goto w2c_B3;
+    w2c_B5:;
+    w2c_i0 = w2c_l16;
+    w2c_i1 = 12288u;
+    w2c_i0 = w2c_i0 == w2c_i1;
+    if (w2c_i0) {goto w2c_B2;}
+    w2c_B4:;
+    w2c_j0 = w2c_p0;
+    w2c_i0 = (u32)(w2c_j0);
+    w2c_j1 = 1ull;
+    i64_store(m, (u64)(w2c_i0), w2c_j1);
+    w2c_j0 = w2c_p0;
+    w2c_j1 = 24ull;
+    w2c_j0 += w2c_j1;
+    w2c_i0 = (u32)(w2c_j0);
+    w2c_j1 = 0ull;
+    i64_store(m, (u64)(w2c_i0), w2c_j1);
+    w2c_j0 = w2c_p0;
+    w2c_j1 = 16ull;
+    w2c_j0 += w2c_j1;
+    w2c_i0 = (u32)(w2c_j0);
+    w2c_j1 = w2c_p1;
+    i64_store(m, (u64)(w2c_i0), w2c_j1);
+    w2c_j0 = w2c_p0;
+    w2c_j1 = 8ull;
+    w2c_j0 += w2c_j1;
+    w2c_i0 = (u32)(w2c_j0);
+    w2c_j1 = 1ull;
+    i64_store(m, (u64)(w2c_i0), w2c_j1);
+    w2c_B3:;
+    w2c_j0 = w2c_l5;
+    w2c_j1 = 48ull;
+    w2c_j0 += w2c_j1;
+    m->w2c_g0 = w2c_j0;
+    goto w2c_Bfunc;
+    w2c_B2:;
+    w2c_j0 = w2c_l4;
+    w2c_j1 = w2c_p1;
+    w2c_j0 += w2c_j1;
+    w2c_p1 = w2c_j0;
+    goto w2c_L1;
+  UNREACHABLE;
+  w2c_B0:;
+  UNREACHABLE;
+  w2c_Bfunc:;
+}
+
+static u32 w2c_f48(module *m, u64 w2c_p0, u64 w2c_p1, u32 w2c_p2, u32 w2c_p3, u32 w2c_p4, u64 w2c_p5) {
+  u32 w2c_l12 = 0, w2c_l13 = 0;
+  u64 w2c_l6 = 0, w2c_l7 = 0, w2c_l8 = 0, w2c_l9 = 0, w2c_l10 = 0, w2c_l11 = 0;
+  u32 w2c_i0, w2c_i1, w2c_i2, w2c_i3, w2c_i4;
+  u64 w2c_j0, w2c_j1, w2c_j2, w2c_j3, w2c_j4;
+  w2c_j0 = m->w2c_g0;
+  w2c_j1 = 32ull;
   w2c_j0 -= w2c_j1;
   w2c_l6 = w2c_j0;
   m->w2c_g0 = w2c_j0;
@@ -35752,13 +36885,13 @@ static u32 w2c_f46(module *m, u64 w2c_p0, u64 w2c_p1, u32 w2c_p2, u32 w2c_p3, u3
   w2c_l7 = w2c_j0;
   w2c_j1 = 16ull;
   w2c_i0 = (u64)((s64)w2c_j0 < (s64)w2c_j1);
-  if (w2c_i0) {goto w2c_B34;}
+  if (w2c_i0) {goto w2c_B5;}
   w2c_i0 = w2c_p3;
   w2c_i1 = 255u;
   w2c_i0 &= w2c_i1;
-  if (w2c_i0) {goto w2c_B35;}
+  if (w2c_i0) {goto w2c_B4;}
   w2c_j0 = 0ull;
-  w2c_l8 = w2c_j0;
+  w2c_l6 = w2c_j0;
   w2c_j0 = w2c_l7;
   w2c_i0 = (u32)(w2c_j0);
   w2c_j1 = 0ull;
@@ -35776,7 +36909,7 @@ static u32 w2c_f46(module *m, u64 w2c_p0, u64 w2c_p1, u32 w2c_p2, u32 w2c_p3, u3
   w2c_j1 = 0ull;
   i64_store(m, (u64)(w2c_i0), w2c_j1);
   w2c_j0 = w2c_p0;
-  w2c_l6 = w2c_j0;
+  w2c_l8 = w2c_j0;
   w2c_j0 = w2c_p1;
   w2c_l9 = w2c_j0;
   w2c_i0 = w2c_p2;
@@ -35784,1326 +36917,411 @@ static u32 w2c_f46(module *m, u64 w2c_p0, u64 w2c_p1, u32 w2c_p2, u32 w2c_p3, u3
   w2c_i0 &= w2c_i1;
   w2c_i1 = 5u;
   w2c_i0 = w2c_i0 < w2c_i1;
-  if (w2c_i0) {goto w2c_B7;}
+  if (w2c_i0) {goto w2c_B9;}
   w2c_j0 = 0ull;
+  w2c_l9 = w2c_j0;
+  w2c_j0 = w2c_p1;
+  w2c_i0 = !(w2c_j0);
+  w2c_i0 = !(w2c_i0);
+  if (w2c_i0) {goto w2c_B10;}
+  w2c_j0 = 0ull;
+  w2c_l6 = w2c_j0;
+  w2c_j0 = w2c_p0;
+  w2c_l8 = w2c_j0;
+  goto w2c_B9;
+  w2c_B10:;
+  w2c_j0 = 1ull;
   w2c_l10 = w2c_j0;
-  w2c_j0 = 0ull;
-  w2c_l8 = w2c_j0;
-  w2c_j0 = w2c_p0;
+  w2c_j0 = w2c_p1;
   w2c_l6 = w2c_j0;
-  w2c_j0 = w2c_p1;
-  w2c_i0 = !(w2c_j0);
-  if (w2c_i0) {goto w2c_B36;}
-  w2c_j0 = 1ull;
-  w2c_l8 = w2c_j0;
-  w2c_j0 = 1ull;
-  w2c_l9 = w2c_j0;
   w2c_j0 = w2c_p0;
-  w2c_i0 = (u32)(w2c_j0);
-  w2c_i0 = i32_load8_u(m, (u64)(w2c_i0));
-  w2c_p3 = w2c_i0;
-  w2c_i1 = 32u;
-  w2c_i0 = w2c_i0 == w2c_i1;
-  if (w2c_i0) {goto w2c_B37;}
-  w2c_i0 = w2c_p3;
-  w2c_i1 = 227u;
-  w2c_i0 = w2c_i0 == w2c_i1;
-  if (w2c_i0) {goto w2c_B40;}
-  w2c_i0 = w2c_p3;
-  w2c_i1 = 194u;
-  w2c_i0 = w2c_i0 != w2c_i1;
-  if (w2c_i0) {goto w2c_B39;}
-  w2c_j0 = 1ull;
-  w2c_l9 = w2c_j0;
-  w2c_j0 = w2c_p1;
-  w2c_j1 = 1ull;
-  w2c_i0 = w2c_j0 != w2c_j1;
-  if (w2c_i0) {goto w2c_B41;}
-  w2c_j0 = 0ull;
-  w2c_l8 = w2c_j0;
-  w2c_j0 = w2c_p0;
-  w2c_l6 = w2c_j0;
-  goto w2c_B18;
-  w2c_B41:;
-  w2c_j0 = w2c_p0;
-  w2c_i0 = (u32)(w2c_j0);
-  w2c_i0 = i32_load8_u(m, (u64)(w2c_i0) + 1u);
-  w2c_i1 = 160u;
-  w2c_i0 = w2c_i0 == w2c_i1;
-  if (w2c_i0) {goto w2c_B38;}
-  goto w2c_B17;
-  w2c_B40:;
-  w2c_j0 = w2c_p1;
-  w2c_j1 = 3ull;
-  w2c_i0 = w2c_j0 >= w2c_j1;
-  if (w2c_i0) {goto w2c_B42;}
-  w2c_j0 = 0ull;
-  w2c_l8 = w2c_j0;
-  w2c_j0 = w2c_p0;
-  w2c_l6 = w2c_j0;
-  w2c_j0 = w2c_p1;
-  w2c_l9 = w2c_j0;
-  goto w2c_B18;
-  w2c_B42:;
-  w2c_j0 = 0ull;
   w2c_l11 = w2c_j0;
-  w2c_j0 = w2c_p0;
-  w2c_i0 = (u32)(w2c_j0);
-  w2c_i0 = i32_load8_u(m, (u64)(w2c_i0) + 1u);
-  w2c_i1 = 128u;
-  w2c_i0 = w2c_i0 == w2c_i1;
-  if (w2c_i0) {goto w2c_B43;}
-  w2c_j0 = w2c_p0;
-  w2c_l6 = w2c_j0;
-  w2c_j0 = w2c_p1;
-  w2c_l9 = w2c_j0;
-  goto w2c_B19;
-  w2c_B43:;
-  w2c_j0 = w2c_p0;
-  w2c_l6 = w2c_j0;
-  w2c_j0 = w2c_p1;
-  w2c_l9 = w2c_j0;
-  w2c_j0 = w2c_p0;
-  w2c_i0 = (u32)(w2c_j0);
-  w2c_i0 = i32_load8_u(m, (u64)(w2c_i0) + 2u);
-  w2c_i1 = 128u;
-  w2c_i0 = w2c_i0 != w2c_i1;
-  if (w2c_i0) {goto w2c_B19;}
-  w2c_j0 = 3ull;
-  w2c_l9 = w2c_j0;
-  goto w2c_B37;
-  w2c_B39:;
-  w2c_j0 = 1ull;
-  w2c_l9 = w2c_j0;
-  w2c_i0 = w2c_p3;
-  w2c_i1 = 4294967287u;
-  w2c_i0 += w2c_i1;
-  w2c_i1 = 255u;
-  w2c_i0 &= w2c_i1;
-  w2c_i1 = 4u;
-  w2c_i0 = w2c_i0 > w2c_i1;
-  if (w2c_i0) {goto w2c_B17;}
-  goto w2c_B37;
-  w2c_B38:;
-  w2c_j0 = 2ull;
-  w2c_l9 = w2c_j0;
-  w2c_B37:;
-  w2c_j0 = w2c_p0;
-  w2c_j1 = w2c_l9;
-  w2c_j0 += w2c_j1;
-  w2c_l6 = w2c_j0;
-  w2c_j0 = w2c_p1;
-  w2c_j1 = w2c_l9;
-  w2c_j0 -= w2c_j1;
-  w2c_l9 = w2c_j0;
-  w2c_i0 = !(w2c_j0);
-  if (w2c_i0) {goto w2c_B36;}
-  w2c_j0 = 1ull;
-  w2c_l8 = w2c_j0;
-  w2c_L44:
-    w2c_j0 = 1ull;
-    w2c_l11 = w2c_j0;
+  w2c_L13:
     w2c_j0 = w2c_l6;
+    w2c_l9 = w2c_j0;
+    w2c_j0 = w2c_l11;
+    w2c_l8 = w2c_j0;
     w2c_i0 = (u32)(w2c_j0);
     w2c_i0 = i32_load8_u(m, (u64)(w2c_i0));
     w2c_p3 = w2c_i0;
     w2c_i1 = 32u;
-    w2c_i0 = w2c_i0 == w2c_i1;
-    if (w2c_i0) {goto w2c_B45;}
-    w2c_i0 = w2c_p3;
-    w2c_i1 = 227u;
-    w2c_i0 = w2c_i0 == w2c_i1;
-    if (w2c_i0) {goto w2c_B48;}
-    w2c_i0 = w2c_p3;
-    w2c_i1 = 194u;
-    w2c_i0 = w2c_i0 != w2c_i1;
-    if (w2c_i0) {goto w2c_B47;}
-    w2c_j0 = w2c_l9;
-    w2c_j1 = 1ull;
-    w2c_i0 = w2c_j0 != w2c_j1;
-    if (w2c_i0) {goto w2c_B49;}
+    w2c_i0 = w2c_i0 > w2c_i1;
+    if (w2c_i0) {goto w2c_B15;}
     w2c_j0 = 1ull;
-    w2c_l9 = w2c_j0;
-    goto w2c_B18;
-    w2c_B49:;
-    w2c_j0 = w2c_l6;
+    w2c_i1 = w2c_p3;
+    w2c_j1 = (u64)(w2c_i1);
+    w2c_j0 <<= (w2c_j1 & 63);
+    w2c_j1 = 4294983168ull;
+    w2c_j0 &= w2c_j1;
+    w2c_j1 = 0ull;
+    w2c_i0 = w2c_j0 == w2c_j1;
+    if (w2c_i0) {goto w2c_B15;}
+    w2c_j0 = w2c_l9;
+    w2c_j1 = 18446744073709551615ull;
+    w2c_j0 += w2c_j1;
+    w2c_l6 = w2c_j0;
+    w2c_j0 = w2c_l8;
+    w2c_j1 = 1ull;
+    w2c_j0 += w2c_j1;
+    w2c_l11 = w2c_j0;
+    goto w2c_B14;
+    w2c_B15:;
+    w2c_i0 = w2c_p3;
+    w2c_i1 = 4294967102u;
+    w2c_i0 += w2c_i1;
+    w2c_l12 = w2c_i0;
+    w2c_i1 = 33u;
+    w2c_i0 = w2c_i0 > w2c_i1;
+    if (w2c_i0) {goto w2c_B16;}
+    w2c_j0 = 1ull;
+    w2c_i1 = w2c_l12;
+    w2c_j1 = (u64)(w2c_i1);
+    w2c_j0 <<= (w2c_j1 & 63);
+    w2c_j1 = 15032385537ull;
+    w2c_j0 &= w2c_j1;
+    w2c_j1 = 0ull;
+    w2c_i0 = w2c_j0 == w2c_j1;
+    if (w2c_i0) {goto w2c_B16;}
+    w2c_j0 = w2c_l8;
     w2c_i0 = (u32)(w2c_j0);
     w2c_i0 = i32_load8_u(m, (u64)(w2c_i0) + 1u);
-    w2c_i1 = 160u;
-    w2c_i0 = w2c_i0 != w2c_i1;
-    if (w2c_i0) {goto w2c_B16;}
-    w2c_j0 = 2ull;
-    w2c_l11 = w2c_j0;
-    goto w2c_B45;
-    w2c_B48:;
+    w2c_l12 = w2c_i0;
     w2c_j0 = w2c_l9;
     w2c_j1 = 3ull;
     w2c_i0 = w2c_j0 < w2c_j1;
     if (w2c_i0) {goto w2c_B18;}
-    w2c_j0 = w2c_l6;
-    w2c_i0 = (u32)(w2c_j0);
-    w2c_i0 = i32_load8_u(m, (u64)(w2c_i0) + 1u);
-    w2c_i1 = 128u;
-    w2c_i0 = w2c_i0 == w2c_i1;
-    if (w2c_i0) {goto w2c_B50;}
-    w2c_j0 = w2c_l8;
-    w2c_l11 = w2c_j0;
-    goto w2c_B19;
-    w2c_B50:;
-    w2c_j0 = w2c_l6;
-    w2c_i0 = (u32)(w2c_j0);
-    w2c_i0 = i32_load8_u(m, (u64)(w2c_i0) + 2u);
-    w2c_i1 = 128u;
-    w2c_i0 = w2c_i0 == w2c_i1;
-    if (w2c_i0) {goto w2c_B46;}
-    w2c_j0 = w2c_l8;
-    w2c_l11 = w2c_j0;
-    goto w2c_B19;
-    w2c_B47:;
-    w2c_j0 = 1ull;
-    w2c_l11 = w2c_j0;
     w2c_i0 = w2c_p3;
-    w2c_i1 = 4294967287u;
-    w2c_i0 += w2c_i1;
-    w2c_i1 = 255u;
+    w2c_i1 = 240u;
     w2c_i0 &= w2c_i1;
-    w2c_i1 = 4u;
-    w2c_i0 = w2c_i0 > w2c_i1;
-    if (w2c_i0) {goto w2c_B16;}
-    goto w2c_B45;
-    w2c_B46:;
-    w2c_j0 = 3ull;
-    w2c_l11 = w2c_j0;
-    w2c_B45:;
-    w2c_j0 = w2c_l8;
-    w2c_j1 = 1ull;
-    w2c_j0 += w2c_j1;
-    w2c_l8 = w2c_j0;
-    w2c_j0 = w2c_l6;
-    w2c_j1 = w2c_l11;
+    w2c_i1 = 224u;
+    w2c_i0 = w2c_i0 != w2c_i1;
+    if (w2c_i0) {goto w2c_B18;}
+    w2c_i0 = w2c_p3;
+    w2c_i1 = 12u;
+    w2c_i0 <<= (w2c_i1 & 31);
+    w2c_i1 = w2c_l12;
+    w2c_i2 = 6u;
+    w2c_i1 <<= (w2c_i2 & 31);
+    w2c_i0 += w2c_i1;
+    w2c_j1 = w2c_l8;
+    w2c_i1 = (u32)(w2c_j1);
+    w2c_i1 = i32_load8_u(m, (u64)(w2c_i1) + 2u);
+    w2c_i0 += w2c_i1;
+    w2c_i1 = 4294041472u;
+    w2c_i0 += w2c_i1;
+    w2c_p3 = w2c_i0;
+    w2c_j0 = w2c_l9;
+    w2c_j1 = 18446744073709551613ull;
     w2c_j0 += w2c_j1;
     w2c_l6 = w2c_j0;
+    w2c_j0 = w2c_l8;
+    w2c_j1 = 3ull;
+    w2c_j0 += w2c_j1;
+    w2c_l11 = w2c_j0;
+    goto w2c_B17;
+    w2c_B18:;
+    w2c_i0 = w2c_l12;
+    w2c_i1 = 63u;
+    w2c_i0 &= w2c_i1;
+    w2c_l12 = w2c_i0;
+    w2c_i0 = w2c_p3;
+    w2c_i1 = 223u;
+    w2c_i0 = w2c_i0 > w2c_i1;
+    if (w2c_i0) {goto w2c_B20;}
+    w2c_i0 = w2c_p3;
+    w2c_i1 = 6u;
+    w2c_i0 <<= (w2c_i1 & 31);
+    w2c_i1 = 1984u;
+    w2c_i0 &= w2c_i1;
+    w2c_i1 = w2c_l12;
+    w2c_i0 |= w2c_i1;
+    w2c_p3 = w2c_i0;
+    w2c_j0 = 2ull;
+    w2c_l11 = w2c_j0;
+    goto w2c_B19;
+    w2c_B20:;
+    w2c_i0 = w2c_l12;
+    w2c_i1 = 6u;
+    w2c_i0 <<= (w2c_i1 & 31);
+    w2c_i1 = w2c_p3;
+    w2c_i2 = 12u;
+    w2c_i1 <<= (w2c_i2 & 31);
+    w2c_i2 = 61440u;
+    w2c_i1 &= w2c_i2;
+    w2c_i0 |= w2c_i1;
+    w2c_j1 = w2c_l8;
+    w2c_i1 = (u32)(w2c_j1);
+    w2c_i1 = i32_load8_u(m, (u64)(w2c_i1) + 2u);
+    w2c_i2 = 63u;
+    w2c_i1 &= w2c_i2;
+    w2c_i0 |= w2c_i1;
+    w2c_p3 = w2c_i0;
+    w2c_j0 = 3ull;
+    w2c_l11 = w2c_j0;
+    w2c_B19:;
     w2c_j0 = w2c_l9;
     w2c_j1 = w2c_l11;
     w2c_j0 -= w2c_j1;
-    w2c_l9 = w2c_j0;
+    w2c_l6 = w2c_j0;
+    w2c_j0 = w2c_l8;
+    w2c_j1 = w2c_l11;
+    w2c_j0 += w2c_j1;
+    w2c_l11 = w2c_j0;
+    w2c_B17:;
+    w2c_i0 = w2c_p3;
+    w2c_i1 = 127u;
+    w2c_i0 = w2c_i0 > w2c_i1;
+    if (w2c_i0) {goto w2c_B21;}
+    w2c_i0 = w2c_p3;
+    w2c_i1 = 4294967287u;
+    w2c_i0 += w2c_i1;
+    w2c_i1 = 5u;
+    w2c_i0 = w2c_i0 < w2c_i1;
+    if (w2c_i0) {goto w2c_B14;}
+    w2c_i0 = w2c_p3;
+    w2c_i1 = 32u;
+    w2c_i0 = w2c_i0 != w2c_i1;
+    if (w2c_i0) {goto w2c_B16;}
+    goto w2c_B14;
+    w2c_B21:;
+    w2c_i0 = w2c_p3;
+    w2c_i1 = 4294959104u;
+    w2c_i0 += w2c_i1;
+    w2c_i1 = 11u;
+    w2c_i0 = w2c_i0 < w2c_i1;
+    if (w2c_i0) {goto w2c_B14;}
+    w2c_i0 = w2c_p3;
+    w2c_i1 = 8231u;
+    w2c_i0 = (u32)((s32)w2c_i0 > (s32)w2c_i1);
+    if (w2c_i0) {goto w2c_B22;}
+    w2c_i0 = w2c_p3;
+    w2c_i1 = 133u;
+    w2c_i0 = w2c_i0 == w2c_i1;
+    if (w2c_i0) {goto w2c_B14;}
+    w2c_i0 = w2c_p3;
+    w2c_i1 = 160u;
+    w2c_i0 = w2c_i0 == w2c_i1;
+    if (w2c_i0) {goto w2c_B14;}
+    w2c_i0 = w2c_p3;
+    w2c_i1 = 5760u;
+    w2c_i0 = w2c_i0 != w2c_i1;
+    if (w2c_i0) {goto w2c_B16;}
+    goto w2c_B14;
+    w2c_B22:;
+    w2c_i0 = w2c_p3;
+    w2c_i1 = 4294959064u;
+    w2c_i0 += w2c_i1;
+    w2c_l12 = w2c_i0;
+    w2c_i1 = 55u;
+    w2c_i0 = w2c_i0 > w2c_i1;
+    if (w2c_i0) {goto w2c_B23;}
+    w2c_j0 = 1ull;
+    w2c_i1 = w2c_l12;
+    w2c_j1 = (u64)(w2c_i1);
+    w2c_j0 <<= (w2c_j1 & 63);
+    w2c_j1 = 36028797018964099ull;
+    w2c_j0 &= w2c_j1;
     w2c_j1 = 0ull;
     w2c_i0 = w2c_j0 != w2c_j1;
-    if (w2c_i0) {goto w2c_L44;}
-  w2c_B36:;
-  w2c_j0 = w2c_l7;
-  w2c_i0 = (u32)(w2c_j0);
-  w2c_j1 = 0ull;
-  i64_store(m, (u64)(w2c_i0) + 56, w2c_j1);
-  w2c_j0 = w2c_l7;
-  w2c_i0 = (u32)(w2c_j0);
-  w2c_j1 = 0ull;
-  i64_store(m, (u64)(w2c_i0) + 64, w2c_j1);
-  w2c_j0 = w2c_l7;
-  w2c_i0 = (u32)(w2c_j0);
-  w2c_j1 = 0ull;
-  i64_store(m, (u64)(w2c_i0) + 72, w2c_j1);
-  w2c_j0 = w2c_l7;
-  w2c_i0 = (u32)(w2c_j0);
-  w2c_j1 = 0ull;
-  i64_store(m, (u64)(w2c_i0) + 80, w2c_j1);
-  w2c_j0 = w2c_l7;
-  w2c_i0 = (u32)(w2c_j0);
-  w2c_j1 = 0ull;
-  i64_store(m, (u64)(w2c_i0) + 88, w2c_j1);
-  goto w2c_B9;
-  w2c_B35:;
-  w2c_j0 = 0ull;
-  w2c_l8 = w2c_j0;
-  w2c_j0 = w2c_l7;
-  w2c_i0 = (u32)(w2c_j0);
-  w2c_j1 = 0ull;
-  i64_store(m, (u64)(w2c_i0) + 24, w2c_j1);
-  w2c_j0 = w2c_l7;
-  w2c_i0 = (u32)(w2c_j0);
-  w2c_j1 = 0ull;
-  i64_store(m, (u64)(w2c_i0) + 16, w2c_j1);
-  w2c_j0 = w2c_l7;
-  w2c_i0 = (u32)(w2c_j0);
-  w2c_j1 = 0ull;
-  i64_store(m, (u64)(w2c_i0) + 8, w2c_j1);
-  w2c_j0 = w2c_l7;
-  w2c_i0 = (u32)(w2c_j0);
-  w2c_j1 = 0ull;
-  i64_store(m, (u64)(w2c_i0), w2c_j1);
-  w2c_j0 = w2c_p0;
-  w2c_l6 = w2c_j0;
-  w2c_j0 = w2c_p1;
-  w2c_l9 = w2c_j0;
-  w2c_i0 = w2c_p2;
-  w2c_i1 = 255u;
-  w2c_i0 &= w2c_i1;
-  w2c_i1 = 5u;
-  w2c_i0 = w2c_i0 < w2c_i1;
-  if (w2c_i0) {goto w2c_B21;}
-  w2c_j0 = 0ull;
-  w2c_l10 = w2c_j0;
-  w2c_j0 = 0ull;
-  w2c_l8 = w2c_j0;
-  w2c_j0 = w2c_p0;
-  w2c_l6 = w2c_j0;
-  w2c_j0 = w2c_p1;
-  w2c_i0 = !(w2c_j0);
-  if (w2c_i0) {goto w2c_B51;}
-  w2c_j0 = 1ull;
-  w2c_l8 = w2c_j0;
-  w2c_j0 = 1ull;
-  w2c_l9 = w2c_j0;
-  w2c_j0 = w2c_p0;
-  w2c_i0 = (u32)(w2c_j0);
-  w2c_i0 = i32_load8_u(m, (u64)(w2c_i0));
-  w2c_p3 = w2c_i0;
-  w2c_i1 = 32u;
-  w2c_i0 = w2c_i0 == w2c_i1;
-  if (w2c_i0) {goto w2c_B52;}
-  w2c_i0 = w2c_p3;
-  w2c_i1 = 227u;
-  w2c_i0 = w2c_i0 == w2c_i1;
-  if (w2c_i0) {goto w2c_B55;}
-  w2c_i0 = w2c_p3;
-  w2c_i1 = 194u;
-  w2c_i0 = w2c_i0 != w2c_i1;
-  if (w2c_i0) {goto w2c_B54;}
-  w2c_j0 = 1ull;
-  w2c_l9 = w2c_j0;
-  w2c_j0 = w2c_p1;
-  w2c_j1 = 1ull;
-  w2c_i0 = w2c_j0 != w2c_j1;
-  if (w2c_i0) {goto w2c_B56;}
-  w2c_j0 = 0ull;
-  w2c_l8 = w2c_j0;
-  w2c_j0 = w2c_p0;
-  w2c_l6 = w2c_j0;
-  goto w2c_B32;
-  w2c_B56:;
-  w2c_j0 = w2c_p0;
-  w2c_i0 = (u32)(w2c_j0);
-  w2c_i0 = i32_load8_u(m, (u64)(w2c_i0) + 1u);
-  w2c_i1 = 160u;
-  w2c_i0 = w2c_i0 == w2c_i1;
-  if (w2c_i0) {goto w2c_B53;}
-  goto w2c_B31;
-  w2c_B55:;
-  w2c_j0 = w2c_p1;
-  w2c_j1 = 3ull;
-  w2c_i0 = w2c_j0 >= w2c_j1;
-  if (w2c_i0) {goto w2c_B57;}
-  w2c_j0 = 0ull;
-  w2c_l8 = w2c_j0;
-  w2c_j0 = w2c_p0;
-  w2c_l6 = w2c_j0;
-  w2c_j0 = w2c_p1;
-  w2c_l9 = w2c_j0;
-  goto w2c_B32;
-  w2c_B57:;
-  w2c_j0 = 0ull;
-  w2c_l11 = w2c_j0;
-  w2c_j0 = w2c_p0;
-  w2c_i0 = (u32)(w2c_j0);
-  w2c_i0 = i32_load8_u(m, (u64)(w2c_i0) + 1u);
-  w2c_i1 = 128u;
-  w2c_i0 = w2c_i0 == w2c_i1;
-  if (w2c_i0) {goto w2c_B58;}
-  w2c_j0 = w2c_p0;
-  w2c_l6 = w2c_j0;
-  w2c_j0 = w2c_p1;
-  w2c_l9 = w2c_j0;
-  goto w2c_B33;
-  w2c_B58:;
-  w2c_j0 = w2c_p0;
-  w2c_l6 = w2c_j0;
-  w2c_j0 = w2c_p1;
-  w2c_l9 = w2c_j0;
-  w2c_j0 = w2c_p0;
-  w2c_i0 = (u32)(w2c_j0);
-  w2c_i0 = i32_load8_u(m, (u64)(w2c_i0) + 2u);
-  w2c_i1 = 128u;
-  w2c_i0 = w2c_i0 != w2c_i1;
-  if (w2c_i0) {goto w2c_B33;}
-  w2c_j0 = 3ull;
-  w2c_l9 = w2c_j0;
-  goto w2c_B52;
-  w2c_B54:;
-  w2c_j0 = 1ull;
-  w2c_l9 = w2c_j0;
-  w2c_i0 = w2c_p3;
-  w2c_i1 = 4294967287u;
-  w2c_i0 += w2c_i1;
-  w2c_i1 = 255u;
-  w2c_i0 &= w2c_i1;
-  w2c_i1 = 4u;
-  w2c_i0 = w2c_i0 > w2c_i1;
-  if (w2c_i0) {goto w2c_B31;}
-  goto w2c_B52;
-  w2c_B53:;
-  w2c_j0 = 2ull;
-  w2c_l9 = w2c_j0;
-  w2c_B52:;
-  w2c_j0 = w2c_p0;
-  w2c_j1 = w2c_l9;
-  w2c_j0 += w2c_j1;
-  w2c_l6 = w2c_j0;
-  w2c_j0 = w2c_p1;
-  w2c_j1 = w2c_l9;
-  w2c_j0 -= w2c_j1;
-  w2c_l9 = w2c_j0;
-  w2c_i0 = !(w2c_j0);
-  if (w2c_i0) {goto w2c_B51;}
-  w2c_j0 = 1ull;
-  w2c_l8 = w2c_j0;
-  w2c_L59:
-    w2c_j0 = 1ull;
-    w2c_l11 = w2c_j0;
-    w2c_j0 = w2c_l6;
+    if (w2c_i0) {goto w2c_B14;}
+    w2c_B23:;
+    w2c_i0 = w2c_p3;
+    w2c_i1 = 12288u;
+    w2c_i0 = w2c_i0 == w2c_i1;
+    if (w2c_i0) {goto w2c_B14;}
+    w2c_B16:;
+    w2c_j0 = w2c_l8;
     w2c_i0 = (u32)(w2c_j0);
     w2c_i0 = i32_load8_u(m, (u64)(w2c_i0));
     w2c_p3 = w2c_i0;
-    w2c_i1 = 32u;
-    w2c_i0 = w2c_i0 == w2c_i1;
-    if (w2c_i0) {goto w2c_B60;}
-    w2c_i0 = w2c_p3;
-    w2c_i1 = 227u;
-    w2c_i0 = w2c_i0 == w2c_i1;
-    if (w2c_i0) {goto w2c_B63;}
-    w2c_i0 = w2c_p3;
-    w2c_i1 = 194u;
-    w2c_i0 = w2c_i0 != w2c_i1;
-    if (w2c_i0) {goto w2c_B62;}
-    w2c_j0 = w2c_l9;
-    w2c_j1 = 1ull;
-    w2c_i0 = w2c_j0 != w2c_j1;
-    if (w2c_i0) {goto w2c_B64;}
-    w2c_j0 = 1ull;
-    w2c_l9 = w2c_j0;
-    goto w2c_B32;
-    w2c_B64:;
-    w2c_j0 = w2c_l6;
-    w2c_i0 = (u32)(w2c_j0);
-    w2c_i0 = i32_load8_u(m, (u64)(w2c_i0) + 1u);
-    w2c_i1 = 160u;
-    w2c_i0 = w2c_i0 != w2c_i1;
-    if (w2c_i0) {goto w2c_B30;}
-    w2c_j0 = 2ull;
-    w2c_l11 = w2c_j0;
-    goto w2c_B60;
-    w2c_B63:;
     w2c_j0 = w2c_l9;
     w2c_j1 = 3ull;
     w2c_i0 = w2c_j0 < w2c_j1;
-    if (w2c_i0) {goto w2c_B32;}
-    w2c_j0 = w2c_l6;
-    w2c_i0 = (u32)(w2c_j0);
-    w2c_i0 = i32_load8_u(m, (u64)(w2c_i0) + 1u);
-    w2c_i1 = 128u;
-    w2c_i0 = w2c_i0 == w2c_i1;
-    if (w2c_i0) {goto w2c_B65;}
-    w2c_j0 = w2c_l8;
-    w2c_l11 = w2c_j0;
-    goto w2c_B33;
-    w2c_B65:;
-    w2c_j0 = w2c_l6;
-    w2c_i0 = (u32)(w2c_j0);
-    w2c_i0 = i32_load8_u(m, (u64)(w2c_i0) + 2u);
-    w2c_i1 = 128u;
-    w2c_i0 = w2c_i0 == w2c_i1;
-    if (w2c_i0) {goto w2c_B61;}
-    w2c_j0 = w2c_l8;
-    w2c_l11 = w2c_j0;
-    goto w2c_B33;
-    w2c_B62:;
-    w2c_j0 = 1ull;
-    w2c_l11 = w2c_j0;
+    if (w2c_i0) {goto w2c_B12;}
     w2c_i0 = w2c_p3;
-    w2c_i1 = 4294967287u;
-    w2c_i0 += w2c_i1;
-    w2c_i1 = 255u;
+    w2c_i1 = 240u;
     w2c_i0 &= w2c_i1;
-    w2c_i1 = 4u;
-    w2c_i0 = w2c_i0 > w2c_i1;
-    if (w2c_i0) {goto w2c_B30;}
-    goto w2c_B60;
-    w2c_B61:;
-    w2c_j0 = 3ull;
-    w2c_l11 = w2c_j0;
-    w2c_B60:;
-    w2c_j0 = w2c_l8;
-    w2c_j1 = 1ull;
-    w2c_j0 += w2c_j1;
-    w2c_l8 = w2c_j0;
-    w2c_j0 = w2c_l6;
-    w2c_j1 = w2c_l11;
+    w2c_i1 = 224u;
+    w2c_i0 = w2c_i0 != w2c_i1;
+    if (w2c_i0) {goto w2c_B12;}
+    w2c_i0 = w2c_p3;
+    w2c_i1 = 12u;
+    w2c_i0 <<= (w2c_i1 & 31);
+    w2c_j1 = w2c_l8;
+    w2c_i1 = (u32)(w2c_j1);
+    w2c_i1 = i32_load8_u(m, (u64)(w2c_i1) + 1u);
+    w2c_i2 = 6u;
+    w2c_i1 <<= (w2c_i2 & 31);
+    w2c_i0 += w2c_i1;
+    w2c_j1 = w2c_l8;
+    w2c_i1 = (u32)(w2c_j1);
+    w2c_i1 = i32_load8_u(m, (u64)(w2c_i1) + 2u);
+    w2c_i0 += w2c_i1;
+    w2c_i1 = 4294041472u;
+    w2c_i0 += w2c_i1;
+    w2c_p3 = w2c_i0;
+    w2c_j0 = w2c_l9;
+    w2c_j1 = 18446744073709551613ull;
     w2c_j0 += w2c_j1;
     w2c_l6 = w2c_j0;
-    w2c_j0 = w2c_l9;
-    w2c_j1 = w2c_l11;
-    w2c_j0 -= w2c_j1;
-    w2c_l9 = w2c_j0;
-    w2c_j1 = 0ull;
-    w2c_i0 = w2c_j0 != w2c_j1;
-    if (w2c_i0) {goto w2c_L59;}
-  w2c_B51:;
-  w2c_j0 = w2c_l7;
-  w2c_i0 = (u32)(w2c_j0);
-  w2c_j1 = 0ull;
-  i64_store(m, (u64)(w2c_i0) + 56, w2c_j1);
-  w2c_j0 = w2c_l7;
-  w2c_i0 = (u32)(w2c_j0);
-  w2c_j1 = 0ull;
-  i64_store(m, (u64)(w2c_i0) + 64, w2c_j1);
-  w2c_j0 = w2c_l7;
-  w2c_i0 = (u32)(w2c_j0);
-  w2c_j1 = 0ull;
-  i64_store(m, (u64)(w2c_i0) + 72, w2c_j1);
-  w2c_j0 = w2c_l7;
-  w2c_i0 = (u32)(w2c_j0);
-  w2c_j1 = 0ull;
-  i64_store(m, (u64)(w2c_i0) + 80, w2c_j1);
-  w2c_j0 = w2c_l7;
-  w2c_i0 = (u32)(w2c_j0);
-  w2c_j1 = 0ull;
-  i64_store(m, (u64)(w2c_i0) + 88, w2c_j1);
-  goto w2c_B23;
-  w2c_B34:;
-  UNREACHABLE;
-  w2c_B33:;
-  w2c_j0 = w2c_l7;
-  w2c_i0 = (u32)(w2c_j0);
-  w2c_j1 = 0ull;
-  i64_store(m, (u64)(w2c_i0) + 56, w2c_j1);
-  w2c_j0 = w2c_l7;
-  w2c_i0 = (u32)(w2c_j0);
-  w2c_j1 = 0ull;
-  i64_store(m, (u64)(w2c_i0) + 64, w2c_j1);
-  w2c_j0 = w2c_l7;
-  w2c_i0 = (u32)(w2c_j0);
-  w2c_j1 = 0ull;
-  i64_store(m, (u64)(w2c_i0) + 72, w2c_j1);
-  w2c_j0 = w2c_l7;
-  w2c_i0 = (u32)(w2c_j0);
-  w2c_j1 = 0ull;
-  i64_store(m, (u64)(w2c_i0) + 80, w2c_j1);
-  w2c_j0 = w2c_l7;
-  w2c_i0 = (u32)(w2c_j0);
-  w2c_j1 = 0ull;
-  i64_store(m, (u64)(w2c_i0) + 88, w2c_j1);
-  w2c_j0 = w2c_l7;
-  w2c_i0 = (u32)(w2c_j0);
-  w2c_j1 = 0ull;
-  i64_store(m, (u64)(w2c_i0) + 32, w2c_j1);
-  w2c_j0 = w2c_l7;
-  w2c_i0 = (u32)(w2c_j0);
-  w2c_j1 = 0ull;
-  i64_store(m, (u64)(w2c_i0) + 40, w2c_j1);
-  w2c_j0 = w2c_l7;
-  w2c_i0 = (u32)(w2c_j0);
-  w2c_j1 = 0ull;
-  i64_store(m, (u64)(w2c_i0) + 48, w2c_j1);
-  goto w2c_B29;
-  w2c_B32:;
-  w2c_j0 = w2c_l7;
-  w2c_i0 = (u32)(w2c_j0);
-  w2c_j1 = 0ull;
-  i64_store(m, (u64)(w2c_i0) + 56, w2c_j1);
-  w2c_j0 = w2c_l7;
-  w2c_i0 = (u32)(w2c_j0);
-  w2c_j1 = 0ull;
-  i64_store(m, (u64)(w2c_i0) + 64, w2c_j1);
-  w2c_j0 = w2c_l7;
-  w2c_i0 = (u32)(w2c_j0);
-  w2c_j1 = 0ull;
-  i64_store(m, (u64)(w2c_i0) + 72, w2c_j1);
-  w2c_j0 = w2c_l7;
-  w2c_i0 = (u32)(w2c_j0);
-  w2c_j1 = 0ull;
-  i64_store(m, (u64)(w2c_i0) + 80, w2c_j1);
-  w2c_j0 = w2c_l7;
-  w2c_i0 = (u32)(w2c_j0);
-  w2c_j1 = 0ull;
-  i64_store(m, (u64)(w2c_i0) + 88, w2c_j1);
-  w2c_j0 = w2c_l7;
-  w2c_i0 = (u32)(w2c_j0);
-  w2c_j1 = 0ull;
-  i64_store(m, (u64)(w2c_i0) + 32, w2c_j1);
-  w2c_j0 = w2c_l7;
-  w2c_i0 = (u32)(w2c_j0);
-  w2c_j1 = 0ull;
-  i64_store(m, (u64)(w2c_i0) + 40, w2c_j1);
-  w2c_j0 = w2c_l7;
-  w2c_i0 = (u32)(w2c_j0);
-  w2c_j1 = 0ull;
-  i64_store(m, (u64)(w2c_i0) + 48, w2c_j1);
-  goto w2c_B27;
-  w2c_B31:;
-  w2c_j0 = 0ull;
-  w2c_l8 = w2c_j0;
-  w2c_j0 = w2c_p0;
-  w2c_l6 = w2c_j0;
-  w2c_j0 = w2c_p1;
-  w2c_l9 = w2c_j0;
-  w2c_B30:;
-  w2c_j0 = 0ull;
-  w2c_l10 = w2c_j0;
-  w2c_j0 = w2c_l7;
-  w2c_i0 = (u32)(w2c_j0);
-  w2c_j1 = 0ull;
-  i64_store(m, (u64)(w2c_i0) + 56, w2c_j1);
-  w2c_j0 = w2c_l7;
-  w2c_i0 = (u32)(w2c_j0);
-  w2c_j1 = 0ull;
-  i64_store(m, (u64)(w2c_i0) + 64, w2c_j1);
-  w2c_j0 = w2c_l7;
-  w2c_i0 = (u32)(w2c_j0);
-  w2c_j1 = 0ull;
-  i64_store(m, (u64)(w2c_i0) + 72, w2c_j1);
-  w2c_j0 = w2c_l7;
-  w2c_i0 = (u32)(w2c_j0);
-  w2c_j1 = 0ull;
-  i64_store(m, (u64)(w2c_i0) + 80, w2c_j1);
-  w2c_j0 = w2c_l7;
-  w2c_i0 = (u32)(w2c_j0);
-  w2c_j1 = 0ull;
-  i64_store(m, (u64)(w2c_i0) + 88, w2c_j1);
-  w2c_j0 = w2c_l7;
-  w2c_i0 = (u32)(w2c_j0);
-  w2c_j1 = 0ull;
-  i64_store(m, (u64)(w2c_i0) + 32, w2c_j1);
-  w2c_j0 = w2c_l7;
-  w2c_i0 = (u32)(w2c_j0);
-  w2c_j1 = 0ull;
-  i64_store(m, (u64)(w2c_i0) + 40, w2c_j1);
-  w2c_j0 = w2c_l7;
-  w2c_i0 = (u32)(w2c_j0);
-  w2c_j1 = 0ull;
-  i64_store(m, (u64)(w2c_i0) + 48, w2c_j1);
-  w2c_j0 = w2c_l9;
-  w2c_j1 = 3ull;
-  w2c_i0 = w2c_j0 < w2c_j1;
-  if (w2c_i0) {goto w2c_B28;}
-  w2c_j0 = w2c_l8;
-  w2c_l11 = w2c_j0;
-  w2c_B29:;
-  w2c_j0 = w2c_l6;
-  w2c_i0 = (u32)(w2c_j0);
-  w2c_i0 = i32_load8_u(m, (u64)(w2c_i0));
-  w2c_l14 = w2c_i0;
-  w2c_i1 = 240u;
-  w2c_i0 &= w2c_i1;
-  w2c_i1 = 224u;
-  w2c_i0 = w2c_i0 != w2c_i1;
-  if (w2c_i0) {goto w2c_B25;}
-  w2c_j0 = w2c_l6;
-  w2c_i0 = (u32)(w2c_j0);
-  w2c_i0 = i32_load8_u(m, (u64)(w2c_i0) + 1u);
-  w2c_l15 = w2c_i0;
-  w2c_i1 = 6u;
-  w2c_i0 <<= (w2c_i1 & 31);
-  w2c_i1 = w2c_l14;
-  w2c_i2 = 12u;
-  w2c_i1 <<= (w2c_i2 & 31);
-  w2c_i0 += w2c_i1;
-  w2c_j1 = w2c_l6;
-  w2c_i1 = (u32)(w2c_j1);
-  w2c_i1 = i32_load8_u(m, (u64)(w2c_i1) + 2u);
-  w2c_l16 = w2c_i1;
-  w2c_i0 += w2c_i1;
-  w2c_l17 = w2c_i0;
-  w2c_i1 = 4294041472u;
-  w2c_i0 += w2c_i1;
-  w2c_p3 = w2c_i0;
-  w2c_j0 = w2c_l9;
-  w2c_j1 = 18446744073709551613ull;
-  w2c_j0 += w2c_j1;
-  w2c_l12 = w2c_j0;
-  w2c_j0 = w2c_l6;
-  w2c_j1 = 3ull;
-  w2c_j0 += w2c_j1;
-  w2c_l13 = w2c_j0;
-  w2c_i0 = w2c_l15;
-  w2c_i1 = 8u;
-  w2c_i0 <<= (w2c_i1 & 31);
-  w2c_i1 = w2c_l16;
-  w2c_i2 = 16u;
-  w2c_i1 <<= (w2c_i2 & 31);
-  w2c_i0 |= w2c_i1;
-  w2c_i1 = w2c_l14;
-  w2c_i0 |= w2c_i1;
-  w2c_l15 = w2c_i0;
-  w2c_j0 = (u64)(w2c_i0);
-  w2c_j1 = 953497ull;
-  w2c_j0 *= w2c_j1;
-  w2c_j1 = 22ull;
-  w2c_j0 >>= (w2c_j1 & 63);
-  w2c_j1 = 1016ull;
-  w2c_j0 &= w2c_j1;
-  w2c_l8 = w2c_j0;
-  w2c_i0 = (u32)(w2c_j0);
-  w2c_i0 = i32_load(m, (u64)(w2c_i0) + 66976u);
-  w2c_i1 = w2c_l15;
-  w2c_i0 = w2c_i0 != w2c_i1;
-  if (w2c_i0) {goto w2c_B66;}
-  w2c_j0 = w2c_l8;
-  w2c_j1 = 66980ull;
-  w2c_j0 += w2c_j1;
-  w2c_i0 = (u32)(w2c_j0);
-  w2c_i0 = i32_load8_u(m, (u64)(w2c_i0));
-  w2c_i1 = 255u;
-  w2c_i0 &= w2c_i1;
-  w2c_i1 = 2u;
-  w2c_i0 = w2c_i0 != w2c_i1;
-  if (w2c_i0) {goto w2c_B24;}
-  w2c_B66:;
-  w2c_i0 = w2c_p3;
-  w2c_i1 = 127u;
-  w2c_i0 = w2c_i0 > w2c_i1;
-  if (w2c_i0) {goto w2c_B67;}
-  w2c_i0 = w2c_l17;
-  w2c_i1 = 4294041463u;
-  w2c_i0 += w2c_i1;
-  w2c_i1 = 5u;
-  w2c_i0 = w2c_i0 < w2c_i1;
-  if (w2c_i0) {goto w2c_B25;}
-  w2c_i0 = w2c_l17;
-  w2c_i1 = 925856u;
-  w2c_i0 = w2c_i0 == w2c_i1;
-  if (w2c_i0) {goto w2c_B25;}
-  goto w2c_B24;
-  w2c_B67:;
-  w2c_i0 = w2c_l17;
-  w2c_i1 = 4294033280u;
-  w2c_i0 += w2c_i1;
-  w2c_i1 = 11u;
-  w2c_i0 = w2c_i0 < w2c_i1;
-  if (w2c_i0) {goto w2c_B25;}
-  w2c_i0 = w2c_l17;
-  w2c_i1 = 934055u;
-  w2c_i0 = (u32)((s32)w2c_i0 > (s32)w2c_i1);
-  if (w2c_i0) {goto w2c_B68;}
-  w2c_i0 = w2c_l17;
-  w2c_i1 = 925957u;
-  w2c_i0 = w2c_i0 == w2c_i1;
-  if (w2c_i0) {goto w2c_B25;}
-  w2c_i0 = w2c_l17;
-  w2c_i1 = 925984u;
-  w2c_i0 = w2c_i0 == w2c_i1;
-  if (w2c_i0) {goto w2c_B25;}
-  w2c_i0 = w2c_l17;
-  w2c_i1 = 931584u;
-  w2c_i0 = w2c_i0 == w2c_i1;
-  if (w2c_i0) {goto w2c_B25;}
-  goto w2c_B24;
-  w2c_B68:;
-  w2c_i0 = w2c_l17;
-  w2c_i1 = 4294033240u;
-  w2c_i0 += w2c_i1;
-  w2c_l15 = w2c_i0;
-  w2c_i1 = 55u;
-  w2c_i0 = w2c_i0 > w2c_i1;
-  if (w2c_i0) {goto w2c_B26;}
-  w2c_j0 = 1ull;
-  w2c_i1 = w2c_l15;
-  w2c_j1 = (u64)(w2c_i1);
-  w2c_j0 <<= (w2c_j1 & 63);
-  w2c_j1 = 36028797018964099ull;
-  w2c_j0 &= w2c_j1;
-  w2c_j1 = 0ull;
-  w2c_i0 = w2c_j0 == w2c_j1;
-  if (w2c_i0) {goto w2c_B26;}
-  goto w2c_B25;
-  w2c_B28:;
-  w2c_j0 = w2c_l9;
-  w2c_i0 = !(w2c_j0);
-  if (w2c_i0) {goto w2c_B23;}
-  w2c_B27:;
-  w2c_j0 = w2c_l6;
-  w2c_i0 = (u32)(w2c_j0);
-  w2c_i0 = i32_load8_u(m, (u64)(w2c_i0));
-  w2c_l14 = w2c_i0;
-  w2c_j0 = w2c_l8;
-  w2c_l11 = w2c_j0;
-  goto w2c_B25;
-  w2c_B26:;
-  w2c_i0 = w2c_l17;
-  w2c_i1 = 938112u;
-  w2c_i0 = w2c_i0 != w2c_i1;
-  if (w2c_i0) {goto w2c_B24;}
-  w2c_B25:;
-  w2c_i0 = w2c_l14;
-  w2c_i1 = 4294967263u;
-  w2c_i0 += w2c_i1;
-  w2c_i1 = 255u;
-  w2c_i0 &= w2c_i1;
-  w2c_i1 = 93u;
-  w2c_i0 = w2c_i0 <= w2c_i1;
-  if (w2c_i0) {goto w2c_B69;}
-  w2c_j0 = w2c_l9;
-  w2c_l10 = w2c_j0;
-  w2c_j0 = w2c_l11;
-  w2c_l8 = w2c_j0;
-  goto w2c_B23;
-  w2c_B69:;
-  w2c_j0 = w2c_l9;
+    w2c_j0 = w2c_l8;
+    w2c_j1 = 3ull;
+    w2c_j0 += w2c_j1;
+    w2c_l11 = w2c_j0;
+    goto w2c_B11;
+    w2c_B14:;
+    w2c_j0 = w2c_l10;
+    w2c_j1 = 1ull;
+    w2c_j0 += w2c_j1;
+    w2c_l10 = w2c_j0;
+    w2c_j0 = w2c_l6;
+    w2c_i0 = !(w2c_j0);
+    w2c_i0 = !(w2c_i0);
+    if (w2c_i0) {goto w2c_L13;}
+  w2c_j0 = w2c_l10;
   w2c_j1 = 18446744073709551615ull;
   w2c_j0 += w2c_j1;
-  w2c_l12 = w2c_j0;
-  w2c_j0 = w2c_l6;
-  w2c_j1 = 1ull;
-  w2c_j0 += w2c_j1;
-  w2c_l13 = w2c_j0;
-  w2c_i0 = w2c_l14;
-  w2c_i1 = 255u;
-  w2c_i0 &= w2c_i1;
-  w2c_p3 = w2c_i0;
-  w2c_B24:;
+  w2c_l6 = w2c_j0;
   w2c_j0 = w2c_l11;
   w2c_l8 = w2c_j0;
-  goto w2c_B22;
-  w2c_B23:;
-  w2c_j0 = w2c_l7;
-  w2c_i0 = (u32)(w2c_j0);
-  w2c_j1 = w2c_l10;
-  i64_store(m, (u64)(w2c_i0) + 48, w2c_j1);
-  w2c_j0 = w2c_l7;
-  w2c_i0 = (u32)(w2c_j0);
-  w2c_j1 = w2c_l6;
-  i64_store(m, (u64)(w2c_i0) + 40, w2c_j1);
-  w2c_j0 = w2c_l7;
-  w2c_i0 = (u32)(w2c_j0);
-  w2c_j1 = w2c_l8;
-  i64_store(m, (u64)(w2c_i0) + 32, w2c_j1);
-  w2c_j0 = w2c_l7;
-  w2c_j1 = 56ull;
-  w2c_j0 += w2c_j1;
-  w2c_j1 = w2c_l7;
-  w2c_j2 = 32ull;
-  w2c_j1 += w2c_j2;
-  w2c_f29(m, w2c_j0, w2c_j1);
-  w2c_j0 = w2c_l7;
-  w2c_i0 = (u32)(w2c_j0);
-  w2c_i0 = i32_load8_u(m, (u64)(w2c_i0) + 56u);
-  w2c_i1 = 1u;
-  w2c_i0 = w2c_i0 == w2c_i1;
-  if (w2c_i0) {goto w2c_B70;}
-  w2c_j0 = w2c_l10;
+  w2c_j0 = 0ull;
   w2c_l9 = w2c_j0;
-  goto w2c_B21;
-  w2c_B70:;
-  w2c_j0 = w2c_l7;
-  w2c_i0 = (u32)(w2c_j0);
-  w2c_j0 = i64_load(m, (u64)(w2c_i0) + 88u);
-  w2c_l12 = w2c_j0;
-  w2c_j0 = w2c_l7;
-  w2c_i0 = (u32)(w2c_j0);
-  w2c_j0 = i64_load(m, (u64)(w2c_i0) + 80u);
-  w2c_l13 = w2c_j0;
-  w2c_j0 = w2c_l7;
-  w2c_i0 = (u32)(w2c_j0);
-  w2c_j0 = i64_load(m, (u64)(w2c_i0) + 72u);
+  goto w2c_B9;
+  w2c_B12:;
+  w2c_i0 = w2c_p3;
+  w2c_i0 = (u32)(s32)(s8)(u8)(w2c_i0);
+  w2c_i1 = 4294967295u;
+  w2c_i0 = (u32)((s32)w2c_i0 <= (s32)w2c_i1);
+  if (w2c_i0) {goto w2c_B25;}
+  w2c_j0 = 1ull;
   w2c_l11 = w2c_j0;
-  w2c_j0 = w2c_l7;
+  goto w2c_B24;
+  w2c_B25:;
+  w2c_j0 = w2c_l8;
   w2c_i0 = (u32)(w2c_j0);
-  w2c_i0 = i32_load(m, (u64)(w2c_i0) + 64u);
+  w2c_i0 = i32_load8_u(m, (u64)(w2c_i0) + 1u);
+  w2c_i1 = 63u;
+  w2c_i0 &= w2c_i1;
+  w2c_l12 = w2c_i0;
+  w2c_i0 = w2c_p3;
+  w2c_i1 = 223u;
+  w2c_i0 = w2c_i0 > w2c_i1;
+  if (w2c_i0) {goto w2c_B26;}
+  w2c_i0 = w2c_p3;
+  w2c_i1 = 6u;
+  w2c_i0 <<= (w2c_i1 & 31);
+  w2c_i1 = 1984u;
+  w2c_i0 &= w2c_i1;
+  w2c_i1 = w2c_l12;
+  w2c_i0 |= w2c_i1;
   w2c_p3 = w2c_i0;
-  w2c_j0 = w2c_l10;
-  w2c_l9 = w2c_j0;
-  w2c_B22:;
+  w2c_j0 = 2ull;
+  w2c_l11 = w2c_j0;
+  goto w2c_B24;
+  w2c_B26:;
+  w2c_j0 = w2c_l8;
+  w2c_i0 = (u32)(w2c_j0);
+  w2c_i0 = i32_load8_u(m, (u64)(w2c_i0) + 2u);
+  w2c_i1 = 63u;
+  w2c_i0 &= w2c_i1;
+  w2c_p4 = w2c_i0;
+  w2c_i0 = w2c_p3;
+  w2c_i1 = 239u;
+  w2c_i0 = w2c_i0 > w2c_i1;
+  if (w2c_i0) {goto w2c_B27;}
+  w2c_i0 = w2c_l12;
+  w2c_i1 = 6u;
+  w2c_i0 <<= (w2c_i1 & 31);
+  w2c_i1 = w2c_p3;
+  w2c_i2 = 12u;
+  w2c_i1 <<= (w2c_i2 & 31);
+  w2c_i2 = 61440u;
+  w2c_i1 &= w2c_i2;
+  w2c_i0 |= w2c_i1;
+  w2c_i1 = w2c_p4;
+  w2c_i0 |= w2c_i1;
+  w2c_p3 = w2c_i0;
+  w2c_j0 = 3ull;
+  w2c_l11 = w2c_j0;
+  goto w2c_B24;
+  w2c_B27:;
+  w2c_i0 = w2c_p4;
+  w2c_i1 = 6u;
+  w2c_i0 <<= (w2c_i1 & 31);
+  w2c_i1 = w2c_l12;
+  w2c_i2 = 12u;
+  w2c_i1 <<= (w2c_i2 & 31);
+  w2c_i2 = w2c_p3;
+  w2c_i3 = 18u;
+  w2c_i2 <<= (w2c_i3 & 31);
+  w2c_i3 = 1835008u;
+  w2c_i2 &= w2c_i3;
+  w2c_i1 |= w2c_i2;
+  w2c_i0 |= w2c_i1;
+  w2c_j1 = w2c_l8;
+  w2c_i1 = (u32)(w2c_j1);
+  w2c_i1 = i32_load8_u(m, (u64)(w2c_i1) + 3u);
+  w2c_i2 = 63u;
+  w2c_i1 &= w2c_i2;
+  w2c_i0 |= w2c_i1;
+  w2c_p3 = w2c_i0;
+  w2c_j0 = 4ull;
+  w2c_l11 = w2c_j0;
+  w2c_B24:;
+  w2c_j0 = w2c_l9;
+  w2c_j1 = w2c_l11;
+  w2c_j0 -= w2c_j1;
+  w2c_l6 = w2c_j0;
+  w2c_j0 = w2c_l8;
+  w2c_j1 = w2c_l11;
+  w2c_j0 += w2c_j1;
+  w2c_l11 = w2c_j0;
+  w2c_B11:;
   w2c_i0 = w2c_p3;
   w2c_i1 = 27491u;
   w2c_i0 = w2c_i0 != w2c_i1;
-  if (w2c_i0) {goto w2c_B72;}
+  if (w2c_i0) {goto w2c_B28;}
   w2c_i0 = 0u;
-  w2c_l14 = w2c_i0;
-  goto w2c_B71;
-  w2c_B72:;
+  w2c_l12 = w2c_i0;
+  goto w2c_B7;
+  w2c_B28:;
+  w2c_i0 = w2c_p3;
+  w2c_i1 = 36000u;
+  w2c_i0 = w2c_i0 == w2c_i1;
+  if (w2c_i0) {goto w2c_B8;}
   w2c_i0 = w2c_p3;
   w2c_i1 = 36127u;
   w2c_i0 = w2c_i0 == w2c_i1;
-  if (w2c_i0) {goto w2c_B73;}
-  w2c_i0 = w2c_p3;
-  w2c_i1 = 36000u;
-  w2c_i0 = w2c_i0 != w2c_i1;
-  if (w2c_i0) {goto w2c_B21;}
-  w2c_B73:;
-  w2c_i0 = 1u;
-  w2c_l14 = w2c_i0;
-  w2c_B71:;
-  w2c_j0 = w2c_l7;
-  w2c_i1 = w2c_p4;
-  w2c_j2 = w2c_l11;
-  w2c_j3 = 1ull;
-  w2c_j2 += w2c_j3;
-  w2c_j3 = w2c_l13;
-  w2c_j4 = w2c_l12;
-  w2c_f47(m, w2c_j0, w2c_i1, w2c_j2, w2c_j3, w2c_j4);
-  w2c_i0 = 3u;
-  w2c_i1 = 2u;
-  w2c_i2 = w2c_l14;
-  w2c_i0 = w2c_i2 ? w2c_i0 : w2c_i1;
-  w2c_p3 = w2c_i0;
-  goto w2c_B20;
-  w2c_B21:;
-  w2c_j0 = w2c_l7;
-  w2c_i1 = w2c_p4;
-  w2c_j2 = w2c_l8;
-  w2c_j3 = w2c_l6;
-  w2c_j4 = w2c_l9;
-  w2c_f47(m, w2c_j0, w2c_i1, w2c_j2, w2c_j3, w2c_j4);
-  w2c_i0 = 2u;
-  w2c_p3 = w2c_i0;
-  w2c_i0 = 0u;
-  w2c_l14 = w2c_i0;
-  w2c_B20:;
-  w2c_j0 = w2c_l7;
-  w2c_i0 = (u32)(w2c_j0);
-  w2c_j0 = i64_load(m, (u64)(w2c_i0) + 24u);
-  w2c_l8 = w2c_j0;
-  w2c_j0 = w2c_l7;
-  w2c_i0 = (u32)(w2c_j0);
-  w2c_j0 = i64_load(m, (u64)(w2c_i0) + 16u);
-  w2c_l6 = w2c_j0;
-  w2c_j0 = w2c_l7;
-  w2c_i0 = (u32)(w2c_j0);
-  w2c_i0 = i32_load8_u(m, (u64)(w2c_i0));
-  if (w2c_i0) {goto w2c_B74;}
-  w2c_j0 = w2c_l6;
-  w2c_i1 = w2c_p2;
-  w2c_j1 = (u64)(w2c_i1);
-  w2c_j2 = 255ull;
-  w2c_j1 &= w2c_j2;
-  w2c_j2 = 5ull;
-  w2c_j1 <<= (w2c_j2 & 63);
-  w2c_j2 = 68032ull;
-  w2c_j3 = 68016ull;
-  w2c_i4 = w2c_l14;
-  w2c_j2 = w2c_i4 ? w2c_j2 : w2c_j3;
-  w2c_j1 += w2c_j2;
-  w2c_l9 = w2c_j1;
-  w2c_i1 = (u32)(w2c_j1);
-  w2c_j1 = i64_load(m, (u64)(w2c_i1));
-  w2c_i0 = w2c_j0 > w2c_j1;
-  w2c_j1 = w2c_l8;
-  w2c_j2 = w2c_l9;
-  w2c_i2 = (u32)(w2c_j2);
-  w2c_j2 = i64_load(m, (u64)(w2c_i2) + 8u);
-  w2c_l9 = w2c_j2;
-  w2c_i1 = w2c_j1 > w2c_j2;
-  w2c_j2 = w2c_l8;
-  w2c_j3 = w2c_l9;
-  w2c_i2 = w2c_j2 == w2c_j3;
-  w2c_i0 = w2c_i2 ? w2c_i0 : w2c_i1;
-  if (w2c_i0) {goto w2c_B5;}
-  w2c_i0 = w2c_l14;
-  w2c_j0 = (u64)(w2c_i0);
-  w2c_l11 = w2c_j0;
-  goto w2c_B3;
-  w2c_B74:;
-  w2c_i0 = w2c_p3;
-  w2c_j1 = w2c_l7;
-  w2c_i1 = (u32)(w2c_j1);
-  w2c_i1 = i32_load8_u(m, (u64)(w2c_i1) + 8u);
-  w2c_p2 = w2c_i1;
-  w2c_i2 = w2c_p2;
-  w2c_i3 = 2u;
-  w2c_i2 = w2c_i2 == w2c_i3;
-  w2c_p2 = w2c_i2;
-  w2c_i0 = w2c_i2 ? w2c_i0 : w2c_i1;
-  w2c_p3 = w2c_i0;
-  w2c_j0 = 0ull;
-  w2c_l8 = w2c_j0;
-  w2c_j0 = 0ull;
-  w2c_j1 = w2c_l6;
-  w2c_i2 = w2c_p2;
-  w2c_j0 = w2c_i2 ? w2c_j0 : w2c_j1;
-  w2c_l11 = w2c_j0;
-  goto w2c_B1;
-  w2c_B19:;
-  w2c_j0 = w2c_l7;
-  w2c_i0 = (u32)(w2c_j0);
-  w2c_j1 = 0ull;
-  i64_store(m, (u64)(w2c_i0) + 56, w2c_j1);
-  w2c_j0 = w2c_l7;
-  w2c_i0 = (u32)(w2c_j0);
-  w2c_j1 = 0ull;
-  i64_store(m, (u64)(w2c_i0) + 64, w2c_j1);
-  w2c_j0 = w2c_l7;
-  w2c_i0 = (u32)(w2c_j0);
-  w2c_j1 = 0ull;
-  i64_store(m, (u64)(w2c_i0) + 72, w2c_j1);
-  w2c_j0 = w2c_l7;
-  w2c_i0 = (u32)(w2c_j0);
-  w2c_j1 = 0ull;
-  i64_store(m, (u64)(w2c_i0) + 80, w2c_j1);
-  w2c_j0 = w2c_l7;
-  w2c_i0 = (u32)(w2c_j0);
-  w2c_j1 = 0ull;
-  i64_store(m, (u64)(w2c_i0) + 88, w2c_j1);
-  w2c_j0 = w2c_l7;
-  w2c_i0 = (u32)(w2c_j0);
-  w2c_j1 = 0ull;
-  i64_store(m, (u64)(w2c_i0) + 32, w2c_j1);
-  w2c_j0 = w2c_l7;
-  w2c_i0 = (u32)(w2c_j0);
-  w2c_j1 = 0ull;
-  i64_store(m, (u64)(w2c_i0) + 40, w2c_j1);
-  w2c_j0 = w2c_l7;
-  w2c_i0 = (u32)(w2c_j0);
-  w2c_j1 = 0ull;
-  i64_store(m, (u64)(w2c_i0) + 48, w2c_j1);
-  goto w2c_B15;
-  w2c_B18:;
-  w2c_j0 = w2c_l7;
-  w2c_i0 = (u32)(w2c_j0);
-  w2c_j1 = 0ull;
-  i64_store(m, (u64)(w2c_i0) + 56, w2c_j1);
-  w2c_j0 = w2c_l7;
-  w2c_i0 = (u32)(w2c_j0);
-  w2c_j1 = 0ull;
-  i64_store(m, (u64)(w2c_i0) + 64, w2c_j1);
-  w2c_j0 = w2c_l7;
-  w2c_i0 = (u32)(w2c_j0);
-  w2c_j1 = 0ull;
-  i64_store(m, (u64)(w2c_i0) + 72, w2c_j1);
-  w2c_j0 = w2c_l7;
-  w2c_i0 = (u32)(w2c_j0);
-  w2c_j1 = 0ull;
-  i64_store(m, (u64)(w2c_i0) + 80, w2c_j1);
-  w2c_j0 = w2c_l7;
-  w2c_i0 = (u32)(w2c_j0);
-  w2c_j1 = 0ull;
-  i64_store(m, (u64)(w2c_i0) + 88, w2c_j1);
-  w2c_j0 = w2c_l7;
-  w2c_i0 = (u32)(w2c_j0);
-  w2c_j1 = 0ull;
-  i64_store(m, (u64)(w2c_i0) + 32, w2c_j1);
-  w2c_j0 = w2c_l7;
-  w2c_i0 = (u32)(w2c_j0);
-  w2c_j1 = 0ull;
-  i64_store(m, (u64)(w2c_i0) + 40, w2c_j1);
-  w2c_j0 = w2c_l7;
-  w2c_i0 = (u32)(w2c_j0);
-  w2c_j1 = 0ull;
-  i64_store(m, (u64)(w2c_i0) + 48, w2c_j1);
-  goto w2c_B13;
-  w2c_B17:;
-  w2c_j0 = 0ull;
-  w2c_l8 = w2c_j0;
-  w2c_j0 = w2c_p0;
-  w2c_l6 = w2c_j0;
-  w2c_j0 = w2c_p1;
-  w2c_l9 = w2c_j0;
-  w2c_B16:;
-  w2c_j0 = 0ull;
-  w2c_l10 = w2c_j0;
-  w2c_j0 = w2c_l7;
-  w2c_i0 = (u32)(w2c_j0);
-  w2c_j1 = 0ull;
-  i64_store(m, (u64)(w2c_i0) + 56, w2c_j1);
-  w2c_j0 = w2c_l7;
-  w2c_i0 = (u32)(w2c_j0);
-  w2c_j1 = 0ull;
-  i64_store(m, (u64)(w2c_i0) + 64, w2c_j1);
-  w2c_j0 = w2c_l7;
-  w2c_i0 = (u32)(w2c_j0);
-  w2c_j1 = 0ull;
-  i64_store(m, (u64)(w2c_i0) + 72, w2c_j1);
-  w2c_j0 = w2c_l7;
-  w2c_i0 = (u32)(w2c_j0);
-  w2c_j1 = 0ull;
-  i64_store(m, (u64)(w2c_i0) + 80, w2c_j1);
-  w2c_j0 = w2c_l7;
-  w2c_i0 = (u32)(w2c_j0);
-  w2c_j1 = 0ull;
-  i64_store(m, (u64)(w2c_i0) + 88, w2c_j1);
-  w2c_j0 = w2c_l7;
-  w2c_i0 = (u32)(w2c_j0);
-  w2c_j1 = 0ull;
-  i64_store(m, (u64)(w2c_i0) + 32, w2c_j1);
-  w2c_j0 = w2c_l7;
-  w2c_i0 = (u32)(w2c_j0);
-  w2c_j1 = 0ull;
-  i64_store(m, (u64)(w2c_i0) + 40, w2c_j1);
-  w2c_j0 = w2c_l7;
-  w2c_i0 = (u32)(w2c_j0);
-  w2c_j1 = 0ull;
-  i64_store(m, (u64)(w2c_i0) + 48, w2c_j1);
-  w2c_j0 = w2c_l9;
-  w2c_j1 = 3ull;
-  w2c_i0 = w2c_j0 < w2c_j1;
-  if (w2c_i0) {goto w2c_B14;}
-  w2c_j0 = w2c_l8;
-  w2c_l11 = w2c_j0;
-  w2c_B15:;
-  w2c_j0 = w2c_l6;
-  w2c_i0 = (u32)(w2c_j0);
-  w2c_i0 = i32_load8_u(m, (u64)(w2c_i0));
-  w2c_p4 = w2c_i0;
-  w2c_i1 = 240u;
-  w2c_i0 &= w2c_i1;
-  w2c_i1 = 224u;
-  w2c_i0 = w2c_i0 != w2c_i1;
-  if (w2c_i0) {goto w2c_B11;}
-  w2c_j0 = w2c_l6;
-  w2c_i0 = (u32)(w2c_j0);
-  w2c_i0 = i32_load8_u(m, (u64)(w2c_i0) + 1u);
-  w2c_l14 = w2c_i0;
-  w2c_i1 = 6u;
-  w2c_i0 <<= (w2c_i1 & 31);
-  w2c_i1 = w2c_p4;
-  w2c_i2 = 12u;
-  w2c_i1 <<= (w2c_i2 & 31);
-  w2c_i0 += w2c_i1;
-  w2c_j1 = w2c_l6;
-  w2c_i1 = (u32)(w2c_j1);
-  w2c_i1 = i32_load8_u(m, (u64)(w2c_i1) + 2u);
-  w2c_l15 = w2c_i1;
-  w2c_i0 += w2c_i1;
-  w2c_l16 = w2c_i0;
-  w2c_i1 = 4294041472u;
-  w2c_i0 += w2c_i1;
-  w2c_p3 = w2c_i0;
-  w2c_j0 = w2c_l9;
-  w2c_j1 = 18446744073709551613ull;
-  w2c_j0 += w2c_j1;
-  w2c_l12 = w2c_j0;
-  w2c_j0 = w2c_l6;
-  w2c_j1 = 3ull;
-  w2c_j0 += w2c_j1;
-  w2c_l13 = w2c_j0;
-  w2c_i0 = w2c_l14;
-  w2c_i1 = 8u;
-  w2c_i0 <<= (w2c_i1 & 31);
-  w2c_i1 = w2c_l15;
-  w2c_i2 = 16u;
-  w2c_i1 <<= (w2c_i2 & 31);
-  w2c_i0 |= w2c_i1;
-  w2c_i1 = w2c_p4;
-  w2c_i0 |= w2c_i1;
-  w2c_l14 = w2c_i0;
-  w2c_j0 = (u64)(w2c_i0);
-  w2c_j1 = 953497ull;
-  w2c_j0 *= w2c_j1;
-  w2c_j1 = 22ull;
-  w2c_j0 >>= (w2c_j1 & 63);
-  w2c_j1 = 1016ull;
-  w2c_j0 &= w2c_j1;
-  w2c_l8 = w2c_j0;
-  w2c_i0 = (u32)(w2c_j0);
-  w2c_i0 = i32_load(m, (u64)(w2c_i0) + 66976u);
-  w2c_i1 = w2c_l14;
-  w2c_i0 = w2c_i0 != w2c_i1;
-  if (w2c_i0) {goto w2c_B75;}
-  w2c_j0 = w2c_l8;
-  w2c_j1 = 66980ull;
-  w2c_j0 += w2c_j1;
-  w2c_i0 = (u32)(w2c_j0);
-  w2c_i0 = i32_load8_u(m, (u64)(w2c_i0));
-  w2c_i1 = 255u;
-  w2c_i0 &= w2c_i1;
-  w2c_i1 = 2u;
-  w2c_i0 = w2c_i0 != w2c_i1;
-  if (w2c_i0) {goto w2c_B10;}
-  w2c_B75:;
-  w2c_i0 = w2c_p3;
-  w2c_i1 = 127u;
-  w2c_i0 = w2c_i0 > w2c_i1;
-  if (w2c_i0) {goto w2c_B76;}
-  w2c_i0 = w2c_l16;
-  w2c_i1 = 4294041463u;
-  w2c_i0 += w2c_i1;
-  w2c_i1 = 5u;
-  w2c_i0 = w2c_i0 < w2c_i1;
-  if (w2c_i0) {goto w2c_B11;}
-  w2c_i0 = w2c_l16;
-  w2c_i1 = 925856u;
-  w2c_i0 = w2c_i0 == w2c_i1;
-  if (w2c_i0) {goto w2c_B11;}
-  goto w2c_B10;
-  w2c_B76:;
-  w2c_i0 = w2c_l16;
-  w2c_i1 = 4294033280u;
-  w2c_i0 += w2c_i1;
-  w2c_i1 = 11u;
-  w2c_i0 = w2c_i0 < w2c_i1;
-  if (w2c_i0) {goto w2c_B11;}
-  w2c_i0 = w2c_l16;
-  w2c_i1 = 934055u;
-  w2c_i0 = (u32)((s32)w2c_i0 > (s32)w2c_i1);
-  if (w2c_i0) {goto w2c_B77;}
-  w2c_i0 = w2c_l16;
-  w2c_i1 = 925957u;
-  w2c_i0 = w2c_i0 == w2c_i1;
-  if (w2c_i0) {goto w2c_B11;}
-  w2c_i0 = w2c_l16;
-  w2c_i1 = 925984u;
-  w2c_i0 = w2c_i0 == w2c_i1;
-  if (w2c_i0) {goto w2c_B11;}
-  w2c_i0 = w2c_l16;
-  w2c_i1 = 931584u;
-  w2c_i0 = w2c_i0 == w2c_i1;
-  if (w2c_i0) {goto w2c_B11;}
-  goto w2c_B10;
-  w2c_B77:;
-  w2c_i0 = w2c_l16;
-  w2c_i1 = 4294033240u;
-  w2c_i0 += w2c_i1;
-  w2c_l14 = w2c_i0;
-  w2c_i1 = 55u;
-  w2c_i0 = w2c_i0 > w2c_i1;
-  if (w2c_i0) {goto w2c_B12;}
-  w2c_j0 = 1ull;
-  w2c_i1 = w2c_l14;
-  w2c_j1 = (u64)(w2c_i1);
-  w2c_j0 <<= (w2c_j1 & 63);
-  w2c_j1 = 36028797018964099ull;
-  w2c_j0 &= w2c_j1;
-  w2c_j1 = 0ull;
-  w2c_i0 = w2c_j0 == w2c_j1;
-  if (w2c_i0) {goto w2c_B12;}
-  goto w2c_B11;
-  w2c_B14:;
-  w2c_j0 = w2c_l9;
-  w2c_i0 = !(w2c_j0);
-  if (w2c_i0) {goto w2c_B9;}
-  w2c_B13:;
-  w2c_j0 = w2c_l6;
-  w2c_i0 = (u32)(w2c_j0);
-  w2c_i0 = i32_load8_u(m, (u64)(w2c_i0));
-  w2c_p4 = w2c_i0;
-  w2c_j0 = w2c_l8;
-  w2c_l11 = w2c_j0;
-  goto w2c_B11;
-  w2c_B12:;
-  w2c_i0 = w2c_l16;
-  w2c_i1 = 938112u;
-  w2c_i0 = w2c_i0 != w2c_i1;
-  if (w2c_i0) {goto w2c_B10;}
-  w2c_B11:;
-  w2c_i0 = w2c_p4;
-  w2c_i1 = 4294967263u;
-  w2c_i0 += w2c_i1;
-  w2c_i1 = 255u;
-  w2c_i0 &= w2c_i1;
-  w2c_i1 = 93u;
-  w2c_i0 = w2c_i0 <= w2c_i1;
-  if (w2c_i0) {goto w2c_B78;}
-  w2c_j0 = w2c_l9;
-  w2c_l10 = w2c_j0;
-  w2c_j0 = w2c_l11;
-  w2c_l8 = w2c_j0;
-  goto w2c_B9;
-  w2c_B78:;
-  w2c_i0 = w2c_p4;
-  w2c_i1 = 255u;
-  w2c_i0 &= w2c_i1;
-  w2c_p3 = w2c_i0;
-  w2c_j0 = w2c_l6;
-  w2c_j1 = 1ull;
-  w2c_j0 += w2c_j1;
-  w2c_l13 = w2c_j0;
-  w2c_j0 = w2c_l9;
+  if (w2c_i0) {goto w2c_B8;}
+  w2c_j0 = w2c_l10;
   w2c_j1 = 18446744073709551615ull;
   w2c_j0 += w2c_j1;
-  w2c_l12 = w2c_j0;
-  w2c_B10:;
-  w2c_j0 = w2c_l11;
-  w2c_l8 = w2c_j0;
-  goto w2c_B8;
+  w2c_l6 = w2c_j0;
   w2c_B9:;
   w2c_j0 = w2c_l7;
-  w2c_i0 = (u32)(w2c_j0);
-  w2c_j1 = w2c_l10;
-  i64_store(m, (u64)(w2c_i0) + 48, w2c_j1);
-  w2c_j0 = w2c_l7;
-  w2c_i0 = (u32)(w2c_j0);
   w2c_j1 = w2c_l6;
-  i64_store(m, (u64)(w2c_i0) + 40, w2c_j1);
-  w2c_j0 = w2c_l7;
-  w2c_i0 = (u32)(w2c_j0);
-  w2c_j1 = w2c_l8;
-  i64_store(m, (u64)(w2c_i0) + 32, w2c_j1);
-  w2c_j0 = w2c_l7;
-  w2c_j1 = 56ull;
-  w2c_j0 += w2c_j1;
-  w2c_j1 = w2c_l7;
-  w2c_j2 = 32ull;
-  w2c_j1 += w2c_j2;
-  w2c_f29(m, w2c_j0, w2c_j1);
-  w2c_j0 = w2c_l7;
-  w2c_i0 = (u32)(w2c_j0);
-  w2c_i0 = i32_load8_u(m, (u64)(w2c_i0) + 56u);
-  w2c_i1 = 1u;
-  w2c_i0 = w2c_i0 == w2c_i1;
-  if (w2c_i0) {goto w2c_B79;}
-  w2c_j0 = w2c_l10;
-  w2c_l9 = w2c_j0;
-  goto w2c_B7;
-  w2c_B79:;
-  w2c_j0 = w2c_l7;
-  w2c_i0 = (u32)(w2c_j0);
-  w2c_j0 = i64_load(m, (u64)(w2c_i0) + 88u);
-  w2c_l12 = w2c_j0;
-  w2c_j0 = w2c_l7;
-  w2c_i0 = (u32)(w2c_j0);
-  w2c_j0 = i64_load(m, (u64)(w2c_i0) + 80u);
-  w2c_l13 = w2c_j0;
-  w2c_j0 = w2c_l7;
-  w2c_i0 = (u32)(w2c_j0);
-  w2c_j0 = i64_load(m, (u64)(w2c_i0) + 72u);
-  w2c_l11 = w2c_j0;
-  w2c_j0 = w2c_l7;
-  w2c_i0 = (u32)(w2c_j0);
-  w2c_i0 = i32_load(m, (u64)(w2c_i0) + 64u);
-  w2c_p3 = w2c_i0;
-  w2c_j0 = w2c_l10;
-  w2c_l9 = w2c_j0;
-  w2c_B8:;
-  w2c_i0 = w2c_p3;
-  w2c_i1 = 27491u;
-  w2c_i0 = w2c_i0 != w2c_i1;
-  if (w2c_i0) {goto w2c_B81;}
-  w2c_i0 = 0u;
-  w2c_p4 = w2c_i0;
-  goto w2c_B80;
-  w2c_B81:;
-  w2c_i0 = w2c_p3;
-  w2c_i1 = 36127u;
-  w2c_i0 = w2c_i0 == w2c_i1;
-  if (w2c_i0) {goto w2c_B82;}
-  w2c_i0 = w2c_p3;
-  w2c_i1 = 36000u;
-  w2c_i0 = w2c_i0 != w2c_i1;
-  if (w2c_i0) {goto w2c_B7;}
-  w2c_B82:;
-  w2c_i0 = 1u;
-  w2c_p4 = w2c_i0;
-  w2c_B80:;
-  w2c_j0 = w2c_l7;
-  w2c_j1 = w2c_l11;
-  w2c_j2 = 1ull;
-  w2c_j1 += w2c_j2;
-  w2c_j2 = w2c_l13;
-  w2c_j3 = w2c_l12;
-  w2c_f42(m, w2c_j0, w2c_j1, w2c_j2, w2c_j3);
-  w2c_i0 = 3u;
-  w2c_i1 = 2u;
-  w2c_i2 = w2c_p4;
-  w2c_i0 = w2c_i2 ? w2c_i0 : w2c_i1;
-  w2c_p3 = w2c_i0;
-  goto w2c_B6;
-  w2c_B7:;
-  w2c_j0 = w2c_l7;
-  w2c_j1 = w2c_l8;
-  w2c_j2 = w2c_l6;
+  w2c_j2 = w2c_l8;
   w2c_j3 = w2c_l9;
-  w2c_f42(m, w2c_j0, w2c_j1, w2c_j2, w2c_j3);
+  w2c_f47(m, w2c_j0, w2c_j1, w2c_j2, w2c_j3);
   w2c_i0 = 2u;
   w2c_p3 = w2c_i0;
   w2c_i0 = 0u;
-  w2c_p4 = w2c_i0;
+  w2c_l12 = w2c_i0;
+  goto w2c_B6;
+  w2c_B8:;
+  w2c_i0 = 1u;
+  w2c_l12 = w2c_i0;
+  w2c_B7:;
+  w2c_j0 = w2c_l7;
+  w2c_j1 = w2c_l10;
+  w2c_j2 = w2c_l11;
+  w2c_j3 = w2c_l6;
+  w2c_f47(m, w2c_j0, w2c_j1, w2c_j2, w2c_j3);
+  w2c_i0 = 3u;
+  w2c_i1 = 2u;
+  w2c_i2 = w2c_l12;
+  w2c_i0 = w2c_i2 ? w2c_i0 : w2c_i1;
+  w2c_p3 = w2c_i0;
   w2c_B6:;
   w2c_j0 = w2c_l7;
   w2c_i0 = (u32)(w2c_j0);
@@ -37116,7 +37334,7 @@ static u32 w2c_f46(module *m, u64 w2c_p0, u64 w2c_p1, u32 w2c_p2, u32 w2c_p3, u3
   w2c_j0 = w2c_l7;
   w2c_i0 = (u32)(w2c_j0);
   w2c_i0 = i32_load8_u(m, (u64)(w2c_i0));
-  if (w2c_i0) {goto w2c_B2;}
+  if (w2c_i0) {goto w2c_B29;}
   w2c_j0 = w2c_l6;
   w2c_i1 = w2c_p2;
   w2c_j1 = (u64)(w2c_i1);
@@ -37126,7 +37344,7 @@ static u32 w2c_f46(module *m, u64 w2c_p0, u64 w2c_p1, u32 w2c_p2, u32 w2c_p3, u3
   w2c_j1 <<= (w2c_j2 & 63);
   w2c_j2 = 68032ull;
   w2c_j3 = 68016ull;
-  w2c_i4 = w2c_p4;
+  w2c_i4 = w2c_l12;
   w2c_j2 = w2c_i4 ? w2c_j2 : w2c_j3;
   w2c_j1 += w2c_j2;
   w2c_l9 = w2c_j1;
@@ -37143,55 +37361,555 @@ static u32 w2c_f46(module *m, u64 w2c_p0, u64 w2c_p1, u32 w2c_p2, u32 w2c_p3, u3
   w2c_j3 = w2c_l9;
   w2c_i2 = w2c_j2 == w2c_j3;
   w2c_i0 = w2c_i2 ? w2c_i0 : w2c_i1;
-  w2c_i0 = !(w2c_i0);
-  if (w2c_i0) {goto w2c_B4;}
-  w2c_B5:;
-  w2c_j0 = 0ull;
-  w2c_l6 = w2c_j0;
-  w2c_i0 = 1u;
-  w2c_p2 = w2c_i0;
-  w2c_j0 = 0ull;
-  w2c_l8 = w2c_j0;
-  w2c_j0 = 0ull;
-  w2c_l11 = w2c_j0;
-  goto w2c_B0;
-  w2c_B4:;
-  w2c_i0 = w2c_p4;
+  if (w2c_i0) {goto w2c_B1;}
+  w2c_i0 = w2c_l12;
   w2c_j0 = (u64)(w2c_i0);
   w2c_l11 = w2c_j0;
-  w2c_B3:;
-  w2c_i0 = 0u;
-  w2c_p2 = w2c_i0;
-  w2c_i0 = 0u;
-  w2c_p3 = w2c_i0;
-  goto w2c_B0;
-  w2c_B2:;
+  goto w2c_B2;
+  w2c_B29:;
   w2c_i0 = w2c_p3;
   w2c_j1 = w2c_l7;
   w2c_i1 = (u32)(w2c_j1);
   w2c_i1 = i32_load8_u(m, (u64)(w2c_i1) + 8u);
-  w2c_p2 = w2c_i1;
-  w2c_i2 = w2c_p2;
+  w2c_l12 = w2c_i1;
+  w2c_i2 = w2c_l12;
   w2c_i3 = 2u;
   w2c_i2 = w2c_i2 == w2c_i3;
-  w2c_p2 = w2c_i2;
+  w2c_l12 = w2c_i2;
   w2c_i0 = w2c_i2 ? w2c_i0 : w2c_i1;
   w2c_p3 = w2c_i0;
   w2c_j0 = 0ull;
   w2c_l8 = w2c_j0;
   w2c_j0 = 0ull;
   w2c_j1 = w2c_l6;
-  w2c_i2 = w2c_p2;
+  w2c_i2 = w2c_l12;
   w2c_j0 = w2c_i2 ? w2c_j0 : w2c_j1;
   w2c_l11 = w2c_j0;
-  w2c_B1:;
-  w2c_i0 = 1u;
-  w2c_p2 = w2c_i0;
+  goto w2c_B3;
+  w2c_B5:;
+  UNREACHABLE;
+  w2c_B4:;
   w2c_j0 = 0ull;
   w2c_l6 = w2c_j0;
-  w2c_B0:;
+  w2c_j0 = w2c_l7;
+  w2c_i0 = (u32)(w2c_j0);
+  w2c_j1 = 0ull;
+  i64_store(m, (u64)(w2c_i0) + 24, w2c_j1);
+  w2c_j0 = w2c_l7;
+  w2c_i0 = (u32)(w2c_j0);
+  w2c_j1 = 0ull;
+  i64_store(m, (u64)(w2c_i0) + 16, w2c_j1);
+  w2c_j0 = w2c_l7;
+  w2c_i0 = (u32)(w2c_j0);
+  w2c_j1 = 0ull;
+  i64_store(m, (u64)(w2c_i0) + 8, w2c_j1);
+  w2c_j0 = w2c_l7;
+  w2c_i0 = (u32)(w2c_j0);
+  w2c_j1 = 0ull;
+  i64_store(m, (u64)(w2c_i0), w2c_j1);
+  w2c_j0 = w2c_p0;
+  w2c_l8 = w2c_j0;
+  w2c_j0 = w2c_p1;
+  w2c_l9 = w2c_j0;
   w2c_i0 = w2c_p2;
-  if (w2c_i0) {goto w2c_B84;}
+  w2c_i1 = 255u;
+  w2c_i0 &= w2c_i1;
+  w2c_i1 = 5u;
+  w2c_i0 = w2c_i0 < w2c_i1;
+  if (w2c_i0) {goto w2c_B33;}
+  w2c_j0 = 0ull;
+  w2c_l9 = w2c_j0;
+  w2c_j0 = w2c_p1;
+  w2c_i0 = !(w2c_j0);
+  w2c_i0 = !(w2c_i0);
+  if (w2c_i0) {goto w2c_B34;}
+  w2c_j0 = 0ull;
+  w2c_l6 = w2c_j0;
+  w2c_j0 = w2c_p0;
+  w2c_l8 = w2c_j0;
+  goto w2c_B33;
+  w2c_B34:;
+  w2c_j0 = 1ull;
+  w2c_l10 = w2c_j0;
+  w2c_j0 = w2c_p1;
+  w2c_l6 = w2c_j0;
+  w2c_j0 = w2c_p0;
+  w2c_l11 = w2c_j0;
+  w2c_L37:
+    w2c_j0 = w2c_l6;
+    w2c_l9 = w2c_j0;
+    w2c_j0 = w2c_l11;
+    w2c_l8 = w2c_j0;
+    w2c_i0 = (u32)(w2c_j0);
+    w2c_i0 = i32_load8_u(m, (u64)(w2c_i0));
+    w2c_p3 = w2c_i0;
+    w2c_i1 = 32u;
+    w2c_i0 = w2c_i0 > w2c_i1;
+    if (w2c_i0) {goto w2c_B39;}
+    w2c_j0 = 1ull;
+    w2c_i1 = w2c_p3;
+    w2c_j1 = (u64)(w2c_i1);
+    w2c_j0 <<= (w2c_j1 & 63);
+    w2c_j1 = 4294983168ull;
+    w2c_j0 &= w2c_j1;
+    w2c_j1 = 0ull;
+    w2c_i0 = w2c_j0 == w2c_j1;
+    if (w2c_i0) {goto w2c_B39;}
+    w2c_j0 = w2c_l9;
+    w2c_j1 = 18446744073709551615ull;
+    w2c_j0 += w2c_j1;
+    w2c_l6 = w2c_j0;
+    w2c_j0 = w2c_l8;
+    w2c_j1 = 1ull;
+    w2c_j0 += w2c_j1;
+    w2c_l11 = w2c_j0;
+    goto w2c_B38;
+    w2c_B39:;
+    w2c_i0 = w2c_p3;
+    w2c_i1 = 4294967102u;
+    w2c_i0 += w2c_i1;
+    w2c_l12 = w2c_i0;
+    w2c_i1 = 33u;
+    w2c_i0 = w2c_i0 > w2c_i1;
+    if (w2c_i0) {goto w2c_B40;}
+    w2c_j0 = 1ull;
+    w2c_i1 = w2c_l12;
+    w2c_j1 = (u64)(w2c_i1);
+    w2c_j0 <<= (w2c_j1 & 63);
+    w2c_j1 = 15032385537ull;
+    w2c_j0 &= w2c_j1;
+    w2c_j1 = 0ull;
+    w2c_i0 = w2c_j0 == w2c_j1;
+    if (w2c_i0) {goto w2c_B40;}
+    w2c_j0 = w2c_l8;
+    w2c_i0 = (u32)(w2c_j0);
+    w2c_i0 = i32_load8_u(m, (u64)(w2c_i0) + 1u);
+    w2c_l12 = w2c_i0;
+    w2c_j0 = w2c_l9;
+    w2c_j1 = 3ull;
+    w2c_i0 = w2c_j0 < w2c_j1;
+    if (w2c_i0) {goto w2c_B42;}
+    w2c_i0 = w2c_p3;
+    w2c_i1 = 240u;
+    w2c_i0 &= w2c_i1;
+    w2c_i1 = 224u;
+    w2c_i0 = w2c_i0 != w2c_i1;
+    if (w2c_i0) {goto w2c_B42;}
+    w2c_i0 = w2c_p3;
+    w2c_i1 = 12u;
+    w2c_i0 <<= (w2c_i1 & 31);
+    w2c_i1 = w2c_l12;
+    w2c_i2 = 6u;
+    w2c_i1 <<= (w2c_i2 & 31);
+    w2c_i0 += w2c_i1;
+    w2c_j1 = w2c_l8;
+    w2c_i1 = (u32)(w2c_j1);
+    w2c_i1 = i32_load8_u(m, (u64)(w2c_i1) + 2u);
+    w2c_i0 += w2c_i1;
+    w2c_i1 = 4294041472u;
+    w2c_i0 += w2c_i1;
+    w2c_p3 = w2c_i0;
+    w2c_j0 = w2c_l9;
+    w2c_j1 = 18446744073709551613ull;
+    w2c_j0 += w2c_j1;
+    w2c_l6 = w2c_j0;
+    w2c_j0 = w2c_l8;
+    w2c_j1 = 3ull;
+    w2c_j0 += w2c_j1;
+    w2c_l11 = w2c_j0;
+    goto w2c_B41;
+    w2c_B42:;
+    w2c_i0 = w2c_l12;
+    w2c_i1 = 63u;
+    w2c_i0 &= w2c_i1;
+    w2c_l12 = w2c_i0;
+    w2c_i0 = w2c_p3;
+    w2c_i1 = 223u;
+    w2c_i0 = w2c_i0 > w2c_i1;
+    if (w2c_i0) {goto w2c_B44;}
+    w2c_i0 = w2c_p3;
+    w2c_i1 = 6u;
+    w2c_i0 <<= (w2c_i1 & 31);
+    w2c_i1 = 1984u;
+    w2c_i0 &= w2c_i1;
+    w2c_i1 = w2c_l12;
+    w2c_i0 |= w2c_i1;
+    w2c_p3 = w2c_i0;
+    w2c_j0 = 2ull;
+    w2c_l11 = w2c_j0;
+    goto w2c_B43;
+    w2c_B44:;
+    w2c_i0 = w2c_l12;
+    w2c_i1 = 6u;
+    w2c_i0 <<= (w2c_i1 & 31);
+    w2c_i1 = w2c_p3;
+    w2c_i2 = 12u;
+    w2c_i1 <<= (w2c_i2 & 31);
+    w2c_i2 = 61440u;
+    w2c_i1 &= w2c_i2;
+    w2c_i0 |= w2c_i1;
+    w2c_j1 = w2c_l8;
+    w2c_i1 = (u32)(w2c_j1);
+    w2c_i1 = i32_load8_u(m, (u64)(w2c_i1) + 2u);
+    w2c_i2 = 63u;
+    w2c_i1 &= w2c_i2;
+    w2c_i0 |= w2c_i1;
+    w2c_p3 = w2c_i0;
+    w2c_j0 = 3ull;
+    w2c_l11 = w2c_j0;
+    w2c_B43:;
+    w2c_j0 = w2c_l9;
+    w2c_j1 = w2c_l11;
+    w2c_j0 -= w2c_j1;
+    w2c_l6 = w2c_j0;
+    w2c_j0 = w2c_l8;
+    w2c_j1 = w2c_l11;
+    w2c_j0 += w2c_j1;
+    w2c_l11 = w2c_j0;
+    w2c_B41:;
+    w2c_i0 = w2c_p3;
+    w2c_i1 = 127u;
+    w2c_i0 = w2c_i0 > w2c_i1;
+    if (w2c_i0) {goto w2c_B45;}
+    w2c_i0 = w2c_p3;
+    w2c_i1 = 4294967287u;
+    w2c_i0 += w2c_i1;
+    w2c_i1 = 5u;
+    w2c_i0 = w2c_i0 < w2c_i1;
+    if (w2c_i0) {goto w2c_B38;}
+    w2c_i0 = w2c_p3;
+    w2c_i1 = 32u;
+    w2c_i0 = w2c_i0 != w2c_i1;
+    if (w2c_i0) {goto w2c_B40;}
+    goto w2c_B38;
+    w2c_B45:;
+    w2c_i0 = w2c_p3;
+    w2c_i1 = 4294959104u;
+    w2c_i0 += w2c_i1;
+    w2c_i1 = 11u;
+    w2c_i0 = w2c_i0 < w2c_i1;
+    if (w2c_i0) {goto w2c_B38;}
+    w2c_i0 = w2c_p3;
+    w2c_i1 = 8231u;
+    w2c_i0 = (u32)((s32)w2c_i0 > (s32)w2c_i1);
+    if (w2c_i0) {goto w2c_B46;}
+    w2c_i0 = w2c_p3;
+    w2c_i1 = 133u;
+    w2c_i0 = w2c_i0 == w2c_i1;
+    if (w2c_i0) {goto w2c_B38;}
+    w2c_i0 = w2c_p3;
+    w2c_i1 = 160u;
+    w2c_i0 = w2c_i0 == w2c_i1;
+    if (w2c_i0) {goto w2c_B38;}
+    w2c_i0 = w2c_p3;
+    w2c_i1 = 5760u;
+    w2c_i0 = w2c_i0 != w2c_i1;
+    if (w2c_i0) {goto w2c_B40;}
+    goto w2c_B38;
+    w2c_B46:;
+    w2c_i0 = w2c_p3;
+    w2c_i1 = 4294959064u;
+    w2c_i0 += w2c_i1;
+    w2c_l12 = w2c_i0;
+    w2c_i1 = 55u;
+    w2c_i0 = w2c_i0 > w2c_i1;
+    if (w2c_i0) {goto w2c_B47;}
+    w2c_j0 = 1ull;
+    w2c_i1 = w2c_l12;
+    w2c_j1 = (u64)(w2c_i1);
+    w2c_j0 <<= (w2c_j1 & 63);
+    w2c_j1 = 36028797018964099ull;
+    w2c_j0 &= w2c_j1;
+    w2c_j1 = 0ull;
+    w2c_i0 = w2c_j0 != w2c_j1;
+    if (w2c_i0) {goto w2c_B38;}
+    w2c_B47:;
+    w2c_i0 = w2c_p3;
+    w2c_i1 = 12288u;
+    w2c_i0 = w2c_i0 == w2c_i1;
+    if (w2c_i0) {goto w2c_B38;}
+    w2c_B40:;
+    w2c_j0 = w2c_l8;
+    w2c_i0 = (u32)(w2c_j0);
+    w2c_i0 = i32_load8_u(m, (u64)(w2c_i0));
+    w2c_p3 = w2c_i0;
+    w2c_j0 = w2c_l9;
+    w2c_j1 = 3ull;
+    w2c_i0 = w2c_j0 < w2c_j1;
+    if (w2c_i0) {goto w2c_B36;}
+    w2c_i0 = w2c_p3;
+    w2c_i1 = 240u;
+    w2c_i0 &= w2c_i1;
+    w2c_i1 = 224u;
+    w2c_i0 = w2c_i0 != w2c_i1;
+    if (w2c_i0) {goto w2c_B36;}
+    w2c_i0 = w2c_p3;
+    w2c_i1 = 12u;
+    w2c_i0 <<= (w2c_i1 & 31);
+    w2c_j1 = w2c_l8;
+    w2c_i1 = (u32)(w2c_j1);
+    w2c_i1 = i32_load8_u(m, (u64)(w2c_i1) + 1u);
+    w2c_i2 = 6u;
+    w2c_i1 <<= (w2c_i2 & 31);
+    w2c_i0 += w2c_i1;
+    w2c_j1 = w2c_l8;
+    w2c_i1 = (u32)(w2c_j1);
+    w2c_i1 = i32_load8_u(m, (u64)(w2c_i1) + 2u);
+    w2c_i0 += w2c_i1;
+    w2c_i1 = 4294041472u;
+    w2c_i0 += w2c_i1;
+    w2c_p3 = w2c_i0;
+    w2c_j0 = w2c_l9;
+    w2c_j1 = 18446744073709551613ull;
+    w2c_j0 += w2c_j1;
+    w2c_l6 = w2c_j0;
+    w2c_j0 = w2c_l8;
+    w2c_j1 = 3ull;
+    w2c_j0 += w2c_j1;
+    w2c_l11 = w2c_j0;
+    goto w2c_B35;
+    w2c_B38:;
+    w2c_j0 = w2c_l10;
+    w2c_j1 = 1ull;
+    w2c_j0 += w2c_j1;
+    w2c_l10 = w2c_j0;
+    w2c_j0 = w2c_l6;
+    w2c_i0 = !(w2c_j0);
+    w2c_i0 = !(w2c_i0);
+    if (w2c_i0) {goto w2c_L37;}
+  w2c_j0 = w2c_l10;
+  w2c_j1 = 18446744073709551615ull;
+  w2c_j0 += w2c_j1;
+  w2c_l6 = w2c_j0;
+  w2c_j0 = w2c_l11;
+  w2c_l8 = w2c_j0;
+  w2c_j0 = 0ull;
+  w2c_l9 = w2c_j0;
+  goto w2c_B33;
+  w2c_B36:;
+  w2c_i0 = w2c_p3;
+  w2c_i0 = (u32)(s32)(s8)(u8)(w2c_i0);
+  w2c_i1 = 4294967295u;
+  w2c_i0 = (u32)((s32)w2c_i0 <= (s32)w2c_i1);
+  if (w2c_i0) {goto w2c_B49;}
+  w2c_j0 = 1ull;
+  w2c_l11 = w2c_j0;
+  goto w2c_B48;
+  w2c_B49:;
+  w2c_j0 = w2c_l8;
+  w2c_i0 = (u32)(w2c_j0);
+  w2c_i0 = i32_load8_u(m, (u64)(w2c_i0) + 1u);
+  w2c_i1 = 63u;
+  w2c_i0 &= w2c_i1;
+  w2c_l12 = w2c_i0;
+  w2c_i0 = w2c_p3;
+  w2c_i1 = 223u;
+  w2c_i0 = w2c_i0 > w2c_i1;
+  if (w2c_i0) {goto w2c_B50;}
+  w2c_i0 = w2c_p3;
+  w2c_i1 = 6u;
+  w2c_i0 <<= (w2c_i1 & 31);
+  w2c_i1 = 1984u;
+  w2c_i0 &= w2c_i1;
+  w2c_i1 = w2c_l12;
+  w2c_i0 |= w2c_i1;
+  w2c_p3 = w2c_i0;
+  w2c_j0 = 2ull;
+  w2c_l11 = w2c_j0;
+  goto w2c_B48;
+  w2c_B50:;
+  w2c_j0 = w2c_l8;
+  w2c_i0 = (u32)(w2c_j0);
+  w2c_i0 = i32_load8_u(m, (u64)(w2c_i0) + 2u);
+  w2c_i1 = 63u;
+  w2c_i0 &= w2c_i1;
+  w2c_l13 = w2c_i0;
+  w2c_i0 = w2c_p3;
+  w2c_i1 = 239u;
+  w2c_i0 = w2c_i0 > w2c_i1;
+  if (w2c_i0) {goto w2c_B51;}
+  w2c_i0 = w2c_l12;
+  w2c_i1 = 6u;
+  w2c_i0 <<= (w2c_i1 & 31);
+  w2c_i1 = w2c_p3;
+  w2c_i2 = 12u;
+  w2c_i1 <<= (w2c_i2 & 31);
+  w2c_i2 = 61440u;
+  w2c_i1 &= w2c_i2;
+  w2c_i0 |= w2c_i1;
+  w2c_i1 = w2c_l13;
+  w2c_i0 |= w2c_i1;
+  w2c_p3 = w2c_i0;
+  w2c_j0 = 3ull;
+  w2c_l11 = w2c_j0;
+  goto w2c_B48;
+  w2c_B51:;
+  w2c_i0 = w2c_l13;
+  w2c_i1 = 6u;
+  w2c_i0 <<= (w2c_i1 & 31);
+  w2c_i1 = w2c_l12;
+  w2c_i2 = 12u;
+  w2c_i1 <<= (w2c_i2 & 31);
+  w2c_i2 = w2c_p3;
+  w2c_i3 = 18u;
+  w2c_i2 <<= (w2c_i3 & 31);
+  w2c_i3 = 1835008u;
+  w2c_i2 &= w2c_i3;
+  w2c_i1 |= w2c_i2;
+  w2c_i0 |= w2c_i1;
+  w2c_j1 = w2c_l8;
+  w2c_i1 = (u32)(w2c_j1);
+  w2c_i1 = i32_load8_u(m, (u64)(w2c_i1) + 3u);
+  w2c_i2 = 63u;
+  w2c_i1 &= w2c_i2;
+  w2c_i0 |= w2c_i1;
+  w2c_p3 = w2c_i0;
+  w2c_j0 = 4ull;
+  w2c_l11 = w2c_j0;
+  w2c_B48:;
+  w2c_j0 = w2c_l9;
+  w2c_j1 = w2c_l11;
+  w2c_j0 -= w2c_j1;
+  w2c_l6 = w2c_j0;
+  w2c_j0 = w2c_l8;
+  w2c_j1 = w2c_l11;
+  w2c_j0 += w2c_j1;
+  w2c_l11 = w2c_j0;
+  w2c_B35:;
+  w2c_i0 = w2c_p3;
+  w2c_i1 = 27491u;
+  w2c_i0 = w2c_i0 != w2c_i1;
+  if (w2c_i0) {goto w2c_B52;}
+  w2c_i0 = 0u;
+  w2c_l12 = w2c_i0;
+  goto w2c_B31;
+  w2c_B52:;
+  w2c_i0 = w2c_p3;
+  w2c_i1 = 36000u;
+  w2c_i0 = w2c_i0 == w2c_i1;
+  if (w2c_i0) {goto w2c_B32;}
+  w2c_i0 = w2c_p3;
+  w2c_i1 = 36127u;
+  w2c_i0 = w2c_i0 == w2c_i1;
+  if (w2c_i0) {goto w2c_B32;}
+  w2c_j0 = w2c_l10;
+  w2c_j1 = 18446744073709551615ull;
+  w2c_j0 += w2c_j1;
+  w2c_l6 = w2c_j0;
+  w2c_B33:;
+  w2c_j0 = w2c_l7;
+  w2c_i1 = w2c_p4;
+  w2c_j2 = w2c_l6;
+  w2c_j3 = w2c_l8;
+  w2c_j4 = w2c_l9;
+  w2c_f49(m, w2c_j0, w2c_i1, w2c_j2, w2c_j3, w2c_j4);
+  w2c_i0 = 2u;
+  w2c_p3 = w2c_i0;
+  w2c_i0 = 0u;
+  w2c_l12 = w2c_i0;
+  goto w2c_B30;
+  w2c_B32:;
+  w2c_i0 = 1u;
+  w2c_l12 = w2c_i0;
+  w2c_B31:;
+  w2c_j0 = w2c_l7;
+  w2c_i1 = w2c_p4;
+  w2c_j2 = w2c_l10;
+  w2c_j3 = w2c_l11;
+  w2c_j4 = w2c_l6;
+  w2c_f49(m, w2c_j0, w2c_i1, w2c_j2, w2c_j3, w2c_j4);
+  w2c_i0 = 3u;
+  w2c_i1 = 2u;
+  w2c_i2 = w2c_l12;
+  w2c_i0 = w2c_i2 ? w2c_i0 : w2c_i1;
+  w2c_p3 = w2c_i0;
+  w2c_B30:;
+  w2c_j0 = w2c_l7;
+  w2c_i0 = (u32)(w2c_j0);
+  w2c_j0 = i64_load(m, (u64)(w2c_i0) + 24u);
+  w2c_l8 = w2c_j0;
+  w2c_j0 = w2c_l7;
+  w2c_i0 = (u32)(w2c_j0);
+  w2c_j0 = i64_load(m, (u64)(w2c_i0) + 16u);
+  w2c_l6 = w2c_j0;
+  w2c_j0 = w2c_l7;
+  w2c_i0 = (u32)(w2c_j0);
+  w2c_i0 = i32_load8_u(m, (u64)(w2c_i0));
+  if (w2c_i0) {goto w2c_B53;}
+  w2c_j0 = w2c_l6;
+  w2c_i1 = w2c_p2;
+  w2c_j1 = (u64)(w2c_i1);
+  w2c_j2 = 255ull;
+  w2c_j1 &= w2c_j2;
+  w2c_j2 = 5ull;
+  w2c_j1 <<= (w2c_j2 & 63);
+  w2c_j2 = 68032ull;
+  w2c_j3 = 68016ull;
+  w2c_i4 = w2c_l12;
+  w2c_j2 = w2c_i4 ? w2c_j2 : w2c_j3;
+  w2c_j1 += w2c_j2;
+  w2c_l9 = w2c_j1;
+  w2c_i1 = (u32)(w2c_j1);
+  w2c_j1 = i64_load(m, (u64)(w2c_i1));
+  w2c_i0 = w2c_j0 > w2c_j1;
+  w2c_j1 = w2c_l8;
+  w2c_j2 = w2c_l9;
+  w2c_i2 = (u32)(w2c_j2);
+  w2c_j2 = i64_load(m, (u64)(w2c_i2) + 8u);
+  w2c_l9 = w2c_j2;
+  w2c_i1 = w2c_j1 > w2c_j2;
+  w2c_j2 = w2c_l8;
+  w2c_j3 = w2c_l9;
+  w2c_i2 = w2c_j2 == w2c_j3;
+  w2c_i0 = w2c_i2 ? w2c_i0 : w2c_i1;
+  if (w2c_i0) {goto w2c_B1;}
+  w2c_i0 = w2c_l12;
+  w2c_j0 = (u64)(w2c_i0);
+  w2c_l11 = w2c_j0;
+  goto w2c_B2;
+  w2c_B53:;
+  w2c_i0 = w2c_p3;
+  w2c_j1 = w2c_l7;
+  w2c_i1 = (u32)(w2c_j1);
+  w2c_i1 = i32_load8_u(m, (u64)(w2c_i1) + 8u);
+  w2c_l12 = w2c_i1;
+  w2c_i2 = w2c_l12;
+  w2c_i3 = 2u;
+  w2c_i2 = w2c_i2 == w2c_i3;
+  w2c_l12 = w2c_i2;
+  w2c_i0 = w2c_i2 ? w2c_i0 : w2c_i1;
+  w2c_p3 = w2c_i0;
+  w2c_j0 = 0ull;
+  w2c_l8 = w2c_j0;
+  w2c_j0 = 0ull;
+  w2c_j1 = w2c_l6;
+  w2c_i2 = w2c_l12;
+  w2c_j0 = w2c_i2 ? w2c_j0 : w2c_j1;
+  w2c_l11 = w2c_j0;
+  w2c_B3:;
+  w2c_i0 = 1u;
+  w2c_l12 = w2c_i0;
+  w2c_j0 = 0ull;
+  w2c_l6 = w2c_j0;
+  goto w2c_B0;
+  w2c_B2:;
+  w2c_i0 = 0u;
+  w2c_l12 = w2c_i0;
+  w2c_i0 = 0u;
+  w2c_p3 = w2c_i0;
+  goto w2c_B0;
+  w2c_B1:;
+  w2c_j0 = 0ull;
+  w2c_l6 = w2c_j0;
+  w2c_i0 = 1u;
+  w2c_l12 = w2c_i0;
+  w2c_j0 = 0ull;
+  w2c_l8 = w2c_j0;
+  w2c_j0 = 0ull;
+  w2c_l11 = w2c_j0;
+  w2c_B0:;
+  w2c_i0 = w2c_l12;
+  if (w2c_i0) {goto w2c_B55;}
   w2c_j0 = w2c_p5;
   w2c_i0 = (u32)(w2c_j0);
   w2c_j1 = 0ull;
@@ -37229,28 +37947,28 @@ static u32 w2c_f46(module *m, u64 w2c_p0, u64 w2c_p1, u32 w2c_p2, u32 w2c_p3, u3
   i64_store(m, (u64)(w2c_i0) + 8, w2c_j1);
   w2c_i0 = 0u;
   w2c_p3 = w2c_i0;
-  goto w2c_B83;
-  w2c_B84:;
+  goto w2c_B54;
+  w2c_B55:;
   w2c_i0 = w2c_p3;
   w2c_i1 = 1u;
   w2c_i0 = w2c_i0 != w2c_i1;
-  if (w2c_i0) {goto w2c_B85;}
+  if (w2c_i0) {goto w2c_B56;}
   w2c_j0 = 0ull;
   w2c_l6 = w2c_j0;
   w2c_j0 = w2c_p1;
   w2c_j1 = 8ull;
   w2c_i0 = w2c_j0 >= w2c_j1;
-  if (w2c_i0) {goto w2c_B87;}
+  if (w2c_i0) {goto w2c_B58;}
   w2c_j0 = 0ull;
   w2c_l10 = w2c_j0;
-  goto w2c_B86;
-  w2c_B87:;
+  goto w2c_B57;
+  w2c_B58:;
   w2c_j0 = 0ull;
   w2c_l10 = w2c_j0;
   w2c_j0 = w2c_l11;
   w2c_j1 = 3ull;
   w2c_i0 = w2c_j0 < w2c_j1;
-  if (w2c_i0) {goto w2c_B86;}
+  if (w2c_i0) {goto w2c_B57;}
   w2c_j0 = w2c_p1;
   w2c_j1 = 18446744073709551607ull;
   w2c_j0 += w2c_j1;
@@ -37263,7 +37981,7 @@ static u32 w2c_f46(module *m, u64 w2c_p0, u64 w2c_p1, u32 w2c_p2, u32 w2c_p3, u3
   w2c_l10 = w2c_j0;
   w2c_j0 = 0ull;
   w2c_l6 = w2c_j0;
-  w2c_L88:
+  w2c_L59:
     w2c_j0 = w2c_p0;
     w2c_j1 = w2c_l6;
     w2c_j0 += w2c_j1;
@@ -37273,7 +37991,7 @@ static u32 w2c_f46(module *m, u64 w2c_p0, u64 w2c_p1, u32 w2c_p2, u32 w2c_p3, u3
     w2c_j0 &= w2c_j1;
     w2c_j1 = 63050398541283552ull;
     w2c_i0 = w2c_j0 != w2c_j1;
-    if (w2c_i0) {goto w2c_B86;}
+    if (w2c_i0) {goto w2c_B57;}
     w2c_j0 = w2c_l10;
     w2c_j1 = 3ull;
     w2c_j0 += w2c_j1;
@@ -37285,7 +38003,7 @@ static u32 w2c_f46(module *m, u64 w2c_p0, u64 w2c_p1, u32 w2c_p2, u32 w2c_p3, u3
     w2c_j0 = w2c_l8;
     w2c_j1 = 3ull;
     w2c_i0 = w2c_j0 < w2c_j1;
-    if (w2c_i0) {goto w2c_B86;}
+    if (w2c_i0) {goto w2c_B57;}
     w2c_j0 = w2c_l8;
     w2c_j1 = 18446744073709551613ull;
     w2c_j0 += w2c_j1;
@@ -37299,21 +38017,21 @@ static u32 w2c_f46(module *m, u64 w2c_p0, u64 w2c_p1, u32 w2c_p2, u32 w2c_p3, u3
     w2c_j0 += w2c_j1;
     w2c_l9 = w2c_j0;
     w2c_i0 = w2c_p3;
-    if (w2c_i0) {goto w2c_L88;}
-  w2c_B86:;
+    if (w2c_i0) {goto w2c_L59;}
+  w2c_B57:;
   w2c_j0 = w2c_p1;
   w2c_j1 = w2c_l6;
   w2c_i0 = w2c_j0 <= w2c_j1;
-  if (w2c_i0) {goto w2c_B89;}
+  if (w2c_i0) {goto w2c_B60;}
   w2c_j0 = w2c_l10;
   w2c_j1 = w2c_l11;
   w2c_i0 = w2c_j0 >= w2c_j1;
-  if (w2c_i0) {goto w2c_B89;}
+  if (w2c_i0) {goto w2c_B60;}
   w2c_j0 = w2c_l10;
   w2c_j1 = 1ull;
   w2c_j0 += w2c_j1;
   w2c_l8 = w2c_j0;
-  w2c_L90:
+  w2c_L61:
     w2c_j0 = w2c_p0;
     w2c_j1 = w2c_l6;
     w2c_j0 += w2c_j1;
@@ -37334,7 +38052,7 @@ static u32 w2c_f46(module *m, u64 w2c_p0, u64 w2c_p1, u32 w2c_p2, u32 w2c_p3, u3
     w2c_j0 = w2c_l8;
     w2c_j1 = w2c_l11;
     w2c_i0 = w2c_j0 >= w2c_j1;
-    if (w2c_i0) {goto w2c_B89;}
+    if (w2c_i0) {goto w2c_B60;}
     w2c_j0 = w2c_l8;
     w2c_j1 = 1ull;
     w2c_j0 += w2c_j1;
@@ -37342,8 +38060,8 @@ static u32 w2c_f46(module *m, u64 w2c_p0, u64 w2c_p1, u32 w2c_p2, u32 w2c_p3, u3
     w2c_j0 = w2c_p1;
     w2c_j1 = w2c_l6;
     w2c_i0 = w2c_j0 > w2c_j1;
-    if (w2c_i0) {goto w2c_L90;}
-  w2c_B89:;
+    if (w2c_i0) {goto w2c_L61;}
+  w2c_B60:;
   w2c_j0 = w2c_p5;
   w2c_i0 = (u32)(w2c_j0);
   w2c_j1 = 0ull;
@@ -37362,8 +38080,8 @@ static u32 w2c_f46(module *m, u64 w2c_p0, u64 w2c_p1, u32 w2c_p2, u32 w2c_p3, u3
   i64_store(m, (u64)(w2c_i0) + 16, w2c_j1);
   w2c_i0 = 2u;
   w2c_p3 = w2c_i0;
-  goto w2c_B83;
-  w2c_B85:;
+  goto w2c_B54;
+  w2c_B56:;
   w2c_j0 = w2c_p5;
   w2c_i0 = (u32)(w2c_j0);
   w2c_j1 = 0ull;
@@ -37387,63 +38105,57 @@ static u32 w2c_f46(module *m, u64 w2c_p0, u64 w2c_p1, u32 w2c_p2, u32 w2c_p3, u3
   w2c_i0 = (u32)(w2c_j0);
   w2c_i0 = i32_load(m, (u64)(w2c_i0) + 69368u);
   w2c_p3 = w2c_i0;
-  w2c_B83:;
+  w2c_B54:;
   w2c_j0 = w2c_l7;
-  w2c_j1 = 96ull;
+  w2c_j1 = 32ull;
   w2c_j0 += w2c_j1;
   m->w2c_g0 = w2c_j0;
   w2c_i0 = w2c_p3;
   return w2c_i0;
 }
 
-static void w2c_f47(module *m, u64 w2c_p0, u32 w2c_p1, u64 w2c_p2, u64 w2c_p3, u64 w2c_p4) {
+static void w2c_f49(module *m, u64 w2c_p0, u32 w2c_p1, u64 w2c_p2, u64 w2c_p3, u64 w2c_p4) {
   u32 w2c_l18 = 0, w2c_l19 = 0, w2c_l20 = 0, w2c_l21 = 0, w2c_l22 = 0, w2c_l23 = 0;
   u64 w2c_l5 = 0, w2c_l6 = 0, w2c_l7 = 0, w2c_l8 = 0, w2c_l9 = 0, w2c_l10 = 0, w2c_l11 = 0, w2c_l12 = 0, w2c_l13 = 0, w2c_l14 = 0, w2c_l15 = 0, w2c_l16 = 0, w2c_l17 = 0;
   u32 w2c_i0, w2c_i1, w2c_i2, w2c_i3, w2c_i4, w2c_i5;
   u64 w2c_j0, w2c_j1, w2c_j2, w2c_j3, w2c_j4, w2c_j5;
   w2c_j0 = m->w2c_g0;
-  w2c_j1 = 256ull;
+  w2c_j1 = 240ull;
   w2c_j0 -= w2c_j1;
   w2c_l5 = w2c_j0;
   m->w2c_g0 = w2c_j0;
   w2c_j0 = w2c_l5;
-  w2c_l5 = w2c_j0;
+  w2c_l6 = w2c_j0;
   w2c_j1 = 16ull;
   w2c_i0 = (u64)((s64)w2c_j0 < (s64)w2c_j1);
   if (w2c_i0) {goto w2c_B4;}
-  w2c_j0 = w2c_l5;
-  w2c_i0 = (u32)(w2c_j0);
-  w2c_j1 = 0ull;
-  i64_store(m, (u64)(w2c_i0) + 248, w2c_j1);
-  w2c_j0 = w2c_l5;
-  w2c_i0 = (u32)(w2c_j0);
-  w2c_j1 = 0ull;
-  i64_store(m, (u64)(w2c_i0) + 240, w2c_j1);
-  w2c_j0 = w2c_l5;
+  w2c_j0 = w2c_l6;
   w2c_i0 = (u32)(w2c_j0);
   w2c_j1 = 0ull;
   i64_store(m, (u64)(w2c_i0) + 232, w2c_j1);
-  w2c_j0 = w2c_l5;
+  w2c_j0 = w2c_l6;
   w2c_i0 = (u32)(w2c_j0);
   w2c_j1 = 0ull;
   i64_store(m, (u64)(w2c_i0) + 224, w2c_j1);
-  w2c_j0 = w2c_l5;
+  w2c_j0 = w2c_l6;
   w2c_i0 = (u32)(w2c_j0);
   w2c_j1 = 0ull;
   i64_store(m, (u64)(w2c_i0) + 216, w2c_j1);
+  w2c_j0 = w2c_l6;
+  w2c_i0 = (u32)(w2c_j0);
+  w2c_j1 = 0ull;
+  i64_store(m, (u64)(w2c_i0) + 208, w2c_j1);
+  w2c_j0 = w2c_l6;
+  w2c_i0 = (u32)(w2c_j0);
+  w2c_j1 = 0ull;
+  i64_store(m, (u64)(w2c_i0) + 200, w2c_j1);
   w2c_j0 = w2c_p4;
   w2c_j1 = 3ull;
   w2c_i0 = w2c_j0 < w2c_j1;
   if (w2c_i0) {goto w2c_B1;}
-  w2c_j0 = 0ull;
-  w2c_j1 = w2c_p4;
-  w2c_j2 = 18446744073709551613ull;
-  w2c_j1 += w2c_j2;
-  w2c_l6 = w2c_j1;
-  w2c_j2 = w2c_l6;
-  w2c_j3 = w2c_p4;
-  w2c_i2 = w2c_j2 > w2c_j3;
-  w2c_j0 = w2c_i2 ? w2c_j0 : w2c_j1;
+  w2c_j0 = w2c_p4;
+  w2c_j1 = 18446744073709551613ull;
+  w2c_j0 += w2c_j1;
   w2c_l7 = w2c_j0;
   w2c_i0 = w2c_p1;
   w2c_i1 = 255u;
@@ -37459,8 +38171,8 @@ static void w2c_f47(module *m, u64 w2c_p0, u32 w2c_p1, u64 w2c_p2, u64 w2c_p3, u
   w2c_j1 = 68470ull;
   w2c_j0 += w2c_j1;
   w2c_l8 = w2c_j0;
-  w2c_j0 = w2c_l5;
-  w2c_j1 = 214ull;
+  w2c_j0 = w2c_l6;
+  w2c_j1 = 198ull;
   w2c_j0 += w2c_j1;
   w2c_l9 = w2c_j0;
   w2c_j0 = 0ull;
@@ -37516,7 +38228,7 @@ static void w2c_f47(module *m, u64 w2c_p0, u32 w2c_p1, u64 w2c_p2, u64 w2c_p3, u
     w2c_j0 = w2c_l12;
     w2c_j1 = 18446744073709551613ull;
     w2c_j0 += w2c_j1;
-    w2c_l6 = w2c_j0;
+    w2c_l5 = w2c_j0;
     w2c_i0 = 0u;
     w2c_l20 = w2c_i0;
     w2c_j0 = w2c_l15;
@@ -37550,7 +38262,7 @@ static void w2c_f47(module *m, u64 w2c_p0, u32 w2c_p1, u64 w2c_p2, u64 w2c_p3, u
     w2c_i0 = w2c_l20;
     w2c_i0 = !(w2c_i0);
     if (w2c_i0) {goto w2c_B1;}
-    w2c_j0 = w2c_l6;
+    w2c_j0 = w2c_l5;
     w2c_j1 = 4ull;
     w2c_i0 = w2c_j0 >= w2c_j1;
     if (w2c_i0) {goto w2c_B12;}
@@ -37558,12 +38270,12 @@ static void w2c_f47(module *m, u64 w2c_p0, u32 w2c_p1, u64 w2c_p2, u64 w2c_p3, u
     w2c_l19 = w2c_i0;
     w2c_j0 = 0ull;
     w2c_l10 = w2c_j0;
-    w2c_j0 = w2c_l6;
+    w2c_j0 = w2c_l5;
     w2c_l12 = w2c_j0;
     goto w2c_B2;
     w2c_B12:;
     w2c_j0 = w2c_p3;
-    w2c_j1 = w2c_l6;
+    w2c_j1 = w2c_l5;
     w2c_j0 += w2c_j1;
     w2c_j1 = 18446744073709551612ull;
     w2c_j0 += w2c_j1;
@@ -37590,7 +38302,7 @@ static void w2c_f47(module *m, u64 w2c_p0, u32 w2c_p1, u64 w2c_p2, u64 w2c_p3, u
     w2c_j0 = w2c_l12;
     w2c_j1 = 18446744073709551610ull;
     w2c_j0 += w2c_j1;
-    w2c_l6 = w2c_j0;
+    w2c_l5 = w2c_j0;
     w2c_j0 = 0ull;
     w2c_l15 = w2c_j0;
     w2c_i0 = w2c_l18;
@@ -37630,7 +38342,7 @@ static void w2c_f47(module *m, u64 w2c_p0, u32 w2c_p1, u64 w2c_p2, u64 w2c_p3, u
     w2c_j0 *= w2c_j1;
     w2c_l15 = w2c_j0;
     w2c_L13:
-      w2c_j0 = w2c_l6;
+      w2c_j0 = w2c_l5;
       w2c_j1 = 4ull;
       w2c_i0 = w2c_j0 < w2c_j1;
       w2c_l19 = w2c_i0;
@@ -37640,12 +38352,12 @@ static void w2c_f47(module *m, u64 w2c_p0, u32 w2c_p1, u64 w2c_p2, u64 w2c_p3, u
       w2c_l10 = w2c_j0;
       w2c_i0 = w2c_l20;
       w2c_l18 = w2c_i0;
-      w2c_j0 = w2c_l6;
+      w2c_j0 = w2c_l5;
       w2c_l12 = w2c_j0;
       goto w2c_B2;
       w2c_B14:;
       w2c_j0 = w2c_p3;
-      w2c_j1 = w2c_l6;
+      w2c_j1 = w2c_l5;
       w2c_j0 += w2c_j1;
       w2c_j1 = 18446744073709551612ull;
       w2c_j0 += w2c_j1;
@@ -37673,7 +38385,7 @@ static void w2c_f47(module *m, u64 w2c_p0, u32 w2c_p1, u64 w2c_p2, u64 w2c_p3, u
       w2c_i0 = (u32)(w2c_j0);
       w2c_i0 = i32_load8_u(m, (u64)(w2c_i0));
       w2c_l18 = w2c_i0;
-      w2c_j0 = w2c_l6;
+      w2c_j0 = w2c_l5;
       w2c_j1 = 18446744073709551613ull;
       w2c_j0 += w2c_j1;
       w2c_l12 = w2c_j0;
@@ -37690,7 +38402,7 @@ static void w2c_f47(module *m, u64 w2c_p0, u32 w2c_p1, u64 w2c_p2, u64 w2c_p3, u
         default: goto w2c_B17;
       }
       w2c_B18:;
-      w2c_j0 = w2c_l6;
+      w2c_j0 = w2c_l5;
       w2c_j1 = w2c_l7;
       w2c_i0 = w2c_j0 != w2c_j1;
       if (w2c_i0) {goto w2c_B19;}
@@ -37747,10 +38459,10 @@ static void w2c_f47(module *m, u64 w2c_p0, u32 w2c_p1, u64 w2c_p2, u64 w2c_p3, u
       w2c_i1 = w2c_l20;
       w2c_i0 = w2c_i0 != w2c_i1;
       if (w2c_i0) {goto w2c_B1;}
-      w2c_j0 = w2c_l6;
+      w2c_j0 = w2c_l5;
       w2c_j1 = 18446744073709551610ull;
       w2c_j0 += w2c_j1;
-      w2c_l6 = w2c_j0;
+      w2c_l5 = w2c_j0;
       w2c_j0 = w2c_l12;
       w2c_j1 = 66981ull;
       w2c_j0 += w2c_j1;
@@ -37780,7 +38492,7 @@ static void w2c_f47(module *m, u64 w2c_p0, u32 w2c_p1, u64 w2c_p2, u64 w2c_p3, u
       }
       w2c_B17:;
       w2c_j0 = w2c_l12;
-      w2c_l6 = w2c_j0;
+      w2c_l5 = w2c_j0;
       w2c_i0 = w2c_l18;
       w2c_i1 = 255u;
       w2c_i0 &= w2c_i1;
@@ -37822,7 +38534,7 @@ static void w2c_f47(module *m, u64 w2c_p0, u32 w2c_p1, u64 w2c_p2, u64 w2c_p3, u
     w2c_i0 = 1u;
     w2c_l20 = w2c_i0;
     w2c_j0 = w2c_l12;
-    w2c_l6 = w2c_j0;
+    w2c_l5 = w2c_j0;
     goto w2c_B7;
     w2c_B8:;
     w2c_i0 = w2c_l19;
@@ -37849,8 +38561,8 @@ static void w2c_f47(module *m, u64 w2c_p0, u32 w2c_p1, u64 w2c_p2, u64 w2c_p3, u
     w2c_l17 = w2c_j0;
     goto w2c_B31;
     w2c_B32:;
-    w2c_j0 = w2c_l5;
-    w2c_j1 = 216ull;
+    w2c_j0 = w2c_l6;
+    w2c_j1 = 200ull;
     w2c_j0 += w2c_j1;
     w2c_j1 = w2c_l11;
     w2c_j2 = 1ull;
@@ -37886,7 +38598,7 @@ static void w2c_f47(module *m, u64 w2c_p0, u32 w2c_p1, u64 w2c_p2, u64 w2c_p3, u
     w2c_i0 = w2c_i0 > w2c_i1;
     if (w2c_i0) {goto w2c_B30;}
     w2c_B31:;
-    w2c_j0 = w2c_l5;
+    w2c_j0 = w2c_l6;
     w2c_j1 = 48ull;
     w2c_j0 += w2c_j1;
     w2c_j1 = w2c_l16;
@@ -37895,7 +38607,7 @@ static void w2c_f47(module *m, u64 w2c_p0, u32 w2c_p1, u64 w2c_p2, u64 w2c_p3, u
     w2c_j4 = 0ull;
     w2c_f3(m, w2c_j0, w2c_j1, w2c_j2, w2c_j3, w2c_j4);
     w2c_j0 = w2c_l13;
-    w2c_j1 = w2c_l5;
+    w2c_j1 = w2c_l6;
     w2c_i1 = (u32)(w2c_j1);
     w2c_j1 = i64_load(m, (u64)(w2c_i1) + 48u);
     w2c_l12 = w2c_j1;
@@ -37903,7 +38615,7 @@ static void w2c_f47(module *m, u64 w2c_p0, u32 w2c_p1, u64 w2c_p2, u64 w2c_p3, u
     w2c_j1 ^= w2c_j2;
     w2c_i0 = w2c_j0 > w2c_j1;
     w2c_j1 = w2c_l14;
-    w2c_j2 = w2c_l5;
+    w2c_j2 = w2c_l6;
     w2c_i2 = (u32)(w2c_j2);
     w2c_j2 = i64_load(m, (u64)(w2c_i2) + 56u);
     w2c_l16 = w2c_j2;
@@ -37936,7 +38648,7 @@ static void w2c_f47(module *m, u64 w2c_p0, u32 w2c_p1, u64 w2c_p2, u64 w2c_p3, u
     if (w2c_i0) {goto w2c_B29;}
     goto w2c_B23;
     w2c_B30:;
-    w2c_j0 = w2c_l5;
+    w2c_j0 = w2c_l6;
     w2c_j1 = 64ull;
     w2c_j0 += w2c_j1;
     w2c_j1 = w2c_l16;
@@ -37944,7 +38656,7 @@ static void w2c_f47(module *m, u64 w2c_p0, u32 w2c_p1, u64 w2c_p2, u64 w2c_p3, u
     w2c_j3 = w2c_l15;
     w2c_j4 = 0ull;
     w2c_f3(m, w2c_j0, w2c_j1, w2c_j2, w2c_j3, w2c_j4);
-    w2c_j0 = w2c_l5;
+    w2c_j0 = w2c_l6;
     w2c_j1 = 80ull;
     w2c_j0 += w2c_j1;
     w2c_j1 = w2c_l17;
@@ -37952,14 +38664,14 @@ static void w2c_f47(module *m, u64 w2c_p0, u32 w2c_p1, u64 w2c_p2, u64 w2c_p3, u
     w2c_j3 = w2c_l15;
     w2c_j4 = 0ull;
     w2c_f3(m, w2c_j0, w2c_j1, w2c_j2, w2c_j3, w2c_j4);
-    w2c_j0 = w2c_l5;
+    w2c_j0 = w2c_l6;
     w2c_i0 = (u32)(w2c_j0);
     w2c_j0 = i64_load(m, (u64)(w2c_i0) + 88u);
-    w2c_j1 = w2c_l5;
+    w2c_j1 = w2c_l6;
     w2c_i1 = (u32)(w2c_j1);
     w2c_j1 = i64_load(m, (u64)(w2c_i1) + 72u);
     w2c_l16 = w2c_j1;
-    w2c_j2 = w2c_l5;
+    w2c_j2 = w2c_l6;
     w2c_i2 = (u32)(w2c_j2);
     w2c_j2 = i64_load(m, (u64)(w2c_i2) + 80u);
     w2c_j1 += w2c_j2;
@@ -37972,7 +38684,7 @@ static void w2c_f47(module *m, u64 w2c_p0, u32 w2c_p1, u64 w2c_p2, u64 w2c_p3, u
     w2c_i0 = w2c_j0 != w2c_j1;
     if (w2c_i0) {goto w2c_B1;}
     w2c_j0 = w2c_l13;
-    w2c_j1 = w2c_l5;
+    w2c_j1 = w2c_l6;
     w2c_i1 = (u32)(w2c_j1);
     w2c_j1 = i64_load(m, (u64)(w2c_i1) + 64u);
     w2c_l16 = w2c_j1;
@@ -38031,10 +38743,10 @@ static void w2c_f47(module *m, u64 w2c_p0, u32 w2c_p1, u64 w2c_p2, u64 w2c_p3, u
       w2c_j1 = 18446744073709551614ull;
       w2c_j0 += w2c_j1;
       w2c_l12 = w2c_j0;
-      w2c_j0 = w2c_l5;
+      w2c_j0 = w2c_l6;
       w2c_i0 = (u32)(w2c_j0);
       w2c_j1 = w2c_l15;
-      i64_store(m, (u64)(w2c_i0) + 248, w2c_j1);
+      i64_store(m, (u64)(w2c_i0) + 232, w2c_j1);
       w2c_j0 = w2c_l15;
       w2c_j1 = 18446744073709551615ull;
       w2c_j0 += w2c_j1;
@@ -38062,8 +38774,8 @@ static void w2c_f47(module *m, u64 w2c_p0, u32 w2c_p1, u64 w2c_p2, u64 w2c_p3, u
     w2c_i0 = w2c_l18;
     w2c_i1 = 255u;
     w2c_i0 &= w2c_i1;
-    w2c_j1 = w2c_l5;
-    w2c_j2 = 216ull;
+    w2c_j1 = w2c_l6;
+    w2c_j2 = 200ull;
     w2c_j1 += w2c_j2;
     w2c_j2 = w2c_l12;
     w2c_j1 += w2c_j2;
@@ -38080,8 +38792,8 @@ static void w2c_f47(module *m, u64 w2c_p0, u32 w2c_p1, u64 w2c_p2, u64 w2c_p3, u
     w2c_i0 = w2c_i0 >= w2c_i1;
     if (w2c_i0) {goto w2c_B1;}
     w2c_B24:;
-    w2c_j0 = w2c_l5;
-    w2c_j1 = 216ull;
+    w2c_j0 = w2c_l6;
+    w2c_j1 = 200ull;
     w2c_j0 += w2c_j1;
     w2c_j1 = w2c_l12;
     w2c_j0 += w2c_j1;
@@ -38113,8 +38825,8 @@ static void w2c_f47(module *m, u64 w2c_p0, u32 w2c_p1, u64 w2c_p2, u64 w2c_p3, u
     w2c_j1 = 38ull;
     w2c_i0 = w2c_j0 > w2c_j1;
     if (w2c_i0) {goto w2c_B1;}
-    w2c_j0 = w2c_l5;
-    w2c_j1 = 216ull;
+    w2c_j0 = w2c_l6;
+    w2c_j1 = 200ull;
     w2c_j0 += w2c_j1;
     w2c_j1 = w2c_l12;
     w2c_j0 += w2c_j1;
@@ -38126,16 +38838,16 @@ static void w2c_f47(module *m, u64 w2c_p0, u32 w2c_p1, u64 w2c_p2, u64 w2c_p3, u
     w2c_i0 = (u32)(w2c_j0);
     w2c_i1 = w2c_l18;
     i32_store8(m, (u64)(w2c_i0), w2c_i1);
-    w2c_j0 = w2c_l5;
+    w2c_j0 = w2c_l6;
     w2c_i0 = (u32)(w2c_j0);
-    w2c_j1 = w2c_l5;
+    w2c_j1 = w2c_l6;
     w2c_i1 = (u32)(w2c_j1);
-    w2c_j1 = i64_load(m, (u64)(w2c_i1) + 248u);
+    w2c_j1 = i64_load(m, (u64)(w2c_i1) + 232u);
     w2c_j2 = 1ull;
     w2c_j1 += w2c_j2;
     w2c_l11 = w2c_j1;
-    i64_store(m, (u64)(w2c_i0) + 248, w2c_j1);
-    w2c_j0 = w2c_l6;
+    i64_store(m, (u64)(w2c_i0) + 232, w2c_j1);
+    w2c_j0 = w2c_l5;
     w2c_l12 = w2c_j0;
     goto w2c_L5;
   UNREACHABLE;
@@ -38179,13 +38891,13 @@ static void w2c_f47(module *m, u64 w2c_p0, u32 w2c_p1, u64 w2c_p2, u64 w2c_p3, u
   w2c_j0 >>= (w2c_j1 & 63);
   w2c_j1 = 1016ull;
   w2c_j0 &= w2c_j1;
-  w2c_l6 = w2c_j0;
+  w2c_l5 = w2c_j0;
   w2c_i0 = (u32)(w2c_j0);
   w2c_i0 = i32_load(m, (u64)(w2c_i0) + 66976u);
   w2c_i1 = w2c_l18;
   w2c_i0 = w2c_i0 != w2c_i1;
   if (w2c_i0) {goto w2c_B1;}
-  w2c_j0 = w2c_l6;
+  w2c_j0 = w2c_l5;
   w2c_j1 = 66981ull;
   w2c_j0 += w2c_j1;
   w2c_i0 = (u32)(w2c_j0);
@@ -38197,7 +38909,7 @@ static void w2c_f47(module *m, u64 w2c_p0, u32 w2c_p1, u64 w2c_p2, u64 w2c_p3, u
   w2c_l12 = w2c_j0;
   w2c_i0 = 0u;
   w2c_l20 = w2c_i0;
-  w2c_j0 = w2c_l6;
+  w2c_j0 = w2c_l5;
   w2c_j1 = 66980ull;
   w2c_j0 += w2c_j1;
   w2c_i0 = (u32)(w2c_j0);
@@ -38248,7 +38960,7 @@ static void w2c_f47(module *m, u64 w2c_p0, u32 w2c_p1, u64 w2c_p2, u64 w2c_p3, u
   w2c_j0 >>= (w2c_j1 & 63);
   w2c_j1 = 1016ull;
   w2c_j0 &= w2c_j1;
-  w2c_l6 = w2c_j0;
+  w2c_l5 = w2c_j0;
   w2c_j1 = 66976ull;
   w2c_j0 += w2c_j1;
   w2c_i0 = (u32)(w2c_j0);
@@ -38256,7 +38968,7 @@ static void w2c_f47(module *m, u64 w2c_p0, u32 w2c_p1, u64 w2c_p2, u64 w2c_p3, u
   w2c_i1 = w2c_l20;
   w2c_i0 = w2c_i0 != w2c_i1;
   if (w2c_i0) {goto w2c_B1;}
-  w2c_j0 = w2c_l6;
+  w2c_j0 = w2c_l5;
   w2c_j1 = 66980ull;
   w2c_j0 += w2c_j1;
   w2c_i0 = (u32)(w2c_j0);
@@ -38268,7 +38980,7 @@ static void w2c_f47(module *m, u64 w2c_p0, u32 w2c_p1, u64 w2c_p2, u64 w2c_p3, u
   w2c_l12 = w2c_j0;
   w2c_i0 = w2c_l18;
   w2c_l20 = w2c_i0;
-  w2c_j0 = w2c_l6;
+  w2c_j0 = w2c_l5;
   w2c_j1 = 66981ull;
   w2c_j0 += w2c_j1;
   w2c_i0 = (u32)(w2c_j0);
@@ -38288,10 +39000,8 @@ static void w2c_f47(module *m, u64 w2c_p0, u32 w2c_p1, u64 w2c_p2, u64 w2c_p3, u
   w2c_j2 = 255ull;
   w2c_j1 &= w2c_j2;
   w2c_j0 *= w2c_j1;
-  w2c_l6 = w2c_j0;
+  w2c_l10 = w2c_j0;
   w2c_L38:
-    w2c_j0 = w2c_l6;
-    w2c_l10 = w2c_j0;
     w2c_j0 = w2c_l12;
     w2c_j1 = 4ull;
     w2c_i0 = w2c_j0 < w2c_j1;
@@ -38325,13 +39035,13 @@ static void w2c_f47(module *m, u64 w2c_p0, u32 w2c_p1, u64 w2c_p2, u64 w2c_p3, u
     w2c_j0 >>= (w2c_j1 & 63);
     w2c_j1 = 1016ull;
     w2c_j0 &= w2c_j1;
-    w2c_l6 = w2c_j0;
+    w2c_l5 = w2c_j0;
     w2c_i0 = (u32)(w2c_j0);
     w2c_i0 = i32_load(m, (u64)(w2c_i0) + 66976u);
     w2c_i1 = w2c_l18;
     w2c_i0 = w2c_i0 != w2c_i1;
     if (w2c_i0) {goto w2c_B1;}
-    w2c_j0 = w2c_l6;
+    w2c_j0 = w2c_l5;
     w2c_j1 = 66981ull;
     w2c_j0 += w2c_j1;
     w2c_i0 = (u32)(w2c_j0);
@@ -38341,27 +39051,19 @@ static void w2c_f47(module *m, u64 w2c_p0, u32 w2c_p1, u64 w2c_p2, u64 w2c_p3, u
     w2c_j1 = 18446744073709551613ull;
     w2c_j0 += w2c_j1;
     w2c_l15 = w2c_j0;
-    w2c_j0 = w2c_l6;
+    w2c_j0 = w2c_l5;
     w2c_j1 = 66980ull;
     w2c_j0 += w2c_j1;
     w2c_i0 = (u32)(w2c_j0);
     w2c_j0 = i64_load8_u(m, (u64)(w2c_i0));
     w2c_i0 = (u32)(w2c_j0);
     switch (w2c_i0) {
-      case 0: goto w2c_B42;
-      case 1: goto w2c_B41;
+      case 0: goto w2c_B41;
+      case 1: goto w2c_B42;
       case 2: goto w2c_B1;
-      default: goto w2c_B42;
+      default: goto w2c_B41;
     }
     w2c_B42:;
-    w2c_j0 = w2c_l15;
-    w2c_l12 = w2c_j0;
-    w2c_i0 = w2c_l18;
-    w2c_i1 = 255u;
-    w2c_i0 &= w2c_i1;
-    if (w2c_i0) {goto w2c_B1;}
-    goto w2c_B40;
-    w2c_B41:;
     w2c_j0 = w2c_l12;
     w2c_j1 = w2c_l7;
     w2c_i0 = w2c_j0 == w2c_j1;
@@ -38410,7 +39112,7 @@ static void w2c_f47(module *m, u64 w2c_p0, u32 w2c_p1, u64 w2c_p2, u64 w2c_p3, u
     w2c_j0 >>= (w2c_j1 & 63);
     w2c_j1 = 1016ull;
     w2c_j0 &= w2c_j1;
-    w2c_l6 = w2c_j0;
+    w2c_l5 = w2c_j0;
     w2c_j1 = 66976ull;
     w2c_j0 += w2c_j1;
     w2c_i0 = (u32)(w2c_j0);
@@ -38418,7 +39120,7 @@ static void w2c_f47(module *m, u64 w2c_p0, u32 w2c_p1, u64 w2c_p2, u64 w2c_p3, u
     w2c_i1 = w2c_l20;
     w2c_i0 = w2c_i0 != w2c_i1;
     if (w2c_i0) {goto w2c_B1;}
-    w2c_j0 = w2c_l6;
+    w2c_j0 = w2c_l5;
     w2c_j1 = 66980ull;
     w2c_j0 += w2c_j1;
     w2c_i0 = (u32)(w2c_j0);
@@ -38430,37 +39132,48 @@ static void w2c_f47(module *m, u64 w2c_p0, u32 w2c_p1, u64 w2c_p2, u64 w2c_p3, u
     w2c_l12 = w2c_j0;
     w2c_i0 = w2c_l18;
     w2c_l20 = w2c_i0;
-    w2c_j0 = w2c_l6;
+    w2c_j0 = w2c_l5;
     w2c_j1 = 66981ull;
     w2c_j0 += w2c_j1;
     w2c_i0 = (u32)(w2c_j0);
     w2c_i0 = i32_load8_u(m, (u64)(w2c_i0));
     w2c_l18 = w2c_i0;
+    goto w2c_B40;
+    w2c_B41:;
+    w2c_j0 = w2c_l15;
+    w2c_l12 = w2c_j0;
+    w2c_i0 = w2c_l18;
+    w2c_i1 = 255u;
+    w2c_i0 &= w2c_i1;
+    if (w2c_i0) {goto w2c_B1;}
     w2c_B40:;
-    w2c_i0 = w2c_l20;
-    w2c_j0 = (u64)(w2c_i0);
-    w2c_j1 = 255ull;
-    w2c_j0 &= w2c_j1;
-    w2c_j1 = 3ull;
-    w2c_j0 <<= (w2c_j1 & 63);
-    w2c_i0 = (u32)(w2c_j0);
-    w2c_j0 = i64_load(m, (u64)(w2c_i0) + 69240u);
-    w2c_i1 = w2c_l18;
+    w2c_j0 = w2c_l10;
+    w2c_i1 = w2c_l20;
     w2c_j1 = (u64)(w2c_i1);
     w2c_j2 = 255ull;
     w2c_j1 &= w2c_j2;
-    w2c_j0 *= w2c_j1;
-    w2c_l15 = w2c_j0;
-    w2c_j1 = w2c_l10;
-    w2c_j0 += w2c_j1;
-    w2c_l6 = w2c_j0;
-    w2c_j0 = w2c_l10;
-    w2c_j1 = w2c_l15;
+    w2c_j2 = 3ull;
+    w2c_j1 <<= (w2c_j2 & 63);
+    w2c_i1 = (u32)(w2c_j1);
+    w2c_j1 = i64_load(m, (u64)(w2c_i1) + 69240u);
+    w2c_i2 = w2c_l18;
+    w2c_j2 = (u64)(w2c_i2);
+    w2c_j3 = 255ull;
+    w2c_j2 &= w2c_j3;
+    w2c_j1 *= w2c_j2;
+    w2c_l5 = w2c_j1;
     w2c_j2 = 18446744073709551615ull;
     w2c_j1 ^= w2c_j2;
     w2c_i0 = w2c_j0 > w2c_j1;
-    if (w2c_i0) {goto w2c_B1;}
-    goto w2c_L38;
+    w2c_l18 = w2c_i0;
+    w2c_j0 = w2c_l5;
+    w2c_j1 = w2c_l10;
+    w2c_j0 += w2c_j1;
+    w2c_l10 = w2c_j0;
+    w2c_i0 = w2c_l18;
+    w2c_i0 = !(w2c_i0);
+    if (w2c_i0) {goto w2c_L38;}
+    goto w2c_B1;
   UNREACHABLE;
   w2c_B2:;
   w2c_j0 = w2c_l12;
@@ -38484,19 +39197,19 @@ static void w2c_f47(module *m, u64 w2c_p0, u32 w2c_p1, u64 w2c_p2, u64 w2c_p3, u
   w2c_j0 >>= (w2c_j1 & 63);
   w2c_j1 = 1016ull;
   w2c_j0 &= w2c_j1;
-  w2c_l6 = w2c_j0;
+  w2c_l5 = w2c_j0;
   w2c_i0 = (u32)(w2c_j0);
   w2c_i0 = i32_load(m, (u64)(w2c_i0) + 66976u);
   w2c_i1 = w2c_l20;
   w2c_i0 = w2c_i0 != w2c_i1;
   if (w2c_i0) {goto w2c_B1;}
-  w2c_j0 = w2c_l6;
+  w2c_j0 = w2c_l5;
   w2c_j1 = 66981ull;
   w2c_j0 += w2c_j1;
   w2c_i0 = (u32)(w2c_j0);
   w2c_i0 = i32_load8_u(m, (u64)(w2c_i0));
   w2c_l20 = w2c_i0;
-  w2c_j0 = w2c_l6;
+  w2c_j0 = w2c_l5;
   w2c_j1 = 66980ull;
   w2c_j0 += w2c_j1;
   w2c_i0 = (u32)(w2c_j0);
@@ -38524,11 +39237,11 @@ static void w2c_f47(module *m, u64 w2c_p0, u32 w2c_p1, u64 w2c_p2, u64 w2c_p3, u
   w2c_j1 &= w2c_j2;
   w2c_i2 = w2c_l19;
   w2c_j0 = w2c_i2 ? w2c_j0 : w2c_j1;
-  w2c_l6 = w2c_j0;
+  w2c_l5 = w2c_j0;
   goto w2c_B44;
   w2c_B45:;
   w2c_j0 = 10ull;
-  w2c_l6 = w2c_j0;
+  w2c_l5 = w2c_j0;
   w2c_i0 = w2c_l20;
   w2c_i1 = 255u;
   w2c_i0 &= w2c_i1;
@@ -38545,17 +39258,17 @@ static void w2c_f47(module *m, u64 w2c_p0, u32 w2c_p1, u64 w2c_p2, u64 w2c_p3, u
   w2c_j1 <<= (w2c_j2 & 63);
   w2c_i1 = (u32)(w2c_j1);
   w2c_j1 = i64_load(m, (u64)(w2c_i1) + 69240u);
-  w2c_j2 = w2c_l6;
+  w2c_j2 = w2c_l5;
   w2c_j1 *= w2c_j2;
-  w2c_l6 = w2c_j1;
+  w2c_l5 = w2c_j1;
   w2c_j2 = 18446744073709551615ull;
   w2c_j1 ^= w2c_j2;
   w2c_i0 = w2c_j0 > w2c_j1;
   if (w2c_i0) {goto w2c_B1;}
-  w2c_j0 = w2c_l6;
+  w2c_j0 = w2c_l5;
   w2c_j1 = w2c_l10;
   w2c_j0 += w2c_j1;
-  w2c_l6 = w2c_j0;
+  w2c_l5 = w2c_j0;
   w2c_j0 = 0ull;
   w2c_l12 = w2c_j0;
   w2c_j0 = w2c_l11;
@@ -38568,8 +39281,8 @@ static void w2c_f47(module *m, u64 w2c_p0, u32 w2c_p1, u64 w2c_p2, u64 w2c_p3, u
   w2c_l16 = w2c_j0;
   goto w2c_B48;
   w2c_B49:;
-  w2c_j0 = w2c_l5;
-  w2c_j1 = 216ull;
+  w2c_j0 = w2c_l6;
+  w2c_j1 = 200ull;
   w2c_j0 += w2c_j1;
   w2c_j1 = w2c_l11;
   w2c_j2 = 1ull;
@@ -38604,14 +39317,14 @@ static void w2c_f47(module *m, u64 w2c_p0, u32 w2c_p1, u64 w2c_p2, u64 w2c_p3, u
   w2c_i0 = w2c_i0 > w2c_i1;
   if (w2c_i0) {goto w2c_B47;}
   w2c_B48:;
-  w2c_j0 = w2c_l5;
+  w2c_j0 = w2c_l6;
   w2c_j1 = w2c_l15;
   w2c_j2 = w2c_l16;
-  w2c_j3 = w2c_l6;
+  w2c_j3 = w2c_l5;
   w2c_j4 = 0ull;
   w2c_f3(m, w2c_j0, w2c_j1, w2c_j2, w2c_j3, w2c_j4);
   w2c_j0 = w2c_l13;
-  w2c_j1 = w2c_l5;
+  w2c_j1 = w2c_l6;
   w2c_i1 = (u32)(w2c_j1);
   w2c_j1 = i64_load(m, (u64)(w2c_i1));
   w2c_l15 = w2c_j1;
@@ -38619,16 +39332,16 @@ static void w2c_f47(module *m, u64 w2c_p0, u32 w2c_p1, u64 w2c_p2, u64 w2c_p3, u
   w2c_j1 ^= w2c_j2;
   w2c_i0 = w2c_j0 > w2c_j1;
   w2c_j1 = w2c_l14;
-  w2c_j2 = w2c_l5;
+  w2c_j2 = w2c_l6;
   w2c_i2 = (u32)(w2c_j2);
   w2c_j2 = i64_load(m, (u64)(w2c_i2) + 8u);
   w2c_l16 = w2c_j2;
   w2c_j3 = 18446744073709551615ull;
   w2c_j2 ^= w2c_j3;
-  w2c_l6 = w2c_j2;
+  w2c_l5 = w2c_j2;
   w2c_i1 = w2c_j1 > w2c_j2;
   w2c_j2 = w2c_l14;
-  w2c_j3 = w2c_l6;
+  w2c_j3 = w2c_l5;
   w2c_i2 = w2c_j2 == w2c_j3;
   w2c_i0 = w2c_i2 ? w2c_i0 : w2c_i1;
   if (w2c_i0) {goto w2c_B1;}
@@ -38638,47 +39351,47 @@ static void w2c_f47(module *m, u64 w2c_p0, u32 w2c_p1, u64 w2c_p2, u64 w2c_p3, u
   w2c_j1 = w2c_l15;
   w2c_j2 = w2c_l13;
   w2c_j1 += w2c_j2;
-  w2c_l6 = w2c_j1;
+  w2c_l5 = w2c_j1;
   w2c_j2 = w2c_l15;
   w2c_i1 = w2c_j1 < w2c_j2;
   w2c_j1 = (u64)(w2c_i1);
   w2c_j0 += w2c_j1;
-  w2c_p3 = w2c_j0;
-  w2c_j0 = 0ull;
   w2c_p4 = w2c_j0;
+  w2c_j0 = 0ull;
+  w2c_p3 = w2c_j0;
   goto w2c_B0;
   w2c_B47:;
   w2c_j0 = 0ull;
   w2c_l12 = w2c_j0;
-  w2c_j0 = w2c_l5;
+  w2c_j0 = w2c_l6;
   w2c_j1 = 16ull;
   w2c_j0 += w2c_j1;
   w2c_j1 = w2c_l15;
   w2c_j2 = 0ull;
-  w2c_j3 = w2c_l6;
+  w2c_j3 = w2c_l5;
   w2c_j4 = 0ull;
   w2c_f3(m, w2c_j0, w2c_j1, w2c_j2, w2c_j3, w2c_j4);
-  w2c_j0 = w2c_l5;
+  w2c_j0 = w2c_l6;
   w2c_j1 = 32ull;
   w2c_j0 += w2c_j1;
   w2c_j1 = w2c_l16;
   w2c_j2 = 0ull;
-  w2c_j3 = w2c_l6;
+  w2c_j3 = w2c_l5;
   w2c_j4 = 0ull;
   w2c_f3(m, w2c_j0, w2c_j1, w2c_j2, w2c_j3, w2c_j4);
-  w2c_j0 = w2c_l5;
+  w2c_j0 = w2c_l6;
   w2c_i0 = (u32)(w2c_j0);
   w2c_j0 = i64_load(m, (u64)(w2c_i0) + 40u);
-  w2c_j1 = w2c_l5;
+  w2c_j1 = w2c_l6;
   w2c_i1 = (u32)(w2c_j1);
   w2c_j1 = i64_load(m, (u64)(w2c_i1) + 24u);
-  w2c_l6 = w2c_j1;
-  w2c_j2 = w2c_l5;
+  w2c_l5 = w2c_j1;
+  w2c_j2 = w2c_l6;
   w2c_i2 = (u32)(w2c_j2);
   w2c_j2 = i64_load(m, (u64)(w2c_i2) + 32u);
   w2c_j1 += w2c_j2;
   w2c_l15 = w2c_j1;
-  w2c_j2 = w2c_l6;
+  w2c_j2 = w2c_l5;
   w2c_i1 = w2c_j1 < w2c_j2;
   w2c_j1 = (u64)(w2c_i1);
   w2c_j0 += w2c_j1;
@@ -38686,7 +39399,7 @@ static void w2c_f47(module *m, u64 w2c_p0, u32 w2c_p1, u64 w2c_p2, u64 w2c_p3, u
   w2c_i0 = !(w2c_i0);
   if (w2c_i0) {goto w2c_B1;}
   w2c_j0 = w2c_l13;
-  w2c_j1 = w2c_l5;
+  w2c_j1 = w2c_l6;
   w2c_i1 = (u32)(w2c_j1);
   w2c_j1 = i64_load(m, (u64)(w2c_i1) + 16u);
   w2c_l16 = w2c_j1;
@@ -38697,10 +39410,10 @@ static void w2c_f47(module *m, u64 w2c_p0, u32 w2c_p1, u64 w2c_p2, u64 w2c_p3, u
   w2c_j2 = w2c_l15;
   w2c_j3 = 18446744073709551615ull;
   w2c_j2 ^= w2c_j3;
-  w2c_l6 = w2c_j2;
+  w2c_l5 = w2c_j2;
   w2c_i1 = w2c_j1 <= w2c_j2;
   w2c_j2 = w2c_l14;
-  w2c_j3 = w2c_l6;
+  w2c_j3 = w2c_l5;
   w2c_i2 = w2c_j2 == w2c_j3;
   w2c_i0 = w2c_i2 ? w2c_i0 : w2c_i1;
   w2c_i0 = !(w2c_i0);
@@ -38711,503 +39424,434 @@ static void w2c_f47(module *m, u64 w2c_p0, u32 w2c_p1, u64 w2c_p2, u64 w2c_p3, u
   w2c_j1 = w2c_l16;
   w2c_j2 = w2c_l13;
   w2c_j1 += w2c_j2;
-  w2c_l6 = w2c_j1;
+  w2c_l5 = w2c_j1;
   w2c_j2 = w2c_l16;
   w2c_i1 = w2c_j1 < w2c_j2;
   w2c_j1 = (u64)(w2c_i1);
   w2c_j0 += w2c_j1;
-  w2c_p3 = w2c_j0;
-  w2c_j0 = 0ull;
   w2c_p4 = w2c_j0;
+  w2c_j0 = 0ull;
+  w2c_p3 = w2c_j0;
   goto w2c_B0;
   w2c_B1:;
   w2c_j0 = 0ull;
-  w2c_l6 = w2c_j0;
-  w2c_j0 = w2c_l5;
+  w2c_l5 = w2c_j0;
+  w2c_j0 = w2c_l6;
   w2c_i0 = (u32)(w2c_j0);
   w2c_j1 = 0ull;
   i64_store(m, (u64)(w2c_i0) + 160, w2c_j1);
-  w2c_j0 = w2c_l5;
+  w2c_j0 = w2c_l6;
   w2c_i0 = (u32)(w2c_j0);
   w2c_j1 = 0ull;
   i64_store(m, (u64)(w2c_i0) + 168, w2c_j1);
-  w2c_j0 = w2c_l5;
+  w2c_j0 = w2c_l6;
   w2c_i0 = (u32)(w2c_j0);
   w2c_j1 = 0ull;
   i64_store(m, (u64)(w2c_i0) + 176, w2c_j1);
-  w2c_j0 = w2c_l5;
+  w2c_j0 = w2c_l6;
   w2c_i0 = (u32)(w2c_j0);
   w2c_j1 = 0ull;
   i64_store(m, (u64)(w2c_i0) + 184, w2c_j1);
-  w2c_j0 = w2c_l5;
+  w2c_j0 = w2c_l6;
   w2c_i0 = (u32)(w2c_j0);
   w2c_j1 = 0ull;
   i64_store(m, (u64)(w2c_i0) + 128, w2c_j1);
-  w2c_j0 = w2c_l5;
+  w2c_j0 = w2c_l6;
   w2c_i0 = (u32)(w2c_j0);
   w2c_j1 = 0ull;
   i64_store(m, (u64)(w2c_i0) + 136, w2c_j1);
-  w2c_j0 = w2c_l5;
+  w2c_j0 = w2c_l6;
   w2c_i0 = (u32)(w2c_j0);
   w2c_j1 = 0ull;
   i64_store(m, (u64)(w2c_i0) + 144, w2c_j1);
-  w2c_j0 = w2c_l5;
+  w2c_j0 = w2c_l6;
   w2c_i0 = (u32)(w2c_j0);
   w2c_j1 = 0ull;
   i64_store(m, (u64)(w2c_i0) + 152, w2c_j1);
-  w2c_j0 = w2c_l5;
+  w2c_j0 = w2c_l6;
   w2c_i0 = (u32)(w2c_j0);
   w2c_j1 = 0ull;
   i64_store(m, (u64)(w2c_i0) + 96, w2c_j1);
-  w2c_j0 = w2c_l5;
+  w2c_j0 = w2c_l6;
   w2c_i0 = (u32)(w2c_j0);
   w2c_j1 = 0ull;
   i64_store(m, (u64)(w2c_i0) + 104, w2c_j1);
-  w2c_j0 = w2c_l5;
+  w2c_j0 = w2c_l6;
   w2c_i0 = (u32)(w2c_j0);
   w2c_j1 = 0ull;
   i64_store(m, (u64)(w2c_i0) + 112, w2c_j1);
-  w2c_j0 = w2c_l5;
+  w2c_j0 = w2c_l6;
   w2c_i0 = (u32)(w2c_j0);
   w2c_j1 = 0ull;
   i64_store(m, (u64)(w2c_i0) + 120, w2c_j1);
   w2c_j0 = w2c_p4;
-  w2c_j1 = 0ull;
-  w2c_i0 = w2c_j0 != w2c_j1;
-  if (w2c_i0) {goto w2c_B51;}
-  w2c_j0 = w2c_l5;
-  w2c_i0 = (u32)(w2c_j0);
-  w2c_j1 = 0ull;
-  i64_store(m, (u64)(w2c_i0) + 176, w2c_j1);
-  w2c_j0 = w2c_l5;
-  w2c_i0 = (u32)(w2c_j0);
-  w2c_j1 = 0ull;
-  i64_store(m, (u64)(w2c_i0) + 168, w2c_j1);
-  w2c_j0 = w2c_l5;
-  w2c_i0 = (u32)(w2c_j0);
-  w2c_j0 = i64_load(m, (u64)(w2c_i0) + 184u);
-  w2c_p3 = w2c_j0;
-  w2c_i0 = 0u;
-  w2c_l20 = w2c_i0;
-  w2c_i0 = 1u;
-  w2c_l18 = w2c_i0;
-  goto w2c_B50;
-  w2c_B51:;
-  w2c_j0 = 1ull;
-  w2c_l12 = w2c_j0;
-  w2c_j0 = 1ull;
-  w2c_l6 = w2c_j0;
-  w2c_j0 = w2c_p3;
-  w2c_i0 = (u32)(w2c_j0);
-  w2c_i0 = i32_load8_u(m, (u64)(w2c_i0));
-  w2c_l18 = w2c_i0;
-  w2c_i1 = 32u;
-  w2c_i0 = w2c_i0 == w2c_i1;
-  if (w2c_i0) {goto w2c_B66;}
-  w2c_i0 = w2c_l18;
-  w2c_i1 = 227u;
-  w2c_i0 = w2c_i0 == w2c_i1;
-  if (w2c_i0) {goto w2c_B70;}
-  w2c_i0 = w2c_l18;
-  w2c_i1 = 194u;
-  w2c_i0 = w2c_i0 != w2c_i1;
-  if (w2c_i0) {goto w2c_B69;}
-  w2c_j0 = w2c_p4;
-  w2c_j1 = 1ull;
-  w2c_i0 = w2c_j0 != w2c_j1;
-  if (w2c_i0) {goto w2c_B71;}
-  w2c_j0 = 0ull;
-  w2c_l12 = w2c_j0;
-  w2c_j0 = 1ull;
-  w2c_p4 = w2c_j0;
-  goto w2c_B65;
-  w2c_B71:;
-  w2c_j0 = w2c_p3;
-  w2c_i0 = (u32)(w2c_j0);
-  w2c_i0 = i32_load8_u(m, (u64)(w2c_i0) + 1u);
-  w2c_i1 = 160u;
-  w2c_i0 = w2c_i0 != w2c_i1;
-  if (w2c_i0) {goto w2c_B68;}
-  w2c_j0 = 2ull;
-  w2c_l6 = w2c_j0;
-  goto w2c_B66;
-  w2c_B70:;
-  w2c_j0 = w2c_p4;
-  w2c_j1 = 3ull;
-  w2c_i0 = w2c_j0 >= w2c_j1;
-  if (w2c_i0) {goto w2c_B72;}
-  w2c_j0 = 0ull;
-  w2c_l12 = w2c_j0;
-  goto w2c_B65;
-  w2c_B72:;
-  w2c_j0 = w2c_p3;
-  w2c_i0 = (u32)(w2c_j0);
-  w2c_i0 = i32_load8_u(m, (u64)(w2c_i0) + 1u);
-  w2c_i1 = 128u;
-  w2c_i0 = w2c_i0 != w2c_i1;
-  if (w2c_i0) {goto w2c_B67;}
-  w2c_j0 = w2c_p3;
-  w2c_i0 = (u32)(w2c_j0);
-  w2c_i0 = i32_load8_u(m, (u64)(w2c_i0) + 2u);
-  w2c_i1 = 128u;
-  w2c_i0 = w2c_i0 != w2c_i1;
-  if (w2c_i0) {goto w2c_B67;}
-  w2c_j0 = 3ull;
-  w2c_l6 = w2c_j0;
-  goto w2c_B66;
-  w2c_B69:;
-  w2c_j0 = 1ull;
-  w2c_l6 = w2c_j0;
-  w2c_i0 = w2c_l18;
-  w2c_i1 = 4294967287u;
-  w2c_i0 += w2c_i1;
-  w2c_i1 = 255u;
-  w2c_i0 &= w2c_i1;
-  w2c_i1 = 4u;
-  w2c_i0 = w2c_i0 <= w2c_i1;
-  if (w2c_i0) {goto w2c_B66;}
-  w2c_B68:;
-  w2c_j0 = 0ull;
-  w2c_l12 = w2c_j0;
-  goto w2c_B62;
-  w2c_B67:;
-  w2c_j0 = 0ull;
-  w2c_l12 = w2c_j0;
-  w2c_j0 = w2c_l5;
-  w2c_i0 = (u32)(w2c_j0);
-  w2c_j1 = 0ull;
-  i64_store(m, (u64)(w2c_i0) + 216, w2c_j1);
-  w2c_j0 = w2c_l5;
-  w2c_i0 = (u32)(w2c_j0);
-  w2c_j1 = 0ull;
-  i64_store(m, (u64)(w2c_i0) + 224, w2c_j1);
-  w2c_j0 = w2c_l5;
-  w2c_i0 = (u32)(w2c_j0);
-  w2c_j1 = 0ull;
-  i64_store(m, (u64)(w2c_i0) + 232, w2c_j1);
-  w2c_j0 = w2c_l5;
-  w2c_i0 = (u32)(w2c_j0);
-  w2c_j1 = 0ull;
-  i64_store(m, (u64)(w2c_i0) + 240, w2c_j1);
-  w2c_j0 = w2c_l5;
-  w2c_i0 = (u32)(w2c_j0);
-  w2c_j1 = 0ull;
-  i64_store(m, (u64)(w2c_i0) + 248, w2c_j1);
-  w2c_j0 = w2c_l5;
-  w2c_i0 = (u32)(w2c_j0);
-  w2c_j1 = 0ull;
-  i64_store(m, (u64)(w2c_i0) + 192, w2c_j1);
-  w2c_j0 = w2c_l5;
-  w2c_i0 = (u32)(w2c_j0);
-  w2c_j1 = 0ull;
-  i64_store(m, (u64)(w2c_i0) + 200, w2c_j1);
-  w2c_j0 = w2c_l5;
-  w2c_i0 = (u32)(w2c_j0);
-  w2c_j1 = 0ull;
-  i64_store(m, (u64)(w2c_i0) + 208, w2c_j1);
-  goto w2c_B60;
-  w2c_B66:;
-  w2c_j0 = w2c_p3;
-  w2c_j1 = w2c_l6;
-  w2c_j0 += w2c_j1;
-  w2c_p3 = w2c_j0;
-  w2c_j0 = w2c_p4;
-  w2c_j1 = w2c_l6;
-  w2c_j0 -= w2c_j1;
-  w2c_l15 = w2c_j0;
   w2c_i0 = !(w2c_j0);
-  w2c_i0 = !(w2c_i0);
-  if (w2c_i0) {goto w2c_B73;}
-  w2c_j0 = 0ull;
-  w2c_p4 = w2c_j0;
-  goto w2c_B65;
-  w2c_B73:;
-  w2c_j0 = 1ull;
-  w2c_l12 = w2c_j0;
-  w2c_L74:
-    w2c_j0 = 1ull;
-    w2c_l6 = w2c_j0;
+  if (w2c_i0) {goto w2c_B51;}
+  w2c_L54:
+    w2c_j0 = w2c_p4;
+    w2c_l12 = w2c_j0;
     w2c_j0 = w2c_p3;
+    w2c_l5 = w2c_j0;
     w2c_i0 = (u32)(w2c_j0);
     w2c_i0 = i32_load8_u(m, (u64)(w2c_i0));
     w2c_l18 = w2c_i0;
     w2c_i1 = 32u;
-    w2c_i0 = w2c_i0 == w2c_i1;
-    if (w2c_i0) {goto w2c_B75;}
-    w2c_i0 = w2c_l18;
-    w2c_i1 = 227u;
-    w2c_i0 = w2c_i0 == w2c_i1;
-    if (w2c_i0) {goto w2c_B78;}
-    w2c_i0 = w2c_l18;
-    w2c_i1 = 194u;
-    w2c_i0 = w2c_i0 != w2c_i1;
-    if (w2c_i0) {goto w2c_B77;}
-    w2c_j0 = w2c_l15;
-    w2c_j1 = 1ull;
+    w2c_i0 = w2c_i0 > w2c_i1;
+    if (w2c_i0) {goto w2c_B56;}
+    w2c_j0 = 1ull;
+    w2c_i1 = w2c_l18;
+    w2c_j1 = (u64)(w2c_i1);
+    w2c_j0 <<= (w2c_j1 & 63);
+    w2c_j1 = 4294983168ull;
+    w2c_j0 &= w2c_j1;
+    w2c_j1 = 0ull;
     w2c_i0 = w2c_j0 == w2c_j1;
-    if (w2c_i0) {goto w2c_B63;}
-    w2c_j0 = w2c_p3;
+    if (w2c_i0) {goto w2c_B56;}
+    w2c_j0 = w2c_l12;
+    w2c_j1 = 18446744073709551615ull;
+    w2c_j0 += w2c_j1;
+    w2c_p4 = w2c_j0;
+    w2c_j0 = w2c_l5;
+    w2c_j1 = 1ull;
+    w2c_j0 += w2c_j1;
+    w2c_p3 = w2c_j0;
+    goto w2c_B55;
+    w2c_B56:;
+    w2c_i0 = w2c_l18;
+    w2c_i1 = 4294967102u;
+    w2c_i0 += w2c_i1;
+    w2c_l20 = w2c_i0;
+    w2c_i1 = 33u;
+    w2c_i0 = w2c_i0 > w2c_i1;
+    if (w2c_i0) {goto w2c_B57;}
+    w2c_j0 = 1ull;
+    w2c_i1 = w2c_l20;
+    w2c_j1 = (u64)(w2c_i1);
+    w2c_j0 <<= (w2c_j1 & 63);
+    w2c_j1 = 15032385537ull;
+    w2c_j0 &= w2c_j1;
+    w2c_j1 = 0ull;
+    w2c_i0 = w2c_j0 == w2c_j1;
+    if (w2c_i0) {goto w2c_B57;}
+    w2c_j0 = w2c_l5;
     w2c_i0 = (u32)(w2c_j0);
     w2c_i0 = i32_load8_u(m, (u64)(w2c_i0) + 1u);
-    w2c_i1 = 160u;
-    w2c_i0 = w2c_i0 == w2c_i1;
-    if (w2c_i0) {goto w2c_B76;}
-    w2c_j0 = w2c_l15;
-    w2c_p4 = w2c_j0;
-    goto w2c_B62;
-    w2c_B78:;
-    w2c_j0 = w2c_l15;
+    w2c_l20 = w2c_i0;
+    w2c_j0 = w2c_l12;
     w2c_j1 = 3ull;
     w2c_i0 = w2c_j0 < w2c_j1;
-    if (w2c_i0) {goto w2c_B63;}
-    w2c_j0 = w2c_p3;
-    w2c_i0 = (u32)(w2c_j0);
-    w2c_i0 = i32_load8_u(m, (u64)(w2c_i0) + 1u);
-    w2c_i1 = 128u;
+    if (w2c_i0) {goto w2c_B59;}
+    w2c_i0 = w2c_l18;
+    w2c_i1 = 240u;
+    w2c_i0 &= w2c_i1;
+    w2c_i1 = 224u;
     w2c_i0 = w2c_i0 != w2c_i1;
-    if (w2c_i0) {goto w2c_B64;}
-    w2c_j0 = w2c_p3;
-    w2c_i0 = (u32)(w2c_j0);
-    w2c_i0 = i32_load8_u(m, (u64)(w2c_i0) + 2u);
-    w2c_i1 = 128u;
-    w2c_i0 = w2c_i0 != w2c_i1;
-    if (w2c_i0) {goto w2c_B64;}
+    if (w2c_i0) {goto w2c_B59;}
+    w2c_i0 = w2c_l18;
+    w2c_i1 = 12u;
+    w2c_i0 <<= (w2c_i1 & 31);
+    w2c_i1 = w2c_l20;
+    w2c_i2 = 6u;
+    w2c_i1 <<= (w2c_i2 & 31);
+    w2c_i0 += w2c_i1;
+    w2c_j1 = w2c_l5;
+    w2c_i1 = (u32)(w2c_j1);
+    w2c_i1 = i32_load8_u(m, (u64)(w2c_i1) + 2u);
+    w2c_i0 += w2c_i1;
+    w2c_i1 = 4294041472u;
+    w2c_i0 += w2c_i1;
+    w2c_l18 = w2c_i0;
+    w2c_j0 = w2c_l12;
+    w2c_j1 = 18446744073709551613ull;
+    w2c_j0 += w2c_j1;
+    w2c_p4 = w2c_j0;
+    w2c_j0 = w2c_l5;
+    w2c_j1 = 3ull;
+    w2c_j0 += w2c_j1;
+    w2c_p3 = w2c_j0;
+    goto w2c_B58;
+    w2c_B59:;
+    w2c_i0 = w2c_l20;
+    w2c_i1 = 63u;
+    w2c_i0 &= w2c_i1;
+    w2c_l20 = w2c_i0;
+    w2c_i0 = w2c_l18;
+    w2c_i1 = 223u;
+    w2c_i0 = w2c_i0 > w2c_i1;
+    if (w2c_i0) {goto w2c_B61;}
+    w2c_i0 = w2c_l18;
+    w2c_i1 = 6u;
+    w2c_i0 <<= (w2c_i1 & 31);
+    w2c_i1 = 1984u;
+    w2c_i0 &= w2c_i1;
+    w2c_i1 = w2c_l20;
+    w2c_i0 |= w2c_i1;
+    w2c_l18 = w2c_i0;
+    w2c_j0 = 2ull;
+    w2c_p3 = w2c_j0;
+    goto w2c_B60;
+    w2c_B61:;
+    w2c_i0 = w2c_l20;
+    w2c_i1 = 6u;
+    w2c_i0 <<= (w2c_i1 & 31);
+    w2c_i1 = w2c_l18;
+    w2c_i2 = 12u;
+    w2c_i1 <<= (w2c_i2 & 31);
+    w2c_i2 = 61440u;
+    w2c_i1 &= w2c_i2;
+    w2c_i0 |= w2c_i1;
+    w2c_j1 = w2c_l5;
+    w2c_i1 = (u32)(w2c_j1);
+    w2c_i1 = i32_load8_u(m, (u64)(w2c_i1) + 2u);
+    w2c_i2 = 63u;
+    w2c_i1 &= w2c_i2;
+    w2c_i0 |= w2c_i1;
+    w2c_l18 = w2c_i0;
     w2c_j0 = 3ull;
-    w2c_l6 = w2c_j0;
-    goto w2c_B75;
-    w2c_B77:;
-    w2c_j0 = 1ull;
-    w2c_l6 = w2c_j0;
+    w2c_p3 = w2c_j0;
+    w2c_B60:;
+    w2c_j0 = w2c_l12;
+    w2c_j1 = w2c_p3;
+    w2c_j0 -= w2c_j1;
+    w2c_p4 = w2c_j0;
+    w2c_j0 = w2c_l5;
+    w2c_j1 = w2c_p3;
+    w2c_j0 += w2c_j1;
+    w2c_p3 = w2c_j0;
+    w2c_B58:;
+    w2c_i0 = w2c_l18;
+    w2c_i1 = 127u;
+    w2c_i0 = w2c_i0 > w2c_i1;
+    if (w2c_i0) {goto w2c_B62;}
     w2c_i0 = w2c_l18;
     w2c_i1 = 4294967287u;
     w2c_i0 += w2c_i1;
-    w2c_i1 = 255u;
-    w2c_i0 &= w2c_i1;
-    w2c_i1 = 4u;
-    w2c_i0 = w2c_i0 <= w2c_i1;
-    if (w2c_i0) {goto w2c_B75;}
-    w2c_j0 = w2c_l15;
-    w2c_p4 = w2c_j0;
-    goto w2c_B62;
-    w2c_B76:;
-    w2c_j0 = 2ull;
-    w2c_l6 = w2c_j0;
-    w2c_B75:;
-    w2c_j0 = w2c_l12;
-    w2c_j1 = 1ull;
-    w2c_j0 += w2c_j1;
-    w2c_l12 = w2c_j0;
-    w2c_j0 = w2c_p3;
-    w2c_j1 = w2c_l6;
-    w2c_j0 += w2c_j1;
-    w2c_p3 = w2c_j0;
-    w2c_j0 = 0ull;
-    w2c_p4 = w2c_j0;
-    w2c_j0 = w2c_l15;
-    w2c_j1 = w2c_l6;
-    w2c_j0 -= w2c_j1;
-    w2c_l15 = w2c_j0;
+    w2c_i1 = 5u;
+    w2c_i0 = w2c_i0 < w2c_i1;
+    if (w2c_i0) {goto w2c_B55;}
+    w2c_i0 = w2c_l18;
+    w2c_i1 = 32u;
+    w2c_i0 = w2c_i0 != w2c_i1;
+    if (w2c_i0) {goto w2c_B57;}
+    goto w2c_B55;
+    w2c_B62:;
+    w2c_i0 = w2c_l18;
+    w2c_i1 = 4294959104u;
+    w2c_i0 += w2c_i1;
+    w2c_i1 = 11u;
+    w2c_i0 = w2c_i0 < w2c_i1;
+    if (w2c_i0) {goto w2c_B55;}
+    w2c_i0 = w2c_l18;
+    w2c_i1 = 8231u;
+    w2c_i0 = (u32)((s32)w2c_i0 > (s32)w2c_i1);
+    if (w2c_i0) {goto w2c_B63;}
+    w2c_i0 = w2c_l18;
+    w2c_i1 = 133u;
+    w2c_i0 = w2c_i0 == w2c_i1;
+    if (w2c_i0) {goto w2c_B55;}
+    w2c_i0 = w2c_l18;
+    w2c_i1 = 160u;
+    w2c_i0 = w2c_i0 == w2c_i1;
+    if (w2c_i0) {goto w2c_B55;}
+    w2c_i0 = w2c_l18;
+    w2c_i1 = 5760u;
+    w2c_i0 = w2c_i0 != w2c_i1;
+    if (w2c_i0) {goto w2c_B57;}
+    goto w2c_B55;
+    w2c_B63:;
+    w2c_i0 = w2c_l18;
+    w2c_i1 = 4294959064u;
+    w2c_i0 += w2c_i1;
+    w2c_l20 = w2c_i0;
+    w2c_i1 = 55u;
+    w2c_i0 = w2c_i0 > w2c_i1;
+    if (w2c_i0) {goto w2c_B64;}
+    w2c_j0 = 1ull;
+    w2c_i1 = w2c_l20;
+    w2c_j1 = (u64)(w2c_i1);
+    w2c_j0 <<= (w2c_j1 & 63);
+    w2c_j1 = 36028797018964099ull;
+    w2c_j0 &= w2c_j1;
     w2c_j1 = 0ull;
     w2c_i0 = w2c_j0 != w2c_j1;
-    if (w2c_i0) {goto w2c_L74;}
-  w2c_B65:;
-  w2c_j0 = w2c_l5;
-  w2c_i0 = (u32)(w2c_j0);
-  w2c_j1 = 0ull;
-  i64_store(m, (u64)(w2c_i0) + 216, w2c_j1);
-  w2c_j0 = w2c_l5;
-  w2c_i0 = (u32)(w2c_j0);
-  w2c_j1 = 0ull;
-  i64_store(m, (u64)(w2c_i0) + 224, w2c_j1);
-  w2c_j0 = w2c_l5;
-  w2c_i0 = (u32)(w2c_j0);
-  w2c_j1 = 0ull;
-  i64_store(m, (u64)(w2c_i0) + 232, w2c_j1);
-  w2c_j0 = w2c_l5;
-  w2c_i0 = (u32)(w2c_j0);
-  w2c_j1 = 0ull;
-  i64_store(m, (u64)(w2c_i0) + 240, w2c_j1);
-  w2c_j0 = w2c_l5;
-  w2c_i0 = (u32)(w2c_j0);
-  w2c_j1 = 0ull;
-  i64_store(m, (u64)(w2c_i0) + 248, w2c_j1);
-  w2c_j0 = w2c_l5;
-  w2c_i0 = (u32)(w2c_j0);
-  w2c_j1 = 0ull;
-  i64_store(m, (u64)(w2c_i0) + 192, w2c_j1);
-  w2c_j0 = w2c_l5;
-  w2c_i0 = (u32)(w2c_j0);
-  w2c_j1 = 0ull;
-  i64_store(m, (u64)(w2c_i0) + 200, w2c_j1);
-  w2c_j0 = w2c_l5;
-  w2c_i0 = (u32)(w2c_j0);
-  w2c_j1 = 0ull;
-  i64_store(m, (u64)(w2c_i0) + 208, w2c_j1);
-  goto w2c_B61;
-  w2c_B64:;
-  w2c_j0 = w2c_l5;
-  w2c_i0 = (u32)(w2c_j0);
-  w2c_j1 = 0ull;
-  i64_store(m, (u64)(w2c_i0) + 216, w2c_j1);
-  w2c_j0 = w2c_l5;
-  w2c_i0 = (u32)(w2c_j0);
-  w2c_j1 = 0ull;
-  i64_store(m, (u64)(w2c_i0) + 224, w2c_j1);
-  w2c_j0 = w2c_l5;
-  w2c_i0 = (u32)(w2c_j0);
-  w2c_j1 = 0ull;
-  i64_store(m, (u64)(w2c_i0) + 232, w2c_j1);
-  w2c_j0 = w2c_l5;
-  w2c_i0 = (u32)(w2c_j0);
-  w2c_j1 = 0ull;
-  i64_store(m, (u64)(w2c_i0) + 240, w2c_j1);
-  w2c_j0 = w2c_l5;
-  w2c_i0 = (u32)(w2c_j0);
-  w2c_j1 = 0ull;
-  i64_store(m, (u64)(w2c_i0) + 248, w2c_j1);
-  w2c_j0 = w2c_l5;
-  w2c_i0 = (u32)(w2c_j0);
-  w2c_j1 = 0ull;
-  i64_store(m, (u64)(w2c_i0) + 192, w2c_j1);
-  w2c_j0 = w2c_l5;
-  w2c_i0 = (u32)(w2c_j0);
-  w2c_j1 = 0ull;
-  i64_store(m, (u64)(w2c_i0) + 200, w2c_j1);
-  w2c_j0 = w2c_l5;
-  w2c_i0 = (u32)(w2c_j0);
-  w2c_j1 = 0ull;
-  i64_store(m, (u64)(w2c_i0) + 208, w2c_j1);
-  w2c_j0 = w2c_l15;
-  w2c_p4 = w2c_j0;
-  goto w2c_B60;
-  w2c_B63:;
-  w2c_j0 = w2c_l5;
-  w2c_i0 = (u32)(w2c_j0);
-  w2c_j1 = 0ull;
-  i64_store(m, (u64)(w2c_i0) + 216, w2c_j1);
-  w2c_j0 = w2c_l5;
-  w2c_i0 = (u32)(w2c_j0);
-  w2c_j1 = 0ull;
-  i64_store(m, (u64)(w2c_i0) + 224, w2c_j1);
-  w2c_j0 = w2c_l5;
-  w2c_i0 = (u32)(w2c_j0);
-  w2c_j1 = 0ull;
-  i64_store(m, (u64)(w2c_i0) + 232, w2c_j1);
-  w2c_j0 = w2c_l5;
-  w2c_i0 = (u32)(w2c_j0);
-  w2c_j1 = 0ull;
-  i64_store(m, (u64)(w2c_i0) + 240, w2c_j1);
-  w2c_j0 = w2c_l5;
-  w2c_i0 = (u32)(w2c_j0);
-  w2c_j1 = 0ull;
-  i64_store(m, (u64)(w2c_i0) + 248, w2c_j1);
-  w2c_j0 = w2c_l5;
-  w2c_i0 = (u32)(w2c_j0);
-  w2c_j1 = 0ull;
-  i64_store(m, (u64)(w2c_i0) + 192, w2c_j1);
-  w2c_j0 = w2c_l5;
-  w2c_i0 = (u32)(w2c_j0);
-  w2c_j1 = 0ull;
-  i64_store(m, (u64)(w2c_i0) + 200, w2c_j1);
-  w2c_j0 = w2c_l5;
-  w2c_i0 = (u32)(w2c_j0);
-  w2c_j1 = 0ull;
-  i64_store(m, (u64)(w2c_i0) + 208, w2c_j1);
-  w2c_j0 = w2c_l15;
-  w2c_p4 = w2c_j0;
-  goto w2c_B59;
-  w2c_B62:;
-  w2c_j0 = w2c_l5;
-  w2c_i0 = (u32)(w2c_j0);
-  w2c_j1 = 0ull;
-  i64_store(m, (u64)(w2c_i0) + 216, w2c_j1);
-  w2c_j0 = w2c_l5;
-  w2c_i0 = (u32)(w2c_j0);
-  w2c_j1 = 0ull;
-  i64_store(m, (u64)(w2c_i0) + 224, w2c_j1);
-  w2c_j0 = w2c_l5;
-  w2c_i0 = (u32)(w2c_j0);
-  w2c_j1 = 0ull;
-  i64_store(m, (u64)(w2c_i0) + 232, w2c_j1);
-  w2c_j0 = w2c_l5;
-  w2c_i0 = (u32)(w2c_j0);
-  w2c_j1 = 0ull;
-  i64_store(m, (u64)(w2c_i0) + 240, w2c_j1);
-  w2c_j0 = w2c_l5;
-  w2c_i0 = (u32)(w2c_j0);
-  w2c_j1 = 0ull;
-  i64_store(m, (u64)(w2c_i0) + 248, w2c_j1);
-  w2c_j0 = w2c_l5;
-  w2c_i0 = (u32)(w2c_j0);
-  w2c_j1 = 0ull;
-  i64_store(m, (u64)(w2c_i0) + 192, w2c_j1);
-  w2c_j0 = w2c_l5;
-  w2c_i0 = (u32)(w2c_j0);
-  w2c_j1 = 0ull;
-  i64_store(m, (u64)(w2c_i0) + 200, w2c_j1);
-  w2c_j0 = w2c_l5;
-  w2c_i0 = (u32)(w2c_j0);
-  w2c_j1 = 0ull;
-  i64_store(m, (u64)(w2c_i0) + 208, w2c_j1);
-  w2c_j0 = w2c_p4;
-  w2c_j1 = 3ull;
-  w2c_i0 = w2c_j0 >= w2c_j1;
-  if (w2c_i0) {goto w2c_B60;}
-  w2c_B61:;
-  w2c_j0 = w2c_p4;
-  w2c_i0 = !(w2c_j0);
-  w2c_i0 = !(w2c_i0);
-  if (w2c_i0) {goto w2c_B59;}
+    if (w2c_i0) {goto w2c_B55;}
+    w2c_B64:;
+    w2c_i0 = w2c_l18;
+    w2c_i1 = 12288u;
+    w2c_i0 = w2c_i0 == w2c_i1;
+    if (w2c_i0) {goto w2c_B55;}
+    w2c_B57:;
+    w2c_j0 = w2c_l5;
+    w2c_i0 = (u32)(w2c_j0);
+    w2c_i0 = i32_load8_u(m, (u64)(w2c_i0));
+    w2c_l18 = w2c_i0;
+    w2c_j0 = w2c_l12;
+    w2c_j1 = 3ull;
+    w2c_i0 = w2c_j0 < w2c_j1;
+    if (w2c_i0) {goto w2c_B53;}
+    w2c_i0 = w2c_l18;
+    w2c_i1 = 240u;
+    w2c_i0 &= w2c_i1;
+    w2c_i1 = 224u;
+    w2c_i0 = w2c_i0 != w2c_i1;
+    if (w2c_i0) {goto w2c_B53;}
+    w2c_i0 = w2c_l18;
+    w2c_i1 = 12u;
+    w2c_i0 <<= (w2c_i1 & 31);
+    w2c_j1 = w2c_l5;
+    w2c_i1 = (u32)(w2c_j1);
+    w2c_i1 = i32_load8_u(m, (u64)(w2c_i1) + 1u);
+    w2c_i2 = 6u;
+    w2c_i1 <<= (w2c_i2 & 31);
+    w2c_i0 += w2c_i1;
+    w2c_j1 = w2c_l5;
+    w2c_i1 = (u32)(w2c_j1);
+    w2c_i1 = i32_load8_u(m, (u64)(w2c_i1) + 2u);
+    w2c_i0 += w2c_i1;
+    w2c_i1 = 4294041472u;
+    w2c_i0 += w2c_i1;
+    w2c_l18 = w2c_i0;
+    w2c_j0 = w2c_l12;
+    w2c_j1 = 18446744073709551613ull;
+    w2c_j0 += w2c_j1;
+    w2c_p4 = w2c_j0;
+    w2c_j0 = w2c_l5;
+    w2c_j1 = 3ull;
+    w2c_j0 += w2c_j1;
+    w2c_l5 = w2c_j0;
+    goto w2c_B52;
+    w2c_B55:;
+    w2c_j0 = w2c_p2;
+    w2c_j1 = 1ull;
+    w2c_j0 += w2c_j1;
+    w2c_p2 = w2c_j0;
+    w2c_j0 = w2c_p4;
+    w2c_i0 = !(w2c_j0);
+    w2c_i0 = !(w2c_i0);
+    if (w2c_i0) {goto w2c_L54;}
   w2c_j0 = 0ull;
-  w2c_p4 = w2c_j0;
-  goto w2c_B56;
-  w2c_B60:;
-  w2c_j0 = w2c_p3;
-  w2c_i0 = (u32)(w2c_j0);
-  w2c_i0 = i32_load8_u(m, (u64)(w2c_i0));
-  w2c_l18 = w2c_i0;
-  w2c_i1 = 240u;
-  w2c_i0 &= w2c_i1;
-  w2c_i1 = 224u;
-  w2c_i0 = w2c_i0 != w2c_i1;
-  if (w2c_i0) {goto w2c_B57;}
-  w2c_j0 = w2c_p3;
+  w2c_l5 = w2c_j0;
+  goto w2c_B51;
+  w2c_B53:;
+  w2c_i0 = w2c_l18;
+  w2c_i0 = (u32)(s32)(s8)(u8)(w2c_i0);
+  w2c_i1 = 4294967295u;
+  w2c_i0 = (u32)((s32)w2c_i0 <= (s32)w2c_i1);
+  if (w2c_i0) {goto w2c_B66;}
+  w2c_j0 = 1ull;
+  w2c_p3 = w2c_j0;
+  goto w2c_B65;
+  w2c_B66:;
+  w2c_j0 = w2c_l5;
   w2c_i0 = (u32)(w2c_j0);
   w2c_i0 = i32_load8_u(m, (u64)(w2c_i0) + 1u);
+  w2c_i1 = 63u;
+  w2c_i0 &= w2c_i1;
+  w2c_l20 = w2c_i0;
+  w2c_i0 = w2c_l18;
+  w2c_i1 = 223u;
+  w2c_i0 = w2c_i0 > w2c_i1;
+  if (w2c_i0) {goto w2c_B67;}
+  w2c_i0 = w2c_l18;
+  w2c_i1 = 6u;
+  w2c_i0 <<= (w2c_i1 & 31);
+  w2c_i1 = 1984u;
+  w2c_i0 &= w2c_i1;
+  w2c_i1 = w2c_l20;
+  w2c_i0 |= w2c_i1;
+  w2c_l18 = w2c_i0;
+  w2c_j0 = 2ull;
+  w2c_p3 = w2c_j0;
+  goto w2c_B65;
+  w2c_B67:;
+  w2c_j0 = w2c_l5;
+  w2c_i0 = (u32)(w2c_j0);
+  w2c_i0 = i32_load8_u(m, (u64)(w2c_i0) + 2u);
+  w2c_i1 = 63u;
+  w2c_i0 &= w2c_i1;
   w2c_l19 = w2c_i0;
+  w2c_i0 = w2c_l18;
+  w2c_i1 = 239u;
+  w2c_i0 = w2c_i0 > w2c_i1;
+  if (w2c_i0) {goto w2c_B68;}
+  w2c_i0 = w2c_l20;
   w2c_i1 = 6u;
   w2c_i0 <<= (w2c_i1 & 31);
   w2c_i1 = w2c_l18;
   w2c_i2 = 12u;
   w2c_i1 <<= (w2c_i2 & 31);
-  w2c_i0 += w2c_i1;
-  w2c_j1 = w2c_p3;
-  w2c_i1 = (u32)(w2c_j1);
-  w2c_i1 = i32_load8_u(m, (u64)(w2c_i1) + 2u);
-  w2c_l22 = w2c_i1;
-  w2c_i0 += w2c_i1;
-  w2c_l21 = w2c_i0;
-  w2c_i1 = 4294041472u;
-  w2c_i0 += w2c_i1;
-  w2c_l20 = w2c_i0;
-  w2c_j0 = w2c_p4;
-  w2c_j1 = 18446744073709551613ull;
-  w2c_j0 += w2c_j1;
-  w2c_l6 = w2c_j0;
-  w2c_j0 = w2c_p3;
-  w2c_j1 = 3ull;
-  w2c_j0 += w2c_j1;
-  w2c_l15 = w2c_j0;
+  w2c_i2 = 61440u;
+  w2c_i1 &= w2c_i2;
+  w2c_i0 |= w2c_i1;
+  w2c_i1 = w2c_l19;
+  w2c_i0 |= w2c_i1;
+  w2c_l18 = w2c_i0;
+  w2c_j0 = 3ull;
+  w2c_p3 = w2c_j0;
+  goto w2c_B65;
+  w2c_B68:;
   w2c_i0 = w2c_l19;
-  w2c_i1 = 8u;
+  w2c_i1 = 6u;
   w2c_i0 <<= (w2c_i1 & 31);
-  w2c_i1 = w2c_l22;
-  w2c_i2 = 16u;
+  w2c_i1 = w2c_l20;
+  w2c_i2 = 12u;
   w2c_i1 <<= (w2c_i2 & 31);
+  w2c_i2 = w2c_l18;
+  w2c_i3 = 18u;
+  w2c_i2 <<= (w2c_i3 & 31);
+  w2c_i3 = 1835008u;
+  w2c_i2 &= w2c_i3;
+  w2c_i1 |= w2c_i2;
   w2c_i0 |= w2c_i1;
-  w2c_i1 = w2c_l18;
+  w2c_j1 = w2c_l5;
+  w2c_i1 = (u32)(w2c_j1);
+  w2c_i1 = i32_load8_u(m, (u64)(w2c_i1) + 3u);
+  w2c_i2 = 63u;
+  w2c_i1 &= w2c_i2;
   w2c_i0 |= w2c_i1;
-  w2c_l19 = w2c_i0;
+  w2c_l18 = w2c_i0;
+  w2c_j0 = 4ull;
+  w2c_p3 = w2c_j0;
+  w2c_B65:;
+  w2c_j0 = w2c_l12;
+  w2c_j1 = w2c_p3;
+  w2c_j0 -= w2c_j1;
+  w2c_p4 = w2c_j0;
+  w2c_j0 = w2c_l5;
+  w2c_j1 = w2c_p3;
+  w2c_j0 += w2c_j1;
+  w2c_l5 = w2c_j0;
+  w2c_B52:;
+  w2c_j0 = w2c_l6;
+  w2c_i0 = (u32)(w2c_j0);
+  w2c_j1 = 0ull;
+  i64_store(m, (u64)(w2c_i0) + 224, w2c_j1);
+  w2c_j0 = w2c_l6;
+  w2c_i0 = (u32)(w2c_j0);
+  w2c_j1 = 0ull;
+  i64_store(m, (u64)(w2c_i0) + 216, w2c_j1);
+  w2c_j0 = w2c_l6;
+  w2c_i0 = (u32)(w2c_j0);
+  w2c_j1 = 0ull;
+  i64_store(m, (u64)(w2c_i0) + 208, w2c_j1);
+  w2c_j0 = w2c_l6;
+  w2c_i0 = (u32)(w2c_j0);
+  w2c_j1 = 0ull;
+  i64_store(m, (u64)(w2c_i0) + 200, w2c_j1);
+  w2c_j0 = w2c_p4;
+  w2c_j1 = 4ull;
+  w2c_i0 = w2c_j0 < w2c_j1;
+  if (w2c_i0) {goto w2c_B74;}
+  w2c_j0 = w2c_l5;
+  w2c_j1 = w2c_p4;
+  w2c_j0 += w2c_j1;
+  w2c_j1 = 18446744073709551612ull;
+  w2c_j0 += w2c_j1;
+  w2c_i0 = (u32)(w2c_j0);
+  w2c_i0 = i32_load(m, (u64)(w2c_i0));
+  w2c_i1 = 8u;
+  w2c_i0 >>= (w2c_i1 & 31);
+  w2c_l20 = w2c_i0;
   w2c_j0 = (u64)(w2c_i0);
   w2c_j1 = 953497ull;
   w2c_j0 *= w2c_j1;
@@ -39215,192 +39859,131 @@ static void w2c_f47(module *m, u64 w2c_p0, u32 w2c_p1, u64 w2c_p2, u64 w2c_p3, u
   w2c_j0 >>= (w2c_j1 & 63);
   w2c_j1 = 1016ull;
   w2c_j0 &= w2c_j1;
-  w2c_l16 = w2c_j0;
+  w2c_l15 = w2c_j0;
+  w2c_j1 = 66976ull;
+  w2c_j0 += w2c_j1;
   w2c_i0 = (u32)(w2c_j0);
-  w2c_i0 = i32_load(m, (u64)(w2c_i0) + 66976u);
-  w2c_i1 = w2c_l19;
+  w2c_i0 = i32_load(m, (u64)(w2c_i0));
+  w2c_i1 = w2c_l20;
   w2c_i0 = w2c_i0 != w2c_i1;
-  if (w2c_i0) {goto w2c_B79;}
-  w2c_j0 = w2c_l16;
+  if (w2c_i0) {goto w2c_B72;}
+  w2c_j0 = w2c_p4;
+  w2c_j1 = 18446744073709551613ull;
+  w2c_j0 += w2c_j1;
+  w2c_l12 = w2c_j0;
+  w2c_j0 = w2c_l5;
+  w2c_p3 = w2c_j0;
+  goto w2c_B73;
+  w2c_B74:;
+  w2c_j0 = w2c_p4;
+  w2c_j1 = 3ull;
+  w2c_i0 = w2c_j0 != w2c_j1;
+  if (w2c_i0) {goto w2c_B72;}
+  w2c_j0 = w2c_l5;
+  w2c_i0 = (u32)(w2c_j0);
+  w2c_i0 = i32_load16_u(m, (u64)(w2c_i0));
+  w2c_j1 = w2c_l5;
+  w2c_i1 = (u32)(w2c_j1);
+  w2c_i1 = i32_load8_u(m, (u64)(w2c_i1) + 2u);
+  w2c_i2 = 16u;
+  w2c_i1 <<= (w2c_i2 & 31);
+  w2c_i0 |= w2c_i1;
+  w2c_l20 = w2c_i0;
+  w2c_j0 = (u64)(w2c_i0);
+  w2c_j1 = 953497ull;
+  w2c_j0 *= w2c_j1;
+  w2c_j1 = 22ull;
+  w2c_j0 >>= (w2c_j1 & 63);
+  w2c_j1 = 1016ull;
+  w2c_j0 &= w2c_j1;
+  w2c_l15 = w2c_j0;
+  w2c_j1 = 66976ull;
+  w2c_j0 += w2c_j1;
+  w2c_i0 = (u32)(w2c_j0);
+  w2c_i0 = i32_load(m, (u64)(w2c_i0));
+  w2c_i1 = w2c_l20;
+  w2c_i0 = w2c_i0 != w2c_i1;
+  if (w2c_i0) {goto w2c_B72;}
+  w2c_j0 = w2c_l5;
+  w2c_j1 = 3ull;
+  w2c_j0 += w2c_j1;
+  w2c_p3 = w2c_j0;
+  w2c_j0 = 0ull;
+  w2c_l12 = w2c_j0;
+  w2c_B73:;
+  w2c_j0 = w2c_l15;
   w2c_j1 = 66980ull;
   w2c_j0 += w2c_j1;
   w2c_i0 = (u32)(w2c_j0);
   w2c_i0 = i32_load8_u(m, (u64)(w2c_i0));
-  w2c_i1 = 255u;
-  w2c_i0 &= w2c_i1;
-  w2c_i1 = 2u;
-  w2c_i0 = w2c_i0 != w2c_i1;
-  if (w2c_i0) {goto w2c_B55;}
-  w2c_B79:;
-  w2c_i0 = w2c_l20;
-  w2c_i1 = 127u;
-  w2c_i0 = w2c_i0 > w2c_i1;
-  if (w2c_i0) {goto w2c_B80;}
-  w2c_i0 = w2c_l21;
-  w2c_i1 = 4294041463u;
-  w2c_i0 += w2c_i1;
-  w2c_i1 = 5u;
-  w2c_i0 = w2c_i0 < w2c_i1;
-  if (w2c_i0) {goto w2c_B57;}
-  w2c_i0 = w2c_l21;
-  w2c_i1 = 925856u;
-  w2c_i0 = w2c_i0 == w2c_i1;
-  if (w2c_i0) {goto w2c_B57;}
-  goto w2c_B55;
-  w2c_B80:;
-  w2c_i0 = w2c_l21;
-  w2c_i1 = 4294033280u;
-  w2c_i0 += w2c_i1;
-  w2c_i1 = 11u;
-  w2c_i0 = w2c_i0 < w2c_i1;
-  if (w2c_i0) {goto w2c_B57;}
-  w2c_i0 = w2c_l21;
-  w2c_i1 = 934055u;
-  w2c_i0 = (u32)((s32)w2c_i0 > (s32)w2c_i1);
-  if (w2c_i0) {goto w2c_B81;}
-  w2c_i0 = w2c_l21;
-  w2c_i1 = 925957u;
-  w2c_i0 = w2c_i0 == w2c_i1;
-  if (w2c_i0) {goto w2c_B57;}
-  w2c_i0 = w2c_l21;
-  w2c_i1 = 925984u;
-  w2c_i0 = w2c_i0 == w2c_i1;
-  if (w2c_i0) {goto w2c_B57;}
-  w2c_i0 = w2c_l21;
-  w2c_i1 = 931584u;
-  w2c_i0 = w2c_i0 == w2c_i1;
-  if (w2c_i0) {goto w2c_B57;}
-  goto w2c_B55;
-  w2c_B81:;
-  w2c_i0 = w2c_l21;
-  w2c_i1 = 4294033240u;
-  w2c_i0 += w2c_i1;
-  w2c_l19 = w2c_i0;
-  w2c_i1 = 55u;
-  w2c_i0 = w2c_i0 > w2c_i1;
-  if (w2c_i0) {goto w2c_B58;}
-  w2c_j0 = 1ull;
-  w2c_i1 = w2c_l19;
-  w2c_j1 = (u64)(w2c_i1);
-  w2c_j0 <<= (w2c_j1 & 63);
-  w2c_j1 = 36028797018964099ull;
-  w2c_j0 &= w2c_j1;
-  w2c_j1 = 0ull;
-  w2c_i0 = w2c_j0 == w2c_j1;
-  if (w2c_i0) {goto w2c_B58;}
-  goto w2c_B57;
-  w2c_B59:;
-  w2c_j0 = w2c_p3;
+  w2c_l22 = w2c_i0;
+  w2c_j0 = w2c_l15;
+  w2c_j1 = 66981ull;
+  w2c_j0 += w2c_j1;
   w2c_i0 = (u32)(w2c_j0);
   w2c_i0 = i32_load8_u(m, (u64)(w2c_i0));
-  w2c_l18 = w2c_i0;
-  goto w2c_B57;
-  w2c_B58:;
-  w2c_i0 = w2c_l21;
-  w2c_i1 = 938112u;
-  w2c_i0 = w2c_i0 != w2c_i1;
-  if (w2c_i0) {goto w2c_B55;}
-  w2c_B57:;
-  w2c_i0 = w2c_l18;
-  w2c_i1 = 4294967263u;
-  w2c_i0 += w2c_i1;
-  w2c_i1 = 255u;
-  w2c_i0 &= w2c_i1;
-  w2c_i1 = 93u;
-  w2c_i0 = w2c_i0 > w2c_i1;
-  if (w2c_i0) {goto w2c_B56;}
-  w2c_i0 = w2c_l18;
-  w2c_i1 = 255u;
-  w2c_i0 &= w2c_i1;
-  w2c_l20 = w2c_i0;
-  w2c_j0 = w2c_p3;
-  w2c_j1 = 1ull;
-  w2c_j0 += w2c_j1;
-  w2c_l15 = w2c_j0;
-  w2c_j0 = w2c_p4;
-  w2c_j1 = 18446744073709551615ull;
-  w2c_j0 += w2c_j1;
-  w2c_l6 = w2c_j0;
-  goto w2c_B55;
-  w2c_B56:;
-  w2c_j0 = w2c_l5;
-  w2c_i0 = (u32)(w2c_j0);
-  w2c_j1 = w2c_p4;
-  i64_store(m, (u64)(w2c_i0) + 208, w2c_j1);
-  w2c_j0 = w2c_l5;
-  w2c_i0 = (u32)(w2c_j0);
-  w2c_j1 = w2c_p3;
-  i64_store(m, (u64)(w2c_i0) + 200, w2c_j1);
-  w2c_j0 = w2c_l5;
-  w2c_i0 = (u32)(w2c_j0);
-  w2c_j1 = w2c_l12;
-  i64_store(m, (u64)(w2c_i0) + 192, w2c_j1);
-  w2c_j0 = w2c_l5;
-  w2c_j1 = 216ull;
+  w2c_l21 = w2c_i0;
+  goto w2c_B71;
+  w2c_B72:;
+  w2c_j0 = w2c_l6;
+  w2c_j1 = 200ull;
   w2c_j0 += w2c_j1;
   w2c_j1 = w2c_l5;
-  w2c_j2 = 192ull;
-  w2c_j1 += w2c_j2;
-  w2c_f29(m, w2c_j0, w2c_j1);
-  w2c_i0 = 1u;
-  w2c_l18 = w2c_i0;
-  w2c_j0 = w2c_l5;
+  w2c_j2 = w2c_p4;
+  w2c_f44(m, w2c_j0, w2c_j1, w2c_j2);
+  w2c_j0 = w2c_l6;
   w2c_i0 = (u32)(w2c_j0);
-  w2c_i0 = i32_load8_u(m, (u64)(w2c_i0) + 216u);
+  w2c_i0 = i32_load8_u(m, (u64)(w2c_i0) + 200u);
   w2c_i1 = 1u;
   w2c_i0 = w2c_i0 != w2c_i1;
-  if (w2c_i0) {goto w2c_B54;}
-  w2c_j0 = w2c_l5;
+  if (w2c_i0) {goto w2c_B70;}
+  w2c_j0 = w2c_l6;
   w2c_i0 = (u32)(w2c_j0);
-  w2c_j0 = i64_load(m, (u64)(w2c_i0) + 248u);
-  w2c_l6 = w2c_j0;
-  w2c_j0 = w2c_l5;
-  w2c_i0 = (u32)(w2c_j0);
-  w2c_j0 = i64_load(m, (u64)(w2c_i0) + 240u);
-  w2c_l15 = w2c_j0;
-  w2c_j0 = w2c_l5;
-  w2c_i0 = (u32)(w2c_j0);
-  w2c_j0 = i64_load(m, (u64)(w2c_i0) + 232u);
+  w2c_j0 = i64_load(m, (u64)(w2c_i0) + 224u);
   w2c_l12 = w2c_j0;
-  w2c_j0 = w2c_l5;
+  w2c_j0 = w2c_l6;
   w2c_i0 = (u32)(w2c_j0);
-  w2c_i0 = i32_load(m, (u64)(w2c_i0) + 224u);
+  w2c_j0 = i64_load(m, (u64)(w2c_i0) + 216u);
+  w2c_p3 = w2c_j0;
+  w2c_j0 = w2c_l6;
+  w2c_i0 = (u32)(w2c_j0);
+  w2c_i0 = i32_load8_u(m, (u64)(w2c_i0) + 209u);
+  w2c_l21 = w2c_i0;
+  w2c_j0 = w2c_l6;
+  w2c_i0 = (u32)(w2c_j0);
+  w2c_i0 = i32_load8_u(m, (u64)(w2c_i0) + 208u);
+  w2c_l22 = w2c_i0;
+  w2c_B71:;
+  w2c_j0 = w2c_l6;
+  w2c_i0 = (u32)(w2c_j0);
+  w2c_j1 = 0ull;
+  i64_store(m, (u64)(w2c_i0) + 224, w2c_j1);
+  w2c_j0 = w2c_l6;
+  w2c_i0 = (u32)(w2c_j0);
+  w2c_j1 = 0ull;
+  i64_store(m, (u64)(w2c_i0) + 216, w2c_j1);
+  w2c_j0 = w2c_l6;
+  w2c_i0 = (u32)(w2c_j0);
+  w2c_j1 = 0ull;
+  i64_store(m, (u64)(w2c_i0) + 208, w2c_j1);
+  w2c_j0 = w2c_l6;
+  w2c_i0 = (u32)(w2c_j0);
+  w2c_j1 = 0ull;
+  i64_store(m, (u64)(w2c_i0) + 200, w2c_j1);
+  w2c_j0 = w2c_l12;
+  w2c_j1 = 4ull;
+  w2c_i0 = w2c_j0 < w2c_j1;
+  if (w2c_i0) {goto w2c_B77;}
+  w2c_j0 = w2c_p3;
+  w2c_j1 = w2c_l12;
+  w2c_j0 += w2c_j1;
+  w2c_j1 = 18446744073709551612ull;
+  w2c_j0 += w2c_j1;
+  w2c_i0 = (u32)(w2c_j0);
+  w2c_i0 = i32_load(m, (u64)(w2c_i0));
+  w2c_i1 = 8u;
+  w2c_i0 >>= (w2c_i1 & 31);
   w2c_l20 = w2c_i0;
-  w2c_B55:;
-  w2c_j0 = w2c_l5;
-  w2c_i0 = (u32)(w2c_j0);
-  w2c_j1 = 0ull;
-  i64_store(m, (u64)(w2c_i0) + 240, w2c_j1);
-  w2c_j0 = w2c_l5;
-  w2c_i0 = (u32)(w2c_j0);
-  w2c_j1 = 0ull;
-  i64_store(m, (u64)(w2c_i0) + 232, w2c_j1);
-  w2c_j0 = w2c_l5;
-  w2c_i0 = (u32)(w2c_j0);
-  w2c_j1 = 0ull;
-  i64_store(m, (u64)(w2c_i0) + 224, w2c_j1);
-  w2c_j0 = w2c_l5;
-  w2c_i0 = (u32)(w2c_j0);
-  w2c_j1 = 0ull;
-  i64_store(m, (u64)(w2c_i0) + 216, w2c_j1);
-  w2c_j0 = w2c_l12;
-  w2c_j1 = w2c_p2;
-  w2c_j0 += w2c_j1;
-  w2c_p4 = w2c_j0;
-  w2c_j0 = w2c_l6;
-  w2c_j1 = 4ull;
-  w2c_i0 = w2c_j0 < w2c_j1;
-  if (w2c_i0) {goto w2c_B85;}
-  w2c_j0 = w2c_l15;
-  w2c_j1 = w2c_l6;
-  w2c_j0 += w2c_j1;
-  w2c_j1 = 18446744073709551612ull;
-  w2c_j0 += w2c_j1;
-  w2c_i0 = (u32)(w2c_j0);
-  w2c_i0 = i32_load(m, (u64)(w2c_i0));
-  w2c_i1 = 8u;
-  w2c_i0 >>= (w2c_i1 & 31);
-  w2c_l18 = w2c_i0;
   w2c_j0 = (u64)(w2c_i0);
   w2c_j1 = 953497ull;
   w2c_j0 *= w2c_j1;
@@ -39408,176 +39991,44 @@ static void w2c_f47(module *m, u64 w2c_p0, u32 w2c_p1, u64 w2c_p2, u64 w2c_p3, u
   w2c_j0 >>= (w2c_j1 & 63);
   w2c_j1 = 1016ull;
   w2c_j0 &= w2c_j1;
-  w2c_l16 = w2c_j0;
+  w2c_l15 = w2c_j0;
   w2c_j1 = 66976ull;
   w2c_j0 += w2c_j1;
   w2c_i0 = (u32)(w2c_j0);
   w2c_i0 = i32_load(m, (u64)(w2c_i0));
-  w2c_i1 = w2c_l18;
+  w2c_i1 = w2c_l20;
   w2c_i0 = w2c_i0 != w2c_i1;
-  if (w2c_i0) {goto w2c_B83;}
-  w2c_j0 = w2c_l6;
-  w2c_j1 = 18446744073709551613ull;
-  w2c_j0 += w2c_j1;
-  w2c_p3 = w2c_j0;
+  if (w2c_i0) {goto w2c_B76;}
   w2c_j0 = w2c_l15;
-  w2c_l12 = w2c_j0;
-  goto w2c_B84;
-  w2c_B85:;
-  w2c_j0 = w2c_l6;
-  w2c_j1 = 3ull;
-  w2c_i0 = w2c_j0 != w2c_j1;
-  if (w2c_i0) {goto w2c_B83;}
-  w2c_j0 = w2c_l15;
-  w2c_i0 = (u32)(w2c_j0);
-  w2c_i0 = i32_load16_u(m, (u64)(w2c_i0));
-  w2c_j1 = w2c_l15;
-  w2c_i1 = (u32)(w2c_j1);
-  w2c_i1 = i32_load8_u(m, (u64)(w2c_i1) + 2u);
-  w2c_i2 = 16u;
-  w2c_i1 <<= (w2c_i2 & 31);
-  w2c_i0 |= w2c_i1;
-  w2c_l18 = w2c_i0;
-  w2c_j0 = (u64)(w2c_i0);
-  w2c_j1 = 953497ull;
-  w2c_j0 *= w2c_j1;
-  w2c_j1 = 22ull;
-  w2c_j0 >>= (w2c_j1 & 63);
-  w2c_j1 = 1016ull;
-  w2c_j0 &= w2c_j1;
-  w2c_l16 = w2c_j0;
-  w2c_j1 = 66976ull;
-  w2c_j0 += w2c_j1;
-  w2c_i0 = (u32)(w2c_j0);
-  w2c_i0 = i32_load(m, (u64)(w2c_i0));
-  w2c_i1 = w2c_l18;
-  w2c_i0 = w2c_i0 != w2c_i1;
-  if (w2c_i0) {goto w2c_B83;}
-  w2c_j0 = w2c_l15;
-  w2c_j1 = 3ull;
-  w2c_j0 += w2c_j1;
-  w2c_l12 = w2c_j0;
-  w2c_j0 = 0ull;
-  w2c_p3 = w2c_j0;
-  w2c_B84:;
-  w2c_j0 = w2c_l16;
   w2c_j1 = 66980ull;
   w2c_j0 += w2c_j1;
   w2c_i0 = (u32)(w2c_j0);
   w2c_i0 = i32_load8_u(m, (u64)(w2c_i0));
-  w2c_l22 = w2c_i0;
-  w2c_j0 = w2c_l16;
+  w2c_l19 = w2c_i0;
+  w2c_j0 = w2c_l15;
   w2c_j1 = 66981ull;
   w2c_j0 += w2c_j1;
   w2c_i0 = (u32)(w2c_j0);
   w2c_i0 = i32_load8_u(m, (u64)(w2c_i0));
-  w2c_l21 = w2c_i0;
-  goto w2c_B82;
-  w2c_B83:;
-  w2c_j0 = w2c_l5;
-  w2c_j1 = 216ull;
-  w2c_j0 += w2c_j1;
-  w2c_j1 = w2c_l15;
-  w2c_j2 = w2c_l6;
-  w2c_f43(m, w2c_j0, w2c_j1, w2c_j2);
-  w2c_j0 = w2c_l5;
-  w2c_i0 = (u32)(w2c_j0);
-  w2c_i0 = i32_load8_u(m, (u64)(w2c_i0) + 216u);
-  w2c_i1 = 1u;
-  w2c_i0 = w2c_i0 != w2c_i1;
-  if (w2c_i0) {goto w2c_B53;}
-  w2c_j0 = w2c_l5;
-  w2c_i0 = (u32)(w2c_j0);
-  w2c_j0 = i64_load(m, (u64)(w2c_i0) + 240u);
-  w2c_p3 = w2c_j0;
-  w2c_j0 = w2c_l5;
-  w2c_i0 = (u32)(w2c_j0);
-  w2c_j0 = i64_load(m, (u64)(w2c_i0) + 232u);
-  w2c_l12 = w2c_j0;
-  w2c_j0 = w2c_l5;
-  w2c_i0 = (u32)(w2c_j0);
-  w2c_i0 = i32_load8_u(m, (u64)(w2c_i0) + 225u);
-  w2c_l21 = w2c_i0;
-  w2c_j0 = w2c_l5;
-  w2c_i0 = (u32)(w2c_j0);
-  w2c_i0 = i32_load8_u(m, (u64)(w2c_i0) + 224u);
-  w2c_l22 = w2c_i0;
-  w2c_B82:;
-  w2c_j0 = w2c_l5;
-  w2c_i0 = (u32)(w2c_j0);
-  w2c_j1 = 0ull;
-  i64_store(m, (u64)(w2c_i0) + 240, w2c_j1);
-  w2c_j0 = w2c_l5;
-  w2c_i0 = (u32)(w2c_j0);
-  w2c_j1 = 0ull;
-  i64_store(m, (u64)(w2c_i0) + 232, w2c_j1);
-  w2c_j0 = w2c_l5;
-  w2c_i0 = (u32)(w2c_j0);
-  w2c_j1 = 0ull;
-  i64_store(m, (u64)(w2c_i0) + 224, w2c_j1);
-  w2c_j0 = w2c_l5;
-  w2c_i0 = (u32)(w2c_j0);
-  w2c_j1 = 0ull;
-  i64_store(m, (u64)(w2c_i0) + 216, w2c_j1);
-  w2c_j0 = w2c_p3;
-  w2c_j1 = 4ull;
-  w2c_i0 = w2c_j0 < w2c_j1;
-  if (w2c_i0) {goto w2c_B88;}
+  w2c_l23 = w2c_i0;
+  w2c_i0 = 1u;
+  w2c_l20 = w2c_i0;
+  goto w2c_B75;
+  w2c_B77:;
   w2c_j0 = w2c_l12;
+  w2c_j1 = 3ull;
+  w2c_i0 = w2c_j0 != w2c_j1;
+  if (w2c_i0) {goto w2c_B76;}
+  w2c_j0 = w2c_p3;
+  w2c_i0 = (u32)(w2c_j0);
+  w2c_i0 = i32_load16_u(m, (u64)(w2c_i0));
   w2c_j1 = w2c_p3;
-  w2c_j0 += w2c_j1;
-  w2c_j1 = 18446744073709551612ull;
-  w2c_j0 += w2c_j1;
-  w2c_i0 = (u32)(w2c_j0);
-  w2c_i0 = i32_load(m, (u64)(w2c_i0));
-  w2c_i1 = 8u;
-  w2c_i0 >>= (w2c_i1 & 31);
-  w2c_l18 = w2c_i0;
-  w2c_j0 = (u64)(w2c_i0);
-  w2c_j1 = 953497ull;
-  w2c_j0 *= w2c_j1;
-  w2c_j1 = 22ull;
-  w2c_j0 >>= (w2c_j1 & 63);
-  w2c_j1 = 1016ull;
-  w2c_j0 &= w2c_j1;
-  w2c_l16 = w2c_j0;
-  w2c_j1 = 66976ull;
-  w2c_j0 += w2c_j1;
-  w2c_i0 = (u32)(w2c_j0);
-  w2c_i0 = i32_load(m, (u64)(w2c_i0));
-  w2c_i1 = w2c_l18;
-  w2c_i0 = w2c_i0 != w2c_i1;
-  if (w2c_i0) {goto w2c_B87;}
-  w2c_j0 = w2c_l16;
-  w2c_j1 = 66980ull;
-  w2c_j0 += w2c_j1;
-  w2c_i0 = (u32)(w2c_j0);
-  w2c_i0 = i32_load8_u(m, (u64)(w2c_i0));
-  w2c_l19 = w2c_i0;
-  w2c_j0 = w2c_l16;
-  w2c_j1 = 66981ull;
-  w2c_j0 += w2c_j1;
-  w2c_i0 = (u32)(w2c_j0);
-  w2c_i0 = i32_load8_u(m, (u64)(w2c_i0));
-  w2c_l23 = w2c_i0;
-  w2c_i0 = 1u;
-  w2c_l18 = w2c_i0;
-  goto w2c_B86;
-  w2c_B88:;
-  w2c_j0 = w2c_p3;
-  w2c_j1 = 3ull;
-  w2c_i0 = w2c_j0 != w2c_j1;
-  if (w2c_i0) {goto w2c_B87;}
-  w2c_j0 = w2c_l12;
-  w2c_i0 = (u32)(w2c_j0);
-  w2c_i0 = i32_load16_u(m, (u64)(w2c_i0));
-  w2c_j1 = w2c_l12;
   w2c_i1 = (u32)(w2c_j1);
   w2c_i1 = i32_load8_u(m, (u64)(w2c_i1) + 2u);
   w2c_i2 = 16u;
   w2c_i1 <<= (w2c_i2 & 31);
   w2c_i0 |= w2c_i1;
-  w2c_l18 = w2c_i0;
+  w2c_l20 = w2c_i0;
   w2c_j0 = (u64)(w2c_i0);
   w2c_j1 = 953497ull;
   w2c_j0 *= w2c_j1;
@@ -39585,60 +40036,60 @@ static void w2c_f47(module *m, u64 w2c_p0, u32 w2c_p1, u64 w2c_p2, u64 w2c_p3, u
   w2c_j0 >>= (w2c_j1 & 63);
   w2c_j1 = 1016ull;
   w2c_j0 &= w2c_j1;
-  w2c_l16 = w2c_j0;
+  w2c_l15 = w2c_j0;
   w2c_j1 = 66976ull;
   w2c_j0 += w2c_j1;
   w2c_i0 = (u32)(w2c_j0);
   w2c_i0 = i32_load(m, (u64)(w2c_i0));
-  w2c_i1 = w2c_l18;
+  w2c_i1 = w2c_l20;
   w2c_i0 = w2c_i0 != w2c_i1;
-  if (w2c_i0) {goto w2c_B87;}
-  w2c_j0 = w2c_l16;
+  if (w2c_i0) {goto w2c_B76;}
+  w2c_j0 = w2c_l15;
   w2c_j1 = 66980ull;
   w2c_j0 += w2c_j1;
   w2c_i0 = (u32)(w2c_j0);
   w2c_i0 = i32_load8_u(m, (u64)(w2c_i0));
   w2c_l19 = w2c_i0;
-  w2c_j0 = w2c_l16;
+  w2c_j0 = w2c_l15;
   w2c_j1 = 66981ull;
   w2c_j0 += w2c_j1;
   w2c_i0 = (u32)(w2c_j0);
   w2c_i0 = i32_load8_u(m, (u64)(w2c_i0));
   w2c_l23 = w2c_i0;
   w2c_i0 = 1u;
-  w2c_l18 = w2c_i0;
-  goto w2c_B86;
-  w2c_B87:;
-  w2c_j0 = w2c_l5;
-  w2c_j1 = 216ull;
+  w2c_l20 = w2c_i0;
+  goto w2c_B75;
+  w2c_B76:;
+  w2c_j0 = w2c_l6;
+  w2c_j1 = 200ull;
   w2c_j0 += w2c_j1;
-  w2c_j1 = w2c_l12;
-  w2c_j2 = w2c_p3;
-  w2c_f43(m, w2c_j0, w2c_j1, w2c_j2);
-  w2c_j0 = w2c_l5;
+  w2c_j1 = w2c_p3;
+  w2c_j2 = w2c_l12;
+  w2c_f44(m, w2c_j0, w2c_j1, w2c_j2);
+  w2c_j0 = w2c_l6;
   w2c_i0 = (u32)(w2c_j0);
-  w2c_i0 = i32_load8_u(m, (u64)(w2c_i0) + 216u);
+  w2c_i0 = i32_load8_u(m, (u64)(w2c_i0) + 200u);
   w2c_i1 = 1u;
   w2c_i0 = w2c_i0 == w2c_i1;
-  w2c_l18 = w2c_i0;
-  w2c_j0 = w2c_l5;
+  w2c_l20 = w2c_i0;
+  w2c_j0 = w2c_l6;
   w2c_i0 = (u32)(w2c_j0);
-  w2c_i0 = i32_load8_u(m, (u64)(w2c_i0) + 225u);
+  w2c_i0 = i32_load8_u(m, (u64)(w2c_i0) + 209u);
   w2c_l23 = w2c_i0;
-  w2c_j0 = w2c_l5;
+  w2c_j0 = w2c_l6;
   w2c_i0 = (u32)(w2c_j0);
-  w2c_i0 = i32_load8_u(m, (u64)(w2c_i0) + 224u);
+  w2c_i0 = i32_load8_u(m, (u64)(w2c_i0) + 208u);
   w2c_l19 = w2c_i0;
-  w2c_B86:;
-  w2c_i0 = w2c_l18;
+  w2c_B75:;
+  w2c_i0 = w2c_l20;
   w2c_i0 = !(w2c_i0);
-  if (w2c_i0) {goto w2c_B53;}
+  if (w2c_i0) {goto w2c_B70;}
   w2c_i0 = w2c_l19;
   w2c_i1 = 255u;
   w2c_i0 &= w2c_i1;
   w2c_i1 = 1u;
   w2c_i0 = w2c_i0 != w2c_i1;
-  if (w2c_i0) {goto w2c_B53;}
+  if (w2c_i0) {goto w2c_B70;}
   w2c_i0 = w2c_l22;
   w2c_i1 = 255u;
   w2c_i0 &= w2c_i1;
@@ -39651,159 +40102,159 @@ static void w2c_f47(module *m, u64 w2c_p0, u32 w2c_p1, u64 w2c_p2, u64 w2c_p3, u
   w2c_i0 |= w2c_i1;
   w2c_i1 = 1u;
   w2c_i0 = w2c_i0 != w2c_i1;
-  if (w2c_i0) {goto w2c_B53;}
+  if (w2c_i0) {goto w2c_B70;}
   w2c_i0 = w2c_l23;
   w2c_i1 = 255u;
   w2c_i0 &= w2c_i1;
   w2c_i1 = 1u;
   w2c_i0 = w2c_i0 <= w2c_i1;
-  if (w2c_i0) {goto w2c_B53;}
-  w2c_j0 = w2c_l5;
+  if (w2c_i0) {goto w2c_B70;}
+  w2c_j0 = w2c_l6;
   w2c_j1 = 128ull;
   w2c_j0 += w2c_j1;
   w2c_i1 = w2c_p1;
-  w2c_j2 = w2c_p4;
-  w2c_i3 = w2c_l20;
-  w2c_j4 = w2c_l12;
-  w2c_j5 = w2c_p3;
-  w2c_f44(m, w2c_j0, w2c_i1, w2c_j2, w2c_i3, w2c_j4, w2c_j5);
-  w2c_j0 = w2c_l5;
+  w2c_j2 = w2c_p2;
+  w2c_i3 = w2c_l18;
+  w2c_j4 = w2c_p3;
+  w2c_j5 = w2c_l12;
+  w2c_f45(m, w2c_j0, w2c_i1, w2c_j2, w2c_i3, w2c_j4, w2c_j5);
+  w2c_j0 = w2c_l6;
   w2c_i0 = (u32)(w2c_j0);
   w2c_j0 = i64_load(m, (u64)(w2c_i0) + 144u);
-  w2c_l6 = w2c_j0;
-  w2c_j0 = w2c_l5;
+  w2c_l5 = w2c_j0;
+  w2c_j0 = w2c_l6;
   w2c_i0 = (u32)(w2c_j0);
   w2c_i0 = i32_load8_u(m, (u64)(w2c_i0) + 128u);
-  if (w2c_i0) {goto w2c_B52;}
+  if (w2c_i0) {goto w2c_B69;}
   w2c_i0 = w2c_l22;
   w2c_i1 = 255u;
   w2c_i0 &= w2c_i1;
-  if (w2c_i0) {goto w2c_B89;}
-  w2c_j0 = w2c_l5;
+  if (w2c_i0) {goto w2c_B78;}
+  w2c_j0 = w2c_l6;
   w2c_j1 = 96ull;
   w2c_j0 += w2c_j1;
   w2c_i1 = w2c_p1;
-  w2c_j2 = w2c_l6;
-  w2c_j3 = w2c_l5;
+  w2c_j2 = w2c_l5;
+  w2c_j3 = w2c_l6;
   w2c_i3 = (u32)(w2c_j3);
   w2c_j3 = i64_load(m, (u64)(w2c_i3) + 152u);
   w2c_i4 = w2c_l23;
   w2c_i5 = w2c_l21;
-  w2c_f45(m, w2c_j0, w2c_i1, w2c_j2, w2c_j3, w2c_i4, w2c_i5);
+  w2c_f46(m, w2c_j0, w2c_i1, w2c_j2, w2c_j3, w2c_i4, w2c_i5);
   w2c_j0 = 0ull;
-  w2c_j1 = w2c_l5;
+  w2c_j1 = w2c_l6;
   w2c_i1 = (u32)(w2c_j1);
   w2c_j1 = i64_load(m, (u64)(w2c_i1) + 120u);
-  w2c_j2 = w2c_l5;
+  w2c_j2 = w2c_l6;
   w2c_i2 = (u32)(w2c_j2);
   w2c_i2 = i32_load8_u(m, (u64)(w2c_i2) + 96u);
   w2c_i3 = 1u;
   w2c_i2 = w2c_i2 != w2c_i3;
   w2c_l18 = w2c_i2;
   w2c_j0 = w2c_i2 ? w2c_j0 : w2c_j1;
-  w2c_p3 = w2c_j0;
+  w2c_p4 = w2c_j0;
   w2c_j0 = 0ull;
-  w2c_j1 = w2c_l5;
+  w2c_j1 = w2c_l6;
   w2c_i1 = (u32)(w2c_j1);
   w2c_j1 = i64_load(m, (u64)(w2c_i1) + 112u);
   w2c_i2 = w2c_l18;
   w2c_j0 = w2c_i2 ? w2c_j0 : w2c_j1;
-  w2c_l6 = w2c_j0;
+  w2c_l5 = w2c_j0;
   w2c_i0 = 2u;
   w2c_i1 = 0u;
   w2c_i2 = w2c_l18;
   w2c_i0 = w2c_i2 ? w2c_i0 : w2c_i1;
   w2c_l20 = w2c_i0;
   goto w2c_B50;
-  w2c_B89:;
-  w2c_j0 = w2c_l5;
+  w2c_B78:;
+  w2c_j0 = w2c_l6;
   w2c_i0 = (u32)(w2c_j0);
-  w2c_j1 = w2c_p4;
+  w2c_j1 = w2c_p3;
   w2c_j2 = w2c_l12;
-  w2c_j3 = w2c_p3;
-  w2c_j2 = w2c_f34(m, w2c_j2, w2c_j3);
+  w2c_j1 = w2c_f36(m, w2c_j1, w2c_j2);
+  w2c_j2 = w2c_p2;
   w2c_j1 += w2c_j2;
   w2c_j2 = 1ull;
   w2c_j1 += w2c_j2;
-  w2c_l6 = w2c_j1;
+  w2c_l5 = w2c_j1;
   i64_store(m, (u64)(w2c_i0) + 176, w2c_j1);
   w2c_i0 = 1u;
   w2c_l18 = w2c_i0;
-  w2c_j0 = w2c_l5;
+  w2c_j0 = w2c_l6;
   w2c_i0 = (u32)(w2c_j0);
   w2c_j0 = i64_load(m, (u64)(w2c_i0) + 184u);
-  w2c_p3 = w2c_j0;
+  w2c_p4 = w2c_j0;
   w2c_i0 = 1u;
   w2c_l20 = w2c_i0;
   goto w2c_B50;
-  w2c_B54:;
-  w2c_j0 = 0ull;
-  w2c_l6 = w2c_j0;
-  w2c_j0 = w2c_l5;
-  w2c_i0 = (u32)(w2c_j0);
-  w2c_j1 = 0ull;
-  i64_store(m, (u64)(w2c_i0) + 176, w2c_j1);
-  w2c_j0 = w2c_l5;
-  w2c_i0 = (u32)(w2c_j0);
-  w2c_j1 = 0ull;
-  i64_store(m, (u64)(w2c_i0) + 168, w2c_j1);
-  w2c_j0 = w2c_l5;
-  w2c_i0 = (u32)(w2c_j0);
-  w2c_j0 = i64_load(m, (u64)(w2c_i0) + 184u);
-  w2c_p3 = w2c_j0;
-  w2c_i0 = 0u;
-  w2c_l20 = w2c_i0;
-  goto w2c_B50;
-  w2c_B53:;
-  w2c_j0 = w2c_l5;
+  w2c_B70:;
+  w2c_j0 = w2c_l6;
   w2c_j1 = 160ull;
   w2c_j0 += w2c_j1;
   w2c_i1 = w2c_p1;
-  w2c_j2 = w2c_p4;
-  w2c_i3 = w2c_l20;
-  w2c_j4 = w2c_l15;
-  w2c_j5 = w2c_l6;
-  w2c_f44(m, w2c_j0, w2c_i1, w2c_j2, w2c_i3, w2c_j4, w2c_j5);
-  w2c_j0 = w2c_l5;
+  w2c_j2 = w2c_p2;
+  w2c_i3 = w2c_l18;
+  w2c_j4 = w2c_l5;
+  w2c_j5 = w2c_p4;
+  w2c_f45(m, w2c_j0, w2c_i1, w2c_j2, w2c_i3, w2c_j4, w2c_j5);
+  w2c_j0 = w2c_l6;
   w2c_i0 = (u32)(w2c_j0);
   w2c_j0 = i64_load(m, (u64)(w2c_i0) + 184u);
-  w2c_p3 = w2c_j0;
-  w2c_j0 = w2c_l5;
+  w2c_p4 = w2c_j0;
+  w2c_j0 = w2c_l6;
   w2c_i0 = (u32)(w2c_j0);
   w2c_j0 = i64_load(m, (u64)(w2c_i0) + 176u);
-  w2c_l6 = w2c_j0;
-  w2c_j0 = w2c_l5;
+  w2c_l5 = w2c_j0;
+  w2c_j0 = w2c_l6;
   w2c_i0 = (u32)(w2c_j0);
   w2c_i0 = i32_load8_u(m, (u64)(w2c_i0) + 168u);
   w2c_l20 = w2c_i0;
-  w2c_j0 = w2c_l5;
+  w2c_j0 = w2c_l6;
   w2c_i0 = (u32)(w2c_j0);
   w2c_i0 = i32_load8_u(m, (u64)(w2c_i0) + 160u);
   w2c_l18 = w2c_i0;
   goto w2c_B50;
-  w2c_B52:;
+  w2c_B69:;
   w2c_j0 = 0ull;
-  w2c_p3 = w2c_j0;
-  w2c_j0 = w2c_l5;
+  w2c_p4 = w2c_j0;
+  w2c_j0 = w2c_l6;
   w2c_i0 = (u32)(w2c_j0);
   w2c_j1 = 0ull;
   i64_store(m, (u64)(w2c_i0) + 184, w2c_j1);
-  w2c_j0 = w2c_l5;
+  w2c_j0 = w2c_l6;
   w2c_i0 = (u32)(w2c_j0);
-  w2c_j1 = w2c_l6;
+  w2c_j1 = w2c_l5;
   i64_store(m, (u64)(w2c_i0) + 176, w2c_j1);
   w2c_i0 = 1u;
   w2c_l18 = w2c_i0;
-  w2c_j0 = w2c_l5;
+  w2c_j0 = w2c_l6;
   w2c_i0 = (u32)(w2c_j0);
   w2c_i0 = i32_load8_u(m, (u64)(w2c_i0) + 136u);
   w2c_l20 = w2c_i0;
+  goto w2c_B50;
+  w2c_B51:;
+  w2c_j0 = w2c_l6;
+  w2c_i0 = (u32)(w2c_j0);
+  w2c_j1 = w2c_l5;
+  i64_store(m, (u64)(w2c_i0) + 176, w2c_j1);
+  w2c_j0 = w2c_l6;
+  w2c_i0 = (u32)(w2c_j0);
+  w2c_j1 = w2c_l5;
+  i64_store(m, (u64)(w2c_i0) + 168, w2c_j1);
+  w2c_j0 = w2c_l6;
+  w2c_i0 = (u32)(w2c_j0);
+  w2c_j0 = i64_load(m, (u64)(w2c_i0) + 184u);
+  w2c_p4 = w2c_j0;
+  w2c_i0 = 0u;
+  w2c_l20 = w2c_i0;
+  w2c_i0 = 1u;
+  w2c_l18 = w2c_i0;
   w2c_B50:;
   w2c_i0 = w2c_l20;
   w2c_j0 = (u64)(w2c_i0);
   w2c_j1 = 255ull;
   w2c_j0 &= w2c_j1;
-  w2c_p4 = w2c_j0;
+  w2c_p3 = w2c_j0;
   w2c_i0 = w2c_l18;
   w2c_j0 = (u64)(w2c_i0);
   w2c_j1 = 255ull;
@@ -39818,27 +40269,27 @@ static void w2c_f47(module *m, u64 w2c_p0, u32 w2c_p1, u64 w2c_p2, u64 w2c_p3, u
   w2c_j1 = 24ull;
   w2c_j0 += w2c_j1;
   w2c_i0 = (u32)(w2c_j0);
-  w2c_j1 = w2c_p3;
+  w2c_j1 = w2c_p4;
   i64_store(m, (u64)(w2c_i0), w2c_j1);
   w2c_j0 = w2c_p0;
   w2c_j1 = 16ull;
   w2c_j0 += w2c_j1;
   w2c_i0 = (u32)(w2c_j0);
-  w2c_j1 = w2c_l6;
+  w2c_j1 = w2c_l5;
   i64_store(m, (u64)(w2c_i0), w2c_j1);
   w2c_j0 = w2c_p0;
   w2c_j1 = 8ull;
   w2c_j0 += w2c_j1;
   w2c_i0 = (u32)(w2c_j0);
-  w2c_j1 = w2c_p4;
+  w2c_j1 = w2c_p3;
   i64_store(m, (u64)(w2c_i0), w2c_j1);
-  w2c_j0 = w2c_l5;
-  w2c_j1 = 256ull;
+  w2c_j0 = w2c_l6;
+  w2c_j1 = 240ull;
   w2c_j0 += w2c_j1;
   m->w2c_g0 = w2c_j0;
 }
 
-static u32 w2c_f48(module *m, u64 w2c_p0, u64 w2c_p1, u32 w2c_p2, u32 w2c_p3, u32 w2c_p4, u64 w2c_p5) {
+static u32 w2c_f50(module *m, u64 w2c_p0, u64 w2c_p1, u32 w2c_p2, u32 w2c_p3, u32 w2c_p4, u64 w2c_p5) {
   u64 w2c_l6 = 0, w2c_l7 = 0, w2c_l8 = 0, w2c_l9 = 0, w2c_l10 = 0, w2c_l11 = 0;
   u32 w2c_i0, w2c_i1, w2c_i2;
   u64 w2c_j0, w2c_j1, w2c_j2, w2c_j3, w2c_j4;
@@ -39876,7 +40327,7 @@ static u32 w2c_f48(module *m, u64 w2c_p0, u64 w2c_p1, u32 w2c_p2, u32 w2c_p3, u3
   w2c_j1 = 0ull;
   w2c_j2 = w2c_p0;
   w2c_j3 = w2c_p1;
-  w2c_f42(m, w2c_j0, w2c_j1, w2c_j2, w2c_j3);
+  w2c_f47(m, w2c_j0, w2c_j1, w2c_j2, w2c_j3);
   goto w2c_B1;
   w2c_B2:;
   w2c_j0 = w2c_l7;
@@ -39884,7 +40335,7 @@ static u32 w2c_f48(module *m, u64 w2c_p0, u64 w2c_p1, u32 w2c_p2, u32 w2c_p3, u3
   w2c_j2 = 0ull;
   w2c_j3 = w2c_p0;
   w2c_j4 = w2c_p1;
-  w2c_f47(m, w2c_j0, w2c_i1, w2c_j2, w2c_j3, w2c_j4);
+  w2c_f49(m, w2c_j0, w2c_i1, w2c_j2, w2c_j3, w2c_j4);
   w2c_B1:;
   w2c_j0 = w2c_l7;
   w2c_i0 = (u32)(w2c_j0);
@@ -40135,7 +40586,7 @@ static u32 w2c_f48(module *m, u64 w2c_p0, u64 w2c_p1, u32 w2c_p2, u32 w2c_p3, u3
   return w2c_i0;
 }
 
-static u32 w2c_f49(module *m, u64 w2c_p0, u64 w2c_p1, u32 w2c_p2, u64 w2c_p3) {
+static u32 w2c_f51(module *m, u64 w2c_p0, u64 w2c_p1, u32 w2c_p2, u64 w2c_p3) {
   u32 w2c_l5 = 0, w2c_l6 = 0;
   u64 w2c_l4 = 0;
   u32 w2c_i0, w2c_i1, w2c_i2, w2c_i3, w2c_i4;
@@ -40156,7 +40607,7 @@ static u32 w2c_f49(module *m, u64 w2c_p0, u64 w2c_p1, u32 w2c_p2, u64 w2c_p3) {
   w2c_i1 = w2c_p2;
   w2c_j2 = w2c_p0;
   w2c_j3 = w2c_p1;
-  w2c_f50(m, w2c_j0, w2c_i1, w2c_j2, w2c_j3);
+  w2c_f52(m, w2c_j0, w2c_i1, w2c_j2, w2c_j3);
   w2c_j0 = w2c_l4;
   w2c_i0 = (u32)(w2c_j0);
   w2c_i0 = i32_load8_u(m, (u64)(w2c_i0) + 9u);
@@ -40177,7 +40628,7 @@ static u32 w2c_f49(module *m, u64 w2c_p0, u64 w2c_p1, u32 w2c_p2, u64 w2c_p3) {
   w2c_i3 = w2c_l6;
   w2c_i4 = w2c_l5;
   w2c_j5 = w2c_p3;
-  w2c_i0 = w2c_f46(m, w2c_j0, w2c_j1, w2c_i2, w2c_i3, w2c_i4, w2c_j5);
+  w2c_i0 = w2c_f48(m, w2c_j0, w2c_j1, w2c_i2, w2c_i3, w2c_i4, w2c_j5);
   w2c_p2 = w2c_i0;
   goto w2c_B1;
   w2c_B2:;
@@ -40187,7 +40638,7 @@ static u32 w2c_f49(module *m, u64 w2c_p0, u64 w2c_p1, u32 w2c_p2, u64 w2c_p3) {
   w2c_i3 = w2c_l6;
   w2c_i4 = w2c_l5;
   w2c_j5 = w2c_p3;
-  w2c_i0 = w2c_f48(m, w2c_j0, w2c_j1, w2c_i2, w2c_i3, w2c_i4, w2c_j5);
+  w2c_i0 = w2c_f50(m, w2c_j0, w2c_j1, w2c_i2, w2c_i3, w2c_i4, w2c_j5);
   w2c_p2 = w2c_i0;
   w2c_B1:;
   w2c_j0 = w2c_l4;
@@ -40202,13 +40653,13 @@ static u32 w2c_f49(module *m, u64 w2c_p0, u64 w2c_p1, u32 w2c_p2, u64 w2c_p3) {
   return w2c_i0;
 }
 
-static void w2c_f50(module *m, u64 w2c_p0, u32 w2c_p1, u64 w2c_p2, u64 w2c_p3) {
-  u32 w2c_l9 = 0, w2c_l10 = 0, w2c_l11 = 0, w2c_l12 = 0;
-  u64 w2c_l4 = 0, w2c_l5 = 0, w2c_l6 = 0, w2c_l7 = 0, w2c_l8 = 0;
+static void w2c_f52(module *m, u64 w2c_p0, u32 w2c_p1, u64 w2c_p2, u64 w2c_p3) {
+  u32 w2c_l7 = 0, w2c_l8 = 0, w2c_l9 = 0;
+  u64 w2c_l4 = 0, w2c_l5 = 0, w2c_l6 = 0;
   u32 w2c_i0, w2c_i1, w2c_i2, w2c_i3;
-  u64 w2c_j0, w2c_j1, w2c_j2;
+  u64 w2c_j0, w2c_j1;
   w2c_j0 = m->w2c_g0;
-  w2c_j1 = 80ull;
+  w2c_j1 = 16ull;
   w2c_j0 -= w2c_j1;
   w2c_l4 = w2c_j0;
   m->w2c_g0 = w2c_j0;
@@ -40216,618 +40667,123 @@ static void w2c_f50(module *m, u64 w2c_p0, u32 w2c_p1, u64 w2c_p2, u64 w2c_p3) {
   w2c_l5 = w2c_j0;
   w2c_j1 = 16ull;
   w2c_i0 = (u64)((s64)w2c_j0 < (s64)w2c_j1);
-  if (w2c_i0) {goto w2c_B11;}
+  if (w2c_i0) {goto w2c_B0;}
   w2c_i0 = w2c_p1;
   w2c_i1 = 255u;
   w2c_i0 &= w2c_i1;
   w2c_i1 = 5u;
-  w2c_i0 = w2c_i0 >= w2c_i1;
-  if (w2c_i0) {goto w2c_B12;}
-  w2c_j0 = w2c_p2;
-  w2c_l4 = w2c_j0;
-  goto w2c_B0;
-  w2c_B12:;
-  w2c_j0 = 0ull;
-  w2c_l6 = w2c_j0;
+  w2c_i0 = w2c_i0 < w2c_i1;
+  if (w2c_i0) {goto w2c_B4;}
+  w2c_i0 = 0u;
+  w2c_l7 = w2c_i0;
   w2c_j0 = w2c_p3;
   w2c_i0 = !(w2c_j0);
-  w2c_i0 = !(w2c_i0);
-  if (w2c_i0) {goto w2c_B14;}
-  w2c_j0 = 0ull;
-  w2c_l7 = w2c_j0;
-  goto w2c_B13;
-  w2c_B14:;
-  w2c_j0 = 1ull;
-  w2c_l7 = w2c_j0;
-  w2c_j0 = 1ull;
-  w2c_l4 = w2c_j0;
-  w2c_j0 = w2c_p2;
-  w2c_i0 = (u32)(w2c_j0);
-  w2c_i0 = i32_load8_u(m, (u64)(w2c_i0));
-  w2c_p1 = w2c_i0;
-  w2c_i1 = 32u;
-  w2c_i0 = w2c_i0 == w2c_i1;
-  if (w2c_i0) {goto w2c_B15;}
-  w2c_i0 = w2c_p1;
-  w2c_i1 = 227u;
-  w2c_i0 = w2c_i0 == w2c_i1;
-  if (w2c_i0) {goto w2c_B18;}
-  w2c_i0 = w2c_p1;
-  w2c_i1 = 194u;
-  w2c_i0 = w2c_i0 != w2c_i1;
-  if (w2c_i0) {goto w2c_B17;}
-  w2c_j0 = 1ull;
-  w2c_l8 = w2c_j0;
-  w2c_j0 = w2c_p3;
-  w2c_j1 = 1ull;
-  w2c_i0 = w2c_j0 != w2c_j1;
-  if (w2c_i0) {goto w2c_B19;}
-  w2c_j0 = 0ull;
-  w2c_l7 = w2c_j0;
-  goto w2c_B8;
-  w2c_B19:;
-  w2c_j0 = w2c_p2;
-  w2c_i0 = (u32)(w2c_j0);
-  w2c_i0 = i32_load8_u(m, (u64)(w2c_i0) + 1u);
-  w2c_i1 = 160u;
-  w2c_i0 = w2c_i0 == w2c_i1;
-  if (w2c_i0) {goto w2c_B16;}
-  goto w2c_B7;
-  w2c_B18:;
-  w2c_j0 = w2c_p3;
-  w2c_j1 = 3ull;
-  w2c_i0 = w2c_j0 >= w2c_j1;
-  if (w2c_i0) {goto w2c_B20;}
-  w2c_j0 = 0ull;
-  w2c_l7 = w2c_j0;
-  w2c_j0 = w2c_p3;
-  w2c_l8 = w2c_j0;
-  goto w2c_B8;
-  w2c_B20:;
-  w2c_j0 = w2c_p2;
-  w2c_i0 = (u32)(w2c_j0);
-  w2c_i0 = i32_load8_u(m, (u64)(w2c_i0) + 1u);
-  w2c_i1 = 128u;
-  w2c_i0 = w2c_i0 != w2c_i1;
-  if (w2c_i0) {goto w2c_B10;}
-  w2c_j0 = w2c_p2;
-  w2c_i0 = (u32)(w2c_j0);
-  w2c_i0 = i32_load8_u(m, (u64)(w2c_i0) + 2u);
-  w2c_i1 = 128u;
-  w2c_i0 = w2c_i0 != w2c_i1;
-  if (w2c_i0) {goto w2c_B10;}
-  w2c_j0 = 3ull;
-  w2c_l4 = w2c_j0;
-  goto w2c_B15;
-  w2c_B17:;
-  w2c_j0 = 1ull;
-  w2c_l4 = w2c_j0;
-  w2c_i0 = w2c_p1;
-  w2c_i1 = 4294967287u;
-  w2c_i0 += w2c_i1;
-  w2c_i1 = 255u;
-  w2c_i0 &= w2c_i1;
-  w2c_i1 = 4u;
-  w2c_i0 = w2c_i0 > w2c_i1;
-  if (w2c_i0) {goto w2c_B7;}
-  goto w2c_B15;
-  w2c_B16:;
-  w2c_j0 = 2ull;
-  w2c_l4 = w2c_j0;
-  w2c_B15:;
-  w2c_j0 = w2c_p2;
-  w2c_j1 = w2c_l4;
-  w2c_j0 += w2c_j1;
-  w2c_p2 = w2c_j0;
-  w2c_j0 = w2c_p3;
-  w2c_j1 = w2c_l4;
-  w2c_j0 -= w2c_j1;
-  w2c_l8 = w2c_j0;
-  w2c_i0 = !(w2c_j0);
-  if (w2c_i0) {goto w2c_B13;}
-  w2c_j0 = 1ull;
-  w2c_l7 = w2c_j0;
-  w2c_L21:
-    w2c_j0 = 1ull;
-    w2c_l4 = w2c_j0;
+  if (w2c_i0) {goto w2c_B1;}
+  w2c_L7:
+    w2c_j0 = w2c_p3;
+    w2c_l6 = w2c_j0;
     w2c_j0 = w2c_p2;
+    w2c_l4 = w2c_j0;
     w2c_i0 = (u32)(w2c_j0);
     w2c_i0 = i32_load8_u(m, (u64)(w2c_i0));
     w2c_p1 = w2c_i0;
     w2c_i1 = 32u;
-    w2c_i0 = w2c_i0 == w2c_i1;
-    if (w2c_i0) {goto w2c_B22;}
-    w2c_i0 = w2c_p1;
-    w2c_i1 = 227u;
-    w2c_i0 = w2c_i0 == w2c_i1;
-    if (w2c_i0) {goto w2c_B24;}
-    w2c_i0 = w2c_p1;
-    w2c_i1 = 194u;
-    w2c_i0 = w2c_i0 != w2c_i1;
-    if (w2c_i0) {goto w2c_B23;}
-    w2c_j0 = w2c_l8;
-    w2c_j1 = 1ull;
-    w2c_i0 = w2c_j0 != w2c_j1;
-    if (w2c_i0) {goto w2c_B25;}
+    w2c_i0 = w2c_i0 > w2c_i1;
+    if (w2c_i0) {goto w2c_B9;}
     w2c_j0 = 1ull;
-    w2c_l8 = w2c_j0;
+    w2c_i1 = w2c_p1;
+    w2c_j1 = (u64)(w2c_i1);
+    w2c_j0 <<= (w2c_j1 & 63);
+    w2c_j1 = 4294983168ull;
+    w2c_j0 &= w2c_j1;
+    w2c_j1 = 0ull;
+    w2c_i0 = w2c_j0 == w2c_j1;
+    if (w2c_i0) {goto w2c_B9;}
+    w2c_j0 = w2c_l6;
+    w2c_j1 = 18446744073709551615ull;
+    w2c_j0 += w2c_j1;
+    w2c_p3 = w2c_j0;
+    w2c_j0 = w2c_l4;
+    w2c_j1 = 1ull;
+    w2c_j0 += w2c_j1;
+    w2c_p2 = w2c_j0;
     goto w2c_B8;
-    w2c_B25:;
-    w2c_j0 = w2c_p2;
+    w2c_B9:;
+    w2c_i0 = w2c_p1;
+    w2c_i1 = 4294967102u;
+    w2c_i0 += w2c_i1;
+    w2c_l8 = w2c_i0;
+    w2c_i1 = 33u;
+    w2c_i0 = w2c_i0 > w2c_i1;
+    if (w2c_i0) {goto w2c_B10;}
+    w2c_j0 = 1ull;
+    w2c_i1 = w2c_l8;
+    w2c_j1 = (u64)(w2c_i1);
+    w2c_j0 <<= (w2c_j1 & 63);
+    w2c_j1 = 15032385537ull;
+    w2c_j0 &= w2c_j1;
+    w2c_j1 = 0ull;
+    w2c_i0 = w2c_j0 == w2c_j1;
+    if (w2c_i0) {goto w2c_B10;}
+    w2c_j0 = w2c_l4;
     w2c_i0 = (u32)(w2c_j0);
     w2c_i0 = i32_load8_u(m, (u64)(w2c_i0) + 1u);
-    w2c_i1 = 160u;
-    w2c_i0 = w2c_i0 != w2c_i1;
-    if (w2c_i0) {goto w2c_B6;}
-    w2c_j0 = 2ull;
-    w2c_l4 = w2c_j0;
-    goto w2c_B22;
-    w2c_B24:;
-    w2c_j0 = w2c_l8;
+    w2c_l8 = w2c_i0;
+    w2c_j0 = w2c_l6;
     w2c_j1 = 3ull;
     w2c_i0 = w2c_j0 < w2c_j1;
-    if (w2c_i0) {goto w2c_B8;}
-    w2c_j0 = w2c_p2;
-    w2c_i0 = (u32)(w2c_j0);
-    w2c_i0 = i32_load8_u(m, (u64)(w2c_i0) + 1u);
-    w2c_i1 = 128u;
-    w2c_i0 = w2c_i0 != w2c_i1;
-    if (w2c_i0) {goto w2c_B9;}
-    w2c_j0 = w2c_p2;
-    w2c_i0 = (u32)(w2c_j0);
-    w2c_i0 = i32_load8_u(m, (u64)(w2c_i0) + 2u);
-    w2c_i1 = 128u;
-    w2c_i0 = w2c_i0 != w2c_i1;
-    if (w2c_i0) {goto w2c_B9;}
-    w2c_j0 = 3ull;
-    w2c_l4 = w2c_j0;
-    goto w2c_B22;
-    w2c_B23:;
-    w2c_j0 = 1ull;
-    w2c_l4 = w2c_j0;
+    if (w2c_i0) {goto w2c_B12;}
     w2c_i0 = w2c_p1;
-    w2c_i1 = 4294967287u;
+    w2c_i1 = 240u;
+    w2c_i0 &= w2c_i1;
+    w2c_i1 = 224u;
+    w2c_i0 = w2c_i0 != w2c_i1;
+    if (w2c_i0) {goto w2c_B12;}
+    w2c_i0 = w2c_p1;
+    w2c_i1 = 12u;
+    w2c_i0 <<= (w2c_i1 & 31);
+    w2c_i1 = w2c_l8;
+    w2c_i2 = 6u;
+    w2c_i1 <<= (w2c_i2 & 31);
     w2c_i0 += w2c_i1;
-    w2c_i1 = 255u;
-    w2c_i0 &= w2c_i1;
-    w2c_i1 = 4u;
-    w2c_i0 = w2c_i0 > w2c_i1;
-    if (w2c_i0) {goto w2c_B6;}
-    w2c_B22:;
-    w2c_j0 = w2c_l7;
-    w2c_j1 = 1ull;
-    w2c_j0 += w2c_j1;
-    w2c_l7 = w2c_j0;
-    w2c_j0 = w2c_p2;
     w2c_j1 = w2c_l4;
-    w2c_j0 += w2c_j1;
-    w2c_p2 = w2c_j0;
-    w2c_j0 = w2c_l8;
-    w2c_j1 = w2c_l4;
-    w2c_j0 -= w2c_j1;
-    w2c_l8 = w2c_j0;
-    w2c_j1 = 0ull;
-    w2c_i0 = w2c_j0 != w2c_j1;
-    if (w2c_i0) {goto w2c_L21;}
-  w2c_B13:;
-  w2c_j0 = w2c_l5;
-  w2c_i0 = (u32)(w2c_j0);
-  w2c_j1 = 0ull;
-  i64_store(m, (u64)(w2c_i0) + 40, w2c_j1);
-  w2c_j0 = w2c_l5;
-  w2c_i0 = (u32)(w2c_j0);
-  w2c_j1 = 0ull;
-  i64_store(m, (u64)(w2c_i0) + 48, w2c_j1);
-  w2c_j0 = w2c_l5;
-  w2c_i0 = (u32)(w2c_j0);
-  w2c_j1 = 0ull;
-  i64_store(m, (u64)(w2c_i0) + 56, w2c_j1);
-  w2c_j0 = w2c_l5;
-  w2c_i0 = (u32)(w2c_j0);
-  w2c_j1 = 0ull;
-  i64_store(m, (u64)(w2c_i0) + 64, w2c_j1);
-  w2c_j0 = w2c_l5;
-  w2c_i0 = (u32)(w2c_j0);
-  w2c_j1 = 0ull;
-  i64_store(m, (u64)(w2c_i0) + 72, w2c_j1);
-  goto w2c_B2;
-  w2c_B11:;
-  UNREACHABLE;
-  w2c_B10:;
-  w2c_j0 = 0ull;
-  w2c_l7 = w2c_j0;
-  w2c_j0 = w2c_p3;
-  w2c_l8 = w2c_j0;
-  w2c_B9:;
-  w2c_j0 = w2c_l5;
-  w2c_i0 = (u32)(w2c_j0);
-  w2c_j1 = 0ull;
-  i64_store(m, (u64)(w2c_i0) + 40, w2c_j1);
-  w2c_j0 = w2c_l5;
-  w2c_i0 = (u32)(w2c_j0);
-  w2c_j1 = 0ull;
-  i64_store(m, (u64)(w2c_i0) + 48, w2c_j1);
-  w2c_j0 = w2c_l5;
-  w2c_i0 = (u32)(w2c_j0);
-  w2c_j1 = 0ull;
-  i64_store(m, (u64)(w2c_i0) + 56, w2c_j1);
-  w2c_j0 = w2c_l5;
-  w2c_i0 = (u32)(w2c_j0);
-  w2c_j1 = 0ull;
-  i64_store(m, (u64)(w2c_i0) + 64, w2c_j1);
-  w2c_j0 = w2c_l5;
-  w2c_i0 = (u32)(w2c_j0);
-  w2c_j1 = 0ull;
-  i64_store(m, (u64)(w2c_i0) + 72, w2c_j1);
-  w2c_j0 = w2c_l5;
-  w2c_i0 = (u32)(w2c_j0);
-  w2c_j1 = 0ull;
-  i64_store(m, (u64)(w2c_i0) + 16, w2c_j1);
-  w2c_j0 = w2c_l5;
-  w2c_i0 = (u32)(w2c_j0);
-  w2c_j1 = 0ull;
-  i64_store(m, (u64)(w2c_i0) + 24, w2c_j1);
-  w2c_j0 = w2c_l5;
-  w2c_i0 = (u32)(w2c_j0);
-  w2c_j1 = 0ull;
-  i64_store(m, (u64)(w2c_i0) + 32, w2c_j1);
-  goto w2c_B4;
-  w2c_B8:;
-  w2c_j0 = w2c_l5;
-  w2c_i0 = (u32)(w2c_j0);
-  w2c_j1 = 0ull;
-  i64_store(m, (u64)(w2c_i0) + 40, w2c_j1);
-  w2c_j0 = w2c_l5;
-  w2c_i0 = (u32)(w2c_j0);
-  w2c_j1 = 0ull;
-  i64_store(m, (u64)(w2c_i0) + 48, w2c_j1);
-  w2c_j0 = w2c_l5;
-  w2c_i0 = (u32)(w2c_j0);
-  w2c_j1 = 0ull;
-  i64_store(m, (u64)(w2c_i0) + 56, w2c_j1);
-  w2c_j0 = w2c_l5;
-  w2c_i0 = (u32)(w2c_j0);
-  w2c_j1 = 0ull;
-  i64_store(m, (u64)(w2c_i0) + 64, w2c_j1);
-  w2c_j0 = w2c_l5;
-  w2c_i0 = (u32)(w2c_j0);
-  w2c_j1 = 0ull;
-  i64_store(m, (u64)(w2c_i0) + 72, w2c_j1);
-  w2c_j0 = w2c_l5;
-  w2c_i0 = (u32)(w2c_j0);
-  w2c_j1 = 0ull;
-  i64_store(m, (u64)(w2c_i0) + 16, w2c_j1);
-  w2c_j0 = w2c_l5;
-  w2c_i0 = (u32)(w2c_j0);
-  w2c_j1 = 0ull;
-  i64_store(m, (u64)(w2c_i0) + 24, w2c_j1);
-  w2c_j0 = w2c_l5;
-  w2c_i0 = (u32)(w2c_j0);
-  w2c_j1 = 0ull;
-  i64_store(m, (u64)(w2c_i0) + 32, w2c_j1);
-  goto w2c_B5;
-  w2c_B7:;
-  w2c_j0 = 0ull;
-  w2c_l7 = w2c_j0;
-  w2c_j0 = w2c_p3;
-  w2c_l8 = w2c_j0;
-  w2c_B6:;
-  w2c_j0 = w2c_l5;
-  w2c_i0 = (u32)(w2c_j0);
-  w2c_j1 = 0ull;
-  i64_store(m, (u64)(w2c_i0) + 40, w2c_j1);
-  w2c_j0 = w2c_l5;
-  w2c_i0 = (u32)(w2c_j0);
-  w2c_j1 = 0ull;
-  i64_store(m, (u64)(w2c_i0) + 48, w2c_j1);
-  w2c_j0 = w2c_l5;
-  w2c_i0 = (u32)(w2c_j0);
-  w2c_j1 = 0ull;
-  i64_store(m, (u64)(w2c_i0) + 56, w2c_j1);
-  w2c_j0 = w2c_l5;
-  w2c_i0 = (u32)(w2c_j0);
-  w2c_j1 = 0ull;
-  i64_store(m, (u64)(w2c_i0) + 64, w2c_j1);
-  w2c_j0 = w2c_l5;
-  w2c_i0 = (u32)(w2c_j0);
-  w2c_j1 = 0ull;
-  i64_store(m, (u64)(w2c_i0) + 72, w2c_j1);
-  w2c_j0 = w2c_l5;
-  w2c_i0 = (u32)(w2c_j0);
-  w2c_j1 = 0ull;
-  i64_store(m, (u64)(w2c_i0) + 16, w2c_j1);
-  w2c_j0 = w2c_l5;
-  w2c_i0 = (u32)(w2c_j0);
-  w2c_j1 = 0ull;
-  i64_store(m, (u64)(w2c_i0) + 24, w2c_j1);
-  w2c_j0 = w2c_l5;
-  w2c_i0 = (u32)(w2c_j0);
-  w2c_j1 = 0ull;
-  i64_store(m, (u64)(w2c_i0) + 32, w2c_j1);
-  w2c_j0 = w2c_l8;
-  w2c_j1 = 3ull;
-  w2c_i0 = w2c_j0 >= w2c_j1;
-  if (w2c_i0) {goto w2c_B4;}
-  w2c_B5:;
-  w2c_j0 = w2c_p2;
-  w2c_i0 = (u32)(w2c_j0);
-  w2c_i0 = i32_load8_u(m, (u64)(w2c_i0));
-  w2c_l9 = w2c_i0;
-  goto w2c_B3;
-  w2c_B4:;
-  w2c_j0 = w2c_p2;
-  w2c_i0 = (u32)(w2c_j0);
-  w2c_i0 = i32_load8_u(m, (u64)(w2c_i0));
-  w2c_l9 = w2c_i0;
-  w2c_i1 = 240u;
-  w2c_i0 &= w2c_i1;
-  w2c_i1 = 224u;
-  w2c_i0 = w2c_i0 != w2c_i1;
-  if (w2c_i0) {goto w2c_B3;}
-  w2c_j0 = w2c_p2;
-  w2c_i0 = (u32)(w2c_j0);
-  w2c_i0 = i32_load8_u(m, (u64)(w2c_i0) + 1u);
-  w2c_l10 = w2c_i0;
-  w2c_i1 = 6u;
-  w2c_i0 <<= (w2c_i1 & 31);
-  w2c_i1 = w2c_l9;
-  w2c_i2 = 12u;
-  w2c_i1 <<= (w2c_i2 & 31);
-  w2c_i0 += w2c_i1;
-  w2c_j1 = w2c_p2;
-  w2c_i1 = (u32)(w2c_j1);
-  w2c_i1 = i32_load8_u(m, (u64)(w2c_i1) + 2u);
-  w2c_l11 = w2c_i1;
-  w2c_i0 += w2c_i1;
-  w2c_l12 = w2c_i0;
-  w2c_i1 = 4294041472u;
-  w2c_i0 += w2c_i1;
-  w2c_p1 = w2c_i0;
-  w2c_j0 = w2c_l8;
-  w2c_j1 = 18446744073709551613ull;
-  w2c_j0 += w2c_j1;
-  w2c_p3 = w2c_j0;
-  w2c_j0 = w2c_p2;
-  w2c_j1 = 3ull;
-  w2c_j0 += w2c_j1;
-  w2c_l4 = w2c_j0;
-  w2c_i0 = w2c_l10;
-  w2c_i1 = 8u;
-  w2c_i0 <<= (w2c_i1 & 31);
-  w2c_i1 = w2c_l11;
-  w2c_i2 = 16u;
-  w2c_i1 <<= (w2c_i2 & 31);
-  w2c_i0 |= w2c_i1;
-  w2c_i1 = w2c_l9;
-  w2c_i0 |= w2c_i1;
-  w2c_l10 = w2c_i0;
-  w2c_j0 = (u64)(w2c_i0);
-  w2c_j1 = 953497ull;
-  w2c_j0 *= w2c_j1;
-  w2c_j1 = 22ull;
-  w2c_j0 >>= (w2c_j1 & 63);
-  w2c_j1 = 1016ull;
-  w2c_j0 &= w2c_j1;
-  w2c_l6 = w2c_j0;
-  w2c_i0 = (u32)(w2c_j0);
-  w2c_i0 = i32_load(m, (u64)(w2c_i0) + 66976u);
-  w2c_i1 = w2c_l10;
-  w2c_i0 = w2c_i0 != w2c_i1;
-  if (w2c_i0) {goto w2c_B26;}
-  w2c_j0 = w2c_l6;
-  w2c_j1 = 66980ull;
-  w2c_j0 += w2c_j1;
-  w2c_i0 = (u32)(w2c_j0);
-  w2c_i0 = i32_load8_u(m, (u64)(w2c_i0));
-  w2c_i1 = 255u;
-  w2c_i0 &= w2c_i1;
-  w2c_i1 = 2u;
-  w2c_i0 = w2c_i0 != w2c_i1;
-  if (w2c_i0) {goto w2c_B1;}
-  w2c_B26:;
-  w2c_i0 = w2c_p1;
-  w2c_i1 = 127u;
-  w2c_i0 = w2c_i0 > w2c_i1;
-  if (w2c_i0) {goto w2c_B27;}
-  w2c_i0 = w2c_l12;
-  w2c_i1 = 4294041463u;
-  w2c_i0 += w2c_i1;
-  w2c_i1 = 5u;
-  w2c_i0 = w2c_i0 < w2c_i1;
-  if (w2c_i0) {goto w2c_B3;}
-  w2c_i0 = w2c_l12;
-  w2c_i1 = 925856u;
-  w2c_i0 = w2c_i0 == w2c_i1;
-  if (w2c_i0) {goto w2c_B3;}
-  goto w2c_B1;
-  w2c_B27:;
-  w2c_i0 = w2c_l12;
-  w2c_i1 = 4294033280u;
-  w2c_i0 += w2c_i1;
-  w2c_i1 = 11u;
-  w2c_i0 = w2c_i0 < w2c_i1;
-  if (w2c_i0) {goto w2c_B3;}
-  w2c_i0 = w2c_l12;
-  w2c_i1 = 934055u;
-  w2c_i0 = (u32)((s32)w2c_i0 > (s32)w2c_i1);
-  if (w2c_i0) {goto w2c_B28;}
-  w2c_i0 = w2c_l12;
-  w2c_i1 = 925957u;
-  w2c_i0 = w2c_i0 == w2c_i1;
-  if (w2c_i0) {goto w2c_B3;}
-  w2c_i0 = w2c_l12;
-  w2c_i1 = 925984u;
-  w2c_i0 = w2c_i0 == w2c_i1;
-  if (w2c_i0) {goto w2c_B3;}
-  w2c_i0 = w2c_l12;
-  w2c_i1 = 931584u;
-  w2c_i0 = w2c_i0 == w2c_i1;
-  if (w2c_i0) {goto w2c_B3;}
-  goto w2c_B1;
-  w2c_B28:;
-  w2c_i0 = w2c_l12;
-  w2c_i1 = 4294033240u;
-  w2c_i0 += w2c_i1;
-  w2c_l10 = w2c_i0;
-  w2c_i1 = 55u;
-  w2c_i0 = w2c_i0 > w2c_i1;
-  if (w2c_i0) {goto w2c_B29;}
-  w2c_j0 = 1ull;
-  w2c_i1 = w2c_l10;
-  w2c_j1 = (u64)(w2c_i1);
-  w2c_j0 <<= (w2c_j1 & 63);
-  w2c_j1 = 36028797018964099ull;
-  w2c_j0 &= w2c_j1;
-  w2c_j1 = 0ull;
-  w2c_i0 = w2c_j0 != w2c_j1;
-  if (w2c_i0) {goto w2c_B3;}
-  w2c_B29:;
-  w2c_i0 = w2c_l12;
-  w2c_i1 = 938112u;
-  w2c_i0 = w2c_i0 != w2c_i1;
-  if (w2c_i0) {goto w2c_B1;}
-  w2c_B3:;
-  w2c_i0 = w2c_l9;
-  w2c_i1 = 4294967263u;
-  w2c_i0 += w2c_i1;
-  w2c_i1 = 255u;
-  w2c_i0 &= w2c_i1;
-  w2c_i1 = 93u;
-  w2c_i0 = w2c_i0 <= w2c_i1;
-  if (w2c_i0) {goto w2c_B30;}
-  w2c_j0 = w2c_l8;
-  w2c_l6 = w2c_j0;
-  goto w2c_B2;
-  w2c_B30:;
-  w2c_i0 = w2c_l9;
-  w2c_i1 = 255u;
-  w2c_i0 &= w2c_i1;
-  w2c_p1 = w2c_i0;
-  w2c_j0 = w2c_p2;
-  w2c_j1 = 1ull;
-  w2c_j0 += w2c_j1;
-  w2c_l4 = w2c_j0;
-  w2c_j0 = w2c_l8;
-  w2c_j1 = 18446744073709551615ull;
-  w2c_j0 += w2c_j1;
-  w2c_p3 = w2c_j0;
-  goto w2c_B1;
-  w2c_B2:;
-  w2c_j0 = w2c_l5;
-  w2c_i0 = (u32)(w2c_j0);
-  w2c_j1 = w2c_l6;
-  i64_store(m, (u64)(w2c_i0) + 32, w2c_j1);
-  w2c_j0 = w2c_l5;
-  w2c_i0 = (u32)(w2c_j0);
-  w2c_j1 = w2c_p2;
-  i64_store(m, (u64)(w2c_i0) + 24, w2c_j1);
-  w2c_j0 = w2c_l5;
-  w2c_i0 = (u32)(w2c_j0);
-  w2c_j1 = w2c_l7;
-  i64_store(m, (u64)(w2c_i0) + 16, w2c_j1);
-  w2c_j0 = w2c_l5;
-  w2c_j1 = 40ull;
-  w2c_j0 += w2c_j1;
-  w2c_j1 = w2c_l5;
-  w2c_j2 = 16ull;
-  w2c_j1 += w2c_j2;
-  w2c_f29(m, w2c_j0, w2c_j1);
-  w2c_j0 = w2c_l5;
-  w2c_i0 = (u32)(w2c_j0);
-  w2c_i0 = i32_load8_u(m, (u64)(w2c_i0) + 40u);
-  w2c_i1 = 1u;
-  w2c_i0 = w2c_i0 == w2c_i1;
-  if (w2c_i0) {goto w2c_B31;}
-  w2c_j0 = w2c_p2;
-  w2c_l4 = w2c_j0;
-  w2c_j0 = w2c_l6;
-  w2c_p3 = w2c_j0;
-  goto w2c_B0;
-  w2c_B31:;
-  w2c_j0 = w2c_l5;
-  w2c_i0 = (u32)(w2c_j0);
-  w2c_j0 = i64_load(m, (u64)(w2c_i0) + 72u);
-  w2c_p3 = w2c_j0;
-  w2c_j0 = w2c_l5;
-  w2c_i0 = (u32)(w2c_j0);
-  w2c_j0 = i64_load(m, (u64)(w2c_i0) + 64u);
-  w2c_l4 = w2c_j0;
-  w2c_j0 = w2c_l5;
-  w2c_i0 = (u32)(w2c_j0);
-  w2c_i0 = i32_load(m, (u64)(w2c_i0) + 48u);
-  w2c_p1 = w2c_i0;
-  w2c_j0 = w2c_l6;
-  w2c_l8 = w2c_j0;
-  w2c_B1:;
-  w2c_i0 = w2c_p1;
-  w2c_i1 = 27491u;
-  w2c_i0 = w2c_i0 == w2c_i1;
-  if (w2c_i0) {goto w2c_B0;}
-  w2c_i0 = w2c_p1;
-  w2c_i1 = 36000u;
-  w2c_i0 = w2c_i0 == w2c_i1;
-  if (w2c_i0) {goto w2c_B0;}
-  w2c_i0 = w2c_p1;
-  w2c_i1 = 36127u;
-  w2c_i0 = w2c_i0 == w2c_i1;
-  if (w2c_i0) {goto w2c_B0;}
-  w2c_j0 = w2c_p2;
-  w2c_l4 = w2c_j0;
-  w2c_j0 = w2c_l8;
-  w2c_p3 = w2c_j0;
-  w2c_B0:;
-  w2c_i0 = 0u;
-  w2c_l12 = w2c_i0;
-  w2c_j0 = w2c_p3;
-  w2c_i0 = !(w2c_j0);
-  if (w2c_i0) {goto w2c_B32;}
-  w2c_L33:
-    w2c_j0 = w2c_l4;
-    w2c_i0 = (u32)(w2c_j0);
-    w2c_i0 = i32_load8_s(m, (u64)(w2c_i0));
-    w2c_l9 = w2c_i0;
-    w2c_i1 = 255u;
-    w2c_i0 &= w2c_i1;
+    w2c_i1 = (u32)(w2c_j1);
+    w2c_i1 = i32_load8_u(m, (u64)(w2c_i1) + 2u);
+    w2c_i0 += w2c_i1;
+    w2c_i1 = 4294041472u;
+    w2c_i0 += w2c_i1;
     w2c_p1 = w2c_i0;
-    w2c_j0 = 1ull;
-    w2c_p2 = w2c_j0;
-    w2c_i0 = w2c_l9;
-    w2c_i1 = 4294967295u;
-    w2c_i0 = (u32)((s32)w2c_i0 > (s32)w2c_i1);
-    if (w2c_i0) {goto w2c_B34;}
+    w2c_j0 = w2c_l6;
+    w2c_j1 = 18446744073709551613ull;
+    w2c_j0 += w2c_j1;
+    w2c_p3 = w2c_j0;
     w2c_j0 = w2c_l4;
-    w2c_i0 = (u32)(w2c_j0);
-    w2c_i0 = i32_load8_u(m, (u64)(w2c_i0) + 1u);
+    w2c_j1 = 3ull;
+    w2c_j0 += w2c_j1;
+    w2c_p2 = w2c_j0;
+    goto w2c_B11;
+    w2c_B12:;
+    w2c_i0 = w2c_l8;
     w2c_i1 = 63u;
     w2c_i0 &= w2c_i1;
-    w2c_l10 = w2c_i0;
-    w2c_i0 = w2c_l9;
-    w2c_i1 = 4294967263u;
+    w2c_l8 = w2c_i0;
+    w2c_i0 = w2c_p1;
+    w2c_i1 = 223u;
     w2c_i0 = w2c_i0 > w2c_i1;
-    if (w2c_i0) {goto w2c_B35;}
+    if (w2c_i0) {goto w2c_B14;}
     w2c_i0 = w2c_p1;
     w2c_i1 = 6u;
     w2c_i0 <<= (w2c_i1 & 31);
     w2c_i1 = 1984u;
     w2c_i0 &= w2c_i1;
-    w2c_i1 = w2c_l10;
+    w2c_i1 = w2c_l8;
     w2c_i0 |= w2c_i1;
     w2c_p1 = w2c_i0;
     w2c_j0 = 2ull;
     w2c_p2 = w2c_j0;
-    goto w2c_B34;
-    w2c_B35:;
-    w2c_j0 = w2c_l4;
-    w2c_i0 = (u32)(w2c_j0);
-    w2c_i0 = i32_load8_u(m, (u64)(w2c_i0) + 2u);
-    w2c_i1 = 63u;
-    w2c_i0 &= w2c_i1;
-    w2c_l11 = w2c_i0;
-    w2c_i0 = w2c_l9;
-    w2c_i1 = 4294967279u;
-    w2c_i0 = w2c_i0 > w2c_i1;
-    if (w2c_i0) {goto w2c_B36;}
-    w2c_i0 = w2c_l10;
+    goto w2c_B13;
+    w2c_B14:;
+    w2c_i0 = w2c_l8;
     w2c_i1 = 6u;
     w2c_i0 <<= (w2c_i1 & 31);
     w2c_i1 = w2c_p1;
@@ -40836,17 +40792,310 @@ static void w2c_f50(module *m, u64 w2c_p0, u32 w2c_p1, u64 w2c_p2, u64 w2c_p3) {
     w2c_i2 = 61440u;
     w2c_i1 &= w2c_i2;
     w2c_i0 |= w2c_i1;
-    w2c_i1 = w2c_l11;
+    w2c_j1 = w2c_l4;
+    w2c_i1 = (u32)(w2c_j1);
+    w2c_i1 = i32_load8_u(m, (u64)(w2c_i1) + 2u);
+    w2c_i2 = 63u;
+    w2c_i1 &= w2c_i2;
     w2c_i0 |= w2c_i1;
     w2c_p1 = w2c_i0;
     w2c_j0 = 3ull;
     w2c_p2 = w2c_j0;
-    goto w2c_B34;
-    w2c_B36:;
-    w2c_i0 = w2c_l11;
+    w2c_B13:;
+    w2c_j0 = w2c_l6;
+    w2c_j1 = w2c_p2;
+    w2c_j0 -= w2c_j1;
+    w2c_p3 = w2c_j0;
+    w2c_j0 = w2c_l4;
+    w2c_j1 = w2c_p2;
+    w2c_j0 += w2c_j1;
+    w2c_p2 = w2c_j0;
+    w2c_B11:;
+    w2c_i0 = w2c_p1;
+    w2c_i1 = 127u;
+    w2c_i0 = w2c_i0 > w2c_i1;
+    if (w2c_i0) {goto w2c_B15;}
+    w2c_i0 = w2c_p1;
+    w2c_i1 = 4294967287u;
+    w2c_i0 += w2c_i1;
+    w2c_i1 = 5u;
+    w2c_i0 = w2c_i0 < w2c_i1;
+    if (w2c_i0) {goto w2c_B8;}
+    w2c_i0 = w2c_p1;
+    w2c_i1 = 32u;
+    w2c_i0 = w2c_i0 != w2c_i1;
+    if (w2c_i0) {goto w2c_B10;}
+    goto w2c_B8;
+    w2c_B15:;
+    w2c_i0 = w2c_p1;
+    w2c_i1 = 4294959104u;
+    w2c_i0 += w2c_i1;
+    w2c_i1 = 11u;
+    w2c_i0 = w2c_i0 < w2c_i1;
+    if (w2c_i0) {goto w2c_B8;}
+    w2c_i0 = w2c_p1;
+    w2c_i1 = 8231u;
+    w2c_i0 = (u32)((s32)w2c_i0 > (s32)w2c_i1);
+    if (w2c_i0) {goto w2c_B16;}
+    w2c_i0 = w2c_p1;
+    w2c_i1 = 133u;
+    w2c_i0 = w2c_i0 == w2c_i1;
+    if (w2c_i0) {goto w2c_B8;}
+    w2c_i0 = w2c_p1;
+    w2c_i1 = 160u;
+    w2c_i0 = w2c_i0 == w2c_i1;
+    if (w2c_i0) {goto w2c_B8;}
+    w2c_i0 = w2c_p1;
+    w2c_i1 = 5760u;
+    w2c_i0 = w2c_i0 != w2c_i1;
+    if (w2c_i0) {goto w2c_B10;}
+    goto w2c_B8;
+    w2c_B16:;
+    w2c_i0 = w2c_p1;
+    w2c_i1 = 4294959064u;
+    w2c_i0 += w2c_i1;
+    w2c_l8 = w2c_i0;
+    w2c_i1 = 55u;
+    w2c_i0 = w2c_i0 > w2c_i1;
+    if (w2c_i0) {goto w2c_B17;}
+    w2c_j0 = 1ull;
+    w2c_i1 = w2c_l8;
+    w2c_j1 = (u64)(w2c_i1);
+    w2c_j0 <<= (w2c_j1 & 63);
+    w2c_j1 = 36028797018964099ull;
+    w2c_j0 &= w2c_j1;
+    w2c_j1 = 0ull;
+    w2c_i0 = w2c_j0 != w2c_j1;
+    if (w2c_i0) {goto w2c_B8;}
+    w2c_B17:;
+    w2c_i0 = w2c_p1;
+    w2c_i1 = 12288u;
+    w2c_i0 = w2c_i0 == w2c_i1;
+    if (w2c_i0) {goto w2c_B8;}
+    w2c_B10:;
+    w2c_j0 = w2c_l4;
+    w2c_i0 = (u32)(w2c_j0);
+    w2c_i0 = i32_load8_u(m, (u64)(w2c_i0));
+    w2c_p1 = w2c_i0;
+    w2c_j0 = w2c_l6;
+    w2c_j1 = 3ull;
+    w2c_i0 = w2c_j0 < w2c_j1;
+    if (w2c_i0) {goto w2c_B6;}
+    w2c_i0 = w2c_p1;
+    w2c_i1 = 240u;
+    w2c_i0 &= w2c_i1;
+    w2c_i1 = 224u;
+    w2c_i0 = w2c_i0 != w2c_i1;
+    if (w2c_i0) {goto w2c_B6;}
+    w2c_i0 = w2c_p1;
+    w2c_i1 = 12u;
+    w2c_i0 <<= (w2c_i1 & 31);
+    w2c_j1 = w2c_l4;
+    w2c_i1 = (u32)(w2c_j1);
+    w2c_i1 = i32_load8_u(m, (u64)(w2c_i1) + 1u);
+    w2c_i2 = 6u;
+    w2c_i1 <<= (w2c_i2 & 31);
+    w2c_i0 += w2c_i1;
+    w2c_j1 = w2c_l4;
+    w2c_i1 = (u32)(w2c_j1);
+    w2c_i1 = i32_load8_u(m, (u64)(w2c_i1) + 2u);
+    w2c_i0 += w2c_i1;
+    w2c_i1 = 4294041472u;
+    w2c_i0 += w2c_i1;
+    w2c_p1 = w2c_i0;
+    w2c_j0 = w2c_l6;
+    w2c_j1 = 18446744073709551613ull;
+    w2c_j0 += w2c_j1;
+    w2c_p3 = w2c_j0;
+    w2c_j0 = w2c_l4;
+    w2c_j1 = 3ull;
+    w2c_j0 += w2c_j1;
+    w2c_p2 = w2c_j0;
+    goto w2c_B5;
+    w2c_B8:;
+    w2c_j0 = w2c_p3;
+    w2c_i0 = !(w2c_j0);
+    w2c_i0 = !(w2c_i0);
+    if (w2c_i0) {goto w2c_L7;}
+    goto w2c_B1;
+  UNREACHABLE;
+  w2c_B6:;
+  w2c_i0 = w2c_p1;
+  w2c_i0 = (u32)(s32)(s8)(u8)(w2c_i0);
+  w2c_i1 = 4294967295u;
+  w2c_i0 = (u32)((s32)w2c_i0 <= (s32)w2c_i1);
+  if (w2c_i0) {goto w2c_B19;}
+  w2c_j0 = 1ull;
+  w2c_p2 = w2c_j0;
+  goto w2c_B18;
+  w2c_B19:;
+  w2c_j0 = w2c_l4;
+  w2c_i0 = (u32)(w2c_j0);
+  w2c_i0 = i32_load8_u(m, (u64)(w2c_i0) + 1u);
+  w2c_i1 = 63u;
+  w2c_i0 &= w2c_i1;
+  w2c_l8 = w2c_i0;
+  w2c_i0 = w2c_p1;
+  w2c_i1 = 223u;
+  w2c_i0 = w2c_i0 > w2c_i1;
+  if (w2c_i0) {goto w2c_B20;}
+  w2c_i0 = w2c_p1;
+  w2c_i1 = 6u;
+  w2c_i0 <<= (w2c_i1 & 31);
+  w2c_i1 = 1984u;
+  w2c_i0 &= w2c_i1;
+  w2c_i1 = w2c_l8;
+  w2c_i0 |= w2c_i1;
+  w2c_p1 = w2c_i0;
+  w2c_j0 = 2ull;
+  w2c_p2 = w2c_j0;
+  goto w2c_B18;
+  w2c_B20:;
+  w2c_j0 = w2c_l4;
+  w2c_i0 = (u32)(w2c_j0);
+  w2c_i0 = i32_load8_u(m, (u64)(w2c_i0) + 2u);
+  w2c_i1 = 63u;
+  w2c_i0 &= w2c_i1;
+  w2c_l7 = w2c_i0;
+  w2c_i0 = w2c_p1;
+  w2c_i1 = 239u;
+  w2c_i0 = w2c_i0 > w2c_i1;
+  if (w2c_i0) {goto w2c_B21;}
+  w2c_i0 = w2c_l8;
+  w2c_i1 = 6u;
+  w2c_i0 <<= (w2c_i1 & 31);
+  w2c_i1 = w2c_p1;
+  w2c_i2 = 12u;
+  w2c_i1 <<= (w2c_i2 & 31);
+  w2c_i2 = 61440u;
+  w2c_i1 &= w2c_i2;
+  w2c_i0 |= w2c_i1;
+  w2c_i1 = w2c_l7;
+  w2c_i0 |= w2c_i1;
+  w2c_p1 = w2c_i0;
+  w2c_j0 = 3ull;
+  w2c_p2 = w2c_j0;
+  goto w2c_B18;
+  w2c_B21:;
+  w2c_i0 = w2c_l7;
+  w2c_i1 = 6u;
+  w2c_i0 <<= (w2c_i1 & 31);
+  w2c_i1 = w2c_l8;
+  w2c_i2 = 12u;
+  w2c_i1 <<= (w2c_i2 & 31);
+  w2c_i2 = w2c_p1;
+  w2c_i3 = 18u;
+  w2c_i2 <<= (w2c_i3 & 31);
+  w2c_i3 = 1835008u;
+  w2c_i2 &= w2c_i3;
+  w2c_i1 |= w2c_i2;
+  w2c_i0 |= w2c_i1;
+  w2c_j1 = w2c_l4;
+  w2c_i1 = (u32)(w2c_j1);
+  w2c_i1 = i32_load8_u(m, (u64)(w2c_i1) + 3u);
+  w2c_i2 = 63u;
+  w2c_i1 &= w2c_i2;
+  w2c_i0 |= w2c_i1;
+  w2c_p1 = w2c_i0;
+  w2c_j0 = 4ull;
+  w2c_p2 = w2c_j0;
+  w2c_B18:;
+  w2c_j0 = w2c_l6;
+  w2c_j1 = w2c_p2;
+  w2c_j0 -= w2c_j1;
+  w2c_p3 = w2c_j0;
+  w2c_j0 = w2c_l4;
+  w2c_j1 = w2c_p2;
+  w2c_j0 += w2c_j1;
+  w2c_p2 = w2c_j0;
+  w2c_B5:;
+  w2c_i0 = w2c_p1;
+  w2c_i1 = 27491u;
+  w2c_i0 = w2c_i0 == w2c_i1;
+  if (w2c_i0) {goto w2c_B4;}
+  w2c_i0 = w2c_p1;
+  w2c_i1 = 36127u;
+  w2c_i0 = w2c_i0 == w2c_i1;
+  if (w2c_i0) {goto w2c_B4;}
+  w2c_i0 = w2c_p1;
+  w2c_i1 = 36000u;
+  w2c_i0 = w2c_i0 != w2c_i1;
+  if (w2c_i0) {goto w2c_B3;}
+  w2c_B4:;
+  w2c_j0 = w2c_p2;
+  w2c_l4 = w2c_j0;
+  w2c_j0 = w2c_p3;
+  w2c_l6 = w2c_j0;
+  w2c_j0 = w2c_p3;
+  w2c_i0 = !(w2c_j0);
+  if (w2c_i0) {goto w2c_B2;}
+  w2c_B3:;
+  w2c_L22:
+    w2c_j0 = w2c_l4;
+    w2c_i0 = (u32)(w2c_j0);
+    w2c_i0 = i32_load8_s(m, (u64)(w2c_i0));
+    w2c_l8 = w2c_i0;
+    w2c_i1 = 255u;
+    w2c_i0 &= w2c_i1;
+    w2c_p1 = w2c_i0;
+    w2c_j0 = 1ull;
+    w2c_p3 = w2c_j0;
+    w2c_i0 = w2c_l8;
+    w2c_i1 = 4294967295u;
+    w2c_i0 = (u32)((s32)w2c_i0 > (s32)w2c_i1);
+    if (w2c_i0) {goto w2c_B23;}
+    w2c_j0 = w2c_l4;
+    w2c_i0 = (u32)(w2c_j0);
+    w2c_i0 = i32_load8_u(m, (u64)(w2c_i0) + 1u);
+    w2c_i1 = 63u;
+    w2c_i0 &= w2c_i1;
+    w2c_l7 = w2c_i0;
+    w2c_i0 = w2c_l8;
+    w2c_i1 = 4294967263u;
+    w2c_i0 = w2c_i0 > w2c_i1;
+    if (w2c_i0) {goto w2c_B24;}
+    w2c_i0 = w2c_p1;
     w2c_i1 = 6u;
     w2c_i0 <<= (w2c_i1 & 31);
-    w2c_i1 = w2c_l10;
+    w2c_i1 = 1984u;
+    w2c_i0 &= w2c_i1;
+    w2c_i1 = w2c_l7;
+    w2c_i0 |= w2c_i1;
+    w2c_p1 = w2c_i0;
+    w2c_j0 = 2ull;
+    w2c_p3 = w2c_j0;
+    goto w2c_B23;
+    w2c_B24:;
+    w2c_j0 = w2c_l4;
+    w2c_i0 = (u32)(w2c_j0);
+    w2c_i0 = i32_load8_u(m, (u64)(w2c_i0) + 2u);
+    w2c_i1 = 63u;
+    w2c_i0 &= w2c_i1;
+    w2c_l9 = w2c_i0;
+    w2c_i0 = w2c_l8;
+    w2c_i1 = 4294967279u;
+    w2c_i0 = w2c_i0 > w2c_i1;
+    if (w2c_i0) {goto w2c_B25;}
+    w2c_i0 = w2c_l7;
+    w2c_i1 = 6u;
+    w2c_i0 <<= (w2c_i1 & 31);
+    w2c_i1 = w2c_p1;
+    w2c_i2 = 12u;
+    w2c_i1 <<= (w2c_i2 & 31);
+    w2c_i2 = 61440u;
+    w2c_i1 &= w2c_i2;
+    w2c_i0 |= w2c_i1;
+    w2c_i1 = w2c_l9;
+    w2c_i0 |= w2c_i1;
+    w2c_p1 = w2c_i0;
+    w2c_j0 = 3ull;
+    w2c_p3 = w2c_j0;
+    goto w2c_B23;
+    w2c_B25:;
+    w2c_i0 = w2c_l9;
+    w2c_i1 = 6u;
+    w2c_i0 <<= (w2c_i1 & 31);
+    w2c_i1 = w2c_l7;
     w2c_i2 = 12u;
     w2c_i1 <<= (w2c_i2 & 31);
     w2c_i2 = w2c_p1;
@@ -40864,104 +41113,111 @@ static void w2c_f50(module *m, u64 w2c_p0, u32 w2c_p1, u64 w2c_p2, u64 w2c_p3) {
     w2c_i0 |= w2c_i1;
     w2c_p1 = w2c_i0;
     w2c_j0 = 4ull;
-    w2c_p2 = w2c_j0;
-    w2c_B34:;
+    w2c_p3 = w2c_j0;
+    w2c_B23:;
     w2c_j0 = w2c_l5;
     w2c_j1 = 8ull;
     w2c_j0 += w2c_j1;
     w2c_i1 = w2c_p1;
-    w2c_f17(m, w2c_j0, w2c_i1);
+    w2c_f19(m, w2c_j0, w2c_i1);
     w2c_j0 = w2c_l5;
     w2c_i0 = (u32)(w2c_j0);
     w2c_i0 = i32_load8_u(m, (u64)(w2c_i0) + 8u);
     w2c_i1 = 1u;
     w2c_i0 = w2c_i0 == w2c_i1;
-    if (w2c_i0) {goto w2c_B37;}
+    if (w2c_i0) {goto w2c_B26;}
     w2c_i0 = w2c_p1;
     w2c_i1 = 127u;
     w2c_i0 = w2c_i0 > w2c_i1;
-    if (w2c_i0) {goto w2c_B38;}
+    if (w2c_i0) {goto w2c_B27;}
     w2c_i0 = w2c_p1;
     w2c_i1 = 4294967287u;
     w2c_i0 += w2c_i1;
     w2c_i1 = 5u;
     w2c_i0 = w2c_i0 < w2c_i1;
-    if (w2c_i0) {goto w2c_B37;}
+    if (w2c_i0) {goto w2c_B26;}
     w2c_i0 = w2c_p1;
     w2c_i1 = 32u;
     w2c_i0 = w2c_i0 == w2c_i1;
-    if (w2c_i0) {goto w2c_B37;}
+    if (w2c_i0) {goto w2c_B26;}
     w2c_i0 = 1u;
-    w2c_l12 = w2c_i0;
-    goto w2c_B32;
-    w2c_B38:;
+    w2c_l7 = w2c_i0;
+    goto w2c_B1;
+    w2c_B27:;
     w2c_i0 = w2c_p1;
     w2c_i1 = 12288u;
     w2c_i0 = w2c_i0 == w2c_i1;
-    if (w2c_i0) {goto w2c_B37;}
+    if (w2c_i0) {goto w2c_B26;}
     w2c_i0 = w2c_p1;
     w2c_i1 = 8287u;
     w2c_i0 = w2c_i0 == w2c_i1;
-    if (w2c_i0) {goto w2c_B37;}
+    if (w2c_i0) {goto w2c_B26;}
     w2c_i0 = w2c_p1;
     w2c_i1 = 8239u;
     w2c_i0 = w2c_i0 == w2c_i1;
-    if (w2c_i0) {goto w2c_B37;}
+    if (w2c_i0) {goto w2c_B26;}
     w2c_i0 = w2c_p1;
     w2c_i1 = 2097150u;
     w2c_i0 &= w2c_i1;
     w2c_i1 = 8232u;
     w2c_i0 = w2c_i0 == w2c_i1;
-    if (w2c_i0) {goto w2c_B37;}
+    if (w2c_i0) {goto w2c_B26;}
     w2c_i0 = w2c_p1;
     w2c_i1 = 4294959104u;
     w2c_i0 += w2c_i1;
     w2c_i1 = 11u;
     w2c_i0 = w2c_i0 < w2c_i1;
-    if (w2c_i0) {goto w2c_B37;}
+    if (w2c_i0) {goto w2c_B26;}
     w2c_i0 = w2c_p1;
     w2c_i1 = 5760u;
     w2c_i0 = w2c_i0 == w2c_i1;
-    if (w2c_i0) {goto w2c_B37;}
+    if (w2c_i0) {goto w2c_B26;}
     w2c_i0 = w2c_p1;
     w2c_i1 = 133u;
     w2c_i0 = w2c_i0 == w2c_i1;
-    if (w2c_i0) {goto w2c_B37;}
+    if (w2c_i0) {goto w2c_B26;}
     w2c_i0 = w2c_p1;
     w2c_i1 = 160u;
     w2c_i0 = w2c_i0 == w2c_i1;
-    if (w2c_i0) {goto w2c_B37;}
+    if (w2c_i0) {goto w2c_B26;}
     w2c_i0 = 1u;
-    w2c_l12 = w2c_i0;
-    goto w2c_B32;
-    w2c_B37:;
+    w2c_l7 = w2c_i0;
+    goto w2c_B1;
+    w2c_B26:;
     w2c_j0 = w2c_l4;
-    w2c_j1 = w2c_p2;
+    w2c_j1 = w2c_p3;
     w2c_j0 += w2c_j1;
     w2c_l4 = w2c_j0;
-    w2c_j0 = w2c_p3;
-    w2c_j1 = w2c_p2;
+    w2c_j0 = w2c_l6;
+    w2c_j1 = w2c_p3;
     w2c_j0 -= w2c_j1;
-    w2c_p3 = w2c_j0;
+    w2c_l6 = w2c_j0;
     w2c_j1 = 0ull;
     w2c_i0 = w2c_j0 != w2c_j1;
-    if (w2c_i0) {goto w2c_L33;}
-  w2c_B32:;
+    if (w2c_i0) {goto w2c_L22;}
+  w2c_B2:;
+  w2c_i0 = 0u;
+  w2c_l7 = w2c_i0;
+  w2c_B1:;
   w2c_j0 = w2c_p0;
   w2c_i0 = (u32)(w2c_j0);
-  w2c_i1 = w2c_l12;
+  w2c_i1 = w2c_l7;
   i32_store8(m, (u64)(w2c_i0) + 1, w2c_i1);
   w2c_j0 = w2c_p0;
   w2c_i0 = (u32)(w2c_j0);
-  w2c_i1 = w2c_l12;
+  w2c_i1 = w2c_l7;
   i32_store8(m, (u64)(w2c_i0), w2c_i1);
   w2c_j0 = w2c_l5;
-  w2c_j1 = 80ull;
+  w2c_j1 = 16ull;
   w2c_j0 += w2c_j1;
   m->w2c_g0 = w2c_j0;
+  goto w2c_Bfunc;
+  w2c_B0:;
+  UNREACHABLE;
+  w2c_Bfunc:;
 }
 
-static u32 w2c_f51(module *m, u64 w2c_p0, u64 w2c_p1, u32 w2c_p2, u32 w2c_p3, u64 w2c_p4) {
+static u32 w2c_f53(module *m, u64 w2c_p0, u64 w2c_p1, u32 w2c_p2, u32 w2c_p3, u64 w2c_p4) {
   u32 w2c_l9 = 0, w2c_l10 = 0, w2c_l11 = 0, w2c_l12 = 0;
   u64 w2c_l5 = 0, w2c_l6 = 0, w2c_l7 = 0, w2c_l8 = 0;
   u32 w2c_i0, w2c_i1, w2c_i2, w2c_i3, w2c_i4;
@@ -41217,7 +41473,7 @@ static u32 w2c_f51(module *m, u64 w2c_p0, u64 w2c_p1, u32 w2c_p2, u32 w2c_p3, u6
   w2c_j1 = w2c_p1;
   w2c_i2 = w2c_p2;
   w2c_j3 = w2c_p4;
-  w2c_i0 = w2c_f49(m, w2c_j0, w2c_j1, w2c_i2, w2c_j3);
+  w2c_i0 = w2c_f51(m, w2c_j0, w2c_j1, w2c_i2, w2c_j3);
   w2c_l9 = w2c_i0;
   w2c_j0 = w2c_l5;
   m->w2c_g0 = w2c_j0;
@@ -41297,7 +41553,7 @@ static u32 w2c_f51(module *m, u64 w2c_p0, u64 w2c_p1, u32 w2c_p2, u32 w2c_p3, u6
   w2c_i3 = w2c_l11;
   w2c_i4 = w2c_l9;
   w2c_j5 = w2c_p4;
-  w2c_i0 = w2c_f46(m, w2c_j0, w2c_j1, w2c_i2, w2c_i3, w2c_i4, w2c_j5);
+  w2c_i0 = w2c_f48(m, w2c_j0, w2c_j1, w2c_i2, w2c_i3, w2c_i4, w2c_j5);
   w2c_l9 = w2c_i0;
   w2c_j0 = w2c_l5;
   m->w2c_g0 = w2c_j0;
@@ -41310,7 +41566,7 @@ static u32 w2c_f51(module *m, u64 w2c_p0, u64 w2c_p1, u32 w2c_p2, u32 w2c_p3, u6
   w2c_i3 = w2c_l11;
   w2c_i4 = w2c_l9;
   w2c_j5 = w2c_p4;
-  w2c_i0 = w2c_f48(m, w2c_j0, w2c_j1, w2c_i2, w2c_i3, w2c_i4, w2c_j5);
+  w2c_i0 = w2c_f50(m, w2c_j0, w2c_j1, w2c_i2, w2c_i3, w2c_i4, w2c_j5);
   w2c_l9 = w2c_i0;
   w2c_j0 = w2c_l5;
   m->w2c_g0 = w2c_j0;
@@ -41330,13 +41586,13 @@ static u32 w2c_chinese_number_version(module *m) {
   w2c_f2(m);
   UNREACHABLE;
   w2c_B0:;
-  w2c_f53(m);
+  w2c_f55(m);
   w2c_f1(m);
   w2c_i0 = 1000u;
   return w2c_i0;
 }
 
-static void w2c_f53(module *m) {
+static void w2c_f55(module *m) {
   u32 w2c_i0;
   u64 w2c_j0, w2c_j1;
   w2c_j0 = m->w2c_g0;
@@ -41345,198 +41601,6 @@ static void w2c_f53(module *m) {
   if (w2c_i0) {goto w2c_B0;}
   UNREACHABLE;
   w2c_B0:;
-}
-
-static u32 w2c_chinese_amount_print(module *m, u64 w2c_p0, u32 w2c_p1, u32 w2c_p2, u64 w2c_p3, u64 w2c_p4, u64 w2c_p5) {
-  u32 w2c_i0, w2c_i1, w2c_i2;
-  u64 w2c_j0, w2c_j3, w2c_j4, w2c_j5;
-  w2c_i0 = w2c_f0(m);
-  w2c_i0 = !(w2c_i0);
-  if (w2c_i0) {goto w2c_B0;}
-  w2c_f2(m);
-  UNREACHABLE;
-  w2c_B0:;
-  w2c_j0 = w2c_p0;
-  w2c_i1 = w2c_p1;
-  w2c_i2 = w2c_p2;
-  w2c_j3 = w2c_p3;
-  w2c_j4 = w2c_p4;
-  w2c_j5 = w2c_p5;
-  w2c_i0 = w2c_f55(m, w2c_j0, w2c_i1, w2c_i2, w2c_j3, w2c_j4, w2c_j5);
-  w2c_p2 = w2c_i0;
-  w2c_f1(m);
-  w2c_i0 = w2c_p2;
-  return w2c_i0;
-}
-
-static u32 w2c_f55(module *m, u64 w2c_p0, u32 w2c_p1, u32 w2c_p2, u64 w2c_p3, u64 w2c_p4, u64 w2c_p5) {
-  u32 w2c_l8 = 0;
-  u64 w2c_l6 = 0, w2c_l7 = 0;
-  u32 w2c_i0, w2c_i1, w2c_i2, w2c_i3, w2c_i4;
-  u64 w2c_j0, w2c_j1, w2c_j2, w2c_j3, w2c_j4;
-  w2c_j0 = m->w2c_g0;
-  w2c_j1 = 304ull;
-  w2c_j0 -= w2c_j1;
-  w2c_l6 = w2c_j0;
-  m->w2c_g0 = w2c_j0;
-  w2c_j0 = w2c_l6;
-  w2c_l6 = w2c_j0;
-  w2c_j1 = 16ull;
-  w2c_i0 = (u64)((s64)w2c_j0 < (s64)w2c_j1);
-  if (w2c_i0) {goto w2c_B0;}
-  w2c_j0 = w2c_p5;
-  w2c_i0 = (u32)(w2c_j0);
-  w2c_j1 = 0ull;
-  i64_store(m, (u64)(w2c_i0), w2c_j1);
-  w2c_i0 = 8u;
-  w2c_l8 = w2c_i0;
-  w2c_i0 = w2c_p1;
-  w2c_i1 = 1u;
-  w2c_i0 = w2c_i0 > w2c_i1;
-  if (w2c_i0) {goto w2c_B1;}
-  w2c_i0 = w2c_p2;
-  w2c_i1 = 7u;
-  w2c_i0 = w2c_i0 > w2c_i1;
-  if (w2c_i0) {goto w2c_B1;}
-  w2c_j0 = w2c_p0;
-  w2c_j1 = 999999999999999999ull;
-  w2c_i0 = w2c_j0 <= w2c_j1;
-  if (w2c_i0) {goto w2c_B2;}
-  w2c_i0 = 3u;
-  w2c_l8 = w2c_i0;
-  goto w2c_B1;
-  w2c_B2:;
-  w2c_i0 = w2c_p1;
-  w2c_j0 = (u64)(w2c_i0);
-  w2c_j1 = 65536ull;
-  w2c_j0 += w2c_j1;
-  w2c_i0 = (u32)(w2c_j0);
-  w2c_i0 = i32_load8_u(m, (u64)(w2c_i0));
-  w2c_l8 = w2c_i0;
-  w2c_j0 = w2c_l6;
-  w2c_i0 = (u32)(w2c_j0);
-  w2c_i1 = 0u;
-  i32_store16(m, (u64)(w2c_i0) + 160, w2c_i1);
-  w2c_j0 = w2c_l6;
-  w2c_i0 = (u32)(w2c_j0);
-  w2c_j1 = 0ull;
-  i64_store(m, (u64)(w2c_i0) + 152, w2c_j1);
-  w2c_j0 = w2c_l6;
-  w2c_i0 = (u32)(w2c_j0);
-  w2c_j1 = 0ull;
-  i64_store(m, (u64)(w2c_i0) + 144, w2c_j1);
-  w2c_j0 = w2c_l6;
-  w2c_i0 = (u32)(w2c_j0);
-  w2c_i1 = w2c_l8;
-  w2c_i2 = w2c_p2;
-  w2c_j2 = (u64)(w2c_i2);
-  w2c_j3 = 3ull;
-  w2c_j2 *= w2c_j3;
-  w2c_j3 = 65538ull;
-  w2c_j2 += w2c_j3;
-  w2c_l7 = w2c_j2;
-  w2c_i2 = (u32)(w2c_j2);
-  w2c_i2 = i32_load16_u(m, (u64)(w2c_i2));
-  w2c_j3 = w2c_l7;
-  w2c_j4 = 2ull;
-  w2c_j3 += w2c_j4;
-  w2c_i3 = (u32)(w2c_j3);
-  w2c_i3 = i32_load8_u(m, (u64)(w2c_i3));
-  w2c_i4 = 16u;
-  w2c_i3 <<= (w2c_i4 & 31);
-  w2c_i2 |= w2c_i3;
-  w2c_p1 = w2c_i2;
-  w2c_i3 = 8u;
-  w2c_i2 <<= (w2c_i3 & 31);
-  w2c_p2 = w2c_i2;
-  w2c_i3 = 4294901760u;
-  w2c_i2 &= w2c_i3;
-  w2c_i1 |= w2c_i2;
-  w2c_i2 = w2c_p2;
-  w2c_i3 = 65280u;
-  w2c_i2 &= w2c_i3;
-  w2c_i1 |= w2c_i2;
-  i32_store(m, (u64)(w2c_i0) + 168, w2c_i1);
-  w2c_j0 = w2c_l6;
-  w2c_j1 = 168ull;
-  w2c_j0 += w2c_j1;
-  w2c_j1 = 4ull;
-  w2c_j0 |= w2c_j1;
-  w2c_l7 = w2c_j0;
-  w2c_i0 = (u32)(w2c_j0);
-  w2c_i1 = 0u;
-  w2c_j2 = 132ull;
-  w2c_i2 = (u32)(w2c_j2);
-  memory_fill(m, w2c_i0, w2c_i1, w2c_i2);
-  w2c_j0 = w2c_l6;
-  w2c_j1 = 144ull;
-  w2c_j0 += w2c_j1;
-  w2c_j1 = w2c_p0;
-  w2c_f6(m, w2c_j0, w2c_j1);
-  w2c_j0 = w2c_l6;
-  w2c_j1 = 168ull;
-  w2c_j0 += w2c_j1;
-  w2c_i1 = w2c_p1;
-  w2c_j2 = w2c_l6;
-  w2c_j3 = 144ull;
-  w2c_j2 += w2c_j3;
-  w2c_f7(m, w2c_j0, w2c_i1, w2c_j2);
-  w2c_j0 = w2c_l6;
-  w2c_j1 = 12ull;
-  w2c_j0 += w2c_j1;
-  w2c_i0 = (u32)(w2c_j0);
-  w2c_j1 = w2c_l7;
-  w2c_i1 = (u32)(w2c_j1);
-  w2c_j2 = 132ull;
-  w2c_i2 = (u32)(w2c_j2);
-  memory_copy(m, w2c_i0, w2c_i1, w2c_i2);
-  w2c_j0 = w2c_p5;
-  w2c_i0 = (u32)(w2c_j0);
-  w2c_j1 = w2c_l6;
-  w2c_i1 = (u32)(w2c_j1);
-  w2c_j1 = i64_load(m, (u64)(w2c_i1) + 136u);
-  w2c_p0 = w2c_j1;
-  i64_store(m, (u64)(w2c_i0), w2c_j1);
-  w2c_j0 = w2c_p4;
-  w2c_j1 = w2c_p0;
-  w2c_i0 = w2c_j0 >= w2c_j1;
-  if (w2c_i0) {goto w2c_B3;}
-  w2c_i0 = 6u;
-  w2c_l8 = w2c_i0;
-  goto w2c_B1;
-  w2c_B3:;
-  w2c_j0 = w2c_p0;
-  w2c_i0 = !(w2c_j0);
-  if (w2c_i0) {goto w2c_B4;}
-  w2c_j0 = w2c_p3;
-  w2c_j1 = 4096ull;
-  w2c_j2 = 0ull;
-  w2c_j3 = w2c_p3;
-  w2c_i3 = !(w2c_j3);
-  w2c_j1 = w2c_i3 ? w2c_j1 : w2c_j2;
-  w2c_j0 += w2c_j1;
-  w2c_i0 = (u32)(w2c_j0);
-  w2c_j1 = w2c_l6;
-  w2c_j2 = 12ull;
-  w2c_j1 += w2c_j2;
-  w2c_i1 = (u32)(w2c_j1);
-  w2c_j2 = w2c_p0;
-  w2c_i2 = (u32)(w2c_j2);
-  memory_copy(m, w2c_i0, w2c_i1, w2c_i2);
-  w2c_B4:;
-  w2c_i0 = 0u;
-  w2c_l8 = w2c_i0;
-  w2c_B1:;
-  w2c_j0 = w2c_l6;
-  w2c_j1 = 304ull;
-  w2c_j0 += w2c_j1;
-  m->w2c_g0 = w2c_j0;
-  w2c_i0 = w2c_l8;
-  goto w2c_Bfunc;
-  w2c_B0:;
-  UNREACHABLE;
-  w2c_Bfunc:;
-  return w2c_i0;
 }
 
 static u32 w2c_chinese_date_print(module *m, u32 w2c_p0, u32 w2c_p1, u32 w2c_p2, u32 w2c_p3, u64 w2c_p4, u64 w2c_p5, u64 w2c_p6) {
@@ -41720,7 +41784,7 @@ static u32 w2c_f57(module *m, u32 w2c_p0, u32 w2c_p1, u32 w2c_p2, u32 w2c_p3, u6
   w2c_j1 = 136ull;
   w2c_j0 += w2c_j1;
   w2c_i1 = w2c_l13;
-  w2c_f9(m, w2c_j0, w2c_i1);
+  w2c_f6(m, w2c_j0, w2c_i1);
   w2c_j0 = w2c_l7;
   w2c_j1 = 136ull;
   w2c_j0 += w2c_j1;
@@ -41797,7 +41861,7 @@ static u32 w2c_f57(module *m, u32 w2c_p0, u32 w2c_p1, u32 w2c_p2, u32 w2c_p3, u6
   w2c_j1 = 136ull;
   w2c_j0 += w2c_j1;
   w2c_i1 = w2c_p0;
-  w2c_f10(m, w2c_j0, w2c_i1);
+  w2c_f7(m, w2c_j0, w2c_i1);
   w2c_j0 = w2c_l7;
   w2c_i0 = (u32)(w2c_j0);
   w2c_j0 = i64_load(m, (u64)(w2c_i0) + 264u);
@@ -41865,7 +41929,7 @@ static u32 w2c_f57(module *m, u32 w2c_p0, u32 w2c_p1, u32 w2c_p2, u32 w2c_p3, u6
   w2c_j1 = 136ull;
   w2c_j0 += w2c_j1;
   w2c_i1 = w2c_l12;
-  w2c_f10(m, w2c_j0, w2c_i1);
+  w2c_f7(m, w2c_j0, w2c_i1);
   w2c_j0 = w2c_l7;
   w2c_i0 = (u32)(w2c_j0);
   w2c_j0 = i64_load(m, (u64)(w2c_i0) + 264u);
@@ -41985,9 +42049,9 @@ static u32 w2c_chinese_signed_amount_print(module *m, u64 w2c_p0, u32 w2c_p1, u3
 }
 
 static u32 w2c_f59(module *m, u64 w2c_p0, u32 w2c_p1, u32 w2c_p2, u64 w2c_p3, u64 w2c_p4, u64 w2c_p5) {
-  u32 w2c_l9 = 0, w2c_l10 = 0;
+  u32 w2c_l9 = 0;
   u64 w2c_l6 = 0, w2c_l7 = 0, w2c_l8 = 0;
-  u32 w2c_i0, w2c_i1, w2c_i2, w2c_i3, w2c_i4;
+  u32 w2c_i0, w2c_i1, w2c_i2, w2c_i3;
   u64 w2c_j0, w2c_j1, w2c_j2, w2c_j3;
   w2c_j0 = m->w2c_g0;
   w2c_j1 = 304ull;
@@ -42041,22 +42105,6 @@ static u32 w2c_f59(module *m, u64 w2c_p0, u32 w2c_p1, u32 w2c_p2, u64 w2c_p3, u6
   w2c_i0 = (u32)(w2c_j0);
   w2c_i0 = i32_load8_u(m, (u64)(w2c_i0));
   w2c_l9 = w2c_i0;
-  w2c_i0 = w2c_p2;
-  w2c_j0 = (u64)(w2c_i0);
-  w2c_j1 = 3ull;
-  w2c_j0 *= w2c_j1;
-  w2c_j1 = 65538ull;
-  w2c_j0 += w2c_j1;
-  w2c_l8 = w2c_j0;
-  w2c_j1 = 2ull;
-  w2c_j0 += w2c_j1;
-  w2c_i0 = (u32)(w2c_j0);
-  w2c_i0 = i32_load8_u(m, (u64)(w2c_i0));
-  w2c_p2 = w2c_i0;
-  w2c_j0 = w2c_l8;
-  w2c_i0 = (u32)(w2c_j0);
-  w2c_i0 = i32_load16_u(m, (u64)(w2c_i0));
-  w2c_l10 = w2c_i0;
   w2c_j0 = w2c_l6;
   w2c_i0 = (u32)(w2c_j0);
   w2c_i1 = 0u;
@@ -42071,24 +42119,27 @@ static u32 w2c_f59(module *m, u64 w2c_p0, u32 w2c_p1, u32 w2c_p2, u64 w2c_p3, u6
   i64_store(m, (u64)(w2c_i0) + 144, w2c_j1);
   w2c_j0 = w2c_l6;
   w2c_i0 = (u32)(w2c_j0);
-  w2c_i1 = w2c_l10;
+  w2c_i1 = w2c_l9;
   w2c_i2 = w2c_p2;
-  w2c_i3 = 16u;
+  w2c_j2 = (u64)(w2c_i2);
+  w2c_j3 = 3ull;
+  w2c_j2 *= w2c_j3;
+  w2c_l8 = w2c_j2;
+  w2c_j3 = 66308ull;
+  w2c_j2 += w2c_j3;
+  w2c_i2 = (u32)(w2c_j2);
+  w2c_i2 = i32_load8_u(m, (u64)(w2c_i2));
+  w2c_p2 = w2c_i2;
+  w2c_i3 = 8u;
   w2c_i2 <<= (w2c_i3 & 31);
   w2c_i1 |= w2c_i2;
-  w2c_p2 = w2c_i1;
-  w2c_i2 = 8u;
-  w2c_i1 <<= (w2c_i2 & 31);
-  w2c_l10 = w2c_i1;
-  w2c_i2 = 4294901760u;
-  w2c_i1 &= w2c_i2;
-  w2c_i2 = w2c_l10;
-  w2c_i3 = 65280u;
-  w2c_i2 &= w2c_i3;
-  w2c_i3 = w2c_l9;
-  w2c_i4 = 255u;
-  w2c_i3 &= w2c_i4;
-  w2c_i2 |= w2c_i3;
+  w2c_j2 = w2c_l8;
+  w2c_j3 = 66309ull;
+  w2c_j2 += w2c_j3;
+  w2c_i2 = (u32)(w2c_j2);
+  w2c_i2 = i32_load16_u(m, (u64)(w2c_i2));
+  w2c_i3 = 16u;
+  w2c_i2 <<= (w2c_i3 & 31);
   w2c_i1 |= w2c_i2;
   i32_store(m, (u64)(w2c_i0) + 168, w2c_i1);
   w2c_j0 = w2c_l6;
@@ -42137,7 +42188,7 @@ static u32 w2c_f59(module *m, u64 w2c_p0, u32 w2c_p1, u32 w2c_p2, u64 w2c_p3, u6
   w2c_j1 = 144ull;
   w2c_j0 += w2c_j1;
   w2c_j1 = w2c_l7;
-  w2c_f6(m, w2c_j0, w2c_j1);
+  w2c_f8(m, w2c_j0, w2c_j1);
   w2c_j0 = w2c_l6;
   w2c_j1 = 168ull;
   w2c_j0 += w2c_j1;
@@ -42145,7 +42196,7 @@ static u32 w2c_f59(module *m, u64 w2c_p0, u32 w2c_p1, u32 w2c_p2, u64 w2c_p3, u6
   w2c_j2 = w2c_l6;
   w2c_j3 = 144ull;
   w2c_j2 += w2c_j3;
-  w2c_f7(m, w2c_j0, w2c_i1, w2c_j2);
+  w2c_f9(m, w2c_j0, w2c_i1, w2c_j2);
   w2c_j0 = w2c_l6;
   w2c_j1 = 12ull;
   w2c_j0 += w2c_j1;
@@ -42756,61 +42807,60 @@ static u32 w2c_f63(module *m, u64 w2c_p0, u64 w2c_p1, u64 w2c_p2) {
     w2c_j1 = 255ull;
     w2c_j0 &= w2c_j1;
     w2c_i0 = (u32)(w2c_j0);
-    w2c_l17 = w2c_i0;
     switch (w2c_i0) {
-      case 0: goto w2c_B36;
-      case 1: goto w2c_B36;
-      case 2: goto w2c_B36;
-      case 3: goto w2c_B36;
-      case 4: goto w2c_B36;
-      case 5: goto w2c_B44;
-      case 6: goto w2c_B43;
-      case 7: goto w2c_B42;
-      case 8: goto w2c_B41;
-      case 9: goto w2c_B40;
-      case 10: goto w2c_B39;
-      case 11: goto w2c_B38;
-      case 12: goto w2c_B37;
-      case 13: goto w2c_B36;
+      case 0: goto w2c_B43;
+      case 1: goto w2c_B42;
+      case 2: goto w2c_B41;
+      case 3: goto w2c_B40;
+      case 4: goto w2c_B39;
+      case 5: goto w2c_B51;
+      case 6: goto w2c_B50;
+      case 7: goto w2c_B49;
+      case 8: goto w2c_B48;
+      case 9: goto w2c_B47;
+      case 10: goto w2c_B46;
+      case 11: goto w2c_B45;
+      case 12: goto w2c_B44;
+      case 13: goto w2c_B38;
       case 14: goto w2c_B36;
-      case 15: goto w2c_B36;
-      case 16: goto w2c_B36;
-      case 17: goto w2c_B36;
-      case 18: goto w2c_B36;
-      case 19: goto w2c_B36;
-      default: goto w2c_B36;
+      case 15: goto w2c_B34;
+      case 16: goto w2c_B26;
+      case 17: goto w2c_B37;
+      case 18: goto w2c_B24;
+      case 19: goto w2c_B20;
+      default: goto w2c_B43;
     }
-    w2c_B44:;
+    w2c_B51:;
     w2c_i0 = 1u;
     w2c_i1 = w2c_l15;
     w2c_i0 <<= (w2c_i1 & 31);
     w2c_i1 = 31999u;
     w2c_i0 &= w2c_i1;
-    if (w2c_i0) {goto w2c_B45;}
+    if (w2c_i0) {goto w2c_B52;}
     w2c_i0 = w2c_l15;
     w2c_i1 = 8u;
     w2c_i0 = w2c_i0 == w2c_i1;
     if (w2c_i0) {goto w2c_B25;}
     goto w2c_B23;
-    w2c_B45:;
+    w2c_B52:;
     w2c_i0 = w2c_l15;
     w2c_i1 = 4294967291u;
     w2c_i0 += w2c_i1;
     w2c_i1 = 10u;
     w2c_i0 = w2c_i0 < w2c_i1;
-    if (w2c_i0) {goto w2c_B46;}
+    if (w2c_i0) {goto w2c_B53;}
     w2c_i0 = 0u;
     w2c_l17 = w2c_i0;
     w2c_i0 = w2c_l15;
     switch (w2c_i0) {
-      case 0: goto w2c_B46;
-      case 1: goto w2c_B46;
+      case 0: goto w2c_B53;
+      case 1: goto w2c_B53;
       case 2: goto w2c_B31;
       case 3: goto w2c_B29;
       case 4: goto w2c_B19;
-      default: goto w2c_B46;
+      default: goto w2c_B53;
     }
-    w2c_B46:;
+    w2c_B53:;
     w2c_i0 = 0u;
     w2c_l17 = w2c_i0;
     w2c_i0 = 6u;
@@ -42834,7 +42884,7 @@ static u32 w2c_f63(module *m, u64 w2c_p0, u64 w2c_p1, u64 w2c_p2) {
       case 14: goto w2c_B20;
       default: goto w2c_B20;
     }
-    w2c_B43:;
+    w2c_B50:;
     w2c_i0 = 3u;
     w2c_l21 = w2c_i0;
     w2c_i0 = 10u;
@@ -42843,34 +42893,36 @@ static u32 w2c_f63(module *m, u64 w2c_p0, u64 w2c_p1, u64 w2c_p2) {
     w2c_l22 = w2c_i0;
     w2c_i0 = w2c_l15;
     switch (w2c_i0) {
-      case 0: goto w2c_B48;
+      case 0: goto w2c_B55;
       case 1: goto w2c_B35;
-      case 2: goto w2c_B47;
-      case 3: goto w2c_B47;
-      case 4: goto w2c_B47;
+      case 2: goto w2c_B54;
+      case 3: goto w2c_B54;
+      case 4: goto w2c_B54;
       case 5: goto w2c_B20;
-      case 6: goto w2c_B47;
-      case 7: goto w2c_B47;
-      case 8: goto w2c_B47;
-      case 9: goto w2c_B47;
-      case 10: goto w2c_B47;
-      case 11: goto w2c_B47;
-      case 12: goto w2c_B47;
-      case 13: goto w2c_B47;
-      case 14: goto w2c_B47;
-      default: goto w2c_B48;
+      case 6: goto w2c_B54;
+      case 7: goto w2c_B54;
+      case 8: goto w2c_B54;
+      case 9: goto w2c_B54;
+      case 10: goto w2c_B54;
+      case 11: goto w2c_B54;
+      case 12: goto w2c_B54;
+      case 13: goto w2c_B54;
+      case 14: goto w2c_B54;
+      default: goto w2c_B55;
     }
-    w2c_B48:;
+    w2c_B55:;
+    w2c_i0 = 1u;
+    w2c_l17 = w2c_i0;
     w2c_i0 = w2c_l19;
+    w2c_i1 = 1u;
+    w2c_i0 &= w2c_i1;
     w2c_i1 = 2u;
     w2c_i0 |= w2c_i1;
     w2c_l16 = w2c_i0;
-    w2c_i0 = 1u;
-    w2c_l17 = w2c_i0;
     w2c_i0 = 9u;
     w2c_l18 = w2c_i0;
     goto w2c_B13;
-    w2c_B47:;
+    w2c_B54:;
     w2c_i0 = 1u;
     w2c_l17 = w2c_i0;
     w2c_i0 = w2c_l15;
@@ -42882,7 +42934,7 @@ static u32 w2c_f63(module *m, u64 w2c_p0, u64 w2c_p1, u64 w2c_p2) {
     w2c_i0 = w2c_i0 == w2c_i1;
     if (w2c_i0) {goto w2c_B18;}
     goto w2c_B20;
-    w2c_B42:;
+    w2c_B49:;
     w2c_i0 = 3u;
     w2c_l21 = w2c_i0;
     w2c_i0 = 4u;
@@ -42891,34 +42943,36 @@ static u32 w2c_f63(module *m, u64 w2c_p0, u64 w2c_p1, u64 w2c_p2) {
     w2c_l20 = w2c_i0;
     w2c_i0 = w2c_l15;
     switch (w2c_i0) {
-      case 0: goto w2c_B50;
+      case 0: goto w2c_B57;
       case 1: goto w2c_B35;
-      case 2: goto w2c_B49;
-      case 3: goto w2c_B49;
-      case 4: goto w2c_B49;
+      case 2: goto w2c_B56;
+      case 3: goto w2c_B56;
+      case 4: goto w2c_B56;
       case 5: goto w2c_B20;
-      case 6: goto w2c_B49;
-      case 7: goto w2c_B49;
-      case 8: goto w2c_B49;
-      case 9: goto w2c_B49;
-      case 10: goto w2c_B49;
-      case 11: goto w2c_B49;
-      case 12: goto w2c_B49;
-      case 13: goto w2c_B49;
-      case 14: goto w2c_B49;
-      default: goto w2c_B50;
+      case 6: goto w2c_B56;
+      case 7: goto w2c_B56;
+      case 8: goto w2c_B56;
+      case 9: goto w2c_B56;
+      case 10: goto w2c_B56;
+      case 11: goto w2c_B56;
+      case 12: goto w2c_B56;
+      case 13: goto w2c_B56;
+      case 14: goto w2c_B56;
+      default: goto w2c_B57;
     }
-    w2c_B50:;
+    w2c_B57:;
     w2c_i0 = 3u;
     w2c_l16 = w2c_i0;
     w2c_i0 = w2c_l19;
+    w2c_i1 = 1u;
+    w2c_i0 &= w2c_i1;
     w2c_i1 = 3u;
     w2c_i0 ^= w2c_i1;
     w2c_l17 = w2c_i0;
     w2c_i0 = 9u;
     w2c_l18 = w2c_i0;
     goto w2c_B13;
-    w2c_B49:;
+    w2c_B56:;
     w2c_i0 = 1u;
     w2c_l17 = w2c_i0;
     w2c_i0 = 8u;
@@ -42932,7 +42986,7 @@ static u32 w2c_f63(module *m, u64 w2c_p0, u64 w2c_p1, u64 w2c_p2) {
     w2c_i0 = w2c_i0 == w2c_i1;
     if (w2c_i0) {goto w2c_B18;}
     goto w2c_B20;
-    w2c_B41:;
+    w2c_B48:;
     w2c_i0 = 1u;
     w2c_l17 = w2c_i0;
     w2c_i0 = 3u;
@@ -42943,7 +42997,7 @@ static u32 w2c_f63(module *m, u64 w2c_p0, u64 w2c_p1, u64 w2c_p2) {
     w2c_l20 = w2c_i0;
     w2c_i0 = w2c_l15;
     switch (w2c_i0) {
-      case 0: goto w2c_B51;
+      case 0: goto w2c_B58;
       case 1: goto w2c_B35;
       case 2: goto w2c_B20;
       case 3: goto w2c_B20;
@@ -42958,10 +43012,12 @@ static u32 w2c_f63(module *m, u64 w2c_p0, u64 w2c_p1, u64 w2c_p2) {
       case 12: goto w2c_B20;
       case 13: goto w2c_B20;
       case 14: goto w2c_B20;
-      default: goto w2c_B51;
+      default: goto w2c_B58;
     }
-    w2c_B51:;
+    w2c_B58:;
     w2c_i0 = w2c_l19;
+    w2c_i1 = 1u;
+    w2c_i0 &= w2c_i1;
     w2c_i1 = 2u;
     w2c_i0 |= w2c_i1;
     w2c_l16 = w2c_i0;
@@ -42970,7 +43026,7 @@ static u32 w2c_f63(module *m, u64 w2c_p0, u64 w2c_p1, u64 w2c_p2) {
     w2c_i0 = 9u;
     w2c_l18 = w2c_i0;
     goto w2c_B13;
-    w2c_B40:;
+    w2c_B47:;
     w2c_i0 = w2c_l15;
     w2c_i1 = 1u;
     w2c_i0 = w2c_i0 != w2c_i1;
@@ -42982,35 +43038,35 @@ static u32 w2c_f63(module *m, u64 w2c_p0, u64 w2c_p1, u64 w2c_p2) {
     w2c_i0 = w2c_l16;
     w2c_l21 = w2c_i0;
     goto w2c_B35;
-    w2c_B39:;
+    w2c_B46:;
     w2c_i0 = w2c_l16;
     w2c_j0 = (u64)(w2c_i0);
     w2c_j1 = 255ull;
     w2c_j0 &= w2c_j1;
     w2c_i0 = (u32)(w2c_j0);
     switch (w2c_i0) {
-      case 0: goto w2c_B52;
+      case 0: goto w2c_B59;
       case 1: goto w2c_B32;
       case 2: goto w2c_B30;
       case 3: goto w2c_B21;
-      default: goto w2c_B52;
+      default: goto w2c_B59;
     }
-    w2c_B52:;
+    w2c_B59:;
     w2c_i0 = w2c_l19;
     w2c_j0 = (u64)(w2c_i0);
     w2c_j1 = 255ull;
     w2c_j0 &= w2c_j1;
     w2c_i0 = (u32)(w2c_j0);
     switch (w2c_i0) {
-      case 0: goto w2c_B57;
-      case 1: goto w2c_B54;
-      case 2: goto w2c_B56;
-      case 3: goto w2c_B56;
-      case 4: goto w2c_B55;
-      case 5: goto w2c_B53;
-      default: goto w2c_B57;
+      case 0: goto w2c_B64;
+      case 1: goto w2c_B61;
+      case 2: goto w2c_B63;
+      case 3: goto w2c_B63;
+      case 4: goto w2c_B62;
+      case 5: goto w2c_B60;
+      default: goto w2c_B64;
     }
-    w2c_B57:;
+    w2c_B64:;
     w2c_i0 = 0u;
     w2c_l17 = w2c_i0;
     w2c_i0 = 6u;
@@ -43034,7 +43090,7 @@ static u32 w2c_f63(module *m, u64 w2c_p0, u64 w2c_p1, u64 w2c_p2) {
       case 14: goto w2c_B20;
       default: goto w2c_B20;
     }
-    w2c_B56:;
+    w2c_B63:;
     w2c_i0 = 0u;
     w2c_l17 = w2c_i0;
     w2c_i0 = 8u;
@@ -43048,13 +43104,13 @@ static u32 w2c_f63(module *m, u64 w2c_p0, u64 w2c_p1, u64 w2c_p2) {
     w2c_i0 = w2c_i0 == w2c_i1;
     if (w2c_i0) {goto w2c_B18;}
     goto w2c_B20;
-    w2c_B55:;
+    w2c_B62:;
     w2c_i0 = w2c_l15;
     w2c_i1 = 5u;
     w2c_i0 = w2c_i0 != w2c_i1;
     if (w2c_i0) {goto w2c_B20;}
     goto w2c_B16;
-    w2c_B54:;
+    w2c_B61:;
     w2c_i0 = 0u;
     w2c_l17 = w2c_i0;
     w2c_i0 = w2c_l15;
@@ -43066,7 +43122,7 @@ static u32 w2c_f63(module *m, u64 w2c_p0, u64 w2c_p1, u64 w2c_p2) {
     w2c_i0 = w2c_i0 == w2c_i1;
     if (w2c_i0) {goto w2c_B18;}
     goto w2c_B20;
-    w2c_B53:;
+    w2c_B60:;
     w2c_i0 = w2c_l15;
     w2c_i1 = 7u;
     w2c_i0 = w2c_i0 != w2c_i1;
@@ -43074,53 +43130,53 @@ static u32 w2c_f63(module *m, u64 w2c_p0, u64 w2c_p1, u64 w2c_p2) {
     w2c_i0 = 0u;
     w2c_l17 = w2c_i0;
     goto w2c_B18;
-    w2c_B38:;
+    w2c_B45:;
     w2c_i0 = w2c_l16;
     w2c_j0 = (u64)(w2c_i0);
     w2c_j1 = 255ull;
     w2c_j0 &= w2c_j1;
     w2c_i0 = (u32)(w2c_j0);
     switch (w2c_i0) {
-      case 0: goto w2c_B58;
-      case 1: goto w2c_B59;
-      case 2: goto w2c_B60;
-      case 3: goto w2c_B61;
-      default: goto w2c_B58;
+      case 0: goto w2c_B65;
+      case 1: goto w2c_B66;
+      case 2: goto w2c_B67;
+      case 3: goto w2c_B68;
+      default: goto w2c_B65;
     }
-    w2c_B61:;
+    w2c_B68:;
     w2c_i0 = w2c_l15;
     w2c_i1 = 4294967291u;
     w2c_i0 += w2c_i1;
     w2c_i1 = 10u;
     w2c_i0 = w2c_i0 < w2c_i1;
-    if (w2c_i0) {goto w2c_B62;}
+    if (w2c_i0) {goto w2c_B69;}
     w2c_i0 = w2c_l19;
     w2c_l17 = w2c_i0;
     w2c_i0 = w2c_l15;
     switch (w2c_i0) {
-      case 0: goto w2c_B62;
-      case 1: goto w2c_B62;
+      case 0: goto w2c_B69;
+      case 1: goto w2c_B69;
       case 2: goto w2c_B31;
       case 3: goto w2c_B29;
       case 4: goto w2c_B28;
-      default: goto w2c_B62;
+      default: goto w2c_B69;
     }
-    w2c_B62:;
+    w2c_B69:;
     w2c_i0 = w2c_l19;
     w2c_j0 = (u64)(w2c_i0);
     w2c_j1 = 255ull;
     w2c_j0 &= w2c_j1;
     w2c_i0 = (u32)(w2c_j0);
     switch (w2c_i0) {
-      case 0: goto w2c_B67;
-      case 1: goto w2c_B64;
-      case 2: goto w2c_B66;
-      case 3: goto w2c_B66;
-      case 4: goto w2c_B65;
-      case 5: goto w2c_B63;
-      default: goto w2c_B67;
+      case 0: goto w2c_B74;
+      case 1: goto w2c_B71;
+      case 2: goto w2c_B73;
+      case 3: goto w2c_B73;
+      case 4: goto w2c_B72;
+      case 5: goto w2c_B70;
+      default: goto w2c_B74;
     }
-    w2c_B67:;
+    w2c_B74:;
     w2c_i0 = 0u;
     w2c_l17 = w2c_i0;
     w2c_i0 = 6u;
@@ -43144,7 +43200,7 @@ static u32 w2c_f63(module *m, u64 w2c_p0, u64 w2c_p1, u64 w2c_p2) {
       case 14: goto w2c_B20;
       default: goto w2c_B20;
     }
-    w2c_B66:;
+    w2c_B73:;
     w2c_i0 = 0u;
     w2c_l17 = w2c_i0;
     w2c_i0 = 8u;
@@ -43158,13 +43214,13 @@ static u32 w2c_f63(module *m, u64 w2c_p0, u64 w2c_p1, u64 w2c_p2) {
     w2c_i0 = w2c_i0 == w2c_i1;
     if (w2c_i0) {goto w2c_B18;}
     goto w2c_B20;
-    w2c_B65:;
+    w2c_B72:;
     w2c_i0 = w2c_l15;
     w2c_i1 = 5u;
     w2c_i0 = w2c_i0 == w2c_i1;
     if (w2c_i0) {goto w2c_B16;}
     goto w2c_B20;
-    w2c_B64:;
+    w2c_B71:;
     w2c_i0 = 0u;
     w2c_l17 = w2c_i0;
     w2c_i0 = w2c_l15;
@@ -43176,7 +43232,7 @@ static u32 w2c_f63(module *m, u64 w2c_p0, u64 w2c_p1, u64 w2c_p2) {
     w2c_i0 = w2c_i0 == w2c_i1;
     if (w2c_i0) {goto w2c_B18;}
     goto w2c_B20;
-    w2c_B63:;
+    w2c_B70:;
     w2c_i0 = w2c_l15;
     w2c_i1 = 7u;
     w2c_i0 = w2c_i0 != w2c_i1;
@@ -43184,39 +43240,39 @@ static u32 w2c_f63(module *m, u64 w2c_p0, u64 w2c_p1, u64 w2c_p2) {
     w2c_i0 = 0u;
     w2c_l17 = w2c_i0;
     goto w2c_B18;
-    w2c_B60:;
+    w2c_B67:;
     w2c_i0 = w2c_l15;
     w2c_i1 = 4294967292u;
     w2c_i0 += w2c_i1;
     w2c_i1 = 11u;
     w2c_i0 = w2c_i0 < w2c_i1;
-    if (w2c_i0) {goto w2c_B68;}
+    if (w2c_i0) {goto w2c_B75;}
     w2c_i0 = w2c_l19;
     w2c_l17 = w2c_i0;
     w2c_i0 = w2c_l15;
     switch (w2c_i0) {
-      case 0: goto w2c_B68;
-      case 1: goto w2c_B68;
+      case 0: goto w2c_B75;
+      case 1: goto w2c_B75;
       case 2: goto w2c_B31;
       case 3: goto w2c_B29;
-      default: goto w2c_B68;
+      default: goto w2c_B75;
     }
-    w2c_B68:;
+    w2c_B75:;
     w2c_i0 = w2c_l19;
     w2c_j0 = (u64)(w2c_i0);
     w2c_j1 = 255ull;
     w2c_j0 &= w2c_j1;
     w2c_i0 = (u32)(w2c_j0);
     switch (w2c_i0) {
-      case 0: goto w2c_B73;
-      case 1: goto w2c_B70;
-      case 2: goto w2c_B72;
-      case 3: goto w2c_B72;
-      case 4: goto w2c_B71;
-      case 5: goto w2c_B69;
-      default: goto w2c_B73;
+      case 0: goto w2c_B80;
+      case 1: goto w2c_B77;
+      case 2: goto w2c_B79;
+      case 3: goto w2c_B79;
+      case 4: goto w2c_B78;
+      case 5: goto w2c_B76;
+      default: goto w2c_B80;
     }
-    w2c_B73:;
+    w2c_B80:;
     w2c_i0 = 0u;
     w2c_l17 = w2c_i0;
     w2c_i0 = 6u;
@@ -43240,7 +43296,7 @@ static u32 w2c_f63(module *m, u64 w2c_p0, u64 w2c_p1, u64 w2c_p2) {
       case 14: goto w2c_B20;
       default: goto w2c_B20;
     }
-    w2c_B72:;
+    w2c_B79:;
     w2c_i0 = 0u;
     w2c_l17 = w2c_i0;
     w2c_i0 = 8u;
@@ -43254,13 +43310,13 @@ static u32 w2c_f63(module *m, u64 w2c_p0, u64 w2c_p1, u64 w2c_p2) {
     w2c_i0 = w2c_i0 == w2c_i1;
     if (w2c_i0) {goto w2c_B18;}
     goto w2c_B20;
-    w2c_B71:;
+    w2c_B78:;
     w2c_i0 = w2c_l15;
     w2c_i1 = 5u;
     w2c_i0 = w2c_i0 == w2c_i1;
     if (w2c_i0) {goto w2c_B16;}
     goto w2c_B20;
-    w2c_B70:;
+    w2c_B77:;
     w2c_i0 = 0u;
     w2c_l17 = w2c_i0;
     w2c_i0 = w2c_l15;
@@ -43272,7 +43328,7 @@ static u32 w2c_f63(module *m, u64 w2c_p0, u64 w2c_p1, u64 w2c_p2) {
     w2c_i0 = w2c_i0 == w2c_i1;
     if (w2c_i0) {goto w2c_B18;}
     goto w2c_B20;
-    w2c_B69:;
+    w2c_B76:;
     w2c_i0 = w2c_l15;
     w2c_i1 = 7u;
     w2c_i0 = w2c_i0 != w2c_i1;
@@ -43280,30 +43336,30 @@ static u32 w2c_f63(module *m, u64 w2c_p0, u64 w2c_p1, u64 w2c_p2) {
     w2c_i0 = 0u;
     w2c_l17 = w2c_i0;
     goto w2c_B18;
-    w2c_B59:;
+    w2c_B66:;
     w2c_i0 = w2c_l15;
     w2c_i1 = 2u;
     w2c_i0 = w2c_i0 != w2c_i1;
-    if (w2c_i0) {goto w2c_B74;}
+    if (w2c_i0) {goto w2c_B81;}
     w2c_i0 = w2c_l19;
     w2c_l17 = w2c_i0;
     goto w2c_B31;
-    w2c_B74:;
+    w2c_B81:;
     w2c_i0 = w2c_l19;
     w2c_j0 = (u64)(w2c_i0);
     w2c_j1 = 255ull;
     w2c_j0 &= w2c_j1;
     w2c_i0 = (u32)(w2c_j0);
     switch (w2c_i0) {
-      case 0: goto w2c_B79;
-      case 1: goto w2c_B76;
-      case 2: goto w2c_B78;
-      case 3: goto w2c_B78;
-      case 4: goto w2c_B77;
-      case 5: goto w2c_B75;
-      default: goto w2c_B79;
+      case 0: goto w2c_B86;
+      case 1: goto w2c_B83;
+      case 2: goto w2c_B85;
+      case 3: goto w2c_B85;
+      case 4: goto w2c_B84;
+      case 5: goto w2c_B82;
+      default: goto w2c_B86;
     }
-    w2c_B79:;
+    w2c_B86:;
     w2c_i0 = 0u;
     w2c_l17 = w2c_i0;
     w2c_i0 = 6u;
@@ -43327,7 +43383,7 @@ static u32 w2c_f63(module *m, u64 w2c_p0, u64 w2c_p1, u64 w2c_p2) {
       case 14: goto w2c_B20;
       default: goto w2c_B20;
     }
-    w2c_B78:;
+    w2c_B85:;
     w2c_i0 = 0u;
     w2c_l17 = w2c_i0;
     w2c_i0 = 8u;
@@ -43341,13 +43397,13 @@ static u32 w2c_f63(module *m, u64 w2c_p0, u64 w2c_p1, u64 w2c_p2) {
     w2c_i0 = w2c_i0 == w2c_i1;
     if (w2c_i0) {goto w2c_B18;}
     goto w2c_B20;
-    w2c_B77:;
+    w2c_B84:;
     w2c_i0 = w2c_l15;
     w2c_i1 = 5u;
     w2c_i0 = w2c_i0 == w2c_i1;
     if (w2c_i0) {goto w2c_B16;}
     goto w2c_B20;
-    w2c_B76:;
+    w2c_B83:;
     w2c_i0 = 0u;
     w2c_l17 = w2c_i0;
     w2c_i0 = w2c_l15;
@@ -43359,7 +43415,7 @@ static u32 w2c_f63(module *m, u64 w2c_p0, u64 w2c_p1, u64 w2c_p2) {
     w2c_i0 = w2c_i0 == w2c_i1;
     if (w2c_i0) {goto w2c_B18;}
     goto w2c_B20;
-    w2c_B75:;
+    w2c_B82:;
     w2c_i0 = w2c_l15;
     w2c_i1 = 7u;
     w2c_i0 = w2c_i0 != w2c_i1;
@@ -43367,22 +43423,22 @@ static u32 w2c_f63(module *m, u64 w2c_p0, u64 w2c_p1, u64 w2c_p2) {
     w2c_i0 = 0u;
     w2c_l17 = w2c_i0;
     goto w2c_B18;
-    w2c_B58:;
+    w2c_B65:;
     w2c_i0 = w2c_l19;
     w2c_j0 = (u64)(w2c_i0);
     w2c_j1 = 255ull;
     w2c_j0 &= w2c_j1;
     w2c_i0 = (u32)(w2c_j0);
     switch (w2c_i0) {
-      case 0: goto w2c_B84;
-      case 1: goto w2c_B81;
-      case 2: goto w2c_B83;
-      case 3: goto w2c_B83;
-      case 4: goto w2c_B82;
-      case 5: goto w2c_B80;
-      default: goto w2c_B84;
+      case 0: goto w2c_B91;
+      case 1: goto w2c_B88;
+      case 2: goto w2c_B90;
+      case 3: goto w2c_B90;
+      case 4: goto w2c_B89;
+      case 5: goto w2c_B87;
+      default: goto w2c_B91;
     }
-    w2c_B84:;
+    w2c_B91:;
     w2c_i0 = 0u;
     w2c_l17 = w2c_i0;
     w2c_i0 = 6u;
@@ -43406,7 +43462,7 @@ static u32 w2c_f63(module *m, u64 w2c_p0, u64 w2c_p1, u64 w2c_p2) {
       case 14: goto w2c_B20;
       default: goto w2c_B20;
     }
-    w2c_B83:;
+    w2c_B90:;
     w2c_i0 = 0u;
     w2c_l17 = w2c_i0;
     w2c_i0 = 8u;
@@ -43420,13 +43476,13 @@ static u32 w2c_f63(module *m, u64 w2c_p0, u64 w2c_p1, u64 w2c_p2) {
     w2c_i0 = w2c_i0 == w2c_i1;
     if (w2c_i0) {goto w2c_B18;}
     goto w2c_B20;
-    w2c_B82:;
+    w2c_B89:;
     w2c_i0 = w2c_l15;
     w2c_i1 = 5u;
     w2c_i0 = w2c_i0 == w2c_i1;
     if (w2c_i0) {goto w2c_B16;}
     goto w2c_B20;
-    w2c_B81:;
+    w2c_B88:;
     w2c_i0 = 0u;
     w2c_l17 = w2c_i0;
     w2c_i0 = w2c_l15;
@@ -43438,7 +43494,7 @@ static u32 w2c_f63(module *m, u64 w2c_p0, u64 w2c_p1, u64 w2c_p2) {
     w2c_i0 = w2c_i0 == w2c_i1;
     if (w2c_i0) {goto w2c_B18;}
     goto w2c_B20;
-    w2c_B80:;
+    w2c_B87:;
     w2c_i0 = w2c_l15;
     w2c_i1 = 7u;
     w2c_i0 = w2c_i0 != w2c_i1;
@@ -43446,26 +43502,26 @@ static u32 w2c_f63(module *m, u64 w2c_p0, u64 w2c_p1, u64 w2c_p2) {
     w2c_i0 = 0u;
     w2c_l17 = w2c_i0;
     goto w2c_B18;
-    w2c_B37:;
+    w2c_B44:;
     w2c_i0 = w2c_l16;
     w2c_j0 = (u64)(w2c_i0);
     w2c_j1 = 255ull;
     w2c_j0 &= w2c_j1;
     w2c_i0 = (u32)(w2c_j0);
     switch (w2c_i0) {
-      case 0: goto w2c_B85;
-      case 1: goto w2c_B86;
-      case 2: goto w2c_B87;
-      case 3: goto w2c_B88;
-      default: goto w2c_B85;
+      case 0: goto w2c_B92;
+      case 1: goto w2c_B93;
+      case 2: goto w2c_B94;
+      case 3: goto w2c_B95;
+      default: goto w2c_B92;
     }
-    w2c_B88:;
+    w2c_B95:;
     w2c_i0 = w2c_l15;
     w2c_i1 = 4294967294u;
     w2c_i0 += w2c_i1;
     w2c_i1 = 13u;
     w2c_i0 = w2c_i0 < w2c_i1;
-    if (w2c_i0) {goto w2c_B89;}
+    if (w2c_i0) {goto w2c_B96;}
     w2c_i0 = 1u;
     w2c_l16 = w2c_i0;
     w2c_i0 = 9u;
@@ -43484,22 +43540,22 @@ static u32 w2c_f63(module *m, u64 w2c_p0, u64 w2c_p1, u64 w2c_p2) {
       case 1: goto w2c_B35;
       default: goto w2c_B13;
     }
-    w2c_B89:;
+    w2c_B96:;
     w2c_i0 = w2c_l19;
     w2c_j0 = (u64)(w2c_i0);
     w2c_j1 = 255ull;
     w2c_j0 &= w2c_j1;
     w2c_i0 = (u32)(w2c_j0);
     switch (w2c_i0) {
-      case 0: goto w2c_B94;
-      case 1: goto w2c_B91;
-      case 2: goto w2c_B93;
-      case 3: goto w2c_B93;
-      case 4: goto w2c_B92;
-      case 5: goto w2c_B90;
-      default: goto w2c_B94;
+      case 0: goto w2c_B101;
+      case 1: goto w2c_B98;
+      case 2: goto w2c_B100;
+      case 3: goto w2c_B100;
+      case 4: goto w2c_B99;
+      case 5: goto w2c_B97;
+      default: goto w2c_B101;
     }
-    w2c_B94:;
+    w2c_B101:;
     w2c_i0 = 1u;
     w2c_l17 = w2c_i0;
     w2c_i0 = 6u;
@@ -43523,7 +43579,7 @@ static u32 w2c_f63(module *m, u64 w2c_p0, u64 w2c_p1, u64 w2c_p2) {
       case 12: goto w2c_B20;
       default: goto w2c_B20;
     }
-    w2c_B93:;
+    w2c_B100:;
     w2c_i0 = 1u;
     w2c_l17 = w2c_i0;
     w2c_i0 = 8u;
@@ -43537,13 +43593,13 @@ static u32 w2c_f63(module *m, u64 w2c_p0, u64 w2c_p1, u64 w2c_p2) {
     w2c_i0 = w2c_i0 == w2c_i1;
     if (w2c_i0) {goto w2c_B18;}
     goto w2c_B20;
-    w2c_B92:;
+    w2c_B99:;
     w2c_i0 = w2c_l15;
     w2c_i1 = 5u;
     w2c_i0 = w2c_i0 != w2c_i1;
     if (w2c_i0) {goto w2c_B20;}
     goto w2c_B17;
-    w2c_B91:;
+    w2c_B98:;
     w2c_i0 = 1u;
     w2c_l17 = w2c_i0;
     w2c_i0 = w2c_l15;
@@ -43555,7 +43611,7 @@ static u32 w2c_f63(module *m, u64 w2c_p0, u64 w2c_p1, u64 w2c_p2) {
     w2c_i0 = w2c_i0 == w2c_i1;
     if (w2c_i0) {goto w2c_B18;}
     goto w2c_B20;
-    w2c_B90:;
+    w2c_B97:;
     w2c_i0 = w2c_l15;
     w2c_i1 = 7u;
     w2c_i0 = w2c_i0 != w2c_i1;
@@ -43563,13 +43619,13 @@ static u32 w2c_f63(module *m, u64 w2c_p0, u64 w2c_p1, u64 w2c_p2) {
     w2c_i0 = 1u;
     w2c_l17 = w2c_i0;
     goto w2c_B18;
-    w2c_B87:;
+    w2c_B94:;
     w2c_i0 = w2c_l15;
     w2c_i1 = 4294967294u;
     w2c_i0 += w2c_i1;
     w2c_i1 = 13u;
     w2c_i0 = w2c_i0 < w2c_i1;
-    if (w2c_i0) {goto w2c_B95;}
+    if (w2c_i0) {goto w2c_B102;}
     w2c_i0 = 9u;
     w2c_l18 = w2c_i0;
     w2c_i0 = 10u;
@@ -43588,22 +43644,22 @@ static u32 w2c_f63(module *m, u64 w2c_p0, u64 w2c_p1, u64 w2c_p2) {
       case 1: goto w2c_B35;
       default: goto w2c_B13;
     }
-    w2c_B95:;
+    w2c_B102:;
     w2c_i0 = w2c_l19;
     w2c_j0 = (u64)(w2c_i0);
     w2c_j1 = 255ull;
     w2c_j0 &= w2c_j1;
     w2c_i0 = (u32)(w2c_j0);
     switch (w2c_i0) {
-      case 0: goto w2c_B100;
-      case 1: goto w2c_B97;
-      case 2: goto w2c_B99;
-      case 3: goto w2c_B99;
-      case 4: goto w2c_B98;
-      case 5: goto w2c_B96;
-      default: goto w2c_B100;
+      case 0: goto w2c_B107;
+      case 1: goto w2c_B104;
+      case 2: goto w2c_B106;
+      case 3: goto w2c_B106;
+      case 4: goto w2c_B105;
+      case 5: goto w2c_B103;
+      default: goto w2c_B107;
     }
-    w2c_B100:;
+    w2c_B107:;
     w2c_i0 = 1u;
     w2c_l17 = w2c_i0;
     w2c_i0 = 6u;
@@ -43627,7 +43683,7 @@ static u32 w2c_f63(module *m, u64 w2c_p0, u64 w2c_p1, u64 w2c_p2) {
       case 12: goto w2c_B20;
       default: goto w2c_B20;
     }
-    w2c_B99:;
+    w2c_B106:;
     w2c_i0 = 1u;
     w2c_l17 = w2c_i0;
     w2c_i0 = 8u;
@@ -43641,13 +43697,13 @@ static u32 w2c_f63(module *m, u64 w2c_p0, u64 w2c_p1, u64 w2c_p2) {
     w2c_i0 = w2c_i0 == w2c_i1;
     if (w2c_i0) {goto w2c_B18;}
     goto w2c_B20;
-    w2c_B98:;
+    w2c_B105:;
     w2c_i0 = w2c_l15;
     w2c_i1 = 5u;
     w2c_i0 = w2c_i0 == w2c_i1;
     if (w2c_i0) {goto w2c_B17;}
     goto w2c_B20;
-    w2c_B97:;
+    w2c_B104:;
     w2c_i0 = 1u;
     w2c_l17 = w2c_i0;
     w2c_i0 = w2c_l15;
@@ -43659,7 +43715,7 @@ static u32 w2c_f63(module *m, u64 w2c_p0, u64 w2c_p1, u64 w2c_p2) {
     w2c_i0 = w2c_i0 == w2c_i1;
     if (w2c_i0) {goto w2c_B18;}
     goto w2c_B20;
-    w2c_B96:;
+    w2c_B103:;
     w2c_i0 = w2c_l15;
     w2c_i1 = 7u;
     w2c_i0 = w2c_i0 != w2c_i1;
@@ -43667,11 +43723,11 @@ static u32 w2c_f63(module *m, u64 w2c_p0, u64 w2c_p1, u64 w2c_p2) {
     w2c_i0 = 1u;
     w2c_l17 = w2c_i0;
     goto w2c_B18;
-    w2c_B86:;
+    w2c_B93:;
     w2c_i0 = w2c_l15;
     w2c_i1 = 1u;
     w2c_i0 = w2c_i0 != w2c_i1;
-    if (w2c_i0) {goto w2c_B101;}
+    if (w2c_i0) {goto w2c_B108;}
     w2c_i0 = 0u;
     w2c_l21 = w2c_i0;
     w2c_i0 = 10u;
@@ -43679,22 +43735,22 @@ static u32 w2c_f63(module *m, u64 w2c_p0, u64 w2c_p1, u64 w2c_p2) {
     w2c_i0 = w2c_l19;
     w2c_l22 = w2c_i0;
     goto w2c_B35;
-    w2c_B101:;
+    w2c_B108:;
     w2c_i0 = w2c_l19;
     w2c_j0 = (u64)(w2c_i0);
     w2c_j1 = 255ull;
     w2c_j0 &= w2c_j1;
     w2c_i0 = (u32)(w2c_j0);
     switch (w2c_i0) {
-      case 0: goto w2c_B106;
-      case 1: goto w2c_B103;
-      case 2: goto w2c_B105;
-      case 3: goto w2c_B105;
-      case 4: goto w2c_B104;
-      case 5: goto w2c_B102;
-      default: goto w2c_B106;
+      case 0: goto w2c_B113;
+      case 1: goto w2c_B110;
+      case 2: goto w2c_B112;
+      case 3: goto w2c_B112;
+      case 4: goto w2c_B111;
+      case 5: goto w2c_B109;
+      default: goto w2c_B113;
     }
-    w2c_B106:;
+    w2c_B113:;
     w2c_i0 = 1u;
     w2c_l17 = w2c_i0;
     w2c_i0 = 6u;
@@ -43718,7 +43774,7 @@ static u32 w2c_f63(module *m, u64 w2c_p0, u64 w2c_p1, u64 w2c_p2) {
       case 14: goto w2c_B20;
       default: goto w2c_B20;
     }
-    w2c_B105:;
+    w2c_B112:;
     w2c_i0 = 1u;
     w2c_l17 = w2c_i0;
     w2c_i0 = 8u;
@@ -43732,13 +43788,13 @@ static u32 w2c_f63(module *m, u64 w2c_p0, u64 w2c_p1, u64 w2c_p2) {
     w2c_i0 = w2c_i0 == w2c_i1;
     if (w2c_i0) {goto w2c_B18;}
     goto w2c_B20;
-    w2c_B104:;
+    w2c_B111:;
     w2c_i0 = w2c_l15;
     w2c_i1 = 5u;
     w2c_i0 = w2c_i0 == w2c_i1;
     if (w2c_i0) {goto w2c_B17;}
     goto w2c_B20;
-    w2c_B103:;
+    w2c_B110:;
     w2c_i0 = 1u;
     w2c_l17 = w2c_i0;
     w2c_i0 = w2c_l15;
@@ -43750,7 +43806,7 @@ static u32 w2c_f63(module *m, u64 w2c_p0, u64 w2c_p1, u64 w2c_p2) {
     w2c_i0 = w2c_i0 == w2c_i1;
     if (w2c_i0) {goto w2c_B18;}
     goto w2c_B20;
-    w2c_B102:;
+    w2c_B109:;
     w2c_i0 = w2c_l15;
     w2c_i1 = 7u;
     w2c_i0 = w2c_i0 != w2c_i1;
@@ -43758,22 +43814,22 @@ static u32 w2c_f63(module *m, u64 w2c_p0, u64 w2c_p1, u64 w2c_p2) {
     w2c_i0 = 1u;
     w2c_l17 = w2c_i0;
     goto w2c_B18;
-    w2c_B85:;
+    w2c_B92:;
     w2c_i0 = w2c_l19;
     w2c_j0 = (u64)(w2c_i0);
     w2c_j1 = 255ull;
     w2c_j0 &= w2c_j1;
     w2c_i0 = (u32)(w2c_j0);
     switch (w2c_i0) {
-      case 0: goto w2c_B111;
-      case 1: goto w2c_B108;
-      case 2: goto w2c_B110;
-      case 3: goto w2c_B110;
-      case 4: goto w2c_B109;
-      case 5: goto w2c_B107;
-      default: goto w2c_B111;
+      case 0: goto w2c_B118;
+      case 1: goto w2c_B115;
+      case 2: goto w2c_B117;
+      case 3: goto w2c_B117;
+      case 4: goto w2c_B116;
+      case 5: goto w2c_B114;
+      default: goto w2c_B118;
     }
-    w2c_B111:;
+    w2c_B118:;
     w2c_i0 = 1u;
     w2c_l17 = w2c_i0;
     w2c_i0 = 6u;
@@ -43797,7 +43853,7 @@ static u32 w2c_f63(module *m, u64 w2c_p0, u64 w2c_p1, u64 w2c_p2) {
       case 14: goto w2c_B20;
       default: goto w2c_B20;
     }
-    w2c_B110:;
+    w2c_B117:;
     w2c_i0 = 1u;
     w2c_l17 = w2c_i0;
     w2c_i0 = 8u;
@@ -43811,13 +43867,13 @@ static u32 w2c_f63(module *m, u64 w2c_p0, u64 w2c_p1, u64 w2c_p2) {
     w2c_i0 = w2c_i0 == w2c_i1;
     if (w2c_i0) {goto w2c_B18;}
     goto w2c_B20;
-    w2c_B109:;
+    w2c_B116:;
     w2c_i0 = w2c_l15;
     w2c_i1 = 5u;
     w2c_i0 = w2c_i0 == w2c_i1;
     if (w2c_i0) {goto w2c_B17;}
     goto w2c_B20;
-    w2c_B108:;
+    w2c_B115:;
     w2c_i0 = 1u;
     w2c_l17 = w2c_i0;
     w2c_i0 = w2c_l15;
@@ -43829,7 +43885,7 @@ static u32 w2c_f63(module *m, u64 w2c_p0, u64 w2c_p1, u64 w2c_p2) {
     w2c_i0 = w2c_i0 != w2c_i1;
     if (w2c_i0) {goto w2c_B20;}
     goto w2c_B18;
-    w2c_B107:;
+    w2c_B114:;
     w2c_i0 = w2c_l15;
     w2c_i1 = 7u;
     w2c_i0 = w2c_i0 != w2c_i1;
@@ -43837,32 +43893,7 @@ static u32 w2c_f63(module *m, u64 w2c_p0, u64 w2c_p1, u64 w2c_p2) {
     w2c_i0 = 1u;
     w2c_l17 = w2c_i0;
     goto w2c_B18;
-    w2c_B36:;
-    w2c_i0 = w2c_l17;
-    switch (w2c_i0) {
-      case 0: goto w2c_B119;
-      case 1: goto w2c_B118;
-      case 2: goto w2c_B117;
-      case 3: goto w2c_B116;
-      case 4: goto w2c_B115;
-      case 5: goto w2c_B20;
-      case 6: goto w2c_B20;
-      case 7: goto w2c_B20;
-      case 8: goto w2c_B20;
-      case 9: goto w2c_B20;
-      case 10: goto w2c_B20;
-      case 11: goto w2c_B20;
-      case 12: goto w2c_B20;
-      case 13: goto w2c_B114;
-      case 14: goto w2c_B112;
-      case 15: goto w2c_B34;
-      case 16: goto w2c_B26;
-      case 17: goto w2c_B113;
-      case 18: goto w2c_B24;
-      case 19: goto w2c_B20;
-      default: goto w2c_B119;
-    }
-    w2c_B119:;
+    w2c_B43:;
     w2c_i0 = 5u;
     w2c_l20 = w2c_i0;
     w2c_i0 = 0u;
@@ -43894,7 +43925,7 @@ static u32 w2c_f63(module *m, u64 w2c_p0, u64 w2c_p1, u64 w2c_p2) {
       case 14: goto w2c_B20;
       default: goto w2c_B33;
     }
-    w2c_B118:;
+    w2c_B42:;
     w2c_i0 = w2c_l15;
     w2c_i1 = 12u;
     w2c_i0 = w2c_i0 != w2c_i1;
@@ -43904,7 +43935,7 @@ static u32 w2c_f63(module *m, u64 w2c_p0, u64 w2c_p1, u64 w2c_p2) {
     w2c_i0 = 2u;
     w2c_l18 = w2c_i0;
     goto w2c_B22;
-    w2c_B117:;
+    w2c_B41:;
     w2c_i0 = w2c_l15;
     w2c_i1 = 13u;
     w2c_i0 = w2c_i0 != w2c_i1;
@@ -43914,7 +43945,7 @@ static u32 w2c_f63(module *m, u64 w2c_p0, u64 w2c_p1, u64 w2c_p2) {
     w2c_i0 = 3u;
     w2c_l18 = w2c_i0;
     goto w2c_B22;
-    w2c_B116:;
+    w2c_B40:;
     w2c_i0 = 0u;
     w2c_l22 = w2c_i0;
     w2c_i0 = 5u;
@@ -43940,7 +43971,7 @@ static u32 w2c_f63(module *m, u64 w2c_p0, u64 w2c_p1, u64 w2c_p2) {
       case 14: goto w2c_B20;
       default: goto w2c_B33;
     }
-    w2c_B115:;
+    w2c_B39:;
     w2c_i0 = w2c_l15;
     w2c_i1 = 7u;
     w2c_i0 = w2c_i0 != w2c_i1;
@@ -43948,7 +43979,7 @@ static u32 w2c_f63(module *m, u64 w2c_p0, u64 w2c_p1, u64 w2c_p2) {
     w2c_i0 = 1u;
     w2c_l17 = w2c_i0;
     goto w2c_B18;
-    w2c_B114:;
+    w2c_B38:;
     w2c_i0 = 16u;
     w2c_l20 = w2c_i0;
     w2c_i0 = 0u;
@@ -43963,7 +43994,7 @@ static u32 w2c_f63(module *m, u64 w2c_p0, u64 w2c_p1, u64 w2c_p2) {
     w2c_l16 = w2c_i0;
     w2c_i0 = w2c_l15;
     switch (w2c_i0) {
-      case 0: goto w2c_B120;
+      case 0: goto w2c_B119;
       case 1: goto w2c_B35;
       case 2: goto w2c_B20;
       case 3: goto w2c_B20;
@@ -43978,9 +44009,9 @@ static u32 w2c_f63(module *m, u64 w2c_p0, u64 w2c_p1, u64 w2c_p2) {
       case 12: goto w2c_B20;
       case 13: goto w2c_B20;
       case 14: goto w2c_B20;
-      default: goto w2c_B120;
+      default: goto w2c_B119;
     }
-    w2c_B120:;
+    w2c_B119:;
     w2c_i0 = w2c_l19;
     w2c_i1 = 1u;
     w2c_i0 &= w2c_i1;
@@ -43988,7 +44019,7 @@ static u32 w2c_f63(module *m, u64 w2c_p0, u64 w2c_p1, u64 w2c_p2) {
     w2c_i0 = 14u;
     w2c_l18 = w2c_i0;
     goto w2c_B22;
-    w2c_B113:;
+    w2c_B37:;
     w2c_i0 = 18u;
     w2c_l20 = w2c_i0;
     w2c_i0 = 0u;
@@ -43998,13 +44029,13 @@ static u32 w2c_f63(module *m, u64 w2c_p0, u64 w2c_p1, u64 w2c_p2) {
     w2c_i0 = w2c_l15;
     w2c_i1 = 1u;
     w2c_i0 = w2c_i0 != w2c_i1;
-    if (w2c_i0) {goto w2c_B121;}
+    if (w2c_i0) {goto w2c_B120;}
     w2c_i0 = 0u;
     w2c_l22 = w2c_i0;
     w2c_i0 = 0u;
     w2c_l21 = w2c_i0;
     goto w2c_B35;
-    w2c_B121:;
+    w2c_B120:;
     w2c_i0 = 0u;
     w2c_l16 = w2c_i0;
     w2c_i0 = w2c_l15;
@@ -44012,7 +44043,7 @@ static u32 w2c_f63(module *m, u64 w2c_p0, u64 w2c_p1, u64 w2c_p2) {
     w2c_i0 = w2c_i0 == w2c_i1;
     if (w2c_i0) {goto w2c_B13;}
     goto w2c_B20;
-    w2c_B112:;
+    w2c_B36:;
     w2c_i0 = w2c_l15;
     w2c_i1 = 1u;
     w2c_i0 = w2c_i0 != w2c_i1;
@@ -44194,17 +44225,17 @@ static u32 w2c_f63(module *m, u64 w2c_p0, u64 w2c_p1, u64 w2c_p2) {
     w2c_j0 = w2c_p1;
     w2c_j1 = 8ull;
     w2c_i0 = w2c_j0 >= w2c_j1;
-    if (w2c_i0) {goto w2c_B123;}
+    if (w2c_i0) {goto w2c_B122;}
     w2c_j0 = 0ull;
     w2c_l8 = w2c_j0;
-    goto w2c_B122;
-    w2c_B123:;
+    goto w2c_B121;
+    w2c_B122:;
     w2c_j0 = 0ull;
     w2c_l8 = w2c_j0;
     w2c_j0 = w2c_l13;
     w2c_j1 = 3ull;
     w2c_i0 = w2c_j0 < w2c_j1;
-    if (w2c_i0) {goto w2c_B122;}
+    if (w2c_i0) {goto w2c_B121;}
     w2c_j0 = w2c_p1;
     w2c_j1 = 18446744073709551607ull;
     w2c_j0 += w2c_j1;
@@ -44213,7 +44244,7 @@ static u32 w2c_f63(module *m, u64 w2c_p0, u64 w2c_p1, u64 w2c_p2) {
     w2c_l8 = w2c_j0;
     w2c_j0 = 0ull;
     w2c_p0 = w2c_j0;
-    w2c_L124:
+    w2c_L123:
       w2c_j0 = w2c_l5;
       w2c_j1 = w2c_p0;
       w2c_j0 += w2c_j1;
@@ -44223,7 +44254,7 @@ static u32 w2c_f63(module *m, u64 w2c_p0, u64 w2c_p1, u64 w2c_p2) {
       w2c_j0 &= w2c_j1;
       w2c_j1 = 63050398541283552ull;
       w2c_i0 = w2c_j0 != w2c_j1;
-      if (w2c_i0) {goto w2c_B122;}
+      if (w2c_i0) {goto w2c_B121;}
       w2c_j0 = w2c_l8;
       w2c_j1 = 3ull;
       w2c_j0 += w2c_j1;
@@ -44235,7 +44266,7 @@ static u32 w2c_f63(module *m, u64 w2c_p0, u64 w2c_p1, u64 w2c_p2) {
       w2c_j0 = w2c_l4;
       w2c_j1 = 3ull;
       w2c_i0 = w2c_j0 < w2c_j1;
-      if (w2c_i0) {goto w2c_B122;}
+      if (w2c_i0) {goto w2c_B121;}
       w2c_j0 = w2c_l4;
       w2c_j1 = 18446744073709551613ull;
       w2c_j0 += w2c_j1;
@@ -44249,21 +44280,21 @@ static u32 w2c_f63(module *m, u64 w2c_p0, u64 w2c_p1, u64 w2c_p2) {
       w2c_j0 += w2c_j1;
       w2c_l9 = w2c_j0;
       w2c_i0 = w2c_l15;
-      if (w2c_i0) {goto w2c_L124;}
-    w2c_B122:;
+      if (w2c_i0) {goto w2c_L123;}
+    w2c_B121:;
     w2c_j0 = w2c_p1;
     w2c_j1 = w2c_p0;
     w2c_i0 = w2c_j0 <= w2c_j1;
-    if (w2c_i0) {goto w2c_B125;}
+    if (w2c_i0) {goto w2c_B124;}
     w2c_j0 = w2c_l8;
     w2c_j1 = w2c_l13;
     w2c_i0 = w2c_j0 >= w2c_j1;
-    if (w2c_i0) {goto w2c_B125;}
+    if (w2c_i0) {goto w2c_B124;}
     w2c_j0 = w2c_l8;
     w2c_j1 = 1ull;
     w2c_j0 += w2c_j1;
     w2c_l4 = w2c_j0;
-    w2c_L126:
+    w2c_L125:
       w2c_j0 = w2c_l5;
       w2c_j1 = w2c_p0;
       w2c_j0 += w2c_j1;
@@ -44284,7 +44315,7 @@ static u32 w2c_f63(module *m, u64 w2c_p0, u64 w2c_p1, u64 w2c_p2) {
       w2c_j0 = w2c_l4;
       w2c_j1 = w2c_l13;
       w2c_i0 = w2c_j0 >= w2c_j1;
-      if (w2c_i0) {goto w2c_B125;}
+      if (w2c_i0) {goto w2c_B124;}
       w2c_j0 = w2c_l4;
       w2c_j1 = 1ull;
       w2c_j0 += w2c_j1;
@@ -44292,8 +44323,8 @@ static u32 w2c_f63(module *m, u64 w2c_p0, u64 w2c_p1, u64 w2c_p2) {
       w2c_j0 = w2c_p1;
       w2c_j1 = w2c_p0;
       w2c_i0 = w2c_j0 > w2c_j1;
-      if (w2c_i0) {goto w2c_L126;}
-    w2c_B125:;
+      if (w2c_i0) {goto w2c_L125;}
+    w2c_B124:;
     w2c_j0 = w2c_p2;
     w2c_i0 = (u32)(w2c_j0);
     w2c_j1 = w2c_p0;
@@ -44923,61 +44954,60 @@ static u32 w2c_f65(module *m, u64 w2c_p0, u64 w2c_p1, u64 w2c_p2) {
     w2c_j1 = 255ull;
     w2c_j0 &= w2c_j1;
     w2c_i0 = (u32)(w2c_j0);
-    w2c_l14 = w2c_i0;
     switch (w2c_i0) {
-      case 0: goto w2c_B51;
-      case 1: goto w2c_B51;
-      case 2: goto w2c_B51;
-      case 3: goto w2c_B51;
-      case 4: goto w2c_B51;
-      case 5: goto w2c_B59;
-      case 6: goto w2c_B58;
-      case 7: goto w2c_B57;
-      case 8: goto w2c_B56;
-      case 9: goto w2c_B55;
-      case 10: goto w2c_B54;
-      case 11: goto w2c_B53;
-      case 12: goto w2c_B52;
-      case 13: goto w2c_B51;
+      case 0: goto w2c_B58;
+      case 1: goto w2c_B57;
+      case 2: goto w2c_B56;
+      case 3: goto w2c_B55;
+      case 4: goto w2c_B54;
+      case 5: goto w2c_B66;
+      case 6: goto w2c_B65;
+      case 7: goto w2c_B64;
+      case 8: goto w2c_B63;
+      case 9: goto w2c_B62;
+      case 10: goto w2c_B61;
+      case 11: goto w2c_B60;
+      case 12: goto w2c_B59;
+      case 13: goto w2c_B53;
       case 14: goto w2c_B51;
-      case 15: goto w2c_B51;
-      case 16: goto w2c_B51;
-      case 17: goto w2c_B51;
-      case 18: goto w2c_B51;
-      case 19: goto w2c_B51;
-      default: goto w2c_B51;
+      case 15: goto w2c_B49;
+      case 16: goto w2c_B41;
+      case 17: goto w2c_B52;
+      case 18: goto w2c_B39;
+      case 19: goto w2c_B35;
+      default: goto w2c_B58;
     }
-    w2c_B59:;
+    w2c_B66:;
     w2c_i0 = 1u;
     w2c_i1 = w2c_l19;
     w2c_i0 <<= (w2c_i1 & 31);
     w2c_i1 = 31999u;
     w2c_i0 &= w2c_i1;
-    if (w2c_i0) {goto w2c_B60;}
+    if (w2c_i0) {goto w2c_B67;}
     w2c_i0 = w2c_l19;
     w2c_i1 = 8u;
     w2c_i0 = w2c_i0 == w2c_i1;
     if (w2c_i0) {goto w2c_B40;}
     goto w2c_B38;
-    w2c_B60:;
+    w2c_B67:;
     w2c_i0 = w2c_l19;
     w2c_i1 = 4294967291u;
     w2c_i0 += w2c_i1;
     w2c_i1 = 10u;
     w2c_i0 = w2c_i0 < w2c_i1;
-    if (w2c_i0) {goto w2c_B61;}
+    if (w2c_i0) {goto w2c_B68;}
     w2c_i0 = 0u;
     w2c_l14 = w2c_i0;
     w2c_i0 = w2c_l19;
     switch (w2c_i0) {
-      case 0: goto w2c_B61;
-      case 1: goto w2c_B61;
+      case 0: goto w2c_B68;
+      case 1: goto w2c_B68;
       case 2: goto w2c_B46;
       case 3: goto w2c_B44;
       case 4: goto w2c_B34;
-      default: goto w2c_B61;
+      default: goto w2c_B68;
     }
-    w2c_B61:;
+    w2c_B68:;
     w2c_i0 = 0u;
     w2c_l14 = w2c_i0;
     w2c_i0 = 6u;
@@ -45001,7 +45031,7 @@ static u32 w2c_f65(module *m, u64 w2c_p0, u64 w2c_p1, u64 w2c_p2) {
       case 14: goto w2c_B35;
       default: goto w2c_B35;
     }
-    w2c_B58:;
+    w2c_B65:;
     w2c_i0 = 3u;
     w2c_l21 = w2c_i0;
     w2c_i0 = 10u;
@@ -45010,34 +45040,36 @@ static u32 w2c_f65(module *m, u64 w2c_p0, u64 w2c_p1, u64 w2c_p2) {
     w2c_l22 = w2c_i0;
     w2c_i0 = w2c_l19;
     switch (w2c_i0) {
-      case 0: goto w2c_B63;
+      case 0: goto w2c_B70;
       case 1: goto w2c_B50;
-      case 2: goto w2c_B62;
-      case 3: goto w2c_B62;
-      case 4: goto w2c_B62;
+      case 2: goto w2c_B69;
+      case 3: goto w2c_B69;
+      case 4: goto w2c_B69;
       case 5: goto w2c_B35;
-      case 6: goto w2c_B62;
-      case 7: goto w2c_B62;
-      case 8: goto w2c_B62;
-      case 9: goto w2c_B62;
-      case 10: goto w2c_B62;
-      case 11: goto w2c_B62;
-      case 12: goto w2c_B62;
-      case 13: goto w2c_B62;
-      case 14: goto w2c_B62;
-      default: goto w2c_B63;
+      case 6: goto w2c_B69;
+      case 7: goto w2c_B69;
+      case 8: goto w2c_B69;
+      case 9: goto w2c_B69;
+      case 10: goto w2c_B69;
+      case 11: goto w2c_B69;
+      case 12: goto w2c_B69;
+      case 13: goto w2c_B69;
+      case 14: goto w2c_B69;
+      default: goto w2c_B70;
     }
-    w2c_B63:;
+    w2c_B70:;
+    w2c_i0 = 1u;
+    w2c_l14 = w2c_i0;
     w2c_i0 = w2c_l18;
+    w2c_i1 = 1u;
+    w2c_i0 &= w2c_i1;
     w2c_i1 = 2u;
     w2c_i0 |= w2c_i1;
     w2c_l15 = w2c_i0;
-    w2c_i0 = 1u;
-    w2c_l14 = w2c_i0;
     w2c_i0 = 9u;
     w2c_l16 = w2c_i0;
     goto w2c_B28;
-    w2c_B62:;
+    w2c_B69:;
     w2c_i0 = 1u;
     w2c_l14 = w2c_i0;
     w2c_i0 = w2c_l19;
@@ -45049,7 +45081,7 @@ static u32 w2c_f65(module *m, u64 w2c_p0, u64 w2c_p1, u64 w2c_p2) {
     w2c_i0 = w2c_i0 == w2c_i1;
     if (w2c_i0) {goto w2c_B33;}
     goto w2c_B35;
-    w2c_B57:;
+    w2c_B64:;
     w2c_i0 = 3u;
     w2c_l21 = w2c_i0;
     w2c_i0 = 4u;
@@ -45058,34 +45090,36 @@ static u32 w2c_f65(module *m, u64 w2c_p0, u64 w2c_p1, u64 w2c_p2) {
     w2c_l20 = w2c_i0;
     w2c_i0 = w2c_l19;
     switch (w2c_i0) {
-      case 0: goto w2c_B65;
+      case 0: goto w2c_B72;
       case 1: goto w2c_B50;
-      case 2: goto w2c_B64;
-      case 3: goto w2c_B64;
-      case 4: goto w2c_B64;
+      case 2: goto w2c_B71;
+      case 3: goto w2c_B71;
+      case 4: goto w2c_B71;
       case 5: goto w2c_B35;
-      case 6: goto w2c_B64;
-      case 7: goto w2c_B64;
-      case 8: goto w2c_B64;
-      case 9: goto w2c_B64;
-      case 10: goto w2c_B64;
-      case 11: goto w2c_B64;
-      case 12: goto w2c_B64;
-      case 13: goto w2c_B64;
-      case 14: goto w2c_B64;
-      default: goto w2c_B65;
+      case 6: goto w2c_B71;
+      case 7: goto w2c_B71;
+      case 8: goto w2c_B71;
+      case 9: goto w2c_B71;
+      case 10: goto w2c_B71;
+      case 11: goto w2c_B71;
+      case 12: goto w2c_B71;
+      case 13: goto w2c_B71;
+      case 14: goto w2c_B71;
+      default: goto w2c_B72;
     }
-    w2c_B65:;
+    w2c_B72:;
     w2c_i0 = 3u;
     w2c_l15 = w2c_i0;
     w2c_i0 = w2c_l18;
+    w2c_i1 = 1u;
+    w2c_i0 &= w2c_i1;
     w2c_i1 = 3u;
     w2c_i0 ^= w2c_i1;
     w2c_l14 = w2c_i0;
     w2c_i0 = 9u;
     w2c_l16 = w2c_i0;
     goto w2c_B28;
-    w2c_B64:;
+    w2c_B71:;
     w2c_i0 = 1u;
     w2c_l14 = w2c_i0;
     w2c_i0 = 8u;
@@ -45099,7 +45133,7 @@ static u32 w2c_f65(module *m, u64 w2c_p0, u64 w2c_p1, u64 w2c_p2) {
     w2c_i0 = w2c_i0 == w2c_i1;
     if (w2c_i0) {goto w2c_B33;}
     goto w2c_B35;
-    w2c_B56:;
+    w2c_B63:;
     w2c_i0 = 1u;
     w2c_l14 = w2c_i0;
     w2c_i0 = 3u;
@@ -45110,7 +45144,7 @@ static u32 w2c_f65(module *m, u64 w2c_p0, u64 w2c_p1, u64 w2c_p2) {
     w2c_l20 = w2c_i0;
     w2c_i0 = w2c_l19;
     switch (w2c_i0) {
-      case 0: goto w2c_B66;
+      case 0: goto w2c_B73;
       case 1: goto w2c_B50;
       case 2: goto w2c_B35;
       case 3: goto w2c_B35;
@@ -45125,10 +45159,12 @@ static u32 w2c_f65(module *m, u64 w2c_p0, u64 w2c_p1, u64 w2c_p2) {
       case 12: goto w2c_B35;
       case 13: goto w2c_B35;
       case 14: goto w2c_B35;
-      default: goto w2c_B66;
+      default: goto w2c_B73;
     }
-    w2c_B66:;
+    w2c_B73:;
     w2c_i0 = w2c_l18;
+    w2c_i1 = 1u;
+    w2c_i0 &= w2c_i1;
     w2c_i1 = 2u;
     w2c_i0 |= w2c_i1;
     w2c_l15 = w2c_i0;
@@ -45137,7 +45173,7 @@ static u32 w2c_f65(module *m, u64 w2c_p0, u64 w2c_p1, u64 w2c_p2) {
     w2c_i0 = 9u;
     w2c_l16 = w2c_i0;
     goto w2c_B28;
-    w2c_B55:;
+    w2c_B62:;
     w2c_i0 = w2c_l19;
     w2c_i1 = 1u;
     w2c_i0 = w2c_i0 != w2c_i1;
@@ -45149,35 +45185,35 @@ static u32 w2c_f65(module *m, u64 w2c_p0, u64 w2c_p1, u64 w2c_p2) {
     w2c_i0 = w2c_l15;
     w2c_l21 = w2c_i0;
     goto w2c_B50;
-    w2c_B54:;
+    w2c_B61:;
     w2c_i0 = w2c_l15;
     w2c_j0 = (u64)(w2c_i0);
     w2c_j1 = 255ull;
     w2c_j0 &= w2c_j1;
     w2c_i0 = (u32)(w2c_j0);
     switch (w2c_i0) {
-      case 0: goto w2c_B67;
+      case 0: goto w2c_B74;
       case 1: goto w2c_B47;
       case 2: goto w2c_B45;
       case 3: goto w2c_B36;
-      default: goto w2c_B67;
+      default: goto w2c_B74;
     }
-    w2c_B67:;
+    w2c_B74:;
     w2c_i0 = w2c_l18;
     w2c_j0 = (u64)(w2c_i0);
     w2c_j1 = 255ull;
     w2c_j0 &= w2c_j1;
     w2c_i0 = (u32)(w2c_j0);
     switch (w2c_i0) {
-      case 0: goto w2c_B72;
-      case 1: goto w2c_B69;
-      case 2: goto w2c_B71;
-      case 3: goto w2c_B71;
-      case 4: goto w2c_B70;
-      case 5: goto w2c_B68;
-      default: goto w2c_B72;
+      case 0: goto w2c_B79;
+      case 1: goto w2c_B76;
+      case 2: goto w2c_B78;
+      case 3: goto w2c_B78;
+      case 4: goto w2c_B77;
+      case 5: goto w2c_B75;
+      default: goto w2c_B79;
     }
-    w2c_B72:;
+    w2c_B79:;
     w2c_i0 = 0u;
     w2c_l14 = w2c_i0;
     w2c_i0 = 6u;
@@ -45201,7 +45237,7 @@ static u32 w2c_f65(module *m, u64 w2c_p0, u64 w2c_p1, u64 w2c_p2) {
       case 14: goto w2c_B35;
       default: goto w2c_B35;
     }
-    w2c_B71:;
+    w2c_B78:;
     w2c_i0 = 0u;
     w2c_l14 = w2c_i0;
     w2c_i0 = 8u;
@@ -45215,13 +45251,13 @@ static u32 w2c_f65(module *m, u64 w2c_p0, u64 w2c_p1, u64 w2c_p2) {
     w2c_i0 = w2c_i0 == w2c_i1;
     if (w2c_i0) {goto w2c_B33;}
     goto w2c_B35;
-    w2c_B70:;
+    w2c_B77:;
     w2c_i0 = w2c_l19;
     w2c_i1 = 5u;
     w2c_i0 = w2c_i0 != w2c_i1;
     if (w2c_i0) {goto w2c_B35;}
     goto w2c_B31;
-    w2c_B69:;
+    w2c_B76:;
     w2c_i0 = 0u;
     w2c_l14 = w2c_i0;
     w2c_i0 = w2c_l19;
@@ -45233,7 +45269,7 @@ static u32 w2c_f65(module *m, u64 w2c_p0, u64 w2c_p1, u64 w2c_p2) {
     w2c_i0 = w2c_i0 == w2c_i1;
     if (w2c_i0) {goto w2c_B33;}
     goto w2c_B35;
-    w2c_B68:;
+    w2c_B75:;
     w2c_i0 = w2c_l19;
     w2c_i1 = 7u;
     w2c_i0 = w2c_i0 != w2c_i1;
@@ -45241,53 +45277,53 @@ static u32 w2c_f65(module *m, u64 w2c_p0, u64 w2c_p1, u64 w2c_p2) {
     w2c_i0 = 0u;
     w2c_l14 = w2c_i0;
     goto w2c_B33;
-    w2c_B53:;
+    w2c_B60:;
     w2c_i0 = w2c_l15;
     w2c_j0 = (u64)(w2c_i0);
     w2c_j1 = 255ull;
     w2c_j0 &= w2c_j1;
     w2c_i0 = (u32)(w2c_j0);
     switch (w2c_i0) {
-      case 0: goto w2c_B73;
-      case 1: goto w2c_B74;
-      case 2: goto w2c_B75;
-      case 3: goto w2c_B76;
-      default: goto w2c_B73;
+      case 0: goto w2c_B80;
+      case 1: goto w2c_B81;
+      case 2: goto w2c_B82;
+      case 3: goto w2c_B83;
+      default: goto w2c_B80;
     }
-    w2c_B76:;
+    w2c_B83:;
     w2c_i0 = w2c_l19;
     w2c_i1 = 4294967291u;
     w2c_i0 += w2c_i1;
     w2c_i1 = 10u;
     w2c_i0 = w2c_i0 < w2c_i1;
-    if (w2c_i0) {goto w2c_B77;}
+    if (w2c_i0) {goto w2c_B84;}
     w2c_i0 = w2c_l18;
     w2c_l14 = w2c_i0;
     w2c_i0 = w2c_l19;
     switch (w2c_i0) {
-      case 0: goto w2c_B77;
-      case 1: goto w2c_B77;
+      case 0: goto w2c_B84;
+      case 1: goto w2c_B84;
       case 2: goto w2c_B46;
       case 3: goto w2c_B44;
       case 4: goto w2c_B43;
-      default: goto w2c_B77;
+      default: goto w2c_B84;
     }
-    w2c_B77:;
+    w2c_B84:;
     w2c_i0 = w2c_l18;
     w2c_j0 = (u64)(w2c_i0);
     w2c_j1 = 255ull;
     w2c_j0 &= w2c_j1;
     w2c_i0 = (u32)(w2c_j0);
     switch (w2c_i0) {
-      case 0: goto w2c_B82;
-      case 1: goto w2c_B79;
-      case 2: goto w2c_B81;
-      case 3: goto w2c_B81;
-      case 4: goto w2c_B80;
-      case 5: goto w2c_B78;
-      default: goto w2c_B82;
+      case 0: goto w2c_B89;
+      case 1: goto w2c_B86;
+      case 2: goto w2c_B88;
+      case 3: goto w2c_B88;
+      case 4: goto w2c_B87;
+      case 5: goto w2c_B85;
+      default: goto w2c_B89;
     }
-    w2c_B82:;
+    w2c_B89:;
     w2c_i0 = 0u;
     w2c_l14 = w2c_i0;
     w2c_i0 = 6u;
@@ -45311,7 +45347,7 @@ static u32 w2c_f65(module *m, u64 w2c_p0, u64 w2c_p1, u64 w2c_p2) {
       case 14: goto w2c_B35;
       default: goto w2c_B35;
     }
-    w2c_B81:;
+    w2c_B88:;
     w2c_i0 = 0u;
     w2c_l14 = w2c_i0;
     w2c_i0 = 8u;
@@ -45325,13 +45361,13 @@ static u32 w2c_f65(module *m, u64 w2c_p0, u64 w2c_p1, u64 w2c_p2) {
     w2c_i0 = w2c_i0 == w2c_i1;
     if (w2c_i0) {goto w2c_B33;}
     goto w2c_B35;
-    w2c_B80:;
+    w2c_B87:;
     w2c_i0 = w2c_l19;
     w2c_i1 = 5u;
     w2c_i0 = w2c_i0 == w2c_i1;
     if (w2c_i0) {goto w2c_B31;}
     goto w2c_B35;
-    w2c_B79:;
+    w2c_B86:;
     w2c_i0 = 0u;
     w2c_l14 = w2c_i0;
     w2c_i0 = w2c_l19;
@@ -45343,7 +45379,7 @@ static u32 w2c_f65(module *m, u64 w2c_p0, u64 w2c_p1, u64 w2c_p2) {
     w2c_i0 = w2c_i0 == w2c_i1;
     if (w2c_i0) {goto w2c_B33;}
     goto w2c_B35;
-    w2c_B78:;
+    w2c_B85:;
     w2c_i0 = w2c_l19;
     w2c_i1 = 7u;
     w2c_i0 = w2c_i0 != w2c_i1;
@@ -45351,39 +45387,39 @@ static u32 w2c_f65(module *m, u64 w2c_p0, u64 w2c_p1, u64 w2c_p2) {
     w2c_i0 = 0u;
     w2c_l14 = w2c_i0;
     goto w2c_B33;
-    w2c_B75:;
+    w2c_B82:;
     w2c_i0 = w2c_l19;
     w2c_i1 = 4294967292u;
     w2c_i0 += w2c_i1;
     w2c_i1 = 11u;
     w2c_i0 = w2c_i0 < w2c_i1;
-    if (w2c_i0) {goto w2c_B83;}
+    if (w2c_i0) {goto w2c_B90;}
     w2c_i0 = w2c_l18;
     w2c_l14 = w2c_i0;
     w2c_i0 = w2c_l19;
     switch (w2c_i0) {
-      case 0: goto w2c_B83;
-      case 1: goto w2c_B83;
+      case 0: goto w2c_B90;
+      case 1: goto w2c_B90;
       case 2: goto w2c_B46;
       case 3: goto w2c_B44;
-      default: goto w2c_B83;
+      default: goto w2c_B90;
     }
-    w2c_B83:;
+    w2c_B90:;
     w2c_i0 = w2c_l18;
     w2c_j0 = (u64)(w2c_i0);
     w2c_j1 = 255ull;
     w2c_j0 &= w2c_j1;
     w2c_i0 = (u32)(w2c_j0);
     switch (w2c_i0) {
-      case 0: goto w2c_B88;
-      case 1: goto w2c_B85;
-      case 2: goto w2c_B87;
-      case 3: goto w2c_B87;
-      case 4: goto w2c_B86;
-      case 5: goto w2c_B84;
-      default: goto w2c_B88;
+      case 0: goto w2c_B95;
+      case 1: goto w2c_B92;
+      case 2: goto w2c_B94;
+      case 3: goto w2c_B94;
+      case 4: goto w2c_B93;
+      case 5: goto w2c_B91;
+      default: goto w2c_B95;
     }
-    w2c_B88:;
+    w2c_B95:;
     w2c_i0 = 0u;
     w2c_l14 = w2c_i0;
     w2c_i0 = 6u;
@@ -45407,7 +45443,7 @@ static u32 w2c_f65(module *m, u64 w2c_p0, u64 w2c_p1, u64 w2c_p2) {
       case 14: goto w2c_B35;
       default: goto w2c_B35;
     }
-    w2c_B87:;
+    w2c_B94:;
     w2c_i0 = 0u;
     w2c_l14 = w2c_i0;
     w2c_i0 = 8u;
@@ -45421,13 +45457,13 @@ static u32 w2c_f65(module *m, u64 w2c_p0, u64 w2c_p1, u64 w2c_p2) {
     w2c_i0 = w2c_i0 == w2c_i1;
     if (w2c_i0) {goto w2c_B33;}
     goto w2c_B35;
-    w2c_B86:;
+    w2c_B93:;
     w2c_i0 = w2c_l19;
     w2c_i1 = 5u;
     w2c_i0 = w2c_i0 == w2c_i1;
     if (w2c_i0) {goto w2c_B31;}
     goto w2c_B35;
-    w2c_B85:;
+    w2c_B92:;
     w2c_i0 = 0u;
     w2c_l14 = w2c_i0;
     w2c_i0 = w2c_l19;
@@ -45439,7 +45475,7 @@ static u32 w2c_f65(module *m, u64 w2c_p0, u64 w2c_p1, u64 w2c_p2) {
     w2c_i0 = w2c_i0 == w2c_i1;
     if (w2c_i0) {goto w2c_B33;}
     goto w2c_B35;
-    w2c_B84:;
+    w2c_B91:;
     w2c_i0 = w2c_l19;
     w2c_i1 = 7u;
     w2c_i0 = w2c_i0 != w2c_i1;
@@ -45447,30 +45483,30 @@ static u32 w2c_f65(module *m, u64 w2c_p0, u64 w2c_p1, u64 w2c_p2) {
     w2c_i0 = 0u;
     w2c_l14 = w2c_i0;
     goto w2c_B33;
-    w2c_B74:;
+    w2c_B81:;
     w2c_i0 = w2c_l19;
     w2c_i1 = 2u;
     w2c_i0 = w2c_i0 != w2c_i1;
-    if (w2c_i0) {goto w2c_B89;}
+    if (w2c_i0) {goto w2c_B96;}
     w2c_i0 = w2c_l18;
     w2c_l14 = w2c_i0;
     goto w2c_B46;
-    w2c_B89:;
+    w2c_B96:;
     w2c_i0 = w2c_l18;
     w2c_j0 = (u64)(w2c_i0);
     w2c_j1 = 255ull;
     w2c_j0 &= w2c_j1;
     w2c_i0 = (u32)(w2c_j0);
     switch (w2c_i0) {
-      case 0: goto w2c_B94;
-      case 1: goto w2c_B91;
-      case 2: goto w2c_B93;
-      case 3: goto w2c_B93;
-      case 4: goto w2c_B92;
-      case 5: goto w2c_B90;
-      default: goto w2c_B94;
+      case 0: goto w2c_B101;
+      case 1: goto w2c_B98;
+      case 2: goto w2c_B100;
+      case 3: goto w2c_B100;
+      case 4: goto w2c_B99;
+      case 5: goto w2c_B97;
+      default: goto w2c_B101;
     }
-    w2c_B94:;
+    w2c_B101:;
     w2c_i0 = 0u;
     w2c_l14 = w2c_i0;
     w2c_i0 = 6u;
@@ -45494,7 +45530,7 @@ static u32 w2c_f65(module *m, u64 w2c_p0, u64 w2c_p1, u64 w2c_p2) {
       case 14: goto w2c_B35;
       default: goto w2c_B35;
     }
-    w2c_B93:;
+    w2c_B100:;
     w2c_i0 = 0u;
     w2c_l14 = w2c_i0;
     w2c_i0 = 8u;
@@ -45508,13 +45544,13 @@ static u32 w2c_f65(module *m, u64 w2c_p0, u64 w2c_p1, u64 w2c_p2) {
     w2c_i0 = w2c_i0 == w2c_i1;
     if (w2c_i0) {goto w2c_B33;}
     goto w2c_B35;
-    w2c_B92:;
+    w2c_B99:;
     w2c_i0 = w2c_l19;
     w2c_i1 = 5u;
     w2c_i0 = w2c_i0 == w2c_i1;
     if (w2c_i0) {goto w2c_B31;}
     goto w2c_B35;
-    w2c_B91:;
+    w2c_B98:;
     w2c_i0 = 0u;
     w2c_l14 = w2c_i0;
     w2c_i0 = w2c_l19;
@@ -45526,7 +45562,7 @@ static u32 w2c_f65(module *m, u64 w2c_p0, u64 w2c_p1, u64 w2c_p2) {
     w2c_i0 = w2c_i0 == w2c_i1;
     if (w2c_i0) {goto w2c_B33;}
     goto w2c_B35;
-    w2c_B90:;
+    w2c_B97:;
     w2c_i0 = w2c_l19;
     w2c_i1 = 7u;
     w2c_i0 = w2c_i0 != w2c_i1;
@@ -45534,22 +45570,22 @@ static u32 w2c_f65(module *m, u64 w2c_p0, u64 w2c_p1, u64 w2c_p2) {
     w2c_i0 = 0u;
     w2c_l14 = w2c_i0;
     goto w2c_B33;
-    w2c_B73:;
+    w2c_B80:;
     w2c_i0 = w2c_l18;
     w2c_j0 = (u64)(w2c_i0);
     w2c_j1 = 255ull;
     w2c_j0 &= w2c_j1;
     w2c_i0 = (u32)(w2c_j0);
     switch (w2c_i0) {
-      case 0: goto w2c_B99;
-      case 1: goto w2c_B96;
-      case 2: goto w2c_B98;
-      case 3: goto w2c_B98;
-      case 4: goto w2c_B97;
-      case 5: goto w2c_B95;
-      default: goto w2c_B99;
+      case 0: goto w2c_B106;
+      case 1: goto w2c_B103;
+      case 2: goto w2c_B105;
+      case 3: goto w2c_B105;
+      case 4: goto w2c_B104;
+      case 5: goto w2c_B102;
+      default: goto w2c_B106;
     }
-    w2c_B99:;
+    w2c_B106:;
     w2c_i0 = 0u;
     w2c_l14 = w2c_i0;
     w2c_i0 = 6u;
@@ -45573,7 +45609,7 @@ static u32 w2c_f65(module *m, u64 w2c_p0, u64 w2c_p1, u64 w2c_p2) {
       case 14: goto w2c_B35;
       default: goto w2c_B35;
     }
-    w2c_B98:;
+    w2c_B105:;
     w2c_i0 = 0u;
     w2c_l14 = w2c_i0;
     w2c_i0 = 8u;
@@ -45587,13 +45623,13 @@ static u32 w2c_f65(module *m, u64 w2c_p0, u64 w2c_p1, u64 w2c_p2) {
     w2c_i0 = w2c_i0 == w2c_i1;
     if (w2c_i0) {goto w2c_B33;}
     goto w2c_B35;
-    w2c_B97:;
+    w2c_B104:;
     w2c_i0 = w2c_l19;
     w2c_i1 = 5u;
     w2c_i0 = w2c_i0 == w2c_i1;
     if (w2c_i0) {goto w2c_B31;}
     goto w2c_B35;
-    w2c_B96:;
+    w2c_B103:;
     w2c_i0 = 0u;
     w2c_l14 = w2c_i0;
     w2c_i0 = w2c_l19;
@@ -45605,7 +45641,7 @@ static u32 w2c_f65(module *m, u64 w2c_p0, u64 w2c_p1, u64 w2c_p2) {
     w2c_i0 = w2c_i0 == w2c_i1;
     if (w2c_i0) {goto w2c_B33;}
     goto w2c_B35;
-    w2c_B95:;
+    w2c_B102:;
     w2c_i0 = w2c_l19;
     w2c_i1 = 7u;
     w2c_i0 = w2c_i0 != w2c_i1;
@@ -45613,26 +45649,26 @@ static u32 w2c_f65(module *m, u64 w2c_p0, u64 w2c_p1, u64 w2c_p2) {
     w2c_i0 = 0u;
     w2c_l14 = w2c_i0;
     goto w2c_B33;
-    w2c_B52:;
+    w2c_B59:;
     w2c_i0 = w2c_l15;
     w2c_j0 = (u64)(w2c_i0);
     w2c_j1 = 255ull;
     w2c_j0 &= w2c_j1;
     w2c_i0 = (u32)(w2c_j0);
     switch (w2c_i0) {
-      case 0: goto w2c_B100;
-      case 1: goto w2c_B101;
-      case 2: goto w2c_B102;
-      case 3: goto w2c_B103;
-      default: goto w2c_B100;
+      case 0: goto w2c_B107;
+      case 1: goto w2c_B108;
+      case 2: goto w2c_B109;
+      case 3: goto w2c_B110;
+      default: goto w2c_B107;
     }
-    w2c_B103:;
+    w2c_B110:;
     w2c_i0 = w2c_l19;
     w2c_i1 = 4294967294u;
     w2c_i0 += w2c_i1;
     w2c_i1 = 13u;
     w2c_i0 = w2c_i0 < w2c_i1;
-    if (w2c_i0) {goto w2c_B104;}
+    if (w2c_i0) {goto w2c_B111;}
     w2c_i0 = 1u;
     w2c_l15 = w2c_i0;
     w2c_i0 = 9u;
@@ -45651,22 +45687,22 @@ static u32 w2c_f65(module *m, u64 w2c_p0, u64 w2c_p1, u64 w2c_p2) {
       case 1: goto w2c_B50;
       default: goto w2c_B28;
     }
-    w2c_B104:;
+    w2c_B111:;
     w2c_i0 = w2c_l18;
     w2c_j0 = (u64)(w2c_i0);
     w2c_j1 = 255ull;
     w2c_j0 &= w2c_j1;
     w2c_i0 = (u32)(w2c_j0);
     switch (w2c_i0) {
-      case 0: goto w2c_B109;
-      case 1: goto w2c_B106;
-      case 2: goto w2c_B108;
-      case 3: goto w2c_B108;
-      case 4: goto w2c_B107;
-      case 5: goto w2c_B105;
-      default: goto w2c_B109;
+      case 0: goto w2c_B116;
+      case 1: goto w2c_B113;
+      case 2: goto w2c_B115;
+      case 3: goto w2c_B115;
+      case 4: goto w2c_B114;
+      case 5: goto w2c_B112;
+      default: goto w2c_B116;
     }
-    w2c_B109:;
+    w2c_B116:;
     w2c_i0 = 1u;
     w2c_l14 = w2c_i0;
     w2c_i0 = 6u;
@@ -45690,7 +45726,7 @@ static u32 w2c_f65(module *m, u64 w2c_p0, u64 w2c_p1, u64 w2c_p2) {
       case 12: goto w2c_B35;
       default: goto w2c_B35;
     }
-    w2c_B108:;
+    w2c_B115:;
     w2c_i0 = 1u;
     w2c_l14 = w2c_i0;
     w2c_i0 = 8u;
@@ -45704,13 +45740,13 @@ static u32 w2c_f65(module *m, u64 w2c_p0, u64 w2c_p1, u64 w2c_p2) {
     w2c_i0 = w2c_i0 == w2c_i1;
     if (w2c_i0) {goto w2c_B33;}
     goto w2c_B35;
-    w2c_B107:;
+    w2c_B114:;
     w2c_i0 = w2c_l19;
     w2c_i1 = 5u;
     w2c_i0 = w2c_i0 != w2c_i1;
     if (w2c_i0) {goto w2c_B35;}
     goto w2c_B32;
-    w2c_B106:;
+    w2c_B113:;
     w2c_i0 = 1u;
     w2c_l14 = w2c_i0;
     w2c_i0 = w2c_l19;
@@ -45722,7 +45758,7 @@ static u32 w2c_f65(module *m, u64 w2c_p0, u64 w2c_p1, u64 w2c_p2) {
     w2c_i0 = w2c_i0 == w2c_i1;
     if (w2c_i0) {goto w2c_B33;}
     goto w2c_B35;
-    w2c_B105:;
+    w2c_B112:;
     w2c_i0 = w2c_l19;
     w2c_i1 = 7u;
     w2c_i0 = w2c_i0 != w2c_i1;
@@ -45730,13 +45766,13 @@ static u32 w2c_f65(module *m, u64 w2c_p0, u64 w2c_p1, u64 w2c_p2) {
     w2c_i0 = 1u;
     w2c_l14 = w2c_i0;
     goto w2c_B33;
-    w2c_B102:;
+    w2c_B109:;
     w2c_i0 = w2c_l19;
     w2c_i1 = 4294967294u;
     w2c_i0 += w2c_i1;
     w2c_i1 = 13u;
     w2c_i0 = w2c_i0 < w2c_i1;
-    if (w2c_i0) {goto w2c_B110;}
+    if (w2c_i0) {goto w2c_B117;}
     w2c_i0 = 9u;
     w2c_l16 = w2c_i0;
     w2c_i0 = 10u;
@@ -45755,22 +45791,22 @@ static u32 w2c_f65(module *m, u64 w2c_p0, u64 w2c_p1, u64 w2c_p2) {
       case 1: goto w2c_B50;
       default: goto w2c_B28;
     }
-    w2c_B110:;
+    w2c_B117:;
     w2c_i0 = w2c_l18;
     w2c_j0 = (u64)(w2c_i0);
     w2c_j1 = 255ull;
     w2c_j0 &= w2c_j1;
     w2c_i0 = (u32)(w2c_j0);
     switch (w2c_i0) {
-      case 0: goto w2c_B115;
-      case 1: goto w2c_B112;
-      case 2: goto w2c_B114;
-      case 3: goto w2c_B114;
-      case 4: goto w2c_B113;
-      case 5: goto w2c_B111;
-      default: goto w2c_B115;
+      case 0: goto w2c_B122;
+      case 1: goto w2c_B119;
+      case 2: goto w2c_B121;
+      case 3: goto w2c_B121;
+      case 4: goto w2c_B120;
+      case 5: goto w2c_B118;
+      default: goto w2c_B122;
     }
-    w2c_B115:;
+    w2c_B122:;
     w2c_i0 = 1u;
     w2c_l14 = w2c_i0;
     w2c_i0 = 6u;
@@ -45794,7 +45830,7 @@ static u32 w2c_f65(module *m, u64 w2c_p0, u64 w2c_p1, u64 w2c_p2) {
       case 12: goto w2c_B35;
       default: goto w2c_B35;
     }
-    w2c_B114:;
+    w2c_B121:;
     w2c_i0 = 1u;
     w2c_l14 = w2c_i0;
     w2c_i0 = 8u;
@@ -45808,13 +45844,13 @@ static u32 w2c_f65(module *m, u64 w2c_p0, u64 w2c_p1, u64 w2c_p2) {
     w2c_i0 = w2c_i0 == w2c_i1;
     if (w2c_i0) {goto w2c_B33;}
     goto w2c_B35;
-    w2c_B113:;
+    w2c_B120:;
     w2c_i0 = w2c_l19;
     w2c_i1 = 5u;
     w2c_i0 = w2c_i0 == w2c_i1;
     if (w2c_i0) {goto w2c_B32;}
     goto w2c_B35;
-    w2c_B112:;
+    w2c_B119:;
     w2c_i0 = 1u;
     w2c_l14 = w2c_i0;
     w2c_i0 = w2c_l19;
@@ -45826,7 +45862,7 @@ static u32 w2c_f65(module *m, u64 w2c_p0, u64 w2c_p1, u64 w2c_p2) {
     w2c_i0 = w2c_i0 == w2c_i1;
     if (w2c_i0) {goto w2c_B33;}
     goto w2c_B35;
-    w2c_B111:;
+    w2c_B118:;
     w2c_i0 = w2c_l19;
     w2c_i1 = 7u;
     w2c_i0 = w2c_i0 != w2c_i1;
@@ -45834,11 +45870,11 @@ static u32 w2c_f65(module *m, u64 w2c_p0, u64 w2c_p1, u64 w2c_p2) {
     w2c_i0 = 1u;
     w2c_l14 = w2c_i0;
     goto w2c_B33;
-    w2c_B101:;
+    w2c_B108:;
     w2c_i0 = w2c_l19;
     w2c_i1 = 1u;
     w2c_i0 = w2c_i0 != w2c_i1;
-    if (w2c_i0) {goto w2c_B116;}
+    if (w2c_i0) {goto w2c_B123;}
     w2c_i0 = 0u;
     w2c_l21 = w2c_i0;
     w2c_i0 = 10u;
@@ -45846,22 +45882,22 @@ static u32 w2c_f65(module *m, u64 w2c_p0, u64 w2c_p1, u64 w2c_p2) {
     w2c_i0 = w2c_l18;
     w2c_l22 = w2c_i0;
     goto w2c_B50;
-    w2c_B116:;
+    w2c_B123:;
     w2c_i0 = w2c_l18;
     w2c_j0 = (u64)(w2c_i0);
     w2c_j1 = 255ull;
     w2c_j0 &= w2c_j1;
     w2c_i0 = (u32)(w2c_j0);
     switch (w2c_i0) {
-      case 0: goto w2c_B121;
-      case 1: goto w2c_B118;
-      case 2: goto w2c_B120;
-      case 3: goto w2c_B120;
-      case 4: goto w2c_B119;
-      case 5: goto w2c_B117;
-      default: goto w2c_B121;
+      case 0: goto w2c_B128;
+      case 1: goto w2c_B125;
+      case 2: goto w2c_B127;
+      case 3: goto w2c_B127;
+      case 4: goto w2c_B126;
+      case 5: goto w2c_B124;
+      default: goto w2c_B128;
     }
-    w2c_B121:;
+    w2c_B128:;
     w2c_i0 = 1u;
     w2c_l14 = w2c_i0;
     w2c_i0 = 6u;
@@ -45885,7 +45921,7 @@ static u32 w2c_f65(module *m, u64 w2c_p0, u64 w2c_p1, u64 w2c_p2) {
       case 14: goto w2c_B35;
       default: goto w2c_B35;
     }
-    w2c_B120:;
+    w2c_B127:;
     w2c_i0 = 1u;
     w2c_l14 = w2c_i0;
     w2c_i0 = 8u;
@@ -45899,13 +45935,13 @@ static u32 w2c_f65(module *m, u64 w2c_p0, u64 w2c_p1, u64 w2c_p2) {
     w2c_i0 = w2c_i0 == w2c_i1;
     if (w2c_i0) {goto w2c_B33;}
     goto w2c_B35;
-    w2c_B119:;
+    w2c_B126:;
     w2c_i0 = w2c_l19;
     w2c_i1 = 5u;
     w2c_i0 = w2c_i0 == w2c_i1;
     if (w2c_i0) {goto w2c_B32;}
     goto w2c_B35;
-    w2c_B118:;
+    w2c_B125:;
     w2c_i0 = 1u;
     w2c_l14 = w2c_i0;
     w2c_i0 = w2c_l19;
@@ -45917,7 +45953,7 @@ static u32 w2c_f65(module *m, u64 w2c_p0, u64 w2c_p1, u64 w2c_p2) {
     w2c_i0 = w2c_i0 == w2c_i1;
     if (w2c_i0) {goto w2c_B33;}
     goto w2c_B35;
-    w2c_B117:;
+    w2c_B124:;
     w2c_i0 = w2c_l19;
     w2c_i1 = 7u;
     w2c_i0 = w2c_i0 != w2c_i1;
@@ -45925,22 +45961,22 @@ static u32 w2c_f65(module *m, u64 w2c_p0, u64 w2c_p1, u64 w2c_p2) {
     w2c_i0 = 1u;
     w2c_l14 = w2c_i0;
     goto w2c_B33;
-    w2c_B100:;
+    w2c_B107:;
     w2c_i0 = w2c_l18;
     w2c_j0 = (u64)(w2c_i0);
     w2c_j1 = 255ull;
     w2c_j0 &= w2c_j1;
     w2c_i0 = (u32)(w2c_j0);
     switch (w2c_i0) {
-      case 0: goto w2c_B126;
-      case 1: goto w2c_B123;
-      case 2: goto w2c_B125;
-      case 3: goto w2c_B125;
-      case 4: goto w2c_B124;
-      case 5: goto w2c_B122;
-      default: goto w2c_B126;
+      case 0: goto w2c_B133;
+      case 1: goto w2c_B130;
+      case 2: goto w2c_B132;
+      case 3: goto w2c_B132;
+      case 4: goto w2c_B131;
+      case 5: goto w2c_B129;
+      default: goto w2c_B133;
     }
-    w2c_B126:;
+    w2c_B133:;
     w2c_i0 = 1u;
     w2c_l14 = w2c_i0;
     w2c_i0 = 6u;
@@ -45964,7 +46000,7 @@ static u32 w2c_f65(module *m, u64 w2c_p0, u64 w2c_p1, u64 w2c_p2) {
       case 14: goto w2c_B35;
       default: goto w2c_B35;
     }
-    w2c_B125:;
+    w2c_B132:;
     w2c_i0 = 1u;
     w2c_l14 = w2c_i0;
     w2c_i0 = 8u;
@@ -45978,13 +46014,13 @@ static u32 w2c_f65(module *m, u64 w2c_p0, u64 w2c_p1, u64 w2c_p2) {
     w2c_i0 = w2c_i0 == w2c_i1;
     if (w2c_i0) {goto w2c_B33;}
     goto w2c_B35;
-    w2c_B124:;
+    w2c_B131:;
     w2c_i0 = w2c_l19;
     w2c_i1 = 5u;
     w2c_i0 = w2c_i0 == w2c_i1;
     if (w2c_i0) {goto w2c_B32;}
     goto w2c_B35;
-    w2c_B123:;
+    w2c_B130:;
     w2c_i0 = 1u;
     w2c_l14 = w2c_i0;
     w2c_i0 = w2c_l19;
@@ -45996,7 +46032,7 @@ static u32 w2c_f65(module *m, u64 w2c_p0, u64 w2c_p1, u64 w2c_p2) {
     w2c_i0 = w2c_i0 != w2c_i1;
     if (w2c_i0) {goto w2c_B35;}
     goto w2c_B33;
-    w2c_B122:;
+    w2c_B129:;
     w2c_i0 = w2c_l19;
     w2c_i1 = 7u;
     w2c_i0 = w2c_i0 != w2c_i1;
@@ -46004,32 +46040,7 @@ static u32 w2c_f65(module *m, u64 w2c_p0, u64 w2c_p1, u64 w2c_p2) {
     w2c_i0 = 1u;
     w2c_l14 = w2c_i0;
     goto w2c_B33;
-    w2c_B51:;
-    w2c_i0 = w2c_l14;
-    switch (w2c_i0) {
-      case 0: goto w2c_B134;
-      case 1: goto w2c_B133;
-      case 2: goto w2c_B132;
-      case 3: goto w2c_B131;
-      case 4: goto w2c_B130;
-      case 5: goto w2c_B35;
-      case 6: goto w2c_B35;
-      case 7: goto w2c_B35;
-      case 8: goto w2c_B35;
-      case 9: goto w2c_B35;
-      case 10: goto w2c_B35;
-      case 11: goto w2c_B35;
-      case 12: goto w2c_B35;
-      case 13: goto w2c_B129;
-      case 14: goto w2c_B127;
-      case 15: goto w2c_B49;
-      case 16: goto w2c_B41;
-      case 17: goto w2c_B128;
-      case 18: goto w2c_B39;
-      case 19: goto w2c_B35;
-      default: goto w2c_B134;
-    }
-    w2c_B134:;
+    w2c_B58:;
     w2c_i0 = 5u;
     w2c_l20 = w2c_i0;
     w2c_i0 = 0u;
@@ -46061,7 +46072,7 @@ static u32 w2c_f65(module *m, u64 w2c_p0, u64 w2c_p1, u64 w2c_p2) {
       case 14: goto w2c_B35;
       default: goto w2c_B48;
     }
-    w2c_B133:;
+    w2c_B57:;
     w2c_i0 = w2c_l19;
     w2c_i1 = 12u;
     w2c_i0 = w2c_i0 != w2c_i1;
@@ -46071,7 +46082,7 @@ static u32 w2c_f65(module *m, u64 w2c_p0, u64 w2c_p1, u64 w2c_p2) {
     w2c_i0 = 2u;
     w2c_l16 = w2c_i0;
     goto w2c_B37;
-    w2c_B132:;
+    w2c_B56:;
     w2c_i0 = w2c_l19;
     w2c_i1 = 13u;
     w2c_i0 = w2c_i0 != w2c_i1;
@@ -46081,7 +46092,7 @@ static u32 w2c_f65(module *m, u64 w2c_p0, u64 w2c_p1, u64 w2c_p2) {
     w2c_i0 = 3u;
     w2c_l16 = w2c_i0;
     goto w2c_B37;
-    w2c_B131:;
+    w2c_B55:;
     w2c_i0 = 0u;
     w2c_l22 = w2c_i0;
     w2c_i0 = 5u;
@@ -46107,7 +46118,7 @@ static u32 w2c_f65(module *m, u64 w2c_p0, u64 w2c_p1, u64 w2c_p2) {
       case 14: goto w2c_B35;
       default: goto w2c_B48;
     }
-    w2c_B130:;
+    w2c_B54:;
     w2c_i0 = w2c_l19;
     w2c_i1 = 7u;
     w2c_i0 = w2c_i0 != w2c_i1;
@@ -46115,7 +46126,7 @@ static u32 w2c_f65(module *m, u64 w2c_p0, u64 w2c_p1, u64 w2c_p2) {
     w2c_i0 = 1u;
     w2c_l14 = w2c_i0;
     goto w2c_B33;
-    w2c_B129:;
+    w2c_B53:;
     w2c_i0 = 16u;
     w2c_l20 = w2c_i0;
     w2c_i0 = 0u;
@@ -46130,7 +46141,7 @@ static u32 w2c_f65(module *m, u64 w2c_p0, u64 w2c_p1, u64 w2c_p2) {
     w2c_l15 = w2c_i0;
     w2c_i0 = w2c_l19;
     switch (w2c_i0) {
-      case 0: goto w2c_B135;
+      case 0: goto w2c_B134;
       case 1: goto w2c_B50;
       case 2: goto w2c_B35;
       case 3: goto w2c_B35;
@@ -46145,9 +46156,9 @@ static u32 w2c_f65(module *m, u64 w2c_p0, u64 w2c_p1, u64 w2c_p2) {
       case 12: goto w2c_B35;
       case 13: goto w2c_B35;
       case 14: goto w2c_B35;
-      default: goto w2c_B135;
+      default: goto w2c_B134;
     }
-    w2c_B135:;
+    w2c_B134:;
     w2c_i0 = w2c_l18;
     w2c_i1 = 1u;
     w2c_i0 &= w2c_i1;
@@ -46155,7 +46166,7 @@ static u32 w2c_f65(module *m, u64 w2c_p0, u64 w2c_p1, u64 w2c_p2) {
     w2c_i0 = 14u;
     w2c_l16 = w2c_i0;
     goto w2c_B37;
-    w2c_B128:;
+    w2c_B52:;
     w2c_i0 = 18u;
     w2c_l20 = w2c_i0;
     w2c_i0 = 0u;
@@ -46165,13 +46176,13 @@ static u32 w2c_f65(module *m, u64 w2c_p0, u64 w2c_p1, u64 w2c_p2) {
     w2c_i0 = w2c_l19;
     w2c_i1 = 1u;
     w2c_i0 = w2c_i0 != w2c_i1;
-    if (w2c_i0) {goto w2c_B136;}
+    if (w2c_i0) {goto w2c_B135;}
     w2c_i0 = 0u;
     w2c_l22 = w2c_i0;
     w2c_i0 = 0u;
     w2c_l21 = w2c_i0;
     goto w2c_B50;
-    w2c_B136:;
+    w2c_B135:;
     w2c_i0 = 0u;
     w2c_l15 = w2c_i0;
     w2c_i0 = w2c_l19;
@@ -46179,7 +46190,7 @@ static u32 w2c_f65(module *m, u64 w2c_p0, u64 w2c_p1, u64 w2c_p2) {
     w2c_i0 = w2c_i0 == w2c_i1;
     if (w2c_i0) {goto w2c_B28;}
     goto w2c_B35;
-    w2c_B127:;
+    w2c_B51:;
     w2c_i0 = w2c_l19;
     w2c_i1 = 1u;
     w2c_i0 = w2c_i0 != w2c_i1;
@@ -46361,17 +46372,17 @@ static u32 w2c_f65(module *m, u64 w2c_p0, u64 w2c_p1, u64 w2c_p2) {
     w2c_j0 = w2c_p1;
     w2c_j1 = 8ull;
     w2c_i0 = w2c_j0 >= w2c_j1;
-    if (w2c_i0) {goto w2c_B138;}
+    if (w2c_i0) {goto w2c_B137;}
     w2c_j0 = 0ull;
     w2c_l7 = w2c_j0;
-    goto w2c_B137;
-    w2c_B138:;
+    goto w2c_B136;
+    w2c_B137:;
     w2c_j0 = 0ull;
     w2c_l7 = w2c_j0;
     w2c_j0 = w2c_l12;
     w2c_j1 = 3ull;
     w2c_i0 = w2c_j0 < w2c_j1;
-    if (w2c_i0) {goto w2c_B137;}
+    if (w2c_i0) {goto w2c_B136;}
     w2c_j0 = w2c_p1;
     w2c_j1 = 18446744073709551607ull;
     w2c_j0 += w2c_j1;
@@ -46380,7 +46391,7 @@ static u32 w2c_f65(module *m, u64 w2c_p0, u64 w2c_p1, u64 w2c_p2) {
     w2c_l7 = w2c_j0;
     w2c_j0 = 0ull;
     w2c_p0 = w2c_j0;
-    w2c_L139:
+    w2c_L138:
       w2c_j0 = w2c_l5;
       w2c_j1 = w2c_p0;
       w2c_j0 += w2c_j1;
@@ -46390,7 +46401,7 @@ static u32 w2c_f65(module *m, u64 w2c_p0, u64 w2c_p1, u64 w2c_p2) {
       w2c_j0 &= w2c_j1;
       w2c_j1 = 63050398541283552ull;
       w2c_i0 = w2c_j0 != w2c_j1;
-      if (w2c_i0) {goto w2c_B137;}
+      if (w2c_i0) {goto w2c_B136;}
       w2c_j0 = w2c_l7;
       w2c_j1 = 3ull;
       w2c_j0 += w2c_j1;
@@ -46402,7 +46413,7 @@ static u32 w2c_f65(module *m, u64 w2c_p0, u64 w2c_p1, u64 w2c_p2) {
       w2c_j0 = w2c_l8;
       w2c_j1 = 3ull;
       w2c_i0 = w2c_j0 < w2c_j1;
-      if (w2c_i0) {goto w2c_B137;}
+      if (w2c_i0) {goto w2c_B136;}
       w2c_j0 = w2c_l8;
       w2c_j1 = 18446744073709551613ull;
       w2c_j0 += w2c_j1;
@@ -46416,21 +46427,21 @@ static u32 w2c_f65(module *m, u64 w2c_p0, u64 w2c_p1, u64 w2c_p2) {
       w2c_j0 += w2c_j1;
       w2c_l4 = w2c_j0;
       w2c_i0 = w2c_l14;
-      if (w2c_i0) {goto w2c_L139;}
-    w2c_B137:;
+      if (w2c_i0) {goto w2c_L138;}
+    w2c_B136:;
     w2c_j0 = w2c_p1;
     w2c_j1 = w2c_p0;
     w2c_i0 = w2c_j0 <= w2c_j1;
-    if (w2c_i0) {goto w2c_B140;}
+    if (w2c_i0) {goto w2c_B139;}
     w2c_j0 = w2c_l7;
     w2c_j1 = w2c_l12;
     w2c_i0 = w2c_j0 >= w2c_j1;
-    if (w2c_i0) {goto w2c_B140;}
+    if (w2c_i0) {goto w2c_B139;}
     w2c_j0 = w2c_l7;
     w2c_j1 = 1ull;
     w2c_j0 += w2c_j1;
     w2c_l4 = w2c_j0;
-    w2c_L141:
+    w2c_L140:
       w2c_j0 = w2c_l5;
       w2c_j1 = w2c_p0;
       w2c_j0 += w2c_j1;
@@ -46451,7 +46462,7 @@ static u32 w2c_f65(module *m, u64 w2c_p0, u64 w2c_p1, u64 w2c_p2) {
       w2c_j0 = w2c_l4;
       w2c_j1 = w2c_l12;
       w2c_i0 = w2c_j0 >= w2c_j1;
-      if (w2c_i0) {goto w2c_B140;}
+      if (w2c_i0) {goto w2c_B139;}
       w2c_j0 = w2c_l4;
       w2c_j1 = 1ull;
       w2c_j0 += w2c_j1;
@@ -46459,8 +46470,8 @@ static u32 w2c_f65(module *m, u64 w2c_p0, u64 w2c_p1, u64 w2c_p2) {
       w2c_j0 = w2c_p1;
       w2c_j1 = w2c_p0;
       w2c_i0 = w2c_j0 > w2c_j1;
-      if (w2c_i0) {goto w2c_L141;}
-    w2c_B140:;
+      if (w2c_i0) {goto w2c_L140;}
+    w2c_B139:;
     w2c_j0 = w2c_p2;
     w2c_i0 = (u32)(w2c_j0);
     w2c_j1 = w2c_p0;
@@ -46570,12 +46581,12 @@ static u32 w2c_f65(module *m, u64 w2c_p0, u64 w2c_p1, u64 w2c_p2) {
   w2c_i1 = 4294967279u;
   w2c_i0 += w2c_i1;
   switch (w2c_i0) {
-    case 0: goto w2c_B142;
+    case 0: goto w2c_B141;
     case 1: goto w2c_B7;
-    case 2: goto w2c_B142;
-    default: goto w2c_B142;
+    case 2: goto w2c_B141;
+    default: goto w2c_B141;
   }
-  w2c_B142:;
+  w2c_B141:;
   w2c_j0 = w2c_l6;
   w2c_i0 = (u32)(w2c_j0);
   w2c_j1 = 0ull;
@@ -47915,6 +47926,109 @@ static u32 w2c_f67(module *m, u64 w2c_p0, u64 w2c_p1, u64 w2c_p2) {
   return w2c_i0;
 }
 
+static u32 w2c_chinese_amount_print(module *m, u64 w2c_p0, u32 w2c_p1, u32 w2c_p2, u64 w2c_p3, u64 w2c_p4, u64 w2c_p5) {
+  u32 w2c_i0, w2c_i1, w2c_i2;
+  u64 w2c_j0, w2c_j3, w2c_j4, w2c_j5;
+  w2c_i0 = w2c_f0(m);
+  w2c_i0 = !(w2c_i0);
+  if (w2c_i0) {goto w2c_B0;}
+  w2c_f2(m);
+  UNREACHABLE;
+  w2c_B0:;
+  w2c_j0 = w2c_p0;
+  w2c_i1 = w2c_p1;
+  w2c_i2 = w2c_p2;
+  w2c_j3 = w2c_p3;
+  w2c_j4 = w2c_p4;
+  w2c_j5 = w2c_p5;
+  w2c_i0 = w2c_f69(m, w2c_j0, w2c_i1, w2c_i2, w2c_j3, w2c_j4, w2c_j5);
+  w2c_p2 = w2c_i0;
+  w2c_f1(m);
+  w2c_i0 = w2c_p2;
+  return w2c_i0;
+}
+
+static u32 w2c_f69(module *m, u64 w2c_p0, u32 w2c_p1, u32 w2c_p2, u64 w2c_p3, u64 w2c_p4, u64 w2c_p5) {
+  u64 w2c_l6 = 0;
+  u32 w2c_i0, w2c_i1, w2c_i2, w2c_i6;
+  u64 w2c_j0, w2c_j1, w2c_j2, w2c_j3, w2c_j4, w2c_j5, w2c_j6;
+  w2c_j0 = m->w2c_g0;
+  w2c_l6 = w2c_j0;
+  w2c_j1 = 16ull;
+  w2c_i0 = (u64)((s64)w2c_j0 < (s64)w2c_j1);
+  if (w2c_i0) {goto w2c_B2;}
+  w2c_i0 = w2c_p1;
+  w2c_i1 = 1u;
+  w2c_i0 = w2c_i0 > w2c_i1;
+  if (w2c_i0) {goto w2c_B1;}
+  w2c_i0 = w2c_p2;
+  w2c_i1 = 8u;
+  w2c_i0 = w2c_i0 >= w2c_i1;
+  if (w2c_i0) {goto w2c_B0;}
+  w2c_j0 = w2c_p0;
+  w2c_j1 = 999999999999999999ull;
+  w2c_i0 = w2c_j0 <= w2c_j1;
+  if (w2c_i0) {goto w2c_B3;}
+  w2c_j0 = w2c_p5;
+  w2c_i0 = (u32)(w2c_j0);
+  w2c_j1 = 0ull;
+  i64_store(m, (u64)(w2c_i0), w2c_j1);
+  w2c_j0 = w2c_l6;
+  m->w2c_g0 = w2c_j0;
+  w2c_i0 = 3u;
+  goto w2c_Bfunc;
+  w2c_B3:;
+  w2c_j0 = w2c_p0;
+  w2c_i1 = w2c_p1;
+  w2c_j1 = (u64)(w2c_i1);
+  w2c_j2 = 65536ull;
+  w2c_j1 += w2c_j2;
+  w2c_i1 = (u32)(w2c_j1);
+  w2c_i1 = i32_load8_u(m, (u64)(w2c_i1));
+  w2c_i2 = w2c_p2;
+  w2c_j2 = (u64)(w2c_i2);
+  w2c_j3 = 3ull;
+  w2c_j2 *= w2c_j3;
+  w2c_j3 = 66308ull;
+  w2c_j2 += w2c_j3;
+  w2c_j3 = w2c_p3;
+  w2c_j4 = 4096ull;
+  w2c_j5 = 0ull;
+  w2c_j6 = w2c_p3;
+  w2c_i6 = !(w2c_j6);
+  w2c_j4 = w2c_i6 ? w2c_j4 : w2c_j5;
+  w2c_j3 += w2c_j4;
+  w2c_j4 = w2c_p4;
+  w2c_j5 = w2c_p5;
+  w2c_i0 = w2c_f13(m, w2c_j0, w2c_i1, w2c_j2, w2c_j3, w2c_j4, w2c_j5);
+  w2c_p1 = w2c_i0;
+  w2c_j0 = w2c_l6;
+  m->w2c_g0 = w2c_j0;
+  w2c_i0 = w2c_p1;
+  goto w2c_Bfunc;
+  w2c_B2:;
+  UNREACHABLE;
+  w2c_B1:;
+  w2c_j0 = w2c_p5;
+  w2c_i0 = (u32)(w2c_j0);
+  w2c_j1 = 0ull;
+  i64_store(m, (u64)(w2c_i0), w2c_j1);
+  w2c_j0 = w2c_l6;
+  m->w2c_g0 = w2c_j0;
+  w2c_i0 = 8u;
+  goto w2c_Bfunc;
+  w2c_B0:;
+  w2c_j0 = w2c_p5;
+  w2c_i0 = (u32)(w2c_j0);
+  w2c_j1 = 0ull;
+  i64_store(m, (u64)(w2c_i0), w2c_j1);
+  w2c_j0 = w2c_l6;
+  m->w2c_g0 = w2c_j0;
+  w2c_i0 = 8u;
+  w2c_Bfunc:;
+  return w2c_i0;
+}
+
 static u32 w2c_chinese_figures_read(module *m, u64 w2c_p0, u64 w2c_p1, u64 w2c_p2) {
   u32 w2c_l3 = 0;
   u32 w2c_i0;
@@ -47928,14 +48042,14 @@ static u32 w2c_chinese_figures_read(module *m, u64 w2c_p0, u64 w2c_p1, u64 w2c_p
   w2c_j0 = w2c_p0;
   w2c_j1 = w2c_p1;
   w2c_j2 = w2c_p2;
-  w2c_i0 = w2c_f69(m, w2c_j0, w2c_j1, w2c_j2);
+  w2c_i0 = w2c_f71(m, w2c_j0, w2c_j1, w2c_j2);
   w2c_l3 = w2c_i0;
   w2c_f1(m);
   w2c_i0 = w2c_l3;
   return w2c_i0;
 }
 
-static u32 w2c_f69(module *m, u64 w2c_p0, u64 w2c_p1, u64 w2c_p2) {
+static u32 w2c_f71(module *m, u64 w2c_p0, u64 w2c_p1, u64 w2c_p2) {
   u32 w2c_l9 = 0, w2c_l10 = 0, w2c_l11 = 0, w2c_l12 = 0;
   u64 w2c_l3 = 0, w2c_l4 = 0, w2c_l5 = 0, w2c_l6 = 0, w2c_l7 = 0, w2c_l8 = 0;
   u32 w2c_i0, w2c_i1, w2c_i2, w2c_i3;
@@ -48172,7 +48286,7 @@ static u32 w2c_f69(module *m, u64 w2c_p0, u64 w2c_p1, u64 w2c_p2) {
   w2c_j2 = w2c_p1;
   w2c_j3 = w2c_p0;
   w2c_j2 -= w2c_j3;
-  w2c_f13(m, w2c_j0, w2c_j1, w2c_j2);
+  w2c_f14(m, w2c_j0, w2c_j1, w2c_j2);
   w2c_j0 = w2c_l4;
   w2c_i0 = (u32)(w2c_j0);
   w2c_i0 = i32_load8_u(m, (u64)(w2c_i0));
@@ -48203,7 +48317,7 @@ static u32 w2c_f69(module *m, u64 w2c_p0, u64 w2c_p1, u64 w2c_p2) {
   w2c_j0 += w2c_j1;
   w2c_j1 = w2c_l5;
   w2c_j2 = w2c_p1;
-  w2c_f13(m, w2c_j0, w2c_j1, w2c_j2);
+  w2c_f14(m, w2c_j0, w2c_j1, w2c_j2);
   w2c_j0 = w2c_l4;
   w2c_i0 = (u32)(w2c_j0);
   w2c_j0 = i64_load(m, (u64)(w2c_i0) + 40u);
@@ -48435,14 +48549,14 @@ static u32 w2c_chinese_signed_amount_read(module *m, u64 w2c_p0, u64 w2c_p1, u64
   w2c_j0 = w2c_p0;
   w2c_j1 = w2c_p1;
   w2c_j2 = w2c_p2;
-  w2c_i0 = w2c_f71(m, w2c_j0, w2c_j1, w2c_j2);
+  w2c_i0 = w2c_f73(m, w2c_j0, w2c_j1, w2c_j2);
   w2c_l3 = w2c_i0;
   w2c_f1(m);
   w2c_i0 = w2c_l3;
   return w2c_i0;
 }
 
-static u32 w2c_f71(module *m, u64 w2c_p0, u64 w2c_p1, u64 w2c_p2) {
+static u32 w2c_f73(module *m, u64 w2c_p0, u64 w2c_p1, u64 w2c_p2) {
   u32 w2c_l15 = 0, w2c_l16 = 0, w2c_l17 = 0, w2c_l18 = 0, w2c_l19 = 0, w2c_l20 = 0, w2c_l21 = 0, w2c_l22 = 0, w2c_l23 = 0;
   u64 w2c_l3 = 0, w2c_l4 = 0, w2c_l5 = 0, w2c_l6 = 0, w2c_l7 = 0, w2c_l8 = 0, w2c_l9 = 0, w2c_l10 = 0, w2c_l11 = 0, w2c_l12 = 0, w2c_l13 = 0, w2c_l14 = 0;
   u32 w2c_i0, w2c_i1, w2c_i2, w2c_i3, w2c_i4;
@@ -48739,61 +48853,60 @@ static u32 w2c_f71(module *m, u64 w2c_p0, u64 w2c_p1, u64 w2c_p2) {
     w2c_j1 = 255ull;
     w2c_j0 &= w2c_j1;
     w2c_i0 = (u32)(w2c_j0);
-    w2c_l15 = w2c_i0;
     switch (w2c_i0) {
-      case 0: goto w2c_B37;
-      case 1: goto w2c_B37;
-      case 2: goto w2c_B37;
-      case 3: goto w2c_B37;
-      case 4: goto w2c_B37;
-      case 5: goto w2c_B45;
-      case 6: goto w2c_B44;
-      case 7: goto w2c_B43;
-      case 8: goto w2c_B42;
-      case 9: goto w2c_B41;
-      case 10: goto w2c_B40;
-      case 11: goto w2c_B39;
-      case 12: goto w2c_B38;
-      case 13: goto w2c_B37;
+      case 0: goto w2c_B44;
+      case 1: goto w2c_B43;
+      case 2: goto w2c_B42;
+      case 3: goto w2c_B41;
+      case 4: goto w2c_B40;
+      case 5: goto w2c_B52;
+      case 6: goto w2c_B51;
+      case 7: goto w2c_B50;
+      case 8: goto w2c_B49;
+      case 9: goto w2c_B48;
+      case 10: goto w2c_B47;
+      case 11: goto w2c_B46;
+      case 12: goto w2c_B45;
+      case 13: goto w2c_B39;
       case 14: goto w2c_B37;
-      case 15: goto w2c_B37;
-      case 16: goto w2c_B37;
-      case 17: goto w2c_B37;
-      case 18: goto w2c_B37;
-      case 19: goto w2c_B37;
-      default: goto w2c_B37;
+      case 15: goto w2c_B35;
+      case 16: goto w2c_B27;
+      case 17: goto w2c_B38;
+      case 18: goto w2c_B25;
+      case 19: goto w2c_B21;
+      default: goto w2c_B44;
     }
-    w2c_B45:;
+    w2c_B52:;
     w2c_i0 = 1u;
     w2c_i1 = w2c_l20;
     w2c_i0 <<= (w2c_i1 & 31);
     w2c_i1 = 31999u;
     w2c_i0 &= w2c_i1;
-    if (w2c_i0) {goto w2c_B46;}
+    if (w2c_i0) {goto w2c_B53;}
     w2c_i0 = w2c_l20;
     w2c_i1 = 8u;
     w2c_i0 = w2c_i0 == w2c_i1;
     if (w2c_i0) {goto w2c_B26;}
     goto w2c_B24;
-    w2c_B46:;
+    w2c_B53:;
     w2c_i0 = w2c_l20;
     w2c_i1 = 4294967291u;
     w2c_i0 += w2c_i1;
     w2c_i1 = 10u;
     w2c_i0 = w2c_i0 < w2c_i1;
-    if (w2c_i0) {goto w2c_B47;}
+    if (w2c_i0) {goto w2c_B54;}
     w2c_i0 = 0u;
     w2c_l15 = w2c_i0;
     w2c_i0 = w2c_l20;
     switch (w2c_i0) {
-      case 0: goto w2c_B47;
-      case 1: goto w2c_B47;
+      case 0: goto w2c_B54;
+      case 1: goto w2c_B54;
       case 2: goto w2c_B32;
       case 3: goto w2c_B30;
       case 4: goto w2c_B20;
-      default: goto w2c_B47;
+      default: goto w2c_B54;
     }
-    w2c_B47:;
+    w2c_B54:;
     w2c_i0 = 0u;
     w2c_l15 = w2c_i0;
     w2c_i0 = 6u;
@@ -48817,43 +48930,45 @@ static u32 w2c_f71(module *m, u64 w2c_p0, u64 w2c_p1, u64 w2c_p2) {
       case 14: goto w2c_B21;
       default: goto w2c_B21;
     }
-    w2c_B44:;
+    w2c_B51:;
     w2c_i0 = 3u;
-    w2c_l22 = w2c_i0;
+    w2c_l23 = w2c_i0;
     w2c_i0 = 10u;
     w2c_l21 = w2c_i0;
     w2c_i0 = w2c_l20;
-    w2c_l23 = w2c_i0;
+    w2c_l22 = w2c_i0;
     w2c_i0 = w2c_l20;
     switch (w2c_i0) {
-      case 0: goto w2c_B49;
+      case 0: goto w2c_B56;
       case 1: goto w2c_B36;
-      case 2: goto w2c_B48;
-      case 3: goto w2c_B48;
-      case 4: goto w2c_B48;
+      case 2: goto w2c_B55;
+      case 3: goto w2c_B55;
+      case 4: goto w2c_B55;
       case 5: goto w2c_B21;
-      case 6: goto w2c_B48;
-      case 7: goto w2c_B48;
-      case 8: goto w2c_B48;
-      case 9: goto w2c_B48;
-      case 10: goto w2c_B48;
-      case 11: goto w2c_B48;
-      case 12: goto w2c_B48;
-      case 13: goto w2c_B48;
-      case 14: goto w2c_B48;
-      default: goto w2c_B49;
+      case 6: goto w2c_B55;
+      case 7: goto w2c_B55;
+      case 8: goto w2c_B55;
+      case 9: goto w2c_B55;
+      case 10: goto w2c_B55;
+      case 11: goto w2c_B55;
+      case 12: goto w2c_B55;
+      case 13: goto w2c_B55;
+      case 14: goto w2c_B55;
+      default: goto w2c_B56;
     }
-    w2c_B49:;
+    w2c_B56:;
+    w2c_i0 = 1u;
+    w2c_l15 = w2c_i0;
     w2c_i0 = w2c_l19;
+    w2c_i1 = 1u;
+    w2c_i0 &= w2c_i1;
     w2c_i1 = 2u;
     w2c_i0 |= w2c_i1;
     w2c_l16 = w2c_i0;
-    w2c_i0 = 1u;
-    w2c_l15 = w2c_i0;
     w2c_i0 = 9u;
     w2c_l17 = w2c_i0;
     goto w2c_B13;
-    w2c_B48:;
+    w2c_B55:;
     w2c_i0 = 1u;
     w2c_l15 = w2c_i0;
     w2c_i0 = w2c_l20;
@@ -48865,43 +48980,45 @@ static u32 w2c_f71(module *m, u64 w2c_p0, u64 w2c_p1, u64 w2c_p2) {
     w2c_i0 = w2c_i0 == w2c_i1;
     if (w2c_i0) {goto w2c_B19;}
     goto w2c_B21;
-    w2c_B43:;
+    w2c_B50:;
     w2c_i0 = 3u;
-    w2c_l22 = w2c_i0;
-    w2c_i0 = 4u;
     w2c_l23 = w2c_i0;
+    w2c_i0 = 4u;
+    w2c_l22 = w2c_i0;
     w2c_i0 = 10u;
     w2c_l21 = w2c_i0;
     w2c_i0 = w2c_l20;
     switch (w2c_i0) {
-      case 0: goto w2c_B51;
+      case 0: goto w2c_B58;
       case 1: goto w2c_B36;
-      case 2: goto w2c_B50;
-      case 3: goto w2c_B50;
-      case 4: goto w2c_B50;
+      case 2: goto w2c_B57;
+      case 3: goto w2c_B57;
+      case 4: goto w2c_B57;
       case 5: goto w2c_B21;
-      case 6: goto w2c_B50;
-      case 7: goto w2c_B50;
-      case 8: goto w2c_B50;
-      case 9: goto w2c_B50;
-      case 10: goto w2c_B50;
-      case 11: goto w2c_B50;
-      case 12: goto w2c_B50;
-      case 13: goto w2c_B50;
-      case 14: goto w2c_B50;
-      default: goto w2c_B51;
+      case 6: goto w2c_B57;
+      case 7: goto w2c_B57;
+      case 8: goto w2c_B57;
+      case 9: goto w2c_B57;
+      case 10: goto w2c_B57;
+      case 11: goto w2c_B57;
+      case 12: goto w2c_B57;
+      case 13: goto w2c_B57;
+      case 14: goto w2c_B57;
+      default: goto w2c_B58;
     }
-    w2c_B51:;
+    w2c_B58:;
     w2c_i0 = 3u;
     w2c_l16 = w2c_i0;
     w2c_i0 = w2c_l19;
+    w2c_i1 = 1u;
+    w2c_i0 &= w2c_i1;
     w2c_i1 = 3u;
     w2c_i0 ^= w2c_i1;
     w2c_l15 = w2c_i0;
     w2c_i0 = 9u;
     w2c_l17 = w2c_i0;
     goto w2c_B13;
-    w2c_B50:;
+    w2c_B57:;
     w2c_i0 = 1u;
     w2c_l15 = w2c_i0;
     w2c_i0 = 8u;
@@ -48915,18 +49032,18 @@ static u32 w2c_f71(module *m, u64 w2c_p0, u64 w2c_p1, u64 w2c_p2) {
     w2c_i0 = w2c_i0 == w2c_i1;
     if (w2c_i0) {goto w2c_B19;}
     goto w2c_B21;
-    w2c_B42:;
+    w2c_B49:;
     w2c_i0 = 1u;
     w2c_l15 = w2c_i0;
     w2c_i0 = 3u;
-    w2c_l22 = w2c_i0;
-    w2c_i0 = 5u;
     w2c_l23 = w2c_i0;
+    w2c_i0 = 5u;
+    w2c_l22 = w2c_i0;
     w2c_i0 = 10u;
     w2c_l21 = w2c_i0;
     w2c_i0 = w2c_l20;
     switch (w2c_i0) {
-      case 0: goto w2c_B52;
+      case 0: goto w2c_B59;
       case 1: goto w2c_B36;
       case 2: goto w2c_B21;
       case 3: goto w2c_B21;
@@ -48941,10 +49058,12 @@ static u32 w2c_f71(module *m, u64 w2c_p0, u64 w2c_p1, u64 w2c_p2) {
       case 12: goto w2c_B21;
       case 13: goto w2c_B21;
       case 14: goto w2c_B21;
-      default: goto w2c_B52;
+      default: goto w2c_B59;
     }
-    w2c_B52:;
+    w2c_B59:;
     w2c_i0 = w2c_l19;
+    w2c_i1 = 1u;
+    w2c_i0 &= w2c_i1;
     w2c_i1 = 2u;
     w2c_i0 |= w2c_i1;
     w2c_l16 = w2c_i0;
@@ -48953,7 +49072,7 @@ static u32 w2c_f71(module *m, u64 w2c_p0, u64 w2c_p1, u64 w2c_p2) {
     w2c_i0 = 9u;
     w2c_l17 = w2c_i0;
     goto w2c_B13;
-    w2c_B41:;
+    w2c_B48:;
     w2c_i0 = w2c_l20;
     w2c_i1 = 1u;
     w2c_i0 = w2c_i0 != w2c_i1;
@@ -48961,39 +49080,39 @@ static u32 w2c_f71(module *m, u64 w2c_p0, u64 w2c_p1, u64 w2c_p2) {
     w2c_i0 = 11u;
     w2c_l21 = w2c_i0;
     w2c_i0 = w2c_l19;
-    w2c_l23 = w2c_i0;
-    w2c_i0 = w2c_l16;
     w2c_l22 = w2c_i0;
+    w2c_i0 = w2c_l16;
+    w2c_l23 = w2c_i0;
     goto w2c_B36;
-    w2c_B40:;
+    w2c_B47:;
     w2c_i0 = w2c_l16;
     w2c_j0 = (u64)(w2c_i0);
     w2c_j1 = 255ull;
     w2c_j0 &= w2c_j1;
     w2c_i0 = (u32)(w2c_j0);
     switch (w2c_i0) {
-      case 0: goto w2c_B53;
+      case 0: goto w2c_B60;
       case 1: goto w2c_B33;
       case 2: goto w2c_B31;
       case 3: goto w2c_B22;
-      default: goto w2c_B53;
+      default: goto w2c_B60;
     }
-    w2c_B53:;
+    w2c_B60:;
     w2c_i0 = w2c_l19;
     w2c_j0 = (u64)(w2c_i0);
     w2c_j1 = 255ull;
     w2c_j0 &= w2c_j1;
     w2c_i0 = (u32)(w2c_j0);
     switch (w2c_i0) {
-      case 0: goto w2c_B58;
-      case 1: goto w2c_B55;
-      case 2: goto w2c_B57;
-      case 3: goto w2c_B57;
-      case 4: goto w2c_B56;
-      case 5: goto w2c_B54;
-      default: goto w2c_B58;
+      case 0: goto w2c_B65;
+      case 1: goto w2c_B62;
+      case 2: goto w2c_B64;
+      case 3: goto w2c_B64;
+      case 4: goto w2c_B63;
+      case 5: goto w2c_B61;
+      default: goto w2c_B65;
     }
-    w2c_B58:;
+    w2c_B65:;
     w2c_i0 = 0u;
     w2c_l15 = w2c_i0;
     w2c_i0 = 6u;
@@ -49017,7 +49136,7 @@ static u32 w2c_f71(module *m, u64 w2c_p0, u64 w2c_p1, u64 w2c_p2) {
       case 14: goto w2c_B21;
       default: goto w2c_B21;
     }
-    w2c_B57:;
+    w2c_B64:;
     w2c_i0 = 0u;
     w2c_l15 = w2c_i0;
     w2c_i0 = 8u;
@@ -49031,13 +49150,13 @@ static u32 w2c_f71(module *m, u64 w2c_p0, u64 w2c_p1, u64 w2c_p2) {
     w2c_i0 = w2c_i0 == w2c_i1;
     if (w2c_i0) {goto w2c_B19;}
     goto w2c_B21;
-    w2c_B56:;
+    w2c_B63:;
     w2c_i0 = w2c_l20;
     w2c_i1 = 5u;
     w2c_i0 = w2c_i0 != w2c_i1;
     if (w2c_i0) {goto w2c_B21;}
     goto w2c_B17;
-    w2c_B55:;
+    w2c_B62:;
     w2c_i0 = 0u;
     w2c_l15 = w2c_i0;
     w2c_i0 = w2c_l20;
@@ -49049,7 +49168,7 @@ static u32 w2c_f71(module *m, u64 w2c_p0, u64 w2c_p1, u64 w2c_p2) {
     w2c_i0 = w2c_i0 == w2c_i1;
     if (w2c_i0) {goto w2c_B19;}
     goto w2c_B21;
-    w2c_B54:;
+    w2c_B61:;
     w2c_i0 = w2c_l20;
     w2c_i1 = 7u;
     w2c_i0 = w2c_i0 != w2c_i1;
@@ -49057,53 +49176,53 @@ static u32 w2c_f71(module *m, u64 w2c_p0, u64 w2c_p1, u64 w2c_p2) {
     w2c_i0 = 0u;
     w2c_l15 = w2c_i0;
     goto w2c_B19;
-    w2c_B39:;
+    w2c_B46:;
     w2c_i0 = w2c_l16;
     w2c_j0 = (u64)(w2c_i0);
     w2c_j1 = 255ull;
     w2c_j0 &= w2c_j1;
     w2c_i0 = (u32)(w2c_j0);
     switch (w2c_i0) {
-      case 0: goto w2c_B59;
-      case 1: goto w2c_B60;
-      case 2: goto w2c_B61;
-      case 3: goto w2c_B62;
-      default: goto w2c_B59;
+      case 0: goto w2c_B66;
+      case 1: goto w2c_B67;
+      case 2: goto w2c_B68;
+      case 3: goto w2c_B69;
+      default: goto w2c_B66;
     }
-    w2c_B62:;
+    w2c_B69:;
     w2c_i0 = w2c_l20;
     w2c_i1 = 4294967291u;
     w2c_i0 += w2c_i1;
     w2c_i1 = 10u;
     w2c_i0 = w2c_i0 < w2c_i1;
-    if (w2c_i0) {goto w2c_B63;}
+    if (w2c_i0) {goto w2c_B70;}
     w2c_i0 = w2c_l19;
     w2c_l15 = w2c_i0;
     w2c_i0 = w2c_l20;
     switch (w2c_i0) {
-      case 0: goto w2c_B63;
-      case 1: goto w2c_B63;
+      case 0: goto w2c_B70;
+      case 1: goto w2c_B70;
       case 2: goto w2c_B32;
       case 3: goto w2c_B30;
       case 4: goto w2c_B29;
-      default: goto w2c_B63;
+      default: goto w2c_B70;
     }
-    w2c_B63:;
+    w2c_B70:;
     w2c_i0 = w2c_l19;
     w2c_j0 = (u64)(w2c_i0);
     w2c_j1 = 255ull;
     w2c_j0 &= w2c_j1;
     w2c_i0 = (u32)(w2c_j0);
     switch (w2c_i0) {
-      case 0: goto w2c_B68;
-      case 1: goto w2c_B65;
-      case 2: goto w2c_B67;
-      case 3: goto w2c_B67;
-      case 4: goto w2c_B66;
-      case 5: goto w2c_B64;
-      default: goto w2c_B68;
+      case 0: goto w2c_B75;
+      case 1: goto w2c_B72;
+      case 2: goto w2c_B74;
+      case 3: goto w2c_B74;
+      case 4: goto w2c_B73;
+      case 5: goto w2c_B71;
+      default: goto w2c_B75;
     }
-    w2c_B68:;
+    w2c_B75:;
     w2c_i0 = 0u;
     w2c_l15 = w2c_i0;
     w2c_i0 = 6u;
@@ -49127,7 +49246,7 @@ static u32 w2c_f71(module *m, u64 w2c_p0, u64 w2c_p1, u64 w2c_p2) {
       case 14: goto w2c_B21;
       default: goto w2c_B21;
     }
-    w2c_B67:;
+    w2c_B74:;
     w2c_i0 = 0u;
     w2c_l15 = w2c_i0;
     w2c_i0 = 8u;
@@ -49141,13 +49260,13 @@ static u32 w2c_f71(module *m, u64 w2c_p0, u64 w2c_p1, u64 w2c_p2) {
     w2c_i0 = w2c_i0 == w2c_i1;
     if (w2c_i0) {goto w2c_B19;}
     goto w2c_B21;
-    w2c_B66:;
+    w2c_B73:;
     w2c_i0 = w2c_l20;
     w2c_i1 = 5u;
     w2c_i0 = w2c_i0 == w2c_i1;
     if (w2c_i0) {goto w2c_B17;}
     goto w2c_B21;
-    w2c_B65:;
+    w2c_B72:;
     w2c_i0 = 0u;
     w2c_l15 = w2c_i0;
     w2c_i0 = w2c_l20;
@@ -49159,7 +49278,7 @@ static u32 w2c_f71(module *m, u64 w2c_p0, u64 w2c_p1, u64 w2c_p2) {
     w2c_i0 = w2c_i0 == w2c_i1;
     if (w2c_i0) {goto w2c_B19;}
     goto w2c_B21;
-    w2c_B64:;
+    w2c_B71:;
     w2c_i0 = w2c_l20;
     w2c_i1 = 7u;
     w2c_i0 = w2c_i0 != w2c_i1;
@@ -49167,39 +49286,39 @@ static u32 w2c_f71(module *m, u64 w2c_p0, u64 w2c_p1, u64 w2c_p2) {
     w2c_i0 = 0u;
     w2c_l15 = w2c_i0;
     goto w2c_B19;
-    w2c_B61:;
+    w2c_B68:;
     w2c_i0 = w2c_l20;
     w2c_i1 = 4294967292u;
     w2c_i0 += w2c_i1;
     w2c_i1 = 11u;
     w2c_i0 = w2c_i0 < w2c_i1;
-    if (w2c_i0) {goto w2c_B69;}
+    if (w2c_i0) {goto w2c_B76;}
     w2c_i0 = w2c_l19;
     w2c_l15 = w2c_i0;
     w2c_i0 = w2c_l20;
     switch (w2c_i0) {
-      case 0: goto w2c_B69;
-      case 1: goto w2c_B69;
+      case 0: goto w2c_B76;
+      case 1: goto w2c_B76;
       case 2: goto w2c_B32;
       case 3: goto w2c_B30;
-      default: goto w2c_B69;
+      default: goto w2c_B76;
     }
-    w2c_B69:;
+    w2c_B76:;
     w2c_i0 = w2c_l19;
     w2c_j0 = (u64)(w2c_i0);
     w2c_j1 = 255ull;
     w2c_j0 &= w2c_j1;
     w2c_i0 = (u32)(w2c_j0);
     switch (w2c_i0) {
-      case 0: goto w2c_B74;
-      case 1: goto w2c_B71;
-      case 2: goto w2c_B73;
-      case 3: goto w2c_B73;
-      case 4: goto w2c_B72;
-      case 5: goto w2c_B70;
-      default: goto w2c_B74;
+      case 0: goto w2c_B81;
+      case 1: goto w2c_B78;
+      case 2: goto w2c_B80;
+      case 3: goto w2c_B80;
+      case 4: goto w2c_B79;
+      case 5: goto w2c_B77;
+      default: goto w2c_B81;
     }
-    w2c_B74:;
+    w2c_B81:;
     w2c_i0 = 0u;
     w2c_l15 = w2c_i0;
     w2c_i0 = 6u;
@@ -49223,7 +49342,7 @@ static u32 w2c_f71(module *m, u64 w2c_p0, u64 w2c_p1, u64 w2c_p2) {
       case 14: goto w2c_B21;
       default: goto w2c_B21;
     }
-    w2c_B73:;
+    w2c_B80:;
     w2c_i0 = 0u;
     w2c_l15 = w2c_i0;
     w2c_i0 = 8u;
@@ -49237,13 +49356,13 @@ static u32 w2c_f71(module *m, u64 w2c_p0, u64 w2c_p1, u64 w2c_p2) {
     w2c_i0 = w2c_i0 == w2c_i1;
     if (w2c_i0) {goto w2c_B19;}
     goto w2c_B21;
-    w2c_B72:;
+    w2c_B79:;
     w2c_i0 = w2c_l20;
     w2c_i1 = 5u;
     w2c_i0 = w2c_i0 == w2c_i1;
     if (w2c_i0) {goto w2c_B17;}
     goto w2c_B21;
-    w2c_B71:;
+    w2c_B78:;
     w2c_i0 = 0u;
     w2c_l15 = w2c_i0;
     w2c_i0 = w2c_l20;
@@ -49255,7 +49374,7 @@ static u32 w2c_f71(module *m, u64 w2c_p0, u64 w2c_p1, u64 w2c_p2) {
     w2c_i0 = w2c_i0 == w2c_i1;
     if (w2c_i0) {goto w2c_B19;}
     goto w2c_B21;
-    w2c_B70:;
+    w2c_B77:;
     w2c_i0 = w2c_l20;
     w2c_i1 = 7u;
     w2c_i0 = w2c_i0 != w2c_i1;
@@ -49263,30 +49382,30 @@ static u32 w2c_f71(module *m, u64 w2c_p0, u64 w2c_p1, u64 w2c_p2) {
     w2c_i0 = 0u;
     w2c_l15 = w2c_i0;
     goto w2c_B19;
-    w2c_B60:;
+    w2c_B67:;
     w2c_i0 = w2c_l20;
     w2c_i1 = 2u;
     w2c_i0 = w2c_i0 != w2c_i1;
-    if (w2c_i0) {goto w2c_B75;}
+    if (w2c_i0) {goto w2c_B82;}
     w2c_i0 = w2c_l19;
     w2c_l15 = w2c_i0;
     goto w2c_B32;
-    w2c_B75:;
+    w2c_B82:;
     w2c_i0 = w2c_l19;
     w2c_j0 = (u64)(w2c_i0);
     w2c_j1 = 255ull;
     w2c_j0 &= w2c_j1;
     w2c_i0 = (u32)(w2c_j0);
     switch (w2c_i0) {
-      case 0: goto w2c_B80;
-      case 1: goto w2c_B77;
-      case 2: goto w2c_B79;
-      case 3: goto w2c_B79;
-      case 4: goto w2c_B78;
-      case 5: goto w2c_B76;
-      default: goto w2c_B80;
+      case 0: goto w2c_B87;
+      case 1: goto w2c_B84;
+      case 2: goto w2c_B86;
+      case 3: goto w2c_B86;
+      case 4: goto w2c_B85;
+      case 5: goto w2c_B83;
+      default: goto w2c_B87;
     }
-    w2c_B80:;
+    w2c_B87:;
     w2c_i0 = 0u;
     w2c_l15 = w2c_i0;
     w2c_i0 = 6u;
@@ -49310,7 +49429,7 @@ static u32 w2c_f71(module *m, u64 w2c_p0, u64 w2c_p1, u64 w2c_p2) {
       case 14: goto w2c_B21;
       default: goto w2c_B21;
     }
-    w2c_B79:;
+    w2c_B86:;
     w2c_i0 = 0u;
     w2c_l15 = w2c_i0;
     w2c_i0 = 8u;
@@ -49324,13 +49443,13 @@ static u32 w2c_f71(module *m, u64 w2c_p0, u64 w2c_p1, u64 w2c_p2) {
     w2c_i0 = w2c_i0 == w2c_i1;
     if (w2c_i0) {goto w2c_B19;}
     goto w2c_B21;
-    w2c_B78:;
+    w2c_B85:;
     w2c_i0 = w2c_l20;
     w2c_i1 = 5u;
     w2c_i0 = w2c_i0 == w2c_i1;
     if (w2c_i0) {goto w2c_B17;}
     goto w2c_B21;
-    w2c_B77:;
+    w2c_B84:;
     w2c_i0 = 0u;
     w2c_l15 = w2c_i0;
     w2c_i0 = w2c_l20;
@@ -49342,7 +49461,7 @@ static u32 w2c_f71(module *m, u64 w2c_p0, u64 w2c_p1, u64 w2c_p2) {
     w2c_i0 = w2c_i0 == w2c_i1;
     if (w2c_i0) {goto w2c_B19;}
     goto w2c_B21;
-    w2c_B76:;
+    w2c_B83:;
     w2c_i0 = w2c_l20;
     w2c_i1 = 7u;
     w2c_i0 = w2c_i0 != w2c_i1;
@@ -49350,22 +49469,22 @@ static u32 w2c_f71(module *m, u64 w2c_p0, u64 w2c_p1, u64 w2c_p2) {
     w2c_i0 = 0u;
     w2c_l15 = w2c_i0;
     goto w2c_B19;
-    w2c_B59:;
+    w2c_B66:;
     w2c_i0 = w2c_l19;
     w2c_j0 = (u64)(w2c_i0);
     w2c_j1 = 255ull;
     w2c_j0 &= w2c_j1;
     w2c_i0 = (u32)(w2c_j0);
     switch (w2c_i0) {
-      case 0: goto w2c_B85;
-      case 1: goto w2c_B82;
-      case 2: goto w2c_B84;
-      case 3: goto w2c_B84;
-      case 4: goto w2c_B83;
-      case 5: goto w2c_B81;
-      default: goto w2c_B85;
+      case 0: goto w2c_B92;
+      case 1: goto w2c_B89;
+      case 2: goto w2c_B91;
+      case 3: goto w2c_B91;
+      case 4: goto w2c_B90;
+      case 5: goto w2c_B88;
+      default: goto w2c_B92;
     }
-    w2c_B85:;
+    w2c_B92:;
     w2c_i0 = 0u;
     w2c_l15 = w2c_i0;
     w2c_i0 = 6u;
@@ -49389,7 +49508,7 @@ static u32 w2c_f71(module *m, u64 w2c_p0, u64 w2c_p1, u64 w2c_p2) {
       case 14: goto w2c_B21;
       default: goto w2c_B21;
     }
-    w2c_B84:;
+    w2c_B91:;
     w2c_i0 = 0u;
     w2c_l15 = w2c_i0;
     w2c_i0 = 8u;
@@ -49403,13 +49522,13 @@ static u32 w2c_f71(module *m, u64 w2c_p0, u64 w2c_p1, u64 w2c_p2) {
     w2c_i0 = w2c_i0 == w2c_i1;
     if (w2c_i0) {goto w2c_B19;}
     goto w2c_B21;
-    w2c_B83:;
+    w2c_B90:;
     w2c_i0 = w2c_l20;
     w2c_i1 = 5u;
     w2c_i0 = w2c_i0 == w2c_i1;
     if (w2c_i0) {goto w2c_B17;}
     goto w2c_B21;
-    w2c_B82:;
+    w2c_B89:;
     w2c_i0 = 0u;
     w2c_l15 = w2c_i0;
     w2c_i0 = w2c_l20;
@@ -49421,7 +49540,7 @@ static u32 w2c_f71(module *m, u64 w2c_p0, u64 w2c_p1, u64 w2c_p2) {
     w2c_i0 = w2c_i0 == w2c_i1;
     if (w2c_i0) {goto w2c_B19;}
     goto w2c_B21;
-    w2c_B81:;
+    w2c_B88:;
     w2c_i0 = w2c_l20;
     w2c_i1 = 7u;
     w2c_i0 = w2c_i0 != w2c_i1;
@@ -49429,36 +49548,36 @@ static u32 w2c_f71(module *m, u64 w2c_p0, u64 w2c_p1, u64 w2c_p2) {
     w2c_i0 = 0u;
     w2c_l15 = w2c_i0;
     goto w2c_B19;
-    w2c_B38:;
+    w2c_B45:;
     w2c_i0 = w2c_l16;
     w2c_j0 = (u64)(w2c_i0);
     w2c_j1 = 255ull;
     w2c_j0 &= w2c_j1;
     w2c_i0 = (u32)(w2c_j0);
     switch (w2c_i0) {
-      case 0: goto w2c_B86;
-      case 1: goto w2c_B87;
-      case 2: goto w2c_B88;
-      case 3: goto w2c_B89;
-      default: goto w2c_B86;
+      case 0: goto w2c_B93;
+      case 1: goto w2c_B94;
+      case 2: goto w2c_B95;
+      case 3: goto w2c_B96;
+      default: goto w2c_B93;
     }
-    w2c_B89:;
+    w2c_B96:;
     w2c_i0 = w2c_l20;
     w2c_i1 = 4294967294u;
     w2c_i0 += w2c_i1;
     w2c_i1 = 13u;
     w2c_i0 = w2c_i0 < w2c_i1;
-    if (w2c_i0) {goto w2c_B90;}
+    if (w2c_i0) {goto w2c_B97;}
     w2c_i0 = 1u;
     w2c_l16 = w2c_i0;
     w2c_i0 = 9u;
     w2c_l17 = w2c_i0;
     w2c_i0 = 2u;
-    w2c_l22 = w2c_i0;
+    w2c_l23 = w2c_i0;
     w2c_i0 = 10u;
     w2c_l21 = w2c_i0;
     w2c_i0 = w2c_l19;
-    w2c_l23 = w2c_i0;
+    w2c_l22 = w2c_i0;
     w2c_i0 = w2c_l19;
     w2c_l15 = w2c_i0;
     w2c_i0 = w2c_l20;
@@ -49467,22 +49586,22 @@ static u32 w2c_f71(module *m, u64 w2c_p0, u64 w2c_p1, u64 w2c_p2) {
       case 1: goto w2c_B36;
       default: goto w2c_B13;
     }
-    w2c_B90:;
+    w2c_B97:;
     w2c_i0 = w2c_l19;
     w2c_j0 = (u64)(w2c_i0);
     w2c_j1 = 255ull;
     w2c_j0 &= w2c_j1;
     w2c_i0 = (u32)(w2c_j0);
     switch (w2c_i0) {
-      case 0: goto w2c_B95;
-      case 1: goto w2c_B92;
-      case 2: goto w2c_B94;
-      case 3: goto w2c_B94;
-      case 4: goto w2c_B93;
-      case 5: goto w2c_B91;
-      default: goto w2c_B95;
+      case 0: goto w2c_B102;
+      case 1: goto w2c_B99;
+      case 2: goto w2c_B101;
+      case 3: goto w2c_B101;
+      case 4: goto w2c_B100;
+      case 5: goto w2c_B98;
+      default: goto w2c_B102;
     }
-    w2c_B95:;
+    w2c_B102:;
     w2c_i0 = 1u;
     w2c_l15 = w2c_i0;
     w2c_i0 = 6u;
@@ -49506,7 +49625,7 @@ static u32 w2c_f71(module *m, u64 w2c_p0, u64 w2c_p1, u64 w2c_p2) {
       case 12: goto w2c_B21;
       default: goto w2c_B21;
     }
-    w2c_B94:;
+    w2c_B101:;
     w2c_i0 = 1u;
     w2c_l15 = w2c_i0;
     w2c_i0 = 8u;
@@ -49520,13 +49639,13 @@ static u32 w2c_f71(module *m, u64 w2c_p0, u64 w2c_p1, u64 w2c_p2) {
     w2c_i0 = w2c_i0 == w2c_i1;
     if (w2c_i0) {goto w2c_B19;}
     goto w2c_B21;
-    w2c_B93:;
+    w2c_B100:;
     w2c_i0 = w2c_l20;
     w2c_i1 = 5u;
     w2c_i0 = w2c_i0 != w2c_i1;
     if (w2c_i0) {goto w2c_B21;}
     goto w2c_B18;
-    w2c_B92:;
+    w2c_B99:;
     w2c_i0 = 1u;
     w2c_l15 = w2c_i0;
     w2c_i0 = w2c_l20;
@@ -49538,7 +49657,7 @@ static u32 w2c_f71(module *m, u64 w2c_p0, u64 w2c_p1, u64 w2c_p2) {
     w2c_i0 = w2c_i0 == w2c_i1;
     if (w2c_i0) {goto w2c_B19;}
     goto w2c_B21;
-    w2c_B91:;
+    w2c_B98:;
     w2c_i0 = w2c_l20;
     w2c_i1 = 7u;
     w2c_i0 = w2c_i0 != w2c_i1;
@@ -49546,21 +49665,21 @@ static u32 w2c_f71(module *m, u64 w2c_p0, u64 w2c_p1, u64 w2c_p2) {
     w2c_i0 = 1u;
     w2c_l15 = w2c_i0;
     goto w2c_B19;
-    w2c_B88:;
+    w2c_B95:;
     w2c_i0 = w2c_l20;
     w2c_i1 = 4294967294u;
     w2c_i0 += w2c_i1;
     w2c_i1 = 13u;
     w2c_i0 = w2c_i0 < w2c_i1;
-    if (w2c_i0) {goto w2c_B96;}
+    if (w2c_i0) {goto w2c_B103;}
     w2c_i0 = 9u;
     w2c_l17 = w2c_i0;
     w2c_i0 = 10u;
     w2c_l21 = w2c_i0;
     w2c_i0 = w2c_l19;
-    w2c_l23 = w2c_i0;
-    w2c_i0 = w2c_l20;
     w2c_l22 = w2c_i0;
+    w2c_i0 = w2c_l20;
+    w2c_l23 = w2c_i0;
     w2c_i0 = w2c_l19;
     w2c_l15 = w2c_i0;
     w2c_i0 = w2c_l20;
@@ -49571,22 +49690,22 @@ static u32 w2c_f71(module *m, u64 w2c_p0, u64 w2c_p1, u64 w2c_p2) {
       case 1: goto w2c_B36;
       default: goto w2c_B13;
     }
-    w2c_B96:;
+    w2c_B103:;
     w2c_i0 = w2c_l19;
     w2c_j0 = (u64)(w2c_i0);
     w2c_j1 = 255ull;
     w2c_j0 &= w2c_j1;
     w2c_i0 = (u32)(w2c_j0);
     switch (w2c_i0) {
-      case 0: goto w2c_B101;
-      case 1: goto w2c_B98;
-      case 2: goto w2c_B100;
-      case 3: goto w2c_B100;
-      case 4: goto w2c_B99;
-      case 5: goto w2c_B97;
-      default: goto w2c_B101;
+      case 0: goto w2c_B108;
+      case 1: goto w2c_B105;
+      case 2: goto w2c_B107;
+      case 3: goto w2c_B107;
+      case 4: goto w2c_B106;
+      case 5: goto w2c_B104;
+      default: goto w2c_B108;
     }
-    w2c_B101:;
+    w2c_B108:;
     w2c_i0 = 1u;
     w2c_l15 = w2c_i0;
     w2c_i0 = 6u;
@@ -49610,7 +49729,7 @@ static u32 w2c_f71(module *m, u64 w2c_p0, u64 w2c_p1, u64 w2c_p2) {
       case 12: goto w2c_B21;
       default: goto w2c_B21;
     }
-    w2c_B100:;
+    w2c_B107:;
     w2c_i0 = 1u;
     w2c_l15 = w2c_i0;
     w2c_i0 = 8u;
@@ -49624,13 +49743,13 @@ static u32 w2c_f71(module *m, u64 w2c_p0, u64 w2c_p1, u64 w2c_p2) {
     w2c_i0 = w2c_i0 == w2c_i1;
     if (w2c_i0) {goto w2c_B19;}
     goto w2c_B21;
-    w2c_B99:;
+    w2c_B106:;
     w2c_i0 = w2c_l20;
     w2c_i1 = 5u;
     w2c_i0 = w2c_i0 == w2c_i1;
     if (w2c_i0) {goto w2c_B18;}
     goto w2c_B21;
-    w2c_B98:;
+    w2c_B105:;
     w2c_i0 = 1u;
     w2c_l15 = w2c_i0;
     w2c_i0 = w2c_l20;
@@ -49642,7 +49761,7 @@ static u32 w2c_f71(module *m, u64 w2c_p0, u64 w2c_p1, u64 w2c_p2) {
     w2c_i0 = w2c_i0 == w2c_i1;
     if (w2c_i0) {goto w2c_B19;}
     goto w2c_B21;
-    w2c_B97:;
+    w2c_B104:;
     w2c_i0 = w2c_l20;
     w2c_i1 = 7u;
     w2c_i0 = w2c_i0 != w2c_i1;
@@ -49650,34 +49769,34 @@ static u32 w2c_f71(module *m, u64 w2c_p0, u64 w2c_p1, u64 w2c_p2) {
     w2c_i0 = 1u;
     w2c_l15 = w2c_i0;
     goto w2c_B19;
-    w2c_B87:;
+    w2c_B94:;
     w2c_i0 = w2c_l20;
     w2c_i1 = 1u;
     w2c_i0 = w2c_i0 != w2c_i1;
-    if (w2c_i0) {goto w2c_B102;}
+    if (w2c_i0) {goto w2c_B109;}
     w2c_i0 = 0u;
-    w2c_l22 = w2c_i0;
+    w2c_l23 = w2c_i0;
     w2c_i0 = 10u;
     w2c_l21 = w2c_i0;
     w2c_i0 = w2c_l19;
-    w2c_l23 = w2c_i0;
+    w2c_l22 = w2c_i0;
     goto w2c_B36;
-    w2c_B102:;
+    w2c_B109:;
     w2c_i0 = w2c_l19;
     w2c_j0 = (u64)(w2c_i0);
     w2c_j1 = 255ull;
     w2c_j0 &= w2c_j1;
     w2c_i0 = (u32)(w2c_j0);
     switch (w2c_i0) {
-      case 0: goto w2c_B107;
-      case 1: goto w2c_B104;
-      case 2: goto w2c_B106;
-      case 3: goto w2c_B106;
-      case 4: goto w2c_B105;
-      case 5: goto w2c_B103;
-      default: goto w2c_B107;
+      case 0: goto w2c_B114;
+      case 1: goto w2c_B111;
+      case 2: goto w2c_B113;
+      case 3: goto w2c_B113;
+      case 4: goto w2c_B112;
+      case 5: goto w2c_B110;
+      default: goto w2c_B114;
     }
-    w2c_B107:;
+    w2c_B114:;
     w2c_i0 = 1u;
     w2c_l15 = w2c_i0;
     w2c_i0 = 6u;
@@ -49701,7 +49820,7 @@ static u32 w2c_f71(module *m, u64 w2c_p0, u64 w2c_p1, u64 w2c_p2) {
       case 14: goto w2c_B21;
       default: goto w2c_B21;
     }
-    w2c_B106:;
+    w2c_B113:;
     w2c_i0 = 1u;
     w2c_l15 = w2c_i0;
     w2c_i0 = 8u;
@@ -49715,13 +49834,13 @@ static u32 w2c_f71(module *m, u64 w2c_p0, u64 w2c_p1, u64 w2c_p2) {
     w2c_i0 = w2c_i0 == w2c_i1;
     if (w2c_i0) {goto w2c_B19;}
     goto w2c_B21;
-    w2c_B105:;
+    w2c_B112:;
     w2c_i0 = w2c_l20;
     w2c_i1 = 5u;
     w2c_i0 = w2c_i0 == w2c_i1;
     if (w2c_i0) {goto w2c_B18;}
     goto w2c_B21;
-    w2c_B104:;
+    w2c_B111:;
     w2c_i0 = 1u;
     w2c_l15 = w2c_i0;
     w2c_i0 = w2c_l20;
@@ -49733,7 +49852,7 @@ static u32 w2c_f71(module *m, u64 w2c_p0, u64 w2c_p1, u64 w2c_p2) {
     w2c_i0 = w2c_i0 == w2c_i1;
     if (w2c_i0) {goto w2c_B19;}
     goto w2c_B21;
-    w2c_B103:;
+    w2c_B110:;
     w2c_i0 = w2c_l20;
     w2c_i1 = 7u;
     w2c_i0 = w2c_i0 != w2c_i1;
@@ -49741,22 +49860,22 @@ static u32 w2c_f71(module *m, u64 w2c_p0, u64 w2c_p1, u64 w2c_p2) {
     w2c_i0 = 1u;
     w2c_l15 = w2c_i0;
     goto w2c_B19;
-    w2c_B86:;
+    w2c_B93:;
     w2c_i0 = w2c_l19;
     w2c_j0 = (u64)(w2c_i0);
     w2c_j1 = 255ull;
     w2c_j0 &= w2c_j1;
     w2c_i0 = (u32)(w2c_j0);
     switch (w2c_i0) {
-      case 0: goto w2c_B112;
-      case 1: goto w2c_B109;
-      case 2: goto w2c_B111;
-      case 3: goto w2c_B111;
-      case 4: goto w2c_B110;
-      case 5: goto w2c_B108;
-      default: goto w2c_B112;
+      case 0: goto w2c_B119;
+      case 1: goto w2c_B116;
+      case 2: goto w2c_B118;
+      case 3: goto w2c_B118;
+      case 4: goto w2c_B117;
+      case 5: goto w2c_B115;
+      default: goto w2c_B119;
     }
-    w2c_B112:;
+    w2c_B119:;
     w2c_i0 = 1u;
     w2c_l15 = w2c_i0;
     w2c_i0 = 6u;
@@ -49780,7 +49899,7 @@ static u32 w2c_f71(module *m, u64 w2c_p0, u64 w2c_p1, u64 w2c_p2) {
       case 14: goto w2c_B21;
       default: goto w2c_B21;
     }
-    w2c_B111:;
+    w2c_B118:;
     w2c_i0 = 1u;
     w2c_l15 = w2c_i0;
     w2c_i0 = 8u;
@@ -49794,13 +49913,13 @@ static u32 w2c_f71(module *m, u64 w2c_p0, u64 w2c_p1, u64 w2c_p2) {
     w2c_i0 = w2c_i0 == w2c_i1;
     if (w2c_i0) {goto w2c_B19;}
     goto w2c_B21;
-    w2c_B110:;
+    w2c_B117:;
     w2c_i0 = w2c_l20;
     w2c_i1 = 5u;
     w2c_i0 = w2c_i0 == w2c_i1;
     if (w2c_i0) {goto w2c_B18;}
     goto w2c_B21;
-    w2c_B109:;
+    w2c_B116:;
     w2c_i0 = 1u;
     w2c_l15 = w2c_i0;
     w2c_i0 = w2c_l20;
@@ -49812,7 +49931,7 @@ static u32 w2c_f71(module *m, u64 w2c_p0, u64 w2c_p1, u64 w2c_p2) {
     w2c_i0 = w2c_i0 != w2c_i1;
     if (w2c_i0) {goto w2c_B21;}
     goto w2c_B19;
-    w2c_B108:;
+    w2c_B115:;
     w2c_i0 = w2c_l20;
     w2c_i1 = 7u;
     w2c_i0 = w2c_i0 != w2c_i1;
@@ -49820,40 +49939,15 @@ static u32 w2c_f71(module *m, u64 w2c_p0, u64 w2c_p1, u64 w2c_p2) {
     w2c_i0 = 1u;
     w2c_l15 = w2c_i0;
     goto w2c_B19;
-    w2c_B37:;
-    w2c_i0 = w2c_l15;
-    switch (w2c_i0) {
-      case 0: goto w2c_B120;
-      case 1: goto w2c_B119;
-      case 2: goto w2c_B118;
-      case 3: goto w2c_B117;
-      case 4: goto w2c_B116;
-      case 5: goto w2c_B21;
-      case 6: goto w2c_B21;
-      case 7: goto w2c_B21;
-      case 8: goto w2c_B21;
-      case 9: goto w2c_B21;
-      case 10: goto w2c_B21;
-      case 11: goto w2c_B21;
-      case 12: goto w2c_B21;
-      case 13: goto w2c_B115;
-      case 14: goto w2c_B113;
-      case 15: goto w2c_B35;
-      case 16: goto w2c_B27;
-      case 17: goto w2c_B114;
-      case 18: goto w2c_B25;
-      case 19: goto w2c_B21;
-      default: goto w2c_B120;
-    }
-    w2c_B120:;
+    w2c_B44:;
     w2c_i0 = 5u;
     w2c_l21 = w2c_i0;
     w2c_i0 = 0u;
-    w2c_l23 = w2c_i0;
+    w2c_l22 = w2c_i0;
     w2c_i0 = 1u;
     w2c_l17 = w2c_i0;
     w2c_i0 = 0u;
-    w2c_l22 = w2c_i0;
+    w2c_l23 = w2c_i0;
     w2c_i0 = 0u;
     w2c_l15 = w2c_i0;
     w2c_i0 = 0u;
@@ -49877,7 +49971,7 @@ static u32 w2c_f71(module *m, u64 w2c_p0, u64 w2c_p1, u64 w2c_p2) {
       case 14: goto w2c_B21;
       default: goto w2c_B34;
     }
-    w2c_B119:;
+    w2c_B43:;
     w2c_i0 = w2c_l20;
     w2c_i1 = 12u;
     w2c_i0 = w2c_i0 != w2c_i1;
@@ -49887,7 +49981,7 @@ static u32 w2c_f71(module *m, u64 w2c_p0, u64 w2c_p1, u64 w2c_p2) {
     w2c_i0 = 2u;
     w2c_l17 = w2c_i0;
     goto w2c_B23;
-    w2c_B118:;
+    w2c_B42:;
     w2c_i0 = w2c_l20;
     w2c_i1 = 13u;
     w2c_i0 = w2c_i0 != w2c_i1;
@@ -49897,13 +49991,13 @@ static u32 w2c_f71(module *m, u64 w2c_p0, u64 w2c_p1, u64 w2c_p2) {
     w2c_i0 = 3u;
     w2c_l17 = w2c_i0;
     goto w2c_B23;
-    w2c_B117:;
+    w2c_B41:;
     w2c_i0 = 0u;
-    w2c_l23 = w2c_i0;
+    w2c_l22 = w2c_i0;
     w2c_i0 = 5u;
     w2c_l21 = w2c_i0;
     w2c_i0 = 0u;
-    w2c_l22 = w2c_i0;
+    w2c_l23 = w2c_i0;
     w2c_i0 = w2c_l20;
     switch (w2c_i0) {
       case 0: goto w2c_B34;
@@ -49923,7 +50017,7 @@ static u32 w2c_f71(module *m, u64 w2c_p0, u64 w2c_p1, u64 w2c_p2) {
       case 14: goto w2c_B21;
       default: goto w2c_B34;
     }
-    w2c_B116:;
+    w2c_B40:;
     w2c_i0 = w2c_l20;
     w2c_i1 = 7u;
     w2c_i0 = w2c_i0 != w2c_i1;
@@ -49931,22 +50025,22 @@ static u32 w2c_f71(module *m, u64 w2c_p0, u64 w2c_p1, u64 w2c_p2) {
     w2c_i0 = 1u;
     w2c_l15 = w2c_i0;
     goto w2c_B19;
-    w2c_B115:;
+    w2c_B39:;
     w2c_i0 = 16u;
     w2c_l21 = w2c_i0;
     w2c_i0 = 0u;
-    w2c_l23 = w2c_i0;
+    w2c_l22 = w2c_i0;
     w2c_i0 = 19u;
     w2c_l17 = w2c_i0;
     w2c_i0 = 0u;
-    w2c_l22 = w2c_i0;
+    w2c_l23 = w2c_i0;
     w2c_i0 = 0u;
     w2c_l15 = w2c_i0;
     w2c_i0 = 0u;
     w2c_l16 = w2c_i0;
     w2c_i0 = w2c_l20;
     switch (w2c_i0) {
-      case 0: goto w2c_B121;
+      case 0: goto w2c_B120;
       case 1: goto w2c_B36;
       case 2: goto w2c_B21;
       case 3: goto w2c_B21;
@@ -49961,9 +50055,9 @@ static u32 w2c_f71(module *m, u64 w2c_p0, u64 w2c_p1, u64 w2c_p2) {
       case 12: goto w2c_B21;
       case 13: goto w2c_B21;
       case 14: goto w2c_B21;
-      default: goto w2c_B121;
+      default: goto w2c_B120;
     }
-    w2c_B121:;
+    w2c_B120:;
     w2c_i0 = w2c_l19;
     w2c_i1 = 1u;
     w2c_i0 &= w2c_i1;
@@ -49971,7 +50065,7 @@ static u32 w2c_f71(module *m, u64 w2c_p0, u64 w2c_p1, u64 w2c_p2) {
     w2c_i0 = 14u;
     w2c_l17 = w2c_i0;
     goto w2c_B23;
-    w2c_B114:;
+    w2c_B38:;
     w2c_i0 = 18u;
     w2c_l21 = w2c_i0;
     w2c_i0 = 0u;
@@ -49981,13 +50075,13 @@ static u32 w2c_f71(module *m, u64 w2c_p0, u64 w2c_p1, u64 w2c_p2) {
     w2c_i0 = w2c_l20;
     w2c_i1 = 1u;
     w2c_i0 = w2c_i0 != w2c_i1;
-    if (w2c_i0) {goto w2c_B122;}
-    w2c_i0 = 0u;
-    w2c_l23 = w2c_i0;
+    if (w2c_i0) {goto w2c_B121;}
     w2c_i0 = 0u;
     w2c_l22 = w2c_i0;
+    w2c_i0 = 0u;
+    w2c_l23 = w2c_i0;
     goto w2c_B36;
-    w2c_B122:;
+    w2c_B121:;
     w2c_i0 = 0u;
     w2c_l16 = w2c_i0;
     w2c_i0 = w2c_l20;
@@ -49995,7 +50089,7 @@ static u32 w2c_f71(module *m, u64 w2c_p0, u64 w2c_p1, u64 w2c_p2) {
     w2c_i0 = w2c_i0 == w2c_i1;
     if (w2c_i0) {goto w2c_B13;}
     goto w2c_B21;
-    w2c_B113:;
+    w2c_B37:;
     w2c_i0 = w2c_l20;
     w2c_i1 = 1u;
     w2c_i0 = w2c_i0 != w2c_i1;
@@ -50003,17 +50097,17 @@ static u32 w2c_f71(module *m, u64 w2c_p0, u64 w2c_p1, u64 w2c_p2) {
     w2c_i0 = w2c_l19;
     w2c_i1 = 1u;
     w2c_i0 &= w2c_i1;
-    w2c_l23 = w2c_i0;
-    w2c_i0 = 0u;
     w2c_l22 = w2c_i0;
+    w2c_i0 = 0u;
+    w2c_l23 = w2c_i0;
     w2c_i0 = 15u;
     w2c_l21 = w2c_i0;
     w2c_B36:;
     w2c_i0 = w2c_l21;
     w2c_l17 = w2c_i0;
-    w2c_i0 = w2c_l23;
-    w2c_l15 = w2c_i0;
     w2c_i0 = w2c_l22;
+    w2c_l15 = w2c_i0;
+    w2c_i0 = w2c_l23;
     w2c_l16 = w2c_i0;
     w2c_j0 = w2c_l14;
     w2c_l7 = w2c_j0;
@@ -50178,17 +50272,17 @@ static u32 w2c_f71(module *m, u64 w2c_p0, u64 w2c_p1, u64 w2c_p2) {
     w2c_j0 = w2c_p1;
     w2c_j1 = 8ull;
     w2c_i0 = w2c_j0 >= w2c_j1;
-    if (w2c_i0) {goto w2c_B124;}
+    if (w2c_i0) {goto w2c_B123;}
     w2c_j0 = 0ull;
     w2c_l13 = w2c_j0;
-    goto w2c_B123;
-    w2c_B124:;
+    goto w2c_B122;
+    w2c_B123:;
     w2c_j0 = 0ull;
     w2c_l13 = w2c_j0;
     w2c_j0 = w2c_l8;
     w2c_j1 = 3ull;
     w2c_i0 = w2c_j0 < w2c_j1;
-    if (w2c_i0) {goto w2c_B123;}
+    if (w2c_i0) {goto w2c_B122;}
     w2c_j0 = w2c_p1;
     w2c_j1 = 18446744073709551607ull;
     w2c_j0 += w2c_j1;
@@ -50197,7 +50291,7 @@ static u32 w2c_f71(module *m, u64 w2c_p0, u64 w2c_p1, u64 w2c_p2) {
     w2c_l13 = w2c_j0;
     w2c_j0 = 0ull;
     w2c_p0 = w2c_j0;
-    w2c_L125:
+    w2c_L124:
       w2c_j0 = w2c_l5;
       w2c_j1 = w2c_p0;
       w2c_j0 += w2c_j1;
@@ -50207,7 +50301,7 @@ static u32 w2c_f71(module *m, u64 w2c_p0, u64 w2c_p1, u64 w2c_p2) {
       w2c_j0 &= w2c_j1;
       w2c_j1 = 63050398541283552ull;
       w2c_i0 = w2c_j0 != w2c_j1;
-      if (w2c_i0) {goto w2c_B123;}
+      if (w2c_i0) {goto w2c_B122;}
       w2c_j0 = w2c_l13;
       w2c_j1 = 3ull;
       w2c_j0 += w2c_j1;
@@ -50219,7 +50313,7 @@ static u32 w2c_f71(module *m, u64 w2c_p0, u64 w2c_p1, u64 w2c_p2) {
       w2c_j0 = w2c_l4;
       w2c_j1 = 3ull;
       w2c_i0 = w2c_j0 < w2c_j1;
-      if (w2c_i0) {goto w2c_B123;}
+      if (w2c_i0) {goto w2c_B122;}
       w2c_j0 = w2c_l4;
       w2c_j1 = 18446744073709551613ull;
       w2c_j0 += w2c_j1;
@@ -50233,21 +50327,21 @@ static u32 w2c_f71(module *m, u64 w2c_p0, u64 w2c_p1, u64 w2c_p2) {
       w2c_j0 += w2c_j1;
       w2c_l12 = w2c_j0;
       w2c_i0 = w2c_l15;
-      if (w2c_i0) {goto w2c_L125;}
-    w2c_B123:;
+      if (w2c_i0) {goto w2c_L124;}
+    w2c_B122:;
     w2c_j0 = w2c_p1;
     w2c_j1 = w2c_p0;
     w2c_i0 = w2c_j0 <= w2c_j1;
-    if (w2c_i0) {goto w2c_B126;}
+    if (w2c_i0) {goto w2c_B125;}
     w2c_j0 = w2c_l13;
     w2c_j1 = w2c_l8;
     w2c_i0 = w2c_j0 >= w2c_j1;
-    if (w2c_i0) {goto w2c_B126;}
+    if (w2c_i0) {goto w2c_B125;}
     w2c_j0 = w2c_l13;
     w2c_j1 = 1ull;
     w2c_j0 += w2c_j1;
     w2c_l4 = w2c_j0;
-    w2c_L127:
+    w2c_L126:
       w2c_j0 = w2c_l5;
       w2c_j1 = w2c_p0;
       w2c_j0 += w2c_j1;
@@ -50268,7 +50362,7 @@ static u32 w2c_f71(module *m, u64 w2c_p0, u64 w2c_p1, u64 w2c_p2) {
       w2c_j0 = w2c_l4;
       w2c_j1 = w2c_l8;
       w2c_i0 = w2c_j0 >= w2c_j1;
-      if (w2c_i0) {goto w2c_B126;}
+      if (w2c_i0) {goto w2c_B125;}
       w2c_j0 = w2c_l4;
       w2c_j1 = 1ull;
       w2c_j0 += w2c_j1;
@@ -50276,8 +50370,8 @@ static u32 w2c_f71(module *m, u64 w2c_p0, u64 w2c_p1, u64 w2c_p2) {
       w2c_j0 = w2c_p1;
       w2c_j1 = w2c_p0;
       w2c_i0 = w2c_j0 > w2c_j1;
-      if (w2c_i0) {goto w2c_L127;}
-    w2c_B126:;
+      if (w2c_i0) {goto w2c_L126;}
+    w2c_B125:;
     w2c_j0 = w2c_p2;
     w2c_i0 = (u32)(w2c_j0);
     w2c_j1 = w2c_p0;
@@ -50435,57 +50529,6 @@ static u32 w2c_f71(module *m, u64 w2c_p0, u64 w2c_p1, u64 w2c_p2) {
   return w2c_i0;
 }
 
-static u32 w2c_chinese_number_find_utf8(module *m, u64 w2c_p0, u64 w2c_p1, u64 w2c_p2, u32 w2c_p3, u32 w2c_p4, u64 w2c_p5, u64 w2c_p6, u64 w2c_p7) {
-  u32 w2c_i0, w2c_i3, w2c_i4;
-  u64 w2c_j0, w2c_j1, w2c_j2, w2c_j5, w2c_j6, w2c_j7;
-  w2c_i0 = w2c_f0(m);
-  w2c_i0 = !(w2c_i0);
-  if (w2c_i0) {goto w2c_B0;}
-  w2c_f2(m);
-  UNREACHABLE;
-  w2c_B0:;
-  w2c_j0 = w2c_p0;
-  w2c_j1 = w2c_p1;
-  w2c_j2 = w2c_p2;
-  w2c_i3 = w2c_p3;
-  w2c_i4 = w2c_p4;
-  w2c_j5 = w2c_p5;
-  w2c_j6 = w2c_p6;
-  w2c_j7 = w2c_p7;
-  w2c_i0 = w2c_f73(m, w2c_j0, w2c_j1, w2c_j2, w2c_i3, w2c_i4, w2c_j5, w2c_j6, w2c_j7);
-  w2c_p4 = w2c_i0;
-  w2c_f1(m);
-  w2c_i0 = w2c_p4;
-  return w2c_i0;
-}
-
-static u32 w2c_f73(module *m, u64 w2c_p0, u64 w2c_p1, u64 w2c_p2, u32 w2c_p3, u32 w2c_p4, u64 w2c_p5, u64 w2c_p6, u64 w2c_p7) {
-  u32 w2c_i0, w2c_i3, w2c_i4, w2c_i8;
-  u64 w2c_j0, w2c_j1, w2c_j2, w2c_j3, w2c_j5, w2c_j6, w2c_j7, w2c_j8;
-  w2c_j0 = w2c_p0;
-  w2c_j1 = 4096ull;
-  w2c_j2 = 0ull;
-  w2c_j3 = w2c_p0;
-  w2c_i3 = !(w2c_j3);
-  w2c_j1 = w2c_i3 ? w2c_j1 : w2c_j2;
-  w2c_j0 += w2c_j1;
-  w2c_j1 = w2c_p1;
-  w2c_j2 = w2c_p2;
-  w2c_i3 = w2c_p3;
-  w2c_i4 = w2c_p4;
-  w2c_j5 = w2c_p5;
-  w2c_j6 = 4096ull;
-  w2c_j7 = 0ull;
-  w2c_j8 = w2c_p5;
-  w2c_i8 = !(w2c_j8);
-  w2c_j6 = w2c_i8 ? w2c_j6 : w2c_j7;
-  w2c_j5 += w2c_j6;
-  w2c_j6 = w2c_p6;
-  w2c_j7 = w2c_p7;
-  w2c_i0 = w2c_f14(m, w2c_j0, w2c_j1, w2c_j2, w2c_i3, w2c_i4, w2c_j5, w2c_j6, w2c_j7);
-  return w2c_i0;
-}
-
 static u32 w2c_chinese_number_find(module *m, u64 w2c_p0, u64 w2c_p1, u64 w2c_p2, u32 w2c_p3, u32 w2c_p4, u64 w2c_p5, u64 w2c_p6, u64 w2c_p7) {
   u32 w2c_i0, w2c_i3, w2c_i4;
   u64 w2c_j0, w2c_j1, w2c_j2, w2c_j5, w2c_j6, w2c_j7;
@@ -50511,39 +50554,22 @@ static u32 w2c_chinese_number_find(module *m, u64 w2c_p0, u64 w2c_p1, u64 w2c_p2
 }
 
 static u32 w2c_f75(module *m, u64 w2c_p0, u64 w2c_p1, u64 w2c_p2, u32 w2c_p3, u32 w2c_p4, u64 w2c_p5, u64 w2c_p6, u64 w2c_p7) {
-  u32 w2c_l12 = 0, w2c_l13 = 0, w2c_l14 = 0, w2c_l15 = 0, w2c_l16 = 0;
-  u64 w2c_l8 = 0, w2c_l9 = 0, w2c_l10 = 0, w2c_l11 = 0;
-  u32 w2c_i0, w2c_i1, w2c_i2, w2c_i3, w2c_i4;
-  u64 w2c_j0, w2c_j1, w2c_j2, w2c_j3, w2c_j5, w2c_j6, w2c_j7;
+  u64 w2c_l8 = 0;
+  u32 w2c_i0, w2c_i1, w2c_i3, w2c_i4, w2c_i8;
+  u64 w2c_j0, w2c_j1, w2c_j2, w2c_j3, w2c_j5, w2c_j6, w2c_j7, w2c_j8;
   w2c_j0 = m->w2c_g0;
   w2c_l8 = w2c_j0;
   w2c_j1 = 16ull;
   w2c_i0 = (u64)((s64)w2c_j0 < (s64)w2c_j1);
-  if (w2c_i0) {goto w2c_B0;}
-  w2c_j0 = w2c_p7;
-  w2c_i0 = (u32)(w2c_j0);
-  w2c_j1 = 0ull;
-  i64_store(m, (u64)(w2c_i0), w2c_j1);
-  w2c_i0 = 8u;
-  w2c_l12 = w2c_i0;
+  if (w2c_i0) {goto w2c_B2;}
   w2c_i0 = w2c_p3;
   w2c_i1 = 1u;
   w2c_i0 = w2c_i0 > w2c_i1;
   if (w2c_i0) {goto w2c_B1;}
   w2c_i0 = w2c_p4;
-  w2c_i1 = 15u;
-  w2c_i0 = w2c_i0 > w2c_i1;
-  if (w2c_i0) {goto w2c_B1;}
-  w2c_j0 = w2c_p5;
-  w2c_j1 = 4096ull;
-  w2c_j2 = 0ull;
-  w2c_j3 = w2c_p5;
-  w2c_i3 = !(w2c_j3);
-  w2c_j1 = w2c_i3 ? w2c_j1 : w2c_j2;
-  w2c_j0 += w2c_j1;
-  w2c_l9 = w2c_j0;
-  w2c_j0 = w2c_p1;
-  w2c_l10 = w2c_j0;
+  w2c_i1 = 16u;
+  w2c_i0 = w2c_i0 >= w2c_i1;
+  if (w2c_i0) {goto w2c_B3;}
   w2c_j0 = w2c_p0;
   w2c_j1 = 4096ull;
   w2c_j2 = 0ull;
@@ -50551,336 +50577,47 @@ static u32 w2c_f75(module *m, u64 w2c_p0, u64 w2c_p1, u64 w2c_p2, u32 w2c_p3, u3
   w2c_i3 = !(w2c_j3);
   w2c_j1 = w2c_i3 ? w2c_j1 : w2c_j2;
   w2c_j0 += w2c_j1;
-  w2c_l11 = w2c_j0;
-  w2c_p5 = w2c_j0;
-  w2c_j0 = w2c_p1;
-  w2c_j1 = 4ull;
-  w2c_i0 = w2c_j0 < w2c_j1;
-  if (w2c_i0) {goto w2c_B4;}
-  w2c_j0 = w2c_l11;
-  w2c_p5 = w2c_j0;
-  w2c_j0 = w2c_p1;
-  w2c_l10 = w2c_j0;
-  w2c_L5:
-    w2c_j0 = w2c_p5;
-    w2c_i0 = (u32)(w2c_j0);
-    w2c_i0 = i32_load(m, (u64)(w2c_i0));
-    w2c_i1 = 16776989u;
-    w2c_i0 += w2c_i1;
-    w2c_i1 = 12632312u;
-    w2c_i0 &= w2c_i1;
-    w2c_i1 = 8421376u;
-    w2c_i0 = w2c_i0 != w2c_i1;
-    if (w2c_i0) {goto w2c_B3;}
-    w2c_j0 = w2c_p5;
-    w2c_j1 = 3ull;
-    w2c_j0 += w2c_j1;
-    w2c_p5 = w2c_j0;
-    w2c_j0 = w2c_l10;
-    w2c_j1 = 18446744073709551613ull;
-    w2c_j0 += w2c_j1;
-    w2c_l10 = w2c_j0;
-    w2c_j1 = 3ull;
-    w2c_i0 = w2c_j0 > w2c_j1;
-    if (w2c_i0) {goto w2c_L5;}
-  w2c_B4:;
-  w2c_j0 = w2c_l10;
-  w2c_j1 = 3ull;
-  w2c_i0 = w2c_j0 > w2c_j1;
-  if (w2c_i0) {goto w2c_B3;}
-  w2c_j0 = w2c_l10;
-  w2c_i0 = (u32)(w2c_j0);
-  switch (w2c_i0) {
-    case 0: goto w2c_B2;
-    case 1: goto w2c_B3;
-    case 2: goto w2c_B3;
-    case 3: goto w2c_B6;
-    default: goto w2c_B2;
-  }
-  w2c_B6:;
-  w2c_j0 = w2c_p5;
-  w2c_i0 = (u32)(w2c_j0);
-  w2c_i0 = i32_load16_u(m, (u64)(w2c_i0));
-  w2c_j1 = w2c_p5;
-  w2c_j2 = 2ull;
-  w2c_j1 += w2c_j2;
-  w2c_i1 = (u32)(w2c_j1);
-  w2c_i1 = i32_load8_u(m, (u64)(w2c_i1));
-  w2c_i2 = 16u;
-  w2c_i1 <<= (w2c_i2 & 31);
-  w2c_i0 |= w2c_i1;
-  w2c_i1 = 16776989u;
-  w2c_i0 += w2c_i1;
-  w2c_i1 = 12632312u;
-  w2c_i0 &= w2c_i1;
-  w2c_i1 = 8421376u;
-  w2c_i0 = w2c_i0 == w2c_i1;
-  if (w2c_i0) {goto w2c_B2;}
-  w2c_B3:;
-  w2c_j0 = w2c_p1;
-  w2c_i0 = !(w2c_j0);
-  if (w2c_i0) {goto w2c_B2;}
-  w2c_j0 = w2c_l11;
-  w2c_l10 = w2c_j0;
-  w2c_j0 = w2c_p1;
-  w2c_p5 = w2c_j0;
-  w2c_L7:
-    w2c_j0 = w2c_p5;
-    w2c_j1 = 4ull;
-    w2c_i0 = w2c_j0 < w2c_j1;
-    if (w2c_i0) {goto w2c_B11;}
-    w2c_j0 = w2c_l10;
-    w2c_i0 = (u32)(w2c_j0);
-    w2c_i0 = i32_load(m, (u64)(w2c_i0));
-    w2c_l13 = w2c_i0;
-    w2c_i1 = 16776989u;
-    w2c_i0 += w2c_i1;
-    w2c_i1 = 12632312u;
-    w2c_i0 &= w2c_i1;
-    w2c_i1 = 8421376u;
-    w2c_i0 = w2c_i0 != w2c_i1;
-    if (w2c_i0) {goto w2c_B12;}
-    w2c_j0 = 3ull;
-    w2c_p0 = w2c_j0;
-    goto w2c_B8;
-    w2c_B12:;
-    w2c_i0 = w2c_l13;
-    w2c_i1 = 2155905152u;
-    w2c_i0 &= w2c_i1;
-    w2c_i0 = !(w2c_i0);
-    if (w2c_i0) {goto w2c_B13;}
-    w2c_i0 = w2c_l13;
-    w2c_i1 = 8u;
-    w2c_i0 >>= (w2c_i1 & 31);
-    w2c_l14 = w2c_i0;
-    w2c_i0 = w2c_l13;
-    w2c_i1 = 16u;
-    w2c_i0 >>= (w2c_i1 & 31);
-    w2c_l15 = w2c_i0;
-    goto w2c_B10;
-    w2c_B13:;
-    w2c_j0 = 4ull;
-    w2c_p0 = w2c_j0;
-    goto w2c_B8;
-    w2c_B11:;
-    w2c_j0 = w2c_l10;
-    w2c_i0 = (u32)(w2c_j0);
-    w2c_i0 = i32_load8_u(m, (u64)(w2c_i0));
-    w2c_l13 = w2c_i0;
-    w2c_i0 = 0u;
-    w2c_l15 = w2c_i0;
-    w2c_j0 = w2c_p5;
-    w2c_j1 = 18446744073709551615ull;
-    w2c_j0 += w2c_j1;
-    w2c_p0 = w2c_j0;
-    w2c_j1 = 2ull;
-    w2c_i0 = w2c_j0 > w2c_j1;
-    if (w2c_i0) {goto w2c_B14;}
-    w2c_i0 = 0u;
-    w2c_l14 = w2c_i0;
-    w2c_j0 = w2c_p0;
-    w2c_i0 = (u32)(w2c_j0);
-    switch (w2c_i0) {
-      case 0: goto w2c_B9;
-      case 1: goto w2c_B14;
-      case 2: goto w2c_B15;
-      default: goto w2c_B9;
-    }
-    w2c_B15:;
-    w2c_j0 = w2c_l10;
-    w2c_j1 = 1ull;
-    w2c_j0 += w2c_j1;
-    w2c_i0 = (u32)(w2c_j0);
-    w2c_i0 = i32_load8_u(m, (u64)(w2c_i0));
-    w2c_l14 = w2c_i0;
-    w2c_i1 = 8u;
-    w2c_i0 <<= (w2c_i1 & 31);
-    w2c_i1 = w2c_l13;
-    w2c_i0 |= w2c_i1;
-    w2c_j1 = w2c_l10;
-    w2c_j2 = 2ull;
-    w2c_j1 += w2c_j2;
-    w2c_i1 = (u32)(w2c_j1);
-    w2c_i1 = i32_load8_u(m, (u64)(w2c_i1));
-    w2c_l15 = w2c_i1;
-    w2c_i2 = 16u;
-    w2c_i1 <<= (w2c_i2 & 31);
-    w2c_i0 |= w2c_i1;
-    w2c_i1 = 16776989u;
-    w2c_i0 += w2c_i1;
-    w2c_i1 = 12632312u;
-    w2c_i0 &= w2c_i1;
-    w2c_i1 = 8421376u;
-    w2c_i0 = w2c_i0 != w2c_i1;
-    if (w2c_i0) {goto w2c_B10;}
-    w2c_j0 = 3ull;
-    w2c_p0 = w2c_j0;
-    goto w2c_B8;
-    w2c_B14:;
-    w2c_j0 = w2c_l10;
-    w2c_j1 = 1ull;
-    w2c_j0 += w2c_j1;
-    w2c_i0 = (u32)(w2c_j0);
-    w2c_i0 = i32_load8_u(m, (u64)(w2c_i0));
-    w2c_l14 = w2c_i0;
-    goto w2c_B9;
-    w2c_B10:;
-    w2c_i0 = w2c_l15;
-    w2c_i0 = (u32)(s32)(s8)(u8)(w2c_i0);
-    w2c_i1 = 4294967232u;
-    w2c_i0 = (u32)((s32)w2c_i0 < (s32)w2c_i1);
-    w2c_l15 = w2c_i0;
-    w2c_B9:;
-    w2c_i0 = w2c_l13;
-    w2c_i0 = (u32)(s32)(s8)(u8)(w2c_i0);
-    w2c_i1 = 4294967295u;
-    w2c_i0 = (u32)((s32)w2c_i0 <= (s32)w2c_i1);
-    if (w2c_i0) {goto w2c_B16;}
-    w2c_j0 = 1ull;
-    w2c_p0 = w2c_j0;
-    goto w2c_B8;
-    w2c_B16:;
-    w2c_i0 = w2c_l13;
-    w2c_i1 = 255u;
-    w2c_i0 &= w2c_i1;
-    w2c_l12 = w2c_i0;
-    w2c_i1 = 223u;
-    w2c_i0 = w2c_i0 > w2c_i1;
-    if (w2c_i0) {goto w2c_B17;}
-    w2c_i0 = 5u;
-    w2c_l12 = w2c_i0;
-    w2c_i0 = w2c_l14;
-    w2c_i0 = (u32)(s32)(s8)(u8)(w2c_i0);
-    w2c_i1 = 4294967231u;
-    w2c_i0 = (u32)((s32)w2c_i0 > (s32)w2c_i1);
-    if (w2c_i0) {goto w2c_B1;}
-    w2c_i0 = w2c_l13;
-    w2c_i1 = 255u;
-    w2c_i0 &= w2c_i1;
-    w2c_i1 = 193u;
-    w2c_i0 = w2c_i0 <= w2c_i1;
-    if (w2c_i0) {goto w2c_B1;}
-    w2c_j0 = 2ull;
-    w2c_p0 = w2c_j0;
-    goto w2c_B8;
-    w2c_B17:;
-    w2c_i0 = w2c_l12;
-    w2c_i1 = 239u;
-    w2c_i0 = w2c_i0 > w2c_i1;
-    if (w2c_i0) {goto w2c_B18;}
-    w2c_i0 = 5u;
-    w2c_l12 = w2c_i0;
-    w2c_i0 = w2c_l14;
-    w2c_i0 = (u32)(s32)(s8)(u8)(w2c_i0);
-    w2c_i1 = 4294967231u;
-    w2c_i0 = (u32)((s32)w2c_i0 > (s32)w2c_i1);
-    w2c_i1 = w2c_l15;
-    w2c_i2 = 1u;
-    w2c_i1 ^= w2c_i2;
-    w2c_i0 |= w2c_i1;
-    if (w2c_i0) {goto w2c_B1;}
-    w2c_i0 = w2c_l13;
-    w2c_i1 = 255u;
-    w2c_i0 &= w2c_i1;
-    w2c_i1 = 6u;
-    w2c_i0 <<= (w2c_i1 & 31);
-    w2c_i1 = w2c_l14;
-    w2c_i2 = 255u;
-    w2c_i1 &= w2c_i2;
-    w2c_i0 += w2c_i1;
-    w2c_l13 = w2c_i0;
-    w2c_i1 = 14496u;
-    w2c_i0 = w2c_i0 < w2c_i1;
-    if (w2c_i0) {goto w2c_B1;}
-    w2c_i0 = w2c_l13;
-    w2c_i1 = 32736u;
-    w2c_i0 &= w2c_i1;
-    w2c_i1 = 15328u;
-    w2c_i0 = w2c_i0 == w2c_i1;
-    if (w2c_i0) {goto w2c_B1;}
-    w2c_j0 = 3ull;
-    w2c_p0 = w2c_j0;
-    goto w2c_B8;
-    w2c_B18:;
-    w2c_j0 = 4ull;
-    w2c_p0 = w2c_j0;
-    w2c_i0 = 0u;
-    w2c_l16 = w2c_i0;
-    w2c_j0 = w2c_p5;
-    w2c_j1 = 4ull;
-    w2c_i0 = w2c_j0 < w2c_j1;
-    if (w2c_i0) {goto w2c_B19;}
-    w2c_j0 = w2c_l10;
-    w2c_j1 = 3ull;
-    w2c_j0 += w2c_j1;
-    w2c_i0 = (u32)(w2c_j0);
-    w2c_i0 = i32_load8_s(m, (u64)(w2c_i0));
-    w2c_i1 = 4294967232u;
-    w2c_i0 = (u32)((s32)w2c_i0 < (s32)w2c_i1);
-    w2c_l16 = w2c_i0;
-    w2c_B19:;
-    w2c_i0 = 5u;
-    w2c_l12 = w2c_i0;
-    w2c_i0 = w2c_l15;
-    w2c_i1 = w2c_l14;
-    w2c_i1 = (u32)(s32)(s8)(u8)(w2c_i1);
-    w2c_i2 = 4294967232u;
-    w2c_i1 = (u32)((s32)w2c_i1 < (s32)w2c_i2);
-    w2c_i2 = w2c_l16;
-    w2c_i1 &= w2c_i2;
-    w2c_i0 &= w2c_i1;
-    w2c_i1 = 1u;
-    w2c_i0 = w2c_i0 != w2c_i1;
-    if (w2c_i0) {goto w2c_B1;}
-    w2c_i0 = w2c_l14;
-    w2c_i1 = 255u;
-    w2c_i0 &= w2c_i1;
-    w2c_i1 = w2c_l13;
-    w2c_i2 = 255u;
-    w2c_i1 &= w2c_i2;
-    w2c_i2 = 6u;
-    w2c_i1 <<= (w2c_i2 & 31);
-    w2c_i0 += w2c_i1;
-    w2c_i1 = 4294951792u;
-    w2c_i0 += w2c_i1;
-    w2c_i1 = 255u;
-    w2c_i0 = w2c_i0 > w2c_i1;
-    if (w2c_i0) {goto w2c_B1;}
-    w2c_B8:;
-    w2c_j0 = w2c_l10;
-    w2c_j1 = w2c_p0;
-    w2c_j0 += w2c_j1;
-    w2c_l10 = w2c_j0;
-    w2c_j0 = w2c_p5;
-    w2c_j1 = w2c_p0;
-    w2c_j0 -= w2c_j1;
-    w2c_p5 = w2c_j0;
-    w2c_j1 = 0ull;
-    w2c_i0 = w2c_j0 != w2c_j1;
-    if (w2c_i0) {goto w2c_L7;}
-  w2c_B2:;
-  w2c_j0 = w2c_l11;
   w2c_j1 = w2c_p1;
   w2c_j2 = w2c_p2;
   w2c_i3 = w2c_p3;
   w2c_i4 = w2c_p4;
-  w2c_j5 = w2c_l9;
+  w2c_j5 = w2c_p5;
+  w2c_j6 = 4096ull;
+  w2c_j7 = 0ull;
+  w2c_j8 = w2c_p5;
+  w2c_i8 = !(w2c_j8);
+  w2c_j6 = w2c_i8 ? w2c_j6 : w2c_j7;
+  w2c_j5 += w2c_j6;
   w2c_j6 = w2c_p6;
   w2c_j7 = w2c_p7;
-  w2c_i0 = w2c_f14(m, w2c_j0, w2c_j1, w2c_j2, w2c_i3, w2c_i4, w2c_j5, w2c_j6, w2c_j7);
-  w2c_l12 = w2c_i0;
-  w2c_B1:;
+  w2c_i0 = w2c_f15(m, w2c_j0, w2c_j1, w2c_j2, w2c_i3, w2c_i4, w2c_j5, w2c_j6, w2c_j7);
+  w2c_p3 = w2c_i0;
   w2c_j0 = w2c_l8;
   m->w2c_g0 = w2c_j0;
-  w2c_i0 = w2c_l12;
+  w2c_i0 = w2c_p3;
   goto w2c_Bfunc;
-  w2c_B0:;
+  w2c_B3:;
+  w2c_j0 = w2c_p7;
+  w2c_i0 = (u32)(w2c_j0);
+  w2c_j1 = 0ull;
+  i64_store(m, (u64)(w2c_i0), w2c_j1);
+  goto w2c_B0;
+  w2c_B2:;
   UNREACHABLE;
+  w2c_B1:;
+  w2c_j0 = w2c_p7;
+  w2c_i0 = (u32)(w2c_j0);
+  w2c_j1 = 0ull;
+  i64_store(m, (u64)(w2c_i0), w2c_j1);
+  w2c_B0:;
+  w2c_j0 = w2c_l8;
+  m->w2c_g0 = w2c_j0;
+  w2c_i0 = 8u;
   w2c_Bfunc:;
   return w2c_i0;
 }
 
-static u32 w2c_chinese_quantity_find_utf8(module *m, u64 w2c_p0, u64 w2c_p1, u64 w2c_p2, u32 w2c_p3, u32 w2c_p4, u64 w2c_p5, u64 w2c_p6, u64 w2c_p7) {
+static u32 w2c_chinese_number_find_utf8(module *m, u64 w2c_p0, u64 w2c_p1, u64 w2c_p2, u32 w2c_p3, u32 w2c_p4, u64 w2c_p5, u64 w2c_p6, u64 w2c_p7) {
   u32 w2c_i0, w2c_i3, w2c_i4;
   u64 w2c_j0, w2c_j1, w2c_j2, w2c_j5, w2c_j6, w2c_j7;
   w2c_i0 = w2c_f0(m);
@@ -50905,8 +50642,35 @@ static u32 w2c_chinese_quantity_find_utf8(module *m, u64 w2c_p0, u64 w2c_p1, u64
 }
 
 static u32 w2c_f77(module *m, u64 w2c_p0, u64 w2c_p1, u64 w2c_p2, u32 w2c_p3, u32 w2c_p4, u64 w2c_p5, u64 w2c_p6, u64 w2c_p7) {
-  u32 w2c_i0, w2c_i3, w2c_i4, w2c_i8;
+  u64 w2c_l8 = 0;
+  u32 w2c_i0, w2c_i1, w2c_i3, w2c_i4, w2c_i8;
   u64 w2c_j0, w2c_j1, w2c_j2, w2c_j3, w2c_j5, w2c_j6, w2c_j7, w2c_j8;
+  w2c_j0 = m->w2c_g0;
+  w2c_l8 = w2c_j0;
+  w2c_j1 = 16ull;
+  w2c_i0 = (u64)((s64)w2c_j0 < (s64)w2c_j1);
+  if (w2c_i0) {goto w2c_B3;}
+  w2c_i0 = w2c_p3;
+  w2c_i1 = 1u;
+  w2c_i0 = w2c_i0 > w2c_i1;
+  if (w2c_i0) {goto w2c_B2;}
+  w2c_i0 = w2c_p4;
+  w2c_i1 = 16u;
+  w2c_i0 = w2c_i0 >= w2c_i1;
+  if (w2c_i0) {goto w2c_B1;}
+  w2c_j0 = w2c_p2;
+  w2c_j1 = w2c_p1;
+  w2c_i0 = w2c_j0 != w2c_j1;
+  if (w2c_i0) {goto w2c_B4;}
+  w2c_j0 = w2c_p7;
+  w2c_i0 = (u32)(w2c_j0);
+  w2c_j1 = 0ull;
+  i64_store(m, (u64)(w2c_i0), w2c_j1);
+  w2c_j0 = w2c_l8;
+  m->w2c_g0 = w2c_j0;
+  w2c_i0 = 0u;
+  goto w2c_Bfunc;
+  w2c_B4:;
   w2c_j0 = w2c_p0;
   w2c_j1 = 4096ull;
   w2c_j2 = 0ull;
@@ -50927,11 +50691,34 @@ static u32 w2c_f77(module *m, u64 w2c_p0, u64 w2c_p1, u64 w2c_p2, u32 w2c_p3, u3
   w2c_j5 += w2c_j6;
   w2c_j6 = w2c_p6;
   w2c_j7 = w2c_p7;
-  w2c_i0 = w2c_f21(m, w2c_j0, w2c_j1, w2c_j2, w2c_i3, w2c_i4, w2c_j5, w2c_j6, w2c_j7);
+  w2c_i0 = w2c_f16(m, w2c_j0, w2c_j1, w2c_j2, w2c_i3, w2c_i4, w2c_j5, w2c_j6, w2c_j7);
+  w2c_p3 = w2c_i0;
+  w2c_j0 = w2c_l8;
+  m->w2c_g0 = w2c_j0;
+  w2c_i0 = w2c_p3;
+  goto w2c_Bfunc;
+  w2c_B3:;
+  UNREACHABLE;
+  w2c_B2:;
+  w2c_j0 = w2c_p7;
+  w2c_i0 = (u32)(w2c_j0);
+  w2c_j1 = 0ull;
+  i64_store(m, (u64)(w2c_i0), w2c_j1);
+  goto w2c_B0;
+  w2c_B1:;
+  w2c_j0 = w2c_p7;
+  w2c_i0 = (u32)(w2c_j0);
+  w2c_j1 = 0ull;
+  i64_store(m, (u64)(w2c_i0), w2c_j1);
+  w2c_B0:;
+  w2c_j0 = w2c_l8;
+  m->w2c_g0 = w2c_j0;
+  w2c_i0 = 8u;
+  w2c_Bfunc:;
   return w2c_i0;
 }
 
-static u32 w2c_chinese_quantity_find(module *m, u64 w2c_p0, u64 w2c_p1, u64 w2c_p2, u32 w2c_p3, u32 w2c_p4, u64 w2c_p5, u64 w2c_p6, u64 w2c_p7) {
+static u32 w2c_chinese_quantity_find_utf8(module *m, u64 w2c_p0, u64 w2c_p1, u64 w2c_p2, u32 w2c_p3, u32 w2c_p4, u64 w2c_p5, u64 w2c_p6, u64 w2c_p7) {
   u32 w2c_i0, w2c_i3, w2c_i4;
   u64 w2c_j0, w2c_j1, w2c_j2, w2c_j5, w2c_j6, w2c_j7;
   w2c_i0 = w2c_f0(m);
@@ -50956,31 +50743,8 @@ static u32 w2c_chinese_quantity_find(module *m, u64 w2c_p0, u64 w2c_p1, u64 w2c_
 }
 
 static u32 w2c_f79(module *m, u64 w2c_p0, u64 w2c_p1, u64 w2c_p2, u32 w2c_p3, u32 w2c_p4, u64 w2c_p5, u64 w2c_p6, u64 w2c_p7) {
-  u32 w2c_l11 = 0;
-  u64 w2c_l8 = 0, w2c_l9 = 0, w2c_l10 = 0;
-  u32 w2c_i0, w2c_i1, w2c_i2, w2c_i3, w2c_i4, w2c_i8;
+  u32 w2c_i0, w2c_i3, w2c_i4, w2c_i8;
   u64 w2c_j0, w2c_j1, w2c_j2, w2c_j3, w2c_j5, w2c_j6, w2c_j7, w2c_j8;
-  w2c_j0 = m->w2c_g0;
-  w2c_l8 = w2c_j0;
-  w2c_j1 = 16ull;
-  w2c_i0 = (u64)((s64)w2c_j0 < (s64)w2c_j1);
-  if (w2c_i0) {goto w2c_B0;}
-  w2c_j0 = w2c_p7;
-  w2c_i0 = (u32)(w2c_j0);
-  w2c_j1 = 0ull;
-  i64_store(m, (u64)(w2c_i0), w2c_j1);
-  w2c_i0 = 8u;
-  w2c_l11 = w2c_i0;
-  w2c_i0 = w2c_p3;
-  w2c_i1 = 1u;
-  w2c_i0 = w2c_i0 > w2c_i1;
-  if (w2c_i0) {goto w2c_B1;}
-  w2c_i0 = w2c_p4;
-  w2c_i1 = 15u;
-  w2c_i0 = w2c_i0 > w2c_i1;
-  if (w2c_i0) {goto w2c_B1;}
-  w2c_j0 = w2c_p1;
-  w2c_l9 = w2c_j0;
   w2c_j0 = w2c_p0;
   w2c_j1 = 4096ull;
   w2c_j2 = 0ull;
@@ -50988,17 +50752,80 @@ static u32 w2c_f79(module *m, u64 w2c_p0, u64 w2c_p1, u64 w2c_p2, u32 w2c_p3, u3
   w2c_i3 = !(w2c_j3);
   w2c_j1 = w2c_i3 ? w2c_j1 : w2c_j2;
   w2c_j0 += w2c_j1;
-  w2c_l10 = w2c_j0;
+  w2c_j1 = w2c_p1;
+  w2c_j2 = w2c_p2;
+  w2c_i3 = w2c_p3;
+  w2c_i4 = w2c_p4;
+  w2c_j5 = w2c_p5;
+  w2c_j6 = 4096ull;
+  w2c_j7 = 0ull;
+  w2c_j8 = w2c_p5;
+  w2c_i8 = !(w2c_j8);
+  w2c_j6 = w2c_i8 ? w2c_j6 : w2c_j7;
+  w2c_j5 += w2c_j6;
+  w2c_j6 = w2c_p6;
+  w2c_j7 = w2c_p7;
+  w2c_i0 = w2c_f24(m, w2c_j0, w2c_j1, w2c_j2, w2c_i3, w2c_i4, w2c_j5, w2c_j6, w2c_j7);
+  return w2c_i0;
+}
+
+static u32 w2c_chinese_quantity_find(module *m, u64 w2c_p0, u64 w2c_p1, u64 w2c_p2, u32 w2c_p3, u32 w2c_p4, u64 w2c_p5, u64 w2c_p6, u64 w2c_p7) {
+  u32 w2c_i0, w2c_i3, w2c_i4;
+  u64 w2c_j0, w2c_j1, w2c_j2, w2c_j5, w2c_j6, w2c_j7;
+  w2c_i0 = w2c_f0(m);
+  w2c_i0 = !(w2c_i0);
+  if (w2c_i0) {goto w2c_B0;}
+  w2c_f2(m);
+  UNREACHABLE;
+  w2c_B0:;
+  w2c_j0 = w2c_p0;
+  w2c_j1 = w2c_p1;
+  w2c_j2 = w2c_p2;
+  w2c_i3 = w2c_p3;
+  w2c_i4 = w2c_p4;
+  w2c_j5 = w2c_p5;
+  w2c_j6 = w2c_p6;
+  w2c_j7 = w2c_p7;
+  w2c_i0 = w2c_f81(m, w2c_j0, w2c_j1, w2c_j2, w2c_i3, w2c_i4, w2c_j5, w2c_j6, w2c_j7);
+  w2c_p4 = w2c_i0;
+  w2c_f1(m);
+  w2c_i0 = w2c_p4;
+  return w2c_i0;
+}
+
+static u32 w2c_f81(module *m, u64 w2c_p0, u64 w2c_p1, u64 w2c_p2, u32 w2c_p3, u32 w2c_p4, u64 w2c_p5, u64 w2c_p6, u64 w2c_p7) {
+  u64 w2c_l8 = 0, w2c_l9 = 0, w2c_l10 = 0;
+  u32 w2c_i0, w2c_i1, w2c_i2, w2c_i3, w2c_i4, w2c_i8;
+  u64 w2c_j0, w2c_j1, w2c_j2, w2c_j3, w2c_j5, w2c_j6, w2c_j7, w2c_j8;
+  w2c_j0 = m->w2c_g0;
+  w2c_l8 = w2c_j0;
+  w2c_j1 = 16ull;
+  w2c_i0 = (u64)((s64)w2c_j0 < (s64)w2c_j1);
+  if (w2c_i0) {goto w2c_B1;}
+  w2c_i0 = w2c_p3;
+  w2c_i1 = 1u;
+  w2c_i0 = w2c_i0 > w2c_i1;
+  if (w2c_i0) {goto w2c_B0;}
+  w2c_i0 = w2c_p4;
+  w2c_i1 = 15u;
+  w2c_i0 = w2c_i0 > w2c_i1;
+  if (w2c_i0) {goto w2c_B0;}
+  w2c_j0 = w2c_p0;
+  w2c_j1 = 4096ull;
+  w2c_j2 = 0ull;
+  w2c_j3 = w2c_p0;
+  w2c_i3 = !(w2c_j3);
+  w2c_j1 = w2c_i3 ? w2c_j1 : w2c_j2;
+  w2c_j0 += w2c_j1;
+  w2c_l9 = w2c_j0;
   w2c_p0 = w2c_j0;
+  w2c_j0 = w2c_p1;
+  w2c_l10 = w2c_j0;
   w2c_j0 = w2c_p1;
   w2c_j1 = 4ull;
   w2c_i0 = w2c_j0 < w2c_j1;
-  if (w2c_i0) {goto w2c_B4;}
-  w2c_j0 = w2c_l10;
-  w2c_p0 = w2c_j0;
-  w2c_j0 = w2c_p1;
-  w2c_l9 = w2c_j0;
-  w2c_L5:
+  if (w2c_i0) {goto w2c_B5;}
+  w2c_L6:
     w2c_j0 = w2c_p0;
     w2c_i0 = (u32)(w2c_j0);
     w2c_i0 = i32_load(m, (u64)(w2c_i0));
@@ -51008,33 +50835,33 @@ static u32 w2c_f79(module *m, u64 w2c_p0, u64 w2c_p1, u64 w2c_p2, u32 w2c_p3, u3
     w2c_i0 &= w2c_i1;
     w2c_i1 = 8421376u;
     w2c_i0 = w2c_i0 != w2c_i1;
-    if (w2c_i0) {goto w2c_B3;}
+    if (w2c_i0) {goto w2c_B4;}
     w2c_j0 = w2c_p0;
     w2c_j1 = 3ull;
     w2c_j0 += w2c_j1;
     w2c_p0 = w2c_j0;
-    w2c_j0 = w2c_l9;
+    w2c_j0 = w2c_l10;
     w2c_j1 = 18446744073709551613ull;
     w2c_j0 += w2c_j1;
-    w2c_l9 = w2c_j0;
+    w2c_l10 = w2c_j0;
     w2c_j1 = 3ull;
     w2c_i0 = w2c_j0 > w2c_j1;
-    if (w2c_i0) {goto w2c_L5;}
-  w2c_B4:;
-  w2c_j0 = w2c_l9;
+    if (w2c_i0) {goto w2c_L6;}
+  w2c_B5:;
+  w2c_j0 = w2c_l10;
   w2c_j1 = 3ull;
   w2c_i0 = w2c_j0 > w2c_j1;
-  if (w2c_i0) {goto w2c_B3;}
-  w2c_j0 = w2c_l9;
+  if (w2c_i0) {goto w2c_B4;}
+  w2c_j0 = w2c_l10;
   w2c_i0 = (u32)(w2c_j0);
   switch (w2c_i0) {
-    case 0: goto w2c_B2;
-    case 1: goto w2c_B3;
-    case 2: goto w2c_B3;
-    case 3: goto w2c_B6;
-    default: goto w2c_B2;
+    case 0: goto w2c_B3;
+    case 1: goto w2c_B4;
+    case 2: goto w2c_B4;
+    case 3: goto w2c_B7;
+    default: goto w2c_B3;
   }
-  w2c_B6:;
+  w2c_B7:;
   w2c_j0 = w2c_p0;
   w2c_i0 = (u32)(w2c_j0);
   w2c_i0 = i32_load16_u(m, (u64)(w2c_i0));
@@ -51052,17 +50879,15 @@ static u32 w2c_f79(module *m, u64 w2c_p0, u64 w2c_p1, u64 w2c_p2, u32 w2c_p3, u3
   w2c_i0 &= w2c_i1;
   w2c_i1 = 8421376u;
   w2c_i0 = w2c_i0 == w2c_i1;
-  if (w2c_i0) {goto w2c_B2;}
-  w2c_B3:;
-  w2c_i0 = 5u;
-  w2c_l11 = w2c_i0;
-  w2c_j0 = w2c_l10;
+  if (w2c_i0) {goto w2c_B3;}
+  w2c_B4:;
+  w2c_j0 = w2c_l9;
   w2c_j1 = w2c_p1;
   w2c_i0 = w2c_f12(m, w2c_j0, w2c_j1);
   w2c_i0 = !(w2c_i0);
-  if (w2c_i0) {goto w2c_B1;}
-  w2c_B2:;
-  w2c_j0 = w2c_l10;
+  if (w2c_i0) {goto w2c_B2;}
+  w2c_B3:;
+  w2c_j0 = w2c_l9;
   w2c_j1 = w2c_p1;
   w2c_j2 = w2c_p2;
   w2c_i3 = w2c_p3;
@@ -51076,15 +50901,31 @@ static u32 w2c_f79(module *m, u64 w2c_p0, u64 w2c_p1, u64 w2c_p2, u32 w2c_p3, u3
   w2c_j5 += w2c_j6;
   w2c_j6 = w2c_p6;
   w2c_j7 = w2c_p7;
-  w2c_i0 = w2c_f21(m, w2c_j0, w2c_j1, w2c_j2, w2c_i3, w2c_i4, w2c_j5, w2c_j6, w2c_j7);
-  w2c_l11 = w2c_i0;
-  w2c_B1:;
+  w2c_i0 = w2c_f24(m, w2c_j0, w2c_j1, w2c_j2, w2c_i3, w2c_i4, w2c_j5, w2c_j6, w2c_j7);
+  w2c_p3 = w2c_i0;
   w2c_j0 = w2c_l8;
   m->w2c_g0 = w2c_j0;
-  w2c_i0 = w2c_l11;
+  w2c_i0 = w2c_p3;
   goto w2c_Bfunc;
-  w2c_B0:;
+  w2c_B2:;
+  w2c_j0 = w2c_p7;
+  w2c_i0 = (u32)(w2c_j0);
+  w2c_j1 = 0ull;
+  i64_store(m, (u64)(w2c_i0), w2c_j1);
+  w2c_j0 = w2c_l8;
+  m->w2c_g0 = w2c_j0;
+  w2c_i0 = 5u;
+  goto w2c_Bfunc;
+  w2c_B1:;
   UNREACHABLE;
+  w2c_B0:;
+  w2c_j0 = w2c_p7;
+  w2c_i0 = (u32)(w2c_j0);
+  w2c_j1 = 0ull;
+  i64_store(m, (u64)(w2c_i0), w2c_j1);
+  w2c_j0 = w2c_l8;
+  m->w2c_g0 = w2c_j0;
+  w2c_i0 = 8u;
   w2c_Bfunc:;
   return w2c_i0;
 }
@@ -51107,15 +50948,15 @@ static u32 w2c_chinese_number_print(module *m, u64 w2c_p0, u64 w2c_p1, u32 w2c_p
   w2c_j6 = w2c_p6;
   w2c_j7 = w2c_p7;
   w2c_j8 = w2c_p8;
-  w2c_i0 = w2c_f81(m, w2c_j0, w2c_j1, w2c_i2, w2c_i3, w2c_i4, w2c_i5, w2c_j6, w2c_j7, w2c_j8);
+  w2c_i0 = w2c_f83(m, w2c_j0, w2c_j1, w2c_i2, w2c_i3, w2c_i4, w2c_i5, w2c_j6, w2c_j7, w2c_j8);
   w2c_p5 = w2c_i0;
   w2c_f1(m);
   w2c_i0 = w2c_p5;
   return w2c_i0;
 }
 
-static u32 w2c_f81(module *m, u64 w2c_p0, u64 w2c_p1, u32 w2c_p2, u32 w2c_p3, u32 w2c_p4, u32 w2c_p5, u64 w2c_p6, u64 w2c_p7, u64 w2c_p8) {
-  u32 w2c_l18 = 0, w2c_l19 = 0, w2c_l20 = 0, w2c_l21 = 0, w2c_l22 = 0;
+static u32 w2c_f83(module *m, u64 w2c_p0, u64 w2c_p1, u32 w2c_p2, u32 w2c_p3, u32 w2c_p4, u32 w2c_p5, u64 w2c_p6, u64 w2c_p7, u64 w2c_p8) {
+  u32 w2c_l18 = 0, w2c_l19 = 0, w2c_l20 = 0, w2c_l21 = 0;
   u64 w2c_l9 = 0, w2c_l10 = 0, w2c_l11 = 0, w2c_l12 = 0, w2c_l13 = 0, w2c_l14 = 0, w2c_l15 = 0, w2c_l16 = 0, w2c_l17 = 0;
   u32 w2c_i0, w2c_i1, w2c_i2, w2c_i3, w2c_i4;
   u64 w2c_j0, w2c_j1, w2c_j2, w2c_j3, w2c_j4, w2c_j5;
@@ -51128,29 +50969,23 @@ static u32 w2c_f81(module *m, u64 w2c_p0, u64 w2c_p1, u32 w2c_p2, u32 w2c_p3, u3
   w2c_l9 = w2c_j0;
   w2c_j1 = 16ull;
   w2c_i0 = (u64)((s64)w2c_j0 < (s64)w2c_j1);
-  if (w2c_i0) {goto w2c_B6;}
-  w2c_j0 = w2c_p8;
-  w2c_i0 = (u32)(w2c_j0);
-  w2c_j1 = 0ull;
-  i64_store(m, (u64)(w2c_i0), w2c_j1);
-  w2c_i0 = 8u;
-  w2c_l18 = w2c_i0;
+  if (w2c_i0) {goto w2c_B10;}
   w2c_i0 = w2c_p2;
   w2c_i1 = 9u;
   w2c_i0 = w2c_i0 > w2c_i1;
-  if (w2c_i0) {goto w2c_B0;}
+  if (w2c_i0) {goto w2c_B9;}
   w2c_i0 = w2c_p3;
-  w2c_i1 = 4u;
-  w2c_i0 = w2c_i0 > w2c_i1;
-  if (w2c_i0) {goto w2c_B0;}
+  w2c_i1 = 5u;
+  w2c_i0 = w2c_i0 >= w2c_i1;
+  if (w2c_i0) {goto w2c_B8;}
   w2c_i0 = w2c_p4;
-  w2c_i1 = 1u;
-  w2c_i0 = w2c_i0 > w2c_i1;
-  if (w2c_i0) {goto w2c_B0;}
+  w2c_i1 = 2u;
+  w2c_i0 = w2c_i0 >= w2c_i1;
+  if (w2c_i0) {goto w2c_B7;}
   w2c_i0 = w2c_p5;
-  w2c_i1 = 1u;
-  w2c_i0 = w2c_i0 > w2c_i1;
-  if (w2c_i0) {goto w2c_B0;}
+  w2c_i1 = 2u;
+  w2c_i0 = w2c_i0 >= w2c_i1;
+  if (w2c_i0) {goto w2c_B6;}
   w2c_j0 = w2c_p6;
   w2c_j1 = 4096ull;
   w2c_j2 = 0ull;
@@ -51167,25 +51002,25 @@ static u32 w2c_f81(module *m, u64 w2c_p0, u64 w2c_p1, u32 w2c_p2, u32 w2c_p3, u3
   w2c_j0 += w2c_j1;
   w2c_i0 = (u32)(w2c_j0);
   w2c_i0 = i32_load8_u(m, (u64)(w2c_i0));
-  w2c_l19 = w2c_i0;
+  w2c_l18 = w2c_i0;
   w2c_i0 = w2c_p4;
   w2c_j0 = (u64)(w2c_i0);
   w2c_j1 = 65536ull;
   w2c_j0 += w2c_j1;
   w2c_i0 = (u32)(w2c_j0);
   w2c_i0 = i32_load8_u(m, (u64)(w2c_i0));
-  w2c_l20 = w2c_i0;
+  w2c_l19 = w2c_i0;
   w2c_i0 = w2c_p5;
   w2c_j0 = (u64)(w2c_i0);
   w2c_j1 = 65536ull;
   w2c_j0 += w2c_j1;
   w2c_i0 = (u32)(w2c_j0);
   w2c_i0 = i32_load8_u(m, (u64)(w2c_i0));
-  w2c_l21 = w2c_i0;
+  w2c_l20 = w2c_i0;
   w2c_i0 = w2c_p2;
-  w2c_i1 = 5u;
-  w2c_i0 = w2c_i0 < w2c_i1;
-  if (w2c_i0) {goto w2c_B7;}
+  w2c_i1 = 4u;
+  w2c_i0 = w2c_i0 <= w2c_i1;
+  if (w2c_i0) {goto w2c_B11;}
   w2c_j0 = 0ull;
   w2c_j1 = w2c_p0;
   w2c_j0 -= w2c_j1;
@@ -51193,7 +51028,7 @@ static u32 w2c_f81(module *m, u64 w2c_p0, u64 w2c_p1, u32 w2c_p2, u32 w2c_p3, u3
   w2c_j2 = w2c_p1;
   w2c_j3 = 0ull;
   w2c_i2 = (u64)((s64)w2c_j2 < (s64)w2c_j3);
-  w2c_l18 = w2c_i2;
+  w2c_l21 = w2c_i2;
   w2c_j0 = w2c_i2 ? w2c_j0 : w2c_j1;
   w2c_p6 = w2c_j0;
   w2c_i1 = w2c_p2;
@@ -51202,13 +51037,13 @@ static u32 w2c_f81(module *m, u64 w2c_p0, u64 w2c_p1, u32 w2c_p2, u32 w2c_p3, u3
   w2c_j1 <<= (w2c_j2 & 63);
   w2c_j2 = 68032ull;
   w2c_j3 = 68016ull;
-  w2c_i4 = w2c_l18;
+  w2c_i4 = w2c_l21;
   w2c_j2 = w2c_i4 ? w2c_j2 : w2c_j3;
   w2c_j1 += w2c_j2;
   w2c_l11 = w2c_j1;
   w2c_i1 = (u32)(w2c_j1);
   w2c_j1 = i64_load(m, (u64)(w2c_i1));
-  w2c_i0 = w2c_j0 > w2c_j1;
+  w2c_i0 = w2c_j0 <= w2c_j1;
   w2c_j1 = 0ull;
   w2c_j2 = w2c_p1;
   w2c_j3 = w2c_p0;
@@ -51218,29 +51053,32 @@ static u32 w2c_f81(module *m, u64 w2c_p0, u64 w2c_p1, u32 w2c_p2, u32 w2c_p3, u3
   w2c_j2 += w2c_j3;
   w2c_j1 -= w2c_j2;
   w2c_j2 = w2c_p1;
-  w2c_i3 = w2c_l18;
+  w2c_i3 = w2c_l21;
   w2c_j1 = w2c_i3 ? w2c_j1 : w2c_j2;
   w2c_p0 = w2c_j1;
   w2c_j2 = w2c_l11;
   w2c_i2 = (u32)(w2c_j2);
   w2c_j2 = i64_load(m, (u64)(w2c_i2) + 8u);
   w2c_l11 = w2c_j2;
-  w2c_i1 = w2c_j1 > w2c_j2;
+  w2c_i1 = w2c_j1 <= w2c_j2;
   w2c_j2 = w2c_p0;
   w2c_j3 = w2c_l11;
   w2c_i2 = w2c_j2 == w2c_j3;
   w2c_i0 = w2c_i2 ? w2c_i0 : w2c_i1;
-  w2c_i0 = !(w2c_i0);
-  if (w2c_i0) {goto w2c_B8;}
+  if (w2c_i0) {goto w2c_B12;}
+  w2c_j0 = w2c_p8;
+  w2c_i0 = (u32)(w2c_j0);
+  w2c_j1 = 0ull;
+  i64_store(m, (u64)(w2c_i0), w2c_j1);
   w2c_i0 = 7u;
-  w2c_l18 = w2c_i0;
+  w2c_p2 = w2c_i0;
   goto w2c_B0;
-  w2c_B8:;
+  w2c_B12:;
   w2c_j0 = w2c_p1;
   w2c_j1 = 63ull;
   w2c_j0 >>= (w2c_j1 & 63);
   w2c_i0 = (u32)(w2c_j0);
-  w2c_l22 = w2c_i0;
+  w2c_l21 = w2c_i0;
   w2c_j0 = w2c_l9;
   w2c_j1 = 14ull;
   w2c_j0 += w2c_j1;
@@ -51250,7 +51088,7 @@ static u32 w2c_f81(module *m, u64 w2c_p0, u64 w2c_p1, u32 w2c_p2, u32 w2c_p3, u3
   w2c_i2 = (u32)(w2c_j2);
   memory_fill(m, w2c_i0, w2c_i1, w2c_i2);
   w2c_i0 = w2c_p3;
-  if (w2c_i0) {goto w2c_B9;}
+  if (w2c_i0) {goto w2c_B13;}
   w2c_j0 = w2c_l9;
   w2c_i0 = (u32)(w2c_j0);
   w2c_i1 = 0u;
@@ -51268,10 +51106,10 @@ static u32 w2c_f81(module *m, u64 w2c_p0, u64 w2c_p1, u32 w2c_p2, u32 w2c_p3, u3
   w2c_i0 = w2c_p5;
   w2c_i1 = 1u;
   w2c_i0 = w2c_i0 == w2c_i1;
-  w2c_p3 = w2c_i0;
+  w2c_p5 = w2c_i0;
   w2c_j0 = w2c_p0;
   w2c_i0 = !(w2c_j0);
-  if (w2c_i0) {goto w2c_B10;}
+  if (w2c_i0) {goto w2c_B14;}
   w2c_j0 = w2c_p6;
   w2c_j1 = 42ull;
   w2c_j0 >>= (w2c_j1 & 63);
@@ -51290,7 +51128,7 @@ static u32 w2c_f81(module *m, u64 w2c_p0, u64 w2c_p1, u32 w2c_p2, u32 w2c_p3, u3
   w2c_p0 = w2c_j0;
   w2c_j0 = 0ull;
   w2c_p1 = w2c_j0;
-  w2c_L11:
+  w2c_L15:
     w2c_j0 = w2c_p0;
     w2c_j1 = 6ull;
     w2c_j0 += w2c_j1;
@@ -51368,12 +51206,12 @@ static u32 w2c_f81(module *m, u64 w2c_p0, u64 w2c_p1, u32 w2c_p2, u32 w2c_p3, u3
     w2c_p2 = w2c_i1;
     w2c_i2 = 10000u;
     w2c_i1 = DIV_U(w2c_i1, w2c_i2);
-    w2c_l18 = w2c_i1;
+    w2c_p3 = w2c_i1;
     i32_store16(m, (u64)(w2c_i0), w2c_i1);
     w2c_j0 = w2c_p0;
     w2c_i0 = (u32)(w2c_j0);
     w2c_i1 = w2c_p2;
-    w2c_i2 = w2c_l18;
+    w2c_i2 = w2c_p3;
     w2c_i3 = 10000u;
     w2c_i2 *= w2c_i3;
     w2c_i1 -= w2c_i2;
@@ -51419,22 +51257,22 @@ static u32 w2c_f81(module *m, u64 w2c_p0, u64 w2c_p1, u32 w2c_p2, u32 w2c_p3, u3
     w2c_j0 = w2c_l13;
     w2c_j1 = 0ull;
     w2c_i0 = w2c_j0 != w2c_j1;
-    if (w2c_i0) {goto w2c_L11;}
-  w2c_B10:;
-  w2c_j0 = 65564ull;
-  w2c_j1 = 65756ull;
-  w2c_i2 = w2c_p3;
+    if (w2c_i0) {goto w2c_L15;}
+  w2c_B14:;
+  w2c_j0 = 65540ull;
+  w2c_j1 = 65732ull;
+  w2c_i2 = w2c_p5;
   w2c_j0 = w2c_i2 ? w2c_j0 : w2c_j1;
   w2c_l13 = w2c_j0;
-  w2c_j0 = 65948ull;
-  w2c_j1 = 66140ull;
-  w2c_i2 = w2c_p3;
+  w2c_j0 = 65924ull;
+  w2c_j1 = 66116ull;
+  w2c_i2 = w2c_p5;
   w2c_j0 = w2c_i2 ? w2c_j0 : w2c_j1;
   w2c_l12 = w2c_j0;
   w2c_j0 = w2c_p6;
   w2c_j1 = 10000ull;
   w2c_i0 = w2c_j0 < w2c_j1;
-  if (w2c_i0) {goto w2c_B12;}
+  if (w2c_i0) {goto w2c_B16;}
   w2c_j0 = w2c_l9;
   w2c_j1 = 248ull;
   w2c_j0 += w2c_j1;
@@ -51443,7 +51281,7 @@ static u32 w2c_f81(module *m, u64 w2c_p0, u64 w2c_p1, u32 w2c_p2, u32 w2c_p3, u3
   w2c_j1 <<= (w2c_j2 & 63);
   w2c_j0 += w2c_j1;
   w2c_p0 = w2c_j0;
-  w2c_L13:
+  w2c_L17:
     w2c_j0 = w2c_p0;
     w2c_i0 = (u32)(w2c_j0);
     w2c_j1 = w2c_p6;
@@ -51467,8 +51305,8 @@ static u32 w2c_f81(module *m, u64 w2c_p0, u64 w2c_p1, u32 w2c_p2, u32 w2c_p3, u3
     w2c_j0 = w2c_l11;
     w2c_j1 = 99999999ull;
     w2c_i0 = w2c_j0 > w2c_j1;
-    if (w2c_i0) {goto w2c_L13;}
-  w2c_B12:;
+    if (w2c_i0) {goto w2c_L17;}
+  w2c_B16:;
   w2c_j0 = w2c_l12;
   w2c_j1 = w2c_l13;
   w2c_i2 = w2c_p4;
@@ -51494,11 +51332,11 @@ static u32 w2c_f81(module *m, u64 w2c_p0, u64 w2c_p1, u32 w2c_p2, u32 w2c_p3, u3
   w2c_j0 = w2c_p1;
   w2c_i0 = !(w2c_j0);
   w2c_i0 = !(w2c_i0);
-  if (w2c_i0) {goto w2c_B14;}
+  if (w2c_i0) {goto w2c_B18;}
   w2c_j0 = 234ull;
   w2c_l13 = w2c_j0;
-  goto w2c_B3;
-  w2c_B14:;
+  goto w2c_B2;
+  w2c_B18:;
   w2c_j0 = w2c_l15;
   w2c_j1 = 108ull;
   w2c_j0 += w2c_j1;
@@ -51509,7 +51347,7 @@ static u32 w2c_f81(module *m, u64 w2c_p0, u64 w2c_p1, u32 w2c_p2, u32 w2c_p3, u3
   w2c_j1 = 248ull;
   w2c_j0 += w2c_j1;
   w2c_l12 = w2c_j0;
-  w2c_L15:
+  w2c_L19:
     w2c_j0 = w2c_l9;
     w2c_j1 = 14ull;
     w2c_j0 += w2c_j1;
@@ -51550,7 +51388,7 @@ static u32 w2c_f81(module *m, u64 w2c_p0, u64 w2c_p1, u32 w2c_p2, u32 w2c_p3, u3
     w2c_i2 = w2c_p2;
     w2c_i3 = 100u;
     w2c_i2 = DIV_U(w2c_i2, w2c_i3);
-    w2c_l18 = w2c_i2;
+    w2c_p3 = w2c_i2;
     w2c_i3 = 10u;
     w2c_i2 = REM_U(w2c_i2, w2c_i3);
     w2c_i3 = 3u;
@@ -51575,7 +51413,7 @@ static u32 w2c_f81(module *m, u64 w2c_p0, u64 w2c_p1, u32 w2c_p2, u32 w2c_p3, u3
     w2c_i0 = (u32)(w2c_j0);
     w2c_j1 = w2c_l11;
     w2c_i2 = w2c_p2;
-    w2c_i3 = w2c_l18;
+    w2c_i3 = w2c_p3;
     w2c_i4 = 100u;
     w2c_i3 *= w2c_i4;
     w2c_i2 -= w2c_i3;
@@ -51584,7 +51422,7 @@ static u32 w2c_f81(module *m, u64 w2c_p0, u64 w2c_p1, u32 w2c_p2, u32 w2c_p3, u3
     w2c_i2 &= w2c_i3;
     w2c_i3 = 10u;
     w2c_i2 = DIV_U(w2c_i2, w2c_i3);
-    w2c_l18 = w2c_i2;
+    w2c_p3 = w2c_i2;
     w2c_i3 = 3u;
     w2c_i2 *= w2c_i3;
     w2c_j2 = (u64)(w2c_i2);
@@ -51607,7 +51445,7 @@ static u32 w2c_f81(module *m, u64 w2c_p0, u64 w2c_p1, u32 w2c_p2, u32 w2c_p3, u3
     w2c_i0 = (u32)(w2c_j0);
     w2c_j1 = w2c_l11;
     w2c_i2 = w2c_p2;
-    w2c_i3 = w2c_l18;
+    w2c_i3 = w2c_p3;
     w2c_i4 = 10u;
     w2c_i3 *= w2c_i4;
     w2c_i2 -= w2c_i3;
@@ -51643,10 +51481,10 @@ static u32 w2c_f81(module *m, u64 w2c_p0, u64 w2c_p1, u32 w2c_p2, u32 w2c_p3, u3
     w2c_p1 = w2c_j0;
     w2c_i0 = !(w2c_j0);
     w2c_i0 = !(w2c_i0);
-    if (w2c_i0) {goto w2c_L15;}
-    goto w2c_B3;
+    if (w2c_i0) {goto w2c_L19;}
+    goto w2c_B2;
   UNREACHABLE;
-  w2c_B9:;
+  w2c_B13:;
   w2c_j0 = w2c_p6;
   w2c_j1 = 10000000000000000ull;
   w2c_i0 = w2c_j0 < w2c_j1;
@@ -51654,24 +51492,24 @@ static u32 w2c_f81(module *m, u64 w2c_p0, u64 w2c_p1, u32 w2c_p2, u32 w2c_p3, u3
   w2c_j2 = w2c_p0;
   w2c_i2 = !(w2c_j2);
   w2c_i0 = w2c_i2 ? w2c_i0 : w2c_i1;
-  if (w2c_i0) {goto w2c_B17;}
-  w2c_i0 = w2c_l19;
+  if (w2c_i0) {goto w2c_B21;}
+  w2c_i0 = w2c_l18;
   w2c_i1 = 255u;
   w2c_i0 &= w2c_i1;
   w2c_i0 = !(w2c_i0);
-  if (w2c_i0) {goto w2c_B16;}
-  w2c_B17:;
+  if (w2c_i0) {goto w2c_B20;}
+  w2c_B21:;
   w2c_j0 = w2c_l9;
   w2c_i0 = (u32)(w2c_j0);
   w2c_i1 = 0u;
   i32_store(m, (u64)(w2c_i0) + 250, w2c_i1);
   w2c_j0 = w2c_l9;
   w2c_i0 = (u32)(w2c_j0);
-  w2c_i1 = w2c_l21;
+  w2c_i1 = w2c_l20;
   i32_store8(m, (u64)(w2c_i0) + 249, w2c_i1);
   w2c_j0 = w2c_l9;
   w2c_i0 = (u32)(w2c_j0);
-  w2c_i1 = w2c_l20;
+  w2c_i1 = w2c_l19;
   i32_store8(m, (u64)(w2c_i0) + 248, w2c_i1);
   w2c_j0 = w2c_l9;
   w2c_i0 = (u32)(w2c_j0);
@@ -51679,15 +51517,15 @@ static u32 w2c_f81(module *m, u64 w2c_p0, u64 w2c_p1, u32 w2c_p2, u32 w2c_p3, u3
   i32_store16(m, (u64)(w2c_i0) + 254, w2c_i1);
   w2c_j0 = w2c_l9;
   w2c_i0 = (u32)(w2c_j0);
-  w2c_j1 = 65948ull;
-  w2c_j2 = 66140ull;
+  w2c_j1 = 65924ull;
+  w2c_j2 = 66116ull;
   w2c_i3 = w2c_p5;
   w2c_i4 = 1u;
   w2c_i3 = w2c_i3 == w2c_i4;
   w2c_p2 = w2c_i3;
   w2c_j1 = w2c_i3 ? w2c_j1 : w2c_j2;
-  w2c_j2 = 65564ull;
-  w2c_j3 = 65756ull;
+  w2c_j2 = 65540ull;
+  w2c_j3 = 65732ull;
   w2c_i4 = w2c_p2;
   w2c_j2 = w2c_i4 ? w2c_j2 : w2c_j3;
   w2c_i3 = w2c_p4;
@@ -51699,23 +51537,27 @@ static u32 w2c_f81(module *m, u64 w2c_p0, u64 w2c_p1, u32 w2c_p2, u32 w2c_p3, u3
   w2c_j1 = w2c_l9;
   w2c_j2 = 248ull;
   w2c_j1 += w2c_j2;
-  w2c_i2 = w2c_l19;
-  w2c_i3 = w2c_l22;
+  w2c_i2 = w2c_l18;
+  w2c_i3 = w2c_l21;
   w2c_j4 = w2c_p6;
   w2c_j5 = w2c_p0;
-  w2c_j0 = w2c_f27(m, w2c_j0, w2c_j1, w2c_i2, w2c_i3, w2c_j4, w2c_j5);
+  w2c_j0 = w2c_f30(m, w2c_j0, w2c_j1, w2c_i2, w2c_i3, w2c_j4, w2c_j5);
   w2c_p0 = w2c_j0;
-  goto w2c_B2;
-  w2c_B16:;
+  goto w2c_B1;
+  w2c_B20:;
+  w2c_j0 = w2c_p8;
+  w2c_i0 = (u32)(w2c_j0);
+  w2c_j1 = 0ull;
+  i64_store(m, (u64)(w2c_i0), w2c_j1);
   w2c_i0 = 3u;
   w2c_i1 = 4u;
   w2c_j2 = w2c_p1;
   w2c_j3 = 18446744073709551615ull;
   w2c_i2 = (u64)((s64)w2c_j2 > (s64)w2c_j3);
   w2c_i0 = w2c_i2 ? w2c_i0 : w2c_i1;
-  w2c_l18 = w2c_i0;
+  w2c_p2 = w2c_i0;
   goto w2c_B0;
-  w2c_B7:;
+  w2c_B11:;
   w2c_j0 = w2c_p0;
   w2c_i1 = w2c_p2;
   w2c_j1 = (u64)(w2c_i1);
@@ -51724,23 +51566,26 @@ static u32 w2c_f81(module *m, u64 w2c_p0, u64 w2c_p1, u32 w2c_p2, u32 w2c_p3, u3
   w2c_p6 = w2c_j1;
   w2c_i1 = (u32)(w2c_j1);
   w2c_j1 = i64_load(m, (u64)(w2c_i1) + 68016u);
-  w2c_i0 = w2c_j0 > w2c_j1;
+  w2c_i0 = w2c_j0 <= w2c_j1;
   w2c_j1 = w2c_p1;
   w2c_j2 = w2c_p6;
   w2c_i2 = (u32)(w2c_j2);
   w2c_j2 = i64_load(m, (u64)(w2c_i2) + 68024u);
   w2c_p6 = w2c_j2;
-  w2c_i1 = w2c_j1 > w2c_j2;
+  w2c_i1 = w2c_j1 <= w2c_j2;
   w2c_j2 = w2c_p1;
   w2c_j3 = w2c_p6;
   w2c_i2 = w2c_j2 == w2c_j3;
   w2c_i0 = w2c_i2 ? w2c_i0 : w2c_i1;
-  w2c_i0 = !(w2c_i0);
-  if (w2c_i0) {goto w2c_B18;}
+  if (w2c_i0) {goto w2c_B22;}
+  w2c_j0 = w2c_p8;
+  w2c_i0 = (u32)(w2c_j0);
+  w2c_j1 = 0ull;
+  i64_store(m, (u64)(w2c_i0), w2c_j1);
   w2c_i0 = 7u;
-  w2c_l18 = w2c_i0;
+  w2c_p2 = w2c_i0;
   goto w2c_B0;
-  w2c_B18:;
+  w2c_B22:;
   w2c_j0 = w2c_l9;
   w2c_j1 = 14ull;
   w2c_j0 += w2c_j1;
@@ -51750,7 +51595,7 @@ static u32 w2c_f81(module *m, u64 w2c_p0, u64 w2c_p1, u32 w2c_p2, u32 w2c_p3, u3
   w2c_i2 = (u32)(w2c_j2);
   memory_fill(m, w2c_i0, w2c_i1, w2c_i2);
   w2c_i0 = w2c_p3;
-  if (w2c_i0) {goto w2c_B19;}
+  if (w2c_i0) {goto w2c_B23;}
   w2c_j0 = w2c_l9;
   w2c_i0 = (u32)(w2c_j0);
   w2c_i1 = 0u;
@@ -51768,10 +51613,10 @@ static u32 w2c_f81(module *m, u64 w2c_p0, u64 w2c_p1, u32 w2c_p2, u32 w2c_p3, u3
   w2c_i0 = w2c_p5;
   w2c_i1 = 1u;
   w2c_i0 = w2c_i0 == w2c_i1;
-  w2c_p3 = w2c_i0;
+  w2c_p5 = w2c_i0;
   w2c_j0 = w2c_p1;
   w2c_i0 = !(w2c_j0);
-  if (w2c_i0) {goto w2c_B20;}
+  if (w2c_i0) {goto w2c_B24;}
   w2c_j0 = w2c_p0;
   w2c_j1 = 42ull;
   w2c_j0 >>= (w2c_j1 & 63);
@@ -51790,7 +51635,7 @@ static u32 w2c_f81(module *m, u64 w2c_p0, u64 w2c_p1, u32 w2c_p2, u32 w2c_p3, u3
   w2c_p1 = w2c_j0;
   w2c_j0 = 0ull;
   w2c_l11 = w2c_j0;
-  w2c_L21:
+  w2c_L25:
     w2c_j0 = w2c_p1;
     w2c_j1 = 6ull;
     w2c_j0 += w2c_j1;
@@ -51868,12 +51713,12 @@ static u32 w2c_f81(module *m, u64 w2c_p0, u64 w2c_p1, u32 w2c_p2, u32 w2c_p3, u3
     w2c_p2 = w2c_i1;
     w2c_i2 = 10000u;
     w2c_i1 = DIV_U(w2c_i1, w2c_i2);
-    w2c_l18 = w2c_i1;
+    w2c_p3 = w2c_i1;
     i32_store16(m, (u64)(w2c_i0), w2c_i1);
     w2c_j0 = w2c_p1;
     w2c_i0 = (u32)(w2c_j0);
     w2c_i1 = w2c_p2;
-    w2c_i2 = w2c_l18;
+    w2c_i2 = w2c_p3;
     w2c_i3 = 10000u;
     w2c_i2 *= w2c_i3;
     w2c_i1 -= w2c_i2;
@@ -51919,22 +51764,22 @@ static u32 w2c_f81(module *m, u64 w2c_p0, u64 w2c_p1, u32 w2c_p2, u32 w2c_p3, u3
     w2c_j0 = w2c_l13;
     w2c_j1 = 0ull;
     w2c_i0 = w2c_j0 != w2c_j1;
-    if (w2c_i0) {goto w2c_L21;}
-  w2c_B20:;
-  w2c_j0 = 65564ull;
-  w2c_j1 = 65756ull;
-  w2c_i2 = w2c_p3;
+    if (w2c_i0) {goto w2c_L25;}
+  w2c_B24:;
+  w2c_j0 = 65540ull;
+  w2c_j1 = 65732ull;
+  w2c_i2 = w2c_p5;
   w2c_j0 = w2c_i2 ? w2c_j0 : w2c_j1;
   w2c_l13 = w2c_j0;
-  w2c_j0 = 65948ull;
-  w2c_j1 = 66140ull;
-  w2c_i2 = w2c_p3;
+  w2c_j0 = 65924ull;
+  w2c_j1 = 66116ull;
+  w2c_i2 = w2c_p5;
   w2c_j0 = w2c_i2 ? w2c_j0 : w2c_j1;
   w2c_l12 = w2c_j0;
   w2c_j0 = w2c_p0;
   w2c_j1 = 10000ull;
   w2c_i0 = w2c_j0 < w2c_j1;
-  if (w2c_i0) {goto w2c_B22;}
+  if (w2c_i0) {goto w2c_B26;}
   w2c_j0 = w2c_l9;
   w2c_j1 = 248ull;
   w2c_j0 += w2c_j1;
@@ -51943,7 +51788,7 @@ static u32 w2c_f81(module *m, u64 w2c_p0, u64 w2c_p1, u32 w2c_p2, u32 w2c_p3, u3
   w2c_j1 <<= (w2c_j2 & 63);
   w2c_j0 += w2c_j1;
   w2c_p1 = w2c_j0;
-  w2c_L23:
+  w2c_L27:
     w2c_j0 = w2c_p1;
     w2c_i0 = (u32)(w2c_j0);
     w2c_j1 = w2c_p0;
@@ -51967,8 +51812,8 @@ static u32 w2c_f81(module *m, u64 w2c_p0, u64 w2c_p1, u32 w2c_p2, u32 w2c_p3, u3
     w2c_j0 = w2c_p6;
     w2c_j1 = 99999999ull;
     w2c_i0 = w2c_j0 > w2c_j1;
-    if (w2c_i0) {goto w2c_L23;}
-  w2c_B22:;
+    if (w2c_i0) {goto w2c_L27;}
+  w2c_B26:;
   w2c_j0 = w2c_l12;
   w2c_j1 = w2c_l13;
   w2c_i2 = w2c_p4;
@@ -51994,11 +51839,11 @@ static u32 w2c_f81(module *m, u64 w2c_p0, u64 w2c_p1, u32 w2c_p2, u32 w2c_p3, u3
   w2c_j0 = w2c_l11;
   w2c_i0 = !(w2c_j0);
   w2c_i0 = !(w2c_i0);
-  if (w2c_i0) {goto w2c_B24;}
+  if (w2c_i0) {goto w2c_B28;}
   w2c_j0 = 234ull;
   w2c_p1 = w2c_j0;
-  goto w2c_B5;
-  w2c_B24:;
+  goto w2c_B4;
+  w2c_B28:;
   w2c_j0 = w2c_l15;
   w2c_j1 = 108ull;
   w2c_j0 += w2c_j1;
@@ -52009,7 +51854,7 @@ static u32 w2c_f81(module *m, u64 w2c_p0, u64 w2c_p1, u32 w2c_p2, u32 w2c_p3, u3
   w2c_j1 = 248ull;
   w2c_j0 += w2c_j1;
   w2c_l12 = w2c_j0;
-  w2c_L25:
+  w2c_L29:
     w2c_j0 = w2c_l9;
     w2c_j1 = 14ull;
     w2c_j0 += w2c_j1;
@@ -52050,7 +51895,7 @@ static u32 w2c_f81(module *m, u64 w2c_p0, u64 w2c_p1, u32 w2c_p2, u32 w2c_p3, u3
     w2c_i2 = w2c_p2;
     w2c_i3 = 100u;
     w2c_i2 = DIV_U(w2c_i2, w2c_i3);
-    w2c_l18 = w2c_i2;
+    w2c_p3 = w2c_i2;
     w2c_i3 = 10u;
     w2c_i2 = REM_U(w2c_i2, w2c_i3);
     w2c_i3 = 3u;
@@ -52075,7 +51920,7 @@ static u32 w2c_f81(module *m, u64 w2c_p0, u64 w2c_p1, u32 w2c_p2, u32 w2c_p3, u3
     w2c_i0 = (u32)(w2c_j0);
     w2c_j1 = w2c_l13;
     w2c_i2 = w2c_p2;
-    w2c_i3 = w2c_l18;
+    w2c_i3 = w2c_p3;
     w2c_i4 = 100u;
     w2c_i3 *= w2c_i4;
     w2c_i2 -= w2c_i3;
@@ -52084,7 +51929,7 @@ static u32 w2c_f81(module *m, u64 w2c_p0, u64 w2c_p1, u32 w2c_p2, u32 w2c_p3, u3
     w2c_i2 &= w2c_i3;
     w2c_i3 = 10u;
     w2c_i2 = DIV_U(w2c_i2, w2c_i3);
-    w2c_l18 = w2c_i2;
+    w2c_p3 = w2c_i2;
     w2c_i3 = 3u;
     w2c_i2 *= w2c_i3;
     w2c_j2 = (u64)(w2c_i2);
@@ -52107,7 +51952,7 @@ static u32 w2c_f81(module *m, u64 w2c_p0, u64 w2c_p1, u32 w2c_p2, u32 w2c_p3, u3
     w2c_i0 = (u32)(w2c_j0);
     w2c_j1 = w2c_l13;
     w2c_i2 = w2c_p2;
-    w2c_i3 = w2c_l18;
+    w2c_i3 = w2c_p3;
     w2c_i4 = 10u;
     w2c_i3 *= w2c_i4;
     w2c_i2 -= w2c_i3;
@@ -52143,10 +51988,10 @@ static u32 w2c_f81(module *m, u64 w2c_p0, u64 w2c_p1, u32 w2c_p2, u32 w2c_p3, u3
     w2c_l11 = w2c_j0;
     w2c_i0 = !(w2c_j0);
     w2c_i0 = !(w2c_i0);
-    if (w2c_i0) {goto w2c_L25;}
-    goto w2c_B5;
+    if (w2c_i0) {goto w2c_L29;}
+    goto w2c_B4;
   UNREACHABLE;
-  w2c_B19:;
+  w2c_B23:;
   w2c_j0 = w2c_p0;
   w2c_j1 = 10000000000000000ull;
   w2c_i0 = w2c_j0 < w2c_j1;
@@ -52154,26 +51999,24 @@ static u32 w2c_f81(module *m, u64 w2c_p0, u64 w2c_p1, u32 w2c_p2, u32 w2c_p3, u3
   w2c_j2 = w2c_p1;
   w2c_i2 = !(w2c_j2);
   w2c_i0 = w2c_i2 ? w2c_i0 : w2c_i1;
-  if (w2c_i0) {goto w2c_B26;}
-  w2c_i0 = w2c_l19;
+  if (w2c_i0) {goto w2c_B31;}
+  w2c_i0 = w2c_l18;
   w2c_i1 = 255u;
   w2c_i0 &= w2c_i1;
-  if (w2c_i0) {goto w2c_B26;}
-  w2c_i0 = 3u;
-  w2c_l18 = w2c_i0;
-  goto w2c_B0;
-  w2c_B26:;
+  w2c_i0 = !(w2c_i0);
+  if (w2c_i0) {goto w2c_B30;}
+  w2c_B31:;
   w2c_j0 = w2c_l9;
   w2c_i0 = (u32)(w2c_j0);
   w2c_i1 = 0u;
   i32_store(m, (u64)(w2c_i0) + 250, w2c_i1);
   w2c_j0 = w2c_l9;
   w2c_i0 = (u32)(w2c_j0);
-  w2c_i1 = w2c_l21;
+  w2c_i1 = w2c_l20;
   i32_store8(m, (u64)(w2c_i0) + 249, w2c_i1);
   w2c_j0 = w2c_l9;
   w2c_i0 = (u32)(w2c_j0);
-  w2c_i1 = w2c_l20;
+  w2c_i1 = w2c_l19;
   i32_store8(m, (u64)(w2c_i0) + 248, w2c_i1);
   w2c_j0 = w2c_l9;
   w2c_i0 = (u32)(w2c_j0);
@@ -52181,15 +52024,15 @@ static u32 w2c_f81(module *m, u64 w2c_p0, u64 w2c_p1, u32 w2c_p2, u32 w2c_p3, u3
   i32_store16(m, (u64)(w2c_i0) + 254, w2c_i1);
   w2c_j0 = w2c_l9;
   w2c_i0 = (u32)(w2c_j0);
-  w2c_j1 = 65948ull;
-  w2c_j2 = 66140ull;
+  w2c_j1 = 65924ull;
+  w2c_j2 = 66116ull;
   w2c_i3 = w2c_p5;
   w2c_i4 = 1u;
   w2c_i3 = w2c_i3 == w2c_i4;
   w2c_p2 = w2c_i3;
   w2c_j1 = w2c_i3 ? w2c_j1 : w2c_j2;
-  w2c_j2 = 65564ull;
-  w2c_j3 = 65756ull;
+  w2c_j2 = 65540ull;
+  w2c_j3 = 65732ull;
   w2c_i4 = w2c_p2;
   w2c_j2 = w2c_i4 ? w2c_j2 : w2c_j3;
   w2c_i3 = w2c_p4;
@@ -52201,16 +52044,51 @@ static u32 w2c_f81(module *m, u64 w2c_p0, u64 w2c_p1, u32 w2c_p2, u32 w2c_p3, u3
   w2c_j1 = w2c_l9;
   w2c_j2 = 248ull;
   w2c_j1 += w2c_j2;
-  w2c_i2 = w2c_l19;
+  w2c_i2 = w2c_l18;
   w2c_i3 = 0u;
   w2c_j4 = w2c_p0;
   w2c_j5 = w2c_p1;
-  w2c_j0 = w2c_f27(m, w2c_j0, w2c_j1, w2c_i2, w2c_i3, w2c_j4, w2c_j5);
+  w2c_j0 = w2c_f30(m, w2c_j0, w2c_j1, w2c_i2, w2c_i3, w2c_j4, w2c_j5);
   w2c_p1 = w2c_j0;
-  goto w2c_B4;
-  w2c_B6:;
+  goto w2c_B3;
+  w2c_B30:;
+  w2c_j0 = w2c_p8;
+  w2c_i0 = (u32)(w2c_j0);
+  w2c_j1 = 0ull;
+  i64_store(m, (u64)(w2c_i0), w2c_j1);
+  w2c_i0 = 3u;
+  w2c_p2 = w2c_i0;
+  goto w2c_B0;
+  w2c_B10:;
   UNREACHABLE;
+  w2c_B9:;
+  w2c_j0 = w2c_p8;
+  w2c_i0 = (u32)(w2c_j0);
+  w2c_j1 = 0ull;
+  i64_store(m, (u64)(w2c_i0), w2c_j1);
+  goto w2c_B5;
+  w2c_B8:;
+  w2c_j0 = w2c_p8;
+  w2c_i0 = (u32)(w2c_j0);
+  w2c_j1 = 0ull;
+  i64_store(m, (u64)(w2c_i0), w2c_j1);
+  goto w2c_B5;
+  w2c_B7:;
+  w2c_j0 = w2c_p8;
+  w2c_i0 = (u32)(w2c_j0);
+  w2c_j1 = 0ull;
+  i64_store(m, (u64)(w2c_i0), w2c_j1);
+  goto w2c_B5;
+  w2c_B6:;
+  w2c_j0 = w2c_p8;
+  w2c_i0 = (u32)(w2c_j0);
+  w2c_j1 = 0ull;
+  i64_store(m, (u64)(w2c_i0), w2c_j1);
   w2c_B5:;
+  w2c_i0 = 8u;
+  w2c_p2 = w2c_i0;
+  goto w2c_B0;
+  w2c_B4:;
   w2c_j0 = w2c_l16;
   w2c_j1 = w2c_l17;
   w2c_j0 += w2c_j1;
@@ -52222,7 +52100,7 @@ static u32 w2c_f81(module *m, u64 w2c_p0, u64 w2c_p1, u32 w2c_p2, u32 w2c_p3, u3
   w2c_j1 = 108ull;
   w2c_j0 += w2c_j1;
   w2c_l13 = w2c_j0;
-  w2c_L27:
+  w2c_L32:
     w2c_j0 = w2c_l9;
     w2c_j1 = 14ull;
     w2c_j0 += w2c_j1;
@@ -52239,7 +52117,7 @@ static u32 w2c_f81(module *m, u64 w2c_p0, u64 w2c_p1, u32 w2c_p2, u32 w2c_p3, u3
     w2c_i3 &= w2c_i4;
     w2c_i4 = 10u;
     w2c_i3 = DIV_U(w2c_i3, w2c_i4);
-    w2c_l18 = w2c_i3;
+    w2c_p3 = w2c_i3;
     w2c_i4 = 10u;
     w2c_i3 *= w2c_i4;
     w2c_i2 -= w2c_i3;
@@ -52265,7 +52143,7 @@ static u32 w2c_f81(module *m, u64 w2c_p0, u64 w2c_p1, u32 w2c_p2, u32 w2c_p3, u3
     w2c_j1 = 18446744073709551613ull;
     w2c_j0 += w2c_j1;
     w2c_p1 = w2c_j0;
-    w2c_i0 = w2c_l18;
+    w2c_i0 = w2c_p3;
     w2c_p2 = w2c_i0;
     w2c_j0 = w2c_p6;
     w2c_j1 = 18446744073709551615ull;
@@ -52273,8 +52151,8 @@ static u32 w2c_f81(module *m, u64 w2c_p0, u64 w2c_p1, u32 w2c_p2, u32 w2c_p3, u3
     w2c_p6 = w2c_j0;
     w2c_j1 = 0ull;
     w2c_i0 = w2c_j0 != w2c_j1;
-    if (w2c_i0) {goto w2c_L27;}
-  w2c_B4:;
+    if (w2c_i0) {goto w2c_L32;}
+  w2c_B3:;
   w2c_j0 = w2c_p8;
   w2c_i0 = (u32)(w2c_j0);
   w2c_j1 = 234ull;
@@ -52282,17 +52160,15 @@ static u32 w2c_f81(module *m, u64 w2c_p0, u64 w2c_p1, u32 w2c_p2, u32 w2c_p3, u3
   w2c_j1 -= w2c_j2;
   w2c_p0 = w2c_j1;
   i64_store(m, (u64)(w2c_i0), w2c_j1);
+  w2c_i0 = 6u;
+  w2c_p2 = w2c_i0;
   w2c_j0 = w2c_p7;
   w2c_j1 = w2c_p0;
-  w2c_i0 = w2c_j0 >= w2c_j1;
-  if (w2c_i0) {goto w2c_B28;}
-  w2c_i0 = 6u;
-  w2c_l18 = w2c_i0;
-  goto w2c_B0;
-  w2c_B28:;
+  w2c_i0 = w2c_j0 < w2c_j1;
+  if (w2c_i0) {goto w2c_B0;}
   w2c_j0 = w2c_p0;
   w2c_i0 = !(w2c_j0);
-  if (w2c_i0) {goto w2c_B1;}
+  if (w2c_i0) {goto w2c_B33;}
   w2c_j0 = w2c_l10;
   w2c_i0 = (u32)(w2c_j0);
   w2c_j1 = w2c_l9;
@@ -52304,8 +52180,11 @@ static u32 w2c_f81(module *m, u64 w2c_p0, u64 w2c_p1, u32 w2c_p2, u32 w2c_p3, u3
   w2c_j2 = w2c_p0;
   w2c_i2 = (u32)(w2c_j2);
   memory_copy(m, w2c_i0, w2c_i1, w2c_i2);
-  goto w2c_B1;
-  w2c_B3:;
+  w2c_B33:;
+  w2c_i0 = 0u;
+  w2c_p2 = w2c_i0;
+  goto w2c_B0;
+  w2c_B2:;
   w2c_j0 = w2c_l16;
   w2c_j1 = w2c_l17;
   w2c_j0 += w2c_j1;
@@ -52321,7 +52200,7 @@ static u32 w2c_f81(module *m, u64 w2c_p0, u64 w2c_p1, u32 w2c_p2, u32 w2c_p3, u3
   w2c_j1 = 108ull;
   w2c_j0 += w2c_j1;
   w2c_l13 = w2c_j0;
-  w2c_L29:
+  w2c_L34:
     w2c_j0 = w2c_l9;
     w2c_j1 = 14ull;
     w2c_j0 += w2c_j1;
@@ -52338,7 +52217,7 @@ static u32 w2c_f81(module *m, u64 w2c_p0, u64 w2c_p1, u32 w2c_p2, u32 w2c_p3, u3
     w2c_i3 &= w2c_i4;
     w2c_i4 = 10u;
     w2c_i3 = DIV_U(w2c_i3, w2c_i4);
-    w2c_l18 = w2c_i3;
+    w2c_p3 = w2c_i3;
     w2c_i4 = 10u;
     w2c_i3 *= w2c_i4;
     w2c_i2 -= w2c_i3;
@@ -52362,7 +52241,7 @@ static u32 w2c_f81(module *m, u64 w2c_p0, u64 w2c_p1, u32 w2c_p2, u32 w2c_p3, u3
     w2c_j1 = 18446744073709551613ull;
     w2c_j0 += w2c_j1;
     w2c_p0 = w2c_j0;
-    w2c_i0 = w2c_l18;
+    w2c_i0 = w2c_p3;
     w2c_p2 = w2c_i0;
     w2c_j0 = w2c_p1;
     w2c_j1 = 18446744073709551615ull;
@@ -52370,15 +52249,15 @@ static u32 w2c_f81(module *m, u64 w2c_p0, u64 w2c_p1, u32 w2c_p2, u32 w2c_p3, u3
     w2c_p1 = w2c_j0;
     w2c_j1 = 0ull;
     w2c_i0 = w2c_j0 != w2c_j1;
-    if (w2c_i0) {goto w2c_L29;}
-  w2c_i0 = w2c_l22;
-  if (w2c_i0) {goto w2c_B30;}
+    if (w2c_i0) {goto w2c_L34;}
+  w2c_i0 = w2c_l21;
+  if (w2c_i0) {goto w2c_B35;}
   w2c_j0 = w2c_p0;
   w2c_j1 = 3ull;
   w2c_j0 += w2c_j1;
   w2c_p0 = w2c_j0;
-  goto w2c_B2;
-  w2c_B30:;
+  goto w2c_B1;
+  w2c_B35:;
   w2c_j0 = w2c_l9;
   w2c_j1 = 14ull;
   w2c_j0 += w2c_j1;
@@ -52402,7 +52281,7 @@ static u32 w2c_f81(module *m, u64 w2c_p0, u64 w2c_p1, u32 w2c_p2, u32 w2c_p3, u3
   w2c_i1 = (u32)(w2c_j1);
   w2c_i1 = i32_load16_u(m, (u64)(w2c_i1));
   i32_store16(m, (u64)(w2c_i0), w2c_i1);
-  w2c_B2:;
+  w2c_B1:;
   w2c_j0 = w2c_p8;
   w2c_i0 = (u32)(w2c_j0);
   w2c_j1 = 234ull;
@@ -52410,17 +52289,15 @@ static u32 w2c_f81(module *m, u64 w2c_p0, u64 w2c_p1, u32 w2c_p2, u32 w2c_p3, u3
   w2c_j1 -= w2c_j2;
   w2c_p1 = w2c_j1;
   i64_store(m, (u64)(w2c_i0), w2c_j1);
+  w2c_i0 = 6u;
+  w2c_p2 = w2c_i0;
   w2c_j0 = w2c_p7;
   w2c_j1 = w2c_p1;
-  w2c_i0 = w2c_j0 >= w2c_j1;
-  if (w2c_i0) {goto w2c_B31;}
-  w2c_i0 = 6u;
-  w2c_l18 = w2c_i0;
-  goto w2c_B0;
-  w2c_B31:;
+  w2c_i0 = w2c_j0 < w2c_j1;
+  if (w2c_i0) {goto w2c_B0;}
   w2c_j0 = w2c_p1;
   w2c_i0 = !(w2c_j0);
-  if (w2c_i0) {goto w2c_B1;}
+  if (w2c_i0) {goto w2c_B36;}
   w2c_j0 = w2c_l10;
   w2c_i0 = (u32)(w2c_j0);
   w2c_j1 = w2c_l9;
@@ -52432,15 +52309,15 @@ static u32 w2c_f81(module *m, u64 w2c_p0, u64 w2c_p1, u32 w2c_p2, u32 w2c_p3, u3
   w2c_j2 = w2c_p1;
   w2c_i2 = (u32)(w2c_j2);
   memory_copy(m, w2c_i0, w2c_i1, w2c_i2);
-  w2c_B1:;
+  w2c_B36:;
   w2c_i0 = 0u;
-  w2c_l18 = w2c_i0;
+  w2c_p2 = w2c_i0;
   w2c_B0:;
   w2c_j0 = w2c_l9;
   w2c_j1 = 272ull;
   w2c_j0 += w2c_j1;
   m->w2c_g0 = w2c_j0;
-  w2c_i0 = w2c_l18;
+  w2c_i0 = w2c_p2;
   return w2c_i0;
 }
 
@@ -52462,14 +52339,14 @@ static u32 w2c_chinese_quantities_to_figures(module *m, u64 w2c_p0, u64 w2c_p1, 
   w2c_j6 = w2c_p6;
   w2c_j7 = w2c_p7;
   w2c_j8 = w2c_p8;
-  w2c_i0 = w2c_f83(m, w2c_j0, w2c_j1, w2c_i2, w2c_i3, w2c_i4, w2c_i5, w2c_j6, w2c_j7, w2c_j8);
+  w2c_i0 = w2c_f85(m, w2c_j0, w2c_j1, w2c_i2, w2c_i3, w2c_i4, w2c_i5, w2c_j6, w2c_j7, w2c_j8);
   w2c_p5 = w2c_i0;
   w2c_f1(m);
   w2c_i0 = w2c_p5;
   return w2c_i0;
 }
 
-static u32 w2c_f83(module *m, u64 w2c_p0, u64 w2c_p1, u32 w2c_p2, u32 w2c_p3, u32 w2c_p4, u32 w2c_p5, u64 w2c_p6, u64 w2c_p7, u64 w2c_p8) {
+static u32 w2c_f85(module *m, u64 w2c_p0, u64 w2c_p1, u32 w2c_p2, u32 w2c_p3, u32 w2c_p4, u32 w2c_p5, u64 w2c_p6, u64 w2c_p7, u64 w2c_p8) {
   u32 w2c_l32 = 0, w2c_l33 = 0, w2c_l34 = 0;
   u64 w2c_l9 = 0, w2c_l10 = 0, w2c_l11 = 0, w2c_l12 = 0, w2c_l13 = 0, w2c_l14 = 0, w2c_l15 = 0, w2c_l16 = 0, w2c_l17 = 0, w2c_l18 = 0, w2c_l19 = 0, w2c_l20 = 0, w2c_l21 = 0, w2c_l22 = 0, w2c_l23 = 0, w2c_l24 = 0, w2c_l25 = 0, w2c_l26 = 0, w2c_l27 = 0, w2c_l28 = 0, w2c_l29 = 0, w2c_l30 = 0, w2c_l31 = 0;
   u32 w2c_i0, w2c_i1, w2c_i2, w2c_i3, w2c_i4;
@@ -52703,7 +52580,7 @@ static u32 w2c_f83(module *m, u64 w2c_p0, u64 w2c_p1, u32 w2c_p2, u32 w2c_p3, u3
   w2c_j1 = w2c_l9;
   w2c_j2 = 72ull;
   w2c_j1 += w2c_j2;
-  w2c_f22(m, w2c_j0, w2c_j1);
+  w2c_f25(m, w2c_j0, w2c_j1);
   w2c_j0 = 0ull;
   w2c_l17 = w2c_j0;
   w2c_j0 = w2c_l9;
@@ -52897,172 +52774,126 @@ static u32 w2c_f83(module *m, u64 w2c_p0, u64 w2c_p1, u32 w2c_p2, u32 w2c_p3, u3
     w2c_i1 = 1u;
     w2c_i0 = w2c_i0 > w2c_i1;
     if (w2c_i0) {goto w2c_B17;}
+    w2c_j0 = w2c_l9;
+    w2c_i0 = (u32)(w2c_j0);
+    w2c_i1 = 0u;
+    i32_store(m, (u64)(w2c_i0) + 240, w2c_i1);
     w2c_j0 = w2c_l22;
-    w2c_j1 = 1ull;
-    w2c_i0 = w2c_j0 != w2c_j1;
-    if (w2c_i0) {goto w2c_B19;}
+    w2c_j1 = 18446744073709551615ull;
+    w2c_j0 += w2c_j1;
+    w2c_l10 = w2c_j0;
+    w2c_j1 = 2ull;
+    w2c_i0 = w2c_j0 > w2c_j1;
+    if (w2c_i0) {goto w2c_B21;}
+    w2c_j0 = w2c_l10;
+    w2c_i0 = (u32)(w2c_j0);
+    switch (w2c_i0) {
+      case 0: goto w2c_B18;
+      case 1: goto w2c_B21;
+      case 2: goto w2c_B22;
+      default: goto w2c_B18;
+    }
+    w2c_B22:;
     w2c_j0 = w2c_l23;
     w2c_i0 = (u32)(w2c_j0);
+    w2c_i0 = i32_load8_u(m, (u64)(w2c_i0) + 1u);
+    w2c_i1 = 8u;
+    w2c_i0 <<= (w2c_i1 & 31);
+    w2c_j1 = w2c_l23;
+    w2c_i1 = (u32)(w2c_j1);
+    w2c_i1 = i32_load8_u(m, (u64)(w2c_i1));
+    w2c_l32 = w2c_i1;
+    w2c_i0 |= w2c_i1;
+    w2c_j1 = w2c_l23;
+    w2c_i1 = (u32)(w2c_j1);
+    w2c_i1 = i32_load8_u(m, (u64)(w2c_i1) + 2u);
+    w2c_i2 = 16u;
+    w2c_i1 <<= (w2c_i2 & 31);
+    w2c_i0 |= w2c_i1;
+    w2c_p2 = w2c_i0;
+    w2c_j0 = (u64)(w2c_i0);
+    w2c_j1 = 953497ull;
+    w2c_j0 *= w2c_j1;
+    w2c_j1 = 22ull;
+    w2c_j0 >>= (w2c_j1 & 63);
+    w2c_j1 = 1016ull;
+    w2c_j0 &= w2c_j1;
+    w2c_l10 = w2c_j0;
+    w2c_j1 = 66976ull;
+    w2c_j0 += w2c_j1;
+    w2c_i0 = (u32)(w2c_j0);
+    w2c_i0 = i32_load(m, (u64)(w2c_i0));
+    w2c_i1 = w2c_p2;
+    w2c_i0 = w2c_i0 != w2c_i1;
+    if (w2c_i0) {goto w2c_B20;}
+    w2c_j0 = w2c_l10;
+    w2c_j1 = 66980ull;
+    w2c_j0 += w2c_j1;
+    w2c_i0 = (u32)(w2c_j0);
     w2c_i0 = i32_load8_u(m, (u64)(w2c_i0));
-    w2c_l32 = w2c_i0;
-    goto w2c_B18;
-    w2c_B19:;
+    w2c_i1 = 2u;
+    w2c_i0 = w2c_i0 == w2c_i1;
+    if (w2c_i0) {goto w2c_B20;}
+    goto w2c_B16;
+    w2c_B21:;
     w2c_j0 = w2c_l22;
     w2c_j1 = 4ull;
     w2c_i0 = w2c_j0 > w2c_j1;
     if (w2c_i0) {goto w2c_B17;}
     w2c_j0 = w2c_l22;
-    w2c_j1 = 3ull;
-    w2c_i0 = w2c_j0 < w2c_j1;
-    if (w2c_i0) {goto w2c_B22;}
-    w2c_j0 = w2c_l23;
-    w2c_i0 = (u32)(w2c_j0);
-    w2c_i0 = i32_load8_u(m, (u64)(w2c_i0));
-    w2c_l32 = w2c_i0;
-    w2c_i1 = 240u;
-    w2c_i0 &= w2c_i1;
-    w2c_i1 = 224u;
-    w2c_i0 = w2c_i0 != w2c_i1;
-    if (w2c_i0) {goto w2c_B21;}
-    w2c_i0 = w2c_l32;
-    w2c_i1 = 12u;
-    w2c_i0 <<= (w2c_i1 & 31);
-    w2c_j1 = w2c_l23;
-    w2c_i1 = (u32)(w2c_j1);
-    w2c_i1 = i32_load8_u(m, (u64)(w2c_i1) + 1u);
-    w2c_i2 = 6u;
-    w2c_i1 <<= (w2c_i2 & 31);
-    w2c_i0 += w2c_i1;
-    w2c_j1 = w2c_l23;
-    w2c_i1 = (u32)(w2c_j1);
-    w2c_i1 = i32_load8_u(m, (u64)(w2c_i1) + 2u);
-    w2c_i0 += w2c_i1;
-    w2c_i1 = 4294041472u;
-    w2c_i0 += w2c_i1;
-    w2c_l32 = w2c_i0;
-    w2c_j0 = w2c_l22;
-    w2c_j1 = 18446744073709551613ull;
-    w2c_j0 += w2c_j1;
-    w2c_l10 = w2c_j0;
-    goto w2c_B20;
-    w2c_B22:;
-    w2c_j0 = w2c_l22;
     w2c_i0 = !(w2c_j0);
-    if (w2c_i0) {goto w2c_B17;}
+    if (w2c_i0) {goto w2c_B19;}
     w2c_j0 = w2c_l23;
     w2c_i0 = (u32)(w2c_j0);
     w2c_i0 = i32_load8_u(m, (u64)(w2c_i0));
     w2c_l32 = w2c_i0;
-    w2c_B21:;
-    w2c_j0 = 18446744073709551615ull;
-    w2c_l10 = w2c_j0;
+    w2c_B20:;
     w2c_i0 = w2c_l32;
     w2c_i0 = (u32)(s32)(s8)(u8)(w2c_i0);
     w2c_i1 = 4294967295u;
     w2c_i0 = (u32)((s32)w2c_i0 > (s32)w2c_i1);
-    if (w2c_i0) {goto w2c_B23;}
-    w2c_j0 = w2c_l23;
-    w2c_i0 = (u32)(w2c_j0);
-    w2c_i0 = i32_load8_u(m, (u64)(w2c_i0) + 1u);
-    w2c_i1 = 63u;
-    w2c_i0 &= w2c_i1;
-    w2c_p2 = w2c_i0;
-    w2c_i0 = w2c_l32;
-    w2c_i1 = 223u;
-    w2c_i0 = w2c_i0 > w2c_i1;
-    if (w2c_i0) {goto w2c_B24;}
-    w2c_i0 = w2c_l32;
-    w2c_i1 = 6u;
-    w2c_i0 <<= (w2c_i1 & 31);
-    w2c_i1 = 1984u;
-    w2c_i0 &= w2c_i1;
-    w2c_i1 = w2c_p2;
-    w2c_i0 |= w2c_i1;
-    w2c_l32 = w2c_i0;
-    w2c_j0 = 18446744073709551614ull;
-    w2c_l10 = w2c_j0;
-    goto w2c_B23;
-    w2c_B24:;
-    w2c_j0 = w2c_l23;
-    w2c_i0 = (u32)(w2c_j0);
-    w2c_i0 = i32_load8_u(m, (u64)(w2c_i0) + 2u);
-    w2c_i1 = 63u;
-    w2c_i0 &= w2c_i1;
-    w2c_p3 = w2c_i0;
-    w2c_i0 = w2c_l32;
-    w2c_i1 = 239u;
-    w2c_i0 = w2c_i0 > w2c_i1;
-    if (w2c_i0) {goto w2c_B25;}
-    w2c_i0 = w2c_p2;
-    w2c_i1 = 6u;
-    w2c_i0 <<= (w2c_i1 & 31);
-    w2c_i1 = w2c_l32;
-    w2c_i2 = 12u;
-    w2c_i1 <<= (w2c_i2 & 31);
-    w2c_i2 = 61440u;
-    w2c_i1 &= w2c_i2;
-    w2c_i0 |= w2c_i1;
-    w2c_i1 = w2c_p3;
-    w2c_i0 |= w2c_i1;
-    w2c_l32 = w2c_i0;
-    w2c_j0 = 18446744073709551613ull;
-    w2c_l10 = w2c_j0;
-    goto w2c_B23;
-    w2c_B25:;
-    w2c_i0 = w2c_p3;
-    w2c_i1 = 6u;
-    w2c_i0 <<= (w2c_i1 & 31);
-    w2c_i1 = w2c_p2;
-    w2c_i2 = 12u;
-    w2c_i1 <<= (w2c_i2 & 31);
-    w2c_i2 = w2c_l32;
-    w2c_i3 = 18u;
-    w2c_i2 <<= (w2c_i3 & 31);
-    w2c_i3 = 1835008u;
-    w2c_i2 &= w2c_i3;
-    w2c_i1 |= w2c_i2;
-    w2c_i0 |= w2c_i1;
-    w2c_j1 = w2c_l23;
-    w2c_i1 = (u32)(w2c_j1);
-    w2c_i1 = i32_load8_u(m, (u64)(w2c_i1) + 3u);
-    w2c_i2 = 63u;
-    w2c_i1 &= w2c_i2;
-    w2c_i0 |= w2c_i1;
-    w2c_l32 = w2c_i0;
-    w2c_j0 = 18446744073709551612ull;
-    w2c_l10 = w2c_j0;
-    w2c_B23:;
-    w2c_j0 = w2c_l10;
-    w2c_j1 = w2c_l22;
+    if (w2c_i0) {goto w2c_B17;}
+    w2c_B19:;
+    w2c_j0 = w2c_l9;
+    w2c_j1 = 240ull;
     w2c_j0 += w2c_j1;
-    w2c_l10 = w2c_j0;
-    w2c_B20:;
-    w2c_j0 = w2c_l10;
-    w2c_j1 = 0ull;
-    w2c_i0 = w2c_j0 != w2c_j1;
+    w2c_j1 = w2c_l23;
+    w2c_j2 = w2c_l22;
+    w2c_f20(m, w2c_j0, w2c_j1, w2c_j2);
+    w2c_j0 = w2c_l9;
+    w2c_i0 = (u32)(w2c_j0);
+    w2c_i0 = i32_load8_u(m, (u64)(w2c_i0) + 240u);
+    w2c_i1 = 1u;
+    w2c_i0 = w2c_i0 != w2c_i1;
     if (w2c_i0) {goto w2c_B17;}
+    w2c_j0 = w2c_l9;
+    w2c_i0 = (u32)(w2c_j0);
+    w2c_i0 = i32_load8_u(m, (u64)(w2c_i0) + 243u);
+    w2c_i1 = 1u;
+    w2c_i0 &= w2c_i1;
+    w2c_i0 = !(w2c_i0);
+    if (w2c_i0) {goto w2c_B17;}
+    goto w2c_B16;
     w2c_B18:;
-    w2c_i0 = w2c_l32;
-    w2c_i1 = 4294967248u;
+    w2c_j0 = w2c_l23;
+    w2c_i0 = (u32)(w2c_j0);
+    w2c_i0 = i32_load8_u(m, (u64)(w2c_i0));
+    w2c_i1 = 4294967238u;
     w2c_i0 += w2c_i1;
-    w2c_i1 = 10u;
+    w2c_i1 = 255u;
+    w2c_i0 &= w2c_i1;
+    w2c_i1 = 246u;
     w2c_i0 = w2c_i0 < w2c_i1;
-    if (w2c_i0) {goto w2c_B17;}
-    w2c_i0 = w2c_l32;
-    w2c_i1 = 4294902000u;
-    w2c_i0 += w2c_i1;
-    w2c_i1 = 9u;
-    w2c_i0 = w2c_i0 > w2c_i1;
     if (w2c_i0) {goto w2c_B16;}
     w2c_B17:;
     w2c_i0 = w2c_p4;
     w2c_i1 = 1u;
     w2c_i0 &= w2c_i1;
-    if (w2c_i0) {goto w2c_B26;}
+    if (w2c_i0) {goto w2c_B23;}
     w2c_j0 = w2c_l24;
     w2c_j1 = 3ull;
     w2c_i0 = w2c_j0 < w2c_j1;
-    if (w2c_i0) {goto w2c_B34;}
+    if (w2c_i0) {goto w2c_B31;}
     w2c_j0 = w2c_l19;
     w2c_j1 = w2c_l24;
     w2c_j0 += w2c_j1;
@@ -53076,7 +52907,7 @@ static u32 w2c_f83(module *m, u64 w2c_p0, u64 w2c_p1, u32 w2c_p2, u32 w2c_p3, u3
     w2c_i0 &= w2c_i1;
     w2c_i1 = 224u;
     w2c_i0 = w2c_i0 != w2c_i1;
-    if (w2c_i0) {goto w2c_B33;}
+    if (w2c_i0) {goto w2c_B30;}
     w2c_i0 = w2c_p2;
     w2c_i1 = 12u;
     w2c_i0 <<= (w2c_i1 & 31);
@@ -53123,13 +52954,13 @@ static u32 w2c_f83(module *m, u64 w2c_p0, u64 w2c_p1, u32 w2c_p2, u32 w2c_p3, u3
     w2c_i0 = i32_load(m, (u64)(w2c_i0));
     w2c_i1 = w2c_p2;
     w2c_i0 = w2c_i0 == w2c_i1;
-    if (w2c_i0) {goto w2c_B32;}
-    goto w2c_B30;
-    w2c_B34:;
+    if (w2c_i0) {goto w2c_B29;}
+    goto w2c_B27;
+    w2c_B31:;
     w2c_j0 = w2c_l24;
     w2c_i0 = !(w2c_j0);
-    if (w2c_i0) {goto w2c_B28;}
-    w2c_B33:;
+    if (w2c_i0) {goto w2c_B25;}
+    w2c_B30:;
     w2c_i0 = 0u;
     w2c_p2 = w2c_i0;
     w2c_j0 = w2c_l19;
@@ -53143,7 +52974,7 @@ static u32 w2c_f83(module *m, u64 w2c_p0, u64 w2c_p1, u32 w2c_p2, u32 w2c_p3, u3
     w2c_l32 = w2c_i0;
     w2c_i1 = 0u;
     w2c_i0 = (u32)((s32)w2c_i0 >= (s32)w2c_i1);
-    if (w2c_i0) {goto w2c_B31;}
+    if (w2c_i0) {goto w2c_B28;}
     w2c_j0 = 18446744073709551614ull;
     w2c_l11 = w2c_j0;
     w2c_j0 = w2c_l10;
@@ -53153,7 +52984,7 @@ static u32 w2c_f83(module *m, u64 w2c_p0, u64 w2c_p1, u32 w2c_p2, u32 w2c_p3, u3
     w2c_i0 = i32_load8_u(m, (u64)(w2c_i0));
     w2c_i1 = 191u;
     w2c_i0 = w2c_i0 > w2c_i1;
-    if (w2c_i0) {goto w2c_B35;}
+    if (w2c_i0) {goto w2c_B32;}
     w2c_j0 = 18446744073709551613ull;
     w2c_j1 = 18446744073709551612ull;
     w2c_j2 = w2c_l10;
@@ -53165,7 +52996,7 @@ static u32 w2c_f83(module *m, u64 w2c_p0, u64 w2c_p1, u32 w2c_p2, u32 w2c_p3, u3
     w2c_i2 = w2c_i2 > w2c_i3;
     w2c_j0 = w2c_i2 ? w2c_j0 : w2c_j1;
     w2c_l11 = w2c_j0;
-    w2c_B35:;
+    w2c_B32:;
     w2c_j0 = w2c_l19;
     w2c_j1 = w2c_l11;
     w2c_j0 += w2c_j1;
@@ -53181,7 +53012,7 @@ static u32 w2c_f83(module *m, u64 w2c_p0, u64 w2c_p1, u32 w2c_p2, u32 w2c_p3, u3
     w2c_i0 = w2c_p3;
     w2c_i1 = 4294967295u;
     w2c_i0 = (u32)((s32)w2c_i0 > (s32)w2c_i1);
-    if (w2c_i0) {goto w2c_B31;}
+    if (w2c_i0) {goto w2c_B28;}
     w2c_j0 = w2c_l10;
     w2c_i0 = (u32)(w2c_j0);
     w2c_i0 = i32_load8_u(m, (u64)(w2c_i0) + 1u);
@@ -53191,7 +53022,7 @@ static u32 w2c_f83(module *m, u64 w2c_p0, u64 w2c_p1, u32 w2c_p2, u32 w2c_p3, u3
     w2c_i0 = w2c_p3;
     w2c_i1 = 4294967263u;
     w2c_i0 = w2c_i0 > w2c_i1;
-    if (w2c_i0) {goto w2c_B36;}
+    if (w2c_i0) {goto w2c_B33;}
     w2c_i0 = w2c_l32;
     w2c_i1 = 6u;
     w2c_i0 <<= (w2c_i1 & 31);
@@ -53200,8 +53031,8 @@ static u32 w2c_f83(module *m, u64 w2c_p0, u64 w2c_p1, u32 w2c_p2, u32 w2c_p3, u3
     w2c_i1 = w2c_p5;
     w2c_i0 |= w2c_i1;
     w2c_l32 = w2c_i0;
-    goto w2c_B31;
-    w2c_B36:;
+    goto w2c_B28;
+    w2c_B33:;
     w2c_j0 = w2c_l10;
     w2c_i0 = (u32)(w2c_j0);
     w2c_i0 = i32_load8_u(m, (u64)(w2c_i0) + 2u);
@@ -53211,7 +53042,7 @@ static u32 w2c_f83(module *m, u64 w2c_p0, u64 w2c_p1, u32 w2c_p2, u32 w2c_p3, u3
     w2c_i0 = w2c_p3;
     w2c_i1 = 4294967279u;
     w2c_i0 = w2c_i0 > w2c_i1;
-    if (w2c_i0) {goto w2c_B38;}
+    if (w2c_i0) {goto w2c_B35;}
     w2c_i0 = w2c_p5;
     w2c_i1 = 6u;
     w2c_i0 <<= (w2c_i1 & 31);
@@ -53224,8 +53055,8 @@ static u32 w2c_f83(module *m, u64 w2c_p0, u64 w2c_p1, u32 w2c_p2, u32 w2c_p3, u3
     w2c_i1 = w2c_l33;
     w2c_i0 |= w2c_i1;
     w2c_l32 = w2c_i0;
-    goto w2c_B37;
-    w2c_B38:;
+    goto w2c_B34;
+    w2c_B35:;
     w2c_i0 = w2c_l33;
     w2c_i1 = 6u;
     w2c_i0 <<= (w2c_i1 & 31);
@@ -53246,13 +53077,13 @@ static u32 w2c_f83(module *m, u64 w2c_p0, u64 w2c_p1, u32 w2c_p2, u32 w2c_p3, u3
     w2c_i1 &= w2c_i2;
     w2c_i0 |= w2c_i1;
     w2c_l32 = w2c_i0;
-    w2c_B37:;
+    w2c_B34:;
     w2c_i0 = w2c_l32;
     w2c_i1 = 4294965248u;
     w2c_i0 += w2c_i1;
     w2c_i1 = 63487u;
     w2c_i0 = w2c_i0 > w2c_i1;
-    if (w2c_i0) {goto w2c_B31;}
+    if (w2c_i0) {goto w2c_B28;}
     w2c_i0 = w2c_l32;
     w2c_i1 = 12u;
     w2c_i0 >>= (w2c_i1 & 31);
@@ -53285,46 +53116,46 @@ static u32 w2c_f83(module *m, u64 w2c_p0, u64 w2c_p1, u32 w2c_p2, u32 w2c_p3, u3
     w2c_i0 = i32_load(m, (u64)(w2c_i0));
     w2c_i1 = w2c_p2;
     w2c_i0 = w2c_i0 != w2c_i1;
-    if (w2c_i0) {goto w2c_B29;}
-    w2c_B32:;
+    if (w2c_i0) {goto w2c_B26;}
+    w2c_B29:;
     w2c_j0 = w2c_l10;
     w2c_j1 = 66980ull;
     w2c_j0 += w2c_j1;
     w2c_i0 = (u32)(w2c_j0);
     w2c_i0 = i32_load8_u(m, (u64)(w2c_i0));
     w2c_i0 = !(w2c_i0);
-    if (w2c_i0) {goto w2c_B28;}
-    goto w2c_B30;
-    w2c_B31:;
+    if (w2c_i0) {goto w2c_B25;}
+    goto w2c_B27;
+    w2c_B28:;
     w2c_i0 = w2c_l32;
     w2c_i1 = 4294967248u;
     w2c_i0 += w2c_i1;
     w2c_i1 = 10u;
     w2c_i0 = w2c_i0 < w2c_i1;
-    if (w2c_i0) {goto w2c_B27;}
-    w2c_B30:;
+    if (w2c_i0) {goto w2c_B24;}
+    w2c_B27:;
     w2c_i0 = w2c_l32;
     w2c_i1 = 127u;
     w2c_i0 = w2c_i0 > w2c_i1;
-    if (w2c_i0) {goto w2c_B29;}
+    if (w2c_i0) {goto w2c_B26;}
     w2c_i0 = 0u;
     w2c_p2 = w2c_i0;
     w2c_i0 = w2c_l32;
     w2c_i1 = 95u;
     w2c_i0 = w2c_i0 == w2c_i1;
-    if (w2c_i0) {goto w2c_B27;}
+    if (w2c_i0) {goto w2c_B24;}
     w2c_i0 = w2c_l32;
     w2c_i1 = 4294967252u;
     w2c_i0 += w2c_i1;
     w2c_i1 = 3u;
     w2c_i0 = w2c_i0 < w2c_i1;
-    if (w2c_i0) {goto w2c_B28;}
+    if (w2c_i0) {goto w2c_B25;}
     w2c_i0 = w2c_l32;
     w2c_i1 = 4294967248u;
     w2c_i0 += w2c_i1;
     w2c_i1 = 10u;
     w2c_i0 = w2c_i0 < w2c_i1;
-    if (w2c_i0) {goto w2c_B27;}
+    if (w2c_i0) {goto w2c_B24;}
     w2c_i0 = w2c_l32;
     w2c_i1 = 95u;
     w2c_i0 &= w2c_i1;
@@ -53332,122 +53163,122 @@ static u32 w2c_f83(module *m, u64 w2c_p0, u64 w2c_p1, u32 w2c_p2, u32 w2c_p3, u3
     w2c_i0 += w2c_i1;
     w2c_i1 = 26u;
     w2c_i0 = w2c_i0 >= w2c_i1;
-    if (w2c_i0) {goto w2c_B28;}
-    goto w2c_B27;
-    w2c_B29:;
+    if (w2c_i0) {goto w2c_B25;}
+    goto w2c_B24;
+    w2c_B26:;
     w2c_i0 = 1u;
     w2c_p2 = w2c_i0;
     w2c_i0 = w2c_l32;
     w2c_i1 = 24318u;
     w2c_i0 = (u32)((s32)w2c_i0 > (s32)w2c_i1);
-    if (w2c_i0) {goto w2c_B41;}
+    if (w2c_i0) {goto w2c_B38;}
     w2c_i0 = w2c_l32;
     w2c_i1 = 21316u;
     w2c_i0 = (u32)((s32)w2c_i0 > (s32)w2c_i1);
-    if (w2c_i0) {goto w2c_B42;}
+    if (w2c_i0) {goto w2c_B39;}
     w2c_i0 = w2c_l32;
     w2c_i1 = 20313u;
     w2c_i0 = w2c_i0 == w2c_i1;
-    if (w2c_i0) {goto w2c_B28;}
+    if (w2c_i0) {goto w2c_B25;}
     w2c_i0 = w2c_l32;
     w2c_i1 = 20358u;
     w2c_i0 = w2c_i0 == w2c_i1;
-    if (w2c_i0) {goto w2c_B28;}
+    if (w2c_i0) {goto w2c_B25;}
     w2c_i0 = w2c_l32;
     w2c_i1 = 20960u;
     w2c_i0 = w2c_i0 != w2c_i1;
-    if (w2c_i0) {goto w2c_B39;}
-    goto w2c_B27;
-    w2c_B42:;
+    if (w2c_i0) {goto w2c_B36;}
+    goto w2c_B24;
+    w2c_B39:;
     w2c_i0 = w2c_l32;
     w2c_i1 = 4294945979u;
     w2c_i0 += w2c_i1;
     switch (w2c_i0) {
-      case 0: goto w2c_B28;
-      case 1: goto w2c_B39;
-      case 2: goto w2c_B39;
-      case 3: goto w2c_B39;
-      case 4: goto w2c_B39;
-      case 5: goto w2c_B39;
-      case 6: goto w2c_B39;
-      case 7: goto w2c_B28;
-      default: goto w2c_B43;
+      case 0: goto w2c_B25;
+      case 1: goto w2c_B36;
+      case 2: goto w2c_B36;
+      case 3: goto w2c_B36;
+      case 4: goto w2c_B36;
+      case 5: goto w2c_B36;
+      case 6: goto w2c_B36;
+      case 7: goto w2c_B25;
+      default: goto w2c_B40;
     }
-    w2c_B43:;
+    w2c_B40:;
     w2c_i0 = w2c_l32;
     w2c_i1 = 4294943110u;
     w2c_i0 += w2c_i1;
     switch (w2c_i0) {
-      case 0: goto w2c_B28;
-      case 1: goto w2c_B39;
-      case 2: goto w2c_B39;
-      case 3: goto w2c_B39;
-      case 4: goto w2c_B27;
-      default: goto w2c_B40;
+      case 0: goto w2c_B25;
+      case 1: goto w2c_B36;
+      case 2: goto w2c_B36;
+      case 3: goto w2c_B36;
+      case 4: goto w2c_B24;
+      default: goto w2c_B37;
     }
-    w2c_B41:;
+    w2c_B38:;
     w2c_i0 = w2c_l32;
     w2c_i1 = 28856u;
     w2c_i0 = (u32)((s32)w2c_i0 > (s32)w2c_i1);
-    if (w2c_i0) {goto w2c_B44;}
+    if (w2c_i0) {goto w2c_B41;}
     w2c_i0 = w2c_l32;
     w2c_i1 = 4294941328u;
     w2c_i0 += w2c_i1;
     switch (w2c_i0) {
-      case 0: goto w2c_B27;
-      case 1: goto w2c_B39;
-      case 2: goto w2c_B39;
-      case 3: goto w2c_B39;
-      case 4: goto w2c_B39;
-      case 5: goto w2c_B39;
-      case 6: goto w2c_B39;
-      case 7: goto w2c_B39;
-      case 8: goto w2c_B27;
-      default: goto w2c_B45;
+      case 0: goto w2c_B24;
+      case 1: goto w2c_B36;
+      case 2: goto w2c_B36;
+      case 3: goto w2c_B36;
+      case 4: goto w2c_B36;
+      case 5: goto w2c_B36;
+      case 6: goto w2c_B36;
+      case 7: goto w2c_B36;
+      case 8: goto w2c_B24;
+      default: goto w2c_B42;
     }
-    w2c_B45:;
+    w2c_B42:;
     w2c_i0 = w2c_l32;
     w2c_i1 = 24319u;
     w2c_i0 = w2c_i0 == w2c_i1;
-    if (w2c_i0) {goto w2c_B28;}
+    if (w2c_i0) {goto w2c_B25;}
     w2c_i0 = w2c_l32;
     w2c_i1 = 26469u;
     w2c_i0 = w2c_i0 != w2c_i1;
-    if (w2c_i0) {goto w2c_B39;}
-    goto w2c_B28;
-    w2c_B44:;
+    if (w2c_i0) {goto w2c_B36;}
+    goto w2c_B25;
+    w2c_B41:;
     w2c_i0 = w2c_l32;
     w2c_i1 = 28857u;
     w2c_i0 = w2c_i0 == w2c_i1;
-    if (w2c_i0) {goto w2c_B28;}
+    if (w2c_i0) {goto w2c_B25;}
     w2c_i0 = w2c_l32;
     w2c_i1 = 39192u;
     w2c_i0 = w2c_i0 == w2c_i1;
-    if (w2c_i0) {goto w2c_B28;}
+    if (w2c_i0) {goto w2c_B25;}
     w2c_i0 = w2c_l32;
     w2c_i1 = 40670u;
     w2c_i0 = w2c_i0 == w2c_i1;
-    if (w2c_i0) {goto w2c_B28;}
-    goto w2c_B39;
-    w2c_B40:;
+    if (w2c_i0) {goto w2c_B25;}
+    goto w2c_B36;
+    w2c_B37:;
     w2c_i0 = w2c_l32;
     w2c_i1 = 22810u;
     w2c_i0 = w2c_i0 == w2c_i1;
-    if (w2c_i0) {goto w2c_B28;}
-    w2c_B39:;
+    if (w2c_i0) {goto w2c_B25;}
+    w2c_B36:;
     w2c_i0 = w2c_l32;
     w2c_i1 = 4294902000u;
     w2c_i0 += w2c_i1;
     w2c_i1 = 9u;
     w2c_i0 = w2c_i0 > w2c_i1;
-    w2c_B28:;
+    w2c_B25:;
     w2c_i0 = 0u;
     w2c_p2 = w2c_i0;
-    w2c_B27:;
+    w2c_B24:;
     w2c_j0 = w2c_l20;
     w2c_j1 = 3ull;
     w2c_i0 = w2c_j0 < w2c_j1;
-    if (w2c_i0) {goto w2c_B52;}
+    if (w2c_i0) {goto w2c_B49;}
     w2c_j0 = w2c_l21;
     w2c_i0 = (u32)(w2c_j0);
     w2c_i0 = i32_load8_u(m, (u64)(w2c_i0));
@@ -53456,7 +53287,7 @@ static u32 w2c_f83(module *m, u64 w2c_p0, u64 w2c_p1, u32 w2c_p2, u32 w2c_p3, u3
     w2c_i0 &= w2c_i1;
     w2c_i1 = 224u;
     w2c_i0 = w2c_i0 != w2c_i1;
-    if (w2c_i0) {goto w2c_B51;}
+    if (w2c_i0) {goto w2c_B48;}
     w2c_j0 = w2c_l21;
     w2c_i0 = (u32)(w2c_j0);
     w2c_i0 = i32_load8_u(m, (u64)(w2c_i0) + 1u);
@@ -53500,22 +53331,22 @@ static u32 w2c_f83(module *m, u64 w2c_p0, u64 w2c_p1, u32 w2c_p2, u32 w2c_p3, u3
     w2c_i1 = (u32)(w2c_j1);
     w2c_i1 = i32_load(m, (u64)(w2c_i1));
     w2c_i0 = w2c_i0 != w2c_i1;
-    if (w2c_i0) {goto w2c_B49;}
-    goto w2c_B50;
-    w2c_B52:;
+    if (w2c_i0) {goto w2c_B46;}
+    goto w2c_B47;
+    w2c_B49:;
     w2c_j0 = w2c_l20;
     w2c_i0 = !(w2c_j0);
-    if (w2c_i0) {goto w2c_B47;}
+    if (w2c_i0) {goto w2c_B44;}
     w2c_j0 = w2c_l21;
     w2c_i0 = (u32)(w2c_j0);
     w2c_i0 = i32_load8_u(m, (u64)(w2c_i0));
     w2c_l32 = w2c_i0;
-    w2c_B51:;
+    w2c_B48:;
     w2c_i0 = w2c_l32;
     w2c_i0 = (u32)(s32)(s8)(u8)(w2c_i0);
     w2c_i1 = 4294967295u;
     w2c_i0 = (u32)((s32)w2c_i0 > (s32)w2c_i1);
-    if (w2c_i0) {goto w2c_B53;}
+    if (w2c_i0) {goto w2c_B50;}
     w2c_j0 = w2c_l21;
     w2c_i0 = (u32)(w2c_j0);
     w2c_i0 = i32_load8_u(m, (u64)(w2c_i0) + 1u);
@@ -53525,7 +53356,7 @@ static u32 w2c_f83(module *m, u64 w2c_p0, u64 w2c_p1, u32 w2c_p2, u32 w2c_p3, u3
     w2c_i0 = w2c_l32;
     w2c_i1 = 223u;
     w2c_i0 = w2c_i0 > w2c_i1;
-    if (w2c_i0) {goto w2c_B54;}
+    if (w2c_i0) {goto w2c_B51;}
     w2c_i0 = w2c_l32;
     w2c_i1 = 6u;
     w2c_i0 <<= (w2c_i1 & 31);
@@ -53534,8 +53365,8 @@ static u32 w2c_f83(module *m, u64 w2c_p0, u64 w2c_p1, u32 w2c_p2, u32 w2c_p3, u3
     w2c_i1 = w2c_p3;
     w2c_i0 |= w2c_i1;
     w2c_l32 = w2c_i0;
-    goto w2c_B53;
-    w2c_B54:;
+    goto w2c_B50;
+    w2c_B51:;
     w2c_j0 = w2c_l21;
     w2c_i0 = (u32)(w2c_j0);
     w2c_i0 = i32_load8_u(m, (u64)(w2c_i0) + 2u);
@@ -53545,7 +53376,7 @@ static u32 w2c_f83(module *m, u64 w2c_p0, u64 w2c_p1, u32 w2c_p2, u32 w2c_p3, u3
     w2c_i0 = w2c_l32;
     w2c_i1 = 239u;
     w2c_i0 = w2c_i0 > w2c_i1;
-    if (w2c_i0) {goto w2c_B55;}
+    if (w2c_i0) {goto w2c_B52;}
     w2c_i0 = w2c_p3;
     w2c_i1 = 6u;
     w2c_i0 <<= (w2c_i1 & 31);
@@ -53558,8 +53389,8 @@ static u32 w2c_f83(module *m, u64 w2c_p0, u64 w2c_p1, u32 w2c_p2, u32 w2c_p3, u3
     w2c_i1 = w2c_p5;
     w2c_i0 |= w2c_i1;
     w2c_l32 = w2c_i0;
-    goto w2c_B53;
-    w2c_B55:;
+    goto w2c_B50;
+    w2c_B52:;
     w2c_i0 = w2c_p5;
     w2c_i1 = 6u;
     w2c_i0 <<= (w2c_i1 & 31);
@@ -53580,13 +53411,13 @@ static u32 w2c_f83(module *m, u64 w2c_p0, u64 w2c_p1, u32 w2c_p2, u32 w2c_p3, u3
     w2c_i1 &= w2c_i2;
     w2c_i0 |= w2c_i1;
     w2c_l32 = w2c_i0;
-    w2c_B53:;
+    w2c_B50:;
     w2c_i0 = w2c_l32;
     w2c_i1 = 4294965248u;
     w2c_i0 += w2c_i1;
     w2c_i1 = 63487u;
     w2c_i0 = w2c_i0 > w2c_i1;
-    if (w2c_i0) {goto w2c_B56;}
+    if (w2c_i0) {goto w2c_B53;}
     w2c_i0 = w2c_l32;
     w2c_i1 = 12u;
     w2c_i0 >>= (w2c_i1 & 31);
@@ -53619,47 +53450,47 @@ static u32 w2c_f83(module *m, u64 w2c_p0, u64 w2c_p1, u32 w2c_p2, u32 w2c_p3, u3
     w2c_i0 = i32_load(m, (u64)(w2c_i0));
     w2c_i1 = w2c_p3;
     w2c_i0 = w2c_i0 == w2c_i1;
-    if (w2c_i0) {goto w2c_B50;}
-    goto w2c_B48;
-    w2c_B56:;
+    if (w2c_i0) {goto w2c_B47;}
+    goto w2c_B45;
+    w2c_B53:;
     w2c_i0 = w2c_l32;
     w2c_i1 = 4294967248u;
     w2c_i0 += w2c_i1;
     w2c_i1 = 10u;
     w2c_i0 = w2c_i0 < w2c_i1;
-    if (w2c_i0) {goto w2c_B47;}
-    goto w2c_B49;
-    w2c_B50:;
+    if (w2c_i0) {goto w2c_B44;}
+    goto w2c_B46;
+    w2c_B47:;
     w2c_j0 = w2c_l10;
     w2c_j1 = 66980ull;
     w2c_j0 += w2c_j1;
     w2c_i0 = (u32)(w2c_j0);
     w2c_i0 = i32_load8_u(m, (u64)(w2c_i0));
     w2c_i0 = !(w2c_i0);
-    if (w2c_i0) {goto w2c_B47;}
-    w2c_B49:;
+    if (w2c_i0) {goto w2c_B44;}
+    w2c_B46:;
     w2c_i0 = w2c_l32;
     w2c_i1 = 127u;
     w2c_i0 = w2c_i0 > w2c_i1;
-    if (w2c_i0) {goto w2c_B48;}
+    if (w2c_i0) {goto w2c_B45;}
     w2c_i0 = 0u;
     w2c_p3 = w2c_i0;
     w2c_i0 = w2c_l32;
     w2c_i1 = 95u;
     w2c_i0 = w2c_i0 == w2c_i1;
-    if (w2c_i0) {goto w2c_B46;}
+    if (w2c_i0) {goto w2c_B43;}
     w2c_i0 = w2c_l32;
     w2c_i1 = 4294967252u;
     w2c_i0 += w2c_i1;
     w2c_i1 = 3u;
     w2c_i0 = w2c_i0 < w2c_i1;
-    if (w2c_i0) {goto w2c_B47;}
+    if (w2c_i0) {goto w2c_B44;}
     w2c_i0 = w2c_l32;
     w2c_i1 = 4294967248u;
     w2c_i0 += w2c_i1;
     w2c_i1 = 10u;
     w2c_i0 = w2c_i0 < w2c_i1;
-    if (w2c_i0) {goto w2c_B46;}
+    if (w2c_i0) {goto w2c_B43;}
     w2c_i0 = w2c_l32;
     w2c_i1 = 95u;
     w2c_i0 &= w2c_i1;
@@ -53667,138 +53498,137 @@ static u32 w2c_f83(module *m, u64 w2c_p0, u64 w2c_p1, u32 w2c_p2, u32 w2c_p3, u3
     w2c_i0 += w2c_i1;
     w2c_i1 = 26u;
     w2c_i0 = w2c_i0 >= w2c_i1;
-    if (w2c_i0) {goto w2c_B47;}
-    goto w2c_B46;
-    w2c_B48:;
+    if (w2c_i0) {goto w2c_B44;}
+    goto w2c_B43;
+    w2c_B45:;
     w2c_i0 = 1u;
     w2c_p3 = w2c_i0;
     w2c_i0 = w2c_l32;
     w2c_i1 = 24318u;
     w2c_i0 = (u32)((s32)w2c_i0 > (s32)w2c_i1);
-    if (w2c_i0) {goto w2c_B58;}
+    if (w2c_i0) {goto w2c_B55;}
     w2c_i0 = w2c_l32;
     w2c_i1 = 21316u;
     w2c_i0 = (u32)((s32)w2c_i0 > (s32)w2c_i1);
-    if (w2c_i0) {goto w2c_B59;}
+    if (w2c_i0) {goto w2c_B56;}
     w2c_i0 = w2c_l32;
     w2c_i1 = 20313u;
     w2c_i0 = w2c_i0 == w2c_i1;
-    if (w2c_i0) {goto w2c_B46;}
+    if (w2c_i0) {goto w2c_B43;}
     w2c_i0 = w2c_l32;
     w2c_i1 = 20358u;
     w2c_i0 = w2c_i0 == w2c_i1;
-    if (w2c_i0) {goto w2c_B46;}
+    if (w2c_i0) {goto w2c_B43;}
     w2c_i0 = w2c_l32;
     w2c_i1 = 20960u;
     w2c_i0 = w2c_i0 != w2c_i1;
-    if (w2c_i0) {goto w2c_B57;}
-    goto w2c_B46;
-    w2c_B59:;
+    if (w2c_i0) {goto w2c_B54;}
+    goto w2c_B43;
+    w2c_B56:;
     w2c_i0 = w2c_l32;
     w2c_i1 = 4294945979u;
     w2c_i0 += w2c_i1;
     switch (w2c_i0) {
-      case 0: goto w2c_B47;
-      case 1: goto w2c_B57;
-      case 2: goto w2c_B57;
-      case 3: goto w2c_B57;
-      case 4: goto w2c_B57;
-      case 5: goto w2c_B57;
-      case 6: goto w2c_B57;
-      case 7: goto w2c_B47;
-      default: goto w2c_B60;
+      case 0: goto w2c_B44;
+      case 1: goto w2c_B54;
+      case 2: goto w2c_B54;
+      case 3: goto w2c_B54;
+      case 4: goto w2c_B54;
+      case 5: goto w2c_B54;
+      case 6: goto w2c_B54;
+      case 7: goto w2c_B44;
+      default: goto w2c_B57;
     }
-    w2c_B60:;
+    w2c_B57:;
     w2c_i0 = w2c_l32;
     w2c_i1 = 4294943110u;
     w2c_i0 += w2c_i1;
     switch (w2c_i0) {
-      case 0: goto w2c_B47;
-      case 1: goto w2c_B57;
-      case 2: goto w2c_B57;
-      case 3: goto w2c_B57;
-      case 4: goto w2c_B46;
-      default: goto w2c_B61;
+      case 0: goto w2c_B44;
+      case 1: goto w2c_B54;
+      case 2: goto w2c_B54;
+      case 3: goto w2c_B54;
+      case 4: goto w2c_B43;
+      default: goto w2c_B58;
     }
-    w2c_B61:;
+    w2c_B58:;
     w2c_i0 = w2c_l32;
     w2c_i1 = 22810u;
     w2c_i0 = w2c_i0 != w2c_i1;
-    if (w2c_i0) {goto w2c_B57;}
-    goto w2c_B46;
-    w2c_B58:;
+    if (w2c_i0) {goto w2c_B54;}
+    goto w2c_B43;
+    w2c_B55:;
     w2c_i0 = w2c_l32;
     w2c_i1 = 28856u;
     w2c_i0 = (u32)((s32)w2c_i0 > (s32)w2c_i1);
-    if (w2c_i0) {goto w2c_B62;}
+    if (w2c_i0) {goto w2c_B59;}
     w2c_i0 = w2c_l32;
     w2c_i1 = 4294941328u;
     w2c_i0 += w2c_i1;
     switch (w2c_i0) {
-      case 0: goto w2c_B47;
-      case 1: goto w2c_B57;
-      case 2: goto w2c_B57;
-      case 3: goto w2c_B57;
-      case 4: goto w2c_B57;
-      case 5: goto w2c_B57;
-      case 6: goto w2c_B57;
-      case 7: goto w2c_B57;
-      case 8: goto w2c_B47;
-      default: goto w2c_B63;
+      case 0: goto w2c_B44;
+      case 1: goto w2c_B54;
+      case 2: goto w2c_B54;
+      case 3: goto w2c_B54;
+      case 4: goto w2c_B54;
+      case 5: goto w2c_B54;
+      case 6: goto w2c_B54;
+      case 7: goto w2c_B54;
+      case 8: goto w2c_B44;
+      default: goto w2c_B60;
     }
-    w2c_B63:;
+    w2c_B60:;
     w2c_i0 = w2c_l32;
     w2c_i1 = 24319u;
     w2c_i0 = w2c_i0 == w2c_i1;
-    if (w2c_i0) {goto w2c_B47;}
+    if (w2c_i0) {goto w2c_B44;}
     w2c_i0 = w2c_l32;
     w2c_i1 = 26469u;
     w2c_i0 = w2c_i0 != w2c_i1;
-    if (w2c_i0) {goto w2c_B57;}
-    goto w2c_B46;
-    w2c_B62:;
+    if (w2c_i0) {goto w2c_B54;}
+    goto w2c_B43;
+    w2c_B59:;
     w2c_i0 = w2c_l32;
     w2c_i1 = 28857u;
     w2c_i0 = w2c_i0 == w2c_i1;
-    if (w2c_i0) {goto w2c_B47;}
+    if (w2c_i0) {goto w2c_B44;}
     w2c_i0 = w2c_l32;
     w2c_i1 = 39192u;
     w2c_i0 = w2c_i0 == w2c_i1;
-    if (w2c_i0) {goto w2c_B46;}
+    if (w2c_i0) {goto w2c_B43;}
     w2c_i0 = w2c_l32;
     w2c_i1 = 40670u;
     w2c_i0 = w2c_i0 == w2c_i1;
-    if (w2c_i0) {goto w2c_B47;}
-    w2c_B57:;
+    if (w2c_i0) {goto w2c_B44;}
+    w2c_B54:;
     w2c_i0 = w2c_l32;
     w2c_i1 = 4294902000u;
     w2c_i0 += w2c_i1;
     w2c_i1 = 9u;
     w2c_i0 = w2c_i0 > w2c_i1;
-    w2c_B47:;
+    w2c_B44:;
     w2c_i0 = 0u;
     w2c_p3 = w2c_i0;
-    w2c_B46:;
+    w2c_B43:;
     w2c_i0 = w2c_p2;
     w2c_i0 = !(w2c_i0);
-    if (w2c_i0) {goto w2c_B65;}
+    if (w2c_i0) {goto w2c_B62;}
     w2c_i0 = w2c_p3;
     w2c_j1 = w2c_l23;
     w2c_j2 = w2c_l22;
-    w2c_i1 = w2c_f19(m, w2c_j1, w2c_j2);
+    w2c_i1 = w2c_f22(m, w2c_j1, w2c_j2);
     w2c_i0 |= w2c_i1;
-    w2c_i0 = !(w2c_i0);
-    if (w2c_i0) {goto w2c_B64;}
-    goto w2c_B16;
-    w2c_B65:;
+    if (w2c_i0) {goto w2c_B16;}
+    goto w2c_B61;
+    w2c_B62:;
     w2c_i0 = w2c_p3;
     if (w2c_i0) {goto w2c_B16;}
-    w2c_B64:;
+    w2c_B61:;
     w2c_j0 = w2c_l23;
     w2c_j1 = w2c_l22;
-    w2c_i0 = w2c_f20(m, w2c_j0, w2c_j1);
+    w2c_i0 = w2c_f23(m, w2c_j0, w2c_j1);
     if (w2c_i0) {goto w2c_B16;}
-    w2c_B26:;
+    w2c_B23:;
     w2c_j0 = w2c_l9;
     w2c_i0 = (u32)(w2c_j0);
     w2c_j1 = 0ull;
@@ -53837,7 +53667,7 @@ static u32 w2c_f83(module *m, u64 w2c_p0, u64 w2c_p1, u32 w2c_p2, u32 w2c_p3, u3
     w2c_j1 = w2c_l23;
     w2c_j2 = w2c_l22;
     w2c_i3 = w2c_l34;
-    w2c_f28(m, w2c_j0, w2c_j1, w2c_j2, w2c_i3);
+    w2c_f31(m, w2c_j0, w2c_j1, w2c_j2, w2c_i3);
     w2c_j0 = w2c_l9;
     w2c_i0 = (u32)(w2c_j0);
     w2c_j1 = w2c_l18;
@@ -53921,7 +53751,7 @@ static u32 w2c_f83(module *m, u64 w2c_p0, u64 w2c_p1, u32 w2c_p2, u32 w2c_p3, u3
     w2c_j0 -= w2c_j1;
     w2c_j1 = w2c_l10;
     w2c_i0 = w2c_j0 >= w2c_j1;
-    if (w2c_i0) {goto w2c_B66;}
+    if (w2c_i0) {goto w2c_B63;}
     w2c_j0 = w2c_l10;
     w2c_j1 = 3ull;
     w2c_j0 &= w2c_j1;
@@ -53931,14 +53761,14 @@ static u32 w2c_f83(module *m, u64 w2c_p0, u64 w2c_p1, u32 w2c_p2, u32 w2c_p3, u3
     w2c_j0 = w2c_l10;
     w2c_j1 = 4ull;
     w2c_i0 = w2c_j0 < w2c_j1;
-    if (w2c_i0) {goto w2c_B67;}
+    if (w2c_i0) {goto w2c_B64;}
     w2c_j0 = w2c_l10;
     w2c_j1 = 18446744073709551612ull;
     w2c_j0 &= w2c_j1;
     w2c_l29 = w2c_j0;
     w2c_j0 = 0ull;
     w2c_l11 = w2c_j0;
-    w2c_L68:
+    w2c_L65:
       w2c_j0 = w2c_l28;
       w2c_j1 = w2c_l11;
       w2c_j0 += w2c_j1;
@@ -53987,11 +53817,11 @@ static u32 w2c_f83(module *m, u64 w2c_p0, u64 w2c_p1, u32 w2c_p2, u32 w2c_p3, u3
       w2c_j1 += w2c_j2;
       w2c_l11 = w2c_j1;
       w2c_i0 = w2c_j0 != w2c_j1;
-      if (w2c_i0) {goto w2c_L68;}
+      if (w2c_i0) {goto w2c_L65;}
     w2c_j0 = w2c_l30;
     w2c_i0 = !(w2c_j0);
     if (w2c_i0) {goto w2c_B15;}
-    w2c_B67:;
+    w2c_B64:;
     w2c_j0 = w2c_l15;
     w2c_j1 = w2c_l26;
     w2c_j2 = w2c_l11;
@@ -54012,7 +53842,7 @@ static u32 w2c_f83(module *m, u64 w2c_p0, u64 w2c_p1, u32 w2c_p2, u32 w2c_p3, u3
     w2c_j1 = w2c_l11;
     w2c_j0 += w2c_j1;
     w2c_l11 = w2c_j0;
-    w2c_L69:
+    w2c_L66:
       w2c_j0 = w2c_l10;
       w2c_i0 = (u32)(w2c_j0);
       w2c_j1 = w2c_l11;
@@ -54033,10 +53863,10 @@ static u32 w2c_f83(module *m, u64 w2c_p0, u64 w2c_p1, u32 w2c_p2, u32 w2c_p3, u3
       w2c_l30 = w2c_j0;
       w2c_j1 = 0ull;
       w2c_i0 = w2c_j0 != w2c_j1;
-      if (w2c_i0) {goto w2c_L69;}
+      if (w2c_i0) {goto w2c_L66;}
       goto w2c_B15;
     UNREACHABLE;
-    w2c_B66:;
+    w2c_B63:;
     w2c_j0 = w2c_l10;
     w2c_i0 = !(w2c_j0);
     if (w2c_i0) {goto w2c_B15;}
@@ -54070,7 +53900,7 @@ static u32 w2c_f83(module *m, u64 w2c_p0, u64 w2c_p1, u32 w2c_p2, u32 w2c_p3, u3
     w2c_j0 -= w2c_j1;
     w2c_j1 = w2c_l22;
     w2c_i0 = w2c_j0 >= w2c_j1;
-    if (w2c_i0) {goto w2c_B70;}
+    if (w2c_i0) {goto w2c_B67;}
     w2c_j0 = w2c_l22;
     w2c_j1 = 3ull;
     w2c_j0 &= w2c_j1;
@@ -54080,14 +53910,14 @@ static u32 w2c_f83(module *m, u64 w2c_p0, u64 w2c_p1, u32 w2c_p2, u32 w2c_p3, u3
     w2c_j0 = w2c_l22;
     w2c_j1 = 4ull;
     w2c_i0 = w2c_j0 < w2c_j1;
-    if (w2c_i0) {goto w2c_B71;}
+    if (w2c_i0) {goto w2c_B68;}
     w2c_j0 = w2c_l22;
     w2c_j1 = 18446744073709551612ull;
     w2c_j0 &= w2c_j1;
     w2c_l29 = w2c_j0;
     w2c_j0 = 0ull;
     w2c_l11 = w2c_j0;
-    w2c_L72:
+    w2c_L69:
       w2c_j0 = w2c_l28;
       w2c_j1 = w2c_l11;
       w2c_j0 += w2c_j1;
@@ -54136,11 +53966,11 @@ static u32 w2c_f83(module *m, u64 w2c_p0, u64 w2c_p1, u32 w2c_p2, u32 w2c_p3, u3
       w2c_j1 += w2c_j2;
       w2c_l11 = w2c_j1;
       w2c_i0 = w2c_j0 != w2c_j1;
-      if (w2c_i0) {goto w2c_L72;}
+      if (w2c_i0) {goto w2c_L69;}
     w2c_j0 = w2c_l30;
     w2c_i0 = !(w2c_j0);
     if (w2c_i0) {goto w2c_B15;}
-    w2c_B71:;
+    w2c_B68:;
     w2c_j0 = w2c_l15;
     w2c_j1 = w2c_l26;
     w2c_j2 = w2c_l11;
@@ -54161,7 +53991,7 @@ static u32 w2c_f83(module *m, u64 w2c_p0, u64 w2c_p1, u32 w2c_p2, u32 w2c_p3, u3
     w2c_j1 = w2c_l11;
     w2c_j0 += w2c_j1;
     w2c_l11 = w2c_j0;
-    w2c_L73:
+    w2c_L70:
       w2c_j0 = w2c_l10;
       w2c_i0 = (u32)(w2c_j0);
       w2c_j1 = w2c_l11;
@@ -54182,10 +54012,10 @@ static u32 w2c_f83(module *m, u64 w2c_p0, u64 w2c_p1, u32 w2c_p2, u32 w2c_p3, u3
       w2c_l30 = w2c_j0;
       w2c_j1 = 0ull;
       w2c_i0 = w2c_j0 != w2c_j1;
-      if (w2c_i0) {goto w2c_L73;}
+      if (w2c_i0) {goto w2c_L70;}
       goto w2c_B15;
     UNREACHABLE;
-    w2c_B70:;
+    w2c_B67:;
     w2c_j0 = w2c_l22;
     w2c_i0 = !(w2c_j0);
     if (w2c_i0) {goto w2c_B15;}
@@ -54207,7 +54037,7 @@ static u32 w2c_f83(module *m, u64 w2c_p0, u64 w2c_p1, u32 w2c_p2, u32 w2c_p3, u3
     w2c_j1 = w2c_l9;
     w2c_j2 = 72ull;
     w2c_j1 += w2c_j2;
-    w2c_f22(m, w2c_j0, w2c_j1);
+    w2c_f25(m, w2c_j0, w2c_j1);
     w2c_j0 = w2c_l9;
     w2c_i0 = (u32)(w2c_j0);
     w2c_i0 = i32_load8_u(m, (u64)(w2c_i0) + 16u);
@@ -54230,23 +54060,23 @@ static u32 w2c_f83(module *m, u64 w2c_p0, u64 w2c_p1, u32 w2c_p2, u32 w2c_p3, u3
   w2c_l29 = w2c_j0;
   w2c_j1 = w2c_p7;
   w2c_i0 = w2c_j0 <= w2c_j1;
-  if (w2c_i0) {goto w2c_B75;}
+  if (w2c_i0) {goto w2c_B72;}
   w2c_i0 = 6u;
   w2c_l32 = w2c_i0;
-  goto w2c_B74;
-  w2c_B75:;
+  goto w2c_B71;
+  w2c_B72:;
   w2c_j0 = w2c_l15;
   w2c_j1 = w2c_l16;
   w2c_j0 += w2c_j1;
-  w2c_l22 = w2c_j0;
+  w2c_l23 = w2c_j0;
   w2c_j1 = w2c_l13;
   w2c_j2 = w2c_l17;
   w2c_j1 += w2c_j2;
-  w2c_l23 = w2c_j1;
+  w2c_l22 = w2c_j1;
   w2c_j0 -= w2c_j1;
   w2c_j1 = w2c_l10;
   w2c_i0 = w2c_j0 >= w2c_j1;
-  if (w2c_i0) {goto w2c_B77;}
+  if (w2c_i0) {goto w2c_B74;}
   w2c_j0 = w2c_l10;
   w2c_j1 = 3ull;
   w2c_j0 &= w2c_j1;
@@ -54258,20 +54088,20 @@ static u32 w2c_f83(module *m, u64 w2c_p0, u64 w2c_p1, u32 w2c_p2, u32 w2c_p3, u3
   w2c_j0 -= w2c_j1;
   w2c_j1 = 18446744073709551612ull;
   w2c_i0 = w2c_j0 > w2c_j1;
-  if (w2c_i0) {goto w2c_B78;}
+  if (w2c_i0) {goto w2c_B75;}
   w2c_j0 = w2c_l10;
   w2c_j1 = 18446744073709551612ull;
   w2c_j0 &= w2c_j1;
   w2c_l28 = w2c_j0;
   w2c_j0 = 0ull;
   w2c_l11 = w2c_j0;
-  w2c_L79:
-    w2c_j0 = w2c_l22;
+  w2c_L76:
+    w2c_j0 = w2c_l23;
     w2c_j1 = w2c_l11;
     w2c_j0 += w2c_j1;
     w2c_l10 = w2c_j0;
     w2c_i0 = (u32)(w2c_j0);
-    w2c_j1 = w2c_l23;
+    w2c_j1 = w2c_l22;
     w2c_j2 = w2c_l11;
     w2c_j1 += w2c_j2;
     w2c_l31 = w2c_j1;
@@ -54314,11 +54144,11 @@ static u32 w2c_f83(module *m, u64 w2c_p0, u64 w2c_p1, u32 w2c_p2, u32 w2c_p3, u3
     w2c_j1 += w2c_j2;
     w2c_l11 = w2c_j1;
     w2c_i0 = w2c_j0 != w2c_j1;
-    if (w2c_i0) {goto w2c_L79;}
+    if (w2c_i0) {goto w2c_L76;}
   w2c_j0 = w2c_l30;
   w2c_i0 = !(w2c_j0);
-  if (w2c_i0) {goto w2c_B76;}
-  w2c_B78:;
+  if (w2c_i0) {goto w2c_B73;}
+  w2c_B75:;
   w2c_j0 = w2c_p6;
   w2c_j1 = w2c_l14;
   w2c_j2 = w2c_l16;
@@ -54335,7 +54165,7 @@ static u32 w2c_f83(module *m, u64 w2c_p0, u64 w2c_p1, u32 w2c_p2, u32 w2c_p3, u3
   w2c_j1 += w2c_j2;
   w2c_j0 += w2c_j1;
   w2c_l11 = w2c_j0;
-  w2c_L80:
+  w2c_L77:
     w2c_j0 = w2c_l10;
     w2c_i0 = (u32)(w2c_j0);
     w2c_j1 = w2c_l11;
@@ -54356,24 +54186,24 @@ static u32 w2c_f83(module *m, u64 w2c_p0, u64 w2c_p1, u32 w2c_p2, u32 w2c_p3, u3
     w2c_l30 = w2c_j0;
     w2c_j1 = 0ull;
     w2c_i0 = w2c_j0 != w2c_j1;
-    if (w2c_i0) {goto w2c_L80;}
-    goto w2c_B76;
+    if (w2c_i0) {goto w2c_L77;}
+    goto w2c_B73;
   UNREACHABLE;
-  w2c_B77:;
+  w2c_B74:;
   w2c_j0 = w2c_l10;
   w2c_i0 = !(w2c_j0);
-  if (w2c_i0) {goto w2c_B76;}
-  w2c_j0 = w2c_l22;
+  if (w2c_i0) {goto w2c_B73;}
+  w2c_j0 = w2c_l23;
   w2c_i0 = (u32)(w2c_j0);
-  w2c_j1 = w2c_l23;
+  w2c_j1 = w2c_l22;
   w2c_i1 = (u32)(w2c_j1);
   w2c_j2 = w2c_l10;
   w2c_i2 = (u32)(w2c_j2);
   memory_copy(m, w2c_i0, w2c_i1, w2c_i2);
-  w2c_B76:;
+  w2c_B73:;
   w2c_i0 = 0u;
   w2c_l32 = w2c_i0;
-  w2c_B74:;
+  w2c_B71:;
   w2c_j0 = w2c_p8;
   w2c_i0 = (u32)(w2c_j0);
   w2c_j1 = w2c_l29;
@@ -54407,14 +54237,14 @@ static u32 w2c_chinese_quantity_print(module *m, u64 w2c_p0, u32 w2c_p1, u32 w2c
   w2c_j4 = w2c_p4;
   w2c_j5 = w2c_p5;
   w2c_j6 = w2c_p6;
-  w2c_i0 = w2c_f85(m, w2c_j0, w2c_i1, w2c_i2, w2c_i3, w2c_j4, w2c_j5, w2c_j6);
+  w2c_i0 = w2c_f87(m, w2c_j0, w2c_i1, w2c_i2, w2c_i3, w2c_j4, w2c_j5, w2c_j6);
   w2c_p3 = w2c_i0;
   w2c_f1(m);
   w2c_i0 = w2c_p3;
   return w2c_i0;
 }
 
-static u32 w2c_f85(module *m, u64 w2c_p0, u32 w2c_p1, u32 w2c_p2, u32 w2c_p3, u64 w2c_p4, u64 w2c_p5, u64 w2c_p6) {
+static u32 w2c_f87(module *m, u64 w2c_p0, u32 w2c_p1, u32 w2c_p2, u32 w2c_p3, u64 w2c_p4, u64 w2c_p5, u64 w2c_p6) {
   u32 w2c_l27 = 0, w2c_l28 = 0, w2c_l29 = 0, w2c_l30 = 0, w2c_l31 = 0;
   u64 w2c_l7 = 0, w2c_l8 = 0, w2c_l9 = 0, w2c_l10 = 0, w2c_l11 = 0, w2c_l12 = 0, w2c_l13 = 0, w2c_l14 = 0, w2c_l15 = 0, w2c_l16 = 0, w2c_l17 = 0, w2c_l18 = 0, w2c_l19 = 0, w2c_l20 = 0, w2c_l21 = 0, w2c_l22 = 0, w2c_l23 = 0, w2c_l24 = 0, w2c_l25 = 0, w2c_l26 = 0;
   u32 w2c_i0, w2c_i1, w2c_i2, w2c_i3, w2c_i4, w2c_i5, w2c_i6;
@@ -54862,15 +54692,15 @@ static u32 w2c_f85(module *m, u64 w2c_p0, u32 w2c_p1, u32 w2c_p2, u32 w2c_p3, u6
   w2c_j0 += w2c_j1;
   w2c_l18 = w2c_j0;
   w2c_B11:;
-  w2c_j0 = 65948ull;
-  w2c_j1 = 66140ull;
+  w2c_j0 = 65924ull;
+  w2c_j1 = 66116ull;
   w2c_i2 = w2c_p3;
   w2c_i3 = 1u;
   w2c_i2 = w2c_i2 == w2c_i3;
   w2c_p1 = w2c_i2;
   w2c_j0 = w2c_i2 ? w2c_j0 : w2c_j1;
-  w2c_j1 = 65564ull;
-  w2c_j2 = 65756ull;
+  w2c_j1 = 65540ull;
+  w2c_j2 = 65732ull;
   w2c_i3 = w2c_p1;
   w2c_j1 = w2c_i3 ? w2c_j1 : w2c_j2;
   w2c_i2 = w2c_p2;
@@ -55559,15 +55389,15 @@ static u32 w2c_f85(module *m, u64 w2c_p0, u32 w2c_p1, u32 w2c_p2, u32 w2c_p3, u6
   i32_store16(m, (u64)(w2c_i0) + 998, w2c_i1);
   w2c_j0 = w2c_l8;
   w2c_i0 = (u32)(w2c_j0);
-  w2c_j1 = 65948ull;
-  w2c_j2 = 66140ull;
+  w2c_j1 = 65924ull;
+  w2c_j2 = 66116ull;
   w2c_i3 = w2c_p3;
   w2c_i4 = 1u;
   w2c_i3 = w2c_i3 == w2c_i4;
   w2c_p1 = w2c_i3;
   w2c_j1 = w2c_i3 ? w2c_j1 : w2c_j2;
-  w2c_j2 = 65564ull;
-  w2c_j3 = 65756ull;
+  w2c_j2 = 65540ull;
+  w2c_j3 = 65732ull;
   w2c_i4 = w2c_p1;
   w2c_j2 = w2c_i4 ? w2c_j2 : w2c_j3;
   w2c_i3 = w2c_p2;
@@ -55585,7 +55415,7 @@ static u32 w2c_f85(module *m, u64 w2c_p0, u32 w2c_p1, u32 w2c_p2, u32 w2c_p3, u6
   w2c_i4 = 0u;
   w2c_j5 = w2c_l14;
   w2c_j6 = w2c_l15;
-  w2c_j1 = w2c_f27(m, w2c_j1, w2c_j2, w2c_i3, w2c_i4, w2c_j5, w2c_j6);
+  w2c_j1 = w2c_f30(m, w2c_j1, w2c_j2, w2c_i3, w2c_i4, w2c_j5, w2c_j6);
   w2c_p0 = w2c_j1;
   w2c_j0 -= w2c_j1;
   w2c_l11 = w2c_j0;
@@ -55698,7 +55528,7 @@ static u32 w2c_f85(module *m, u64 w2c_p0, u32 w2c_p1, u32 w2c_p2, u32 w2c_p3, u6
   w2c_i3 = 0u;
   w2c_j4 = w2c_l7;
   w2c_j5 = w2c_l10;
-  w2c_j0 = w2c_f27(m, w2c_j0, w2c_j1, w2c_i2, w2c_i3, w2c_j4, w2c_j5);
+  w2c_j0 = w2c_f30(m, w2c_j0, w2c_j1, w2c_i2, w2c_i3, w2c_j4, w2c_j5);
   w2c_l10 = w2c_j0;
   w2c_j0 = w2c_l12;
   w2c_i0 = (u32)(w2c_j0);
@@ -55840,7 +55670,7 @@ static u32 w2c_f85(module *m, u64 w2c_p0, u32 w2c_p1, u32 w2c_p2, u32 w2c_p3, u6
   w2c_j3 = w2c_l11;
   w2c_j2 -= w2c_j3;
   w2c_l22 = w2c_j2;
-  w2c_f30(m, w2c_j0, w2c_j1, w2c_j2);
+  w2c_f32(m, w2c_j0, w2c_j1, w2c_j2);
   w2c_j0 = w2c_l8;
   w2c_i0 = (u32)(w2c_j0);
   w2c_i0 = i32_load8_u(m, (u64)(w2c_i0) + 992u);
@@ -55853,7 +55683,7 @@ static u32 w2c_f85(module *m, u64 w2c_p0, u32 w2c_p1, u32 w2c_p2, u32 w2c_p3, u6
   w2c_j1 = w2c_l8;
   w2c_i1 = (u32)(w2c_j1);
   w2c_i1 = i32_load(m, (u64)(w2c_i1) + 1000u);
-  w2c_f35(m, w2c_j0, w2c_i1);
+  w2c_f37(m, w2c_j0, w2c_i1);
   w2c_j0 = w2c_l8;
   w2c_i0 = (u32)(w2c_j0);
   w2c_i0 = i32_load8_u(m, (u64)(w2c_i0) + 40u);
@@ -55896,7 +55726,7 @@ static u32 w2c_f85(module *m, u64 w2c_p0, u32 w2c_p1, u32 w2c_p2, u32 w2c_p3, u6
     w2c_j0 += w2c_j1;
     w2c_j1 = w2c_l10;
     w2c_j2 = w2c_l11;
-    w2c_f30(m, w2c_j0, w2c_j1, w2c_j2);
+    w2c_f32(m, w2c_j0, w2c_j1, w2c_j2);
     w2c_j0 = w2c_l8;
     w2c_i0 = (u32)(w2c_j0);
     w2c_i0 = i32_load8_u(m, (u64)(w2c_i0) + 992u);
@@ -55923,7 +55753,7 @@ static u32 w2c_f85(module *m, u64 w2c_p0, u32 w2c_p1, u32 w2c_p2, u32 w2c_p3, u6
     w2c_j1 = w2c_l8;
     w2c_i1 = (u32)(w2c_j1);
     w2c_i1 = i32_load(m, (u64)(w2c_i1) + 1000u);
-    w2c_f35(m, w2c_j0, w2c_i1);
+    w2c_f37(m, w2c_j0, w2c_i1);
     w2c_j0 = w2c_l8;
     w2c_i0 = (u32)(w2c_j0);
     w2c_i0 = i32_load8_u(m, (u64)(w2c_i0) + 32u);
@@ -56035,15 +55865,15 @@ static u32 w2c_f85(module *m, u64 w2c_p0, u32 w2c_p1, u32 w2c_p2, u32 w2c_p3, u6
   i32_store16(m, (u64)(w2c_i0) + 998, w2c_i1);
   w2c_j0 = w2c_l8;
   w2c_i0 = (u32)(w2c_j0);
-  w2c_j1 = 65948ull;
-  w2c_j2 = 66140ull;
+  w2c_j1 = 65924ull;
+  w2c_j2 = 66116ull;
   w2c_i3 = w2c_p3;
   w2c_i4 = 1u;
   w2c_i3 = w2c_i3 == w2c_i4;
   w2c_p1 = w2c_i3;
   w2c_j1 = w2c_i3 ? w2c_j1 : w2c_j2;
-  w2c_j2 = 65564ull;
-  w2c_j3 = 65756ull;
+  w2c_j2 = 65540ull;
+  w2c_j3 = 65732ull;
   w2c_i4 = w2c_p1;
   w2c_j2 = w2c_i4 ? w2c_j2 : w2c_j3;
   w2c_i3 = w2c_p2;
@@ -56065,7 +55895,7 @@ static u32 w2c_f85(module *m, u64 w2c_p0, u32 w2c_p1, u32 w2c_p2, u32 w2c_p3, u6
   w2c_i6 = 0u;
   w2c_j7 = w2c_p0;
   w2c_j8 = w2c_l7;
-  w2c_j3 = w2c_f27(m, w2c_j3, w2c_j4, w2c_i5, w2c_i6, w2c_j7, w2c_j8);
+  w2c_j3 = w2c_f30(m, w2c_j3, w2c_j4, w2c_i5, w2c_i6, w2c_j7, w2c_j8);
   w2c_l12 = w2c_j3;
   w2c_j2 -= w2c_j3;
   w2c_l7 = w2c_j2;
@@ -56288,14 +56118,14 @@ static u32 w2c_chinese_quantity_read(module *m, u64 w2c_p0, u64 w2c_p1, u32 w2c_
   w2c_j1 = w2c_p1;
   w2c_i2 = w2c_p2;
   w2c_j3 = w2c_p3;
-  w2c_i0 = w2c_f87(m, w2c_j0, w2c_j1, w2c_i2, w2c_j3);
+  w2c_i0 = w2c_f89(m, w2c_j0, w2c_j1, w2c_i2, w2c_j3);
   w2c_p2 = w2c_i0;
   w2c_f1(m);
   w2c_i0 = w2c_p2;
   return w2c_i0;
 }
 
-static u32 w2c_f87(module *m, u64 w2c_p0, u64 w2c_p1, u32 w2c_p2, u64 w2c_p3) {
+static u32 w2c_f89(module *m, u64 w2c_p0, u64 w2c_p1, u32 w2c_p2, u64 w2c_p3) {
   u32 w2c_l10 = 0;
   u64 w2c_l4 = 0, w2c_l5 = 0, w2c_l6 = 0, w2c_l7 = 0, w2c_l8 = 0, w2c_l9 = 0;
   u32 w2c_i0, w2c_i1, w2c_i2, w2c_i3, w2c_i4, w2c_i5;
@@ -56484,7 +56314,7 @@ static u32 w2c_f87(module *m, u64 w2c_p0, u64 w2c_p1, u32 w2c_p2, u64 w2c_p3) {
   w2c_i4 = w2c_l10;
   w2c_i5 = w2c_p2;
   w2c_i3 = w2c_i5 ? w2c_i3 : w2c_i4;
-  w2c_f28(m, w2c_j0, w2c_j1, w2c_j2, w2c_i3);
+  w2c_f31(m, w2c_j0, w2c_j1, w2c_j2, w2c_i3);
   w2c_j0 = w2c_p3;
   w2c_i0 = (u32)(w2c_j0);
   w2c_j1 = 0ull;
@@ -56759,14 +56589,14 @@ static u32 w2c_chinese_number_read_utf8(module *m, u64 w2c_p0, u64 w2c_p1, u32 w
   w2c_i2 = w2c_p2;
   w2c_i3 = w2c_p3;
   w2c_j4 = w2c_p4;
-  w2c_i0 = w2c_f89(m, w2c_j0, w2c_j1, w2c_i2, w2c_i3, w2c_j4);
+  w2c_i0 = w2c_f91(m, w2c_j0, w2c_j1, w2c_i2, w2c_i3, w2c_j4);
   w2c_p3 = w2c_i0;
   w2c_f1(m);
   w2c_i0 = w2c_p3;
   return w2c_i0;
 }
 
-static u32 w2c_f89(module *m, u64 w2c_p0, u64 w2c_p1, u32 w2c_p2, u32 w2c_p3, u64 w2c_p4) {
+static u32 w2c_f91(module *m, u64 w2c_p0, u64 w2c_p1, u32 w2c_p2, u32 w2c_p3, u64 w2c_p4) {
   u32 w2c_l7 = 0;
   u64 w2c_l5 = 0, w2c_l6 = 0;
   u32 w2c_i0, w2c_i1, w2c_i2, w2c_i3, w2c_i4;
@@ -56800,7 +56630,7 @@ static u32 w2c_f89(module *m, u64 w2c_p0, u64 w2c_p1, u32 w2c_p2, u32 w2c_p3, u6
   w2c_j1 = w2c_p1;
   w2c_i2 = w2c_p2;
   w2c_j3 = w2c_p4;
-  w2c_i0 = w2c_f49(m, w2c_j0, w2c_j1, w2c_i2, w2c_j3);
+  w2c_i0 = w2c_f51(m, w2c_j0, w2c_j1, w2c_i2, w2c_j3);
   w2c_p2 = w2c_i0;
   w2c_j0 = w2c_l5;
   m->w2c_g0 = w2c_j0;
@@ -56859,7 +56689,7 @@ static u32 w2c_f89(module *m, u64 w2c_p0, u64 w2c_p1, u32 w2c_p2, u32 w2c_p3, u6
   w2c_i3 = w2c_l7;
   w2c_i4 = w2c_p3;
   w2c_j5 = w2c_p4;
-  w2c_i0 = w2c_f46(m, w2c_j0, w2c_j1, w2c_i2, w2c_i3, w2c_i4, w2c_j5);
+  w2c_i0 = w2c_f48(m, w2c_j0, w2c_j1, w2c_i2, w2c_i3, w2c_i4, w2c_j5);
   w2c_p2 = w2c_i0;
   w2c_j0 = w2c_l5;
   m->w2c_g0 = w2c_j0;
@@ -56874,7 +56704,7 @@ static u32 w2c_f89(module *m, u64 w2c_p0, u64 w2c_p1, u32 w2c_p2, u32 w2c_p3, u6
   w2c_i3 = w2c_l7;
   w2c_i4 = w2c_p3;
   w2c_j5 = w2c_p4;
-  w2c_i0 = w2c_f48(m, w2c_j0, w2c_j1, w2c_i2, w2c_i3, w2c_i4, w2c_j5);
+  w2c_i0 = w2c_f50(m, w2c_j0, w2c_j1, w2c_i2, w2c_i3, w2c_i4, w2c_j5);
   w2c_p2 = w2c_i0;
   w2c_j0 = w2c_l5;
   m->w2c_g0 = w2c_j0;
@@ -56897,14 +56727,14 @@ static u32 w2c_chinese_number_read(module *m, u64 w2c_p0, u64 w2c_p1, u32 w2c_p2
   w2c_i2 = w2c_p2;
   w2c_i3 = w2c_p3;
   w2c_j4 = w2c_p4;
-  w2c_i0 = w2c_f91(m, w2c_j0, w2c_j1, w2c_i2, w2c_i3, w2c_j4);
+  w2c_i0 = w2c_f93(m, w2c_j0, w2c_j1, w2c_i2, w2c_i3, w2c_j4);
   w2c_p3 = w2c_i0;
   w2c_f1(m);
   w2c_i0 = w2c_p3;
   return w2c_i0;
 }
 
-static u32 w2c_f91(module *m, u64 w2c_p0, u64 w2c_p1, u32 w2c_p2, u32 w2c_p3, u64 w2c_p4) {
+static u32 w2c_f93(module *m, u64 w2c_p0, u64 w2c_p1, u32 w2c_p2, u32 w2c_p3, u64 w2c_p4) {
   u32 w2c_l8 = 0;
   u64 w2c_l5 = 0, w2c_l6 = 0, w2c_l7 = 0;
   u32 w2c_i0, w2c_i1, w2c_i2, w2c_i3, w2c_i4;
@@ -56913,15 +56743,33 @@ static u32 w2c_f91(module *m, u64 w2c_p0, u64 w2c_p1, u32 w2c_p2, u32 w2c_p3, u6
   w2c_l5 = w2c_j0;
   w2c_j1 = 16ull;
   w2c_i0 = (u64)((s64)w2c_j0 < (s64)w2c_j1);
-  if (w2c_i0) {goto w2c_B1;}
+  if (w2c_i0) {goto w2c_B2;}
   w2c_i0 = w2c_p2;
-  w2c_i1 = 9u;
-  w2c_i0 = w2c_i0 > w2c_i1;
-  if (w2c_i0) {goto w2c_B0;}
+  w2c_i1 = 10u;
+  w2c_i0 = w2c_i0 < w2c_i1;
+  if (w2c_i0) {goto w2c_B3;}
+  w2c_j0 = w2c_p4;
+  w2c_i0 = (u32)(w2c_j0);
+  w2c_j1 = 0ull;
+  i64_store(m, (u64)(w2c_i0) + 24, w2c_j1);
+  w2c_j0 = w2c_p4;
+  w2c_i0 = (u32)(w2c_j0);
+  w2c_j1 = 0ull;
+  i64_store(m, (u64)(w2c_i0) + 16, w2c_j1);
+  w2c_j0 = w2c_p4;
+  w2c_i0 = (u32)(w2c_j0);
+  w2c_j1 = 0ull;
+  i64_store(m, (u64)(w2c_i0) + 8, w2c_j1);
+  w2c_j0 = w2c_p4;
+  w2c_i0 = (u32)(w2c_j0);
+  w2c_j1 = 0ull;
+  i64_store(m, (u64)(w2c_i0), w2c_j1);
+  goto w2c_B0;
+  w2c_B3:;
   w2c_i0 = w2c_p3;
   w2c_i1 = 5u;
   w2c_i0 = w2c_i0 > w2c_i1;
-  if (w2c_i0) {goto w2c_B0;}
+  if (w2c_i0) {goto w2c_B1;}
   w2c_j0 = w2c_p0;
   w2c_j1 = 4096ull;
   w2c_j2 = 0ull;
@@ -56936,8 +56784,8 @@ static u32 w2c_f91(module *m, u64 w2c_p0, u64 w2c_p1, u32 w2c_p2, u32 w2c_p3, u6
   w2c_j0 = w2c_p1;
   w2c_j1 = 4ull;
   w2c_i0 = w2c_j0 < w2c_j1;
-  if (w2c_i0) {goto w2c_B3;}
-  w2c_L4:
+  if (w2c_i0) {goto w2c_B5;}
+  w2c_L6:
     w2c_j0 = w2c_p0;
     w2c_i0 = (u32)(w2c_j0);
     w2c_i0 = i32_load(m, (u64)(w2c_i0));
@@ -56947,7 +56795,7 @@ static u32 w2c_f91(module *m, u64 w2c_p0, u64 w2c_p1, u32 w2c_p2, u32 w2c_p3, u6
     w2c_i0 &= w2c_i1;
     w2c_i1 = 8421376u;
     w2c_i0 = w2c_i0 != w2c_i1;
-    if (w2c_i0) {goto w2c_B2;}
+    if (w2c_i0) {goto w2c_B4;}
     w2c_j0 = w2c_p0;
     w2c_j1 = 3ull;
     w2c_j0 += w2c_j1;
@@ -56958,22 +56806,22 @@ static u32 w2c_f91(module *m, u64 w2c_p0, u64 w2c_p1, u32 w2c_p2, u32 w2c_p3, u6
     w2c_l7 = w2c_j0;
     w2c_j1 = 3ull;
     w2c_i0 = w2c_j0 > w2c_j1;
-    if (w2c_i0) {goto w2c_L4;}
-  w2c_B3:;
+    if (w2c_i0) {goto w2c_L6;}
+  w2c_B5:;
   w2c_j0 = w2c_l7;
   w2c_j1 = 3ull;
   w2c_i0 = w2c_j0 > w2c_j1;
-  if (w2c_i0) {goto w2c_B2;}
+  if (w2c_i0) {goto w2c_B4;}
   w2c_j0 = w2c_l7;
   w2c_i0 = (u32)(w2c_j0);
   switch (w2c_i0) {
-    case 0: goto w2c_B5;
-    case 1: goto w2c_B2;
-    case 2: goto w2c_B2;
-    case 3: goto w2c_B6;
-    default: goto w2c_B5;
+    case 0: goto w2c_B7;
+    case 1: goto w2c_B4;
+    case 2: goto w2c_B4;
+    case 3: goto w2c_B8;
+    default: goto w2c_B7;
   }
-  w2c_B6:;
+  w2c_B8:;
   w2c_j0 = w2c_p0;
   w2c_i0 = (u32)(w2c_j0);
   w2c_i0 = i32_load16_u(m, (u64)(w2c_i0));
@@ -56991,12 +56839,12 @@ static u32 w2c_f91(module *m, u64 w2c_p0, u64 w2c_p1, u32 w2c_p2, u32 w2c_p3, u6
   w2c_i0 &= w2c_i1;
   w2c_i1 = 8421376u;
   w2c_i0 = w2c_i0 != w2c_i1;
-  if (w2c_i0) {goto w2c_B2;}
-  w2c_B5:;
+  if (w2c_i0) {goto w2c_B4;}
+  w2c_B7:;
   w2c_i0 = w2c_p3;
   w2c_i1 = 4u;
   w2c_i0 = w2c_i0 > w2c_i1;
-  if (w2c_i0) {goto w2c_B7;}
+  if (w2c_i0) {goto w2c_B9;}
   w2c_i0 = w2c_p3;
   w2c_j0 = (u64)(w2c_i0);
   w2c_j1 = 1ull;
@@ -57016,20 +56864,7 @@ static u32 w2c_f91(module *m, u64 w2c_p0, u64 w2c_p1, u32 w2c_p2, u32 w2c_p3, u6
   w2c_i0 = w2c_p2;
   w2c_i1 = 5u;
   w2c_i0 = w2c_i0 < w2c_i1;
-  if (w2c_i0) {goto w2c_B8;}
-  w2c_j0 = w2c_l6;
-  w2c_j1 = w2c_p1;
-  w2c_i2 = w2c_p2;
-  w2c_i3 = w2c_l8;
-  w2c_i4 = w2c_p3;
-  w2c_j5 = w2c_p4;
-  w2c_i0 = w2c_f46(m, w2c_j0, w2c_j1, w2c_i2, w2c_i3, w2c_i4, w2c_j5);
-  w2c_p2 = w2c_i0;
-  w2c_j0 = w2c_l5;
-  m->w2c_g0 = w2c_j0;
-  w2c_i0 = w2c_p2;
-  goto w2c_Bfunc;
-  w2c_B8:;
+  if (w2c_i0) {goto w2c_B10;}
   w2c_j0 = w2c_l6;
   w2c_j1 = w2c_p1;
   w2c_i2 = w2c_p2;
@@ -57042,32 +56877,45 @@ static u32 w2c_f91(module *m, u64 w2c_p0, u64 w2c_p1, u32 w2c_p2, u32 w2c_p3, u6
   m->w2c_g0 = w2c_j0;
   w2c_i0 = w2c_p2;
   goto w2c_Bfunc;
-  w2c_B7:;
+  w2c_B10:;
+  w2c_j0 = w2c_l6;
+  w2c_j1 = w2c_p1;
+  w2c_i2 = w2c_p2;
+  w2c_i3 = w2c_l8;
+  w2c_i4 = w2c_p3;
+  w2c_j5 = w2c_p4;
+  w2c_i0 = w2c_f50(m, w2c_j0, w2c_j1, w2c_i2, w2c_i3, w2c_i4, w2c_j5);
+  w2c_p2 = w2c_i0;
+  w2c_j0 = w2c_l5;
+  m->w2c_g0 = w2c_j0;
+  w2c_i0 = w2c_p2;
+  goto w2c_Bfunc;
+  w2c_B9:;
   w2c_j0 = w2c_l6;
   w2c_j1 = w2c_p1;
   w2c_i2 = w2c_p2;
   w2c_j3 = w2c_p4;
-  w2c_i0 = w2c_f49(m, w2c_j0, w2c_j1, w2c_i2, w2c_j3);
+  w2c_i0 = w2c_f51(m, w2c_j0, w2c_j1, w2c_i2, w2c_j3);
+  w2c_p2 = w2c_i0;
+  w2c_j0 = w2c_l5;
+  m->w2c_g0 = w2c_j0;
+  w2c_i0 = w2c_p2;
+  goto w2c_Bfunc;
+  w2c_B4:;
+  w2c_j0 = w2c_l6;
+  w2c_j1 = w2c_p1;
+  w2c_i2 = w2c_p2;
+  w2c_i3 = w2c_p3;
+  w2c_j4 = w2c_p4;
+  w2c_i0 = w2c_f53(m, w2c_j0, w2c_j1, w2c_i2, w2c_i3, w2c_j4);
   w2c_p2 = w2c_i0;
   w2c_j0 = w2c_l5;
   m->w2c_g0 = w2c_j0;
   w2c_i0 = w2c_p2;
   goto w2c_Bfunc;
   w2c_B2:;
-  w2c_j0 = w2c_l6;
-  w2c_j1 = w2c_p1;
-  w2c_i2 = w2c_p2;
-  w2c_i3 = w2c_p3;
-  w2c_j4 = w2c_p4;
-  w2c_i0 = w2c_f51(m, w2c_j0, w2c_j1, w2c_i2, w2c_i3, w2c_j4);
-  w2c_p2 = w2c_i0;
-  w2c_j0 = w2c_l5;
-  m->w2c_g0 = w2c_j0;
-  w2c_i0 = w2c_p2;
-  goto w2c_Bfunc;
-  w2c_B1:;
   UNREACHABLE;
-  w2c_B0:;
+  w2c_B1:;
   w2c_j0 = w2c_p4;
   w2c_i0 = (u32)(w2c_j0);
   w2c_j1 = 0ull;
@@ -57084,6 +56932,7 @@ static u32 w2c_f91(module *m, u64 w2c_p0, u64 w2c_p1, u32 w2c_p2, u32 w2c_p3, u6
   w2c_i0 = (u32)(w2c_j0);
   w2c_j1 = 0ull;
   i64_store(m, (u64)(w2c_i0), w2c_j1);
+  w2c_B0:;
   w2c_j0 = w2c_l5;
   m->w2c_g0 = w2c_j0;
   w2c_i0 = 8u;
