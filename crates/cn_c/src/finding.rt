@@ -74,9 +74,8 @@ fn wanted_of(upper: u32, greatest: u32) -> Option<Wanted>
     Some(Wanted { upper, greatest })
 }
 
-// Finds the numbers of a text. It stands by itself, and takes what it is given where C put it, so that
-// what stands in front of it saves no register: so an empty text is answered in 20 instructions, and
-// in 64 without.
+// Finds the numbers of a text. It stands by itself, so that a call that finds nothing to do, for its
+// codes or at the end of the text, does not save the registers that a search takes.
 #[inline(never)]
 fn find_ahead(
     text: &str,
@@ -96,6 +95,7 @@ fn find_ahead(
     )
 }
 
+// With no call, as `utf8_text` makes for what is not common.
 #[inline(always)]
 fn are_utf8(bytes: &[u8]) -> bool
     ensures { result ≡ is_utf8 bytes.now }
@@ -168,6 +168,7 @@ pub unsafe extern "C" fn chinese_number_find_utf8(
     let Some(greatest) = unit_of(greatest) else {
         return tell_none(count, UNKNOWN);
     };
+    // Nothing is left: so it takes 20 instructions, and by a search 64.
     if from == text.len() {
         return tell_none(count, DONE);
     }

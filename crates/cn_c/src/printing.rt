@@ -1,5 +1,5 @@
 // Printing.
-ghost use Rattle.std.specs.Prelude.{◌≡◌, ◌≤◌};
+ghost use Rattle.std.specs.Prelude.{◌≤◌};
 ghost use Rattle.cn_c.specs.Prints.{PrintsNumber, IsPrinted};
 ghost use Rattle.cn_faces.specs.IntegerTypes.{the_kind};
 

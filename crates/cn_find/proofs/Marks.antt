@@ -125,12 +125,6 @@ only-known text rest mark whole three short known first =
     let mark_is = first.2 in
     (first.0, alone, mark_is, known_no_figure text first.0 mark whole three alone mark_is known)
 
-pub digit-known : (value : ℕ) → Digit value ≡ Other → ⊥
-digit-known value e = absurd (cc)
-
-pub unit-known : (which : NumeralUnit) → Unit which ≡ Other → ⊥
-unit-known which e = absurd (cc)
-
 -- one byte is a character
 pub one_byte : (text bytes : List ℕ) → bytes ≡ text → IsUtf8 text → length bytes ≡ 1
     → chars text ≡ get_or bytes 0 0 ∷ []

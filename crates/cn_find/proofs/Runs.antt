@@ -1,8 +1,8 @@
 -- Steps over the characters of a text and of a run, and over a whole run.
-use Rattle.std.proofs.Common.{◌≡◌, ◌⊎◌, inl, inr, ℕ, ◌-◌, Bool, true, false, not, ◌&&◌, if◌then◌else◌, List, [], ◌∷◌, ◌++◌, length, take, drop, reverse, chars, encode_utf8, encode_utf8_all, IsUtf8, refl, sym, ap, ◌∙◌, subst, arith, append_assoc, append-nil, length-append}
+use Rattle.std.proofs.Common.{◌≡◌, ◌⊎◌, inl, inr, ℕ, ◌-◌, Bool, true, false, not, ◌&&◌, if◌then◌else◌, List, [], ◌∷◌, ◌++◌, length, take, reverse, chars, encode_utf8, encode_utf8_all, IsUtf8, refl, sym, ap, ◌∙◌, subst, arith, append_assoc, append-nil, length-append}
 use mathlib.Core.List.{reverse_aux}
 use Rattle.std.proofs.Math.Bool.{and-false}
-use Rattle.std.proofs.Math.Seq.{take-append_seam, drop-append_seam}
+use Rattle.std.proofs.Math.Seq.{take-append_seam}
 use Rattle.std.proofs.lemmas.Grind.{reverse_onto}
 use Rattle.std.proofs.lemmas.List.{reverse-append, reverse-reverse}
 use Rattle.std.proofs.Math.Utf8.{scalar, scalars}
@@ -62,11 +62,6 @@ pub seam-front : (whole front rest : List ℕ) → whole ≡ front ++ rest
     → text_before whole rest ≡ front
 seam-front whole front rest e = ap (λ n. take n whole) (seam-length whole front rest e)
     ∙ ap (take (length front)) e ∙ take-append_seam front rest
-
-pub seam-back : (whole front rest : List ℕ) → whole ≡ front ++ rest
-    → drop (length whole - length rest) whole ≡ rest
-seam-back whole front rest e = ap (λ n. drop n whole) (seam-length whole front rest e)
-    ∙ ap (drop (length front)) e ∙ drop-append_seam front rest
 
 pub seam-boundary : (whole front rest : List ℕ) → whole ≡ front ++ rest → IsUtf8 rest
     → IsCharBoundary whole (length whole - length rest)
@@ -346,11 +341,6 @@ IsNext-found rule whole rest before ahead text after s here at utf8 run_ends cut
 
   begins : first_belongs rule front (chars ahead) ≡ true
   begins = ap (λ l. first_belongs rule (in_front l) (chars ahead)) at ∙ here
-
-pub none-next : (rule : Rule) (whole rest ahead : List ℕ) → Skipping rule whole rest ahead
-    → chars ahead ≡ [] → left_by rule whole rest ≡ []
-none-next rule whole rest ahead s none =
-    s.same ∙ ap (spans_after rule false (in_front (text_before whole ahead))) none
 
 -- nothing is left at the end
 pub none_left : (rule : Rule) (whole : List ℕ) → left_by rule whole [] ≡ []

@@ -1,7 +1,6 @@
 // What is told of a number by what stands around it, and by its own characters. Whoever finds other
 // numbers than those of this crate tells the same of them.
-ghost use Rattle.std.specs.Prelude.{◌≡◌, ◌≢◌, ℕ, ◌<◌, ◌&&◌, ◌||◌, true, false, List, ◌∷◌, [], length, reverse, codes, chars, is_some, not, Some, MatchOption, IfSome, IfNone, IsTrue};
-ghost use Rattle.std.specs.Char.{is_ascii_digit};
+ghost use Rattle.std.specs.Prelude.{◌≡◌, ◌≢◌, ℕ, ◌<◌, ◌&&◌, ◌||◌, true, false, List, ◌∷◌, [], length, reverse, codes, chars, is_some, Some, MatchOption, IfSome, IfNone, IsTrue};
 ghost use Rattle.cn_core.specs.Characters.{digit_of, rank_of};
 ghost use Rattle.cn_core.specs.Mark.{mark_of};
 ghost use Rattle.cn_judge.specs.Marked.{marked};
@@ -157,7 +156,7 @@ fn ends_linked(before: &str) -> bool
 fn begins_linked(after: &str) -> bool
     ensures { result ≡ begins_linked (chars after.now) }
 {
-    // Most that stand there are digits, which the table of marks has.
+    // Chinese digits, as of 三点五, are told by the table of marks alone.
     if let Some((Mark::Digit(_), _)) = split_first_known(after) {
         return true;
     }
@@ -362,14 +361,15 @@ fn only_known(text: &str) -> Option<Mark>
     if text.len() != 3 {
         return None;
     }
-    match split_first_known(text) {
-        Some((Mark::Digit(value), _)) => Some(Mark::Digit(value)),
-        Some((Mark::Unit(unit), _)) => Some(Mark::Unit(unit)),
-        _ => None,
+    let (mark, _) = split_first_known(text)?;
+    match mark {
+        Mark::Other => None,
+        _ => Some(mark),
     }
 }
 
-// By decoding: it stands by itself, as it is seldom asked.
+// The mark of the only character of a text, and whether that is neither an ASCII nor a full-width
+// digit, by decoding. It stands by itself, as it is seldom asked.
 #[inline(never)]
 fn only_mark_slowly(text: &str) -> Option<(Mark, bool)>
     ensures { MatchOption result ((c : ℕ) → chars text.now ≢ c ∷ [])
@@ -383,8 +383,7 @@ fn only_mark_slowly(text: &str) -> Option<(Mark, bool)>
     }
 }
 
-// The mark of the only character of a text, and whether that is neither an ASCII nor a full-width
-// digit.
+// The same, where most texts are told without decoding.
 #[inline(always)]
 fn only_mark(text: &str) -> Option<(Mark, bool)>
     ensures { MatchOption result ((c : ℕ) → chars text.now ≢ c ∷ [])
@@ -399,10 +398,11 @@ fn only_mark(text: &str) -> Option<(Mark, bool)>
         let c = bytes[0] as char;
         return Some((mark_of(c), is_no_figure(c)));
     }
-    // No character takes more bytes, and none of ASCII more than one.
+    // No character takes more bytes,
     if bytes.len() > 4 {
         return None;
     }
+    // and none of ASCII more than one.
     if bytes.len() > 1 && bytes[0].is_ascii() {
         return None;
     }
@@ -440,7 +440,7 @@ pub struct Told {
 }
 
 /// All that is told of a number between these texts. Each neighbour is looked at once, and a number of
-/// one character too: so 十 alone is found in a sixth fewer instructions.
+/// one character too.
 ///
 /// ```text
 /// told_of("几", "十", "人").is_about == true

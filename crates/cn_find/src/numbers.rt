@@ -109,7 +109,7 @@ impl<'a, R: SearchRule> Iterator for Numbers<'a, R> {
 
     #[tactic(auto, using(crate::proofs::Runs::none_left, crate::proofs::Runs::none_left_of_empty))]
     fn next(&mut self) -> Option<Found<'a>> {
-        // So an empty text is answered at once.
+        // At the end of a text it is known at once that nothing is left.
         if self.rest.is_empty() {
             return None;
         }

@@ -1,7 +1,6 @@
 -- Where a place of a text stands in the string.
 use Rattle.std.proofs.Common.{◌≡◌, ℤ, ℕ, zero, suc, ◌+◌, Bool, true, false, List, [], ◌∷◌, ◌++◌, length, filter, chars, drop, Ok, Err, Result, refl, sym, ap, ◌∙◌, arith, append_assoc, length-append, add-zero, zero-add, Option}
 use Rattle.std.proofs.Math.Seq.{drop-append_seam}
-use Rattle.std.proofs.lemmas.List.{append-nil, nil_from_length}
 use Rattle.std.specs.Char.{is_whitespace, is_not_whitespace}
 use Rattle.cn_core.specs.declared.method.ChineseCountMethod.{ChineseCountMethod}
 use Rattle.cn_core.specs.declared.sign.Sign.{Sign}
@@ -72,11 +71,6 @@ StandsAt-white bytes rest c index place at white = record {
   append_none : (xs : List ℕ) → xs ++ [] ≡ xs
   append_none [] = refl
   append_none (x ∷ xs) = ap (λ l. x ∷ l) (append_none xs)
-
--- nothing is left
-pub StandsAt-none : (bytes : List ℕ) (index : ℕ) → StandsAt bytes [] index 0 → text_of bytes ≡ []
-StandsAt-none bytes index at =
-    ap (filter is_not_whitespace) (at.parts ∙ append-nil at.front) ∙ nil_from_length _ at.place_is
 
 pub StandsAt-dark : (bytes rest : List ℕ) (c index place : ℕ)
     → StandsAt bytes (c ∷ rest) index place → is_whitespace c ≡ false

@@ -8,9 +8,6 @@ use Rattle.std.proofs.lemmas.List.Quantifiers.{position-Some}
 use Rattle.std.proofs.lemmas.Str.{encodes-chars, encodes-append, encodes_same}
 use Rattle.cn_core.specs.Characters.{digit_of, rank, rank_of, digit_rows, unit_rows, row_with}
 use Rattle.cn_core.specs.Mark.{digit, unit, other, mark_of, mark_from}
-use Rattle.cn_judge.specs.Marked.{marked}
-use Rattle.cn_judge.specs.declared.mark.Mark.{Mark as ReadMark}
-use Rattle.cn_judge.specs.declared.mark.Mark.TheVariants.{Digit, Unit, Other}
 use Rattle.cn_core.proofs.Chars.{chars-from_empty}
 use Rattle.cn_core.proofs.Fronts.{and-left, and-right}
 
@@ -88,10 +85,3 @@ digit-dark c value h = marks-dark c (λ e. let f = h ∙ e in cc)
 
 pub unit-dark : (c rank : ℕ) → unit rank ≡ mark_of c → is_whitespace c ≡ false
 unit-dark c rank h = marks-dark c (λ e. let f = h ∙ e in cc)
-
--- nor is a character whose mark is that of a digit or a unit
-pub known-dark : (c : ℕ) (mark : ReadMark) → marked mark ≡ mark_of c → (mark ≡ Other → ⊥)
-    → is_whitespace c ≡ false
-known-dark c (Digit value) same known = digit-dark c value same
-known-dark c (Unit which) same known = unit-dark c (rank which) same
-known-dark c Other same known = absurd (known refl)

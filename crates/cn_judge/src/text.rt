@@ -1,6 +1,6 @@
 // Walking a text: its characters from either end, and those that are no white space. Their marks
 // too: of characters of three bytes quickly, of any other as it comes.
-ghost use Rattle.std.specs.Prelude.{◌≡◌, ℕ, ◌+◌, ◌*◌, ◌^◌, ◌<◌, ◌≤◌, List, [], ◌∷◌, ◌++◌, length, chars, false, IfSome, IfNone, IsTrue, MatchOption};
+ghost use Rattle.std.specs.Prelude.{◌≡◌, ℕ, ◌+◌, ◌*◌, ◌<◌, ◌≤◌, List, [], ◌∷◌, ◌++◌, length, chars, false, IfSome, IfNone, IsTrue, MatchOption};
 ghost use Rattle.std.specs.Char.{is_whitespace};
 ghost use Rattle.std.specs.Str.{continuation_len};
 ghost use Rattle.cn_core.specs.Mark.{digit, mark_of, other};
@@ -102,6 +102,7 @@ fn behind_decoded_space(text: &str) -> Option<&str>
     if c.is_whitespace() { Some(after) } else { None }
 }
 
+// Whether this byte is white space of ASCII, with the vertical tab.
 #[inline(always)]
 fn is_ascii_space(first: u8) -> bool
     ensures { result ≡ is_ascii_space first }

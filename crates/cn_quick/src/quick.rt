@@ -43,6 +43,7 @@ pub fn read_quickly(method: ChineseCountMethod, text: &str) -> Option<u128>
         last: Unit::Ge,
         at_digit: false,
     };
+    // By `checked_sub` each numeral takes 2 instructions more.
     if text.len() < 3 {
         return None;
     }

@@ -44,7 +44,7 @@ pub record StandsBehindSpace (text rest : List ℕ) : Type 0 where
 abbrev pub is_ascii_space : ℕ → Bool
 is_ascii_space b = (nat_lt 8 b && nat_lt b 14) || b == 32
 
--- whether another one may begin with it
+-- whether white space that is not of ASCII may begin with it
 abbrev pub may_begin_space : ℕ → Bool
 may_begin_space b = b == 194 || (nat_lt 224 b && nat_lt b 228)
 
