@@ -10830,21 +10830,25 @@ static u32 w2c_f16(module *m, u64 w2c_p0, u64 w2c_p1, u64 w2c_p2, u32 w2c_p3, u3
     w2c_j1 = 1016ull;
     w2c_j0 &= w2c_j1;
     w2c_l11 = w2c_j0;
-    w2c_j1 = 66976ull;
-    w2c_j0 += w2c_j1;
     w2c_i0 = (u32)(w2c_j0);
-    w2c_i0 = i32_load(m, (u64)(w2c_i0));
+    w2c_i0 = i32_load(m, (u64)(w2c_i0) + 66976u);
     w2c_i1 = w2c_l21;
     w2c_i0 = w2c_i0 != w2c_i1;
+    w2c_l21 = w2c_i0;
     if (w2c_i0) {goto w2c_B148;}
     w2c_i0 = 1u;
     w2c_l20 = w2c_i0;
-    w2c_j0 = w2c_l11;
-    w2c_j1 = 66980ull;
-    w2c_j0 += w2c_j1;
-    w2c_i0 = (u32)(w2c_j0);
-    w2c_i0 = i32_load8_u(m, (u64)(w2c_i0));
+    w2c_i0 = 0u;
+    w2c_j1 = w2c_l11;
+    w2c_j2 = 66980ull;
+    w2c_j1 += w2c_j2;
+    w2c_i1 = (u32)(w2c_j1);
+    w2c_i1 = i32_load8_u(m, (u64)(w2c_i1));
+    w2c_i2 = w2c_l21;
+    w2c_i0 = w2c_i2 ? w2c_i0 : w2c_i1;
     w2c_l21 = w2c_i0;
+    w2c_i1 = 255u;
+    w2c_i0 &= w2c_i1;
     w2c_i1 = 2u;
     w2c_i0 = w2c_i0 == w2c_i1;
     if (w2c_i0) {goto w2c_B148;}
@@ -13939,11 +13943,11 @@ static u32 w2c_f24(module *m, u64 w2c_p0, u64 w2c_p1, u64 w2c_p2, u32 w2c_p3, u3
     w2c_j0 = w2c_l8;
     w2c_i0 = (u32)(w2c_j0);
     w2c_j0 = i64_load(m, (u64)(w2c_i0) + 48u);
-    w2c_l11 = w2c_j0;
+    w2c_p0 = w2c_j0;
     w2c_j0 = w2c_l8;
     w2c_i0 = (u32)(w2c_j0);
     w2c_j0 = i64_load(m, (u64)(w2c_i0) + 32u);
-    w2c_p0 = w2c_j0;
+    w2c_l11 = w2c_j0;
     w2c_j0 = w2c_l8;
     w2c_i0 = (u32)(w2c_j0);
     w2c_j0 = i64_load(m, (u64)(w2c_i0) + 16u);
@@ -14755,7 +14759,7 @@ static u32 w2c_f24(module *m, u64 w2c_p0, u64 w2c_p1, u64 w2c_p2, u32 w2c_p3, u3
     w2c_j1 = 3ull;
     w2c_i0 = w2c_j0 < w2c_j1;
     if (w2c_i0) {goto w2c_B52;}
-    w2c_j0 = w2c_l11;
+    w2c_j0 = w2c_p0;
     w2c_i0 = (u32)(w2c_j0);
     w2c_i0 = i32_load8_u(m, (u64)(w2c_i0));
     w2c_p3 = w2c_i0;
@@ -14764,13 +14768,13 @@ static u32 w2c_f24(module *m, u64 w2c_p0, u64 w2c_p1, u64 w2c_p2, u32 w2c_p3, u3
     w2c_i1 = 224u;
     w2c_i0 = w2c_i0 != w2c_i1;
     if (w2c_i0) {goto w2c_B51;}
-    w2c_j0 = w2c_l11;
+    w2c_j0 = w2c_p0;
     w2c_i0 = (u32)(w2c_j0);
     w2c_i0 = i32_load8_u(m, (u64)(w2c_i0) + 1u);
     w2c_l18 = w2c_i0;
     w2c_i1 = 8u;
     w2c_i0 <<= (w2c_i1 & 31);
-    w2c_j1 = w2c_l11;
+    w2c_j1 = w2c_p0;
     w2c_i1 = (u32)(w2c_j1);
     w2c_i1 = i32_load8_u(m, (u64)(w2c_i1) + 2u);
     w2c_l20 = w2c_i1;
@@ -14796,10 +14800,10 @@ static u32 w2c_f24(module *m, u64 w2c_p0, u64 w2c_p1, u64 w2c_p2, u32 w2c_p3, u3
     w2c_j1 = 18446744073709551613ull;
     w2c_j0 += w2c_j1;
     w2c_l10 = w2c_j0;
-    w2c_j0 = w2c_l11;
+    w2c_j0 = w2c_p0;
     w2c_j1 = 3ull;
     w2c_j0 += w2c_j1;
-    w2c_l11 = w2c_j0;
+    w2c_p0 = w2c_j0;
     w2c_i0 = w2c_l17;
     w2c_i1 = w2c_l17;
     w2c_j1 = (u64)(w2c_i1);
@@ -14821,7 +14825,7 @@ static u32 w2c_f24(module *m, u64 w2c_p0, u64 w2c_p1, u64 w2c_p2, u32 w2c_p3, u3
     w2c_j0 = w2c_l10;
     w2c_i0 = !(w2c_j0);
     if (w2c_i0) {goto w2c_B45;}
-    w2c_j0 = w2c_l11;
+    w2c_j0 = w2c_p0;
     w2c_i0 = (u32)(w2c_j0);
     w2c_i0 = i32_load8_u(m, (u64)(w2c_i0));
     w2c_p3 = w2c_i0;
@@ -14833,7 +14837,7 @@ static u32 w2c_f24(module *m, u64 w2c_p0, u64 w2c_p1, u64 w2c_p2, u32 w2c_p3, u3
     w2c_i1 = 4294967295u;
     w2c_i0 = (u32)((s32)w2c_i0 > (s32)w2c_i1);
     if (w2c_i0) {goto w2c_B53;}
-    w2c_j0 = w2c_l11;
+    w2c_j0 = w2c_p0;
     w2c_i0 = (u32)(w2c_j0);
     w2c_i0 = i32_load8_u(m, (u64)(w2c_i0) + 1u);
     w2c_i1 = 63u;
@@ -14855,7 +14859,7 @@ static u32 w2c_f24(module *m, u64 w2c_p0, u64 w2c_p1, u64 w2c_p2, u32 w2c_p3, u3
     w2c_l12 = w2c_j0;
     goto w2c_B53;
     w2c_B54:;
-    w2c_j0 = w2c_l11;
+    w2c_j0 = w2c_p0;
     w2c_i0 = (u32)(w2c_j0);
     w2c_i0 = i32_load8_u(m, (u64)(w2c_i0) + 2u);
     w2c_i1 = 63u;
@@ -14894,7 +14898,7 @@ static u32 w2c_f24(module *m, u64 w2c_p0, u64 w2c_p1, u64 w2c_p2, u32 w2c_p3, u3
     w2c_i2 &= w2c_i3;
     w2c_i1 |= w2c_i2;
     w2c_i0 |= w2c_i1;
-    w2c_j1 = w2c_l11;
+    w2c_j1 = w2c_p0;
     w2c_i1 = (u32)(w2c_j1);
     w2c_i1 = i32_load8_u(m, (u64)(w2c_i1) + 3u);
     w2c_i2 = 63u;
@@ -14908,10 +14912,10 @@ static u32 w2c_f24(module *m, u64 w2c_p0, u64 w2c_p1, u64 w2c_p2, u32 w2c_p3, u3
     w2c_j1 = w2c_l12;
     w2c_j0 -= w2c_j1;
     w2c_l10 = w2c_j0;
-    w2c_j0 = w2c_l11;
+    w2c_j0 = w2c_p0;
     w2c_j1 = w2c_l12;
     w2c_j0 += w2c_j1;
-    w2c_l11 = w2c_j0;
+    w2c_p0 = w2c_j0;
     w2c_i0 = w2c_p3;
     w2c_i1 = 4294965248u;
     w2c_i0 += w2c_i1;
@@ -15117,20 +15121,20 @@ static u32 w2c_f24(module *m, u64 w2c_p0, u64 w2c_p1, u64 w2c_p2, u32 w2c_p3, u3
     w2c_j1 = 3ull;
     w2c_i0 = w2c_j0 < w2c_j1;
     if (w2c_i0) {goto w2c_B68;}
-    w2c_j0 = w2c_l11;
+    w2c_j0 = w2c_p0;
     w2c_i0 = (u32)(w2c_j0);
     w2c_i0 = i32_load8_u(m, (u64)(w2c_i0) + 1u);
     w2c_l18 = w2c_i0;
     w2c_i1 = 8u;
     w2c_i0 <<= (w2c_i1 & 31);
-    w2c_j1 = w2c_l11;
+    w2c_j1 = w2c_p0;
     w2c_i1 = (u32)(w2c_j1);
     w2c_i1 = i32_load8_u(m, (u64)(w2c_i1) + 2u);
     w2c_l20 = w2c_i1;
     w2c_i2 = 16u;
     w2c_i1 <<= (w2c_i2 & 31);
     w2c_i0 |= w2c_i1;
-    w2c_j1 = w2c_l11;
+    w2c_j1 = w2c_p0;
     w2c_i1 = (u32)(w2c_j1);
     w2c_i1 = i32_load8_u(m, (u64)(w2c_i1));
     w2c_p3 = w2c_i1;
@@ -15187,7 +15191,7 @@ static u32 w2c_f24(module *m, u64 w2c_p0, u64 w2c_p1, u64 w2c_p2, u32 w2c_p3, u3
     w2c_j0 = w2c_l10;
     w2c_i0 = !(w2c_j0);
     if (w2c_i0) {goto w2c_B45;}
-    w2c_j0 = w2c_l11;
+    w2c_j0 = w2c_p0;
     w2c_i0 = (u32)(w2c_j0);
     w2c_i0 = i32_load8_u(m, (u64)(w2c_i0));
     w2c_p3 = w2c_i0;
@@ -15197,7 +15201,7 @@ static u32 w2c_f24(module *m, u64 w2c_p0, u64 w2c_p1, u64 w2c_p2, u32 w2c_p3, u3
     w2c_i1 = 4294967295u;
     w2c_i0 = (u32)((s32)w2c_i0 > (s32)w2c_i1);
     if (w2c_i0) {goto w2c_B70;}
-    w2c_j0 = w2c_l11;
+    w2c_j0 = w2c_p0;
     w2c_i0 = (u32)(w2c_j0);
     w2c_i0 = i32_load8_u(m, (u64)(w2c_i0) + 1u);
     w2c_i1 = 63u;
@@ -15217,7 +15221,7 @@ static u32 w2c_f24(module *m, u64 w2c_p0, u64 w2c_p1, u64 w2c_p2, u32 w2c_p3, u3
     w2c_p3 = w2c_i0;
     goto w2c_B70;
     w2c_B71:;
-    w2c_j0 = w2c_l11;
+    w2c_j0 = w2c_p0;
     w2c_i0 = (u32)(w2c_j0);
     w2c_i0 = i32_load8_u(m, (u64)(w2c_i0) + 2u);
     w2c_i1 = 63u;
@@ -15254,7 +15258,7 @@ static u32 w2c_f24(module *m, u64 w2c_p0, u64 w2c_p1, u64 w2c_p2, u32 w2c_p3, u3
     w2c_i2 &= w2c_i3;
     w2c_i1 |= w2c_i2;
     w2c_i0 |= w2c_i1;
-    w2c_j1 = w2c_l11;
+    w2c_j1 = w2c_p0;
     w2c_i1 = (u32)(w2c_j1);
     w2c_i1 = i32_load8_u(m, (u64)(w2c_i1) + 3u);
     w2c_i2 = 63u;
@@ -15513,7 +15517,7 @@ static u32 w2c_f24(module *m, u64 w2c_p0, u64 w2c_p1, u64 w2c_p2, u32 w2c_p3, u3
     w2c_j0 = w2c_p1;
     w2c_j1 = w2c_p2;
     w2c_j0 += w2c_j1;
-    w2c_l11 = w2c_j0;
+    w2c_p0 = w2c_j0;
     w2c_j0 = w2c_l8;
     w2c_i0 = (u32)(w2c_j0);
     w2c_i1 = 0u;
@@ -15538,17 +15542,17 @@ static u32 w2c_f24(module *m, u64 w2c_p0, u64 w2c_p1, u64 w2c_p2, u32 w2c_p3, u3
       default: goto w2c_B91;
     }
     w2c_B95:;
-    w2c_j0 = w2c_p0;
+    w2c_j0 = w2c_l11;
     w2c_i0 = (u32)(w2c_j0);
     w2c_i0 = i32_load8_u(m, (u64)(w2c_i0) + 1u);
     w2c_i1 = 8u;
     w2c_i0 <<= (w2c_i1 & 31);
-    w2c_j1 = w2c_p0;
+    w2c_j1 = w2c_l11;
     w2c_i1 = (u32)(w2c_j1);
     w2c_i1 = i32_load8_u(m, (u64)(w2c_i1));
     w2c_l20 = w2c_i1;
     w2c_i0 |= w2c_i1;
-    w2c_j1 = w2c_p0;
+    w2c_j1 = w2c_l11;
     w2c_i1 = (u32)(w2c_j1);
     w2c_i1 = i32_load8_u(m, (u64)(w2c_i1) + 2u);
     w2c_i2 = 16u;
@@ -15563,21 +15567,25 @@ static u32 w2c_f24(module *m, u64 w2c_p0, u64 w2c_p1, u64 w2c_p2, u32 w2c_p3, u3
     w2c_j1 = 1016ull;
     w2c_j0 &= w2c_j1;
     w2c_l10 = w2c_j0;
-    w2c_j1 = 66976ull;
-    w2c_j0 += w2c_j1;
     w2c_i0 = (u32)(w2c_j0);
-    w2c_i0 = i32_load(m, (u64)(w2c_i0));
+    w2c_i0 = i32_load(m, (u64)(w2c_i0) + 66976u);
     w2c_i1 = w2c_l17;
     w2c_i0 = w2c_i0 != w2c_i1;
+    w2c_l19 = w2c_i0;
     if (w2c_i0) {goto w2c_B93;}
     w2c_i0 = 1u;
     w2c_l17 = w2c_i0;
-    w2c_j0 = w2c_l10;
-    w2c_j1 = 66980ull;
-    w2c_j0 += w2c_j1;
-    w2c_i0 = (u32)(w2c_j0);
-    w2c_i0 = i32_load8_u(m, (u64)(w2c_i0));
+    w2c_i0 = 0u;
+    w2c_j1 = w2c_l10;
+    w2c_j2 = 66980ull;
+    w2c_j1 += w2c_j2;
+    w2c_i1 = (u32)(w2c_j1);
+    w2c_i1 = i32_load8_u(m, (u64)(w2c_i1));
+    w2c_i2 = w2c_l19;
+    w2c_i0 = w2c_i2 ? w2c_i0 : w2c_i1;
     w2c_l19 = w2c_i0;
+    w2c_i1 = 255u;
+    w2c_i0 &= w2c_i1;
     w2c_i1 = 2u;
     w2c_i0 = w2c_i0 == w2c_i1;
     if (w2c_i0) {goto w2c_B93;}
@@ -15590,7 +15598,7 @@ static u32 w2c_f24(module *m, u64 w2c_p0, u64 w2c_p1, u64 w2c_p2, u32 w2c_p3, u3
     w2c_j0 = w2c_p1;
     w2c_i0 = !(w2c_j0);
     if (w2c_i0) {goto w2c_B92;}
-    w2c_j0 = w2c_p0;
+    w2c_j0 = w2c_l11;
     w2c_i0 = (u32)(w2c_j0);
     w2c_i0 = i32_load8_u(m, (u64)(w2c_i0));
     w2c_l20 = w2c_i0;
@@ -15604,7 +15612,7 @@ static u32 w2c_f24(module *m, u64 w2c_p0, u64 w2c_p1, u64 w2c_p2, u32 w2c_p3, u3
     w2c_j0 = w2c_l8;
     w2c_j1 = 108ull;
     w2c_j0 += w2c_j1;
-    w2c_j1 = w2c_p0;
+    w2c_j1 = w2c_l11;
     w2c_j2 = w2c_p1;
     w2c_f20(m, w2c_j0, w2c_j1, w2c_j2);
     w2c_j0 = w2c_l8;
@@ -15625,7 +15633,7 @@ static u32 w2c_f24(module *m, u64 w2c_p0, u64 w2c_p1, u64 w2c_p2, u32 w2c_p3, u3
     w2c_B91:;
     w2c_i0 = 2u;
     w2c_i1 = 0u;
-    w2c_j2 = w2c_p0;
+    w2c_j2 = w2c_l11;
     w2c_i2 = (u32)(w2c_j2);
     w2c_i2 = i32_load8_u(m, (u64)(w2c_i2));
     w2c_i3 = 4294967238u;
@@ -15668,7 +15676,7 @@ static u32 w2c_f24(module *m, u64 w2c_p0, u64 w2c_p1, u64 w2c_p2, u32 w2c_p3, u3
     if (w2c_i0) {goto w2c_B88;}
     goto w2c_B87;
     w2c_B89:;
-    w2c_j0 = w2c_p0;
+    w2c_j0 = w2c_l11;
     w2c_j1 = w2c_p1;
     w2c_i0 = w2c_f21(m, w2c_j0, w2c_j1);
     w2c_l19 = w2c_i0;
@@ -15676,7 +15684,7 @@ static u32 w2c_f24(module *m, u64 w2c_p0, u64 w2c_p1, u64 w2c_p2, u32 w2c_p3, u3
     w2c_i0 = !(w2c_i0);
     if (w2c_i0) {goto w2c_B98;}
     w2c_i0 = w2c_l18;
-    w2c_j1 = w2c_p0;
+    w2c_j1 = w2c_l11;
     w2c_j2 = w2c_p1;
     w2c_i1 = w2c_f22(m, w2c_j1, w2c_j2);
     w2c_i0 |= w2c_i1;
@@ -15711,7 +15719,7 @@ static u32 w2c_f24(module *m, u64 w2c_p0, u64 w2c_p1, u64 w2c_p2, u32 w2c_p3, u3
     w2c_i1 = w2c_l19;
     w2c_i0 |= w2c_i1;
     w2c_p3 = w2c_i0;
-    w2c_j0 = w2c_p0;
+    w2c_j0 = w2c_l11;
     w2c_j1 = w2c_p1;
     w2c_i0 = w2c_f23(m, w2c_j0, w2c_j1);
     w2c_i0 = !(w2c_i0);
@@ -15744,7 +15752,7 @@ static u32 w2c_f24(module *m, u64 w2c_p0, u64 w2c_p1, u64 w2c_p2, u32 w2c_p3, u3
     w2c_j1 = 8ull;
     w2c_j0 += w2c_j1;
     w2c_i0 = (u32)(w2c_j0);
-    w2c_j1 = w2c_l11;
+    w2c_j1 = w2c_p0;
     i64_store(m, (u64)(w2c_i0), w2c_j1);
     w2c_j0 = w2c_p5;
     w2c_j1 = 24ull;
@@ -52819,10 +52827,8 @@ static u32 w2c_f85(module *m, u64 w2c_p0, u64 w2c_p1, u32 w2c_p2, u32 w2c_p3, u3
     w2c_j1 = 1016ull;
     w2c_j0 &= w2c_j1;
     w2c_l10 = w2c_j0;
-    w2c_j1 = 66976ull;
-    w2c_j0 += w2c_j1;
     w2c_i0 = (u32)(w2c_j0);
-    w2c_i0 = i32_load(m, (u64)(w2c_i0));
+    w2c_i0 = i32_load(m, (u64)(w2c_i0) + 66976u);
     w2c_i1 = w2c_p2;
     w2c_i0 = w2c_i0 != w2c_i1;
     if (w2c_i0) {goto w2c_B20;}
@@ -52831,6 +52837,8 @@ static u32 w2c_f85(module *m, u64 w2c_p0, u64 w2c_p1, u32 w2c_p2, u32 w2c_p3, u3
     w2c_j0 += w2c_j1;
     w2c_i0 = (u32)(w2c_j0);
     w2c_i0 = i32_load8_u(m, (u64)(w2c_i0));
+    w2c_i1 = 255u;
+    w2c_i0 &= w2c_i1;
     w2c_i1 = 2u;
     w2c_i0 = w2c_i0 == w2c_i1;
     if (w2c_i0) {goto w2c_B20;}
