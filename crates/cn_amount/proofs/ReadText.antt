@@ -77,7 +77,7 @@ is-read text progress e =
 -- what is read to its end is an amount, of its sum
 whole-read : (text : List ℕ) (capitals : List Capital) → capitals_of text ≡ map Some capitals
     → list_all is_proper capitals ≡ true → accepts Beginning capitals ≡ true
-    → IsAmount text (sum_of no_sum capitals).fen
+    → IsAmount text (sum_of no_sum capitals).closed
 whole-read text capitals is proper h =
     let r = accepted capitals proper h in
     record {
@@ -85,7 +85,7 @@ whole-read text capitals is proper h =
       places = r.places;
       digits = r.digits;
       form = is ∙ ap (map Some) r.is;
-      value = ap (λ (sum : Sum). sum.fen)
+      value = ap (λ (sum : Sum). sum.closed)
           (ap (sum_of no_sum) r.is ∙ form-sum r.choices r.places);
     }
 
@@ -107,7 +107,7 @@ begins-read text progress r =
     let behind = map (capital_char Simple plain) more in
     let all = r.capitals ++ more in (
       behind,
-      (sum_of no_sum all).fen,
+      (sum_of no_sum all).closed,
       whole-read (text ++ behind) all
           (read-both text behind r.capitals more r.is
           (capitals-read Simple plain more (completion-proper progress.state)))
@@ -160,14 +160,14 @@ each-read text fen h =
     let form = amount_form h.choices h.places in
     let last = ends-at Beginning form (form-read h.choices h.places) in
     let all : Progress = record { state = last.0; sum = sum_of no_sum form } in
-    let value : (sum_of no_sum form).fen ≡ fen =
-    ap (λ (sum : Sum). sum.fen) (form-sum h.choices h.places) ∙ sym h.value in (
+    let value : (sum_of no_sum form).closed ≡ fen =
+    ap (λ (sum : Sum). sum.closed) (form-sum h.choices h.places) ∙ sym h.value in (
       all,
       run-map (step_as advance) capital_of amount_machine.begin text
           ∙ ap (machine.run (step_as advance) amount_machine.begin) h.form
           ∙ sym (run-map (step_as advance) Some amount_machine.begin form)
           ∙ runs-summed Beginning last.0 no_sum form last.1,
-      ap (λ (b : Bool). if b then Some (sum_of no_sum form).fen else None) last.2
+      ap (λ (b : Bool). if b then Some (sum_of no_sum form).closed else None) last.2
           ∙ ap Some value,
     )
 
@@ -176,7 +176,7 @@ only-read : (text : List ℕ) (progress : Progress) (fen : ℕ) → Leads amount
 only-read text progress fen leads e =
     by (is_end progress.state) refl e (is-read text progress leads) where
       by : (b : Bool) → is_end progress.state ≡ b
-          → (if b then Some progress.sum.fen else None) ≡ Some fen → IsRead text progress
+          → (if b then Some progress.sum.closed else None) ≡ Some fen → IsRead text progress
           → IsAmount text fen
       by false is e r = absurd (cc)
       by true is e r =
@@ -184,7 +184,7 @@ only-read text progress fen leads e =
           ap (accepts Beginning) (sym (append-nil r.capitals))
           ∙ run-accepts Beginning r.capitals [] progress.state r.runs ∙ is in
           subst (IsAmount text)
-          (sym (ap (λ (sum : Sum). sum.fen) r.sums) ∙ some-is progress.sum.fen fen e)
+          (sym (ap (λ (sum : Sum). sum.closed) r.sums) ∙ some-is progress.sum.closed fen e)
           (whole-read text r.capitals r.is r.proper ends)
 
 pub amount-reads : Reads IsAmount amount_machine

@@ -1,5 +1,5 @@
 -- The state after a text, what is read behind it, and that no sum is too great.
-use Rattle.std.proofs.Common.{◌≡◌, ◌+◌, ◌*◌, ◌<◌, ◌≤◌, Bool, true, false, List, [], ◌∷◌, ◌++◌, Option, Some, None, refl, sym, ap, ◌∙◌, arith}
+use Rattle.std.proofs.Common.{◌≡◌, ◌+◌, ◌<◌, ◌≤◌, Bool, true, false, List, [], ◌∷◌, ◌++◌, Option, Some, None, refl, sym, ap, ◌∙◌, arith}
 use Rattle.std.specs.List.{list_all}
 use Rattle.cn_amount.specs.declared.capital.Capital.{Capital}
 use Rattle.cn_amount.specs.declared.capital.Capital.TheVariants.{Ling, Digit, Shi, Bai, Qian, Wan, Yi, Yuan, Jiao, Fen, Zheng, Ren, Min, Bi, Fu}
@@ -96,14 +96,12 @@ pub sum-below : (t rest : List Capital) → list_all is_proper (t ++ rest) ≡ t
 sum-below t rest proper h =
     let r = accepted (t ++ rest) proper h in
     let e : sum_of no_sum (t ++ rest) ≡ record {
-      fen = amount_value r.places;
-      yuan = 0;
-      section =
-          0;
+      closed = amount_value r.places;
+      section = 0;
       digit = 0;
     } = ap (sum_of no_sum) r.is ∙ form-sum r.choices r.places in
     let s : summed (sum_of (sum_of no_sum t) rest) ≡ summed (sum_of no_sum (t ++ rest)) =
     ap summed (sym (sum-append no_sum t rest)) in
-    let f : summed (sum_of no_sum (t ++ rest)) ≡ amount_value r.places + 100 * (0 + 0) =
+    let f : summed (sum_of no_sum (t ++ rest)) ≡ amount_value r.places + 0 =
     ap summed e in
     omega (arith, all-summed (sum_of no_sum t) rest, s, f, amount-below r.places r.digits)

@@ -42,7 +42,7 @@ impl Grammar for Progress {
     #[inline(always)]
     fn end(self) -> Option<u64> {
         if self.state.is_end() {
-            Some(self.sum.fen)
+            Some(self.sum.closed)
         } else {
             None
         }

@@ -1,17 +1,15 @@
 // What a text stands for, summed from the left.
 ghost use Rattle.std.specs.Prelude.{◌≡◌, ◌+◌, ◌<◌};
 ghost use Rattle.cn_amount.specs.Places.{amount_limit};
-ghost use Rattle.cn_amount.specs.Working.Steps.{with_section, with_yuan, with_fen, add, summed};
+ghost use Rattle.cn_amount.specs.Working.Steps.{with_section, with_closed, with_fen, add, summed};
 
 use crate::capital::Capital;
 
 /// What the characters so far stand for.
 #[derive(Clone, Copy)]
 pub struct Sum {
-    /// The fen, once 元 is read.
-    pub fen: u64,
-    /// The yuan of the sections that are closed.
-    pub yuan: u64,
+    /// The yuan of the sections that are closed; behind 元, and where there is none, the fen.
+    pub closed: u64,
     /// The digits of the open section whose unit is read.
     pub section: u64,
     /// A digit that waits for its unit.
@@ -21,8 +19,7 @@ pub struct Sum {
 impl Sum {
     /// Of no characters.
     pub const NONE: Sum = Sum {
-        fen: 0,
-        yuan: 0,
+        closed: 0,
         section: 0,
         digit: 0,
     };
@@ -39,25 +36,24 @@ impl Sum {
         }
     }
 
-    // With so many yuan in the sections that are closed, and none open.
-    fn with_yuan(self, yuan: u64) -> Sum
-        ensures { result ≡ with_yuan self yuan }
+    // With so much in front of the open section, which is empty.
+    fn with_closed(self, closed: u64) -> Sum
+        ensures { result ≡ with_closed self closed }
     {
         Sum {
-            yuan,
+            closed,
             section: 0,
             digit: 0,
-            ..self
         }
     }
 
     // With so many more fen, where no digit waits.
     fn with_fen(self, more: u64) -> Sum
-        requires { self.fen + more < amount_limit }
+        requires { self.closed + more < amount_limit }
         ensures { result ≡ with_fen self more }
     {
         Sum {
-            fen: self.fen + more,
+            closed: self.closed + more,
             digit: 0,
             ..self
         }
@@ -76,11 +72,11 @@ impl Sum {
             Capital::Shi => self.with_section(10 * self.digit),
             Capital::Bai => self.with_section(100 * self.digit),
             Capital::Qian => self.with_section(1000 * self.digit),
-            Capital::Wan => self.with_yuan(self.yuan + 10_000 * (self.section + self.digit)),
-            Capital::Yi => self.with_yuan(100_000_000 * (self.yuan + self.section + self.digit)),
-            Capital::Yuan => self
-                .with_fen(100 * (self.yuan + self.section + self.digit))
-                .with_yuan(0),
+            Capital::Wan => self.with_closed(self.closed + 10_000 * (self.section + self.digit)),
+            Capital::Yi => self.with_closed(
+                100_000_000 * (self.closed + self.section + self.digit),
+            ),
+            Capital::Yuan => self.with_closed(100 * (self.closed + self.section + self.digit)),
             Capital::Jiao => self.with_fen(10 * self.digit),
             Capital::Fen => self.with_fen(self.digit),
             _ => self,

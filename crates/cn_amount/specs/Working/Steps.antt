@@ -128,13 +128,13 @@ accepts state (capital ∷ rest) = elim (step state capital) [
 abbrev pub with_section : Sum → ℕ → Sum
 with_section sum more = record sum { section = sum.section + more; digit = 0 }
 
--- with so many yuan in the closed sections, and no open one
-abbrev pub with_yuan : Sum → ℕ → Sum
-with_yuan sum yuan = record sum { yuan = yuan; section = 0; digit = 0 }
+-- with so much in front of the open section, which is empty
+abbrev pub with_closed : Sum → ℕ → Sum
+with_closed sum closed = record sum { closed = closed; section = 0; digit = 0 }
 
 -- with so many more fen, and no digit that waits
 abbrev pub with_fen : Sum → ℕ → Sum
-with_fen sum more = record sum { fen = sum.fen + more; digit = 0 }
+with_fen sum more = record sum { closed = sum.closed + more; digit = 0 }
 
 -- the sum with one more capital
 abbrev pub add : Sum → Capital → Sum
@@ -142,9 +142,9 @@ add sum (Digit value) = record sum { digit = value }
 add sum Shi = with_section sum (10 * sum.digit)
 add sum Bai = with_section sum (100 * sum.digit)
 add sum Qian = with_section sum (1000 * sum.digit)
-add sum Wan = with_yuan sum (sum.yuan + 10000 * (sum.section + sum.digit))
-add sum Yi = with_yuan sum (100000000 * (sum.yuan + sum.section + sum.digit))
-add sum Yuan = with_yuan (with_fen sum (100 * (sum.yuan + sum.section + sum.digit))) 0
+add sum Wan = with_closed sum (sum.closed + 10000 * (sum.section + sum.digit))
+add sum Yi = with_closed sum (100000000 * (sum.closed + sum.section + sum.digit))
+add sum Yuan = with_closed sum (100 * (sum.closed + sum.section + sum.digit))
 add sum Jiao = with_fen sum (10 * sum.digit)
 add sum Fen = with_fen sum sum.digit
 add sum capital = sum
@@ -154,12 +154,12 @@ abbrev pub sum_of : Sum → List Capital → Sum
 sum_of sum [] = sum
 sum_of sum (capital ∷ rest) = sum_of (add sum capital) rest
 
--- all that is summed up, in fen; no character makes it less
+-- all that is summed up; no character makes it less
 abbrev pub summed : Sum → ℕ
-summed sum = sum.fen + 100 * (sum.yuan + sum.section)
+summed sum = sum.closed + sum.section
 
 abbrev pub no_sum : Sum
-no_sum = record { fen = 0; yuan = 0; section = 0; digit = 0 }
+no_sum = record { closed = 0; section = 0; digit = 0 }
 
 -- what is read, and the sum of it, with one more capital
 abbrev pub with_sum : Sum → Option State → Option Progress
@@ -171,7 +171,7 @@ advance progress capital = with_sum (add progress.sum capital) (step progress.st
 
 -- the fen, where an amount may end
 abbrev pub end : Progress → Option ℕ
-end progress = if is_end progress.state then Some progress.sum.fen else None
+end progress = if is_end progress.state then Some progress.sum.closed else None
 
 -- the states that read amounts, character by character
 abbrev pub amount_machine : machine.Machine Progress ℕ
