@@ -40,6 +40,9 @@ fn told<A>(answer: Result<A, Refusal>) -> Result<A, ChineseToAmountError>
 pub fn chinese_to_amount(text: &str) -> Result<u64, ChineseToAmountError>
     ensures { ReadsAmount text.now (answer_of result) }
 {
+    if text.is_empty() {
+        return Err(ChineseToAmountError::Unfinished);
+    }
     told(read::<Progress>(text))
 }
 

@@ -1,7 +1,10 @@
 -- What is known of a text while it is read, and what the answers to it rest on.
 use Rattle.std.proofs.Common.{◌≡◌, ℕ, ◌+◌, ◌<◌, List, [], ◌∷◌, ◌++◌, length, take, chars, Some, None, sym, ap, ap₂, subst, ◌∙◌, append-nil, append_assoc, length-append, arith}
 use Rattle.std.proofs.Math.Seq.{take-append_seam}
-use Rattle.cn_capitals.specs.Answers.{Begins}
+use Rattle.std.specs.Prelude.{Err}
+use Rattle.cn_core.proofs.Chars.{chars-from_empty}
+use Rattle.cn_capitals.specs.declared.refusal.Refusal.TheVariants.{Unfinished}
+use Rattle.cn_capitals.specs.Answers.{Answers, Begins}
 use Rattle.cn_capitals.specs.Machine.{run, Machine, Leads, Reads}
 use Rattle.cn_capitals.proofs.Runs.{some-is, run-ran, run-behind, run-more}
 
@@ -16,6 +19,14 @@ unfinished-read IsForm machine reads text state r e = (
       let same : whole.0 ≡ state = some-is whole.0 state (sym whole.1 ∙ r) in
       let wrong : Some value ≡ None = sym whole.2 ∙ ap machine.end same ∙ e in absurd (cc),
 )
+
+-- no text
+pub empty-read : {S A : Type 0} (IsForm : List ℕ → A → Type 0) (machine : Machine S A)
+    → Reads IsForm machine → machine.end machine.begin ≡ None → (bytes : List ℕ)
+    → length bytes ≡ 0 → Answers IsForm (chars bytes) (Err Unfinished)
+empty-read IsForm machine reads none bytes empty =
+    unfinished-read IsForm machine reads (chars bytes) machine.begin
+    (ap (run machine.step machine.begin) (chars-from_empty bytes empty)) none
 
 -- at a character with which no form goes on
 refused-read : {S A : Type 0} (IsForm : List ℕ → A → Type 0) (machine : Machine S A)
