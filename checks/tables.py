@@ -4,8 +4,8 @@
 Usage: tables.py CRATES [--check]
 
 MARKS of `cn_judge` has each digit and unit of three bytes, as `characters_read.rt` of `cn_core`
-says what it is read as; CAPITALS of `cn_amount` has each character of an amount, as `capital_rows`
-says. Without --check the tables are printed, as they stand in the crates below CRATES. Where two
+says what it is read as; CAPITALS of `cn_amount` and of `cn_date` have each character of an amount
+and of a date, as their `capital_rows` say. Without --check the tables are printed, as they stand in the crates below CRATES. Where two
 characters fall on one slot, the least multiplier from the one in use on that parts them all is said
 first: it then stands where the slot is taken, and in the proof that it parts them. With --check the
 script fails where a table differs, or its slot is taken otherwise.
@@ -13,12 +13,14 @@ script fails where a table differs, or its slot is taken otherwise.
 import re
 import sys
 from dataclasses import dataclass
+from functools import partial
 from pathlib import Path
 from typing import Callable
 
 FILLER = "無"
 UNITS = re.compile(r"^        ('.*') => Some\((?:Unit::)?(\w+)\),$", re.MULTILINE)
 CAPITALS = re.compile(r'\(codes "(\w+)", (\w+)(?: (\d))?\)')
+CAPITAL_SLOT = "CAPITALS[(character as u32 * {multiplier} / {divisor} % {slots}) as usize]"
 
 
 @dataclass
@@ -82,9 +84,9 @@ def mark_row(char, found):
     return f"(0x{key_of(char):x}, {found.get(char, 'Mark::Other')}), // {char}"
 
 
-def capitals(crates):
-    """The capital that each character of an amount is read as."""
-    text = text_of(crates / "cn_amount/specs/Reading.antt")
+def capitals_of(crate, crates):
+    """The capital that each character of an amount or of a date is read as."""
+    text = text_of(crates / crate / "specs/Reading.antt")
     rows = text.split("\ncapital_rows =\n")[1].split("\n\n")[0]
     return {
         char: f"Some(Capital::{name}({value}))" if value else f"Some(Capital::{name})"
@@ -114,13 +116,25 @@ TABLES = [
         "CAPITALS",
         "cn_amount/src/capital.rt",
         "(char, Option<Capital>)",
-        capitals,
+        partial(capitals_of, "cn_amount"),
         capital_row,
         ord,
-        "CAPITALS[(character as u32 * {multiplier} / {divisor} % {slots}) as usize]",
+        CAPITAL_SLOT,
         3227,
         1024,
         64,
+    ),
+    Table(
+        "CAPITALS",
+        "cn_date/src/capital.rt",
+        "(char, Option<Capital>)",
+        partial(capitals_of, "cn_date"),
+        capital_row,
+        ord,
+        CAPITAL_SLOT,
+        69,
+        16,
+        32,
     ),
 ]
 
@@ -152,7 +166,8 @@ def main():
             sys.exit(
                 f"tables: {table.place} has another {table.name}; this script prints the right one"
             )
-        print(f"tables: {table.name} has {len(found)} characters, each at its slot")
+        crate = table.place.split("/")[0]
+        print(f"tables: {table.name} of {crate} has {len(found)} characters, each at its slot")
 
 
 if __name__ == "__main__":

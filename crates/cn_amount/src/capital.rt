@@ -1,11 +1,11 @@
 // The characters of an amount.
-ghost use Rattle.std.specs.Prelude.{◌≡◌, ◌==◌, ◌*◌, ◌/◌, ◌%◌, slice_index_or, if◌then◌else◌};
+ghost use Rattle.std.specs.Prelude.{◌≡◌, ◌*◌, ◌/◌, ◌%◌, slice_index_or};
 ghost use Rattle.cn_amount.specs.Working.Putting.{IsWritten};
 ghost use Rattle.cn_amount.specs.Writes.{char_by, yuan_char, closing_char, currency_char};
 ghost use Rattle.cn_amount.specs.Reading.{capital_of};
 
 use crate::form::Hand;
-use cn_capitals::Written;
+use cn_capitals::{Written, known_in};
 use cn_core::{ChineseCase, ChineseVariant, Unit, digit_char, minus_char, unit_char};
 
 /// What a character of an amount is.
@@ -172,15 +172,6 @@ fn entry(character: char) -> (char, Option<Capital>)
     ensures { result ≡ slice_index_or CAPITALS (character * 3227 / 1024 % 64) result }
 {
     CAPITALS[(character as u32 * 3227 / 1024 % 64) as usize]
-}
-
-// What an entry says of a character: nothing, where it has another one.
-#[inline(always)]
-fn known_in(entry: (char, Option<Capital>), character: char) -> Option<Capital>
-    ensures { result ≡ (if entry.0 == character then entry.1 else None) }
-{
-    let (known, capital) = entry;
-    if known == character { capital } else { None }
 }
 
 /// What a character of either script is read as, by a look-up without a search.

@@ -1,4 +1,5 @@
 pub mod Characters
+pub mod LookUp
 pub mod OneAnswer
 pub mod Puts
 pub mod Reading

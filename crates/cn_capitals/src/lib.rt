@@ -10,6 +10,7 @@ mod grammar;
 pub mod laws;
 mod reader;
 mod refusal;
+mod table;
 #[cfg(test)]
 mod tests;
 mod text;
@@ -18,5 +19,6 @@ mod written;
 pub use grammar::Grammar;
 pub use reader::read;
 pub use refusal::Refusal;
+pub use table::known_in;
 pub use text::CapitalText;
 pub use written::Written;

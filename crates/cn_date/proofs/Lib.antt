@@ -1,3 +1,4 @@
+pub mod CapitalTable
 pub mod Completed
 pub mod Examples
 pub mod FormsRead

@@ -1,10 +1,10 @@
 // The characters of a date.
-ghost use Rattle.std.specs.Prelude.{◌≡◌};
+ghost use Rattle.std.specs.Prelude.{◌≡◌, ◌*◌, ◌/◌, ◌%◌, slice_index_or};
 ghost use Rattle.cn_date.specs.Working.Putting.{IsWritten};
 ghost use Rattle.cn_date.specs.Writes.{capital_char};
 ghost use Rattle.cn_date.specs.Reading.{capital_of};
 
-use cn_capitals::Written;
+use cn_capitals::{Written, known_in};
 use cn_core::{ChineseCase, ChineseVariant, Unit, digit_char, unit_char};
 
 /// What a character of a date is.
@@ -38,26 +38,54 @@ impl Written<ChineseVariant> for Capital {
     }
 }
 
-/// What a character of either script is read as.
-#[tactic(auto, unfolding(crate::specs::Reading::capital_of))]
+// The characters that are read, each at its slot. 無, which is none, fills the empty ones.
+static CAPITALS: [(char, Option<Capital>); 32] = [
+    ('無', None),
+    ('肆', Some(Capital::Digit(4))),
+    ('無', None),
+    ('貳', Some(Capital::Digit(2))),
+    ('零', Some(Capital::Digit(0))),
+    ('陸', Some(Capital::Digit(6))),
+    ('無', None),
+    ('拾', Some(Capital::Shi)),
+    ('伍', Some(Capital::Digit(5))),
+    ('無', None),
+    ('無', None),
+    ('日', Some(Capital::Ri)),
+    ('無', None),
+    ('陆', Some(Capital::Digit(6))),
+    ('無', None),
+    ('無', None),
+    ('叁', Some(Capital::Digit(3))),
+    ('壹', Some(Capital::Digit(1))),
+    ('月', Some(Capital::Yue)),
+    ('無', None),
+    ('年', Some(Capital::Nian)),
+    ('無', None),
+    ('玖', Some(Capital::Digit(9))),
+    ('捌', Some(Capital::Digit(8))),
+    ('參', Some(Capital::Digit(3))),
+    ('柒', Some(Capital::Digit(7))),
+    ('無', None),
+    ('無', None),
+    ('無', None),
+    ('叄', Some(Capital::Digit(3))),
+    ('無', None),
+    ('贰', Some(Capital::Digit(2))),
+];
+
+// The entry at the slot of a character: no two of those that are read share one.
+#[inline(always)]
+fn entry(character: char) -> (char, Option<Capital>)
+    ensures { result ≡ slice_index_or CAPITALS (character * 69 / 16 % 32) result }
+{
+    CAPITALS[(character as u32 * 69 / 16 % 32) as usize]
+}
+
+/// What a character of either script is read as, by a look-up without a search.
+#[inline(always)]
 pub fn capital_of(character: char) -> Option<Capital>
     ensures { result ≡ capital_of character }
 {
-    match character {
-        '零' => Some(Capital::Digit(0)),
-        '壹' => Some(Capital::Digit(1)),
-        '贰' | '貳' => Some(Capital::Digit(2)),
-        '叁' | '參' | '叄' => Some(Capital::Digit(3)),
-        '肆' => Some(Capital::Digit(4)),
-        '伍' => Some(Capital::Digit(5)),
-        '陆' | '陸' => Some(Capital::Digit(6)),
-        '柒' => Some(Capital::Digit(7)),
-        '捌' => Some(Capital::Digit(8)),
-        '玖' => Some(Capital::Digit(9)),
-        '拾' => Some(Capital::Shi),
-        '年' => Some(Capital::Nian),
-        '月' => Some(Capital::Yue),
-        '日' => Some(Capital::Ri),
-        _ => None,
-    }
+    known_in(entry(character), character)
 }

@@ -1,0 +1,11 @@
+// A table of the characters that are read.
+ghost use Rattle.std.specs.Prelude.{◌≡◌, ◌==◌, None, if◌then◌else◌};
+
+/// What an entry of a table says of a character: nothing, where it has another one.
+#[inline(always)]
+pub fn known_in<C: Copy>(entry: (char, Option<C>), character: char) -> Option<C>
+    ensures { result ≡ (if entry.0 == character then entry.1 else None) }
+{
+    let (known, capital) = entry;
+    if known == character { capital } else { None }
+}

@@ -1,0 +1,22 @@
+-- The table of characters has each that is read at its slot, with what it is.
+use Rattle.std.proofs.Common.{◌≡◌, ℕ, ◌*◌, ◌/◌, ◌%◌, ◌==◌, get_or, true, refl, Option, None, arith, if◌then◌else◌}
+use Rattle.cn_capitals.proofs.LookUp.{AreRight, all_stand, entry-is}
+use Rattle.cn_date.specs.declared.capital.Capital.{Capital}
+use Rattle.cn_date.specs.declared.capital.TheConstants.{CAPITALS}
+use Rattle.cn_date.specs.Reading.{capital_of, capital_rows}
+
+all-right : AreRight capital_rows CAPITALS
+all-right = (refl, (refl, (refl, (refl, (refl, (refl, (refl, (refl, (refl, (refl, (refl, (refl, (refl, (refl, (refl, (refl, (refl, (refl, (refl, (refl, (refl, (refl, (refl, (refl, (refl, (refl, (refl, (refl, (refl, (refl, (refl, (refl, tt))))))))))))))))))))))))))))))))
+
+-- the place of a character in the table
+abbrev slot_of : ℕ → ℕ
+slot_of c = c * 69 / 16 % 32
+
+stand : all_stand capital_rows CAPITALS slot_of ≡ true
+stand = refl
+
+pub capital-is : (entry : ℕ × Option Capital) (c : ℕ) → entry ≡ get_or CAPITALS (slot_of c) entry
+    → (if entry.0 == c then entry.1 else None) ≡ capital_of c
+unfolding capital_of
+capital-is entry c at =
+    entry-is capital_rows CAPITALS slot_of all-right stand c (omega arith) entry at
