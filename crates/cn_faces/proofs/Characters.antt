@@ -3,10 +3,10 @@ use Rattle.std.proofs.Common.{◌≡◌, ◌<◌, ◌≤◌, ◌+◌, ◌-◌, �
 use Rattle.std.proofs.Math.Logic.{⊎_elim}
 use Rattle.std.proofs.lemmas.Bool.{ltb-false}
 use Rattle.std.proofs.lemmas.Bool.Decides.{nat_tests}
-use Rattle.std.proofs.lemmas.List.{get_or-take, take-append-drop, take_all}
+use Rattle.std.proofs.lemmas.List.{get_or-take, get_or_past, length-take-le, take-append-drop, take_all}
 use Rattle.std.proofs.lemmas.Str.{IsCharBoundary-from_take, IsUtf8-append, IsUtf8-drop, IsUtf8-encode, IsUtf8-from_ascii, IsUtf8-from_is_utf8, IsUtf8-nil, is_utf8-from_IsUtf8}
 use Rattle.std.specs.Array.{IsFirstChunk}
-use Rattle.std.specs.Int.{IsInRange, from_le_bytes, w32}
+use Rattle.std.specs.Int.{IsInRange, from_le_bytes, w32, w64}
 use Rattle.std.specs.Prelude.{IsUtf8}
 use Rattle.std.specs.Str.{is_utf8}
 use Rattle.cn_judge.proofs.ThreeBytes.{bytes_by, below, encode-by}
@@ -263,20 +263,121 @@ common_is_utf8 bytes first second third e f g p q r =
       λ far. absurd (omega (arith, e, p, f, q, far)),
     )
 
-pub ascii_are_utf8 : (bytes : List ℕ) → 4 ≤ length bytes → get_or bytes 0 0 < 128
-    → get_or bytes 1 0 < 128 → get_or bytes 2 0 < 128 → get_or bytes 3 0 < 128
-    → IsUtf8 (take 4 bytes)
-ascii_are_utf8 (a ∷ b ∷ c ∷ d ∷ rest) long p q r s = IsUtf8-from_ascii (a ∷ b ∷ c ∷ d ∷ []) by where
-  by : (i : ℕ) → get_or (a ∷ b ∷ c ∷ d ∷ []) i 0 < 128
-  by zero = p
-  by (suc zero) = q
-  by (suc (suc zero)) = r
-  by (suc (suc (suc zero))) = s
-  by (suc (suc (suc (suc i)))) = omega arith
-ascii_are_utf8 [] long p q r s = absurd (omega (arith, long))
-ascii_are_utf8 (a ∷ []) long p q r s = absurd (omega (arith, long))
-ascii_are_utf8 (a ∷ b ∷ []) long p q r s = absurd (omega (arith, long))
-ascii_are_utf8 (a ∷ b ∷ c ∷ []) long p q r s = absurd (omega (arith, long))
+pub all_ascii_are_utf8 : (bytes : List ℕ) (n : ℕ) → n ≤ length bytes
+    → ((k : ℕ) → k < n → get_or bytes k 0 < 128) → IsUtf8 (take n bytes)
+all_ascii_are_utf8 bytes n within at = IsUtf8-from_ascii (take n bytes) low where
+  low : (k : ℕ) → get_or (take n bytes) k 0 < 128
+  low k = by (ltb k n) refl where
+    by : (x : Bool) → ltb k n ≡ x → get_or (take n bytes) k 0 < 128
+    by true e = subst (λ b. b < 128) (sym (get_or-take n bytes k 0 (below k n e))) (at k (below k n e))
+    by false e =
+        let past : length (take n bytes) ≤ k =
+        omega (arith, length-take-le n bytes within, ltb-false k n e) in
+        subst (λ b. b < 128) (sym (get_or_past (take n bytes) k 0 past)) (omega arith)
+
+more-ascii : (bytes : List ℕ) (n m : ℕ) → ((k : ℕ) → k < n → get_or bytes k 0 < 128)
+    → ((k : ℕ) → k < m → get_or bytes (n + k) 0 < 128)
+    → (k : ℕ) → k < n + m → get_or bytes k 0 < 128
+more-ascii bytes n m front behind k less = by (ltb k n) refl where
+  by : (x : Bool) → ltb k n ≡ x → get_or bytes k 0 < 128
+  by true e = front k (below k n e)
+  by false e =
+      let far = ltb-false k n e in
+      subst (λ i. get_or bytes i 0 < 128) (omega (arith, far)) (behind (k - n) (omega (arith, far, less)))
+
+first-eight : (bytes : List ℕ) → ((k : ℕ) → k < 8 → get_or bytes (0 + k) 0 < 128)
+    → (k : ℕ) → k < 8 → get_or bytes k 0 < 128
+first-eight bytes low k less = subst (λ i. get_or bytes i 0 < 128) (omega arith) (low k less)
+
+pub eight_are_utf8 : (bytes : List ℕ) → 0 + 8 ≤ length bytes
+    → ((k : ℕ) → k < 8 → get_or bytes (0 + k) 0 < 128) → IsUtf8 (take 8 bytes)
+eight_are_utf8 bytes within low =
+    all_ascii_are_utf8 bytes 8 (omega (arith, within)) (first-eight bytes low)
+
+pub sixteen_are_utf8 : (bytes : List ℕ) → 8 + 8 ≤ length bytes
+    → ((k : ℕ) → k < 8 → get_or bytes (0 + k) 0 < 128)
+    → ((k : ℕ) → k < 8 → get_or bytes (8 + k) 0 < 128) → IsUtf8 (take 16 bytes)
+sixteen_are_utf8 bytes within low more =
+    all_ascii_are_utf8 bytes 16 (omega (arith, within))
+    (more-ascii bytes 8 8 (first-eight bytes low) more)
+
+-- a byte of the chunk that begins at a place
+chunk-at : (bytes chunk : List ℕ) (at n : ℕ)
+    → IsFirstChunk (take (length bytes - at) (drop at bytes)) chunk n → (i : ℕ) → i < n
+    → get_or chunk i 0 ≡ get_or bytes (at + i) 0
+chunk-at bytes chunk at n is i low =
+    let left = length-drop at bytes in
+    let all = take_all (length bytes - at) (drop at bytes) (omega (arith, left)) in
+    ap (λ l. get_or l i 0) is.same
+    ∙ get_or-take n (take (length bytes - at) (drop at bytes)) i 0 low
+    ∙ ap (λ l. get_or l i 0) all ∙ get_or-drop at bytes i 0
+
+pub chunk-within : (bytes chunk : List ℕ) (at n : ℕ) → at ≤ length bytes
+    → IsFirstChunk (take (length bytes - at) (drop at bytes)) chunk n → at + n ≤ length bytes
+chunk-within bytes chunk at n inside is =
+    let left = length-drop at bytes in
+    let enough = ap length (take_all (length bytes - at) (drop at bytes) (omega (arith, left))) in
+    let have = is.enough in
+    omega (arith, enough, have, left, inside)
+
+ones-at : (bytes : List ℕ) (at : ℕ) → get_or bytes (at + 0) 0 < 128 → get_or bytes (at + 1) 0 < 128
+    → get_or bytes (at + 2) 0 < 128 → get_or bytes (at + 3) 0 < 128 → get_or bytes (at + 4) 0 < 128
+    → get_or bytes (at + 5) 0 < 128 → get_or bytes (at + 6) 0 < 128 → get_or bytes (at + 7) 0 < 128
+    → (i : ℕ) → i < 8 → get_or bytes (at + i) 0 < 128
+ones-at bytes at a0 a1 a2 a3 a4 a5 a6 a7 zero less = a0
+ones-at bytes at a0 a1 a2 a3 a4 a5 a6 a7 (suc zero) less = a1
+ones-at bytes at a0 a1 a2 a3 a4 a5 a6 a7 (suc (suc zero)) less = a2
+ones-at bytes at a0 a1 a2 a3 a4 a5 a6 a7 (suc (suc (suc zero))) less = a3
+ones-at bytes at a0 a1 a2 a3 a4 a5 a6 a7 (suc (suc (suc (suc zero)))) less = a4
+ones-at bytes at a0 a1 a2 a3 a4 a5 a6 a7 (suc (suc (suc (suc (suc zero))))) less = a5
+ones-at bytes at a0 a1 a2 a3 a4 a5 a6 a7 (suc (suc (suc (suc (suc (suc zero)))))) less = a6
+ones-at bytes at a0 a1 a2 a3 a4 a5 a6 a7 (suc (suc (suc (suc (suc (suc (suc zero))))))) less = a7
+ones-at bytes at a0 a1 a2 a3 a4 a5 a6 a7 (suc (suc (suc (suc (suc (suc (suc (suc i)))))))) less = absurd (omega (arith, less))
+
+pub word-ones : (bytes eight : List ℕ) (at word : ℕ) → ((i : ℕ) → get_or bytes i 0 < 256)
+    → IsFirstChunk (take (length bytes - at) (drop at bytes)) eight 8
+    → word ≡ from_le_bytes w64 eight → word % 256 < 128 → word / 256 % 256 < 128 → word / 65536 % 256 < 128
+    → word / 16777216 % 256 < 128 → word / 4294967296 % 256 < 128 → word / 1099511627776 % 256 < 128
+    → word / 281474976710656 % 256 < 128 → word / 72057594037927936 < 128
+    → (i : ℕ) → i < 8 → get_or bytes (at + i) 0 < 128
+word-ones bytes eight at word fits chunk is a0 a1 a2 a3 a4 a5 a6 a7 =
+    let by = chunk-at bytes eight at 8 chunk in
+    let b0 = by 0 (omega arith) in
+    let b1 = by 1 (omega arith) in
+    let b2 = by 2 (omega arith) in
+    let b3 = by 3 (omega arith) in
+    let b4 = by 4 (omega arith) in
+    let b5 = by 5 (omega arith) in
+    let b6 = by 6 (omega arith) in
+    let b7 = by 7 (omega arith) in
+    let l0 = fits (at + 0) in
+    let l1 = fits (at + 1) in
+    let l2 = fits (at + 2) in
+    let l3 = fits (at + 3) in
+    let l4 = fits (at + 4) in
+    let l5 = fits (at + 5) in
+    let l6 = fits (at + 6) in
+    let l7 = fits (at + 7) in
+    ones-at bytes at
+    (omega (arith, is, a0, b0, b1, b2, b3, b4, b5, b6, b7, l0, l1, l2, l3, l4, l5, l6, l7))
+    (omega (arith, is, a1, b0, b1, b2, b3, b4, b5, b6, b7, l0, l1, l2, l3, l4, l5, l6, l7))
+    (omega (arith, is, a2, b0, b1, b2, b3, b4, b5, b6, b7, l0, l1, l2, l3, l4, l5, l6, l7))
+    (omega (arith, is, a3, b0, b1, b2, b3, b4, b5, b6, b7, l0, l1, l2, l3, l4, l5, l6, l7))
+    (omega (arith, is, a4, b0, b1, b2, b3, b4, b5, b6, b7, l0, l1, l2, l3, l4, l5, l6, l7))
+    (omega (arith, is, a5, b0, b1, b2, b3, b4, b5, b6, b7, l0, l1, l2, l3, l4, l5, l6, l7))
+    (omega (arith, is, a6, b0, b1, b2, b3, b4, b5, b6, b7, l0, l1, l2, l3, l4, l5, l6, l7))
+    (omega (arith, is, a7, b0, b1, b2, b3, b4, b5, b6, b7, l0, l1, l2, l3, l4, l5, l6, l7))
+
+pub ascii_are_utf8 : (bytes : List ℕ) (n : ℕ) → n ≤ length bytes → n ≤ 4
+    → (0 < n → get_or bytes 0 0 < 128) → (1 < n → get_or bytes 1 0 < 128)
+    → (2 < n → get_or bytes 2 0 < 128) → (3 < n → get_or bytes 3 0 < 128) → IsUtf8 (take n bytes)
+ascii_are_utf8 bytes n within most p q r s = all_ascii_are_utf8 bytes n within at where
+  at : (k : ℕ) → k < n → get_or bytes k 0 < 128
+  at zero less = p less
+  at (suc zero) less = q less
+  at (suc (suc zero)) less = r less
+  at (suc (suc (suc zero))) less = s less
+  at (suc (suc (suc (suc k)))) less = absurd (omega (arith, less, most))
 
 pub all_is_utf8 : (bytes rest : List ℕ) → IsBehind bytes rest → is_utf8 rest ≡ true → IsUtf8 bytes
 all_is_utf8 bytes rest behind is = IsUtf8-from_is_utf8 bytes (sym behind.0 ∙ is)

@@ -1,5 +1,5 @@
 // Bytes that are text.
-ghost use Rattle.std.specs.Prelude.{◌≡◌, ◌↔◌, ◌/◌, ◌%◌, ◌<◌, ◌≤◌, true, false, take, get_or, length, IsTrue, IsUtf8, MatchOption};
+ghost use Rattle.std.specs.Prelude.{◌≡◌, ◌↔◌, ℕ, ◌+◌, ◌/◌, ◌%◌, ◌<◌, ◌≤◌, true, false, take, get_or, length, IsTrue, IsUtf8, MatchOption};
 ghost use Rattle.std.specs.Int.{IsInRange};
 ghost use Rattle.std.specs.Str.{is_utf8};
 ghost use Rattle.cn_faces.specs.Private.CharacterBytes.{IsContinuation, IsTwo, IsThree, IsFour, leading};
@@ -61,6 +61,28 @@ fn is_ascii(word: u32) -> bool
         & (word / 0x8000 % 2 == 0)
         & (word / 0x80_0000 % 2 == 0)
         & (word / 0x8000_0000 == 0)
+}
+
+// How many of the four bytes of a word are of ASCII, up to the first that is not.
+#[inline(always)]
+fn ascii_len(word: u32) -> usize
+    ensures most { result ≤ 4 }
+    ensures first { 0 < result → word % 256 < 128 }
+    ensures second { 1 < result → word / 256 % 256 < 128 }
+    ensures third { 2 < result → word / 65536 % 256 < 128 }
+    ensures fourth { 3 < result → word / 16777216 < 128 }
+{
+    if is_ascii(word) {
+        4
+    } else if word / 0x80 % 2 != 0 {
+        0
+    } else if word / 0x8000 % 2 != 0 {
+        1
+    } else if word / 0x80_0000 % 2 != 0 {
+        2
+    } else {
+        3
+    }
 }
 
 // The byte at a place, or 0 behind the last.
@@ -140,6 +162,56 @@ fn first_len(bytes: &[u8]) -> usize
     }
 }
 
+// Whether the eight bytes of a word are of ASCII.
+#[inline(always)]
+fn are_ascii(word: u64) -> bool
+    ensures first { IsTrue result → word % 256 < 128 }
+    ensures second { IsTrue result → word / 256 % 256 < 128 }
+    ensures third { IsTrue result → word / 65536 % 256 < 128 }
+    ensures fourth { IsTrue result → word / 16777216 % 256 < 128 }
+    ensures fifth { IsTrue result → word / 4294967296 % 256 < 128 }
+    ensures sixth { IsTrue result → word / 1099511627776 % 256 < 128 }
+    ensures seventh { IsTrue result → word / 281474976710656 % 256 < 128 }
+    ensures eighth { IsTrue result → word / 72057594037927936 < 128 }
+{
+    (word / 0x80 % 2 == 0)
+        & (word / 0x8000 % 2 == 0)
+        & (word / 0x80_0000 % 2 == 0)
+        & (word / 0x8000_0000 % 2 == 0)
+        & (word / 0x80_0000_0000 % 2 == 0)
+        & (word / 0x8000_0000_0000 % 2 == 0)
+        & (word / 0x80_0000_0000_0000 % 2 == 0)
+        & (word / 0x8000_0000_0000_0000 == 0)
+}
+
+// Whether eight of ASCII begin at a byte.
+#[inline(always)]
+fn begins_eight(bytes: &[u8], from: usize) -> bool
+    requires { from ≤ length bytes.now }
+    ensures within { IsTrue result → from + 8 ≤ length bytes.now }
+    ensures low { IsTrue result → (k : ℕ) → k < 8 → get_or bytes.now (from + k) 0 < 128 }
+{
+    match bytes[from..].first_chunk::<8>() {
+        Some(eight) => are_ascii(u64::from_le_bytes(*eight)),
+        None => false,
+    }
+}
+
+// How many bytes of ASCII stand in front, of eight at a time and sixteen at most.
+#[inline(always)]
+fn eights_len(bytes: &[u8]) -> usize
+    ensures within { result ≤ length bytes.now }
+    ensures some { IsUtf8 (take result bytes.now) }
+{
+    if !begins_eight(bytes, 0) {
+        0
+    } else if !begins_eight(bytes, 8) {
+        8
+    } else {
+        16
+    }
+}
+
 // How many bytes some characters have with which these bytes begin, or 0 where they begin with none.
 #[inline(always)]
 fn front_len(bytes: &[u8]) -> usize
@@ -153,9 +225,18 @@ fn front_len(bytes: &[u8]) -> usize
         if is_common(word) {
             return 3;
         }
-        if is_ascii(word) {
-            return 4;
+        let ascii = ascii_len(word);
+        if ascii == 4 {
+            let eights = eights_len(bytes);
+            if eights > 0 {
+                return eights;
+            }
         }
+        if ascii > 0 {
+            return ascii;
+        }
+    } else if bytes[0] < 0x80 {
+        return 1;
     }
     if is_common_alone(bytes) {
         return 3;

@@ -1,5 +1,6 @@
-use Rattle.std.proofs.Common.{arith}
-use Rattle.cn_faces.proofs.Characters.{ascii_are_utf8, common_is_utf8, starts-with-word}
+use Rattle.std.proofs.Common.{arith, rules}
+use Rattle.std.proofs.lemmas.Bool.Decides.{nat_tests}
+use Rattle.cn_faces.proofs.Characters.{ascii_are_utf8, common_is_utf8, one_is_utf8, starts-with-word}
 use Rattle.cn_faces.proofs.utf8.front_len.Goals as goal
 
 pub returns-then-is_common-clause-some : goal.returns-then-is_common-clause-some
@@ -11,12 +12,17 @@ returns-then-is_common-clause-some c =
     common_is_utf8 _ _ _ _ word.first word.second word.third (common.first is) (common.second is)
     (common.third is)
 
-pub returns-then-is_ascii-clause-some : goal.returns-then-is_ascii-clause-some
-returns-then-is_ascii-clause-some c =
-    let is = c.if-is_ascii.true in
-    let ascii = c.is_ascii.ensures in
+pub returns-then-ascii-gt0-clause-some : goal.returns-then-ascii-gt0-clause-some
+returns-then-ascii-gt0-clause-some c =
+    let ascii = c.ascii_len-ascii.ensures in
     let word = starts-with-word c.args.bytes.now _ _ (λ i. (c.type_inv.bytes i).fits)
     c.in-Some.ensures.cases c.from_le_bytes-word.ensures in
-    ascii_are_utf8 c.args.bytes.now word.within (omega (arith, word.first, ascii.first is))
-    (omega (arith, word.second, ascii.second is)) (omega (arith, word.third, ascii.third is))
-    (omega (arith, word.fourth, ascii.fourth is))
+    ascii_are_utf8 c.args.bytes.now _ (omega (arith, word.within, ascii.most)) ascii.most
+    (λ some. omega (arith, word.first, ascii.first some))
+    (λ some. omega (arith, word.second, ascii.second some))
+    (λ some. omega (arith, word.third, ascii.third some))
+    (λ some. omega (arith, word.fourth, ascii.fourth some))
+
+pub returns-then-bytes-lt128-clause-some : goal.returns-then-bytes-lt128-clause-some
+returns-then-bytes-lt128-clause-some c =
+    one_is_utf8 c.args.bytes.now c.requires (search (rules, nat_tests))
