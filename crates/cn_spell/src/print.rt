@@ -18,17 +18,6 @@ use std::str;
 // `Low` writes magnitudes of at most sixteen digits.
 const LOW_LIMIT: u128 = 10_000_000_000_000_000;
 
-// Whether the method writes a number.
-#[inline(always)]
-fn is_printable<T: Whole>(method: ChineseCountMethod, value: T) -> bool
-    ensures { result ≡ is_printable method (T.number value) }
-{
-    match method {
-        ChineseCountMethod::Low => value.magnitude() < LOW_LIMIT,
-        _ => true,
-    }
-}
-
 // The text of a sign and a magnitude, by a method that the compiler knows.
 fn spell_known<M: KnownMethod, P: Target>(
     target: &mut P,
@@ -121,12 +110,15 @@ fn test_printable<T: Whole>(
     ensures { MatchResult result (λ _. IsTrue (is_printable method (T.number value)))
         (IsUnwritten method (T.number value)) }
 {
-    if is_printable(method, value) {
-        Ok(())
-    } else if value.is_negative() {
-        Err(NumberToChineseError::Underflow)
-    } else {
-        Err(NumberToChineseError::Overflow)
+    match method {
+        ChineseCountMethod::Low if value.magnitude() >= LOW_LIMIT => {
+            Err(if value.is_negative() {
+                NumberToChineseError::Underflow
+            } else {
+                NumberToChineseError::Overflow
+            })
+        }
+        _ => Ok(()),
     }
 }
 
