@@ -156,10 +156,6 @@ fn ends_linked(before: &str) -> bool
 fn begins_linked(after: &str) -> bool
     ensures { result ≡ begins_linked (chars after.now) }
 {
-    // Chinese digits, as of 三点五, are told by the table of marks alone.
-    if let Some((Mark::Digit(_), _)) = split_first_known(after) {
-        return true;
-    }
     match split_first_mark(after) {
         Some((far, mark, _)) => is_linked(far, mark),
         None => false,
