@@ -322,20 +322,20 @@ pub fn byte_index(text: &str, char_index: usize) -> usize
 {
     let bytes = text.as_bytes();
     let mut passed = 0;
-    let mut index = 0;
-    'threes: while char_index - index >= 3 {
+    let mut left = char_index;
+    'threes: while left >= 3 {
         if !begins_three_threes(bytes, passed) {
             break;
         }
         passed += 9;
-        index += 3;
+        left -= 3;
     }
-    'passing: while index < char_index {
+    'passing: while left > 0 {
         if passed >= bytes.len() {
             return passed;
         }
         passed += char_len(bytes[passed]);
-        index += 1;
+        left -= 1;
     }
     passed
 }

@@ -4,8 +4,8 @@ use Rattle.cn_judge.proofs.text.byte_index.Given as goal
 
 abbrev pub invariant-threes : goal.invariant-threes
 invariant-threes l = record {
-  passed : Passed l.fn.text l.index l.passed;
-  few : l.index ≤ l.fn.char_index;
+  passed : Passed l.fn.text (l.fn.char_index - l.left) l.passed;
+  few : l.left ≤ l.fn.char_index;
 }
 
 abbrev pub decreases-threes : goal.decreases-threes
@@ -13,8 +13,8 @@ decreases-threes l = length l.fn.text - l.passed
 
 abbrev pub invariant-passing : goal.invariant-passing
 invariant-passing l = record {
-  passed : Passed l.fn.text l.index l.passed;
-  few : l.index ≤ l.fn.char_index;
+  passed : Passed l.fn.text (l.fn.char_index - l.left) l.passed;
+  few : l.left ≤ l.fn.char_index;
 }
 
 abbrev pub decreases-passing : goal.decreases-passing
