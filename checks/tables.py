@@ -4,11 +4,12 @@
 Usage: tables.py CRATES [--check]
 
 MARKS of `cn_judge` has each digit and unit of three bytes, as `characters_read.rt` of `cn_core`
-says what it is read as; CAPITALS of `cn_amount` and of `cn_date` have each character of an amount
-and of a date, as their `capital_rows` say. Without --check the tables are printed, as they stand in the crates below CRATES. Where two
-characters fall on one slot, the least multiplier from the one in use on that parts them all is said
-first: it then stands where the slot is taken, and in the proof that it parts them. With --check the
-script fails where a table differs, or its slot is taken otherwise.
+says what it is read as; CAPITALS of `cn_amount` and CAPITALS of `cn_date` each have the characters
+of an amount or of a date, as their `capital_rows` say. Without --check the tables are printed, as
+they stand in the crates below CRATES. Where two characters fall on one slot, the least multiplier
+from the one in use on that parts them all is said first: it then stands where the slot is taken,
+and in the proof that it parts them. With --check the script fails where a table differs, or its
+slot is taken otherwise.
 """
 import re
 import sys

@@ -99,11 +99,11 @@ section-sum before closed s =
     let last = place_text c s.ones [] in
     joined-sum (sums closed 0 0) (sums closed x 0) (sums closed z s.ones) first
     (second ++ (third ++ (last ++ [])))
-    (counted Qian 1000 (λ c n d. refl) before closed 0 s.thousands)
+    (counted Qian 1000 (λ m n d. refl) before closed 0 s.thousands)
     (joined-sum (sums closed x 0) (sums closed y 0) (sums closed z s.ones) second
-    (third ++ (last ++ [])) (counted Bai 100 (λ c n d. refl) a closed x s.hundreds)
+    (third ++ (last ++ [])) (counted Bai 100 (λ m n d. refl) a closed x s.hundreds)
     (joined-sum (sums closed y 0) (sums closed z 0) (sums closed z s.ones) third (last ++ [])
-    (counted Shi 10 (λ c n d. refl) b closed y s.tens)
+    (counted Shi 10 (λ m n d. refl) b closed y s.tens)
     (ap (sum_of (sums closed z 0)) (append-nil last) ∙ ones c closed z s.ones)))
 
 -- no digit of an empty section counts

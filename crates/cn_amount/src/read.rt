@@ -40,6 +40,7 @@ fn told<A>(answer: Result<A, Refusal>) -> Result<A, ChineseToAmountError>
 pub fn chinese_to_amount(text: &str) -> Result<u64, ChineseToAmountError>
     ensures { ReadsAmount text.now (answer_of result) }
 {
+    // Told here, so that no register is saved for the reader.
     if text.is_empty() {
         return Err(ChineseToAmountError::Unfinished);
     }

@@ -128,9 +128,9 @@ impl Stage {
         }
     }
 
-    // Behind a digit at a place or a lower one. Some of what `close` refuses is said apart at `Tens`,
-    // here and below: so no code is left that is never reached, for which an empty text would take 22
-    // instructions in place of 9.
+    // Behind a digit at a place or a lower one. At `Tens`, here and in `after_unit`, 佰, 仟 and 零 are
+    // refused by name, though `close` refuses them too: without that an empty text takes 22
+    // instructions from Rust, and with it 9.
     #[inline(always)]
     fn digit_below(self, place: Place, capital: Capital) -> Option<State>
         ensures { result ≡ digit_below self place capital }

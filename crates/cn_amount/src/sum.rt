@@ -1,14 +1,14 @@
 // What a text stands for, summed from the left.
 ghost use Rattle.std.specs.Prelude.{◌≡◌, ◌+◌, ◌<◌};
 ghost use Rattle.cn_amount.specs.Places.{amount_limit};
-ghost use Rattle.cn_amount.specs.Working.Steps.{with_section, with_closed, with_fen, add, summed};
+ghost use Rattle.cn_amount.specs.Working.Steps.{of_closed, with_section, with_fen, add, summed};
 
 use crate::capital::Capital;
 
 /// What the characters so far stand for.
 #[derive(Clone, Copy)]
 pub struct Sum {
-    /// The yuan of the sections that are closed; behind 元, and where there is none, the fen.
+    /// What is closed: yuan in front of 元, fen behind it; fen too where a text has 角 or 分 and no 元.
     pub closed: u64,
     /// The digits of the open section whose unit is read.
     pub section: u64,
@@ -36,9 +36,9 @@ impl Sum {
         }
     }
 
-    // With so much in front of the open section, which is empty.
-    fn with_closed(self, closed: u64) -> Sum
-        ensures { result ≡ with_closed self closed }
+    // So much, where no section is open.
+    fn of_closed(closed: u64) -> Sum
+        ensures { result ≡ of_closed closed }
     {
         Sum {
             closed,
@@ -72,11 +72,11 @@ impl Sum {
             Capital::Shi => self.with_section(10 * self.digit),
             Capital::Bai => self.with_section(100 * self.digit),
             Capital::Qian => self.with_section(1000 * self.digit),
-            Capital::Wan => self.with_closed(self.closed + 10_000 * (self.section + self.digit)),
-            Capital::Yi => self.with_closed(
+            Capital::Wan => Sum::of_closed(self.closed + 10_000 * (self.section + self.digit)),
+            Capital::Yi => Sum::of_closed(
                 100_000_000 * (self.closed + self.section + self.digit),
             ),
-            Capital::Yuan => self.with_closed(100 * (self.closed + self.section + self.digit)),
+            Capital::Yuan => Sum::of_closed(100 * (self.closed + self.section + self.digit)),
             Capital::Jiao => self.with_fen(10 * self.digit),
             Capital::Fen => self.with_fen(self.digit),
             _ => self,

@@ -168,7 +168,7 @@ pub unsafe extern "C" fn chinese_number_find_utf8(
     let Some(greatest) = unit_of(greatest) else {
         return tell_none(count, UNKNOWN);
     };
-    // Nothing is left, and no register is saved for a search.
+    // Where nothing is left, it is told here, so that no register is saved for a search.
     if from == text.len() {
         return tell_none(count, DONE);
     }

@@ -3,6 +3,7 @@ use Rattle.std.proofs.Common.{◌≡◌, ℕ, ◌<◌, ◌==◌, Bool, true, fal
 use Rattle.std.specs.Char.{char_set_contains}
 use Rattle.std.specs.List.{list_all, AllByRecursion}
 use Rattle.std.proofs.lemmas.Bool.Decides.{nat_tests}
+use Rattle.std.proofs.lemmas.List.{get_or_default}
 use Rattle.cn_core.proofs.Fronts.{and-left, and-right}
 use Rattle.cn_capitals.specs.Characters.{first_with}
 
@@ -14,7 +15,7 @@ AreRight rows entries = AllByRecursion (λ entry. first_with rows entry.0 ≡ en
 abbrev pub stands : {C : Type 0} → List (ℕ × Option C) → (ℕ → ℕ) → ℕ → Bool
 stands entries slot c = (get_or entries (slot c) (0, None)).0 == c
 
--- and so does each that is read
+-- each character of the rows stands at its slot
 abbrev pub all_stand : {C : Type 0} → List (List ℕ × C) → List (ℕ × Option C) → (ℕ → ℕ) → Bool
 all_stand rows entries slot = list_all (λ row. list_all (stands entries slot) row.0) rows
 
@@ -37,19 +38,13 @@ none-in is c (first ∷ cs) all other =
           let yes : is c ≡ true = ap is (sym same) ∙ and-left (is first) _ all in cc
       by false e ih = rw e ih
 
--- a character that does not stand at its slot is none that is read
+-- where each character of the rows passes a test, one that fails it is in no row
 none-with : {C : Type 0} (is : ℕ → Bool) (c : ℕ) (rows : List (List ℕ × C))
     → list_all (λ row. list_all is row.0) rows ≡ true → is c ≡ false → first_with rows c ≡ None
 none-with is c [] all other = refl
 none-with is c (row ∷ rows) all other =
     rw (none-in is c row.0 (and-left (list_all is row.0) _ all) other)
     (none-with is c rows (and-right (list_all is row.0) _ all) other)
-
-same-entry : {C : Type 0} (entries : List (ℕ × Option C)) (i : ℕ) (a b : ℕ × Option C)
-    → i < length entries → get_or entries i a ≡ get_or entries i b
-same-entry [] i a b low = absurd (omega (arith, low))
-same-entry (entry ∷ entries) zero a b low = refl
-same-entry (entry ∷ entries) (suc i) a b low = same-entry entries i a b (omega (arith, low))
 
 -- so the entry at its slot says what a character is
 pub entry-is : {C : Type 0} (rows : List (List ℕ × C)) (entries : List (ℕ × Option C)) (slot : ℕ → ℕ)
@@ -61,7 +56,7 @@ entry-is {C} rows entries slot right all c low entry at = by (entry.0 == c) refl
   other true e not =
       let is : (get_or entries (slot c) (0, None)).0 ≡ c = grind (arith, nat_tests) in
       let one : entry ≡ get_or entries (slot c) (0, None) =
-      at ∙ same-entry entries (slot c) entry (0, None) low in
+      at ∙ get_or_default entries (slot c) entry (0, None) low in
       absurd (not (ap (λ (found : ℕ × Option C). found.0) one ∙ is))
   other false e not = sym (none-with (stands entries slot) c rows all e)
 

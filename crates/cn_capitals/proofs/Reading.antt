@@ -20,7 +20,7 @@ unfinished-read IsForm machine reads text state r e = (
       let wrong : Some value ≡ None = sym whole.2 ∙ ap machine.end same ∙ e in absurd (cc),
 )
 
--- no text
+-- an empty text, where none is a form
 pub empty-read : {S A : Type 0} (IsForm : List ℕ → A → Type 0) (machine : Machine S A)
     → Reads IsForm machine → machine.end machine.begin ≡ None → (bytes : List ℕ)
     → length bytes ≡ 0 → Answers IsForm (chars bytes) (Err Unfinished)

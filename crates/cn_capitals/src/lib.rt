@@ -1,5 +1,6 @@
 //! What amounts and dates in capitals share: the reader from the left, which serves each grammar
-//! whose states can be given, and the text that capitals are put to.
+//! whose states can be given, what an entry of a table says of a character, and the text that
+//! capitals are put to.
 //!
 //! What is answered of a text stands in `specs/Answers`, for any definition of a form; what a grammar
 //! has to show, once, in `specs/Machine`; how it reads what a sieve keeps of a text, in

@@ -1,4 +1,4 @@
-// A table of the characters that are read.
+// What a table of characters says of one.
 ghost use Rattle.std.specs.Prelude.{◌≡◌, ◌==◌, None, if◌then◌else◌};
 
 /// What an entry of a table says of a character: nothing, where it has another one.
@@ -6,6 +6,6 @@ ghost use Rattle.std.specs.Prelude.{◌≡◌, ◌==◌, None, if◌then◌else�
 pub fn known_in<C: Copy>(entry: (char, Option<C>), character: char) -> Option<C>
     ensures { result ≡ (if entry.0 == character then entry.1 else None) }
 {
-    let (known, capital) = entry;
-    if known == character { capital } else { None }
+    let (own, capital) = entry;
+    if own == character { capital } else { None }
 }

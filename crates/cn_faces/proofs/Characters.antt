@@ -6,9 +6,10 @@ use Rattle.std.proofs.lemmas.Bool.Decides.{nat_tests}
 use Rattle.std.proofs.lemmas.List.{get_or-take, get_or_past, length-take-le, take-append-drop, take_all}
 use Rattle.std.proofs.lemmas.Str.{IsCharBoundary-from_take, IsUtf8-append, IsUtf8-drop, IsUtf8-encode, IsUtf8-from_ascii, IsUtf8-from_is_utf8, IsUtf8-nil, is_utf8-from_IsUtf8}
 use Rattle.std.specs.Array.{IsFirstChunk}
-use Rattle.std.specs.Int.{IsInRange, from_le_bytes, w32, w64}
+use Rattle.std.specs.Int.{IsInRange, from_le_bytes, w32}
 use Rattle.std.specs.Prelude.{IsUtf8}
 use Rattle.std.specs.Str.{is_utf8}
+use Rattle.cn_judge.proofs.Passing.{IsWordAt}
 use Rattle.cn_judge.proofs.ThreeBytes.{bytes_by, below, encode-by}
 use Rattle.cn_faces.specs.Private.CharacterBytes.{IsTwo, IsThree, IsFour}
 use lib.Utf8.{encode, encodes, next, scalar, scalars, scalar_cases, low_scalar}
@@ -263,6 +264,7 @@ common_is_utf8 bytes first second third e f g p q r =
       λ far. absurd (omega (arith, e, p, f, q, far)),
     )
 
+-- bytes of ASCII are UTF-8
 pub all_ascii_are_utf8 : (bytes : List ℕ) (n : ℕ) → n ≤ length bytes
     → ((k : ℕ) → k < n → get_or bytes k 0 < 128) → IsUtf8 (take n bytes)
 all_ascii_are_utf8 bytes n within at = IsUtf8-from_ascii (take n bytes) low where
@@ -275,6 +277,7 @@ all_ascii_are_utf8 bytes n within at = IsUtf8-from_ascii (take n bytes) low wher
         omega (arith, length-take-le n bytes within, ltb-false k n e) in
         subst (λ b. b < 128) (sym (get_or_past (take n bytes) k 0 past)) (omega arith)
 
+-- and so are more of them behind
 more-ascii : (bytes : List ℕ) (n m : ℕ) → ((k : ℕ) → k < n → get_or bytes k 0 < 128)
     → ((k : ℕ) → k < m → get_or bytes (n + k) 0 < 128)
     → (k : ℕ) → k < n + m → get_or bytes k 0 < 128
@@ -285,6 +288,7 @@ more-ascii bytes n m front behind k less = by (ltb k n) refl where
       let far = ltb-false k n e in
       subst (λ i. get_or bytes i 0 < 128) (omega (arith, far)) (behind (k - n) (omega (arith, far, less)))
 
+-- eight, or sixteen, from the front on
 first-eight : (bytes : List ℕ) → ((k : ℕ) → k < 8 → get_or bytes (0 + k) 0 < 128)
     → (k : ℕ) → k < 8 → get_or bytes k 0 < 128
 first-eight bytes low k less = subst (λ i. get_or bytes i 0 < 128) (omega arith) (low k less)
@@ -301,73 +305,22 @@ sixteen_are_utf8 bytes within low more =
     all_ascii_are_utf8 bytes 16 (omega (arith, within))
     (more-ascii bytes 8 8 (first-eight bytes low) more)
 
--- a byte of the chunk that begins at a place
-chunk-at : (bytes chunk : List ℕ) (at n : ℕ)
-    → IsFirstChunk (take (length bytes - at) (drop at bytes)) chunk n → (i : ℕ) → i < n
-    → get_or chunk i 0 ≡ get_or bytes (at + i) 0
-chunk-at bytes chunk at n is i low =
-    let left = length-drop at bytes in
-    let all = take_all (length bytes - at) (drop at bytes) (omega (arith, left)) in
-    ap (λ l. get_or l i 0) is.same
-    ∙ get_or-take n (take (length bytes - at) (drop at bytes)) i 0 low
-    ∙ ap (λ l. get_or l i 0) all ∙ get_or-drop at bytes i 0
+-- where each byte of a word is of ASCII, so are those that it stands for
+pub ascii-at : (bytes : List ℕ) (at word : ℕ) → IsWordAt bytes at word → word % 256 < 128 → word / 256 % 256 < 128
+    → word / 65536 % 256 < 128 → word / 16777216 % 256 < 128 → word / 4294967296 % 256 < 128
+    → word / 1099511627776 % 256 < 128 → word / 281474976710656 % 256 < 128 → word / 72057594037927936 < 128
+    → (k : ℕ) → k < 8 → get_or bytes (at + k) 0 < 128
+ascii-at bytes at word is a0 a1 a2 a3 a4 a5 a6 a7 zero less = omega (arith, is.first, a0)
+ascii-at bytes at word is a0 a1 a2 a3 a4 a5 a6 a7 (suc zero) less = omega (arith, is.second, a1)
+ascii-at bytes at word is a0 a1 a2 a3 a4 a5 a6 a7 (suc (suc zero)) less = omega (arith, is.third, a2)
+ascii-at bytes at word is a0 a1 a2 a3 a4 a5 a6 a7 (suc (suc (suc zero))) less = omega (arith, is.fourth, a3)
+ascii-at bytes at word is a0 a1 a2 a3 a4 a5 a6 a7 (suc (suc (suc (suc zero)))) less = omega (arith, is.fifth, a4)
+ascii-at bytes at word is a0 a1 a2 a3 a4 a5 a6 a7 (suc (suc (suc (suc (suc zero))))) less = omega (arith, is.sixth, a5)
+ascii-at bytes at word is a0 a1 a2 a3 a4 a5 a6 a7 (suc (suc (suc (suc (suc (suc zero)))))) less = omega (arith, is.seventh, a6)
+ascii-at bytes at word is a0 a1 a2 a3 a4 a5 a6 a7 (suc (suc (suc (suc (suc (suc (suc zero))))))) less = omega (arith, is.eighth, a7)
+ascii-at bytes at word is a0 a1 a2 a3 a4 a5 a6 a7 (suc (suc (suc (suc (suc (suc (suc (suc i)))))))) less = absurd (omega (arith, less))
 
-pub chunk-within : (bytes chunk : List ℕ) (at n : ℕ) → at ≤ length bytes
-    → IsFirstChunk (take (length bytes - at) (drop at bytes)) chunk n → at + n ≤ length bytes
-chunk-within bytes chunk at n inside is =
-    let left = length-drop at bytes in
-    let enough = ap length (take_all (length bytes - at) (drop at bytes) (omega (arith, left))) in
-    let have = is.enough in
-    omega (arith, enough, have, left, inside)
-
-ones-at : (bytes : List ℕ) (at : ℕ) → get_or bytes (at + 0) 0 < 128 → get_or bytes (at + 1) 0 < 128
-    → get_or bytes (at + 2) 0 < 128 → get_or bytes (at + 3) 0 < 128 → get_or bytes (at + 4) 0 < 128
-    → get_or bytes (at + 5) 0 < 128 → get_or bytes (at + 6) 0 < 128 → get_or bytes (at + 7) 0 < 128
-    → (i : ℕ) → i < 8 → get_or bytes (at + i) 0 < 128
-ones-at bytes at a0 a1 a2 a3 a4 a5 a6 a7 zero less = a0
-ones-at bytes at a0 a1 a2 a3 a4 a5 a6 a7 (suc zero) less = a1
-ones-at bytes at a0 a1 a2 a3 a4 a5 a6 a7 (suc (suc zero)) less = a2
-ones-at bytes at a0 a1 a2 a3 a4 a5 a6 a7 (suc (suc (suc zero))) less = a3
-ones-at bytes at a0 a1 a2 a3 a4 a5 a6 a7 (suc (suc (suc (suc zero)))) less = a4
-ones-at bytes at a0 a1 a2 a3 a4 a5 a6 a7 (suc (suc (suc (suc (suc zero))))) less = a5
-ones-at bytes at a0 a1 a2 a3 a4 a5 a6 a7 (suc (suc (suc (suc (suc (suc zero)))))) less = a6
-ones-at bytes at a0 a1 a2 a3 a4 a5 a6 a7 (suc (suc (suc (suc (suc (suc (suc zero))))))) less = a7
-ones-at bytes at a0 a1 a2 a3 a4 a5 a6 a7 (suc (suc (suc (suc (suc (suc (suc (suc i)))))))) less = absurd (omega (arith, less))
-
-pub word-ones : (bytes eight : List ℕ) (at word : ℕ) → ((i : ℕ) → get_or bytes i 0 < 256)
-    → IsFirstChunk (take (length bytes - at) (drop at bytes)) eight 8
-    → word ≡ from_le_bytes w64 eight → word % 256 < 128 → word / 256 % 256 < 128 → word / 65536 % 256 < 128
-    → word / 16777216 % 256 < 128 → word / 4294967296 % 256 < 128 → word / 1099511627776 % 256 < 128
-    → word / 281474976710656 % 256 < 128 → word / 72057594037927936 < 128
-    → (i : ℕ) → i < 8 → get_or bytes (at + i) 0 < 128
-word-ones bytes eight at word fits chunk is a0 a1 a2 a3 a4 a5 a6 a7 =
-    let by = chunk-at bytes eight at 8 chunk in
-    let b0 = by 0 (omega arith) in
-    let b1 = by 1 (omega arith) in
-    let b2 = by 2 (omega arith) in
-    let b3 = by 3 (omega arith) in
-    let b4 = by 4 (omega arith) in
-    let b5 = by 5 (omega arith) in
-    let b6 = by 6 (omega arith) in
-    let b7 = by 7 (omega arith) in
-    let l0 = fits (at + 0) in
-    let l1 = fits (at + 1) in
-    let l2 = fits (at + 2) in
-    let l3 = fits (at + 3) in
-    let l4 = fits (at + 4) in
-    let l5 = fits (at + 5) in
-    let l6 = fits (at + 6) in
-    let l7 = fits (at + 7) in
-    ones-at bytes at
-    (omega (arith, is, a0, b0, b1, b2, b3, b4, b5, b6, b7, l0, l1, l2, l3, l4, l5, l6, l7))
-    (omega (arith, is, a1, b0, b1, b2, b3, b4, b5, b6, b7, l0, l1, l2, l3, l4, l5, l6, l7))
-    (omega (arith, is, a2, b0, b1, b2, b3, b4, b5, b6, b7, l0, l1, l2, l3, l4, l5, l6, l7))
-    (omega (arith, is, a3, b0, b1, b2, b3, b4, b5, b6, b7, l0, l1, l2, l3, l4, l5, l6, l7))
-    (omega (arith, is, a4, b0, b1, b2, b3, b4, b5, b6, b7, l0, l1, l2, l3, l4, l5, l6, l7))
-    (omega (arith, is, a5, b0, b1, b2, b3, b4, b5, b6, b7, l0, l1, l2, l3, l4, l5, l6, l7))
-    (omega (arith, is, a6, b0, b1, b2, b3, b4, b5, b6, b7, l0, l1, l2, l3, l4, l5, l6, l7))
-    (omega (arith, is, a7, b0, b1, b2, b3, b4, b5, b6, b7, l0, l1, l2, l3, l4, l5, l6, l7))
-
+-- four at most, by the bytes of a word
 pub ascii_are_utf8 : (bytes : List ℕ) (n : ℕ) → n ≤ length bytes → n ≤ 4
     → (0 < n → get_or bytes 0 0 < 128) → (1 < n → get_or bytes 1 0 < 128)
     → (2 < n → get_or bytes 2 0 < 128) → (3 < n → get_or bytes 3 0 < 128) → IsUtf8 (take n bytes)

@@ -51,7 +51,7 @@ pub fn are_common(bytes: &[u8]) -> bool
 
 // Whether the four bytes of a word are of ASCII.
 #[inline(always)]
-fn is_ascii(word: u32) -> bool
+fn four_are_ascii(word: u32) -> bool
     ensures first { IsTrue result → word % 256 < 128 }
     ensures second { IsTrue result → word / 256 % 256 < 128 }
     ensures third { IsTrue result → word / 65536 % 256 < 128 }
@@ -63,7 +63,7 @@ fn is_ascii(word: u32) -> bool
         & (word / 0x8000_0000 == 0)
 }
 
-// How many of the four bytes of a word are of ASCII, up to the first that is not.
+// How many bytes of ASCII a word begins with.
 #[inline(always)]
 fn ascii_len(word: u32) -> usize
     ensures most { result ≤ 4 }
@@ -72,7 +72,7 @@ fn ascii_len(word: u32) -> usize
     ensures third { 2 < result → word / 65536 % 256 < 128 }
     ensures fourth { 3 < result → word / 16777216 < 128 }
 {
-    if is_ascii(word) {
+    if four_are_ascii(word) {
         4
     } else if word / 0x80 % 2 != 0 {
         0
@@ -164,7 +164,7 @@ fn first_len(bytes: &[u8]) -> usize
 
 // Whether the eight bytes of a word are of ASCII.
 #[inline(always)]
-fn are_ascii(word: u64) -> bool
+fn eight_are_ascii(word: u64) -> bool
     ensures first { IsTrue result → word % 256 < 128 }
     ensures second { IsTrue result → word / 256 % 256 < 128 }
     ensures third { IsTrue result → word / 65536 % 256 < 128 }
@@ -184,28 +184,28 @@ fn are_ascii(word: u64) -> bool
         & (word / 0x8000_0000_0000_0000 == 0)
 }
 
-// Whether eight of ASCII begin at a byte.
+// Whether eight bytes of ASCII stand from this place on.
 #[inline(always)]
-fn begins_eight(bytes: &[u8], from: usize) -> bool
-    requires { from ≤ length bytes.now }
-    ensures within { IsTrue result → from + 8 ≤ length bytes.now }
-    ensures low { IsTrue result → (k : ℕ) → k < 8 → get_or bytes.now (from + k) 0 < 128 }
+fn eight_ascii_at(bytes: &[u8], index: usize) -> bool
+    requires { index ≤ length bytes.now }
+    ensures within { IsTrue result → index + 8 ≤ length bytes.now }
+    ensures ascii { IsTrue result → (k : ℕ) → k < 8 → get_or bytes.now (index + k) 0 < 128 }
 {
-    match bytes[from..].first_chunk::<8>() {
-        Some(eight) => are_ascii(u64::from_le_bytes(*eight)),
+    match bytes[index..].first_chunk::<8>() {
+        Some(eight) => eight_are_ascii(u64::from_le_bytes(*eight)),
         None => false,
     }
 }
 
-// How many bytes of ASCII stand in front, of eight at a time and sixteen at most.
+// 16 or 8, where so many bytes of ASCII stand in front; else 0.
 #[inline(always)]
-fn eights_len(bytes: &[u8]) -> usize
+fn ascii_eights_len(bytes: &[u8]) -> usize
     ensures within { result ≤ length bytes.now }
     ensures some { IsUtf8 (take result bytes.now) }
 {
-    if !begins_eight(bytes, 0) {
+    if !eight_ascii_at(bytes, 0) {
         0
-    } else if !begins_eight(bytes, 8) {
+    } else if !eight_ascii_at(bytes, 8) {
         8
     } else {
         16
@@ -227,7 +227,7 @@ fn front_len(bytes: &[u8]) -> usize
         }
         let ascii = ascii_len(word);
         if ascii == 4 {
-            let eights = eights_len(bytes);
+            let eights = ascii_eights_len(bytes);
             if eights > 0 {
                 return eights;
             }
@@ -244,7 +244,7 @@ fn front_len(bytes: &[u8]) -> usize
     first_len(bytes)
 }
 
-// By std's `from_utf8` three bytes that are none take some 35 instructions more; of long ASCII each
+// By std's `from_utf8` three bytes that are no text take some 35 instructions more; of long ASCII each
 // byte takes 1 fewer by it.
 /// Whether any bytes are UTF-8.
 #[inline(always)]

@@ -82,12 +82,22 @@ Passed-next text count at len before more size =
     } in
     subst (λ n. Passed text n (at + len)) (omega arith) passed
 
--- by the number that the next eight bytes are, the first of them lowest
-pub word-threes : (bytes eight : List ℕ) (at word : ℕ) → ((i : ℕ) → get_or bytes i 0 < 256)
+-- the eight bytes from a place on are this number, the first of them lowest
+pub record IsWordAt (bytes : List ℕ) (at word : ℕ) : Type 0 where
+  pub within : at + 8 ≤ length bytes
+  pub first : get_or bytes (at + 0) 0 ≡ word % 256
+  pub second : get_or bytes (at + 1) 0 ≡ word / 256 % 256
+  pub third : get_or bytes (at + 2) 0 ≡ word / 65536 % 256
+  pub fourth : get_or bytes (at + 3) 0 ≡ word / 16777216 % 256
+  pub fifth : get_or bytes (at + 4) 0 ≡ word / 4294967296 % 256
+  pub sixth : get_or bytes (at + 5) 0 ≡ word / 1099511627776 % 256
+  pub seventh : get_or bytes (at + 6) 0 ≡ word / 281474976710656 % 256
+  pub eighth : get_or bytes (at + 7) 0 ≡ word / 72057594037927936
+
+pub word-at : (bytes eight : List ℕ) (at word : ℕ) → ((i : ℕ) → get_or bytes i 0 < 256)
     → at ≤ length bytes → IsFirstChunk (take (length bytes - at) (drop at bytes)) eight 8
-    → word ≡ from_le_bytes w64 eight → word % 256 / 16 ≡ 14 → word / 16777216 % 256 / 16 ≡ 14
-    → word / 281474976710656 % 256 / 16 ≡ 14 → BeginsThreeThrees bytes at
-word-threes bytes eight at word below inside chunk is first second third =
+    → word ≡ from_le_bytes w64 eight → IsWordAt bytes at word
+word-at bytes eight at word below inside chunk is =
     let left = length-drop at bytes in
     let all = take_all (length bytes - at) (drop at bytes) (omega (arith, left)) in
     let enough = ap length all in
@@ -108,18 +118,33 @@ word-threes bytes eight at word below inside chunk is first second third =
     let l5 = below (at + 5) in
     let l6 = below (at + 6) in
     let l7 = below (at + 7) in
-    let none : at + 0 ≡ at = omega arith in
-    let start = ap (λ i. get_or bytes i 0) none in
     record {
       within = omega (arith, enough, have, left, inside);
-      first = omega (arith, is, first, b0, b1, b2, b3, b4, b5, b6, b7, l0, l1, l2, l3, l4, l5, l6, start);
-      second = omega (arith, is, second, b0, b1, b2, b3, b4, b5, b6, b7, l0, l1, l2, l3, l4, l5, l6);
-      third = omega (arith, is, third, b0, b1, b2, b3, b4, b5, b6, b7, l0, l1, l2, l3, l4, l5, l6);
+      first = omega (arith, is, b0, b1, b2, b3, b4, b5, b6, b7, l0, l1, l2, l3, l4, l5, l6, l7);
+      second = omega (arith, is, b0, b1, b2, b3, b4, b5, b6, b7, l0, l1, l2, l3, l4, l5, l6, l7);
+      third = omega (arith, is, b0, b1, b2, b3, b4, b5, b6, b7, l0, l1, l2, l3, l4, l5, l6, l7);
+      fourth = omega (arith, is, b0, b1, b2, b3, b4, b5, b6, b7, l0, l1, l2, l3, l4, l5, l6, l7);
+      fifth = omega (arith, is, b0, b1, b2, b3, b4, b5, b6, b7, l0, l1, l2, l3, l4, l5, l6, l7);
+      sixth = omega (arith, is, b0, b1, b2, b3, b4, b5, b6, b7, l0, l1, l2, l3, l4, l5, l6, l7);
+      seventh = omega (arith, is, b0, b1, b2, b3, b4, b5, b6, b7, l0, l1, l2, l3, l4, l5, l6, l7);
+      eighth = omega (arith, is, b0, b1, b2, b3, b4, b5, b6, b7, l0, l1, l2, l3, l4, l5, l6, l7);
     } where
       by : (i : ℕ) → i < 8 → get_or eight i 0 ≡ get_or bytes (at + i) 0
       by i low = ap (λ l. get_or l i 0) chunk.same ∙ get_or-take 8 (take (length bytes - at) (drop at bytes)) i 0 low
           ∙ ap (λ l. get_or l i 0) (take_all (length bytes - at) (drop at bytes) (let left = length-drop at bytes in omega (arith, left)))
           ∙ get_or-drop at bytes i 0
+
+pub word-threes : (bytes : List ℕ) (at word : ℕ) → IsWordAt bytes at word → word % 256 / 16 ≡ 14
+    → word / 16777216 % 256 / 16 ≡ 14 → word / 281474976710656 % 256 / 16 ≡ 14
+    → BeginsThreeThrees bytes at
+word-threes bytes at word is first fourth seventh =
+    let none : at + 0 ≡ at = omega arith in
+    record {
+      within = is.within;
+      first = ap (λ i. get_or bytes i 0 / 16) (sym none) ∙ ap (λ b. b / 16) is.first ∙ first;
+      second = ap (λ b. b / 16) is.fourth ∙ fourth;
+      third = ap (λ b. b / 16) is.seventh ∙ seventh;
+    }
 
 three-long : (first : ℕ) → first / 16 ≡ 14 → 3 ≡ continuation_len first + 1
 three-long first is = sym (len_three first (omega (arith, is)) (omega (arith, is)))

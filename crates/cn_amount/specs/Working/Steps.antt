@@ -128,9 +128,9 @@ accepts state (capital ∷ rest) = elim (step state capital) [
 abbrev pub with_section : Sum → ℕ → Sum
 with_section sum more = record sum { section = sum.section + more; digit = 0 }
 
--- with so much in front of the open section, which is empty
-abbrev pub with_closed : Sum → ℕ → Sum
-with_closed sum closed = record sum { closed = closed; section = 0; digit = 0 }
+-- so much, where no section is open
+abbrev pub of_closed : ℕ → Sum
+of_closed closed = record { closed = closed; section = 0; digit = 0 }
 
 -- with so many more fen, and no digit that waits
 abbrev pub with_fen : Sum → ℕ → Sum
@@ -142,9 +142,9 @@ add sum (Digit value) = record sum { digit = value }
 add sum Shi = with_section sum (10 * sum.digit)
 add sum Bai = with_section sum (100 * sum.digit)
 add sum Qian = with_section sum (1000 * sum.digit)
-add sum Wan = with_closed sum (sum.closed + 10000 * (sum.section + sum.digit))
-add sum Yi = with_closed sum (100000000 * (sum.closed + sum.section + sum.digit))
-add sum Yuan = with_closed sum (100 * (sum.closed + sum.section + sum.digit))
+add sum Wan = of_closed (sum.closed + 10000 * (sum.section + sum.digit))
+add sum Yi = of_closed (100000000 * (sum.closed + sum.section + sum.digit))
+add sum Yuan = of_closed (100 * (sum.closed + sum.section + sum.digit))
 add sum Jiao = with_fen sum (10 * sum.digit)
 add sum Fen = with_fen sum sum.digit
 add sum capital = sum
@@ -154,12 +154,12 @@ abbrev pub sum_of : Sum → List Capital → Sum
 sum_of sum [] = sum
 sum_of sum (capital ∷ rest) = sum_of (add sum capital) rest
 
--- all that is summed up; no character makes it less
+-- all that is summed up, in yuan up to 元 and in fen behind it; no character makes it less
 abbrev pub summed : Sum → ℕ
 summed sum = sum.closed + sum.section
 
 abbrev pub no_sum : Sum
-no_sum = record { closed = 0; section = 0; digit = 0 }
+no_sum = of_closed 0
 
 -- what is read, and the sum of it, with one more capital
 abbrev pub with_sum : Sum → Option State → Option Progress

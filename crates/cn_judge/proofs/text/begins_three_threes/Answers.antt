@@ -1,6 +1,6 @@
 use Rattle.std.proofs.Common.{rules, ◌≡◌, ◌/◌, ◌%◌}
 use Rattle.std.proofs.lemmas.Bool.Decides.{nat_tests}
-use Rattle.cn_judge.proofs.Passing.{word-threes}
+use Rattle.cn_judge.proofs.Passing.{word-at, word-threes}
 use Rattle.cn_judge.proofs.text.begins_three_threes.Goals as goal
 
 pub returns : goal.returns
@@ -9,6 +9,7 @@ returns c = λ is.
     let first : word % 256 / 16 ≡ 14 = search (rules, nat_tests, is) in
     let fourth : word / 16777216 % 256 / 16 ≡ 14 = search (rules, nat_tests, is) in
     let seventh : word / 281474976710656 % 256 / 16 ≡ 14 = search (rules, nat_tests, is) in
-    word-threes c.args.bytes.now c.in-Some.eight.now c.args.passed word
+    let at = word-at c.args.bytes.now c.in-Some.eight.now c.args.passed word
     (λ i. (c.type_inv.bytes i).fits) c.requires c.in-Some.ensures.cases
-    c.from_le_bytes-word.ensures first fourth seventh
+    c.from_le_bytes-word.ensures in
+    word-threes c.args.bytes.now c.args.passed word at first fourth seventh
