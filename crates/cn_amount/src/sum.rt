@@ -73,9 +73,7 @@ impl Sum {
             Capital::Bai => self.with_section(100 * self.digit),
             Capital::Qian => self.with_section(1000 * self.digit),
             Capital::Wan => Sum::of_closed(self.closed + 10_000 * (self.section + self.digit)),
-            Capital::Yi => Sum::of_closed(
-                100_000_000 * (self.closed + self.section + self.digit),
-            ),
+            Capital::Yi => Sum::of_closed(100_000_000 * (self.closed + self.section + self.digit)),
             Capital::Yuan => Sum::of_closed(100 * (self.closed + self.section + self.digit)),
             Capital::Jiao => self.with_fen(10 * self.digit),
             Capital::Fen => self.with_fen(self.digit),
