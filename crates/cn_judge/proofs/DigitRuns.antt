@@ -20,10 +20,10 @@ record HasTaken (skipped : ℕ) (bytes rest : List ℕ) (char_index number : ℕ
   is_empty : Bool
   reading : IsReading skipped bytes rest char_index number is_empty
 
-same_reading : (skipped : ℕ) (bytes rest : List ℕ) (index place number total : ℕ) (is_empty : Bool)
-    → IsReading skipped bytes rest index number is_empty
-    → index ≡ place → number ≡ total → IsReading skipped bytes rest place total is_empty
-same_reading skipped bytes rest index place number total is_empty r e f = rw (e, f) at r
+pub same_reading : (skipped : ℕ) (bytes rest : List ℕ) (index place number total : ℕ)
+    (is_empty none : Bool) → IsReading skipped bytes rest index number is_empty → index ≡ place
+    → number ≡ total → is_empty ≡ none → IsReading skipped bytes rest place total none
+same_reading skipped bytes rest index place number total is_empty none r e f g = rw (e, f, g) at r
 
 HasTaken-run : (skipped : ℕ) (bytes ahead rest : List ℕ) (char_index number count weight value : ℕ)
     (is_empty : Bool)
@@ -35,7 +35,7 @@ HasTaken-run skipped bytes ahead rest char_index number count weight value is_em
     record {
       is_empty = is_empty;
       reading =
-          same_reading _ _ _ _ _ _ _ _ r (omega arith) (omega arith);
+          same_reading _ _ _ _ _ _ _ _ _ r (omega arith) (omega arith) refl;
     }
 HasTaken-run skipped bytes ahead rest char_index number count weight value is_empty r
     (one_more between after c next before room sum run parts mark) small =
@@ -44,9 +44,9 @@ HasTaken-run skipped bytes ahead rest char_index number count weight value is_em
     r run (omega (arith, more, small)) in
     record {
       is_empty = false;
-      reading = same_reading _ _ _ _ _ _ _ _
+      reading = same_reading _ _ _ _ _ _ _ _ _
           (IsReading-digit _ _ _ _ _ _ c next _ _ taken.reading parts mark more
-          small) (omega arith) refl;
+          small) (omega arith) refl refl;
     }
 
 -- a run of some digits that fit
@@ -63,8 +63,8 @@ IsReading-run skipped bytes ahead rest char_index number count weight value tota
     let more = more_sum number room before_sum next in
     let taken = HasTaken-run skipped bytes ahead between char_index number before room before_sum
     is_empty r run (omega (arith, more, sum, small)) in
-    same_reading _ _ _ _ _ _ _ _ (IsReading-digit _ _ _ _ _ _ c next total _ taken.reading parts
-    mark (sum ∙ more) small) (omega arith) refl
+    same_reading _ _ _ _ _ _ _ _ _ (IsReading-digit _ _ _ _ _ _ c next total _ taken.reading parts
+    mark (sum ∙ more) small) (omega arith) refl refl
 
 -- a run that makes the number too great
 pub IsReading-run-great : (skipped : ℕ) (bytes ahead rest : List ℕ)

@@ -106,8 +106,8 @@ pub fn judge_naive(skipped: usize, text: &str) -> Result<u128, ChineseToNumberEr
         ≡ answer_at skipped text.now (naive_answer (marks_of (text_of text.now))) }
 {
     let mut rest = text;
-    let mut char_index = skipped;
-    let mut is_empty = true;
+    let mut digits = 0;
+    let mut spaces = 0;
     let mut number = 0u128;
     'reading: while let Some((piece, after)) = split_first_piece(rest) {
         match piece {
@@ -117,17 +117,18 @@ pub fn judge_naive(skipped: usize, text: &str) -> Result<u128, ChineseToNumberEr
                     return Err(ChineseToNumberError::Overflow);
                 };
                 number = longer;
-                is_empty = false;
-                char_index += run.count;
+                digits += run.count;
             }
-            Piece::White => char_index += 1,
+            Piece::White => spaces += 1,
             Piece::Wrong => {
-                return Err(ChineseToNumberError::ChineseNumberIncorrect { char_index });
+                return Err(ChineseToNumberError::ChineseNumberIncorrect {
+                    char_index: skipped + digits + spaces,
+                });
             }
         }
         rest = after;
     }
-    if is_empty {
+    if digits == 0 {
         Err(ChineseToNumberError::ChineseNumberEmpty)
     } else {
         Ok(number)
