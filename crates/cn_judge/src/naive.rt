@@ -107,7 +107,8 @@ pub fn judge_naive(skipped: usize, text: &str) -> Result<u128, ChineseToNumberEr
 {
     let mut rest = text;
     let mut digits = 0;
-    let mut spaces = 0;
+    // How many other characters are in front: the caller's, and white space.
+    let mut others = skipped;
     let mut number = 0u128;
     'reading: while let Some((piece, after)) = split_first_piece(rest) {
         match piece {
@@ -119,10 +120,10 @@ pub fn judge_naive(skipped: usize, text: &str) -> Result<u128, ChineseToNumberEr
                 number = longer;
                 digits += run.count;
             }
-            Piece::White => spaces += 1,
+            Piece::White => others += 1,
             Piece::Wrong => {
                 return Err(ChineseToNumberError::ChineseNumberIncorrect {
-                    char_index: skipped + digits + spaces,
+                    char_index: digits + others,
                 });
             }
         }

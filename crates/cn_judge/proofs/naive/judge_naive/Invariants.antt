@@ -6,10 +6,10 @@ use Rattle.cn_judge.proofs.naive.judge_naive.Given as goal
 
 abbrev pub invariant-reading : goal.invariant-reading
 invariant-reading l = record {
-  reading : IsReading l.fn.skipped l.fn.text (l.rest) (l.fn.skipped + l.digits + l.spaces) l.number
+  reading : IsReading l.fn.skipped l.fn.text (l.rest) (l.digits + l.others) l.number
       (l.digits == 0);
   fits : l.number < 2 ^ 128;
-  within : l.digits + l.spaces + length l.rest ≤ length l.fn.text;
+  within : l.digits + l.others + length l.rest ≤ l.fn.skipped + length l.fn.text;
   utf8 : shadow (Utf8 l.rest);
 }
 
