@@ -9,7 +9,6 @@ use Rattle.std.specs.Array.{IsFirstChunk}
 use Rattle.std.specs.Int.{IsInRange, from_le_bytes, w32}
 use Rattle.std.specs.Prelude.{IsUtf8}
 use Rattle.std.specs.Str.{is_utf8}
-use Rattle.cn_judge.proofs.Passing.{IsWordAt}
 use Rattle.cn_judge.proofs.ThreeBytes.{bytes_by, below, encode-by}
 use Rattle.cn_faces.specs.Private.CharacterBytes.{IsTwo, IsThree, IsFour}
 use lib.Utf8.{encode, encodes, next, scalar, scalars, scalar_cases, low_scalar}
@@ -304,21 +303,6 @@ pub sixteen_are_utf8 : (bytes : List ℕ) → 8 + 8 ≤ length bytes
 sixteen_are_utf8 bytes within low more =
     all_ascii_are_utf8 bytes 16 (omega (arith, within))
     (more-ascii bytes 8 8 (first-eight bytes low) more)
-
--- where each byte of a word is of ASCII, so are those that it stands for
-pub ascii-at : (bytes : List ℕ) (at word : ℕ) → IsWordAt bytes at word → word % 256 < 128 → word / 256 % 256 < 128
-    → word / 65536 % 256 < 128 → word / 16777216 % 256 < 128 → word / 4294967296 % 256 < 128
-    → word / 1099511627776 % 256 < 128 → word / 281474976710656 % 256 < 128 → word / 72057594037927936 < 128
-    → (k : ℕ) → k < 8 → get_or bytes (at + k) 0 < 128
-ascii-at bytes at word is a0 a1 a2 a3 a4 a5 a6 a7 zero less = omega (arith, is.first, a0)
-ascii-at bytes at word is a0 a1 a2 a3 a4 a5 a6 a7 (suc zero) less = omega (arith, is.second, a1)
-ascii-at bytes at word is a0 a1 a2 a3 a4 a5 a6 a7 (suc (suc zero)) less = omega (arith, is.third, a2)
-ascii-at bytes at word is a0 a1 a2 a3 a4 a5 a6 a7 (suc (suc (suc zero))) less = omega (arith, is.fourth, a3)
-ascii-at bytes at word is a0 a1 a2 a3 a4 a5 a6 a7 (suc (suc (suc (suc zero)))) less = omega (arith, is.fifth, a4)
-ascii-at bytes at word is a0 a1 a2 a3 a4 a5 a6 a7 (suc (suc (suc (suc (suc zero))))) less = omega (arith, is.sixth, a5)
-ascii-at bytes at word is a0 a1 a2 a3 a4 a5 a6 a7 (suc (suc (suc (suc (suc (suc zero)))))) less = omega (arith, is.seventh, a6)
-ascii-at bytes at word is a0 a1 a2 a3 a4 a5 a6 a7 (suc (suc (suc (suc (suc (suc (suc zero))))))) less = omega (arith, is.eighth, a7)
-ascii-at bytes at word is a0 a1 a2 a3 a4 a5 a6 a7 (suc (suc (suc (suc (suc (suc (suc (suc i)))))))) less = absurd (omega (arith, less))
 
 -- four at most, by the bytes of a word
 pub ascii_are_utf8 : (bytes : List ℕ) (n : ℕ) → n ≤ length bytes → n ≤ 4

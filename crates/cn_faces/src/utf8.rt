@@ -4,6 +4,7 @@ ghost use Rattle.std.specs.Int.{IsInRange};
 ghost use Rattle.std.specs.Str.{is_utf8};
 ghost use Rattle.cn_faces.specs.Private.CharacterBytes.{IsContinuation, IsTwo, IsThree, IsFour, leading};
 
+use cn_judge::eight_ascii_at;
 use std::str;
 
 // Whether the first three bytes of a word are a character from U+3000 to U+AFFF, as most in numerals
@@ -159,41 +160,6 @@ fn first_len(bytes: &[u8]) -> usize
         4
     } else {
         0
-    }
-}
-
-// Whether the eight bytes of a word are of ASCII.
-#[inline(always)]
-fn eight_are_ascii(word: u64) -> bool
-    ensures first { IsTrue result → word % 256 < 128 }
-    ensures second { IsTrue result → word / 256 % 256 < 128 }
-    ensures third { IsTrue result → word / 65536 % 256 < 128 }
-    ensures fourth { IsTrue result → word / 16777216 % 256 < 128 }
-    ensures fifth { IsTrue result → word / 4294967296 % 256 < 128 }
-    ensures sixth { IsTrue result → word / 1099511627776 % 256 < 128 }
-    ensures seventh { IsTrue result → word / 281474976710656 % 256 < 128 }
-    ensures eighth { IsTrue result → word / 72057594037927936 < 128 }
-{
-    (word / 0x80 % 2 == 0)
-        & (word / 0x8000 % 2 == 0)
-        & (word / 0x80_0000 % 2 == 0)
-        & (word / 0x8000_0000 % 2 == 0)
-        & (word / 0x80_0000_0000 % 2 == 0)
-        & (word / 0x8000_0000_0000 % 2 == 0)
-        & (word / 0x80_0000_0000_0000 % 2 == 0)
-        & (word / 0x8000_0000_0000_0000 == 0)
-}
-
-// Whether eight bytes of ASCII stand from this place on.
-#[inline(always)]
-fn eight_ascii_at(bytes: &[u8], index: usize) -> bool
-    requires { index ≤ length bytes.now }
-    ensures within { IsTrue result → index + 8 ≤ length bytes.now }
-    ensures ascii { IsTrue result → (k : ℕ) → k < 8 → get_or bytes.now (index + k) 0 < 128 }
-{
-    match bytes[index..].first_chunk::<8>() {
-        Some(eight) => eight_are_ascii(u64::from_le_bytes(*eight)),
-        None => false,
     }
 }
 

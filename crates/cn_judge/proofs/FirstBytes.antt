@@ -12,7 +12,7 @@ use Rattle.cn_judge.proofs.ThreeBytes.{bytes_by, encode-by, below}
 abbrev len_by : ℕ → ℕ
 len_by first = continuation_len first + 1
 
-len_low : (b : ℕ) → b < 128 → len_by b ≡ 1
+pub len_low : (b : ℕ) → b < 128 → len_by b ≡ 1
 len_low b p = grind (arith, nat_tests)
 
 len_two : (b : ℕ) → 127 < b → b < 224 → len_by b ≡ 2

@@ -8,6 +8,7 @@ pub mod OpenSums
 pub mod Passing
 pub mod Pieces
 pub mod PlainDigits
+pub mod Spaces
 mod ShortMarks
 pub mod Stacks
 pub mod Steps

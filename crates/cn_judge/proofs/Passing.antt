@@ -1,19 +1,16 @@
 -- Characters that are passed over, each by its first byte.
-use Rattle.std.proofs.Common.{◌≡◌, ◌||◌, ltb, Bool, false, ◌-◌, ◌%◌, ℕ, true, zero, suc, ◌+◌, ◌/◌, ◌<◌, ◌≤◌, List, [], ◌∷◌, ◌++◌, length, get_or, take, drop, chars, encode_utf8_all, IsUtf8, refl, sym, ap, subst, ◌∙◌, arith, length-append, length-drop, get_or-drop, drop-drop}
+use Rattle.std.proofs.Common.{◌≡◌, ◌-◌, ◌%◌, ℕ, zero, suc, ◌+◌, ◌/◌, ◌<◌, ◌≤◌, List, [], ◌∷◌, ◌++◌, length, get_or, take, drop, chars, encode_utf8_all, IsUtf8, refl, sym, ap, subst, ◌∙◌, arith, length-append, length-drop, get_or-drop, drop-drop}
 use Rattle.std.specs.Array.{IsFirstChunk}
 use Rattle.std.specs.Int.{w64, from_le_bytes}
-use Rattle.std.specs.Char.{is_whitespace}
 use Rattle.std.specs.Str.{IsCharBoundary, continuation_len}
-use Rattle.std.proofs.lemmas.Bool.{ltb-false}
-use Rattle.std.proofs.lemmas.Bool.Decides.{nat_tests}
 use Rattle.std.proofs.lemmas.List.{get_or-take, take_all}
 use Rattle.std.proofs.lemmas.Str.{IsCharBoundary-after_ascii, chars_past_char, encode_ascii, encodes-append, encodes-chars}
 use lib.Utf8.{encode}
 use Rattle.cn_core.proofs.Chars.{chars-from_empty}
 use Rattle.cn_judge.specs.ByteIndex.{byte_index}
-use Rattle.cn_judge.specs.Private.FirstKey.{BeginsDark, BeginsThreeThrees, StandsBehindSpace, is_ascii_space, may_begin_space}
-use Rattle.cn_judge.proofs.FirstBytes.{len_three, starts}
-use Rattle.cn_judge.proofs.ThreeBytes.{below, bytes_by, encode-by}
+use Rattle.cn_judge.specs.Private.FirstKey.{BeginsThreeThrees}
+use Rattle.cn_judge.proofs.FirstBytes.{len_low, len_three, starts}
+use Rattle.cn_judge.proofs.ThreeBytes.{below}
 
 -- this byte stands behind so many characters
 pub record Passed (text : List ℕ) (count at : ℕ) : Type 0 where
@@ -146,6 +143,21 @@ word-threes bytes at word is first fourth seventh =
       third = ap (λ b. b / 16) is.seventh ∙ seventh;
     }
 
+-- where each byte of a word is of ASCII, so are those that it stands for
+pub ascii-at : (bytes : List ℕ) (at word : ℕ) → IsWordAt bytes at word → word % 256 < 128 → word / 256 % 256 < 128
+    → word / 65536 % 256 < 128 → word / 16777216 % 256 < 128 → word / 4294967296 % 256 < 128
+    → word / 1099511627776 % 256 < 128 → word / 281474976710656 % 256 < 128 → word / 72057594037927936 < 128
+    → (k : ℕ) → k < 8 → get_or bytes (at + k) 0 < 128
+ascii-at bytes at word is a0 a1 a2 a3 a4 a5 a6 a7 zero less = omega (arith, is.first, a0)
+ascii-at bytes at word is a0 a1 a2 a3 a4 a5 a6 a7 (suc zero) less = omega (arith, is.second, a1)
+ascii-at bytes at word is a0 a1 a2 a3 a4 a5 a6 a7 (suc (suc zero)) less = omega (arith, is.third, a2)
+ascii-at bytes at word is a0 a1 a2 a3 a4 a5 a6 a7 (suc (suc (suc zero))) less = omega (arith, is.fourth, a3)
+ascii-at bytes at word is a0 a1 a2 a3 a4 a5 a6 a7 (suc (suc (suc (suc zero)))) less = omega (arith, is.fifth, a4)
+ascii-at bytes at word is a0 a1 a2 a3 a4 a5 a6 a7 (suc (suc (suc (suc (suc zero))))) less = omega (arith, is.sixth, a5)
+ascii-at bytes at word is a0 a1 a2 a3 a4 a5 a6 a7 (suc (suc (suc (suc (suc (suc zero)))))) less = omega (arith, is.seventh, a6)
+ascii-at bytes at word is a0 a1 a2 a3 a4 a5 a6 a7 (suc (suc (suc (suc (suc (suc (suc zero))))))) less = omega (arith, is.eighth, a7)
+ascii-at bytes at word is a0 a1 a2 a3 a4 a5 a6 a7 (suc (suc (suc (suc (suc (suc (suc (suc i)))))))) less = absurd (omega (arith, less))
+
 three-long : (first : ℕ) → first / 16 ≡ 14 → 3 ≡ continuation_len first + 1
 three-long first is = sym (len_three first (omega (arith, is)) (omega (arith, is)))
 
@@ -163,6 +175,23 @@ Passed-threes text count at before three =
     let bytes : at + 3 + 3 + 3 ≡ at + 9 = omega arith in
     subst (λ n. Passed text n (at + 9)) chars
     (subst (λ n. Passed text (count + 1 + 1 + 1) n) bytes all)
+
+-- so many of ASCII
+pub Passed-ascii : (text : List ℕ) (count at many : ℕ) → Passed text count at → at + many ≤ length text
+    → ((k : ℕ) → k < many → get_or text (at + k) 0 < 128) → Passed text (count + many) (at + many)
+Passed-ascii text count at zero before within low =
+    let none : at ≡ at + 0 = omega arith in
+    subst (λ n. Passed text n (at + 0)) (omega arith) (subst (λ n. Passed text count n) none before)
+Passed-ascii text count at (suc many) before within low =
+    let first : at + 0 ≡ at = omega arith in
+    let one = Passed-next text count at 1 before (omega (arith, within))
+    (sym (len_low (get_or text at 0) (subst (λ i. get_or text i 0 < 128) first (low 0 (omega arith))))) in
+    let all = Passed-ascii text (count + 1) (at + 1) many one (omega (arith, within))
+    (λ k less. let same : at + suc k ≡ at + 1 + k = omega arith in
+    subst (λ i. get_or text i 0 < 128) same (low (suc k) (omega (arith, less)))) in
+    let chars : count + 1 + many ≡ count + suc many = omega arith in
+    let bytes : at + 1 + many ≡ at + suc many = omega arith in
+    subst (λ n. Passed text n (at + suc many)) chars (subst (λ n. Passed text (count + 1 + many) n) bytes all)
 
 none-left : (text : List ℕ) (at : ℕ) → length text ≤ at → length (chars (drop at text)) ≡ 0
 none-left text at end =
@@ -182,7 +211,7 @@ Passed-end text count at index passed whole end far =
     ∙ ap length (encodes-chars text whole) in
     omega (arith, passed.within, end, whole-text)
 
--- a text behind a space
+-- a text that begins with ASCII
 front-ascii : (bytes : List ℕ) → 0 < length bytes → get_or bytes 0 0 < 128
     → bytes ≡ encode (get_or bytes 0 0) ++ drop 1 bytes
 front-ascii [] some low = absurd (omega (arith, some))
@@ -198,48 +227,3 @@ ascii-first bytes text same utf8 some low =
       chars_past_char bytes (drop 1 bytes) _ whole (front-ascii bytes some low),
       IsCharBoundary-after_ascii bytes 0 whole some low,
     )
-
-pub ascii-low : (b : ℕ) → is_ascii_space b ≡ true → b < 128
-ascii-low b space = grind (arith, nat_tests, space)
-
-pub ascii-space : (bytes text : List ℕ) → bytes ≡ text → IsUtf8 text → 0 < length bytes
-    → is_ascii_space (get_or bytes 0 0) ≡ true → StandsBehindSpace text (drop 1 text)
-ascii-space bytes text same utf8 some space =
-    record {
-      code = get_or bytes 0 0;
-      white = grind (arith, nat_tests, space);
-      parts = (ascii-first bytes text same utf8 some (ascii-low _ space)).0;
-    }
-
-abbrev begins_space : ℕ → Bool
-begins_space b = is_ascii_space b || may_begin_space b
-
-white-first : (c : ℕ) (rest : List ℕ) → is_whitespace c ≡ true
-    → begins_space (get_or (encode c ++ rest) 0 0) ≡ true
-white-first c rest white = rw (encode-by c) (by (ltb c 128) (ltb c 2048) (ltb c 65536) refl refl refl) where
-  by : (x y z : Bool) → ltb c 128 ≡ x → ltb c 2048 ≡ y → ltb c 65536 ≡ z
-      → begins_space (get_or (bytes_by x y z c ++ rest) 0 0) ≡ true
-  by true y z p q r = let small = below c 128 p in grind (arith, nat_tests, white, small)
-  by false true z p q r =
-      let small = below c 2048 q in
-      let large = ltb-false c 128 p in grind (arith, nat_tests, white, small, large)
-  by false false true p q r =
-      let small = below c 65536 r in
-      let large = ltb-false c 2048 q in grind (arith, nat_tests, white, small, large)
-  by false false false p q r =
-      let large = ltb-false c 65536 r in grind (arith, nat_tests, white, large)
-
-pub dark-first : (bytes text : List ℕ) → bytes ≡ text → IsUtf8 text
-    → is_ascii_space (get_or bytes 0 0) ≡ false → may_begin_space (get_or bytes 0 0) ≡ false
-    → BeginsDark text
-dark-first bytes text same utf8 ascii wide c rest parts = by (is_whitespace c) refl where
-  front : text ≡ encode c ++ encode_utf8_all rest
-  front = sym (encodes-chars text utf8) ∙ ap encode_utf8_all parts
-
-  by : (b : Bool) → is_whitespace c ≡ b → b ≡ false
-  by false e = refl
-  by true e = sym (white-first c (encode_utf8_all rest) e)
-      ∙ ap (λ l. begins_space (get_or l 0 0)) (sym (same ∙ front)) ∙ grind (arith, nat_tests, ascii, wide)
-
-pub dark-empty : (text : List ℕ) → length text ≡ 0 → BeginsDark text
-dark-empty text none c rest parts = absurd (let gone = ap length (sym (chars-from_empty text none) ∙ parts) in omega (arith, gone))

@@ -130,12 +130,6 @@ Reads-signed kind method bytes rest skipped signed sign judged answer same leads
           ∙ ap (λ s. typed_answer kind bytes s judged) sign_is,
     )
 
--- white space ends the string after this piece
-pub record EndsBlank (bytes ahead : List ℕ) : Type 0 where
-  pub white : List ℕ
-  pub parts : chars bytes ≡ chars ahead ++ white
-  pub blank : filter is_not_whitespace white ≡ []
-
 -- the text of a string by its last character
 pub text-last : (bytes before : List ℕ) (c : ℕ) → EndsWith bytes c before
     → text_of bytes ≡ text_of before ++ c ∷ []

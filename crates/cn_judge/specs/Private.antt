@@ -2,6 +2,7 @@
 -- stands.
 pub mod FirstKey
 pub mod PlainPiece
+pub mod Spaces
 pub mod Stack
 pub mod Walk
 pub mod Walked

@@ -18,7 +18,8 @@ ghost use Rattle.cn_judge.specs.Private.Walk.{digit_next, walked_answer, HasNoTa
 use crate::ChineseToNumberError;
 use crate::mark::{Mark, mark_of};
 use crate::open_units::OpenUnits;
-use crate::text::{count_chars, first_behind, skip_spaces, split_first, split_last_mark};
+use crate::space::skip_spaces;
+use crate::text::{count_chars, first_behind, split_first, split_last_mark};
 use crate::walk::{is_at_digit, separates_digits, walk};
 use cn_core::{ChineseCountMethod, Sign, Unit, Whole, scale, sign_of};
 

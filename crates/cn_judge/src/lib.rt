@@ -12,8 +12,10 @@ mod judge;
 mod mark;
 mod naive;
 mod open_units;
+mod space;
 mod text;
 mod walk;
+mod word;
 
 pub use error::ChineseToNumberError;
 pub use judge::{AfterSign, first_digit, judge_text, read, signed_answer, split_sign};
@@ -24,3 +26,4 @@ pub use text::{
     split_first_mark, split_first_three, split_last, split_last_char, split_last_known,
 };
 pub use walk::separates_digits;
+pub use word::eight_ascii_at;

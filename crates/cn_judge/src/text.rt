@@ -8,9 +8,12 @@ ghost use Rattle.cn_core.specs.Text.{text_of};
 ghost use Rattle.cn_judge.specs.ByteIndex.{byte_index};
 ghost use Rattle.cn_judge.specs.Marked.{marked};
 ghost use Rattle.cn_judge.specs.Piece.{StandsAt, EndsWith};
-ghost use Rattle.cn_judge.specs.Private.FirstKey.{BeginsDark, BeginsThreeThrees, EndsWithKey, StandsBehindSpace, StartsWithKey, is_ascii_space, may_begin_space};
+ghost use Rattle.cn_judge.specs.Private.FirstKey.{EndsWithKey, StartsWithKey};
+ghost use Rattle.cn_judge.specs.Private.Spaces.{BeginsDark};
 
 use crate::mark::{Mark, known_mark, mark_of, mark_of_key};
+use crate::space::{Behind, before_spaces, skip_spaces};
+use crate::word::{begins_three_threes, eight_ascii_at};
 use cn_core::split_first_char;
 
 // The key of the first character where it takes three bytes, as most do that are searched.
@@ -81,84 +84,6 @@ pub struct First<'a> {
     pub skipped: usize,
     /// What stands after it.
     pub rest: &'a str,
-}
-
-// What stands behind white space.
-#[derive(Copy, Clone)]
-pub(crate) struct Behind<'a> {
-    // How many characters stand before it.
-    pub skipped: usize,
-    pub rest: &'a str,
-}
-
-// What stands behind the first character where that is white space, by decoding.
-#[inline(always)]
-fn behind_decoded_space(text: &str) -> Option<&str>
-    ensures parts { MatchOption result (BeginsDark text.now)
-        (λ rest. StandsBehindSpace text.now rest.now) }
-    ensures shorter { IfSome result (λ rest. length rest.now < length text.now) }
-{
-    let (c, after) = split_first_quickly(text)?;
-    if c.is_whitespace() { Some(after) } else { None }
-}
-
-// Whether this byte is white space of ASCII, with the vertical tab.
-#[inline(always)]
-fn is_ascii_space(first: u8) -> bool
-    ensures { result ≡ is_ascii_space first }
-{
-    matches!(first, 0x09..=0x0D | 0x20)
-}
-
-// Whether white space that is not of ASCII may begin with this byte.
-#[inline(always)]
-fn may_begin_space(first: u8) -> bool
-    ensures { result ≡ may_begin_space first }
-{
-    matches!(first, 0xC2 | 0xE1..=0xE3)
-}
-
-// What stands behind the first character where that is white space. Most others are told apart by
-// their first byte.
-#[inline(always)]
-fn behind_space(text: &str) -> Option<&str>
-    ensures parts { MatchOption result (BeginsDark text.now)
-        (λ rest. StandsBehindSpace text.now rest.now) }
-    ensures shorter { IfSome result (λ rest. length rest.now < length text.now) }
-{
-    let bytes = text.as_bytes();
-    if bytes.is_empty() {
-        return None;
-    }
-    if is_ascii_space(bytes[0]) {
-        let (_, after) = text.split_at(1);
-        return Some(after);
-    }
-    if may_begin_space(bytes[0]) {
-        behind_decoded_space(text)
-    } else {
-        None
-    }
-}
-
-// What stands behind the white space at the start of a text.
-#[inline(always)]
-pub(crate) fn skip_spaces(text: &str) -> Behind<'_>
-    ensures at { StandsAt text.now (chars result.rest.now) result.skipped 0 }
-    ensures dark { BeginsDark result.rest.now }
-    ensures within { result.skipped + length result.rest.now ≤ length text.now }
-{
-    let mut behind = Behind {
-        skipped: 0,
-        rest: text,
-    };
-    'skipping: while let Some(rest) = behind_space(behind.rest) {
-        behind = Behind {
-            skipped: behind.skipped + 1,
-            rest,
-        };
-    }
-    behind
 }
 
 // The first character there.
@@ -258,14 +183,7 @@ pub fn split_last(text: &str) -> Option<(char, &str)>
     ensures none { IfNone result (text_of text.now ≡ []) }
     ensures shorter { IfSome result (λ r. length r.1.now < length text.now) }
 {
-    let mut ahead = text;
-    'skipping: while let Some((c, before)) = split_last_char(ahead) {
-        if !c.is_whitespace() {
-            return Some((c, before));
-        }
-        ahead = before;
-    }
-    None
+    split_last_char(before_spaces(text))
 }
 
 // How many bytes a character has, by the first four of their bits.
@@ -280,23 +198,6 @@ fn char_len(first: u8) -> usize
     CHAR_LENS[(first / 16) as usize]
 }
 
-// Whether three characters of three bytes begin here, as most do in numerals, by the first byte of each.
-// So each is passed in 4 instructions, and alone in 7. `false` says nothing of the bytes.
-#[inline(always)]
-fn begins_three_threes(bytes: &[u8], passed: usize) -> bool
-    requires { passed ≤ length bytes.now }
-    ensures { IsTrue result → BeginsThreeThrees bytes.now passed }
-{
-    let Some(eight) = bytes[passed..].first_chunk::<8>() else {
-        return false;
-    };
-    let word = u64::from_le_bytes(*eight);
-    let first = word % 256;
-    let fourth = word / 16_777_216 % 256;
-    let seventh = word / 281_474_976_710_656 % 256;
-    (first / 16 == 14) & (fourth / 16 == 14) & (seventh / 16 == 14)
-}
-
 /// How many characters a text has. Each is passed by its first byte.
 pub fn count_chars(text: &str) -> usize
     ensures count { result ≡ length (chars text.now) }
@@ -305,9 +206,16 @@ pub fn count_chars(text: &str) -> usize
     let bytes = text.as_bytes();
     let mut passed = 0;
     let mut count = 0;
-    'threes: while begins_three_threes(bytes, passed) {
-        passed += 9;
-        count += 3;
+    'words: loop {
+        if begins_three_threes(bytes, passed) {
+            passed += 9;
+            count += 3;
+        } else if eight_ascii_at(bytes, passed) {
+            passed += 8;
+            count += 8;
+        } else {
+            break;
+        }
     }
     'counting: while passed < bytes.len() {
         passed += char_len(bytes[passed]);
@@ -323,12 +231,16 @@ pub fn byte_index(text: &str, char_index: usize) -> usize
     let bytes = text.as_bytes();
     let mut passed = 0;
     let mut left = char_index;
-    'threes: while left >= 3 {
-        if !begins_three_threes(bytes, passed) {
+    'words: loop {
+        if left >= 3 && begins_three_threes(bytes, passed) {
+            passed += 9;
+            left -= 3;
+        } else if left >= 8 && eight_ascii_at(bytes, passed) {
+            passed += 8;
+            left -= 8;
+        } else {
             break;
         }
-        passed += 9;
-        left -= 3;
     }
     'passing: while left > 0 {
         if passed >= bytes.len() {
@@ -414,14 +326,8 @@ fn split_last_slowly(text: &str) -> Option<(Mark, &str)>
     ensures none { IfNone result (text_of text.now ≡ []) }
     ensures shorter { IfSome result (λ r. length r.1.now < length text.now) }
 {
-    let mut ahead = text;
-    'skipping: while let Some((c, mark, before)) = split_end_mark(ahead) {
-        if !c.is_whitespace() {
-            return Some((mark, before));
-        }
-        ahead = before;
-    }
-    None
+    let (_, mark, before) = split_end_mark(before_spaces(text))?;
+    Some((mark, before))
 }
 
 /// The first character where it is a digit of three bytes, and what stands after it.

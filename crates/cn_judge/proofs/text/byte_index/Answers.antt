@@ -1,23 +1,35 @@
-use Rattle.std.proofs.Common.{ap, subst, ◌∙◌, ◌+◌, get_or, arith}
+use Rattle.std.proofs.Common.{ap, subst, ◌∙◌, ◌+◌, ◌<◌, ℕ, get_or, arith}
 use Rattle.std.specs.Str.{continuation_len}
 use Rattle.cn_judge.specs.Private.FirstKey.{BeginsThreeThrees}
-use Rattle.cn_judge.proofs.Passing.{Passed, Passed-none, Passed-next, Passed-threes, Passed-end}
+use Rattle.cn_judge.proofs.Passing.{Passed, Passed-none, Passed-next, Passed-ascii, Passed-threes, Passed-end}
 use Rattle.cn_judge.proofs.text.byte_index.Goals as goal
 
-pub threes-init : goal.threes-init
-threes-init c = record {
+pub words-init : goal.words-init
+words-init c = record {
   passed = subst (λ n. Passed c.args.text.now n 0) (omega arith) (Passed-none _ c.utf8.text);
   few = omega arith;
 }
 
-pub threes-preserved : goal.threes-preserved
-threes-preserved c = record {
-  passed = subst (λ n. Passed c.args.text.now n (c.threes.passed + 9))
-      (omega (arith, c.threes-test.true, c.threes.invariant.few))
-      (Passed-threes _ _ _ c.threes.invariant.passed
-      (subst (λ l. BeginsThreeThrees l c.threes.passed) c.as_bytes-bytes.ensures.value
-      (c.begins_three_threes.ensures c.if-not-begins_three_threes.false)));
-  few = omega (arith, c.threes.invariant.few);
+pub words-preserved-then-begins_three_threes : goal.words-preserved-then-begins_three_threes
+words-preserved-then-begins_three_threes c = record {
+  passed = subst (λ n. Passed c.args.text.now n (c.words.passed + 9)) (omega (arith, c.if-left-ge3.true, c.words.invariant.few))
+      (Passed-threes _ _ _ c.words.invariant.passed
+      (subst (λ l. BeginsThreeThrees l c.words.passed) c.as_bytes-bytes.ensures.value
+      (c.begins_three_threes.ensures c.if-begins_three_threes.true)));
+  few = omega (arith, c.words.invariant.few);
+}
+
+pub words-preserved : goal.words-preserved
+words-preserved c = record {
+  passed =
+      let ascii = c.eight_ascii_at.ensures in
+      let same = c.as_bytes-bytes.ensures.value in
+      subst (λ n. Passed c.args.text.now n (c.words.passed + 8)) (omega (arith, c.if-left-ge8.true, c.words.invariant.few))
+      (Passed-ascii _ _ _ 8 c.words.invariant.passed
+      (omega (arith, ascii.within c.if-eight_ascii_at.true, c.as_bytes-bytes.ensures.len))
+      (subst (λ l. (k : ℕ) → k < 8 → get_or l (c.words.passed + k) 0 < 128) same
+      (ascii.ascii c.if-eight_ascii_at.true)));
+  few = omega (arith, c.words.invariant.few);
 }
 
 pub passing-preserved : goal.passing-preserved

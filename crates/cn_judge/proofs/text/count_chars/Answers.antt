@@ -1,17 +1,28 @@
-use Rattle.std.proofs.Common.{ap, subst, ◌∙◌, ◌+◌, get_or, arith}
+use Rattle.std.proofs.Common.{ap, subst, ◌∙◌, ◌+◌, ◌<◌, ℕ, get_or, arith}
 use Rattle.std.specs.Str.{continuation_len}
-use Rattle.cn_judge.proofs.Passing.{Passed-none, Passed-next, Passed-threes, Passed-all}
+use Rattle.cn_judge.proofs.Passing.{Passed-none, Passed-next, Passed-ascii, Passed-threes, Passed-all}
 use Rattle.cn_judge.specs.Private.FirstKey.{BeginsThreeThrees}
 use Rattle.cn_judge.proofs.text.count_chars.Goals as goal
 
-pub threes-init : goal.threes-init
-threes-init c = record { passed = Passed-none _ c.utf8.text }
+pub words-init : goal.words-init
+words-init c = record { passed = Passed-none _ c.utf8.text }
 
-pub threes-preserved : goal.threes-preserved
-threes-preserved c = record {
-  passed = Passed-threes _ _ _ c.threes.invariant.passed
-      (subst (λ l. BeginsThreeThrees l c.threes.passed) c.as_bytes-bytes.ensures.value
-      (c.begins_three_threes.ensures c.threes-test.true));
+pub words-preserved-then-begins_three_threes : goal.words-preserved-then-begins_three_threes
+words-preserved-then-begins_three_threes c = record {
+  passed = Passed-threes _ _ _ c.words.invariant.passed
+      (subst (λ l. BeginsThreeThrees l c.words.passed) c.as_bytes-bytes.ensures.value
+      (c.begins_three_threes.ensures c.if-begins_three_threes.true));
+}
+
+pub words-preserved : goal.words-preserved
+words-preserved c = record {
+  passed =
+      let ascii = c.eight_ascii_at.ensures in
+      let same = c.as_bytes-bytes.ensures.value in
+      Passed-ascii _ _ _ 8 c.words.invariant.passed
+      (omega (arith, ascii.within c.if-eight_ascii_at.true, c.as_bytes-bytes.ensures.len))
+      (subst (λ l. (k : ℕ) → k < 8 → get_or l (c.words.passed + k) 0 < 128) same
+      (ascii.ascii c.if-eight_ascii_at.true));
 }
 
 pub counting-preserved : goal.counting-preserved

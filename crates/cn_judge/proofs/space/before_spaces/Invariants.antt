@@ -1,8 +1,8 @@
 use Rattle.std.proofs.Common.{◌≤◌, length}
 use denote.Shadow.{shadow}
 use denote.Text.{Utf8}
-use Rattle.cn_judge.proofs.Pieces.{EndsBlank}
-use Rattle.cn_judge.proofs.text.split_last_slowly.Given as goal
+use Rattle.cn_judge.specs.Private.Spaces.{EndsBlank}
+use Rattle.cn_judge.proofs.space.before_spaces.Given as goal
 
 abbrev pub invariant-skipping : goal.invariant-skipping
 invariant-skipping l = record {

@@ -1,7 +1,7 @@
 use Rattle.std.proofs.Common.{rules, ◌≡◌, ◌/◌, ◌%◌}
 use Rattle.std.proofs.lemmas.Bool.Decides.{nat_tests}
 use Rattle.cn_judge.proofs.Passing.{word-at, word-threes}
-use Rattle.cn_judge.proofs.text.begins_three_threes.Goals as goal
+use Rattle.cn_judge.proofs.word.begins_three_threes.Goals as goal
 
 pub returns : goal.returns
 returns c = λ is.

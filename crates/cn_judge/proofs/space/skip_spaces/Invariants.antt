@@ -1,6 +1,6 @@
 use Rattle.std.proofs.Common.{◌+◌, ◌≤◌, length, chars}
 use Rattle.cn_judge.specs.Piece.{StandsAt}
-use Rattle.cn_judge.proofs.text.skip_spaces.Given as goal
+use Rattle.cn_judge.proofs.space.skip_spaces.Given as goal
 
 abbrev pub invariant-skipping : goal.invariant-skipping
 invariant-skipping l = record {

@@ -1,6 +1,5 @@
-use Rattle.cn_judge.proofs.Passing.{word-at}
-use Rattle.cn_faces.proofs.Characters.{ascii-at}
-use Rattle.cn_faces.proofs.utf8.eight_ascii_at.Goals as goal
+use Rattle.cn_judge.proofs.Passing.{ascii-at, word-at}
+use Rattle.cn_judge.proofs.word.eight_ascii_at.Goals as goal
 
 pub returns-in-Some-clause-within : goal.returns-in-Some-clause-within
 returns-in-Some-clause-within c = λ is.

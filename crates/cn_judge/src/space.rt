@@ -1,0 +1,128 @@
+// White space, passed from either end of a text. It is told by its bytes: decoded first, each of two or
+// three bytes takes some 20 instructions more.
+ghost use Rattle.std.specs.Prelude.{◌≡◌, ◌+◌, ◌≤◌, get_or, length, chars};
+ghost use Rattle.cn_judge.specs.Piece.{StandsAt};
+ghost use Rattle.cn_judge.specs.Private.Spaces.{BeginsDark, EndsBlank, EndsDark, are_three_space, are_two_space, first_space_len, is_ascii_space, last_space_len};
+
+// What stands behind white space.
+#[derive(Copy, Clone)]
+pub(crate) struct Behind<'a> {
+    // How many characters stand before it.
+    pub skipped: usize,
+    pub rest: &'a str,
+}
+
+// Whether this byte is white space of ASCII, with the vertical tab.
+#[inline(always)]
+fn is_ascii_space(byte: u8) -> bool
+    ensures { result ≡ is_ascii_space byte }
+{
+    matches!(byte, 0x09..=0x0D | 0x20)
+}
+
+// Whether these three bytes are U+1680, one from U+2000 to U+200A, U+2028, U+2029, U+202F, U+205F or
+// U+3000.
+#[inline(always)]
+fn are_three_space(first: u8, second: u8, third: u8) -> bool
+    ensures { result ≡ are_three_space first second third }
+{
+    if first == 0xE2 && second == 0x80 {
+        return matches!(third, 0x80..=0x8A) || matches!(third, 0xA8 | 0xA9 | 0xAF);
+    }
+    matches!(
+        (first, second, third),
+        (0xE1, 0x9A, 0x80) | (0xE2, 0x81, 0x9F) | (0xE3, 0x80, 0x80)
+    )
+}
+
+// Whether two bytes of white space come first: U+0085 or U+00A0.
+#[inline(always)]
+fn begins_two_space(bytes: &[u8]) -> bool
+    ensures { result ≡ are_two_space (get_or bytes.now 0 0) (get_or bytes.now 1 0) }
+{
+    matches!(bytes, [0xC2, 0x85 | 0xA0, ..])
+}
+
+// Whether three bytes of white space come first.
+#[inline(always)]
+fn begins_three_space(bytes: &[u8]) -> bool
+    ensures { result
+        ≡ are_three_space (get_or bytes.now 0 0) (get_or bytes.now 1 0) (get_or bytes.now 2 0) }
+{
+    match bytes {
+        [first, second, third, ..] => are_three_space(*first, *second, *third),
+        _ => false,
+    }
+}
+
+// How many bytes the white space has that a text begins with, or 0. That there is none is mostly told
+// by the first byte.
+#[inline(always)]
+fn first_space_len(bytes: &[u8]) -> usize
+    ensures { result ≡ first_space_len bytes.now }
+{
+    if bytes.is_empty() {
+        return 0;
+    }
+    match bytes[0] {
+        first if is_ascii_space(first) => 1,
+        0xE1..=0xE3 if begins_three_space(bytes) => 3,
+        0xC2 if begins_two_space(bytes) => 2,
+        _ => 0,
+    }
+}
+
+// How many bytes the white space has that a text ends with, or 0.
+#[inline(always)]
+fn last_space_len(bytes: &[u8]) -> usize
+    ensures { result ≡ last_space_len bytes.now }
+{
+    match bytes {
+        [.., last] if is_ascii_space(*last) => 1,
+        [.., 0xC2, 0x85 | 0xA0] => 2,
+        [.., first, second, third] if are_three_space(*first, *second, *third) => 3,
+        _ => 0,
+    }
+}
+
+// What stands behind the white space at the start of a text.
+#[inline(always)]
+pub(crate) fn skip_spaces(text: &str) -> Behind<'_>
+    ensures at { StandsAt text.now (chars result.rest.now) result.skipped 0 }
+    ensures dark { BeginsDark result.rest.now }
+    ensures within { result.skipped + length result.rest.now ≤ length text.now }
+{
+    let mut behind = Behind {
+        skipped: 0,
+        rest: text,
+    };
+    'skipping: loop {
+        let len = first_space_len(behind.rest.as_bytes());
+        if len == 0 {
+            return behind;
+        }
+        let (_, rest) = behind.rest.split_at(len);
+        behind = Behind {
+            skipped: behind.skipped + 1,
+            rest,
+        };
+    }
+}
+
+// What stands in front of the white space at the end of a text.
+#[inline(always)]
+pub(crate) fn before_spaces(text: &str) -> &str
+    ensures blank { EndsBlank text.now result.now }
+    ensures dark { EndsDark result.now }
+    ensures within { length result.now ≤ length text.now }
+{
+    let mut ahead = text;
+    'skipping: loop {
+        let len = last_space_len(ahead.as_bytes());
+        if len == 0 {
+            return ahead;
+        }
+        let (before, _) = ahead.split_at(ahead.len() - len);
+        ahead = before;
+    }
+}
