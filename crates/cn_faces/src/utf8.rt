@@ -1,5 +1,5 @@
 // Bytes that are text.
-ghost use Rattle.std.specs.Prelude.{◌≡◌, ◌↔◌, ℕ, ◌+◌, ◌/◌, ◌%◌, ◌<◌, ◌≤◌, true, false, take, get_or, length, IsTrue, IsUtf8, MatchOption};
+ghost use Rattle.std.specs.Prelude.{◌≡◌, ◌↔◌, ◌/◌, ◌%◌, ◌<◌, ◌≤◌, true, false, take, get_or, length, IsTrue, IsUtf8, MatchOption};
 ghost use Rattle.std.specs.Int.{IsInRange};
 ghost use Rattle.std.specs.Str.{is_utf8};
 ghost use Rattle.cn_faces.specs.Private.CharacterBytes.{IsContinuation, IsTwo, IsThree, IsFour, leading};

@@ -126,7 +126,7 @@ overflow_here method (unit rank) (digit number ∷ rest) h =
       great : (a b : ℕ) {c : ℕ} → nat_le (2 ^ 128) a ≡ true → a ≡ c → c ≤ b → 2 ^ 128 ≤ b
       great a b t e le = let l : 2 ^ 128 ≤ a = grind (arith, nat_tests) in omega (arith, l, e, le)
 
-or_cases : (G : Type 0) (a b : Bool) → (a || b) ≡ true → (a ≡ true → G) → (b ≡ true → G) → G
+pub or_cases : (G : Type 0) (a b : Bool) → (a || b) ≡ true → (a ≡ true → G) → (b ≡ true → G) → G
 or_cases G true b h f g = f refl
 or_cases G false b h f g = g h
 

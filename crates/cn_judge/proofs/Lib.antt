@@ -8,8 +8,8 @@ pub mod OpenSums
 pub mod Passing
 pub mod Pieces
 pub mod PlainDigits
-pub mod Spaces
 mod ShortMarks
+pub mod Spaces
 pub mod Stacks
 pub mod Steps
 pub mod Tails

@@ -10,7 +10,6 @@ use Rattle.cn_core.proofs.Chars.{chars-from_empty}
 use Rattle.cn_judge.specs.ByteIndex.{byte_index}
 use Rattle.cn_judge.specs.Private.FirstKey.{BeginsThreeThrees}
 use Rattle.cn_judge.proofs.FirstBytes.{len_low, len_three, starts}
-use Rattle.cn_judge.proofs.ThreeBytes.{below}
 
 -- this byte stands behind so many characters
 pub record Passed (text : List ℕ) (count at : ℕ) : Type 0 where
@@ -176,7 +175,7 @@ Passed-threes text count at before three =
     subst (λ n. Passed text n (at + 9)) chars
     (subst (λ n. Passed text (count + 1 + 1 + 1) n) bytes all)
 
--- so many of ASCII
+-- so many bytes of ASCII are as many characters
 pub Passed-ascii : (text : List ℕ) (count at many : ℕ) → Passed text count at → at + many ≤ length text
     → ((k : ℕ) → k < many → get_or text (at + k) 0 < 128) → Passed text (count + many) (at + many)
 Passed-ascii text count at zero before within low =

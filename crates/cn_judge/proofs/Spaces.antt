@@ -6,19 +6,17 @@ use Rattle.std.proofs.lemmas.Bool.{ltb-false}
 use Rattle.std.proofs.lemmas.Bool.Decides.{nat_tests}
 use Rattle.std.proofs.lemmas.List.{get_or-append-add, append_assoc}
 use Rattle.std.proofs.lemmas.Str.{IsUtf8-append, IsUtf8-encode, IsUtf8-nil, IsUtf8-past_char, IsCharBoundary-at_seam, chars_past_char, encodes-append, encodes-chars}
-use lib.Seq.{drop_at}
+use lib.Seq.{drop_at, take_at}
 use lib.Utf8.{next, encode, encodes, scalar, scalars}
 use Rattle.cn_core.proofs.Fronts.{and-left, and-right}
-use Rattle.cn_judge.specs.Private.Spaces.{BeginsDark, EndsDark, are_three_space, are_two_space, first_space_len, is_ascii_space, last_space_len}
+use Rattle.cn_judge.specs.Private.Spaces.{BeginsDark, EndsDark, is_three_byte_space, is_two_byte_space, first_space_len, is_ascii_space, last_space_len}
+use Rattle.cn_judge.proofs.Faults.{or_cases}
 use Rattle.cn_judge.proofs.ThreeBytes.{below, bytes_by, encode-by}
 use Rattle.cn_judge.proofs.Walking.{chars-back}
 
+-- white space below U+0800
 abbrev is_small : ℕ → Bool
 is_small c = (((nat_lt 8 c && nat_lt c 14) || c == 32) || c == 133) || c == 160
-
-either : {G : Type 0} (p q : Bool) → (p || q) ≡ true → (p ≡ true → G) → (q ≡ true → G) → G
-either true q h f g = f refl
-either false q h f g = g h
 
 abbrev is_continuation : ℕ → Bool
 is_continuation b = nat_lt 127 b && nat_lt b 192
@@ -26,17 +24,17 @@ is_continuation b = nat_lt 127 b && nat_lt b 192
 -- white space of three bytes, by its code, which these three bytes have
 three-white : (a b d c : ℕ) → 128 ≤ b → b < 192 → 128 ≤ d → d < 192
     → c + 925824 ≡ a * 4096 + b * 64 + d → 2048 ≤ c → is_whitespace c ≡ true
-    → are_three_space a b d ≡ true
+    → is_three_byte_space a b d ≡ true
 three-white a b d c p q r t sum large white =
-    either _ (c == 12288) white (λ h. either _ (c == 8287) h (λ h. either _ (c == 8239) h
-    (λ h. either _ (c == 8233) h (λ h. either _ (c == 8232) h
-    (λ h. either _ (nat_lt 8191 c && nat_lt c 8203) h (λ h. either _ (c == 5760) h small
+    or_cases _ _ (c == 12288) white (λ h. or_cases _ _ (c == 8287) h (λ h. or_cases _ _ (c == 8239) h
+    (λ h. or_cases _ _ (c == 8233) h (λ h. or_cases _ _ (c == 8232) h
+    (λ h. or_cases _ _ (nat_lt 8191 c && nat_lt c 8203) h (λ h. or_cases _ _ (c == 5760) h small
     (one 5760 225 154 128 refl refl refl)) row) (one 8232 226 128 168 refl refl refl))
     (one 8233 226 128 169 refl refl refl)) (one 8239 226 128 175 refl refl refl))
     (one 8287 226 129 159 refl refl refl)) (one 12288 227 128 128 refl refl refl) where
-      one : (k x y z : ℕ) → k + 925824 ≡ x * 4096 + y * 64 + z → are_three_space x y z ≡ true
+      one : (k x y z : ℕ) → k + 925824 ≡ x * 4096 + y * 64 + z → is_three_byte_space x y z ≡ true
           → (is_continuation y && is_continuation z) ≡ true → (c == k) ≡ true
-          → are_three_space a b d ≡ true
+          → is_three_byte_space a b d ≡ true
       one k x y z total is others e =
           let same : c ≡ k = grind (arith, nat_tests, e) in
           let l : 128 ≤ y = grind (arith, nat_tests, others) in
@@ -48,7 +46,7 @@ three-white a b d c p q r t sum large white =
           let third : d ≡ z = omega (arith, first, second, same, total, sum) in
           rw (first, second, third) is
 
-      row : (nat_lt 8191 c && nat_lt c 8203) ≡ true → are_three_space a b d ≡ true
+      row : (nat_lt 8191 c && nat_lt c 8203) ≡ true → is_three_byte_space a b d ≡ true
       row e =
           let low : 8191 < c = grind (arith, nat_tests, e) in
           let high : c < 8203 = grind (arith, nat_tests, e) in
@@ -57,47 +55,49 @@ three-white a b d c p q r t sum large white =
           let third : d < 139 = omega (arith, first, second, high, sum) in
           rw (first, second) (grind (arith, nat_tests, r, third))
 
-      small : is_small c ≡ true → are_three_space a b d ≡ true
+      small : is_small c ≡ true → is_three_byte_space a b d ≡ true
       small e = absurd (let low : c < 2048 = grind (arith, nat_tests, e) in omega (arith, low, large))
 
 white-three : (a b d c : ℕ) → c + 925824 ≡ a * 4096 + b * 64 + d
-    → are_three_space a b d ≡ true → is_whitespace c ≡ true
+    → is_three_byte_space a b d ≡ true → is_whitespace c ≡ true
 white-three a b d c sum is = grind (arith, nat_tests, sum, is)
 
 three-same : (a b d c : ℕ) → 128 ≤ b → b < 192 → 128 ≤ d → d < 192
-    → c + 925824 ≡ a * 4096 + b * 64 + d → 2048 ≤ c → are_three_space a b d ≡ is_whitespace c
-three-same a b d c p q r t sum large = by (are_three_space a b d) (is_whitespace c) refl refl where
-  by : (x y : Bool) → are_three_space a b d ≡ x → is_whitespace c ≡ y → x ≡ y
+    → c + 925824 ≡ a * 4096 + b * 64 + d → 2048 ≤ c → is_three_byte_space a b d ≡ is_whitespace c
+three-same a b d c p q r t sum large = by (is_three_byte_space a b d) (is_whitespace c) refl refl where
+  by : (x y : Bool) → is_three_byte_space a b d ≡ x → is_whitespace c ≡ y → x ≡ y
   by true y is white = sym (white-three a b d c sum is) ∙ white
   by false false is white = refl
   by false true is white = sym is ∙ three-white a b d c p q r t sum large white
 
+-- bytes that are no white space, by one of them
 not-ascii : (b : ℕ) → 128 ≤ b → is_ascii_space b ≡ false
 not-ascii b high = grind (arith, nat_tests, high)
 
-not-two : (a b : ℕ) → a < 192 → are_two_space a b ≡ false
+not-two : (a b : ℕ) → a < 192 → is_two_byte_space a b ≡ false
 not-two a b low = grind (arith, nat_tests, low)
 
-not-first : (a b : ℕ) → 224 ≤ a → are_two_space a b ≡ false
+not-first : (a b : ℕ) → 224 ≤ a → is_two_byte_space a b ≡ false
 not-first a b high = grind (arith, nat_tests, high)
 
-not-middle : (a b d : ℕ) → 192 ≤ b → are_three_space a b d ≡ false
+not-middle : (a b d : ℕ) → 192 ≤ b → is_three_byte_space a b d ≡ false
 not-middle a b d high = grind (arith, nat_tests, high)
 
-not-behind : (a b d : ℕ) → d < 128 → (are_two_space b d ≡ false) × (are_three_space a b d ≡ false)
+not-behind : (a b d : ℕ) → d < 128 → (is_two_byte_space b d ≡ false) × (is_three_byte_space a b d ≡ false)
 not-behind a b d low = (grind (arith, nat_tests, low), grind (arith, nat_tests, low))
 
+-- white space by the bytes of its code
 ascii-same : (c : ℕ) → c < 128 → is_ascii_space c ≡ is_whitespace c
 ascii-same c small = grind (arith, nat_tests, small)
 
-two-same : (c : ℕ) → 128 ≤ c → c < 2048 → are_two_space (192 + c / 64) (next c) ≡ is_whitespace c
+two-same : (c : ℕ) → 128 ≤ c → c < 2048 → is_two_byte_space (192 + c / 64) (next c) ≡ is_whitespace c
 two-same c large small = grind (arith, nat_tests, large, small)
 
 abbrev first_of : ℕ → ℕ
 first_of c = 224 + c / 4096
 
 three-of : (c : ℕ) → 2048 ≤ c → c < 65536
-    → are_three_space (first_of c) (next (c / 64)) (next c) ≡ is_whitespace c
+    → is_three_byte_space (first_of c) (next (c / 64)) (next c) ≡ is_whitespace c
 three-of c large small =
     three-same (first_of c) (next (c / 64)) (next c) c (omega arith) (omega arith) (omega arith) (omega arith)
     (omega (arith, small)) large
@@ -114,29 +114,32 @@ first-space c rest = rw (encode-by c) (by (ltb c 128) (ltb c 2048) (ltb c 65536)
   by false false true p q r =
       let small = below c 65536 r in
       let large = ltb-false c 2048 q in
-      rw (not-ascii (first_of c) (omega arith), not-first (first_of c) (next (c / 64)) (omega arith),
-      three-of c large small) refl
+      rw (
+        not-ascii (first_of c) (omega arith),
+        not-first (first_of c) (next (c / 64)) (omega arith),
+        three-of c large small,
+      ) refl
   by false false false p q r =
       let large = ltb-false c 65536 r in grind (arith, nat_tests, large)
 
 -- white space comes first, of so many bytes
-pub record SkipsSpace (text : List ℕ) (len : ℕ) : Type 0 where
+pub record BeginsSpace (text : List ℕ) (len : ℕ) : Type 0 where
   pub code : ℕ
   pub white : is_whitespace code ≡ true
   pub parts : chars text ≡ code ∷ chars (drop len text)
   pub within : len ≤ length text
   pub left : IsUtf8 (drop len text)
 
-skips-bytes : (text : List ℕ) (len : ℕ) → IsUtf8 text → len ≡ first_space_len text → 0 < len
-    → SkipsSpace text len
-skips-bytes text len whole is some = by whole.0 whole.1.1 where
-  by : (cs : List ℕ) → encodes cs ≡ text → SkipsSpace text len
+begins-bytes : (text : List ℕ) (len : ℕ) → IsUtf8 text → len ≡ first_space_len text → 0 < len
+    → BeginsSpace text len
+begins-bytes text len whole is some = by whole.0 whole.1.1 where
+  by : (cs : List ℕ) → encodes cs ≡ text → BeginsSpace text len
   by [] e = absurd (let none = is ∙ ap first_space_len (sym e) in omega (arith, some, none))
   by (c ∷ cs) e = white (is_whitespace c) refl where
     size : len ≡ cond (is_whitespace c) (length (encode c)) 0
     size = is ∙ ap first_space_len (sym e) ∙ first-space c (encodes cs)
 
-    white : (b : Bool) → is_whitespace c ≡ b → SkipsSpace text len
+    white : (b : Bool) → is_whitespace c ≡ b → BeginsSpace text len
     white false w = absurd (let none = rw w at size in omega (arith, some, none))
     white true w =
         let same : length (encode c) ≡ len = sym (rw w at size) in
@@ -150,10 +153,10 @@ skips-bytes text len whole is some = by whole.0 whole.1.1 where
           left = subst IsUtf8 (sym cut) (IsUtf8-past_char text (encodes cs) c whole (sym e));
         }
 
-pub skips-space : (bytes text : List ℕ) (len : ℕ) → bytes ≡ text → IsUtf8 bytes
-    → len ≡ first_space_len bytes → len ≢ 0 → SkipsSpace text len
-skips-space bytes text len same whole is some =
-    subst (λ l. SkipsSpace l len) same (skips-bytes bytes len whole is (omega (arith, some)))
+pub begins-space : (bytes text : List ℕ) (len : ℕ) → bytes ≡ text → IsUtf8 bytes
+    → len ≡ first_space_len bytes → len ≢ 0 → BeginsSpace text len
+begins-space bytes text len same whole is some =
+    subst (λ l. BeginsSpace l len) same (begins-bytes bytes len whole is (omega (arith, some)))
 
 encoded-long : (c : ℕ) → 0 < length (encode c)
 encoded-long c = rw (encode-by c) (by (ltb c 128) (ltb c 2048) (ltb c 65536)) where
@@ -225,22 +228,33 @@ last-space front c = rw (encode-by c) (by (ltb c 128) (ltb c 2048) (ltb c 65536)
       let v = get_or all (length all - 2) 0 in
       let behind = not-behind u v c small in
       only-one _ _ _ _ (ap is_ascii_space third ∙ ascii-same c small)
-      (ap (are_two_space v) third ∙ behind.0) (ap (are_three_space u v) third ∙ behind.1)
+      (ap (is_two_byte_space v) third ∙ behind.0) (ap (is_three_byte_space u v) third ∙ behind.1)
   by false true z p q r =
       let small = below c 2048 q in
       let large = ltb-false c 128 p in
       let second = at (bytes_by false true z c) 0 2 refl in
       let third = at (bytes_by false true z c) 1 1 refl in
-      rw (second, third, not-ascii (next c) (omega arith), not-middle _ (192 + c / 64) (next c) (omega arith),
-      two-same c large small) refl
+      rw (
+        second,
+        third,
+        not-ascii (next c) (omega arith),
+        not-middle _ (192 + c / 64) (next c) (omega arith),
+        two-same c large small,
+      ) refl
   by false false true p q r =
       let small = below c 65536 r in
       let large = ltb-false c 2048 q in
       let first = at (bytes_by false false true c) 0 3 refl in
       let second = at (bytes_by false false true c) 1 2 refl in
       let third = at (bytes_by false false true c) 2 1 refl in
-      rw (first, second, third, not-ascii (next c) (omega arith), not-two (next (c / 64)) (next c) (omega arith),
-      three-of c large small) refl
+      rw (
+        first,
+        second,
+        third,
+        not-ascii (next c) (omega arith),
+        not-two (next (c / 64)) (next c) (omega arith),
+        three-of c large small,
+      ) refl
   by false false false p q r =
       let large = ltb-false c 65536 r in
       let first = at (bytes_by false false false c) 1 3 refl in
@@ -255,10 +269,6 @@ pub record EndsSpace (text : List ℕ) (len : ℕ) : Type 0 where
   pub within : len ≤ length text
   pub boundary : IsCharBoundary text (length text - len)
   pub parts : chars text ≡ chars (take (length text - len) text) ++ code ∷ []
-
-take-front : (xs ys : List ℕ) (n : ℕ) → length xs ≡ n → take n (xs ++ ys) ≡ xs
-take-front [] ys n e = rw (← e) refl
-take-front (x ∷ xs) ys n e = rw (← e) (ap (λ l. x ∷ l) (take-front xs ys (length xs) refl))
 
 ends-bytes : (text : List ℕ) (len : ℕ) → IsUtf8 text → len ≡ last_space_len text → 0 < len
     → EndsSpace text len
@@ -275,7 +285,7 @@ ends-bytes text len whole is some = by whole.0 whole.1.0 whole.1.1 where
         let all = ap length l.parts ∙ length-append l.front (encode l.code) in
         let front : length l.front ≡ length text - len = omega (arith, same, all) in
         let cut : take (length text - len) text ≡ l.front =
-        ap (take (length text - len)) l.parts ∙ take-front l.front (encode l.code) _ front in
+        ap (take (length text - len)) l.parts ∙ take_at l.front (encode l.code) _ front in
         record {
           code = l.code;
           white = w;

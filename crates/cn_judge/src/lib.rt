@@ -3,8 +3,8 @@
 //!
 //! What stands here serves the crates above it alone: `cn_read` gives the readers their public
 //! names, and hands on the error; `cn_quick` shares marks, signs and the rules on the first digit,
-//! `cn_find` marks, `cn_quantity` the judgements of a text without sign, and `cn_c` where a character
-//! begins.
+//! `cn_find` marks, `cn_quantity` the judgements of a text without sign, `cn_faces` the test of eight
+//! bytes of ASCII, and `cn_c` where a character begins.
 #![tactic(auto)]
 
 mod error;

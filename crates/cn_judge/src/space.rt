@@ -1,8 +1,8 @@
-// White space, passed from either end of a text. It is told by its bytes: decoded first, each of two or
-// three bytes takes some 20 instructions more.
+// White space, passed from either end of a text. It is told by its bytes: a character of two or three
+// bytes that is decoded first takes some 20 instructions more.
 ghost use Rattle.std.specs.Prelude.{◌≡◌, ◌+◌, ◌≤◌, get_or, length, chars};
 ghost use Rattle.cn_judge.specs.Piece.{StandsAt};
-ghost use Rattle.cn_judge.specs.Private.Spaces.{BeginsDark, EndsBlank, EndsDark, are_three_space, are_two_space, first_space_len, is_ascii_space, last_space_len};
+ghost use Rattle.cn_judge.specs.Private.Spaces.{BeginsDark, EndsBlank, EndsDark, is_three_byte_space, is_two_byte_space, first_space_len, is_ascii_space, last_space_len};
 
 // What stands behind white space.
 #[derive(Copy, Clone)]
@@ -23,8 +23,8 @@ fn is_ascii_space(byte: u8) -> bool
 // Whether these three bytes are U+1680, one from U+2000 to U+200A, U+2028, U+2029, U+202F, U+205F or
 // U+3000.
 #[inline(always)]
-fn are_three_space(first: u8, second: u8, third: u8) -> bool
-    ensures { result ≡ are_three_space first second third }
+fn is_three_byte_space(first: u8, second: u8, third: u8) -> bool
+    ensures { result ≡ is_three_byte_space first second third }
 {
     if first == 0xE2 && second == 0x80 {
         return matches!(third, 0x80..=0x8A) || matches!(third, 0xA8 | 0xA9 | 0xAF);
@@ -37,26 +37,26 @@ fn are_three_space(first: u8, second: u8, third: u8) -> bool
 
 // Whether two bytes of white space come first: U+0085 or U+00A0.
 #[inline(always)]
-fn begins_two_space(bytes: &[u8]) -> bool
-    ensures { result ≡ are_two_space (get_or bytes.now 0 0) (get_or bytes.now 1 0) }
+fn begins_two_byte_space(bytes: &[u8]) -> bool
+    ensures { result ≡ is_two_byte_space (get_or bytes.now 0 0) (get_or bytes.now 1 0) }
 {
     matches!(bytes, [0xC2, 0x85 | 0xA0, ..])
 }
 
 // Whether three bytes of white space come first.
 #[inline(always)]
-fn begins_three_space(bytes: &[u8]) -> bool
+fn begins_three_byte_space(bytes: &[u8]) -> bool
     ensures { result
-        ≡ are_three_space (get_or bytes.now 0 0) (get_or bytes.now 1 0) (get_or bytes.now 2 0) }
+        ≡ is_three_byte_space (get_or bytes.now 0 0) (get_or bytes.now 1 0) (get_or bytes.now 2 0) }
 {
     match bytes {
-        [first, second, third, ..] => are_three_space(*first, *second, *third),
+        [first, second, third, ..] => is_three_byte_space(*first, *second, *third),
         _ => false,
     }
 }
 
-// How many bytes the white space has that a text begins with, or 0. That there is none is mostly told
-// by the first byte.
+// How many bytes the first character has where it is white space, else 0. Most that are none are told
+// by their first byte.
 #[inline(always)]
 fn first_space_len(bytes: &[u8]) -> usize
     ensures { result ≡ first_space_len bytes.now }
@@ -66,21 +66,22 @@ fn first_space_len(bytes: &[u8]) -> usize
     }
     match bytes[0] {
         first if is_ascii_space(first) => 1,
-        0xE1..=0xE3 if begins_three_space(bytes) => 3,
-        0xC2 if begins_two_space(bytes) => 2,
+        0xE1..=0xE3 if begins_three_byte_space(bytes) => 3,
+        0xC2 if begins_two_byte_space(bytes) => 2,
         _ => 0,
     }
 }
 
-// How many bytes the white space has that a text ends with, or 0.
+// How many bytes the last character has where it is white space, else 0.
 #[inline(always)]
 fn last_space_len(bytes: &[u8]) -> usize
     ensures { result ≡ last_space_len bytes.now }
 {
     match bytes {
         [.., last] if is_ascii_space(*last) => 1,
+        [.., 0x00..=0x7F] => 0,
         [.., 0xC2, 0x85 | 0xA0] => 2,
-        [.., first, second, third] if are_three_space(*first, *second, *third) => 3,
+        [.., first, second, third] if is_three_byte_space(*first, *second, *third) => 3,
         _ => 0,
     }
 }

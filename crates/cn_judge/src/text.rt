@@ -1,9 +1,9 @@
 // Walking a text: its characters from either end, and those that are no white space. Their marks
 // too: of characters of three bytes quickly, of any other as it comes.
-ghost use Rattle.std.specs.Prelude.{◌≡◌, ℕ, ◌+◌, ◌*◌, ◌<◌, ◌≤◌, List, [], ◌∷◌, ◌++◌, length, chars, false, IfSome, IfNone, IsTrue, MatchOption};
+ghost use Rattle.std.specs.Prelude.{◌≡◌, ℕ, ◌+◌, ◌<◌, ◌≤◌, List, [], ◌∷◌, ◌++◌, length, chars, false, IfSome, IfNone, MatchOption};
 ghost use Rattle.std.specs.Char.{is_whitespace};
 ghost use Rattle.std.specs.Str.{continuation_len};
-ghost use Rattle.cn_core.specs.Mark.{digit, mark_of, other};
+ghost use Rattle.cn_core.specs.Mark.{digit, mark_of};
 ghost use Rattle.cn_core.specs.Text.{text_of};
 ghost use Rattle.cn_judge.specs.ByteIndex.{byte_index};
 ghost use Rattle.cn_judge.specs.Marked.{marked};
@@ -13,7 +13,7 @@ ghost use Rattle.cn_judge.specs.Private.Spaces.{BeginsDark};
 
 use crate::mark::{Mark, known_mark, mark_of, mark_of_key};
 use crate::space::{Behind, before_spaces, skip_spaces};
-use crate::word::{begins_three_threes, eight_ascii_at};
+use crate::word::{eight_ascii_at, three_threes_at};
 use cn_core::split_first_char;
 
 // The key of the first character where it takes three bytes, as most do that are searched.
@@ -63,19 +63,6 @@ pub fn split_first_mark(text: &str) -> Option<(char, Mark, &str)>
     Some((c, mark_of(c), after))
 }
 
-// The first character, and what stands after it. One of three bytes, as most are, is told by these.
-#[inline(always)]
-fn split_first_quickly(text: &str) -> Option<(char, &str)>
-    ensures parts { MatchOption result (chars text.now ≡ [])
-        (λ r. chars text.now ≡ r.0 ∷ chars r.1.now) }
-    ensures shorter { IfSome result (λ r. length r.1.now < length text.now) }
-{
-    match split_first_three(text) {
-        Some((c, _, after)) => Some((c, after)),
-        None => split_first_char(text),
-    }
-}
-
 /// The first character of a text that is no white space.
 #[derive(Copy, Clone)]
 pub struct First<'a> {
@@ -86,7 +73,7 @@ pub struct First<'a> {
     pub rest: &'a str,
 }
 
-// The first character there.
+// The first character behind white space, which is none itself.
 #[inline(always)]
 pub(crate) fn first_behind(behind: Behind<'_>) -> Option<First<'_>>
     requires { BeginsDark behind.rest.now }
@@ -97,7 +84,7 @@ pub(crate) fn first_behind(behind: Behind<'_>) -> Option<First<'_>>
     ensures within { IfSome result (λ first. first.skipped + length first.rest.now
         < behind.entry.skipped + length behind.entry.rest.now) }
 {
-    let (character, rest) = split_first_quickly(behind.rest)?;
+    let (character, _, rest) = split_first_mark(behind.rest)?;
     Some(First {
         character,
         skipped: behind.skipped,
@@ -198,7 +185,8 @@ fn char_len(first: u8) -> usize
     CHAR_LENS[(first / 16) as usize]
 }
 
-/// How many characters a text has. Each is passed by its first byte.
+/// How many characters a text has. Three of three bytes or eight of ASCII are passed at once while such
+/// stand next, and what stands behind them one by one, by the first byte of each.
 pub fn count_chars(text: &str) -> usize
     ensures count { result ≡ length (chars text.now) }
     ensures within { result ≤ length text.now }
@@ -207,7 +195,7 @@ pub fn count_chars(text: &str) -> usize
     let mut passed = 0;
     let mut count = 0;
     'words: loop {
-        if begins_three_threes(bytes, passed) {
+        if three_threes_at(bytes, passed) {
             passed += 9;
             count += 3;
         } else if eight_ascii_at(bytes, passed) {
@@ -232,7 +220,7 @@ pub fn byte_index(text: &str, char_index: usize) -> usize
     let mut passed = 0;
     let mut left = char_index;
     'words: loop {
-        if left >= 3 && begins_three_threes(bytes, passed) {
+        if left >= 3 && three_threes_at(bytes, passed) {
             passed += 9;
             left -= 3;
         } else if left >= 8 && eight_ascii_at(bytes, passed) {

@@ -1,15 +1,15 @@
 // Eight bytes of a text at once.
-ghost use Rattle.std.specs.Prelude.{ℕ, ◌≡◌, ◌+◌, ◌/◌, ◌%◌, ◌<◌, ◌≤◌, get_or, length, IsTrue};
+ghost use Rattle.std.specs.Prelude.{ℕ, ◌+◌, ◌/◌, ◌%◌, ◌<◌, ◌≤◌, get_or, length, IsTrue};
 ghost use Rattle.cn_judge.specs.Private.FirstKey.{BeginsThreeThrees};
 
 // Whether three characters of three bytes begin here, as most do in numerals, by the first byte of each.
 // So each is passed in 4 instructions, and alone in 7. `false` says nothing of the bytes.
 #[inline(always)]
-pub(crate) fn begins_three_threes(bytes: &[u8], passed: usize) -> bool
-    requires { passed ≤ length bytes.now }
-    ensures { IsTrue result → BeginsThreeThrees bytes.now passed }
+pub(crate) fn three_threes_at(bytes: &[u8], index: usize) -> bool
+    requires { index ≤ length bytes.now }
+    ensures { IsTrue result → BeginsThreeThrees bytes.now index }
 {
-    let Some(eight) = bytes[passed..].first_chunk::<8>() else {
+    let Some(eight) = bytes[index..].first_chunk::<8>() else {
         return false;
     };
     let word = u64::from_le_bytes(*eight);
@@ -41,7 +41,7 @@ fn eight_are_ascii(word: u64) -> bool
         & (word / 0x8000_0000_0000_0000 == 0)
 }
 
-/// Whether eight bytes of ASCII stand from this place on. `false` says nothing of the bytes.
+/// Whether eight bytes of ASCII stand from this byte on. `false` says nothing of the bytes.
 #[inline(always)]
 pub fn eight_ascii_at(bytes: &[u8], index: usize) -> bool
     requires { index ≤ length bytes.now }

@@ -7,27 +7,27 @@ abbrev pub is_ascii_space : ℕ → Bool
 is_ascii_space b = (nat_lt 8 b && nat_lt b 14) || b == 32
 
 -- whether two bytes are white space: U+0085 or U+00A0
-abbrev pub are_two_space : ℕ → ℕ → Bool
-are_two_space a b = a == 194 && (b == 133 || b == 160)
+abbrev pub is_two_byte_space : ℕ → ℕ → Bool
+is_two_byte_space a b = a == 194 && (b == 133 || b == 160)
 
 -- whether three bytes are white space: U+1680, U+3000, one from U+2000 to U+200A, U+2028, U+2029,
 -- U+202F or U+205F
-abbrev pub are_three_space : ℕ → ℕ → ℕ → Bool
-are_three_space a b d = (((a == 225 && b == 154) || (a == 227 && b == 128)) && d == 128)
+abbrev pub is_three_byte_space : ℕ → ℕ → ℕ → Bool
+is_three_byte_space a b d = (((a == 225 && b == 154) || (a == 227 && b == 128)) && d == 128)
     || ((a == 226 && b == 128) && ((nat_lt 127 d && nat_lt d 139) || (d == 168 || (d == 169 || d == 175))))
     || ((a == 226 && b == 129) && d == 159)
 
--- how many bytes the white space has that a text begins with, by the first three of them
+-- how many bytes the first character has where it is white space, else 0, by the first three bytes
 abbrev pub first_space_len : List ℕ → ℕ
 first_space_len bytes = if is_ascii_space (get_or bytes 0 0) then 1
-    else if are_two_space (get_or bytes 0 0) (get_or bytes 1 0) then 2
-    else if are_three_space (get_or bytes 0 0) (get_or bytes 1 0) (get_or bytes 2 0) then 3 else 0
+    else if is_two_byte_space (get_or bytes 0 0) (get_or bytes 1 0) then 2
+    else if is_three_byte_space (get_or bytes 0 0) (get_or bytes 1 0) (get_or bytes 2 0) then 3 else 0
 
--- how many bytes the white space has that a text ends with, by the last three of them
+-- how many bytes the last character has where it is white space, else 0, by the last three bytes
 abbrev pub last_space_len : List ℕ → ℕ
 last_space_len bytes = if is_ascii_space (get_or bytes (length bytes - 1) 0) then 1
-    else if are_two_space (get_or bytes (length bytes - 2) 0) (get_or bytes (length bytes - 1) 0) then 2
-    else if are_three_space (get_or bytes (length bytes - 3) 0) (get_or bytes (length bytes - 2) 0)
+    else if is_two_byte_space (get_or bytes (length bytes - 2) 0) (get_or bytes (length bytes - 1) 0) then 2
+    else if is_three_byte_space (get_or bytes (length bytes - 3) 0) (get_or bytes (length bytes - 2) 0)
     (get_or bytes (length bytes - 1) 0) then 3 else 0
 
 -- no white space comes first

@@ -10,12 +10,12 @@ words-init c = record {
   few = omega arith;
 }
 
-pub words-preserved-then-begins_three_threes : goal.words-preserved-then-begins_three_threes
-words-preserved-then-begins_three_threes c = record {
+pub words-preserved-then-three_threes_at : goal.words-preserved-then-three_threes_at
+words-preserved-then-three_threes_at c = record {
   passed = subst (λ n. Passed c.args.text.now n (c.words.passed + 9)) (omega (arith, c.if-left-ge3.true, c.words.invariant.few))
       (Passed-threes _ _ _ c.words.invariant.passed
       (subst (λ l. BeginsThreeThrees l c.words.passed) c.as_bytes-bytes.ensures.value
-      (c.begins_three_threes.ensures c.if-begins_three_threes.true)));
+      (c.three_threes_at.ensures c.if-three_threes_at.true)));
   few = omega (arith, c.words.invariant.few);
 }
 

@@ -7,11 +7,11 @@ use Rattle.cn_judge.proofs.text.count_chars.Goals as goal
 pub words-init : goal.words-init
 words-init c = record { passed = Passed-none _ c.utf8.text }
 
-pub words-preserved-then-begins_three_threes : goal.words-preserved-then-begins_three_threes
-words-preserved-then-begins_three_threes c = record {
+pub words-preserved-then-three_threes_at : goal.words-preserved-then-three_threes_at
+words-preserved-then-three_threes_at c = record {
   passed = Passed-threes _ _ _ c.words.invariant.passed
       (subst (λ l. BeginsThreeThrees l c.words.passed) c.as_bytes-bytes.ensures.value
-      (c.begins_three_threes.ensures c.if-begins_three_threes.true));
+      (c.three_threes_at.ensures c.if-three_threes_at.true));
 }
 
 pub words-preserved : goal.words-preserved
