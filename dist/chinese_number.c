@@ -60,7 +60,7 @@ typedef int64_t s64;
  * - behind it, for the one call that writes a text as long as any, the caller's room, where it is.
  *
  * An access outside, or a write to its constants or the text, ends the program by abort(). */
-#define STACK_BYTES UINT64_C(2112)
+#define STACK_BYTES UINT64_C(2144)
 #define LENT_BYTES UINT64_C(544)
 #define OWN_BYTES (STACK_BYTES + LENT_BYTES)
 #define FIRST_CONSTANT UINT64_C(65536)
@@ -428,8 +428,7 @@ static const u8 constants[] = {
   0x02, 0x00, 0x00, 0x00, 0x00, 0xe8, 0x76, 0x48, 0x17, 0x00, 0x00, 0x00,
   0x00, 0x10, 0xa5, 0xd4, 0xe8, 0x00, 0x00, 0x00, 0x00, 0xa0, 0x72, 0x4e,
   0x18, 0x09, 0x00, 0x00, 0x00, 0x40, 0x7a, 0x10, 0xf3, 0x5a, 0x00, 0x00,
-  0x00, 0x80, 0xc6, 0xa4, 0x7e, 0x8d, 0x03, 0x00, 0x01, 0x00, 0x00, 0x00,
-  0x00, 0x00, 0x00, 0x00, 0x03, 0x00, 0x00, 0x00, 0x04, 0x00, 0x00, 0x00,
+  0x00, 0x80, 0xc6, 0xa4, 0x7e, 0x8d, 0x03, 0x00,
 };
 
 /* Each access has its test where it stands, and what one call alone needs stands apart: then a call
@@ -613,87 +612,89 @@ static void w2c_f9(module *, u64, u32, u64);
 static void w2c_f10(module *, u64, u32, u64);
 static void w2c_f11(module *, u64, u64, u64);
 static u32 w2c_f12(module *, u64, u64);
-static u32 w2c_f13(module *, u64, u32, u64, u64, u64, u64);
-static void w2c_f14(module *, u64, u64, u64);
-static u32 w2c_f15(module *, u64, u64, u64, u32, u32, u64, u64, u64);
-static u32 w2c_f16(module *, u64, u64, u64, u32, u32, u64, u64, u64);
-static u32 w2c_f17(module *, u64, u64);
-static u32 w2c_f18(module *, u32, u32, u64, u64);
-static void w2c_f19(module *, u64, u32);
-static void w2c_f20(module *, u64, u64, u64);
-static u32 w2c_f21(module *, u64, u64);
-static u32 w2c_f22(module *, u64, u64);
+static u32 w2c_f13(module *, u64, u64, u64, u64);
+static void w2c_f14(module *, u64, u64, u64, u64);
+static u32 w2c_f15(module *, u64, u32, u64, u64, u64, u64);
+static void w2c_f16(module *, u64, u64, u64);
+static u32 w2c_f17(module *, u64, u64, u64, u32, u32, u64, u64, u64);
+static u32 w2c_f18(module *, u64, u64, u64, u32, u32, u64, u64, u64);
+static u32 w2c_f19(module *, u64, u64);
+static u32 w2c_f20(module *, u32, u32, u64, u64);
+static void w2c_f21(module *, u64, u32);
+static void w2c_f22(module *, u64, u64, u64);
 static u32 w2c_f23(module *, u64, u64);
-static u32 w2c_f24(module *, u64, u64, u64, u32, u32, u64, u64, u64);
-static void w2c_f25(module *, u64, u64);
-static u32 w2c_f26(module *, u32, u32, u64, u64, u32, u64, u64);
-static u32 w2c_f27(module *, u32, u32, u32, u32, u32, u64, u64);
-static u32 w2c_f28(module *, u32, u32, u64, u64);
-static u32 w2c_f29(module *, u32, u32, u64, u64);
-static u64 w2c_f30(module *, u64, u64, u32, u32, u64, u64);
-static void w2c_f31(module *, u64, u64, u64, u32);
-static void w2c_f32(module *, u64, u64, u64);
-static void w2c_f33(module *, u64, u32, u64, u64, u64);
+static u32 w2c_f24(module *, u64, u64);
+static u32 w2c_f25(module *, u64, u64);
+static u32 w2c_f26(module *, u64, u64, u64, u32, u32, u64, u64, u64);
+static void w2c_f27(module *, u64, u64);
+static u32 w2c_f28(module *, u32, u32, u64, u64, u32, u64, u64);
+static u32 w2c_f29(module *, u32, u32, u32, u32, u32, u64, u64);
+static u32 w2c_f30(module *, u32, u32, u64, u64);
+static u32 w2c_f31(module *, u32, u32, u64, u64);
+static u64 w2c_f32(module *, u64, u64, u32, u32, u64, u64);
+static void w2c_f33(module *, u64, u64, u64, u32);
 static void w2c_f34(module *, u64, u64, u64);
 static void w2c_f35(module *, u64, u32, u64, u64, u64);
-static u64 w2c_f36(module *, u64, u64);
-static void w2c_f37(module *, u64, u32);
-static void w2c_f38(module *, u64, u32, u64, u64, u64, u64);
-static void w2c_f39(module *, u64, u32, u32);
-static void w2c_f40(module *, u64, u64, u64);
-static void w2c_f41(module *, u64, u32, u32, u64, u64, u64, u64);
-static void w2c_f42(module *, u64, u32, u64, u64);
-static void w2c_f43(module *, u64, u32, u64, u64, u64);
-static void w2c_f44(module *, u64, u64, u64, u64);
-static void w2c_f45(module *, u64, u64, u64);
-static void w2c_f46(module *, u64, u32, u64, u32, u64, u64);
-static void w2c_f47(module *, u64, u32, u64, u64, u32, u32);
-static u32 w2c_f48(module *, u64, u64, u32, u32, u32, u64);
-static void w2c_f49(module *, u64, u32, u64, u64, u64);
+static void w2c_f36(module *, u64, u64, u64);
+static void w2c_f37(module *, u64, u32, u64, u64, u64);
+static u64 w2c_f38(module *, u64, u64);
+static void w2c_f39(module *, u64, u32);
+static void w2c_f40(module *, u64, u32, u64, u64, u64, u64);
+static void w2c_f41(module *, u64, u32, u32);
+static void w2c_f42(module *, u64, u64, u64);
+static void w2c_f43(module *, u64, u32, u32, u64, u64, u64, u64);
+static void w2c_f44(module *, u64, u32, u64, u64);
+static void w2c_f45(module *, u64, u32, u64, u64, u64);
+static void w2c_f46(module *, u64, u64, u64, u64);
+static void w2c_f47(module *, u64, u64, u64);
+static void w2c_f48(module *, u64, u32, u64, u32, u64, u64);
+static void w2c_f49(module *, u64, u32, u64, u64, u32, u32);
 static u32 w2c_f50(module *, u64, u64, u32, u32, u32, u64);
-static u32 w2c_f51(module *, u64, u64, u32, u64);
-static void w2c_f52(module *, u64, u32, u64, u64);
-static u32 w2c_f53(module *, u64, u64, u32, u32, u64);
+static void w2c_f51(module *, u64, u32, u64, u64, u64);
+static u32 w2c_f52(module *, u64, u64, u32, u32, u32, u64);
+static u32 w2c_f53(module *, u64, u64, u32, u64);
+static void w2c_f54(module *, u64, u32, u64, u64);
+static u32 w2c_f55(module *, u64, u64, u32, u32, u64);
 static u32 w2c_chinese_number_version(module *);
-static void w2c_f55(module *);
+static void w2c_f57(module *);
 static u32 w2c_chinese_date_print(module *, u32, u32, u32, u32, u64, u64, u64);
-static u32 w2c_f57(module *, u32, u32, u32, u32, u64, u64, u64);
+static u32 w2c_f59(module *, u32, u32, u32, u32, u64, u64, u64);
 static u32 w2c_chinese_signed_amount_print(module *, u64, u32, u32, u64, u64, u64);
-static u32 w2c_f59(module *, u64, u32, u32, u64, u64, u64);
+static u32 w2c_f61(module *, u64, u32, u32, u64, u64, u64);
 static u32 w2c_chinese_quantity_figures(module *, u64, u64, u64, u64);
-static u32 w2c_f61(module *, u64, u64, u64, u64);
+static u32 w2c_f63(module *, u64, u64, u64, u64);
 static u32 w2c_chinese_amount_read(module *, u64, u64, u64);
-static u32 w2c_f63(module *, u64, u64, u64);
-static u32 w2c_chinese_typed_amount_read(module *, u64, u64, u64);
 static u32 w2c_f65(module *, u64, u64, u64);
-static u32 w2c_chinese_date_read(module *, u64, u64, u64);
+static u32 w2c_chinese_typed_amount_read(module *, u64, u64, u64);
 static u32 w2c_f67(module *, u64, u64, u64);
+static u32 w2c_chinese_date_read(module *, u64, u64, u64);
+static u32 w2c_f69(module *, u64, u64, u64);
 static u32 w2c_chinese_amount_print(module *, u64, u32, u32, u64, u64, u64);
-static u32 w2c_f69(module *, u64, u32, u32, u64, u64, u64);
+static u32 w2c_f71(module *, u64, u32, u32, u64, u64, u64);
 static u32 w2c_chinese_figures_read(module *, u64, u64, u64);
-static u32 w2c_f71(module *, u64, u64, u64);
-static u32 w2c_chinese_signed_amount_read(module *, u64, u64, u64);
 static u32 w2c_f73(module *, u64, u64, u64);
+static u32 w2c_chinese_signed_amount_read(module *, u64, u64, u64);
+static u32 w2c_f75(module *, u64, u64, u64);
 static u32 w2c_chinese_number_find(module *, u64, u64, u64, u32, u32, u64, u64, u64);
-static u32 w2c_f75(module *, u64, u64, u64, u32, u32, u64, u64, u64);
-static u32 w2c_chinese_number_find_utf8(module *, u64, u64, u64, u32, u32, u64, u64, u64);
 static u32 w2c_f77(module *, u64, u64, u64, u32, u32, u64, u64, u64);
-static u32 w2c_chinese_quantity_find_utf8(module *, u64, u64, u64, u32, u32, u64, u64, u64);
+static u32 w2c_chinese_number_find_utf8(module *, u64, u64, u64, u32, u32, u64, u64, u64);
 static u32 w2c_f79(module *, u64, u64, u64, u32, u32, u64, u64, u64);
-static u32 w2c_chinese_quantity_find(module *, u64, u64, u64, u32, u32, u64, u64, u64);
+static u32 w2c_chinese_quantity_find_utf8(module *, u64, u64, u64, u32, u32, u64, u64, u64);
 static u32 w2c_f81(module *, u64, u64, u64, u32, u32, u64, u64, u64);
+static u32 w2c_chinese_quantity_find(module *, u64, u64, u64, u32, u32, u64, u64, u64);
+static u32 w2c_f83(module *, u64, u64, u64, u32, u32, u64, u64, u64);
 static u32 w2c_chinese_number_print(module *, u64, u64, u32, u32, u32, u32, u64, u64, u64);
-static u32 w2c_f83(module *, u64, u64, u32, u32, u32, u32, u64, u64, u64);
-static u32 w2c_chinese_quantities_to_figures(module *, u64, u64, u32, u32, u32, u32, u64, u64, u64);
 static u32 w2c_f85(module *, u64, u64, u32, u32, u32, u32, u64, u64, u64);
+static u32 w2c_chinese_quantities_to_figures(module *, u64, u64, u32, u32, u32, u32, u64, u64, u64);
+static u32 w2c_f87(module *, u64, u64, u32, u32, u32, u32, u64, u64, u64);
 static u32 w2c_chinese_quantity_print(module *, u64, u32, u32, u32, u64, u64, u64);
-static u32 w2c_f87(module *, u64, u32, u32, u32, u64, u64, u64);
+static u32 w2c_f89(module *, u64, u32, u32, u32, u64, u64, u64);
 static u32 w2c_chinese_quantity_read(module *, u64, u64, u32, u64);
-static u32 w2c_f89(module *, u64, u64, u32, u64);
+static u32 w2c_f91(module *, u64, u64, u32, u64);
 static u32 w2c_chinese_number_read_utf8(module *, u64, u64, u32, u32, u64);
-static u32 w2c_f91(module *, u64, u64, u32, u32, u64);
-static u32 w2c_chinese_number_read(module *, u64, u64, u32, u32, u64);
 static u32 w2c_f93(module *, u64, u64, u32, u32, u64);
+static u32 w2c_chinese_number_read(module *, u64, u64, u32, u32, u64);
+static u32 w2c_f95(module *, u64, u64, u32, u32, u64);
 
 static u32 w2c_f0(module *m) {
   u32 w2c_l0 = 0;
@@ -6844,8 +6845,8 @@ static void w2c_f11(module *m, u64 w2c_p0, u64 w2c_p1, u64 w2c_p2) {
 }
 
 static u32 w2c_f12(module *m, u64 w2c_p0, u64 w2c_p1) {
-  u32 w2c_l2 = 0, w2c_l3 = 0, w2c_l4 = 0, w2c_l5 = 0, w2c_l6 = 0;
-  u64 w2c_l7 = 0, w2c_l8 = 0;
+  u32 w2c_l2 = 0, w2c_l3 = 0;
+  u64 w2c_l4 = 0, w2c_l5 = 0, w2c_l6 = 0, w2c_l7 = 0;
   u32 w2c_i0, w2c_i1, w2c_i2, w2c_i3, w2c_i4;
   u64 w2c_j0, w2c_j1, w2c_j2, w2c_j3;
   w2c_j0 = m->w2c_g0;
@@ -6859,31 +6860,73 @@ static u32 w2c_f12(module *m, u64 w2c_p0, u64 w2c_p1) {
     w2c_j0 = w2c_p1;
     w2c_j1 = 4ull;
     w2c_i0 = w2c_j0 < w2c_j1;
-    if (w2c_i0) {goto w2c_B7;}
+    if (w2c_i0) {goto w2c_B5;}
     w2c_j0 = w2c_p0;
     w2c_i0 = (u32)(w2c_j0);
     w2c_i0 = i32_load(m, (u64)(w2c_i0));
     w2c_l2 = w2c_i0;
-    w2c_i1 = 16776989u;
+    goto w2c_B4;
+    w2c_B5:;
+    w2c_j0 = w2c_p1;
+    w2c_j1 = 18446744073709551615ull;
+    w2c_j0 += w2c_j1;
+    w2c_l4 = w2c_j0;
+    w2c_j1 = 2ull;
+    w2c_i0 = w2c_j0 > w2c_j1;
+    if (w2c_i0) {goto w2c_B7;}
+    w2c_j0 = w2c_l4;
+    w2c_i0 = (u32)(w2c_j0);
+    switch (w2c_i0) {
+      case 0: goto w2c_B8;
+      case 1: goto w2c_B7;
+      case 2: goto w2c_B6;
+      default: goto w2c_B8;
+    }
+    w2c_B8:;
+    w2c_j0 = w2c_p0;
+    w2c_i0 = (u32)(w2c_j0);
+    w2c_i0 = i32_load8_u(m, (u64)(w2c_i0));
+    w2c_l2 = w2c_i0;
+    goto w2c_B4;
+    w2c_B7:;
+    w2c_j0 = w2c_p0;
+    w2c_i0 = (u32)(w2c_j0);
+    w2c_i0 = i32_load16_u(m, (u64)(w2c_i0));
+    w2c_l2 = w2c_i0;
+    goto w2c_B4;
+    w2c_B6:;
+    w2c_j0 = w2c_p0;
+    w2c_i0 = (u32)(w2c_j0);
+    w2c_i0 = i32_load16_u(m, (u64)(w2c_i0));
+    w2c_j1 = w2c_p0;
+    w2c_j2 = 2ull;
+    w2c_j1 += w2c_j2;
+    w2c_i1 = (u32)(w2c_j1);
+    w2c_i1 = i32_load8_u(m, (u64)(w2c_i1));
+    w2c_i2 = 16u;
+    w2c_i1 <<= (w2c_i2 & 31);
+    w2c_i0 |= w2c_i1;
+    w2c_l2 = w2c_i0;
+    w2c_B4:;
+    w2c_j0 = 3ull;
+    w2c_l4 = w2c_j0;
+    w2c_i0 = w2c_l2;
+    w2c_i1 = 16776990u;
     w2c_i0 += w2c_i1;
     w2c_i1 = 12632312u;
     w2c_i0 &= w2c_i1;
     w2c_i1 = 8421376u;
-    w2c_i0 = w2c_i0 != w2c_i1;
-    if (w2c_i0) {goto w2c_B8;}
-    w2c_j0 = 3ull;
-    w2c_l7 = w2c_j0;
-    goto w2c_B4;
-    w2c_B8:;
+    w2c_i0 = w2c_i0 == w2c_i1;
+    if (w2c_i0) {goto w2c_B9;}
     w2c_i0 = w2c_l2;
     w2c_i1 = 2155905152u;
     w2c_i0 &= w2c_i1;
     w2c_i0 = !(w2c_i0);
-    if (w2c_i0) {goto w2c_B9;}
+    if (w2c_i0) {goto w2c_B12;}
     w2c_i0 = w2c_l2;
     w2c_i1 = 128u;
     w2c_i0 &= w2c_i1;
-    if (w2c_i0) {goto w2c_B6;}
+    if (w2c_i0) {goto w2c_B11;}
     w2c_j0 = 1ull;
     w2c_j1 = 2ull;
     w2c_j2 = 3ull;
@@ -6895,15 +6938,15 @@ static u32 w2c_f12(module *m, u64 w2c_p0, u64 w2c_p1) {
     w2c_i3 = 32768u;
     w2c_i2 &= w2c_i3;
     w2c_j0 = w2c_i2 ? w2c_j0 : w2c_j1;
-    w2c_l7 = w2c_j0;
-    goto w2c_B4;
-    w2c_B9:;
+    w2c_l5 = w2c_j0;
+    goto w2c_B10;
+    w2c_B12:;
     w2c_j0 = 4ull;
-    w2c_l7 = w2c_j0;
+    w2c_l5 = w2c_j0;
     w2c_j0 = w2c_p1;
     w2c_j1 = 8ull;
     w2c_i0 = w2c_j0 < w2c_j1;
-    if (w2c_i0) {goto w2c_B4;}
+    if (w2c_i0) {goto w2c_B10;}
     w2c_j0 = w2c_p0;
     w2c_i0 = (u32)(w2c_j0);
     w2c_j0 = i64_load(m, (u64)(w2c_i0));
@@ -6911,245 +6954,149 @@ static u32 w2c_f12(module *m, u64 w2c_p0, u64 w2c_p1) {
     w2c_j0 &= w2c_j1;
     w2c_j1 = 0ull;
     w2c_i0 = w2c_j0 != w2c_j1;
-    if (w2c_i0) {goto w2c_B4;}
-    w2c_j0 = w2c_p1;
-    w2c_j1 = 16ull;
-    w2c_i0 = w2c_j0 >= w2c_j1;
     if (w2c_i0) {goto w2c_B10;}
-    w2c_j0 = 8ull;
-    w2c_l7 = w2c_j0;
-    goto w2c_B4;
-    w2c_B10:;
-    w2c_j0 = 16ull;
-    w2c_j1 = 8ull;
-    w2c_j2 = w2c_p0;
-    w2c_j3 = 8ull;
-    w2c_j2 += w2c_j3;
-    w2c_i2 = (u32)(w2c_j2);
-    w2c_j2 = i64_load(m, (u64)(w2c_i2));
-    w2c_j3 = 9259542123273814144ull;
-    w2c_j2 &= w2c_j3;
-    w2c_i2 = !(w2c_j2);
-    w2c_j0 = w2c_i2 ? w2c_j0 : w2c_j1;
-    w2c_l7 = w2c_j0;
-    goto w2c_B4;
-    w2c_B7:;
-    w2c_j0 = w2c_p0;
-    w2c_i0 = (u32)(w2c_j0);
-    w2c_i0 = i32_load8_u(m, (u64)(w2c_i0));
-    w2c_l3 = w2c_i0;
-    w2c_i0 = (u32)(s32)(s8)(u8)(w2c_i0);
-    w2c_l2 = w2c_i0;
-    w2c_i1 = 4294967295u;
-    w2c_i0 = (u32)((s32)w2c_i0 <= (s32)w2c_i1);
-    if (w2c_i0) {goto w2c_B11;}
-    w2c_j0 = 1ull;
-    w2c_l7 = w2c_j0;
-    goto w2c_B4;
-    w2c_B11:;
     w2c_j0 = w2c_p1;
-    w2c_j1 = 18446744073709551615ull;
-    w2c_j0 += w2c_j1;
-    w2c_l7 = w2c_j0;
-    w2c_j1 = 2ull;
-    w2c_i0 = w2c_j0 > w2c_j1;
-    if (w2c_i0) {goto w2c_B12;}
-    w2c_i0 = 0u;
-    w2c_l4 = w2c_i0;
-    w2c_i0 = 0u;
-    w2c_l5 = w2c_i0;
-    w2c_j0 = w2c_l7;
-    w2c_i0 = (u32)(w2c_j0);
-    switch (w2c_i0) {
-      case 0: goto w2c_B5;
-      case 1: goto w2c_B12;
-      case 2: goto w2c_B13;
-      default: goto w2c_B5;
-    }
+    w2c_j1 = 24ull;
+    w2c_i0 = w2c_j0 >= w2c_j1;
+    if (w2c_i0) {goto w2c_B13;}
+    w2c_j0 = 8ull;
+    w2c_l4 = w2c_j0;
+    goto w2c_B9;
     w2c_B13:;
-    w2c_j0 = w2c_p0;
-    w2c_j1 = 1ull;
+    w2c_j0 = w2c_p1;
+    w2c_j1 = 18446744073709551600ull;
     w2c_j0 += w2c_j1;
-    w2c_l7 = w2c_j0;
-    w2c_i0 = (u32)(w2c_j0);
-    w2c_i0 = i32_load8_u(m, (u64)(w2c_i0));
-    w2c_i1 = 8u;
-    w2c_i0 <<= (w2c_i1 & 31);
-    w2c_i1 = w2c_l3;
-    w2c_i0 |= w2c_i1;
-    w2c_j1 = w2c_p0;
-    w2c_j2 = 2ull;
-    w2c_j1 += w2c_j2;
-    w2c_l8 = w2c_j1;
-    w2c_i1 = (u32)(w2c_j1);
-    w2c_i1 = i32_load8_u(m, (u64)(w2c_i1));
-    w2c_i2 = 16u;
-    w2c_i1 <<= (w2c_i2 & 31);
-    w2c_i0 |= w2c_i1;
-    w2c_i1 = 16776989u;
-    w2c_i0 += w2c_i1;
-    w2c_i1 = 12632312u;
-    w2c_i0 &= w2c_i1;
-    w2c_i1 = 8421376u;
-    w2c_i0 = w2c_i0 != w2c_i1;
-    if (w2c_i0) {goto w2c_B14;}
-    w2c_j0 = 3ull;
-    w2c_l7 = w2c_j0;
-    goto w2c_B4;
+    w2c_l6 = w2c_j0;
+    w2c_j0 = 8ull;
+    w2c_l4 = w2c_j0;
+    w2c_L15:
+      w2c_j0 = w2c_l6;
+      w2c_j1 = 8ull;
+      w2c_i0 = w2c_j0 < w2c_j1;
+      if (w2c_i0) {goto w2c_B14;}
+      w2c_j0 = w2c_p0;
+      w2c_j1 = w2c_l4;
+      w2c_j0 += w2c_j1;
+      w2c_l7 = w2c_j0;
+      w2c_j1 = 8ull;
+      w2c_j0 += w2c_j1;
+      w2c_i0 = (u32)(w2c_j0);
+      w2c_j0 = i64_load(m, (u64)(w2c_i0));
+      w2c_j1 = w2c_l7;
+      w2c_i1 = (u32)(w2c_j1);
+      w2c_j1 = i64_load(m, (u64)(w2c_i1));
+      w2c_j0 |= w2c_j1;
+      w2c_j1 = 9259542123273814144ull;
+      w2c_j0 &= w2c_j1;
+      w2c_j1 = 0ull;
+      w2c_i0 = w2c_j0 != w2c_j1;
+      if (w2c_i0) {goto w2c_B14;}
+      w2c_j0 = w2c_l4;
+      w2c_j1 = 16ull;
+      w2c_j0 += w2c_j1;
+      w2c_l4 = w2c_j0;
+      w2c_j0 = w2c_l6;
+      w2c_j1 = 18446744073709551608ull;
+      w2c_j0 += w2c_j1;
+      w2c_l7 = w2c_j0;
+      w2c_j0 = w2c_l6;
+      w2c_j1 = 18446744073709551600ull;
+      w2c_j0 += w2c_j1;
+      w2c_l6 = w2c_j0;
+      w2c_j0 = w2c_l7;
+      w2c_j1 = 15ull;
+      w2c_i0 = w2c_j0 > w2c_j1;
+      if (w2c_i0) {goto w2c_L15;}
     w2c_B14:;
-    w2c_j0 = w2c_l8;
-    w2c_i0 = (u32)(w2c_j0);
-    w2c_i0 = i32_load8_s(m, (u64)(w2c_i0));
-    w2c_i1 = 4294967232u;
-    w2c_i0 = (u32)((s32)w2c_i0 < (s32)w2c_i1);
-    w2c_l4 = w2c_i0;
-    w2c_j0 = w2c_l7;
-    w2c_i0 = (u32)(w2c_j0);
-    w2c_i0 = i32_load8_u(m, (u64)(w2c_i0));
-    w2c_l5 = w2c_i0;
-    goto w2c_B5;
-    w2c_B12:;
-    w2c_j0 = w2c_p0;
-    w2c_j1 = 1ull;
-    w2c_j0 += w2c_j1;
-    w2c_i0 = (u32)(w2c_j0);
-    w2c_i0 = i32_load8_u(m, (u64)(w2c_i0));
-    w2c_l5 = w2c_i0;
-    w2c_i0 = 0u;
-    w2c_l4 = w2c_i0;
-    goto w2c_B5;
-    w2c_B6:;
-    w2c_j0 = 1ull;
-    w2c_l7 = w2c_j0;
+    w2c_j0 = w2c_l4;
+    w2c_i0 = !(w2c_j0);
+    if (w2c_i0) {goto w2c_B10;}
+    goto w2c_B9;
+    w2c_B11:;
     w2c_i0 = w2c_l2;
-    w2c_i0 = (u32)(s32)(s8)(u8)(w2c_i0);
-    w2c_l2 = w2c_i0;
-    w2c_i1 = 4294967295u;
-    w2c_i0 = (u32)((s32)w2c_i0 > (s32)w2c_i1);
-    if (w2c_i0) {goto w2c_B4;}
-    w2c_j0 = w2c_p0;
-    w2c_j1 = 2ull;
-    w2c_j0 += w2c_j1;
-    w2c_i0 = (u32)(w2c_j0);
-    w2c_i0 = i32_load8_s(m, (u64)(w2c_i0));
-    w2c_i1 = 4294967232u;
-    w2c_i0 = (u32)((s32)w2c_i0 < (s32)w2c_i1);
-    w2c_l4 = w2c_i0;
-    w2c_j0 = w2c_p0;
-    w2c_j1 = 1ull;
-    w2c_j0 += w2c_j1;
-    w2c_i0 = (u32)(w2c_j0);
-    w2c_i0 = i32_load8_u(m, (u64)(w2c_i0));
-    w2c_l5 = w2c_i0;
-    w2c_B5:;
-    w2c_i0 = w2c_l2;
-    w2c_i1 = 4294967263u;
-    w2c_i0 = w2c_i0 > w2c_i1;
-    if (w2c_i0) {goto w2c_B15;}
-    w2c_i0 = 0u;
-    w2c_l3 = w2c_i0;
-    w2c_i0 = w2c_l2;
-    w2c_i1 = 4294967234u;
-    w2c_i0 = w2c_i0 < w2c_i1;
-    if (w2c_i0) {goto w2c_B1;}
-    w2c_i0 = w2c_l5;
-    w2c_i0 = (u32)(s32)(s8)(u8)(w2c_i0);
-    w2c_i1 = 4294967232u;
-    w2c_i0 = (u32)((s32)w2c_i0 >= (s32)w2c_i1);
-    if (w2c_i0) {goto w2c_B1;}
-    w2c_j0 = 2ull;
-    w2c_l7 = w2c_j0;
-    goto w2c_B4;
-    w2c_B15:;
-    w2c_i0 = w2c_l2;
-    w2c_i1 = 4294967279u;
-    w2c_i0 = w2c_i0 > w2c_i1;
+    w2c_i1 = 224u;
+    w2c_i0 &= w2c_i1;
+    w2c_i1 = 224u;
+    w2c_i0 = w2c_i0 == w2c_i1;
     if (w2c_i0) {goto w2c_B16;}
     w2c_i0 = 0u;
     w2c_l3 = w2c_i0;
-    w2c_i0 = w2c_l5;
-    w2c_i0 = (u32)(s32)(s8)(u8)(w2c_i0);
-    w2c_i1 = 4294967231u;
-    w2c_i0 = (u32)((s32)w2c_i0 > (s32)w2c_i1);
-    w2c_i1 = w2c_l4;
-    w2c_i2 = 1u;
-    w2c_i1 ^= w2c_i2;
-    w2c_i0 |= w2c_i1;
-    if (w2c_i0) {goto w2c_B1;}
     w2c_i0 = w2c_l2;
-    w2c_i1 = 255u;
+    w2c_i1 = 49376u;
     w2c_i0 &= w2c_i1;
-    w2c_i1 = 6u;
-    w2c_i0 <<= (w2c_i1 & 31);
-    w2c_i1 = w2c_l5;
-    w2c_i2 = 255u;
-    w2c_i1 &= w2c_i2;
-    w2c_i0 += w2c_i1;
-    w2c_l2 = w2c_i0;
-    w2c_i1 = 14496u;
-    w2c_i0 = w2c_i0 < w2c_i1;
-    if (w2c_i0) {goto w2c_B1;}
-    w2c_i0 = w2c_l2;
-    w2c_i1 = 32736u;
-    w2c_i0 &= w2c_i1;
-    w2c_i1 = 15328u;
-    w2c_i0 = w2c_i0 == w2c_i1;
-    if (w2c_i0) {goto w2c_B1;}
-    w2c_j0 = 3ull;
-    w2c_l7 = w2c_j0;
-    goto w2c_B4;
-    w2c_B16:;
-    w2c_j0 = 4ull;
-    w2c_l7 = w2c_j0;
-    w2c_i0 = 0u;
-    w2c_l3 = w2c_i0;
-    w2c_i0 = 0u;
-    w2c_l6 = w2c_i0;
-    w2c_j0 = w2c_p1;
-    w2c_j1 = 4ull;
-    w2c_i0 = w2c_j0 < w2c_j1;
-    if (w2c_i0) {goto w2c_B17;}
-    w2c_j0 = w2c_p0;
-    w2c_j1 = 3ull;
-    w2c_j0 += w2c_j1;
-    w2c_i0 = (u32)(w2c_j0);
-    w2c_i0 = i32_load8_s(m, (u64)(w2c_i0));
-    w2c_i1 = 4294967232u;
-    w2c_i0 = (u32)((s32)w2c_i0 < (s32)w2c_i1);
-    w2c_l6 = w2c_i0;
-    w2c_B17:;
-    w2c_i0 = w2c_l4;
-    w2c_i1 = w2c_l5;
-    w2c_i1 = (u32)(s32)(s8)(u8)(w2c_i1);
-    w2c_i2 = 4294967232u;
-    w2c_i1 = (u32)((s32)w2c_i1 < (s32)w2c_i2);
-    w2c_i2 = w2c_l6;
-    w2c_i1 &= w2c_i2;
-    w2c_i0 &= w2c_i1;
-    w2c_i1 = 1u;
+    w2c_i1 = 32960u;
     w2c_i0 = w2c_i0 != w2c_i1;
     if (w2c_i0) {goto w2c_B1;}
     w2c_i0 = w2c_l2;
-    w2c_i1 = 255u;
+    w2c_i1 = 222u;
     w2c_i0 &= w2c_i1;
-    w2c_i1 = 6u;
-    w2c_i0 <<= (w2c_i1 & 31);
-    w2c_i1 = w2c_l5;
-    w2c_i2 = 255u;
+    w2c_i1 = 193u;
+    w2c_i0 = w2c_i0 <= w2c_i1;
+    if (w2c_i0) {goto w2c_B1;}
+    w2c_j0 = 2ull;
+    w2c_l4 = w2c_j0;
+    goto w2c_B9;
+    w2c_B16:;
+    w2c_i0 = w2c_l2;
+    w2c_i1 = 12632304u;
+    w2c_i0 &= w2c_i1;
+    w2c_i1 = 8421600u;
+    w2c_i0 = w2c_i0 != w2c_i1;
+    if (w2c_i0) {goto w2c_B17;}
+    w2c_i0 = w2c_l2;
+    w2c_i1 = 8431u;
+    w2c_i0 &= w2c_i1;
+    w2c_l3 = w2c_i0;
+    w2c_i1 = 8429u;
+    w2c_i0 = w2c_i0 == w2c_i1;
+    if (w2c_i0) {goto w2c_B17;}
+    w2c_i0 = w2c_l3;
+    w2c_i1 = 224u;
+    w2c_i0 = w2c_i0 != w2c_i1;
+    if (w2c_i0) {goto w2c_B9;}
+    w2c_B17:;
+    w2c_i0 = 0u;
+    w2c_l3 = w2c_i0;
+    w2c_i0 = w2c_l2;
+    w2c_i1 = 3233857536u;
+    w2c_i0 &= w2c_i1;
+    w2c_i1 = 2155905024u;
+    w2c_i0 = w2c_i0 != w2c_i1;
+    if (w2c_i0) {goto w2c_B1;}
+    w2c_i0 = w2c_l2;
+    w2c_i1 = 8u;
+    w2c_i0 >>= (w2c_i1 & 31);
+    w2c_i1 = 240u;
+    w2c_i0 &= w2c_i1;
+    w2c_i1 = w2c_l2;
+    w2c_i2 = 6u;
+    w2c_i1 <<= (w2c_i2 & 31);
+    w2c_i2 = 16320u;
     w2c_i1 &= w2c_i2;
     w2c_i0 += w2c_i1;
     w2c_i1 = 4294951792u;
     w2c_i0 += w2c_i1;
-    w2c_i1 = 255u;
-    w2c_i0 = w2c_i0 > w2c_i1;
+    w2c_i1 = 256u;
+    w2c_i0 = w2c_i0 >= w2c_i1;
     if (w2c_i0) {goto w2c_B1;}
-    w2c_B4:;
+    w2c_j0 = 4ull;
+    w2c_l4 = w2c_j0;
+    goto w2c_B9;
+    w2c_B10:;
+    w2c_j0 = w2c_p1;
+    w2c_j1 = w2c_l5;
+    w2c_j2 = w2c_p1;
+    w2c_j3 = w2c_l5;
+    w2c_i2 = w2c_j2 < w2c_j3;
+    w2c_j0 = w2c_i2 ? w2c_j0 : w2c_j1;
+    w2c_l4 = w2c_j0;
+    w2c_B9:;
     w2c_j0 = w2c_p0;
-    w2c_j1 = w2c_l7;
+    w2c_j1 = w2c_l4;
     w2c_j0 += w2c_j1;
     w2c_p0 = w2c_j0;
     w2c_j0 = w2c_p1;
-    w2c_j1 = w2c_l7;
+    w2c_j1 = w2c_l4;
     w2c_j0 -= w2c_j1;
     w2c_p1 = w2c_j0;
     w2c_j1 = 0ull;
@@ -7167,7 +7114,580 @@ static u32 w2c_f12(module *m, u64 w2c_p0, u64 w2c_p1) {
   return w2c_i0;
 }
 
-static u32 w2c_f13(module *m, u64 w2c_p0, u32 w2c_p1, u64 w2c_p2, u64 w2c_p3, u64 w2c_p4, u64 w2c_p5) {
+static u32 w2c_f13(module *m, u64 w2c_p0, u64 w2c_p1, u64 w2c_p2, u64 w2c_p3) {
+  u32 w2c_l7 = 0;
+  u64 w2c_l4 = 0, w2c_l5 = 0, w2c_l6 = 0;
+  u32 w2c_i0, w2c_i1;
+  u64 w2c_j0, w2c_j1, w2c_j2, w2c_j3;
+  w2c_j0 = m->w2c_g0;
+  w2c_j1 = 16ull;
+  w2c_j0 -= w2c_j1;
+  w2c_l4 = w2c_j0;
+  m->w2c_g0 = w2c_j0;
+  w2c_j0 = w2c_l4;
+  w2c_l5 = w2c_j0;
+  w2c_j1 = 16ull;
+  w2c_i0 = (u64)((s64)w2c_j0 < (s64)w2c_j1);
+  if (w2c_i0) {goto w2c_B0;}
+  w2c_j0 = w2c_p2;
+  w2c_j1 = 16ull;
+  w2c_j0 += w2c_j1;
+  w2c_i0 = (u32)(w2c_j0);
+  w2c_j0 = i64_load(m, (u64)(w2c_i0));
+  w2c_l4 = w2c_j0;
+  w2c_j0 = w2c_p2;
+  w2c_j1 = 8ull;
+  w2c_j0 += w2c_j1;
+  w2c_i0 = (u32)(w2c_j0);
+  w2c_j0 = i64_load(m, (u64)(w2c_i0));
+  w2c_l6 = w2c_j0;
+  w2c_j0 = w2c_p2;
+  w2c_i0 = (u32)(w2c_j0);
+  w2c_i0 = i32_load8_u(m, (u64)(w2c_i0));
+  w2c_l7 = w2c_i0;
+  w2c_j0 = w2c_p3;
+  w2c_i0 = (u32)(w2c_j0);
+  w2c_j1 = 0ull;
+  i64_store(m, (u64)(w2c_i0) + 16, w2c_j1);
+  w2c_j0 = w2c_p3;
+  w2c_i0 = (u32)(w2c_j0);
+  w2c_j1 = 0ull;
+  i64_store(m, (u64)(w2c_i0) + 8, w2c_j1);
+  w2c_j0 = w2c_p3;
+  w2c_i0 = (u32)(w2c_j0);
+  w2c_j1 = 0ull;
+  i64_store(m, (u64)(w2c_i0), w2c_j1);
+  w2c_i0 = w2c_l7;
+  if (w2c_i0) {goto w2c_B2;}
+  w2c_j0 = w2c_p3;
+  w2c_i0 = (u32)(w2c_j0);
+  w2c_j1 = w2c_l6;
+  i64_store(m, (u64)(w2c_i0), w2c_j1);
+  w2c_i0 = 0u;
+  w2c_l7 = w2c_i0;
+  goto w2c_B1;
+  w2c_B2:;
+  w2c_j0 = w2c_l6;
+  w2c_j1 = 255ull;
+  w2c_j0 &= w2c_j1;
+  w2c_i0 = !(w2c_j0);
+  w2c_i0 = !(w2c_i0);
+  if (w2c_i0) {goto w2c_B3;}
+  w2c_i0 = 9u;
+  w2c_l7 = w2c_i0;
+  goto w2c_B1;
+  w2c_B3:;
+  w2c_j0 = w2c_p3;
+  w2c_i0 = (u32)(w2c_j0);
+  w2c_j1 = w2c_l4;
+  i64_store(m, (u64)(w2c_i0) + 8, w2c_j1);
+  w2c_j0 = 0ull;
+  w2c_p2 = w2c_j0;
+  w2c_j0 = w2c_l4;
+  w2c_j1 = 16ull;
+  w2c_i0 = w2c_j0 < w2c_j1;
+  if (w2c_i0) {goto w2c_B4;}
+  w2c_j0 = w2c_l5;
+  w2c_j1 = w2c_p0;
+  w2c_j2 = w2c_p1;
+  w2c_j3 = w2c_l4;
+  w2c_f14(m, w2c_j0, w2c_j1, w2c_j2, w2c_j3);
+  w2c_j0 = w2c_l5;
+  w2c_i0 = (u32)(w2c_j0);
+  w2c_j0 = i64_load(m, (u64)(w2c_i0) + 8u);
+  w2c_l4 = w2c_j0;
+  w2c_j0 = w2c_l5;
+  w2c_i0 = (u32)(w2c_j0);
+  w2c_j0 = i64_load(m, (u64)(w2c_i0));
+  w2c_p2 = w2c_j0;
+  w2c_B4:;
+  w2c_j0 = w2c_l4;
+  w2c_j1 = 3ull;
+  w2c_i0 = w2c_j0 < w2c_j1;
+  if (w2c_i0) {goto w2c_B5;}
+  w2c_L6:
+    w2c_j0 = w2c_p1;
+    w2c_j1 = w2c_p2;
+    w2c_j0 -= w2c_j1;
+    w2c_j1 = 8ull;
+    w2c_i0 = w2c_j0 < w2c_j1;
+    if (w2c_i0) {goto w2c_B5;}
+    w2c_j0 = w2c_p0;
+    w2c_j1 = w2c_p2;
+    w2c_j0 += w2c_j1;
+    w2c_i0 = (u32)(w2c_j0);
+    w2c_j0 = i64_load(m, (u64)(w2c_i0));
+    w2c_l6 = w2c_j0;
+    w2c_j1 = 67553998437089520ull;
+    w2c_j0 &= w2c_j1;
+    w2c_j1 = 63050398541283552ull;
+    w2c_i0 = w2c_j0 != w2c_j1;
+    if (w2c_i0) {goto w2c_B8;}
+    w2c_j0 = w2c_l4;
+    w2c_j1 = 18446744073709551613ull;
+    w2c_j0 += w2c_j1;
+    w2c_l4 = w2c_j0;
+    w2c_j0 = w2c_p2;
+    w2c_j1 = 9ull;
+    w2c_j0 += w2c_j1;
+    w2c_p2 = w2c_j0;
+    goto w2c_B7;
+    w2c_B8:;
+    w2c_j0 = w2c_l4;
+    w2c_j1 = 8ull;
+    w2c_i0 = w2c_j0 < w2c_j1;
+    if (w2c_i0) {goto w2c_B5;}
+    w2c_j0 = w2c_l6;
+    w2c_j1 = 9259542123273814144ull;
+    w2c_j0 &= w2c_j1;
+    w2c_j1 = 0ull;
+    w2c_i0 = w2c_j0 != w2c_j1;
+    if (w2c_i0) {goto w2c_B5;}
+    w2c_j0 = w2c_l4;
+    w2c_j1 = 18446744073709551608ull;
+    w2c_j0 += w2c_j1;
+    w2c_l4 = w2c_j0;
+    w2c_j0 = w2c_p2;
+    w2c_j1 = 8ull;
+    w2c_j0 += w2c_j1;
+    w2c_p2 = w2c_j0;
+    w2c_B7:;
+    w2c_j0 = w2c_l4;
+    w2c_j1 = 2ull;
+    w2c_i0 = w2c_j0 > w2c_j1;
+    if (w2c_i0) {goto w2c_L6;}
+  w2c_B5:;
+  w2c_j0 = w2c_l4;
+  w2c_i0 = !(w2c_j0);
+  if (w2c_i0) {goto w2c_B9;}
+  w2c_j0 = w2c_p1;
+  w2c_j1 = w2c_p2;
+  w2c_i0 = w2c_j0 <= w2c_j1;
+  if (w2c_i0) {goto w2c_B9;}
+  w2c_j0 = w2c_l4;
+  w2c_j1 = 18446744073709551615ull;
+  w2c_j0 += w2c_j1;
+  w2c_l4 = w2c_j0;
+  w2c_L10:
+    w2c_j0 = w2c_p0;
+    w2c_j1 = w2c_p2;
+    w2c_j0 += w2c_j1;
+    w2c_i0 = (u32)(w2c_j0);
+    w2c_i0 = i32_load8_u(m, (u64)(w2c_i0));
+    w2c_i1 = 1u;
+    w2c_i0 >>= (w2c_i1 & 31);
+    w2c_j0 = (u64)(w2c_i0);
+    w2c_j1 = 120ull;
+    w2c_j0 &= w2c_j1;
+    w2c_j1 = 66848ull;
+    w2c_j0 += w2c_j1;
+    w2c_i0 = (u32)(w2c_j0);
+    w2c_j0 = i64_load(m, (u64)(w2c_i0));
+    w2c_j1 = w2c_p2;
+    w2c_j0 += w2c_j1;
+    w2c_p2 = w2c_j0;
+    w2c_j0 = w2c_l4;
+    w2c_i0 = !(w2c_j0);
+    if (w2c_i0) {goto w2c_B9;}
+    w2c_j0 = w2c_l4;
+    w2c_j1 = 18446744073709551615ull;
+    w2c_j0 += w2c_j1;
+    w2c_l4 = w2c_j0;
+    w2c_j0 = w2c_p1;
+    w2c_j1 = w2c_p2;
+    w2c_i0 = w2c_j0 > w2c_j1;
+    if (w2c_i0) {goto w2c_L10;}
+  w2c_B9:;
+  w2c_j0 = w2c_p3;
+  w2c_i0 = (u32)(w2c_j0);
+  w2c_j1 = w2c_p2;
+  i64_store(m, (u64)(w2c_i0) + 16, w2c_j1);
+  w2c_i0 = 2u;
+  w2c_l7 = w2c_i0;
+  w2c_B1:;
+  w2c_j0 = w2c_l5;
+  w2c_j1 = 16ull;
+  w2c_j0 += w2c_j1;
+  m->w2c_g0 = w2c_j0;
+  w2c_i0 = w2c_l7;
+  goto w2c_Bfunc;
+  w2c_B0:;
+  UNREACHABLE;
+  w2c_Bfunc:;
+  return w2c_i0;
+}
+
+static void w2c_f14(module *m, u64 w2c_p0, u64 w2c_p1, u64 w2c_p2, u64 w2c_p3) {
+  u64 w2c_l4 = 0, w2c_l5 = 0, w2c_l6 = 0, w2c_l7 = 0;
+  u32 w2c_i0, w2c_i1, w2c_i2, w2c_i3;
+  u64 w2c_j0, w2c_j1, w2c_j2, w2c_j3;
+  w2c_j0 = m->w2c_g0;
+  w2c_j1 = 16ull;
+  w2c_i0 = (u64)((s64)w2c_j0 < (s64)w2c_j1);
+  if (w2c_i0) {goto w2c_B0;}
+  w2c_j0 = 0ull;
+  w2c_l4 = w2c_j0;
+  w2c_j0 = w2c_p2;
+  w2c_j1 = 32ull;
+  w2c_i0 = w2c_j0 < w2c_j1;
+  if (w2c_i0) {goto w2c_B1;}
+  w2c_j0 = w2c_p2;
+  w2c_j1 = 18446744073709551584ull;
+  w2c_j0 &= w2c_j1;
+  w2c_l5 = w2c_j0;
+  w2c_j0 = 0ull;
+  w2c_l4 = w2c_j0;
+  w2c_j0 = w2c_p2;
+  w2c_l6 = w2c_j0;
+  w2c_L2:
+    w2c_j0 = w2c_p3;
+    w2c_j1 = w2c_p1;
+    w2c_j2 = w2c_l4;
+    w2c_j1 += w2c_j2;
+    w2c_l7 = w2c_j1;
+    w2c_i1 = (u32)(w2c_j1);
+    w2c_i1 = i32_load8_s(m, (u64)(w2c_i1));
+    w2c_i2 = 4294967231u;
+    w2c_i1 = (u32)((s32)w2c_i1 > (s32)w2c_i2);
+    w2c_j1 = (u64)(w2c_i1);
+    w2c_j2 = w2c_l7;
+    w2c_j3 = 1ull;
+    w2c_j2 += w2c_j3;
+    w2c_i2 = (u32)(w2c_j2);
+    w2c_i2 = i32_load8_s(m, (u64)(w2c_i2));
+    w2c_i3 = 4294967231u;
+    w2c_i2 = (u32)((s32)w2c_i2 > (s32)w2c_i3);
+    w2c_j2 = (u64)(w2c_i2);
+    w2c_j1 += w2c_j2;
+    w2c_j2 = w2c_l7;
+    w2c_j3 = 2ull;
+    w2c_j2 += w2c_j3;
+    w2c_i2 = (u32)(w2c_j2);
+    w2c_i2 = i32_load8_s(m, (u64)(w2c_i2));
+    w2c_i3 = 4294967231u;
+    w2c_i2 = (u32)((s32)w2c_i2 > (s32)w2c_i3);
+    w2c_j2 = (u64)(w2c_i2);
+    w2c_j1 += w2c_j2;
+    w2c_j2 = w2c_l7;
+    w2c_j3 = 3ull;
+    w2c_j2 += w2c_j3;
+    w2c_i2 = (u32)(w2c_j2);
+    w2c_i2 = i32_load8_s(m, (u64)(w2c_i2));
+    w2c_i3 = 4294967231u;
+    w2c_i2 = (u32)((s32)w2c_i2 > (s32)w2c_i3);
+    w2c_j2 = (u64)(w2c_i2);
+    w2c_j1 += w2c_j2;
+    w2c_j2 = w2c_l7;
+    w2c_j3 = 4ull;
+    w2c_j2 += w2c_j3;
+    w2c_i2 = (u32)(w2c_j2);
+    w2c_i2 = i32_load8_s(m, (u64)(w2c_i2));
+    w2c_i3 = 4294967231u;
+    w2c_i2 = (u32)((s32)w2c_i2 > (s32)w2c_i3);
+    w2c_j2 = (u64)(w2c_i2);
+    w2c_j1 += w2c_j2;
+    w2c_j2 = w2c_l7;
+    w2c_j3 = 5ull;
+    w2c_j2 += w2c_j3;
+    w2c_i2 = (u32)(w2c_j2);
+    w2c_i2 = i32_load8_s(m, (u64)(w2c_i2));
+    w2c_i3 = 4294967231u;
+    w2c_i2 = (u32)((s32)w2c_i2 > (s32)w2c_i3);
+    w2c_j2 = (u64)(w2c_i2);
+    w2c_j1 += w2c_j2;
+    w2c_j2 = w2c_l7;
+    w2c_j3 = 6ull;
+    w2c_j2 += w2c_j3;
+    w2c_i2 = (u32)(w2c_j2);
+    w2c_i2 = i32_load8_s(m, (u64)(w2c_i2));
+    w2c_i3 = 4294967231u;
+    w2c_i2 = (u32)((s32)w2c_i2 > (s32)w2c_i3);
+    w2c_j2 = (u64)(w2c_i2);
+    w2c_j1 += w2c_j2;
+    w2c_j2 = w2c_l7;
+    w2c_j3 = 7ull;
+    w2c_j2 += w2c_j3;
+    w2c_i2 = (u32)(w2c_j2);
+    w2c_i2 = i32_load8_s(m, (u64)(w2c_i2));
+    w2c_i3 = 4294967231u;
+    w2c_i2 = (u32)((s32)w2c_i2 > (s32)w2c_i3);
+    w2c_j2 = (u64)(w2c_i2);
+    w2c_j1 += w2c_j2;
+    w2c_j2 = w2c_l7;
+    w2c_j3 = 8ull;
+    w2c_j2 += w2c_j3;
+    w2c_i2 = (u32)(w2c_j2);
+    w2c_i2 = i32_load8_s(m, (u64)(w2c_i2));
+    w2c_i3 = 4294967231u;
+    w2c_i2 = (u32)((s32)w2c_i2 > (s32)w2c_i3);
+    w2c_j2 = (u64)(w2c_i2);
+    w2c_j1 += w2c_j2;
+    w2c_j2 = w2c_l7;
+    w2c_j3 = 9ull;
+    w2c_j2 += w2c_j3;
+    w2c_i2 = (u32)(w2c_j2);
+    w2c_i2 = i32_load8_s(m, (u64)(w2c_i2));
+    w2c_i3 = 4294967231u;
+    w2c_i2 = (u32)((s32)w2c_i2 > (s32)w2c_i3);
+    w2c_j2 = (u64)(w2c_i2);
+    w2c_j1 += w2c_j2;
+    w2c_j2 = w2c_l7;
+    w2c_j3 = 10ull;
+    w2c_j2 += w2c_j3;
+    w2c_i2 = (u32)(w2c_j2);
+    w2c_i2 = i32_load8_s(m, (u64)(w2c_i2));
+    w2c_i3 = 4294967231u;
+    w2c_i2 = (u32)((s32)w2c_i2 > (s32)w2c_i3);
+    w2c_j2 = (u64)(w2c_i2);
+    w2c_j1 += w2c_j2;
+    w2c_j2 = w2c_l7;
+    w2c_j3 = 11ull;
+    w2c_j2 += w2c_j3;
+    w2c_i2 = (u32)(w2c_j2);
+    w2c_i2 = i32_load8_s(m, (u64)(w2c_i2));
+    w2c_i3 = 4294967231u;
+    w2c_i2 = (u32)((s32)w2c_i2 > (s32)w2c_i3);
+    w2c_j2 = (u64)(w2c_i2);
+    w2c_j1 += w2c_j2;
+    w2c_j2 = w2c_l7;
+    w2c_j3 = 12ull;
+    w2c_j2 += w2c_j3;
+    w2c_i2 = (u32)(w2c_j2);
+    w2c_i2 = i32_load8_s(m, (u64)(w2c_i2));
+    w2c_i3 = 4294967231u;
+    w2c_i2 = (u32)((s32)w2c_i2 > (s32)w2c_i3);
+    w2c_j2 = (u64)(w2c_i2);
+    w2c_j1 += w2c_j2;
+    w2c_j2 = w2c_l7;
+    w2c_j3 = 13ull;
+    w2c_j2 += w2c_j3;
+    w2c_i2 = (u32)(w2c_j2);
+    w2c_i2 = i32_load8_s(m, (u64)(w2c_i2));
+    w2c_i3 = 4294967231u;
+    w2c_i2 = (u32)((s32)w2c_i2 > (s32)w2c_i3);
+    w2c_j2 = (u64)(w2c_i2);
+    w2c_j1 += w2c_j2;
+    w2c_j2 = w2c_l7;
+    w2c_j3 = 14ull;
+    w2c_j2 += w2c_j3;
+    w2c_i2 = (u32)(w2c_j2);
+    w2c_i2 = i32_load8_s(m, (u64)(w2c_i2));
+    w2c_i3 = 4294967231u;
+    w2c_i2 = (u32)((s32)w2c_i2 > (s32)w2c_i3);
+    w2c_j2 = (u64)(w2c_i2);
+    w2c_j1 += w2c_j2;
+    w2c_j2 = w2c_l7;
+    w2c_j3 = 15ull;
+    w2c_j2 += w2c_j3;
+    w2c_i2 = (u32)(w2c_j2);
+    w2c_i2 = i32_load8_s(m, (u64)(w2c_i2));
+    w2c_i3 = 4294967231u;
+    w2c_i2 = (u32)((s32)w2c_i2 > (s32)w2c_i3);
+    w2c_j2 = (u64)(w2c_i2);
+    w2c_j1 += w2c_j2;
+    w2c_j2 = w2c_l7;
+    w2c_j3 = 16ull;
+    w2c_j2 += w2c_j3;
+    w2c_i2 = (u32)(w2c_j2);
+    w2c_i2 = i32_load8_s(m, (u64)(w2c_i2));
+    w2c_i3 = 4294967231u;
+    w2c_i2 = (u32)((s32)w2c_i2 > (s32)w2c_i3);
+    w2c_j2 = (u64)(w2c_i2);
+    w2c_j1 += w2c_j2;
+    w2c_j2 = w2c_l7;
+    w2c_j3 = 17ull;
+    w2c_j2 += w2c_j3;
+    w2c_i2 = (u32)(w2c_j2);
+    w2c_i2 = i32_load8_s(m, (u64)(w2c_i2));
+    w2c_i3 = 4294967231u;
+    w2c_i2 = (u32)((s32)w2c_i2 > (s32)w2c_i3);
+    w2c_j2 = (u64)(w2c_i2);
+    w2c_j1 += w2c_j2;
+    w2c_j2 = w2c_l7;
+    w2c_j3 = 18ull;
+    w2c_j2 += w2c_j3;
+    w2c_i2 = (u32)(w2c_j2);
+    w2c_i2 = i32_load8_s(m, (u64)(w2c_i2));
+    w2c_i3 = 4294967231u;
+    w2c_i2 = (u32)((s32)w2c_i2 > (s32)w2c_i3);
+    w2c_j2 = (u64)(w2c_i2);
+    w2c_j1 += w2c_j2;
+    w2c_j2 = w2c_l7;
+    w2c_j3 = 19ull;
+    w2c_j2 += w2c_j3;
+    w2c_i2 = (u32)(w2c_j2);
+    w2c_i2 = i32_load8_s(m, (u64)(w2c_i2));
+    w2c_i3 = 4294967231u;
+    w2c_i2 = (u32)((s32)w2c_i2 > (s32)w2c_i3);
+    w2c_j2 = (u64)(w2c_i2);
+    w2c_j1 += w2c_j2;
+    w2c_j2 = w2c_l7;
+    w2c_j3 = 20ull;
+    w2c_j2 += w2c_j3;
+    w2c_i2 = (u32)(w2c_j2);
+    w2c_i2 = i32_load8_s(m, (u64)(w2c_i2));
+    w2c_i3 = 4294967231u;
+    w2c_i2 = (u32)((s32)w2c_i2 > (s32)w2c_i3);
+    w2c_j2 = (u64)(w2c_i2);
+    w2c_j1 += w2c_j2;
+    w2c_j2 = w2c_l7;
+    w2c_j3 = 21ull;
+    w2c_j2 += w2c_j3;
+    w2c_i2 = (u32)(w2c_j2);
+    w2c_i2 = i32_load8_s(m, (u64)(w2c_i2));
+    w2c_i3 = 4294967231u;
+    w2c_i2 = (u32)((s32)w2c_i2 > (s32)w2c_i3);
+    w2c_j2 = (u64)(w2c_i2);
+    w2c_j1 += w2c_j2;
+    w2c_j2 = w2c_l7;
+    w2c_j3 = 22ull;
+    w2c_j2 += w2c_j3;
+    w2c_i2 = (u32)(w2c_j2);
+    w2c_i2 = i32_load8_s(m, (u64)(w2c_i2));
+    w2c_i3 = 4294967231u;
+    w2c_i2 = (u32)((s32)w2c_i2 > (s32)w2c_i3);
+    w2c_j2 = (u64)(w2c_i2);
+    w2c_j1 += w2c_j2;
+    w2c_j2 = w2c_l7;
+    w2c_j3 = 23ull;
+    w2c_j2 += w2c_j3;
+    w2c_i2 = (u32)(w2c_j2);
+    w2c_i2 = i32_load8_s(m, (u64)(w2c_i2));
+    w2c_i3 = 4294967231u;
+    w2c_i2 = (u32)((s32)w2c_i2 > (s32)w2c_i3);
+    w2c_j2 = (u64)(w2c_i2);
+    w2c_j1 += w2c_j2;
+    w2c_j2 = w2c_l7;
+    w2c_j3 = 24ull;
+    w2c_j2 += w2c_j3;
+    w2c_i2 = (u32)(w2c_j2);
+    w2c_i2 = i32_load8_s(m, (u64)(w2c_i2));
+    w2c_i3 = 4294967231u;
+    w2c_i2 = (u32)((s32)w2c_i2 > (s32)w2c_i3);
+    w2c_j2 = (u64)(w2c_i2);
+    w2c_j1 += w2c_j2;
+    w2c_j2 = w2c_l7;
+    w2c_j3 = 25ull;
+    w2c_j2 += w2c_j3;
+    w2c_i2 = (u32)(w2c_j2);
+    w2c_i2 = i32_load8_s(m, (u64)(w2c_i2));
+    w2c_i3 = 4294967231u;
+    w2c_i2 = (u32)((s32)w2c_i2 > (s32)w2c_i3);
+    w2c_j2 = (u64)(w2c_i2);
+    w2c_j1 += w2c_j2;
+    w2c_j2 = w2c_l7;
+    w2c_j3 = 26ull;
+    w2c_j2 += w2c_j3;
+    w2c_i2 = (u32)(w2c_j2);
+    w2c_i2 = i32_load8_s(m, (u64)(w2c_i2));
+    w2c_i3 = 4294967231u;
+    w2c_i2 = (u32)((s32)w2c_i2 > (s32)w2c_i3);
+    w2c_j2 = (u64)(w2c_i2);
+    w2c_j1 += w2c_j2;
+    w2c_j2 = w2c_l7;
+    w2c_j3 = 27ull;
+    w2c_j2 += w2c_j3;
+    w2c_i2 = (u32)(w2c_j2);
+    w2c_i2 = i32_load8_s(m, (u64)(w2c_i2));
+    w2c_i3 = 4294967231u;
+    w2c_i2 = (u32)((s32)w2c_i2 > (s32)w2c_i3);
+    w2c_j2 = (u64)(w2c_i2);
+    w2c_j1 += w2c_j2;
+    w2c_j2 = w2c_l7;
+    w2c_j3 = 28ull;
+    w2c_j2 += w2c_j3;
+    w2c_i2 = (u32)(w2c_j2);
+    w2c_i2 = i32_load8_s(m, (u64)(w2c_i2));
+    w2c_i3 = 4294967231u;
+    w2c_i2 = (u32)((s32)w2c_i2 > (s32)w2c_i3);
+    w2c_j2 = (u64)(w2c_i2);
+    w2c_j1 += w2c_j2;
+    w2c_j2 = w2c_l7;
+    w2c_j3 = 29ull;
+    w2c_j2 += w2c_j3;
+    w2c_i2 = (u32)(w2c_j2);
+    w2c_i2 = i32_load8_s(m, (u64)(w2c_i2));
+    w2c_i3 = 4294967231u;
+    w2c_i2 = (u32)((s32)w2c_i2 > (s32)w2c_i3);
+    w2c_j2 = (u64)(w2c_i2);
+    w2c_j1 += w2c_j2;
+    w2c_j2 = w2c_l7;
+    w2c_j3 = 30ull;
+    w2c_j2 += w2c_j3;
+    w2c_i2 = (u32)(w2c_j2);
+    w2c_i2 = i32_load8_s(m, (u64)(w2c_i2));
+    w2c_i3 = 4294967231u;
+    w2c_i2 = (u32)((s32)w2c_i2 > (s32)w2c_i3);
+    w2c_j2 = (u64)(w2c_i2);
+    w2c_j1 += w2c_j2;
+    w2c_j2 = w2c_l7;
+    w2c_j3 = 31ull;
+    w2c_j2 += w2c_j3;
+    w2c_i2 = (u32)(w2c_j2);
+    w2c_i2 = i32_load8_s(m, (u64)(w2c_i2));
+    w2c_i3 = 4294967231u;
+    w2c_i2 = (u32)((s32)w2c_i2 > (s32)w2c_i3);
+    w2c_j2 = (u64)(w2c_i2);
+    w2c_j1 += w2c_j2;
+    w2c_l7 = w2c_j1;
+    w2c_i0 = w2c_j0 < w2c_j1;
+    if (w2c_i0) {goto w2c_B1;}
+    w2c_j0 = w2c_l4;
+    w2c_j1 = 32ull;
+    w2c_j0 += w2c_j1;
+    w2c_l4 = w2c_j0;
+    w2c_j0 = w2c_p3;
+    w2c_j1 = w2c_l7;
+    w2c_j0 -= w2c_j1;
+    w2c_p3 = w2c_j0;
+    w2c_j0 = w2c_l6;
+    w2c_j1 = 18446744073709551584ull;
+    w2c_j0 += w2c_j1;
+    w2c_l6 = w2c_j0;
+    w2c_j1 = 31ull;
+    w2c_i0 = w2c_j0 > w2c_j1;
+    if (w2c_i0) {goto w2c_L2;}
+  w2c_j0 = w2c_l5;
+  w2c_l4 = w2c_j0;
+  w2c_B1:;
+  w2c_j0 = w2c_l4;
+  w2c_j1 = w2c_p2;
+  w2c_i0 = w2c_j0 >= w2c_j1;
+  if (w2c_i0) {goto w2c_B3;}
+  w2c_L4:
+    w2c_j0 = w2c_p1;
+    w2c_j1 = w2c_l4;
+    w2c_j0 += w2c_j1;
+    w2c_i0 = (u32)(w2c_j0);
+    w2c_i0 = i32_load8_s(m, (u64)(w2c_i0));
+    w2c_i1 = 4294967231u;
+    w2c_i0 = (u32)((s32)w2c_i0 > (s32)w2c_i1);
+    if (w2c_i0) {goto w2c_B3;}
+    w2c_j0 = w2c_p2;
+    w2c_j1 = w2c_l4;
+    w2c_j2 = 1ull;
+    w2c_j1 += w2c_j2;
+    w2c_l4 = w2c_j1;
+    w2c_i0 = w2c_j0 != w2c_j1;
+    if (w2c_i0) {goto w2c_L4;}
+  w2c_j0 = w2c_p2;
+  w2c_l4 = w2c_j0;
+  w2c_B3:;
+  w2c_j0 = w2c_p0;
+  w2c_i0 = (u32)(w2c_j0);
+  w2c_j1 = w2c_p3;
+  i64_store(m, (u64)(w2c_i0) + 8, w2c_j1);
+  w2c_j0 = w2c_p0;
+  w2c_i0 = (u32)(w2c_j0);
+  w2c_j1 = w2c_l4;
+  i64_store(m, (u64)(w2c_i0), w2c_j1);
+  goto w2c_Bfunc;
+  w2c_B0:;
+  UNREACHABLE;
+  w2c_Bfunc:;
+}
+
+static u32 w2c_f15(module *m, u64 w2c_p0, u32 w2c_p1, u64 w2c_p2, u64 w2c_p3, u64 w2c_p4, u64 w2c_p5) {
   u32 w2c_l7 = 0, w2c_l8 = 0;
   u64 w2c_l6 = 0;
   u32 w2c_i0, w2c_i1, w2c_i2, w2c_i3;
@@ -7290,7 +7810,7 @@ static u32 w2c_f13(module *m, u64 w2c_p0, u32 w2c_p1, u64 w2c_p2, u64 w2c_p3, u6
   return w2c_i0;
 }
 
-static void w2c_f14(module *m, u64 w2c_p0, u64 w2c_p1, u64 w2c_p2) {
+static void w2c_f16(module *m, u64 w2c_p0, u64 w2c_p1, u64 w2c_p2) {
   u32 w2c_l9 = 0, w2c_l10 = 0, w2c_l11 = 0, w2c_l12 = 0, w2c_l13 = 0, w2c_l14 = 0;
   u64 w2c_l3 = 0, w2c_l4 = 0, w2c_l5 = 0, w2c_l6 = 0, w2c_l7 = 0, w2c_l8 = 0;
   u32 w2c_i0, w2c_i1, w2c_i2, w2c_i3, w2c_i4;
@@ -7901,9 +8421,9 @@ static void w2c_f14(module *m, u64 w2c_p0, u64 w2c_p1, u64 w2c_p2) {
   w2c_Bfunc:;
 }
 
-static u32 w2c_f15(module *m, u64 w2c_p0, u64 w2c_p1, u64 w2c_p2, u32 w2c_p3, u32 w2c_p4, u64 w2c_p5, u64 w2c_p6, u64 w2c_p7) {
-  u32 w2c_l13 = 0, w2c_l14 = 0, w2c_l15 = 0, w2c_l16 = 0;
-  u64 w2c_l8 = 0, w2c_l9 = 0, w2c_l10 = 0, w2c_l11 = 0, w2c_l12 = 0;
+static u32 w2c_f17(module *m, u64 w2c_p0, u64 w2c_p1, u64 w2c_p2, u32 w2c_p3, u32 w2c_p4, u64 w2c_p5, u64 w2c_p6, u64 w2c_p7) {
+  u32 w2c_l15 = 0, w2c_l16 = 0;
+  u64 w2c_l8 = 0, w2c_l9 = 0, w2c_l10 = 0, w2c_l11 = 0, w2c_l12 = 0, w2c_l13 = 0, w2c_l14 = 0;
   u32 w2c_i0, w2c_i1, w2c_i2, w2c_i3, w2c_i4;
   u64 w2c_j0, w2c_j1, w2c_j2, w2c_j3, w2c_j5, w2c_j6, w2c_j7;
   w2c_j0 = m->w2c_g0;
@@ -7918,22 +8438,22 @@ static u32 w2c_f15(module *m, u64 w2c_p0, u64 w2c_p1, u64 w2c_p2, u32 w2c_p3, u3
   w2c_j0 = w2c_p1;
   w2c_j1 = 4ull;
   w2c_i0 = w2c_j0 < w2c_j1;
-  if (w2c_i0) {goto w2c_B5;}
+  if (w2c_i0) {goto w2c_B4;}
   w2c_j0 = w2c_p0;
   w2c_l10 = w2c_j0;
   w2c_j0 = w2c_p1;
   w2c_l9 = w2c_j0;
-  w2c_L6:
+  w2c_L5:
     w2c_j0 = w2c_l10;
     w2c_i0 = (u32)(w2c_j0);
     w2c_i0 = i32_load(m, (u64)(w2c_i0));
-    w2c_i1 = 16776989u;
+    w2c_i1 = 16776990u;
     w2c_i0 += w2c_i1;
     w2c_i1 = 12632312u;
     w2c_i0 &= w2c_i1;
     w2c_i1 = 8421376u;
     w2c_i0 = w2c_i0 != w2c_i1;
-    if (w2c_i0) {goto w2c_B4;}
+    if (w2c_i0) {goto w2c_B3;}
     w2c_j0 = w2c_l10;
     w2c_j1 = 3ull;
     w2c_j0 += w2c_j1;
@@ -7944,22 +8464,22 @@ static u32 w2c_f15(module *m, u64 w2c_p0, u64 w2c_p1, u64 w2c_p2, u32 w2c_p3, u3
     w2c_l9 = w2c_j0;
     w2c_j1 = 3ull;
     w2c_i0 = w2c_j0 > w2c_j1;
-    if (w2c_i0) {goto w2c_L6;}
-  w2c_B5:;
+    if (w2c_i0) {goto w2c_L5;}
+  w2c_B4:;
   w2c_j0 = w2c_l9;
   w2c_j1 = 3ull;
   w2c_i0 = w2c_j0 > w2c_j1;
-  if (w2c_i0) {goto w2c_B4;}
+  if (w2c_i0) {goto w2c_B3;}
   w2c_j0 = w2c_l9;
   w2c_i0 = (u32)(w2c_j0);
   switch (w2c_i0) {
-    case 0: goto w2c_B2;
-    case 1: goto w2c_B4;
-    case 2: goto w2c_B4;
-    case 3: goto w2c_B7;
-    default: goto w2c_B2;
+    case 0: goto w2c_B1;
+    case 1: goto w2c_B3;
+    case 2: goto w2c_B3;
+    case 3: goto w2c_B6;
+    default: goto w2c_B1;
   }
-  w2c_B7:;
+  w2c_B6:;
   w2c_j0 = w2c_l10;
   w2c_i0 = (u32)(w2c_j0);
   w2c_i0 = i32_load16_u(m, (u64)(w2c_i0));
@@ -7971,322 +8491,279 @@ static u32 w2c_f15(module *m, u64 w2c_p0, u64 w2c_p1, u64 w2c_p2, u32 w2c_p3, u3
   w2c_i2 = 16u;
   w2c_i1 <<= (w2c_i2 & 31);
   w2c_i0 |= w2c_i1;
-  w2c_i1 = 16776989u;
+  w2c_i1 = 16776990u;
   w2c_i0 += w2c_i1;
   w2c_i1 = 12632312u;
   w2c_i0 &= w2c_i1;
   w2c_i1 = 8421376u;
   w2c_i0 = w2c_i0 == w2c_i1;
-  if (w2c_i0) {goto w2c_B2;}
+  if (w2c_i0) {goto w2c_B1;}
   w2c_j0 = w2c_p1;
   w2c_i0 = !(w2c_j0);
   w2c_i0 = !(w2c_i0);
-  if (w2c_i0) {goto w2c_B3;}
-  goto w2c_B2;
-  w2c_B4:;
+  if (w2c_i0) {goto w2c_B2;}
+  goto w2c_B1;
+  w2c_B3:;
   w2c_j0 = w2c_p1;
   w2c_i0 = !(w2c_j0);
-  if (w2c_i0) {goto w2c_B2;}
-  w2c_B3:;
+  if (w2c_i0) {goto w2c_B1;}
+  w2c_B2:;
   w2c_j0 = w2c_p0;
-  w2c_l9 = w2c_j0;
+  w2c_l11 = w2c_j0;
   w2c_j0 = w2c_p1;
   w2c_l10 = w2c_j0;
-  w2c_L8:
+  w2c_L7:
     w2c_j0 = w2c_l10;
     w2c_j1 = 4ull;
     w2c_i0 = w2c_j0 < w2c_j1;
-    if (w2c_i0) {goto w2c_B12;}
-    w2c_j0 = w2c_l9;
+    if (w2c_i0) {goto w2c_B9;}
+    w2c_j0 = w2c_l11;
     w2c_i0 = (u32)(w2c_j0);
     w2c_i0 = i32_load(m, (u64)(w2c_i0));
-    w2c_l13 = w2c_i0;
-    w2c_i1 = 16776989u;
+    w2c_l15 = w2c_i0;
+    goto w2c_B8;
+    w2c_B9:;
+    w2c_j0 = w2c_l10;
+    w2c_j1 = 18446744073709551615ull;
+    w2c_j0 += w2c_j1;
+    w2c_l9 = w2c_j0;
+    w2c_j1 = 2ull;
+    w2c_i0 = w2c_j0 > w2c_j1;
+    if (w2c_i0) {goto w2c_B11;}
+    w2c_j0 = w2c_l9;
+    w2c_i0 = (u32)(w2c_j0);
+    switch (w2c_i0) {
+      case 0: goto w2c_B12;
+      case 1: goto w2c_B11;
+      case 2: goto w2c_B10;
+      default: goto w2c_B12;
+    }
+    w2c_B12:;
+    w2c_j0 = w2c_l11;
+    w2c_i0 = (u32)(w2c_j0);
+    w2c_i0 = i32_load8_u(m, (u64)(w2c_i0));
+    w2c_l15 = w2c_i0;
+    goto w2c_B8;
+    w2c_B11:;
+    w2c_j0 = w2c_l11;
+    w2c_i0 = (u32)(w2c_j0);
+    w2c_i0 = i32_load16_u(m, (u64)(w2c_i0));
+    w2c_l15 = w2c_i0;
+    goto w2c_B8;
+    w2c_B10:;
+    w2c_j0 = w2c_l11;
+    w2c_i0 = (u32)(w2c_j0);
+    w2c_i0 = i32_load16_u(m, (u64)(w2c_i0));
+    w2c_j1 = w2c_l11;
+    w2c_j2 = 2ull;
+    w2c_j1 += w2c_j2;
+    w2c_i1 = (u32)(w2c_j1);
+    w2c_i1 = i32_load8_u(m, (u64)(w2c_i1));
+    w2c_i2 = 16u;
+    w2c_i1 <<= (w2c_i2 & 31);
+    w2c_i0 |= w2c_i1;
+    w2c_l15 = w2c_i0;
+    w2c_B8:;
+    w2c_j0 = 3ull;
+    w2c_l9 = w2c_j0;
+    w2c_i0 = w2c_l15;
+    w2c_i1 = 16776990u;
     w2c_i0 += w2c_i1;
     w2c_i1 = 12632312u;
     w2c_i0 &= w2c_i1;
     w2c_i1 = 8421376u;
-    w2c_i0 = w2c_i0 != w2c_i1;
+    w2c_i0 = w2c_i0 == w2c_i1;
     if (w2c_i0) {goto w2c_B13;}
-    w2c_j0 = 3ull;
-    w2c_l11 = w2c_j0;
-    goto w2c_B9;
-    w2c_B13:;
-    w2c_i0 = w2c_l13;
+    w2c_i0 = w2c_l15;
     w2c_i1 = 2155905152u;
     w2c_i0 &= w2c_i1;
     w2c_i0 = !(w2c_i0);
-    if (w2c_i0) {goto w2c_B14;}
-    w2c_i0 = w2c_l13;
+    if (w2c_i0) {goto w2c_B16;}
+    w2c_i0 = w2c_l15;
     w2c_i1 = 128u;
     w2c_i0 &= w2c_i1;
-    if (w2c_i0) {goto w2c_B11;}
+    if (w2c_i0) {goto w2c_B15;}
     w2c_j0 = 1ull;
     w2c_j1 = 2ull;
     w2c_j2 = 3ull;
-    w2c_i3 = w2c_l13;
+    w2c_i3 = w2c_l15;
     w2c_i4 = 8388608u;
     w2c_i3 &= w2c_i4;
     w2c_j1 = w2c_i3 ? w2c_j1 : w2c_j2;
-    w2c_i2 = w2c_l13;
+    w2c_i2 = w2c_l15;
     w2c_i3 = 32768u;
     w2c_i2 &= w2c_i3;
     w2c_j0 = w2c_i2 ? w2c_j0 : w2c_j1;
-    w2c_l11 = w2c_j0;
-    goto w2c_B9;
-    w2c_B14:;
+    w2c_l12 = w2c_j0;
+    goto w2c_B14;
+    w2c_B16:;
     w2c_j0 = 4ull;
-    w2c_l11 = w2c_j0;
+    w2c_l12 = w2c_j0;
     w2c_j0 = w2c_l10;
     w2c_j1 = 8ull;
     w2c_i0 = w2c_j0 < w2c_j1;
-    if (w2c_i0) {goto w2c_B9;}
-    w2c_j0 = w2c_l9;
+    if (w2c_i0) {goto w2c_B14;}
+    w2c_j0 = w2c_l11;
     w2c_i0 = (u32)(w2c_j0);
     w2c_j0 = i64_load(m, (u64)(w2c_i0));
     w2c_j1 = 9259542123273814144ull;
     w2c_j0 &= w2c_j1;
     w2c_j1 = 0ull;
     w2c_i0 = w2c_j0 != w2c_j1;
-    if (w2c_i0) {goto w2c_B9;}
+    if (w2c_i0) {goto w2c_B14;}
     w2c_j0 = w2c_l10;
-    w2c_j1 = 16ull;
+    w2c_j1 = 24ull;
     w2c_i0 = w2c_j0 >= w2c_j1;
-    if (w2c_i0) {goto w2c_B15;}
-    w2c_j0 = 8ull;
-    w2c_l11 = w2c_j0;
-    goto w2c_B9;
-    w2c_B15:;
-    w2c_j0 = 16ull;
-    w2c_j1 = 8ull;
-    w2c_j2 = w2c_l9;
-    w2c_j3 = 8ull;
-    w2c_j2 += w2c_j3;
-    w2c_i2 = (u32)(w2c_j2);
-    w2c_j2 = i64_load(m, (u64)(w2c_i2));
-    w2c_j3 = 9259542123273814144ull;
-    w2c_j2 &= w2c_j3;
-    w2c_i2 = !(w2c_j2);
-    w2c_j0 = w2c_i2 ? w2c_j0 : w2c_j1;
-    w2c_l11 = w2c_j0;
-    goto w2c_B9;
-    w2c_B12:;
-    w2c_j0 = w2c_l9;
-    w2c_i0 = (u32)(w2c_j0);
-    w2c_i0 = i32_load8_u(m, (u64)(w2c_i0));
-    w2c_l14 = w2c_i0;
-    w2c_i0 = (u32)(s32)(s8)(u8)(w2c_i0);
-    w2c_l13 = w2c_i0;
-    w2c_i1 = 4294967295u;
-    w2c_i0 = (u32)((s32)w2c_i0 <= (s32)w2c_i1);
-    if (w2c_i0) {goto w2c_B16;}
-    w2c_j0 = 1ull;
-    w2c_l11 = w2c_j0;
-    goto w2c_B9;
-    w2c_B16:;
-    w2c_j0 = w2c_l10;
-    w2c_j1 = 18446744073709551615ull;
-    w2c_j0 += w2c_j1;
-    w2c_l11 = w2c_j0;
-    w2c_j1 = 2ull;
-    w2c_i0 = w2c_j0 > w2c_j1;
     if (w2c_i0) {goto w2c_B17;}
-    w2c_i0 = 0u;
-    w2c_l15 = w2c_i0;
-    w2c_i0 = 0u;
-    w2c_l16 = w2c_i0;
-    w2c_j0 = w2c_l11;
-    w2c_i0 = (u32)(w2c_j0);
-    switch (w2c_i0) {
-      case 0: goto w2c_B10;
-      case 1: goto w2c_B17;
-      case 2: goto w2c_B18;
-      default: goto w2c_B10;
-    }
+    w2c_j0 = 8ull;
+    w2c_l9 = w2c_j0;
+    goto w2c_B13;
+    w2c_B17:;
+    w2c_j0 = w2c_l10;
+    w2c_j1 = 18446744073709551600ull;
+    w2c_j0 += w2c_j1;
+    w2c_l13 = w2c_j0;
+    w2c_j0 = 8ull;
+    w2c_l9 = w2c_j0;
+    w2c_L19:
+      w2c_j0 = w2c_l13;
+      w2c_j1 = 8ull;
+      w2c_i0 = w2c_j0 < w2c_j1;
+      if (w2c_i0) {goto w2c_B18;}
+      w2c_j0 = w2c_l11;
+      w2c_j1 = w2c_l9;
+      w2c_j0 += w2c_j1;
+      w2c_l14 = w2c_j0;
+      w2c_j1 = 8ull;
+      w2c_j0 += w2c_j1;
+      w2c_i0 = (u32)(w2c_j0);
+      w2c_j0 = i64_load(m, (u64)(w2c_i0));
+      w2c_j1 = w2c_l14;
+      w2c_i1 = (u32)(w2c_j1);
+      w2c_j1 = i64_load(m, (u64)(w2c_i1));
+      w2c_j0 |= w2c_j1;
+      w2c_j1 = 9259542123273814144ull;
+      w2c_j0 &= w2c_j1;
+      w2c_j1 = 0ull;
+      w2c_i0 = w2c_j0 != w2c_j1;
+      if (w2c_i0) {goto w2c_B18;}
+      w2c_j0 = w2c_l9;
+      w2c_j1 = 16ull;
+      w2c_j0 += w2c_j1;
+      w2c_l9 = w2c_j0;
+      w2c_j0 = w2c_l13;
+      w2c_j1 = 18446744073709551608ull;
+      w2c_j0 += w2c_j1;
+      w2c_l14 = w2c_j0;
+      w2c_j0 = w2c_l13;
+      w2c_j1 = 18446744073709551600ull;
+      w2c_j0 += w2c_j1;
+      w2c_l13 = w2c_j0;
+      w2c_j0 = w2c_l14;
+      w2c_j1 = 15ull;
+      w2c_i0 = w2c_j0 > w2c_j1;
+      if (w2c_i0) {goto w2c_L19;}
     w2c_B18:;
     w2c_j0 = w2c_l9;
-    w2c_j1 = 1ull;
-    w2c_j0 += w2c_j1;
-    w2c_l11 = w2c_j0;
-    w2c_i0 = (u32)(w2c_j0);
-    w2c_i0 = i32_load8_u(m, (u64)(w2c_i0));
-    w2c_i1 = 8u;
-    w2c_i0 <<= (w2c_i1 & 31);
-    w2c_i1 = w2c_l14;
-    w2c_i0 |= w2c_i1;
-    w2c_j1 = w2c_l9;
-    w2c_j2 = 2ull;
-    w2c_j1 += w2c_j2;
-    w2c_l12 = w2c_j1;
-    w2c_i1 = (u32)(w2c_j1);
-    w2c_i1 = i32_load8_u(m, (u64)(w2c_i1));
-    w2c_i2 = 16u;
-    w2c_i1 <<= (w2c_i2 & 31);
-    w2c_i0 |= w2c_i1;
-    w2c_i1 = 16776989u;
-    w2c_i0 += w2c_i1;
-    w2c_i1 = 12632312u;
+    w2c_i0 = !(w2c_j0);
+    if (w2c_i0) {goto w2c_B14;}
+    goto w2c_B13;
+    w2c_B15:;
+    w2c_i0 = w2c_l15;
+    w2c_i1 = 224u;
     w2c_i0 &= w2c_i1;
-    w2c_i1 = 8421376u;
-    w2c_i0 = w2c_i0 != w2c_i1;
-    if (w2c_i0) {goto w2c_B19;}
-    w2c_j0 = 3ull;
-    w2c_l11 = w2c_j0;
-    goto w2c_B9;
-    w2c_B19:;
-    w2c_j0 = w2c_l12;
-    w2c_i0 = (u32)(w2c_j0);
-    w2c_i0 = i32_load8_s(m, (u64)(w2c_i0));
-    w2c_i1 = 4294967232u;
-    w2c_i0 = (u32)((s32)w2c_i0 < (s32)w2c_i1);
-    w2c_l15 = w2c_i0;
-    w2c_j0 = w2c_l11;
-    w2c_i0 = (u32)(w2c_j0);
-    w2c_i0 = i32_load8_u(m, (u64)(w2c_i0));
-    w2c_l16 = w2c_i0;
-    goto w2c_B10;
-    w2c_B17:;
-    w2c_j0 = w2c_l9;
-    w2c_j1 = 1ull;
-    w2c_j0 += w2c_j1;
-    w2c_i0 = (u32)(w2c_j0);
-    w2c_i0 = i32_load8_u(m, (u64)(w2c_i0));
-    w2c_l16 = w2c_i0;
-    w2c_i0 = 0u;
-    w2c_l15 = w2c_i0;
-    goto w2c_B10;
-    w2c_B11:;
-    w2c_j0 = 1ull;
-    w2c_l11 = w2c_j0;
-    w2c_i0 = w2c_l13;
-    w2c_i0 = (u32)(s32)(s8)(u8)(w2c_i0);
-    w2c_l13 = w2c_i0;
-    w2c_i1 = 4294967295u;
-    w2c_i0 = (u32)((s32)w2c_i0 > (s32)w2c_i1);
-    if (w2c_i0) {goto w2c_B9;}
-    w2c_j0 = w2c_l9;
-    w2c_j1 = 2ull;
-    w2c_j0 += w2c_j1;
-    w2c_i0 = (u32)(w2c_j0);
-    w2c_i0 = i32_load8_s(m, (u64)(w2c_i0));
-    w2c_i1 = 4294967232u;
-    w2c_i0 = (u32)((s32)w2c_i0 < (s32)w2c_i1);
-    w2c_l15 = w2c_i0;
-    w2c_j0 = w2c_l9;
-    w2c_j1 = 1ull;
-    w2c_j0 += w2c_j1;
-    w2c_i0 = (u32)(w2c_j0);
-    w2c_i0 = i32_load8_u(m, (u64)(w2c_i0));
-    w2c_l16 = w2c_i0;
-    w2c_B10:;
-    w2c_i0 = w2c_l13;
-    w2c_i1 = 4294967263u;
-    w2c_i0 = w2c_i0 > w2c_i1;
-    if (w2c_i0) {goto w2c_B20;}
-    w2c_i0 = w2c_l13;
-    w2c_i1 = 4294967234u;
-    w2c_i0 = w2c_i0 < w2c_i1;
-    if (w2c_i0) {goto w2c_B1;}
-    w2c_i0 = w2c_l16;
-    w2c_i0 = (u32)(s32)(s8)(u8)(w2c_i0);
-    w2c_i1 = 4294967232u;
-    w2c_i0 = (u32)((s32)w2c_i0 >= (s32)w2c_i1);
-    if (w2c_i0) {goto w2c_B1;}
-    w2c_j0 = 2ull;
-    w2c_l11 = w2c_j0;
-    goto w2c_B9;
-    w2c_B20:;
-    w2c_i0 = w2c_l13;
-    w2c_i1 = 4294967279u;
-    w2c_i0 = w2c_i0 > w2c_i1;
-    if (w2c_i0) {goto w2c_B21;}
-    w2c_i0 = w2c_l16;
-    w2c_i0 = (u32)(s32)(s8)(u8)(w2c_i0);
-    w2c_i1 = 4294967231u;
-    w2c_i0 = (u32)((s32)w2c_i0 > (s32)w2c_i1);
-    w2c_i1 = w2c_l15;
-    w2c_i2 = 1u;
-    w2c_i1 ^= w2c_i2;
-    w2c_i0 |= w2c_i1;
-    if (w2c_i0) {goto w2c_B1;}
-    w2c_i0 = w2c_l13;
-    w2c_i1 = 255u;
-    w2c_i0 &= w2c_i1;
-    w2c_i1 = 6u;
-    w2c_i0 <<= (w2c_i1 & 31);
-    w2c_i1 = w2c_l16;
-    w2c_i2 = 255u;
-    w2c_i1 &= w2c_i2;
-    w2c_i0 += w2c_i1;
-    w2c_l13 = w2c_i0;
-    w2c_i1 = 14496u;
-    w2c_i0 = w2c_i0 < w2c_i1;
-    if (w2c_i0) {goto w2c_B1;}
-    w2c_i0 = w2c_l13;
-    w2c_i1 = 32736u;
-    w2c_i0 &= w2c_i1;
-    w2c_i1 = 15328u;
+    w2c_i1 = 224u;
     w2c_i0 = w2c_i0 == w2c_i1;
-    if (w2c_i0) {goto w2c_B1;}
-    w2c_j0 = 3ull;
-    w2c_l11 = w2c_j0;
-    goto w2c_B9;
+    if (w2c_i0) {goto w2c_B21;}
+    w2c_i0 = w2c_l15;
+    w2c_i1 = 49376u;
+    w2c_i0 &= w2c_i1;
+    w2c_i1 = 32960u;
+    w2c_i0 = w2c_i0 != w2c_i1;
+    if (w2c_i0) {goto w2c_B20;}
+    w2c_i0 = w2c_l15;
+    w2c_i1 = 222u;
+    w2c_i0 &= w2c_i1;
+    w2c_i1 = 193u;
+    w2c_i0 = w2c_i0 <= w2c_i1;
+    if (w2c_i0) {goto w2c_B20;}
+    w2c_j0 = 2ull;
+    w2c_l9 = w2c_j0;
+    goto w2c_B13;
     w2c_B21:;
-    w2c_j0 = 4ull;
-    w2c_l11 = w2c_j0;
-    w2c_i0 = 0u;
-    w2c_l14 = w2c_i0;
-    w2c_j0 = w2c_l10;
-    w2c_j1 = 4ull;
-    w2c_i0 = w2c_j0 < w2c_j1;
+    w2c_i0 = w2c_l15;
+    w2c_i1 = 12632304u;
+    w2c_i0 &= w2c_i1;
+    w2c_i1 = 8421600u;
+    w2c_i0 = w2c_i0 != w2c_i1;
     if (w2c_i0) {goto w2c_B22;}
-    w2c_j0 = w2c_l9;
-    w2c_j1 = 3ull;
-    w2c_j0 += w2c_j1;
-    w2c_i0 = (u32)(w2c_j0);
-    w2c_i0 = i32_load8_s(m, (u64)(w2c_i0));
-    w2c_i1 = 4294967232u;
-    w2c_i0 = (u32)((s32)w2c_i0 < (s32)w2c_i1);
-    w2c_l14 = w2c_i0;
+    w2c_i0 = w2c_l15;
+    w2c_i1 = 8431u;
+    w2c_i0 &= w2c_i1;
+    w2c_l16 = w2c_i0;
+    w2c_i1 = 8429u;
+    w2c_i0 = w2c_i0 == w2c_i1;
+    if (w2c_i0) {goto w2c_B22;}
+    w2c_i0 = w2c_l16;
+    w2c_i1 = 224u;
+    w2c_i0 = w2c_i0 != w2c_i1;
+    if (w2c_i0) {goto w2c_B13;}
     w2c_B22:;
     w2c_i0 = w2c_l15;
-    w2c_i1 = w2c_l16;
-    w2c_i1 = (u32)(s32)(s8)(u8)(w2c_i1);
-    w2c_i2 = 4294967232u;
-    w2c_i1 = (u32)((s32)w2c_i1 < (s32)w2c_i2);
-    w2c_i2 = w2c_l14;
-    w2c_i1 &= w2c_i2;
+    w2c_i1 = 3233857536u;
     w2c_i0 &= w2c_i1;
-    w2c_i1 = 1u;
+    w2c_i1 = 2155905024u;
     w2c_i0 = w2c_i0 != w2c_i1;
-    if (w2c_i0) {goto w2c_B1;}
-    w2c_i0 = w2c_l13;
-    w2c_i1 = 255u;
+    if (w2c_i0) {goto w2c_B20;}
+    w2c_i0 = w2c_l15;
+    w2c_i1 = 8u;
+    w2c_i0 >>= (w2c_i1 & 31);
+    w2c_i1 = 240u;
     w2c_i0 &= w2c_i1;
-    w2c_i1 = 6u;
-    w2c_i0 <<= (w2c_i1 & 31);
-    w2c_i1 = w2c_l16;
-    w2c_i2 = 255u;
+    w2c_i1 = w2c_l15;
+    w2c_i2 = 6u;
+    w2c_i1 <<= (w2c_i2 & 31);
+    w2c_i2 = 16320u;
     w2c_i1 &= w2c_i2;
     w2c_i0 += w2c_i1;
     w2c_i1 = 4294951792u;
     w2c_i0 += w2c_i1;
-    w2c_i1 = 255u;
-    w2c_i0 = w2c_i0 > w2c_i1;
-    if (w2c_i0) {goto w2c_B1;}
-    w2c_B9:;
-    w2c_j0 = w2c_l9;
-    w2c_j1 = w2c_l11;
-    w2c_j0 += w2c_j1;
+    w2c_i1 = 256u;
+    w2c_i0 = w2c_i0 >= w2c_i1;
+    if (w2c_i0) {goto w2c_B20;}
+    w2c_j0 = 4ull;
     w2c_l9 = w2c_j0;
+    goto w2c_B13;
+    w2c_B20:;
+    w2c_j0 = w2c_p7;
+    w2c_i0 = (u32)(w2c_j0);
+    w2c_j1 = 0ull;
+    i64_store(m, (u64)(w2c_i0), w2c_j1);
+    w2c_j0 = w2c_l8;
+    m->w2c_g0 = w2c_j0;
+    w2c_i0 = 5u;
+    goto w2c_Bfunc;
+    w2c_B14:;
     w2c_j0 = w2c_l10;
-    w2c_j1 = w2c_l11;
+    w2c_j1 = w2c_l12;
+    w2c_j2 = w2c_l10;
+    w2c_j3 = w2c_l12;
+    w2c_i2 = w2c_j2 < w2c_j3;
+    w2c_j0 = w2c_i2 ? w2c_j0 : w2c_j1;
+    w2c_l9 = w2c_j0;
+    w2c_B13:;
+    w2c_j0 = w2c_l11;
+    w2c_j1 = w2c_l9;
+    w2c_j0 += w2c_j1;
+    w2c_l11 = w2c_j0;
+    w2c_j0 = w2c_l10;
+    w2c_j1 = w2c_l9;
     w2c_j0 -= w2c_j1;
     w2c_l10 = w2c_j0;
     w2c_j1 = 0ull;
     w2c_i0 = w2c_j0 != w2c_j1;
-    if (w2c_i0) {goto w2c_L8;}
-  w2c_B2:;
+    if (w2c_i0) {goto w2c_L7;}
+  w2c_B1:;
   w2c_j0 = w2c_p0;
   w2c_j1 = w2c_p1;
   w2c_j2 = w2c_p2;
@@ -8295,20 +8772,11 @@ static u32 w2c_f15(module *m, u64 w2c_p0, u64 w2c_p1, u64 w2c_p2, u32 w2c_p3, u3
   w2c_j5 = w2c_p5;
   w2c_j6 = w2c_p6;
   w2c_j7 = w2c_p7;
-  w2c_i0 = w2c_f16(m, w2c_j0, w2c_j1, w2c_j2, w2c_i3, w2c_i4, w2c_j5, w2c_j6, w2c_j7);
-  w2c_l13 = w2c_i0;
+  w2c_i0 = w2c_f18(m, w2c_j0, w2c_j1, w2c_j2, w2c_i3, w2c_i4, w2c_j5, w2c_j6, w2c_j7);
+  w2c_l15 = w2c_i0;
   w2c_j0 = w2c_l8;
   m->w2c_g0 = w2c_j0;
-  w2c_i0 = w2c_l13;
-  goto w2c_Bfunc;
-  w2c_B1:;
-  w2c_j0 = w2c_p7;
-  w2c_i0 = (u32)(w2c_j0);
-  w2c_j1 = 0ull;
-  i64_store(m, (u64)(w2c_i0), w2c_j1);
-  w2c_j0 = w2c_l8;
-  m->w2c_g0 = w2c_j0;
-  w2c_i0 = 5u;
+  w2c_i0 = w2c_l15;
   goto w2c_Bfunc;
   w2c_B0:;
   UNREACHABLE;
@@ -8316,7 +8784,7 @@ static u32 w2c_f15(module *m, u64 w2c_p0, u64 w2c_p1, u64 w2c_p2, u32 w2c_p3, u3
   return w2c_i0;
 }
 
-static u32 w2c_f16(module *m, u64 w2c_p0, u64 w2c_p1, u64 w2c_p2, u32 w2c_p3, u32 w2c_p4, u64 w2c_p5, u64 w2c_p6, u64 w2c_p7) {
+static u32 w2c_f18(module *m, u64 w2c_p0, u64 w2c_p1, u64 w2c_p2, u32 w2c_p3, u32 w2c_p4, u64 w2c_p5, u64 w2c_p6, u64 w2c_p7) {
   u32 w2c_l18 = 0, w2c_l19 = 0, w2c_l20 = 0, w2c_l21 = 0, w2c_l22 = 0, w2c_l23 = 0;
   u64 w2c_l8 = 0, w2c_l9 = 0, w2c_l10 = 0, w2c_l11 = 0, w2c_l12 = 0, w2c_l13 = 0, w2c_l14 = 0, w2c_l15 = 0, w2c_l16 = 0, w2c_l17 = 0;
   u32 w2c_i0, w2c_i1, w2c_i2, w2c_i3;
@@ -8590,7 +9058,7 @@ static u32 w2c_f16(module *m, u64 w2c_p0, u64 w2c_p1, u64 w2c_p2, u32 w2c_p3, u3
     if (w2c_i0) {goto w2c_B8;}
     w2c_j0 = w2c_l12;
     w2c_j1 = w2c_l11;
-    w2c_i0 = w2c_f17(m, w2c_j0, w2c_j1);
+    w2c_i0 = w2c_f19(m, w2c_j0, w2c_j1);
     if (w2c_i0) {goto w2c_L4;}
     w2c_i0 = w2c_l18;
     w2c_i1 = 4294041472u;
@@ -8887,7 +9355,7 @@ static u32 w2c_f16(module *m, u64 w2c_p0, u64 w2c_p1, u64 w2c_p2, u32 w2c_p3, u3
     if (w2c_i0) {goto w2c_B5;}
     w2c_j0 = w2c_l12;
     w2c_j1 = w2c_l11;
-    w2c_i0 = w2c_f17(m, w2c_j0, w2c_j1);
+    w2c_i0 = w2c_f19(m, w2c_j0, w2c_j1);
     if (w2c_i0) {goto w2c_L4;}
     goto w2c_B5;
     w2c_B9:;
@@ -8907,7 +9375,7 @@ static u32 w2c_f16(module *m, u64 w2c_p0, u64 w2c_p1, u64 w2c_p2, u32 w2c_p3, u3
     w2c_i1 = w2c_p4;
     w2c_j2 = w2c_l12;
     w2c_j3 = w2c_l11;
-    w2c_i0 = w2c_f18(m, w2c_i0, w2c_i1, w2c_j2, w2c_j3);
+    w2c_i0 = w2c_f20(m, w2c_i0, w2c_i1, w2c_j2, w2c_j3);
     w2c_i0 = !(w2c_i0);
     if (w2c_i0) {goto w2c_L4;}
     w2c_i0 = w2c_l18;
@@ -8920,7 +9388,7 @@ static u32 w2c_f16(module *m, u64 w2c_p0, u64 w2c_p1, u64 w2c_p2, u32 w2c_p3, u3
     w2c_i1 = w2c_p4;
     w2c_j2 = w2c_l12;
     w2c_j3 = w2c_l11;
-    w2c_i0 = w2c_f18(m, w2c_i0, w2c_i1, w2c_j2, w2c_j3);
+    w2c_i0 = w2c_f20(m, w2c_i0, w2c_i1, w2c_j2, w2c_j3);
     w2c_i0 = !(w2c_i0);
     if (w2c_i0) {goto w2c_L4;}
     w2c_B5:;
@@ -9299,7 +9767,7 @@ static u32 w2c_f16(module *m, u64 w2c_p0, u64 w2c_p1, u64 w2c_p2, u32 w2c_p3, u3
       if (w2c_i0) {goto w2c_B56;}
       w2c_j0 = w2c_l12;
       w2c_j1 = w2c_l11;
-      w2c_i0 = w2c_f17(m, w2c_j0, w2c_j1);
+      w2c_i0 = w2c_f19(m, w2c_j0, w2c_j1);
       w2c_i0 = !(w2c_i0);
       if (w2c_i0) {goto w2c_B55;}
       goto w2c_B35;
@@ -9308,7 +9776,7 @@ static u32 w2c_f16(module *m, u64 w2c_p0, u64 w2c_p1, u64 w2c_p2, u32 w2c_p3, u3
       w2c_i1 = w2c_p4;
       w2c_j2 = w2c_l12;
       w2c_j3 = w2c_l11;
-      w2c_i0 = w2c_f18(m, w2c_i0, w2c_i1, w2c_j2, w2c_j3);
+      w2c_i0 = w2c_f20(m, w2c_i0, w2c_i1, w2c_j2, w2c_j3);
       w2c_i0 = !(w2c_i0);
       if (w2c_i0) {goto w2c_B35;}
       w2c_B55:;
@@ -9322,7 +9790,7 @@ static u32 w2c_f16(module *m, u64 w2c_p0, u64 w2c_p1, u64 w2c_p2, u32 w2c_p3, u3
       w2c_j1 = 8ull;
       w2c_j0 += w2c_j1;
       w2c_i1 = w2c_l18;
-      w2c_f19(m, w2c_j0, w2c_i1);
+      w2c_f21(m, w2c_j0, w2c_i1);
       w2c_i0 = w2c_l18;
       w2c_i1 = 4294967238u;
       w2c_i0 += w2c_i1;
@@ -9346,7 +9814,7 @@ static u32 w2c_f16(module *m, u64 w2c_p0, u64 w2c_p1, u64 w2c_p2, u32 w2c_p3, u3
       if (w2c_i0) {goto w2c_L36;}
       w2c_j0 = w2c_l9;
       w2c_i1 = w2c_l21;
-      w2c_f19(m, w2c_j0, w2c_i1);
+      w2c_f21(m, w2c_j0, w2c_i1);
       w2c_i0 = w2c_l21;
       w2c_i1 = 4294967238u;
       w2c_i0 += w2c_i1;
@@ -11031,7 +11499,7 @@ static u32 w2c_f16(module *m, u64 w2c_p0, u64 w2c_p1, u64 w2c_p2, u32 w2c_p3, u3
     w2c_j0 += w2c_j1;
     w2c_j1 = w2c_p2;
     w2c_j2 = w2c_l8;
-    w2c_f20(m, w2c_j0, w2c_j1, w2c_j2);
+    w2c_f22(m, w2c_j0, w2c_j1, w2c_j2);
     w2c_j0 = w2c_l9;
     w2c_i0 = (u32)(w2c_j0);
     w2c_i0 = i32_load8_u(m, (u64)(w2c_i0) + 12u);
@@ -11095,7 +11563,7 @@ static u32 w2c_f16(module *m, u64 w2c_p0, u64 w2c_p1, u64 w2c_p2, u32 w2c_p3, u3
     w2c_B143:;
     w2c_j0 = w2c_p2;
     w2c_j1 = w2c_l8;
-    w2c_i0 = w2c_f21(m, w2c_j0, w2c_j1);
+    w2c_i0 = w2c_f23(m, w2c_j0, w2c_j1);
     w2c_l21 = w2c_i0;
     w2c_i0 = w2c_l22;
     w2c_i0 = !(w2c_i0);
@@ -11103,7 +11571,7 @@ static u32 w2c_f16(module *m, u64 w2c_p0, u64 w2c_p1, u64 w2c_p2, u32 w2c_p3, u3
     w2c_i0 = w2c_l19;
     w2c_j1 = w2c_p2;
     w2c_j2 = w2c_l8;
-    w2c_i1 = w2c_f22(m, w2c_j1, w2c_j2);
+    w2c_i1 = w2c_f24(m, w2c_j1, w2c_j2);
     w2c_i0 |= w2c_i1;
     if (w2c_i0) {goto w2c_B151;}
     goto w2c_B150;
@@ -11138,7 +11606,7 @@ static u32 w2c_f16(module *m, u64 w2c_p0, u64 w2c_p1, u64 w2c_p2, u32 w2c_p3, u3
     w2c_l21 = w2c_i0;
     w2c_j0 = w2c_p2;
     w2c_j1 = w2c_l8;
-    w2c_i0 = w2c_f23(m, w2c_j0, w2c_j1);
+    w2c_i0 = w2c_f25(m, w2c_j0, w2c_j1);
     w2c_i0 = !(w2c_i0);
     if (w2c_i0) {goto w2c_B141;}
     w2c_B142:;
@@ -11206,7 +11674,7 @@ static u32 w2c_f16(module *m, u64 w2c_p0, u64 w2c_p1, u64 w2c_p2, u32 w2c_p3, u3
   return w2c_i0;
 }
 
-static u32 w2c_f17(module *m, u64 w2c_p0, u64 w2c_p1) {
+static u32 w2c_f19(module *m, u64 w2c_p0, u64 w2c_p1) {
   u32 w2c_l2 = 0, w2c_l3 = 0, w2c_l4 = 0, w2c_l5 = 0, w2c_l6 = 0;
   u64 w2c_l7 = 0;
   u32 w2c_i0, w2c_i1, w2c_i2, w2c_i3;
@@ -11598,7 +12066,7 @@ static u32 w2c_f17(module *m, u64 w2c_p0, u64 w2c_p1) {
   return w2c_i0;
 }
 
-static u32 w2c_f18(module *m, u32 w2c_p0, u32 w2c_p1, u64 w2c_p2, u64 w2c_p3) {
+static u32 w2c_f20(module *m, u32 w2c_p0, u32 w2c_p1, u64 w2c_p2, u64 w2c_p3) {
   u32 w2c_l7 = 0, w2c_l8 = 0, w2c_l9 = 0, w2c_l10 = 0, w2c_l11 = 0;
   u64 w2c_l4 = 0, w2c_l5 = 0, w2c_l6 = 0;
   u32 w2c_i0, w2c_i1, w2c_i2, w2c_i3;
@@ -11978,7 +12446,7 @@ static u32 w2c_f18(module *m, u32 w2c_p0, u32 w2c_p1, u64 w2c_p2, u64 w2c_p3) {
   if (w2c_i0) {goto w2c_B9;}
   w2c_j0 = w2c_p2;
   w2c_j1 = w2c_p3;
-  w2c_i0 = w2c_f17(m, w2c_j0, w2c_j1);
+  w2c_i0 = w2c_f19(m, w2c_j0, w2c_j1);
   w2c_i1 = 1u;
   w2c_i0 ^= w2c_i1;
   w2c_l8 = w2c_i0;
@@ -11993,7 +12461,7 @@ static u32 w2c_f18(module *m, u32 w2c_p0, u32 w2c_p1, u64 w2c_p2, u64 w2c_p3) {
   return w2c_i0;
 }
 
-static void w2c_f19(module *m, u64 w2c_p0, u32 w2c_p1) {
+static void w2c_f21(module *m, u64 w2c_p0, u32 w2c_p1) {
   u32 w2c_l2 = 0, w2c_l3 = 0;
   u32 w2c_i0, w2c_i1;
   u64 w2c_j0, w2c_j1;
@@ -12261,7 +12729,7 @@ static void w2c_f19(module *m, u64 w2c_p0, u32 w2c_p1) {
   i32_store8(m, (u64)(w2c_i0), w2c_i1);
 }
 
-static void w2c_f20(module *m, u64 w2c_p0, u64 w2c_p1, u64 w2c_p2) {
+static void w2c_f22(module *m, u64 w2c_p0, u64 w2c_p1, u64 w2c_p2) {
   u32 w2c_l3 = 0, w2c_l4 = 0, w2c_l5 = 0, w2c_l6 = 0, w2c_l7 = 0, w2c_l8 = 0, w2c_l9 = 0;
   u64 w2c_l10 = 0;
   u32 w2c_i0, w2c_i1, w2c_i2, w2c_i3;
@@ -12574,7 +13042,7 @@ static void w2c_f20(module *m, u64 w2c_p0, u64 w2c_p1, u64 w2c_p2) {
   w2c_Bfunc:;
 }
 
-static u32 w2c_f21(module *m, u64 w2c_p0, u64 w2c_p1) {
+static u32 w2c_f23(module *m, u64 w2c_p0, u64 w2c_p1) {
   u32 w2c_l2 = 0, w2c_l3 = 0, w2c_l4 = 0;
   u64 w2c_l5 = 0;
   u32 w2c_i0, w2c_i1, w2c_i2, w2c_i3;
@@ -12809,7 +13277,7 @@ static u32 w2c_f21(module *m, u64 w2c_p0, u64 w2c_p1) {
   return w2c_i0;
 }
 
-static u32 w2c_f22(module *m, u64 w2c_p0, u64 w2c_p1) {
+static u32 w2c_f24(module *m, u64 w2c_p0, u64 w2c_p1) {
   u32 w2c_l2 = 0, w2c_l3 = 0, w2c_l4 = 0;
   u32 w2c_i0, w2c_i1, w2c_i2, w2c_i3;
   u64 w2c_j0, w2c_j1, w2c_j2;
@@ -13016,7 +13484,7 @@ static u32 w2c_f22(module *m, u64 w2c_p0, u64 w2c_p1) {
   return w2c_i0;
 }
 
-static u32 w2c_f23(module *m, u64 w2c_p0, u64 w2c_p1) {
+static u32 w2c_f25(module *m, u64 w2c_p0, u64 w2c_p1) {
   u32 w2c_l2 = 0, w2c_l3 = 0, w2c_l4 = 0, w2c_l5 = 0, w2c_l6 = 0, w2c_l7 = 0;
   u64 w2c_l8 = 0, w2c_l9 = 0, w2c_l10 = 0;
   u32 w2c_i0, w2c_i1, w2c_i2, w2c_i3;
@@ -13952,7 +14420,7 @@ static u32 w2c_f23(module *m, u64 w2c_p0, u64 w2c_p1) {
   return w2c_i0;
 }
 
-static u32 w2c_f24(module *m, u64 w2c_p0, u64 w2c_p1, u64 w2c_p2, u32 w2c_p3, u32 w2c_p4, u64 w2c_p5, u64 w2c_p6, u64 w2c_p7) {
+static u32 w2c_f26(module *m, u64 w2c_p0, u64 w2c_p1, u64 w2c_p2, u32 w2c_p3, u32 w2c_p4, u64 w2c_p5, u64 w2c_p6, u64 w2c_p7) {
   u32 w2c_l16 = 0, w2c_l17 = 0, w2c_l18 = 0, w2c_l19 = 0, w2c_l20 = 0;
   u64 w2c_l8 = 0, w2c_l9 = 0, w2c_l10 = 0, w2c_l11 = 0, w2c_l12 = 0, w2c_l13 = 0, w2c_l14 = 0, w2c_l15 = 0;
   u32 w2c_i0, w2c_i1, w2c_i2, w2c_i3;
@@ -14078,7 +14546,7 @@ static u32 w2c_f24(module *m, u64 w2c_p0, u64 w2c_p1, u64 w2c_p2, u32 w2c_p3, u3
     w2c_j1 = w2c_l8;
     w2c_j2 = 64ull;
     w2c_j1 += w2c_j2;
-    w2c_f25(m, w2c_j0, w2c_j1);
+    w2c_f27(m, w2c_j0, w2c_j1);
     w2c_j0 = w2c_l8;
     w2c_i0 = (u32)(w2c_j0);
     w2c_i0 = i32_load8_u(m, (u64)(w2c_i0) + 8u);
@@ -15755,7 +16223,7 @@ static u32 w2c_f24(module *m, u64 w2c_p0, u64 w2c_p1, u64 w2c_p2, u32 w2c_p3, u3
     w2c_j0 += w2c_j1;
     w2c_j1 = w2c_l11;
     w2c_j2 = w2c_p1;
-    w2c_f20(m, w2c_j0, w2c_j1, w2c_j2);
+    w2c_f22(m, w2c_j0, w2c_j1, w2c_j2);
     w2c_j0 = w2c_l8;
     w2c_i0 = (u32)(w2c_j0);
     w2c_i0 = i32_load8_u(m, (u64)(w2c_i0) + 108u);
@@ -15819,7 +16287,7 @@ static u32 w2c_f24(module *m, u64 w2c_p0, u64 w2c_p1, u64 w2c_p2, u32 w2c_p3, u3
     w2c_B88:;
     w2c_j0 = w2c_l11;
     w2c_j1 = w2c_p1;
-    w2c_i0 = w2c_f21(m, w2c_j0, w2c_j1);
+    w2c_i0 = w2c_f23(m, w2c_j0, w2c_j1);
     w2c_l19 = w2c_i0;
     w2c_i0 = w2c_p4;
     w2c_i0 = !(w2c_i0);
@@ -15827,7 +16295,7 @@ static u32 w2c_f24(module *m, u64 w2c_p0, u64 w2c_p1, u64 w2c_p2, u32 w2c_p3, u3
     w2c_i0 = w2c_l18;
     w2c_j1 = w2c_l11;
     w2c_j2 = w2c_p1;
-    w2c_i1 = w2c_f22(m, w2c_j1, w2c_j2);
+    w2c_i1 = w2c_f24(m, w2c_j1, w2c_j2);
     w2c_i0 |= w2c_i1;
     if (w2c_i0) {goto w2c_B96;}
     goto w2c_B95;
@@ -15862,7 +16330,7 @@ static u32 w2c_f24(module *m, u64 w2c_p0, u64 w2c_p1, u64 w2c_p2, u32 w2c_p3, u3
     w2c_p3 = w2c_i0;
     w2c_j0 = w2c_l11;
     w2c_j1 = w2c_p1;
-    w2c_i0 = w2c_f23(m, w2c_j0, w2c_j1);
+    w2c_i0 = w2c_f25(m, w2c_j0, w2c_j1);
     w2c_i0 = !(w2c_i0);
     if (w2c_i0) {goto w2c_B86;}
     w2c_B87:;
@@ -15925,7 +16393,7 @@ static u32 w2c_f24(module *m, u64 w2c_p0, u64 w2c_p1, u64 w2c_p2, u32 w2c_p3, u3
   return w2c_i0;
 }
 
-static void w2c_f25(module *m, u64 w2c_p0, u64 w2c_p1) {
+static void w2c_f27(module *m, u64 w2c_p0, u64 w2c_p1) {
   u32 w2c_l13 = 0, w2c_l14 = 0, w2c_l15 = 0, w2c_l16 = 0, w2c_l17 = 0, w2c_l18 = 0, w2c_l19 = 0, w2c_l20 = 0, w2c_l21 = 0;
   u64 w2c_l2 = 0, w2c_l3 = 0, w2c_l4 = 0, w2c_l5 = 0, w2c_l6 = 0, w2c_l7 = 0, w2c_l8 = 0, w2c_l9 = 0, w2c_l10 = 0, w2c_l11 = 0, w2c_l12 = 0;
   u32 w2c_i0, w2c_i1, w2c_i2, w2c_i3, w2c_i4;
@@ -16470,7 +16938,7 @@ static void w2c_f25(module *m, u64 w2c_p0, u64 w2c_p1) {
     w2c_i4 = w2c_l19;
     w2c_j5 = w2c_l4;
     w2c_j6 = w2c_l2;
-    w2c_i0 = w2c_f26(m, w2c_i0, w2c_i1, w2c_j2, w2c_j3, w2c_i4, w2c_j5, w2c_j6);
+    w2c_i0 = w2c_f28(m, w2c_i0, w2c_i1, w2c_j2, w2c_j3, w2c_i4, w2c_j5, w2c_j6);
     w2c_i0 = !(w2c_i0);
     if (w2c_i0) {goto w2c_L5;}
     goto w2c_B2;
@@ -16611,7 +17079,7 @@ static void w2c_f25(module *m, u64 w2c_p0, u64 w2c_p1) {
     if (w2c_i0) {goto w2c_B2;}
     w2c_j0 = w2c_l4;
     w2c_j1 = w2c_l2;
-    w2c_i0 = w2c_f17(m, w2c_j0, w2c_j1);
+    w2c_i0 = w2c_f19(m, w2c_j0, w2c_j1);
     if (w2c_i0) {goto w2c_L5;}
     goto w2c_B2;
     w2c_B40:;
@@ -16619,7 +17087,7 @@ static void w2c_f25(module *m, u64 w2c_p0, u64 w2c_p1) {
     w2c_i1 = w2c_l13;
     w2c_j2 = w2c_l4;
     w2c_j3 = w2c_l2;
-    w2c_i0 = w2c_f18(m, w2c_i0, w2c_i1, w2c_j2, w2c_j3);
+    w2c_i0 = w2c_f20(m, w2c_i0, w2c_i1, w2c_j2, w2c_j3);
     w2c_i0 = !(w2c_i0);
     if (w2c_i0) {goto w2c_L5;}
     goto w2c_B2;
@@ -16659,7 +17127,7 @@ static void w2c_f25(module *m, u64 w2c_p0, u64 w2c_p1) {
     w2c_i4 = w2c_l19;
     w2c_j5 = w2c_l4;
     w2c_j6 = w2c_l2;
-    w2c_i0 = w2c_f26(m, w2c_i0, w2c_i1, w2c_j2, w2c_j3, w2c_i4, w2c_j5, w2c_j6);
+    w2c_i0 = w2c_f28(m, w2c_i0, w2c_i1, w2c_j2, w2c_j3, w2c_i4, w2c_j5, w2c_j6);
     w2c_i0 = !(w2c_i0);
     if (w2c_i0) {goto w2c_L5;}
     goto w2c_B2;
@@ -16812,7 +17280,7 @@ static void w2c_f25(module *m, u64 w2c_p0, u64 w2c_p1) {
     if (w2c_i0) {goto w2c_B2;}
     w2c_j0 = w2c_l4;
     w2c_j1 = w2c_l2;
-    w2c_i0 = w2c_f17(m, w2c_j0, w2c_j1);
+    w2c_i0 = w2c_f19(m, w2c_j0, w2c_j1);
     if (w2c_i0) {goto w2c_L5;}
     goto w2c_B2;
     w2c_B50:;
@@ -16820,7 +17288,7 @@ static void w2c_f25(module *m, u64 w2c_p0, u64 w2c_p1) {
     w2c_i1 = w2c_l13;
     w2c_j2 = w2c_l4;
     w2c_j3 = w2c_l2;
-    w2c_i0 = w2c_f18(m, w2c_i0, w2c_i1, w2c_j2, w2c_j3);
+    w2c_i0 = w2c_f20(m, w2c_i0, w2c_i1, w2c_j2, w2c_j3);
     w2c_i0 = !(w2c_i0);
     if (w2c_i0) {goto w2c_L5;}
     goto w2c_B2;
@@ -17196,7 +17664,7 @@ static void w2c_f25(module *m, u64 w2c_p0, u64 w2c_p1) {
     w2c_i4 = w2c_l15;
     w2c_j5 = w2c_l4;
     w2c_j6 = w2c_l2;
-    w2c_i0 = w2c_f26(m, w2c_i0, w2c_i1, w2c_j2, w2c_j3, w2c_i4, w2c_j5, w2c_j6);
+    w2c_i0 = w2c_f28(m, w2c_i0, w2c_i1, w2c_j2, w2c_j3, w2c_i4, w2c_j5, w2c_j6);
     if (w2c_i0) {goto w2c_B60;}
     goto w2c_B51;
     w2c_B61:;
@@ -17338,7 +17806,7 @@ static void w2c_f25(module *m, u64 w2c_p0, u64 w2c_p1) {
     if (w2c_i0) {goto w2c_B78;}
     w2c_j0 = w2c_l4;
     w2c_j1 = w2c_l2;
-    w2c_i0 = w2c_f17(m, w2c_j0, w2c_j1);
+    w2c_i0 = w2c_f19(m, w2c_j0, w2c_j1);
     w2c_i0 = !(w2c_i0);
     if (w2c_i0) {goto w2c_B60;}
     goto w2c_B51;
@@ -17347,7 +17815,7 @@ static void w2c_f25(module *m, u64 w2c_p0, u64 w2c_p1) {
     w2c_i1 = w2c_l13;
     w2c_j2 = w2c_l4;
     w2c_j3 = w2c_l2;
-    w2c_i0 = w2c_f18(m, w2c_i0, w2c_i1, w2c_j2, w2c_j3);
+    w2c_i0 = w2c_f20(m, w2c_i0, w2c_i1, w2c_j2, w2c_j3);
     w2c_i0 = !(w2c_i0);
     if (w2c_i0) {goto w2c_B51;}
     w2c_B60:;
@@ -17368,7 +17836,7 @@ static void w2c_f25(module *m, u64 w2c_p0, u64 w2c_p1) {
     w2c_j1 = 8ull;
     w2c_j0 += w2c_j1;
     w2c_i1 = w2c_l15;
-    w2c_f19(m, w2c_j0, w2c_i1);
+    w2c_f21(m, w2c_j0, w2c_i1);
     w2c_i0 = w2c_l15;
     w2c_i1 = 4294967238u;
     w2c_i0 += w2c_i1;
@@ -17395,7 +17863,7 @@ static void w2c_f25(module *m, u64 w2c_p0, u64 w2c_p1) {
     w2c_B79:;
     w2c_j0 = w2c_l3;
     w2c_i1 = w2c_l19;
-    w2c_f19(m, w2c_j0, w2c_i1);
+    w2c_f21(m, w2c_j0, w2c_i1);
     w2c_i0 = w2c_l19;
     w2c_i1 = 4294967238u;
     w2c_i0 += w2c_i1;
@@ -17538,7 +18006,7 @@ static void w2c_f25(module *m, u64 w2c_p0, u64 w2c_p1) {
   m->w2c_g0 = w2c_j0;
 }
 
-static u32 w2c_f26(module *m, u32 w2c_p0, u32 w2c_p1, u64 w2c_p2, u64 w2c_p3, u32 w2c_p4, u64 w2c_p5, u64 w2c_p6) {
+static u32 w2c_f28(module *m, u32 w2c_p0, u32 w2c_p1, u64 w2c_p2, u64 w2c_p3, u32 w2c_p4, u64 w2c_p5, u64 w2c_p6) {
   u32 w2c_l11 = 0, w2c_l12 = 0, w2c_l13 = 0, w2c_l14 = 0;
   u64 w2c_l7 = 0, w2c_l8 = 0, w2c_l9 = 0, w2c_l10 = 0;
   u32 w2c_i0, w2c_i1, w2c_i2, w2c_i3, w2c_i4;
@@ -17918,7 +18386,7 @@ static u32 w2c_f26(module *m, u32 w2c_p0, u32 w2c_p1, u64 w2c_p2, u64 w2c_p3, u3
   w2c_i4 = w2c_l12;
   w2c_j5 = 66332ull;
   w2c_j6 = 0ull;
-  w2c_i0 = w2c_f27(m, w2c_i0, w2c_i1, w2c_i2, w2c_i3, w2c_i4, w2c_j5, w2c_j6);
+  w2c_i0 = w2c_f29(m, w2c_i0, w2c_i1, w2c_i2, w2c_i3, w2c_i4, w2c_j5, w2c_j6);
   w2c_i0 = !(w2c_i0);
   if (w2c_i0) {goto w2c_B2;}
   w2c_j0 = w2c_p6;
@@ -18173,7 +18641,7 @@ static u32 w2c_f26(module *m, u32 w2c_p0, u32 w2c_p1, u64 w2c_p2, u64 w2c_p3, u3
   w2c_j1 = 8ull;
   w2c_j0 += w2c_j1;
   w2c_i1 = w2c_p4;
-  w2c_f19(m, w2c_j0, w2c_i1);
+  w2c_f21(m, w2c_j0, w2c_i1);
   w2c_i0 = w2c_p4;
   w2c_i1 = 4294967238u;
   w2c_i0 += w2c_i1;
@@ -18520,7 +18988,7 @@ static u32 w2c_f26(module *m, u32 w2c_p0, u32 w2c_p1, u64 w2c_p2, u64 w2c_p3, u3
   w2c_B52:;
   w2c_j0 = w2c_l7;
   w2c_i1 = w2c_p4;
-  w2c_f19(m, w2c_j0, w2c_i1);
+  w2c_f21(m, w2c_j0, w2c_i1);
   w2c_i0 = 1u;
   w2c_l11 = w2c_i0;
   w2c_j0 = w2c_p2;
@@ -19895,7 +20363,7 @@ static u32 w2c_f26(module *m, u32 w2c_p0, u32 w2c_p1, u64 w2c_p2, u64 w2c_p3, u3
   if (w2c_i0) {goto w2c_B0;}
   w2c_j0 = w2c_p2;
   w2c_j1 = w2c_p3;
-  w2c_i0 = w2c_f17(m, w2c_j0, w2c_j1);
+  w2c_i0 = w2c_f19(m, w2c_j0, w2c_j1);
   w2c_i0 = !(w2c_i0);
   if (w2c_i0) {goto w2c_B0;}
   w2c_B91:;
@@ -19913,7 +20381,7 @@ static u32 w2c_f26(module *m, u32 w2c_p0, u32 w2c_p1, u64 w2c_p2, u64 w2c_p3, u3
   w2c_i1 = w2c_p1;
   w2c_j2 = w2c_p2;
   w2c_j3 = w2c_p3;
-  w2c_i0 = w2c_f28(m, w2c_i0, w2c_i1, w2c_j2, w2c_j3);
+  w2c_i0 = w2c_f30(m, w2c_i0, w2c_i1, w2c_j2, w2c_j3);
   w2c_p4 = w2c_i0;
   w2c_j0 = w2c_p6;
   w2c_i0 = !(w2c_j0);
@@ -20003,7 +20471,7 @@ static u32 w2c_f26(module *m, u32 w2c_p0, u32 w2c_p1, u64 w2c_p2, u64 w2c_p3, u3
   w2c_j3 = w2c_p6;
   w2c_j4 = w2c_p3;
   w2c_j3 -= w2c_j4;
-  w2c_i0 = w2c_f29(m, w2c_i0, w2c_i1, w2c_j2, w2c_j3);
+  w2c_i0 = w2c_f31(m, w2c_i0, w2c_i1, w2c_j2, w2c_j3);
   w2c_l11 = w2c_i0;
   goto w2c_B0;
   w2c_B13:;
@@ -20036,14 +20504,14 @@ static u32 w2c_f26(module *m, u32 w2c_p0, u32 w2c_p1, u64 w2c_p2, u64 w2c_p3, u3
   w2c_i1 = w2c_p1;
   w2c_j2 = w2c_p2;
   w2c_j3 = w2c_l8;
-  w2c_i0 = w2c_f28(m, w2c_i0, w2c_i1, w2c_j2, w2c_j3);
+  w2c_i0 = w2c_f30(m, w2c_i0, w2c_i1, w2c_j2, w2c_j3);
   w2c_i0 = !(w2c_i0);
   if (w2c_i0) {goto w2c_B0;}
   w2c_i0 = w2c_p0;
   w2c_i1 = w2c_p1;
   w2c_j2 = w2c_p5;
   w2c_j3 = w2c_p6;
-  w2c_i0 = w2c_f29(m, w2c_i0, w2c_i1, w2c_j2, w2c_j3);
+  w2c_i0 = w2c_f31(m, w2c_i0, w2c_i1, w2c_j2, w2c_j3);
   w2c_l11 = w2c_i0;
   goto w2c_B0;
   w2c_B11:;
@@ -20051,7 +20519,7 @@ static u32 w2c_f26(module *m, u32 w2c_p0, u32 w2c_p1, u64 w2c_p2, u64 w2c_p3, u3
   w2c_i1 = w2c_p1;
   w2c_j2 = w2c_p2;
   w2c_j3 = w2c_p3;
-  w2c_i0 = w2c_f28(m, w2c_i0, w2c_i1, w2c_j2, w2c_j3);
+  w2c_i0 = w2c_f30(m, w2c_i0, w2c_i1, w2c_j2, w2c_j3);
   w2c_i0 = !(w2c_i0);
   if (w2c_i0) {goto w2c_B107;}
   w2c_i0 = 1u;
@@ -20414,7 +20882,7 @@ static u32 w2c_f26(module *m, u32 w2c_p0, u32 w2c_p1, u64 w2c_p2, u64 w2c_p3, u3
   w2c_i1 = w2c_p1;
   w2c_j2 = w2c_p2;
   w2c_j3 = w2c_p3;
-  w2c_i0 = w2c_f28(m, w2c_i0, w2c_i1, w2c_j2, w2c_j3);
+  w2c_i0 = w2c_f30(m, w2c_i0, w2c_i1, w2c_j2, w2c_j3);
   if (w2c_i0) {goto w2c_B0;}
   w2c_i0 = 1u;
   w2c_l11 = w2c_i0;
@@ -22391,14 +22859,14 @@ static u32 w2c_f26(module *m, u32 w2c_p0, u32 w2c_p1, u64 w2c_p2, u64 w2c_p3, u3
   w2c_i1 = w2c_p1;
   w2c_j2 = w2c_p5;
   w2c_j3 = w2c_p6;
-  w2c_i0 = w2c_f29(m, w2c_i0, w2c_i1, w2c_j2, w2c_j3);
+  w2c_i0 = w2c_f31(m, w2c_i0, w2c_i1, w2c_j2, w2c_j3);
   w2c_i0 = !(w2c_i0);
   if (w2c_i0) {goto w2c_B0;}
   w2c_i0 = w2c_p0;
   w2c_i1 = w2c_p1;
   w2c_j2 = w2c_p2;
   w2c_j3 = w2c_p3;
-  w2c_i0 = w2c_f28(m, w2c_i0, w2c_i1, w2c_j2, w2c_j3);
+  w2c_i0 = w2c_f30(m, w2c_i0, w2c_i1, w2c_j2, w2c_j3);
   if (w2c_i0) {goto w2c_B0;}
   w2c_i0 = 1u;
   w2c_l11 = w2c_i0;
@@ -22630,7 +23098,7 @@ static u32 w2c_f26(module *m, u32 w2c_p0, u32 w2c_p1, u64 w2c_p2, u64 w2c_p3, u3
   return w2c_i0;
 }
 
-static u32 w2c_f27(module *m, u32 w2c_p0, u32 w2c_p1, u32 w2c_p2, u32 w2c_p3, u32 w2c_p4, u64 w2c_p5, u64 w2c_p6) {
+static u32 w2c_f29(module *m, u32 w2c_p0, u32 w2c_p1, u32 w2c_p2, u32 w2c_p3, u32 w2c_p4, u64 w2c_p5, u64 w2c_p6) {
   u32 w2c_l8 = 0;
   u64 w2c_l7 = 0;
   u32 w2c_i0, w2c_i1, w2c_i2;
@@ -22781,7 +23249,7 @@ static u32 w2c_f27(module *m, u32 w2c_p0, u32 w2c_p1, u32 w2c_p2, u32 w2c_p3, u3
   w2c_i1 = w2c_p1;
   w2c_j2 = w2c_p5;
   w2c_j3 = w2c_p6;
-  w2c_i0 = w2c_f18(m, w2c_i0, w2c_i1, w2c_j2, w2c_j3);
+  w2c_i0 = w2c_f20(m, w2c_i0, w2c_i1, w2c_j2, w2c_j3);
   w2c_i0 = !(w2c_i0);
   if (w2c_i0) {goto w2c_B3;}
   w2c_j0 = w2c_l7;
@@ -22791,7 +23259,7 @@ static u32 w2c_f27(module *m, u32 w2c_p0, u32 w2c_p1, u32 w2c_p2, u32 w2c_p3, u3
   w2c_B13:;
   w2c_j0 = w2c_p5;
   w2c_j1 = w2c_p6;
-  w2c_i0 = w2c_f17(m, w2c_j0, w2c_j1);
+  w2c_i0 = w2c_f19(m, w2c_j0, w2c_j1);
   if (w2c_i0) {goto w2c_B3;}
   w2c_j0 = w2c_l7;
   m->w2c_g0 = w2c_j0;
@@ -22826,7 +23294,7 @@ static u32 w2c_f27(module *m, u32 w2c_p0, u32 w2c_p1, u32 w2c_p2, u32 w2c_p3, u3
   return w2c_i0;
 }
 
-static u32 w2c_f28(module *m, u32 w2c_p0, u32 w2c_p1, u64 w2c_p2, u64 w2c_p3) {
+static u32 w2c_f30(module *m, u32 w2c_p0, u32 w2c_p1, u64 w2c_p2, u64 w2c_p3) {
   u32 w2c_l7 = 0, w2c_l8 = 0, w2c_l9 = 0, w2c_l10 = 0;
   u64 w2c_l4 = 0, w2c_l5 = 0, w2c_l6 = 0;
   u32 w2c_i0, w2c_i1, w2c_i2, w2c_i3, w2c_i4;
@@ -23040,7 +23508,7 @@ static u32 w2c_f28(module *m, u32 w2c_p0, u32 w2c_p1, u64 w2c_p2, u64 w2c_p3) {
   w2c_i4 = w2c_l8;
   w2c_j5 = 66332ull;
   w2c_j6 = 0ull;
-  w2c_i0 = w2c_f27(m, w2c_i0, w2c_i1, w2c_i2, w2c_i3, w2c_i4, w2c_j5, w2c_j6);
+  w2c_i0 = w2c_f29(m, w2c_i0, w2c_i1, w2c_i2, w2c_i3, w2c_i4, w2c_j5, w2c_j6);
   w2c_l7 = w2c_i0;
   w2c_j0 = w2c_l4;
   m->w2c_g0 = w2c_j0;
@@ -23052,7 +23520,7 @@ static u32 w2c_f28(module *m, u32 w2c_p0, u32 w2c_p1, u64 w2c_p2, u64 w2c_p3) {
   return w2c_i0;
 }
 
-static u32 w2c_f29(module *m, u32 w2c_p0, u32 w2c_p1, u64 w2c_p2, u64 w2c_p3) {
+static u32 w2c_f31(module *m, u32 w2c_p0, u32 w2c_p1, u64 w2c_p2, u64 w2c_p3) {
   u32 w2c_l6 = 0, w2c_l7 = 0, w2c_l8 = 0, w2c_l9 = 0, w2c_l10 = 0;
   u64 w2c_l4 = 0, w2c_l5 = 0;
   u32 w2c_i0, w2c_i1, w2c_i2, w2c_i3, w2c_i4;
@@ -23323,7 +23791,7 @@ static u32 w2c_f29(module *m, u32 w2c_p0, u32 w2c_p1, u64 w2c_p2, u64 w2c_p3) {
   w2c_i4 = w2c_l9;
   w2c_j5 = w2c_p2;
   w2c_j6 = w2c_p3;
-  w2c_i0 = w2c_f27(m, w2c_i0, w2c_i1, w2c_i2, w2c_i3, w2c_i4, w2c_j5, w2c_j6);
+  w2c_i0 = w2c_f29(m, w2c_i0, w2c_i1, w2c_i2, w2c_i3, w2c_i4, w2c_j5, w2c_j6);
   w2c_l6 = w2c_i0;
   w2c_j0 = w2c_l4;
   m->w2c_g0 = w2c_j0;
@@ -23335,7 +23803,7 @@ static u32 w2c_f29(module *m, u32 w2c_p0, u32 w2c_p1, u64 w2c_p2, u64 w2c_p3) {
   return w2c_i0;
 }
 
-static u64 w2c_f30(module *m, u64 w2c_p0, u64 w2c_p1, u32 w2c_p2, u32 w2c_p3, u64 w2c_p4, u64 w2c_p5) {
+static u64 w2c_f32(module *m, u64 w2c_p0, u64 w2c_p1, u32 w2c_p2, u32 w2c_p3, u64 w2c_p4, u64 w2c_p5) {
   u32 w2c_l16 = 0, w2c_l17 = 0, w2c_l18 = 0, w2c_l19 = 0, w2c_l20 = 0, w2c_l21 = 0;
   u64 w2c_l6 = 0, w2c_l7 = 0, w2c_l8 = 0, w2c_l9 = 0, w2c_l10 = 0, w2c_l11 = 0, w2c_l12 = 0, w2c_l13 = 0, w2c_l14 = 0, w2c_l15 = 0;
   u32 w2c_i0, w2c_i1, w2c_i2, w2c_i3, w2c_i4, w2c_i5, w2c_i6;
@@ -28258,13 +28726,13 @@ static u64 w2c_f30(module *m, u64 w2c_p0, u64 w2c_p1, u32 w2c_p2, u32 w2c_p3, u6
   return w2c_j0;
 }
 
-static void w2c_f31(module *m, u64 w2c_p0, u64 w2c_p1, u64 w2c_p2, u32 w2c_p3) {
+static void w2c_f33(module *m, u64 w2c_p0, u64 w2c_p1, u64 w2c_p2, u32 w2c_p3) {
   u32 w2c_l14 = 0, w2c_l15 = 0, w2c_l16 = 0, w2c_l17 = 0, w2c_l18 = 0, w2c_l19 = 0;
   u64 w2c_l4 = 0, w2c_l5 = 0, w2c_l6 = 0, w2c_l7 = 0, w2c_l8 = 0, w2c_l9 = 0, w2c_l10 = 0, w2c_l11 = 0, w2c_l12 = 0, w2c_l13 = 0;
   u32 w2c_i0, w2c_i1, w2c_i2, w2c_i3, w2c_i4;
   u64 w2c_j0, w2c_j1, w2c_j2, w2c_j3, w2c_j4;
   w2c_j0 = m->w2c_g0;
-  w2c_j1 = 368ull;
+  w2c_j1 = 384ull;
   w2c_j0 -= w2c_j1;
   w2c_l4 = w2c_j0;
   m->w2c_g0 = w2c_j0;
@@ -28276,11 +28744,11 @@ static void w2c_f31(module *m, u64 w2c_p0, u64 w2c_p1, u64 w2c_p2, u32 w2c_p3) {
   w2c_j0 = w2c_l4;
   w2c_i0 = (u32)(w2c_j0);
   w2c_j1 = 0ull;
-  i64_store(m, (u64)(w2c_i0) + 103, w2c_j1);
+  i64_store(m, (u64)(w2c_i0) + 119, w2c_j1);
   w2c_j0 = w2c_l4;
   w2c_i0 = (u32)(w2c_j0);
   w2c_j1 = 0ull;
-  i64_store(m, (u64)(w2c_i0) + 96, w2c_j1);
+  i64_store(m, (u64)(w2c_i0) + 112, w2c_j1);
   w2c_j0 = w2c_p2;
   w2c_i0 = !(w2c_j0);
   if (w2c_i0) {goto w2c_B1;}
@@ -28652,14 +29120,6 @@ static void w2c_f31(module *m, u64 w2c_p0, u64 w2c_p1, u64 w2c_p2, u32 w2c_p3) {
   w2c_j0 = w2c_l4;
   w2c_i0 = (u32)(w2c_j0);
   w2c_j1 = 0ull;
-  i64_store(m, (u64)(w2c_i0) + 208, w2c_j1);
-  w2c_j0 = w2c_l4;
-  w2c_i0 = (u32)(w2c_j0);
-  w2c_j1 = 0ull;
-  i64_store(m, (u64)(w2c_i0) + 216, w2c_j1);
-  w2c_j0 = w2c_l4;
-  w2c_i0 = (u32)(w2c_j0);
-  w2c_j1 = 0ull;
   i64_store(m, (u64)(w2c_i0) + 224, w2c_j1);
   w2c_j0 = w2c_l4;
   w2c_i0 = (u32)(w2c_j0);
@@ -28676,11 +29136,11 @@ static void w2c_f31(module *m, u64 w2c_p0, u64 w2c_p1, u64 w2c_p2, u32 w2c_p3) {
   w2c_j0 = w2c_l4;
   w2c_i0 = (u32)(w2c_j0);
   w2c_j1 = 0ull;
-  i64_store(m, (u64)(w2c_i0) + 160, w2c_j1);
+  i64_store(m, (u64)(w2c_i0) + 256, w2c_j1);
   w2c_j0 = w2c_l4;
   w2c_i0 = (u32)(w2c_j0);
   w2c_j1 = 0ull;
-  i64_store(m, (u64)(w2c_i0) + 168, w2c_j1);
+  i64_store(m, (u64)(w2c_i0) + 264, w2c_j1);
   w2c_j0 = w2c_l4;
   w2c_i0 = (u32)(w2c_j0);
   w2c_j1 = 0ull;
@@ -28700,11 +29160,11 @@ static void w2c_f31(module *m, u64 w2c_p0, u64 w2c_p1, u64 w2c_p2, u32 w2c_p3) {
   w2c_j0 = w2c_l4;
   w2c_i0 = (u32)(w2c_j0);
   w2c_j1 = 0ull;
-  i64_store(m, (u64)(w2c_i0) + 112, w2c_j1);
+  i64_store(m, (u64)(w2c_i0) + 208, w2c_j1);
   w2c_j0 = w2c_l4;
   w2c_i0 = (u32)(w2c_j0);
   w2c_j1 = 0ull;
-  i64_store(m, (u64)(w2c_i0) + 120, w2c_j1);
+  i64_store(m, (u64)(w2c_i0) + 216, w2c_j1);
   w2c_j0 = w2c_l4;
   w2c_i0 = (u32)(w2c_j0);
   w2c_j1 = 0ull;
@@ -28724,27 +29184,11 @@ static void w2c_f31(module *m, u64 w2c_p0, u64 w2c_p1, u64 w2c_p2, u32 w2c_p3) {
   w2c_j0 = w2c_l4;
   w2c_i0 = (u32)(w2c_j0);
   w2c_j1 = 0ull;
-  i64_store(m, (u64)(w2c_i0) + 280, w2c_j1);
+  i64_store(m, (u64)(w2c_i0) + 160, w2c_j1);
   w2c_j0 = w2c_l4;
   w2c_i0 = (u32)(w2c_j0);
   w2c_j1 = 0ull;
-  i64_store(m, (u64)(w2c_i0) + 272, w2c_j1);
-  w2c_j0 = w2c_l4;
-  w2c_i0 = (u32)(w2c_j0);
-  w2c_j1 = 0ull;
-  i64_store(m, (u64)(w2c_i0) + 264, w2c_j1);
-  w2c_j0 = w2c_l4;
-  w2c_i0 = (u32)(w2c_j0);
-  w2c_j1 = 0ull;
-  i64_store(m, (u64)(w2c_i0) + 256, w2c_j1);
-  w2c_j0 = w2c_l4;
-  w2c_i0 = (u32)(w2c_j0);
-  w2c_j1 = 0ull;
-  i64_store(m, (u64)(w2c_i0) + 312, w2c_j1);
-  w2c_j0 = w2c_l4;
-  w2c_i0 = (u32)(w2c_j0);
-  w2c_j1 = 0ull;
-  i64_store(m, (u64)(w2c_i0) + 304, w2c_j1);
+  i64_store(m, (u64)(w2c_i0) + 168, w2c_j1);
   w2c_j0 = w2c_l4;
   w2c_i0 = (u32)(w2c_j0);
   w2c_j1 = 0ull;
@@ -28754,32 +29198,64 @@ static void w2c_f31(module *m, u64 w2c_p0, u64 w2c_p1, u64 w2c_p2, u32 w2c_p3) {
   w2c_j1 = 0ull;
   i64_store(m, (u64)(w2c_i0) + 288, w2c_j1);
   w2c_j0 = w2c_l4;
-  w2c_j1 = 288ull;
+  w2c_i0 = (u32)(w2c_j0);
+  w2c_j1 = 0ull;
+  i64_store(m, (u64)(w2c_i0) + 280, w2c_j1);
+  w2c_j0 = w2c_l4;
+  w2c_i0 = (u32)(w2c_j0);
+  w2c_j1 = 0ull;
+  i64_store(m, (u64)(w2c_i0) + 272, w2c_j1);
+  w2c_j0 = w2c_l4;
+  w2c_i0 = (u32)(w2c_j0);
+  w2c_j1 = 0ull;
+  i64_store(m, (u64)(w2c_i0) + 328, w2c_j1);
+  w2c_j0 = w2c_l4;
+  w2c_i0 = (u32)(w2c_j0);
+  w2c_j1 = 0ull;
+  i64_store(m, (u64)(w2c_i0) + 320, w2c_j1);
+  w2c_j0 = w2c_l4;
+  w2c_i0 = (u32)(w2c_j0);
+  w2c_j1 = 0ull;
+  i64_store(m, (u64)(w2c_i0) + 312, w2c_j1);
+  w2c_j0 = w2c_l4;
+  w2c_i0 = (u32)(w2c_j0);
+  w2c_j1 = 0ull;
+  i64_store(m, (u64)(w2c_i0) + 304, w2c_j1);
+  w2c_j0 = w2c_l4;
+  w2c_j1 = 304ull;
   w2c_j0 += w2c_j1;
   w2c_j1 = w2c_l10;
   w2c_j2 = w2c_l9;
-  w2c_f32(m, w2c_j0, w2c_j1, w2c_j2);
+  w2c_f34(m, w2c_j0, w2c_j1, w2c_j2);
   w2c_j0 = w2c_l9;
   w2c_l6 = w2c_j0;
   w2c_j0 = w2c_l4;
   w2c_i0 = (u32)(w2c_j0);
-  w2c_i0 = i32_load8_u(m, (u64)(w2c_i0) + 288u);
+  w2c_i0 = i32_load8_u(m, (u64)(w2c_i0) + 304u);
   w2c_i1 = 1u;
   w2c_i0 = w2c_i0 != w2c_i1;
   if (w2c_i0) {goto w2c_B28;}
   w2c_L30:
     w2c_j0 = w2c_l4;
     w2c_i0 = (u32)(w2c_j0);
-    w2c_j0 = i64_load(m, (u64)(w2c_i0) + 312u);
+    w2c_j0 = i64_load(m, (u64)(w2c_i0) + 328u);
     w2c_l7 = w2c_j0;
     w2c_j0 = w2c_l4;
     w2c_i0 = (u32)(w2c_j0);
-    w2c_j0 = i64_load(m, (u64)(w2c_i0) + 304u);
+    w2c_j0 = i64_load(m, (u64)(w2c_i0) + 320u);
     w2c_l8 = w2c_j0;
     w2c_j0 = w2c_l4;
     w2c_i0 = (u32)(w2c_j0);
-    w2c_i0 = i32_load(m, (u64)(w2c_i0) + 296u);
+    w2c_i0 = i32_load(m, (u64)(w2c_i0) + 312u);
     w2c_l14 = w2c_i0;
+    w2c_j0 = w2c_l4;
+    w2c_i0 = (u32)(w2c_j0);
+    w2c_j1 = 0ull;
+    i64_store(m, (u64)(w2c_i0) + 360, w2c_j1);
+    w2c_j0 = w2c_l4;
+    w2c_i0 = (u32)(w2c_j0);
+    w2c_j1 = 0ull;
+    i64_store(m, (u64)(w2c_i0) + 352, w2c_j1);
     w2c_j0 = w2c_l4;
     w2c_i0 = (u32)(w2c_j0);
     w2c_j1 = 0ull;
@@ -28788,54 +29264,50 @@ static void w2c_f31(module *m, u64 w2c_p0, u64 w2c_p1, u64 w2c_p2, u32 w2c_p3) {
     w2c_i0 = (u32)(w2c_j0);
     w2c_j1 = 0ull;
     i64_store(m, (u64)(w2c_i0) + 336, w2c_j1);
-    w2c_j0 = w2c_l4;
-    w2c_i0 = (u32)(w2c_j0);
-    w2c_j1 = 0ull;
-    i64_store(m, (u64)(w2c_i0) + 328, w2c_j1);
-    w2c_j0 = w2c_l4;
-    w2c_i0 = (u32)(w2c_j0);
-    w2c_j1 = 0ull;
-    i64_store(m, (u64)(w2c_i0) + 320, w2c_j1);
     w2c_i0 = w2c_l14;
     w2c_i1 = 20998u;
     w2c_i0 = w2c_i0 != w2c_i1;
     if (w2c_i0) {goto w2c_B31;}
     w2c_j0 = w2c_l4;
-    w2c_j1 = 320ull;
+    w2c_j1 = 336ull;
     w2c_j0 += w2c_j1;
     w2c_j1 = w2c_l8;
     w2c_j2 = w2c_l7;
-    w2c_f32(m, w2c_j0, w2c_j1, w2c_j2);
+    w2c_f34(m, w2c_j0, w2c_j1, w2c_j2);
     w2c_j0 = w2c_l4;
     w2c_i0 = (u32)(w2c_j0);
-    w2c_i0 = i32_load8_u(m, (u64)(w2c_i0) + 320u);
+    w2c_i0 = i32_load8_u(m, (u64)(w2c_i0) + 336u);
     w2c_i1 = 1u;
     w2c_i0 = w2c_i0 != w2c_i1;
     if (w2c_i0) {goto w2c_B31;}
     w2c_j0 = w2c_l4;
     w2c_i0 = (u32)(w2c_j0);
-    w2c_i0 = i32_load(m, (u64)(w2c_i0) + 328u);
+    w2c_i0 = i32_load(m, (u64)(w2c_i0) + 344u);
     w2c_i1 = 20043u;
     w2c_i0 = w2c_i0 == w2c_i1;
     if (w2c_i0) {goto w2c_B29;}
     w2c_B31:;
     w2c_j0 = w2c_l4;
-    w2c_j1 = 288ull;
+    w2c_j1 = 304ull;
     w2c_j0 += w2c_j1;
     w2c_j1 = w2c_l8;
     w2c_j2 = w2c_l7;
-    w2c_f32(m, w2c_j0, w2c_j1, w2c_j2);
+    w2c_f34(m, w2c_j0, w2c_j1, w2c_j2);
     w2c_j0 = w2c_l7;
     w2c_l6 = w2c_j0;
     w2c_j0 = w2c_l4;
     w2c_i0 = (u32)(w2c_j0);
-    w2c_i0 = i32_load8_u(m, (u64)(w2c_i0) + 288u);
+    w2c_i0 = i32_load8_u(m, (u64)(w2c_i0) + 304u);
     w2c_i1 = 1u;
     w2c_i0 = w2c_i0 == w2c_i1;
     if (w2c_i0) {goto w2c_L30;}
     goto w2c_B28;
   UNREACHABLE;
   w2c_B29:;
+  w2c_j0 = w2c_l4;
+  w2c_i0 = (u32)(w2c_j0);
+  w2c_j0 = i64_load(m, (u64)(w2c_i0) + 352u);
+  w2c_l11 = w2c_j0;
   w2c_j0 = 0ull;
   w2c_l8 = w2c_j0;
   w2c_j0 = 0ull;
@@ -28843,21 +29315,41 @@ static void w2c_f31(module *m, u64 w2c_p0, u64 w2c_p1, u64 w2c_p2, u32 w2c_p3) {
   w2c_j0 = w2c_l9;
   w2c_j1 = w2c_l4;
   w2c_i1 = (u32)(w2c_j1);
-  w2c_j1 = i64_load(m, (u64)(w2c_i1) + 344u);
-  w2c_l11 = w2c_j1;
+  w2c_j1 = i64_load(m, (u64)(w2c_i1) + 360u);
+  w2c_l12 = w2c_j1;
   w2c_j0 -= w2c_j1;
   w2c_p2 = w2c_j0;
-  w2c_j1 = 8ull;
+  w2c_j1 = 32ull;
   w2c_i0 = w2c_j0 < w2c_j1;
   if (w2c_i0) {goto w2c_B32;}
-  w2c_j0 = 0ull;
-  w2c_l7 = w2c_j0;
-  w2c_j0 = w2c_l10;
-  w2c_p1 = w2c_j0;
-  w2c_j0 = 0ull;
+  w2c_j0 = w2c_l4;
+  w2c_j1 = 96ull;
+  w2c_j0 += w2c_j1;
+  w2c_j1 = w2c_l10;
+  w2c_j2 = w2c_p2;
+  w2c_j3 = w2c_p2;
+  w2c_f14(m, w2c_j0, w2c_j1, w2c_j2, w2c_j3);
+  w2c_j0 = w2c_p2;
+  w2c_j1 = w2c_l4;
+  w2c_i1 = (u32)(w2c_j1);
+  w2c_j1 = i64_load(m, (u64)(w2c_i1) + 104u);
+  w2c_j0 -= w2c_j1;
   w2c_l8 = w2c_j0;
-  w2c_L33:
-    w2c_j0 = w2c_p1;
+  w2c_j0 = w2c_l4;
+  w2c_i0 = (u32)(w2c_j0);
+  w2c_j0 = i64_load(m, (u64)(w2c_i0) + 96u);
+  w2c_l7 = w2c_j0;
+  w2c_B32:;
+  w2c_j0 = w2c_p2;
+  w2c_j1 = w2c_l7;
+  w2c_j0 -= w2c_j1;
+  w2c_j1 = 8ull;
+  w2c_i0 = w2c_j0 < w2c_j1;
+  if (w2c_i0) {goto w2c_B33;}
+  w2c_L34:
+    w2c_j0 = w2c_l10;
+    w2c_j1 = w2c_l7;
+    w2c_j0 += w2c_j1;
     w2c_i0 = (u32)(w2c_j0);
     w2c_j0 = i64_load(m, (u64)(w2c_i0));
     w2c_p1 = w2c_j0;
@@ -28865,7 +29357,7 @@ static void w2c_f31(module *m, u64 w2c_p0, u64 w2c_p1, u64 w2c_p2, u32 w2c_p3) {
     w2c_j0 &= w2c_j1;
     w2c_j1 = 63050398541283552ull;
     w2c_i0 = w2c_j0 != w2c_j1;
-    if (w2c_i0) {goto w2c_B35;}
+    if (w2c_i0) {goto w2c_B36;}
     w2c_j0 = w2c_l8;
     w2c_j1 = 3ull;
     w2c_j0 += w2c_j1;
@@ -28874,14 +29366,14 @@ static void w2c_f31(module *m, u64 w2c_p0, u64 w2c_p1, u64 w2c_p2, u32 w2c_p3) {
     w2c_j1 = 9ull;
     w2c_j0 += w2c_j1;
     w2c_l7 = w2c_j0;
-    goto w2c_B34;
-    w2c_B35:;
+    goto w2c_B35;
+    w2c_B36:;
     w2c_j0 = w2c_p1;
     w2c_j1 = 9259542123273814144ull;
     w2c_j0 &= w2c_j1;
     w2c_j1 = 0ull;
     w2c_i0 = w2c_j0 != w2c_j1;
-    if (w2c_i0) {goto w2c_B32;}
+    if (w2c_i0) {goto w2c_B33;}
     w2c_j0 = w2c_l8;
     w2c_j1 = 8ull;
     w2c_j0 += w2c_j1;
@@ -28890,27 +29382,23 @@ static void w2c_f31(module *m, u64 w2c_p0, u64 w2c_p1, u64 w2c_p2, u32 w2c_p3) {
     w2c_j1 = 8ull;
     w2c_j0 += w2c_j1;
     w2c_l7 = w2c_j0;
-    w2c_B34:;
-    w2c_j0 = w2c_l10;
-    w2c_j1 = w2c_l7;
-    w2c_j0 += w2c_j1;
-    w2c_p1 = w2c_j0;
+    w2c_B35:;
     w2c_j0 = w2c_p2;
     w2c_j1 = w2c_l7;
     w2c_j0 -= w2c_j1;
     w2c_j1 = 7ull;
     w2c_i0 = w2c_j0 > w2c_j1;
-    if (w2c_i0) {goto w2c_L33;}
-  w2c_B32:;
+    if (w2c_i0) {goto w2c_L34;}
+  w2c_B33:;
   w2c_j0 = w2c_l9;
   w2c_j1 = w2c_l6;
   w2c_j0 -= w2c_j1;
-  w2c_l12 = w2c_j0;
+  w2c_l13 = w2c_j0;
   w2c_j0 = w2c_l7;
   w2c_j1 = w2c_p2;
   w2c_i0 = w2c_j0 >= w2c_j1;
-  if (w2c_i0) {goto w2c_B36;}
-  w2c_L37:
+  if (w2c_i0) {goto w2c_B37;}
+  w2c_L38:
     w2c_j0 = w2c_l8;
     w2c_j1 = 1ull;
     w2c_j0 += w2c_j1;
@@ -28934,38 +29422,42 @@ static void w2c_f31(module *m, u64 w2c_p0, u64 w2c_p1, u64 w2c_p2, u32 w2c_p3) {
     w2c_l7 = w2c_j0;
     w2c_j1 = w2c_p2;
     w2c_i0 = w2c_j0 < w2c_j1;
-    if (w2c_i0) {goto w2c_L37;}
-  w2c_B36:;
+    if (w2c_i0) {goto w2c_L38;}
+  w2c_B37:;
   w2c_j0 = w2c_l4;
-  w2c_i0 = (u32)(w2c_j0);
-  w2c_j0 = i64_load(m, (u64)(w2c_i0) + 336u);
-  w2c_l13 = w2c_j0;
-  w2c_j0 = w2c_l4;
-  w2c_j1 = 256ull;
+  w2c_j1 = 272ull;
   w2c_j0 += w2c_j1;
   w2c_j1 = w2c_l10;
-  w2c_j2 = w2c_l12;
-  w2c_f32(m, w2c_j0, w2c_j1, w2c_j2);
+  w2c_j2 = w2c_l13;
+  w2c_f34(m, w2c_j0, w2c_j1, w2c_j2);
   w2c_j0 = w2c_l4;
   w2c_i0 = (u32)(w2c_j0);
-  w2c_i0 = i32_load8_u(m, (u64)(w2c_i0) + 256u);
+  w2c_i0 = i32_load8_u(m, (u64)(w2c_i0) + 272u);
   w2c_i1 = 1u;
   w2c_i0 = w2c_i0 != w2c_i1;
   if (w2c_i0) {goto w2c_B28;}
   w2c_j0 = w2c_l4;
-  w2c_j1 = 256ull;
+  w2c_j1 = 272ull;
   w2c_j0 += w2c_j1;
-  w2c_j1 = w2c_l13;
-  w2c_j2 = w2c_l11;
-  w2c_f32(m, w2c_j0, w2c_j1, w2c_j2);
+  w2c_j1 = w2c_l11;
+  w2c_j2 = w2c_l12;
+  w2c_f34(m, w2c_j0, w2c_j1, w2c_j2);
   w2c_j0 = w2c_l4;
   w2c_i0 = (u32)(w2c_j0);
-  w2c_i0 = i32_load8_u(m, (u64)(w2c_i0) + 256u);
+  w2c_i0 = i32_load8_u(m, (u64)(w2c_i0) + 272u);
   w2c_i1 = 1u;
   w2c_i0 = w2c_i0 != w2c_i1;
   if (w2c_i0) {goto w2c_B28;}
   w2c_j0 = 0ull;
   w2c_l9 = w2c_j0;
+  w2c_j0 = w2c_l4;
+  w2c_i0 = (u32)(w2c_j0);
+  w2c_j1 = 0ull;
+  i64_store(m, (u64)(w2c_i0) + 376, w2c_j1);
+  w2c_j0 = w2c_l4;
+  w2c_i0 = (u32)(w2c_j0);
+  w2c_j1 = 0ull;
+  i64_store(m, (u64)(w2c_i0) + 368, w2c_j1);
   w2c_j0 = w2c_l4;
   w2c_i0 = (u32)(w2c_j0);
   w2c_j1 = 0ull;
@@ -28982,33 +29474,25 @@ static void w2c_f31(module *m, u64 w2c_p0, u64 w2c_p1, u64 w2c_p2, u32 w2c_p3) {
   w2c_i0 = (u32)(w2c_j0);
   w2c_j1 = 0ull;
   i64_store(m, (u64)(w2c_i0) + 336, w2c_j1);
-  w2c_j0 = w2c_l4;
-  w2c_i0 = (u32)(w2c_j0);
-  w2c_j1 = 0ull;
-  i64_store(m, (u64)(w2c_i0) + 328, w2c_j1);
-  w2c_j0 = w2c_l4;
-  w2c_i0 = (u32)(w2c_j0);
-  w2c_j1 = 0ull;
-  i64_store(m, (u64)(w2c_i0) + 320, w2c_j1);
   w2c_i0 = 0u;
   w2c_l14 = w2c_i0;
-  w2c_j0 = w2c_l12;
+  w2c_j0 = w2c_l13;
   w2c_i0 = !(w2c_j0);
   if (w2c_i0) {goto w2c_B26;}
   w2c_j0 = w2c_l5;
   w2c_p1 = w2c_j0;
-  w2c_j0 = w2c_l12;
+  w2c_j0 = w2c_l13;
   w2c_p2 = w2c_j0;
   w2c_j0 = w2c_l10;
   w2c_l7 = w2c_j0;
-  w2c_L39:
+  w2c_L40:
     w2c_j0 = w2c_l7;
     w2c_i0 = (u32)(w2c_j0);
     w2c_i0 = i32_load8_u(m, (u64)(w2c_i0));
     w2c_l17 = w2c_i0;
     w2c_i1 = 32u;
     w2c_i0 = w2c_i0 > w2c_i1;
-    if (w2c_i0) {goto w2c_B41;}
+    if (w2c_i0) {goto w2c_B42;}
     w2c_j0 = 1ull;
     w2c_i1 = w2c_l17;
     w2c_j1 = (u64)(w2c_i1);
@@ -29017,19 +29501,19 @@ static void w2c_f31(module *m, u64 w2c_p0, u64 w2c_p1, u64 w2c_p2, u32 w2c_p3) {
     w2c_j0 &= w2c_j1;
     w2c_j1 = 0ull;
     w2c_i0 = w2c_j0 == w2c_j1;
-    if (w2c_i0) {goto w2c_B41;}
+    if (w2c_i0) {goto w2c_B42;}
     w2c_j0 = 1ull;
     w2c_l6 = w2c_j0;
-    goto w2c_B40;
-    w2c_B41:;
+    goto w2c_B41;
+    w2c_B42:;
     w2c_i0 = w2c_l17;
     w2c_i1 = 194u;
     w2c_i0 = w2c_i0 != w2c_i1;
-    if (w2c_i0) {goto w2c_B42;}
+    if (w2c_i0) {goto w2c_B43;}
     w2c_j0 = w2c_p2;
     w2c_j1 = 1ull;
     w2c_i0 = w2c_j0 == w2c_j1;
-    if (w2c_i0) {goto w2c_B38;}
+    if (w2c_i0) {goto w2c_B39;}
     w2c_j0 = 2ull;
     w2c_l6 = w2c_j0;
     w2c_j0 = w2c_l7;
@@ -29038,17 +29522,17 @@ static void w2c_f31(module *m, u64 w2c_p0, u64 w2c_p1, u64 w2c_p2, u32 w2c_p3) {
     w2c_l17 = w2c_i0;
     w2c_i1 = 133u;
     w2c_i0 = w2c_i0 == w2c_i1;
-    if (w2c_i0) {goto w2c_B40;}
+    if (w2c_i0) {goto w2c_B41;}
     w2c_i0 = w2c_l17;
     w2c_i1 = 160u;
     w2c_i0 = w2c_i0 == w2c_i1;
-    if (w2c_i0) {goto w2c_B40;}
-    goto w2c_B38;
-    w2c_B42:;
+    if (w2c_i0) {goto w2c_B41;}
+    goto w2c_B39;
+    w2c_B43:;
     w2c_j0 = w2c_p2;
     w2c_j1 = 3ull;
     w2c_i0 = w2c_j0 < w2c_j1;
-    if (w2c_i0) {goto w2c_B38;}
+    if (w2c_i0) {goto w2c_B39;}
     w2c_i0 = w2c_l17;
     w2c_i1 = 28u;
     w2c_i0 += w2c_i1;
@@ -29056,7 +29540,7 @@ static void w2c_f31(module *m, u64 w2c_p0, u64 w2c_p1, u64 w2c_p2, u32 w2c_p3) {
     w2c_i0 &= w2c_i1;
     w2c_i1 = 253u;
     w2c_i0 = w2c_i0 < w2c_i1;
-    if (w2c_i0) {goto w2c_B38;}
+    if (w2c_i0) {goto w2c_B39;}
     w2c_j0 = w2c_l7;
     w2c_j1 = 1ull;
     w2c_j0 += w2c_j1;
@@ -29074,83 +29558,83 @@ static void w2c_f31(module *m, u64 w2c_p0, u64 w2c_p1, u64 w2c_p2, u32 w2c_p3) {
     w2c_i0 = w2c_l17;
     w2c_i1 = 226u;
     w2c_i0 = w2c_i0 != w2c_i1;
-    if (w2c_i0) {goto w2c_B43;}
+    if (w2c_i0) {goto w2c_B44;}
     w2c_i0 = w2c_l16;
     w2c_i1 = 255u;
     w2c_i0 &= w2c_i1;
     w2c_i1 = 128u;
     w2c_i0 = w2c_i0 != w2c_i1;
-    if (w2c_i0) {goto w2c_B43;}
+    if (w2c_i0) {goto w2c_B44;}
     w2c_j0 = 3ull;
     w2c_l6 = w2c_j0;
     w2c_i0 = w2c_l19;
     w2c_i1 = 4294967179u;
     w2c_i0 = (u32)((s32)w2c_i0 < (s32)w2c_i1);
-    if (w2c_i0) {goto w2c_B40;}
+    if (w2c_i0) {goto w2c_B41;}
     w2c_i0 = w2c_l18;
     w2c_i1 = 4294967128u;
     w2c_i0 += w2c_i1;
     w2c_l17 = w2c_i0;
     w2c_i1 = 7u;
     w2c_i0 = w2c_i0 > w2c_i1;
-    if (w2c_i0) {goto w2c_B38;}
+    if (w2c_i0) {goto w2c_B39;}
     w2c_i0 = 1u;
     w2c_i1 = w2c_l17;
     w2c_i0 <<= (w2c_i1 & 31);
     w2c_i1 = 131u;
     w2c_i0 &= w2c_i1;
     w2c_i0 = !(w2c_i0);
-    if (w2c_i0) {goto w2c_B38;}
-    goto w2c_B40;
-    w2c_B43:;
+    if (w2c_i0) {goto w2c_B39;}
+    goto w2c_B41;
+    w2c_B44:;
     w2c_i0 = w2c_l17;
     w2c_i1 = 4294967071u;
     w2c_i0 += w2c_i1;
     switch (w2c_i0) {
-      case 0: goto w2c_B47;
-      case 1: goto w2c_B46;
-      case 2: goto w2c_B45;
-      default: goto w2c_B47;
+      case 0: goto w2c_B48;
+      case 1: goto w2c_B47;
+      case 2: goto w2c_B46;
+      default: goto w2c_B48;
     }
-    w2c_B47:;
+    w2c_B48:;
     w2c_i0 = w2c_l16;
     w2c_i1 = 255u;
     w2c_i0 &= w2c_i1;
     w2c_i1 = 154u;
     w2c_i0 = w2c_i0 != w2c_i1;
-    if (w2c_i0) {goto w2c_B38;}
+    if (w2c_i0) {goto w2c_B39;}
     w2c_i0 = w2c_l19;
     w2c_i1 = 4294967168u;
     w2c_i0 = w2c_i0 != w2c_i1;
-    if (w2c_i0) {goto w2c_B38;}
-    goto w2c_B44;
-    w2c_B46:;
+    if (w2c_i0) {goto w2c_B39;}
+    goto w2c_B45;
+    w2c_B47:;
     w2c_i0 = w2c_l16;
     w2c_i1 = 255u;
     w2c_i0 &= w2c_i1;
     w2c_i1 = 129u;
     w2c_i0 = w2c_i0 != w2c_i1;
-    if (w2c_i0) {goto w2c_B38;}
+    if (w2c_i0) {goto w2c_B39;}
     w2c_i0 = w2c_l19;
     w2c_i1 = 4294967199u;
     w2c_i0 = w2c_i0 != w2c_i1;
-    if (w2c_i0) {goto w2c_B38;}
-    goto w2c_B44;
-    w2c_B45:;
+    if (w2c_i0) {goto w2c_B39;}
+    goto w2c_B45;
+    w2c_B46:;
     w2c_i0 = w2c_l16;
     w2c_i1 = 255u;
     w2c_i0 &= w2c_i1;
     w2c_i1 = 128u;
     w2c_i0 = w2c_i0 != w2c_i1;
-    if (w2c_i0) {goto w2c_B38;}
+    if (w2c_i0) {goto w2c_B39;}
     w2c_i0 = w2c_l19;
     w2c_i1 = 4294967168u;
     w2c_i0 = w2c_i0 != w2c_i1;
-    if (w2c_i0) {goto w2c_B38;}
-    w2c_B44:;
+    if (w2c_i0) {goto w2c_B39;}
+    w2c_B45:;
     w2c_j0 = 3ull;
     w2c_l6 = w2c_j0;
-    w2c_B40:;
+    w2c_B41:;
     w2c_j0 = w2c_p1;
     w2c_j1 = 1ull;
     w2c_j0 += w2c_j1;
@@ -29165,49 +29649,49 @@ static void w2c_f31(module *m, u64 w2c_p0, u64 w2c_p1, u64 w2c_p2, u32 w2c_p3) {
     w2c_p2 = w2c_j0;
     w2c_i0 = !(w2c_j0);
     w2c_i0 = !(w2c_i0);
-    if (w2c_i0) {goto w2c_L39;}
+    if (w2c_i0) {goto w2c_L40;}
     goto w2c_B26;
   UNREACHABLE;
-  w2c_B38:;
+  w2c_B39:;
   w2c_j0 = w2c_l4;
-  w2c_j1 = 320ull;
+  w2c_j1 = 336ull;
   w2c_j0 += w2c_j1;
   w2c_i1 = w2c_p3;
   w2c_j2 = w2c_l5;
   w2c_j3 = w2c_l10;
-  w2c_j4 = w2c_l12;
-  w2c_f33(m, w2c_j0, w2c_i1, w2c_j2, w2c_j3, w2c_j4);
+  w2c_j4 = w2c_l13;
+  w2c_f35(m, w2c_j0, w2c_i1, w2c_j2, w2c_j3, w2c_j4);
   w2c_j0 = w2c_l4;
   w2c_i0 = (u32)(w2c_j0);
-  w2c_j0 = i64_load(m, (u64)(w2c_i0) + 336u);
+  w2c_j0 = i64_load(m, (u64)(w2c_i0) + 352u);
   w2c_l9 = w2c_j0;
   w2c_j0 = w2c_l4;
   w2c_i0 = (u32)(w2c_j0);
-  w2c_i0 = i32_load8_u(m, (u64)(w2c_i0) + 320u);
+  w2c_i0 = i32_load8_u(m, (u64)(w2c_i0) + 336u);
   w2c_i0 = !(w2c_i0);
-  if (w2c_i0) {goto w2c_B48;}
+  if (w2c_i0) {goto w2c_B49;}
   w2c_j0 = w2c_l4;
   w2c_i0 = (u32)(w2c_j0);
-  w2c_i0 = i32_load8_u(m, (u64)(w2c_i0) + 328u);
+  w2c_i0 = i32_load8_u(m, (u64)(w2c_i0) + 344u);
   w2c_l14 = w2c_i0;
   goto w2c_B26;
-  w2c_B48:;
+  w2c_B49:;
   w2c_j0 = w2c_l9;
   w2c_j1 = w2c_l4;
   w2c_i1 = (u32)(w2c_j1);
-  w2c_j1 = i64_load(m, (u64)(w2c_i1) + 344u);
+  w2c_j1 = i64_load(m, (u64)(w2c_i1) + 360u);
   w2c_l10 = w2c_j1;
   w2c_j0 |= w2c_j1;
   w2c_i0 = !(w2c_j0);
   w2c_j1 = w2c_l4;
   w2c_i1 = (u32)(w2c_j1);
-  w2c_j1 = i64_load(m, (u64)(w2c_i1) + 352u);
+  w2c_j1 = i64_load(m, (u64)(w2c_i1) + 368u);
   w2c_j2 = 0ull;
   w2c_i1 = w2c_j1 != w2c_j2;
   w2c_i0 |= w2c_i1;
   w2c_l14 = w2c_i0;
   w2c_i0 = !(w2c_i0);
-  if (w2c_i0) {goto w2c_B49;}
+  if (w2c_i0) {goto w2c_B50;}
   w2c_j0 = w2c_p1;
   w2c_j1 = w2c_l9;
   w2c_i2 = w2c_l14;
@@ -29216,35 +29700,35 @@ static void w2c_f31(module *m, u64 w2c_p0, u64 w2c_p1, u64 w2c_p2, u32 w2c_p3) {
   w2c_i0 = 1u;
   w2c_l14 = w2c_i0;
   goto w2c_B26;
-  w2c_B49:;
+  w2c_B50:;
   w2c_j0 = w2c_l4;
-  w2c_j1 = 208ull;
+  w2c_j1 = 224ull;
   w2c_j0 += w2c_j1;
   w2c_i1 = w2c_p3;
   w2c_j2 = w2c_l8;
   w2c_j3 = w2c_l5;
   w2c_j2 += w2c_j3;
-  w2c_j3 = w2c_l13;
-  w2c_j4 = w2c_l11;
-  w2c_f33(m, w2c_j0, w2c_i1, w2c_j2, w2c_j3, w2c_j4);
-  w2c_j0 = w2c_l4;
-  w2c_i0 = (u32)(w2c_j0);
-  w2c_j0 = i64_load(m, (u64)(w2c_i0) + 224u);
-  w2c_l7 = w2c_j0;
-  w2c_j0 = w2c_l4;
-  w2c_i0 = (u32)(w2c_j0);
-  w2c_i0 = i32_load8_u(m, (u64)(w2c_i0) + 208u);
-  if (w2c_i0) {goto w2c_B50;}
+  w2c_j3 = w2c_l11;
+  w2c_j4 = w2c_l12;
+  w2c_f35(m, w2c_j0, w2c_i1, w2c_j2, w2c_j3, w2c_j4);
   w2c_j0 = w2c_l4;
   w2c_i0 = (u32)(w2c_j0);
   w2c_j0 = i64_load(m, (u64)(w2c_i0) + 240u);
+  w2c_l7 = w2c_j0;
+  w2c_j0 = w2c_l4;
+  w2c_i0 = (u32)(w2c_j0);
+  w2c_i0 = i32_load8_u(m, (u64)(w2c_i0) + 224u);
+  if (w2c_i0) {goto w2c_B51;}
+  w2c_j0 = w2c_l4;
+  w2c_i0 = (u32)(w2c_j0);
+  w2c_j0 = i64_load(m, (u64)(w2c_i0) + 256u);
   w2c_l6 = w2c_j0;
   w2c_j1 = 38ull;
   w2c_i0 = w2c_j0 > w2c_j1;
   if (w2c_i0) {goto w2c_B27;}
   w2c_j0 = w2c_l4;
   w2c_i0 = (u32)(w2c_j0);
-  w2c_j0 = i64_load(m, (u64)(w2c_i0) + 232u);
+  w2c_j0 = i64_load(m, (u64)(w2c_i0) + 248u);
   w2c_l8 = w2c_j0;
   w2c_j0 = w2c_l4;
   w2c_j1 = 16ull;
@@ -29352,15 +29836,23 @@ static void w2c_f31(module *m, u64 w2c_p0, u64 w2c_p1, u64 w2c_p2, u32 w2c_p3) {
   w2c_j0 = i64_load(m, (u64)(w2c_i0) + 16u);
   w2c_l5 = w2c_j0;
   goto w2c_B25;
-  w2c_B50:;
+  w2c_B51:;
   w2c_j0 = w2c_l4;
   w2c_i0 = (u32)(w2c_j0);
-  w2c_i0 = i32_load8_u(m, (u64)(w2c_i0) + 216u);
+  w2c_i0 = i32_load8_u(m, (u64)(w2c_i0) + 232u);
   w2c_l14 = w2c_i0;
   w2c_j0 = w2c_l7;
   w2c_l9 = w2c_j0;
   goto w2c_B26;
   w2c_B28:;
+  w2c_j0 = w2c_l4;
+  w2c_i0 = (u32)(w2c_j0);
+  w2c_j1 = 0ull;
+  i64_store(m, (u64)(w2c_i0) + 360, w2c_j1);
+  w2c_j0 = w2c_l4;
+  w2c_i0 = (u32)(w2c_j0);
+  w2c_j1 = 0ull;
+  i64_store(m, (u64)(w2c_i0) + 352, w2c_j1);
   w2c_j0 = w2c_l4;
   w2c_i0 = (u32)(w2c_j0);
   w2c_j1 = 0ull;
@@ -29370,82 +29862,74 @@ static void w2c_f31(module *m, u64 w2c_p0, u64 w2c_p1, u64 w2c_p2, u32 w2c_p3) {
   w2c_j1 = 0ull;
   i64_store(m, (u64)(w2c_i0) + 336, w2c_j1);
   w2c_j0 = w2c_l4;
-  w2c_i0 = (u32)(w2c_j0);
-  w2c_j1 = 0ull;
-  i64_store(m, (u64)(w2c_i0) + 328, w2c_j1);
-  w2c_j0 = w2c_l4;
-  w2c_i0 = (u32)(w2c_j0);
-  w2c_j1 = 0ull;
-  i64_store(m, (u64)(w2c_i0) + 320, w2c_j1);
-  w2c_j0 = w2c_l4;
-  w2c_j1 = 320ull;
+  w2c_j1 = 336ull;
   w2c_j0 += w2c_j1;
   w2c_j1 = w2c_l10;
   w2c_j2 = w2c_l9;
-  w2c_f34(m, w2c_j0, w2c_j1, w2c_j2);
+  w2c_f36(m, w2c_j0, w2c_j1, w2c_j2);
   w2c_j0 = w2c_l4;
   w2c_i0 = (u32)(w2c_j0);
-  w2c_i0 = i32_load8_u(m, (u64)(w2c_i0) + 320u);
+  w2c_i0 = i32_load8_u(m, (u64)(w2c_i0) + 336u);
   w2c_i1 = 1u;
   w2c_i0 = w2c_i0 != w2c_i1;
-  if (w2c_i0) {goto w2c_B51;}
+  if (w2c_i0) {goto w2c_B52;}
   w2c_j0 = w2c_l4;
   w2c_i0 = (u32)(w2c_j0);
-  w2c_i0 = i32_load(m, (u64)(w2c_i0) + 328u);
+  w2c_i0 = i32_load(m, (u64)(w2c_i0) + 344u);
   w2c_l14 = w2c_i0;
   w2c_j0 = w2c_l4;
-  w2c_j1 = 320ull;
+  w2c_j1 = 336ull;
   w2c_j0 += w2c_j1;
   w2c_j1 = w2c_l4;
   w2c_i1 = (u32)(w2c_j1);
-  w2c_j1 = i64_load(m, (u64)(w2c_i1) + 336u);
+  w2c_j1 = i64_load(m, (u64)(w2c_i1) + 352u);
   w2c_l7 = w2c_j1;
   w2c_j2 = w2c_l4;
   w2c_i2 = (u32)(w2c_j2);
-  w2c_j2 = i64_load(m, (u64)(w2c_i2) + 344u);
+  w2c_j2 = i64_load(m, (u64)(w2c_i2) + 360u);
   w2c_l8 = w2c_j2;
-  w2c_f32(m, w2c_j0, w2c_j1, w2c_j2);
+  w2c_f34(m, w2c_j0, w2c_j1, w2c_j2);
   w2c_j0 = w2c_l4;
   w2c_i0 = (u32)(w2c_j0);
-  w2c_i0 = i32_load8_u(m, (u64)(w2c_i0) + 320u);
+  w2c_i0 = i32_load8_u(m, (u64)(w2c_i0) + 336u);
   w2c_i1 = 1u;
   w2c_i0 = w2c_i0 != w2c_i1;
-  if (w2c_i0) {goto w2c_B51;}
+  if (w2c_i0) {goto w2c_B52;}
   w2c_i0 = w2c_l14;
   w2c_i1 = 65285u;
   w2c_i0 = w2c_i0 == w2c_i1;
-  if (w2c_i0) {goto w2c_B52;}
+  if (w2c_i0) {goto w2c_B53;}
   w2c_i0 = w2c_l14;
   w2c_i1 = 37u;
   w2c_i0 = w2c_i0 != w2c_i1;
-  if (w2c_i0) {goto w2c_B51;}
-  w2c_B52:;
+  if (w2c_i0) {goto w2c_B52;}
+  w2c_B53:;
   w2c_j0 = w2c_l4;
-  w2c_j1 = 160ull;
+  w2c_j1 = 176ull;
   w2c_j0 += w2c_j1;
   w2c_i1 = w2c_p3;
   w2c_j2 = w2c_l5;
   w2c_j3 = w2c_l7;
   w2c_j4 = w2c_l8;
-  w2c_f35(m, w2c_j0, w2c_i1, w2c_j2, w2c_j3, w2c_j4);
-  w2c_j0 = w2c_l4;
-  w2c_i0 = (u32)(w2c_j0);
-  w2c_j0 = i64_load(m, (u64)(w2c_i0) + 176u);
-  w2c_l7 = w2c_j0;
-  w2c_j0 = w2c_l4;
-  w2c_i0 = (u32)(w2c_j0);
-  w2c_i0 = i32_load8_u(m, (u64)(w2c_i0) + 160u);
-  if (w2c_i0) {goto w2c_B53;}
+  w2c_f37(m, w2c_j0, w2c_i1, w2c_j2, w2c_j3, w2c_j4);
   w2c_j0 = w2c_l4;
   w2c_i0 = (u32)(w2c_j0);
   w2c_j0 = i64_load(m, (u64)(w2c_i0) + 192u);
+  w2c_l7 = w2c_j0;
+  w2c_j0 = w2c_l4;
+  w2c_i0 = (u32)(w2c_j0);
+  w2c_i0 = i32_load8_u(m, (u64)(w2c_i0) + 176u);
+  if (w2c_i0) {goto w2c_B54;}
+  w2c_j0 = w2c_l4;
+  w2c_i0 = (u32)(w2c_j0);
+  w2c_j0 = i64_load(m, (u64)(w2c_i0) + 208u);
   w2c_l6 = w2c_j0;
   w2c_j1 = 38ull;
   w2c_i0 = w2c_j0 > w2c_j1;
   if (w2c_i0) {goto w2c_B27;}
   w2c_j0 = w2c_l4;
   w2c_i0 = (u32)(w2c_j0);
-  w2c_j0 = i64_load(m, (u64)(w2c_i0) + 184u);
+  w2c_j0 = i64_load(m, (u64)(w2c_i0) + 200u);
   w2c_l8 = w2c_j0;
   w2c_j0 = w2c_l4;
   w2c_j1 = 64ull;
@@ -29502,34 +29986,34 @@ static void w2c_f31(module *m, u64 w2c_p0, u64 w2c_p1, u64 w2c_p2, u32 w2c_p3) {
   w2c_i0 = 2u;
   w2c_l14 = w2c_i0;
   goto w2c_B25;
-  w2c_B53:;
+  w2c_B54:;
   w2c_j0 = w2c_l4;
   w2c_i0 = (u32)(w2c_j0);
-  w2c_i0 = i32_load8_u(m, (u64)(w2c_i0) + 168u);
+  w2c_i0 = i32_load8_u(m, (u64)(w2c_i0) + 184u);
   w2c_l14 = w2c_i0;
   w2c_j0 = w2c_l7;
   w2c_l9 = w2c_j0;
   goto w2c_B26;
-  w2c_B51:;
+  w2c_B52:;
   w2c_j0 = w2c_l4;
-  w2c_j1 = 112ull;
+  w2c_j1 = 128ull;
   w2c_j0 += w2c_j1;
   w2c_i1 = w2c_p3;
   w2c_j2 = w2c_l5;
   w2c_j3 = w2c_l10;
   w2c_j4 = w2c_l9;
-  w2c_f35(m, w2c_j0, w2c_i1, w2c_j2, w2c_j3, w2c_j4);
-  w2c_j0 = w2c_l4;
-  w2c_i0 = (u32)(w2c_j0);
-  w2c_j0 = i64_load(m, (u64)(w2c_i0) + 128u);
-  w2c_l7 = w2c_j0;
-  w2c_j0 = w2c_l4;
-  w2c_i0 = (u32)(w2c_j0);
-  w2c_i0 = i32_load8_u(m, (u64)(w2c_i0) + 112u);
-  if (w2c_i0) {goto w2c_B54;}
+  w2c_f37(m, w2c_j0, w2c_i1, w2c_j2, w2c_j3, w2c_j4);
   w2c_j0 = w2c_l4;
   w2c_i0 = (u32)(w2c_j0);
   w2c_j0 = i64_load(m, (u64)(w2c_i0) + 144u);
+  w2c_l7 = w2c_j0;
+  w2c_j0 = w2c_l4;
+  w2c_i0 = (u32)(w2c_j0);
+  w2c_i0 = i32_load8_u(m, (u64)(w2c_i0) + 128u);
+  if (w2c_i0) {goto w2c_B55;}
+  w2c_j0 = w2c_l4;
+  w2c_i0 = (u32)(w2c_j0);
+  w2c_j0 = i64_load(m, (u64)(w2c_i0) + 160u);
   w2c_l8 = w2c_j0;
   w2c_j1 = 38ull;
   w2c_i0 = w2c_j0 > w2c_j1;
@@ -29555,13 +30039,13 @@ static void w2c_f31(module *m, u64 w2c_p0, u64 w2c_p1, u64 w2c_p2, u32 w2c_p3) {
   w2c_l5 = w2c_j0;
   w2c_j0 = w2c_l4;
   w2c_i0 = (u32)(w2c_j0);
-  w2c_j0 = i64_load(m, (u64)(w2c_i0) + 136u);
+  w2c_j0 = i64_load(m, (u64)(w2c_i0) + 152u);
   w2c_l8 = w2c_j0;
   goto w2c_B25;
-  w2c_B54:;
+  w2c_B55:;
   w2c_j0 = w2c_l4;
   w2c_i0 = (u32)(w2c_j0);
-  w2c_i0 = i32_load8_u(m, (u64)(w2c_i0) + 120u);
+  w2c_i0 = i32_load8_u(m, (u64)(w2c_i0) + 136u);
   w2c_l14 = w2c_i0;
   w2c_j0 = w2c_l7;
   w2c_l9 = w2c_j0;
@@ -29599,7 +30083,7 @@ static void w2c_f31(module *m, u64 w2c_p0, u64 w2c_p1, u64 w2c_p2, u32 w2c_p3) {
   w2c_B25:;
   w2c_i0 = w2c_l15;
   w2c_i0 = !(w2c_i0);
-  if (w2c_i0) {goto w2c_B58;}
+  if (w2c_i0) {goto w2c_B59;}
   w2c_j0 = w2c_l7;
   w2c_i0 = !(w2c_j0);
   w2c_j1 = w2c_l8;
@@ -29609,28 +30093,28 @@ static void w2c_f31(module *m, u64 w2c_p0, u64 w2c_p1, u64 w2c_p2, u32 w2c_p3) {
   w2c_j3 = 9223372036854775808ull;
   w2c_i2 = w2c_j2 == w2c_j3;
   w2c_i0 = w2c_i2 ? w2c_i0 : w2c_i1;
-  if (w2c_i0) {goto w2c_B56;}
+  if (w2c_i0) {goto w2c_B57;}
   w2c_i0 = 3u;
   w2c_l15 = w2c_i0;
-  goto w2c_B57;
-  w2c_B58:;
+  goto w2c_B58;
+  w2c_B59:;
   w2c_j0 = w2c_l8;
   w2c_j1 = 0ull;
   w2c_i0 = (u64)((s64)w2c_j0 >= (s64)w2c_j1);
-  if (w2c_i0) {goto w2c_B55;}
+  if (w2c_i0) {goto w2c_B56;}
   w2c_i0 = 2u;
   w2c_l15 = w2c_i0;
-  w2c_B57:;
+  w2c_B58:;
   w2c_j0 = 0ull;
   w2c_l7 = w2c_j0;
   w2c_j0 = w2c_l4;
   w2c_i0 = (u32)(w2c_j0);
   w2c_j1 = 0ull;
-  i64_store(m, (u64)(w2c_i0) + 103, w2c_j1);
+  i64_store(m, (u64)(w2c_i0) + 119, w2c_j1);
   w2c_j0 = w2c_l4;
   w2c_i0 = (u32)(w2c_j0);
   w2c_j1 = 0ull;
-  i64_store(m, (u64)(w2c_i0) + 96, w2c_j1);
+  i64_store(m, (u64)(w2c_i0) + 112, w2c_j1);
   w2c_i0 = 0u;
   w2c_l14 = w2c_i0;
   w2c_j0 = 1ull;
@@ -29638,7 +30122,7 @@ static void w2c_f31(module *m, u64 w2c_p0, u64 w2c_p1, u64 w2c_p2, u32 w2c_p3) {
   w2c_j0 = 0ull;
   w2c_l8 = w2c_j0;
   goto w2c_B24;
-  w2c_B56:;
+  w2c_B57:;
   w2c_j0 = 0ull;
   w2c_j1 = w2c_l8;
   w2c_j2 = w2c_l7;
@@ -29652,17 +30136,17 @@ static void w2c_f31(module *m, u64 w2c_p0, u64 w2c_p1, u64 w2c_p2, u32 w2c_p3) {
   w2c_j1 = w2c_l7;
   w2c_j0 -= w2c_j1;
   w2c_l7 = w2c_j0;
-  w2c_B55:;
+  w2c_B56:;
   w2c_j0 = 0ull;
   w2c_l10 = w2c_j0;
   w2c_j0 = w2c_l4;
   w2c_i0 = (u32)(w2c_j0);
   w2c_j1 = 0ull;
-  i64_store(m, (u64)(w2c_i0) + 103, w2c_j1);
+  i64_store(m, (u64)(w2c_i0) + 119, w2c_j1);
   w2c_j0 = w2c_l4;
   w2c_i0 = (u32)(w2c_j0);
   w2c_j1 = 0ull;
-  i64_store(m, (u64)(w2c_i0) + 96, w2c_j1);
+  i64_store(m, (u64)(w2c_i0) + 112, w2c_j1);
   w2c_i0 = 0u;
   w2c_l15 = w2c_i0;
   goto w2c_B23;
@@ -29712,7 +30196,7 @@ static void w2c_f31(module *m, u64 w2c_p0, u64 w2c_p1, u64 w2c_p2, u32 w2c_p3) {
   w2c_i0 = (u32)(w2c_j0);
   w2c_j1 = w2c_l4;
   w2c_i1 = (u32)(w2c_j1);
-  w2c_j1 = i64_load(m, (u64)(w2c_i1) + 96u);
+  w2c_j1 = i64_load(m, (u64)(w2c_i1) + 112u);
   i64_store(m, (u64)(w2c_i0), w2c_j1);
   w2c_j0 = w2c_p0;
   w2c_j1 = 56ull;
@@ -29720,7 +30204,7 @@ static void w2c_f31(module *m, u64 w2c_p0, u64 w2c_p1, u64 w2c_p2, u32 w2c_p3) {
   w2c_i0 = (u32)(w2c_j0);
   w2c_j1 = w2c_l4;
   w2c_i1 = (u32)(w2c_j1);
-  w2c_j1 = i64_load(m, (u64)(w2c_i1) + 103u);
+  w2c_j1 = i64_load(m, (u64)(w2c_i1) + 119u);
   i64_store(m, (u64)(w2c_i0), w2c_j1);
   w2c_j0 = w2c_p0;
   w2c_j1 = 8ull;
@@ -29732,12 +30216,12 @@ static void w2c_f31(module *m, u64 w2c_p0, u64 w2c_p1, u64 w2c_p2, u32 w2c_p3) {
   w2c_j1 &= w2c_j2;
   i64_store(m, (u64)(w2c_i0), w2c_j1);
   w2c_j0 = w2c_l4;
-  w2c_j1 = 368ull;
+  w2c_j1 = 384ull;
   w2c_j0 += w2c_j1;
   m->w2c_g0 = w2c_j0;
 }
 
-static void w2c_f32(module *m, u64 w2c_p0, u64 w2c_p1, u64 w2c_p2) {
+static void w2c_f34(module *m, u64 w2c_p0, u64 w2c_p1, u64 w2c_p2) {
   u32 w2c_l3 = 0, w2c_l4 = 0, w2c_l5 = 0, w2c_l6 = 0;
   u64 w2c_l7 = 0;
   u32 w2c_i0, w2c_i1, w2c_i2, w2c_i3;
@@ -30095,7 +30579,7 @@ static void w2c_f32(module *m, u64 w2c_p0, u64 w2c_p1, u64 w2c_p2) {
   w2c_Bfunc:;
 }
 
-static void w2c_f33(module *m, u64 w2c_p0, u32 w2c_p1, u64 w2c_p2, u64 w2c_p3, u64 w2c_p4) {
+static void w2c_f35(module *m, u64 w2c_p0, u32 w2c_p1, u64 w2c_p2, u64 w2c_p3, u64 w2c_p4) {
   u32 w2c_l8 = 0, w2c_l9 = 0, w2c_l10 = 0;
   u64 w2c_l5 = 0, w2c_l6 = 0, w2c_l7 = 0;
   u32 w2c_i0, w2c_i1, w2c_i2;
@@ -30171,7 +30655,7 @@ static void w2c_f33(module *m, u64 w2c_p0, u32 w2c_p1, u64 w2c_p2, u64 w2c_p3, u
   w2c_j0 += w2c_j1;
   w2c_j1 = w2c_p3;
   w2c_j2 = w2c_p4;
-  w2c_f32(m, w2c_j0, w2c_j1, w2c_j2);
+  w2c_f34(m, w2c_j0, w2c_j1, w2c_j2);
   w2c_i0 = 1u;
   w2c_l8 = w2c_i0;
   w2c_j0 = w2c_l5;
@@ -30206,7 +30690,7 @@ static void w2c_f33(module *m, u64 w2c_p0, u32 w2c_p1, u64 w2c_p2, u64 w2c_p3, u
     w2c_j0 += w2c_j1;
     w2c_j1 = w2c_l6;
     w2c_j2 = w2c_l7;
-    w2c_f32(m, w2c_j0, w2c_j1, w2c_j2);
+    w2c_f34(m, w2c_j0, w2c_j1, w2c_j2);
     w2c_i0 = 1u;
     w2c_l9 = w2c_i0;
     w2c_j0 = w2c_l5;
@@ -30229,7 +30713,7 @@ static void w2c_f33(module *m, u64 w2c_p0, u32 w2c_p1, u64 w2c_p2, u64 w2c_p3, u
     w2c_j1 = w2c_l5;
     w2c_i1 = (u32)(w2c_j1);
     w2c_i1 = i32_load(m, (u64)(w2c_i1) + 136u);
-    w2c_f37(m, w2c_j0, w2c_i1);
+    w2c_f39(m, w2c_j0, w2c_i1);
     w2c_j0 = w2c_l5;
     w2c_i0 = (u32)(w2c_j0);
     w2c_i0 = i32_load8_u(m, (u64)(w2c_i0) + 8u);
@@ -30259,7 +30743,7 @@ static void w2c_f33(module *m, u64 w2c_p0, u32 w2c_p1, u64 w2c_p2, u64 w2c_p3, u
   w2c_j2 = w2c_p2;
   w2c_j3 = w2c_p3;
   w2c_j4 = w2c_p4;
-  w2c_f35(m, w2c_j0, w2c_i1, w2c_j2, w2c_j3, w2c_j4);
+  w2c_f37(m, w2c_j0, w2c_i1, w2c_j2, w2c_j3, w2c_j4);
   w2c_j0 = w2c_l5;
   w2c_i0 = (u32)(w2c_j0);
   w2c_i0 = i32_load8_u(m, (u64)(w2c_i0) + 88u);
@@ -30278,7 +30762,7 @@ static void w2c_f33(module *m, u64 w2c_p0, u32 w2c_p1, u64 w2c_p2, u64 w2c_p3, u
   w2c_j3 = 0ull;
   w2c_j4 = w2c_p3;
   w2c_j5 = w2c_p4;
-  w2c_f38(m, w2c_j0, w2c_i1, w2c_j2, w2c_j3, w2c_j4, w2c_j5);
+  w2c_f40(m, w2c_j0, w2c_i1, w2c_j2, w2c_j3, w2c_j4, w2c_j5);
   w2c_i0 = 2u;
   w2c_l8 = w2c_i0;
   w2c_j0 = 0ull;
@@ -30379,7 +30863,7 @@ static void w2c_f33(module *m, u64 w2c_p0, u32 w2c_p1, u64 w2c_p2, u64 w2c_p3, u
   w2c_Bfunc:;
 }
 
-static void w2c_f34(module *m, u64 w2c_p0, u64 w2c_p1, u64 w2c_p2) {
+static void w2c_f36(module *m, u64 w2c_p0, u64 w2c_p1, u64 w2c_p2) {
   u32 w2c_l5 = 0, w2c_l6 = 0, w2c_l7 = 0, w2c_l8 = 0;
   u64 w2c_l3 = 0, w2c_l4 = 0;
   u32 w2c_i0, w2c_i1, w2c_i2, w2c_i3;
@@ -30749,7 +31233,7 @@ static void w2c_f34(module *m, u64 w2c_p0, u64 w2c_p1, u64 w2c_p2) {
   w2c_Bfunc:;
 }
 
-static void w2c_f35(module *m, u64 w2c_p0, u32 w2c_p1, u64 w2c_p2, u64 w2c_p3, u64 w2c_p4) {
+static void w2c_f37(module *m, u64 w2c_p0, u32 w2c_p1, u64 w2c_p2, u64 w2c_p3, u64 w2c_p4) {
   u32 w2c_l14 = 0, w2c_l15 = 0, w2c_l16 = 0;
   u64 w2c_l5 = 0, w2c_l6 = 0, w2c_l7 = 0, w2c_l8 = 0, w2c_l9 = 0, w2c_l10 = 0, w2c_l11 = 0, w2c_l12 = 0, w2c_l13 = 0;
   u32 w2c_i0, w2c_i1, w2c_i2, w2c_i3, w2c_i4;
@@ -30849,7 +31333,7 @@ static void w2c_f35(module *m, u64 w2c_p0, u32 w2c_p1, u64 w2c_p2, u64 w2c_p3, u
   w2c_j0 += w2c_j1;
   w2c_j1 = w2c_p3;
   w2c_j2 = w2c_p4;
-  w2c_f32(m, w2c_j0, w2c_j1, w2c_j2);
+  w2c_f34(m, w2c_j0, w2c_j1, w2c_j2);
   w2c_j0 = w2c_l5;
   w2c_i0 = (u32)(w2c_j0);
   w2c_i0 = i32_load8_u(m, (u64)(w2c_i0) + 352u);
@@ -30871,7 +31355,7 @@ static void w2c_f35(module *m, u64 w2c_p0, u32 w2c_p1, u64 w2c_p2, u64 w2c_p3, u
   w2c_j2 = w2c_l5;
   w2c_i2 = (u32)(w2c_j2);
   w2c_i2 = i32_load(m, (u64)(w2c_i2) + 360u);
-  w2c_f39(m, w2c_j0, w2c_i1, w2c_i2);
+  w2c_f41(m, w2c_j0, w2c_i1, w2c_i2);
   w2c_j0 = w2c_l5;
   w2c_i0 = (u32)(w2c_j0);
   w2c_i0 = i32_load8_u(m, (u64)(w2c_i0) + 152u);
@@ -30890,7 +31374,7 @@ static void w2c_f35(module *m, u64 w2c_p0, u32 w2c_p1, u64 w2c_p2, u64 w2c_p3, u
     w2c_l10 = w2c_j1;
     w2c_j2 = w2c_l6;
     w2c_l11 = w2c_j2;
-    w2c_f32(m, w2c_j0, w2c_j1, w2c_j2);
+    w2c_f34(m, w2c_j0, w2c_j1, w2c_j2);
     w2c_j0 = w2c_l5;
     w2c_i0 = (u32)(w2c_j0);
     w2c_i0 = i32_load8_u(m, (u64)(w2c_i0) + 352u);
@@ -30912,7 +31396,7 @@ static void w2c_f35(module *m, u64 w2c_p0, u32 w2c_p1, u64 w2c_p2, u64 w2c_p3, u
     w2c_j2 = w2c_l5;
     w2c_i2 = (u32)(w2c_j2);
     w2c_i2 = i32_load(m, (u64)(w2c_i2) + 360u);
-    w2c_f39(m, w2c_j0, w2c_i1, w2c_i2);
+    w2c_f41(m, w2c_j0, w2c_i1, w2c_i2);
     w2c_j0 = w2c_l9;
     w2c_j1 = 1ull;
     w2c_j0 += w2c_j1;
@@ -30948,7 +31432,7 @@ static void w2c_f35(module *m, u64 w2c_p0, u32 w2c_p1, u64 w2c_p2, u64 w2c_p3, u
   w2c_j0 += w2c_j1;
   w2c_j1 = w2c_p3;
   w2c_j2 = w2c_p4;
-  w2c_f32(m, w2c_j0, w2c_j1, w2c_j2);
+  w2c_f34(m, w2c_j0, w2c_j1, w2c_j2);
   w2c_j0 = w2c_l5;
   w2c_i0 = (u32)(w2c_j0);
   w2c_i0 = i32_load8_u(m, (u64)(w2c_i0) + 352u);
@@ -30962,7 +31446,7 @@ static void w2c_f35(module *m, u64 w2c_p0, u32 w2c_p1, u64 w2c_p2, u64 w2c_p3, u
   w2c_j2 = w2c_l5;
   w2c_i2 = (u32)(w2c_j2);
   w2c_i2 = i32_load(m, (u64)(w2c_i2) + 360u);
-  w2c_f39(m, w2c_j0, w2c_i1, w2c_i2);
+  w2c_f41(m, w2c_j0, w2c_i1, w2c_i2);
   w2c_j0 = w2c_l5;
   w2c_i0 = (u32)(w2c_j0);
   w2c_i0 = i32_load8_u(m, (u64)(w2c_i0) + 136u);
@@ -31001,7 +31485,7 @@ static void w2c_f35(module *m, u64 w2c_p0, u32 w2c_p1, u64 w2c_p2, u64 w2c_p3, u
   w2c_j0 += w2c_j1;
   w2c_j1 = w2c_l10;
   w2c_j2 = w2c_l11;
-  w2c_f32(m, w2c_j0, w2c_j1, w2c_j2);
+  w2c_f34(m, w2c_j0, w2c_j1, w2c_j2);
   w2c_j0 = w2c_l5;
   w2c_i0 = (u32)(w2c_j0);
   w2c_i0 = i32_load8_u(m, (u64)(w2c_i0) + 320u);
@@ -31044,7 +31528,7 @@ static void w2c_f35(module *m, u64 w2c_p0, u32 w2c_p1, u64 w2c_p2, u64 w2c_p3, u
     w2c_j0 += w2c_j1;
     w2c_j1 = w2c_l6;
     w2c_j2 = w2c_l7;
-    w2c_f32(m, w2c_j0, w2c_j1, w2c_j2);
+    w2c_f34(m, w2c_j0, w2c_j1, w2c_j2);
     w2c_j0 = w2c_l5;
     w2c_i0 = (u32)(w2c_j0);
     w2c_i0 = i32_load8_u(m, (u64)(w2c_i0) + 352u);
@@ -31058,7 +31542,7 @@ static void w2c_f35(module *m, u64 w2c_p0, u32 w2c_p1, u64 w2c_p2, u64 w2c_p3, u
     w2c_j2 = w2c_l5;
     w2c_i2 = (u32)(w2c_j2);
     w2c_i2 = i32_load(m, (u64)(w2c_i2) + 360u);
-    w2c_f39(m, w2c_j0, w2c_i1, w2c_i2);
+    w2c_f41(m, w2c_j0, w2c_i1, w2c_i2);
     w2c_j0 = w2c_l5;
     w2c_i0 = (u32)(w2c_j0);
     w2c_i0 = i32_load8_u(m, (u64)(w2c_i0) + 112u);
@@ -31094,7 +31578,7 @@ static void w2c_f35(module *m, u64 w2c_p0, u32 w2c_p1, u64 w2c_p2, u64 w2c_p3, u
     w2c_j0 += w2c_j1;
     w2c_j1 = w2c_l7;
     w2c_j2 = w2c_l6;
-    w2c_f32(m, w2c_j0, w2c_j1, w2c_j2);
+    w2c_f34(m, w2c_j0, w2c_j1, w2c_j2);
     w2c_j0 = w2c_l5;
     w2c_i0 = (u32)(w2c_j0);
     w2c_i0 = i32_load8_u(m, (u64)(w2c_i0) + 352u);
@@ -31108,7 +31592,7 @@ static void w2c_f35(module *m, u64 w2c_p0, u32 w2c_p1, u64 w2c_p2, u64 w2c_p3, u
     w2c_j2 = w2c_l5;
     w2c_i2 = (u32)(w2c_j2);
     w2c_i2 = i32_load(m, (u64)(w2c_i2) + 360u);
-    w2c_f39(m, w2c_j0, w2c_i1, w2c_i2);
+    w2c_f41(m, w2c_j0, w2c_i1, w2c_i2);
     w2c_j0 = w2c_l5;
     w2c_i0 = (u32)(w2c_j0);
     w2c_i0 = i32_load8_u(m, (u64)(w2c_i0) + 104u);
@@ -31144,7 +31628,7 @@ static void w2c_f35(module *m, u64 w2c_p0, u32 w2c_p1, u64 w2c_p2, u64 w2c_p3, u
     w2c_j0 += w2c_j1;
     w2c_j1 = w2c_l7;
     w2c_j2 = w2c_l6;
-    w2c_f32(m, w2c_j0, w2c_j1, w2c_j2);
+    w2c_f34(m, w2c_j0, w2c_j1, w2c_j2);
     w2c_j0 = w2c_l5;
     w2c_i0 = (u32)(w2c_j0);
     w2c_i0 = i32_load8_u(m, (u64)(w2c_i0) + 352u);
@@ -31158,7 +31642,7 @@ static void w2c_f35(module *m, u64 w2c_p0, u32 w2c_p1, u64 w2c_p2, u64 w2c_p3, u
     w2c_j2 = w2c_l5;
     w2c_i2 = (u32)(w2c_j2);
     w2c_i2 = i32_load(m, (u64)(w2c_i2) + 360u);
-    w2c_f39(m, w2c_j0, w2c_i1, w2c_i2);
+    w2c_f41(m, w2c_j0, w2c_i1, w2c_i2);
     w2c_j0 = w2c_l5;
     w2c_i0 = (u32)(w2c_j0);
     w2c_i0 = i32_load8_u(m, (u64)(w2c_i0) + 96u);
@@ -31194,7 +31678,7 @@ static void w2c_f35(module *m, u64 w2c_p0, u32 w2c_p1, u64 w2c_p2, u64 w2c_p3, u
     w2c_j0 += w2c_j1;
     w2c_j1 = w2c_l10;
     w2c_j2 = w2c_l11;
-    w2c_f32(m, w2c_j0, w2c_j1, w2c_j2);
+    w2c_f34(m, w2c_j0, w2c_j1, w2c_j2);
     w2c_j0 = w2c_l5;
     w2c_i0 = (u32)(w2c_j0);
     w2c_i0 = i32_load8_u(m, (u64)(w2c_i0) + 320u);
@@ -31213,7 +31697,7 @@ static void w2c_f35(module *m, u64 w2c_p0, u32 w2c_p1, u64 w2c_p2, u64 w2c_p3, u
   w2c_j0 += w2c_j1;
   w2c_j1 = w2c_l10;
   w2c_j2 = w2c_l11;
-  w2c_f40(m, w2c_j0, w2c_j1, w2c_j2);
+  w2c_f42(m, w2c_j0, w2c_j1, w2c_j2);
   w2c_j0 = w2c_l5;
   w2c_i0 = (u32)(w2c_j0);
   w2c_j0 = i64_load(m, (u64)(w2c_i0) + 88u);
@@ -31229,7 +31713,7 @@ static void w2c_f35(module *m, u64 w2c_p0, u32 w2c_p1, u64 w2c_p2, u64 w2c_p3, u
   w2c_j0 += w2c_j1;
   w2c_j1 = w2c_l10;
   w2c_j2 = w2c_l11;
-  w2c_f40(m, w2c_j0, w2c_j1, w2c_j2);
+  w2c_f42(m, w2c_j0, w2c_j1, w2c_j2);
   w2c_j0 = w2c_l5;
   w2c_i0 = (u32)(w2c_j0);
   w2c_j0 = i64_load(m, (u64)(w2c_i0) + 128u);
@@ -31254,7 +31738,7 @@ static void w2c_f35(module *m, u64 w2c_p0, u32 w2c_p1, u64 w2c_p2, u64 w2c_p3, u
   w2c_j4 = 0ull;
   w2c_j5 = w2c_p3;
   w2c_j6 = w2c_p4;
-  w2c_f41(m, w2c_j0, w2c_i1, w2c_i2, w2c_j3, w2c_j4, w2c_j5, w2c_j6);
+  w2c_f43(m, w2c_j0, w2c_i1, w2c_i2, w2c_j3, w2c_j4, w2c_j5, w2c_j6);
   w2c_j0 = w2c_l5;
   w2c_i0 = (u32)(w2c_j0);
   w2c_i0 = i32_load8_u(m, (u64)(w2c_i0) + 256u);
@@ -31365,7 +31849,7 @@ static void w2c_f35(module *m, u64 w2c_p0, u32 w2c_p1, u64 w2c_p2, u64 w2c_p3, u
     w2c_j1 = w2c_l6;
     w2c_j2 = w2c_l7;
     w2c_l9 = w2c_j2;
-    w2c_f32(m, w2c_j0, w2c_j1, w2c_j2);
+    w2c_f34(m, w2c_j0, w2c_j1, w2c_j2);
     w2c_j0 = w2c_l5;
     w2c_i0 = (u32)(w2c_j0);
     w2c_i0 = i32_load8_u(m, (u64)(w2c_i0) + 352u);
@@ -31400,7 +31884,7 @@ static void w2c_f35(module *m, u64 w2c_p0, u32 w2c_p1, u64 w2c_p2, u64 w2c_p3, u
   w2c_j3 = w2c_l9;
   w2c_j2 -= w2c_j3;
   w2c_l10 = w2c_j2;
-  w2c_f32(m, w2c_j0, w2c_j1, w2c_j2);
+  w2c_f34(m, w2c_j0, w2c_j1, w2c_j2);
   w2c_j0 = w2c_l5;
   w2c_i0 = (u32)(w2c_j0);
   w2c_i0 = i32_load8_u(m, (u64)(w2c_i0) + 288u);
@@ -31413,7 +31897,7 @@ static void w2c_f35(module *m, u64 w2c_p0, u32 w2c_p1, u64 w2c_p2, u64 w2c_p3, u
   w2c_i1 = 1u;
   w2c_j2 = w2c_l6;
   w2c_j3 = w2c_l7;
-  w2c_f42(m, w2c_j0, w2c_i1, w2c_j2, w2c_j3);
+  w2c_f44(m, w2c_j0, w2c_i1, w2c_j2, w2c_j3);
   w2c_j0 = w2c_l5;
   w2c_i0 = (u32)(w2c_j0);
   w2c_i0 = i32_load8_u(m, (u64)(w2c_i0) + 64u);
@@ -31446,7 +31930,7 @@ static void w2c_f35(module *m, u64 w2c_p0, u32 w2c_p1, u64 w2c_p2, u64 w2c_p3, u
   w2c_j0 += w2c_j1;
   w2c_j1 = w2c_l6;
   w2c_j2 = w2c_l7;
-  w2c_f32(m, w2c_j0, w2c_j1, w2c_j2);
+  w2c_f34(m, w2c_j0, w2c_j1, w2c_j2);
   w2c_j0 = w2c_l6;
   w2c_l9 = w2c_j0;
   w2c_j0 = w2c_l7;
@@ -31482,7 +31966,7 @@ static void w2c_f35(module *m, u64 w2c_p0, u32 w2c_p1, u64 w2c_p2, u64 w2c_p3, u
   w2c_j1 = 56ull;
   w2c_j0 += w2c_j1;
   w2c_i1 = w2c_l14;
-  w2c_f19(m, w2c_j0, w2c_i1);
+  w2c_f21(m, w2c_j0, w2c_i1);
   w2c_j0 = w2c_l6;
   w2c_l9 = w2c_j0;
   w2c_j0 = w2c_l7;
@@ -31501,7 +31985,7 @@ static void w2c_f35(module *m, u64 w2c_p0, u32 w2c_p1, u64 w2c_p2, u64 w2c_p3, u
     w2c_l9 = w2c_j1;
     w2c_j2 = w2c_l13;
     w2c_l8 = w2c_j2;
-    w2c_f32(m, w2c_j0, w2c_j1, w2c_j2);
+    w2c_f34(m, w2c_j0, w2c_j1, w2c_j2);
     w2c_j0 = w2c_l5;
     w2c_i0 = (u32)(w2c_j0);
     w2c_i0 = i32_load8_u(m, (u64)(w2c_i0) + 352u);
@@ -31529,7 +32013,7 @@ static void w2c_f35(module *m, u64 w2c_p0, u32 w2c_p1, u64 w2c_p2, u64 w2c_p3, u
     w2c_j1 = 48ull;
     w2c_j0 += w2c_j1;
     w2c_i1 = w2c_l14;
-    w2c_f19(m, w2c_j0, w2c_i1);
+    w2c_f21(m, w2c_j0, w2c_i1);
     w2c_j0 = w2c_l5;
     w2c_i0 = (u32)(w2c_j0);
     w2c_i0 = i32_load8_u(m, (u64)(w2c_i0) + 48u);
@@ -31574,7 +32058,7 @@ static void w2c_f35(module *m, u64 w2c_p0, u32 w2c_p1, u64 w2c_p2, u64 w2c_p3, u
   w2c_j0 += w2c_j1;
   w2c_j1 = w2c_p3;
   w2c_j2 = w2c_l10;
-  w2c_f34(m, w2c_j0, w2c_j1, w2c_j2);
+  w2c_f36(m, w2c_j0, w2c_j1, w2c_j2);
   w2c_j0 = w2c_l5;
   w2c_i0 = (u32)(w2c_j0);
   w2c_i0 = i32_load8_u(m, (u64)(w2c_i0) + 352u);
@@ -31594,7 +32078,7 @@ static void w2c_f35(module *m, u64 w2c_p0, u32 w2c_p1, u64 w2c_p2, u64 w2c_p3, u
   w2c_j2 = w2c_l5;
   w2c_i2 = (u32)(w2c_j2);
   w2c_j2 = i64_load(m, (u64)(w2c_i2) + 376u);
-  w2c_f34(m, w2c_j0, w2c_j1, w2c_j2);
+  w2c_f36(m, w2c_j0, w2c_j1, w2c_j2);
   w2c_j0 = w2c_l5;
   w2c_i0 = (u32)(w2c_j0);
   w2c_i0 = i32_load8_u(m, (u64)(w2c_i0) + 320u);
@@ -31607,7 +32091,7 @@ static void w2c_f35(module *m, u64 w2c_p0, u32 w2c_p1, u64 w2c_p2, u64 w2c_p3, u
   w2c_j1 = w2c_l5;
   w2c_i1 = (u32)(w2c_j1);
   w2c_i1 = i32_load(m, (u64)(w2c_i1) + 328u);
-  w2c_f37(m, w2c_j0, w2c_i1);
+  w2c_f39(m, w2c_j0, w2c_i1);
   w2c_j0 = w2c_l5;
   w2c_i0 = (u32)(w2c_j0);
   w2c_i0 = i32_load8_u(m, (u64)(w2c_i0) + 40u);
@@ -31626,7 +32110,7 @@ static void w2c_f35(module *m, u64 w2c_p0, u32 w2c_p1, u64 w2c_p2, u64 w2c_p3, u
   w2c_j1 = 32ull;
   w2c_j0 += w2c_j1;
   w2c_i1 = w2c_l14;
-  w2c_f19(m, w2c_j0, w2c_i1);
+  w2c_f21(m, w2c_j0, w2c_i1);
   w2c_j0 = w2c_l5;
   w2c_i0 = (u32)(w2c_j0);
   w2c_i0 = i32_load8_u(m, (u64)(w2c_i0) + 32u);
@@ -31655,7 +32139,7 @@ static void w2c_f35(module *m, u64 w2c_p0, u32 w2c_p1, u64 w2c_p2, u64 w2c_p3, u
   w2c_j0 += w2c_j1;
   w2c_j1 = w2c_l9;
   w2c_j2 = w2c_l8;
-  w2c_f32(m, w2c_j0, w2c_j1, w2c_j2);
+  w2c_f34(m, w2c_j0, w2c_j1, w2c_j2);
   w2c_j0 = w2c_l5;
   w2c_i0 = (u32)(w2c_j0);
   w2c_i0 = i32_load8_u(m, (u64)(w2c_i0) + 352u);
@@ -31668,7 +32152,7 @@ static void w2c_f35(module *m, u64 w2c_p0, u32 w2c_p1, u64 w2c_p2, u64 w2c_p3, u
   w2c_j1 = w2c_l5;
   w2c_i1 = (u32)(w2c_j1);
   w2c_i1 = i32_load(m, (u64)(w2c_i1) + 360u);
-  w2c_f37(m, w2c_j0, w2c_i1);
+  w2c_f39(m, w2c_j0, w2c_i1);
   w2c_j0 = w2c_l5;
   w2c_i0 = (u32)(w2c_j0);
   w2c_i0 = i32_load8_u(m, (u64)(w2c_i0) + 25u);
@@ -31708,7 +32192,7 @@ static void w2c_f35(module *m, u64 w2c_p0, u32 w2c_p1, u64 w2c_p2, u64 w2c_p3, u
     w2c_j0 += w2c_j1;
     w2c_j1 = w2c_l9;
     w2c_j2 = w2c_l8;
-    w2c_f32(m, w2c_j0, w2c_j1, w2c_j2);
+    w2c_f34(m, w2c_j0, w2c_j1, w2c_j2);
     w2c_j0 = w2c_l5;
     w2c_i0 = (u32)(w2c_j0);
     w2c_i0 = i32_load8_u(m, (u64)(w2c_i0) + 352u);
@@ -31729,7 +32213,7 @@ static void w2c_f35(module *m, u64 w2c_p0, u32 w2c_p1, u64 w2c_p2, u64 w2c_p3, u
     w2c_j1 = w2c_l5;
     w2c_i1 = (u32)(w2c_j1);
     w2c_i1 = i32_load(m, (u64)(w2c_i1) + 360u);
-    w2c_f37(m, w2c_j0, w2c_i1);
+    w2c_f39(m, w2c_j0, w2c_i1);
     w2c_j0 = w2c_l5;
     w2c_i0 = (u32)(w2c_j0);
     w2c_i0 = i32_load8_u(m, (u64)(w2c_i0) + 16u);
@@ -31784,7 +32268,7 @@ static void w2c_f35(module *m, u64 w2c_p0, u32 w2c_p1, u64 w2c_p2, u64 w2c_p3, u
   w2c_j0 += w2c_j1;
   w2c_j1 = w2c_p3;
   w2c_j2 = w2c_p4;
-  w2c_f32(m, w2c_j0, w2c_j1, w2c_j2);
+  w2c_f34(m, w2c_j0, w2c_j1, w2c_j2);
   w2c_j0 = w2c_l5;
   w2c_i0 = (u32)(w2c_j0);
   w2c_i0 = i32_load8_u(m, (u64)(w2c_i0) + 352u);
@@ -31817,7 +32301,7 @@ static void w2c_f35(module *m, u64 w2c_p0, u32 w2c_p1, u64 w2c_p2, u64 w2c_p3, u
   w2c_j2 = w2c_p2;
   w2c_j3 = w2c_p3;
   w2c_j4 = w2c_l10;
-  w2c_f43(m, w2c_j0, w2c_i1, w2c_j2, w2c_j3, w2c_j4);
+  w2c_f45(m, w2c_j0, w2c_i1, w2c_j2, w2c_j3, w2c_j4);
   w2c_j0 = w2c_l5;
   w2c_i0 = (u32)(w2c_j0);
   w2c_j0 = i64_load(m, (u64)(w2c_i0) + 240u);
@@ -31837,7 +32321,7 @@ static void w2c_f35(module *m, u64 w2c_p0, u32 w2c_p1, u64 w2c_p2, u64 w2c_p3, u
   w2c_j4 = i64_load(m, (u64)(w2c_i4) + 248u);
   w2c_j5 = w2c_l6;
   w2c_j6 = w2c_l7;
-  w2c_f41(m, w2c_j0, w2c_i1, w2c_i2, w2c_j3, w2c_j4, w2c_j5, w2c_j6);
+  w2c_f43(m, w2c_j0, w2c_i1, w2c_i2, w2c_j3, w2c_j4, w2c_j5, w2c_j6);
   w2c_j0 = w2c_l5;
   w2c_i0 = (u32)(w2c_j0);
   w2c_i0 = i32_load8_u(m, (u64)(w2c_i0) + 192u);
@@ -31962,7 +32446,7 @@ static void w2c_f35(module *m, u64 w2c_p0, u32 w2c_p1, u64 w2c_p2, u64 w2c_p3, u
   w2c_j0 += w2c_j1;
   w2c_j1 = w2c_l7;
   w2c_j2 = w2c_l6;
-  w2c_f32(m, w2c_j0, w2c_j1, w2c_j2);
+  w2c_f34(m, w2c_j0, w2c_j1, w2c_j2);
   w2c_j0 = w2c_l5;
   w2c_i0 = (u32)(w2c_j0);
   w2c_i0 = i32_load8_u(m, (u64)(w2c_i0) + 320u);
@@ -31982,7 +32466,7 @@ static void w2c_f35(module *m, u64 w2c_p0, u32 w2c_p1, u64 w2c_p2, u64 w2c_p3, u
   w2c_j2 = w2c_l5;
   w2c_i2 = (u32)(w2c_j2);
   w2c_j2 = i64_load(m, (u64)(w2c_i2) + 344u);
-  w2c_f32(m, w2c_j0, w2c_j1, w2c_j2);
+  w2c_f34(m, w2c_j0, w2c_j1, w2c_j2);
   w2c_i0 = w2c_l14;
   w2c_i1 = 4294967248u;
   w2c_i0 += w2c_i1;
@@ -32001,7 +32485,7 @@ static void w2c_f35(module *m, u64 w2c_p0, u32 w2c_p1, u64 w2c_p2, u64 w2c_p3, u
   w2c_j1 = 8ull;
   w2c_j0 += w2c_j1;
   w2c_i1 = w2c_l14;
-  w2c_f19(m, w2c_j0, w2c_i1);
+  w2c_f21(m, w2c_j0, w2c_i1);
   w2c_j0 = w2c_l5;
   w2c_i0 = (u32)(w2c_j0);
   w2c_i0 = i32_load8_u(m, (u64)(w2c_i0) + 8u);
@@ -32060,7 +32544,7 @@ static void w2c_f35(module *m, u64 w2c_p0, u32 w2c_p1, u64 w2c_p2, u64 w2c_p3, u
   w2c_j2 = w2c_p2;
   w2c_j3 = w2c_p3;
   w2c_j4 = w2c_p4;
-  w2c_f43(m, w2c_j0, w2c_i1, w2c_j2, w2c_j3, w2c_j4);
+  w2c_f45(m, w2c_j0, w2c_i1, w2c_j2, w2c_j3, w2c_j4);
   w2c_j0 = w2c_l5;
   w2c_i0 = (u32)(w2c_j0);
   w2c_j0 = i64_load(m, (u64)(w2c_i0) + 176u);
@@ -32153,85 +32637,109 @@ static void w2c_f35(module *m, u64 w2c_p0, u32 w2c_p1, u64 w2c_p2, u64 w2c_p3, u
   m->w2c_g0 = w2c_j0;
 }
 
-static u64 w2c_f36(module *m, u64 w2c_p0, u64 w2c_p1) {
-  u64 w2c_l2 = 0, w2c_l3 = 0, w2c_l4 = 0;
+static u64 w2c_f38(module *m, u64 w2c_p0, u64 w2c_p1) {
+  u64 w2c_l2 = 0, w2c_l3 = 0, w2c_l4 = 0, w2c_l5 = 0;
   u32 w2c_i0, w2c_i1;
-  u64 w2c_j0, w2c_j1;
+  u64 w2c_j0, w2c_j1, w2c_j2, w2c_j3;
   w2c_j0 = m->w2c_g0;
   w2c_j1 = 16ull;
-  w2c_i0 = (u64)((s64)w2c_j0 < (s64)w2c_j1);
-  if (w2c_i0) {goto w2c_B0;}
-  w2c_j0 = 0ull;
+  w2c_j0 -= w2c_j1;
   w2c_l2 = w2c_j0;
-  w2c_j0 = 0ull;
+  m->w2c_g0 = w2c_j0;
+  w2c_j0 = w2c_l2;
   w2c_l3 = w2c_j0;
-  w2c_j0 = w2c_p1;
-  w2c_j1 = 8ull;
-  w2c_i0 = w2c_j0 < w2c_j1;
+  w2c_j1 = 16ull;
+  w2c_i0 = (u64)((s64)w2c_j0 < (s64)w2c_j1);
   if (w2c_i0) {goto w2c_B1;}
   w2c_j0 = 0ull;
-  w2c_l2 = w2c_j0;
-  w2c_j0 = w2c_p0;
   w2c_l4 = w2c_j0;
   w2c_j0 = 0ull;
-  w2c_l3 = w2c_j0;
-  w2c_L2:
-    w2c_j0 = w2c_l4;
+  w2c_l2 = w2c_j0;
+  w2c_j0 = w2c_p1;
+  w2c_j1 = 32ull;
+  w2c_i0 = w2c_j0 < w2c_j1;
+  if (w2c_i0) {goto w2c_B2;}
+  w2c_j0 = w2c_l3;
+  w2c_j1 = w2c_p0;
+  w2c_j2 = w2c_p1;
+  w2c_j3 = w2c_p1;
+  w2c_f14(m, w2c_j0, w2c_j1, w2c_j2, w2c_j3);
+  w2c_j0 = w2c_p1;
+  w2c_j1 = w2c_l3;
+  w2c_i1 = (u32)(w2c_j1);
+  w2c_j1 = i64_load(m, (u64)(w2c_i1) + 8u);
+  w2c_j0 -= w2c_j1;
+  w2c_l4 = w2c_j0;
+  w2c_j0 = w2c_l3;
+  w2c_i0 = (u32)(w2c_j0);
+  w2c_j0 = i64_load(m, (u64)(w2c_i0));
+  w2c_l2 = w2c_j0;
+  w2c_B2:;
+  w2c_j0 = w2c_p1;
+  w2c_j1 = w2c_l2;
+  w2c_j0 -= w2c_j1;
+  w2c_j1 = 8ull;
+  w2c_i0 = w2c_j0 < w2c_j1;
+  if (w2c_i0) {goto w2c_B0;}
+  w2c_L3:
+    w2c_j0 = w2c_p0;
+    w2c_j1 = w2c_l2;
+    w2c_j0 += w2c_j1;
     w2c_i0 = (u32)(w2c_j0);
     w2c_j0 = i64_load(m, (u64)(w2c_i0));
-    w2c_l4 = w2c_j0;
+    w2c_l5 = w2c_j0;
     w2c_j1 = 67553998437089520ull;
     w2c_j0 &= w2c_j1;
     w2c_j1 = 63050398541283552ull;
     w2c_i0 = w2c_j0 != w2c_j1;
-    if (w2c_i0) {goto w2c_B4;}
-    w2c_j0 = w2c_l2;
+    if (w2c_i0) {goto w2c_B5;}
+    w2c_j0 = w2c_l4;
     w2c_j1 = 3ull;
     w2c_j0 += w2c_j1;
-    w2c_l2 = w2c_j0;
-    w2c_j0 = w2c_l3;
+    w2c_l4 = w2c_j0;
+    w2c_j0 = w2c_l2;
     w2c_j1 = 9ull;
     w2c_j0 += w2c_j1;
-    w2c_l3 = w2c_j0;
-    goto w2c_B3;
-    w2c_B4:;
-    w2c_j0 = w2c_l4;
+    w2c_l2 = w2c_j0;
+    goto w2c_B4;
+    w2c_B5:;
+    w2c_j0 = w2c_l5;
     w2c_j1 = 9259542123273814144ull;
     w2c_j0 &= w2c_j1;
     w2c_j1 = 0ull;
     w2c_i0 = w2c_j0 != w2c_j1;
-    if (w2c_i0) {goto w2c_B1;}
-    w2c_j0 = w2c_l2;
+    if (w2c_i0) {goto w2c_B0;}
+    w2c_j0 = w2c_l4;
     w2c_j1 = 8ull;
-    w2c_j0 += w2c_j1;
-    w2c_l2 = w2c_j0;
-    w2c_j0 = w2c_l3;
-    w2c_j1 = 8ull;
-    w2c_j0 += w2c_j1;
-    w2c_l3 = w2c_j0;
-    w2c_B3:;
-    w2c_j0 = w2c_p0;
-    w2c_j1 = w2c_l3;
     w2c_j0 += w2c_j1;
     w2c_l4 = w2c_j0;
-    w2c_j0 = w2c_p1;
-    w2c_j1 = w2c_l3;
-    w2c_j0 -= w2c_j1;
-    w2c_j1 = 7ull;
-    w2c_i0 = w2c_j0 > w2c_j1;
-    if (w2c_i0) {goto w2c_L2;}
-  w2c_B1:;
-  w2c_j0 = w2c_l3;
-  w2c_j1 = w2c_p1;
-  w2c_i0 = w2c_j0 >= w2c_j1;
-  if (w2c_i0) {goto w2c_B5;}
-  w2c_L6:
     w2c_j0 = w2c_l2;
-    w2c_j1 = 1ull;
+    w2c_j1 = 8ull;
     w2c_j0 += w2c_j1;
     w2c_l2 = w2c_j0;
+    w2c_B4:;
+    w2c_j0 = w2c_p1;
+    w2c_j1 = w2c_l2;
+    w2c_j0 -= w2c_j1;
+    w2c_j1 = 7ull;
+    w2c_i0 = w2c_j0 <= w2c_j1;
+    if (w2c_i0) {goto w2c_B0;}
+    goto w2c_L3;
+  UNREACHABLE;
+  w2c_B1:;
+  UNREACHABLE;
+  w2c_B0:;
+  w2c_j0 = w2c_l2;
+  w2c_j1 = w2c_p1;
+  w2c_i0 = w2c_j0 >= w2c_j1;
+  if (w2c_i0) {goto w2c_B6;}
+  w2c_L7:
+    w2c_j0 = w2c_l4;
+    w2c_j1 = 1ull;
+    w2c_j0 += w2c_j1;
+    w2c_l4 = w2c_j0;
     w2c_j0 = w2c_p0;
-    w2c_j1 = w2c_l3;
+    w2c_j1 = w2c_l2;
     w2c_j0 += w2c_j1;
     w2c_i0 = (u32)(w2c_j0);
     w2c_i0 = i32_load8_u(m, (u64)(w2c_i0));
@@ -32244,22 +32752,22 @@ static u64 w2c_f36(module *m, u64 w2c_p0, u64 w2c_p1) {
     w2c_j0 += w2c_j1;
     w2c_i0 = (u32)(w2c_j0);
     w2c_j0 = i64_load(m, (u64)(w2c_i0));
-    w2c_j1 = w2c_l3;
+    w2c_j1 = w2c_l2;
     w2c_j0 += w2c_j1;
-    w2c_l3 = w2c_j0;
+    w2c_l2 = w2c_j0;
     w2c_j1 = w2c_p1;
     w2c_i0 = w2c_j0 < w2c_j1;
-    if (w2c_i0) {goto w2c_L6;}
-  w2c_B5:;
-  w2c_j0 = w2c_l2;
-  goto w2c_Bfunc;
-  w2c_B0:;
-  UNREACHABLE;
-  w2c_Bfunc:;
+    if (w2c_i0) {goto w2c_L7;}
+  w2c_B6:;
+  w2c_j0 = w2c_l3;
+  w2c_j1 = 16ull;
+  w2c_j0 += w2c_j1;
+  m->w2c_g0 = w2c_j0;
+  w2c_j0 = w2c_l4;
   return w2c_j0;
 }
 
-static void w2c_f37(module *m, u64 w2c_p0, u32 w2c_p1) {
+static void w2c_f39(module *m, u64 w2c_p0, u32 w2c_p1) {
   u32 w2c_l2 = 0, w2c_l3 = 0;
   u32 w2c_i0, w2c_i1;
   u64 w2c_j0, w2c_j1;
@@ -32515,7 +33023,7 @@ static void w2c_f37(module *m, u64 w2c_p0, u32 w2c_p1) {
   i32_store8(m, (u64)(w2c_i0), w2c_i1);
 }
 
-static void w2c_f38(module *m, u64 w2c_p0, u32 w2c_p1, u64 w2c_p2, u64 w2c_p3, u64 w2c_p4, u64 w2c_p5) {
+static void w2c_f40(module *m, u64 w2c_p0, u32 w2c_p1, u64 w2c_p2, u64 w2c_p3, u64 w2c_p4, u64 w2c_p5) {
   u64 w2c_l6 = 0, w2c_l7 = 0, w2c_l8 = 0, w2c_l9 = 0;
   u32 w2c_i0, w2c_i1, w2c_i2;
   u64 w2c_j0, w2c_j1, w2c_j2, w2c_j3, w2c_j4;
@@ -32550,7 +33058,7 @@ static void w2c_f38(module *m, u64 w2c_p0, u32 w2c_p1, u64 w2c_p2, u64 w2c_p3, u
   w2c_j0 += w2c_j1;
   w2c_j1 = w2c_p4;
   w2c_j2 = w2c_p5;
-  w2c_f32(m, w2c_j0, w2c_j1, w2c_j2);
+  w2c_f34(m, w2c_j0, w2c_j1, w2c_j2);
   w2c_j0 = w2c_l6;
   w2c_i0 = (u32)(w2c_j0);
   w2c_i0 = i32_load8_u(m, (u64)(w2c_i0) + 80u);
@@ -32581,7 +33089,7 @@ static void w2c_f38(module *m, u64 w2c_p0, u32 w2c_p1, u64 w2c_p2, u64 w2c_p3, u
     w2c_j1 = w2c_l6;
     w2c_i1 = (u32)(w2c_j1);
     w2c_i1 = i32_load(m, (u64)(w2c_i1) + 88u);
-    w2c_f37(m, w2c_j0, w2c_i1);
+    w2c_f39(m, w2c_j0, w2c_i1);
     w2c_j0 = w2c_l6;
     w2c_i0 = (u32)(w2c_j0);
     w2c_i0 = i32_load8_u(m, (u64)(w2c_i0) + 72u);
@@ -32705,7 +33213,7 @@ static void w2c_f38(module *m, u64 w2c_p0, u32 w2c_p1, u64 w2c_p2, u64 w2c_p3, u
     w2c_j0 += w2c_j1;
     w2c_j1 = w2c_p4;
     w2c_j2 = w2c_p5;
-    w2c_f32(m, w2c_j0, w2c_j1, w2c_j2);
+    w2c_f34(m, w2c_j0, w2c_j1, w2c_j2);
     w2c_j0 = w2c_l6;
     w2c_i0 = (u32)(w2c_j0);
     w2c_i0 = i32_load8_u(m, (u64)(w2c_i0) + 80u);
@@ -32762,7 +33270,7 @@ static void w2c_f38(module *m, u64 w2c_p0, u32 w2c_p1, u64 w2c_p2, u64 w2c_p3, u
   w2c_Bfunc:;
 }
 
-static void w2c_f39(module *m, u64 w2c_p0, u32 w2c_p1, u32 w2c_p2) {
+static void w2c_f41(module *m, u64 w2c_p0, u32 w2c_p1, u32 w2c_p2) {
   u32 w2c_l4 = 0;
   u64 w2c_l3 = 0;
   u32 w2c_i0, w2c_i1;
@@ -32877,7 +33385,7 @@ static void w2c_f39(module *m, u64 w2c_p0, u32 w2c_p1, u32 w2c_p2) {
   w2c_j1 = 8ull;
   w2c_j0 += w2c_j1;
   w2c_i1 = w2c_p2;
-  w2c_f19(m, w2c_j0, w2c_i1);
+  w2c_f21(m, w2c_j0, w2c_i1);
   w2c_j0 = w2c_l3;
   w2c_i0 = (u32)(w2c_j0);
   w2c_i0 = i32_load8_u(m, (u64)(w2c_i0) + 9u);
@@ -32905,7 +33413,7 @@ static void w2c_f39(module *m, u64 w2c_p0, u32 w2c_p1, u32 w2c_p2) {
   w2c_Bfunc:;
 }
 
-static void w2c_f40(module *m, u64 w2c_p0, u64 w2c_p1, u64 w2c_p2) {
+static void w2c_f42(module *m, u64 w2c_p0, u64 w2c_p1, u64 w2c_p2) {
   u32 w2c_l5 = 0, w2c_l6 = 0, w2c_l7 = 0, w2c_l8 = 0;
   u64 w2c_l3 = 0, w2c_l4 = 0;
   u32 w2c_i0, w2c_i1, w2c_i2, w2c_i3;
@@ -32943,7 +33451,7 @@ static void w2c_f40(module *m, u64 w2c_p0, u64 w2c_p1, u64 w2c_p2) {
   w2c_j0 += w2c_j1;
   w2c_j1 = w2c_p1;
   w2c_j2 = w2c_p2;
-  w2c_f32(m, w2c_j0, w2c_j1, w2c_j2);
+  w2c_f34(m, w2c_j0, w2c_j1, w2c_j2);
   w2c_i0 = 1u;
   w2c_l5 = w2c_i0;
   w2c_j0 = w2c_l3;
@@ -32974,7 +33482,7 @@ static void w2c_f40(module *m, u64 w2c_p0, u64 w2c_p1, u64 w2c_p2) {
   w2c_j3 = w2c_l3;
   w2c_i3 = (u32)(w2c_j3);
   w2c_j3 = i64_load(m, (u64)(w2c_i3) + 56u);
-  w2c_f42(m, w2c_j0, w2c_i1, w2c_j2, w2c_j3);
+  w2c_f44(m, w2c_j0, w2c_i1, w2c_j2, w2c_j3);
   w2c_j0 = w2c_l3;
   w2c_i0 = (u32)(w2c_j0);
   w2c_j0 = i64_load(m, (u64)(w2c_i0) + 24u);
@@ -33009,7 +33517,7 @@ static void w2c_f40(module *m, u64 w2c_p0, u64 w2c_p1, u64 w2c_p2) {
     w2c_j0 += w2c_j1;
     w2c_j1 = w2c_p1;
     w2c_j2 = w2c_p2;
-    w2c_f32(m, w2c_j0, w2c_j1, w2c_j2);
+    w2c_f34(m, w2c_j0, w2c_j1, w2c_j2);
     w2c_j0 = w2c_l3;
     w2c_i0 = (u32)(w2c_j0);
     w2c_i0 = i32_load8_u(m, (u64)(w2c_i0) + 64u);
@@ -33031,7 +33539,7 @@ static void w2c_f40(module *m, u64 w2c_p0, u64 w2c_p1, u64 w2c_p2) {
     w2c_j1 = w2c_l3;
     w2c_i1 = (u32)(w2c_j1);
     w2c_i1 = i32_load(m, (u64)(w2c_i1) + 72u);
-    w2c_f37(m, w2c_j0, w2c_i1);
+    w2c_f39(m, w2c_j0, w2c_i1);
     w2c_j0 = w2c_l3;
     w2c_i0 = (u32)(w2c_j0);
     w2c_i0 = i32_load8_u(m, (u64)(w2c_i0) + 8u);
@@ -33079,7 +33587,7 @@ static void w2c_f40(module *m, u64 w2c_p0, u64 w2c_p1, u64 w2c_p2) {
   w2c_Bfunc:;
 }
 
-static void w2c_f41(module *m, u64 w2c_p0, u32 w2c_p1, u32 w2c_p2, u64 w2c_p3, u64 w2c_p4, u64 w2c_p5, u64 w2c_p6) {
+static void w2c_f43(module *m, u64 w2c_p0, u32 w2c_p1, u32 w2c_p2, u64 w2c_p3, u64 w2c_p4, u64 w2c_p5, u64 w2c_p6) {
   u32 w2c_l11 = 0;
   u64 w2c_l7 = 0, w2c_l8 = 0, w2c_l9 = 0, w2c_l10 = 0;
   u32 w2c_i0, w2c_i1, w2c_i2;
@@ -33131,7 +33639,7 @@ static void w2c_f41(module *m, u64 w2c_p0, u32 w2c_p1, u32 w2c_p2, u64 w2c_p3, u
   w2c_j0 += w2c_j1;
   w2c_j1 = w2c_p5;
   w2c_j2 = w2c_p6;
-  w2c_f32(m, w2c_j0, w2c_j1, w2c_j2);
+  w2c_f34(m, w2c_j0, w2c_j1, w2c_j2);
   w2c_j0 = w2c_l7;
   w2c_i0 = (u32)(w2c_j0);
   w2c_i0 = i32_load8_u(m, (u64)(w2c_i0) + 80u);
@@ -33154,7 +33662,7 @@ static void w2c_f41(module *m, u64 w2c_p0, u32 w2c_p1, u32 w2c_p2, u64 w2c_p3, u
     w2c_j2 = w2c_l7;
     w2c_i2 = (u32)(w2c_j2);
     w2c_i2 = i32_load(m, (u64)(w2c_i2) + 88u);
-    w2c_f39(m, w2c_j0, w2c_i1, w2c_i2);
+    w2c_f41(m, w2c_j0, w2c_i1, w2c_i2);
     w2c_j0 = w2c_l7;
     w2c_i0 = (u32)(w2c_j0);
     w2c_i0 = i32_load8_u(m, (u64)(w2c_i0) + 40u);
@@ -33234,7 +33742,7 @@ static void w2c_f41(module *m, u64 w2c_p0, u32 w2c_p1, u32 w2c_p2, u64 w2c_p3, u
     w2c_j0 += w2c_j1;
     w2c_j1 = w2c_l9;
     w2c_j2 = w2c_l8;
-    w2c_f32(m, w2c_j0, w2c_j1, w2c_j2);
+    w2c_f34(m, w2c_j0, w2c_j1, w2c_j2);
     w2c_j0 = w2c_l7;
     w2c_i0 = (u32)(w2c_j0);
     w2c_i0 = i32_load8_u(m, (u64)(w2c_i0) + 80u);
@@ -33250,7 +33758,7 @@ static void w2c_f41(module *m, u64 w2c_p0, u32 w2c_p1, u32 w2c_p2, u64 w2c_p3, u
   w2c_j3 = w2c_p4;
   w2c_j4 = w2c_p5;
   w2c_j5 = w2c_p6;
-  w2c_f38(m, w2c_j0, w2c_i1, w2c_j2, w2c_j3, w2c_j4, w2c_j5);
+  w2c_f40(m, w2c_j0, w2c_i1, w2c_j2, w2c_j3, w2c_j4, w2c_j5);
   w2c_j0 = w2c_p0;
   w2c_i0 = (u32)(w2c_j0);
   w2c_j1 = 0ull;
@@ -33305,7 +33813,7 @@ static void w2c_f41(module *m, u64 w2c_p0, u32 w2c_p1, u32 w2c_p2, u64 w2c_p3, u
   m->w2c_g0 = w2c_j0;
 }
 
-static void w2c_f42(module *m, u64 w2c_p0, u32 w2c_p1, u64 w2c_p2, u64 w2c_p3) {
+static void w2c_f44(module *m, u64 w2c_p0, u32 w2c_p1, u64 w2c_p2, u64 w2c_p3) {
   u32 w2c_l9 = 0, w2c_l10 = 0, w2c_l11 = 0;
   u64 w2c_l4 = 0, w2c_l5 = 0, w2c_l6 = 0, w2c_l7 = 0, w2c_l8 = 0;
   u32 w2c_i0, w2c_i1, w2c_i2;
@@ -33343,7 +33851,7 @@ static void w2c_f42(module *m, u64 w2c_p0, u32 w2c_p1, u64 w2c_p2, u64 w2c_p3) {
   w2c_j0 += w2c_j1;
   w2c_j1 = w2c_p2;
   w2c_j2 = w2c_p3;
-  w2c_f32(m, w2c_j0, w2c_j1, w2c_j2);
+  w2c_f34(m, w2c_j0, w2c_j1, w2c_j2);
   w2c_j0 = w2c_l4;
   w2c_i0 = (u32)(w2c_j0);
   w2c_i0 = i32_load8_u(m, (u64)(w2c_i0) + 32u);
@@ -33369,7 +33877,7 @@ static void w2c_f42(module *m, u64 w2c_p0, u32 w2c_p1, u64 w2c_p2, u64 w2c_p3) {
   w2c_j2 = w2c_l4;
   w2c_i2 = (u32)(w2c_j2);
   w2c_i2 = i32_load(m, (u64)(w2c_i2) + 40u);
-  w2c_f39(m, w2c_j0, w2c_i1, w2c_i2);
+  w2c_f41(m, w2c_j0, w2c_i1, w2c_i2);
   w2c_j0 = w2c_l4;
   w2c_i0 = (u32)(w2c_j0);
   w2c_i0 = i32_load8_u(m, (u64)(w2c_i0) + 24u);
@@ -33394,7 +33902,7 @@ static void w2c_f42(module *m, u64 w2c_p0, u32 w2c_p1, u64 w2c_p2, u64 w2c_p3) {
     w2c_p3 = w2c_j1;
     w2c_j2 = w2c_l6;
     w2c_p2 = w2c_j2;
-    w2c_f32(m, w2c_j0, w2c_j1, w2c_j2);
+    w2c_f34(m, w2c_j0, w2c_j1, w2c_j2);
     w2c_j0 = w2c_l4;
     w2c_i0 = (u32)(w2c_j0);
     w2c_i0 = i32_load8_u(m, (u64)(w2c_i0) + 32u);
@@ -33416,7 +33924,7 @@ static void w2c_f42(module *m, u64 w2c_p0, u32 w2c_p1, u64 w2c_p2, u64 w2c_p3) {
     w2c_j2 = w2c_l4;
     w2c_i2 = (u32)(w2c_j2);
     w2c_i2 = i32_load(m, (u64)(w2c_i2) + 40u);
-    w2c_f39(m, w2c_j0, w2c_i1, w2c_i2);
+    w2c_f41(m, w2c_j0, w2c_i1, w2c_i2);
     w2c_j0 = w2c_l8;
     w2c_j1 = 18446744073709551615ull;
     w2c_j0 += w2c_j1;
@@ -33463,7 +33971,7 @@ static void w2c_f42(module *m, u64 w2c_p0, u32 w2c_p1, u64 w2c_p2, u64 w2c_p3) {
     w2c_j0 += w2c_j1;
     w2c_j1 = w2c_p3;
     w2c_j2 = w2c_p2;
-    w2c_f32(m, w2c_j0, w2c_j1, w2c_j2);
+    w2c_f34(m, w2c_j0, w2c_j1, w2c_j2);
     w2c_j0 = w2c_l4;
     w2c_i0 = (u32)(w2c_j0);
     w2c_i0 = i32_load8_u(m, (u64)(w2c_i0) + 32u);
@@ -33488,7 +33996,7 @@ static void w2c_f42(module *m, u64 w2c_p0, u32 w2c_p1, u64 w2c_p2, u64 w2c_p3) {
     w2c_j1 = w2c_l4;
     w2c_i1 = (u32)(w2c_j1);
     w2c_i1 = i32_load(m, (u64)(w2c_i1) + 40u);
-    w2c_f37(m, w2c_j0, w2c_i1);
+    w2c_f39(m, w2c_j0, w2c_i1);
     w2c_j0 = w2c_l4;
     w2c_i0 = (u32)(w2c_j0);
     w2c_i0 = i32_load8_u(m, (u64)(w2c_i0) + 8u);
@@ -33532,7 +34040,7 @@ static void w2c_f42(module *m, u64 w2c_p0, u32 w2c_p1, u64 w2c_p2, u64 w2c_p3) {
   w2c_Bfunc:;
 }
 
-static void w2c_f43(module *m, u64 w2c_p0, u32 w2c_p1, u64 w2c_p2, u64 w2c_p3, u64 w2c_p4) {
+static void w2c_f45(module *m, u64 w2c_p0, u32 w2c_p1, u64 w2c_p2, u64 w2c_p3, u64 w2c_p4) {
   u32 w2c_l9 = 0, w2c_l10 = 0, w2c_l11 = 0, w2c_l12 = 0, w2c_l13 = 0, w2c_l14 = 0;
   u64 w2c_l5 = 0, w2c_l6 = 0, w2c_l7 = 0, w2c_l8 = 0;
   u32 w2c_i0, w2c_i1, w2c_i2, w2c_i3, w2c_i4, w2c_i5;
@@ -33589,7 +34097,7 @@ static void w2c_f43(module *m, u64 w2c_p0, u32 w2c_p1, u64 w2c_p2, u64 w2c_p3, u
     w2c_j0 += w2c_j1;
     w2c_j1 = w2c_l6;
     w2c_j2 = w2c_l7;
-    w2c_f32(m, w2c_j0, w2c_j1, w2c_j2);
+    w2c_f34(m, w2c_j0, w2c_j1, w2c_j2);
     w2c_j0 = w2c_l5;
     w2c_i0 = (u32)(w2c_j0);
     w2c_i0 = i32_load8_u(m, (u64)(w2c_i0) + 144u);
@@ -33610,7 +34118,7 @@ static void w2c_f43(module *m, u64 w2c_p0, u32 w2c_p1, u64 w2c_p2, u64 w2c_p3, u
     w2c_j1 = w2c_l5;
     w2c_i1 = (u32)(w2c_j1);
     w2c_i1 = i32_load(m, (u64)(w2c_i1) + 152u);
-    w2c_f19(m, w2c_j0, w2c_i1);
+    w2c_f21(m, w2c_j0, w2c_i1);
     w2c_j0 = w2c_l5;
     w2c_i0 = (u32)(w2c_j0);
     w2c_i0 = i32_load8_u(m, (u64)(w2c_i0) + 8u);
@@ -33876,7 +34384,7 @@ static void w2c_f43(module *m, u64 w2c_p0, u32 w2c_p1, u64 w2c_p2, u64 w2c_p3, u
   w2c_j1 = w2c_p2;
   w2c_j2 = w2c_p3;
   w2c_j3 = w2c_p4;
-  w2c_f44(m, w2c_j0, w2c_j1, w2c_j2, w2c_j3);
+  w2c_f46(m, w2c_j0, w2c_j1, w2c_j2, w2c_j3);
   w2c_j0 = w2c_l5;
   w2c_i0 = (u32)(w2c_j0);
   w2c_i0 = i32_load8_u(m, (u64)(w2c_i0) + 24u);
@@ -34130,7 +34638,7 @@ static void w2c_f43(module *m, u64 w2c_p0, u32 w2c_p1, u64 w2c_p2, u64 w2c_p3, u
   w2c_j0 += w2c_j1;
   w2c_j1 = w2c_p3;
   w2c_j2 = w2c_l6;
-  w2c_f45(m, w2c_j0, w2c_j1, w2c_j2);
+  w2c_f47(m, w2c_j0, w2c_j1, w2c_j2);
   w2c_j0 = w2c_l5;
   w2c_i0 = (u32)(w2c_j0);
   w2c_i0 = i32_load8_u(m, (u64)(w2c_i0) + 144u);
@@ -34265,7 +34773,7 @@ static void w2c_f43(module *m, u64 w2c_p0, u32 w2c_p1, u64 w2c_p2, u64 w2c_p3, u
   w2c_j0 += w2c_j1;
   w2c_j1 = w2c_p4;
   w2c_j2 = w2c_l7;
-  w2c_f45(m, w2c_j0, w2c_j1, w2c_j2);
+  w2c_f47(m, w2c_j0, w2c_j1, w2c_j2);
   w2c_j0 = w2c_l5;
   w2c_i0 = (u32)(w2c_j0);
   w2c_i0 = i32_load8_u(m, (u64)(w2c_i0) + 144u);
@@ -34317,7 +34825,7 @@ static void w2c_f43(module *m, u64 w2c_p0, u32 w2c_p1, u64 w2c_p2, u64 w2c_p3, u
   w2c_i3 = w2c_l9;
   w2c_j4 = w2c_p4;
   w2c_j5 = w2c_l7;
-  w2c_f46(m, w2c_j0, w2c_i1, w2c_j2, w2c_i3, w2c_j4, w2c_j5);
+  w2c_f48(m, w2c_j0, w2c_i1, w2c_j2, w2c_i3, w2c_j4, w2c_j5);
   w2c_j0 = w2c_l5;
   w2c_i0 = (u32)(w2c_j0);
   w2c_j0 = i64_load(m, (u64)(w2c_i0) + 96u);
@@ -34340,7 +34848,7 @@ static void w2c_f43(module *m, u64 w2c_p0, u32 w2c_p1, u64 w2c_p2, u64 w2c_p3, u
   w2c_j3 = i64_load(m, (u64)(w2c_i3) + 104u);
   w2c_i4 = w2c_l14;
   w2c_i5 = w2c_l13;
-  w2c_f47(m, w2c_j0, w2c_i1, w2c_j2, w2c_j3, w2c_i4, w2c_i5);
+  w2c_f49(m, w2c_j0, w2c_i1, w2c_j2, w2c_j3, w2c_i4, w2c_i5);
   w2c_j0 = w2c_l5;
   w2c_i0 = (u32)(w2c_j0);
   w2c_j1 = 0ull;
@@ -34383,7 +34891,7 @@ static void w2c_f43(module *m, u64 w2c_p0, u32 w2c_p1, u64 w2c_p2, u64 w2c_p3, u
   w2c_B32:;
   w2c_j0 = w2c_p4;
   w2c_j1 = w2c_l7;
-  w2c_j0 = w2c_f36(m, w2c_j0, w2c_j1);
+  w2c_j0 = w2c_f38(m, w2c_j0, w2c_j1);
   w2c_p3 = w2c_j0;
   w2c_j0 = w2c_l5;
   w2c_i0 = (u32)(w2c_j0);
@@ -34418,7 +34926,7 @@ static void w2c_f43(module *m, u64 w2c_p0, u32 w2c_p1, u64 w2c_p2, u64 w2c_p3, u
   w2c_i3 = w2c_l9;
   w2c_j4 = w2c_p3;
   w2c_j5 = w2c_l6;
-  w2c_f46(m, w2c_j0, w2c_i1, w2c_j2, w2c_i3, w2c_j4, w2c_j5);
+  w2c_f48(m, w2c_j0, w2c_i1, w2c_j2, w2c_i3, w2c_j4, w2c_j5);
   w2c_j0 = w2c_l5;
   w2c_i0 = (u32)(w2c_j0);
   w2c_j1 = w2c_l5;
@@ -34508,7 +35016,7 @@ static void w2c_f43(module *m, u64 w2c_p0, u32 w2c_p1, u64 w2c_p2, u64 w2c_p3, u
   m->w2c_g0 = w2c_j0;
 }
 
-static void w2c_f44(module *m, u64 w2c_p0, u64 w2c_p1, u64 w2c_p2, u64 w2c_p3) {
+static void w2c_f46(module *m, u64 w2c_p0, u64 w2c_p1, u64 w2c_p2, u64 w2c_p3) {
   u32 w2c_l16 = 0, w2c_l17 = 0, w2c_l18 = 0, w2c_l19 = 0;
   u64 w2c_l4 = 0, w2c_l5 = 0, w2c_l6 = 0, w2c_l7 = 0, w2c_l8 = 0, w2c_l9 = 0, w2c_l10 = 0, w2c_l11 = 0, w2c_l12 = 0, w2c_l13 = 0, w2c_l14 = 0, w2c_l15 = 0;
   u32 w2c_i0, w2c_i1, w2c_i2, w2c_i3;
@@ -35130,7 +35638,7 @@ static void w2c_f44(module *m, u64 w2c_p0, u64 w2c_p1, u64 w2c_p2, u64 w2c_p3) {
   m->w2c_g0 = w2c_j0;
 }
 
-static void w2c_f45(module *m, u64 w2c_p0, u64 w2c_p1, u64 w2c_p2) {
+static void w2c_f47(module *m, u64 w2c_p0, u64 w2c_p1, u64 w2c_p2) {
   u32 w2c_l5 = 0, w2c_l6 = 0, w2c_l7 = 0, w2c_l8 = 0;
   u64 w2c_l3 = 0, w2c_l4 = 0;
   u32 w2c_i0, w2c_i1, w2c_i2, w2c_i3;
@@ -35641,13 +36149,13 @@ static void w2c_f45(module *m, u64 w2c_p0, u64 w2c_p1, u64 w2c_p2) {
   w2c_Bfunc:;
 }
 
-static void w2c_f46(module *m, u64 w2c_p0, u32 w2c_p1, u64 w2c_p2, u32 w2c_p3, u64 w2c_p4, u64 w2c_p5) {
+static void w2c_f48(module *m, u64 w2c_p0, u32 w2c_p1, u64 w2c_p2, u32 w2c_p3, u64 w2c_p4, u64 w2c_p5) {
   u32 w2c_l19 = 0, w2c_l20 = 0, w2c_l21 = 0, w2c_l22 = 0, w2c_l23 = 0;
   u64 w2c_l6 = 0, w2c_l7 = 0, w2c_l8 = 0, w2c_l9 = 0, w2c_l10 = 0, w2c_l11 = 0, w2c_l12 = 0, w2c_l13 = 0, w2c_l14 = 0, w2c_l15 = 0, w2c_l16 = 0, w2c_l17 = 0, w2c_l18 = 0;
   u32 w2c_i0, w2c_i1, w2c_i2, w2c_i3, w2c_i4;
   u64 w2c_j0, w2c_j1, w2c_j2, w2c_j3, w2c_j4;
   w2c_j0 = m->w2c_g0;
-  w2c_j1 = 720ull;
+  w2c_j1 = 736ull;
   w2c_j0 -= w2c_j1;
   w2c_l6 = w2c_j0;
   m->w2c_g0 = w2c_j0;
@@ -35659,7 +36167,7 @@ static void w2c_f46(module *m, u64 w2c_p0, u32 w2c_p1, u64 w2c_p2, u32 w2c_p3, u
   w2c_i0 = 0u;
   w2c_l19 = w2c_i0;
   w2c_j0 = w2c_l6;
-  w2c_j1 = 160ull;
+  w2c_j1 = 176ull;
   w2c_j0 += w2c_j1;
   w2c_i0 = (u32)(w2c_j0);
   w2c_i1 = 0u;
@@ -35680,7 +36188,7 @@ static void w2c_f46(module *m, u64 w2c_p0, u32 w2c_p1, u64 w2c_p2, u32 w2c_p3, u
   w2c_j0 += w2c_j1;
   w2c_l8 = w2c_j0;
   w2c_j0 = w2c_l6;
-  w2c_j1 = 128ull;
+  w2c_j1 = 144ull;
   w2c_j0 += w2c_j1;
   w2c_l9 = w2c_j0;
   w2c_i0 = 1u;
@@ -35695,23 +36203,23 @@ static void w2c_f46(module *m, u64 w2c_p0, u32 w2c_p1, u64 w2c_p2, u32 w2c_p3, u
     w2c_j0 = w2c_l6;
     w2c_i0 = (u32)(w2c_j0);
     w2c_j1 = 0ull;
+    i64_store(m, (u64)(w2c_i0) + 728, w2c_j1);
+    w2c_j0 = w2c_l6;
+    w2c_i0 = (u32)(w2c_j0);
+    w2c_j1 = 0ull;
+    i64_store(m, (u64)(w2c_i0) + 720, w2c_j1);
+    w2c_j0 = w2c_l6;
+    w2c_i0 = (u32)(w2c_j0);
+    w2c_j1 = 0ull;
     i64_store(m, (u64)(w2c_i0) + 712, w2c_j1);
     w2c_j0 = w2c_l6;
     w2c_i0 = (u32)(w2c_j0);
     w2c_j1 = 0ull;
     i64_store(m, (u64)(w2c_i0) + 704, w2c_j1);
-    w2c_j0 = w2c_l6;
-    w2c_i0 = (u32)(w2c_j0);
-    w2c_j1 = 0ull;
-    i64_store(m, (u64)(w2c_i0) + 696, w2c_j1);
-    w2c_j0 = w2c_l6;
-    w2c_i0 = (u32)(w2c_j0);
-    w2c_j1 = 0ull;
-    i64_store(m, (u64)(w2c_i0) + 688, w2c_j1);
     w2c_j0 = w2c_p5;
     w2c_j1 = 4ull;
     w2c_i0 = w2c_j0 < w2c_j1;
-    if (w2c_i0) {goto w2c_B8;}
+    if (w2c_i0) {goto w2c_B10;}
     w2c_j0 = w2c_p4;
     w2c_j1 = w2c_p5;
     w2c_j0 += w2c_j1;
@@ -35736,17 +36244,17 @@ static void w2c_f46(module *m, u64 w2c_p0, u32 w2c_p1, u64 w2c_p2, u32 w2c_p3, u
     w2c_i0 = i32_load(m, (u64)(w2c_i0));
     w2c_i1 = w2c_p1;
     w2c_i0 = w2c_i0 != w2c_i1;
-    if (w2c_i0) {goto w2c_B6;}
+    if (w2c_i0) {goto w2c_B8;}
     w2c_j0 = w2c_p5;
     w2c_j1 = 18446744073709551613ull;
     w2c_j0 += w2c_j1;
     w2c_p5 = w2c_j0;
-    goto w2c_B7;
-    w2c_B8:;
+    goto w2c_B9;
+    w2c_B10:;
     w2c_j0 = w2c_p5;
     w2c_j1 = 3ull;
     w2c_i0 = w2c_j0 != w2c_j1;
-    if (w2c_i0) {goto w2c_B6;}
+    if (w2c_i0) {goto w2c_B8;}
     w2c_j0 = w2c_p4;
     w2c_i0 = (u32)(w2c_j0);
     w2c_i0 = i32_load16_u(m, (u64)(w2c_i0));
@@ -35771,14 +36279,14 @@ static void w2c_f46(module *m, u64 w2c_p0, u32 w2c_p1, u64 w2c_p2, u32 w2c_p3, u
     w2c_i0 = i32_load(m, (u64)(w2c_i0));
     w2c_i1 = w2c_p1;
     w2c_i0 = w2c_i0 != w2c_i1;
-    if (w2c_i0) {goto w2c_B6;}
+    if (w2c_i0) {goto w2c_B8;}
     w2c_j0 = w2c_p4;
     w2c_j1 = 3ull;
     w2c_j0 += w2c_j1;
     w2c_p4 = w2c_j0;
     w2c_j0 = 0ull;
     w2c_p5 = w2c_j0;
-    w2c_B7:;
+    w2c_B9:;
     w2c_j0 = w2c_l11;
     w2c_j1 = 67236ull;
     w2c_j0 += w2c_j1;
@@ -35791,49 +36299,49 @@ static void w2c_f46(module *m, u64 w2c_p0, u32 w2c_p1, u64 w2c_p2, u32 w2c_p3, u
     w2c_i0 = (u32)(w2c_j0);
     w2c_i0 = i32_load8_u(m, (u64)(w2c_i0));
     w2c_p1 = w2c_i0;
-    goto w2c_B5;
-    w2c_B6:;
+    goto w2c_B7;
+    w2c_B8:;
     w2c_j0 = w2c_l6;
-    w2c_j1 = 688ull;
+    w2c_j1 = 704ull;
     w2c_j0 += w2c_j1;
     w2c_j1 = w2c_p4;
     w2c_j2 = w2c_p5;
-    w2c_f45(m, w2c_j0, w2c_j1, w2c_j2);
+    w2c_f47(m, w2c_j0, w2c_j1, w2c_j2);
     w2c_j0 = w2c_l6;
     w2c_i0 = (u32)(w2c_j0);
-    w2c_i0 = i32_load8_u(m, (u64)(w2c_i0) + 688u);
+    w2c_i0 = i32_load8_u(m, (u64)(w2c_i0) + 704u);
     w2c_i1 = 1u;
     w2c_i0 = w2c_i0 != w2c_i1;
-    if (w2c_i0) {goto w2c_B4;}
+    if (w2c_i0) {goto w2c_B6;}
     w2c_j0 = w2c_l6;
     w2c_i0 = (u32)(w2c_j0);
-    w2c_j0 = i64_load(m, (u64)(w2c_i0) + 712u);
+    w2c_j0 = i64_load(m, (u64)(w2c_i0) + 728u);
     w2c_p5 = w2c_j0;
     w2c_j0 = w2c_l6;
     w2c_i0 = (u32)(w2c_j0);
-    w2c_j0 = i64_load(m, (u64)(w2c_i0) + 704u);
+    w2c_j0 = i64_load(m, (u64)(w2c_i0) + 720u);
     w2c_p4 = w2c_j0;
     w2c_j0 = w2c_l6;
     w2c_i0 = (u32)(w2c_j0);
-    w2c_i0 = i32_load8_u(m, (u64)(w2c_i0) + 697u);
+    w2c_i0 = i32_load8_u(m, (u64)(w2c_i0) + 713u);
     w2c_p1 = w2c_i0;
     w2c_j0 = w2c_l6;
     w2c_i0 = (u32)(w2c_j0);
-    w2c_i0 = i32_load8_u(m, (u64)(w2c_i0) + 696u);
+    w2c_i0 = i32_load8_u(m, (u64)(w2c_i0) + 712u);
     w2c_l23 = w2c_i0;
-    w2c_B5:;
+    w2c_B7:;
     w2c_i0 = w2c_l23;
     w2c_j0 = (u64)(w2c_i0);
     w2c_j1 = 255ull;
     w2c_j0 &= w2c_j1;
     w2c_i0 = (u32)(w2c_j0);
     switch (w2c_i0) {
-      case 0: goto w2c_B12;
-      case 1: goto w2c_B11;
-      case 2: goto w2c_B10;
-      default: goto w2c_B12;
+      case 0: goto w2c_B13;
+      case 1: goto w2c_B12;
+      case 2: goto w2c_B11;
+      default: goto w2c_B13;
     }
-    w2c_B12:;
+    w2c_B13:;
     w2c_i0 = 1u;
     w2c_l21 = w2c_i0;
     w2c_i0 = w2c_l20;
@@ -35845,12 +36353,12 @@ static void w2c_f46(module *m, u64 w2c_p0, u32 w2c_p1, u64 w2c_p2, u32 w2c_p3, u
     w2c_i0 |= w2c_i1;
     w2c_i1 = 1u;
     w2c_i0 &= w2c_i1;
-    if (w2c_i0) {goto w2c_B13;}
+    if (w2c_i0) {goto w2c_B14;}
     w2c_i0 = w2c_p1;
     w2c_i1 = 255u;
     w2c_i0 &= w2c_i1;
-    if (w2c_i0) {goto w2c_B10;}
-    w2c_B13:;
+    if (w2c_i0) {goto w2c_B11;}
+    w2c_B14:;
     w2c_i0 = w2c_p1;
     w2c_j0 = (u64)(w2c_i0);
     w2c_j1 = 255ull;
@@ -35864,7 +36372,7 @@ static void w2c_f46(module *m, u64 w2c_p0, u32 w2c_p1, u64 w2c_p2, u32 w2c_p3, u
     w2c_i0 = 0u;
     w2c_l20 = w2c_i0;
     goto w2c_B2;
-    w2c_B11:;
+    w2c_B12:;
     w2c_i0 = w2c_l21;
     w2c_i1 = w2c_l19;
     w2c_i2 = 255u;
@@ -35874,7 +36382,7 @@ static void w2c_f46(module *m, u64 w2c_p0, u32 w2c_p1, u64 w2c_p2, u32 w2c_p3, u
     w2c_i0 &= w2c_i1;
     w2c_l19 = w2c_i0;
     w2c_i0 = !(w2c_i0);
-    if (w2c_i0) {goto w2c_B14;}
+    if (w2c_i0) {goto w2c_B15;}
     w2c_i0 = w2c_p1;
     w2c_i1 = 255u;
     w2c_i0 &= w2c_i1;
@@ -35886,31 +36394,31 @@ static void w2c_f46(module *m, u64 w2c_p0, u32 w2c_p1, u64 w2c_p2, u32 w2c_p3, u
     w2c_i2 = 255u;
     w2c_i1 &= w2c_i2;
     w2c_i0 = w2c_i0 < w2c_i1;
-    if (w2c_i0) {goto w2c_B14;}
+    if (w2c_i0) {goto w2c_B15;}
     w2c_i0 = w2c_p1;
     w2c_i1 = 255u;
     w2c_i0 &= w2c_i1;
     w2c_i1 = 1u;
     w2c_i0 = w2c_i0 != w2c_i1;
-    if (w2c_i0) {goto w2c_B10;}
+    if (w2c_i0) {goto w2c_B11;}
     w2c_i0 = w2c_l21;
     w2c_i1 = 255u;
     w2c_i0 &= w2c_i1;
-    if (w2c_i0) {goto w2c_B10;}
-    w2c_B14:;
+    if (w2c_i0) {goto w2c_B11;}
+    w2c_B15:;
     w2c_j0 = w2c_l6;
     w2c_i0 = (u32)(w2c_j0);
-    w2c_j0 = i64_load(m, (u64)(w2c_i0) + 672u);
+    w2c_j0 = i64_load(m, (u64)(w2c_i0) + 688u);
     w2c_l12 = w2c_j0;
     w2c_i0 = !(w2c_j0);
     w2c_i0 = !(w2c_i0);
-    if (w2c_i0) {goto w2c_B16;}
+    if (w2c_i0) {goto w2c_B17;}
     w2c_j0 = 0ull;
     w2c_l13 = w2c_j0;
     w2c_j0 = 0ull;
     w2c_l14 = w2c_j0;
-    goto w2c_B15;
-    w2c_B16:;
+    goto w2c_B16;
+    w2c_B17:;
     w2c_j0 = w2c_l9;
     w2c_j1 = w2c_l12;
     w2c_j2 = 5ull;
@@ -35919,7 +36427,7 @@ static void w2c_f46(module *m, u64 w2c_p0, u32 w2c_p1, u64 w2c_p2, u32 w2c_p3, u
     w2c_l11 = w2c_j0;
     w2c_j0 = 0ull;
     w2c_l14 = w2c_j0;
-    w2c_L17:
+    w2c_L18:
       w2c_j0 = w2c_l11;
       w2c_i0 = (u32)(w2c_j0);
       w2c_i0 = i32_load8_u(m, (u64)(w2c_i0));
@@ -35927,11 +36435,11 @@ static void w2c_f46(module *m, u64 w2c_p0, u32 w2c_p1, u64 w2c_p2, u32 w2c_p3, u
       w2c_i2 = 255u;
       w2c_i1 &= w2c_i2;
       w2c_i0 = w2c_i0 < w2c_i1;
-      if (w2c_i0) {goto w2c_B18;}
+      if (w2c_i0) {goto w2c_B19;}
       w2c_j0 = w2c_l12;
       w2c_l13 = w2c_j0;
-      goto w2c_B15;
-      w2c_B18:;
+      goto w2c_B16;
+      w2c_B19:;
       w2c_j0 = w2c_l11;
       w2c_j1 = 16ull;
       w2c_j0 += w2c_j1;
@@ -35950,7 +36458,7 @@ static void w2c_f46(module *m, u64 w2c_p0, u32 w2c_p1, u64 w2c_p2, u32 w2c_p3, u
       w2c_j2 = 18446744073709551615ull;
       w2c_j1 += w2c_j2;
       w2c_l12 = w2c_j1;
-      i64_store(m, (u64)(w2c_i0) + 672, w2c_j1);
+      i64_store(m, (u64)(w2c_i0) + 688, w2c_j1);
       w2c_j0 = w2c_l13;
       w2c_j1 = 38ull;
       w2c_i0 = w2c_j0 > w2c_j1;
@@ -35982,8 +36490,10 @@ static void w2c_f46(module *m, u64 w2c_p0, u32 w2c_p1, u64 w2c_p2, u32 w2c_p3, u
       w2c_j0 |= w2c_j1;
       w2c_j1 = 0ull;
       w2c_i0 = w2c_j0 != w2c_j1;
-      if (w2c_i0) {goto w2c_B20;}
+      if (w2c_i0) {goto w2c_B21;}
       w2c_j0 = w2c_l6;
+      w2c_j1 = 16ull;
+      w2c_j0 += w2c_j1;
       w2c_j1 = w2c_l13;
       w2c_j2 = w2c_l18;
       w2c_j3 = w2c_l10;
@@ -35991,7 +36501,7 @@ static void w2c_f46(module *m, u64 w2c_p0, u32 w2c_p1, u64 w2c_p2, u32 w2c_p3, u
       w2c_f3(m, w2c_j0, w2c_j1, w2c_j2, w2c_j3, w2c_j4);
       w2c_j0 = w2c_l6;
       w2c_i0 = (u32)(w2c_j0);
-      w2c_j0 = i64_load(m, (u64)(w2c_i0));
+      w2c_j0 = i64_load(m, (u64)(w2c_i0) + 16u);
       w2c_l13 = w2c_j0;
       w2c_j1 = w2c_l15;
       w2c_j2 = 18446744073709551615ull;
@@ -35999,7 +36509,7 @@ static void w2c_f46(module *m, u64 w2c_p0, u32 w2c_p1, u64 w2c_p2, u32 w2c_p3, u
       w2c_i0 = w2c_j0 > w2c_j1;
       w2c_j1 = w2c_l6;
       w2c_i1 = (u32)(w2c_j1);
-      w2c_j1 = i64_load(m, (u64)(w2c_i1) + 8u);
+      w2c_j1 = i64_load(m, (u64)(w2c_i1) + 24u);
       w2c_l14 = w2c_j1;
       w2c_j2 = w2c_l16;
       w2c_j3 = 18446744073709551615ull;
@@ -36011,13 +36521,13 @@ static void w2c_f46(module *m, u64 w2c_p0, u32 w2c_p1, u64 w2c_p2, u32 w2c_p3, u
       w2c_i2 = w2c_j2 == w2c_j3;
       w2c_i0 = w2c_i2 ? w2c_i0 : w2c_i1;
       w2c_i0 = !(w2c_i0);
-      if (w2c_i0) {goto w2c_B19;}
+      if (w2c_i0) {goto w2c_B20;}
       w2c_j0 = 2ull;
       w2c_l18 = w2c_j0;
-      goto w2c_B9;
-      w2c_B20:;
+      goto w2c_B4;
+      w2c_B21:;
       w2c_j0 = w2c_l6;
-      w2c_j1 = 32ull;
+      w2c_j1 = 48ull;
       w2c_j0 += w2c_j1;
       w2c_j1 = w2c_l13;
       w2c_j2 = 0ull;
@@ -36025,7 +36535,7 @@ static void w2c_f46(module *m, u64 w2c_p0, u32 w2c_p1, u64 w2c_p2, u32 w2c_p3, u
       w2c_j4 = 0ull;
       w2c_f3(m, w2c_j0, w2c_j1, w2c_j2, w2c_j3, w2c_j4);
       w2c_j0 = w2c_l6;
-      w2c_j1 = 64ull;
+      w2c_j1 = 80ull;
       w2c_j0 += w2c_j1;
       w2c_j1 = w2c_l18;
       w2c_j2 = 0ull;
@@ -36033,7 +36543,7 @@ static void w2c_f46(module *m, u64 w2c_p0, u32 w2c_p1, u64 w2c_p2, u32 w2c_p3, u
       w2c_j4 = 0ull;
       w2c_f3(m, w2c_j0, w2c_j1, w2c_j2, w2c_j3, w2c_j4);
       w2c_j0 = w2c_l6;
-      w2c_j1 = 16ull;
+      w2c_j1 = 32ull;
       w2c_j0 += w2c_j1;
       w2c_j1 = w2c_l13;
       w2c_j2 = 0ull;
@@ -36041,7 +36551,7 @@ static void w2c_f46(module *m, u64 w2c_p0, u32 w2c_p1, u64 w2c_p2, u32 w2c_p3, u
       w2c_j4 = 0ull;
       w2c_f3(m, w2c_j0, w2c_j1, w2c_j2, w2c_j3, w2c_j4);
       w2c_j0 = w2c_l6;
-      w2c_j1 = 48ull;
+      w2c_j1 = 64ull;
       w2c_j0 += w2c_j1;
       w2c_j1 = w2c_l18;
       w2c_j2 = 0ull;
@@ -36052,19 +36562,19 @@ static void w2c_f46(module *m, u64 w2c_p0, u32 w2c_p1, u64 w2c_p2, u32 w2c_p3, u
       w2c_l18 = w2c_j0;
       w2c_j0 = w2c_l6;
       w2c_i0 = (u32)(w2c_j0);
-      w2c_j0 = i64_load(m, (u64)(w2c_i0) + 24u);
+      w2c_j0 = i64_load(m, (u64)(w2c_i0) + 40u);
       w2c_j1 = w2c_l6;
       w2c_i1 = (u32)(w2c_j1);
-      w2c_j1 = i64_load(m, (u64)(w2c_i1) + 40u);
+      w2c_j1 = i64_load(m, (u64)(w2c_i1) + 56u);
       w2c_l13 = w2c_j1;
       w2c_j2 = w2c_l6;
       w2c_i2 = (u32)(w2c_j2);
-      w2c_j2 = i64_load(m, (u64)(w2c_i2) + 64u);
+      w2c_j2 = i64_load(m, (u64)(w2c_i2) + 80u);
       w2c_j1 += w2c_j2;
       w2c_l10 = w2c_j1;
       w2c_j2 = w2c_l6;
       w2c_i2 = (u32)(w2c_j2);
-      w2c_j2 = i64_load(m, (u64)(w2c_i2) + 16u);
+      w2c_j2 = i64_load(m, (u64)(w2c_i2) + 32u);
       w2c_j1 += w2c_j2;
       w2c_l14 = w2c_j1;
       w2c_j2 = w2c_l10;
@@ -36073,7 +36583,7 @@ static void w2c_f46(module *m, u64 w2c_p0, u32 w2c_p1, u64 w2c_p2, u32 w2c_p3, u
       w2c_j0 += w2c_j1;
       w2c_j1 = w2c_l6;
       w2c_i1 = (u32)(w2c_j1);
-      w2c_j1 = i64_load(m, (u64)(w2c_i1) + 72u);
+      w2c_j1 = i64_load(m, (u64)(w2c_i1) + 88u);
       w2c_j2 = w2c_l10;
       w2c_j3 = w2c_l13;
       w2c_i2 = w2c_j2 < w2c_j3;
@@ -36082,13 +36592,13 @@ static void w2c_f46(module *m, u64 w2c_p0, u32 w2c_p1, u64 w2c_p2, u32 w2c_p3, u
       w2c_l10 = w2c_j1;
       w2c_j2 = w2c_l6;
       w2c_i2 = (u32)(w2c_j2);
-      w2c_j2 = i64_load(m, (u64)(w2c_i2) + 48u);
+      w2c_j2 = i64_load(m, (u64)(w2c_i2) + 64u);
       w2c_j1 += w2c_j2;
       w2c_l13 = w2c_j1;
       w2c_j0 |= w2c_j1;
       w2c_j1 = w2c_l6;
       w2c_i1 = (u32)(w2c_j1);
-      w2c_j1 = i64_load(m, (u64)(w2c_i1) + 56u);
+      w2c_j1 = i64_load(m, (u64)(w2c_i1) + 72u);
       w2c_j2 = w2c_l13;
       w2c_j3 = w2c_l10;
       w2c_i2 = w2c_j2 < w2c_j3;
@@ -36097,10 +36607,10 @@ static void w2c_f46(module *m, u64 w2c_p0, u32 w2c_p1, u64 w2c_p2, u32 w2c_p3, u
       w2c_j0 |= w2c_j1;
       w2c_i0 = !(w2c_j0);
       w2c_i0 = !(w2c_i0);
-      if (w2c_i0) {goto w2c_B9;}
+      if (w2c_i0) {goto w2c_B4;}
       w2c_j0 = w2c_l6;
       w2c_i0 = (u32)(w2c_j0);
-      w2c_j0 = i64_load(m, (u64)(w2c_i0) + 32u);
+      w2c_j0 = i64_load(m, (u64)(w2c_i0) + 48u);
       w2c_l13 = w2c_j0;
       w2c_j1 = w2c_l15;
       w2c_j2 = 18446744073709551615ull;
@@ -36116,8 +36626,8 @@ static void w2c_f46(module *m, u64 w2c_p0, u32 w2c_p1, u64 w2c_p2, u32 w2c_p3, u
       w2c_j3 = w2c_l10;
       w2c_i2 = w2c_j2 == w2c_j3;
       w2c_i0 = w2c_i2 ? w2c_i0 : w2c_i1;
-      if (w2c_i0) {goto w2c_B9;}
-      w2c_B19:;
+      if (w2c_i0) {goto w2c_B4;}
+      w2c_B20:;
       w2c_j0 = w2c_l14;
       w2c_j1 = w2c_l16;
       w2c_j0 += w2c_j1;
@@ -36139,20 +36649,20 @@ static void w2c_f46(module *m, u64 w2c_p0, u32 w2c_p1, u64 w2c_p2, u32 w2c_p3, u
       w2c_j0 = w2c_l12;
       w2c_j1 = 0ull;
       w2c_i0 = w2c_j0 != w2c_j1;
-      if (w2c_i0) {goto w2c_L17;}
-    w2c_B15:;
+      if (w2c_i0) {goto w2c_L18;}
+    w2c_B16:;
     w2c_i0 = w2c_p1;
     w2c_i1 = w2c_l19;
     w2c_i0 |= w2c_i1;
     w2c_i1 = 255u;
     w2c_i0 &= w2c_i1;
     w2c_i0 = !(w2c_i0);
-    if (w2c_i0) {goto w2c_B10;}
+    if (w2c_i0) {goto w2c_B11;}
     w2c_j0 = w2c_l13;
     w2c_i0 = !(w2c_j0);
-    if (w2c_i0) {goto w2c_B21;}
+    if (w2c_i0) {goto w2c_B22;}
     w2c_j0 = w2c_l6;
-    w2c_j1 = 160ull;
+    w2c_j1 = 176ull;
     w2c_j0 += w2c_j1;
     w2c_j1 = w2c_l13;
     w2c_j2 = 5ull;
@@ -36166,8 +36676,8 @@ static void w2c_f46(module *m, u64 w2c_p0, u32 w2c_p1, u64 w2c_p2, u32 w2c_p3, u
     w2c_i2 = 255u;
     w2c_i1 &= w2c_i2;
     w2c_i0 = w2c_i0 == w2c_i1;
-    if (w2c_i0) {goto w2c_B10;}
-    w2c_B21:;
+    if (w2c_i0) {goto w2c_B11;}
+    w2c_B22:;
     w2c_j0 = w2c_l8;
     w2c_i1 = w2c_p1;
     w2c_j1 = (u64)(w2c_i1);
@@ -36181,15 +36691,15 @@ static void w2c_f46(module *m, u64 w2c_p0, u32 w2c_p1, u64 w2c_p2, u32 w2c_p3, u
     w2c_l19 = w2c_i0;
     w2c_i1 = 38u;
     w2c_i0 = w2c_i0 <= w2c_i1;
-    if (w2c_i0) {goto w2c_B22;}
+    if (w2c_i0) {goto w2c_B23;}
     w2c_j0 = 0ull;
     w2c_l17 = w2c_j0;
     w2c_j0 = 2ull;
     w2c_l18 = w2c_j0;
-    goto w2c_B9;
-    w2c_B22:;
+    goto w2c_B4;
+    w2c_B23:;
     w2c_j0 = w2c_l6;
-    w2c_j1 = 160ull;
+    w2c_j1 = 176ull;
     w2c_j0 += w2c_j1;
     w2c_j1 = w2c_l13;
     w2c_j2 = 5ull;
@@ -36223,10 +36733,10 @@ static void w2c_f46(module *m, u64 w2c_p0, u32 w2c_p1, u64 w2c_p2, u32 w2c_p3, u
     w2c_i0 = (u32)(w2c_j0);
     w2c_j1 = w2c_l6;
     w2c_i1 = (u32)(w2c_j1);
-    w2c_j1 = i64_load(m, (u64)(w2c_i1) + 672u);
+    w2c_j1 = i64_load(m, (u64)(w2c_i1) + 688u);
     w2c_j2 = 1ull;
     w2c_j1 += w2c_j2;
-    i64_store(m, (u64)(w2c_i0) + 672, w2c_j1);
+    i64_store(m, (u64)(w2c_i0) + 688, w2c_j1);
     w2c_i0 = 0u;
     w2c_l20 = w2c_i0;
     w2c_i0 = 1u;
@@ -36234,23 +36744,41 @@ static void w2c_f46(module *m, u64 w2c_p0, u32 w2c_p1, u64 w2c_p2, u32 w2c_p3, u
     w2c_j0 = 0ull;
     w2c_l10 = w2c_j0;
     goto w2c_B2;
-    w2c_B10:;
+    w2c_B11:;
     w2c_j0 = 0ull;
     w2c_l14 = w2c_j0;
     w2c_j0 = 0ull;
     w2c_l11 = w2c_j0;
     w2c_j0 = w2c_p5;
+    w2c_j1 = 32ull;
+    w2c_i0 = w2c_j0 < w2c_j1;
+    if (w2c_i0) {goto w2c_B24;}
+    w2c_j0 = w2c_l6;
+    w2c_j1 = w2c_p4;
+    w2c_j2 = w2c_p5;
+    w2c_j3 = w2c_p5;
+    w2c_f14(m, w2c_j0, w2c_j1, w2c_j2, w2c_j3);
+    w2c_j0 = w2c_p5;
+    w2c_j1 = w2c_l6;
+    w2c_i1 = (u32)(w2c_j1);
+    w2c_j1 = i64_load(m, (u64)(w2c_i1) + 8u);
+    w2c_j0 -= w2c_j1;
+    w2c_l14 = w2c_j0;
+    w2c_j0 = w2c_l6;
+    w2c_i0 = (u32)(w2c_j0);
+    w2c_j0 = i64_load(m, (u64)(w2c_i0));
+    w2c_l11 = w2c_j0;
+    w2c_B24:;
+    w2c_j0 = w2c_p5;
+    w2c_j1 = w2c_l11;
+    w2c_j0 -= w2c_j1;
     w2c_j1 = 8ull;
     w2c_i0 = w2c_j0 < w2c_j1;
-    if (w2c_i0) {goto w2c_B23;}
-    w2c_j0 = 0ull;
-    w2c_l11 = w2c_j0;
-    w2c_j0 = w2c_p4;
-    w2c_l12 = w2c_j0;
-    w2c_j0 = 0ull;
-    w2c_l14 = w2c_j0;
-    w2c_L24:
-      w2c_j0 = w2c_l12;
+    if (w2c_i0) {goto w2c_B5;}
+    w2c_L25:
+      w2c_j0 = w2c_p4;
+      w2c_j1 = w2c_l11;
+      w2c_j0 += w2c_j1;
       w2c_i0 = (u32)(w2c_j0);
       w2c_j0 = i64_load(m, (u64)(w2c_i0));
       w2c_l12 = w2c_j0;
@@ -36258,7 +36786,7 @@ static void w2c_f46(module *m, u64 w2c_p0, u32 w2c_p1, u64 w2c_p2, u32 w2c_p3, u
       w2c_j0 &= w2c_j1;
       w2c_j1 = 63050398541283552ull;
       w2c_i0 = w2c_j0 != w2c_j1;
-      if (w2c_i0) {goto w2c_B26;}
+      if (w2c_i0) {goto w2c_B27;}
       w2c_j0 = w2c_l14;
       w2c_j1 = 3ull;
       w2c_j0 += w2c_j1;
@@ -36267,14 +36795,14 @@ static void w2c_f46(module *m, u64 w2c_p0, u32 w2c_p1, u64 w2c_p2, u32 w2c_p3, u
       w2c_j1 = 9ull;
       w2c_j0 += w2c_j1;
       w2c_l11 = w2c_j0;
-      goto w2c_B25;
-      w2c_B26:;
+      goto w2c_B26;
+      w2c_B27:;
       w2c_j0 = w2c_l12;
       w2c_j1 = 9259542123273814144ull;
       w2c_j0 &= w2c_j1;
       w2c_j1 = 0ull;
       w2c_i0 = w2c_j0 != w2c_j1;
-      if (w2c_i0) {goto w2c_B23;}
+      if (w2c_i0) {goto w2c_B5;}
       w2c_j0 = w2c_l14;
       w2c_j1 = 8ull;
       w2c_j0 += w2c_j1;
@@ -36283,85 +36811,22 @@ static void w2c_f46(module *m, u64 w2c_p0, u32 w2c_p1, u64 w2c_p2, u32 w2c_p3, u
       w2c_j1 = 8ull;
       w2c_j0 += w2c_j1;
       w2c_l11 = w2c_j0;
-      w2c_B25:;
-      w2c_j0 = w2c_p4;
-      w2c_j1 = w2c_l11;
-      w2c_j0 += w2c_j1;
-      w2c_l12 = w2c_j0;
+      w2c_B26:;
       w2c_j0 = w2c_p5;
       w2c_j1 = w2c_l11;
       w2c_j0 -= w2c_j1;
       w2c_j1 = 7ull;
-      w2c_i0 = w2c_j0 > w2c_j1;
-      if (w2c_i0) {goto w2c_L24;}
-    w2c_B23:;
-    w2c_j0 = w2c_l11;
-    w2c_j1 = w2c_p5;
-    w2c_i0 = w2c_j0 >= w2c_j1;
-    if (w2c_i0) {goto w2c_B27;}
-    w2c_L28:
-      w2c_j0 = w2c_l14;
-      w2c_j1 = 1ull;
-      w2c_j0 += w2c_j1;
-      w2c_l14 = w2c_j0;
-      w2c_j0 = w2c_p4;
-      w2c_j1 = w2c_l11;
-      w2c_j0 += w2c_j1;
-      w2c_i0 = (u32)(w2c_j0);
-      w2c_i0 = i32_load8_u(m, (u64)(w2c_i0));
-      w2c_i1 = 1u;
-      w2c_i0 >>= (w2c_i1 & 31);
-      w2c_j0 = (u64)(w2c_i0);
-      w2c_j1 = 120ull;
-      w2c_j0 &= w2c_j1;
-      w2c_j1 = 66848ull;
-      w2c_j0 += w2c_j1;
-      w2c_i0 = (u32)(w2c_j0);
-      w2c_j0 = i64_load(m, (u64)(w2c_i0));
-      w2c_j1 = w2c_l11;
-      w2c_j0 += w2c_j1;
-      w2c_l11 = w2c_j0;
-      w2c_j1 = w2c_p5;
-      w2c_i0 = w2c_j0 < w2c_j1;
-      if (w2c_i0) {goto w2c_L28;}
-    w2c_B27:;
-    w2c_j0 = w2c_l7;
-    w2c_j1 = w2c_l14;
-    w2c_j0 += w2c_j1;
-    w2c_l17 = w2c_j0;
-    w2c_j0 = 1ull;
-    w2c_l18 = w2c_j0;
-    w2c_B9:;
-    w2c_j0 = w2c_p0;
-    w2c_i0 = (u32)(w2c_j0);
-    w2c_j1 = 1ull;
-    i64_store(m, (u64)(w2c_i0), w2c_j1);
-    w2c_j0 = w2c_p0;
-    w2c_j1 = 24ull;
-    w2c_j0 += w2c_j1;
-    w2c_i0 = (u32)(w2c_j0);
-    w2c_j1 = 0ull;
-    i64_store(m, (u64)(w2c_i0), w2c_j1);
-    w2c_j0 = w2c_p0;
-    w2c_j1 = 16ull;
-    w2c_j0 += w2c_j1;
-    w2c_i0 = (u32)(w2c_j0);
-    w2c_j1 = w2c_l17;
-    i64_store(m, (u64)(w2c_i0), w2c_j1);
-    w2c_j0 = w2c_p0;
-    w2c_j1 = 8ull;
-    w2c_j0 += w2c_j1;
-    w2c_i0 = (u32)(w2c_j0);
-    w2c_j1 = w2c_l18;
-    i64_store(m, (u64)(w2c_i0), w2c_j1);
-    goto w2c_B3;
-    w2c_B4:;
+      w2c_i0 = w2c_j0 <= w2c_j1;
+      if (w2c_i0) {goto w2c_B5;}
+      goto w2c_L25;
+    UNREACHABLE;
+    w2c_B6:;
     w2c_i0 = w2c_p3;
     w2c_i1 = 4294965248u;
     w2c_i0 += w2c_i1;
     w2c_i1 = 63487u;
     w2c_i0 = w2c_i0 > w2c_i1;
-    if (w2c_i0) {goto w2c_B32;}
+    if (w2c_i0) {goto w2c_B31;}
     w2c_i0 = w2c_p3;
     w2c_i1 = 12u;
     w2c_i0 >>= (w2c_i1 & 31);
@@ -36392,7 +36857,7 @@ static void w2c_f46(module *m, u64 w2c_p0, u32 w2c_p1, u64 w2c_p2, u32 w2c_p3, u
     w2c_i0 = i32_load(m, (u64)(w2c_i0) + 67232u);
     w2c_i1 = w2c_p1;
     w2c_i0 = w2c_i0 != w2c_i1;
-    if (w2c_i0) {goto w2c_B29;}
+    if (w2c_i0) {goto w2c_B28;}
     w2c_j0 = w2c_l11;
     w2c_j1 = 67237ull;
     w2c_j0 += w2c_j1;
@@ -36406,12 +36871,12 @@ static void w2c_f46(module *m, u64 w2c_p0, u32 w2c_p1, u64 w2c_p2, u32 w2c_p3, u
     w2c_j0 = i64_load8_u(m, (u64)(w2c_i0));
     w2c_i0 = (u32)(w2c_j0);
     switch (w2c_i0) {
-      case 0: goto w2c_B31;
-      case 1: goto w2c_B33;
-      case 2: goto w2c_B29;
-      default: goto w2c_B31;
+      case 0: goto w2c_B30;
+      case 1: goto w2c_B32;
+      case 2: goto w2c_B28;
+      default: goto w2c_B30;
     }
-    w2c_B33:;
+    w2c_B32:;
     w2c_i0 = 10u;
     w2c_l19 = w2c_i0;
     w2c_i0 = w2c_p1;
@@ -36419,17 +36884,17 @@ static void w2c_f46(module *m, u64 w2c_p0, u32 w2c_p1, u64 w2c_p2, u32 w2c_p3, u
     w2c_i0 &= w2c_i1;
     w2c_i1 = 1u;
     w2c_i0 = w2c_i0 != w2c_i1;
-    if (w2c_i0) {goto w2c_B29;}
-    goto w2c_B30;
-    w2c_B32:;
+    if (w2c_i0) {goto w2c_B28;}
+    goto w2c_B29;
+    w2c_B31:;
     w2c_i0 = w2c_p3;
     w2c_i1 = 4294967248u;
     w2c_i0 += w2c_i1;
     w2c_p1 = w2c_i0;
     w2c_i1 = 10u;
     w2c_i0 = w2c_i0 >= w2c_i1;
-    if (w2c_i0) {goto w2c_B29;}
-    w2c_B31:;
+    if (w2c_i0) {goto w2c_B28;}
+    w2c_B30:;
     w2c_i0 = 0u;
     w2c_i1 = w2c_p1;
     w2c_i2 = w2c_l21;
@@ -36444,12 +36909,12 @@ static void w2c_f46(module *m, u64 w2c_p0, u32 w2c_p1, u64 w2c_p2, u32 w2c_p3, u
     w2c_i0 = w2c_l23;
     w2c_i1 = 1u;
     w2c_i0 = w2c_i0 != w2c_i1;
-    if (w2c_i0) {goto w2c_B30;}
+    if (w2c_i0) {goto w2c_B29;}
     w2c_i0 = w2c_p1;
     w2c_i1 = 255u;
     w2c_i0 &= w2c_i1;
-    if (w2c_i0) {goto w2c_B29;}
-    w2c_B30:;
+    if (w2c_i0) {goto w2c_B28;}
+    w2c_B29:;
     w2c_i0 = w2c_l19;
     w2c_j0 = (u64)(w2c_i0);
     w2c_j1 = 255ull;
@@ -36464,10 +36929,10 @@ static void w2c_f46(module *m, u64 w2c_p0, u32 w2c_p1, u64 w2c_p2, u32 w2c_p3, u
     w2c_l14 = w2c_j0;
     w2c_j0 = w2c_l6;
     w2c_i0 = (u32)(w2c_j0);
-    w2c_j0 = i64_load(m, (u64)(w2c_i0) + 672u);
+    w2c_j0 = i64_load(m, (u64)(w2c_i0) + 688u);
     w2c_l11 = w2c_j0;
     w2c_i0 = !(w2c_j0);
-    if (w2c_i0) {goto w2c_B35;}
+    if (w2c_i0) {goto w2c_B34;}
     w2c_j0 = w2c_l11;
     w2c_j1 = 18446744073709551615ull;
     w2c_j0 += w2c_j1;
@@ -36476,13 +36941,13 @@ static void w2c_f46(module *m, u64 w2c_p0, u32 w2c_p1, u64 w2c_p2, u32 w2c_p3, u
     w2c_j1 = 5ull;
     w2c_j0 <<= (w2c_j1 & 63);
     w2c_j1 = w2c_l6;
-    w2c_j2 = 160ull;
+    w2c_j2 = 176ull;
     w2c_j1 += w2c_j2;
     w2c_j0 += w2c_j1;
     w2c_j1 = 18446744073709551585ull;
     w2c_j0 += w2c_j1;
     w2c_l11 = w2c_j0;
-    w2c_L36:
+    w2c_L35:
       w2c_j0 = w2c_l11;
       w2c_j1 = 15ull;
       w2c_j0 += w2c_j1;
@@ -36496,7 +36961,7 @@ static void w2c_f46(module *m, u64 w2c_p0, u32 w2c_p1, u64 w2c_p2, u32 w2c_p3, u
       w2c_j0 = w2c_l6;
       w2c_i0 = (u32)(w2c_j0);
       w2c_j1 = w2c_l10;
-      i64_store(m, (u64)(w2c_i0) + 672, w2c_j1);
+      i64_store(m, (u64)(w2c_i0) + 688, w2c_j1);
       w2c_j0 = w2c_l12;
       w2c_j1 = 38ull;
       w2c_i0 = w2c_j0 > w2c_j1;
@@ -36526,9 +36991,9 @@ static void w2c_f46(module *m, u64 w2c_p0, u32 w2c_p1, u64 w2c_p2, u32 w2c_p3, u
       w2c_j0 |= w2c_j1;
       w2c_j1 = 0ull;
       w2c_i0 = w2c_j0 != w2c_j1;
-      if (w2c_i0) {goto w2c_B38;}
+      if (w2c_i0) {goto w2c_B37;}
       w2c_j0 = w2c_l6;
-      w2c_j1 = 80ull;
+      w2c_j1 = 96ull;
       w2c_j0 += w2c_j1;
       w2c_j1 = w2c_l12;
       w2c_j2 = w2c_l18;
@@ -36537,7 +37002,7 @@ static void w2c_f46(module *m, u64 w2c_p0, u32 w2c_p1, u64 w2c_p2, u32 w2c_p3, u
       w2c_f3(m, w2c_j0, w2c_j1, w2c_j2, w2c_j3, w2c_j4);
       w2c_j0 = w2c_l6;
       w2c_i0 = (u32)(w2c_j0);
-      w2c_j0 = i64_load(m, (u64)(w2c_i0) + 80u);
+      w2c_j0 = i64_load(m, (u64)(w2c_i0) + 96u);
       w2c_l12 = w2c_j0;
       w2c_j1 = w2c_l13;
       w2c_j2 = 18446744073709551615ull;
@@ -36545,7 +37010,7 @@ static void w2c_f46(module *m, u64 w2c_p0, u32 w2c_p1, u64 w2c_p2, u32 w2c_p3, u
       w2c_i0 = w2c_j0 > w2c_j1;
       w2c_j1 = w2c_l6;
       w2c_i1 = (u32)(w2c_j1);
-      w2c_j1 = i64_load(m, (u64)(w2c_i1) + 88u);
+      w2c_j1 = i64_load(m, (u64)(w2c_i1) + 104u);
       w2c_l14 = w2c_j1;
       w2c_j2 = w2c_l15;
       w2c_j3 = 18446744073709551615ull;
@@ -36557,7 +37022,7 @@ static void w2c_f46(module *m, u64 w2c_p0, u32 w2c_p1, u64 w2c_p2, u32 w2c_p3, u
       w2c_i2 = w2c_j2 == w2c_j3;
       w2c_i0 = w2c_i2 ? w2c_i0 : w2c_i1;
       w2c_i0 = !(w2c_i0);
-      if (w2c_i0) {goto w2c_B37;}
+      if (w2c_i0) {goto w2c_B36;}
       w2c_j0 = 0ull;
       w2c_l16 = w2c_j0;
       w2c_j0 = 1ull;
@@ -36566,10 +37031,10 @@ static void w2c_f46(module *m, u64 w2c_p0, u32 w2c_p1, u64 w2c_p2, u32 w2c_p3, u
       w2c_p5 = w2c_j0;
       w2c_j0 = 0ull;
       w2c_l14 = w2c_j0;
-      goto w2c_B34;
-      w2c_B38:;
+      goto w2c_B33;
+      w2c_B37:;
       w2c_j0 = w2c_l6;
-      w2c_j1 = 112ull;
+      w2c_j1 = 128ull;
       w2c_j0 += w2c_j1;
       w2c_j1 = w2c_l12;
       w2c_j2 = 0ull;
@@ -36577,7 +37042,7 @@ static void w2c_f46(module *m, u64 w2c_p0, u32 w2c_p1, u64 w2c_p2, u32 w2c_p3, u
       w2c_j4 = 0ull;
       w2c_f3(m, w2c_j0, w2c_j1, w2c_j2, w2c_j3, w2c_j4);
       w2c_j0 = w2c_l6;
-      w2c_j1 = 144ull;
+      w2c_j1 = 160ull;
       w2c_j0 += w2c_j1;
       w2c_j1 = w2c_l18;
       w2c_j2 = 0ull;
@@ -36585,7 +37050,7 @@ static void w2c_f46(module *m, u64 w2c_p0, u32 w2c_p1, u64 w2c_p2, u32 w2c_p3, u
       w2c_j4 = 0ull;
       w2c_f3(m, w2c_j0, w2c_j1, w2c_j2, w2c_j3, w2c_j4);
       w2c_j0 = w2c_l6;
-      w2c_j1 = 96ull;
+      w2c_j1 = 112ull;
       w2c_j0 += w2c_j1;
       w2c_j1 = w2c_l12;
       w2c_j2 = 0ull;
@@ -36593,7 +37058,7 @@ static void w2c_f46(module *m, u64 w2c_p0, u32 w2c_p1, u64 w2c_p2, u32 w2c_p3, u
       w2c_j4 = 0ull;
       w2c_f3(m, w2c_j0, w2c_j1, w2c_j2, w2c_j3, w2c_j4);
       w2c_j0 = w2c_l6;
-      w2c_j1 = 128ull;
+      w2c_j1 = 144ull;
       w2c_j0 += w2c_j1;
       w2c_j1 = w2c_l18;
       w2c_j2 = 0ull;
@@ -36606,19 +37071,19 @@ static void w2c_f46(module *m, u64 w2c_p0, u32 w2c_p1, u64 w2c_p2, u32 w2c_p3, u
       w2c_p5 = w2c_j0;
       w2c_j0 = w2c_l6;
       w2c_i0 = (u32)(w2c_j0);
-      w2c_j0 = i64_load(m, (u64)(w2c_i0) + 104u);
+      w2c_j0 = i64_load(m, (u64)(w2c_i0) + 120u);
       w2c_j1 = w2c_l6;
       w2c_i1 = (u32)(w2c_j1);
-      w2c_j1 = i64_load(m, (u64)(w2c_i1) + 120u);
+      w2c_j1 = i64_load(m, (u64)(w2c_i1) + 136u);
       w2c_l16 = w2c_j1;
       w2c_j2 = w2c_l6;
       w2c_i2 = (u32)(w2c_j2);
-      w2c_j2 = i64_load(m, (u64)(w2c_i2) + 144u);
+      w2c_j2 = i64_load(m, (u64)(w2c_i2) + 160u);
       w2c_j1 += w2c_j2;
       w2c_l12 = w2c_j1;
       w2c_j2 = w2c_l6;
       w2c_i2 = (u32)(w2c_j2);
-      w2c_j2 = i64_load(m, (u64)(w2c_i2) + 96u);
+      w2c_j2 = i64_load(m, (u64)(w2c_i2) + 112u);
       w2c_j1 += w2c_j2;
       w2c_l14 = w2c_j1;
       w2c_j2 = w2c_l12;
@@ -36627,7 +37092,7 @@ static void w2c_f46(module *m, u64 w2c_p0, u32 w2c_p1, u64 w2c_p2, u32 w2c_p3, u
       w2c_j0 += w2c_j1;
       w2c_j1 = w2c_l6;
       w2c_i1 = (u32)(w2c_j1);
-      w2c_j1 = i64_load(m, (u64)(w2c_i1) + 152u);
+      w2c_j1 = i64_load(m, (u64)(w2c_i1) + 168u);
       w2c_j2 = w2c_l12;
       w2c_j3 = w2c_l16;
       w2c_i2 = w2c_j2 < w2c_j3;
@@ -36636,13 +37101,13 @@ static void w2c_f46(module *m, u64 w2c_p0, u32 w2c_p1, u64 w2c_p2, u32 w2c_p3, u
       w2c_l12 = w2c_j1;
       w2c_j2 = w2c_l6;
       w2c_i2 = (u32)(w2c_j2);
-      w2c_j2 = i64_load(m, (u64)(w2c_i2) + 128u);
+      w2c_j2 = i64_load(m, (u64)(w2c_i2) + 144u);
       w2c_j1 += w2c_j2;
       w2c_l16 = w2c_j1;
       w2c_j0 |= w2c_j1;
       w2c_j1 = w2c_l6;
       w2c_i1 = (u32)(w2c_j1);
-      w2c_j1 = i64_load(m, (u64)(w2c_i1) + 136u);
+      w2c_j1 = i64_load(m, (u64)(w2c_i1) + 152u);
       w2c_j2 = w2c_l16;
       w2c_j3 = w2c_l12;
       w2c_i2 = w2c_j2 < w2c_j3;
@@ -36650,16 +37115,16 @@ static void w2c_f46(module *m, u64 w2c_p0, u32 w2c_p1, u64 w2c_p2, u32 w2c_p3, u
       w2c_j1 += w2c_j2;
       w2c_j0 |= w2c_j1;
       w2c_i0 = !(w2c_j0);
-      if (w2c_i0) {goto w2c_B39;}
+      if (w2c_i0) {goto w2c_B38;}
       w2c_j0 = 0ull;
       w2c_l16 = w2c_j0;
       w2c_j0 = 0ull;
       w2c_l14 = w2c_j0;
-      goto w2c_B34;
-      w2c_B39:;
+      goto w2c_B33;
+      w2c_B38:;
       w2c_j0 = w2c_l6;
       w2c_i0 = (u32)(w2c_j0);
-      w2c_j0 = i64_load(m, (u64)(w2c_i0) + 112u);
+      w2c_j0 = i64_load(m, (u64)(w2c_i0) + 128u);
       w2c_l12 = w2c_j0;
       w2c_j1 = w2c_l13;
       w2c_j2 = 18446744073709551615ull;
@@ -36676,13 +37141,13 @@ static void w2c_f46(module *m, u64 w2c_p0, u32 w2c_p1, u64 w2c_p2, u32 w2c_p3, u
       w2c_i2 = w2c_j2 == w2c_j3;
       w2c_i0 = w2c_i2 ? w2c_i0 : w2c_i1;
       w2c_i0 = !(w2c_i0);
-      if (w2c_i0) {goto w2c_B37;}
+      if (w2c_i0) {goto w2c_B36;}
       w2c_j0 = 0ull;
       w2c_l14 = w2c_j0;
       w2c_j0 = 0ull;
       w2c_l16 = w2c_j0;
-      goto w2c_B34;
-      w2c_B37:;
+      goto w2c_B33;
+      w2c_B36:;
       w2c_j0 = w2c_l14;
       w2c_j1 = w2c_l15;
       w2c_j0 += w2c_j1;
@@ -36705,13 +37170,13 @@ static void w2c_f46(module *m, u64 w2c_p0, u32 w2c_p1, u64 w2c_p2, u32 w2c_p3, u
       w2c_l10 = w2c_j0;
       w2c_j1 = 18446744073709551615ull;
       w2c_i0 = w2c_j0 != w2c_j1;
-      if (w2c_i0) {goto w2c_L36;}
-    w2c_B35:;
+      if (w2c_i0) {goto w2c_L35;}
+    w2c_B34:;
     w2c_j0 = 0ull;
     w2c_p5 = w2c_j0;
     w2c_j0 = 0ull;
     w2c_l18 = w2c_j0;
-    w2c_B34:;
+    w2c_B33:;
     w2c_j0 = w2c_p0;
     w2c_i0 = (u32)(w2c_j0);
     w2c_j1 = w2c_l18;
@@ -36735,7 +37200,7 @@ static void w2c_f46(module *m, u64 w2c_p0, u32 w2c_p1, u64 w2c_p2, u32 w2c_p3, u
     w2c_j1 = w2c_p5;
     i64_store(m, (u64)(w2c_i0), w2c_j1);
     goto w2c_B3;
-    w2c_B29:;
+    w2c_B28:;
     w2c_j0 = w2c_p0;
     w2c_i0 = (u32)(w2c_j0);
     w2c_j1 = 1ull;
@@ -36758,9 +37223,70 @@ static void w2c_f46(module *m, u64 w2c_p0, u32 w2c_p1, u64 w2c_p2, u32 w2c_p3, u
     w2c_i0 = (u32)(w2c_j0);
     w2c_j1 = 1ull;
     i64_store(m, (u64)(w2c_i0), w2c_j1);
+    goto w2c_B3;
+    w2c_B5:;
+    w2c_j0 = w2c_l11;
+    w2c_j1 = w2c_p5;
+    w2c_i0 = w2c_j0 >= w2c_j1;
+    if (w2c_i0) {goto w2c_B39;}
+    w2c_L40:
+      w2c_j0 = w2c_l14;
+      w2c_j1 = 1ull;
+      w2c_j0 += w2c_j1;
+      w2c_l14 = w2c_j0;
+      w2c_j0 = w2c_p4;
+      w2c_j1 = w2c_l11;
+      w2c_j0 += w2c_j1;
+      w2c_i0 = (u32)(w2c_j0);
+      w2c_i0 = i32_load8_u(m, (u64)(w2c_i0));
+      w2c_i1 = 1u;
+      w2c_i0 >>= (w2c_i1 & 31);
+      w2c_j0 = (u64)(w2c_i0);
+      w2c_j1 = 120ull;
+      w2c_j0 &= w2c_j1;
+      w2c_j1 = 66848ull;
+      w2c_j0 += w2c_j1;
+      w2c_i0 = (u32)(w2c_j0);
+      w2c_j0 = i64_load(m, (u64)(w2c_i0));
+      w2c_j1 = w2c_l11;
+      w2c_j0 += w2c_j1;
+      w2c_l11 = w2c_j0;
+      w2c_j1 = w2c_p5;
+      w2c_i0 = w2c_j0 < w2c_j1;
+      if (w2c_i0) {goto w2c_L40;}
+    w2c_B39:;
+    w2c_j0 = w2c_l7;
+    w2c_j1 = w2c_l14;
+    w2c_j0 += w2c_j1;
+    w2c_l17 = w2c_j0;
+    w2c_j0 = 1ull;
+    w2c_l18 = w2c_j0;
+    w2c_B4:;
+    w2c_j0 = w2c_p0;
+    w2c_i0 = (u32)(w2c_j0);
+    w2c_j1 = 1ull;
+    i64_store(m, (u64)(w2c_i0), w2c_j1);
+    w2c_j0 = w2c_p0;
+    w2c_j1 = 24ull;
+    w2c_j0 += w2c_j1;
+    w2c_i0 = (u32)(w2c_j0);
+    w2c_j1 = 0ull;
+    i64_store(m, (u64)(w2c_i0), w2c_j1);
+    w2c_j0 = w2c_p0;
+    w2c_j1 = 16ull;
+    w2c_j0 += w2c_j1;
+    w2c_i0 = (u32)(w2c_j0);
+    w2c_j1 = w2c_l17;
+    i64_store(m, (u64)(w2c_i0), w2c_j1);
+    w2c_j0 = w2c_p0;
+    w2c_j1 = 8ull;
+    w2c_j0 += w2c_j1;
+    w2c_i0 = (u32)(w2c_j0);
+    w2c_j1 = w2c_l18;
+    i64_store(m, (u64)(w2c_i0), w2c_j1);
     w2c_B3:;
     w2c_j0 = w2c_l6;
-    w2c_j1 = 720ull;
+    w2c_j1 = 736ull;
     w2c_j0 += w2c_j1;
     m->w2c_g0 = w2c_j0;
     goto w2c_Bfunc;
@@ -36776,7 +37302,7 @@ static void w2c_f46(module *m, u64 w2c_p0, u32 w2c_p1, u64 w2c_p2, u32 w2c_p3, u
   w2c_Bfunc:;
 }
 
-static void w2c_f47(module *m, u64 w2c_p0, u32 w2c_p1, u64 w2c_p2, u64 w2c_p3, u32 w2c_p4, u32 w2c_p5) {
+static void w2c_f49(module *m, u64 w2c_p0, u32 w2c_p1, u64 w2c_p2, u64 w2c_p3, u32 w2c_p4, u32 w2c_p5) {
   u64 w2c_l6 = 0, w2c_l7 = 0, w2c_l8 = 0, w2c_l9 = 0, w2c_l10 = 0, w2c_l11 = 0, w2c_l12 = 0, w2c_l13 = 0, w2c_l14 = 0, w2c_l15 = 0, w2c_l16 = 0, w2c_l17 = 0, w2c_l18 = 0;
   u32 w2c_i0, w2c_i1, w2c_i2, w2c_i3, w2c_i4, w2c_i5, w2c_i6;
   u64 w2c_j0, w2c_j1, w2c_j2, w2c_j3, w2c_j4, w2c_j5, w2c_j6, w2c_j7;
@@ -37110,13 +37636,13 @@ static void w2c_f47(module *m, u64 w2c_p0, u32 w2c_p1, u64 w2c_p2, u64 w2c_p3, u
   m->w2c_g0 = w2c_j0;
 }
 
-static u32 w2c_f48(module *m, u64 w2c_p0, u64 w2c_p1, u32 w2c_p2, u32 w2c_p3, u32 w2c_p4, u64 w2c_p5) {
+static u32 w2c_f50(module *m, u64 w2c_p0, u64 w2c_p1, u32 w2c_p2, u32 w2c_p3, u32 w2c_p4, u64 w2c_p5) {
   u32 w2c_l12 = 0, w2c_l13 = 0, w2c_l14 = 0;
   u64 w2c_l6 = 0, w2c_l7 = 0, w2c_l8 = 0, w2c_l9 = 0, w2c_l10 = 0, w2c_l11 = 0;
   u32 w2c_i0, w2c_i1, w2c_i2, w2c_i3, w2c_i4;
   u64 w2c_j0, w2c_j1, w2c_j2, w2c_j3, w2c_j4;
   w2c_j0 = m->w2c_g0;
-  w2c_j1 = 32ull;
+  w2c_j1 = 48ull;
   w2c_j0 -= w2c_j1;
   w2c_l6 = w2c_j0;
   m->w2c_g0 = w2c_j0;
@@ -37134,19 +37660,19 @@ static u32 w2c_f48(module *m, u64 w2c_p0, u64 w2c_p1, u32 w2c_p2, u32 w2c_p3, u3
   w2c_j0 = w2c_l7;
   w2c_i0 = (u32)(w2c_j0);
   w2c_j1 = 0ull;
+  i64_store(m, (u64)(w2c_i0) + 40, w2c_j1);
+  w2c_j0 = w2c_l7;
+  w2c_i0 = (u32)(w2c_j0);
+  w2c_j1 = 0ull;
+  i64_store(m, (u64)(w2c_i0) + 32, w2c_j1);
+  w2c_j0 = w2c_l7;
+  w2c_i0 = (u32)(w2c_j0);
+  w2c_j1 = 0ull;
   i64_store(m, (u64)(w2c_i0) + 24, w2c_j1);
   w2c_j0 = w2c_l7;
   w2c_i0 = (u32)(w2c_j0);
   w2c_j1 = 0ull;
   i64_store(m, (u64)(w2c_i0) + 16, w2c_j1);
-  w2c_j0 = w2c_l7;
-  w2c_i0 = (u32)(w2c_j0);
-  w2c_j1 = 0ull;
-  i64_store(m, (u64)(w2c_i0) + 8, w2c_j1);
-  w2c_j0 = w2c_l7;
-  w2c_i0 = (u32)(w2c_j0);
-  w2c_j1 = 0ull;
-  i64_store(m, (u64)(w2c_i0), w2c_j1);
   w2c_j0 = w2c_p0;
   w2c_l6 = w2c_j0;
   w2c_j0 = w2c_p1;
@@ -37354,19 +37880,19 @@ static u32 w2c_f48(module *m, u64 w2c_p0, u64 w2c_p1, u32 w2c_p2, u32 w2c_p3, u3
   w2c_j0 = w2c_l7;
   w2c_i0 = (u32)(w2c_j0);
   w2c_j1 = 0ull;
+  i64_store(m, (u64)(w2c_i0) + 40, w2c_j1);
+  w2c_j0 = w2c_l7;
+  w2c_i0 = (u32)(w2c_j0);
+  w2c_j1 = 0ull;
+  i64_store(m, (u64)(w2c_i0) + 32, w2c_j1);
+  w2c_j0 = w2c_l7;
+  w2c_i0 = (u32)(w2c_j0);
+  w2c_j1 = 0ull;
   i64_store(m, (u64)(w2c_i0) + 24, w2c_j1);
   w2c_j0 = w2c_l7;
   w2c_i0 = (u32)(w2c_j0);
   w2c_j1 = 0ull;
   i64_store(m, (u64)(w2c_i0) + 16, w2c_j1);
-  w2c_j0 = w2c_l7;
-  w2c_i0 = (u32)(w2c_j0);
-  w2c_j1 = 0ull;
-  i64_store(m, (u64)(w2c_i0) + 8, w2c_j1);
-  w2c_j0 = w2c_l7;
-  w2c_i0 = (u32)(w2c_j0);
-  w2c_j1 = 0ull;
-  i64_store(m, (u64)(w2c_i0), w2c_j1);
   w2c_j0 = w2c_p0;
   w2c_l6 = w2c_j0;
   w2c_j0 = w2c_p1;
@@ -37722,11 +38248,13 @@ static u32 w2c_f48(module *m, u64 w2c_p0, u64 w2c_p1, u32 w2c_p2, u32 w2c_p3, u3
   w2c_l8 = w2c_j0;
   w2c_B30:;
   w2c_j0 = w2c_l7;
+  w2c_j1 = 16ull;
+  w2c_j0 += w2c_j1;
   w2c_i1 = w2c_p4;
   w2c_j2 = w2c_l8;
   w2c_j3 = w2c_l6;
   w2c_j4 = w2c_l9;
-  w2c_f49(m, w2c_j0, w2c_i1, w2c_j2, w2c_j3, w2c_j4);
+  w2c_f51(m, w2c_j0, w2c_i1, w2c_j2, w2c_j3, w2c_j4);
   w2c_i0 = 2u;
   w2c_p3 = w2c_i0;
   w2c_i0 = 0u;
@@ -37737,11 +38265,13 @@ static u32 w2c_f48(module *m, u64 w2c_p0, u64 w2c_p1, u32 w2c_p2, u32 w2c_p3, u3
   w2c_l13 = w2c_i0;
   w2c_B28:;
   w2c_j0 = w2c_l7;
+  w2c_j1 = 16ull;
+  w2c_j0 += w2c_j1;
   w2c_i1 = w2c_p4;
   w2c_j2 = w2c_l10;
   w2c_j3 = w2c_l8;
   w2c_j4 = w2c_l11;
-  w2c_f49(m, w2c_j0, w2c_i1, w2c_j2, w2c_j3, w2c_j4);
+  w2c_f51(m, w2c_j0, w2c_i1, w2c_j2, w2c_j3, w2c_j4);
   w2c_i0 = 3u;
   w2c_i1 = 2u;
   w2c_i2 = w2c_l13;
@@ -37750,15 +38280,15 @@ static u32 w2c_f48(module *m, u64 w2c_p0, u64 w2c_p1, u32 w2c_p2, u32 w2c_p3, u3
   w2c_B27:;
   w2c_j0 = w2c_l7;
   w2c_i0 = (u32)(w2c_j0);
-  w2c_j0 = i64_load(m, (u64)(w2c_i0) + 24u);
-  w2c_l8 = w2c_j0;
+  w2c_j0 = i64_load(m, (u64)(w2c_i0) + 40u);
+  w2c_l9 = w2c_j0;
   w2c_j0 = w2c_l7;
   w2c_i0 = (u32)(w2c_j0);
-  w2c_j0 = i64_load(m, (u64)(w2c_i0) + 16u);
+  w2c_j0 = i64_load(m, (u64)(w2c_i0) + 32u);
   w2c_l6 = w2c_j0;
   w2c_j0 = w2c_l7;
   w2c_i0 = (u32)(w2c_j0);
-  w2c_i0 = i32_load8_u(m, (u64)(w2c_i0));
+  w2c_i0 = i32_load8_u(m, (u64)(w2c_i0) + 16u);
   if (w2c_i0) {goto w2c_B50;}
   w2c_j0 = w2c_l6;
   w2c_i1 = w2c_p2;
@@ -37772,30 +38302,30 @@ static u32 w2c_f48(module *m, u64 w2c_p0, u64 w2c_p1, u32 w2c_p2, u32 w2c_p3, u3
   w2c_i4 = w2c_l13;
   w2c_j2 = w2c_i4 ? w2c_j2 : w2c_j3;
   w2c_j1 += w2c_j2;
-  w2c_l9 = w2c_j1;
+  w2c_l8 = w2c_j1;
   w2c_i1 = (u32)(w2c_j1);
   w2c_j1 = i64_load(m, (u64)(w2c_i1));
   w2c_i0 = w2c_j0 > w2c_j1;
-  w2c_j1 = w2c_l8;
-  w2c_j2 = w2c_l9;
+  w2c_j1 = w2c_l9;
+  w2c_j2 = w2c_l8;
   w2c_i2 = (u32)(w2c_j2);
   w2c_j2 = i64_load(m, (u64)(w2c_i2) + 8u);
-  w2c_l9 = w2c_j2;
+  w2c_l8 = w2c_j2;
   w2c_i1 = w2c_j1 > w2c_j2;
-  w2c_j2 = w2c_l8;
-  w2c_j3 = w2c_l9;
+  w2c_j2 = w2c_l9;
+  w2c_j3 = w2c_l8;
   w2c_i2 = w2c_j2 == w2c_j3;
   w2c_i0 = w2c_i2 ? w2c_i0 : w2c_i1;
   if (w2c_i0) {goto w2c_B5;}
   w2c_i0 = w2c_l13;
   w2c_j0 = (u64)(w2c_i0);
-  w2c_l10 = w2c_j0;
+  w2c_l8 = w2c_j0;
   goto w2c_B3;
   w2c_B50:;
   w2c_i0 = w2c_p3;
   w2c_j1 = w2c_l7;
   w2c_i1 = (u32)(w2c_j1);
-  w2c_i1 = i32_load8_u(m, (u64)(w2c_i1) + 8u);
+  w2c_i1 = i32_load8_u(m, (u64)(w2c_i1) + 24u);
   w2c_p2 = w2c_i1;
   w2c_i2 = w2c_p2;
   w2c_i3 = 2u;
@@ -37804,12 +38334,12 @@ static u32 w2c_f48(module *m, u64 w2c_p0, u64 w2c_p1, u32 w2c_p2, u32 w2c_p3, u3
   w2c_i0 = w2c_i2 ? w2c_i0 : w2c_i1;
   w2c_p3 = w2c_i0;
   w2c_j0 = 0ull;
-  w2c_l8 = w2c_j0;
+  w2c_l9 = w2c_j0;
   w2c_j0 = 0ull;
   w2c_j1 = w2c_l6;
   w2c_i2 = w2c_p2;
   w2c_j0 = w2c_i2 ? w2c_j0 : w2c_j1;
-  w2c_l10 = w2c_j0;
+  w2c_l8 = w2c_j0;
   goto w2c_B1;
   w2c_B14:;
   w2c_j0 = w2c_l9;
@@ -37967,10 +38497,12 @@ static u32 w2c_f48(module *m, u64 w2c_p0, u64 w2c_p1, u32 w2c_p2, u32 w2c_p3, u3
   w2c_l8 = w2c_j0;
   w2c_B9:;
   w2c_j0 = w2c_l7;
+  w2c_j1 = 16ull;
+  w2c_j0 += w2c_j1;
   w2c_j1 = w2c_l8;
   w2c_j2 = w2c_l6;
   w2c_j3 = w2c_l9;
-  w2c_f44(m, w2c_j0, w2c_j1, w2c_j2, w2c_j3);
+  w2c_f46(m, w2c_j0, w2c_j1, w2c_j2, w2c_j3);
   w2c_i0 = 2u;
   w2c_p3 = w2c_i0;
   w2c_i0 = 0u;
@@ -37981,10 +38513,12 @@ static u32 w2c_f48(module *m, u64 w2c_p0, u64 w2c_p1, u32 w2c_p2, u32 w2c_p3, u3
   w2c_p4 = w2c_i0;
   w2c_B7:;
   w2c_j0 = w2c_l7;
+  w2c_j1 = 16ull;
+  w2c_j0 += w2c_j1;
   w2c_j1 = w2c_l10;
   w2c_j2 = w2c_l8;
   w2c_j3 = w2c_l11;
-  w2c_f44(m, w2c_j0, w2c_j1, w2c_j2, w2c_j3);
+  w2c_f46(m, w2c_j0, w2c_j1, w2c_j2, w2c_j3);
   w2c_i0 = 3u;
   w2c_i1 = 2u;
   w2c_i2 = w2c_p4;
@@ -37993,15 +38527,15 @@ static u32 w2c_f48(module *m, u64 w2c_p0, u64 w2c_p1, u32 w2c_p2, u32 w2c_p3, u3
   w2c_B6:;
   w2c_j0 = w2c_l7;
   w2c_i0 = (u32)(w2c_j0);
-  w2c_j0 = i64_load(m, (u64)(w2c_i0) + 24u);
-  w2c_l8 = w2c_j0;
+  w2c_j0 = i64_load(m, (u64)(w2c_i0) + 40u);
+  w2c_l9 = w2c_j0;
   w2c_j0 = w2c_l7;
   w2c_i0 = (u32)(w2c_j0);
-  w2c_j0 = i64_load(m, (u64)(w2c_i0) + 16u);
+  w2c_j0 = i64_load(m, (u64)(w2c_i0) + 32u);
   w2c_l6 = w2c_j0;
   w2c_j0 = w2c_l7;
   w2c_i0 = (u32)(w2c_j0);
-  w2c_i0 = i32_load8_u(m, (u64)(w2c_i0));
+  w2c_i0 = i32_load8_u(m, (u64)(w2c_i0) + 16u);
   if (w2c_i0) {goto w2c_B2;}
   w2c_j0 = w2c_l6;
   w2c_i1 = w2c_p2;
@@ -38015,18 +38549,18 @@ static u32 w2c_f48(module *m, u64 w2c_p0, u64 w2c_p1, u32 w2c_p2, u32 w2c_p3, u3
   w2c_i4 = w2c_p4;
   w2c_j2 = w2c_i4 ? w2c_j2 : w2c_j3;
   w2c_j1 += w2c_j2;
-  w2c_l9 = w2c_j1;
+  w2c_l8 = w2c_j1;
   w2c_i1 = (u32)(w2c_j1);
   w2c_j1 = i64_load(m, (u64)(w2c_i1));
   w2c_i0 = w2c_j0 > w2c_j1;
-  w2c_j1 = w2c_l8;
-  w2c_j2 = w2c_l9;
+  w2c_j1 = w2c_l9;
+  w2c_j2 = w2c_l8;
   w2c_i2 = (u32)(w2c_j2);
   w2c_j2 = i64_load(m, (u64)(w2c_i2) + 8u);
-  w2c_l9 = w2c_j2;
+  w2c_l8 = w2c_j2;
   w2c_i1 = w2c_j1 > w2c_j2;
-  w2c_j2 = w2c_l8;
-  w2c_j3 = w2c_l9;
+  w2c_j2 = w2c_l9;
+  w2c_j3 = w2c_l8;
   w2c_i2 = w2c_j2 == w2c_j3;
   w2c_i0 = w2c_i2 ? w2c_i0 : w2c_i1;
   w2c_i0 = !(w2c_i0);
@@ -38037,14 +38571,14 @@ static u32 w2c_f48(module *m, u64 w2c_p0, u64 w2c_p1, u32 w2c_p2, u32 w2c_p3, u3
   w2c_i0 = 1u;
   w2c_p2 = w2c_i0;
   w2c_j0 = 0ull;
-  w2c_l8 = w2c_j0;
+  w2c_l9 = w2c_j0;
   w2c_j0 = 0ull;
-  w2c_l10 = w2c_j0;
+  w2c_l8 = w2c_j0;
   goto w2c_B0;
   w2c_B4:;
   w2c_i0 = w2c_p4;
   w2c_j0 = (u64)(w2c_i0);
-  w2c_l10 = w2c_j0;
+  w2c_l8 = w2c_j0;
   w2c_B3:;
   w2c_i0 = 0u;
   w2c_p2 = w2c_i0;
@@ -38055,7 +38589,7 @@ static u32 w2c_f48(module *m, u64 w2c_p0, u64 w2c_p1, u32 w2c_p2, u32 w2c_p3, u3
   w2c_i0 = w2c_p3;
   w2c_j1 = w2c_l7;
   w2c_i1 = (u32)(w2c_j1);
-  w2c_i1 = i32_load8_u(m, (u64)(w2c_i1) + 8u);
+  w2c_i1 = i32_load8_u(m, (u64)(w2c_i1) + 24u);
   w2c_p2 = w2c_i1;
   w2c_i2 = w2c_p2;
   w2c_i3 = 2u;
@@ -38064,12 +38598,12 @@ static u32 w2c_f48(module *m, u64 w2c_p0, u64 w2c_p1, u32 w2c_p2, u32 w2c_p3, u3
   w2c_i0 = w2c_i2 ? w2c_i0 : w2c_i1;
   w2c_p3 = w2c_i0;
   w2c_j0 = 0ull;
-  w2c_l8 = w2c_j0;
+  w2c_l9 = w2c_j0;
   w2c_j0 = 0ull;
   w2c_j1 = w2c_l6;
   w2c_i2 = w2c_p2;
   w2c_j0 = w2c_i2 ? w2c_j0 : w2c_j1;
-  w2c_l10 = w2c_j0;
+  w2c_l8 = w2c_j0;
   w2c_B1:;
   w2c_i0 = 1u;
   w2c_p2 = w2c_i0;
@@ -38092,7 +38626,7 @@ static u32 w2c_f48(module *m, u64 w2c_p0, u64 w2c_p1, u32 w2c_p2, u32 w2c_p3, u3
   w2c_j2 = w2c_l6;
   w2c_j1 -= w2c_j2;
   w2c_j2 = w2c_l6;
-  w2c_j3 = w2c_l10;
+  w2c_j3 = w2c_l8;
   w2c_i3 = (u32)(w2c_j3);
   w2c_i4 = 1u;
   w2c_i3 &= w2c_i4;
@@ -38102,44 +38636,83 @@ static u32 w2c_f48(module *m, u64 w2c_p0, u64 w2c_p1, u32 w2c_p2, u32 w2c_p3, u3
   w2c_j0 = w2c_p5;
   w2c_i0 = (u32)(w2c_j0);
   w2c_j1 = 0ull;
-  w2c_j2 = w2c_l8;
+  w2c_j2 = w2c_l9;
   w2c_j3 = w2c_l6;
   w2c_j4 = 0ull;
   w2c_i3 = w2c_j3 != w2c_j4;
   w2c_j3 = (u64)(w2c_i3);
   w2c_j2 += w2c_j3;
   w2c_j1 -= w2c_j2;
-  w2c_j2 = w2c_l8;
+  w2c_j2 = w2c_l9;
   w2c_i3 = w2c_p3;
   w2c_j1 = w2c_i3 ? w2c_j1 : w2c_j2;
   i64_store(m, (u64)(w2c_i0) + 8, w2c_j1);
   w2c_i0 = 0u;
-  w2c_p3 = w2c_i0;
+  w2c_p2 = w2c_i0;
   goto w2c_B55;
   w2c_B56:;
-  w2c_i0 = w2c_p3;
-  w2c_i1 = 1u;
-  w2c_i0 = w2c_i0 != w2c_i1;
-  if (w2c_i0) {goto w2c_B57;}
   w2c_j0 = 0ull;
   w2c_l6 = w2c_j0;
-  w2c_j0 = w2c_l10;
+  w2c_j0 = w2c_p5;
+  w2c_i0 = (u32)(w2c_j0);
+  w2c_j1 = 0ull;
+  i64_store(m, (u64)(w2c_i0) + 24, w2c_j1);
+  w2c_j0 = w2c_p5;
+  w2c_i0 = (u32)(w2c_j0);
+  w2c_j1 = 0ull;
+  i64_store(m, (u64)(w2c_i0) + 16, w2c_j1);
+  w2c_j0 = w2c_p5;
+  w2c_i0 = (u32)(w2c_j0);
+  w2c_j1 = 0ull;
+  i64_store(m, (u64)(w2c_i0) + 8, w2c_j1);
+  w2c_j0 = w2c_p5;
+  w2c_i0 = (u32)(w2c_j0);
+  w2c_j1 = 0ull;
+  i64_store(m, (u64)(w2c_i0), w2c_j1);
+  w2c_i0 = 1u;
+  w2c_p2 = w2c_i0;
+  w2c_i0 = w2c_p3;
+  switch (w2c_i0) {
+    case 0: goto w2c_B55;
+    case 1: goto w2c_B59;
+    case 2: goto w2c_B58;
+    case 3: goto w2c_B57;
+    default: goto w2c_B55;
+  }
+  w2c_B59:;
+  w2c_j0 = w2c_p5;
+  w2c_i0 = (u32)(w2c_j0);
+  w2c_j1 = w2c_l8;
+  i64_store(m, (u64)(w2c_i0) + 16, w2c_j1);
+  w2c_j0 = w2c_l8;
+  w2c_j1 = 16ull;
+  w2c_i0 = w2c_j0 < w2c_j1;
+  if (w2c_i0) {goto w2c_B60;}
+  w2c_j0 = w2c_l7;
+  w2c_j1 = w2c_p0;
+  w2c_j2 = w2c_p1;
+  w2c_j3 = w2c_l8;
+  w2c_f14(m, w2c_j0, w2c_j1, w2c_j2, w2c_j3);
+  w2c_j0 = w2c_l7;
+  w2c_i0 = (u32)(w2c_j0);
+  w2c_j0 = i64_load(m, (u64)(w2c_i0) + 8u);
   w2c_l8 = w2c_j0;
-  w2c_j0 = w2c_l10;
+  w2c_j0 = w2c_l7;
+  w2c_i0 = (u32)(w2c_j0);
+  w2c_j0 = i64_load(m, (u64)(w2c_i0));
+  w2c_l6 = w2c_j0;
+  w2c_B60:;
+  w2c_j0 = w2c_l8;
   w2c_j1 = 3ull;
   w2c_i0 = w2c_j0 < w2c_j1;
-  if (w2c_i0) {goto w2c_B58;}
-  w2c_j0 = 0ull;
-  w2c_l6 = w2c_j0;
-  w2c_j0 = w2c_l10;
-  w2c_l8 = w2c_j0;
-  w2c_L59:
+  if (w2c_i0) {goto w2c_B61;}
+  w2c_L62:
     w2c_j0 = w2c_p1;
     w2c_j1 = w2c_l6;
     w2c_j0 -= w2c_j1;
     w2c_j1 = 8ull;
     w2c_i0 = w2c_j0 < w2c_j1;
-    if (w2c_i0) {goto w2c_B58;}
+    if (w2c_i0) {goto w2c_B61;}
     w2c_j0 = w2c_p0;
     w2c_j1 = w2c_l6;
     w2c_j0 += w2c_j1;
@@ -38150,7 +38723,7 @@ static u32 w2c_f48(module *m, u64 w2c_p0, u64 w2c_p1, u32 w2c_p2, u32 w2c_p3, u3
     w2c_j0 &= w2c_j1;
     w2c_j1 = 63050398541283552ull;
     w2c_i0 = w2c_j0 != w2c_j1;
-    if (w2c_i0) {goto w2c_B61;}
+    if (w2c_i0) {goto w2c_B64;}
     w2c_j0 = w2c_l8;
     w2c_j1 = 18446744073709551613ull;
     w2c_j0 += w2c_j1;
@@ -38159,18 +38732,18 @@ static u32 w2c_f48(module *m, u64 w2c_p0, u64 w2c_p1, u32 w2c_p2, u32 w2c_p3, u3
     w2c_j1 = 9ull;
     w2c_j0 += w2c_j1;
     w2c_l6 = w2c_j0;
-    goto w2c_B60;
-    w2c_B61:;
+    goto w2c_B63;
+    w2c_B64:;
     w2c_j0 = w2c_l8;
     w2c_j1 = 8ull;
     w2c_i0 = w2c_j0 < w2c_j1;
-    if (w2c_i0) {goto w2c_B58;}
+    if (w2c_i0) {goto w2c_B61;}
     w2c_j0 = w2c_l9;
     w2c_j1 = 9259542123273814144ull;
     w2c_j0 &= w2c_j1;
     w2c_j1 = 0ull;
     w2c_i0 = w2c_j0 != w2c_j1;
-    if (w2c_i0) {goto w2c_B58;}
+    if (w2c_i0) {goto w2c_B61;}
     w2c_j0 = w2c_l8;
     w2c_j1 = 18446744073709551608ull;
     w2c_j0 += w2c_j1;
@@ -38179,24 +38752,24 @@ static u32 w2c_f48(module *m, u64 w2c_p0, u64 w2c_p1, u32 w2c_p2, u32 w2c_p3, u3
     w2c_j1 = 8ull;
     w2c_j0 += w2c_j1;
     w2c_l6 = w2c_j0;
-    w2c_B60:;
+    w2c_B63:;
     w2c_j0 = w2c_l8;
     w2c_j1 = 2ull;
     w2c_i0 = w2c_j0 > w2c_j1;
-    if (w2c_i0) {goto w2c_L59;}
-  w2c_B58:;
+    if (w2c_i0) {goto w2c_L62;}
+  w2c_B61:;
+  w2c_j0 = w2c_l8;
+  w2c_i0 = !(w2c_j0);
+  if (w2c_i0) {goto w2c_B65;}
   w2c_j0 = w2c_p1;
   w2c_j1 = w2c_l6;
   w2c_i0 = w2c_j0 <= w2c_j1;
-  if (w2c_i0) {goto w2c_B62;}
-  w2c_j0 = w2c_l8;
-  w2c_i0 = !(w2c_j0);
-  if (w2c_i0) {goto w2c_B62;}
+  if (w2c_i0) {goto w2c_B65;}
   w2c_j0 = w2c_l8;
   w2c_j1 = 18446744073709551615ull;
   w2c_j0 += w2c_j1;
   w2c_l8 = w2c_j0;
-  w2c_L63:
+  w2c_L66:
     w2c_j0 = w2c_p0;
     w2c_j1 = w2c_l6;
     w2c_j0 += w2c_j1;
@@ -38216,7 +38789,7 @@ static u32 w2c_f48(module *m, u64 w2c_p0, u64 w2c_p1, u32 w2c_p2, u32 w2c_p3, u3
     w2c_l6 = w2c_j0;
     w2c_j0 = w2c_l8;
     w2c_i0 = !(w2c_j0);
-    if (w2c_i0) {goto w2c_B62;}
+    if (w2c_i0) {goto w2c_B65;}
     w2c_j0 = w2c_l8;
     w2c_j1 = 18446744073709551615ull;
     w2c_j0 += w2c_j1;
@@ -38224,61 +38797,32 @@ static u32 w2c_f48(module *m, u64 w2c_p0, u64 w2c_p1, u32 w2c_p2, u32 w2c_p3, u3
     w2c_j0 = w2c_p1;
     w2c_j1 = w2c_l6;
     w2c_i0 = w2c_j0 > w2c_j1;
-    if (w2c_i0) {goto w2c_L63;}
-  w2c_B62:;
-  w2c_j0 = w2c_p5;
-  w2c_i0 = (u32)(w2c_j0);
-  w2c_j1 = 0ull;
-  i64_store(m, (u64)(w2c_i0) + 8, w2c_j1);
-  w2c_j0 = w2c_p5;
-  w2c_i0 = (u32)(w2c_j0);
-  w2c_j1 = 0ull;
-  i64_store(m, (u64)(w2c_i0), w2c_j1);
+    if (w2c_i0) {goto w2c_L66;}
+  w2c_B65:;
   w2c_j0 = w2c_p5;
   w2c_i0 = (u32)(w2c_j0);
   w2c_j1 = w2c_l6;
   i64_store(m, (u64)(w2c_i0) + 24, w2c_j1);
-  w2c_j0 = w2c_p5;
-  w2c_i0 = (u32)(w2c_j0);
-  w2c_j1 = w2c_l10;
-  i64_store(m, (u64)(w2c_i0) + 16, w2c_j1);
   w2c_i0 = 2u;
-  w2c_p3 = w2c_i0;
+  w2c_p2 = w2c_i0;
+  goto w2c_B55;
+  w2c_B58:;
+  w2c_i0 = 3u;
+  w2c_p2 = w2c_i0;
   goto w2c_B55;
   w2c_B57:;
-  w2c_j0 = w2c_p5;
-  w2c_i0 = (u32)(w2c_j0);
-  w2c_j1 = 0ull;
-  i64_store(m, (u64)(w2c_i0) + 24, w2c_j1);
-  w2c_j0 = w2c_p5;
-  w2c_i0 = (u32)(w2c_j0);
-  w2c_j1 = 0ull;
-  i64_store(m, (u64)(w2c_i0) + 16, w2c_j1);
-  w2c_j0 = w2c_p5;
-  w2c_i0 = (u32)(w2c_j0);
-  w2c_j1 = 0ull;
-  i64_store(m, (u64)(w2c_i0) + 8, w2c_j1);
-  w2c_j0 = w2c_p5;
-  w2c_i0 = (u32)(w2c_j0);
-  w2c_j1 = 0ull;
-  i64_store(m, (u64)(w2c_i0), w2c_j1);
-  w2c_i0 = w2c_p3;
-  w2c_j0 = (u64)(w2c_i0);
-  w2c_j1 = 2ull;
-  w2c_j0 <<= (w2c_j1 & 63);
-  w2c_i0 = (u32)(w2c_j0);
-  w2c_i0 = i32_load(m, (u64)(w2c_i0) + 69624u);
-  w2c_p3 = w2c_i0;
+  w2c_i0 = 4u;
+  w2c_p2 = w2c_i0;
   w2c_B55:;
   w2c_j0 = w2c_l7;
-  w2c_j1 = 32ull;
+  w2c_j1 = 48ull;
   w2c_j0 += w2c_j1;
   m->w2c_g0 = w2c_j0;
-  w2c_i0 = w2c_p3;
+  w2c_i0 = w2c_p2;
   return w2c_i0;
 }
 
-static void w2c_f49(module *m, u64 w2c_p0, u32 w2c_p1, u64 w2c_p2, u64 w2c_p3, u64 w2c_p4) {
+static void w2c_f51(module *m, u64 w2c_p0, u32 w2c_p1, u64 w2c_p2, u64 w2c_p3, u64 w2c_p4) {
   u32 w2c_l18 = 0, w2c_l19 = 0, w2c_l20 = 0, w2c_l21 = 0, w2c_l22 = 0, w2c_l23 = 0;
   u64 w2c_l5 = 0, w2c_l6 = 0, w2c_l7 = 0, w2c_l8 = 0, w2c_l9 = 0, w2c_l10 = 0, w2c_l11 = 0, w2c_l12 = 0, w2c_l13 = 0, w2c_l14 = 0, w2c_l15 = 0, w2c_l16 = 0, w2c_l17 = 0;
   u32 w2c_i0, w2c_i1, w2c_i2, w2c_i3, w2c_i4, w2c_i5;
@@ -40057,7 +40601,7 @@ static void w2c_f49(module *m, u64 w2c_p0, u32 w2c_p1, u64 w2c_p2, u64 w2c_p3, u
   w2c_j0 += w2c_j1;
   w2c_j1 = w2c_p3;
   w2c_j2 = w2c_l5;
-  w2c_f45(m, w2c_j0, w2c_j1, w2c_j2);
+  w2c_f47(m, w2c_j0, w2c_j1, w2c_j2);
   w2c_j0 = w2c_l6;
   w2c_i0 = (u32)(w2c_j0);
   w2c_i0 = i32_load8_u(m, (u64)(w2c_i0) + 200u);
@@ -40192,7 +40736,7 @@ static void w2c_f49(module *m, u64 w2c_p0, u32 w2c_p1, u64 w2c_p2, u64 w2c_p3, u
   w2c_j0 += w2c_j1;
   w2c_j1 = w2c_l12;
   w2c_j2 = w2c_p4;
-  w2c_f45(m, w2c_j0, w2c_j1, w2c_j2);
+  w2c_f47(m, w2c_j0, w2c_j1, w2c_j2);
   w2c_j0 = w2c_l6;
   w2c_i0 = (u32)(w2c_j0);
   w2c_i0 = i32_load8_u(m, (u64)(w2c_i0) + 200u);
@@ -40244,7 +40788,7 @@ static void w2c_f49(module *m, u64 w2c_p0, u32 w2c_p1, u64 w2c_p2, u64 w2c_p3, u
   w2c_i3 = w2c_l18;
   w2c_j4 = w2c_l12;
   w2c_j5 = w2c_p4;
-  w2c_f46(m, w2c_j0, w2c_i1, w2c_j2, w2c_i3, w2c_j4, w2c_j5);
+  w2c_f48(m, w2c_j0, w2c_i1, w2c_j2, w2c_i3, w2c_j4, w2c_j5);
   w2c_j0 = w2c_l6;
   w2c_i0 = (u32)(w2c_j0);
   w2c_j0 = i64_load(m, (u64)(w2c_i0) + 144u);
@@ -40267,7 +40811,7 @@ static void w2c_f49(module *m, u64 w2c_p0, u32 w2c_p1, u64 w2c_p2, u64 w2c_p3, u
   w2c_j3 = i64_load(m, (u64)(w2c_i3) + 152u);
   w2c_i4 = w2c_l23;
   w2c_i5 = w2c_l21;
-  w2c_f47(m, w2c_j0, w2c_i1, w2c_j2, w2c_j3, w2c_i4, w2c_i5);
+  w2c_f49(m, w2c_j0, w2c_i1, w2c_j2, w2c_j3, w2c_i4, w2c_i5);
   w2c_j0 = 0ull;
   w2c_j1 = w2c_l6;
   w2c_i1 = (u32)(w2c_j1);
@@ -40298,7 +40842,7 @@ static void w2c_f49(module *m, u64 w2c_p0, u32 w2c_p1, u64 w2c_p2, u64 w2c_p3, u
   w2c_i0 = (u32)(w2c_j0);
   w2c_j1 = w2c_l12;
   w2c_j2 = w2c_p4;
-  w2c_j1 = w2c_f36(m, w2c_j1, w2c_j2);
+  w2c_j1 = w2c_f38(m, w2c_j1, w2c_j2);
   w2c_j2 = w2c_p2;
   w2c_j1 += w2c_j2;
   w2c_j2 = 1ull;
@@ -40323,7 +40867,7 @@ static void w2c_f49(module *m, u64 w2c_p0, u32 w2c_p1, u64 w2c_p2, u64 w2c_p3, u
   w2c_i3 = w2c_l18;
   w2c_j4 = w2c_p3;
   w2c_j5 = w2c_l5;
-  w2c_f46(m, w2c_j0, w2c_i1, w2c_j2, w2c_i3, w2c_j4, w2c_j5);
+  w2c_f48(m, w2c_j0, w2c_i1, w2c_j2, w2c_i3, w2c_j4, w2c_j5);
   w2c_j0 = w2c_l6;
   w2c_i0 = (u32)(w2c_j0);
   w2c_j0 = i64_load(m, (u64)(w2c_i0) + 184u);
@@ -40416,12 +40960,12 @@ static void w2c_f49(module *m, u64 w2c_p0, u32 w2c_p1, u64 w2c_p2, u64 w2c_p3, u
   m->w2c_g0 = w2c_j0;
 }
 
-static u32 w2c_f50(module *m, u64 w2c_p0, u64 w2c_p1, u32 w2c_p2, u32 w2c_p3, u32 w2c_p4, u64 w2c_p5) {
-  u64 w2c_l6 = 0, w2c_l7 = 0, w2c_l8 = 0, w2c_l9 = 0, w2c_l10 = 0;
+static u32 w2c_f52(module *m, u64 w2c_p0, u64 w2c_p1, u32 w2c_p2, u32 w2c_p3, u32 w2c_p4, u64 w2c_p5) {
+  u64 w2c_l6 = 0, w2c_l7 = 0, w2c_l8 = 0, w2c_l9 = 0;
   u32 w2c_i0, w2c_i1, w2c_i2;
   u64 w2c_j0, w2c_j1, w2c_j2, w2c_j3, w2c_j4;
   w2c_j0 = m->w2c_g0;
-  w2c_j1 = 32ull;
+  w2c_j1 = 48ull;
   w2c_j0 -= w2c_j1;
   w2c_l6 = w2c_j0;
   m->w2c_g0 = w2c_j0;
@@ -40429,7 +40973,15 @@ static u32 w2c_f50(module *m, u64 w2c_p0, u64 w2c_p1, u32 w2c_p2, u32 w2c_p3, u3
   w2c_l7 = w2c_j0;
   w2c_j1 = 16ull;
   w2c_i0 = (u64)((s64)w2c_j0 < (s64)w2c_j1);
-  if (w2c_i0) {goto w2c_B0;}
+  if (w2c_i0) {goto w2c_B2;}
+  w2c_j0 = w2c_l7;
+  w2c_i0 = (u32)(w2c_j0);
+  w2c_j1 = 0ull;
+  i64_store(m, (u64)(w2c_i0) + 40, w2c_j1);
+  w2c_j0 = w2c_l7;
+  w2c_i0 = (u32)(w2c_j0);
+  w2c_j1 = 0ull;
+  i64_store(m, (u64)(w2c_i0) + 32, w2c_j1);
   w2c_j0 = w2c_l7;
   w2c_i0 = (u32)(w2c_j0);
   w2c_j1 = 0ull;
@@ -40438,40 +40990,36 @@ static u32 w2c_f50(module *m, u64 w2c_p0, u64 w2c_p1, u32 w2c_p2, u32 w2c_p3, u3
   w2c_i0 = (u32)(w2c_j0);
   w2c_j1 = 0ull;
   i64_store(m, (u64)(w2c_i0) + 16, w2c_j1);
-  w2c_j0 = w2c_l7;
-  w2c_i0 = (u32)(w2c_j0);
-  w2c_j1 = 0ull;
-  i64_store(m, (u64)(w2c_i0) + 8, w2c_j1);
-  w2c_j0 = w2c_l7;
-  w2c_i0 = (u32)(w2c_j0);
-  w2c_j1 = 0ull;
-  i64_store(m, (u64)(w2c_i0), w2c_j1);
   w2c_i0 = w2c_p3;
   w2c_i1 = 255u;
   w2c_i0 &= w2c_i1;
-  if (w2c_i0) {goto w2c_B2;}
+  if (w2c_i0) {goto w2c_B4;}
   w2c_j0 = w2c_l7;
+  w2c_j1 = 16ull;
+  w2c_j0 += w2c_j1;
   w2c_j1 = 0ull;
   w2c_j2 = w2c_p0;
   w2c_j3 = w2c_p1;
-  w2c_f44(m, w2c_j0, w2c_j1, w2c_j2, w2c_j3);
-  goto w2c_B1;
-  w2c_B2:;
+  w2c_f46(m, w2c_j0, w2c_j1, w2c_j2, w2c_j3);
+  goto w2c_B3;
+  w2c_B4:;
   w2c_j0 = w2c_l7;
+  w2c_j1 = 16ull;
+  w2c_j0 += w2c_j1;
   w2c_i1 = w2c_p4;
   w2c_j2 = 0ull;
   w2c_j3 = w2c_p0;
   w2c_j4 = w2c_p1;
-  w2c_f49(m, w2c_j0, w2c_i1, w2c_j2, w2c_j3, w2c_j4);
-  w2c_B1:;
+  w2c_f51(m, w2c_j0, w2c_i1, w2c_j2, w2c_j3, w2c_j4);
+  w2c_B3:;
   w2c_j0 = w2c_l7;
   w2c_i0 = (u32)(w2c_j0);
-  w2c_j0 = i64_load(m, (u64)(w2c_i0) + 16u);
+  w2c_j0 = i64_load(m, (u64)(w2c_i0) + 32u);
   w2c_l8 = w2c_j0;
   w2c_j0 = w2c_l7;
   w2c_i0 = (u32)(w2c_j0);
-  w2c_i0 = i32_load8_u(m, (u64)(w2c_i0));
-  if (w2c_i0) {goto w2c_B4;}
+  w2c_i0 = i32_load8_u(m, (u64)(w2c_i0) + 16u);
+  if (w2c_i0) {goto w2c_B5;}
   w2c_i0 = w2c_p2;
   w2c_j0 = (u64)(w2c_i0);
   w2c_j1 = 255ull;
@@ -40486,17 +41034,17 @@ static u32 w2c_f50(module *m, u64 w2c_p0, u64 w2c_p1, u32 w2c_p2, u32 w2c_p3, u3
   w2c_j1 = w2c_l6;
   w2c_i1 = (u32)(w2c_j1);
   w2c_j1 = i64_load(m, (u64)(w2c_i1) + 68280u);
-  w2c_l9 = w2c_j1;
+  w2c_p1 = w2c_j1;
   w2c_j2 = w2c_l7;
   w2c_i2 = (u32)(w2c_j2);
-  w2c_j2 = i64_load(m, (u64)(w2c_i2) + 24u);
+  w2c_j2 = i64_load(m, (u64)(w2c_i2) + 40u);
   w2c_l6 = w2c_j2;
   w2c_i1 = w2c_j1 >= w2c_j2;
-  w2c_j2 = w2c_l9;
+  w2c_j2 = w2c_p1;
   w2c_j3 = w2c_l6;
   w2c_i2 = w2c_j2 == w2c_j3;
   w2c_i0 = w2c_i2 ? w2c_i0 : w2c_i1;
-  if (w2c_i0) {goto w2c_B5;}
+  if (w2c_i0) {goto w2c_B6;}
   w2c_j0 = w2c_p5;
   w2c_i0 = (u32)(w2c_j0);
   w2c_j1 = 0ull;
@@ -40513,10 +41061,8 @@ static u32 w2c_f50(module *m, u64 w2c_p0, u64 w2c_p1, u32 w2c_p2, u32 w2c_p3, u3
   w2c_i0 = (u32)(w2c_j0);
   w2c_j1 = 0ull;
   i64_store(m, (u64)(w2c_i0), w2c_j1);
-  w2c_i0 = 3u;
-  w2c_p3 = w2c_i0;
-  goto w2c_B3;
-  w2c_B5:;
+  goto w2c_B1;
+  w2c_B6:;
   w2c_j0 = w2c_p5;
   w2c_i0 = (u32)(w2c_j0);
   w2c_j1 = 0ull;
@@ -40535,93 +41081,132 @@ static u32 w2c_f50(module *m, u64 w2c_p0, u64 w2c_p1, u32 w2c_p2, u32 w2c_p3, u3
   i64_store(m, (u64)(w2c_i0) + 8, w2c_j1);
   w2c_i0 = 0u;
   w2c_p3 = w2c_i0;
-  goto w2c_B3;
-  w2c_B4:;
+  goto w2c_B0;
+  w2c_B5:;
   w2c_j0 = w2c_l7;
   w2c_i0 = (u32)(w2c_j0);
-  w2c_i0 = i32_load8_u(m, (u64)(w2c_i0) + 8u);
-  w2c_p3 = w2c_i0;
-  w2c_i1 = 255u;
-  w2c_i0 &= w2c_i1;
-  w2c_i1 = 1u;
-  w2c_i0 = w2c_i0 != w2c_i1;
-  if (w2c_i0) {goto w2c_B6;}
+  w2c_j0 = i64_load8_u(m, (u64)(w2c_i0) + 24u);
+  w2c_l9 = w2c_j0;
   w2c_j0 = 0ull;
   w2c_l6 = w2c_j0;
+  w2c_j0 = w2c_p5;
+  w2c_i0 = (u32)(w2c_j0);
+  w2c_j1 = 0ull;
+  i64_store(m, (u64)(w2c_i0) + 24, w2c_j1);
+  w2c_j0 = w2c_p5;
+  w2c_i0 = (u32)(w2c_j0);
+  w2c_j1 = 0ull;
+  i64_store(m, (u64)(w2c_i0) + 16, w2c_j1);
+  w2c_j0 = w2c_p5;
+  w2c_i0 = (u32)(w2c_j0);
+  w2c_j1 = 0ull;
+  i64_store(m, (u64)(w2c_i0) + 8, w2c_j1);
+  w2c_j0 = w2c_p5;
+  w2c_i0 = (u32)(w2c_j0);
+  w2c_j1 = 0ull;
+  i64_store(m, (u64)(w2c_i0), w2c_j1);
+  w2c_i0 = 1u;
+  w2c_p3 = w2c_i0;
+  w2c_j0 = w2c_l9;
+  w2c_i0 = (u32)(w2c_j0);
+  switch (w2c_i0) {
+    case 0: goto w2c_B0;
+    case 1: goto w2c_B8;
+    case 2: goto w2c_B1;
+    case 3: goto w2c_B7;
+    default: goto w2c_B0;
+  }
+  w2c_B8:;
+  w2c_j0 = w2c_p5;
+  w2c_i0 = (u32)(w2c_j0);
+  w2c_j1 = w2c_l8;
+  i64_store(m, (u64)(w2c_i0) + 16, w2c_j1);
   w2c_j0 = w2c_l8;
-  w2c_l9 = w2c_j0;
+  w2c_j1 = 16ull;
+  w2c_i0 = w2c_j0 < w2c_j1;
+  if (w2c_i0) {goto w2c_B9;}
+  w2c_j0 = w2c_l7;
+  w2c_j1 = w2c_p0;
+  w2c_j2 = w2c_p1;
+  w2c_j3 = w2c_l8;
+  w2c_f14(m, w2c_j0, w2c_j1, w2c_j2, w2c_j3);
+  w2c_j0 = w2c_l7;
+  w2c_i0 = (u32)(w2c_j0);
+  w2c_j0 = i64_load(m, (u64)(w2c_i0) + 8u);
+  w2c_l8 = w2c_j0;
+  w2c_j0 = w2c_l7;
+  w2c_i0 = (u32)(w2c_j0);
+  w2c_j0 = i64_load(m, (u64)(w2c_i0));
+  w2c_l6 = w2c_j0;
+  w2c_B9:;
   w2c_j0 = w2c_l8;
   w2c_j1 = 3ull;
   w2c_i0 = w2c_j0 < w2c_j1;
-  if (w2c_i0) {goto w2c_B7;}
-  w2c_j0 = 0ull;
-  w2c_l6 = w2c_j0;
-  w2c_j0 = w2c_l8;
-  w2c_l9 = w2c_j0;
-  w2c_L8:
+  if (w2c_i0) {goto w2c_B10;}
+  w2c_L11:
     w2c_j0 = w2c_p1;
     w2c_j1 = w2c_l6;
     w2c_j0 -= w2c_j1;
     w2c_j1 = 8ull;
     w2c_i0 = w2c_j0 < w2c_j1;
-    if (w2c_i0) {goto w2c_B7;}
+    if (w2c_i0) {goto w2c_B10;}
     w2c_j0 = w2c_p0;
     w2c_j1 = w2c_l6;
     w2c_j0 += w2c_j1;
     w2c_i0 = (u32)(w2c_j0);
     w2c_j0 = i64_load(m, (u64)(w2c_i0));
-    w2c_l10 = w2c_j0;
+    w2c_l9 = w2c_j0;
     w2c_j1 = 67553998437089520ull;
     w2c_j0 &= w2c_j1;
     w2c_j1 = 63050398541283552ull;
     w2c_i0 = w2c_j0 != w2c_j1;
-    if (w2c_i0) {goto w2c_B10;}
-    w2c_j0 = w2c_l9;
+    if (w2c_i0) {goto w2c_B13;}
+    w2c_j0 = w2c_l8;
     w2c_j1 = 18446744073709551613ull;
     w2c_j0 += w2c_j1;
-    w2c_l9 = w2c_j0;
+    w2c_l8 = w2c_j0;
     w2c_j0 = w2c_l6;
     w2c_j1 = 9ull;
     w2c_j0 += w2c_j1;
     w2c_l6 = w2c_j0;
-    goto w2c_B9;
-    w2c_B10:;
-    w2c_j0 = w2c_l9;
+    goto w2c_B12;
+    w2c_B13:;
+    w2c_j0 = w2c_l8;
     w2c_j1 = 8ull;
     w2c_i0 = w2c_j0 < w2c_j1;
-    if (w2c_i0) {goto w2c_B7;}
-    w2c_j0 = w2c_l10;
+    if (w2c_i0) {goto w2c_B10;}
+    w2c_j0 = w2c_l9;
     w2c_j1 = 9259542123273814144ull;
     w2c_j0 &= w2c_j1;
     w2c_j1 = 0ull;
     w2c_i0 = w2c_j0 != w2c_j1;
-    if (w2c_i0) {goto w2c_B7;}
-    w2c_j0 = w2c_l9;
+    if (w2c_i0) {goto w2c_B10;}
+    w2c_j0 = w2c_l8;
     w2c_j1 = 18446744073709551608ull;
     w2c_j0 += w2c_j1;
-    w2c_l9 = w2c_j0;
+    w2c_l8 = w2c_j0;
     w2c_j0 = w2c_l6;
     w2c_j1 = 8ull;
     w2c_j0 += w2c_j1;
     w2c_l6 = w2c_j0;
-    w2c_B9:;
-    w2c_j0 = w2c_l9;
+    w2c_B12:;
+    w2c_j0 = w2c_l8;
     w2c_j1 = 2ull;
     w2c_i0 = w2c_j0 > w2c_j1;
-    if (w2c_i0) {goto w2c_L8;}
-  w2c_B7:;
+    if (w2c_i0) {goto w2c_L11;}
+  w2c_B10:;
+  w2c_j0 = w2c_l8;
+  w2c_i0 = !(w2c_j0);
+  if (w2c_i0) {goto w2c_B14;}
   w2c_j0 = w2c_p1;
   w2c_j1 = w2c_l6;
   w2c_i0 = w2c_j0 <= w2c_j1;
-  if (w2c_i0) {goto w2c_B11;}
-  w2c_j0 = w2c_l9;
-  w2c_i0 = !(w2c_j0);
-  if (w2c_i0) {goto w2c_B11;}
-  w2c_j0 = w2c_l9;
+  if (w2c_i0) {goto w2c_B14;}
+  w2c_j0 = w2c_l8;
   w2c_j1 = 18446744073709551615ull;
   w2c_j0 += w2c_j1;
-  w2c_l9 = w2c_j0;
-  w2c_L12:
+  w2c_l8 = w2c_j0;
+  w2c_L15:
     w2c_j0 = w2c_p0;
     w2c_j1 = w2c_l6;
     w2c_j0 += w2c_j1;
@@ -40639,77 +41224,44 @@ static u32 w2c_f50(module *m, u64 w2c_p0, u64 w2c_p1, u32 w2c_p2, u32 w2c_p3, u3
     w2c_j1 = w2c_l6;
     w2c_j0 += w2c_j1;
     w2c_l6 = w2c_j0;
-    w2c_j0 = w2c_l9;
+    w2c_j0 = w2c_l8;
     w2c_i0 = !(w2c_j0);
-    if (w2c_i0) {goto w2c_B11;}
-    w2c_j0 = w2c_l9;
+    if (w2c_i0) {goto w2c_B14;}
+    w2c_j0 = w2c_l8;
     w2c_j1 = 18446744073709551615ull;
     w2c_j0 += w2c_j1;
-    w2c_l9 = w2c_j0;
+    w2c_l8 = w2c_j0;
     w2c_j0 = w2c_p1;
     w2c_j1 = w2c_l6;
     w2c_i0 = w2c_j0 > w2c_j1;
-    if (w2c_i0) {goto w2c_L12;}
-  w2c_B11:;
-  w2c_j0 = w2c_p5;
-  w2c_i0 = (u32)(w2c_j0);
-  w2c_j1 = 0ull;
-  i64_store(m, (u64)(w2c_i0) + 8, w2c_j1);
-  w2c_j0 = w2c_p5;
-  w2c_i0 = (u32)(w2c_j0);
-  w2c_j1 = 0ull;
-  i64_store(m, (u64)(w2c_i0), w2c_j1);
+    if (w2c_i0) {goto w2c_L15;}
+  w2c_B14:;
   w2c_j0 = w2c_p5;
   w2c_i0 = (u32)(w2c_j0);
   w2c_j1 = w2c_l6;
   i64_store(m, (u64)(w2c_i0) + 24, w2c_j1);
-  w2c_j0 = w2c_p5;
-  w2c_i0 = (u32)(w2c_j0);
-  w2c_j1 = w2c_l8;
-  i64_store(m, (u64)(w2c_i0) + 16, w2c_j1);
   w2c_i0 = 2u;
   w2c_p3 = w2c_i0;
-  goto w2c_B3;
-  w2c_B6:;
-  w2c_j0 = w2c_p5;
-  w2c_i0 = (u32)(w2c_j0);
-  w2c_j1 = 0ull;
-  i64_store(m, (u64)(w2c_i0) + 24, w2c_j1);
-  w2c_j0 = w2c_p5;
-  w2c_i0 = (u32)(w2c_j0);
-  w2c_j1 = 0ull;
-  i64_store(m, (u64)(w2c_i0) + 16, w2c_j1);
-  w2c_j0 = w2c_p5;
-  w2c_i0 = (u32)(w2c_j0);
-  w2c_j1 = 0ull;
-  i64_store(m, (u64)(w2c_i0) + 8, w2c_j1);
-  w2c_j0 = w2c_p5;
-  w2c_i0 = (u32)(w2c_j0);
-  w2c_j1 = 0ull;
-  i64_store(m, (u64)(w2c_i0), w2c_j1);
-  w2c_i0 = w2c_p3;
-  w2c_j0 = (u64)(w2c_i0);
-  w2c_j1 = 255ull;
-  w2c_j0 &= w2c_j1;
-  w2c_j1 = 2ull;
-  w2c_j0 <<= (w2c_j1 & 63);
-  w2c_i0 = (u32)(w2c_j0);
-  w2c_i0 = i32_load(m, (u64)(w2c_i0) + 69624u);
+  goto w2c_B0;
+  w2c_B7:;
+  w2c_i0 = 4u;
   w2c_p3 = w2c_i0;
-  w2c_B3:;
+  goto w2c_B0;
+  w2c_B2:;
+  UNREACHABLE;
+  w2c_B1:;
+  w2c_i0 = 3u;
+  w2c_p3 = w2c_i0;
+  w2c_B0:;
   w2c_j0 = w2c_l7;
-  w2c_j1 = 32ull;
+  w2c_j1 = 48ull;
   w2c_j0 += w2c_j1;
   m->w2c_g0 = w2c_j0;
   w2c_i0 = w2c_p3;
-  goto w2c_Bfunc;
-  w2c_B0:;
-  UNREACHABLE;
-  w2c_Bfunc:;
   return w2c_i0;
 }
 
-static u32 w2c_f51(module *m, u64 w2c_p0, u64 w2c_p1, u32 w2c_p2, u64 w2c_p3) {
+static u32 w2c_f53(module *m, u64 w2c_p0, u64 w2c_p1, u32 w2c_p2, u64 w2c_p3) {
   u32 w2c_l5 = 0, w2c_l6 = 0;
   u64 w2c_l4 = 0;
   u32 w2c_i0, w2c_i1, w2c_i2, w2c_i3, w2c_i4;
@@ -40730,7 +41282,7 @@ static u32 w2c_f51(module *m, u64 w2c_p0, u64 w2c_p1, u32 w2c_p2, u64 w2c_p3) {
   w2c_i1 = w2c_p2;
   w2c_j2 = w2c_p0;
   w2c_j3 = w2c_p1;
-  w2c_f52(m, w2c_j0, w2c_i1, w2c_j2, w2c_j3);
+  w2c_f54(m, w2c_j0, w2c_i1, w2c_j2, w2c_j3);
   w2c_j0 = w2c_l4;
   w2c_i0 = (u32)(w2c_j0);
   w2c_i0 = i32_load8_u(m, (u64)(w2c_i0) + 9u);
@@ -40751,7 +41303,7 @@ static u32 w2c_f51(module *m, u64 w2c_p0, u64 w2c_p1, u32 w2c_p2, u64 w2c_p3) {
   w2c_i3 = w2c_l6;
   w2c_i4 = w2c_l5;
   w2c_j5 = w2c_p3;
-  w2c_i0 = w2c_f48(m, w2c_j0, w2c_j1, w2c_i2, w2c_i3, w2c_i4, w2c_j5);
+  w2c_i0 = w2c_f50(m, w2c_j0, w2c_j1, w2c_i2, w2c_i3, w2c_i4, w2c_j5);
   w2c_p2 = w2c_i0;
   goto w2c_B1;
   w2c_B2:;
@@ -40761,7 +41313,7 @@ static u32 w2c_f51(module *m, u64 w2c_p0, u64 w2c_p1, u32 w2c_p2, u64 w2c_p3) {
   w2c_i3 = w2c_l6;
   w2c_i4 = w2c_l5;
   w2c_j5 = w2c_p3;
-  w2c_i0 = w2c_f50(m, w2c_j0, w2c_j1, w2c_i2, w2c_i3, w2c_i4, w2c_j5);
+  w2c_i0 = w2c_f52(m, w2c_j0, w2c_j1, w2c_i2, w2c_i3, w2c_i4, w2c_j5);
   w2c_p2 = w2c_i0;
   w2c_B1:;
   w2c_j0 = w2c_l4;
@@ -40776,7 +41328,7 @@ static u32 w2c_f51(module *m, u64 w2c_p0, u64 w2c_p1, u32 w2c_p2, u64 w2c_p3) {
   return w2c_i0;
 }
 
-static void w2c_f52(module *m, u64 w2c_p0, u32 w2c_p1, u64 w2c_p2, u64 w2c_p3) {
+static void w2c_f54(module *m, u64 w2c_p0, u32 w2c_p1, u64 w2c_p2, u64 w2c_p3) {
   u32 w2c_l7 = 0, w2c_l8 = 0, w2c_l9 = 0, w2c_l10 = 0;
   u64 w2c_l4 = 0, w2c_l5 = 0, w2c_l6 = 0;
   u32 w2c_i0, w2c_i1, w2c_i2, w2c_i3;
@@ -41213,7 +41765,7 @@ static void w2c_f52(module *m, u64 w2c_p0, u32 w2c_p1, u64 w2c_p2, u64 w2c_p3) {
     w2c_j1 = 8ull;
     w2c_j0 += w2c_j1;
     w2c_i1 = w2c_p1;
-    w2c_f19(m, w2c_j0, w2c_i1);
+    w2c_f21(m, w2c_j0, w2c_i1);
     w2c_j0 = w2c_l5;
     w2c_i0 = (u32)(w2c_j0);
     w2c_i0 = i32_load8_u(m, (u64)(w2c_i0) + 8u);
@@ -41304,9 +41856,9 @@ static void w2c_f52(module *m, u64 w2c_p0, u32 w2c_p1, u64 w2c_p2, u64 w2c_p3) {
   m->w2c_g0 = w2c_j0;
 }
 
-static u32 w2c_f53(module *m, u64 w2c_p0, u64 w2c_p1, u32 w2c_p2, u32 w2c_p3, u64 w2c_p4) {
-  u32 w2c_l10 = 0, w2c_l11 = 0, w2c_l12 = 0, w2c_l13 = 0;
-  u64 w2c_l5 = 0, w2c_l6 = 0, w2c_l7 = 0, w2c_l8 = 0, w2c_l9 = 0;
+static u32 w2c_f55(module *m, u64 w2c_p0, u64 w2c_p1, u32 w2c_p2, u32 w2c_p3, u64 w2c_p4) {
+  u32 w2c_l12 = 0, w2c_l13 = 0;
+  u64 w2c_l5 = 0, w2c_l6 = 0, w2c_l7 = 0, w2c_l8 = 0, w2c_l9 = 0, w2c_l10 = 0, w2c_l11 = 0;
   u32 w2c_i0, w2c_i1, w2c_i2, w2c_i3, w2c_i4;
   u64 w2c_j0, w2c_j1, w2c_j2, w2c_j3, w2c_j5;
   w2c_j0 = m->w2c_g0;
@@ -41316,60 +41868,102 @@ static u32 w2c_f53(module *m, u64 w2c_p0, u64 w2c_p1, u32 w2c_p2, u32 w2c_p3, u6
   if (w2c_i0) {goto w2c_B0;}
   w2c_j0 = w2c_p1;
   w2c_i0 = !(w2c_j0);
-  if (w2c_i0) {goto w2c_B5;}
+  if (w2c_i0) {goto w2c_B1;}
   w2c_j0 = w2c_p0;
   w2c_l6 = w2c_j0;
   w2c_j0 = w2c_p1;
   w2c_l7 = w2c_j0;
-  w2c_L6:
+  w2c_L2:
     w2c_j0 = w2c_l7;
     w2c_j1 = 4ull;
     w2c_i0 = w2c_j0 < w2c_j1;
-    if (w2c_i0) {goto w2c_B10;}
+    if (w2c_i0) {goto w2c_B4;}
     w2c_j0 = w2c_l6;
     w2c_i0 = (u32)(w2c_j0);
     w2c_i0 = i32_load(m, (u64)(w2c_i0));
-    w2c_l10 = w2c_i0;
-    w2c_i1 = 16776989u;
+    w2c_l12 = w2c_i0;
+    goto w2c_B3;
+    w2c_B4:;
+    w2c_j0 = w2c_l7;
+    w2c_j1 = 18446744073709551615ull;
+    w2c_j0 += w2c_j1;
+    w2c_l8 = w2c_j0;
+    w2c_j1 = 2ull;
+    w2c_i0 = w2c_j0 > w2c_j1;
+    if (w2c_i0) {goto w2c_B6;}
+    w2c_j0 = w2c_l8;
+    w2c_i0 = (u32)(w2c_j0);
+    switch (w2c_i0) {
+      case 0: goto w2c_B7;
+      case 1: goto w2c_B6;
+      case 2: goto w2c_B5;
+      default: goto w2c_B7;
+    }
+    w2c_B7:;
+    w2c_j0 = w2c_l6;
+    w2c_i0 = (u32)(w2c_j0);
+    w2c_i0 = i32_load8_u(m, (u64)(w2c_i0));
+    w2c_l12 = w2c_i0;
+    goto w2c_B3;
+    w2c_B6:;
+    w2c_j0 = w2c_l6;
+    w2c_i0 = (u32)(w2c_j0);
+    w2c_i0 = i32_load16_u(m, (u64)(w2c_i0));
+    w2c_l12 = w2c_i0;
+    goto w2c_B3;
+    w2c_B5:;
+    w2c_j0 = w2c_l6;
+    w2c_i0 = (u32)(w2c_j0);
+    w2c_i0 = i32_load16_u(m, (u64)(w2c_i0));
+    w2c_j1 = w2c_l6;
+    w2c_j2 = 2ull;
+    w2c_j1 += w2c_j2;
+    w2c_i1 = (u32)(w2c_j1);
+    w2c_i1 = i32_load8_u(m, (u64)(w2c_i1));
+    w2c_i2 = 16u;
+    w2c_i1 <<= (w2c_i2 & 31);
+    w2c_i0 |= w2c_i1;
+    w2c_l12 = w2c_i0;
+    w2c_B3:;
+    w2c_j0 = 3ull;
+    w2c_l8 = w2c_j0;
+    w2c_i0 = w2c_l12;
+    w2c_i1 = 16776990u;
     w2c_i0 += w2c_i1;
     w2c_i1 = 12632312u;
     w2c_i0 &= w2c_i1;
     w2c_i1 = 8421376u;
-    w2c_i0 = w2c_i0 != w2c_i1;
-    if (w2c_i0) {goto w2c_B11;}
-    w2c_j0 = 3ull;
-    w2c_l8 = w2c_j0;
-    goto w2c_B7;
-    w2c_B11:;
-    w2c_i0 = w2c_l10;
+    w2c_i0 = w2c_i0 == w2c_i1;
+    if (w2c_i0) {goto w2c_B8;}
+    w2c_i0 = w2c_l12;
     w2c_i1 = 2155905152u;
     w2c_i0 &= w2c_i1;
     w2c_i0 = !(w2c_i0);
-    if (w2c_i0) {goto w2c_B12;}
-    w2c_i0 = w2c_l10;
+    if (w2c_i0) {goto w2c_B11;}
+    w2c_i0 = w2c_l12;
     w2c_i1 = 128u;
     w2c_i0 &= w2c_i1;
-    if (w2c_i0) {goto w2c_B9;}
+    if (w2c_i0) {goto w2c_B10;}
     w2c_j0 = 1ull;
     w2c_j1 = 2ull;
     w2c_j2 = 3ull;
-    w2c_i3 = w2c_l10;
+    w2c_i3 = w2c_l12;
     w2c_i4 = 8388608u;
     w2c_i3 &= w2c_i4;
     w2c_j1 = w2c_i3 ? w2c_j1 : w2c_j2;
-    w2c_i2 = w2c_l10;
+    w2c_i2 = w2c_l12;
     w2c_i3 = 32768u;
     w2c_i2 &= w2c_i3;
     w2c_j0 = w2c_i2 ? w2c_j0 : w2c_j1;
-    w2c_l8 = w2c_j0;
-    goto w2c_B7;
-    w2c_B12:;
+    w2c_l9 = w2c_j0;
+    goto w2c_B9;
+    w2c_B11:;
     w2c_j0 = 4ull;
-    w2c_l8 = w2c_j0;
+    w2c_l9 = w2c_j0;
     w2c_j0 = w2c_l7;
     w2c_j1 = 8ull;
     w2c_i0 = w2c_j0 < w2c_j1;
-    if (w2c_i0) {goto w2c_B7;}
+    if (w2c_i0) {goto w2c_B9;}
     w2c_j0 = w2c_l6;
     w2c_i0 = (u32)(w2c_j0);
     w2c_j0 = i64_load(m, (u64)(w2c_i0));
@@ -41377,233 +41971,160 @@ static u32 w2c_f53(module *m, u64 w2c_p0, u64 w2c_p1, u32 w2c_p2, u32 w2c_p3, u6
     w2c_j0 &= w2c_j1;
     w2c_j1 = 0ull;
     w2c_i0 = w2c_j0 != w2c_j1;
-    if (w2c_i0) {goto w2c_B7;}
+    if (w2c_i0) {goto w2c_B9;}
     w2c_j0 = w2c_l7;
-    w2c_j1 = 16ull;
+    w2c_j1 = 24ull;
     w2c_i0 = w2c_j0 >= w2c_j1;
-    if (w2c_i0) {goto w2c_B13;}
+    if (w2c_i0) {goto w2c_B12;}
     w2c_j0 = 8ull;
     w2c_l8 = w2c_j0;
-    goto w2c_B7;
-    w2c_B13:;
-    w2c_j0 = 16ull;
-    w2c_j1 = 8ull;
-    w2c_j2 = w2c_l6;
-    w2c_j3 = 8ull;
-    w2c_j2 += w2c_j3;
-    w2c_i2 = (u32)(w2c_j2);
-    w2c_j2 = i64_load(m, (u64)(w2c_i2));
-    w2c_j3 = 9259542123273814144ull;
-    w2c_j2 &= w2c_j3;
-    w2c_i2 = !(w2c_j2);
-    w2c_j0 = w2c_i2 ? w2c_j0 : w2c_j1;
-    w2c_l8 = w2c_j0;
-    goto w2c_B7;
-    w2c_B10:;
-    w2c_j0 = w2c_l6;
-    w2c_i0 = (u32)(w2c_j0);
-    w2c_i0 = i32_load8_u(m, (u64)(w2c_i0));
-    w2c_l11 = w2c_i0;
-    w2c_i0 = (u32)(s32)(s8)(u8)(w2c_i0);
-    w2c_l10 = w2c_i0;
-    w2c_i1 = 4294967295u;
-    w2c_i0 = (u32)((s32)w2c_i0 <= (s32)w2c_i1);
-    if (w2c_i0) {goto w2c_B14;}
-    w2c_j0 = 1ull;
-    w2c_l8 = w2c_j0;
-    goto w2c_B7;
-    w2c_B14:;
+    goto w2c_B8;
+    w2c_B12:;
     w2c_j0 = w2c_l7;
-    w2c_j1 = 18446744073709551615ull;
+    w2c_j1 = 18446744073709551600ull;
     w2c_j0 += w2c_j1;
+    w2c_l10 = w2c_j0;
+    w2c_j0 = 8ull;
     w2c_l8 = w2c_j0;
-    w2c_j1 = 2ull;
-    w2c_i0 = w2c_j0 > w2c_j1;
-    if (w2c_i0) {goto w2c_B15;}
-    w2c_i0 = 0u;
-    w2c_l12 = w2c_i0;
-    w2c_i0 = 0u;
-    w2c_l13 = w2c_i0;
+    w2c_L14:
+      w2c_j0 = w2c_l10;
+      w2c_j1 = 8ull;
+      w2c_i0 = w2c_j0 < w2c_j1;
+      if (w2c_i0) {goto w2c_B13;}
+      w2c_j0 = w2c_l6;
+      w2c_j1 = w2c_l8;
+      w2c_j0 += w2c_j1;
+      w2c_l11 = w2c_j0;
+      w2c_j1 = 8ull;
+      w2c_j0 += w2c_j1;
+      w2c_i0 = (u32)(w2c_j0);
+      w2c_j0 = i64_load(m, (u64)(w2c_i0));
+      w2c_j1 = w2c_l11;
+      w2c_i1 = (u32)(w2c_j1);
+      w2c_j1 = i64_load(m, (u64)(w2c_i1));
+      w2c_j0 |= w2c_j1;
+      w2c_j1 = 9259542123273814144ull;
+      w2c_j0 &= w2c_j1;
+      w2c_j1 = 0ull;
+      w2c_i0 = w2c_j0 != w2c_j1;
+      if (w2c_i0) {goto w2c_B13;}
+      w2c_j0 = w2c_l8;
+      w2c_j1 = 16ull;
+      w2c_j0 += w2c_j1;
+      w2c_l8 = w2c_j0;
+      w2c_j0 = w2c_l10;
+      w2c_j1 = 18446744073709551608ull;
+      w2c_j0 += w2c_j1;
+      w2c_l11 = w2c_j0;
+      w2c_j0 = w2c_l10;
+      w2c_j1 = 18446744073709551600ull;
+      w2c_j0 += w2c_j1;
+      w2c_l10 = w2c_j0;
+      w2c_j0 = w2c_l11;
+      w2c_j1 = 15ull;
+      w2c_i0 = w2c_j0 > w2c_j1;
+      if (w2c_i0) {goto w2c_L14;}
+    w2c_B13:;
     w2c_j0 = w2c_l8;
-    w2c_i0 = (u32)(w2c_j0);
-    switch (w2c_i0) {
-      case 0: goto w2c_B8;
-      case 1: goto w2c_B15;
-      case 2: goto w2c_B16;
-      default: goto w2c_B8;
-    }
-    w2c_B16:;
-    w2c_j0 = w2c_l6;
-    w2c_j1 = 1ull;
-    w2c_j0 += w2c_j1;
-    w2c_l8 = w2c_j0;
-    w2c_i0 = (u32)(w2c_j0);
-    w2c_i0 = i32_load8_u(m, (u64)(w2c_i0));
-    w2c_i1 = 8u;
-    w2c_i0 <<= (w2c_i1 & 31);
-    w2c_i1 = w2c_l11;
-    w2c_i0 |= w2c_i1;
-    w2c_j1 = w2c_l6;
-    w2c_j2 = 2ull;
-    w2c_j1 += w2c_j2;
-    w2c_l9 = w2c_j1;
-    w2c_i1 = (u32)(w2c_j1);
-    w2c_i1 = i32_load8_u(m, (u64)(w2c_i1));
-    w2c_i2 = 16u;
-    w2c_i1 <<= (w2c_i2 & 31);
-    w2c_i0 |= w2c_i1;
-    w2c_i1 = 16776989u;
-    w2c_i0 += w2c_i1;
-    w2c_i1 = 12632312u;
+    w2c_i0 = !(w2c_j0);
+    if (w2c_i0) {goto w2c_B9;}
+    goto w2c_B8;
+    w2c_B10:;
+    w2c_i0 = w2c_l12;
+    w2c_i1 = 224u;
     w2c_i0 &= w2c_i1;
-    w2c_i1 = 8421376u;
+    w2c_i1 = 224u;
+    w2c_i0 = w2c_i0 == w2c_i1;
+    if (w2c_i0) {goto w2c_B16;}
+    w2c_i0 = w2c_l12;
+    w2c_i1 = 49376u;
+    w2c_i0 &= w2c_i1;
+    w2c_i1 = 32960u;
     w2c_i0 = w2c_i0 != w2c_i1;
-    if (w2c_i0) {goto w2c_B17;}
-    w2c_j0 = 3ull;
-    w2c_l8 = w2c_j0;
-    goto w2c_B7;
-    w2c_B17:;
-    w2c_j0 = w2c_l9;
-    w2c_i0 = (u32)(w2c_j0);
-    w2c_i0 = i32_load8_s(m, (u64)(w2c_i0));
-    w2c_i1 = 4294967232u;
-    w2c_i0 = (u32)((s32)w2c_i0 < (s32)w2c_i1);
-    w2c_l12 = w2c_i0;
-    w2c_j0 = w2c_l8;
-    w2c_i0 = (u32)(w2c_j0);
-    w2c_i0 = i32_load8_u(m, (u64)(w2c_i0));
-    w2c_l13 = w2c_i0;
-    goto w2c_B8;
-    w2c_B15:;
-    w2c_j0 = w2c_l6;
-    w2c_j1 = 1ull;
-    w2c_j0 += w2c_j1;
-    w2c_i0 = (u32)(w2c_j0);
-    w2c_i0 = i32_load8_u(m, (u64)(w2c_i0));
-    w2c_l13 = w2c_i0;
-    w2c_i0 = 0u;
-    w2c_l12 = w2c_i0;
-    goto w2c_B8;
-    w2c_B9:;
-    w2c_j0 = 1ull;
-    w2c_l8 = w2c_j0;
-    w2c_i0 = w2c_l10;
-    w2c_i0 = (u32)(s32)(s8)(u8)(w2c_i0);
-    w2c_l10 = w2c_i0;
-    w2c_i1 = 4294967295u;
-    w2c_i0 = (u32)((s32)w2c_i0 > (s32)w2c_i1);
-    if (w2c_i0) {goto w2c_B7;}
-    w2c_j0 = w2c_l6;
-    w2c_j1 = 2ull;
-    w2c_j0 += w2c_j1;
-    w2c_i0 = (u32)(w2c_j0);
-    w2c_i0 = i32_load8_s(m, (u64)(w2c_i0));
-    w2c_i1 = 4294967232u;
-    w2c_i0 = (u32)((s32)w2c_i0 < (s32)w2c_i1);
-    w2c_l12 = w2c_i0;
-    w2c_j0 = w2c_l6;
-    w2c_j1 = 1ull;
-    w2c_j0 += w2c_j1;
-    w2c_i0 = (u32)(w2c_j0);
-    w2c_i0 = i32_load8_u(m, (u64)(w2c_i0));
-    w2c_l13 = w2c_i0;
-    w2c_B8:;
-    w2c_i0 = w2c_l10;
-    w2c_i1 = 4294967263u;
-    w2c_i0 = w2c_i0 > w2c_i1;
-    if (w2c_i0) {goto w2c_B18;}
-    w2c_i0 = w2c_l10;
-    w2c_i1 = 4294967234u;
-    w2c_i0 = w2c_i0 < w2c_i1;
-    if (w2c_i0) {goto w2c_B4;}
-    w2c_i0 = w2c_l13;
-    w2c_i0 = (u32)(s32)(s8)(u8)(w2c_i0);
-    w2c_i1 = 4294967232u;
-    w2c_i0 = (u32)((s32)w2c_i0 >= (s32)w2c_i1);
-    if (w2c_i0) {goto w2c_B4;}
+    if (w2c_i0) {goto w2c_B15;}
+    w2c_i0 = w2c_l12;
+    w2c_i1 = 222u;
+    w2c_i0 &= w2c_i1;
+    w2c_i1 = 193u;
+    w2c_i0 = w2c_i0 <= w2c_i1;
+    if (w2c_i0) {goto w2c_B15;}
     w2c_j0 = 2ull;
     w2c_l8 = w2c_j0;
-    goto w2c_B7;
-    w2c_B18:;
-    w2c_i0 = w2c_l10;
-    w2c_i1 = 4294967279u;
-    w2c_i0 = w2c_i0 > w2c_i1;
-    if (w2c_i0) {goto w2c_B19;}
-    w2c_i0 = w2c_l13;
-    w2c_i0 = (u32)(s32)(s8)(u8)(w2c_i0);
-    w2c_i1 = 4294967231u;
-    w2c_i0 = (u32)((s32)w2c_i0 > (s32)w2c_i1);
-    w2c_i1 = w2c_l12;
-    w2c_i2 = 1u;
-    w2c_i1 ^= w2c_i2;
-    w2c_i0 |= w2c_i1;
-    if (w2c_i0) {goto w2c_B4;}
-    w2c_i0 = w2c_l10;
-    w2c_i1 = 255u;
-    w2c_i0 &= w2c_i1;
-    w2c_i1 = 6u;
-    w2c_i0 <<= (w2c_i1 & 31);
-    w2c_i1 = w2c_l13;
-    w2c_i2 = 255u;
-    w2c_i1 &= w2c_i2;
-    w2c_i0 += w2c_i1;
-    w2c_l10 = w2c_i0;
-    w2c_i1 = 14496u;
-    w2c_i0 = w2c_i0 < w2c_i1;
-    if (w2c_i0) {goto w2c_B4;}
-    w2c_i0 = w2c_l10;
-    w2c_i1 = 32736u;
-    w2c_i0 &= w2c_i1;
-    w2c_i1 = 15328u;
-    w2c_i0 = w2c_i0 == w2c_i1;
-    if (w2c_i0) {goto w2c_B4;}
-    w2c_j0 = 3ull;
-    w2c_l8 = w2c_j0;
-    goto w2c_B7;
-    w2c_B19:;
-    w2c_j0 = 4ull;
-    w2c_l8 = w2c_j0;
-    w2c_i0 = 0u;
-    w2c_l11 = w2c_i0;
-    w2c_j0 = w2c_l7;
-    w2c_j1 = 4ull;
-    w2c_i0 = w2c_j0 < w2c_j1;
-    if (w2c_i0) {goto w2c_B20;}
-    w2c_j0 = w2c_l6;
-    w2c_j1 = 3ull;
-    w2c_j0 += w2c_j1;
-    w2c_i0 = (u32)(w2c_j0);
-    w2c_i0 = i32_load8_s(m, (u64)(w2c_i0));
-    w2c_i1 = 4294967232u;
-    w2c_i0 = (u32)((s32)w2c_i0 < (s32)w2c_i1);
-    w2c_l11 = w2c_i0;
-    w2c_B20:;
+    goto w2c_B8;
+    w2c_B16:;
     w2c_i0 = w2c_l12;
-    w2c_i1 = w2c_l13;
-    w2c_i1 = (u32)(s32)(s8)(u8)(w2c_i1);
-    w2c_i2 = 4294967232u;
-    w2c_i1 = (u32)((s32)w2c_i1 < (s32)w2c_i2);
-    w2c_i2 = w2c_l11;
-    w2c_i1 &= w2c_i2;
+    w2c_i1 = 12632304u;
     w2c_i0 &= w2c_i1;
-    w2c_i1 = 1u;
+    w2c_i1 = 8421600u;
     w2c_i0 = w2c_i0 != w2c_i1;
-    if (w2c_i0) {goto w2c_B4;}
-    w2c_i0 = w2c_l10;
-    w2c_i1 = 255u;
+    if (w2c_i0) {goto w2c_B17;}
+    w2c_i0 = w2c_l12;
+    w2c_i1 = 8431u;
     w2c_i0 &= w2c_i1;
-    w2c_i1 = 6u;
-    w2c_i0 <<= (w2c_i1 & 31);
-    w2c_i1 = w2c_l13;
-    w2c_i2 = 255u;
+    w2c_l13 = w2c_i0;
+    w2c_i1 = 8429u;
+    w2c_i0 = w2c_i0 == w2c_i1;
+    if (w2c_i0) {goto w2c_B17;}
+    w2c_i0 = w2c_l13;
+    w2c_i1 = 224u;
+    w2c_i0 = w2c_i0 != w2c_i1;
+    if (w2c_i0) {goto w2c_B8;}
+    w2c_B17:;
+    w2c_i0 = w2c_l12;
+    w2c_i1 = 3233857536u;
+    w2c_i0 &= w2c_i1;
+    w2c_i1 = 2155905024u;
+    w2c_i0 = w2c_i0 != w2c_i1;
+    if (w2c_i0) {goto w2c_B15;}
+    w2c_i0 = w2c_l12;
+    w2c_i1 = 8u;
+    w2c_i0 >>= (w2c_i1 & 31);
+    w2c_i1 = 240u;
+    w2c_i0 &= w2c_i1;
+    w2c_i1 = w2c_l12;
+    w2c_i2 = 6u;
+    w2c_i1 <<= (w2c_i2 & 31);
+    w2c_i2 = 16320u;
     w2c_i1 &= w2c_i2;
     w2c_i0 += w2c_i1;
     w2c_i1 = 4294951792u;
     w2c_i0 += w2c_i1;
-    w2c_i1 = 255u;
-    w2c_i0 = w2c_i0 > w2c_i1;
-    if (w2c_i0) {goto w2c_B4;}
-    w2c_B7:;
+    w2c_i1 = 256u;
+    w2c_i0 = w2c_i0 >= w2c_i1;
+    if (w2c_i0) {goto w2c_B15;}
+    w2c_j0 = 4ull;
+    w2c_l8 = w2c_j0;
+    goto w2c_B8;
+    w2c_B15:;
+    w2c_j0 = w2c_p4;
+    w2c_i0 = (u32)(w2c_j0);
+    w2c_j1 = 0ull;
+    i64_store(m, (u64)(w2c_i0) + 24, w2c_j1);
+    w2c_j0 = w2c_p4;
+    w2c_i0 = (u32)(w2c_j0);
+    w2c_j1 = 0ull;
+    i64_store(m, (u64)(w2c_i0) + 16, w2c_j1);
+    w2c_j0 = w2c_p4;
+    w2c_i0 = (u32)(w2c_j0);
+    w2c_j1 = 0ull;
+    i64_store(m, (u64)(w2c_i0) + 8, w2c_j1);
+    w2c_j0 = w2c_p4;
+    w2c_i0 = (u32)(w2c_j0);
+    w2c_j1 = 0ull;
+    i64_store(m, (u64)(w2c_i0), w2c_j1);
+    w2c_j0 = w2c_l5;
+    m->w2c_g0 = w2c_j0;
+    w2c_i0 = 5u;
+    goto w2c_Bfunc;
+    w2c_B9:;
+    w2c_j0 = w2c_l7;
+    w2c_j1 = w2c_l9;
+    w2c_j2 = w2c_l7;
+    w2c_j3 = w2c_l9;
+    w2c_i2 = w2c_j2 < w2c_j3;
+    w2c_j0 = w2c_i2 ? w2c_j0 : w2c_j1;
+    w2c_l8 = w2c_j0;
+    w2c_B8:;
     w2c_j0 = w2c_l6;
     w2c_j1 = w2c_l8;
     w2c_j0 += w2c_j1;
@@ -41614,57 +42135,36 @@ static u32 w2c_f53(module *m, u64 w2c_p0, u64 w2c_p1, u32 w2c_p2, u32 w2c_p3, u6
     w2c_l7 = w2c_j0;
     w2c_i0 = !(w2c_j0);
     w2c_i0 = !(w2c_i0);
-    if (w2c_i0) {goto w2c_L6;}
-  w2c_B5:;
+    if (w2c_i0) {goto w2c_L2;}
+  w2c_B1:;
   w2c_i0 = w2c_p3;
   w2c_i1 = 5u;
   w2c_i0 = w2c_i0 < w2c_i1;
-  if (w2c_i0) {goto w2c_B3;}
+  if (w2c_i0) {goto w2c_B20;}
   w2c_i0 = w2c_p2;
   w2c_i1 = 9u;
   w2c_i0 = w2c_i0 > w2c_i1;
-  if (w2c_i0) {goto w2c_B2;}
+  if (w2c_i0) {goto w2c_B19;}
   w2c_i0 = w2c_p3;
   w2c_i1 = 5u;
   w2c_i0 = w2c_i0 != w2c_i1;
-  if (w2c_i0) {goto w2c_B2;}
+  if (w2c_i0) {goto w2c_B19;}
   w2c_j0 = w2c_p0;
   w2c_j1 = w2c_p1;
   w2c_i2 = w2c_p2;
   w2c_j3 = w2c_p4;
-  w2c_i0 = w2c_f51(m, w2c_j0, w2c_j1, w2c_i2, w2c_j3);
-  w2c_l10 = w2c_i0;
+  w2c_i0 = w2c_f53(m, w2c_j0, w2c_j1, w2c_i2, w2c_j3);
+  w2c_l12 = w2c_i0;
   w2c_j0 = w2c_l5;
   m->w2c_g0 = w2c_j0;
-  w2c_i0 = w2c_l10;
+  w2c_i0 = w2c_l12;
   goto w2c_Bfunc;
-  w2c_B4:;
-  w2c_j0 = w2c_p4;
-  w2c_i0 = (u32)(w2c_j0);
-  w2c_j1 = 0ull;
-  i64_store(m, (u64)(w2c_i0) + 24, w2c_j1);
-  w2c_j0 = w2c_p4;
-  w2c_i0 = (u32)(w2c_j0);
-  w2c_j1 = 0ull;
-  i64_store(m, (u64)(w2c_i0) + 16, w2c_j1);
-  w2c_j0 = w2c_p4;
-  w2c_i0 = (u32)(w2c_j0);
-  w2c_j1 = 0ull;
-  i64_store(m, (u64)(w2c_i0) + 8, w2c_j1);
-  w2c_j0 = w2c_p4;
-  w2c_i0 = (u32)(w2c_j0);
-  w2c_j1 = 0ull;
-  i64_store(m, (u64)(w2c_i0), w2c_j1);
-  w2c_j0 = w2c_l5;
-  m->w2c_g0 = w2c_j0;
-  w2c_i0 = 5u;
-  goto w2c_Bfunc;
-  w2c_B3:;
+  w2c_B20:;
   w2c_i0 = w2c_p2;
   w2c_i1 = 10u;
   w2c_i0 = w2c_i0 < w2c_i1;
-  if (w2c_i0) {goto w2c_B1;}
-  w2c_B2:;
+  if (w2c_i0) {goto w2c_B18;}
+  w2c_B19:;
   w2c_j0 = w2c_p4;
   w2c_i0 = (u32)(w2c_j0);
   w2c_j1 = 0ull;
@@ -41685,7 +42185,7 @@ static u32 w2c_f53(module *m, u64 w2c_p0, u64 w2c_p1, u32 w2c_p2, u32 w2c_p3, u6
   m->w2c_g0 = w2c_j0;
   w2c_i0 = 8u;
   goto w2c_Bfunc;
-  w2c_B1:;
+  w2c_B18:;
   w2c_i0 = w2c_p3;
   w2c_j0 = (u64)(w2c_i0);
   w2c_j1 = 1ull;
@@ -41695,13 +42195,13 @@ static u32 w2c_f53(module *m, u64 w2c_p0, u64 w2c_p1, u32 w2c_p2, u32 w2c_p3, u6
   w2c_j0 += w2c_j1;
   w2c_i0 = (u32)(w2c_j0);
   w2c_i0 = i32_load8_u(m, (u64)(w2c_i0));
-  w2c_l10 = w2c_i0;
+  w2c_l12 = w2c_i0;
   w2c_j0 = w2c_l7;
   w2c_j1 = 68256ull;
   w2c_j0 += w2c_j1;
   w2c_i0 = (u32)(w2c_j0);
   w2c_i0 = i32_load8_u(m, (u64)(w2c_i0));
-  w2c_l11 = w2c_i0;
+  w2c_p3 = w2c_i0;
   w2c_i0 = w2c_p2;
   w2c_i1 = 5u;
   w2c_i0 = w2c_i0 < w2c_i1;
@@ -41709,27 +42209,27 @@ static u32 w2c_f53(module *m, u64 w2c_p0, u64 w2c_p1, u32 w2c_p2, u32 w2c_p3, u6
   w2c_j0 = w2c_p0;
   w2c_j1 = w2c_p1;
   w2c_i2 = w2c_p2;
-  w2c_i3 = w2c_l11;
-  w2c_i4 = w2c_l10;
+  w2c_i3 = w2c_p3;
+  w2c_i4 = w2c_l12;
   w2c_j5 = w2c_p4;
-  w2c_i0 = w2c_f48(m, w2c_j0, w2c_j1, w2c_i2, w2c_i3, w2c_i4, w2c_j5);
-  w2c_l10 = w2c_i0;
+  w2c_i0 = w2c_f50(m, w2c_j0, w2c_j1, w2c_i2, w2c_i3, w2c_i4, w2c_j5);
+  w2c_l12 = w2c_i0;
   w2c_j0 = w2c_l5;
   m->w2c_g0 = w2c_j0;
-  w2c_i0 = w2c_l10;
+  w2c_i0 = w2c_l12;
   goto w2c_Bfunc;
   w2c_B21:;
   w2c_j0 = w2c_p0;
   w2c_j1 = w2c_p1;
   w2c_i2 = w2c_p2;
-  w2c_i3 = w2c_l11;
-  w2c_i4 = w2c_l10;
+  w2c_i3 = w2c_p3;
+  w2c_i4 = w2c_l12;
   w2c_j5 = w2c_p4;
-  w2c_i0 = w2c_f50(m, w2c_j0, w2c_j1, w2c_i2, w2c_i3, w2c_i4, w2c_j5);
-  w2c_l10 = w2c_i0;
+  w2c_i0 = w2c_f52(m, w2c_j0, w2c_j1, w2c_i2, w2c_i3, w2c_i4, w2c_j5);
+  w2c_l12 = w2c_i0;
   w2c_j0 = w2c_l5;
   m->w2c_g0 = w2c_j0;
-  w2c_i0 = w2c_l10;
+  w2c_i0 = w2c_l12;
   goto w2c_Bfunc;
   w2c_B0:;
   UNREACHABLE;
@@ -41745,13 +42245,13 @@ static u32 w2c_chinese_number_version(module *m) {
   w2c_f2(m);
   UNREACHABLE;
   w2c_B0:;
-  w2c_f55(m);
+  w2c_f57(m);
   w2c_f1(m);
   w2c_i0 = 1000u;
   return w2c_i0;
 }
 
-static void w2c_f55(module *m) {
+static void w2c_f57(module *m) {
   u32 w2c_i0;
   u64 w2c_j0, w2c_j1;
   w2c_j0 = m->w2c_g0;
@@ -41778,14 +42278,14 @@ static u32 w2c_chinese_date_print(module *m, u32 w2c_p0, u32 w2c_p1, u32 w2c_p2,
   w2c_j4 = w2c_p4;
   w2c_j5 = w2c_p5;
   w2c_j6 = w2c_p6;
-  w2c_i0 = w2c_f57(m, w2c_i0, w2c_i1, w2c_i2, w2c_i3, w2c_j4, w2c_j5, w2c_j6);
+  w2c_i0 = w2c_f59(m, w2c_i0, w2c_i1, w2c_i2, w2c_i3, w2c_j4, w2c_j5, w2c_j6);
   w2c_p3 = w2c_i0;
   w2c_f1(m);
   w2c_i0 = w2c_p3;
   return w2c_i0;
 }
 
-static u32 w2c_f57(module *m, u32 w2c_p0, u32 w2c_p1, u32 w2c_p2, u32 w2c_p3, u64 w2c_p4, u64 w2c_p5, u64 w2c_p6) {
+static u32 w2c_f59(module *m, u32 w2c_p0, u32 w2c_p1, u32 w2c_p2, u32 w2c_p3, u64 w2c_p4, u64 w2c_p5, u64 w2c_p6) {
   u32 w2c_l11 = 0, w2c_l12 = 0, w2c_l13 = 0;
   u64 w2c_l7 = 0, w2c_l8 = 0, w2c_l9 = 0, w2c_l10 = 0;
   u32 w2c_i0, w2c_i1, w2c_i2, w2c_i3, w2c_i4;
@@ -42200,14 +42700,14 @@ static u32 w2c_chinese_signed_amount_print(module *m, u64 w2c_p0, u32 w2c_p1, u3
   w2c_j3 = w2c_p3;
   w2c_j4 = w2c_p4;
   w2c_j5 = w2c_p5;
-  w2c_i0 = w2c_f59(m, w2c_j0, w2c_i1, w2c_i2, w2c_j3, w2c_j4, w2c_j5);
+  w2c_i0 = w2c_f61(m, w2c_j0, w2c_i1, w2c_i2, w2c_j3, w2c_j4, w2c_j5);
   w2c_p2 = w2c_i0;
   w2c_f1(m);
   w2c_i0 = w2c_p2;
   return w2c_i0;
 }
 
-static u32 w2c_f59(module *m, u64 w2c_p0, u32 w2c_p1, u32 w2c_p2, u64 w2c_p3, u64 w2c_p4, u64 w2c_p5) {
+static u32 w2c_f61(module *m, u64 w2c_p0, u32 w2c_p1, u32 w2c_p2, u64 w2c_p3, u64 w2c_p4, u64 w2c_p5) {
   u32 w2c_l9 = 0;
   u64 w2c_l6 = 0, w2c_l7 = 0, w2c_l8 = 0;
   u32 w2c_i0, w2c_i1, w2c_i2, w2c_i3;
@@ -42426,14 +42926,14 @@ static u32 w2c_chinese_quantity_figures(module *m, u64 w2c_p0, u64 w2c_p1, u64 w
   w2c_j1 = w2c_p1;
   w2c_j2 = w2c_p2;
   w2c_j3 = w2c_p3;
-  w2c_i0 = w2c_f61(m, w2c_j0, w2c_j1, w2c_j2, w2c_j3);
+  w2c_i0 = w2c_f63(m, w2c_j0, w2c_j1, w2c_j2, w2c_j3);
   w2c_l4 = w2c_i0;
   w2c_f1(m);
   w2c_i0 = w2c_l4;
   return w2c_i0;
 }
 
-static u32 w2c_f61(module *m, u64 w2c_p0, u64 w2c_p1, u64 w2c_p2, u64 w2c_p3) {
+static u32 w2c_f63(module *m, u64 w2c_p0, u64 w2c_p1, u64 w2c_p2, u64 w2c_p3) {
   u32 w2c_l10 = 0;
   u64 w2c_l4 = 0, w2c_l5 = 0, w2c_l6 = 0, w2c_l7 = 0, w2c_l8 = 0, w2c_l9 = 0;
   u32 w2c_i0, w2c_i1, w2c_i2, w2c_i3;
@@ -42699,27 +43199,32 @@ static u32 w2c_chinese_amount_read(module *m, u64 w2c_p0, u64 w2c_p1, u64 w2c_p2
   w2c_j0 = w2c_p0;
   w2c_j1 = w2c_p1;
   w2c_j2 = w2c_p2;
-  w2c_i0 = w2c_f63(m, w2c_j0, w2c_j1, w2c_j2);
+  w2c_i0 = w2c_f65(m, w2c_j0, w2c_j1, w2c_j2);
   w2c_l3 = w2c_i0;
   w2c_f1(m);
   w2c_i0 = w2c_l3;
   return w2c_i0;
 }
 
-static u32 w2c_f63(module *m, u64 w2c_p0, u64 w2c_p1, u64 w2c_p2) {
+static u32 w2c_f65(module *m, u64 w2c_p0, u64 w2c_p1, u64 w2c_p2) {
   u32 w2c_l14 = 0, w2c_l15 = 0, w2c_l16 = 0, w2c_l17 = 0, w2c_l18 = 0, w2c_l19 = 0, w2c_l20 = 0, w2c_l21 = 0;
   u64 w2c_l3 = 0, w2c_l4 = 0, w2c_l5 = 0, w2c_l6 = 0, w2c_l7 = 0, w2c_l8 = 0, w2c_l9 = 0, w2c_l10 = 0, w2c_l11 = 0, w2c_l12 = 0, w2c_l13 = 0;
   u32 w2c_i0, w2c_i1, w2c_i2, w2c_i3;
   u64 w2c_j0, w2c_j1, w2c_j2, w2c_j3;
   w2c_j0 = m->w2c_g0;
+  w2c_j1 = 32ull;
+  w2c_j0 -= w2c_j1;
   w2c_l3 = w2c_j0;
+  m->w2c_g0 = w2c_j0;
+  w2c_j0 = w2c_l3;
+  w2c_l4 = w2c_j0;
   w2c_j1 = 16ull;
   w2c_i0 = (u64)((s64)w2c_j0 < (s64)w2c_j1);
-  if (w2c_i0) {goto w2c_B0;}
+  if (w2c_i0) {goto w2c_B3;}
   w2c_j0 = w2c_p2;
   w2c_i0 = (u32)(w2c_j0);
   w2c_j1 = 0ull;
-  i64_store(m, (u64)(w2c_i0) + 16, w2c_j1);
+  i64_store(m, (u64)(w2c_i0), w2c_j1);
   w2c_j0 = w2c_p2;
   w2c_i0 = (u32)(w2c_j0);
   w2c_j1 = 0ull;
@@ -42727,9 +43232,21 @@ static u32 w2c_f63(module *m, u64 w2c_p0, u64 w2c_p1, u64 w2c_p2) {
   w2c_j0 = w2c_p2;
   w2c_i0 = (u32)(w2c_j0);
   w2c_j1 = 0ull;
-  i64_store(m, (u64)(w2c_i0), w2c_j1);
+  i64_store(m, (u64)(w2c_i0) + 16, w2c_j1);
+  w2c_j0 = w2c_l4;
+  w2c_i0 = (u32)(w2c_j0);
+  w2c_j1 = 0ull;
+  i64_store(m, (u64)(w2c_i0) + 24, w2c_j1);
+  w2c_j0 = w2c_l4;
+  w2c_i0 = (u32)(w2c_j0);
+  w2c_j1 = 0ull;
+  i64_store(m, (u64)(w2c_i0) + 16, w2c_j1);
+  w2c_j0 = w2c_l4;
+  w2c_i0 = (u32)(w2c_j0);
+  w2c_j1 = 0ull;
+  i64_store(m, (u64)(w2c_i0) + 8, w2c_j1);
   w2c_j0 = w2c_p1;
-  w2c_l4 = w2c_j0;
+  w2c_l3 = w2c_j0;
   w2c_j0 = w2c_p0;
   w2c_j1 = 4096ull;
   w2c_j2 = 0ull;
@@ -42742,48 +43259,48 @@ static u32 w2c_f63(module *m, u64 w2c_p0, u64 w2c_p1, u64 w2c_p2) {
   w2c_j0 = w2c_p1;
   w2c_j1 = 4ull;
   w2c_i0 = w2c_j0 < w2c_j1;
-  if (w2c_i0) {goto w2c_B4;}
+  if (w2c_i0) {goto w2c_B6;}
   w2c_j0 = w2c_l5;
   w2c_p0 = w2c_j0;
   w2c_j0 = w2c_p1;
-  w2c_l4 = w2c_j0;
-  w2c_L5:
+  w2c_l3 = w2c_j0;
+  w2c_L7:
     w2c_j0 = w2c_p0;
     w2c_i0 = (u32)(w2c_j0);
     w2c_i0 = i32_load(m, (u64)(w2c_i0));
-    w2c_i1 = 16776989u;
+    w2c_i1 = 16776990u;
     w2c_i0 += w2c_i1;
     w2c_i1 = 12632312u;
     w2c_i0 &= w2c_i1;
     w2c_i1 = 8421376u;
     w2c_i0 = w2c_i0 != w2c_i1;
-    if (w2c_i0) {goto w2c_B3;}
+    if (w2c_i0) {goto w2c_B5;}
     w2c_j0 = w2c_p0;
     w2c_j1 = 3ull;
     w2c_j0 += w2c_j1;
     w2c_p0 = w2c_j0;
-    w2c_j0 = w2c_l4;
+    w2c_j0 = w2c_l3;
     w2c_j1 = 18446744073709551613ull;
     w2c_j0 += w2c_j1;
-    w2c_l4 = w2c_j0;
+    w2c_l3 = w2c_j0;
     w2c_j1 = 3ull;
     w2c_i0 = w2c_j0 > w2c_j1;
-    if (w2c_i0) {goto w2c_L5;}
-  w2c_B4:;
-  w2c_j0 = w2c_l4;
+    if (w2c_i0) {goto w2c_L7;}
+  w2c_B6:;
+  w2c_j0 = w2c_l3;
   w2c_j1 = 3ull;
   w2c_i0 = w2c_j0 > w2c_j1;
-  if (w2c_i0) {goto w2c_B3;}
-  w2c_j0 = w2c_l4;
+  if (w2c_i0) {goto w2c_B5;}
+  w2c_j0 = w2c_l3;
   w2c_i0 = (u32)(w2c_j0);
   switch (w2c_i0) {
-    case 0: goto w2c_B2;
-    case 1: goto w2c_B3;
-    case 2: goto w2c_B3;
-    case 3: goto w2c_B6;
-    default: goto w2c_B2;
+    case 0: goto w2c_B4;
+    case 1: goto w2c_B5;
+    case 2: goto w2c_B5;
+    case 3: goto w2c_B8;
+    default: goto w2c_B4;
   }
-  w2c_B6:;
+  w2c_B8:;
   w2c_j0 = w2c_p0;
   w2c_i0 = (u32)(w2c_j0);
   w2c_i0 = i32_load16_u(m, (u64)(w2c_i0));
@@ -42795,51 +43312,47 @@ static u32 w2c_f63(module *m, u64 w2c_p0, u64 w2c_p1, u64 w2c_p2) {
   w2c_i2 = 16u;
   w2c_i1 <<= (w2c_i2 & 31);
   w2c_i0 |= w2c_i1;
-  w2c_i1 = 16776989u;
+  w2c_i1 = 16776990u;
   w2c_i0 += w2c_i1;
   w2c_i1 = 12632312u;
   w2c_i0 &= w2c_i1;
   w2c_i1 = 8421376u;
   w2c_i0 = w2c_i0 == w2c_i1;
-  if (w2c_i0) {goto w2c_B2;}
-  w2c_B3:;
+  if (w2c_i0) {goto w2c_B4;}
+  w2c_B5:;
   w2c_i0 = 5u;
   w2c_l14 = w2c_i0;
   w2c_j0 = w2c_l5;
   w2c_j1 = w2c_p1;
   w2c_i0 = w2c_f12(m, w2c_j0, w2c_j1);
   w2c_i0 = !(w2c_i0);
-  if (w2c_i0) {goto w2c_B1;}
-  w2c_B2:;
+  if (w2c_i0) {goto w2c_B0;}
+  w2c_B4:;
   w2c_j0 = w2c_p1;
   w2c_i0 = !(w2c_j0);
-  if (w2c_i0) {goto w2c_B8;}
-  w2c_j0 = w2c_p2;
-  w2c_j1 = 8ull;
-  w2c_j0 += w2c_j1;
-  w2c_l6 = w2c_j0;
+  if (w2c_i0) {goto w2c_B2;}
   w2c_i0 = 0u;
   w2c_l15 = w2c_i0;
   w2c_j0 = 0ull;
-  w2c_l4 = w2c_j0;
+  w2c_l6 = w2c_j0;
   w2c_j0 = w2c_p1;
   w2c_l7 = w2c_j0;
   w2c_j0 = w2c_l5;
+  w2c_l3 = w2c_j0;
+  w2c_j0 = 0ull;
   w2c_l8 = w2c_j0;
   w2c_j0 = 0ull;
   w2c_l9 = w2c_j0;
   w2c_j0 = 0ull;
   w2c_l10 = w2c_j0;
-  w2c_j0 = 0ull;
-  w2c_l11 = w2c_j0;
   w2c_i0 = 0u;
   w2c_l16 = w2c_i0;
   w2c_i0 = 0u;
   w2c_l17 = w2c_i0;
-  w2c_L9:
+  w2c_L10:
     w2c_i0 = w2c_l16;
     w2c_l18 = w2c_i0;
-    w2c_j0 = w2c_l8;
+    w2c_j0 = w2c_l3;
     w2c_i0 = (u32)(w2c_j0);
     w2c_i0 = i32_load8_s(m, (u64)(w2c_i0));
     w2c_l16 = w2c_i0;
@@ -42847,12 +43360,16 @@ static u32 w2c_f63(module *m, u64 w2c_p0, u64 w2c_p1, u64 w2c_p2) {
     w2c_i0 &= w2c_i1;
     w2c_l14 = w2c_i0;
     w2c_j0 = 1ull;
-    w2c_l12 = w2c_j0;
+    w2c_l11 = w2c_j0;
     w2c_i0 = w2c_l16;
     w2c_i1 = 4294967295u;
-    w2c_i0 = (u32)((s32)w2c_i0 > (s32)w2c_i1);
-    if (w2c_i0) {goto w2c_B10;}
-    w2c_j0 = w2c_l8;
+    w2c_i0 = (u32)((s32)w2c_i0 <= (s32)w2c_i1);
+    if (w2c_i0) {goto w2c_B12;}
+    w2c_j0 = 1ull;
+    w2c_l12 = w2c_j0;
+    goto w2c_B11;
+    w2c_B12:;
+    w2c_j0 = w2c_l3;
     w2c_i0 = (u32)(w2c_j0);
     w2c_i0 = i32_load8_u(m, (u64)(w2c_i0) + 1u);
     w2c_i1 = 63u;
@@ -42861,7 +43378,7 @@ static u32 w2c_f63(module *m, u64 w2c_p0, u64 w2c_p1, u64 w2c_p2) {
     w2c_i0 = w2c_l16;
     w2c_i1 = 4294967263u;
     w2c_i0 = w2c_i0 > w2c_i1;
-    if (w2c_i0) {goto w2c_B11;}
+    if (w2c_i0) {goto w2c_B13;}
     w2c_i0 = w2c_l14;
     w2c_i1 = 6u;
     w2c_i0 <<= (w2c_i1 & 31);
@@ -42872,9 +43389,9 @@ static u32 w2c_f63(module *m, u64 w2c_p0, u64 w2c_p1, u64 w2c_p2) {
     w2c_l14 = w2c_i0;
     w2c_j0 = 2ull;
     w2c_l12 = w2c_j0;
-    goto w2c_B10;
-    w2c_B11:;
-    w2c_j0 = w2c_l8;
+    goto w2c_B11;
+    w2c_B13:;
+    w2c_j0 = w2c_l3;
     w2c_i0 = (u32)(w2c_j0);
     w2c_i0 = i32_load8_u(m, (u64)(w2c_i0) + 2u);
     w2c_i1 = 63u;
@@ -42883,7 +43400,7 @@ static u32 w2c_f63(module *m, u64 w2c_p0, u64 w2c_p1, u64 w2c_p2) {
     w2c_i0 = w2c_l16;
     w2c_i1 = 4294967279u;
     w2c_i0 = w2c_i0 > w2c_i1;
-    if (w2c_i0) {goto w2c_B12;}
+    if (w2c_i0) {goto w2c_B14;}
     w2c_i0 = w2c_l19;
     w2c_i1 = 6u;
     w2c_i0 <<= (w2c_i1 & 31);
@@ -42898,8 +43415,8 @@ static u32 w2c_f63(module *m, u64 w2c_p0, u64 w2c_p1, u64 w2c_p2) {
     w2c_l14 = w2c_i0;
     w2c_j0 = 3ull;
     w2c_l12 = w2c_j0;
-    goto w2c_B10;
-    w2c_B12:;
+    goto w2c_B11;
+    w2c_B14:;
     w2c_i0 = w2c_l20;
     w2c_i1 = 6u;
     w2c_i0 <<= (w2c_i1 & 31);
@@ -42913,7 +43430,7 @@ static u32 w2c_f63(module *m, u64 w2c_p0, u64 w2c_p1, u64 w2c_p2) {
     w2c_i2 &= w2c_i3;
     w2c_i1 |= w2c_i2;
     w2c_i0 |= w2c_i1;
-    w2c_j1 = w2c_l8;
+    w2c_j1 = w2c_l3;
     w2c_i1 = (u32)(w2c_j1);
     w2c_i1 = i32_load8_u(m, (u64)(w2c_i1) + 3u);
     w2c_i2 = 63u;
@@ -42922,7 +43439,7 @@ static u32 w2c_f63(module *m, u64 w2c_p0, u64 w2c_p1, u64 w2c_p2) {
     w2c_l14 = w2c_i0;
     w2c_j0 = 4ull;
     w2c_l12 = w2c_j0;
-    w2c_B10:;
+    w2c_B11:;
     w2c_i0 = w2c_l14;
     w2c_i1 = 3227u;
     w2c_i0 *= w2c_i1;
@@ -42935,8 +43452,12 @@ static u32 w2c_f63(module *m, u64 w2c_p0, u64 w2c_p1, u64 w2c_p2) {
     w2c_i0 = (u32)(w2c_j0);
     w2c_i0 = i32_load(m, (u64)(w2c_i0) + 66332u);
     w2c_i1 = w2c_l14;
-    w2c_i0 = w2c_i0 != w2c_i1;
-    if (w2c_i0) {goto w2c_B20;}
+    w2c_i0 = w2c_i0 == w2c_i1;
+    if (w2c_i0) {goto w2c_B15;}
+    w2c_j0 = 1ull;
+    w2c_p0 = w2c_j0;
+    goto w2c_B9;
+    w2c_B15:;
     w2c_j0 = w2c_p0;
     w2c_j1 = 66336ull;
     w2c_j0 += w2c_j1;
@@ -42945,8 +43466,12 @@ static u32 w2c_f63(module *m, u64 w2c_p0, u64 w2c_p1, u64 w2c_p2) {
     w2c_i1 = 255u;
     w2c_i0 &= w2c_i1;
     w2c_i1 = 1u;
-    w2c_i0 = w2c_i0 != w2c_i1;
-    if (w2c_i0) {goto w2c_B20;}
+    w2c_i0 = w2c_i0 == w2c_i1;
+    if (w2c_i0) {goto w2c_B16;}
+    w2c_j0 = 1ull;
+    w2c_p0 = w2c_j0;
+    goto w2c_B9;
+    w2c_B16:;
     w2c_j0 = w2c_p0;
     w2c_j1 = 66338ull;
     w2c_j0 += w2c_j1;
@@ -42959,115 +43484,121 @@ static u32 w2c_f63(module *m, u64 w2c_p0, u64 w2c_p1, u64 w2c_p2) {
     w2c_i0 = (u32)(w2c_j0);
     w2c_i0 = i32_load8_u(m, (u64)(w2c_i0));
     w2c_l14 = w2c_i0;
+    w2c_j0 = 1ull;
+    w2c_p0 = w2c_j0;
     w2c_i0 = w2c_l17;
     w2c_j0 = (u64)(w2c_i0);
     w2c_j1 = 255ull;
     w2c_j0 &= w2c_j1;
     w2c_i0 = (u32)(w2c_j0);
     switch (w2c_i0) {
-      case 0: goto w2c_B43;
-      case 1: goto w2c_B42;
-      case 2: goto w2c_B41;
-      case 3: goto w2c_B40;
-      case 4: goto w2c_B39;
-      case 5: goto w2c_B51;
-      case 6: goto w2c_B50;
-      case 7: goto w2c_B49;
-      case 8: goto w2c_B48;
-      case 9: goto w2c_B47;
-      case 10: goto w2c_B46;
-      case 11: goto w2c_B45;
-      case 12: goto w2c_B44;
-      case 13: goto w2c_B38;
-      case 14: goto w2c_B36;
-      case 15: goto w2c_B34;
-      case 16: goto w2c_B26;
-      case 17: goto w2c_B37;
-      case 18: goto w2c_B24;
-      case 19: goto w2c_B20;
-      default: goto w2c_B43;
+      case 0: goto w2c_B44;
+      case 1: goto w2c_B43;
+      case 2: goto w2c_B42;
+      case 3: goto w2c_B41;
+      case 4: goto w2c_B40;
+      case 5: goto w2c_B52;
+      case 6: goto w2c_B51;
+      case 7: goto w2c_B50;
+      case 8: goto w2c_B49;
+      case 9: goto w2c_B48;
+      case 10: goto w2c_B47;
+      case 11: goto w2c_B46;
+      case 12: goto w2c_B45;
+      case 13: goto w2c_B39;
+      case 14: goto w2c_B37;
+      case 15: goto w2c_B35;
+      case 16: goto w2c_B36;
+      case 17: goto w2c_B38;
+      case 18: goto w2c_B33;
+      case 19: goto w2c_B9;
+      default: goto w2c_B44;
     }
-    w2c_B51:;
+    w2c_B52:;
     w2c_i0 = 1u;
     w2c_i1 = w2c_l14;
     w2c_i0 <<= (w2c_i1 & 31);
     w2c_i1 = 31999u;
     w2c_i0 &= w2c_i1;
-    if (w2c_i0) {goto w2c_B52;}
+    if (w2c_i0) {goto w2c_B53;}
     w2c_i0 = w2c_l14;
     w2c_i1 = 8u;
-    w2c_i0 = w2c_i0 == w2c_i1;
-    if (w2c_i0) {goto w2c_B25;}
-    goto w2c_B23;
-    w2c_B52:;
+    w2c_i0 = w2c_i0 != w2c_i1;
+    if (w2c_i0) {goto w2c_B20;}
+    goto w2c_B19;
+    w2c_B53:;
     w2c_i0 = w2c_l14;
     w2c_i1 = 4294967291u;
     w2c_i0 += w2c_i1;
     w2c_i1 = 10u;
     w2c_i0 = w2c_i0 < w2c_i1;
-    if (w2c_i0) {goto w2c_B53;}
+    if (w2c_i0) {goto w2c_B54;}
     w2c_i0 = 0u;
     w2c_l16 = w2c_i0;
     w2c_i0 = w2c_l14;
     switch (w2c_i0) {
-      case 0: goto w2c_B53;
-      case 1: goto w2c_B53;
-      case 2: goto w2c_B31;
+      case 0: goto w2c_B54;
+      case 1: goto w2c_B54;
+      case 2: goto w2c_B30;
       case 3: goto w2c_B29;
-      case 4: goto w2c_B19;
-      default: goto w2c_B53;
+      case 4: goto w2c_B27;
+      default: goto w2c_B54;
     }
-    w2c_B53:;
+    w2c_B54:;
     w2c_i0 = 0u;
     w2c_l16 = w2c_i0;
     w2c_i0 = 6u;
     w2c_l17 = w2c_i0;
+    w2c_j0 = 1ull;
+    w2c_p0 = w2c_j0;
     w2c_i0 = w2c_l14;
     switch (w2c_i0) {
-      case 0: goto w2c_B20;
-      case 1: goto w2c_B20;
-      case 2: goto w2c_B20;
-      case 3: goto w2c_B20;
-      case 4: goto w2c_B20;
-      case 5: goto w2c_B14;
-      case 6: goto w2c_B27;
-      case 7: goto w2c_B18;
-      case 8: goto w2c_B20;
-      case 9: goto w2c_B20;
-      case 10: goto w2c_B20;
-      case 11: goto w2c_B20;
-      case 12: goto w2c_B20;
-      case 13: goto w2c_B20;
-      case 14: goto w2c_B20;
-      default: goto w2c_B20;
+      case 0: goto w2c_B9;
+      case 1: goto w2c_B9;
+      case 2: goto w2c_B9;
+      case 3: goto w2c_B9;
+      case 4: goto w2c_B9;
+      case 5: goto w2c_B24;
+      case 6: goto w2c_B23;
+      case 7: goto w2c_B21;
+      case 8: goto w2c_B9;
+      case 9: goto w2c_B9;
+      case 10: goto w2c_B9;
+      case 11: goto w2c_B9;
+      case 12: goto w2c_B9;
+      case 13: goto w2c_B9;
+      case 14: goto w2c_B9;
+      default: goto w2c_B9;
     }
-    w2c_B50:;
+    w2c_B51:;
     w2c_i0 = 3u;
     w2c_l20 = w2c_i0;
     w2c_i0 = 10u;
     w2c_l19 = w2c_i0;
     w2c_i0 = w2c_l14;
     w2c_l21 = w2c_i0;
+    w2c_j0 = 1ull;
+    w2c_p0 = w2c_j0;
     w2c_i0 = w2c_l14;
     switch (w2c_i0) {
-      case 0: goto w2c_B55;
-      case 1: goto w2c_B35;
-      case 2: goto w2c_B54;
-      case 3: goto w2c_B54;
-      case 4: goto w2c_B54;
-      case 5: goto w2c_B20;
-      case 6: goto w2c_B54;
-      case 7: goto w2c_B54;
-      case 8: goto w2c_B54;
-      case 9: goto w2c_B54;
-      case 10: goto w2c_B54;
-      case 11: goto w2c_B54;
-      case 12: goto w2c_B54;
-      case 13: goto w2c_B54;
-      case 14: goto w2c_B54;
-      default: goto w2c_B55;
+      case 0: goto w2c_B56;
+      case 1: goto w2c_B31;
+      case 2: goto w2c_B55;
+      case 3: goto w2c_B55;
+      case 4: goto w2c_B55;
+      case 5: goto w2c_B9;
+      case 6: goto w2c_B55;
+      case 7: goto w2c_B55;
+      case 8: goto w2c_B55;
+      case 9: goto w2c_B55;
+      case 10: goto w2c_B55;
+      case 11: goto w2c_B55;
+      case 12: goto w2c_B55;
+      case 13: goto w2c_B55;
+      case 14: goto w2c_B55;
+      default: goto w2c_B56;
     }
-    w2c_B55:;
+    w2c_B56:;
     w2c_i0 = 1u;
     w2c_l16 = w2c_i0;
     w2c_i0 = w2c_l18;
@@ -43078,46 +43609,50 @@ static u32 w2c_f63(module *m, u64 w2c_p0, u64 w2c_p1, u64 w2c_p2) {
     w2c_l15 = w2c_i0;
     w2c_i0 = 9u;
     w2c_l17 = w2c_i0;
-    goto w2c_B13;
-    w2c_B54:;
+    goto w2c_B17;
+    w2c_B55:;
     w2c_i0 = 1u;
     w2c_l16 = w2c_i0;
     w2c_i0 = w2c_l14;
     w2c_i1 = 6u;
     w2c_i0 = w2c_i0 == w2c_i1;
-    if (w2c_i0) {goto w2c_B27;}
+    if (w2c_i0) {goto w2c_B23;}
     w2c_i0 = w2c_l14;
     w2c_i1 = 7u;
     w2c_i0 = w2c_i0 == w2c_i1;
-    if (w2c_i0) {goto w2c_B18;}
-    goto w2c_B20;
-    w2c_B49:;
+    if (w2c_i0) {goto w2c_B21;}
+    w2c_j0 = 1ull;
+    w2c_p0 = w2c_j0;
+    goto w2c_B9;
+    w2c_B50:;
     w2c_i0 = 3u;
     w2c_l20 = w2c_i0;
     w2c_i0 = 4u;
     w2c_l21 = w2c_i0;
     w2c_i0 = 10u;
     w2c_l19 = w2c_i0;
+    w2c_j0 = 1ull;
+    w2c_p0 = w2c_j0;
     w2c_i0 = w2c_l14;
     switch (w2c_i0) {
-      case 0: goto w2c_B57;
-      case 1: goto w2c_B35;
-      case 2: goto w2c_B56;
-      case 3: goto w2c_B56;
-      case 4: goto w2c_B56;
-      case 5: goto w2c_B20;
-      case 6: goto w2c_B56;
-      case 7: goto w2c_B56;
-      case 8: goto w2c_B56;
-      case 9: goto w2c_B56;
-      case 10: goto w2c_B56;
-      case 11: goto w2c_B56;
-      case 12: goto w2c_B56;
-      case 13: goto w2c_B56;
-      case 14: goto w2c_B56;
-      default: goto w2c_B57;
+      case 0: goto w2c_B58;
+      case 1: goto w2c_B31;
+      case 2: goto w2c_B57;
+      case 3: goto w2c_B57;
+      case 4: goto w2c_B57;
+      case 5: goto w2c_B9;
+      case 6: goto w2c_B57;
+      case 7: goto w2c_B57;
+      case 8: goto w2c_B57;
+      case 9: goto w2c_B57;
+      case 10: goto w2c_B57;
+      case 11: goto w2c_B57;
+      case 12: goto w2c_B57;
+      case 13: goto w2c_B57;
+      case 14: goto w2c_B57;
+      default: goto w2c_B58;
     }
-    w2c_B57:;
+    w2c_B58:;
     w2c_i0 = 3u;
     w2c_l15 = w2c_i0;
     w2c_i0 = w2c_l18;
@@ -43128,8 +43663,8 @@ static u32 w2c_f63(module *m, u64 w2c_p0, u64 w2c_p1, u64 w2c_p2) {
     w2c_l16 = w2c_i0;
     w2c_i0 = 9u;
     w2c_l17 = w2c_i0;
-    goto w2c_B13;
-    w2c_B56:;
+    goto w2c_B17;
+    w2c_B57:;
     w2c_i0 = 1u;
     w2c_l16 = w2c_i0;
     w2c_i0 = 8u;
@@ -43137,13 +43672,15 @@ static u32 w2c_f63(module *m, u64 w2c_p0, u64 w2c_p1, u64 w2c_p2) {
     w2c_i0 = w2c_l14;
     w2c_i1 = 5u;
     w2c_i0 = w2c_i0 == w2c_i1;
-    if (w2c_i0) {goto w2c_B14;}
+    if (w2c_i0) {goto w2c_B24;}
     w2c_i0 = w2c_l14;
     w2c_i1 = 7u;
     w2c_i0 = w2c_i0 == w2c_i1;
-    if (w2c_i0) {goto w2c_B18;}
-    goto w2c_B20;
-    w2c_B48:;
+    if (w2c_i0) {goto w2c_B21;}
+    w2c_j0 = 1ull;
+    w2c_p0 = w2c_j0;
+    goto w2c_B9;
+    w2c_B49:;
     w2c_i0 = 1u;
     w2c_l16 = w2c_i0;
     w2c_i0 = 3u;
@@ -43152,26 +43689,28 @@ static u32 w2c_f63(module *m, u64 w2c_p0, u64 w2c_p1, u64 w2c_p2) {
     w2c_l21 = w2c_i0;
     w2c_i0 = 10u;
     w2c_l19 = w2c_i0;
+    w2c_j0 = 1ull;
+    w2c_p0 = w2c_j0;
     w2c_i0 = w2c_l14;
     switch (w2c_i0) {
-      case 0: goto w2c_B58;
-      case 1: goto w2c_B35;
-      case 2: goto w2c_B20;
-      case 3: goto w2c_B20;
-      case 4: goto w2c_B20;
-      case 5: goto w2c_B20;
-      case 6: goto w2c_B20;
-      case 7: goto w2c_B18;
-      case 8: goto w2c_B20;
-      case 9: goto w2c_B20;
-      case 10: goto w2c_B20;
-      case 11: goto w2c_B20;
-      case 12: goto w2c_B20;
-      case 13: goto w2c_B20;
-      case 14: goto w2c_B20;
-      default: goto w2c_B58;
+      case 0: goto w2c_B59;
+      case 1: goto w2c_B31;
+      case 2: goto w2c_B9;
+      case 3: goto w2c_B9;
+      case 4: goto w2c_B9;
+      case 5: goto w2c_B9;
+      case 6: goto w2c_B9;
+      case 7: goto w2c_B21;
+      case 8: goto w2c_B9;
+      case 9: goto w2c_B9;
+      case 10: goto w2c_B9;
+      case 11: goto w2c_B9;
+      case 12: goto w2c_B9;
+      case 13: goto w2c_B9;
+      case 14: goto w2c_B9;
+      default: goto w2c_B59;
     }
-    w2c_B58:;
+    w2c_B59:;
     w2c_i0 = w2c_l18;
     w2c_i1 = 1u;
     w2c_i0 &= w2c_i1;
@@ -43182,19 +43721,145 @@ static u32 w2c_f63(module *m, u64 w2c_p0, u64 w2c_p1, u64 w2c_p2) {
     w2c_l16 = w2c_i0;
     w2c_i0 = 9u;
     w2c_l17 = w2c_i0;
-    goto w2c_B13;
-    w2c_B47:;
+    goto w2c_B17;
+    w2c_B48:;
     w2c_i0 = w2c_l14;
     w2c_i1 = 1u;
-    w2c_i0 = w2c_i0 != w2c_i1;
-    if (w2c_i0) {goto w2c_B20;}
-    w2c_i0 = 11u;
-    w2c_l19 = w2c_i0;
-    w2c_i0 = w2c_l18;
-    w2c_l21 = w2c_i0;
+    w2c_i0 = w2c_i0 == w2c_i1;
+    if (w2c_i0) {goto w2c_B32;}
+    w2c_j0 = 1ull;
+    w2c_p0 = w2c_j0;
+    goto w2c_B9;
+    w2c_B47:;
     w2c_i0 = w2c_l15;
-    w2c_l20 = w2c_i0;
-    goto w2c_B35;
+    w2c_j0 = (u64)(w2c_i0);
+    w2c_j1 = 255ull;
+    w2c_j0 &= w2c_j1;
+    w2c_i0 = (u32)(w2c_j0);
+    switch (w2c_i0) {
+      case 0: goto w2c_B60;
+      case 1: goto w2c_B61;
+      case 2: goto w2c_B62;
+      case 3: goto w2c_B63;
+      default: goto w2c_B60;
+    }
+    w2c_B63:;
+    w2c_i0 = w2c_l18;
+    w2c_l16 = w2c_i0;
+    w2c_i0 = w2c_l14;
+    w2c_i1 = 4u;
+    w2c_i0 = w2c_i0 == w2c_i1;
+    if (w2c_i0) {goto w2c_B27;}
+    w2c_j0 = 1ull;
+    w2c_p0 = w2c_j0;
+    goto w2c_B9;
+    w2c_B62:;
+    w2c_i0 = w2c_l18;
+    w2c_l16 = w2c_i0;
+    w2c_i0 = w2c_l14;
+    w2c_i1 = 3u;
+    w2c_i0 = w2c_i0 == w2c_i1;
+    if (w2c_i0) {goto w2c_B29;}
+    w2c_j0 = 1ull;
+    w2c_p0 = w2c_j0;
+    goto w2c_B9;
+    w2c_B61:;
+    w2c_i0 = w2c_l18;
+    w2c_l16 = w2c_i0;
+    w2c_i0 = w2c_l14;
+    w2c_i1 = 2u;
+    w2c_i0 = w2c_i0 == w2c_i1;
+    if (w2c_i0) {goto w2c_B30;}
+    w2c_j0 = 1ull;
+    w2c_p0 = w2c_j0;
+    goto w2c_B9;
+    w2c_B60:;
+    w2c_i0 = w2c_l18;
+    w2c_j0 = (u64)(w2c_i0);
+    w2c_j1 = 255ull;
+    w2c_j0 &= w2c_j1;
+    w2c_i0 = (u32)(w2c_j0);
+    switch (w2c_i0) {
+      case 0: goto w2c_B68;
+      case 1: goto w2c_B65;
+      case 2: goto w2c_B67;
+      case 3: goto w2c_B67;
+      case 4: goto w2c_B66;
+      case 5: goto w2c_B64;
+      default: goto w2c_B68;
+    }
+    w2c_B68:;
+    w2c_i0 = 0u;
+    w2c_l16 = w2c_i0;
+    w2c_i0 = 6u;
+    w2c_l17 = w2c_i0;
+    w2c_j0 = 1ull;
+    w2c_p0 = w2c_j0;
+    w2c_i0 = w2c_l14;
+    switch (w2c_i0) {
+      case 0: goto w2c_B9;
+      case 1: goto w2c_B9;
+      case 2: goto w2c_B9;
+      case 3: goto w2c_B9;
+      case 4: goto w2c_B9;
+      case 5: goto w2c_B24;
+      case 6: goto w2c_B23;
+      case 7: goto w2c_B21;
+      case 8: goto w2c_B9;
+      case 9: goto w2c_B9;
+      case 10: goto w2c_B9;
+      case 11: goto w2c_B9;
+      case 12: goto w2c_B9;
+      case 13: goto w2c_B9;
+      case 14: goto w2c_B9;
+      default: goto w2c_B9;
+    }
+    w2c_B67:;
+    w2c_i0 = 0u;
+    w2c_l16 = w2c_i0;
+    w2c_i0 = 8u;
+    w2c_l17 = w2c_i0;
+    w2c_i0 = w2c_l14;
+    w2c_i1 = 5u;
+    w2c_i0 = w2c_i0 == w2c_i1;
+    if (w2c_i0) {goto w2c_B24;}
+    w2c_i0 = w2c_l14;
+    w2c_i1 = 7u;
+    w2c_i0 = w2c_i0 == w2c_i1;
+    if (w2c_i0) {goto w2c_B21;}
+    w2c_j0 = 1ull;
+    w2c_p0 = w2c_j0;
+    goto w2c_B9;
+    w2c_B66:;
+    w2c_i0 = w2c_l14;
+    w2c_i1 = 5u;
+    w2c_i0 = w2c_i0 == w2c_i1;
+    if (w2c_i0) {goto w2c_B26;}
+    w2c_j0 = 1ull;
+    w2c_p0 = w2c_j0;
+    goto w2c_B9;
+    w2c_B65:;
+    w2c_i0 = 0u;
+    w2c_l16 = w2c_i0;
+    w2c_i0 = w2c_l14;
+    w2c_i1 = 6u;
+    w2c_i0 = w2c_i0 == w2c_i1;
+    if (w2c_i0) {goto w2c_B23;}
+    w2c_i0 = w2c_l14;
+    w2c_i1 = 7u;
+    w2c_i0 = w2c_i0 == w2c_i1;
+    if (w2c_i0) {goto w2c_B21;}
+    w2c_j0 = 1ull;
+    w2c_p0 = w2c_j0;
+    goto w2c_B9;
+    w2c_B64:;
+    w2c_i0 = w2c_l14;
+    w2c_i1 = 7u;
+    w2c_i0 = w2c_i0 == w2c_i1;
+    if (w2c_i0) {goto w2c_B22;}
+    w2c_j0 = 1ull;
+    w2c_p0 = w2c_j0;
+    goto w2c_B9;
     w2c_B46:;
     w2c_i0 = w2c_l15;
     w2c_j0 = (u64)(w2c_i0);
@@ -43202,2386 +43867,330 @@ static u32 w2c_f63(module *m, u64 w2c_p0, u64 w2c_p1, u64 w2c_p2) {
     w2c_j0 &= w2c_j1;
     w2c_i0 = (u32)(w2c_j0);
     switch (w2c_i0) {
-      case 0: goto w2c_B59;
-      case 1: goto w2c_B32;
-      case 2: goto w2c_B30;
-      case 3: goto w2c_B21;
-      default: goto w2c_B59;
-    }
-    w2c_B59:;
-    w2c_i0 = w2c_l18;
-    w2c_j0 = (u64)(w2c_i0);
-    w2c_j1 = 255ull;
-    w2c_j0 &= w2c_j1;
-    w2c_i0 = (u32)(w2c_j0);
-    switch (w2c_i0) {
-      case 0: goto w2c_B64;
-      case 1: goto w2c_B61;
-      case 2: goto w2c_B63;
-      case 3: goto w2c_B63;
-      case 4: goto w2c_B62;
-      case 5: goto w2c_B60;
-      default: goto w2c_B64;
-    }
-    w2c_B64:;
-    w2c_i0 = 0u;
-    w2c_l16 = w2c_i0;
-    w2c_i0 = 6u;
-    w2c_l17 = w2c_i0;
-    w2c_i0 = w2c_l14;
-    switch (w2c_i0) {
-      case 0: goto w2c_B20;
-      case 1: goto w2c_B20;
-      case 2: goto w2c_B20;
-      case 3: goto w2c_B20;
-      case 4: goto w2c_B20;
-      case 5: goto w2c_B14;
-      case 6: goto w2c_B27;
-      case 7: goto w2c_B18;
-      case 8: goto w2c_B20;
-      case 9: goto w2c_B20;
-      case 10: goto w2c_B20;
-      case 11: goto w2c_B20;
-      case 12: goto w2c_B20;
-      case 13: goto w2c_B20;
-      case 14: goto w2c_B20;
-      default: goto w2c_B20;
-    }
-    w2c_B63:;
-    w2c_i0 = 0u;
-    w2c_l16 = w2c_i0;
-    w2c_i0 = 8u;
-    w2c_l17 = w2c_i0;
-    w2c_i0 = w2c_l14;
-    w2c_i1 = 5u;
-    w2c_i0 = w2c_i0 == w2c_i1;
-    if (w2c_i0) {goto w2c_B14;}
-    w2c_i0 = w2c_l14;
-    w2c_i1 = 7u;
-    w2c_i0 = w2c_i0 == w2c_i1;
-    if (w2c_i0) {goto w2c_B18;}
-    goto w2c_B20;
-    w2c_B62:;
-    w2c_i0 = w2c_l14;
-    w2c_i1 = 5u;
-    w2c_i0 = w2c_i0 != w2c_i1;
-    if (w2c_i0) {goto w2c_B20;}
-    goto w2c_B16;
-    w2c_B61:;
-    w2c_i0 = 0u;
-    w2c_l16 = w2c_i0;
-    w2c_i0 = w2c_l14;
-    w2c_i1 = 6u;
-    w2c_i0 = w2c_i0 == w2c_i1;
-    if (w2c_i0) {goto w2c_B27;}
-    w2c_i0 = w2c_l14;
-    w2c_i1 = 7u;
-    w2c_i0 = w2c_i0 == w2c_i1;
-    if (w2c_i0) {goto w2c_B18;}
-    goto w2c_B20;
-    w2c_B60:;
-    w2c_i0 = w2c_l14;
-    w2c_i1 = 7u;
-    w2c_i0 = w2c_i0 != w2c_i1;
-    if (w2c_i0) {goto w2c_B20;}
-    w2c_i0 = 0u;
-    w2c_l16 = w2c_i0;
-    goto w2c_B18;
-    w2c_B45:;
-    w2c_i0 = w2c_l15;
-    w2c_j0 = (u64)(w2c_i0);
-    w2c_j1 = 255ull;
-    w2c_j0 &= w2c_j1;
-    w2c_i0 = (u32)(w2c_j0);
-    switch (w2c_i0) {
-      case 0: goto w2c_B65;
-      case 1: goto w2c_B66;
-      case 2: goto w2c_B67;
-      case 3: goto w2c_B68;
-      default: goto w2c_B65;
-    }
-    w2c_B68:;
-    w2c_i0 = w2c_l14;
-    w2c_i1 = 4294967291u;
-    w2c_i0 += w2c_i1;
-    w2c_i1 = 10u;
-    w2c_i0 = w2c_i0 < w2c_i1;
-    if (w2c_i0) {goto w2c_B69;}
-    w2c_i0 = w2c_l18;
-    w2c_l16 = w2c_i0;
-    w2c_i0 = w2c_l14;
-    switch (w2c_i0) {
       case 0: goto w2c_B69;
-      case 1: goto w2c_B69;
-      case 2: goto w2c_B31;
-      case 3: goto w2c_B29;
-      case 4: goto w2c_B28;
+      case 1: goto w2c_B70;
+      case 2: goto w2c_B71;
+      case 3: goto w2c_B72;
       default: goto w2c_B69;
     }
-    w2c_B69:;
-    w2c_i0 = w2c_l18;
-    w2c_j0 = (u64)(w2c_i0);
-    w2c_j1 = 255ull;
-    w2c_j0 &= w2c_j1;
-    w2c_i0 = (u32)(w2c_j0);
-    switch (w2c_i0) {
-      case 0: goto w2c_B74;
-      case 1: goto w2c_B71;
-      case 2: goto w2c_B73;
-      case 3: goto w2c_B73;
-      case 4: goto w2c_B72;
-      case 5: goto w2c_B70;
-      default: goto w2c_B74;
-    }
-    w2c_B74:;
-    w2c_i0 = 0u;
-    w2c_l16 = w2c_i0;
-    w2c_i0 = 6u;
-    w2c_l17 = w2c_i0;
-    w2c_i0 = w2c_l14;
-    switch (w2c_i0) {
-      case 0: goto w2c_B20;
-      case 1: goto w2c_B20;
-      case 2: goto w2c_B20;
-      case 3: goto w2c_B20;
-      case 4: goto w2c_B20;
-      case 5: goto w2c_B14;
-      case 6: goto w2c_B27;
-      case 7: goto w2c_B18;
-      case 8: goto w2c_B20;
-      case 9: goto w2c_B20;
-      case 10: goto w2c_B20;
-      case 11: goto w2c_B20;
-      case 12: goto w2c_B20;
-      case 13: goto w2c_B20;
-      case 14: goto w2c_B20;
-      default: goto w2c_B20;
-    }
-    w2c_B73:;
-    w2c_i0 = 0u;
-    w2c_l16 = w2c_i0;
-    w2c_i0 = 8u;
-    w2c_l17 = w2c_i0;
-    w2c_i0 = w2c_l14;
-    w2c_i1 = 5u;
-    w2c_i0 = w2c_i0 == w2c_i1;
-    if (w2c_i0) {goto w2c_B14;}
-    w2c_i0 = w2c_l14;
-    w2c_i1 = 7u;
-    w2c_i0 = w2c_i0 == w2c_i1;
-    if (w2c_i0) {goto w2c_B18;}
-    goto w2c_B20;
     w2c_B72:;
-    w2c_i0 = w2c_l14;
-    w2c_i1 = 5u;
-    w2c_i0 = w2c_i0 == w2c_i1;
-    if (w2c_i0) {goto w2c_B16;}
-    goto w2c_B20;
-    w2c_B71:;
-    w2c_i0 = 0u;
-    w2c_l16 = w2c_i0;
-    w2c_i0 = w2c_l14;
-    w2c_i1 = 6u;
-    w2c_i0 = w2c_i0 == w2c_i1;
-    if (w2c_i0) {goto w2c_B27;}
-    w2c_i0 = w2c_l14;
-    w2c_i1 = 7u;
-    w2c_i0 = w2c_i0 == w2c_i1;
-    if (w2c_i0) {goto w2c_B18;}
-    goto w2c_B20;
-    w2c_B70:;
-    w2c_i0 = w2c_l14;
-    w2c_i1 = 7u;
-    w2c_i0 = w2c_i0 != w2c_i1;
-    if (w2c_i0) {goto w2c_B20;}
-    w2c_i0 = 0u;
-    w2c_l16 = w2c_i0;
-    goto w2c_B18;
-    w2c_B67:;
-    w2c_i0 = w2c_l14;
-    w2c_i1 = 4294967292u;
-    w2c_i0 += w2c_i1;
-    w2c_i1 = 11u;
-    w2c_i0 = w2c_i0 < w2c_i1;
-    if (w2c_i0) {goto w2c_B75;}
-    w2c_i0 = w2c_l18;
-    w2c_l16 = w2c_i0;
-    w2c_i0 = w2c_l14;
-    switch (w2c_i0) {
-      case 0: goto w2c_B75;
-      case 1: goto w2c_B75;
-      case 2: goto w2c_B31;
-      case 3: goto w2c_B29;
-      default: goto w2c_B75;
-    }
-    w2c_B75:;
-    w2c_i0 = w2c_l18;
-    w2c_j0 = (u64)(w2c_i0);
-    w2c_j1 = 255ull;
-    w2c_j0 &= w2c_j1;
-    w2c_i0 = (u32)(w2c_j0);
-    switch (w2c_i0) {
-      case 0: goto w2c_B80;
-      case 1: goto w2c_B77;
-      case 2: goto w2c_B79;
-      case 3: goto w2c_B79;
-      case 4: goto w2c_B78;
-      case 5: goto w2c_B76;
-      default: goto w2c_B80;
-    }
-    w2c_B80:;
-    w2c_i0 = 0u;
-    w2c_l16 = w2c_i0;
-    w2c_i0 = 6u;
-    w2c_l17 = w2c_i0;
-    w2c_i0 = w2c_l14;
-    switch (w2c_i0) {
-      case 0: goto w2c_B20;
-      case 1: goto w2c_B20;
-      case 2: goto w2c_B20;
-      case 3: goto w2c_B20;
-      case 4: goto w2c_B20;
-      case 5: goto w2c_B14;
-      case 6: goto w2c_B27;
-      case 7: goto w2c_B18;
-      case 8: goto w2c_B20;
-      case 9: goto w2c_B20;
-      case 10: goto w2c_B20;
-      case 11: goto w2c_B20;
-      case 12: goto w2c_B20;
-      case 13: goto w2c_B20;
-      case 14: goto w2c_B20;
-      default: goto w2c_B20;
-    }
-    w2c_B79:;
-    w2c_i0 = 0u;
-    w2c_l16 = w2c_i0;
-    w2c_i0 = 8u;
-    w2c_l17 = w2c_i0;
-    w2c_i0 = w2c_l14;
-    w2c_i1 = 5u;
-    w2c_i0 = w2c_i0 == w2c_i1;
-    if (w2c_i0) {goto w2c_B14;}
-    w2c_i0 = w2c_l14;
-    w2c_i1 = 7u;
-    w2c_i0 = w2c_i0 == w2c_i1;
-    if (w2c_i0) {goto w2c_B18;}
-    goto w2c_B20;
-    w2c_B78:;
-    w2c_i0 = w2c_l14;
-    w2c_i1 = 5u;
-    w2c_i0 = w2c_i0 == w2c_i1;
-    if (w2c_i0) {goto w2c_B16;}
-    goto w2c_B20;
-    w2c_B77:;
-    w2c_i0 = 0u;
-    w2c_l16 = w2c_i0;
-    w2c_i0 = w2c_l14;
-    w2c_i1 = 6u;
-    w2c_i0 = w2c_i0 == w2c_i1;
-    if (w2c_i0) {goto w2c_B27;}
-    w2c_i0 = w2c_l14;
-    w2c_i1 = 7u;
-    w2c_i0 = w2c_i0 == w2c_i1;
-    if (w2c_i0) {goto w2c_B18;}
-    goto w2c_B20;
-    w2c_B76:;
-    w2c_i0 = w2c_l14;
-    w2c_i1 = 7u;
-    w2c_i0 = w2c_i0 != w2c_i1;
-    if (w2c_i0) {goto w2c_B20;}
-    w2c_i0 = 0u;
-    w2c_l16 = w2c_i0;
-    goto w2c_B18;
-    w2c_B66:;
     w2c_i0 = w2c_l14;
     w2c_i1 = 4294967291u;
     w2c_i0 += w2c_i1;
     w2c_i1 = 10u;
     w2c_i0 = w2c_i0 < w2c_i1;
-    if (w2c_i0) {goto w2c_B81;}
+    if (w2c_i0) {goto w2c_B73;}
     w2c_i0 = w2c_l18;
     w2c_l16 = w2c_i0;
     w2c_i0 = w2c_l14;
-    switch (w2c_i0) {
-      case 0: goto w2c_B81;
-      case 1: goto w2c_B81;
-      case 2: goto w2c_B31;
-      case 3: goto w2c_B20;
-      case 4: goto w2c_B20;
-      default: goto w2c_B81;
-    }
-    w2c_B81:;
-    w2c_i0 = w2c_l18;
-    w2c_j0 = (u64)(w2c_i0);
-    w2c_j1 = 255ull;
-    w2c_j0 &= w2c_j1;
-    w2c_i0 = (u32)(w2c_j0);
-    switch (w2c_i0) {
-      case 0: goto w2c_B86;
-      case 1: goto w2c_B83;
-      case 2: goto w2c_B85;
-      case 3: goto w2c_B85;
-      case 4: goto w2c_B84;
-      case 5: goto w2c_B82;
-      default: goto w2c_B86;
-    }
-    w2c_B86:;
-    w2c_i0 = 0u;
-    w2c_l16 = w2c_i0;
-    w2c_i0 = 6u;
-    w2c_l17 = w2c_i0;
-    w2c_i0 = w2c_l14;
-    switch (w2c_i0) {
-      case 0: goto w2c_B20;
-      case 1: goto w2c_B20;
-      case 2: goto w2c_B20;
-      case 3: goto w2c_B20;
-      case 4: goto w2c_B20;
-      case 5: goto w2c_B14;
-      case 6: goto w2c_B27;
-      case 7: goto w2c_B18;
-      case 8: goto w2c_B20;
-      case 9: goto w2c_B20;
-      case 10: goto w2c_B20;
-      case 11: goto w2c_B20;
-      case 12: goto w2c_B20;
-      case 13: goto w2c_B20;
-      case 14: goto w2c_B20;
-      default: goto w2c_B20;
-    }
-    w2c_B85:;
-    w2c_i0 = 0u;
-    w2c_l16 = w2c_i0;
-    w2c_i0 = 8u;
-    w2c_l17 = w2c_i0;
-    w2c_i0 = w2c_l14;
-    w2c_i1 = 5u;
-    w2c_i0 = w2c_i0 == w2c_i1;
-    if (w2c_i0) {goto w2c_B14;}
-    w2c_i0 = w2c_l14;
-    w2c_i1 = 7u;
-    w2c_i0 = w2c_i0 == w2c_i1;
-    if (w2c_i0) {goto w2c_B18;}
-    goto w2c_B20;
-    w2c_B84:;
-    w2c_i0 = w2c_l14;
-    w2c_i1 = 5u;
-    w2c_i0 = w2c_i0 == w2c_i1;
-    if (w2c_i0) {goto w2c_B16;}
-    goto w2c_B20;
-    w2c_B83:;
-    w2c_i0 = 0u;
-    w2c_l16 = w2c_i0;
-    w2c_i0 = w2c_l14;
-    w2c_i1 = 6u;
-    w2c_i0 = w2c_i0 == w2c_i1;
-    if (w2c_i0) {goto w2c_B27;}
-    w2c_i0 = w2c_l14;
-    w2c_i1 = 7u;
-    w2c_i0 = w2c_i0 == w2c_i1;
-    if (w2c_i0) {goto w2c_B18;}
-    goto w2c_B20;
-    w2c_B82:;
-    w2c_i0 = w2c_l14;
-    w2c_i1 = 7u;
-    w2c_i0 = w2c_i0 != w2c_i1;
-    if (w2c_i0) {goto w2c_B20;}
-    w2c_i0 = 0u;
-    w2c_l16 = w2c_i0;
-    goto w2c_B18;
-    w2c_B65:;
-    w2c_i0 = w2c_l18;
-    w2c_j0 = (u64)(w2c_i0);
-    w2c_j1 = 255ull;
-    w2c_j0 &= w2c_j1;
-    w2c_i0 = (u32)(w2c_j0);
-    switch (w2c_i0) {
-      case 0: goto w2c_B91;
-      case 1: goto w2c_B88;
-      case 2: goto w2c_B90;
-      case 3: goto w2c_B90;
-      case 4: goto w2c_B89;
-      case 5: goto w2c_B87;
-      default: goto w2c_B91;
-    }
-    w2c_B91:;
-    w2c_i0 = 0u;
-    w2c_l16 = w2c_i0;
-    w2c_i0 = 6u;
-    w2c_l17 = w2c_i0;
-    w2c_i0 = w2c_l14;
-    switch (w2c_i0) {
-      case 0: goto w2c_B20;
-      case 1: goto w2c_B20;
-      case 2: goto w2c_B20;
-      case 3: goto w2c_B20;
-      case 4: goto w2c_B20;
-      case 5: goto w2c_B14;
-      case 6: goto w2c_B27;
-      case 7: goto w2c_B18;
-      case 8: goto w2c_B20;
-      case 9: goto w2c_B20;
-      case 10: goto w2c_B20;
-      case 11: goto w2c_B20;
-      case 12: goto w2c_B20;
-      case 13: goto w2c_B20;
-      case 14: goto w2c_B20;
-      default: goto w2c_B20;
-    }
-    w2c_B90:;
-    w2c_i0 = 0u;
-    w2c_l16 = w2c_i0;
-    w2c_i0 = 8u;
-    w2c_l17 = w2c_i0;
-    w2c_i0 = w2c_l14;
-    w2c_i1 = 5u;
-    w2c_i0 = w2c_i0 == w2c_i1;
-    if (w2c_i0) {goto w2c_B14;}
-    w2c_i0 = w2c_l14;
-    w2c_i1 = 7u;
-    w2c_i0 = w2c_i0 == w2c_i1;
-    if (w2c_i0) {goto w2c_B18;}
-    goto w2c_B20;
-    w2c_B89:;
-    w2c_i0 = w2c_l14;
-    w2c_i1 = 5u;
-    w2c_i0 = w2c_i0 == w2c_i1;
-    if (w2c_i0) {goto w2c_B16;}
-    goto w2c_B20;
-    w2c_B88:;
-    w2c_i0 = 0u;
-    w2c_l16 = w2c_i0;
-    w2c_i0 = w2c_l14;
-    w2c_i1 = 6u;
-    w2c_i0 = w2c_i0 == w2c_i1;
-    if (w2c_i0) {goto w2c_B27;}
-    w2c_i0 = w2c_l14;
-    w2c_i1 = 7u;
-    w2c_i0 = w2c_i0 == w2c_i1;
-    if (w2c_i0) {goto w2c_B18;}
-    goto w2c_B20;
-    w2c_B87:;
-    w2c_i0 = w2c_l14;
-    w2c_i1 = 7u;
-    w2c_i0 = w2c_i0 != w2c_i1;
-    if (w2c_i0) {goto w2c_B20;}
-    w2c_i0 = 0u;
-    w2c_l16 = w2c_i0;
-    goto w2c_B18;
-    w2c_B44:;
-    w2c_i0 = w2c_l15;
-    w2c_j0 = (u64)(w2c_i0);
-    w2c_j1 = 255ull;
-    w2c_j0 &= w2c_j1;
-    w2c_i0 = (u32)(w2c_j0);
-    switch (w2c_i0) {
-      case 0: goto w2c_B92;
-      case 1: goto w2c_B93;
-      case 2: goto w2c_B94;
-      case 3: goto w2c_B95;
-      default: goto w2c_B92;
-    }
-    w2c_B95:;
-    w2c_i0 = w2c_l14;
-    w2c_i1 = 4294967294u;
-    w2c_i0 += w2c_i1;
-    w2c_i1 = 13u;
-    w2c_i0 = w2c_i0 < w2c_i1;
-    if (w2c_i0) {goto w2c_B96;}
-    w2c_i0 = 1u;
-    w2c_l15 = w2c_i0;
-    w2c_i0 = 9u;
-    w2c_l17 = w2c_i0;
-    w2c_i0 = 2u;
-    w2c_l20 = w2c_i0;
-    w2c_i0 = 10u;
-    w2c_l19 = w2c_i0;
-    w2c_i0 = w2c_l18;
-    w2c_l21 = w2c_i0;
-    w2c_i0 = w2c_l18;
-    w2c_l16 = w2c_i0;
-    w2c_i0 = w2c_l14;
-    switch (w2c_i0) {
-      case 0: goto w2c_B13;
-      case 1: goto w2c_B35;
-      default: goto w2c_B13;
-    }
-    w2c_B96:;
-    w2c_i0 = w2c_l18;
-    w2c_j0 = (u64)(w2c_i0);
-    w2c_j1 = 255ull;
-    w2c_j0 &= w2c_j1;
-    w2c_i0 = (u32)(w2c_j0);
-    switch (w2c_i0) {
-      case 0: goto w2c_B101;
-      case 1: goto w2c_B98;
-      case 2: goto w2c_B100;
-      case 3: goto w2c_B100;
-      case 4: goto w2c_B99;
-      case 5: goto w2c_B97;
-      default: goto w2c_B101;
-    }
-    w2c_B101:;
-    w2c_i0 = 1u;
-    w2c_l16 = w2c_i0;
-    w2c_i0 = 6u;
-    w2c_l17 = w2c_i0;
-    w2c_i0 = w2c_l14;
-    w2c_i1 = 4294967294u;
-    w2c_i0 += w2c_i1;
-    switch (w2c_i0) {
-      case 0: goto w2c_B20;
-      case 1: goto w2c_B20;
-      case 2: goto w2c_B20;
-      case 3: goto w2c_B14;
-      case 4: goto w2c_B27;
-      case 5: goto w2c_B18;
-      case 6: goto w2c_B20;
-      case 7: goto w2c_B20;
-      case 8: goto w2c_B20;
-      case 9: goto w2c_B20;
-      case 10: goto w2c_B20;
-      case 11: goto w2c_B20;
-      case 12: goto w2c_B20;
-      default: goto w2c_B20;
-    }
-    w2c_B100:;
-    w2c_i0 = 1u;
-    w2c_l16 = w2c_i0;
-    w2c_i0 = 8u;
-    w2c_l17 = w2c_i0;
-    w2c_i0 = w2c_l14;
-    w2c_i1 = 5u;
-    w2c_i0 = w2c_i0 == w2c_i1;
-    if (w2c_i0) {goto w2c_B14;}
-    w2c_i0 = w2c_l14;
-    w2c_i1 = 7u;
-    w2c_i0 = w2c_i0 == w2c_i1;
-    if (w2c_i0) {goto w2c_B18;}
-    goto w2c_B20;
-    w2c_B99:;
-    w2c_i0 = w2c_l14;
-    w2c_i1 = 5u;
-    w2c_i0 = w2c_i0 != w2c_i1;
-    if (w2c_i0) {goto w2c_B20;}
-    goto w2c_B17;
-    w2c_B98:;
-    w2c_i0 = 1u;
-    w2c_l16 = w2c_i0;
-    w2c_i0 = w2c_l14;
-    w2c_i1 = 6u;
-    w2c_i0 = w2c_i0 == w2c_i1;
-    if (w2c_i0) {goto w2c_B27;}
-    w2c_i0 = w2c_l14;
-    w2c_i1 = 7u;
-    w2c_i0 = w2c_i0 == w2c_i1;
-    if (w2c_i0) {goto w2c_B18;}
-    goto w2c_B20;
-    w2c_B97:;
-    w2c_i0 = w2c_l14;
-    w2c_i1 = 7u;
-    w2c_i0 = w2c_i0 != w2c_i1;
-    if (w2c_i0) {goto w2c_B20;}
-    w2c_i0 = 1u;
-    w2c_l16 = w2c_i0;
-    goto w2c_B18;
-    w2c_B94:;
-    w2c_i0 = w2c_l14;
-    w2c_i1 = 4294967294u;
-    w2c_i0 += w2c_i1;
-    w2c_i1 = 13u;
-    w2c_i0 = w2c_i0 < w2c_i1;
-    if (w2c_i0) {goto w2c_B102;}
-    w2c_i0 = 9u;
-    w2c_l17 = w2c_i0;
-    w2c_i0 = 10u;
-    w2c_l19 = w2c_i0;
-    w2c_i0 = w2c_l18;
-    w2c_l21 = w2c_i0;
-    w2c_i0 = w2c_l14;
-    w2c_l20 = w2c_i0;
-    w2c_i0 = w2c_l18;
-    w2c_l16 = w2c_i0;
-    w2c_i0 = w2c_l14;
-    w2c_l15 = w2c_i0;
-    w2c_i0 = w2c_l14;
-    switch (w2c_i0) {
-      case 0: goto w2c_B13;
-      case 1: goto w2c_B35;
-      default: goto w2c_B13;
-    }
-    w2c_B102:;
-    w2c_i0 = w2c_l18;
-    w2c_j0 = (u64)(w2c_i0);
-    w2c_j1 = 255ull;
-    w2c_j0 &= w2c_j1;
-    w2c_i0 = (u32)(w2c_j0);
-    switch (w2c_i0) {
-      case 0: goto w2c_B107;
-      case 1: goto w2c_B104;
-      case 2: goto w2c_B106;
-      case 3: goto w2c_B106;
-      case 4: goto w2c_B105;
-      case 5: goto w2c_B103;
-      default: goto w2c_B107;
-    }
-    w2c_B107:;
-    w2c_i0 = 1u;
-    w2c_l16 = w2c_i0;
-    w2c_i0 = 6u;
-    w2c_l17 = w2c_i0;
-    w2c_i0 = w2c_l14;
-    w2c_i1 = 4294967294u;
-    w2c_i0 += w2c_i1;
-    switch (w2c_i0) {
-      case 0: goto w2c_B20;
-      case 1: goto w2c_B20;
-      case 2: goto w2c_B20;
-      case 3: goto w2c_B14;
-      case 4: goto w2c_B27;
-      case 5: goto w2c_B18;
-      case 6: goto w2c_B20;
-      case 7: goto w2c_B20;
-      case 8: goto w2c_B20;
-      case 9: goto w2c_B20;
-      case 10: goto w2c_B20;
-      case 11: goto w2c_B20;
-      case 12: goto w2c_B20;
-      default: goto w2c_B20;
-    }
-    w2c_B106:;
-    w2c_i0 = 1u;
-    w2c_l16 = w2c_i0;
-    w2c_i0 = 8u;
-    w2c_l17 = w2c_i0;
-    w2c_i0 = w2c_l14;
-    w2c_i1 = 5u;
-    w2c_i0 = w2c_i0 == w2c_i1;
-    if (w2c_i0) {goto w2c_B14;}
-    w2c_i0 = w2c_l14;
-    w2c_i1 = 7u;
-    w2c_i0 = w2c_i0 == w2c_i1;
-    if (w2c_i0) {goto w2c_B18;}
-    goto w2c_B20;
-    w2c_B105:;
-    w2c_i0 = w2c_l14;
-    w2c_i1 = 5u;
-    w2c_i0 = w2c_i0 == w2c_i1;
-    if (w2c_i0) {goto w2c_B17;}
-    goto w2c_B20;
-    w2c_B104:;
-    w2c_i0 = 1u;
-    w2c_l16 = w2c_i0;
-    w2c_i0 = w2c_l14;
-    w2c_i1 = 6u;
-    w2c_i0 = w2c_i0 == w2c_i1;
-    if (w2c_i0) {goto w2c_B27;}
-    w2c_i0 = w2c_l14;
-    w2c_i1 = 7u;
-    w2c_i0 = w2c_i0 == w2c_i1;
-    if (w2c_i0) {goto w2c_B18;}
-    goto w2c_B20;
-    w2c_B103:;
-    w2c_i0 = w2c_l14;
-    w2c_i1 = 7u;
-    w2c_i0 = w2c_i0 != w2c_i1;
-    if (w2c_i0) {goto w2c_B20;}
-    w2c_i0 = 1u;
-    w2c_l16 = w2c_i0;
-    goto w2c_B18;
-    w2c_B93:;
-    w2c_i0 = w2c_l14;
-    w2c_i1 = 4294967294u;
-    w2c_i0 += w2c_i1;
-    w2c_i1 = 13u;
-    w2c_i0 = w2c_i0 < w2c_i1;
-    if (w2c_i0) {goto w2c_B108;}
-    w2c_i0 = 0u;
-    w2c_l20 = w2c_i0;
-    w2c_i0 = 10u;
-    w2c_l19 = w2c_i0;
-    w2c_i0 = w2c_l18;
-    w2c_l21 = w2c_i0;
-    w2c_i0 = w2c_l14;
-    switch (w2c_i0) {
-      case 0: goto w2c_B20;
-      case 1: goto w2c_B35;
-      default: goto w2c_B20;
-    }
-    w2c_B108:;
-    w2c_i0 = w2c_l18;
-    w2c_j0 = (u64)(w2c_i0);
-    w2c_j1 = 255ull;
-    w2c_j0 &= w2c_j1;
-    w2c_i0 = (u32)(w2c_j0);
-    switch (w2c_i0) {
-      case 0: goto w2c_B113;
-      case 1: goto w2c_B110;
-      case 2: goto w2c_B112;
-      case 3: goto w2c_B112;
-      case 4: goto w2c_B111;
-      case 5: goto w2c_B109;
-      default: goto w2c_B113;
-    }
-    w2c_B113:;
-    w2c_i0 = 1u;
-    w2c_l16 = w2c_i0;
-    w2c_i0 = 6u;
-    w2c_l17 = w2c_i0;
-    w2c_i0 = w2c_l14;
-    w2c_i1 = 4294967294u;
-    w2c_i0 += w2c_i1;
-    switch (w2c_i0) {
-      case 0: goto w2c_B20;
-      case 1: goto w2c_B20;
-      case 2: goto w2c_B20;
-      case 3: goto w2c_B14;
-      case 4: goto w2c_B27;
-      case 5: goto w2c_B18;
-      case 6: goto w2c_B20;
-      case 7: goto w2c_B20;
-      case 8: goto w2c_B20;
-      case 9: goto w2c_B20;
-      case 10: goto w2c_B20;
-      case 11: goto w2c_B20;
-      case 12: goto w2c_B20;
-      default: goto w2c_B20;
-    }
-    w2c_B112:;
-    w2c_i0 = 1u;
-    w2c_l16 = w2c_i0;
-    w2c_i0 = 8u;
-    w2c_l17 = w2c_i0;
-    w2c_i0 = w2c_l14;
-    w2c_i1 = 5u;
-    w2c_i0 = w2c_i0 == w2c_i1;
-    if (w2c_i0) {goto w2c_B14;}
-    w2c_i0 = w2c_l14;
-    w2c_i1 = 7u;
-    w2c_i0 = w2c_i0 == w2c_i1;
-    if (w2c_i0) {goto w2c_B18;}
-    goto w2c_B20;
-    w2c_B111:;
-    w2c_i0 = w2c_l14;
-    w2c_i1 = 5u;
-    w2c_i0 = w2c_i0 == w2c_i1;
-    if (w2c_i0) {goto w2c_B17;}
-    goto w2c_B20;
-    w2c_B110:;
-    w2c_i0 = 1u;
-    w2c_l16 = w2c_i0;
-    w2c_i0 = w2c_l14;
-    w2c_i1 = 6u;
-    w2c_i0 = w2c_i0 == w2c_i1;
-    if (w2c_i0) {goto w2c_B27;}
-    w2c_i0 = w2c_l14;
-    w2c_i1 = 7u;
-    w2c_i0 = w2c_i0 == w2c_i1;
-    if (w2c_i0) {goto w2c_B18;}
-    goto w2c_B20;
-    w2c_B109:;
-    w2c_i0 = w2c_l14;
-    w2c_i1 = 7u;
-    w2c_i0 = w2c_i0 != w2c_i1;
-    if (w2c_i0) {goto w2c_B20;}
-    w2c_i0 = 1u;
-    w2c_l16 = w2c_i0;
-    goto w2c_B18;
-    w2c_B92:;
-    w2c_i0 = w2c_l18;
-    w2c_j0 = (u64)(w2c_i0);
-    w2c_j1 = 255ull;
-    w2c_j0 &= w2c_j1;
-    w2c_i0 = (u32)(w2c_j0);
-    switch (w2c_i0) {
-      case 0: goto w2c_B118;
-      case 1: goto w2c_B115;
-      case 2: goto w2c_B117;
-      case 3: goto w2c_B117;
-      case 4: goto w2c_B116;
-      case 5: goto w2c_B114;
-      default: goto w2c_B118;
-    }
-    w2c_B118:;
-    w2c_i0 = 1u;
-    w2c_l16 = w2c_i0;
-    w2c_i0 = 6u;
-    w2c_l17 = w2c_i0;
-    w2c_i0 = w2c_l14;
-    switch (w2c_i0) {
-      case 0: goto w2c_B20;
-      case 1: goto w2c_B20;
-      case 2: goto w2c_B20;
-      case 3: goto w2c_B20;
-      case 4: goto w2c_B20;
-      case 5: goto w2c_B14;
-      case 6: goto w2c_B27;
-      case 7: goto w2c_B18;
-      case 8: goto w2c_B20;
-      case 9: goto w2c_B20;
-      case 10: goto w2c_B20;
-      case 11: goto w2c_B20;
-      case 12: goto w2c_B20;
-      case 13: goto w2c_B20;
-      case 14: goto w2c_B20;
-      default: goto w2c_B20;
-    }
-    w2c_B117:;
-    w2c_i0 = 1u;
-    w2c_l16 = w2c_i0;
-    w2c_i0 = 8u;
-    w2c_l17 = w2c_i0;
-    w2c_i0 = w2c_l14;
-    w2c_i1 = 5u;
-    w2c_i0 = w2c_i0 == w2c_i1;
-    if (w2c_i0) {goto w2c_B14;}
-    w2c_i0 = w2c_l14;
-    w2c_i1 = 7u;
-    w2c_i0 = w2c_i0 == w2c_i1;
-    if (w2c_i0) {goto w2c_B18;}
-    goto w2c_B20;
-    w2c_B116:;
-    w2c_i0 = w2c_l14;
-    w2c_i1 = 5u;
-    w2c_i0 = w2c_i0 == w2c_i1;
-    if (w2c_i0) {goto w2c_B17;}
-    goto w2c_B20;
-    w2c_B115:;
-    w2c_i0 = 1u;
-    w2c_l16 = w2c_i0;
-    w2c_i0 = w2c_l14;
-    w2c_i1 = 6u;
-    w2c_i0 = w2c_i0 == w2c_i1;
-    if (w2c_i0) {goto w2c_B27;}
-    w2c_i0 = w2c_l14;
-    w2c_i1 = 7u;
-    w2c_i0 = w2c_i0 != w2c_i1;
-    if (w2c_i0) {goto w2c_B20;}
-    goto w2c_B18;
-    w2c_B114:;
-    w2c_i0 = w2c_l14;
-    w2c_i1 = 7u;
-    w2c_i0 = w2c_i0 != w2c_i1;
-    if (w2c_i0) {goto w2c_B20;}
-    w2c_i0 = 1u;
-    w2c_l16 = w2c_i0;
-    goto w2c_B18;
-    w2c_B43:;
-    w2c_i0 = 5u;
-    w2c_l19 = w2c_i0;
-    w2c_i0 = 0u;
-    w2c_l21 = w2c_i0;
-    w2c_i0 = 1u;
-    w2c_l17 = w2c_i0;
-    w2c_i0 = 0u;
-    w2c_l20 = w2c_i0;
-    w2c_i0 = 0u;
-    w2c_l16 = w2c_i0;
-    w2c_i0 = 0u;
-    w2c_l15 = w2c_i0;
-    w2c_i0 = w2c_l14;
-    switch (w2c_i0) {
-      case 0: goto w2c_B33;
-      case 1: goto w2c_B35;
-      case 2: goto w2c_B20;
-      case 3: goto w2c_B20;
-      case 4: goto w2c_B20;
-      case 5: goto w2c_B20;
-      case 6: goto w2c_B20;
-      case 7: goto w2c_B20;
-      case 8: goto w2c_B20;
-      case 9: goto w2c_B20;
-      case 10: goto w2c_B20;
-      case 11: goto w2c_B13;
-      case 12: goto w2c_B20;
-      case 13: goto w2c_B20;
-      case 14: goto w2c_B20;
-      default: goto w2c_B33;
-    }
-    w2c_B42:;
-    w2c_i0 = w2c_l14;
-    w2c_i1 = 12u;
-    w2c_i0 = w2c_i0 != w2c_i1;
-    if (w2c_i0) {goto w2c_B20;}
-    w2c_i0 = 0u;
-    w2c_l16 = w2c_i0;
-    w2c_i0 = 2u;
-    w2c_l17 = w2c_i0;
-    goto w2c_B22;
-    w2c_B41:;
-    w2c_i0 = w2c_l14;
-    w2c_i1 = 13u;
-    w2c_i0 = w2c_i0 != w2c_i1;
-    if (w2c_i0) {goto w2c_B20;}
-    w2c_i0 = 0u;
-    w2c_l16 = w2c_i0;
-    w2c_i0 = 3u;
-    w2c_l17 = w2c_i0;
-    goto w2c_B22;
-    w2c_B40:;
-    w2c_i0 = 0u;
-    w2c_l21 = w2c_i0;
-    w2c_i0 = 5u;
-    w2c_l19 = w2c_i0;
-    w2c_i0 = 0u;
-    w2c_l20 = w2c_i0;
-    w2c_i0 = w2c_l14;
-    switch (w2c_i0) {
-      case 0: goto w2c_B33;
-      case 1: goto w2c_B35;
-      case 2: goto w2c_B20;
-      case 3: goto w2c_B20;
-      case 4: goto w2c_B20;
-      case 5: goto w2c_B20;
-      case 6: goto w2c_B20;
-      case 7: goto w2c_B20;
-      case 8: goto w2c_B20;
-      case 9: goto w2c_B20;
-      case 10: goto w2c_B20;
-      case 11: goto w2c_B20;
-      case 12: goto w2c_B20;
-      case 13: goto w2c_B20;
-      case 14: goto w2c_B20;
-      default: goto w2c_B33;
-    }
-    w2c_B39:;
-    w2c_i0 = w2c_l14;
-    w2c_i1 = 7u;
-    w2c_i0 = w2c_i0 != w2c_i1;
-    if (w2c_i0) {goto w2c_B20;}
-    w2c_i0 = 1u;
-    w2c_l16 = w2c_i0;
-    goto w2c_B18;
-    w2c_B38:;
-    w2c_i0 = 16u;
-    w2c_l19 = w2c_i0;
-    w2c_i0 = 0u;
-    w2c_l21 = w2c_i0;
-    w2c_i0 = 19u;
-    w2c_l17 = w2c_i0;
-    w2c_i0 = 0u;
-    w2c_l20 = w2c_i0;
-    w2c_i0 = 0u;
-    w2c_l16 = w2c_i0;
-    w2c_i0 = 0u;
-    w2c_l15 = w2c_i0;
-    w2c_i0 = w2c_l14;
-    switch (w2c_i0) {
-      case 0: goto w2c_B119;
-      case 1: goto w2c_B35;
-      case 2: goto w2c_B20;
-      case 3: goto w2c_B20;
-      case 4: goto w2c_B20;
-      case 5: goto w2c_B20;
-      case 6: goto w2c_B20;
-      case 7: goto w2c_B20;
-      case 8: goto w2c_B20;
-      case 9: goto w2c_B20;
-      case 10: goto w2c_B13;
-      case 11: goto w2c_B20;
-      case 12: goto w2c_B20;
-      case 13: goto w2c_B20;
-      case 14: goto w2c_B20;
-      default: goto w2c_B119;
-    }
-    w2c_B119:;
-    w2c_i0 = w2c_l18;
-    w2c_i1 = 1u;
-    w2c_i0 &= w2c_i1;
-    w2c_l16 = w2c_i0;
-    w2c_i0 = 14u;
-    w2c_l17 = w2c_i0;
-    goto w2c_B22;
-    w2c_B37:;
-    w2c_i0 = 18u;
-    w2c_l19 = w2c_i0;
-    w2c_i0 = 0u;
-    w2c_l16 = w2c_i0;
-    w2c_i0 = 19u;
-    w2c_l17 = w2c_i0;
-    w2c_i0 = w2c_l14;
-    w2c_i1 = 1u;
-    w2c_i0 = w2c_i0 != w2c_i1;
-    if (w2c_i0) {goto w2c_B120;}
-    w2c_i0 = 0u;
-    w2c_l21 = w2c_i0;
-    w2c_i0 = 0u;
-    w2c_l20 = w2c_i0;
-    goto w2c_B35;
-    w2c_B120:;
-    w2c_i0 = 0u;
-    w2c_l15 = w2c_i0;
-    w2c_i0 = w2c_l14;
-    w2c_i1 = 10u;
-    w2c_i0 = w2c_i0 == w2c_i1;
-    if (w2c_i0) {goto w2c_B13;}
-    goto w2c_B20;
-    w2c_B36:;
-    w2c_i0 = w2c_l14;
-    w2c_i1 = 1u;
-    w2c_i0 = w2c_i0 != w2c_i1;
-    if (w2c_i0) {goto w2c_B20;}
-    w2c_i0 = w2c_l18;
-    w2c_i1 = 1u;
-    w2c_i0 &= w2c_i1;
-    w2c_l21 = w2c_i0;
-    w2c_i0 = 0u;
-    w2c_l20 = w2c_i0;
-    w2c_i0 = 15u;
-    w2c_l19 = w2c_i0;
-    w2c_B35:;
-    w2c_i0 = w2c_l19;
-    w2c_l17 = w2c_i0;
-    w2c_i0 = w2c_l21;
-    w2c_l16 = w2c_i0;
-    w2c_i0 = w2c_l20;
-    w2c_l15 = w2c_i0;
-    w2c_j0 = w2c_l13;
-    w2c_l9 = w2c_j0;
-    goto w2c_B13;
-    w2c_B34:;
-    w2c_i0 = w2c_l18;
-    w2c_i1 = 1u;
-    w2c_i0 &= w2c_i1;
-    w2c_i0 = !(w2c_i0);
-    if (w2c_i0) {goto w2c_B24;}
-    w2c_i0 = w2c_l14;
-    w2c_i1 = 8u;
-    w2c_i0 = w2c_i0 == w2c_i1;
-    if (w2c_i0) {goto w2c_B25;}
-    w2c_i0 = w2c_l14;
-    w2c_i1 = 9u;
-    w2c_i0 = w2c_i0 == w2c_i1;
-    if (w2c_i0) {goto w2c_B23;}
-    goto w2c_B20;
-    w2c_B33:;
-    w2c_i0 = 0u;
-    w2c_l16 = w2c_i0;
-    w2c_i0 = 4u;
-    w2c_l17 = w2c_i0;
-    goto w2c_B22;
-    w2c_B32:;
-    w2c_i0 = w2c_l18;
-    w2c_l16 = w2c_i0;
-    w2c_i0 = w2c_l14;
-    w2c_i1 = 2u;
-    w2c_i0 = w2c_i0 != w2c_i1;
-    if (w2c_i0) {goto w2c_B20;}
-    w2c_B31:;
-    w2c_j0 = w2c_l9;
-    w2c_j1 = 10ull;
-    w2c_j0 *= w2c_j1;
-    w2c_j1 = w2c_l10;
-    w2c_j0 += w2c_j1;
-    w2c_l10 = w2c_j0;
-    w2c_j0 = 0ull;
-    w2c_l9 = w2c_j0;
-    w2c_i0 = 1u;
-    w2c_l15 = w2c_i0;
-    w2c_i0 = 12u;
-    w2c_l17 = w2c_i0;
-    goto w2c_B13;
-    w2c_B30:;
-    w2c_i0 = w2c_l18;
-    w2c_l16 = w2c_i0;
-    w2c_i0 = w2c_l14;
-    w2c_i1 = 3u;
-    w2c_i0 = w2c_i0 != w2c_i1;
-    if (w2c_i0) {goto w2c_B20;}
-    w2c_B29:;
-    w2c_j0 = w2c_l9;
-    w2c_j1 = 100ull;
-    w2c_j0 *= w2c_j1;
-    w2c_j1 = w2c_l10;
-    w2c_j0 += w2c_j1;
-    w2c_l10 = w2c_j0;
-    w2c_j0 = 0ull;
-    w2c_l9 = w2c_j0;
-    w2c_i0 = 2u;
-    w2c_l15 = w2c_i0;
-    w2c_i0 = 12u;
-    w2c_l17 = w2c_i0;
-    goto w2c_B13;
-    w2c_B28:;
-    w2c_i0 = 5u;
-    w2c_i1 = w2c_l18;
-    w2c_i2 = w2c_l18;
-    w2c_i3 = 255u;
-    w2c_i2 &= w2c_i3;
-    w2c_i3 = 3u;
-    w2c_i2 = w2c_i2 == w2c_i3;
-    w2c_i0 = w2c_i2 ? w2c_i0 : w2c_i1;
-    w2c_l16 = w2c_i0;
-    goto w2c_B19;
-    w2c_B27:;
-    w2c_j0 = w2c_l10;
-    w2c_j1 = w2c_l9;
-    w2c_j0 += w2c_j1;
-    w2c_j1 = w2c_l11;
-    w2c_j0 += w2c_j1;
-    w2c_j1 = 100000000ull;
-    w2c_j0 *= w2c_j1;
-    w2c_l11 = w2c_j0;
-    w2c_j0 = 0ull;
-    w2c_l10 = w2c_j0;
-    w2c_i0 = 0u;
-    w2c_l15 = w2c_i0;
-    w2c_i0 = 7u;
-    w2c_l17 = w2c_i0;
-    w2c_j0 = 0ull;
-    w2c_l9 = w2c_j0;
-    goto w2c_B13;
-    w2c_B26:;
-    w2c_i0 = w2c_l14;
-    w2c_i1 = 8u;
-    w2c_i0 = w2c_i0 != w2c_i1;
-    if (w2c_i0) {goto w2c_B20;}
-    w2c_B25:;
-    w2c_j0 = w2c_l11;
-    w2c_j1 = w2c_l9;
-    w2c_j2 = 10ull;
-    w2c_j1 *= w2c_j2;
-    w2c_j0 += w2c_j1;
-    w2c_l11 = w2c_j0;
-    w2c_j0 = 0ull;
-    w2c_l9 = w2c_j0;
-    w2c_i0 = 0u;
-    w2c_l16 = w2c_i0;
-    w2c_i0 = 17u;
-    w2c_l17 = w2c_i0;
-    goto w2c_B22;
-    w2c_B24:;
-    w2c_i0 = w2c_l14;
-    w2c_i1 = 9u;
-    w2c_i0 = w2c_i0 != w2c_i1;
-    if (w2c_i0) {goto w2c_B20;}
-    w2c_B23:;
-    w2c_j0 = w2c_l11;
-    w2c_j1 = w2c_l9;
-    w2c_j0 += w2c_j1;
-    w2c_l11 = w2c_j0;
-    w2c_j0 = 0ull;
-    w2c_l9 = w2c_j0;
-    w2c_i0 = 0u;
-    w2c_l16 = w2c_i0;
-    w2c_i0 = 19u;
-    w2c_l17 = w2c_i0;
-    w2c_B22:;
-    w2c_i0 = 0u;
-    w2c_l15 = w2c_i0;
-    goto w2c_B13;
-    w2c_B21:;
-    w2c_i0 = w2c_l18;
-    w2c_l16 = w2c_i0;
-    w2c_i0 = w2c_l14;
-    w2c_i1 = 4u;
-    w2c_i0 = w2c_i0 == w2c_i1;
-    if (w2c_i0) {goto w2c_B19;}
-    w2c_B20:;
-    w2c_j0 = 0ull;
-    w2c_p0 = w2c_j0;
-    w2c_j0 = w2c_p2;
-    w2c_i0 = (u32)(w2c_j0);
-    w2c_j1 = 0ull;
-    i64_store(m, (u64)(w2c_i0) + 16, w2c_j1);
-    w2c_j0 = w2c_p2;
-    w2c_i0 = (u32)(w2c_j0);
-    w2c_j1 = 0ull;
-    i64_store(m, (u64)(w2c_i0), w2c_j1);
-    w2c_j0 = w2c_p2;
-    w2c_i0 = (u32)(w2c_j0);
-    w2c_j1 = w2c_l4;
-    i64_store(m, (u64)(w2c_i0) + 8, w2c_j1);
-    w2c_j0 = w2c_l4;
-    w2c_j1 = 3ull;
-    w2c_i0 = w2c_j0 < w2c_j1;
-    if (w2c_i0) {goto w2c_B121;}
-    w2c_j0 = 0ull;
-    w2c_p0 = w2c_j0;
-    w2c_L122:
-      w2c_j0 = w2c_p1;
-      w2c_j1 = w2c_p0;
-      w2c_j0 -= w2c_j1;
-      w2c_j1 = 8ull;
-      w2c_i0 = w2c_j0 < w2c_j1;
-      if (w2c_i0) {goto w2c_B121;}
-      w2c_j0 = w2c_l5;
-      w2c_j1 = w2c_p0;
-      w2c_j0 += w2c_j1;
-      w2c_i0 = (u32)(w2c_j0);
-      w2c_j0 = i64_load(m, (u64)(w2c_i0));
-      w2c_l8 = w2c_j0;
-      w2c_j1 = 67553998437089520ull;
-      w2c_j0 &= w2c_j1;
-      w2c_j1 = 63050398541283552ull;
-      w2c_i0 = w2c_j0 != w2c_j1;
-      if (w2c_i0) {goto w2c_B124;}
-      w2c_j0 = w2c_l4;
-      w2c_j1 = 18446744073709551613ull;
-      w2c_j0 += w2c_j1;
-      w2c_l4 = w2c_j0;
-      w2c_j0 = w2c_p0;
-      w2c_j1 = 9ull;
-      w2c_j0 += w2c_j1;
-      w2c_p0 = w2c_j0;
-      goto w2c_B123;
-      w2c_B124:;
-      w2c_j0 = w2c_l4;
-      w2c_j1 = 8ull;
-      w2c_i0 = w2c_j0 < w2c_j1;
-      if (w2c_i0) {goto w2c_B121;}
-      w2c_j0 = w2c_l8;
-      w2c_j1 = 9259542123273814144ull;
-      w2c_j0 &= w2c_j1;
-      w2c_j1 = 0ull;
-      w2c_i0 = w2c_j0 != w2c_j1;
-      if (w2c_i0) {goto w2c_B121;}
-      w2c_j0 = w2c_l4;
-      w2c_j1 = 18446744073709551608ull;
-      w2c_j0 += w2c_j1;
-      w2c_l4 = w2c_j0;
-      w2c_j0 = w2c_p0;
-      w2c_j1 = 8ull;
-      w2c_j0 += w2c_j1;
-      w2c_p0 = w2c_j0;
-      w2c_B123:;
-      w2c_j0 = w2c_l4;
-      w2c_j1 = 2ull;
-      w2c_i0 = w2c_j0 > w2c_j1;
-      if (w2c_i0) {goto w2c_L122;}
-    w2c_B121:;
-    w2c_j0 = w2c_p1;
-    w2c_j1 = w2c_p0;
-    w2c_i0 = w2c_j0 <= w2c_j1;
-    if (w2c_i0) {goto w2c_B125;}
-    w2c_j0 = w2c_l4;
-    w2c_i0 = !(w2c_j0);
-    if (w2c_i0) {goto w2c_B125;}
-    w2c_j0 = w2c_l4;
-    w2c_j1 = 18446744073709551615ull;
-    w2c_j0 += w2c_j1;
-    w2c_l4 = w2c_j0;
-    w2c_L126:
-      w2c_j0 = w2c_l5;
-      w2c_j1 = w2c_p0;
-      w2c_j0 += w2c_j1;
-      w2c_i0 = (u32)(w2c_j0);
-      w2c_i0 = i32_load8_u(m, (u64)(w2c_i0));
-      w2c_i1 = 1u;
-      w2c_i0 >>= (w2c_i1 & 31);
-      w2c_j0 = (u64)(w2c_i0);
-      w2c_j1 = 120ull;
-      w2c_j0 &= w2c_j1;
-      w2c_j1 = 66848ull;
-      w2c_j0 += w2c_j1;
-      w2c_i0 = (u32)(w2c_j0);
-      w2c_j0 = i64_load(m, (u64)(w2c_i0));
-      w2c_j1 = w2c_p0;
-      w2c_j0 += w2c_j1;
-      w2c_p0 = w2c_j0;
-      w2c_j0 = w2c_l4;
-      w2c_i0 = !(w2c_j0);
-      if (w2c_i0) {goto w2c_B125;}
-      w2c_j0 = w2c_l4;
-      w2c_j1 = 18446744073709551615ull;
-      w2c_j0 += w2c_j1;
-      w2c_l4 = w2c_j0;
-      w2c_j0 = w2c_p1;
-      w2c_j1 = w2c_p0;
-      w2c_i0 = w2c_j0 > w2c_j1;
-      if (w2c_i0) {goto w2c_L126;}
-    w2c_B125:;
-    w2c_j0 = w2c_p2;
-    w2c_i0 = (u32)(w2c_j0);
-    w2c_j1 = w2c_p0;
-    i64_store(m, (u64)(w2c_i0) + 16, w2c_j1);
-    w2c_j0 = w2c_l3;
-    m->w2c_g0 = w2c_j0;
-    w2c_i0 = 2u;
-    goto w2c_Bfunc;
-    w2c_B19:;
-    w2c_j0 = w2c_l9;
-    w2c_j1 = 1000ull;
-    w2c_j0 *= w2c_j1;
-    w2c_j1 = w2c_l10;
-    w2c_j0 += w2c_j1;
-    w2c_l10 = w2c_j0;
-    w2c_j0 = 0ull;
-    w2c_l9 = w2c_j0;
-    w2c_i0 = 3u;
-    w2c_l15 = w2c_i0;
-    w2c_i0 = 12u;
-    w2c_l17 = w2c_i0;
-    goto w2c_B13;
-    w2c_B18:;
-    w2c_j0 = w2c_l10;
-    w2c_j1 = w2c_l9;
-    w2c_j0 += w2c_j1;
-    w2c_j1 = w2c_l11;
-    w2c_j0 += w2c_j1;
-    w2c_j1 = 100ull;
-    w2c_j0 *= w2c_j1;
-    w2c_l11 = w2c_j0;
-    w2c_j0 = 0ull;
-    w2c_l10 = w2c_j0;
-    w2c_i0 = 0u;
-    w2c_l15 = w2c_i0;
-    w2c_i0 = 13u;
-    w2c_l17 = w2c_i0;
-    w2c_j0 = 0ull;
-    w2c_l9 = w2c_j0;
-    goto w2c_B13;
-    w2c_B17:;
-    w2c_i0 = 1u;
-    w2c_l16 = w2c_i0;
-    goto w2c_B15;
-    w2c_B16:;
-    w2c_i0 = 0u;
-    w2c_l16 = w2c_i0;
-    w2c_B15:;
-    w2c_i0 = 8u;
-    w2c_l17 = w2c_i0;
-    w2c_B14:;
-    w2c_j0 = w2c_l10;
-    w2c_j1 = w2c_l9;
-    w2c_j0 += w2c_j1;
-    w2c_j1 = 10000ull;
-    w2c_j0 *= w2c_j1;
-    w2c_j1 = w2c_l11;
-    w2c_j0 += w2c_j1;
-    w2c_l11 = w2c_j0;
-    w2c_j0 = 0ull;
-    w2c_l10 = w2c_j0;
-    w2c_i0 = 0u;
-    w2c_l15 = w2c_i0;
-    w2c_j0 = 0ull;
-    w2c_l9 = w2c_j0;
-    w2c_B13:;
-    w2c_j0 = w2c_l8;
-    w2c_j1 = w2c_l12;
-    w2c_j0 += w2c_j1;
-    w2c_l8 = w2c_j0;
-    w2c_j0 = w2c_l4;
-    w2c_j1 = 1ull;
-    w2c_j0 += w2c_j1;
-    w2c_l4 = w2c_j0;
-    w2c_j0 = w2c_l7;
-    w2c_j1 = w2c_l12;
-    w2c_j0 -= w2c_j1;
-    w2c_l7 = w2c_j0;
-    w2c_j1 = 0ull;
-    w2c_i0 = w2c_j0 != w2c_j1;
-    if (w2c_i0) {goto w2c_L9;}
-  w2c_i0 = w2c_l17;
-  w2c_i1 = 4294967295u;
-  w2c_i0 += w2c_i1;
-  w2c_i1 = 16u;
-  w2c_i0 = w2c_i0 < w2c_i1;
-  if (w2c_i0) {goto w2c_B127;}
-  w2c_i0 = w2c_l17;
-  w2c_i1 = 4294967279u;
-  w2c_i0 += w2c_i1;
-  switch (w2c_i0) {
-    case 0: goto w2c_B128;
-    case 1: goto w2c_B127;
-    case 2: goto w2c_B128;
-    default: goto w2c_B128;
-  }
-  w2c_B128:;
-  w2c_j0 = w2c_l6;
-  w2c_i0 = (u32)(w2c_j0);
-  w2c_j1 = 0ull;
-  i64_store(m, (u64)(w2c_i0) + 8, w2c_j1);
-  w2c_j0 = w2c_l6;
-  w2c_i0 = (u32)(w2c_j0);
-  w2c_j1 = 0ull;
-  i64_store(m, (u64)(w2c_i0), w2c_j1);
-  w2c_j0 = w2c_p2;
-  w2c_i0 = (u32)(w2c_j0);
-  w2c_j1 = w2c_l11;
-  i64_store(m, (u64)(w2c_i0), w2c_j1);
-  w2c_j0 = w2c_l3;
-  m->w2c_g0 = w2c_j0;
-  w2c_i0 = 0u;
-  goto w2c_Bfunc;
-  w2c_B127:;
-  w2c_j0 = w2c_p2;
-  w2c_i0 = (u32)(w2c_j0);
-  w2c_j1 = 0ull;
-  i64_store(m, (u64)(w2c_i0) + 16, w2c_j1);
-  w2c_j0 = w2c_p2;
-  w2c_i0 = (u32)(w2c_j0);
-  w2c_j1 = 0ull;
-  i64_store(m, (u64)(w2c_i0) + 8, w2c_j1);
-  w2c_j0 = w2c_p2;
-  w2c_i0 = (u32)(w2c_j0);
-  w2c_j1 = 0ull;
-  i64_store(m, (u64)(w2c_i0), w2c_j1);
-  goto w2c_B7;
-  w2c_B8:;
-  w2c_j0 = w2c_p2;
-  w2c_i0 = (u32)(w2c_j0);
-  w2c_j1 = 0ull;
-  i64_store(m, (u64)(w2c_i0) + 16, w2c_j1);
-  w2c_j0 = w2c_p2;
-  w2c_i0 = (u32)(w2c_j0);
-  w2c_j1 = 0ull;
-  i64_store(m, (u64)(w2c_i0) + 8, w2c_j1);
-  w2c_j0 = w2c_p2;
-  w2c_i0 = (u32)(w2c_j0);
-  w2c_j1 = 0ull;
-  i64_store(m, (u64)(w2c_i0), w2c_j1);
-  w2c_B7:;
-  w2c_i0 = 9u;
-  w2c_l14 = w2c_i0;
-  w2c_B1:;
-  w2c_j0 = w2c_l3;
-  m->w2c_g0 = w2c_j0;
-  w2c_i0 = w2c_l14;
-  goto w2c_Bfunc;
-  w2c_B0:;
-  UNREACHABLE;
-  w2c_Bfunc:;
-  return w2c_i0;
-}
-
-static u32 w2c_chinese_typed_amount_read(module *m, u64 w2c_p0, u64 w2c_p1, u64 w2c_p2) {
-  u32 w2c_l3 = 0;
-  u32 w2c_i0;
-  u64 w2c_j0, w2c_j1, w2c_j2;
-  w2c_i0 = w2c_f0(m);
-  w2c_i0 = !(w2c_i0);
-  if (w2c_i0) {goto w2c_B0;}
-  w2c_f2(m);
-  UNREACHABLE;
-  w2c_B0:;
-  w2c_j0 = w2c_p0;
-  w2c_j1 = w2c_p1;
-  w2c_j2 = w2c_p2;
-  w2c_i0 = w2c_f65(m, w2c_j0, w2c_j1, w2c_j2);
-  w2c_l3 = w2c_i0;
-  w2c_f1(m);
-  w2c_i0 = w2c_l3;
-  return w2c_i0;
-}
-
-static u32 w2c_f65(module *m, u64 w2c_p0, u64 w2c_p1, u64 w2c_p2) {
-  u32 w2c_l13 = 0, w2c_l14 = 0, w2c_l15 = 0, w2c_l16 = 0, w2c_l17 = 0, w2c_l18 = 0, w2c_l19 = 0, w2c_l20 = 0, w2c_l21 = 0;
-  u64 w2c_l3 = 0, w2c_l4 = 0, w2c_l5 = 0, w2c_l6 = 0, w2c_l7 = 0, w2c_l8 = 0, w2c_l9 = 0, w2c_l10 = 0, w2c_l11 = 0, w2c_l12 = 0;
-  u32 w2c_i0, w2c_i1, w2c_i2, w2c_i3, w2c_i4;
-  u64 w2c_j0, w2c_j1, w2c_j2, w2c_j3;
-  w2c_j0 = m->w2c_g0;
-  w2c_j1 = 16ull;
-  w2c_j0 -= w2c_j1;
-  w2c_l3 = w2c_j0;
-  m->w2c_g0 = w2c_j0;
-  w2c_j0 = w2c_l3;
-  w2c_l3 = w2c_j0;
-  w2c_j1 = 16ull;
-  w2c_i0 = (u64)((s64)w2c_j0 < (s64)w2c_j1);
-  if (w2c_i0) {goto w2c_B0;}
-  w2c_j0 = w2c_p2;
-  w2c_i0 = (u32)(w2c_j0);
-  w2c_j1 = 0ull;
-  i64_store(m, (u64)(w2c_i0) + 16, w2c_j1);
-  w2c_j0 = w2c_p2;
-  w2c_i0 = (u32)(w2c_j0);
-  w2c_j1 = 0ull;
-  i64_store(m, (u64)(w2c_i0) + 8, w2c_j1);
-  w2c_j0 = w2c_p2;
-  w2c_i0 = (u32)(w2c_j0);
-  w2c_j1 = 0ull;
-  i64_store(m, (u64)(w2c_i0), w2c_j1);
-  w2c_j0 = w2c_p1;
-  w2c_l4 = w2c_j0;
-  w2c_j0 = w2c_p0;
-  w2c_j1 = 4096ull;
-  w2c_j2 = 0ull;
-  w2c_j3 = w2c_p0;
-  w2c_i3 = !(w2c_j3);
-  w2c_j1 = w2c_i3 ? w2c_j1 : w2c_j2;
-  w2c_j0 += w2c_j1;
-  w2c_l5 = w2c_j0;
-  w2c_p0 = w2c_j0;
-  w2c_j0 = w2c_p1;
-  w2c_j1 = 4ull;
-  w2c_i0 = w2c_j0 < w2c_j1;
-  if (w2c_i0) {goto w2c_B4;}
-  w2c_j0 = w2c_l5;
-  w2c_p0 = w2c_j0;
-  w2c_j0 = w2c_p1;
-  w2c_l4 = w2c_j0;
-  w2c_L5:
-    w2c_j0 = w2c_p0;
-    w2c_i0 = (u32)(w2c_j0);
-    w2c_i0 = i32_load(m, (u64)(w2c_i0));
-    w2c_i1 = 16776989u;
-    w2c_i0 += w2c_i1;
-    w2c_i1 = 12632312u;
-    w2c_i0 &= w2c_i1;
-    w2c_i1 = 8421376u;
-    w2c_i0 = w2c_i0 != w2c_i1;
-    if (w2c_i0) {goto w2c_B3;}
-    w2c_j0 = w2c_p0;
-    w2c_j1 = 3ull;
-    w2c_j0 += w2c_j1;
-    w2c_p0 = w2c_j0;
-    w2c_j0 = w2c_l4;
-    w2c_j1 = 18446744073709551613ull;
-    w2c_j0 += w2c_j1;
-    w2c_l4 = w2c_j0;
-    w2c_j1 = 3ull;
-    w2c_i0 = w2c_j0 > w2c_j1;
-    if (w2c_i0) {goto w2c_L5;}
-  w2c_B4:;
-  w2c_j0 = w2c_l4;
-  w2c_j1 = 3ull;
-  w2c_i0 = w2c_j0 > w2c_j1;
-  if (w2c_i0) {goto w2c_B3;}
-  w2c_j0 = w2c_l4;
-  w2c_i0 = (u32)(w2c_j0);
-  switch (w2c_i0) {
-    case 0: goto w2c_B2;
-    case 1: goto w2c_B3;
-    case 2: goto w2c_B3;
-    case 3: goto w2c_B6;
-    default: goto w2c_B2;
-  }
-  w2c_B6:;
-  w2c_j0 = w2c_p0;
-  w2c_i0 = (u32)(w2c_j0);
-  w2c_i0 = i32_load16_u(m, (u64)(w2c_i0));
-  w2c_j1 = w2c_p0;
-  w2c_j2 = 2ull;
-  w2c_j1 += w2c_j2;
-  w2c_i1 = (u32)(w2c_j1);
-  w2c_i1 = i32_load8_u(m, (u64)(w2c_i1));
-  w2c_i2 = 16u;
-  w2c_i1 <<= (w2c_i2 & 31);
-  w2c_i0 |= w2c_i1;
-  w2c_i1 = 16776989u;
-  w2c_i0 += w2c_i1;
-  w2c_i1 = 12632312u;
-  w2c_i0 &= w2c_i1;
-  w2c_i1 = 8421376u;
-  w2c_i0 = w2c_i0 == w2c_i1;
-  if (w2c_i0) {goto w2c_B2;}
-  w2c_B3:;
-  w2c_i0 = 5u;
-  w2c_l13 = w2c_i0;
-  w2c_j0 = w2c_l5;
-  w2c_j1 = w2c_p1;
-  w2c_i0 = w2c_f12(m, w2c_j0, w2c_j1);
-  w2c_i0 = !(w2c_i0);
-  if (w2c_i0) {goto w2c_B1;}
-  w2c_B2:;
-  w2c_i0 = 0u;
-  w2c_l14 = w2c_i0;
-  w2c_j0 = w2c_l3;
-  w2c_i0 = (u32)(w2c_j0);
-  w2c_i1 = 0u;
-  i32_store(m, (u64)(w2c_i0) + 8, w2c_i1);
-  w2c_j0 = w2c_l3;
-  w2c_i0 = (u32)(w2c_j0);
-  w2c_i1 = 0u;
-  i32_store8(m, (u64)(w2c_i0) + 12, w2c_i1);
-  w2c_j0 = w2c_l3;
-  w2c_i0 = (u32)(w2c_j0);
-  w2c_i1 = 0u;
-  i32_store8(m, (u64)(w2c_i0) + 4, w2c_i1);
-  w2c_j0 = w2c_l3;
-  w2c_i0 = (u32)(w2c_j0);
-  w2c_i1 = 0u;
-  i32_store(m, (u64)(w2c_i0), w2c_i1);
-  w2c_j0 = w2c_p1;
-  w2c_i0 = !(w2c_j0);
-  if (w2c_i0) {goto w2c_B7;}
-  w2c_j0 = w2c_p2;
-  w2c_j1 = 8ull;
-  w2c_j0 += w2c_j1;
-  w2c_l6 = w2c_j0;
-  w2c_j0 = 0ull;
-  w2c_l7 = w2c_j0;
-  w2c_j0 = w2c_p1;
-  w2c_l4 = w2c_j0;
-  w2c_j0 = w2c_l5;
-  w2c_p0 = w2c_j0;
-  w2c_j0 = 0ull;
-  w2c_l8 = w2c_j0;
-  w2c_j0 = 0ull;
-  w2c_l9 = w2c_j0;
-  w2c_j0 = 0ull;
-  w2c_l10 = w2c_j0;
-  w2c_i0 = 0u;
-  w2c_l13 = w2c_i0;
-  w2c_i0 = 0u;
-  w2c_l15 = w2c_i0;
-  w2c_i0 = 0u;
-  w2c_l16 = w2c_i0;
-  w2c_L8:
-    w2c_i0 = w2c_l13;
-    w2c_l17 = w2c_i0;
-    w2c_j0 = w2c_p0;
-    w2c_j1 = 1ull;
-    w2c_j0 += w2c_j1;
-    w2c_l11 = w2c_j0;
-    w2c_j0 = w2c_p0;
-    w2c_i0 = (u32)(w2c_j0);
-    w2c_i0 = i32_load8_s(m, (u64)(w2c_i0));
-    w2c_l18 = w2c_i0;
-    w2c_i1 = 255u;
-    w2c_i0 &= w2c_i1;
-    w2c_l13 = w2c_i0;
-    w2c_i0 = w2c_l18;
-    w2c_i1 = 0u;
-    w2c_i0 = (u32)((s32)w2c_i0 < (s32)w2c_i1);
-    if (w2c_i0) {goto w2c_B22;}
-    w2c_j0 = w2c_l4;
-    w2c_j1 = 18446744073709551615ull;
-    w2c_j0 += w2c_j1;
-    w2c_l4 = w2c_j0;
-    w2c_j0 = w2c_l11;
-    w2c_p0 = w2c_j0;
-    goto w2c_B21;
-    w2c_B22:;
-    w2c_j0 = w2c_l11;
-    w2c_i0 = (u32)(w2c_j0);
-    w2c_i0 = i32_load8_u(m, (u64)(w2c_i0));
-    w2c_i1 = 63u;
-    w2c_i0 &= w2c_i1;
-    w2c_l19 = w2c_i0;
-    w2c_i0 = w2c_l18;
-    w2c_i1 = 4294967263u;
-    w2c_i0 = w2c_i0 > w2c_i1;
-    if (w2c_i0) {goto w2c_B24;}
-    w2c_i0 = w2c_l13;
-    w2c_i1 = 6u;
-    w2c_i0 <<= (w2c_i1 & 31);
-    w2c_i1 = 1984u;
-    w2c_i0 &= w2c_i1;
-    w2c_i1 = w2c_l19;
-    w2c_i0 |= w2c_i1;
-    w2c_l13 = w2c_i0;
-    w2c_j0 = 2ull;
-    w2c_l11 = w2c_j0;
-    goto w2c_B23;
-    w2c_B24:;
-    w2c_j0 = w2c_p0;
-    w2c_i0 = (u32)(w2c_j0);
-    w2c_i0 = i32_load8_u(m, (u64)(w2c_i0) + 2u);
-    w2c_i1 = 63u;
-    w2c_i0 &= w2c_i1;
-    w2c_l20 = w2c_i0;
-    w2c_i0 = w2c_l18;
-    w2c_i1 = 4294967279u;
-    w2c_i0 = w2c_i0 > w2c_i1;
-    if (w2c_i0) {goto w2c_B25;}
-    w2c_i0 = w2c_l19;
-    w2c_i1 = 6u;
-    w2c_i0 <<= (w2c_i1 & 31);
-    w2c_i1 = w2c_l13;
-    w2c_i2 = 12u;
-    w2c_i1 <<= (w2c_i2 & 31);
-    w2c_i2 = 61440u;
-    w2c_i1 &= w2c_i2;
-    w2c_i0 |= w2c_i1;
-    w2c_i1 = w2c_l20;
-    w2c_i0 |= w2c_i1;
-    w2c_l13 = w2c_i0;
-    w2c_j0 = 3ull;
-    w2c_l11 = w2c_j0;
-    goto w2c_B23;
-    w2c_B25:;
-    w2c_i0 = w2c_l20;
-    w2c_i1 = 6u;
-    w2c_i0 <<= (w2c_i1 & 31);
-    w2c_i1 = w2c_l19;
-    w2c_i2 = 12u;
-    w2c_i1 <<= (w2c_i2 & 31);
-    w2c_i2 = w2c_l13;
-    w2c_i3 = 18u;
-    w2c_i2 <<= (w2c_i3 & 31);
-    w2c_i3 = 1835008u;
-    w2c_i2 &= w2c_i3;
-    w2c_i1 |= w2c_i2;
-    w2c_i0 |= w2c_i1;
-    w2c_j1 = w2c_p0;
-    w2c_i1 = (u32)(w2c_j1);
-    w2c_i1 = i32_load8_u(m, (u64)(w2c_i1) + 3u);
-    w2c_i2 = 63u;
-    w2c_i1 &= w2c_i2;
-    w2c_i0 |= w2c_i1;
-    w2c_l13 = w2c_i0;
-    w2c_j0 = 4ull;
-    w2c_l11 = w2c_j0;
-    w2c_B23:;
-    w2c_j0 = w2c_l4;
-    w2c_j1 = w2c_l11;
-    w2c_j0 -= w2c_j1;
-    w2c_l4 = w2c_j0;
-    w2c_j0 = w2c_p0;
-    w2c_j1 = w2c_l11;
-    w2c_j0 += w2c_j1;
-    w2c_p0 = w2c_j0;
-    w2c_i0 = w2c_l13;
-    w2c_i1 = 127u;
-    w2c_i0 = w2c_i0 > w2c_i1;
-    if (w2c_i0) {goto w2c_B20;}
-    w2c_B21:;
-    w2c_i0 = w2c_l13;
-    w2c_i1 = 4294967287u;
-    w2c_i0 += w2c_i1;
-    w2c_i1 = 5u;
-    w2c_i0 = w2c_i0 < w2c_i1;
-    if (w2c_i0) {goto w2c_B18;}
-    w2c_i0 = w2c_l13;
-    w2c_i1 = 32u;
-    w2c_i0 = w2c_i0 != w2c_i1;
-    if (w2c_i0) {goto w2c_B19;}
-    goto w2c_B18;
-    w2c_B20:;
-    w2c_i0 = w2c_l13;
-    w2c_i1 = 4294959104u;
-    w2c_i0 += w2c_i1;
-    w2c_i1 = 11u;
-    w2c_i0 = w2c_i0 < w2c_i1;
-    if (w2c_i0) {goto w2c_B18;}
-    w2c_i0 = w2c_l13;
-    w2c_i1 = 8231u;
-    w2c_i0 = (u32)((s32)w2c_i0 > (s32)w2c_i1);
-    if (w2c_i0) {goto w2c_B26;}
-    w2c_i0 = w2c_l13;
-    w2c_i1 = 133u;
-    w2c_i0 = w2c_i0 == w2c_i1;
-    if (w2c_i0) {goto w2c_B18;}
-    w2c_i0 = w2c_l13;
-    w2c_i1 = 160u;
-    w2c_i0 = w2c_i0 == w2c_i1;
-    if (w2c_i0) {goto w2c_B18;}
-    w2c_i0 = w2c_l13;
-    w2c_i1 = 5760u;
-    w2c_i0 = w2c_i0 != w2c_i1;
-    if (w2c_i0) {goto w2c_B19;}
-    goto w2c_B18;
-    w2c_B26:;
-    w2c_i0 = w2c_l13;
-    w2c_i1 = 4294959064u;
-    w2c_i0 += w2c_i1;
-    w2c_l18 = w2c_i0;
-    w2c_i1 = 55u;
-    w2c_i0 = w2c_i0 > w2c_i1;
-    if (w2c_i0) {goto w2c_B27;}
-    w2c_j0 = 1ull;
-    w2c_i1 = w2c_l18;
-    w2c_j1 = (u64)(w2c_i1);
-    w2c_j0 <<= (w2c_j1 & 63);
-    w2c_j1 = 36028797018964099ull;
-    w2c_j0 &= w2c_j1;
-    w2c_j1 = 0ull;
-    w2c_i0 = w2c_j0 != w2c_j1;
-    if (w2c_i0) {goto w2c_B18;}
-    w2c_B27:;
-    w2c_i0 = w2c_l13;
-    w2c_i1 = 12288u;
-    w2c_i0 = w2c_i0 == w2c_i1;
-    if (w2c_i0) {goto w2c_B18;}
-    w2c_B19:;
-    w2c_i0 = w2c_l16;
-    w2c_j0 = (u64)(w2c_i0);
-    w2c_j1 = 255ull;
-    w2c_j0 &= w2c_j1;
-    w2c_i0 = (u32)(w2c_j0);
-    switch (w2c_i0) {
-      case 0: goto w2c_B17;
-      case 1: goto w2c_B16;
-      case 2: goto w2c_B15;
-      case 3: goto w2c_B11;
-      case 4: goto w2c_B13;
-      case 5: goto w2c_B10;
-      default: goto w2c_B17;
-    }
-    w2c_B18:;
-    w2c_j0 = w2c_l3;
-    w2c_i0 = (u32)(w2c_j0);
-    w2c_j1 = w2c_l3;
-    w2c_i1 = (u32)(w2c_j1);
-    w2c_i1 = i32_load8_u(m, (u64)(w2c_i1) + 12u);
-    i32_store8(m, (u64)(w2c_i0) + 4, w2c_i1);
-    w2c_j0 = w2c_l3;
-    w2c_i0 = (u32)(w2c_j0);
-    w2c_j1 = w2c_l3;
-    w2c_i1 = (u32)(w2c_j1);
-    w2c_i1 = i32_load(m, (u64)(w2c_i1) + 8u);
-    i32_store(m, (u64)(w2c_i0), w2c_i1);
-    w2c_i0 = w2c_l17;
-    w2c_l13 = w2c_i0;
-    goto w2c_B9;
-    w2c_B17:;
-    w2c_i0 = 1u;
-    w2c_l16 = w2c_i0;
-    w2c_i0 = w2c_l13;
-    w2c_i1 = 8855u;
-    w2c_i0 = w2c_i0 == w2c_i1;
-    if (w2c_i0) {goto w2c_B12;}
-    w2c_i0 = 2u;
-    w2c_i1 = 5u;
-    w2c_i2 = w2c_l13;
-    w2c_i3 = 20154u;
-    w2c_i2 = w2c_i2 == w2c_i3;
-    w2c_i0 = w2c_i2 ? w2c_i0 : w2c_i1;
-    w2c_l16 = w2c_i0;
-    goto w2c_B10;
-    w2c_B16:;
-    w2c_i0 = w2c_l13;
-    w2c_i1 = 20154u;
-    w2c_i0 = w2c_i0 != w2c_i1;
-    if (w2c_i0) {goto w2c_B14;}
-    w2c_i0 = 2u;
-    w2c_l16 = w2c_i0;
-    goto w2c_B10;
-    w2c_B15:;
-    w2c_i0 = w2c_l13;
-    w2c_i1 = 27665u;
-    w2c_i0 = w2c_i0 != w2c_i1;
-    if (w2c_i0) {goto w2c_B14;}
-    w2c_i0 = 3u;
-    w2c_l16 = w2c_i0;
-    goto w2c_B10;
-    w2c_B14:;
-    w2c_i0 = 5u;
-    w2c_l16 = w2c_i0;
-    goto w2c_B10;
-    w2c_B13:;
-    w2c_i0 = 5u;
-    w2c_l16 = w2c_i0;
-    w2c_i0 = w2c_l13;
-    w2c_i1 = 65306u;
-    w2c_i0 = w2c_i0 == w2c_i1;
-    if (w2c_i0) {goto w2c_B12;}
-    w2c_i0 = w2c_l13;
-    w2c_i1 = 58u;
-    w2c_i0 = w2c_i0 != w2c_i1;
-    if (w2c_i0) {goto w2c_B10;}
-    w2c_B12:;
-    w2c_j0 = w2c_l3;
-    w2c_i0 = (u32)(w2c_j0);
-    w2c_i1 = 0u;
-    i32_store8(m, (u64)(w2c_i0) + 4, w2c_i1);
-    w2c_j0 = w2c_l3;
-    w2c_i0 = (u32)(w2c_j0);
-    w2c_i1 = 0u;
-    i32_store(m, (u64)(w2c_i0), w2c_i1);
-    w2c_i0 = w2c_l17;
-    w2c_l13 = w2c_i0;
-    goto w2c_B9;
-    w2c_B11:;
-    w2c_i0 = 4u;
-    w2c_i1 = 4u;
-    w2c_i2 = 5u;
-    w2c_i3 = w2c_l13;
-    w2c_i4 = 24163u;
-    w2c_i3 = w2c_i3 == w2c_i4;
-    w2c_i1 = w2c_i3 ? w2c_i1 : w2c_i2;
-    w2c_i2 = w2c_l13;
-    w2c_i3 = 24065u;
-    w2c_i2 = w2c_i2 == w2c_i3;
-    w2c_i0 = w2c_i2 ? w2c_i0 : w2c_i1;
-    w2c_l16 = w2c_i0;
-    w2c_B10:;
-    w2c_i0 = w2c_l13;
-    w2c_i1 = 3227u;
-    w2c_i0 *= w2c_i1;
-    w2c_i1 = 7u;
-    w2c_i0 >>= (w2c_i1 & 31);
-    w2c_j0 = (u64)(w2c_i0);
-    w2c_j1 = 504ull;
-    w2c_j0 &= w2c_j1;
-    w2c_l11 = w2c_j0;
-    w2c_i0 = (u32)(w2c_j0);
-    w2c_i0 = i32_load(m, (u64)(w2c_i0) + 66332u);
-    w2c_i1 = w2c_l13;
-    w2c_i0 = w2c_i0 != w2c_i1;
-    if (w2c_i0) {goto w2c_B35;}
-    w2c_j0 = w2c_l11;
-    w2c_j1 = 66336ull;
-    w2c_j0 += w2c_j1;
-    w2c_i0 = (u32)(w2c_j0);
-    w2c_i0 = i32_load8_u(m, (u64)(w2c_i0));
-    w2c_i1 = 255u;
-    w2c_i0 &= w2c_i1;
-    w2c_i1 = 1u;
-    w2c_i0 = w2c_i0 != w2c_i1;
-    if (w2c_i0) {goto w2c_B35;}
-    w2c_j0 = w2c_l11;
-    w2c_j1 = 66338ull;
-    w2c_j0 += w2c_j1;
-    w2c_i0 = (u32)(w2c_j0);
-    w2c_j0 = i64_load8_u(m, (u64)(w2c_i0));
-    w2c_l12 = w2c_j0;
-    w2c_j0 = w2c_l11;
-    w2c_j1 = 66337ull;
-    w2c_j0 += w2c_j1;
-    w2c_i0 = (u32)(w2c_j0);
-    w2c_i0 = i32_load8_u(m, (u64)(w2c_i0));
-    w2c_l18 = w2c_i0;
-    w2c_i0 = w2c_l15;
-    w2c_j0 = (u64)(w2c_i0);
-    w2c_j1 = 255ull;
-    w2c_j0 &= w2c_j1;
-    w2c_i0 = (u32)(w2c_j0);
-    switch (w2c_i0) {
-      case 0: goto w2c_B58;
-      case 1: goto w2c_B57;
-      case 2: goto w2c_B56;
-      case 3: goto w2c_B55;
-      case 4: goto w2c_B54;
-      case 5: goto w2c_B66;
-      case 6: goto w2c_B65;
-      case 7: goto w2c_B64;
-      case 8: goto w2c_B63;
-      case 9: goto w2c_B62;
-      case 10: goto w2c_B61;
-      case 11: goto w2c_B60;
-      case 12: goto w2c_B59;
-      case 13: goto w2c_B53;
-      case 14: goto w2c_B51;
-      case 15: goto w2c_B49;
-      case 16: goto w2c_B41;
-      case 17: goto w2c_B52;
-      case 18: goto w2c_B39;
-      case 19: goto w2c_B35;
-      default: goto w2c_B58;
-    }
-    w2c_B66:;
-    w2c_i0 = 1u;
-    w2c_i1 = w2c_l18;
-    w2c_i0 <<= (w2c_i1 & 31);
-    w2c_i1 = 31999u;
-    w2c_i0 &= w2c_i1;
-    if (w2c_i0) {goto w2c_B67;}
-    w2c_i0 = w2c_l18;
-    w2c_i1 = 8u;
-    w2c_i0 = w2c_i0 == w2c_i1;
-    if (w2c_i0) {goto w2c_B40;}
-    goto w2c_B38;
-    w2c_B67:;
-    w2c_i0 = w2c_l18;
-    w2c_i1 = 4294967291u;
-    w2c_i0 += w2c_i1;
-    w2c_i1 = 10u;
-    w2c_i0 = w2c_i0 < w2c_i1;
-    if (w2c_i0) {goto w2c_B68;}
-    w2c_i0 = 0u;
-    w2c_l13 = w2c_i0;
-    w2c_i0 = w2c_l18;
-    switch (w2c_i0) {
-      case 0: goto w2c_B68;
-      case 1: goto w2c_B68;
-      case 2: goto w2c_B46;
-      case 3: goto w2c_B44;
-      case 4: goto w2c_B34;
-      default: goto w2c_B68;
-    }
-    w2c_B68:;
-    w2c_i0 = 0u;
-    w2c_l13 = w2c_i0;
-    w2c_i0 = 6u;
-    w2c_l15 = w2c_i0;
-    w2c_i0 = w2c_l18;
-    switch (w2c_i0) {
-      case 0: goto w2c_B35;
-      case 1: goto w2c_B35;
-      case 2: goto w2c_B35;
-      case 3: goto w2c_B35;
-      case 4: goto w2c_B35;
-      case 5: goto w2c_B29;
-      case 6: goto w2c_B42;
-      case 7: goto w2c_B33;
-      case 8: goto w2c_B35;
-      case 9: goto w2c_B35;
-      case 10: goto w2c_B35;
-      case 11: goto w2c_B35;
-      case 12: goto w2c_B35;
-      case 13: goto w2c_B35;
-      case 14: goto w2c_B35;
-      default: goto w2c_B35;
-    }
-    w2c_B65:;
-    w2c_i0 = 3u;
-    w2c_l20 = w2c_i0;
-    w2c_i0 = 10u;
-    w2c_l19 = w2c_i0;
-    w2c_i0 = w2c_l18;
-    w2c_l21 = w2c_i0;
-    w2c_i0 = w2c_l18;
-    switch (w2c_i0) {
-      case 0: goto w2c_B70;
-      case 1: goto w2c_B50;
-      case 2: goto w2c_B69;
-      case 3: goto w2c_B69;
-      case 4: goto w2c_B69;
-      case 5: goto w2c_B35;
-      case 6: goto w2c_B69;
-      case 7: goto w2c_B69;
-      case 8: goto w2c_B69;
-      case 9: goto w2c_B69;
-      case 10: goto w2c_B69;
-      case 11: goto w2c_B69;
-      case 12: goto w2c_B69;
-      case 13: goto w2c_B69;
-      case 14: goto w2c_B69;
-      default: goto w2c_B70;
-    }
-    w2c_B70:;
-    w2c_i0 = 1u;
-    w2c_l13 = w2c_i0;
-    w2c_i0 = w2c_l17;
-    w2c_i1 = 1u;
-    w2c_i0 &= w2c_i1;
-    w2c_i1 = 2u;
-    w2c_i0 |= w2c_i1;
-    w2c_l14 = w2c_i0;
-    w2c_i0 = 9u;
-    w2c_l15 = w2c_i0;
-    goto w2c_B28;
-    w2c_B69:;
-    w2c_i0 = 1u;
-    w2c_l13 = w2c_i0;
-    w2c_i0 = w2c_l18;
-    w2c_i1 = 6u;
-    w2c_i0 = w2c_i0 == w2c_i1;
-    if (w2c_i0) {goto w2c_B42;}
-    w2c_i0 = w2c_l18;
-    w2c_i1 = 7u;
-    w2c_i0 = w2c_i0 == w2c_i1;
-    if (w2c_i0) {goto w2c_B33;}
-    goto w2c_B35;
-    w2c_B64:;
-    w2c_i0 = 3u;
-    w2c_l20 = w2c_i0;
-    w2c_i0 = 4u;
-    w2c_l21 = w2c_i0;
-    w2c_i0 = 10u;
-    w2c_l19 = w2c_i0;
-    w2c_i0 = w2c_l18;
-    switch (w2c_i0) {
-      case 0: goto w2c_B72;
-      case 1: goto w2c_B50;
-      case 2: goto w2c_B71;
-      case 3: goto w2c_B71;
-      case 4: goto w2c_B71;
-      case 5: goto w2c_B35;
-      case 6: goto w2c_B71;
-      case 7: goto w2c_B71;
-      case 8: goto w2c_B71;
-      case 9: goto w2c_B71;
-      case 10: goto w2c_B71;
-      case 11: goto w2c_B71;
-      case 12: goto w2c_B71;
-      case 13: goto w2c_B71;
-      case 14: goto w2c_B71;
-      default: goto w2c_B72;
-    }
-    w2c_B72:;
-    w2c_i0 = 3u;
-    w2c_l14 = w2c_i0;
-    w2c_i0 = w2c_l17;
-    w2c_i1 = 1u;
-    w2c_i0 &= w2c_i1;
-    w2c_i1 = 3u;
-    w2c_i0 ^= w2c_i1;
-    w2c_l13 = w2c_i0;
-    w2c_i0 = 9u;
-    w2c_l15 = w2c_i0;
-    goto w2c_B28;
-    w2c_B71:;
-    w2c_i0 = 1u;
-    w2c_l13 = w2c_i0;
-    w2c_i0 = 8u;
-    w2c_l15 = w2c_i0;
-    w2c_i0 = w2c_l18;
-    w2c_i1 = 5u;
-    w2c_i0 = w2c_i0 == w2c_i1;
-    if (w2c_i0) {goto w2c_B29;}
-    w2c_i0 = w2c_l18;
-    w2c_i1 = 7u;
-    w2c_i0 = w2c_i0 == w2c_i1;
-    if (w2c_i0) {goto w2c_B33;}
-    goto w2c_B35;
-    w2c_B63:;
-    w2c_i0 = 1u;
-    w2c_l13 = w2c_i0;
-    w2c_i0 = 3u;
-    w2c_l20 = w2c_i0;
-    w2c_i0 = 5u;
-    w2c_l21 = w2c_i0;
-    w2c_i0 = 10u;
-    w2c_l19 = w2c_i0;
-    w2c_i0 = w2c_l18;
     switch (w2c_i0) {
       case 0: goto w2c_B73;
-      case 1: goto w2c_B50;
-      case 2: goto w2c_B35;
-      case 3: goto w2c_B35;
-      case 4: goto w2c_B35;
-      case 5: goto w2c_B35;
-      case 6: goto w2c_B35;
-      case 7: goto w2c_B33;
-      case 8: goto w2c_B35;
-      case 9: goto w2c_B35;
-      case 10: goto w2c_B35;
-      case 11: goto w2c_B35;
-      case 12: goto w2c_B35;
-      case 13: goto w2c_B35;
-      case 14: goto w2c_B35;
+      case 1: goto w2c_B73;
+      case 2: goto w2c_B30;
+      case 3: goto w2c_B29;
+      case 4: goto w2c_B28;
       default: goto w2c_B73;
     }
     w2c_B73:;
-    w2c_i0 = w2c_l17;
-    w2c_i1 = 1u;
-    w2c_i0 &= w2c_i1;
-    w2c_i1 = 2u;
-    w2c_i0 |= w2c_i1;
-    w2c_l14 = w2c_i0;
-    w2c_i0 = 5u;
-    w2c_l13 = w2c_i0;
-    w2c_i0 = 9u;
-    w2c_l15 = w2c_i0;
-    goto w2c_B28;
-    w2c_B62:;
     w2c_i0 = w2c_l18;
-    w2c_i1 = 1u;
-    w2c_i0 = w2c_i0 != w2c_i1;
-    if (w2c_i0) {goto w2c_B35;}
-    w2c_i0 = 11u;
-    w2c_l19 = w2c_i0;
-    w2c_i0 = w2c_l17;
-    w2c_l21 = w2c_i0;
-    w2c_i0 = w2c_l14;
-    w2c_l20 = w2c_i0;
-    goto w2c_B50;
-    w2c_B61:;
-    w2c_i0 = w2c_l14;
     w2c_j0 = (u64)(w2c_i0);
     w2c_j1 = 255ull;
     w2c_j0 &= w2c_j1;
     w2c_i0 = (u32)(w2c_j0);
     switch (w2c_i0) {
-      case 0: goto w2c_B74;
-      case 1: goto w2c_B47;
-      case 2: goto w2c_B45;
-      case 3: goto w2c_B36;
-      default: goto w2c_B74;
-    }
-    w2c_B74:;
-    w2c_i0 = w2c_l17;
-    w2c_j0 = (u64)(w2c_i0);
-    w2c_j1 = 255ull;
-    w2c_j0 &= w2c_j1;
-    w2c_i0 = (u32)(w2c_j0);
-    switch (w2c_i0) {
-      case 0: goto w2c_B79;
-      case 1: goto w2c_B76;
-      case 2: goto w2c_B78;
-      case 3: goto w2c_B78;
-      case 4: goto w2c_B77;
-      case 5: goto w2c_B75;
-      default: goto w2c_B79;
-    }
-    w2c_B79:;
-    w2c_i0 = 0u;
-    w2c_l13 = w2c_i0;
-    w2c_i0 = 6u;
-    w2c_l15 = w2c_i0;
-    w2c_i0 = w2c_l18;
-    switch (w2c_i0) {
-      case 0: goto w2c_B35;
-      case 1: goto w2c_B35;
-      case 2: goto w2c_B35;
-      case 3: goto w2c_B35;
-      case 4: goto w2c_B35;
-      case 5: goto w2c_B29;
-      case 6: goto w2c_B42;
-      case 7: goto w2c_B33;
-      case 8: goto w2c_B35;
-      case 9: goto w2c_B35;
-      case 10: goto w2c_B35;
-      case 11: goto w2c_B35;
-      case 12: goto w2c_B35;
-      case 13: goto w2c_B35;
-      case 14: goto w2c_B35;
-      default: goto w2c_B35;
+      case 0: goto w2c_B78;
+      case 1: goto w2c_B75;
+      case 2: goto w2c_B77;
+      case 3: goto w2c_B77;
+      case 4: goto w2c_B76;
+      case 5: goto w2c_B74;
+      default: goto w2c_B78;
     }
     w2c_B78:;
     w2c_i0 = 0u;
-    w2c_l13 = w2c_i0;
-    w2c_i0 = 8u;
-    w2c_l15 = w2c_i0;
-    w2c_i0 = w2c_l18;
-    w2c_i1 = 5u;
-    w2c_i0 = w2c_i0 == w2c_i1;
-    if (w2c_i0) {goto w2c_B29;}
-    w2c_i0 = w2c_l18;
-    w2c_i1 = 7u;
-    w2c_i0 = w2c_i0 == w2c_i1;
-    if (w2c_i0) {goto w2c_B33;}
-    goto w2c_B35;
-    w2c_B77:;
-    w2c_i0 = w2c_l18;
-    w2c_i1 = 5u;
-    w2c_i0 = w2c_i0 != w2c_i1;
-    if (w2c_i0) {goto w2c_B35;}
-    goto w2c_B31;
-    w2c_B76:;
-    w2c_i0 = 0u;
-    w2c_l13 = w2c_i0;
-    w2c_i0 = w2c_l18;
-    w2c_i1 = 6u;
-    w2c_i0 = w2c_i0 == w2c_i1;
-    if (w2c_i0) {goto w2c_B42;}
-    w2c_i0 = w2c_l18;
-    w2c_i1 = 7u;
-    w2c_i0 = w2c_i0 == w2c_i1;
-    if (w2c_i0) {goto w2c_B33;}
-    goto w2c_B35;
-    w2c_B75:;
-    w2c_i0 = w2c_l18;
-    w2c_i1 = 7u;
-    w2c_i0 = w2c_i0 != w2c_i1;
-    if (w2c_i0) {goto w2c_B35;}
-    w2c_i0 = 0u;
-    w2c_l13 = w2c_i0;
-    goto w2c_B33;
-    w2c_B60:;
-    w2c_i0 = w2c_l14;
-    w2c_j0 = (u64)(w2c_i0);
-    w2c_j1 = 255ull;
-    w2c_j0 &= w2c_j1;
-    w2c_i0 = (u32)(w2c_j0);
-    switch (w2c_i0) {
-      case 0: goto w2c_B80;
-      case 1: goto w2c_B81;
-      case 2: goto w2c_B82;
-      case 3: goto w2c_B83;
-      default: goto w2c_B80;
-    }
-    w2c_B83:;
-    w2c_i0 = w2c_l18;
-    w2c_i1 = 4294967291u;
-    w2c_i0 += w2c_i1;
-    w2c_i1 = 10u;
-    w2c_i0 = w2c_i0 < w2c_i1;
-    if (w2c_i0) {goto w2c_B84;}
-    w2c_i0 = w2c_l17;
-    w2c_l13 = w2c_i0;
-    w2c_i0 = w2c_l18;
-    switch (w2c_i0) {
-      case 0: goto w2c_B84;
-      case 1: goto w2c_B84;
-      case 2: goto w2c_B46;
-      case 3: goto w2c_B44;
-      case 4: goto w2c_B43;
-      default: goto w2c_B84;
-    }
-    w2c_B84:;
-    w2c_i0 = w2c_l17;
-    w2c_j0 = (u64)(w2c_i0);
-    w2c_j1 = 255ull;
-    w2c_j0 &= w2c_j1;
-    w2c_i0 = (u32)(w2c_j0);
-    switch (w2c_i0) {
-      case 0: goto w2c_B89;
-      case 1: goto w2c_B86;
-      case 2: goto w2c_B88;
-      case 3: goto w2c_B88;
-      case 4: goto w2c_B87;
-      case 5: goto w2c_B85;
-      default: goto w2c_B89;
-    }
-    w2c_B89:;
-    w2c_i0 = 0u;
-    w2c_l13 = w2c_i0;
+    w2c_l16 = w2c_i0;
     w2c_i0 = 6u;
-    w2c_l15 = w2c_i0;
-    w2c_i0 = w2c_l18;
+    w2c_l17 = w2c_i0;
+    w2c_j0 = 1ull;
+    w2c_p0 = w2c_j0;
+    w2c_i0 = w2c_l14;
     switch (w2c_i0) {
-      case 0: goto w2c_B35;
-      case 1: goto w2c_B35;
-      case 2: goto w2c_B35;
-      case 3: goto w2c_B35;
-      case 4: goto w2c_B35;
-      case 5: goto w2c_B29;
-      case 6: goto w2c_B42;
-      case 7: goto w2c_B33;
-      case 8: goto w2c_B35;
-      case 9: goto w2c_B35;
-      case 10: goto w2c_B35;
-      case 11: goto w2c_B35;
-      case 12: goto w2c_B35;
-      case 13: goto w2c_B35;
-      case 14: goto w2c_B35;
-      default: goto w2c_B35;
+      case 0: goto w2c_B9;
+      case 1: goto w2c_B9;
+      case 2: goto w2c_B9;
+      case 3: goto w2c_B9;
+      case 4: goto w2c_B9;
+      case 5: goto w2c_B24;
+      case 6: goto w2c_B23;
+      case 7: goto w2c_B21;
+      case 8: goto w2c_B9;
+      case 9: goto w2c_B9;
+      case 10: goto w2c_B9;
+      case 11: goto w2c_B9;
+      case 12: goto w2c_B9;
+      case 13: goto w2c_B9;
+      case 14: goto w2c_B9;
+      default: goto w2c_B9;
     }
-    w2c_B88:;
+    w2c_B77:;
     w2c_i0 = 0u;
-    w2c_l13 = w2c_i0;
+    w2c_l16 = w2c_i0;
     w2c_i0 = 8u;
-    w2c_l15 = w2c_i0;
-    w2c_i0 = w2c_l18;
+    w2c_l17 = w2c_i0;
+    w2c_i0 = w2c_l14;
     w2c_i1 = 5u;
     w2c_i0 = w2c_i0 == w2c_i1;
-    if (w2c_i0) {goto w2c_B29;}
-    w2c_i0 = w2c_l18;
+    if (w2c_i0) {goto w2c_B24;}
+    w2c_i0 = w2c_l14;
     w2c_i1 = 7u;
     w2c_i0 = w2c_i0 == w2c_i1;
-    if (w2c_i0) {goto w2c_B33;}
-    goto w2c_B35;
-    w2c_B87:;
-    w2c_i0 = w2c_l18;
+    if (w2c_i0) {goto w2c_B21;}
+    w2c_j0 = 1ull;
+    w2c_p0 = w2c_j0;
+    goto w2c_B9;
+    w2c_B76:;
+    w2c_i0 = w2c_l14;
     w2c_i1 = 5u;
     w2c_i0 = w2c_i0 == w2c_i1;
-    if (w2c_i0) {goto w2c_B31;}
-    goto w2c_B35;
-    w2c_B86:;
+    if (w2c_i0) {goto w2c_B26;}
+    w2c_j0 = 1ull;
+    w2c_p0 = w2c_j0;
+    goto w2c_B9;
+    w2c_B75:;
     w2c_i0 = 0u;
-    w2c_l13 = w2c_i0;
-    w2c_i0 = w2c_l18;
+    w2c_l16 = w2c_i0;
+    w2c_i0 = w2c_l14;
     w2c_i1 = 6u;
     w2c_i0 = w2c_i0 == w2c_i1;
-    if (w2c_i0) {goto w2c_B42;}
-    w2c_i0 = w2c_l18;
+    if (w2c_i0) {goto w2c_B23;}
+    w2c_i0 = w2c_l14;
     w2c_i1 = 7u;
     w2c_i0 = w2c_i0 == w2c_i1;
-    if (w2c_i0) {goto w2c_B33;}
-    goto w2c_B35;
-    w2c_B85:;
-    w2c_i0 = w2c_l18;
+    if (w2c_i0) {goto w2c_B21;}
+    w2c_j0 = 1ull;
+    w2c_p0 = w2c_j0;
+    goto w2c_B9;
+    w2c_B74:;
+    w2c_i0 = w2c_l14;
     w2c_i1 = 7u;
-    w2c_i0 = w2c_i0 != w2c_i1;
-    if (w2c_i0) {goto w2c_B35;}
-    w2c_i0 = 0u;
-    w2c_l13 = w2c_i0;
-    goto w2c_B33;
-    w2c_B82:;
-    w2c_i0 = w2c_l18;
+    w2c_i0 = w2c_i0 == w2c_i1;
+    if (w2c_i0) {goto w2c_B22;}
+    w2c_j0 = 1ull;
+    w2c_p0 = w2c_j0;
+    goto w2c_B9;
+    w2c_B71:;
+    w2c_i0 = w2c_l14;
     w2c_i1 = 4294967292u;
     w2c_i0 += w2c_i1;
     w2c_i1 = 11u;
     w2c_i0 = w2c_i0 < w2c_i1;
-    if (w2c_i0) {goto w2c_B90;}
-    w2c_i0 = w2c_l17;
-    w2c_l13 = w2c_i0;
+    if (w2c_i0) {goto w2c_B79;}
     w2c_i0 = w2c_l18;
+    w2c_l16 = w2c_i0;
+    w2c_i0 = w2c_l14;
+    switch (w2c_i0) {
+      case 0: goto w2c_B79;
+      case 1: goto w2c_B79;
+      case 2: goto w2c_B30;
+      case 3: goto w2c_B29;
+      default: goto w2c_B79;
+    }
+    w2c_B79:;
+    w2c_i0 = w2c_l18;
+    w2c_j0 = (u64)(w2c_i0);
+    w2c_j1 = 255ull;
+    w2c_j0 &= w2c_j1;
+    w2c_i0 = (u32)(w2c_j0);
+    switch (w2c_i0) {
+      case 0: goto w2c_B84;
+      case 1: goto w2c_B81;
+      case 2: goto w2c_B83;
+      case 3: goto w2c_B83;
+      case 4: goto w2c_B82;
+      case 5: goto w2c_B80;
+      default: goto w2c_B84;
+    }
+    w2c_B84:;
+    w2c_i0 = 0u;
+    w2c_l16 = w2c_i0;
+    w2c_i0 = 6u;
+    w2c_l17 = w2c_i0;
+    w2c_j0 = 1ull;
+    w2c_p0 = w2c_j0;
+    w2c_i0 = w2c_l14;
+    switch (w2c_i0) {
+      case 0: goto w2c_B9;
+      case 1: goto w2c_B9;
+      case 2: goto w2c_B9;
+      case 3: goto w2c_B9;
+      case 4: goto w2c_B9;
+      case 5: goto w2c_B24;
+      case 6: goto w2c_B23;
+      case 7: goto w2c_B21;
+      case 8: goto w2c_B9;
+      case 9: goto w2c_B9;
+      case 10: goto w2c_B9;
+      case 11: goto w2c_B9;
+      case 12: goto w2c_B9;
+      case 13: goto w2c_B9;
+      case 14: goto w2c_B9;
+      default: goto w2c_B9;
+    }
+    w2c_B83:;
+    w2c_i0 = 0u;
+    w2c_l16 = w2c_i0;
+    w2c_i0 = 8u;
+    w2c_l17 = w2c_i0;
+    w2c_i0 = w2c_l14;
+    w2c_i1 = 5u;
+    w2c_i0 = w2c_i0 == w2c_i1;
+    if (w2c_i0) {goto w2c_B24;}
+    w2c_i0 = w2c_l14;
+    w2c_i1 = 7u;
+    w2c_i0 = w2c_i0 == w2c_i1;
+    if (w2c_i0) {goto w2c_B21;}
+    w2c_j0 = 1ull;
+    w2c_p0 = w2c_j0;
+    goto w2c_B9;
+    w2c_B82:;
+    w2c_i0 = w2c_l14;
+    w2c_i1 = 5u;
+    w2c_i0 = w2c_i0 == w2c_i1;
+    if (w2c_i0) {goto w2c_B26;}
+    w2c_j0 = 1ull;
+    w2c_p0 = w2c_j0;
+    goto w2c_B9;
+    w2c_B81:;
+    w2c_i0 = 0u;
+    w2c_l16 = w2c_i0;
+    w2c_i0 = w2c_l14;
+    w2c_i1 = 6u;
+    w2c_i0 = w2c_i0 == w2c_i1;
+    if (w2c_i0) {goto w2c_B23;}
+    w2c_i0 = w2c_l14;
+    w2c_i1 = 7u;
+    w2c_i0 = w2c_i0 == w2c_i1;
+    if (w2c_i0) {goto w2c_B21;}
+    w2c_j0 = 1ull;
+    w2c_p0 = w2c_j0;
+    goto w2c_B9;
+    w2c_B80:;
+    w2c_i0 = w2c_l14;
+    w2c_i1 = 7u;
+    w2c_i0 = w2c_i0 == w2c_i1;
+    if (w2c_i0) {goto w2c_B22;}
+    w2c_j0 = 1ull;
+    w2c_p0 = w2c_j0;
+    goto w2c_B9;
+    w2c_B70:;
+    w2c_i0 = w2c_l14;
+    w2c_i1 = 4294967291u;
+    w2c_i0 += w2c_i1;
+    w2c_i1 = 10u;
+    w2c_i0 = w2c_i0 < w2c_i1;
+    if (w2c_i0) {goto w2c_B85;}
+    w2c_i0 = w2c_l18;
+    w2c_l16 = w2c_i0;
+    w2c_j0 = 1ull;
+    w2c_p0 = w2c_j0;
+    w2c_i0 = w2c_l14;
+    switch (w2c_i0) {
+      case 0: goto w2c_B85;
+      case 1: goto w2c_B85;
+      case 2: goto w2c_B30;
+      case 3: goto w2c_B9;
+      case 4: goto w2c_B9;
+      default: goto w2c_B85;
+    }
+    w2c_B85:;
+    w2c_i0 = w2c_l18;
+    w2c_j0 = (u64)(w2c_i0);
+    w2c_j1 = 255ull;
+    w2c_j0 &= w2c_j1;
+    w2c_i0 = (u32)(w2c_j0);
     switch (w2c_i0) {
       case 0: goto w2c_B90;
-      case 1: goto w2c_B90;
-      case 2: goto w2c_B46;
-      case 3: goto w2c_B44;
+      case 1: goto w2c_B87;
+      case 2: goto w2c_B89;
+      case 3: goto w2c_B89;
+      case 4: goto w2c_B88;
+      case 5: goto w2c_B86;
       default: goto w2c_B90;
     }
     w2c_B90:;
-    w2c_i0 = w2c_l17;
+    w2c_i0 = 0u;
+    w2c_l16 = w2c_i0;
+    w2c_i0 = 6u;
+    w2c_l17 = w2c_i0;
+    w2c_j0 = 1ull;
+    w2c_p0 = w2c_j0;
+    w2c_i0 = w2c_l14;
+    switch (w2c_i0) {
+      case 0: goto w2c_B9;
+      case 1: goto w2c_B9;
+      case 2: goto w2c_B9;
+      case 3: goto w2c_B9;
+      case 4: goto w2c_B9;
+      case 5: goto w2c_B24;
+      case 6: goto w2c_B23;
+      case 7: goto w2c_B21;
+      case 8: goto w2c_B9;
+      case 9: goto w2c_B9;
+      case 10: goto w2c_B9;
+      case 11: goto w2c_B9;
+      case 12: goto w2c_B9;
+      case 13: goto w2c_B9;
+      case 14: goto w2c_B9;
+      default: goto w2c_B9;
+    }
+    w2c_B89:;
+    w2c_i0 = 0u;
+    w2c_l16 = w2c_i0;
+    w2c_i0 = 8u;
+    w2c_l17 = w2c_i0;
+    w2c_i0 = w2c_l14;
+    w2c_i1 = 5u;
+    w2c_i0 = w2c_i0 == w2c_i1;
+    if (w2c_i0) {goto w2c_B24;}
+    w2c_i0 = w2c_l14;
+    w2c_i1 = 7u;
+    w2c_i0 = w2c_i0 == w2c_i1;
+    if (w2c_i0) {goto w2c_B21;}
+    w2c_j0 = 1ull;
+    w2c_p0 = w2c_j0;
+    goto w2c_B9;
+    w2c_B88:;
+    w2c_i0 = w2c_l14;
+    w2c_i1 = 5u;
+    w2c_i0 = w2c_i0 == w2c_i1;
+    if (w2c_i0) {goto w2c_B26;}
+    w2c_j0 = 1ull;
+    w2c_p0 = w2c_j0;
+    goto w2c_B9;
+    w2c_B87:;
+    w2c_i0 = 0u;
+    w2c_l16 = w2c_i0;
+    w2c_i0 = w2c_l14;
+    w2c_i1 = 6u;
+    w2c_i0 = w2c_i0 == w2c_i1;
+    if (w2c_i0) {goto w2c_B23;}
+    w2c_i0 = w2c_l14;
+    w2c_i1 = 7u;
+    w2c_i0 = w2c_i0 == w2c_i1;
+    if (w2c_i0) {goto w2c_B21;}
+    w2c_j0 = 1ull;
+    w2c_p0 = w2c_j0;
+    goto w2c_B9;
+    w2c_B86:;
+    w2c_i0 = w2c_l14;
+    w2c_i1 = 7u;
+    w2c_i0 = w2c_i0 == w2c_i1;
+    if (w2c_i0) {goto w2c_B22;}
+    w2c_j0 = 1ull;
+    w2c_p0 = w2c_j0;
+    goto w2c_B9;
+    w2c_B69:;
+    w2c_i0 = w2c_l18;
     w2c_j0 = (u64)(w2c_i0);
     w2c_j1 = 255ull;
     w2c_j0 &= w2c_j1;
@@ -45597,388 +44206,344 @@ static u32 w2c_f65(module *m, u64 w2c_p0, u64 w2c_p1, u64 w2c_p2) {
     }
     w2c_B95:;
     w2c_i0 = 0u;
-    w2c_l13 = w2c_i0;
+    w2c_l16 = w2c_i0;
     w2c_i0 = 6u;
-    w2c_l15 = w2c_i0;
-    w2c_i0 = w2c_l18;
+    w2c_l17 = w2c_i0;
+    w2c_j0 = 1ull;
+    w2c_p0 = w2c_j0;
+    w2c_i0 = w2c_l14;
     switch (w2c_i0) {
-      case 0: goto w2c_B35;
-      case 1: goto w2c_B35;
-      case 2: goto w2c_B35;
-      case 3: goto w2c_B35;
-      case 4: goto w2c_B35;
-      case 5: goto w2c_B29;
-      case 6: goto w2c_B42;
-      case 7: goto w2c_B33;
-      case 8: goto w2c_B35;
-      case 9: goto w2c_B35;
-      case 10: goto w2c_B35;
-      case 11: goto w2c_B35;
-      case 12: goto w2c_B35;
-      case 13: goto w2c_B35;
-      case 14: goto w2c_B35;
-      default: goto w2c_B35;
+      case 0: goto w2c_B9;
+      case 1: goto w2c_B9;
+      case 2: goto w2c_B9;
+      case 3: goto w2c_B9;
+      case 4: goto w2c_B9;
+      case 5: goto w2c_B24;
+      case 6: goto w2c_B23;
+      case 7: goto w2c_B21;
+      case 8: goto w2c_B9;
+      case 9: goto w2c_B9;
+      case 10: goto w2c_B9;
+      case 11: goto w2c_B9;
+      case 12: goto w2c_B9;
+      case 13: goto w2c_B9;
+      case 14: goto w2c_B9;
+      default: goto w2c_B9;
     }
     w2c_B94:;
     w2c_i0 = 0u;
-    w2c_l13 = w2c_i0;
+    w2c_l16 = w2c_i0;
     w2c_i0 = 8u;
-    w2c_l15 = w2c_i0;
-    w2c_i0 = w2c_l18;
+    w2c_l17 = w2c_i0;
+    w2c_i0 = w2c_l14;
     w2c_i1 = 5u;
     w2c_i0 = w2c_i0 == w2c_i1;
-    if (w2c_i0) {goto w2c_B29;}
-    w2c_i0 = w2c_l18;
+    if (w2c_i0) {goto w2c_B24;}
+    w2c_i0 = w2c_l14;
     w2c_i1 = 7u;
     w2c_i0 = w2c_i0 == w2c_i1;
-    if (w2c_i0) {goto w2c_B33;}
-    goto w2c_B35;
+    if (w2c_i0) {goto w2c_B21;}
+    w2c_j0 = 1ull;
+    w2c_p0 = w2c_j0;
+    goto w2c_B9;
     w2c_B93:;
-    w2c_i0 = w2c_l18;
+    w2c_i0 = w2c_l14;
     w2c_i1 = 5u;
     w2c_i0 = w2c_i0 == w2c_i1;
-    if (w2c_i0) {goto w2c_B31;}
-    goto w2c_B35;
+    if (w2c_i0) {goto w2c_B26;}
+    w2c_j0 = 1ull;
+    w2c_p0 = w2c_j0;
+    goto w2c_B9;
     w2c_B92:;
     w2c_i0 = 0u;
-    w2c_l13 = w2c_i0;
-    w2c_i0 = w2c_l18;
-    w2c_i1 = 6u;
-    w2c_i0 = w2c_i0 == w2c_i1;
-    if (w2c_i0) {goto w2c_B42;}
-    w2c_i0 = w2c_l18;
-    w2c_i1 = 7u;
-    w2c_i0 = w2c_i0 == w2c_i1;
-    if (w2c_i0) {goto w2c_B33;}
-    goto w2c_B35;
-    w2c_B91:;
-    w2c_i0 = w2c_l18;
-    w2c_i1 = 7u;
-    w2c_i0 = w2c_i0 != w2c_i1;
-    if (w2c_i0) {goto w2c_B35;}
-    w2c_i0 = 0u;
-    w2c_l13 = w2c_i0;
-    goto w2c_B33;
-    w2c_B81:;
-    w2c_i0 = w2c_l18;
-    w2c_i1 = 4294967291u;
-    w2c_i0 += w2c_i1;
-    w2c_i1 = 10u;
-    w2c_i0 = w2c_i0 < w2c_i1;
-    if (w2c_i0) {goto w2c_B96;}
-    w2c_i0 = w2c_l17;
-    w2c_l13 = w2c_i0;
-    w2c_i0 = w2c_l18;
-    switch (w2c_i0) {
-      case 0: goto w2c_B96;
-      case 1: goto w2c_B96;
-      case 2: goto w2c_B46;
-      case 3: goto w2c_B35;
-      case 4: goto w2c_B35;
-      default: goto w2c_B96;
-    }
-    w2c_B96:;
-    w2c_i0 = w2c_l17;
-    w2c_j0 = (u64)(w2c_i0);
-    w2c_j1 = 255ull;
-    w2c_j0 &= w2c_j1;
-    w2c_i0 = (u32)(w2c_j0);
-    switch (w2c_i0) {
-      case 0: goto w2c_B101;
-      case 1: goto w2c_B98;
-      case 2: goto w2c_B100;
-      case 3: goto w2c_B100;
-      case 4: goto w2c_B99;
-      case 5: goto w2c_B97;
-      default: goto w2c_B101;
-    }
-    w2c_B101:;
-    w2c_i0 = 0u;
-    w2c_l13 = w2c_i0;
-    w2c_i0 = 6u;
-    w2c_l15 = w2c_i0;
-    w2c_i0 = w2c_l18;
-    switch (w2c_i0) {
-      case 0: goto w2c_B35;
-      case 1: goto w2c_B35;
-      case 2: goto w2c_B35;
-      case 3: goto w2c_B35;
-      case 4: goto w2c_B35;
-      case 5: goto w2c_B29;
-      case 6: goto w2c_B42;
-      case 7: goto w2c_B33;
-      case 8: goto w2c_B35;
-      case 9: goto w2c_B35;
-      case 10: goto w2c_B35;
-      case 11: goto w2c_B35;
-      case 12: goto w2c_B35;
-      case 13: goto w2c_B35;
-      case 14: goto w2c_B35;
-      default: goto w2c_B35;
-    }
-    w2c_B100:;
-    w2c_i0 = 0u;
-    w2c_l13 = w2c_i0;
-    w2c_i0 = 8u;
-    w2c_l15 = w2c_i0;
-    w2c_i0 = w2c_l18;
-    w2c_i1 = 5u;
-    w2c_i0 = w2c_i0 == w2c_i1;
-    if (w2c_i0) {goto w2c_B29;}
-    w2c_i0 = w2c_l18;
-    w2c_i1 = 7u;
-    w2c_i0 = w2c_i0 == w2c_i1;
-    if (w2c_i0) {goto w2c_B33;}
-    goto w2c_B35;
-    w2c_B99:;
-    w2c_i0 = w2c_l18;
-    w2c_i1 = 5u;
-    w2c_i0 = w2c_i0 == w2c_i1;
-    if (w2c_i0) {goto w2c_B31;}
-    goto w2c_B35;
-    w2c_B98:;
-    w2c_i0 = 0u;
-    w2c_l13 = w2c_i0;
-    w2c_i0 = w2c_l18;
-    w2c_i1 = 6u;
-    w2c_i0 = w2c_i0 == w2c_i1;
-    if (w2c_i0) {goto w2c_B42;}
-    w2c_i0 = w2c_l18;
-    w2c_i1 = 7u;
-    w2c_i0 = w2c_i0 == w2c_i1;
-    if (w2c_i0) {goto w2c_B33;}
-    goto w2c_B35;
-    w2c_B97:;
-    w2c_i0 = w2c_l18;
-    w2c_i1 = 7u;
-    w2c_i0 = w2c_i0 != w2c_i1;
-    if (w2c_i0) {goto w2c_B35;}
-    w2c_i0 = 0u;
-    w2c_l13 = w2c_i0;
-    goto w2c_B33;
-    w2c_B80:;
-    w2c_i0 = w2c_l17;
-    w2c_j0 = (u64)(w2c_i0);
-    w2c_j1 = 255ull;
-    w2c_j0 &= w2c_j1;
-    w2c_i0 = (u32)(w2c_j0);
-    switch (w2c_i0) {
-      case 0: goto w2c_B106;
-      case 1: goto w2c_B103;
-      case 2: goto w2c_B105;
-      case 3: goto w2c_B105;
-      case 4: goto w2c_B104;
-      case 5: goto w2c_B102;
-      default: goto w2c_B106;
-    }
-    w2c_B106:;
-    w2c_i0 = 0u;
-    w2c_l13 = w2c_i0;
-    w2c_i0 = 6u;
-    w2c_l15 = w2c_i0;
-    w2c_i0 = w2c_l18;
-    switch (w2c_i0) {
-      case 0: goto w2c_B35;
-      case 1: goto w2c_B35;
-      case 2: goto w2c_B35;
-      case 3: goto w2c_B35;
-      case 4: goto w2c_B35;
-      case 5: goto w2c_B29;
-      case 6: goto w2c_B42;
-      case 7: goto w2c_B33;
-      case 8: goto w2c_B35;
-      case 9: goto w2c_B35;
-      case 10: goto w2c_B35;
-      case 11: goto w2c_B35;
-      case 12: goto w2c_B35;
-      case 13: goto w2c_B35;
-      case 14: goto w2c_B35;
-      default: goto w2c_B35;
-    }
-    w2c_B105:;
-    w2c_i0 = 0u;
-    w2c_l13 = w2c_i0;
-    w2c_i0 = 8u;
-    w2c_l15 = w2c_i0;
-    w2c_i0 = w2c_l18;
-    w2c_i1 = 5u;
-    w2c_i0 = w2c_i0 == w2c_i1;
-    if (w2c_i0) {goto w2c_B29;}
-    w2c_i0 = w2c_l18;
-    w2c_i1 = 7u;
-    w2c_i0 = w2c_i0 == w2c_i1;
-    if (w2c_i0) {goto w2c_B33;}
-    goto w2c_B35;
-    w2c_B104:;
-    w2c_i0 = w2c_l18;
-    w2c_i1 = 5u;
-    w2c_i0 = w2c_i0 == w2c_i1;
-    if (w2c_i0) {goto w2c_B31;}
-    goto w2c_B35;
-    w2c_B103:;
-    w2c_i0 = 0u;
-    w2c_l13 = w2c_i0;
-    w2c_i0 = w2c_l18;
-    w2c_i1 = 6u;
-    w2c_i0 = w2c_i0 == w2c_i1;
-    if (w2c_i0) {goto w2c_B42;}
-    w2c_i0 = w2c_l18;
-    w2c_i1 = 7u;
-    w2c_i0 = w2c_i0 == w2c_i1;
-    if (w2c_i0) {goto w2c_B33;}
-    goto w2c_B35;
-    w2c_B102:;
-    w2c_i0 = w2c_l18;
-    w2c_i1 = 7u;
-    w2c_i0 = w2c_i0 != w2c_i1;
-    if (w2c_i0) {goto w2c_B35;}
-    w2c_i0 = 0u;
-    w2c_l13 = w2c_i0;
-    goto w2c_B33;
-    w2c_B59:;
+    w2c_l16 = w2c_i0;
     w2c_i0 = w2c_l14;
+    w2c_i1 = 6u;
+    w2c_i0 = w2c_i0 == w2c_i1;
+    if (w2c_i0) {goto w2c_B23;}
+    w2c_i0 = w2c_l14;
+    w2c_i1 = 7u;
+    w2c_i0 = w2c_i0 == w2c_i1;
+    if (w2c_i0) {goto w2c_B21;}
+    w2c_j0 = 1ull;
+    w2c_p0 = w2c_j0;
+    goto w2c_B9;
+    w2c_B91:;
+    w2c_i0 = w2c_l14;
+    w2c_i1 = 7u;
+    w2c_i0 = w2c_i0 == w2c_i1;
+    if (w2c_i0) {goto w2c_B22;}
+    w2c_j0 = 1ull;
+    w2c_p0 = w2c_j0;
+    goto w2c_B9;
+    w2c_B45:;
+    w2c_i0 = w2c_l15;
     w2c_j0 = (u64)(w2c_i0);
     w2c_j1 = 255ull;
     w2c_j0 &= w2c_j1;
     w2c_i0 = (u32)(w2c_j0);
     switch (w2c_i0) {
-      case 0: goto w2c_B107;
-      case 1: goto w2c_B108;
-      case 2: goto w2c_B109;
-      case 3: goto w2c_B110;
-      default: goto w2c_B107;
+      case 0: goto w2c_B99;
+      case 1: goto w2c_B100;
+      case 2: goto w2c_B101;
+      case 3: goto w2c_B102;
+      default: goto w2c_B99;
     }
-    w2c_B110:;
-    w2c_i0 = w2c_l18;
+    w2c_B102:;
+    w2c_i0 = w2c_l14;
     w2c_i1 = 4294967294u;
     w2c_i0 += w2c_i1;
     w2c_i1 = 13u;
     w2c_i0 = w2c_i0 < w2c_i1;
-    if (w2c_i0) {goto w2c_B111;}
+    if (w2c_i0) {goto w2c_B103;}
     w2c_i0 = 1u;
-    w2c_l14 = w2c_i0;
-    w2c_i0 = 9u;
     w2c_l15 = w2c_i0;
+    w2c_i0 = 9u;
+    w2c_l17 = w2c_i0;
     w2c_i0 = 2u;
     w2c_l20 = w2c_i0;
     w2c_i0 = 10u;
     w2c_l19 = w2c_i0;
-    w2c_i0 = w2c_l17;
-    w2c_l21 = w2c_i0;
-    w2c_i0 = w2c_l17;
-    w2c_l13 = w2c_i0;
     w2c_i0 = w2c_l18;
+    w2c_l21 = w2c_i0;
+    w2c_i0 = w2c_l18;
+    w2c_l16 = w2c_i0;
+    w2c_i0 = w2c_l14;
     switch (w2c_i0) {
-      case 0: goto w2c_B28;
-      case 1: goto w2c_B50;
-      default: goto w2c_B28;
+      case 0: goto w2c_B17;
+      case 1: goto w2c_B31;
+      default: goto w2c_B17;
     }
-    w2c_B111:;
-    w2c_i0 = w2c_l17;
+    w2c_B103:;
+    w2c_i0 = w2c_l18;
     w2c_j0 = (u64)(w2c_i0);
     w2c_j1 = 255ull;
     w2c_j0 &= w2c_j1;
     w2c_i0 = (u32)(w2c_j0);
     switch (w2c_i0) {
-      case 0: goto w2c_B116;
-      case 1: goto w2c_B113;
-      case 2: goto w2c_B115;
-      case 3: goto w2c_B115;
-      case 4: goto w2c_B114;
-      case 5: goto w2c_B112;
-      default: goto w2c_B116;
+      case 0: goto w2c_B108;
+      case 1: goto w2c_B105;
+      case 2: goto w2c_B107;
+      case 3: goto w2c_B107;
+      case 4: goto w2c_B106;
+      case 5: goto w2c_B104;
+      default: goto w2c_B108;
     }
-    w2c_B116:;
+    w2c_B108:;
     w2c_i0 = 1u;
-    w2c_l13 = w2c_i0;
+    w2c_l16 = w2c_i0;
     w2c_i0 = 6u;
-    w2c_l15 = w2c_i0;
-    w2c_i0 = w2c_l18;
+    w2c_l17 = w2c_i0;
+    w2c_j0 = 1ull;
+    w2c_p0 = w2c_j0;
+    w2c_i0 = w2c_l14;
     w2c_i1 = 4294967294u;
     w2c_i0 += w2c_i1;
     switch (w2c_i0) {
-      case 0: goto w2c_B35;
-      case 1: goto w2c_B35;
-      case 2: goto w2c_B35;
-      case 3: goto w2c_B29;
-      case 4: goto w2c_B42;
-      case 5: goto w2c_B33;
-      case 6: goto w2c_B35;
-      case 7: goto w2c_B35;
-      case 8: goto w2c_B35;
-      case 9: goto w2c_B35;
-      case 10: goto w2c_B35;
-      case 11: goto w2c_B35;
-      case 12: goto w2c_B35;
-      default: goto w2c_B35;
+      case 0: goto w2c_B9;
+      case 1: goto w2c_B9;
+      case 2: goto w2c_B9;
+      case 3: goto w2c_B24;
+      case 4: goto w2c_B23;
+      case 5: goto w2c_B21;
+      case 6: goto w2c_B9;
+      case 7: goto w2c_B9;
+      case 8: goto w2c_B9;
+      case 9: goto w2c_B9;
+      case 10: goto w2c_B9;
+      case 11: goto w2c_B9;
+      case 12: goto w2c_B9;
+      default: goto w2c_B9;
+    }
+    w2c_B107:;
+    w2c_i0 = 1u;
+    w2c_l16 = w2c_i0;
+    w2c_i0 = 8u;
+    w2c_l17 = w2c_i0;
+    w2c_i0 = w2c_l14;
+    w2c_i1 = 5u;
+    w2c_i0 = w2c_i0 == w2c_i1;
+    if (w2c_i0) {goto w2c_B24;}
+    w2c_i0 = w2c_l14;
+    w2c_i1 = 7u;
+    w2c_i0 = w2c_i0 == w2c_i1;
+    if (w2c_i0) {goto w2c_B21;}
+    w2c_j0 = 1ull;
+    w2c_p0 = w2c_j0;
+    goto w2c_B9;
+    w2c_B106:;
+    w2c_i0 = w2c_l14;
+    w2c_i1 = 5u;
+    w2c_i0 = w2c_i0 == w2c_i1;
+    if (w2c_i0) {goto w2c_B98;}
+    w2c_j0 = 1ull;
+    w2c_p0 = w2c_j0;
+    goto w2c_B9;
+    w2c_B105:;
+    w2c_i0 = 1u;
+    w2c_l16 = w2c_i0;
+    w2c_i0 = w2c_l14;
+    w2c_i1 = 6u;
+    w2c_i0 = w2c_i0 == w2c_i1;
+    if (w2c_i0) {goto w2c_B23;}
+    w2c_i0 = w2c_l14;
+    w2c_i1 = 7u;
+    w2c_i0 = w2c_i0 == w2c_i1;
+    if (w2c_i0) {goto w2c_B21;}
+    w2c_j0 = 1ull;
+    w2c_p0 = w2c_j0;
+    goto w2c_B9;
+    w2c_B104:;
+    w2c_i0 = w2c_l14;
+    w2c_i1 = 7u;
+    w2c_i0 = w2c_i0 == w2c_i1;
+    if (w2c_i0) {goto w2c_B109;}
+    w2c_j0 = 1ull;
+    w2c_p0 = w2c_j0;
+    goto w2c_B9;
+    w2c_B109:;
+    w2c_i0 = 1u;
+    w2c_l16 = w2c_i0;
+    goto w2c_B21;
+    w2c_B101:;
+    w2c_i0 = w2c_l14;
+    w2c_i1 = 4294967294u;
+    w2c_i0 += w2c_i1;
+    w2c_i1 = 13u;
+    w2c_i0 = w2c_i0 < w2c_i1;
+    if (w2c_i0) {goto w2c_B110;}
+    w2c_i0 = 9u;
+    w2c_l17 = w2c_i0;
+    w2c_i0 = 10u;
+    w2c_l19 = w2c_i0;
+    w2c_i0 = w2c_l18;
+    w2c_l21 = w2c_i0;
+    w2c_i0 = w2c_l14;
+    w2c_l20 = w2c_i0;
+    w2c_i0 = w2c_l18;
+    w2c_l16 = w2c_i0;
+    w2c_i0 = w2c_l14;
+    w2c_l15 = w2c_i0;
+    w2c_i0 = w2c_l14;
+    switch (w2c_i0) {
+      case 0: goto w2c_B17;
+      case 1: goto w2c_B31;
+      default: goto w2c_B17;
+    }
+    w2c_B110:;
+    w2c_i0 = w2c_l18;
+    w2c_j0 = (u64)(w2c_i0);
+    w2c_j1 = 255ull;
+    w2c_j0 &= w2c_j1;
+    w2c_i0 = (u32)(w2c_j0);
+    switch (w2c_i0) {
+      case 0: goto w2c_B115;
+      case 1: goto w2c_B112;
+      case 2: goto w2c_B114;
+      case 3: goto w2c_B114;
+      case 4: goto w2c_B113;
+      case 5: goto w2c_B111;
+      default: goto w2c_B115;
     }
     w2c_B115:;
     w2c_i0 = 1u;
-    w2c_l13 = w2c_i0;
+    w2c_l16 = w2c_i0;
+    w2c_i0 = 6u;
+    w2c_l17 = w2c_i0;
+    w2c_j0 = 1ull;
+    w2c_p0 = w2c_j0;
+    w2c_i0 = w2c_l14;
+    w2c_i1 = 4294967294u;
+    w2c_i0 += w2c_i1;
+    switch (w2c_i0) {
+      case 0: goto w2c_B9;
+      case 1: goto w2c_B9;
+      case 2: goto w2c_B9;
+      case 3: goto w2c_B24;
+      case 4: goto w2c_B23;
+      case 5: goto w2c_B21;
+      case 6: goto w2c_B9;
+      case 7: goto w2c_B9;
+      case 8: goto w2c_B9;
+      case 9: goto w2c_B9;
+      case 10: goto w2c_B9;
+      case 11: goto w2c_B9;
+      case 12: goto w2c_B9;
+      default: goto w2c_B9;
+    }
+    w2c_B114:;
+    w2c_i0 = 1u;
+    w2c_l16 = w2c_i0;
     w2c_i0 = 8u;
-    w2c_l15 = w2c_i0;
-    w2c_i0 = w2c_l18;
+    w2c_l17 = w2c_i0;
+    w2c_i0 = w2c_l14;
     w2c_i1 = 5u;
     w2c_i0 = w2c_i0 == w2c_i1;
-    if (w2c_i0) {goto w2c_B29;}
-    w2c_i0 = w2c_l18;
+    if (w2c_i0) {goto w2c_B24;}
+    w2c_i0 = w2c_l14;
     w2c_i1 = 7u;
     w2c_i0 = w2c_i0 == w2c_i1;
-    if (w2c_i0) {goto w2c_B33;}
-    goto w2c_B35;
-    w2c_B114:;
-    w2c_i0 = w2c_l18;
-    w2c_i1 = 5u;
-    w2c_i0 = w2c_i0 != w2c_i1;
-    if (w2c_i0) {goto w2c_B35;}
-    goto w2c_B32;
+    if (w2c_i0) {goto w2c_B21;}
+    w2c_j0 = 1ull;
+    w2c_p0 = w2c_j0;
+    goto w2c_B9;
     w2c_B113:;
+    w2c_i0 = w2c_l14;
+    w2c_i1 = 5u;
+    w2c_i0 = w2c_i0 == w2c_i1;
+    if (w2c_i0) {goto w2c_B98;}
+    w2c_j0 = 1ull;
+    w2c_p0 = w2c_j0;
+    goto w2c_B9;
+    w2c_B112:;
     w2c_i0 = 1u;
-    w2c_l13 = w2c_i0;
-    w2c_i0 = w2c_l18;
+    w2c_l16 = w2c_i0;
+    w2c_i0 = w2c_l14;
     w2c_i1 = 6u;
     w2c_i0 = w2c_i0 == w2c_i1;
-    if (w2c_i0) {goto w2c_B42;}
-    w2c_i0 = w2c_l18;
+    if (w2c_i0) {goto w2c_B23;}
+    w2c_i0 = w2c_l14;
     w2c_i1 = 7u;
     w2c_i0 = w2c_i0 == w2c_i1;
-    if (w2c_i0) {goto w2c_B33;}
-    goto w2c_B35;
-    w2c_B112:;
-    w2c_i0 = w2c_l18;
+    if (w2c_i0) {goto w2c_B21;}
+    w2c_j0 = 1ull;
+    w2c_p0 = w2c_j0;
+    goto w2c_B9;
+    w2c_B111:;
+    w2c_i0 = w2c_l14;
     w2c_i1 = 7u;
-    w2c_i0 = w2c_i0 != w2c_i1;
-    if (w2c_i0) {goto w2c_B35;}
+    w2c_i0 = w2c_i0 == w2c_i1;
+    if (w2c_i0) {goto w2c_B116;}
+    w2c_j0 = 1ull;
+    w2c_p0 = w2c_j0;
+    goto w2c_B9;
+    w2c_B116:;
     w2c_i0 = 1u;
-    w2c_l13 = w2c_i0;
-    goto w2c_B33;
-    w2c_B109:;
-    w2c_i0 = w2c_l18;
+    w2c_l16 = w2c_i0;
+    goto w2c_B21;
+    w2c_B100:;
+    w2c_i0 = w2c_l14;
     w2c_i1 = 4294967294u;
     w2c_i0 += w2c_i1;
     w2c_i1 = 13u;
     w2c_i0 = w2c_i0 < w2c_i1;
     if (w2c_i0) {goto w2c_B117;}
-    w2c_i0 = 9u;
-    w2c_l15 = w2c_i0;
+    w2c_i0 = 0u;
+    w2c_l20 = w2c_i0;
     w2c_i0 = 10u;
     w2c_l19 = w2c_i0;
-    w2c_i0 = w2c_l17;
+    w2c_i0 = w2c_l18;
     w2c_l21 = w2c_i0;
-    w2c_i0 = w2c_l18;
-    w2c_l20 = w2c_i0;
-    w2c_i0 = w2c_l17;
-    w2c_l13 = w2c_i0;
-    w2c_i0 = w2c_l18;
-    w2c_l14 = w2c_i0;
-    w2c_i0 = w2c_l18;
+    w2c_j0 = 1ull;
+    w2c_p0 = w2c_j0;
+    w2c_i0 = w2c_l14;
     switch (w2c_i0) {
-      case 0: goto w2c_B28;
-      case 1: goto w2c_B50;
-      default: goto w2c_B28;
+      case 0: goto w2c_B9;
+      case 1: goto w2c_B31;
+      default: goto w2c_B9;
     }
     w2c_B117:;
-    w2c_i0 = w2c_l17;
+    w2c_i0 = w2c_l18;
     w2c_j0 = (u64)(w2c_i0);
     w2c_j1 = 255ull;
     w2c_j0 &= w2c_j1;
@@ -45994,401 +44559,355 @@ static u32 w2c_f65(module *m, u64 w2c_p0, u64 w2c_p1, u64 w2c_p2) {
     }
     w2c_B122:;
     w2c_i0 = 1u;
-    w2c_l13 = w2c_i0;
+    w2c_l16 = w2c_i0;
     w2c_i0 = 6u;
-    w2c_l15 = w2c_i0;
-    w2c_i0 = w2c_l18;
+    w2c_l17 = w2c_i0;
+    w2c_j0 = 1ull;
+    w2c_p0 = w2c_j0;
+    w2c_i0 = w2c_l14;
     w2c_i1 = 4294967294u;
     w2c_i0 += w2c_i1;
     switch (w2c_i0) {
-      case 0: goto w2c_B35;
-      case 1: goto w2c_B35;
-      case 2: goto w2c_B35;
-      case 3: goto w2c_B29;
-      case 4: goto w2c_B42;
-      case 5: goto w2c_B33;
-      case 6: goto w2c_B35;
-      case 7: goto w2c_B35;
-      case 8: goto w2c_B35;
-      case 9: goto w2c_B35;
-      case 10: goto w2c_B35;
-      case 11: goto w2c_B35;
-      case 12: goto w2c_B35;
-      default: goto w2c_B35;
+      case 0: goto w2c_B9;
+      case 1: goto w2c_B9;
+      case 2: goto w2c_B9;
+      case 3: goto w2c_B24;
+      case 4: goto w2c_B23;
+      case 5: goto w2c_B21;
+      case 6: goto w2c_B9;
+      case 7: goto w2c_B9;
+      case 8: goto w2c_B9;
+      case 9: goto w2c_B9;
+      case 10: goto w2c_B9;
+      case 11: goto w2c_B9;
+      case 12: goto w2c_B9;
+      default: goto w2c_B9;
     }
     w2c_B121:;
     w2c_i0 = 1u;
-    w2c_l13 = w2c_i0;
+    w2c_l16 = w2c_i0;
     w2c_i0 = 8u;
-    w2c_l15 = w2c_i0;
-    w2c_i0 = w2c_l18;
+    w2c_l17 = w2c_i0;
+    w2c_i0 = w2c_l14;
     w2c_i1 = 5u;
     w2c_i0 = w2c_i0 == w2c_i1;
-    if (w2c_i0) {goto w2c_B29;}
-    w2c_i0 = w2c_l18;
+    if (w2c_i0) {goto w2c_B24;}
+    w2c_i0 = w2c_l14;
     w2c_i1 = 7u;
     w2c_i0 = w2c_i0 == w2c_i1;
-    if (w2c_i0) {goto w2c_B33;}
-    goto w2c_B35;
+    if (w2c_i0) {goto w2c_B21;}
+    w2c_j0 = 1ull;
+    w2c_p0 = w2c_j0;
+    goto w2c_B9;
     w2c_B120:;
-    w2c_i0 = w2c_l18;
+    w2c_i0 = w2c_l14;
     w2c_i1 = 5u;
     w2c_i0 = w2c_i0 == w2c_i1;
-    if (w2c_i0) {goto w2c_B32;}
-    goto w2c_B35;
+    if (w2c_i0) {goto w2c_B98;}
+    w2c_j0 = 1ull;
+    w2c_p0 = w2c_j0;
+    goto w2c_B9;
     w2c_B119:;
     w2c_i0 = 1u;
-    w2c_l13 = w2c_i0;
-    w2c_i0 = w2c_l18;
+    w2c_l16 = w2c_i0;
+    w2c_i0 = w2c_l14;
     w2c_i1 = 6u;
     w2c_i0 = w2c_i0 == w2c_i1;
-    if (w2c_i0) {goto w2c_B42;}
-    w2c_i0 = w2c_l18;
+    if (w2c_i0) {goto w2c_B23;}
+    w2c_i0 = w2c_l14;
     w2c_i1 = 7u;
     w2c_i0 = w2c_i0 == w2c_i1;
-    if (w2c_i0) {goto w2c_B33;}
-    goto w2c_B35;
+    if (w2c_i0) {goto w2c_B21;}
+    w2c_j0 = 1ull;
+    w2c_p0 = w2c_j0;
+    goto w2c_B9;
     w2c_B118:;
-    w2c_i0 = w2c_l18;
+    w2c_i0 = w2c_l14;
     w2c_i1 = 7u;
-    w2c_i0 = w2c_i0 != w2c_i1;
-    if (w2c_i0) {goto w2c_B35;}
-    w2c_i0 = 1u;
-    w2c_l13 = w2c_i0;
-    goto w2c_B33;
-    w2c_B108:;
-    w2c_i0 = w2c_l18;
-    w2c_i1 = 4294967294u;
-    w2c_i0 += w2c_i1;
-    w2c_i1 = 13u;
-    w2c_i0 = w2c_i0 < w2c_i1;
+    w2c_i0 = w2c_i0 == w2c_i1;
     if (w2c_i0) {goto w2c_B123;}
-    w2c_i0 = 0u;
-    w2c_l20 = w2c_i0;
-    w2c_i0 = 10u;
-    w2c_l19 = w2c_i0;
-    w2c_i0 = w2c_l17;
-    w2c_l21 = w2c_i0;
-    w2c_i0 = w2c_l18;
-    switch (w2c_i0) {
-      case 0: goto w2c_B35;
-      case 1: goto w2c_B50;
-      default: goto w2c_B35;
-    }
+    w2c_j0 = 1ull;
+    w2c_p0 = w2c_j0;
+    goto w2c_B9;
     w2c_B123:;
-    w2c_i0 = w2c_l17;
+    w2c_i0 = 1u;
+    w2c_l16 = w2c_i0;
+    goto w2c_B21;
+    w2c_B99:;
+    w2c_i0 = w2c_l18;
     w2c_j0 = (u64)(w2c_i0);
     w2c_j1 = 255ull;
     w2c_j0 &= w2c_j1;
     w2c_i0 = (u32)(w2c_j0);
     switch (w2c_i0) {
-      case 0: goto w2c_B128;
-      case 1: goto w2c_B125;
-      case 2: goto w2c_B127;
-      case 3: goto w2c_B127;
-      case 4: goto w2c_B126;
-      case 5: goto w2c_B124;
-      default: goto w2c_B128;
+      case 0: goto w2c_B126;
+      case 1: goto w2c_B97;
+      case 2: goto w2c_B125;
+      case 3: goto w2c_B125;
+      case 4: goto w2c_B124;
+      case 5: goto w2c_B96;
+      default: goto w2c_B126;
     }
-    w2c_B128:;
-    w2c_i0 = 1u;
-    w2c_l13 = w2c_i0;
-    w2c_i0 = 6u;
-    w2c_l15 = w2c_i0;
-    w2c_i0 = w2c_l18;
-    w2c_i1 = 4294967294u;
-    w2c_i0 += w2c_i1;
-    switch (w2c_i0) {
-      case 0: goto w2c_B35;
-      case 1: goto w2c_B35;
-      case 2: goto w2c_B35;
-      case 3: goto w2c_B29;
-      case 4: goto w2c_B42;
-      case 5: goto w2c_B33;
-      case 6: goto w2c_B35;
-      case 7: goto w2c_B35;
-      case 8: goto w2c_B35;
-      case 9: goto w2c_B35;
-      case 10: goto w2c_B35;
-      case 11: goto w2c_B35;
-      case 12: goto w2c_B35;
-      default: goto w2c_B35;
-    }
-    w2c_B127:;
-    w2c_i0 = 1u;
-    w2c_l13 = w2c_i0;
-    w2c_i0 = 8u;
-    w2c_l15 = w2c_i0;
-    w2c_i0 = w2c_l18;
-    w2c_i1 = 5u;
-    w2c_i0 = w2c_i0 == w2c_i1;
-    if (w2c_i0) {goto w2c_B29;}
-    w2c_i0 = w2c_l18;
-    w2c_i1 = 7u;
-    w2c_i0 = w2c_i0 == w2c_i1;
-    if (w2c_i0) {goto w2c_B33;}
-    goto w2c_B35;
     w2c_B126:;
-    w2c_i0 = w2c_l18;
-    w2c_i1 = 5u;
-    w2c_i0 = w2c_i0 == w2c_i1;
-    if (w2c_i0) {goto w2c_B32;}
-    goto w2c_B35;
+    w2c_i0 = 1u;
+    w2c_l16 = w2c_i0;
+    w2c_i0 = 6u;
+    w2c_l17 = w2c_i0;
+    w2c_j0 = 1ull;
+    w2c_p0 = w2c_j0;
+    w2c_i0 = w2c_l14;
+    switch (w2c_i0) {
+      case 0: goto w2c_B9;
+      case 1: goto w2c_B9;
+      case 2: goto w2c_B9;
+      case 3: goto w2c_B9;
+      case 4: goto w2c_B9;
+      case 5: goto w2c_B24;
+      case 6: goto w2c_B23;
+      case 7: goto w2c_B21;
+      case 8: goto w2c_B9;
+      case 9: goto w2c_B9;
+      case 10: goto w2c_B9;
+      case 11: goto w2c_B9;
+      case 12: goto w2c_B9;
+      case 13: goto w2c_B9;
+      case 14: goto w2c_B9;
+      default: goto w2c_B9;
+    }
     w2c_B125:;
     w2c_i0 = 1u;
-    w2c_l13 = w2c_i0;
-    w2c_i0 = w2c_l18;
+    w2c_l16 = w2c_i0;
+    w2c_i0 = 8u;
+    w2c_l17 = w2c_i0;
+    w2c_i0 = w2c_l14;
+    w2c_i1 = 5u;
+    w2c_i0 = w2c_i0 == w2c_i1;
+    if (w2c_i0) {goto w2c_B24;}
+    w2c_i0 = w2c_l14;
+    w2c_i1 = 7u;
+    w2c_i0 = w2c_i0 == w2c_i1;
+    if (w2c_i0) {goto w2c_B21;}
+    w2c_j0 = 1ull;
+    w2c_p0 = w2c_j0;
+    goto w2c_B9;
+    w2c_B124:;
+    w2c_i0 = w2c_l14;
+    w2c_i1 = 5u;
+    w2c_i0 = w2c_i0 == w2c_i1;
+    if (w2c_i0) {goto w2c_B98;}
+    w2c_j0 = 1ull;
+    w2c_p0 = w2c_j0;
+    goto w2c_B9;
+    w2c_B98:;
+    w2c_i0 = 1u;
+    w2c_l16 = w2c_i0;
+    goto w2c_B25;
+    w2c_B97:;
+    w2c_i0 = 1u;
+    w2c_l16 = w2c_i0;
+    w2c_i0 = w2c_l14;
     w2c_i1 = 6u;
     w2c_i0 = w2c_i0 == w2c_i1;
-    if (w2c_i0) {goto w2c_B42;}
-    w2c_i0 = w2c_l18;
+    if (w2c_i0) {goto w2c_B23;}
+    w2c_i0 = w2c_l14;
     w2c_i1 = 7u;
     w2c_i0 = w2c_i0 == w2c_i1;
-    if (w2c_i0) {goto w2c_B33;}
-    goto w2c_B35;
-    w2c_B124:;
-    w2c_i0 = w2c_l18;
+    if (w2c_i0) {goto w2c_B21;}
+    w2c_j0 = 1ull;
+    w2c_p0 = w2c_j0;
+    goto w2c_B9;
+    w2c_B96:;
+    w2c_i0 = w2c_l14;
     w2c_i1 = 7u;
-    w2c_i0 = w2c_i0 != w2c_i1;
-    if (w2c_i0) {goto w2c_B35;}
+    w2c_i0 = w2c_i0 == w2c_i1;
+    if (w2c_i0) {goto w2c_B127;}
+    w2c_j0 = 1ull;
+    w2c_p0 = w2c_j0;
+    goto w2c_B9;
+    w2c_B127:;
     w2c_i0 = 1u;
-    w2c_l13 = w2c_i0;
-    goto w2c_B33;
-    w2c_B107:;
-    w2c_i0 = w2c_l17;
-    w2c_j0 = (u64)(w2c_i0);
-    w2c_j1 = 255ull;
-    w2c_j0 &= w2c_j1;
-    w2c_i0 = (u32)(w2c_j0);
-    switch (w2c_i0) {
-      case 0: goto w2c_B133;
-      case 1: goto w2c_B130;
-      case 2: goto w2c_B132;
-      case 3: goto w2c_B132;
-      case 4: goto w2c_B131;
-      case 5: goto w2c_B129;
-      default: goto w2c_B133;
-    }
-    w2c_B133:;
+    w2c_l16 = w2c_i0;
+    goto w2c_B21;
+    w2c_B44:;
+    w2c_i0 = 5u;
+    w2c_l19 = w2c_i0;
+    w2c_i0 = 0u;
+    w2c_l21 = w2c_i0;
     w2c_i0 = 1u;
-    w2c_l13 = w2c_i0;
-    w2c_i0 = 6u;
+    w2c_l17 = w2c_i0;
+    w2c_i0 = 0u;
+    w2c_l20 = w2c_i0;
+    w2c_i0 = 0u;
+    w2c_l16 = w2c_i0;
+    w2c_i0 = 0u;
     w2c_l15 = w2c_i0;
-    w2c_i0 = w2c_l18;
+    w2c_j0 = 1ull;
+    w2c_p0 = w2c_j0;
+    w2c_i0 = w2c_l14;
     switch (w2c_i0) {
-      case 0: goto w2c_B35;
-      case 1: goto w2c_B35;
-      case 2: goto w2c_B35;
-      case 3: goto w2c_B35;
-      case 4: goto w2c_B35;
-      case 5: goto w2c_B29;
-      case 6: goto w2c_B42;
-      case 7: goto w2c_B33;
-      case 8: goto w2c_B35;
-      case 9: goto w2c_B35;
-      case 10: goto w2c_B35;
-      case 11: goto w2c_B35;
-      case 12: goto w2c_B35;
-      case 13: goto w2c_B35;
-      case 14: goto w2c_B35;
-      default: goto w2c_B35;
+      case 0: goto w2c_B34;
+      case 1: goto w2c_B31;
+      case 2: goto w2c_B9;
+      case 3: goto w2c_B9;
+      case 4: goto w2c_B9;
+      case 5: goto w2c_B9;
+      case 6: goto w2c_B9;
+      case 7: goto w2c_B9;
+      case 8: goto w2c_B9;
+      case 9: goto w2c_B9;
+      case 10: goto w2c_B9;
+      case 11: goto w2c_B17;
+      case 12: goto w2c_B9;
+      case 13: goto w2c_B9;
+      case 14: goto w2c_B9;
+      default: goto w2c_B34;
     }
-    w2c_B132:;
-    w2c_i0 = 1u;
-    w2c_l13 = w2c_i0;
-    w2c_i0 = 8u;
-    w2c_l15 = w2c_i0;
-    w2c_i0 = w2c_l18;
-    w2c_i1 = 5u;
+    w2c_B43:;
+    w2c_i0 = w2c_l14;
+    w2c_i1 = 12u;
     w2c_i0 = w2c_i0 == w2c_i1;
-    if (w2c_i0) {goto w2c_B29;}
-    w2c_i0 = w2c_l18;
+    if (w2c_i0) {goto w2c_B128;}
+    w2c_j0 = 1ull;
+    w2c_p0 = w2c_j0;
+    goto w2c_B9;
+    w2c_B128:;
+    w2c_i0 = 0u;
+    w2c_l16 = w2c_i0;
+    w2c_i0 = 2u;
+    w2c_l17 = w2c_i0;
+    goto w2c_B18;
+    w2c_B42:;
+    w2c_i0 = w2c_l14;
+    w2c_i1 = 13u;
+    w2c_i0 = w2c_i0 == w2c_i1;
+    if (w2c_i0) {goto w2c_B129;}
+    w2c_j0 = 1ull;
+    w2c_p0 = w2c_j0;
+    goto w2c_B9;
+    w2c_B129:;
+    w2c_i0 = 0u;
+    w2c_l16 = w2c_i0;
+    w2c_i0 = 3u;
+    w2c_l17 = w2c_i0;
+    goto w2c_B18;
+    w2c_B41:;
+    w2c_i0 = 0u;
+    w2c_l21 = w2c_i0;
+    w2c_i0 = 5u;
+    w2c_l19 = w2c_i0;
+    w2c_i0 = 0u;
+    w2c_l20 = w2c_i0;
+    w2c_j0 = 1ull;
+    w2c_p0 = w2c_j0;
+    w2c_i0 = w2c_l14;
+    switch (w2c_i0) {
+      case 0: goto w2c_B34;
+      case 1: goto w2c_B31;
+      case 2: goto w2c_B9;
+      case 3: goto w2c_B9;
+      case 4: goto w2c_B9;
+      case 5: goto w2c_B9;
+      case 6: goto w2c_B9;
+      case 7: goto w2c_B9;
+      case 8: goto w2c_B9;
+      case 9: goto w2c_B9;
+      case 10: goto w2c_B9;
+      case 11: goto w2c_B9;
+      case 12: goto w2c_B9;
+      case 13: goto w2c_B9;
+      case 14: goto w2c_B9;
+      default: goto w2c_B34;
+    }
+    w2c_B40:;
+    w2c_i0 = w2c_l14;
     w2c_i1 = 7u;
     w2c_i0 = w2c_i0 == w2c_i1;
-    if (w2c_i0) {goto w2c_B33;}
-    goto w2c_B35;
-    w2c_B131:;
-    w2c_i0 = w2c_l18;
-    w2c_i1 = 5u;
-    w2c_i0 = w2c_i0 == w2c_i1;
-    if (w2c_i0) {goto w2c_B32;}
-    goto w2c_B35;
+    if (w2c_i0) {goto w2c_B130;}
+    w2c_j0 = 1ull;
+    w2c_p0 = w2c_j0;
+    goto w2c_B9;
     w2c_B130:;
     w2c_i0 = 1u;
-    w2c_l13 = w2c_i0;
-    w2c_i0 = w2c_l18;
-    w2c_i1 = 6u;
-    w2c_i0 = w2c_i0 == w2c_i1;
-    if (w2c_i0) {goto w2c_B42;}
-    w2c_i0 = w2c_l18;
-    w2c_i1 = 7u;
-    w2c_i0 = w2c_i0 != w2c_i1;
-    if (w2c_i0) {goto w2c_B35;}
-    goto w2c_B33;
-    w2c_B129:;
-    w2c_i0 = w2c_l18;
-    w2c_i1 = 7u;
-    w2c_i0 = w2c_i0 != w2c_i1;
-    if (w2c_i0) {goto w2c_B35;}
-    w2c_i0 = 1u;
-    w2c_l13 = w2c_i0;
-    goto w2c_B33;
-    w2c_B58:;
-    w2c_i0 = 5u;
-    w2c_l19 = w2c_i0;
-    w2c_i0 = 0u;
-    w2c_l21 = w2c_i0;
-    w2c_i0 = 1u;
-    w2c_l15 = w2c_i0;
-    w2c_i0 = 0u;
-    w2c_l20 = w2c_i0;
-    w2c_i0 = 0u;
-    w2c_l13 = w2c_i0;
-    w2c_i0 = 0u;
-    w2c_l14 = w2c_i0;
-    w2c_i0 = w2c_l18;
-    switch (w2c_i0) {
-      case 0: goto w2c_B48;
-      case 1: goto w2c_B50;
-      case 2: goto w2c_B35;
-      case 3: goto w2c_B35;
-      case 4: goto w2c_B35;
-      case 5: goto w2c_B35;
-      case 6: goto w2c_B35;
-      case 7: goto w2c_B35;
-      case 8: goto w2c_B35;
-      case 9: goto w2c_B35;
-      case 10: goto w2c_B35;
-      case 11: goto w2c_B28;
-      case 12: goto w2c_B35;
-      case 13: goto w2c_B35;
-      case 14: goto w2c_B35;
-      default: goto w2c_B48;
-    }
-    w2c_B57:;
-    w2c_i0 = w2c_l18;
-    w2c_i1 = 12u;
-    w2c_i0 = w2c_i0 != w2c_i1;
-    if (w2c_i0) {goto w2c_B35;}
-    w2c_i0 = 0u;
-    w2c_l13 = w2c_i0;
-    w2c_i0 = 2u;
-    w2c_l15 = w2c_i0;
-    goto w2c_B37;
-    w2c_B56:;
-    w2c_i0 = w2c_l18;
-    w2c_i1 = 13u;
-    w2c_i0 = w2c_i0 != w2c_i1;
-    if (w2c_i0) {goto w2c_B35;}
-    w2c_i0 = 0u;
-    w2c_l13 = w2c_i0;
-    w2c_i0 = 3u;
-    w2c_l15 = w2c_i0;
-    goto w2c_B37;
-    w2c_B55:;
-    w2c_i0 = 0u;
-    w2c_l21 = w2c_i0;
-    w2c_i0 = 5u;
-    w2c_l19 = w2c_i0;
-    w2c_i0 = 0u;
-    w2c_l20 = w2c_i0;
-    w2c_i0 = w2c_l18;
-    switch (w2c_i0) {
-      case 0: goto w2c_B48;
-      case 1: goto w2c_B50;
-      case 2: goto w2c_B35;
-      case 3: goto w2c_B35;
-      case 4: goto w2c_B35;
-      case 5: goto w2c_B35;
-      case 6: goto w2c_B35;
-      case 7: goto w2c_B35;
-      case 8: goto w2c_B35;
-      case 9: goto w2c_B35;
-      case 10: goto w2c_B35;
-      case 11: goto w2c_B35;
-      case 12: goto w2c_B35;
-      case 13: goto w2c_B35;
-      case 14: goto w2c_B35;
-      default: goto w2c_B48;
-    }
-    w2c_B54:;
-    w2c_i0 = w2c_l18;
-    w2c_i1 = 7u;
-    w2c_i0 = w2c_i0 != w2c_i1;
-    if (w2c_i0) {goto w2c_B35;}
-    w2c_i0 = 1u;
-    w2c_l13 = w2c_i0;
-    goto w2c_B33;
-    w2c_B53:;
+    w2c_l16 = w2c_i0;
+    goto w2c_B21;
+    w2c_B39:;
     w2c_i0 = 16u;
     w2c_l19 = w2c_i0;
     w2c_i0 = 0u;
     w2c_l21 = w2c_i0;
     w2c_i0 = 19u;
-    w2c_l15 = w2c_i0;
+    w2c_l17 = w2c_i0;
     w2c_i0 = 0u;
     w2c_l20 = w2c_i0;
     w2c_i0 = 0u;
-    w2c_l13 = w2c_i0;
+    w2c_l16 = w2c_i0;
     w2c_i0 = 0u;
-    w2c_l14 = w2c_i0;
-    w2c_i0 = w2c_l18;
+    w2c_l15 = w2c_i0;
+    w2c_j0 = 1ull;
+    w2c_p0 = w2c_j0;
+    w2c_i0 = w2c_l14;
     switch (w2c_i0) {
-      case 0: goto w2c_B134;
-      case 1: goto w2c_B50;
-      case 2: goto w2c_B35;
-      case 3: goto w2c_B35;
-      case 4: goto w2c_B35;
-      case 5: goto w2c_B35;
-      case 6: goto w2c_B35;
-      case 7: goto w2c_B35;
-      case 8: goto w2c_B35;
-      case 9: goto w2c_B35;
-      case 10: goto w2c_B28;
-      case 11: goto w2c_B35;
-      case 12: goto w2c_B35;
-      case 13: goto w2c_B35;
-      case 14: goto w2c_B35;
-      default: goto w2c_B134;
+      case 0: goto w2c_B131;
+      case 1: goto w2c_B31;
+      case 2: goto w2c_B9;
+      case 3: goto w2c_B9;
+      case 4: goto w2c_B9;
+      case 5: goto w2c_B9;
+      case 6: goto w2c_B9;
+      case 7: goto w2c_B9;
+      case 8: goto w2c_B9;
+      case 9: goto w2c_B9;
+      case 10: goto w2c_B17;
+      case 11: goto w2c_B9;
+      case 12: goto w2c_B9;
+      case 13: goto w2c_B9;
+      case 14: goto w2c_B9;
+      default: goto w2c_B131;
     }
-    w2c_B134:;
-    w2c_i0 = w2c_l17;
+    w2c_B131:;
+    w2c_i0 = w2c_l18;
     w2c_i1 = 1u;
     w2c_i0 &= w2c_i1;
-    w2c_l13 = w2c_i0;
+    w2c_l16 = w2c_i0;
     w2c_i0 = 14u;
-    w2c_l15 = w2c_i0;
-    goto w2c_B37;
-    w2c_B52:;
+    w2c_l17 = w2c_i0;
+    goto w2c_B18;
+    w2c_B38:;
     w2c_i0 = 18u;
     w2c_l19 = w2c_i0;
     w2c_i0 = 0u;
-    w2c_l13 = w2c_i0;
+    w2c_l16 = w2c_i0;
     w2c_i0 = 19u;
-    w2c_l15 = w2c_i0;
-    w2c_i0 = w2c_l18;
+    w2c_l17 = w2c_i0;
+    w2c_i0 = w2c_l14;
     w2c_i1 = 1u;
     w2c_i0 = w2c_i0 != w2c_i1;
-    if (w2c_i0) {goto w2c_B135;}
+    if (w2c_i0) {goto w2c_B132;}
     w2c_i0 = 0u;
     w2c_l21 = w2c_i0;
     w2c_i0 = 0u;
     w2c_l20 = w2c_i0;
-    goto w2c_B50;
-    w2c_B135:;
+    goto w2c_B31;
+    w2c_B132:;
     w2c_i0 = 0u;
-    w2c_l14 = w2c_i0;
-    w2c_i0 = w2c_l18;
+    w2c_l15 = w2c_i0;
+    w2c_i0 = w2c_l14;
     w2c_i1 = 10u;
     w2c_i0 = w2c_i0 == w2c_i1;
-    if (w2c_i0) {goto w2c_B28;}
-    goto w2c_B35;
-    w2c_B51:;
-    w2c_i0 = w2c_l18;
+    if (w2c_i0) {goto w2c_B17;}
+    w2c_j0 = 1ull;
+    w2c_p0 = w2c_j0;
+    goto w2c_B9;
+    w2c_B37:;
+    w2c_i0 = w2c_l14;
     w2c_i1 = 1u;
-    w2c_i0 = w2c_i0 != w2c_i1;
-    if (w2c_i0) {goto w2c_B35;}
-    w2c_i0 = w2c_l17;
+    w2c_i0 = w2c_i0 == w2c_i1;
+    if (w2c_i0) {goto w2c_B133;}
+    w2c_j0 = 1ull;
+    w2c_p0 = w2c_j0;
+    goto w2c_B9;
+    w2c_B133:;
+    w2c_i0 = w2c_l18;
     w2c_i1 = 1u;
     w2c_i0 &= w2c_i1;
     w2c_l21 = w2c_i0;
@@ -46396,320 +44915,124 @@ static u32 w2c_f65(module *m, u64 w2c_p0, u64 w2c_p1, u64 w2c_p2) {
     w2c_l20 = w2c_i0;
     w2c_i0 = 15u;
     w2c_l19 = w2c_i0;
-    w2c_B50:;
-    w2c_i0 = w2c_l19;
-    w2c_l15 = w2c_i0;
-    w2c_i0 = w2c_l21;
-    w2c_l13 = w2c_i0;
-    w2c_i0 = w2c_l20;
-    w2c_l14 = w2c_i0;
-    w2c_j0 = w2c_l12;
-    w2c_l8 = w2c_j0;
-    goto w2c_B28;
-    w2c_B49:;
-    w2c_i0 = w2c_l17;
+    goto w2c_B31;
+    w2c_B36:;
+    w2c_i0 = w2c_l14;
+    w2c_i1 = 8u;
+    w2c_i0 = w2c_i0 == w2c_i1;
+    if (w2c_i0) {goto w2c_B19;}
+    w2c_j0 = 1ull;
+    w2c_p0 = w2c_j0;
+    goto w2c_B9;
+    w2c_B35:;
+    w2c_i0 = w2c_l18;
     w2c_i1 = 1u;
     w2c_i0 &= w2c_i1;
     w2c_i0 = !(w2c_i0);
-    if (w2c_i0) {goto w2c_B39;}
-    w2c_i0 = w2c_l18;
+    if (w2c_i0) {goto w2c_B33;}
+    w2c_i0 = w2c_l14;
     w2c_i1 = 8u;
     w2c_i0 = w2c_i0 == w2c_i1;
-    if (w2c_i0) {goto w2c_B40;}
-    w2c_i0 = w2c_l18;
+    if (w2c_i0) {goto w2c_B19;}
+    w2c_i0 = w2c_l14;
     w2c_i1 = 9u;
     w2c_i0 = w2c_i0 == w2c_i1;
-    if (w2c_i0) {goto w2c_B38;}
-    goto w2c_B35;
-    w2c_B48:;
+    if (w2c_i0) {goto w2c_B20;}
+    w2c_j0 = 1ull;
+    w2c_p0 = w2c_j0;
+    goto w2c_B9;
+    w2c_B34:;
     w2c_i0 = 0u;
-    w2c_l13 = w2c_i0;
+    w2c_l16 = w2c_i0;
     w2c_i0 = 4u;
-    w2c_l15 = w2c_i0;
-    goto w2c_B37;
-    w2c_B47:;
-    w2c_i0 = w2c_l17;
-    w2c_l13 = w2c_i0;
+    w2c_l17 = w2c_i0;
+    goto w2c_B18;
+    w2c_B33:;
+    w2c_i0 = w2c_l14;
+    w2c_i1 = 9u;
+    w2c_i0 = w2c_i0 == w2c_i1;
+    if (w2c_i0) {goto w2c_B20;}
+    w2c_j0 = 1ull;
+    w2c_p0 = w2c_j0;
+    goto w2c_B9;
+    w2c_B32:;
+    w2c_i0 = 11u;
+    w2c_l19 = w2c_i0;
     w2c_i0 = w2c_l18;
-    w2c_i1 = 2u;
-    w2c_i0 = w2c_i0 != w2c_i1;
-    if (w2c_i0) {goto w2c_B35;}
-    w2c_B46:;
-    w2c_j0 = w2c_l8;
+    w2c_l21 = w2c_i0;
+    w2c_i0 = w2c_l15;
+    w2c_l20 = w2c_i0;
+    w2c_B31:;
+    w2c_i0 = w2c_l19;
+    w2c_l17 = w2c_i0;
+    w2c_i0 = w2c_l21;
+    w2c_l16 = w2c_i0;
+    w2c_i0 = w2c_l20;
+    w2c_l15 = w2c_i0;
+    w2c_j0 = w2c_l13;
+    w2c_l6 = w2c_j0;
+    goto w2c_B17;
+    w2c_B30:;
+    w2c_j0 = w2c_l6;
     w2c_j1 = 10ull;
     w2c_j0 *= w2c_j1;
     w2c_j1 = w2c_l9;
     w2c_j0 += w2c_j1;
     w2c_l9 = w2c_j0;
     w2c_j0 = 0ull;
-    w2c_l8 = w2c_j0;
+    w2c_l6 = w2c_j0;
     w2c_i0 = 1u;
-    w2c_l14 = w2c_i0;
-    w2c_i0 = 12u;
     w2c_l15 = w2c_i0;
-    goto w2c_B28;
-    w2c_B45:;
-    w2c_i0 = w2c_l17;
-    w2c_l13 = w2c_i0;
-    w2c_i0 = w2c_l18;
-    w2c_i1 = 3u;
-    w2c_i0 = w2c_i0 != w2c_i1;
-    if (w2c_i0) {goto w2c_B35;}
-    w2c_B44:;
-    w2c_j0 = w2c_l8;
+    w2c_i0 = 12u;
+    w2c_l17 = w2c_i0;
+    goto w2c_B17;
+    w2c_B29:;
+    w2c_j0 = w2c_l6;
     w2c_j1 = 100ull;
     w2c_j0 *= w2c_j1;
     w2c_j1 = w2c_l9;
     w2c_j0 += w2c_j1;
     w2c_l9 = w2c_j0;
     w2c_j0 = 0ull;
-    w2c_l8 = w2c_j0;
+    w2c_l6 = w2c_j0;
     w2c_i0 = 2u;
-    w2c_l14 = w2c_i0;
-    w2c_i0 = 12u;
     w2c_l15 = w2c_i0;
-    goto w2c_B28;
-    w2c_B43:;
+    w2c_i0 = 12u;
+    w2c_l17 = w2c_i0;
+    goto w2c_B17;
+    w2c_B28:;
     w2c_i0 = 5u;
-    w2c_i1 = w2c_l17;
-    w2c_i2 = w2c_l17;
+    w2c_i1 = w2c_l18;
+    w2c_i2 = w2c_l18;
     w2c_i3 = 255u;
     w2c_i2 &= w2c_i3;
     w2c_i3 = 3u;
     w2c_i2 = w2c_i2 == w2c_i3;
     w2c_i0 = w2c_i2 ? w2c_i0 : w2c_i1;
-    w2c_l13 = w2c_i0;
-    goto w2c_B34;
-    w2c_B42:;
-    w2c_j0 = w2c_l9;
-    w2c_j1 = w2c_l8;
-    w2c_j0 += w2c_j1;
-    w2c_j1 = w2c_l10;
-    w2c_j0 += w2c_j1;
-    w2c_j1 = 100000000ull;
-    w2c_j0 *= w2c_j1;
-    w2c_l10 = w2c_j0;
-    w2c_j0 = 0ull;
-    w2c_l9 = w2c_j0;
-    w2c_i0 = 0u;
-    w2c_l14 = w2c_i0;
-    w2c_i0 = 7u;
-    w2c_l15 = w2c_i0;
-    w2c_j0 = 0ull;
-    w2c_l8 = w2c_j0;
-    goto w2c_B28;
-    w2c_B41:;
-    w2c_i0 = w2c_l18;
-    w2c_i1 = 8u;
-    w2c_i0 = w2c_i0 != w2c_i1;
-    if (w2c_i0) {goto w2c_B35;}
-    w2c_B40:;
-    w2c_j0 = w2c_l10;
-    w2c_j1 = w2c_l8;
-    w2c_j2 = 10ull;
-    w2c_j1 *= w2c_j2;
-    w2c_j0 += w2c_j1;
-    w2c_l10 = w2c_j0;
-    w2c_j0 = 0ull;
-    w2c_l8 = w2c_j0;
-    w2c_i0 = 0u;
-    w2c_l13 = w2c_i0;
-    w2c_i0 = 17u;
-    w2c_l15 = w2c_i0;
-    goto w2c_B37;
-    w2c_B39:;
-    w2c_i0 = w2c_l18;
-    w2c_i1 = 9u;
-    w2c_i0 = w2c_i0 != w2c_i1;
-    if (w2c_i0) {goto w2c_B35;}
-    w2c_B38:;
-    w2c_j0 = w2c_l10;
-    w2c_j1 = w2c_l8;
-    w2c_j0 += w2c_j1;
-    w2c_l10 = w2c_j0;
-    w2c_j0 = 0ull;
-    w2c_l8 = w2c_j0;
-    w2c_i0 = 0u;
-    w2c_l13 = w2c_i0;
-    w2c_i0 = 19u;
-    w2c_l15 = w2c_i0;
-    w2c_B37:;
-    w2c_i0 = 0u;
-    w2c_l14 = w2c_i0;
-    goto w2c_B28;
-    w2c_B36:;
-    w2c_i0 = w2c_l17;
-    w2c_l13 = w2c_i0;
-    w2c_i0 = w2c_l18;
-    w2c_i1 = 4u;
-    w2c_i0 = w2c_i0 == w2c_i1;
-    if (w2c_i0) {goto w2c_B34;}
-    w2c_B35:;
-    w2c_j0 = 0ull;
-    w2c_p0 = w2c_j0;
-    w2c_j0 = w2c_p2;
-    w2c_i0 = (u32)(w2c_j0);
-    w2c_j1 = 0ull;
-    i64_store(m, (u64)(w2c_i0) + 16, w2c_j1);
-    w2c_j0 = w2c_p2;
-    w2c_i0 = (u32)(w2c_j0);
-    w2c_j1 = 0ull;
-    i64_store(m, (u64)(w2c_i0), w2c_j1);
-    w2c_j0 = w2c_p2;
-    w2c_i0 = (u32)(w2c_j0);
-    w2c_j1 = w2c_l7;
-    i64_store(m, (u64)(w2c_i0) + 8, w2c_j1);
-    w2c_j0 = w2c_l7;
-    w2c_j1 = 3ull;
-    w2c_i0 = w2c_j0 < w2c_j1;
-    if (w2c_i0) {goto w2c_B136;}
-    w2c_j0 = 0ull;
-    w2c_p0 = w2c_j0;
-    w2c_L137:
-      w2c_j0 = w2c_p1;
-      w2c_j1 = w2c_p0;
-      w2c_j0 -= w2c_j1;
-      w2c_j1 = 8ull;
-      w2c_i0 = w2c_j0 < w2c_j1;
-      if (w2c_i0) {goto w2c_B136;}
-      w2c_j0 = w2c_l5;
-      w2c_j1 = w2c_p0;
-      w2c_j0 += w2c_j1;
-      w2c_i0 = (u32)(w2c_j0);
-      w2c_j0 = i64_load(m, (u64)(w2c_i0));
-      w2c_l4 = w2c_j0;
-      w2c_j1 = 67553998437089520ull;
-      w2c_j0 &= w2c_j1;
-      w2c_j1 = 63050398541283552ull;
-      w2c_i0 = w2c_j0 != w2c_j1;
-      if (w2c_i0) {goto w2c_B139;}
-      w2c_j0 = w2c_l7;
-      w2c_j1 = 18446744073709551613ull;
-      w2c_j0 += w2c_j1;
-      w2c_l7 = w2c_j0;
-      w2c_j0 = w2c_p0;
-      w2c_j1 = 9ull;
-      w2c_j0 += w2c_j1;
-      w2c_p0 = w2c_j0;
-      goto w2c_B138;
-      w2c_B139:;
-      w2c_j0 = w2c_l7;
-      w2c_j1 = 8ull;
-      w2c_i0 = w2c_j0 < w2c_j1;
-      if (w2c_i0) {goto w2c_B136;}
-      w2c_j0 = w2c_l4;
-      w2c_j1 = 9259542123273814144ull;
-      w2c_j0 &= w2c_j1;
-      w2c_j1 = 0ull;
-      w2c_i0 = w2c_j0 != w2c_j1;
-      if (w2c_i0) {goto w2c_B136;}
-      w2c_j0 = w2c_l7;
-      w2c_j1 = 18446744073709551608ull;
-      w2c_j0 += w2c_j1;
-      w2c_l7 = w2c_j0;
-      w2c_j0 = w2c_p0;
-      w2c_j1 = 8ull;
-      w2c_j0 += w2c_j1;
-      w2c_p0 = w2c_j0;
-      w2c_B138:;
-      w2c_j0 = w2c_l7;
-      w2c_j1 = 2ull;
-      w2c_i0 = w2c_j0 > w2c_j1;
-      if (w2c_i0) {goto w2c_L137;}
-    w2c_B136:;
-    w2c_j0 = w2c_p1;
-    w2c_j1 = w2c_p0;
-    w2c_i0 = w2c_j0 <= w2c_j1;
-    if (w2c_i0) {goto w2c_B140;}
-    w2c_j0 = w2c_l7;
-    w2c_i0 = !(w2c_j0);
-    if (w2c_i0) {goto w2c_B140;}
-    w2c_j0 = w2c_l7;
-    w2c_j1 = 18446744073709551615ull;
-    w2c_j0 += w2c_j1;
-    w2c_l4 = w2c_j0;
-    w2c_L141:
-      w2c_j0 = w2c_l5;
-      w2c_j1 = w2c_p0;
-      w2c_j0 += w2c_j1;
-      w2c_i0 = (u32)(w2c_j0);
-      w2c_i0 = i32_load8_u(m, (u64)(w2c_i0));
-      w2c_i1 = 1u;
-      w2c_i0 >>= (w2c_i1 & 31);
-      w2c_j0 = (u64)(w2c_i0);
-      w2c_j1 = 120ull;
-      w2c_j0 &= w2c_j1;
-      w2c_j1 = 66848ull;
-      w2c_j0 += w2c_j1;
-      w2c_i0 = (u32)(w2c_j0);
-      w2c_j0 = i64_load(m, (u64)(w2c_i0));
-      w2c_j1 = w2c_p0;
-      w2c_j0 += w2c_j1;
-      w2c_p0 = w2c_j0;
-      w2c_j0 = w2c_l4;
-      w2c_i0 = !(w2c_j0);
-      if (w2c_i0) {goto w2c_B140;}
-      w2c_j0 = w2c_l4;
-      w2c_j1 = 18446744073709551615ull;
-      w2c_j0 += w2c_j1;
-      w2c_l4 = w2c_j0;
-      w2c_j0 = w2c_p1;
-      w2c_j1 = w2c_p0;
-      w2c_i0 = w2c_j0 > w2c_j1;
-      if (w2c_i0) {goto w2c_L141;}
-    w2c_B140:;
-    w2c_j0 = w2c_p2;
-    w2c_i0 = (u32)(w2c_j0);
-    w2c_j1 = w2c_p0;
-    i64_store(m, (u64)(w2c_i0) + 16, w2c_j1);
-    w2c_i0 = 2u;
-    w2c_l13 = w2c_i0;
-    goto w2c_B1;
-    w2c_B34:;
-    w2c_j0 = w2c_l8;
+    w2c_l16 = w2c_i0;
+    w2c_B27:;
+    w2c_j0 = w2c_l6;
     w2c_j1 = 1000ull;
     w2c_j0 *= w2c_j1;
     w2c_j1 = w2c_l9;
     w2c_j0 += w2c_j1;
     w2c_l9 = w2c_j0;
     w2c_j0 = 0ull;
-    w2c_l8 = w2c_j0;
+    w2c_l6 = w2c_j0;
     w2c_i0 = 3u;
-    w2c_l14 = w2c_i0;
+    w2c_l15 = w2c_i0;
     w2c_i0 = 12u;
-    w2c_l15 = w2c_i0;
-    goto w2c_B28;
-    w2c_B33:;
-    w2c_j0 = w2c_l9;
-    w2c_j1 = w2c_l8;
-    w2c_j0 += w2c_j1;
-    w2c_j1 = w2c_l10;
-    w2c_j0 += w2c_j1;
-    w2c_j1 = 100ull;
-    w2c_j0 *= w2c_j1;
-    w2c_l10 = w2c_j0;
-    w2c_j0 = 0ull;
-    w2c_l9 = w2c_j0;
+    w2c_l17 = w2c_i0;
+    goto w2c_B17;
+    w2c_B26:;
     w2c_i0 = 0u;
-    w2c_l14 = w2c_i0;
-    w2c_i0 = 13u;
-    w2c_l15 = w2c_i0;
-    w2c_j0 = 0ull;
-    w2c_l8 = w2c_j0;
-    goto w2c_B28;
-    w2c_B32:;
-    w2c_i0 = 1u;
-    w2c_l13 = w2c_i0;
-    goto w2c_B30;
-    w2c_B31:;
-    w2c_i0 = 0u;
-    w2c_l13 = w2c_i0;
-    w2c_B30:;
+    w2c_l16 = w2c_i0;
+    w2c_B25:;
     w2c_i0 = 8u;
-    w2c_l15 = w2c_i0;
-    w2c_B29:;
+    w2c_l17 = w2c_i0;
+    w2c_B24:;
     w2c_j0 = w2c_l9;
-    w2c_j1 = w2c_l8;
+    w2c_j1 = w2c_l6;
     w2c_j0 += w2c_j1;
     w2c_j1 = 10000ull;
     w2c_j0 *= w2c_j1;
@@ -46719,100 +45042,169 @@ static u32 w2c_f65(module *m, u64 w2c_p0, u64 w2c_p1, u64 w2c_p2) {
     w2c_j0 = 0ull;
     w2c_l9 = w2c_j0;
     w2c_i0 = 0u;
-    w2c_l14 = w2c_i0;
+    w2c_l15 = w2c_i0;
     w2c_j0 = 0ull;
-    w2c_l8 = w2c_j0;
-    w2c_B28:;
+    w2c_l6 = w2c_j0;
+    goto w2c_B17;
+    w2c_B23:;
+    w2c_j0 = w2c_l9;
+    w2c_j1 = w2c_l6;
+    w2c_j0 += w2c_j1;
+    w2c_j1 = w2c_l10;
+    w2c_j0 += w2c_j1;
+    w2c_j1 = 100000000ull;
+    w2c_j0 *= w2c_j1;
+    w2c_l10 = w2c_j0;
+    w2c_j0 = 0ull;
+    w2c_l9 = w2c_j0;
+    w2c_i0 = 0u;
+    w2c_l15 = w2c_i0;
+    w2c_i0 = 7u;
+    w2c_l17 = w2c_i0;
+    w2c_j0 = 0ull;
+    w2c_l6 = w2c_j0;
+    goto w2c_B17;
+    w2c_B22:;
+    w2c_i0 = 0u;
+    w2c_l16 = w2c_i0;
+    w2c_B21:;
+    w2c_j0 = w2c_l9;
+    w2c_j1 = w2c_l6;
+    w2c_j0 += w2c_j1;
+    w2c_j1 = w2c_l10;
+    w2c_j0 += w2c_j1;
+    w2c_j1 = 100ull;
+    w2c_j0 *= w2c_j1;
+    w2c_l10 = w2c_j0;
+    w2c_j0 = 0ull;
+    w2c_l9 = w2c_j0;
+    w2c_i0 = 0u;
+    w2c_l15 = w2c_i0;
+    w2c_i0 = 13u;
+    w2c_l17 = w2c_i0;
+    w2c_j0 = 0ull;
+    w2c_l6 = w2c_j0;
+    goto w2c_B17;
+    w2c_B20:;
+    w2c_j0 = w2c_l10;
+    w2c_j1 = w2c_l6;
+    w2c_j0 += w2c_j1;
+    w2c_l10 = w2c_j0;
+    w2c_j0 = 0ull;
+    w2c_l6 = w2c_j0;
+    w2c_i0 = 0u;
+    w2c_l16 = w2c_i0;
+    w2c_i0 = 19u;
+    w2c_l17 = w2c_i0;
+    goto w2c_B18;
+    w2c_B19:;
+    w2c_j0 = w2c_l10;
+    w2c_j1 = w2c_l6;
+    w2c_j2 = 10ull;
+    w2c_j1 *= w2c_j2;
+    w2c_j0 += w2c_j1;
+    w2c_l10 = w2c_j0;
+    w2c_j0 = 0ull;
+    w2c_l6 = w2c_j0;
+    w2c_i0 = 0u;
+    w2c_l16 = w2c_i0;
+    w2c_i0 = 17u;
+    w2c_l17 = w2c_i0;
+    w2c_B18:;
+    w2c_i0 = 0u;
+    w2c_l15 = w2c_i0;
+    w2c_B17:;
     w2c_j0 = w2c_l3;
-    w2c_i0 = (u32)(w2c_j0);
-    w2c_i1 = 0u;
-    i32_store8(m, (u64)(w2c_i0) + 4, w2c_i1);
-    w2c_j0 = w2c_l3;
-    w2c_i0 = (u32)(w2c_j0);
-    w2c_i1 = 0u;
-    i32_store(m, (u64)(w2c_i0), w2c_i1);
-    w2c_B9:;
-    w2c_j0 = w2c_l3;
-    w2c_i0 = (u32)(w2c_j0);
-    w2c_j1 = w2c_l3;
-    w2c_i1 = (u32)(w2c_j1);
-    w2c_i1 = i32_load8_u(m, (u64)(w2c_i1) + 4u);
-    i32_store8(m, (u64)(w2c_i0) + 12, w2c_i1);
-    w2c_j0 = w2c_l3;
-    w2c_i0 = (u32)(w2c_j0);
-    w2c_j1 = w2c_l3;
-    w2c_i1 = (u32)(w2c_j1);
-    w2c_i1 = i32_load(m, (u64)(w2c_i1));
-    i32_store(m, (u64)(w2c_i0) + 8, w2c_i1);
-    w2c_j0 = w2c_l7;
+    w2c_j1 = w2c_l12;
+    w2c_j0 += w2c_j1;
+    w2c_l3 = w2c_j0;
+    w2c_j0 = w2c_l8;
     w2c_j1 = 1ull;
     w2c_j0 += w2c_j1;
+    w2c_l8 = w2c_j0;
+    w2c_j0 = 0ull;
+    w2c_p0 = w2c_j0;
+    w2c_j0 = w2c_l7;
+    w2c_j1 = w2c_l12;
+    w2c_j0 -= w2c_j1;
     w2c_l7 = w2c_j0;
-    w2c_j0 = w2c_l4;
     w2c_j1 = 0ull;
     w2c_i0 = w2c_j0 != w2c_j1;
-    if (w2c_i0) {goto w2c_L8;}
-  w2c_i0 = w2c_l15;
-  w2c_i1 = 255u;
-  w2c_i0 &= w2c_i1;
-  w2c_l13 = w2c_i0;
-  w2c_i1 = 17u;
+    if (w2c_i0) {goto w2c_L10;}
+  w2c_i0 = w2c_l17;
+  w2c_i1 = 4294967295u;
+  w2c_i0 += w2c_i1;
+  w2c_i1 = 16u;
   w2c_i0 = w2c_i0 < w2c_i1;
-  if (w2c_i0) {goto w2c_B7;}
-  w2c_i0 = w2c_l13;
+  if (w2c_i0) {goto w2c_B134;}
+  w2c_j0 = w2c_l10;
+  w2c_l11 = w2c_j0;
+  w2c_j0 = 0ull;
+  w2c_l8 = w2c_j0;
+  w2c_i0 = w2c_l17;
   w2c_i1 = 4294967279u;
   w2c_i0 += w2c_i1;
   switch (w2c_i0) {
-    case 0: goto w2c_B142;
-    case 1: goto w2c_B7;
-    case 2: goto w2c_B142;
-    default: goto w2c_B142;
+    case 0: goto w2c_B9;
+    case 1: goto w2c_B134;
+    case 2: goto w2c_B9;
+    default: goto w2c_B9;
   }
-  w2c_B142:;
-  w2c_j0 = w2c_l6;
+  w2c_B134:;
+  w2c_j0 = 1ull;
+  w2c_p0 = w2c_j0;
+  w2c_j0 = 0ull;
+  w2c_l11 = w2c_j0;
+  w2c_j0 = 0ull;
+  w2c_l8 = w2c_j0;
+  w2c_B9:;
+  w2c_j0 = w2c_l4;
   w2c_i0 = (u32)(w2c_j0);
-  w2c_j1 = 0ull;
+  w2c_j1 = w2c_l8;
+  i64_store(m, (u64)(w2c_i0) + 24, w2c_j1);
+  w2c_j0 = w2c_l4;
+  w2c_i0 = (u32)(w2c_j0);
+  w2c_j1 = w2c_l11;
+  i64_store(m, (u64)(w2c_i0) + 16, w2c_j1);
+  w2c_j0 = w2c_l4;
+  w2c_i0 = (u32)(w2c_j0);
+  w2c_j1 = w2c_p0;
   i64_store(m, (u64)(w2c_i0) + 8, w2c_j1);
-  w2c_j0 = w2c_l6;
-  w2c_i0 = (u32)(w2c_j0);
-  w2c_j1 = 0ull;
-  i64_store(m, (u64)(w2c_i0), w2c_j1);
-  w2c_j0 = w2c_p2;
-  w2c_i0 = (u32)(w2c_j0);
-  w2c_j1 = w2c_l10;
-  i64_store(m, (u64)(w2c_i0), w2c_j1);
-  w2c_i0 = 0u;
-  w2c_l13 = w2c_i0;
   goto w2c_B1;
-  w2c_B7:;
-  w2c_j0 = w2c_p2;
+  w2c_B3:;
+  UNREACHABLE;
+  w2c_B2:;
+  w2c_j0 = w2c_l4;
   w2c_i0 = (u32)(w2c_j0);
   w2c_j1 = 0ull;
   i64_store(m, (u64)(w2c_i0) + 16, w2c_j1);
-  w2c_j0 = w2c_p2;
+  w2c_j0 = w2c_l4;
   w2c_i0 = (u32)(w2c_j0);
-  w2c_j1 = 0ull;
+  w2c_j1 = 1ull;
   i64_store(m, (u64)(w2c_i0) + 8, w2c_j1);
-  w2c_j0 = w2c_p2;
+  w2c_j0 = w2c_l4;
   w2c_i0 = (u32)(w2c_j0);
   w2c_j1 = 0ull;
-  i64_store(m, (u64)(w2c_i0), w2c_j1);
-  w2c_i0 = 9u;
-  w2c_l13 = w2c_i0;
+  i64_store(m, (u64)(w2c_i0) + 24, w2c_j1);
   w2c_B1:;
-  w2c_j0 = w2c_l3;
-  w2c_j1 = 16ull;
+  w2c_j0 = w2c_l5;
+  w2c_j1 = w2c_p1;
+  w2c_j2 = w2c_l4;
+  w2c_j3 = 8ull;
+  w2c_j2 += w2c_j3;
+  w2c_j3 = w2c_p2;
+  w2c_i0 = w2c_f13(m, w2c_j0, w2c_j1, w2c_j2, w2c_j3);
+  w2c_l14 = w2c_i0;
+  w2c_B0:;
+  w2c_j0 = w2c_l4;
+  w2c_j1 = 32ull;
   w2c_j0 += w2c_j1;
   m->w2c_g0 = w2c_j0;
-  w2c_i0 = w2c_l13;
-  goto w2c_Bfunc;
-  w2c_B0:;
-  UNREACHABLE;
-  w2c_Bfunc:;
+  w2c_i0 = w2c_l14;
   return w2c_i0;
 }
 
-static u32 w2c_chinese_date_read(module *m, u64 w2c_p0, u64 w2c_p1, u64 w2c_p2) {
+static u32 w2c_chinese_typed_amount_read(module *m, u64 w2c_p0, u64 w2c_p1, u64 w2c_p2) {
   u32 w2c_l3 = 0;
   u32 w2c_i0;
   u64 w2c_j0, w2c_j1, w2c_j2;
@@ -46833,23 +45225,24 @@ static u32 w2c_chinese_date_read(module *m, u64 w2c_p0, u64 w2c_p1, u64 w2c_p2) 
 }
 
 static u32 w2c_f67(module *m, u64 w2c_p0, u64 w2c_p1, u64 w2c_p2) {
-  u32 w2c_l9 = 0, w2c_l10 = 0, w2c_l11 = 0, w2c_l12 = 0, w2c_l13 = 0, w2c_l14 = 0, w2c_l15 = 0, w2c_l16 = 0, w2c_l17 = 0, w2c_l18 = 0, w2c_l19 = 0, w2c_l20 = 0, w2c_l21 = 0;
-  u64 w2c_l3 = 0, w2c_l4 = 0, w2c_l5 = 0, w2c_l6 = 0, w2c_l7 = 0, w2c_l8 = 0;
+  u32 w2c_l12 = 0, w2c_l13 = 0, w2c_l14 = 0, w2c_l15 = 0, w2c_l16 = 0, w2c_l17 = 0, w2c_l18 = 0, w2c_l19 = 0, w2c_l20 = 0;
+  u64 w2c_l3 = 0, w2c_l4 = 0, w2c_l5 = 0, w2c_l6 = 0, w2c_l7 = 0, w2c_l8 = 0, w2c_l9 = 0, w2c_l10 = 0, w2c_l11 = 0;
   u32 w2c_i0, w2c_i1, w2c_i2, w2c_i3, w2c_i4;
   u64 w2c_j0, w2c_j1, w2c_j2, w2c_j3;
   w2c_j0 = m->w2c_g0;
+  w2c_j1 = 48ull;
+  w2c_j0 -= w2c_j1;
+  w2c_l3 = w2c_j0;
+  m->w2c_g0 = w2c_j0;
+  w2c_j0 = w2c_l3;
   w2c_l3 = w2c_j0;
   w2c_j1 = 16ull;
   w2c_i0 = (u64)((s64)w2c_j0 < (s64)w2c_j1);
-  if (w2c_i0) {goto w2c_B1;}
+  if (w2c_i0) {goto w2c_B0;}
   w2c_j0 = w2c_p2;
   w2c_i0 = (u32)(w2c_j0);
   w2c_j1 = 0ull;
-  i64_store(m, (u64)(w2c_i0) + 24, w2c_j1);
-  w2c_j0 = w2c_p2;
-  w2c_i0 = (u32)(w2c_j0);
-  w2c_j1 = 0ull;
-  i64_store(m, (u64)(w2c_i0) + 16, w2c_j1);
+  i64_store(m, (u64)(w2c_i0), w2c_j1);
   w2c_j0 = w2c_p2;
   w2c_i0 = (u32)(w2c_j0);
   w2c_j1 = 0ull;
@@ -46857,7 +45250,19 @@ static u32 w2c_f67(module *m, u64 w2c_p0, u64 w2c_p1, u64 w2c_p2) {
   w2c_j0 = w2c_p2;
   w2c_i0 = (u32)(w2c_j0);
   w2c_j1 = 0ull;
-  i64_store(m, (u64)(w2c_i0), w2c_j1);
+  i64_store(m, (u64)(w2c_i0) + 16, w2c_j1);
+  w2c_j0 = w2c_l3;
+  w2c_i0 = (u32)(w2c_j0);
+  w2c_j1 = 0ull;
+  i64_store(m, (u64)(w2c_i0) + 24, w2c_j1);
+  w2c_j0 = w2c_l3;
+  w2c_i0 = (u32)(w2c_j0);
+  w2c_j1 = 0ull;
+  i64_store(m, (u64)(w2c_i0) + 16, w2c_j1);
+  w2c_j0 = w2c_l3;
+  w2c_i0 = (u32)(w2c_j0);
+  w2c_j1 = 0ull;
+  i64_store(m, (u64)(w2c_i0) + 8, w2c_j1);
   w2c_j0 = w2c_p1;
   w2c_l4 = w2c_j0;
   w2c_j0 = w2c_p0;
@@ -46881,7 +45286,7 @@ static u32 w2c_f67(module *m, u64 w2c_p0, u64 w2c_p1, u64 w2c_p2) {
     w2c_j0 = w2c_p0;
     w2c_i0 = (u32)(w2c_j0);
     w2c_i0 = i32_load(m, (u64)(w2c_i0));
-    w2c_i1 = 16776989u;
+    w2c_i1 = 16776990u;
     w2c_i0 += w2c_i1;
     w2c_i1 = 12632312u;
     w2c_i0 &= w2c_i1;
@@ -46925,7 +45330,7 @@ static u32 w2c_f67(module *m, u64 w2c_p0, u64 w2c_p1, u64 w2c_p2) {
   w2c_i2 = 16u;
   w2c_i1 <<= (w2c_i2 & 31);
   w2c_i0 |= w2c_i1;
-  w2c_i1 = 16776989u;
+  w2c_i1 = 16776990u;
   w2c_i0 += w2c_i1;
   w2c_i1 = 12632312u;
   w2c_i0 &= w2c_i1;
@@ -46933,84 +45338,2136 @@ static u32 w2c_f67(module *m, u64 w2c_p0, u64 w2c_p1, u64 w2c_p2) {
   w2c_i0 = w2c_i0 == w2c_i1;
   if (w2c_i0) {goto w2c_B2;}
   w2c_B3:;
+  w2c_i0 = 5u;
+  w2c_l12 = w2c_i0;
   w2c_j0 = w2c_l5;
   w2c_j1 = w2c_p1;
   w2c_i0 = w2c_f12(m, w2c_j0, w2c_j1);
-  if (w2c_i0) {goto w2c_B2;}
-  w2c_j0 = w2c_l3;
-  m->w2c_g0 = w2c_j0;
-  w2c_i0 = 5u;
-  goto w2c_Bfunc;
+  w2c_i0 = !(w2c_i0);
+  if (w2c_i0) {goto w2c_B1;}
   w2c_B2:;
+  w2c_i0 = 0u;
+  w2c_l13 = w2c_i0;
+  w2c_j0 = w2c_l3;
+  w2c_i0 = (u32)(w2c_j0);
+  w2c_i1 = 0u;
+  i32_store(m, (u64)(w2c_i0) + 40, w2c_i1);
+  w2c_j0 = w2c_l3;
+  w2c_i0 = (u32)(w2c_j0);
+  w2c_i1 = 0u;
+  i32_store8(m, (u64)(w2c_i0) + 44, w2c_i1);
+  w2c_j0 = w2c_l3;
+  w2c_i0 = (u32)(w2c_j0);
+  w2c_i1 = 0u;
+  i32_store8(m, (u64)(w2c_i0) + 36, w2c_i1);
+  w2c_j0 = w2c_l3;
+  w2c_i0 = (u32)(w2c_j0);
+  w2c_i1 = 0u;
+  i32_store(m, (u64)(w2c_i0) + 32, w2c_i1);
   w2c_j0 = w2c_p1;
   w2c_i0 = !(w2c_j0);
-  if (w2c_i0) {goto w2c_B0;}
-  w2c_i0 = 0u;
-  w2c_l9 = w2c_i0;
+  if (w2c_i0) {goto w2c_B10;}
   w2c_j0 = 0ull;
+  w2c_l6 = w2c_j0;
+  w2c_j0 = w2c_p1;
   w2c_l4 = w2c_j0;
+  w2c_j0 = w2c_l5;
+  w2c_p0 = w2c_j0;
+  w2c_j0 = 0ull;
+  w2c_l7 = w2c_j0;
+  w2c_j0 = 0ull;
+  w2c_l8 = w2c_j0;
+  w2c_j0 = 0ull;
+  w2c_l9 = w2c_j0;
+  w2c_i0 = 0u;
+  w2c_l12 = w2c_i0;
+  w2c_i0 = 0u;
+  w2c_l14 = w2c_i0;
+  w2c_i0 = 0u;
+  w2c_l15 = w2c_i0;
+  w2c_L11:
+    w2c_i0 = w2c_l12;
+    w2c_l16 = w2c_i0;
+    w2c_j0 = w2c_p0;
+    w2c_j1 = 1ull;
+    w2c_j0 += w2c_j1;
+    w2c_l10 = w2c_j0;
+    w2c_j0 = w2c_p0;
+    w2c_i0 = (u32)(w2c_j0);
+    w2c_i0 = i32_load8_s(m, (u64)(w2c_i0));
+    w2c_l17 = w2c_i0;
+    w2c_i1 = 255u;
+    w2c_i0 &= w2c_i1;
+    w2c_l12 = w2c_i0;
+    w2c_i0 = w2c_l17;
+    w2c_i1 = 0u;
+    w2c_i0 = (u32)((s32)w2c_i0 < (s32)w2c_i1);
+    if (w2c_i0) {goto w2c_B25;}
+    w2c_j0 = w2c_l4;
+    w2c_j1 = 18446744073709551615ull;
+    w2c_j0 += w2c_j1;
+    w2c_l4 = w2c_j0;
+    w2c_j0 = w2c_l10;
+    w2c_p0 = w2c_j0;
+    goto w2c_B24;
+    w2c_B25:;
+    w2c_j0 = w2c_l10;
+    w2c_i0 = (u32)(w2c_j0);
+    w2c_i0 = i32_load8_u(m, (u64)(w2c_i0));
+    w2c_i1 = 63u;
+    w2c_i0 &= w2c_i1;
+    w2c_l18 = w2c_i0;
+    w2c_i0 = w2c_l17;
+    w2c_i1 = 4294967263u;
+    w2c_i0 = w2c_i0 > w2c_i1;
+    if (w2c_i0) {goto w2c_B27;}
+    w2c_i0 = w2c_l12;
+    w2c_i1 = 6u;
+    w2c_i0 <<= (w2c_i1 & 31);
+    w2c_i1 = 1984u;
+    w2c_i0 &= w2c_i1;
+    w2c_i1 = w2c_l18;
+    w2c_i0 |= w2c_i1;
+    w2c_l12 = w2c_i0;
+    w2c_j0 = 2ull;
+    w2c_l10 = w2c_j0;
+    goto w2c_B26;
+    w2c_B27:;
+    w2c_j0 = w2c_p0;
+    w2c_i0 = (u32)(w2c_j0);
+    w2c_i0 = i32_load8_u(m, (u64)(w2c_i0) + 2u);
+    w2c_i1 = 63u;
+    w2c_i0 &= w2c_i1;
+    w2c_l19 = w2c_i0;
+    w2c_i0 = w2c_l17;
+    w2c_i1 = 4294967279u;
+    w2c_i0 = w2c_i0 > w2c_i1;
+    if (w2c_i0) {goto w2c_B28;}
+    w2c_i0 = w2c_l18;
+    w2c_i1 = 6u;
+    w2c_i0 <<= (w2c_i1 & 31);
+    w2c_i1 = w2c_l12;
+    w2c_i2 = 12u;
+    w2c_i1 <<= (w2c_i2 & 31);
+    w2c_i2 = 61440u;
+    w2c_i1 &= w2c_i2;
+    w2c_i0 |= w2c_i1;
+    w2c_i1 = w2c_l19;
+    w2c_i0 |= w2c_i1;
+    w2c_l12 = w2c_i0;
+    w2c_j0 = 3ull;
+    w2c_l10 = w2c_j0;
+    goto w2c_B26;
+    w2c_B28:;
+    w2c_i0 = w2c_l19;
+    w2c_i1 = 6u;
+    w2c_i0 <<= (w2c_i1 & 31);
+    w2c_i1 = w2c_l18;
+    w2c_i2 = 12u;
+    w2c_i1 <<= (w2c_i2 & 31);
+    w2c_i2 = w2c_l12;
+    w2c_i3 = 18u;
+    w2c_i2 <<= (w2c_i3 & 31);
+    w2c_i3 = 1835008u;
+    w2c_i2 &= w2c_i3;
+    w2c_i1 |= w2c_i2;
+    w2c_i0 |= w2c_i1;
+    w2c_j1 = w2c_p0;
+    w2c_i1 = (u32)(w2c_j1);
+    w2c_i1 = i32_load8_u(m, (u64)(w2c_i1) + 3u);
+    w2c_i2 = 63u;
+    w2c_i1 &= w2c_i2;
+    w2c_i0 |= w2c_i1;
+    w2c_l12 = w2c_i0;
+    w2c_j0 = 4ull;
+    w2c_l10 = w2c_j0;
+    w2c_B26:;
+    w2c_j0 = w2c_l4;
+    w2c_j1 = w2c_l10;
+    w2c_j0 -= w2c_j1;
+    w2c_l4 = w2c_j0;
+    w2c_j0 = w2c_p0;
+    w2c_j1 = w2c_l10;
+    w2c_j0 += w2c_j1;
+    w2c_p0 = w2c_j0;
+    w2c_i0 = w2c_l12;
+    w2c_i1 = 127u;
+    w2c_i0 = w2c_i0 > w2c_i1;
+    if (w2c_i0) {goto w2c_B23;}
+    w2c_B24:;
+    w2c_i0 = w2c_l12;
+    w2c_i1 = 4294967287u;
+    w2c_i0 += w2c_i1;
+    w2c_i1 = 5u;
+    w2c_i0 = w2c_i0 < w2c_i1;
+    if (w2c_i0) {goto w2c_B21;}
+    w2c_i0 = w2c_l12;
+    w2c_i1 = 32u;
+    w2c_i0 = w2c_i0 != w2c_i1;
+    if (w2c_i0) {goto w2c_B22;}
+    goto w2c_B21;
+    w2c_B23:;
+    w2c_i0 = w2c_l12;
+    w2c_i1 = 4294959104u;
+    w2c_i0 += w2c_i1;
+    w2c_i1 = 11u;
+    w2c_i0 = w2c_i0 < w2c_i1;
+    if (w2c_i0) {goto w2c_B21;}
+    w2c_i0 = w2c_l12;
+    w2c_i1 = 8231u;
+    w2c_i0 = (u32)((s32)w2c_i0 > (s32)w2c_i1);
+    if (w2c_i0) {goto w2c_B29;}
+    w2c_i0 = w2c_l12;
+    w2c_i1 = 133u;
+    w2c_i0 = w2c_i0 == w2c_i1;
+    if (w2c_i0) {goto w2c_B21;}
+    w2c_i0 = w2c_l12;
+    w2c_i1 = 160u;
+    w2c_i0 = w2c_i0 == w2c_i1;
+    if (w2c_i0) {goto w2c_B21;}
+    w2c_i0 = w2c_l12;
+    w2c_i1 = 5760u;
+    w2c_i0 = w2c_i0 != w2c_i1;
+    if (w2c_i0) {goto w2c_B22;}
+    goto w2c_B21;
+    w2c_B29:;
+    w2c_i0 = w2c_l12;
+    w2c_i1 = 4294959064u;
+    w2c_i0 += w2c_i1;
+    w2c_l17 = w2c_i0;
+    w2c_i1 = 55u;
+    w2c_i0 = w2c_i0 > w2c_i1;
+    if (w2c_i0) {goto w2c_B30;}
+    w2c_j0 = 1ull;
+    w2c_i1 = w2c_l17;
+    w2c_j1 = (u64)(w2c_i1);
+    w2c_j0 <<= (w2c_j1 & 63);
+    w2c_j1 = 36028797018964099ull;
+    w2c_j0 &= w2c_j1;
+    w2c_j1 = 0ull;
+    w2c_i0 = w2c_j0 != w2c_j1;
+    if (w2c_i0) {goto w2c_B21;}
+    w2c_B30:;
+    w2c_i0 = w2c_l12;
+    w2c_i1 = 12288u;
+    w2c_i0 = w2c_i0 == w2c_i1;
+    if (w2c_i0) {goto w2c_B21;}
+    w2c_B22:;
+    w2c_i0 = w2c_l15;
+    w2c_j0 = (u64)(w2c_i0);
+    w2c_j1 = 255ull;
+    w2c_j0 &= w2c_j1;
+    w2c_i0 = (u32)(w2c_j0);
+    switch (w2c_i0) {
+      case 0: goto w2c_B20;
+      case 1: goto w2c_B19;
+      case 2: goto w2c_B18;
+      case 3: goto w2c_B14;
+      case 4: goto w2c_B16;
+      case 5: goto w2c_B13;
+      default: goto w2c_B20;
+    }
+    w2c_B21:;
+    w2c_j0 = w2c_l3;
+    w2c_i0 = (u32)(w2c_j0);
+    w2c_j1 = w2c_l3;
+    w2c_i1 = (u32)(w2c_j1);
+    w2c_i1 = i32_load8_u(m, (u64)(w2c_i1) + 44u);
+    i32_store8(m, (u64)(w2c_i0) + 36, w2c_i1);
+    w2c_j0 = w2c_l3;
+    w2c_i0 = (u32)(w2c_j0);
+    w2c_j1 = w2c_l3;
+    w2c_i1 = (u32)(w2c_j1);
+    w2c_i1 = i32_load(m, (u64)(w2c_i1) + 40u);
+    i32_store(m, (u64)(w2c_i0) + 32, w2c_i1);
+    w2c_i0 = w2c_l16;
+    w2c_l12 = w2c_i0;
+    goto w2c_B12;
+    w2c_B20:;
+    w2c_i0 = 1u;
+    w2c_l15 = w2c_i0;
+    w2c_i0 = w2c_l12;
+    w2c_i1 = 8855u;
+    w2c_i0 = w2c_i0 == w2c_i1;
+    if (w2c_i0) {goto w2c_B15;}
+    w2c_i0 = 2u;
+    w2c_i1 = 5u;
+    w2c_i2 = w2c_l12;
+    w2c_i3 = 20154u;
+    w2c_i2 = w2c_i2 == w2c_i3;
+    w2c_i0 = w2c_i2 ? w2c_i0 : w2c_i1;
+    w2c_l15 = w2c_i0;
+    goto w2c_B13;
+    w2c_B19:;
+    w2c_i0 = w2c_l12;
+    w2c_i1 = 20154u;
+    w2c_i0 = w2c_i0 != w2c_i1;
+    if (w2c_i0) {goto w2c_B17;}
+    w2c_i0 = 2u;
+    w2c_l15 = w2c_i0;
+    goto w2c_B13;
+    w2c_B18:;
+    w2c_i0 = w2c_l12;
+    w2c_i1 = 27665u;
+    w2c_i0 = w2c_i0 != w2c_i1;
+    if (w2c_i0) {goto w2c_B17;}
+    w2c_i0 = 3u;
+    w2c_l15 = w2c_i0;
+    goto w2c_B13;
+    w2c_B17:;
+    w2c_i0 = 5u;
+    w2c_l15 = w2c_i0;
+    goto w2c_B13;
+    w2c_B16:;
+    w2c_i0 = 5u;
+    w2c_l15 = w2c_i0;
+    w2c_i0 = w2c_l12;
+    w2c_i1 = 65306u;
+    w2c_i0 = w2c_i0 == w2c_i1;
+    if (w2c_i0) {goto w2c_B15;}
+    w2c_i0 = w2c_l12;
+    w2c_i1 = 58u;
+    w2c_i0 = w2c_i0 != w2c_i1;
+    if (w2c_i0) {goto w2c_B13;}
+    w2c_B15:;
+    w2c_j0 = w2c_l3;
+    w2c_i0 = (u32)(w2c_j0);
+    w2c_i1 = 0u;
+    i32_store8(m, (u64)(w2c_i0) + 36, w2c_i1);
+    w2c_j0 = w2c_l3;
+    w2c_i0 = (u32)(w2c_j0);
+    w2c_i1 = 0u;
+    i32_store(m, (u64)(w2c_i0) + 32, w2c_i1);
+    w2c_i0 = w2c_l16;
+    w2c_l12 = w2c_i0;
+    goto w2c_B12;
+    w2c_B14:;
+    w2c_i0 = 4u;
+    w2c_i1 = 4u;
+    w2c_i2 = 5u;
+    w2c_i3 = w2c_l12;
+    w2c_i4 = 24163u;
+    w2c_i3 = w2c_i3 == w2c_i4;
+    w2c_i1 = w2c_i3 ? w2c_i1 : w2c_i2;
+    w2c_i2 = w2c_l12;
+    w2c_i3 = 24065u;
+    w2c_i2 = w2c_i2 == w2c_i3;
+    w2c_i0 = w2c_i2 ? w2c_i0 : w2c_i1;
+    w2c_l15 = w2c_i0;
+    w2c_B13:;
+    w2c_i0 = w2c_l12;
+    w2c_i1 = 3227u;
+    w2c_i0 *= w2c_i1;
+    w2c_i1 = 7u;
+    w2c_i0 >>= (w2c_i1 & 31);
+    w2c_j0 = (u64)(w2c_i0);
+    w2c_j1 = 504ull;
+    w2c_j0 &= w2c_j1;
+    w2c_l10 = w2c_j0;
+    w2c_i0 = (u32)(w2c_j0);
+    w2c_i0 = i32_load(m, (u64)(w2c_i0) + 66332u);
+    w2c_i1 = w2c_l12;
+    w2c_i0 = w2c_i0 != w2c_i1;
+    if (w2c_i0) {goto w2c_B38;}
+    w2c_j0 = w2c_l10;
+    w2c_j1 = 66336ull;
+    w2c_j0 += w2c_j1;
+    w2c_i0 = (u32)(w2c_j0);
+    w2c_i0 = i32_load8_u(m, (u64)(w2c_i0));
+    w2c_i1 = 255u;
+    w2c_i0 &= w2c_i1;
+    w2c_i1 = 1u;
+    w2c_i0 = w2c_i0 != w2c_i1;
+    if (w2c_i0) {goto w2c_B38;}
+    w2c_j0 = w2c_l10;
+    w2c_j1 = 66338ull;
+    w2c_j0 += w2c_j1;
+    w2c_i0 = (u32)(w2c_j0);
+    w2c_j0 = i64_load8_u(m, (u64)(w2c_i0));
+    w2c_l11 = w2c_j0;
+    w2c_j0 = w2c_l10;
+    w2c_j1 = 66337ull;
+    w2c_j0 += w2c_j1;
+    w2c_i0 = (u32)(w2c_j0);
+    w2c_i0 = i32_load8_u(m, (u64)(w2c_i0));
+    w2c_l17 = w2c_i0;
+    w2c_i0 = w2c_l14;
+    w2c_j0 = (u64)(w2c_i0);
+    w2c_j1 = 255ull;
+    w2c_j0 &= w2c_j1;
+    w2c_i0 = (u32)(w2c_j0);
+    switch (w2c_i0) {
+      case 0: goto w2c_B61;
+      case 1: goto w2c_B60;
+      case 2: goto w2c_B59;
+      case 3: goto w2c_B58;
+      case 4: goto w2c_B57;
+      case 5: goto w2c_B69;
+      case 6: goto w2c_B68;
+      case 7: goto w2c_B67;
+      case 8: goto w2c_B66;
+      case 9: goto w2c_B65;
+      case 10: goto w2c_B64;
+      case 11: goto w2c_B63;
+      case 12: goto w2c_B62;
+      case 13: goto w2c_B56;
+      case 14: goto w2c_B54;
+      case 15: goto w2c_B52;
+      case 16: goto w2c_B44;
+      case 17: goto w2c_B55;
+      case 18: goto w2c_B42;
+      case 19: goto w2c_B38;
+      default: goto w2c_B61;
+    }
+    w2c_B69:;
+    w2c_i0 = 1u;
+    w2c_i1 = w2c_l17;
+    w2c_i0 <<= (w2c_i1 & 31);
+    w2c_i1 = 31999u;
+    w2c_i0 &= w2c_i1;
+    if (w2c_i0) {goto w2c_B70;}
+    w2c_i0 = w2c_l17;
+    w2c_i1 = 8u;
+    w2c_i0 = w2c_i0 == w2c_i1;
+    if (w2c_i0) {goto w2c_B43;}
+    goto w2c_B41;
+    w2c_B70:;
+    w2c_i0 = w2c_l17;
+    w2c_i1 = 4294967291u;
+    w2c_i0 += w2c_i1;
+    w2c_i1 = 10u;
+    w2c_i0 = w2c_i0 < w2c_i1;
+    if (w2c_i0) {goto w2c_B71;}
+    w2c_i0 = 0u;
+    w2c_l12 = w2c_i0;
+    w2c_i0 = w2c_l17;
+    switch (w2c_i0) {
+      case 0: goto w2c_B71;
+      case 1: goto w2c_B71;
+      case 2: goto w2c_B49;
+      case 3: goto w2c_B47;
+      case 4: goto w2c_B37;
+      default: goto w2c_B71;
+    }
+    w2c_B71:;
+    w2c_i0 = 0u;
+    w2c_l12 = w2c_i0;
+    w2c_i0 = 6u;
+    w2c_l14 = w2c_i0;
+    w2c_i0 = w2c_l17;
+    switch (w2c_i0) {
+      case 0: goto w2c_B38;
+      case 1: goto w2c_B38;
+      case 2: goto w2c_B38;
+      case 3: goto w2c_B38;
+      case 4: goto w2c_B38;
+      case 5: goto w2c_B32;
+      case 6: goto w2c_B45;
+      case 7: goto w2c_B36;
+      case 8: goto w2c_B38;
+      case 9: goto w2c_B38;
+      case 10: goto w2c_B38;
+      case 11: goto w2c_B38;
+      case 12: goto w2c_B38;
+      case 13: goto w2c_B38;
+      case 14: goto w2c_B38;
+      default: goto w2c_B38;
+    }
+    w2c_B68:;
+    w2c_i0 = 3u;
+    w2c_l19 = w2c_i0;
+    w2c_i0 = 10u;
+    w2c_l18 = w2c_i0;
+    w2c_i0 = w2c_l17;
+    w2c_l20 = w2c_i0;
+    w2c_i0 = w2c_l17;
+    switch (w2c_i0) {
+      case 0: goto w2c_B73;
+      case 1: goto w2c_B53;
+      case 2: goto w2c_B72;
+      case 3: goto w2c_B72;
+      case 4: goto w2c_B72;
+      case 5: goto w2c_B38;
+      case 6: goto w2c_B72;
+      case 7: goto w2c_B72;
+      case 8: goto w2c_B72;
+      case 9: goto w2c_B72;
+      case 10: goto w2c_B72;
+      case 11: goto w2c_B72;
+      case 12: goto w2c_B72;
+      case 13: goto w2c_B72;
+      case 14: goto w2c_B72;
+      default: goto w2c_B73;
+    }
+    w2c_B73:;
+    w2c_i0 = 1u;
+    w2c_l12 = w2c_i0;
+    w2c_i0 = w2c_l16;
+    w2c_i1 = 1u;
+    w2c_i0 &= w2c_i1;
+    w2c_i1 = 2u;
+    w2c_i0 |= w2c_i1;
+    w2c_l13 = w2c_i0;
+    w2c_i0 = 9u;
+    w2c_l14 = w2c_i0;
+    goto w2c_B31;
+    w2c_B72:;
+    w2c_i0 = 1u;
+    w2c_l12 = w2c_i0;
+    w2c_i0 = w2c_l17;
+    w2c_i1 = 6u;
+    w2c_i0 = w2c_i0 == w2c_i1;
+    if (w2c_i0) {goto w2c_B45;}
+    w2c_i0 = w2c_l17;
+    w2c_i1 = 7u;
+    w2c_i0 = w2c_i0 == w2c_i1;
+    if (w2c_i0) {goto w2c_B36;}
+    goto w2c_B38;
+    w2c_B67:;
+    w2c_i0 = 3u;
+    w2c_l19 = w2c_i0;
+    w2c_i0 = 4u;
+    w2c_l20 = w2c_i0;
+    w2c_i0 = 10u;
+    w2c_l18 = w2c_i0;
+    w2c_i0 = w2c_l17;
+    switch (w2c_i0) {
+      case 0: goto w2c_B75;
+      case 1: goto w2c_B53;
+      case 2: goto w2c_B74;
+      case 3: goto w2c_B74;
+      case 4: goto w2c_B74;
+      case 5: goto w2c_B38;
+      case 6: goto w2c_B74;
+      case 7: goto w2c_B74;
+      case 8: goto w2c_B74;
+      case 9: goto w2c_B74;
+      case 10: goto w2c_B74;
+      case 11: goto w2c_B74;
+      case 12: goto w2c_B74;
+      case 13: goto w2c_B74;
+      case 14: goto w2c_B74;
+      default: goto w2c_B75;
+    }
+    w2c_B75:;
+    w2c_i0 = 3u;
+    w2c_l13 = w2c_i0;
+    w2c_i0 = w2c_l16;
+    w2c_i1 = 1u;
+    w2c_i0 &= w2c_i1;
+    w2c_i1 = 3u;
+    w2c_i0 ^= w2c_i1;
+    w2c_l12 = w2c_i0;
+    w2c_i0 = 9u;
+    w2c_l14 = w2c_i0;
+    goto w2c_B31;
+    w2c_B74:;
+    w2c_i0 = 1u;
+    w2c_l12 = w2c_i0;
+    w2c_i0 = 8u;
+    w2c_l14 = w2c_i0;
+    w2c_i0 = w2c_l17;
+    w2c_i1 = 5u;
+    w2c_i0 = w2c_i0 == w2c_i1;
+    if (w2c_i0) {goto w2c_B32;}
+    w2c_i0 = w2c_l17;
+    w2c_i1 = 7u;
+    w2c_i0 = w2c_i0 == w2c_i1;
+    if (w2c_i0) {goto w2c_B36;}
+    goto w2c_B38;
+    w2c_B66:;
+    w2c_i0 = 1u;
+    w2c_l12 = w2c_i0;
+    w2c_i0 = 3u;
+    w2c_l19 = w2c_i0;
+    w2c_i0 = 5u;
+    w2c_l20 = w2c_i0;
+    w2c_i0 = 10u;
+    w2c_l18 = w2c_i0;
+    w2c_i0 = w2c_l17;
+    switch (w2c_i0) {
+      case 0: goto w2c_B76;
+      case 1: goto w2c_B53;
+      case 2: goto w2c_B38;
+      case 3: goto w2c_B38;
+      case 4: goto w2c_B38;
+      case 5: goto w2c_B38;
+      case 6: goto w2c_B38;
+      case 7: goto w2c_B36;
+      case 8: goto w2c_B38;
+      case 9: goto w2c_B38;
+      case 10: goto w2c_B38;
+      case 11: goto w2c_B38;
+      case 12: goto w2c_B38;
+      case 13: goto w2c_B38;
+      case 14: goto w2c_B38;
+      default: goto w2c_B76;
+    }
+    w2c_B76:;
+    w2c_i0 = w2c_l16;
+    w2c_i1 = 1u;
+    w2c_i0 &= w2c_i1;
+    w2c_i1 = 2u;
+    w2c_i0 |= w2c_i1;
+    w2c_l13 = w2c_i0;
+    w2c_i0 = 5u;
+    w2c_l12 = w2c_i0;
+    w2c_i0 = 9u;
+    w2c_l14 = w2c_i0;
+    goto w2c_B31;
+    w2c_B65:;
+    w2c_i0 = w2c_l17;
+    w2c_i1 = 1u;
+    w2c_i0 = w2c_i0 != w2c_i1;
+    if (w2c_i0) {goto w2c_B38;}
+    w2c_i0 = 11u;
+    w2c_l18 = w2c_i0;
+    w2c_i0 = w2c_l16;
+    w2c_l20 = w2c_i0;
+    w2c_i0 = w2c_l13;
+    w2c_l19 = w2c_i0;
+    goto w2c_B53;
+    w2c_B64:;
+    w2c_i0 = w2c_l13;
+    w2c_j0 = (u64)(w2c_i0);
+    w2c_j1 = 255ull;
+    w2c_j0 &= w2c_j1;
+    w2c_i0 = (u32)(w2c_j0);
+    switch (w2c_i0) {
+      case 0: goto w2c_B77;
+      case 1: goto w2c_B50;
+      case 2: goto w2c_B48;
+      case 3: goto w2c_B39;
+      default: goto w2c_B77;
+    }
+    w2c_B77:;
+    w2c_i0 = w2c_l16;
+    w2c_j0 = (u64)(w2c_i0);
+    w2c_j1 = 255ull;
+    w2c_j0 &= w2c_j1;
+    w2c_i0 = (u32)(w2c_j0);
+    switch (w2c_i0) {
+      case 0: goto w2c_B82;
+      case 1: goto w2c_B79;
+      case 2: goto w2c_B81;
+      case 3: goto w2c_B81;
+      case 4: goto w2c_B80;
+      case 5: goto w2c_B78;
+      default: goto w2c_B82;
+    }
+    w2c_B82:;
+    w2c_i0 = 0u;
+    w2c_l12 = w2c_i0;
+    w2c_i0 = 6u;
+    w2c_l14 = w2c_i0;
+    w2c_i0 = w2c_l17;
+    switch (w2c_i0) {
+      case 0: goto w2c_B38;
+      case 1: goto w2c_B38;
+      case 2: goto w2c_B38;
+      case 3: goto w2c_B38;
+      case 4: goto w2c_B38;
+      case 5: goto w2c_B32;
+      case 6: goto w2c_B45;
+      case 7: goto w2c_B36;
+      case 8: goto w2c_B38;
+      case 9: goto w2c_B38;
+      case 10: goto w2c_B38;
+      case 11: goto w2c_B38;
+      case 12: goto w2c_B38;
+      case 13: goto w2c_B38;
+      case 14: goto w2c_B38;
+      default: goto w2c_B38;
+    }
+    w2c_B81:;
+    w2c_i0 = 0u;
+    w2c_l12 = w2c_i0;
+    w2c_i0 = 8u;
+    w2c_l14 = w2c_i0;
+    w2c_i0 = w2c_l17;
+    w2c_i1 = 5u;
+    w2c_i0 = w2c_i0 == w2c_i1;
+    if (w2c_i0) {goto w2c_B32;}
+    w2c_i0 = w2c_l17;
+    w2c_i1 = 7u;
+    w2c_i0 = w2c_i0 == w2c_i1;
+    if (w2c_i0) {goto w2c_B36;}
+    goto w2c_B38;
+    w2c_B80:;
+    w2c_i0 = w2c_l17;
+    w2c_i1 = 5u;
+    w2c_i0 = w2c_i0 != w2c_i1;
+    if (w2c_i0) {goto w2c_B38;}
+    goto w2c_B34;
+    w2c_B79:;
+    w2c_i0 = 0u;
+    w2c_l12 = w2c_i0;
+    w2c_i0 = w2c_l17;
+    w2c_i1 = 6u;
+    w2c_i0 = w2c_i0 == w2c_i1;
+    if (w2c_i0) {goto w2c_B45;}
+    w2c_i0 = w2c_l17;
+    w2c_i1 = 7u;
+    w2c_i0 = w2c_i0 == w2c_i1;
+    if (w2c_i0) {goto w2c_B36;}
+    goto w2c_B38;
+    w2c_B78:;
+    w2c_i0 = w2c_l17;
+    w2c_i1 = 7u;
+    w2c_i0 = w2c_i0 != w2c_i1;
+    if (w2c_i0) {goto w2c_B38;}
+    w2c_i0 = 0u;
+    w2c_l12 = w2c_i0;
+    goto w2c_B36;
+    w2c_B63:;
+    w2c_i0 = w2c_l13;
+    w2c_j0 = (u64)(w2c_i0);
+    w2c_j1 = 255ull;
+    w2c_j0 &= w2c_j1;
+    w2c_i0 = (u32)(w2c_j0);
+    switch (w2c_i0) {
+      case 0: goto w2c_B83;
+      case 1: goto w2c_B84;
+      case 2: goto w2c_B85;
+      case 3: goto w2c_B86;
+      default: goto w2c_B83;
+    }
+    w2c_B86:;
+    w2c_i0 = w2c_l17;
+    w2c_i1 = 4294967291u;
+    w2c_i0 += w2c_i1;
+    w2c_i1 = 10u;
+    w2c_i0 = w2c_i0 < w2c_i1;
+    if (w2c_i0) {goto w2c_B87;}
+    w2c_i0 = w2c_l16;
+    w2c_l12 = w2c_i0;
+    w2c_i0 = w2c_l17;
+    switch (w2c_i0) {
+      case 0: goto w2c_B87;
+      case 1: goto w2c_B87;
+      case 2: goto w2c_B49;
+      case 3: goto w2c_B47;
+      case 4: goto w2c_B46;
+      default: goto w2c_B87;
+    }
+    w2c_B87:;
+    w2c_i0 = w2c_l16;
+    w2c_j0 = (u64)(w2c_i0);
+    w2c_j1 = 255ull;
+    w2c_j0 &= w2c_j1;
+    w2c_i0 = (u32)(w2c_j0);
+    switch (w2c_i0) {
+      case 0: goto w2c_B92;
+      case 1: goto w2c_B89;
+      case 2: goto w2c_B91;
+      case 3: goto w2c_B91;
+      case 4: goto w2c_B90;
+      case 5: goto w2c_B88;
+      default: goto w2c_B92;
+    }
+    w2c_B92:;
+    w2c_i0 = 0u;
+    w2c_l12 = w2c_i0;
+    w2c_i0 = 6u;
+    w2c_l14 = w2c_i0;
+    w2c_i0 = w2c_l17;
+    switch (w2c_i0) {
+      case 0: goto w2c_B38;
+      case 1: goto w2c_B38;
+      case 2: goto w2c_B38;
+      case 3: goto w2c_B38;
+      case 4: goto w2c_B38;
+      case 5: goto w2c_B32;
+      case 6: goto w2c_B45;
+      case 7: goto w2c_B36;
+      case 8: goto w2c_B38;
+      case 9: goto w2c_B38;
+      case 10: goto w2c_B38;
+      case 11: goto w2c_B38;
+      case 12: goto w2c_B38;
+      case 13: goto w2c_B38;
+      case 14: goto w2c_B38;
+      default: goto w2c_B38;
+    }
+    w2c_B91:;
+    w2c_i0 = 0u;
+    w2c_l12 = w2c_i0;
+    w2c_i0 = 8u;
+    w2c_l14 = w2c_i0;
+    w2c_i0 = w2c_l17;
+    w2c_i1 = 5u;
+    w2c_i0 = w2c_i0 == w2c_i1;
+    if (w2c_i0) {goto w2c_B32;}
+    w2c_i0 = w2c_l17;
+    w2c_i1 = 7u;
+    w2c_i0 = w2c_i0 == w2c_i1;
+    if (w2c_i0) {goto w2c_B36;}
+    goto w2c_B38;
+    w2c_B90:;
+    w2c_i0 = w2c_l17;
+    w2c_i1 = 5u;
+    w2c_i0 = w2c_i0 == w2c_i1;
+    if (w2c_i0) {goto w2c_B34;}
+    goto w2c_B38;
+    w2c_B89:;
+    w2c_i0 = 0u;
+    w2c_l12 = w2c_i0;
+    w2c_i0 = w2c_l17;
+    w2c_i1 = 6u;
+    w2c_i0 = w2c_i0 == w2c_i1;
+    if (w2c_i0) {goto w2c_B45;}
+    w2c_i0 = w2c_l17;
+    w2c_i1 = 7u;
+    w2c_i0 = w2c_i0 == w2c_i1;
+    if (w2c_i0) {goto w2c_B36;}
+    goto w2c_B38;
+    w2c_B88:;
+    w2c_i0 = w2c_l17;
+    w2c_i1 = 7u;
+    w2c_i0 = w2c_i0 != w2c_i1;
+    if (w2c_i0) {goto w2c_B38;}
+    w2c_i0 = 0u;
+    w2c_l12 = w2c_i0;
+    goto w2c_B36;
+    w2c_B85:;
+    w2c_i0 = w2c_l17;
+    w2c_i1 = 4294967292u;
+    w2c_i0 += w2c_i1;
+    w2c_i1 = 11u;
+    w2c_i0 = w2c_i0 < w2c_i1;
+    if (w2c_i0) {goto w2c_B93;}
+    w2c_i0 = w2c_l16;
+    w2c_l12 = w2c_i0;
+    w2c_i0 = w2c_l17;
+    switch (w2c_i0) {
+      case 0: goto w2c_B93;
+      case 1: goto w2c_B93;
+      case 2: goto w2c_B49;
+      case 3: goto w2c_B47;
+      default: goto w2c_B93;
+    }
+    w2c_B93:;
+    w2c_i0 = w2c_l16;
+    w2c_j0 = (u64)(w2c_i0);
+    w2c_j1 = 255ull;
+    w2c_j0 &= w2c_j1;
+    w2c_i0 = (u32)(w2c_j0);
+    switch (w2c_i0) {
+      case 0: goto w2c_B98;
+      case 1: goto w2c_B95;
+      case 2: goto w2c_B97;
+      case 3: goto w2c_B97;
+      case 4: goto w2c_B96;
+      case 5: goto w2c_B94;
+      default: goto w2c_B98;
+    }
+    w2c_B98:;
+    w2c_i0 = 0u;
+    w2c_l12 = w2c_i0;
+    w2c_i0 = 6u;
+    w2c_l14 = w2c_i0;
+    w2c_i0 = w2c_l17;
+    switch (w2c_i0) {
+      case 0: goto w2c_B38;
+      case 1: goto w2c_B38;
+      case 2: goto w2c_B38;
+      case 3: goto w2c_B38;
+      case 4: goto w2c_B38;
+      case 5: goto w2c_B32;
+      case 6: goto w2c_B45;
+      case 7: goto w2c_B36;
+      case 8: goto w2c_B38;
+      case 9: goto w2c_B38;
+      case 10: goto w2c_B38;
+      case 11: goto w2c_B38;
+      case 12: goto w2c_B38;
+      case 13: goto w2c_B38;
+      case 14: goto w2c_B38;
+      default: goto w2c_B38;
+    }
+    w2c_B97:;
+    w2c_i0 = 0u;
+    w2c_l12 = w2c_i0;
+    w2c_i0 = 8u;
+    w2c_l14 = w2c_i0;
+    w2c_i0 = w2c_l17;
+    w2c_i1 = 5u;
+    w2c_i0 = w2c_i0 == w2c_i1;
+    if (w2c_i0) {goto w2c_B32;}
+    w2c_i0 = w2c_l17;
+    w2c_i1 = 7u;
+    w2c_i0 = w2c_i0 == w2c_i1;
+    if (w2c_i0) {goto w2c_B36;}
+    goto w2c_B38;
+    w2c_B96:;
+    w2c_i0 = w2c_l17;
+    w2c_i1 = 5u;
+    w2c_i0 = w2c_i0 == w2c_i1;
+    if (w2c_i0) {goto w2c_B34;}
+    goto w2c_B38;
+    w2c_B95:;
+    w2c_i0 = 0u;
+    w2c_l12 = w2c_i0;
+    w2c_i0 = w2c_l17;
+    w2c_i1 = 6u;
+    w2c_i0 = w2c_i0 == w2c_i1;
+    if (w2c_i0) {goto w2c_B45;}
+    w2c_i0 = w2c_l17;
+    w2c_i1 = 7u;
+    w2c_i0 = w2c_i0 == w2c_i1;
+    if (w2c_i0) {goto w2c_B36;}
+    goto w2c_B38;
+    w2c_B94:;
+    w2c_i0 = w2c_l17;
+    w2c_i1 = 7u;
+    w2c_i0 = w2c_i0 != w2c_i1;
+    if (w2c_i0) {goto w2c_B38;}
+    w2c_i0 = 0u;
+    w2c_l12 = w2c_i0;
+    goto w2c_B36;
+    w2c_B84:;
+    w2c_i0 = w2c_l17;
+    w2c_i1 = 4294967291u;
+    w2c_i0 += w2c_i1;
+    w2c_i1 = 10u;
+    w2c_i0 = w2c_i0 < w2c_i1;
+    if (w2c_i0) {goto w2c_B99;}
+    w2c_i0 = w2c_l16;
+    w2c_l12 = w2c_i0;
+    w2c_i0 = w2c_l17;
+    switch (w2c_i0) {
+      case 0: goto w2c_B99;
+      case 1: goto w2c_B99;
+      case 2: goto w2c_B49;
+      case 3: goto w2c_B38;
+      case 4: goto w2c_B38;
+      default: goto w2c_B99;
+    }
+    w2c_B99:;
+    w2c_i0 = w2c_l16;
+    w2c_j0 = (u64)(w2c_i0);
+    w2c_j1 = 255ull;
+    w2c_j0 &= w2c_j1;
+    w2c_i0 = (u32)(w2c_j0);
+    switch (w2c_i0) {
+      case 0: goto w2c_B104;
+      case 1: goto w2c_B101;
+      case 2: goto w2c_B103;
+      case 3: goto w2c_B103;
+      case 4: goto w2c_B102;
+      case 5: goto w2c_B100;
+      default: goto w2c_B104;
+    }
+    w2c_B104:;
+    w2c_i0 = 0u;
+    w2c_l12 = w2c_i0;
+    w2c_i0 = 6u;
+    w2c_l14 = w2c_i0;
+    w2c_i0 = w2c_l17;
+    switch (w2c_i0) {
+      case 0: goto w2c_B38;
+      case 1: goto w2c_B38;
+      case 2: goto w2c_B38;
+      case 3: goto w2c_B38;
+      case 4: goto w2c_B38;
+      case 5: goto w2c_B32;
+      case 6: goto w2c_B45;
+      case 7: goto w2c_B36;
+      case 8: goto w2c_B38;
+      case 9: goto w2c_B38;
+      case 10: goto w2c_B38;
+      case 11: goto w2c_B38;
+      case 12: goto w2c_B38;
+      case 13: goto w2c_B38;
+      case 14: goto w2c_B38;
+      default: goto w2c_B38;
+    }
+    w2c_B103:;
+    w2c_i0 = 0u;
+    w2c_l12 = w2c_i0;
+    w2c_i0 = 8u;
+    w2c_l14 = w2c_i0;
+    w2c_i0 = w2c_l17;
+    w2c_i1 = 5u;
+    w2c_i0 = w2c_i0 == w2c_i1;
+    if (w2c_i0) {goto w2c_B32;}
+    w2c_i0 = w2c_l17;
+    w2c_i1 = 7u;
+    w2c_i0 = w2c_i0 == w2c_i1;
+    if (w2c_i0) {goto w2c_B36;}
+    goto w2c_B38;
+    w2c_B102:;
+    w2c_i0 = w2c_l17;
+    w2c_i1 = 5u;
+    w2c_i0 = w2c_i0 == w2c_i1;
+    if (w2c_i0) {goto w2c_B34;}
+    goto w2c_B38;
+    w2c_B101:;
+    w2c_i0 = 0u;
+    w2c_l12 = w2c_i0;
+    w2c_i0 = w2c_l17;
+    w2c_i1 = 6u;
+    w2c_i0 = w2c_i0 == w2c_i1;
+    if (w2c_i0) {goto w2c_B45;}
+    w2c_i0 = w2c_l17;
+    w2c_i1 = 7u;
+    w2c_i0 = w2c_i0 == w2c_i1;
+    if (w2c_i0) {goto w2c_B36;}
+    goto w2c_B38;
+    w2c_B100:;
+    w2c_i0 = w2c_l17;
+    w2c_i1 = 7u;
+    w2c_i0 = w2c_i0 != w2c_i1;
+    if (w2c_i0) {goto w2c_B38;}
+    w2c_i0 = 0u;
+    w2c_l12 = w2c_i0;
+    goto w2c_B36;
+    w2c_B83:;
+    w2c_i0 = w2c_l16;
+    w2c_j0 = (u64)(w2c_i0);
+    w2c_j1 = 255ull;
+    w2c_j0 &= w2c_j1;
+    w2c_i0 = (u32)(w2c_j0);
+    switch (w2c_i0) {
+      case 0: goto w2c_B109;
+      case 1: goto w2c_B106;
+      case 2: goto w2c_B108;
+      case 3: goto w2c_B108;
+      case 4: goto w2c_B107;
+      case 5: goto w2c_B105;
+      default: goto w2c_B109;
+    }
+    w2c_B109:;
+    w2c_i0 = 0u;
+    w2c_l12 = w2c_i0;
+    w2c_i0 = 6u;
+    w2c_l14 = w2c_i0;
+    w2c_i0 = w2c_l17;
+    switch (w2c_i0) {
+      case 0: goto w2c_B38;
+      case 1: goto w2c_B38;
+      case 2: goto w2c_B38;
+      case 3: goto w2c_B38;
+      case 4: goto w2c_B38;
+      case 5: goto w2c_B32;
+      case 6: goto w2c_B45;
+      case 7: goto w2c_B36;
+      case 8: goto w2c_B38;
+      case 9: goto w2c_B38;
+      case 10: goto w2c_B38;
+      case 11: goto w2c_B38;
+      case 12: goto w2c_B38;
+      case 13: goto w2c_B38;
+      case 14: goto w2c_B38;
+      default: goto w2c_B38;
+    }
+    w2c_B108:;
+    w2c_i0 = 0u;
+    w2c_l12 = w2c_i0;
+    w2c_i0 = 8u;
+    w2c_l14 = w2c_i0;
+    w2c_i0 = w2c_l17;
+    w2c_i1 = 5u;
+    w2c_i0 = w2c_i0 == w2c_i1;
+    if (w2c_i0) {goto w2c_B32;}
+    w2c_i0 = w2c_l17;
+    w2c_i1 = 7u;
+    w2c_i0 = w2c_i0 == w2c_i1;
+    if (w2c_i0) {goto w2c_B36;}
+    goto w2c_B38;
+    w2c_B107:;
+    w2c_i0 = w2c_l17;
+    w2c_i1 = 5u;
+    w2c_i0 = w2c_i0 == w2c_i1;
+    if (w2c_i0) {goto w2c_B34;}
+    goto w2c_B38;
+    w2c_B106:;
+    w2c_i0 = 0u;
+    w2c_l12 = w2c_i0;
+    w2c_i0 = w2c_l17;
+    w2c_i1 = 6u;
+    w2c_i0 = w2c_i0 == w2c_i1;
+    if (w2c_i0) {goto w2c_B45;}
+    w2c_i0 = w2c_l17;
+    w2c_i1 = 7u;
+    w2c_i0 = w2c_i0 == w2c_i1;
+    if (w2c_i0) {goto w2c_B36;}
+    goto w2c_B38;
+    w2c_B105:;
+    w2c_i0 = w2c_l17;
+    w2c_i1 = 7u;
+    w2c_i0 = w2c_i0 != w2c_i1;
+    if (w2c_i0) {goto w2c_B38;}
+    w2c_i0 = 0u;
+    w2c_l12 = w2c_i0;
+    goto w2c_B36;
+    w2c_B62:;
+    w2c_i0 = w2c_l13;
+    w2c_j0 = (u64)(w2c_i0);
+    w2c_j1 = 255ull;
+    w2c_j0 &= w2c_j1;
+    w2c_i0 = (u32)(w2c_j0);
+    switch (w2c_i0) {
+      case 0: goto w2c_B110;
+      case 1: goto w2c_B111;
+      case 2: goto w2c_B112;
+      case 3: goto w2c_B113;
+      default: goto w2c_B110;
+    }
+    w2c_B113:;
+    w2c_i0 = w2c_l17;
+    w2c_i1 = 4294967294u;
+    w2c_i0 += w2c_i1;
+    w2c_i1 = 13u;
+    w2c_i0 = w2c_i0 < w2c_i1;
+    if (w2c_i0) {goto w2c_B114;}
+    w2c_i0 = 1u;
+    w2c_l13 = w2c_i0;
+    w2c_i0 = 9u;
+    w2c_l14 = w2c_i0;
+    w2c_i0 = 2u;
+    w2c_l19 = w2c_i0;
+    w2c_i0 = 10u;
+    w2c_l18 = w2c_i0;
+    w2c_i0 = w2c_l16;
+    w2c_l20 = w2c_i0;
+    w2c_i0 = w2c_l16;
+    w2c_l12 = w2c_i0;
+    w2c_i0 = w2c_l17;
+    switch (w2c_i0) {
+      case 0: goto w2c_B31;
+      case 1: goto w2c_B53;
+      default: goto w2c_B31;
+    }
+    w2c_B114:;
+    w2c_i0 = w2c_l16;
+    w2c_j0 = (u64)(w2c_i0);
+    w2c_j1 = 255ull;
+    w2c_j0 &= w2c_j1;
+    w2c_i0 = (u32)(w2c_j0);
+    switch (w2c_i0) {
+      case 0: goto w2c_B119;
+      case 1: goto w2c_B116;
+      case 2: goto w2c_B118;
+      case 3: goto w2c_B118;
+      case 4: goto w2c_B117;
+      case 5: goto w2c_B115;
+      default: goto w2c_B119;
+    }
+    w2c_B119:;
+    w2c_i0 = 1u;
+    w2c_l12 = w2c_i0;
+    w2c_i0 = 6u;
+    w2c_l14 = w2c_i0;
+    w2c_i0 = w2c_l17;
+    w2c_i1 = 4294967294u;
+    w2c_i0 += w2c_i1;
+    switch (w2c_i0) {
+      case 0: goto w2c_B38;
+      case 1: goto w2c_B38;
+      case 2: goto w2c_B38;
+      case 3: goto w2c_B32;
+      case 4: goto w2c_B45;
+      case 5: goto w2c_B36;
+      case 6: goto w2c_B38;
+      case 7: goto w2c_B38;
+      case 8: goto w2c_B38;
+      case 9: goto w2c_B38;
+      case 10: goto w2c_B38;
+      case 11: goto w2c_B38;
+      case 12: goto w2c_B38;
+      default: goto w2c_B38;
+    }
+    w2c_B118:;
+    w2c_i0 = 1u;
+    w2c_l12 = w2c_i0;
+    w2c_i0 = 8u;
+    w2c_l14 = w2c_i0;
+    w2c_i0 = w2c_l17;
+    w2c_i1 = 5u;
+    w2c_i0 = w2c_i0 == w2c_i1;
+    if (w2c_i0) {goto w2c_B32;}
+    w2c_i0 = w2c_l17;
+    w2c_i1 = 7u;
+    w2c_i0 = w2c_i0 == w2c_i1;
+    if (w2c_i0) {goto w2c_B36;}
+    goto w2c_B38;
+    w2c_B117:;
+    w2c_i0 = w2c_l17;
+    w2c_i1 = 5u;
+    w2c_i0 = w2c_i0 != w2c_i1;
+    if (w2c_i0) {goto w2c_B38;}
+    goto w2c_B35;
+    w2c_B116:;
+    w2c_i0 = 1u;
+    w2c_l12 = w2c_i0;
+    w2c_i0 = w2c_l17;
+    w2c_i1 = 6u;
+    w2c_i0 = w2c_i0 == w2c_i1;
+    if (w2c_i0) {goto w2c_B45;}
+    w2c_i0 = w2c_l17;
+    w2c_i1 = 7u;
+    w2c_i0 = w2c_i0 == w2c_i1;
+    if (w2c_i0) {goto w2c_B36;}
+    goto w2c_B38;
+    w2c_B115:;
+    w2c_i0 = w2c_l17;
+    w2c_i1 = 7u;
+    w2c_i0 = w2c_i0 != w2c_i1;
+    if (w2c_i0) {goto w2c_B38;}
+    w2c_i0 = 1u;
+    w2c_l12 = w2c_i0;
+    goto w2c_B36;
+    w2c_B112:;
+    w2c_i0 = w2c_l17;
+    w2c_i1 = 4294967294u;
+    w2c_i0 += w2c_i1;
+    w2c_i1 = 13u;
+    w2c_i0 = w2c_i0 < w2c_i1;
+    if (w2c_i0) {goto w2c_B120;}
+    w2c_i0 = 9u;
+    w2c_l14 = w2c_i0;
+    w2c_i0 = 10u;
+    w2c_l18 = w2c_i0;
+    w2c_i0 = w2c_l16;
+    w2c_l20 = w2c_i0;
+    w2c_i0 = w2c_l17;
+    w2c_l19 = w2c_i0;
+    w2c_i0 = w2c_l16;
+    w2c_l12 = w2c_i0;
+    w2c_i0 = w2c_l17;
+    w2c_l13 = w2c_i0;
+    w2c_i0 = w2c_l17;
+    switch (w2c_i0) {
+      case 0: goto w2c_B31;
+      case 1: goto w2c_B53;
+      default: goto w2c_B31;
+    }
+    w2c_B120:;
+    w2c_i0 = w2c_l16;
+    w2c_j0 = (u64)(w2c_i0);
+    w2c_j1 = 255ull;
+    w2c_j0 &= w2c_j1;
+    w2c_i0 = (u32)(w2c_j0);
+    switch (w2c_i0) {
+      case 0: goto w2c_B125;
+      case 1: goto w2c_B122;
+      case 2: goto w2c_B124;
+      case 3: goto w2c_B124;
+      case 4: goto w2c_B123;
+      case 5: goto w2c_B121;
+      default: goto w2c_B125;
+    }
+    w2c_B125:;
+    w2c_i0 = 1u;
+    w2c_l12 = w2c_i0;
+    w2c_i0 = 6u;
+    w2c_l14 = w2c_i0;
+    w2c_i0 = w2c_l17;
+    w2c_i1 = 4294967294u;
+    w2c_i0 += w2c_i1;
+    switch (w2c_i0) {
+      case 0: goto w2c_B38;
+      case 1: goto w2c_B38;
+      case 2: goto w2c_B38;
+      case 3: goto w2c_B32;
+      case 4: goto w2c_B45;
+      case 5: goto w2c_B36;
+      case 6: goto w2c_B38;
+      case 7: goto w2c_B38;
+      case 8: goto w2c_B38;
+      case 9: goto w2c_B38;
+      case 10: goto w2c_B38;
+      case 11: goto w2c_B38;
+      case 12: goto w2c_B38;
+      default: goto w2c_B38;
+    }
+    w2c_B124:;
+    w2c_i0 = 1u;
+    w2c_l12 = w2c_i0;
+    w2c_i0 = 8u;
+    w2c_l14 = w2c_i0;
+    w2c_i0 = w2c_l17;
+    w2c_i1 = 5u;
+    w2c_i0 = w2c_i0 == w2c_i1;
+    if (w2c_i0) {goto w2c_B32;}
+    w2c_i0 = w2c_l17;
+    w2c_i1 = 7u;
+    w2c_i0 = w2c_i0 == w2c_i1;
+    if (w2c_i0) {goto w2c_B36;}
+    goto w2c_B38;
+    w2c_B123:;
+    w2c_i0 = w2c_l17;
+    w2c_i1 = 5u;
+    w2c_i0 = w2c_i0 == w2c_i1;
+    if (w2c_i0) {goto w2c_B35;}
+    goto w2c_B38;
+    w2c_B122:;
+    w2c_i0 = 1u;
+    w2c_l12 = w2c_i0;
+    w2c_i0 = w2c_l17;
+    w2c_i1 = 6u;
+    w2c_i0 = w2c_i0 == w2c_i1;
+    if (w2c_i0) {goto w2c_B45;}
+    w2c_i0 = w2c_l17;
+    w2c_i1 = 7u;
+    w2c_i0 = w2c_i0 == w2c_i1;
+    if (w2c_i0) {goto w2c_B36;}
+    goto w2c_B38;
+    w2c_B121:;
+    w2c_i0 = w2c_l17;
+    w2c_i1 = 7u;
+    w2c_i0 = w2c_i0 != w2c_i1;
+    if (w2c_i0) {goto w2c_B38;}
+    w2c_i0 = 1u;
+    w2c_l12 = w2c_i0;
+    goto w2c_B36;
+    w2c_B111:;
+    w2c_i0 = w2c_l17;
+    w2c_i1 = 4294967294u;
+    w2c_i0 += w2c_i1;
+    w2c_i1 = 13u;
+    w2c_i0 = w2c_i0 < w2c_i1;
+    if (w2c_i0) {goto w2c_B126;}
+    w2c_i0 = 0u;
+    w2c_l19 = w2c_i0;
+    w2c_i0 = 10u;
+    w2c_l18 = w2c_i0;
+    w2c_i0 = w2c_l16;
+    w2c_l20 = w2c_i0;
+    w2c_i0 = w2c_l17;
+    switch (w2c_i0) {
+      case 0: goto w2c_B38;
+      case 1: goto w2c_B53;
+      default: goto w2c_B38;
+    }
+    w2c_B126:;
+    w2c_i0 = w2c_l16;
+    w2c_j0 = (u64)(w2c_i0);
+    w2c_j1 = 255ull;
+    w2c_j0 &= w2c_j1;
+    w2c_i0 = (u32)(w2c_j0);
+    switch (w2c_i0) {
+      case 0: goto w2c_B131;
+      case 1: goto w2c_B128;
+      case 2: goto w2c_B130;
+      case 3: goto w2c_B130;
+      case 4: goto w2c_B129;
+      case 5: goto w2c_B127;
+      default: goto w2c_B131;
+    }
+    w2c_B131:;
+    w2c_i0 = 1u;
+    w2c_l12 = w2c_i0;
+    w2c_i0 = 6u;
+    w2c_l14 = w2c_i0;
+    w2c_i0 = w2c_l17;
+    w2c_i1 = 4294967294u;
+    w2c_i0 += w2c_i1;
+    switch (w2c_i0) {
+      case 0: goto w2c_B38;
+      case 1: goto w2c_B38;
+      case 2: goto w2c_B38;
+      case 3: goto w2c_B32;
+      case 4: goto w2c_B45;
+      case 5: goto w2c_B36;
+      case 6: goto w2c_B38;
+      case 7: goto w2c_B38;
+      case 8: goto w2c_B38;
+      case 9: goto w2c_B38;
+      case 10: goto w2c_B38;
+      case 11: goto w2c_B38;
+      case 12: goto w2c_B38;
+      default: goto w2c_B38;
+    }
+    w2c_B130:;
+    w2c_i0 = 1u;
+    w2c_l12 = w2c_i0;
+    w2c_i0 = 8u;
+    w2c_l14 = w2c_i0;
+    w2c_i0 = w2c_l17;
+    w2c_i1 = 5u;
+    w2c_i0 = w2c_i0 == w2c_i1;
+    if (w2c_i0) {goto w2c_B32;}
+    w2c_i0 = w2c_l17;
+    w2c_i1 = 7u;
+    w2c_i0 = w2c_i0 == w2c_i1;
+    if (w2c_i0) {goto w2c_B36;}
+    goto w2c_B38;
+    w2c_B129:;
+    w2c_i0 = w2c_l17;
+    w2c_i1 = 5u;
+    w2c_i0 = w2c_i0 == w2c_i1;
+    if (w2c_i0) {goto w2c_B35;}
+    goto w2c_B38;
+    w2c_B128:;
+    w2c_i0 = 1u;
+    w2c_l12 = w2c_i0;
+    w2c_i0 = w2c_l17;
+    w2c_i1 = 6u;
+    w2c_i0 = w2c_i0 == w2c_i1;
+    if (w2c_i0) {goto w2c_B45;}
+    w2c_i0 = w2c_l17;
+    w2c_i1 = 7u;
+    w2c_i0 = w2c_i0 == w2c_i1;
+    if (w2c_i0) {goto w2c_B36;}
+    goto w2c_B38;
+    w2c_B127:;
+    w2c_i0 = w2c_l17;
+    w2c_i1 = 7u;
+    w2c_i0 = w2c_i0 != w2c_i1;
+    if (w2c_i0) {goto w2c_B38;}
+    w2c_i0 = 1u;
+    w2c_l12 = w2c_i0;
+    goto w2c_B36;
+    w2c_B110:;
+    w2c_i0 = w2c_l16;
+    w2c_j0 = (u64)(w2c_i0);
+    w2c_j1 = 255ull;
+    w2c_j0 &= w2c_j1;
+    w2c_i0 = (u32)(w2c_j0);
+    switch (w2c_i0) {
+      case 0: goto w2c_B136;
+      case 1: goto w2c_B133;
+      case 2: goto w2c_B135;
+      case 3: goto w2c_B135;
+      case 4: goto w2c_B134;
+      case 5: goto w2c_B132;
+      default: goto w2c_B136;
+    }
+    w2c_B136:;
+    w2c_i0 = 1u;
+    w2c_l12 = w2c_i0;
+    w2c_i0 = 6u;
+    w2c_l14 = w2c_i0;
+    w2c_i0 = w2c_l17;
+    switch (w2c_i0) {
+      case 0: goto w2c_B38;
+      case 1: goto w2c_B38;
+      case 2: goto w2c_B38;
+      case 3: goto w2c_B38;
+      case 4: goto w2c_B38;
+      case 5: goto w2c_B32;
+      case 6: goto w2c_B45;
+      case 7: goto w2c_B36;
+      case 8: goto w2c_B38;
+      case 9: goto w2c_B38;
+      case 10: goto w2c_B38;
+      case 11: goto w2c_B38;
+      case 12: goto w2c_B38;
+      case 13: goto w2c_B38;
+      case 14: goto w2c_B38;
+      default: goto w2c_B38;
+    }
+    w2c_B135:;
+    w2c_i0 = 1u;
+    w2c_l12 = w2c_i0;
+    w2c_i0 = 8u;
+    w2c_l14 = w2c_i0;
+    w2c_i0 = w2c_l17;
+    w2c_i1 = 5u;
+    w2c_i0 = w2c_i0 == w2c_i1;
+    if (w2c_i0) {goto w2c_B32;}
+    w2c_i0 = w2c_l17;
+    w2c_i1 = 7u;
+    w2c_i0 = w2c_i0 == w2c_i1;
+    if (w2c_i0) {goto w2c_B36;}
+    goto w2c_B38;
+    w2c_B134:;
+    w2c_i0 = w2c_l17;
+    w2c_i1 = 5u;
+    w2c_i0 = w2c_i0 == w2c_i1;
+    if (w2c_i0) {goto w2c_B35;}
+    goto w2c_B38;
+    w2c_B133:;
+    w2c_i0 = 1u;
+    w2c_l12 = w2c_i0;
+    w2c_i0 = w2c_l17;
+    w2c_i1 = 6u;
+    w2c_i0 = w2c_i0 == w2c_i1;
+    if (w2c_i0) {goto w2c_B45;}
+    w2c_i0 = w2c_l17;
+    w2c_i1 = 7u;
+    w2c_i0 = w2c_i0 != w2c_i1;
+    if (w2c_i0) {goto w2c_B38;}
+    goto w2c_B36;
+    w2c_B132:;
+    w2c_i0 = w2c_l17;
+    w2c_i1 = 7u;
+    w2c_i0 = w2c_i0 != w2c_i1;
+    if (w2c_i0) {goto w2c_B38;}
+    w2c_i0 = 1u;
+    w2c_l12 = w2c_i0;
+    goto w2c_B36;
+    w2c_B61:;
+    w2c_i0 = 5u;
+    w2c_l18 = w2c_i0;
+    w2c_i0 = 0u;
+    w2c_l20 = w2c_i0;
+    w2c_i0 = 1u;
+    w2c_l14 = w2c_i0;
+    w2c_i0 = 0u;
+    w2c_l19 = w2c_i0;
+    w2c_i0 = 0u;
+    w2c_l12 = w2c_i0;
+    w2c_i0 = 0u;
+    w2c_l13 = w2c_i0;
+    w2c_i0 = w2c_l17;
+    switch (w2c_i0) {
+      case 0: goto w2c_B51;
+      case 1: goto w2c_B53;
+      case 2: goto w2c_B38;
+      case 3: goto w2c_B38;
+      case 4: goto w2c_B38;
+      case 5: goto w2c_B38;
+      case 6: goto w2c_B38;
+      case 7: goto w2c_B38;
+      case 8: goto w2c_B38;
+      case 9: goto w2c_B38;
+      case 10: goto w2c_B38;
+      case 11: goto w2c_B31;
+      case 12: goto w2c_B38;
+      case 13: goto w2c_B38;
+      case 14: goto w2c_B38;
+      default: goto w2c_B51;
+    }
+    w2c_B60:;
+    w2c_i0 = w2c_l17;
+    w2c_i1 = 12u;
+    w2c_i0 = w2c_i0 != w2c_i1;
+    if (w2c_i0) {goto w2c_B38;}
+    w2c_i0 = 0u;
+    w2c_l12 = w2c_i0;
+    w2c_i0 = 2u;
+    w2c_l14 = w2c_i0;
+    goto w2c_B40;
+    w2c_B59:;
+    w2c_i0 = w2c_l17;
+    w2c_i1 = 13u;
+    w2c_i0 = w2c_i0 != w2c_i1;
+    if (w2c_i0) {goto w2c_B38;}
+    w2c_i0 = 0u;
+    w2c_l12 = w2c_i0;
+    w2c_i0 = 3u;
+    w2c_l14 = w2c_i0;
+    goto w2c_B40;
+    w2c_B58:;
+    w2c_i0 = 0u;
+    w2c_l20 = w2c_i0;
+    w2c_i0 = 5u;
+    w2c_l18 = w2c_i0;
+    w2c_i0 = 0u;
+    w2c_l19 = w2c_i0;
+    w2c_i0 = w2c_l17;
+    switch (w2c_i0) {
+      case 0: goto w2c_B51;
+      case 1: goto w2c_B53;
+      case 2: goto w2c_B38;
+      case 3: goto w2c_B38;
+      case 4: goto w2c_B38;
+      case 5: goto w2c_B38;
+      case 6: goto w2c_B38;
+      case 7: goto w2c_B38;
+      case 8: goto w2c_B38;
+      case 9: goto w2c_B38;
+      case 10: goto w2c_B38;
+      case 11: goto w2c_B38;
+      case 12: goto w2c_B38;
+      case 13: goto w2c_B38;
+      case 14: goto w2c_B38;
+      default: goto w2c_B51;
+    }
+    w2c_B57:;
+    w2c_i0 = w2c_l17;
+    w2c_i1 = 7u;
+    w2c_i0 = w2c_i0 != w2c_i1;
+    if (w2c_i0) {goto w2c_B38;}
+    w2c_i0 = 1u;
+    w2c_l12 = w2c_i0;
+    goto w2c_B36;
+    w2c_B56:;
+    w2c_i0 = 16u;
+    w2c_l18 = w2c_i0;
+    w2c_i0 = 0u;
+    w2c_l20 = w2c_i0;
+    w2c_i0 = 19u;
+    w2c_l14 = w2c_i0;
+    w2c_i0 = 0u;
+    w2c_l19 = w2c_i0;
+    w2c_i0 = 0u;
+    w2c_l12 = w2c_i0;
+    w2c_i0 = 0u;
+    w2c_l13 = w2c_i0;
+    w2c_i0 = w2c_l17;
+    switch (w2c_i0) {
+      case 0: goto w2c_B137;
+      case 1: goto w2c_B53;
+      case 2: goto w2c_B38;
+      case 3: goto w2c_B38;
+      case 4: goto w2c_B38;
+      case 5: goto w2c_B38;
+      case 6: goto w2c_B38;
+      case 7: goto w2c_B38;
+      case 8: goto w2c_B38;
+      case 9: goto w2c_B38;
+      case 10: goto w2c_B31;
+      case 11: goto w2c_B38;
+      case 12: goto w2c_B38;
+      case 13: goto w2c_B38;
+      case 14: goto w2c_B38;
+      default: goto w2c_B137;
+    }
+    w2c_B137:;
+    w2c_i0 = w2c_l16;
+    w2c_i1 = 1u;
+    w2c_i0 &= w2c_i1;
+    w2c_l12 = w2c_i0;
+    w2c_i0 = 14u;
+    w2c_l14 = w2c_i0;
+    goto w2c_B40;
+    w2c_B55:;
+    w2c_i0 = 18u;
+    w2c_l18 = w2c_i0;
+    w2c_i0 = 0u;
+    w2c_l12 = w2c_i0;
+    w2c_i0 = 19u;
+    w2c_l14 = w2c_i0;
+    w2c_i0 = w2c_l17;
+    w2c_i1 = 1u;
+    w2c_i0 = w2c_i0 != w2c_i1;
+    if (w2c_i0) {goto w2c_B138;}
+    w2c_i0 = 0u;
+    w2c_l20 = w2c_i0;
+    w2c_i0 = 0u;
+    w2c_l19 = w2c_i0;
+    goto w2c_B53;
+    w2c_B138:;
+    w2c_i0 = 0u;
+    w2c_l13 = w2c_i0;
+    w2c_i0 = w2c_l17;
+    w2c_i1 = 10u;
+    w2c_i0 = w2c_i0 == w2c_i1;
+    if (w2c_i0) {goto w2c_B31;}
+    goto w2c_B38;
+    w2c_B54:;
+    w2c_i0 = w2c_l17;
+    w2c_i1 = 1u;
+    w2c_i0 = w2c_i0 != w2c_i1;
+    if (w2c_i0) {goto w2c_B38;}
+    w2c_i0 = w2c_l16;
+    w2c_i1 = 1u;
+    w2c_i0 &= w2c_i1;
+    w2c_l20 = w2c_i0;
+    w2c_i0 = 0u;
+    w2c_l19 = w2c_i0;
+    w2c_i0 = 15u;
+    w2c_l18 = w2c_i0;
+    w2c_B53:;
+    w2c_i0 = w2c_l18;
+    w2c_l14 = w2c_i0;
+    w2c_i0 = w2c_l20;
+    w2c_l12 = w2c_i0;
+    w2c_i0 = w2c_l19;
+    w2c_l13 = w2c_i0;
+    w2c_j0 = w2c_l11;
+    w2c_l7 = w2c_j0;
+    goto w2c_B31;
+    w2c_B52:;
+    w2c_i0 = w2c_l16;
+    w2c_i1 = 1u;
+    w2c_i0 &= w2c_i1;
+    w2c_i0 = !(w2c_i0);
+    if (w2c_i0) {goto w2c_B42;}
+    w2c_i0 = w2c_l17;
+    w2c_i1 = 8u;
+    w2c_i0 = w2c_i0 == w2c_i1;
+    if (w2c_i0) {goto w2c_B43;}
+    w2c_i0 = w2c_l17;
+    w2c_i1 = 9u;
+    w2c_i0 = w2c_i0 == w2c_i1;
+    if (w2c_i0) {goto w2c_B41;}
+    goto w2c_B38;
+    w2c_B51:;
+    w2c_i0 = 0u;
+    w2c_l12 = w2c_i0;
+    w2c_i0 = 4u;
+    w2c_l14 = w2c_i0;
+    goto w2c_B40;
+    w2c_B50:;
+    w2c_i0 = w2c_l16;
+    w2c_l12 = w2c_i0;
+    w2c_i0 = w2c_l17;
+    w2c_i1 = 2u;
+    w2c_i0 = w2c_i0 != w2c_i1;
+    if (w2c_i0) {goto w2c_B38;}
+    w2c_B49:;
+    w2c_j0 = w2c_l7;
+    w2c_j1 = 10ull;
+    w2c_j0 *= w2c_j1;
+    w2c_j1 = w2c_l8;
+    w2c_j0 += w2c_j1;
+    w2c_l8 = w2c_j0;
+    w2c_j0 = 0ull;
+    w2c_l7 = w2c_j0;
+    w2c_i0 = 1u;
+    w2c_l13 = w2c_i0;
+    w2c_i0 = 12u;
+    w2c_l14 = w2c_i0;
+    goto w2c_B31;
+    w2c_B48:;
+    w2c_i0 = w2c_l16;
+    w2c_l12 = w2c_i0;
+    w2c_i0 = w2c_l17;
+    w2c_i1 = 3u;
+    w2c_i0 = w2c_i0 != w2c_i1;
+    if (w2c_i0) {goto w2c_B38;}
+    w2c_B47:;
+    w2c_j0 = w2c_l7;
+    w2c_j1 = 100ull;
+    w2c_j0 *= w2c_j1;
+    w2c_j1 = w2c_l8;
+    w2c_j0 += w2c_j1;
+    w2c_l8 = w2c_j0;
+    w2c_j0 = 0ull;
+    w2c_l7 = w2c_j0;
+    w2c_i0 = 2u;
+    w2c_l13 = w2c_i0;
+    w2c_i0 = 12u;
+    w2c_l14 = w2c_i0;
+    goto w2c_B31;
+    w2c_B46:;
+    w2c_i0 = 5u;
+    w2c_i1 = w2c_l16;
+    w2c_i2 = w2c_l16;
+    w2c_i3 = 255u;
+    w2c_i2 &= w2c_i3;
+    w2c_i3 = 3u;
+    w2c_i2 = w2c_i2 == w2c_i3;
+    w2c_i0 = w2c_i2 ? w2c_i0 : w2c_i1;
+    w2c_l12 = w2c_i0;
+    goto w2c_B37;
+    w2c_B45:;
+    w2c_j0 = w2c_l8;
+    w2c_j1 = w2c_l7;
+    w2c_j0 += w2c_j1;
+    w2c_j1 = w2c_l9;
+    w2c_j0 += w2c_j1;
+    w2c_j1 = 100000000ull;
+    w2c_j0 *= w2c_j1;
+    w2c_l9 = w2c_j0;
+    w2c_j0 = 0ull;
+    w2c_l8 = w2c_j0;
+    w2c_i0 = 0u;
+    w2c_l13 = w2c_i0;
+    w2c_i0 = 7u;
+    w2c_l14 = w2c_i0;
+    w2c_j0 = 0ull;
+    w2c_l7 = w2c_j0;
+    goto w2c_B31;
+    w2c_B44:;
+    w2c_i0 = w2c_l17;
+    w2c_i1 = 8u;
+    w2c_i0 = w2c_i0 != w2c_i1;
+    if (w2c_i0) {goto w2c_B38;}
+    w2c_B43:;
+    w2c_j0 = w2c_l9;
+    w2c_j1 = w2c_l7;
+    w2c_j2 = 10ull;
+    w2c_j1 *= w2c_j2;
+    w2c_j0 += w2c_j1;
+    w2c_l9 = w2c_j0;
+    w2c_j0 = 0ull;
+    w2c_l7 = w2c_j0;
+    w2c_i0 = 0u;
+    w2c_l12 = w2c_i0;
+    w2c_i0 = 17u;
+    w2c_l14 = w2c_i0;
+    goto w2c_B40;
+    w2c_B42:;
+    w2c_i0 = w2c_l17;
+    w2c_i1 = 9u;
+    w2c_i0 = w2c_i0 != w2c_i1;
+    if (w2c_i0) {goto w2c_B38;}
+    w2c_B41:;
+    w2c_j0 = w2c_l9;
+    w2c_j1 = w2c_l7;
+    w2c_j0 += w2c_j1;
+    w2c_l9 = w2c_j0;
+    w2c_j0 = 0ull;
+    w2c_l7 = w2c_j0;
+    w2c_i0 = 0u;
+    w2c_l12 = w2c_i0;
+    w2c_i0 = 19u;
+    w2c_l14 = w2c_i0;
+    w2c_B40:;
+    w2c_i0 = 0u;
+    w2c_l13 = w2c_i0;
+    goto w2c_B31;
+    w2c_B39:;
+    w2c_i0 = w2c_l16;
+    w2c_l12 = w2c_i0;
+    w2c_i0 = w2c_l17;
+    w2c_i1 = 4u;
+    w2c_i0 = w2c_i0 == w2c_i1;
+    if (w2c_i0) {goto w2c_B37;}
+    w2c_B38:;
+    w2c_j0 = 1ull;
+    w2c_l9 = w2c_j0;
+    w2c_j0 = 1ull;
+    w2c_p0 = w2c_j0;
+    goto w2c_B7;
+    w2c_B37:;
+    w2c_j0 = w2c_l7;
+    w2c_j1 = 1000ull;
+    w2c_j0 *= w2c_j1;
+    w2c_j1 = w2c_l8;
+    w2c_j0 += w2c_j1;
+    w2c_l8 = w2c_j0;
+    w2c_j0 = 0ull;
+    w2c_l7 = w2c_j0;
+    w2c_i0 = 3u;
+    w2c_l13 = w2c_i0;
+    w2c_i0 = 12u;
+    w2c_l14 = w2c_i0;
+    goto w2c_B31;
+    w2c_B36:;
+    w2c_j0 = w2c_l8;
+    w2c_j1 = w2c_l7;
+    w2c_j0 += w2c_j1;
+    w2c_j1 = w2c_l9;
+    w2c_j0 += w2c_j1;
+    w2c_j1 = 100ull;
+    w2c_j0 *= w2c_j1;
+    w2c_l9 = w2c_j0;
+    w2c_j0 = 0ull;
+    w2c_l8 = w2c_j0;
+    w2c_i0 = 0u;
+    w2c_l13 = w2c_i0;
+    w2c_i0 = 13u;
+    w2c_l14 = w2c_i0;
+    w2c_j0 = 0ull;
+    w2c_l7 = w2c_j0;
+    goto w2c_B31;
+    w2c_B35:;
+    w2c_i0 = 1u;
+    w2c_l12 = w2c_i0;
+    goto w2c_B33;
+    w2c_B34:;
+    w2c_i0 = 0u;
+    w2c_l12 = w2c_i0;
+    w2c_B33:;
+    w2c_i0 = 8u;
+    w2c_l14 = w2c_i0;
+    w2c_B32:;
+    w2c_j0 = w2c_l8;
+    w2c_j1 = w2c_l7;
+    w2c_j0 += w2c_j1;
+    w2c_j1 = 10000ull;
+    w2c_j0 *= w2c_j1;
+    w2c_j1 = w2c_l9;
+    w2c_j0 += w2c_j1;
+    w2c_l9 = w2c_j0;
+    w2c_j0 = 0ull;
+    w2c_l8 = w2c_j0;
+    w2c_i0 = 0u;
+    w2c_l13 = w2c_i0;
+    w2c_j0 = 0ull;
+    w2c_l7 = w2c_j0;
+    w2c_B31:;
+    w2c_j0 = w2c_l3;
+    w2c_i0 = (u32)(w2c_j0);
+    w2c_i1 = 0u;
+    i32_store8(m, (u64)(w2c_i0) + 36, w2c_i1);
+    w2c_j0 = w2c_l3;
+    w2c_i0 = (u32)(w2c_j0);
+    w2c_i1 = 0u;
+    i32_store(m, (u64)(w2c_i0) + 32, w2c_i1);
+    w2c_B12:;
+    w2c_j0 = w2c_l3;
+    w2c_i0 = (u32)(w2c_j0);
+    w2c_j1 = w2c_l3;
+    w2c_i1 = (u32)(w2c_j1);
+    w2c_i1 = i32_load8_u(m, (u64)(w2c_i1) + 36u);
+    i32_store8(m, (u64)(w2c_i0) + 44, w2c_i1);
+    w2c_j0 = w2c_l3;
+    w2c_i0 = (u32)(w2c_j0);
+    w2c_j1 = w2c_l3;
+    w2c_i1 = (u32)(w2c_j1);
+    w2c_i1 = i32_load(m, (u64)(w2c_i1) + 32u);
+    i32_store(m, (u64)(w2c_i0) + 40, w2c_i1);
+    w2c_j0 = w2c_l6;
+    w2c_j1 = 1ull;
+    w2c_j0 += w2c_j1;
+    w2c_l6 = w2c_j0;
+    w2c_j0 = w2c_l4;
+    w2c_j1 = 0ull;
+    w2c_i0 = w2c_j0 != w2c_j1;
+    if (w2c_i0) {goto w2c_L11;}
+  w2c_i0 = w2c_l14;
+  w2c_i1 = 255u;
+  w2c_i0 &= w2c_i1;
+  w2c_l12 = w2c_i0;
+  w2c_i1 = 17u;
+  w2c_i0 = w2c_i0 < w2c_i1;
+  if (w2c_i0) {goto w2c_B10;}
+  w2c_i0 = w2c_l12;
+  w2c_i1 = 4294967279u;
+  w2c_i0 += w2c_i1;
+  switch (w2c_i0) {
+    case 0: goto w2c_B9;
+    case 1: goto w2c_B10;
+    case 2: goto w2c_B9;
+    default: goto w2c_B9;
+  }
+  w2c_B10:;
+  w2c_j0 = 1ull;
+  w2c_p0 = w2c_j0;
+  w2c_j0 = 0ull;
+  w2c_l9 = w2c_j0;
+  goto w2c_B8;
+  w2c_B9:;
+  w2c_j0 = 0ull;
+  w2c_p0 = w2c_j0;
+  w2c_B8:;
+  w2c_j0 = 0ull;
+  w2c_l6 = w2c_j0;
+  w2c_B7:;
+  w2c_j0 = w2c_l3;
+  w2c_i0 = (u32)(w2c_j0);
+  w2c_j1 = w2c_l6;
+  i64_store(m, (u64)(w2c_i0) + 24, w2c_j1);
+  w2c_j0 = w2c_l3;
+  w2c_i0 = (u32)(w2c_j0);
+  w2c_j1 = w2c_l9;
+  i64_store(m, (u64)(w2c_i0) + 16, w2c_j1);
+  w2c_j0 = w2c_l3;
+  w2c_i0 = (u32)(w2c_j0);
+  w2c_j1 = w2c_p0;
+  i64_store(m, (u64)(w2c_i0) + 8, w2c_j1);
+  w2c_j0 = w2c_l5;
+  w2c_j1 = w2c_p1;
+  w2c_j2 = w2c_l3;
+  w2c_j3 = 8ull;
+  w2c_j2 += w2c_j3;
+  w2c_j3 = w2c_p2;
+  w2c_i0 = w2c_f13(m, w2c_j0, w2c_j1, w2c_j2, w2c_j3);
+  w2c_l12 = w2c_i0;
+  w2c_B1:;
+  w2c_j0 = w2c_l3;
+  w2c_j1 = 48ull;
+  w2c_j0 += w2c_j1;
+  m->w2c_g0 = w2c_j0;
+  w2c_i0 = w2c_l12;
+  goto w2c_Bfunc;
+  w2c_B0:;
+  UNREACHABLE;
+  w2c_Bfunc:;
+  return w2c_i0;
+}
+
+static u32 w2c_chinese_date_read(module *m, u64 w2c_p0, u64 w2c_p1, u64 w2c_p2) {
+  u32 w2c_l3 = 0;
+  u32 w2c_i0;
+  u64 w2c_j0, w2c_j1, w2c_j2;
+  w2c_i0 = w2c_f0(m);
+  w2c_i0 = !(w2c_i0);
+  if (w2c_i0) {goto w2c_B0;}
+  w2c_f2(m);
+  UNREACHABLE;
+  w2c_B0:;
+  w2c_j0 = w2c_p0;
+  w2c_j1 = w2c_p1;
+  w2c_j2 = w2c_p2;
+  w2c_i0 = w2c_f69(m, w2c_j0, w2c_j1, w2c_j2);
+  w2c_l3 = w2c_i0;
+  w2c_f1(m);
+  w2c_i0 = w2c_l3;
+  return w2c_i0;
+}
+
+static u32 w2c_f69(module *m, u64 w2c_p0, u64 w2c_p1, u64 w2c_p2) {
+  u32 w2c_l9 = 0, w2c_l10 = 0, w2c_l11 = 0, w2c_l12 = 0, w2c_l13 = 0, w2c_l14 = 0, w2c_l15 = 0, w2c_l16 = 0, w2c_l17 = 0, w2c_l18 = 0, w2c_l19 = 0, w2c_l20 = 0, w2c_l21 = 0;
+  u64 w2c_l3 = 0, w2c_l4 = 0, w2c_l5 = 0, w2c_l6 = 0, w2c_l7 = 0, w2c_l8 = 0;
+  u32 w2c_i0, w2c_i1, w2c_i2, w2c_i3, w2c_i4;
+  u64 w2c_j0, w2c_j1, w2c_j2, w2c_j3;
+  w2c_j0 = m->w2c_g0;
+  w2c_j1 = 16ull;
+  w2c_j0 -= w2c_j1;
+  w2c_l3 = w2c_j0;
+  m->w2c_g0 = w2c_j0;
+  w2c_j0 = w2c_l3;
+  w2c_l4 = w2c_j0;
+  w2c_j1 = 16ull;
+  w2c_i0 = (u64)((s64)w2c_j0 < (s64)w2c_j1);
+  if (w2c_i0) {goto w2c_B2;}
+  w2c_j0 = w2c_p2;
+  w2c_i0 = (u32)(w2c_j0);
+  w2c_j1 = 0ull;
+  i64_store(m, (u64)(w2c_i0) + 24, w2c_j1);
+  w2c_j0 = w2c_p2;
+  w2c_i0 = (u32)(w2c_j0);
+  w2c_j1 = 0ull;
+  i64_store(m, (u64)(w2c_i0) + 16, w2c_j1);
+  w2c_j0 = w2c_p2;
+  w2c_i0 = (u32)(w2c_j0);
+  w2c_j1 = 0ull;
+  i64_store(m, (u64)(w2c_i0) + 8, w2c_j1);
+  w2c_j0 = w2c_p2;
+  w2c_i0 = (u32)(w2c_j0);
+  w2c_j1 = 0ull;
+  i64_store(m, (u64)(w2c_i0), w2c_j1);
+  w2c_j0 = w2c_p1;
+  w2c_l3 = w2c_j0;
+  w2c_j0 = w2c_p0;
+  w2c_j1 = 4096ull;
+  w2c_j2 = 0ull;
+  w2c_j3 = w2c_p0;
+  w2c_i3 = !(w2c_j3);
+  w2c_j1 = w2c_i3 ? w2c_j1 : w2c_j2;
+  w2c_j0 += w2c_j1;
+  w2c_l5 = w2c_j0;
+  w2c_p0 = w2c_j0;
+  w2c_j0 = w2c_p1;
+  w2c_j1 = 4ull;
+  w2c_i0 = w2c_j0 < w2c_j1;
+  if (w2c_i0) {goto w2c_B5;}
+  w2c_j0 = w2c_l5;
+  w2c_p0 = w2c_j0;
+  w2c_j0 = w2c_p1;
+  w2c_l3 = w2c_j0;
+  w2c_L6:
+    w2c_j0 = w2c_p0;
+    w2c_i0 = (u32)(w2c_j0);
+    w2c_i0 = i32_load(m, (u64)(w2c_i0));
+    w2c_i1 = 16776990u;
+    w2c_i0 += w2c_i1;
+    w2c_i1 = 12632312u;
+    w2c_i0 &= w2c_i1;
+    w2c_i1 = 8421376u;
+    w2c_i0 = w2c_i0 != w2c_i1;
+    if (w2c_i0) {goto w2c_B4;}
+    w2c_j0 = w2c_p0;
+    w2c_j1 = 3ull;
+    w2c_j0 += w2c_j1;
+    w2c_p0 = w2c_j0;
+    w2c_j0 = w2c_l3;
+    w2c_j1 = 18446744073709551613ull;
+    w2c_j0 += w2c_j1;
+    w2c_l3 = w2c_j0;
+    w2c_j1 = 3ull;
+    w2c_i0 = w2c_j0 > w2c_j1;
+    if (w2c_i0) {goto w2c_L6;}
+  w2c_B5:;
+  w2c_j0 = w2c_l3;
+  w2c_j1 = 3ull;
+  w2c_i0 = w2c_j0 > w2c_j1;
+  if (w2c_i0) {goto w2c_B4;}
+  w2c_j0 = w2c_l3;
+  w2c_i0 = (u32)(w2c_j0);
+  switch (w2c_i0) {
+    case 0: goto w2c_B3;
+    case 1: goto w2c_B4;
+    case 2: goto w2c_B4;
+    case 3: goto w2c_B7;
+    default: goto w2c_B3;
+  }
+  w2c_B7:;
+  w2c_j0 = w2c_p0;
+  w2c_i0 = (u32)(w2c_j0);
+  w2c_i0 = i32_load16_u(m, (u64)(w2c_i0));
+  w2c_j1 = w2c_p0;
+  w2c_j2 = 2ull;
+  w2c_j1 += w2c_j2;
+  w2c_i1 = (u32)(w2c_j1);
+  w2c_i1 = i32_load8_u(m, (u64)(w2c_i1));
+  w2c_i2 = 16u;
+  w2c_i1 <<= (w2c_i2 & 31);
+  w2c_i0 |= w2c_i1;
+  w2c_i1 = 16776990u;
+  w2c_i0 += w2c_i1;
+  w2c_i1 = 12632312u;
+  w2c_i0 &= w2c_i1;
+  w2c_i1 = 8421376u;
+  w2c_i0 = w2c_i0 == w2c_i1;
+  if (w2c_i0) {goto w2c_B3;}
+  w2c_B4:;
+  w2c_j0 = w2c_l5;
+  w2c_j1 = w2c_p1;
+  w2c_i0 = w2c_f12(m, w2c_j0, w2c_j1);
+  if (w2c_i0) {goto w2c_B3;}
+  w2c_i0 = 5u;
+  w2c_l9 = w2c_i0;
+  goto w2c_B0;
+  w2c_B3:;
+  w2c_j0 = w2c_p1;
+  w2c_i0 = !(w2c_j0);
+  if (w2c_i0) {goto w2c_B1;}
+  w2c_i0 = 0u;
+  w2c_l10 = w2c_i0;
+  w2c_j0 = 0ull;
+  w2c_l3 = w2c_j0;
   w2c_j0 = w2c_p1;
   w2c_l6 = w2c_j0;
   w2c_j0 = w2c_l5;
   w2c_l7 = w2c_j0;
-  w2c_i0 = 0u;
-  w2c_l10 = w2c_i0;
   w2c_i0 = 0u;
   w2c_l11 = w2c_i0;
   w2c_i0 = 0u;
   w2c_l12 = w2c_i0;
   w2c_i0 = 0u;
   w2c_l13 = w2c_i0;
-  w2c_L9:
+  w2c_i0 = 0u;
+  w2c_l14 = w2c_i0;
+  w2c_L10:
     w2c_j0 = w2c_l7;
     w2c_i0 = (u32)(w2c_j0);
     w2c_i0 = i32_load8_s(m, (u64)(w2c_i0));
-    w2c_l14 = w2c_i0;
+    w2c_l15 = w2c_i0;
     w2c_i1 = 255u;
     w2c_i0 &= w2c_i1;
-    w2c_l15 = w2c_i0;
+    w2c_l9 = w2c_i0;
     w2c_j0 = 1ull;
     w2c_l8 = w2c_j0;
-    w2c_i0 = w2c_l14;
+    w2c_i0 = w2c_l15;
     w2c_i1 = 4294967295u;
     w2c_i0 = (u32)((s32)w2c_i0 > (s32)w2c_i1);
-    if (w2c_i0) {goto w2c_B10;}
+    if (w2c_i0) {goto w2c_B11;}
     w2c_j0 = w2c_l7;
     w2c_i0 = (u32)(w2c_j0);
     w2c_i0 = i32_load8_u(m, (u64)(w2c_i0) + 1u);
     w2c_i1 = 63u;
     w2c_i0 &= w2c_i1;
     w2c_l16 = w2c_i0;
-    w2c_i0 = w2c_l14;
+    w2c_i0 = w2c_l15;
     w2c_i1 = 4294967263u;
     w2c_i0 = w2c_i0 > w2c_i1;
-    if (w2c_i0) {goto w2c_B11;}
-    w2c_i0 = w2c_l15;
+    if (w2c_i0) {goto w2c_B12;}
+    w2c_i0 = w2c_l9;
     w2c_i1 = 6u;
     w2c_i0 <<= (w2c_i1 & 31);
     w2c_i1 = 1984u;
     w2c_i0 &= w2c_i1;
     w2c_i1 = w2c_l16;
     w2c_i0 |= w2c_i1;
-    w2c_l15 = w2c_i0;
+    w2c_l9 = w2c_i0;
     w2c_j0 = 2ull;
     w2c_l8 = w2c_j0;
-    goto w2c_B10;
-    w2c_B11:;
+    goto w2c_B11;
+    w2c_B12:;
     w2c_j0 = w2c_l7;
     w2c_i0 = (u32)(w2c_j0);
     w2c_i0 = i32_load8_u(m, (u64)(w2c_i0) + 2u);
     w2c_i1 = 63u;
     w2c_i0 &= w2c_i1;
     w2c_l17 = w2c_i0;
-    w2c_i0 = w2c_l14;
+    w2c_i0 = w2c_l15;
     w2c_i1 = 4294967279u;
     w2c_i0 = w2c_i0 > w2c_i1;
-    if (w2c_i0) {goto w2c_B12;}
+    if (w2c_i0) {goto w2c_B13;}
     w2c_i0 = w2c_l16;
     w2c_i1 = 6u;
     w2c_i0 <<= (w2c_i1 & 31);
-    w2c_i1 = w2c_l15;
+    w2c_i1 = w2c_l9;
     w2c_i2 = 12u;
     w2c_i1 <<= (w2c_i2 & 31);
     w2c_i2 = 61440u;
@@ -47018,18 +47475,18 @@ static u32 w2c_f67(module *m, u64 w2c_p0, u64 w2c_p1, u64 w2c_p2) {
     w2c_i0 |= w2c_i1;
     w2c_i1 = w2c_l17;
     w2c_i0 |= w2c_i1;
-    w2c_l15 = w2c_i0;
+    w2c_l9 = w2c_i0;
     w2c_j0 = 3ull;
     w2c_l8 = w2c_j0;
-    goto w2c_B10;
-    w2c_B12:;
+    goto w2c_B11;
+    w2c_B13:;
     w2c_i0 = w2c_l17;
     w2c_i1 = 6u;
     w2c_i0 <<= (w2c_i1 & 31);
     w2c_i1 = w2c_l16;
     w2c_i2 = 12u;
     w2c_i1 <<= (w2c_i2 & 31);
-    w2c_i2 = w2c_l15;
+    w2c_i2 = w2c_l9;
     w2c_i3 = 18u;
     w2c_i2 <<= (w2c_i3 & 31);
     w2c_i3 = 1835008u;
@@ -47042,11 +47499,11 @@ static u32 w2c_f67(module *m, u64 w2c_p0, u64 w2c_p1, u64 w2c_p2) {
     w2c_i2 = 63u;
     w2c_i1 &= w2c_i2;
     w2c_i0 |= w2c_i1;
-    w2c_l15 = w2c_i0;
+    w2c_l9 = w2c_i0;
     w2c_j0 = 4ull;
     w2c_l8 = w2c_j0;
-    w2c_B10:;
-    w2c_i0 = w2c_l15;
+    w2c_B11:;
+    w2c_i0 = w2c_l9;
     w2c_i1 = 69u;
     w2c_i0 *= w2c_i1;
     w2c_i1 = 1u;
@@ -47057,10 +47514,10 @@ static u32 w2c_f67(module *m, u64 w2c_p0, u64 w2c_p1, u64 w2c_p2) {
     w2c_p0 = w2c_j0;
     w2c_i0 = (u32)(w2c_j0);
     w2c_i0 = i32_load(m, (u64)(w2c_i0) + 66976u);
-    w2c_l14 = w2c_i0;
-    w2c_i1 = w2c_l15;
+    w2c_l15 = w2c_i0;
+    w2c_i1 = w2c_l9;
     w2c_i0 = w2c_i0 != w2c_i1;
-    if (w2c_i0) {goto w2c_B8;}
+    if (w2c_i0) {goto w2c_B9;}
     w2c_j0 = w2c_p0;
     w2c_j1 = 66980ull;
     w2c_j0 += w2c_j1;
@@ -47070,7 +47527,7 @@ static u32 w2c_f67(module *m, u64 w2c_p0, u64 w2c_p1, u64 w2c_p2) {
     w2c_i0 &= w2c_i1;
     w2c_i1 = 1u;
     w2c_i0 = w2c_i0 != w2c_i1;
-    if (w2c_i0) {goto w2c_B8;}
+    if (w2c_i0) {goto w2c_B9;}
     w2c_j0 = w2c_p0;
     w2c_j1 = 66982ull;
     w2c_j0 += w2c_j1;
@@ -47078,16 +47535,16 @@ static u32 w2c_f67(module *m, u64 w2c_p0, u64 w2c_p1, u64 w2c_p2) {
     w2c_i0 = i32_load8_u(m, (u64)(w2c_i0));
     w2c_l17 = w2c_i0;
     w2c_i1 = 0u;
-    w2c_i2 = w2c_l14;
-    w2c_i3 = w2c_l15;
+    w2c_i2 = w2c_l15;
+    w2c_i3 = w2c_l9;
     w2c_i2 = w2c_i2 == w2c_i3;
     w2c_i0 = w2c_i2 ? w2c_i0 : w2c_i1;
     w2c_l18 = w2c_i0;
-    w2c_i0 = w2c_l12;
+    w2c_i0 = w2c_l13;
     w2c_i1 = 24u;
     w2c_i0 >>= (w2c_i1 & 31);
-    w2c_l15 = w2c_i0;
-    w2c_i0 = w2c_l12;
+    w2c_l9 = w2c_i0;
+    w2c_i0 = w2c_l13;
     w2c_i1 = 16u;
     w2c_i0 >>= (w2c_i1 & 31);
     w2c_l16 = w2c_i0;
@@ -47096,354 +47553,354 @@ static u32 w2c_f67(module *m, u64 w2c_p0, u64 w2c_p1, u64 w2c_p2) {
     w2c_j0 += w2c_j1;
     w2c_i0 = (u32)(w2c_j0);
     w2c_i0 = i32_load8_u(m, (u64)(w2c_i0));
-    w2c_l14 = w2c_i0;
-    w2c_i0 = w2c_l13;
+    w2c_l15 = w2c_i0;
+    w2c_i0 = w2c_l14;
     w2c_j0 = (u64)(w2c_i0);
     w2c_j1 = 255ull;
     w2c_j0 &= w2c_j1;
     w2c_i0 = (u32)(w2c_j0);
     switch (w2c_i0) {
-      case 0: goto w2c_B19;
-      case 1: goto w2c_B18;
-      case 2: goto w2c_B17;
-      case 3: goto w2c_B8;
-      default: goto w2c_B19;
+      case 0: goto w2c_B20;
+      case 1: goto w2c_B19;
+      case 2: goto w2c_B18;
+      case 3: goto w2c_B9;
+      default: goto w2c_B20;
     }
-    w2c_B19:;
-    w2c_i0 = w2c_l14;
+    w2c_B20:;
+    w2c_i0 = w2c_l15;
     switch (w2c_i0) {
-      case 0: goto w2c_B21;
-      case 1: goto w2c_B8;
-      case 2: goto w2c_B20;
-      case 3: goto w2c_B8;
-      case 4: goto w2c_B8;
-      default: goto w2c_B21;
+      case 0: goto w2c_B22;
+      case 1: goto w2c_B9;
+      case 2: goto w2c_B21;
+      case 3: goto w2c_B9;
+      case 4: goto w2c_B9;
+      default: goto w2c_B22;
     }
-    w2c_B21:;
-    w2c_i0 = w2c_l12;
+    w2c_B22:;
+    w2c_i0 = w2c_l13;
     w2c_i1 = 65535u;
     w2c_i0 &= w2c_i1;
     w2c_i1 = 999u;
     w2c_i0 = w2c_i0 > w2c_i1;
-    if (w2c_i0) {goto w2c_B8;}
-    w2c_i0 = 0u;
-    w2c_l9 = w2c_i0;
+    if (w2c_i0) {goto w2c_B9;}
     w2c_i0 = 0u;
     w2c_l10 = w2c_i0;
     w2c_i0 = 0u;
     w2c_l11 = w2c_i0;
     w2c_i0 = 0u;
-    w2c_l15 = w2c_i0;
+    w2c_l12 = w2c_i0;
     w2c_i0 = 0u;
-    w2c_l13 = w2c_i0;
-    w2c_i0 = w2c_l12;
+    w2c_l9 = w2c_i0;
+    w2c_i0 = 0u;
+    w2c_l14 = w2c_i0;
+    w2c_i0 = w2c_l13;
     w2c_i1 = 10u;
     w2c_i0 *= w2c_i1;
     w2c_i1 = w2c_l17;
     w2c_i0 += w2c_i1;
-    w2c_l14 = w2c_i0;
+    w2c_l15 = w2c_i0;
     w2c_i1 = 65535u;
     w2c_i0 &= w2c_i1;
-    if (w2c_i0) {goto w2c_B13;}
-    goto w2c_B8;
-    w2c_B20:;
-    w2c_i0 = w2c_l12;
+    if (w2c_i0) {goto w2c_B14;}
+    goto w2c_B9;
+    w2c_B21:;
+    w2c_i0 = w2c_l13;
     w2c_i1 = 65535u;
     w2c_i0 &= w2c_i1;
     w2c_i0 = !(w2c_i0);
-    if (w2c_i0) {goto w2c_B8;}
+    if (w2c_i0) {goto w2c_B9;}
     w2c_i0 = 1u;
-    w2c_l13 = w2c_i0;
-    w2c_i0 = 0u;
-    w2c_l9 = w2c_i0;
+    w2c_l14 = w2c_i0;
     w2c_i0 = 0u;
     w2c_l10 = w2c_i0;
     w2c_i0 = 0u;
     w2c_l11 = w2c_i0;
     w2c_i0 = 0u;
+    w2c_l12 = w2c_i0;
+    w2c_i0 = 0u;
+    w2c_l9 = w2c_i0;
+    w2c_i0 = w2c_l13;
     w2c_l15 = w2c_i0;
-    w2c_i0 = w2c_l12;
-    w2c_l14 = w2c_i0;
-    goto w2c_B13;
-    w2c_B18:;
-    w2c_i0 = w2c_l14;
+    goto w2c_B14;
+    w2c_B19:;
+    w2c_i0 = w2c_l15;
     w2c_i1 = 3u;
     w2c_i0 = w2c_i0 != w2c_i1;
-    if (w2c_i0) {goto w2c_B22;}
+    if (w2c_i0) {goto w2c_B23;}
     w2c_i0 = w2c_l16;
     w2c_j0 = (u64)(w2c_i0);
     w2c_j1 = 255ull;
     w2c_j0 &= w2c_j1;
     w2c_i0 = (u32)(w2c_j0);
     switch (w2c_i0) {
-      case 0: goto w2c_B8;
-      case 1: goto w2c_B8;
-      case 2: goto w2c_B23;
-      case 3: goto w2c_B26;
-      case 4: goto w2c_B24;
-      case 5: goto w2c_B8;
-      case 6: goto w2c_B25;
-      default: goto w2c_B8;
+      case 0: goto w2c_B9;
+      case 1: goto w2c_B9;
+      case 2: goto w2c_B24;
+      case 3: goto w2c_B27;
+      case 4: goto w2c_B25;
+      case 5: goto w2c_B9;
+      case 6: goto w2c_B26;
+      default: goto w2c_B9;
     }
+    w2c_B27:;
+    w2c_i0 = w2c_l9;
+    w2c_i1 = 10u;
+    w2c_i0 *= w2c_i1;
+    w2c_l9 = w2c_i0;
+    goto w2c_B24;
     w2c_B26:;
-    w2c_i0 = w2c_l15;
+    w2c_i0 = w2c_l9;
     w2c_i1 = 10u;
     w2c_i0 *= w2c_i1;
-    w2c_l15 = w2c_i0;
-    goto w2c_B23;
-    w2c_B25:;
-    w2c_i0 = w2c_l15;
-    w2c_i1 = 10u;
-    w2c_i0 *= w2c_i1;
-    w2c_i1 = w2c_l11;
+    w2c_i1 = w2c_l12;
     w2c_i0 += w2c_i1;
-    w2c_l15 = w2c_i0;
-    goto w2c_B23;
-    w2c_B24:;
-    w2c_i0 = w2c_l15;
+    w2c_l9 = w2c_i0;
+    goto w2c_B24;
+    w2c_B25:;
+    w2c_i0 = w2c_l9;
     w2c_i1 = 1u;
     w2c_i0 = w2c_i0 == w2c_i1;
-    if (w2c_i0) {goto w2c_B8;}
-    w2c_B23:;
+    if (w2c_i0) {goto w2c_B9;}
+    w2c_B24:;
     w2c_i0 = 2u;
-    w2c_l13 = w2c_i0;
-    w2c_i0 = w2c_l15;
+    w2c_l14 = w2c_i0;
+    w2c_i0 = w2c_l9;
     w2c_i1 = 255u;
     w2c_i0 &= w2c_i1;
     w2c_i1 = 2u;
     w2c_i0 = w2c_i0 != w2c_i1;
-    if (w2c_i0) {goto w2c_B27;}
+    if (w2c_i0) {goto w2c_B28;}
     w2c_i0 = 1u;
     w2c_l19 = w2c_i0;
     w2c_i0 = 0u;
-    w2c_l11 = w2c_i0;
+    w2c_l12 = w2c_i0;
     w2c_i0 = 2u;
-    w2c_l15 = w2c_i0;
-    w2c_i0 = w2c_l12;
+    w2c_l9 = w2c_i0;
+    w2c_i0 = w2c_l13;
     w2c_i1 = 3u;
     w2c_i0 &= w2c_i1;
     w2c_i0 = !(w2c_i0);
-    if (w2c_i0) {goto w2c_B28;}
+    if (w2c_i0) {goto w2c_B29;}
     w2c_i0 = 28u;
-    w2c_l10 = w2c_i0;
-    goto w2c_B16;
-    w2c_B28:;
+    w2c_l11 = w2c_i0;
+    goto w2c_B17;
+    w2c_B29:;
     w2c_i0 = 29u;
     w2c_i1 = 28u;
     w2c_i2 = 29u;
-    w2c_i3 = w2c_l12;
+    w2c_i3 = w2c_l13;
     w2c_i4 = 65535u;
     w2c_i3 &= w2c_i4;
-    w2c_l14 = w2c_i3;
+    w2c_l15 = w2c_i3;
     w2c_i4 = 400u;
     w2c_i3 = REM_U(w2c_i3, w2c_i4);
     w2c_i1 = w2c_i3 ? w2c_i1 : w2c_i2;
-    w2c_i2 = w2c_l14;
+    w2c_i2 = w2c_l15;
     w2c_i3 = 100u;
     w2c_i2 = REM_U(w2c_i2, w2c_i3);
     w2c_i0 = w2c_i2 ? w2c_i0 : w2c_i1;
-    w2c_l10 = w2c_i0;
-    goto w2c_B16;
-    w2c_B27:;
+    w2c_l11 = w2c_i0;
+    goto w2c_B17;
+    w2c_B28:;
     w2c_i0 = 30u;
     w2c_i1 = 30u;
     w2c_i2 = 31u;
-    w2c_i3 = w2c_l15;
+    w2c_i3 = w2c_l9;
     w2c_i4 = 253u;
     w2c_i3 &= w2c_i4;
-    w2c_l14 = w2c_i3;
+    w2c_l15 = w2c_i3;
     w2c_i4 = 9u;
     w2c_i3 = w2c_i3 == w2c_i4;
     w2c_i1 = w2c_i3 ? w2c_i1 : w2c_i2;
-    w2c_i2 = w2c_l14;
+    w2c_i2 = w2c_l15;
     w2c_i3 = 4u;
     w2c_i2 = w2c_i2 == w2c_i3;
     w2c_i0 = w2c_i2 ? w2c_i0 : w2c_i1;
-    w2c_l10 = w2c_i0;
+    w2c_l11 = w2c_i0;
     w2c_i0 = 1u;
     w2c_l19 = w2c_i0;
     w2c_i0 = 0u;
-    w2c_l11 = w2c_i0;
-    w2c_i0 = w2c_l12;
-    w2c_l14 = w2c_i0;
-    goto w2c_B15;
-    w2c_B22:;
+    w2c_l12 = w2c_i0;
+    w2c_i0 = w2c_l13;
+    w2c_l15 = w2c_i0;
+    goto w2c_B16;
+    w2c_B23:;
     w2c_i0 = w2c_l16;
     w2c_j0 = (u64)(w2c_i0);
     w2c_j1 = 255ull;
     w2c_j0 &= w2c_j1;
     w2c_i0 = (u32)(w2c_j0);
     switch (w2c_i0) {
-      case 0: goto w2c_B36;
-      case 1: goto w2c_B35;
-      case 2: goto w2c_B34;
-      case 3: goto w2c_B8;
-      case 4: goto w2c_B33;
-      case 5: goto w2c_B31;
-      case 6: goto w2c_B8;
-      default: goto w2c_B36;
+      case 0: goto w2c_B37;
+      case 1: goto w2c_B36;
+      case 2: goto w2c_B35;
+      case 3: goto w2c_B9;
+      case 4: goto w2c_B34;
+      case 5: goto w2c_B32;
+      case 6: goto w2c_B9;
+      default: goto w2c_B37;
     }
-    w2c_B36:;
-    w2c_i0 = w2c_l14;
-    if (w2c_i0) {goto w2c_B8;}
+    w2c_B37:;
+    w2c_i0 = w2c_l15;
+    if (w2c_i0) {goto w2c_B9;}
     w2c_i0 = 0u;
-    w2c_l15 = w2c_i0;
+    w2c_l9 = w2c_i0;
     w2c_i0 = 1u;
     w2c_l20 = w2c_i0;
     w2c_i0 = w2c_l17;
     w2c_l16 = w2c_i0;
     w2c_i0 = 0u;
-    w2c_l10 = w2c_i0;
-    w2c_i0 = 0u;
     w2c_l11 = w2c_i0;
     w2c_i0 = 0u;
-    w2c_l14 = w2c_i0;
+    w2c_l12 = w2c_i0;
     w2c_i0 = 0u;
-    w2c_l13 = w2c_i0;
+    w2c_l15 = w2c_i0;
+    w2c_i0 = 0u;
+    w2c_l14 = w2c_i0;
     w2c_i0 = 0u;
     w2c_l19 = w2c_i0;
     w2c_i0 = w2c_l17;
     switch (w2c_i0) {
-      case 0: goto w2c_B29;
-      case 1: goto w2c_B30;
-      case 2: goto w2c_B15;
-      default: goto w2c_B30;
+      case 0: goto w2c_B30;
+      case 1: goto w2c_B31;
+      case 2: goto w2c_B16;
+      default: goto w2c_B31;
     }
-    w2c_B35:;
-    w2c_i0 = w2c_l14;
-    if (w2c_i0) {goto w2c_B8;}
+    w2c_B36:;
+    w2c_i0 = w2c_l15;
+    if (w2c_i0) {goto w2c_B9;}
     w2c_i0 = w2c_l17;
     w2c_i0 = !(w2c_i0);
-    if (w2c_i0) {goto w2c_B8;}
+    if (w2c_i0) {goto w2c_B9;}
     w2c_i0 = 0u;
     w2c_l16 = w2c_i0;
     w2c_i0 = 2u;
     w2c_l20 = w2c_i0;
     w2c_i0 = w2c_l18;
     w2c_l17 = w2c_i0;
-    goto w2c_B29;
-    w2c_B34:;
-    w2c_i0 = w2c_l14;
-    w2c_i1 = 1u;
-    w2c_i0 = w2c_i0 != w2c_i1;
-    if (w2c_i0) {goto w2c_B8;}
-    w2c_i0 = 3u;
-    w2c_l20 = w2c_i0;
-    goto w2c_B32;
-    w2c_B33:;
-    w2c_i0 = w2c_l14;
-    w2c_i1 = 1u;
-    w2c_i0 = w2c_i0 != w2c_i1;
-    if (w2c_i0) {goto w2c_B8;}
-    w2c_i0 = 5u;
-    w2c_l20 = w2c_i0;
-    w2c_B32:;
-    w2c_i0 = 1u;
-    w2c_l17 = w2c_i0;
+    goto w2c_B30;
+    w2c_B35:;
     w2c_i0 = w2c_l15;
     w2c_i1 = 1u;
+    w2c_i0 = w2c_i0 != w2c_i1;
+    if (w2c_i0) {goto w2c_B9;}
+    w2c_i0 = 3u;
+    w2c_l20 = w2c_i0;
+    goto w2c_B33;
+    w2c_B34:;
+    w2c_i0 = w2c_l15;
+    w2c_i1 = 1u;
+    w2c_i0 = w2c_i0 != w2c_i1;
+    if (w2c_i0) {goto w2c_B9;}
+    w2c_i0 = 5u;
+    w2c_l20 = w2c_i0;
+    w2c_B33:;
+    w2c_i0 = 1u;
+    w2c_l17 = w2c_i0;
+    w2c_i0 = w2c_l9;
+    w2c_i1 = 1u;
     w2c_i0 = w2c_i0 == w2c_i1;
-    w2c_l9 = w2c_i0;
+    w2c_l10 = w2c_i0;
     w2c_i0 = 0u;
     w2c_l16 = w2c_i0;
     w2c_i0 = 0u;
-    w2c_l15 = w2c_i0;
-    w2c_i0 = 0u;
-    w2c_l10 = w2c_i0;
+    w2c_l9 = w2c_i0;
     w2c_i0 = 0u;
     w2c_l11 = w2c_i0;
     w2c_i0 = 0u;
+    w2c_l12 = w2c_i0;
+    w2c_i0 = 0u;
+    w2c_l15 = w2c_i0;
+    w2c_i0 = 0u;
     w2c_l14 = w2c_i0;
     w2c_i0 = 0u;
-    w2c_l13 = w2c_i0;
-    w2c_i0 = 0u;
     w2c_l19 = w2c_i0;
-    w2c_i0 = w2c_l9;
-    if (w2c_i0) {goto w2c_B29;}
-    goto w2c_B15;
-    w2c_B31:;
-    w2c_i0 = w2c_l14;
-    if (w2c_i0) {goto w2c_B8;}
+    w2c_i0 = w2c_l10;
+    if (w2c_i0) {goto w2c_B30;}
+    goto w2c_B16;
+    w2c_B32:;
+    w2c_i0 = w2c_l15;
+    if (w2c_i0) {goto w2c_B9;}
     w2c_i0 = w2c_l17;
     w2c_i0 = !(w2c_i0);
-    if (w2c_i0) {goto w2c_B8;}
-    w2c_i0 = w2c_l15;
+    if (w2c_i0) {goto w2c_B9;}
+    w2c_i0 = w2c_l9;
     w2c_i1 = 1u;
     w2c_i0 = w2c_i0 != w2c_i1;
-    w2c_l14 = w2c_i0;
+    w2c_l15 = w2c_i0;
+    w2c_i0 = 0u;
+    w2c_l9 = w2c_i0;
+    w2c_i0 = w2c_l15;
+    w2c_i0 = !(w2c_i0);
+    if (w2c_i0) {goto w2c_B38;}
+    w2c_i0 = 0u;
+    w2c_l11 = w2c_i0;
+    w2c_i0 = 0u;
+    w2c_l12 = w2c_i0;
     w2c_i0 = 0u;
     w2c_l15 = w2c_i0;
-    w2c_i0 = w2c_l14;
-    w2c_i0 = !(w2c_i0);
-    if (w2c_i0) {goto w2c_B37;}
-    w2c_i0 = 0u;
-    w2c_l10 = w2c_i0;
-    w2c_i0 = 0u;
-    w2c_l11 = w2c_i0;
     w2c_i0 = 0u;
     w2c_l14 = w2c_i0;
-    w2c_i0 = 0u;
-    w2c_l13 = w2c_i0;
     w2c_i0 = 0u;
     w2c_l19 = w2c_i0;
-    goto w2c_B15;
-    w2c_B37:;
-    w2c_i0 = 0u;
-    w2c_l10 = w2c_i0;
+    goto w2c_B16;
+    w2c_B38:;
     w2c_i0 = 0u;
     w2c_l11 = w2c_i0;
     w2c_i0 = 0u;
-    w2c_l14 = w2c_i0;
+    w2c_l12 = w2c_i0;
     w2c_i0 = 0u;
-    w2c_l13 = w2c_i0;
+    w2c_l15 = w2c_i0;
+    w2c_i0 = 0u;
+    w2c_l14 = w2c_i0;
     w2c_i0 = 0u;
     w2c_l19 = w2c_i0;
     w2c_i0 = w2c_l17;
     w2c_i1 = 3u;
     w2c_i0 = w2c_i0 >= w2c_i1;
-    if (w2c_i0) {goto w2c_B15;}
+    if (w2c_i0) {goto w2c_B16;}
     w2c_i0 = 6u;
     w2c_l20 = w2c_i0;
     w2c_i0 = 1u;
     w2c_l17 = w2c_i0;
     w2c_i0 = w2c_l18;
     w2c_l16 = w2c_i0;
-    goto w2c_B29;
-    w2c_B30:;
+    goto w2c_B30;
+    w2c_B31:;
     w2c_i0 = 0u;
     w2c_l16 = w2c_i0;
     w2c_i0 = 4u;
     w2c_l20 = w2c_i0;
-    w2c_B29:;
+    w2c_B30:;
     w2c_i0 = 1u;
-    w2c_l13 = w2c_i0;
-    w2c_i0 = w2c_l20;
-    w2c_l15 = w2c_i0;
-    w2c_i0 = w2c_l17;
-    w2c_l10 = w2c_i0;
-    w2c_i0 = w2c_l16;
-    w2c_l11 = w2c_i0;
-    w2c_i0 = w2c_l12;
     w2c_l14 = w2c_i0;
+    w2c_i0 = w2c_l20;
+    w2c_l9 = w2c_i0;
+    w2c_i0 = w2c_l17;
+    w2c_l11 = w2c_i0;
+    w2c_i0 = w2c_l16;
+    w2c_l12 = w2c_i0;
+    w2c_i0 = w2c_l13;
+    w2c_l15 = w2c_i0;
     w2c_i0 = 1u;
     w2c_l19 = w2c_i0;
-    goto w2c_B15;
-    w2c_B17:;
-    w2c_i0 = w2c_l14;
+    goto w2c_B16;
+    w2c_B18:;
+    w2c_i0 = w2c_l15;
     w2c_i1 = 4u;
     w2c_i0 = w2c_i0 != w2c_i1;
-    if (w2c_i0) {goto w2c_B40;}
-    w2c_i0 = w2c_l11;
+    if (w2c_i0) {goto w2c_B41;}
+    w2c_i0 = w2c_l12;
     w2c_j0 = (u64)(w2c_i0);
     w2c_p0 = w2c_j0;
     w2c_i0 = 1u;
     w2c_l19 = w2c_i0;
     w2c_i0 = 3u;
-    w2c_l13 = w2c_i0;
-    w2c_i0 = 0u;
-    w2c_l11 = w2c_i0;
-    w2c_i0 = w2c_l12;
     w2c_l14 = w2c_i0;
+    w2c_i0 = 0u;
+    w2c_l12 = w2c_i0;
+    w2c_i0 = w2c_l13;
+    w2c_l15 = w2c_i0;
     w2c_i0 = w2c_l16;
     w2c_l18 = w2c_i0;
     w2c_i0 = 0u;
@@ -47455,213 +47912,213 @@ static u32 w2c_f67(module *m, u64 w2c_p0, u64 w2c_p1, u64 w2c_p2) {
     w2c_j0 &= w2c_j1;
     w2c_i0 = (u32)(w2c_j0);
     switch (w2c_i0) {
-      case 0: goto w2c_B8;
-      case 1: goto w2c_B8;
-      case 2: goto w2c_B38;
-      case 3: goto w2c_B42;
-      case 4: goto w2c_B8;
-      case 5: goto w2c_B8;
-      case 6: goto w2c_B41;
-      default: goto w2c_B8;
+      case 0: goto w2c_B9;
+      case 1: goto w2c_B9;
+      case 2: goto w2c_B39;
+      case 3: goto w2c_B43;
+      case 4: goto w2c_B9;
+      case 5: goto w2c_B9;
+      case 6: goto w2c_B42;
+      default: goto w2c_B9;
     }
-    w2c_B42:;
-    w2c_i0 = w2c_l10;
-    w2c_i1 = 10u;
-    w2c_i0 *= w2c_i1;
-    w2c_l10 = w2c_i0;
-    goto w2c_B39;
-    w2c_B41:;
-    w2c_i0 = w2c_l10;
-    w2c_i1 = 10u;
-    w2c_i0 *= w2c_i1;
-    w2c_i1 = w2c_l9;
-    w2c_i0 += w2c_i1;
-    w2c_l10 = w2c_i0;
-    goto w2c_B39;
-    w2c_B40:;
+    w2c_B43:;
     w2c_i0 = w2c_l11;
+    w2c_i1 = 10u;
+    w2c_i0 *= w2c_i1;
+    w2c_l11 = w2c_i0;
+    goto w2c_B40;
+    w2c_B42:;
+    w2c_i0 = w2c_l11;
+    w2c_i1 = 10u;
+    w2c_i0 *= w2c_i1;
+    w2c_i1 = w2c_l10;
+    w2c_i0 += w2c_i1;
+    w2c_l11 = w2c_i0;
+    goto w2c_B40;
+    w2c_B41:;
+    w2c_i0 = w2c_l12;
     w2c_j0 = (u64)(w2c_i0);
     w2c_j1 = 255ull;
     w2c_j0 &= w2c_j1;
     w2c_i0 = (u32)(w2c_j0);
     switch (w2c_i0) {
-      case 0: goto w2c_B51;
-      case 1: goto w2c_B50;
-      case 2: goto w2c_B45;
-      case 3: goto w2c_B8;
-      case 4: goto w2c_B49;
-      case 5: goto w2c_B47;
-      case 6: goto w2c_B8;
-      default: goto w2c_B51;
+      case 0: goto w2c_B52;
+      case 1: goto w2c_B51;
+      case 2: goto w2c_B46;
+      case 3: goto w2c_B9;
+      case 4: goto w2c_B50;
+      case 5: goto w2c_B48;
+      case 6: goto w2c_B9;
+      default: goto w2c_B52;
     }
-    w2c_B51:;
-    w2c_i0 = w2c_l14;
-    if (w2c_i0) {goto w2c_B8;}
+    w2c_B52:;
+    w2c_i0 = w2c_l15;
+    if (w2c_i0) {goto w2c_B9;}
     w2c_i0 = w2c_l17;
     w2c_i0 = !(w2c_i0);
-    if (w2c_i0) {goto w2c_B46;}
+    if (w2c_i0) {goto w2c_B47;}
     w2c_i0 = 4u;
     w2c_l21 = w2c_i0;
     w2c_i0 = w2c_l18;
-    w2c_l9 = w2c_i0;
-    goto w2c_B48;
-    w2c_B50:;
-    w2c_i0 = w2c_l14;
-    if (w2c_i0) {goto w2c_B8;}
+    w2c_l10 = w2c_i0;
+    goto w2c_B49;
+    w2c_B51:;
+    w2c_i0 = w2c_l15;
+    if (w2c_i0) {goto w2c_B9;}
     w2c_i0 = w2c_l17;
     w2c_i0 = !(w2c_i0);
-    if (w2c_i0) {goto w2c_B8;}
+    if (w2c_i0) {goto w2c_B9;}
     w2c_i0 = 0u;
     w2c_l20 = w2c_i0;
     w2c_i0 = 2u;
     w2c_l21 = w2c_i0;
     w2c_i0 = w2c_l18;
-    w2c_l9 = w2c_i0;
-    goto w2c_B43;
-    w2c_B49:;
-    w2c_i0 = w2c_l14;
+    w2c_l10 = w2c_i0;
+    goto w2c_B44;
+    w2c_B50:;
+    w2c_i0 = w2c_l15;
     w2c_i1 = 1u;
     w2c_i0 = w2c_i0 != w2c_i1;
-    if (w2c_i0) {goto w2c_B8;}
+    if (w2c_i0) {goto w2c_B9;}
     w2c_i0 = 5u;
     w2c_l21 = w2c_i0;
-    w2c_i0 = w2c_l10;
-    w2c_l9 = w2c_i0;
-    w2c_B48:;
+    w2c_i0 = w2c_l11;
+    w2c_l10 = w2c_i0;
+    w2c_B49:;
     w2c_i0 = 0u;
     w2c_l20 = w2c_i0;
     w2c_i0 = 0u;
-    w2c_l14 = w2c_i0;
+    w2c_l15 = w2c_i0;
     w2c_i0 = 0u;
     w2c_l18 = w2c_i0;
     w2c_i0 = 0u;
-    w2c_l10 = w2c_i0;
-    w2c_i0 = 0u;
     w2c_l11 = w2c_i0;
+    w2c_i0 = 0u;
+    w2c_l12 = w2c_i0;
     w2c_i0 = 0u;
     w2c_l17 = w2c_i0;
     w2c_i0 = 0u;
-    w2c_l13 = w2c_i0;
+    w2c_l14 = w2c_i0;
     w2c_i0 = 0u;
     w2c_l19 = w2c_i0;
-    w2c_i0 = w2c_l9;
+    w2c_i0 = w2c_l10;
     w2c_i1 = 10u;
     w2c_i0 *= w2c_i1;
     w2c_i1 = 254u;
     w2c_i0 &= w2c_i1;
-    w2c_i1 = w2c_l15;
+    w2c_i1 = w2c_l9;
     w2c_i0 = w2c_i0 < w2c_i1;
-    if (w2c_i0) {goto w2c_B43;}
-    goto w2c_B38;
-    w2c_B47:;
-    w2c_i0 = w2c_l14;
-    if (w2c_i0) {goto w2c_B8;}
+    if (w2c_i0) {goto w2c_B44;}
+    goto w2c_B39;
+    w2c_B48:;
+    w2c_i0 = w2c_l15;
+    if (w2c_i0) {goto w2c_B9;}
     w2c_i0 = w2c_l17;
     w2c_i0 = !(w2c_i0);
-    if (w2c_i0) {goto w2c_B8;}
+    if (w2c_i0) {goto w2c_B9;}
     w2c_i0 = w2c_l17;
-    w2c_i1 = w2c_l10;
+    w2c_i1 = w2c_l11;
     w2c_i2 = 10u;
     w2c_i1 *= w2c_i2;
     w2c_i0 += w2c_i1;
     w2c_i1 = 255u;
     w2c_i0 &= w2c_i1;
-    w2c_i1 = w2c_l15;
+    w2c_i1 = w2c_l9;
     w2c_i0 = w2c_i0 > w2c_i1;
-    if (w2c_i0) {goto w2c_B52;}
+    if (w2c_i0) {goto w2c_B53;}
     w2c_i0 = 6u;
     w2c_l21 = w2c_i0;
-    w2c_i0 = w2c_l10;
-    w2c_l9 = w2c_i0;
+    w2c_i0 = w2c_l11;
+    w2c_l10 = w2c_i0;
     w2c_i0 = w2c_l18;
     w2c_l20 = w2c_i0;
-    goto w2c_B43;
-    w2c_B52:;
+    goto w2c_B44;
+    w2c_B53:;
     w2c_i0 = 0u;
-    w2c_l14 = w2c_i0;
+    w2c_l15 = w2c_i0;
     w2c_i0 = 0u;
     w2c_l18 = w2c_i0;
     w2c_i0 = 0u;
-    w2c_l10 = w2c_i0;
-    w2c_i0 = 0u;
     w2c_l11 = w2c_i0;
     w2c_i0 = 0u;
+    w2c_l12 = w2c_i0;
+    w2c_i0 = 0u;
     w2c_l17 = w2c_i0;
+    w2c_i0 = 0u;
+    w2c_l20 = w2c_i0;
+    goto w2c_B45;
+    w2c_B47:;
+    w2c_i0 = 0u;
+    w2c_l10 = w2c_i0;
+    w2c_i0 = 1u;
+    w2c_l21 = w2c_i0;
     w2c_i0 = 0u;
     w2c_l20 = w2c_i0;
     goto w2c_B44;
     w2c_B46:;
-    w2c_i0 = 0u;
-    w2c_l9 = w2c_i0;
-    w2c_i0 = 1u;
-    w2c_l21 = w2c_i0;
-    w2c_i0 = 0u;
-    w2c_l20 = w2c_i0;
-    goto w2c_B43;
-    w2c_B45:;
-    w2c_i0 = w2c_l14;
+    w2c_i0 = w2c_l15;
     w2c_i1 = 1u;
     w2c_i0 = w2c_i0 != w2c_i1;
-    if (w2c_i0) {goto w2c_B8;}
+    if (w2c_i0) {goto w2c_B9;}
     w2c_i0 = 0u;
     w2c_l20 = w2c_i0;
-    w2c_i0 = w2c_l10;
+    w2c_i0 = w2c_l11;
     w2c_i1 = 10u;
     w2c_i0 *= w2c_i1;
     w2c_i1 = 254u;
     w2c_i0 &= w2c_i1;
-    w2c_i1 = w2c_l15;
+    w2c_i1 = w2c_l9;
     w2c_i0 = w2c_i0 > w2c_i1;
-    if (w2c_i0) {goto w2c_B53;}
+    if (w2c_i0) {goto w2c_B54;}
     w2c_i0 = 3u;
     w2c_l21 = w2c_i0;
-    w2c_i0 = w2c_l10;
-    w2c_l9 = w2c_i0;
-    goto w2c_B43;
-    w2c_B53:;
+    w2c_i0 = w2c_l11;
+    w2c_l10 = w2c_i0;
+    goto w2c_B44;
+    w2c_B54:;
     w2c_i0 = 0u;
-    w2c_l14 = w2c_i0;
+    w2c_l15 = w2c_i0;
     w2c_i0 = 0u;
     w2c_l18 = w2c_i0;
     w2c_i0 = 0u;
-    w2c_l10 = w2c_i0;
-    w2c_i0 = 0u;
     w2c_l11 = w2c_i0;
     w2c_i0 = 0u;
-    w2c_l17 = w2c_i0;
-    w2c_B44:;
+    w2c_l12 = w2c_i0;
     w2c_i0 = 0u;
-    w2c_l13 = w2c_i0;
+    w2c_l17 = w2c_i0;
+    w2c_B45:;
+    w2c_i0 = 0u;
+    w2c_l14 = w2c_i0;
     w2c_i0 = 0u;
     w2c_l19 = w2c_i0;
-    goto w2c_B38;
-    w2c_B43:;
+    goto w2c_B39;
+    w2c_B44:;
     w2c_i0 = 1u;
     w2c_l19 = w2c_i0;
     w2c_i0 = 2u;
-    w2c_l13 = w2c_i0;
-    w2c_i0 = w2c_l12;
     w2c_l14 = w2c_i0;
+    w2c_i0 = w2c_l13;
+    w2c_l15 = w2c_i0;
     w2c_i0 = w2c_l16;
     w2c_l18 = w2c_i0;
-    w2c_i0 = w2c_l15;
-    w2c_l10 = w2c_i0;
-    w2c_i0 = w2c_l21;
-    w2c_l11 = w2c_i0;
     w2c_i0 = w2c_l9;
+    w2c_l11 = w2c_i0;
+    w2c_i0 = w2c_l21;
+    w2c_l12 = w2c_i0;
+    w2c_i0 = w2c_l10;
     w2c_l17 = w2c_i0;
-    goto w2c_B38;
-    w2c_B39:;
-    w2c_i0 = w2c_l12;
-    w2c_l14 = w2c_i0;
+    goto w2c_B39;
+    w2c_B40:;
+    w2c_i0 = w2c_l13;
+    w2c_l15 = w2c_i0;
     w2c_i0 = w2c_l16;
     w2c_l18 = w2c_i0;
     w2c_i0 = 0u;
     w2c_l17 = w2c_i0;
     w2c_i0 = 0u;
     w2c_l20 = w2c_i0;
-    w2c_B38:;
-    w2c_i0 = w2c_l10;
+    w2c_B39:;
+    w2c_i0 = w2c_l11;
     w2c_i1 = 255u;
     w2c_i0 &= w2c_i1;
     w2c_i1 = 8u;
@@ -47670,59 +48127,59 @@ static u32 w2c_f67(module *m, u64 w2c_p0, u64 w2c_p1, u64 w2c_p2) {
     w2c_i2 = 255u;
     w2c_i1 &= w2c_i2;
     w2c_i0 |= w2c_i1;
+    w2c_l9 = w2c_i0;
+    goto w2c_B15;
+    w2c_B17:;
+    w2c_i0 = w2c_l13;
     w2c_l15 = w2c_i0;
-    goto w2c_B14;
-    w2c_B16:;
-    w2c_i0 = w2c_l12;
-    w2c_l14 = w2c_i0;
     w2c_i0 = 2u;
-    w2c_l13 = w2c_i0;
-    w2c_B15:;
-    w2c_i0 = w2c_l10;
+    w2c_l14 = w2c_i0;
+    w2c_B16:;
+    w2c_i0 = w2c_l11;
     w2c_i1 = 8u;
     w2c_i0 <<= (w2c_i1 & 31);
-    w2c_i1 = w2c_l15;
+    w2c_i1 = w2c_l9;
     w2c_i2 = 255u;
     w2c_i1 &= w2c_i2;
     w2c_i0 |= w2c_i1;
-    w2c_l15 = w2c_i0;
+    w2c_l9 = w2c_i0;
     w2c_i0 = 0u;
     w2c_l17 = w2c_i0;
     w2c_i0 = 0u;
     w2c_l20 = w2c_i0;
-    w2c_B14:;
+    w2c_B15:;
     w2c_i0 = w2c_l20;
-    w2c_l9 = w2c_i0;
-    w2c_i0 = w2c_l17;
     w2c_l10 = w2c_i0;
+    w2c_i0 = w2c_l17;
+    w2c_l11 = w2c_i0;
     w2c_i0 = w2c_l19;
     w2c_i0 = !(w2c_i0);
-    if (w2c_i0) {goto w2c_B8;}
-    w2c_B13:;
+    if (w2c_i0) {goto w2c_B9;}
+    w2c_B14:;
     w2c_j0 = w2c_l7;
     w2c_j1 = w2c_l8;
     w2c_j0 += w2c_j1;
     w2c_l7 = w2c_j0;
-    w2c_i0 = w2c_l15;
+    w2c_i0 = w2c_l9;
     w2c_i1 = 16u;
     w2c_i0 <<= (w2c_i1 & 31);
-    w2c_i1 = w2c_l14;
+    w2c_i1 = w2c_l15;
     w2c_i2 = 65535u;
     w2c_i1 &= w2c_i2;
-    w2c_l14 = w2c_i1;
+    w2c_l15 = w2c_i1;
     w2c_i0 |= w2c_i1;
-    w2c_l12 = w2c_i0;
-    w2c_j0 = w2c_l4;
+    w2c_l13 = w2c_i0;
+    w2c_j0 = w2c_l3;
     w2c_j1 = 1ull;
     w2c_j0 += w2c_j1;
-    w2c_l4 = w2c_j0;
+    w2c_l3 = w2c_j0;
     w2c_j0 = w2c_l6;
     w2c_j1 = w2c_l8;
     w2c_j0 -= w2c_j1;
     w2c_l6 = w2c_j0;
     w2c_j1 = 0ull;
     w2c_i0 = w2c_j0 != w2c_j1;
-    if (w2c_i0) {goto w2c_L9;}
+    if (w2c_i0) {goto w2c_L10;}
   w2c_j0 = w2c_p2;
   w2c_i0 = (u32)(w2c_j0);
   w2c_j1 = 0ull;
@@ -47739,15 +48196,14 @@ static u32 w2c_f67(module *m, u64 w2c_p0, u64 w2c_p1, u64 w2c_p2) {
   w2c_i0 = (u32)(w2c_j0);
   w2c_j1 = 0ull;
   i64_store(m, (u64)(w2c_i0), w2c_j1);
-  w2c_i0 = w2c_l13;
+  w2c_i0 = w2c_l14;
   w2c_i1 = 3u;
   w2c_i0 = w2c_i0 == w2c_i1;
-  if (w2c_i0) {goto w2c_B7;}
-  w2c_j0 = w2c_l3;
-  m->w2c_g0 = w2c_j0;
+  if (w2c_i0) {goto w2c_B8;}
   w2c_i0 = 9u;
-  goto w2c_Bfunc;
-  w2c_B8:;
+  w2c_l9 = w2c_i0;
+  goto w2c_B0;
+  w2c_B9:;
   w2c_j0 = 0ull;
   w2c_p0 = w2c_j0;
   w2c_j0 = w2c_p2;
@@ -47764,21 +48220,37 @@ static u32 w2c_f67(module *m, u64 w2c_p0, u64 w2c_p1, u64 w2c_p2) {
   i64_store(m, (u64)(w2c_i0), w2c_j1);
   w2c_j0 = w2c_p2;
   w2c_i0 = (u32)(w2c_j0);
-  w2c_j1 = w2c_l4;
+  w2c_j1 = w2c_l3;
   i64_store(m, (u64)(w2c_i0) + 16, w2c_j1);
+  w2c_j0 = w2c_l3;
+  w2c_j1 = 16ull;
+  w2c_i0 = w2c_j0 < w2c_j1;
+  if (w2c_i0) {goto w2c_B55;}
   w2c_j0 = w2c_l4;
+  w2c_j1 = w2c_l5;
+  w2c_j2 = w2c_p1;
+  w2c_j3 = w2c_l3;
+  w2c_f14(m, w2c_j0, w2c_j1, w2c_j2, w2c_j3);
+  w2c_j0 = w2c_l4;
+  w2c_i0 = (u32)(w2c_j0);
+  w2c_j0 = i64_load(m, (u64)(w2c_i0) + 8u);
+  w2c_l3 = w2c_j0;
+  w2c_j0 = w2c_l4;
+  w2c_i0 = (u32)(w2c_j0);
+  w2c_j0 = i64_load(m, (u64)(w2c_i0));
+  w2c_p0 = w2c_j0;
+  w2c_B55:;
+  w2c_j0 = w2c_l3;
   w2c_j1 = 3ull;
   w2c_i0 = w2c_j0 < w2c_j1;
-  if (w2c_i0) {goto w2c_B54;}
-  w2c_j0 = 0ull;
-  w2c_p0 = w2c_j0;
-  w2c_L55:
+  if (w2c_i0) {goto w2c_B56;}
+  w2c_L57:
     w2c_j0 = w2c_p1;
     w2c_j1 = w2c_p0;
     w2c_j0 -= w2c_j1;
     w2c_j1 = 8ull;
     w2c_i0 = w2c_j0 < w2c_j1;
-    if (w2c_i0) {goto w2c_B54;}
+    if (w2c_i0) {goto w2c_B56;}
     w2c_j0 = w2c_l5;
     w2c_j1 = w2c_p0;
     w2c_j0 += w2c_j1;
@@ -47789,53 +48261,53 @@ static u32 w2c_f67(module *m, u64 w2c_p0, u64 w2c_p1, u64 w2c_p2) {
     w2c_j0 &= w2c_j1;
     w2c_j1 = 63050398541283552ull;
     w2c_i0 = w2c_j0 != w2c_j1;
-    if (w2c_i0) {goto w2c_B57;}
-    w2c_j0 = w2c_l4;
+    if (w2c_i0) {goto w2c_B59;}
+    w2c_j0 = w2c_l3;
     w2c_j1 = 18446744073709551613ull;
     w2c_j0 += w2c_j1;
-    w2c_l4 = w2c_j0;
+    w2c_l3 = w2c_j0;
     w2c_j0 = w2c_p0;
     w2c_j1 = 9ull;
     w2c_j0 += w2c_j1;
     w2c_p0 = w2c_j0;
-    goto w2c_B56;
-    w2c_B57:;
-    w2c_j0 = w2c_l4;
+    goto w2c_B58;
+    w2c_B59:;
+    w2c_j0 = w2c_l3;
     w2c_j1 = 8ull;
     w2c_i0 = w2c_j0 < w2c_j1;
-    if (w2c_i0) {goto w2c_B54;}
+    if (w2c_i0) {goto w2c_B56;}
     w2c_j0 = w2c_l7;
     w2c_j1 = 9259542123273814144ull;
     w2c_j0 &= w2c_j1;
     w2c_j1 = 0ull;
     w2c_i0 = w2c_j0 != w2c_j1;
-    if (w2c_i0) {goto w2c_B54;}
-    w2c_j0 = w2c_l4;
+    if (w2c_i0) {goto w2c_B56;}
+    w2c_j0 = w2c_l3;
     w2c_j1 = 18446744073709551608ull;
     w2c_j0 += w2c_j1;
-    w2c_l4 = w2c_j0;
+    w2c_l3 = w2c_j0;
     w2c_j0 = w2c_p0;
     w2c_j1 = 8ull;
     w2c_j0 += w2c_j1;
     w2c_p0 = w2c_j0;
-    w2c_B56:;
-    w2c_j0 = w2c_l4;
+    w2c_B58:;
+    w2c_j0 = w2c_l3;
     w2c_j1 = 2ull;
     w2c_i0 = w2c_j0 > w2c_j1;
-    if (w2c_i0) {goto w2c_L55;}
-  w2c_B54:;
+    if (w2c_i0) {goto w2c_L57;}
+  w2c_B56:;
+  w2c_j0 = w2c_l3;
+  w2c_i0 = !(w2c_j0);
+  if (w2c_i0) {goto w2c_B60;}
   w2c_j0 = w2c_p1;
   w2c_j1 = w2c_p0;
   w2c_i0 = w2c_j0 <= w2c_j1;
-  if (w2c_i0) {goto w2c_B58;}
-  w2c_j0 = w2c_l4;
-  w2c_i0 = !(w2c_j0);
-  if (w2c_i0) {goto w2c_B58;}
-  w2c_j0 = w2c_l4;
+  if (w2c_i0) {goto w2c_B60;}
+  w2c_j0 = w2c_l3;
   w2c_j1 = 18446744073709551615ull;
   w2c_j0 += w2c_j1;
-  w2c_l4 = w2c_j0;
-  w2c_L59:
+  w2c_l3 = w2c_j0;
+  w2c_L61:
     w2c_j0 = w2c_l5;
     w2c_j1 = w2c_p0;
     w2c_j0 += w2c_j1;
@@ -47853,50 +48325,48 @@ static u32 w2c_f67(module *m, u64 w2c_p0, u64 w2c_p1, u64 w2c_p2) {
     w2c_j1 = w2c_p0;
     w2c_j0 += w2c_j1;
     w2c_p0 = w2c_j0;
-    w2c_j0 = w2c_l4;
+    w2c_j0 = w2c_l3;
     w2c_i0 = !(w2c_j0);
-    if (w2c_i0) {goto w2c_B58;}
-    w2c_j0 = w2c_l4;
+    if (w2c_i0) {goto w2c_B60;}
+    w2c_j0 = w2c_l3;
     w2c_j1 = 18446744073709551615ull;
     w2c_j0 += w2c_j1;
-    w2c_l4 = w2c_j0;
+    w2c_l3 = w2c_j0;
     w2c_j0 = w2c_p1;
     w2c_j1 = w2c_p0;
     w2c_i0 = w2c_j0 > w2c_j1;
-    if (w2c_i0) {goto w2c_L59;}
-  w2c_B58:;
+    if (w2c_i0) {goto w2c_L61;}
+  w2c_B60:;
   w2c_j0 = w2c_p2;
   w2c_i0 = (u32)(w2c_j0);
   w2c_j1 = w2c_p0;
   i64_store(m, (u64)(w2c_i0) + 24, w2c_j1);
-  w2c_j0 = w2c_l3;
-  m->w2c_g0 = w2c_j0;
   w2c_i0 = 2u;
-  goto w2c_Bfunc;
-  w2c_B7:;
-  w2c_j0 = w2c_p2;
-  w2c_i0 = (u32)(w2c_j0);
-  w2c_i1 = w2c_l14;
-  i32_store(m, (u64)(w2c_i0), w2c_i1);
+  w2c_l9 = w2c_i0;
+  goto w2c_B0;
+  w2c_B8:;
   w2c_j0 = w2c_p2;
   w2c_i0 = (u32)(w2c_j0);
   w2c_i1 = w2c_l15;
+  i32_store(m, (u64)(w2c_i0), w2c_i1);
+  w2c_j0 = w2c_p2;
+  w2c_i0 = (u32)(w2c_j0);
+  w2c_i1 = w2c_l9;
   w2c_i2 = 8u;
   w2c_i1 >>= (w2c_i2 & 31);
   i32_store(m, (u64)(w2c_i0) + 8, w2c_i1);
   w2c_j0 = w2c_p2;
   w2c_i0 = (u32)(w2c_j0);
-  w2c_i1 = w2c_l15;
+  w2c_i1 = w2c_l9;
   w2c_i2 = 255u;
   w2c_i1 &= w2c_i2;
   i32_store(m, (u64)(w2c_i0) + 4, w2c_i1);
-  w2c_j0 = w2c_l3;
-  m->w2c_g0 = w2c_j0;
   w2c_i0 = 0u;
-  goto w2c_Bfunc;
-  w2c_B1:;
+  w2c_l9 = w2c_i0;
+  goto w2c_B0;
+  w2c_B2:;
   UNREACHABLE;
-  w2c_B0:;
+  w2c_B1:;
   w2c_j0 = w2c_p2;
   w2c_i0 = (u32)(w2c_j0);
   w2c_j1 = 0ull;
@@ -47913,10 +48383,14 @@ static u32 w2c_f67(module *m, u64 w2c_p0, u64 w2c_p1, u64 w2c_p2) {
   w2c_i0 = (u32)(w2c_j0);
   w2c_j1 = 0ull;
   i64_store(m, (u64)(w2c_i0), w2c_j1);
-  w2c_j0 = w2c_l3;
-  m->w2c_g0 = w2c_j0;
   w2c_i0 = 9u;
-  w2c_Bfunc:;
+  w2c_l9 = w2c_i0;
+  w2c_B0:;
+  w2c_j0 = w2c_l4;
+  w2c_j1 = 16ull;
+  w2c_j0 += w2c_j1;
+  m->w2c_g0 = w2c_j0;
+  w2c_i0 = w2c_l9;
   return w2c_i0;
 }
 
@@ -47935,14 +48409,14 @@ static u32 w2c_chinese_amount_print(module *m, u64 w2c_p0, u32 w2c_p1, u32 w2c_p
   w2c_j3 = w2c_p3;
   w2c_j4 = w2c_p4;
   w2c_j5 = w2c_p5;
-  w2c_i0 = w2c_f69(m, w2c_j0, w2c_i1, w2c_i2, w2c_j3, w2c_j4, w2c_j5);
+  w2c_i0 = w2c_f71(m, w2c_j0, w2c_i1, w2c_i2, w2c_j3, w2c_j4, w2c_j5);
   w2c_p2 = w2c_i0;
   w2c_f1(m);
   w2c_i0 = w2c_p2;
   return w2c_i0;
 }
 
-static u32 w2c_f69(module *m, u64 w2c_p0, u32 w2c_p1, u32 w2c_p2, u64 w2c_p3, u64 w2c_p4, u64 w2c_p5) {
+static u32 w2c_f71(module *m, u64 w2c_p0, u32 w2c_p1, u32 w2c_p2, u64 w2c_p3, u64 w2c_p4, u64 w2c_p5) {
   u64 w2c_l6 = 0;
   u32 w2c_i0, w2c_i1, w2c_i2, w2c_i6;
   u64 w2c_j0, w2c_j1, w2c_j2, w2c_j3, w2c_j4, w2c_j5, w2c_j6;
@@ -47994,7 +48468,7 @@ static u32 w2c_f69(module *m, u64 w2c_p0, u32 w2c_p1, u32 w2c_p2, u64 w2c_p3, u6
   w2c_j3 += w2c_j4;
   w2c_j4 = w2c_p4;
   w2c_j5 = w2c_p5;
-  w2c_i0 = w2c_f13(m, w2c_j0, w2c_i1, w2c_j2, w2c_j3, w2c_j4, w2c_j5);
+  w2c_i0 = w2c_f15(m, w2c_j0, w2c_i1, w2c_j2, w2c_j3, w2c_j4, w2c_j5);
   w2c_p1 = w2c_i0;
   w2c_j0 = w2c_l6;
   m->w2c_g0 = w2c_j0;
@@ -48036,20 +48510,20 @@ static u32 w2c_chinese_figures_read(module *m, u64 w2c_p0, u64 w2c_p1, u64 w2c_p
   w2c_j0 = w2c_p0;
   w2c_j1 = w2c_p1;
   w2c_j2 = w2c_p2;
-  w2c_i0 = w2c_f71(m, w2c_j0, w2c_j1, w2c_j2);
+  w2c_i0 = w2c_f73(m, w2c_j0, w2c_j1, w2c_j2);
   w2c_l3 = w2c_i0;
   w2c_f1(m);
   w2c_i0 = w2c_l3;
   return w2c_i0;
 }
 
-static u32 w2c_f71(module *m, u64 w2c_p0, u64 w2c_p1, u64 w2c_p2) {
+static u32 w2c_f73(module *m, u64 w2c_p0, u64 w2c_p1, u64 w2c_p2) {
   u32 w2c_l8 = 0, w2c_l9 = 0, w2c_l10 = 0, w2c_l11 = 0;
   u64 w2c_l3 = 0, w2c_l4 = 0, w2c_l5 = 0, w2c_l6 = 0, w2c_l7 = 0;
   u32 w2c_i0, w2c_i1, w2c_i2, w2c_i3;
   u64 w2c_j0, w2c_j1, w2c_j2, w2c_j3;
   w2c_j0 = m->w2c_g0;
-  w2c_j1 = 48ull;
+  w2c_j1 = 64ull;
   w2c_j0 -= w2c_j1;
   w2c_l3 = w2c_j0;
   m->w2c_g0 = w2c_j0;
@@ -48093,7 +48567,7 @@ static u32 w2c_f71(module *m, u64 w2c_p0, u64 w2c_p1, u64 w2c_p2) {
     w2c_j0 = w2c_p0;
     w2c_i0 = (u32)(w2c_j0);
     w2c_i0 = i32_load(m, (u64)(w2c_i0));
-    w2c_i1 = 16776989u;
+    w2c_i1 = 16776990u;
     w2c_i0 += w2c_i1;
     w2c_i1 = 12632312u;
     w2c_i0 &= w2c_i1;
@@ -48137,7 +48611,7 @@ static u32 w2c_f71(module *m, u64 w2c_p0, u64 w2c_p1, u64 w2c_p2) {
   w2c_i2 = 16u;
   w2c_i1 <<= (w2c_i2 & 31);
   w2c_i0 |= w2c_i1;
-  w2c_i1 = 16776989u;
+  w2c_i1 = 16776990u;
   w2c_i0 += w2c_i1;
   w2c_i1 = 12632312u;
   w2c_i0 &= w2c_i1;
@@ -48156,27 +48630,27 @@ static u32 w2c_f71(module *m, u64 w2c_p0, u64 w2c_p1, u64 w2c_p2) {
   w2c_j0 = w2c_l4;
   w2c_i0 = (u32)(w2c_j0);
   w2c_j1 = 0ull;
+  i64_store(m, (u64)(w2c_i0) + 40, w2c_j1);
+  w2c_j0 = w2c_l4;
+  w2c_i0 = (u32)(w2c_j0);
+  w2c_j1 = 0ull;
+  i64_store(m, (u64)(w2c_i0) + 48, w2c_j1);
+  w2c_j0 = w2c_l4;
+  w2c_i0 = (u32)(w2c_j0);
+  w2c_j1 = 0ull;
+  i64_store(m, (u64)(w2c_i0) + 56, w2c_j1);
+  w2c_j0 = w2c_l4;
+  w2c_i0 = (u32)(w2c_j0);
+  w2c_j1 = 0ull;
+  i64_store(m, (u64)(w2c_i0) + 16, w2c_j1);
+  w2c_j0 = w2c_l4;
+  w2c_i0 = (u32)(w2c_j0);
+  w2c_j1 = 0ull;
   i64_store(m, (u64)(w2c_i0) + 24, w2c_j1);
   w2c_j0 = w2c_l4;
   w2c_i0 = (u32)(w2c_j0);
   w2c_j1 = 0ull;
   i64_store(m, (u64)(w2c_i0) + 32, w2c_j1);
-  w2c_j0 = w2c_l4;
-  w2c_i0 = (u32)(w2c_j0);
-  w2c_j1 = 0ull;
-  i64_store(m, (u64)(w2c_i0) + 40, w2c_j1);
-  w2c_j0 = w2c_l4;
-  w2c_i0 = (u32)(w2c_j0);
-  w2c_j1 = 0ull;
-  i64_store(m, (u64)(w2c_i0), w2c_j1);
-  w2c_j0 = w2c_l4;
-  w2c_i0 = (u32)(w2c_j0);
-  w2c_j1 = 0ull;
-  i64_store(m, (u64)(w2c_i0) + 8, w2c_j1);
-  w2c_j0 = w2c_l4;
-  w2c_i0 = (u32)(w2c_j0);
-  w2c_j1 = 0ull;
-  i64_store(m, (u64)(w2c_i0) + 16, w2c_j1);
   w2c_j0 = w2c_p1;
   w2c_i0 = !(w2c_j0);
   if (w2c_i0) {goto w2c_B11;}
@@ -48274,20 +48748,22 @@ static u32 w2c_f71(module *m, u64 w2c_p0, u64 w2c_p1, u64 w2c_p2) {
   if (w2c_i0) {goto w2c_B11;}
   w2c_B15:;
   w2c_j0 = w2c_l4;
+  w2c_j1 = 16ull;
+  w2c_j0 += w2c_j1;
   w2c_j1 = w2c_l5;
   w2c_j2 = w2c_p0;
   w2c_j1 += w2c_j2;
   w2c_j2 = w2c_p1;
   w2c_j3 = w2c_p0;
   w2c_j2 -= w2c_j3;
-  w2c_f14(m, w2c_j0, w2c_j1, w2c_j2);
+  w2c_f16(m, w2c_j0, w2c_j1, w2c_j2);
   w2c_j0 = w2c_l4;
   w2c_i0 = (u32)(w2c_j0);
-  w2c_i0 = i32_load8_u(m, (u64)(w2c_i0));
+  w2c_i0 = i32_load8_u(m, (u64)(w2c_i0) + 16u);
   if (w2c_i0) {goto w2c_B10;}
   w2c_j0 = w2c_l4;
   w2c_i0 = (u32)(w2c_j0);
-  w2c_j0 = i64_load(m, (u64)(w2c_i0) + 8u);
+  w2c_j0 = i64_load(m, (u64)(w2c_i0) + 24u);
   w2c_p0 = w2c_j0;
   w2c_j0 = w2c_p2;
   w2c_j1 = 8ull;
@@ -48307,22 +48783,22 @@ static u32 w2c_f71(module *m, u64 w2c_p0, u64 w2c_p1, u64 w2c_p2) {
   goto w2c_B1;
   w2c_B11:;
   w2c_j0 = w2c_l4;
-  w2c_j1 = 24ull;
+  w2c_j1 = 40ull;
   w2c_j0 += w2c_j1;
   w2c_j1 = w2c_l5;
   w2c_j2 = w2c_p1;
-  w2c_f14(m, w2c_j0, w2c_j1, w2c_j2);
+  w2c_f16(m, w2c_j0, w2c_j1, w2c_j2);
   w2c_j0 = w2c_l4;
   w2c_i0 = (u32)(w2c_j0);
-  w2c_j0 = i64_load(m, (u64)(w2c_i0) + 40u);
+  w2c_j0 = i64_load(m, (u64)(w2c_i0) + 56u);
   w2c_l6 = w2c_j0;
   w2c_j0 = w2c_l4;
   w2c_i0 = (u32)(w2c_j0);
-  w2c_i0 = i32_load8_u(m, (u64)(w2c_i0) + 24u);
+  w2c_i0 = i32_load8_u(m, (u64)(w2c_i0) + 40u);
   w2c_l8 = w2c_i0;
   w2c_j0 = w2c_l4;
   w2c_i0 = (u32)(w2c_j0);
-  w2c_j0 = i64_load(m, (u64)(w2c_i0) + 32u);
+  w2c_j0 = i64_load(m, (u64)(w2c_i0) + 48u);
   w2c_p0 = w2c_j0;
   w2c_j0 = w2c_p2;
   w2c_i0 = (u32)(w2c_j0);
@@ -48346,11 +48822,11 @@ static u32 w2c_f71(module *m, u64 w2c_p0, u64 w2c_p1, u64 w2c_p2) {
   w2c_B10:;
   w2c_j0 = w2c_l4;
   w2c_i0 = (u32)(w2c_j0);
-  w2c_j0 = i64_load(m, (u64)(w2c_i0) + 16u);
+  w2c_j0 = i64_load(m, (u64)(w2c_i0) + 32u);
   w2c_p0 = w2c_j0;
   w2c_j0 = w2c_l4;
   w2c_i0 = (u32)(w2c_j0);
-  w2c_i0 = i32_load8_u(m, (u64)(w2c_i0) + 8u);
+  w2c_i0 = i32_load8_u(m, (u64)(w2c_i0) + 24u);
   w2c_l9 = w2c_i0;
   w2c_j0 = w2c_p2;
   w2c_i0 = (u32)(w2c_j0);
@@ -48393,20 +48869,34 @@ static u32 w2c_f71(module *m, u64 w2c_p0, u64 w2c_p1, u64 w2c_p2) {
   w2c_j0 = w2c_l6;
   w2c_l3 = w2c_j0;
   w2c_j0 = w2c_l6;
-  w2c_j1 = 3ull;
+  w2c_j1 = 16ull;
   w2c_i0 = w2c_j0 < w2c_j1;
   if (w2c_i0) {goto w2c_B17;}
-  w2c_j0 = 0ull;
-  w2c_p0 = w2c_j0;
-  w2c_j0 = w2c_l6;
+  w2c_j0 = w2c_l4;
+  w2c_j1 = w2c_l5;
+  w2c_j2 = w2c_p1;
+  w2c_j3 = w2c_l6;
+  w2c_f14(m, w2c_j0, w2c_j1, w2c_j2, w2c_j3);
+  w2c_j0 = w2c_l4;
+  w2c_i0 = (u32)(w2c_j0);
+  w2c_j0 = i64_load(m, (u64)(w2c_i0) + 8u);
   w2c_l3 = w2c_j0;
-  w2c_L18:
+  w2c_j0 = w2c_l4;
+  w2c_i0 = (u32)(w2c_j0);
+  w2c_j0 = i64_load(m, (u64)(w2c_i0));
+  w2c_p0 = w2c_j0;
+  w2c_B17:;
+  w2c_j0 = w2c_l3;
+  w2c_j1 = 3ull;
+  w2c_i0 = w2c_j0 < w2c_j1;
+  if (w2c_i0) {goto w2c_B18;}
+  w2c_L19:
     w2c_j0 = w2c_p1;
     w2c_j1 = w2c_p0;
     w2c_j0 -= w2c_j1;
     w2c_j1 = 8ull;
     w2c_i0 = w2c_j0 < w2c_j1;
-    if (w2c_i0) {goto w2c_B17;}
+    if (w2c_i0) {goto w2c_B18;}
     w2c_j0 = w2c_l5;
     w2c_j1 = w2c_p0;
     w2c_j0 += w2c_j1;
@@ -48417,7 +48907,7 @@ static u32 w2c_f71(module *m, u64 w2c_p0, u64 w2c_p1, u64 w2c_p2) {
     w2c_j0 &= w2c_j1;
     w2c_j1 = 63050398541283552ull;
     w2c_i0 = w2c_j0 != w2c_j1;
-    if (w2c_i0) {goto w2c_B20;}
+    if (w2c_i0) {goto w2c_B21;}
     w2c_j0 = w2c_l3;
     w2c_j1 = 18446744073709551613ull;
     w2c_j0 += w2c_j1;
@@ -48426,18 +48916,18 @@ static u32 w2c_f71(module *m, u64 w2c_p0, u64 w2c_p1, u64 w2c_p2) {
     w2c_j1 = 9ull;
     w2c_j0 += w2c_j1;
     w2c_p0 = w2c_j0;
-    goto w2c_B19;
-    w2c_B20:;
+    goto w2c_B20;
+    w2c_B21:;
     w2c_j0 = w2c_l3;
     w2c_j1 = 8ull;
     w2c_i0 = w2c_j0 < w2c_j1;
-    if (w2c_i0) {goto w2c_B17;}
+    if (w2c_i0) {goto w2c_B18;}
     w2c_j0 = w2c_l7;
     w2c_j1 = 9259542123273814144ull;
     w2c_j0 &= w2c_j1;
     w2c_j1 = 0ull;
     w2c_i0 = w2c_j0 != w2c_j1;
-    if (w2c_i0) {goto w2c_B17;}
+    if (w2c_i0) {goto w2c_B18;}
     w2c_j0 = w2c_l3;
     w2c_j1 = 18446744073709551608ull;
     w2c_j0 += w2c_j1;
@@ -48446,24 +48936,24 @@ static u32 w2c_f71(module *m, u64 w2c_p0, u64 w2c_p1, u64 w2c_p2) {
     w2c_j1 = 8ull;
     w2c_j0 += w2c_j1;
     w2c_p0 = w2c_j0;
-    w2c_B19:;
+    w2c_B20:;
     w2c_j0 = w2c_l3;
     w2c_j1 = 2ull;
     w2c_i0 = w2c_j0 > w2c_j1;
-    if (w2c_i0) {goto w2c_L18;}
-  w2c_B17:;
+    if (w2c_i0) {goto w2c_L19;}
+  w2c_B18:;
+  w2c_j0 = w2c_l3;
+  w2c_i0 = !(w2c_j0);
+  if (w2c_i0) {goto w2c_B22;}
   w2c_j0 = w2c_p1;
   w2c_j1 = w2c_p0;
   w2c_i0 = w2c_j0 <= w2c_j1;
-  if (w2c_i0) {goto w2c_B21;}
-  w2c_j0 = w2c_l3;
-  w2c_i0 = !(w2c_j0);
-  if (w2c_i0) {goto w2c_B21;}
+  if (w2c_i0) {goto w2c_B22;}
   w2c_j0 = w2c_l3;
   w2c_j1 = 18446744073709551615ull;
   w2c_j0 += w2c_j1;
   w2c_l3 = w2c_j0;
-  w2c_L22:
+  w2c_L23:
     w2c_j0 = w2c_l5;
     w2c_j1 = w2c_p0;
     w2c_j0 += w2c_j1;
@@ -48483,7 +48973,7 @@ static u32 w2c_f71(module *m, u64 w2c_p0, u64 w2c_p1, u64 w2c_p2) {
     w2c_p0 = w2c_j0;
     w2c_j0 = w2c_l3;
     w2c_i0 = !(w2c_j0);
-    if (w2c_i0) {goto w2c_B21;}
+    if (w2c_i0) {goto w2c_B22;}
     w2c_j0 = w2c_l3;
     w2c_j1 = 18446744073709551615ull;
     w2c_j0 += w2c_j1;
@@ -48491,8 +48981,8 @@ static u32 w2c_f71(module *m, u64 w2c_p0, u64 w2c_p1, u64 w2c_p2) {
     w2c_j0 = w2c_p1;
     w2c_j1 = w2c_p0;
     w2c_i0 = w2c_j0 > w2c_j1;
-    if (w2c_i0) {goto w2c_L22;}
-  w2c_B21:;
+    if (w2c_i0) {goto w2c_L23;}
+  w2c_B22:;
   w2c_j0 = w2c_p2;
   w2c_i0 = (u32)(w2c_j0);
   w2c_j1 = w2c_p0;
@@ -48501,6 +48991,10 @@ static u32 w2c_f71(module *m, u64 w2c_p0, u64 w2c_p1, u64 w2c_p2) {
   w2c_i0 = (u32)(w2c_j0);
   w2c_j1 = w2c_l6;
   i64_store(m, (u64)(w2c_i0) + 8, w2c_j1);
+  w2c_j0 = w2c_p2;
+  w2c_i0 = (u32)(w2c_j0);
+  w2c_j1 = 0ull;
+  i64_store(m, (u64)(w2c_i0), w2c_j1);
   w2c_i0 = 2u;
   w2c_l8 = w2c_i0;
   goto w2c_B0;
@@ -48519,7 +49013,7 @@ static u32 w2c_f71(module *m, u64 w2c_p0, u64 w2c_p1, u64 w2c_p2) {
   w2c_l8 = w2c_i0;
   w2c_B0:;
   w2c_j0 = w2c_l4;
-  w2c_j1 = 48ull;
+  w2c_j1 = 64ull;
   w2c_j0 += w2c_j1;
   m->w2c_g0 = w2c_j0;
   w2c_i0 = w2c_l8;
@@ -48539,20 +49033,25 @@ static u32 w2c_chinese_signed_amount_read(module *m, u64 w2c_p0, u64 w2c_p1, u64
   w2c_j0 = w2c_p0;
   w2c_j1 = w2c_p1;
   w2c_j2 = w2c_p2;
-  w2c_i0 = w2c_f73(m, w2c_j0, w2c_j1, w2c_j2);
+  w2c_i0 = w2c_f75(m, w2c_j0, w2c_j1, w2c_j2);
   w2c_l3 = w2c_i0;
   w2c_f1(m);
   w2c_i0 = w2c_l3;
   return w2c_i0;
 }
 
-static u32 w2c_f73(module *m, u64 w2c_p0, u64 w2c_p1, u64 w2c_p2) {
+static u32 w2c_f75(module *m, u64 w2c_p0, u64 w2c_p1, u64 w2c_p2) {
   u32 w2c_l14 = 0, w2c_l15 = 0, w2c_l16 = 0, w2c_l17 = 0, w2c_l18 = 0, w2c_l19 = 0, w2c_l20 = 0, w2c_l21 = 0, w2c_l22 = 0;
   u64 w2c_l3 = 0, w2c_l4 = 0, w2c_l5 = 0, w2c_l6 = 0, w2c_l7 = 0, w2c_l8 = 0, w2c_l9 = 0, w2c_l10 = 0, w2c_l11 = 0, w2c_l12 = 0, w2c_l13 = 0;
   u32 w2c_i0, w2c_i1, w2c_i2, w2c_i3, w2c_i4;
   u64 w2c_j0, w2c_j1, w2c_j2, w2c_j3;
   w2c_j0 = m->w2c_g0;
+  w2c_j1 = 16ull;
+  w2c_j0 -= w2c_j1;
   w2c_l3 = w2c_j0;
+  m->w2c_g0 = w2c_j0;
+  w2c_j0 = w2c_l3;
+  w2c_l4 = w2c_j0;
   w2c_j1 = 16ull;
   w2c_i0 = (u64)((s64)w2c_j0 < (s64)w2c_j1);
   if (w2c_i0) {goto w2c_B0;}
@@ -48569,7 +49068,7 @@ static u32 w2c_f73(module *m, u64 w2c_p0, u64 w2c_p1, u64 w2c_p2) {
   w2c_j1 = 0ull;
   i64_store(m, (u64)(w2c_i0), w2c_j1);
   w2c_j0 = w2c_p1;
-  w2c_l4 = w2c_j0;
+  w2c_l3 = w2c_j0;
   w2c_j0 = w2c_p0;
   w2c_j1 = 4096ull;
   w2c_j2 = 0ull;
@@ -48586,12 +49085,12 @@ static u32 w2c_f73(module *m, u64 w2c_p0, u64 w2c_p1, u64 w2c_p2) {
   w2c_j0 = w2c_l5;
   w2c_p0 = w2c_j0;
   w2c_j0 = w2c_p1;
-  w2c_l4 = w2c_j0;
+  w2c_l3 = w2c_j0;
   w2c_L5:
     w2c_j0 = w2c_p0;
     w2c_i0 = (u32)(w2c_j0);
     w2c_i0 = i32_load(m, (u64)(w2c_i0));
-    w2c_i1 = 16776989u;
+    w2c_i1 = 16776990u;
     w2c_i0 += w2c_i1;
     w2c_i1 = 12632312u;
     w2c_i0 &= w2c_i1;
@@ -48602,19 +49101,19 @@ static u32 w2c_f73(module *m, u64 w2c_p0, u64 w2c_p1, u64 w2c_p2) {
     w2c_j1 = 3ull;
     w2c_j0 += w2c_j1;
     w2c_p0 = w2c_j0;
-    w2c_j0 = w2c_l4;
+    w2c_j0 = w2c_l3;
     w2c_j1 = 18446744073709551613ull;
     w2c_j0 += w2c_j1;
-    w2c_l4 = w2c_j0;
+    w2c_l3 = w2c_j0;
     w2c_j1 = 3ull;
     w2c_i0 = w2c_j0 > w2c_j1;
     if (w2c_i0) {goto w2c_L5;}
   w2c_B4:;
-  w2c_j0 = w2c_l4;
+  w2c_j0 = w2c_l3;
   w2c_j1 = 3ull;
   w2c_i0 = w2c_j0 > w2c_j1;
   if (w2c_i0) {goto w2c_B3;}
-  w2c_j0 = w2c_l4;
+  w2c_j0 = w2c_l3;
   w2c_i0 = (u32)(w2c_j0);
   switch (w2c_i0) {
     case 0: goto w2c_B2;
@@ -48635,7 +49134,7 @@ static u32 w2c_f73(module *m, u64 w2c_p0, u64 w2c_p1, u64 w2c_p2) {
   w2c_i2 = 16u;
   w2c_i1 <<= (w2c_i2 & 31);
   w2c_i0 |= w2c_i1;
-  w2c_i1 = 16776989u;
+  w2c_i1 = 16776990u;
   w2c_i0 += w2c_i1;
   w2c_i1 = 12632312u;
   w2c_i0 &= w2c_i1;
@@ -48689,7 +49188,7 @@ static u32 w2c_f73(module *m, u64 w2c_p0, u64 w2c_p1, u64 w2c_p2) {
     w2c_i0 &= w2c_i1;
     w2c_l14 = w2c_i0;
     w2c_j0 = 1ull;
-    w2c_l4 = w2c_j0;
+    w2c_l3 = w2c_j0;
     w2c_i0 = w2c_l19;
     w2c_i1 = 4294967295u;
     w2c_i0 = (u32)((s32)w2c_i0 > (s32)w2c_i1);
@@ -48713,7 +49212,7 @@ static u32 w2c_f73(module *m, u64 w2c_p0, u64 w2c_p1, u64 w2c_p2) {
     w2c_i0 |= w2c_i1;
     w2c_l14 = w2c_i0;
     w2c_j0 = 2ull;
-    w2c_l4 = w2c_j0;
+    w2c_l3 = w2c_j0;
     goto w2c_B10;
     w2c_B11:;
     w2c_j0 = w2c_p0;
@@ -48739,7 +49238,7 @@ static u32 w2c_f73(module *m, u64 w2c_p0, u64 w2c_p1, u64 w2c_p2) {
     w2c_i0 |= w2c_i1;
     w2c_l14 = w2c_i0;
     w2c_j0 = 3ull;
-    w2c_l4 = w2c_j0;
+    w2c_l3 = w2c_j0;
     goto w2c_B10;
     w2c_B12:;
     w2c_i0 = w2c_l21;
@@ -48763,7 +49262,7 @@ static u32 w2c_f73(module *m, u64 w2c_p0, u64 w2c_p1, u64 w2c_p2) {
     w2c_i0 |= w2c_i1;
     w2c_l14 = w2c_i0;
     w2c_j0 = 4ull;
-    w2c_l4 = w2c_j0;
+    w2c_l3 = w2c_j0;
     w2c_B10:;
     w2c_i0 = 2u;
     w2c_i1 = 1u;
@@ -50271,22 +50770,36 @@ static u32 w2c_f73(module *m, u64 w2c_p0, u64 w2c_p1, u64 w2c_p2) {
     w2c_j1 = 0ull;
     i64_store(m, (u64)(w2c_i0), w2c_j1);
     w2c_j0 = w2c_l7;
-    w2c_l4 = w2c_j0;
+    w2c_l3 = w2c_j0;
     w2c_j0 = w2c_l7;
-    w2c_j1 = 3ull;
+    w2c_j1 = 16ull;
     w2c_i0 = w2c_j0 < w2c_j1;
     if (w2c_i0) {goto w2c_B122;}
-    w2c_j0 = 0ull;
+    w2c_j0 = w2c_l4;
+    w2c_j1 = w2c_l5;
+    w2c_j2 = w2c_p1;
+    w2c_j3 = w2c_l7;
+    w2c_f14(m, w2c_j0, w2c_j1, w2c_j2, w2c_j3);
+    w2c_j0 = w2c_l4;
+    w2c_i0 = (u32)(w2c_j0);
+    w2c_j0 = i64_load(m, (u64)(w2c_i0) + 8u);
+    w2c_l3 = w2c_j0;
+    w2c_j0 = w2c_l4;
+    w2c_i0 = (u32)(w2c_j0);
+    w2c_j0 = i64_load(m, (u64)(w2c_i0));
     w2c_p0 = w2c_j0;
-    w2c_j0 = w2c_l7;
-    w2c_l4 = w2c_j0;
-    w2c_L123:
+    w2c_B122:;
+    w2c_j0 = w2c_l3;
+    w2c_j1 = 3ull;
+    w2c_i0 = w2c_j0 < w2c_j1;
+    if (w2c_i0) {goto w2c_B123;}
+    w2c_L124:
       w2c_j0 = w2c_p1;
       w2c_j1 = w2c_p0;
       w2c_j0 -= w2c_j1;
       w2c_j1 = 8ull;
       w2c_i0 = w2c_j0 < w2c_j1;
-      if (w2c_i0) {goto w2c_B122;}
+      if (w2c_i0) {goto w2c_B123;}
       w2c_j0 = w2c_l5;
       w2c_j1 = w2c_p0;
       w2c_j0 += w2c_j1;
@@ -50297,53 +50810,53 @@ static u32 w2c_f73(module *m, u64 w2c_p0, u64 w2c_p1, u64 w2c_p2) {
       w2c_j0 &= w2c_j1;
       w2c_j1 = 63050398541283552ull;
       w2c_i0 = w2c_j0 != w2c_j1;
-      if (w2c_i0) {goto w2c_B125;}
-      w2c_j0 = w2c_l4;
+      if (w2c_i0) {goto w2c_B126;}
+      w2c_j0 = w2c_l3;
       w2c_j1 = 18446744073709551613ull;
       w2c_j0 += w2c_j1;
-      w2c_l4 = w2c_j0;
+      w2c_l3 = w2c_j0;
       w2c_j0 = w2c_p0;
       w2c_j1 = 9ull;
       w2c_j0 += w2c_j1;
       w2c_p0 = w2c_j0;
-      goto w2c_B124;
-      w2c_B125:;
-      w2c_j0 = w2c_l4;
+      goto w2c_B125;
+      w2c_B126:;
+      w2c_j0 = w2c_l3;
       w2c_j1 = 8ull;
       w2c_i0 = w2c_j0 < w2c_j1;
-      if (w2c_i0) {goto w2c_B122;}
+      if (w2c_i0) {goto w2c_B123;}
       w2c_j0 = w2c_l8;
       w2c_j1 = 9259542123273814144ull;
       w2c_j0 &= w2c_j1;
       w2c_j1 = 0ull;
       w2c_i0 = w2c_j0 != w2c_j1;
-      if (w2c_i0) {goto w2c_B122;}
-      w2c_j0 = w2c_l4;
+      if (w2c_i0) {goto w2c_B123;}
+      w2c_j0 = w2c_l3;
       w2c_j1 = 18446744073709551608ull;
       w2c_j0 += w2c_j1;
-      w2c_l4 = w2c_j0;
+      w2c_l3 = w2c_j0;
       w2c_j0 = w2c_p0;
       w2c_j1 = 8ull;
       w2c_j0 += w2c_j1;
       w2c_p0 = w2c_j0;
-      w2c_B124:;
-      w2c_j0 = w2c_l4;
+      w2c_B125:;
+      w2c_j0 = w2c_l3;
       w2c_j1 = 2ull;
       w2c_i0 = w2c_j0 > w2c_j1;
-      if (w2c_i0) {goto w2c_L123;}
-    w2c_B122:;
+      if (w2c_i0) {goto w2c_L124;}
+    w2c_B123:;
+    w2c_j0 = w2c_l3;
+    w2c_i0 = !(w2c_j0);
+    if (w2c_i0) {goto w2c_B127;}
     w2c_j0 = w2c_p1;
     w2c_j1 = w2c_p0;
     w2c_i0 = w2c_j0 <= w2c_j1;
-    if (w2c_i0) {goto w2c_B126;}
-    w2c_j0 = w2c_l4;
-    w2c_i0 = !(w2c_j0);
-    if (w2c_i0) {goto w2c_B126;}
-    w2c_j0 = w2c_l4;
+    if (w2c_i0) {goto w2c_B127;}
+    w2c_j0 = w2c_l3;
     w2c_j1 = 18446744073709551615ull;
     w2c_j0 += w2c_j1;
-    w2c_l4 = w2c_j0;
-    w2c_L127:
+    w2c_l3 = w2c_j0;
+    w2c_L128:
       w2c_j0 = w2c_l5;
       w2c_j1 = w2c_p0;
       w2c_j0 += w2c_j1;
@@ -50361,18 +50874,18 @@ static u32 w2c_f73(module *m, u64 w2c_p0, u64 w2c_p1, u64 w2c_p2) {
       w2c_j1 = w2c_p0;
       w2c_j0 += w2c_j1;
       w2c_p0 = w2c_j0;
-      w2c_j0 = w2c_l4;
+      w2c_j0 = w2c_l3;
       w2c_i0 = !(w2c_j0);
-      if (w2c_i0) {goto w2c_B126;}
-      w2c_j0 = w2c_l4;
+      if (w2c_i0) {goto w2c_B127;}
+      w2c_j0 = w2c_l3;
       w2c_j1 = 18446744073709551615ull;
       w2c_j0 += w2c_j1;
-      w2c_l4 = w2c_j0;
+      w2c_l3 = w2c_j0;
       w2c_j0 = w2c_p1;
       w2c_j1 = w2c_p0;
       w2c_i0 = w2c_j0 > w2c_j1;
-      if (w2c_i0) {goto w2c_L127;}
-    w2c_B126:;
+      if (w2c_i0) {goto w2c_L128;}
+    w2c_B127:;
     w2c_j0 = w2c_p2;
     w2c_i0 = (u32)(w2c_j0);
     w2c_j1 = w2c_p0;
@@ -50381,10 +50894,13 @@ static u32 w2c_f73(module *m, u64 w2c_p0, u64 w2c_p1, u64 w2c_p2) {
     w2c_i0 = (u32)(w2c_j0);
     w2c_j1 = w2c_l7;
     i64_store(m, (u64)(w2c_i0) + 8, w2c_j1);
-    w2c_j0 = w2c_l3;
-    m->w2c_g0 = w2c_j0;
+    w2c_j0 = w2c_p2;
+    w2c_i0 = (u32)(w2c_j0);
+    w2c_j1 = 0ull;
+    i64_store(m, (u64)(w2c_i0), w2c_j1);
     w2c_i0 = 2u;
-    goto w2c_Bfunc;
+    w2c_l14 = w2c_i0;
+    goto w2c_B1;
     w2c_B20:;
     w2c_j0 = w2c_l9;
     w2c_j1 = 1000ull;
@@ -50444,7 +50960,7 @@ static u32 w2c_f73(module *m, u64 w2c_p0, u64 w2c_p1, u64 w2c_p2) {
     w2c_l9 = w2c_j0;
     w2c_B13:;
     w2c_j0 = w2c_p0;
-    w2c_j1 = w2c_l4;
+    w2c_j1 = w2c_l3;
     w2c_j0 += w2c_j1;
     w2c_p0 = w2c_j0;
     w2c_j0 = w2c_l7;
@@ -50452,7 +50968,7 @@ static u32 w2c_f73(module *m, u64 w2c_p0, u64 w2c_p1, u64 w2c_p2) {
     w2c_j0 += w2c_j1;
     w2c_l7 = w2c_j0;
     w2c_j0 = w2c_l8;
-    w2c_j1 = w2c_l4;
+    w2c_j1 = w2c_l3;
     w2c_j0 -= w2c_j1;
     w2c_l8 = w2c_j0;
     w2c_j1 = 0ull;
@@ -50487,10 +51003,9 @@ static u32 w2c_f73(module *m, u64 w2c_p0, u64 w2c_p1, u64 w2c_p2) {
   w2c_i0 = (u32)(w2c_j0);
   w2c_j1 = 0ull;
   i64_store(m, (u64)(w2c_i0), w2c_j1);
-  w2c_j0 = w2c_l3;
-  m->w2c_g0 = w2c_j0;
   w2c_i0 = 9u;
-  goto w2c_Bfunc;
+  w2c_l14 = w2c_i0;
+  goto w2c_B1;
   w2c_B7:;
   w2c_j0 = w2c_l6;
   w2c_i0 = (u32)(w2c_j0);
@@ -50516,7 +51031,9 @@ static u32 w2c_f73(module *m, u64 w2c_p0, u64 w2c_p1, u64 w2c_p2) {
   w2c_i0 = 0u;
   w2c_l14 = w2c_i0;
   w2c_B1:;
-  w2c_j0 = w2c_l3;
+  w2c_j0 = w2c_l4;
+  w2c_j1 = 16ull;
+  w2c_j0 += w2c_j1;
   m->w2c_g0 = w2c_j0;
   w2c_i0 = w2c_l14;
   goto w2c_Bfunc;
@@ -50543,14 +51060,14 @@ static u32 w2c_chinese_number_find(module *m, u64 w2c_p0, u64 w2c_p1, u64 w2c_p2
   w2c_j5 = w2c_p5;
   w2c_j6 = w2c_p6;
   w2c_j7 = w2c_p7;
-  w2c_i0 = w2c_f75(m, w2c_j0, w2c_j1, w2c_j2, w2c_i3, w2c_i4, w2c_j5, w2c_j6, w2c_j7);
+  w2c_i0 = w2c_f77(m, w2c_j0, w2c_j1, w2c_j2, w2c_i3, w2c_i4, w2c_j5, w2c_j6, w2c_j7);
   w2c_p4 = w2c_i0;
   w2c_f1(m);
   w2c_i0 = w2c_p4;
   return w2c_i0;
 }
 
-static u32 w2c_f75(module *m, u64 w2c_p0, u64 w2c_p1, u64 w2c_p2, u32 w2c_p3, u32 w2c_p4, u64 w2c_p5, u64 w2c_p6, u64 w2c_p7) {
+static u32 w2c_f77(module *m, u64 w2c_p0, u64 w2c_p1, u64 w2c_p2, u32 w2c_p3, u32 w2c_p4, u64 w2c_p5, u64 w2c_p6, u64 w2c_p7) {
   u64 w2c_l8 = 0;
   u32 w2c_i0, w2c_i1, w2c_i3, w2c_i4, w2c_i8;
   u64 w2c_j0, w2c_j1, w2c_j2, w2c_j3, w2c_j5, w2c_j6, w2c_j7, w2c_j8;
@@ -50587,7 +51104,7 @@ static u32 w2c_f75(module *m, u64 w2c_p0, u64 w2c_p1, u64 w2c_p2, u32 w2c_p3, u3
   w2c_j5 += w2c_j6;
   w2c_j6 = w2c_p6;
   w2c_j7 = w2c_p7;
-  w2c_i0 = w2c_f15(m, w2c_j0, w2c_j1, w2c_j2, w2c_i3, w2c_i4, w2c_j5, w2c_j6, w2c_j7);
+  w2c_i0 = w2c_f17(m, w2c_j0, w2c_j1, w2c_j2, w2c_i3, w2c_i4, w2c_j5, w2c_j6, w2c_j7);
   w2c_p3 = w2c_i0;
   w2c_j0 = w2c_l8;
   m->w2c_g0 = w2c_j0;
@@ -50631,14 +51148,14 @@ static u32 w2c_chinese_number_find_utf8(module *m, u64 w2c_p0, u64 w2c_p1, u64 w
   w2c_j5 = w2c_p5;
   w2c_j6 = w2c_p6;
   w2c_j7 = w2c_p7;
-  w2c_i0 = w2c_f77(m, w2c_j0, w2c_j1, w2c_j2, w2c_i3, w2c_i4, w2c_j5, w2c_j6, w2c_j7);
+  w2c_i0 = w2c_f79(m, w2c_j0, w2c_j1, w2c_j2, w2c_i3, w2c_i4, w2c_j5, w2c_j6, w2c_j7);
   w2c_p4 = w2c_i0;
   w2c_f1(m);
   w2c_i0 = w2c_p4;
   return w2c_i0;
 }
 
-static u32 w2c_f77(module *m, u64 w2c_p0, u64 w2c_p1, u64 w2c_p2, u32 w2c_p3, u32 w2c_p4, u64 w2c_p5, u64 w2c_p6, u64 w2c_p7) {
+static u32 w2c_f79(module *m, u64 w2c_p0, u64 w2c_p1, u64 w2c_p2, u32 w2c_p3, u32 w2c_p4, u64 w2c_p5, u64 w2c_p6, u64 w2c_p7) {
   u64 w2c_l8 = 0;
   u32 w2c_i0, w2c_i1, w2c_i3, w2c_i4, w2c_i8;
   u64 w2c_j0, w2c_j1, w2c_j2, w2c_j3, w2c_j5, w2c_j6, w2c_j7, w2c_j8;
@@ -50688,7 +51205,7 @@ static u32 w2c_f77(module *m, u64 w2c_p0, u64 w2c_p1, u64 w2c_p2, u32 w2c_p3, u3
   w2c_j5 += w2c_j6;
   w2c_j6 = w2c_p6;
   w2c_j7 = w2c_p7;
-  w2c_i0 = w2c_f16(m, w2c_j0, w2c_j1, w2c_j2, w2c_i3, w2c_i4, w2c_j5, w2c_j6, w2c_j7);
+  w2c_i0 = w2c_f18(m, w2c_j0, w2c_j1, w2c_j2, w2c_i3, w2c_i4, w2c_j5, w2c_j6, w2c_j7);
   w2c_p3 = w2c_i0;
   w2c_j0 = w2c_l8;
   m->w2c_g0 = w2c_j0;
@@ -50732,14 +51249,14 @@ static u32 w2c_chinese_quantity_find_utf8(module *m, u64 w2c_p0, u64 w2c_p1, u64
   w2c_j5 = w2c_p5;
   w2c_j6 = w2c_p6;
   w2c_j7 = w2c_p7;
-  w2c_i0 = w2c_f79(m, w2c_j0, w2c_j1, w2c_j2, w2c_i3, w2c_i4, w2c_j5, w2c_j6, w2c_j7);
+  w2c_i0 = w2c_f81(m, w2c_j0, w2c_j1, w2c_j2, w2c_i3, w2c_i4, w2c_j5, w2c_j6, w2c_j7);
   w2c_p4 = w2c_i0;
   w2c_f1(m);
   w2c_i0 = w2c_p4;
   return w2c_i0;
 }
 
-static u32 w2c_f79(module *m, u64 w2c_p0, u64 w2c_p1, u64 w2c_p2, u32 w2c_p3, u32 w2c_p4, u64 w2c_p5, u64 w2c_p6, u64 w2c_p7) {
+static u32 w2c_f81(module *m, u64 w2c_p0, u64 w2c_p1, u64 w2c_p2, u32 w2c_p3, u32 w2c_p4, u64 w2c_p5, u64 w2c_p6, u64 w2c_p7) {
   u32 w2c_i0, w2c_i3, w2c_i4, w2c_i8;
   u64 w2c_j0, w2c_j1, w2c_j2, w2c_j3, w2c_j5, w2c_j6, w2c_j7, w2c_j8;
   w2c_j0 = w2c_p0;
@@ -50762,7 +51279,7 @@ static u32 w2c_f79(module *m, u64 w2c_p0, u64 w2c_p1, u64 w2c_p2, u32 w2c_p3, u3
   w2c_j5 += w2c_j6;
   w2c_j6 = w2c_p6;
   w2c_j7 = w2c_p7;
-  w2c_i0 = w2c_f24(m, w2c_j0, w2c_j1, w2c_j2, w2c_i3, w2c_i4, w2c_j5, w2c_j6, w2c_j7);
+  w2c_i0 = w2c_f26(m, w2c_j0, w2c_j1, w2c_j2, w2c_i3, w2c_i4, w2c_j5, w2c_j6, w2c_j7);
   return w2c_i0;
 }
 
@@ -50783,14 +51300,14 @@ static u32 w2c_chinese_quantity_find(module *m, u64 w2c_p0, u64 w2c_p1, u64 w2c_
   w2c_j5 = w2c_p5;
   w2c_j6 = w2c_p6;
   w2c_j7 = w2c_p7;
-  w2c_i0 = w2c_f81(m, w2c_j0, w2c_j1, w2c_j2, w2c_i3, w2c_i4, w2c_j5, w2c_j6, w2c_j7);
+  w2c_i0 = w2c_f83(m, w2c_j0, w2c_j1, w2c_j2, w2c_i3, w2c_i4, w2c_j5, w2c_j6, w2c_j7);
   w2c_p4 = w2c_i0;
   w2c_f1(m);
   w2c_i0 = w2c_p4;
   return w2c_i0;
 }
 
-static u32 w2c_f81(module *m, u64 w2c_p0, u64 w2c_p1, u64 w2c_p2, u32 w2c_p3, u32 w2c_p4, u64 w2c_p5, u64 w2c_p6, u64 w2c_p7) {
+static u32 w2c_f83(module *m, u64 w2c_p0, u64 w2c_p1, u64 w2c_p2, u32 w2c_p3, u32 w2c_p4, u64 w2c_p5, u64 w2c_p6, u64 w2c_p7) {
   u64 w2c_l8 = 0, w2c_l9 = 0, w2c_l10 = 0;
   u32 w2c_i0, w2c_i1, w2c_i2, w2c_i3, w2c_i4, w2c_i8;
   u64 w2c_j0, w2c_j1, w2c_j2, w2c_j3, w2c_j5, w2c_j6, w2c_j7, w2c_j8;
@@ -50826,7 +51343,7 @@ static u32 w2c_f81(module *m, u64 w2c_p0, u64 w2c_p1, u64 w2c_p2, u32 w2c_p3, u3
     w2c_j0 = w2c_p0;
     w2c_i0 = (u32)(w2c_j0);
     w2c_i0 = i32_load(m, (u64)(w2c_i0));
-    w2c_i1 = 16776989u;
+    w2c_i1 = 16776990u;
     w2c_i0 += w2c_i1;
     w2c_i1 = 12632312u;
     w2c_i0 &= w2c_i1;
@@ -50870,7 +51387,7 @@ static u32 w2c_f81(module *m, u64 w2c_p0, u64 w2c_p1, u64 w2c_p2, u32 w2c_p3, u3
   w2c_i2 = 16u;
   w2c_i1 <<= (w2c_i2 & 31);
   w2c_i0 |= w2c_i1;
-  w2c_i1 = 16776989u;
+  w2c_i1 = 16776990u;
   w2c_i0 += w2c_i1;
   w2c_i1 = 12632312u;
   w2c_i0 &= w2c_i1;
@@ -50898,7 +51415,7 @@ static u32 w2c_f81(module *m, u64 w2c_p0, u64 w2c_p1, u64 w2c_p2, u32 w2c_p3, u3
   w2c_j5 += w2c_j6;
   w2c_j6 = w2c_p6;
   w2c_j7 = w2c_p7;
-  w2c_i0 = w2c_f24(m, w2c_j0, w2c_j1, w2c_j2, w2c_i3, w2c_i4, w2c_j5, w2c_j6, w2c_j7);
+  w2c_i0 = w2c_f26(m, w2c_j0, w2c_j1, w2c_j2, w2c_i3, w2c_i4, w2c_j5, w2c_j6, w2c_j7);
   w2c_p3 = w2c_i0;
   w2c_j0 = w2c_l8;
   m->w2c_g0 = w2c_j0;
@@ -50945,14 +51462,14 @@ static u32 w2c_chinese_number_print(module *m, u64 w2c_p0, u64 w2c_p1, u32 w2c_p
   w2c_j6 = w2c_p6;
   w2c_j7 = w2c_p7;
   w2c_j8 = w2c_p8;
-  w2c_i0 = w2c_f83(m, w2c_j0, w2c_j1, w2c_i2, w2c_i3, w2c_i4, w2c_i5, w2c_j6, w2c_j7, w2c_j8);
+  w2c_i0 = w2c_f85(m, w2c_j0, w2c_j1, w2c_i2, w2c_i3, w2c_i4, w2c_i5, w2c_j6, w2c_j7, w2c_j8);
   w2c_p5 = w2c_i0;
   w2c_f1(m);
   w2c_i0 = w2c_p5;
   return w2c_i0;
 }
 
-static u32 w2c_f83(module *m, u64 w2c_p0, u64 w2c_p1, u32 w2c_p2, u32 w2c_p3, u32 w2c_p4, u32 w2c_p5, u64 w2c_p6, u64 w2c_p7, u64 w2c_p8) {
+static u32 w2c_f85(module *m, u64 w2c_p0, u64 w2c_p1, u32 w2c_p2, u32 w2c_p3, u32 w2c_p4, u32 w2c_p5, u64 w2c_p6, u64 w2c_p7, u64 w2c_p8) {
   u32 w2c_l18 = 0, w2c_l19 = 0, w2c_l20 = 0, w2c_l21 = 0;
   u64 w2c_l9 = 0, w2c_l10 = 0, w2c_l11 = 0, w2c_l12 = 0, w2c_l13 = 0, w2c_l14 = 0, w2c_l15 = 0, w2c_l16 = 0, w2c_l17 = 0;
   u32 w2c_i0, w2c_i1, w2c_i2, w2c_i3, w2c_i4;
@@ -51538,7 +52055,7 @@ static u32 w2c_f83(module *m, u64 w2c_p0, u64 w2c_p1, u32 w2c_p2, u32 w2c_p3, u3
   w2c_i3 = w2c_l21;
   w2c_j4 = w2c_p6;
   w2c_j5 = w2c_p0;
-  w2c_j0 = w2c_f30(m, w2c_j0, w2c_j1, w2c_i2, w2c_i3, w2c_j4, w2c_j5);
+  w2c_j0 = w2c_f32(m, w2c_j0, w2c_j1, w2c_i2, w2c_i3, w2c_j4, w2c_j5);
   w2c_p0 = w2c_j0;
   goto w2c_B1;
   w2c_B20:;
@@ -52045,7 +52562,7 @@ static u32 w2c_f83(module *m, u64 w2c_p0, u64 w2c_p1, u32 w2c_p2, u32 w2c_p3, u3
   w2c_i3 = 0u;
   w2c_j4 = w2c_p0;
   w2c_j5 = w2c_p1;
-  w2c_j0 = w2c_f30(m, w2c_j0, w2c_j1, w2c_i2, w2c_i3, w2c_j4, w2c_j5);
+  w2c_j0 = w2c_f32(m, w2c_j0, w2c_j1, w2c_i2, w2c_i3, w2c_j4, w2c_j5);
   w2c_p1 = w2c_j0;
   goto w2c_B3;
   w2c_B30:;
@@ -52336,14 +52853,14 @@ static u32 w2c_chinese_quantities_to_figures(module *m, u64 w2c_p0, u64 w2c_p1, 
   w2c_j6 = w2c_p6;
   w2c_j7 = w2c_p7;
   w2c_j8 = w2c_p8;
-  w2c_i0 = w2c_f85(m, w2c_j0, w2c_j1, w2c_i2, w2c_i3, w2c_i4, w2c_i5, w2c_j6, w2c_j7, w2c_j8);
+  w2c_i0 = w2c_f87(m, w2c_j0, w2c_j1, w2c_i2, w2c_i3, w2c_i4, w2c_i5, w2c_j6, w2c_j7, w2c_j8);
   w2c_p5 = w2c_i0;
   w2c_f1(m);
   w2c_i0 = w2c_p5;
   return w2c_i0;
 }
 
-static u32 w2c_f85(module *m, u64 w2c_p0, u64 w2c_p1, u32 w2c_p2, u32 w2c_p3, u32 w2c_p4, u32 w2c_p5, u64 w2c_p6, u64 w2c_p7, u64 w2c_p8) {
+static u32 w2c_f87(module *m, u64 w2c_p0, u64 w2c_p1, u32 w2c_p2, u32 w2c_p3, u32 w2c_p4, u32 w2c_p5, u64 w2c_p6, u64 w2c_p7, u64 w2c_p8) {
   u32 w2c_l32 = 0, w2c_l33 = 0, w2c_l34 = 0;
   u64 w2c_l9 = 0, w2c_l10 = 0, w2c_l11 = 0, w2c_l12 = 0, w2c_l13 = 0, w2c_l14 = 0, w2c_l15 = 0, w2c_l16 = 0, w2c_l17 = 0, w2c_l18 = 0, w2c_l19 = 0, w2c_l20 = 0, w2c_l21 = 0, w2c_l22 = 0, w2c_l23 = 0, w2c_l24 = 0, w2c_l25 = 0, w2c_l26 = 0, w2c_l27 = 0, w2c_l28 = 0, w2c_l29 = 0, w2c_l30 = 0, w2c_l31 = 0;
   u32 w2c_i0, w2c_i1, w2c_i2, w2c_i3, w2c_i4;
@@ -52435,7 +52952,7 @@ static u32 w2c_f85(module *m, u64 w2c_p0, u64 w2c_p1, u32 w2c_p2, u32 w2c_p3, u3
     w2c_j0 = w2c_l10;
     w2c_i0 = (u32)(w2c_j0);
     w2c_i0 = i32_load(m, (u64)(w2c_i0));
-    w2c_i1 = 16776989u;
+    w2c_i1 = 16776990u;
     w2c_i0 += w2c_i1;
     w2c_i1 = 12632312u;
     w2c_i0 &= w2c_i1;
@@ -52479,7 +52996,7 @@ static u32 w2c_f85(module *m, u64 w2c_p0, u64 w2c_p1, u32 w2c_p2, u32 w2c_p3, u3
   w2c_i2 = 16u;
   w2c_i1 <<= (w2c_i2 & 31);
   w2c_i0 |= w2c_i1;
-  w2c_i1 = 16776989u;
+  w2c_i1 = 16776990u;
   w2c_i0 += w2c_i1;
   w2c_i1 = 12632312u;
   w2c_i0 &= w2c_i1;
@@ -52577,7 +53094,7 @@ static u32 w2c_f85(module *m, u64 w2c_p0, u64 w2c_p1, u32 w2c_p2, u32 w2c_p3, u3
   w2c_j1 = w2c_l9;
   w2c_j2 = 72ull;
   w2c_j1 += w2c_j2;
-  w2c_f25(m, w2c_j0, w2c_j1);
+  w2c_f27(m, w2c_j0, w2c_j1);
   w2c_j0 = 0ull;
   w2c_l17 = w2c_j0;
   w2c_j0 = w2c_l9;
@@ -52856,7 +53373,7 @@ static u32 w2c_f85(module *m, u64 w2c_p0, u64 w2c_p1, u32 w2c_p2, u32 w2c_p3, u3
     w2c_j0 += w2c_j1;
     w2c_j1 = w2c_l23;
     w2c_j2 = w2c_l22;
-    w2c_f20(m, w2c_j0, w2c_j1, w2c_j2);
+    w2c_f22(m, w2c_j0, w2c_j1, w2c_j2);
     w2c_j0 = w2c_l9;
     w2c_i0 = (u32)(w2c_j0);
     w2c_i0 = i32_load8_u(m, (u64)(w2c_i0) + 240u);
@@ -53613,7 +54130,7 @@ static u32 w2c_f85(module *m, u64 w2c_p0, u64 w2c_p1, u32 w2c_p2, u32 w2c_p3, u3
     w2c_i0 = w2c_p3;
     w2c_j1 = w2c_l23;
     w2c_j2 = w2c_l22;
-    w2c_i1 = w2c_f22(m, w2c_j1, w2c_j2);
+    w2c_i1 = w2c_f24(m, w2c_j1, w2c_j2);
     w2c_i0 |= w2c_i1;
     if (w2c_i0) {goto w2c_B16;}
     goto w2c_B61;
@@ -53623,7 +54140,7 @@ static u32 w2c_f85(module *m, u64 w2c_p0, u64 w2c_p1, u32 w2c_p2, u32 w2c_p3, u3
     w2c_B61:;
     w2c_j0 = w2c_l23;
     w2c_j1 = w2c_l22;
-    w2c_i0 = w2c_f23(m, w2c_j0, w2c_j1);
+    w2c_i0 = w2c_f25(m, w2c_j0, w2c_j1);
     if (w2c_i0) {goto w2c_B16;}
     w2c_B23:;
     w2c_j0 = w2c_l9;
@@ -53664,7 +54181,7 @@ static u32 w2c_f85(module *m, u64 w2c_p0, u64 w2c_p1, u32 w2c_p2, u32 w2c_p3, u3
     w2c_j1 = w2c_l23;
     w2c_j2 = w2c_l22;
     w2c_i3 = w2c_l34;
-    w2c_f31(m, w2c_j0, w2c_j1, w2c_j2, w2c_i3);
+    w2c_f33(m, w2c_j0, w2c_j1, w2c_j2, w2c_i3);
     w2c_j0 = w2c_l9;
     w2c_i0 = (u32)(w2c_j0);
     w2c_j1 = w2c_l18;
@@ -54034,7 +54551,7 @@ static u32 w2c_f85(module *m, u64 w2c_p0, u64 w2c_p1, u32 w2c_p2, u32 w2c_p3, u3
     w2c_j1 = w2c_l9;
     w2c_j2 = 72ull;
     w2c_j1 += w2c_j2;
-    w2c_f25(m, w2c_j0, w2c_j1);
+    w2c_f27(m, w2c_j0, w2c_j1);
     w2c_j0 = w2c_l9;
     w2c_i0 = (u32)(w2c_j0);
     w2c_i0 = i32_load8_u(m, (u64)(w2c_i0) + 16u);
@@ -54234,14 +54751,14 @@ static u32 w2c_chinese_quantity_print(module *m, u64 w2c_p0, u32 w2c_p1, u32 w2c
   w2c_j4 = w2c_p4;
   w2c_j5 = w2c_p5;
   w2c_j6 = w2c_p6;
-  w2c_i0 = w2c_f87(m, w2c_j0, w2c_i1, w2c_i2, w2c_i3, w2c_j4, w2c_j5, w2c_j6);
+  w2c_i0 = w2c_f89(m, w2c_j0, w2c_i1, w2c_i2, w2c_i3, w2c_j4, w2c_j5, w2c_j6);
   w2c_p3 = w2c_i0;
   w2c_f1(m);
   w2c_i0 = w2c_p3;
   return w2c_i0;
 }
 
-static u32 w2c_f87(module *m, u64 w2c_p0, u32 w2c_p1, u32 w2c_p2, u32 w2c_p3, u64 w2c_p4, u64 w2c_p5, u64 w2c_p6) {
+static u32 w2c_f89(module *m, u64 w2c_p0, u32 w2c_p1, u32 w2c_p2, u32 w2c_p3, u64 w2c_p4, u64 w2c_p5, u64 w2c_p6) {
   u32 w2c_l27 = 0, w2c_l28 = 0, w2c_l29 = 0, w2c_l30 = 0, w2c_l31 = 0;
   u64 w2c_l7 = 0, w2c_l8 = 0, w2c_l9 = 0, w2c_l10 = 0, w2c_l11 = 0, w2c_l12 = 0, w2c_l13 = 0, w2c_l14 = 0, w2c_l15 = 0, w2c_l16 = 0, w2c_l17 = 0, w2c_l18 = 0, w2c_l19 = 0, w2c_l20 = 0, w2c_l21 = 0, w2c_l22 = 0, w2c_l23 = 0, w2c_l24 = 0, w2c_l25 = 0, w2c_l26 = 0;
   u32 w2c_i0, w2c_i1, w2c_i2, w2c_i3, w2c_i4, w2c_i5, w2c_i6;
@@ -55412,7 +55929,7 @@ static u32 w2c_f87(module *m, u64 w2c_p0, u32 w2c_p1, u32 w2c_p2, u32 w2c_p3, u6
   w2c_i4 = 0u;
   w2c_j5 = w2c_l14;
   w2c_j6 = w2c_l15;
-  w2c_j1 = w2c_f30(m, w2c_j1, w2c_j2, w2c_i3, w2c_i4, w2c_j5, w2c_j6);
+  w2c_j1 = w2c_f32(m, w2c_j1, w2c_j2, w2c_i3, w2c_i4, w2c_j5, w2c_j6);
   w2c_p0 = w2c_j1;
   w2c_j0 -= w2c_j1;
   w2c_l11 = w2c_j0;
@@ -55525,7 +56042,7 @@ static u32 w2c_f87(module *m, u64 w2c_p0, u32 w2c_p1, u32 w2c_p2, u32 w2c_p3, u6
   w2c_i3 = 0u;
   w2c_j4 = w2c_l7;
   w2c_j5 = w2c_l10;
-  w2c_j0 = w2c_f30(m, w2c_j0, w2c_j1, w2c_i2, w2c_i3, w2c_j4, w2c_j5);
+  w2c_j0 = w2c_f32(m, w2c_j0, w2c_j1, w2c_i2, w2c_i3, w2c_j4, w2c_j5);
   w2c_l10 = w2c_j0;
   w2c_j0 = w2c_l12;
   w2c_i0 = (u32)(w2c_j0);
@@ -55667,7 +56184,7 @@ static u32 w2c_f87(module *m, u64 w2c_p0, u32 w2c_p1, u32 w2c_p2, u32 w2c_p3, u6
   w2c_j3 = w2c_l11;
   w2c_j2 -= w2c_j3;
   w2c_l22 = w2c_j2;
-  w2c_f32(m, w2c_j0, w2c_j1, w2c_j2);
+  w2c_f34(m, w2c_j0, w2c_j1, w2c_j2);
   w2c_j0 = w2c_l8;
   w2c_i0 = (u32)(w2c_j0);
   w2c_i0 = i32_load8_u(m, (u64)(w2c_i0) + 992u);
@@ -55680,7 +56197,7 @@ static u32 w2c_f87(module *m, u64 w2c_p0, u32 w2c_p1, u32 w2c_p2, u32 w2c_p3, u6
   w2c_j1 = w2c_l8;
   w2c_i1 = (u32)(w2c_j1);
   w2c_i1 = i32_load(m, (u64)(w2c_i1) + 1000u);
-  w2c_f37(m, w2c_j0, w2c_i1);
+  w2c_f39(m, w2c_j0, w2c_i1);
   w2c_j0 = w2c_l8;
   w2c_i0 = (u32)(w2c_j0);
   w2c_i0 = i32_load8_u(m, (u64)(w2c_i0) + 40u);
@@ -55723,7 +56240,7 @@ static u32 w2c_f87(module *m, u64 w2c_p0, u32 w2c_p1, u32 w2c_p2, u32 w2c_p3, u6
     w2c_j0 += w2c_j1;
     w2c_j1 = w2c_l10;
     w2c_j2 = w2c_l11;
-    w2c_f32(m, w2c_j0, w2c_j1, w2c_j2);
+    w2c_f34(m, w2c_j0, w2c_j1, w2c_j2);
     w2c_j0 = w2c_l8;
     w2c_i0 = (u32)(w2c_j0);
     w2c_i0 = i32_load8_u(m, (u64)(w2c_i0) + 992u);
@@ -55750,7 +56267,7 @@ static u32 w2c_f87(module *m, u64 w2c_p0, u32 w2c_p1, u32 w2c_p2, u32 w2c_p3, u6
     w2c_j1 = w2c_l8;
     w2c_i1 = (u32)(w2c_j1);
     w2c_i1 = i32_load(m, (u64)(w2c_i1) + 1000u);
-    w2c_f37(m, w2c_j0, w2c_i1);
+    w2c_f39(m, w2c_j0, w2c_i1);
     w2c_j0 = w2c_l8;
     w2c_i0 = (u32)(w2c_j0);
     w2c_i0 = i32_load8_u(m, (u64)(w2c_i0) + 32u);
@@ -55892,7 +56409,7 @@ static u32 w2c_f87(module *m, u64 w2c_p0, u32 w2c_p1, u32 w2c_p2, u32 w2c_p3, u6
   w2c_i6 = 0u;
   w2c_j7 = w2c_p0;
   w2c_j8 = w2c_l7;
-  w2c_j3 = w2c_f30(m, w2c_j3, w2c_j4, w2c_i5, w2c_i6, w2c_j7, w2c_j8);
+  w2c_j3 = w2c_f32(m, w2c_j3, w2c_j4, w2c_i5, w2c_i6, w2c_j7, w2c_j8);
   w2c_l12 = w2c_j3;
   w2c_j2 -= w2c_j3;
   w2c_l7 = w2c_j2;
@@ -56115,20 +56632,20 @@ static u32 w2c_chinese_quantity_read(module *m, u64 w2c_p0, u64 w2c_p1, u32 w2c_
   w2c_j1 = w2c_p1;
   w2c_i2 = w2c_p2;
   w2c_j3 = w2c_p3;
-  w2c_i0 = w2c_f89(m, w2c_j0, w2c_j1, w2c_i2, w2c_j3);
+  w2c_i0 = w2c_f91(m, w2c_j0, w2c_j1, w2c_i2, w2c_j3);
   w2c_p2 = w2c_i0;
   w2c_f1(m);
   w2c_i0 = w2c_p2;
   return w2c_i0;
 }
 
-static u32 w2c_f89(module *m, u64 w2c_p0, u64 w2c_p1, u32 w2c_p2, u64 w2c_p3) {
+static u32 w2c_f91(module *m, u64 w2c_p0, u64 w2c_p1, u32 w2c_p2, u64 w2c_p3) {
   u32 w2c_l8 = 0;
   u64 w2c_l4 = 0, w2c_l5 = 0, w2c_l6 = 0, w2c_l7 = 0;
   u32 w2c_i0, w2c_i1, w2c_i2, w2c_i3, w2c_i4, w2c_i5;
   u64 w2c_j0, w2c_j1, w2c_j2, w2c_j3, w2c_j4, w2c_j5;
   w2c_j0 = m->w2c_g0;
-  w2c_j1 = 64ull;
+  w2c_j1 = 80ull;
   w2c_j0 -= w2c_j1;
   w2c_l4 = w2c_j0;
   m->w2c_g0 = w2c_j0;
@@ -56168,6 +56685,14 @@ static u32 w2c_f89(module *m, u64 w2c_p0, u64 w2c_p1, u32 w2c_p2, u64 w2c_p3) {
   w2c_j0 = w2c_l4;
   w2c_i0 = (u32)(w2c_j0);
   w2c_j1 = 0ull;
+  i64_store(m, (u64)(w2c_i0) + 72, w2c_j1);
+  w2c_j0 = w2c_l4;
+  w2c_i0 = (u32)(w2c_j0);
+  w2c_j1 = 0ull;
+  i64_store(m, (u64)(w2c_i0) + 64, w2c_j1);
+  w2c_j0 = w2c_l4;
+  w2c_i0 = (u32)(w2c_j0);
+  w2c_j1 = 0ull;
   i64_store(m, (u64)(w2c_i0) + 56, w2c_j1);
   w2c_j0 = w2c_l4;
   w2c_i0 = (u32)(w2c_j0);
@@ -56189,14 +56714,6 @@ static u32 w2c_f89(module *m, u64 w2c_p0, u64 w2c_p1, u32 w2c_p2, u64 w2c_p3) {
   w2c_i0 = (u32)(w2c_j0);
   w2c_j1 = 0ull;
   i64_store(m, (u64)(w2c_i0) + 16, w2c_j1);
-  w2c_j0 = w2c_l4;
-  w2c_i0 = (u32)(w2c_j0);
-  w2c_j1 = 0ull;
-  i64_store(m, (u64)(w2c_i0) + 8, w2c_j1);
-  w2c_j0 = w2c_l4;
-  w2c_i0 = (u32)(w2c_j0);
-  w2c_j1 = 0ull;
-  i64_store(m, (u64)(w2c_i0), w2c_j1);
   w2c_i0 = 8u;
   w2c_l8 = w2c_i0;
   w2c_i0 = w2c_p2;
@@ -56244,7 +56761,7 @@ static u32 w2c_f89(module *m, u64 w2c_p0, u64 w2c_p1, u32 w2c_p2, u64 w2c_p3) {
     w2c_j0 = w2c_p0;
     w2c_i0 = (u32)(w2c_j0);
     w2c_i0 = i32_load(m, (u64)(w2c_i0));
-    w2c_i1 = 16776989u;
+    w2c_i1 = 16776990u;
     w2c_i0 += w2c_i1;
     w2c_i1 = 12632312u;
     w2c_i0 &= w2c_i1;
@@ -56288,7 +56805,7 @@ static u32 w2c_f89(module *m, u64 w2c_p0, u64 w2c_p1, u32 w2c_p2, u64 w2c_p3) {
   w2c_i2 = 16u;
   w2c_i1 <<= (w2c_i2 & 31);
   w2c_i0 |= w2c_i1;
-  w2c_i1 = 16776989u;
+  w2c_i1 = 16776990u;
   w2c_i0 += w2c_i1;
   w2c_i1 = 12632312u;
   w2c_i0 &= w2c_i1;
@@ -56305,13 +56822,15 @@ static u32 w2c_f89(module *m, u64 w2c_p0, u64 w2c_p1, u32 w2c_p2, u64 w2c_p3) {
   goto w2c_B0;
   w2c_B3:;
   w2c_j0 = w2c_l4;
+  w2c_j1 = 16ull;
+  w2c_j0 += w2c_j1;
   w2c_j1 = w2c_l6;
   w2c_j2 = w2c_p1;
   w2c_i3 = 0u;
   w2c_i4 = w2c_l8;
   w2c_i5 = w2c_p2;
   w2c_i3 = w2c_i5 ? w2c_i3 : w2c_i4;
-  w2c_f31(m, w2c_j0, w2c_j1, w2c_j2, w2c_i3);
+  w2c_f33(m, w2c_j0, w2c_j1, w2c_j2, w2c_i3);
   w2c_j0 = w2c_p3;
   w2c_i0 = (u32)(w2c_j0);
   w2c_j1 = 0ull;
@@ -56342,29 +56861,29 @@ static u32 w2c_f89(module *m, u64 w2c_p0, u64 w2c_p1, u32 w2c_p2, u64 w2c_p3) {
   i64_store(m, (u64)(w2c_i0) + 48, w2c_j1);
   w2c_j0 = w2c_l4;
   w2c_i0 = (u32)(w2c_j0);
-  w2c_j0 = i64_load(m, (u64)(w2c_i0) + 16u);
+  w2c_j0 = i64_load(m, (u64)(w2c_i0) + 32u);
   w2c_l5 = w2c_j0;
   w2c_j0 = w2c_l4;
   w2c_i0 = (u32)(w2c_j0);
-  w2c_i0 = i32_load8_u(m, (u64)(w2c_i0));
+  w2c_i0 = i32_load8_u(m, (u64)(w2c_i0) + 16u);
   if (w2c_i0) {goto w2c_B8;}
   w2c_j0 = w2c_l4;
   w2c_i0 = (u32)(w2c_j0);
-  w2c_j0 = i64_load(m, (u64)(w2c_i0) + 40u);
+  w2c_j0 = i64_load(m, (u64)(w2c_i0) + 56u);
   w2c_p1 = w2c_j0;
   w2c_j0 = w2c_l4;
   w2c_i0 = (u32)(w2c_j0);
-  w2c_j0 = i64_load(m, (u64)(w2c_i0) + 32u);
+  w2c_j0 = i64_load(m, (u64)(w2c_i0) + 48u);
   w2c_l6 = w2c_j0;
   w2c_j0 = w2c_l4;
   w2c_i0 = (u32)(w2c_j0);
-  w2c_j0 = i64_load(m, (u64)(w2c_i0) + 24u);
+  w2c_j0 = i64_load(m, (u64)(w2c_i0) + 40u);
   w2c_p0 = w2c_j0;
   w2c_j0 = w2c_p3;
   w2c_i0 = (u32)(w2c_j0);
   w2c_j1 = w2c_l4;
   w2c_i1 = (u32)(w2c_j1);
-  w2c_i1 = i32_load8_u(m, (u64)(w2c_i1) + 48u);
+  w2c_i1 = i32_load8_u(m, (u64)(w2c_i1) + 64u);
   i32_store(m, (u64)(w2c_i0) + 32, w2c_i1);
   w2c_j0 = w2c_p3;
   w2c_i0 = (u32)(w2c_j0);
@@ -56425,7 +56944,7 @@ static u32 w2c_f89(module *m, u64 w2c_p0, u64 w2c_p1, u32 w2c_p2, u64 w2c_p3) {
   w2c_l8 = w2c_i0;
   w2c_j0 = w2c_l4;
   w2c_i0 = (u32)(w2c_j0);
-  w2c_i0 = i32_load8_u(m, (u64)(w2c_i0) + 8u);
+  w2c_i0 = i32_load8_u(m, (u64)(w2c_i0) + 24u);
   switch (w2c_i0) {
     case 0: goto w2c_B0;
     case 1: goto w2c_B10;
@@ -56441,18 +56960,34 @@ static u32 w2c_f89(module *m, u64 w2c_p0, u64 w2c_p1, u32 w2c_p2, u64 w2c_p3) {
   w2c_j0 = 0ull;
   w2c_p0 = w2c_j0;
   w2c_j0 = w2c_l5;
-  w2c_j1 = 3ull;
+  w2c_j1 = 16ull;
   w2c_i0 = w2c_j0 < w2c_j1;
   if (w2c_i0) {goto w2c_B11;}
-  w2c_j0 = 0ull;
+  w2c_j0 = w2c_l4;
+  w2c_j1 = w2c_l6;
+  w2c_j2 = w2c_p1;
+  w2c_j3 = w2c_l5;
+  w2c_f14(m, w2c_j0, w2c_j1, w2c_j2, w2c_j3);
+  w2c_j0 = w2c_l4;
+  w2c_i0 = (u32)(w2c_j0);
+  w2c_j0 = i64_load(m, (u64)(w2c_i0) + 8u);
+  w2c_l5 = w2c_j0;
+  w2c_j0 = w2c_l4;
+  w2c_i0 = (u32)(w2c_j0);
+  w2c_j0 = i64_load(m, (u64)(w2c_i0));
   w2c_p0 = w2c_j0;
-  w2c_L12:
+  w2c_B11:;
+  w2c_j0 = w2c_l5;
+  w2c_j1 = 3ull;
+  w2c_i0 = w2c_j0 < w2c_j1;
+  if (w2c_i0) {goto w2c_B12;}
+  w2c_L13:
     w2c_j0 = w2c_p1;
     w2c_j1 = w2c_p0;
     w2c_j0 -= w2c_j1;
     w2c_j1 = 8ull;
     w2c_i0 = w2c_j0 < w2c_j1;
-    if (w2c_i0) {goto w2c_B11;}
+    if (w2c_i0) {goto w2c_B12;}
     w2c_j0 = w2c_l6;
     w2c_j1 = w2c_p0;
     w2c_j0 += w2c_j1;
@@ -56463,7 +56998,7 @@ static u32 w2c_f89(module *m, u64 w2c_p0, u64 w2c_p1, u32 w2c_p2, u64 w2c_p3) {
     w2c_j0 &= w2c_j1;
     w2c_j1 = 63050398541283552ull;
     w2c_i0 = w2c_j0 != w2c_j1;
-    if (w2c_i0) {goto w2c_B14;}
+    if (w2c_i0) {goto w2c_B15;}
     w2c_j0 = w2c_l5;
     w2c_j1 = 18446744073709551613ull;
     w2c_j0 += w2c_j1;
@@ -56472,18 +57007,18 @@ static u32 w2c_f89(module *m, u64 w2c_p0, u64 w2c_p1, u32 w2c_p2, u64 w2c_p3) {
     w2c_j1 = 9ull;
     w2c_j0 += w2c_j1;
     w2c_p0 = w2c_j0;
-    goto w2c_B13;
-    w2c_B14:;
+    goto w2c_B14;
+    w2c_B15:;
     w2c_j0 = w2c_l5;
     w2c_j1 = 8ull;
     w2c_i0 = w2c_j0 < w2c_j1;
-    if (w2c_i0) {goto w2c_B11;}
+    if (w2c_i0) {goto w2c_B12;}
     w2c_j0 = w2c_l7;
     w2c_j1 = 9259542123273814144ull;
     w2c_j0 &= w2c_j1;
     w2c_j1 = 0ull;
     w2c_i0 = w2c_j0 != w2c_j1;
-    if (w2c_i0) {goto w2c_B11;}
+    if (w2c_i0) {goto w2c_B12;}
     w2c_j0 = w2c_l5;
     w2c_j1 = 18446744073709551608ull;
     w2c_j0 += w2c_j1;
@@ -56492,24 +57027,24 @@ static u32 w2c_f89(module *m, u64 w2c_p0, u64 w2c_p1, u32 w2c_p2, u64 w2c_p3) {
     w2c_j1 = 8ull;
     w2c_j0 += w2c_j1;
     w2c_p0 = w2c_j0;
-    w2c_B13:;
+    w2c_B14:;
     w2c_j0 = w2c_l5;
     w2c_j1 = 2ull;
     w2c_i0 = w2c_j0 > w2c_j1;
-    if (w2c_i0) {goto w2c_L12;}
-  w2c_B11:;
+    if (w2c_i0) {goto w2c_L13;}
+  w2c_B12:;
+  w2c_j0 = w2c_l5;
+  w2c_i0 = !(w2c_j0);
+  if (w2c_i0) {goto w2c_B16;}
   w2c_j0 = w2c_p1;
   w2c_j1 = w2c_p0;
   w2c_i0 = w2c_j0 <= w2c_j1;
-  if (w2c_i0) {goto w2c_B15;}
-  w2c_j0 = w2c_l5;
-  w2c_i0 = !(w2c_j0);
-  if (w2c_i0) {goto w2c_B15;}
+  if (w2c_i0) {goto w2c_B16;}
   w2c_j0 = w2c_l5;
   w2c_j1 = 18446744073709551615ull;
   w2c_j0 += w2c_j1;
   w2c_l5 = w2c_j0;
-  w2c_L16:
+  w2c_L17:
     w2c_j0 = w2c_l6;
     w2c_j1 = w2c_p0;
     w2c_j0 += w2c_j1;
@@ -56529,7 +57064,7 @@ static u32 w2c_f89(module *m, u64 w2c_p0, u64 w2c_p1, u32 w2c_p2, u64 w2c_p3) {
     w2c_p0 = w2c_j0;
     w2c_j0 = w2c_l5;
     w2c_i0 = !(w2c_j0);
-    if (w2c_i0) {goto w2c_B15;}
+    if (w2c_i0) {goto w2c_B16;}
     w2c_j0 = w2c_l5;
     w2c_j1 = 18446744073709551615ull;
     w2c_j0 += w2c_j1;
@@ -56537,8 +57072,8 @@ static u32 w2c_f89(module *m, u64 w2c_p0, u64 w2c_p1, u32 w2c_p2, u64 w2c_p3) {
     w2c_j0 = w2c_p1;
     w2c_j1 = w2c_p0;
     w2c_i0 = w2c_j0 > w2c_j1;
-    if (w2c_i0) {goto w2c_L16;}
-  w2c_B15:;
+    if (w2c_i0) {goto w2c_L17;}
+  w2c_B16:;
   w2c_j0 = w2c_p3;
   w2c_i0 = (u32)(w2c_j0);
   w2c_j1 = w2c_p0;
@@ -56557,7 +57092,7 @@ static u32 w2c_f89(module *m, u64 w2c_p0, u64 w2c_p1, u32 w2c_p2, u64 w2c_p3) {
   w2c_l8 = w2c_i0;
   w2c_B0:;
   w2c_j0 = w2c_l4;
-  w2c_j1 = 64ull;
+  w2c_j1 = 80ull;
   w2c_j0 += w2c_j1;
   m->w2c_g0 = w2c_j0;
   w2c_i0 = w2c_l8;
@@ -56578,14 +57113,14 @@ static u32 w2c_chinese_number_read_utf8(module *m, u64 w2c_p0, u64 w2c_p1, u32 w
   w2c_i2 = w2c_p2;
   w2c_i3 = w2c_p3;
   w2c_j4 = w2c_p4;
-  w2c_i0 = w2c_f91(m, w2c_j0, w2c_j1, w2c_i2, w2c_i3, w2c_j4);
+  w2c_i0 = w2c_f93(m, w2c_j0, w2c_j1, w2c_i2, w2c_i3, w2c_j4);
   w2c_p3 = w2c_i0;
   w2c_f1(m);
   w2c_i0 = w2c_p3;
   return w2c_i0;
 }
 
-static u32 w2c_f91(module *m, u64 w2c_p0, u64 w2c_p1, u32 w2c_p2, u32 w2c_p3, u64 w2c_p4) {
+static u32 w2c_f93(module *m, u64 w2c_p0, u64 w2c_p1, u32 w2c_p2, u32 w2c_p3, u64 w2c_p4) {
   u32 w2c_l7 = 0;
   u64 w2c_l5 = 0, w2c_l6 = 0;
   u32 w2c_i0, w2c_i1, w2c_i2, w2c_i3, w2c_i4;
@@ -56619,7 +57154,7 @@ static u32 w2c_f91(module *m, u64 w2c_p0, u64 w2c_p1, u32 w2c_p2, u32 w2c_p3, u6
   w2c_j1 = w2c_p1;
   w2c_i2 = w2c_p2;
   w2c_j3 = w2c_p4;
-  w2c_i0 = w2c_f51(m, w2c_j0, w2c_j1, w2c_i2, w2c_j3);
+  w2c_i0 = w2c_f53(m, w2c_j0, w2c_j1, w2c_i2, w2c_j3);
   w2c_p2 = w2c_i0;
   w2c_j0 = w2c_l5;
   m->w2c_g0 = w2c_j0;
@@ -56678,7 +57213,7 @@ static u32 w2c_f91(module *m, u64 w2c_p0, u64 w2c_p1, u32 w2c_p2, u32 w2c_p3, u6
   w2c_i3 = w2c_l7;
   w2c_i4 = w2c_p3;
   w2c_j5 = w2c_p4;
-  w2c_i0 = w2c_f48(m, w2c_j0, w2c_j1, w2c_i2, w2c_i3, w2c_i4, w2c_j5);
+  w2c_i0 = w2c_f50(m, w2c_j0, w2c_j1, w2c_i2, w2c_i3, w2c_i4, w2c_j5);
   w2c_p2 = w2c_i0;
   w2c_j0 = w2c_l5;
   m->w2c_g0 = w2c_j0;
@@ -56693,7 +57228,7 @@ static u32 w2c_f91(module *m, u64 w2c_p0, u64 w2c_p1, u32 w2c_p2, u32 w2c_p3, u6
   w2c_i3 = w2c_l7;
   w2c_i4 = w2c_p3;
   w2c_j5 = w2c_p4;
-  w2c_i0 = w2c_f50(m, w2c_j0, w2c_j1, w2c_i2, w2c_i3, w2c_i4, w2c_j5);
+  w2c_i0 = w2c_f52(m, w2c_j0, w2c_j1, w2c_i2, w2c_i3, w2c_i4, w2c_j5);
   w2c_p2 = w2c_i0;
   w2c_j0 = w2c_l5;
   m->w2c_g0 = w2c_j0;
@@ -56716,14 +57251,14 @@ static u32 w2c_chinese_number_read(module *m, u64 w2c_p0, u64 w2c_p1, u32 w2c_p2
   w2c_i2 = w2c_p2;
   w2c_i3 = w2c_p3;
   w2c_j4 = w2c_p4;
-  w2c_i0 = w2c_f93(m, w2c_j0, w2c_j1, w2c_i2, w2c_i3, w2c_j4);
+  w2c_i0 = w2c_f95(m, w2c_j0, w2c_j1, w2c_i2, w2c_i3, w2c_j4);
   w2c_p3 = w2c_i0;
   w2c_f1(m);
   w2c_i0 = w2c_p3;
   return w2c_i0;
 }
 
-static u32 w2c_f93(module *m, u64 w2c_p0, u64 w2c_p1, u32 w2c_p2, u32 w2c_p3, u64 w2c_p4) {
+static u32 w2c_f95(module *m, u64 w2c_p0, u64 w2c_p1, u32 w2c_p2, u32 w2c_p3, u64 w2c_p4) {
   u32 w2c_l8 = 0;
   u64 w2c_l5 = 0, w2c_l6 = 0, w2c_l7 = 0;
   u32 w2c_i0, w2c_i1, w2c_i2, w2c_i3, w2c_i4;
@@ -56778,7 +57313,7 @@ static u32 w2c_f93(module *m, u64 w2c_p0, u64 w2c_p1, u32 w2c_p2, u32 w2c_p3, u6
     w2c_j0 = w2c_p0;
     w2c_i0 = (u32)(w2c_j0);
     w2c_i0 = i32_load(m, (u64)(w2c_i0));
-    w2c_i1 = 16776989u;
+    w2c_i1 = 16776990u;
     w2c_i0 += w2c_i1;
     w2c_i1 = 12632312u;
     w2c_i0 &= w2c_i1;
@@ -56822,7 +57357,7 @@ static u32 w2c_f93(module *m, u64 w2c_p0, u64 w2c_p1, u32 w2c_p2, u32 w2c_p3, u6
   w2c_i2 = 16u;
   w2c_i1 <<= (w2c_i2 & 31);
   w2c_i0 |= w2c_i1;
-  w2c_i1 = 16776989u;
+  w2c_i1 = 16776990u;
   w2c_i0 += w2c_i1;
   w2c_i1 = 12632312u;
   w2c_i0 &= w2c_i1;
@@ -56860,7 +57395,7 @@ static u32 w2c_f93(module *m, u64 w2c_p0, u64 w2c_p1, u32 w2c_p2, u32 w2c_p3, u6
   w2c_i3 = w2c_l8;
   w2c_i4 = w2c_p3;
   w2c_j5 = w2c_p4;
-  w2c_i0 = w2c_f48(m, w2c_j0, w2c_j1, w2c_i2, w2c_i3, w2c_i4, w2c_j5);
+  w2c_i0 = w2c_f50(m, w2c_j0, w2c_j1, w2c_i2, w2c_i3, w2c_i4, w2c_j5);
   w2c_p2 = w2c_i0;
   w2c_j0 = w2c_l5;
   m->w2c_g0 = w2c_j0;
@@ -56873,7 +57408,7 @@ static u32 w2c_f93(module *m, u64 w2c_p0, u64 w2c_p1, u32 w2c_p2, u32 w2c_p3, u6
   w2c_i3 = w2c_l8;
   w2c_i4 = w2c_p3;
   w2c_j5 = w2c_p4;
-  w2c_i0 = w2c_f50(m, w2c_j0, w2c_j1, w2c_i2, w2c_i3, w2c_i4, w2c_j5);
+  w2c_i0 = w2c_f52(m, w2c_j0, w2c_j1, w2c_i2, w2c_i3, w2c_i4, w2c_j5);
   w2c_p2 = w2c_i0;
   w2c_j0 = w2c_l5;
   m->w2c_g0 = w2c_j0;
@@ -56884,7 +57419,7 @@ static u32 w2c_f93(module *m, u64 w2c_p0, u64 w2c_p1, u32 w2c_p2, u32 w2c_p3, u6
   w2c_j1 = w2c_p1;
   w2c_i2 = w2c_p2;
   w2c_j3 = w2c_p4;
-  w2c_i0 = w2c_f51(m, w2c_j0, w2c_j1, w2c_i2, w2c_j3);
+  w2c_i0 = w2c_f53(m, w2c_j0, w2c_j1, w2c_i2, w2c_j3);
   w2c_p2 = w2c_i0;
   w2c_j0 = w2c_l5;
   m->w2c_g0 = w2c_j0;
@@ -56896,7 +57431,7 @@ static u32 w2c_f93(module *m, u64 w2c_p0, u64 w2c_p1, u32 w2c_p2, u32 w2c_p3, u6
   w2c_i2 = w2c_p2;
   w2c_i3 = w2c_p3;
   w2c_j4 = w2c_p4;
-  w2c_i0 = w2c_f53(m, w2c_j0, w2c_j1, w2c_i2, w2c_i3, w2c_j4);
+  w2c_i0 = w2c_f55(m, w2c_j0, w2c_j1, w2c_i2, w2c_i3, w2c_j4);
   w2c_p2 = w2c_i0;
   w2c_j0 = w2c_l5;
   m->w2c_g0 = w2c_j0;

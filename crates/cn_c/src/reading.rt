@@ -59,15 +59,12 @@ fn tell_refusal(text: &str, error: ChineseToNumberError, reading: &mut Reading) 
     ensures reading { reading.new ≡ no_number (chars_in_front (refusal_of error))
         (bytes_in_front text.now (refusal_of error)) }
 {
-    if let ChineseToNumberError::ChineseNumberIncorrect { char_index } = error {
-        *reading = Reading {
-            char_index,
-            byte_index: byte_index(text, char_index),
-            ..NOTHING
-        };
-        return INCORRECT;
-    }
     *reading = NOTHING;
+    if let ChineseToNumberError::ChineseNumberIncorrect { char_index } = error {
+        // It is told in front of the search for its byte, so that no register keeps it meanwhile.
+        reading.char_index = char_index;
+        reading.byte_index = byte_index(text, char_index);
+    }
     refusal_status(error)
 }
 

@@ -26,14 +26,7 @@ other_scalar c high past = by (ltb c 55296) refl where
   by true s = low_scalar c (below c 55296 s)
   by false s = high_scalar c (past (ltb-false c 55296 s)) (omega (arith, high))
 
--- bytes in these ranges are a character
-pub one_is_utf8 : (bytes : List ℕ) → 0 < length bytes → get_or bytes 0 0 < 128
-    → IsUtf8 (take 1 bytes)
-one_is_utf8 [] some low = absurd (omega (arith, some))
-one_is_utf8 (a ∷ rest) some low =
-    subst IsUtf8 (encoded a true _ _ (search (rules, nat_tests)) refl refl)
-    (IsUtf8-encode a (low_scalar a (omega (arith, low))))
-
+-- bytes in these ranges are a character of two, three or four
 pub two_are_utf8 : (bytes : List ℕ) → IsTwo (get_or bytes 0 0) (get_or bytes 1 0)
     → IsUtf8 (take 2 bytes)
 two_are_utf8 [] is = absurd (omega (arith, is.0))
@@ -138,7 +131,7 @@ one-of-these c rest valid =
             (omega (arith, great), omega (arith, small)),
           )
 
-others_are_not : (bytes : List ℕ) → 0 < length bytes → 128 ≤ get_or bytes 0 0
+pub others_are_not : (bytes : List ℕ) → 0 < length bytes → 128 ≤ get_or bytes 0 0
     → ¬ (IsTwo (get_or bytes 0 0) (get_or bytes 1 0))
     → ¬ (IsThree (get_or bytes 0 0) (get_or bytes 1 0) (get_or bytes 2 0))
     → ¬ (IsFour (get_or bytes 0 0) (get_or bytes 1 0) (get_or bytes 2 0) (get_or bytes 3 0))
@@ -156,26 +149,6 @@ others_are_not bytes some low two three four = by (is_utf8 bytes) refl where
   by : (all : Bool) → is_utf8 bytes ≡ all → all ≡ false
   by false e = refl
   by true e = let whole = IsUtf8-from_is_utf8 bytes e in absurd (from whole.0 whole.1.0 whole.1.1)
-
-pub no_two : (bytes : List ℕ) → 0 < length bytes → 128 ≤ get_or bytes 0 0 → get_or bytes 0 0 < 224
-    → ¬ (IsTwo (get_or bytes 0 0) (get_or bytes 1 0)) → is_utf8 bytes ≡ false
-no_two bytes some low high none =
-    others_are_not bytes some low none (λ is. omega (arith, high, is.0))
-    (λ is. omega (arith, high, is.0, is.3))
-
-pub no_three : (bytes : List ℕ) → 0 < length bytes → 224 ≤ get_or bytes 0 0
-    → get_or bytes 0 0 < 240
-    → ¬ (IsThree (get_or bytes 0 0) (get_or bytes 1 0) (get_or bytes 2 0)) → is_utf8 bytes ≡ false
-no_three bytes some low high none =
-    others_are_not bytes some (omega (arith, low)) (λ is. omega (arith, low, is.0)) none
-    (λ is. omega (arith, high, is.0, is.3))
-
-pub no_four : (bytes : List ℕ) → 0 < length bytes → 240 ≤ get_or bytes 0 0
-    → ¬ (IsFour (get_or bytes 0 0) (get_or bytes 1 0) (get_or bytes 2 0) (get_or bytes 3 0))
-    → is_utf8 bytes ≡ false
-no_four bytes some low none =
-    others_are_not bytes some (omega (arith, low)) (λ is. omega (arith, low, is.0))
-    (λ is. omega (arith, low, is.0)) none
 
 pub none_are_utf8 : (bytes : List ℕ) → length bytes ≡ 0 → is_utf8 bytes ≡ true
 none_are_utf8 [] none = is_utf8-from_IsUtf8 [] IsUtf8-nil
@@ -227,7 +200,6 @@ pub record StartsWithWord (bytes : List ℕ) (word : ℕ) : Type 0 where
   pub first : word % 256 ≡ get_or bytes 0 0
   pub second : word / 256 % 256 ≡ get_or bytes 1 0
   pub third : word / 65536 % 256 ≡ get_or bytes 2 0
-  pub fourth : word / 16777216 ≡ get_or bytes 3 0
 
 pub starts-with-word : (bytes four : List ℕ) (word : ℕ) → ((i : ℕ) → get_or bytes i 0 < 256)
     → IsFirstChunk bytes four 4 → word ≡ from_le_bytes w32 four → StartsWithWord bytes word
@@ -245,14 +217,13 @@ starts-with-word bytes four word fits chunk is =
       first = omega (arith, is, e, f, g, h, p, q, r, s);
       second = omega (arith, is, e, f, g, h, p, q, r, s);
       third = omega (arith, is, e, f, g, h, p, q, r, s);
-      fourth = omega (arith, is, e, f, g, h, p, q, r, s);
     } where
       at : (i : ℕ) → i < 4 → get_or four i 0 ≡ get_or bytes i 0
       at i low = ap (λ l. get_or l i 0) chunk.same ∙ get_or-take 4 bytes i 0 low
 
 -- three bytes of which these are the key are a character
 pub common_is_utf8 : (bytes : List ℕ) (first second third : ℕ) → first ≡ get_or bytes 0 0
-    → second ≡ get_or bytes 1 0 → third ≡ get_or bytes 2 0 → IsInRange 0xE3 0xEA first
+    → second ≡ get_or bytes 1 0 → third ≡ get_or bytes 2 0 → IsInRange 0xE2 0xE9 first
     → IsInRange 0x80 0xBF second → IsInRange 0x80 0xBF third → IsUtf8 (take 3 bytes)
 common_is_utf8 bytes first second third e f g p q r =
     three_are_utf8 bytes (
@@ -277,7 +248,7 @@ all_ascii_are_utf8 bytes n within at = IsUtf8-from_ascii (take n bytes) low wher
         subst (λ b. b < 128) (sym (get_or_past (take n bytes) k 0 past)) (omega arith)
 
 -- and so are more of them behind
-more-ascii : (bytes : List ℕ) (n m : ℕ) → ((k : ℕ) → k < n → get_or bytes k 0 < 128)
+pub more-ascii : (bytes : List ℕ) (n m : ℕ) → ((k : ℕ) → k < n → get_or bytes k 0 < 128)
     → ((k : ℕ) → k < m → get_or bytes (n + k) 0 < 128)
     → (k : ℕ) → k < n + m → get_or bytes k 0 < 128
 more-ascii bytes n m front behind k less = by (ltb k n) refl where
@@ -286,23 +257,6 @@ more-ascii bytes n m front behind k less = by (ltb k n) refl where
   by false e =
       let far = ltb-false k n e in
       subst (λ i. get_or bytes i 0 < 128) (omega (arith, far)) (behind (k - n) (omega (arith, far, less)))
-
--- eight, or sixteen, from the front on
-first-eight : (bytes : List ℕ) → ((k : ℕ) → k < 8 → get_or bytes (0 + k) 0 < 128)
-    → (k : ℕ) → k < 8 → get_or bytes k 0 < 128
-first-eight bytes low k less = subst (λ i. get_or bytes i 0 < 128) (omega arith) (low k less)
-
-pub eight_are_utf8 : (bytes : List ℕ) → 0 + 8 ≤ length bytes
-    → ((k : ℕ) → k < 8 → get_or bytes (0 + k) 0 < 128) → IsUtf8 (take 8 bytes)
-eight_are_utf8 bytes within low =
-    all_ascii_are_utf8 bytes 8 (omega (arith, within)) (first-eight bytes low)
-
-pub sixteen_are_utf8 : (bytes : List ℕ) → 8 + 8 ≤ length bytes
-    → ((k : ℕ) → k < 8 → get_or bytes (0 + k) 0 < 128)
-    → ((k : ℕ) → k < 8 → get_or bytes (8 + k) 0 < 128) → IsUtf8 (take 16 bytes)
-sixteen_are_utf8 bytes within low more =
-    all_ascii_are_utf8 bytes 16 (omega (arith, within))
-    (more-ascii bytes 8 8 (first-eight bytes low) more)
 
 -- four at most, by the bytes of a word
 pub ascii_are_utf8 : (bytes : List ℕ) (n : ℕ) → n ≤ length bytes → n ≤ 4

@@ -2,20 +2,20 @@
 ghost use Rattle.std.specs.Prelude.{◌≡◌, ◌↔◌, ◌/◌, ◌%◌, ◌<◌, ◌≤◌, true, false, take, get_or, length, IsTrue, IsUtf8, MatchOption};
 ghost use Rattle.std.specs.Int.{IsInRange};
 ghost use Rattle.std.specs.Str.{is_utf8};
-ghost use Rattle.cn_faces.specs.Private.CharacterBytes.{IsContinuation, IsTwo, IsThree, IsFour, leading};
+ghost use Rattle.cn_faces.specs.Private.CharacterBytes.{IsTwo, IsThree, IsFour};
 
 use cn_judge::eight_ascii_at;
 use std::str;
 
-// Whether the first three bytes of a word are a character from U+3000 to U+AFFF, as most in numerals
+// Whether the first three bytes of a word are a character from U+2000 to U+9FFF, as most in numerals
 // are. By what the subtraction leaves of the first byte, all is one test.
 #[inline(always)]
 fn is_common(word: u32) -> bool
-    ensures first { IsTrue result → IsInRange 0xE3 0xEA (word % 256) }
+    ensures first { IsTrue result → IsInRange 0xE2 0xE9 (word % 256) }
     ensures second { IsTrue result → IsInRange 0x80 0xBF (word / 256 % 256) }
     ensures third { IsTrue result → IsInRange 0x80 0xBF (word / 65536 % 256) }
 {
-    let above = word.wrapping_sub(0xE3);
+    let above = word.wrapping_sub(0xE2);
     (above % 256 / 8 == 0) & (above / 256 % 256 / 64 == 2) & (above / 65_536 % 256 / 64 == 2)
 }
 
@@ -33,7 +33,7 @@ fn is_common_alone(bytes: &[u8]) -> bool
     }
 }
 
-/// Whether these bytes are characters from U+3000 to U+AFFF alone, as those of most numerals are, so
+/// Whether these bytes are characters from U+2000 to U+9FFF alone, as those of most numerals are, so
 /// that they are UTF-8. The three bytes of each but the last are loaded at once, with the one behind
 /// them. `false` says nothing of the bytes.
 #[inline(always)]
@@ -72,6 +72,7 @@ fn ascii_len(word: u32) -> usize
     ensures second { 1 < result → word / 256 % 256 < 128 }
     ensures third { 2 < result → word / 65536 % 256 < 128 }
     ensures fourth { 3 < result → word / 16777216 < 128 }
+    ensures none { result ≡ 0 → 128 ≤ word % 256 }
 {
     if four_are_ascii(word) {
         4
@@ -86,96 +87,74 @@ fn ascii_len(word: u32) -> usize
     }
 }
 
-// The byte at a place, or 0 behind the last.
+// The first four bytes as one number, the first of them the lowest, and 0 for what is behind the last.
 #[inline(always)]
-fn byte_at(bytes: &[u8], index: usize) -> u8
-    ensures { result ≡ get_or bytes.now index 0 }
+fn first_word(bytes: &[u8]) -> u32
+    ensures first { result % 256 ≡ get_or bytes.now 0 0 }
+    ensures second { result / 256 % 256 ≡ get_or bytes.now 1 0 }
+    ensures third { result / 65536 % 256 ≡ get_or bytes.now 2 0 }
+    ensures fourth { result / 16777216 ≡ get_or bytes.now 3 0 }
 {
-    bytes.get(index).copied().unwrap_or(0)
-}
-
-#[inline(always)]
-fn is_continuation(byte: u8) -> bool
-    ensures { IsTrue result ↔ IsContinuation byte }
-{
-    byte / 64 == 2
-}
-
-// The first two bytes of a character, as one number.
-#[inline(always)]
-fn leading(first: u8, second: u8) -> u32
-    ensures { result ≡ leading first second }
-{
-    first as u32 * 64 + second as u32
-}
-
-#[inline(always)]
-fn is_two(first: u8, second: u8) -> bool
-    ensures { IsTrue result ↔ IsTwo first second }
-{
-    matches!(first, 0xC2..=0xDF) && is_continuation(second)
-}
-
-#[inline(always)]
-fn is_three(first: u8, second: u8, third: u8) -> bool
-    ensures { IsTrue result ↔ IsThree first second third }
-{
-    let two = leading(first, second);
-    let is_surrogate = leading(0xED, 0xA0) <= two && two < leading(0xEE, 0x80);
-    matches!(first, 0xE0..=0xEF)
-        && is_continuation(second)
-        && is_continuation(third)
-        && leading(0xE0, 0xA0) <= two
-        && !is_surrogate
-}
-
-#[inline(always)]
-fn is_four(first: u8, second: u8, third: u8, fourth: u8) -> bool
-    ensures { IsTrue result ↔ IsFour first second third fourth }
-{
-    let two = leading(first, second);
-    is_continuation(second)
-        && is_continuation(third)
-        && is_continuation(fourth)
-        && leading(0xF0, 0x90) <= two
-        && two <= leading(0xF4, 0x8F)
-}
-
-// How many bytes the character has with which these bytes begin, or 0 where they begin with none.
-#[inline(always)]
-fn first_len(bytes: &[u8]) -> usize
-    requires { 0 < length bytes.now }
-    ensures within { result ≤ length bytes.now }
-    ensures some { IsUtf8 (take result bytes.now) }
-    ensures none { result ≡ 0 → is_utf8 bytes.now ≡ false }
-{
-    let (first, second, third) = (byte_at(bytes, 0), byte_at(bytes, 1), byte_at(bytes, 2));
-    if first < 0x80 {
-        1
-    } else if first < 0xE0 {
-        if is_two(first, second) { 2 } else { 0 }
-    } else if first < 0xF0 {
-        if is_three(first, second, third) { 3 } else { 0 }
-    } else if is_four(first, second, third, byte_at(bytes, 3)) {
-        4
-    } else {
-        0
+    if let Some(four) = bytes.first_chunk::<4>() {
+        return u32::from_le_bytes(*four);
+    }
+    match bytes {
+        [first] => *first as u32,
+        [first, second] => *first as u32 + *second as u32 * 256,
+        [first, second, third] => { *first as u32 + *second as u32 * 256 + *third as u32 * 65_536 }
+        _ => 0,
     }
 }
 
-// 16 or 8, where so many bytes of ASCII stand in front; else 0.
+// Whether a word begins with a character of two bytes. What `&` joins is one test, here and below.
+#[inline(always)]
+fn is_two(word: u32) -> bool
+    ensures { IsTrue result ↔ IsTwo (word % 256) (word / 256 % 256) }
+{
+    (word % 256 / 32 == 6) & (word / 256 % 256 / 64 == 2) && word % 256 >= 0xC2
+}
+
+// Whether a word begins with a character of three bytes.
+#[inline(always)]
+fn is_three(word: u32) -> bool
+    ensures { IsTrue result ↔ IsThree (word % 256) (word / 256 % 256) (word / 65536 % 256) }
+{
+    let first = word % 256;
+    let is_second_high = word / 0x2000 % 2 == 1; // a continuation from 0xA0 on
+    (first / 16 == 14) & (word / 256 % 256 / 64 == 2) & (word / 65_536 % 256 / 64 == 2)
+        && (first != 0xE0 || is_second_high)
+        && (first != 0xED || !is_second_high)
+}
+
+// Whether a word is a character of four bytes.
+#[inline(always)]
+fn is_four(word: u32) -> bool
+    ensures { IsTrue result
+        ↔ IsFour (word % 256) (word / 256 % 256) (word / 65536 % 256) (word / 16777216) }
+{
+    let leading = word % 256 * 64 + word / 256 % 256;
+    (word / 256 % 256 / 64 == 2) & (word / 65_536 % 256 / 64 == 2) & (word / 16_777_216 / 64 == 2)
+        && 0xF0 * 64 + 0x90 <= leading
+        && leading <= 0xF4 * 64 + 0x8F
+}
+
+// How many bytes are passed of the ASCII in front, the first eight at once and then sixteen at a time;
+// 0 where fewer than eight stand there.
 #[inline(always)]
 fn ascii_eights_len(bytes: &[u8]) -> usize
     ensures within { result ≤ length bytes.now }
     ensures some { IsUtf8 (take result bytes.now) }
 {
     if !eight_ascii_at(bytes, 0) {
-        0
-    } else if !eight_ascii_at(bytes, 8) {
-        8
-    } else {
-        16
+        return 0;
     }
+    let mut len = 8;
+    'sixteens: while bytes.len() - len >= 16
+        && (eight_ascii_at(bytes, len) & eight_ascii_at(bytes, len + 8))
+    {
+        len += 16;
+    }
+    len
 }
 
 // How many bytes some characters have with which these bytes begin, or 0 where they begin with none.
@@ -186,32 +165,33 @@ fn front_len(bytes: &[u8]) -> usize
     ensures some { IsUtf8 (take result bytes.now) }
     ensures none { result ≡ 0 → is_utf8 bytes.now ≡ false }
 {
-    if let Some(four) = bytes.first_chunk::<4>() {
-        let word = u32::from_le_bytes(*four);
-        if is_common(word) {
-            return 3;
-        }
-        let ascii = ascii_len(word);
-        if ascii == 4 {
-            let eights = ascii_eights_len(bytes);
-            if eights > 0 {
-                return eights;
-            }
-        }
-        if ascii > 0 {
-            return ascii;
-        }
-    } else if bytes[0] < 0x80 {
-        return 1;
-    }
-    if is_common_alone(bytes) {
+    let word = first_word(bytes);
+    if is_common(word) {
         return 3;
     }
-    first_len(bytes)
+    let ascii = ascii_len(word);
+    if ascii == 4 {
+        let eights = ascii_eights_len(bytes);
+        if eights > 0 {
+            return eights;
+        }
+    }
+    // What is behind the last byte is 0 in the word, as if of ASCII.
+    if ascii > 0 {
+        ascii.min(bytes.len())
+    } else if word % 256 < 0xE0 {
+        if is_two(word) { 2 } else { 0 }
+    } else if is_three(word) {
+        3
+    } else if is_four(word) {
+        4
+    } else {
+        0
+    }
 }
 
-// By std's `from_utf8` three bytes that are no text take some 35 instructions more; of long ASCII each
-// byte takes 1 fewer by it.
+// By std's `from_utf8`, which is a call, a long text of Chinese takes more than twice as many
+// instructions, one of ASCII fewer than half, of Cyrillic or of French a sixth fewer.
 /// Whether any bytes are UTF-8.
 #[inline(always)]
 pub fn are_utf8_at_all(bytes: &[u8]) -> bool

@@ -68,6 +68,7 @@ first-len c rest = rw (encode-by c) (by (ltb c 128) (ltb c 2048) (ltb c 65536) r
 -- a text that starts with a character
 pub record Starts (bytes : List ℕ) (len : ℕ) : Type 0 where
   pub code : ℕ
+  pub whole : bytes ≡ encode code ++ drop len bytes
   pub parts : chars bytes ≡ code ∷ chars (drop len bytes)
   pub size : length (encode code) ≡ len
   pub within : len ≤ length bytes
@@ -83,9 +84,11 @@ starts bytes len whole some size = by whole.0 whole.1.1 where
       first-len c (encodes cs) ∙ ap (λ l. len_by (get_or l 0 0)) e ∙ sym size in
       let cut : drop len bytes ≡ encodes cs =
       ap (drop len) (sym e) ∙ drop_at (encode c) (encodes cs) len same in
+      let all : bytes ≡ encode c ++ drop len bytes = sym e ∙ ap (λ l. encode c ++ l) (sym cut) in
       record {
         code = c;
-        parts = chars_past_char _ _ _ whole (sym e ∙ ap (λ l. encode c ++ l) (sym cut));
+        whole = all;
+        parts = chars_past_char _ _ _ whole all;
         size = same;
         within = omega (arith, same, ap length e, length-append (encode c) (encodes cs));
         left = subst IsUtf8 (sym cut) (IsUtf8-past_char bytes (encodes cs) c whole (sym e));

@@ -2,6 +2,7 @@ pub mod DigitRuns
 pub mod Endings
 pub mod Faults
 pub mod FirstBytes
+pub mod Firsts
 pub mod Judgements
 pub mod MarkTable
 pub mod OpenSums

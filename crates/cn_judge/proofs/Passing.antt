@@ -1,20 +1,25 @@
 -- Characters that are passed over, each by its first byte.
-use Rattle.std.proofs.Common.{◌≡◌, ◌-◌, ◌%◌, ℕ, zero, suc, ◌+◌, ◌/◌, ◌<◌, ◌≤◌, List, [], ◌∷◌, ◌++◌, length, get_or, take, drop, chars, encode_utf8_all, IsUtf8, refl, sym, ap, subst, ◌∙◌, arith, length-append, length-drop, get_or-drop, drop-drop}
+use Rattle.std.proofs.Common.{◌≡◌, Bool, true, false, ltb, ◌-◌, ◌%◌, ℕ, zero, suc, ◌+◌, ◌/◌, ◌<◌, ◌≤◌, List, [], ◌∷◌, ◌++◌, length, get_or, take, drop, chars, encode_utf8_all, IsUtf8, refl, sym, ap, subst, ◌∙◌, arith, length-append, length-drop, get_or-drop, drop-drop}
 use Rattle.std.specs.Array.{IsFirstChunk}
 use Rattle.std.specs.Int.{w64, from_le_bytes}
 use Rattle.std.specs.Str.{IsCharBoundary, continuation_len}
-use Rattle.std.proofs.lemmas.List.{get_or-take, take_all}
+use Rattle.std.proofs.lemmas.Bool.{ltb-false}
+use Rattle.std.proofs.lemmas.List.{take_all}
 use Rattle.std.proofs.lemmas.Str.{IsCharBoundary-after_ascii, chars_past_char, encode_ascii, encodes-append, encodes-chars}
 use lib.Utf8.{encode}
 use Rattle.cn_core.proofs.Chars.{chars-from_empty}
 use Rattle.cn_judge.specs.ByteIndex.{byte_index}
 use Rattle.cn_judge.specs.Private.FirstKey.{BeginsThreeThrees}
+use Rattle.cn_judge.specs.Private.Firsts.{PassesFirsts, first_count, firsts}
 use Rattle.cn_judge.proofs.FirstBytes.{len_low, len_three, starts}
+use Rattle.cn_judge.proofs.Firsts.{chunk-at, firsts-none, firsts-alike, is-character}
+use Rattle.cn_judge.proofs.ThreeBytes.{below}
 
 -- this byte stands behind so many characters
 pub record Passed (text : List ℕ) (count at : ℕ) : Type 0 where
   pub within : at ≤ length text
   pub few : count ≤ at
+  pub begun : firsts text at ≡ count
   pub utf8 : IsUtf8 (drop at text)
   pub bytes : at ≡ byte_index text count
   pub ahead : drop count (chars text) ≡ chars (drop at text)
@@ -28,12 +33,13 @@ drop-none : (xs : List ℕ) → drop 0 xs ≡ xs
 drop-none [] = refl
 drop-none (x ∷ xs) = refl
 
-pub Passed-none : (text : List ℕ) → IsUtf8 text → Passed text 0 0
+Passed-none : (text : List ℕ) → IsUtf8 text → Passed text 0 0
 Passed-none text whole =
     let all = drop-none text in
     record {
       within = omega arith;
       few = omega arith;
+      begun = firsts-none text;
       utf8 = subst IsUtf8 (sym all) whole;
       bytes = omega (arith, ap (λ l. length (encode_utf8_all l)) (take-none (chars text)));
       ahead = drop-none (chars text) ∙ ap chars (sym all);
@@ -57,6 +63,8 @@ Passed-next text count at len before more size =
     (size
     ∙ ap (λ b. continuation_len b + 1) (sym (get_or-drop at text 0 0
     ∙ ap (λ i. get_or text i 0) zero-more))) in
+    let is = is-character (drop at text) _ first.code len first.whole first.size (omega (arith, size)) in
+    let begun = firsts-alike text (drop at text) at len (λ k _. get_or-drop at text k 0) in
     let cut : drop len (drop at text) ≡ drop (at + len) text = drop-drop len at text in
     let next = drop-next (chars text) count first.code (chars (drop len (drop at text)))
     (before.ahead ∙ first.parts) in
@@ -71,6 +79,7 @@ Passed-next text count at len before more size =
     record {
       within = omega (arith, before.within, left, first.within);
       few = omega (arith, before.few, size);
+      begun = omega (arith, begun, is.one, before.begun);
       utf8 = subst IsUtf8 cut first.left;
       bytes = omega (arith, before.bytes, grown, first.size);
       ahead = next.0 ∙ ap chars cut;
@@ -94,10 +103,8 @@ pub word-at : (bytes eight : List ℕ) (at word : ℕ) → ((i : ℕ) → get_or
     → at ≤ length bytes → IsFirstChunk (take (length bytes - at) (drop at bytes)) eight 8
     → word ≡ from_le_bytes w64 eight → IsWordAt bytes at word
 word-at bytes eight at word below inside chunk is =
-    let left = length-drop at bytes in
-    let all = take_all (length bytes - at) (drop at bytes) (omega (arith, left)) in
-    let enough = ap length all in
-    let have = chunk.enough in
+    let next = chunk-at bytes eight at 8 inside chunk in
+    let by = next.1 in
     let b0 = by 0 (omega arith) in
     let b1 = by 1 (omega arith) in
     let b2 = by 2 (omega arith) in
@@ -115,7 +122,7 @@ word-at bytes eight at word below inside chunk is =
     let l6 = below (at + 6) in
     let l7 = below (at + 7) in
     record {
-      within = omega (arith, enough, have, left, inside);
+      within = next.0;
       first = omega (arith, is, b0, b1, b2, b3, b4, b5, b6, b7, l0, l1, l2, l3, l4, l5, l6, l7);
       second = omega (arith, is, b0, b1, b2, b3, b4, b5, b6, b7, l0, l1, l2, l3, l4, l5, l6, l7);
       third = omega (arith, is, b0, b1, b2, b3, b4, b5, b6, b7, l0, l1, l2, l3, l4, l5, l6, l7);
@@ -124,11 +131,7 @@ word-at bytes eight at word below inside chunk is =
       sixth = omega (arith, is, b0, b1, b2, b3, b4, b5, b6, b7, l0, l1, l2, l3, l4, l5, l6, l7);
       seventh = omega (arith, is, b0, b1, b2, b3, b4, b5, b6, b7, l0, l1, l2, l3, l4, l5, l6, l7);
       eighth = omega (arith, is, b0, b1, b2, b3, b4, b5, b6, b7, l0, l1, l2, l3, l4, l5, l6, l7);
-    } where
-      by : (i : ℕ) → i < 8 → get_or eight i 0 ≡ get_or bytes (at + i) 0
-      by i low = ap (λ l. get_or l i 0) chunk.same ∙ get_or-take 8 (take (length bytes - at) (drop at bytes)) i 0 low
-          ∙ ap (λ l. get_or l i 0) (take_all (length bytes - at) (drop at bytes) (let left = length-drop at bytes in omega (arith, left)))
-          ∙ get_or-drop at bytes i 0
+    }
 
 pub word-threes : (bytes : List ℕ) (at word : ℕ) → IsWordAt bytes at word → word % 256 / 16 ≡ 14
     → word / 16777216 % 256 / 16 ≡ 14 → word / 281474976710656 % 256 / 16 ≡ 14
@@ -209,6 +212,74 @@ Passed-end text count at index passed whole end far =
     ap (λ l. length (encode_utf8_all l)) (take_all index (chars text) (omega (arith, all, far)))
     ∙ ap length (encodes-chars text whole) in
     omega (arith, passed.within, end, whole-text)
+
+-- no character begins within another
+begins-behind : (text : List ℕ) (count at place : ℕ) → Passed text count at → at < place → place ≤ length text
+    → (place < length text → first_count (get_or text place 0) ≡ 1)
+    → at + (continuation_len (get_or text at 0) + 1) ≤ place
+begins-behind text count at place passed more within begins = by (ltb place (at + len)) refl where
+  len : ℕ
+  len = continuation_len (get_or text at 0) + 1
+
+  by : (inside : Bool) → ltb place (at + len) ≡ inside → at + len ≤ place
+  by false e = ltb-false place (at + len) e
+  by true e =
+      let less = below place (at + len) e in
+      let left = length-drop at text in
+      let none : at + 0 ≡ at = omega arith in
+      let first = starts (drop at text) len passed.utf8 (omega (arith, left, more, within))
+      (ap (λ b. continuation_len b + 1) (sym (get_or-drop at text 0 0 ∙ ap (λ i. get_or text i 0) none))) in
+      let is = is-character (drop at text) _ first.code len first.whole first.size (omega arith) in
+      let there : at + (place - at) ≡ place = omega (arith, more) in
+      let same = get_or-drop at text (place - at) 0 ∙ ap (λ i. get_or text i 0) there in
+      absurd (omega (
+        arith,
+        ap first_count same,
+        is.goes_on (place - at) (omega (arith, more)) (omega (arith, less, more)),
+        begins (omega (arith, less, left, first.within, more)),
+      ))
+
+passed-here : (text : List ℕ) (count at place : ℕ) → Passed text count at → at ≡ place
+    → Passed text (firsts text place) place
+passed-here text count at place passed here =
+    subst (λ n. Passed text (firsts text n) n) here (subst (λ n. Passed text n at) (sym passed.begun) passed)
+
+-- in front of a place where a character begins stand as many as begin in the bytes there
+passed-on : (text : List ℕ) (steps count at place : ℕ) → Passed text count at → at ≤ place
+    → place ≤ at + steps → place ≤ length text → (place < length text → first_count (get_or text place 0) ≡ 1)
+    → Passed text (firsts text place) place
+passed-on text zero count at place passed past near within begins =
+    passed-here text count at place passed (omega (arith, past, near))
+passed-on text (suc steps) count at place passed past near within begins =
+    by (ltb at place) refl (λ more.
+    let len = continuation_len (get_or text at 0) + 1 in
+    let next = Passed-next text count at len passed (omega (arith, more, within)) refl in
+    passed-on text steps (count + 1) (at + len) place next
+    (begins-behind text count at place passed more within begins) (omega (arith, near)) within begins) where
+      by : (more : Bool) → ltb at place ≡ more → (at < place → Passed text (firsts text place) place)
+          → Passed text (firsts text place) place
+      by true e on = on (below at place e)
+      by false e on = passed-here text count at place passed (omega (arith, past, ltb-false at place e))
+
+pub Passed-at : (text : List ℕ) (place : ℕ) → IsUtf8 text → place ≤ length text
+    → (place < length text → first_count (get_or text place 0) ≡ 1) → Passed text (firsts text place) place
+Passed-at text place whole within begins =
+    passed-on text place 0 0 place (Passed-none text whole) (omega arith) (omega arith) within begins
+
+pub Passed-start : (text : List ℕ) (count at : ℕ) → IsUtf8 text → count ≡ 0 → at ≡ 0 → Passed text count at
+Passed-start text count at whole none here =
+    subst (λ n. Passed text n at) (sym none) (subst (λ n. Passed text 0 n) (sym here) (Passed-none text whole))
+
+-- what is passed by first bytes
+pub Passed-by : (bytes text : List ℕ) (many place left passed count : ℕ) → bytes ≡ text → IsUtf8 text
+    → PassesFirsts bytes many place left → (place < length bytes → first_count (get_or bytes place 0) ≡ 1)
+    → passed ≡ place → count ≡ many - left → Passed text count passed
+Passed-by bytes text many place left passed count same whole next begins here counted =
+    let within = subst (λ l. place ≤ length l) same next.within in
+    let there = Passed-at text place whole within
+    (subst (λ l. place < length l → first_count (get_or l place 0) ≡ 1) same begins) in
+    let all : firsts text place ≡ count = omega (arith, counted, next.counted, ap (λ l. firsts l place) same) in
+    subst (λ n. Passed text count n) (sym here) (subst (λ n. Passed text n place) all there)
 
 -- a text that begins with ASCII
 front-ascii : (bytes : List ℕ) → 0 < length bytes → get_or bytes 0 0 < 128

@@ -8,6 +8,7 @@
 #![tactic(auto)]
 
 mod error;
+mod first_bytes;
 mod judge;
 mod mark;
 mod naive;

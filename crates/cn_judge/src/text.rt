@@ -11,6 +11,7 @@ ghost use Rattle.cn_judge.specs.Piece.{StandsAt, EndsWith};
 ghost use Rattle.cn_judge.specs.Private.FirstKey.{EndsWithKey, StartsWithKey};
 ghost use Rattle.cn_judge.specs.Private.Spaces.{BeginsDark};
 
+use crate::first_bytes::pass_chunks;
 use crate::mark::{Mark, known_mark, mark_of, mark_of_key};
 use crate::space::{Behind, before_spaces, skip_spaces};
 use crate::word::{eight_ascii_at, three_threes_at};
@@ -185,8 +186,9 @@ fn char_len(first: u8) -> usize
     CHAR_LENS[(first / 16) as usize]
 }
 
-/// How many characters a text has. Three of three bytes or eight of ASCII are passed at once while such
-/// stand next, and what stands behind them one by one, by the first byte of each.
+/// How many characters a text has. 32 bytes are passed at once while there are so many, then three
+/// characters of three bytes or eight of ASCII while such stand next, and the others one by one, by the first
+/// byte of each.
 pub fn count_chars(text: &str) -> usize
     ensures count { result ≡ length (chars text.now) }
     ensures within { result ≤ length text.now }
@@ -194,6 +196,11 @@ pub fn count_chars(text: &str) -> usize
     let bytes = text.as_bytes();
     let mut passed = 0;
     let mut count = 0;
+    if bytes.len() >= 32 {
+        let (place, left) = pass_chunks(bytes, bytes.len());
+        passed = place;
+        count = bytes.len() - left;
+    }
     'words: loop {
         if three_threes_at(bytes, passed) {
             passed += 9;
@@ -219,6 +226,11 @@ pub fn byte_index(text: &str, char_index: usize) -> usize
     let bytes = text.as_bytes();
     let mut passed = 0;
     let mut left = char_index;
+    if left >= 16 {
+        let (place, more) = pass_chunks(bytes, left);
+        passed = place;
+        left = more;
+    }
     'words: loop {
         if left >= 3 && three_threes_at(bytes, passed) {
             passed += 9;

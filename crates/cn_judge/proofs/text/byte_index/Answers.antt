@@ -1,14 +1,25 @@
 use Rattle.std.proofs.Common.{ap, subst, ◌∙◌, ◌+◌, ◌<◌, ℕ, get_or, arith}
 use Rattle.std.specs.Str.{continuation_len}
 use Rattle.cn_judge.specs.Private.FirstKey.{BeginsThreeThrees}
-use Rattle.cn_judge.proofs.Passing.{Passed, Passed-none, Passed-next, Passed-ascii, Passed-threes, Passed-end}
+use Rattle.cn_judge.proofs.Passing.{Passed, Passed-start, Passed-next, Passed-ascii, Passed-threes, Passed-end, Passed-by}
+use Rattle.cn_judge.proofs.text.byte_index.Goals.{then-left-ge16, else-left-ge16}
 use Rattle.cn_judge.proofs.text.byte_index.Goals as goal
 
 pub words-init : goal.words-init
-words-init c = record {
-  passed = subst (λ n. Passed c.args.text.now n 0) (omega arith) (Passed-none _ c.utf8.text);
-  few = omega arith;
-}
+words-init c = elim c.if-left-ge16.branch [
+  | then-left-ge16 w ↦
+      let chunks = w.pass_chunks-place.ensures in
+      let few = chunks.passed.counted in
+      record {
+        passed = Passed-by _ _ _ _ _ _ _ c.as_bytes-bytes.ensures.value c.utf8.text chunks.passed chunks.begins
+            w.passed-is (omega (arith, few, w.left-is));
+        few = omega (arith, few, w.left-is);
+      }
+  | else-left-ge16 w ↦ record {
+    passed = Passed-start _ _ _ c.utf8.text (omega (arith, w.left-is)) w.passed-is;
+    few = omega (arith, w.left-is);
+  }
+]
 
 pub words-preserved-then-three_threes_at : goal.words-preserved-then-three_threes_at
 words-preserved-then-three_threes_at c = record {

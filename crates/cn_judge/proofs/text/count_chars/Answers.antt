@@ -1,11 +1,20 @@
 use Rattle.std.proofs.Common.{ap, subst, ◌∙◌, ◌+◌, ◌<◌, ℕ, get_or, arith}
 use Rattle.std.specs.Str.{continuation_len}
-use Rattle.cn_judge.proofs.Passing.{Passed-none, Passed-next, Passed-ascii, Passed-threes, Passed-all}
+use Rattle.cn_judge.proofs.Passing.{Passed-start, Passed-next, Passed-ascii, Passed-threes, Passed-all, Passed-by}
 use Rattle.cn_judge.specs.Private.FirstKey.{BeginsThreeThrees}
+use Rattle.cn_judge.proofs.text.count_chars.Goals.{then-bytes-ge32, else-bytes-ge32}
 use Rattle.cn_judge.proofs.text.count_chars.Goals as goal
 
 pub words-init : goal.words-init
-words-init c = record { passed = Passed-none _ c.utf8.text }
+words-init c = elim c.if-bytes-ge32.branch [
+  | then-bytes-ge32 w ↦ record {
+    passed =
+        let chunks = w.pass_chunks-place.ensures in
+        Passed-by _ _ _ _ _ _ _ c.as_bytes-bytes.ensures.value c.utf8.text chunks.passed chunks.begins w.passed-is
+        w.count-is;
+  }
+  | else-bytes-ge32 w ↦ record { passed = Passed-start _ _ _ c.utf8.text w.count-is w.passed-is }
+]
 
 pub words-preserved-then-three_threes_at : goal.words-preserved-then-three_threes_at
 words-preserved-then-three_threes_at c = record {

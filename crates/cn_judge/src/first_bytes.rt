@@ -1,0 +1,47 @@
+// The first bytes of characters.
+ghost use Rattle.std.specs.Prelude.{◌≡◌, ◌<◌, get_or, length};
+ghost use Rattle.cn_judge.specs.Private.Firsts.{PassesFirsts, first_count, firsts};
+
+// 0 for a byte that continues a character, and 1 for any other.
+#[inline(always)]
+fn first_count(byte: u8) -> u8
+    ensures { result ≡ first_count byte }
+{
+    (byte / 64 != 2) as u8
+}
+
+// How many characters begin in 32 bytes. The sum is of eight bits, so that all bytes are counted at
+// once, in 24 instructions.
+#[inline(always)]
+fn firsts_of(bytes: &[u8; 32]) -> usize
+    ensures { result ≡ firsts bytes.now 32 }
+{
+    let mut count = 0;
+    'bytes: for index in 0..32 {
+        count += first_count(bytes[index]);
+    }
+    count as usize
+}
+
+// Passes so many characters at most, 32 bytes at once: where the next one begins or the bytes end, and how
+// many characters are left to pass. It stands by itself, so that what calls it is short.
+#[inline(never)]
+pub(crate) fn pass_chunks(bytes: &[u8], many: usize) -> (usize, usize)
+    ensures passed { PassesFirsts bytes.now many result.0 result.1 }
+    ensures begins { result.0 < length bytes.now → first_count (get_or bytes.now result.0 0) ≡ 1 }
+{
+    let mut passed = 0;
+    let mut left = many;
+    'chunks: while let Some(chunk) = bytes[passed..].first_chunk::<32>() {
+        let firsts = firsts_of(chunk);
+        if firsts > left {
+            break;
+        }
+        left -= firsts;
+        passed += 32;
+    }
+    'last: while passed < bytes.len() && first_count(bytes[passed]) == 0 {
+        passed += 1;
+    }
+    (passed, left)
+}
