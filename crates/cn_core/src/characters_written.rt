@@ -4,20 +4,22 @@ ghost use Rattle.cn_core.specs.Characters.{rank, digit_char, unit_char, minus_ch
 
 use crate::{ChineseCase, ChineseVariant, Unit};
 
+// The bytes, by which numbers are printed, stand first: behind the characters, a `u8` as plain digits
+// takes 6 instructions more.
 /// What a script and case are printed with.
 pub struct PrintedCharacters {
-    /// The digits from 0 to 9.
-    pub digits: [char; 10],
-    /// The units from 個 to 極.
-    pub units: [char; 16],
-    /// The minus sign.
-    pub minus: char,
-    /// The three bytes of each digit.
+    /// The three bytes of each digit from 0 to 9.
     pub digit_bytes: [[u8; 3]; 10],
-    /// Those of each unit.
+    /// Those of each unit from 個 to 極.
     pub unit_bytes: [[u8; 3]; 16],
     /// Those of the minus sign.
     pub minus_bytes: [u8; 3],
+    /// The digits.
+    pub digits: [char; 10],
+    /// The units.
+    pub units: [char; 16],
+    /// The minus sign.
+    pub minus: char,
 }
 
 // The bytes of a character that takes three.
@@ -35,12 +37,12 @@ macro_rules! three_bytes {
 macro_rules! printed {
     ($($digit:literal)*; $($unit:literal)*; $minus:literal) => {
         PrintedCharacters {
-            digits: [$($digit),*],
-            units: [$($unit),*],
-            minus: $minus,
             digit_bytes: [$(three_bytes!($digit)),*],
             unit_bytes: [$(three_bytes!($unit)),*],
             minus_bytes: three_bytes!($minus),
+            digits: [$($digit),*],
+            units: [$($unit),*],
+            minus: $minus,
         }
     };
 }

@@ -187,8 +187,8 @@ fn char_len(first: u8) -> usize
 }
 
 /// How many characters a text has. 32 bytes are passed at once while there are so many, then three
-/// characters of three bytes or eight of ASCII while such stand next, and the others one by one, by the first
-/// byte of each.
+/// characters of three bytes or eight of ASCII while such stand next, and the others one by one, by
+/// the first byte of each.
 pub fn count_chars(text: &str) -> usize
     ensures count { result ≡ length (chars text.now) }
     ensures within { result ≤ length text.now }
