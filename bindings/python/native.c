@@ -208,7 +208,7 @@ static void give_back(text *it) {
     static PyObject *name(PyObject *module, PyObject *given) {                                \
         text from;                                                                            \
         answer it;                                                                            \
-        if (!take(given, &from))                                                                  \
+        if (!take(given, &from))                                                              \
             return NULL;                                                                      \
         uint32_t status = call(from.bytes, from.length, &it);                                 \
         give_back(&from);                                                                     \
@@ -305,7 +305,7 @@ static PyObject *print_number(PyObject *module, PyObject *given) {
         unsigned script, form;                                          \
         uint8_t room[most];                                             \
         size_t length;                                                  \
-        if (!PyArg_ParseTuple(given, format, &fen, &script, &form))         \
+        if (!PyArg_ParseTuple(given, format, &fen, &script, &form))     \
             return NULL;                                                \
         uint32_t status = call(fen, script, form, room, most, &length); \
         return Py_BuildValue("IN", status, string_of(room, length));    \

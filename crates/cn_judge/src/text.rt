@@ -17,7 +17,8 @@ use crate::space::{Behind, before_spaces, skip_spaces};
 use crate::word::{eight_ascii_at, three_threes_at};
 use cn_core::split_first_char;
 
-// The key of the first character where it takes three bytes, as most do that are searched.
+// The key of the first character where it takes three bytes, as most do that are searched. `None`
+// says nothing of a text.
 #[inline(always)]
 fn first_key(text: &str) -> Option<u32>
     ensures { IfSome result (StartsWithKey text.now) }
@@ -119,6 +120,7 @@ pub fn split_last_char(text: &str) -> Option<(char, &str)>
 }
 
 // The key of the last character where it takes three bytes, as most do that stand by a number.
+// `None` says nothing of a text.
 #[inline(always)]
 fn last_key(text: &str) -> Option<u32>
     ensures { IfSome result (EndsWithKey text.now) }
@@ -137,7 +139,8 @@ fn last_key(text: &str) -> Option<u32>
     }
 }
 
-// The last character where it takes three bytes, its mark, and what stands before it.
+// The last character where it takes three bytes, its mark, and what stands before it. `None` says
+// nothing of a text.
 #[inline(always)]
 fn split_last_three(text: &str) -> Option<(char, Mark, &str)>
     ensures parts { IfSome result (λ r. (chars text.now ≡ chars r.2.now ++ r.0 ∷ [])
@@ -288,6 +291,7 @@ pub fn split_first_known(text: &str) -> Option<(Mark, &str)>
 
 // The mark of the only character where the table of marks has it, and the nothing before it: the
 // first of a text that is walked. Left to `split_last_slowly`, 一百五 takes 650 instructions for 510.
+// `None` says nothing of a text.
 #[inline(always)]
 fn split_only_known(text: &str) -> Option<(Mark, &str)>
     ensures parts { IfSome result (λ r. (c : ℕ) × (chars text.now ≡ chars r.1.now ++ c ∷ [])
@@ -330,7 +334,8 @@ fn split_last_slowly(text: &str) -> Option<(Mark, &str)>
     Some((mark, before))
 }
 
-/// The first character where it is a digit of three bytes, and what stands after it.
+/// The first character where it is a digit of three bytes, and what stands after it. `None` says
+/// nothing of a text.
 #[inline(always)]
 pub fn split_first_digit(text: &str) -> Option<(u8, &str)>
     ensures parts { IfSome result (λ r. (c : ℕ) × (chars text.now ≡ c ∷ chars r.1.now)
