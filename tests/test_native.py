@@ -25,13 +25,13 @@ SINCE = {"PyType_GetSlot": 4, "PyModuleDef_Init": 5, "PyUnicode_AsUCS4": 7}
 SINCE.update(PyUnicode_GetLength=7, PyUnicode_Substring=7, PyCMethod_New=9)
 SINCE.update(PyUnicode_AsUTF8AndSize=10)
 OF_3_2 = """
-PyArg_ParseTuple PyBool_FromLong PyBytes_AsString PyBytes_AsStringAndSize
-PyBytes_FromStringAndSize PyDict_GetItemString PyDict_New
+PyArg_ParseTuple PyBytes_AsString PyBytes_AsStringAndSize PyBytes_FromStringAndSize
+PyDict_GetItemString PyDict_New
 PyDict_SetItem PyDict_SetItemString PyDict_Type PyErr_Clear PyErr_Format PyErr_Occurred
 PyErr_SetString PyEval_RestoreThread PyEval_SaveThread PyExc_RuntimeError PyExc_ValueError
 PyList_New PyList_SetItem PyLong_AsLongLongAndOverflow PyLong_FromLongLong PyLong_FromSsize_t
 PyLong_FromUnsignedLong PyLong_FromUnsignedLongLong PyLong_Type PyModule_GetState PyObject_Call
-PyTuple_GetItem PyTuple_New PyTuple_SetItem PyTuple_Size PyTuple_Type PyType_GetFlags
+PyTuple_GetItem PyTuple_New PyTuple_Pack PyTuple_SetItem PyTuple_Size PyTuple_Type PyType_GetFlags
 PyType_IsSubtype PyType_Type PyUnicode_AsEncodedString PyUnicode_DecodeUTF8 PyUnicode_FromWideChar
 PyUnicode_InternFromString Py_BuildValue _PyArg_ParseTuple_SizeT _Py_BuildValue_SizeT _Py_Dealloc
 _Py_FalseStruct _Py_NoneStruct _Py_TrueStruct""".split()

@@ -11,8 +11,7 @@
 enum {
     SHORT = 256,    /* characters; a text of no more is read from the stack, and takes no memory */
     LONG = 1 << 16, /* bytes; see let_go */
-    AT_ONCE = 64,   /* numbers of a text that are found before the first of them is handed out */
-    FIELDS = 7,     /* that are told of each */
+    AT_ONCE = 256,  /* numbers of a text that are found before the first of them is handed out */
     CHOICES = 4,
     MOST_WORDS = 20 /* of one choice: the members of its enum, and the str that each equals */
 };
@@ -452,27 +451,33 @@ static Py_ssize_t characters(const uint8_t *from, const uint8_t *to) {
     return (Py_ssize_t)count;
 }
 
-/* A tuple of objects, which become its own, of a class of tuples; `one` is a tuple for it. */
-static PyObject *tuple_of(PyObject *class, PyObject *one, PyObject *fields[FIELDS]) {
-    void *slot = PyType_GetSlot(&PyTuple_Type, Py_tp_new);
-    newfunc make;
-    PyObject *plain = PyTuple_New(FIELDS);
-    int failed = !plain;
-    memcpy(&make, &slot, sizeof make);
-    for (Py_ssize_t i = 0; i < FIELDS; i++) {
-        failed |= !fields[i];
-        if (plain)
-            PyTuple_SetItem(plain, i, fields[i]);
-        else
-            Py_XDECREF(fields[i]);
-    }
-    if (PyTuple_SetItem(one, 0, plain) || failed)
-        return NULL;
-    return make((PyTypeObject *)class, one, NULL);
+/* Whether a span has a flag, as an object that is borrowed. */
+static PyObject *flag_of(const cn_span *span, cn_flag flag) {
+    return (span->flags & flag) != 0 ? Py_True : Py_False;
 }
 
-static PyObject *flag_of(const cn_span *span, cn_flag flag) {
-    return PyBool_FromLong((span->flags & flag) != 0);
+/* What is told of a number from one character to another: where it is, its text and its flags. */
+static PyObject *fields_of(PyObject *string, Py_ssize_t from, Py_ssize_t to, const cn_span *span) {
+    PyObject *start = PyLong_FromSsize_t(from), *end = PyLong_FromSsize_t(to);
+    PyObject *text = PyUnicode_Substring(string, from, to), *fields = NULL;
+    if (start && end && text)
+        fields = PyTuple_Pack(7, start, end, text, flag_of(span, CN_PLAIN_DIGITS),
+                              flag_of(span, CN_STANDS_ALONE), flag_of(span, CN_ABOUT),
+                              flag_of(span, CN_ONE_CHARACTER));
+    Py_XDECREF(start);
+    Py_XDECREF(end);
+    Py_XDECREF(text);
+    return fields;
+}
+
+/* The same as a tuple of a class of tuples; `one` is a tuple for it, and owns the fields then. */
+static PyObject *of_class(PyObject *class, PyObject *one, PyObject *fields) {
+    void *slot = PyType_GetSlot(&PyTuple_Type, Py_tp_new);
+    newfunc make;
+    memcpy(&make, &slot, sizeof make);
+    if (PyTuple_SetItem(one, 0, fields) || !fields)
+        return NULL;
+    return make((PyTypeObject *)class, one, NULL);
 }
 
 typedef uint32_t search(const uint8_t *text, size_t length, size_t from, uint32_t upper,
@@ -510,14 +515,7 @@ static PyObject *find(PyObject *given, search *next) {
         Py_ssize_t first = index + characters(bytes + searched, start);
         index = first + characters(start, end);
         searched = end - bytes;
-        PyObject *fields[FIELDS] = {PyLong_FromSsize_t(first),
-                                    PyLong_FromSsize_t(index),
-                                    PyUnicode_Substring(string, first, index),
-                                    flag_of(span, CN_PLAIN_DIGITS),
-                                    flag_of(span, CN_STANDS_ALONE),
-                                    flag_of(span, CN_ABOUT),
-                                    flag_of(span, CN_ONE_CHARACTER)};
-        PyObject *found = tuple_of(class, one, fields);
+        PyObject *found = of_class(class, one, fields_of(string, first, index, span));
         failed = !found || PyList_SetItem(made, (Py_ssize_t)i, found);
     }
     Py_XDECREF(one);

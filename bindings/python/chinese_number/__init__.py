@@ -62,6 +62,7 @@ from datetime import date, datetime
 from decimal import Decimal
 from enum import Enum
 from fractions import Fraction
+from itertools import chain
 from sys import intern
 from typing import Any, Callable, Dict, Iterable, Iterator, List, NamedTuple, Optional
 from typing import SupportsIndex, Tuple, Type, TypeVar, Union
@@ -916,7 +917,7 @@ def find_numbers(
     Half of a surrogate pair is one character, and parts a text.
     """
     wanted = _flag(upper), _code(_UNITS, greatest, "greatest")
-    return _found(_library.find_numbers, Found, _text(text), *wanted)
+    return chain.from_iterable(_found(_library.find_numbers, Found, _text(text), *wanted))
 
 
 def find_quantities(
@@ -931,7 +932,8 @@ def find_quantities(
     It does not understand sentences either, and half of a surrogate pair is as there.
     """
     wanted = _flag(upper), _code(_UNITS, greatest, "greatest")
-    return _found(_library.find_quantities, FoundQuantity, _text(text), *wanted)
+    found = _found(_library.find_quantities, FoundQuantity, _text(text), *wanted)
+    return chain.from_iterable(found)
 
 
 _AnyRun = TypeVar("_AnyRun", bound=_Run)
@@ -939,8 +941,8 @@ _AnyRun = TypeVar("_AnyRun", bound=_Run)
 
 def _found(
     find: Callable[..., _library.Some], of: Type[_AnyRun], text: str, upper: bool, greatest: int
-) -> Iterator[_AnyRun]:
-    """What is found in a text, of which some is found at a time."""
+) -> Iterator[List[_AnyRun]]:
+    """What is found in a text, some at a time."""
     data = str.encode(text, "utf-8", "replace")
     searched = index = 0
     while searched < len(data):
@@ -948,7 +950,7 @@ def _found(
         code, found, searched, index = find(text, data, *place, upper, greatest, of)
         if code:
             _status(code)
-        yield from found
+        yield found
 
 
 def replace_quantities(
