@@ -60,8 +60,8 @@ typedef int64_t s64;
  * - the caller's text, where it is;
  * - behind it, for the one call that writes a text as long as any, the caller's room, where it is.
  *
- * Any other access, a write to its constants or the text, and a read of the room, end the program by
- * abort(). */
+ * It reads the first three, and writes to its own memory and, by memory_copy alone, to the room. Any
+ * other access ends the program by abort(). */
 #define STACK_BYTES UINT64_C(2144)
 #define LENT_BYTES UINT64_C(544)
 #define OWN_BYTES (STACK_BYTES + LENT_BYTES)
@@ -433,14 +433,11 @@ static const u8 constants[] = {
   0x00, 0x80, 0xc6, 0xa4, 0x7e, 0x8d, 0x03, 0x00,
 };
 
-/* Each access has its test where it stands, and what one call alone needs stands apart: then a call
- * takes less time. */
+/* Each access has its test where it stands: then a call takes less time. */
 #if defined(__GNUC__)
 #define INLINE inline __attribute__((always_inline))
-#define APART __attribute__((cold, noinline))
 #else
 #define INLINE inline
-#define APART
 #endif
 
 static INLINE int is_within(u64 from, u64 bytes, u64 size) {
@@ -454,18 +451,11 @@ static INLINE u8 *its_own(module *m, u64 address, u64 bytes) {
     return m->own + (size_t)in_own;
 }
 
-static APART u8 *in_room(const module *m, u64 address, u64 bytes) {
-    u64 at = address - FIRST_OF_TEXT - m->text_length;
-    if (!is_within(at, bytes, m->room_length))
-        abort();
-    return m->room + (size_t)at;
-}
-
-/* The caller's room is written to by copies and byte by byte, and never read. */
-static INLINE u8 *writable(module *m, u64 address, u64 bytes) {
-    if (is_within(address - FIRST_OWN, bytes, OWN_BYTES))
-        return its_own(m, address, bytes);
-    return in_room(m, address, bytes);
+static u8 *writable(module *m, u64 address, u64 bytes) {
+    u64 in_room = address - FIRST_OF_TEXT - m->text_length;
+    if (is_within(in_room, bytes, m->room_length))
+        return m->room + (size_t)in_room;
+    return its_own(m, address, bytes);
 }
 
 /* By is_within, a search takes 7 to 9 % more instructions. */
@@ -522,10 +512,10 @@ static INLINE void copy_word(void *to, const void *from, size_t bytes) {
         copy_word(&word, place(m, address, sizeof word), sizeof word);      \
         return (to)word;                                                    \
     }
-#define STORE(name, from, type, place)                                      \
+#define STORE(name, from, type)                                             \
     static INLINE void name(module *m, u64 address, from value) {           \
         const type word = (type)value;                                      \
-        copy_word(place(m, address, sizeof word), &word, sizeof word);      \
+        copy_word(its_own(m, address, sizeof word), &word, sizeof word);    \
     }
 
 /* The module uses some of these alone. It keeps the 0 or 1 of a comparison, which wasm2c has in 64
@@ -552,13 +542,13 @@ LOAD(i64_load, u64, u64, readable)
 LOAD(i64_load8_u, u64, u8, readable)
 LOAD(i64_load16_u, u64, u16, readable)
 LOAD(i64_load32_u, u64, u32, readable)
-STORE(i32_store, u32, u32, its_own)
-STORE(i32_store8, u32, u8, writable)
-STORE(i32_store16, u32, u16, its_own)
-STORE(i64_store, u64, u64, its_own)
-STORE(i64_store8, u64, u8, writable)
-STORE(i64_store16, u64, u16, its_own)
-STORE(i64_store32, u64, u32, its_own)
+STORE(i32_store, u32, u32)
+STORE(i32_store8, u32, u8)
+STORE(i32_store16, u32, u16)
+STORE(i64_store, u64, u64)
+STORE(i64_store8, u64, u8)
+STORE(i64_store16, u64, u16)
+STORE(i64_store32, u64, u32)
 
 static inline void memory_copy(module *m, u32 to, u32 from, u32 bytes) {
     if (bytes != 0)
@@ -57289,7 +57279,7 @@ static int begin(module *m, const uint8_t *text, size_t text_length) {
     m->text_length = text_length;
     m->room = NULL;
     m->room_length = 0;
-    memset(its_own(m, TOLD, ROOM - TOLD), 0, ROOM - TOLD);
+    memory_fill(m, TOLD, 0, ROOM - TOLD);
     return text_length <= MOST_OF_TEXT;
 }
 
