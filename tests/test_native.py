@@ -26,8 +26,8 @@ SINCE.update(PyUnicode_GetLength=7, PyUnicode_Substring=7, PyCMethod_New=9)
 SINCE.update(PyUnicode_AsUTF8AndSize=10)
 OF_3_2 = """
 PyArg_ParseTuple PyBytes_AsString PyBytes_AsStringAndSize PyBytes_FromStringAndSize
-PyDict_GetItemString PyDict_New
-PyDict_SetItem PyDict_SetItemString PyDict_Type PyErr_Clear PyErr_Format PyErr_Occurred
+PyDict_GetItemString PyDict_New PyDict_SetItem PyDict_SetItemString PyDict_Type
+PyErr_Clear PyErr_Format PyErr_Occurred
 PyErr_SetString PyEval_RestoreThread PyEval_SaveThread PyExc_RuntimeError PyExc_ValueError
 PyList_New PyList_SetItem PyLong_AsLongLongAndOverflow PyLong_FromLongLong PyLong_FromSsize_t
 PyLong_FromUnsignedLong PyLong_FromUnsignedLongLong PyLong_Type PyModule_GetState PyObject_Call
