@@ -1465,6 +1465,7 @@ static void w2c_f9(module *m, u64 w2c_p0, u32 w2c_p1, u64 w2c_p2) {
   w2c_j0 -= w2c_j1;
   w2c_l3 = w2c_j0;
   m->w2c_g0 = w2c_j0;
+  (void)its_own(m, w2c_l3, 16);
   w2c_j0 = w2c_l3;
   w2c_l3 = w2c_j0;
   w2c_j1 = 16ull;
@@ -3023,6 +3024,7 @@ static void w2c_f11(module *m, u64 w2c_p0, u64 w2c_p1, u64 w2c_p2) {
   w2c_j0 -= w2c_j1;
   w2c_l3 = w2c_j0;
   m->w2c_g0 = w2c_j0;
+  (void)its_own(m, w2c_l3, 816);
   w2c_j0 = w2c_l3;
   w2c_l3 = w2c_j0;
   w2c_j1 = 16ull;
@@ -7114,6 +7116,7 @@ static u32 w2c_f13(module *m, u64 w2c_p0, u64 w2c_p1, u64 w2c_p2, u64 w2c_p3) {
   w2c_j0 -= w2c_j1;
   w2c_l4 = w2c_j0;
   m->w2c_g0 = w2c_j0;
+  (void)its_own(m, w2c_l4, 16);
   w2c_j0 = w2c_l4;
   w2c_l5 = w2c_j0;
   w2c_j1 = 16ull;
@@ -7687,6 +7690,7 @@ static u32 w2c_f15(module *m, u64 w2c_p0, u32 w2c_p1, u64 w2c_p2, u64 w2c_p3, u6
   w2c_j0 -= w2c_j1;
   w2c_l6 = w2c_j0;
   m->w2c_g0 = w2c_j0;
+  (void)its_own(m, w2c_l6, 304);
   w2c_j0 = w2c_l6;
   w2c_l6 = w2c_j0;
   w2c_j1 = 16ull;
@@ -8784,6 +8788,7 @@ static u32 w2c_f18(module *m, u64 w2c_p0, u64 w2c_p1, u64 w2c_p2, u32 w2c_p3, u3
   w2c_j0 -= w2c_j1;
   w2c_l8 = w2c_j0;
   m->w2c_g0 = w2c_j0;
+  (void)its_own(m, w2c_l8, 16);
   w2c_j0 = w2c_l8;
   w2c_l9 = w2c_j0;
   w2c_j1 = 16ull;
@@ -14420,6 +14425,7 @@ static u32 w2c_f26(module *m, u64 w2c_p0, u64 w2c_p1, u64 w2c_p2, u32 w2c_p3, u3
   w2c_j0 -= w2c_j1;
   w2c_l8 = w2c_j0;
   m->w2c_g0 = w2c_j0;
+  (void)its_own(m, w2c_l8, 112);
   w2c_j0 = w2c_l8;
   w2c_l8 = w2c_j0;
   w2c_j1 = 16ull;
@@ -16393,6 +16399,7 @@ static void w2c_f27(module *m, u64 w2c_p0, u64 w2c_p1) {
   w2c_j0 -= w2c_j1;
   w2c_l2 = w2c_j0;
   m->w2c_g0 = w2c_j0;
+  (void)its_own(m, w2c_l2, 16);
   w2c_j0 = w2c_l2;
   w2c_l3 = w2c_j0;
   w2c_j1 = 16ull;
@@ -18006,6 +18013,7 @@ static u32 w2c_f28(module *m, u32 w2c_p0, u32 w2c_p1, u64 w2c_p2, u64 w2c_p3, u3
   w2c_j0 -= w2c_j1;
   w2c_l7 = w2c_j0;
   m->w2c_g0 = w2c_j0;
+  (void)its_own(m, w2c_l7, 16);
   w2c_j0 = w2c_l7;
   w2c_l7 = w2c_j0;
   w2c_j1 = 16ull;
@@ -23802,6 +23810,7 @@ static u64 w2c_f32(module *m, u64 w2c_p0, u64 w2c_p1, u32 w2c_p2, u32 w2c_p3, u6
   w2c_j1 = 32ull;
   w2c_j0 -= w2c_j1;
   w2c_l6 = w2c_j0;
+  (void)its_own(m, w2c_l6, 32);
   w2c_j1 = 16ull;
   w2c_i0 = (u64)((s64)w2c_j0 < (s64)w2c_j1);
   if (w2c_i0) {goto w2c_B9;}
@@ -28562,6 +28571,7 @@ static void w2c_f33(module *m, u64 w2c_p0, u64 w2c_p1, u64 w2c_p2, u32 w2c_p3) {
   w2c_j0 -= w2c_j1;
   w2c_l4 = w2c_j0;
   m->w2c_g0 = w2c_j0;
+  (void)its_own(m, w2c_l4, 384);
   w2c_j0 = w2c_l4;
   w2c_l4 = w2c_j0;
   w2c_j1 = 16ull;
@@ -30415,6 +30425,7 @@ static void w2c_f35(module *m, u64 w2c_p0, u32 w2c_p1, u64 w2c_p2, u64 w2c_p3, u
   w2c_j0 -= w2c_j1;
   w2c_l5 = w2c_j0;
   m->w2c_g0 = w2c_j0;
+  (void)its_own(m, w2c_l5, 160);
   w2c_j0 = w2c_l5;
   w2c_l5 = w2c_j0;
   w2c_j1 = 16ull;
@@ -31069,6 +31080,7 @@ static void w2c_f37(module *m, u64 w2c_p0, u32 w2c_p1, u64 w2c_p2, u64 w2c_p3, u
   w2c_j0 -= w2c_j1;
   w2c_l5 = w2c_j0;
   m->w2c_g0 = w2c_j0;
+  (void)its_own(m, w2c_l5, 384);
   w2c_j0 = w2c_l5;
   w2c_l5 = w2c_j0;
   w2c_j1 = 16ull;
@@ -32472,6 +32484,7 @@ static u64 w2c_f38(module *m, u64 w2c_p0, u64 w2c_p1) {
   w2c_j0 -= w2c_j1;
   w2c_l2 = w2c_j0;
   m->w2c_g0 = w2c_j0;
+  (void)its_own(m, w2c_l2, 16);
   w2c_j0 = w2c_l2;
   w2c_l3 = w2c_j0;
   w2c_j1 = 16ull;
@@ -32858,6 +32871,7 @@ static void w2c_f40(module *m, u64 w2c_p0, u32 w2c_p1, u64 w2c_p2, u64 w2c_p3, u
   w2c_j0 -= w2c_j1;
   w2c_l6 = w2c_j0;
   m->w2c_g0 = w2c_j0;
+  (void)its_own(m, w2c_l6, 112);
   w2c_j0 = w2c_l6;
   w2c_l6 = w2c_j0;
   w2c_j1 = 16ull;
@@ -33106,6 +33120,7 @@ static void w2c_f41(module *m, u64 w2c_p0, u32 w2c_p1, u32 w2c_p2) {
   w2c_j0 -= w2c_j1;
   w2c_l3 = w2c_j0;
   m->w2c_g0 = w2c_j0;
+  (void)its_own(m, w2c_l3, 16);
   w2c_j0 = w2c_l3;
   w2c_l3 = w2c_j0;
   w2c_j1 = 16ull;
@@ -33249,6 +33264,7 @@ static void w2c_f42(module *m, u64 w2c_p0, u64 w2c_p1, u64 w2c_p2) {
   w2c_j0 -= w2c_j1;
   w2c_l3 = w2c_j0;
   m->w2c_g0 = w2c_j0;
+  (void)its_own(m, w2c_l3, 96);
   w2c_j0 = w2c_l3;
   w2c_l3 = w2c_j0;
   w2c_j1 = 16ull;
@@ -33423,6 +33439,7 @@ static void w2c_f43(module *m, u64 w2c_p0, u32 w2c_p1, u32 w2c_p2, u64 w2c_p3, u
   w2c_j0 -= w2c_j1;
   w2c_l7 = w2c_j0;
   m->w2c_g0 = w2c_j0;
+  (void)its_own(m, w2c_l7, 112);
   w2c_j0 = w2c_l7;
   w2c_l7 = w2c_j0;
   w2c_j1 = 16ull;
@@ -33649,6 +33666,7 @@ static void w2c_f44(module *m, u64 w2c_p0, u32 w2c_p1, u64 w2c_p2, u64 w2c_p3) {
   w2c_j0 -= w2c_j1;
   w2c_l4 = w2c_j0;
   m->w2c_g0 = w2c_j0;
+  (void)its_own(m, w2c_l4, 64);
   w2c_j0 = w2c_l4;
   w2c_l4 = w2c_j0;
   w2c_j1 = 16ull;
@@ -33876,6 +33894,7 @@ static void w2c_f45(module *m, u64 w2c_p0, u32 w2c_p1, u64 w2c_p2, u64 w2c_p3, u
   w2c_j0 -= w2c_j1;
   w2c_l5 = w2c_j0;
   m->w2c_g0 = w2c_j0;
+  (void)its_own(m, w2c_l5, 176);
   w2c_j0 = w2c_l5;
   w2c_l5 = w2c_j0;
   w2c_j1 = 16ull;
@@ -34852,6 +34871,7 @@ static void w2c_f46(module *m, u64 w2c_p0, u64 w2c_p1, u64 w2c_p2, u64 w2c_p3) {
   w2c_j0 -= w2c_j1;
   w2c_l4 = w2c_j0;
   m->w2c_g0 = w2c_j0;
+  (void)its_own(m, w2c_l4, 48);
   w2c_j0 = w2c_l4;
   w2c_l5 = w2c_j0;
   w2c_j1 = 16ull;
@@ -35985,6 +36005,7 @@ static void w2c_f48(module *m, u64 w2c_p0, u32 w2c_p1, u64 w2c_p2, u32 w2c_p3, u
   w2c_j0 -= w2c_j1;
   w2c_l6 = w2c_j0;
   m->w2c_g0 = w2c_j0;
+  (void)its_own(m, w2c_l6, 736);
   w2c_j0 = w2c_l6;
   w2c_l6 = w2c_j0;
   w2c_j1 = 16ull;
@@ -37137,6 +37158,7 @@ static void w2c_f49(module *m, u64 w2c_p0, u32 w2c_p1, u64 w2c_p2, u64 w2c_p3, u
   w2c_j0 -= w2c_j1;
   w2c_l6 = w2c_j0;
   m->w2c_g0 = w2c_j0;
+  (void)its_own(m, w2c_l6, 48);
   w2c_j0 = w2c_l6;
   w2c_l7 = w2c_j0;
   w2c_j1 = 16ull;
@@ -37472,6 +37494,7 @@ static u32 w2c_f50(module *m, u64 w2c_p0, u64 w2c_p1, u32 w2c_p2, u32 w2c_p3, u3
   w2c_j0 -= w2c_j1;
   w2c_l6 = w2c_j0;
   m->w2c_g0 = w2c_j0;
+  (void)its_own(m, w2c_l6, 48);
   w2c_j0 = w2c_l6;
   w2c_l7 = w2c_j0;
   w2c_j1 = 16ull;
@@ -38658,6 +38681,7 @@ static void w2c_f51(module *m, u64 w2c_p0, u32 w2c_p1, u64 w2c_p2, u64 w2c_p3, u
   w2c_j0 -= w2c_j1;
   w2c_l5 = w2c_j0;
   m->w2c_g0 = w2c_j0;
+  (void)its_own(m, w2c_l5, 240);
   w2c_j0 = w2c_l5;
   w2c_l6 = w2c_j0;
   w2c_j1 = 16ull;
@@ -40795,6 +40819,7 @@ static u32 w2c_f52(module *m, u64 w2c_p0, u64 w2c_p1, u32 w2c_p2, u32 w2c_p3, u3
   w2c_j0 -= w2c_j1;
   w2c_l6 = w2c_j0;
   m->w2c_g0 = w2c_j0;
+  (void)its_own(m, w2c_l6, 48);
   w2c_j0 = w2c_l6;
   w2c_l7 = w2c_j0;
   w2c_j1 = 16ull;
@@ -41097,6 +41122,7 @@ static u32 w2c_f53(module *m, u64 w2c_p0, u64 w2c_p1, u32 w2c_p2, u64 w2c_p3) {
   w2c_j0 -= w2c_j1;
   w2c_l4 = w2c_j0;
   m->w2c_g0 = w2c_j0;
+  (void)its_own(m, w2c_l4, 16);
   w2c_j0 = w2c_l4;
   w2c_l4 = w2c_j0;
   w2c_j1 = 16ull;
@@ -41164,6 +41190,7 @@ static void w2c_f54(module *m, u64 w2c_p0, u32 w2c_p1, u64 w2c_p2, u64 w2c_p3) {
   w2c_j0 -= w2c_j1;
   w2c_l4 = w2c_j0;
   m->w2c_g0 = w2c_j0;
+  (void)its_own(m, w2c_l4, 16);
   w2c_j0 = w2c_l4;
   w2c_l5 = w2c_j0;
   w2c_j1 = 16ull;
@@ -42121,6 +42148,7 @@ static u32 w2c_f59(module *m, u32 w2c_p0, u32 w2c_p1, u32 w2c_p2, u32 w2c_p3, u6
   w2c_j0 -= w2c_j1;
   w2c_l7 = w2c_j0;
   m->w2c_g0 = w2c_j0;
+  (void)its_own(m, w2c_l7, 272);
   w2c_j0 = w2c_l7;
   w2c_l7 = w2c_j0;
   w2c_j1 = 16ull;
@@ -42543,6 +42571,7 @@ static u32 w2c_f61(module *m, u64 w2c_p0, u32 w2c_p1, u32 w2c_p2, u64 w2c_p3, u6
   w2c_j0 -= w2c_j1;
   w2c_l6 = w2c_j0;
   m->w2c_g0 = w2c_j0;
+  (void)its_own(m, w2c_l6, 304);
   w2c_j0 = w2c_l6;
   w2c_l6 = w2c_j0;
   w2c_j1 = 16ull;
@@ -42769,6 +42798,7 @@ static u32 w2c_f63(module *m, u64 w2c_p0, u64 w2c_p1, u64 w2c_p2, u64 w2c_p3) {
   w2c_j0 -= w2c_j1;
   w2c_l4 = w2c_j0;
   m->w2c_g0 = w2c_j0;
+  (void)its_own(m, w2c_l4, 144);
   w2c_j0 = w2c_l4;
   w2c_l4 = w2c_j0;
   w2c_j1 = 16ull;
@@ -43042,6 +43072,7 @@ static u32 w2c_f65(module *m, u64 w2c_p0, u64 w2c_p1, u64 w2c_p2) {
   w2c_j0 -= w2c_j1;
   w2c_l3 = w2c_j0;
   m->w2c_g0 = w2c_j0;
+  (void)its_own(m, w2c_l3, 32);
   w2c_j0 = w2c_l3;
   w2c_l4 = w2c_j0;
   w2c_j1 = 16ull;
@@ -45060,6 +45091,7 @@ static u32 w2c_f67(module *m, u64 w2c_p0, u64 w2c_p1, u64 w2c_p2) {
   w2c_j0 -= w2c_j1;
   w2c_l3 = w2c_j0;
   m->w2c_g0 = w2c_j0;
+  (void)its_own(m, w2c_l3, 48);
   w2c_j0 = w2c_l3;
   w2c_l3 = w2c_j0;
   w2c_j1 = 16ull;
@@ -47121,6 +47153,7 @@ static u32 w2c_f69(module *m, u64 w2c_p0, u64 w2c_p1, u64 w2c_p2) {
   w2c_j0 -= w2c_j1;
   w2c_l3 = w2c_j0;
   m->w2c_g0 = w2c_j0;
+  (void)its_own(m, w2c_l3, 16);
   w2c_j0 = w2c_l3;
   w2c_l4 = w2c_j0;
   w2c_j1 = 16ull;
@@ -48353,6 +48386,7 @@ static u32 w2c_f73(module *m, u64 w2c_p0, u64 w2c_p1, u64 w2c_p2) {
   w2c_j0 -= w2c_j1;
   w2c_l3 = w2c_j0;
   m->w2c_g0 = w2c_j0;
+  (void)its_own(m, w2c_l3, 64);
   w2c_j0 = w2c_l3;
   w2c_l4 = w2c_j0;
   w2c_j1 = 16ull;
@@ -48876,6 +48910,7 @@ static u32 w2c_f75(module *m, u64 w2c_p0, u64 w2c_p1, u64 w2c_p2) {
   w2c_j0 -= w2c_j1;
   w2c_l3 = w2c_j0;
   m->w2c_g0 = w2c_j0;
+  (void)its_own(m, w2c_l3, 16);
   w2c_j0 = w2c_l3;
   w2c_l4 = w2c_j0;
   w2c_j1 = 16ull;
@@ -51305,6 +51340,7 @@ static u32 w2c_f85(module *m, u64 w2c_p0, u64 w2c_p1, u32 w2c_p2, u32 w2c_p3, u3
   w2c_j0 -= w2c_j1;
   w2c_l9 = w2c_j0;
   m->w2c_g0 = w2c_j0;
+  (void)its_own(m, w2c_l9, 272);
   w2c_j0 = w2c_l9;
   w2c_l9 = w2c_j0;
   w2c_j1 = 16ull;
@@ -52667,6 +52703,7 @@ static u32 w2c_f87(module *m, u64 w2c_p0, u64 w2c_p1, u32 w2c_p2, u32 w2c_p3, u3
   w2c_j0 -= w2c_j1;
   w2c_l9 = w2c_j0;
   m->w2c_g0 = w2c_j0;
+  (void)its_own(m, w2c_l9, 304);
   w2c_j0 = w2c_l9;
   w2c_l9 = w2c_j0;
   w2c_j1 = 16ull;
@@ -54565,6 +54602,7 @@ static u32 w2c_f89(module *m, u64 w2c_p0, u32 w2c_p1, u32 w2c_p2, u32 w2c_p3, u6
   w2c_j0 -= w2c_j1;
   w2c_l7 = w2c_j0;
   m->w2c_g0 = w2c_j0;
+  (void)its_own(m, w2c_l7, 1024);
   w2c_j0 = w2c_l7;
   w2c_l8 = w2c_j0;
   w2c_j1 = 16ull;
@@ -56450,6 +56488,7 @@ static u32 w2c_f91(module *m, u64 w2c_p0, u64 w2c_p1, u32 w2c_p2, u64 w2c_p3) {
   w2c_j0 -= w2c_j1;
   w2c_l4 = w2c_j0;
   m->w2c_g0 = w2c_j0;
+  (void)its_own(m, w2c_l4, 80);
   w2c_j0 = w2c_l4;
   w2c_l4 = w2c_j0;
   w2c_j1 = 16ull;

@@ -6,7 +6,8 @@ Usage: source.py MODULE OUT
 MODULE is `chinese-number.32.wasm`, as `bindings/web/build.sh` makes it, and `wasm2c` of wabt 1.0.32
 is on the path. What that version writes is known line by line: of any other line, of another
 prelude, and of a module that is not as this one, nothing is made. The functions of the module stay
-as they are, but for their memory, which `chinese_number.c.in` has, and for wabt's count of calls.
+as they are, but for their memory, which `chinese_number.c.in` has, for a test of what each takes of
+the stack, and for wabt's count of calls.
 
 The module's stack is an array there. How deep it can become is counted: what each function takes,
 and then what those that it calls take. So a module is refused that calls through a table, or has
@@ -106,8 +107,8 @@ EXPORT = re.compile(
 CALLED = re.compile(r"\b(w2c_\w+)\(instance")
 # How a function begins that takes some of the stack, and one that takes none of it.
 TAKES = re.compile(
-    r"(\w+) = instance->w2c_g0;\n(\w+) = (\d+)ull;\n\1 -= \2;\n"
-    r"(w2c_l\d+) = \1;\n(?P<moved>instance->w2c_g0 = \1;\n)?"
+    r" *(\w+) = instance->w2c_g0;\n *(\w+) = (\d+)ull;\n *\1 -= \2;\n"
+    r" *(w2c_l\d+) = \1;\n(?P<moved> *instance->w2c_g0 = \1;\n)?"
 )
 ASKS = re.compile(
     r"(\w+) = instance->w2c_g0;\n(?:(w2c_l\d+) = \1;\n)?(\w+) = (?:"
@@ -212,7 +213,9 @@ def calls_of(exports, template):
 
 
 def ours(text):
-    """The module's text over the template's machine."""
+    """The module's text over the template's machine. What a function takes of the stack is tested
+    once, so that a compiler leaves out the tests of most accesses to it."""
+    text = TAKES.sub(r"\g<0>  (void)its_own(instance, \4, \3);\n", text)
     text = text.replace(f"{MEMORY}, {MEMORY}", "m").replace(MEMORY, "m")
     text = re.sub(r"^ *FUNC_(?:PROLOGUE|EPILOGUE);\n", "", text, flags=re.MULTILINE)
     text = text.replace("Z_cn_instance_t* ", "module *").replace("Z_cn_instance_t*", "module *")
