@@ -9,6 +9,7 @@ import pydoc
 import re
 import shutil
 import sys
+from dataclasses import replace
 from functools import partial
 from inspect import Parameter, Signature, signature
 
@@ -22,19 +23,21 @@ from test_python import module_over
 # The names of Python that the module asks for by one header or another, by the version of the
 # stable interface that has them first. Those of 3.2 are the rest.
 SINCE = {"PyType_GetSlot": 4, "PyModuleDef_Init": 5, "PyUnicode_AsUCS4": 7}
+SINCE.update(PyModule_AddObjectRef=10, PyType_FromModuleAndSpec=10)
 SINCE.update(PyUnicode_GetLength=7, PyUnicode_Substring=7, PyCMethod_New=9)
 SINCE.update(PyUnicode_AsUTF8AndSize=10)
 OF_3_2 = """
-PyArg_ParseTuple PyBytes_AsString PyBytes_AsStringAndSize PyBytes_FromStringAndSize
-PyDict_GetItemString PyDict_New PyDict_SetItem PyDict_SetItemString PyDict_Type
-PyErr_Clear PyErr_Format PyErr_Occurred
+PyArg_ParseTuple PyArg_ParseTupleAndKeywords PyBool_FromLong PyByteArray_AsString
+PyByteArray_FromStringAndSize PyByteArray_Size
+PyBytes_AsString PyBytes_AsStringAndSize PyBytes_FromStringAndSize PyDict_GetItemString PyDict_New
+PyDict_SetItem PyDict_SetItemString PyDict_Type PyErr_Clear PyErr_Format PyErr_Occurred
 PyErr_SetString PyEval_RestoreThread PyEval_SaveThread PyExc_RuntimeError PyExc_ValueError
-PyList_New PyList_SetItem PyLong_AsLongLongAndOverflow PyLong_FromLongLong PyLong_FromSsize_t
-PyLong_FromUnsignedLong PyLong_FromUnsignedLongLong PyLong_Type PyModule_GetState PyObject_Call
-PyTuple_GetItem PyTuple_New PyTuple_Pack PyTuple_SetItem PyTuple_Size PyTuple_Type PyType_GetFlags
+PyList_New PyList_SetItem PyLong_AsLongLongAndOverflow PyLong_FromLongLong PyLong_FromUnsignedLong
+PyLong_FromUnsignedLongLong PyLong_Type PyModule_GetState PyObject_Call PySequence_InPlaceConcat
+PyTuple_GetItem PyTuple_New PyTuple_SetItem PyTuple_Size PyType_GenericAlloc PyType_GetFlags
 PyType_IsSubtype PyType_Type PyUnicode_AsEncodedString PyUnicode_DecodeUTF8 PyUnicode_FromWideChar
-PyUnicode_InternFromString Py_BuildValue _PyArg_ParseTuple_SizeT _Py_BuildValue_SizeT _Py_Dealloc
-_Py_FalseStruct _Py_NoneStruct _Py_TrueStruct""".split()
+PyUnicode_InternFromString Py_BuildValue _PyArg_ParseTupleAndKeywords_SizeT _PyArg_ParseTuple_SizeT
+_Py_BuildValue_SizeT _Py_Dealloc _Py_NoneStruct""".split()
 NEWEST = list(BY_NATIVE.values())[-2:][0]
 
 
@@ -179,6 +182,7 @@ def test_nothing_is_kept(numerals):
         (it.chinese_to_date, ("贰零贰陆年零壹月壹拾伍日", "贰")),
         (lambda text: list(it.find_numbers(text)), ("一，二十，", None)),
         (lambda text: next(it.find_numbers(text)), ("三" + "，一" * 100,)),
+        (lambda text: replace(next(it.find_numbers("一")), text=text).text, ("一", None)),
         (it.to_quantity, ("3.5万", "三分之一", "12,34", "x" * 300, None)),
         (lambda text: it.to_quantity(text).to_chinese(method="low"), ("12.5%", "1000京")),
         (lambda text: it.to_quantity(text).to_figures(), ("12.5%", "三分之一")),

@@ -5,12 +5,15 @@
 #define PY_SSIZE_T_CLEAN
 #define Py_LIMITED_API 0x030A0000
 #include <Python.h>
+#include <stddef.h>
 #include <string.h>
+#include <structmember.h>
 #include "chinese_number.h"
 
 enum {
     SHORT = 256,    /* characters; a text of no more is read from the stack, and takes no memory */
     LONG = 1 << 16, /* bytes; see let_go */
+    PIECE = 8192,   /* characters; see utf8 */
     AT_ONCE = 256,  /* numbers of a text that are found before the first of them is handed out */
     CHOICES = 4,
     MOST_WORDS = 20 /* of one choice: the members of its enum, and the str that each equals */
@@ -35,7 +38,7 @@ typedef struct quick {
 
 /* `held` is a dict, which owns all objects that are named here. */
 typedef struct state {
-    PyObject *held;
+    PyObject *held, *run;
     choice choices[CHOICES];
     quick to_number, to_chinese;
 } state;
@@ -164,6 +167,23 @@ static PyThreadState *let_go(size_t length) {
 static void take_back(PyThreadState *thread) {
     if (thread)
         PyEval_RestoreThread(thread);
+}
+
+/* The UTF-8 of a str, as a bytearray, a piece at a time: Python cuts and copies one of ASCII in less
+ * time than it takes to encode a whole text that has any other character. */
+static PyObject *utf8(PyObject *module, PyObject *string) {
+    Py_ssize_t length = PyUnicode_GetLength(string);
+    PyObject *done = length < 0 ? NULL : PyByteArray_FromStringAndSize(NULL, 0);
+    for (Py_ssize_t at = 0; done && at < length; at += PIECE) {
+        PyObject *piece = PyUnicode_Substring(string, at, at + PIECE);
+        PyObject *bytes = piece ? PyUnicode_AsEncodedString(piece, "utf-8", "replace") : NULL;
+        PyObject *longer = bytes ? PySequence_InPlaceConcat(done, bytes) : NULL;
+        Py_XDECREF(piece);
+        Py_XDECREF(bytes);
+        Py_DECREF(done);
+        done = longer;
+    }
+    return done;
 }
 
 /* A str in UTF-8: in the room, or in the bytes that are held. */
@@ -451,74 +471,133 @@ static Py_ssize_t characters(const uint8_t *from, const uint8_t *to) {
     return (Py_ssize_t)count;
 }
 
-/* Whether a span has a flag, as an object that is borrowed. */
-static PyObject *flag_of(const cn_span *span, cn_flag flag) {
-    return (span->flags & flag) != 0 ? Py_True : Py_False;
+/* A run of a text. One that is found holds the whole text, and makes its own when it is asked for:
+ * to make them at once takes a search of a long text half as long again. */
+typedef struct run {
+    PyObject_HEAD
+    PyObject *string; /* its own text, or the whole one where `is_found` */
+    Py_ssize_t start, end;
+    uint32_t flags;
+    int is_found;
+} run;
+
+static PyObject *text_of(PyObject *self, void *none) {
+    run *it = (run *)self;
+    if (it->is_found)
+        return PyUnicode_Substring(it->string, it->start, it->end);
+    Py_INCREF(it->string);
+    return it->string;
 }
 
-/* What is told of a number from one character to another: where it is, its text and its flags. */
-static PyObject *fields_of(PyObject *string, Py_ssize_t from, Py_ssize_t to, const cn_span *span) {
-    PyObject *start = PyLong_FromSsize_t(from), *end = PyLong_FromSsize_t(to);
-    PyObject *text = PyUnicode_Substring(string, from, to), *fields = NULL;
-    if (start && end && text)
-        fields = PyTuple_Pack(7, start, end, text, flag_of(span, CN_PLAIN_DIGITS),
-                              flag_of(span, CN_STANDS_ALONE), flag_of(span, CN_ABOUT),
-                              flag_of(span, CN_ONE_CHARACTER));
-    Py_XDECREF(start);
-    Py_XDECREF(end);
-    Py_XDECREF(text);
-    return fields;
+static PyObject *has_flag(PyObject *self, void *flag) {
+    return PyBool_FromLong((((run *)self)->flags & (uintptr_t)flag) != 0);
 }
 
-/* The same as a tuple of a class of tuples; `one` is a tuple for it, and owns the fields then. */
-static PyObject *of_class(PyObject *class, PyObject *one, PyObject *fields) {
-    void *slot = PyType_GetSlot(&PyTuple_Type, Py_tp_new);
-    newfunc make;
-    memcpy(&make, &slot, sizeof make);
-    if (PyTuple_SetItem(one, 0, fields) || !fields)
+/* A run of a class, with its own text. */
+static run *new_run(PyTypeObject *class, PyObject *text, Py_ssize_t start, Py_ssize_t end,
+                    uint32_t flags) {
+    run *it = (run *)PyType_GenericAlloc(class, 0);
+    if (it) {
+        Py_INCREF(text);
+        it->string = text;
+        it->start = start;
+        it->end = end;
+        it->flags = flags;
+    }
+    return it;
+}
+
+/* The class of runs itself, and each below it, makes one of its fields. */
+static PyObject *make_run(PyTypeObject *class, PyObject *values, PyObject *words) {
+    static char *names[] = {"start",        "end",      "text",             "is_plain",
+                            "stands_alone", "is_about", "is_one_character", NULL};
+    Py_ssize_t start, end;
+    PyObject *text;
+    int plain, alone, about, one;
+    if (!PyArg_ParseTupleAndKeywords(values, words, "nnUpppp", names, &start, &end, &text, &plain,
+                                     &alone, &about, &one))
         return NULL;
-    return make((PyTypeObject *)class, one, NULL);
+    uint32_t flags = (plain ? CN_PLAIN_DIGITS : 0u) | (alone ? CN_STANDS_ALONE : 0u) |
+                     (about ? CN_ABOUT : 0u) | (one ? CN_ONE_CHARACTER : 0u);
+    return (PyObject *)new_run(class, text, start, end, flags);
 }
+
+static void discard_run(PyObject *self) {
+    PyTypeObject *class = Py_TYPE(self);
+    void *slot = PyType_GetSlot(class, Py_tp_free);
+    freefunc give_back;
+    memcpy(&give_back, &slot, sizeof give_back);
+    Py_DECREF(((run *)self)->string);
+    give_back(self);
+    Py_DECREF(class);
+}
+
+#define FLAG(name, flag) {name, has_flag, NULL, NULL, (void *)flag}
+static PyMemberDef PLACES[] = {
+    {"start", T_PYSSIZET, offsetof(run, start), READONLY, NULL},
+    {"end", T_PYSSIZET, offsetof(run, end), READONLY, NULL},
+    {NULL, 0, 0, 0, NULL},
+};
+static PyGetSetDef OTHERS[] = {
+    {"text", text_of, NULL, NULL, NULL},
+    FLAG("is_plain", CN_PLAIN_DIGITS),
+    FLAG("stands_alone", CN_STANDS_ALONE),
+    FLAG("is_about", CN_ABOUT),
+    FLAG("is_one_character", CN_ONE_CHARACTER),
+    {NULL, NULL, NULL, NULL, NULL},
+};
+static const char SIGNATURE[] =
+    "Run(start, end, text, is_plain, stands_alone, is_about, is_one_character)\n--\n\n";
+static PyType_Slot RUN_SLOTS[] = {
+    {Py_tp_doc, (void *)SIGNATURE}, {Py_tp_new, (void *)make_run},
+    {Py_tp_members, PLACES},        {Py_tp_dealloc, (void *)discard_run},
+    {Py_tp_getset, OTHERS},         {0, NULL},
+};
+static PyType_Spec RUN = {
+    "chinese_number._native.Run", sizeof(run), 0, Py_TPFLAGS_DEFAULT | Py_TPFLAGS_BASETYPE,
+    RUN_SLOTS,
+};
 
 typedef uint32_t search(const uint8_t *text, size_t length, size_t from, uint32_t upper,
                         uint32_t greatest, cn_span *spans, size_t most, size_t *count);
 
 /* The next numbers of a text behind its first bytes, which have so many characters, or what another
- * search finds: the status, a list of them, and up to where they were looked for, in bytes and in
- * characters. The data are the text in UTF-8. */
-static PyObject *find(PyObject *given, search *next) {
+ * search finds: the status, a list of runs of a class, and up to where they were looked for, in bytes
+ * and in characters. The data are what utf8 makes of the text. */
+static PyObject *find(PyObject *module, PyObject *given, search *next) {
+    state *own = PyModule_GetState(module);
     PyObject *string, *data, *class;
-    char *first;
-    Py_ssize_t length, searched, index;
+    Py_ssize_t searched, index;
     unsigned upper, greatest;
     cn_span spans[AT_ONCE];
     size_t count;
-    if (!PyArg_ParseTuple(given, "USnnIIO!", &string, &data, &searched, &index, &upper, &greatest,
-                          &PyType_Type, &class) ||
-        PyBytes_AsStringAndSize(data, &first, &length))
+    if (!PyArg_ParseTuple(given, "UYnnIIO!", &string, &data, &searched, &index, &upper, &greatest,
+                          &PyType_Type, &class))
         return NULL;
-    const uint8_t *bytes = (const uint8_t *)first;
+    const uint8_t *bytes = (const uint8_t *)PyByteArray_AsString(data);
+    Py_ssize_t length = PyByteArray_Size(data);
     if (searched < 0 || searched > length ||
-        !PyType_IsSubtype((PyTypeObject *)class, &PyTuple_Type)) {
-        PyErr_SetString(PyExc_ValueError, "a place in the bytes and a class of tuples are wanted");
+        !PyType_IsSubtype((PyTypeObject *)class, (PyTypeObject *)own->run)) {
+        PyErr_SetString(PyExc_ValueError, "a place in the bytes and a class of runs are wanted");
         return NULL;
     }
     PyThreadState *thread = let_go((size_t)(length - searched));
     uint32_t status = next(bytes, (size_t)length, (size_t)searched, upper, greatest, spans, AT_ONCE,
                            &count);
     take_back(thread);
-    PyObject *made = PyList_New((Py_ssize_t)count), *one = PyTuple_New(1);
-    int failed = !made || !one;
+    PyObject *made = PyList_New((Py_ssize_t)count);
+    int failed = !made;
     for (size_t i = 0; !failed && i < count; i++) {
         const cn_span *span = &spans[i];
         const uint8_t *start = bytes + span->start, *end = bytes + span->end;
         Py_ssize_t first = index + characters(bytes + searched, start);
         index = first + characters(start, end);
         searched = end - bytes;
-        PyObject *found = of_class(class, one, fields_of(string, first, index, span));
-        failed = !found || PyList_SetItem(made, (Py_ssize_t)i, found);
+        run *found = new_run((PyTypeObject *)class, string, first, index, span->flags);
+        if (found)
+            found->is_found = 1;
+        failed = !found || PyList_SetItem(made, (Py_ssize_t)i, (PyObject *)found);
     }
-    Py_XDECREF(one);
     if (failed) {
         Py_XDECREF(made);
         return NULL;
@@ -527,11 +606,11 @@ static PyObject *find(PyObject *given, search *next) {
 }
 
 static PyObject *find_numbers(PyObject *module, PyObject *given) {
-    return find(given, chinese_number_find_utf8);
+    return find(module, given, chinese_number_find_utf8);
 }
 
 static PyObject *find_quantities(PyObject *module, PyObject *given) {
-    return find(given, chinese_quantity_find_utf8);
+    return find(module, given, chinese_quantity_find_utf8);
 }
 
 static PyObject *version(PyObject *module, PyObject *none) {
@@ -541,7 +620,7 @@ static PyObject *version(PyObject *module, PyObject *none) {
 #define CALL(name, words) {#name, name, words, NULL}
 static PyMethodDef METHODS[] = {
     CALL(version, METH_NOARGS), CALL(know_words, METH_VARARGS), CALL(quick_to_number, METH_VARARGS),
-    CALL(quick_to_chinese, METH_VARARGS), CALL(read_number, METH_VARARGS),
+    CALL(quick_to_chinese, METH_VARARGS), CALL(utf8, METH_O), CALL(read_number, METH_VARARGS),
     CALL(read_amount, METH_O), CALL(read_typed_amount, METH_O), CALL(read_signed_amount, METH_O),
     CALL(read_figures, METH_O), CALL(read_date, METH_O), CALL(print_number, METH_VARARGS),
     CALL(print_amount, METH_VARARGS), CALL(print_signed_amount, METH_VARARGS),
@@ -552,7 +631,9 @@ static PyMethodDef METHODS[] = {
 };
 
 static int traverse(PyObject *module, visitproc visit, void *arg) {
-    Py_VISIT(((state *)PyModule_GetState(module))->held);
+    state *own = PyModule_GetState(module);
+    Py_VISIT(own->held);
+    Py_VISIT(own->run);
     return 0;
 }
 
@@ -564,6 +645,7 @@ static int clear(PyObject *module) {
     own->to_number.names = own->to_chinese.names = NULL;
     own->to_number.method.ml_doc = own->to_chinese.method.ml_doc = NULL;
     Py_CLEAR(own->held);
+    Py_CLEAR(own->run);
     return 0;
 }
 
@@ -574,7 +656,8 @@ static void discard(void *module) {
 static int begin(PyObject *module) {
     state *own = PyModule_GetState(module);
     own->held = PyDict_New();
-    return own->held ? 0 : -1;
+    own->run = PyType_FromModuleAndSpec(module, &RUN, NULL);
+    return own->held && own->run ? PyModule_AddObjectRef(module, "Run", own->run) : -1;
 }
 
 static PyModuleDef_Slot SLOTS[] = {{Py_mod_exec, (void *)begin}, {0, NULL}};

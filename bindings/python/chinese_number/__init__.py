@@ -57,14 +57,14 @@ call lets other threads of Python run. Where it is made of C source, a text of m
 from __future__ import annotations
 
 import operator
-from dataclasses import dataclass
+from dataclasses import astuple, dataclass
 from datetime import date, datetime
 from decimal import Decimal
 from enum import Enum
 from fractions import Fraction
 from itertools import chain
 from sys import intern
-from typing import Any, Callable, Dict, Iterable, Iterator, List, NamedTuple, Optional
+from typing import Any, Callable, Dict, Iterable, Iterator, List, Optional
 from typing import SupportsIndex, Tuple, Type, TypeVar, Union
 
 from . import _library
@@ -828,7 +828,11 @@ def to_quantity(text: str, *, method: Union[Way, str] = Way.TEN_THOUSAND) -> Qua
     return Quantity(above, below, _FORM_OF[form])
 
 
-class _Run(NamedTuple):
+@dataclass(frozen=True, init=False)
+class _Run(_library.Run):
+    """A run of a text, from start to end, as positions in the str."""
+
+    __slots__ = ()
     start: int
     end: int
     text: str
@@ -837,6 +841,9 @@ class _Run(NamedTuple):
     is_about: bool
     is_one_character: bool
 
+    def __reduce__(self) -> Tuple[Any, ...]:
+        return type(self), astuple(self)
+
 
 class Found(_Run):
     """A run of numeral characters in a text, from start to end, as positions in the str.
@@ -844,7 +851,7 @@ class Found(_Run):
     is_plain says whether it is plain digits: a single digit is, 十 is not. stands_alone says whether
     no letter or digit touches it and none is linked to it, so neither part of 3.5万 does; is_about,
     whether it is about so much, as the 十 of 十几 and 五六 are; is_one_character, whether it is one
-    Chinese character, as the 一 of 一般 is.
+    Chinese character, as the 一 of 一般 is. It can hold the whole text for as long as it is there.
     """
 
     __slots__ = ()
@@ -943,7 +950,7 @@ def _found(
     find: Callable[..., _library.Some], of: Type[_AnyRun], text: str, upper: bool, greatest: int
 ) -> Iterator[List[_AnyRun]]:
     """What is found in a text, some at a time."""
-    data = str.encode(text, "utf-8", "replace")
+    data = _library.utf8(text)
     searched = index = 0
     while searched < len(data):
         place = searched, index

@@ -1,8 +1,8 @@
 """The calls of the library, and nothing of what they mean: by ctypes, or by `_native`, a module of C.
 
 Texts are str, choices are the codes of chinese_number.h, and places count characters. Each call
-gives the status first. `load` puts the functions of `_native` in the place of those that have the
-same names here, where it is there and this Python takes it.
+gives the status first. `load` puts what `_native` has in the place of what has the same name here,
+where it is there and this Python takes it.
 
 Half of a surrogate pair has no bytes in UTF-8. It goes as a question mark, which is no numeral
 either.
@@ -15,6 +15,7 @@ import importlib
 import os
 import sys
 from ctypes import POINTER as _at, byref
+from dataclasses import dataclass
 from pathlib import Path
 from typing import Any, Dict, List, Tuple, TypeVar, Union
 
@@ -90,7 +91,7 @@ _SUFFIXES = {"darwin": "dylib", "win32": "dll"}
 _HERE = Path(__file__).resolve().parent
 # What `_native` has of this module.
 _CALLS = (
-    "know_words read_number read_amount read_signed_amount read_typed_amount read_figures "
+    "Run know_words utf8 read_number read_amount read_signed_amount read_typed_amount read_figures "
     "read_date read_quantity print_number print_amount print_signed_amount print_date "
     "print_quantity print_figures find_numbers find_quantities quantities_to_figures"
 ).split()
@@ -106,6 +107,20 @@ Some = Tuple[int, List[Any], int, int]
 _Function = TypeVar("_Function", bound=Any)
 library: Any = None
 _native: Any = None
+
+
+@dataclass(frozen=True)
+class Run:
+    """A run of a text. That of `_native` makes its text when it is asked for."""
+
+    __slots__ = ("start", "end", "text", "is_plain", "stands_alone", "is_about", "is_one_character")
+    start: int
+    end: int
+    text: str
+    is_plain: bool
+    stands_alone: bool
+    is_about: bool
+    is_one_character: bool
 
 
 def _module() -> Any:
@@ -303,6 +318,11 @@ def quantities_to_figures(
     return status, room.raw[: length.value].decode()
 
 
+def utf8(text: str) -> Union[bytes, bytearray]:
+    """The UTF-8 of a text, for the searches below."""
+    return str.encode(text, "utf-8", "replace")
+
+
 def _some(call: Any, text: str, data: bytes, searched: int, index: int, *wanted: Any) -> Some:
     spans, count, made = (_Span * _AT_ONCE)(), _SIZE(), []
     *codes, of = wanted
@@ -317,8 +337,7 @@ def _some(call: Any, text: str, data: bytes, searched: int, index: int, *wanted:
 def find_numbers(*words: Any) -> Some:
     """The next numbers of a text, which is given with its UTF-8, behind its first bytes, which have
     so many characters; whether those of the upper case are wanted, and the code of the greatest
-    unit; and a class of tuples, of where each begins and ends, its text and whether it has each of
-    the four flags."""
+    unit; and a class of runs."""
     return _some(library.chinese_number_find_utf8, *words)
 
 
