@@ -444,6 +444,8 @@ static INLINE int is_within(u64 from, u64 bytes, u64 size) {
     return bytes <= size && from <= size - bytes;
 }
 
+/* A function that takes some of the stack asks for all of that first, and drops the answer: then a
+ * compiler can leave out most of the tests that follow. */
 static INLINE u8 *its_own(module *m, u64 address, u64 bytes) {
     u64 in_own = address - FIRST_OWN;
     if (!is_within(in_own, bytes, OWN_BYTES))

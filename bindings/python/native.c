@@ -36,9 +36,9 @@ typedef struct quick {
     int count, defaults[CHOICES], places[CHOICES];
 } quick;
 
-/* `held` is a dict, which owns all objects that are named here. */
+/* `run` is the class of runs, and `held` a dict, which owns all objects that are named below it. */
 typedef struct state {
-    PyObject *held, *run;
+    PyObject *run, *held;
     choice choices[CHOICES];
     quick to_number, to_chinese;
 } state;
@@ -169,14 +169,23 @@ static void take_back(PyThreadState *thread) {
         PyEval_RestoreThread(thread);
 }
 
-/* The UTF-8 of a str, as a bytearray, a piece at a time: Python cuts and copies one of ASCII in less
- * time than it takes to encode a whole text that has any other character. */
+static PyObject *encoded(PyObject *string) {
+    return string ? PyUnicode_AsEncodedString(string, "utf-8", "replace") : NULL;
+}
+
+/* The UTF-8 of a str, as bytes or a bytearray. With one character beyond ASCII a text takes as long to
+ * be encoded as with many: so one that begins with ASCII goes in pieces, most of which are copied. */
 static PyObject *utf8(PyObject *module, PyObject *string) {
     Py_ssize_t length = PyUnicode_GetLength(string);
-    PyObject *done = length < 0 ? NULL : PyByteArray_FromStringAndSize(NULL, 0);
-    for (Py_ssize_t at = 0; done && at < length; at += PIECE) {
-        PyObject *piece = PyUnicode_Substring(string, at, at + PIECE);
-        PyObject *bytes = piece ? PyUnicode_AsEncodedString(piece, "utf-8", "replace") : NULL;
+    PyObject *piece = PyUnicode_Substring(string, 0, PIECE), *bytes = encoded(piece);
+    Py_XDECREF(piece);
+    if (!bytes || length <= PIECE)
+        return bytes;
+    PyObject *done = PyBytes_Size(bytes) > PIECE ? encoded(string) : PyByteArray_FromObject(bytes);
+    Py_DECREF(bytes);
+    for (Py_ssize_t at = PIECE; done && PyByteArray_Check(done) && at < length; at += PIECE) {
+        piece = PyUnicode_Substring(string, at, at + PIECE);
+        bytes = encoded(piece);
         PyObject *longer = bytes ? PySequence_InPlaceConcat(done, bytes) : NULL;
         Py_XDECREF(piece);
         Py_XDECREF(bytes);
@@ -471,8 +480,8 @@ static Py_ssize_t characters(const uint8_t *from, const uint8_t *to) {
     return (Py_ssize_t)count;
 }
 
-/* A run of a text. One that is found holds the whole text, and makes its own when it is asked for:
- * to make them at once takes a search of a long text half as long again. */
+/* A run of a text. One that is found holds the whole text, and makes its own when it is asked for: a
+ * search that makes each at once takes half as long again. */
 typedef struct run {
     PyObject_HEAD
     PyObject *string; /* its own text, or the whole one where `is_found` */
@@ -493,42 +502,44 @@ static PyObject *has_flag(PyObject *self, void *flag) {
     return PyBool_FromLong((((run *)self)->flags & (uintptr_t)flag) != 0);
 }
 
-/* A run of a class, with its own text. */
-static run *new_run(PyTypeObject *class, PyObject *text, Py_ssize_t start, Py_ssize_t end,
-                    uint32_t flags) {
+/* A run of a class without places and flags. */
+static run *new_run(PyTypeObject *class, PyObject *string) {
     run *it = (run *)PyType_GenericAlloc(class, 0);
     if (it) {
-        Py_INCREF(text);
-        it->string = text;
-        it->start = start;
-        it->end = end;
-        it->flags = flags;
+        Py_INCREF(string);
+        it->string = string;
     }
     return it;
 }
 
-/* The class of runs itself, and each below it, makes one of its fields. */
+/* A run of its seven fields, as the class and each below it are called. A str of another class, which
+ * can hold the run, is copied. */
 static PyObject *make_run(PyTypeObject *class, PyObject *values, PyObject *words) {
     static char *names[] = {"start",        "end",      "text",             "is_plain",
                             "stands_alone", "is_about", "is_one_character", NULL};
     Py_ssize_t start, end;
     PyObject *text;
     int plain, alone, about, one;
-    if (!PyArg_ParseTupleAndKeywords(values, words, "nnUpppp", names, &start, &end, &text, &plain,
-                                     &alone, &about, &one))
+    if (!PyArg_ParseTupleAndKeywords(values, words, "nnUpppp:Run", names, &start, &end, &text,
+                                     &plain, &alone, &about, &one))
         return NULL;
-    uint32_t flags = (plain ? CN_PLAIN_DIGITS : 0u) | (alone ? CN_STANDS_ALONE : 0u) |
-                     (about ? CN_ABOUT : 0u) | (one ? CN_ONE_CHARACTER : 0u);
-    return (PyObject *)new_run(class, text, start, end, flags);
+    PyObject *exact = PyUnicode_FromObject(text);
+    run *it = exact ? new_run(class, exact) : NULL;
+    Py_XDECREF(exact);
+    if (it) {
+        it->start = start;
+        it->end = end;
+        it->flags = (plain ? CN_PLAIN_DIGITS : 0u) | (alone ? CN_STANDS_ALONE : 0u) |
+                    (about ? CN_ABOUT : 0u) | (one ? CN_ONE_CHARACTER : 0u);
+    }
+    return (PyObject *)it;
 }
 
 static void discard_run(PyObject *self) {
     PyTypeObject *class = Py_TYPE(self);
-    void *slot = PyType_GetSlot(class, Py_tp_free);
-    freefunc give_back;
-    memcpy(&give_back, &slot, sizeof give_back);
+    freefunc discarded = (freefunc)PyType_GetSlot(class, Py_tp_free);
     Py_DECREF(((run *)self)->string);
-    give_back(self);
+    discarded(self);
     Py_DECREF(class);
 }
 
@@ -567,15 +578,21 @@ typedef uint32_t search(const uint8_t *text, size_t length, size_t from, uint32_
 static PyObject *find(PyObject *module, PyObject *given, search *next) {
     state *own = PyModule_GetState(module);
     PyObject *string, *data, *class;
-    Py_ssize_t searched, index;
+    char *from;
+    Py_ssize_t length, searched, index;
     unsigned upper, greatest;
     cn_span spans[AT_ONCE];
     size_t count;
-    if (!PyArg_ParseTuple(given, "UYnnIIO!", &string, &data, &searched, &index, &upper, &greatest,
+    if (!PyArg_ParseTuple(given, "UOnnIIO!", &string, &data, &searched, &index, &upper, &greatest,
                           &PyType_Type, &class))
         return NULL;
-    const uint8_t *bytes = (const uint8_t *)PyByteArray_AsString(data);
-    Py_ssize_t length = PyByteArray_Size(data);
+    if (PyByteArray_Check(data)) {
+        from = PyByteArray_AsString(data);
+        length = PyByteArray_Size(data);
+    } else if (PyBytes_AsStringAndSize(data, &from, &length)) {
+        return NULL;
+    }
+    const uint8_t *bytes = (const uint8_t *)from;
     if (searched < 0 || searched > length ||
         !PyType_IsSubtype((PyTypeObject *)class, (PyTypeObject *)own->run)) {
         PyErr_SetString(PyExc_ValueError, "a place in the bytes and a class of runs are wanted");
@@ -593,9 +610,13 @@ static PyObject *find(PyObject *module, PyObject *given, search *next) {
         Py_ssize_t first = index + characters(bytes + searched, start);
         index = first + characters(start, end);
         searched = end - bytes;
-        run *found = new_run((PyTypeObject *)class, string, first, index, span->flags);
-        if (found)
+        run *found = new_run((PyTypeObject *)class, string);
+        if (found) {
+            found->start = first;
+            found->end = index;
+            found->flags = span->flags;
             found->is_found = 1;
+        }
         failed = !found || PyList_SetItem(made, (Py_ssize_t)i, (PyObject *)found);
     }
     if (failed) {

@@ -213,8 +213,8 @@ def calls_of(exports, template):
 
 
 def ours(text):
-    """The module's text over the template's machine. What a function takes of the stack is tested
-    once, so that a compiler leaves out the tests of most accesses to it."""
+    """The module's text over the template's machine, where what a function takes of the stack is
+    tested once."""
     text = TAKES.sub(r"\g<0>  (void)its_own(instance, \4, \3);\n", text)
     text = text.replace(f"{MEMORY}, {MEMORY}", "m").replace(MEMORY, "m")
     text = re.sub(r"^ *FUNC_(?:PROLOGUE|EPILOGUE);\n", "", text, flags=re.MULTILINE)

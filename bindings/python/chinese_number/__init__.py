@@ -57,7 +57,7 @@ call lets other threads of Python run. Where it is made of C source, a text of m
 from __future__ import annotations
 
 import operator
-from dataclasses import astuple, dataclass
+from dataclasses import dataclass, field, fields
 from datetime import date, datetime
 from decimal import Decimal
 from enum import Enum
@@ -830,19 +830,21 @@ def to_quantity(text: str, *, method: Union[Way, str] = Way.TEN_THOUSAND) -> Qua
 
 @dataclass(frozen=True, init=False)
 class _Run(_library.Run):
-    """A run of a text, from start to end, as positions in the str."""
+    """A run of a text, from start to end, as positions in the str, which its __new__ makes."""
 
     __slots__ = ()
-    start: int
-    end: int
-    text: str
-    is_plain: bool
-    stands_alone: bool
-    is_about: bool
-    is_one_character: bool
+    # Without a default, which a class of C seems to have.
+    start: int = field()
+    end: int = field()
+    text: str = field()
+    is_plain: bool = field()
+    stands_alone: bool = field()
+    is_about: bool = field()
+    is_one_character: bool = field()
 
     def __reduce__(self) -> Tuple[Any, ...]:
-        return type(self), astuple(self)
+        values = tuple(getattr(self, it.name) for it in fields(self))
+        return type(self), values, getattr(self, "__dict__", None)
 
 
 class Found(_Run):
@@ -950,6 +952,7 @@ def _found(
     find: Callable[..., _library.Some], of: Type[_AnyRun], text: str, upper: bool, greatest: int
 ) -> Iterator[List[_AnyRun]]:
     """What is found in a text, some at a time."""
+    text = str.__str__(text)  # without what another class has, or holds
     data = _library.utf8(text)
     searched = index = 0
     while searched < len(data):

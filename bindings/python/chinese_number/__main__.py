@@ -178,13 +178,15 @@ def _answers(line: bytes, find: Callable[[str], Any], answer: Callable[..., str]
 
 
 def _find(options: Dict[str, Any]) -> int:
-    is_exact = options.pop("exact", False)
+    search: Callable[..., Any] = find_numbers
+    answer: Callable[..., str] = _number_of
+    if options.pop("exact", False):
+        search, answer = find_quantities, _quantity_of
     wanted = {it: options.pop(it) for it in ("upper", "greatest") if it in options}
-    find = partial(find_quantities if is_exact else find_numbers, **wanted)
-    answer: Callable[..., str] = partial(_quantity_of if is_exact else _number_of, **options)
+    find, answered_by = partial(search, **wanted), partial(answer, **options)
     with open(0, "rb", closefd=False) as lines:
         for count, line in enumerate(lines, 1):
-            for answered in _answers(line, find, answer):
+            for answered in _answers(line, find, answered_by):
                 print(f"{count}:{answered}")
     return 0
 

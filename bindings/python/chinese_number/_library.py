@@ -12,10 +12,10 @@ from __future__ import annotations
 
 import ctypes
 import importlib
+import operator
 import os
 import sys
 from ctypes import POINTER as _at, byref
-from dataclasses import dataclass
 from pathlib import Path
 from typing import Any, Dict, List, Tuple, TypeVar, Union
 
@@ -109,18 +109,27 @@ library: Any = None
 _native: Any = None
 
 
-@dataclass(frozen=True)
 class Run:
     """A run of a text. That of `_native` makes its text when it is asked for."""
 
     __slots__ = ("start", "end", "text", "is_plain", "stands_alone", "is_about", "is_one_character")
-    start: int
-    end: int
-    text: str
-    is_plain: bool
-    stands_alone: bool
-    is_about: bool
-    is_one_character: bool
+
+    def __new__(
+        cls,
+        start: int,
+        end: int,
+        text: str,
+        is_plain: bool,
+        stands_alone: bool,
+        is_about: bool,
+        is_one_character: bool,
+    ) -> Run:
+        places = operator.index(start), operator.index(end)
+        flags = map(bool, (is_plain, stands_alone, is_about, is_one_character))
+        made = object.__new__(cls)
+        for name, value in zip(Run.__slots__, (*places, str.__str__(text), *flags)):
+            object.__setattr__(made, name, value)
+        return made
 
 
 def _module() -> Any:
