@@ -572,13 +572,37 @@ static PyType_Spec RUN = {
 typedef uint32_t search(const uint8_t *text, size_t length, size_t from, uint32_t upper,
                         uint32_t greatest, cn_span *spans, size_t most, size_t *count);
 
+/* The bytes of what utf8 makes, and how many, or none. */
+static const uint8_t *bytes_of(PyObject *data, Py_ssize_t *length) {
+    char *bytes = NULL;
+    if (PyByteArray_Check(data)) {
+        bytes = PyByteArray_AsString(data);
+        *length = PyByteArray_Size(data);
+    } else if (PyBytes_AsStringAndSize(data, &bytes, length)) {
+        return NULL;
+    }
+    return (const uint8_t *)bytes;
+}
+
+/* A run that is found in a text. */
+static PyObject *found_run(PyObject *class, PyObject *string, Py_ssize_t start, Py_ssize_t end,
+                           uint32_t flags) {
+    run *it = new_run((PyTypeObject *)class, string);
+    if (it) {
+        it->start = start;
+        it->end = end;
+        it->flags = flags;
+        it->is_found = 1;
+    }
+    return (PyObject *)it;
+}
+
 /* The next numbers of a text behind its first bytes, which have so many characters, or what another
  * search finds: the status, a list of runs of a class, and up to where they were looked for, in bytes
  * and in characters. The data are what utf8 makes of the text. */
 static PyObject *find(PyObject *module, PyObject *given, search *next) {
     state *own = PyModule_GetState(module);
     PyObject *string, *data, *class;
-    char *from;
     Py_ssize_t length, searched, index;
     unsigned upper, greatest;
     cn_span spans[AT_ONCE];
@@ -586,13 +610,9 @@ static PyObject *find(PyObject *module, PyObject *given, search *next) {
     if (!PyArg_ParseTuple(given, "UOnnIIO!", &string, &data, &searched, &index, &upper, &greatest,
                           &PyType_Type, &class))
         return NULL;
-    if (PyByteArray_Check(data)) {
-        from = PyByteArray_AsString(data);
-        length = PyByteArray_Size(data);
-    } else if (PyBytes_AsStringAndSize(data, &from, &length)) {
+    const uint8_t *bytes = bytes_of(data, &length);
+    if (!bytes)
         return NULL;
-    }
-    const uint8_t *bytes = (const uint8_t *)from;
     if (searched < 0 || searched > length ||
         !PyType_IsSubtype((PyTypeObject *)class, (PyTypeObject *)own->run)) {
         PyErr_SetString(PyExc_ValueError, "a place in the bytes and a class of runs are wanted");
@@ -610,14 +630,8 @@ static PyObject *find(PyObject *module, PyObject *given, search *next) {
         Py_ssize_t first = index + characters(bytes + searched, start);
         index = first + characters(start, end);
         searched = end - bytes;
-        run *found = new_run((PyTypeObject *)class, string);
-        if (found) {
-            found->start = first;
-            found->end = index;
-            found->flags = span->flags;
-            found->is_found = 1;
-        }
-        failed = !found || PyList_SetItem(made, (Py_ssize_t)i, (PyObject *)found);
+        PyObject *found = found_run(class, string, first, index, span->flags);
+        failed = !found || PyList_SetItem(made, (Py_ssize_t)i, found);
     }
     if (failed) {
         Py_XDECREF(made);

@@ -952,7 +952,9 @@ def _found(
     find: Callable[..., _library.Some], of: Type[_AnyRun], text: str, upper: bool, greatest: int
 ) -> Iterator[List[_AnyRun]]:
     """What is found in a text, some at a time."""
-    text = str.__str__(text)  # without what another class has, or holds
+    text = str.__str__(
+        text
+    )  # of no class below, which has ways of its own, and can hold what is found
     data = _library.utf8(text)
     searched = index = 0
     while searched < len(data):
