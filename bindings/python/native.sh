@@ -14,9 +14,11 @@ cd "$(dirname "$0")"
 scratch=$(mktemp -d)
 trap 'rm -rf "$scratch"' EXIT
 echo '{ global: PyInit__native; chinese_*; local: *; };' > "$scratch/names"
+# A search takes up to an eighth longer where its functions begin elsewhere than at multiples of 32 bytes.
+objcopy -w --set-section-alignment '.text.*=32' "${native%/*}/libchinese_number.a" "$scratch/aligned.a"
 # The C library is not named, as in archive.sh.
 "${CC:-cc}" -std=c11 -O2 -Wall -Wextra -Wno-unused-parameter -Werror -fPIC -fvisibility=hidden -I"${header%/*}" -I../c -shared \
-    -nostdlib native.c -Wl,--whole-archive "${native%/*}/libchinese_number.a" -Wl,--no-whole-archive -lgcc \
+    -nostdlib native.c -Wl,--whole-archive "$scratch/aligned.a" -Wl,--no-whole-archive -lgcc \
     -Wl,--version-script="$scratch/names" -Wl,-z,relro,-z,now,-z,noexecstack -o "$native"
 unknown=$(nm -D -u "$native" | awk '{print $NF}' | { grep -vxE "$known" || true; })
 needed=$(objdump -p "$native" | awk '$1 == "NEEDED" {print $2}')
