@@ -512,8 +512,8 @@ static run *new_run(PyTypeObject *class, PyObject *string) {
     return it;
 }
 
-/* A run of its seven fields, as the class and each below it are called. A str of another class, which
- * can hold the run, is copied. */
+/* Makes a run of its seven fields, for the class of runs and each below it. A str of another class,
+ * which can hold the run, is copied. */
 static PyObject *make_run(PyTypeObject *class, PyObject *values, PyObject *words) {
     static char *names[] = {"start",        "end",      "text",             "is_plain",
                             "stands_alone", "is_about", "is_one_character", NULL};

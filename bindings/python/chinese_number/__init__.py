@@ -830,7 +830,7 @@ def to_quantity(text: str, *, method: Union[Way, str] = Way.TEN_THOUSAND) -> Qua
 
 @dataclass(frozen=True, init=False)
 class _Run(_library.Run):
-    """A run of a text, from start to end, as positions in the str, which its __new__ makes."""
+    """A run of a text, from start to end, as positions in the str. Its base makes it of its fields."""
 
     __slots__ = ()
     # Without a default, which a class of C seems to have.
@@ -952,9 +952,8 @@ def _found(
     find: Callable[..., _library.Some], of: Type[_AnyRun], text: str, upper: bool, greatest: int
 ) -> Iterator[List[_AnyRun]]:
     """What is found in a text, some at a time."""
-    text = str.__str__(
-        text
-    )  # of no class below, which has ways of its own, and can hold what is found
+    # A str of a class below has ways of its own, and can hold what is found in it.
+    text = str.__str__(text)
     data = _library.utf8(text)
     searched = index = 0
     while searched < len(data):
