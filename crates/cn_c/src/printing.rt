@@ -7,7 +7,7 @@ use crate::codes::{case_of, kind_of, script_of, way_of};
 use crate::number::{Number, bits_of, signed_number};
 use crate::room::put_text;
 use crate::status::{NOT_HELD, TOO_LARGE, TOO_SMALL, UNKNOWN, tell_none};
-use chinese_number::{ChineseCase, ChineseVariant, MOST_BYTES, NumberToChineseError, Whole};
+use chinese_number::{ChineseCase, ChineseVariant, NumberToChineseError, ROOM_BYTES, Whole};
 use cn_faces::{IntegerType, SignedMagnitude, Way, put_by};
 
 /// How a number is to be written.
@@ -34,7 +34,7 @@ fn print_as<T: Whole>(
         return tell_none(len, NOT_HELD);
     }
     let Style { way, script, case } = style;
-    let mut scratch = [0; MOST_BYTES];
+    let mut scratch = [0; ROOM_BYTES];
     match put_by(&mut scratch, way, script, case, value) {
         Ok(text) => put_text(text.as_bytes(), room, len),
         Err(NumberToChineseError::Underflow) => tell_none(len, TOO_SMALL),

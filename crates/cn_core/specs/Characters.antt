@@ -1,6 +1,6 @@
 -- Which characters are digits, units and signs, and which one writes each digit, unit and sign.
 use Rattle.std.specs.Prelude.{ℕ, if◌then◌else◌, List, [], ◌∷◌, codes, position, Option, Some, None, slice_index}
-use Rattle.std.specs.Char.{char_set_contains}
+use Rattle.std.specs.Char.{char_set_contains, encode_utf8}
 use Rattle.cn_core.specs.declared.script.ChineseVariant.{ChineseVariant}
 use Rattle.cn_core.specs.declared.script.ChineseVariant.TheVariants.{Traditional, Simple}
 use Rattle.cn_core.specs.declared.case.ChineseCase.{ChineseCase}
@@ -72,6 +72,10 @@ printed_units Traditional Lower = codes "個十百千萬億兆京垓秭穰溝澗
 printed_units Simple Lower = codes "个十百千万亿兆京垓秭穰沟涧正载极"
 printed_units Traditional Upper = codes "個拾佰仟萬億兆京垓秭穰溝澗正載極"
 printed_units Simple Upper = codes "个拾佰仟万亿兆京垓秭穰沟涧正载极"
+
+-- a printed character as a word: a 0, and its bytes
+abbrev pub printed_word : ℕ → List ℕ
+printed_word c = 0 ∷ encode_utf8 c
 
 -- the character that writes a digit
 unfoldable pub digit_char : ChineseVariant → ChineseCase → ℕ → ℕ

@@ -1,19 +1,20 @@
 // The characters that write digits, units and signs.
-ghost use Rattle.std.specs.Prelude.{◌≡◌, ◌≤◌, ◌<◌, map, encode_utf8};
-ghost use Rattle.cn_core.specs.Characters.{rank, digit_char, unit_char, minus_char, printed_digits, printed_units};
+ghost use Rattle.std.specs.Prelude.{◌≡◌, ◌≤◌, ◌<◌, map};
+ghost use Rattle.cn_core.specs.Characters.{rank, digit_char, unit_char, minus_char, printed_digits, printed_units, printed_word};
 
 use crate::{ChineseCase, ChineseVariant, Unit};
 
-// The bytes, by which numbers are printed, stand first: behind the characters, a `u8` as plain digits
+// The words, by which numbers are printed, stand first: behind the characters, a `u8` as plain digits
 // takes 6 instructions more.
-/// What a script and case are printed with.
+/// What a script and case are printed with. A word is a 0 and a character's three bytes, so that they
+/// are put at once.
 pub struct PrintedCharacters {
-    /// The three bytes of each digit from 0 to 9.
-    pub digit_bytes: [[u8; 3]; 10],
-    /// Those of each unit from 個 to 極.
-    pub unit_bytes: [[u8; 3]; 16],
-    /// Those of the minus sign.
-    pub minus_bytes: [u8; 3],
+    /// The word of each digit from 0 to 9.
+    pub digit_words: [[u8; 4]; 10],
+    /// That of each unit from 個 to 極.
+    pub unit_words: [[u8; 4]; 16],
+    /// That of the minus sign.
+    pub minus_word: [u8; 4],
     /// The digits.
     pub digits: [char; 10],
     /// The units.
@@ -22,10 +23,11 @@ pub struct PrintedCharacters {
     pub minus: char,
 }
 
-// The bytes of a character that takes three.
-macro_rules! three_bytes {
+// The word of a character, which takes three bytes.
+macro_rules! word {
     ($character:literal) => {
         [
+            0,
             (0xe0 | $character as u32 >> 12) as u8,
             (0x80 | $character as u32 >> 6 & 0x3f) as u8,
             (0x80 | $character as u32 & 0x3f) as u8,
@@ -33,13 +35,13 @@ macro_rules! three_bytes {
     };
 }
 
-// The digits, units and minus sign of a script and case, and their bytes.
+// The digits, units and minus sign of a script and case, and their words.
 macro_rules! printed {
     ($($digit:literal)*; $($unit:literal)*; $minus:literal) => {
         PrintedCharacters {
-            digit_bytes: [$(three_bytes!($digit)),*],
-            unit_bytes: [$(three_bytes!($unit)),*],
-            minus_bytes: three_bytes!($minus),
+            digit_words: [$(word!($digit)),*],
+            unit_words: [$(word!($unit)),*],
+            minus_word: word!($minus),
             digits: [$($digit),*],
             units: [$($unit),*],
             minus: $minus,
@@ -77,9 +79,9 @@ pub fn printed_characters(variant: ChineseVariant, case: ChineseCase) -> &'stati
     ensures digits { result.now.digits ≡ printed_digits variant case }
     ensures units { result.now.units ≡ printed_units variant case }
     ensures minus { result.now.minus ≡ minus_char variant }
-    ensures bytes { (result.now.digit_bytes ≡ map encode_utf8 (printed_digits variant case))
-        × (result.now.unit_bytes ≡ map encode_utf8 (printed_units variant case))
-        × (result.now.minus_bytes ≡ encode_utf8 (minus_char variant)) }
+    ensures words { (result.now.digit_words ≡ map printed_word (printed_digits variant case))
+        × (result.now.unit_words ≡ map printed_word (printed_units variant case))
+        × (result.now.minus_word ≡ printed_word (minus_char variant)) }
 {
     match variant {
         ChineseVariant::Traditional => match case {

@@ -18,7 +18,7 @@ use cn_core::{
     split_first_char, unit_char,
 };
 use cn_quantity::{Quantity, QuantityForm, are_rising_units, decimals_of, first_unit};
-use cn_spell::{MOST_BYTES, NumberToChineseError, put_chinese};
+use cn_spell::{NumberToChineseError, ROOM_BYTES, put_chinese};
 use std::alloc::Global;
 use std::str;
 
@@ -55,7 +55,7 @@ impl Hand for Style {
 
 // The spelling of a magnitude, if the method writes it.
 fn spell(
-    room: &mut [u8; MOST_BYTES],
+    room: &mut [u8; ROOM_BYTES],
     style: Style,
     number: u128,
 ) -> Result<&str, NumberToChineseError>
@@ -73,7 +73,7 @@ fn put_magnitude(text: &mut Room, style: Style, number: u128) -> Result<(), Numb
     ensures put { PutsIfWritten (is_printable style.method (pos number)) text.old text.new
         (magnitude_text style.variant style.case style.method number) 231 result }
 {
-    let mut room = [0; MOST_BYTES];
+    let mut room = [0; ROOM_BYTES];
     text.put(spell(&mut room, style, number)?);
     Ok(())
 }
@@ -108,7 +108,7 @@ fn put_divisor(text: &mut Room, style: Style, divisor: u128) -> Result<(), Numbe
     ensures put { PutsIfWritten (is_printable style.method (pos divisor)) text.old text.new
         (divisor_text style.variant style.case style.method divisor) 231 result }
 {
-    let mut room = [0; MOST_BYTES];
+    let mut room = [0; ROOM_BYTES];
     let spelled = spell(&mut room, style, divisor)?;
     text.put(without_front(style.digit(1), spelled));
     Ok(())

@@ -6,7 +6,7 @@ ghost use Rattle.cn_faces.specs.Ways.{Explains, IsText, ReadsBy, stands_for, way
 
 use chinese_number::{
     ChineseCase, ChineseCountMethod, ChineseToNumber, ChineseToNumberError, ChineseVariant,
-    MOST_BYTES, NumberToChineseError, Whole, put_chinese, put_chinese_naive,
+    NumberToChineseError, ROOM_BYTES, Whole, put_chinese, put_chinese_naive,
 };
 
 /// How a number is written: as its plain digits, or with units by a method.
@@ -49,7 +49,7 @@ pub fn read_by<T: Whole>(way: Way, text: &str) -> Result<T, ChineseToNumberError
 /// memory is asked for, so it never runs out.
 #[inline(always)]
 pub fn put_by<'a, T: Whole>(
-    room: &'a mut [u8; MOST_BYTES],
+    room: &'a mut [u8; ROOM_BYTES],
     way: Way,
     script: ChineseVariant,
     case: ChineseCase,

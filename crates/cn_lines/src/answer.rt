@@ -7,7 +7,7 @@ ghost use Rattle.cn_faces.specs.IntegerTypes.{the_kind};
 ghost use Rattle.cn_faces.specs.Ways.{stands_for};
 
 use crate::question::{Printing, asked_printing, asked_reading, cut};
-use chinese_number::{ChineseToNumberError, MOST_BYTES, Whole};
+use chinese_number::{ChineseToNumberError, ROOM_BYTES, Whole};
 use cn_faces::{SignedMagnitude, put_by, read_as};
 use std::alloc::AllocError;
 
@@ -71,7 +71,7 @@ fn put_printed_as<T: Whole>(answer: &mut String, asked: Printing) -> Result<(), 
     let Some(value) = T::from_magnitude(negative, magnitude) else {
         return put_bad_line(answer);
     };
-    let mut room = [0; MOST_BYTES];
+    let mut room = [0; ROOM_BYTES];
     match put_by(&mut room, asked.way, asked.variant, asked.case, value) {
         Ok(text) => put_text(answer, text),
         Err(error) => write!(answer, "err {error}"),

@@ -10,7 +10,7 @@ mod free_naive;
 mod free_ten_thousand;
 mod number_to_chinese;
 
-pub use cn_spell::{MOST_BYTES, NumberToChineseError, put_chinese, put_chinese_naive};
+pub use cn_spell::{NumberToChineseError, ROOM_BYTES, put_chinese, put_chinese_naive};
 pub use free_high::{
     from_i32_to_chinese_high, from_i64_to_chinese_high, from_i128_to_chinese_high,
     from_isize_to_chinese_high, from_u32_to_chinese_high, from_u64_to_chinese_high,

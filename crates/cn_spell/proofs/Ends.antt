@@ -5,9 +5,9 @@ use Rattle.cn_spell.specs.Working.Room.{Shows}
 use Rattle.cn_spell.specs.Writes.{Puts}
 
 pub Puts-end : (start : ℕ) (room text characters : List ℕ) → Shows start room characters
-    → length room ≡ 234 → text ≡ take (234 - start) (drop start room) → Puts characters text
+    → length room ≡ 235 → text ≡ take (235 - start) (drop start room) → Puts characters text
 Puts-end start room text characters shows size is =
-    let left : 234 - start ≡ length (drop start room) =
+    let left : 235 - start ≡ length (drop start room) =
     omega (arith, length-drop start room, size) in
     let whole : text ≡ drop start room =
     is ∙ ap (λ n. take n (drop start room)) left ∙ take-length (drop start room) in

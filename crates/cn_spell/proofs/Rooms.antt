@@ -1,5 +1,6 @@
 -- What a room shows after a character is put.
-use Rattle.std.proofs.Common.{◌≡◌, ℕ, zero, suc, ◌+◌, ◌-◌, ◌≤◌, Bool, true, false, List, [], ◌∷◌, ◌++◌, length, map, drop, set, slice_index, if◌then◌else◌, refl, ap, ap₂, ◌∙◌, arith}
+use Rattle.std.proofs.Common.{◌≡◌, ℕ, zero, suc, ◌+◌, ◌-◌, ◌≤◌, ◌<◌, Bool, true, false, List, [], ◌∷◌, ◌++◌, length, map, drop, set, slice_index, if◌then◌else◌, refl, ap, ap₂, sym, ◌∙◌, arith}
+use Rattle.std.proofs.lemmas.List.{drop-drop, drop-set-lt, drop_at, length-set}
 use Rattle.std.specs.Char.{encode_utf8}
 use Rattle.std.proofs.lemmas.Str.{IsUtf8-append}
 use Rattle.cn_core.specs.declared.script.ChineseVariant.{ChineseVariant}
@@ -24,60 +25,50 @@ drop-sets (x ∷ items) (suc start) a b d h =
     let three : suc start + 3 ≡ suc (start + 3) = omega arith in
     rw (one, two, three) (drop-sets items start a b d (omega (arith, h)))
 
--- the bytes behind the three stay
-drop-past : (items : List ℕ) (start a b d : ℕ) → start + 3 ≤ length items
-    → drop (start + 3) (set (set (set items start a) (start + 1) b) (start + 2) d)
-    ≡ drop (start + 3) items
-drop-past [] start a b d h = absurd (omega (arith, h))
-drop-past (x ∷ []) zero a b d h = absurd (omega (arith, h))
-drop-past (x ∷ y ∷ []) zero a b d h = absurd (omega (arith, h))
-drop-past (x ∷ y ∷ z ∷ items) zero a b d h = refl
-drop-past (x ∷ items) (suc start) a b d h =
-    let one : suc start + 1 ≡ suc (start + 1) = omega arith in
-    let two : suc start + 2 ≡ suc (start + 2) = omega arith in
-    let three : suc start + 3 ≡ suc (start + 3) = omega arith in
-    rw (one, two, three) (drop-past items start a b d (omega (arith, h)))
+of-word : (word : List ℕ) → length word ≡ 4
+    → slice_index word 1 ∷ slice_index word 2 ∷ slice_index word 3 ∷ [] ≡ drop 1 word
+of-word [] h = absurd (omega (arith, h))
+of-word (a ∷ []) h = absurd (omega (arith, h))
+of-word (a ∷ b ∷ []) h = absurd (omega (arith, h))
+of-word (a ∷ b ∷ d ∷ []) h = absurd (omega (arith, h))
+of-word (a ∷ b ∷ d ∷ e ∷ []) h = refl
+of-word (a ∷ b ∷ d ∷ e ∷ f ∷ rest) h = absurd (omega (arith, h))
 
-of-three : (character : List ℕ) → length character ≡ 3
-    → slice_index character 0 ∷ slice_index character 1 ∷ slice_index character 2 ∷ [] ≡ character
-of-three [] h = absurd (omega (arith, h))
-of-three (a ∷ []) h = absurd (omega (arith, h))
-of-three (a ∷ b ∷ []) h = absurd (omega (arith, h))
-of-three (a ∷ b ∷ d ∷ []) h = refl
-of-three (a ∷ b ∷ d ∷ e ∷ rest) h = absurd (omega (arith, h))
+-- a word's character, byte by byte
+pub put-bytes : (items word : List ℕ) (start : ℕ) → start + 3 ≤ length items → length word ≡ 4
+    → drop start (set (set (set items start (slice_index word 1)) (start + 1) (slice_index word 2))
+    (start + 2) (slice_index word 3)) ≡ drop 1 word ++ drop (start + 3) items
+put-bytes items word start within size =
+    drop-sets items start (slice_index word 1) (slice_index word 2) (slice_index word 3) within
+    ∙ ap (λ character. character ++ drop (start + 3) items) (of-word word size)
 
--- the character stands in front of the text
-put-text : (items character : List ℕ) (free : ℕ) → 3 ≤ free → free ≤ length items
-    → length character ≡ 3
-    → drop (free - 3) (set (set (set items (free - 3) (slice_index character 0)) (free - 3 + 1)
-    (slice_index character 1)) (free - 3 + 2) (slice_index character 2))
-    ≡ character ++ drop free items
-put-text items character free three within size =
-    let e : free - 3 + 3 ≡ free = omega (arith, three) in
-    drop-sets items (free - 3) (slice_index character 0) (slice_index character 1)
-    (slice_index character 2) (omega (arith, three, within))
-    ∙ ap₂ (λ first rest. first ++ rest) (of-three character size) (ap (λ n. drop n items) e)
+-- and behind its byte of 0
+pub put-word : (items word : List ℕ) (start : ℕ) → 0 < start → start + 3 ≤ length items
+    → length word ≡ 4
+    → drop start (set (set (set (set items (start - 1) (slice_index word 0)) start
+    (slice_index word 1)) (start + 1) (slice_index word 2)) (start + 2) (slice_index word 3))
+    ≡ drop 1 word ++ drop (start + 3) items
+put-word items word start spare within size =
+    let same : length (set items (start - 1) (slice_index word 0)) ≡ length items =
+    length-set items (start - 1) (slice_index word 0) in
+    put-bytes (set items (start - 1) (slice_index word 0)) word start (omega (arith, same, within)) size
+    ∙ ap (λ rest. drop 1 word ++ rest)
+    (drop-set-lt (start + 3) items (start - 1) (slice_index word 0) (omega arith))
 
--- and where it is not kept, the text is as it was
-unput-text : (items character : List ℕ) (free : ℕ) → 3 ≤ free → free ≤ length items
-    → drop free (set (set (set items (free - 3) (slice_index character 0)) (free - 3 + 1)
-    (slice_index character 1)) (free - 3 + 2) (slice_index character 2)) ≡ drop free items
-unput-text items character free three within =
-    let e : free - 3 + 3 ≡ free = omega (arith, three) in
-    rw e at (drop-past items (free - 3) (slice_index character 0) (slice_index character 1)
-    (slice_index character 2) (omega (arith, three, within)))
-
--- what stands in the room after a character that may be kept
-pub put-if : (items character : List ℕ) (free taken : ℕ) (is_kept : Bool) → 3 ≤ free
-    → free ≤ length items → length character ≡ 3 → taken ≡ (if is_kept then 3 else 0)
-    → drop (free - taken) (set (set (set items (free - 3) (slice_index character 0)) (free - 3 + 1)
-    (slice_index character 1)) (free - 3 + 2) (slice_index character 2))
-    ≡ (if is_kept then character ++ drop free items else drop free items)
-put-if items character free taken true three within size e =
-    rw e (put-text items character free three within size)
-put-if items character free taken false three within size e =
+-- what stands in a room after a character that may be kept
+pub put-if : (bytes after character : List ℕ) (free taken : ℕ) (is_kept : Bool) → 3 ≤ free
+    → length character ≡ 3 → drop (free - 3) after ≡ character ++ drop (free - 3 + 3) bytes
+    → taken ≡ (if is_kept then 3 else 0)
+    → drop (free - taken) after ≡ (if is_kept then character ++ drop free bytes else drop free bytes)
+put-if bytes after character free taken true three size put e =
+    let behind : free - 3 + 3 ≡ free = omega (arith, three) in
+    rw e (put ∙ ap (λ n. character ++ drop n bytes) behind)
+put-if bytes after character free taken false three size put e =
+    let behind : free - 3 + 3 ≡ free = omega (arith, three) in
     let same : free - 0 ≡ free = omega arith in
-    rw (e, same) (unput-text items character free three within)
+    rw (e, same) (ap (λ n. drop n after) (sym behind) ∙ sym (drop-drop 3 (free - 3) after)
+    ∙ ap (drop 3) put ∙ drop_at character (drop (free - 3 + 3) bytes) 3 size
+    ∙ ap (λ n. drop n bytes) behind)
 
 -- a character more, where it is kept
 pub Shows-if : (is_kept : Bool) (c : ℕ) {free next : ℕ} {bytes after character cs : List ℕ}

@@ -13,7 +13,7 @@ use Rattle.cn_core.specs.declared.script.ChineseVariant.TheVariants.{Traditional
 use Rattle.cn_core.specs.declared.case.ChineseCase.{ChineseCase}
 use Rattle.cn_core.specs.declared.unit.Unit.{Unit as NumeralUnit}
 use Rattle.cn_core.specs.contracts.unit.Unit.{the_type}
-use Rattle.cn_core.specs.Characters.{printed_digits, printed_units, rank, digit_char, unit_char, minus_char}
+use Rattle.cn_core.specs.Characters.{printed_digits, printed_units, printed_word, rank, digit_char, unit_char, minus_char}
 use Rattle.cn_core.proofs.Characters.{length-digits, length-units, rank-low, tag_rank, takes_three}
 use Rattle.cn_core.proofs.Fronts.{and-left, and-right}
 
@@ -52,16 +52,16 @@ unfolding minus_char
 three-minus Traditional = refl
 three-minus Simple = refl
 
--- the bytes at a digit's place
-pub digit_bytes : (variant : ChineseVariant) (case : ChineseCase) (digit : ℕ) (other : List ℕ) → digit < 10
-    → slice_index_or (map encode_utf8 (printed_digits variant case)) digit other ≡ encode_utf8 (digit_char variant case digit)
+-- the word at a digit's place
+pub digit_words : (variant : ChineseVariant) (case : ChineseCase) (digit : ℕ) (other : List ℕ) → digit < 10
+    → slice_index_or (map printed_word (printed_digits variant case)) digit other ≡ printed_word (digit_char variant case digit)
 unfolding digit_char
-digit_bytes variant case digit other h =
-    get_or-map encode_utf8 (printed_digits variant case) digit 0 other (omega (arith, h, length-digits variant case))
+digit_words variant case digit other h =
+    get_or-map printed_word (printed_digits variant case) digit 0 other (omega (arith, h, length-digits variant case))
 
 -- and at a unit's
-pub unit_bytes : (variant : ChineseVariant) (case : ChineseCase) (unit : NumeralUnit) (other : List ℕ)
-    → slice_index_or (map encode_utf8 (printed_units variant case)) (tag_of the_type unit) other ≡ encode_utf8 (unit_char variant case (rank unit))
+pub unit_words : (variant : ChineseVariant) (case : ChineseCase) (unit : NumeralUnit) (other : List ℕ)
+    → slice_index_or (map printed_word (printed_units variant case)) (tag_of the_type unit) other ≡ printed_word (unit_char variant case (rank unit))
 unfolding unit_char
-unit_bytes variant case unit other =
-    rw (tag_rank unit) (get_or-map encode_utf8 (printed_units variant case) (rank unit) 0 other (omega (arith, rank-low unit, length-units variant case)))
+unit_words variant case unit other =
+    rw (tag_rank unit) (get_or-map printed_word (printed_units variant case) (rank unit) 0 other (omega (arith, rank-low unit, length-units variant case)))

@@ -1,6 +1,6 @@
-// The characters of one script and case, as the three bytes that each takes.
-ghost use Rattle.std.specs.Prelude.{◌≡◌, ◌<◌, map, encode_utf8};
-ghost use Rattle.cn_core.specs.Characters.{rank, digit_char, unit_char, minus_char, printed_digits, printed_units};
+// The characters of one script and case, as words: a 0, and the three bytes of each.
+ghost use Rattle.std.specs.Prelude.{◌≡◌, ◌<◌, map};
+ghost use Rattle.cn_core.specs.Characters.{rank, digit_char, unit_char, minus_char, printed_digits, printed_units, printed_word};
 
 use cn_core::{ChineseCase, ChineseVariant, PrintedCharacters, Unit, printed_characters};
 
@@ -10,9 +10,9 @@ pub struct Characters {
     pub variant: ChineseVariant,
     pub case: ChineseCase,
     table: &'static PrintedCharacters,
-    ghost digits: { table.now.digit_bytes ≡ map encode_utf8 (printed_digits variant case) },
-    ghost units: { table.now.unit_bytes ≡ map encode_utf8 (printed_units variant case) },
-    ghost minus: { table.now.minus_bytes ≡ encode_utf8 (minus_char variant) },
+    ghost digits: { table.now.digit_words ≡ map printed_word (printed_digits variant case) },
+    ghost units: { table.now.unit_words ≡ map printed_word (printed_units variant case) },
+    ghost minus: { table.now.minus_word ≡ printed_word (minus_char variant) },
 }
 
 impl Characters {
@@ -28,30 +28,30 @@ impl Characters {
         }
     }
 
-    /// The character of a digit from 0 to 9.
+    /// The word of a digit from 0 to 9.
     #[inline(always)]
-    #[tactic(auto, using(crate::proofs::ThreeBytes::digit_bytes))]
-    pub fn digit(self, digit: u8) -> [u8; 3]
+    #[tactic(auto, using(crate::proofs::ThreeBytes::digit_words))]
+    pub fn digit(self, digit: u8) -> &'static [u8; 4]
         requires { digit < 10 }
-        ensures { result ≡ encode_utf8 (digit_char self.variant self.case digit) }
+        ensures { result.now ≡ printed_word (digit_char self.variant self.case digit) }
     {
-        self.table.digit_bytes[digit as usize]
+        &self.table.digit_words[digit as usize]
     }
 
-    /// The character of a unit.
+    /// That of a unit.
     #[inline(always)]
-    #[tactic(auto, using(crate::proofs::ThreeBytes::unit_bytes))]
-    pub fn unit(self, unit: Unit) -> [u8; 3]
-        ensures { result ≡ encode_utf8 (unit_char self.variant self.case (rank unit)) }
+    #[tactic(auto, using(crate::proofs::ThreeBytes::unit_words))]
+    pub fn unit(self, unit: Unit) -> &'static [u8; 4]
+        ensures { result.now ≡ printed_word (unit_char self.variant self.case (rank unit)) }
     {
-        self.table.unit_bytes[unit as usize]
+        &self.table.unit_words[unit as usize]
     }
 
-    /// The minus sign.
+    /// That of the minus sign.
     #[inline(always)]
-    pub fn minus(self) -> [u8; 3]
-        ensures { result ≡ encode_utf8 (minus_char self.variant) }
+    pub fn minus(self) -> &'static [u8; 4]
+        ensures { result.now ≡ printed_word (minus_char self.variant) }
     {
-        self.table.minus_bytes
+        &self.table.minus_word
     }
 }

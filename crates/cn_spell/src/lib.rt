@@ -20,4 +20,4 @@ mod units;
 pub use error::NumberToChineseError;
 pub use naive::{print_naive, put_chinese_naive};
 pub use print::{print_by_units, print_or_refuse, put_chinese};
-pub use text::MOST_BYTES;
+pub use text::ROOM_BYTES;

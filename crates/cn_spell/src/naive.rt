@@ -8,9 +8,9 @@ ghost use Rattle.cn_spell.specs.Working.Sections.{lowest_marks};
 ghost use Rattle.cn_spell.specs.Writes.{Puts, Writes, most_plain_bytes};
 
 use crate::characters::Characters;
-use crate::pen::{Pen, Room};
+use crate::pen::{Front, OneSpare, Pen, Room};
 use crate::sections::{MOST, Sections, digits_of};
-use crate::text::{MOST_BYTES, NewString, Target, Text};
+use crate::text::{NewString, ROOM_BYTES, Target, Text};
 use cn_core::{ChineseCase, ChineseCountMethod, ChineseVariant, Whole};
 use std::alloc::{AllocError, Global};
 use std::str;
@@ -94,11 +94,11 @@ impl Text for Plain<'_> {
     }
 
     #[inline(always)]
-    fn fill(&self, bytes: &mut [u8]) -> usize {
+    fn fill<F: Front>(&self, bytes: &mut [u8]) -> usize {
         let sections = self.sections;
         let above = sections.above as u16;
         let size = digits_of(above);
-        let mut room = Room::new(bytes, &self.characters);
+        let mut room = Room::<F>::new(bytes, &self.characters);
         for index in 0..sections.count {
             put_section(&mut room, sections.sections[index]);
         }
@@ -131,7 +131,7 @@ pub fn print_naive<T: Whole>(
 // types.
 #[inline(always)]
 fn put_plain(
-    room: &mut [u8; MOST_BYTES],
+    room: &mut [u8; ROOM_BYTES],
     characters: Characters,
     negative: bool,
     magnitude: u128,
@@ -141,21 +141,21 @@ fn put_plain(
 {
     let mut taken = [0; MOST];
     let text = Plain::of(&mut taken, characters, negative, magnitude);
-    text.fill(room)
+    text.fill::<OneSpare>(room)
 }
 
 /// Puts a number as plain decimal digits into a room, and hands out its text, which is the end of
 /// the room.
 ///
 /// ```text
-/// let mut room = [0; MOST_BYTES];
+/// let mut room = [0; ROOM_BYTES];
 /// put_chinese_naive(&mut room, ChineseVariant::Simple, ChineseCase::Lower, 2025)   // 二零二五
 /// ```
 ///
 /// It asks for no memory, and there is no error.
 #[inline(always)]
 pub fn put_chinese_naive<'a, T: Whole>(
-    room: &'a mut [u8; MOST_BYTES],
+    room: &'a mut [u8; ROOM_BYTES],
     variant: ChineseVariant,
     case: ChineseCase,
     value: T,

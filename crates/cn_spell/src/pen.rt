@@ -12,6 +12,7 @@ ghost use Rattle.cn_spell.specs.Working.Room.{Counts, Shows};
 
 use crate::characters::Characters;
 use cn_core::Unit;
+use std::marker::PhantomData;
 
 /// Puts digits and units, from the last to the first.
 pub trait Pen {
@@ -73,14 +74,59 @@ impl Pen for Count {
     }
 }
 
+/// How a character's three bytes are written.
+pub trait Front {
+    // So many bytes in front of a text are spare.
+    ghost spare: { ℕ };
+
+    // Writes those of a word.
+    fn write_word(bytes: &mut [u8], start: usize, word: &[u8; 4])
+        requires spare { spare ≤ start }
+        requires within { start + 3 ≤ length bytes.old }
+        ensures length { length bytes.new ≡ length bytes.old }
+        ensures text { drop start bytes.new ≡ drop 1 word.now ++ drop (start + 3) bytes.old };
+}
+
+/// By themselves.
+pub struct Exact;
+
+impl Front for Exact {
+    ghost spare = { 0 };
+
+    #[inline(always)]
+    fn write_word(bytes: &mut [u8], start: usize, word: &[u8; 4]) {
+        bytes[start] = word[1];
+        bytes[start + 1] = word[2];
+        bytes[start + 2] = word[3];
+    }
+}
+
+/// With a spare byte in front of them: the whole word is loaded, and then stored at once.
+pub struct OneSpare;
+
+impl Front for OneSpare {
+    ghost spare = { 1 };
+
+    #[inline(always)]
+    fn write_word(bytes: &mut [u8], start: usize, word: &[u8; 4]) {
+        let loaded = *word;
+        bytes[start - 1] = loaded[0];
+        bytes[start] = loaded[1];
+        bytes[start + 1] = loaded[2];
+        bytes[start + 2] = loaded[3];
+    }
+}
+
 /// The room of a text, which is filled from its last character to its first: some free bytes, and
 /// the end of the text behind them, in these characters.
 #[derive(Drop)]
-pub struct Room<'a> {
+pub struct Room<'a, F: Front> {
     bytes: &'a mut [u8],
     pub free: usize,
     pub characters: &'a Characters,
+    front: PhantomData<F>,
     ghost within: { free ≤ length bytes.now },
+    ghost apart: { F.spare ≤ free },
 }
 
 // How many bytes a character takes.
@@ -91,10 +137,11 @@ fn taken(is_kept: bool) -> usize
     3 * is_kept as usize
 }
 
-impl<'a> Room<'a> {
+impl<'a, F: Front> Room<'a, F> {
     /// All of these bytes are free.
     #[inline(always)]
     pub fn new(bytes: &'a mut [u8], characters: &'a Characters) -> Self
+        requires { F.spare ≤ length bytes.old }
         ensures characters { result.characters.now ≡ characters.now }
         ensures lender { result.bytes.ghost_name ≡ bytes.entry.ghost_name }
         ensures bytes { result.bytes.now ≡ bytes.old }
@@ -105,33 +152,31 @@ impl<'a> Room<'a> {
             bytes,
             free,
             characters,
+            front: PhantomData,
         }
     }
 
-    /// Puts a character in front of the text where it is kept; its bytes are written in either
+    /// Puts a word's character in front of the text where it is kept; its bytes are written in either
     /// case, so that nothing branches.
     #[inline(always)]
-    pub fn put_if(&mut self, is_kept: bool, character: [u8; 3])
-        requires { 3 ≤ self.old.free }
+    pub fn put_if(&mut self, is_kept: bool, word: &[u8; 4])
+        requires { 3 + F.spare ≤ self.old.free }
         ensures characters { self.new.characters.now ≡ self.old.characters.now }
         ensures lender { self.new.bytes.ghost_name ≡ self.old.bytes.ghost_name }
         ensures length { length self.new.bytes.now ≡ length self.old.bytes.now }
         ensures free { self.new.free ≡ (if is_kept then self.old.free - 3 else self.old.free) }
         ensures text { drop self.new.free self.new.bytes.now
-            ≡ (if is_kept then character ++ drop self.old.free self.old.bytes.now
+            ≡ (if is_kept then drop 1 word.now ++ drop self.old.free self.old.bytes.now
             else drop self.old.free self.old.bytes.now) }
     {
-        let start = self.free - 3;
-        self.bytes[start] = character[0];
-        self.bytes[start + 1] = character[1];
-        self.bytes[start + 2] = character[2];
+        F::write_word(self.bytes, self.free - 3, word);
         self.free -= taken(is_kept);
     }
 
     /// Puts the minus sign, where one is asked for.
     #[inline(always)]
     pub fn put_sign(&mut self, negative: bool)
-        requires { IsTrue negative → 3 ≤ self.old.free }
+        requires { IsTrue negative → 3 + F.spare ≤ self.old.free }
         ensures lender { self.new.bytes.ghost_name ≡ self.old.bytes.ghost_name }
         ensures shows { (rest : List ℕ) → Shows self.old.free self.old.bytes.now rest
             → Shows self.new.free self.new.bytes.now
@@ -143,8 +188,8 @@ impl<'a> Room<'a> {
     }
 }
 
-impl Pen for Room<'_> {
-    ghost left = { λ room. room.free };
+impl<F: Front> Pen for Room<'_, F> {
+    ghost left = { λ room. room.free - F.spare };
 
     ghost has_put = { λ room marks. Shows room.free room.bytes.now
         (map (mark_char room.characters.now.variant room.characters.now.case) marks) };

@@ -10,7 +10,7 @@ use crate::NumberToChineseError;
 use crate::characters::Characters;
 use crate::sections::MOST;
 use crate::spelled::{ByHigh, ByLow, ByMiddle, ByTenThousand, KnownMethod, Spelled};
-use crate::text::{LentRoom, MOST_BYTES, NewString, Target};
+use crate::text::{LentRoom, NewString, ROOM_BYTES, Target};
 use cn_core::{ChineseCase, ChineseCountMethod, ChineseVariant, Whole};
 use std::alloc::{AllocError, Global};
 use std::str;
@@ -140,7 +140,7 @@ pub fn print_or_refuse<T: Whole>(
 // The text of a number at the end of a room, and where it begins.
 #[inline(always)]
 fn put_at_end<T: Whole>(
-    room: &mut [u8; MOST_BYTES],
+    room: &mut [u8; ROOM_BYTES],
     characters: Characters,
     method: ChineseCountMethod,
     value: T,
@@ -157,7 +157,7 @@ fn put_at_end<T: Whole>(
 /// the room.
 ///
 /// ```text
-/// let mut room = [0; MOST_BYTES];
+/// let mut room = [0; ROOM_BYTES];
 /// put_chinese(&mut room, ChineseVariant::Simple, ChineseCase::Lower, ChineseCountMethod::Low, 105)
 /// // 一百零五
 /// ```
@@ -166,7 +166,7 @@ fn put_at_end<T: Whole>(
 /// down with `Underflow`; no other error comes.
 #[inline(always)]
 pub fn put_chinese<'a, T: Whole>(
-    room: &'a mut [u8; MOST_BYTES],
+    room: &'a mut [u8; ROOM_BYTES],
     variant: ChineseVariant,
     case: ChineseCase,
     method: ChineseCountMethod,

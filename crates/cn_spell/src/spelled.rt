@@ -8,7 +8,7 @@ ghost use Rattle.cn_spell.specs.Prints.{most_bytes};
 ghost use Rattle.cn_spell.specs.Working.Sections.{sections_within, above_limit};
 
 use crate::characters::Characters;
-use crate::pen::{Count, Room};
+use crate::pen::{Count, Front, Room};
 use crate::sections::{MOST, Sections};
 use crate::spell::put_spelling;
 use crate::text::Text;
@@ -122,9 +122,9 @@ impl<M: KnownMethod> Text for Spelled<'_, M> {
     }
 
     #[inline(always)]
-    fn fill(&self, bytes: &mut [u8]) -> usize {
+    fn fill<F: Front>(&self, bytes: &mut [u8]) -> usize {
         let sections = self.sections;
-        let mut room = Room::new(bytes, &self.characters);
+        let mut room = Room::<F>::new(bytes, &self.characters);
         put_spelling(&mut room, M::method(), &sections);
         room.put_sign(self.negative);
         room.free

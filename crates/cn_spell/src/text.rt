@@ -1,12 +1,14 @@
 // A text that says how many characters it has, and fills the end of a room.
-ghost use Rattle.std.specs.Prelude.{◌≡◌, ℕ, ◌*◌, ◌≤◌, List, length, encode_utf8_all, vec_len, vec_capacity, IfOk};
+ghost use Rattle.std.specs.Prelude.{◌≡◌, ℕ, ◌+◌, ◌*◌, ◌≤◌, List, length, encode_utf8_all, vec_len, vec_capacity, IfOk};
 ghost use Rattle.cn_spell.specs.Working.Room.{Shows};
 ghost use Rattle.cn_spell.specs.Writes.{Writes};
 
+use crate::pen::{Exact, Front, OneSpare};
 use std::alloc::{AllocError, Global};
 
-/// The most bytes that the text of a number has: three for each of a sign, 39 digits and 38 units.
-pub const MOST_BYTES: usize = 234;
+/// The bytes of a room for the text of any number: three for each of a sign, 39 digits and 38 units,
+/// and a spare one in front.
+pub const ROOM_BYTES: usize = 235;
 
 /// A text of characters that take three bytes each.
 pub trait Text {
@@ -22,8 +24,8 @@ pub trait Text {
         ensures bytes { length (encode_utf8_all (says self.now)) ≡ 3 * length (says self.now) };
 
     // Writes them at the end of a room, from the last to the first; the result is where they begin.
-    fn fill(&self, bytes: &mut [u8]) -> usize
-        requires { 3 * length (says self.now) ≤ length bytes.old }
+    fn fill<F: Front>(&self, bytes: &mut [u8]) -> usize
+        requires { 3 * length (says self.now) + F.spare ≤ length bytes.old }
         ensures { Shows result bytes.new (says self.now) };
 }
 
@@ -67,7 +69,7 @@ impl Target for NewString {
     #[inline(always)]
     fn take<X: Text>(&mut self, text: &X) -> Result<String, AllocError> {
         let mut bytes = zeros(self.alloc, 3 * text.count())?;
-        text.fill(&mut bytes);
+        text.fill::<Exact>(&mut bytes);
         Ok(unsafe { String::from_utf8_unchecked(bytes) })
     }
 }
@@ -76,7 +78,7 @@ impl Target for NewString {
 /// told.
 #[derive(Drop)]
 pub struct LentRoom<'a> {
-    pub bytes: &'a mut [u8; MOST_BYTES],
+    pub bytes: &'a mut [u8; ROOM_BYTES],
 }
 
 impl Target for LentRoom<'_> {
@@ -87,6 +89,6 @@ impl Target for LentRoom<'_> {
 
     #[inline(always)]
     fn take<X: Text>(&mut self, text: &X) -> usize {
-        text.fill(self.bytes)
+        text.fill::<OneSpare>(self.bytes)
     }
 }

@@ -3,7 +3,7 @@ ghost use Rattle.std.specs.Prelude.{◌≡◌, Ok, IfOk};
 use chinese_number::laws::spellings_read_back;
 use chinese_number::{
     ChineseCase, ChineseCountMethod, ChineseToNumber, ChineseToNumberError, ChineseVariant,
-    MOST_BYTES, NumberToChinese, NumberToChineseError, Whole, put_chinese,
+    NumberToChinese, NumberToChineseError, ROOM_BYTES, Whole, put_chinese,
 };
 use std::alloc::Global;
 
@@ -26,7 +26,7 @@ pub fn print_and_read<T: NumberToChinese>(
 /// Puts a number into the caller's room, and reads what was put: the same number, wherever there is
 /// a text at all.
 pub fn put_and_read<T: Whole>(
-    room: &mut [u8; MOST_BYTES],
+    room: &mut [u8; ROOM_BYTES],
     variant: ChineseVariant,
     case: ChineseCase,
     method: ChineseCountMethod,

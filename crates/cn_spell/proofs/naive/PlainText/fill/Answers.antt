@@ -7,7 +7,7 @@ use Rattle.cn_spell.proofs.NaiveTexts.{lowest-section, decimal-sections, length-
 use Rattle.cn_spell.proofs.naive.PlainText.fill.Goals as goal
 
 pub put_section-requires : goal.put_section-requires
-put_section-requires c =
+put_section-requires g c =
     let l = c.loop-index in
     let self = c.args.self.now in
     let sections = self.sections in
@@ -18,24 +18,24 @@ put_section-requires c =
     let value = sections.holds.each l.index c.loop-index-test.true in
     record {
       section = omega (arith, value);
-      room = omega (arith, total, l.invariant.free, c.requires, c.loop-index-test.true);
+      room = omega (arith, total, l.invariant.free, l.room.apart, c.requires, c.loop-index-test.true);
     }
 
 pub loop-index-preserved : goal.loop-index-preserved
-loop-index-preserved c =
+loop-index-preserved g c =
     let l = c.loop-index in
     let sections = c.args.self.now.sections in
     let value = sections.holds.each l.index c.loop-index-test.true in
     let put = c.put_section.ensures in
     record {
       shows = rw (← lowest-section sections.number l.index _ value) (put.marks _ l.invariant.shows);
-      free = omega (arith, put.room, l.invariant.free);
+      free = omega (arith, put.room, l.invariant.free, l.room.apart, c.put_section.new.pen.apart);
       characters = ap (λ s. s.1) put.setting ∙ l.invariant.characters;
       lender = ap (λ s. s.0) put.setting ∙ l.invariant.lender;
     }
 
 pub put_digits-requires : goal.put_digits-requires
-put_digits-requires c =
+put_digits-requires g c =
     let l = c.loop-index in
     let self = c.args.self.now in
     let sections = self.sections in
@@ -43,10 +43,10 @@ put_digits-requires c =
     let total = length-plain self.characters.variant self.characters.case self.negative
     sections.number sections.count sections.above c.digits_of-size.result self.small sections.holds
     size.some size.below size.reach in
-    record { room = omega (arith, total, l.invariant.free, c.requires, l.auto.index-end) }
+    record { room = omega (arith, total, l.invariant.free, l.room.apart, c.requires, l.auto.index-end) }
 
 pub put_sign-requires : goal.put_sign-requires
-put_sign-requires c = λ negative.
+put_sign-requires g c = λ negative.
     let l = c.loop-index in
     let self = c.args.self.now in
     let sections = self.sections in
@@ -61,13 +61,15 @@ put_sign-requires c = λ negative.
       total,
       one,
       l.invariant.free,
+      l.room.apart,
+      c.put_digits.new.pen.apart,
       c.put_digits.ensures.room,
       c.requires,
       l.auto.index-end,
     )
 
 pub returns : goal.returns
-returns c =
+returns g c =
     let l = c.loop-index in
     let self = c.args.self.now in
     let sections = self.sections in

@@ -5,7 +5,7 @@ use Rattle.cn_spell.specs.Working.Sections.{lowest_marks}
 use Rattle.cn_spell.proofs.naive.PlainText.fill.Given as goal
 
 abbrev pub invariant-loop-index : goal.invariant-loop-index
-invariant-loop-index l = record {
+invariant-loop-index g l = record {
   shows : Shows l.room.free l.room.bytes.now
       (map (mark_char l.room.characters.now.variant l.room.characters.now.case)
       (lowest_marks (4 * l.index) l.self.sections.number));
