@@ -144,12 +144,12 @@ static size_t put_short(PyObject *text, Py_ssize_t length, uint8_t *room) {
     PyUnicode_AsUCS4(text, characters, SHORT, 0);
     for (Py_ssize_t i = 0; i < length; i++) {
         Py_UCS4 it = characters[i];
-        if (it < 0x80) {
-            *end++ = (uint8_t)it;
-        } else if (it - 0x800 < 0xD000 || it - 0xE000 < 0x2000) {
+        if (it - 0x800 < 0xD000 || it - 0xE000 < 0x2000) {
             *end++ = (uint8_t)(0xE0 | it >> 12);
             *end++ = (uint8_t)(0x80 | (it >> 6 & 63));
             *end++ = (uint8_t)(0x80 | (it & 63));
+        } else if (it < 0x80) {
+            *end++ = (uint8_t)it;
         } else {
             return 0;
         }
@@ -292,9 +292,7 @@ static PyObject *to_number(PyObject *module, PyObject *const *values, Py_ssize_t
     uint8_t room[3 * SHORT];
     int codes[CHOICES];
     cn_reading it;
-    Py_ssize_t length = -1;
-    if (count == 1 && PyUnicode_Check(values[0]))
-        length = PyUnicode_GetLength(values[0]);
+    Py_ssize_t length = count == 1 ? PyUnicode_GetLength(values[0]) : -1;
     if (length >= 0 && length <= SHORT && codes_of(own, of, values + 1, names, codes)) {
         size_t bytes = put_short(values[0], length, room);
         uint32_t kind = (uint32_t)codes[0], way = (uint32_t)codes[1];
@@ -302,6 +300,7 @@ static PyObject *to_number(PyObject *module, PyObject *const *values, Py_ssize_t
         if (status == CN_DONE && is_short(it.number, kind))
             return PyLong_FromLongLong((long long)it.number.low);
     }
+    PyErr_Clear(); /* of what is no str: the Python function says so */
     return unusual(of, values, count, names);
 }
 

@@ -182,9 +182,8 @@ def taken(name, lines):
     return frame
 
 
-def depth(functions):
+def depth(functions, calls):
     """How many bytes of its stack the module can take."""
-    calls = {name: set(CALLED.findall("\n".join(lines))) for name, lines in functions.items()}
     frames = {name: taken(name, lines) for name, lines in functions.items()}
     found = {}
 
@@ -212,9 +211,24 @@ def calls_of(exports, template):
     return len(shown)
 
 
-def ours(text):
+def of_texts(calls, template):
+    """The functions that no call without a text reaches."""
+    reached, ahead = set(), set(re.findall(r"= (w2c_\w+)\((?!&?m, FIRST_OF_TEXT)", template))
+    while ahead:
+        reached |= ahead
+        ahead = set().union(*(calls[name] for name in ahead)) - reached
+    return calls.keys() - reached
+
+
+def ours(text, of_text):
     """The module's text over the template's machine, where what a function takes of the stack is
-    tested once."""
+    tested once. Most words of four bytes that a function of texts alone loads are the text's."""
+    text = FUNCTION.sub(
+        lambda it: (
+            it[0].replace("i32_load(", "i32_load_of_text(") if it["name"] in of_text else it[0]
+        ),
+        text,
+    )
     text = TAKES.sub(r"\g<0>  (void)its_own(instance, \4, \3);\n", text)
     text = text.replace(f"{MEMORY}, {MEMORY}", "m").replace(MEMORY, "m")
     text = re.sub(r"^ *FUNC_(?:PROLOGUE|EPILOGUE);\n", "", text, flags=re.MULTILINE)
@@ -232,12 +246,14 @@ def main():
     if not parts:
         refuse("wasm2c wrote a module whose parts are not as they are known")
     functions = functions_of(parts["functions"], statement_of(template))
-    calls, bytes_of_stack = calls_of(parts["exports"], template), depth(functions)
+    calls = {name: set(CALLED.findall("\n".join(lines))) for name, lines in functions.items()}
+    shown, bytes_of_stack = calls_of(parts["exports"], template), depth(functions, calls)
+    module = parts["declarations"] + "\n" + parts["functions"]
     filled = {
         "STACK_BYTES": f"UINT64_C({bytes_of_stack})",
         "FIRST_CONSTANT": f"UINT64_C({parts['top']})",
         "CONSTANTS": re.sub(r"\s*\n", "\n", parts["constants"]).rstrip("\n"),
-        "MODULE": ours(parts["declarations"] + "\n" + parts["functions"]).rstrip("\n"),
+        "MODULE": ours(module, of_texts(calls, template)).rstrip("\n"),
     }
     for name, text in filled.items():
         if template.count(f"@{name}@") != 1:
@@ -247,7 +263,7 @@ def main():
     out.mkdir(parents=True, exist_ok=True)
     (out / "chinese_number.c").write_text(template, encoding="utf-8")
     print(
-        f"source: chinese_number.c, of {calls} calls, by {len(functions)} functions of the module, "
+        f"source: chinese_number.c, of {shown} calls, by {len(functions)} functions of the module, "
         f"which take at most {bytes_of_stack} bytes of its stack"
     )
 

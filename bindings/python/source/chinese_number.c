@@ -83,7 +83,7 @@ typedef struct module {
     u64 w2c_g0; /* where the module's stack ends */
     u32 w2c_g1; /* 1 while a call runs */
     const u8 *text;
-    u64 text_length;
+    u32 text_length, words; /* and at how many of its places four bytes begin */
     u8 *room;
     u64 room_length;
     u8 own[OWN_BYTES];
@@ -444,8 +444,10 @@ static const u8 constants[] = {
 /* Each access has its test where it stands: then a call takes less time. */
 #if defined(__GNUC__)
 #define INLINE inline __attribute__((always_inline))
+#define LIKELY(it) __builtin_expect(it, 1)
 #else
 #define INLINE inline
+#define LIKELY(it) (it)
 #endif
 
 static INLINE int is_within(u64 from, u64 bytes, u64 size) {
@@ -470,6 +472,8 @@ static u8 *writable(module *m, u64 address, u64 bytes) {
 
 /* By is_within, a search takes 7 to 9 % more instructions. */
 static INLINE int is_of_text(const module *m, u64 in_text, u64 bytes) {
+    if (bytes == 4)
+        return in_text < m->words;
     return in_text < m->text_length && bytes <= m->text_length - in_text;
 }
 
@@ -500,7 +504,7 @@ static INLINE const u8 *readable(const module *m, u64 address, u64 bytes) {
 /* Most bytes that are loaded with a sign are the text's. */
 static INLINE const u8 *text_first(const module *m, u64 address, u64 bytes) {
     u64 in_text = address - FIRST_OF_TEXT;
-    if (is_of_text(m, in_text, bytes))
+    if (LIKELY(is_of_text(m, in_text, bytes)))
         return m->text + (size_t)in_text;
     return readable(m, address, bytes);
 }
@@ -544,6 +548,7 @@ static INLINE void copy_word(void *to, const void *from, size_t bytes) {
 #endif
 
 LOAD(i32_load, u32, u32, readable)
+LOAD(i32_load_of_text, u32, u32, text_first) /* see source.py */
 LOAD(i32_load8_s, u32, s8, text_first)
 LOAD(i32_load8_u, u32, u8, readable)
 LOAD(i32_load16_s, u32, s16, readable)
@@ -6871,7 +6876,7 @@ static u32 w2c_f12(module *m, u64 w2c_p0, u64 w2c_p1) {
     if (w2c_i0) {goto w2c_B5;}
     w2c_j0 = w2c_p0;
     w2c_i0 = (u32)(w2c_j0);
-    w2c_i0 = i32_load(m, (u64)(w2c_i0));
+    w2c_i0 = i32_load_of_text(m, (u64)(w2c_i0));
     w2c_l2 = w2c_i0;
     goto w2c_B4;
     w2c_B5:;
@@ -8456,7 +8461,7 @@ static u32 w2c_f17(module *m, u64 w2c_p0, u64 w2c_p1, u64 w2c_p2, u32 w2c_p3, u3
   w2c_L5:
     w2c_j0 = w2c_l10;
     w2c_i0 = (u32)(w2c_j0);
-    w2c_i0 = i32_load(m, (u64)(w2c_i0));
+    w2c_i0 = i32_load_of_text(m, (u64)(w2c_i0));
     w2c_i1 = 16776990u;
     w2c_i0 += w2c_i1;
     w2c_i1 = 12632312u;
@@ -8529,7 +8534,7 @@ static u32 w2c_f17(module *m, u64 w2c_p0, u64 w2c_p1, u64 w2c_p2, u32 w2c_p3, u3
     if (w2c_i0) {goto w2c_B9;}
     w2c_j0 = w2c_l11;
     w2c_i0 = (u32)(w2c_j0);
-    w2c_i0 = i32_load(m, (u64)(w2c_i0));
+    w2c_i0 = i32_load_of_text(m, (u64)(w2c_i0));
     w2c_l15 = w2c_i0;
     goto w2c_B8;
     w2c_B9:;
@@ -8903,7 +8908,7 @@ static u32 w2c_f18(module *m, u64 w2c_p0, u64 w2c_p1, u64 w2c_p2, u32 w2c_p3, u3
     w2c_i1 = 0u;
     w2c_j2 = w2c_l13;
     w2c_i2 = (u32)(w2c_j2);
-    w2c_i2 = i32_load(m, (u64)(w2c_i2) + 67328u);
+    w2c_i2 = i32_load_of_text(m, (u64)(w2c_i2) + 67328u);
     w2c_i3 = w2c_l21;
     w2c_i2 = w2c_i2 == w2c_i3;
     w2c_l21 = w2c_i2;
@@ -9209,7 +9214,7 @@ static u32 w2c_f18(module *m, u64 w2c_p0, u64 w2c_p1, u64 w2c_p2, u32 w2c_p3, u3
     w2c_j0 &= w2c_j1;
     w2c_l13 = w2c_j0;
     w2c_i0 = (u32)(w2c_j0);
-    w2c_i0 = i32_load(m, (u64)(w2c_i0) + 67328u);
+    w2c_i0 = i32_load_of_text(m, (u64)(w2c_i0) + 67328u);
     w2c_i1 = w2c_l21;
     w2c_i0 = w2c_i0 != w2c_i1;
     if (w2c_i0) {goto w2c_L4;}
@@ -9454,7 +9459,7 @@ static u32 w2c_f18(module *m, u64 w2c_p0, u64 w2c_p1, u64 w2c_p2, u32 w2c_p3, u3
       w2c_j1 = 67328ull;
       w2c_j0 += w2c_j1;
       w2c_i0 = (u32)(w2c_j0);
-      w2c_i0 = i32_load(m, (u64)(w2c_i0));
+      w2c_i0 = i32_load_of_text(m, (u64)(w2c_i0));
       w2c_i1 = w2c_l22;
       w2c_i0 = w2c_i0 != w2c_i1;
       if (w2c_i0) {goto w2c_B43;}
@@ -9618,7 +9623,7 @@ static u32 w2c_f18(module *m, u64 w2c_p0, u64 w2c_p1, u64 w2c_p2, u32 w2c_p3, u3
       w2c_j1 = 67328ull;
       w2c_j0 += w2c_j1;
       w2c_i0 = (u32)(w2c_j0);
-      w2c_i0 = i32_load(m, (u64)(w2c_i0));
+      w2c_i0 = i32_load_of_text(m, (u64)(w2c_i0));
       w2c_i1 = w2c_l22;
       w2c_i0 = w2c_i0 != w2c_i1;
       if (w2c_i0) {goto w2c_B35;}
@@ -9906,7 +9911,7 @@ static u32 w2c_f18(module *m, u64 w2c_p0, u64 w2c_p1, u64 w2c_p2, u32 w2c_p3, u3
     w2c_j1 = 67328ull;
     w2c_j0 += w2c_j1;
     w2c_i0 = (u32)(w2c_j0);
-    w2c_i0 = i32_load(m, (u64)(w2c_i0));
+    w2c_i0 = i32_load_of_text(m, (u64)(w2c_i0));
     w2c_i1 = w2c_l21;
     w2c_i0 = w2c_i0 == w2c_i1;
     if (w2c_i0) {goto w2c_B69;}
@@ -10080,7 +10085,7 @@ static u32 w2c_f18(module *m, u64 w2c_p0, u64 w2c_p1, u64 w2c_p2, u32 w2c_p3, u3
     w2c_j1 = 67328ull;
     w2c_j0 += w2c_j1;
     w2c_i0 = (u32)(w2c_j0);
-    w2c_i0 = i32_load(m, (u64)(w2c_i0));
+    w2c_i0 = i32_load_of_text(m, (u64)(w2c_i0));
     w2c_i1 = w2c_l21;
     w2c_i0 = w2c_i0 != w2c_i1;
     if (w2c_i0) {goto w2c_B66;}
@@ -10306,7 +10311,7 @@ static u32 w2c_f18(module *m, u64 w2c_p0, u64 w2c_p1, u64 w2c_p2, u32 w2c_p3, u3
     w2c_j1 = 67328ull;
     w2c_j0 += w2c_j1;
     w2c_i0 = (u32)(w2c_j0);
-    w2c_i0 = i32_load(m, (u64)(w2c_i0));
+    w2c_i0 = i32_load_of_text(m, (u64)(w2c_i0));
     w2c_i1 = w2c_l21;
     w2c_i0 = w2c_i0 == w2c_i1;
     if (w2c_i0) {goto w2c_B85;}
@@ -10468,7 +10473,7 @@ static u32 w2c_f18(module *m, u64 w2c_p0, u64 w2c_p1, u64 w2c_p2, u32 w2c_p3, u3
     w2c_j1 = 67328ull;
     w2c_j0 += w2c_j1;
     w2c_i0 = (u32)(w2c_j0);
-    w2c_i0 = i32_load(m, (u64)(w2c_i0));
+    w2c_i0 = i32_load_of_text(m, (u64)(w2c_i0));
     w2c_i1 = w2c_l21;
     w2c_i0 = w2c_i0 != w2c_i1;
     if (w2c_i0) {goto w2c_B82;}
@@ -10725,7 +10730,7 @@ static u32 w2c_f18(module *m, u64 w2c_p0, u64 w2c_p1, u64 w2c_p2, u32 w2c_p3, u3
     w2c_j2 = 67328ull;
     w2c_j1 += w2c_j2;
     w2c_i1 = (u32)(w2c_j1);
-    w2c_i1 = i32_load(m, (u64)(w2c_i1));
+    w2c_i1 = i32_load_of_text(m, (u64)(w2c_i1));
     w2c_i0 = w2c_i0 != w2c_i1;
     if (w2c_i0) {goto w2c_B104;}
     goto w2c_B105;
@@ -10859,7 +10864,7 @@ static u32 w2c_f18(module *m, u64 w2c_p0, u64 w2c_p1, u64 w2c_p2, u32 w2c_p3, u3
     w2c_j1 = 67328ull;
     w2c_j0 += w2c_j1;
     w2c_i0 = (u32)(w2c_j0);
-    w2c_i0 = i32_load(m, (u64)(w2c_i0));
+    w2c_i0 = i32_load_of_text(m, (u64)(w2c_i0));
     w2c_i1 = w2c_l21;
     w2c_i0 = w2c_i0 == w2c_i1;
     if (w2c_i0) {goto w2c_B105;}
@@ -11079,7 +11084,7 @@ static u32 w2c_f18(module *m, u64 w2c_p0, u64 w2c_p1, u64 w2c_p2, u32 w2c_p3, u3
     w2c_j2 = 67328ull;
     w2c_j1 += w2c_j2;
     w2c_i1 = (u32)(w2c_j1);
-    w2c_i1 = i32_load(m, (u64)(w2c_i1));
+    w2c_i1 = i32_load_of_text(m, (u64)(w2c_i1));
     w2c_i0 = w2c_i0 != w2c_i1;
     if (w2c_i0) {goto w2c_B120;}
     goto w2c_B121;
@@ -11197,7 +11202,7 @@ static u32 w2c_f18(module *m, u64 w2c_p0, u64 w2c_p1, u64 w2c_p2, u32 w2c_p3, u3
     w2c_j1 = 67328ull;
     w2c_j0 += w2c_j1;
     w2c_i0 = (u32)(w2c_j0);
-    w2c_i0 = i32_load(m, (u64)(w2c_i0));
+    w2c_i0 = i32_load_of_text(m, (u64)(w2c_i0));
     w2c_i1 = w2c_l21;
     w2c_i0 = w2c_i0 == w2c_i1;
     if (w2c_i0) {goto w2c_B121;}
@@ -11463,7 +11468,7 @@ static u32 w2c_f18(module *m, u64 w2c_p0, u64 w2c_p1, u64 w2c_p2, u32 w2c_p3, u3
     w2c_j0 &= w2c_j1;
     w2c_l11 = w2c_j0;
     w2c_i0 = (u32)(w2c_j0);
-    w2c_i0 = i32_load(m, (u64)(w2c_i0) + 67328u);
+    w2c_i0 = i32_load_of_text(m, (u64)(w2c_i0) + 67328u);
     w2c_i1 = w2c_l21;
     w2c_i0 = w2c_i0 != w2c_i1;
     w2c_l21 = w2c_i0;
@@ -12131,7 +12136,7 @@ static u32 w2c_f20(module *m, u32 w2c_p0, u32 w2c_p1, u64 w2c_p2, u64 w2c_p3) {
   w2c_i1 = 0u;
   w2c_j2 = w2c_l5;
   w2c_i2 = (u32)(w2c_j2);
-  w2c_i2 = i32_load(m, (u64)(w2c_i2) + 67328u);
+  w2c_i2 = i32_load_of_text(m, (u64)(w2c_i2) + 67328u);
   w2c_i3 = w2c_l10;
   w2c_i2 = w2c_i2 == w2c_i3;
   w2c_l11 = w2c_i2;
@@ -12304,7 +12309,7 @@ static u32 w2c_f20(module *m, u32 w2c_p0, u32 w2c_p1, u64 w2c_p2, u64 w2c_p3) {
   w2c_i1 = 0u;
   w2c_j2 = w2c_l6;
   w2c_i2 = (u32)(w2c_j2);
-  w2c_i2 = i32_load(m, (u64)(w2c_i2) + 67328u);
+  w2c_i2 = i32_load_of_text(m, (u64)(w2c_i2) + 67328u);
   w2c_i3 = w2c_l10;
   w2c_i2 = w2c_i2 == w2c_i3;
   w2c_l8 = w2c_i2;
@@ -12793,7 +12798,7 @@ static void w2c_f22(module *m, u64 w2c_p0, u64 w2c_p1, u64 w2c_p2) {
   w2c_i1 = 0u;
   w2c_j2 = w2c_p1;
   w2c_i2 = (u32)(w2c_j2);
-  w2c_i2 = i32_load(m, (u64)(w2c_i2) + 67328u);
+  w2c_i2 = i32_load_of_text(m, (u64)(w2c_i2) + 67328u);
   w2c_i3 = w2c_l6;
   w2c_i2 = w2c_i2 == w2c_i3;
   w2c_l6 = w2c_i2;
@@ -12955,7 +12960,7 @@ static void w2c_f22(module *m, u64 w2c_p0, u64 w2c_p1, u64 w2c_p2) {
   w2c_i1 = 0u;
   w2c_j2 = w2c_p1;
   w2c_i2 = (u32)(w2c_j2);
-  w2c_i2 = i32_load(m, (u64)(w2c_i2) + 67328u);
+  w2c_i2 = i32_load_of_text(m, (u64)(w2c_i2) + 67328u);
   w2c_i3 = w2c_l4;
   w2c_i2 = w2c_i2 == w2c_i3;
   w2c_l4 = w2c_i2;
@@ -13099,7 +13104,7 @@ static u32 w2c_f23(module *m, u64 w2c_p0, u64 w2c_p1) {
     w2c_j0 &= w2c_j1;
     w2c_l5 = w2c_j0;
     w2c_i0 = (u32)(w2c_j0);
-    w2c_i0 = i32_load(m, (u64)(w2c_i0) + 67328u);
+    w2c_i0 = i32_load_of_text(m, (u64)(w2c_i0) + 67328u);
     w2c_i1 = w2c_l2;
     w2c_i0 = w2c_i0 != w2c_i1;
     if (w2c_i0) {goto w2c_B2;}
@@ -13250,7 +13255,7 @@ static u32 w2c_f23(module *m, u64 w2c_p0, u64 w2c_p1) {
     w2c_j0 &= w2c_j1;
     w2c_l5 = w2c_j0;
     w2c_i0 = (u32)(w2c_j0);
-    w2c_i0 = i32_load(m, (u64)(w2c_i0) + 67328u);
+    w2c_i0 = i32_load_of_text(m, (u64)(w2c_i0) + 67328u);
     w2c_i1 = w2c_l2;
     w2c_i0 = w2c_i0 != w2c_i1;
     if (w2c_i0) {goto w2c_B2;}
@@ -13338,7 +13343,7 @@ static u32 w2c_f24(module *m, u64 w2c_p0, u64 w2c_p1) {
   w2c_i1 = 2u;
   w2c_j2 = w2c_p0;
   w2c_i2 = (u32)(w2c_j2);
-  w2c_i2 = i32_load(m, (u64)(w2c_i2) + 67328u);
+  w2c_i2 = i32_load_of_text(m, (u64)(w2c_i2) + 67328u);
   w2c_i3 = w2c_l2;
   w2c_i2 = w2c_i2 == w2c_i3;
   w2c_i0 = w2c_i2 ? w2c_i0 : w2c_i1;
@@ -13466,7 +13471,7 @@ static u32 w2c_f24(module *m, u64 w2c_p0, u64 w2c_p1) {
   w2c_i1 = 2u;
   w2c_j2 = w2c_p0;
   w2c_i2 = (u32)(w2c_j2);
-  w2c_i2 = i32_load(m, (u64)(w2c_i2) + 67328u);
+  w2c_i2 = i32_load_of_text(m, (u64)(w2c_i2) + 67328u);
   w2c_i3 = w2c_l2;
   w2c_i2 = w2c_i2 == w2c_i3;
   w2c_i0 = w2c_i2 ? w2c_i0 : w2c_i1;
@@ -13555,7 +13560,7 @@ static u32 w2c_f25(module *m, u64 w2c_p0, u64 w2c_p1) {
     w2c_j1 = 67328ull;
     w2c_j0 += w2c_j1;
     w2c_i0 = (u32)(w2c_j0);
-    w2c_i0 = i32_load(m, (u64)(w2c_i0));
+    w2c_i0 = i32_load_of_text(m, (u64)(w2c_i0));
     w2c_i1 = w2c_l5;
     w2c_i0 = w2c_i0 != w2c_i1;
     if (w2c_i0) {goto w2c_L1;}
@@ -13706,7 +13711,7 @@ static u32 w2c_f25(module *m, u64 w2c_p0, u64 w2c_p1) {
     w2c_j1 = 67328ull;
     w2c_j0 += w2c_j1;
     w2c_i0 = (u32)(w2c_j0);
-    w2c_i0 = i32_load(m, (u64)(w2c_i0));
+    w2c_i0 = i32_load_of_text(m, (u64)(w2c_i0));
     w2c_i1 = w2c_l3;
     w2c_i0 = w2c_i0 != w2c_i1;
     if (w2c_i0) {goto w2c_L1;}
@@ -13789,7 +13794,7 @@ static u32 w2c_f25(module *m, u64 w2c_p0, u64 w2c_p1) {
     w2c_j1 = 67328ull;
     w2c_j0 += w2c_j1;
     w2c_i0 = (u32)(w2c_j0);
-    w2c_i0 = i32_load(m, (u64)(w2c_i0));
+    w2c_i0 = i32_load_of_text(m, (u64)(w2c_i0));
     w2c_i1 = w2c_l5;
     w2c_i0 = w2c_i0 != w2c_i1;
     if (w2c_i0) {goto w2c_L1;}
@@ -13940,7 +13945,7 @@ static u32 w2c_f25(module *m, u64 w2c_p0, u64 w2c_p1) {
     w2c_j1 = 67328ull;
     w2c_j0 += w2c_j1;
     w2c_i0 = (u32)(w2c_j0);
-    w2c_i0 = i32_load(m, (u64)(w2c_i0));
+    w2c_i0 = i32_load_of_text(m, (u64)(w2c_i0));
     w2c_i1 = w2c_l5;
     w2c_i0 = w2c_i0 != w2c_i1;
     if (w2c_i0) {goto w2c_L1;}
@@ -14055,7 +14060,7 @@ static u32 w2c_f25(module *m, u64 w2c_p0, u64 w2c_p1) {
     w2c_j1 = 67328ull;
     w2c_j0 += w2c_j1;
     w2c_i0 = (u32)(w2c_j0);
-    w2c_i0 = i32_load(m, (u64)(w2c_i0));
+    w2c_i0 = i32_load_of_text(m, (u64)(w2c_i0));
     w2c_i1 = w2c_l2;
     w2c_i0 = w2c_i0 != w2c_i1;
     if (w2c_i0) {goto w2c_L21;}
@@ -14194,7 +14199,7 @@ static u32 w2c_f25(module *m, u64 w2c_p0, u64 w2c_p1) {
     w2c_j1 = 67328ull;
     w2c_j0 += w2c_j1;
     w2c_i0 = (u32)(w2c_j0);
-    w2c_i0 = i32_load(m, (u64)(w2c_i0));
+    w2c_i0 = i32_load_of_text(m, (u64)(w2c_i0));
     w2c_i1 = w2c_l2;
     w2c_i0 = w2c_i0 != w2c_i1;
     if (w2c_i0) {goto w2c_L21;}
@@ -14265,7 +14270,7 @@ static u32 w2c_f25(module *m, u64 w2c_p0, u64 w2c_p1) {
     w2c_j1 = 67328ull;
     w2c_j0 += w2c_j1;
     w2c_i0 = (u32)(w2c_j0);
-    w2c_i0 = i32_load(m, (u64)(w2c_i0));
+    w2c_i0 = i32_load_of_text(m, (u64)(w2c_i0));
     w2c_i1 = w2c_l2;
     w2c_i0 = w2c_i0 != w2c_i1;
     if (w2c_i0) {goto w2c_L21;}
@@ -14402,7 +14407,7 @@ static u32 w2c_f25(module *m, u64 w2c_p0, u64 w2c_p1) {
     w2c_j1 = 67328ull;
     w2c_j0 += w2c_j1;
     w2c_i0 = (u32)(w2c_j0);
-    w2c_i0 = i32_load(m, (u64)(w2c_i0));
+    w2c_i0 = i32_load_of_text(m, (u64)(w2c_i0));
     w2c_i1 = w2c_l2;
     w2c_i0 = w2c_i0 != w2c_i1;
     if (w2c_i0) {goto w2c_L21;}
@@ -14653,7 +14658,7 @@ static u32 w2c_f26(module *m, u64 w2c_p0, u64 w2c_p1, u64 w2c_p2, u32 w2c_p3, u3
     w2c_j1 = 67328ull;
     w2c_j0 += w2c_j1;
     w2c_i0 = (u32)(w2c_j0);
-    w2c_i0 = i32_load(m, (u64)(w2c_i0));
+    w2c_i0 = i32_load_of_text(m, (u64)(w2c_i0));
     w2c_i1 = w2c_p4;
     w2c_i0 = w2c_i0 == w2c_i1;
     if (w2c_i0) {goto w2c_B14;}
@@ -14819,7 +14824,7 @@ static u32 w2c_f26(module *m, u64 w2c_p0, u64 w2c_p1, u64 w2c_p2, u32 w2c_p3, u3
     w2c_j1 = 67328ull;
     w2c_j0 += w2c_j1;
     w2c_i0 = (u32)(w2c_j0);
-    w2c_i0 = i32_load(m, (u64)(w2c_i0));
+    w2c_i0 = i32_load_of_text(m, (u64)(w2c_i0));
     w2c_i1 = w2c_p4;
     w2c_i0 = w2c_i0 != w2c_i1;
     if (w2c_i0) {goto w2c_B11;}
@@ -15037,7 +15042,7 @@ static u32 w2c_f26(module *m, u64 w2c_p0, u64 w2c_p1, u64 w2c_p2, u32 w2c_p3, u3
     w2c_j1 = 67328ull;
     w2c_j0 += w2c_j1;
     w2c_i0 = (u32)(w2c_j0);
-    w2c_i0 = i32_load(m, (u64)(w2c_i0));
+    w2c_i0 = i32_load_of_text(m, (u64)(w2c_i0));
     w2c_i1 = w2c_p4;
     w2c_i0 = w2c_i0 == w2c_i1;
     if (w2c_i0) {goto w2c_B30;}
@@ -15199,7 +15204,7 @@ static u32 w2c_f26(module *m, u64 w2c_p0, u64 w2c_p1, u64 w2c_p2, u32 w2c_p3, u3
     w2c_j1 = 67328ull;
     w2c_j0 += w2c_j1;
     w2c_i0 = (u32)(w2c_j0);
-    w2c_i0 = i32_load(m, (u64)(w2c_i0));
+    w2c_i0 = i32_load_of_text(m, (u64)(w2c_i0));
     w2c_i1 = w2c_p4;
     w2c_i0 = w2c_i0 != w2c_i1;
     if (w2c_i0) {goto w2c_B27;}
@@ -15450,7 +15455,7 @@ static u32 w2c_f26(module *m, u64 w2c_p0, u64 w2c_p1, u64 w2c_p2, u32 w2c_p3, u3
     w2c_j2 = 67328ull;
     w2c_j1 += w2c_j2;
     w2c_i1 = (u32)(w2c_j1);
-    w2c_i1 = i32_load(m, (u64)(w2c_i1));
+    w2c_i1 = i32_load_of_text(m, (u64)(w2c_i1));
     w2c_i0 = w2c_i0 != w2c_i1;
     if (w2c_i0) {goto w2c_B49;}
     goto w2c_B50;
@@ -15584,7 +15589,7 @@ static u32 w2c_f26(module *m, u64 w2c_p0, u64 w2c_p1, u64 w2c_p2, u32 w2c_p3, u3
     w2c_j1 = 67328ull;
     w2c_j0 += w2c_j1;
     w2c_i0 = (u32)(w2c_j0);
-    w2c_i0 = i32_load(m, (u64)(w2c_i0));
+    w2c_i0 = i32_load_of_text(m, (u64)(w2c_i0));
     w2c_i1 = w2c_l17;
     w2c_i0 = w2c_i0 == w2c_i1;
     if (w2c_i0) {goto w2c_B50;}
@@ -15804,7 +15809,7 @@ static u32 w2c_f26(module *m, u64 w2c_p0, u64 w2c_p1, u64 w2c_p2, u32 w2c_p3, u3
     w2c_j2 = 67328ull;
     w2c_j1 += w2c_j2;
     w2c_i1 = (u32)(w2c_j1);
-    w2c_i1 = i32_load(m, (u64)(w2c_i1));
+    w2c_i1 = i32_load_of_text(m, (u64)(w2c_i1));
     w2c_i0 = w2c_i0 != w2c_i1;
     if (w2c_i0) {goto w2c_B65;}
     goto w2c_B66;
@@ -15922,7 +15927,7 @@ static u32 w2c_f26(module *m, u64 w2c_p0, u64 w2c_p1, u64 w2c_p2, u32 w2c_p3, u3
     w2c_j1 = 67328ull;
     w2c_j0 += w2c_j1;
     w2c_i0 = (u32)(w2c_j0);
-    w2c_i0 = i32_load(m, (u64)(w2c_i0));
+    w2c_i0 = i32_load_of_text(m, (u64)(w2c_i0));
     w2c_i1 = w2c_l17;
     w2c_i0 = w2c_i0 == w2c_i1;
     if (w2c_i0) {goto w2c_B66;}
@@ -16189,7 +16194,7 @@ static u32 w2c_f26(module *m, u64 w2c_p0, u64 w2c_p1, u64 w2c_p2, u32 w2c_p3, u3
     w2c_j0 &= w2c_j1;
     w2c_l10 = w2c_j0;
     w2c_i0 = (u32)(w2c_j0);
-    w2c_i0 = i32_load(m, (u64)(w2c_i0) + 67328u);
+    w2c_i0 = i32_load_of_text(m, (u64)(w2c_i0) + 67328u);
     w2c_i1 = w2c_l17;
     w2c_i0 = w2c_i0 != w2c_i1;
     w2c_l19 = w2c_i0;
@@ -16568,7 +16573,7 @@ static void w2c_f27(module *m, u64 w2c_p0, u64 w2c_p1) {
     w2c_j0 &= w2c_j1;
     w2c_l10 = w2c_j0;
     w2c_i0 = (u32)(w2c_j0);
-    w2c_i0 = i32_load(m, (u64)(w2c_i0) + 67328u);
+    w2c_i0 = i32_load_of_text(m, (u64)(w2c_i0) + 67328u);
     w2c_l16 = w2c_i0;
     w2c_j0 = w2c_l10;
     w2c_j1 = 67333ull;
@@ -16795,7 +16800,7 @@ static void w2c_f27(module *m, u64 w2c_p0, u64 w2c_p1) {
     w2c_i1 = 0u;
     w2c_j2 = w2c_l2;
     w2c_i2 = (u32)(w2c_j2);
-    w2c_i2 = i32_load(m, (u64)(w2c_i2) + 67328u);
+    w2c_i2 = i32_load_of_text(m, (u64)(w2c_i2) + 67328u);
     w2c_i3 = w2c_l15;
     w2c_i2 = w2c_i2 == w2c_i3;
     w2c_l15 = w2c_i2;
@@ -17357,7 +17362,7 @@ static void w2c_f27(module *m, u64 w2c_p0, u64 w2c_p1) {
     w2c_i1 = 0u;
     w2c_j2 = w2c_l2;
     w2c_i2 = (u32)(w2c_j2);
-    w2c_i2 = i32_load(m, (u64)(w2c_i2) + 67328u);
+    w2c_i2 = i32_load_of_text(m, (u64)(w2c_i2) + 67328u);
     w2c_i3 = w2c_l18;
     w2c_i2 = w2c_i2 == w2c_i3;
     w2c_l18 = w2c_i2;
@@ -17527,7 +17532,7 @@ static void w2c_f27(module *m, u64 w2c_p0, u64 w2c_p1) {
     w2c_i1 = 0u;
     w2c_j2 = w2c_l12;
     w2c_i2 = (u32)(w2c_j2);
-    w2c_i2 = i32_load(m, (u64)(w2c_i2) + 67328u);
+    w2c_i2 = i32_load_of_text(m, (u64)(w2c_i2) + 67328u);
     w2c_i3 = w2c_l18;
     w2c_i2 = w2c_i2 == w2c_i3;
     w2c_l18 = w2c_i2;
@@ -18377,7 +18382,7 @@ static u32 w2c_f28(module *m, u32 w2c_p0, u32 w2c_p1, u64 w2c_p2, u64 w2c_p3, u3
   w2c_i1 = 0u;
   w2c_j2 = w2c_p3;
   w2c_i2 = (u32)(w2c_j2);
-  w2c_i2 = i32_load(m, (u64)(w2c_i2) + 67328u);
+  w2c_i2 = i32_load_of_text(m, (u64)(w2c_i2) + 67328u);
   w2c_i3 = w2c_l11;
   w2c_i2 = w2c_i2 == w2c_i3;
   w2c_l11 = w2c_i2;
@@ -18447,7 +18452,7 @@ static u32 w2c_f28(module *m, u32 w2c_p0, u32 w2c_p1, u64 w2c_p2, u64 w2c_p3, u3
   w2c_i1 = 0u;
   w2c_j2 = w2c_p3;
   w2c_i2 = (u32)(w2c_j2);
-  w2c_i2 = i32_load(m, (u64)(w2c_i2) + 67328u);
+  w2c_i2 = i32_load_of_text(m, (u64)(w2c_i2) + 67328u);
   w2c_i3 = w2c_l12;
   w2c_i2 = w2c_i2 == w2c_i3;
   w2c_l12 = w2c_i2;
@@ -18617,7 +18622,7 @@ static u32 w2c_f28(module *m, u32 w2c_p0, u32 w2c_p1, u64 w2c_p2, u64 w2c_p3, u3
   w2c_i1 = 0u;
   w2c_j2 = w2c_p6;
   w2c_i2 = (u32)(w2c_j2);
-  w2c_i2 = i32_load(m, (u64)(w2c_i2) + 67328u);
+  w2c_i2 = i32_load_of_text(m, (u64)(w2c_i2) + 67328u);
   w2c_i3 = w2c_l11;
   w2c_i2 = w2c_i2 == w2c_i3;
   w2c_l11 = w2c_i2;
@@ -20064,7 +20069,7 @@ static u32 w2c_f28(module *m, u32 w2c_p0, u32 w2c_p1, u64 w2c_p2, u64 w2c_p3, u3
   w2c_i1 = 0u;
   w2c_j2 = w2c_p3;
   w2c_i2 = (u32)(w2c_j2);
-  w2c_i2 = i32_load(m, (u64)(w2c_i2) + 67328u);
+  w2c_i2 = i32_load_of_text(m, (u64)(w2c_i2) + 67328u);
   w2c_i3 = w2c_l11;
   w2c_i2 = w2c_i2 == w2c_i3;
   w2c_l11 = w2c_i2;
@@ -20226,7 +20231,7 @@ static u32 w2c_f28(module *m, u32 w2c_p0, u32 w2c_p1, u64 w2c_p2, u64 w2c_p3, u3
   w2c_i1 = 0u;
   w2c_j2 = w2c_p2;
   w2c_i2 = (u32)(w2c_j2);
-  w2c_i2 = i32_load(m, (u64)(w2c_i2) + 67328u);
+  w2c_i2 = i32_load_of_text(m, (u64)(w2c_i2) + 67328u);
   w2c_i3 = w2c_l11;
   w2c_i2 = w2c_i2 == w2c_i3;
   w2c_l11 = w2c_i2;
@@ -23481,7 +23486,7 @@ static u32 w2c_f30(module *m, u32 w2c_p0, u32 w2c_p1, u64 w2c_p2, u64 w2c_p3) {
   w2c_i1 = 0u;
   w2c_j2 = w2c_p3;
   w2c_i2 = (u32)(w2c_j2);
-  w2c_i2 = i32_load(m, (u64)(w2c_i2) + 67328u);
+  w2c_i2 = i32_load_of_text(m, (u64)(w2c_i2) + 67328u);
   w2c_i3 = w2c_l8;
   w2c_i2 = w2c_i2 == w2c_i3;
   w2c_l9 = w2c_i2;
@@ -23588,7 +23593,7 @@ static u32 w2c_f31(module *m, u32 w2c_p0, u32 w2c_p1, u64 w2c_p2, u64 w2c_p3) {
   w2c_i1 = 0u;
   w2c_j2 = w2c_l5;
   w2c_i2 = (u32)(w2c_j2);
-  w2c_i2 = i32_load(m, (u64)(w2c_i2) + 67328u);
+  w2c_i2 = i32_load_of_text(m, (u64)(w2c_i2) + 67328u);
   w2c_i3 = w2c_l9;
   w2c_i2 = w2c_i2 == w2c_i3;
   w2c_l10 = w2c_i2;
@@ -23764,7 +23769,7 @@ static u32 w2c_f31(module *m, u32 w2c_p0, u32 w2c_p1, u64 w2c_p2, u64 w2c_p3) {
   w2c_i1 = 0u;
   w2c_j2 = w2c_l5;
   w2c_i2 = (u32)(w2c_j2);
-  w2c_i2 = i32_load(m, (u64)(w2c_i2) + 67328u);
+  w2c_i2 = i32_load_of_text(m, (u64)(w2c_i2) + 67328u);
   w2c_i3 = w2c_l9;
   w2c_i2 = w2c_i2 == w2c_i3;
   w2c_l10 = w2c_i2;
@@ -27926,7 +27931,7 @@ static void w2c_f33(module *m, u64 w2c_p0, u64 w2c_p1, u64 w2c_p2, u32 w2c_p3) {
     w2c_l8 = w2c_j0;
     w2c_j0 = w2c_l4;
     w2c_i0 = (u32)(w2c_j0);
-    w2c_i0 = i32_load(m, (u64)(w2c_i0) + 312u);
+    w2c_i0 = i32_load_of_text(m, (u64)(w2c_i0) + 312u);
     w2c_l14 = w2c_i0;
     w2c_j0 = w2c_l4;
     w2c_i0 = (u32)(w2c_j0);
@@ -27962,7 +27967,7 @@ static void w2c_f33(module *m, u64 w2c_p0, u64 w2c_p1, u64 w2c_p2, u32 w2c_p3) {
     if (w2c_i0) {goto w2c_B31;}
     w2c_j0 = w2c_l4;
     w2c_i0 = (u32)(w2c_j0);
-    w2c_i0 = i32_load(m, (u64)(w2c_i0) + 344u);
+    w2c_i0 = i32_load_of_text(m, (u64)(w2c_i0) + 344u);
     w2c_i1 = 20043u;
     w2c_i0 = w2c_i0 == w2c_i1;
     if (w2c_i0) {goto w2c_B29;}
@@ -28555,7 +28560,7 @@ static void w2c_f33(module *m, u64 w2c_p0, u64 w2c_p1, u64 w2c_p2, u32 w2c_p3) {
   if (w2c_i0) {goto w2c_B52;}
   w2c_j0 = w2c_l4;
   w2c_i0 = (u32)(w2c_j0);
-  w2c_i0 = i32_load(m, (u64)(w2c_i0) + 344u);
+  w2c_i0 = i32_load_of_text(m, (u64)(w2c_i0) + 344u);
   w2c_l14 = w2c_i0;
   w2c_j0 = w2c_l4;
   w2c_j1 = 336ull;
@@ -29393,7 +29398,7 @@ static void w2c_f35(module *m, u64 w2c_p0, u32 w2c_p1, u64 w2c_p2, u64 w2c_p3, u
     w2c_j0 += w2c_j1;
     w2c_j1 = w2c_l5;
     w2c_i1 = (u32)(w2c_j1);
-    w2c_i1 = i32_load(m, (u64)(w2c_i1) + 136u);
+    w2c_i1 = i32_load_of_text(m, (u64)(w2c_i1) + 136u);
     w2c_f39(m, w2c_j0, w2c_i1);
     w2c_j0 = w2c_l5;
     w2c_i0 = (u32)(w2c_j0);
@@ -30036,7 +30041,7 @@ static void w2c_f37(module *m, u64 w2c_p0, u32 w2c_p1, u64 w2c_p2, u64 w2c_p3, u
   w2c_i1 = 0u;
   w2c_j2 = w2c_l5;
   w2c_i2 = (u32)(w2c_j2);
-  w2c_i2 = i32_load(m, (u64)(w2c_i2) + 360u);
+  w2c_i2 = i32_load_of_text(m, (u64)(w2c_i2) + 360u);
   w2c_f41(m, w2c_j0, w2c_i1, w2c_i2);
   w2c_j0 = w2c_l5;
   w2c_i0 = (u32)(w2c_j0);
@@ -30077,7 +30082,7 @@ static void w2c_f37(module *m, u64 w2c_p0, u32 w2c_p1, u64 w2c_p2, u64 w2c_p3, u
     w2c_i1 = 0u;
     w2c_j2 = w2c_l5;
     w2c_i2 = (u32)(w2c_j2);
-    w2c_i2 = i32_load(m, (u64)(w2c_i2) + 360u);
+    w2c_i2 = i32_load_of_text(m, (u64)(w2c_i2) + 360u);
     w2c_f41(m, w2c_j0, w2c_i1, w2c_i2);
     w2c_j0 = w2c_l9;
     w2c_j1 = 1ull;
@@ -30127,7 +30132,7 @@ static void w2c_f37(module *m, u64 w2c_p0, u32 w2c_p1, u64 w2c_p2, u64 w2c_p3, u
   w2c_i1 = 0u;
   w2c_j2 = w2c_l5;
   w2c_i2 = (u32)(w2c_j2);
-  w2c_i2 = i32_load(m, (u64)(w2c_i2) + 360u);
+  w2c_i2 = i32_load_of_text(m, (u64)(w2c_i2) + 360u);
   w2c_f41(m, w2c_j0, w2c_i1, w2c_i2);
   w2c_j0 = w2c_l5;
   w2c_i0 = (u32)(w2c_j0);
@@ -30176,7 +30181,7 @@ static void w2c_f37(module *m, u64 w2c_p0, u32 w2c_p1, u64 w2c_p2, u64 w2c_p3, u
   if (w2c_i0) {goto w2c_B7;}
   w2c_j0 = w2c_l5;
   w2c_i0 = (u32)(w2c_j0);
-  w2c_i0 = i32_load(m, (u64)(w2c_i0) + 328u);
+  w2c_i0 = i32_load_of_text(m, (u64)(w2c_i0) + 328u);
   w2c_i1 = 44u;
   w2c_i0 = w2c_i0 != w2c_i1;
   if (w2c_i0) {goto w2c_B7;}
@@ -30223,7 +30228,7 @@ static void w2c_f37(module *m, u64 w2c_p0, u32 w2c_p1, u64 w2c_p2, u64 w2c_p3, u
     w2c_i1 = 0u;
     w2c_j2 = w2c_l5;
     w2c_i2 = (u32)(w2c_j2);
-    w2c_i2 = i32_load(m, (u64)(w2c_i2) + 360u);
+    w2c_i2 = i32_load_of_text(m, (u64)(w2c_i2) + 360u);
     w2c_f41(m, w2c_j0, w2c_i1, w2c_i2);
     w2c_j0 = w2c_l5;
     w2c_i0 = (u32)(w2c_j0);
@@ -30273,7 +30278,7 @@ static void w2c_f37(module *m, u64 w2c_p0, u32 w2c_p1, u64 w2c_p2, u64 w2c_p3, u
     w2c_i1 = 0u;
     w2c_j2 = w2c_l5;
     w2c_i2 = (u32)(w2c_j2);
-    w2c_i2 = i32_load(m, (u64)(w2c_i2) + 360u);
+    w2c_i2 = i32_load_of_text(m, (u64)(w2c_i2) + 360u);
     w2c_f41(m, w2c_j0, w2c_i1, w2c_i2);
     w2c_j0 = w2c_l5;
     w2c_i0 = (u32)(w2c_j0);
@@ -30323,7 +30328,7 @@ static void w2c_f37(module *m, u64 w2c_p0, u32 w2c_p1, u64 w2c_p2, u64 w2c_p3, u
     w2c_i1 = 0u;
     w2c_j2 = w2c_l5;
     w2c_i2 = (u32)(w2c_j2);
-    w2c_i2 = i32_load(m, (u64)(w2c_i2) + 360u);
+    w2c_i2 = i32_load_of_text(m, (u64)(w2c_i2) + 360u);
     w2c_f41(m, w2c_j0, w2c_i1, w2c_i2);
     w2c_j0 = w2c_l5;
     w2c_i0 = (u32)(w2c_j0);
@@ -30369,7 +30374,7 @@ static void w2c_f37(module *m, u64 w2c_p0, u32 w2c_p1, u64 w2c_p2, u64 w2c_p3, u
     if (w2c_i0) {goto w2c_B7;}
     w2c_j0 = w2c_l5;
     w2c_i0 = (u32)(w2c_j0);
-    w2c_i0 = i32_load(m, (u64)(w2c_i0) + 328u);
+    w2c_i0 = i32_load_of_text(m, (u64)(w2c_i0) + 328u);
     w2c_i1 = 44u;
     w2c_i0 = w2c_i0 == w2c_i1;
     if (w2c_i0) {goto w2c_L8;}
@@ -30548,7 +30553,7 @@ static void w2c_f37(module *m, u64 w2c_p0, u32 w2c_p1, u64 w2c_p2, u64 w2c_p3, u
     w2c_l6 = w2c_j0;
     w2c_j0 = w2c_l5;
     w2c_i0 = (u32)(w2c_j0);
-    w2c_i0 = i32_load(m, (u64)(w2c_i0) + 360u);
+    w2c_i0 = i32_load_of_text(m, (u64)(w2c_i0) + 360u);
     w2c_l14 = w2c_i0;
     w2c_i1 = 40670u;
     w2c_i0 = w2c_i0 == w2c_i1;
@@ -30629,7 +30634,7 @@ static void w2c_f37(module *m, u64 w2c_p0, u32 w2c_p1, u64 w2c_p2, u64 w2c_p3, u
   w2c_l8 = w2c_j0;
   w2c_j0 = w2c_l5;
   w2c_i0 = (u32)(w2c_j0);
-  w2c_i0 = i32_load(m, (u64)(w2c_i0) + 360u);
+  w2c_i0 = i32_load_of_text(m, (u64)(w2c_i0) + 360u);
   w2c_l14 = w2c_i0;
   w2c_i1 = 4294967248u;
   w2c_i0 += w2c_i1;
@@ -30676,7 +30681,7 @@ static void w2c_f37(module *m, u64 w2c_p0, u32 w2c_p1, u64 w2c_p2, u64 w2c_p3, u
     if (w2c_i0) {goto w2c_B18;}
     w2c_j0 = w2c_l5;
     w2c_i0 = (u32)(w2c_j0);
-    w2c_i0 = i32_load(m, (u64)(w2c_i0) + 360u);
+    w2c_i0 = i32_load_of_text(m, (u64)(w2c_i0) + 360u);
     w2c_l14 = w2c_i0;
     w2c_i1 = 4294967248u;
     w2c_i0 += w2c_i1;
@@ -30749,7 +30754,7 @@ static void w2c_f37(module *m, u64 w2c_p0, u32 w2c_p1, u64 w2c_p2, u64 w2c_p3, u
   if (w2c_i0) {goto w2c_B20;}
   w2c_j0 = w2c_l5;
   w2c_i0 = (u32)(w2c_j0);
-  w2c_i0 = i32_load(m, (u64)(w2c_i0) + 360u);
+  w2c_i0 = i32_load_of_text(m, (u64)(w2c_i0) + 360u);
   w2c_l14 = w2c_i0;
   w2c_j0 = w2c_l5;
   w2c_j1 = 320ull;
@@ -30772,7 +30777,7 @@ static void w2c_f37(module *m, u64 w2c_p0, u32 w2c_p1, u64 w2c_p2, u64 w2c_p3, u
   w2c_j0 += w2c_j1;
   w2c_j1 = w2c_l5;
   w2c_i1 = (u32)(w2c_j1);
-  w2c_i1 = i32_load(m, (u64)(w2c_i1) + 328u);
+  w2c_i1 = i32_load_of_text(m, (u64)(w2c_i1) + 328u);
   w2c_f39(m, w2c_j0, w2c_i1);
   w2c_j0 = w2c_l5;
   w2c_i0 = (u32)(w2c_j0);
@@ -30833,7 +30838,7 @@ static void w2c_f37(module *m, u64 w2c_p0, u32 w2c_p1, u64 w2c_p2, u64 w2c_p3, u
   w2c_j0 += w2c_j1;
   w2c_j1 = w2c_l5;
   w2c_i1 = (u32)(w2c_j1);
-  w2c_i1 = i32_load(m, (u64)(w2c_i1) + 360u);
+  w2c_i1 = i32_load_of_text(m, (u64)(w2c_i1) + 360u);
   w2c_f39(m, w2c_j0, w2c_i1);
   w2c_j0 = w2c_l5;
   w2c_i0 = (u32)(w2c_j0);
@@ -30894,7 +30899,7 @@ static void w2c_f37(module *m, u64 w2c_p0, u32 w2c_p1, u64 w2c_p2, u64 w2c_p3, u
     w2c_j0 += w2c_j1;
     w2c_j1 = w2c_l5;
     w2c_i1 = (u32)(w2c_j1);
-    w2c_i1 = i32_load(m, (u64)(w2c_i1) + 360u);
+    w2c_i1 = i32_load_of_text(m, (u64)(w2c_i1) + 360u);
     w2c_f39(m, w2c_j0, w2c_i1);
     w2c_j0 = w2c_l5;
     w2c_i0 = (u32)(w2c_j0);
@@ -30967,7 +30972,7 @@ static void w2c_f37(module *m, u64 w2c_p0, u32 w2c_p1, u64 w2c_p2, u64 w2c_p3, u
   w2c_l7 = w2c_j0;
   w2c_j0 = w2c_l5;
   w2c_i0 = (u32)(w2c_j0);
-  w2c_i0 = i32_load(m, (u64)(w2c_i0) + 360u);
+  w2c_i0 = i32_load_of_text(m, (u64)(w2c_i0) + 360u);
   w2c_l14 = w2c_i0;
   w2c_i1 = 24319u;
   w2c_i0 = w2c_i0 != w2c_i1;
@@ -31137,7 +31142,7 @@ static void w2c_f37(module *m, u64 w2c_p0, u32 w2c_p1, u64 w2c_p2, u64 w2c_p3, u
   if (w2c_i0) {goto w2c_B25;}
   w2c_j0 = w2c_l5;
   w2c_i0 = (u32)(w2c_j0);
-  w2c_i0 = i32_load(m, (u64)(w2c_i0) + 328u);
+  w2c_i0 = i32_load_of_text(m, (u64)(w2c_i0) + 328u);
   w2c_l14 = w2c_i0;
   w2c_j0 = w2c_l5;
   w2c_j1 = 352ull;
@@ -31772,7 +31777,7 @@ static void w2c_f40(module *m, u64 w2c_p0, u32 w2c_p1, u64 w2c_p2, u64 w2c_p3, u
     w2c_j0 += w2c_j1;
     w2c_j1 = w2c_l6;
     w2c_i1 = (u32)(w2c_j1);
-    w2c_i1 = i32_load(m, (u64)(w2c_i1) + 88u);
+    w2c_i1 = i32_load_of_text(m, (u64)(w2c_i1) + 88u);
     w2c_f39(m, w2c_j0, w2c_i1);
     w2c_j0 = w2c_l6;
     w2c_i0 = (u32)(w2c_j0);
@@ -32148,7 +32153,7 @@ static void w2c_f42(module *m, u64 w2c_p0, u64 w2c_p1, u64 w2c_p2) {
   if (w2c_i0) {goto w2c_B1;}
   w2c_j0 = w2c_l3;
   w2c_i0 = (u32)(w2c_j0);
-  w2c_i0 = i32_load(m, (u64)(w2c_i0) + 40u);
+  w2c_i0 = i32_load_of_text(m, (u64)(w2c_i0) + 40u);
   w2c_l5 = w2c_i0;
   w2c_i1 = 65294u;
   w2c_i0 = w2c_i0 == w2c_i1;
@@ -32224,7 +32229,7 @@ static void w2c_f42(module *m, u64 w2c_p0, u64 w2c_p1, u64 w2c_p2) {
     w2c_j0 += w2c_j1;
     w2c_j1 = w2c_l3;
     w2c_i1 = (u32)(w2c_j1);
-    w2c_i1 = i32_load(m, (u64)(w2c_i1) + 72u);
+    w2c_i1 = i32_load_of_text(m, (u64)(w2c_i1) + 72u);
     w2c_f39(m, w2c_j0, w2c_i1);
     w2c_j0 = w2c_l3;
     w2c_i0 = (u32)(w2c_j0);
@@ -32348,7 +32353,7 @@ static void w2c_f43(module *m, u64 w2c_p0, u32 w2c_p1, u32 w2c_p2, u64 w2c_p3, u
     w2c_i1 = w2c_p2;
     w2c_j2 = w2c_l7;
     w2c_i2 = (u32)(w2c_j2);
-    w2c_i2 = i32_load(m, (u64)(w2c_i2) + 88u);
+    w2c_i2 = i32_load_of_text(m, (u64)(w2c_i2) + 88u);
     w2c_f41(m, w2c_j0, w2c_i1, w2c_i2);
     w2c_j0 = w2c_l7;
     w2c_i0 = (u32)(w2c_j0);
@@ -32564,7 +32569,7 @@ static void w2c_f44(module *m, u64 w2c_p0, u32 w2c_p1, u64 w2c_p2, u64 w2c_p3) {
   w2c_i1 = w2c_p1;
   w2c_j2 = w2c_l4;
   w2c_i2 = (u32)(w2c_j2);
-  w2c_i2 = i32_load(m, (u64)(w2c_i2) + 40u);
+  w2c_i2 = i32_load_of_text(m, (u64)(w2c_i2) + 40u);
   w2c_f41(m, w2c_j0, w2c_i1, w2c_i2);
   w2c_j0 = w2c_l4;
   w2c_i0 = (u32)(w2c_j0);
@@ -32611,7 +32616,7 @@ static void w2c_f44(module *m, u64 w2c_p0, u32 w2c_p1, u64 w2c_p2, u64 w2c_p3) {
     w2c_i1 = w2c_p1;
     w2c_j2 = w2c_l4;
     w2c_i2 = (u32)(w2c_j2);
-    w2c_i2 = i32_load(m, (u64)(w2c_i2) + 40u);
+    w2c_i2 = i32_load_of_text(m, (u64)(w2c_i2) + 40u);
     w2c_f41(m, w2c_j0, w2c_i1, w2c_i2);
     w2c_j0 = w2c_l8;
     w2c_j1 = 18446744073709551615ull;
@@ -32683,7 +32688,7 @@ static void w2c_f44(module *m, u64 w2c_p0, u32 w2c_p1, u64 w2c_p2, u64 w2c_p3) {
     w2c_j0 += w2c_j1;
     w2c_j1 = w2c_l4;
     w2c_i1 = (u32)(w2c_j1);
-    w2c_i1 = i32_load(m, (u64)(w2c_i1) + 40u);
+    w2c_i1 = i32_load_of_text(m, (u64)(w2c_i1) + 40u);
     w2c_f39(m, w2c_j0, w2c_i1);
     w2c_j0 = w2c_l4;
     w2c_i0 = (u32)(w2c_j0);
@@ -32806,7 +32811,7 @@ static void w2c_f45(module *m, u64 w2c_p0, u32 w2c_p1, u64 w2c_p2, u64 w2c_p3, u
     w2c_j0 += w2c_j1;
     w2c_j1 = w2c_l5;
     w2c_i1 = (u32)(w2c_j1);
-    w2c_i1 = i32_load(m, (u64)(w2c_i1) + 152u);
+    w2c_i1 = i32_load_of_text(m, (u64)(w2c_i1) + 152u);
     w2c_f21(m, w2c_j0, w2c_i1);
     w2c_j0 = w2c_l5;
     w2c_i0 = (u32)(w2c_j0);
@@ -33245,7 +33250,7 @@ static void w2c_f45(module *m, u64 w2c_p0, u32 w2c_p1, u64 w2c_p2, u64 w2c_p3, u
   w2c_j1 = 18446744073709551612ull;
   w2c_j0 += w2c_j1;
   w2c_i0 = (u32)(w2c_j0);
-  w2c_i0 = i32_load(m, (u64)(w2c_i0));
+  w2c_i0 = i32_load_of_text(m, (u64)(w2c_i0));
   w2c_i1 = 8u;
   w2c_i0 >>= (w2c_i1 & 31);
   w2c_l10 = w2c_i0;
@@ -33260,7 +33265,7 @@ static void w2c_f45(module *m, u64 w2c_p0, u32 w2c_p1, u64 w2c_p2, u64 w2c_p3, u
   w2c_j1 = 67328ull;
   w2c_j0 += w2c_j1;
   w2c_i0 = (u32)(w2c_j0);
-  w2c_i0 = i32_load(m, (u64)(w2c_i0));
+  w2c_i0 = i32_load_of_text(m, (u64)(w2c_i0));
   w2c_i1 = w2c_l10;
   w2c_i0 = w2c_i0 != w2c_i1;
   if (w2c_i0) {goto w2c_B26;}
@@ -33297,7 +33302,7 @@ static void w2c_f45(module *m, u64 w2c_p0, u32 w2c_p1, u64 w2c_p2, u64 w2c_p3, u
   w2c_j1 = 67328ull;
   w2c_j0 += w2c_j1;
   w2c_i0 = (u32)(w2c_j0);
-  w2c_i0 = i32_load(m, (u64)(w2c_i0));
+  w2c_i0 = i32_load_of_text(m, (u64)(w2c_i0));
   w2c_i1 = w2c_l10;
   w2c_i0 = w2c_i0 != w2c_i1;
   if (w2c_i0) {goto w2c_B26;}
@@ -33377,7 +33382,7 @@ static void w2c_f45(module *m, u64 w2c_p0, u32 w2c_p1, u64 w2c_p2, u64 w2c_p3, u
   w2c_j1 = 18446744073709551612ull;
   w2c_j0 += w2c_j1;
   w2c_i0 = (u32)(w2c_j0);
-  w2c_i0 = i32_load(m, (u64)(w2c_i0));
+  w2c_i0 = i32_load_of_text(m, (u64)(w2c_i0));
   w2c_i1 = 8u;
   w2c_i0 >>= (w2c_i1 & 31);
   w2c_l10 = w2c_i0;
@@ -33392,7 +33397,7 @@ static void w2c_f45(module *m, u64 w2c_p0, u32 w2c_p1, u64 w2c_p2, u64 w2c_p3, u
   w2c_j1 = 67328ull;
   w2c_j0 += w2c_j1;
   w2c_i0 = (u32)(w2c_j0);
-  w2c_i0 = i32_load(m, (u64)(w2c_i0));
+  w2c_i0 = i32_load_of_text(m, (u64)(w2c_i0));
   w2c_i1 = w2c_l10;
   w2c_i0 = w2c_i0 != w2c_i1;
   if (w2c_i0) {goto w2c_B30;}
@@ -33437,7 +33442,7 @@ static void w2c_f45(module *m, u64 w2c_p0, u32 w2c_p1, u64 w2c_p2, u64 w2c_p3, u
   w2c_j1 = 67328ull;
   w2c_j0 += w2c_j1;
   w2c_i0 = (u32)(w2c_j0);
-  w2c_i0 = i32_load(m, (u64)(w2c_i0));
+  w2c_i0 = i32_load_of_text(m, (u64)(w2c_i0));
   w2c_i1 = w2c_l10;
   w2c_i0 = w2c_i0 != w2c_i1;
   if (w2c_i0) {goto w2c_B30;}
@@ -33782,7 +33787,7 @@ static void w2c_f46(module *m, u64 w2c_p0, u64 w2c_p1, u64 w2c_p2, u64 w2c_p3) {
       w2c_j0 &= w2c_j1;
       w2c_l15 = w2c_j0;
       w2c_i0 = (u32)(w2c_j0);
-      w2c_i0 = i32_load(m, (u64)(w2c_i0) + 67328u);
+      w2c_i0 = i32_load_of_text(m, (u64)(w2c_i0) + 67328u);
       w2c_i1 = w2c_l16;
       w2c_i0 = w2c_i0 != w2c_i1;
       if (w2c_i0) {goto w2c_B15;}
@@ -33893,7 +33898,7 @@ static void w2c_f46(module *m, u64 w2c_p0, u64 w2c_p1, u64 w2c_p2, u64 w2c_p3) {
     w2c_j2 = 67328ull;
     w2c_j1 += w2c_j2;
     w2c_i1 = (u32)(w2c_j1);
-    w2c_i1 = i32_load(m, (u64)(w2c_i1));
+    w2c_i1 = i32_load_of_text(m, (u64)(w2c_i1));
     w2c_i0 = w2c_i0 != w2c_i1;
     if (w2c_i0) {goto w2c_B9;}
     goto w2c_B10;
@@ -34027,7 +34032,7 @@ static void w2c_f46(module *m, u64 w2c_p0, u64 w2c_p1, u64 w2c_p2, u64 w2c_p3) {
     w2c_j1 = 67328ull;
     w2c_j0 += w2c_j1;
     w2c_i0 = (u32)(w2c_j0);
-    w2c_i0 = i32_load(m, (u64)(w2c_i0));
+    w2c_i0 = i32_load_of_text(m, (u64)(w2c_i0));
     w2c_i1 = w2c_l19;
     w2c_i0 = w2c_i0 == w2c_i1;
     if (w2c_i0) {goto w2c_B10;}
@@ -34669,7 +34674,7 @@ static void w2c_f47(module *m, u64 w2c_p0, u64 w2c_p1, u64 w2c_p2) {
   w2c_i1 = 0u;
   w2c_j2 = w2c_l3;
   w2c_i2 = (u32)(w2c_j2);
-  w2c_i2 = i32_load(m, (u64)(w2c_i2) + 67328u);
+  w2c_i2 = i32_load_of_text(m, (u64)(w2c_i2) + 67328u);
   w2c_i3 = w2c_l5;
   w2c_i2 = w2c_i2 == w2c_i3;
   w2c_l6 = w2c_i2;
@@ -34774,7 +34779,7 @@ static void w2c_f47(module *m, u64 w2c_p0, u64 w2c_p1, u64 w2c_p2) {
   w2c_i1 = 0u;
   w2c_j2 = w2c_l3;
   w2c_i2 = (u32)(w2c_j2);
-  w2c_i2 = i32_load(m, (u64)(w2c_i2) + 67328u);
+  w2c_i2 = i32_load_of_text(m, (u64)(w2c_i2) + 67328u);
   w2c_i3 = w2c_l5;
   w2c_i2 = w2c_i2 == w2c_i3;
   w2c_l6 = w2c_i2;
@@ -34917,7 +34922,7 @@ static void w2c_f48(module *m, u64 w2c_p0, u32 w2c_p1, u64 w2c_p2, u32 w2c_p3, u
     w2c_j1 = 18446744073709551612ull;
     w2c_j0 += w2c_j1;
     w2c_i0 = (u32)(w2c_j0);
-    w2c_i0 = i32_load(m, (u64)(w2c_i0));
+    w2c_i0 = i32_load_of_text(m, (u64)(w2c_i0));
     w2c_i1 = 8u;
     w2c_i0 >>= (w2c_i1 & 31);
     w2c_p1 = w2c_i0;
@@ -34932,7 +34937,7 @@ static void w2c_f48(module *m, u64 w2c_p0, u32 w2c_p1, u64 w2c_p2, u32 w2c_p3, u
     w2c_j1 = 67328ull;
     w2c_j0 += w2c_j1;
     w2c_i0 = (u32)(w2c_j0);
-    w2c_i0 = i32_load(m, (u64)(w2c_i0));
+    w2c_i0 = i32_load_of_text(m, (u64)(w2c_i0));
     w2c_i1 = w2c_p1;
     w2c_i0 = w2c_i0 != w2c_i1;
     if (w2c_i0) {goto w2c_B8;}
@@ -34967,7 +34972,7 @@ static void w2c_f48(module *m, u64 w2c_p0, u32 w2c_p1, u64 w2c_p2, u32 w2c_p3, u
     w2c_j1 = 67328ull;
     w2c_j0 += w2c_j1;
     w2c_i0 = (u32)(w2c_j0);
-    w2c_i0 = i32_load(m, (u64)(w2c_i0));
+    w2c_i0 = i32_load_of_text(m, (u64)(w2c_i0));
     w2c_i1 = w2c_p1;
     w2c_i0 = w2c_i0 != w2c_i1;
     if (w2c_i0) {goto w2c_B8;}
@@ -35545,7 +35550,7 @@ static void w2c_f48(module *m, u64 w2c_p0, u32 w2c_p1, u64 w2c_p2, u32 w2c_p3, u
     w2c_j0 &= w2c_j1;
     w2c_l11 = w2c_j0;
     w2c_i0 = (u32)(w2c_j0);
-    w2c_i0 = i32_load(m, (u64)(w2c_i0) + 67328u);
+    w2c_i0 = i32_load_of_text(m, (u64)(w2c_i0) + 67328u);
     w2c_i1 = w2c_p1;
     w2c_i0 = w2c_i0 != w2c_i1;
     if (w2c_i0) {goto w2c_B28;}
@@ -37604,7 +37609,7 @@ static void w2c_f51(module *m, u64 w2c_p0, u32 w2c_p1, u64 w2c_p2, u64 w2c_p3, u
     w2c_j1 = 18446744073709551612ull;
     w2c_j0 += w2c_j1;
     w2c_i0 = (u32)(w2c_j0);
-    w2c_i0 = i32_load(m, (u64)(w2c_i0));
+    w2c_i0 = i32_load_of_text(m, (u64)(w2c_i0));
     w2c_i1 = 8u;
     w2c_i0 >>= (w2c_i1 & 31);
     w2c_l18 = w2c_i0;
@@ -37617,7 +37622,7 @@ static void w2c_f51(module *m, u64 w2c_p0, u32 w2c_p1, u64 w2c_p2, u64 w2c_p3, u
     w2c_j0 &= w2c_j1;
     w2c_l15 = w2c_j0;
     w2c_i0 = (u32)(w2c_j0);
-    w2c_i0 = i32_load(m, (u64)(w2c_i0) + 67328u);
+    w2c_i0 = i32_load_of_text(m, (u64)(w2c_i0) + 67328u);
     w2c_i1 = w2c_l18;
     w2c_i0 = w2c_i0 != w2c_i1;
     if (w2c_i0) {goto w2c_B1;}
@@ -37682,7 +37687,7 @@ static void w2c_f51(module *m, u64 w2c_p0, u32 w2c_p1, u64 w2c_p2, u64 w2c_p3, u
     w2c_j1 = 18446744073709551612ull;
     w2c_j0 += w2c_j1;
     w2c_i0 = (u32)(w2c_j0);
-    w2c_i0 = i32_load(m, (u64)(w2c_i0));
+    w2c_i0 = i32_load_of_text(m, (u64)(w2c_i0));
     w2c_i1 = 8u;
     w2c_i0 >>= (w2c_i1 & 31);
     w2c_l20 = w2c_i0;
@@ -37697,7 +37702,7 @@ static void w2c_f51(module *m, u64 w2c_p0, u32 w2c_p1, u64 w2c_p2, u64 w2c_p3, u
     w2c_j1 = 67328ull;
     w2c_j0 += w2c_j1;
     w2c_i0 = (u32)(w2c_j0);
-    w2c_i0 = i32_load(m, (u64)(w2c_i0));
+    w2c_i0 = i32_load_of_text(m, (u64)(w2c_i0));
     w2c_i1 = w2c_l20;
     w2c_i0 = w2c_i0 != w2c_i1;
     if (w2c_i0) {goto w2c_B1;}
@@ -37764,7 +37769,7 @@ static void w2c_f51(module *m, u64 w2c_p0, u32 w2c_p1, u64 w2c_p2, u64 w2c_p3, u
       w2c_j1 = 18446744073709551612ull;
       w2c_j0 += w2c_j1;
       w2c_i0 = (u32)(w2c_j0);
-      w2c_i0 = i32_load(m, (u64)(w2c_i0));
+      w2c_i0 = i32_load_of_text(m, (u64)(w2c_i0));
       w2c_i1 = 8u;
       w2c_i0 >>= (w2c_i1 & 31);
       w2c_l18 = w2c_i0;
@@ -37777,7 +37782,7 @@ static void w2c_f51(module *m, u64 w2c_p0, u32 w2c_p1, u64 w2c_p2, u64 w2c_p3, u
       w2c_j0 &= w2c_j1;
       w2c_l16 = w2c_j0;
       w2c_i0 = (u32)(w2c_j0);
-      w2c_i0 = i32_load(m, (u64)(w2c_i0) + 67328u);
+      w2c_i0 = i32_load_of_text(m, (u64)(w2c_i0) + 67328u);
       w2c_i1 = w2c_l18;
       w2c_i0 = w2c_i0 != w2c_i1;
       if (w2c_i0) {goto w2c_B1;}
@@ -37842,7 +37847,7 @@ static void w2c_f51(module *m, u64 w2c_p0, u32 w2c_p1, u64 w2c_p2, u64 w2c_p3, u
       w2c_j1 = 18446744073709551612ull;
       w2c_j0 += w2c_j1;
       w2c_i0 = (u32)(w2c_j0);
-      w2c_i0 = i32_load(m, (u64)(w2c_i0));
+      w2c_i0 = i32_load_of_text(m, (u64)(w2c_i0));
       w2c_i1 = 8u;
       w2c_i0 >>= (w2c_i1 & 31);
       w2c_l20 = w2c_i0;
@@ -37857,7 +37862,7 @@ static void w2c_f51(module *m, u64 w2c_p0, u32 w2c_p1, u64 w2c_p2, u64 w2c_p3, u
       w2c_j1 = 67328ull;
       w2c_j0 += w2c_j1;
       w2c_i0 = (u32)(w2c_j0);
-      w2c_i0 = i32_load(m, (u64)(w2c_i0));
+      w2c_i0 = i32_load_of_text(m, (u64)(w2c_i0));
       w2c_i1 = w2c_l20;
       w2c_i0 = w2c_i0 != w2c_i1;
       if (w2c_i0) {goto w2c_B1;}
@@ -38282,7 +38287,7 @@ static void w2c_f51(module *m, u64 w2c_p0, u32 w2c_p1, u64 w2c_p2, u64 w2c_p3, u
   w2c_j1 = 18446744073709551612ull;
   w2c_j0 += w2c_j1;
   w2c_i0 = (u32)(w2c_j0);
-  w2c_i0 = i32_load(m, (u64)(w2c_i0));
+  w2c_i0 = i32_load_of_text(m, (u64)(w2c_i0));
   w2c_i1 = 8u;
   w2c_i0 >>= (w2c_i1 & 31);
   w2c_l18 = w2c_i0;
@@ -38295,7 +38300,7 @@ static void w2c_f51(module *m, u64 w2c_p0, u32 w2c_p1, u64 w2c_p2, u64 w2c_p3, u
   w2c_j0 &= w2c_j1;
   w2c_l5 = w2c_j0;
   w2c_i0 = (u32)(w2c_j0);
-  w2c_i0 = i32_load(m, (u64)(w2c_i0) + 67328u);
+  w2c_i0 = i32_load_of_text(m, (u64)(w2c_i0) + 67328u);
   w2c_i1 = w2c_l18;
   w2c_i0 = w2c_i0 != w2c_i1;
   if (w2c_i0) {goto w2c_B1;}
@@ -38351,7 +38356,7 @@ static void w2c_f51(module *m, u64 w2c_p0, u32 w2c_p1, u64 w2c_p2, u64 w2c_p3, u
   w2c_j1 = 18446744073709551612ull;
   w2c_j0 += w2c_j1;
   w2c_i0 = (u32)(w2c_j0);
-  w2c_i0 = i32_load(m, (u64)(w2c_i0));
+  w2c_i0 = i32_load_of_text(m, (u64)(w2c_i0));
   w2c_i1 = 8u;
   w2c_i0 >>= (w2c_i1 & 31);
   w2c_l20 = w2c_i0;
@@ -38366,7 +38371,7 @@ static void w2c_f51(module *m, u64 w2c_p0, u32 w2c_p1, u64 w2c_p2, u64 w2c_p3, u
   w2c_j1 = 67328ull;
   w2c_j0 += w2c_j1;
   w2c_i0 = (u32)(w2c_j0);
-  w2c_i0 = i32_load(m, (u64)(w2c_i0));
+  w2c_i0 = i32_load_of_text(m, (u64)(w2c_i0));
   w2c_i1 = w2c_l20;
   w2c_i0 = w2c_i0 != w2c_i1;
   if (w2c_i0) {goto w2c_B1;}
@@ -38426,7 +38431,7 @@ static void w2c_f51(module *m, u64 w2c_p0, u32 w2c_p1, u64 w2c_p2, u64 w2c_p3, u
     w2c_j1 = 18446744073709551612ull;
     w2c_j0 += w2c_j1;
     w2c_i0 = (u32)(w2c_j0);
-    w2c_i0 = i32_load(m, (u64)(w2c_i0));
+    w2c_i0 = i32_load_of_text(m, (u64)(w2c_i0));
     w2c_i1 = 8u;
     w2c_i0 >>= (w2c_i1 & 31);
     w2c_l18 = w2c_i0;
@@ -38439,7 +38444,7 @@ static void w2c_f51(module *m, u64 w2c_p0, u32 w2c_p1, u64 w2c_p2, u64 w2c_p3, u
     w2c_j0 &= w2c_j1;
     w2c_l5 = w2c_j0;
     w2c_i0 = (u32)(w2c_j0);
-    w2c_i0 = i32_load(m, (u64)(w2c_i0) + 67328u);
+    w2c_i0 = i32_load_of_text(m, (u64)(w2c_i0) + 67328u);
     w2c_i1 = w2c_l18;
     w2c_i0 = w2c_i0 != w2c_i1;
     if (w2c_i0) {goto w2c_B1;}
@@ -38503,7 +38508,7 @@ static void w2c_f51(module *m, u64 w2c_p0, u32 w2c_p1, u64 w2c_p2, u64 w2c_p3, u
     w2c_j1 = 18446744073709551612ull;
     w2c_j0 += w2c_j1;
     w2c_i0 = (u32)(w2c_j0);
-    w2c_i0 = i32_load(m, (u64)(w2c_i0));
+    w2c_i0 = i32_load_of_text(m, (u64)(w2c_i0));
     w2c_i1 = 8u;
     w2c_i0 >>= (w2c_i1 & 31);
     w2c_l20 = w2c_i0;
@@ -38518,7 +38523,7 @@ static void w2c_f51(module *m, u64 w2c_p0, u32 w2c_p1, u64 w2c_p2, u64 w2c_p3, u
     w2c_j1 = 67328ull;
     w2c_j0 += w2c_j1;
     w2c_i0 = (u32)(w2c_j0);
-    w2c_i0 = i32_load(m, (u64)(w2c_i0));
+    w2c_i0 = i32_load_of_text(m, (u64)(w2c_i0));
     w2c_i1 = w2c_l20;
     w2c_i0 = w2c_i0 != w2c_i1;
     if (w2c_i0) {goto w2c_B1;}
@@ -38601,7 +38606,7 @@ static void w2c_f51(module *m, u64 w2c_p0, u32 w2c_p1, u64 w2c_p2, u64 w2c_p3, u
   w2c_j0 &= w2c_j1;
   w2c_l5 = w2c_j0;
   w2c_i0 = (u32)(w2c_j0);
-  w2c_i0 = i32_load(m, (u64)(w2c_i0) + 67328u);
+  w2c_i0 = i32_load_of_text(m, (u64)(w2c_i0) + 67328u);
   w2c_i1 = w2c_l20;
   w2c_i0 = w2c_i0 != w2c_i1;
   if (w2c_i0) {goto w2c_B1;}
@@ -39213,7 +39218,7 @@ static void w2c_f51(module *m, u64 w2c_p0, u32 w2c_p1, u64 w2c_p2, u64 w2c_p3, u
   w2c_j1 = 18446744073709551612ull;
   w2c_j0 += w2c_j1;
   w2c_i0 = (u32)(w2c_j0);
-  w2c_i0 = i32_load(m, (u64)(w2c_i0));
+  w2c_i0 = i32_load_of_text(m, (u64)(w2c_i0));
   w2c_i1 = 8u;
   w2c_i0 >>= (w2c_i1 & 31);
   w2c_l20 = w2c_i0;
@@ -39228,7 +39233,7 @@ static void w2c_f51(module *m, u64 w2c_p0, u32 w2c_p1, u64 w2c_p2, u64 w2c_p3, u
   w2c_j1 = 67328ull;
   w2c_j0 += w2c_j1;
   w2c_i0 = (u32)(w2c_j0);
-  w2c_i0 = i32_load(m, (u64)(w2c_i0));
+  w2c_i0 = i32_load_of_text(m, (u64)(w2c_i0));
   w2c_i1 = w2c_l20;
   w2c_i0 = w2c_i0 != w2c_i1;
   if (w2c_i0) {goto w2c_B72;}
@@ -39265,7 +39270,7 @@ static void w2c_f51(module *m, u64 w2c_p0, u32 w2c_p1, u64 w2c_p2, u64 w2c_p3, u
   w2c_j1 = 67328ull;
   w2c_j0 += w2c_j1;
   w2c_i0 = (u32)(w2c_j0);
-  w2c_i0 = i32_load(m, (u64)(w2c_i0));
+  w2c_i0 = i32_load_of_text(m, (u64)(w2c_i0));
   w2c_i1 = w2c_l20;
   w2c_i0 = w2c_i0 != w2c_i1;
   if (w2c_i0) {goto w2c_B72;}
@@ -39345,7 +39350,7 @@ static void w2c_f51(module *m, u64 w2c_p0, u32 w2c_p1, u64 w2c_p2, u64 w2c_p3, u
   w2c_j1 = 18446744073709551612ull;
   w2c_j0 += w2c_j1;
   w2c_i0 = (u32)(w2c_j0);
-  w2c_i0 = i32_load(m, (u64)(w2c_i0));
+  w2c_i0 = i32_load_of_text(m, (u64)(w2c_i0));
   w2c_i1 = 8u;
   w2c_i0 >>= (w2c_i1 & 31);
   w2c_l20 = w2c_i0;
@@ -39360,7 +39365,7 @@ static void w2c_f51(module *m, u64 w2c_p0, u32 w2c_p1, u64 w2c_p2, u64 w2c_p3, u
   w2c_j1 = 67328ull;
   w2c_j0 += w2c_j1;
   w2c_i0 = (u32)(w2c_j0);
-  w2c_i0 = i32_load(m, (u64)(w2c_i0));
+  w2c_i0 = i32_load_of_text(m, (u64)(w2c_i0));
   w2c_i1 = w2c_l20;
   w2c_i0 = w2c_i0 != w2c_i1;
   if (w2c_i0) {goto w2c_B76;}
@@ -39405,7 +39410,7 @@ static void w2c_f51(module *m, u64 w2c_p0, u32 w2c_p1, u64 w2c_p2, u64 w2c_p3, u
   w2c_j1 = 67328ull;
   w2c_j0 += w2c_j1;
   w2c_i0 = (u32)(w2c_j0);
-  w2c_i0 = i32_load(m, (u64)(w2c_i0));
+  w2c_i0 = i32_load_of_text(m, (u64)(w2c_i0));
   w2c_i1 = w2c_l20;
   w2c_i0 = w2c_i0 != w2c_i1;
   if (w2c_i0) {goto w2c_B76;}
@@ -40577,7 +40582,7 @@ static u32 w2c_f55(module *m, u64 w2c_p0, u64 w2c_p1, u32 w2c_p2, u32 w2c_p3, u6
     if (w2c_i0) {goto w2c_B4;}
     w2c_j0 = w2c_l6;
     w2c_i0 = (u32)(w2c_j0);
-    w2c_i0 = i32_load(m, (u64)(w2c_i0));
+    w2c_i0 = i32_load_of_text(m, (u64)(w2c_i0));
     w2c_l12 = w2c_i0;
     goto w2c_B3;
     w2c_B4:;
@@ -41968,7 +41973,7 @@ static u32 w2c_f65(module *m, u64 w2c_p0, u64 w2c_p1, u64 w2c_p2) {
   w2c_L7:
     w2c_j0 = w2c_p0;
     w2c_i0 = (u32)(w2c_j0);
-    w2c_i0 = i32_load(m, (u64)(w2c_i0));
+    w2c_i0 = i32_load_of_text(m, (u64)(w2c_i0));
     w2c_i1 = 16776990u;
     w2c_i0 += w2c_i1;
     w2c_i1 = 12632312u;
@@ -42151,7 +42156,7 @@ static u32 w2c_f65(module *m, u64 w2c_p0, u64 w2c_p1, u64 w2c_p2) {
     w2c_j0 &= w2c_j1;
     w2c_p0 = w2c_j0;
     w2c_i0 = (u32)(w2c_j0);
-    w2c_i0 = i32_load(m, (u64)(w2c_i0) + 66428u);
+    w2c_i0 = i32_load_of_text(m, (u64)(w2c_i0) + 66428u);
     w2c_i1 = w2c_l14;
     w2c_i0 = w2c_i0 == w2c_i1;
     if (w2c_i0) {goto w2c_B15;}
@@ -43987,7 +43992,7 @@ static u32 w2c_f67(module *m, u64 w2c_p0, u64 w2c_p1, u64 w2c_p2) {
   w2c_L5:
     w2c_j0 = w2c_p0;
     w2c_i0 = (u32)(w2c_j0);
-    w2c_i0 = i32_load(m, (u64)(w2c_i0));
+    w2c_i0 = i32_load_of_text(m, (u64)(w2c_i0));
     w2c_i1 = 16776990u;
     w2c_i0 += w2c_i1;
     w2c_i1 = 12632312u;
@@ -44280,7 +44285,7 @@ static u32 w2c_f67(module *m, u64 w2c_p0, u64 w2c_p1, u64 w2c_p2) {
     w2c_i0 = (u32)(w2c_j0);
     w2c_j1 = w2c_l3;
     w2c_i1 = (u32)(w2c_j1);
-    w2c_i1 = i32_load(m, (u64)(w2c_i1) + 40u);
+    w2c_i1 = i32_load_of_text(m, (u64)(w2c_i1) + 40u);
     i32_store(m, (u64)(w2c_i0) + 32, w2c_i1);
     w2c_i0 = w2c_l16;
     w2c_l12 = w2c_i0;
@@ -44367,7 +44372,7 @@ static u32 w2c_f67(module *m, u64 w2c_p0, u64 w2c_p1, u64 w2c_p2) {
     w2c_j0 &= w2c_j1;
     w2c_l10 = w2c_j0;
     w2c_i0 = (u32)(w2c_j0);
-    w2c_i0 = i32_load(m, (u64)(w2c_i0) + 66428u);
+    w2c_i0 = i32_load_of_text(m, (u64)(w2c_i0) + 66428u);
     w2c_i1 = w2c_l12;
     w2c_i0 = w2c_i0 != w2c_i1;
     if (w2c_i0) {goto w2c_B38;}
@@ -45895,7 +45900,7 @@ static u32 w2c_f67(module *m, u64 w2c_p0, u64 w2c_p1, u64 w2c_p2) {
     w2c_i0 = (u32)(w2c_j0);
     w2c_j1 = w2c_l3;
     w2c_i1 = (u32)(w2c_j1);
-    w2c_i1 = i32_load(m, (u64)(w2c_i1) + 32u);
+    w2c_i1 = i32_load_of_text(m, (u64)(w2c_i1) + 32u);
     i32_store(m, (u64)(w2c_i0) + 40, w2c_i1);
     w2c_j0 = w2c_l6;
     w2c_j1 = 1ull;
@@ -46041,7 +46046,7 @@ static u32 w2c_f69(module *m, u64 w2c_p0, u64 w2c_p1, u64 w2c_p2) {
   w2c_L6:
     w2c_j0 = w2c_p0;
     w2c_i0 = (u32)(w2c_j0);
-    w2c_i0 = i32_load(m, (u64)(w2c_i0));
+    w2c_i0 = i32_load_of_text(m, (u64)(w2c_i0));
     w2c_i1 = 16776990u;
     w2c_i0 += w2c_i1;
     w2c_i1 = 12632312u;
@@ -46216,7 +46221,7 @@ static u32 w2c_f69(module *m, u64 w2c_p0, u64 w2c_p1, u64 w2c_p2) {
     w2c_j0 &= w2c_j1;
     w2c_p0 = w2c_j0;
     w2c_i0 = (u32)(w2c_j0);
-    w2c_i0 = i32_load(m, (u64)(w2c_i0) + 67072u);
+    w2c_i0 = i32_load_of_text(m, (u64)(w2c_i0) + 67072u);
     w2c_l15 = w2c_i0;
     w2c_i1 = w2c_l9;
     w2c_i0 = w2c_i0 != w2c_i1;
@@ -47270,7 +47275,7 @@ static u32 w2c_f73(module *m, u64 w2c_p0, u64 w2c_p1, u64 w2c_p2) {
   w2c_L7:
     w2c_j0 = w2c_p0;
     w2c_i0 = (u32)(w2c_j0);
-    w2c_i0 = i32_load(m, (u64)(w2c_i0));
+    w2c_i0 = i32_load_of_text(m, (u64)(w2c_i0));
     w2c_i1 = 16776990u;
     w2c_i0 += w2c_i1;
     w2c_i1 = 12632312u;
@@ -47794,7 +47799,7 @@ static u32 w2c_f75(module *m, u64 w2c_p0, u64 w2c_p1, u64 w2c_p2) {
   w2c_L5:
     w2c_j0 = w2c_p0;
     w2c_i0 = (u32)(w2c_j0);
-    w2c_i0 = i32_load(m, (u64)(w2c_i0));
+    w2c_i0 = i32_load_of_text(m, (u64)(w2c_i0));
     w2c_i1 = 16776990u;
     w2c_i0 += w2c_i1;
     w2c_i1 = 12632312u;
@@ -48009,7 +48014,7 @@ static u32 w2c_f75(module *m, u64 w2c_p0, u64 w2c_p1, u64 w2c_p2) {
     w2c_j0 &= w2c_j1;
     w2c_l12 = w2c_j0;
     w2c_i0 = (u32)(w2c_j0);
-    w2c_i0 = i32_load(m, (u64)(w2c_i0) + 66428u);
+    w2c_i0 = i32_load_of_text(m, (u64)(w2c_i0) + 66428u);
     w2c_i1 = w2c_l14;
     w2c_i0 = w2c_i0 != w2c_i1;
     if (w2c_i0) {goto w2c_B21;}
@@ -50047,7 +50052,7 @@ static u32 w2c_f83(module *m, u64 w2c_p0, u64 w2c_p1, u64 w2c_p2, u32 w2c_p3, u3
   w2c_L6:
     w2c_j0 = w2c_p0;
     w2c_i0 = (u32)(w2c_j0);
-    w2c_i0 = i32_load(m, (u64)(w2c_i0));
+    w2c_i0 = i32_load_of_text(m, (u64)(w2c_i0));
     w2c_i1 = 16776990u;
     w2c_i0 += w2c_i1;
     w2c_i1 = 12632312u;
@@ -51525,7 +51530,7 @@ static u32 w2c_f87(module *m, u64 w2c_p0, u64 w2c_p1, u32 w2c_p2, u32 w2c_p3, u3
   w2c_L6:
     w2c_j0 = w2c_l10;
     w2c_i0 = (u32)(w2c_j0);
-    w2c_i0 = i32_load(m, (u64)(w2c_i0));
+    w2c_i0 = i32_load_of_text(m, (u64)(w2c_i0));
     w2c_i1 = 16776990u;
     w2c_i0 += w2c_i1;
     w2c_i1 = 12632312u;
@@ -51908,7 +51913,7 @@ static u32 w2c_f87(module *m, u64 w2c_p0, u64 w2c_p1, u32 w2c_p2, u32 w2c_p3, u3
     w2c_j0 &= w2c_j1;
     w2c_l10 = w2c_j0;
     w2c_i0 = (u32)(w2c_j0);
-    w2c_i0 = i32_load(m, (u64)(w2c_i0) + 67328u);
+    w2c_i0 = i32_load_of_text(m, (u64)(w2c_i0) + 67328u);
     w2c_i1 = w2c_p2;
     w2c_i0 = w2c_i0 != w2c_i1;
     if (w2c_i0) {goto w2c_B20;}
@@ -52039,7 +52044,7 @@ static u32 w2c_f87(module *m, u64 w2c_p0, u64 w2c_p1, u32 w2c_p2, u32 w2c_p3, u3
     w2c_j1 = 67328ull;
     w2c_j0 += w2c_j1;
     w2c_i0 = (u32)(w2c_j0);
-    w2c_i0 = i32_load(m, (u64)(w2c_i0));
+    w2c_i0 = i32_load_of_text(m, (u64)(w2c_i0));
     w2c_i1 = w2c_p2;
     w2c_i0 = w2c_i0 == w2c_i1;
     if (w2c_i0) {goto w2c_B29;}
@@ -52201,7 +52206,7 @@ static u32 w2c_f87(module *m, u64 w2c_p0, u64 w2c_p1, u32 w2c_p2, u32 w2c_p3, u3
     w2c_j1 = 67328ull;
     w2c_j0 += w2c_j1;
     w2c_i0 = (u32)(w2c_j0);
-    w2c_i0 = i32_load(m, (u64)(w2c_i0));
+    w2c_i0 = i32_load_of_text(m, (u64)(w2c_i0));
     w2c_i1 = w2c_p2;
     w2c_i0 = w2c_i0 != w2c_i1;
     if (w2c_i0) {goto w2c_B26;}
@@ -52417,7 +52422,7 @@ static u32 w2c_f87(module *m, u64 w2c_p0, u64 w2c_p1, u32 w2c_p2, u32 w2c_p3, u3
     w2c_j2 = 67328ull;
     w2c_j1 += w2c_j2;
     w2c_i1 = (u32)(w2c_j1);
-    w2c_i1 = i32_load(m, (u64)(w2c_i1));
+    w2c_i1 = i32_load_of_text(m, (u64)(w2c_i1));
     w2c_i0 = w2c_i0 != w2c_i1;
     if (w2c_i0) {goto w2c_B46;}
     goto w2c_B47;
@@ -52535,7 +52540,7 @@ static u32 w2c_f87(module *m, u64 w2c_p0, u64 w2c_p1, u32 w2c_p2, u32 w2c_p3, u3
     w2c_j1 = 67328ull;
     w2c_j0 += w2c_j1;
     w2c_i0 = (u32)(w2c_j0);
-    w2c_i0 = i32_load(m, (u64)(w2c_i0));
+    w2c_i0 = i32_load_of_text(m, (u64)(w2c_i0));
     w2c_i1 = w2c_p3;
     w2c_i0 = w2c_i0 == w2c_i1;
     if (w2c_i0) {goto w2c_B47;}
@@ -55340,7 +55345,7 @@ static u32 w2c_f91(module *m, u64 w2c_p0, u64 w2c_p1, u32 w2c_p2, u64 w2c_p3) {
   w2c_L6:
     w2c_j0 = w2c_p0;
     w2c_i0 = (u32)(w2c_j0);
-    w2c_i0 = i32_load(m, (u64)(w2c_i0));
+    w2c_i0 = i32_load_of_text(m, (u64)(w2c_i0));
     w2c_i1 = 16776990u;
     w2c_i0 += w2c_i1;
     w2c_i1 = 12632312u;
@@ -55892,7 +55897,7 @@ static u32 w2c_f95(module *m, u64 w2c_p0, u64 w2c_p1, u32 w2c_p2, u32 w2c_p3, u6
   w2c_L6:
     w2c_j0 = w2c_p0;
     w2c_i0 = (u32)(w2c_j0);
-    w2c_i0 = i32_load(m, (u64)(w2c_i0));
+    w2c_i0 = i32_load_of_text(m, (u64)(w2c_i0));
     w2c_i1 = 16776990u;
     w2c_i0 += w2c_i1;
     w2c_i1 = 12632312u;
@@ -56051,15 +56056,17 @@ static u32 w2c_f95(module *m, u64 w2c_p0, u64 w2c_p1, u32 w2c_p2, u32 w2c_p3, u6
 
 /* The module before a call, with a text, no room, and nothing told. Whether the text has a place
  * among the module's addresses. */
-static int begin(module *m, const uint8_t *text, size_t text_length) {
+static INLINE int begin(module *m, const uint8_t *text, size_t text_length) {
+    int has_place = text_length <= MOST_OF_TEXT;
     m->w2c_g0 = FIRST_LENT;
     m->w2c_g1 = 0;
     m->text = text;
-    m->text_length = text_length;
+    m->text_length = has_place ? (u32)text_length : 0;
+    m->words = m->text_length > 3 ? m->text_length - 3 : 0;
     m->room = NULL;
     m->room_length = 0;
     memory_fill(m, TOLD, 0, SPANS - TOLD);
-    return text_length <= MOST_OF_TEXT;
+    return has_place;
 }
 
 /* Where the character at fault stands. */
@@ -56254,7 +56261,8 @@ uint32_t chinese_quantity_print(const cn_quantity *quantity, uint32_t method, ui
     uint32_t status;
     begin_with_quantity(&m, quantity);
     status = w2c_chinese_quantity_print(&m, TOLD, method, script, letter_case, ROOM,
-                                        lend(&m, room, room_length, CN_MOST_QUANTITY_BYTES), LENGTH);
+                                        lend(&m, room, room_length, CN_MOST_QUANTITY_BYTES),
+                                        LENGTH);
     return tell_length(&m, status, length);
 }
 
@@ -56264,7 +56272,8 @@ uint32_t chinese_quantity_figures(const cn_quantity *quantity, uint8_t *room, si
     uint32_t status;
     begin_with_quantity(&m, quantity);
     status = w2c_chinese_quantity_figures(&m, TOLD, ROOM,
-                                          lend(&m, room, room_length, CN_MOST_FIGURES_BYTES), LENGTH);
+                                          lend(&m, room, room_length, CN_MOST_FIGURES_BYTES),
+                                          LENGTH);
     return tell_length(&m, status, length);
 }
 
@@ -56316,7 +56325,8 @@ uint32_t chinese_signed_amount_print(int64_t fen, uint32_t script, uint32_t form
     uint32_t status;
     begin(&m, constants, 0);
     status = w2c_chinese_signed_amount_print(&m, (u64)fen, script, form, ROOM,
-                                             lend(&m, room, room_length, CN_MOST_SIGNED_AMOUNT_BYTES),
+                                             lend(&m, room, room_length,
+                                                  CN_MOST_SIGNED_AMOUNT_BYTES),
                                              LENGTH);
     return tell_length(&m, status, length);
 }
