@@ -1,11 +1,11 @@
 #!/usr/bin/env bash
-# check.sh [--quick | -k WORD]: runs the gate, `rt ci`, and what stands beside it; stops at the
-# first failure, and says how long each part took. The first line names the commit, the last counts
-# what `rt ci` passed and the wrong bodies that were refused. By the two a release's packages quote
-# the gate (bindings/packages.sh). What a missing tool is needed for is left out, and named at the
-# end; nothing is installed. With --quick, for daily work, all is done but the wrong bodies, which
-# take half of the time: the gate and what follows run in a copy without them. With -k the scripts
-# and tests run that have WORD in their names, over what an earlier run has built.
+# check.sh [--quick | -k WORD]: runs the gate, `rt ci`, and the checks beside it; stops at the first
+# failure, and says how long each part took. The first line names the commit, the last counts what
+# `rt ci` passed and the wrong bodies that were refused. By the two a release's packages quote the
+# gate (bindings/packages.sh). What a missing tool is needed for is left out, and named at the end;
+# nothing is installed. With --quick, for daily work, all is done but the wrong bodies and the
+# mutants: the gate and what follows run in a copy without them. With -k the scripts and tests run
+# that have WORD in their names, over what an earlier run has built.
 set -euo pipefail
 cd "$(dirname "$0")"
 part=
@@ -131,9 +131,10 @@ time bash bindings/archive.sh "$scratch/library"
 time python3 bindings/dist.py again "$scratch/library"
 run_tests "${at_once[@]}" --library "$scratch/library" -m built
 
-# The wrong bodies, over the libraries that the gate has left.
+# The wrong bodies, and the mutants of what changed, over the libraries that the gate has left.
 passed=$(sed -n '$s/ passed, 0 failed$//p' "$scratch/gate")
 if [ $# -eq 0 ]; then
+    time python3 checks/mutants.py --built --gate --minutes 10
     time python3 checks/wrong_bodies.py --built | tee "$scratch/wrong_bodies"
     refused=$(grep -oP '^wrong bodies: \K\d+(?= refused)' "$scratch/wrong_bodies")
     passed=$((passed + refused))

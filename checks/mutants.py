@@ -1,52 +1,64 @@
 #!/usr/bin/env python3
-"""Turns every value of a crate's functions, and tells what is proved all the same.
+"""Shows what contracts let through: of each function, which mutants of its body are proved.
 
-Usage: mutants.py [--built] [--at-once N] [--count] [--draw N] CRATE ..
+Usage: mutants.py [--built] [--at-once N] [--minutes N] [--gate | --release | --compare] [CRATE ..]
 
-mutate.py says what a mutant is. They are planted in a copy of the crate, in rounds, and one check
-judges a round, over what `rt check` left in the crate's folder; before the first, `rt lib` makes the
-libraries below, but with --built they are those that there are. Those of a function stand beside it in
-copies under other names, with one as it is, which has to be proved; where that cannot be, as in
-methods of traits, a round has at most one in each function, as it has of constants. What came of each
-is added to crates/NAME/out/mutants.tsv. There it holds while the text of its function and its
-contract stay, so a run goes on where one before it was stopped; to try all anew, remove the file.
+mutate.py says what a mutant is. A verdict is a line of `crates/NAME/verdicts`: the digest of a
+function, as digests.py makes it, a letter for each of its mutants in order, and its path.
 
-What is proved has to stand in crates/NAME/surviving-mutants by name, and a line below it says why
-nothing refuses it; what stands there has to be proved. What is refused counts for little by itself,
-since a proof may not follow another right body either: where it only names what is gone, that is
-counted apart. What does not compile is left out. --count tries nothing, and counts the mutants.
---draw draws N of those that are refused, to be shown by hand to answer otherwise.
+    r   refused by a goal of the function, or by a lemma
+    f   refused for its form alone: a proof names what is gone
+    l   not decided: the search stopped at a limit, or the check did not end
+    s   proved, since it answers the same; a comment above the function lists it and says why:
+        // Same answer (2 → 3, len → 0): the reason.
+    -   it does not compile
+    .   waiting: not tried yet
+
+A verdict holds while its digest stays, so a changed function, contract or definition makes exactly
+its functions run again, these first, and what waits in other functions after them. Without CRATE all
+crates are tried, without --minutes all that waits; a run that is stopped keeps what it has judged.
+Mutants are planted in a copy of a crate, in rounds, and one check judges a round: the functions that it
+can make wrong and those that these call, over what `rt check` left in the crate's folder. Before the first, `rt lib` makes the libraries below, but with --built they
+are those that there are.
+
+It fails where a mutant of a changed function is proved and no comment lists it, where a comment lists
+what is refused or is no mutant, and where all mutants of a public function are tried and none is
+refused by a goal, unless an edit of `wrong-bodies` or `must-fail/` is. What is proved in a function
+that has only waited is reported, and stays waiting until a comment lists it. --gate changes no file.
+--release fails while anything waits. --compare tries nothing.
 """
 import argparse
-import hashlib
 import os
-import random
 import re
 import shutil
 import signal
 import subprocess
 import sys
-from collections import Counter, namedtuple
+from collections import Counter, defaultdict, namedtuple
 from concurrent.futures import ThreadPoolExecutor
 from threading import Lock
 
+import digests
+import edit_files
 import mutate
 import planting
+import survivors
 from planting import AT_LIMIT, BY_LEMMA, CRATES, ONLY_GONE, PROVED, REFUSED, UNCLEAR, WAITING
 
 UNREAD, ENDLESS = "it does not compile", "its check does not end"
+LETTERS = {REFUSED: "r", BY_LEMMA: "r", ONLY_GONE: "f", AT_LIMIT: "l", UNCLEAR: "l", ENDLESS: "l"}
+LETTERS |= {PROVED: "s", UNREAD: "-"}
 # The gravest first.
 KINDS = [REFUSED, BY_LEMMA, AT_LIMIT, UNCLEAR, ONLY_GONE, WAITING, PROVED]
 # How a mutant is planted: with any others; with others that only call what was not proved, as it
 # does; or by itself, where it was not clear what it makes wrong.
 WITH_ANY, WITH_WAITING, ALONE = range(3)
-# The processor time that a check may take, and for each mutant that is planted, in seconds; and how
-# many are planted in copies.
-SECONDS, MOST = (120, 40), 12
-SEED = 47  # for what is drawn
+# The processor time that a check may take, and for each mutant that is planted, in seconds; how many
+# are planted in copies, and how many in their places.
+SECONDS, IN_COPIES, IN_PLACES = (120, 40), 12, 30
 
 # A mutant, or none, as it is planted: the functions that it can make wrong, the part of its file that
-# becomes another text, and where in that it stands.
+# becomes another text, and where in that it is.
 Plant = namedtuple("Plant", "mutant item owners begin end new at")
 
 
@@ -55,7 +67,7 @@ def in_place(mutant):
 
 
 def in_copy(item, number, mutant=None):
-    """A copy of a function, which comes behind it, with a mutant in it."""
+    """A copy of a function, which comes after it, with a mutant in it."""
     text, name = item.text, f"{item.name}_turn_{number}"
     start = re.search(r"(?:^ *#\[[^\n]*\]\n)*\Z", text[: item.start], re.MULTILINE).start()
     head = text[start : item.begin].replace("#[unsafe(no_mangle)]\n", "")
@@ -68,76 +80,135 @@ def in_copy(item, number, mutant=None):
 
 
 def is_copied(item):
-    """Whether a function can stand beside itself under another name."""
-    holders = re.findall(r"^(?:pub )?(?:impl|trait)\b.*", item.text[: item.start], re.MULTILINE)
-    is_method = item.text[item.start] == " "
+    """Whether a function can be beside itself under another name."""
+    is_of_trait = item.holder and (
+        item.holder.is_trait_impl
+        or item.holder.path[-1] == item.holder.name
+        and re.match(r"(?:pub )?trait", item.text[item.holder.start :])
+    )
     calls_itself = re.search(rf"\b{item.name}(?:::<.*>)?\(", item.text[item.begin : item.end])
-    of_trait = is_method and re.match(r"(?:pub )?trait|impl.* for ", holders[-1])
-    return item.kind == "fn" and not calls_itself and not of_trait
+    return item.kind == "fn" and not calls_itself and not is_of_trait
 
 
-def digest(mutant):
-    item = mutant.item
-    return hashlib.sha256(item.text[item.start : item.end].encode()).hexdigest()[:8]
+class Function:
+    """A function or constant of a crate, its mutants, and a letter for each."""
+
+    def __init__(self, item, mutants, digest, told, original):
+        self.item, self.mutants, self.digest = item, mutants, digest
+        old, letters = told or (None, "")
+        self.is_new = digest != old or len(letters) != len(mutants)
+        self.known = "." * len(mutants) if self.is_new else letters
+        self.letters = list(self.known)
+        self.listed, self.faults = survivors.listed(item, original, [it.name for it in mutants])
+
+    def line(self):
+        return f"{self.digest} {''.join(self.letters) or '-'} {self.item.path}"
 
 
-def listed(crate):
-    """The mutants of a crate that are known to be proved, and why nothing refuses them."""
-    file = crate / "surviving-mutants"
-    parts = file.read_text(encoding="utf-8").strip("\n").split("\n\n") if file.exists() else []
-    return {name: why.strip() for name, _, why in (it.partition("\n") for it in parts)}
+def verdicts_of(crate):
+    """The verdicts of a crate that are committed, by their paths."""
+    file, found = crate / "verdicts", {}
+    for line in file.read_text(encoding="utf-8").splitlines() if file.exists() else ():
+        digest, letters, path = line.split(" ")
+        found[path] = digest, "" if letters == "-" and len(letters) == 0 else letters
+    return found
 
 
 class Crate:
-    """The mutants of a crate, what came of them, and how those are planted that wait."""
+    """The functions of a crate, and how those of their mutants are planted that wait."""
 
-    def __init__(self, name):
+    def __init__(self, name, definitions):
         self.name, self.folder, self.lock = name, CRATES / name, Lock()
-        self.file = self.folder / "out/mutants.tsv"
-        self.mutants = list(mutate.mutants_of(self.folder))
-        self.came, self.rounds, self.seconds = {}, 0, 0
-        names = {(digest(it), it.name) for it in self.mutants}
-        told = self.file.read_text(encoding="utf-8") if self.file.exists() else ""
-        for line in told.split("\n")[:-1]:
-            key, mutant, kind, _ = line.split("\t")
-            if (key, mutant) in names:
-                self.came[mutant] = kind
-        self.waiting = {it: WITH_ANY for it in self.mutants if it.name not in self.came}
-        self.copied = {it.item.path for it in self.mutants if is_copied(it.item)}
+        told, texts = verdicts_of(self.folder), dict(mutate.files_of(self.folder))
+        mutants, items = defaultdict(list), list(mutate.items_of(self.folder))
+        by_path = {it.path: it for it in items}
+        for mutant in mutate.mutants_of(self.folder):
+            mutants[mutant.item.path].append(mutant)
+        self.functions = {}
+        for path, own in mutants.items():
+            item = own[0].item
+            heads = [by_path[it] for it in own[0].owners if it != path and it in by_path]
+            heads = [(f"{name}/{it.file}", it.text[it.start : it.begin]) for it in heads]
+            digest = digests.digest(definitions, self.folder, item, heads, [it.name for it in own])
+            one = Function(item, own, digest, told.get(path), texts[item.file])
+            self.functions[path] = one
+        self.waiting = {
+            mutant: WITH_ANY
+            for it in self.functions.values()
+            for mutant, letter in zip(it.mutants, it.letters)
+            if letter == "."
+        }
+        self.copied = {path for path, it in self.functions.items() if is_copied(it.item)}
+        self.with_copies = set()  # those of which a copy as it is was proved
+        self.paths = {it.path for it in items if it.kind == "fn"}
+        self.public = [it for it in items if it.is_public and it.kind == "fn"]
 
-    def breadth(self):
-        """How many mutants a round can plant, nearly."""
+    def is_new(self, mutant):
+        return self.functions[mutant.item.path].is_new
+
+    def rank(self):
+        """How much a round of this crate is worth: changed functions first, then the most."""
         with self.lock:
-            return len({it.owners for it in self.waiting})
+            owners = {it.owners for it in self.waiting}
+            return any(map(self.is_new, self.waiting)), len(owners)
 
     def next_round(self):
         """How the next mutants are planted, and which; they wait no longer."""
         with self.lock:
             level, planted, taken = min(self.waiting.values(), default=ALONE), [], set()
             waiting = [it for it, its_level in self.waiting.items() if its_level == level]
+            waiting = [it for it in waiting if self.is_new(it)] or waiting
+            # Functions of which nothing is tried come first, each with one mutant.
+            tried = {path for path, it in self.functions.items() if set(it.letters) - {"."}}
+            fresh = [it for it in waiting if it.item.path not in tried]
             counts = Counter(it.item.path for it in waiting if it.item.path in self.copied)
-            copied = [it for it in waiting if counts[it.item.path] > 2 and level == WITH_ANY][:MOST]
+            copied = [it for it in waiting if counts[it.item.path] > 2 and level == WITH_ANY]
+            copied = [] if fresh else copied[:IN_COPIES]
             planted += [in_copy(it.item, number, it) for number, it in enumerate(copied, 1)]
-            planted += [in_copy(it, 0) for it in {it.item.path: it.item for it in copied}.values()]
-            for mutant in [] if copied else waiting:
-                if not taken & set(mutant.owners) and not (level == ALONE and planted):
+            items = {it.item.path: it.item for it in copied if it.item.path not in self.with_copies}
+            planted += [in_copy(it, 0) for it in items.values()]
+            for mutant in [] if copied else fresh or waiting:
+                full = len(planted) == IN_PLACES or level == ALONE and planted
+                if not taken & set(mutant.owners) and not full:
                     planted.append(in_place(mutant))
                     taken.update(mutant.owners)
             for it in planted:
                 self.waiting.pop(it.mutant, None)
             return level, planted
 
-    def note(self, judged, seconds):
+    def note(self, came):
         """Keeps what came of a round; those of which nothing came wait again."""
-        with self.lock, open(self.file, "a", encoding="utf-8") as file:
-            self.rounds, self.seconds = self.rounds + 1, self.seconds + seconds
-            for mutant, (kind, words) in judged.items():
+        with self.lock:
+            for mutant, (kind, words) in came.items():
                 if kind is None:
                     self.waiting[mutant] = words
-                else:
-                    self.came[mutant.name] = kind
-                    words = " ".join(words.split())
-                    print(digest(mutant), mutant.name, kind, words, sep="\t", file=file)
+                    continue
+                one = self.functions[mutant.item.path]
+                one.letters[one.mutants.index(mutant)] = LETTERS[kind]
+
+    def write(self):
+        with self.lock:
+            lines = [f"{it.line()}\n" for it in self.functions.values()]
+            (self.folder / "verdicts").write_text("".join(lines), encoding="utf-8")
+
+    def faults(self):
+        """What is wrong, and what is to be explained in functions that have only waited."""
+        faults, reports = [], []
+        edited = {it for edit in edit_files.edits_of(self.folder) for it in edit.refused}
+        for path, it in self.functions.items():
+            faults += [f"{path}: {fault}" for fault in it.faults]
+            for mutant, letter, old in zip(it.mutants, it.letters, it.known):
+                if letter == "s" and mutant.name not in it.listed:
+                    told = faults if it.is_new or old != "." else reports
+                    told.append(f"{path}: it is proved, and no comment says why: {mutant.name}")
+                elif letter in "rfl-" and mutant.name in it.listed:
+                    faults.append(f"{path}: it is listed, and not proved ({letter}): {mutant.name}")
+        for item in self.public:
+            one = self.functions.get(item.path)
+            letters = one.letters if one else ""
+            if not {"r", "."} & set(letters) and item.path not in edited:
+                faults.append(f"{item.path}: it is public, and no mutant or edit of it is refused")
+        return [[f"{self.name} {it}" for it in both] for both in (faults, reports)]
 
 
 def lay_out(crate, room, planted):
@@ -162,7 +233,7 @@ def linked(one, other):
 
 
 def distance(plant, planted, line):
-    """How far a line of a planted file is from a plant, and from where the mutant stands in it."""
+    """How far a line of a planted file is from a plant, and from the mutant in it."""
     text = plant.item.text
     first = text.count("\n", 0, plant.begin) + 1
     for it in planted:
@@ -189,7 +260,7 @@ def judged(crate, planted, level, ran):
         for path, (kind, words) in found.items()
         if path not in owned and kind not in (PROVED, WAITING)
     ]
-    # A lemma may fail for a constant, whichever function stands on it.
+    # A lemma may fail for a constant, whichever function needs it.
     is_lemma = not is_alone and any(kind == BY_LEMMA for kind, _ in found.values())
     for plant in planted:
         verdicts = [found[it] for it in plant.owners if it in found]
@@ -197,11 +268,18 @@ def judged(crate, planted, level, ran):
         kind, words = min(verdicts, key=lambda it: KINDS.index(it.kind), default=nothing)
         if is_lemma and (kind == BY_LEMMA or kind == PROVED and plant.item.kind != "fn"):
             kind, words = None, ALONE
+        elif kind == PROVED and level != ALONE and is_seen_elsewhere(plant.item):
+            kind, words = None, ALONE
         elif kind in (PROVED, WAITING) and others:
             kind, words = (REFUSED, others[0]) if is_alone else (None, ALONE)
         elif kind == WAITING:
             kind, words = (UNCLEAR, words) if is_alone else (None, min(level + 1, ALONE))
         yield plant, (kind, words)
+
+
+def is_seen_elsewhere(item):
+    """Whether a proof of something else can fail for an item, as of the facts of a trait."""
+    return item.kind != "fn" or item.holder and item.holder.is_trait_impl
 
 
 def judged_unended(crate, planted, level, ran):
@@ -215,13 +293,17 @@ def judged_unended(crate, planted, level, ran):
 
 
 def try_round(crate, room, group):
-    """Plants the next mutants of a crate, without those that do not compile, and judges them."""
+    """Plants the next mutants of a crate, without those that do not compile, and judges them;
+    returns the processor time that it took."""
     level, planted = crate.next_round()
     came, seconds = {}, 0
     while planted:
         lay_out(crate, room, planted)
         most = SECONDS[0] + SECONDS[1] * len(planted)
-        ran = planting.check(crate.name, room, group, "--progress", most=most)
+        only = {path for it in planted for path in it.owners} & crate.paths
+        only |= {it.owners[0] for it in planted if it.begin == it.item.end}
+        only = only if level != ALONE else ()
+        ran = planting.check(crate.name, room, group, "--progress", only=only, most=most)
         seconds += ran.seconds
         bad = dict.fromkeys(unread(planted, planting.UNREAD.findall(ran.said)), (UNREAD, ""))
         came |= bad
@@ -231,79 +313,102 @@ def try_round(crate, room, group):
             came |= (judged if is_ended else judged_unended)(crate, planted, level, ran)
             break
     # Where a copy of a function as it is was not proved, copies of it show nothing.
-    wrong = {it.item.path for it, (kind, _) in came.items() if not it.mutant and kind != PROVED}
+    controls = {it.item.path: kind for it, (kind, _) in came.items() if not it.mutant}
+    wrong = {path for path, kind in controls.items() if kind != PROVED}
     crate.copied -= wrong
+    crate.with_copies |= controls.keys() - wrong
     came = {
         it.mutant: (None, level) if it.item.path in wrong else verdict
         for it, verdict in came.items()
         if it.mutant
     }
-    crate.note(came, seconds)
+    crate.note(came)
     kinds = Counter(kind or "it is planted again" for kind, _ in came.values())
     told = ", ".join(f"{count} {kind}" for kind, count in kinds.items())
-    left = len(crate.waiting)
-    print(f"{crate.name}, {seconds:.0f} s of processor time: {told}; {left} left", flush=True)
+    print(f"{crate.name}, {seconds:.0f} s: {told}; {len(crate.waiting)} left", flush=True)
+    return seconds
 
 
-def work(crates, room, group):
-    """Tries rounds while mutants wait, the broadest first: a run that is stopped has judged most."""
-    while (crate := max(crates, key=Crate.breadth)).waiting:
-        try_round(crate, room, group)
+class Budget:
+    """The processor time that rounds may take, in seconds, and what they took."""
+
+    def __init__(self, most):
+        self.most, self.used, self.lock = most, 0, Lock()
+
+    def is_left(self):
+        return self.most is None or self.used < self.most
+
+    def take(self, seconds):
+        with self.lock:
+            self.used += seconds
 
 
-def faults_of(crate):
-    """What is wrong with the list of those that are proved."""
-    known = listed(crate.folder)
-    for name, kind in crate.came.items():
-        if kind == PROVED and name not in known:
-            yield f"{crate.name}: it is proved, and nothing says why: {name}"
-    for name, why in known.items():
-        if crate.came.get(name) != PROVED:
-            yield f"{crate.name}: it is listed, and not proved: {name}"
-        if not why:
-            yield f"{crate.name}: it is listed for no reason: {name}"
+def work(crates, room, group, budget, keeps):
+    """Tries rounds while mutants wait and time is left."""
+    while budget.is_left() and (crate := max(crates, key=Crate.rank)).waiting:
+        budget.take(try_round(crate, room, group))
+        if keeps:
+            crate.write()
 
 
-def report(crates, draw):
-    """Counts what came of the mutants, and draws some that are refused."""
-    for crate in crates:
-        kinds = Counter(crate.came.values()).most_common()
-        told = "; ".join(f"{count} {kind}" for kind, count in kinds)
-        used = f"{crate.rounds} rounds, {crate.seconds:.0f} s of processor time"
-        print(f"{crate.name}: {len(crate.mutants)} mutants; {used}; {told}")
-    kinds = (REFUSED, BY_LEMMA, AT_LIMIT)
-    refused = [f"{it.name}: {one}" for it in crates for one in it.came if it.came[one] in kinds]
-    for one in sorted(random.Random(SEED).sample(sorted(refused), min(draw, len(refused)))):
-        print(f"drawn with the seed {SEED}: {one}")
-
-
-def try_all(crates, at_once):
+def try_all(crates, given, budget):
     scratch, watch = planting.scratch_folder()
-    with ThreadPoolExecutor(at_once) as pool:
-        rooms = [scratch / str(number) for number in range(at_once)]
-        for done in [pool.submit(work, crates, room, watch.pid) for room in rooms]:
+    with ThreadPoolExecutor(given.at_once) as pool:
+        rooms = [scratch / str(number) for number in range(given.at_once)]
+        words = (watch.pid, budget, not given.gate)
+        for done in [pool.submit(work, crates, room, *words) for room in rooms]:
             done.result()
     watch.communicate()
 
 
-def main():
+def report(crates, seconds):
+    """Counts what came of all mutants, and returns how many wait."""
+    kinds, waiting = Counter(), Counter()
+    for crate in crates:
+        for path, it in crate.functions.items():
+            kinds.update(it.letters)
+            waiting[crate.name, path] = sum(
+                letter == "." or letter == "s" and mutant.name not in it.listed
+                for letter, mutant in zip(it.letters, it.mutants)
+            )
+    words = "{r} refused, {f} for their form alone, {l} not decided, {s} answer the same"
+    letters = {it: kinds[it] for it in "rfls"}
+    print(f"mutants: {words.format(**letters)}; {seconds:.0f} s of processor time in this run")
+    left = +waiting
+    print(f"waiting: {left.total()} in {len(left)} of {len(waiting)} functions", flush=True)
+    return left.total()
+
+
+def arguments():
     words = argparse.ArgumentParser(usage=__doc__.split("\n\n")[1].removeprefix("Usage: "))
     words.add_argument("--built", action="store_true")
-    words.add_argument("--count", action="store_true")
-    words.add_argument("--draw", type=int, default=0)
     words.add_argument("--at-once", type=int, default=planting.at_once_by_default())
-    words.add_argument("crates", nargs="+", metavar="CRATE")
-    given = words.parse_args()
-    for name in dict.fromkeys(it for name in given.crates for it in planting.listed(name)[0]):
-        if not given.built and not given.count:
+    words.add_argument("--minutes", type=float)
+    how = words.add_mutually_exclusive_group()
+    for name in ("--gate", "--release", "--compare"):
+        how.add_argument(name, action="store_true")
+    words.add_argument("crates", nargs="*", metavar="CRATE")
+    return words.parse_args()
+
+
+def main():
+    given = arguments()
+    names = given.crates or sorted(it.parent.name for it in CRATES.glob("*/src"))
+    for name in dict.fromkeys(it for name in names for it in planting.listed(name)[0]):
+        if not given.built and not given.compare:
             subprocess.run(["rt", "lib"], cwd=CRATES / name, check=True, stdout=sys.stderr)
     signal.signal(signal.SIGINT, signal.SIG_DFL)
-    crates = [Crate(name) for name in given.crates]
-    if not given.count:
-        try_all(crates, given.at_once)
-    report(crates, given.draw)
-    faults = [fault for crate in crates for fault in faults_of(crate)]
-    if faults and not given.count:
+    definitions = digests.Definitions([it.parent for it in CRATES.glob("*/src")])
+    crates = [Crate(name, definitions) for name in names]
+    budget = Budget(given.minutes and 60 * given.minutes)
+    if not given.compare:
+        try_all(crates, given, budget)
+    faults, reports = (sum(its, []) for its in zip(*(it.faults() for it in crates)))
+    print(*reports, sep="\n", end="\n" * bool(reports))
+    waiting = report(crates, budget.used)
+    if given.release and waiting:
+        faults.append("a release needs verdicts on all mutants")
+    if faults:
         sys.exit("mutants:\n" + "\n".join(faults))
 
 

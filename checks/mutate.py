@@ -1,174 +1,56 @@
-"""The mutants of a crate: each has one value of a function or a constant turned into another.
+"""The mutants of a crate: each has one value of a function or a constant changed.
 
-Contracts, ghost items and tests are left as they are, and so is all that stands outside of bodies:
-the layout of `rt fmt` tells where one begins and ends. A mutant is named by what it turns and the
-line that it makes. Of a table's entries, and of the literals of patterns that have lines of their
-own, one is turned for each kind of value, drawn by the table's name.
+Contracts, ghost items and tests are left as they are, and so is all that is outside of bodies. What a
+value becomes: its opposite or neighbor, as a literal or an operator; a fixed value of its type; a
+field, a constant or a variant beside it; a variable or a function of the same type. An early return
+or a guard is dropped, and two arguments of one type are exchanged. Of a table's entries, and of the
+literals of patterns that have lines of their own, one is changed for each kind of value, drawn by
+the table's name. The value that fills an array, as in `[0; N]`, is none.
 """
 import random
 import re
 from collections import namedtuple
-from os.path import commonprefix
-from pathlib import Path
+from functools import cache
 
+from items import QUOTED, files_of, items_of
+from known import INTEGER, Known, parameters, split
 from planting import CRATES
 
-# A function, a constant, a table or a macro: its path as a check prints it, its place in its file and
-# its body's there.
-Item = namedtuple("Item", "path name kind file start begin end text")
-# What it turns, the functions that it can make wrong, and the part of the file that becomes another
-# text.
+# What it changes, the functions that it can make wrong, and the part of the file that becomes another
+# text. A name says `old → new`, and is unique in its item.
 Mutant = namedtuple("Mutant", "name item owners begin end new")
 
-HEAD = re.compile(
-    r'( *)(?:pub(?:\(crate\))? )?(?:(?:final|const|unsafe|extern "C") )*(fn|static|const|macro_rules!)'
-    r" (\w+)"
-)
-HOLDER = re.compile(r"impl(<.*?>)? (?:([\w:]+)(<.*>)? for )?(&?[\w:]+)")
-QUOTED = r"""b?"(?:\\.|[^"\\])*"|b?'(?:\\u\{\w+\}|\\.|[^'\\])'"""
-COMMENT = re.compile(rf"({QUOTED})|//[^\n]*", re.DOTALL)
-ENUM = re.compile(r"^(?:pub )?enum (\w+).*?\{\n(.*?)^\}", re.MULTILINE | re.DOTALL)
-FUNCTION = re.compile(r"\bfn (\w+)(?:<[^(]*>)?\(([^)]*)\)")
-CALL = re.compile(r"(?<![\w!])((?:\w+(?:::|\.))*\w+)(?:::<[^<>()]*>)?\(")
+PATH = r"(?:\w+(?:::|\.))*"
+CALL = re.compile(rf"(?<![\w!])({PATH}\w+)(?:::<[^<>()]*>)?\(")
 
 SWAPPED = {"<": "<=", ">": ">=", "==": "!=", "+": "-", "*": "/", "<<": ">>", "&": "|", "&&": "||"}
 SWAPPED |= {other: one for one, other in SWAPPED.items()} | {"%": "/"}
 SWAPPED |= {"+=": "-=", "-=": "+=", "*=": "/=", "/=": "*=", "..": "..=", "..=": ".."}
-# A value that is turned by itself. Binary operators stand between blanks.
+# A value that is changed by itself. Binary operators have blanks around them.
 VALUE = re.compile(
     rf"(?P<text>{QUOTED})|(?<![\w.])(?P<number>0x[\da-fA-F_]+|\d+(?:_\d+)*)"
     r"|(?<=[ \n])(?P<operator><<|>>|<=|>=|==|!=|&&|\|\||[-+*/]=|[-+*/%<>&|])(?=[ \n])"
     r"|(?<=[\w)])(?P<range>\.\.=?)(?=[\w(])|(?P<word>\b(?:true|false)\b)"
-    r"|(?<![\w:])(?P<path>(?:\w+::)+[A-Z]\w*)\b|(?<![\w!])(?P<not>!)(?=[\w(])",
+    r"|(?<![\w:])(?P<path>(?:\w+::)+[A-Z]\w*)\b|(?<![\w!])(?P<not>!)(?=[\w(])"
+    r"|(?<=[\w)\]])\.(?P<field>[a-z_]\w*)\b(?![(!])|(?<![\w:.])(?P<constant>[A-Z][A-Z\d_]+)\b(?!:)",
     re.DOTALL,
 )
-# An early return, the guard of an arm, and a call of which only the error is looked at; and a line of
-# a pattern that is one of literals.
+# An early return, the guard of an arm, and a call of which only the error is used; a line of a
+# pattern that is one of literals; an array of one value; the parts that are patterns.
 RETURN = re.compile(r"^( +)if (?:[^\n{]|\n\1 )*?(?: |\n\1)\{\n\1    return [^;]*;\n\1\}\n", re.M)
 GUARD = re.compile(r"(?<=[\w)}]) if [^\n]*?(?= =>)")
 TRIED = re.compile(r"(?m)^ *([\w&][^\n=;{}]*)\?;$")
 ENTRY = re.compile(rf" *(?:\| )?(?:{QUOTED}|\d+)(?:$|,| \||\.\.=| =>)")
-
-
-def texts_of(crate):
-    """The sources of a crate without its tests, comments blank."""
-    for path in sorted(crate.glob("src/**/*.rt")):
-        if not {"tests", "tests.rt"} & set(path.parts):
-            text = path.read_text(encoding="utf-8")
-            blank = COMMENT.sub(lambda it: it[1] or " " * len(it[0]), text)
-            yield path.relative_to(crate).as_posix(), blank
-
-
-def module_of(file):
-    parts = Path(file).with_suffix("").parts[1:]
-    return [] if parts[-1] in ("lib", "main") else list(parts)
-
-
-def holder_of(line, module, modules):
-    """The path of an implementation or a trait, as a check prints it."""
-    if head := re.match(r"(?:pub )?trait (\w+)", line):
-        return [*module, head[1]]
-    if not (head := HOLDER.match(line)):
-        return None
-    given = re.findall(r"\w+", head[1] or "")
-    kind = head[4].lstrip("&").split("::")[-1]
-    own = modules.get(kind, module)
-    words = [("Ref" if head[4][0] == "&" else "") + ("Any" if kind in given else upper(kind))]
-    if not head[2]:
-        return [*own, *words]
-    words += [it for it in re.findall(r"\w+", head[3] or "") if it not in given]
-    words.insert(1, head[2].split("::")[-1])
-    return [*module, "".join(map(upper, words))]
-
-
-def upper(word):
-    return word[0].upper() + word[1:]
-
-
-def items_of(crate):
-    """The functions of a crate that do something, and its constants, tables and macros."""
-    texts = dict(texts_of(crate))
-    modules = {
-        name: module_of(file)
-        for file, text in texts.items()
-        for name in re.findall(r"\b(?:struct|enum) (\w+)", text)
-    }
-    for file, text in texts.items():
-        lines, holder, at, is_test = text.splitlines(keepends=True), None, 0, False
-        for number, line in enumerate(lines):
-            head = HEAD.match(line)
-            if not line.startswith((" ", "\n")) and not head:
-                holder = holder_of(line, module_of(file), modules)
-            body = body_of(lines, number, head) if head and not is_test else None
-            if body:
-                first, last = (at + len("".join(lines[number:it])) for it in body)
-                path = "::".join([*(holder if head[1] else module_of(file)), head[3]])
-                yield Item(path, head[3], head[2], file, at, first, last, text)
-            is_test = line.strip() == "#[cfg(test)]"
-            at += len(line)
-
-
-def body_of(lines, start, head):
-    """The first line of a body, or of a value, and the first behind it."""
-    told = [line.rstrip() for line in lines[start:]]
-    if head[2] != "fn":
-        ends = [head[1] + it for it in ("}", "};", "];", ");")]
-        ends += [it for it in told if it.endswith('";')][:1] + told[:1] * told[0].endswith(";")
-        return start, start + next(at for at, it in enumerate(told, 1) if it in ends)
-    signature = [told[0], *(it for it in told if it.startswith(head[1] + ")"))][:2]
-    for at, line in enumerate(told):
-        is_alone = line in (head[1] + "{", head[1] + "{}")
-        if is_alone or line in signature and line.endswith((" {", " {}")):
-            break
-        if line == "}" or at and HEAD.match(line):
-            return None
-    if told[at].endswith("{}"):
-        return None
-    return start + at + (not is_alone), start + told.index(head[1] + "}", at) + 1
-
-
-def variants_of(crates):
-    """Of each variant the next one that holds the same."""
-    found = {}
-    for crate in crates:
-        for text in dict(texts_of(crate)).values():
-            for name, block in ENUM.findall(text):
-                block = re.sub(r"#\[[^\n]*\]", "", block)
-                kinds = re.findall(r"^    (\w+) *((?:\([^;]*?\)| \{.*?\n?.*?\})?),\n", block, re.M)
-                for shape in {shape for _, shape in kinds}:
-                    same = [variant for variant, other in kinds if other == shape]
-                    for one, next_one in zip(same, same[1:] + same[:1]):
-                        found[f"{name}::{one}"] = next_one
-    return found
-
-
-def parameters_of(crates):
-    """The types of a function's parameters, by its name; none where two of one crate differ."""
-    found = {}
-    for crate in crates:
-        own = {}
-        for text in dict(texts_of(crate)).values():
-            for name, words in FUNCTION.findall(text):
-                types = [it.partition(":")[2].strip() for it in split(words) if ":" in it]
-                own[name] = types if own.get(name, types) == types else []
-        found |= own
-    return found
-
-
-def split(words):
-    """The parts of a text between commas, those in brackets aside."""
-    parts, depth = [""], 0
-    for sign in re.findall(rf"{QUOTED}|=>|->|.", words, re.DOTALL):
-        depth += (sign in ("(", "[", "{")) - (sign in (")", "]", "}"))
-        if sign == "," and depth == 0:
-            parts.append("")
-        else:
-            parts[-1] += sign
-    return parts if parts[-1].strip() else parts[:-1]
+FILLED = re.compile(r"(?<!!)\[([^\[\];]*); [^\[\]]*\]")
+PATTERN = re.compile(r"\blet [^=;]*? =(?!=)|^ *[^\n]*?(?= if | =>)|^ *\|.*$", re.MULTILINE)
+LITERAL = re.compile(rf"(?:{QUOTED}|\d[\d_]*|0x[\da-fA-F_]+|true|false)")
+LOCAL = re.compile(r"\blet (?:mut )?(\w+)(?:: ([^=;]+?))? = ([^;{]*)")
+STRUCT = re.compile(r"(?<![\w.>] )\b(?:\w+::)*([A-Z]\w*) \{")
+INDEX = re.compile(r"(?<=[\w)\]])\[")
 
 
 def other_text(text, body):
-    """A text with a neighbour of its first character that is no part of a form, and not in use."""
+    """A text with a neighbor of its first character that is no part of a form, and not in use."""
     if escape := re.fullmatch(r"'\\u\{(\w+)\}'", text):
         return rf"'\u{{{int(escape[1], 16) + 1:x}}}'"
     if escape := re.fullmatch(r"(b?['\"])\\.(['\"])", text, re.DOTALL):
@@ -182,40 +64,202 @@ def other_text(text, body):
     return text[: place.start(1)] + chr(code) + text[place.end(1) :]
 
 
-def other_values(found, body, variants):
-    """What a value is turned into."""
-    value, kind = found[0], found.lastgroup
-    if kind == "text":
-        return [it for it in [other_text(value, body)] if it]
-    if kind == "number":
-        number, form = int(value, 0), hex if value.startswith("0x") else str
-        return [form(number + 1)] + ([form(number - 1)] if number else [])
-    if kind == "word":
-        return ["false" if value == "true" else "true"]
-    if kind == "not":
-        return [""]
-    if kind == "path":
-        *front, last = value.split("::")
-        other = variants.get(f"{front[-1]}::{last}")
-        return ["::".join([*front, other])] if other and other != last else []
-    line = body[body.rfind("\n", 0, found.start()) + 1 : body.find("\n", found.end())]
-    is_pattern = value == "|" and ("=>" in line or "'" in line or "::" in line)
-    return [SWAPPED[value]] if value in SWAPPED and not is_pattern else []
+class Body:
+    """The body of an item, and what is known where it stands."""
+
+    def __init__(self, item, known, crate):
+        self.item, self.known, self.place = item, known, f"{crate}/{item.file}"
+        self.crate = crate
+        self.text = item.text[item.begin : item.end]
+        self.holder = item.holder.name if item.holder else None
+        self.patterns = [it.span() for it in PATTERN.finditer(self.text)]
+        self.filled = [it.span(1) for it in FILLED.finditer(self.text)]
+        self.variables = self.typed_variables() if item.kind == "fn" else {}
+
+    def is_in(self, spans, at):
+        return any(begin <= at < end for begin, end in spans)
+
+    def typed_variables(self):
+        """The variables whose type is known, with their types."""
+        head = self.item.text[self.item.start : self.item.begin]
+        inner = re.match(r"[^(]*\(([^)]*)\)", head)
+        found = parameters(inner[1]) if inner else {}
+        for name, kind, value in LOCAL.findall(self.text):
+            kind = kind or self.type_of(value.strip())
+            if found.setdefault(name, kind) != kind:
+                found[name] = None
+        return {name: kind for name, kind in found.items() if kind}
+
+    def type_of(self, value):
+        """The type of a value that is a call of a known function."""
+        call = CALL.match(value)
+        if not call or closing(value, call.end()) not in (len(value) - 1, len(value) - 2):
+            return None
+        functions = self.known.of(name_of(call[1]), self.crate)
+        kind = functions[0].result if functions else None
+        if kind and value.endswith("?"):
+            inner = re.fullmatch(r"(?:Option|Result)<(.*?)(?:, \w+)?>", kind)
+            kind = inner[1] if inner else None
+        return self.holder if kind == "Self" else kind
+
+    def values(self):
+        """What is changed by itself: the kind of a value, its place, and what it becomes."""
+        start = self.text.find("=") % len(self.text) if self.item.kind in ("static", "const") else 0
+        for found in VALUE.finditer(self.text, start):
+            kind = found.lastgroup
+            for new in self.other_values(kind, found[kind], found):
+                yield kind, found.start(kind), found.end(kind), new
+
+    def other_values(self, kind, value, found):
+        if kind == "text":
+            return [it for it in [other_text(value, self.text)] if it]
+        if kind == "number":
+            number, form = int(value, 0), hex if value.startswith("0x") else str
+            return [form(number + 1)] + ([form(number - 1)] if number else [])
+        if kind == "word":
+            return ["false" if value == "true" else "true"]
+        if kind == "not":
+            return [""]
+        if kind == "field":
+            other = self.known.field(value, self.crate)[1]
+            return [other] if other else []
+        if kind in ("path", "constant"):
+            return self.other_name(value)
+        line = self.text[
+            self.text.rfind("\n", 0, found.start()) + 1 : self.text.find("\n", found.end())
+        ]
+        is_pattern = value == "|" and ("=>" in line or "'" in line or "::" in line)
+        return [SWAPPED[value]] if value in SWAPPED and not is_pattern else []
+
+    def other_name(self, value):
+        """A constant or a variant beside the named one."""
+        *prefix, last = value.split("::")
+        holder = prefix[-1] if prefix else None
+        holder = self.holder if holder == "Self" else holder
+        other = self.known.variants.get((holder, last))
+        if not other and last.isupper():
+            other = self.known.other_constant(last, holder, self.place)
+        return ["::".join([*prefix, other])] if other else []
+
+    def calls(self):
+        """The calls: the name's place, whether of a method, and the place of the arguments."""
+        for call in CALL.finditer(self.text):
+            if not self.is_in(self.patterns, call.start()):
+                begin, end = call.end(), closing(self.text, call.end())
+                yield call, begin, end
+
+    def arguments(self, begin, end):
+        """Of each part between commas, its place without the blanks around it."""
+        for part in split(self.text[begin:end]):
+            inner = part.strip()
+            first = begin + len(part) - len(part.lstrip())
+            yield first, first + len(inner), inner
+            begin += len(part) + 1
+
+    def typed_places(self):
+        """The places of values whose type is known: arguments, receivers, fields and indexes."""
+        for call, begin, end in self.calls():
+            functions = self.known.of(name_of(call[1]), self.crate)
+            types = functions[0].types if functions else ()
+            arguments = list(self.arguments(begin, end))
+            types = types if len(types) == len(arguments) else [None] * len(arguments)
+            for (first, last, value), kind in zip(arguments, types):
+                yield first, last, kind or self.variables.get(value)
+            receiver, dot, _ = call[1].partition(".")
+            if dot and receiver in self.variables:
+                yield call.start(1), call.start(1) + len(receiver), self.variables[receiver]
+        for name, kind in self.variables.items():
+            for found in re.finditer(rf"(?:= |=> |return |!\()({name})(?=[;,])", self.text):
+                if not self.is_in(self.patterns, found.start(1)):
+                    yield *found.span(1), kind
+        yield from self.fields_written()
+        for index in INDEX.finditer(self.text):
+            end = closing(self.text, index.end(), "[]")
+            for found in re.finditer(r"[^.]+(?:\.(?!\.)[^.]+)*", self.text[index.end() : end]):
+                yield index.end() + found.start(), index.end() + found.end(), "usize"
+
+    def fields_written(self):
+        """The values of fields, in a struct that is made or in an assignment."""
+        for struct in STRUCT.finditer(self.text):
+            end = closing(self.text, struct.end(), "{}")
+            is_pattern = re.match(r"\}+\)* (?:=>|=|\||if )", self.text[end:])
+            if is_pattern or self.is_in(self.patterns, struct.start()):
+                continue
+            for first, last, value in self.arguments(struct.end(), end):
+                name = re.match(r"(\w+): ", value)
+                if name:
+                    yield first + name.end(), last, self.known.field(name[1], self.crate)[0]
+        for found in re.finditer(r"\.(\w+) = ([^;\n]+);", self.text):
+            yield *found.span(2), self.known.field(found[1], self.crate)[0]
+
+    def fixed(self):
+        """A fixed value, or another variable of its type, in the place of a value."""
+        for begin, end, kind in self.typed_places():
+            value = self.text[begin:end]
+            if not kind or self.is_in(self.filled, begin) or LITERAL.fullmatch(value):
+                continue
+            kind = self.holder if kind == "Self" and self.holder else kind
+            fixed = [it for it in self.known.fixed(kind, self.place) if it != value]
+            if fixed:
+                yield "fixed", begin, end, fixed[0]
+            if value in self.variables:
+                same = [it for it, its in self.variables.items() if its == kind]
+                other = same[(same.index(value) + 1) % len(same)] if value in same else value
+                if other != value and self.is_declared(other, begin):
+                    yield "variable", begin, end, other
+
+    def is_declared(self, name, at):
+        local = re.search(rf"\blet (?:mut )?{name}\b", self.text)
+        return not local or local.end() < at
+
+    def functions(self):
+        """Another function of the same signature in the place of the one that is called."""
+        for call, _, _ in self.calls():
+            name = name_of(call[1])
+            is_method = call[1].endswith(f".{name}") or call[1].startswith("Self::")
+            if "::" in call[1] and not is_method:
+                continue
+            if self.text[call.start() - 1 : call.start()] == "." and "." not in call[1]:
+                is_method = True
+            other = self.known.other_function(name, self.place, is_method)
+            if other and other != self.item.name:
+                end = call.start(1) + len(call[1])
+                yield "function", end - len(name), end, other
+        for found in re.finditer(r"\b(writeln)!", self.text):
+            yield "function", *found.span(1), "write"
+
+    def exchanged(self):
+        """Two arguments of one type, exchanged."""
+        for call, begin, end in self.calls():
+            functions = self.known.of(name_of(call[1]), self.crate)
+            words = split(self.text[begin:end])
+            types = functions[0].types if functions else ()
+            for one, other in pairs_of_one_type(types) if len(types) == len(words) else ():
+                if words[one].strip() != words[other].strip():
+                    both = list(words)
+                    both[one], both[other] = words[other].strip(), words[one].strip()
+                    yield "arguments", begin, end, ", ".join(it.strip() for it in both)
+
+    def dropped(self):
+        """An early return, a guard, or the test of a call that may fail."""
+        for found in RETURN.finditer(self.text):
+            yield "return", found.start(), found.end(), ""
+        for found in GUARD.finditer(self.text):
+            yield "guard", found.start(), found.end(), ""
+        for found in TRIED.finditer(self.text):
+            yield "return", found.start(1), found.end(), f"let _ = {found[1]};"
+
+    def turned(self):
+        """The places of the body, and what each becomes."""
+        found = list(self.values())
+        if self.item.kind == "fn":
+            for more in (self.dropped, self.exchanged, self.fixed, self.functions):
+                found += more()
+        return [it for it in dict.fromkeys(found) if not self.is_in(self.filled, it[1])]
 
 
-def exchanged(body, parameters):
-    """Two arguments of one type, exchanged."""
-    for call in CALL.finditer(body):
-        types = parameters.get(re.split(r"::|\.", call[1])[-1], [])
-        begin, end = call.end(), closing(body, call.end())
-        words = split(body[begin:end])
-        if len(words) != len(types):
-            continue
-        for one, other in pairs_of_one_type(types):
-            if words[one].strip() != words[other].strip():
-                both = list(words)
-                both[one], both[other] = words[other], words[one]
-                yield begin, end, ",".join(both)
+def name_of(path):
+    return re.split(r"::|\.", path)[-1]
 
 
 def pairs_of_one_type(types):
@@ -225,33 +269,14 @@ def pairs_of_one_type(types):
             yield one, types.index(kind, one + 1)
 
 
-def closing(body, at):
-    """Where the bracket closes that opens in front of a place."""
+def closing(body, at, signs="()"):
+    """Where the bracket closes that opens before a place."""
     depth = 1
-    for sign in re.compile(rf"{QUOTED}|[()]", re.DOTALL).finditer(body, at):
-        depth += (sign[0] == "(") - (sign[0] == ")")
+    for sign in re.compile(rf"{QUOTED}|[{re.escape(signs)}]", re.DOTALL).finditer(body, at):
+        depth += (sign[0] == signs[0]) - (sign[0] == signs[1])
         if depth == 0:
             return sign.start()
     return at
-
-
-def turned(item, variants, parameters):
-    """The places of an item's body, and what each is turned into."""
-    body = item.text[item.begin : item.end]
-    start = body.find("=") % len(body) if item.kind in ("static", "const") else 0
-    for found in VALUE.finditer(body, start):
-        for new in other_values(found, body, variants):
-            yield found.lastgroup, found.start(), found.end(), new
-    if item.kind != "fn":
-        return
-    for found in RETURN.finditer(body):
-        yield "return", found.start(), found.end(), ""
-    for found in GUARD.finditer(body):
-        yield "guard", found.start(), found.end(), ""
-    for found in TRIED.finditer(body):
-        yield "return", found.start(1), found.end(), f"let _ = {found[1]};"
-    for begin, end, new in exchanged(body, parameters):
-        yield "arguments", begin, end, new
 
 
 def is_entry(kind, body, begin):
@@ -260,36 +285,39 @@ def is_entry(kind, body, begin):
     return kind in ("text", "number") and bool(ENTRY.match(line))
 
 
+@cache
+def all_known():
+    return Known([it.parent for it in CRATES.glob("*/src")])
+
+
 def mutants_of(crate):
-    # Of two types or functions of one name the crate's own counts.
-    folders = sorted((it.parent for it in CRATES.glob("*/src")), key=lambda it: it == crate)
-    variants, parameters = variants_of(folders), parameters_of(folders)
-    items = list(items_of(crate))
+    known, items = all_known(), list(items_of(crate))
     for item in items:
-        body, names, found, tables = item.text[item.begin : item.end], [], [], {}
-        for kind, begin, end, new in turned(item, variants, parameters):
-            is_long = body.count("\n") > 2 or body.count(",") > 8
-            is_table = item.kind != "fn" and is_long or is_entry(kind, body, begin)
-            is_up = kind == "number" and int(new, 0) > int(body[begin:end], 0)
+        body = Body(item, known, crate.name)
+        is_long = body.text.count("\n") > 2 or body.text.count(",") > 8
+        found, tables, names = [], {}, []
+        for kind, begin, end, new in body.turned():
+            is_table = item.kind != "fn" and is_long or is_entry(kind, body.text, begin)
+            is_up = kind == "number" and int(new, 0) > int(body.text[begin:end], 0)
             entries = tables.setdefault((kind, is_up), []) if is_table else found
             entries.append((begin, end, new))
         for (kind, is_up), entries in tables.items():
             key = f"{item.path} {kind}{'+' if is_up else ''}"
             found.append(random.Random(key).choice(entries))
         owners = (item.path,) if item.kind == "fn" else citing(item, items)
-        for begin, end, new in sorted(found):
-            names.append(name := named(item, body, begin, end, new))
+        for begin, end, new in sorted(set(found)):
+            names.append(name := named(body.text[begin:end], new))
             name += f" #{names.count(name)}" if names.count(name) > 1 else ""
             yield Mutant(name, item, owners, item.begin + begin, item.begin + end, new)
 
 
-def named(item, body, begin, end, new):
-    """The name of a mutant: the path of what it turns, and the line that it makes or lacks."""
-    if body[begin:end].endswith("\n"):
-        return f"{item.path}: without {' '.join(body[begin:end].split())}"
-    made, at = body[:begin] + new + body[end:], begin + len(commonprefix([body[begin:end], new]))
-    line = made[made.rfind("\n", 0, at) + 1 :].partition("\n")[0]
-    return f"{item.path}: {' '.join(line.split())}"
+def named(old, new):
+    """The name of a mutant; a long value is cut, and what is dropped becomes `nothing`."""
+    words = [" ".join(it.split()) for it in (old, new)]
+    if words[0].startswith("if ") and not words[1]:
+        words[0] = re.sub(r" \{ .*", "", words[0])
+    old, new = (it if len(it) <= 48 else it[:45] + ".." for it in words)
+    return f"{old} → {new or 'nothing'}"
 
 
 def citing(item, items):

@@ -57,8 +57,9 @@ def listed(name):
     raise ValueError(f"crates.txt has no {name}")
 
 
-def check(name, room, group, *more, most=None):
-    """Checks the crate that lies in the room, in so many seconds of processor time at most."""
+def check(name, room, group, *more, only=(), most=None):
+    """Checks the crate that lies in the room, or only these functions of it and what they call, in so
+    many seconds of processor time at most."""
     kit = Path(shutil.which("rt")).resolve().parent.parent
     libraries, is_static = listed(name)
     root = "src/main.rt" if (room / "src/main.rt").exists() else "src/lib.rt"
@@ -72,6 +73,8 @@ def check(name, room, group, *more, most=None):
         words += ["-L", f"dependency={it}"]
     words += ["--crate-type", "staticlib"] if is_static else []
     words += more
+    for it in sorted(only):
+        words += ["--only", it]
     if most:
         words = ["prlimit", f"--cpu={most}", *words]
     with open(room / "said", "wb") as to:

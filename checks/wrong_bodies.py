@@ -3,13 +3,13 @@
 
 Usage: wrong_bodies.py [--built] [--at-once N] [CRATE ..]     (no CRATE: all that have any)
 
-A crate's edits (edit_files.py says where they stand) are planted in a copy, in rounds, at most one
-in each function, and one check judges a round. Each function that an edit names has to be refused
-for goals of its own. Each other function has to be proved, unless it only calls one that is not;
-those of a twin have to be proved outright. So an edit fails that is not found, does not compile or
-is proved, that is refused in a function that it does not name, or only because a proof names what
-is gone. Those where the search gave up at a limit say less, since the goal may be true: they are
-counted apart.
+A crate's edits (edit_files.py says where they are) are planted in a copy, in rounds, at most one in
+each function. One check judges a round: of the functions that the edits name, and of those that
+these call. Each function that an edit names has to be refused for goals of its own, and each other
+one has to be proved, unless it only calls one that is not; those of a twin have to be proved
+outright. So an edit fails that is not found, does not compile or is proved, or that is refused only
+because a proof names what is gone. Those where the search gave up at a limit say less, since the
+goal may be true: they are counted apart.
 
 A round goes on from what the round before kept, the first from what `rt check` left in the crate's
 folder. `rt lib` makes the libraries below first; with --built they are those that `rt ci` has left.
@@ -36,7 +36,7 @@ HEAD = re.compile(
 
 # An edit or a twin: the part of its file's source that becomes another text.
 Plant = namedtuple("Plant", "edit label is_twin source begin end text")
-Judgement = namedtuple("Judgement", "faults at_limit again functions")
+Judgement = namedtuple("Judgement", "faults at_limit again")
 
 
 def plants_of(crate, edits):
@@ -84,15 +84,15 @@ def rounds_of(plants):
 
 
 def judged(name, plants, ran):
-    """What comes of a round: what is wrong, the edits that were refused at a limit, the twins that
-    are to be planted again, since they call what was not proved, and the functions of the crate."""
+    """What comes of a round: what is wrong, the edits that were refused at a limit, and the twins
+    that are to be planted again, since they call what was not proved."""
     found = planting.verdicts_of(name, ran.said)
     unread = [it[0] for it in planting.UNREAD.finditer(ran.said)]
     if ran.status not in (0, 1, 3) or unread or not found:
         errors = unread or re.findall(r".*\berror\b.*", ran.said) or ran.said.split("\n")
         labels = ", ".join(plant.label for plant in plants)
         fault = f"no verdict on {labels} (status {ran.status}): {' / '.join(errors[:5])}"
-        return Judgement([fault], [], [], set())
+        return Judgement([fault], [], [])
     faults, at_limit, again, by_lemma = [], [], [], []
     for plant in plants:
         verdicts = [
@@ -114,7 +114,7 @@ def judged(name, plants, ran):
             faults.append(f"{path}: {kind}, and nothing is planted there: {words}")
     if len(by_lemma) > 1:
         faults.append(f"a lemma is refused for one of these alone: {', '.join(by_lemma)}")
-    return Judgement(faults, at_limit, again, set(found))
+    return Judgement(faults, at_limit, again)
 
 
 def try_crate(name, scratch, group):
@@ -129,7 +129,8 @@ def try_crate(name, scratch, group):
     for plants in rounds:
         places = [(it.edit.file, it.begin, it.end, it.text) for it in plants]
         planting.lay_out(crate, room, places)
-        judgements.append(judged(name, plants, planting.check(name, room, group)))
+        only = {path for plant in plants for path in plant.edit.refused}
+        judgements.append(judged(name, plants, planting.check(name, room, group, only=only)))
         if judgements[-1].again:
             rounds.append(judgements[-1].again)
     shutil.rmtree(room)
@@ -138,12 +139,8 @@ def try_crate(name, scratch, group):
 
 def faults_of(name, judgements):
     """What is wrong with the edits of a crate."""
-    functions = set().union(*(it.functions for it in judgements))
     for number, judgement in enumerate(judgements, 1):
-        faults = judgement.faults
-        if judgement.functions:
-            faults = faults + [f"{it}: no line" for it in sorted(functions - judgement.functions)]
-        yield from (f"{name}, round {number}: {it}" for it in faults)
+        yield from (f"{name}, round {number}: {it}" for it in judgement.faults)
 
 
 def try_crates(names, at_once, scratch, group):

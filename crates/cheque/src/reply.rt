@@ -15,6 +15,8 @@ use std::alloc::Global;
 use std::fmt::Display;
 use std::io::{self, Write};
 
+// Same answer ("\ usage: cheque [--prefix] FIGURES | cheque .. → "\ vsage: cheque [--prefix]
+// FIGURES | cheque ..): only tests/test_cheque.py shows what the usage says.
 static USAGE: &str = "\
 usage: cheque [--prefix] FIGURES | cheque CAPITALS
 Writes an amount of yuan in capitals, as 壹仟肆佰零玖元伍角整 of 1409.50, or reads capitals and writes

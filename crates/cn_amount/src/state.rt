@@ -157,6 +157,7 @@ impl Stage {
     }
 
     // Behind the unit of a place.
+    // Same answer (Capital::Ling → Capital::Shi #3): `close` refuses both 零 and 拾.
     #[inline(always)]
     fn after_unit(self, place: Place, capital: Capital) -> Option<State>
         ensures { result ≡ after_unit self place capital }

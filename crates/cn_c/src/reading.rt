@@ -142,6 +142,8 @@ fn read_uncommon(text: &[u8], kind: u32, way: u32, reading: &mut Reading) -> u32
 /// Reads a numeral as a number of a type.
 ///
 /// Writes `*reading` whole at each status, and nothing else.
+// Same answer (if are_common(text) → nothing): the reader of uncommon text tests all bytes, more
+// slowly.
 #[unsafe(no_mangle)]
 pub extern "C" fn chinese_number_read(
     text: &[u8],

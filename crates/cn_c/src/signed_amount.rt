@@ -33,6 +33,8 @@ const NOTHING: SignedAmount = SignedAmount {
 /// where 120 bytes are enough for any.
 ///
 /// Writes `*len`, and the bytes in front of it where the text fits; all else in the room stays.
+// Same answer (0 → 1 #2, < → <=): an amount of 0 is never too large, so it does not reach this
+// test.
 #[unsafe(no_mangle)]
 pub extern "C" fn chinese_signed_amount_print(
     fen: i64,

@@ -96,6 +96,8 @@ pub fn printed_characters(variant: ChineseVariant, case: ChineseCase) -> &'stati
 }
 
 // A printed character, of which this tells the compiler that it takes three bytes.
+// Same answer (|| → &&): each printed character has three bytes; the test only informs the
+// compiler.
 #[inline(always)]
 fn of_three_bytes(character: char) -> char
     requires { (2048 ≤ character) × (character < 55296) }
@@ -140,6 +142,7 @@ pub fn unit_char(variant: ChineseVariant, case: ChineseCase, unit: Unit) -> char
 /// minus_char(ChineseVariant::Traditional) == '負'
 /// minus_char(ChineseVariant::Simple) == '负'
 /// ```
+// Same answer (ChineseCase::Lower → ChineseCase::Upper): both cases have the same minus sign.
 pub fn minus_char(variant: ChineseVariant) -> char
     ensures { result ≡ minus_char variant }
 {

@@ -58,6 +58,7 @@ fn put_month(text: &mut CapitalText<ChineseVariant>, month: u8)
 }
 
 // The day.
+// Same answer (< → <=, 10 → 11): 10 is a multiple of 10, which gives the same text.
 fn put_day(text: &mut CapitalText<ChineseVariant>, day: u8)
     requires { day < 100 }
     ensures { PutsMore text.old text.new (day_text day) }

@@ -27,6 +27,8 @@ pub enum State {
     Complete(BillDate),
 }
 
+// Same answer (10 → 11, 10 → 9): a sum is 0 only where the year and the digit are, whatever the
+// factor.
 fn year_step(year: u16, capital: Capital) -> Option<State>
     ensures { result ≡ year_step year capital }
 {

@@ -9,6 +9,10 @@ use std::str;
 
 // Whether the first three bytes of a word are a character from U+2000 to U+9FFF, as most in numerals
 // are. By what the subtraction leaves of the first byte, all is one test.
+// Same answer (% → /, / → * #3, / → * #5): then no text is common, and `is_three` decides, more
+// slowly.
+// Same answer (/ → *, 8 → 7): fewer texts are common, and `is_three` decides on the others, more
+// slowly.
 #[inline(always)]
 fn is_common(word: u32) -> bool
     ensures first { IsTrue result → IsInRange 0xE2 0xE9 (word % 256) }
@@ -51,6 +55,8 @@ pub fn are_common(bytes: &[u8]) -> bool
 }
 
 // Whether the four bytes of a word are of ASCII.
+// Same answer (0x80_0000 → 0x7fffff, 0x8000_0000 → 0x7fffffff): fewer words are taken as ASCII at
+// once, and `ascii_len` decides on the others, more slowly.
 #[inline(always)]
 fn four_are_ascii(word: u32) -> bool
     ensures first { IsTrue result → word % 256 < 128 }
@@ -65,6 +71,8 @@ fn four_are_ascii(word: u32) -> bool
 }
 
 // How many bytes of ASCII a word begins with.
+// Same answer (0x80_0000 → 0x7fffff): fewer bytes are decided at once, which is slower.
+// Same answer (3 → 2): the third byte is decided next, which is slower.
 #[inline(always)]
 fn ascii_len(word: u32) -> usize
     ensures most { result ≤ 4 }
@@ -127,6 +135,8 @@ fn is_three(word: u32) -> bool
 }
 
 // Whether a word is a character of four bytes.
+// Same answer (16_777_216 → 16777215, 16_777_216 → 16777217): the remainder of the third byte is
+// too small to change the quotient.
 #[inline(always)]
 fn is_four(word: u32) -> bool
     ensures { IsTrue result
@@ -140,6 +150,10 @@ fn is_four(word: u32) -> bool
 
 // How many bytes are passed of the ASCII in front, the first eight at once and then sixteen at a time;
 // 0 where fewer than eight stand there.
+// Same answer (8 → 7): the eighth byte is examined again.
+// Same answer (>= → >, 16 → 17): the last sixteen bytes are passed as eight and eight.
+// Same answer (16 → 15): of fifteen bytes the last eight are not all present.
+// Same answer (16 → 15 #2): the sixteenth byte is examined again.
 #[inline(always)]
 fn ascii_eights_len(bytes: &[u8]) -> usize
     ensures within { result ≤ length bytes.now }
@@ -158,6 +172,11 @@ fn ascii_eights_len(bytes: &[u8]) -> usize
 }
 
 // How many bytes some characters have with which these bytes begin, or 0 where they begin with none.
+// Same answer (== → !=): eight ASCII bytes are not looked for or not found, and four are passed.
+// Same answer (4 → 3): eight ASCII bytes are not found, and four are passed.
+// Same answer (4 → 5): eight ASCII bytes are not looked for, and four are passed.
+// Same answer (if eights > 0 → nothing): four ASCII bytes are passed instead of eight.
+// Same answer (0 → 1): the count is 0, 8 or 16.
 #[inline(always)]
 fn front_len(bytes: &[u8]) -> usize
     requires { 0 < length bytes.now }

@@ -73,6 +73,7 @@ pub fn is_wanted(wanted: Wanted, c: char, mark: Mark) -> bool
 
 // Whether the text begins with a word that is counted in 兆 as mega: most by their first character,
 // the others by the first two.
+// Same answer ('\0' → '\t'): no word has a tab or a NUL.
 #[inline(never)]
 #[tactic(auto, unfolding(crate::specs::Belongs::begins_measure))]
 fn begins_measure(text: &str) -> bool

@@ -349,6 +349,8 @@ pub fn is_about(before: &str, text: &str, after: &str) -> bool
 }
 
 // The mark of the only character of a text where the table of marks has it: it is Chinese.
+// Same answer (3 → 2): no character of the table has two bytes, so all are decoded, which is
+// slower.
 #[inline(always)]
 fn only_known(text: &str) -> Option<Mark>
     ensures { IfSome result (λ mark. (c : ℕ) × (chars text.now ≡ c ∷ []) × (marked mark ≡ mark_of c)
@@ -380,6 +382,10 @@ fn only_mark_slowly(text: &str) -> Option<(Mark, bool)>
 }
 
 // The same, where most texts are told without decoding.
+// Same answer (if let Some(mark) = only_known(text) → nothing): the character is decoded, more
+// slowly.
+// Same answer (> → >= #2, 1 → 0 #2): a single byte has already been answered.
+// Same answer (1 → 2 #2): two ASCII bytes are decoded, more slowly.
 #[inline(always)]
 fn only_mark(text: &str) -> Option<(Mark, bool)>
     ensures { MatchOption result ((c : ℕ) → chars text.now ≢ c ∷ [])

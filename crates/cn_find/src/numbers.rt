@@ -107,6 +107,7 @@ impl<'a, R: SearchRule> Iterator for Numbers<'a, R> {
 
     ghost remaining = { item_count (λ left. left) };
 
+    // Same answer (if self.rest.is_empty() → nothing): an empty text has no run either.
     #[tactic(auto, using(crate::proofs::Runs::none_left, crate::proofs::Runs::none_left_of_empty))]
     fn next(&mut self) -> Option<Found<'a>> {
         // At the end of a text it is known at once that nothing is left.

@@ -39,6 +39,7 @@ impl SearchRule for NumberRule {
         belongs(self.wanted, c, mark, after)
     }
 
+    // Same answer (c, next → next, c): two characters are separated in either order.
     #[inline(always)]
     fn is_parted(self, c: char, next: char) -> bool {
         is_parted(c, next)

@@ -25,6 +25,7 @@ fn firsts_of(bytes: &[u8; 32]) -> usize
 
 // Passes so many characters at most, 32 bytes at once: where the next one begins or the bytes end,
 // and how many characters are left to pass. It stands by itself, so that what calls it is short.
+// Same answer (> → >=): the last chunk is passed byte by byte.
 #[inline(never)]
 pub(crate) fn pass_chunks(bytes: &[u8], many: usize) -> (usize, usize)
     ensures passed { PassesFirsts bytes.now many result.0 result.1 }

@@ -26,6 +26,9 @@ struct DigitRun {
 }
 
 // The digits of three bytes at the start of a text, at most nineteen, whose number fits 64 bits.
+// Same answer (<= → <, 1_000_000_000_000_000_000 → 999999999999999999): more digits are read in two
+// runs, which give the same number.
+// Same answer (1_000_000_000_000_000_000 → 1000000000000000001): a weight is a power of ten.
 #[inline(always)]
 fn split_digit_run(text: &str) -> (DigitRun, &str)
     ensures run { IsDigitRun text.now result.1.now result.0.count result.0.weight result.0.value }
@@ -83,6 +86,8 @@ fn piece_of(c: char, mark: Mark) -> Piece
 }
 
 // What a text starts with, and what stands after it. Digits of three bytes are found quickly.
+// Same answer (if run.count > 0 → nothing, 0 → 1): without a run `piece_of` decides what the first
+// character is, more slowly.
 #[inline(always)]
 fn split_first_piece(text: &str) -> Option<(Piece, &str)>
     ensures parts { MatchOption result (chars text.now ≡ [])

@@ -37,6 +37,8 @@ impl Model for OpenUnits {
 
 /// A product and a sum, if they fit. Where both factors are below 2^64 the product does, and is
 /// found faster.
+// Same answer (if let (Ok(factor), Ok(size)) = (u64::try_fro.. → nothing): the product in 128 bits
+// is the same, but slower.
 pub fn multiply_add(factor: u128, size: u128, more: u128) -> Option<u128>
     ensures { SomeIff result (factor * size + more < 2 ^ 128) (factor * size + more) }
 {
@@ -98,6 +100,8 @@ impl OpenUnits {
     }
 
     // Closes the unit on top, if the sum fits.
+    // Same answer (sum, size, top.below → size, sum, top.below): a product is the same in either
+    // order.
     fn close_top(&mut self, sum: u128) -> Option<u128>
         requires { 0 < length self.old }
         ensures { ClosesTop sum self.old self.new result }

@@ -57,6 +57,7 @@ fn begins_three_byte_space(bytes: &[u8]) -> bool
 
 // How many bytes the first character has where it is white space, else 0. Most that are none are told
 // by their first byte.
+// Same answer (0xE1 → 0xe0, 0xE3 → 0xe4): no white space begins with that byte.
 #[inline(always)]
 fn first_space_len(bytes: &[u8]) -> usize
     ensures { result ≡ first_space_len bytes.now }
@@ -73,6 +74,8 @@ fn first_space_len(bytes: &[u8]) -> usize
 }
 
 // How many bytes the last character has where it is white space, else 0.
+// Same answer (0x00 → 0x1, ..= → .., 0x7F → 0x7e): no other text that ends with that byte has white
+// space there; the answer is only slower.
 #[inline(always)]
 fn last_space_len(bytes: &[u8]) -> usize
     ensures { result ≡ last_space_len bytes.now }

@@ -38,6 +38,8 @@ fn first_key(text: &str) -> Option<u32>
 
 /// The first character where it takes three bytes, its mark, and what stands after it. Looked up by
 /// its bytes, each is passed in 16 instructions fewer. `None` says nothing of a text.
+// Same answer (65_536 → 65535, 65_536 → 65537): the third byte remains the quotient for all values
+// of the other two.
 #[inline(always)]
 pub fn split_first_three(text: &str) -> Option<(char, Mark, &str)>
     ensures parts { IfSome result (λ r. (chars text.now ≡ r.0 ∷ chars r.2.now)
@@ -52,6 +54,8 @@ pub fn split_first_three(text: &str) -> Option<(char, Mark, &str)>
 }
 
 /// The first character, its mark, and what stands after it.
+// Same answer (if let Some((c, mark, after)) = split_first_t.. → nothing): the decoder of std gives
+// the same first character, more slowly.
 #[inline(always)]
 pub fn split_first_mark(text: &str) -> Option<(char, Mark, &str)>
     ensures parts { MatchOption result (chars text.now ≡ [])
@@ -141,6 +145,8 @@ fn last_key(text: &str) -> Option<u32>
 
 // The last character where it takes three bytes, its mark, and what stands before it. `None` says
 // nothing of a text.
+// Same answer (65_536 → 65535, 65_536 → 65537): the third byte remains the quotient for all values
+// of the other two.
 #[inline(always)]
 fn split_last_three(text: &str) -> Option<(char, Mark, &str)>
     ensures parts { IfSome result (λ r. (chars text.now ≡ chars r.2.now ++ r.0 ∷ [])
@@ -155,6 +161,8 @@ fn split_last_three(text: &str) -> Option<(char, Mark, &str)>
 }
 
 /// The last character, its mark, and what stands before it.
+// Same answer (if let Some((c, mark, before)) = split_last_t.. → nothing): the decoder of std gives
+// the same last character, more slowly.
 #[inline(always)]
 pub fn split_end_mark(text: &str) -> Option<(char, Mark, &str)>
     ensures parts { MatchOption result (chars text.now ≡ [])
@@ -306,6 +314,9 @@ fn split_only_known(text: &str) -> Option<(Mark, &str)>
 }
 
 /// The mark of the last character that is no white space, and what stands before it.
+// Same answer (if let Some((mark, before)) = split_last_know.. → nothing, if let Some((mark,
+// before)) = split_only_know.. → nothing): the decoder of std gives the same last character, more
+// slowly.
 #[inline(always)]
 pub fn split_last_mark(text: &str) -> Option<(Mark, &str)>
     ensures parts { IfSome result (λ r. (c : ℕ) × EndsWith text.now c r.1.now

@@ -4,6 +4,12 @@ ghost use Rattle.cn_judge.specs.Private.FirstKey.{BeginsThreeThrees};
 
 // Whether three characters of three bytes begin here, as most do in numerals, by the first byte of each.
 // So each is passed in 4 instructions, and alone in 7. `false` says nothing of the bytes.
+// Same answer (% → /, % → / #2, / → * #3, / → * #4, / → * #5): then no word begins three such
+// characters, and each is passed by itself, more slowly.
+// Same answer (281_474_976_710_656 → 281474976710655): it differs only where the fourth byte is
+// 0xFF, which is refused.
+// Same answer (281_474_976_710_656 → 281474976710657): it differs only where the fourth byte is 0,
+// which is refused.
 #[inline(always)]
 pub(crate) fn three_threes_at(bytes: &[u8], index: usize) -> bool
     requires { index ≤ length bytes.now }
@@ -20,6 +26,9 @@ pub(crate) fn three_threes_at(bytes: &[u8], index: usize) -> bool
 }
 
 // Whether the eight bytes of a word are of ASCII.
+// Same answer (0x80_0000_0000 → 0x7fffffffff, 0x8000_0000_0000 → 0x7fffffffffff,
+// 0x8000_0000_0000_0000 → 0x7fffffffffffffff, 0x80_0000_0000_0000 → 0x7fffffffffffff): fewer words
+// are taken as ASCII at once, and the others are decided more slowly.
 #[inline(always)]
 fn eight_are_ascii(word: u64) -> bool
     ensures first { IsTrue result → word % 256 < 128 }

@@ -36,6 +36,7 @@ pub fn decimals_of(quantity: Quantity) -> Option<usize>
 }
 
 /// With how many zeros a number ends, of its last so many digits.
+// Same answer (.. → ..=): one more digit is examined, and the answer is `count` whatever it is.
 pub fn zeros_at_end(count: usize, number: u128) -> usize
     ensures value { result ≡ zeros_at_end count number }
     ensures most { result ≤ count }

@@ -33,6 +33,7 @@ fn finish(units: &OpenExponents, state: QuickState, first: Mark) -> Option<u128>
 /// The number of a regular numeral: of digits and units above 個 that take three bytes each, where
 /// no last digit stands apart, a section's units rise to the front, each behind a digit, and all is
 /// within 128 bits. `None` says nothing of a text.
+// Same answer (> → >=, 3 → 2 #3): what is not read at once is judged from its start, more slowly.
 pub fn read_quickly(method: ChineseCountMethod, text: &str) -> Option<u128>
     ensures { IfSome result (λ n. Judges method (marks_of (text_of text.now)) (Ok n)) }
 {

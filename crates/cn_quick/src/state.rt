@@ -58,6 +58,7 @@ pub(crate) fn add_digit(state: QuickState, value: u8) -> Option<u64>
 }
 
 /// The sum so far with a section that the open units multiply, if it fits.
+// Same answer (<= → <, 19 → 18): a sum of 64 bits times 10^19 fits either multiplication.
 pub(crate) fn add_section(units: &OpenExponents, total: u128, sum: u64) -> Option<u128>
     ensures { IfSome result (λ n. (n ≡ total + sum * 10 ^ top_exponent units.now)
         × (n < 2 ^ 128)) }

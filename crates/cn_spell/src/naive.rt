@@ -27,6 +27,8 @@ struct Plain<'a> {
 
 impl<'a> Plain<'a> {
     // Takes the magnitude's sections into an array.
+    // Same answer (ChineseCountMethod::TenThousand → ChineseCountMethod::Middle): each method but
+    // `Low` takes the same sections.
     #[inline(always)]
     fn of(
         taken: &'a mut [u16; MOST],

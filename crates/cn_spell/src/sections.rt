@@ -45,6 +45,7 @@ impl<'a> Sections<'a> {
 
 // Takes off all sections but the highest, and none for `Low`. The result is how many sections these
 // are, and what is left above them.
+// Same answer (> → >=): the four lowest sections of 2^64 - 1 are taken at once or one by one.
 #[inline(always)]
 fn take_sections(
     sections: &mut [u16; MOST],

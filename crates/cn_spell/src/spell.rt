@@ -38,6 +38,10 @@ fn put_digit<P: Pen>(pen: &mut P, power: usize, digit: u8, is_gap: bool)
 }
 
 // Puts a section that something stands in front of.
+// Same answer (>= → >, 100 → 101 #3): 100 has no ones.
+// Same answer (100 → 99 #3): 99 has tens, which are written in either case.
+// Same answer (>= → > #2, 1000 → 1001): 1000 has no tens.
+// Same answer (1000 → 999): 999 has hundreds, which are written in either case.
 #[inline(always)]
 fn put_section<P: Pen>(pen: &mut P, section: u16)
     requires section { section < 10 ^ 4 }
@@ -105,6 +109,8 @@ fn put_above<P: Pen>(pen: &mut P, number: u64)
 // Puts the units behind a section that begins at the power. What is written has digits at the
 // powers below `filled` alone, and 零 stands behind the units where the next power below is empty.
 // Where the section below has a digit, the section's own unit is the only one.
+// Same answer (4 → 3): where the lower section has one digit, the loop writes the same, more
+// slowly.
 #[inline(always)]
 fn put_units<P: Pen>(pen: &mut P, method: ChineseCountMethod, power: usize, filled: usize)
     requires section { power % 4 ≡ 0 }

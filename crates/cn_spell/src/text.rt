@@ -30,6 +30,7 @@ pub trait Text {
 }
 
 // So many bytes, in a room that has no more.
+// Same answer (0 → 1 #2): each byte is overwritten before the text is read.
 #[inline(always)]
 fn zeros(alloc: Global, len: usize) -> Result<Vec<u8>, AllocError>
     ensures len { IfOk result (λ bytes. vec_len bytes ≡ len) }

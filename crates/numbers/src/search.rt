@@ -181,6 +181,8 @@ fn flush<W: Write + Drop>(writer: &mut BufWriter<W>) -> Result<(), RunError>
 }
 
 // Hands on what was written, where the next read may wait.
+// Same answer (b'\n' → b'\t'): only tests/test_numbers.py shows that answers are written before the
+// next line is read.
 fn flush_before_read<R: Read + Drop, W: Write + Drop>(
     reader: &BufReader<R>,
     writer: &mut BufWriter<W>,

@@ -14,6 +14,7 @@ use cn_lines::lines::split_line;
 use std::alloc::{AllocError, Global};
 
 // How many bytes are read at a time.
+// Same answer (65536 → 65535, 65536 → 65537): the lines are the same for every block size.
 const BLOCK: usize = 65536;
 
 // What is kept from line to line: the beginning of a line that a block has cut, and the memory
@@ -68,6 +69,8 @@ fn answer_line<W: Sink>(writer: &mut W, text: &mut String, line: &[u8]) -> Resul
 }
 
 // Answers the line that is kept and goes on with this piece, and keeps nothing.
+// Same answer (if buffers.line.is_empty() → nothing): the answers are equal; only
+// tests/test_numeral.py shows which lines need memory.
 fn answer_kept<W: Sink>(writer: &mut W, buffers: &mut Buffers, piece: &[u8]) -> Result<(), RunError>
     requires { (W.state writer.old).failed ≡ false }
     ensures replies { Replies (W.state writer.old) (W.state writer.new)

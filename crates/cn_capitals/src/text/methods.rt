@@ -20,6 +20,7 @@ impl<H: Copy> CapitalText<H> {
     }
 
     /// Puts one more capital behind the text. One that the room does not hold is left out.
+    // Same answer (4 → 5): no character uses a fifth byte of the buffer.
     pub fn put<C: Written<H>>(&mut self, capital: C)
         requires { C.can_write capital }
         ensures { PutsMore C.character self.old self.new (capital ∷ []) }

@@ -26,6 +26,7 @@ impl<'a> Room<'a> {
     }
 
     /// Puts a character in front of what is there.
+    // Same answer (4 → 5): a character has at most four bytes, so the fifth is never written.
     pub fn put_char(&mut self, character: char)
         requires { length (encode_utf8 character) ≤ self.old.free }
         ensures { PutsInFront self.old self.new (encode_utf8 character) }

@@ -1,0 +1,26 @@
+"""The comments that list mutants which give the same answer, and say why:
+
+    // Same answer (2 → 3, len → 0): the reason.
+"""
+import re
+
+ABOVE = re.compile(r"(?:^[ \t]*(?://|#\[)[^\n]*\n)*\Z", re.MULTILINE)
+LINE = re.compile(r"^[ \t]*//(?!/) ?(.*)$", re.MULTILINE)
+
+
+def listed(item, text, names):
+    """The mutants that the comment above an item of a source lists, and what is wrong with it."""
+    words = " ".join(LINE.findall(ABOVE.search(text[: item.start])[0]))
+    found, faults = set(), []
+    for start in re.finditer(r"Same answer \(", words):
+        at, is_last = start.end(), False
+        while not is_last:
+            fit = [it for it in names if re.match(r", |\): \S", words[at + len(it) :])]
+            fit = [it for it in fit if words.startswith(it, at)]
+            if not fit:
+                faults.append(f"its comment lists no mutant at: {words[at : at + 60]}")
+                break
+            found.add(name := max(fit, key=len))
+            is_last = words[at + len(name)] == ")"
+            at += len(name) + 2
+    return found, faults
