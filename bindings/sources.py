@@ -3,19 +3,17 @@
 
 Usage: sources.py
 
-Of `cn_c` and of each crate below it, that is: its line of crates.txt, its sources without the
-modules of tests, its definitions and its proofs; and the scripts that build the modules and the C
-source, with the program whose answers are kept beside them. Names and contents alone count, and a
+Of `cn_c` and of each crate below it, that is: its line of crates.txt, its sources, its definitions
+and its proofs; and the scripts that build the modules and the C source, with the program whose
+answers are kept beside them. Names and contents alone count, and a
 line ends in a line feed however it ends here.
 """
 import hashlib
-import re
 from pathlib import Path
 
 TOP = Path(__file__).resolve().parent.parent
 LIBRARY = "cn_c"
 KINDS = (("src", "*.rt"), ("specs", "*.antt"), ("proofs", "*.antt"))
-TESTS = re.compile(r"^#\[cfg\(test\)\]\nmod (\w+);", re.MULTILINE)
 SCRIPTS = (
     "bindings/library.sh",
     "bindings/web/build.sh",
@@ -45,12 +43,8 @@ def lines_below(name):
 
 def files_of(crate):
     folder = TOP / "crates" / crate
-    tests = TESTS.findall(read(folder / "src/lib.rt").decode())
     for kind, pattern in KINDS:
-        for path in (folder / kind).rglob(pattern):
-            first = path.relative_to(folder / kind).parts[0]
-            if kind != "src" or first not in {*tests, *(f"{it}.rt" for it in tests)}:
-                yield path
+        yield from (folder / kind).rglob(pattern)
 
 
 def sum_of_sources():

@@ -56,8 +56,6 @@ CHECKED = (
     ("a proof", "crates/cn_c/proofs/ReadBack.antt", longer, OTHER_SOURCES),
     ("a library", "crates.txt", replaced(b"cn_read: ", b"cn_read: cn_spell "), OTHER_SOURCES),
     ("a script", "bindings/source/chinese_number.c.in", longer, OTHER_SOURCES),
-    ("tests", "crates/cn_amount/src/tests.rt", longer, None),
-    ("tests in a folder", "crates/cn_c/src/tests/dates.rt", longer, None),
     ("a crate above", "crates/numeral/src/main.rt", longer, None),
     ("a library of others", "crates.txt", replaced(b"cn_lines: ", b"cn_lines: cn_c "), None),
     ("line ends of a source", "crates/cn_core/src/case.rt", with_carriage_returns, None),

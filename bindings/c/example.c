@@ -216,6 +216,19 @@ static void quantities_of_a_text(void) {
                                             && found[1].numerator.low == 350000 && found[1].denominator.low == 10);
 }
 
+/* Finds one expression at a time, from a byte on. */
+static void expressions_from_a_place(void) {
+    const uint8_t text[] = "共-3.5万，占12.5%";
+    const size_t text_length = sizeof text - 1;
+    size_t count;
+    cn_span span = {0, 0, 0};
+    uint32_t found = chinese_quantity_find(text, text_length, 0, 0, CN_ZHAO, &span, 1, &count);
+    expect("the first expression", found == CN_DONE && count == 1 && span.start == 3 && span.end == 10
+                                       && span.flags == CN_STANDS_ALONE);
+    found = chinese_quantity_find_utf8(text, text_length, span.end, 0, CN_ZHAO, &span, 1, &count);
+    expect("the expression after it", found == CN_DONE && count == 1 && span.start == 16 && span.end == 21);
+}
+
 /* Reads a text, which has this status, number and place. */
 static void reads(const char *text, uint32_t kind, uint32_t way, uint32_t status, cn_number number, size_t char_index,
                   size_t byte_index) {
@@ -446,6 +459,7 @@ int main(void) {
     first_steps();
     numbers_of_a_text();
     quantities_of_a_text();
+    expressions_from_a_place();
     texts_of_char();
     quantities_of_char();
     amounts_of_char();

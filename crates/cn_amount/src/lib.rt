@@ -28,8 +28,6 @@ mod read;
 mod signed;
 mod state;
 mod sum;
-#[cfg(test)]
-mod tests;
 mod typed;
 mod write;
 

@@ -22,8 +22,6 @@ mod replacing;
 mod room;
 mod signed_amount;
 mod status;
-#[cfg(test)]
-mod tests;
 mod typed_amount;
 mod version;
 

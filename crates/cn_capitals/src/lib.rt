@@ -12,8 +12,6 @@ pub mod laws;
 mod reader;
 mod refusal;
 mod table;
-#[cfg(test)]
-mod tests;
 mod text;
 mod written;
 

@@ -16,8 +16,6 @@ mod part;
 mod put;
 mod read;
 mod state;
-#[cfg(test)]
-mod tests;
 mod write;
 
 pub use date::BillDate;

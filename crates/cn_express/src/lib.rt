@@ -10,8 +10,6 @@ pub mod laws;
 mod memory;
 mod numerals;
 mod room;
-#[cfg(test)]
-mod tests;
 
 pub use error::QuantityToChineseError;
 pub use figures::{MOST_FIGURES_BYTES, put_figures, quantity_to_figures};

@@ -7,8 +7,6 @@ mod replace;
 mod replacement;
 mod room;
 mod sink;
-#[cfg(test)]
-mod tests;
 
 pub use figures::{InFigures, Included, put_quantities_in_figures, quantities_to_figures};
 pub use replace::replace_quantities;

@@ -29,7 +29,9 @@ pub fn reads<T: Copy + PartialEq + Debug>(
     assert_eq!(rt; answer, *wanted, "{text}");
 }
 
-/// Asserts that what a printer writes is this text.
+/// Asserts that what a printer writes is this text, in memory of its very size.
 pub fn writes<E: Debug + Drop>(rt: &impl Abort, printed: Result<String, E>, text: &str) {
-    assert_eq!(rt; printed.expect(rt, text).as_str(), text);
+    let written = printed.expect(rt, text);
+    assert_eq!(rt; written.as_str(), text);
+    assert_eq!(rt; written.capacity(), text.len(), "{text}");
 }

@@ -1,19 +1,32 @@
-//! Tests alone, by the public calls and one of the shortcut: each call by its name, long texts, and
-//! callers who print and read back. Worked examples and the upstream crate's vectors are `tests/rows`.
+//! Tests alone, of the libraries below, each of which would be proved twice if it had tests: each call
+//! by its name, long texts, callers who print and read back, texts in memory of their very size, and
+//! what is found and replaced. Worked examples and the upstream crate's vectors are `tests/rows`.
 #![tactic(auto)]
 
 #[cfg(test)]
+mod amounts;
+#[cfg(test)]
 mod calls;
+#[cfg(test)]
+mod capital_texts;
+#[cfg(test)]
+mod dates;
 #[cfg(test)]
 mod each_printer;
 #[cfg(test)]
 mod error_texts;
 #[cfg(test)]
+mod found_numbers;
+#[cfg(test)]
 mod long;
+#[cfg(test)]
+mod quantities;
 #[cfg(test)]
 mod reading_at_once;
 #[cfg(test)]
 mod reading_back;
+#[cfg(test)]
+mod replacing;
 #[cfg(test)]
 mod scales;
 #[cfg(test)]

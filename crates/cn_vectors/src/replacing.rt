@@ -1,12 +1,10 @@
-// What is put in place of expressions by a replacement of one's own.
+// Expressions that are replaced: by stars, and by figures.
 ghost use Rattle.std.specs.Prelude.{codes, Some, None, if◌then◌else◌, nat_lt, length};
 
-use crate::{
-    Included, Replacement, Sink, put_quantities_in_figures, quantities_to_figures,
-    replace_quantities,
+use chinese_number::{
+    ChineseCountMethod, Found, Included, Replacement, Sink, Wanted, put_quantities_in_figures,
+    quantities_to_figures, replace_quantities,
 };
-use cn_core::ChineseCountMethod;
-use cn_find::{Found, Wanted};
 use std::test::Fail;
 
 #[derive(Copy, Clone)]
@@ -46,12 +44,12 @@ static IN_FIGURES: [(&str, &str, &str); 10] = [
     ("没有", "没有", "没有"),
 ];
 
-// Whether so many bytes are told of a text in figures, and a room begins with them that has a place
-// for them.
-fn puts(room: &mut [u8], text: &str, included: Included, expected: &str) -> bool {
+// Whether a text in figures is said to have the length of this one, and a buffer that is large
+// enough begins with it.
+fn puts(buffer: &mut [u8], text: &str, included: Included, expected: &str) -> bool {
     let method = ChineseCountMethod::TenThousand;
-    let count = put_quantities_in_figures(room, text, Wanted::EVERYDAY, method, included);
-    count == expected.len() && (count > room.len() || room.starts_with(expected.as_bytes()))
+    let count = put_quantities_in_figures(buffer, text, Wanted::EVERYDAY, method, included);
+    count == expected.len() && (count > buffer.len() || buffer.starts_with(expected.as_bytes()))
 }
 
 #[test]

@@ -1,10 +1,10 @@
-// What no contract says: that memory is asked for once, in the text's very size.
-use crate::{
-    AmountForm, AmountToChineseError, amount_to_chinese, amount_to_chinese_as,
+// Amounts of money: what is written, in one request for memory, and what is read.
+use crate::calls::writes;
+use chinese_number::ChineseVariant::{Simple, Traditional};
+use chinese_number::{
+    AmountForm, ChineseVariant, amount_to_chinese, amount_to_chinese_as,
     chinese_to_amount_as_typed, chinese_to_signed_amount, signed_amount_to_chinese,
 };
-use cn_core::ChineseVariant;
-use cn_core::ChineseVariant::{Simple, Traditional};
 
 static ENDS: [(u64, &str); 2] = [
     (5, "伍分"),
@@ -13,19 +13,6 @@ static ENDS: [(u64, &str); 2] = [
         "玖仟玖佰玖拾玖万玖仟玖佰玖拾玖亿玖仟玖佰玖拾玖万玖仟玖佰玖拾玖元玖角玖分",
     ),
 ];
-
-#[test]
-fn writes_amounts_in_one_request(rt: HostRuntime) {
-    for (amount, text) in &ENDS {
-        match amount_to_chinese(rt.alloc(), ChineseVariant::Simple, *amount) {
-            Ok(written) => {
-                assert_eq!(rt; written.as_str(), *text);
-                assert_eq!(rt; written.capacity(), text.len(), "{text}");
-            }
-            Err(error) => assert_eq!(rt; error, AmountToChineseError::OutOfMemory),
-        }
-    }
-}
 
 // What is written for 15 yuan where 人民币, 圆 and 正 are asked for or not.
 static FORMS: [(ChineseVariant, bool, bool, bool, &str); 5] = [
@@ -37,20 +24,18 @@ static FORMS: [(ChineseVariant, bool, bool, bool, &str); 5] = [
 ];
 
 #[test]
-fn writes_amounts_as_asked_for(rt: HostRuntime) {
+fn writes_amounts(rt: HostRuntime) {
+    for (fen, text) in &ENDS {
+        writes(&rt, amount_to_chinese(rt.alloc(), Simple, *fen), text);
+    }
     for (variant, currency, round_yuan, upright_closing, text) in &FORMS {
         let form = AmountForm {
             currency: *currency,
             round_yuan: *round_yuan,
             upright_closing: *upright_closing,
         };
-        match amount_to_chinese_as(rt.alloc(), *variant, form, 1_500) {
-            Ok(written) => {
-                assert_eq!(rt; written.as_str(), *text);
-                assert_eq!(rt; written.capacity(), text.len(), "{text}");
-            }
-            Err(error) => assert_eq!(rt; error, AmountToChineseError::OutOfMemory),
-        }
+        let written = amount_to_chinese_as(rt.alloc(), *variant, form, 1_500);
+        writes(&rt, written, text);
     }
 }
 
@@ -68,13 +53,8 @@ static SIGNED: [(ChineseVariant, i64, &str); 4] = [
 #[test]
 fn writes_and_reads_amounts_below_zero(rt: HostRuntime) {
     for (variant, fen, text) in &SIGNED {
-        match signed_amount_to_chinese(rt.alloc(), *variant, AmountForm::PLAIN, *fen) {
-            Ok(written) => {
-                assert_eq!(rt; written.as_str(), *text);
-                assert_eq!(rt; written.capacity(), text.len(), "{text}");
-            }
-            Err(error) => assert_eq!(rt; error, AmountToChineseError::OutOfMemory),
-        }
+        let written = signed_amount_to_chinese(rt.alloc(), *variant, AmountForm::PLAIN, *fen);
+        writes(&rt, written, text);
         assert_eq!(rt; chinese_to_signed_amount(text), Ok(*fen));
     }
 }
