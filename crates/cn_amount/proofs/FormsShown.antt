@@ -131,7 +131,7 @@ shown-form choices p digits = by choices.currency where
   by false = top
 
 -- the digits of an amount write it
-places-of : (amount : ℕ) → ArePlaces (places_of amount)
+pub places-of : (amount : ℕ) → ArePlaces (places_of amount)
 places-of amount = (
   (omega arith, omega arith, omega arith, omega arith),
   (omega arith, omega arith, omega arith, omega arith),
@@ -144,7 +144,7 @@ places-of amount = (
 section-of : (number : ℕ) → section_value (section_of number) ≡ number % 10000
 section-of number = omega arith
 
-amount-of : (amount : ℕ) → amount < amount_limit → amount ≡ amount_value (places_of amount)
+pub amount-of : (amount : ℕ) → amount < amount_limit → amount ≡ amount_value (places_of amount)
 amount-of amount low =
     omega (
       arith,

@@ -10,6 +10,7 @@ pub mod KnownDecimals
 pub mod KnownFigures
 pub mod LastFigures
 pub mod LastMarks
+mod LawExamples
 pub mod NumberTexts
 pub mod NumeralsRead
 pub mod Pieces

@@ -16,7 +16,7 @@ use Rattle.cn_figures.proofs.FiguresRead.{figures-read}
 use Rattle.cn_figures.proofs.FiguresRun.{at}
 
 -- figures of ¥ or nothing, digits, triples and places
-made : (text : List ℕ) (currency : Bool) (front : List ℕ) (triples : List Triple) (places : List ℕ)
+pub made : (text : List ℕ) (currency : Bool) (front : List ℕ) (triples : List Triple) (places : List ℕ)
     → 0 < length front → (triples ≡ []) ⊎ (length front ≤ 3)
     → IsTrue (list_all (λ digit. digit == 0) (drop 2 places))
     → parts_of text

@@ -2,6 +2,7 @@ pub mod Examples
 mod FiguresRead
 mod FiguresRun
 mod Fronts
+mod LawExamples
 mod ShownRead
 mod Signed
 mod Yuan

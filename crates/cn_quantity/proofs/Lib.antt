@@ -2,6 +2,7 @@ pub mod Bars
 pub mod Ends
 mod Examples
 pub mod Growing
+mod LawExamples
 pub mod Numbers
 pub mod Points
 pub mod Ratios

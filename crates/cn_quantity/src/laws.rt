@@ -1,18 +1,10 @@
 //! What users may count on, as contracts of functions that do nothing.
-ghost use Rattle.std.specs.Prelude.{◌≡◌, ◌<◌, ℕ, List, length, Result, Err};
+ghost use Rattle.std.specs.Prelude.{◌≡◌, ◌<◌, ℕ, List, length, Err};
 ghost use Rattle.cn_core.specs.declared.method.ChineseCountMethod.{ChineseCountMethod};
 ghost use Rattle.cn_core.specs.CharIndex.{char_index_of};
-ghost use Rattle.cn_core.specs.Refusal.{Refusal, incorrect_at};
+ghost use Rattle.cn_core.specs.Refusal.{incorrect_at};
 ghost use Rattle.cn_core.specs.Text.{text_of};
-ghost use Rattle.cn_quantity.specs.declared.quantity.Quantity.{Quantity};
 ghost use Rattle.cn_quantity.specs.Reading.{quantity_answer};
-
-/// Each string has one answer.
-pub fn each_string_has_one_answer()
-    ensures { (method : ChineseCountMethod) (bytes : List ℕ) (one other : Result Quantity Refusal)
-        → one ≡ quantity_answer method bytes → other ≡ quantity_answer method bytes
-        → one ≡ other }
-{}
 
 /// A refusal points at a character: its char_index is that of a place of the text, the sign's
 /// counted.

@@ -1,3 +1,4 @@
+mod LawExamples
 pub mod Parts
 pub mod Replacing
 pub mod Unchanged

@@ -1,5 +1,5 @@
-//! What holds of quantities: each string has one answer, a refusal points at a character, a number
-//! stays that number, and what is written is read back.
+//! What holds of quantities: a refusal points at a character, a number stays that number, and what is
+//! written is read back.
 ghost use Rattle.std.specs.Prelude.{◌≡◌, ℕ, ℤ, List, Ok};
 ghost use Rattle.cn_core.specs.declared.method.ChineseCountMethod.{ChineseCountMethod};
 ghost use Rattle.cn_core.specs.Reading.{Reads, naive_reading};
@@ -8,7 +8,7 @@ ghost use Rattle.cn_quantity.specs.declared.quantity.QuantityForm.TheVariants.{W
 ghost use Rattle.cn_quantity.specs.Reading.{quantity_answer};
 
 pub use cn_express::laws::{figures_are_read_back, what_is_written_is_read_back};
-pub use cn_quantity::laws::{each_string_has_one_answer, refusals_point_at_characters};
+pub use cn_quantity::laws::refusals_point_at_characters;
 
 /// A number stays that number: what is read as an `i128`, by the method or as plain digits, is as a
 /// quantity that whole number over 1.

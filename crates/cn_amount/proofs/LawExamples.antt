@@ -1,0 +1,128 @@
+-- Of each law that has premises, values that meet all of them.
+use Rattle.std.proofs.Common.{◌≡◌, ℕ, ◌-◌, ◌^◌, ◌<◌, negsuc, nat_abs, true, false, List, ◌++◌, map, Some, codes, refl, arith}
+use Rattle.cn_amount.specs.Form.{Choices, written, amount_form}
+use Rattle.cn_amount.specs.Places.{amount_limit, places_of}
+use Rattle.cn_amount.specs.Reading.{capital_of, capitals_of, IsAmount}
+use Rattle.cn_amount.specs.Signed.{IsSignedAmount}
+use Rattle.cn_amount.specs.Typed.{IsTypedAmount}
+use Rattle.cn_amount.proofs.FormsShown.{amount-of, places-of}
+
+-- a form of an amount, by its choices
+form-of : (text : List ℕ) (choices : Choices) (fen : ℕ) → fen < amount_limit
+    → capitals_of text ≡ map Some (amount_form choices (places_of fen)) → IsAmount text fen
+form-of text choices fen low form = record {
+  choices = choices;
+  places = places_of fen;
+  digits = places-of fen;
+  form = form;
+  value = amount-of fen low;
+}
+
+-- no 零 after 万, and no 整 after 角
+abbrev without_these : Choices
+without_these = record {
+  currency = false;
+  no_yuan = false;
+  behind_wan_yi = true;
+  behind_yi = true;
+  behind_wan = false;
+  behind_yuan = false;
+  behind_jiao = false;
+}
+
+abbrev with_currency : Choices
+with_currency = record {
+  currency = true;
+  no_yuan = false;
+  behind_wan_yi = true;
+  behind_yi = true;
+  behind_wan = true;
+  behind_yuan = false;
+  behind_jiao = true;
+}
+
+one_yuan : IsAmount (codes "壹元整") 100
+unfolding capital_of
+one_yuan = form-of (codes "壹元整") written 100 (omega arith) refl
+
+fifteen : IsAmount (codes "壹拾伍元整") 1500
+unfolding capital_of
+fifteen = form-of (codes "壹拾伍元整") written 1500 (omega arith) refl
+
+-- the greatest amount
+greatest : IsAmount (codes "玖仟玖佰玖拾玖万玖仟玖佰玖拾玖亿玖仟玖佰玖拾玖万玖仟玖佰玖拾玖元玖角玖分") (10 ^ 18 - 1)
+unfolding capital_of
+greatest =
+    form-of
+    (codes "玖仟玖佰玖拾玖万玖仟玖佰玖拾玖亿玖仟玖佰玖拾玖万玖仟玖佰玖拾玖元玖角玖分")
+    written (10 ^ 18 - 1) (omega arith) refl
+
+written_amounts_are_amounts : 10 ^ 18 - 1 < amount_limit
+written_amounts_are_amounts = omega arith
+
+-- a form of one amount by two choices
+each_text_is_one_amount : IsAmount (codes "壹元整") 100 × IsAmount (codes "壹元整") 100
+unfolding capital_of
+each_text_is_one_amount =
+    (one_yuan, form-of (codes "壹元整") without_these 100 (omega arith) refl)
+
+beginnings_are_begun : IsAmount (codes "壹拾" ++ codes "伍元整") 1500
+beginnings_are_begun = fifteen
+
+amounts_are_below_the_limit : IsAmount
+    (codes "玖仟玖佰玖拾玖万玖仟玖佰玖拾玖亿玖仟玖佰玖拾玖万玖仟玖佰玖拾玖元玖角玖分") (10 ^ 18 - 1)
+amounts_are_below_the_limit = greatest
+
+-- 39 characters
+forms_are_short : IsAmount
+    (codes "人民币玖仟玖佰玖拾玖万玖仟玖佰玖拾玖亿玖仟玖佰玖拾玖万玖仟玖佰玖拾玖元玖角玖分") (10 ^ 18 - 1)
+unfolding capital_of
+forms_are_short =
+    form-of
+    (codes "人民币玖仟玖佰玖拾玖万玖仟玖佰玖拾玖亿玖仟玖佰玖拾玖万玖仟玖佰玖拾玖元玖角玖分")
+    with_currency (10 ^ 18 - 1) (omega arith) refl
+
+signed-written_amounts_are_amounts : nat_abs (negsuc 1499) < amount_limit
+signed-written_amounts_are_amounts = omega arith
+
+signed-each_text_is_one_amount : IsSignedAmount (codes "负壹元整") (negsuc 99)
+    × IsSignedAmount (codes "负壹元整") (negsuc 99)
+signed-each_text_is_one_amount = (
+  record { magnitude = 100; form = each_text_is_one_amount.0; value = refl },
+  record { magnitude = 100; form = each_text_is_one_amount.1; value = refl },
+)
+
+signed-beginnings_are_begun : IsSignedAmount (codes "负壹拾" ++ codes "伍元整") (negsuc 1499)
+signed-beginnings_are_begun = record { magnitude = 1500; form = fifteen; value = refl }
+
+signed-amounts_stay_amounts : IsAmount (codes "壹拾伍元整") 1500
+signed-amounts_stay_amounts = fifteen
+
+signed-amounts_are_below_the_limit : IsSignedAmount
+    (codes "负玖仟玖佰玖拾玖万玖仟玖佰玖拾玖亿玖仟玖佰玖拾玖万玖仟玖佰玖拾玖元玖角玖分") (negsuc (10 ^ 18 - 2))
+signed-amounts_are_below_the_limit =
+    record { magnitude = 10 ^ 18 - 1; form = greatest; value = refl }
+
+-- 40 characters
+signed-forms_are_short : IsSignedAmount
+    (codes "负人民币玖仟玖佰玖拾玖万玖仟玖佰玖拾玖亿玖仟玖佰玖拾玖万玖仟玖佰玖拾玖元玖角玖分")
+    (negsuc (10 ^ 18 - 2))
+signed-forms_are_short =
+    record { magnitude = 10 ^ 18 - 1; form = forms_are_short; value = refl }
+
+typed-written_amounts_are_amounts : 1500 < amount_limit
+typed-written_amounts_are_amounts = omega arith
+
+typed-each_text_is_one_amount : IsTypedAmount (codes "⊗ 壹元整") 100
+    × IsTypedAmount (codes "⊗ 壹元整") 100
+typed-each_text_is_one_amount = each_text_is_one_amount
+
+typed-beginnings_are_begun : IsTypedAmount (codes "⊗ 壹拾 " ++ codes "伍元 整") 1500
+typed-beginnings_are_begun = fifteen
+
+typed-amounts_stay_amounts : IsAmount (codes "壹拾伍元整") 1500
+typed-amounts_stay_amounts = fifteen
+
+typed-amounts_are_below_the_limit : IsTypedAmount
+    (codes "玖仟玖佰玖拾玖万 玖仟玖佰玖拾玖亿 玖仟玖佰玖拾玖万 玖仟玖佰玖拾玖元 玖角 玖分") (10 ^ 18 - 1)
+typed-amounts_are_below_the_limit = greatest
