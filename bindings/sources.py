@@ -5,8 +5,8 @@ Usage: sources.py
 
 Of `cn_c` and of each crate below it, that is: its line of crates.txt, its sources, its definitions
 and its proofs; and the scripts that build the modules and the C source, with the program whose
-answers are kept beside them. Names and contents alone count, and a
-line ends in a line feed however it ends here.
+answers are kept beside them. Names and contents alone count, and a line ends in a line feed however
+it ends here.
 """
 import hashlib
 from pathlib import Path

@@ -1,29 +1,15 @@
-"""Wrong bodies as text: what each turns, and whether it keeps the shape of the code.
+"""Edits that make bodies wrong, as text.
 
-A wrong body is made by an edit. Those of a crate stand in its file `wrong-bodies`, parted by empty
-lines, each under its name; a few stand in `must-fail/NAME.edit`, where `rt ci` tries them too, and
-what `rt` does not read begins with `# `. An edit has a line `file:`, a line `refused:` with the
-functions that have to be refused for it, and pairs of lines `old:` and `new:`. Behind a `new:` that
-changes the shape of the code stands a line `twin:`, the same shape with the right value. A line
-`why:` says what an edit is for that turns nothing that users call.
+Those of a crate are in its file `wrong-bodies`, separated by empty lines, each below its name; a few
+are files `must-fail/NAME.edit`, which `rt ci` tries, and in which `# ` begins what `rt` does not read.
+An edit has a line `file:`, a line `refused:` with the functions that have to be refused for it, and
+pairs of lines `old:` and `new:`. After a `new:` that changes the shape of the code comes a line
+`twin:`, the same shape with the right value.
 """
-import re
 from collections import namedtuple
 
-Edit = namedtuple("Edit", "name why file refused changes")
+Edit = namedtuple("Edit", "name file refused changes")
 Change = namedtuple("Change", "old new twin")
-COMMENT = re.compile(r"/\*.*?\*/|//[^\n]*", re.DOTALL)
-TOKEN = re.compile(
-    r"""b?"(?:\\.|[^"\\])*"|b?'(?:\\.|[^'\\])'|'?(?:\w+(?:::|\.))*\w+(?:::<[^<>]*>)?"""
-    r"|<<=|>>=|\.\.=|=>|->|&&|\|\||[-+*/%&|^<>=!]=|\+\+|<<|>>|\.\.|\S"
-)
-OPERATORS = set(
-    "+ - * / % & | ^ ! < > <= >= == != && || << >> ++ .. ..= += -= *= ≡ ≢ ≤ × ⊎ ↔ ∷".split()
-)
-KEYWORDS = set(
-    "as const else ensures fn for if impl in let loop match mut pub requires return struct use"
-    " while".split()
-)
 
 
 def crates_with_edits(crates):
@@ -32,27 +18,28 @@ def crates_with_edits(crates):
     return sorted({crates / file.relative_to(crates).parts[0] for file in files})
 
 
+def wrong_bodies_of(crate):
+    """The edits of a crate in its file `wrong-bodies`."""
+    file = crate / "wrong-bodies"
+    text = file.read_text(encoding="utf-8").strip("\n") if file.exists() else ""
+    blocks = (block.partition("\n") for block in text.split("\n\n") if block)
+    return [read(name, text) for name, _, text in blocks]
+
+
 def edits_of(crate):
-    """The edits of a crate."""
-    file, found = crate / "wrong-bodies", []
-    if file.exists():
-        for block in file.read_text(encoding="utf-8").strip("\n").split("\n\n"):
-            name, _, text = block.partition("\n")
-            found.append(read(name, text))
-    for path in sorted((crate / "must-fail").glob("*.edit")):
-        found.append(read(path.stem, path.read_text(encoding="utf-8").rstrip("\n")))
-    return found
+    """All edits of a crate."""
+    files = sorted((crate / "must-fail").glob("*.edit"))
+    found = [read(it.stem, it.read_text(encoding="utf-8").rstrip("\n")) for it in files]
+    return wrong_bodies_of(crate) + found
 
 
 def read(name, text):
     """An edit, by the text below its name."""
-    why, file, refused, changes, old = None, None, (), [], None
+    file, refused, changes, old = None, (), [], None
     for line in text.split("\n"):
         word, _, value = line.removeprefix("# ").partition(": ")
         if word == "file" and file is None:
             file = value
-        elif word == "why" and why is None:
-            why = value
         elif word == "refused":
             refused = tuple(value.split(", "))
         elif word == "old":
@@ -65,7 +52,7 @@ def read(name, text):
             raise ValueError(f"{name}: a line that no edit has: {line!r}")
     if file is None or not refused or not changes:
         raise ValueError(f"{name}: it lacks a line file:, refused:, old: or new:")
-    return Edit(name, why, file, refused, changes)
+    return Edit(name, file, refused, changes)
 
 
 def has_twin(edit):
@@ -76,32 +63,6 @@ def applied(edit, text, twin=False):
     """The text of the edit's file after it; of its twin, if that is asked for."""
     for old, new, right in edit.changes:
         if text.count(old) != 1:
-            raise ValueError(f"{old!r} stands {text.count(old)} times in {edit.file}")
+            raise ValueError(f"{old!r} occurs {text.count(old)} times in {edit.file}")
         text = text.replace(old, right if twin and right is not None else new)
     return text
-
-
-def tokens(text):
-    return TOKEN.findall(COMMENT.sub(" ", text))
-
-
-def is_value(token):
-    return re.match(r"""b?["']|'?\w""", token) is not None and token not in KEYWORDS
-
-
-def turned(one, other):
-    """The values in `one` and those in `other` in their place; None where the shapes differ."""
-    one, other = tokens(one), tokens(other)
-    if len(one) != len(other):
-        return None
-    pairs = {pair for pair in zip(one, other) if pair[0] != pair[1]}
-    alike = all(is_value(a) and is_value(b) or {a, b} <= OPERATORS for a, b in pairs)
-    return pairs if alike else None
-
-
-def differ_in_one_value(one, other):
-    """Whether the texts differ in one value alone, or in two that change places."""
-    pairs = turned(one, other)
-    return pairs is not None and (
-        len(pairs) == 1 or len(pairs) == 2 and {(b, a) for a, b in pairs} == pairs
-    )

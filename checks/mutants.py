@@ -102,7 +102,7 @@ class Function:
         self.listed, self.faults = survivors.listed(item, original, [it.name for it in mutants])
 
     def line(self):
-        return f"{self.digest} {''.join(self.letters) or '-'} {self.item.path}"
+        return f"{self.digest} {''.join(self.letters)} {self.item.path}"
 
 
 def verdicts_of(crate):
@@ -110,7 +110,7 @@ def verdicts_of(crate):
     file, found = crate / "verdicts", {}
     for line in file.read_text(encoding="utf-8").splitlines() if file.exists() else ():
         digest, letters, path = line.split(" ")
-        found[path] = digest, "" if letters == "-" and len(letters) == 0 else letters
+        found[path] = digest, letters
     return found
 
 
@@ -403,6 +403,8 @@ def main():
     budget = Budget(given.minutes and 60 * given.minutes)
     if not given.compare:
         try_all(crates, given, budget)
+    for crate in crates if not given.compare and not given.gate else ():
+        crate.write()
     faults, reports = (sum(its, []) for its in zip(*(it.faults() for it in crates)))
     print(*reports, sep="\n", end="\n" * bool(reports))
     waiting = report(crates, budget.used)

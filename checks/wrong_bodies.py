@@ -120,7 +120,7 @@ def judged(name, plants, ran):
 def try_crate(name, scratch, group):
     """The edits of a crate, and what came of each round."""
     crate, room, judgements = CRATES / name, scratch / name, []
-    edits = edit_files.edits_of(crate)
+    edits = edit_files.wrong_bodies_of(crate)
     rounds = rounds_of(plants_of(crate, edits))
     kept = crate / "out/incremental"
     if kept.is_dir():
@@ -172,9 +172,9 @@ def main():
     words.add_argument("--at-once", type=int, default=planting.at_once_by_default())
     words.add_argument("crates", nargs="*", metavar="CRATE")
     given = words.parse_args()
-    names = given.crates or [it.name for it in edit_files.crates_with_edits(CRATES)]
+    names = given.crates or [it.parent.name for it in CRATES.glob("*/wrong-bodies")]
     # The longest first.
-    names.sort(key=lambda it: -len(edit_files.edits_of(CRATES / it)))
+    names.sort(key=lambda it: -len(edit_files.wrong_bodies_of(CRATES / it)))
     for name in dict.fromkeys(it for name in names for it in planting.listed(name)[0]):
         if not given.built:
             subprocess.run(["rt", "lib"], cwd=CRATES / name, check=True, stdout=sys.stderr)
