@@ -19,15 +19,20 @@ HOLDER = re.compile(r"(pub )?(?:trait (\w+)|impl(<.*?>)? (?:([\w:]+)(<.*>)? for 
 QUOTED = r"""b?"(?:\\.|[^"\\])*"|b?'(?:\\u\{\w+\}|\\.|[^'\\])'"""
 COMMENT = re.compile(rf"({QUOTED})|//[^\n]*", re.DOTALL)
 
+TESTS = re.compile(r"^#\[cfg\(test\)\]\nmod (\w+);", re.MULTILINE)
+
 # What holds an item: its name, its path, whether its items are public, and where it begins.
 Holder = namedtuple("Holder", "name path is_public is_trait_impl start")
 
 
 def files_of(crate):
-    """The sources of a crate without its tests: each path with its text."""
-    for path in sorted(crate.glob("src/**/*.rt")):
-        if not {"tests", "tests.rt"} & set(path.parts):
-            yield path.relative_to(crate).as_posix(), path.read_text(encoding="utf-8")
+    """The sources of a crate without its modules of tests: each path with its text."""
+    texts = {
+        path.relative_to(crate).as_posix(): path.read_text(encoding="utf-8")
+        for path in sorted(crate.glob("src/**/*.rt"))
+    }
+    tests = TESTS.findall(texts.get("src/lib.rt", "") + texts.get("src/main.rt", ""))
+    return [it for it in texts.items() if Path(it[0]).with_suffix("").parts[1] not in tests]
 
 
 def without_comments(text):

@@ -1,7 +1,7 @@
 """The mutants of a crate: each has one value of a function or a constant changed.
 
-Contracts, ghost items and tests are left as they are, and so is all that is outside of bodies. What a
-value becomes: its opposite or neighbor, as a literal or an operator; a fixed value of its type; a
+Contracts, ghost items and tests are left as they are, and so is all that is outside of bodies, and a
+function with no contract, such as `main`, which tests alone show. What a value becomes: its opposite or neighbor, as a literal or an operator; a fixed value of its type; a
 field, a constant or a variant beside it; a variable or a function of the same type. An early return
 or a guard is dropped, and two arguments of one type are exchanged. Of a table's entries, and of the
 literals of patterns that have lines of their own, one is changed for each kind of value, drawn by
@@ -290,9 +290,21 @@ def all_known():
     return Known([it.parent for it in CRATES.glob("*/src")])
 
 
+def promises(item):
+    """Whether a function has a contract: of its own, or of a trait that it is a method of."""
+    head = item.text[item.start : item.begin]
+    return item.kind == "fn" and bool(
+        "ensures" in head or item.holder and item.holder.is_trait_impl
+    )
+
+
 def mutants_of(crate):
     known, items = all_known(), list(items_of(crate))
+    promising = {it.path for it in items if promises(it)}
     for item in items:
+        owners = (item.path,) if item.kind == "fn" else citing(item, items)
+        if not promising & set(owners):
+            continue
         body = Body(item, known, crate.name)
         is_long = body.text.count("\n") > 2 or body.text.count(",") > 8
         found, tables, names = [], {}, []
@@ -304,7 +316,6 @@ def mutants_of(crate):
         for (kind, is_up), entries in tables.items():
             key = f"{item.path} {kind}{'+' if is_up else ''}"
             found.append(random.Random(key).choice(entries))
-        owners = (item.path,) if item.kind == "fn" else citing(item, items)
         for begin, end, new in sorted(set(found)):
             names.append(name := named(body.text[begin:end], new))
             name += f" #{names.count(name)}" if names.count(name) > 1 else ""

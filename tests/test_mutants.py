@@ -11,21 +11,27 @@ SOURCE = """\
 ghost use Rattle.std.specs.Prelude.{◌≡◌};
 ghost use Rattle.digits.specs.Digits.{next_of};
 
-pub const GREATEST: u8 = 9;
+const GREATEST: u8 = 9;
 
 /// The next digit.
-// Same answer (9 → 10): the digit after 9 is never asked for.
+// Same answer (== → !=): this is a test of comments.
 pub fn next(digit: u8, other: u8) -> u8
     ensures { result ≡ next_of digit }
 {
-    if digit == 9 {
+    if digit == GREATEST {
         return 0;
     }
     digit + 1
 }
 
-pub fn buffer() -> [u8; 4] {
+pub fn buffer() -> [u8; 4]
+    ensures { length result ≡ GREATEST }
+{
     [7; 4]
+}
+
+pub fn main() {
+    next(1, 2);
 }
 
 pub fn twice(first: u8, second: u8) -> u8
@@ -90,13 +96,17 @@ def test_each_value_is_changed(crate):
     found = mutants_of(crate)
     assert found["GREATEST"] == ["9 → 10", "9 → 8"]
     assert "== → !=" in found["next"]
-    assert "if digit == 9 → nothing" in found["next"]
+    assert "if digit == GREATEST → nothing" in found["next"]
     assert "+ → -" in found["next"]
     assert {"first → 0", "first → second", "first, second → second, first"} <= set(found["twice"])
 
 
 def test_what_fills_an_array_is_no_value(crate):
     assert mutants_of(crate)["buffer"] == ["4 → 3", "4 → 5"]
+
+
+def test_what_promises_nothing_has_no_mutants(crate):
+    assert "main" not in mutants_of(crate)
 
 
 def test_a_weaker_definition_changes_what_cites_it(crate):
@@ -130,8 +140,8 @@ def test_comments_list_mutants(crate):
 
     (item,) = [it for it in items.items_of(crate) if it.path == "next"]
     names = mutants_of(crate)["next"]
-    assert survivors.listed(item, SOURCE, names) == ({"9 → 10"}, [])
-    unknown = SOURCE.replace("(9 → 10)", "(9 → 12)")
+    assert survivors.listed(item, SOURCE, names) == ({"== → !="}, [])
+    unknown = SOURCE.replace("(== → !=)", "(9 → 123)")
     assert len(survivors.listed(item, unknown, names)[1]) == 1
     (item,) = [it for it in items.items_of(crate) if it.path == "twice"]
     assert survivors.listed(item, SOURCE, names) == (set(), [])

@@ -35,8 +35,6 @@ use std::io::{self, ErrorKind, LineWriter};
 use std::process::ExitCode;
 
 // Replies to the words of the command line, and gives the status.
-// Same answer (1 → 0, 1 → 2, words.push(word)?; → let _ = words.push(word);): only
-// tests/test_cheque.py shows which words of the command line are read.
 fn serve(rt: &HostRuntime) -> io::Result<u8> {
     let mut words = Vec::new(rt.alloc());
     for word in env::args(rt)?.skip(1) {

@@ -6,10 +6,6 @@
 use chinese_number::{ChineseVariant, amount_to_chinese};
 use std::io;
 
-// Same answer (ChineseVariant::Simple → ChineseVariant::Traditional): 壹拾伍元整 is the same in both
-// scripts.
-// Same answer (1_500 → 1499, 1_500 → 1501): only the file stdout, which `rt ci` compares, shows
-// what the program prints.
 fn main(rt: HostRuntime) -> io::Result<()> {
     match amount_to_chinese(rt.alloc(), ChineseVariant::Simple, 1_500) {
         Ok(amount) => println!(rt; "{amount}"),

@@ -32,8 +32,6 @@ use std::env;
 use std::io::{self, BufReader, BufWriter, Read, Write};
 use std::process::ExitCode;
 
-// Same answer ("\ usage: numbers [--exact] [--all] [low | te.. → "\ zsage: numbers [--exact]
-// [--all] [low | te..): only tests/test_numbers.py shows that the usage is written.
 static USAGE: &str = "\
 usage: numbers [--exact] [--all] [low | ten_thousand | middle | high]
 Finds the Chinese numbers in its input. For each it writes a line LINE:COLUMN TEXT NUMBER, or
@@ -42,8 +40,6 @@ LINE:COLUMN TEXT err and why it is refused. The method is ten_thousand unless on
 and / and the denominator where that is not 1.
 --all looks for every character that is read, those of cheques and the units above 兆 too.";
 
-// Same answer (1 → 0, 1 → 2, words.push(word)?; → let _ = words.push(word);): only
-// tests/test_numbers.py shows which words of the command line are read.
 fn request(rt: &HostRuntime) -> io::Result<Option<Request>> {
     let mut words = Vec::new(rt.alloc());
     for word in env::args(rt)?.skip(1) {

@@ -30,9 +30,6 @@ use cn_devices::buffered_sink::BufferedSink;
 pub use cn_devices::{device, fault, memory_sink, memory_source, std_device};
 use std::process::ExitCode;
 
-// Same answer (RunError::Memory → RunError::Read): only tests/test_numeral.py shows the status
-// without memory for the output.
-// Same answer (false → true): the status without memory is 2, flushed or not.
 fn main(rt: HostRuntime) -> ExitCode {
     let Ok(mut writer) = BufferedSink::new(rt.alloc(), Device::new(rt.stdout())) else {
         return ExitCode::from(status(&Err(RunError::Memory), false));
