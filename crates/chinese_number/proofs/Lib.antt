@@ -1,6 +1,7 @@
 pub mod Beginnings
 pub mod CharIndexes
 pub mod Joining
+mod LawExamples
 pub mod LeadingZeros
 pub mod Methods
 pub mod Numerals
