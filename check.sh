@@ -68,9 +68,11 @@ done
 at_once=()
 ! "${python:-false}" -c 'import xdist' 2> /dev/null || at_once=(-n "$(nproc)")
 
+# Where there is ccache, an object that several tests compile is compiled once in a run.
 run_tests() { # WORD..
     [ -n "$python" ] || return 0
     local words=(-m pytest -q tests --basetemp "$scratch/of_tests") ended=0
+    local -x PATH=/usr/lib/ccache:$PATH CCACHE_DIR=$scratch/ccache CCACHE_BASEDIR=$scratch
     time "$python" "${words[@]}" "$@" | tee "$scratch/tests" || ended=${PIPESTATUS[0]}
     case $ended$ran in
         0* | 5yes) ;; # 5: no test has this name, and a script has

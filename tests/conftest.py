@@ -6,7 +6,7 @@ from pathlib import Path
 
 import pytest
 
-from running import HEADER, PYTHON, TOP, Program, leave_out, needs, needs_rt, run
+from running import HEADER, PYTHON, TOP, Program, leave_out, needs, needs_rt, once, run
 
 
 def pytest_addoption(parser):
@@ -20,9 +20,8 @@ def made(request, tmp_path_factory, option, *words):
     if folder := request.config.getoption(option):
         return folder.resolve()
     needs_rt()
-    folder = tmp_path_factory.mktemp(option.strip("-"))
-    subprocess.run(["bash", *words, folder], cwd=TOP / "bindings", check=True)
-    return folder
+    make = lambda made: subprocess.run(["bash", *words, made], cwd=TOP / "bindings", check=True)
+    return once(tmp_path_factory, option.strip("-"), make)
 
 
 @pytest.fixture(scope="session")
@@ -41,12 +40,14 @@ def packages(request, tmp_path_factory):
 def of_c_source(tmp_path_factory):
     """A folder with an archive and a shared object as a compiler makes them of the C source."""
     needs("cc")
-    lib = tmp_path_factory.mktemp("of_c_source")
-    words = ("cc", "-O2", "-fPIC", "-fvisibility=hidden", "-c", TOP / "dist/chinese_number.c")
-    run(*words, cwd=lib)
-    run("ar", "crs", "libchinese_number.a", "chinese_number.o", cwd=lib)
-    run("cc", "-shared", "chinese_number.o", "-o", "libchinese_number.so", cwd=lib)
-    return lib
+
+    def make(lib):
+        words = ("cc", "-O2", "-fPIC", "-fvisibility=hidden", "-c", TOP / "dist/chinese_number.c")
+        run(*words, cwd=lib)
+        run("ar", "crs", "libchinese_number.a", "chinese_number.o", cwd=lib)
+        run("cc", "-shared", "chinese_number.o", "-o", "libchinese_number.so", cwd=lib)
+
+    return once(tmp_path_factory, "of_c_source", make)
 
 
 @pytest.fixture(scope="session", params=["archive", "of_c_source"])

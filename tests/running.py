@@ -1,5 +1,6 @@
 """What all tests run programs by. A program's memory and its disk are refused here, it is talked to
 line by line here, and a test for which a tool is missing is left out here, and nowhere else."""
+import fcntl
 import importlib.util
 import os
 import re
@@ -110,6 +111,19 @@ def write(path, text):
     path.parent.mkdir(parents=True, exist_ok=True)
     path.write_text(text, encoding="utf-8")
     return path
+
+
+def once(tmp_path_factory, name, make):
+    """A folder of this name that `make` fills, once for all workers of pytest-xdist."""
+    top = tmp_path_factory.getbasetemp()
+    top = top.parent if "PYTEST_XDIST_WORKER" in os.environ else top
+    folder = top / name
+    with open(top / f"{name}.lock", "w", encoding="utf-8") as lock:
+        fcntl.flock(lock, fcntl.LOCK_EX)
+        if not folder.exists():
+            make(made := Path(tempfile.mkdtemp(dir=top)))
+            made.rename(folder)
+    return folder
 
 
 class Program:

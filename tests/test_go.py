@@ -6,7 +6,7 @@ import pytest
 
 from installing import NATIVE, OF_GO
 from questions import wrong_answers
-from running import TOP, leave_out, needs, of_wine, run
+from running import TOP, leave_out, needs, of_wine, once, run
 
 MODULE = TOP / "bindings/go"
 RACES = ("x86_64", "aarch64")  # where Go has a race detector
@@ -19,10 +19,12 @@ OTHERS = {
 
 
 @pytest.fixture(scope="module")
-def go():
-    """Calls go in the module."""
+def go(tmp_path_factory):
+    """Calls go in the module, whose C source is compiled."""
     needs("cc", "go 1.19")
-    return lambda *words, **more: run("go", *words, cwd=MODULE, **{**OF_GO, **more})
+    call = lambda *words, **more: run("go", *words, cwd=MODULE, **{**OF_GO, **more})
+    once(tmp_path_factory, "go", lambda _: call("build", "."))
+    return call
 
 
 def count_of(kind):
