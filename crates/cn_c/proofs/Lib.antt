@@ -2,6 +2,7 @@ pub mod AmountReadBack
 pub mod DateReadBack
 pub mod EitherBack
 pub mod Filling
+mod LawExamples
 pub mod QuantityReadBack
 pub mod ReadBack
 pub mod SignedReadBack

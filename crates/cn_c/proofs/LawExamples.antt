@@ -1,0 +1,80 @@
+-- Of each law that has premises, values that meet all of them.
+use Rattle.std.proofs.Common.{ℕ, ◌-◌, ◌^◌, negsuc, List, ◌++◌, codes, encode_utf8_all, inl, replicate, refl, arith}
+use Rattle.std.specs.Char.{encode_utf8}
+use Rattle.std.specs.Fmt.{digits}
+use Rattle.cn_core.specs.Characters.{digit_char, minus_char, unit_char}
+use Rattle.cn_quantity.specs.Trimmed.{decimals_over}
+use Rattle.cn_c.specs.declared.quantity.Quantity.{Quantity}
+use Rattle.cn_c.specs.Amounts.{IsAmountPrinted}
+use Rattle.cn_c.specs.Codes.{CN_DIGITS, CN_DONE, CN_TEN_THOUSAND}
+use Rattle.cn_c.specs.Dates.{IsDatePrinted}
+use Rattle.cn_c.specs.Halves.{AreHalves}
+use Rattle.cn_c.specs.Prints.{IsPrinted}
+use Rattle.cn_c.specs.QuantityPrints.{IsQuantityPrinted}
+use Rattle.cn_c.specs.SignedAmounts.{IsSignedPrinted}
+
+-- this many bytes, each 0: the room before a call, and what the call leaves of it
+abbrev room : ℕ → List ℕ
+room bytes = replicate bytes 0
+
+-- a string by its bytes
+abbrev string : List ℕ → List ℕ
+string characters = encode_utf8_all characters
+
+-- -120 as an `i8`; 0 and 1 after the way are the codes of the traditional script and the lower case
+printed_numbers_read_back : IsPrinted (2 ^ 64 - 120) (2 ^ 64 - 1) 5 CN_TEN_THOUSAND 0 1 (room 16)
+    CN_DONE (string (codes "負一百二十") ++ room 1) 15
+unfolding encode_utf8 digit_char minus_char unit_char
+printed_numbers_read_back = (refl, refl, refl)
+
+-- 2025 as a `u16`
+printed_numbers_read_back_either_way-digits : IsPrinted 2025 0 1 CN_DIGITS 0 1 (room 16) CN_DONE
+    (string (codes "二零二五") ++ room 4) 12
+unfolding digits encode_utf8 digit_char
+printed_numbers_read_back_either_way-digits = (refl, refl, refl)
+
+-- 1,280,500 as a `u32`
+printed_numbers_read_back_either_way-ten_thousand : IsPrinted 1280500 0 2 CN_TEN_THOUSAND 0 1
+    (room 32) CN_DONE (string (codes "一百二十八萬零五百") ++ room 5) 27
+unfolding encode_utf8 digit_char unit_char
+printed_numbers_read_back_either_way-ten_thousand = (refl, refl, refl)
+
+-- 314 over 100, as a decimal
+abbrev quantity : Quantity
+quantity = record {
+  numerator = record { low = 314; high = 0 };
+  denominator = record { low = 100; high = 0 };
+  form = 1;
+  char_index = 0;
+  byte_index = 0;
+}
+
+printed_quantities_read_back : AreHalves quantity.numerator × AreHalves quantity.denominator
+    × IsQuantityPrinted quantity CN_TEN_THOUSAND 0 1 (room 16) CN_DONE
+    (string (codes "三點一四") ++ room 4) 12
+unfolding decimals_over encode_utf8 digit_char unit_char
+printed_quantities_read_back = (
+  (omega arith, omega arith),
+  (omega arith, omega arith),
+  (refl, refl, refl),
+)
+
+-- 120.50 yuan in the simple script and the plain form
+printed_amounts_read_back : IsAmountPrinted 12050 1 0 (room 32) CN_DONE
+    (string (codes "壹佰贰拾元伍角整") ++ room 8) 24
+unfolding encode_utf8 digit_char unit_char
+printed_amounts_read_back = (refl, refl, refl)
+
+-- the same amount below zero
+printed_signed_amounts_read_back : IsSignedPrinted (negsuc 12049) 1 0 (room 32) CN_DONE
+    (string (codes "负壹佰贰拾元伍角整") ++ room 5) 27
+unfolding encode_utf8 digit_char minus_char unit_char
+printed_signed_amounts_read_back = (refl, refl, refl)
+
+printed_dates_read_back : IsDatePrinted 2026 10 20 1 (room 48) CN_DONE
+    (string (codes "贰零贰陆年零壹拾月零贰拾日") ++ room 9) 39
+unfolding encode_utf8 digit_char unit_char
+printed_dates_read_back = inl (
+  (omega arith, omega arith, omega arith, omega arith, omega arith, omega arith),
+  (refl, refl, refl),
+)
