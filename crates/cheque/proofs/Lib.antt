@@ -1,5 +1,6 @@
 mod DateFiguresRead
 mod DigitValues
 pub mod Examples
+mod LawExamples
 mod Replies
 mod Shown
