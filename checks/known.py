@@ -18,6 +18,10 @@ FUNCTION = re.compile(
     r"\(([^)]*)\)(?:\s*-> ([^\n{;]+))?",
     re.MULTILINE,
 )
+# A function that only hands its parameters on to another one.
+HANDS_ON = re.compile(
+    r"\bfn (\w+)\([^)]*\)[^{}]*?(?:ensures \{[^;]*?\}\n)?\{\n    (\w+)\([\w, ]*\)\n\}"
+)
 # A function or a method: where it is defined, whether it takes `self`, the types of its other
 # parameters, and that of what it returns.
 Function = namedtuple("Function", "file holder takes_self types result")
@@ -60,6 +64,7 @@ class Known:
         self.variants, self.values = {}, defaultdict(dict)
         self.functions, self.fields = defaultdict(list), defaultdict(list)
         self.constants, self.imports, self.defined = {}, {}, defaultdict(set)
+        self.handed_on = set()
         for crate in sorted(crates):
             for file, text in files_of(crate):
                 self.read(f"{crate.name}/{file}", without_comments(text))
@@ -72,6 +77,8 @@ class Known:
                 same = [it for it, other in FIELD.findall(block) if other == kind]
                 self.fields[field].append((file, kind, next_of(field, same)))
             self.defined[file].add(name)
+        for both in HANDS_ON.findall(text):
+            self.handed_on |= {both, both[::-1]}
         holders = [(0, None)]
         for line in re.finditer(r"^(?:impl|pub trait|trait)\b.*", text, re.MULTILINE):
             holder = holder_of(line[0], line.start(), [], {})
@@ -143,6 +150,7 @@ class Known:
             for other, its in self.functions.items()
             if its[0][1:] == one[1:]
             and (its[0].file == one.file if is_method else other in visible)
+            and (name, other) not in self.handed_on
         ]
         return next_of(name, alike)
 
