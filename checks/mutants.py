@@ -189,7 +189,8 @@ class Crate:
     def write(self):
         with self.lock:
             lines = [f"{it.line()}\n" for it in self.functions.values()]
-            (self.folder / "verdicts").write_text("".join(lines), encoding="utf-8")
+            if lines:
+                (self.folder / "verdicts").write_text("".join(lines), encoding="utf-8")
 
     def faults(self):
         """What is wrong, and what is to be explained in functions that have only waited."""
