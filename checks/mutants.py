@@ -146,11 +146,17 @@ class Crate:
     def is_new(self, mutant):
         return self.functions[mutant.item.path].is_new
 
+    def untried(self):
+        """The functions of which no mutant is tried."""
+        return {path for path, it in self.functions.items() if not set(it.letters) - {"."}}
+
     def rank(self):
-        """How much a round of this crate is worth: changed functions first, then the most."""
+        """How much a round of this crate is worth: what is changed comes first, then what is not
+        tried at all, then the most."""
         with self.lock:
-            owners = {it.owners for it in self.waiting}
-            return any(map(self.is_new, self.waiting)), len(owners)
+            waiting = {it.item.path for it in self.waiting}
+            is_new = any(map(self.is_new, self.waiting))
+            return is_new, len(waiting & self.untried()), len(waiting)
 
     def next_round(self):
         """How the next mutants are planted, and which; they wait no longer."""
@@ -158,9 +164,8 @@ class Crate:
             level, planted, taken = min(self.waiting.values(), default=ALONE), [], set()
             waiting = [it for it, its_level in self.waiting.items() if its_level == level]
             waiting = [it for it in waiting if self.is_new(it)] or waiting
-            # Functions of which nothing is tried come first, each with one mutant.
-            tried = {path for path, it in self.functions.items() if set(it.letters) - {"."}}
-            fresh = [it for it in waiting if it.item.path not in tried]
+            untried = self.untried()  # they come first, each with one mutant
+            fresh = [it for it in waiting if it.item.path in untried]
             counts = Counter(it.item.path for it in waiting if it.item.path in self.copied)
             copied = [it for it in waiting if counts[it.item.path] > 2 and level == WITH_ANY]
             copied = [] if fresh else copied[:IN_COPIES]
