@@ -23,8 +23,8 @@ are those that there are.
 
 It fails where a mutant of a changed function is proved and no comment lists it, where a comment lists
 what is refused or is no mutant, and where all mutants of a public function are tried and none is
-refused by a goal, unless an edit of `wrong-bodies` or `must-fail/` is. What is proved in a function
-that has only waited is reported, and stays waiting until a comment lists it. --gate changes no file.
+refused by a goal, unless an edit of `wrong-bodies` or `must-fail/` is. Of mutants that had waited it
+reports the same, and does not fail: they wait until a comment lists them. --gate changes no file.
 --release fails while anything waits. --compare tries nothing.
 """
 import argparse
@@ -198,23 +198,28 @@ class Crate:
                 (self.folder / "verdicts").write_text("".join(lines), encoding="utf-8")
 
     def faults(self):
-        """What is wrong, and what is to be explained in functions that have only waited."""
+        """What is wrong; and the same of mutants that had only waited, which is reported."""
         faults, reports = [], []
-        edited = {it for edit in edit_files.edits_of(self.folder) for it in edit.refused}
         for path, it in self.functions.items():
             faults += [f"{path}: {fault}" for fault in it.faults]
             for mutant, letter, old in zip(it.mutants, it.letters, it.known):
-                if letter == "s" and mutant.name not in it.listed:
-                    told = faults if it.is_new or old != "." else reports
-                    told.append(f"{path}: it is proved, and no comment says why: {mutant.name}")
-                elif letter in "rfl-" and mutant.name in it.listed:
-                    faults.append(f"{path}: it is listed, and not proved ({letter}): {mutant.name}")
+                if fault := fault_of(letter, mutant.name in it.listed):
+                    found = faults if it.is_new or old != "." else reports
+                    found.append(f"{path}: {fault}: {mutant.name}")
+        edited = {it for edit in edit_files.edits_of(self.folder) for it in edit.refused}
         for item in self.public:
             one = self.functions.get(item.path)
-            letters = one.letters if one else ""
-            if not {"r", "."} & set(letters) and item.path not in edited:
-                faults.append(f"{item.path}: it is public, and no mutant or edit of it is refused")
+            if not (one and {"r", "."} & set(one.letters) or item.path in edited):
+                found = reports if one and not one.is_new and "." in one.known else faults
+                found.append(f"{item.path}: it is public, and no mutant or edit of it is refused")
         return [[f"{self.name} {it}" for it in both] for both in (faults, reports)]
+
+
+def fault_of(letter, is_listed):
+    """What is wrong with the verdict on a mutant, if anything is."""
+    if letter == "s" and not is_listed:
+        return "it is proved, and no comment says why"
+    return "a comment lists it, and it is not proved" if letter in "rfl-" and is_listed else None
 
 
 def lay_out(crate, room, planted):
