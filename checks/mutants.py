@@ -17,14 +17,14 @@ function, as digests.py makes it, a letter for each of its mutants in order, and
 A verdict holds while its digest stays, so a changed function, contract or definition makes exactly
 its functions run again, these first, and what waits in other functions after them. Without CRATE all
 crates are tried, without --minutes all that waits; a run that is stopped keeps what it has judged.
-Mutants are planted in a copy of a crate, in rounds, and one check judges a round: the functions that it
-can make wrong and those that these call, over what `rt check` left in the crate's folder. Before the first, `rt lib` makes the libraries below, but with --built they
-are those that there are.
+Mutants are planted in a copy of a crate, in rounds, and one check judges a round: the functions that
+they can make wrong and those that these call, over what `rt check` left in the crate's folder. Before
+the first, `rt lib` makes the libraries below, but with --built they are those that there are.
 
 It fails where a mutant of a changed function is proved and no comment lists it, where a comment lists
-what is refused or is no mutant, and where all mutants of a public function are tried and none is
-refused by a goal, unless an edit of `wrong-bodies` or `must-fail/` is. Of mutants that had waited it
-reports the same, and does not fail: they wait until a comment lists them. --gate changes no file.
+what is refused or is no mutant, and where all mutants of a public function are tried and none is `r`
+or `l`, unless an edit of `wrong-bodies` or `must-fail/` is refused in it. Of mutants that had waited
+it reports the same, and does not fail: they wait until a comment lists them. --gate changes no file.
 --release fails while anything waits. --compare tries nothing.
 """
 import argparse
@@ -209,7 +209,7 @@ class Crate:
         edited = {it for edit in edit_files.edits_of(self.folder) for it in edit.refused}
         for item in self.public:
             one = self.functions.get(item.path)
-            if not (one and {"r", "."} & set(one.letters) or item.path in edited):
+            if not (one and {"r", "l", "."} & set(one.letters) or item.path in edited):
                 found = reports if one and not one.is_new and "." in one.known else faults
                 found.append(f"{item.path}: it is public, and no mutant or edit of it is refused")
         return [[f"{self.name} {it}" for it in both] for both in (faults, reports)]
