@@ -70,7 +70,7 @@ def named_by(line, found):
 
 
 def definitions_of_source(text):
-    """The types, traits and constants of a source; of what a type stands for, its model too."""
+    """The types, traits and constants of a source; with a type comes its model."""
     text, found = without_comments(text), defaultdict(str)
     for head in BLOCK.finditer(text):
         indent = "    " if head[3] else ""

@@ -1,6 +1,6 @@
 """The items of a crate that can be wrong: its functions, constants, tables and macros.
 
-Laws, whose bodies are empty, tests and ghost items are left out. The layout of `rt fmt` tells where
+Laws, whose bodies are empty, tests and ghost items are left out. The layout of `rt fmt` shows where
 an item begins and ends.
 """
 import re

@@ -93,9 +93,9 @@ def is_copied(item):
 class Function:
     """A function or constant of a crate, its mutants, and a letter for each."""
 
-    def __init__(self, item, mutants, digest, told, original):
+    def __init__(self, item, mutants, digest, committed, original):
         self.item, self.mutants, self.digest = item, mutants, digest
-        old, letters = told or (None, "")
+        old, letters = committed or (None, "")
         self.is_new = digest != old or len(letters) != len(mutants)
         self.known = "." * len(mutants) if self.is_new else letters
         self.letters = list(self.known)
@@ -119,7 +119,7 @@ class Crate:
 
     def __init__(self, name, definitions):
         self.name, self.folder, self.lock = name, CRATES / name, Lock()
-        told, texts = verdicts_of(self.folder), dict(mutate.files_of(self.folder))
+        committed, texts = verdicts_of(self.folder), dict(mutate.files_of(self.folder))
         mutants, items = defaultdict(list), list(mutate.items_of(self.folder))
         by_path = {it.path: it for it in items}
         for mutant in mutate.mutants_of(self.folder):
@@ -130,7 +130,7 @@ class Crate:
             heads = [by_path[it] for it in own[0].owners if it != path and it in by_path]
             heads = [(f"{name}/{it.file}", it.text[it.start : it.begin]) for it in heads]
             digest = digests.digest(definitions, self.folder, item, heads, [it.name for it in own])
-            one = Function(item, own, digest, told.get(path), texts[item.file])
+            one = Function(item, own, digest, committed.get(path), texts[item.file])
             self.functions[path] = one
         self.waiting = {
             mutant: WITH_ANY
@@ -222,20 +222,20 @@ def fault_of(letter, is_listed):
     return "a comment lists it, and it is not proved" if letter in "rfl-" and is_listed else None
 
 
-def lay_out(crate, room, planted):
+def lay_out(crate, copy, planted):
     places = [(it.item.file, it.begin, it.end, it.new) for it in planted]
-    planting.lay_out(crate.folder, room, places)
+    planting.lay_out(crate.folder, copy, places)
     for it in planted:
         own, other = (f"proofs::{path}".split("::") for path in (it.item.path, it.owners[0]))
-        if it.begin == it.item.end and room.joinpath(*own).is_dir():
-            shutil.copytree(room.joinpath(*own), room.joinpath(*other))
-            for file in room.joinpath(*other).iterdir():
+        if it.begin == it.item.end and copy.joinpath(*own).is_dir():
+            shutil.copytree(copy.joinpath(*own), copy.joinpath(*other))
+            for file in copy.joinpath(*other).iterdir():
                 text = file.read_text(encoding="utf-8")
                 text = text.replace(f".{'.'.join(own)}.", f".{'.'.join(other)}.")
                 file.write_text(text, encoding="utf-8")
-    shutil.rmtree(room / "kept", ignore_errors=True)
+    shutil.rmtree(copy / "kept", ignore_errors=True)
     (crate.folder / "out/incremental").mkdir(parents=True, exist_ok=True)
-    shutil.copytree(crate.folder / "out/incremental", room / "kept", copy_function=linked)
+    shutil.copytree(crate.folder / "out/incremental", copy / "kept", copy_function=linked)
 
 
 def linked(one, other):
@@ -303,18 +303,18 @@ def judged_unended(crate, planted, level, ran):
             yield plant, (None, level if reached.issuperset(plant.owners) else ALONE)
 
 
-def try_round(crate, room, group):
+def try_round(crate, copy, group):
     """Plants the next mutants of a crate, without those that do not compile, and judges them;
     returns the processor time that it took."""
     level, planted = crate.next_round()
     came, seconds = {}, 0
     while planted:
-        lay_out(crate, room, planted)
+        lay_out(crate, copy, planted)
         most = SECONDS[0] + SECONDS[1] * len(planted)
         only = {path for it in planted for path in it.owners} & crate.paths
         only |= {it.owners[0] for it in planted if it.begin == it.item.end}
         only = only if level != ALONE else ()
-        ran = planting.check(crate.name, room, group, "--progress", only=only, most=most)
+        ran = planting.check(crate.name, copy, group, "--progress", only=only, most=most)
         seconds += ran.seconds
         bad = dict.fromkeys(unread(planted, planting.UNREAD.findall(ran.said)), (UNREAD, ""))
         came |= bad
@@ -335,8 +335,8 @@ def try_round(crate, room, group):
     }
     crate.note(came)
     kinds = Counter(kind or "it is planted again" for kind, _ in came.values())
-    told = ", ".join(f"{count} {kind}" for kind, count in kinds.items())
-    print(f"{crate.name}, {seconds:.0f} s: {told}; {len(crate.waiting)} left", flush=True)
+    summary = ", ".join(f"{count} {kind}" for kind, count in kinds.items())
+    print(f"{crate.name}, {seconds:.0f} s: {summary}; {len(crate.waiting)} left", flush=True)
     return seconds
 
 
@@ -354,10 +354,10 @@ class Budget:
             self.used += seconds
 
 
-def work(crates, room, group, budget, keeps):
+def work(crates, copy, group, budget, keeps):
     """Tries rounds while mutants wait and time is left."""
     while budget.is_left() and (crate := max(crates, key=Crate.rank)).waiting:
-        budget.take(try_round(crate, room, group))
+        budget.take(try_round(crate, copy, group))
         if keeps:
             crate.write()
 
@@ -365,9 +365,9 @@ def work(crates, room, group, budget, keeps):
 def try_all(crates, given, budget):
     scratch, watch = planting.scratch_folder()
     with ThreadPoolExecutor(given.at_once) as pool:
-        rooms = [scratch / str(number) for number in range(given.at_once)]
+        copies = [scratch / str(number) for number in range(given.at_once)]
         words = (watch.pid, budget, not given.gate)
-        for done in [pool.submit(work, crates, room, *words) for room in rooms]:
+        for done in [pool.submit(work, crates, copy, *words) for copy in copies]:
             done.result()
     watch.communicate()
 

@@ -65,7 +65,7 @@ def other_text(text, body):
 
 
 class Body:
-    """The body of an item, and what is known where it stands."""
+    """The body of an item, and what is known of its values."""
 
     def __init__(self, item, known, crate):
         self.item, self.known, self.place = item, known, f"{crate}/{item.file}"
@@ -186,9 +186,10 @@ class Body:
             if is_pattern or self.is_in(self.patterns, struct.start()):
                 continue
             for first, last, value in self.arguments(struct.end(), end):
-                name = re.match(r"(\w+): ", value)
+                name = re.match(r"(\w+)(?:: |$)", value)
                 if name:
-                    yield first + name.end(), last, self.known.field(name[1], self.crate)[0]
+                    first += name.end() if name.end() < len(value) else 0
+                    yield first, last, self.known.field(name[1], self.crate)[0]
         for found in re.finditer(r"\.(\w+) = ([^;\n]+);", self.text):
             yield *found.span(2), self.known.field(found[1], self.crate)[0]
 
@@ -199,14 +200,19 @@ class Body:
             if not kind or self.is_in(self.filled, begin) or LITERAL.fullmatch(value):
                 continue
             kind = self.holder if kind == "Self" and self.holder else kind
-            fixed = [it for it in self.known.fixed(kind, self.place) if it != value]
-            if fixed:
-                yield "fixed", begin, end, fixed[0]
-            if value in self.variables:
-                same = [it for it, its in self.variables.items() if its == kind]
-                other = same[(same.index(value) + 1) % len(same)] if value in same else value
-                if other != value and self.is_declared(other, begin):
-                    yield "variable", begin, end, other
+            # A field that has the variable's name is written once.
+            is_field = re.search(r"\{[\w, \n]*\Z", self.text[:begin]) and self.text[end] in ", \n"
+            name = f"{value}: " if is_field else ""
+            for fixed in [it for it in self.known.fixed(kind, self.place) if it != value][:1]:
+                yield "fixed", begin, end, name + fixed
+            for other in self.others(value, kind, begin):
+                yield "variable", begin, end, name + other
+
+    def others(self, value, kind, at):
+        """Another variable of a type that is declared before a place, if there is one."""
+        same = [it for it, its in self.variables.items() if its == kind]
+        other = same[(same.index(value) + 1) % len(same)] if value in same else value
+        return [other] if other != value and self.is_declared(other, at) else []
 
     def is_declared(self, name, at):
         local = re.search(rf"\blet (?:mut )?{name}\b", self.text)

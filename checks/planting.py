@@ -35,15 +35,15 @@ Verdict = namedtuple("Verdict", "kind words")
 Ran = namedtuple("Ran", "status said seconds")
 
 
-def lay_out(crate, room, plants):
-    """Copies the crate into the room, with these plants in it: each a file, the place in it that
+def lay_out(crate, copy, plants):
+    """Copies the crate into a folder, with these plants in it: each a file, the place in it that
     becomes another text, and that text."""
     for part in ("src", "specs", "proofs"):
-        shutil.rmtree(room / part, ignore_errors=True)
+        shutil.rmtree(copy / part, ignore_errors=True)
         if (crate / part).is_dir():
-            shutil.copytree(crate / part, room / part)
+            shutil.copytree(crate / part, copy / part)
     for name, begin, end, new in sorted(plants, reverse=True):
-        file = room / name
+        file = copy / name
         text = file.read_text(encoding="utf-8")
         file.write_text(text[:begin] + new + text[end:], encoding="utf-8")
 
@@ -57,12 +57,12 @@ def listed(name):
     raise ValueError(f"crates.txt has no {name}")
 
 
-def check(name, room, group, *more, only=(), most=None):
-    """Checks the crate that lies in the room, or only these functions of it and what they call, in so
+def check(name, copy, group, *more, only=(), most=None):
+    """Checks the crate in a folder, or only these functions of it and what they call, in so
     many seconds of processor time at most."""
     kit = Path(shutil.which("rt")).resolve().parent.parent
     libraries, is_static = listed(name)
-    root = "src/main.rt" if (room / "src/main.rt").exists() else "src/lib.rt"
+    root = "src/main.rt" if (copy / "src/main.rt").exists() else "src/lib.rt"
     words = [f"{kit}/bin/rattle", "check", "--crate-name", name, root, "--jobs", "1"]
     words += ["--antt-project", f"{kit}/rattle/logic/antt-project.json"]
     words += ["--logic-built", f"{kit}/logic_built", "--links", f"{name}=", "--incremental", "kept"]
@@ -77,10 +77,10 @@ def check(name, room, group, *more, only=(), most=None):
         words += ["--only", it]
     if most:
         words = ["prlimit", f"--cpu={most}", *words]
-    with open(room / "said", "wb") as to:
+    with open(copy / "said", "wb") as to:
         how = {"stdout": to, "stderr": subprocess.STDOUT, "process_group": group}
-        _, status, used = os.wait4(subprocess.Popen(words, cwd=room, **how).pid, 0)
-    said = (room / "said").read_text(encoding="utf-8", errors="replace")
+        _, status, used = os.wait4(subprocess.Popen(words, cwd=copy, **how).pid, 0)
+    said = (copy / "said").read_text(encoding="utf-8", errors="replace")
     return Ran(os.waitstatus_to_exitcode(status), said, used.ru_utime + used.ru_stime)
 
 
@@ -122,8 +122,8 @@ def verdicts_of(name, said):
 
 def at_once_by_default():
     """As many crates as there are processors to use, and as memory holds."""
-    told = Path("/proc/meminfo").read_text(encoding="utf-8")
-    free = 1024 * int(re.search(r"MemAvailable: +(\d+)", told)[1])
+    memory = Path("/proc/meminfo").read_text(encoding="utf-8")
+    free = 1024 * int(re.search(r"MemAvailable: +(\d+)", memory)[1])
     return max(1, min(len(os.sched_getaffinity(0)), free // MEMORY))
 
 

@@ -40,7 +40,7 @@ Judgement = namedtuple("Judgement", "faults at_limit again")
 
 
 def plants_of(crate, edits):
-    """The edits, and behind them their twins."""
+    """The edits, and after them their twins."""
     for is_twin in (False, True):
         for edit in edits:
             if is_twin and not edit_files.has_twin(edit):
@@ -72,7 +72,7 @@ def are_apart(one, other):
 
 
 def rounds_of(plants):
-    """The plants in rounds: each in the first that has room for it."""
+    """The plants in rounds: each in the first that can take it."""
     rounds = []
     for plant in plants:
         fit = (it for it in rounds if all(are_apart(plant, other) for other in it))
@@ -119,21 +119,21 @@ def judged(name, plants, ran):
 
 def try_crate(name, scratch, group):
     """The edits of a crate, and what came of each round."""
-    crate, room, judgements = CRATES / name, scratch / name, []
+    crate, copy, judgements = CRATES / name, scratch / name, []
     edits = edit_files.wrong_bodies_of(crate)
     rounds = rounds_of(plants_of(crate, edits))
     kept = crate / "out/incremental"
     if kept.is_dir():
-        shutil.copytree(kept, room / "kept")
-    (room / "kept").mkdir(parents=True, exist_ok=True)
+        shutil.copytree(kept, copy / "kept")
+    (copy / "kept").mkdir(parents=True, exist_ok=True)
     for plants in rounds:
         places = [(it.edit.file, it.begin, it.end, it.text) for it in plants]
-        planting.lay_out(crate, room, places)
+        planting.lay_out(crate, copy, places)
         only = {path for plant in plants for path in plant.edit.refused}
-        judgements.append(judged(name, plants, planting.check(name, room, group, only=only)))
+        judgements.append(judged(name, plants, planting.check(name, copy, group, only=only)))
         if judgements[-1].again:
             rounds.append(judgements[-1].again)
-    shutil.rmtree(room)
+    shutil.rmtree(copy)
     return edits, judgements
 
 
@@ -158,8 +158,8 @@ def try_crates(names, at_once, scratch, group):
             twins = sum(map(edit_files.has_twin, edits))
             at_limit = [it for judgement in judgements for it in judgement.at_limit]
             limits = f"; at a limit: {' '.join(at_limit)}" if at_limit else ""
-            told = f"{len(edits)} edits and {twins} twins in {len(judgements)} rounds{limits}"
-            print(f"{name}: {told}", flush=True)
+            summary = f"{len(edits)} edits and {twins} twins in {len(judgements)} rounds{limits}"
+            print(f"{name}: {summary}", flush=True)
             faults += faults_of(name, judgements)
             more = len(edits), len(at_limit), twins
             counts = [one + other for one, other in zip(counts, more)]
@@ -180,11 +180,11 @@ def main():
             subprocess.run(["rt", "lib"], cwd=CRATES / name, check=True, stdout=sys.stderr)
     signal.signal(signal.SIGINT, signal.SIG_DFL)
     scratch, watch = planting.scratch_folder()
-    faults, told = try_crates(names, given.at_once, scratch, watch.pid)
+    faults, summary = try_crates(names, given.at_once, scratch, watch.pid)
     watch.communicate()
     if faults:
         sys.exit("wrong_bodies:\n" + "\n".join(faults))
-    print(f"wrong bodies: {told}")
+    print(f"wrong bodies: {summary}")
 
 
 main()
