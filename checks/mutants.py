@@ -1,7 +1,7 @@
 #!/usr/bin/env python3
 """Shows what contracts let through: of each function, which mutants of its body are proved.
 
-Usage: mutants.py [--built] [--at-once N] [--minutes N] [--gate | --release | --compare] [CRATE ..]
+Usage: mutants.py [--built] [--at-once N] [--minutes N] [--gate | --compare] [CRATE ..]
 
 mutate.py says what a mutant is. A verdict is a line of `crates/NAME/verdicts`: the digest of a
 function, as digests.py makes it, a letter for each of its mutants in order, and its path.
@@ -24,8 +24,8 @@ the first, `rt lib` makes the libraries below, but with --built they are those t
 It fails where a mutant of a changed function is proved and no comment lists it, where a comment lists
 what is refused or is no mutant, and where all mutants of a public function are tried and none is `r`
 or `l`, unless an edit of `wrong-bodies` or `must-fail/` is refused in it. Of mutants that had waited
-it reports the same, and does not fail: they wait until a comment lists them. --gate changes no file.
---release fails while anything waits. --compare tries nothing.
+it reports the same, and does not fail: they wait until a comment lists them. A release is made only
+where none waits. --gate changes no file, and --compare tries nothing.
 """
 import argparse
 import os
@@ -373,7 +373,7 @@ def try_all(crates, given, budget):
 
 
 def report(crates, seconds):
-    """Counts what came of all mutants, and returns how many wait."""
+    """Counts what came of all mutants, and how many wait."""
     kinds, waiting = Counter(), Counter()
     for crate in crates:
         for path, it in crate.functions.items():
@@ -387,7 +387,6 @@ def report(crates, seconds):
     print(f"mutants: {words.format(**letters)}; {seconds:.0f} s of processor time in this run")
     left = +waiting
     print(f"waiting: {left.total()} in {len(left)} of {len(waiting)} functions", flush=True)
-    return left.total()
 
 
 def arguments():
@@ -396,7 +395,7 @@ def arguments():
     words.add_argument("--at-once", type=int, default=planting.at_once_by_default())
     words.add_argument("--minutes", type=float)
     how = words.add_mutually_exclusive_group()
-    for name in ("--gate", "--release", "--compare"):
+    for name in ("--gate", "--compare"):
         how.add_argument(name, action="store_true")
     words.add_argument("crates", nargs="*", metavar="CRATE")
     return words.parse_args()
@@ -418,9 +417,7 @@ def main():
         crate.write()
     faults, reports = (sum(its, []) for its in zip(*(it.faults() for it in crates)))
     print(*reports, sep="\n", end="\n" * bool(reports))
-    waiting = report(crates, budget.used)
-    if given.release and waiting:
-        faults.append("a release needs verdicts on all mutants")
+    report(crates, budget.used)
     if faults:
         sys.exit("mutants:\n" + "\n".join(faults))
 
