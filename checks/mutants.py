@@ -164,6 +164,8 @@ class Crate:
             level, planted, taken = min(self.waiting.values(), default=ALONE), [], set()
             waiting = [it for it, its_level in self.waiting.items() if its_level == level]
             waiting = [it for it in waiting if self.is_new(it)] or waiting
+            # A constant takes as many checks as functions cite it.
+            waiting = [it for it in waiting if it.item.kind == "fn"] or waiting
             untried = self.untried()  # they come first, each with one mutant
             fresh = [it for it in waiting if it.item.path in untried]
             counts = Counter(it.item.path for it in waiting if it.item.path in self.copied)
@@ -422,4 +424,5 @@ def main():
         sys.exit("mutants:\n" + "\n".join(faults))
 
 
-main()
+if __name__ == "__main__":
+    main()
