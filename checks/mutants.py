@@ -166,15 +166,16 @@ class Crate:
             waiting = [it for it in waiting if self.is_new(it)] or waiting
             # A constant takes as many checks as functions cite it.
             waiting = [it for it in waiting if it.item.kind == "fn"] or waiting
-            untried = self.untried()  # they come first, each with one mutant
-            fresh = [it for it in waiting if it.item.path in untried]
+            untried = self.untried()  # they come first
+            waiting.sort(key=lambda it: it.item.path not in untried)
+            is_fresh = bool(waiting) and waiting[0].item.path in untried
             counts = Counter(it.item.path for it in waiting if it.item.path in self.copied)
             copied = [it for it in waiting if counts[it.item.path] > 2 and level == WITH_ANY]
-            copied = [] if fresh else copied[:IN_COPIES]
+            copied = [] if is_fresh else copied[:IN_COPIES]
             planted += [in_copy(it.item, number, it) for number, it in enumerate(copied, 1)]
             items = {it.item.path: it.item for it in copied if it.item.path not in self.with_copies}
             planted += [in_copy(it, 0) for it in items.values()]
-            for mutant in [] if copied else fresh or waiting:
+            for mutant in [] if copied else waiting:
                 full = len(planted) == IN_PLACES or level == ALONE and planted
                 if not taken & set(mutant.owners) and not full:
                     planted.append(in_place(mutant))
