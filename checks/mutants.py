@@ -53,9 +53,9 @@ KINDS = [REFUSED, BY_LEMMA, AT_LIMIT, UNCLEAR, ONLY_GONE, WAITING, PROVED]
 # How a mutant is planted: with any others; with others that only call what was not proved, as it
 # does; or by itself, where it was not clear what it makes wrong.
 WITH_ANY, WITH_WAITING, ALONE = range(3)
-# The processor time that a check may take, and for each mutant that is planted, in seconds; how many
-# are planted in copies, and how many in their places.
-SECONDS, IN_COPIES, IN_PLACES = (120, 40), 12, 30
+# The processor time that a check may take, and for each mutant that is planted, in seconds, and that
+# a round takes as a rule; how many are planted in copies, and how many in their places.
+SECONDS, USUAL, IN_COPIES, IN_PLACES = (120, 40), 150, 12, 30
 
 # A mutant, or none, as it is planted: the functions that it can make wrong, the part of its file that
 # becomes another text, and where in that it is.
@@ -349,18 +349,22 @@ class Budget:
     def __init__(self, most):
         self.most, self.used, self.lock = most, 0, Lock()
 
-    def is_left(self):
-        return self.most is None or self.used < self.most
-
-    def take(self, seconds):
+    def begin(self):
+        """Whether there is time for a round; until it ends, it counts as a usual one."""
         with self.lock:
-            self.used += seconds
+            is_left = self.most is None or self.used + USUAL <= self.most
+            self.used += USUAL * is_left
+            return is_left
+
+    def end(self, seconds):
+        with self.lock:
+            self.used += seconds - USUAL
 
 
 def work(crates, copy, group, budget, keeps):
     """Tries rounds while mutants wait and time is left."""
-    while budget.is_left() and (crate := max(crates, key=Crate.rank)).waiting:
-        budget.take(try_round(crate, copy, group))
+    while (crate := max(crates, key=Crate.rank)).waiting and budget.begin():
+        budget.end(try_round(crate, copy, group))
         if keeps:
             crate.write()
 
