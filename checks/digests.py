@@ -1,9 +1,9 @@
 """What a function's contract rests on, and a digest of it.
 
-A digest is of the text of an item without comments and layout, its contract among it, of its mutants'
-names, and of each definition that these cite, transitively: in `specs/`, and of types, traits and
-constants in the sources. What the library of the toolchain defines is left out, and so are the
-contracts of functions that are called: a body that they no longer prove is not proved at all.
+A digest is of the text of an item without comments and layout, its contract among it, of the names of
+its mutants, and of each definition that these cite, transitively: in `specs/`, and of types, traits
+and constants in the sources. What the library of the toolchain defines is left out, and so are the
+contracts of functions that are called: if one of them becomes too weak, the caller's own proof fails.
 """
 import hashlib
 import re
@@ -23,7 +23,9 @@ BLOCK = re.compile(
     r"|^impl(?:<.*?>)? Model for (\w+)|^    (?:pub(?:\(crate\))? )?const (\w+)",
     re.MULTILINE,
 )
-FIRST_METHOD = re.compile(r"^    (?:[\w()]+ )*fn |^}", re.MULTILINE)
+GHOST = re.compile(r"^    ghost (?:[^\n]*;\n|.*?^    \}[^\n]*\n)", re.MULTILINE | re.DOTALL)
+COMMENT = re.compile(r'("(?:\\.|[^"\\\n])*")|--[^\n]*')
+USED = re.compile(r"^ *(?:pub )?use (\w+)(::[^;]*);", re.MULTILINE)
 MIXFIX = "◌"
 
 
@@ -32,7 +34,10 @@ class File:
 
     def __init__(self, crate, text, definitions):
         self.crate, self.definitions, self.imports = crate, definitions, {}
-        self.used = set(re.findall(r"\w+", " ".join(re.findall(r"^use ([^;]*);", text, re.M))))
+        # The crate that a source takes a name from.
+        self.used = {
+            name: root for root, rest in USED.findall(text) for name in re.findall(r"\w+", rest)
+        }
         for module, names, alias in IMPORT.findall(text):
             for word in names.split(",") if names else ():
                 name, _, other = (it.strip() for it in word.partition(" as "))
@@ -44,7 +49,7 @@ class File:
 def definitions_of_specs(text):
     """The definitions of a file in `specs/`: each with its type and clauses."""
     found, name = defaultdict(list), None
-    for line in re.sub(r"--[^\n]*", "", text).split("\n"):
+    for line in COMMENT.sub(lambda it: it[1] or "", text).split("\n"):
         if re.match(r"(?:pub )?(?:use|mod) ", line):
             name = None
         elif line[:1].strip() and line[0] not in "})":
@@ -73,10 +78,31 @@ def definitions_of_source(text):
     """The types, traits and constants of a source; with a type comes its model."""
     text, found = without_comments(text), defaultdict(str)
     for head in BLOCK.finditer(text):
-        indent = "    " if head[3] else ""
-        end = re.compile(rf"^{indent}[\]}})]*[;}}]\n|;\n", re.MULTILINE).search(text, head.start())
-        found[head[1] or head[2] or head[3]] += text[head.start() : end.end() if end else None]
+        found[head[1] or head[2] or head[3]] += block_at(text, head.start())
     return dict(found)
+
+
+def block_at(text, start):
+    """The item that begins at a place: to the `;` of its line, or to where its bracket closes."""
+    indent, is_open, at = re.match(r" *", text[start:])[0], False, start
+    for line in text[start:].splitlines(keepends=True):
+        at += len(line)
+        stripped = line.rstrip()
+        if (
+            is_open
+            and re.match(rf"{indent}[)}}\]]", line)
+            and not stripped.endswith(("{", "[", "("))
+        ):
+            break
+        if not is_open and stripped.endswith((";", "}")):
+            break
+        is_open |= stripped.endswith(("{", "[", "("))
+    return text[start:at]
+
+
+def constructs(text, name):
+    """Whether a definition has a constructor or a field of a name."""
+    return re.search(rf"^  +(?:pub )?{re.escape(name)} :", text, re.MULTILINE) is not None
 
 
 class Definitions:
@@ -103,30 +129,37 @@ class Definitions:
             ):
                 self.aliases[f"Rattle.{crate}.specs.{alias or other.split('.')[-1]}"] = other
 
-    def place(self, file, name, rest):
-        """Where a name of a file is defined, and by which name there."""
+    def places(self, file, name, rest=None, seen=()):
+        """Where a name of a file is defined, each place with the name there; `rest` is what follows
+        the name of a module."""
         own = self.files[file]
         if name in own.definitions:
-            return file, name
-        if name in own.imports:
+            return {(file, name)}
+        if name in own.imports and (file, name) not in seen:
             module, original = own.imports[name]
-            module = self.aliases.get(module, module)
-            if ".specs.declared." in module:
-                parts = module.split(".")
-                kind = next((it for it in reversed(parts) if it in self.types), original)
-                return self.of_source(kind, parts[1])
-            original = original or rest
-            if module in self.files and original in self.files[module].definitions:
-                return module, original
-            return None
-        is_used = "/" in file and (name in own.used or name[0].isupper())
-        return self.of_source(name, own.crate, name in own.used) if is_used else None
+            return self.exported(module, original or rest or name, (*seen, (file, name)))
+        if "/" not in file:
+            return {(file, it) for it, text in own.definitions.items() if constructs(text, name)}
+        crate = {"crate": own.crate, "super": own.crate}.get(own.used.get(name), own.used.get(name))
+        return (
+            self.of_source(name, crate or own.crate, bool(crate)) if name in self.types else set()
+        )
 
-    def of_source(self, name, crate, is_used=True):
-        """The type, trait or constant of a name, the crate's own where it has one."""
+    def exported(self, module, name, seen):
+        """Where a name of a module is defined, the module's or one that it passes on."""
+        while module in self.aliases:
+            module = self.aliases[module]
+        if ".specs.declared." in module:
+            parts = module.split(".")
+            kind = next((it for it in reversed(parts) if it in self.types), name)
+            return self.of_source(kind, parts[1], True)
+        return self.places(module, name, None, seen) if module in self.files else set()
+
+    def of_source(self, name, crate, is_used):
+        """The types, traits or constants of a name: the crate's, or all where it passes them on."""
         files = self.types.get(name, [])
         own = [it for it in files if it.startswith(f"{crate}/")] or files * is_used
-        return (own[0], name) if own else None
+        return {(it, name) for it in own}
 
     def cited(self, file, text):
         """The definitions that a text of a file cites."""
@@ -135,8 +168,7 @@ class Definitions:
         for word in names:
             parts = [it for it in word.split(".") if it] or [word]
             for at, part in enumerate(parts):
-                place = self.place(file, part, parts[at + 1] if at + 1 < len(parts) else None)
-                found |= {place} if place else set()
+                found |= self.places(file, part, parts[at + 1] if at + 1 < len(parts) else None)
         found |= self.mixfix(file, set(names))
         return found
 
@@ -144,7 +176,7 @@ class Definitions:
         """The definitions of names with places for arguments, as `◌≡◌`, of which a part is cited."""
         names = [*self.files[file].imports, *self.files[file].definitions]
         signs = [it for it in names if MIXFIX in it and set(it.split(MIXFIX)) - {""} <= words]
-        return {it for it in (self.place(file, name, None) for name in signs) if it}
+        return set().union(*(self.places(file, name) for name in signs))
 
     @cache
     def cited_by(self, place):
@@ -173,7 +205,8 @@ def digest(definitions, crate, item, heads, names):
     """The digest of an item; `heads` are of the functions that a constant can make wrong."""
     file, text = f"{crate.name}/{item.file}", item.text[item.start : item.end]
     if item.holder:  # its trait, and its ghost items
-        text = re.split(FIRST_METHOD, item.text[item.holder.start :], maxsplit=1)[0] + text
+        block = block_at(item.text, item.holder.start)
+        text = block.partition("\n")[0] + "".join(GHOST.findall(block)) + text
     parts, found = [" ".join(text.split()), *names], definitions.rests_on(file, text)
     for place, head in heads:
         parts.append(" ".join(head.split()))

@@ -7,25 +7,26 @@ mutate.py says what a mutant is. A verdict is a line of `crates/NAME/verdicts`: 
 function, as digests.py makes it, a letter for each of its mutants in order, and its path.
 
     r   refused by a goal of the function, or by a lemma
-    f   refused for its form alone: a proof names what is gone
-    l   not decided: the search stopped at a limit, or the check did not end
+    f   refused only because a written proof names something that the mutant removed
+    l   refused, but not decided: the search or the check stopped at a limit
     s   proved, since it answers the same; a comment above the function lists it and says why:
         // Same answer (2 → 3, len → 0): the reason.
     -   it does not compile
     .   waiting: not tried yet
 
 A verdict holds while its digest stays, so a changed function, contract or definition makes exactly
-its functions run again, these first, and what waits in other functions after them. Without CRATE all
+the functions that rest on it run again, before any others that wait. Without CRATE all
 crates are tried, without --minutes all that waits; a run that is stopped keeps what it has judged.
 Mutants are planted in a copy of a crate, in rounds, and one check judges a round: the functions that
 they can make wrong and those that these call, over what `rt check` left in the crate's folder. Before
 the first, `rt lib` makes the libraries below, but with --built they are those that there are.
 
-It fails where a mutant of a changed function is proved and no comment lists it, where a comment lists
-what is refused or is no mutant, and where all mutants of a public function are tried and none is `r`
-or `l`, unless an edit of `wrong-bodies` or `must-fail/` is refused in it. Of mutants that had waited
-it reports the same, and does not fail: they wait until a comment lists them. A release is made only
-where none waits. --gate changes no file, and --compare tries nothing.
+It fails where a mutant is proved and no comment lists it, where a comment lists what is refused or is
+no mutant, and where all mutants of a public function are tried and none is `r` or `l`, unless an edit
+of `wrong-bodies` or `must-fail/` is refused in it. With --gate no file is changed, and of mutants that
+had waited this is only reported. --compare tries nothing. A release is made only where nothing waits.
+--minutes is of processor time: a round begins only where 2.5 of them are left, which it takes as a
+rule.
 """
 import argparse
 import os
@@ -50,8 +51,8 @@ LETTERS = {REFUSED: "r", BY_LEMMA: "r", ONLY_GONE: "f", AT_LIMIT: "l", UNCLEAR: 
 LETTERS |= {PROVED: "s", UNREAD: "-"}
 # The gravest first.
 KINDS = [REFUSED, BY_LEMMA, AT_LIMIT, UNCLEAR, ONLY_GONE, WAITING, PROVED]
-# How a mutant is planted: with any others; with others that only call what was not proved, as it
-# does; or by itself, where it was not clear what it makes wrong.
+# How a mutant is planted: with any others; with others that, like it, were only held up by an unproved
+# function that they call; or by itself, where it was not clear what it makes wrong.
 WITH_ANY, WITH_WAITING, ALONE = range(3)
 # The processor time that a check may take, and for each mutant that is planted, in seconds, and that
 # a round takes as a rule; how many are planted in copies, and how many in their places.
@@ -99,7 +100,9 @@ class Function:
         self.is_new = digest != old or len(letters) != len(mutants)
         self.known = "." * len(mutants) if self.is_new else letters
         self.letters = list(self.known)
-        self.listed, self.faults = survivors.listed(item, original, [it.name for it in mutants])
+        comment = survivors.comment_of(item, original)
+        self.comments = comment.count(survivors.WORDS)
+        self.listed, self.faults = survivors.listed(comment, [it.name for it in mutants])
 
     def line(self):
         return f"{self.digest} {''.join(self.letters)} {self.item.path}"
@@ -200,20 +203,30 @@ class Crate:
             if lines:
                 (self.folder / "verdicts").write_text("".join(lines), encoding="utf-8")
 
-    def faults(self):
-        """What is wrong; and the same of mutants that had only waited, which is reported."""
-        faults, reports = [], []
+    def unread_comments(self):
+        """The comments that list mutants of what has none."""
+        counts = Counter()
+        for it in self.functions.values():
+            counts[it.item.file] += it.comments
+        for file, text in mutate.files_of(self.folder):
+            if text.count(survivors.WORDS) != counts[file]:
+                yield f"{file}: a comment lists mutants where there are none"
+
+    def faults(self, is_gate):
+        """What is wrong; and by the gate of mutants that had only waited, which it only reports."""
+        faults, reports = list(self.unread_comments()), []
         for path, it in self.functions.items():
             faults += [f"{path}: {fault}" for fault in it.faults]
             for mutant, letter, old in zip(it.mutants, it.letters, it.known):
                 if fault := fault_of(letter, mutant.name in it.listed):
-                    found = faults if it.is_new or old != "." else reports
+                    found = reports if is_gate and old == "." and not it.is_new else faults
                     found.append(f"{path}: {fault}: {mutant.name}")
         edited = {it for edit in edit_files.edits_of(self.folder) for it in edit.refused}
         for item in self.public:
             one = self.functions.get(item.path)
             if not (one and {"r", "l", "."} & set(one.letters) or item.path in edited):
-                found = reports if one and not one.is_new and "." in one.known else faults
+                is_report = is_gate and one and not one.is_new and "." in one.known
+                found = reports if is_report else faults
                 found.append(f"{item.path}: it is public, and no mutant or edit of it is refused")
         return [[f"{self.name} {it}" for it in both] for both in (faults, reports)]
 
@@ -242,8 +255,11 @@ def lay_out(crate, copy, planted):
 
 
 def linked(one, other):
-    """What was checked is linked, since a check replaces the file; all else is copied."""
-    return os.link(one, other) if str(one).endswith(".oantt") else shutil.copy2(one, other)
+    """What was checked is linked where that can be, since a check replaces the file."""
+    try:
+        return os.link(one, other) if str(one).endswith(".oantt") else shutil.copy2(one, other)
+    except OSError:
+        return shutil.copy2(one, other)
 
 
 def distance(plant, planted, line):
@@ -299,11 +315,14 @@ def is_seen_elsewhere(item):
 def judged_unended(crate, planted, level, ran):
     """The same of a check that came to no end: those that it did not reach are planted alone."""
     reached = set(re.findall(rf"^checked (?:{crate.name}::)?(\S+),", ran.said, re.MULTILINE))
-    for plant in planted:
-        if len(planted) == 1:
-            yield plant, (ENDLESS if ran.status < 0 else UNREAD, ran.said[-300:])
+    is_ended = [reached.issuperset(it.owners) for it in planted]
+    for plant, is_reached in zip(planted, is_ended):
+        if level == ALONE and ran.status < 0:
+            yield plant, (ENDLESS, ran.said[-300:])
+        elif level == ALONE:
+            raise RuntimeError(f"{crate.name}: a check has no verdict: {ran.said[-2000:]}")
         else:
-            yield plant, (None, level if reached.issuperset(plant.owners) else ALONE)
+            yield plant, (None, level if is_reached and not all(is_ended) else ALONE)
 
 
 def try_round(crate, copy, group):
@@ -422,7 +441,7 @@ def main():
         try_all(crates, given, budget)
     for crate in crates if not given.compare and not given.gate else ():
         crate.write()
-    faults, reports = (sum(its, []) for its in zip(*(it.faults() for it in crates)))
+    faults, reports = (sum(its, []) for its in zip(*(it.faults(given.gate) for it in crates)))
     print(*reports, sep="\n", end="\n" * bool(reports))
     report(crates, budget.used)
     if faults:

@@ -4,15 +4,20 @@
 """
 import re
 
+WORDS = "Same answer ("
 ABOVE = re.compile(r"(?:^[ \t]*(?://|#\[)[^\n]*\n)*\Z", re.MULTILINE)
 LINE = re.compile(r"^[ \t]*//(?!/) ?(.*)$", re.MULTILINE)
 
 
-def listed(item, text, names):
-    """The mutants that the comment above an item of a source lists, and what is wrong with it."""
-    words = " ".join(LINE.findall(ABOVE.search(text[: item.start])[0]))
+def comment_of(item, text):
+    """The words of the comment above an item of a source."""
+    return " ".join(LINE.findall(ABOVE.search(text[: item.start])[0]))
+
+
+def listed(words, names):
+    """The mutants that a comment lists, of these names, and what is wrong with it."""
     found, faults = set(), []
-    for start in re.finditer(r"Same answer \(", words):
+    for start in re.finditer(re.escape(WORDS), words):
         at, is_last = start.end(), False
         while not is_last:
             fit = [it for it in names if re.match(r", |\): \S", words[at + len(it) :])]

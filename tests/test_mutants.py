@@ -138,10 +138,53 @@ def test_comments_list_mutants(crate):
     import items
     import survivors
 
-    (item,) = [it for it in items.items_of(crate) if it.path == "next"]
-    names = mutants_of(crate)["next"]
-    assert survivors.listed(item, SOURCE, names) == ({"== → !="}, [])
-    unknown = SOURCE.replace("(== → !=)", "(9 → 123)")
-    assert len(survivors.listed(item, unknown, names)[1]) == 1
-    (item,) = [it for it in items.items_of(crate) if it.path == "twice"]
-    assert survivors.listed(item, SOURCE, names) == (set(), [])
+    item, *_ = [it for it in items.items_of(crate) if it.path == "next"]
+    names, comment = mutants_of(crate)["next"], survivors.comment_of(item, SOURCE)
+    assert survivors.listed(comment, names) == ({"== → !="}, [])
+    assert len(survivors.listed(comment.replace("==", "9"), names)[1]) == 1
+    item, *_ = [it for it in items.items_of(crate) if it.path == "twice"]
+    assert survivors.comment_of(item, SOURCE) == ""
+
+
+TRAIT = """\
+ghost use Rattle.digits.specs.Passed.{next_digit};
+
+pub trait Steps {
+    type Value;
+
+    fn step(digit: u8) -> u8
+        ensures { result ≡ next_digit digit };
+}
+
+struct Ten;
+
+impl Steps for Ten {
+    type Value = u8;
+
+    fn step(digit: u8) -> u8 {
+        digit + 1
+    }
+
+    ghost most = { 9 };
+}
+"""
+
+
+@pytest.mark.parametrize(
+    "file, old, new",
+    [
+        ("src/steps.rt", "ensures { result ≡ next_digit digit }", "ensures { result ≡ digit }"),
+        ("src/steps.rt", "ghost most = { 9 };", "ghost most = { 10 };"),
+        ("specs/Digits.antt", "one = 1", "one = one"),
+        ("specs/Digits.antt", 'if sign "--all" then digit + one', 'if sign "--all" then digit'),
+    ],
+    ids=["the trait", "a ghost item after a method", "a name passed on", "dashes in a string"],
+)
+def test_methods_rest_on_their_trait(crate, file, old, new):
+    write(crate / "src/steps.rt", TRAIT)
+    text = SPECS.replace("= digit + one", '= if sign "--all" then digit + one else digit')
+    write(crate / "specs/Digits.antt", text)
+    write(
+        crate / "specs/Passed.antt", "pub use Rattle.digits.specs.Digits.{next_of as next_digit}\n"
+    )
+    assert "steps::TenSteps::step" in changed(crate, file, old, new)
