@@ -136,7 +136,7 @@ run_tests "${at_once[@]}" --library "$scratch/library" -m built
 # The wrong bodies, and the mutants of what changed, over the libraries that the gate has left.
 passed=$(sed -n '$s/ passed, 0 failed$//p' "$scratch/gate")
 if [ $# -eq 0 ]; then
-    time python3 checks/mutants.py --built --gate --minutes 10 | tee "$scratch/mutants"
+    time python3 checks/mutants.py --built --gate --minutes 6 | tee "$scratch/mutants"
     time python3 checks/wrong_bodies.py --built | tee "$scratch/wrong_bodies"
     refused=$(grep -oP '^wrong bodies: \K\d+(?= refused)' "$scratch/wrong_bodies")
     passed=$((passed + refused))

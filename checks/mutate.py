@@ -1,11 +1,12 @@
 """The mutants of a crate: each has one value of a function or a constant changed.
 
 Contracts, ghost items and tests are left as they are, and so is all that is outside of bodies, and a
-function with no contract, such as `main`, which tests alone show. What a value becomes: its opposite or neighbor, as a literal or an operator; a fixed value of its type; a
-field, a constant or a variant beside it; a variable or a function of the same type. An early return
-or a guard is dropped, and two arguments of one type are exchanged. Of a table's entries, and of the
-literals of patterns that have lines of their own, one is changed for each kind of value, drawn by
-the table's name. The value that fills an array, as in `[0; N]`, is none.
+function with no contract, such as `main`, which only tests can check. What a value becomes: its
+opposite or neighbor, as a literal or an operator; a fixed value of its type; a field, a constant or a
+variant beside it; a variable or a function of the same type. An early return or a guard is dropped,
+and two arguments of one type are exchanged. Of a table's entries, and of the literals of patterns
+that have lines of their own, one is changed for each kind of value, drawn by the table's name. The
+value that fills an array, as in `[0; N]`, stays.
 """
 import random
 import re
@@ -306,10 +307,11 @@ def promises(item):
 
 def mutants_of(crate):
     known, items = all_known(), list(items_of(crate))
+    functions = {it.path for it in items if it.kind == "fn"}
     promising = {it.path for it in items if promises(it)}
     for item in items:
         owners = (item.path,) if item.kind == "fn" else citing(item, items)
-        if not promising & set(owners):
+        if functions & set(owners) and not promising & set(owners):
             continue
         body = Body(item, known, crate.name)
         is_long = body.text.count("\n") > 2 or body.text.count(",") > 8
