@@ -149,17 +149,18 @@ class Crate:
     def is_new(self, mutant):
         return self.functions[mutant.item.path].is_new
 
-    def untried(self):
-        """The functions of which no mutant is tried."""
-        return {path for path, it in self.functions.items() if not set(it.letters) - {"."}}
+    def unshown(self):
+        """The functions of which no mutant is refused yet."""
+        functions = (it for it in self.functions.values() if it.item.kind == "fn")
+        return {it.item.path for it in functions if not {"r", "l"} & set(it.letters)}
 
     def rank(self):
-        """How much a round of this crate is worth: what is changed comes first, then what is not
-        tried at all, then the most."""
+        """How much a round of this crate is worth: what is changed comes first, then functions of
+        which no mutant is refused, then the most."""
         with self.lock:
             waiting = {it.item.path for it in self.waiting}
             is_new = any(map(self.is_new, self.waiting))
-            return is_new, len(waiting & self.untried()), len(waiting)
+            return is_new, len(waiting & self.unshown()), len(waiting)
 
     def next_round(self):
         """How the next mutants are planted, and which; they wait no longer."""
@@ -169,9 +170,9 @@ class Crate:
             waiting = [it for it in waiting if self.is_new(it)] or waiting
             # A constant takes as many checks as functions cite it.
             waiting = [it for it in waiting if it.item.kind == "fn"] or waiting
-            untried = self.untried()  # they come first
-            waiting.sort(key=lambda it: it.item.path not in untried)
-            is_fresh = bool(waiting) and waiting[0].item.path in untried
+            unshown = self.unshown()  # they come first
+            waiting.sort(key=lambda it: it.item.path not in unshown)
+            is_fresh = bool(waiting) and waiting[0].item.path in unshown
             counts = Counter(it.item.path for it in waiting if it.item.path in self.copied)
             copied = [it for it in waiting if counts[it.item.path] > 2 and level == WITH_ANY]
             copied = [] if is_fresh else copied[:IN_COPIES]
@@ -273,12 +274,22 @@ def distance(plant, planted, line):
     return max(first - line, line - last, 0), abs(at - line)
 
 
-def unread(planted, errors):
-    """Those that do not compile: of each error the nearest in its file."""
-    for file, line in errors:
+def unread(crate, planted, said):
+    """Those that do not compile: of each error the nearest in its file, and those that close a cycle
+    of calls."""
+    for file, line in planting.UNREAD.findall(said):
         near = [it for it in planted if it.item.file == file]
         if near:
             yield min(near, key=lambda it: distance(it, planted, int(line)))
+    _, _, cycles = said.partition("error[unnamed-cycle]")
+    names = set(re.findall(rf"`{crate.name}::(\S+?)`", cycles))
+    for it in planted:
+        if (
+            it.mutant
+            and names & set(it.owners)
+            and it.mutant.new in {mutate.name_of(one) for one in names}
+        ):
+            yield it
 
 
 def judged(crate, planted, level, ran):
@@ -319,6 +330,8 @@ def judged_unended(crate, planted, level, ran):
     for plant, is_reached in zip(planted, is_ended):
         if level == ALONE and ran.status < 0:
             yield plant, (ENDLESS, ran.said[-300:])
+        elif level == ALONE and "rattle: error[" in ran.said:
+            yield plant, (UNREAD, ran.said[-300:])
         elif level == ALONE:
             raise RuntimeError(f"{crate.name}: a check has no verdict: {ran.said[-2000:]}")
         else:
@@ -338,7 +351,7 @@ def try_round(crate, copy, group):
         only = only if level != ALONE else ()
         ran = planting.check(crate.name, copy, group, "--progress", only=only, most=most)
         seconds += ran.seconds
-        bad = dict.fromkeys(unread(planted, planting.UNREAD.findall(ran.said)), (UNREAD, ""))
+        bad = dict.fromkeys(unread(crate, planted, ran.said), (UNREAD, ""))
         came |= bad
         planted = [it for it in planted if it not in bad]
         if not bad:
