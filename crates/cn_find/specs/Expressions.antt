@@ -5,7 +5,7 @@ use Rattle.std.specs.Char.{char_set_contains, is_ascii_alphabetic, is_ascii_digi
 use Rattle.cn_core.specs.Characters.{digit_of}
 use Rattle.cn_core.specs.Mark.{Mark, unit, mark_of}
 use Rattle.cn_find.specs.declared.wanted.Wanted.{Wanted}
-use Rattle.cn_find.specs.Belongs.{begins_with, belongs, is_chinese_digit, is_wanted}
+use Rattle.cn_find.specs.Belongs.{begins_with, belongs, is_chinese_digit, is_ge, is_wanted}
 use Rattle.cn_find.specs.Flags.{is_wide_digit}
 use Rattle.cn_find.specs.Rule.{Rule}
 
@@ -71,6 +71,71 @@ begins_decimals wanted [] = false
 begins_decimals wanted (c ∷ after) =
     (is_chinese_digit c && is_wanted wanted c) && not (begins_word c after)
 
+-- the mark is a unit from 百 up
+abbrev pub is_multiplier : Mark → Bool
+is_multiplier (unit rank) = nat_le 2 rank
+is_multiplier mark = false
+
+-- the mark is a unit from 十 up
+abbrev pub is_power : Mark → Bool
+is_power (unit rank) = nat_le 1 rank
+is_power mark = false
+
+-- the characters begin with 個 or a unit from 百 up
+abbrev pub begins_counted : Wanted → List ℕ → Bool
+begins_counted wanted [] = false
+begins_counted wanted (c ∷ after) =
+    is_wanted wanted c && (is_multiplier (mark_of c) || is_ge (mark_of c))
+
+-- 两 as a weight: it follows a numeral character, and counts no unit
+unfoldable pub is_weight : Wanted → List ℕ → ℕ → List ℕ → Bool
+is_weight wanted front c after =
+    char_set_contains (codes "两兩") c
+    && (ends_numeral wanted front && not (begins_counted wanted after))
+
+-- a Han character
+unfoldable pub is_han : ℕ → Bool
+is_han c = nat_le 19968 c && nat_le c 40959
+
+abbrev pub begins_han : List ℕ → Bool
+begins_han [] = false
+begins_han (c ∷ after) = is_han c
+
+-- the characters begin with 万, and a Han character follows, or one may
+abbrev pub begins_wan : Bool → List ℕ → Bool
+begins_wan may [] = false
+begins_wan may (c ∷ after) = char_set_contains (codes "万萬") c && (may || begins_han after)
+
+-- 個 before a word that begins with 万, as in 一個萬用字元: a Han character follows that, or no number
+-- comes first
+unfoldable pub is_item : Wanted → List ℕ → ℕ → List ℕ → Bool
+is_item wanted front c after =
+    char_set_contains (codes "个個") c && begins_wan (not (ends_numeral wanted front)) after
+
+-- the nearest character is a unit from 十 up
+abbrev pub ends_power : Wanted → List ℕ → Bool
+ends_power wanted [] = false
+ends_power wanted (c ∷ front) = is_wanted wanted c && is_power (mark_of c)
+
+-- the nearest characters are digits, and a point before them
+abbrev pub ends_decimals : List ℕ → Bool
+ends_decimals [] = false
+ends_decimals (c ∷ front) =
+    (is_some (digit_of c) || is_wide_digit c)
+    && (begins_with (codes "点點.．") front || ends_decimals front)
+
+-- 千 as a part of a measure, as in 30亿千瓦时
+unfoldable pub is_kilo : Wanted → List ℕ → ℕ → List ℕ → Bool
+is_kilo wanted front c after =
+    char_set_contains (codes "千仟") c
+    && (begins_with (codes "瓦克米卡赫伏安焦帕") after
+    && (ends_power wanted front || ends_decimals front))
+
+-- a numeral character that belongs to another word than a number
+abbrev pub is_other_word : Wanted → List ℕ → ℕ → List ℕ → Bool
+is_other_word wanted front c after =
+    is_weight wanted front c after || (is_item wanted front c after || is_kilo wanted front c after)
+
 -- the characters begin with three figures, and what follows them passes this test
 abbrev pub three_figures : (List ℕ → Bool) → List ℕ → Bool
 three_figures passes (c ∷ d ∷ e ∷ others) =
@@ -83,14 +148,14 @@ begins_group after = three_figures (λ others. not (begins_figure others)) after
 
 -- the nearest characters are three figures, and a comma in front of them
 abbrev pub ends_group : List ℕ → Bool
-ends_group front = three_figures (λ others. begins_with (codes ",") others) front
+ends_group front = three_figures (λ others. begins_with (codes ",，") others) front
 
 -- a figure with these characters in front begins a number: it is no 0, and stands behind no figure,
 -- comma or point
 unfoldable pub begins_number : ℕ → List ℕ → Bool
 begins_number c front =
     not (char_set_contains (codes "0０") c)
-    && (not (begins_figure front) && not (begins_with (codes ",.．") front))
+    && (not (begins_figure front) && not (begins_with (codes ",.．，") front))
 
 -- the nearest characters are figures, at most so many, of which the first begins a number
 abbrev pub ends_head : ℕ → List ℕ → Bool
@@ -103,22 +168,54 @@ ends_head (suc most) (c ∷ front) =
 abbrev pub parts_groups : List ℕ → List ℕ → Bool
 parts_groups front after = (ends_head 3 front || ends_group front) && begins_group after
 
--- the mark is a unit from 百 up
-abbrev pub is_multiplier : Mark → Bool
-is_multiplier (unit rank) = nat_le 2 rank
-is_multiplier mark = false
-
--- the characters begin with such a unit that belongs to a number, or with a percent sign
+-- the characters begin with a unit from 百 up that belongs to a number, or with a percent sign
 abbrev pub begins_multiplier : Wanted → List ℕ → Bool
 begins_multiplier wanted [] = false
 begins_multiplier wanted (c ∷ after) =
-    (is_multiplier (mark_of c) && belongs wanted c after) || char_set_contains (codes "%％") c
+    (is_multiplier (mark_of c) && belongs wanted c after) || char_set_contains (codes "%％‰") c
 
--- the characters begin with 之 and a numeral character
+-- the characters begin with a numeral character, or a minus sign and one
+abbrev pub begins_signed : Wanted → List ℕ → Bool
+begins_signed wanted [] = false
+begins_signed wanted (c ∷ after) =
+    is_numeric wanted c after
+    || (char_set_contains (codes "负負-−－") c && begins_numeral wanted after)
+
+-- the characters begin with 之 and such a numerator
 abbrev pub begins_numerator : Wanted → List ℕ → Bool
 begins_numerator wanted [] = false
 begins_numerator wanted (c ∷ after) =
-    char_set_contains (codes "之") c && begins_numeral wanted after
+    char_set_contains (codes "之") c && begins_signed wanted after
+
+-- the characters begin with 分 and such a numerator
+abbrev pub begins_bar : Wanted → List ℕ → Bool
+begins_bar wanted [] = false
+begins_bar wanted (c ∷ after) =
+    char_set_contains (codes "分") c && begins_numerator wanted after
+
+-- the characters begin with numeral characters and then those
+abbrev pub begins_fraction : Wanted → List ℕ → Bool
+begins_fraction wanted [] = false
+begins_fraction wanted (c ∷ after) =
+    is_numeric wanted c after && (begins_bar wanted after || begins_fraction wanted after)
+
+-- the nearest character is 零, and no numeral character is before it
+abbrev pub ends_zero : Wanted → List ℕ → Bool
+ends_zero wanted [] = false
+ends_zero wanted (c ∷ front) =
+    char_set_contains (codes "零") c && not (ends_numeral wanted front)
+
+-- what follows 一 makes it a temperature, as 度 of 零下一度, and no word, as 步 of 归零下一步
+abbrev pub begins_degrees : Wanted → List ℕ → Bool
+begins_degrees wanted after =
+    begins_numeral wanted after || begins_with (codes "度点點摄攝℃") after
+
+-- the characters begin with a number that 零下 may be before
+abbrev pub begins_below_zero : Wanted → List ℕ → Bool
+begins_below_zero wanted [] = false
+begins_below_zero wanted (c ∷ after) =
+    (is_figure c || (is_wanted wanted c && (is_some (digit_of c) || char_set_contains (codes "十") c)))
+    && (not (char_set_contains (codes "一") c) || begins_degrees wanted after)
 
 -- the nearest characters are 分 and a numeral character in front of it
 abbrev pub ends_denominator : Wanted → List ℕ → Bool
@@ -150,6 +247,27 @@ abbrev pub ends_bound : List ℕ → Bool
 ends_bound [] = false
 ends_bound (c ∷ front) = binds_minus c
 
+-- the characters begin with a figure, or a sign of money and one
+abbrev pub begins_sum : List ℕ → Bool
+begins_sum [] = false
+begins_sum (c ∷ after) =
+    is_figure c || (char_set_contains (codes "¥￥") c && begins_figure after)
+
+-- `-` may be a sign after these characters
+abbrev pub may_precede_minus : Wanted → List ℕ → Bool
+may_precede_minus wanted front = not (ends_numeral wanted front) && not (ends_bound front)
+
+-- the nearest character is such a sign
+abbrev pub ends_minus : Wanted → List ℕ → Bool
+ends_minus wanted [] = false
+ends_minus wanted (c ∷ front) =
+    char_set_contains (codes "-−－") c && may_precede_minus wanted front
+
+-- the characters begin with a full-width figure
+abbrev pub begins_wide : List ℕ → Bool
+begins_wide [] = false
+begins_wide (c ∷ others) = is_wide_digit c
+
 -- the character belongs to an expression by what stands around it
 unfoldable pub joins : Wanted → List ℕ → ℕ → List ℕ → Bool
 joins wanted front c after =
@@ -157,40 +275,51 @@ joins wanted front c after =
     && (ends_words wanted front && begins_decimals wanted after))
     || (char_set_contains (codes ".．") c && (begins_figure front && begins_figure after))
     || (char_set_contains (codes ",") c && parts_groups front after)
+    || (char_set_contains (codes "，") c
+    && (parts_groups front after && (begins_wide front && begins_wide after)))
     || (char_set_contains (codes " ") c
     && (begins_figure front && begins_multiplier wanted after))
     || (char_set_contains (codes "分") c
     && (ends_numeral wanted front && begins_numerator wanted after))
     || (char_set_contains (codes "之") c
-    && (ends_denominator wanted front && begins_numeral wanted after))
-    || (char_set_contains (codes "%％") c
+    && (ends_denominator wanted front && begins_signed wanted after))
+    || (char_set_contains (codes "%％‰") c
     && (ends_numeral wanted front || ends_spaced front))
+    || (char_set_contains (codes "又") c
+    && (ends_numeral wanted front && begins_fraction wanted after))
+    || (char_set_contains (codes "下") c
+    && (ends_zero wanted front && begins_below_zero wanted after))
     || (char_set_contains (codes "负負") c
     && (begins_numeral wanted after && (not (ends_numeral wanted front)
     && not (ends_verb front))))
     || (char_set_contains (codes "-−－") c
-    && (begins_figure after && (not (ends_numeral wanted front)
-    && not (ends_bound front))))
+    && (begins_sum after && may_precede_minus wanted front))
+    || (char_set_contains (codes "¥￥") c
+    && (begins_figure after && ends_minus wanted front))
 
--- a character that can belong to an expression, and to no number
+-- a character that expressions treat otherwise than numbers do
 unfoldable pub is_extra : ℕ → Bool
 is_extra c =
-    is_tens c || is_wide_digit c || char_set_contains (codes "点點.．, 分之%％负負-−－") c
+    is_tens c || is_wide_digit c
+    || char_set_contains (codes "点點.．,， 分之%％‰又下负負-−－¥￥两兩个個千仟") c
 
 -- a digit that is no figure, or 廿 or 卅
 abbrev pub is_word_digit : ℕ → Bool
 is_word_digit c = is_chinese_digit c || is_tens c
 
--- two neighbours are of two expressions: the one is a figure and the other such a digit, or the first
--- is a percent sign
+-- two neighbours are of two expressions: the one is a figure and the other such a digit, but for 零 before
+-- a figure; or the first is a percent sign
 unfoldable pub parts_expressions : ℕ → ℕ → Bool
 parts_expressions c next =
-    (is_figure c && is_word_digit next) || (is_word_digit c && is_figure next)
-    || char_set_contains (codes "%％") c
+    (is_figure c && is_word_digit next)
+    || ((is_word_digit c && not (char_set_contains (codes "零〇") c)) && is_figure next)
+    || char_set_contains (codes "%％‰") c
 
 -- the rule of expressions
 abbrev pub expression_rule : Wanted → Rule
 expression_rule wanted = record {
-  belongs = λ front c after. is_numeric wanted c after || joins wanted front c after;
+  belongs = λ front c after.
+      (is_numeric wanted c after && not (is_other_word wanted front c after))
+      || joins wanted front c after;
   is_parted = parts_expressions;
 }

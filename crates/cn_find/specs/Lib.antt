@@ -1,10 +1,13 @@
 pub mod Belongs
+pub mod Doubt
 pub mod Expressions
 pub mod Flags
 pub mod Number
 pub mod Parting
 pub mod Plain
 pub mod Private
+pub mod Ranges
 pub mod Rule
 pub mod Runs
 pub mod Spans
+pub mod Words

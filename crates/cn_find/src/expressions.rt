@@ -1,9 +1,10 @@
 // Whether a character of a text is one of an expression.
 ghost use Rattle.std.specs.Prelude.{◌≡◌, ◌||◌, ◌∷◌, [], codes, chars, MatchOption};
+ghost use Rattle.std.specs.Char.{char_set_contains};
 ghost use Rattle.cn_core.specs.Mark.{mark_of};
 ghost use Rattle.cn_judge.specs.Marked.{marked};
-ghost use Rattle.cn_find.specs.Belongs.{begins_with};
-ghost use Rattle.cn_find.specs.Expressions.{begins_decimals, begins_figure, begins_group, begins_minutes, begins_multiplier, begins_number, begins_numeral, begins_numerator, begins_time, begins_word, binds_minus, ends_bound, ends_denominator, ends_group, ends_head, ends_numeral, ends_spaced, ends_verb, ends_word, ends_words, follows_one, is_extra, is_figure, is_multiplier, is_numeric, is_tens, is_word_digit, joins, parts_expressions, parts_groups, precedes_minus};
+ghost use Rattle.cn_find.specs.Belongs.{begins_with, is_ge};
+ghost use Rattle.cn_find.specs.Expressions.{begins_bar, begins_below_zero, begins_counted, begins_decimals, begins_degrees, begins_figure, begins_fraction, begins_group, begins_han, begins_minutes, begins_multiplier, begins_number, begins_numeral, begins_numerator, begins_signed, begins_sum, begins_time, begins_wan, begins_wide, begins_word, binds_minus, ends_bound, ends_decimals, ends_denominator, ends_group, ends_head, ends_minus, ends_numeral, ends_power, ends_spaced, ends_verb, ends_word, ends_words, ends_zero, expression_rule, follows_one, is_extra, is_figure, is_han, is_item, is_kilo, is_multiplier, is_numeric, is_other_word, is_power, is_tens, is_weight, is_word_digit, joins, may_precede_minus, parts_expressions, parts_groups, precedes_minus};
 ghost use Rattle.cn_find.specs.Flags.{is_wide_digit};
 ghost use Rattle.cn_find.specs.Spans.{in_front};
 
@@ -13,9 +14,9 @@ use crate::flags::is_wide_digit;
 use cn_core::{Unit, digit_of, split_first_char};
 use cn_judge::{Mark, mark_of, split_first_mark, split_last_char};
 
-// The nearest character in front, and what stands in front of it.
+/// The nearest character before a number, and what is before that.
 #[tactic(auto, using(crate::proofs::Nearest::reverse_last))]
-fn split_nearest(before: &str) -> Option<(char, &str)>
+pub fn split_nearest(before: &str) -> Option<(char, &str)>
     ensures { MatchOption result (in_front before.now ≡ [])
         (λ r. in_front before.now ≡ r.0 ∷ in_front r.1.now) }
 {
@@ -23,7 +24,7 @@ fn split_nearest(before: &str) -> Option<(char, &str)>
 }
 
 #[tactic(auto, unfolding(crate::specs::Expressions::is_tens))]
-fn is_tens(c: char) -> bool
+pub fn is_tens(c: char) -> bool
     ensures { result ≡ is_tens c }
 {
     matches!(c, '廿' | '卅')
@@ -99,6 +100,26 @@ fn ends_figure(before: &str) -> bool
 {
     match split_nearest(before) {
         Some((c, _)) => is_figure(c),
+        None => false,
+    }
+}
+
+// Whether a full-width figure comes first.
+fn begins_wide(after: &str) -> bool
+    ensures { result ≡ begins_wide (chars after.now) }
+{
+    match split_first_char(after) {
+        Some((c, _)) => is_wide_digit(c),
+        None => false,
+    }
+}
+
+// Whether a full-width figure is nearest.
+fn ends_wide(before: &str) -> bool
+    ensures { result ≡ begins_wide (in_front before.now) }
+{
+    match split_nearest(before) {
+        Some((c, _)) => is_wide_digit(c),
         None => false,
     }
 }
@@ -184,10 +205,10 @@ fn begins_group(after: &str) -> bool
 }
 
 fn ends_comma(before: &str) -> bool
-    ensures { result ≡ begins_with (codes ",") (in_front before.now) }
+    ensures { result ≡ begins_with (codes ",，") (in_front before.now) }
 {
     match split_nearest(before) {
-        Some((c, _)) => c == ',',
+        Some((c, _)) => matches!(c, ',' | '，'),
         None => false,
     }
 }
@@ -209,10 +230,10 @@ fn ends_group(before: &str) -> bool
 }
 
 fn ends_mark(before: &str) -> bool
-    ensures { result ≡ begins_with (codes ",.．") (in_front before.now) }
+    ensures { result ≡ begins_with (codes ",.．，") (in_front before.now) }
 {
     match split_nearest(before) {
-        Some((c, _)) => matches!(c, ',' | '.' | '．'),
+        Some((c, _)) => matches!(c, ',' | '.' | '．' | '，'),
         None => false,
     }
 }
@@ -260,7 +281,26 @@ fn begins_multiplier(wanted: Wanted, after: &str) -> bool
 {
     match split_first_mark(after) {
         Some((c, mark, others)) => {
-            (is_multiplier(mark) && belongs(wanted, c, mark, others)) || matches!(c, '%' | '％')
+            (is_multiplier(mark) && belongs(wanted, c, mark, others))
+                || matches!(c, '%' | '％' | '‰')
+        }
+        None => false,
+    }
+}
+
+// Whether a character is a minus sign of numerals or of figures.
+fn is_minus(c: char) -> bool
+    ensures { result ≡ char_set_contains (codes "负負-−－") c }
+{
+    matches!(c, '负' | '負' | '-' | '−' | '－')
+}
+
+fn begins_signed(wanted: Wanted, after: &str) -> bool
+    ensures { result ≡ begins_signed wanted (chars after.now) }
+{
+    match split_first_mark(after) {
+        Some((c, mark, others)) => {
+            is_numeric(wanted, c, mark, others) || (is_minus(c) && begins_numeral(wanted, others))
         }
         None => false,
     }
@@ -270,7 +310,66 @@ fn begins_numerator(wanted: Wanted, after: &str) -> bool
     ensures { result ≡ begins_numerator wanted (chars after.now) }
 {
     match split_first_char(after) {
-        Some((c, others)) => c == '之' && begins_numeral(wanted, others),
+        Some((c, others)) => c == '之' && begins_signed(wanted, others),
+        None => false,
+    }
+}
+
+fn begins_bar(wanted: Wanted, after: &str) -> bool
+    ensures { result ≡ begins_bar wanted (chars after.now) }
+{
+    match split_first_char(after) {
+        Some((c, others)) => c == '分' && begins_numerator(wanted, others),
+        None => false,
+    }
+}
+
+fn begins_fraction(wanted: Wanted, after: &str) -> bool
+    ensures { result ≡ begins_fraction wanted (chars after.now) }
+{
+    let mut rest = after;
+    'passing: while let Some((c, mark, others)) = split_first_mark(rest) {
+        if !is_numeric(wanted, c, mark, others) {
+            return false;
+        }
+        if begins_bar(wanted, others) {
+            return true;
+        }
+        rest = others;
+    }
+    false
+}
+
+fn ends_zero(wanted: Wanted, before: &str) -> bool
+    ensures { result ≡ ends_zero wanted (in_front before.now) }
+{
+    match split_nearest(before) {
+        Some((c, front)) => c == '零' && !ends_numeral(wanted, front),
+        None => false,
+    }
+}
+
+fn begins_degrees(wanted: Wanted, after: &str) -> bool
+    ensures { result ≡ begins_degrees wanted (chars after.now) }
+{
+    if begins_numeral(wanted, after) {
+        return true;
+    }
+    match split_first_char(after) {
+        Some((c, _)) => matches!(c, '度' | '点' | '點' | '摄' | '攝' | '℃'),
+        None => false,
+    }
+}
+
+fn begins_below_zero(wanted: Wanted, after: &str) -> bool
+    ensures { result ≡ begins_below_zero wanted (chars after.now) }
+{
+    match split_first_mark(after) {
+        Some((c, mark, others)) => {
+            (is_figure(c)
+                || (is_wanted(wanted, c, mark) && (digit_of(c).is_some() || c == '十')))
+                && (c != '一' || begins_degrees(wanted, others))
+        }
         None => false,
     }
 }
@@ -333,7 +432,31 @@ fn ends_bound(before: &str) -> bool
     }
 }
 
-// Whether a character is one of an expression by what stands around it.
+fn begins_sum(after: &str) -> bool
+    ensures { result ≡ begins_sum (chars after.now) }
+{
+    match split_first_char(after) {
+        Some((c, others)) => is_figure(c) || (matches!(c, '¥' | '￥') && begins_figure(others)),
+        None => false,
+    }
+}
+
+fn may_precede_minus(wanted: Wanted, before: &str) -> bool
+    ensures { result ≡ may_precede_minus wanted (in_front before.now) }
+{
+    !ends_numeral(wanted, before) && !ends_bound(before)
+}
+
+fn ends_minus(wanted: Wanted, before: &str) -> bool
+    ensures { result ≡ ends_minus wanted (in_front before.now) }
+{
+    match split_nearest(before) {
+        Some((c, front)) => matches!(c, '-' | '−' | '－') && may_precede_minus(wanted, front),
+        None => false,
+    }
+}
+
+// Whether a character is one of an expression by what is around it.
 #[tactic(auto, unfolding(crate::specs::Expressions::joins))]
 fn joins(wanted: Wanted, before: &str, c: char, after: &str) -> bool
     ensures { result ≡ joins wanted (in_front before.now) c (chars after.now) }
@@ -342,21 +465,151 @@ fn joins(wanted: Wanted, before: &str, c: char, after: &str) -> bool
         '点' | '點' => ends_words(wanted, before) && begins_decimals(wanted, after),
         '.' | '．' => ends_figure(before) && begins_figure(after),
         ',' => parts_groups(before, after),
+        '，' => parts_groups(before, after) && ends_wide(before) && begins_wide(after),
         ' ' => ends_figure(before) && begins_multiplier(wanted, after),
         '分' => ends_numeral(wanted, before) && begins_numerator(wanted, after),
-        '之' => ends_denominator(wanted, before) && begins_numeral(wanted, after),
-        '%' | '％' => ends_numeral(wanted, before) || ends_spaced(before),
+        '之' => ends_denominator(wanted, before) && begins_signed(wanted, after),
+        '%' | '％' | '‰' => ends_numeral(wanted, before) || ends_spaced(before),
+        '又' => ends_numeral(wanted, before) && begins_fraction(wanted, after),
+        '下' => ends_zero(wanted, before) && begins_below_zero(wanted, after),
         '负' | '負' => {
             begins_numeral(wanted, after) && !ends_numeral(wanted, before) && !ends_verb(before)
         }
-        '-' | '−' | '－' => {
-            begins_figure(after) && !ends_numeral(wanted, before) && !ends_bound(before)
-        }
+        '-' | '−' | '－' => begins_sum(after) && may_precede_minus(wanted, before),
+        '¥' | '￥' => begins_figure(after) && ends_minus(wanted, before),
         _ => false,
     }
 }
 
-// Whether a character can belong to an expression, and to no number.
+pub fn is_power(mark: Mark) -> bool
+    ensures { result ≡ is_power (marked mark) }
+{
+    match mark {
+        Mark::Unit(unit) => is_up_to(unit, Unit::Shi),
+        _ => false,
+    }
+}
+
+fn begins_counted(wanted: Wanted, after: &str) -> bool
+    ensures { result ≡ begins_counted wanted (chars after.now) }
+{
+    match split_first_mark(after) {
+        Some((c, mark, _)) => {
+            is_wanted(wanted, c, mark)
+                && (is_multiplier(mark) || matches!(mark, Mark::Unit(Unit::Ge)))
+        }
+        None => false,
+    }
+}
+
+#[tactic(auto, unfolding(crate::specs::Expressions::is_weight))]
+fn is_weight(wanted: Wanted, before: &str, c: char, after: &str) -> bool
+    ensures { result ≡ is_weight wanted (in_front before.now) c (chars after.now) }
+{
+    matches!(c, '两' | '兩') && ends_numeral(wanted, before) && !begins_counted(wanted, after)
+}
+
+#[tactic(auto, unfolding(crate::specs::Expressions::is_han))]
+fn is_han(c: char) -> bool
+    ensures { result ≡ is_han c }
+{
+    matches!(c, '\u{4e00}'..='\u{9fff}')
+}
+
+fn begins_han(after: &str) -> bool
+    ensures { result ≡ begins_han (chars after.now) }
+{
+    match split_first_char(after) {
+        Some((c, _)) => is_han(c),
+        None => false,
+    }
+}
+
+fn begins_wan(may: bool, after: &str) -> bool
+    ensures { result ≡ begins_wan may (chars after.now) }
+{
+    match split_first_char(after) {
+        Some((c, others)) => matches!(c, '万' | '萬') && (may || begins_han(others)),
+        None => false,
+    }
+}
+
+#[tactic(auto, unfolding(crate::specs::Expressions::is_item))]
+fn is_item(wanted: Wanted, before: &str, c: char, after: &str) -> bool
+    ensures { result ≡ is_item wanted (in_front before.now) c (chars after.now) }
+{
+    matches!(c, '个' | '個') && begins_wan(!ends_numeral(wanted, before), after)
+}
+
+fn ends_power(wanted: Wanted, before: &str) -> bool
+    ensures { result ≡ ends_power wanted (in_front before.now) }
+{
+    match split_nearest(before) {
+        Some((c, _)) => {
+            let mark = mark_of(c);
+            is_wanted(wanted, c, mark) && is_power(mark)
+        }
+        None => false,
+    }
+}
+
+fn ends_point(before: &str) -> bool
+    ensures { result ≡ begins_with (codes "点點.．") (in_front before.now) }
+{
+    match split_nearest(before) {
+        Some((c, _)) => matches!(c, '点' | '點' | '.' | '．'),
+        None => false,
+    }
+}
+
+fn ends_decimals(before: &str) -> bool
+    ensures { result ≡ ends_decimals (in_front before.now) }
+{
+    let mut rest = before;
+    'passing: while let Some((c, front)) = split_nearest(rest) {
+        if digit_of(c).is_none() && !is_wide_digit(c) {
+            return false;
+        }
+        if ends_point(front) {
+            return true;
+        }
+        rest = front;
+    }
+    false
+}
+
+fn begins_kilo_measure(after: &str) -> bool
+    ensures { result ≡ begins_with (codes "瓦克米卡赫伏安焦帕") (chars after.now) }
+{
+    match split_first_char(after) {
+        Some((c, _)) => {
+            matches!(
+                c,
+                '瓦' | '克' | '米' | '卡' | '赫' | '伏' | '安' | '焦' | '帕'
+            )
+        }
+        None => false,
+    }
+}
+
+#[tactic(auto, unfolding(crate::specs::Expressions::is_kilo))]
+fn is_kilo(wanted: Wanted, before: &str, c: char, after: &str) -> bool
+    ensures { result ≡ is_kilo wanted (in_front before.now) c (chars after.now) }
+{
+    matches!(c, '千' | '仟')
+        && begins_kilo_measure(after)
+        && (ends_power(wanted, before) || ends_decimals(before))
+}
+
+fn is_other_word(wanted: Wanted, before: &str, c: char, after: &str) -> bool
+    ensures { result ≡ is_other_word wanted (in_front before.now) c (chars after.now) }
+{
+    is_weight(wanted, before, c, after)
+        || is_item(wanted, before, c, after)
+        || is_kilo(wanted, before, c, after)
+}
+
+// Whether expressions treat a character otherwise than numbers do.
 #[inline(always)]
 #[tactic(auto, unfolding(crate::specs::Expressions::is_extra))]
 fn is_extra(c: char) -> bool
@@ -366,7 +619,32 @@ fn is_extra(c: char) -> bool
         || is_wide_digit(c)
         || matches!(
             c,
-            '点' | '點' | '.' | '．' | ',' | ' ' | '分' | '之' | '%' | '％' | '负' | '負' | '-' | '−' | '－'
+            '点' | '點'
+                | '.'
+                | '．'
+                | ','
+                | '，'
+                | ' '
+                | '分'
+                | '之'
+                | '%'
+                | '％'
+                | '‰'
+                | '又'
+                | '下'
+                | '负'
+                | '負'
+                | '-'
+                | '−'
+                | '－'
+                | '¥'
+                | '￥'
+                | '两'
+                | '兩'
+                | '个'
+                | '個'
+                | '千'
+                | '仟'
         )
 }
 
@@ -374,11 +652,11 @@ fn is_extra(c: char) -> bool
 #[inline(always)]
 pub fn is_of_expression(wanted: Wanted, before: &str, c: char, mark: Mark, after: &str) -> bool
     requires { marked mark ≡ mark_of c }
-    ensures { result ≡ (is_numeric wanted c (chars after.now)
-        || joins wanted (in_front before.now) c (chars after.now)) }
+    ensures { result ≡ (expression_rule wanted).belongs (in_front before.now) c (chars after.now) }
 {
     if is_extra(c) {
-        is_extra_numeral(c) || joins(wanted, before, c, after)
+        (is_numeric(wanted, c, mark, after) && !is_other_word(wanted, before, c, after))
+            || joins(wanted, before, c, after)
     } else {
         belongs(wanted, c, mark, after)
     }
@@ -396,6 +674,6 @@ pub fn parts_expressions(c: char, next: char) -> bool
     ensures { result ≡ parts_expressions c next }
 {
     (is_figure(c) && is_word_digit(next))
-        || (is_word_digit(c) && is_figure(next))
-        || matches!(c, '%' | '％')
+        || (is_word_digit(c) && !matches!(c, '零' | '〇') && is_figure(next))
+        || matches!(c, '%' | '％' | '‰')
 }

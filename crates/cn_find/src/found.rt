@@ -1,9 +1,11 @@
 ghost use Rattle.std.specs.Prelude.{◌≡◌, ◌+◌, ◌<◌, ◌^◌, length, chars};
 ghost use Rattle.cn_judge.specs.Answer.{answer_of};
+ghost use Rattle.cn_find.specs.Doubt.{doubt_of};
 ghost use Rattle.cn_find.specs.Flags.{is_about, is_one_character, stands_alone};
 ghost use Rattle.cn_find.specs.Number.{IsAnswer, is_plain};
 ghost use Rattle.cn_quantity.specs.Reading.{quantity_answer};
 
+use crate::doubt::{Doubt, doubt_of};
 use crate::flags::{is_about, is_one_character, is_plain, stands_alone};
 use cn_core::{ChineseCountMethod, Whole};
 use cn_judge::{ChineseToNumberError, read_naive};
@@ -86,5 +88,14 @@ impl Found<'_> {
         ensures { answer_of (λ q. q) result ≡ quantity_answer method self.entry.text.now }
     {
         chinese_to_quantity(self.text, method)
+    }
+
+    /// Why a reader may mean something else than its quantity; `None` if nothing suggests that. The
+    /// reasons are those of docs/RULES.md, "Doubt".
+    pub fn doubt(self, method: ChineseCountMethod) -> Option<Doubt>
+        ensures { result ≡ doubt_of method (chars self.entry.before.now)
+            (chars self.entry.text.now) (chars self.entry.after.now) }
+    {
+        doubt_of(method, self.before, self.text, self.after)
     }
 }

@@ -1,0 +1,273 @@
+// Why a reader may mean something else than the quantity of an expression.
+ghost use Rattle.std.specs.Prelude.{◌≡◌, ◌||◌, ◌&&◌, false, true, codes, chars, is_some, List, ℕ, Option, nat_le, length};
+ghost use Rattle.std.specs.Char.{char_set_contains};
+ghost use Rattle.cn_core.specs.Characters.{digit_of};
+ghost use Rattle.cn_find.specs.Doubt.{are_chinese_digits, are_of_name, begins_plenum, begins_without, counts, do_rise, doubt_of, ends_hour, ends_part_of_day, ends_zero_minutes, has_point, is_clock, is_clock_with_zero, is_doubtful_list, is_hour, is_part, is_term, is_time, is_up_to_first, may_be_list};
+ghost use Rattle.cn_find.specs.Spans.{in_front};
+
+use crate::belongs::is_chinese_digit;
+use crate::expressions::split_nearest;
+use crate::ranges::is_end_of_range;
+use crate::words::{begins_with, begins_with_two, ends_with, ends_with_two, is_of_word};
+use cn_core::{ChineseCountMethod, digit_of, split_first_char};
+
+/// Why a reader may mean something else than the quantity of an expression.
+#[derive(Debug, Copy, Clone, Eq, PartialEq)]
+pub enum Doubt {
+    /// It is a part of a word: 十二 of 十二指肠, 十一 of 双十一.
+    Word,
+    /// It is two or three Chinese digits, or more that rise, as a list may be: 五一, 一二三四.
+    Digits,
+    /// It is a part of a term: 负二 of 负二项, 十六 of 十六进制.
+    Term,
+    /// It is a part of what is said with 折, 成 or 半: 八五 of 八五折.
+    Part,
+    /// It is a time as well as a decimal: 三点五 after 下午.
+    Time,
+    /// It is an end of a range whose ends share a unit or 百分之: 3 and 5万 of 3~5万.
+    Range,
+}
+
+fn begins_without(first: &[char], second: &[char], text: &str) -> bool
+    ensures { result ≡ begins_without first.now second.now (chars text.now) }
+{
+    begins_with(first, text) && !begins_with_two(first, second, text)
+}
+
+fn are_chinese_digits(text: &str) -> bool
+    ensures { result ≡ are_chinese_digits (chars text.now) }
+{
+    let mut rest = text;
+    'looking: while let Some((c, others)) = split_first_char(rest) {
+        if !is_chinese_digit(c) {
+            return false;
+        }
+        rest = others;
+    }
+    true
+}
+
+// Whether the text is this many characters or fewer.
+fn has_at_most(most: usize, text: &str) -> bool
+    ensures { result ≡ nat_le (length (chars text.now)) most }
+{
+    match split_first_char(text) {
+        Some((_, others)) => most > 0 && has_at_most(most - 1, others),
+        None => true,
+    }
+}
+
+// Whether the first digit is no smaller than this one, if both are digits.
+fn is_up_to_first(value: Option<u8>, text: &str) -> bool
+    ensures { result ≡ is_up_to_first value (chars text.now) }
+{
+    let Some((c, _)) = split_first_char(text) else {
+        return true;
+    };
+    match (value, digit_of(c)) {
+        (Some(value), Some(next)) => value <= next,
+        _ => true,
+    }
+}
+
+fn do_rise(text: &str) -> bool
+    ensures { result ≡ do_rise (chars text.now) }
+{
+    let mut rest = text;
+    'looking: while let Some((c, others)) = split_first_char(rest) {
+        if !is_up_to_first(digit_of(c), others) {
+            return false;
+        }
+        rest = others;
+    }
+    true
+}
+
+fn may_be_list(text: &str) -> bool
+    ensures { result ≡ may_be_list (chars text.now) }
+{
+    are_chinese_digits(text)
+        && !has_at_most(1, text)
+        && (has_at_most(3, text) || (do_rise(text) && !begins_with(&['零', '〇'], text)))
+}
+
+fn are_of_name(before: &str, text: &str, after: &str) -> bool
+    ensures { result ≡ are_of_name (in_front before.now) (chars text.now) (chars after.now) }
+{
+    begins_without(&['年'], &['级', '級'], after)
+        || begins_with(&['号', '號', '室', '房'], after)
+        || (begins_with(&['零', '〇'], text)
+            && ends_with(&['点', '點', '分', '时', '時'], before)
+            && begins_with(&['分', '秒'], after))
+}
+
+fn is_doubtful_list(before: &str, text: &str, after: &str) -> bool
+    ensures { result ≡ is_doubtful_list (in_front before.now) (chars text.now) (chars after.now) }
+{
+    may_be_list(text) && !are_of_name(before, text, after)
+}
+
+fn has_point(text: &str) -> bool
+    ensures { result ≡ has_point (chars text.now) }
+{
+    let mut rest = text;
+    'looking: while let Some((c, others)) = split_first_char(rest) {
+        if matches!(c, '点' | '點') {
+            return true;
+        }
+        rest = others;
+    }
+    false
+}
+
+fn begins_plenum(after: &str) -> bool
+    ensures { result ≡ begins_plenum (chars after.now) }
+{
+    let Some((c, others)) = split_first_char(after) else {
+        return false;
+    };
+    let Some((d, others)) = split_first_char(others) else {
+        return false;
+    };
+    matches!(c, '届' | '屆') && is_chinese_digit(d) && begins_with(&['中'], others)
+}
+
+fn is_term(text: &str, after: &str) -> bool
+    ensures { result ≡ is_term (chars text.now) (chars after.now) }
+{
+    (begins_with(&['负', '負'], text)
+        && begins_with(&['项', '項', '楼', '樓', '层', '層'], after))
+        || (has_point(text) && begins_with(&['划', '劃', '线', '線'], after))
+        || begins_with_two(&['进', '進'], &['制', '位'], after)
+        || begins_plenum(after)
+}
+
+// What 半 follows in 两倍半, 一米半 and the like.
+const BEFORE_HALF: &[char] = &[
+    '个', '個', '倍', '天', '岁', '歲', '里', '年', '月', '日', '号', '號', '點', '点', '时', '時',
+    '分', '秒', '刻', '元', '圆', '圓', '块', '塊', '角', '毛', '度', '米', '斤', '两', '兩',
+];
+
+fn is_part(text: &str, after: &str) -> bool
+    ensures { result ≡ is_part (chars text.now) (chars after.now) }
+{
+    begins_without(
+        &['折'],
+        &['算', '合', '旧', '舊', '叠', '疊', '磨', '返'],
+        after,
+    ) || (begins_with(&['成'], after) && are_chinese_digits(text) && has_at_most(2, text))
+        || begins_with_two(BEFORE_HALF, &['半'], after)
+}
+
+// Whether a character is a digit from 1 to 9, and no figure.
+fn counts(c: char) -> bool
+    ensures { result ≡ counts c }
+{
+    is_chinese_digit(c) && !matches!(c, '零' | '〇')
+}
+
+// Whether the text is an hour from 一 to 二十四.
+fn is_hour(text: &str) -> bool
+    ensures { result ≡ is_hour (in_front text.now) }
+{
+    let Some((last, before)) = split_nearest(text) else {
+        return false;
+    };
+    let Some((middle, front)) = split_nearest(before) else {
+        return counts(last) || last == '十';
+    };
+    let Some((first, rest)) = split_nearest(front) else {
+        return (middle == '十' && counts(last))
+            || (matches!(middle, '二' | '两' | '兩') && last == '十');
+    };
+    split_nearest(rest).is_none()
+        && first == '二'
+        && middle == '十'
+        && matches!(last, '一' | '二' | '三' | '四')
+}
+
+fn ends_hour(text: &str) -> bool
+    ensures { result ≡ ends_hour (in_front text.now) }
+{
+    match split_nearest(text) {
+        Some((c, before)) => matches!(c, '点' | '點') && is_hour(before),
+        None => false,
+    }
+}
+
+fn ends_zero_minutes(text: &str) -> bool
+    ensures { result ≡ ends_zero_minutes (in_front text.now) }
+{
+    match split_nearest(text) {
+        Some((c, before)) => matches!(c, '零' | '〇') && ends_hour(before),
+        None => false,
+    }
+}
+
+fn is_clock(text: &str) -> bool
+    ensures { result ≡ is_clock (in_front text.now) }
+{
+    match split_nearest(text) {
+        Some((c, before)) => counts(c) && (ends_hour(before) || ends_zero_minutes(before)),
+        None => false,
+    }
+}
+
+fn is_clock_with_zero(text: &str) -> bool
+    ensures { result ≡ is_clock_with_zero (in_front text.now) }
+{
+    match split_nearest(text) {
+        Some((c, before)) => counts(c) && ends_zero_minutes(before),
+        None => false,
+    }
+}
+
+fn ends_part_of_day(before: &str) -> bool
+    ensures { result ≡ ends_part_of_day (in_front before.now) }
+{
+    ends_with(&['午', '晨', '早', '晚', '夜'], before)
+        || ends_with_two(&['上'], &['早', '晚'], before)
+}
+
+fn is_time(before: &str, text: &str, after: &str) -> bool
+    ensures { result ≡ is_time (in_front before.now) (chars text.now) (chars after.now) }
+{
+    (is_clock(text) && ends_part_of_day(before))
+        || (is_clock_with_zero(text)
+            && !begins_with(&['元', '米', '度', '倍', '吨', '噸', '克', '升'], after))
+}
+
+/// Why a reader may mean something else than the quantity of an expression between these texts; `None`
+/// if nothing suggests that. The rules are those of docs/RULES.md, "Doubt".
+///
+/// ```text
+/// of 五一 before 假期 it is Some(Doubt::Digits), of 三点五 before 米 None
+/// ```
+pub fn doubt_of(
+    method: ChineseCountMethod,
+    before: &str,
+    text: &str,
+    after: &str,
+) -> Option<Doubt>
+    ensures { result ≡ doubt_of method (chars before.now) (chars text.now) (chars after.now) }
+{
+    if is_of_word(before, text, after) {
+        return Some(Doubt::Word);
+    }
+    if is_doubtful_list(before, text, after) {
+        return Some(Doubt::Digits);
+    }
+    if is_term(text, after) {
+        return Some(Doubt::Term);
+    }
+    if is_part(text, after) {
+        return Some(Doubt::Part);
+    }
+    if is_time(before, text, after) {
+        return Some(Doubt::Time);
+    }
+    if is_end_of_range(method, before, text, after) {
+        return Some(Doubt::Range);
+    }
+    None
+}

@@ -1,0 +1,153 @@
+// Words of which a number is a part, and that mean none.
+ghost use Rattle.std.specs.Prelude.{◌≡◌, ◌||◌, codes, chars};
+ghost use Rattle.std.specs.Char.{char_set_contains};
+ghost use Rattle.cn_find.specs.Belongs.{begins_with};
+ghost use Rattle.cn_find.specs.Spans.{in_front};
+ghost use Rattle.cn_find.specs.Words.{begins_with_two, ends_word, is_exactly, is_named_group, is_of_word, is_saying, is_title, is_word_by_itself};
+
+use crate::expressions::split_nearest;
+use cn_core::split_first_char;
+
+// Whether a character is one of a set.
+fn is_one_of(set: &[char], c: char) -> bool
+    ensures { result ≡ char_set_contains set.now c }
+{
+    match set.split_first() {
+        Some((first, others)) => *first == c || is_one_of(others, c),
+        None => false,
+    }
+}
+
+/// Whether the text begins with a character of the set.
+pub fn begins_with(set: &[char], text: &str) -> bool
+    ensures { result ≡ begins_with set.now (chars text.now) }
+{
+    match split_first_char(text) {
+        Some((c, _)) => is_one_of(set, c),
+        None => false,
+    }
+}
+
+/// Whether the character nearest to the end is one of the set.
+pub fn ends_with(set: &[char], before: &str) -> bool
+    ensures { result ≡ begins_with set.now (in_front before.now) }
+{
+    match split_nearest(before) {
+        Some((c, _)) => is_one_of(set, c),
+        None => false,
+    }
+}
+
+/// Whether the text begins with a character of the first set and one of the second.
+pub fn begins_with_two(first: &[char], second: &[char], text: &str) -> bool
+    ensures { result ≡ begins_with_two first.now second.now (chars text.now) }
+{
+    match split_first_char(text) {
+        Some((c, others)) => is_one_of(first, c) && begins_with(second, others),
+        None => false,
+    }
+}
+
+/// Whether the last character is one of the first set, and the one before it one of the second.
+pub fn ends_with_two(first: &[char], second: &[char], before: &str) -> bool
+    ensures { result ≡ begins_with_two first.now second.now (in_front before.now) }
+{
+    match split_nearest(before) {
+        Some((c, front)) => is_one_of(first, c) && ends_with(second, front),
+        None => false,
+    }
+}
+
+// Whether the text is these characters.
+fn is_exactly(these: &[char], text: &str) -> bool
+    ensures { result ≡ is_exactly these.now (chars text.now) }
+{
+    match (these.split_first(), split_first_char(text)) {
+        (None, None) => true,
+        (Some((c, others)), Some((d, rest))) => *c == d && is_exactly(others, rest),
+        _ => false,
+    }
+}
+
+fn is_named_group(text: &str, after: &str) -> bool
+    ensures { result ≡ is_named_group (chars text.now) (chars after.now) }
+{
+    (is_exactly(&['十', '二'], text)
+        && (begins_with_two(&['指'], &['肠', '腸'], after)
+            || begins_with_two(&['生'], &['肖'], after)
+            || begins_with_two(&['月'], &['党', '黨'], after)))
+        || (is_exactly(&['十', '八'], text)
+            && (begins_with(&['般', '大'], after)
+                || begins_with_two(&['罗', '羅'], &['汉', '漢'], after)
+                || begins_with_two(&['层', '層'], &['地'], after)))
+        || ((is_exactly(&['十', '九'], text) || is_exactly(&['二', '十'], text))
+            && begins_with(&['大'], after))
+        || (is_exactly(&['十', '一'], text)
+            && (begins_with_two(&['假'], &['期'], after)
+                || begins_with_two(&['长', '長'], &['假'], after)
+                || begins_with_two(&['黄', '黃'], &['金'], after)))
+}
+
+fn is_title(text: &str, after: &str) -> bool
+    ensures { result ≡ is_title (chars text.now) (chars after.now) }
+{
+    (is_exactly(&['三', '十', '六'], text) && begins_with(&['计', '計'], after))
+        || (is_exactly(&['七', '十', '二'], text) && begins_with(&['变', '變', '行'], after))
+        || (is_exactly(&['三', '百', '六', '十'], text) && begins_with(&['行'], after))
+        || (is_exactly(&['二', '十', '四'], text) && begins_with(&['史'], after))
+        || (is_exactly(&['二', '十', '八'], text) && begins_with(&['宿'], after))
+        || (is_exactly(&['十', '三'], text) && begins_with(&['陵', '妹'], after))
+        || (is_exactly(&['一', '千', '零', '一'], text) && begins_with(&['夜'], after))
+        || (is_exactly(&['二', '八'], text) && begins_with_two(&['年'], &['华', '華'], after))
+}
+
+// Whether the text is 十万, with 萬 as well.
+fn is_hundred_thousand(text: &str) -> bool
+    ensures { result ≡ (is_exactly (codes "十万") (chars text.now)
+        || is_exactly (codes "十萬") (chars text.now)) }
+{
+    is_exactly(&['十', '万'], text) || is_exactly(&['十', '萬'], text)
+}
+
+fn is_word_by_itself(text: &str) -> bool
+    ensures { result ≡ is_word_by_itself (chars text.now) }
+{
+    is_exactly(&['二', '百', '五'], text)
+        || is_exactly(&['亿', '万'], text)
+        || is_exactly(&['億', '萬'], text)
+}
+
+fn is_saying(text: &str, after: &str) -> bool
+    ensures { result ≡ is_saying (chars text.now) (chars after.now) }
+{
+    (is_hundred_thousand(text) && begins_with_two(&['火'], &['急'], after))
+        || ((is_exactly(&['十', '万', '八', '千'], text)
+            || is_exactly(&['十', '萬', '八', '千'], text))
+            && begins_with(&['里'], after))
+        || (is_exactly(&['三', '十'], text)
+            && (begins_with_two(&['而'], &['立'], after)
+                || begins_with_two(&['年'], &['河'], after)))
+        || (is_exactly(&['四', '十'], text) && begins_with_two(&['不'], &['惑'], after))
+        || (is_exactly(&['五', '十'], text) && begins_with_two(&['步'], &['笑'], after))
+        || (is_exactly(&['十', '五'], text) && begins_with_two(&['个', '個'], &['吊'], after))
+        || is_word_by_itself(text)
+}
+
+fn ends_word(before: &str, text: &str) -> bool
+    ensures { result ≡ ends_word (in_front before.now) (chars text.now) }
+{
+    (ends_with(&['双', '雙'], before)
+        && (is_exactly(&['十', '一'], text) || is_exactly(&['十', '二'], text)))
+        || (ends_with(&['年'], before) && is_exactly(&['三', '十'], text))
+        || ends_with_two(&['月'], &['正', '腊', '臘'], before)
+}
+
+/// Whether a number with these neighbours is a word: 十二 of 十二指肠 is, and 十一 of 双十一.
+pub fn is_of_word(before: &str, text: &str, after: &str) -> bool
+    ensures { result ≡ is_of_word (in_front before.now) (chars text.now) (chars after.now) }
+{
+    ends_word(before, text)
+        || is_named_group(text, after)
+        || is_title(text, after)
+        || is_saying(text, after)
+}
