@@ -2,7 +2,7 @@
 use Rattle.std.specs.Prelude.{ℕ, suc, ◌+◌, ◌-◌, ◌/◌, nat_abs, Bool, true, false, not, ◌&&◌, ◌||◌, ◌==◌, nat_le, nat_lt, List, [], ◌∷◌, length, take, reverse, codes, chars, encode_utf8_all, Option, Some, None, is_some, Result, Ok, Err, if◌then◌else◌}
 use Rattle.std.specs.Char.{char_set_contains}
 use Rattle.std.specs.Option.{option_map_or}
-use Rattle.cn_core.specs.declared.method.ChineseCountMethod.{ChineseCountMethod}
+use Rattle.cn_core.specs.declared.method.ChineseCountMethod.TheVariants.{TenThousand}
 use Rattle.cn_core.specs.Characters.{digit_of, rank_of}
 use Rattle.cn_core.specs.Mark.{Mark, unit, mark_of}
 use Rattle.cn_core.specs.Refusal.{Refusal}
@@ -58,11 +58,11 @@ is_at_most low (Ok high) = nat_le (whole_part low) (whole_part high)
 is_at_most low (Err refusal) = false
 
 -- the second text ends in a unit that both may count; of both the last character comes first
-abbrev pub counts_both : ChineseCountMethod → Quantity → List ℕ → List ℕ → Bool
-counts_both method quantity low [] = false
-counts_both method quantity low (c ∷ head) =
+abbrev pub counts_both : Quantity → List ℕ → List ℕ → Bool
+counts_both quantity low [] = false
+counts_both quantity low (c ∷ head) =
     is_power (mark_of c) && (ends_below c low
-    && is_at_most quantity (quantity_answer method (encode_utf8_all (reverse head))))
+    && is_at_most quantity (quantity_answer TenThousand (encode_utf8_all (reverse head))))
 
 -- just one is a percentage
 abbrev pub is_one_percent : Quantity → Quantity → Bool
@@ -71,18 +71,18 @@ is_one_percent a b =
     || (not (is_percent_form a.form) && is_percent_form b.form)
 
 -- the ends share: just one is a percentage, or the second one's unit may count both
-abbrev pub do_share : ChineseCountMethod → List ℕ → List ℕ → Result Quantity Refusal
+abbrev pub do_share : List ℕ → List ℕ → Result Quantity Refusal
     → Result Quantity Refusal → Bool
-do_share method low high (Ok a) (Ok b) =
+do_share low high (Ok a) (Ok b) =
     is_one_percent a b
-    || (nat_le 2 (length (chars high)) && counts_both method a (reverse (chars low))
+    || (nat_le 2 (length (chars high)) && counts_both a (reverse (chars low))
     (reverse (chars high)))
-do_share method low high a b = false
+do_share low high a b = false
 
--- the same of texts, given by their bytes
-abbrev pub shares : ChineseCountMethod → List ℕ → List ℕ → Bool
-shares method low high =
-    do_share method low high (quantity_answer method low) (quantity_answer method high)
+-- the same of texts, given by their bytes, and read by the standard method
+abbrev pub shares : List ℕ → List ℕ → Bool
+shares low high =
+    do_share low high (quantity_answer TenThousand low) (quantity_answer TenThousand high)
 
 -- the first text is one Chinese digit, and the second begins with the next one
 abbrev pub precedes : List ℕ → List ℕ → Bool
@@ -91,24 +91,24 @@ precedes (c ∷ []) (d ∷ text) =
 precedes low high = false
 
 -- these are ends of a range, parted by this character
-abbrev pub are_ends : ChineseCountMethod → ℕ → List ℕ → List ℕ → Bool
-are_ends method c low high =
+abbrev pub are_ends : ℕ → List ℕ → List ℕ → Bool
+are_ends c low high =
     (is_range_link c || (char_set_contains (codes "、") c && precedes (chars low) (chars high)))
-    && shares method low high
+    && shares low high
 
 -- the first end is this text, given by its bytes, and the second comes after it
-abbrev pub is_first_end : ChineseCountMethod → List ℕ → List ℕ → Bool
-is_first_end method text [] = false
-is_first_end method text (c ∷ after) =
-    are_ends method c text (encode_utf8_all (amount_of after))
+abbrev pub is_first_end : List ℕ → List ℕ → Bool
+is_first_end text [] = false
+is_first_end text (c ∷ after) =
+    are_ends c text (encode_utf8_all (amount_of after))
 
 -- the second end is this text, and the first comes before it
-abbrev pub is_second_end : ChineseCountMethod → List ℕ → List ℕ → Bool
-is_second_end method text [] = false
-is_second_end method text (c ∷ front) =
-    are_ends method c (encode_utf8_all (reverse (amount_of front))) text
+abbrev pub is_second_end : List ℕ → List ℕ → Bool
+is_second_end text [] = false
+is_second_end text (c ∷ front) =
+    are_ends c (encode_utf8_all (reverse (amount_of front))) text
 
 -- the text, given by its bytes, is an end of a range, between these
-abbrev pub is_end_of_range : ChineseCountMethod → List ℕ → List ℕ → List ℕ → Bool
-is_end_of_range method before text after =
-    is_first_end method text (chars after) || is_second_end method text (reverse (chars before))
+abbrev pub is_end_of_range : List ℕ → List ℕ → List ℕ → Bool
+is_end_of_range before text after =
+    is_first_end text (chars after) || is_second_end text (reverse (chars before))

@@ -9,7 +9,7 @@ use crate::belongs::is_chinese_digit;
 use crate::expressions::split_nearest;
 use crate::ranges::is_end_of_range;
 use crate::words::{begins_with, begins_with_two, ends_with, ends_with_two, is_of_word};
-use cn_core::{ChineseCountMethod, digit_of, split_first_char};
+use cn_core::{digit_of, split_first_char};
 
 /// Why a reader may mean something else than the quantity of an expression.
 #[derive(Debug, Copy, Clone, Eq, PartialEq)]
@@ -238,8 +238,8 @@ fn is_time(before: &str, text: &str, after: &str) -> bool
 /// ```text
 /// of 五一 before 假期 it is Some(Doubt::Digits), of 三点五 before 米 None
 /// ```
-pub fn doubt_of(method: ChineseCountMethod, before: &str, text: &str, after: &str) -> Option<Doubt>
-    ensures { result ≡ doubt_of method before.now text.now after.now }
+pub fn doubt_of(before: &str, text: &str, after: &str) -> Option<Doubt>
+    ensures { result ≡ doubt_of before.now text.now after.now }
 {
     if is_of_word(before, text, after) {
         return Some(Doubt::Word);
@@ -256,7 +256,7 @@ pub fn doubt_of(method: ChineseCountMethod, before: &str, text: &str, after: &st
     if is_time(before, text, after) {
         return Some(Doubt::Time);
     }
-    if is_end_of_range(method, before, text, after) {
+    if is_end_of_range(before, text, after) {
         return Some(Doubt::Range);
     }
     None

@@ -1,10 +1,12 @@
 // Ranges whose ends share a unit or 百分之.
 ghost use Rattle.std.specs.Prelude.{◌≡◌, ℕ, nat_le, length, ◌||◌, ◌&&◌, ◌++◌, false, true, codes, chars, reverse, encode_utf8_all, is_some, Some, None, option_map};
 ghost use Rattle.std.specs.Char.{char_set_contains};
+ghost use Rattle.cn_core.specs.declared.method.ChineseCountMethod.TheVariants.{TenThousand};
 ghost use Rattle.cn_core.specs.Characters.{digit_of, rank, rank_of};
 ghost use Rattle.cn_core.specs.Mark.{mark_of};
 ghost use Rattle.cn_judge.specs.Answer.{answer_of};
 ghost use Rattle.cn_judge.specs.Marked.{marked};
+ghost use Rattle.cn_quantity.specs.Reading.{quantity_answer};
 ghost use Rattle.cn_find.specs.Ranges.{amount_of, are_ends, counts_both, do_share, is_at_most, is_below_mark, is_end_of_range, is_first_end, ends_below, is_next, is_of_amount, is_one_percent, is_percent_form, is_range_link, is_second_end, precedes, shares, whole_part};
 ghost use Rattle.cn_find.specs.Spans.{in_front};
 
@@ -102,6 +104,13 @@ fn ends_below(mark: Mark, text: &str) -> bool
     }
 }
 
+// What a text is by the standard method.
+fn by_standard(text: &str) -> Result<Quantity, ChineseToNumberError>
+    ensures { answer_of (λ q. q) result ≡ quantity_answer TenThousand text.now }
+{
+    chinese_to_quantity(text, ChineseCountMethod::TenThousand)
+}
+
 // Whether the whole part of the first is at most that of the second, if that is a quantity.
 fn is_at_most(low: Quantity, high: Result<Quantity, ChineseToNumberError>) -> bool
     ensures { result ≡ is_at_most low (answer_of (λ q. q) high) }
@@ -114,16 +123,14 @@ fn is_at_most(low: Quantity, high: Result<Quantity, ChineseToNumberError>) -> bo
 
 // Whether the second text ends in a unit that both may count.
 #[tactic(auto, using(crate::proofs::Amounts::twice_reversed))]
-fn counts_both(method: ChineseCountMethod, quantity: Quantity, low: &str, high: &str) -> bool
-    ensures { result ≡ counts_both method quantity (in_front low.now) (in_front high.now) }
+fn counts_both(quantity: Quantity, low: &str, high: &str) -> bool
+    ensures { result ≡ counts_both quantity (in_front low.now) (in_front high.now) }
 {
     let Some((c, head)) = split_nearest(high) else {
         return false;
     };
     let mark = mark_of(c);
-    is_power(mark)
-        && ends_below(mark, low)
-        && is_at_most(quantity, chinese_to_quantity(head, method))
+    is_power(mark) && ends_below(mark, low) && is_at_most(quantity, by_standard(head))
 }
 
 fn is_one_percent(a: Quantity, b: Quantity) -> bool
@@ -142,16 +149,11 @@ fn has_two(text: &str) -> bool
     }
 }
 
-fn shares(method: ChineseCountMethod, low: &str, high: &str) -> bool
-    ensures { result ≡ shares method low.now high.now }
+fn shares(low: &str, high: &str) -> bool
+    ensures { result ≡ shares low.now high.now }
 {
-    match (
-        chinese_to_quantity(low, method),
-        chinese_to_quantity(high, method),
-    ) {
-        (Ok(a), Ok(b)) => {
-            is_one_percent(a, b) || (has_two(high) && counts_both(method, a, low, high))
-        }
+    match (by_standard(low), by_standard(high)) {
+        (Ok(a), Ok(b)) => { is_one_percent(a, b) || (has_two(high) && counts_both(a, low, high)) }
         _ => false,
     }
 }
@@ -181,33 +183,33 @@ fn precedes(low: &str, high: &str) -> bool
         && is_next(digit_of(c), digit_of(d))
 }
 
-fn are_ends(method: ChineseCountMethod, c: char, low: &str, high: &str) -> bool
-    ensures { result ≡ are_ends method c low.now high.now }
+fn are_ends(c: char, low: &str, high: &str) -> bool
+    ensures { result ≡ are_ends c low.now high.now }
 {
-    (is_range_link(c) || (c == '、' && precedes(low, high))) && shares(method, low, high)
+    (is_range_link(c) || (c == '、' && precedes(low, high))) && shares(low, high)
 }
 
-fn is_first_end(method: ChineseCountMethod, text: &str, after: &str) -> bool
-    ensures { result ≡ is_first_end method text.now (chars after.now) }
+fn is_first_end(text: &str, after: &str) -> bool
+    ensures { result ≡ is_first_end text.now (chars after.now) }
 {
     let Some((c, others)) = split_first_char(after) else {
         return false;
     };
-    are_ends(method, c, text, first_amount(others))
+    are_ends(c, text, first_amount(others))
 }
 
-fn is_second_end(method: ChineseCountMethod, text: &str, before: &str) -> bool
-    ensures { result ≡ is_second_end method text.now (in_front before.now) }
+fn is_second_end(text: &str, before: &str) -> bool
+    ensures { result ≡ is_second_end text.now (in_front before.now) }
 {
     let Some((c, front)) = split_nearest(before) else {
         return false;
     };
-    are_ends(method, c, last_amount(front), text)
+    are_ends(c, last_amount(front), text)
 }
 
 /// Whether the text is an end of a range whose ends share a unit or 百分之, between these texts.
-pub fn is_end_of_range(method: ChineseCountMethod, before: &str, text: &str, after: &str) -> bool
-    ensures { result ≡ is_end_of_range method before.now text.now after.now }
+pub fn is_end_of_range(before: &str, text: &str, after: &str) -> bool
+    ensures { result ≡ is_end_of_range before.now text.now after.now }
 {
-    is_first_end(method, text, after) || is_second_end(method, text, before)
+    is_first_end(text, after) || is_second_end(text, before)
 }
