@@ -80,6 +80,28 @@ CN_ABOUT = 4
 abbrev pub CN_ONE_CHARACTER : ℕ
 CN_ONE_CHARACTER = 8
 
+-- the codes of doubts
+abbrev pub CN_NO_DOUBT : ℕ
+CN_NO_DOUBT = 0
+
+abbrev pub CN_DOUBT_WORD : ℕ
+CN_DOUBT_WORD = 1
+
+abbrev pub CN_DOUBT_DIGITS : ℕ
+CN_DOUBT_DIGITS = 2
+
+abbrev pub CN_DOUBT_TERM : ℕ
+CN_DOUBT_TERM = 3
+
+abbrev pub CN_DOUBT_PART : ℕ
+CN_DOUBT_PART = 4
+
+abbrev pub CN_DOUBT_TIME : ℕ
+CN_DOUBT_TIME = 5
+
+abbrev pub CN_DOUBT_RANGE : ℕ
+CN_DOUBT_RANGE = 6
+
 -- whether the forms of the upper case are looked for
 abbrev pub uppers : List Bool
 uppers = false ∷ true ∷ []
