@@ -48,13 +48,15 @@ pub record Pair : Type 0 where
   pub first : ℕ
   pub second : ℕ
 
--- the digits that stand side by side, where the character stands in front of the others
+-- a digit of any kind
+abbrev pub is_any_digit : ℕ → Bool
+is_any_digit c = is_some (digit_of c) || is_wide_digit c
+
+-- the character and the first of the others, if both are digits
 abbrev pub pair_at : ℕ → List ℕ → List Pair
 pair_at c [] = []
 pair_at c (next ∷ others) =
-    if is_some (digit_of c) && is_some (digit_of next)
-    then record { first = c; second = next } ∷ []
-    else []
+    if is_any_digit c && is_any_digit next then record { first = c; second = next } ∷ [] else []
 
 -- the digits that stand side by side, before the first Chinese point
 abbrev pub pairs : List ℕ → List Pair
