@@ -34,7 +34,7 @@ use Rattle.cn_quantity.specs.Figures.{is_in_figures}
 use Rattle.cn_quantity.specs.Number.{decimal_of, number_answer, part_answer, whole_answer}
 use Rattle.cn_quantity.specs.Units.{are_rising_units, times_units}
 use Rattle.cn_quantity.proofs.Numbers.{a-decimal}
-use Rattle.cn_quantity.proofs.Today.{and-none, are_marks, digit-mark, digit-no_unit, no-point, number-whole}
+use Rattle.cn_quantity.proofs.Today.{and-none, are_marks, digit-mark, digit-no_unit, marks-broken, no-point, number-shaped, number-whole, point-no_mark}
 use Rattle.cn_spell.proofs.Printed.{IsReadBack-marks, is_printed}
 use Rattle.cn_spell.proofs.SpelledMarks.{below_square, spelling-printed}
 
@@ -103,12 +103,7 @@ part-number method text more begins = rw none where
 pub whole-read : (method : ChineseCountMethod) (number : ℕ) (text : List ℕ)
     → IsSpelled method number text
     → number_answer method text ≡ Ok (record { number = number; decimals = 0 })
-whole-read method number text s =
-    number-whole method text number s.marks s.whole (λ f. absurd (none f.some)) where
-      none : 0 < leading_digits Figure text → ⊥
-      none some =
-          let zero_is : leading_digits Figure text ≡ 0 =
-          rw append-nil at (not-figures text [] s.begins) in omega (arith, some, zero_is)
+whole-read method number text s = number-whole method text number s.whole
 
 -- of a fraction too
 pub part-whole : (method : ChineseCountMethod) (number : ℕ) (text : List ℕ)
@@ -176,7 +171,8 @@ point-read : (method : ChineseCountMethod) (whole count number point : ℕ) (fro
     → number_answer method (front ++ point ∷ digits)
     ≡ Ok (record { number = number; decimals = count })
 point-read method whole count number point front digits s point_is all size some read =
-    a-decimal method text (not-in-figures front (point ∷ digits) s.begins) is_decimal
+    number-shaped method text (marks-broken front point digits (point-no_mark point point_is))
+    ∙ a-decimal method text (not-in-figures front (point ∷ digits) s.begins) is_decimal
     ∙ ap₂ (λ before behind. and_then (whole_answer method before)
     (λ whole. decimal_of (leading_digits Chinese behind)
     (read_with_units method Chinese whole behind))) cut.0 cut.1

@@ -54,12 +54,21 @@ whole_number_answer method text =
     (and_then (whole_answer method text) (λ whole. decimal_of 0 (Some whole)))
 
 -- a number in figures, or a Chinese decimal, or a whole number
-abbrev pub number_answer : ChineseCountMethod → List ℕ → Result Decimal Refusal
-number_answer method text =
+abbrev pub shaped_number : ChineseCountMethod → List ℕ → Result Decimal Refusal
+shaped_number method text =
     if is_in_figures text
     then decimal_of (decimals_in_figures text) (read_with_units method Figure 0 text)
     else (if is_chinese_decimal text then chinese_decimal_answer method text
     else whole_number_answer method text)
+
+-- a whole number where there is one, else another answer
+abbrev pub or_shaped : Result ℕ Refusal → Result Decimal Refusal → Result Decimal Refusal
+or_shaped (Ok number) shaped = decimal_of 0 (Some number)
+or_shaped (Err refusal) shaped = shaped
+
+-- what the readers of numerals read is that whole number, and any other text goes by its shape
+abbrev pub number_answer : ChineseCountMethod → List ℕ → Result Decimal Refusal
+number_answer method text = or_shaped (whole_answer method text) (shaped_number method text)
 
 -- of a part of a fraction the same, but rising units alone count as with 一 in front, as in 百分之百
 abbrev pub part_answer : ChineseCountMethod → List ℕ → Result Decimal Refusal

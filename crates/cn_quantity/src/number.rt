@@ -3,7 +3,7 @@ ghost use Rattle.std.specs.Prelude.{◌≡◌, ◌+◌, ◌^◌, ◌<◌, length
 ghost use Rattle.cn_core.specs.Text.{text_of};
 ghost use Rattle.cn_judge.specs.Answer.{answer_of};
 ghost use Rattle.cn_judge.specs.Piece.{answer_at};
-ghost use Rattle.cn_quantity.specs.Number.{decimal_of, divisor_answer, is_divisor, is_plain, number_answer, part_answer, short_tens, whole_answer};
+ghost use Rattle.cn_quantity.specs.Number.{decimal_of, divisor_answer, is_divisor, is_plain, number_answer, part_answer, shaped_number, short_tens, whole_answer};
 
 use crate::characters::{DigitKind, digit_by, tens_of};
 use crate::decimal::split_decimal;
@@ -79,16 +79,15 @@ fn decimal_of(decimals: usize, number: Option<u128>) -> Result<Decimal, ChineseT
     }
 }
 
-/// The answer to a text that has no sign, no percent sign and no 分之, behind so many characters of
-/// the caller's string.
-pub fn judge_number(
+// The answer to a text by its shape, behind so many characters of the caller's string.
+fn judge_shaped(
     method: ChineseCountMethod,
     skipped: usize,
     text: &str,
 ) -> Result<Decimal, ChineseToNumberError>
     requires { skipped + length text.now < 2 ^ 64 }
     ensures { answer_of (λ d. d) result
-        ≡ answer_at skipped text.now (number_answer method (text_of text.now)) }
+        ≡ answer_at skipped text.now (shaped_number method (text_of text.now)) }
 {
     if let Some(decimals) = decimals_in_figures(text) {
         return decimal_of(
@@ -108,6 +107,23 @@ pub fn judge_number(
     }
     let whole = judge_whole(method, skipped, text)?;
     decimal_of(0, Some(whole))
+}
+
+/// The answer to a text that has no sign, no percent sign and no 分之, behind so many characters of
+/// the caller's string: what the readers of numerals read is that whole number.
+pub fn judge_number(
+    method: ChineseCountMethod,
+    skipped: usize,
+    text: &str,
+) -> Result<Decimal, ChineseToNumberError>
+    requires { skipped + length text.now < 2 ^ 64 }
+    ensures { answer_of (λ d. d) result
+        ≡ answer_at skipped text.now (number_answer method (text_of text.now)) }
+{
+    match judge_whole(method, skipped, text) {
+        Ok(number) => decimal_of(0, Some(number)),
+        Err(_) => judge_shaped(method, skipped, text),
+    }
 }
 
 /// The same of a part of a fraction, where units alone count as with 一 in front.
