@@ -20,6 +20,7 @@ use Rattle.cn_core.proofs.ReadBack.{spelling-is_numeral}
 use Rattle.cn_express.specs.Digits.{behind_point, last_digits}
 use Rattle.cn_express.specs.Numerals.{decimal_text, magnitude_text, point_char}
 use Rattle.cn_express.proofs.BareTexts.{bare-text, is_bare, mark-bare, marks-bare}
+use Rattle.cn_express.proofs.ClearTexts.{magnitude-clear}
 use Rattle.cn_express.proofs.Cuts.{marks-lack, point-at}
 use Rattle.cn_express.proofs.DigitTexts.{WritesDigits, WritesDigits-each, are_digits, digits-alone, digits-all, last-count, last-digits, last-read, no-factors}
 use Rattle.cn_express.proofs.LastMarks.{spelled-ended}
@@ -31,8 +32,9 @@ use Rattle.cn_quantity.specs.Characters.{chinese_digit_of, is_fen, is_percent, i
 use Rattle.cn_quantity.specs.Decimal.{after_point, before_point, ends_colloquially, is_chinese_decimal}
 use Rattle.cn_quantity.specs.Digits.{after_digits, leading_digits, read_with_units}
 use Rattle.cn_quantity.specs.Figures.{is_in_figures}
-use Rattle.cn_quantity.specs.Number.{decimal_of, number_answer, part_answer, whole_answer}
+use Rattle.cn_quantity.specs.Number.{decimal_of, number_answer, part_answer}
 use Rattle.cn_quantity.specs.Units.{are_rising_units, times_units}
+use Rattle.cn_quantity.specs.WholeNumber.{whole_answer}
 use Rattle.cn_quantity.proofs.Numbers.{a-decimal}
 use Rattle.cn_quantity.proofs.Today.{and-none, are_marks, digit-mark, digit-no_unit, marks-broken, no-point, number-shaped, number-whole, point-no_mark}
 use Rattle.cn_spell.proofs.Printed.{IsReadBack-marks, is_printed}
@@ -74,7 +76,7 @@ IsSpelled-magnitude variant case method number small printable =
       same = back.marks_same;
       marks = known;
       whole = spelled-whole method number (map (mark_char variant case) marks) small square
-          back.marks_same;
+          back.marks_same (magnitude-clear variant case method number small printable);
       begins = BeginsNumber-marks variant case marks printed
           (and-left (starts_with_digit (with_first_digit marks)) _ numeral.0);
       ended = spelled-ended method number (map (mark_char variant case) marks) square

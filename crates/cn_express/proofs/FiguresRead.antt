@@ -1,5 +1,5 @@
 -- A quantity in figures is read as that quantity.
-use Rattle.std.proofs.Common.{◌≡◌, ℕ, zero, suc, ◌+◌, ◌*◌, ◌/◌, ◌%◌, ◌^◌, ◌<◌, ◌≤◌, pos, int_lt, nat_abs, Bool, true, false, ◌==◌, nat_lt, is_none, is_some, List, [], ◌∷◌, ◌++◌, length, map, codes, decimal, encode_utf8_all, slice_index, Some, None, Ok, refl, sym, ap, ap₂, ◌∙◌, arith, if◌then◌else◌, append-nil, length-append, Option, Result, Err, fold}
+use Rattle.std.proofs.Common.{◌≡◌, ℕ, zero, suc, ◌+◌, ◌*◌, ◌/◌, ◌%◌, ◌^◌, ◌<◌, ◌≤◌, pos, int_lt, nat_abs, Bool, true, false, ◌==◌, nat_lt, not, is_none, is_some, List, [], ◌∷◌, ◌++◌, length, map, codes, decimal, encode_utf8_all, slice_index, Some, None, Ok, refl, sym, ap, ap₂, ◌∙◌, arith, if◌then◌else◌, append-nil, length-append, Option, Result, Err, fold}
 use Rattle.std.specs.List.{list_all}
 use Rattle.std.specs.Option.{option_map_or}
 use Rattle.std.proofs.lemmas.Bool.Decides.{nat_tests}
@@ -21,6 +21,7 @@ use Rattle.cn_core.specs.Whole.{holds, signed_kind}
 use Rattle.cn_core.proofs.Fronts.{and-left, and-right, both}
 use Rattle.cn_express.specs.Digits.{behind_point, last_digits}
 use Rattle.cn_express.specs.Figures.{figure_char, figures_of, figures_with, percent_sign, unsigned_figures}
+use Rattle.cn_express.proofs.ClearTexts.{digits-not_misread}
 use Rattle.cn_express.proofs.BareTexts.{bare-append, bare-no_fen, bare-text, behind-bare, is_bare}
 use Rattle.cn_express.proofs.Cuts.{lacks, lacks-append}
 use Rattle.cn_express.proofs.DigitTexts.{WritesDigits, WritesDigits-each, are_digits, digits-all, digits-alone, digits-lead, has_no_units, last-count, last-digits, last-read, no-factors, read-digit, read_on-append}
@@ -37,12 +38,15 @@ use Rattle.cn_quantity.specs.declared.quantity.QuantityForm.TheVariants.{Whole, 
 use Rattle.cn_quantity.specs.Characters.{figure_of, figure_rows, is_comma, is_fen, is_percent, is_point, sign_of}
 use Rattle.cn_quantity.specs.Digits.{after_digits, begins_with_digit, is_digit, leading_digits, read_on, read_with_units}
 use Rattle.cn_quantity.specs.Figures.{after_figures, after_groups, decimals_of, ends_in_figures, is_in_figures, may_lead_groups}
-use Rattle.cn_quantity.specs.Number.{decimal_of, is_plain, number_answer, or_shaped, shaped_number, whole_answer}
+use Rattle.cn_quantity.specs.Number.{decimal_of, number_answer, or_shaped, shaped_number}
 use Rattle.cn_quantity.specs.Reading.{leading_sign, quantity_answer}
 use Rattle.cn_quantity.specs.Trimmed.{decimals_in, decimals_of as decimals_of_quantity}
+use Rattle.cn_quantity.specs.Misread.{first_misread, is_digit as is_digit_mark, is_liang}
 use Rattle.cn_quantity.specs.Units.{times_units}
+use Rattle.cn_quantity.specs.WholeNumber.{is_plain, whole_answer}
 use Rattle.cn_quantity.proofs.Numbers.{in-figures}
 use Rattle.cn_quantity.proofs.Today.{digit-mark, marks-broken, whole-marks}
+use Rattle.cn_quantity.proofs.WholeNumbers.{whole-reader}
 use Rattle.cn_spell.proofs.Printed.{each_below, each_below-at, none_from_is_none}
 
 -- what each figure has
@@ -114,12 +118,36 @@ same-value number (c ∷ rest) h =
     rw (s.figure, digit-mark c s.value s.digit_is)
     (same-value (number * 10 + s.value) rest (and-right (is_same c) (list_all is_same rest) h))
 
+-- and none of them is misread
+same-digits : (text : List ℕ) → list_all is_same text ≡ true
+    → list_all is_digit_mark (marks_of text) ≡ true
+same-digits [] h = refl
+same-digits (c ∷ rest) h =
+    let s = same-is c (and-left (is_same c) (list_all is_same rest) h) in
+    both (is_digit_mark (mark_of c)) (list_all is_digit_mark (marks_of rest))
+    (rw (digit-mark c s.value s.digit_is) refl)
+    (same-digits rest (and-right (is_same c) (list_all is_same rest) h))
+
+same-no_liang : (text : List ℕ) → list_all is_same text ≡ true
+    → list_all (λ c. not (is_liang c)) text ≡ true
+same-no_liang [] h = refl
+same-no_liang (c ∷ rest) h =
+    let s = same-is c (and-left (is_same c) (list_all is_same rest) h) in
+    both (not (is_liang c)) (list_all (λ c. not (is_liang c)) rest)
+    (figure-has (λ c. not (is_liang c)) refl c s.value s.figure)
+    (same-no_liang rest (and-right (is_same c) (list_all is_same rest) h))
+
+same-clear : (text : List ℕ) → list_all is_same text ≡ true → first_misread text ≡ None
+same-clear text h = digits-not_misread text (same-digits text h) (same-no_liang text h)
+
 -- as a whole number they are read alike
 figures-answered : (method : ChineseCountMethod) (text : List ℕ) (number : ℕ)
     → list_all is_same text ≡ true → whole_answer method text ≡ Ok number
     → number ≡ read_on Figure 0 text
 figures-answered method text number figures h =
-    by (marks_of text) (rw (same-plain text figures) at h) ∙ sym (same-value 0 text figures)
+    by (marks_of text) (rw (same-plain text figures) at
+    (sym (whole-reader method text (same-clear text figures)) ∙ h))
+    ∙ sym (same-value 0 text figures)
   where
     told : (f : Option Refusal) (value : ℕ) → refused_or f value ≡ Ok number → number ≡ value
     told None value e = cc

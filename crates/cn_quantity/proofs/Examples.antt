@@ -46,7 +46,7 @@ figures = refl
 no_figures : answers (codes "12,34" ∷ codes "0,100" ∷ codes ".5" ∷ codes "1.2.3"
     ∷ codes "1亿2000万" ∷ codes "0极" ∷ codes "1/3" ∷ [])
     ≡ Err (incorrect_at 3) ∷ Err (incorrect_at 2) ∷ Err (incorrect_at 0) ∷ Err (incorrect_at 3)
-    ∷ Err (incorrect_at 2) ∷ Err too_large ∷ Err (incorrect_at 1) ∷ []
+    ∷ Err (incorrect_at 6) ∷ Err too_large ∷ Err (incorrect_at 1) ∷ []
 unfolding chars encode_utf8 digit_of rank_of figure_of chinese_digit_of tens_of sign_of is_point is_comma
     is_percent is_fen is_zhi
 no_figures = refl
@@ -87,3 +87,37 @@ signs : answers (codes " 负 三点五" ∷ codes "−5" ∷ codes "--5" ∷ [])
 unfolding chars encode_utf8 digit_of rank_of figure_of chinese_digit_of tens_of sign_of is_point is_comma
     is_percent is_fen is_zhi
 signs = refl
+
+-- a bare ten is added
+bare_tens : answers (codes "一百十五" ∷ codes "两千零十五" ∷ codes "一千零十一" ∷ codes "一万零十"
+    ∷ codes "一亿零十万" ∷ codes "两千零十五点五" ∷ [])
+    ≡ is (pos 115) 1 Whole ∷ is (pos 2015) 1 Whole ∷ is (pos 1011) 1 Whole
+    ∷ is (pos 10010) 1 Whole ∷ is (pos 100100000) 1 Whole ∷ is (pos 20155) 10 Decimal ∷ []
+unfolding chars encode_utf8 digit_of rank_of figure_of chinese_digit_of tens_of sign_of is_point is_comma
+    is_percent is_fen is_zhi
+bare_tens = refl
+
+no_bare_tens : answers (codes "一百零十五" ∷ codes "一百十五万" ∷ codes "三千零十万" ∷ codes "一百十十"
+    ∷ codes "零十" ∷ codes "十十" ∷ codes "二十百" ∷ codes "一亿零万" ∷ [])
+    ≡ Err (incorrect_at 3) ∷ Err (incorrect_at 2) ∷ Err (incorrect_at 3) ∷ Err (incorrect_at 2)
+    ∷ Err (incorrect_at 1) ∷ Err (incorrect_at 1) ∷ Err (incorrect_at 2) ∷ Err (incorrect_at 3) ∷ []
+unfolding chars encode_utf8 digit_of rank_of figure_of chinese_digit_of tens_of sign_of is_point is_comma
+    is_percent is_fen is_zhi
+no_bare_tens = refl
+
+weights : answers (codes "二两" ∷ codes "十两" ∷ codes "一百两" ∷ codes "一千两百"
+    ∷ codes "一万零两百" ∷ codes "十两个亿" ∷ [])
+    ≡ Err (incorrect_at 1) ∷ Err (incorrect_at 1) ∷ Err (incorrect_at 2)
+    ∷ is (pos 1200) 1 Whole ∷ is (pos 10200) 1 Whole ∷ is (pos 1200000000) 1 Whole ∷ []
+unfolding chars encode_utf8 digit_of rank_of figure_of chinese_digit_of tens_of sign_of is_point is_comma
+    is_percent is_fen is_zhi
+weights = refl
+
+two_readings : answers (codes "一百五万" ∷ codes "二百三個億" ∷ codes "一万二亿" ∷ codes "一亿二千"
+    ∷ codes "三亿五十" ∷ codes "一亿二" ∷ codes "一亿零二千" ∷ codes "一亿二千万" ∷ [])
+    ≡ Err (incorrect_at 3) ∷ Err (incorrect_at 4) ∷ Err (incorrect_at 3) ∷ Err (incorrect_at 2)
+    ∷ Err (incorrect_at 2) ∷ is (pos 120000000) 1 Whole ∷ is (pos 100002000) 1 Whole
+    ∷ is (pos 120000000) 1 Whole ∷ []
+unfolding chars encode_utf8 digit_of rank_of figure_of chinese_digit_of tens_of sign_of is_point is_comma
+    is_percent is_fen is_zhi
+two_readings = refl

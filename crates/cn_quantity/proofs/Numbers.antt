@@ -1,14 +1,9 @@
 -- A whole number and a number, from what their parts are answered.
 use Rattle.std.proofs.Common.{◌≡◌, ℕ, suc, ◌+◌, ◌<◌, ◌≤◌, Bool, true, false, nat_lt, ◌&&◌, List, [], ◌∷◌, length, Option, Some, None, Result, Ok, Err, refl, sym, ap, ◌∙◌, arith, if◌then◌else◌}
-use Rattle.std.proofs.lemmas.List.{length-map}
 use Rattle.std.specs.Option.{option_map_or}
 use Rattle.cn_core.specs.declared.method.ChineseCountMethod.{ChineseCountMethod}
-use Rattle.cn_core.specs.Judging.{judge}
-use Rattle.cn_core.specs.Mark.{mark_of}
-use Rattle.cn_core.specs.Naive.{naive_answer}
 use Rattle.cn_core.specs.Refusal.{Refusal, empty, incorrect_at, too_large, too_small}
-use Rattle.cn_core.specs.Text.{text_of, marks_of}
-use Rattle.cn_core.proofs.Within.{judge-within, naive-within}
+use Rattle.cn_core.specs.Text.{text_of}
 use Rattle.std.specs.Char.{is_whitespace}
 use Rattle.cn_judge.specs.Piece.{StandsAt, answer_at}
 use Rattle.cn_judge.proofs.Pieces.{char_index-at}
@@ -19,35 +14,12 @@ use Rattle.cn_quantity.specs.Characters.{is_point}
 use Rattle.cn_quantity.specs.Decimal.{after_point, before_point, decimals_behind_point, is_chinese_decimal}
 use Rattle.cn_quantity.specs.Digits.{read_with_units}
 use Rattle.cn_quantity.specs.Figures.{decimals_in_figures, is_in_figures}
-use Rattle.cn_quantity.specs.Number.{chinese_decimal_answer, decimal_of, divisor_answer, is_divisor, is_plain, number_answer, or_shaped, part_answer, shaped_number, short_tens, whole_answer, whole_number_answer}
+use Rattle.cn_quantity.specs.Number.{chinese_decimal_answer, decimal_of, divisor_answer, is_divisor, number_answer, or_shaped, part_answer, shaped_number, short_tens, whole_number_answer}
 use Rattle.cn_quantity.specs.Private.{SplitsAtPoint}
 use Rattle.cn_quantity.specs.Units.{are_rising_units, times_units}
+use Rattle.cn_quantity.specs.WholeNumber.{whole_answer}
+use Rattle.cn_quantity.proofs.WholeNumbers.{whole-low}
 use Rattle.cn_quantity.proofs.Told.{told-front, told-stops, told-goes_on}
-
--- a refusal of a whole number points into its text
-pub whole-low : (method : ChineseCountMethod) (text : List ℕ) (place : ℕ)
-    → whole_answer method text ≡ Err (incorrect_at place) → place < length text
-whole-low method text place h = by (is_plain text) h where
-  low : place < length (marks_of text) → place < length text
-  low h = let size = length-map text mark_of in omega (arith, h, size)
-
-  by : (b : Bool) → (if b then naive_answer (marks_of text) else judge method (marks_of text))
-      ≡ Err (incorrect_at place) → place < length text
-  by true e = low (naive-within (marks_of text) place e)
-  by false e = low (judge-within method (marks_of text) place e)
-
--- which whole number a text is
-pub whole-plain : (method : ChineseCountMethod) (skipped : ℕ) (bytes text : List ℕ)
-    (answer : Result ℕ Refusal) → is_plain text ≡ true
-    → answer ≡ answer_at skipped bytes (naive_answer (marks_of text))
-    → answer ≡ answer_at skipped bytes (whole_answer method text)
-whole-plain method skipped bytes text answer plain is = rw plain is
-
-pub whole-units : (method : ChineseCountMethod) (skipped : ℕ) (bytes text : List ℕ)
-    (answer : Result ℕ Refusal) → is_plain text ≡ false
-    → answer ≡ answer_at skipped bytes (judge method (marks_of text))
-    → answer ≡ answer_at skipped bytes (whole_answer method text)
-whole-units method skipped bytes text answer plain is = rw plain is
 
 -- a number that fits or not names no place
 pub decimal-told : (skipped : ℕ) (bytes : List ℕ) (decimals : ℕ) (number : Option ℕ)

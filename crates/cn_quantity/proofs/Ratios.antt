@@ -6,7 +6,7 @@ use Rattle.cn_core.specs.Text.{text_of}
 use Rattle.cn_judge.specs.Piece.{answer_at}
 use Rattle.cn_quantity.specs.declared.number.Decimal.{Decimal}
 use Rattle.cn_quantity.specs.declared.quantity.QuantityForm.{QuantityForm}
-use Rattle.cn_quantity.specs.declared.quantity.QuantityForm.TheVariants.{Fraction, Percent}
+use Rattle.cn_quantity.specs.declared.quantity.QuantityForm.TheVariants.{Percent}
 use Rattle.cn_quantity.specs.declared.ratio.Ratio.{Ratio}
 use Rattle.cn_quantity.specs.Answer.{and_then, further_by}
 use Rattle.cn_quantity.specs.Characters.{is_fen, is_zhi}

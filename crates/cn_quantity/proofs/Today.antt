@@ -1,9 +1,11 @@
 -- A text of digits and units of numerals alone is read as the readers of numerals read it.
-use Rattle.std.proofs.Common.{◌≡◌, ℕ, suc, ◌+◌, ◌*◌, ◌^◌, ◌<◌, ◌≤◌, Bool, true, false, not, nat_le, nat_lt, ◌&&◌, ◌||◌, ◌==◌, List, [], ◌∷◌, ◌++◌, length, map, fold, drop, codes, ℤ, Option, Some, None, is_some, Result, Ok, Err, refl, sym, ap, subst, ◌∙◌, arith, if◌then◌else◌}
+use Rattle.std.proofs.Common.{◌≡◌, ℕ, ◌+◌, ◌*◌, ◌^◌, ◌<◌, ◌≤◌, Bool, true, false, not, nat_le, nat_lt, ◌&&◌, ◌||◌, ◌==◌, List, [], ◌∷◌, ◌++◌, length, map, take, drop, codes, ℤ, Option, Some, None, is_some, Result, Ok, Err, refl, sym, ap, subst, ◌∙◌, arith, if◌then◌else◌}
 use Rattle.std.specs.List.{list_all}
 use Rattle.std.specs.Option.{option_map_or}
 use Rattle.std.proofs.lemmas.Bool.Decides.{nat_tests}
 use Rattle.std.proofs.Math.Nat.{mul_assoc}
+use Rattle.std.proofs.lemmas.List.{take-append-drop}
+use Rattle.std.proofs.lemmas.List.Folds.{list_all-append}
 use Rattle.cn_core.specs.declared.method.ChineseCountMethod.{ChineseCountMethod}
 use Rattle.std.specs.Char.{char_set_contains}
 use Rattle.cn_core.specs.declared.sign.Sign.{Sign}
@@ -13,31 +15,30 @@ use Rattle.cn_core.specs.Characters.{sign_of as numeral_sign}
 use Rattle.cn_core.specs.Judge.{last_mark_answer, numeral_answer}
 use Rattle.cn_core.specs.Judging.{judge, judge_body}
 use Rattle.cn_core.specs.Mark.{Mark, digit, unit, other, mark_from, mark_of}
-use Rattle.cn_core.specs.Naive.{decimal_value, digit_value, naive_answer}
-use Rattle.cn_core.specs.Numeral.{each_may_precede, is_digit_or_unit, is_numeral, may_precede, separates_digits, starts_with_digit, with_first_digit}
-use Rattle.cn_core.specs.Place.{body, is_unfit, some_unfit}
+use Rattle.cn_core.specs.Naive.{decimal_value, naive_answer}
+use Rattle.cn_core.specs.Numeral.{each_may_precede, is_digit_or_unit, is_numeral, may_precede, starts_with_digit, with_first_digit}
+use Rattle.cn_core.specs.Place.{body, some_unfit}
 use Rattle.cn_core.specs.Reading.{is_minus, sign_len, typed_number}
 use Rattle.cn_core.specs.Reading.{leading_sign as numeral_leading_sign}
-use Rattle.cn_core.specs.Refusal.{Refusal, incorrect_at, too_large}
+use Rattle.cn_core.specs.Refusal.{Refusal, empty, incorrect_at, too_large, too_small}
 use Rattle.cn_core.specs.Scale.{scale, scale_fits}
 use Rattle.cn_core.specs.Text.{marks_of, text_of}
 use Rattle.cn_core.specs.Whole.{signed_kind, signed_number}
-use Rattle.cn_core.specs.Value.{colloquial_value, numeral_value, product, records_from, weight}
+use Rattle.cn_core.specs.Value.{colloquial_value, numeral_value, product, records_from}
 use Rattle.cn_core.proofs.Fronts.{and-left, and-right, both}
 use Rattle.cn_judge.proofs.Walking.{outside-mark}
-use Rattle.cn_quantity.specs.declared.characters.DigitKind.TheVariants.{Figure, Chinese}
+use Rattle.cn_quantity.specs.declared.characters.DigitKind.TheVariants.{Chinese}
 use Rattle.cn_quantity.specs.declared.quantity.QuantityForm.TheVariants.{Whole}
-use Rattle.cn_quantity.specs.Answer.{and_then}
-use Rattle.cn_quantity.specs.Characters.{figure_of, is_comma, is_fen, is_percent, is_point, sign_of, tens_of}
-use Rattle.cn_quantity.specs.Decimal.{after_point, before_point, ends_colloquially, is_chinese_decimal}
-use Rattle.cn_quantity.specs.Digits.{after_digits, leading_digits, read_on, read_with_units}
-use Rattle.cn_quantity.specs.Figures.{after_figures, after_groups, are_decimals, decimals_in_figures, decimals_of, ends_in_figures, is_in_figures, may_lead_groups}
-use Rattle.cn_quantity.specs.Number.{decimal_of, is_plain, number_answer, or_shaped, shaped_number, short_tens, whole_answer}
-use Rattle.cn_quantity.proofs.Numbers.{in-figures, whole-alone}
+use Rattle.cn_quantity.specs.Answer.{and_then, further_by}
+use Rattle.cn_quantity.specs.Characters.{is_fen, is_percent, is_point, sign_of}
+use Rattle.cn_quantity.specs.Number.{number_answer, or_shaped, shaped_number}
 use Rattle.cn_quantity.proofs.Ratios.{a-number}
 use Rattle.cn_quantity.specs.Ratio.{after_bar, before_bar, ends_with_percent, form_of, is_fraction, is_percentage, ratio_answer, ratio_of}
 use Rattle.cn_quantity.specs.Reading.{leading_sign, quantity_answer, signed_answer}
+use Rattle.cn_quantity.specs.Misread.{bare_ten_between, first_misread}
 use Rattle.cn_quantity.specs.Units.{are_rising, times_units}
+use Rattle.cn_quantity.specs.WholeNumber.{fitting, is_plain, misread_answer, reader_answer, sum_answer, whole_answer}
+use Rattle.cn_quantity.proofs.WholeNumbers.{whole-reader}
 
 -- what each digit and unit of numerals has
 pub own : (p : ℕ → Bool) (c : ℕ) → list_all (list_all p) digit_rows ≡ true
@@ -317,14 +318,63 @@ plain-marks (c ∷ rest) h =
     let d = plain-first c rest h in rw (digit-mark c d.value d.is) (plain-marks rest d.more)
 
 -- only digits and units are read as a whole number; any other text goes by its shape
-pub whole-marks : (method : ChineseCountMethod) (text : List ℕ) (number : ℕ)
-    → whole_answer method text ≡ Ok number → are_marks text ≡ true
-whole-marks method text number h = by (is_plain text) refl h where
+reader-marks : (method : ChineseCountMethod) (text : List ℕ) (number : ℕ)
+    → reader_answer method text ≡ Ok number → are_marks text ≡ true
+reader-marks method text number h = by (is_plain text) refl h where
   by : (b : Bool) → is_plain text ≡ b
       → (if b then naive_answer (marks_of text) else judge method (marks_of text)) ≡ Ok number
       → are_marks text ≡ true
   by true e h = plain-marks text e
   by false e h = numeral-marks text (judged-numeral method (marks_of text) number h).0
+
+-- both parts of a sum are read
+sum-read : (method : ChineseCountMethod) (rank number : ℕ) (before from : List ℕ)
+    → sum_answer method rank before from ≡ Ok number
+    → (are_marks before ≡ true) × (are_marks from ≡ true)
+sum-read method rank number before from h = by (judge method (marks_of before)) refl h where
+  marks : (text : List ℕ) (n : ℕ) → judge method (marks_of text) ≡ Ok n → are_marks text ≡ true
+  marks text n e = numeral-marks text (judged-numeral method (marks_of text) n e).0
+
+  next : (first : ℕ) (second : Result ℕ Refusal) → are_marks before ≡ true
+      → judge method (marks_of from) ≡ second
+      → and_then (further_by (length before) second) (λ second.
+      if nat_lt second (scale method rank) then fitting (first + second)
+      else Err (incorrect_at (length before))) ≡ Ok number
+      → (are_marks before ≡ true) × (are_marks from ≡ true)
+  next first (Ok second) m is e = (m, marks from second is)
+  next first (Err empty) m is e = cc
+  next first (Err too_large) m is e = cc
+  next first (Err too_small) m is e = cc
+  next first (Err (incorrect_at place)) m is e = cc
+
+  by : (first : Result ℕ Refusal) → judge method (marks_of before) ≡ first
+      → and_then first (λ first.
+      and_then (further_by (length before) (judge method (marks_of from))) (λ second.
+      if nat_lt second (scale method rank) then fitting (first + second)
+      else Err (incorrect_at (length before)))) ≡ Ok number
+      → (are_marks before ≡ true) × (are_marks from ≡ true)
+  by (Ok first) is e = next first (judge method (marks_of from)) (marks before first is) refl e
+  by (Err refusal) is e = cc
+
+pub whole-marks : (method : ChineseCountMethod) (text : List ℕ) (number : ℕ)
+    → whole_answer method text ≡ Ok number → are_marks text ≡ true
+whole-marks method text number h = by (first_misread text) h where
+  parts : (place : ℕ) (bare : Option ℕ)
+      → option_map_or (λ rank. sum_answer method rank (take place text) (drop place text)) bare
+      (Err (incorrect_at (length (take place text)))) ≡ Ok number → are_marks text ≡ true
+  parts place (Some rank) e =
+      let read = sum-read method rank number (take place text) (drop place text) e in
+      let test = λ (c : ℕ). is_digit_or_unit (mark_of c) in
+      ap are_marks (sym (take-append-drop place text))
+      ∙ list_all-append test (take place text) (drop place text)
+      ∙ both (are_marks (take place text)) (are_marks (drop place text)) read.0 read.1
+  parts place None e = cc
+
+  by : (found : Option ℕ)
+      → option_map_or (λ place. misread_answer method (take place text) (drop place text)) found
+      (reader_answer method text) ≡ Ok number → are_marks text ≡ true
+  by None e = reader-marks method text number e
+  by (Some place) e = parts place (bare_ten_between (take place text) (drop place text)) e
 
 pub number-shaped : (method : ChineseCountMethod) (text : List ℕ) → are_marks text ≡ false
     → number_answer method text ≡ shaped_number method text
@@ -360,13 +410,14 @@ numeral-ratio method text number h is =
     )
 
 pub plain-ratio : (method : ChineseCountMethod) (text : List ℕ) → is_plain text ≡ true
-    → decimal_value (marks_of text) < 2 ^ 128
+    → first_misread text ≡ None → decimal_value (marks_of text) < 2 ^ 128
     → naive_answer (marks_of text) ≡ Ok (decimal_value (marks_of text))
     → ratio_answer method text
     ≡ Ok (record { numerator = decimal_value (marks_of text); denominator = 1; form = Whole })
-plain-ratio method text plain small is =
+plain-ratio method text plain clear small is =
     let m = plain-marks text plain in
-    let whole : whole_answer method text ≡ Ok (decimal_value (marks_of text)) = rw plain is in
+    let whole : whole_answer method text ≡ Ok (decimal_value (marks_of text)) =
+    whole-reader method text clear ∙ rw plain is in
     ratio-whole method text (decimal_value (marks_of text)) m
     (number-whole method text (decimal_value (marks_of text)) whole)
 

@@ -3,7 +3,7 @@ ghost use Rattle.std.specs.Prelude.{◌≡◌, ◌+◌, ◌^◌, ◌<◌, length
 ghost use Rattle.cn_core.specs.Text.{text_of};
 ghost use Rattle.cn_judge.specs.Answer.{answer_of};
 ghost use Rattle.cn_judge.specs.Piece.{answer_at};
-ghost use Rattle.cn_quantity.specs.Number.{decimal_of, divisor_answer, is_divisor, is_plain, number_answer, part_answer, shaped_number, short_tens, whole_answer};
+ghost use Rattle.cn_quantity.specs.Number.{decimal_of, divisor_answer, is_divisor, number_answer, part_answer, shaped_number, short_tens};
 
 use crate::characters::{DigitKind, digit_by, tens_of};
 use crate::decimal::split_decimal;
@@ -11,46 +11,15 @@ use crate::digits::read_with_units;
 use crate::figures::decimals_in_figures;
 use crate::pieces::split_first;
 use crate::units::{are_rising_units, times_units};
-use cn_core::{ChineseCountMethod, digit_of};
-use cn_judge::{ChineseToNumberError, judge_naive, judge_text};
+use crate::whole_number::judge_whole;
+use cn_core::ChineseCountMethod;
+use cn_judge::ChineseToNumberError;
 
 /// A number without its point, and how many decimals it has: 314 and 2 for 3.14.
 #[derive(Copy, Clone)]
 pub struct Decimal {
     pub number: u128,
     pub decimals: usize,
-}
-
-// Whether each character is a digit of numerals.
-fn is_plain(text: &str) -> bool
-    ensures { result ≡ is_plain (text_of text.now) }
-{
-    let mut rest = text;
-    'looking: while let Some((c, after)) = split_first(rest) {
-        if digit_of(c).is_none() {
-            return false;
-        }
-        rest = after;
-    }
-    true
-}
-
-// The whole number of a text as the readers of numerals read it, behind so many characters of the
-// caller's string.
-fn judge_whole(
-    method: ChineseCountMethod,
-    skipped: usize,
-    text: &str,
-) -> Result<u128, ChineseToNumberError>
-    requires { skipped + length text.now < 2 ^ 64 }
-    ensures { answer_of (λ n. n) result
-        ≡ answer_at skipped text.now (whole_answer method (text_of text.now)) }
-{
-    if is_plain(text) {
-        judge_naive(skipped, text)
-    } else {
-        judge_text(method, skipped, text)
-    }
 }
 
 // The number of 廿 or 卅 with one digit behind it or none.
