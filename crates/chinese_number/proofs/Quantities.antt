@@ -1,14 +1,12 @@
 -- What is read as a number is that number as a quantity.
-use Rattle.std.proofs.Common.{◌≡◌, ℕ, ℤ, ◌^◌, ◌<◌, ◌≤◌, Bool, true, false, nat_le, ◌&&◌, List, [], ◌∷◌, length, drop, Option, Some, None, is_some, Result, Ok, Err, refl, sym, ap, ◌∙◌, arith, rules, if◌then◌else◌}
+use Rattle.std.proofs.Common.{◌≡◌, ℕ, ℤ, ◌^◌, ◌<◌, Bool, true, false, nat_le, List, [], ◌∷◌, length, drop, Option, Some, None, is_some, Result, Ok, Err, refl, sym, ap, ◌∙◌, arith, rules, if◌then◌else◌}
 use Rattle.std.specs.List.{list_all}
 use Rattle.std.proofs.lemmas.Bool.Decides.{nat_tests}
 use Rattle.cn_core.specs.declared.method.ChineseCountMethod.{ChineseCountMethod}
 use Rattle.cn_core.specs.declared.sign.Sign.{Sign}
-use Rattle.cn_core.specs.declared.sign.Sign.TheVariants.{Plus, Minus}
 use Rattle.cn_core.specs.Characters.{digit_of, rank_of}
-use Rattle.cn_core.specs.Judge.{Judges}
 use Rattle.cn_core.specs.Judging.{judge}
-use Rattle.cn_core.specs.Mark.{Mark, digit, unit, other, mark_from, mark_of}
+use Rattle.cn_core.specs.Mark.{Mark, digit, mark_from, mark_of}
 use Rattle.cn_core.specs.Naive.{decimal_value, naive_answer}
 use Rattle.cn_core.specs.Numeral.{is_numeral}
 use Rattle.cn_core.specs.Reading.{Reads, is_minus, leading_sign, naive_reading, sign_len, typed_answer, typed_number}
@@ -19,11 +17,10 @@ use Rattle.cn_core.proofs.Fronts.{and-left, and-right, both}
 use Rattle.cn_core.proofs.Judging.{Judges-judge, Judges-same}
 use Rattle.cn_find.specs.Plain.{is_decimal}
 use Rattle.cn_find.proofs.Agreement.{one-number}
-use Rattle.cn_quantity.specs.declared.quantity.Quantity.{Quantity}
 use Rattle.cn_quantity.specs.declared.quantity.QuantityForm.TheVariants.{Whole}
 use Rattle.cn_quantity.specs.Misread.{first_misread, is_misread}
 use Rattle.cn_quantity.specs.Reading.{quantity_answer}
-use Rattle.cn_quantity.specs.WholeNumber.{is_plain, reader_answer, whole_answer}
+use Rattle.cn_quantity.specs.WholeNumber.{is_plain, reader_answer}
 use Rattle.cn_quantity.proofs.Today.{answered-numeral, digit-low, judged-numeral, numeral-ratio, plain-marks, plain-ratio, quantity-today}
 use Rattle.cn_quantity.proofs.WholeNumbers.{whole-reader}
 use Rattle.chinese_number.specs.Digits.{is_digit}

@@ -28,7 +28,7 @@ use Rattle.cn_express.proofs.SpelledNumbers.{BeginsNumber, BeginsNumber-marks, d
 use Rattle.cn_express.proofs.WrittenTexts.{IsText}
 use Rattle.cn_quantity.specs.declared.characters.DigitKind.TheVariants.{Chinese, Figure}
 use Rattle.cn_quantity.specs.Answer.{and_then}
-use Rattle.cn_quantity.specs.Characters.{chinese_digit_of, is_fen, is_percent, is_point}
+use Rattle.cn_quantity.specs.Characters.{chinese_digit_of, is_fen, is_point, share_of}
 use Rattle.cn_quantity.specs.Decimal.{after_point, before_point, ends_colloquially, is_chinese_decimal}
 use Rattle.cn_quantity.specs.Digits.{after_digits, leading_digits, read_with_units}
 use Rattle.cn_quantity.specs.Figures.{is_in_figures}
@@ -127,7 +127,7 @@ point_is Traditional = refl
 point_is Simple = refl
 
 pub point_bare : (variant : ChineseVariant) → is_bare (point_char variant) ≡ true
-unfolding is_bare is_fen is_percent
+unfolding is_bare is_fen share_of
 point_bare Traditional = refl
 point_bare Simple = refl
 

@@ -35,7 +35,7 @@ use Rattle.cn_quantity.specs.declared.characters.DigitKind.TheVariants.{Figure}
 use Rattle.cn_quantity.specs.declared.quantity.Quantity.{Quantity}
 use Rattle.cn_quantity.specs.declared.quantity.QuantityForm.{QuantityForm}
 use Rattle.cn_quantity.specs.declared.quantity.QuantityForm.TheVariants.{Whole, Decimal, Percent, Fraction}
-use Rattle.cn_quantity.specs.Characters.{figure_of, figure_rows, is_comma, is_fen, is_percent, is_point, sign_of}
+use Rattle.cn_quantity.specs.Characters.{figure_of, figure_rows, is_comma, is_fen, is_point, share_of, sign_of}
 use Rattle.cn_quantity.specs.Digits.{after_digits, begins_with_digit, is_digit, leading_digits, read_on, read_with_units}
 use Rattle.cn_quantity.specs.Figures.{after_figures, after_groups, decimals_of, ends_in_figures, is_in_figures, may_lead_groups}
 use Rattle.cn_quantity.specs.Number.{decimal_of, number_answer, or_shaped, shaped_number}
@@ -60,7 +60,7 @@ figures-have : (test : ℕ → Bool) → list_all (list_all test) figure_rows �
 figures-have test all text figures = digits-all Figure test (figure-has test all) text figures
 
 figure-bare : (c value : ℕ) → figure_of c ≡ Some value → is_bare c ≡ true
-unfolding is_bare is_fen is_percent
+unfolding is_bare is_fen share_of
 figure-bare c value is = figure-has is_bare refl c value is
 
 figures-no_units : (text : List ℕ) → are_digits Figure text ≡ true → has_no_units text ≡ true
@@ -237,7 +237,7 @@ record IsPoint (c : ℕ) : Type 0 where
   no_mark : is_digit_or_unit (mark_of c) ≡ false
 
 IsPoint-ascii : IsPoint (slice_index (codes ".") 0)
-unfolding is_bare is_fen is_percent rank_of digit_of figure_of is_comma is_point
+unfolding is_bare is_fen share_of rank_of digit_of figure_of is_comma is_point
 IsPoint-ascii = record {
   bare = refl;
   no_unit = refl;
@@ -368,9 +368,9 @@ sign-front : (text more : List ℕ) → 0 < length text
 sign-front [] more some = absurd (omega (arith, some))
 sign-front (c ∷ rest) more some = refl
 
-percent-is : (is_percent (slice_index (codes "%") 0) ≡ true)
+percent-is : (share_of (slice_index (codes "%") 0) ≡ Some 100)
     × (lacks is_fen (codes "%") ≡ true)
-unfolding is_percent is_fen
+unfolding share_of is_fen
 percent-is = (refl, refl)
 
 IsText-percent : IsText (codes "%")

@@ -30,10 +30,10 @@ use Rattle.cn_judge.proofs.Walking.{outside-mark}
 use Rattle.cn_quantity.specs.declared.characters.DigitKind.TheVariants.{Chinese}
 use Rattle.cn_quantity.specs.declared.quantity.QuantityForm.TheVariants.{Whole}
 use Rattle.cn_quantity.specs.Answer.{and_then, further_by}
-use Rattle.cn_quantity.specs.Characters.{is_fen, is_percent, is_point, sign_of}
+use Rattle.cn_quantity.specs.Characters.{is_fen, is_point, share_of, sign_of}
 use Rattle.cn_quantity.specs.Number.{number_answer, or_shaped, shaped_number}
 use Rattle.cn_quantity.proofs.Ratios.{a-number}
-use Rattle.cn_quantity.specs.Ratio.{after_bar, before_bar, ends_with_percent, form_of, is_fraction, is_percentage, ratio_answer, ratio_of}
+use Rattle.cn_quantity.specs.Ratio.{after_bar, before_bar, form_of, is_fraction, last_share, ratio_answer, ratio_of, share}
 use Rattle.cn_quantity.specs.Reading.{leading_sign, quantity_answer, signed_answer}
 use Rattle.cn_quantity.specs.Misread.{bare_ten_between, first_misread}
 use Rattle.cn_quantity.specs.Units.{are_rising, times_units}
@@ -68,9 +68,12 @@ no-fen : (c : ℕ) → is_digit_or_unit (mark_of c) ≡ true → is_fen c ≡ fa
 unfolding is_fen
 no-fen c = lacks is_fen c refl refl
 
-no-percent : (c : ℕ) → is_digit_or_unit (mark_of c) ≡ true → is_percent c ≡ false
-unfolding is_percent
-no-percent c = lacks is_percent c refl refl
+no-share : (c : ℕ) → is_digit_or_unit (mark_of c) ≡ true → share_of c ≡ None
+unfolding share_of
+no-share c marked = none (share_of c) (lacks (λ c. is_some (share_of c)) c refl refl marked) where
+  none : (o : Option ℕ) → is_some o ≡ false → o ≡ None
+  none None h = refl
+  none (Some divisor) h = cc
 
 pub digit-low : (c v : ℕ) → digit_of c ≡ Some v → v ≤ 9
 unfolding digit_of
@@ -123,11 +126,11 @@ bar-nowhere (c ∷ next ∷ rest) h =
     rw (no-fen c (first-mark c (next ∷ rest) h))
     (bar-nowhere (next ∷ rest) (rest-marks c (next ∷ rest) h))
 
-percent-nowhere : (text : List ℕ) → are_marks text ≡ true → ends_with_percent text ≡ false
-percent-nowhere [] h = refl
-percent-nowhere (c ∷ []) h = no-percent c (first-mark c [] h)
-percent-nowhere (c ∷ next ∷ rest) h =
-    percent-nowhere (next ∷ rest) (rest-marks c (next ∷ rest) h)
+share-nowhere : (text : List ℕ) → are_marks text ≡ true → last_share text ≡ None
+share-nowhere [] h = refl
+share-nowhere (c ∷ []) h = no-share c (first-mark c [] h)
+share-nowhere (c ∷ next ∷ rest) h =
+    share-nowhere (next ∷ rest) (rest-marks c (next ∷ rest) h)
 
 pub and-none : (b : Bool) → (b && false) ≡ false
 and-none true = refl
@@ -138,10 +141,11 @@ no-fraction text h =
     ap (λ l. nat_lt 0 (length (before_bar text)) && nat_lt 0 (length l)) (bar-nowhere text h)
     ∙ and-none (nat_lt 0 (length (before_bar text)))
 
-no-percentage : (text : List ℕ) → are_marks text ≡ true → is_percentage text ≡ false
-no-percentage text h =
-    ap (λ b. nat_lt 1 (length text) && b) (percent-nowhere text h)
-    ∙ and-none (nat_lt 1 (length text))
+no-shares : (text : List ℕ) → are_marks text ≡ true → share text ≡ None
+no-shares text h = by (nat_lt 1 (length text)) (share-nowhere text h) where
+  by : (b : Bool) → last_share text ≡ None → (if b then last_share text else None) ≡ None
+  by true h = h
+  by false h = refl
 
 -- the first of rising units, and those behind it
 record IsRising (least c : ℕ) (rest : List ℕ) : Type 0 where
@@ -227,7 +231,7 @@ pub ratio-whole : (method : ChineseCountMethod) (text : List ℕ) (number : ℕ)
     → ratio_answer method text
     ≡ Ok (record { numerator = number; denominator = 1; form = Whole })
 ratio-whole method text number m is =
-    a-number method text (no-fraction text m) (no-percentage text m)
+    a-number method text (no-fraction text m) (no-shares text m)
     ∙ ap (λ a. and_then a (λ decimal. ratio_of 1 (form_of decimal.decimals) decimal)) is
 
 -- a text that is a numeral
