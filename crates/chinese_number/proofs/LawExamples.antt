@@ -17,6 +17,7 @@ use Rattle.cn_core.specs.Reading.{Reads, is_minus, naive_reading}
 use Rattle.cn_core.specs.Refusal.{incorrect_at}
 use Rattle.cn_core.specs.Text.{text_of, marks_of}
 use Rattle.cn_core.specs.Value.{numeral_value}
+use Rattle.cn_quantity.specs.Misread.{is_misread}
 use Rattle.cn_core.specs.Whole.{holds, signed_kind, signed_number, unsigned_kind}
 use Rattle.cn_core.proofs.Fronts.{IsPlace-place_of}
 use Rattle.cn_core.proofs.Judging.{Judges-by_walk}
@@ -79,13 +80,15 @@ leading_zeros_change_nothing = (
 
 numbers_stay_numbers-units : Reads (signed_kind 128) TenThousand (string (codes "負一百二十萬"))
     (Ok (negsuc 1199999))
+    × (is_misread (unsigned_text (signed_kind 128) (string (codes "負一百二十萬"))) ≡ false)
 unfolding chars encode_utf8 digit_of rank_of sign_of
-numbers_stay_numbers-units = (Ok 1200000, refl, refl)
+numbers_stay_numbers-units = ((Ok 1200000, refl, refl), refl)
 
-numbers_stay_numbers-digits : naive_reading (signed_kind 128) (string (codes "二零二五"))
-    ≡ Ok (pos 2025)
+numbers_stay_numbers-digits : (naive_reading (signed_kind 128) (string (codes "二零二五"))
+    ≡ Ok (pos 2025))
+    × (is_misread (unsigned_text (signed_kind 128) (string (codes "二零二五"))) ≡ false)
 unfolding chars encode_utf8 digit_of rank_of sign_of
-numbers_stay_numbers-digits = refl
+numbers_stay_numbers-digits = (refl, refl)
 
 spellings_are_numerals : IsTrue (holds (unsigned_kind 8) (pos 110))
     × IsTrue (is_printable Low (pos 110))

@@ -20,6 +20,7 @@ use Rattle.cn_core.proofs.ReadBack.{spelling-is_numeral}
 use Rattle.cn_express.specs.Digits.{behind_point, last_digits}
 use Rattle.cn_express.specs.Numerals.{decimal_text, magnitude_text, point_char}
 use Rattle.cn_express.proofs.BareTexts.{bare-text, is_bare, mark-bare, marks-bare}
+use Rattle.cn_express.proofs.ClearTexts.{magnitude-clear}
 use Rattle.cn_express.proofs.Cuts.{marks-lack, point-at}
 use Rattle.cn_express.proofs.DigitTexts.{WritesDigits, WritesDigits-each, are_digits, digits-alone, digits-all, last-count, last-digits, last-read, no-factors}
 use Rattle.cn_express.proofs.LastMarks.{spelled-ended}
@@ -27,14 +28,15 @@ use Rattle.cn_express.proofs.SpelledNumbers.{BeginsNumber, BeginsNumber-marks, d
 use Rattle.cn_express.proofs.WrittenTexts.{IsText}
 use Rattle.cn_quantity.specs.declared.characters.DigitKind.TheVariants.{Chinese, Figure}
 use Rattle.cn_quantity.specs.Answer.{and_then}
-use Rattle.cn_quantity.specs.Characters.{chinese_digit_of, is_fen, is_percent, is_point}
+use Rattle.cn_quantity.specs.Characters.{chinese_digit_of, is_fen, is_point, share_of}
 use Rattle.cn_quantity.specs.Decimal.{after_point, before_point, ends_colloquially, is_chinese_decimal}
 use Rattle.cn_quantity.specs.Digits.{after_digits, leading_digits, read_with_units}
 use Rattle.cn_quantity.specs.Figures.{is_in_figures}
-use Rattle.cn_quantity.specs.Number.{decimal_of, number_answer, part_answer, whole_answer}
+use Rattle.cn_quantity.specs.Number.{decimal_of, number_answer, part_answer}
 use Rattle.cn_quantity.specs.Units.{are_rising_units, times_units}
+use Rattle.cn_quantity.specs.WholeNumber.{whole_answer}
 use Rattle.cn_quantity.proofs.Numbers.{a-decimal}
-use Rattle.cn_quantity.proofs.Today.{and-none, are_marks, digit-mark, digit-no_unit, no-point, number-whole}
+use Rattle.cn_quantity.proofs.Today.{and-none, are_marks, digit-mark, digit-no_unit, marks-broken, no-point, number-shaped, number-whole, point-no_mark}
 use Rattle.cn_spell.proofs.Printed.{IsReadBack-marks, is_printed}
 use Rattle.cn_spell.proofs.SpelledMarks.{below_square, spelling-printed}
 
@@ -74,7 +76,7 @@ IsSpelled-magnitude variant case method number small printable =
       same = back.marks_same;
       marks = known;
       whole = spelled-whole method number (map (mark_char variant case) marks) small square
-          back.marks_same;
+          back.marks_same (magnitude-clear variant case method number small printable);
       begins = BeginsNumber-marks variant case marks printed
           (and-left (starts_with_digit (with_first_digit marks)) _ numeral.0);
       ended = spelled-ended method number (map (mark_char variant case) marks) square
@@ -103,12 +105,7 @@ part-number method text more begins = rw none where
 pub whole-read : (method : ChineseCountMethod) (number : ℕ) (text : List ℕ)
     → IsSpelled method number text
     → number_answer method text ≡ Ok (record { number = number; decimals = 0 })
-whole-read method number text s =
-    number-whole method text number s.marks s.whole (λ f. absurd (none f.some)) where
-      none : 0 < leading_digits Figure text → ⊥
-      none some =
-          let zero_is : leading_digits Figure text ≡ 0 =
-          rw append-nil at (not-figures text [] s.begins) in omega (arith, some, zero_is)
+whole-read method number text s = number-whole method text number s.whole
 
 -- of a fraction too
 pub part-whole : (method : ChineseCountMethod) (number : ℕ) (text : List ℕ)
@@ -130,7 +127,7 @@ point_is Traditional = refl
 point_is Simple = refl
 
 pub point_bare : (variant : ChineseVariant) → is_bare (point_char variant) ≡ true
-unfolding is_bare is_fen is_percent
+unfolding is_bare is_fen share_of
 point_bare Traditional = refl
 point_bare Simple = refl
 
@@ -176,7 +173,8 @@ point-read : (method : ChineseCountMethod) (whole count number point : ℕ) (fro
     → number_answer method (front ++ point ∷ digits)
     ≡ Ok (record { number = number; decimals = count })
 point-read method whole count number point front digits s point_is all size some read =
-    a-decimal method text (not-in-figures front (point ∷ digits) s.begins) is_decimal
+    number-shaped method text (marks-broken front point digits (point-no_mark point point_is))
+    ∙ a-decimal method text (not-in-figures front (point ∷ digits) s.begins) is_decimal
     ∙ ap₂ (λ before behind. and_then (whole_answer method before)
     (λ whole. decimal_of (leading_digits Chinese behind)
     (read_with_units method Chinese whole behind))) cut.0 cut.1

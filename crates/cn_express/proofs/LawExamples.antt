@@ -2,6 +2,7 @@
 use Rattle.std.proofs.Common.{◌^◌, ◌<◌, pos, refl, arith}
 use Rattle.std.specs.Prelude.{IsSome, IsTrue}
 use Rattle.cn_core.specs.declared.method.ChineseCountMethod.TheVariants.{TenThousand}
+use Rattle.cn_core.specs.Printing.{is_printable}
 use Rattle.cn_core.specs.Whole.{holds, signed_kind}
 use Rattle.cn_quantity.specs.declared.quantity.Quantity.{Quantity}
 use Rattle.cn_quantity.specs.declared.quantity.QuantityForm.TheVariants.{Decimal, Percent}
@@ -25,3 +26,7 @@ figures_are_read_back : IsTrue (holds (signed_kind 128) percentage.numerator)
     × (percentage.denominator < 2 ^ 128) × IsSome (decimals_of percentage)
 unfolding decimals_over
 figures_are_read_back = (refl, omega arith, refl)
+
+-- 一億零一十萬
+no_spelling_is_misread : (100100000 < 2 ^ 128) × IsTrue (is_printable TenThousand (pos 100100000))
+no_spelling_is_misread = (omega arith, refl)

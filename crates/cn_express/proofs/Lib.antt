@@ -1,5 +1,7 @@
 pub mod BareTexts
 pub mod Bytes
+pub mod ClearSpellings
+pub mod ClearTexts
 pub mod Cuts
 pub mod DecimalTexts
 pub mod DigitTexts

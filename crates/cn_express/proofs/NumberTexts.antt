@@ -1,7 +1,7 @@
 -- A text that is a number by itself is read as a whole number or a decimal.
 use Rattle.std.proofs.Common.{◌≡◌, ℕ, zero, suc, ◌^◌, ◌<◌, true, List, None, Some, Ok, refl, sym, ap, ◌∙◌, arith}
 use Rattle.cn_core.specs.declared.method.ChineseCountMethod.{ChineseCountMethod}
-use Rattle.cn_express.proofs.BareTexts.{are_bare, bare-no_fen, bare-no_percent, bare-text}
+use Rattle.cn_express.proofs.BareTexts.{are_bare, bare-no_fen, bare-no_share, bare-text}
 use Rattle.cn_express.proofs.KnownDecimals.{decimal-is, whole-is}
 use Rattle.cn_express.proofs.Ratios.{number-ratio, ratio-fits}
 use Rattle.cn_express.proofs.SignedTexts.{IsUnsigned}
@@ -30,7 +30,7 @@ IsUnsigned-number method number decimals denominator form text n form_is is smal
   written = bare-text text n.bare;
   no_sign = n.no_sign;
   read = number-ratio method (record { number = number; decimals = decimals }) text
-      (bare-no_fen text n.bare) (bare-no_percent text n.bare) n.read
+      (bare-no_fen text n.bare) (bare-no_share text n.bare) n.read
       ∙ ratio-fits 1 number decimals denominator (form_of decimals) (omega (arith, is)) small
       ∙ ap (λ form. Ok (record {
         numerator = number;

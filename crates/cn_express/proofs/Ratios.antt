@@ -1,18 +1,18 @@
 -- Which ratio a text without sign is, from what its parts are answered.
-use Rattle.std.proofs.Common.{◌≡◌, ℕ, ◌+◌, ◌*◌, ◌^◌, ◌<◌, true, false, ◌&&◌, nat_lt, List, [], ◌∷◌, ◌++◌, length, slice_index, Ok, refl, sym, ap, ap₂, ◌∙◌, arith}
+use Rattle.std.proofs.Common.{◌≡◌, ℕ, ◌+◌, ◌*◌, ◌^◌, ◌<◌, true, false, ◌&&◌, nat_lt, List, [], ◌∷◌, ◌++◌, length, slice_index, Some, Ok, refl, sym, ap, ap₂, ◌∙◌, arith}
 use Rattle.std.proofs.lemmas.Bool.Decides.{nat_tests}
 use Rattle.cn_core.specs.declared.method.ChineseCountMethod.{ChineseCountMethod}
 use Rattle.cn_express.specs.Numerals.{bar}
-use Rattle.cn_express.proofs.Cuts.{bar-at, bar-none, lacks, percent-none}
+use Rattle.cn_express.proofs.Cuts.{bar-at, bar-none, lacks, share-none}
 use Rattle.cn_quantity.specs.declared.number.Decimal.{Decimal as DecimalNumber}
 use Rattle.cn_quantity.specs.declared.quantity.QuantityForm.{QuantityForm}
 use Rattle.cn_quantity.specs.declared.quantity.QuantityForm.TheVariants.{Percent}
 use Rattle.cn_quantity.specs.Answer.{and_then, further_by}
-use Rattle.cn_quantity.specs.Characters.{is_fen, is_percent, is_zhi}
+use Rattle.cn_quantity.specs.Characters.{is_fen, is_share, is_zhi, share_of}
 use Rattle.cn_quantity.specs.Number.{divisor_answer, number_answer, part_answer}
-use Rattle.cn_quantity.specs.Ratio.{after_bar, before_bar, form_of, form_over, fraction_answer, is_fraction, is_percentage, ratio_answer, ratio_of}
-use Rattle.cn_quantity.proofs.Bars.{front-taken, percent-some}
-use Rattle.cn_quantity.proofs.Ratios.{a-fraction, a-number, a-percentage}
+use Rattle.cn_quantity.specs.Ratio.{after_bar, before_bar, form_of, form_over, fraction_answer, is_fraction, ratio_answer, ratio_of, share}
+use Rattle.cn_quantity.proofs.Bars.{front-taken, share-some}
+use Rattle.cn_quantity.proofs.Ratios.{a-fraction, a-number, a-share}
 use Rattle.cn_quantity.proofs.Today.{and-none}
 
 -- a ratio whose denominator fits
@@ -59,28 +59,26 @@ no-fraction text no_fen =
 
 -- a percent sign at the end
 pub percent-ratio : (method : ChineseCountMethod) (decimal : DecimalNumber) (sign : ℕ)
-    (text : List ℕ) → lacks is_fen (text ++ sign ∷ []) ≡ true → is_percent sign ≡ true
+    (text : List ℕ) → lacks is_fen (text ++ sign ∷ []) ≡ true → share_of sign ≡ Some 100
     → 0 < length text → number_answer method text ≡ Ok decimal
     → ratio_answer method (text ++ sign ∷ []) ≡ ratio_of 100 Percent decimal
 percent-ratio method decimal sign text no_fen percent some read =
-    a-percentage method (text ++ sign ∷ [])
+    a-share method (text ++ sign ∷ []) 100
     (no-fraction (text ++ sign ∷ []) no_fen) (is text some)
     ∙ ap (λ l. and_then (number_answer method l) (λ decimal. ratio_of 100 Percent decimal))
     (sym (front-taken sign (text ++ sign ∷ []) text refl))
     ∙ ap (λ a. and_then a (λ decimal. ratio_of 100 Percent decimal)) read where
-      is : (text : List ℕ) → 0 < length text → is_percentage (text ++ sign ∷ []) ≡ true
+      is : (text : List ℕ) → 0 < length text → share (text ++ sign ∷ []) ≡ Some 100
       is [] some = absurd (omega (arith, some))
       is (c ∷ rest) some =
-          percent-some sign c (c ∷ rest ++ sign ∷ []) (c ∷ rest) rest refl refl ∙ percent
+          share-some sign c (c ∷ rest ++ sign ∷ []) (c ∷ rest) rest refl refl ∙ percent
 
 -- a text with neither 分之 nor a percent sign
 pub number-ratio : (method : ChineseCountMethod) (decimal : DecimalNumber) (text : List ℕ)
-    → lacks is_fen text ≡ true → lacks is_percent text ≡ true
+    → lacks is_fen text ≡ true → lacks is_share text ≡ true
     → number_answer method text ≡ Ok decimal
     → ratio_answer method text ≡ ratio_of 1 (form_of decimal.decimals) decimal
-number-ratio method decimal text no_fen no_percent read =
+number-ratio method decimal text no_fen no_share read =
     a-number method text
-    (no-fraction text no_fen)
-    (ap (λ b. nat_lt 1 (length text) && b) (percent-none text no_percent)
-    ∙ and-none (nat_lt 1 (length text)))
+    (no-fraction text no_fen) (share-none text no_share)
     ∙ ap (λ a. and_then a (λ decimal. ratio_of 1 (form_of decimal.decimals) decimal)) read

@@ -28,9 +28,11 @@ use Rattle.cn_express.proofs.LastMarks.{digit-as_mark, is_digit}
 use Rattle.cn_judge.proofs.Walking.{rows_have}
 use Rattle.cn_quantity.specs.declared.characters.DigitKind.TheVariants.{Chinese}
 use Rattle.cn_quantity.specs.Characters.{chinese_digit_of, figure_of, sign_of}
-use Rattle.cn_quantity.specs.Number.{is_plain, whole_answer}
+use Rattle.cn_quantity.specs.Misread.{first_misread}
 use Rattle.cn_quantity.specs.Units.{are_rising}
+use Rattle.cn_quantity.specs.WholeNumber.{is_plain, reader_answer, whole_answer}
 use Rattle.cn_quantity.proofs.Today.{digit-no_unit, mark-sign}
+use Rattle.cn_quantity.proofs.WholeNumbers.{whole-reader}
 use Rattle.cn_spell.proofs.Printed.{IsReadBack-marks, each_below, is_printed, no_sign, none_from_is_none}
 use Rattle.cn_spell.proofs.SpelledMarks.{Judges-spelling}
 
@@ -77,10 +79,10 @@ judged method number small square =
     (Judges-spelling method number small square)
 
 -- and read as a whole number, by units or as one digit
-pub spelled-whole : (method : ChineseCountMethod) (number : ℕ) (text : List ℕ) → number < 2 ^ 128
+spelled-read : (method : ChineseCountMethod) (number : ℕ) (text : List ℕ) → number < 2 ^ 128
     → number < scale method 15 * scale method 15 → marks_of text ≡ spelling method number
-    → whole_answer method text ≡ Ok number
-spelled-whole method number text small square same = by (dec_lt number 10) where
+    → reader_answer method text ≡ Ok number
+spelled-read method number text small square same = by (dec_lt number 10) where
   units : judge method (marks_of text) ≡ Ok number
   units = ap (judge method) same ∙ judged method number small square
 
@@ -94,7 +96,7 @@ spelled-whole method number text small square same = by (dec_lt number 10) where
   either true h = h
   either false h = units
 
-  by : Dec (number < 10) → whole_answer method text ≡ Ok number
+  by : Dec (number < 10) → reader_answer method text ≡ Ok number
   by (yes low) = either (is_plain text) (digits low)
   by (no high) =
       let none : is_plain text ≡ false =
@@ -102,6 +104,12 @@ spelled-whole method number text small square same = by (dec_lt number 10) where
       ∙ spelling-unit method number (omega (arith, high)) square in
       ap (λ b. if b then naive_answer (marks_of text) else judge method (marks_of text)) none
       ∙ units
+
+pub spelled-whole : (method : ChineseCountMethod) (number : ℕ) (text : List ℕ) → number < 2 ^ 128
+    → number < scale method 15 * scale method 15 → marks_of text ≡ spelling method number
+    → first_misread text ≡ None → whole_answer method text ≡ Ok number
+spelled-whole method number text small square same clear =
+    whole-reader method text clear ∙ spelled-read method number text small square same
 
 -- each digit is written as a Chinese digit of its value
 pub digits_written : (variant : ChineseVariant) (case : ChineseCase)

@@ -1,13 +1,16 @@
 //! What users may count on, as contracts of functions that do nothing.
-ghost use Rattle.std.specs.Prelude.{◌≡◌, ◌<◌, ◌^◌, IsSome, IsTrue, Ok};
+ghost use Rattle.std.specs.Prelude.{◌≡◌, ℕ, ◌<◌, ◌^◌, IsSome, IsTrue, Ok, false, pos};
 ghost use Rattle.cn_core.specs.declared.case.ChineseCase.{ChineseCase};
 ghost use Rattle.cn_core.specs.declared.method.ChineseCountMethod.{ChineseCountMethod};
 ghost use Rattle.cn_core.specs.declared.script.ChineseVariant.{ChineseVariant};
+ghost use Rattle.cn_core.specs.Printing.{is_printable};
 ghost use Rattle.cn_core.specs.Whole.{holds, signed_kind};
 ghost use Rattle.cn_express.specs.Figures.{figures_text};
+ghost use Rattle.cn_express.specs.Numerals.{magnitude_text};
 ghost use Rattle.cn_express.specs.ReadBack.{form_read_back};
 ghost use Rattle.cn_express.specs.Writes.{IsWritten, numeral_bytes};
 ghost use Rattle.cn_quantity.specs.declared.quantity.Quantity.{Quantity};
+ghost use Rattle.cn_quantity.specs.Misread.{is_misread};
 ghost use Rattle.cn_quantity.specs.Reading.{quantity_answer};
 ghost use Rattle.cn_quantity.specs.Trimmed.{decimals_of, trimmed};
 
@@ -39,4 +42,12 @@ pub fn figures_are_read_back()
         → IsTrue (holds (signed_kind 128) q.numerator) → q.denominator < 2 ^ 128
         → IsSome (decimals_of q)
         → quantity_answer method (figures_text q) ≡ Ok (trimmed q) }
+{}
+
+/// No spelling that is printed is misread, in any script and case and by any method. So each is read
+/// as a quantity of the number that was printed.
+pub fn no_spelling_is_misread()
+    ensures { (variant : ChineseVariant) (case : ChineseCase) (method : ChineseCountMethod)
+        (magnitude : ℕ) → magnitude < 2 ^ 128 → IsTrue (is_printable method (pos magnitude))
+        → is_misread (magnitude_text variant case method magnitude) ≡ false }
 {}

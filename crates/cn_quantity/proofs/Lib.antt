@@ -3,6 +3,7 @@ pub mod Ends
 mod Examples
 pub mod Growing
 mod LawExamples
+pub mod Misreads
 pub mod Numbers
 pub mod Points
 pub mod Ratios
@@ -10,4 +11,5 @@ pub mod Signed
 pub mod Today
 pub mod Told
 pub mod Trims
+pub mod WholeNumbers
 pub mod WholeQuantities

@@ -1,18 +1,18 @@
 -- The answer to a text without sign, from the answers to its parts.
-use Rattle.std.proofs.Common.{◌≡◌, ℕ, suc, ◌+◌, ◌-◌, ◌*◌, ◌^◌, ◌<◌, Bool, true, false, nat_lt, ◌&&◌, List, [], ◌∷◌, length, take, Result, Ok, Err, refl, sym, ap, ◌∙◌, arith, length-take, if◌then◌else◌}
+use Rattle.std.proofs.Common.{◌≡◌, ℕ, suc, ◌+◌, ◌-◌, ◌*◌, ◌^◌, ◌<◌, Bool, true, false, nat_lt, ◌&&◌, List, [], ◌∷◌, length, take, Option, Some, None, Result, Ok, Err, refl, sym, ap, ◌∙◌, arith, length-take, if◌then◌else◌}
+use Rattle.std.specs.Option.{option_map_or}
 use Rattle.cn_core.specs.declared.method.ChineseCountMethod.{ChineseCountMethod}
 use Rattle.cn_core.specs.Refusal.{Refusal, empty, incorrect_at, too_large, too_small}
 use Rattle.cn_core.specs.Text.{text_of}
 use Rattle.cn_judge.specs.Piece.{answer_at}
 use Rattle.cn_quantity.specs.declared.number.Decimal.{Decimal}
 use Rattle.cn_quantity.specs.declared.quantity.QuantityForm.{QuantityForm}
-use Rattle.cn_quantity.specs.declared.quantity.QuantityForm.TheVariants.{Fraction, Percent}
 use Rattle.cn_quantity.specs.declared.ratio.Ratio.{Ratio}
 use Rattle.cn_quantity.specs.Answer.{and_then, further_by}
 use Rattle.cn_quantity.specs.Characters.{is_fen, is_zhi}
 use Rattle.cn_quantity.specs.Number.{divisor_answer, number_answer, part_answer}
 use Rattle.cn_quantity.specs.Private.{IsFront, SplitsAtBar}
-use Rattle.cn_quantity.specs.Ratio.{after_bar, before_bar, form_of, form_over, fraction_answer, is_fraction, is_percentage, ratio_answer, ratio_of}
+use Rattle.cn_quantity.specs.Ratio.{after_bar, before_bar, form_of, form_over, fraction_answer, is_fraction, ratio_answer, ratio_of, share, share_answer}
 use Rattle.cn_quantity.proofs.Numbers.{divisor-within, number-low, part-low}
 use Rattle.cn_quantity.proofs.Told.{told-end, told-front, told-goes_on, told-stops}
 
@@ -42,14 +42,13 @@ pub a-fraction : (method : ChineseCountMethod) (text : List ℕ) → is_fraction
     → ratio_answer method text ≡ fraction_answer method (before_bar text) (after_bar text)
 a-fraction method text e = rw e
 
-pub a-percentage : (method : ChineseCountMethod) (text : List ℕ) → is_fraction text ≡ false
-    → is_percentage text ≡ true
-    → ratio_answer method text ≡ and_then (number_answer method (take (length text - 1) text))
-    (λ decimal. ratio_of 100 Percent decimal)
-a-percentage method text e f = rw (e, f)
+pub a-share : (method : ChineseCountMethod) (text : List ℕ) (divisor : ℕ)
+    → is_fraction text ≡ false → share text ≡ Some divisor
+    → ratio_answer method text ≡ share_answer method divisor text
+a-share method text divisor e f = rw (e, f)
 
 pub a-number : (method : ChineseCountMethod) (text : List ℕ) → is_fraction text ≡ false
-    → is_percentage text ≡ false
+    → share text ≡ None
     → ratio_answer method text ≡ and_then (number_answer method text)
     (λ decimal. ratio_of 1 (form_of decimal.decimals) decimal)
 a-number method text e f = rw (e, f)
@@ -145,49 +144,49 @@ fraction-goes_on method skipped index number bytes divisor behind decimal answer
     (g ∙ behind-told method skipped index bytes divisor behind s)))
 
 -- the answer in front of a percent sign, told in the whole text
-percent-told : (method : ChineseCountMethod) (skipped : ℕ) (bytes before : List ℕ)
+share-told : (method : ChineseCountMethod) (skipped : ℕ) (bytes before : List ℕ)
     → IsFront bytes before
     → text_of before ≡ take (length (text_of bytes) - 1) (text_of bytes)
     → answer_at skipped before (number_answer method (text_of before))
     ≡ answer_at skipped bytes
     (number_answer method (take (length (text_of bytes) - 1) (text_of bytes)))
-percent-told method skipped bytes before f is =
+share-told method skipped bytes before f is =
     told-front skipped bytes before (number_answer method (text_of before)) f
     (number-low method (text_of before))
     ∙ ap (λ l. answer_at skipped bytes (number_answer method l)) is
 
-pub percent-stops : (method : ChineseCountMethod) (skipped : ℕ) (bytes before : List ℕ)
+pub share-stops : (method : ChineseCountMethod) (skipped divisor : ℕ) (bytes before : List ℕ)
     (refusal : Refusal) → is_fraction (text_of bytes) ≡ false
-    → is_percentage (text_of bytes) ≡ true → IsFront bytes before
+    → share (text_of bytes) ≡ Some divisor → IsFront bytes before
     → text_of before ≡ take (length (text_of bytes) - 1) (text_of bytes)
     → Err refusal ≡ answer_at skipped before (number_answer method (text_of before))
     → Err refusal ≡ answer_at skipped bytes (ratio_answer method (text_of bytes))
-percent-stops method skipped bytes before refusal e p f is h =
+share-stops method skipped divisor bytes before refusal e p f is h =
     told-stops skipped bytes
     (number_answer method (take (length (text_of bytes) - 1) (text_of bytes)))
-    (λ decimal. ratio_of 100 Percent decimal) refusal
-    (h ∙ percent-told method skipped bytes before f is)
-    ∙ ap (answer_at skipped bytes) (sym (a-percentage method (text_of bytes) e p))
+    (λ decimal. ratio_of divisor (form_over divisor) decimal) refusal
+    (h ∙ share-told method skipped bytes before f is)
+    ∙ ap (answer_at skipped bytes) (sym (a-share method (text_of bytes) divisor e p))
 
-pub percent-goes_on : (method : ChineseCountMethod) (skipped : ℕ) (bytes before : List ℕ)
+pub share-goes_on : (method : ChineseCountMethod) (skipped divisor : ℕ) (bytes before : List ℕ)
     (decimal : Decimal) (answer : Result Ratio Refusal) → is_fraction (text_of bytes) ≡ false
-    → is_percentage (text_of bytes) ≡ true → IsFront bytes before
+    → share (text_of bytes) ≡ Some divisor → IsFront bytes before
     → text_of before ≡ take (length (text_of bytes) - 1) (text_of bytes)
     → Ok decimal ≡ answer_at skipped before (number_answer method (text_of before))
-    → answer ≡ ratio_of 100 Percent decimal
+    → answer ≡ ratio_of divisor (form_over divisor) decimal
     → answer ≡ answer_at skipped bytes (ratio_answer method (text_of bytes))
-percent-goes_on method skipped bytes before decimal answer e p f front h is =
-    is ∙ ratio-told skipped bytes 100 Percent decimal
-    ∙ ap (answer_at skipped bytes) (sym (a-percentage method (text_of bytes) e p
+share-goes_on method skipped divisor bytes before decimal answer e p f front h is =
+    is ∙ ratio-told skipped bytes divisor (form_over divisor) decimal
+    ∙ ap (answer_at skipped bytes) (sym (a-share method (text_of bytes) divisor e p
     ∙ told-goes_on skipped bytes
     (number_answer method (take (length (text_of bytes) - 1) (text_of bytes)))
-    (λ decimal. ratio_of 100 Percent decimal) decimal
-    (h ∙ percent-told method skipped bytes before f front)))
+    (λ decimal. ratio_of divisor (form_over divisor) decimal) decimal
+    (h ∙ share-told method skipped bytes before f front)))
 
 -- a number by itself
 pub number-stops : (method : ChineseCountMethod) (skipped : ℕ) (bytes : List ℕ)
     (refusal : Refusal) → is_fraction (text_of bytes) ≡ false
-    → is_percentage (text_of bytes) ≡ false
+    → share (text_of bytes) ≡ None
     → Err refusal ≡ answer_at skipped bytes (number_answer method (text_of bytes))
     → Err refusal ≡ answer_at skipped bytes (ratio_answer method (text_of bytes))
 number-stops method skipped bytes refusal e p h =
@@ -197,7 +196,7 @@ number-stops method skipped bytes refusal e p h =
 
 pub number-goes_on : (method : ChineseCountMethod) (skipped : ℕ) (bytes : List ℕ)
     (decimal : Decimal) (answer : Result Ratio Refusal) → is_fraction (text_of bytes) ≡ false
-    → is_percentage (text_of bytes) ≡ false
+    → share (text_of bytes) ≡ None
     → Ok decimal ≡ answer_at skipped bytes (number_answer method (text_of bytes))
     → answer ≡ ratio_of 1 (form_of decimal.decimals) decimal
     → answer ≡ answer_at skipped bytes (ratio_answer method (text_of bytes))
@@ -295,20 +294,19 @@ fraction-low method text place fraction h =
 -- a refusal of a text without sign points into it
 pub ratio-low : (method : ChineseCountMethod) (text : List ℕ) (place : ℕ)
     → ratio_answer method text ≡ Err (incorrect_at place) → place < length text
-ratio-low method text place h = by (is_fraction text) (is_percentage text) refl h where
-  by : (a b : Bool) → is_fraction text ≡ a
+ratio-low method text place h = by (is_fraction text) (share text) refl h where
+  by : (a : Bool) (b : Option ℕ) → is_fraction text ≡ a
       → (if a then fraction_answer method (before_bar text) (after_bar text)
-      else (if b then and_then (number_answer method (take (length text - 1) text))
-      (λ decimal. ratio_of 100 Percent decimal)
-      else and_then (number_answer method text)
+      else option_map_or (λ divisor. share_answer method divisor text) b
+      (and_then (number_answer method text)
       (λ decimal. ratio_of 1 (form_of decimal.decimals) decimal))) ≡ Err (incorrect_at place)
       → place < length text
   by true b e h = fraction-low method text place e h
-  by false true e h =
-      let first = over-refused (number_answer method (take (length text - 1) text)) 100
-      (λ decimal. Percent) place h in
+  by false (Some divisor) e h =
+      let first = over-refused (number_answer method (take (length text - 1) text)) divisor
+      (λ decimal. form_over divisor) place h in
       let low = number-low method (take (length text - 1) text) place first in
       omega (arith, low, length-take (length text - 1) text)
-  by false false e h =
+  by false None e h =
       number-low method text place
       (over-refused (number_answer method text) 1 (λ decimal. form_of decimal.decimals) place h)

@@ -1,5 +1,5 @@
 -- Which characters a quantity has beside those of numerals.
-use Rattle.std.specs.Prelude.{ℕ, Bool, List, [], ◌∷◌, codes, Option, Some, None, if◌then◌else◌}
+use Rattle.std.specs.Prelude.{ℕ, Bool, List, [], ◌∷◌, codes, Option, Some, None, is_some, if◌then◌else◌}
 use Rattle.std.specs.Char.{char_set_contains, is_ascii_digit}
 use Rattle.cn_core.specs.declared.sign.Sign.{Sign}
 use Rattle.cn_core.specs.declared.sign.Sign.TheVariants.{Plus, Minus}
@@ -44,10 +44,16 @@ is_point Figure c = char_set_contains (codes ".．") c
 is_point Chinese c = char_set_contains (codes "點点") c
 
 unfoldable pub is_comma : ℕ → Bool
-is_comma c = char_set_contains (codes ",") c
+is_comma c = char_set_contains (codes ",，") c
 
-unfoldable pub is_percent : ℕ → Bool
-is_percent c = char_set_contains (codes "%％") c
+-- what a sign at the end of a share divides by: a percent sign by 100, and ‰ by 1000
+unfoldable pub share_of : ℕ → Option ℕ
+share_of c =
+    if char_set_contains (codes "%％") c then Some 100
+    else (if char_set_contains (codes "‰") c then Some 1000 else None)
+
+abbrev pub is_share : ℕ → Bool
+is_share c = is_some (share_of c)
 
 -- the two characters of 分之
 unfoldable pub is_fen : ℕ → Bool

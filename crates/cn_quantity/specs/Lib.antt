@@ -3,6 +3,7 @@ pub mod Characters
 pub mod Decimal
 pub mod Digits
 pub mod Figures
+pub mod Misread
 pub mod Number
 pub mod Private
 pub mod Ratio
@@ -10,3 +11,4 @@ pub mod Reading
 pub mod Trimmed
 pub mod Units
 pub mod Whole
+pub mod WholeNumber

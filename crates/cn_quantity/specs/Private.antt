@@ -1,11 +1,15 @@
 -- What contracts of private functions cite: ends of a string, and answers to pieces of it.
-use Rattle.std.specs.Prelude.{◌≡◌, ℕ, ◌+◌, List, [], ◌∷◌, ◌++◌, length, chars, Option}
+use Rattle.std.specs.Prelude.{◌≡◌, ℕ, ◌+◌, List, [], ◌∷◌, ◌++◌, length, chars, reverse, Option, Some}
 use Rattle.cn_core.specs.declared.sign.Sign.{Sign}
+use Rattle.cn_core.specs.Mark.{Mark, mark_of}
 use Rattle.cn_core.specs.Reading.{too_far}
 use Rattle.cn_core.specs.Refusal.{Refusal, too_large}
-use Rattle.cn_core.specs.Text.{text_of}
+use Rattle.cn_core.specs.Text.{marks_of, text_of}
+use Rattle.cn_judge.specs.Marked.{marked}
 use Rattle.cn_judge.specs.Piece.{StandsAt}
+use Rattle.cn_quantity.specs.declared.misread.Before.{Before}
 use Rattle.cn_quantity.specs.Decimal.{after_point, before_point}
+use Rattle.cn_quantity.specs.Misread.{bare_ten, first_misread}
 use Rattle.cn_quantity.specs.Ratio.{after_bar, before_bar}
 
 -- the string ends with this one
@@ -46,3 +50,17 @@ pub record SplitsAtBar (bytes divisor : List ℕ) (index : ℕ) (behind : List �
 abbrev pub signed_refusal : Option Sign → Refusal → Refusal
 signed_refusal sign too_large = too_far sign
 signed_refusal sign refusal = refusal
+
+-- the marks of the characters before a place, the nearest first
+abbrev pub marks_before : Before → List Mark
+marks_before before = marked before.first ∷ marked before.second ∷ marked before.third ∷ []
+
+-- what stands before the first misread character of a string, that character and what stands after
+-- it, and the rank of the unit that it stands after, where it is a bare ten
+pub record SplitsAtMisread (bytes before from : List ℕ) (bare : Option ℕ) : Type 0 where
+  pub first : ℕ
+  pub after : List ℕ
+  pub place : first_misread (text_of bytes) ≡ Some (length (text_of before))
+  pub parts : chars bytes ≡ chars before ++ chars from
+  pub from_is : text_of from ≡ first ∷ after
+  pub bare_is : bare ≡ bare_ten (marks_of (reverse (text_of before))) (mark_of first)

@@ -1,5 +1,6 @@
 -- What a text without sign is worth: a fraction, a percentage, or a number by itself.
-use Rattle.std.specs.Prelude.{ℕ, zero, suc, ◌+◌, ◌-◌, ◌*◌, ◌^◌, Bool, false, ◌&&◌, ◌==◌, nat_lt, List, [], ◌∷◌, length, take, Result, Ok, Err, if◌then◌else◌}
+use Rattle.std.specs.Prelude.{ℕ, zero, suc, ◌+◌, ◌-◌, ◌*◌, ◌^◌, Bool, false, ◌&&◌, ◌==◌, nat_lt, List, [], ◌∷◌, length, take, Option, None, Result, Ok, Err, if◌then◌else◌}
+use Rattle.std.specs.Option.{option_map_or}
 use Rattle.cn_core.specs.declared.method.ChineseCountMethod.{ChineseCountMethod}
 use Rattle.cn_core.specs.Refusal.{Refusal, too_large}
 use Rattle.cn_quantity.specs.declared.number.Decimal.{Decimal as DecimalNumber}
@@ -7,7 +8,7 @@ use Rattle.cn_quantity.specs.declared.quantity.QuantityForm.{QuantityForm}
 use Rattle.cn_quantity.specs.declared.quantity.QuantityForm.TheVariants.{Whole, Decimal, Percent, Fraction}
 use Rattle.cn_quantity.specs.declared.ratio.Ratio.{Ratio}
 use Rattle.cn_quantity.specs.Answer.{and_then, further_by}
-use Rattle.cn_quantity.specs.Characters.{is_fen, is_zhi, is_percent}
+use Rattle.cn_quantity.specs.Characters.{is_fen, is_zhi, share_of}
 use Rattle.cn_quantity.specs.Number.{divisor_answer, number_answer, part_answer}
 
 -- a number over a divisor, as written, if what is below the line fits 128 bits: over 100, 12.5 is
@@ -54,22 +55,26 @@ fraction_answer method before behind =
     and_then (further_by (length before + 2) (part_answer method behind))
     (λ decimal. ratio_of divisor (form_over divisor) decimal))
 
--- the last character is a percent sign
-abbrev pub ends_with_percent : List ℕ → Bool
-ends_with_percent [] = false
-ends_with_percent (c ∷ []) = is_percent c
-ends_with_percent (c ∷ next ∷ rest) = ends_with_percent (next ∷ rest)
+-- what the last character divides by
+abbrev pub last_share : List ℕ → Option ℕ
+last_share [] = None
+last_share (c ∷ []) = share_of c
+last_share (c ∷ next ∷ rest) = last_share (next ∷ rest)
 
--- a percent sign at the end, and something in front of it
-abbrev pub is_percentage : List ℕ → Bool
-is_percentage text = nat_lt 1 (length text) && ends_with_percent text
+-- what a percent sign or ‰ at the end divides by, with something before it
+abbrev pub share : List ℕ → Option ℕ
+share text = if nat_lt 1 (length text) then last_share text else None
+
+-- a percentage or a per mille: the number before its sign, over what the sign divides by
+abbrev pub share_answer : ChineseCountMethod → ℕ → List ℕ → Result Ratio Refusal
+share_answer method divisor text =
+    and_then (number_answer method (take (length text - 1) text))
+    (λ decimal. ratio_of divisor (form_over divisor) decimal)
 
 -- the answer to a text without sign
 abbrev pub ratio_answer : ChineseCountMethod → List ℕ → Result Ratio Refusal
 ratio_answer method text =
     if is_fraction text then fraction_answer method (before_bar text) (after_bar text)
-    else (if is_percentage text
-    then and_then (number_answer method (take (length text - 1) text))
-    (λ decimal. ratio_of 100 Percent decimal)
-    else and_then (number_answer method text)
+    else option_map_or (λ divisor. share_answer method divisor text) (share text)
+    (and_then (number_answer method text)
     (λ decimal. ratio_of 1 (form_of decimal.decimals) decimal))

@@ -1,6 +1,6 @@
 // Which characters a quantity has beside those of numerals.
-ghost use Rattle.std.specs.Prelude.{◌≡◌};
-ghost use Rattle.cn_quantity.specs.Characters.{chinese_digit_of, digit_by, figure_of, is_comma, is_fen, is_percent, is_point, is_zhi, sign_of, tens_of};
+ghost use Rattle.std.specs.Prelude.{◌≡◌, ◌<◌, IfSome};
+ghost use Rattle.cn_quantity.specs.Characters.{chinese_digit_of, digit_by, figure_of, is_comma, is_fen, is_point, is_zhi, share_of, sign_of, tens_of};
 
 use cn_core::{Sign, digit_of};
 
@@ -92,15 +92,20 @@ pub fn is_point(kind: DigitKind, c: char) -> bool
 pub fn is_comma(c: char) -> bool
     ensures { result ≡ is_comma c }
 {
-    c == ','
+    matches!(c, ',' | '，')
 }
 
-/// Whether the character is a percent sign.
-#[tactic(auto, unfolding(crate::specs::Characters::is_percent))]
-pub fn is_percent(c: char) -> bool
-    ensures { result ≡ is_percent c }
+/// What a sign at the end of a share divides by: 100 for a percent sign, 1000 for ‰.
+#[tactic(auto, unfolding(crate::specs::Characters::share_of))]
+pub fn share_of(c: char) -> Option<u128>
+    ensures value { result ≡ share_of c }
+    ensures above { IfSome result (λ divisor. 0 < divisor) }
 {
-    matches!(c, '%' | '％')
+    match c {
+        '%' | '％' => Some(100),
+        '‰' => Some(1000),
+        _ => None,
+    }
 }
 
 /// Whether the character is the first one of 分之.

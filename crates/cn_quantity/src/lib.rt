@@ -8,12 +8,14 @@ mod decimal;
 mod digits;
 mod figures;
 pub mod laws;
+mod misread;
 mod number;
 mod pieces;
 mod quantity;
 mod ratio;
 mod trimmed;
 mod units;
+mod whole_number;
 
 pub use quantity::{Quantity, QuantityForm, chinese_to_quantity};
 pub use trimmed::decimals_of;

@@ -1,14 +1,14 @@
 // What a text without sign is worth: a fraction, a percentage, or a number by itself.
-ghost use Rattle.std.specs.Prelude.{◌≡◌, ℕ, ◌+◌, ◌-◌, ◌*◌, ◌^◌, ◌<◌, ◌≤◌, ◌&&◌, true, false, [], length, take, IfSome, MatchOption, SomeIff};
+ghost use Rattle.std.specs.Prelude.{◌≡◌, ℕ, ◌+◌, ◌-◌, ◌*◌, ◌^◌, ◌<◌, ◌≤◌, ◌&&◌, true, false, [], length, take, IfSome, MatchOption, None, Some, SomeIff};
 ghost use Rattle.cn_core.specs.Text.{text_of};
 ghost use Rattle.cn_judge.specs.Answer.{answer_of};
 ghost use Rattle.cn_judge.specs.Piece.{answer_at};
 ghost use Rattle.cn_quantity.specs.Characters.{is_fen, is_zhi};
 ghost use Rattle.cn_quantity.specs.Private.{BeginsWith, IsFront, SplitsAtBar};
-ghost use Rattle.cn_quantity.specs.Ratio.{after_bar, begins_with_zhi, form_of, form_over, is_fraction, is_percentage, ratio_answer, ratio_of};
+ghost use Rattle.cn_quantity.specs.Ratio.{after_bar, begins_with_zhi, form_of, form_over, is_fraction, ratio_answer, ratio_of, share};
 
 use crate::QuantityForm;
-use crate::characters::{is_fen, is_percent, is_zhi};
+use crate::characters::{is_fen, is_zhi, share_of};
 use crate::number::{Decimal, judge_divisor, judge_number, judge_part};
 use crate::pieces::{before_end, split_first, split_last};
 use cn_core::{ChineseCountMethod, power_of_ten};
@@ -119,18 +119,20 @@ fn split_fraction(text: &str) -> Option<Bar<'_>>
     Some(bar)
 }
 
-// What stands in front of the percent sign, if the text is a percentage.
-fn split_percent(text: &str) -> Option<&str>
-    ensures percentage { MatchOption result (is_percentage (text_of text.now) ≡ false)
-        (λ _. is_percentage (text_of text.now) ≡ true) }
-    ensures parts { IfSome result (λ r. text_of r.now
+// What stands before a percent sign or ‰ at the end, if something does, and what the sign divides by.
+fn split_share(text: &str) -> Option<(&str, u128)>
+    ensures share { MatchOption result (share (text_of text.now) ≡ None)
+        (λ r. share (text_of text.now) ≡ Some r.1) }
+    ensures above { IfSome result (λ r. 0 < r.1) }
+    ensures parts { IfSome result (λ r. text_of r.0.now
         ≡ take (length (text_of text.now) - 1) (text_of text.now)) }
-    ensures front { IfSome result (λ r. IsFront text.now r.now) }
-    ensures shorter { IfSome result (λ r. length r.now < length text.now) }
+    ensures front { IfSome result (λ r. IsFront text.now r.0.now) }
+    ensures shorter { IfSome result (λ r. length r.0.now < length text.now) }
 {
     let (c, before) = split_last(text)?;
     split_first(before)?;
-    if is_percent(c) { Some(before) } else { None }
+    let divisor = share_of(c)?;
+    Some((before, divisor))
 }
 
 // The form of what is over a divisor.
@@ -159,9 +161,9 @@ pub fn judge_ratio(
         let decimal = judge_part(method, skipped + bar.skipped, bar.behind)?;
         return ratio_of(divisor, form_over(divisor), decimal);
     }
-    if let Some(before) = split_percent(text) {
+    if let Some((before, divisor)) = split_share(text) {
         let decimal = judge_number(method, skipped, before)?;
-        return ratio_of(100, QuantityForm::Percent, decimal);
+        return ratio_of(divisor, form_over(divisor), decimal);
     }
     let decimal = judge_number(method, skipped, text)?;
     ratio_of(1, form_of(decimal.decimals), decimal)

@@ -1,6 +1,6 @@
 use Rattle.std.proofs.Common.{ap, ◌∙◌}
 use Rattle.cn_quantity.specs.Ratio.{ratio_of}
-use Rattle.cn_quantity.proofs.Ratios.{fraction-stops, fraction-stops_behind, fraction-goes_on, percent-stops, percent-goes_on, number-stops, number-goes_on}
+use Rattle.cn_quantity.proofs.Ratios.{fraction-stops, fraction-stops_behind, fraction-goes_on, share-stops, share-goes_on, number-stops, number-goes_on}
 use Rattle.cn_quantity.proofs.Told.{err-told}
 use Rattle.cn_quantity.proofs.ratio.judge_ratio.Goals as goal
 
@@ -31,28 +31,31 @@ returns-in-Some c =
 pub returns-in_err-decimal-2 : goal.returns-in_err-decimal-2
 returns-in_err-decimal-2 c =
     err-told (λ r. r) _ _ c.from_residual-in_err-decimal-2.ensures
-    ∙ percent-stops c.args.method c.args.skipped c.args.text.now _ _
-    c.in_default.ensures.fraction c.in-Some-split_percent.ensures.percentage
-    c.in-Some-split_percent.ensures.front c.in-Some-split_percent.ensures.parts
+    ∙ share-stops c.args.method c.args.skipped _ c.args.text.now _ _
+    c.in_default.ensures.fraction c.in-Some-split_share.ensures.share
+    c.in-Some-split_share.ensures.front c.in-Some-split_share.ensures.parts
     c.in_err-decimal-2.ensures
 
-pub returns-in-Some-split_percent : goal.returns-in-Some-split_percent
-returns-in-Some-split_percent c =
-    percent-goes_on c.args.method c.args.skipped c.args.text.now _ _ _
-    c.in_default.ensures.fraction c.in-Some-split_percent.ensures.percentage
-    c.in-Some-split_percent.ensures.front c.in-Some-split_percent.ensures.parts
-    c.in_ok-decimal-2.ensures c.ratio_of-in-Some-split_percent.ensures
+pub returns-in-Some-split_share : goal.returns-in-Some-split_share
+returns-in-Some-split_share c =
+    share-goes_on c.args.method c.args.skipped _ c.args.text.now _ _ _
+    c.in_default.ensures.fraction c.in-Some-split_share.ensures.share
+    c.in-Some-split_share.ensures.front c.in-Some-split_share.ensures.parts
+    c.in_ok-decimal-2.ensures
+    (c.ratio_of-in-Some-split_share.ensures
+    ∙ ap (λ f. ratio_of c.in-Some-split_share.divisor f c.in_ok-decimal-2.decimal)
+    c.form_over-in-Some-split_share.ensures)
 
 pub returns-in_err-decimal-3 : goal.returns-in_err-decimal-3
 returns-in_err-decimal-3 c =
     err-told (λ r. r) _ _ c.from_residual-in_err-decimal-3.ensures
     ∙ number-stops c.args.method c.args.skipped c.args.text.now _
-    c.in_default.ensures.fraction c.in_default-split_percent.ensures.percentage
+    c.in_default.ensures.fraction c.in_default-split_share.ensures.share
     c.in_err-decimal-3.ensures
 
 pub returns : goal.returns
 returns c =
     number-goes_on c.args.method c.args.skipped c.args.text.now _ _
-    c.in_default.ensures.fraction c.in_default-split_percent.ensures.percentage
+    c.in_default.ensures.fraction c.in_default-split_share.ensures.share
     c.in_ok-decimal-3.ensures
     (c.ratio_of-2.ensures ∙ ap (λ f. ratio_of 1 f c.in_ok-decimal-3.decimal) c.form_of.ensures)
