@@ -1,5 +1,5 @@
 -- A written number, with decimals or without, is read as that number.
-use Rattle.std.proofs.Common.{◌≡◌, ℕ, zero, suc, ◌*◌, ◌/◌, ◌^◌, ◌<◌, pos, Bool, true, false, ◌&&◌, nat_lt, is_none, is_some, List, [], ◌∷◌, ◌++◌, length, map, Some, None, Ok, refl, ap, ap₂, ◌∙◌, arith, if◌then◌else◌, append-nil}
+use Rattle.std.proofs.Common.{◌≡◌, ℕ, zero, suc, ◌/◌, ◌^◌, ◌<◌, Bool, true, false, ◌&&◌, nat_lt, is_none, is_some, List, [], ◌∷◌, ◌++◌, length, map, Some, None, Ok, refl, ap, ap₂, ◌∙◌, arith, if◌then◌else◌, append-nil}
 use Rattle.std.specs.Char.{is_ascii_digit}
 use Rattle.std.specs.List.{list_all}
 use Rattle.std.proofs.lemmas.Bool.Decides.{nat_tests}
@@ -11,10 +11,8 @@ use Rattle.cn_core.specs.declared.script.ChineseVariant.TheVariants.{Traditional
 use Rattle.cn_core.specs.Characters.{digit_of, rank_of, digit_char}
 use Rattle.cn_core.specs.Mark.{Mark, mark_of}
 use Rattle.cn_core.specs.Numeral.{is_digit_or_unit, starts_with_digit, with_first_digit}
-use Rattle.cn_core.specs.Printing.{is_printable, mark_char}
-use Rattle.cn_core.specs.Scale.{scale}
+use Rattle.cn_core.specs.Printing.{mark_char}
 use Rattle.cn_core.specs.Spelling.{spelling}
-use Rattle.cn_core.specs.Text.{marks_of}
 use Rattle.cn_core.proofs.Fronts.{and-left, and-right, both}
 use Rattle.cn_core.proofs.ReadBack.{spelling-is_numeral}
 use Rattle.cn_express.specs.Digits.{behind_point, last_digits}

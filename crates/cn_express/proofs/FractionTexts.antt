@@ -1,5 +1,5 @@
 -- A written fraction is read as that fraction.
-use Rattle.std.proofs.Common.{◌≡◌, ℕ, ◌*◌, ◌^◌, ◌<◌, ◌≤◌, pos, Bool, true, false, ◌&&◌, ◌||◌, ◌==◌, nat_le, nat_lt, is_none, List, [], ◌∷◌, ◌++◌, length, map, Option, Some, None, Ok, Err, refl, sym, ap, ◌∙◌, arith, if◌then◌else◌}
+use Rattle.std.proofs.Common.{◌≡◌, ℕ, ◌*◌, ◌^◌, ◌<◌, ◌≤◌, Bool, true, false, ◌&&◌, ◌||◌, ◌==◌, nat_le, nat_lt, is_none, List, [], ◌∷◌, ◌++◌, length, map, Option, Some, None, Ok, Err, refl, sym, ap, ◌∙◌, arith, if◌then◌else◌}
 use Rattle.std.specs.List.{list_all}
 use Rattle.std.specs.Option.{option_map_or}
 use Rattle.std.proofs.lemmas.Bool.Decides.{nat_tests}
@@ -11,14 +11,12 @@ use Rattle.cn_core.specs.Characters.{rank_of, digit_char}
 use Rattle.cn_core.specs.Mark.{Mark, digit, mark_of}
 use Rattle.cn_core.specs.Numeral.{is_digit_or_unit}
 use Rattle.cn_core.specs.Place.{some_unfit}
-use Rattle.cn_core.specs.Printing.{is_printable, mark_char}
+use Rattle.cn_core.specs.Printing.{mark_char}
 use Rattle.cn_core.specs.Refusal.{incorrect_at}
-use Rattle.cn_core.specs.Scale.{scale}
 use Rattle.cn_core.specs.Spelling.{spelling}
 use Rattle.cn_core.specs.Text.{marks_of}
 use Rattle.cn_core.specs.Value.{numeral_value, weight}
 use Rattle.cn_core.proofs.Fronts.{and-left, and-right, both}
-use Rattle.cn_core.proofs.ReadBack.{spelling-is_numeral}
 use Rattle.cn_express.specs.Numerals.{divisor_text, stand_alone, without_front}
 use Rattle.cn_express.proofs.DecimalTexts.{IsSpelled, IsSpelled-magnitude, part-whole, printed-marks}
 use Rattle.cn_express.proofs.SpelledNumbers.{mark_read}
