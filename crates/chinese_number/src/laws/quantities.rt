@@ -7,7 +7,9 @@ ghost use Rattle.cn_core.specs.Whole.{signed_kind};
 ghost use Rattle.cn_quantity.specs.declared.quantity.QuantityForm.TheVariants.{Whole};
 ghost use Rattle.cn_quantity.specs.Reading.{quantity_answer};
 
-pub use cn_express::laws::{figures_are_read_back, what_is_written_is_read_back};
+pub use cn_express::laws::{
+    figures_are_read_back, middle_is_read_by_ten_thousand, what_is_written_is_read_back,
+};
 pub use cn_quantity::laws::refusals_point_at_characters;
 
 /// A number stays that number: what is read as an `i128`, by the method or as plain digits, is as a
