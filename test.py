@@ -15,7 +15,7 @@ Each language has a program `answers` in bindings/. It is given questions, a lin
 parted by tabs. An answer is `ok` and what the call gives, or `err` and the error's text:
 
     read KIND WAY TEXT                  the number of a text; docs/RULES.md has these names, and
-                                        `any` is plain digits or, else, ten_thousand
+                                        `any` is either way
     print KIND WAY SCRIPT CASE NUMBER   the text of a number
     read_amount TEXT                    the fen of a text
     print_amount SCRIPT FEN             the text of an amount

@@ -30,6 +30,7 @@ OF_CALLS = {
     "Numbers in a text": ["find"],
     "What is told of a number": ["flags"],
     "Either way": ["read", "i64", "any"],
+    "Written either way": ["print", "i64", "any", "simple", "lower"],
     "Quantities": ["read_quantity", "ten_thousand"],
     "Quantities written": ["print_quantity", "ten_thousand", "simple", "lower"],
     "Quantities in figures": ["quantity_figures"],

@@ -100,7 +100,7 @@ def test_by_ctypes(native, which):
 
 FRONTS = {
     "to_number": "(text, *, kind=<Kind.I128: 'i128'>, way=<Way.ANY: 'any'>)",
-    "to_chinese": "(number, *, kind=<Kind.I128: 'i128'>, way=<Way.TEN_THOUSAND: 'ten_thousand'>, "
+    "to_chinese": "(number, *, kind=<Kind.I128: 'i128'>, way=<Way.ANY: 'any'>, "
     "script=<Script.SIMPLIFIED: 'simplified'>, case=<Case.LOWER: 'lower'>)",
 }
 
@@ -139,7 +139,7 @@ def test_unusual(numerals, library):
         ("to_chinese", (True,), {}),
         ("to_chinese", (1 << 63,), {}),
         ("to_chinese", (-1,), {"kind": "u64"}),
-        ("to_chinese", (1,), {"way": "any"}),
+        ("to_chinese", (1,), {"way": "naive"}),
         ("to_chinese", (), {"number": 1, "case": "upper"}),
         ("to_chinese", (1, 2, 3), {"case": "upper"}),
         ("to_chinese", (1,), {"other": 1}),

@@ -314,7 +314,7 @@ static int write_in_numerals(const char *text, const cn_span *span, char *room, 
                                         CN_TEN_THOUSAND, &quantity);
     if (status != CN_DONE || quantity.form == CN_FRACTION)
         return 0;
-    status = cn_print_quantity(&quantity, CN_TEN_THOUSAND, CN_SIMPLIFIED, CN_LOWER, room, room_length);
+    status = cn_print_quantity(&quantity, CN_ANY, CN_SIMPLIFIED, CN_LOWER, room, room_length);
     return status == CN_DONE;
 }
 

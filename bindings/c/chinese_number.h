@@ -97,10 +97,10 @@ typedef enum cn_kind CN_OF_CODE {
 typedef enum cn_way CN_OF_CODE {
     CN_DIGITS = 0,
     CN_LOW = 1,          /* each unit is ten times the one before: 億 is 10^5 */
-    CN_TEN_THOUSAND = 2, /* the one to use: after 萬 each is 10^4 times the one before. 10^12 is 兆, as in Taiwan; by the next two 萬億, as on the mainland */
+    CN_TEN_THOUSAND = 2, /* after 萬 each is 10^4 times the one before: 10^12 is 兆, as in Taiwan; by the next two 萬億, as on the mainland */
     CN_MIDDLE = 3,       /* after 億 each is 10^8 times the one before: 兆 is 10^16, 京 is 10^24 */
     CN_HIGH = 4,         /* from 億 on each is the square of the one before: 兆 is 10^16, 京 is 10^32 */
-    CN_ANY = 5           /* for reading alone: digits as CN_DIGITS, with a sign or without, and any other text as CN_TEN_THOUSAND */
+    CN_ANY = 5           /* the one to use. Reads digits as CN_DIGITS, with a sign or without, any other text as CN_TEN_THOUSAND. Writes what it reads back: as CN_MIDDLE in CN_SIMPLIFIED below 10^16, so that 10^12 is 一万亿, and else as CN_TEN_THOUSAND */
 } cn_way;
 
 /* The script of a printed text: 萬 or 万. Both are read. */
@@ -169,7 +169,7 @@ typedef enum cn_status CN_OF_CODE {
     CN_NOT_UTF8 = 5,  /* read, find, replace: the bytes are no UTF-8; find: no character begins at `from`, nor does the text end there */
     CN_NO_ROOM = 6,   /* print, replace: the text has more bytes than the room; *length says how many */
     CN_NOT_HELD = 7,  /* print: the type does not hold the number */
-    CN_UNKNOWN = 8,   /* a code names no type, way, script, case, form, unit or flag; CN_ANY is no way to print, and CN_DIGITS and CN_ANY are no method */
+    CN_UNKNOWN = 8,   /* a code names no type, way, script, case, form, unit or flag; CN_DIGITS is no method */
     CN_UNFINISHED = 9, /* read an amount, figures or a date: the text is none, but something behind it can make it one */
     CN_NONE = 10,      /* cn_find_next, cn_find_next_quantity: there is no further one in the text */
     CN_NOT_A_DATE = 11, /* print a date: there is no such date */
@@ -266,9 +266,9 @@ uint32_t chinese_number_find(const uint8_t *text, size_t text_length, size_t fro
 uint32_t chinese_number_find_utf8(const uint8_t *text, size_t text_length, size_t from, uint32_t upper, uint32_t greatest,
                                   cn_span *spans, size_t most, size_t *count);
 
-/* Reads a text, in UTF-8, as a quantity by a method, CN_LOW to CN_HIGH: a whole number, a decimal, a percentage or a
- * fraction, in figures, in numerals or in both, with one sign in front or none. Writes *quantity whole at each status, and
- * nothing else.
+/* Reads a text, in UTF-8, as a quantity by a method, CN_LOW to CN_HIGH, or by CN_ANY, which is CN_TEN_THOUSAND here: a
+ * whole number, a decimal, a percentage or a fraction, in figures, in numerals or in both, with one sign in front or none.
+ * Writes *quantity whole at each status, and nothing else.
  *
  * Returns CN_DONE, CN_EMPTY, CN_INCORRECT, CN_TOO_LARGE, CN_TOO_SMALL, CN_NOT_UTF8 or CN_UNKNOWN. */
 uint32_t chinese_quantity_read(const uint8_t *text, size_t text_length, uint32_t method, cn_quantity *quantity);
@@ -282,11 +282,12 @@ uint32_t chinese_quantity_find(const uint8_t *text, size_t text_length, size_t f
 uint32_t chinese_quantity_find_utf8(const uint8_t *text, size_t text_length, size_t from, uint32_t upper, uint32_t greatest,
                                     cn_span *spans, size_t most, size_t *count);
 
-/* Prints a quantity by a method, CN_LOW to CN_HIGH, at the start of a room, in UTF-8: 三点一四 for 314/100 of CN_DECIMAL,
- * 百分之十二点五 for 125/1000 of CN_PERCENT, 三分之一 for 1/3. A quantity whose denominator is not one of its form (1 of a
- * whole number, 10, 100 and so on of a decimal, 100, 1000 and so on of a percentage) is printed as a fraction. What is
- * printed is read by chinese_quantity_read as the same numerator and denominator. Its char_index and byte_index are not
- * looked at. Length and room as with chinese_number_print.
+/* Prints a quantity by a method, CN_LOW to CN_HIGH, or by CN_ANY, at the start of a room, in UTF-8: 三点一四 for 314/100
+ * of CN_DECIMAL, 百分之十二点五 for 125/1000 of CN_PERCENT, 三分之一 for 1/3. By CN_ANY it goes by CN_MIDDLE where the
+ * script is CN_SIMPLIFIED and each number that is spelled in it is below 10^16, and else by CN_TEN_THOUSAND. A quantity
+ * whose denominator is not one of its form (1 of a whole number, 10, 100 and so on of a decimal, 100, 1000 and so on of
+ * a percentage) is printed as a fraction. What is printed is read by chinese_quantity_read as the same numerator and
+ * denominator. Its char_index and byte_index are not looked at. Length and room as with chinese_number_print.
  *
  * Returns CN_DONE, CN_TOO_LARGE, CN_TOO_SMALL, CN_NO_ROOM, CN_NOT_A_QUANTITY or CN_UNKNOWN (also where its form is none). A
  * room of CN_MOST_QUANTITY_BYTES is never too small. */

@@ -26,7 +26,7 @@
 
 namespace chinese_number {
 
-/* In which way a number is written; by `any` it is read alone. */
+/* In which way a number is read or written; `any` goes by the text, and by the script and the number. */
 enum class Way : std::uint32_t {
     digits = CN_DIGITS, low = CN_LOW, ten_thousand = CN_TEN_THOUSAND, middle = CN_MIDDLE, high = CN_HIGH, any = CN_ANY
 };
@@ -53,7 +53,7 @@ enum class Status : std::uint32_t {
 
 /* How a number is printed. */
 struct Style {
-    Way way = Way::ten_thousand;
+    Way way = Way::any;
     Script script = Script::simplified;
     Case letter_case = Case::lower;
 };
@@ -272,7 +272,7 @@ struct Quantity {
     Quantity trimmed() const;
 
     /* Its text: 三点五, 百分之十二点五, 三分之一. There is none where the denominator is 0 (Status::not_a_quantity), and by
-     * Way::low where a number in it is 10^16 or more; the style's way is a method. */
+     * Way::low where a number in it is 10^16 or more; the style's way is none of Way::digits. */
     Result<std::string> to_chinese(Style style = {}) const;
 
     /* Its text in figures, without the zeros at the end of its decimals: 35000, -3.5, 12.5%, 1/3. */
@@ -291,7 +291,7 @@ private:
 };
 
 /* The exact quantity of a text, by a method: a whole number, a decimal, a percentage or a fraction, as 3.5万 and 三分之一. */
-inline Result<Quantity> chinese_to_quantity(std::string_view text, Way method = Way::ten_thousand) {
+inline Result<Quantity> chinese_to_quantity(std::string_view text, Way method = Way::any) {
     cn_quantity read;
     const cn_status status = cn_read_quantity(text.data(), text.size(), static_cast<cn_way>(method), &read);
     const Quantity quantity = {read.numerator, read.denominator, static_cast<QuantityForm>(read.form)};
@@ -330,7 +330,7 @@ inline std::string Quantity::to_figures() const {
     return cn_quantity_figures(&quantity, room, sizeof room) == CN_DONE ? room : "";
 }
 
-/* The text of a number in halves. By Way::low there is none for 10^16 and more, and by Way::any none at all. */
+/* The text of a number in halves. By Way::low there is none for 10^16 and more. */
 inline Result<std::string> to_chinese(cn_number number, cn_kind kind, Style style = {}) {
     char room[CN_MOST_BYTES + 1];
     const cn_status status =
@@ -425,18 +425,18 @@ struct Found {
 
     /* The number: plain digits as such, and else by a method. */
     template <typename T>
-    Result<T> number(Way method = Way::ten_thousand) const {
+    Result<T> number(Way method = Way::any) const {
         return to_number<T>(text, is_plain ? Way::digits : method);
     }
 
     /* The number, or nothing where the run is none, as 百 by itself, or the type does not hold it. */
     template <typename T>
-    std::optional<T> value(Way method = Way::ten_thousand) const {
+    std::optional<T> value(Way method = Way::any) const {
         return number<T>(method).optional();
     }
 
     /* The exact quantity of its text, as find_quantities finds them. */
-    Result<Quantity> quantity(Way method = Way::ten_thousand) const { return chinese_to_quantity(text, method); }
+    Result<Quantity> quantity(Way method = Way::any) const { return chinese_to_quantity(text, method); }
 };
 
 /* The numbers or the expressions of a text, in order. They look into the text, which has to outlive them. */
@@ -521,7 +521,7 @@ inline Numbers find_quantities(std::string_view text, Wanted wanted = {}) {
  *     *text; // 共[35000]元 */
 template <typename Replacement>
 Result<std::string> replace_quantities(std::string_view text, Replacement &&replacement, Wanted wanted = {},
-                                       Way method = Way::ten_thousand, Included included = {}) {
+                                       Way method = Way::any, Included included = {}) {
     const Numbers expressions = find_quantities(text, wanted);
     if (expressions.status() != Status::done && expressions.status() != Status::none)
         return Error{expressions.status(), "text", 0, 0};
@@ -542,7 +542,7 @@ Result<std::string> replace_quantities(std::string_view text, Replacement &&repl
 }
 
 /* The same with their figures, as Quantity::to_figures gives them: 共35000元 of 共3.5万元. */
-inline Result<std::string> quantities_to_figures(std::string_view text, Wanted wanted = {}, Way method = Way::ten_thousand,
+inline Result<std::string> quantities_to_figures(std::string_view text, Wanted wanted = {}, Way method = Way::any,
                                                  Included included = {}) {
     std::string done(text.size(), '\0');
     std::size_t length = 0;

@@ -19,7 +19,7 @@ static void first_steps(void) {
     cn_number number = cn_signed(-105000);
     cn_reading reading;
     cn_status status;
-    status = cn_print(number, CN_I64, CN_TEN_THOUSAND, CN_SIMPLIFIED, CN_LOWER, text, sizeof text);
+    status = cn_print(number, CN_I64, CN_ANY, CN_SIMPLIFIED, CN_LOWER, text, sizeof text);
     puts(status == CN_DONE ? text : cn_status_text(status)); /* 负十万五千 */
     if (cn_read(text, strlen(text), CN_I64, CN_ANY, &reading) == CN_DONE)
         printf("%lld\n", (long long)reading.number.low); /* -105000 */
@@ -50,7 +50,7 @@ static void first_steps(void) {
     size_t length;
     cn_quantity quantity;
     if (cn_read_quantity("12.5%", 5, CN_TEN_THOUSAND, &quantity) == CN_DONE
-        && cn_print_quantity(&quantity, CN_TEN_THOUSAND, CN_SIMPLIFIED, CN_LOWER, written, sizeof written) == CN_DONE)
+        && cn_print_quantity(&quantity, CN_ANY, CN_SIMPLIFIED, CN_LOWER, written, sizeof written) == CN_DONE)
         puts(written); /* 百分之十二点五 */
     if (cn_quantities_to_figures(expressions, strlen(expressions), 0, CN_ZHAO, CN_TEN_THOUSAND, 0, written, sizeof written, &length)
         == CN_DONE)
@@ -137,7 +137,8 @@ static void each_status_of_quantities(void) {
     is_quantity("-0极", CN_TEN_THOUSAND, CN_TOO_SMALL, 0, 0, 0, 0, 0);
     is_quantity("\xff", CN_TEN_THOUSAND, CN_NOT_UTF8, 0, 0, 0, 0, 0);
     is_quantity("一", CN_DIGITS, CN_UNKNOWN, 0, 0, 0, 0, 0);
-    is_quantity("一", CN_ANY, CN_UNKNOWN, 0, 0, 0, 0, 0);
+    is_quantity("一万亿点五", CN_ANY, CN_DONE, UINT64_C(10000000000005), 10, CN_DECIMAL, 0, 0);
+    is_quantity("一", CN_ANY + 1, CN_UNKNOWN, 0, 0, 0, 0, 0);
 }
 
 /* Prints a quantity into a room of this length, with this status and length; the text is this one. */
@@ -160,6 +161,7 @@ static void each_status_of_printing_quantities(void) {
     const size_t most = CN_MOST_QUANTITY_BYTES;
     const cn_quantity decimal = {{314, 0}, {100, 0}, CN_DECIMAL, 5, 7}, over_zero = {{1, 0}, {0, 0}, CN_FRACTION, 0, 0};
     const cn_quantity no_form = {{1, 0}, {1, 0}, CN_FRACTION + 1, 0, 0}, large = {{1, 0}, {0, 1}, CN_FRACTION, 0, 0};
+    const cn_quantity trillions = {{UINT64_C(10000000000005), 0}, {10, 0}, CN_DECIMAL, 0, 0};
     const cn_quantity small = {{UINT64_MAX, UINT64_MAX}, {0, 1}, CN_FRACTION, 0, 0};
     const cn_quantity least = {{0, UINT64_C(1) << 63}, {UINT64_MAX, UINT64_MAX}, CN_FRACTION, 0, 0};
     prints_quantity(decimal, ten_thousand, simple, lower, 12, CN_DONE, 12, "三点一四");
@@ -169,7 +171,10 @@ static void each_status_of_printing_quantities(void) {
     prints_quantity(small, CN_LOW, simple, lower, most, CN_TOO_SMALL, 0, "the same below 0");
     prints_quantity(over_zero, ten_thousand, simple, lower, most, CN_NOT_A_QUANTITY, 0, "a quantity over 0");
     prints_quantity(over_zero, CN_DIGITS, simple, lower, most, CN_UNKNOWN, 0, "a way that is no method");
-    prints_quantity(over_zero, CN_ANY, simple, lower, most, CN_UNKNOWN, 0, "a way to read alone");
+    prints_quantity(trillions, CN_ANY, simple, lower, most, CN_DONE, 15, "一万亿点五");
+    prints_quantity(trillions, CN_ANY, CN_TRADITIONAL, lower, most, CN_DONE, 12, "一兆點五");
+    prints_quantity(over_zero, CN_ANY, simple, lower, most, CN_NOT_A_QUANTITY, 0, "a quantity over 0 by any way");
+    prints_quantity(decimal, CN_ANY + 1, simple, lower, most, CN_UNKNOWN, 0, "an unknown way of a quantity");
     prints_quantity(over_zero, ten_thousand, simple + 1, lower, most, CN_UNKNOWN, 0, "an unknown script");
     prints_quantity(over_zero, ten_thousand, simple, lower + 1, most, CN_UNKNOWN, 0, "an unknown case");
     prints_quantity(no_form, ten_thousand, simple, lower, most, CN_UNKNOWN, 0, "an unknown form");
@@ -269,7 +274,7 @@ static void prints(cn_number number, uint32_t kind, uint32_t way, uint32_t scrip
 
 static void each_status_of_printing(void) {
     cn_number limit = cn_unsigned(UINT64_C(10000000000000000)), below = cn_signed(-INT64_C(10000000000000000));
-    cn_number least = {0, UINT64_C(1) << 63};
+    cn_number least = {0, UINT64_C(1) << 63}, trillion = cn_unsigned(UINT64_C(1000000000000));
     prints(cn_unsigned(123), CN_U8, CN_LOW, CN_SIMPLIFIED, CN_UPPER, CN_MOST_BYTES, CN_DONE, 15, "壹佰贰拾叁");
     prints(least, CN_I128, CN_DIGITS, CN_TRADITIONAL, CN_LOWER, 120, CN_DONE, 120,
            "負一七零一四一一八三四六零四六九二三一七三一六八七三零三七一五八八四一零五七二八");
@@ -281,7 +286,9 @@ static void each_status_of_printing(void) {
     prints(cn_unsigned(256), CN_U8, CN_DIGITS, CN_SIMPLIFIED, CN_LOWER, CN_MOST_BYTES, CN_NOT_HELD, 0, "not held");
     prints(cn_unsigned((uint64_t)-5), CN_I64, CN_DIGITS, 0, 0, CN_MOST_BYTES, CN_NOT_HELD, 0, "a sign that is not extended");
     prints(cn_unsigned(1), CN_I128 + 1, 0, 0, 0, CN_MOST_BYTES, CN_UNKNOWN, 0, "an unknown type");
-    prints(cn_unsigned(1), 0, CN_ANY, 0, 0, CN_MOST_BYTES, CN_UNKNOWN, 0, "a way to read alone");
+    prints(trillion, CN_U64, CN_ANY, CN_SIMPLIFIED, CN_LOWER, CN_MOST_BYTES, CN_DONE, 9, "一万亿");
+    prints(trillion, CN_U64, CN_ANY, CN_TRADITIONAL, CN_LOWER, CN_MOST_BYTES, CN_DONE, 6, "一兆");
+    prints(limit, CN_U64, CN_ANY, CN_SIMPLIFIED, CN_LOWER, CN_MOST_BYTES, CN_DONE, 6, "一京");
     prints(cn_unsigned(1), 0, CN_ANY + 1, 0, 0, CN_MOST_BYTES, CN_UNKNOWN, 0, "an unknown way");
     prints(cn_unsigned(1), 0, 0, CN_SIMPLIFIED + 1, 0, CN_MOST_BYTES, CN_UNKNOWN, 0, "an unknown script");
     prints(cn_unsigned(1), 0, 0, 0, CN_LOWER + 1, CN_MOST_BYTES, CN_UNKNOWN, 0, "an unknown case");
@@ -381,7 +388,7 @@ static void texts_of_char(void) {
                                            && room[0] == 0 && room[1] == 7);
     expect("a zero byte at the end", cn_print(number, CN_U8, CN_DIGITS, CN_SIMPLIFIED, CN_LOWER, room, 10) == CN_DONE
                                          && strcmp(room, "一二三") == 0 && room[10] == 7);
-    expect("an empty room at a refusal", cn_print(number, CN_U8, CN_ANY, CN_SIMPLIFIED, CN_LOWER, room, 10) == CN_UNKNOWN
+    expect("an empty room at a refusal", cn_print(number, CN_U8, CN_ANY + 1, CN_SIMPLIFIED, CN_LOWER, room, 10) == CN_UNKNOWN
                                              && room[0] == 0);
     expect("a zero byte inside", cn_read("一\0二", 7, CN_U8, CN_DIGITS, &reading) == CN_INCORRECT
                                      && reading.char_index == 1 && reading.byte_index == 3);

@@ -46,12 +46,13 @@ bool is_refused(const Result<Value> &answer, Status status) {
 }
 
 void numbers() {
-    const Style any = {Way::any, Script::simplified, Case::lower};
+    const Style unknown = {static_cast<Way>(CN_ANY + 1), Script::simplified, Case::lower};
     const Style low = {Way::low, Script::simplified, Case::lower};
     const Style traditional = {Way::ten_thousand, Script::traditional, Case::lower};
     expect("a type", is_refused(to_number<std::uint8_t>("二百五十六"), Status::too_large));
     expect("no text", is_refused(to_number<int>({}), Status::empty));
-    expect("a way to read alone", is_refused(to_chinese(1, any), Status::unknown));
+    expect("any way", to_chinese(1000000000000).value_or("") == "一万亿");
+    expect("an unknown way", is_refused(to_chinese(1, unknown), Status::unknown));
     expect("a way of small numbers", is_refused(to_chinese(INT64_MAX, low), Status::too_large));
     expect("no such date", is_refused(date_to_chinese({2025, 2, 29}), Status::not_a_date));
     expect("no UTF-8", is_refused(chinese_to_date("\xff"), Status::not_utf8));
@@ -73,6 +74,7 @@ void quantities() {
     const auto quantity_of = [](const char *text) { return *chinese_to_quantity(text); };
     expect("no whole number", !half.to_whole<int>() && !over_zero.to_whole<int>());
     expect("over 0", is_refused(over_zero.to_chinese(), Status::not_a_quantity));
+    expect("any method", quantity_of("一万亿点五").to_chinese().value_or("") == "一万亿点五");
     expect("no method", is_refused(half.to_chinese(digits), Status::unknown));
     expect("a method of small numbers", is_refused(quantity_of("-10000000000000000").to_chinese(low), Status::too_small));
     expect("a whole number", quantity_of("3.5万").to_whole<int>() == 35000);
@@ -98,7 +100,7 @@ void replaced_quantities() {
     const auto removed = [](const Found &) { return ""; };
     expect("a text with its end", replace_quantities("3万元", removed).value_or("") == "元");
     expect("no UTF-8 to replace", is_refused(replace_quantities("一\xff", removed), Status::not_utf8));
-    expect("no method to replace by", is_refused(replace_quantities("一", removed, {}, Way::any), Status::unknown));
+    expect("no method to replace by", is_refused(replace_quantities("一", removed, {}, Way::digits), Status::unknown));
     expect("no UTF-8 for figures", is_refused(quantities_to_figures("\xff"), Status::not_utf8));
     expect("no method for figures", is_refused(quantities_to_figures("一", {}, Way::digits), Status::unknown));
     expect("a longer text", quantities_to_figures("一百亿").value_or("") == "10000000000");

@@ -115,18 +115,18 @@ func TestUnknownChoices(t *testing.T) {
 	for what, err := range map[string]error{
 		"a way":         errorOf(cn.ToBigInt("一", math.MaxUint32)),
 		"a way to read": errorOf(cn.ToNumber[int]("一", cn.Any+1)),
-		"any to write":  errorOf(cn.ToChinese(1, &cn.Style{Way: cn.Any})),
+		"to write":      errorOf(cn.ToChinese(1, &cn.Style{Way: cn.Any + 1})),
 		"a script":      errorOf(cn.ToChinese(1, &cn.Style{Script: 3})),
 		"a case":        errorOf(quantity.ToChinese(&cn.Style{Case: 3})),
 		"digits":        errorOf(quantity.ToChinese(&cn.Style{Way: cn.Digits})),
 		"of an amount":  errorOf(cn.AmountToChinese(1, &cn.AmountForm{Script: 3})),
 		"of a date":     errorOf(cn.DateToChinese(first, 3)),
 		"a form":        errorOf(cn.NewQuantity(one, one, 4)),
-		"a method":      errorOf(cn.ToQuantity("一", cn.Any)),
+		"a method":      errorOf(cn.ToQuantity("一", cn.Digits)),
 		"a unit":        errorOf(cn.FindNumbers("一", &cn.Wanted{Greatest: 17})),
 		"of found ones": errorOf(cn.Found{Text: "一", IsPlain: true}.Number(7)),
 		"to replace":    errorOf(cn.ReplaceQuantities("", &cn.Replacing{Method: 1}, everyOne)),
-		"in figures":    errorOf(cn.QuantitiesToFigures("", &cn.Replacing{Method: 6})),
+		"in figures":    errorOf(cn.QuantitiesToFigures("", &cn.Replacing{Method: 7})),
 	} {
 		wantStatus(t, what, err, cn.Unknown)
 	}

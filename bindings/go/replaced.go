@@ -6,11 +6,11 @@ import "C"
 import "strings"
 
 // Replacing is which quantities of a text are replaced: of those that are Wanted each that
-// ToQuantity reads by the method. By default, as nil too, that is TenThousand, and those that are
+// ToQuantity reads by the method. By default, as nil too, that is Any, and those that are
 // about so much or one Chinese character stay.
 type Replacing struct {
 	Wanted
-	// Method is Low to High.
+	// Method is Low to High, or Any.
 	Method Way
 	// About adds those that are about so much, as the 300 of 300多.
 	About bool
@@ -66,7 +66,7 @@ func QuantitiesToFigures(text string, which *Replacing) (string, error) {
 		which = &Replacing{}
 	}
 	upper, greatest := which.Wanted.codes()
-	method := code(which.Method, TenThousand)
+	method := code(which.Method, Any)
 	included := flag(which.About, C.CN_ABOUT) | flag(which.OneCharacter, C.CN_ONE_CHARACTER)
 	room := make([]byte, len(text)+1)
 	for {

@@ -32,14 +32,16 @@ export const KINDS = Object.freeze(/** @type {const} */ (
 
 /**
  * How a number is written: as plain digits (一二三), or with units (一百二十三) by one of four methods.
- * 'any' is a way to read alone: as plain digits what is those, and else by 'tenThousand'.
+ * 'any' reads as plain digits what is those, and else by 'tenThousand', and writes what it reads
+ * back: by 'middle' in the simplified script below 10 ** 16, so that 10 ** 12 is 一万亿, and else by
+ * 'tenThousand'.
  */
 export const WAYS = Object.freeze(/** @type {const} */ (
   ['digits', 'low', 'tenThousand', 'middle', 'high', 'any']));
 
-/** The methods: the ways with units, by which an exact quantity is read and written. */
+/** The methods: the ways with units, and 'any', by which an exact quantity is read and written. */
 export const METHODS = Object.freeze(/** @type {const} */ (
-  ['low', 'tenThousand', 'middle', 'high']));
+  ['low', 'tenThousand', 'middle', 'high', 'any']));
 
 /** The scripts. */
 export const SCRIPTS = Object.freeze(/** @type {const} */ (['traditional', 'simplified']));
@@ -81,8 +83,7 @@ function option(what, names, usual) {
 
 const KIND = option('kind', KINDS, 'i128');
 const WAY = option('way', WAYS, 'any');
-const PRINT_WAY = option('way to write', WAYS.filter((it) => it !== 'any'), 'tenThousand');
-const METHOD = option('method', METHODS, 'tenThousand');
+const METHOD = option('method', METHODS, 'any');
 const SCRIPT = option('script', SCRIPTS, 'simplified');
 const CASE = option('case', CASES, 'lower');
 const YUAN = option('yuan', ['元', '圆'], '元');
@@ -107,14 +108,13 @@ const HAS = {
 /**
  * @typedef {typeof KINDS[number]} Kind
  * @typedef {typeof WAYS[number]} Way
- * @typedef {Exclude<Way, 'any'>} PrintWay
  * @typedef {typeof METHODS[number]} Method
  * @typedef {typeof SCRIPTS[number]} Script
  * @typedef {typeof CASES[number]} Case
  * @typedef {typeof UNITS[number]} Unit
  * @typedef {typeof QUANTITY_FORMS[number]} QuantityForm
  * @typedef {{ kind?: Kind, way?: Way }} ReadOptions
- * @typedef {{ kind?: Kind, way?: PrintWay, script?: Script, case?: Case }} PrintOptions
+ * @typedef {{ kind?: Kind, way?: Way, script?: Script, case?: Case }} PrintOptions
  * @typedef {{ script?: Script }} ScriptOptions
  * @typedef {'元' | '圆'} Yuan
  * @typedef {'整' | '正'} Closing
@@ -515,10 +515,10 @@ function wholeNumber(kind, word = 0) {
  * The text of a number: `toChinese(120)` is '一百二十'. The number is a BigInt, or a whole Number that
  * is exact.
  *
- * It is one of a kind, 'i128' where none is named, and is written by a way, else 'tenThousand', in
- * a script, else 'simplified', and a case, else 'lower'. Throws a NumeralError where the kind does
- * not hold the number or the way has no text for it, and a TypeError where it is no such number, or
- * an option or what it names is unknown, as 'any', which is no way to write.
+ * It is one of a kind, 'i128' where none is named, and is written by a way, else 'any', in a script,
+ * else 'simplified', and a case, else 'lower'. Throws a NumeralError where the kind does not hold the
+ * number or the way has no text for it, and a TypeError where it is no such number, or an option or
+ * what it names is unknown.
  *
  * @param {bigint | number} number
  * @param {PrintOptions} options
@@ -527,7 +527,7 @@ function wholeNumber(kind, word = 0) {
 export function toChinese(number, options = NO_OPTIONS) {
   refuseOthers(options, HAS.printing);
   const kind = codeOf(KIND, options.kind);
-  const way = codeOf(PRINT_WAY, options.way);
+  const way = codeOf(WAY, options.way);
   const script = scriptOf(options), letterCase = codeOf(CASE, options.case);
   const whole = wholeOf(number), high = highOf(number, kind);
   lend(MOST_PRINTED);
@@ -887,9 +887,9 @@ export class Quantity {
    * 三点一四 of 3.14, 百分之十二点五 of 12.5%, 三分之一 of 1/3. What has no denominator of its form is
    * written as a fraction.
    *
-   * It is written by a method, else 'tenThousand', in a script, else 'simplified', and a case, else
-   * 'lower'. Throws a NumeralError where 'low' has no text for one of its numbers, and a TypeError
-   * where an option or what it names is unknown.
+   * It is written by a method, else 'any', in a script, else 'simplified', and a case, else 'lower'.
+   * 'any' goes by the greatest number that is spelled. Throws a NumeralError where 'low' has no text
+   * for one of its numbers, and a TypeError where an option or what it names is unknown.
    *
    * @param {QuantityOptions} options
    * @returns {string}
@@ -955,8 +955,8 @@ const decoded = (start) =>
  * 125/1000, and of '三分之一' 1/3.
  *
  * It is a whole number, a decimal, a percentage or a fraction, in figures, in numerals or in both,
- * with one sign in front or none; white space is left out. It is read by a method, else
- * 'tenThousand'. Throws a NumeralError where the text is none or its numbers are too large, and a
+ * with one sign in front or none; white space is left out. It is read by a method, else by 'any',
+ * which is 'tenThousand' here. Throws a NumeralError where the text is none or its numbers are too large, and a
  * TypeError where it is no string, or an option or what it names is unknown.
  *
  * @param {string} string

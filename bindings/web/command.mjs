@@ -28,7 +28,6 @@ const FLAG = null;
 const snake = (name) => name.replace(/[A-Z]/g, (it) => `_${it.toLowerCase()}`);
 const wordsFor = (names) => new Map(names.map((it) => [snake(it), it]));
 const KIND = wordsFor(KINDS), WAY = wordsFor(WAYS), METHOD = wordsFor(METHODS);
-const PRINT_WAY = wordsFor(WAYS.filter((it) => it !== 'any'));
 const COLUMN = {
   has: (it) => /^[1-9][0-9]{0,8}$/.test(it), get: Number,
   keys: () => ['a number from 1 to 999999999'],
@@ -44,10 +43,10 @@ usage: chinese-number amount [--traditional] [--currency] [--yuan 圆] [--closin
        chinese-number amount .. --column N [--header] [--delimiter ,]
        chinese-number date [--traditional] WORD..
        chinese-number read [--kind i128] [--way any] WORD..
-       chinese-number print [--traditional] [--upper] [--kind i128] [--way ten_thousand] NUMBER..
+       chinese-number print [--traditional] [--upper] [--kind i128] [--way any] NUMBER..
        chinese-number find [--all] [--kind u128] [--way any]
-       chinese-number find --exact [--all] [--method ten_thousand]
-       chinese-number replace [--all] [--method ten_thousand] [--about] [--one-character] [WORD..]
+       chinese-number find --exact [--all] [--method any]
+       chinese-number replace [--all] [--method any] [--about] [--one-character] [WORD..]
        chinese-number --help | --version
 
 amount   writes yuan in capitals, 1409.50 as 壹仟肆佰零玖元伍角整, and reads capitals; with --signed
@@ -66,9 +65,8 @@ replace  writes words, or standard input, with their quantities in figures, 共3
          with --about also those that are about so much, as in 三百多, and with --one-character those
          of one Chinese character, as in 一般
 
-A kind is u8, u16, u32, u64, u128, i8, i16, i32, i64, i128; a way to read
-is digits, low, ten_thousand, middle, high, any, and to write each but any;
-a method is low, ten_thousand, middle, high.
+A kind is u8, u16, u32, u64, u128, i8, i16, i32, i64, i128; a way is digits, low, ten_thousand,
+middle, high, any; a method is each of these but digits.
 Words behind -- are no options.
 `;
 
@@ -91,7 +89,7 @@ const COMMANDS = {
     run: (options, words) => answerEach(words, (word) => toBigInt(word, options)),
   },
   print: {
-    options: { traditional: FLAG, upper: FLAG, kind: KIND, way: PRINT_WAY },
+    options: { traditional: FLAG, upper: FLAG, kind: KIND, way: WAY },
     run: ({ upper, ...options }, words) => {
       const all = { ...options, case: upper ? 'upper' : 'lower' };
       return answerEach(words.map(wholeOf), (number) => toChinese(number, all));

@@ -6,12 +6,12 @@ import { signedAmountToChinese, yuanToFen, yuanToFenBigInt } from 'chinese-numbe
 import { chineseToDate, dateToChinese, findNumbers } from 'chinese-number-proved';
 import { Quantity, findQuantities, toQuantity } from 'chinese-number-proved';
 import { quantitiesToFigures, replaceQuantities } from 'chinese-number-proved';
-import type { BillDate, Kind, NumeralCode, PrintWay, Unit, Way } from 'chinese-number-proved';
+import type { BillDate, Kind, NumeralCode, Unit, Way } from 'chinese-number-proved';
 import type { FoundQuantity, Method, QuantityForm } from 'chinese-number-proved';
 import { toNumber as other } from 'chinese-number-proved/files';
-const way: Way = 'any', printWay: PrintWay = 'tenThousand', greatest: Unit = 'yi';
+const way: Way = 'any', greatest: Unit = 'yi';
 const value: number = toNumber('一', { kind: 'u64', way }), big: bigint = toBigInt('一', { way });
-const text: string = toChinese(value, { way: printWay, script: 'simplified', case: 'upper' });
+const text: string = toChinese(value, { way, script: 'simplified', case: 'upper' });
 const amount: string = amountToChinese(big, { currency: true, yuan: '圆', closing: '正' });
 const fen: number = chineseToAmount(amount), bigFen: bigint = chineseToAmountBigInt(amount);
 const red: string = signedAmountToChinese(-fen, { closing: '正' });
@@ -45,8 +45,8 @@ try {
 toChinese(1, { letterCase: 'upper' });
 // @ts-expect-error: a list is no options
 toChinese(1, []);
-// @ts-expect-error: 'any' is a way to read alone
-toChinese(1, { way: 'any' });
+// @ts-expect-error: no such way
+toChinese(1, { way: 'naive' });
 // @ts-expect-error: no such kind
 toNumber('一', { kind: 'u7' });
 // @ts-expect-error: what map hands on is no options

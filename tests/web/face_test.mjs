@@ -23,7 +23,7 @@ const QUANTITIES = 20_000;
 const LETTERS = Array.from('零〇一二三四五六七八九十百千萬万億亿兆京垓秭壹貳叁肆伍陸柒捌玖拾佰仟兩两負负正個角分廿'
   + ' \t　x1１⼀é￿😀𠀀');
 const DIGITS = '零〇一二三四五六七八九兩两壹貳貮贰參叁叄参肆伍陸陆柒捌玖0123456789';
-const PRINT_WAYS = WAYS.filter((it) => it !== 'any');
+const NAMED_WAYS = WAYS.filter((it) => it !== 'any');
 
 // The program's words are the names with underscores, but for plain digits and simplified.
 const OTHERS = { digits: 'naive', simplified: 'simple' };
@@ -40,6 +40,13 @@ function wayOf(kind, way, text) {
   if (way !== 'any') return way;
   const rest = text.replace(/\s/g, '').replace(isSigned(kind) ? /^[負负正]/ : '', '');
   return Array.from(rest).every((it) => DIGITS.includes(it)) ? 'digits' : 'tenThousand';
+}
+
+// The way in which any writes: in the simplified script by middle, below 10 ** 16.
+function writtenWayOf(way, script, number) {
+  if (way !== 'any') return way;
+  const isShort = -(10n ** 16n) < number && number < 10n ** 16n;
+  return script === 'simplified' && isShort ? 'middle' : 'tenThousand';
 }
 
 // A generator that gives the same numbers each time (xorshift).
@@ -76,7 +83,7 @@ function changed(spelling, letters = LETTERS) {
 function someNumeral(kind, way) {
   const number = someNumber(one([kind, 'i128']));
   if (below(4) === 0 || !holds('i128', number)) return someText();
-  const ways = PRINT_WAYS.includes(way) ? [way, one(PRINT_WAYS)] : ['digits', 'tenThousand'];
+  const ways = way === 'any' ? ['digits', 'tenThousand', 'any'] : [way, one(NAMED_WAYS)];
   try {
     const look = { way: one(ways), script: one(SCRIPTS), case: one(CASES) };
     return changed(toChinese(number, look));
@@ -121,9 +128,10 @@ function readsTheSame(text, options) {
 }
 
 function aPrinting() {
-  const [kind, way, script, letterCase] = [KINDS, PRINT_WAYS, SCRIPTS, CASES].map(one);
+  const [kind, way, script, letterCase] = [KINDS, WAYS, SCRIPTS, CASES].map(one);
   const number = someNumber(one([kind, kind, one(KINDS)]));
-  const line = `print ${kind} ${word(way)} ${word(script)} ${letterCase} ${number}`;
+  const named = word(writtenWayOf(way, script, number));
+  const line = `print ${kind} ${named} ${word(script)} ${letterCase} ${number}`;
   return [line, answered(() => toChinese(number, { kind, way, script, case: letterCase }))];
 }
 
@@ -214,16 +222,19 @@ function tryEdges() {
   console.log('edges: as wanted');
 }
 
-// What is left out is i128, in the simplified script and in lower case; any is read, and ten
-// thousand written.
+// What is left out is i128, any, the simplified script and the lower case.
 function tryOptions() {
+  assert.equal(toChinese(10n ** 12n), '一万亿');
+  assert.equal(toChinese(10n ** 12n, { way: 'any', script: 'traditional' }), '一兆');
+  assert.equal(Quantity.decimal(10n ** 13n, 1).toChinese(), '一万亿点零');
+  assert.equal(toQuantity('一万亿点零', { method: 'any' }).toWhole(), 10n ** 12n);
   assert.equal(toChinese(-(10n ** 36n)), '负一涧');
   assert.equal(toBigInt('負一澗'), -(10n ** 36n));
   assert.equal(toChinese(-0), '零');
   assert.equal(JSON.stringify(['一百二', '一二〇', '负一'].map((it) => toNumber(it))), '[120,120,-1]');
   refusesEach(['u7', 'U8', 'toString', '__proto__', 0, null], (kind) => toNumber('一', { kind }));
   refusesEach(['ten_thousand', 'Any', null], (way) => toNumber('一', { way }));
-  refusesEach(['any', 'naive', null], (way) => toChinese(1, { way }));
+  refusesEach(['ten_thousand', 'naive', null], (way) => toChinese(1, { way }));
   refusesEach(['simple', 'Simplified', null], (script) => toChinese(1, { script }));
   refusesEach(['Upper', null], (it) => toChinese(1, { case: it }));
   refusesEach([...NO_OPTIONS, { type: 'u8' }], (it) => toChinese(12, it));
@@ -738,7 +749,7 @@ function refuseNoQuantities(half) {
   refusesEach([-1, 1.5, NaN, 1n, '1', null], (it) => Quantity.percent(1, it));
   refusesEach(['half', 0, null, undefined], (it) => new Quantity(1, 2, it));
   refusesEach([1n, null, undefined, ['一']], (it) => toQuantity(it));
-  refusesEach([...NO_OPTIONS, { way: 'low' }, { method: 'any' }], (it) => toQuantity('一', it));
+  refusesEach([...NO_OPTIONS, { way: 'low' }, { method: 'digits' }], (it) => toQuantity('一', it));
   refusesEach([...NO_OPTIONS, { way: 'low' }, { method: 'digits' }, { case: 'Upper' }],
     (it) => half.toChinese(it));
 }
@@ -793,7 +804,7 @@ function tryReplaced() {
 
 function refuseNoReplacements() {
   const wrong = [...NO_OPTIONS, { about: 1 }, { oneCharacter: 'yes' }, { upper: 1 },
-    { greatest: 'ZHAO' }, { method: 'any' }, { kind: 'u8' }];
+    { greatest: 'ZHAO' }, { method: 'digits' }, { kind: 'u8' }];
   refusesEach(wrong, (it) => quantitiesToFigures('一', it));
   refusesEach(wrong, (it) => replaceQuantities('文', () => '', it));
   refusesEach([...NO_OPTIONS, { method: 'low' }, { about: true }], (it) => findQuantities('一', it));

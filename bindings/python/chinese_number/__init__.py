@@ -124,11 +124,13 @@ class Way(str, Enum):
     """How a number is written: as plain digits (一二三), or with units (一百二十三) by four methods.
 
     LOW: each unit is ten times the one before.
-    TEN_THOUSAND, the one to use: after 萬 each unit is 10**4 times the one before. At 10**12 it
-    writes 兆, as in Taiwan, where MIDDLE and HIGH write 萬億, as on the mainland.
+    TEN_THOUSAND: after 萬 each unit is 10**4 times the one before. At 10**12 it writes 兆, as in
+    Taiwan, where MIDDLE and HIGH write 萬億, as on the mainland.
     MIDDLE: after 億 each unit is 10**8 times the one before.
     HIGH: from 億 on each unit is the square of the one before.
-    ANY, for reading alone: as DIGITS where all of the text is digits, else as TEN_THOUSAND.
+    ANY, the one to use, reads as DIGITS where all of the text is digits, else as TEN_THOUSAND. It
+    writes what it reads back: in the simplified script below 10**16 as MIDDLE, so that 10**12 is
+    一万亿, and else as TEN_THOUSAND.
     """
 
     DIGITS = "digits"
@@ -305,8 +307,7 @@ _library.know_words(_words(Kind), _words(Way), _words(Script), _words(Case))
 _KINDS, _WAYS, _UNITS = _codes(Kind), _codes(Way), _codes(Unit)
 _SCRIPTS, _CASES = _codes(Script), _codes(Case)
 _FORMS, _FORM_OF = _codes(QuantityForm), tuple(QuantityForm)
-_PRINT_WAYS = {way: code for way, code in _WAYS.items() if way is not Way.ANY}
-_METHODS = {way: code for way, code in _PRINT_WAYS.items() if way is not Way.DIGITS}
+_METHODS = {way: code for way, code in _WAYS.items() if way is not Way.DIGITS}
 # What each word adds to the form in which an amount is written, and the currency in front.
 _CURRENCY = 1
 _YUAN = {"元": 0, "圆": 2}
@@ -415,7 +416,7 @@ def to_chinese(
     number: SupportsIndex,
     *,
     kind: Union[Kind, str] = Kind.I128,
-    way: Union[Way, str] = Way.TEN_THOUSAND,
+    way: Union[Way, str] = Way.ANY,
     script: Union[Script, str] = Script.SIMPLIFIED,
     case: Union[Case, str] = Case.LOWER,
 ) -> str:
@@ -426,12 +427,14 @@ def to_chinese(
     '壹佰貳拾參'
     >>> to_chinese(-123, way='digits')
     '负一二三'
+    >>> [to_chinese(10**12, script=script) for script in Script]
+    ['一兆', '一万亿']
     >>> to_chinese(256, kind='u8')
     Traceback (most recent call last):
     chinese_number.NumeralError: u8 does not hold the number
     """
     whole, kind_code = _whole(number, "a whole number"), _code(_KINDS, kind, "kind")
-    way_code, script_code = _code(_PRINT_WAYS, way, "way"), _code(_SCRIPTS, script, "script")
+    way_code, script_code = _code(_WAYS, way, "way"), _code(_SCRIPTS, script, "script")
     case_code = _code(_CASES, case, "case")
     _refuse_not_held(whole, kind)
     codes = kind_code, way_code, script_code, case_code
@@ -768,19 +771,22 @@ class Quantity:
     def to_chinese(
         self,
         *,
-        method: Union[Way, str] = Way.TEN_THOUSAND,
+        method: Union[Way, str] = Way.ANY,
         script: Union[Script, str] = Script.SIMPLIFIED,
         case: Union[Case, str] = Case.LOWER,
     ) -> str:
-        """Its text by a method, which to_quantity reads as the same numerator and denominator; a
-        percentage is read as a fraction. One whose denominator is not of its form is written as a
-        fraction. A NumeralError says why there is no text: a number in it has 17 digits or more and
+        """Its text by a method, which to_quantity reads as the same numerator and denominator; by ANY
+        in the simplified script it is that of MIDDLE where each number spelled is below 10**16, and
+        else that of TEN_THOUSAND, by which to_quantity reads both. A percentage is read as a
+        fraction. One whose denominator is not of its form is written as a fraction. A NumeralError says why there is no text: a number in it has 17 digits or more and
         the method is LOW.
 
         >>> to_quantity('-12.5%').to_chinese(script='traditional', case='upper')
         '負佰分之拾貳點伍'
         >>> to_quantity('3.5万').to_chinese(), to_quantity('3.5万').trimmed().to_chinese()
         ('三万五千点零', '三万五千')
+        >>> to_quantity('3.5兆').trimmed().to_chinese()
+        '三万五千亿'
         """
         method_code = _code(_METHODS, method, "method")
         codes = _code(_SCRIPTS, script, "script"), _code(_CASES, case, "case")
@@ -803,10 +809,10 @@ class Quantity:
         return above, above >> 64, below, below >> 64, _FORMS[self.form]
 
 
-def to_quantity(text: str, *, method: Union[Way, str] = Way.TEN_THOUSAND) -> Quantity:
-    """The quantity of a text, by a method, low, ten_thousand, middle or high: a whole number, a
-    decimal, a percentage or a fraction, in figures or in numerals. A NumeralError says why it is
-    none.
+def to_quantity(text: str, *, method: Union[Way, str] = Way.ANY) -> Quantity:
+    """The quantity of a text, by a method, low, ten_thousand, middle or high, or by any, which is
+    ten_thousand here: a whole number, a decimal, a percentage or a fraction, in figures or in
+    numerals. A NumeralError says why it is none.
 
     >>> to_quantity('三点五万')
     Quantity(numerator=350000, denominator=10, form=<QuantityForm.DECIMAL: 'decimal'>)
@@ -888,7 +894,7 @@ class FoundQuantity(_Run):
 
     __slots__ = ()
 
-    def quantity(self, *, method: Union[Way, str] = Way.TEN_THOUSAND) -> Quantity:
+    def quantity(self, *, method: Union[Way, str] = Way.ANY) -> Quantity:
         """Its quantity, as to_quantity gives it; a NumeralError says why it is none. Its char_index
         counts within the expression.
 
@@ -897,7 +903,7 @@ class FoundQuantity(_Run):
         """
         return to_quantity(self.text, method=method)
 
-    def value(self, *, method: Union[Way, str] = Way.TEN_THOUSAND) -> Optional[Quantity]:
+    def value(self, *, method: Union[Way, str] = Way.ANY) -> Optional[Quantity]:
         """Its quantity, as quantity() gives it, or None where that is refused.
 
         >>> [(found.text, found.value() is None) for found in find_quantities('版本1.2.3，五六十')]
@@ -970,7 +976,7 @@ def replace_quantities(
     *,
     upper: bool = False,
     greatest: Union[Unit, str] = Unit.ZHAO,
-    method: Union[Way, str] = Way.TEN_THOUSAND,
+    method: Union[Way, str] = Way.ANY,
     about: bool = False,
     one_character: bool = False,
 ) -> str:
@@ -1006,7 +1012,7 @@ def quantities_to_figures(
     *,
     upper: bool = False,
     greatest: Union[Unit, str] = Unit.ZHAO,
-    method: Union[Way, str] = Way.TEN_THOUSAND,
+    method: Union[Way, str] = Way.ANY,
     about: bool = False,
     one_character: bool = False,
 ) -> str:

@@ -40,8 +40,7 @@ _FLAG: List[Any] = [None]
 _TRADITIONAL: _Options = {"--traditional": _FLAG}
 _KIND: _Options = {"--kind": [it.value for it in Kind]}
 _WAY: _Options = {"--way": [it.value for it in Way]}
-_PRINT_WAY: _Options = {"--way": [it.value for it in Way if it is not Way.ANY]}
-_METHOD: _Options = {"--method": [it.value for it in Way if it not in (Way.DIGITS, Way.ANY)]}
+_METHOD: _Options = {"--method": [it.value for it in Way if it is not Way.DIGITS]}
 _INCLUDED: _Options = {"--about": _FLAG, "--one-character": _FLAG}
 _FORM: _Options = {"--currency": _FLAG, "--yuan": ["元", "圆"], "--closing": ["整", "正"]}
 _READER: _Options = {"--signed": _FLAG, "--typed": _FLAG}
@@ -63,10 +62,10 @@ usage: chinese-number amount [--traditional] [--currency] [--yuan 圆] [--closin
        chinese-number amount .. --column N [--header] [--delimiter ,]
        chinese-number date [--traditional] WORD..
        chinese-number read [--kind i128] [--way any] WORD..
-       chinese-number print [--traditional] [--upper] [--kind i128] [--way ten_thousand] NUMBER..
+       chinese-number print [--traditional] [--upper] [--kind i128] [--way any] NUMBER..
        chinese-number find [--all] [--kind u128] [--way any]
-       chinese-number find --exact [--all] [--method ten_thousand]
-       chinese-number replace [--all] [--method ten_thousand] [--about] [--one-character] [WORD..]
+       chinese-number find --exact [--all] [--method any]
+       chinese-number replace [--all] [--method any] [--about] [--one-character] [WORD..]
        chinese-number --help | --version
 
 amount   writes yuan in capitals, 1409.50 as 壹仟肆佰零玖元伍角整, and reads capitals; with --signed
@@ -85,9 +84,8 @@ replace  writes words, or standard input, with their quantities in figures, 共3
          with --about also those that are about so much, as in 三百多, and with --one-character those
          of one Chinese character, as in 一般
 
-A kind is u8, u16, u32, u64, u128, i8, i16, i32, i64, i128; a way to read
-is digits, low, ten_thousand, middle, high, any, and to write each but any;
-a method is low, ten_thousand, middle, high.
+A kind is u8, u16, u32, u64, u128, i8, i16, i32, i64, i128; a way is digits, low, ten_thousand,
+middle, high, any; a method is each of these but digits.
 Words behind -- are no options."""
 
 
@@ -212,7 +210,7 @@ _COMMANDS: Dict[str, Tuple[Callable[..., Any], Callable[[str], Any], _Options]] 
     "amount": (_amount, str, {**_TRADITIONAL, **_FORM, **_READER, **_TABLE}),
     "date": (_date, str, _TRADITIONAL),
     "read": (to_number, str, {**_KIND, **_WAY}),
-    "print": (to_chinese, _number, {**_TRADITIONAL, "--upper": _FLAG, **_KIND, **_PRINT_WAY}),
+    "print": (to_chinese, _number, {**_TRADITIONAL, "--upper": _FLAG, **_KIND, **_WAY}),
     "find": (_find, str, {"--exact": _FLAG, "--all": _FLAG, **_KIND, **_WAY, **_METHOD}),
     "replace": (quantities_to_figures, str, {"--all": _FLAG, **_METHOD, **_INCLUDED}),
 }

@@ -9,7 +9,8 @@ use chinese_number::{
     chinese_to_date, chinese_to_quantity, chinese_to_signed_amount, date_to_chinese, find_numbers,
     find_quantities, quantities_to_figures, replace_quantities, signed_amount_to_chinese,
     yuan_to_fen, AmountForm, BillDate, ChineseCase, ChineseCountMethod, ChineseToNumber,
-    ChineseVariant, Found, Included, NumberToChinese, Numbers, Quantity, QuantityForm, Wanted,
+    ChineseVariant, Found, Included, Integer, NumberToChinese, Numbers, Quantity, QuantityForm,
+    Wanted,
 };
 
 const FORMS: [(&str, QuantityForm); 4] = [
@@ -69,11 +70,12 @@ where
 
 fn print<T>(way: &str, script: &str, letter_case: &str, decimal: &str) -> String
 where
-    T: NumberToChinese + FromStr<Err: Debug>,
+    T: Integer + NumberToChinese + FromStr<Err: Debug>,
 {
     let (variant, case) = (variant(script), case(letter_case));
     let value: T = number(decimal);
     told(match way {
+        "any" => Ok(value.to_chinese_any(variant, case)),
         "naive" => Ok(value.to_chinese_naive(variant, case)),
         _ => value.to_chinese(variant, case, method(way)),
     })
@@ -126,7 +128,11 @@ fn quantity(words: &str) -> Quantity {
 }
 
 fn print_quantity(way: &str, script: &str, letter_case: &str, words: &str) -> String {
-    told(quantity(words).to_chinese(variant(script), case(letter_case), method(way)))
+    let (quantity, variant, case) = (quantity(words), variant(script), case(letter_case));
+    told(match way {
+        "any" => quantity.to_chinese_any(variant, case),
+        _ => quantity.to_chinese(variant, case, method(way)),
+    })
 }
 
 /// What is included, by its words with `+` between them; `none` is nothing.

@@ -49,7 +49,7 @@ pub enum Kind {
     I128 = 9,
 }
 
-/// The ways in which a number is written; by `Any` it is read alone.
+/// The ways in which a number is read or written; `Any` goes by the text, or by the script and number.
 #[derive(Copy, Clone)]
 pub enum Way {
     Digits = 0,

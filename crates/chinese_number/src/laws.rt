@@ -46,8 +46,8 @@ pub use plain_digits::{
     digits_alone_are_read, leading_zeros_change_nothing, naive_texts_read_back,
 };
 pub use read_back::{
-    beginnings_are_read, one_text_for_each_number, reading_then_printing_is_idempotent,
-    spellings_are_numerals, spellings_read_back,
+    beginnings_are_read, middle_is_read_by_ten_thousand, one_text_for_each_number,
+    reading_then_printing_is_idempotent, spellings_are_numerals, spellings_read_back,
 };
 pub use refusals::{empty_is_nothing_left, unsigned_types_never_underflow};
 pub use scripts::{texts_of_a_number_are_equally_long, texts_of_a_number_read_alike};

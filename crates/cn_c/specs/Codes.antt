@@ -11,8 +11,8 @@ use Rattle.chinese_number.specs.declared.Unit.TheVariants.{Ge, Shi, Bai, Qian, W
 use Rattle.chinese_number.specs.Refusal.{Refusal, empty, incorrect_at, too_large, too_small}
 use Rattle.cn_faces.specs.declared.IntegerType.{IntegerType}
 use Rattle.cn_faces.specs.declared.IntegerType.TheVariants.{U8, U16, U32, U64, U128, I8, I16, I32, I64, I128}
-use Rattle.cn_c.specs.declared.codes.ReadingWay.{ReadingWay}
-use Rattle.cn_c.specs.declared.codes.ReadingWay.TheVariants.{By, Either}
+use Rattle.cn_c.specs.declared.codes.NamedWay.{NamedWay}
+use Rattle.cn_c.specs.declared.codes.NamedWay.TheVariants.{By, Either}
 use Rattle.cn_faces.specs.declared.Way.{Way}
 use Rattle.cn_faces.specs.declared.Way.TheVariants.{Digits, Units}
 
@@ -20,15 +20,15 @@ use Rattle.cn_faces.specs.declared.Way.TheVariants.{Digits, Units}
 abbrev pub kinds : List IntegerType
 kinds = U8 ∷ U16 ∷ U32 ∷ U64 ∷ U128 ∷ I8 ∷ I16 ∷ I32 ∷ I64 ∷ I128 ∷ []
 
--- the ways, likewise
+-- the ways, likewise, but for either way
 abbrev pub ways : List Way
 ways = Digits ∷ Units Low ∷ Units TenThousand ∷ Units Middle ∷ Units High ∷ []
 
--- the ways to read: these, and behind them either way
-abbrev pub reading_ways : List ReadingWay
-reading_ways = map By ways ++ Either ∷ []
+-- these, and behind them either way
+abbrev pub named_ways : List NamedWay
+named_ways = map By ways ++ Either ∷ []
 
--- the codes of plain digits, of the standard method and of reading either way
+-- the codes of plain digits, of the standard method and of either way
 abbrev pub CN_DIGITS : ℕ
 CN_DIGITS = 0
 

@@ -6,7 +6,7 @@ use Rattle.chinese_number.specs.declared.ChineseCountMethod.{ChineseCountMethod}
 use Rattle.chinese_number.specs.declared.Unit.{Unit as NumeralUnit}
 use Rattle.cn_replace.specs.declared.figures.Included.{Included}
 use Rattle.cn_replace.specs.InFigures.{in_figures}
-use Rattle.cn_c.specs.Codes.{units, uppers, ways, CN_ABOUT, CN_ONE_CHARACTER, CN_DONE, CN_NO_ROOM, CN_NOT_UTF8, CN_UNKNOWN}
+use Rattle.cn_c.specs.Codes.{named_ways, units, uppers, CN_ABOUT, CN_ONE_CHARACTER, CN_DONE, CN_NO_ROOM, CN_NOT_UTF8, CN_UNKNOWN}
 use Rattle.cn_c.specs.Prints.{PutsNothing}
 use Rattle.cn_c.specs.Quantities.{method_of}
 
@@ -46,4 +46,4 @@ IsReplacedAs upper greatest method included bytes old status new len =
 abbrev pub IsReplaced : List ℕ → ℕ → ℕ → ℕ → ℕ → List ℕ → ℕ → List ℕ → ℕ → Type 0
 IsReplaced bytes upper greatest method included old status new len =
     IsReplacedAs (slice_get uppers upper) (slice_get units greatest)
-    (method_of (slice_get ways method)) (included_of included) bytes old status new len
+    (method_of (slice_get named_ways method)) (included_of included) bytes old status new len

@@ -15,6 +15,7 @@ pub mod Powers
 pub mod ReadBack
 pub mod ScaleExamples
 pub mod ScaleLaws
+pub mod SmallUnits
 pub mod SpellingExamples
 pub mod Spellings
 pub mod Sums

@@ -158,10 +158,9 @@ clear-text front (c ∷ after) h l =
 
 -- the text of a magnitude
 pub magnitude-clear : (variant : ChineseVariant) (case : ChineseCase) (method : ChineseCountMethod)
-    (number : ℕ) → number < 2 ^ 128 → is_printable method (pos number) ≡ true
+    (number : ℕ) → number < scale method 15 * scale method 15
     → first_misread (magnitude_text variant case method number) ≡ None
-magnitude-clear variant case method number small printable =
-    let square = below_square method (pos number) small printable in
+magnitude-clear variant case method number square =
     let printed = spelling-printed method number square in
     let back = IsReadBack-marks variant case (spelling method number) printed in
     clear-text [] (magnitude_text variant case method number)
@@ -173,7 +172,8 @@ pub magnitude-not_misread : (variant : ChineseVariant) (case : ChineseCase)
     → is_printable method (pos number) ≡ true
     → is_misread (magnitude_text variant case method number) ≡ false
 magnitude-not_misread variant case method number small printable =
-    ap is_some (magnitude-clear variant case method number small printable)
+    ap is_some (magnitude-clear variant case method number
+    (below_square method (pos number) small printable))
 
 -- digits alone, without 两, are not misread
 digit-clear : (front after : List Mark) (value : ℕ) → list_all is_digit front ≡ true

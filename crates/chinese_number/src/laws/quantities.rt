@@ -10,7 +10,8 @@ ghost use Rattle.cn_quantity.specs.Misread.{is_misread};
 ghost use Rattle.cn_quantity.specs.Reading.{quantity_answer};
 
 pub use cn_express::laws::{
-    figures_are_read_back, no_spelling_is_misread, what_is_written_is_read_back,
+    figures_are_read_back, middle_is_read_by_ten_thousand, no_spelling_is_misread,
+    what_is_written_is_read_back,
 };
 pub use cn_quantity::laws::refusals_point_at_characters;
 
