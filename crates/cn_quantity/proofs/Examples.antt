@@ -68,23 +68,27 @@ unfolding chars encode_utf8 digit_of rank_of figure_of chinese_digit_of tens_of 
 percentages = refl
 
 fractions : answers (codes "三分之一" ∷ codes "百分之五十" ∷ codes "百分之百"
-    ∷ codes "百分之12.5" ∷ codes "百万分之三" ∷ [])
+    ∷ codes "百分之12.5" ∷ codes "百万分之三" ∷ codes "百分之负五" ∷ codes "三分之-1" ∷ [])
     ≡ is (pos 1) 3 Fraction ∷ is (pos 50) 100 Percent ∷ is (pos 100) 100 Percent
-    ∷ is (pos 125) 1000 Percent ∷ is (pos 3) 1000000 Fraction ∷ []
+    ∷ is (pos 125) 1000 Percent ∷ is (pos 3) 1000000 Fraction ∷ is (negsuc 4) 100 Percent
+    ∷ is (negsuc 0) 3 Fraction ∷ []
 unfolding chars encode_utf8 digit_of rank_of figure_of chinese_digit_of tens_of sign_of is_point is_comma
     is_fen is_zhi share_of
 fractions = refl
 
-no_fractions : answers (codes "零分之一" ∷ codes "三分之" ∷ codes "三分之负一"
+no_fractions : answers (codes "零分之一" ∷ codes "三分之" ∷ codes "负三分之负一" ∷ codes "三分之负"
     ∷ codes "二又三分之一" ∷ codes "百分之五十%" ∷ [])
-    ≡ Err (incorrect_at 0) ∷ Err (incorrect_at 2) ∷ Err (incorrect_at 3) ∷ Err (incorrect_at 1)
-    ∷ Err (incorrect_at 5) ∷ []
+    ≡ Err (incorrect_at 0) ∷ Err (incorrect_at 2) ∷ Err (incorrect_at 4) ∷ Err (incorrect_at 3)
+    ∷ Err (incorrect_at 1) ∷ Err (incorrect_at 5) ∷ []
 unfolding chars encode_utf8 digit_of rank_of figure_of chinese_digit_of tens_of sign_of is_point is_comma
     is_fen is_zhi share_of
 no_fractions = refl
 
-signs : answers (codes " 负 三点五" ∷ codes "−5" ∷ codes "--5" ∷ [])
-    ≡ is (negsuc 34) 10 Decimal ∷ is (negsuc 4) 1 Whole ∷ Err (incorrect_at 1) ∷ []
+signs : answers (codes " 负 三点五" ∷ codes "−5" ∷ codes "--5" ∷ codes "零下十二"
+    ∷ codes "零下" ∷ codes "−¥5" ∷ codes "￥１，２８０" ∷ codes "¥五" ∷ [])
+    ≡ is (negsuc 34) 10 Decimal ∷ is (negsuc 4) 1 Whole ∷ Err (incorrect_at 1)
+    ∷ is (negsuc 11) 1 Whole ∷ Err (incorrect_at 1) ∷ is (negsuc 4) 1 Whole
+    ∷ is (pos 1280) 1 Whole ∷ Err (incorrect_at 0) ∷ []
 unfolding chars encode_utf8 digit_of rank_of figure_of chinese_digit_of tens_of sign_of is_point is_comma
     is_fen is_zhi share_of
 signs = refl

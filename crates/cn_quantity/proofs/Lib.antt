@@ -4,6 +4,7 @@ mod Examples
 pub mod Growing
 mod LawExamples
 pub mod Misreads
+pub mod Negated
 pub mod Numbers
 pub mod Points
 pub mod Ratios
