@@ -31,6 +31,7 @@ OF_CALLS = {
     "What is told of a number": ["flags"],
     "Either way": ["read", "i64", "any"],
     "Quantities": ["read_quantity", "ten_thousand"],
+    "Misread numerals": ["read_quantity", "ten_thousand"],
     "Quantities written": ["print_quantity", "ten_thousand", "simple", "lower"],
     "Quantities in figures": ["quantity_figures"],
     "Expressions replaced": ["quantities_to_figures", "none"],
