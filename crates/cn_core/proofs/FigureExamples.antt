@@ -1,6 +1,6 @@
 -- Worked examples of the characters of figures: what the definitions compute to.
 use Rattle.std.proofs.Common.{◌≡◌, map, true, false, [], ◌∷◌, Some, None, codes, refl}
-use Rattle.cn_core.specs.Figures.{figure_of, is_comma, is_currency, is_figure, is_figure_minus, is_figure_plus, is_figure_point, is_per_mille, is_percent, tens_of}
+use Rattle.cn_core.specs.Figures.{figure_of, is_comma, is_currency, is_figure, is_figure_minus, is_figure_plus, is_figure_point, is_per_mille, is_percent, is_share_sign, tens_of}
 
 values : map figure_of (codes "0９七") ≡ Some 0 ∷ Some 9 ∷ None ∷ []
 unfolding figure_of
@@ -26,6 +26,9 @@ percents = refl
 
 per_mille : map is_per_mille (codes "‰%") ≡ true ∷ false ∷ []
 per_mille = refl
+
+share_signs : map is_share_sign (codes "%％‰/") ≡ true ∷ true ∷ true ∷ false ∷ []
+share_signs = refl
 
 currencies : map is_currency (codes "¥￥元") ≡ true ∷ true ∷ false ∷ []
 currencies = refl

@@ -45,6 +45,9 @@ is_percent c = char_set_contains (codes "%％") c
 abbrev pub is_per_mille : ℕ → Bool
 is_per_mille c = char_set_contains (codes "‰") c
 
+abbrev pub is_share_sign : ℕ → Bool
+is_share_sign c = is_percent c || is_per_mille c
+
 -- the sign of yuan in front of an amount
 abbrev pub is_currency : ℕ → Bool
 is_currency c = char_set_contains (codes "¥￥") c

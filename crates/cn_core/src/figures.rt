@@ -1,6 +1,6 @@
 // Which characters stand in figures, and beside numerals in quantities.
 ghost use Rattle.std.specs.Prelude.{◌≡◌, is_some};
-ghost use Rattle.cn_core.specs.Figures.{figure_of, is_comma, is_currency, is_figure, is_figure_minus, is_figure_plus, is_figure_point, is_per_mille, is_percent, is_wide_figure, tens_of};
+ghost use Rattle.cn_core.specs.Figures.{figure_of, is_comma, is_currency, is_figure, is_figure_minus, is_figure_plus, is_figure_point, is_per_mille, is_percent, is_share_sign, is_wide_figure, tens_of};
 
 /// The value of a figure, 0 to 9: an ASCII digit or its full-width form; `None` for any other
 /// character.
@@ -133,6 +133,19 @@ pub fn is_per_mille(c: char) -> bool
     ensures { result ≡ is_per_mille c }
 {
     c == '‰'
+}
+
+/// Whether a character is a percent sign or ‰.
+///
+/// ```text
+/// is_share_sign('％') == true
+/// is_share_sign('‰') == true
+/// ```
+#[inline(always)]
+pub fn is_share_sign(c: char) -> bool
+    ensures { result ≡ is_share_sign c }
+{
+    is_percent(c) || is_per_mille(c)
 }
 
 /// Whether a character is ¥, the sign of yuan.

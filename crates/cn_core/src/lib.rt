@@ -21,7 +21,7 @@ pub use characters_written::{
 };
 pub use figures::{
     figure_of, is_comma, is_currency, is_figure, is_figure_minus, is_figure_plus, is_figure_point,
-    is_per_mille, is_percent, is_wide_figure, tens_of,
+    is_per_mille, is_percent, is_share_sign, is_wide_figure, tens_of,
 };
 pub use method::ChineseCountMethod;
 pub use scales::{exponent, power_of_ten, scale};
