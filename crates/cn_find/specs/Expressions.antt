@@ -252,8 +252,7 @@ ends_bound (c ∷ front) = binds_minus c
 -- the characters begin with a figure, or a sign of money and one
 abbrev pub begins_sum : List ℕ → Bool
 begins_sum [] = false
-begins_sum (c ∷ after) =
-    is_figure c || (is_currency c && begins_figure after)
+begins_sum (c ∷ after) = is_figure c || (is_currency c && begins_figure after)
 
 -- `-` may be a sign after these characters
 abbrev pub may_precede_minus : Wanted → List ℕ → Bool
@@ -262,8 +261,7 @@ may_precede_minus wanted front = not (ends_numeral wanted front) && not (ends_bo
 -- the nearest character is such a sign
 abbrev pub ends_minus : Wanted → List ℕ → Bool
 ends_minus wanted [] = false
-ends_minus wanted (c ∷ front) =
-    is_figure_minus c && may_precede_minus wanted front
+ends_minus wanted (c ∷ front) = is_figure_minus c && may_precede_minus wanted front
 
 -- the characters begin with a full-width figure
 abbrev pub begins_wide : List ℕ → Bool
@@ -285,8 +283,7 @@ joins wanted front c after =
     && (ends_numeral wanted front && begins_numerator wanted after))
     || (char_set_contains (codes "之") c
     && (ends_denominator wanted front && begins_signed wanted after))
-    || (is_share_sign c
-    && (ends_numeral wanted front || ends_spaced front))
+    || (is_share_sign c && (ends_numeral wanted front || ends_spaced front))
     || (char_set_contains (codes "又") c
     && (ends_numeral wanted front && begins_fraction wanted after))
     || (char_set_contains (codes "下") c
@@ -294,10 +291,8 @@ joins wanted front c after =
     || (char_set_contains (codes "负負") c
     && (begins_numeral wanted after && (not (ends_numeral wanted front)
     && not (ends_verb front))))
-    || (is_figure_minus c
-    && (begins_sum after && may_precede_minus wanted front))
-    || (is_currency c
-    && (begins_figure after && ends_minus wanted front))
+    || (is_figure_minus c && (begins_sum after && may_precede_minus wanted front))
+    || (is_currency c && (begins_figure after && ends_minus wanted front))
 
 -- a character that expressions treat otherwise than numbers do
 unfoldable pub is_extra : ℕ → Bool
@@ -310,7 +305,7 @@ abbrev pub is_word_digit : ℕ → Bool
 is_word_digit c = is_chinese_digit c || is_tens c
 
 -- two neighbours are of two expressions: the one is a figure and the other such a digit, but for 零 before
--- a figure; or the first is a percent sign
+-- a figure; or the first is a percent sign or ‰
 unfoldable pub parts_expressions : ℕ → ℕ → Bool
 parts_expressions c next =
     (is_figure c && is_word_digit next)
