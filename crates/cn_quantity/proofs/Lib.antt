@@ -1,6 +1,7 @@
 pub mod Bars
 pub mod Ends
 mod Examples
+pub mod Groups
 pub mod Growing
 mod LawExamples
 pub mod Misreads
