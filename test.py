@@ -32,14 +32,18 @@ parted by tabs. An answer is `ok` and what the call gives, or `err` and the erro
                                         `plain`, `alone`, `about` and `one`
     read_quantity WAY TEXT              the quantity of a text, as 350000/10 decimal
     find_quantities TEXT                the text, with the answer in the place of each expression
+    doubts TEXT                         the text, with the doubt of each expression in its place:
+                                        `none`, `word`, `digits`, `term`, `part`, `time` or `range`
     print_quantity WAY SCRIPT CASE QUANTITY
                                         the text of a quantity
     quantity_figures QUANTITY           the same in figures, as 12.5%
     trim_quantity QUANTITY              the quantity without the zeros at the end of its decimals
-    quantities_to_figures FLAGS TEXT    the text with its quantities in figures, also those with
-                                        FLAGS: `none`, or with + between them `about` and `one`
+    quantities_to_figures FLAGS TEXT    the text with its numerals in figures; FLAGS are `none`, or
+                                        with + between them some of `about`, `one`, `doubtful`,
+                                        `expanded` and `canonical`
     replace_quantities FLAGS TEXT       the text with its quantities in simple numerals of the lower
-                                        case, by a function that leaves fractions as they stand
+                                        case, by a function that leaves fractions as they are; FLAGS
+                                        are of the first three of these
 """
 import json
 import os

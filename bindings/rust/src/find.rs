@@ -25,6 +25,29 @@ impl Wanted {
     pub const ALL: Self = Self { upper: true, greatest: Unit::Ji };
 }
 
+/// Why a reader may mean by an expression something else than its quantity.
+#[non_exhaustive]
+#[derive(Debug, Copy, Clone, Eq, PartialEq, Hash)]
+pub enum Doubt {
+    /// It is part of a word: 十二 of 十二指肠, 十一 of 双十一.
+    Word = 1,
+    /// It is two or three Chinese digits, or more that rise: 五一, 一二三四.
+    Digits = 2,
+    /// It is part of a term: 负二 of 负二项, 十六 of 十六进制.
+    Term = 3,
+    /// It is part of an expression with 折, 成 or 半: 六点五 of 六点五折, 一 of 一个半.
+    Part = 4,
+    /// It may be a time: 三点五 of 下午三点五, 十点零五.
+    Time = 5,
+    /// It is one end of a range whose ends share a unit or 百分之: 3 and 5万 of 3~5万.
+    Range = 6,
+}
+
+impl Doubt {
+    const ALL: [Self; 6] =
+        [Self::Word, Self::Digits, Self::Term, Self::Part, Self::Time, Self::Range];
+}
+
 /// A run of numeral characters in its text.
 #[derive(Debug, Copy, Clone, Eq, PartialEq)]
 pub struct Found<'a> {
@@ -90,6 +113,24 @@ impl<'a> Found<'a> {
         self.flags & flag::ONE_CHARACTER != 0
     }
 
+    /// Why a reader may mean by an expression something else than its quantity, if anything suggests
+    /// that. A number has no doubt.
+    ///
+    /// ```rust
+    /// use chinese_number::{find_quantities, Doubt, Wanted};
+    ///
+    /// let doubts: Vec<Option<Doubt>> = find_quantities("五一假期，三十六计，二十人", Wanted::EVERYDAY)
+    ///     .map(|found| found.doubt())
+    ///     .collect();
+    /// assert_eq!(doubts, [Some(Doubt::Digits), Some(Doubt::Word), None]);
+    /// ```
+    #[inline]
+    #[must_use]
+    pub fn doubt(self) -> Option<Doubt> {
+        let code = self.flags / 16;
+        Doubt::ALL.into_iter().find(|doubt| *doubt as u32 == code)
+    }
+
     /// Its number as plain digits where it is those, else by units.
     ///
     /// # Errors
@@ -108,14 +149,14 @@ impl<'a> Found<'a> {
         }
     }
 
-    /// Its number as [`ChineseToNumber::to_number_any`] reads it, and none where that refuses it.
+    /// Its number by [`ChineseCountMethod::TenThousand`], and none where [`Self::number`] refuses it.
     #[inline]
     #[must_use]
     pub fn value<T>(self) -> Option<T>
     where
         &'a str: ChineseToNumber<T>,
     {
-        self.text.to_number_any().ok()
+        self.number(ChineseCountMethod::TenThousand).ok()
     }
 
     /// The exact quantity that its text is, as [`find_quantities`] finds them.
