@@ -422,7 +422,7 @@ static void texts_of_char(void) {
                                            && room[0] == 0 && room[1] == 7);
     expect("a zero byte at the end", cn_print(number, CN_U8, CN_DIGITS, CN_SIMPLIFIED, CN_LOWER, room, 10) == CN_DONE
                                          && strcmp(room, "一二三") == 0 && room[10] == 7);
-    expect("an empty room at a refusal", cn_print(number, CN_U8, CN_ANY + 1, CN_SIMPLIFIED, CN_LOWER, room, 10) == CN_UNKNOWN
+    expect("an empty room at a refusal", cn_print(cn_unsigned(256), CN_U8, CN_ANY, CN_SIMPLIFIED, CN_LOWER, room, 10) == CN_NOT_HELD
                                              && room[0] == 0);
     expect("a zero byte inside", cn_read("一\0二", 7, CN_U8, CN_DIGITS, &reading) == CN_INCORRECT
                                      && reading.char_index == 1 && reading.byte_index == 3);

@@ -33,7 +33,8 @@ pub use cn_replace::laws::{
     included_constants_are, texts_are_put_in_figures_in_parts, texts_stay_where_nothing_is_new,
 };
 pub use enums::{
-    equal_dates_are_the_same_day, equal_values_are_the_same_variant, units_compare_by_rank,
+    equal_amount_forms_ask_for_the_same, equal_dates_are_the_same_day,
+    equal_quantities_have_equal_parts, equal_values_are_the_same_variant, units_compare_by_rank,
 };
 pub use methods::{
     methods_spell_alike_below, methods_spell_otherwise_from, small_units_read_alike,

@@ -25,7 +25,6 @@ use Rattle.cn_express.proofs.ClearTexts.{digits-not_misread}
 use Rattle.cn_express.proofs.BareTexts.{bare-append, bare-no_fen, bare-text, behind-bare, is_bare}
 use Rattle.cn_express.proofs.Cuts.{lacks, lacks-append}
 use Rattle.cn_express.proofs.DigitTexts.{WritesDigits, WritesDigits-each, are_digits, digits-all, digits-alone, digits-lead, has_no_units, last-count, last-digits, last-read, no-factors, read-digit, read_on-append}
-use Rattle.cn_express.proofs.KnownDecimals.{over-is}
 use Rattle.cn_express.proofs.NumberTexts.{IsNumberText, IsUnsigned-decimal, IsUnsigned-whole}
 use Rattle.cn_express.proofs.Ratios.{percent-ratio, ratio-fits}
 use Rattle.cn_express.proofs.SignedTexts.{IsUnsigned, magnitude-fits, signed-read}
@@ -44,6 +43,7 @@ use Rattle.cn_quantity.specs.Trimmed.{decimals_in, decimals_of as decimals_of_qu
 use Rattle.cn_quantity.specs.Misread.{first_misread, is_digit as is_digit_mark, is_liang}
 use Rattle.cn_quantity.specs.Units.{times_units}
 use Rattle.cn_quantity.specs.WholeNumber.{is_plain, whole_answer}
+use Rattle.cn_quantity.proofs.KnownDecimals.{over-is}
 use Rattle.cn_quantity.proofs.Numbers.{in-figures}
 use Rattle.cn_quantity.proofs.Today.{digit-mark, marks-broken, whole-marks}
 use Rattle.cn_quantity.proofs.WholeNumbers.{whole-reader}

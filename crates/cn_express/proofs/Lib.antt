@@ -8,7 +8,6 @@ pub mod DigitTexts
 mod Examples
 pub mod FiguresRead
 pub mod FractionTexts
-pub mod KnownDecimals
 pub mod KnownFigures
 pub mod LastFigures
 pub mod LastMarks

@@ -2,7 +2,6 @@
 use Rattle.std.proofs.Common.{◌≡◌, ℕ, zero, suc, ◌^◌, ◌<◌, true, List, None, Some, Ok, refl, sym, ap, ◌∙◌, arith}
 use Rattle.cn_core.specs.declared.method.ChineseCountMethod.{ChineseCountMethod}
 use Rattle.cn_express.proofs.BareTexts.{are_bare, bare-no_fen, bare-no_share, bare-text}
-use Rattle.cn_express.proofs.KnownDecimals.{decimal-is, whole-is}
 use Rattle.cn_express.proofs.Ratios.{number-ratio, ratio-fits}
 use Rattle.cn_express.proofs.SignedTexts.{IsUnsigned}
 use Rattle.cn_quantity.specs.declared.number.Decimal.{Decimal as DecimalNumber}
@@ -12,6 +11,7 @@ use Rattle.cn_quantity.specs.Number.{number_answer}
 use Rattle.cn_quantity.specs.Ratio.{form_of}
 use Rattle.cn_quantity.specs.Reading.{leading_sign}
 use Rattle.cn_quantity.specs.Trimmed.{decimals_in}
+use Rattle.cn_quantity.proofs.KnownDecimals.{decimal-is, whole-is}
 
 -- what a written number with decimals is like
 pub record IsNumberText (method : ChineseCountMethod) (decimal : DecimalNumber)

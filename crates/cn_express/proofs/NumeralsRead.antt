@@ -23,7 +23,6 @@ use Rattle.cn_express.specs.ReadBack.{form_read_back}
 use Rattle.cn_express.proofs.BareTexts.{bare-append, bare-no_fen, bare-text, behind-bare, marks-bare}
 use Rattle.cn_express.proofs.DecimalTexts.{IsSpelled-magnitude, WritesDigits-chinese, chinese-bare, decimal-read, part-number, part-whole, point_bare}
 use Rattle.cn_express.proofs.FractionTexts.{IsDivisorText, IsDivisorText-written, divisor-answered}
-use Rattle.cn_express.proofs.KnownDecimals.{over-is}
 use Rattle.cn_express.proofs.NumberTexts.{IsNumberText, IsUnsigned-decimal, IsUnsigned-whole}
 use Rattle.cn_express.proofs.Ratios.{fraction-ratio, ratio-fits}
 use Rattle.cn_express.proofs.SignedTexts.{IsUnsigned, magnitude-fits, sign-text, signed-read}
@@ -37,6 +36,7 @@ use Rattle.cn_quantity.specs.Number.{part_answer}
 use Rattle.cn_quantity.specs.Ratio.{form_over}
 use Rattle.cn_quantity.specs.Reading.{leading_sign, quantity_answer}
 use Rattle.cn_quantity.specs.Trimmed.{decimals_in, decimals_of}
+use Rattle.cn_quantity.proofs.KnownDecimals.{over-is}
 use Rattle.cn_spell.proofs.ReadByOther.{IsReadBy, IsReadBy-middle, IsReadBy-own}
 use Rattle.cn_spell.proofs.SpelledMarks.{below_square}
 

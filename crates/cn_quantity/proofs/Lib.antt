@@ -1,7 +1,9 @@
 pub mod Bars
+pub mod DroppedZeros
 pub mod Ends
 mod Examples
 pub mod Growing
+pub mod KnownDecimals
 mod LawExamples
 pub mod Misreads
 pub mod Numbers
