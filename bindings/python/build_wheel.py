@@ -94,7 +94,10 @@ def about():
     # The source package's own, or a clone's.
     for folder in (HERE, HERE.parent.parent / "dist"):
         if (folder / "PROVENANCE.json").is_file():
-            return {**files, "PROVENANCE.json": (folder / "PROVENANCE.json").read_bytes()}
+            return {
+                **files,
+                "PROVENANCE.json": (folder / "PROVENANCE.json").read_bytes(),
+            }
     return files
 
 
@@ -102,7 +105,11 @@ def write_wheel(path, info, files):
     """A zip archive of the files and of a RECORD of them, in this order, each of the same old date."""
     record = ""
     for name, data in files.items():
-        digest = base64.urlsafe_b64encode(hashlib.sha256(data).digest()).rstrip(b"=").decode()
+        digest = (
+            base64.urlsafe_b64encode(hashlib.sha256(data).digest())
+            .rstrip(b"=")
+            .decode()
+        )
         record += f"{name},sha256={digest},{len(data)}\n"
     files = {**files, f"{info}/RECORD": f"{record}{info}/RECORD,,\n".encode()}
     with zipfile.ZipFile(path, "w", zipfile.ZIP_DEFLATED) as packed:
@@ -141,13 +148,19 @@ def compiler():
         if words and shutil.which(words[0]):
             return words
     missing = f", since {named}, which CC names, is not here" if named else ""
-    return stop(f"install a C compiler (on Debian: apt install gcc), or name one by CC{missing}")
+    return stop(
+        f"install a C compiler (on Debian: apt install gcc), or name one by CC{missing}"
+    )
 
 
 def takes_native():
     """Whether this Python takes the extension module, and has the header to compile it."""
     is_fit = sys.implementation.name == "cpython" and sys.version_info >= (3, 10)
-    is_fit = is_fit and os.name == "posix" and not sysconfig.get_config_var("Py_GIL_DISABLED")
+    is_fit = (
+        is_fit
+        and os.name == "posix"
+        and not sysconfig.get_config_var("Py_GIL_DISABLED")
+    )
     return is_fit and Path(sysconfig.get_path("include"), "Python.h").is_file()
 
 
@@ -158,7 +171,16 @@ def call(source, library):
         header = source.with_suffix(".h").read_text(encoding="utf-8")
         calls = re.findall(r"^uint32_t (chinese_\w+)\(", header, re.M)
         exports = [f"/EXPORT:{name}" for name in calls]
-        return [*words, "/nologo", "/O2", "/LD", str(source), f"/Fe:{library}", "/link", *exports]
+        return [
+            *words,
+            "/nologo",
+            "/O2",
+            "/LD",
+            str(source),
+            f"/Fe:{library}",
+            "/link",
+            *exports,
+        ]
     flags = ["-shared"] if library.suffix == ".dll" else ["-shared", "-fPIC"]
     if (
         sysconfig.get_platform()[:3] == "mac"
@@ -169,7 +191,15 @@ def call(source, library):
     if native:
         headers = source.parent, sysconfig.get_path("include")
         flags += [*(f"-I{it}" for it in headers), str(HERE / "native.c")]
-    return [*words, "-O2", "-fvisibility=hidden", *flags, str(source), "-o", str(library)]
+    return [
+        *words,
+        "-O2",
+        "-fvisibility=hidden",
+        *flags,
+        str(source),
+        "-o",
+        str(library),
+    ]
 
 
 def shared_library():
@@ -187,7 +217,9 @@ def shared_library():
 
 def build_wheel(wheel_directory, config_settings=None, metadata_directory=None):
     library, pythons = shared_library()
-    return pack(wheel_directory, pythons, [this_platform()], {**module(), **library}, about())
+    return pack(
+        wheel_directory, pythons, [this_platform()], {**module(), **library}, about()
+    )
 
 
 def build_editable(wheel_directory, config_settings=None, metadata_directory=None):

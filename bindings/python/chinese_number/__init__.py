@@ -234,7 +234,9 @@ class Status(Enum):
 class _Refusal(ValueError):
     _texts: Dict[Status, str]
 
-    def __init__(self, status: Status, char_index: Optional[int] = None, **more: Any) -> None:
+    def __init__(
+        self, status: Status, char_index: Optional[int] = None, **more: Any
+    ) -> None:
         text = self._texts.get(status, status.name)
         super().__init__(text.format(char_index=char_index, **more))
         self.status = status
@@ -333,7 +335,7 @@ _KINDS, _WAYS, _UNITS = _codes(Kind), _codes(Way), _codes(Unit)
 _SCRIPTS, _CASES = _codes(Script), _codes(Case)
 _FORMS, _FORM_OF = _codes(QuantityForm), tuple(QuantityForm)
 _DOUBT_OF = (None, *Doubt)
-_DOUBTS = {it: code for code, it in enumerate(Doubt, 1)}
+_DOUBTS = {it: code + 1 for it, code in _codes(Doubt).items()}
 _METHODS = {way: code for way, code in _WAYS.items() if way is not Way.DIGITS}
 # What each word adds to the form in which an amount is written, and the currency in front.
 _CURRENCY = 1
@@ -406,7 +408,9 @@ def _text(value: str) -> str:
 
 def _status(code: int) -> Status:
     if code == _TOO_LONG:
-        raise OverflowError("the text is too long: it has more than 4,293,918,720 bytes")
+        raise OverflowError(
+            "the text is too long: it has more than 4,293,918,720 bytes"
+        )
     return Status(code)
 
 
@@ -536,7 +540,9 @@ def signed_amount_to_chinese(
     '负人民币壹拾伍元整'
     """
     choices = script, currency, yuan, closing
-    return _amount_text(_library.print_signed_amount, fen, 1 - _FIRST_NOT_WRITTEN, choices)
+    return _amount_text(
+        _library.print_signed_amount, fen, 1 - _FIRST_NOT_WRITTEN, choices
+    )
 
 
 def _fen(answer: Tuple[int, int, int]) -> int:
@@ -627,7 +633,9 @@ def yuan_to_fen(value: Union[Decimal, str, SupportsIndex]) -> int:
     return _fen(_library.read_figures(str(whole)))
 
 
-def date_to_chinese(day: date, *, script: Union[Script, str] = Script.SIMPLIFIED) -> str:
+def date_to_chinese(
+    day: date, *, script: Union[Script, str] = Script.SIMPLIFIED
+) -> str:
     """The text of a date, in capitals as on a cheque. Each datetime.date has one.
 
     >>> date_to_chinese(date(2026, 10, 20))
@@ -667,19 +675,24 @@ def chinese_to_date(text: str) -> date:
 
 def _over_power(value: Decimal) -> Tuple[int, int, QuantityForm]:
     """The numerator, the denominator and the form of a Decimal. Of one of many digits, or far from
-    1 as Decimal('1E+999999999999'), they are others that 128 bits do not hold either."""
+    1 as Decimal('1E+999999999999'), they are others that 128 bits do not hold either.
+    """
     sign, digits, exponent = value.as_tuple()
     if not isinstance(exponent, int):
         raise ValueError(f"a finite number is wanted, and not {_shown(value)}")
     places = max(-_MOST_PLACES - 1, min(-exponent, _MOST_PLACES + 1))
-    numerator = int(Decimal((sign, digits[: _MOST_PLACES + 2], 0))) * 10 ** max(-places, 0)
+    numerator = int(Decimal((sign, digits[: _MOST_PLACES + 2], 0))) * 10 ** max(
+        -places, 0
+    )
     form = QuantityForm.DECIMAL if places > 0 else QuantityForm.WHOLE
     return numerator, 10 ** max(places, 0), form
 
 
 def _places_of(denominator: int) -> Optional[int]:
     """How many decimals a number over it has, or None where they have no end."""
-    return next((places for places in range(128) if 10**places % denominator == 0), None)
+    return next(
+        (places for places in range(128) if 10**places % denominator == 0), None
+    )
 
 
 @dataclass(frozen=True, init=False)
@@ -705,7 +718,9 @@ class Quantity:
         denominator: SupportsIndex = 1,
         form: Union[QuantityForm, str] = QuantityForm.WHOLE,
     ) -> None:
-        above, below = _whole(numerator, "a whole number"), _whole(denominator, "a whole number")
+        above, below = _whole(numerator, "a whole number"), _whole(
+            denominator, "a whole number"
+        )
         _refuse_not_held(above, Kind.I128)
         _refuse_not_held(below, Kind.U128)
         if below == 0:
@@ -729,7 +744,9 @@ class Quantity:
         if isinstance(value, Decimal):
             return cls(*_over_power(value))
         if isinstance(value, Fraction):
-            form = QuantityForm.FRACTION if value.denominator > 1 else QuantityForm.WHOLE
+            form = (
+                QuantityForm.FRACTION if value.denominator > 1 else QuantityForm.WHOLE
+            )
             return cls(value.numerator, value.denominator, form)
         return cls(_whole(value, "a whole number, a Decimal or a Fraction"))
 
@@ -857,7 +874,9 @@ def to_quantity(text: str, *, method: Union[Way, str] = Way.ANY) -> Quantity:
         status = _status(code)
         raise NumeralError(status, char_index=_place(status, char_index))
     low, high, below_low, below_high, form = words
-    above, below = _of_halves(low, high, Kind.I128), _of_halves(below_low, below_high, Kind.U128)
+    above, below = _of_halves(low, high, Kind.I128), _of_halves(
+        below_low, below_high, Kind.U128
+    )
     return Quantity(above, below, _FORM_OF[form])
 
 
@@ -891,7 +910,9 @@ class Found(_Run):
 
     __slots__ = ()
 
-    def number(self, *, kind: Union[Kind, str] = Kind.I128, way: Union[Way, str] = Way.ANY) -> int:
+    def number(
+        self, *, kind: Union[Kind, str] = Kind.I128, way: Union[Way, str] = Way.ANY
+    ) -> int:
         """Its number, as plain digits where it is those, and else by the way, where ANY is
         TEN_THOUSAND; a NumeralError says why it is none of the type. Its char_index counts within
         the run.
@@ -899,9 +920,13 @@ class Found(_Run):
         >>> [(found.text, found.number()) for found in find_numbers('二〇二五年十一月')]
         [('二〇二五', 2025), ('十一', 11)]
         """
-        _code(_WAYS, way, "way")  # plain digits go by no other, and yet it has to be one
+        _code(
+            _WAYS, way, "way"
+        )  # plain digits go by no other, and yet it has to be one
         units = Way.TEN_THOUSAND if way == Way.ANY else way
-        return to_number(self.text, kind=kind, way=Way.DIGITS if self.is_plain else units)
+        return to_number(
+            self.text, kind=kind, way=Way.DIGITS if self.is_plain else units
+        )
 
     def value(
         self, *, kind: Union[Kind, str] = Kind.I128, way: Union[Way, str] = Way.ANY
@@ -951,7 +976,12 @@ class FoundQuantity(_Doubted):
         doubt: Union[Doubt, str, None] = None,
     ) -> FoundQuantity:
         code = 0 if doubt is None else _code(_DOUBTS, doubt, "doubt")
-        places, flags = (start, end, text), (is_plain, stands_alone, is_about, is_one_character)
+        places, flags = (start, end, text), (
+            is_plain,
+            stands_alone,
+            is_about,
+            is_one_character,
+        )
         made: FoundQuantity = _Doubted.__new__(cls, *places, *flags, code)
         return made
 
@@ -993,7 +1023,9 @@ def find_numbers(
     Half of a surrogate pair is one character, and parts a text.
     """
     wanted = _flag(upper), _code(_UNITS, greatest, "greatest")
-    return chain.from_iterable(_found(_library.find_numbers, Found, _text(text), *wanted))
+    return chain.from_iterable(
+        _found(_library.find_numbers, Found, _text(text), *wanted)
+    )
 
 
 def find_quantities(
@@ -1016,7 +1048,11 @@ _AnyRun = TypeVar("_AnyRun", bound=_Run)
 
 
 def _found(
-    find: Callable[..., _library.Some], of: Type[_AnyRun], text: str, upper: bool, greatest: int
+    find: Callable[..., _library.Some],
+    of: Type[_AnyRun],
+    text: str,
+    upper: bool,
+    greatest: int,
 ) -> Iterator[List[_AnyRun]]:
     """What is found in a text, some at a time."""
     # A str of a class below has ways of its own, and can hold what is found in it.
@@ -1059,8 +1095,12 @@ def replace_quantities(
     done: List[str] = []
     at = 0
     for found in find_quantities(text, upper=upper, greatest=greatest):
-        is_left = found.is_about and not about or found.is_one_character and not one_character
-        is_in_doubt = found.doubt is not None and (found.doubt is Doubt.PART or not doubtful)
+        is_left = (
+            found.is_about and not about or found.is_one_character and not one_character
+        )
+        is_in_doubt = found.doubt is not None and (
+            found.doubt is Doubt.PART or not doubtful
+        )
         if is_left or is_in_doubt or found.value(method=method) is None:
             continue
         written = new(found)
@@ -1070,7 +1110,8 @@ def replace_quantities(
     return "".join((*done, text[at:]))
 
 
-_HALF, _HALF_OR_OTHER = re.compile("[\ud800-\udfff]"), re.compile("[\ud800-\udfff\ufffd]")
+# Half of a surrogate pair, or the mark that stands for one.
+_HALF_OR_MARK = re.compile("[\ud800-\udfff\ufffd]")
 
 
 def quantities_to_figures(
@@ -1108,7 +1149,11 @@ def quantities_to_figures(
     >>> quantities_to_figures('１,２８０人，007号', canonical=True)
     '1280人，7号'
     """
-    wanted = _flag(upper), _code(_UNITS, greatest, "greatest"), _code(_METHODS, method, "method")
+    wanted = (
+        _flag(upper),
+        _code(_UNITS, greatest, "greatest"),
+        _code(_METHODS, method, "method"),
+    )
     options = sum(
         option
         for option, is_chosen in (
@@ -1120,17 +1165,17 @@ def quantities_to_figures(
         )
         if _flag(is_chosen)
     )
-    # A str of a class below has ways of its own.
-    given = str.__str__(_text(text))
+    given = str.__str__(_text(text))  # a str of a class below has ways of its own
+    marks: List[str] = []
     try:
-        data, halves = given.encode(), None
+        data = given.encode()
     except UnicodeEncodeError:  # half of a surrogate pair has no UTF-8
-        data, halves = _HALF.sub("\ufffd", given).encode(), _HALF_OR_OTHER.findall(given)
+        marks = _HALF_OR_MARK.findall(given)
+        data = _HALF_OR_MARK.sub("\ufffd", given).encode()
     code, figures = _library.quantities_to_figures(data, *wanted, options)
     if code:
         _status(code)
-    if halves is None:
-        return figures
-    # They stay, and so does each U+FFFD of the text, since no expression has one.
-    left = iter(halves)
-    return re.sub("\ufffd", lambda _: next(left), figures)
+    # No expression has one of them: they stay, in their order.
+    left = iter(marks)
+    whole: str = re.sub("\ufffd", lambda _: next(left), figures) if marks else figures
+    return whole

@@ -13,12 +13,42 @@ import re
 import sys
 from datetime import date
 from functools import partial
-from typing import Any, Callable, Dict, Iterable, Iterator, List, Optional, TextIO, Tuple
+from typing import (
+    Any,
+    Callable,
+    Dict,
+    Iterable,
+    Iterator,
+    List,
+    Optional,
+    TextIO,
+    Tuple,
+)
 
-from . import AmountError, DateError, Found, FoundQuantity, Kind, NumeralError, Status, Way
-from . import __version__, chinese_to_amount, chinese_to_amount_as_typed, chinese_to_date
+from . import (
+    AmountError,
+    DateError,
+    Found,
+    FoundQuantity,
+    Kind,
+    NumeralError,
+    Status,
+    Way,
+)
+from . import (
+    __version__,
+    chinese_to_amount,
+    chinese_to_amount_as_typed,
+    chinese_to_date,
+)
 from . import chinese_to_signed_amount, date_to_chinese, find_numbers, find_quantities
-from . import quantities_to_figures, signed_amount_to_chinese, to_chinese, to_number, yuan_to_fen
+from . import (
+    quantities_to_figures,
+    signed_amount_to_chinese,
+    to_chinese,
+    to_number,
+    yuan_to_fen,
+)
 from ._tables import Table, write_table
 
 
@@ -42,14 +72,17 @@ _KIND: _Options = {"--kind": [it.value for it in Kind]}
 _WAY: _Options = {"--way": [it.value for it in Way]}
 _METHOD: _Options = {"--method": [it.value for it in Way if it is not Way.DIGITS]}
 _REPLACED: _Options = {
-    f"--{it}": _FLAG for it in ("about", "one-character", "doubtful", "expanded", "canonical")
+    f"--{it}": _FLAG
+    for it in ("about", "one-character", "doubtful", "expanded", "canonical")
 }
 _FORM: _Options = {"--currency": _FLAG, "--yuan": ["元", "圆"], "--closing": ["整", "正"]}
 _READER: _Options = {"--signed": _FLAG, "--typed": _FLAG}
 _TABLE: _Options = {
     "--column": _Matching("[1-9][0-9]{0,8}", "a number from 1 to 999999999"),
     "--header": _FLAG,
-    "--delimiter": _Matching(r'[^"\r\n]', "a character that is no quote and no line end"),
+    "--delimiter": _Matching(
+        r'[^"\r\n]', "a character that is no quote and no line end"
+    ),
 }
 # What a flag means to a call that has no keyword of its name.
 _MEANINGS: Dict[str, Dict[str, Any]] = {
@@ -105,7 +138,9 @@ def _not_one_of(name: str, choices: Iterable[str], given: str) -> _Misuse:
 
 # In front of the figures of an amount, and the whole of the figures of a date or a front of them.
 _BEGINS_FIGURES = re.compile(r"[\0-\x7f¥￥０-９]")
-_FRONT_OF_DATE = re.compile(r"[0-9]{4}-[0-9]{2}-[0-9]{0,2}|[0-9]{4}-[0-9]{0,2}|[0-9]{0,4}")
+_FRONT_OF_DATE = re.compile(
+    r"[0-9]{4}-[0-9]{2}-[0-9]{0,2}|[0-9]{4}-[0-9]{0,2}|[0-9]{0,4}"
+)
 
 
 def _figures(fen: int) -> str:
@@ -113,7 +148,9 @@ def _figures(fen: int) -> str:
     return f"{'-' if fen < 0 else ''}{yuan}.{places:02}"
 
 
-def _amount(word: str, *, signed: bool = False, typed: bool = False, **options: Any) -> str:
+def _amount(
+    word: str, *, signed: bool = False, typed: bool = False, **options: Any
+) -> str:
     """An amount in figures of one in capitals, or the other way round."""
     front = word.lstrip() if typed else word
     if not _BEGINS_FIGURES.match(front) and not (signed and word.startswith("−")):
@@ -165,7 +202,9 @@ def _quantity_of(found: FoundQuantity, **options: Any) -> str:
     return f"{quantity.numerator}{below}"
 
 
-def _answers(line: bytes, find: Callable[[str], Any], answer: Callable[..., str]) -> Iterator[str]:
+def _answers(
+    line: bytes, find: Callable[[str], Any], answer: Callable[..., str]
+) -> Iterator[str]:
     """The column, the text and the answer of each that is found in a line."""
     try:
         text = line.decode()
@@ -216,7 +255,11 @@ _COMMANDS: Dict[str, Tuple[Callable[..., Any], Callable[[str], Any], _Options]] 
     "date": (_date, str, _TRADITIONAL),
     "read": (to_number, str, {**_KIND, **_WAY}),
     "print": (to_chinese, _number, {**_TRADITIONAL, "--upper": _FLAG, **_KIND, **_WAY}),
-    "find": (_find, str, {"--exact": _FLAG, "--all": _FLAG, **_KIND, **_WAY, **_METHOD}),
+    "find": (
+        _find,
+        str,
+        {"--exact": _FLAG, "--all": _FLAG, **_KIND, **_WAY, **_METHOD},
+    ),
     "replace": (quantities_to_figures, str, {"--all": _FLAG, **_METHOD, **_REPLACED}),
 }
 
@@ -257,7 +300,9 @@ def _refuse_misfits(first: str, options: Dict[str, Any]) -> None:
         raise _Misuse("--method needs --exact")
 
 
-def _answered(call: Callable[..., object], arguments: List[Any], options: Dict[str, Any]) -> int:
+def _answered(
+    call: Callable[..., object], arguments: List[Any], options: Dict[str, Any]
+) -> int:
     """Answers each of the arguments on a line of its own, and gives the status."""
     status = 0
     for argument in arguments:
@@ -292,14 +337,26 @@ def _run(words: List[str]) -> int:
         return _run(["--help"])
     of_input = _of_input(first, others, options)
     if bool(of_input) == bool(others):
-        raise _Misuse("standard input is answered, and no words" if others else "there is no word")
+        raise _Misuse(
+            "standard input is answered, and no words" if others else "there is no word"
+        )
     _refuse_misfits(first, options)
-    return of_input(options) if of_input else _answered(call, [*map(of_word, others)], options)
+    return (
+        of_input(options)
+        if of_input
+        else _answered(call, [*map(of_word, others)], options)
+    )
 
 
 def _stream(number: int) -> TextIO:
     return open(
-        number, "w", buffering=1, encoding="utf-8", errors="replace", newline="\n", closefd=False
+        number,
+        "w",
+        buffering=1,
+        encoding="utf-8",
+        errors="replace",
+        newline="\n",
+        closefd=False,
     )
 
 
@@ -307,7 +364,9 @@ def main() -> int:
     """Answers the command line, and gives the status."""
     try:
         sys.stderr, sys.stdout = _stream(2), _stream(1)
-        return _run([os.fsencode(it).decode("utf-8", "surrogateescape") for it in sys.argv[1:]])
+        return _run(
+            [os.fsencode(it).decode("utf-8", "surrogateescape") for it in sys.argv[1:]]
+        )
     except _Misuse as error:
         print(f"chinese-number: {error} (--help says more)", file=sys.stderr)
         return 2

@@ -51,7 +51,12 @@ class _Number(ctypes.Structure):
 
 
 class _Quantity(ctypes.Structure):
-    _fields_ = [("numerator", _Number), ("denominator", _Number), ("form", _CODE), *_PLACE]
+    _fields_ = [
+        ("numerator", _Number),
+        ("denominator", _Number),
+        ("form", _CODE),
+        *_PLACE,
+    ]
 
 
 class _Amount(ctypes.Structure):
@@ -129,6 +134,7 @@ class Run:
         "is_one_character",
         "_doubt",
     )
+    _doubt: int
 
     def __new__(
         cls,
@@ -157,7 +163,11 @@ def _module() -> Any:
     module that does not ask for it.
     """
     free_threaded = "t" in getattr(sys, "abiflags", "")
-    if sys.implementation.name != "cpython" or sys.version_info < (3, 10) or free_threaded:
+    if (
+        sys.implementation.name != "cpython"
+        or sys.version_info < (3, 10)
+        or free_threaded
+    ):
         return None
     try:
         return importlib.import_module("._native", __package__)
@@ -223,10 +233,14 @@ def quick(function: _Function) -> _Function:
     make = getattr(_native, f"quick_{function.__name__}", None)
     if not make:
         return function
-    words = ", ".join(f"{name}={value!s}" for name, value in function.__kwdefaults__.items())
+    words = ", ".join(
+        f"{name}={value!s}" for name, value in function.__kwdefaults__.items()
+    )
     signature = f"{function.__name__}({function.__code__.co_varnames[0]}, *, {words})"
     text = f"{signature}\n--\n\n{function.__doc__}"
-    quickly: _Function = make(function, function.__kwdefaults__, text, function.__module__)
+    quickly: _Function = make(
+        function, function.__kwdefaults__, text, function.__module__
+    )
     return quickly
 
 
@@ -252,7 +266,9 @@ def read_number(text: str, kind: int, way: int) -> Tuple[int, int, int, int]:
     return status, it.low, it.high, it.char_index
 
 
-def _read_fen(call: Any, text: str, it: Union[_Amount, _SignedAmount]) -> Tuple[int, int, int]:
+def _read_fen(
+    call: Any, text: str, it: Union[_Amount, _SignedAmount]
+) -> Tuple[int, int, int]:
     status = _read(call, text, it)
     return status, it.fen, it.char_index
 
@@ -289,7 +305,11 @@ def read_quantity(text: str, method: int) -> Tuple[int, Words, int]:
     it = _Quantity()
     status = _read(library.chinese_quantity_read, text, it, method)
     above, below = it.numerator, it.denominator
-    return status, (above.low, above.high, below.low, below.high, it.form), it.char_index
+    return (
+        status,
+        (above.low, above.high, below.low, below.high, it.form),
+        it.char_index,
+    )
 
 
 def print_number(
@@ -308,19 +328,25 @@ def print_amount(fen: int, script: int, form: int) -> Tuple[int, str]:
 def print_signed_amount(fen: int, script: int, form: int) -> Tuple[int, str]:
     """The text of an amount, with its sign, from -2**63 fen on and of less than 2**63."""
     codes = fen, script, form
-    return _printed(library.chinese_signed_amount_print, _MOST_SIGNED_AMOUNT_BYTES, *codes)
+    return _printed(
+        library.chinese_signed_amount_print, _MOST_SIGNED_AMOUNT_BYTES, *codes
+    )
 
 
 def print_date(year: int, month: int, day: int, script: int) -> Tuple[int, str]:
     """The text of a date."""
-    return _printed(library.chinese_date_print, _MOST_DATE_BYTES, year, month, day, script)
+    return _printed(
+        library.chinese_date_print, _MOST_DATE_BYTES, year, month, day, script
+    )
 
 
 def _at_words(low: int, high: int, below_low: int, below_high: int, form: int) -> Any:
     return byref(_Quantity(_Number(low, high), _Number(below_low, below_high), form))
 
 
-def print_quantity(quantity: Words, method: int, script: int, case: int) -> Tuple[int, str]:
+def print_quantity(
+    quantity: Words, method: int, script: int, case: int
+) -> Tuple[int, str]:
     """The text of a quantity. Of what goes as a word the low 64 bits are taken."""
     codes = _at_words(*quantity), method, script, case
     return _printed(library.chinese_quantity_print, _MOST_QUANTITY_BYTES, *codes)
@@ -336,7 +362,11 @@ def quantities_to_figures(
     data: bytes, upper: bool, greatest: int, method: int, options: int
 ) -> Tuple[int, str]:
     """The text with its quantities in figures. The data are the text in UTF-8."""
-    codes, length, status = (upper, greatest, method, options), _SIZE(len(data)), _NO_ROOM
+    codes, length, status = (
+        (upper, greatest, method, options),
+        _SIZE(len(data)),
+        _NO_ROOM,
+    )
     while status == _NO_ROOM:
         room = ctypes.create_string_buffer(max(length.value, _MOST_FIGURES_BYTES))
         status = library.chinese_quantities_to_figures(
@@ -350,7 +380,9 @@ def utf8(text: str) -> Union[bytes, bytearray]:
     return str.encode(text, "utf-8", "replace")
 
 
-def _some(call: Any, text: str, data: bytes, searched: int, index: int, *wanted: Any) -> Some:
+def _some(
+    call: Any, text: str, data: bytes, searched: int, index: int, *wanted: Any
+) -> Some:
     spans, count, made = (_Span * _AT_ONCE)(), _SIZE(), []
     *codes, of = wanted
     status = call(data, len(data), searched, *codes, spans, _AT_ONCE, byref(count))
@@ -358,7 +390,8 @@ def _some(call: Any, text: str, data: bytes, searched: int, index: int, *wanted:
         start = index + len(data[searched : span.start].decode())
         searched, index = span.end, start + len(data[span.start : span.end].decode())
         doubt, flags = divmod(span.flags, _DOUBT)
-        made.append(Run.__new__(of, start, index, text[start:index], *_FLAGS_OF[flags], doubt))
+        values: List[Any] = [start, index, text[start:index], *_FLAGS_OF[flags], doubt]
+        made.append(Run.__new__(of, *values))
     return status, made, searched if len(made) == _AT_ONCE else len(data), index
 
 
