@@ -26,7 +26,7 @@ use Rattle.cn_express.proofs.BareTexts.{bare-append, bare-no_fen, bare-text, beh
 use Rattle.cn_express.proofs.Cuts.{lacks, lacks-append}
 use Rattle.cn_express.proofs.DigitTexts.{WritesDigits, WritesDigits-each, are_digits, digits-all, digits-alone, digits-lead, has_no_units, last-count, last-digits, last-read, no-factors, read-digit, read_on-append}
 use Rattle.cn_express.proofs.NumberTexts.{IsNumberText, IsUnsigned-decimal, IsUnsigned-whole}
-use Rattle.cn_express.proofs.Ratios.{percent-ratio, ratio-fits}
+use Rattle.cn_express.proofs.Ratios.{no-negated, percent-ratio, ratio-fits}
 use Rattle.cn_express.proofs.SignedTexts.{IsUnsigned, magnitude-fits, signed-read}
 use Rattle.cn_express.proofs.WrittenTexts.{IsText, IsText-append}
 use Rattle.cn_judge.proofs.Walking.{rows_have}
@@ -374,7 +374,7 @@ unfolding share_of is_fen
 percent-is = (refl, refl)
 
 IsText-percent : IsText (codes "%")
-IsText-percent = record { scalars = refl; kept = refl }
+IsText-percent = record { scalars = refl; kept = refl; bare = refl }
 
 IsUnsigned-percent : (method : ChineseCountMethod) (number decimals denominator : ℕ)
     (text : List ℕ) → 0 < length text
@@ -386,6 +386,8 @@ IsUnsigned-percent : (method : ChineseCountMethod) (number decimals denominator 
 IsUnsigned-percent method number decimals denominator text some n is small = record {
   written = IsText-append text (codes "%") (bare-text text n.bare) IsText-percent;
   no_sign = sign-front text (codes "%") some ∙ n.no_sign;
+  no_minus = no-negated (text ++ codes "%")
+      (lacks-append is_fen text (codes "%") (bare-no_fen text n.bare) (percent-is.1));
   read = percent-ratio method (record { number = number; decimals = decimals })
       (slice_index (codes "%") 0) text
       (lacks-append is_fen text (codes "%") (bare-no_fen text n.bare) (percent-is.1))
@@ -419,7 +421,7 @@ unfolding sign_of
 minus-is = refl
 
 IsText-minus : IsText (codes "-")
-IsText-minus = record { scalars = refl; kept = refl }
+IsText-minus = record { scalars = refl; kept = refl; bare = refl }
 
 figures-encoded : (method : ChineseCountMethod) (q : Quantity) (decimals : ℕ)
     → holds (signed_kind 128) q.numerator ≡ true → q.denominator < 2 ^ 128

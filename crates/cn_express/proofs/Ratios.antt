@@ -1,5 +1,5 @@
 -- Which ratio a text without sign is, from what its parts are answered.
-use Rattle.std.proofs.Common.{◌≡◌, ℕ, ◌+◌, ◌*◌, ◌^◌, ◌<◌, true, false, ◌&&◌, nat_lt, List, [], ◌∷◌, ◌++◌, length, slice_index, Some, Ok, refl, sym, ap, ap₂, ◌∙◌, arith}
+use Rattle.std.proofs.Common.{◌≡◌, ℕ, ◌+◌, ◌*◌, ◌^◌, ◌<◌, true, false, ◌&&◌, nat_lt, List, [], ◌∷◌, ◌++◌, length, slice_index, None, Some, Ok, refl, sym, ap, ap₂, ◌∙◌, arith}
 use Rattle.std.proofs.lemmas.Bool.Decides.{nat_tests}
 use Rattle.cn_core.specs.declared.method.ChineseCountMethod.{ChineseCountMethod}
 use Rattle.cn_express.specs.Numerals.{bar}
@@ -10,7 +10,9 @@ use Rattle.cn_quantity.specs.declared.quantity.QuantityForm.TheVariants.{Percent
 use Rattle.cn_quantity.specs.Answer.{and_then, further_by}
 use Rattle.cn_quantity.specs.Characters.{is_fen, is_share, is_zhi, share_of}
 use Rattle.cn_quantity.specs.Number.{divisor_answer, number_answer, part_answer}
-use Rattle.cn_quantity.specs.Ratio.{after_bar, before_bar, form_of, form_over, fraction_answer, is_fraction, ratio_answer, ratio_of, share}
+use Rattle.cn_quantity.specs.Ratio.{after_bar, before_bar, begins_with_minus, form_of, form_over, fraction_answer, is_fraction, is_negated, ratio_answer, ratio_of, share}
+use Rattle.cn_core.specs.Reading.{is_minus}
+use Rattle.cn_quantity.specs.Reading.{leading_sign}
 use Rattle.cn_quantity.proofs.Bars.{front-taken, share-some}
 use Rattle.cn_quantity.proofs.Ratios.{a-fraction, a-number, a-share}
 use Rattle.cn_quantity.proofs.Today.{and-none}
@@ -38,7 +40,7 @@ pub fraction-ratio : (method : ChineseCountMethod) (divisor : ℕ) (decimal : De
     → ratio_answer method (before ++ (bar ++ after)) ≡ ratio_of divisor (form_over divisor) decimal
 fraction-ratio method divisor decimal before after none some many one other =
     a-fraction method (before ++ (bar ++ after)) is
-    ∙ ap₂ (fraction_answer method) cut.0 cut.1
+    ∙ ap₂ (λ b a. fraction_answer method b (length b + 2) a) cut.0 cut.1
     ∙ ap (λ a. and_then a (λ divisor.
     and_then (further_by (length before + 2) (part_answer method after))
     (λ decimal. ratio_of divisor (form_over divisor) decimal))) one
@@ -56,6 +58,24 @@ no-fraction : (text : List ℕ) → lacks is_fen text ≡ true → is_fraction t
 no-fraction text no_fen =
     ap (λ l. nat_lt 0 (length (before_bar text)) && nat_lt 0 (length l)) (bar-none text no_fen)
     ∙ and-none (nat_lt 0 (length (before_bar text)))
+
+-- nor one with a minus sign
+pub no-negated : (text : List ℕ) → lacks is_fen text ≡ true → is_negated text ≡ false
+no-negated text no_fen =
+    ap (λ b. b && begins_with_minus (after_bar text)) (no-fraction text no_fen)
+
+-- and one whose part over the line begins with no sign has none either
+pub unsigned-over : (before after : List ℕ) → lacks is_fen before ≡ true
+    → leading_sign after ≡ None → is_negated (before ++ (bar ++ after)) ≡ false
+unsigned-over before after none sign =
+    ap (λ l. is_fraction (before ++ (bar ++ after)) && begins_with_minus l)
+    (bar-cut before after none).1
+    ∙ ap (λ b. is_fraction (before ++ (bar ++ after)) && b) (no-minus after sign)
+    ∙ and-none (is_fraction (before ++ (bar ++ after))) where
+      no-minus : (l : List ℕ) → leading_sign l ≡ None → begins_with_minus l ≡ false
+      no-minus [] h = refl
+      no-minus (c ∷ []) h = refl
+      no-minus (c ∷ next ∷ rest) h = ap is_minus h
 
 -- a percent sign at the end
 pub percent-ratio : (method : ChineseCountMethod) (decimal : DecimalNumber) (sign : ℕ)

@@ -6,6 +6,7 @@ pub mod Growing
 pub mod KnownDecimals
 mod LawExamples
 pub mod Misreads
+pub mod Negated
 pub mod Numbers
 pub mod Points
 pub mod Ratios
