@@ -139,14 +139,15 @@ typedef enum cn_flag CN_OF_CODE {
     CN_ONE_CHARACTER = 8  /* it is one Chinese character, as the 一 of 一般 is */
 } CN_FLAGS cn_flag;
 
-/* Why a reader may mean by an expression something else than its quantity: the first of these reasons that applies. In the
- * flags of a span it is multiplied by 16 and added to the flags above, so read it by cn_doubt_of. A number has none. */
+/* Why a reader may mean by an expression something else than its quantity. Of several reasons CN_DOUBT_PART is reported, or
+ * else the first one here. In the flags of a span it is multiplied by 16 and added to the flags above, so read it by
+ * cn_doubt_of. A number has none. */
 typedef enum cn_doubt CN_OF_CODE {
     CN_NO_DOUBT = 0,
     CN_DOUBT_WORD = 1,   /* it is part of a word: 十二 of 十二指肠, 十一 of 双十一 */
     CN_DOUBT_DIGITS = 2, /* it is two or three Chinese digits, or more that rise: 五一, 一二三四 */
     CN_DOUBT_TERM = 3,   /* it is part of a term: 负二 of 负二项, 十六 of 十六进制 */
-    CN_DOUBT_PART = 4,   /* it is part of an expression with 折, 成 or 半: 六点五 of 六点五折, 一 of 一个半 */
+    CN_DOUBT_PART = 4,   /* it is part of an expression with 折, 成 or 半: 八五 of 八五折, 一 of 一个半 */
     CN_DOUBT_TIME = 5,   /* it may be a time: 三点五 of 下午三点五, 十点零五 */
     CN_DOUBT_RANGE = 6   /* it is one end of a range whose ends share a unit or 百分之: 3 and 5万 of 3~5万 */
 } cn_doubt;

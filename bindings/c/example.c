@@ -208,7 +208,7 @@ static void each_status_of_replacing(void) {
     replaces("1,280", CN_TEN_THOUSAND, CN_CANONICAL, 64, CN_DONE, 4, "1280");
     replaces("十几，一般", CN_TEN_THOUSAND, both, 64, CN_DONE, 12, "10几，1般");
     replaces("五一", CN_TEN_THOUSAND, CN_DOUBTFUL, 64, CN_DONE, 2, "51");
-    replaces("六点五折", CN_TEN_THOUSAND, each, 64, CN_DONE, 12, "六点五折");
+    replaces("八五折", CN_TEN_THOUSAND, each, 64, CN_DONE, 9, "八五折");
     replaces("", CN_TEN_THOUSAND, 0, 0, CN_DONE, 0, "");
     replaces("\xff", CN_TEN_THOUSAND, 0, 64, CN_NOT_UTF8, 0, "no UTF-8");
     replaces("一", CN_DIGITS, 0, 64, CN_UNKNOWN, 0, "a way that is no method");

@@ -250,12 +250,12 @@ func TestSearchesStop(t *testing.T) {
 }
 
 func TestOptions(t *testing.T) {
-	const text = "1,280，五一，六点五折，三亿"
+	const text = "1,280，五一，八五折，三亿"
 	for wanted, which := range map[string]*cn.Replacing{
-		"1,280，五一，六点五折，3亿":        nil,
-		"1280，五一，六点五折，3亿":         {Canonical: true},
-		"1,280，51，六点五折，3亿":        {Doubtful: true},
-		"1,280，五一，六点五折，300000000": {Expanded: true},
+		"1,280，五一，八五折，3亿":        nil,
+		"1280，五一，八五折，3亿":         {Canonical: true},
+		"1,280，51，六点五折，3亿":       {Doubtful: true},
+		"1,280，五一，八五折，300000000": {Expanded: true},
 	} {
 		figures, err := cn.QuantitiesToFigures(text, which)
 		wantStatus(t, wanted, err, cn.Done)

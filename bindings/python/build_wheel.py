@@ -105,11 +105,7 @@ def write_wheel(path, info, files):
     """A zip archive of the files and of a RECORD of them, in this order, each of the same old date."""
     record = ""
     for name, data in files.items():
-        digest = (
-            base64.urlsafe_b64encode(hashlib.sha256(data).digest())
-            .rstrip(b"=")
-            .decode()
-        )
+        digest = base64.urlsafe_b64encode(hashlib.sha256(data).digest()).rstrip(b"=").decode()
         record += f"{name},sha256={digest},{len(data)}\n"
     files = {**files, f"{info}/RECORD": f"{record}{info}/RECORD,,\n".encode()}
     with zipfile.ZipFile(path, "w", zipfile.ZIP_DEFLATED) as packed:
@@ -148,19 +144,13 @@ def compiler():
         if words and shutil.which(words[0]):
             return words
     missing = f", since {named}, which CC names, is not here" if named else ""
-    return stop(
-        f"install a C compiler (on Debian: apt install gcc), or name one by CC{missing}"
-    )
+    return stop(f"install a C compiler (on Debian: apt install gcc), or name one by CC{missing}")
 
 
 def takes_native():
     """Whether this Python takes the extension module, and has the header to compile it."""
     is_fit = sys.implementation.name == "cpython" and sys.version_info >= (3, 10)
-    is_fit = (
-        is_fit
-        and os.name == "posix"
-        and not sysconfig.get_config_var("Py_GIL_DISABLED")
-    )
+    is_fit = is_fit and os.name == "posix" and not sysconfig.get_config_var("Py_GIL_DISABLED")
     return is_fit and Path(sysconfig.get_path("include"), "Python.h").is_file()
 
 
@@ -217,9 +207,7 @@ def shared_library():
 
 def build_wheel(wheel_directory, config_settings=None, metadata_directory=None):
     library, pythons = shared_library()
-    return pack(
-        wheel_directory, pythons, [this_platform()], {**module(), **library}, about()
-    )
+    return pack(wheel_directory, pythons, [this_platform()], {**module(), **library}, about())
 
 
 def build_editable(wheel_directory, config_settings=None, metadata_directory=None):

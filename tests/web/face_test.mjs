@@ -808,8 +808,8 @@ function tryReplaced() {
       assert.equal(expanded, figures.repeat(count));
     }
   }
-  const text = '三亿，１,２８０，五一，六点五折';
-  assert.equal(quantitiesToFigures(text), '3亿，１,２８０，五一，六点五折');
+  const text = '三亿，１,２８０，五一，八五折';
+  assert.equal(quantitiesToFigures(text), '3亿，１,２８０，五一，八五折');
   assert.equal(quantitiesToFigures(text, { doubtful: true, canonical: true }),
     '3亿，1280，51，六点五折');
   const twice = ({ text }) => (text === '-5' ? undefined : text + text);

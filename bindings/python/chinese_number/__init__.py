@@ -197,7 +197,7 @@ class Doubt(str, Enum):
     WORD: it is part of a word: 十二 of 十二指肠, 十一 of 双十一.
     DIGITS: it is two or three Chinese digits, or more that rise: 五一, 一二三四.
     TERM: it is part of a term: 负二 of 负二项, 十六 of 十六进制.
-    PART: it is part of an expression with 折, 成 or 半: 六点五 of 六点五折, 一 of 一个半.
+    PART: it is part of an expression with 折, 成 or 半: 八五 of 八五折, 一 of 一个半.
     TIME: it may be a time: 三点五 of 下午三点五, 十点零五.
     RANGE: it is one end of a range whose ends share a unit or 百分之: 3 and 5万 of 3~5万.
     """
@@ -234,9 +234,7 @@ class Status(Enum):
 class _Refusal(ValueError):
     _texts: Dict[Status, str]
 
-    def __init__(
-        self, status: Status, char_index: Optional[int] = None, **more: Any
-    ) -> None:
+    def __init__(self, status: Status, char_index: Optional[int] = None, **more: Any) -> None:
         text = self._texts.get(status, status.name)
         super().__init__(text.format(char_index=char_index, **more))
         self.status = status
@@ -408,9 +406,7 @@ def _text(value: str) -> str:
 
 def _status(code: int) -> Status:
     if code == _TOO_LONG:
-        raise OverflowError(
-            "the text is too long: it has more than 4,293,918,720 bytes"
-        )
+        raise OverflowError("the text is too long: it has more than 4,293,918,720 bytes")
     return Status(code)
 
 
@@ -540,9 +536,7 @@ def signed_amount_to_chinese(
     '负人民币壹拾伍元整'
     """
     choices = script, currency, yuan, closing
-    return _amount_text(
-        _library.print_signed_amount, fen, 1 - _FIRST_NOT_WRITTEN, choices
-    )
+    return _amount_text(_library.print_signed_amount, fen, 1 - _FIRST_NOT_WRITTEN, choices)
 
 
 def _fen(answer: Tuple[int, int, int]) -> int:
@@ -633,9 +627,7 @@ def yuan_to_fen(value: Union[Decimal, str, SupportsIndex]) -> int:
     return _fen(_library.read_figures(str(whole)))
 
 
-def date_to_chinese(
-    day: date, *, script: Union[Script, str] = Script.SIMPLIFIED
-) -> str:
+def date_to_chinese(day: date, *, script: Union[Script, str] = Script.SIMPLIFIED) -> str:
     """The text of a date, in capitals as on a cheque. Each datetime.date has one.
 
     >>> date_to_chinese(date(2026, 10, 20))
@@ -681,18 +673,14 @@ def _over_power(value: Decimal) -> Tuple[int, int, QuantityForm]:
     if not isinstance(exponent, int):
         raise ValueError(f"a finite number is wanted, and not {_shown(value)}")
     places = max(-_MOST_PLACES - 1, min(-exponent, _MOST_PLACES + 1))
-    numerator = int(Decimal((sign, digits[: _MOST_PLACES + 2], 0))) * 10 ** max(
-        -places, 0
-    )
+    numerator = int(Decimal((sign, digits[: _MOST_PLACES + 2], 0))) * 10 ** max(-places, 0)
     form = QuantityForm.DECIMAL if places > 0 else QuantityForm.WHOLE
     return numerator, 10 ** max(places, 0), form
 
 
 def _places_of(denominator: int) -> Optional[int]:
     """How many decimals a number over it has, or None where they have no end."""
-    return next(
-        (places for places in range(128) if 10**places % denominator == 0), None
-    )
+    return next((places for places in range(128) if 10**places % denominator == 0), None)
 
 
 @dataclass(frozen=True, init=False)
@@ -718,9 +706,7 @@ class Quantity:
         denominator: SupportsIndex = 1,
         form: Union[QuantityForm, str] = QuantityForm.WHOLE,
     ) -> None:
-        above, below = _whole(numerator, "a whole number"), _whole(
-            denominator, "a whole number"
-        )
+        above, below = _whole(numerator, "a whole number"), _whole(denominator, "a whole number")
         _refuse_not_held(above, Kind.I128)
         _refuse_not_held(below, Kind.U128)
         if below == 0:
@@ -744,9 +730,7 @@ class Quantity:
         if isinstance(value, Decimal):
             return cls(*_over_power(value))
         if isinstance(value, Fraction):
-            form = (
-                QuantityForm.FRACTION if value.denominator > 1 else QuantityForm.WHOLE
-            )
+            form = QuantityForm.FRACTION if value.denominator > 1 else QuantityForm.WHOLE
             return cls(value.numerator, value.denominator, form)
         return cls(_whole(value, "a whole number, a Decimal or a Fraction"))
 
@@ -874,9 +858,7 @@ def to_quantity(text: str, *, method: Union[Way, str] = Way.ANY) -> Quantity:
         status = _status(code)
         raise NumeralError(status, char_index=_place(status, char_index))
     low, high, below_low, below_high, form = words
-    above, below = _of_halves(low, high, Kind.I128), _of_halves(
-        below_low, below_high, Kind.U128
-    )
+    above, below = _of_halves(low, high, Kind.I128), _of_halves(below_low, below_high, Kind.U128)
     return Quantity(above, below, _FORM_OF[form])
 
 
@@ -910,9 +892,7 @@ class Found(_Run):
 
     __slots__ = ()
 
-    def number(
-        self, *, kind: Union[Kind, str] = Kind.I128, way: Union[Way, str] = Way.ANY
-    ) -> int:
+    def number(self, *, kind: Union[Kind, str] = Kind.I128, way: Union[Way, str] = Way.ANY) -> int:
         """Its number, as plain digits where it is those, and else by the way, where ANY is
         TEN_THOUSAND; a NumeralError says why it is none of the type. Its char_index counts within
         the run.
@@ -920,13 +900,9 @@ class Found(_Run):
         >>> [(found.text, found.number()) for found in find_numbers('二〇二五年十一月')]
         [('二〇二五', 2025), ('十一', 11)]
         """
-        _code(
-            _WAYS, way, "way"
-        )  # plain digits go by no other, and yet it has to be one
+        _code(_WAYS, way, "way")  # plain digits go by no other, and yet it has to be one
         units = Way.TEN_THOUSAND if way == Way.ANY else way
-        return to_number(
-            self.text, kind=kind, way=Way.DIGITS if self.is_plain else units
-        )
+        return to_number(self.text, kind=kind, way=Way.DIGITS if self.is_plain else units)
 
     def value(
         self, *, kind: Union[Kind, str] = Kind.I128, way: Union[Way, str] = Way.ANY
@@ -1023,9 +999,7 @@ def find_numbers(
     Half of a surrogate pair is one character, and parts a text.
     """
     wanted = _flag(upper), _code(_UNITS, greatest, "greatest")
-    return chain.from_iterable(
-        _found(_library.find_numbers, Found, _text(text), *wanted)
-    )
+    return chain.from_iterable(_found(_library.find_numbers, Found, _text(text), *wanted))
 
 
 def find_quantities(
@@ -1095,12 +1069,8 @@ def replace_quantities(
     done: List[str] = []
     at = 0
     for found in find_quantities(text, upper=upper, greatest=greatest):
-        is_left = (
-            found.is_about and not about or found.is_one_character and not one_character
-        )
-        is_in_doubt = found.doubt is not None and (
-            found.doubt is Doubt.PART or not doubtful
-        )
+        is_left = found.is_about and not about or found.is_one_character and not one_character
+        is_in_doubt = found.doubt is not None and (found.doubt is Doubt.PART or not doubtful)
         if is_left or is_in_doubt or found.value(method=method) is None:
             continue
         written = new(found)
@@ -1138,8 +1108,8 @@ def quantities_to_figures(
 
     >>> quantities_to_figures('一共十几个', about=True, one_character=True)
     '1共10几个'
-    >>> quantities_to_figures('五一，六点五折', doubtful=True)
-    '51，六点五折'
+    >>> quantities_to_figures('五一，八五折', doubtful=True)
+    '51，八五折'
 
     With expanded no great unit is kept, and with canonical figures are rewritten in ASCII, without
     commas and leading zeros.

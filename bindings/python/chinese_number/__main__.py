@@ -72,17 +72,14 @@ _KIND: _Options = {"--kind": [it.value for it in Kind]}
 _WAY: _Options = {"--way": [it.value for it in Way]}
 _METHOD: _Options = {"--method": [it.value for it in Way if it is not Way.DIGITS]}
 _REPLACED: _Options = {
-    f"--{it}": _FLAG
-    for it in ("about", "one-character", "doubtful", "expanded", "canonical")
+    f"--{it}": _FLAG for it in ("about", "one-character", "doubtful", "expanded", "canonical")
 }
 _FORM: _Options = {"--currency": _FLAG, "--yuan": ["元", "圆"], "--closing": ["整", "正"]}
 _READER: _Options = {"--signed": _FLAG, "--typed": _FLAG}
 _TABLE: _Options = {
     "--column": _Matching("[1-9][0-9]{0,8}", "a number from 1 to 999999999"),
     "--header": _FLAG,
-    "--delimiter": _Matching(
-        r'[^"\r\n]', "a character that is no quote and no line end"
-    ),
+    "--delimiter": _Matching(r'[^"\r\n]', "a character that is no quote and no line end"),
 }
 # What a flag means to a call that has no keyword of its name.
 _MEANINGS: Dict[str, Dict[str, Any]] = {
@@ -138,9 +135,7 @@ def _not_one_of(name: str, choices: Iterable[str], given: str) -> _Misuse:
 
 # In front of the figures of an amount, and the whole of the figures of a date or a front of them.
 _BEGINS_FIGURES = re.compile(r"[\0-\x7f¥￥０-９]")
-_FRONT_OF_DATE = re.compile(
-    r"[0-9]{4}-[0-9]{2}-[0-9]{0,2}|[0-9]{4}-[0-9]{0,2}|[0-9]{0,4}"
-)
+_FRONT_OF_DATE = re.compile(r"[0-9]{4}-[0-9]{2}-[0-9]{0,2}|[0-9]{4}-[0-9]{0,2}|[0-9]{0,4}")
 
 
 def _figures(fen: int) -> str:
@@ -148,9 +143,7 @@ def _figures(fen: int) -> str:
     return f"{'-' if fen < 0 else ''}{yuan}.{places:02}"
 
 
-def _amount(
-    word: str, *, signed: bool = False, typed: bool = False, **options: Any
-) -> str:
+def _amount(word: str, *, signed: bool = False, typed: bool = False, **options: Any) -> str:
     """An amount in figures of one in capitals, or the other way round."""
     front = word.lstrip() if typed else word
     if not _BEGINS_FIGURES.match(front) and not (signed and word.startswith("−")):
@@ -202,9 +195,7 @@ def _quantity_of(found: FoundQuantity, **options: Any) -> str:
     return f"{quantity.numerator}{below}"
 
 
-def _answers(
-    line: bytes, find: Callable[[str], Any], answer: Callable[..., str]
-) -> Iterator[str]:
+def _answers(line: bytes, find: Callable[[str], Any], answer: Callable[..., str]) -> Iterator[str]:
     """The column, the text and the answer of each that is found in a line."""
     try:
         text = line.decode()
@@ -300,9 +291,7 @@ def _refuse_misfits(first: str, options: Dict[str, Any]) -> None:
         raise _Misuse("--method needs --exact")
 
 
-def _answered(
-    call: Callable[..., object], arguments: List[Any], options: Dict[str, Any]
-) -> int:
+def _answered(call: Callable[..., object], arguments: List[Any], options: Dict[str, Any]) -> int:
     """Answers each of the arguments on a line of its own, and gives the status."""
     status = 0
     for argument in arguments:
@@ -337,15 +326,9 @@ def _run(words: List[str]) -> int:
         return _run(["--help"])
     of_input = _of_input(first, others, options)
     if bool(of_input) == bool(others):
-        raise _Misuse(
-            "standard input is answered, and no words" if others else "there is no word"
-        )
+        raise _Misuse("standard input is answered, and no words" if others else "there is no word")
     _refuse_misfits(first, options)
-    return (
-        of_input(options)
-        if of_input
-        else _answered(call, [*map(of_word, others)], options)
-    )
+    return of_input(options) if of_input else _answered(call, [*map(of_word, others)], options)
 
 
 def _stream(number: int) -> TextIO:
@@ -364,9 +347,7 @@ def main() -> int:
     """Answers the command line, and gives the status."""
     try:
         sys.stderr, sys.stdout = _stream(2), _stream(1)
-        return _run(
-            [os.fsencode(it).decode("utf-8", "surrogateescape") for it in sys.argv[1:]]
-        )
+        return _run([os.fsencode(it).decode("utf-8", "surrogateescape") for it in sys.argv[1:]])
     except _Misuse as error:
         print(f"chinese-number: {error} (--help says more)", file=sys.stderr)
         return 2

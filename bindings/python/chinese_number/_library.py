@@ -163,11 +163,7 @@ def _module() -> Any:
     module that does not ask for it.
     """
     free_threaded = "t" in getattr(sys, "abiflags", "")
-    if (
-        sys.implementation.name != "cpython"
-        or sys.version_info < (3, 10)
-        or free_threaded
-    ):
+    if sys.implementation.name != "cpython" or sys.version_info < (3, 10) or free_threaded:
         return None
     try:
         return importlib.import_module("._native", __package__)
@@ -233,14 +229,10 @@ def quick(function: _Function) -> _Function:
     make = getattr(_native, f"quick_{function.__name__}", None)
     if not make:
         return function
-    words = ", ".join(
-        f"{name}={value!s}" for name, value in function.__kwdefaults__.items()
-    )
+    words = ", ".join(f"{name}={value!s}" for name, value in function.__kwdefaults__.items())
     signature = f"{function.__name__}({function.__code__.co_varnames[0]}, *, {words})"
     text = f"{signature}\n--\n\n{function.__doc__}"
-    quickly: _Function = make(
-        function, function.__kwdefaults__, text, function.__module__
-    )
+    quickly: _Function = make(function, function.__kwdefaults__, text, function.__module__)
     return quickly
 
 
@@ -266,9 +258,7 @@ def read_number(text: str, kind: int, way: int) -> Tuple[int, int, int, int]:
     return status, it.low, it.high, it.char_index
 
 
-def _read_fen(
-    call: Any, text: str, it: Union[_Amount, _SignedAmount]
-) -> Tuple[int, int, int]:
+def _read_fen(call: Any, text: str, it: Union[_Amount, _SignedAmount]) -> Tuple[int, int, int]:
     status = _read(call, text, it)
     return status, it.fen, it.char_index
 
@@ -328,25 +318,19 @@ def print_amount(fen: int, script: int, form: int) -> Tuple[int, str]:
 def print_signed_amount(fen: int, script: int, form: int) -> Tuple[int, str]:
     """The text of an amount, with its sign, from -2**63 fen on and of less than 2**63."""
     codes = fen, script, form
-    return _printed(
-        library.chinese_signed_amount_print, _MOST_SIGNED_AMOUNT_BYTES, *codes
-    )
+    return _printed(library.chinese_signed_amount_print, _MOST_SIGNED_AMOUNT_BYTES, *codes)
 
 
 def print_date(year: int, month: int, day: int, script: int) -> Tuple[int, str]:
     """The text of a date."""
-    return _printed(
-        library.chinese_date_print, _MOST_DATE_BYTES, year, month, day, script
-    )
+    return _printed(library.chinese_date_print, _MOST_DATE_BYTES, year, month, day, script)
 
 
 def _at_words(low: int, high: int, below_low: int, below_high: int, form: int) -> Any:
     return byref(_Quantity(_Number(low, high), _Number(below_low, below_high), form))
 
 
-def print_quantity(
-    quantity: Words, method: int, script: int, case: int
-) -> Tuple[int, str]:
+def print_quantity(quantity: Words, method: int, script: int, case: int) -> Tuple[int, str]:
     """The text of a quantity. Of what goes as a word the low 64 bits are taken."""
     codes = _at_words(*quantity), method, script, case
     return _printed(library.chinese_quantity_print, _MOST_QUANTITY_BYTES, *codes)
@@ -380,9 +364,7 @@ def utf8(text: str) -> Union[bytes, bytearray]:
     return str.encode(text, "utf-8", "replace")
 
 
-def _some(
-    call: Any, text: str, data: bytes, searched: int, index: int, *wanted: Any
-) -> Some:
+def _some(call: Any, text: str, data: bytes, searched: int, index: int, *wanted: Any) -> Some:
     spans, count, made = (_Span * _AT_ONCE)(), _SIZE(), []
     *codes, of = wanted
     status = call(data, len(data), searched, *codes, spans, _AT_ONCE, byref(count))

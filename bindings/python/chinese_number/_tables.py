@@ -14,9 +14,7 @@ from . import AmountError
 
 _MARK = "\ufeff"  # of UTF-8, which some programs put in front
 _NO_UTF8 = re.compile("[\udc80-\udcff]")  # what stands for bytes that are no UTF-8
-_MOST_OF_ROW = (
-    2**17
-)  # bytes; a row that goes on behind them has a quote that is not closed
+_MOST_OF_ROW = 2**17  # bytes; a row that goes on behind them has a quote that is not closed
 
 
 class Table(NamedTuple):
@@ -157,7 +155,5 @@ def write_table(table: Table, answer: Callable[[str], str]) -> int:
     csv.field_size_limit(2**31 - 1)
     with _opened(0, "r") as lines, _opened(1, "w") as output:
         count, refused = _copy(lines, output, table, answer)
-    print(
-        f"{count} rows: {count - refused} answered, {refused} refused", file=sys.stderr
-    )
+    print(f"{count} rows: {count - refused} answered, {refused} refused", file=sys.stderr)
     return int(refused > 0)

@@ -35,7 +35,7 @@ pub enum Doubt {
     Digits = 2,
     /// It is part of a term: 负二 of 负二项, 十六 of 十六进制.
     Term = 3,
-    /// It is part of an expression with 折, 成 or 半: 六点五 of 六点五折, 一 of 一个半.
+    /// It is part of an expression with 折, 成 or 半: 八五 of 八五折, 一 of 一个半.
     Part = 4,
     /// It may be a time: 三点五 of 下午三点五, 十点零五.
     Time = 5,

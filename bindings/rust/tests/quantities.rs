@@ -97,7 +97,7 @@ fn in_doubt() {
     assert_eq!(doubts("五一，二十"), [Some(Doubt::Digits), None]);
     assert_eq!(find_numbers("五一", BY.0).next().unwrap().doubt(), None);
     let doubtful = Included { doubtful: true, ..Included::NONE };
-    let text = "五一，六点五折";
+    let text = "五一，八五折";
     let all = |included| replace_quantities(text, BY.0, BY.1, included, |_| Some("?"));
     assert_eq!(all(Included::NONE), text);
     assert_eq!(all(doubtful), "?，六点五折");
