@@ -5,7 +5,8 @@ use core::ops::Range;
 
 use crate::abi::{self, flag, Sought};
 use crate::{
-    chinese_to_quantity, ChineseCountMethod, ChineseToNumber, ChineseToNumberError, Quantity, Unit,
+    chinese_to_quantity, ChineseCountMethod, ChineseToNumber, ChineseToNumberError, Doubt,
+    Quantity, Unit,
 };
 
 /// Which characters are looked for: the digits and the units up to the greatest one, with or without
@@ -25,28 +26,9 @@ impl Wanted {
     pub const ALL: Self = Self { upper: true, greatest: Unit::Ji };
 }
 
-/// Why a reader may mean by an expression something else than its quantity.
-#[non_exhaustive]
-#[derive(Debug, Copy, Clone, Eq, PartialEq, Hash)]
-pub enum Doubt {
-    /// It is part of a word: 十二 of 十二指肠, 十一 of 双十一.
-    Word = 1,
-    /// It is two or three Chinese digits, or more that rise: 五一, 一二三四.
-    Digits = 2,
-    /// It is part of a term: 负二 of 负二项, 十六 of 十六进制.
-    Term = 3,
-    /// It is part of an expression with 折, 成 or 半: 八五 of 八五折, 一 of 一个半.
-    Part = 4,
-    /// It may be a time: 三点五 of 下午三点五, 十点零五.
-    Time = 5,
-    /// It is one end of a range whose ends share a unit or 百分之: 3 and 5万 of 3~5万.
-    Range = 6,
-}
-
-impl Doubt {
-    const ALL: [Self; 6] =
-        [Self::Word, Self::Digits, Self::Term, Self::Part, Self::Time, Self::Range];
-}
+// Each reason, so that one is found by its code.
+const DOUBTS: [Doubt; 6] =
+    [Doubt::Word, Doubt::Digits, Doubt::Term, Doubt::Part, Doubt::Time, Doubt::Range];
 
 /// A run of numeral characters in its text.
 #[derive(Debug, Copy, Clone, Eq, PartialEq)]
@@ -128,7 +110,7 @@ impl<'a> Found<'a> {
     #[must_use]
     pub fn doubt(self) -> Option<Doubt> {
         let code = self.flags / 16;
-        Doubt::ALL.into_iter().find(|doubt| *doubt as u32 == code)
+        DOUBTS.into_iter().find(|doubt| *doubt as u32 == code)
     }
 
     /// Its number as plain digits where it is those, else by units.
