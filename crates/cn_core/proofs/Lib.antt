@@ -3,6 +3,8 @@ pub mod Characters
 pub mod Chars
 pub mod Cuts
 pub mod Ends
+pub mod FigureExamples
+pub mod FigureRows
 pub mod Fronts
 pub mod Grammar
 pub mod Judging

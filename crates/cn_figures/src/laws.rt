@@ -11,7 +11,7 @@ use crate::FiguresError;
 /// Two errors are equal exactly where they are the same variant, with the same char_index where there
 /// is one.
 ///
-/// For callers who compare errors.
+/// For callers who compare errors: two that are incorrect at different characters are not equal.
 pub fn equal_errors_are_the_same_variant()
     ensures { (a b : ReadingError)
         → IsTrue (⟦<FiguresError as PartialEq>⟧.eq a b) ↔ (a ≡ b) }

@@ -1,6 +1,6 @@
 -- A numeral has no estimate.
 use Rattle.std.proofs.Common.{◌≡◌, ℕ, codes, ◌<◌, Bool, true, false, not, ◌&&◌, List, [], ◌∷◌, ◌++◌, Option, Some, None, refl, ap, ◌∙◌, ◌==◌, if◌then◌else◌, arith}
-use Rattle.std.specs.Char.{char_set_contains, is_ascii_digit}
+use Rattle.std.specs.Char.{char_set_contains}
 use Rattle.std.specs.List.{list_all}
 use Rattle.std.proofs.Math.Bool.{and-false}
 use Rattle.std.proofs.lemmas.Bool.{not-true}

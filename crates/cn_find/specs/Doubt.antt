@@ -1,6 +1,6 @@
 -- Why a reader may mean something else than the quantity of an expression. Of the characters before it
 -- the nearest is the first.
-use Rattle.std.specs.Prelude.{ℕ, suc, ◌+◌, Bool, true, false, not, ◌&&◌, ◌||◌, ◌==◌, nat_le, List, [], ◌∷◌, length, reverse, codes, chars, Option, Some, None, is_some, if◌then◌else◌}
+use Rattle.std.specs.Prelude.{ℕ, Bool, true, false, not, ◌&&◌, ◌||◌, nat_le, List, [], ◌∷◌, length, reverse, codes, chars, Option, Some, None, if◌then◌else◌}
 use Rattle.std.specs.Char.{char_set_contains}
 use Rattle.std.specs.List.{list_all}
 use Rattle.std.specs.Option.{option_map_or}

@@ -1,33 +1,19 @@
 // What is told of a number by what stands around it, and by its own characters. Whoever finds other
 // numbers than those of this crate tells the same of them.
-ghost use Rattle.std.specs.Prelude.{◌≡◌, ◌≢◌, ℕ, ◌<◌, ◌&&◌, ◌||◌, true, false, List, ◌∷◌, [], length, reverse, codes, chars, is_some, Some, MatchOption, IfSome, IfNone, IsTrue};
+ghost use Rattle.std.specs.Prelude.{◌≡◌, ◌≢◌, ℕ, ◌<◌, ◌&&◌, ◌||◌, not, true, false, List, ◌∷◌, [], length, reverse, codes, chars, is_some, Some, MatchOption, IfSome, IfNone, IsTrue};
 ghost use Rattle.std.specs.Char.{char_set_contains};
 ghost use Rattle.cn_core.specs.Characters.{digit_of, rank_of};
+ghost use Rattle.cn_core.specs.Figures.{is_figure};
 ghost use Rattle.cn_core.specs.Mark.{mark_of};
 ghost use Rattle.cn_judge.specs.Marked.{marked};
 ghost use Rattle.cn_find.specs.Belongs.{begins_with};
 ghost use Rattle.cn_find.specs.Number.{is_plain};
 ghost use Rattle.cn_find.specs.Private.{does_cling, does_link, estimates_last, estimates_next, is_quite};
-ghost use Rattle.cn_find.specs.Flags.{are_near, begins_estimate, begins_linked, begins_with_unit, clings, goes_on, is_about, is_any_digit, is_estimate, is_link, is_no_figure, is_one_character, is_one_estimate, is_wide_digit, pairs, stands_alone};
+ghost use Rattle.cn_find.specs.Flags.{are_near, begins_estimate, begins_linked, begins_with_unit, clings, goes_on, is_about, is_any_digit, is_estimate, is_link, is_one_character, is_one_estimate, pairs, stands_alone};
 
 use crate::belongs::is_chinese_digit;
-use cn_core::{digit_of, split_first_char};
+use cn_core::{digit_of, is_figure, is_wide_figure, split_first_char};
 use cn_judge::{Mark, mark_of, split_end_mark, split_first_known, split_first_mark};
-
-/// Whether a character is a full-width digit.
-pub fn is_wide_digit(c: char) -> bool
-    ensures { result ≡ is_wide_digit c }
-{
-    matches!(c, '０'..='９')
-}
-
-// Whether a character is neither an ASCII nor a full-width digit.
-#[inline(always)]
-fn is_no_figure(c: char) -> bool
-    ensures { result ≡ is_no_figure c }
-{
-    !c.is_ascii_digit() && !is_wide_digit(c)
-}
 
 #[inline(always)]
 fn is_digit(mark: Mark) -> bool
@@ -268,7 +254,7 @@ fn is_any_digit(c: char, mark: Mark) -> bool
     requires { marked mark ≡ mark_of c }
     ensures { result ≡ is_any_digit c }
 {
-    is_digit(mark) || is_wide_digit(c)
+    is_digit(mark) || is_wide_figure(c)
 }
 
 // Two digits that are side by side, and the text from the second of them on.
@@ -369,7 +355,7 @@ pub fn is_about(before: &str, text: &str, after: &str) -> bool
 #[inline(always)]
 fn only_known(text: &str) -> Option<Mark>
     ensures { IfSome result (λ mark. (c : ℕ) × (chars text.now ≡ c ∷ []) × (marked mark ≡ mark_of c)
-        × (is_no_figure c ≡ true)) }
+        × (is_figure c ≡ false)) }
 {
     if text.len() != 3 {
         return None;
@@ -387,12 +373,12 @@ fn only_known(text: &str) -> Option<Mark>
 fn only_mark_slowly(text: &str) -> Option<(Mark, bool)>
     ensures { MatchOption result ((c : ℕ) → chars text.now ≢ c ∷ [])
         (λ r. (c : ℕ) × (chars text.now ≡ c ∷ []) × (marked r.0 ≡ mark_of c)
-        × (r.1 ≡ is_no_figure c)) }
+        × (r.1 ≡ not (is_figure c))) }
 {
     let (c, mark, others) = split_first_mark(text)?;
     match split_first_char(others) {
         Some(_) => None,
-        None => Some((mark, is_no_figure(c))),
+        None => Some((mark, !is_figure(c))),
     }
 }
 
@@ -405,7 +391,7 @@ fn only_mark_slowly(text: &str) -> Option<(Mark, bool)>
 fn only_mark(text: &str) -> Option<(Mark, bool)>
     ensures { MatchOption result ((c : ℕ) → chars text.now ≢ c ∷ [])
         (λ r. (c : ℕ) × (chars text.now ≡ c ∷ []) × (marked r.0 ≡ mark_of c)
-        × (r.1 ≡ is_no_figure c)) }
+        × (r.1 ≡ not (is_figure c))) }
 {
     if let Some(mark) = only_known(text) {
         return Some((mark, true));
@@ -413,7 +399,7 @@ fn only_mark(text: &str) -> Option<(Mark, bool)>
     let bytes = text.as_bytes();
     if bytes.len() == 1 {
         let c = bytes[0] as char;
-        return Some((mark_of(c), is_no_figure(c)));
+        return Some((mark_of(c), !is_figure(c)));
     }
     // No character takes more bytes,
     if bytes.len() > 4 {

@@ -20,10 +20,10 @@ pub fn refusals_point_at_characters()
         × (char_index ≡ char_index_of bytes place) }
 {}
 
-/// `trimmed` keeps the value: the two numerators and denominators are one ratio, a denominator above 0
-/// stays above 0, and a percentage, and nothing else, becomes a percentage. Where the decimals are
-/// known, they still are, and none is left, or the last one is no zero; where they are not, the quantity
-/// stays as it is.
+/// `trimmed` keeps the value: the two numerators and denominators are one ratio, a denominator above
+/// 0 stays above 0, and a percentage, and nothing else, becomes a percentage. Where the decimals are
+/// known, they still are, and none is left, or the last one is no zero; where they are not, the
+/// quantity stays as it is.
 ///
 /// For whoever shows or compares quantities without zeros at their end: 350000/10 is 35000/1, and
 /// 12.50%, which is 1250/10000, is 125/1000.
