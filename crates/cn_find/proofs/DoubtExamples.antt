@@ -1,6 +1,7 @@
 -- Worked examples of doubts. Of the characters before an expression the nearest is the first.
 use Rattle.std.proofs.Common.{◌≡◌, ℕ, Bool, true, false, List, [], ◌∷◌, codes, refl}
 use Rattle.cn_core.specs.Characters.{digit_of, rank_of}
+use Rattle.cn_core.specs.Figures.{tens_of}
 use Rattle.cn_find.specs.Doubt.{is_doubtful_list, is_part, is_term, is_time}
 use Rattle.cn_find.specs.Expressions.{is_tens}
 use Rattle.cn_find.specs.Ranges.{amount_of, is_of_amount, precedes}
@@ -53,5 +54,5 @@ times = (refl, (refl, (refl, refl)))
 
 -- an amount at the start of a text, and a first end whose next digit begins the second
 amounts : (amount_of (codes "5万元") ≡ codes "5万") × (precedes (codes "五") (codes "六十") ≡ true)
-unfolding digit_of rank_of is_of_amount is_tens
+unfolding digit_of rank_of is_of_amount is_tens tens_of
 amounts = (refl, refl)
