@@ -132,7 +132,8 @@ static void each_status_of_quantities(void) {
     is_quantity("三分之一", CN_TEN_THOUSAND, CN_DONE, 1, 3, CN_FRACTION, 0, 0);
     is_quantity("廿三", CN_TEN_THOUSAND, CN_DONE, 23, 1, CN_WHOLE, 0, 0);
     is_quantity("", CN_TEN_THOUSAND, CN_EMPTY, 0, 0, 0, 0, 0);
-    is_quantity("三分之负一", CN_TEN_THOUSAND, CN_INCORRECT, 0, 0, 0, 3, 9);
+    is_quantity("三分之负一", CN_TEN_THOUSAND, CN_DONE, -1, 3, CN_FRACTION, 0, 0);
+    is_quantity("负三分之负一", CN_TEN_THOUSAND, CN_INCORRECT, 0, 0, 0, 4, 12);
     is_quantity("0极", CN_TEN_THOUSAND, CN_TOO_LARGE, 0, 0, 0, 0, 0);
     is_quantity("-0极", CN_TEN_THOUSAND, CN_TOO_SMALL, 0, 0, 0, 0, 0);
     is_quantity("\xff", CN_TEN_THOUSAND, CN_NOT_UTF8, 0, 0, 0, 0, 0);

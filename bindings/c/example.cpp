@@ -118,13 +118,13 @@ void options() {
     };
     expect("a longer text", in_figures("一百亿", {}, expanded) == "10000000000");
     expect("plain figures", in_figures("1,280元", {}, canonical) == "1280元");
-    expect("what is doubtful", in_figures("五一，八五折", doubtful, {}) == "51，六点五折");
+    expect("what is doubtful", in_figures("五一，八五折", doubtful, {}) == "51，八五折");
     const auto in_brackets = [](const Found &found) { return '[' + std::string(found.text) + ']'; };
     const auto replaced = [&](Included included) {
         return replace_quantities("五一，八五折，二十", in_brackets, {}, Way::any, included).value_or("");
     };
     expect("nothing doubtful is replaced", replaced({}) == "五一，八五折，[二十]");
-    expect("but no part of something", replaced(doubtful) == "[五一]，六点五折，[二十]");
+    expect("but no part of something", replaced(doubtful) == "[五一]，八五折，[二十]");
 }
 
 void doubts() {

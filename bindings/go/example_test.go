@@ -40,8 +40,8 @@ func Example() {
 	fmt.Println(quantity.Rat()) // 1/8
 	text, _ = quantity.ToChinese(nil)
 	fmt.Println(text) // 百分之十二点五
-	text, _ = cn.QuantitiesToFigures("一般共三点五万元，占１２．５０％", nil)
-	fmt.Println(text) // 一般共35000元，占12.5%
+	text, _ = cn.QuantitiesToFigures("市值三点五亿元，占百分之十二点五", nil)
+	fmt.Println(text) // 市值3.5亿元，占12.5%
 	// Output:
 	// 50
 	// 120
@@ -54,7 +54,7 @@ func Example() {
 	// 贰零贰陆年零壹月壹拾伍日
 	// 1/8
 	// 百分之十二点五
-	// 一般共35000元，占12.5%
+	// 市值3.5亿元，占12.5%
 }
 
 func ExampleError() {

@@ -254,7 +254,7 @@ func TestOptions(t *testing.T) {
 	for wanted, which := range map[string]*cn.Replacing{
 		"1,280，五一，八五折，3亿":        nil,
 		"1280，五一，八五折，3亿":         {Canonical: true},
-		"1,280，51，六点五折，3亿":       {Doubtful: true},
+		"1,280，51，八五折，3亿":        {Doubtful: true},
 		"1,280，五一，八五折，300000000": {Expanded: true},
 	} {
 		figures, err := cn.QuantitiesToFigures(text, which)
@@ -266,7 +266,7 @@ func TestOptions(t *testing.T) {
 	brackets := func(found cn.Found) (string, bool) { return "[" + found.Text + "]", true }
 	replaced, err := cn.ReplaceQuantities(text, &cn.Replacing{Doubtful: true}, brackets)
 	wantStatus(t, text, err, cn.Done)
-	if replaced != "[1,280]，[五一]，六点五折，[三亿]" {
+	if replaced != "[1,280]，[五一]，八五折，[三亿]" {
 		t.Error(replaced)
 	}
 }

@@ -811,7 +811,7 @@ function tryReplaced() {
   const text = '三亿，１,２８０，五一，八五折';
   assert.equal(quantitiesToFigures(text), '3亿，１,２８０，五一，八五折');
   assert.equal(quantitiesToFigures(text, { doubtful: true, canonical: true }),
-    '3亿，1280，51，六点五折');
+    '3亿，1280，51，八五折');
   const twice = ({ text }) => (text === '-5' ? undefined : text + text);
   assert.equal(replaceQuantities('三百，-5，7', twice), '三百三百，-5，77');
   assert.equal(replaceQuantities('5％ 6', () => ''), ' ');

@@ -100,7 +100,7 @@ fn in_doubt() {
     let text = "五一，八五折";
     let all = |included| replace_quantities(text, BY.0, BY.1, included, |_| Some("?"));
     assert_eq!(all(Included::NONE), text);
-    assert_eq!(all(doubtful), "?，六点五折");
+    assert_eq!(all(doubtful), "?，八五折");
     let figures = Figures { included: doubtful, ..Figures::DEFAULT };
-    assert_eq!(quantities_to_figures(text, BY.0, BY.1, figures), "51，六点五折");
+    assert_eq!(quantities_to_figures(text, BY.0, BY.1, figures), "51，八五折");
 }
