@@ -46,9 +46,9 @@ unfolding chars encode_utf8 digit_of rank_of figure_of chinese_digit_of tens_of 
 figures = refl
 
 no_figures : answers (codes "12,34" ∷ codes "0,100" ∷ codes ".5" ∷ codes "1.2.3"
-    ∷ codes "1亿2000万" ∷ codes "0极" ∷ codes "1/3" ∷ codes "13个百" ∷ codes "3个" ∷ [])
+    ∷ codes "1亿2000" ∷ codes "3万500" ∷ codes "0极" ∷ codes "1/3" ∷ codes "13个百" ∷ codes "3个" ∷ [])
     ≡ Err (incorrect_at 3) ∷ Err (incorrect_at 2) ∷ Err (incorrect_at 0) ∷ Err (incorrect_at 3)
-    ∷ Err (incorrect_at 6) ∷ Err too_large ∷ Err (incorrect_at 1) ∷ Err (incorrect_at 0) ∷ Err (incorrect_at 1) ∷ []
+    ∷ Err (incorrect_at 2) ∷ Err (incorrect_at 2) ∷ Err too_large ∷ Err (incorrect_at 1) ∷ Err (incorrect_at 0) ∷ Err (incorrect_at 1) ∷ []
 unfolding chars encode_utf8 digit_of rank_of figure_of chinese_digit_of tens_of sign_of is_point is_comma
     is_fen is_zhi share_of
 no_figures = refl
@@ -128,3 +128,12 @@ two_readings : answers (codes "一百五万" ∷ codes "二百三個億" ∷ cod
 unfolding chars encode_utf8 digit_of rank_of figure_of chinese_digit_of tens_of sign_of is_point is_comma
     is_fen is_zhi share_of
 two_readings = refl
+
+by_turns : answers (codes "1亿2000万" ∷ codes "12万3千" ∷ codes "5千5" ∷ codes "12万3456"
+    ∷ codes "10亿零817万5288" ∷ codes "3万零5" ∷ codes "12万3" ∷ codes "１２万３千" ∷ [])
+    ≡ is (pos 120000000) 1 Whole ∷ is (pos 123000) 1 Whole ∷ is (pos 5500) 1 Whole
+    ∷ is (pos 123456) 1 Whole ∷ is (pos 1008175288) 1 Whole ∷ is (pos 30005) 1 Whole
+    ∷ is (pos 123000) 1 Whole ∷ is (pos 123000) 1 Whole ∷ []
+unfolding chars encode_utf8 digit_of rank_of figure_of chinese_digit_of tens_of sign_of is_point is_comma
+    is_fen is_zhi share_of
+by_turns = refl

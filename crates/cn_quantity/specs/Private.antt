@@ -1,5 +1,5 @@
 -- What contracts of private functions cite: ends of a string, and answers to pieces of it.
-use Rattle.std.specs.Prelude.{◌≡◌, ℕ, ◌+◌, List, [], ◌∷◌, ◌++◌, length, ◌<◌, chars, drop, reverse, Option, Some, Result, Ok, Err}
+use Rattle.std.specs.Prelude.{◌≡◌, ℕ, Bool, ◌+◌, List, [], ◌∷◌, ◌++◌, length, ◌<◌, chars, drop, reverse, Option, Some, Result, Ok, Err}
 use Rattle.cn_core.specs.declared.sign.Sign.{Sign}
 use Rattle.cn_core.specs.Mark.{Mark, mark_of}
 use Rattle.cn_core.specs.Reading.{too_far}
@@ -13,7 +13,10 @@ use Rattle.cn_quantity.specs.Misread.{bare_ten, first_misread}
 use Rattle.cn_quantity.specs.declared.quantity.Quantity.{Quantity}
 use Rattle.cn_quantity.specs.declared.ratio.Ratio.{Ratio}
 use Rattle.cn_quantity.specs.Ratio.{after_bar, before_bar}
+use Rattle.cn_quantity.specs.declared.characters.DigitKind.TheVariants.{Figure}
+use Rattle.cn_quantity.specs.Digits.{leading_digits}
 use Rattle.cn_quantity.specs.Reading.{signed_ratio}
+use Rattle.cn_quantity.specs.Turns.{after_group, begins_with_nought, number_of, units_of}
 
 -- the string ends with this one
 pub record IsEnd (bytes rest : List ℕ) : Type 0 where
@@ -85,3 +88,12 @@ pub record SplitsAtMisread (bytes before from : List ℕ) (bare : Option ℕ) : 
   pub parts : chars bytes ≡ chars before ++ chars from
   pub from_is : text_of from ≡ first ∷ after
   pub bare_is : bare ≡ bare_ten (marks_of (reverse (text_of before))) (mark_of first)
+
+-- the group at the start of a text
+pub record IsGroup (bytes : List ℕ) (count number : ℕ) (nought : Bool)
+    (units rest : List ℕ) : Type 0 where
+  pub count_is : count ≡ leading_digits Figure (text_of bytes)
+  pub number_is : number_of (text_of bytes) ≡ Some number
+  pub nought_is : nought ≡ begins_with_nought (text_of bytes)
+  pub units_is : text_of units ≡ units_of (text_of bytes)
+  pub rest_is : text_of rest ≡ after_group (text_of bytes)

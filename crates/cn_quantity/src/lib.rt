@@ -14,6 +14,7 @@ mod pieces;
 mod quantity;
 mod ratio;
 mod trimmed;
+mod turns;
 mod units;
 mod whole_number;
 
