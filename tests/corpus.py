@@ -39,8 +39,8 @@ def judged(sentence, edited, mark, made):
 
 
 def value_of(word):
-    """A value of the corpus, or of an answer such as `125/1000 percent`."""
-    word = word.split(" ")[0]
+    """A value of the corpus, or of an answer such as `ok 125/1000 percent`."""
+    word = word.split(" ")[1] if word.startswith("ok ") else word
     return Fraction(word[:-1]) / 100 if word.endswith("%") else Fraction(word)
 
 
@@ -58,8 +58,8 @@ def judged_values(sentence, values, quantities, doubts):
     doubtful = {text for text, doubt in found_in(sentence, doubts) if doubt != "none"}
     for word in [] if values == "-" else values.split(";"):
         text, _, value = word.rpartition("=")
-        answer = found.get(text, "at")
-        is_left = text in doubtful or not re.match(r"-?\d", answer)
+        answer = found.get(text, "err")
+        is_left = text in doubtful or not answer.startswith("ok ")
         if value == "?":
             yield "right" if is_left else "wrong"
         else:

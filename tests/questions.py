@@ -35,7 +35,10 @@ OF_CALLS = {
     "Misread numerals": ["read_quantity", "ten_thousand"],
     "Quantities written": ["print_quantity", "ten_thousand", "simple", "lower"],
     "Quantities in figures": ["quantity_figures"],
+    "Doubt": ["quantities_to_figures", "none"],
     "Expressions replaced": ["quantities_to_figures", "none"],
+    "The new text": ["quantities_to_figures", "none"],
+    "Whole, or not at all": ["quantities_to_figures", "none"],
     "Amounts below zero": ["read_signed_amount"],
     "Amounts as typed": ["read_typed_amount"],
 }
@@ -50,6 +53,7 @@ OF_LIBRARIES = (
     "figures",
     "flags",
     "quantities",
+    "doubts",
     "written",
     "replaced",
 )

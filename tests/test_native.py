@@ -187,6 +187,7 @@ def test_nothing_is_kept(numerals):
         (lambda text: it.to_quantity(text).to_chinese(method="low"), ("12.5%", "1000京")),
         (lambda text: it.to_quantity(text).to_figures(), ("12.5%", "三分之一")),
         (lambda text: [its.value() for its in it.find_quantities(text)], ("3.5万，1.2.3", None)),
+        (lambda text: [its.doubt for its in it.find_quantities(text)], ("五一，二十", "3~5万", None)),
         (it.quantities_to_figures, ("共三点五万，占三分之一", "三亿" * 99, "\ud800一百", None)),
     ]
     some = [(call, argument) for call, arguments in asked for argument in arguments]
@@ -196,6 +197,7 @@ def test_nothing_is_kept(numerals):
         False,
         it.Found,
         it.FoundQuantity,
+        it.Doubt.DIGITS,
         it.QuantityForm.DECIMAL,
         it.Kind.I128,
         it.Way.ANY,

@@ -36,7 +36,8 @@ void first_steps() {
 
     if (auto quantity = chinese_to_quantity("12.5%"))
         std::cout << quantity->to_chinese().value_or("") << '\n'; // 百分之十二点五
-    std::cout << quantities_to_figures("共3.5万元，剩三分之一").value_or("") << '\n'; // 共35000元，剩1/3
+    const char *const sentence = "市值三点五亿元，占百分之十二点五";
+    std::cout << quantities_to_figures(sentence).value_or("") << '\n'; // 市值3.5亿元，占12.5%
 }
 
 /* Whether there is no answer, for this reason. */
@@ -103,7 +104,35 @@ void replaced_quantities() {
     expect("no method to replace by", is_refused(replace_quantities("一", removed, {}, Way::digits), Status::unknown));
     expect("no UTF-8 for figures", is_refused(quantities_to_figures("\xff"), Status::not_utf8));
     expect("no method for figures", is_refused(quantities_to_figures("一", {}, Way::digits), Status::unknown));
-    expect("a longer text", quantities_to_figures("一百亿").value_or("") == "10000000000");
+    expect("a shorter text", quantities_to_figures("一百亿").value_or("") == "100亿");
+}
+
+/* What is replaced is asked for by members with these names. */
+void options() {
+    Included doubtful;
+    doubtful.doubtful = true;
+    Figures expanded, canonical;
+    expanded.expanded = canonical.canonical = true;
+    const auto in_figures = [](std::string_view text, Included included, Figures figures) {
+        return quantities_to_figures(text, {}, Way::any, included, figures).value_or("");
+    };
+    expect("a longer text", in_figures("一百亿", {}, expanded) == "10000000000");
+    expect("plain figures", in_figures("1,280元", {}, canonical) == "1280元");
+    expect("what is doubtful", in_figures("五一，八五折", doubtful, {}) == "51，八五折");
+    const auto in_brackets = [](const Found &found) { return '[' + std::string(found.text) + ']'; };
+    const auto replaced = [&](Included included) {
+        return replace_quantities("五一，八五折，二十", in_brackets, {}, Way::any, included).value_or("");
+    };
+    expect("nothing doubtful is replaced", replaced({}) == "五一，八五折，[二十]");
+    expect("but no part of something", replaced(doubtful) == "[五一]，八五折，[二十]");
+}
+
+void doubts() {
+    const Numbers expressions = find_quantities("五一，二十");
+    const std::vector<Found> found(expressions.begin(), expressions.end());
+    expect("digits", found.size() == 2 && found[0].doubt == Doubt::digits && found[0].is_plain);
+    expect("no doubt", found[1].doubt == Doubt::none && !found[1].is_plain);
+    expect("a number without doubt", (*find_numbers("五一").begin()).doubt == Doubt::none);
 }
 
 void found_numbers() {
@@ -114,6 +143,8 @@ void found_numbers() {
     expect("where it stands", found[0].start == 3 && found[0].end == 12);
     expect("plain digits", found[1].is_plain && found[1].value<int>() == 2025);
     expect("no such type", !found[1].value<std::int8_t>());
+    const Found unit_in_front = *find_numbers("正33", {true, Unit::ji}).begin();
+    expect("by units", is_refused(unit_in_front.number<int>(), Status::incorrect));
 
     Wanted both_cases;
     both_cases.upper = true;
@@ -130,6 +161,8 @@ int main() {
     numbers();
     quantities();
     replaced_quantities();
+    options();
+    doubts();
     found_numbers();
     return failed != 0;
 }

@@ -76,6 +76,19 @@ const (
 	Fraction             // 三分之一, 千分之五
 )
 
+// Doubt is why a reader may mean by an expression something else than its quantity.
+type Doubt uint32
+
+const (
+	NoDoubt     Doubt = iota
+	DoubtWord         // it is part of a word: 十二 of 十二指肠, 十一 of 双十一
+	DoubtDigits       // it is two or three Chinese digits, or more that rise: 五一, 一二三四
+	DoubtTerm         // it is part of a term: 负二 of 负二项, 十六 of 十六进制
+	DoubtPart         // it is part of an expression with 折, 成 or 半: 八五 of 八五折, 一 of 一个半
+	DoubtTime         // it may be a time: 三点五 of 下午三点五, 十点零五
+	DoubtRange        // it is one end of a range whose ends share a unit or 百分之: 3 and 5万 of 3~5万
+)
+
 // Status is why a call refuses. Each is an error, for errors.Is; but no error has Done, NoRoom or
 // None.
 type Status uint32

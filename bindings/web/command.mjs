@@ -46,7 +46,8 @@ usage: chinese-number amount [--traditional] [--currency] [--yuan 圆] [--closin
        chinese-number print [--traditional] [--upper] [--kind i128] [--way any] NUMBER..
        chinese-number find [--all] [--kind u128] [--way any]
        chinese-number find --exact [--all] [--method any]
-       chinese-number replace [--all] [--method any] [--about] [--one-character] [WORD..]
+       chinese-number replace [--all] [--method any] [--about] [--one-character] [--doubtful]
+                              [--expanded] [--canonical] [WORD..]
        chinese-number --help | --version
 
 amount   writes yuan in capitals, 1409.50 as 壹仟肆佰零玖元伍角整, and reads capitals; with --signed
@@ -61,9 +62,11 @@ print    writes whole numbers as numerals, -120 as 负一百二十
 find     writes LINE:CHARACTER TEXT NUMBER of each number in standard input, or err and why it is
          refused; with --all also of the characters of cheques and of units above 兆; with --exact
          of each quantity, as 3.5万, -5, 12.5% and 三分之一, whose NUMBER is then exact, as 125/1000
-replace  writes words, or standard input, with their quantities in figures, 共3.5万元 as 共35000元;
-         with --about also those that are about so much, as in 三百多, and with --one-character those
-         of one Chinese character, as in 一般
+replace  writes words, or standard input, with their numerals in figures, 市值三点五亿元 as 市值3.5亿元;
+         with --about also those that are about so much, as in 三百多; with --one-character those of
+         one Chinese character, as in 一般; with --doubtful those that may mean something else, as
+         五一; with --expanded no great unit is kept, 三点五亿 becomes 350000000; with --canonical
+         figures lose commas and leading zeros, 1,280 becomes 1280
 
 A kind is u8, u16, u32, u64, u128, i8, i16, i32, i64, i128; a way is digits, low, ten_thousand,
 middle, high, any; a method is each of these but digits.
@@ -100,7 +103,10 @@ const COMMANDS = {
     run: findInInput,
   },
   replace: {
-    options: { all: FLAG, method: METHOD, about: FLAG, 'one-character': FLAG },
+    options: {
+      all: FLAG, method: METHOD, about: FLAG, 'one-character': FLAG, doubtful: FLAG,
+      expanded: FLAG, canonical: FLAG,
+    },
     run: ({ all, 'one-character': oneCharacter, ...options }, words) => {
       const choices = { ...options, ...wantedBy(all), oneCharacter };
       const anew = (text) => quantitiesToFigures(text, choices);

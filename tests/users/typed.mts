@@ -7,7 +7,7 @@ import { chineseToDate, dateToChinese, findNumbers } from 'chinese-number-proved
 import { Quantity, findQuantities, toQuantity } from 'chinese-number-proved';
 import { quantitiesToFigures, replaceQuantities } from 'chinese-number-proved';
 import type { BillDate, Kind, NumeralCode, Unit, Way } from 'chinese-number-proved';
-import type { FoundQuantity, Method, QuantityForm } from 'chinese-number-proved';
+import type { Doubt, FoundQuantity, Method, QuantityForm } from 'chinese-number-proved';
 import { toNumber as other } from 'chinese-number-proved/files';
 const way: Way = 'any', greatest: Unit = 'yi';
 const value: number = toNumber('一', { kind: 'u64', way }), big: bigint = toBigInt('一', { way });
@@ -31,7 +31,9 @@ const written: string = tenths.toChinese({ method, case: 'upper' });
 const expressions: FoundQuantity[] = Array.from(findQuantities(written, { greatest }));
 const isAbout: boolean[] = expressions.map((it) => it.isAbout || it.isOneCharacter);
 const replaced: string = replaceQuantities(text, (it) => it.value()?.toFigures(), { about: true });
-console.log(all.map((it) => it.toWhole() ?? 0n), isAbout, replaced, quantitiesToFigures(text));
+const doubts: (Doubt | null)[] = expressions.map((it) => it.doubt);
+const figures: string = quantitiesToFigures(text, { doubtful: true, expanded: true, canonical: true });
+console.log(all.map((it) => it.toWhole() ?? 0n), isAbout, replaced, doubts, figures);
 try {
   other(text);
 } catch (error) {
@@ -63,6 +65,8 @@ dateToChinese(new Date());
 toQuantity('一', { method: 'digits' });
 // @ts-expect-error: no such form
 new Quantity(1, 2, 'half');
+// @ts-expect-error: a function writes its own text
+replaceQuantities('一', () => '1', { expanded: true });
 // @ts-expect-error: what stands in the place of an expression is a text
 replaceQuantities('一', () => 1);
 // @ts-expect-error: what is not for users has no name here

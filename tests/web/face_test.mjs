@@ -7,7 +7,7 @@ import { spawnSync } from 'node:child_process';
 import { existsSync, readFileSync } from 'node:fs';
 import * as face from './files/chinese-number.mjs';
 
-const { CASES, KINDS, METHODS, QUANTITY_FORMS, SCRIPTS, UNITS, WAYS } = face;
+const { CASES, DOUBTS, KINDS, METHODS, QUANTITY_FORMS, SCRIPTS, UNITS, WAYS } = face;
 const { AmountError, DateError, Found, FoundQuantity, NumeralError } = face;
 const { findNumbers, toBigInt, toChinese, toNumber, chineseToDate, dateToChinese } = face;
 const { amountToChinese, chineseToAmount, chineseToAmountBigInt } = face;
@@ -601,9 +601,10 @@ function answerOf(call) {
   }
 }
 
-// A number that was found is answered as its text is.
+// A number that was found is answered as its text is: with units, where it is not plain.
 function compareANumber(found, options) {
-  const { text } = found, way = found.isPlain ? 'digits' : options.way, all = { ...options, way };
+  const { text } = found, units = options.way === 'any' ? 'tenThousand' : options.way;
+  const all = { ...options, way: found.isPlain ? 'digits' : units };
   const number = answerOf(() => toNumber(text, all));
   assert.deepEqual(answerOf(() => found.number(options)), number, text);
   const whole = answerOf(() => toBigInt(text, all));
@@ -666,6 +667,9 @@ function tryFound() {
   assert.deepEqual(places, [[0, 1], [2, 3], [6, 7]]);
   const values = Array.from(findNumbers('百分之五十，一涧', { greatest: 'ji' }), (it) => it.value());
   assert.deepEqual(values, [null, 50, null]);
+  const [unitInFront] = findNumbers('正33', { upper: true, greatest: 'ji' });
+  assert.throws(() => unitInFront.number(), { code: 'incorrect', charIndex: 1 });
+  assert.equal(unitInFront.doubt, undefined);
   const [found] = findNumbers('😀五六十歲'), [hundreds, plain] = findNumbers('三百，一');
   assert(found instanceof Found);
   assert.throws(() => found.number(), { code: 'incorrect', charIndex: 0, start: 0, end: 1 });
@@ -754,13 +758,14 @@ function refuseNoQuantities(half) {
     (it) => half.toChinese(it));
 }
 
-const RUNNING_QUANTITIES = Array.from('二三十百万亿点分之几多负正25.,-％%，。 \n😀é\ufffd\ud800\udc00');
+const RUNNING_QUANTITIES = Array.from(
+  '二三十百万亿点分之几多负正25.,-％%，。到折 \n😀é\ufffd\ud800\udc00');
 
 // The quantities of a text, each with its flags, in their places.
 function compareTheQuantitiesOf(text) {
-  const [about, oneCharacter] = [below(2) === 1, below(2) === 1];
+  const [about, oneCharacter, doubtful] = [below(2) === 1, below(2) === 1, below(2) === 1];
   const options = { upper: below(2) === 1, greatest: one(UNITS), method: one(METHODS) };
-  const { method, ...wanted } = options, all = { ...options, about, oneCharacter };
+  const { method, ...wanted } = options, all = { ...options, about, oneCharacter, doubtful };
   let anew = '', at = 0, replaced = 0;
   for (const it of findQuantities(text, wanted)) {
     assert(it instanceof FoundQuantity && it.start >= at);
@@ -768,15 +773,25 @@ function compareTheQuantitiesOf(text) {
     const quantity = answerOf(() => toQuantity(it.text, { method })), value = it.value({ method });
     assert.deepEqual(value ?? answerOf(() => it.quantity({ method })), quantity, it.text);
     if (value === null || (it.isAbout && !about) || (it.isOneCharacter && !oneCharacter)) continue;
+    assert(it.doubt === null || DOUBTS.includes(it.doubt));
+    if (it.doubt === 'part' || (it.doubt !== null && !doubtful)) continue;
     anew += text.slice(at, it.start) + figuresOf(value);
     at = it.end;
     replaced++;
   }
   anew += text.slice(at);
-  assert.equal(quantitiesToFigures(text, all), anew);
   const figures = (it) => it.quantity({ method }).toFigures();
   assert.equal(replaceQuantities(text, figures, all), anew);
+  keepsAllElse(text, quantitiesToFigures(text, { ...all, ...styleOfSome() }));
   return replaced;
+}
+
+const styleOfSome = () => ({ expanded: below(2) === 1, canonical: below(2) === 1 });
+
+// What is no part of an expression stays where it is, in order, also halves of surrogate pairs.
+function keepsAllElse(text, anew) {
+  const others = (string) => string.match(/[\n😀é\ufffd\ud800\udc00。]/g) ?? [];
+  assert.deepEqual(others(anew), others(text));
 }
 
 function tryReplaced() {
@@ -789,9 +804,14 @@ function tryReplaced() {
   // A new text may be much longer, and more is found than one call of the module gives.
   for (const [part, figures] of [['1亿，', '100000000，'], ['文三百', '文300'], ['😀é一半', '😀é一半']]) {
     for (const count of [1, 64, 65, 300_000]) {
-      assert.equal(quantitiesToFigures(part.repeat(count)), figures.repeat(count));
+      const expanded = quantitiesToFigures(part.repeat(count), { expanded: true });
+      assert.equal(expanded, figures.repeat(count));
     }
   }
+  const text = '三亿，１,２８０，五一，八五折';
+  assert.equal(quantitiesToFigures(text), '3亿，１,２８０，五一，八五折');
+  assert.equal(quantitiesToFigures(text, { doubtful: true, canonical: true }),
+    '3亿，1280，51，八五折');
   const twice = ({ text }) => (text === '-5' ? undefined : text + text);
   assert.equal(replaceQuantities('三百，-5，7', twice), '三百三百，-5，77');
   assert.equal(replaceQuantities('5％ 6', () => ''), ' ');
@@ -804,9 +824,11 @@ function tryReplaced() {
 
 function refuseNoReplacements() {
   const wrong = [...NO_OPTIONS, { about: 1 }, { oneCharacter: 'yes' }, { upper: 1 },
-    { greatest: 'ZHAO' }, { method: 'digits' }, { kind: 'u8' }];
-  refusesEach(wrong, (it) => quantitiesToFigures('一', it));
-  refusesEach(wrong, (it) => replaceQuantities('文', () => '', it));
+    { greatest: 'ZHAO' }, { method: 'digits' }, { kind: 'u8' }, { doubtful: 1 }];
+  refusesEach([...wrong, { expanded: 'yes' }, { canonical: 0 }, { style: 'kept' }],
+    (it) => quantitiesToFigures('一', it));
+  refusesEach([...wrong, { expanded: true }, { canonical: true }],
+    (it) => replaceQuantities('文', () => '', it));
   refusesEach([...NO_OPTIONS, { method: 'low' }, { about: true }], (it) => findQuantities('一', it));
   refusesEach([1, null, undefined, ['一']], (it) => quantitiesToFigures(it));
   refusesEach([1, null, undefined, ['一']], (it) => replaceQuantities(it, () => ''));
