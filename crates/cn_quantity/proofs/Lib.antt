@@ -5,6 +5,7 @@ pub mod Groups
 pub mod Growing
 mod LawExamples
 pub mod Misreads
+pub mod MixedTexts
 pub mod Negated
 pub mod Numbers
 pub mod Points
