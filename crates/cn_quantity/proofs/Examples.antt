@@ -79,7 +79,7 @@ unfolding chars encode_utf8 digit_of rank_of figure_of chinese_digit_of tens_of 
 fractions = refl
 
 no_fractions : answers (codes "零分之一" ∷ codes "三分之" ∷ codes "负三分之负一" ∷ codes "三分之负"
-    ∷ codes "二又三分之一" ∷ codes "百分之五十%" ∷ [])
+    ∷ codes "二又三分之四" ∷ codes "百分之五十%" ∷ [])
     ≡ Err (incorrect_at 0) ∷ Err (incorrect_at 2) ∷ Err (incorrect_at 4) ∷ Err (incorrect_at 3)
     ∷ Err (incorrect_at 1) ∷ Err (incorrect_at 5) ∷ []
 unfolding chars encode_utf8 digit_of rank_of figure_of chinese_digit_of tens_of sign_of is_point is_comma
@@ -137,3 +137,15 @@ by_turns : answers (codes "1亿2000万" ∷ codes "12万3千" ∷ codes "5千5" 
 unfolding chars encode_utf8 digit_of rank_of figure_of chinese_digit_of tens_of sign_of is_point is_comma
     is_fen is_zhi share_of
 by_turns = refl
+
+mixed_fractions : answers (codes "二又五分之三" ∷ codes "-1又2分之1" ∷ codes "十二又百分之五" ∷ [])
+    ≡ is (pos 13) 5 Fraction ∷ is (negsuc 2) 2 Fraction ∷ is (pos 1205) 100 Fraction ∷ []
+unfolding chars encode_utf8 digit_of rank_of figure_of chinese_digit_of tens_of sign_of is_point is_comma
+    is_fen is_zhi share_of
+mixed_fractions = refl
+
+no_mixed_fractions : answers (codes "又五分之三" ∷ codes "二又五分之五" ∷ codes "二又五" ∷ [])
+    ≡ Err (incorrect_at 0) ∷ Err (incorrect_at 1) ∷ Err (incorrect_at 1) ∷ []
+unfolding chars encode_utf8 digit_of rank_of figure_of chinese_digit_of tens_of sign_of is_point is_comma
+    is_fen is_zhi share_of
+no_mixed_fractions = refl

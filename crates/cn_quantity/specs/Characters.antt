@@ -71,3 +71,7 @@ is_xia c = char_set_contains (codes "下") c
 
 abbrev pub is_yen : ℕ → Bool
 is_yen c = char_set_contains (codes "¥￥") c
+
+-- 又 between a whole number and a fraction
+abbrev pub is_you : ℕ → Bool
+is_you c = char_set_contains (codes "又") c

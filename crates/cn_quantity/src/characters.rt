@@ -1,6 +1,6 @@
 // Which characters a quantity has beside those of numerals.
 ghost use Rattle.std.specs.Prelude.{◌≡◌, ◌<◌, IfSome};
-ghost use Rattle.cn_quantity.specs.Characters.{chinese_digit_of, digit_by, figure_of, is_comma, is_fen, is_ling, is_point, is_xia, is_yen, is_zhi, share_of, sign_of, tens_of};
+ghost use Rattle.cn_quantity.specs.Characters.{chinese_digit_of, digit_by, figure_of, is_comma, is_fen, is_ling, is_point, is_xia, is_yen, is_you, is_zhi, share_of, sign_of, tens_of};
 
 use cn_core::{Sign, digit_of};
 
@@ -76,6 +76,13 @@ pub fn is_xia(c: char) -> bool
     ensures { result ≡ is_xia c }
 {
     c == '下'
+}
+
+/// Whether the character is 又.
+pub fn is_you(c: char) -> bool
+    ensures { result ≡ is_you c }
+{
+    c == '又'
 }
 
 /// Whether the character is ¥.
