@@ -32,6 +32,7 @@ OF_CALLS = {
     "Either way": ["read", "i64", "any"],
     "Written either way": ["print", "i64", "any", "simple", "lower"],
     "Quantities": ["read_quantity", "ten_thousand"],
+    "Misread numerals": ["read_quantity", "ten_thousand"],
     "Quantities written": ["print_quantity", "ten_thousand", "simple", "lower"],
     "Quantities in figures": ["quantity_figures"],
     "Expressions replaced": ["quantities_to_figures", "none"],

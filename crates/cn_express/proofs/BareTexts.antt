@@ -10,7 +10,7 @@ use Rattle.cn_core.proofs.Fronts.{and-left, and-right, both}
 use Rattle.cn_express.specs.Digits.{behind_point, last_digits}
 use Rattle.cn_express.proofs.Cuts.{lacks}
 use Rattle.cn_express.proofs.DigitTexts.{WritesDigits, digits-all, last-digits}
-use Rattle.cn_express.proofs.WrittenTexts.{IsText, IsText-append, IsText-nil}
+use Rattle.cn_express.proofs.WrittenTexts.{IsText, IsText-append, IsText-nil, is_front}
 use Rattle.cn_quantity.specs.declared.characters.DigitKind.{DigitKind}
 use Rattle.cn_quantity.specs.Characters.{digit_by, is_fen, is_share, share_of}
 use Rattle.cn_quantity.proofs.Today.{are_marks, own}
@@ -19,7 +19,7 @@ abbrev is_clean : ℕ → Bool
 is_clean c = not (is_fen c) && not (is_share c)
 
 abbrev is_dark : ℕ → Bool
-is_dark c = all_scalars (c ∷ []) && is_not_whitespace c
+is_dark c = all_scalars (c ∷ []) && is_not_whitespace c && not (is_front c)
 
 -- such a character
 unfoldable pub is_bare : ℕ → Bool
@@ -60,10 +60,13 @@ unfolding is_bare
 bare-text [] bare = IsText-nil
 bare-text (c ∷ rest) bare =
     let dark = and-left (is_dark c) (is_clean c) (and-left (is_bare c) (are_bare rest) bare) in
+    let seen = and-left (all_scalars (c ∷ []) && is_not_whitespace c) (not (is_front c)) dark in
     IsText-append (c ∷ []) rest (record {
-      scalars = and-left (all_scalars (c ∷ [])) (is_not_whitespace c) dark;
+      scalars = and-left (all_scalars (c ∷ [])) (is_not_whitespace c) seen;
       kept = ap (λ b. if b then c ∷ [] else [])
-          (and-right (all_scalars (c ∷ [])) (is_not_whitespace c) dark);
+          (and-right (all_scalars (c ∷ [])) (is_not_whitespace c) seen);
+      bare = both (not (is_front c)) true
+          (and-right (all_scalars (c ∷ []) && is_not_whitespace c) (not (is_front c)) dark) refl;
     })
     (bare-text rest (and-right (is_bare c) (are_bare rest) bare))
 

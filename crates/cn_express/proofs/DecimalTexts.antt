@@ -33,6 +33,7 @@ use Rattle.cn_quantity.specs.Figures.{is_in_figures}
 use Rattle.cn_quantity.specs.Number.{decimal_of, number_answer, part_answer}
 use Rattle.cn_quantity.specs.Units.{are_rising_units, times_units}
 use Rattle.cn_quantity.specs.WholeNumber.{whole_answer}
+use Rattle.cn_quantity.proofs.Groups.{turns-begin}
 use Rattle.cn_quantity.proofs.Numbers.{a-decimal}
 use Rattle.cn_quantity.proofs.Today.{and-none, are_marks, digit-mark, digit-no_unit, marks-broken, no-point, number-shaped, number-whole, point-no_mark}
 use Rattle.cn_spell.proofs.Printed.{IsReadBack-marks, is_printed}
@@ -169,7 +170,8 @@ point-read : (method : ChineseCountMethod) (whole count number point : ℕ) (fro
     ≡ Ok (record { number = number; decimals = count })
 point-read method whole count number point front digits s point_is all size some read =
     number-shaped method text (marks-broken front point digits (point-no_mark point point_is))
-    ∙ a-decimal method text (not-in-figures front (point ∷ digits) s.begins) is_decimal
+    ∙ a-decimal method text (not-in-figures front (point ∷ digits) s.begins)
+    (turns-begin method text (not-figures front (point ∷ digits) s.begins)) is_decimal
     ∙ ap₂ (λ before behind. and_then (whole_answer method before)
     (λ whole. decimal_of (leading_digits Chinese behind)
     (read_with_units method Chinese whole behind))) cut.0 cut.1

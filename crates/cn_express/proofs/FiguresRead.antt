@@ -27,9 +27,9 @@ use Rattle.cn_express.proofs.Cuts.{lacks, lacks-append}
 use Rattle.cn_express.proofs.DigitTexts.{WritesDigits, WritesDigits-each, are_digits, digits-all, digits-alone, digits-lead, has_no_units, last-count, last-digits, last-read, no-factors, read-digit, read_on-append}
 use Rattle.cn_express.proofs.KnownDecimals.{over-is}
 use Rattle.cn_express.proofs.NumberTexts.{IsNumberText, IsUnsigned-decimal, IsUnsigned-whole}
-use Rattle.cn_express.proofs.Ratios.{percent-ratio, ratio-fits}
+use Rattle.cn_express.proofs.Ratios.{no-negated, percent-ratio, ratio-fits}
 use Rattle.cn_express.proofs.SignedTexts.{IsUnsigned, magnitude-fits, signed-read}
-use Rattle.cn_express.proofs.WrittenTexts.{IsText, IsText-append}
+use Rattle.cn_express.proofs.WrittenTexts.{IsText, IsText-append, not-mixed}
 use Rattle.cn_judge.proofs.Walking.{rows_have}
 use Rattle.cn_quantity.specs.declared.characters.DigitKind.TheVariants.{Figure}
 use Rattle.cn_quantity.specs.declared.quantity.Quantity.{Quantity}
@@ -374,7 +374,7 @@ unfolding share_of is_fen
 percent-is = (refl, refl)
 
 IsText-percent : IsText (codes "%")
-IsText-percent = record { scalars = refl; kept = refl }
+IsText-percent = record { scalars = refl; kept = refl; bare = refl }
 
 IsUnsigned-percent : (method : ChineseCountMethod) (number decimals denominator : ℕ)
     (text : List ℕ) → 0 < length text
@@ -384,15 +384,19 @@ IsUnsigned-percent : (method : ChineseCountMethod) (number decimals denominator 
     (record { numerator = number; denominator = denominator; form = Percent })
     (text ++ codes "%")
 IsUnsigned-percent method number decimals denominator text some n is small = record {
-  written = IsText-append text (codes "%") (bare-text text n.bare) IsText-percent;
+  written = text_is;
   no_sign = sign-front text (codes "%") some ∙ n.no_sign;
+  no_minus = no-negated (text ++ codes "%")
+      (lacks-append is_fen text (codes "%") (bare-no_fen text n.bare) (percent-is.1));
   read = percent-ratio method (record { number = number; decimals = decimals })
-      (slice_index (codes "%") 0) text
+      (slice_index (codes "%") 0) text (not-mixed method (text ++ codes "%") text_is)
       (lacks-append is_fen text (codes "%") (bare-no_fen text n.bare) (percent-is.1))
       (percent-is.0) some n.read
       ∙ ratio-fits 100 number decimals denominator Percent
       (over-is 100 denominator decimals is) small;
-}
+} where
+  text_is : IsText (text ++ codes "%")
+  text_is = IsText-append text (codes "%") (bare-text text n.bare) IsText-percent
 
 -- without its sign
 figures-by : (method : ChineseCountMethod) (form : QuantityForm)
@@ -419,7 +423,7 @@ unfolding sign_of
 minus-is = refl
 
 IsText-minus : IsText (codes "-")
-IsText-minus = record { scalars = refl; kept = refl }
+IsText-minus = record { scalars = refl; kept = refl; bare = refl }
 
 figures-encoded : (method : ChineseCountMethod) (q : Quantity) (decimals : ℕ)
     → holds (signed_kind 128) q.numerator ≡ true → q.denominator < 2 ^ 128

@@ -25,9 +25,9 @@ use Rattle.cn_express.proofs.DecimalTexts.{IsSpelled-magnitude, WritesDigits-chi
 use Rattle.cn_express.proofs.FractionTexts.{IsDivisorText, IsDivisorText-written, divisor-answered}
 use Rattle.cn_express.proofs.KnownDecimals.{over-is}
 use Rattle.cn_express.proofs.NumberTexts.{IsNumberText, IsUnsigned-decimal, IsUnsigned-whole}
-use Rattle.cn_express.proofs.Ratios.{fraction-ratio, ratio-fits}
+use Rattle.cn_express.proofs.Ratios.{fraction-ratio, ratio-fits, unsigned-over}
 use Rattle.cn_express.proofs.SignedTexts.{IsUnsigned, magnitude-fits, sign-text, signed-read}
-use Rattle.cn_express.proofs.WrittenTexts.{IsText, IsText-append}
+use Rattle.cn_express.proofs.WrittenTexts.{IsText, IsText-append, not-mixed}
 use Rattle.cn_quantity.specs.declared.characters.DigitKind.TheVariants.{Chinese}
 use Rattle.cn_quantity.specs.declared.quantity.Quantity.{Quantity}
 use Rattle.cn_quantity.specs.declared.quantity.QuantityForm.{QuantityForm}
@@ -76,27 +76,30 @@ decimal-part variant case write read count number small is =
 
 -- a number over a divisor
 IsText-bar : IsText bar
-IsText-bar = record { scalars = refl; kept = refl }
+IsText-bar = record { scalars = refl; kept = refl; bare = refl }
 
 IsUnsigned-fraction : (method : ChineseCountMethod)
     (divisor number decimals denominator : ℕ) (before after : List ℕ)
     → IsDivisorText method divisor before
-    → IsText after → 0 < length after
+    → IsText after → leading_sign after ≡ None → 0 < length after
     → part_answer method after ≡ Ok (record { number = number; decimals = decimals })
     → 0 < divisor → divisor * 10 ^ decimals ≡ denominator → denominator < 2 ^ 128
     → IsUnsigned method
     (record { numerator = number; denominator = denominator; form = form_over divisor })
     (before ++ (bar ++ after))
-IsUnsigned-fraction method divisor number decimals denominator before after d written some part
+IsUnsigned-fraction method divisor number decimals denominator before after d written sign some part
     above is small = record {
-      written = IsText-append before (bar ++ after) (bare-text before (marks-bare before d.marks))
-          (IsText-append bar after IsText-bar written);
+      written = text_is;
       no_sign = d.no_sign (bar ++ after);
+      no_minus = unsigned-over before after (bare-no_fen before (marks-bare before d.marks)) sign;
       read = fraction-ratio method divisor (record { number = number; decimals = decimals })
-          before after (bare-no_fen before (marks-bare before d.marks)) d.some some
+          before after (not-mixed method (before ++ (bar ++ after)) text_is) (bare-no_fen before (marks-bare before d.marks)) d.some some
           (divisor-answered method divisor before above d.read) part
           ∙ ratio-fits divisor number decimals denominator (form_over divisor) is small;
-    }
+    } where
+      text_is : IsText (before ++ (bar ++ after))
+      text_is = IsText-append before (bar ++ after) (bare-text before (marks-bare before d.marks))
+          (IsText-append bar after IsText-bar written)
 
 -- 百
 hundred-marks : (method : ChineseCountMethod) → spelling method 100 ≡ digit 1 ∷ unit 2 ∷ []
@@ -136,8 +139,8 @@ minus-sign Simple = refl
 
 IsText-minus : (variant : ChineseVariant) → IsText (minus_char variant ∷ [])
 unfolding minus_char
-IsText-minus Traditional = record { scalars = refl; kept = refl }
-IsText-minus Simple = record { scalars = refl; kept = refl }
+IsText-minus Traditional = record { scalars = refl; kept = refl; bare = refl }
+IsText-minus Simple = record { scalars = refl; kept = refl; bare = refl }
 
 -- what passes a test is spelled by one method so that the other reads it
 abbrev PassesAsRead : (ℕ → Bool) → ChineseCountMethod → ChineseCountMethod → Type 0
@@ -173,7 +176,8 @@ numerals-by variant case write read test passes form number denominator None is 
     (divisor_text variant case write denominator) (magnitude_text variant case write number)
     (IsDivisorText-written variant case write read denominator fits
     (passes denominator fits (and-left (test denominator) _ tested)))
-    s.written filled (part-whole read number (magnitude_text variant case write number) s)
+    s.written (ap leading_sign s.begins.parts ∙ s.begins.no_sign) filled
+    (part-whole read number (magnitude_text variant case write number) s)
     above (omega arith) fits
 numerals-by variant case write read test passes form number denominator (Some decimals) is small
     above fits tested = by form is where
@@ -205,7 +209,8 @@ numerals-by variant case write read test passes form number denominator (Some de
           IsUnsigned-fraction read 100 number decimals denominator
           (unit_char variant case 2 ∷ []) (decimal_text variant case write decimals number)
           (IsDivisorText-hundred variant case read)
-          (bare-text (decimal_text variant case write decimals number) n.bare) part.0 part.1
+          (bare-text (decimal_text variant case write decimals number) n.bare) n.no_sign
+          part.0 part.1
           (omega arith) (over-is 100 denominator decimals is) fits
       by Fraction is = cc
 

@@ -20,9 +20,10 @@ is numerator denominator form =
     Ok (record { numerator = numerator; denominator = denominator; form = form })
 
 chinese_decimals : answers (codes "三點一四" ∷ codes "三点一零" ∷ codes "三点五万"
-    ∷ codes "一千二百三十四点五亿" ∷ codes "二零二五点三万" ∷ [])
+    ∷ codes "一千二百三十四点五亿" ∷ codes "二零二五点三万" ∷ codes "三点五个亿" ∷ [])
     ≡ is (pos 314) 100 Decimal ∷ is (pos 310) 100 Decimal ∷ is (pos 350000) 10 Decimal
-    ∷ is (pos 1234500000000) 10 Decimal ∷ is (pos 202530000) 10 Decimal ∷ []
+    ∷ is (pos 1234500000000) 10 Decimal ∷ is (pos 202530000) 10 Decimal
+    ∷ is (pos 3500000000) 10 Decimal ∷ []
 unfolding chars encode_utf8 digit_of rank_of figure_of chinese_digit_of tens_of sign_of is_point is_comma
     is_fen is_zhi share_of
 chinese_decimals = refl
@@ -36,17 +37,18 @@ unfolding chars encode_utf8 digit_of rank_of figure_of chinese_digit_of tens_of 
 no_decimals = refl
 
 figures : answers (codes "3.5万" ∷ codes "128万" ∷ codes "1.2万亿" ∷ codes "1,280.50"
-    ∷ codes "１２．５" ∷ codes "１，２８０" ∷ [])
+    ∷ codes "１２．５" ∷ codes "１，２８０" ∷ codes "3个亿" ∷ codes "1.5個萬" ∷ [])
     ≡ is (pos 350000) 10 Decimal ∷ is (pos 1280000) 1 Whole ∷ is (pos 12000000000000) 10 Decimal
-    ∷ is (pos 128050) 100 Decimal ∷ is (pos 125) 10 Decimal ∷ is (pos 1280) 1 Whole ∷ []
+    ∷ is (pos 128050) 100 Decimal ∷ is (pos 125) 10 Decimal ∷ is (pos 1280) 1 Whole
+    ∷ is (pos 300000000) 1 Whole ∷ is (pos 150000) 10 Decimal ∷ []
 unfolding chars encode_utf8 digit_of rank_of figure_of chinese_digit_of tens_of sign_of is_point is_comma
     is_fen is_zhi share_of
 figures = refl
 
 no_figures : answers (codes "12,34" ∷ codes "0,100" ∷ codes ".5" ∷ codes "1.2.3"
-    ∷ codes "1亿2000万" ∷ codes "0极" ∷ codes "1/3" ∷ [])
+    ∷ codes "1亿2000" ∷ codes "3万500" ∷ codes "0极" ∷ codes "1/3" ∷ codes "13个百" ∷ codes "3个" ∷ [])
     ≡ Err (incorrect_at 3) ∷ Err (incorrect_at 2) ∷ Err (incorrect_at 0) ∷ Err (incorrect_at 3)
-    ∷ Err (incorrect_at 6) ∷ Err too_large ∷ Err (incorrect_at 1) ∷ []
+    ∷ Err (incorrect_at 2) ∷ Err (incorrect_at 2) ∷ Err too_large ∷ Err (incorrect_at 1) ∷ Err (incorrect_at 0) ∷ Err (incorrect_at 1) ∷ []
 unfolding chars encode_utf8 digit_of rank_of figure_of chinese_digit_of tens_of sign_of is_point is_comma
     is_fen is_zhi share_of
 no_figures = refl
@@ -68,23 +70,27 @@ unfolding chars encode_utf8 digit_of rank_of figure_of chinese_digit_of tens_of 
 percentages = refl
 
 fractions : answers (codes "三分之一" ∷ codes "百分之五十" ∷ codes "百分之百"
-    ∷ codes "百分之12.5" ∷ codes "百万分之三" ∷ [])
+    ∷ codes "百分之12.5" ∷ codes "百万分之三" ∷ codes "百分之负五" ∷ codes "三分之-1" ∷ [])
     ≡ is (pos 1) 3 Fraction ∷ is (pos 50) 100 Percent ∷ is (pos 100) 100 Percent
-    ∷ is (pos 125) 1000 Percent ∷ is (pos 3) 1000000 Fraction ∷ []
+    ∷ is (pos 125) 1000 Percent ∷ is (pos 3) 1000000 Fraction ∷ is (negsuc 4) 100 Percent
+    ∷ is (negsuc 0) 3 Fraction ∷ []
 unfolding chars encode_utf8 digit_of rank_of figure_of chinese_digit_of tens_of sign_of is_point is_comma
     is_fen is_zhi share_of
 fractions = refl
 
-no_fractions : answers (codes "零分之一" ∷ codes "三分之" ∷ codes "三分之负一"
-    ∷ codes "二又三分之一" ∷ codes "百分之五十%" ∷ [])
-    ≡ Err (incorrect_at 0) ∷ Err (incorrect_at 2) ∷ Err (incorrect_at 3) ∷ Err (incorrect_at 1)
-    ∷ Err (incorrect_at 5) ∷ []
+no_fractions : answers (codes "零分之一" ∷ codes "三分之" ∷ codes "负三分之负一" ∷ codes "三分之负"
+    ∷ codes "二又三分之四" ∷ codes "百分之五十%" ∷ [])
+    ≡ Err (incorrect_at 0) ∷ Err (incorrect_at 2) ∷ Err (incorrect_at 4) ∷ Err (incorrect_at 3)
+    ∷ Err (incorrect_at 1) ∷ Err (incorrect_at 5) ∷ []
 unfolding chars encode_utf8 digit_of rank_of figure_of chinese_digit_of tens_of sign_of is_point is_comma
     is_fen is_zhi share_of
 no_fractions = refl
 
-signs : answers (codes " 负 三点五" ∷ codes "−5" ∷ codes "--5" ∷ [])
-    ≡ is (negsuc 34) 10 Decimal ∷ is (negsuc 4) 1 Whole ∷ Err (incorrect_at 1) ∷ []
+signs : answers (codes " 负 三点五" ∷ codes "−5" ∷ codes "--5" ∷ codes "零下十二"
+    ∷ codes "零下" ∷ codes "−¥5" ∷ codes "￥１，２８０" ∷ codes "¥五" ∷ [])
+    ≡ is (negsuc 34) 10 Decimal ∷ is (negsuc 4) 1 Whole ∷ Err (incorrect_at 1)
+    ∷ is (negsuc 11) 1 Whole ∷ Err (incorrect_at 1) ∷ is (negsuc 4) 1 Whole
+    ∷ is (pos 1280) 1 Whole ∷ Err (incorrect_at 0) ∷ []
 unfolding chars encode_utf8 digit_of rank_of figure_of chinese_digit_of tens_of sign_of is_point is_comma
     is_fen is_zhi share_of
 signs = refl
@@ -122,3 +128,24 @@ two_readings : answers (codes "一百五万" ∷ codes "二百三個億" ∷ cod
 unfolding chars encode_utf8 digit_of rank_of figure_of chinese_digit_of tens_of sign_of is_point is_comma
     is_fen is_zhi share_of
 two_readings = refl
+
+by_turns : answers (codes "1亿2000万" ∷ codes "12万3千" ∷ codes "5千5" ∷ codes "12万3456"
+    ∷ codes "10亿零817万5288" ∷ codes "3万零5" ∷ codes "12万3" ∷ codes "１２万３千" ∷ [])
+    ≡ is (pos 120000000) 1 Whole ∷ is (pos 123000) 1 Whole ∷ is (pos 5500) 1 Whole
+    ∷ is (pos 123456) 1 Whole ∷ is (pos 1008175288) 1 Whole ∷ is (pos 30005) 1 Whole
+    ∷ is (pos 123000) 1 Whole ∷ is (pos 123000) 1 Whole ∷ []
+unfolding chars encode_utf8 digit_of rank_of figure_of chinese_digit_of tens_of sign_of is_point is_comma
+    is_fen is_zhi share_of
+by_turns = refl
+
+mixed_fractions : answers (codes "二又五分之三" ∷ codes "-1又2分之1" ∷ codes "十二又百分之五" ∷ [])
+    ≡ is (pos 13) 5 Fraction ∷ is (negsuc 2) 2 Fraction ∷ is (pos 1205) 100 Fraction ∷ []
+unfolding chars encode_utf8 digit_of rank_of figure_of chinese_digit_of tens_of sign_of is_point is_comma
+    is_fen is_zhi share_of
+mixed_fractions = refl
+
+no_mixed_fractions : answers (codes "又五分之三" ∷ codes "二又五分之五" ∷ codes "二又五" ∷ [])
+    ≡ Err (incorrect_at 0) ∷ Err (incorrect_at 1) ∷ Err (incorrect_at 1) ∷ []
+unfolding chars encode_utf8 digit_of rank_of figure_of chinese_digit_of tens_of sign_of is_point is_comma
+    is_fen is_zhi share_of
+no_mixed_fractions = refl

@@ -1,9 +1,12 @@
 pub mod Bars
 pub mod Ends
 mod Examples
+pub mod Groups
 pub mod Growing
 mod LawExamples
 pub mod Misreads
+pub mod MixedTexts
+pub mod Negated
 pub mod Numbers
 pub mod Points
 pub mod Ratios

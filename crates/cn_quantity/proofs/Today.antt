@@ -1,5 +1,5 @@
 -- A text of digits and units of numerals alone is read as the readers of numerals read it.
-use Rattle.std.proofs.Common.{◌≡◌, ℕ, ◌+◌, ◌*◌, ◌^◌, ◌<◌, ◌≤◌, Bool, true, false, not, nat_le, nat_lt, ◌&&◌, ◌||◌, ◌==◌, List, [], ◌∷◌, ◌++◌, length, map, take, drop, codes, ℤ, Option, Some, None, is_some, Result, Ok, Err, refl, sym, ap, subst, ◌∙◌, arith, if◌then◌else◌}
+use Rattle.std.proofs.Common.{◌≡◌, ℕ, ◌+◌, ◌*◌, ◌^◌, ◌<◌, ◌≤◌, Bool, true, false, not, nat_le, nat_lt, ◌&&◌, ◌||◌, ◌==◌, List, [], ◌∷◌, ◌++◌, length, map, take, drop, codes, ℤ, Option, Some, None, is_none, is_some, Result, Ok, Err, refl, sym, ap, ap₂, subst, ◌∙◌, arith, if◌then◌else◌}
 use Rattle.std.specs.List.{list_all}
 use Rattle.std.specs.Option.{option_map_or}
 use Rattle.std.proofs.lemmas.Bool.Decides.{nat_tests}
@@ -30,11 +30,13 @@ use Rattle.cn_judge.proofs.Walking.{outside-mark}
 use Rattle.cn_quantity.specs.declared.characters.DigitKind.TheVariants.{Chinese}
 use Rattle.cn_quantity.specs.declared.quantity.QuantityForm.TheVariants.{Whole}
 use Rattle.cn_quantity.specs.Answer.{and_then, further_by}
-use Rattle.cn_quantity.specs.Characters.{is_fen, is_point, share_of, sign_of}
+use Rattle.cn_quantity.specs.Characters.{figure_of, is_fen, is_ling, is_point, is_xia, is_yen, is_you, share_of, sign_of}
 use Rattle.cn_quantity.specs.Number.{number_answer, or_shaped, shaped_number}
-use Rattle.cn_quantity.proofs.Ratios.{a-number}
-use Rattle.cn_quantity.specs.Ratio.{after_bar, before_bar, form_of, is_fraction, last_share, ratio_answer, ratio_of, share}
-use Rattle.cn_quantity.specs.Reading.{leading_sign, quantity_answer, signed_answer}
+use Rattle.cn_quantity.proofs.Ratios.{a-number, simple-is}
+use Rattle.cn_quantity.proofs.MixedTexts.{no-you}
+use Rattle.cn_quantity.specs.Ratio.{after_bar, after_you, before_bar, begins_with_minus, form_of, is_fraction, is_negated, last_share, ratio_answer, ratio_of, share}
+use Rattle.cn_quantity.specs.Reading.{begins_number, front_length, is_below_zero, leading_sign, number_sign, quantity_answer, sign_length, signed_answer, yen_length}
+use Rattle.cn_quantity.proofs.Signed.{not-negated as rest-not_negated, quantity-plain}
 use Rattle.cn_quantity.specs.Misread.{bare_ten_between, first_misread}
 use Rattle.cn_quantity.specs.Units.{are_rising, times_units}
 use Rattle.cn_quantity.specs.WholeNumber.{fitting, is_plain, misread_answer, reader_answer, sum_answer, whole_answer}
@@ -118,6 +120,15 @@ first-mark c rest h = and-left (is_digit_or_unit (mark_of c)) (are_marks rest) h
 
 pub rest-marks : (c : ℕ) (rest : List ℕ) → are_marks (c ∷ rest) ≡ true → are_marks rest ≡ true
 rest-marks c rest h = and-right (is_digit_or_unit (mark_of c)) (are_marks rest) h
+
+no-you_mark : (c : ℕ) → is_digit_or_unit (mark_of c) ≡ true → is_you c ≡ false
+no-you_mark c = lacks is_you c refl refl
+
+you-nowhere : (text : List ℕ) → are_marks text ≡ true → after_you text ≡ []
+you-nowhere [] h = refl
+you-nowhere (c ∷ rest) h =
+    ap (λ b. if b then rest else after_you rest) (no-you_mark c (first-mark c rest h))
+    ∙ you-nowhere rest (rest-marks c rest h)
 
 bar-nowhere : (text : List ℕ) → are_marks text ≡ true → after_bar text ≡ []
 bar-nowhere [] h = refl
@@ -231,7 +242,8 @@ pub ratio-whole : (method : ChineseCountMethod) (text : List ℕ) (number : ℕ)
     → ratio_answer method text
     ≡ Ok (record { numerator = number; denominator = 1; form = Whole })
 ratio-whole method text number m is =
-    a-number method text (no-fraction text m) (no-shares text m)
+    simple-is method text (no-you method text (you-nowhere text m))
+    ∙ a-number method text (no-fraction text m) (no-shares text m)
     ∙ ap (λ a. and_then a (λ decimal. ratio_of 1 (form_of decimal.decimals) decimal)) is
 
 -- a text that is a numeral
@@ -488,6 +500,39 @@ signs-same (c ∷ rest) m = by (numeral_sign c) refl m where
   by None e m = mark-sign c (first-mark c rest m)
   by (Some sign) e m = sign-kept c sign e
 
+-- nothing stands before the number but that sign
+no-xia : (c : ℕ) → is_digit_or_unit (mark_of c) ≡ true → is_xia c ≡ false
+no-xia c = lacks is_xia c refl refl
+
+no-yen : (c : ℕ) → is_digit_or_unit (mark_of c) ≡ true → is_yen c ≡ false
+no-yen c = lacks is_yen c refl refl
+
+second-mark : (sign : Option Sign) (c d : ℕ) (rest : List ℕ)
+    → are_marks (drop (sign_len sign) (c ∷ d ∷ rest)) ≡ true
+    → is_digit_or_unit (mark_of d) ≡ true
+second-mark None c d rest m = first-mark d rest (rest-marks c (d ∷ rest) m)
+second-mark (Some sign) c d rest m = first-mark d rest m
+
+not-below : (sign : Option Sign) (text : List ℕ)
+    → are_marks (drop (sign_len sign) text) ≡ true → is_below_zero text ≡ false
+not-below sign [] m = refl
+not-below sign (c ∷ []) m = refl
+not-below sign (c ∷ d ∷ []) m = refl
+not-below sign (c ∷ d ∷ next ∷ rest) m =
+    ap (λ b. is_ling c && b && begins_number next)
+    (no-xia d (second-mark sign c d (next ∷ rest) m))
+    ∙ ap (λ b. b && begins_number next) (and-none (is_ling c))
+
+pub no-yens : (text : List ℕ) → are_marks text ≡ true → yen_length text ≡ 0
+no-yens [] m = refl
+no-yens (c ∷ []) m = refl
+no-yens (c ∷ next ∷ rest) m =
+    ap (λ b. if b && is_some (figure_of next) then 1 else 0)
+    (no-yen c (first-mark c (next ∷ rest) m))
+
+not-negated : (text : List ℕ) → are_marks text ≡ true → is_negated text ≡ false
+not-negated text m = ap (λ b. b && begins_with_minus (after_bar text)) (no-fraction text m)
+
 -- the answer to a string, by the sign that a numeral has
 pub quantity-today : (method : ChineseCountMethod) (bytes : List ℕ) (number : ℤ) (magnitude : ℕ)
     → let text = text_of bytes in
@@ -501,9 +546,28 @@ pub quantity-today : (method : ChineseCountMethod) (bytes : List ℕ) (number : 
 quantity-today method bytes number magnitude m is held =
     let text = text_of bytes in
     let sign = numeral_leading_sign true text in
-    let same = signs-same text m in
-    ap (λ s. signed_answer bytes s (ratio_answer method (drop (sign_len s) text))) same
-    ∙ ap (signed_answer bytes sign) is
+    let below = not-below (numeral_leading_sign true (text_of bytes)) (text_of bytes) m in
+    let leads : number_sign (text_of bytes) ≡ numeral_leading_sign true (text_of bytes) =
+    ap (λ b. if b then Some Minus else leading_sign (text_of bytes)) below
+    ∙ signs-same (text_of bytes) m in
+    let size : sign_length (text_of bytes)
+    ≡ sign_len (numeral_leading_sign true (text_of bytes)) =
+    ap (λ b. if b then 2 else sign_len (leading_sign (text_of bytes))) below
+    ∙ ap sign_len (signs-same (text_of bytes) m) in
+    let yens : yen_length (drop (sign_length (text_of bytes)) (text_of bytes)) ≡ 0 =
+    ap (λ n. yen_length (drop n (text_of bytes))) size ∙ no-yens _ m in
+    let front : front_length (text_of bytes)
+    ≡ sign_len (numeral_leading_sign true (text_of bytes)) = omega (arith, size, yens) in
+    let rest : drop (front_length (text_of bytes)) (text_of bytes)
+    ≡ drop (sign_len (numeral_leading_sign true (text_of bytes))) (text_of bytes) =
+    ap (λ n. drop n (text_of bytes)) front in
+    quantity-plain method bytes
+    (rest-not_negated (is_none (number_sign (text_of bytes))) _
+    (ap is_negated rest ∙ not-negated _ m))
+    ∙ ap₂ (λ s l. signed_answer bytes s (front_length (text_of bytes)) (ratio_answer method l))
+    leads rest
+    ∙ ap (signed_answer bytes (numeral_leading_sign true (text_of bytes))
+    (front_length (text_of bytes))) is
     ∙ ap (λ a. and_then a (λ numerator. Ok (record {
       numerator = numerator;
       denominator = 1;

@@ -61,3 +61,17 @@ is_fen c = char_set_contains (codes "分") c
 
 unfoldable pub is_zhi : ℕ → Bool
 is_zhi c = char_set_contains (codes "之") c
+
+-- the two characters of 零下
+abbrev pub is_ling : ℕ → Bool
+is_ling c = char_set_contains (codes "零") c
+
+abbrev pub is_xia : ℕ → Bool
+is_xia c = char_set_contains (codes "下") c
+
+abbrev pub is_yen : ℕ → Bool
+is_yen c = char_set_contains (codes "¥￥") c
+
+-- 又 between a whole number and a fraction
+abbrev pub is_you : ℕ → Bool
+is_you c = char_set_contains (codes "又") c

@@ -9,6 +9,7 @@ pub mod Private
 pub mod Ratio
 pub mod Reading
 pub mod Trimmed
+pub mod Turns
 pub mod Units
 pub mod Whole
 pub mod WholeNumber

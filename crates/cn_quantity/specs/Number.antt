@@ -10,6 +10,7 @@ use Rattle.cn_quantity.specs.Characters.{chinese_digit_of, tens_of}
 use Rattle.cn_quantity.specs.Decimal.{after_point, before_point, decimals_behind_point, is_chinese_decimal}
 use Rattle.cn_quantity.specs.Digits.{read_with_units}
 use Rattle.cn_quantity.specs.Figures.{decimals_in_figures, is_in_figures}
+use Rattle.cn_quantity.specs.Turns.{by_turns}
 use Rattle.cn_quantity.specs.Units.{are_rising_units, times_units}
 use Rattle.cn_quantity.specs.WholeNumber.{whole_answer}
 
@@ -40,12 +41,13 @@ whole_number_answer method text =
     option_map_or (λ number. decimal_of 0 (Some number)) (short_tens text)
     (and_then (whole_answer method text) (λ whole. decimal_of 0 (Some whole)))
 
--- a number in figures, or a Chinese decimal, or a whole number
+-- a number in figures, or by turns, or a Chinese decimal, or a whole number
 abbrev pub shaped_number : ChineseCountMethod → List ℕ → Result Decimal Refusal
 shaped_number method text =
     if is_in_figures text
     then decimal_of (decimals_in_figures text) (read_with_units method Figure 0 text)
-    else (if is_chinese_decimal text then chinese_decimal_answer method text
+    else option_map_or (λ number. decimal_of 0 (Some number)) (by_turns method text)
+    (if is_chinese_decimal text then chinese_decimal_answer method text
     else whole_number_answer method text)
 
 -- a whole number where there is one, else another answer

@@ -1,6 +1,6 @@
 // Which characters a quantity has beside those of numerals.
 ghost use Rattle.std.specs.Prelude.{◌≡◌, ◌<◌, IfSome};
-ghost use Rattle.cn_quantity.specs.Characters.{chinese_digit_of, digit_by, figure_of, is_comma, is_fen, is_point, is_zhi, share_of, sign_of, tens_of};
+ghost use Rattle.cn_quantity.specs.Characters.{chinese_digit_of, digit_by, figure_of, is_comma, is_fen, is_ling, is_point, is_xia, is_yen, is_you, is_zhi, share_of, sign_of, tens_of};
 
 use cn_core::{Sign, digit_of};
 
@@ -62,6 +62,34 @@ pub fn tens_of(c: char) -> Option<u8>
         '卅' => Some(30),
         _ => None,
     }
+}
+
+/// Whether the character is the first one of 零下.
+pub fn is_ling(c: char) -> bool
+    ensures { result ≡ is_ling c }
+{
+    c == '零'
+}
+
+/// Whether the character is the second one of 零下.
+pub fn is_xia(c: char) -> bool
+    ensures { result ≡ is_xia c }
+{
+    c == '下'
+}
+
+/// Whether the character is 又.
+pub fn is_you(c: char) -> bool
+    ensures { result ≡ is_you c }
+{
+    c == '又'
+}
+
+/// Whether the character is ¥.
+pub fn is_yen(c: char) -> bool
+    ensures { result ≡ is_yen c }
+{
+    matches!(c, '¥' | '￥')
 }
 
 /// The sign of a sign character.

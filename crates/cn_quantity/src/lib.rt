@@ -9,11 +9,13 @@ mod digits;
 mod figures;
 pub mod laws;
 mod misread;
+mod mixed;
 mod number;
 mod pieces;
 mod quantity;
 mod ratio;
 mod trimmed;
+mod turns;
 mod units;
 mod whole_number;
 

@@ -10,6 +10,7 @@ use crate::decimal::split_decimal;
 use crate::digits::read_with_units;
 use crate::figures::decimals_in_figures;
 use crate::pieces::split_first;
+use crate::turns::by_turns;
 use crate::units::{are_rising_units, times_units};
 use crate::whole_number::judge_whole;
 use cn_core::ChineseCountMethod;
@@ -63,6 +64,9 @@ fn judge_shaped(
             decimals,
             read_with_units(method, DigitKind::Figure, 0, text),
         );
+    }
+    if let Some(number) = by_turns(method, text) {
+        return decimal_of(0, Some(number));
     }
     if let Some(parts) = split_decimal(text) {
         let whole = judge_whole(method, skipped, parts.whole)?;
