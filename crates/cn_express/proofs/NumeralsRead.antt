@@ -11,7 +11,7 @@ use Rattle.cn_core.specs.declared.method.ChineseCountMethod.TheVariants.{Low, Te
 use Rattle.cn_core.specs.declared.script.ChineseVariant.{ChineseVariant}
 use Rattle.cn_core.specs.declared.script.ChineseVariant.TheVariants.{Traditional, Simple}
 use Rattle.cn_core.specs.declared.sign.Sign.TheVariants.{Minus}
-use Rattle.cn_core.specs.Characters.{digit_char, minus_char, rank_of, unit_char}
+use Rattle.cn_core.specs.Characters.{digit_char, minus_char, rank_of, unit_char, sign_of as numeral_sign}
 use Rattle.cn_core.specs.Mark.{digit, unit}
 use Rattle.cn_core.specs.Printing.{is_printable, mark_char}
 use Rattle.cn_core.specs.Spelling.{spelling}
@@ -133,7 +133,7 @@ IsDivisorText-hundred variant case method =
 
 -- the minus sign
 minus-sign : (variant : ChineseVariant) → sign_of (minus_char variant) ≡ Some Minus
-unfolding minus_char sign_of
+unfolding minus_char sign_of numeral_sign
 minus-sign Traditional = refl
 minus-sign Simple = refl
 
