@@ -11,7 +11,7 @@ use Rattle.std.proofs.lemmas.Str.Ascii.{IsAscii-nil}
 use Rattle.std.proofs.Math.Nat.{div-add-mod', div-le_self}
 use Rattle.cn_core.specs.declared.method.ChineseCountMethod.{ChineseCountMethod}
 use Rattle.cn_core.specs.declared.sign.Sign.TheVariants.{Minus}
-use Rattle.cn_core.specs.Characters.{digit_of, rank_of}
+use Rattle.cn_core.specs.Characters.{digit_of, rank_of, sign_of as numeral_sign}
 use Rattle.cn_core.specs.Mark.{Mark, mark_of}
 use Rattle.cn_core.specs.Naive.{decimal_value, digit_value, naive_answer, refused_or}
 use Rattle.cn_core.specs.Numeral.{is_digit_or_unit}
@@ -19,6 +19,7 @@ use Rattle.cn_core.specs.Refusal.{Refusal}
 use Rattle.cn_core.specs.Text.{marks_of}
 use Rattle.cn_core.specs.Whole.{holds, signed_kind}
 use Rattle.cn_core.proofs.Fronts.{and-left, and-right, both}
+use Rattle.cn_core.specs.Figures.{figure_of, figure_rows, is_comma}
 use Rattle.cn_express.specs.Digits.{behind_point, last_digits}
 use Rattle.cn_express.specs.Figures.{figure_char, figures_of, figures_with, percent_sign, unsigned_figures}
 use Rattle.cn_express.proofs.ClearTexts.{digits-not_misread}
@@ -34,7 +35,7 @@ use Rattle.cn_quantity.specs.declared.characters.DigitKind.TheVariants.{Figure}
 use Rattle.cn_quantity.specs.declared.quantity.Quantity.{Quantity}
 use Rattle.cn_quantity.specs.declared.quantity.QuantityForm.{QuantityForm}
 use Rattle.cn_quantity.specs.declared.quantity.QuantityForm.TheVariants.{Whole, Decimal, Percent, Fraction}
-use Rattle.cn_quantity.specs.Characters.{figure_of, figure_rows, is_comma, is_fen, is_point, share_of, sign_of}
+use Rattle.cn_quantity.specs.Characters.{is_fen, is_point, share_of, sign_of}
 use Rattle.cn_quantity.specs.Digits.{after_digits, begins_with_digit, is_digit, leading_digits, read_on, read_with_units}
 use Rattle.cn_quantity.specs.Figures.{after_figures, after_groups, decimals_of, ends_in_figures, is_in_figures, may_lead_groups}
 use Rattle.cn_quantity.specs.Number.{decimal_of, number_answer, or_shaped, shaped_number}
@@ -69,7 +70,7 @@ figures-no_units text figures = figures-have (λ c. is_none (rank_of c)) refl te
 
 figures-signless : (text : List ℕ) → are_digits Figure text ≡ true
     → list_all (λ c. is_none (sign_of c)) text ≡ true
-unfolding sign_of
+unfolding sign_of numeral_sign
 figures-signless text figures = figures-have (λ c. is_none (sign_of c)) refl text figures
 
 figures-no_sign : (text more : List ℕ) → are_digits Figure text ≡ true → 0 < length text
@@ -237,7 +238,7 @@ record IsPoint (c : ℕ) : Type 0 where
   no_mark : is_digit_or_unit (mark_of c) ≡ false
 
 IsPoint-ascii : IsPoint (slice_index (codes ".") 0)
-unfolding is_bare is_fen share_of rank_of digit_of figure_of is_comma is_point
+unfolding is_bare is_fen share_of rank_of digit_of figure_of is_point
 IsPoint-ascii = record {
   bare = refl;
   no_unit = refl;
@@ -419,7 +420,7 @@ figures-by method Fraction number denominator decimals is small fits = cc
 
 -- with it
 minus-is : sign_of (slice_index (codes "-") 0) ≡ Some Minus
-unfolding sign_of
+unfolding sign_of numeral_sign
 minus-is = refl
 
 IsText-minus : IsText (codes "-")

@@ -11,7 +11,7 @@ use Rattle.cn_core.specs.declared.method.ChineseCountMethod.TheVariants.{Low, Te
 use Rattle.cn_core.specs.declared.script.ChineseVariant.{ChineseVariant}
 use Rattle.cn_core.specs.declared.script.ChineseVariant.TheVariants.{Traditional, Simple}
 use Rattle.cn_core.specs.declared.sign.Sign.TheVariants.{Minus}
-use Rattle.cn_core.specs.Characters.{digit_char, minus_char, rank_of, unit_char}
+use Rattle.cn_core.specs.Characters.{digit_char, minus_char, rank_of, unit_char, sign_of as numeral_sign}
 use Rattle.cn_core.specs.Mark.{digit, unit}
 use Rattle.cn_core.specs.Printing.{is_printable, mark_char}
 use Rattle.cn_core.specs.Spelling.{spelling}
@@ -133,7 +133,7 @@ IsDivisorText-hundred variant case method =
 
 -- the minus sign
 minus-sign : (variant : ChineseVariant) → sign_of (minus_char variant) ≡ Some Minus
-unfolding minus_char sign_of
+unfolding minus_char sign_of numeral_sign
 minus-sign Traditional = refl
 minus-sign Simple = refl
 
@@ -209,7 +209,8 @@ numerals-by variant case write read test passes form number denominator (Some de
           IsUnsigned-fraction read 100 number decimals denominator
           (unit_char variant case 2 ∷ []) (decimal_text variant case write decimals number)
           (IsDivisorText-hundred variant case read)
-          (bare-text (decimal_text variant case write decimals number) n.bare) n.no_sign part.0 part.1
+          (bare-text (decimal_text variant case write decimals number) n.bare) n.no_sign
+          part.0 part.1
           (omega arith) (over-is 100 denominator decimals is) fits
       by Fraction is = cc
 

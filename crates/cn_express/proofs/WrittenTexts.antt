@@ -9,14 +9,15 @@ use Rattle.std.proofs.lemmas.Str.{chars-encodes}
 use Rattle.cn_core.specs.declared.method.ChineseCountMethod.{ChineseCountMethod}
 use Rattle.cn_core.specs.Text.{text_of}
 use Rattle.cn_core.proofs.Fronts.{and-left, and-right, both}
-use Rattle.cn_quantity.specs.Characters.{figure_of, is_ling, is_xia, is_yen, is_you}
+use Rattle.cn_core.specs.Figures.{figure_of, is_currency}
+use Rattle.cn_quantity.specs.Characters.{is_ling, is_xia, is_you}
 use Rattle.cn_quantity.specs.Ratio.{after_you, mixed}
 use Rattle.cn_quantity.proofs.MixedTexts.{no-you as no-mixed}
 use Rattle.cn_quantity.specs.Reading.{begins_number, is_below_zero, yen_length}
 
 -- 下 and ¥ can stand before a number, and 又 in a mixed fraction
 abbrev pub is_front : ℕ → Bool
-is_front c = is_xia c || is_yen c || is_you c
+is_front c = is_xia c || is_currency c || is_you c
 
 -- characters, of which none is white space, 下, ¥ or 又
 pub record IsText (text : List ℕ) : Type 0 where
@@ -47,8 +48,8 @@ pub not-below : (text : List ℕ) → IsText text → is_below_zero text ≡ fal
 not-below [] is = refl
 not-below (c ∷ []) is = refl
 not-below (c ∷ d ∷ []) is = refl
-not-below (c ∷ d ∷ next ∷ rest) is = by (is_ling c) (is_xia d) (is_yen d) (is_you d) bare where
-  bare : not (is_xia d || is_yen d || is_you d) ≡ true
+not-below (c ∷ d ∷ next ∷ rest) is = by (is_ling c) (is_xia d) (is_currency d) (is_you d) bare where
+  bare : not (is_xia d || is_currency d || is_you d) ≡ true
   bare = and-left (not (is_front d)) _ (and-right (not (is_front c)) _ is.bare)
 
   by : (a b e f : Bool) → not (b || e || f) ≡ true → (a && b && begins_number next) ≡ false
@@ -59,8 +60,8 @@ not-below (c ∷ d ∷ next ∷ rest) is = by (is_ling c) (is_xia d) (is_yen d) 
 pub no-yen : (text : List ℕ) → IsText text → yen_length text ≡ 0
 no-yen [] is = refl
 no-yen (c ∷ []) is = refl
-no-yen (c ∷ next ∷ rest) is = by (is_xia c) (is_yen c) (is_you c) bare where
-  bare : not (is_xia c || is_yen c || is_you c) ≡ true
+no-yen (c ∷ next ∷ rest) is = by (is_xia c) (is_currency c) (is_you c) bare where
+  bare : not (is_xia c || is_currency c || is_you c) ≡ true
   bare = and-left (not (is_front c)) _ is.bare
 
   by : (a b f : Bool) → not (a || b || f) ≡ true
@@ -73,7 +74,7 @@ no-yen (c ∷ next ∷ rest) is = by (is_xia c) (is_yen c) (is_you c) bare where
 no-you : (text : List ℕ) → list_all (λ c. not (is_front c)) text ≡ true → after_you text ≡ []
 no-you [] h = refl
 no-you (c ∷ rest) h =
-    by (is_xia c) (is_yen c) (is_you c) (and-left (not (is_front c)) _ h)
+    by (is_xia c) (is_currency c) (is_you c) (and-left (not (is_front c)) _ h)
     (no-you rest (and-right (not (is_front c)) _ h)) where
       by : (a b f : Bool) → not (a || b || f) ≡ true → after_you rest ≡ []
           → (if f then rest else after_you rest) ≡ []

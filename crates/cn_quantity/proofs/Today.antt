@@ -26,11 +26,12 @@ use Rattle.cn_core.specs.Text.{marks_of, text_of}
 use Rattle.cn_core.specs.Whole.{signed_kind, signed_number}
 use Rattle.cn_core.specs.Value.{colloquial_value, numeral_value, product, records_from}
 use Rattle.cn_core.proofs.Fronts.{and-left, and-right, both}
+use Rattle.cn_core.specs.Figures.{figure_of, is_currency}
 use Rattle.cn_judge.proofs.Walking.{outside-mark}
 use Rattle.cn_quantity.specs.declared.characters.DigitKind.TheVariants.{Chinese}
 use Rattle.cn_quantity.specs.declared.quantity.QuantityForm.TheVariants.{Whole}
 use Rattle.cn_quantity.specs.Answer.{and_then, further_by}
-use Rattle.cn_quantity.specs.Characters.{figure_of, is_fen, is_ling, is_point, is_xia, is_yen, is_you, share_of, sign_of}
+use Rattle.cn_quantity.specs.Characters.{is_fen, is_ling, is_point, is_xia, is_you, share_of, sign_of}
 use Rattle.cn_quantity.specs.Number.{number_answer, or_shaped, shaped_number}
 use Rattle.cn_quantity.proofs.Ratios.{a-number, simple-is}
 use Rattle.cn_quantity.proofs.MixedTexts.{no-you}
@@ -504,8 +505,8 @@ signs-same (c ∷ rest) m = by (numeral_sign c) refl m where
 no-xia : (c : ℕ) → is_digit_or_unit (mark_of c) ≡ true → is_xia c ≡ false
 no-xia c = lacks is_xia c refl refl
 
-no-yen : (c : ℕ) → is_digit_or_unit (mark_of c) ≡ true → is_yen c ≡ false
-no-yen c = lacks is_yen c refl refl
+no-yen : (c : ℕ) → is_digit_or_unit (mark_of c) ≡ true → is_currency c ≡ false
+no-yen c = lacks is_currency c refl refl
 
 second-mark : (sign : Option Sign) (c d : ℕ) (rest : List ℕ)
     → are_marks (drop (sign_len sign) (c ∷ d ∷ rest)) ≡ true
