@@ -1,8 +1,13 @@
-"""A reference model of numbers in Chinese text, from docs/RULES.md and notes/values.md alone.
+"""A reference model of numbers in Chinese text, written from docs/RULES.md alone.
 
-Each function follows one rule, in the order and words of the documents; "Q7" in a comment names a
-question of QUESTIONS.md where the words can be read in two ways.  Refusals are None: which refusal
+Each function follows one rule, in the order and words of RULES.  Refusals are None: which refusal
 it is, and where, is not modelled.  Positions count characters.
+
+Where RULES leaves two readings, these are taken: the blank in an expression is U+0020, the comma
+before three figures is `,` or `，`, words of Doubt may mix the scripts, "a number with 负" begins
+with it, a whole part is cut off towards 0, a denominator is a whole number if it has no point, a
+mixed fraction has no sign after 分之 and is a fraction over 100 too, kept fractions have no currency
+sign, and canonical figures lift only the first reason to stay.
 """
 
 import re
@@ -14,16 +19,10 @@ I128_MIN = -(2**127)
 
 # ---- Characters ------------------------------------------------------------------------------
 
-DIGITS: Dict[str, int] = {
-    c: value
-    for value, chars in enumerate("零0〇 一壹1 二貳贰貮兩两2 三參叁叄参3 四肆4 五伍5 六陸陆6 七柒7 八捌8 九玖9".split())
-    for c in chars
-}
-RANKS: Dict[str, int] = {
-    c: rank
-    for rank, chars in enumerate("個个 十拾 百佰 千仟 萬万 億亿 兆 京 垓 秭 穰 溝沟 澗涧 正 載载 極极".split())
-    for c in chars
-}
+DIGIT_CHARS = "零0〇 一壹1 二貳贰貮兩两2 三參叁叄参3 四肆4 五伍5 六陸陆6 七柒7 八捌8 九玖9"
+UNIT_CHARS = "個个 十拾 百佰 千仟 萬万 億亿 兆 京 垓 秭 穰 溝沟 澗涧 正 載载 極极"
+DIGITS = {c: value for value, chars in enumerate(DIGIT_CHARS.split()) for c in chars}
+RANKS = {c: rank for rank, chars in enumerate(UNIT_CHARS.split()) for c in chars}
 FIGURES: Dict[str, str] = {
     c: str(value) for value in range(10) for c in (str(value), chr(0xFF10 + value))
 }
@@ -66,6 +65,11 @@ def is_figure(c: str) -> bool:
 def is_chinese_digit(c: str) -> bool:
     """A digit that is no figure."""
     return c in DIGITS and c not in FIGURES
+
+
+def is_any_digit(c: str) -> bool:
+    """A digit or a full-width figure."""
+    return c in DIGITS or c in FIGURES
 
 
 def is_letter(c: str) -> bool:
@@ -164,11 +168,11 @@ def read_by_itself(text: str, exponents: Exponents = TEN_THOUSAND) -> Optional[i
     return read_units(text, exponents)
 
 
-# ---- Whole numbers: what is misread (notes/values.md) ----------------------------------------
+# ---- Misread numerals ------------------------------------------------------------------------
 
 
 def misread_at(text: str, p: int) -> int:
-    """The number of the rule, 1 to 6, by which the character at p is misread, or 0."""
+    """`Misread.is_misread_at`: the number of the rule for the character at p, or 0."""
     c, before, after = at(text, p), at(text, p - 1), at(text, p + 1)
     digit, rank = digit_of(c), rank_of(c)
     if rank == 1 and rank_of(before) == 2:
@@ -198,7 +202,7 @@ def first_misread(text: str) -> Optional[int]:
 
 
 def whole_number(text: str, exponents: Exponents = TEN_THOUSAND) -> Optional[int]:
-    """`whole_answer`."""
+    """`WholeNumber.whole_answer`: read, or the sum of two parts at a bare ten."""
     p = first_misread(text)
     if p is None:
         return read_by_itself(text, exponents)
@@ -246,7 +250,7 @@ def units_product(units: str, exponents: Exponents) -> Optional[int]:
     """The product of the scales of rising units, if they rise and each scale fits; 1 of none."""
     if not are_rising(units) or any(exponents[rank_of(c)] is None for c in units):
         return None
-    return 10 ** sum(exponents[rank_of(c)] or 0 for c in units)
+    return int(10 ** sum(exponents[rank_of(c)] or 0 for c in units))
 
 
 def with_units(before: str, decimals: str, units: str, exponents: Exponents) -> Optional[Ratio]:
@@ -282,6 +286,8 @@ def by_turns(text: str, exponents: Exponents) -> Optional[Ratio]:
                 return None
             if (units or zero) and FIGURES[figures[0]] == "0":
                 return None
+            if units and not zero and rank_of(units[-1]) < 4 and rank_of(units_before[-1]) >= 5:
+                return None
             if not units and not zero and len(figures) != len(str(product_before)) - 1:
                 if len(figures) != 1 or value == 0 or len(units_before) != 1:
                     return None
@@ -296,7 +302,7 @@ def chinese_decimal(text: str, exponents: Exponents) -> Optional[Ratio]:
         return None
     before, decimals, ge, units = found.groups()
     whole = whole_number(before, exponents)
-    if whole is None or ends_colloquially(before) or (ge and rank_of(units[:1]) < 4):  # Q21
+    if whole is None or ends_colloquially(before) or (ge and rank_of(units[:1]) < 4):
         return None
     if units and any(rank_of(c) >= rank_of(units[0]) for c in before):
         return None
@@ -311,7 +317,7 @@ def short_tens(text: str, exponents: Exponents) -> Optional[Ratio]:
 
 
 def number(text: str, exponents: Exponents) -> Optional[Ratio]:
-    """Shape 4: whole numbers first, then the other shapes of numbers (Q9)."""
+    """Shapes 4 to 8; a numeral that is misread goes on to the other ones."""
     whole = whole_number(text, exponents)
     if whole is not None:
         return whole, 1
@@ -330,29 +336,30 @@ def part(text: str, exponents: Exponents) -> Optional[Ratio]:
     return number(text, exponents)
 
 
-def sign_of(text: str) -> str:
-    """The sign at the start of a text without white space, as it is written, or nothing."""
+def signed(text: str) -> Tuple[str, str]:
+    """The sign at the start of a text, as it is written or empty, and what is read after it."""
+    sign, c = "", at(text, 2)
     if at(text, 0) in PLUS or at(text, 0) in MINUS:
-        return text[0]
-    c = at(text, 2)
-    if text.startswith("零下") and (c in DIGITS or is_figure(c) or rank_of(c) == 1):
-        return "零下"
-    return ""
+        sign = text[0]
+    elif text.startswith("零下") and (is_any_digit(c) or rank_of(c) == 1):
+        sign = "零下"
+    rest = text[len(sign) :]
+    return sign, rest[1:] if at(rest, 0) in "¥￥" and is_figure(at(rest, 1)) else rest
 
 
 def mixed_fraction(text: str, exponents: Exponents) -> Optional[Quantity]:
-    """Shape 1: 二又五分之三."""
+    """Shape 1, as 二又五分之三."""
     before, _, fraction = text.partition("又")
     below, _, above = fraction.partition("分之")
     if not (before and below and above):
         return None
-    whole = number(before, exponents)
+    whole = whole_number(before, exponents)
     denominator, numerator = part(below, exponents), part(above, exponents)
     if whole is None or denominator is None or numerator is None:
         return None
-    if whole[1] != 1 or denominator[1] != 1 or numerator[1] != 1 or numerator >= denominator:
+    if denominator[1] != 1 or numerator[1] != 1 or numerator >= denominator:
         return None
-    return Quantity(whole[0] * denominator[0] + numerator[0], denominator[0], FRACTION)
+    return Quantity(whole * denominator[0] + numerator[0], denominator[0], FRACTION)
 
 
 def fraction(text: str, has_sign: bool, exponents: Exponents) -> Optional[Quantity]:
@@ -377,22 +384,15 @@ def unsigned_quantity(text: str, has_sign: bool, exponents: Exponents) -> Option
         return fraction(text, has_sign, exponents)
     if len(text) > 1 and text[-1] in "%％‰":
         value = number(text[:-1], exponents)
-        if value is None:
-            return None
-        if text[-1] == "‰":
-            return Quantity(value[0], value[1] * 1000, FRACTION)
-        return Quantity(value[0], value[1] * 100, PERCENT)
+        divisor, form = (1000, FRACTION) if text[-1] == "‰" else (100, PERCENT)
+        return value and Quantity(value[0], value[1] * divisor, form)
     value = number(text, exponents)
     return value and Quantity(*value, WHOLE if value[1] == 1 else DECIMAL)
 
 
 def quantity(string: str, exponents: Exponents = TEN_THOUSAND) -> Optional[Quantity]:
     """`chinese_to_quantity`: the quantity of a string, or None where it is refused."""
-    text = text_of(string)
-    sign = sign_of(text)
-    text = text[len(sign) :]
-    if at(text, 0) in "¥￥" and is_figure(at(text, 1)):
-        text = text[1:]
+    sign, text = signed(text_of(string))
     answer = unsigned_quantity(text, bool(sign), exponents)
     if answer is None or answer.denominator > U128_MAX:
         return None
@@ -420,7 +420,8 @@ def figures_text(q: Quantity) -> str:
 # ---- Numbers in a text -----------------------------------------------------------------------
 
 UPPER_ALONE = frozenset("壹貳贰貮參叁叄参肆伍陸陆柒捌玖拾佰仟")
-MEGA = re.compile("兆(?:[瓦赫帕焦伏乏]|字[節节]|比特|[电電]子|[宽寬][带帶頻]|[带帶頻][宽寬]" "|位(?![数數])|[欧歐](?!元))")
+AFTER_MEGA = "[瓦赫帕焦伏乏]|字[節节]|比特|[电電]子|[宽寬][带帶頻]|[带帶頻][宽寬]|位(?![数數])|[欧歐](?!元)"
+MEGA = re.compile(f"兆(?:{AFTER_MEGA})")
 Wanted = Tuple[int, bool]  # the greatest unit's rank, and whether both cases are wanted
 EVERYDAY, ALL = (RANKS["兆"], False), (RANKS["極"], True)
 
@@ -480,7 +481,8 @@ def longest_stretches(
     n: int, belongs: List[bool], parts: Callable[[int], bool]
 ) -> List[Tuple[int, int]]:
     """The longest stretches of places that belong, none of which `parts` from the next one."""
-    spans, start = [], None
+    spans: List[Tuple[int, int]] = []
+    start: Optional[int] = None
     for i in range(n + 1):
         if start is not None and (i == n or not belongs[i] or parts(i - 1)):
             spans.append((start, i))
@@ -492,7 +494,7 @@ def longest_stretches(
 
 def clings_to_number(c: str) -> bool:
     """An ASCII letter, a digit of any kind or one of `_廿卅卌幺`."""
-    return is_letter(c) or c in DIGITS or is_figure(c) or c in "_廿卅卌幺"
+    return is_letter(c) or is_any_digit(c) or c in "_廿卅卌幺"
 
 
 def stands_alone(line: Line, start: int, end: int) -> bool:
@@ -512,7 +514,7 @@ def is_about(line: Line, start: int, end: int) -> bool:
     if line.at(end) in "几幾多余餘来來" or (line.at(end) == "好" and line.at(end + 1) in "几幾"):
         return True
     whole = re.split("[点點]", text)[0]
-    pairs = [(a, b) for a, b in zip(whole, whole[1:]) if a in DIGITS and b in DIGITS]
+    pairs = [(a, b) for a, b in zip(whole, whole[1:]) if is_any_digit(a) and is_any_digit(b)]
     if len(pairs) != 1 or is_figure(pairs[0][0]) or is_figure(pairs[0][1]):
         return False
     first, second = DIGITS[pairs[0][0]], DIGITS[pairs[0][1]]
@@ -571,9 +573,9 @@ def is_other_word(line: Line, i: int) -> bool:
         return not (line.is_numeric(i - 1) and not is_han(line.at(i + 2)))
     if c in "千仟" and after in "瓦克米卡赫伏安焦帕":
         j = i
-        while line.at(j - 1) in DIGITS:
+        while is_any_digit(line.at(j - 1)):
             j -= 1
-        return line.at(i - 1) in RANKS or (j < i and line.at(j - 1) in ".．点點")  # Q19
+        return line.at(i - 1) in RANKS or (j < i and line.at(j - 1) in ".．点點")
     return False
 
 
@@ -594,7 +596,7 @@ def comma_joins(line: Line, i: int) -> bool:
     j = i  # the start of the figures directly before the comma
     while line.is_figure(j - 1) and j > i - 4:
         j -= 1
-    if i - j == 3 and line.at(j - 1) in ",，":  # Q20
+    if i - j == 3 and line.at(j - 1) in ",，":
         return True
     return 1 <= i - j <= 3 and line.at(j) not in "0０" and line.at(j - 1) not in ",.．"
 
@@ -610,13 +612,13 @@ def joins(line: Line, i: int) -> bool:
         return is_figure(before) and is_figure(after)
     if c in ",，":
         return comma_joins(line, i)
-    if c == " ":  # Q18
+    if c == " ":
         if not is_figure(before):
             return False
         return after in "%％‰" or (rank_of(after) >= 2 and line.is_numeric(i + 1))
     if c == "分":
         j = i + 3 if line.at(i + 2) in MINUS else i + 2
-        return line.is_numeric(i - 1) and after == "之" and line.is_numeric(j)  # Q6
+        return line.is_numeric(i - 1) and after == "之" and line.is_numeric(j)
     if c == "之":
         return before == "分" and joins(line, i - 1)
     if c in "%％‰":
@@ -632,7 +634,7 @@ def joins(line: Line, i: int) -> bool:
             return False
         if after == "一" and not (line.is_numeric(i + 2) or line.at(i + 2) in "度点點摄攝℃"):
             return False
-        return after in DIGITS or is_figure(after) or rank_of(after) == 1
+        return is_any_digit(after) or rank_of(after) == 1
     if c in "负負":
         if line.is_numeric(i - 1) or before in "正非背揹肩担擔抱胜勝辜欺自不":
             return False
@@ -678,24 +680,35 @@ def find_quantities(text: str) -> List[Found]:
 WORDS = [
     tuple(word.split("|"))
     for word in """
-    |十二|指肠 |十二|指腸 |十二|生肖 |三十六|计 |七十二|变 |十八|般 |十八|罗汉 |十八|层地狱
-    |三百六十|行 |七十二|行 |二十四|史 |二十八|宿 |十三|陵 |十三|妹 |十万|火急 |十二|月党 |二百五|
-    |十万八千|里 |一千零一|夜 |三十|而立 |四十|不惑 |三十|年河东 |五十|步笑 |十五|个吊桶 双|十一|
-    双|十二| |十一|假期 |十一|长假 |十一|黄金周 年|三十| |二八|年 |十八|大 |十九|大 |二十|大 |亿万|
+    |十二|指肠 |十二|生肖 |十二|月党 |十八|般 |十八|大 |十八|罗汉 |十八|层地 |十九|大 |二十|大
+    |十一|假期 |十一|长假 |十一|黄金 |三十六|计 |七十二|变 |七十二|行 |三百六十|行 |二十四|史
+    |二十八|宿 |十三|陵 |十三|妹 |一千零一|夜 |二八|年华 |三十|而立 |三十|年河 |四十|不惑
+    |五十|步笑 |十五|个吊 |十万|火急 |十万八千|里 |二百五| |亿万| 双|十一| 双|十二| 年|三十|
     """.split()
 ]
+SIMPLE = str.maketrans("腸黨羅漢層長黃計變華個雙萬億臘", "肠党罗汉层长黄计变华个双万亿腊")
 HALVED = "个個倍天岁歲里年月日号號點点时時分秒刻元圆圓块塊角毛度米斤两兩"
 LINKS = "到至~～－–—〜-"
 CHINESE_DIGITS = re.compile(f"{_D}+")
 TIME = re.compile(f"([^点點]{{1,3}})[点點]([零〇]?)({_D})")
 
 
+def is_part(line: Line, start: int, end: int) -> bool:
+    text, after, then = line.text[start:end], line.at(end), line.at(end + 1)
+    if after == "折" and then not in "算合旧舊叠疊磨返":
+        return True
+    if after == "成" and len(text) <= 2 and CHINESE_DIGITS.fullmatch(text):
+        return True
+    return after in HALVED and then == "半"
+
+
 def is_word(line: Line, start: int, end: int) -> bool:
-    text, head = line.text, line.text[:start]
-    if head.endswith(("正月", "腊月", "臘月")):
+    text = line.text.translate(SIMPLE)
+    head, tail = text[:start], text[end:]
+    if head.endswith(("正月", "腊月")):
         return True
     return any(
-        text[start:end] == middle and head.endswith(before) and text.startswith(after, end)
+        text[start:end] == middle and head.endswith(before) and tail.startswith(after)
         for before, middle, after in WORDS
     )
 
@@ -717,21 +730,12 @@ def is_term(line: Line, start: int, end: int) -> bool:
     text, after = line.text[start:end], line.at(end)
     if text[0] in "负負" and after in "项項楼樓层層":
         return True
-    decimal = chinese_decimal(text[len(sign_of(text)) :], TEN_THOUSAND)  # Q22
+    decimal = chinese_decimal(signed(text_of(text))[1], TEN_THOUSAND)
     if decimal is not None and after in "划劃线線":
         return True
     if after in "进進" and line.at(end + 1) in "制位":
         return True
     return after in "届屆" and line.at(end + 1) in DIGITS and line.at(end + 2) == "中"
-
-
-def is_part(line: Line, start: int, end: int) -> bool:
-    text, after, then = line.text[start:end], line.at(end), line.at(end + 1)
-    if after == "折" and then not in "算合旧舊叠疊磨返":
-        return True
-    if after == "成" and len(text) <= 2 and CHINESE_DIGITS.fullmatch(text):
-        return True
-    return after in HALVED and then == "半"
 
 
 def is_time(line: Line, start: int, end: int) -> bool:
@@ -761,7 +765,7 @@ def share(first: str, second: str) -> bool:
     if len(second) < 2 or second[-1] not in RANKS or rank_of(first[-1]) >= rank_of(second[-1]):
         return False
     without_unit = quantity(second[:-1])
-    return without_unit is not None and whole_part(a) <= whole_part(without_unit)  # Q7, Q23
+    return without_unit is not None and whole_part(a) <= whole_part(without_unit)
 
 
 def are_range(first: str, link: str, second: str) -> bool:
@@ -793,7 +797,7 @@ def is_range(line: Line, start: int, end: int) -> bool:
 
 
 DOUBTS: Dict[str, Callable[[Line, int, int], bool]] = dict(
-    word=is_word, digits=is_digits, term=is_term, part=is_part, time=is_time, range=is_range
+    part=is_part, word=is_word, digits=is_digits, term=is_term, time=is_time, range=is_range
 )
 
 
@@ -807,20 +811,23 @@ def doubt_of(line: Line, start: int, end: int) -> Optional[str]:
 FIGURES_ALONE = re.compile(f"([-−－负負]?)({_F}[0-9０-９,，]*)(?:[.．]({_F}+))?")
 
 
-def kept_text(text: str) -> str:
-    """`Kept.kept_text`, of an expression that is a quantity."""
-    sign = sign_of(text)  # 1
-    if sign:
-        return ("零下" if sign == "零下" else "-") + kept_text(text[len(sign) :])  # Q16
+def kept_text(text: str) -> Optional[str]:
+    """`Kept.kept_text`, of a quantity; None where a part of it is refused by itself."""
+    sign, rest = signed(text)
+    if sign:  # 1
+        new = kept_text(rest)
+        return new and ("零下" if sign == "零下" else "-") + new
     if "分之" in text:  # 2
         below, _, above = text.partition("分之")
         minus = "-" if above[0] in MINUS else ""
-        numerator = minus + kept_part(above[len(minus) :])
-        if part(text_of(below), TEN_THOUSAND) == (100, 1):
-            return numerator + "%"
-        return numerator + "/" + kept_part(below)
+        numerator, denominator = kept_part(above[len(minus) :]), kept_part(below)
+        if numerator is None or denominator is None:
+            return None
+        is_percentage = part(text_of(below), TEN_THOUSAND) == (100, 1)
+        return minus + numerator + ("%" if is_percentage else "/" + denominator)
     if text[-1] in "%％‰":  # 3
-        return kept_text(text[:-1]) + text[-1]
+        new = kept_text(text[:-1])
+        return new and new + text[-1]
     if is_figure(text[0]):  # 4
         return text
     if all(is_chinese_digit(c) for c in text):
@@ -828,24 +835,26 @@ def kept_text(text: str) -> str:
     decimal = CHINESE_DECIMAL.fullmatch(text)
     if decimal and (not decimal.group(4) or rank_of(text[-1]) >= 4):  # 5
         whole, decimals, ge, units = decimal.groups()
-        return f"{whole_number(whole)}.{ascii_figures(decimals)}{ge}{units}"
+        return f"{whole_number(text_of(whole))}.{ascii_figures(decimals)}{ge}{units}"
     if not decimal and rank_of(text[-1]) >= 4:  # 6
-        return "".join(kept_section(section) for section in sections(text))
+        written = [kept_section(section) for section in sections(text)]
+        return None if None in written else "".join(section or "" for section in written)
     unit = rank_of(at(text, len(text) - 2))
-    if not decimal and unit >= 5 and text[-1] in DIGITS:  # 7
+    if not decimal and unit >= 5 and 1 <= digit_of(text[-1]) <= 9:  # 7
         before = text[:-2]
         directly_before = rank_of(at(before, len(before) - 1))
-        is_greatest = all(rank_of(c) < unit for c in before)  # Q2
-        if directly_before < 4 and directly_before != 0 and is_greatest:
-            return f"{read_by_itself(before)}.{DIGITS[text[-1]]}{text[-2]}"
+        if directly_before < 4 and directly_before != 0 and all(rank_of(c) < unit for c in before):
+            value = whole_number(text_of(before))
+            return None if value is None else f"{value}.{DIGITS[text[-1]]}{text[-2]}"
     answer = quantity(text)  # 8
     assert answer is not None, text
     return figures_text(answer)
 
 
-def kept_part(text: str) -> str:
-    """One side of 分之, where rising units alone are a number (Q17)."""
-    return kept_text("一" + text if are_rising(text) else text)
+def kept_part(text: str) -> Optional[str]:
+    """One side of 分之, where rising units alone are a number, written without units."""
+    product = units_product(text, TEN_THOUSAND)
+    return kept_text(text) if product is None else str(product)
 
 
 def sections(numeral: str) -> List[str]:
@@ -860,15 +869,16 @@ def sections(numeral: str) -> List[str]:
     return [numeral[start:end] for start, end in zip([0] + ends, ends)]
 
 
-def kept_section(section: str) -> str:
-    """Its 零〇 at the start, a whole number in figures, and its units from 萬 up at the end."""
+def kept_section(section: str) -> Optional[str]:
+    """Its 零〇 at the start, a whole number in figures, and the units at its end as they are."""
     start, end = len(section) - len(section.lstrip("零〇")), len(section) - 1
     while rank_of(section[end - 1]) >= 4:
         end -= 1
-    while any(rank_of(c) >= rank_of(section[end]) for c in section[:end]):  # Q1
+    while any(rank_of(c) >= rank_of(section[end]) for c in section[:end]):
         end += 1
-    middle = section[start:end].rstrip("个個")  # read by itself: Q3
-    return f"{section[:start]}{read_by_itself(middle)}{section[start + len(middle):]}"
+    middle = section[start:end].rstrip("个個")
+    value = whole_number(text_of(middle))
+    return None if value is None else section[:start] + str(value) + section[start + len(middle) :]
 
 
 def canonical_text(text: str) -> Optional[str]:
@@ -884,16 +894,15 @@ def canonical_text(text: str) -> Optional[str]:
 # ---- Expressions replaced: what stays --------------------------------------------------------
 
 MEASURES = frozenset(
-    "km m cm mm nm kg g mg t L l mL ml kW W kWh MW GW kHz MHz GHz Hz KB MB GB TB kB V A mA mAh "
-    "px pt s ms h min".split()
+    "km m cm mm nm kg g mg t L l mL ml cc kW W kWh MW GW kPa MPa kcal kHz MHz GHz Hz dB KB MB GB "
+    "TB kB K M G T Mbps Gbps V A mA mAh px pt s ms h min".split()
 )
 CALENDAR, CLOCK = "年月日号號分秒刻", "點点时時"
 MONEY_AND_MEASURES = "元圆圓块塊角毛度米斤两兩"
 COUNTED = "个個件张張人名位只隻條条斤份次瓶包箱盒本套台杯碗"
-JOINED_IN_ANY_CASE = re.compile(
-    f"[{CALENDAR}{CLOCK}{MONEY_AND_MEASURES}]?[{LINKS}]|比|[单單有]|[个個]?小[时時]|分[钟鐘]" f"|[{CLOCK}]"
-)
-CHARACTERS_ABOVE = frozenset(CALENDAR + CLOCK + MONEY_AND_MEASURES + LINKS + "比单單有个個小钟鐘")  # Q15
+BEFORE_LINK = CALENDAR + CLOCK + MONEY_AND_MEASURES
+JOINED_IN_ANY_CASE = re.compile(f"[{BEFORE_LINK}]?[{LINKS}]|比|[单單有]|[个個]?小[时時]|分[钟鐘]|[{CLOCK}]")
+CHARACTERS_ABOVE = frozenset(BEFORE_LINK + LINKS + "比单單有个個小钟鐘")
 
 
 def clings(line: Line, start: int, end: int) -> bool:
@@ -947,7 +956,7 @@ def to_figures(
             has_unit = any(c in RANKS or c in "零〇" for c in e.text)
             if not (is_written or (expanded and has_unit)):
                 return True
-        if e.quantity is None or e.doubt == "part":  # 2 (Q14)
+        if e.quantity is None or e.doubt == "part":  # 2
             return True
         if e.is_about and not about or e.is_one_character and not one_character:
             return True
@@ -955,31 +964,28 @@ def to_figures(
             return True
         if clings(line, e.start, e.end):  # 3
             return True
-        below, is_fraction, _ = e.text.partition("分之")  # 4, of the denominator as written (Q11)
-        if expanded or not is_fraction:  # Q12
+        below, is_fraction, _ = e.text.partition("分之")  # 4
+        if expanded or not is_fraction:
             return False
-        denominator = part(text_of(below[len(sign_of(below)) :]), TEN_THOUSAND)
+        denominator = part(text_of(signed(below)[1]), TEN_THOUSAND)
         return "又" in e.text or (denominator is not None and denominator[0] >= 1000)
 
-    keeps = [stays(e) for e in expressions]
-    holds = [keeps[i] and not has_figure(e.text) for i, e in enumerate(expressions)]
+    def new_text(e: Found) -> Optional[str]:
+        figures = canonical_text(e.text) if canonical else None
+        if figures is None and expanded and e.quantity is not None:
+            return figures_text(e.quantity)
+        return kept_text(e.text) if figures is None else figures
+
+    news = [None if stays(e) else new_text(e) for e in expressions]
+    holds = [new is None and not has_figure(e.text) for e, new in zip(expressions, news)]
     joined = [are_joined(line, a, b) for a, b in zip(expressions, expressions[1:])]
-    for i, is_joined in enumerate(joined):  # 5: from one to the next, to the right (Q25)
+    for i, is_joined in enumerate(joined):  # 5: from one to the next, to the right
         holds[i + 1] = holds[i + 1] or (is_joined and holds[i])
     for i, is_joined in reversed(list(enumerate(joined))):  # and to the left
         holds[i] = holds[i] or (is_joined and holds[i + 1])
 
     pieces, end = [], 0
-    for e, keep, held in zip(expressions, keeps, holds):
-        new = e.text
-        if not keep and not held:
-            figures = canonical_text(e.text) if canonical else None
-            if figures is not None:
-                new = figures
-            elif expanded and e.quantity is not None:
-                new = figures_text(e.quantity)
-            else:
-                new = kept_text(e.text)
-        pieces += [text[end : e.start], new]
+    for e, new, held in zip(expressions, news, holds):
+        pieces += [text[end : e.start], e.text if new is None or held else new]
         end = e.end
     return "".join(pieces) + text[end:]

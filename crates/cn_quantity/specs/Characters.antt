@@ -1,5 +1,5 @@
 -- Which characters a quantity has beside those of numerals.
-use Rattle.std.specs.Prelude.{ℕ, Bool, List, [], ◌∷◌, codes, Option, Some, None, is_some, if◌then◌else◌}
+use Rattle.std.specs.Prelude.{ℕ, Bool, codes, Option, Some, None, is_some, if◌then◌else◌}
 use Rattle.std.specs.Char.{char_set_contains, is_ascii_digit}
 use Rattle.cn_core.specs.declared.sign.Sign.{Sign}
 use Rattle.cn_core.specs.declared.sign.Sign.TheVariants.{Plus, Minus}
