@@ -1,0 +1,17 @@
+"""Numbers in a text, beside the model of the rules in tests/models, which is written from docs/RULES.md
+alone, on random texts; `python3 tests/models/compare.py 1000000` tries more."""
+import sys
+
+from running import TOP
+from test_python import module_over
+
+COUNT, SEED = 3000, 20261129
+
+
+def test_model(of_c_source, monkeypatch):
+    monkeypatch.syspath_prepend(TOP / "tests/models")
+    monkeypatch.setattr(sys, "dont_write_bytecode", True)
+    import compare
+
+    with module_over(of_c_source) as library:
+        assert compare.differences(library, COUNT, SEED) == []
