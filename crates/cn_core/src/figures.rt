@@ -35,7 +35,6 @@ pub fn figure_of(c: char) -> Option<u8>
 /// is_wide_figure('７') == true
 /// is_wide_figure('7') == false
 /// ```
-#[inline(always)]
 pub fn is_wide_figure(c: char) -> bool
     ensures { result ≡ is_wide_figure c }
 {
@@ -48,7 +47,6 @@ pub fn is_wide_figure(c: char) -> bool
 /// is_figure('７') == true
 /// is_figure('七') == false
 /// ```
-#[inline(always)]
 pub fn is_figure(c: char) -> bool
     ensures figure { result ≡ is_figure c }
     ensures value { result ≡ is_some (figure_of c) }
@@ -63,7 +61,6 @@ pub fn is_figure(c: char) -> bool
 /// is_figure_minus('－') == true
 /// is_figure_minus('负') == false
 /// ```
-#[inline(always)]
 pub fn is_figure_minus(c: char) -> bool
     ensures { result ≡ is_figure_minus c }
 {
@@ -76,7 +73,6 @@ pub fn is_figure_minus(c: char) -> bool
 /// is_figure_plus('＋') == true
 /// is_figure_plus('正') == false
 /// ```
-#[inline(always)]
 pub fn is_figure_plus(c: char) -> bool
     ensures { result ≡ is_figure_plus c }
 {
@@ -89,7 +85,6 @@ pub fn is_figure_plus(c: char) -> bool
 /// is_figure_point('．') == true
 /// is_figure_point('点') == false
 /// ```
-#[inline(always)]
 pub fn is_figure_point(c: char) -> bool
     ensures { result ≡ is_figure_point c }
 {
@@ -102,7 +97,6 @@ pub fn is_figure_point(c: char) -> bool
 /// is_comma('，') == true
 /// is_comma('、') == false
 /// ```
-#[inline(always)]
 pub fn is_comma(c: char) -> bool
     ensures { result ≡ is_comma c }
 {
@@ -115,7 +109,6 @@ pub fn is_comma(c: char) -> bool
 /// is_percent('％') == true
 /// is_percent('‰') == false
 /// ```
-#[inline(always)]
 pub fn is_percent(c: char) -> bool
     ensures { result ≡ is_percent c }
 {
@@ -128,7 +121,6 @@ pub fn is_percent(c: char) -> bool
 /// is_per_mille('‰') == true
 /// is_per_mille('%') == false
 /// ```
-#[inline(always)]
 pub fn is_per_mille(c: char) -> bool
     ensures { result ≡ is_per_mille c }
 {
@@ -141,7 +133,6 @@ pub fn is_per_mille(c: char) -> bool
 /// is_share_sign('％') == true
 /// is_share_sign('‰') == true
 /// ```
-#[inline(always)]
 pub fn is_share_sign(c: char) -> bool
     ensures { result ≡ is_share_sign c }
 {
@@ -154,7 +145,6 @@ pub fn is_share_sign(c: char) -> bool
 /// is_currency('￥') == true
 /// is_currency('元') == false
 /// ```
-#[inline(always)]
 pub fn is_currency(c: char) -> bool
     ensures { result ≡ is_currency c }
 {
@@ -167,7 +157,6 @@ pub fn is_currency(c: char) -> bool
 /// tens_of('廿') == Some(20)
 /// tens_of('十') == None
 /// ```
-#[inline(always)]
 #[tactic(auto, unfolding(crate::specs::Figures::tens_of))]
 pub fn tens_of(c: char) -> Option<u8>
     ensures { result ≡ tens_of c }
