@@ -264,12 +264,14 @@ fn signed_quantity(
 /// numerals, with a sign in front or none. It is exact, and as written.
 ///
 /// ```text
-/// "三點五" is 35/10, "1,280.5萬" 128050000/10, "-12.5%" -125/1000, "三分之一" 1/3, "廿三" 23/1
+/// "三點五" is 35/10, "1,280.5萬" 128050000/10, "-12.5%" -125/1000, "三分之一" 1/3, "廿三" 23/1,
+/// "1亿2000万" 120000000/1, "一百十五" 115/1
 /// ```
 ///
 /// `ChineseNumberEmpty` where nothing is left without white space and sign; `Overflow` where a
-/// number does not fit 128 bits, or a unit's scale, `Underflow` behind a minus;
-/// `ChineseNumberIncorrect` for any other text, with the char_index of the character at fault.
+/// number does not fit 128 bits, or a unit's scale, `Underflow` after a minus;
+/// `ChineseNumberIncorrect` for any other text, with the char_index of the character at fault: also
+/// where a numeral says what no reader means, as 一亿二千.
 pub fn chinese_to_quantity(
     text: &str,
     method: ChineseCountMethod,

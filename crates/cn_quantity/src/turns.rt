@@ -185,25 +185,20 @@ fn may_follow_zero(turns: Turns, nought: bool, number: u128) -> bool
 }
 
 // A last group, which has no units.
-fn last_group(
-    turns: Turns,
-    after_zero: bool,
-    nought: bool,
-    count: usize,
-    number: u128,
-) -> Option<Turns>
-    ensures { result ≡ last_group turns after_zero nought count number }
+fn last_group(turns: Turns, after_zero: bool, group: Group<'_>) -> Option<Turns>
+    ensures { result
+        ≡ last_group turns after_zero group.entry.nought group.entry.count group.entry.number }
 {
     if after_zero {
-        if may_follow_zero(turns, nought, number) {
-            with_last(turns, number)
+        if may_follow_zero(turns, group.nought, group.number) {
+            with_last(turns, group.number)
         } else {
             None
         }
-    } else if fills(turns, count) {
-        with_last(turns, number)
-    } else if is_tenth(turns, nought, count) {
-        let tenth = number.checked_mul(turns.product / 10)?;
+    } else if fills(turns, group.count) {
+        with_last(turns, group.number)
+    } else if is_tenth(turns, group.nought, group.count) {
+        let tenth = group.number.checked_mul(turns.product / 10)?;
         with_last(turns, tenth)
     } else {
         None
@@ -211,17 +206,12 @@ fn last_group(
 }
 
 // A later group with units.
-fn unit_group(
-    method: ChineseCountMethod,
-    turns: Turns,
-    number: u128,
-    nought: bool,
-    units: &str,
-) -> Option<Turns>
-    ensures { result ≡ unit_group method turns number nought (text_of units.now) }
+fn unit_group(method: ChineseCountMethod, turns: Turns, group: Group<'_>) -> Option<Turns>
+    ensures { result ≡ unit_group method turns group.entry.number group.entry.nought
+        (text_of group.entry.units.now) }
 {
-    if !nought && is_below(method, number, units, turns.product) {
-        with_group(method, turns.sum, number, units)
+    if !group.nought && is_below(method, group.number, group.units, turns.product) {
+        with_group(method, turns.sum, group.number, group.units)
     } else {
         None
     }
@@ -252,8 +242,8 @@ fn later_group(
     }
     let next = match split_first(group.units) {
         Some(_) if has_two_readings(method, turns, after_zero, group.units) => return None,
-        Some(_) => unit_group(method, turns, group.number, group.nought, group.units)?,
-        None => last_group(turns, after_zero, group.nought, group.count, group.number)?,
+        Some(_) => unit_group(method, turns, group)?,
+        None => last_group(turns, after_zero, group)?,
     };
     Some((next, group.rest))
 }

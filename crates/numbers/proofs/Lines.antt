@@ -16,10 +16,12 @@ use Rattle.numbers.specs.Private.{TakesLine, Replies}
 pub AnswersLine-text : (search : Search) (line : ℕ) (bytes written : List ℕ) → IsUtf8 bytes
     → AreFound search line (found_spans search bytes) written
     → AnswersLine search line bytes written
+unfolding AnswersLine
 AnswersLine-text search line bytes written ok found = rw (is_utf8-from_IsUtf8 bytes ok) found
 
 pub AnswersLine-none : (search : Search) (line : ℕ) (bytes : List ℕ) → (IsUtf8 bytes → ⊥)
     → AnswersLine search line bytes (decimal line ++ codes ":1 bad line\n")
+unfolding AnswersLine
 AnswersLine-none search line bytes none = by (is_utf8 bytes) refl where
   by : (b : Bool) → is_utf8 bytes ≡ b
       → AnswersLine search line bytes (decimal line ++ codes ":1 bad line\n")

@@ -55,7 +55,7 @@ AreFound search line (span ∷ spans) written =
     × (written ≡ found_text line (1 + length (chars span.before)) span.text answer ++ rest)
 
 -- what is written for a line, given by its bytes
-abbrev pub AnswersLine : Search → ℕ → List ℕ → List ℕ → Type 0
+unfoldable pub AnswersLine : Search → ℕ → List ℕ → List ℕ → Type 0
 AnswersLine search line bytes written =
     MatchBool (is_utf8 bytes) (AreFound search line (found_spans search bytes) written)
     (written ≡ decimal line ++ codes ":1 bad line\n")
