@@ -1,5 +1,6 @@
 -- A numeral has no estimate.
-use Rattle.std.proofs.Common.{◌≡◌, ℕ, ◌<◌, Bool, true, false, not, ◌&&◌, List, [], ◌∷◌, ◌++◌, Option, Some, None, refl, ap, ◌∙◌, ◌==◌, if◌then◌else◌, arith}
+use Rattle.std.proofs.Common.{◌≡◌, ℕ, codes, ◌<◌, Bool, true, false, not, ◌&&◌, List, [], ◌∷◌, ◌++◌, Option, Some, None, refl, ap, ◌∙◌, ◌==◌, if◌then◌else◌, arith}
+use Rattle.std.specs.Char.{char_set_contains}
 use Rattle.std.specs.List.{list_all}
 use Rattle.std.proofs.Math.Bool.{and-false}
 use Rattle.std.proofs.lemmas.Bool.{not-true}
@@ -53,14 +54,21 @@ each-separates mark rest h =
     _ (and-left (is_digit_or_unit mark && separates_digits mark rest
     && multiplies_upwards mark rest && counts_a_unit mark rest) _ h)))
 
+-- where a point ends the pairs or does not
+cut-far : (b : Bool) (all : List Pair) → list_all is_far all ≡ true
+    → list_all is_far (if b then [] else all) ≡ true
+cut-far true all far = refl
+cut-far false all far = far
+
 all-far : (text : List ℕ) → each_may_precede (marks_of text) ≡ true
     → list_all is_far (pairs text) ≡ true
 all-far [] h = refl
 all-far (c ∷ others) h =
-    list_all-append is_far (pair_at c others) (pairs others)
+    cut-far (char_set_contains (codes "点點") c) (pair_at c others ++ pairs others)
+    (list_all-append is_far (pair_at c others) (pairs others)
     ∙ both _ _ (pair-far c others (each-separates (mark_of c) (marks_of others)
     (and-left (may_precede (mark_of c) (marks_of others)) _ h)))
-    (all-far others (and-right (may_precede (mark_of c) (marks_of others)) _ h))
+    (all-far others (and-right (may_precede (mark_of c) (marks_of others)) _ h)))
 
 none-at : (c : ℕ) (others : List ℕ) → digit_of c ≡ None → pair_at c others ≡ []
 none-at c [] e = refl
@@ -80,7 +88,8 @@ no-estimate (c ∷ others) h = by (digit_of c) (rank_of c) refl refl h where
       let first : Mark = if rank == 1 then digit 10 else unit rank in
       let each : each_may_precede (first ∷ marks_of others) ≡ true =
       and-right (starts_with_digit (first ∷ marks_of others)) _ h in
-      ap (λ l. is_one_estimate (l ++ pairs others)) (none-at c others is_d)
-      ∙ one-far (pairs others) (all-far others
-      (and-right (may_precede first (marks_of others)) _ each))
+      one-far (pairs (c ∷ others)) (cut-far (char_set_contains (codes "点點") c)
+      (pair_at c others ++ pairs others)
+      (ap (λ l. list_all is_far (l ++ pairs others)) (none-at c others is_d)
+      ∙ all-far others (and-right (may_precede first (marks_of others)) _ each)))
   by None None is_d is_r h = cc

@@ -3,49 +3,15 @@ use Rattle.std.proofs.Common.{◌≡◌, ℕ, Bool, true, false, not, ◌&&◌, 
 use Rattle.std.specs.Char.{char_set_contains, is_ascii_digit}
 use Rattle.std.specs.List.{list_all}
 use Rattle.std.proofs.lemmas.Bool.{not-true}
-use Rattle.std.proofs.Math.Bool.{or-false, or-true}
-use Rattle.cn_core.specs.Mark.{mark_of, other}
+use Rattle.std.proofs.Math.Bool.{and-false, and-true, or-false}
 use Rattle.cn_core.proofs.Fronts.{and-left, and-right}
-use Rattle.cn_judge.proofs.Walking.{outside-mark}
 use Rattle.cn_find.specs.declared.wanted.Wanted.{Wanted}
 use Rattle.cn_find.specs.Belongs.{belongs, is_chinese_digit, is_parted}
-use Rattle.cn_find.specs.Expressions.{expression_rule, is_extra, is_figure, is_numeric, is_tens, is_word_digit, joins, parts_expressions}
+use Rattle.cn_find.specs.Expressions.{expression_rule, is_extra, is_figure, is_item, is_kilo, is_numeric, is_other_word, is_tens, is_weight, is_word_digit, joins, parts_expressions}
 use Rattle.cn_find.specs.Flags.{is_wide_digit}
 use Rattle.cn_find.specs.Rule.{number_rule, is_joined}
 use Rattle.cn_find.specs.Spans.{run_of, after_run, span_at, begun_at, spans_after, expressions, spans}
 use Rattle.cn_find.proofs.Unwanted.{outside}
-
--- they are neither digits nor units
-is_usual : ℕ → Bool
-is_usual c = not (is_extra c)
-
-pub extra-mark : (c : ℕ) → is_extra c ≡ true → mark_of c ≡ other
-unfolding is_usual is_extra is_tens
-extra-mark c e = outside-mark is_usual c refl refl (ap not e)
-
--- so they belong to no number
-pub other-belongs : (wanted : Wanted) (c : ℕ) (after : List ℕ) → mark_of c ≡ other
-    → belongs wanted c after ≡ false
-unfolding belongs
-other-belongs wanted c after e = rw e
-
-pub extra-belongs : (wanted : Wanted) (c : ℕ) (after : List ℕ) → is_extra c ≡ true
-    → is_numeric wanted c after ≡ (is_tens c || is_wide_digit c)
-unfolding is_numeric
-extra-belongs wanted c after e = ap (λ b. b || (is_tens c || is_wide_digit c))
-    (other-belongs wanted c after (extra-mark c e))
-
-pub numerals-belong : (wanted : Wanted) (c : ℕ) (after : List ℕ) (j : Bool)
-    → (is_tens c || is_wide_digit c) ≡ true → true ≡ (is_numeric wanted c after || j)
-unfolding is_numeric
-numerals-belong wanted c after j e =
-    sym (ap (λ b. belongs wanted c after || b || j) e
-    ∙ ap (λ b. b || j) (or-true (belongs wanted c after)))
-
-pub joins-alone : (wanted : Wanted) (c : ℕ) (after : List ℕ) (j : Bool) → is_extra c ≡ true
-    → (is_tens c || is_wide_digit c) ≡ false → j ≡ (is_numeric wanted c after || j)
-joins-alone wanted c after j e none =
-    sym (ap (λ b. b || j) (extra-belongs wanted c after e ∙ none))
 
 -- a character that is none of them
 pub neither : (a b : Bool) → (a || b) ≡ false → (a ≡ false) × (b ≡ false)
@@ -55,7 +21,7 @@ neither false b e = (refl, e)
 pub record IsUsual (c : ℕ) : Type 0 where
   pub tens : is_tens c ≡ false
   pub wide : is_wide_digit c ≡ false
-  pub joiner : char_set_contains (codes "点點.．, 分之%％负負-−－") c ≡ false
+  pub joiner : char_set_contains (codes "点點.．,， 分之%％‰又下负負-−－¥￥两兩个個千仟") c ≡ false
 
 pub IsUsual-of : (c : ℕ) → is_extra c ≡ false → IsUsual c
 unfolding is_extra
@@ -65,7 +31,7 @@ IsUsual-of c e =
     record { tens = two.0; wide = two.1; joiner = one.1 }
 
 abbrev pub is_joiner : ℕ → Bool
-is_joiner c = char_set_contains (codes "点點.．, 分之%％负負-−－") c
+is_joiner c = char_set_contains (codes "点點.．,， 分之%％‰又下负負-−－¥￥两兩个個千仟") c
 
 -- no set of joiners has it
 pub no-joiner : (set : List ℕ) (c : ℕ) → list_all is_joiner set ≡ true → is_extra c ≡ false
@@ -79,12 +45,25 @@ usual-joins wanted front c after e = rw (
   no-joiner (codes "点點") c refl e,
   no-joiner (codes ".．") c refl e,
   no-joiner (codes ",") c refl e,
+  no-joiner (codes "，") c refl e,
   no-joiner (codes " ") c refl e,
   no-joiner (codes "分") c refl e,
   no-joiner (codes "之") c refl e,
-  no-joiner (codes "%％") c refl e,
+  no-joiner (codes "%％‰") c refl e,
+  no-joiner (codes "又") c refl e,
+  no-joiner (codes "下") c refl e,
   no-joiner (codes "负負") c refl e,
   no-joiner (codes "-−－") c refl e,
+  no-joiner (codes "¥￥") c refl e,
+)
+
+usual-word : (wanted : Wanted) (front : List ℕ) (c : ℕ) (after : List ℕ) → is_extra c ≡ false
+    → is_other_word wanted front c after ≡ false
+unfolding is_weight is_item is_kilo
+usual-word wanted front c after e = rw (
+  no-joiner (codes "两兩") c refl e,
+  no-joiner (codes "个個") c refl e,
+  no-joiner (codes "千仟") c refl e,
 )
 
 pub usual-numeric : (wanted : Wanted) (c : ℕ) (after : List ℕ) → is_extra c ≡ false
@@ -96,44 +75,57 @@ usual-numeric wanted c after e =
     ∙ ap (λ b. belongs wanted c after || b) u.wide ∙ or-false (belongs wanted c after)
 
 -- so it belongs to an expression as to a number
-pub usual-belongs : (wanted : Wanted) (front : List ℕ) (c : ℕ) (after : List ℕ)
+pub usual_belongs : (wanted : Wanted) (front : List ℕ) (c : ℕ) (after : List ℕ)
     → is_extra c ≡ false
-    → (is_numeric wanted c after || joins wanted front c after) ≡ belongs wanted c after
-usual-belongs wanted front c after e =
-    ap (λ b. is_numeric wanted c after || b) (usual-joins wanted front c after e)
-    ∙ or-false (is_numeric wanted c after) ∙ usual-numeric wanted c after e
+    → (expression_rule wanted).belongs front c after ≡ belongs wanted c after
+usual_belongs wanted front c after e =
+    ap (λ b. (is_numeric wanted c after && not b) || joins wanted front c after)
+    (usual-word wanted front c after e)
+    ∙ ap (λ b. (is_numeric wanted c after && true) || b) (usual-joins wanted front c after e)
+    ∙ or-false (is_numeric wanted c after && true) ∙ and-true (is_numeric wanted c after)
+    ∙ usual-numeric wanted c after e
 
--- a text without them has its numbers alone
-usual-figure : (c : ℕ) → is_extra c ≡ false → is_figure c ≡ is_ascii_digit c
-usual-figure c e =
-    ap (λ b. is_ascii_digit c || b) (IsUsual-of c e).wide ∙ or-false (is_ascii_digit c)
+-- a text without them and without figures has its numbers alone
+abbrev is_usual : ℕ → Bool
+is_usual c = not (is_figure c) && not (is_extra c)
 
-usual-digit : (c : ℕ) → is_extra c ≡ false → is_word_digit c ≡ is_chinese_digit c
-usual-digit c e =
-    ap (λ b. is_chinese_digit c || b) (IsUsual-of c e).tens ∙ or-false (is_chinese_digit c)
+usual-extra : (c : ℕ) → is_usual c ≡ true → is_extra c ≡ false
+usual-extra c e = not-true (is_extra c) (and-right (not (is_figure c)) (not (is_extra c)) e)
 
-usual-parts : (c next : ℕ) → is_extra c ≡ false → is_extra next ≡ false
-    → parts_expressions c next ≡ is_parted c next
+usual-figure : (c : ℕ) → is_usual c ≡ true → is_figure c ≡ false
+usual-figure c e = not-true (is_figure c) (and-left (not (is_figure c)) (not (is_extra c)) e)
+
+usual-ascii : (c : ℕ) → is_usual c ≡ true → is_ascii_digit c ≡ false
+usual-ascii c e = (neither (is_ascii_digit c) (is_wide_digit c) (usual-figure c e)).0
+
+usual-apart : (c next : ℕ) → is_usual c ≡ true → is_usual next ≡ true
+    → parts_expressions c next ≡ false
 unfolding parts_expressions
-usual-parts c next e f =
-    ap (λ b. (is_figure c && is_word_digit next) || (is_word_digit c && is_figure next) || b)
-    (no-joiner (codes "%％") c refl e)
-    ∙ or-false ((is_figure c && is_word_digit next) || (is_word_digit c && is_figure next))
-    ∙ ap (λ b. (b && is_word_digit next) || (is_word_digit c && is_figure next)) (usual-figure c e)
-    ∙ ap (λ b. (is_ascii_digit c && b) || (is_word_digit c && is_figure next)) (usual-digit next f)
-    ∙ ap (λ b. (is_ascii_digit c && is_chinese_digit next) || (b && is_figure next))
-    (usual-digit c e)
-    ∙ ap (λ b. (is_ascii_digit c && is_chinese_digit next) || (is_chinese_digit c && b))
-    (usual-figure next f)
+usual-apart c next e f = rw (
+  usual-figure c e,
+  usual-figure next f,
+  no-joiner (codes "%％‰") c refl (usual-extra c e),
+) (or-false ((is_word_digit c && not (char_set_contains (codes "零〇") c)) && false)
+    ∙ and-false (is_word_digit c && not (char_set_contains (codes "零〇") c)))
+
+usual-met : (c next : ℕ) → is_usual c ≡ true → is_usual next ≡ true → is_parted c next ≡ false
+usual-met c next e f =
+    ap (λ b. (b && is_chinese_digit next) || (is_chinese_digit c && is_ascii_digit next))
+    (usual-ascii c e)
+    ∙ ap (λ b. is_chinese_digit c && b) (usual-ascii next f) ∙ and-false (is_chinese_digit c)
+
+usual-parts : (c next : ℕ) → is_usual c ≡ true → is_usual next ≡ true
+    → parts_expressions c next ≡ is_parted c next
+usual-parts c next e f = usual-apart c next e f ∙ sym (usual-met c next e f)
 
 abbrev is_usual_text : List ℕ → Bool
-is_usual_text cs = list_all (λ c. not (is_extra c)) cs
+is_usual_text cs = list_all is_usual cs
 
-first-usual : (c : ℕ) (cs : List ℕ) → is_usual_text (c ∷ cs) ≡ true → is_extra c ≡ false
-first-usual c cs all = not-true (is_extra c) (and-left (not (is_extra c)) _ all)
+first-usual : (c : ℕ) (cs : List ℕ) → is_usual_text (c ∷ cs) ≡ true → is_usual c ≡ true
+first-usual c cs all = and-left (is_usual c) _ all
 
 others-usual : (c : ℕ) (cs : List ℕ) → is_usual_text (c ∷ cs) ≡ true → is_usual_text cs ≡ true
-others-usual c cs all = and-right (not (is_extra c)) _ all
+others-usual c cs all = and-right (is_usual c) _ all
 
 usual-joined : (wanted : Wanted) (front : List ℕ) (c : ℕ) (after : List ℕ)
     → is_usual_text (c ∷ after) ≡ true
@@ -142,10 +134,11 @@ usual-joined wanted front c [] all = refl
 usual-joined wanted front c (next ∷ after) all =
     let e = first-usual c (next ∷ after) all in
     let f = first-usual next after (others-usual c (next ∷ after) all) in
-    ap (λ b. b && ((is_numeric wanted next after || joins wanted (c ∷ front) next after)
-    && not (parts_expressions c next))) (usual-belongs wanted front c (next ∷ after) e)
+    ap (λ b. b && ((expression_rule wanted).belongs (c ∷ front) next after
+    && not (parts_expressions c next)))
+    (usual_belongs wanted front c (next ∷ after) (usual-extra c e))
     ∙ ap (λ b. belongs wanted c (next ∷ after) && (b && not (parts_expressions c next)))
-    (usual-belongs wanted (c ∷ front) next after f)
+    (usual_belongs wanted (c ∷ front) next after (usual-extra next f))
     ∙ ap (λ b. belongs wanted c (next ∷ after) && (belongs wanted next after && not b))
     (usual-parts c next e f)
 
@@ -173,7 +166,7 @@ usual-begun : (wanted : Wanted) (joined : Bool) (front : List ℕ) (c : ℕ) (af
     ≡ begun_at (number_rule wanted) joined front c after
 usual-begun wanted joined front c after all =
     ap (λ b. if not joined && b then span_at (expression_rule wanted) front (c ∷ after) ∷ [] else [])
-    (usual-belongs wanted front c after (first-usual c after all))
+    (usual_belongs wanted front c after (usual-extra c (first-usual c after all)))
     ∙ ap (λ l. if not joined && belongs wanted c after then record {
       before = encode_utf8_all (reverse front);
       text = encode_utf8_all l;

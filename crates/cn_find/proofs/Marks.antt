@@ -1,6 +1,6 @@
 -- What the mark of a character tells.
 use Rattle.std.proofs.Common.{subst, ◌≡◌, ◌≢◌, ◌+◌, ℕ, ◌<◌, ◌≤◌, ltb, List, drop, get_or, length-drop, [], ◌∷◌, length, chars, IsUtf8, encode_utf8_all, Bool, true, false, not, Option, None, Some, is_some, refl, ap, ◌∙◌, sym, arith}
-use Rattle.std.specs.Char.{is_whitespace}
+use Rattle.std.specs.Char.{is_whitespace, char_set_contains}
 use Rattle.std.specs.List.{list_all}
 use Rattle.std.specs.Prelude.{codes}
 use Rattle.std.proofs.lemmas.Bool.{ltb-false}
@@ -82,6 +82,10 @@ pub digit_no_last : (c : ℕ) → is_some (digit_of c) ≡ true
 digit_no_last c is =
     not-so _ (of-digit (λ d. not (begins_with (codes "几幾多余餘来來") (d ∷ []))) c (digit_of c) refl
     refl is)
+
+pub digit_no_quite : (c : ℕ) → is_some (digit_of c) ≡ true → char_set_contains (codes "好") c ≡ false
+digit_no_quite c is =
+    not-so _ (of-digit (λ d. not (char_set_contains (codes "好") d)) c (digit_of c) refl refl is)
 
 -- a character of three bytes is not of ASCII, and no full-width digit has a mark
 three-bytes : (text : List ℕ) (c : ℕ) → IsUtf8 text → length text ≡ 3 → chars text ≡ c ∷ []

@@ -53,7 +53,7 @@ pub next-character : (rule : Rule) (front : List ℕ) (c : ℕ) (ahead : List �
 next-character rule front c ahead e = rw e (rw (not-joined rule front c ahead e))
 
 -- where a text is cut
-seam-length : (whole front rest : List ℕ) → whole ≡ front ++ rest
+pub seam-length : (whole front rest : List ℕ) → whole ≡ front ++ rest
     → length whole - length rest ≡ length front
 seam-length whole front rest e = let all =
     ap length e in omega (arith, all, length-append front rest)

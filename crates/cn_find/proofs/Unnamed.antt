@@ -8,55 +8,58 @@ use Rattle.cn_core.specs.Characters.{digit_of}
 use Rattle.cn_core.specs.Mark.{mark_of}
 use Rattle.cn_find.specs.declared.wanted.Wanted.{Wanted}
 use Rattle.cn_find.specs.Belongs.{begins_with, belongs, is_chinese_digit, is_wanted}
-use Rattle.cn_find.specs.Expressions.{begins_decimals, begins_figure, begins_group, begins_minutes, begins_multiplier, begins_number, begins_numeral, begins_numerator, begins_time, begins_word, binds_minus, ends_bound, ends_denominator, ends_group, ends_head, ends_numeral, ends_spaced, ends_verb, ends_word, ends_words, expression_rule, three_figures, follows_one, is_extra, is_figure, is_multiplier, is_numeric, is_tens, joins, precedes_minus}
+use Rattle.cn_find.specs.Expressions.{begins_bar, begins_below_zero, begins_counted, begins_decimals, begins_degrees, begins_figure, begins_fraction, begins_group, begins_han, begins_minutes, begins_multiplier, begins_number, begins_numeral, begins_numerator, begins_signed, begins_sum, begins_time, begins_wan, begins_wide, begins_word, binds_minus, ends_bound, ends_decimals, ends_denominator, ends_group, ends_head, ends_minus, ends_numeral, ends_power, ends_spaced, ends_verb, ends_word, ends_words, ends_zero, expression_rule, three_figures, follows_one, is_extra, is_figure, is_han, is_item, is_kilo, is_multiplier, is_numeric, is_other_word, is_tens, is_weight, joins, precedes_minus}
 use Rattle.cn_find.specs.Flags.{is_wide_digit}
 use Rattle.cn_find.specs.Parting.{is_named, is_of_measure}
-use Rattle.cn_find.proofs.Extra.{neither, is_joiner, IsUsual-of, no-joiner, usual-belongs, usual-numeric}
+use Rattle.cn_find.proofs.Extra.{neither, is_joiner, IsUsual-of, no-joiner, usual_belongs, usual-numeric}
 use Rattle.cn_find.proofs.Parting.{Parts}
 use Rattle.cn_find.proofs.Unwanted.{belongs-same, outside, unwanted, IsUnseen}
 
 -- what is known of such a character
 record IsUnnamed (wanted : Wanted) (c : ℕ) : Type 0 where
   unwanted : is_wanted wanted c ≡ false
+  han : is_han c ≡ false
   figure : is_figure c ≡ false
   digit : is_some (digit_of c) ≡ false
   extra : is_extra c ≡ false
-  time : char_set_contains (codes "刻十") c ≡ false
-  measure : is_of_measure c ≡ false
-  follows : follows_one c ≡ false
-  precedes : precedes_minus c ≡ false
   binds : binds_minus c ≡ false
+  degree : char_set_contains (codes "℃") c ≡ false
 
 IsUnnamed-of : (wanted : Wanted) (c : ℕ) → is_wanted wanted c ≡ false → is_named c ≡ false
     → IsUnnamed wanted c
 unfolding is_named
 IsUnnamed-of wanted c unwanted e =
-    let a = neither _ (binds_minus c) e in
-    let b = neither _ (precedes_minus c) a.0 in
-    let d = neither _ (follows_one c) b.0 in
-    let f = neither _ (is_of_measure c) d.0 in
-    let g = neither _ (char_set_contains (codes "刻十") c) f.0 in
-    let h = neither _ (is_extra c) g.0 in
-    let i = neither (is_figure c) (is_some (digit_of c)) h.0 in
+    let a = neither _ (char_set_contains (codes "℃") c) e in
+    let b = neither _ (binds_minus c) a.0 in
+    let d = neither _ (is_extra c) b.0 in
+    let f = neither _ (is_some (digit_of c)) d.0 in
+    let g = neither (is_han c) (is_figure c) f.0 in
     record {
       unwanted = unwanted;
-      figure = i.0;
-      digit = i.1;
-      extra = h.1;
-      time = g.1;
-      measure = f.1;
-      follows = d.1;
-      precedes = b.1;
-      binds = a.1;
+      han = g.0;
+      figure = g.1;
+      digit = f.1;
+      extra = d.1;
+      binds = b.1;
+      degree = a.1;
     }
 
+-- no set of Han characters has it
+no-han : (wanted : Wanted) (set : List ℕ) (c : ℕ) → list_all is_han set ≡ true → IsUnnamed wanted c
+    → char_set_contains set c ≡ false
+no-han wanted set c all u = outside is_han set c all u.han
+
+unmeasured : (wanted : Wanted) (c : ℕ) → IsUnnamed wanted c → is_of_measure c ≡ false
+unfolding is_of_measure is_han
+unmeasured wanted c u = no-han wanted (codes "瓦赫帕焦伏乏字节節比特电電子宽寬带帶頻位数數欧歐元") c refl u
+
 IsUnseen-of : (wanted : Wanted) (c : ℕ) → IsUnnamed wanted c → IsUnseen wanted c
-IsUnseen-of wanted c u = record { unwanted = u.unwanted; unmeasured = u.measure }
+IsUnseen-of wanted c u = record { unwanted = u.unwanted; unmeasured = unmeasured wanted c u }
 
 -- it belongs to nothing
 none-belongs : (wanted : Wanted) (front : List ℕ) (c : ℕ) (after : List ℕ) → IsUnnamed wanted c
-    → (is_numeric wanted c after || joins wanted front c after) ≡ false
-none-belongs wanted front c after u = usual-belongs wanted front c after u.extra
+    → (expression_rule wanted).belongs front c after ≡ false
+none-belongs wanted front c after u = usual_belongs wanted front c after u.extra
     ∙ unwanted wanted c after (IsUnseen-of wanted c u)
 
 none-numeric : (wanted : Wanted) (c : ℕ) (after : List ℕ) → IsUnnamed wanted c
@@ -87,9 +90,8 @@ figure-same wanted c right (x ∷ xs) u = refl
 
 time-same : (wanted : Wanted) (c : ℕ) (right xs : List ℕ) → IsUnnamed wanted c
     → begins_time (xs ++ c ∷ right) ≡ begins_time xs
-time-same wanted c right [] u =
-    outside (λ d. is_joiner d || char_set_contains (codes "刻十") d) (codes "分刻十点點") c refl
-    (or_from (is_joiner c) _ (IsUsual-of c u.extra).joiner u.time)
+unfolding is_han
+time-same wanted c right [] u = no-han wanted (codes "分刻十点點") c refl u
 time-same wanted c right (x ∷ xs) u = refl
 
 minutes-same : (wanted : Wanted) (c : ℕ) (right xs : List ℕ) → IsUnnamed wanted c
@@ -102,7 +104,8 @@ minutes-same wanted c right (x ∷ xs) u =
 
 end-same : (wanted : Wanted) (c : ℕ) (right xs : List ℕ) → IsUnnamed wanted c
     → ends_word (xs ++ c ∷ right) ≡ ends_word xs
-end-same wanted c right [] u = u.follows
+unfolding is_han follows_one
+end-same wanted c right [] u = no-han wanted (codes "定直起样樣些下切滴线線") c refl u
 end-same wanted c right (x ∷ xs) u = refl
 
 word-same : (wanted : Wanted) (d c : ℕ) (right xs : List ℕ) → IsUnnamed wanted c
@@ -148,16 +151,68 @@ multiplier-same wanted c right [] u =
     or_from (is_multiplier (mark_of c) && belongs wanted c right) _
     (ap (λ b. is_multiplier (mark_of c) && b) (unwanted wanted c right (IsUnseen-of wanted c u))
     ∙ and-false (is_multiplier (mark_of c)))
-    (no-joiner (codes "%％") c refl u.extra)
+    (no-joiner (codes "%％‰") c refl u.extra)
 multiplier-same wanted c right (x ∷ xs) u =
-    ap (λ b. (is_multiplier (mark_of x) && b) || char_set_contains (codes "%％") x)
+    ap (λ b. (is_multiplier (mark_of x) && b) || char_set_contains (codes "%％‰") x)
     (belongs-seen wanted x c right xs u)
+
+signed-same : (wanted : Wanted) (c : ℕ) (right xs : List ℕ) → IsUnnamed wanted c
+    → begins_signed wanted (xs ++ c ∷ right) ≡ begins_signed wanted xs
+signed-same wanted c right [] u = rw (
+  none-numeric wanted c right u,
+  no-joiner (codes "负負-−－") c refl u.extra,
+)
+signed-same wanted c right (x ∷ xs) u = rw (
+  numeric-same wanted x c right xs u,
+  numeral-same wanted c right xs u,
+)
 
 numerator-same : (wanted : Wanted) (c : ℕ) (right xs : List ℕ) → IsUnnamed wanted c
     → begins_numerator wanted (xs ++ c ∷ right) ≡ begins_numerator wanted xs
 numerator-same wanted c right [] u = rw (no-joiner (codes "之") c refl u.extra)
 numerator-same wanted c right (x ∷ xs) u =
-    ap (λ b. char_set_contains (codes "之") x && b) (numeral-same wanted c right xs u)
+    ap (λ b. char_set_contains (codes "之") x && b) (signed-same wanted c right xs u)
+
+bar-same : (wanted : Wanted) (c : ℕ) (right xs : List ℕ) → IsUnnamed wanted c
+    → begins_bar wanted (xs ++ c ∷ right) ≡ begins_bar wanted xs
+bar-same wanted c right [] u = rw (no-joiner (codes "分") c refl u.extra)
+bar-same wanted c right (x ∷ xs) u =
+    ap (λ b. char_set_contains (codes "分") x && b) (numerator-same wanted c right xs u)
+
+fraction-same : (wanted : Wanted) (c : ℕ) (right xs : List ℕ) → IsUnnamed wanted c
+    → begins_fraction wanted (xs ++ c ∷ right) ≡ begins_fraction wanted xs
+fraction-same wanted c right [] u = rw (none-numeric wanted c right u)
+fraction-same wanted c right (x ∷ xs) u = rw (
+  numeric-same wanted x c right xs u,
+  bar-same wanted c right xs u,
+  fraction-same wanted c right xs u,
+)
+
+degrees-same : (wanted : Wanted) (c : ℕ) (right xs : List ℕ) → IsUnnamed wanted c
+    → begins_degrees wanted (xs ++ c ∷ right) ≡ begins_degrees wanted xs
+unfolding is_han
+degrees-same wanted c right [] u = or_from (is_numeric wanted c right) _
+    (none-numeric wanted c right u)
+    (outside (λ d. is_han d || char_set_contains (codes "℃") d) (codes "度点點摄攝℃") c refl
+    (or_from (is_han c) _ u.han u.degree))
+degrees-same wanted c right (x ∷ xs) u =
+    ap (λ b. b || begins_with (codes "度点點摄攝℃") (x ∷ xs)) (numeric-same wanted x c right xs u)
+
+below-same : (wanted : Wanted) (c : ℕ) (right xs : List ℕ) → IsUnnamed wanted c
+    → begins_below_zero wanted (xs ++ c ∷ right) ≡ begins_below_zero wanted xs
+below-same wanted c right [] u = rw (u.figure, u.unwanted)
+below-same wanted c right (x ∷ xs) u = rw (degrees-same wanted c right xs u)
+
+sum-same : (wanted : Wanted) (c : ℕ) (right xs : List ℕ) → IsUnnamed wanted c
+    → begins_sum (xs ++ c ∷ right) ≡ begins_sum xs
+sum-same wanted c right [] u = rw (u.figure, no-joiner (codes "¥￥") c refl u.extra)
+sum-same wanted c right (x ∷ xs) u =
+    ap (λ b. is_figure x || (char_set_contains (codes "¥￥") x && b)) (figure-same wanted c right xs u)
+
+wide-same : (wanted : Wanted) (c : ℕ) (right xs : List ℕ) → IsUnnamed wanted c
+    → begins_wide (xs ++ c ∷ right) ≡ begins_wide xs
+wide-same wanted c right [] u = (IsUsual-of c u.extra).wide
+wide-same wanted c right (x ∷ xs) u = refl
 
 joins-ahead : (wanted : Wanted) (front : List ℕ) (d c : ℕ) (right xs : List ℕ)
     → IsUnnamed wanted c → joins wanted front d (xs ++ c ∷ right) ≡ joins wanted front d xs
@@ -166,9 +221,48 @@ joins-ahead wanted front d c right xs u = rw (
   decimals-same wanted c right xs u,
   figure-same wanted c right xs u,
   group-same wanted c right xs u,
+  wide-same wanted c right xs u,
   multiplier-same wanted c right xs u,
   numerator-same wanted c right xs u,
+  signed-same wanted c right xs u,
+  fraction-same wanted c right xs u,
+  below-same wanted c right xs u,
   numeral-same wanted c right xs u,
+  sum-same wanted c right xs u,
+)
+
+counted-same : (wanted : Wanted) (c : ℕ) (right xs : List ℕ) → IsUnnamed wanted c
+    → begins_counted wanted (xs ++ c ∷ right) ≡ begins_counted wanted xs
+counted-same wanted c right [] u = rw u.unwanted
+counted-same wanted c right (x ∷ xs) u = refl
+
+han-same : (wanted : Wanted) (c : ℕ) (right xs : List ℕ) → IsUnnamed wanted c
+    → begins_han (xs ++ c ∷ right) ≡ begins_han xs
+han-same wanted c right [] u = u.han
+han-same wanted c right (x ∷ xs) u = refl
+
+wan-same : (wanted : Wanted) (may : Bool) (c : ℕ) (right xs : List ℕ) → IsUnnamed wanted c
+    → begins_wan may (xs ++ c ∷ right) ≡ begins_wan may xs
+unfolding is_han
+wan-same wanted may c right [] u = rw (no-han wanted (codes "万萬") c refl u)
+wan-same wanted may c right (x ∷ xs) u =
+    ap (λ b. char_set_contains (codes "万萬") x && (may || b)) (han-same wanted c right xs u)
+
+kilo-same : (wanted : Wanted) (c : ℕ) (right xs : List ℕ) → IsUnnamed wanted c
+    → begins_with (codes "瓦克米卡赫伏安焦帕") (xs ++ c ∷ right)
+    ≡ begins_with (codes "瓦克米卡赫伏安焦帕") xs
+unfolding is_han
+kilo-same wanted c right [] u = no-han wanted (codes "瓦克米卡赫伏安焦帕") c refl u
+kilo-same wanted c right (x ∷ xs) u = refl
+
+words-ahead : (wanted : Wanted) (front : List ℕ) (d c : ℕ) (right xs : List ℕ)
+    → IsUnnamed wanted c
+    → is_other_word wanted front d (xs ++ c ∷ right) ≡ is_other_word wanted front d xs
+unfolding is_weight is_item is_kilo
+words-ahead wanted front d c right xs u = rw (
+  counted-same wanted c right xs u,
+  wan-same wanted (not (ends_numeral wanted front)) c right xs u,
+  kilo-same wanted c right xs u,
 )
 
 -- and behind it the start of the text
@@ -215,8 +309,8 @@ nearest-head wanted (suc most) c left (x ∷ front) u =
 nearest-group : (wanted : Wanted) (c : ℕ) (left front : List ℕ) → IsUnnamed wanted c
     → ends_group (front ++ c ∷ left) ≡ ends_group front
 nearest-group wanted c left front u =
-    three-same (λ others. begins_with (codes ",") others) c left front u.figure
-    (λ ys. nearest-mark wanted (codes ",") c left ys refl u)
+    three-same (λ others. begins_with (codes ",，") others) c left front u.figure
+    (λ ys. nearest-mark wanted (codes ",，") c left ys refl u)
 
 nearest-denominator : (wanted : Wanted) (c : ℕ) (left front : List ℕ) → IsUnnamed wanted c
     → ends_denominator wanted (front ++ c ∷ left) ≡ ends_denominator wanted front
@@ -232,13 +326,35 @@ nearest-space wanted c left (x ∷ front) u =
 
 nearest-verb : (wanted : Wanted) (c : ℕ) (left front : List ℕ) → IsUnnamed wanted c
     → ends_verb (front ++ c ∷ left) ≡ ends_verb front
-nearest-verb wanted c left [] u = u.precedes
+unfolding is_han precedes_minus
+nearest-verb wanted c left [] u =
+    no-han wanted (codes "正非背揹肩担擔抱胜勝辜欺自不") c refl u
 nearest-verb wanted c left (x ∷ front) u = refl
 
 nearest-bound : (wanted : Wanted) (c : ℕ) (left front : List ℕ) → IsUnnamed wanted c
     → ends_bound (front ++ c ∷ left) ≡ ends_bound front
 nearest-bound wanted c left [] u = u.binds
 nearest-bound wanted c left (x ∷ front) u = refl
+
+nearest-wide : (wanted : Wanted) (c : ℕ) (left front : List ℕ) → IsUnnamed wanted c
+    → begins_wide (front ++ c ∷ left) ≡ begins_wide front
+nearest-wide wanted c left [] u = (IsUsual-of c u.extra).wide
+nearest-wide wanted c left (x ∷ front) u = refl
+
+nearest-zero : (wanted : Wanted) (c : ℕ) (left front : List ℕ) → IsUnnamed wanted c
+    → ends_zero wanted (front ++ c ∷ left) ≡ ends_zero wanted front
+unfolding is_han
+nearest-zero wanted c left [] u = rw (no-han wanted (codes "零") c refl u)
+nearest-zero wanted c left (x ∷ front) u =
+    ap (λ b. char_set_contains (codes "零") x && not b) (nearest-numeral wanted c left front u)
+
+nearest-minus : (wanted : Wanted) (c : ℕ) (left front : List ℕ) → IsUnnamed wanted c
+    → ends_minus wanted (front ++ c ∷ left) ≡ ends_minus wanted front
+nearest-minus wanted c left [] u = rw (no-joiner (codes "-−－") c refl u.extra)
+nearest-minus wanted c left (x ∷ front) u = rw (
+  nearest-numeral wanted c left front u,
+  nearest-bound wanted c left front u,
+)
 
 joins-behind : (wanted : Wanted) (front left : List ℕ) (d c : ℕ) (after : List ℕ)
     → IsUnnamed wanted c → joins wanted (front ++ c ∷ left) d after ≡ joins wanted front d after
@@ -248,11 +364,37 @@ joins-behind wanted front left d c after u = rw (
   nearest-figure wanted c left front u,
   nearest-head wanted 3 c left front u,
   nearest-group wanted c left front u,
+  nearest-wide wanted c left front u,
   nearest-numeral wanted c left front u,
   nearest-denominator wanted c left front u,
   nearest-space wanted c left front u,
+  nearest-zero wanted c left front u,
   nearest-verb wanted c left front u,
   nearest-bound wanted c left front u,
+  nearest-minus wanted c left front u,
+)
+
+nearest-power : (wanted : Wanted) (c : ℕ) (left front : List ℕ) → IsUnnamed wanted c
+    → ends_power wanted (front ++ c ∷ left) ≡ ends_power wanted front
+nearest-power wanted c left [] u = rw u.unwanted
+nearest-power wanted c left (x ∷ front) u = refl
+
+nearest-decimals : (wanted : Wanted) (c : ℕ) (left front : List ℕ) → IsUnnamed wanted c
+    → ends_decimals (front ++ c ∷ left) ≡ ends_decimals front
+nearest-decimals wanted c left [] u = rw (u.digit, (IsUsual-of c u.extra).wide)
+nearest-decimals wanted c left (x ∷ front) u = rw (
+  nearest-mark wanted (codes "点點.．") c left front refl u,
+  nearest-decimals wanted c left front u,
+)
+
+words-behind : (wanted : Wanted) (front left : List ℕ) (d c : ℕ) (after : List ℕ)
+    → IsUnnamed wanted c
+    → is_other_word wanted (front ++ c ∷ left) d after ≡ is_other_word wanted front d after
+unfolding is_weight is_item is_kilo
+words-behind wanted front left d c after u = rw (
+  nearest-numeral wanted c left front u,
+  nearest-power wanted c left front u,
+  nearest-decimals wanted c left front u,
 )
 
 pub unnamed-parts : (wanted : Wanted) (c : ℕ) → is_wanted wanted c ≡ false
@@ -260,10 +402,17 @@ pub unnamed-parts : (wanted : Wanted) (c : ℕ) → is_wanted wanted c ≡ false
 unnamed-parts wanted c not_wanted unnamed = record {
   outside = λ front after. none-belongs wanted front c after u;
   ends = λ front d xs right.
-      ap (λ b. b || joins wanted front d (xs ++ c ∷ right)) (numeric-same wanted d c right xs u)
-      ∙ ap (λ b. is_numeric wanted d xs || b) (joins-ahead wanted front d c right xs u);
+      ap (λ b. (b && not (is_other_word wanted front d (xs ++ c ∷ right)))
+      || joins wanted front d (xs ++ c ∷ right)) (numeric-same wanted d c right xs u)
+      ∙ ap (λ b. (is_numeric wanted d xs && not b) || joins wanted front d (xs ++ c ∷ right))
+      (words-ahead wanted front d c right xs u)
+      ∙ ap (λ b. (is_numeric wanted d xs && not (is_other_word wanted front d xs)) || b)
+      (joins-ahead wanted front d c right xs u);
   begins = λ front left d after.
-      ap (λ b. is_numeric wanted d after || b) (joins-behind wanted front left d c after u);
+      ap (λ b. (is_numeric wanted d after && not b) || joins wanted (front ++ c ∷ left) d after)
+      (words-behind wanted front left d c after u)
+      ∙ ap (λ b. (is_numeric wanted d after && not (is_other_word wanted front d after)) || b)
+      (joins-behind wanted front left d c after u);
 } where
   u : IsUnnamed wanted c
   u = IsUnnamed-of wanted c not_wanted unnamed

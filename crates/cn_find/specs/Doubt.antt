@@ -4,7 +4,6 @@ use Rattle.std.specs.Prelude.{ℕ, suc, ◌+◌, Bool, true, false, not, ◌&&�
 use Rattle.std.specs.Char.{char_set_contains}
 use Rattle.std.specs.List.{list_all}
 use Rattle.std.specs.Option.{option_map_or}
-use Rattle.cn_core.specs.declared.method.ChineseCountMethod.{ChineseCountMethod}
 use Rattle.cn_core.specs.Characters.{digit_of}
 use Rattle.cn_find.specs.declared.doubt.Doubt.{Doubt}
 use Rattle.cn_find.specs.declared.doubt.Doubt.TheVariants.{Word, Digits, Term, Part, Time, Range}
@@ -123,12 +122,13 @@ is_time front text after =
     (is_clock (reverse text) && ends_part_of_day front)
     || (is_clock_with_zero (reverse text) && not (begins_with (codes "元米度倍吨噸克升") after))
 
--- the reason, between the characters before the text and those after it
-abbrev pub doubt_of : ChineseCountMethod → List ℕ → List ℕ → List ℕ → Option Doubt
-doubt_of method before text after =
-    if is_of_word (reverse before) text after then Some Word
-    else (if is_doubtful_list (reverse before) text after then Some Digits
-    else (if is_term text after then Some Term
-    else (if is_part text after then Some Part
-    else (if is_time (reverse before) text after then Some Time
-    else (if is_end_of_range method before text after then Some Range else None)))))
+-- the reason of a text, given by its bytes, between those texts
+abbrev pub doubt_of : List ℕ → List ℕ → List ℕ → Option Doubt
+doubt_of before text after =
+    let front = reverse (chars before) in
+    if is_of_word front (chars text) (chars after) then Some Word
+    else (if is_doubtful_list front (chars text) (chars after) then Some Digits
+    else (if is_term (chars text) (chars after) then Some Term
+    else (if is_part (chars text) (chars after) then Some Part
+    else (if is_time front (chars text) (chars after) then Some Time
+    else (if is_end_of_range before text after then Some Range else None)))))

@@ -155,7 +155,7 @@ ends_group front = three_figures (λ others. begins_with (codes ",，") others) 
 unfoldable pub begins_number : ℕ → List ℕ → Bool
 begins_number c front =
     not (char_set_contains (codes "0０") c)
-    && (not (begins_figure front) && not (begins_with (codes ",.．，") front))
+    && (not (begins_figure front) && not (begins_with (codes ",.．") front))
 
 -- the nearest characters are figures, at most so many, of which the first begins a number
 abbrev pub ends_head : ℕ → List ℕ → Bool

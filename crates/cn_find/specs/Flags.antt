@@ -56,10 +56,11 @@ pair_at c (next ∷ others) =
     then record { first = c; second = next } ∷ []
     else []
 
--- the digits that stand side by side
+-- the digits that stand side by side, before the first Chinese point
 abbrev pub pairs : List ℕ → List Pair
 pairs [] = []
-pairs (c ∷ others) = pair_at c others ++ pairs others
+pairs (c ∷ others) =
+    if char_set_contains (codes "点點") c then [] else pair_at c others ++ pairs others
 
 -- a digit from 1 up, and the next one; or 3 and 5
 abbrev pub are_near : Option ℕ → Option ℕ → Bool
@@ -78,12 +79,19 @@ abbrev pub is_one_estimate : List Pair → Bool
 is_one_estimate (pair ∷ []) = is_estimate pair
 is_one_estimate others = false
 
--- what stands between these characters is about so much: 几 or 数 stands in front of its unit, as in
--- 几十, or one of the others behind it, as in 十几 and 三百多; or it has an estimate, as 兩三百
+-- the characters say of the number before them that it is about so much: 几, 多 or another of these, or 好几
+abbrev pub begins_estimate : List ℕ → Bool
+begins_estimate [] = false
+begins_estimate (c ∷ others) =
+    char_set_contains (codes "几幾多余餘来來") c
+    || (char_set_contains (codes "好") c && begins_with (codes "几幾") others)
+
+-- what stands between these characters is about so much: 几 or 数 is before its unit, as in 几十, or one
+-- of the others after it, as in 十几, 三百多 and 五十好几; or it has an estimate, as 兩三百
 abbrev pub is_about : List ℕ → List ℕ → List ℕ → Bool
 is_about before text after =
     (begins_with (codes "几幾数數") (reverse before) && begins_with_unit text)
-    || begins_with (codes "几幾多余餘来來") after
+    || begins_estimate after
     || is_one_estimate (pairs text)
 
 -- one character, and no ASCII or full-width digit: a Chinese one, of a number

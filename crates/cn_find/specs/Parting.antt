@@ -2,7 +2,7 @@
 use Rattle.std.specs.Prelude.{◌≡◌, ◌⊎◌, ◌||◌, ℕ, Bool, List, ◌++◌, chars, codes, is_some, IsTrue}
 use Rattle.std.specs.Char.{char_set_contains, encode_utf8}
 use Rattle.cn_core.specs.Characters.{digit_of}
-use Rattle.cn_find.specs.Expressions.{binds_minus, follows_one, is_extra, is_figure, precedes_minus}
+use Rattle.cn_find.specs.Expressions.{binds_minus, is_extra, is_figure, is_han}
 use Rattle.cn_find.specs.Flags.{is_link, stands_alone}
 use Rattle.cn_find.specs.Spans.{Span}
 
@@ -21,12 +21,12 @@ unfoldable pub is_of_measure : ℕ → Bool
 is_of_measure c =
     char_set_contains (codes "瓦赫帕焦伏乏字节節比特电電子宽寬带帶頻位数數欧歐元") c
 
--- the character is one that the rule of expressions names: a digit, one that belongs to expressions
--- alone, one of a time, or a neighbour of 兆, 点, 负 or -
+-- the rule of expressions can tell the character from others: a Han character, a letter, a figure, or one
+-- of the signs and marks that it names
 unfoldable pub is_named : ℕ → Bool
 is_named c =
-    is_figure c || is_some (digit_of c) || is_extra c || char_set_contains (codes "刻十") c
-    || is_of_measure c || follows_one c || precedes_minus c || binds_minus c
+    is_han c || is_figure c || is_some (digit_of c) || is_extra c || binds_minus c
+    || char_set_contains (codes "℃") c
 
 -- the second run begins where the first one ends, or behind a link there
 abbrev pub Meet : Span → Span → Type 0

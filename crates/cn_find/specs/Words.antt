@@ -51,20 +51,24 @@ is_word_by_itself text =
     is_exactly (codes "二百五") text
     || (is_exactly (codes "亿万") text || is_exactly (codes "億萬") text)
 
--- 十万火急, 十万八千里, 三十而立, 三十年河东, 四十不惑, 五十步笑, 十五个吊桶, and those
+-- 三十而立, 三十年河东, 四十不惑, 五十步笑, 十五个吊桶
+abbrev pub is_saying_of_tens : List ℕ → List ℕ → Bool
+is_saying_of_tens text after =
+    (is_exactly (codes "三十") text
+    && (begins_with_two (codes "而") (codes "立") after
+    || begins_with_two (codes "年") (codes "河") after))
+    || ((is_exactly (codes "四十") text && begins_with_two (codes "不") (codes "惑") after)
+    || ((is_exactly (codes "五十") text && begins_with_two (codes "步") (codes "笑") after)
+    || (is_exactly (codes "十五") text && begins_with_two (codes "个個") (codes "吊") after)))
+
+-- those, 十万火急, 十万八千里, and 二百五, 亿万 by themselves
 abbrev pub is_saying : List ℕ → List ℕ → Bool
 is_saying text after =
     ((is_exactly (codes "十万") text || is_exactly (codes "十萬") text)
     && begins_with_two (codes "火") (codes "急") after)
     || (((is_exactly (codes "十万八千") text || is_exactly (codes "十萬八千") text)
     && begins_with (codes "里") after)
-    || ((is_exactly (codes "三十") text
-    && (begins_with_two (codes "而") (codes "立") after
-    || begins_with_two (codes "年") (codes "河") after))
-    || ((is_exactly (codes "四十") text && begins_with_two (codes "不") (codes "惑") after)
-    || ((is_exactly (codes "五十") text && begins_with_two (codes "步") (codes "笑") after)
-    || ((is_exactly (codes "十五") text && begins_with_two (codes "个個") (codes "吊") after)
-    || is_word_by_itself text)))))
+    || (is_saying_of_tens text after || is_word_by_itself text))
 
 -- 双十一, 双十二, 年三十; 正月, 腊月 and a day. Of the characters before the number the nearest comes first.
 abbrev pub ends_word : List ℕ → List ℕ → Bool

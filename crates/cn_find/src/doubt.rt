@@ -9,7 +9,7 @@ use crate::belongs::is_chinese_digit;
 use crate::expressions::split_nearest;
 use crate::ranges::is_end_of_range;
 use crate::words::{begins_with, begins_with_two, ends_with, ends_with_two, is_of_word};
-use cn_core::{ChineseCountMethod, digit_of, split_first_char};
+use cn_core::{digit_of, split_first_char};
 
 /// Why a reader may mean something else than the quantity of an expression.
 #[derive(Debug, Copy, Clone, Eq, PartialEq)]
@@ -135,8 +135,7 @@ fn begins_plenum(after: &str) -> bool
 fn is_term(text: &str, after: &str) -> bool
     ensures { result ≡ is_term (chars text.now) (chars after.now) }
 {
-    (begins_with(&['负', '負'], text)
-        && begins_with(&['项', '項', '楼', '樓', '层', '層'], after))
+    (begins_with(&['负', '負'], text) && begins_with(&['项', '項', '楼', '樓', '层', '層'], after))
         || (has_point(text) && begins_with(&['划', '劃', '线', '線'], after))
         || begins_with_two(&['进', '進'], &['制', '位'], after)
         || begins_plenum(after)
@@ -144,18 +143,15 @@ fn is_term(text: &str, after: &str) -> bool
 
 // What 半 follows in 两倍半, 一米半 and the like.
 const BEFORE_HALF: &[char] = &[
-    '个', '個', '倍', '天', '岁', '歲', '里', '年', '月', '日', '号', '號', '點', '点', '时', '時',
-    '分', '秒', '刻', '元', '圆', '圓', '块', '塊', '角', '毛', '度', '米', '斤', '两', '兩',
+    '个', '個', '倍', '天', '岁', '歲', '里', '年', '月', '日', '号', '號', '點', '点', '时', '時', '分', '秒', '刻',
+    '元', '圆', '圓', '块', '塊', '角', '毛', '度', '米', '斤', '两', '兩',
 ];
 
 fn is_part(text: &str, after: &str) -> bool
     ensures { result ≡ is_part (chars text.now) (chars after.now) }
 {
-    begins_without(
-        &['折'],
-        &['算', '合', '旧', '舊', '叠', '疊', '磨', '返'],
-        after,
-    ) || (begins_with(&['成'], after) && are_chinese_digits(text) && has_at_most(2, text))
+    begins_without(&['折'], &['算', '合', '旧', '舊', '叠', '疊', '磨', '返'], after)
+        || (begins_with(&['成'], after) && are_chinese_digits(text) && has_at_most(2, text))
         || begins_with_two(BEFORE_HALF, &['半'], after)
 }
 
@@ -225,8 +221,7 @@ fn is_clock_with_zero(text: &str) -> bool
 fn ends_part_of_day(before: &str) -> bool
     ensures { result ≡ ends_part_of_day (in_front before.now) }
 {
-    ends_with(&['午', '晨', '早', '晚', '夜'], before)
-        || ends_with_two(&['上'], &['早', '晚'], before)
+    ends_with(&['午', '晨', '早', '晚', '夜'], before) || ends_with_two(&['上'], &['早', '晚'], before)
 }
 
 fn is_time(before: &str, text: &str, after: &str) -> bool
@@ -243,13 +238,8 @@ fn is_time(before: &str, text: &str, after: &str) -> bool
 /// ```text
 /// of 五一 before 假期 it is Some(Doubt::Digits), of 三点五 before 米 None
 /// ```
-pub fn doubt_of(
-    method: ChineseCountMethod,
-    before: &str,
-    text: &str,
-    after: &str,
-) -> Option<Doubt>
-    ensures { result ≡ doubt_of method (chars before.now) (chars text.now) (chars after.now) }
+pub fn doubt_of(before: &str, text: &str, after: &str) -> Option<Doubt>
+    ensures { result ≡ doubt_of before.now text.now after.now }
 {
     if is_of_word(before, text, after) {
         return Some(Doubt::Word);
@@ -266,7 +256,7 @@ pub fn doubt_of(
     if is_time(before, text, after) {
         return Some(Doubt::Time);
     }
-    if is_end_of_range(method, before, text, after) {
+    if is_end_of_range(before, text, after) {
         return Some(Doubt::Range);
     }
     None

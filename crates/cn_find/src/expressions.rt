@@ -1,5 +1,5 @@
 // Whether a character of a text is one of an expression.
-ghost use Rattle.std.specs.Prelude.{◌≡◌, ◌||◌, ◌∷◌, [], codes, chars, MatchOption};
+ghost use Rattle.std.specs.Prelude.{◌≡◌, ◌<◌, ◌||◌, ◌∷◌, [], codes, chars, length, IfSome, MatchOption};
 ghost use Rattle.std.specs.Char.{char_set_contains};
 ghost use Rattle.cn_core.specs.Mark.{mark_of};
 ghost use Rattle.cn_judge.specs.Marked.{marked};
@@ -17,8 +17,9 @@ use cn_judge::{Mark, mark_of, split_first_mark, split_last_char};
 /// The nearest character before a number, and what is before that.
 #[tactic(auto, using(crate::proofs::Nearest::reverse_last))]
 pub fn split_nearest(before: &str) -> Option<(char, &str)>
-    ensures { MatchOption result (in_front before.now ≡ [])
+    ensures parts { MatchOption result (in_front before.now ≡ [])
         (λ r. in_front before.now ≡ r.0 ∷ in_front r.1.now) }
+    ensures shorter { IfSome result (λ r. length r.1.now < length before.now) }
 {
     split_last_char(before)
 }
@@ -230,10 +231,10 @@ fn ends_group(before: &str) -> bool
 }
 
 fn ends_mark(before: &str) -> bool
-    ensures { result ≡ begins_with (codes ",.．，") (in_front before.now) }
+    ensures { result ≡ begins_with (codes ",.．") (in_front before.now) }
 {
     match split_nearest(before) {
-        Some((c, _)) => matches!(c, ',' | '.' | '．' | '，'),
+        Some((c, _)) => matches!(c, ',' | '.' | '．'),
         None => false,
     }
 }
@@ -366,8 +367,7 @@ fn begins_below_zero(wanted: Wanted, after: &str) -> bool
 {
     match split_first_mark(after) {
         Some((c, mark, others)) => {
-            (is_figure(c)
-                || (is_wanted(wanted, c, mark) && (digit_of(c).is_some() || c == '十')))
+            (is_figure(c) || (is_wanted(wanted, c, mark) && (digit_of(c).is_some() || c == '十')))
                 && (c != '一' || begins_degrees(wanted, others))
         }
         None => false,
@@ -582,12 +582,7 @@ fn begins_kilo_measure(after: &str) -> bool
     ensures { result ≡ begins_with (codes "瓦克米卡赫伏安焦帕") (chars after.now) }
 {
     match split_first_char(after) {
-        Some((c, _)) => {
-            matches!(
-                c,
-                '瓦' | '克' | '米' | '卡' | '赫' | '伏' | '安' | '焦' | '帕'
-            )
-        }
+        Some((c, _)) => { matches!(c, '瓦' | '克' | '米' | '卡' | '赫' | '伏' | '安' | '焦' | '帕') }
         None => false,
     }
 }

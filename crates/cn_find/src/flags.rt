@@ -1,13 +1,14 @@
 // What is told of a number by what stands around it, and by its own characters. Whoever finds other
 // numbers than those of this crate tells the same of them.
 ghost use Rattle.std.specs.Prelude.{◌≡◌, ◌≢◌, ℕ, ◌<◌, ◌&&◌, ◌||◌, true, false, List, ◌∷◌, [], length, reverse, codes, chars, is_some, Some, MatchOption, IfSome, IfNone, IsTrue};
+ghost use Rattle.std.specs.Char.{char_set_contains};
 ghost use Rattle.cn_core.specs.Characters.{digit_of, rank_of};
 ghost use Rattle.cn_core.specs.Mark.{mark_of};
 ghost use Rattle.cn_judge.specs.Marked.{marked};
 ghost use Rattle.cn_find.specs.Belongs.{begins_with};
 ghost use Rattle.cn_find.specs.Number.{is_plain};
-ghost use Rattle.cn_find.specs.Private.{does_cling, does_link, estimates_last, estimates_next};
-ghost use Rattle.cn_find.specs.Flags.{are_near, begins_linked, begins_with_unit, clings, goes_on, is_about, is_estimate, is_link, is_no_figure, is_one_character, is_one_estimate, is_wide_digit, pairs, stands_alone};
+ghost use Rattle.cn_find.specs.Private.{does_cling, does_link, estimates_last, estimates_next, is_quite};
+ghost use Rattle.cn_find.specs.Flags.{are_near, begins_estimate, begins_linked, begins_with_unit, clings, goes_on, is_about, is_estimate, is_link, is_no_figure, is_one_character, is_one_estimate, is_wide_digit, pairs, stands_alone};
 
 use cn_core::split_first_char;
 use cn_judge::{Mark, mark_of, split_end_mark, split_first_known, split_first_mark};
@@ -67,6 +68,8 @@ enum Neighbour {
     EstimatesLast,
     // Either is.
     Estimates,
+    // A number before it is, where 几 follows it.
+    Quite,
 }
 
 // All is told by one `match`, and not by one for each question. ASCII is told apart first, so that a
@@ -78,6 +81,7 @@ fn neighbour_of(c: char) -> Neighbour
     ensures links { is_link c ≡ does_link result }
     ensures next { begins_with (codes "几幾数數") (c ∷ []) ≡ estimates_next result }
     ensures last { begins_with (codes "几幾多余餘来來") (c ∷ []) ≡ estimates_last result }
+    ensures quite { char_set_contains (codes "好") c ≡ is_quite result }
 {
     if c.is_ascii() {
         return match c {
@@ -93,19 +97,21 @@ fn neighbour_of(c: char) -> Neighbour
         '数' | '數' => Neighbour::EstimatesNext,
         '多' | '余' | '餘' | '来' | '來' => Neighbour::EstimatesLast,
         '几' | '幾' => Neighbour::Estimates,
+        '好' => Neighbour::Quite,
         _ => Neighbour::Unrelated,
     }
 }
 
 // Whether the character with its mark is a digit, with which a number that it touches goes on.
 #[inline(always)]
-#[tactic(auto, using(crate::proofs::Marks::digit_clings, crate::proofs::Marks::digit_no_next, crate::proofs::Marks::digit_no_last))]
+#[tactic(auto, using(crate::proofs::Marks::digit_clings, crate::proofs::Marks::digit_no_next, crate::proofs::Marks::digit_no_last, crate::proofs::Marks::digit_no_quite))]
 fn is_digit_beside(c: char, mark: Mark) -> bool
     requires { marked mark ≡ mark_of c }
     ensures digit { result ≡ is_some (digit_of c) }
     ensures clings { IsTrue result → clings c ≡ true }
     ensures next { IsTrue result → begins_with (codes "几幾数數") (c ∷ []) ≡ false }
     ensures last { IsTrue result → begins_with (codes "几幾多余餘来來") (c ∷ []) ≡ false }
+    ensures quite { IsTrue result → char_set_contains (codes "好") c ≡ false }
 {
     is_digit(mark)
 }
@@ -184,17 +190,28 @@ fn look_before(before: &str) -> Side
         Neighbour::Clings => (true, false),
         Neighbour::Links => (ends_linked(others), false),
         Neighbour::EstimatesNext => (false, true),
+        Neighbour::Quite => (false, false),
         Neighbour::EstimatesLast => (false, false),
         Neighbour::Estimates => (false, true),
     };
     Side { goes_on, estimates }
 }
 
-// What the text behind a number tells: about so much by a first 几, 多 or another such character.
+// Whether the text begins with 几.
+fn begins_few(text: &str) -> bool
+    ensures { result ≡ begins_with (codes "几幾") (chars text.now) }
+{
+    match split_first_char(text) {
+        Some((c, _)) => matches!(c, '几' | '幾'),
+        None => false,
+    }
+}
+
+// What the text after a number tells: about so much by a first 几, 多 or another such character.
 #[inline(always)]
 fn look_after(after: &str) -> Side
     ensures goes_on { result.goes_on ≡ goes_on (chars after.now) }
-    ensures estimates { result.estimates ≡ begins_with (codes "几幾多余餘来來") (chars after.now) }
+    ensures estimates { result.estimates ≡ begins_estimate (chars after.now) }
 {
     let Some((near, mark, others)) = split_first_mark(after) else {
         return NOTHING;
@@ -210,6 +227,7 @@ fn look_after(after: &str) -> Side
         Neighbour::Clings => (true, false),
         Neighbour::Links => (begins_linked(others), false),
         Neighbour::EstimatesNext => (false, false),
+        Neighbour::Quite => (false, begins_few(others)),
         Neighbour::EstimatesLast => (false, true),
         Neighbour::Estimates => (false, true),
     };
@@ -275,9 +293,12 @@ fn first_pair(text: &str) -> Option<DigitPair<'_>>
 {
     let mut rest = text;
     'looking: while let Some((first, mark, others)) = split_first_mark(rest) {
+        if matches!(first, '点' | '點') {
+            return None;
+        }
         rest = others;
         if let Some(value) = value_of(mark) {
-            if let Some((second, next, behind)) = split_first_mark(others) {
+            if let Some((second, next, _)) = split_first_mark(others) {
                 if let Some(next_value) = value_of(next) {
                     return Some(DigitPair {
                         first,
@@ -287,8 +308,6 @@ fn first_pair(text: &str) -> Option<DigitPair<'_>>
                         rest: others,
                     });
                 }
-                // It begins no pair either.
-                rest = behind;
             }
         }
     }

@@ -92,10 +92,10 @@ impl Found<'_> {
 
     /// Why a reader may mean something else than its quantity; `None` if nothing suggests that. The
     /// reasons are those of docs/RULES.md, "Doubt".
-    pub fn doubt(self, method: ChineseCountMethod) -> Option<Doubt>
-        ensures { result ≡ doubt_of method (chars self.entry.before.now)
-            (chars self.entry.text.now) (chars self.entry.after.now) }
+    pub fn doubt(self) -> Option<Doubt>
+        ensures { result ≡ doubt_of self.entry.before.now self.entry.text.now
+            self.entry.after.now }
     {
-        doubt_of(method, self.before, self.text, self.after)
+        doubt_of(self.before, self.text, self.after)
     }
 }

@@ -1,5 +1,5 @@
 //! What users may count on, as contracts of functions that do nothing.
-ghost use Rattle.std.specs.Prelude.{◌≡◌, ◌≢◌, ◌↔◌, [], ◌∷◌, ◌++◌, ◌+◌, ℕ, ℤ, pos, ◌≤ℤ◌, List, map, drop, length, chars, IsCharBoundary, encode_utf8, true, false, not, None, Some, Ok, Err, IsTrue};
+ghost use Rattle.std.specs.Prelude.{◌≡◌, ◌≢◌, ◌↔◌, [], ◌∷◌, ◌++◌, ◌+◌, ℕ, ℤ, pos, ◌≤ℤ◌, List, map, drop, length, chars, IsCharBoundary, encode_utf8, true, false, not, None, Some, Ok, Err, IsTrue, ◌&&◌};
 ghost use Rattle.std.specs.List.{Contains, list_all};
 ghost use Rattle.std.specs.Str.{IsUtf8};
 ghost use Rattle.cn_core.specs.declared.method.ChineseCountMethod.{ChineseCountMethod};
@@ -15,7 +15,7 @@ ghost use Rattle.cn_core.specs.Text.{marks_of, text_of};
 ghost use Rattle.cn_core.specs.Value.{numeral_value};
 ghost use Rattle.cn_core.specs.Whole.{Kind, holds};
 ghost use Rattle.cn_find.specs.Belongs.{is_mega, is_wanted};
-ghost use Rattle.cn_find.specs.Expressions.{is_extra};
+ghost use Rattle.cn_find.specs.Expressions.{is_extra, is_figure};
 ghost use Rattle.cn_find.specs.Flags.{is_one_character, is_one_estimate, pairs};
 ghost use Rattle.cn_find.specs.Number.{IsAnswer};
 ghost use Rattle.cn_find.specs.Parting.{Meet, is_alone, is_named, is_of_measure, with_text_after, with_text_before};
@@ -98,9 +98,11 @@ pub fn searches_for_expressions_go_on_in_the_whole_text(wanted: Wanted)
         × IsCharBoundary bytes (length first.before + length first.text) }
 {}
 
-/// Where a text has no character that belongs to expressions alone, its expressions are its numbers.
+/// Where a text has no figures and none of the characters that expressions treat otherwise than numbers
+/// do, its expressions are its numbers.
 pub fn expressions_of_numerals_are_numbers(wanted: Wanted)
-    ensures { (bytes : List ℕ) → IsTrue (list_all (λ c. not (is_extra c)) (chars bytes))
+    ensures { (bytes : List ℕ)
+        → IsTrue (list_all (λ c. not (is_figure c) && not (is_extra c)) (chars bytes))
         → expressions wanted bytes ≡ spans wanted bytes }
 {}
 

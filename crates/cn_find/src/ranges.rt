@@ -1,15 +1,19 @@
 // Ranges whose ends share a unit or 百分之.
-ghost use Rattle.std.specs.Prelude.{◌≡◌, nat_le, length, ◌||◌, ◌&&◌, ◌++◌, false, true, codes, chars, reverse, encode_utf8_all, is_some, Some, None, option_map};
+ghost use Rattle.std.specs.Prelude.{◌≡◌, ℕ, nat_le, length, ◌||◌, ◌&&◌, ◌++◌, false, true, codes, chars, reverse, encode_utf8_all, is_some, Some, None, option_map};
 ghost use Rattle.std.specs.Char.{char_set_contains};
+ghost use Rattle.cn_core.specs.declared.method.ChineseCountMethod.TheVariants.{TenThousand};
 ghost use Rattle.cn_core.specs.Characters.{digit_of, rank, rank_of};
+ghost use Rattle.cn_core.specs.Mark.{mark_of};
 ghost use Rattle.cn_judge.specs.Answer.{answer_of};
-ghost use Rattle.cn_find.specs.Ranges.{amount_of, are_ends, counts_both, do_share, is_at_most, is_end_of_range, is_first_end, is_of_amount, is_one_percent, is_percent_form, is_range_link, is_second_end, is_smaller, last_rank, precedes, shares, whole_part};
+ghost use Rattle.cn_judge.specs.Marked.{marked};
+ghost use Rattle.cn_quantity.specs.Reading.{quantity_answer};
+ghost use Rattle.cn_find.specs.Ranges.{amount_of, are_ends, counts_both, do_share, is_at_most, is_below_mark, is_end_of_range, is_first_end, ends_below, is_next, is_of_amount, is_one_percent, is_percent_form, is_range_link, is_second_end, precedes, shares, whole_part};
 ghost use Rattle.cn_find.specs.Spans.{in_front};
 
 use crate::belongs::is_chinese_digit;
 use crate::expressions::{is_power, is_tens, split_nearest};
 use crate::flags::is_wide_digit;
-use cn_core::{ChineseCountMethod, Unit, digit_of, split_first_char};
+use cn_core::{ChineseCountMethod, digit_of, split_first_char};
 use cn_judge::{ChineseToNumberError, Mark, mark_of};
 use cn_quantity::{Quantity, QuantityForm, chinese_to_quantity};
 
@@ -22,15 +26,13 @@ fn is_of_amount(c: char) -> bool
         || is_wide_digit(c)
         || is_tens(c)
         || is_power(mark_of(c))
-        || matches!(
-            c,
-            '点' | '點' | '.' | '．' | '分' | '之' | '%' | '％'
-        )
+        || matches!(c, '点' | '點' | '.' | '．' | '分' | '之' | '%' | '％')
 }
 
 // The amount with which a text begins.
+#[tactic(auto, using(crate::proofs::Amounts::passed_first, crate::proofs::Amounts::passed_more, crate::proofs::Amounts::passed_boundary, crate::proofs::Amounts::passed_taken))]
 fn first_amount(text: &str) -> &str
-    ensures { chars result.now ≡ amount_of (chars text.now) }
+    ensures { result.now ≡ encode_utf8_all (amount_of (chars text.now)) }
 {
     let mut rest = text;
     'passing: while let Some((c, others)) = split_first_char(rest) {
@@ -44,8 +46,9 @@ fn first_amount(text: &str) -> &str
 }
 
 // The amount with which a text ends.
+#[tactic(auto, using(crate::proofs::Amounts::back_first, crate::proofs::Amounts::back_more, crate::proofs::Amounts::back_boundary, crate::proofs::Amounts::back_taken))]
 fn last_amount(text: &str) -> &str
-    ensures { chars result.now ≡ reverse (amount_of (in_front text.now)) }
+    ensures { result.now ≡ encode_utf8_all (reverse (amount_of (in_front text.now))) }
 {
     let mut rest = text;
     'passing: while let Some((c, front)) = split_nearest(rest) {
@@ -62,10 +65,7 @@ fn last_amount(text: &str) -> &str
 fn is_range_link(c: char) -> bool
     ensures { result ≡ is_range_link c }
 {
-    matches!(
-        c,
-        '到' | '至' | '~' | '～' | '－' | '–' | '—' | '〜' | '-'
-    )
+    matches!(c, '到' | '至' | '~' | '～' | '－' | '–' | '—' | '〜' | '-')
 }
 
 fn is_percent(quantity: Quantity) -> bool
@@ -85,15 +85,30 @@ fn whole_part(quantity: Quantity) -> u128
         .unwrap_or(0)
 }
 
-// The unit from 十 up with which a text ends.
-fn last_unit(text: &str) -> Option<Unit>
-    ensures { option_map rank result ≡ last_rank (chars text.now) }
+fn is_below_mark(low: Mark, high: Mark) -> bool
+    ensures { result ≡ is_below_mark (marked low) (marked high) }
 {
-    let (c, _) = split_nearest(text)?;
-    match mark_of(c) {
-        Mark::Unit(unit) if unit >= Unit::Shi => Some(unit),
-        _ => None,
+    match (low, high) {
+        (Mark::Unit(low), Mark::Unit(high)) => low < high,
+        _ => true,
     }
+}
+
+// Whether the text ends with no unit that is as great as this one.
+fn ends_below(mark: Mark, text: &str) -> bool
+    ensures { (c : ℕ) → marked mark ≡ mark_of c → result ≡ ends_below c (in_front text.now) }
+{
+    match split_nearest(text) {
+        Some((d, _)) => is_below_mark(mark_of(d), mark),
+        None => true,
+    }
+}
+
+// What a text is by the standard method.
+fn by_standard(text: &str) -> Result<Quantity, ChineseToNumberError>
+    ensures { answer_of (λ q. q) result ≡ quantity_answer TenThousand text.now }
+{
+    chinese_to_quantity(text, ChineseCountMethod::TenThousand)
 }
 
 // Whether the whole part of the first is at most that of the second, if that is a quantity.
@@ -107,20 +122,15 @@ fn is_at_most(low: Quantity, high: Result<Quantity, ChineseToNumberError>) -> bo
 }
 
 // Whether the second text ends in a unit that both may count.
-fn counts_both(method: ChineseCountMethod, quantity: Quantity, low: &str, high: &str) -> bool
-    ensures { result ≡ counts_both method quantity (chars low.now) (chars high.now) }
+#[tactic(auto, using(crate::proofs::Amounts::twice_reversed))]
+fn counts_both(quantity: Quantity, low: &str, high: &str) -> bool
+    ensures { result ≡ counts_both quantity (in_front low.now) (in_front high.now) }
 {
-    let Some(unit) = last_unit(high) else {
+    let Some((c, head)) = split_nearest(high) else {
         return false;
     };
-    let Some((_, head)) = split_nearest(high) else {
-        return false;
-    };
-    let is_smaller = match last_unit(low) {
-        Some(least) => least < unit,
-        None => true,
-    };
-    is_smaller && is_at_most(quantity, chinese_to_quantity(head, method))
+    let mark = mark_of(c);
+    is_power(mark) && ends_below(mark, low) && is_at_most(quantity, by_standard(head))
 }
 
 fn is_one_percent(a: Quantity, b: Quantity) -> bool
@@ -139,16 +149,22 @@ fn has_two(text: &str) -> bool
     }
 }
 
-fn shares(method: ChineseCountMethod, low: &str, high: &str) -> bool
-    ensures { result ≡ shares method (chars low.now) (chars high.now) }
+fn shares(low: &str, high: &str) -> bool
+    ensures { result ≡ shares low.now high.now }
 {
-    let Ok(a) = chinese_to_quantity(low, method) else {
-        return false;
-    };
-    let Ok(b) = chinese_to_quantity(high, method) else {
-        return false;
-    };
-    is_one_percent(a, b) || (has_two(high) && counts_both(method, a, low, high))
+    match (by_standard(low), by_standard(high)) {
+        (Ok(a), Ok(b)) => { is_one_percent(a, b) || (has_two(high) && counts_both(a, low, high)) }
+        _ => false,
+    }
+}
+
+fn is_next(value: Option<u8>, next: Option<u8>) -> bool
+    ensures { result ≡ is_next value next }
+{
+    match (value, next) {
+        (Some(value), Some(next)) => u32::from(next) == u32::from(value) + 1,
+        _ => false,
+    }
 }
 
 // Whether the first text is one Chinese digit, and the second begins with the next one.
@@ -161,51 +177,39 @@ fn precedes(low: &str, high: &str) -> bool
     let Some((d, _)) = split_first_char(high) else {
         return false;
     };
-    if split_first_char(rest).is_some() || !is_chinese_digit(c) || !is_chinese_digit(d) {
-        return false;
-    }
-    match (digit_of(c), digit_of(d)) {
-        (Some(value), Some(next)) => u32::from(next) == u32::from(value) + 1,
-        _ => false,
-    }
+    split_first_char(rest).is_none()
+        && is_chinese_digit(c)
+        && is_chinese_digit(d)
+        && is_next(digit_of(c), digit_of(d))
 }
 
 fn are_ends(c: char, low: &str, high: &str) -> bool
-    ensures { result ≡ are_ends c (chars low.now) (chars high.now) }
+    ensures { result ≡ are_ends c low.now high.now }
 {
-    is_range_link(c) || (c == '、' && precedes(low, high))
+    (is_range_link(c) || (c == '、' && precedes(low, high))) && shares(low, high)
 }
 
-fn is_first_end(method: ChineseCountMethod, text: &str, after: &str) -> bool
-    ensures { result ≡ is_first_end method (chars text.now) (chars after.now) }
+fn is_first_end(text: &str, after: &str) -> bool
+    ensures { result ≡ is_first_end text.now (chars after.now) }
 {
     let Some((c, others)) = split_first_char(after) else {
         return false;
     };
-    if !is_range_link(c) && c != '、' {
-        return false;
-    }
-    let high = first_amount(others);
-    are_ends(c, text, high) && shares(method, text, high)
+    are_ends(c, text, first_amount(others))
 }
 
-fn is_second_end(method: ChineseCountMethod, text: &str, before: &str) -> bool
-    ensures { result ≡ is_second_end method (chars text.now) (in_front before.now) }
+fn is_second_end(text: &str, before: &str) -> bool
+    ensures { result ≡ is_second_end text.now (in_front before.now) }
 {
     let Some((c, front)) = split_nearest(before) else {
         return false;
     };
-    if !is_range_link(c) && c != '、' {
-        return false;
-    }
-    let low = last_amount(front);
-    are_ends(c, low, text) && shares(method, low, text)
+    are_ends(c, last_amount(front), text)
 }
 
 /// Whether the text is an end of a range whose ends share a unit or 百分之, between these texts.
-pub fn is_end_of_range(method: ChineseCountMethod, before: &str, text: &str, after: &str) -> bool
-    ensures { result
-        ≡ is_end_of_range method (chars before.now) (chars text.now) (chars after.now) }
+pub fn is_end_of_range(before: &str, text: &str, after: &str) -> bool
+    ensures { result ≡ is_end_of_range before.now text.now after.now }
 {
-    is_first_end(method, text, after) || is_second_end(method, text, before)
+    is_first_end(text, after) || is_second_end(text, before)
 }

@@ -3,7 +3,7 @@ ghost use Rattle.std.specs.Prelude.{◌≡◌, ◌||◌, codes, chars};
 ghost use Rattle.std.specs.Char.{char_set_contains};
 ghost use Rattle.cn_find.specs.Belongs.{begins_with};
 ghost use Rattle.cn_find.specs.Spans.{in_front};
-ghost use Rattle.cn_find.specs.Words.{begins_with_two, ends_word, is_exactly, is_named_group, is_of_word, is_saying, is_title, is_word_by_itself};
+ghost use Rattle.cn_find.specs.Words.{begins_with_two, ends_word, is_exactly, is_named_group, is_of_word, is_saying, is_saying_of_tens, is_title, is_word_by_itself};
 
 use crate::expressions::split_nearest;
 use cn_core::split_first_char;
@@ -117,19 +117,23 @@ fn is_word_by_itself(text: &str) -> bool
         || is_exactly(&['億', '萬'], text)
 }
 
+fn is_saying_of_tens(text: &str, after: &str) -> bool
+    ensures { result ≡ is_saying_of_tens (chars text.now) (chars after.now) }
+{
+    (is_exactly(&['三', '十'], text)
+        && (begins_with_two(&['而'], &['立'], after) || begins_with_two(&['年'], &['河'], after)))
+        || (is_exactly(&['四', '十'], text) && begins_with_two(&['不'], &['惑'], after))
+        || (is_exactly(&['五', '十'], text) && begins_with_two(&['步'], &['笑'], after))
+        || (is_exactly(&['十', '五'], text) && begins_with_two(&['个', '個'], &['吊'], after))
+}
+
 fn is_saying(text: &str, after: &str) -> bool
     ensures { result ≡ is_saying (chars text.now) (chars after.now) }
 {
     (is_hundred_thousand(text) && begins_with_two(&['火'], &['急'], after))
-        || ((is_exactly(&['十', '万', '八', '千'], text)
-            || is_exactly(&['十', '萬', '八', '千'], text))
+        || ((is_exactly(&['十', '万', '八', '千'], text) || is_exactly(&['十', '萬', '八', '千'], text))
             && begins_with(&['里'], after))
-        || (is_exactly(&['三', '十'], text)
-            && (begins_with_two(&['而'], &['立'], after)
-                || begins_with_two(&['年'], &['河'], after)))
-        || (is_exactly(&['四', '十'], text) && begins_with_two(&['不'], &['惑'], after))
-        || (is_exactly(&['五', '十'], text) && begins_with_two(&['步'], &['笑'], after))
-        || (is_exactly(&['十', '五'], text) && begins_with_two(&['个', '個'], &['吊'], after))
+        || is_saying_of_tens(text, after)
         || is_word_by_itself(text)
 }
 
