@@ -28,17 +28,16 @@ is_doubt_included included (Some Part) = false
 is_doubt_included included (Some doubt) = included.doubtful
 
 -- an expression is one character, about so much or doubtful only where that is included
-abbrev pub is_included : ChineseCountMethod → Included → Span → Bool
-is_included method included span =
+abbrev pub is_included : Included → Span → Bool
+is_included included span =
     (included.one_character || not (is_one_character (chars span.text)))
     && ((included.about || not (is_about (chars span.before) (chars span.text) (chars span.after)))
-    && is_doubt_included included
-    (doubt_of method (chars span.before) (chars span.text) (chars span.after)))
+    && is_doubt_included included (doubt_of span.before span.text span.after))
 
 -- an expression may have a new text: it is included, clings to nothing and is read
 abbrev pub may_change : ChineseCountMethod → Included → Span → Bool
 may_change method included span =
-    is_included method included span
+    is_included included span
     && (not (clings (chars span.before) (chars span.after))
     && is_ok (quantity_answer method span.text))
 

@@ -35,7 +35,7 @@ impl InFigures {
         let included = self.figures.included;
         (included.one_character || !found.is_one_character())
             && (included.about || !found.is_about())
-            && self.includes_doubt(found.doubt(self.method))
+            && self.includes_doubt(found.doubt())
     }
 
     // Whether an expression may have a new text.
