@@ -80,6 +80,15 @@ CN_ABOUT = 4
 abbrev pub CN_ONE_CHARACTER : ℕ
 CN_ONE_CHARACTER = 8
 
+abbrev pub CN_DOUBTFUL : ℕ
+CN_DOUBTFUL = 16
+
+abbrev pub CN_EXPANDED : ℕ
+CN_EXPANDED = 32
+
+abbrev pub CN_CANONICAL : ℕ
+CN_CANONICAL = 64
+
 -- whether the forms of the upper case are looked for
 abbrev pub uppers : List Bool
 uppers = false ∷ true ∷ []

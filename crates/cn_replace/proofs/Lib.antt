@@ -1,4 +1,6 @@
-mod LawExamples
-pub mod Parts
+pub mod Ends
+pub mod Passing
 pub mod Replacing
+pub mod Tenths
+pub mod Texts
 pub mod Unchanged

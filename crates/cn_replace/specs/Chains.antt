@@ -17,16 +17,16 @@ is_held holds [] = false
 is_held holds (span ∷ others) =
     holds span || (is_joined_to_next span others && is_held holds others)
 
--- the first of these expressions is joined to what ends at that byte, if anything does
-abbrev pub goes_on : Option ℕ → List Span → Bool
-goes_on end [] = false
-goes_on None (span ∷ others) = false
-goes_on (Some end) (span ∷ others) = is_joined_at end span
+-- an expression is joined to what ended at that byte, if anything did
+abbrev pub goes_on : Option ℕ → Span → Bool
+goes_on None span = false
+goes_on (Some end) span = is_joined_at end span
 
--- whether the chain of the first of these is held, where the last one ended there, and was of a chain
--- that is held or not
-abbrev pub held_on : (Span → Bool) → Option ℕ → Bool → List Span → Bool
-held_on holds end held spans = if goes_on end spans then held else is_held holds spans
+-- whether the chain of the first of these expressions is held, where the last one before it ended at
+-- that byte, and its chain was held or not
+abbrev pub held_on : (Span → Bool) → Option ℕ → Bool → Span → List Span → Bool
+held_on holds end held span others =
+    if goes_on end span then held else is_held holds (span ∷ others)
 
 -- what is put for an expression
 abbrev pub text_unless : Bool → (Span → Option (List ℕ)) → Span → List ℕ
@@ -38,9 +38,9 @@ abbrev pub in_chains_from : (Span → Option (List ℕ)) → (Span → Bool) →
 in_chains_from new holds bytes end held [] = drop (unwrap_or end 0) bytes
 in_chains_from new holds bytes end held (span ∷ others) =
     drop (unwrap_or end 0) span.before
-    ++ text_unless (held_on holds end held (span ∷ others)) new span
+    ++ text_unless (held_on holds end held span others) new span
     ++ in_chains_from new holds bytes (Some (end_of span))
-    (held_on holds end held (span ∷ others)) others
+    (held_on holds end held span others) others
 
 -- a text with its expressions replaced but for those whose chain is held
 abbrev pub in_chains : (Span → Option (List ℕ)) → (Span → Bool) → Wanted → List ℕ → List ℕ

@@ -1,24 +1,20 @@
 -- Whether an expression clings to a name, an address or a number that is beside it.
-use Rattle.std.specs.Prelude.{ℕ, Bool, false, not, ◌&&◌, ◌||◌, List, [], ◌∷◌, reverse, codes, bytes_eq, encode_utf8_all, if◌then◌else◌}
+use Rattle.std.specs.Prelude.{ℕ, Bool, false, not, ◌&&◌, ◌||◌, List, [], ◌∷◌, reverse, codes, bytes_eq, encode_utf8_all}
 use Rattle.std.specs.Char.{char_set_contains, is_ascii_alphabetic}
-use Rattle.cn_find.specs.Belongs.{begins_with}
-use Rattle.cn_replace.specs.Pieces.{begins_letter_or_figure, figures, is_letter_or_figure}
+use Rattle.cn_replace.specs.Pieces.{after_leading, begins, is_figure, is_letter_or_figure, leading}
+
+-- an expression clings to this character beside it
+unfoldable pub is_bound : ℕ → Bool
+is_bound c = is_letter_or_figure c || char_set_contains (codes "_幺廿卅卌") c
+
+-- or to a letter or a figure beyond this one
+unfoldable pub is_bridge : ℕ → Bool
+is_bridge c = char_set_contains (codes "-./:") c
 
 -- an expression clings to these characters, of which the nearest is the first
 abbrev pub clings_to : List ℕ → Bool
 clings_to [] = false
-clings_to (c ∷ text) =
-    is_letter_or_figure c || char_set_contains (codes "_幺廿卅卌") c
-    || (char_set_contains (codes "-./:") c && begins_letter_or_figure text)
-
--- the letters with which characters begin, and what is after them
-abbrev pub letters_of : List ℕ → List ℕ
-letters_of [] = []
-letters_of (c ∷ text) = if is_ascii_alphabetic c then c ∷ letters_of text else []
-
-abbrev pub after_letters : List ℕ → List ℕ
-after_letters [] = []
-after_letters (c ∷ text) = if is_ascii_alphabetic c then after_letters text else c ∷ text
+clings_to (c ∷ text) = is_bound c || (is_bridge c && begins is_letter_or_figure text)
 
 -- the bytes are one of these words
 abbrev pub is_word_of : List (List ℕ) → List ℕ → Bool
@@ -38,10 +34,10 @@ measures =
 -- the characters begin with letters that are a measure, and no figure comes after them
 unfoldable pub begins_measure : List ℕ → Bool
 begins_measure text =
-    is_word_of measures (encode_utf8_all (letters_of text))
-    && not (begins_with figures (after_letters text))
+    is_word_of measures (encode_utf8_all (leading is_ascii_alphabetic text))
+    && not (begins is_figure (after_leading is_ascii_alphabetic text))
 
 -- an expression between these characters clings to them
-abbrev pub clings : List ℕ → List ℕ → Bool
+unfoldable pub clings : List ℕ → List ℕ → Bool
 clings before after =
     clings_to (reverse before) || (clings_to after && not (begins_measure after))

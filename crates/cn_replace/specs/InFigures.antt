@@ -1,6 +1,7 @@
 -- The expressions of a text in figures.
-use Rattle.std.specs.Prelude.{ℕ, Bool, true, false, not, ◌&&◌, ◌||◌, List, codes, chars, encode_utf8_all, Option, Some, None, is_some, is_ok, if◌then◌else◌}
+use Rattle.std.specs.Prelude.{ℕ, Bool, true, false, not, ◌&&◌, ◌||◌, List, codes, chars, Option, Some, None, is_some, is_ok, if◌then◌else◌}
 use Rattle.std.specs.Char.{char_set_contains}
+use Rattle.std.specs.List.{list_any}
 use Rattle.cn_core.specs.declared.method.ChineseCountMethod.{ChineseCountMethod}
 use Rattle.cn_find.specs.declared.doubt.Doubt.{Doubt}
 use Rattle.cn_find.specs.declared.doubt.Doubt.TheVariants.{Part}
@@ -19,7 +20,7 @@ use Rattle.cn_replace.specs.Chains.{in_chains}
 use Rattle.cn_replace.specs.Clings.{clings}
 use Rattle.cn_replace.specs.Kept.{kept_text}
 use Rattle.cn_replace.specs.KeptNumbers.{quantity_figures}
-use Rattle.cn_replace.specs.Pieces.{figures, has_one_of, has_unit}
+use Rattle.cn_replace.specs.Pieces.{is_figure, is_unit_from, is_zero}
 
 -- what is doubtful as part of something is never included
 abbrev pub is_doubt_included : Included → Option Doubt → Bool
@@ -35,7 +36,7 @@ is_included included span =
     && is_doubt_included included (doubt_of span.before span.text span.after))
 
 -- an expression may have a new text: it is included, clings to nothing and is read
-abbrev pub may_change : ChineseCountMethod → Included → Span → Bool
+unfoldable pub may_change : ChineseCountMethod → Included → Span → Bool
 may_change method included span =
     is_included included span
     && (not (clings (chars span.before) (chars span.after))
@@ -43,38 +44,42 @@ may_change method included span =
 
 -- it has a figure and no 分之
 abbrev pub is_in_figures : List ℕ → Bool
-is_in_figures text = has_one_of figures text && not (is_fraction text)
+is_in_figures text = list_any is_figure text && not (is_fraction text)
 
 -- it has a unit or a zero that is no figure
 abbrev pub has_unit_or_zero : List ℕ → Bool
-has_unit_or_zero text = has_unit text || has_one_of (codes "零〇") text
+has_unit_or_zero text = list_any (λ c. is_unit_from 1 c || is_zero c) text
+
+-- 又
+unfoldable pub is_again : ℕ → Bool
+is_again c = char_set_contains (codes "又") c
 
 -- the new text in a style, of what is not figures alone
-abbrev pub styled_text : ChineseCountMethod → Style → List ℕ → Option (List ℕ)
+unfoldable pub styled_text : ChineseCountMethod → Style → List ℕ → Option (List ℕ)
 styled_text method Kept text =
-    if is_in_figures text || has_one_of (codes "又") text then None else kept_text method text
+    if is_in_figures text || list_any is_again text then None else kept_text method text
 styled_text method Expanded text =
     if is_in_figures text && not (has_unit_or_zero text) then None
     else quantity_figures method text
 
 -- the new text of an expression by its characters
-abbrev pub written_text : ChineseCountMethod → Figures → List ℕ → Option (List ℕ)
+unfoldable pub written_text : ChineseCountMethod → Figures → List ℕ → Option (List ℕ)
 written_text method options text =
     if are_figures text then (if options.canonical then Some (canonical_text text) else None)
     else styled_text method options.style text
 
 -- the new text of an expression, if it has one
-abbrev pub figures_for : ChineseCountMethod → Figures → Span → Option (List ℕ)
+unfoldable pub figures_for : ChineseCountMethod → Figures → Span → Option (List ℕ)
 figures_for method options span =
     if may_change method options.included span
     then written_text method options (chars span.text) else None
 
 -- an expression without figures that stays holds all that it is joined to
-abbrev pub holds_others : ChineseCountMethod → Figures → Span → Bool
+unfoldable pub holds_others : ChineseCountMethod → Figures → Span → Bool
 holds_others method options span =
-    not (has_one_of figures (chars span.text)) && not (is_some (figures_for method options span))
+    not (list_any is_figure (chars span.text)) && not (is_some (figures_for method options span))
 
 -- a text with its expressions in figures
-abbrev pub in_figures : ChineseCountMethod → Figures → Wanted → List ℕ → List ℕ
+unfoldable pub in_figures : ChineseCountMethod → Figures → Wanted → List ℕ → List ℕ
 in_figures method options wanted bytes =
     in_chains (figures_for method options) (holds_others method options) wanted bytes

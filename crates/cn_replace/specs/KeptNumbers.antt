@@ -7,11 +7,11 @@ use Rattle.cn_core.specs.declared.method.ChineseCountMethod.{ChineseCountMethod}
 use Rattle.cn_core.specs.Characters.{digit_of, rank_of}
 use Rattle.cn_core.specs.Refusal.{Refusal}
 use Rattle.cn_express.specs.Figures.{figures_text}
-use Rattle.cn_find.specs.Belongs.{begins_with, is_chinese_digit}
+use Rattle.cn_find.specs.Belongs.{is_chinese_digit}
 use Rattle.cn_quantity.specs.declared.quantity.Quantity.{Quantity}
 use Rattle.cn_quantity.specs.Reading.{quantity_answer}
 use Rattle.cn_quantity.specs.Units.{are_below}
-use Rattle.cn_replace.specs.Pieces.{begins_unit_from, figures, has_one_of, is_unit_from}
+use Rattle.cn_replace.specs.Pieces.{after_leading, begins, is_figure, is_point, is_unit_from, is_zero, leading}
 
 -- one text and then another, if there are both
 abbrev pub and_text : Option (List ℕ) → Option (List ℕ) → Option (List ℕ)
@@ -23,9 +23,13 @@ abbrev pub figures_of_answer : Result Quantity Refusal → Option (List ℕ)
 figures_of_answer (Ok quantity) = Some (figures_text quantity)
 figures_of_answer (Err refusal) = None
 
--- the figures of a quantity
-abbrev pub quantity_figures : ChineseCountMethod → List ℕ → Option (List ℕ)
-quantity_figures method text = figures_of_answer (quantity_answer method (encode_utf8_all text))
+-- what is read of characters
+unfoldable pub quantity_of : ChineseCountMethod → List ℕ → Result Quantity Refusal
+quantity_of method text = quantity_answer method (encode_utf8_all text)
+
+-- the figures of that
+unfoldable pub quantity_figures : ChineseCountMethod → List ℕ → Option (List ℕ)
+quantity_figures method text = figures_of_answer (quantity_of method text)
 
 -- the last characters, the last one first, are a digit and before it a unit from 百 up, as in 一百二: with
 -- something after it that is said for 102 and for 120
@@ -34,7 +38,7 @@ ends_colloquially (d ∷ u ∷ front) = is_some (digit_of d) && is_unit_from 2 u
 ends_colloquially front = false
 
 -- a whole number in figures
-abbrev pub whole_text : ChineseCountMethod → List ℕ → Option (List ℕ)
+unfoldable pub whole_text : ChineseCountMethod → List ℕ → Option (List ℕ)
 whole_text method text =
     if ends_colloquially (reverse text) then None else quantity_figures method text
 
@@ -48,40 +52,36 @@ abbrev pub digits_text : List ℕ → List ℕ
 digits_text [] = []
 digits_text (c ∷ text) = figure_or_same c ++ digits_text text
 
--- what is before the first character of a set, and what after it
-abbrev pub before_first : List ℕ → List ℕ → List ℕ
-before_first these [] = []
-before_first these (c ∷ text) =
-    if char_set_contains these c then [] else c ∷ before_first these text
+-- what is before the Chinese point, and what follows from it on
+abbrev pub before_point : List ℕ → List ℕ
+before_point text = leading (λ c. not (is_point c)) text
 
-abbrev pub after_first : List ℕ → List ℕ → List ℕ
-after_first these [] = []
-after_first these (c ∷ text) = if char_set_contains these c then text else after_first these text
+abbrev pub from_point : List ℕ → List ℕ
+from_point text = after_leading (λ c. not (is_point c)) text
 
--- the characters begin with a digit, or a unit from 萬 up
-abbrev pub begins_kept : List ℕ → Bool
-begins_kept [] = false
-begins_kept (c ∷ text) = is_some (digit_of c) || is_unit_from 4 c
+-- a digit, or a unit from 萬 up
+abbrev pub is_kept : ℕ → Bool
+is_kept c = is_some (digit_of c) || is_unit_from 4 c
 
 -- a Chinese decimal without units, or whose last unit is from 萬 up: 三点五, 三点五万
-abbrev pub is_kept_decimal : List ℕ → Bool
-is_kept_decimal text = has_one_of (codes "点點") text && begins_kept (reverse text)
+unfoldable pub is_kept_decimal : List ℕ → Bool
+is_kept_decimal text = begins is_point (from_point text) && begins is_kept (reverse text)
 
 -- its whole part, its decimals one by one, and its units as they are
-abbrev pub decimal_text : ChineseCountMethod → List ℕ → Option (List ℕ)
+unfoldable pub decimal_text : ChineseCountMethod → List ℕ → Option (List ℕ)
 decimal_text method text =
-    and_text (whole_text method (before_first (codes "点點") text))
-    (Some (codes "." ++ digits_text (after_first (codes "点點") text)))
+    and_text (whole_text method (before_point text))
+    (Some (codes "." ++ digits_text (drop 1 (from_point text))))
 
--- each character is a unit of this rank or a greater one
-abbrev pub are_units_from : ℕ → List ℕ → Bool
-are_units_from least text = list_all (is_unit_from least) text
+-- 個
+unfoldable pub is_ge : ℕ → Bool
+is_ge c = char_set_contains (codes "个個") c
 
 -- the characters are units from 萬 up, with 個 before them or not
 abbrev pub is_end : List ℕ → Bool
 is_end [] = false
 is_end (c ∷ text) =
-    (is_unit_from 4 c || char_set_contains (codes "个個") c) && are_units_from 4 text
+    (is_unit_from 4 c || is_ge c) && list_all (is_unit_from 4) text
 
 -- those with which a section ends, and what is before them
 abbrev pub end_of : List ℕ → List ℕ
@@ -92,22 +92,12 @@ abbrev pub before_end : List ℕ → List ℕ
 before_end [] = []
 before_end (c ∷ text) = if is_end (c ∷ text) then [] else c ∷ before_end text
 
--- the zeros with which it begins, and what is after them
-abbrev pub zeros_of : List ℕ → List ℕ
-zeros_of [] = []
-zeros_of (c ∷ text) = if char_set_contains (codes "零〇") c then c ∷ zeros_of text else []
-
-abbrev pub after_zeros : List ℕ → List ℕ
-after_zeros [] = []
-after_zeros (c ∷ text) =
-    if char_set_contains (codes "零〇") c then after_zeros text else c ∷ text
-
 -- a section: its zeros, a whole number in figures, and its units: 零800万 of 零八百万
-abbrev pub section_text : ChineseCountMethod → List ℕ → Option (List ℕ)
+unfoldable pub section_text : ChineseCountMethod → List ℕ → Option (List ℕ)
 section_text method section =
-    and_text (Some (encode_utf8_all (zeros_of section)))
-    (and_text (whole_text method (before_end (after_zeros section)))
-    (Some (encode_utf8_all (end_of (after_zeros section)))))
+    let rest = after_leading is_zero section in
+    and_text (Some (encode_utf8_all (leading is_zero section)))
+    (and_text (whole_text method (before_end rest)) (Some (encode_utf8_all (end_of rest))))
 
 -- a section ends after this character: a unit from 萬 up that is greater than each unit after it
 abbrev pub ends_section : ℕ → List ℕ → Bool
@@ -123,30 +113,26 @@ sections_text method section (c ∷ text) =
 
 -- the last characters, the last one first, are a digit and before it a unit from 億 up that is greater
 -- than each one before it, and that neither a unit from 萬 up nor 個 is directly before: 三亿二
-abbrev pub is_tenth : List ℕ → Bool
+unfoldable pub is_tenth : List ℕ → Bool
 is_tenth (d ∷ u ∷ front) =
     is_some (digit_of d)
     && (is_unit_from 5 u && (are_below (rank_of u) front
-    && not (begins_unit_from 4 front || begins_with (codes "个個") front)))
+    && not (begins (λ c. is_unit_from 4 c || is_ge c) front)))
 is_tenth front = false
 
 -- what is before that unit as a whole number, the digit as a decimal, and the unit: 3.2亿
-abbrev pub tenth_text : ChineseCountMethod → List ℕ → Option (List ℕ)
+unfoldable pub tenth_text : ChineseCountMethod → List ℕ → Option (List ℕ)
 tenth_text method (d ∷ u ∷ front) =
     and_text (whole_text method (reverse front))
     (Some (codes "." ++ figure_or_same d ++ encode_utf8 u))
 tenth_text method front = None
 
--- each character is a digit that is no figure
-abbrev pub are_chinese_digits : List ℕ → Bool
-are_chinese_digits text = list_all is_chinese_digit text
-
 -- the number, by the first of these rules that fits
-abbrev pub number_text : ChineseCountMethod → List ℕ → Option (List ℕ)
+unfoldable pub number_text : ChineseCountMethod → List ℕ → Option (List ℕ)
 number_text method text =
-    if begins_with figures text then Some (encode_utf8_all text)
-    else if are_chinese_digits text then Some (digits_text text)
+    if begins is_figure text then Some (encode_utf8_all text)
+    else if list_all is_chinese_digit text then Some (digits_text text)
     else if is_kept_decimal text then decimal_text method text
-    else if begins_unit_from 4 (reverse text) then sections_text method [] text
+    else if begins (is_unit_from 4) (reverse text) then sections_text method [] text
     else if is_tenth (reverse text) then tenth_text method (reverse text)
     else quantity_figures method text

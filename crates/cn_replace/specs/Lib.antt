@@ -6,6 +6,7 @@ pub mod Joined
 pub mod Kept
 pub mod KeptNumbers
 pub mod Pieces
+pub mod Private
 pub mod Replaced
 pub mod SinkLaws
 pub mod Sinks

@@ -1,5 +1,5 @@
 -- What was put to a sink: how it was, and how it is.
-use Rattle.std.specs.Prelude.{◌≡◌, ℕ, ◌+◌, ◌-◌, ◌^◌, ◌≤◌, min, Bool, true, false, List, ◌++◌, length, take, drop, Option, Some, None}
+use Rattle.std.specs.Prelude.{◌≡◌, ℕ, ◌+◌, ◌-◌, ◌^◌, ◌≤◌, min, List, ◌++◌, length, take, drop}
 
 -- these bytes were put behind those that a string had
 abbrev pub AppendsTo : List ℕ → List ℕ → List ℕ → Type 0
@@ -16,10 +16,3 @@ pub record PutsTo (old_count : ℕ) (old : List ℕ) (new_count : ℕ) (new byte
   pub size : length new ≡ length old
   pub counted : old_count + length bytes ≤ length old → new_count ≡ old_count + length bytes
   pub put : old_count + length bytes ≤ length old → new ≡ put_at old_count old bytes
-
--- a text was put where there is one, and it was said whether there is; where there is none, nothing is
--- known of what was put
-abbrev pub PutsText : {S : Type 0} → (S → S → List ℕ → Type 0) → S → S → Option (List ℕ) → Bool
-    → Type 0
-PutsText took old new (Some text) is_there = (is_there ≡ true) × took old new text
-PutsText took old new None is_there = is_there ≡ false

@@ -1,28 +1,39 @@
 // What is in figures alone, in ASCII, without commas and without leading zeros.
+ghost use Rattle.std.specs.Prelude.{◌≡◌, ◌&&◌, ◌||◌, not, chars, OnOk};
+ghost use Rattle.cn_replace.specs.Pieces.{is_figure};
+ghost use Rattle.cn_replace.specs.Canonical.{are_figures, ascii_of, ascii_unless, canonical_text, is_leading_zero, is_zero_figure};
+
 use crate::Sink;
-use crate::pieces::{FIGURES, begins_with, is_one_of};
+use crate::pieces::{CharTest, Figure, all, begins};
 use cn_core::split_first_char;
 
-// A character of what is in figures alone.
-const OF_FIGURES: &[char] = &[
-    '0', '1', '2', '3', '4', '5', '6', '7', '8', '9', '０', '１', '２', '３', '４', '５', '６',
-    '７', '８', '９', '.', '．', ',', '，', '-', '−', '－',
-];
+// A figure, a point, a comma or a sign.
+#[derive(Copy, Clone)]
+struct OfFigures;
+
+impl CharTest for OfFigures {
+    ghost use Rattle.cn_replace.specs.Canonical.{is_of_figures};
+
+    ghost test = { λ _. is_of_figures };
+
+    #[tactic(auto, unfolding(crate::specs::Canonical::is_of_figures, crate::specs::Pieces::is_figure))]
+    fn passes(self, c: char) -> bool {
+        Figure.passes(c) || matches!(c, '.' | '．' | ',' | '，' | '-' | '−' | '－')
+    }
+}
 
 /// Whether each character is a figure, a point, a comma or a sign.
-pub fn are_figures(text: &str) -> bool {
-    let mut rest = text;
-    'looking: while let Some((c, others)) = split_first_char(rest) {
-        if !is_one_of(OF_FIGURES, c) {
-            return false;
-        }
-        rest = others;
-    }
-    true
+pub fn are_figures(text: &str) -> bool
+    ensures { result ≡ are_figures (chars text.now) }
+{
+    all(OfFigures, text)
 }
 
 // A character in ASCII, or nothing for a comma.
-fn ascii_of(c: char) -> &'static str {
+#[tactic(auto, unfolding(crate::specs::Canonical::ascii_of))]
+fn ascii_of(c: char) -> &'static str
+    ensures { result.now ≡ ascii_of c }
+{
     match c {
         '0' | '０' => "0",
         '1' | '１' => "1",
@@ -40,20 +51,43 @@ fn ascii_of(c: char) -> &'static str {
     }
 }
 
-// Whether a character is a zero before a figure, with no figure before it.
-fn is_leading_zero(has_figure: bool, c: char, after: &str) -> bool {
-    !has_figure && matches!(c, '0' | '０') && begins_with(FIGURES, after)
+#[tactic(auto, unfolding(crate::specs::Canonical::is_zero_figure))]
+fn is_zero_figure(c: char) -> bool
+    ensures { result ≡ is_zero_figure c }
+{
+    matches!(c, '0' | '０')
+}
+
+fn is_leading_zero(has_figure: bool, c: char, after: &str) -> bool
+    ensures { result ≡ is_leading_zero has_figure c (chars after.now) }
+{
+    !has_figure && is_zero_figure(c) && begins(Figure, after)
+}
+
+// The same, or nothing.
+fn ascii_unless(is_left_out: bool, c: char) -> &'static str
+    ensures { result.now ≡ ascii_unless is_left_out c }
+{
+    if is_left_out { "" } else { ascii_of(c) }
+}
+
+// Whether a figure is written before what follows this character.
+fn has_figure_after(leads: bool, has_figure: bool, c: char) -> bool
+    ensures { result ≡ (not leads && (has_figure || is_figure c)) }
+{
+    !leads && (has_figure || Figure.passes(c))
 }
 
 /// Puts what is in figures alone.
-pub fn put_canonical<S: Sink>(sink: &mut S, text: &str) -> Result<(), S::Error> {
+pub fn put_canonical<S: Sink>(sink: &mut S, text: &str) -> Result<(), S::Error>
+    ensures { OnOk result (S.took sink.old sink.new (canonical_text (chars text.now))) }
+{
     let mut has_figure = false;
     let mut rest = text;
     'putting: while let Some((c, others)) = split_first_char(rest) {
-        if !is_leading_zero(has_figure, c, others) {
-            sink.put(ascii_of(c))?;
-            has_figure = has_figure || is_one_of(FIGURES, c);
-        }
+        let leads = is_leading_zero(has_figure, c, others);
+        sink.put(ascii_unless(leads, c))?;
+        has_figure = has_figure_after(leads, has_figure, c);
         rest = others;
     }
     Ok(())

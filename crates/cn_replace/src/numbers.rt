@@ -1,19 +1,47 @@
 // The new text of a number without its sign, in the kept style.
-ghost use Rattle.std.specs.Prelude.{◌≡◌, chars, reverse, OnOk, IfOk};
+ghost use Rattle.std.specs.Prelude.{◌≡◌, ◌&&◌, ◌||◌, ◌∷◌, [], ◌++◌, ℕ, not, true, false, chars, drop, encode_utf8_all, take, codes, OnOk, IfOk, Some, MatchOption, if◌then◌else◌};
+ghost use Rattle.cn_core.specs.Characters.{rank_of};
+ghost use Rattle.cn_express.specs.Figures.{figures_text};
+ghost use Rattle.cn_find.specs.Spans.{in_front};
+ghost use Rattle.cn_judge.specs.Answer.{answer_of};
+ghost use Rattle.cn_quantity.specs.Units.{are_below};
+ghost use Rattle.cn_replace.specs.KeptNumbers.{and_text, before_end, before_point, digits_text, decimal_text, end_of, ends_colloquially, ends_section, figure_or_same, from_point, is_end, is_ge, is_kept_decimal, is_tenth, number_text, quantity_figures, quantity_of, section_text, sections_text, tenth_text, whole_text};
+ghost use Rattle.cn_replace.specs.Pieces.{begins, is_unit_from};
+ghost use Rattle.cn_replace.specs.Private.{PutsText};
 
 use crate::Sink;
 use crate::pieces::{
-    FIGURES, POINTS, ZEROS, are_units_from, before_end, begins_with, ends_unit_from, ends_with,
-    is_one_of, is_unit_from, split_at_first, split_nearest,
+    Below, CharTest, ChineseDigit, Figure, NoPoint, UnitFrom, Zero, all, before_rest, begins, ends,
+    split_last, split_leading, split_nearest,
 };
 use cn_core::{ChineseCountMethod, Unit, digit_of, split_first_char, unit_of};
+use cn_judge::ChineseToNumberError;
 use cn_express::{MOST_FIGURES_BYTES, put_figures};
 use cn_quantity::{Quantity, chinese_to_quantity};
 
+/// Puts the characters of a text.
+pub fn put_same<S: Sink>(sink: &mut S, text: &str) -> Result<(), S::Error>
+    ensures { OnOk result (S.took sink.old sink.new (encode_utf8_all (chars text.now))) }
+{
+    sink.put(text)
+}
+
 /// Puts the figures of a quantity.
-pub fn put_quantity<S: Sink>(sink: &mut S, quantity: Quantity) -> Result<(), S::Error> {
+pub fn put_quantity<S: Sink>(sink: &mut S, quantity: Quantity) -> Result<(), S::Error>
+    ensures { OnOk result (S.took sink.old sink.new (figures_text quantity)) }
+{
     let mut room = [0; MOST_FIGURES_BYTES];
     sink.put(put_figures(&mut room, quantity))
+}
+
+/// The quantity of a text.
+pub fn quantity_of(
+    method: ChineseCountMethod,
+    text: &str,
+) -> Result<Quantity, ChineseToNumberError>
+    ensures { answer_of (λ q. q) result ≡ quantity_of method (chars text.now) }
+{
+    chinese_to_quantity(text, method)
 }
 
 /// Puts the figures of the quantity of a text, if it is one, and returns whether it is.
@@ -21,8 +49,11 @@ pub fn put_read<S: Sink>(
     sink: &mut S,
     method: ChineseCountMethod,
     text: &str,
-) -> Result<bool, S::Error> {
-    match chinese_to_quantity(text, method) {
+) -> Result<bool, S::Error>
+    ensures { IfOk result
+        (PutsText S.took sink.old sink.new (quantity_figures method (chars text.now))) }
+{
+    match quantity_of(method, text) {
         Ok(quantity) => {
             put_quantity(sink, quantity)?;
             Ok(true)
@@ -32,19 +63,28 @@ pub fn put_read<S: Sink>(
 }
 
 // Whether the text ends with a digit directly after a unit from 百 up.
-fn ends_colloquially(text: &str) -> bool {
+fn ends_colloquially(text: &str) -> bool
+    ensures { result ≡ ends_colloquially (in_front text.now) }
+{
     let Some((digit, head)) = split_nearest(text) else {
         return false;
     };
-    digit_of(digit).is_some() && ends_unit_from(Unit::Bai, head)
+    match split_nearest(head) {
+        Some((unit, _)) => digit_of(digit).is_some() && UnitFrom { least: Unit::Bai }.passes(unit),
+        None => false,
+    }
 }
 
 // Puts a whole number in figures.
+#[tactic(auto, unfolding(crate::specs::KeptNumbers::whole_text))]
 fn put_whole<S: Sink>(
     sink: &mut S,
     method: ChineseCountMethod,
     text: &str,
-) -> Result<bool, S::Error> {
+) -> Result<bool, S::Error>
+    ensures { IfOk result
+        (PutsText S.took sink.old sink.new (whole_text method (chars text.now))) }
+{
     if ends_colloquially(text) {
         return Ok(false);
     }
@@ -52,7 +92,9 @@ fn put_whole<S: Sink>(
 }
 
 // The figure of a digit.
-fn figure_of(digit: u8) -> &'static str {
+fn figure_of(digit: u8) -> &'static str
+    ensures { result.now ≡ take 1 (drop digit (codes "0123456789")) }
+{
     match digit {
         0 => "0",
         1 => "1",
@@ -68,30 +110,67 @@ fn figure_of(digit: u8) -> &'static str {
     }
 }
 
-// Puts a digit as its figure, and any other character, which is this piece, as it is.
-fn put_figure_or_same<S: Sink>(sink: &mut S, c: char, piece: &str) -> Result<(), S::Error> {
+// Puts the first character of a text, which is before the rest: a digit as its figure, and any other as it is.
+fn put_figure_or_same<S: Sink>(sink: &mut S, c: char, text: &str, rest: &str) -> Result<(), S::Error>
+    requires { chars text.now ≡ c ∷ chars rest.now }
+    ensures { OnOk result (S.took sink.old sink.new (figure_or_same c)) }
+{
     match digit_of(c) {
         Some(digit) => sink.put(figure_of(digit)),
-        None => sink.put(piece),
+        None => put_same(sink, before_rest(text, rest)),
     }
 }
 
 // Puts digits as figures, one by one.
-fn put_digits<S: Sink>(sink: &mut S, text: &str) -> Result<(), S::Error> {
+fn put_digits<S: Sink>(sink: &mut S, text: &str) -> Result<(), S::Error>
+    ensures { OnOk result (S.took sink.old sink.new (digits_text (chars text.now))) }
+{
     let mut rest = text;
     'putting: while let Some((c, others)) = split_first_char(rest) {
-        put_figure_or_same(sink, c, before_end(rest, others))?;
+        put_figure_or_same(sink, c, rest, others)?;
         rest = others;
     }
     Ok(())
 }
 
-// Whether the text ends with a digit or a unit from 萬 up.
-fn ends_kept(text: &str) -> bool {
-    match split_nearest(text) {
-        Some((c, _)) => digit_of(c).is_some() || is_unit_from(Unit::Wan, c),
-        None => false,
+// What a decimal may end with: a digit or a unit from 萬 up.
+#[derive(Copy, Clone)]
+struct Kept;
+
+impl CharTest for Kept {
+    ghost use Rattle.cn_replace.specs.KeptNumbers.{is_kept};
+
+    ghost test = { λ _. is_kept };
+
+    fn passes(self, c: char) -> bool {
+        digit_of(c).is_some() || UnitFrom { least: Unit::Wan }.passes(c)
     }
+}
+
+// What is before the Chinese point of a decimal that ends so, and after it.
+#[tactic(auto, unfolding(crate::specs::KeptNumbers::is_kept_decimal))]
+fn split_decimal(text: &str) -> Option<(&str, &str)>
+    ensures { MatchOption result (is_kept_decimal (chars text.now) ≡ false)
+        (λ r. (is_kept_decimal (chars text.now) ≡ true)
+        × (chars r.0.now ≡ before_point (chars text.now))
+        × (chars r.1.now ≡ drop 1 (from_point (chars text.now)))) }
+{
+    let (whole, rest) = split_leading(NoPoint, text);
+    let (c, decimals) = split_first_char(rest)?;
+    if NoPoint.passes(c) || !ends(Kept, text) {
+        return None;
+    }
+    Some((whole, decimals))
+}
+
+// Puts a point and the decimals with their units.
+fn put_decimals<S: Sink>(sink: &mut S, decimals: &str) -> Result<bool, S::Error>
+    ensures { IfOk result (PutsText S.took sink.old sink.new
+        (Some (codes "." ++ digits_text (chars decimals.now)))) }
+{
+    sink.put(".")?;
+    put_digits(sink, decimals)?;
+    Ok(true)
 }
 
 // Puts a decimal whose whole part and decimals with units these are.
@@ -100,40 +179,35 @@ fn put_decimal<S: Sink>(
     method: ChineseCountMethod,
     whole: &str,
     decimals: &str,
-) -> Result<bool, S::Error> {
+) -> Result<bool, S::Error>
+    ensures { IfOk result (PutsText S.took sink.old sink.new
+        (and_text (whole_text method (chars whole.now))
+        (Some (codes "." ++ digits_text (chars decimals.now))))) }
+{
     if !put_whole(sink, method, whole)? {
         return Ok(false);
     }
-    sink.put(".")?;
-    put_digits(sink, decimals)?;
-    Ok(true)
-}
-
-// The zeros with which a section begins, and what is after them.
-fn split_zeros(section: &str) -> (&str, &str) {
-    let mut rest = section;
-    'passing: while let Some((c, others)) = split_first_char(rest) {
-        if !is_one_of(ZEROS, c) {
-            break;
-        }
-        rest = others;
-    }
-    (before_end(section, rest), rest)
+    put_decimals(sink, decimals)
 }
 
 // Whether the text is units from 萬 up, with 個 before them or not.
-fn is_end(text: &str) -> bool {
+#[tactic(auto, unfolding(crate::specs::KeptNumbers::is_ge))]
+fn is_end(text: &str) -> bool
+    ensures { result ≡ is_end (chars text.now) }
+{
+    let great = UnitFrom { least: Unit::Wan };
     match split_first_char(text) {
-        Some((c, others)) => {
-            (is_unit_from(Unit::Wan, c) || matches!(c, '个' | '個'))
-                && are_units_from(Unit::Wan, others)
-        }
+        Some((c, others)) => (great.passes(c) || matches!(c, '个' | '個')) && all(great, others),
         None => false,
     }
 }
 
 // What is before the units with which a section ends, and those.
-fn split_end(section: &str) -> (&str, &str) {
+#[tactic(auto, using(crate::proofs::Passing::passing_all, crate::proofs::Passing::end_more, crate::proofs::Passing::passing_end, crate::proofs::Passing::passing_before))]
+fn split_end(section: &str) -> (&str, &str)
+    ensures before { chars result.0.now ≡ before_end (chars section.now) }
+    ensures end { chars result.1.now ≡ end_of (chars section.now) }
+{
     let mut rest = section;
     'passing: while let Some((_, others)) = split_first_char(rest) {
         if is_end(rest) {
@@ -141,7 +215,25 @@ fn split_end(section: &str) -> (&str, &str) {
         }
         rest = others;
     }
-    (before_end(section, rest), rest)
+    (before_rest(section, rest), rest)
+}
+
+// Puts what a section is without its zeros.
+fn put_counted<S: Sink>(
+    sink: &mut S,
+    method: ChineseCountMethod,
+    text: &str,
+) -> Result<bool, S::Error>
+    ensures { IfOk result (PutsText S.took sink.old sink.new
+        (and_text (whole_text method (before_end (chars text.now)))
+        (Some (encode_utf8_all (end_of (chars text.now)))))) }
+{
+    let (whole, end) = split_end(text);
+    if !put_whole(sink, method, whole)? {
+        return Ok(false);
+    }
+    put_same(sink, end)?;
+    Ok(true)
 }
 
 // Puts a section.
@@ -149,33 +241,21 @@ fn put_section<S: Sink>(
     sink: &mut S,
     method: ChineseCountMethod,
     section: &str,
-) -> Result<bool, S::Error> {
-    let (zeros, rest) = split_zeros(section);
-    let (whole, end) = split_end(rest);
-    sink.put(zeros)?;
-    if !put_whole(sink, method, whole)? {
-        return Ok(false);
-    }
-    sink.put(end)?;
-    Ok(true)
-}
-
-// Whether each unit of a text is smaller than this one.
-fn are_below(greatest: Unit, text: &str) -> bool {
-    let mut rest = text;
-    'comparing: while let Some((c, others)) = split_first_char(rest) {
-        if is_unit_from(greatest, c) {
-            return false;
-        }
-        rest = others;
-    }
-    true
+) -> Result<bool, S::Error>
+    ensures { IfOk result
+        (PutsText S.took sink.old sink.new (section_text method (chars section.now))) }
+{
+    let (zeros, rest) = split_leading(Zero, section);
+    put_same(sink, zeros)?;
+    put_counted(sink, method, rest)
 }
 
 // Whether a section ends after a character.
-fn ends_section(c: char, after: &str) -> bool {
+fn ends_section(c: char, after: &str) -> bool
+    ensures { result ≡ ends_section c (chars after.now) }
+{
     match unit_of(c) {
-        Some(unit) => unit >= Unit::Wan && are_below(unit, after),
+        Some(unit) => unit >= Unit::Wan && all(Below { greatest: unit }, after),
         None => false,
     }
 }
@@ -185,12 +265,15 @@ fn put_sections<S: Sink>(
     sink: &mut S,
     method: ChineseCountMethod,
     text: &str,
-) -> Result<bool, S::Error> {
+) -> Result<bool, S::Error>
+    ensures { IfOk result
+        (PutsText S.took sink.old sink.new (sections_text method [] (chars text.now))) }
+{
     let mut start = text;
     let mut rest = text;
     'putting: while let Some((c, others)) = split_first_char(rest) {
         if ends_section(c, others) {
-            if !put_section(sink, method, before_end(start, others))? {
+            if !put_section(sink, method, before_rest(start, others))? {
                 return Ok(false);
             }
             start = others;
@@ -200,67 +283,97 @@ fn put_sections<S: Sink>(
     Ok(true)
 }
 
-// A numeral that ends with a great unit and one digit.
+// A unit from 萬 up, or 個.
 #[derive(Copy, Clone)]
-struct Tenth<'a> {
-    // What is before the unit.
-    front: &'a str,
-    // The unit, and the digit after it.
-    unit: &'a str,
-    digit: char,
+struct Counting;
+
+impl CharTest for Counting {
+    ghost use Rattle.std.specs.Prelude.{◌||◌};
+    ghost use Rattle.cn_replace.specs.KeptNumbers.{is_ge};
+    ghost use Rattle.cn_replace.specs.Pieces.{is_unit_from};
+
+    ghost test = { λ _ c. is_unit_from 4 c || is_ge c };
+
+    #[tactic(auto, unfolding(crate::specs::KeptNumbers::is_ge))]
+    fn passes(self, c: char) -> bool {
+        UnitFrom { least: Unit::Wan }.passes(c) || matches!(c, '个' | '個')
+    }
 }
 
-// The parts of such a numeral, where a decimal can be written for its digit.
-fn split_tenth(text: &str) -> Option<Tenth<'_>> {
-    let (digit, head) = split_nearest(text)?;
-    let (c, front) = split_nearest(head)?;
-    let unit = unit_of(c)?;
-    if digit_of(digit).is_none()
-        || unit < Unit::Yi
-        || !are_below(unit, front)
-        || ends_unit_from(Unit::Wan, front)
-        || ends_with(&['个', '個'], front)
-    {
+// Whether a unit that follows this text is from 億 up and greater than each before it, and what is
+// directly before it counts nothing.
+fn may_have_tenths(front: &str, c: char) -> bool
+    ensures { result ≡ (is_unit_from 5 c && (are_below (rank_of c) (chars front.now)
+        && not (begins (λ d. is_unit_from 4 d || is_ge d) (in_front front.now)))) }
+{
+    match unit_of(c) {
+        Some(unit) => {
+            unit >= Unit::Yi && all(Below { greatest: unit }, front) && !ends(Counting, front)
+        }
+        None => false,
+    }
+}
+
+// Puts a point, a digit as a decimal, and the unit.
+fn put_tenth<S: Sink>(sink: &mut S, c: char, digit: &str, unit: &str) -> Result<bool, S::Error>
+    requires { chars digit.now ≡ c ∷ [] }
+    ensures { IfOk result (PutsText S.took sink.old sink.new
+        (Some (codes "." ++ figure_or_same c ++ encode_utf8_all (chars unit.now)))) }
+{
+    sink.put(".")?;
+    put_figure_or_same(sink, c, digit, "")?;
+    put_same(sink, unit)?;
+    Ok(true)
+}
+
+// A numeral that ends with a unit from 億 up and one digit: what is before them, the digit, its piece
+// and that of the unit.
+#[derive(Copy, Clone)]
+struct Tenth<'a> {
+    front: &'a str,
+    c: char,
+    digit: &'a str,
+    unit: &'a str,
+    ghost is_digit: { chars digit.now ≡ c ∷ [] },
+}
+
+// The parts of such a numeral.
+#[tactic(auto, unfolding(crate::specs::KeptNumbers::is_tenth))]
+fn split_tenth(text: &str) -> Option<Tenth<'_>>
+    ensures { MatchOption result (is_tenth (in_front text.now) ≡ false)
+        (λ r. (is_tenth (in_front text.now) ≡ true) × ((u : ℕ)
+        × (in_front text.now ≡ r.c ∷ u ∷ in_front r.front.now) × (chars r.unit.now ≡ u ∷ []))) }
+{
+    let (c, head, digit) = split_last(text)?;
+    let (u, front, unit) = split_last(head)?;
+    if digit_of(c).is_none() || !may_have_tenths(front, u) {
         return None;
     }
     Some(Tenth {
         front,
-        unit: after_front(head, front),
+        c,
         digit,
+        unit,
     })
 }
 
-// What is after the beginning of a text.
-fn after_front<'a>(text: &'a str, front: &str) -> &'a str {
-    let (_, rest) = text.split_at(front.len());
-    rest
-}
-
-// Puts such a numeral.
-fn put_tenth<S: Sink>(
+// Puts a numeral that does not end with a unit from 萬 up.
+fn put_small<S: Sink>(
     sink: &mut S,
     method: ChineseCountMethod,
-    tenth: Tenth<'_>,
-) -> Result<bool, S::Error> {
+    text: &str,
+) -> Result<bool, S::Error>
+    ensures { IfOk result (PutsText S.took sink.old sink.new
+        (if is_tenth (in_front text.now) then tenth_text method (in_front text.now)
+        else quantity_figures method (chars text.now))) }
+{
+    let Some(tenth) = split_tenth(text) else {
+        return put_read(sink, method, text);
+    };
     if !put_whole(sink, method, tenth.front)? {
         return Ok(false);
     }
-    sink.put(".")?;
-    put_figure_or_same(sink, tenth.digit, "")?;
-    sink.put(tenth.unit)?;
-    Ok(true)
-}
-
-// Whether each character is a digit that is no figure.
-fn are_chinese_digits(text: &str) -> bool {
-    let mut rest = text;
-    'looking: while let Some((c, others)) = split_first_char(rest) {
-        if digit_of(c).is_none() || c.is_ascii_digit() {
-            return false;
-        }
-        rest = others;
-    }
-    true
+    put_tenth(sink, tenth.c, tenth.digit, tenth.unit)
 }
 
 // Puts a numeral by its units.
@@ -268,33 +381,40 @@ fn put_numeral<S: Sink>(
     sink: &mut S,
     method: ChineseCountMethod,
     text: &str,
-) -> Result<bool, S::Error> {
-    if ends_unit_from(Unit::Wan, text) {
-        return put_sections(sink, method, text);
-    }
-    match split_tenth(text) {
-        Some(tenth) => put_tenth(sink, method, tenth),
-        None => put_read(sink, method, text),
+) -> Result<bool, S::Error>
+    ensures { IfOk result (PutsText S.took sink.old sink.new
+        (if begins (is_unit_from 4) (in_front text.now) then sections_text method [] (chars text.now)
+        else if is_tenth (in_front text.now) then tenth_text method (in_front text.now)
+        else quantity_figures method (chars text.now))) }
+{
+    if ends(UnitFrom { least: Unit::Wan }, text) {
+        put_sections(sink, method, text)
+    } else {
+        put_small(sink, method, text)
     }
 }
 
 /// Puts a number without its sign in the kept style, and returns whether it has a text there. If not,
 /// anything may have been put.
+#[tactic(auto, unfolding(crate::specs::KeptNumbers::number_text, crate::specs::KeptNumbers::decimal_text))]
 pub fn put_number<S: Sink>(
     sink: &mut S,
     method: ChineseCountMethod,
     text: &str,
-) -> Result<bool, S::Error> {
-    if begins_with(FIGURES, text) {
-        sink.put(text)?;
+) -> Result<bool, S::Error>
+    ensures { IfOk result
+        (PutsText S.took sink.old sink.new (number_text method (chars text.now))) }
+{
+    if begins(Figure, text) {
+        put_same(sink, text)?;
         return Ok(true);
     }
-    if are_chinese_digits(text) {
+    if all(ChineseDigit, text) {
         put_digits(sink, text)?;
         return Ok(true);
     }
-    match split_at_first(POINTS, text) {
-        Some((whole, decimals)) if ends_kept(text) => put_decimal(sink, method, whole, decimals),
-        _ => put_numeral(sink, method, text),
+    match split_decimal(text) {
+        Some((whole, decimals)) => put_decimal(sink, method, whole, decimals),
+        None => put_numeral(sink, method, text),
     }
 }

@@ -1,124 +1,145 @@
-// Sets of characters, and what a text has of them.
-ghost use Rattle.std.specs.Prelude.{◌≡◌, ◌×◌, chars, true, false, MatchOption};
-ghost use Rattle.std.specs.Char.{char_set_contains};
-ghost use Rattle.std.specs.List.{list_all};
-ghost use Rattle.cn_core.specs.Characters.{rank};
-ghost use Rattle.cn_find.specs.Belongs.{begins_with};
+// Tests of characters, and the pieces of a text that pass them.
+ghost use Rattle.std.specs.Prelude.{◌≡◌, ℕ, Bool, true, ◌∷◌, [], ◌++◌, chars, not, nat_lt, MatchOption};
+ghost use Rattle.std.specs.Char.{is_ascii_alphabetic};
+ghost use Rattle.std.specs.List.{list_all, list_any};
+ghost use Rattle.std.specs.Option.{option_map_or};
+ghost use Rattle.cn_core.specs.Characters.{digit_of, rank, rank_of};
+ghost use Rattle.cn_find.specs.Belongs.{is_chinese_digit};
 ghost use Rattle.cn_find.specs.Spans.{in_front};
-ghost use Rattle.cn_replace.specs.KeptNumbers.{after_first, are_units_from, before_first};
-ghost use Rattle.cn_replace.specs.Pieces.{begins_letter_or_figure, begins_unit_from, figures, has_one_of, has_unit, is_letter_or_figure, is_unit_from};
+ghost use Rattle.cn_replace.specs.Pieces.{after_leading, begins, is_figure, is_letter_or_figure, is_point, is_unit_from, is_zero, leading};
+ghost use Rattle.cn_replace.specs.Private.{IsEnd};
 
-use cn_core::{Unit, split_first_char, unit_of};
+use cn_core::{Unit, digit_of, split_first_char, unit_of};
 use cn_judge::split_last_char;
 
-/// The figures: the ASCII digits and their full-width forms.
-pub const FIGURES: &[char] = &[
-    '0', '1', '2', '3', '4', '5', '6', '7', '8', '9', '０', '１', '２', '３', '４', '５', '６',
-    '７', '８', '９',
-];
+/// A test of characters.
+pub trait CharTest: Copy {
+    ghost test: { Self → ℕ → Bool };
 
-/// The characters that part a numeral from its decimals.
-pub const POINTS: &[char] = &['点', '點'];
+    /// Whether a character passes.
+    fn passes(self, c: char) -> bool
+        ensures { result ≡ test self c };
+}
 
-/// The zeros that are no figures.
-pub const ZEROS: &[char] = &['零', '〇'];
+/// A figure: an ASCII digit or its full-width form.
+#[derive(Copy, Clone)]
+pub struct Figure;
 
-/// Whether a character is one of a set.
-pub fn is_one_of(set: &[char], c: char) -> bool
-    ensures { result ≡ char_set_contains set.now c }
-{
-    match set.split_first() {
-        Some((first, others)) => *first == c || is_one_of(others, c),
-        None => false,
+impl CharTest for Figure {
+    ghost test = { λ _. is_figure };
+
+    #[tactic(auto, unfolding(crate::specs::Pieces::is_figure))]
+    fn passes(self, c: char) -> bool {
+        matches!(
+            c,
+            '0' | '1' | '2' | '3' | '4' | '5' | '6' | '7' | '8' | '9' | '０' | '１' | '２' | '３' | '４' | '５' | '６' | '７' | '８' | '９'
+        )
     }
 }
 
-/// Whether the text begins with a character of the set.
-pub fn begins_with(set: &[char], text: &str) -> bool
-    ensures { result ≡ begins_with set.now (chars text.now) }
-{
-    match split_first_char(text) {
-        Some((c, _)) => is_one_of(set, c),
-        None => false,
+/// What is no Chinese point.
+#[derive(Copy, Clone)]
+pub struct NoPoint;
+
+impl CharTest for NoPoint {
+    ghost test = { λ _ c. not (is_point c) };
+
+    #[tactic(auto, unfolding(crate::specs::Pieces::is_point))]
+    fn passes(self, c: char) -> bool {
+        !matches!(c, '点' | '點')
     }
 }
 
-/// Whether the text ends with a character of the set.
-pub fn ends_with(set: &[char], text: &str) -> bool
-    ensures { result ≡ begins_with set.now (in_front text.now) }
-{
-    match split_nearest(text) {
-        Some((c, _)) => is_one_of(set, c),
-        None => false,
+/// A zero that is no figure.
+#[derive(Copy, Clone)]
+pub struct Zero;
+
+impl CharTest for Zero {
+    ghost test = { λ _. is_zero };
+
+    #[tactic(auto, unfolding(crate::specs::Pieces::is_zero))]
+    fn passes(self, c: char) -> bool {
+        matches!(c, '零' | '〇')
     }
 }
 
-/// Whether some character is one of the set.
-pub fn has_one_of(set: &[char], text: &str) -> bool
-    ensures { result ≡ has_one_of set.now (chars text.now) }
-{
-    let mut rest = text;
-    'looking: while let Some((c, others)) = split_first_char(rest) {
-        if is_one_of(set, c) {
-            return true;
+/// A digit of numerals that is no figure.
+#[derive(Copy, Clone)]
+pub struct ChineseDigit;
+
+impl CharTest for ChineseDigit {
+    ghost test = { λ _. is_chinese_digit };
+
+    fn passes(self, c: char) -> bool {
+        digit_of(c).is_some() && !c.is_ascii_digit()
+    }
+}
+
+/// An ASCII letter.
+#[derive(Copy, Clone)]
+pub struct Letter;
+
+impl CharTest for Letter {
+    ghost test = { λ _. is_ascii_alphabetic };
+
+    fn passes(self, c: char) -> bool {
+        c.is_ascii_alphabetic()
+    }
+}
+
+/// An ASCII letter or a figure.
+#[derive(Copy, Clone)]
+pub struct LetterOrFigure;
+
+impl CharTest for LetterOrFigure {
+    ghost test = { λ _. is_letter_or_figure };
+
+    fn passes(self, c: char) -> bool {
+        c.is_ascii_alphabetic() || Figure.passes(c)
+    }
+}
+
+/// A unit that is no smaller than this one.
+#[derive(Copy, Clone)]
+pub struct UnitFrom {
+    pub least: Unit,
+}
+
+impl CharTest for UnitFrom {
+    ghost test = { λ t. is_unit_from (rank t.least) };
+
+    fn passes(self, c: char) -> bool {
+        match unit_of(c) {
+            Some(unit) => unit >= self.least,
+            None => false,
         }
-        rest = others;
     }
-    false
 }
 
-/// The last character, and what is before it.
-#[tactic(auto, using(crate::proofs::Nearest::reverse_last))]
-pub fn split_nearest(text: &str) -> Option<(char, &str)>
-    ensures { MatchOption result (in_front text.now ≡ [])
-        (λ r. in_front text.now ≡ r.0 ∷ in_front r.1.now) }
-{
-    split_last_char(text)
+/// A character that is no unit or a smaller one than this.
+#[derive(Copy, Clone)]
+pub struct Below {
+    pub greatest: Unit,
 }
 
-/// The text before the first character of a set, and the text after it.
-pub fn split_at_first<'a>(set: &[char], text: &'a str) -> Option<(&'a str, &'a str)>
-    ensures { MatchOption result (has_one_of set.now (chars text.now) ≡ false)
-        (λ r. (has_one_of set.now (chars text.now) ≡ true)
-        × (chars r.0.now ≡ before_first set.now (chars text.now))
-        × (chars r.1.now ≡ after_first set.now (chars text.now))) }
-{
-    let mut rest = text;
-    'looking: while let Some((c, others)) = split_first_char(rest) {
-        if is_one_of(set, c) {
-            return Some((before_end(text, rest), others));
+impl CharTest for Below {
+    ghost test = { λ t c. option_map_or (λ rank_of_it. nat_lt rank_of_it (rank t.greatest)) (rank_of c) true };
+
+    fn passes(self, c: char) -> bool {
+        match unit_of(c) {
+            Some(unit) => unit < self.greatest,
+            None => true,
         }
-        rest = others;
-    }
-    None
-}
-
-/// What is before an end of a text.
-pub fn before_end<'a>(text: &'a str, end: &str) -> &'a str
-    requires { IsEnd text.now end.now }
-    ensures { result.now ++ end.now ≡ text.now }
-{
-    let (before, _) = text.split_at(text.len() - end.len());
-    before
-}
-
-/// Whether a character is a unit that is no smaller than this one.
-pub fn is_unit_from(least: Unit, c: char) -> bool
-    ensures { result ≡ is_unit_from (rank least) c }
-{
-    match unit_of(c) {
-        Some(unit) => unit >= least,
-        None => false,
     }
 }
 
-/// Whether each character is such a unit.
-pub fn are_units_from(least: Unit, text: &str) -> bool
-    ensures { result ≡ are_units_from (rank least) (chars text.now) }
+/// Whether each character of a text passes.
+pub fn all<T: CharTest>(test: T, text: &str) -> bool
+    ensures { result ≡ list_all (T.test test) (chars text.now) }
 {
     let mut rest = text;
     'looking: while let Some((c, others)) = split_first_char(rest) {
-        if !is_unit_from(least, c) {
+        if !test.passes(c) {
             return false;
         }
         rest = others;
@@ -126,13 +147,13 @@ pub fn are_units_from(least: Unit, text: &str) -> bool
     true
 }
 
-/// Whether some character is a unit from 十 up.
-pub fn has_unit(text: &str) -> bool
-    ensures { result ≡ has_unit (chars text.now) }
+/// Whether some character of a text passes.
+pub fn any<T: CharTest>(test: T, text: &str) -> bool
+    ensures { result ≡ list_any (T.test test) (chars text.now) }
 {
     let mut rest = text;
     'looking: while let Some((c, others)) = split_first_char(rest) {
-        if is_unit_from(Unit::Shi, c) {
+        if test.passes(c) {
             return true;
         }
         rest = others;
@@ -140,39 +161,66 @@ pub fn has_unit(text: &str) -> bool
     false
 }
 
-/// Whether the text ends with a unit that is no smaller than this one.
-pub fn ends_unit_from(least: Unit, text: &str) -> bool
-    ensures { result ≡ begins_unit_from (rank least) (in_front text.now) }
-{
-    match split_nearest(text) {
-        Some((c, _)) => is_unit_from(least, c),
-        None => false,
-    }
-}
-
-/// Whether a character is an ASCII letter or a figure.
-pub fn is_letter_or_figure(c: char) -> bool
-    ensures { result ≡ is_letter_or_figure c }
-{
-    c.is_ascii_alphabetic() || is_one_of(FIGURES, c)
-}
-
-/// Whether the text begins with one.
-pub fn begins_letter_or_figure(text: &str) -> bool
-    ensures { result ≡ begins_letter_or_figure (chars text.now) }
+/// Whether the first character passes.
+pub fn begins<T: CharTest>(test: T, text: &str) -> bool
+    ensures { result ≡ begins (T.test test) (chars text.now) }
 {
     match split_first_char(text) {
-        Some((c, _)) => is_letter_or_figure(c),
+        Some((c, _)) => test.passes(c),
         None => false,
     }
 }
 
-/// Whether the text ends with one.
-pub fn ends_letter_or_figure(text: &str) -> bool
-    ensures { result ≡ begins_letter_or_figure (in_front text.now) }
+/// Whether the last character passes.
+pub fn ends<T: CharTest>(test: T, text: &str) -> bool
+    ensures { result ≡ begins (T.test test) (in_front text.now) }
 {
     match split_nearest(text) {
-        Some((c, _)) => is_letter_or_figure(c),
+        Some((c, _)) => test.passes(c),
         None => false,
     }
+}
+
+/// The last character, and what is before it.
+#[tactic(auto, using(crate::proofs::Ends::reverse_last))]
+pub fn split_nearest(text: &str) -> Option<(char, &str)>
+    ensures { MatchOption result (in_front text.now ≡ [])
+        (λ r. in_front text.now ≡ r.0 ∷ in_front r.1.now) }
+{
+    split_last_char(text)
+}
+
+/// The last character, what is before it, and its piece of the text.
+pub fn split_last(text: &str) -> Option<(char, &str, &str)>
+    ensures { MatchOption result (in_front text.now ≡ [])
+        (λ r. (in_front text.now ≡ r.0 ∷ in_front r.1.now) × (chars r.2.now ≡ r.0 ∷ [])) }
+{
+    let (c, head) = split_last_char(text)?;
+    let (_, last) = text.split_at(head.len());
+    Some((c, head, last))
+}
+
+/// What is before an end of a text.
+pub fn before_rest<'a>(text: &'a str, rest: &str) -> &'a str
+    requires { IsEnd text.now rest.now }
+    ensures { chars text.now ≡ chars result.now ++ chars rest.now }
+{
+    let (before, _) = text.split_at(text.len() - rest.len());
+    before
+}
+
+/// The characters with which a text begins that pass, and what is after them.
+#[tactic(auto, using(crate::proofs::Passing::passing_all, crate::proofs::Passing::leading_more, crate::proofs::Passing::passing_end, crate::proofs::Passing::passing_before))]
+pub fn split_leading<T: CharTest>(test: T, text: &str) -> (&str, &str)
+    ensures leading { chars result.0.now ≡ leading (T.test test) (chars text.now) }
+    ensures after { chars result.1.now ≡ after_leading (T.test test) (chars text.now) }
+{
+    let mut rest = text;
+    'passing: while let Some((c, others)) = split_first_char(rest) {
+        if !test.passes(c) {
+            break;
+        }
+        rest = others;
+    }
+    (before_rest(text, rest), rest)
 }

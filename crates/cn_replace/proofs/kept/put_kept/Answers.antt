@@ -1,0 +1,8 @@
+use Rattle.cn_replace.specs.Kept.{kept_text}
+use Rattle.cn_replace.proofs.Texts.{piece-then}
+use Rattle.cn_replace.proofs.kept.put_kept.Goals as goal
+
+pub returns : goal.returns
+unfolding kept_text
+returns g c =
+    piece-then g.S.Sink.took g.met.S.Sink.took_both _ _ _ _ _ _ c.in_ok-put_same.ensures c.put_unsigned.ensures
