@@ -1,4 +1,8 @@
+pub mod Canonicals
+pub mod ChainsPut
 pub mod Ends
+pub mod KeptTexts
+pub mod Measures
 pub mod Passing
 pub mod Replacing
 pub mod Tenths

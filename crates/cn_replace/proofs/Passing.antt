@@ -1,6 +1,7 @@
 -- A text that is passed from its first character on.
 use Rattle.std.proofs.Common.{◌≡◌, ℕ, nat_lt, Bool, true, false, ◌&&◌, List, [], ◌∷◌, ◌++◌, length, chars, refl, sym, ap, ◌∙◌, append_assoc, append-nil}
 use Rattle.std.proofs.lemmas.List.{append_cancel_right}
+use Rattle.cn_core.proofs.Fronts.{both}
 use Rattle.cn_quantity.specs.Characters.{is_fen, is_zhi}
 use Rattle.cn_quantity.specs.Ratio.{after_bar, before_bar, is_fraction}
 use Rattle.cn_replace.specs.KeptNumbers.{before_end, end_of, is_end}
@@ -114,3 +115,23 @@ no_bar text rest p none =
       last-false : (b : Bool) → (b && false) ≡ false
       last-false true = refl
       last-false false = refl
+
+-- both sides of a bar have characters
+pub fraction_is : (text before after : List ℕ) → before ≡ before_bar text → after ≡ after_bar text
+    → nat_lt 0 (length before) ≡ true → nat_lt 0 (length after) ≡ true
+    → is_fraction text ≡ true
+fraction_is text before after e f some more =
+    let first : nat_lt 0 (length (before_bar text)) ≡ true =
+    ap (λ l. nat_lt 0 (length l)) (sym e) ∙ some in
+    let second : nat_lt 0 (length (after_bar text)) ≡ true =
+    ap (λ l. nat_lt 0 (length l)) (sym f) ∙ more in
+    both (nat_lt 0 (length (before_bar text))) (nat_lt 0 (length (after_bar text))) first second
+
+-- nothing passes, or the end of a section is reached
+pub none_leads : (test : ℕ → Bool) (text others : List ℕ) (c : ℕ) → text ≡ c ∷ others
+    → test c ≡ false → leading test text ≡ []
+none_leads test text others c e fails = ap (leading test) e ∙ rw fails refl
+
+pub end_is : (text : List ℕ) → is_end text ≡ true → before_end text ≡ []
+end_is [] e = refl
+end_is (c ∷ text) e = rw e refl

@@ -2,13 +2,15 @@
 use Rattle.std.proofs.Common.{◌≡◌, ℕ, Bool, true, false, not, ◌&&◌, ◌||◌, List, [], ◌∷◌, ◌++◌, chars, encode_utf8, encode_utf8_all, reverse, codes, Option, Some, None, is_some, if◌then◌else◌, refl, sym, ap, subst, ◌∙◌, append_assoc, append-nil}
 use Rattle.std.proofs.lemmas.List.{reverse-reverse}
 use Rattle.cn_core.specs.declared.method.ChineseCountMethod.{ChineseCountMethod}
-use Rattle.cn_core.specs.Characters.{digit_of, rank_of}
 use Rattle.cn_find.specs.Spans.{in_front}
-use Rattle.cn_quantity.specs.Units.{are_below}
-use Rattle.cn_replace.specs.KeptNumbers.{and_text, ends_section, figure_or_same, is_ge, is_tenth, section_text, sections_text, tenth_text, whole_text}
-use Rattle.cn_replace.specs.Pieces.{begins, is_unit_from}
+use Rattle.cn_replace.specs.KeptNumbers.{and_text, before_end, end_of, ends_section, figure_or_same, is_tenth, section_text, sections_text, tenth_text, whole_text}
+use Rattle.cn_replace.specs.Pieces.{after_leading, is_zero, leading}
 use Rattle.cn_replace.specs.Private.{IsEnd, PutsText}
 use Rattle.cn_replace.proofs.Passing.{same_front}
+
+-- the characters of a text, read forwards again
+pub twice_reversed : (text : List ℕ) → reverse (in_front text) ≡ chars text
+twice_reversed text = reverse-reverse (chars text)
 
 -- the text of such a numeral
 pub tenth_is : (method : ChineseCountMethod) (text front unit : List ℕ) (c u : ℕ)
@@ -58,37 +60,46 @@ module _ {S : Type 0} (took : S → S → List ℕ → Type 0)
 
   module _ (method : ChineseCountMethod) (text start rest others : List ℕ) (c : ℕ) (old now : S)
       (p : Sections took method text start rest old now) (e : chars rest ≡ c ∷ chars others) where
+    begun-more : chars start ≡ (p.section ++ c ∷ []) ++ chars others
+    begun-more = p.begun ∙ ap (λ l. p.section ++ l) e
+        ∙ sym (append_assoc p.section (c ∷ []) (chars others))
+
     pub section_end : IsEnd start others
-    section_end = record {
-      front = p.section ++ c ∷ [];
-      parts = p.begun ∙ ap (λ l. p.section ++ l) e
-          ∙ sym (append_assoc p.section (c ∷ []) (chars others));
-    }
+    section_end = record { front = p.section ++ c ∷ []; parts = begun-more }
+
+    one-more : ends_section c (chars others) ≡ false
+        → sections_text method p.section (c ∷ chars others)
+        ≡ sections_text method (p.section ++ c ∷ []) (chars others)
+    one-more none = rw none refl
 
     pub section_goes_on : ends_section c (chars others) ≡ false
         → Sections took method text start others old now
     section_goes_on none = record {
       section = p.section ++ c ∷ [];
-      begun = section_end.parts;
+      begun = begun-more;
       done = p.done;
       took_done = p.took_done;
       completes = p.completes
           ∙ ap (λ l. and_text (Some p.done) (sections_text method p.section l)) e
-          ∙ ap (and_text (Some p.done)) (rw none refl);
+          ∙ ap (and_text (Some p.done)) (one-more none);
     }
 
     module _ (piece : List ℕ) (parts : chars start ≡ chars piece ++ chars others)
         (ends : ends_section c (chars others) ≡ true) where
       piece_is : chars piece ≡ p.section ++ c ∷ []
       piece_is = same_front (p.section ++ c ∷ []) (chars piece) (chars others)
-          (sym parts ∙ section_end.parts)
+          (sym parts ∙ begun-more)
+
+      section-ended : sections_text method p.section (c ∷ chars others)
+          ≡ and_text (section_text method (p.section ++ c ∷ [])) (sections_text method [] (chars others))
+      section-ended = rw ends refl
 
       next : sections_text method [] (chars text)
           ≡ and_text (Some p.done) (and_text (section_text method (chars piece))
           (sections_text method [] (chars others)))
       next = p.completes
           ∙ ap (λ l. and_text (Some p.done) (sections_text method p.section l)) e
-          ∙ ap (and_text (Some p.done)) (rw ends refl)
+          ∙ ap (and_text (Some p.done)) section-ended
           ∙ ap (λ l. and_text (Some p.done) (and_text (section_text method l)
           (sections_text method [] (chars others)))) (sym piece_is)
 
@@ -142,3 +153,22 @@ module _ {S : Type 0} (took : S → S → List ℕ → Type 0)
       subst (λ (each : Option (List ℕ)). PutsText took old now each true)
       (sym (p.completes ∙ ap (λ l. and_text (Some p.done) (sections_text method p.section l)) e
       ∙ ap Some (append-nil p.done))) (refl, p.took_done)
+
+-- pieces by what they are
+pub counted_is : (method : ChineseCountMethod) (whole end a b : List ℕ) → whole ≡ a → end ≡ b
+    → and_text (whole_text method whole) (Some (encode_utf8_all end))
+    ≡ and_text (whole_text method a) (Some (encode_utf8_all b))
+counted_is method whole end a b e f =
+    ap (λ l. and_text (whole_text method l) (Some (encode_utf8_all end))) e
+    ∙ ap (λ l. and_text (whole_text method a) (Some (encode_utf8_all l))) f
+
+pub section_is : (method : ChineseCountMethod) (section zeros rest : List ℕ)
+    → zeros ≡ leading is_zero section → rest ≡ after_leading is_zero section
+    → and_text (Some (encode_utf8_all zeros)) (and_text (whole_text method (before_end rest))
+    (Some (encode_utf8_all (end_of rest)))) ≡ section_text method section
+unfolding section_text
+section_is method section zeros rest e f =
+    ap (λ l. and_text (Some (encode_utf8_all l)) (and_text (whole_text method (before_end rest))
+    (Some (encode_utf8_all (end_of rest))))) e
+    ∙ ap (λ l. and_text (Some (encode_utf8_all (leading is_zero section)))
+    (and_text (whole_text method (before_end l)) (Some (encode_utf8_all (end_of l))))) f

@@ -73,6 +73,19 @@ pub read-none : (method : ChineseCountMethod) (text : List ℕ) (refusal : Refus
 unfolding quantity_figures
 read-none method text refusal e = ap figures_of_answer (sym e)
 
+-- a text that is another one
+pub if_puts : {S E : Type 0} (took : S → S → List ℕ → Type 0) (old new : S)
+    (text other : Option (List ℕ)) (result : Result Bool E) → text ≡ other
+    → IfOk result (PutsText took old new text) → IfOk result (PutsText took old new other)
+if_puts took old new text other result e put =
+    subst (λ (each : Option (List ℕ)). IfOk result (PutsText took old new each)) e put
+
+pub puts : {S : Type 0} (took : S → S → List ℕ → Type 0) (old new : S)
+    (text other : Option (List ℕ)) (is_there : Bool) → text ≡ other
+    → PutsText took old new text is_there → PutsText took old new other is_there
+puts took old new text other is_there e put =
+    subst (λ (each : Option (List ℕ)). PutsText took old new each is_there) e put
+
 -- a text is put in pieces: these are put, and that is left
 pub record PutSoFar {S : Type 0} (took : S → S → List ℕ → Type 0) (whole left : List ℕ)
     (old now : S) : Type 0 where

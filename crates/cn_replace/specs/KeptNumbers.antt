@@ -111,13 +111,16 @@ sections_text method section (c ∷ text) =
     then and_text (section_text method (section ++ c ∷ [])) (sections_text method [] text)
     else sections_text method (section ++ c ∷ []) text
 
--- the last characters, the last one first, are a digit and before it a unit from 億 up that is greater
--- than each one before it, and that neither a unit from 萬 up nor 個 is directly before: 三亿二
+-- a unit from 億 up that is greater than each unit before it, and that neither a unit from 萬 up nor 個 is
+-- directly before; of the characters before it the nearest is the first
+unfoldable pub may_have_tenths : List ℕ → ℕ → Bool
+may_have_tenths front u =
+    is_unit_from 5 u && (are_below (rank_of u) (reverse front)
+    && not (begins (λ c. is_unit_from 4 c || is_ge c) front))
+
+-- the last characters, the last one first, are a digit and such a unit before it: 三亿二
 unfoldable pub is_tenth : List ℕ → Bool
-is_tenth (d ∷ u ∷ front) =
-    is_some (digit_of d)
-    && (is_unit_from 5 u && (are_below (rank_of u) front
-    && not (begins (λ c. is_unit_from 4 c || is_ge c) front)))
+is_tenth (d ∷ u ∷ front) = is_some (digit_of d) && may_have_tenths front u
 is_tenth front = false
 
 -- what is before that unit as a whole number, the digit as a decimal, and the unit: 3.2亿

@@ -1,7 +1,7 @@
 // A text in which the expressions of a chain, each joined to the next, are replaced together, or stay.
 ghost use Rattle.std.specs.Prelude.{◌≡◌, ◌∷◌, OnOk, drop, unwrap_or, IsCharBoundary};
 ghost use Rattle.cn_find.specs.Spans.{expressions_left, span_of};
-ghost use Rattle.cn_replace.specs.Chains.{goes_on, is_held, text_unless};
+ghost use Rattle.cn_replace.specs.Chains.{goes_on, held_on, is_held, text_unless};
 ghost use Rattle.cn_replace.specs.InFigures.{figures_for, holds_others, in_figures};
 ghost use Rattle.cn_replace.specs.Joined.{end_of};
 ghost use Rattle.cn_replace.specs.Private.{IsFoundIn};
@@ -48,6 +48,29 @@ fn goes_on(end: Option<usize>, found: Found<'_>) -> bool
     }
 }
 
+// Whether the chain of an expression is held, where that of the last one, which ended at that byte, was
+// held or not.
+fn held_on(
+    figures: InFigures,
+    text: &str,
+    wanted: Wanted,
+    end: Option<usize>,
+    held: bool,
+    found: Found<'_>,
+) -> bool
+    requires cut { IsCharBoundary found.before.now (unwrap_or end 0) }
+    requires found_in { IsFoundIn wanted text.now (span_of found) }
+    ensures { result ≡ held_on (holds_others figures.method figures.figures) end held
+        (span_of found.entry)
+        (expressions_left wanted text.now (drop (end_of (span_of found.entry)) text.now)) }
+{
+    if goes_on(end, found) {
+        held
+    } else {
+        is_held(figures, text, wanted, found)
+    }
+}
+
 // Puts what is put for an expression.
 fn put_unless<S: Sink>(
     held: bool,
@@ -81,9 +104,7 @@ pub fn put_in_chains<S: Sink>(
     let mut held = false;
     let mut left = find_quantities(text, wanted);
     'replacing: while let Some(found) = left.next() {
-        if !goes_on(end, found) {
-            held = is_held(figures, text, wanted, found);
-        }
+        held = held_on(figures, text, wanted, end, held, found);
         let (_, between) = found.before.split_at(end.unwrap_or(0));
         sink.put(between)?;
         put_unless(held, sink, found, figures)?;

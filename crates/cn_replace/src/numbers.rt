@@ -1,11 +1,9 @@
 // The new text of a number without its sign, in the kept style.
 ghost use Rattle.std.specs.Prelude.{◌≡◌, ◌&&◌, ◌||◌, ◌∷◌, [], ◌++◌, ℕ, not, true, false, chars, drop, encode_utf8_all, take, codes, OnOk, IfOk, Some, MatchOption, if◌then◌else◌};
-ghost use Rattle.cn_core.specs.Characters.{rank_of};
 ghost use Rattle.cn_express.specs.Figures.{figures_text};
 ghost use Rattle.cn_find.specs.Spans.{in_front};
 ghost use Rattle.cn_judge.specs.Answer.{answer_of};
-ghost use Rattle.cn_quantity.specs.Units.{are_below};
-ghost use Rattle.cn_replace.specs.KeptNumbers.{and_text, before_end, before_point, digits_text, decimal_text, end_of, ends_colloquially, ends_section, figure_or_same, from_point, is_end, is_ge, is_kept_decimal, is_tenth, number_text, quantity_figures, quantity_of, section_text, sections_text, tenth_text, whole_text};
+ghost use Rattle.cn_replace.specs.KeptNumbers.{and_text, before_end, before_point, digits_text, decimal_text, end_of, ends_colloquially, ends_section, figure_or_same, from_point, is_end, is_ge, is_kept_decimal, is_tenth, may_have_tenths, number_text, quantity_figures, quantity_of, section_text, sections_text, tenth_text, whole_text};
 ghost use Rattle.cn_replace.specs.Pieces.{begins, is_unit_from};
 ghost use Rattle.cn_replace.specs.Private.{PutsText};
 
@@ -302,9 +300,9 @@ impl CharTest for Counting {
 
 // Whether a unit that follows this text is from 億 up and greater than each before it, and what is
 // directly before it counts nothing.
+#[tactic(auto, unfolding(crate::specs::KeptNumbers::may_have_tenths), using(crate::proofs::Tenths::twice_reversed))]
 fn may_have_tenths(front: &str, c: char) -> bool
-    ensures { result ≡ (is_unit_from 5 c && (are_below (rank_of c) (chars front.now)
-        && not (begins (λ d. is_unit_from 4 d || is_ge d) (in_front front.now)))) }
+    ensures { result ≡ may_have_tenths (in_front front.now) c }
 {
     match unit_of(c) {
         Some(unit) => {
@@ -312,6 +310,13 @@ fn may_have_tenths(front: &str, c: char) -> bool
         }
         None => false,
     }
+}
+
+#[tactic(auto, unfolding(crate::specs::KeptNumbers::is_tenth))]
+fn has_tenths(front: &str, u: char, d: char) -> bool
+    ensures { result ≡ is_tenth (d ∷ u ∷ in_front front.now) }
+{
+    digit_of(d).is_some() && may_have_tenths(front, u)
 }
 
 // Puts a point, a digit as a decimal, and the unit.
@@ -346,7 +351,7 @@ fn split_tenth(text: &str) -> Option<Tenth<'_>>
 {
     let (c, head, digit) = split_last(text)?;
     let (u, front, unit) = split_last(head)?;
-    if digit_of(c).is_none() || !may_have_tenths(front, u) {
+    if !has_tenths(front, u, c) {
         return None;
     }
     Some(Tenth {
