@@ -1,15 +1,15 @@
 -- A text that is put in chains.
-use Rattle.std.proofs.Common.{◌≡◌, ℕ, ◌+◌, ◌≤◌, nat_le, Bool, true, false, ◌&&◌, ◌||◌, List, [], ◌∷◌, ◌++◌, length, drop, IsUtf8, Option, Some, None, unwrap_or, if◌then◌else◌, refl, sym, ap, subst, ◌∙◌, arith, append_assoc, length-append}
+use Rattle.std.proofs.Common.{◌≡◌, ℕ, ◌+◌, ◌-◌, ◌≤◌, nat_le, Bool, true, false, ◌&&◌, ◌||◌, List, [], ◌∷◌, ◌++◌, length, take, drop, chars, reverse, IsUtf8, Option, Some, None, unwrap_or, if◌then◌else◌, refl, sym, ap, subst, ◌∙◌, arith, append_assoc, length-append}
 use Rattle.std.specs.List.{Contains}
 use Rattle.std.specs.Str.{IsCharBoundary}
 use Rattle.std.proofs.lemmas.Bool.Decides.{nat_tests}
 use Rattle.std.proofs.lemmas.List.Elements.{Contains-append_right}
-use Rattle.std.proofs.lemmas.Str.{IsCharBoundary-at_seam, IsCharBoundary-start}
+use Rattle.std.proofs.lemmas.Str.{chars-nil, IsCharBoundary-at_seam, IsCharBoundary-start}
 use Rattle.cn_core.proofs.Fronts.{and-left, and-right}
 use Rattle.cn_find.specs.declared.wanted.Wanted.{Wanted}
 use Rattle.cn_find.specs.Expressions.{expression_rule}
 use Rattle.cn_find.specs.Runs.{is_rising}
-use Rattle.cn_find.specs.Spans.{Span, expressions, expressions_left}
+use Rattle.cn_find.specs.Spans.{Span, expressions, expressions_left, in_front, spans_after}
 use Rattle.cn_find.proofs.GoingOn.{search-goes_on}
 use Rattle.cn_find.proofs.RunLaws.{spans-rise}
 use Rattle.cn_replace.specs.Chains.{goes_on, held_on, in_chains, in_chains_from, is_held, is_joined_to_next, text_unless}
@@ -32,10 +32,10 @@ pub cut_before : (wanted : Wanted) (text : List ℕ) (from : ℕ) (passed others
 cut_before wanted text from passed others span utf8 parts rises boundary =
     boundary-front text span.before (span.text ++ span.after) from
     (parts-of wanted text span utf8 (one-of-left wanted text passed others span parts)) within boundary
-    where
-      within : from ≤ length span.before
-      within = let first : nat_le from (length span.before) ≡ true = and-left _ _ rises in
-          grind (arith, nat_tests, first)
+  where
+    within : from ≤ length span.before
+    within = let first : nat_le from (length span.before) ≡ true = and-left _ _ rises in
+        grind (arith, nat_tests, first)
 
 -- and where it ends
 pub cut_after : (wanted : Wanted) (text : List ℕ) (passed others : List Span) (span : Span)
@@ -123,6 +123,14 @@ pub looking_all : (holds : Span → Bool) (wanted : Wanted) (text : List ℕ) (a
 looking_all holds wanted text all end left p e =
     sym (p.same ∙ ap (λ l. is_joined_to_next p.last l && is_held holds l) e)
 
+-- all expressions are left where no text is passed
+all_left : (wanted : Wanted) (text : List ℕ)
+    → expressions_left wanted text (drop 0 text) ≡ expressions wanted text
+all_left wanted text =
+    let none : length text - length text ≡ 0 = omega arith in
+    ap (λ n. spans_after (expression_rule wanted) false (in_front (take n text)) (chars text)) none
+    ∙ ap (λ l. spans_after (expression_rule wanted) false (reverse l) (chars text)) chars-nil
+
 -- a text was put up to a byte in chains, and these expressions are left
 pub record PutChains {S : Type 0} (took : S → S → List ℕ → Type 0) (new : Span → Option (List ℕ))
     (holds : Span → Bool) (wanted : Wanted) (text : List ℕ) (old now : S) (end : Option ℕ)
@@ -148,7 +156,7 @@ module _ {S : Type 0} (took : S → S → List ℕ → Type 0)
     parts = sym all;
     rises = ap (is_rising 0) all ∙ spans-rise (expression_rule wanted) text;
     boundary = IsCharBoundary-start text utf8;
-    left_are = all;
+    left_are = all ∙ sym (all_left wanted text);
     put = [];
     took_put = none;
     completes = ap (in_chains_from new holds text None false) (sym all);
@@ -183,30 +191,25 @@ module _ {S : Type 0} (took : S → S → List ℕ → Type 0)
       others_are = gone.0;
     }
 
-    -- whether the chain is held from here on
-    pub on_held : goes_on end span ≡ true → held ≡ held_on holds end held span others
-    on_held joined = sym (rw joined refl)
-
-    pub anew_held : (result : Bool) → goes_on end span ≡ false
-        → result ≡ is_held holds (span ∷ expressions_left wanted text (drop (end_of span) text))
+    pub chains_held : (result : Bool)
+        → result ≡ held_on holds end held span (expressions_left wanted text (drop (end_of span) text))
         → result ≡ held_on holds end held span others
-    anew_held result joined r =
-        r ∙ ap (λ l. is_held holds (span ∷ l)) (sym gone.0) ∙ sym (rw joined refl)
+    chains_held result r = r ∙ ap (held_on holds end held span) (sym gone.0)
 
-    pub chains_more : (mid then : S) (between : List ℕ) (here : Bool) (new_end : ℕ)
+    pub chains_more : (mid last : S) (between : List ℕ) (here : Bool) (new_end : ℕ)
         → here ≡ held_on holds end held span others
         → between ≡ drop (unwrap_or end 0) span.before → took now mid between
-        → took mid then (text_unless here new span) → new_end ≡ end_of span
-        → PutChains took new holds wanted text old then (Some new_end) here others
-    chains_more mid then between here new_end h same front text_put ends = record {
+        → took mid last (text_unless here new span) → new_end ≡ end_of span
+        → PutChains took new holds wanted text old last (Some new_end) here others
+    chains_more mid last between here new_end h same front text_put ends = record {
       passed = p.passed ++ span ∷ [];
       parts = parts-here ∙ sym (append_assoc p.passed (span ∷ []) others);
       rises = ap (λ n. is_rising n others) ends ∙ rises-here;
       boundary = subst (IsCharBoundary text) (sym ends) gone.1;
       left_are = gone.0 ∙ ap (λ n. expressions_left wanted text (drop n text)) (sym ends);
       put = p.put ++ (between ++ text_unless here new span);
-      took_put = both old now then p.put (between ++ text_unless here new span) p.took_put
-          (both now mid then between (text_unless here new span) front text_put);
+      took_put = both old now last p.put (between ++ text_unless here new span) p.took_put
+          (both now mid last between (text_unless here new span) front text_put);
       completes =
           p.completes ∙ ap (λ l. p.put ++ in_chains_from new holds text end held l) e
           ∙ ap (λ l. p.put ++ (l ++ text_unless (held_on holds end held span others) new span
@@ -220,11 +223,11 @@ module _ {S : Type 0} (took : S → S → List ℕ → Type 0)
           (in_chains_from new holds text (Some new_end) here others));
     }
 
-  pub chains_all : (old now then : S) (end : Option ℕ) (held : Bool) (left : List Span)
+  pub chains_all : (old now last : S) (end : Option ℕ) (held : Bool) (left : List Span)
       → PutChains took new holds wanted text old now end held left → (rest : List ℕ) → left ≡ []
-      → rest ≡ drop (unwrap_or end 0) text → took now then rest
-      → took old then (in_chains new holds wanted text)
-  chains_all old now then end held left p rest none same last = subst (took old then)
+      → rest ≡ drop (unwrap_or end 0) text → took now last rest
+      → took old last (in_chains new holds wanted text)
+  chains_all old now last end held left p rest none same put = subst (took old last)
       (ap (λ l. p.put ++ l) same
       ∙ sym (p.completes ∙ ap (λ l. p.put ++ in_chains_from new holds text end held l) none))
-      (both old now then p.put rest p.took_put last)
+      (both old now last p.put rest p.took_put put)

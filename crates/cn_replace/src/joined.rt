@@ -10,10 +10,7 @@ use cn_find::{Found, is_one_character};
 fn is_link(c: char) -> bool
     ensures { result ≡ is_link c }
 {
-    matches!(
-        c,
-        '到' | '至' | '~' | '～' | '－' | '–' | '—' | '〜' | '-'
-    )
+    matches!(c, '到' | '至' | '~' | '～' | '－' | '–' | '—' | '〜' | '-')
 }
 
 #[tactic(auto, unfolding(crate::specs::Joined::is_of_date))]
@@ -29,17 +26,7 @@ fn is_of_amount(c: char) -> bool
 {
     matches!(
         c,
-        '元' | '圆'
-            | '圓'
-            | '块'
-            | '塊'
-            | '角'
-            | '毛'
-            | '度'
-            | '米'
-            | '斤'
-            | '两'
-            | '兩'
+        '元' | '圆' | '圓' | '块' | '塊' | '角' | '毛' | '度' | '米' | '斤' | '两' | '兩'
     )
 }
 
@@ -63,10 +50,7 @@ fn is_joint(c: char) -> bool
 {
     is_link(c)
         || is_part_unit(c)
-        || matches!(
-            c,
-            '比' | '单' | '單' | '有' | '小' | '个' | '個' | '钟' | '鐘' | '的'
-        )
+        || matches!(c, '比' | '单' | '單' | '有' | '小' | '个' | '個' | '钟' | '鐘' | '的')
 }
 
 #[tactic(auto, unfolding(cn_find::specs::Expressions::is_han))]

@@ -13,8 +13,8 @@ use crate::pieces::{
     split_last, split_leading, split_nearest,
 };
 use cn_core::{ChineseCountMethod, Unit, digit_of, split_first_char, unit_of};
-use cn_judge::ChineseToNumberError;
 use cn_express::{MOST_FIGURES_BYTES, put_figures};
+use cn_judge::ChineseToNumberError;
 use cn_quantity::{Quantity, chinese_to_quantity};
 
 /// Puts the characters of a text.
@@ -33,10 +33,7 @@ pub fn put_quantity<S: Sink>(sink: &mut S, quantity: Quantity) -> Result<(), S::
 }
 
 /// The quantity of a text.
-pub fn quantity_of(
-    method: ChineseCountMethod,
-    text: &str,
-) -> Result<Quantity, ChineseToNumberError>
+pub fn quantity_of(method: ChineseCountMethod, text: &str) -> Result<Quantity, ChineseToNumberError>
     ensures { answer_of (λ q. q) result ≡ quantity_of method (chars text.now) }
 {
     chinese_to_quantity(text, method)
@@ -109,7 +106,12 @@ fn figure_of(digit: u8) -> &'static str
 }
 
 // Puts the first character of a text, which is before the rest: a digit as its figure, and any other as it is.
-fn put_figure_or_same<S: Sink>(sink: &mut S, c: char, text: &str, rest: &str) -> Result<(), S::Error>
+fn put_figure_or_same<S: Sink>(
+    sink: &mut S,
+    c: char,
+    text: &str,
+    rest: &str,
+) -> Result<(), S::Error>
     requires { chars text.now ≡ c ∷ chars rest.now }
     ensures { OnOk result (S.took sink.old sink.new (figure_or_same c)) }
 {

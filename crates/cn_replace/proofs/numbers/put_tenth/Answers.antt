@@ -9,5 +9,5 @@ pub returns : goal.returns
 returns g c = (
   refl,
   g.met.S.Sink.took_both _ _ _ _ _ (g.met.S.Sink.took_both _ _ _ _ _ c.in_ok-put.ensures
-  c.in_ok-put_figure_or_same.ensures) c.in_ok-put_same.ensures,
+      c.in_ok-put_figure_or_same.ensures) c.in_ok-put_same.ensures,
 )

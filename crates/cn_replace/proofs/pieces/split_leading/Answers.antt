@@ -16,7 +16,7 @@ returns-clause-leading g c =
     let test = g.T.CharTest.test c.args.test in
     let none : leading test (chars c.passing.rest.now) ≡ [] =
     elim c.match-split_first_char.branch [
-      in-Some+then-not-passes w ↦ none_leads test _ _ _ w.in-Some.ensures.parts
+      | in-Some+then-not-passes w ↦ none_leads test _ _ _ w.in-Some.ensures.parts
           (sym w.passes.ensures ∙ w.if-not-passes.true)
       | in_default w ↦ ap (leading test) w.in_default.ensures.parts
     ] in
