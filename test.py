@@ -10,12 +10,14 @@ may name others.
   and texts has to have the sum that the answers of the proved archive have, by dist/PROVENANCE.json.
 - Each language that is here is asked the rows of tests/rows, and the worked rows and examples of
   README.md and docs/. What is not here is left out, and named.
+- How well numbers are found and written in figures in the sentences of tests/corpus.tsv is reported
+  by genre. The test fails where too few are right or too many wrong, by the bars of tests/corpus.py.
 
 Each language has a program `answers` in bindings/. It is given questions, a line each, of words
 parted by tabs. An answer is `ok` and what the call gives, or `err` and the error's text:
 
     read KIND WAY TEXT                  the number of a text; docs/RULES.md has these names, and
-                                        `any` is plain digits or, else, ten_thousand
+                                        `any` is either way
     print KIND WAY SCRIPT CASE NUMBER   the text of a number
     read_amount TEXT                    the fen of a text
     print_amount SCRIPT FEN             the text of an amount
@@ -32,14 +34,18 @@ parted by tabs. An answer is `ok` and what the call gives, or `err` and the erro
                                         `plain`, `alone`, `about` and `one`
     read_quantity WAY TEXT              the quantity of a text, as 350000/10 decimal
     find_quantities TEXT                the text, with the answer in the place of each expression
+    doubts TEXT                         the text, with the doubt of each expression in its place:
+                                        `none`, `word`, `digits`, `term`, `part`, `time` or `range`
     print_quantity WAY SCRIPT CASE QUANTITY
                                         the text of a quantity
     quantity_figures QUANTITY           the same in figures, as 12.5%
     trim_quantity QUANTITY              the quantity without the zeros at the end of its decimals
-    quantities_to_figures FLAGS TEXT    the text with its quantities in figures, also those with
-                                        FLAGS: `none`, or with + between them `about` and `one`
+    quantities_to_figures FLAGS TEXT    the text with its numerals in figures; FLAGS are `none`, or
+                                        with + between them some of `about`, `one`, `doubtful`,
+                                        `expanded` and `canonical`
     replace_quantities FLAGS TEXT       the text with its quantities in simple numerals of the lower
-                                        case, by a function that leaves fractions as they stand
+                                        case, by a function that leaves fractions as they are; FLAGS
+                                        are of the first three of these
 """
 import json
 import os
@@ -56,6 +62,7 @@ TOP = Path(__file__).resolve().parent
 BINDINGS, DIST = TOP / "bindings", TOP / "dist"
 sys.path.insert(0, str(TOP / "tests"))
 sys.dont_write_bytecode = True
+import corpus
 import questions
 
 SHARED = {"darwin": "dylib", "win32": "dll"}.get(sys.platform, "so")
@@ -195,15 +202,33 @@ def told(name, rows, asking):
     return passed, failed
 
 
+def told_of_sentences(asking):
+    """Says how the sentences of the corpus came out: how many bars are reached, and how many are
+    missed."""
+    try:
+        lines, missed = corpus.report(asking.result().splitlines())
+    except Failed as why:
+        print(f"Sentences: not asked\n{why}")
+        return 0, len(corpus.BARS)
+    print("Sentences of tests/corpus.tsv, in C:", *lines, sep="\n")
+    print(*(f"    missed: {it}" for it in missed), sep="\n", end="\n" if missed else "")
+    return len(corpus.BARS) - len(missed), len(missed)
+
+
+def asked_in_lines(rows):
+    return "".join("\t".join(question) + "\n" for question in rows)
+
+
 def try_all(clone, rows):
     """How many rows passed in all, and how many failed."""
-    asked = "".join("\t".join(question) + "\n" for question, _ in rows)
+    asked = asked_in_lines(question for question, _ in rows)
     same = [(["same", "1000"], of_archive())]
     tests = [("C source, beside the proved archive", same, Clone.same)]
     tests += [(name, rows, ask) for name, ask in LANGUAGES.items()]
     with ThreadPoolExecutor() as pool:
         running = [(name, its, pool.submit(ask, clone, asked)) for name, its, ask in tests]
-        counts = [told(*test) for test in running]
+        sentences = pool.submit(Clone.c, clone, asked_in_lines(corpus.questions()))
+        counts = [told(*test) for test in running] + [told_of_sentences(sentences)]
     return map(sum, zip(*counts))
 
 

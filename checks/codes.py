@@ -5,10 +5,11 @@ Usage: codes.py CN_C BINDINGS
 
 The tables of `codes.rt` give a way, script, case or form its place as its code, and two of its
 functions a type and a unit its number; `ANY` is the way behind the others; `status.rt`, `flags.rt` and `quantity_form.rt` name the statuses, the flags of
-what is found, and the forms of a quantity. The header, the Rust crate, the Python file and the Go
+what is found, with the codes of doubts and the options of what is replaced, and the forms of a
+quantity. The header, the Rust crate, the Python file and the Go
 file name each of them once, with the same number or in this order, and no other, as the JavaScript
 file lists them; but what a form is made of is named by the header alone, of which Go also takes the
-flags and the most bytes. The header declares each
+flags, the options and the most bytes. The header declares each
 call that the crate exports, and no language has any other. Alike, too, are the most bytes of a
 text of each kind, which a clause of each file in BOUNDS bounds; the status of the C source alone
 for a text that is too long, and how long that is; the version of all, which is that of the first
@@ -27,6 +28,9 @@ NUMBERED = {
     "FLAGS": "src/flags.rt",
     "STATUSES": "src/status.rt",
 }
+# In the file of the flags: the code of each doubt; and those of the flags that are options alone.
+DOUBT = re.compile(r"Doubt::(\w+)\)? => (\d+)")
+FIRST_OPTION = 16
 ANY = re.compile(r"^pub const ANY: u32 = (\d+);", re.MULTILINE)
 TABLE = re.compile(r"^pub static (\w+): \[.*?\] = \[(.*?)\];", re.MULTILINE | re.DOTALL)
 # A function that gives each of a kind a number.
@@ -38,6 +42,7 @@ ARM = re.compile(r"(\d+) => \w+::(\w+),")
 NAMED = re.compile(
     r"(?:^|[,;{])[ \t]*(?:pub const )?(?:CN_)?(\w+)(?:: u32)? = (\d+)\b", re.MULTILINE
 )
+DEFINED = re.compile(r"^#define CN_(\w+) (\d+)u\b", re.MULTILINE)
 LISTED = re.compile(r"^(?:    (?=\w+ = \")|\t)(\w+)", re.MULTILINE)
 END_OF_TABLE = re.compile(r"\n\}[ \w]*;?\n|\n\)\n|\n\n\n")
 
@@ -60,6 +65,8 @@ BEGINNINGS = {
         "UNITS": "/* The units",
         "QUANTITY_FORMS": "/* How a quantity",
         "FLAGS": "/* The flags",
+        "DOUBTS": "/* Why a reader may mean by an expression something else than its quantity. Of",
+        "OPTIONS": "/* The options",
         "STATUSES": "/* The status",
     },
     RUST: {
@@ -70,6 +77,8 @@ BEGINNINGS = {
         "UNITS": "pub enum Unit ",
         "QUANTITY_FORMS": "pub enum QuantityForm ",
         "FLAGS": "pub mod flag ",
+        "DOUBTS": "pub enum Doubt ",
+        "OPTIONS": "pub mod option ",
         "STATUSES": "pub mod status ",
     },
     PYTHON: {
@@ -80,6 +89,8 @@ BEGINNINGS = {
         "UNITS": "class Unit(",
         "QUANTITY_FORMS": "class QuantityForm(",
         "FLAGS": "# The flags of what is found.\n",
+        "DOUBTS": "class Doubt(",
+        "OPTIONS": "# The options of quantities_to_figures,",
         "STATUSES": "class Status(",
     },
     # It has the flags and the most bytes of the header itself.
@@ -90,6 +101,7 @@ BEGINNINGS = {
         "CASES": "type Case ",
         "UNITS": "type Unit ",
         "QUANTITY_FORMS": "type Form ",
+        "DOUBTS": "type Doubt ",
         "STATUSES": "type Status ",
     },
 }
@@ -217,7 +229,23 @@ def of_sources(crate):
     found["FORMS"] = forms_of(tables["FORMS"])
     for name, file in NUMBERED.items():
         found[name] = of_table(text_of(crate / file))
-    return found
+    text = text_of(crate / NUMBERED["FLAGS"])
+    found["DOUBTS"] = {snake(name): int(code) for name, code in DOUBT.findall(text)}
+    found["OPTIONS"] = of_table(text)
+    return {name: parted(name, table) for name, table in found.items()}
+
+
+def parted(name, table):
+    """The flags and the options each without the others; and the doubts by their own names, which are
+    listed from 1 on, without that there is none."""
+    if name in ("FLAGS", "OPTIONS"):
+        are_options = name == "OPTIONS"
+        return {it: code for it, code in table.items() if (code >= FIRST_OPTION) == are_options}
+    if name == "DOUBTS":
+        table = {it.replace("doubt_", ""): code for it, code in table.items() if it != "no_doubt"}
+        first = min(table.values(), default=1)
+        return {it: code - first + 1 for it, code in table.items()}
+    return table
 
 
 def inherited(name):
@@ -225,7 +253,7 @@ def inherited(name):
 
 
 def of_table(text):
-    named = NAMED.findall(text)
+    named = NAMED.findall(text) + DEFINED.findall(text)
     if len(dict(named)) != len(named):
         sys.exit(f"codes: a name stands twice: {named}")
     return {snake(name): int(code) for name, code in named} or numbered(
@@ -241,7 +269,7 @@ def of_language(language, text):
         table = of_table(END_OF_TABLE.split(text.split(beginning)[1])[0])
         if language == RUST and name == "SCRIPTS":
             table = {inherited(it): code for it, code in table.items()}
-        found[name] = table
+        found[name] = parted(name, table)
     return found
 
 
@@ -252,6 +280,8 @@ def of_lists(text):
         listed = re.search(rf"\b{name} =[^\[]*?\[((?:\s*'\w+',?)+)\]", text)[1]
         found[name] = numbered(map(snake, re.findall(r"\w+", listed)))
     found["FLAGS"] = {name: 1 << bit for name, bit in found["FLAGS"].items()}
+    found["OPTIONS"] = {name: FIRST_OPTION << bit for name, bit in found["OPTIONS"].items()}
+    found["DOUBTS"] = parted("DOUBTS", found["DOUBTS"])
     return found
 
 
@@ -342,6 +372,8 @@ def main():
     texts[JAVASCRIPT] = text_of(bindings / JAVASCRIPT)
     found[JAVASCRIPT] = of_lists(texts[JAVASCRIPT])
     wanted = of_sources(crate)
+    # Before the crate has options, those of the header count.
+    wanted["OPTIONS"] = wanted["OPTIONS"] or found[HEADER]["OPTIONS"]
     for language, tables in found.items():
         for name, table in tables.items():
             if table != wanted[name] or not table:

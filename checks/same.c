@@ -123,7 +123,7 @@ static void try_read_quantity(run *r, const text *t, uint32_t method) {
 static void try_replace(run *r, const text *t) {
     static const uint32_t INCLUDED[] = {0, CN_ABOUT, CN_ONE_CHARACTER, CN_ABOUT | CN_ONE_CHARACTER, 1};
     uint8_t room[MOST];
-    uint32_t upper = code(r, 2), greatest = code(r, CN_JI + 1), method = code(r, CN_ANY);
+    uint32_t upper = code(r, 2), greatest = code(r, CN_JI + 1), method = code(r, CN_ANY + 1);
     uint32_t included = INCLUDED[code(r, 4)];
     size_t most = below(r, 4) == 0 ? below(r, MOST) : MOST, length = 9;
     uint32_t status = chinese_quantities_to_figures(t->bytes, t->length, upper, greatest, method,
@@ -259,7 +259,7 @@ static void try_quantity(run *r) {
     text t;
     cn_quantity quantity = {{0, 0}, {0, 0}, 0, 1, 2};
     size_t length = 1, room = begin(r, &t, CN_MOST_QUANTITY_BYTES);
-    uint32_t method = code(r, CN_ANY), script = code(r, 2), letter_case = code(r, 2), status;
+    uint32_t method = code(r, CN_ANY + 1), script = code(r, 2), letter_case = code(r, 2), status;
     quantity.numerator = some_number(r);
     quantity.denominator = some_denominator(r);
     quantity.form = code(r, CN_FRACTION + 1);

@@ -30,10 +30,15 @@ OF_CALLS = {
     "Numbers in a text": ["find"],
     "What is told of a number": ["flags"],
     "Either way": ["read", "i64", "any"],
+    "Written either way": ["print", "i64", "any", "simple", "lower"],
     "Quantities": ["read_quantity", "ten_thousand"],
+    "Misread numerals": ["read_quantity", "ten_thousand"],
     "Quantities written": ["print_quantity", "ten_thousand", "simple", "lower"],
     "Quantities in figures": ["quantity_figures"],
+    "Doubt": ["quantities_to_figures", "none"],
     "Expressions replaced": ["quantities_to_figures", "none"],
+    "The new text": ["quantities_to_figures", "none"],
+    "Whole, or not at all": ["quantities_to_figures", "none"],
     "Amounts below zero": ["read_signed_amount"],
     "Amounts as typed": ["read_typed_amount"],
 }
@@ -48,6 +53,7 @@ OF_LIBRARIES = (
     "figures",
     "flags",
     "quantities",
+    "doubts",
     "written",
     "replaced",
 )

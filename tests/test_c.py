@@ -23,7 +23,7 @@ FIRST_STEPS = """\
 贰零贰陆年零壹月壹拾伍日
 2026-01-15
 百分之十二点五
-共35000元，剩1/3
+市值3.5亿元，占12.5%
 """
 FIRST_STEPS_OF_CPP = """\
 负十万五千
@@ -35,7 +35,7 @@ the chinese number is incorrect (position: 1)
 负壹拾伍元整
 贰零贰陆年零壹月壹拾伍日
 百分之十二点五
-共35000元，剩1/3
+市值3.5亿元，占12.5%
 """
 EXAMPLES = {
     "example.c": FIRST_STEPS,
@@ -132,8 +132,9 @@ cn_status amount(char *room, size_t length) {
 }
 
 cn_status replaced(const char *text, char *room, size_t *length) {
-    return cn_quantities_to_figures(text, 3, 0, CN_ZHAO, CN_TEN_THOUSAND, CN_ABOUT | CN_ONE_CHARACTER,
-                                    room, 3, length);
+    return cn_quantities_to_figures(text, 3, 0, CN_ZHAO, CN_TEN_THOUSAND,
+                                    CN_ABOUT | CN_ONE_CHARACTER | CN_DOUBTFUL | CN_CANONICAL, room,
+                                    3, length);
 }
 """
 

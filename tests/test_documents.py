@@ -22,6 +22,7 @@ IN_CHINESE_TOO = ("README.md", "bindings/python/README.md", "bindings/web/README
 CODE = re.compile(r"^```\w*\n(.*?)^```$|^((?:    [^\n]*\n)+)", re.MULTILINE | re.DOTALL)
 # The definitions whose lists of characters stand in RULES, each as one word.
 LISTED = (
+    "cn_core/specs/Figures.antt",
     "cn_find/specs/Belongs.antt",
     "cn_find/specs/Flags.antt",
     "cn_find/specs/Expressions.antt",

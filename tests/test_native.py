@@ -100,7 +100,7 @@ def test_by_ctypes(native, which):
 
 FRONTS = {
     "to_number": "(text, *, kind=<Kind.I128: 'i128'>, way=<Way.ANY: 'any'>)",
-    "to_chinese": "(number, *, kind=<Kind.I128: 'i128'>, way=<Way.TEN_THOUSAND: 'ten_thousand'>, "
+    "to_chinese": "(number, *, kind=<Kind.I128: 'i128'>, way=<Way.ANY: 'any'>, "
     "script=<Script.SIMPLIFIED: 'simplified'>, case=<Case.LOWER: 'lower'>)",
 }
 
@@ -139,7 +139,7 @@ def test_unusual(numerals, library):
         ("to_chinese", (True,), {}),
         ("to_chinese", (1 << 63,), {}),
         ("to_chinese", (-1,), {"kind": "u64"}),
-        ("to_chinese", (1,), {"way": "any"}),
+        ("to_chinese", (1,), {"way": "naive"}),
         ("to_chinese", (), {"number": 1, "case": "upper"}),
         ("to_chinese", (1, 2, 3), {"case": "upper"}),
         ("to_chinese", (1,), {"other": 1}),
@@ -187,6 +187,7 @@ def test_nothing_is_kept(numerals):
         (lambda text: it.to_quantity(text).to_chinese(method="low"), ("12.5%", "1000京")),
         (lambda text: it.to_quantity(text).to_figures(), ("12.5%", "三分之一")),
         (lambda text: [its.value() for its in it.find_quantities(text)], ("3.5万，1.2.3", None)),
+        (lambda text: [its.doubt for its in it.find_quantities(text)], ("五一，二十", "3~5万", None)),
         (it.quantities_to_figures, ("共三点五万，占三分之一", "三亿" * 99, "\ud800一百", None)),
     ]
     some = [(call, argument) for call, arguments in asked for argument in arguments]
@@ -196,6 +197,7 @@ def test_nothing_is_kept(numerals):
         False,
         it.Found,
         it.FoundQuantity,
+        it.Doubt.DIGITS,
         it.QuantityForm.DECIMAL,
         it.Kind.I128,
         it.Way.ANY,

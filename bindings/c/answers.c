@@ -15,8 +15,12 @@ static const char *const WAYS[] = {"naive", "low", "ten_thousand", "middle", "hi
 static const char *const SCRIPTS[] = {"traditional", "simple", NULL};
 static const char *const CASES[] = {"upper", "lower", NULL};
 static const char *const QUANTITY_FORMS[] = {"whole", "decimal", "percent", "fraction", NULL};
-/* Those of the flags and of the forms of an amount are added together. */
+static const char *const DOUBTS[] = {"none", "word", "digits", "term", "part", "time", "range"};
+/* Those of the flags, of the options of what is replaced and of the forms of an amount are added together. */
 static const char *const FLAGS[] = {"plain", "alone", "about", "one", NULL};
+static const char *const OPTIONS[] = {
+    "plain", "alone", "about", "one", "doubtful", "expanded", "canonical", NULL,
+};
 static const char *const FORMS[] = {"currency", "round_yuan", "upright_closing", NULL};
 
 /* The code of a name. That of an unknown one is the first that the library refuses. */
@@ -270,6 +274,11 @@ static void put_flags(const char *text, const cn_span *span) {
         }
 }
 
+static void put_doubt(const char *text, const cn_span *span) {
+    (void)text;
+    fputs(DOUBTS[cn_doubt_of(span)], stdout);
+}
+
 typedef cn_status search(const char *, size_t, uint32_t, cn_unit, cn_span *);
 
 /* Puts a text with what is put of each of its runs in its place, in brackets. */
@@ -298,13 +307,17 @@ static void answer_find_quantities(char **words) {
     answer_found(words[1], cn_find_next_quantity, put_found_quantity);
 }
 
+static void answer_doubts(char **words) {
+    answer_found(words[1], cn_find_next_quantity, put_doubt);
+}
+
 static void answer_quantities_to_figures(char **words) {
     char text[2 * MOST_BYTES_OF_LINE];
     size_t length;
-    uint32_t included = flags_of(FLAGS, words[1]);
+    uint32_t options = flags_of(OPTIONS, words[1]);
     put_printed("text",
                 cn_quantities_to_figures(words[2], strlen(words[2]), 0, CN_ZHAO, CN_TEN_THOUSAND,
-                                         included, text, sizeof text, &length), text);
+                                         options, text, sizeof text, &length), text);
 }
 
 /* Writes what is found in a text, and is no fraction, in numerals; says whether it has. */
@@ -314,19 +327,27 @@ static int write_in_numerals(const char *text, const cn_span *span, char *room, 
                                         CN_TEN_THOUSAND, &quantity);
     if (status != CN_DONE || quantity.form == CN_FRACTION)
         return 0;
-    status = cn_print_quantity(&quantity, CN_TEN_THOUSAND, CN_SIMPLIFIED, CN_LOWER, room, room_length);
+    status = cn_print_quantity(&quantity, CN_ANY, CN_SIMPLIFIED, CN_LOWER, room, room_length);
     return status == CN_DONE;
 }
 
+/* Whether what is found is replaced with these options, if it has a quantity. */
+static int is_included(const cn_span *span, uint32_t options) {
+    cn_doubt doubt = cn_doubt_of(span);
+    if ((span->flags & (CN_ABOUT | CN_ONE_CHARACTER) & ~options) != 0)
+        return 0;
+    return doubt == CN_NO_DOUBT || ((options & CN_DOUBTFUL) != 0 && doubt != CN_DOUBT_PART);
+}
+
 static void answer_replace_quantities(char **words) {
-    uint32_t left = (CN_ABOUT | CN_ONE_CHARACTER) & ~flags_of(FLAGS, words[1]);
+    uint32_t options = flags_of(OPTIONS, words[1]);
     const char *text = words[2];
     size_t length = strlen(text), at = 0;
     cn_span span = {0, 0, 0};
     char numerals[CN_MOST_QUANTITY_BYTES + 1];
     fputs("ok ", stdout);
     while (cn_find_next_quantity(text, length, 0, CN_ZHAO, &span) == CN_DONE)
-        if ((span.flags & left) == 0
+        if (is_included(&span, options)
             && write_in_numerals(text, &span, numerals, sizeof numerals)) {
             printf("%.*s%s", (int)(span.start - at), text + at, numerals);
             at = span.end;
@@ -354,6 +375,7 @@ static const struct {
     {"flags", 2, answer_flags},
     {"read_quantity", 3, answer_read_quantity},
     {"find_quantities", 2, answer_find_quantities},
+    {"doubts", 2, answer_doubts},
     {"print_quantity", 5, answer_print_quantity},
     {"quantity_figures", 2, answer_quantity_figures},
     {"trim_quantity", 2, answer_trim_quantity},

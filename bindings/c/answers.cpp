@@ -116,9 +116,13 @@ AmountForm form_of(const std::string &words) {
     return {has(words, "currency"), has(words, "round_yuan"), has(words, "upright_closing")};
 }
 
-/* What is included, likewise; `none` is nothing. */
+/* What is included, and how figures are written, likewise; `none` is nothing. */
 Included included_of(const std::string &words) {
-    return {has(words, "about"), has(words, "one+") || has(words, "+one") || words == "one"};
+    return {has(words, "about"), has('+' + words + '+', "+one+"), has(words, "doubtful")};
+}
+
+Figures figures_of(const std::string &words) {
+    return {has(words, "expanded"), has(words, "canonical")};
 }
 
 std::string print_date(const std::string &script, const std::string &figures_of_date) {
@@ -144,6 +148,11 @@ std::string flags_of(const Found &found) {
     for (const auto &[is_told, name] : flags)
         done += is_told ? name : "";
     return done.substr(done.empty() ? 0 : 1);
+}
+
+std::string doubt_of(const Found &found) {
+    const char *const doubts[] = {"none", "word", "digits", "term", "part", "time", "range"};
+    return doubts[static_cast<std::size_t>(found.doubt)];
 }
 
 /* The text with what is shown of each of its runs in its place, in brackets. */
@@ -193,12 +202,13 @@ const std::map<std::string, std::string (*)(const Words &)> calls = {
      [](const Words &words) { return told(chinese_to_quantity(words[2], ways.at(words[1]))); }},
     {"find_quantities",
      [](const Words &words) { return in_place(words[1], find_quantities(words[1]), quantity_told); }},
+    {"doubts", [](const Words &words) { return in_place(words[1], find_quantities(words[1]), doubt_of); }},
     {"print_quantity", print_quantity},
     {"quantity_figures", [](const Words &words) { return "ok " + quantity_of(words[1]).to_figures(); }},
     {"trim_quantity", [](const Words &words) { return "ok " + shown(quantity_of(words[1]).trimmed()); }},
     {"quantities_to_figures",
      [](const Words &words) {
-         return told(quantities_to_figures(words[2], {}, Way::ten_thousand, included_of(words[1])));
+         return told(quantities_to_figures(words[2], {}, Way::ten_thousand, included_of(words[1]), figures_of(words[1])));
      }},
     {"replace_quantities",
      [](const Words &words) {

@@ -19,7 +19,7 @@ static void first_steps(void) {
     cn_number number = cn_signed(-105000);
     cn_reading reading;
     cn_status status;
-    status = cn_print(number, CN_I64, CN_TEN_THOUSAND, CN_SIMPLIFIED, CN_LOWER, text, sizeof text);
+    status = cn_print(number, CN_I64, CN_ANY, CN_SIMPLIFIED, CN_LOWER, text, sizeof text);
     puts(status == CN_DONE ? text : cn_status_text(status)); /* 负十万五千 */
     if (cn_read(text, strlen(text), CN_I64, CN_ANY, &reading) == CN_DONE)
         printf("%lld\n", (long long)reading.number.low); /* -105000 */
@@ -45,16 +45,16 @@ static void first_steps(void) {
     if (cn_read_date(capitals, strlen(capitals), &date) == CN_DONE)
         printf("%u-%02u-%02u\n", date.year, date.month, date.day); /* 2026-01-15 */
 
-    const char expressions[] = "共3.5万元，剩三分之一";
+    const char expressions[] = "市值三点五亿元，占百分之十二点五";
     char written[CN_MOST_QUANTITY_BYTES + 1];
     size_t length;
     cn_quantity quantity;
     if (cn_read_quantity("12.5%", 5, CN_TEN_THOUSAND, &quantity) == CN_DONE
-        && cn_print_quantity(&quantity, CN_TEN_THOUSAND, CN_SIMPLIFIED, CN_LOWER, written, sizeof written) == CN_DONE)
+        && cn_print_quantity(&quantity, CN_ANY, CN_SIMPLIFIED, CN_LOWER, written, sizeof written) == CN_DONE)
         puts(written); /* 百分之十二点五 */
     if (cn_quantities_to_figures(expressions, strlen(expressions), 0, CN_ZHAO, CN_TEN_THOUSAND, 0, written, sizeof written, &length)
         == CN_DONE)
-        puts(written); /* 共35000元，剩1/3 */
+        puts(written); /* 市值3.5亿元，占12.5% */
 }
 
 /* Finds each number of a text. */
@@ -132,12 +132,14 @@ static void each_status_of_quantities(void) {
     is_quantity("三分之一", CN_TEN_THOUSAND, CN_DONE, 1, 3, CN_FRACTION, 0, 0);
     is_quantity("廿三", CN_TEN_THOUSAND, CN_DONE, 23, 1, CN_WHOLE, 0, 0);
     is_quantity("", CN_TEN_THOUSAND, CN_EMPTY, 0, 0, 0, 0, 0);
-    is_quantity("三分之负一", CN_TEN_THOUSAND, CN_INCORRECT, 0, 0, 0, 3, 9);
+    is_quantity("三分之负一", CN_TEN_THOUSAND, CN_DONE, -1, 3, CN_FRACTION, 0, 0);
+    is_quantity("负三分之负一", CN_TEN_THOUSAND, CN_INCORRECT, 0, 0, 0, 4, 12);
     is_quantity("0极", CN_TEN_THOUSAND, CN_TOO_LARGE, 0, 0, 0, 0, 0);
     is_quantity("-0极", CN_TEN_THOUSAND, CN_TOO_SMALL, 0, 0, 0, 0, 0);
     is_quantity("\xff", CN_TEN_THOUSAND, CN_NOT_UTF8, 0, 0, 0, 0, 0);
     is_quantity("一", CN_DIGITS, CN_UNKNOWN, 0, 0, 0, 0, 0);
-    is_quantity("一", CN_ANY, CN_UNKNOWN, 0, 0, 0, 0, 0);
+    is_quantity("一万亿点五", CN_ANY, CN_DONE, UINT64_C(10000000000005), 10, CN_DECIMAL, 0, 0);
+    is_quantity("一", CN_ANY + 1, CN_UNKNOWN, 0, 0, 0, 0, 0);
 }
 
 /* Prints a quantity into a room of this length, with this status and length; the text is this one. */
@@ -160,6 +162,7 @@ static void each_status_of_printing_quantities(void) {
     const size_t most = CN_MOST_QUANTITY_BYTES;
     const cn_quantity decimal = {{314, 0}, {100, 0}, CN_DECIMAL, 5, 7}, over_zero = {{1, 0}, {0, 0}, CN_FRACTION, 0, 0};
     const cn_quantity no_form = {{1, 0}, {1, 0}, CN_FRACTION + 1, 0, 0}, large = {{1, 0}, {0, 1}, CN_FRACTION, 0, 0};
+    const cn_quantity trillions = {{UINT64_C(10000000000005), 0}, {10, 0}, CN_DECIMAL, 0, 0};
     const cn_quantity small = {{UINT64_MAX, UINT64_MAX}, {0, 1}, CN_FRACTION, 0, 0};
     const cn_quantity least = {{0, UINT64_C(1) << 63}, {UINT64_MAX, UINT64_MAX}, CN_FRACTION, 0, 0};
     prints_quantity(decimal, ten_thousand, simple, lower, 12, CN_DONE, 12, "三点一四");
@@ -169,7 +172,10 @@ static void each_status_of_printing_quantities(void) {
     prints_quantity(small, CN_LOW, simple, lower, most, CN_TOO_SMALL, 0, "the same below 0");
     prints_quantity(over_zero, ten_thousand, simple, lower, most, CN_NOT_A_QUANTITY, 0, "a quantity over 0");
     prints_quantity(over_zero, CN_DIGITS, simple, lower, most, CN_UNKNOWN, 0, "a way that is no method");
-    prints_quantity(over_zero, CN_ANY, simple, lower, most, CN_UNKNOWN, 0, "a way to read alone");
+    prints_quantity(trillions, CN_ANY, simple, lower, most, CN_DONE, 15, "一万亿点五");
+    prints_quantity(trillions, CN_ANY, CN_TRADITIONAL, lower, most, CN_DONE, 12, "一兆點五");
+    prints_quantity(over_zero, CN_ANY, simple, lower, most, CN_NOT_A_QUANTITY, 0, "a quantity over 0 by any way");
+    prints_quantity(decimal, CN_ANY + 1, simple, lower, most, CN_UNKNOWN, 0, "an unknown way of a quantity");
     prints_quantity(over_zero, ten_thousand, simple + 1, lower, most, CN_UNKNOWN, 0, "an unknown script");
     prints_quantity(over_zero, ten_thousand, simple, lower + 1, most, CN_UNKNOWN, 0, "an unknown case");
     prints_quantity(no_form, ten_thousand, simple, lower, most, CN_UNKNOWN, 0, "an unknown form");
@@ -182,25 +188,34 @@ static void each_status_of_printing_quantities(void) {
 }
 
 /* Replaces the quantities of a text, in a room of this length, with this status and length; the new text is this one. */
-static void replaces(const char *text, uint32_t method, uint32_t included, size_t room_length, uint32_t status, size_t wanted,
+static void replaces(const char *text, uint32_t method, uint32_t options, size_t room_length, uint32_t status, size_t wanted,
                      const char *new_text) {
     size_t length;
-    uint32_t found = chinese_quantities_to_figures((const uint8_t *)text, strlen(text), 0, CN_ZHAO, method, included,
+    uint32_t found = chinese_quantities_to_figures((const uint8_t *)text, strlen(text), 0, CN_ZHAO, method, options,
                                                    fresh_room(), room_length, &length);
     expect(new_text, found == status && length == wanted && (found != CN_DONE || memcmp(printed, new_text, wanted) == 0));
 }
 
 static void each_status_of_replacing(void) {
-    const uint32_t both = CN_ABOUT | CN_ONE_CHARACTER;
-    replaces("共3.5万元", CN_TEN_THOUSAND, 0, 11, CN_DONE, 11, "共35000元");
-    replaces("共3.5万元", CN_TEN_THOUSAND, 0, 10, CN_NO_ROOM, 11, "a room that is a byte too small");
-    replaces("共3.5万元", CN_TEN_THOUSAND, 0, 0, CN_NO_ROOM, 11, "a room without a byte");
-    replaces("一亿", CN_LOW, 0, 64, CN_DONE, 6, "100000");
+    const uint32_t both = CN_ABOUT | CN_ONE_CHARACTER, each = both | CN_DOUBTFUL | CN_EXPANDED | CN_CANONICAL;
+    replaces("共三万五千元", CN_TEN_THOUSAND, 0, 11, CN_DONE, 11, "共35000元");
+    replaces("共三万五千元", CN_TEN_THOUSAND, 0, 10, CN_NO_ROOM, 11, "a room that is a byte too small");
+    replaces("共三万五千元", CN_TEN_THOUSAND, 0, 0, CN_NO_ROOM, 11, "a room without a byte");
+    replaces("共3.5万元", CN_TEN_THOUSAND, 0, 64, CN_DONE, 12, "共3.5万元");
+    replaces("共3.5万元", CN_TEN_THOUSAND, CN_EXPANDED, 64, CN_DONE, 11, "共35000元");
+    replaces("一亿", CN_LOW, 0, 64, CN_DONE, 4, "1亿");
+    replaces("一亿", CN_LOW, CN_EXPANDED, 64, CN_DONE, 6, "100000");
+    replaces("一百亿", CN_TEN_THOUSAND, CN_EXPANDED, 9, CN_NO_ROOM, 11, "a room as long as the text");
+    replaces("1,280", CN_TEN_THOUSAND, CN_CANONICAL, 64, CN_DONE, 4, "1280");
     replaces("十几，一般", CN_TEN_THOUSAND, both, 64, CN_DONE, 12, "10几，1般");
+    replaces("五一", CN_TEN_THOUSAND, CN_DOUBTFUL, 64, CN_DONE, 2, "51");
+    replaces("八五折", CN_TEN_THOUSAND, each, 64, CN_DONE, 9, "八五折");
     replaces("", CN_TEN_THOUSAND, 0, 0, CN_DONE, 0, "");
     replaces("\xff", CN_TEN_THOUSAND, 0, 64, CN_NOT_UTF8, 0, "no UTF-8");
     replaces("一", CN_DIGITS, 0, 64, CN_UNKNOWN, 0, "a way that is no method");
-    replaces("一", CN_TEN_THOUSAND, both | CN_STANDS_ALONE, 64, CN_UNKNOWN, 0, "a flag that is not to be included");
+    replaces("一", CN_TEN_THOUSAND, each | CN_STANDS_ALONE, 64, CN_UNKNOWN, 0, "a flag that is no option");
+    replaces("一", CN_TEN_THOUSAND, CN_CANONICAL * 2, 64, CN_UNKNOWN, 0, "an unknown option");
+    replaces("一", CN_TEN_THOUSAND, UINT32_MAX, 64, CN_UNKNOWN, 0, "all bits of the options");
 }
 
 /* Finds each expression of a text. */
@@ -224,9 +239,34 @@ static void expressions_from_a_place(void) {
     cn_span span = {0, 0, 0};
     uint32_t found = chinese_quantity_find(text, text_length, 0, 0, CN_ZHAO, &span, 1, &count);
     expect("the first expression", found == CN_DONE && count == 1 && span.start == 3 && span.end == 10
-                                       && span.flags == CN_STANDS_ALONE);
+                                       && (span.flags & 15) == CN_STANDS_ALONE && cn_doubt_of(&span) == CN_NO_DOUBT);
     found = chinese_quantity_find_utf8(text, text_length, span.end, 0, CN_ZHAO, &span, 1, &count);
     expect("the expression after it", found == CN_DONE && count == 1 && span.start == 16 && span.end == 21);
+}
+
+/* A doubt stands above the flags of an expression, and a number has none. */
+static void doubts(void) {
+    const char text[] = "五一";
+    const size_t text_length = sizeof text - 1;
+    const uint32_t flags = CN_PLAIN_DIGITS | CN_STANDS_ALONE;
+    cn_span span = {0, 0, 0};
+    cn_status status = cn_find_next_quantity(text, text_length, 0, CN_ZHAO, &span);
+    expect("a doubtful expression", status == CN_DONE && cn_doubt_of(&span) == CN_DOUBT_DIGITS && span.flags % 16 == flags);
+    span.start = span.end = 0;
+    status = cn_find_next(text, text_length, 0, CN_ZHAO, &span);
+    expect("a number without doubt", status == CN_DONE && cn_doubt_of(&span) == CN_NO_DOUBT && span.flags == flags);
+    expect("no doubt of nothing", cn_find_next(text, text_length, 0, CN_ZHAO, &span) == CN_NONE && cn_doubt_of(&span) == CN_NO_DOUBT);
+}
+
+/* What is found and is not plain is read with units, so 正 is one. */
+static void found_by_units(void) {
+    const char text[] = "正33";
+    cn_span span = {0, 0, 0};
+    cn_reading reading;
+    cn_status status = cn_find_next(text, strlen(text), 1, CN_JI, &span);
+    expect("a unit in front", status == CN_DONE && span.start == 0 && span.end == 5);
+    status = cn_read_found(text, &span, CN_I64, CN_ANY, &reading);
+    expect("refused by units", status == CN_INCORRECT && reading.char_index == 1);
 }
 
 /* Reads a text, which has this status, number and place. */
@@ -269,7 +309,7 @@ static void prints(cn_number number, uint32_t kind, uint32_t way, uint32_t scrip
 
 static void each_status_of_printing(void) {
     cn_number limit = cn_unsigned(UINT64_C(10000000000000000)), below = cn_signed(-INT64_C(10000000000000000));
-    cn_number least = {0, UINT64_C(1) << 63};
+    cn_number least = {0, UINT64_C(1) << 63}, trillion = cn_unsigned(UINT64_C(1000000000000));
     prints(cn_unsigned(123), CN_U8, CN_LOW, CN_SIMPLIFIED, CN_UPPER, CN_MOST_BYTES, CN_DONE, 15, "壹佰贰拾叁");
     prints(least, CN_I128, CN_DIGITS, CN_TRADITIONAL, CN_LOWER, 120, CN_DONE, 120,
            "負一七零一四一一八三四六零四六九二三一七三一六八七三零三七一五八八四一零五七二八");
@@ -281,7 +321,9 @@ static void each_status_of_printing(void) {
     prints(cn_unsigned(256), CN_U8, CN_DIGITS, CN_SIMPLIFIED, CN_LOWER, CN_MOST_BYTES, CN_NOT_HELD, 0, "not held");
     prints(cn_unsigned((uint64_t)-5), CN_I64, CN_DIGITS, 0, 0, CN_MOST_BYTES, CN_NOT_HELD, 0, "a sign that is not extended");
     prints(cn_unsigned(1), CN_I128 + 1, 0, 0, 0, CN_MOST_BYTES, CN_UNKNOWN, 0, "an unknown type");
-    prints(cn_unsigned(1), 0, CN_ANY, 0, 0, CN_MOST_BYTES, CN_UNKNOWN, 0, "a way to read alone");
+    prints(trillion, CN_U64, CN_ANY, CN_SIMPLIFIED, CN_LOWER, CN_MOST_BYTES, CN_DONE, 9, "一万亿");
+    prints(trillion, CN_U64, CN_ANY, CN_TRADITIONAL, CN_LOWER, CN_MOST_BYTES, CN_DONE, 6, "一兆");
+    prints(limit, CN_U64, CN_ANY, CN_SIMPLIFIED, CN_LOWER, CN_MOST_BYTES, CN_DONE, 6, "一京");
     prints(cn_unsigned(1), 0, CN_ANY + 1, 0, 0, CN_MOST_BYTES, CN_UNKNOWN, 0, "an unknown way");
     prints(cn_unsigned(1), 0, 0, CN_SIMPLIFIED + 1, 0, CN_MOST_BYTES, CN_UNKNOWN, 0, "an unknown script");
     prints(cn_unsigned(1), 0, 0, 0, CN_LOWER + 1, CN_MOST_BYTES, CN_UNKNOWN, 0, "an unknown case");
@@ -381,7 +423,7 @@ static void texts_of_char(void) {
                                            && room[0] == 0 && room[1] == 7);
     expect("a zero byte at the end", cn_print(number, CN_U8, CN_DIGITS, CN_SIMPLIFIED, CN_LOWER, room, 10) == CN_DONE
                                          && strcmp(room, "一二三") == 0 && room[10] == 7);
-    expect("an empty room at a refusal", cn_print(number, CN_U8, CN_ANY, CN_SIMPLIFIED, CN_LOWER, room, 10) == CN_UNKNOWN
+    expect("an empty room at a refusal", cn_print(cn_unsigned(256), CN_U8, CN_ANY, CN_SIMPLIFIED, CN_LOWER, room, 10) == CN_NOT_HELD
                                              && room[0] == 0);
     expect("a zero byte inside", cn_read("一\0二", 7, CN_U8, CN_DIGITS, &reading) == CN_INCORRECT
                                      && reading.char_index == 1 && reading.byte_index == 3);
@@ -460,6 +502,8 @@ int main(void) {
     numbers_of_a_text();
     quantities_of_a_text();
     expressions_from_a_place();
+    doubts();
+    found_by_units();
     texts_of_char();
     quantities_of_char();
     amounts_of_char();

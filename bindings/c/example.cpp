@@ -36,7 +36,8 @@ void first_steps() {
 
     if (auto quantity = chinese_to_quantity("12.5%"))
         std::cout << quantity->to_chinese().value_or("") << '\n'; // 百分之十二点五
-    std::cout << quantities_to_figures("共3.5万元，剩三分之一").value_or("") << '\n'; // 共35000元，剩1/3
+    const char *const sentence = "市值三点五亿元，占百分之十二点五";
+    std::cout << quantities_to_figures(sentence).value_or("") << '\n'; // 市值3.5亿元，占12.5%
 }
 
 /* Whether there is no answer, for this reason. */
@@ -46,12 +47,13 @@ bool is_refused(const Result<Value> &answer, Status status) {
 }
 
 void numbers() {
-    const Style any = {Way::any, Script::simplified, Case::lower};
+    const Style unknown = {static_cast<Way>(CN_ANY + 1), Script::simplified, Case::lower};
     const Style low = {Way::low, Script::simplified, Case::lower};
     const Style traditional = {Way::ten_thousand, Script::traditional, Case::lower};
     expect("a type", is_refused(to_number<std::uint8_t>("二百五十六"), Status::too_large));
     expect("no text", is_refused(to_number<int>({}), Status::empty));
-    expect("a way to read alone", is_refused(to_chinese(1, any), Status::unknown));
+    expect("any way", to_chinese(1000000000000).value_or("") == "一万亿");
+    expect("an unknown way", is_refused(to_chinese(1, unknown), Status::unknown));
     expect("a way of small numbers", is_refused(to_chinese(INT64_MAX, low), Status::too_large));
     expect("no such date", is_refused(date_to_chinese({2025, 2, 29}), Status::not_a_date));
     expect("no UTF-8", is_refused(chinese_to_date("\xff"), Status::not_utf8));
@@ -73,6 +75,7 @@ void quantities() {
     const auto quantity_of = [](const char *text) { return *chinese_to_quantity(text); };
     expect("no whole number", !half.to_whole<int>() && !over_zero.to_whole<int>());
     expect("over 0", is_refused(over_zero.to_chinese(), Status::not_a_quantity));
+    expect("any method", quantity_of("一万亿点五").to_chinese().value_or("") == "一万亿点五");
     expect("no method", is_refused(half.to_chinese(digits), Status::unknown));
     expect("a method of small numbers", is_refused(quantity_of("-10000000000000000").to_chinese(low), Status::too_small));
     expect("a whole number", quantity_of("3.5万").to_whole<int>() == 35000);
@@ -98,10 +101,38 @@ void replaced_quantities() {
     const auto removed = [](const Found &) { return ""; };
     expect("a text with its end", replace_quantities("3万元", removed).value_or("") == "元");
     expect("no UTF-8 to replace", is_refused(replace_quantities("一\xff", removed), Status::not_utf8));
-    expect("no method to replace by", is_refused(replace_quantities("一", removed, {}, Way::any), Status::unknown));
+    expect("no method to replace by", is_refused(replace_quantities("一", removed, {}, Way::digits), Status::unknown));
     expect("no UTF-8 for figures", is_refused(quantities_to_figures("\xff"), Status::not_utf8));
     expect("no method for figures", is_refused(quantities_to_figures("一", {}, Way::digits), Status::unknown));
-    expect("a longer text", quantities_to_figures("一百亿").value_or("") == "10000000000");
+    expect("a shorter text", quantities_to_figures("一百亿").value_or("") == "100亿");
+}
+
+/* What is replaced is asked for by members with these names. */
+void options() {
+    Included doubtful;
+    doubtful.doubtful = true;
+    Figures expanded, canonical;
+    expanded.expanded = canonical.canonical = true;
+    const auto in_figures = [](std::string_view text, Included included, Figures figures) {
+        return quantities_to_figures(text, {}, Way::any, included, figures).value_or("");
+    };
+    expect("a longer text", in_figures("一百亿", {}, expanded) == "10000000000");
+    expect("plain figures", in_figures("1,280元", {}, canonical) == "1280元");
+    expect("what is doubtful", in_figures("五一，八五折", doubtful, {}) == "51，八五折");
+    const auto in_brackets = [](const Found &found) { return '[' + std::string(found.text) + ']'; };
+    const auto replaced = [&](Included included) {
+        return replace_quantities("五一，八五折，二十", in_brackets, {}, Way::any, included).value_or("");
+    };
+    expect("nothing doubtful is replaced", replaced({}) == "五一，八五折，[二十]");
+    expect("but no part of something", replaced(doubtful) == "[五一]，八五折，[二十]");
+}
+
+void doubts() {
+    const Numbers expressions = find_quantities("五一，二十");
+    const std::vector<Found> found(expressions.begin(), expressions.end());
+    expect("digits", found.size() == 2 && found[0].doubt == Doubt::digits && found[0].is_plain);
+    expect("no doubt", found[1].doubt == Doubt::none && !found[1].is_plain);
+    expect("a number without doubt", (*find_numbers("五一").begin()).doubt == Doubt::none);
 }
 
 void found_numbers() {
@@ -112,6 +143,8 @@ void found_numbers() {
     expect("where it stands", found[0].start == 3 && found[0].end == 12);
     expect("plain digits", found[1].is_plain && found[1].value<int>() == 2025);
     expect("no such type", !found[1].value<std::int8_t>());
+    const Found unit_in_front = *find_numbers("正33", {true, Unit::ji}).begin();
+    expect("by units", is_refused(unit_in_front.number<int>(), Status::incorrect));
 
     Wanted both_cases;
     both_cases.upper = true;
@@ -128,6 +161,8 @@ int main() {
     numbers();
     quantities();
     replaced_quantities();
+    options();
+    doubts();
     found_numbers();
     return failed != 0;
 }

@@ -63,7 +63,7 @@ static void *all_numbers(void *argument) {
     task *mine = (task *)argument;
     for (int32_t value = INT16_MIN; value <= UINT16_MAX; value += mine->step) {
         uint32_t kind = value <= INT16_MAX ? CN_I16 : CN_U16;
-        for (uint32_t way = CN_DIGITS; way <= CN_HIGH; way++)
+        for (uint32_t way = CN_DIGITS; way <= CN_ANY; way++)
             mine->failed += !is_read_back(cn_signed(value), kind, way, mine);
         for (uint32_t form = CN_PLAIN; value >= 0 && form < 8; form++)
             mine->failed += !is_amount_read_back((uint64_t)value, mine->script, form);

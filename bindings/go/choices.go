@@ -6,10 +6,14 @@ import "math"
 // zero value is the choice that is made where none is named, and else from 0 on.
 
 // Way is how a number is written: as plain digits, 一二三, or with units, 一百二十三, by one of four
-// methods. Where none is named, it is Any to read and TenThousand to write.
+// methods. Where none is named, it is Any.
 //
-// TenThousand is the one to use: after 萬 each unit is 10^4 times the one before. At 10^12 it
-// writes 兆, as in Taiwan, where Middle and High write 萬億, as on the mainland.
+// Any is the one to use. It reads as Digits where all of the text is digits, and else as
+// TenThousand. It writes what it reads back: in the simplified script below 10^16 as Middle, so
+// that 10^12 is 一万亿, and else as TenThousand.
+//
+// TenThousand: after 萬 each unit is 10^4 times the one before. At 10^12 it writes 兆, as in
+// Taiwan, where Middle and High write 萬億, as on the mainland.
 type Way uint32
 
 const (
@@ -18,7 +22,7 @@ const (
 	TenThousand
 	Middle // after 億 each unit is 10^8 times the one before
 	High   // from 億 on each unit is the square of the one before
-	Any    // to read alone: Digits where all of the text is digits, else TenThousand
+	Any    // goes by the text, or by the script and the number
 )
 
 // Script is the script of a text that is written: 萬 or 万. Both are read. Where none is named, it
@@ -70,6 +74,19 @@ const (
 	Decimal              // 3.5, 三點五, 3.5万
 	Percent              // 12.5%, 百分之五十
 	Fraction             // 三分之一, 千分之五
+)
+
+// Doubt is why a reader may mean by an expression something else than its quantity.
+type Doubt uint32
+
+const (
+	NoDoubt     Doubt = iota
+	DoubtWord         // it is part of a word: 十二 of 十二指肠, 十一 of 双十一
+	DoubtDigits       // it is two or three Chinese digits, or more that rise: 五一, 一二三四
+	DoubtTerm         // it is part of a term: 负二 of 负二项, 十六 of 十六进制
+	DoubtPart         // it is part of an expression with 折, 成 or 半: 八五 of 八五折, 一 of 一个半
+	DoubtTime         // it may be a time: 三点五 of 下午三点五, 十点零五
+	DoubtRange        // it is one end of a range whose ends share a unit or 百分之: 3 and 5万 of 3~5万
 )
 
 // Status is why a call refuses. Each is an error, for errors.Is; but no error has Done, NoRoom or

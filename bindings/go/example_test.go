@@ -40,8 +40,8 @@ func Example() {
 	fmt.Println(quantity.Rat()) // 1/8
 	text, _ = quantity.ToChinese(nil)
 	fmt.Println(text) // 百分之十二点五
-	text, _ = cn.QuantitiesToFigures("一般共三点五万元，占１２．５０％", nil)
-	fmt.Println(text) // 一般共35000元，占12.5%
+	text, _ = cn.QuantitiesToFigures("市值三点五亿元，占百分之十二点五", nil)
+	fmt.Println(text) // 市值3.5亿元，占12.5%
 	// Output:
 	// 50
 	// 120
@@ -54,7 +54,7 @@ func Example() {
 	// 贰零贰陆年零壹月壹拾伍日
 	// 1/8
 	// 百分之十二点五
-	// 一般共35000元，占12.5%
+	// 市值3.5亿元，占12.5%
 }
 
 func ExampleError() {
@@ -172,12 +172,27 @@ func ExampleReplaceQuantities() {
 }
 
 func ExampleQuantitiesToFigures() {
-	text := "一共十几个，三百多人"
+	text := "市值三点五亿元，占百分之十二点五，一共十几个"
 	usual, _ := cn.QuantitiesToFigures(text, nil)
 	all, _ := cn.QuantitiesToFigures(text, &cn.Replacing{About: true, OneCharacter: true})
+	expanded, _ := cn.QuantitiesToFigures(text, &cn.Replacing{Expanded: true})
 	fmt.Println(usual)
 	fmt.Println(all)
+	fmt.Println(expanded)
 	// Output:
-	// 一共十几个，三百多人
-	// 1共10几个，300多人
+	// 市值3.5亿元，占12.5%，一共十几个
+	// 市值3.5亿元，占12.5%，1共10几个
+	// 市值350000000元，占12.5%，一共十几个
+}
+
+func ExampleDoubt() {
+	found, _ := cn.FindQuantities("五一假期，3~5万，二十人", nil)
+	for _, it := range found {
+		fmt.Println(it.Text, it.Doubt == cn.DoubtDigits, it.Doubt == cn.DoubtRange)
+	}
+	// Output:
+	// 五一 true false
+	// 3 false true
+	// 5万 false true
+	// 二十 false false
 }

@@ -39,11 +39,14 @@ type Found struct {
 	IsAbout bool
 	// IsOneCharacter says that it is one Chinese character, as the 一 of 一般.
 	IsOneCharacter bool
+	// Doubt says why a reader may mean by an expression something else than its quantity:
+	// DoubtDigits of 五一. A number has NoDoubt.
+	Doubt Doubt
 }
 
-// Number is its number, as ToNumber reads it by Any or by another way, plain digits as such. Its
-// error is that of ToNumber, whose CharIndex counts within the run: not each run is a number, as
-// 五六十.
+// Number is its number, as ToNumber reads it, plain digits as such, and else by a way, where Any,
+// or none that is named, is TenThousand. Its error is that of ToNumber, whose CharIndex counts
+// within the run: not each run is a number, as 五六十.
 func (it Found) Number(way Way) (int64, error) {
 	return ToNumber[int64](it.Text, it.way(way))
 }
@@ -60,8 +63,11 @@ func (it Found) Quantity(method Way) (Quantity, error) {
 
 // way is that by which it is read. One that is none is left to be refused.
 func (it Found) way(way Way) Way {
-	if it.IsPlain && way <= Any {
+	switch {
+	case it.IsPlain && way <= Any:
 		return Digits
+	case way == 0 || way == Any:
+		return TenThousand
 	}
 	return way
 }
@@ -136,5 +142,6 @@ func foundAt(text string, span C.cn_span) Found {
 		StandsAlone:    span.flags&C.CN_STANDS_ALONE != 0,
 		IsAbout:        span.flags&C.CN_ABOUT != 0,
 		IsOneCharacter: span.flags&C.CN_ONE_CHARACTER != 0,
+		Doubt:          Doubt(C.cn_doubt_of(&span)),
 	}
 }

@@ -109,10 +109,10 @@ static inline found find_quantities(_GoString_ text, size_t from, uint32_t upper
 typedef struct { uint32_t status; size_t length; } written;
 
 static inline written write_figures(_GoString_ text, uint32_t upper, uint32_t greatest,
-                                    uint32_t method, uint32_t included, uint8_t *room,
+                                    uint32_t method, uint32_t options, uint8_t *room,
                                     size_t room_length) {
     written it;
-    it.status = chinese_quantities_to_figures(TEXT(text), upper, greatest, method, included, room,
+    it.status = chinese_quantities_to_figures(TEXT(text), upper, greatest, method, options, room,
                                               room_length, &it.length);
     return it;
 }

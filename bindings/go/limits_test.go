@@ -115,18 +115,18 @@ func TestUnknownChoices(t *testing.T) {
 	for what, err := range map[string]error{
 		"a way":         errorOf(cn.ToBigInt("一", math.MaxUint32)),
 		"a way to read": errorOf(cn.ToNumber[int]("一", cn.Any+1)),
-		"any to write":  errorOf(cn.ToChinese(1, &cn.Style{Way: cn.Any})),
+		"to write":      errorOf(cn.ToChinese(1, &cn.Style{Way: cn.Any + 1})),
 		"a script":      errorOf(cn.ToChinese(1, &cn.Style{Script: 3})),
 		"a case":        errorOf(quantity.ToChinese(&cn.Style{Case: 3})),
 		"digits":        errorOf(quantity.ToChinese(&cn.Style{Way: cn.Digits})),
 		"of an amount":  errorOf(cn.AmountToChinese(1, &cn.AmountForm{Script: 3})),
 		"of a date":     errorOf(cn.DateToChinese(first, 3)),
 		"a form":        errorOf(cn.NewQuantity(one, one, 4)),
-		"a method":      errorOf(cn.ToQuantity("一", cn.Any)),
+		"a method":      errorOf(cn.ToQuantity("一", cn.Digits)),
 		"a unit":        errorOf(cn.FindNumbers("一", &cn.Wanted{Greatest: 17})),
 		"of found ones": errorOf(cn.Found{Text: "一", IsPlain: true}.Number(7)),
 		"to replace":    errorOf(cn.ReplaceQuantities("", &cn.Replacing{Method: 1}, everyOne)),
-		"in figures":    errorOf(cn.QuantitiesToFigures("", &cn.Replacing{Method: 6})),
+		"in figures":    errorOf(cn.QuantitiesToFigures("", &cn.Replacing{Method: 7})),
 	} {
 		wantStatus(t, what, err, cn.Unknown)
 	}
@@ -220,7 +220,7 @@ func TestLongTexts(t *testing.T) {
 		"三亿，": "300000000，", "一百二十三，": "123，", "文": "文",
 	} {
 		text, wanted := strings.Repeat(piece, many), strings.Repeat(its, many)
-		figures, err := cn.QuantitiesToFigures(text, nil)
+		figures, err := cn.QuantitiesToFigures(text, &cn.Replacing{Expanded: true})
 		wantStatus(t, piece, err, cn.Done)
 		replaced, err := cn.ReplaceQuantities(text, nil, inFigures)
 		wantStatus(t, piece, err, cn.Done)
@@ -249,6 +249,41 @@ func TestSearchesStop(t *testing.T) {
 	}
 }
 
+func TestOptions(t *testing.T) {
+	const text = "1,280，五一，八五折，三亿"
+	for wanted, which := range map[string]*cn.Replacing{
+		"1,280，五一，八五折，3亿":        nil,
+		"1280，五一，八五折，3亿":         {Canonical: true},
+		"1,280，51，八五折，3亿":        {Doubtful: true},
+		"1,280，五一，八五折，300000000": {Expanded: true},
+	} {
+		figures, err := cn.QuantitiesToFigures(text, which)
+		wantStatus(t, wanted, err, cn.Done)
+		if figures != wanted {
+			t.Errorf("%s, and not %s", figures, wanted)
+		}
+	}
+	brackets := func(found cn.Found) (string, bool) { return "[" + found.Text + "]", true }
+	replaced, err := cn.ReplaceQuantities(text, &cn.Replacing{Doubtful: true}, brackets)
+	wantStatus(t, text, err, cn.Done)
+	if replaced != "[1,280]，[五一]，八五折，[三亿]" {
+		t.Error(replaced)
+	}
+}
+
+// What is found and is not plain is read with units, so 正 is one.
+func TestFoundByUnits(t *testing.T) {
+	found, err := cn.FindNumbers("正33", &cn.Wanted{Upper: true, Greatest: cn.Ji})
+	wantStatus(t, "to search", err, cn.Done)
+	if len(found) != 1 || found[0].Doubt != cn.NoDoubt {
+		t.Fatal(found)
+	}
+	for _, way := range []cn.Way{0, cn.Any, cn.TenThousand} {
+		wantStatus(t, "正33", errorOf(found[0].Number(way)), cn.Incorrect)
+		wantStatus(t, "正33", errorOf(found[0].BigInt(way)), cn.Incorrect)
+	}
+}
+
 func TestManyGoroutines(t *testing.T) {
 	var all sync.WaitGroup
 	for first := int64(0); first < 8; first++ {
@@ -258,7 +293,7 @@ func TestManyGoroutines(t *testing.T) {
 			for end := number + 1_000; number < end; number++ {
 				thereAndBack(t, number, -number<<40)
 			}
-			if text, _ := cn.QuantitiesToFigures("共三点五万", nil); text != "共35000" {
+			if text, _ := cn.QuantitiesToFigures("共三点五万", nil); text != "共3.5万" {
 				t.Error(text)
 			}
 		}(first << 50)

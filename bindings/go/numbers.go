@@ -15,8 +15,8 @@ type Integer interface {
 		~uint | ~uint8 | ~uint16 | ~uint32 | ~uint64 | ~uintptr
 }
 
-// Style is how a number or a quantity is written: by default, as nil too, TenThousand in
-// Simplified and Lower. By Any nothing is written.
+// Style is how a number or a quantity is written: by default, as nil too, by Any in
+// Simplified and Lower.
 type Style struct {
 	Way    Way
 	Script Script
@@ -28,7 +28,7 @@ func (it *Style) codes() (way, script, letterCase C.uint32_t) {
 	if it == nil {
 		it = &Style{}
 	}
-	return code(it.Way, TenThousand), code(it.Script, Simplified), code(it.Case, Lower)
+	return code(it.Way, Any), code(it.Script, Simplified), code(it.Case, Lower)
 }
 
 // ToNumber is the number of a text, of an integer type:

@@ -65,11 +65,11 @@ func power(exponent uint) *big.Int {
 	return new(big.Int).Exp(big.NewInt(10), new(big.Int).SetUint64(uint64(exponent)), nil)
 }
 
-// ToQuantity is the quantity of a text, by a method, Low to High: a whole number, a decimal, a
-// percentage or a fraction, in figures, in numerals or in both. Where no method is named, it is
-// TenThousand. The errors are as of ToNumber.
+// ToQuantity is the quantity of a text, by a method, Low to High, or by Any, which is TenThousand
+// here and is taken where none is named: a whole number, a decimal, a percentage or a fraction, in
+// figures, in numerals or in both. The errors are as of ToNumber.
 func ToQuantity(text string, method Way) (Quantity, error) {
-	it := C.read_quantity(text, code(method, TenThousand))
+	it := C.read_quantity(text, code(method, Any))
 	told := &it.told
 	err := refusal(ofNumber, it.status, told.char_index, told.byte_index)
 	return Quantity{halvesOf(told.numerator), halvesOf(told.denominator), Form(told.form)}, err
@@ -117,8 +117,9 @@ func (it Quantity) Trimmed() Quantity {
 
 // ToChinese is its text, which ToQuantity reads by the same method as the same numerator and
 // denominator: 百分之十二点五 of 12.5%. One whose denominator is not one of its form is written as a
-// fraction. The way of the style is a method, Low to High. The errors are TooLarge and TooSmall,
-// by Low, NotAQuantity of the zero Quantity, and Unknown for a choice of the style.
+// fraction. The way of the style is a method, Low to High, or Any, which goes by the greatest
+// number that is spelled. The errors are TooLarge and TooSmall, by Low, NotAQuantity of the zero
+// Quantity, and Unknown for a choice of the style.
 func (it Quantity) ToChinese(style *Style) (string, error) {
 	method, script, letterCase := style.codes()
 	printing := C.print_quantity(it.quantity(), method, script, letterCase)

@@ -6,21 +6,32 @@ import "C"
 import "strings"
 
 // Replacing is which quantities of a text are replaced: of those that are Wanted each that
-// ToQuantity reads by the method. By default, as nil too, that is TenThousand, and those that are
-// about so much or one Chinese character stay.
+// ToQuantity reads by the method. By default, as nil too, that is Any, and those that are
+// about so much, one Chinese character or doubtful stay; those with DoubtPart always do.
 type Replacing struct {
 	Wanted
-	// Method is Low to High.
+	// Method is Low to High, or Any.
 	Method Way
 	// About adds those that are about so much, as the 300 of 300多.
 	About bool
 	// OneCharacter adds those that are one Chinese character, as the 一 of 一般.
 	OneCharacter bool
+	// Doubtful adds those that are doubtful, as 五一, but for those with DoubtPart.
+	Doubtful bool
+	// Expanded is for QuantitiesToFigures alone: no great unit is kept, and 三千五百亿 becomes
+	// 350000000000, and not 3500亿.
+	Expanded bool
+	// Canonical is for QuantitiesToFigures alone: what is written in figures alone is rewritten in
+	// ASCII, without commas and leading zeros.
+	Canonical bool
 }
 
 // takes says whether what was found is to be replaced.
 func (it *Replacing) takes(found Found) bool {
 	if found.IsAbout && !it.About || found.IsOneCharacter && !it.OneCharacter {
+		return false
+	}
+	if found.Doubt == DoubtPart || found.Doubt != NoDoubt && !it.Doubtful {
 		return false
 	}
 	_, err := found.Quantity(it.Method)
@@ -59,19 +70,24 @@ func ReplaceQuantities(
 	return done.String(), nil
 }
 
-// QuantitiesToFigures is the text with its quantities in figures, as ToFigures gives them: those
-// that ReplaceQuantities replaces. Its errors are the same.
+// QuantitiesToFigures is the text with its numerals in figures, as an editor writes them: of
+// 市值三点五亿元，占百分之十二点五 it is 市值3.5亿元，占12.5%. What already is in figures stays, and so do
+// what ReplaceQuantities does not replace, a part of a name, an address or another number, 千分之五
+// and 二又五分之三, and the other parts of a date, a time, a length, an amount or a range of which one
+// part stays. Its errors are those of ReplaceQuantities.
 func QuantitiesToFigures(text string, which *Replacing) (string, error) {
 	if which == nil {
 		which = &Replacing{}
 	}
 	upper, greatest := which.Wanted.codes()
-	method := code(which.Method, TenThousand)
-	included := flag(which.About, C.CN_ABOUT) | flag(which.OneCharacter, C.CN_ONE_CHARACTER)
+	method := code(which.Method, Any)
+	options := flag(which.About, C.CN_ABOUT) | flag(which.OneCharacter, C.CN_ONE_CHARACTER) |
+		flag(which.Doubtful, C.CN_DOUBTFUL) | flag(which.Expanded, C.CN_EXPANDED) |
+		flag(which.Canonical, C.CN_CANONICAL)
 	room := make([]byte, len(text)+1)
 	for {
 		start, length := (*C.uint8_t)(&room[0]), C.size_t(len(room))
-		it := C.write_figures(text, upper, greatest, method, included, start, length)
+		it := C.write_figures(text, upper, greatest, method, options, start, length)
 		if it.status != C.CN_NO_ROOM {
 			return string(room[:it.length]), refusal(ofNumber, it.status, 0, 0)
 		}

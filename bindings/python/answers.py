@@ -3,9 +3,23 @@ import sys
 from datetime import date
 
 from chinese_number import Quantity, QuantityForm, amount_to_chinese, chinese_to_amount
-from chinese_number import chinese_to_amount_as_typed, chinese_to_date, chinese_to_signed_amount
-from chinese_number import date_to_chinese, find_numbers, find_quantities, quantities_to_figures
-from chinese_number import replace_quantities, signed_amount_to_chinese, to_chinese, to_number
+from chinese_number import (
+    chinese_to_amount_as_typed,
+    chinese_to_date,
+    chinese_to_signed_amount,
+)
+from chinese_number import (
+    date_to_chinese,
+    find_numbers,
+    find_quantities,
+    quantities_to_figures,
+)
+from chinese_number import (
+    replace_quantities,
+    signed_amount_to_chinese,
+    to_chinese,
+    to_number,
+)
 from chinese_number import to_quantity, yuan_to_fen
 
 # The words of questions that this package has other ones for.
@@ -23,7 +37,14 @@ FLAGS = {
     "about": "is_about",
     "one": "is_one_character",
 }
-INCLUDED = {"none": {}, "about": {"about": True}, "one": {"one_character": True}}
+OPTIONS = {
+    "none": {},
+    "about": {"about": True},
+    "one": {"one_character": True},
+    "doubtful": {"doubtful": True},
+    "expanded": {"expanded": True},
+    "canonical": {"canonical": True},
+}
 
 
 def told(call, *words):
@@ -79,12 +100,12 @@ def write_quantity(method, script, case, words):
     return quantity_of(words).to_chinese(method=method, script=script, case=case)
 
 
-def included(words):
-    return {name: it for word in words.split("+") for name, it in INCLUDED[word].items()}
+def options(words):
+    return {name: it for word in words.split("+") for name, it in OPTIONS[word].items()}
 
 
 def replace_with_figures(words, text):
-    return quantities_to_figures(text, **included(words))
+    return quantities_to_figures(text, **options(words))
 
 
 def in_numerals(found):
@@ -93,7 +114,7 @@ def in_numerals(found):
 
 
 def replace_with_numerals(words, text):
-    return replace_quantities(text, in_numerals, **included(words))
+    return replace_quantities(text, in_numerals, **options(words))
 
 
 def flags(found):
@@ -122,6 +143,11 @@ def find_expressions(text):
     return in_place(text, find_quantities(text), answer)
 
 
+def find_doubts(text):
+    answer = lambda found: found.doubt.value if found.doubt else "none"
+    return in_place(text, find_quantities(text), answer)
+
+
 CALLS = {
     "read": read,
     "print": write,
@@ -138,6 +164,7 @@ CALLS = {
     "flags": find_flags,
     "read_quantity": read_quantity,
     "find_quantities": find_expressions,
+    "doubts": find_doubts,
     "print_quantity": write_quantity,
     "quantity_figures": lambda words: quantity_of(words).to_figures(),
     "trim_quantity": lambda words: shown(quantity_of(words).trimmed()),

@@ -16,6 +16,7 @@ enum {
     PIECE = 8192,   /* characters; see utf8 */
     AT_ONCE = 256,  /* numbers of a text that are found before the first of them is handed out */
     CHOICES = 4,
+    DOUBT = 16, /* the code of a doubt is multiplied by this, and added to the flags */
     MOST_WORDS = 20 /* of one choice: the members of its enum, and the str that each equals */
 };
 
@@ -392,8 +393,8 @@ static PyObject *quantities_to_figures(PyObject *module, PyObject *given) {
     PyObject *data, *room = NULL;
     char *bytes;
     Py_ssize_t given_length;
-    unsigned upper, greatest, method, included;
-    if (!PyArg_ParseTuple(given, "SIIII", &data, &upper, &greatest, &method, &included) ||
+    unsigned upper, greatest, method, options;
+    if (!PyArg_ParseTuple(given, "SIIII", &data, &upper, &greatest, &method, &options) ||
         PyBytes_AsStringAndSize(data, &bytes, &given_length))
         return NULL;
     size_t length = (size_t)given_length;
@@ -407,7 +408,7 @@ static PyObject *quantities_to_figures(PyObject *module, PyObject *given) {
         uint8_t *to = (uint8_t *)PyBytes_AsString(room);
         PyThreadState *thread = let_go((size_t)given_length);
         status = chinese_quantities_to_figures((const uint8_t *)bytes, (size_t)given_length, upper,
-                                               greatest, method, included, to, most, &length);
+                                               greatest, method, options, to, most, &length);
         take_back(thread);
     }
     PyObject *text = PyUnicode_DecodeUTF8(PyBytes_AsString(room), (Py_ssize_t)length, NULL);
@@ -501,6 +502,10 @@ static PyObject *has_flag(PyObject *self, void *flag) {
     return PyBool_FromLong((((run *)self)->flags & (uintptr_t)flag) != 0);
 }
 
+static PyObject *doubt_of(PyObject *self, void *none) {
+    return PyLong_FromUnsignedLong(((run *)self)->flags / DOUBT);
+}
+
 /* A run of a class without places and flags. */
 static run *new_run(PyTypeObject *class, PyObject *string) {
     run *it = (run *)PyType_GenericAlloc(class, 0);
@@ -511,16 +516,17 @@ static run *new_run(PyTypeObject *class, PyObject *string) {
     return it;
 }
 
-/* Makes a run of its seven fields, for the class of runs and each below it. A str of another class,
- * which can hold the run, is copied. */
+/* Makes a run of its seven fields and the code of its doubt, or of none, for the class of runs and
+ * each below it. A str of another class, which can hold the run, is copied. */
 static PyObject *make_run(PyTypeObject *class, PyObject *values, PyObject *words) {
-    static char *names[] = {"start",        "end",      "text",             "is_plain",
-                            "stands_alone", "is_about", "is_one_character", NULL};
+    static char *names[] = {"start",    "end",              "text",   "is_plain", "stands_alone",
+                            "is_about", "is_one_character", "_doubt", NULL};
     Py_ssize_t start, end;
     PyObject *text;
     int plain, alone, about, one;
-    if (!PyArg_ParseTupleAndKeywords(values, words, "nnUpppp:Run", names, &start, &end, &text,
-                                     &plain, &alone, &about, &one))
+    unsigned doubt = CN_NO_DOUBT;
+    if (!PyArg_ParseTupleAndKeywords(values, words, "nnUpppp|I:Run", names, &start, &end, &text,
+                                     &plain, &alone, &about, &one, &doubt))
         return NULL;
     PyObject *exact = PyUnicode_FromObject(text);
     run *it = exact ? new_run(class, exact) : NULL;
@@ -529,7 +535,7 @@ static PyObject *make_run(PyTypeObject *class, PyObject *values, PyObject *words
         it->start = start;
         it->end = end;
         it->flags = (plain ? CN_PLAIN_DIGITS : 0u) | (alone ? CN_STANDS_ALONE : 0u) |
-                    (about ? CN_ABOUT : 0u) | (one ? CN_ONE_CHARACTER : 0u);
+                    (about ? CN_ABOUT : 0u) | (one ? CN_ONE_CHARACTER : 0u) | doubt * DOUBT;
     }
     return (PyObject *)it;
 }
@@ -554,10 +560,11 @@ static PyGetSetDef OTHERS[] = {
     FLAG("stands_alone", CN_STANDS_ALONE),
     FLAG("is_about", CN_ABOUT),
     FLAG("is_one_character", CN_ONE_CHARACTER),
+    {"_doubt", doubt_of, NULL, NULL, NULL},
     {NULL, NULL, NULL, NULL, NULL},
 };
 static const char SIGNATURE[] =
-    "Run(start, end, text, is_plain, stands_alone, is_about, is_one_character)\n--\n\n";
+    "Run(start, end, text, is_plain, stands_alone, is_about, is_one_character, _doubt=0)\n--\n\n";
 static PyType_Slot RUN_SLOTS[] = {
     {Py_tp_doc, (void *)SIGNATURE}, {Py_tp_new, (void *)make_run},
     {Py_tp_members, PLACES},        {Py_tp_dealloc, (void *)discard_run},

@@ -11,11 +11,12 @@ import {
 const OTHERS = { naive: 'digits', ten_thousand: 'tenThousand', simple: 'simplified' };
 const named = (word) => OTHERS[word] ?? word;
 
-// What a word of a form, or of what is included, sets; `plain` and `none` set nothing.
+// What a word of a form, or of an option of replacing, sets; `plain` and `none` set nothing.
 const SETS = {
   plain: {}, currency: { currency: true }, round_yuan: { yuan: '圆' },
   upright_closing: { closing: '正' }, none: {}, about: { about: true },
-  one: { oneCharacter: true },
+  one: { oneCharacter: true }, doubtful: { doubtful: true }, expanded: { expanded: true },
+  canonical: { canonical: true },
 };
 const optionsOf = (words) => Object.assign({}, ...words.split('+').map((it) => SETS[it]));
 
@@ -91,13 +92,14 @@ const calls = {
   read_quantity: (way, text) => shown(toQuantity(text, { method: named(way) })),
   find_quantities: (text) => inPlace(findQuantities, text,
     (found) => told(() => shown(found.quantity()))),
+  doubts: (text) => inPlace(findQuantities, text, (found) => found.doubt ?? 'none'),
   print_quantity: (way, script, letterCase, words) => quantityOf(words).toChinese(
     { method: named(way), script: named(script), case: letterCase }),
   quantity_figures: (words) => quantityOf(words).toFigures(),
   trim_quantity: (words) => shown(quantityOf(words).trimmed()),
-  quantities_to_figures: (included, text) => quantitiesToFigures(text, optionsOf(included)),
-  replace_quantities: (included, text) =>
-    replaceQuantities(text, numeralsUnlessFraction, optionsOf(included)),
+  quantities_to_figures: (flags, text) => quantitiesToFigures(text, optionsOf(flags)),
+  replace_quantities: (flags, text) =>
+    replaceQuantities(text, numeralsUnlessFraction, optionsOf(flags)),
 };
 
 for (const line of readFileSync(0, 'utf8').split('\n').slice(0, -1)) {

@@ -28,7 +28,6 @@ const FLAG = null;
 const snake = (name) => name.replace(/[A-Z]/g, (it) => `_${it.toLowerCase()}`);
 const wordsFor = (names) => new Map(names.map((it) => [snake(it), it]));
 const KIND = wordsFor(KINDS), WAY = wordsFor(WAYS), METHOD = wordsFor(METHODS);
-const PRINT_WAY = wordsFor(WAYS.filter((it) => it !== 'any'));
 const COLUMN = {
   has: (it) => /^[1-9][0-9]{0,8}$/.test(it), get: Number,
   keys: () => ['a number from 1 to 999999999'],
@@ -44,10 +43,11 @@ usage: chinese-number amount [--traditional] [--currency] [--yuan 圆] [--closin
        chinese-number amount .. --column N [--header] [--delimiter ,]
        chinese-number date [--traditional] WORD..
        chinese-number read [--kind i128] [--way any] WORD..
-       chinese-number print [--traditional] [--upper] [--kind i128] [--way ten_thousand] NUMBER..
+       chinese-number print [--traditional] [--upper] [--kind i128] [--way any] NUMBER..
        chinese-number find [--all] [--kind u128] [--way any]
-       chinese-number find --exact [--all] [--method ten_thousand]
-       chinese-number replace [--all] [--method ten_thousand] [--about] [--one-character] [WORD..]
+       chinese-number find --exact [--all] [--method any]
+       chinese-number replace [--all] [--method any] [--about] [--one-character] [--doubtful]
+                              [--expanded] [--canonical] [WORD..]
        chinese-number --help | --version
 
 amount   writes yuan in capitals, 1409.50 as 壹仟肆佰零玖元伍角整, and reads capitals; with --signed
@@ -62,13 +62,14 @@ print    writes whole numbers as numerals, -120 as 负一百二十
 find     writes LINE:CHARACTER TEXT NUMBER of each number in standard input, or err and why it is
          refused; with --all also of the characters of cheques and of units above 兆; with --exact
          of each quantity, as 3.5万, -5, 12.5% and 三分之一, whose NUMBER is then exact, as 125/1000
-replace  writes words, or standard input, with their quantities in figures, 共3.5万元 as 共35000元;
-         with --about also those that are about so much, as in 三百多, and with --one-character those
-         of one Chinese character, as in 一般
+replace  writes words, or standard input, with their numerals in figures, 市值三点五亿元 as 市值3.5亿元;
+         with --about also those that are about so much, as in 三百多; with --one-character those of
+         one Chinese character, as in 一般; with --doubtful those that may mean something else, as
+         五一; with --expanded no great unit is kept, 三点五亿 becomes 350000000; with --canonical
+         figures lose commas and leading zeros, 1,280 becomes 1280
 
-A kind is u8, u16, u32, u64, u128, i8, i16, i32, i64, i128; a way to read
-is digits, low, ten_thousand, middle, high, any, and to write each but any;
-a method is low, ten_thousand, middle, high.
+A kind is u8, u16, u32, u64, u128, i8, i16, i32, i64, i128; a way is digits, low, ten_thousand,
+middle, high, any; a method is each of these but digits.
 Words behind -- are no options.
 `;
 
@@ -91,7 +92,7 @@ const COMMANDS = {
     run: (options, words) => answerEach(words, (word) => toBigInt(word, options)),
   },
   print: {
-    options: { traditional: FLAG, upper: FLAG, kind: KIND, way: PRINT_WAY },
+    options: { traditional: FLAG, upper: FLAG, kind: KIND, way: WAY },
     run: ({ upper, ...options }, words) => {
       const all = { ...options, case: upper ? 'upper' : 'lower' };
       return answerEach(words.map(wholeOf), (number) => toChinese(number, all));
@@ -102,7 +103,10 @@ const COMMANDS = {
     run: findInInput,
   },
   replace: {
-    options: { all: FLAG, method: METHOD, about: FLAG, 'one-character': FLAG },
+    options: {
+      all: FLAG, method: METHOD, about: FLAG, 'one-character': FLAG, doubtful: FLAG,
+      expanded: FLAG, canonical: FLAG,
+    },
     run: ({ all, 'one-character': oneCharacter, ...options }, words) => {
       const choices = { ...options, ...wantedBy(all), oneCharacter };
       const anew = (text) => quantitiesToFigures(text, choices);

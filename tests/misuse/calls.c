@@ -217,15 +217,15 @@ static answer quantity_figures(const question *it) {
     return printed(it, status, *to);
 }
 
-/* In chars, too, the length is told. The last code is that of two flags, or has another one. */
+/* In chars, too, the length is told. The last code is that of the five options, or has another bit. */
 static answer quantities_to_figures(const question *it) {
     size_t *to = told(it, sizeof *to), length = it->text_length, room = it->room_length;
     const uint32_t *codes = it->codes, method = codes[2] + CN_LOW;
-    uint32_t included = codes[3] < 4 ? codes[3] * CN_ABOUT : codes[3] | CN_PLAIN_DIGITS;
+    uint32_t options = codes[3] < 32 ? codes[3] * CN_ABOUT : codes[3] | CN_PLAIN_DIGITS;
     uint64_t status = it->style == IN_CHARS
-        ? cn_quantities_to_figures(text_of(it), length, codes[0], codes[1], method, included,
+        ? cn_quantities_to_figures(text_of(it), length, codes[0], codes[1], method, options,
                                    room_of(it), room, to)
-        : chinese_quantities_to_figures(it->text, length, codes[0], codes[1], method, included,
+        : chinese_quantities_to_figures(it->text, length, codes[0], codes[1], method, options,
                                         it->room, room, to);
     return (answer){status, {*to}, 0, 0};
 }
@@ -308,13 +308,13 @@ static const call calls[] = {
     {"chinese_number_find", number_find, PROVED, {2, 16}, OF_TEXT(FIND)},
     {"chinese_number_find_utf8", number_find, TRUSTS, {2, 16}, OF_TEXT(FIND)},
     {"cn_find_next", number_find, IN_CHARS, {2, 16}, OF_TEXT(FIND)},
-    {"chinese_quantity_read", quantity_read, PROVED, {4}, OF_TEXT(READ)},
-    {"cn_read_quantity", quantity_read, IN_CHARS, {4}, OF_TEXT(READ)},
+    {"chinese_quantity_read", quantity_read, PROVED, {5}, OF_TEXT(READ)},
+    {"cn_read_quantity", quantity_read, IN_CHARS, {5}, OF_TEXT(READ)},
     {"chinese_quantity_find", quantity_find, PROVED, {2, 16}, OF_TEXT(FIND)},
     {"chinese_quantity_find_utf8", quantity_find, TRUSTS, {2, 16}, OF_TEXT(FIND)},
     {"cn_find_next_quantity", quantity_find, IN_CHARS, {2, 16}, OF_TEXT(FIND)},
-    {"chinese_quantities_to_figures", quantities_to_figures, PROVED, {2, 16, 4, 4}, REPLACES},
-    {"cn_quantities_to_figures", quantities_to_figures, IN_CHARS, {2, 16, 4, 4}, REPLACES},
+    {"chinese_quantities_to_figures", quantities_to_figures, PROVED, {2, 16, 5, 32}, REPLACES},
+    {"cn_quantities_to_figures", quantities_to_figures, IN_CHARS, {2, 16, 5, 32}, REPLACES},
     {"chinese_amount_read", amount_read, PROVED, {0}, OF_TEXT(READ_CAPITALS)},
     {"cn_read_amount", amount_read, IN_CHARS, {0}, OF_TEXT(READ_CAPITALS)},
     {"chinese_typed_amount_read", typed_amount_read, PROVED, {0}, OF_TEXT(READ_CAPITALS)},
@@ -325,11 +325,11 @@ static const call calls[] = {
     {"cn_read_figures", figures_read, IN_CHARS, {0}, OF_TEXT(READ_FIGURES)},
     {"chinese_date_read", date_read, PROVED, {0}, OF_TEXT(READ_CAPITALS)},
     {"cn_read_date", date_read, IN_CHARS, {0}, OF_TEXT(READ_CAPITALS)},
-    {"chinese_number_print", number_print, PROVED, {10, 5, 2, 2}, PRINTS(numbers, CN_MOST_BYTES)},
-    {"cn_print", number_print, IN_CHARS, {10, 5, 2, 2}, PRINTS(numbers, CN_MOST_BYTES)},
-    {"chinese_quantity_print", quantity_print, PROVED, {4, 2, 2, 4},
+    {"chinese_number_print", number_print, PROVED, {10, 6, 2, 2}, PRINTS(numbers, CN_MOST_BYTES)},
+    {"cn_print", number_print, IN_CHARS, {10, 6, 2, 2}, PRINTS(numbers, CN_MOST_BYTES)},
+    {"chinese_quantity_print", quantity_print, PROVED, {5, 2, 2, 4},
      PRINTS(quantities, CN_MOST_QUANTITY_BYTES)},
-    {"cn_print_quantity", quantity_print, IN_CHARS, {4, 2, 2, 4},
+    {"cn_print_quantity", quantity_print, IN_CHARS, {5, 2, 2, 4},
      PRINTS(quantities, CN_MOST_QUANTITY_BYTES)},
     {"chinese_quantity_figures", quantity_figures, PROVED, {4},
      PRINTS(quantities, CN_MOST_FIGURES_BYTES)},
@@ -505,6 +505,7 @@ static void try_replacing(task *mine, const call *by) {
     it.room = mine->room.end - it.room_length;
     it.codes[1] = CN_ZHAO;
     it.codes[2] = CN_TEN_THOUSAND - CN_LOW;
+    it.codes[3] = CN_EXPANDED / CN_ABOUT;
     judge(mine, try_rooms(mine, by, it) == 18, by, &it);
 }
 

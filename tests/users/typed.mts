@@ -6,12 +6,12 @@ import { signedAmountToChinese, yuanToFen, yuanToFenBigInt } from 'chinese-numbe
 import { chineseToDate, dateToChinese, findNumbers } from 'chinese-number-proved';
 import { Quantity, findQuantities, toQuantity } from 'chinese-number-proved';
 import { quantitiesToFigures, replaceQuantities } from 'chinese-number-proved';
-import type { BillDate, Kind, NumeralCode, PrintWay, Unit, Way } from 'chinese-number-proved';
-import type { FoundQuantity, Method, QuantityForm } from 'chinese-number-proved';
+import type { BillDate, Kind, NumeralCode, Unit, Way } from 'chinese-number-proved';
+import type { Doubt, FoundQuantity, Method, QuantityForm } from 'chinese-number-proved';
 import { toNumber as other } from 'chinese-number-proved/files';
-const way: Way = 'any', printWay: PrintWay = 'tenThousand', greatest: Unit = 'yi';
+const way: Way = 'any', greatest: Unit = 'yi';
 const value: number = toNumber('一', { kind: 'u64', way }), big: bigint = toBigInt('一', { way });
-const text: string = toChinese(value, { way: printWay, script: 'simplified', case: 'upper' });
+const text: string = toChinese(value, { way, script: 'simplified', case: 'upper' });
 const amount: string = amountToChinese(big, { currency: true, yuan: '圆', closing: '正' });
 const fen: number = chineseToAmount(amount), bigFen: bigint = chineseToAmountBigInt(amount);
 const red: string = signedAmountToChinese(-fen, { closing: '正' });
@@ -31,7 +31,9 @@ const written: string = tenths.toChinese({ method, case: 'upper' });
 const expressions: FoundQuantity[] = Array.from(findQuantities(written, { greatest }));
 const isAbout: boolean[] = expressions.map((it) => it.isAbout || it.isOneCharacter);
 const replaced: string = replaceQuantities(text, (it) => it.value()?.toFigures(), { about: true });
-console.log(all.map((it) => it.toWhole() ?? 0n), isAbout, replaced, quantitiesToFigures(text));
+const doubts: (Doubt | null)[] = expressions.map((it) => it.doubt);
+const figures: string = quantitiesToFigures(text, { doubtful: true, expanded: true, canonical: true });
+console.log(all.map((it) => it.toWhole() ?? 0n), isAbout, replaced, doubts, figures);
 try {
   other(text);
 } catch (error) {
@@ -45,8 +47,8 @@ try {
 toChinese(1, { letterCase: 'upper' });
 // @ts-expect-error: a list is no options
 toChinese(1, []);
-// @ts-expect-error: 'any' is a way to read alone
-toChinese(1, { way: 'any' });
+// @ts-expect-error: no such way
+toChinese(1, { way: 'naive' });
 // @ts-expect-error: no such kind
 toNumber('一', { kind: 'u7' });
 // @ts-expect-error: what map hands on is no options
@@ -63,6 +65,8 @@ dateToChinese(new Date());
 toQuantity('一', { method: 'digits' });
 // @ts-expect-error: no such form
 new Quantity(1, 2, 'half');
+// @ts-expect-error: a function writes its own text
+replaceQuantities('一', () => '1', { expanded: true });
 // @ts-expect-error: what stands in the place of an expression is a text
 replaceQuantities('一', () => 1);
 // @ts-expect-error: what is not for users has no name here

@@ -34,7 +34,9 @@ for (const { CASES, toBigInt, toChinese, toNumber, NumeralError, ...other } of [
   const text = '😀共3.5万元，占12.5%，十几人';
   deepEqual(Array.from(findQuantities(text), (it) => [it.start, it.isAbout]),
     [[3, false], [10, false], [16, true]]);
-  equal(quantitiesToFigures(text), '😀共35000元，占12.5%，十几人');
+  equal(quantitiesToFigures(text), text);
+  equal(quantitiesToFigures(text, { expanded: true }), '😀共35000元，占12.5%，十几人');
+  deepEqual(Array.from(findQuantities('五一，二十'), (it) => it.doubt), ['digits', null]);
   equal(replaceQuantities(text, (it) => it.value()?.toChinese(), { about: true }),
     '😀共三万五千点零元，占百分之十二点五，十几人');
 }

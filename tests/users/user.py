@@ -2,7 +2,7 @@ from datetime import date
 from decimal import Decimal
 from typing import List, Optional
 
-from chinese_number import AmountError, DateError, Found, FoundQuantity, Kind, NumeralError
+from chinese_number import AmountError, DateError, Doubt, Found, FoundQuantity, Kind, NumeralError
 from chinese_number import Quantity, QuantityForm, Script, Status, Unit, Way
 from chinese_number import __version__, amount_to_chinese, chinese_to_amount, find_numbers
 from chinese_number import chinese_to_amount_as_typed, chinese_to_date, chinese_to_signed_amount
@@ -65,6 +65,10 @@ def quantities(text: str) -> List[Optional[Quantity]]:
     return [it.value(method=Way.LOW) for it in found if it.stands_alone]
 
 
+def doubts(text: str) -> List[Optional[Doubt]]:
+    return [it.doubt for it in find_quantities(text)]
+
+
 def values(text: str) -> List[object]:
     it: Quantity = to_quantity(text)
     whole: Optional[int] = it.trimmed().to_whole()
@@ -87,3 +91,4 @@ if __name__ == "__main__":
     print(values("3.5万"), Quantity.of(Decimal("-0.5")).to_figures(), Quantity.of_percent(5).form)
     print(replace_quantities("占12.5%，剩3分之1", in_numerals, about=True))
     print(quantities_to_figures("共三点五万，十几人", about=True, one_character=True))
+    print(doubts("五一，二十"), quantities_to_figures("五一，3.5万", doubtful=True, expanded=True))

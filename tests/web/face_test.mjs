@@ -7,7 +7,7 @@ import { spawnSync } from 'node:child_process';
 import { existsSync, readFileSync } from 'node:fs';
 import * as face from './files/chinese-number.mjs';
 
-const { CASES, KINDS, METHODS, QUANTITY_FORMS, SCRIPTS, UNITS, WAYS } = face;
+const { CASES, DOUBTS, KINDS, METHODS, QUANTITY_FORMS, SCRIPTS, UNITS, WAYS } = face;
 const { AmountError, DateError, Found, FoundQuantity, NumeralError } = face;
 const { findNumbers, toBigInt, toChinese, toNumber, chineseToDate, dateToChinese } = face;
 const { amountToChinese, chineseToAmount, chineseToAmountBigInt } = face;
@@ -23,7 +23,7 @@ const QUANTITIES = 20_000;
 const LETTERS = Array.from('零〇一二三四五六七八九十百千萬万億亿兆京垓秭壹貳叁肆伍陸柒捌玖拾佰仟兩两負负正個角分廿'
   + ' \t　x1１⼀é￿😀𠀀');
 const DIGITS = '零〇一二三四五六七八九兩两壹貳貮贰參叁叄参肆伍陸陆柒捌玖0123456789';
-const PRINT_WAYS = WAYS.filter((it) => it !== 'any');
+const NAMED_WAYS = WAYS.filter((it) => it !== 'any');
 
 // The program's words are the names with underscores, but for plain digits and simplified.
 const OTHERS = { digits: 'naive', simplified: 'simple' };
@@ -40,6 +40,13 @@ function wayOf(kind, way, text) {
   if (way !== 'any') return way;
   const rest = text.replace(/\s/g, '').replace(isSigned(kind) ? /^[負负正]/ : '', '');
   return Array.from(rest).every((it) => DIGITS.includes(it)) ? 'digits' : 'tenThousand';
+}
+
+// The way in which any writes: in the simplified script by middle, below 10 ** 16.
+function writtenWayOf(way, script, number) {
+  if (way !== 'any') return way;
+  const isShort = -(10n ** 16n) < number && number < 10n ** 16n;
+  return script === 'simplified' && isShort ? 'middle' : 'tenThousand';
 }
 
 // A generator that gives the same numbers each time (xorshift).
@@ -76,7 +83,7 @@ function changed(spelling, letters = LETTERS) {
 function someNumeral(kind, way) {
   const number = someNumber(one([kind, 'i128']));
   if (below(4) === 0 || !holds('i128', number)) return someText();
-  const ways = PRINT_WAYS.includes(way) ? [way, one(PRINT_WAYS)] : ['digits', 'tenThousand'];
+  const ways = way === 'any' ? ['digits', 'tenThousand', 'any'] : [way, one(NAMED_WAYS)];
   try {
     const look = { way: one(ways), script: one(SCRIPTS), case: one(CASES) };
     return changed(toChinese(number, look));
@@ -121,9 +128,10 @@ function readsTheSame(text, options) {
 }
 
 function aPrinting() {
-  const [kind, way, script, letterCase] = [KINDS, PRINT_WAYS, SCRIPTS, CASES].map(one);
+  const [kind, way, script, letterCase] = [KINDS, WAYS, SCRIPTS, CASES].map(one);
   const number = someNumber(one([kind, kind, one(KINDS)]));
-  const line = `print ${kind} ${word(way)} ${word(script)} ${letterCase} ${number}`;
+  const named = word(writtenWayOf(way, script, number));
+  const line = `print ${kind} ${named} ${word(script)} ${letterCase} ${number}`;
   return [line, answered(() => toChinese(number, { kind, way, script, case: letterCase }))];
 }
 
@@ -214,16 +222,19 @@ function tryEdges() {
   console.log('edges: as wanted');
 }
 
-// What is left out is i128, in the simplified script and in lower case; any is read, and ten
-// thousand written.
+// What is left out is i128, any, the simplified script and the lower case.
 function tryOptions() {
+  assert.equal(toChinese(10n ** 12n), '一万亿');
+  assert.equal(toChinese(10n ** 12n, { way: 'any', script: 'traditional' }), '一兆');
+  assert.equal(Quantity.decimal(10n ** 13n, 1).toChinese(), '一万亿点零');
+  assert.equal(toQuantity('一万亿点零', { method: 'any' }).toWhole(), 10n ** 12n);
   assert.equal(toChinese(-(10n ** 36n)), '负一涧');
   assert.equal(toBigInt('負一澗'), -(10n ** 36n));
   assert.equal(toChinese(-0), '零');
   assert.equal(JSON.stringify(['一百二', '一二〇', '负一'].map((it) => toNumber(it))), '[120,120,-1]');
   refusesEach(['u7', 'U8', 'toString', '__proto__', 0, null], (kind) => toNumber('一', { kind }));
   refusesEach(['ten_thousand', 'Any', null], (way) => toNumber('一', { way }));
-  refusesEach(['any', 'naive', null], (way) => toChinese(1, { way }));
+  refusesEach(['ten_thousand', 'naive', null], (way) => toChinese(1, { way }));
   refusesEach(['simple', 'Simplified', null], (script) => toChinese(1, { script }));
   refusesEach(['Upper', null], (it) => toChinese(1, { case: it }));
   refusesEach([...NO_OPTIONS, { type: 'u8' }], (it) => toChinese(12, it));
@@ -590,9 +601,10 @@ function answerOf(call) {
   }
 }
 
-// A number that was found is answered as its text is.
+// A number that was found is answered as its text is: with units, where it is not plain.
 function compareANumber(found, options) {
-  const { text } = found, way = found.isPlain ? 'digits' : options.way, all = { ...options, way };
+  const { text } = found, units = options.way === 'any' ? 'tenThousand' : options.way;
+  const all = { ...options, way: found.isPlain ? 'digits' : units };
   const number = answerOf(() => toNumber(text, all));
   assert.deepEqual(answerOf(() => found.number(options)), number, text);
   const whole = answerOf(() => toBigInt(text, all));
@@ -655,6 +667,9 @@ function tryFound() {
   assert.deepEqual(places, [[0, 1], [2, 3], [6, 7]]);
   const values = Array.from(findNumbers('百分之五十，一涧', { greatest: 'ji' }), (it) => it.value());
   assert.deepEqual(values, [null, 50, null]);
+  const [unitInFront] = findNumbers('正33', { upper: true, greatest: 'ji' });
+  assert.throws(() => unitInFront.number(), { code: 'incorrect', charIndex: 1 });
+  assert.equal(unitInFront.doubt, undefined);
   const [found] = findNumbers('😀五六十歲'), [hundreds, plain] = findNumbers('三百，一');
   assert(found instanceof Found);
   assert.throws(() => found.number(), { code: 'incorrect', charIndex: 0, start: 0, end: 1 });
@@ -738,18 +753,19 @@ function refuseNoQuantities(half) {
   refusesEach([-1, 1.5, NaN, 1n, '1', null], (it) => Quantity.percent(1, it));
   refusesEach(['half', 0, null, undefined], (it) => new Quantity(1, 2, it));
   refusesEach([1n, null, undefined, ['一']], (it) => toQuantity(it));
-  refusesEach([...NO_OPTIONS, { way: 'low' }, { method: 'any' }], (it) => toQuantity('一', it));
+  refusesEach([...NO_OPTIONS, { way: 'low' }, { method: 'digits' }], (it) => toQuantity('一', it));
   refusesEach([...NO_OPTIONS, { way: 'low' }, { method: 'digits' }, { case: 'Upper' }],
     (it) => half.toChinese(it));
 }
 
-const RUNNING_QUANTITIES = Array.from('二三十百万亿点分之几多负正25.,-％%，。 \n😀é\ufffd\ud800\udc00');
+const RUNNING_QUANTITIES = Array.from(
+  '二三十百万亿点分之几多负正25.,-％%，。到折 \n😀é\ufffd\ud800\udc00');
 
 // The quantities of a text, each with its flags, in their places.
 function compareTheQuantitiesOf(text) {
-  const [about, oneCharacter] = [below(2) === 1, below(2) === 1];
+  const [about, oneCharacter, doubtful] = [below(2) === 1, below(2) === 1, below(2) === 1];
   const options = { upper: below(2) === 1, greatest: one(UNITS), method: one(METHODS) };
-  const { method, ...wanted } = options, all = { ...options, about, oneCharacter };
+  const { method, ...wanted } = options, all = { ...options, about, oneCharacter, doubtful };
   let anew = '', at = 0, replaced = 0;
   for (const it of findQuantities(text, wanted)) {
     assert(it instanceof FoundQuantity && it.start >= at);
@@ -757,15 +773,25 @@ function compareTheQuantitiesOf(text) {
     const quantity = answerOf(() => toQuantity(it.text, { method })), value = it.value({ method });
     assert.deepEqual(value ?? answerOf(() => it.quantity({ method })), quantity, it.text);
     if (value === null || (it.isAbout && !about) || (it.isOneCharacter && !oneCharacter)) continue;
+    assert(it.doubt === null || DOUBTS.includes(it.doubt));
+    if (it.doubt === 'part' || (it.doubt !== null && !doubtful)) continue;
     anew += text.slice(at, it.start) + figuresOf(value);
     at = it.end;
     replaced++;
   }
   anew += text.slice(at);
-  assert.equal(quantitiesToFigures(text, all), anew);
   const figures = (it) => it.quantity({ method }).toFigures();
   assert.equal(replaceQuantities(text, figures, all), anew);
+  keepsAllElse(text, quantitiesToFigures(text, { ...all, ...styleOfSome() }));
   return replaced;
+}
+
+const styleOfSome = () => ({ expanded: below(2) === 1, canonical: below(2) === 1 });
+
+// What is no part of an expression stays where it is, in order, also halves of surrogate pairs.
+function keepsAllElse(text, anew) {
+  const others = (string) => string.match(/[\n😀é\ufffd\ud800\udc00。]/g) ?? [];
+  assert.deepEqual(others(anew), others(text));
 }
 
 function tryReplaced() {
@@ -778,9 +804,14 @@ function tryReplaced() {
   // A new text may be much longer, and more is found than one call of the module gives.
   for (const [part, figures] of [['1亿，', '100000000，'], ['文三百', '文300'], ['😀é一半', '😀é一半']]) {
     for (const count of [1, 64, 65, 300_000]) {
-      assert.equal(quantitiesToFigures(part.repeat(count)), figures.repeat(count));
+      const expanded = quantitiesToFigures(part.repeat(count), { expanded: true });
+      assert.equal(expanded, figures.repeat(count));
     }
   }
+  const text = '三亿，１,２８０，五一，八五折';
+  assert.equal(quantitiesToFigures(text), '3亿，１,２８０，五一，八五折');
+  assert.equal(quantitiesToFigures(text, { doubtful: true, canonical: true }),
+    '3亿，1280，51，八五折');
   const twice = ({ text }) => (text === '-5' ? undefined : text + text);
   assert.equal(replaceQuantities('三百，-5，7', twice), '三百三百，-5，77');
   assert.equal(replaceQuantities('5％ 6', () => ''), ' ');
@@ -793,9 +824,11 @@ function tryReplaced() {
 
 function refuseNoReplacements() {
   const wrong = [...NO_OPTIONS, { about: 1 }, { oneCharacter: 'yes' }, { upper: 1 },
-    { greatest: 'ZHAO' }, { method: 'any' }, { kind: 'u8' }];
-  refusesEach(wrong, (it) => quantitiesToFigures('一', it));
-  refusesEach(wrong, (it) => replaceQuantities('文', () => '', it));
+    { greatest: 'ZHAO' }, { method: 'digits' }, { kind: 'u8' }, { doubtful: 1 }];
+  refusesEach([...wrong, { expanded: 'yes' }, { canonical: 0 }, { style: 'kept' }],
+    (it) => quantitiesToFigures('一', it));
+  refusesEach([...wrong, { expanded: true }, { canonical: true }],
+    (it) => replaceQuantities('文', () => '', it));
   refusesEach([...NO_OPTIONS, { method: 'low' }, { about: true }], (it) => findQuantities('一', it));
   refusesEach([1, null, undefined, ['一']], (it) => quantitiesToFigures(it));
   refusesEach([1, null, undefined, ['一']], (it) => replaceQuantities(it, () => ''));

@@ -183,13 +183,13 @@ async function goesByKeyboard(page) {
   const at = () => page.value(`((it) => [it.id || it.textContent,
     getComputedStyle(it).outlineStyle !== 'none'])(document.activeElement)`);
   const names = ['繁體', 'English', 'figures', '写法', 'capitals', '选中这个字', 'dateFigures',
-    'dateCapitals', '整数类型和读写方式', 'number', 'numeral', 'text', '查找范围'];
+    'dateCapitals', '整数类型和读写方式', 'number', 'numeral', 'text', '查找和替换'];
   for (const it of names) {
     await page.key('Tab', 9);
     assert.deepEqual(await at(), [it, true]);
   }
   await page.enter();
-  for (const it of ['upper', 'about', 'oneCharacter']) {
+  for (const it of ['upper', 'about', 'oneCharacter', 'doubtful', 'expanded', 'canonical']) {
     await page.key('Tab', 9);
     assert.deepEqual(await at(), [it, true]);
   }

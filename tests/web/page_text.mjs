@@ -3,13 +3,13 @@ import assert from 'node:assert/strict';
 import { LANGUAGES } from './page.mjs';
 
 // The quantities of a text, with their class, and what is said of each.
-const TYPED = '共3.5万元，占12.5%，一般三百多人，他五六十歲，剩三分之一，A4，廿三';
+const TYPED = '共3.5万元，占12.5%，一般三百多人，他五六十歲，剩三分之一，A4，廿三，五一';
 const FOUND = [
   ['3.5万', '', '35000'], ['12.5%', '', '12.5%'], ['一', 'left', '1'], ['三百', 'left', 'about 300'],
   ['五六十', 'fault', '“五” is wrong'], ['三分之一', '', '1/3'], ['4', 'doubtful', '4?'],
-  ['廿三', '', '23'],
+  ['廿三', '', '23'], ['五一', 'left', '51? (a list of digits)'],
 ];
-const IN_FIGURES = '共35000元，占12.5%，一般三百多人，他五六十歲，剩1/3，A4，23';
+const IN_FIGURES = '共3.5万元，占12.5%，一般三百多人，他五六十歲，剩1/3，A4，23，五一';
 
 const told = (page) => page.value('[textSaid.textContent, replaced.textContent]');
 
@@ -25,25 +25,56 @@ async function findsQuantities(page) {
   assert.equal(await page.value('found.querySelector("u").textContent'), '五');
   assert.equal(await page.value('text.nextElementSibling.textContent'), TYPED);
   assert.deepEqual(await told(page),
-    ['Quantities: 8 · not replaced: 2 · doubtful: 1 · refused: 1', IN_FIGURES]);
+    ['Quantities: 9 · not replaced: 3 · doubtful: 1 · refused: 1', IN_FIGURES]);
   await page.check('about', true);
-  assert.deepEqual(await told(page), ['Quantities: 8 · not replaced: 1 · doubtful: 2 · refused: 1',
+  assert.deepEqual(await told(page), ['Quantities: 9 · not replaced: 2 · doubtful: 2 · refused: 1',
     IN_FIGURES.replace('三百', '300')]);
   assert.deepEqual((await marks('#found'))[3], ['三百 about 300', 'doubtful']);
   await page.check('about', false);
   await page.check('oneCharacter', true);
   assert.equal((await told(page))[1], IN_FIGURES.replace('一般', '1般'));
+  await page.check('oneCharacter', false);
+  await page.check('doubtful', true);
+  assert.deepEqual(await told(page), ['Quantities: 9 · not replaced: 2 · doubtful: 2 · refused: 1',
+    IN_FIGURES.replace('五一', '51')]);
+  assert.deepEqual((await marks('#found')).at(-1), ['五一 51? (a list of digits)', 'doubtful']);
+  await page.check('doubtful', false);
+}
+
+// Each doubt is told in each language, and part of something is never replaced.
+async function tellsDoubts(page) {
+  const told = [];
+  for (const language of LANGUAGES) {
+    await page.speak(language);
+    await page.type('text', '三十六计，五一，负二项，六点五折，下午三点五，30~50万');
+    told.push(await page.value(`Array.from(found.querySelectorAll('small'),
+      (it) => it.textContent.replace(/^[^?？]*[?？] ?/, ''))`));
+  }
+  assert.deepEqual(told.map((it) => it.length), LANGUAGES.map(() => 7));
+  assert.deepEqual(told[2], ['(part of a word)', '(a list of digits)', '(part of a term)',
+    '(only a part)', '(a time)', '(one end of a range)', '(one end of a range)']);
+  await page.check('doubtful', true);
+  assert.equal(await page.value('replaced.textContent'),
+    '36计，51，-2项，六点五折，下午3.5，30~50万');
+  await page.check('doubtful', false);
 }
 
 // A text is read by the method that is chosen, and by ten thousand where there is none.
 async function findsByChoices(page) {
   await page.speak('en');
+  await page.check('expanded', true);
   await page.type('text', '1兆');
   for (const [way, it] of [['low', '1000000'], ['high', '10000000000000000'],
     ['digits', '1000000000000'], ['any', '1000000000000']]) {
     await page.choose('way', way);
     assert.deepEqual(await told(page), ['Quantities: 1', it]);
   }
+  await page.check('expanded', false);
+  assert.equal((await told(page))[1], '1兆');
+  await page.type('text', '1,280');
+  await page.check('canonical', true);
+  assert.equal((await told(page))[1], '1280');
+  await page.check('canonical', false);
   await page.type('text', '正在參加');
   assert.deepEqual(await told(page), ['Quantities: 0', '正在參加']);
   await page.check('upper', true);
@@ -128,5 +159,5 @@ async function readsVeryLongTexts(page) {
 }
 
 export const PARTS = [
-  findsQuantities, findsByChoices, showsLongTexts, answersLongTexts, readsVeryLongTexts,
+  findsQuantities, tellsDoubts, findsByChoices, showsLongTexts, answersLongTexts, readsVeryLongTexts,
 ];

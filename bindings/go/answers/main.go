@@ -28,6 +28,9 @@ var cases = map[string]cn.Case{"upper": cn.Upper, "lower": cn.Lower}
 // The names of forms, in the order of the forms.
 var forms = []string{"whole", "decimal", "percent", "fraction"}
 
+// The names of doubts, in the order of the doubts.
+var doubts = []string{"none", "word", "digits", "term", "part", "time", "range"}
+
 // told is what is said of the answer of a call.
 func told[T any](answer T, err error) string {
 	if err != nil {
@@ -140,7 +143,13 @@ func quantity(words string) cn.Quantity {
 }
 
 func replacing(words string) *cn.Replacing {
-	return &cn.Replacing{About: has(words, "about"), OneCharacter: has(words, "one")}
+	return &cn.Replacing{
+		About:        has(words, "about"),
+		OneCharacter: has(words, "one"),
+		Doubtful:     has(words, "doubtful"),
+		Expanded:     has(words, "expanded"),
+		Canonical:    has(words, "canonical"),
+	}
 }
 
 func inNumerals(found cn.Found) (string, bool) {
@@ -194,9 +203,13 @@ func find(text string, show func(cn.Found) string) string {
 	return inPlace(text, all, err, show)
 }
 
-func findQuantities(text string) string {
+func showDoubt(found cn.Found) string {
+	return doubts[found.Doubt]
+}
+
+func findQuantities(text string, show func(cn.Found) string) string {
 	all, err := cn.FindQuantities(text, nil)
-	return inPlace(text, all, err, showQuantity)
+	return inPlace(text, all, err, show)
 }
 
 // The answers to each question, by its name; each is given the other words.
@@ -229,7 +242,10 @@ var answers = map[string]func([]string) string{
 	"read_quantity": func(words []string) string {
 		return shownQuantity(cn.ToQuantity(words[1], ways[words[0]]))
 	},
-	"find_quantities": func(words []string) string { return findQuantities(words[0]) },
+	"find_quantities": func(words []string) string {
+		return findQuantities(words[0], showQuantity)
+	},
+	"doubts": func(words []string) string { return findQuantities(words[0], showDoubt) },
 	"print_quantity": func(words []string) string {
 		return told(quantity(words[3]).ToChinese(style(words)))
 	},

@@ -22,8 +22,8 @@ chinese_number.NumeralError: number is too small
 [None, 50]
 >>> to_quantity('12.5%').to_fraction(), to_quantity('3.5万').to_whole()
 (Fraction(1, 8), 35000)
->>> quantities_to_figures('一般共三点五万元，占１２．５０％')
-'一般共35000元，占12.5%'
+>>> quantities_to_figures('市值三点五亿元，占百分之十二点五')
+'市值3.5亿元，占12.5%'
 
 >>> from decimal import Decimal
 >>> from chinese_number import Quantity, chinese_to_amount_as_typed, chinese_to_date
@@ -44,8 +44,11 @@ Decimal('0.125')
 ['35000', '1/3']
 >>> replace_quantities('占12.5%', lambda found: found.quantity().to_chinese())
 '占百分之十二点五'
+>>> [(found.text, found.doubt) for found in find_quantities('五一假期，二十人')]
+[('五一', <Doubt.DIGITS: 'digits'>), ('二十', None)]
 
-A kind, way, script, case, unit or form is a member of its enum, or the str that the member equals.
+A kind, way, script, case, unit, form or doubt is a member of its enum, or the str that the member
+equals.
 
 The shared library libchinese_number.so, on macOS .dylib and on Windows .dll, stands beside this
 file, as pip puts it, or in the folder that CHINESE_NUMBER_LIB names, as bindings/archive.sh makes
@@ -57,6 +60,7 @@ call lets other threads of Python run. Where it is made of C source, a text of m
 from __future__ import annotations
 
 import operator
+import re
 from dataclasses import dataclass, field, fields
 from datetime import date, datetime
 from decimal import Decimal
@@ -73,6 +77,7 @@ __all__ = [
     "AmountError",
     "Case",
     "DateError",
+    "Doubt",
     "Found",
     "FoundQuantity",
     "Kind",
@@ -102,7 +107,8 @@ __all__ = [
 __version__ = "0.1.0"
 _library.load(__version__)
 
-# The members of each enum are in the order of the library's codes for them, from 0 on.
+# The members of each enum are in the order of the library's codes for them, from 0 on, and those of
+# Doubt from 1 on.
 
 
 class Kind(str, Enum):
@@ -124,11 +130,13 @@ class Way(str, Enum):
     """How a number is written: as plain digits (一二三), or with units (一百二十三) by four methods.
 
     LOW: each unit is ten times the one before.
-    TEN_THOUSAND, the one to use: after 萬 each unit is 10**4 times the one before. At 10**12 it
-    writes 兆, as in Taiwan, where MIDDLE and HIGH write 萬億, as on the mainland.
+    TEN_THOUSAND: after 萬 each unit is 10**4 times the one before. At 10**12 it writes 兆, as in
+    Taiwan, where MIDDLE and HIGH write 萬億, as on the mainland.
     MIDDLE: after 億 each unit is 10**8 times the one before.
     HIGH: from 億 on each unit is the square of the one before.
-    ANY, for reading alone: as DIGITS where all of the text is digits, else as TEN_THOUSAND.
+    ANY, the one to use, reads as DIGITS where all of the text is digits, else as TEN_THOUSAND. It
+    writes what it reads back: in the simplified script below 10**16 as MIDDLE, so that 10**12 is
+    一万亿, and else as TEN_THOUSAND.
     """
 
     DIGITS = "digits"
@@ -181,6 +189,25 @@ class QuantityForm(str, Enum):
     DECIMAL = "decimal"
     PERCENT = "percent"
     FRACTION = "fraction"
+
+
+class Doubt(str, Enum):
+    """Why a reader may mean by an expression something else than its quantity.
+
+    WORD: it is part of a word: 十二 of 十二指肠, 十一 of 双十一.
+    DIGITS: it is two or three Chinese digits, or more that rise: 五一, 一二三四.
+    TERM: it is part of a term: 负二 of 负二项, 十六 of 十六进制.
+    PART: it is part of an expression with 折, 成 or 半: 八五 of 八五折, 一 of 一个半.
+    TIME: it may be a time: 三点五 of 下午三点五, 十点零五.
+    RANGE: it is one end of a range whose ends share a unit or 百分之: 3 and 5万 of 3~5万.
+    """
+
+    WORD = "word"
+    DIGITS = "digits"
+    TERM = "term"
+    PART = "part"
+    TIME = "time"
+    RANGE = "range"
 
 
 class Status(Enum):
@@ -305,8 +332,9 @@ _library.know_words(_words(Kind), _words(Way), _words(Script), _words(Case))
 _KINDS, _WAYS, _UNITS = _codes(Kind), _codes(Way), _codes(Unit)
 _SCRIPTS, _CASES = _codes(Script), _codes(Case)
 _FORMS, _FORM_OF = _codes(QuantityForm), tuple(QuantityForm)
-_PRINT_WAYS = {way: code for way, code in _WAYS.items() if way is not Way.ANY}
-_METHODS = {way: code for way, code in _PRINT_WAYS.items() if way is not Way.DIGITS}
+_DOUBT_OF = (None, *Doubt)
+_DOUBTS = {it: code + 1 for it, code in _codes(Doubt).items()}
+_METHODS = {way: code for way, code in _WAYS.items() if way is not Way.DIGITS}
 # What each word adds to the form in which an amount is written, and the currency in front.
 _CURRENCY = 1
 _YUAN = {"元": 0, "圆": 2}
@@ -415,7 +443,7 @@ def to_chinese(
     number: SupportsIndex,
     *,
     kind: Union[Kind, str] = Kind.I128,
-    way: Union[Way, str] = Way.TEN_THOUSAND,
+    way: Union[Way, str] = Way.ANY,
     script: Union[Script, str] = Script.SIMPLIFIED,
     case: Union[Case, str] = Case.LOWER,
 ) -> str:
@@ -426,12 +454,14 @@ def to_chinese(
     '壹佰貳拾參'
     >>> to_chinese(-123, way='digits')
     '负一二三'
+    >>> [to_chinese(10**12, script=script) for script in Script]
+    ['一兆', '一万亿']
     >>> to_chinese(256, kind='u8')
     Traceback (most recent call last):
     chinese_number.NumeralError: u8 does not hold the number
     """
     whole, kind_code = _whole(number, "a whole number"), _code(_KINDS, kind, "kind")
-    way_code, script_code = _code(_PRINT_WAYS, way, "way"), _code(_SCRIPTS, script, "script")
+    way_code, script_code = _code(_WAYS, way, "way"), _code(_SCRIPTS, script, "script")
     case_code = _code(_CASES, case, "case")
     _refuse_not_held(whole, kind)
     codes = kind_code, way_code, script_code, case_code
@@ -637,7 +667,8 @@ def chinese_to_date(text: str) -> date:
 
 def _over_power(value: Decimal) -> Tuple[int, int, QuantityForm]:
     """The numerator, the denominator and the form of a Decimal. Of one of many digits, or far from
-    1 as Decimal('1E+999999999999'), they are others that 128 bits do not hold either."""
+    1 as Decimal('1E+999999999999'), they are others that 128 bits do not hold either.
+    """
     sign, digits, exponent = value.as_tuple()
     if not isinstance(exponent, int):
         raise ValueError(f"a finite number is wanted, and not {_shown(value)}")
@@ -768,19 +799,22 @@ class Quantity:
     def to_chinese(
         self,
         *,
-        method: Union[Way, str] = Way.TEN_THOUSAND,
+        method: Union[Way, str] = Way.ANY,
         script: Union[Script, str] = Script.SIMPLIFIED,
         case: Union[Case, str] = Case.LOWER,
     ) -> str:
-        """Its text by a method, which to_quantity reads as the same numerator and denominator; a
-        percentage is read as a fraction. One whose denominator is not of its form is written as a
-        fraction. A NumeralError says why there is no text: a number in it has 17 digits or more and
+        """Its text by a method, which to_quantity reads as the same numerator and denominator; by ANY
+        in the simplified script it is that of MIDDLE where each number spelled is below 10**16, and
+        else that of TEN_THOUSAND, by which to_quantity reads both. A percentage is read as a
+        fraction. One whose denominator is not of its form is written as a fraction. A NumeralError says why there is no text: a number in it has 17 digits or more and
         the method is LOW.
 
         >>> to_quantity('-12.5%').to_chinese(script='traditional', case='upper')
         '負佰分之拾貳點伍'
         >>> to_quantity('3.5万').to_chinese(), to_quantity('3.5万').trimmed().to_chinese()
         ('三万五千点零', '三万五千')
+        >>> to_quantity('3.5兆').trimmed().to_chinese()
+        '三万五千亿'
         """
         method_code = _code(_METHODS, method, "method")
         codes = _code(_SCRIPTS, script, "script"), _code(_CASES, case, "case")
@@ -803,10 +837,10 @@ class Quantity:
         return above, above >> 64, below, below >> 64, _FORMS[self.form]
 
 
-def to_quantity(text: str, *, method: Union[Way, str] = Way.TEN_THOUSAND) -> Quantity:
-    """The quantity of a text, by a method, low, ten_thousand, middle or high: a whole number, a
-    decimal, a percentage or a fraction, in figures or in numerals. A NumeralError says why it is
-    none.
+def to_quantity(text: str, *, method: Union[Way, str] = Way.ANY) -> Quantity:
+    """The quantity of a text, by a method, low, ten_thousand, middle or high, or by any, which is
+    ten_thousand here: a whole number, a decimal, a percentage or a fraction, in figures or in
+    numerals. A NumeralError says why it is none.
 
     >>> to_quantity('三点五万')
     Quantity(numerator=350000, denominator=10, form=<QuantityForm.DECIMAL: 'decimal'>)
@@ -859,14 +893,16 @@ class Found(_Run):
     __slots__ = ()
 
     def number(self, *, kind: Union[Kind, str] = Kind.I128, way: Union[Way, str] = Way.ANY) -> int:
-        """Its number, as plain digits where it is those; a NumeralError says why it is none of the
-        type. Its char_index counts within the run.
+        """Its number, as plain digits where it is those, and else by the way, where ANY is
+        TEN_THOUSAND; a NumeralError says why it is none of the type. Its char_index counts within
+        the run.
 
         >>> [(found.text, found.number()) for found in find_numbers('二〇二五年十一月')]
         [('二〇二五', 2025), ('十一', 11)]
         """
         _code(_WAYS, way, "way")  # plain digits go by no other, and yet it has to be one
-        return to_number(self.text, kind=kind, way=Way.DIGITS if self.is_plain else way)
+        units = Way.TEN_THOUSAND if way == Way.ANY else way
+        return to_number(self.text, kind=kind, way=Way.DIGITS if self.is_plain else units)
 
     def value(
         self, *, kind: Union[Kind, str] = Kind.I128, way: Union[Way, str] = Way.ANY
@@ -882,13 +918,50 @@ class Found(_Run):
             return None
 
 
-class FoundQuantity(_Run):
-    """An expression in a text, from start to end, as positions in the str; the rest is told of it
-    as of what is Found."""
+class _Doubted(_Run):
+    """A run whose doubt is read of its code."""
 
     __slots__ = ()
 
-    def quantity(self, *, method: Union[Way, str] = Way.TEN_THOUSAND) -> Quantity:
+    @property
+    def doubt(self) -> Optional[Doubt]:
+        return _DOUBT_OF[self._doubt]
+
+
+@dataclass(frozen=True, init=False)
+class FoundQuantity(_Doubted):
+    """An expression in a text, from start to end, as positions in the str; what else is Found is
+    reported of it, and doubt: why a reader may mean something else than its quantity, or None.
+
+    >>> [found.doubt for found in find_quantities('3~5万，三十六计，三十六个')]
+    [<Doubt.RANGE: 'range'>, <Doubt.RANGE: 'range'>, <Doubt.WORD: 'word'>, None]
+    """
+
+    __slots__ = ()
+    doubt: Optional[Doubt] = field()
+
+    def __new__(
+        cls,
+        start: int,
+        end: int,
+        text: str,
+        is_plain: bool,
+        stands_alone: bool,
+        is_about: bool,
+        is_one_character: bool,
+        doubt: Union[Doubt, str, None] = None,
+    ) -> FoundQuantity:
+        code = 0 if doubt is None else _code(_DOUBTS, doubt, "doubt")
+        places, flags = (start, end, text), (
+            is_plain,
+            stands_alone,
+            is_about,
+            is_one_character,
+        )
+        made: FoundQuantity = _Doubted.__new__(cls, *places, *flags, code)
+        return made
+
+    def quantity(self, *, method: Union[Way, str] = Way.ANY) -> Quantity:
         """Its quantity, as to_quantity gives it; a NumeralError says why it is none. Its char_index
         counts within the expression.
 
@@ -897,7 +970,7 @@ class FoundQuantity(_Run):
         """
         return to_quantity(self.text, method=method)
 
-    def value(self, *, method: Union[Way, str] = Way.TEN_THOUSAND) -> Optional[Quantity]:
+    def value(self, *, method: Union[Way, str] = Way.ANY) -> Optional[Quantity]:
         """Its quantity, as quantity() gives it, or None where that is refused.
 
         >>> [(found.text, found.value() is None) for found in find_quantities('版本1.2.3，五六十')]
@@ -949,7 +1022,11 @@ _AnyRun = TypeVar("_AnyRun", bound=_Run)
 
 
 def _found(
-    find: Callable[..., _library.Some], of: Type[_AnyRun], text: str, upper: bool, greatest: int
+    find: Callable[..., _library.Some],
+    of: Type[_AnyRun],
+    text: str,
+    upper: bool,
+    greatest: int,
 ) -> Iterator[List[_AnyRun]]:
     """What is found in a text, some at a time."""
     # A str of a class below has ways of its own, and can hold what is found in it.
@@ -970,9 +1047,10 @@ def replace_quantities(
     *,
     upper: bool = False,
     greatest: Union[Unit, str] = Unit.ZHAO,
-    method: Union[Way, str] = Way.TEN_THOUSAND,
+    method: Union[Way, str] = Way.ANY,
     about: bool = False,
     one_character: bool = False,
+    doubtful: bool = False,
 ) -> str:
     """The text with its quantities written anew: new is given each expression that find_quantities
     finds and to_quantity reads by the method, and gives what stands in its place, or None where it
@@ -983,16 +1061,17 @@ def replace_quantities(
     >>> replace_quantities('一般三点十分', lambda it: f'[{it.text}]', one_character=True)
     '[一]般[三]点[十]分'
 
-    Those that are about so much, as 五六, or one Chinese character, as the 一 of 一般, stay, unless
-    about or one_character is True.
+    Those that are about so much, as 五六, one Chinese character, as the 一 of 一般, or doubtful, as 五一,
+    stay, unless about, one_character or doubtful is True; those whose doubt is PART always do.
     """
     _code(_METHODS, method, "method")
-    about, one_character = _flag(about), _flag(one_character)
+    about, one_character, doubtful = _flag(about), _flag(one_character), _flag(doubtful)
     done: List[str] = []
     at = 0
     for found in find_quantities(text, upper=upper, greatest=greatest):
         is_left = found.is_about and not about or found.is_one_character and not one_character
-        if is_left or found.value(method=method) is None:
+        is_in_doubt = found.doubt is not None and (found.doubt is Doubt.PART or not doubtful)
+        if is_left or is_in_doubt or found.value(method=method) is None:
             continue
         written = new(found)
         if written is not None:
@@ -1001,41 +1080,72 @@ def replace_quantities(
     return "".join((*done, text[at:]))
 
 
+# Half of a surrogate pair, or the mark that stands for one.
+_HALF_OR_MARK = re.compile("[\ud800-\udfff\ufffd]")
+
+
 def quantities_to_figures(
     text: str,
     *,
     upper: bool = False,
     greatest: Union[Unit, str] = Unit.ZHAO,
-    method: Union[Way, str] = Way.TEN_THOUSAND,
+    method: Union[Way, str] = Way.ANY,
     about: bool = False,
     one_character: bool = False,
+    doubtful: bool = False,
+    expanded: bool = False,
+    canonical: bool = False,
 ) -> str:
-    """The text with its quantities in figures, as Quantity.to_figures() gives them: those that
-    replace_quantities gives to its function.
+    """The text with its numerals in figures, as an editor writes them.
 
-    >>> quantities_to_figures('一般共三点五万元，占三分之一')
-    '一般共35000元，占1/3'
-    >>> quantities_to_figures('一共十几个', one_character=True)
-    '1共十几个'
+    >>> quantities_to_figures('市值三点五亿元，占百分之十二点五，一般剩三分之一')
+    '市值3.5亿元，占12.5%，一般剩1/3'
+
+    What already is in figures stays, and so does what to_quantity refuses; what is about so much,
+    one Chinese character or doubtful, unless about, one_character or doubtful is True; what has the
+    doubt PART; a part of a name, an address or another number; 千分之五 and 二又五分之三; and the other
+    parts of a date, a time, a length, an amount or a range of which one part stays.
+
     >>> quantities_to_figures('一共十几个', about=True, one_character=True)
     '1共10几个'
+    >>> quantities_to_figures('五一，八五折', doubtful=True)
+    '51，八五折'
+
+    With expanded no great unit is kept, and with canonical figures are rewritten in ASCII, without
+    commas and leading zeros.
+
+    >>> quantities_to_figures('三千五百亿，3500亿', expanded=True)
+    '350000000000，350000000000'
+    >>> quantities_to_figures('１,２８０人，007号', canonical=True)
+    '1280人，7号'
     """
-    wanted = _flag(upper), _code(_UNITS, greatest, "greatest"), _code(_METHODS, method, "method")
-    included = _library.ABOUT if _flag(about) else 0
-    included += _library.ONE_CHARACTER if _flag(one_character) else 0
-    try:
-        data = str.encode(_text(text), "utf-8")
-    except UnicodeEncodeError:  # half of a surrogate pair, which has no UTF-8, stays
-        return replace_quantities(
-            text,
-            lambda found: found.quantity(method=method).to_figures(),
-            upper=upper,
-            greatest=greatest,
-            method=method,
-            about=about,
-            one_character=one_character,
+    wanted = (
+        _flag(upper),
+        _code(_UNITS, greatest, "greatest"),
+        _code(_METHODS, method, "method"),
+    )
+    options = sum(
+        option
+        for option, is_chosen in (
+            (_library.ABOUT, about),
+            (_library.ONE_CHARACTER, one_character),
+            (_library.DOUBTFUL, doubtful),
+            (_library.EXPANDED, expanded),
+            (_library.CANONICAL, canonical),
         )
-    code, figures = _library.quantities_to_figures(data, *wanted, included)
+        if _flag(is_chosen)
+    )
+    given = str.__str__(_text(text))  # a str of a class below has ways of its own
+    marks: List[str] = []
+    try:
+        data = given.encode()
+    except UnicodeEncodeError:  # half of a surrogate pair has no UTF-8
+        marks = _HALF_OR_MARK.findall(given)
+        data = _HALF_OR_MARK.sub("\ufffd", given).encode()
+    code, figures = _library.quantities_to_figures(data, *wanted, options)
     if code:
         _status(code)
-    return figures
+    # No expression has one of them: they stay, in their order.
+    left = iter(marks)
+    whole: str = re.sub("\ufffd", lambda _: next(left), figures) if marks else figures
+    return whole

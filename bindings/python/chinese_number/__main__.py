@@ -13,12 +13,42 @@ import re
 import sys
 from datetime import date
 from functools import partial
-from typing import Any, Callable, Dict, Iterable, Iterator, List, Optional, TextIO, Tuple
+from typing import (
+    Any,
+    Callable,
+    Dict,
+    Iterable,
+    Iterator,
+    List,
+    Optional,
+    TextIO,
+    Tuple,
+)
 
-from . import AmountError, DateError, Found, FoundQuantity, Kind, NumeralError, Status, Way
-from . import __version__, chinese_to_amount, chinese_to_amount_as_typed, chinese_to_date
+from . import (
+    AmountError,
+    DateError,
+    Found,
+    FoundQuantity,
+    Kind,
+    NumeralError,
+    Status,
+    Way,
+)
+from . import (
+    __version__,
+    chinese_to_amount,
+    chinese_to_amount_as_typed,
+    chinese_to_date,
+)
 from . import chinese_to_signed_amount, date_to_chinese, find_numbers, find_quantities
-from . import quantities_to_figures, signed_amount_to_chinese, to_chinese, to_number, yuan_to_fen
+from . import (
+    quantities_to_figures,
+    signed_amount_to_chinese,
+    to_chinese,
+    to_number,
+    yuan_to_fen,
+)
 from ._tables import Table, write_table
 
 
@@ -40,9 +70,10 @@ _FLAG: List[Any] = [None]
 _TRADITIONAL: _Options = {"--traditional": _FLAG}
 _KIND: _Options = {"--kind": [it.value for it in Kind]}
 _WAY: _Options = {"--way": [it.value for it in Way]}
-_PRINT_WAY: _Options = {"--way": [it.value for it in Way if it is not Way.ANY]}
-_METHOD: _Options = {"--method": [it.value for it in Way if it not in (Way.DIGITS, Way.ANY)]}
-_INCLUDED: _Options = {"--about": _FLAG, "--one-character": _FLAG}
+_METHOD: _Options = {"--method": [it.value for it in Way if it is not Way.DIGITS]}
+_REPLACED: _Options = {
+    f"--{it}": _FLAG for it in ("about", "one-character", "doubtful", "expanded", "canonical")
+}
 _FORM: _Options = {"--currency": _FLAG, "--yuan": ["元", "圆"], "--closing": ["整", "正"]}
 _READER: _Options = {"--signed": _FLAG, "--typed": _FLAG}
 _TABLE: _Options = {
@@ -63,10 +94,11 @@ usage: chinese-number amount [--traditional] [--currency] [--yuan 圆] [--closin
        chinese-number amount .. --column N [--header] [--delimiter ,]
        chinese-number date [--traditional] WORD..
        chinese-number read [--kind i128] [--way any] WORD..
-       chinese-number print [--traditional] [--upper] [--kind i128] [--way ten_thousand] NUMBER..
+       chinese-number print [--traditional] [--upper] [--kind i128] [--way any] NUMBER..
        chinese-number find [--all] [--kind u128] [--way any]
-       chinese-number find --exact [--all] [--method ten_thousand]
-       chinese-number replace [--all] [--method ten_thousand] [--about] [--one-character] [WORD..]
+       chinese-number find --exact [--all] [--method any]
+       chinese-number replace [--all] [--method any] [--about] [--one-character] [--doubtful]
+                              [--expanded] [--canonical] [WORD..]
        chinese-number --help | --version
 
 amount   writes yuan in capitals, 1409.50 as 壹仟肆佰零玖元伍角整, and reads capitals; with --signed
@@ -81,13 +113,14 @@ print    writes whole numbers as numerals, -120 as 负一百二十
 find     writes LINE:CHARACTER TEXT NUMBER of each number in standard input, or err and why it is
          refused; with --all also of the characters of cheques and of units above 兆; with --exact
          of each quantity, as 3.5万, -5, 12.5% and 三分之一, whose NUMBER is then exact, as 125/1000
-replace  writes words, or standard input, with their quantities in figures, 共3.5万元 as 共35000元;
-         with --about also those that are about so much, as in 三百多, and with --one-character those
-         of one Chinese character, as in 一般
+replace  writes words, or standard input, with their numerals in figures, 市值三点五亿元 as 市值3.5亿元;
+         with --about also those that are about so much, as in 三百多; with --one-character those of
+         one Chinese character, as in 一般; with --doubtful those that may mean something else, as
+         五一; with --expanded no great unit is kept, 三点五亿 becomes 350000000; with --canonical
+         figures lose commas and leading zeros, 1,280 becomes 1280
 
-A kind is u8, u16, u32, u64, u128, i8, i16, i32, i64, i128; a way to read
-is digits, low, ten_thousand, middle, high, any, and to write each but any;
-a method is low, ten_thousand, middle, high.
+A kind is u8, u16, u32, u64, u128, i8, i16, i32, i64, i128; a way is digits, low, ten_thousand,
+middle, high, any; a method is each of these but digits.
 Words behind -- are no options."""
 
 
@@ -212,9 +245,13 @@ _COMMANDS: Dict[str, Tuple[Callable[..., Any], Callable[[str], Any], _Options]] 
     "amount": (_amount, str, {**_TRADITIONAL, **_FORM, **_READER, **_TABLE}),
     "date": (_date, str, _TRADITIONAL),
     "read": (to_number, str, {**_KIND, **_WAY}),
-    "print": (to_chinese, _number, {**_TRADITIONAL, "--upper": _FLAG, **_KIND, **_PRINT_WAY}),
-    "find": (_find, str, {"--exact": _FLAG, "--all": _FLAG, **_KIND, **_WAY, **_METHOD}),
-    "replace": (quantities_to_figures, str, {"--all": _FLAG, **_METHOD, **_INCLUDED}),
+    "print": (to_chinese, _number, {**_TRADITIONAL, "--upper": _FLAG, **_KIND, **_WAY}),
+    "find": (
+        _find,
+        str,
+        {"--exact": _FLAG, "--all": _FLAG, **_KIND, **_WAY, **_METHOD},
+    ),
+    "replace": (quantities_to_figures, str, {"--all": _FLAG, **_METHOD, **_REPLACED}),
 }
 
 
@@ -296,7 +333,13 @@ def _run(words: List[str]) -> int:
 
 def _stream(number: int) -> TextIO:
     return open(
-        number, "w", buffering=1, encoding="utf-8", errors="replace", newline="\n", closefd=False
+        number,
+        "w",
+        buffering=1,
+        encoding="utf-8",
+        errors="replace",
+        newline="\n",
+        closefd=False,
     )
 
 

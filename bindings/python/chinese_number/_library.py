@@ -36,6 +36,10 @@ PLAIN_DIGITS = 1
 STANDS_ALONE = 2
 ABOUT = 4
 ONE_CHARACTER = 8
+# The options of quantities_to_figures, with the two last flags.
+DOUBTFUL = 16
+EXPANDED = 32
+CANONICAL = 64
 
 
 class _Reading(ctypes.Structure):
@@ -47,7 +51,12 @@ class _Number(ctypes.Structure):
 
 
 class _Quantity(ctypes.Structure):
-    _fields_ = [("numerator", _Number), ("denominator", _Number), ("form", _CODE), *_PLACE]
+    _fields_ = [
+        ("numerator", _Number),
+        ("denominator", _Number),
+        ("form", _CODE),
+        *_PLACE,
+    ]
 
 
 class _Amount(ctypes.Structure):
@@ -95,10 +104,12 @@ _CALLS = (
     "read_date read_quantity print_number print_amount print_signed_amount print_date "
     "print_quantity print_figures find_numbers find_quantities quantities_to_figures"
 ).split()
+# The code of a doubt is multiplied by this, and added to the flags.
+_DOUBT = 16
 # Of the flags added together, whether each is among them.
 _FLAGS_OF = [
     tuple(bool(flags & it) for it in (PLAIN_DIGITS, STANDS_ALONE, ABOUT, ONE_CHARACTER))
-    for flags in range(2 * ONE_CHARACTER)
+    for flags in range(_DOUBT)
 ]
 # A quantity: the low and the high 64 bits of its numerator and of its denominator, and its form.
 Words = Tuple[int, int, int, int, int]
@@ -110,9 +121,20 @@ _native: Any = None
 
 
 class Run:
-    """A run of a text. That of `_native` makes its text when it is asked for."""
+    """A run of a text, with the code of its doubt. That of `_native` makes its text when it is asked
+    for."""
 
-    __slots__ = ("start", "end", "text", "is_plain", "stands_alone", "is_about", "is_one_character")
+    __slots__ = (
+        "start",
+        "end",
+        "text",
+        "is_plain",
+        "stands_alone",
+        "is_about",
+        "is_one_character",
+        "_doubt",
+    )
+    _doubt: int
 
     def __new__(
         cls,
@@ -123,11 +145,13 @@ class Run:
         stands_alone: bool,
         is_about: bool,
         is_one_character: bool,
-    ) -> Run:
+        _doubt: int = 0,
+    ) -> Any:
         places = operator.index(start), operator.index(end)
         flags = map(bool, (is_plain, stands_alone, is_about, is_one_character))
         made = object.__new__(cls)
-        for name, value in zip(Run.__slots__, (*places, str.__str__(text), *flags)):
+        values = (*places, str.__str__(text), *flags, operator.index(_doubt))
+        for name, value in zip(Run.__slots__, values):
             object.__setattr__(made, name, value)
         return made
 
@@ -271,7 +295,11 @@ def read_quantity(text: str, method: int) -> Tuple[int, Words, int]:
     it = _Quantity()
     status = _read(library.chinese_quantity_read, text, it, method)
     above, below = it.numerator, it.denominator
-    return status, (above.low, above.high, below.low, below.high, it.form), it.char_index
+    return (
+        status,
+        (above.low, above.high, below.low, below.high, it.form),
+        it.char_index,
+    )
 
 
 def print_number(
@@ -315,10 +343,14 @@ def print_figures(quantity: Words) -> Tuple[int, str]:
 
 
 def quantities_to_figures(
-    data: bytes, upper: bool, greatest: int, method: int, included: int
+    data: bytes, upper: bool, greatest: int, method: int, options: int
 ) -> Tuple[int, str]:
     """The text with its quantities in figures. The data are the text in UTF-8."""
-    codes, length, status = (upper, greatest, method, included), _SIZE(len(data)), _NO_ROOM
+    codes, length, status = (
+        (upper, greatest, method, options),
+        _SIZE(len(data)),
+        _NO_ROOM,
+    )
     while status == _NO_ROOM:
         room = ctypes.create_string_buffer(max(length.value, _MOST_FIGURES_BYTES))
         status = library.chinese_quantities_to_figures(
@@ -339,7 +371,9 @@ def _some(call: Any, text: str, data: bytes, searched: int, index: int, *wanted:
     for span in spans[: count.value]:
         start = index + len(data[searched : span.start].decode())
         searched, index = span.end, start + len(data[span.start : span.end].decode())
-        made.append(of(start, index, text[start:index], *_FLAGS_OF[span.flags]))
+        doubt, flags = divmod(span.flags, _DOUBT)
+        values: List[Any] = [start, index, text[start:index], *_FLAGS_OF[flags], doubt]
+        made.append(Run.__new__(of, *values))
     return status, made, searched if len(made) == _AT_ONCE else len(data), index
 
 

@@ -9,7 +9,8 @@ use chinese_number::{
     chinese_to_date, chinese_to_quantity, chinese_to_signed_amount, date_to_chinese, find_numbers,
     find_quantities, quantities_to_figures, replace_quantities, signed_amount_to_chinese,
     yuan_to_fen, AmountForm, BillDate, ChineseCase, ChineseCountMethod, ChineseToNumber,
-    ChineseVariant, Found, Included, NumberToChinese, Numbers, Quantity, QuantityForm, Wanted,
+    ChineseVariant, Doubt, Figures, Found, Included, Integer, NumberToChinese, Numbers, Quantity,
+    QuantityForm, Style, Wanted,
 };
 
 const FORMS: [(&str, QuantityForm); 4] = [
@@ -69,11 +70,12 @@ where
 
 fn print<T>(way: &str, script: &str, letter_case: &str, decimal: &str) -> String
 where
-    T: NumberToChinese + FromStr<Err: Debug>,
+    T: Integer + NumberToChinese + FromStr<Err: Debug>,
 {
     let (variant, case) = (variant(script), case(letter_case));
     let value: T = number(decimal);
     told(match way {
+        "any" => Ok(value.to_chinese_any(variant, case)),
         "naive" => Ok(value.to_chinese_naive(variant, case)),
         _ => value.to_chinese(variant, case, method(way)),
     })
@@ -126,18 +128,24 @@ fn quantity(words: &str) -> Quantity {
 }
 
 fn print_quantity(way: &str, script: &str, letter_case: &str, words: &str) -> String {
-    told(quantity(words).to_chinese(variant(script), case(letter_case), method(way)))
+    let (quantity, variant, case) = (quantity(words), variant(script), case(letter_case));
+    told(match way {
+        "any" => quantity.to_chinese_any(variant, case),
+        _ => quantity.to_chinese(variant, case, method(way)),
+    })
 }
 
 /// What is included, by its words with `+` between them; `none` is nothing.
 fn included(words: &str) -> Included {
     let has = |name| words.split('+').any(|word| word == name);
-    Included { about: has("about"), one_character: has("one") }
+    Included { about: has("about"), one_character: has("one"), doubtful: has("doubtful") }
 }
 
 fn to_figures(words: &str, text: &str) -> String {
-    let method = ChineseCountMethod::TenThousand;
-    quantities_to_figures(text, Wanted::EVERYDAY, method, included(words))
+    let has = |name| words.split('+').any(|word| word == name);
+    let style = if has("expanded") { Style::Expanded } else { Style::Kept };
+    let figures = Figures { included: included(words), style, canonical: has("canonical") };
+    quantities_to_figures(text, Wanted::EVERYDAY, ChineseCountMethod::TenThousand, figures)
 }
 
 fn to_numerals(words: &str, text: &str) -> String {
@@ -158,6 +166,20 @@ fn flags(found: Found<'_>) -> String {
     ];
     let told: Vec<&str> = flags.iter().filter(|(is_told, _)| *is_told).map(|it| it.1).collect();
     told.join(" ")
+}
+
+fn doubt(found: Found<'_>) -> String {
+    let name = match found.doubt() {
+        None => "none",
+        Some(Doubt::Word) => "word",
+        Some(Doubt::Digits) => "digits",
+        Some(Doubt::Term) => "term",
+        Some(Doubt::Part) => "part",
+        Some(Doubt::Time) => "time",
+        Some(Doubt::Range) => "range",
+        Some(_) => "another",
+    };
+    String::from(name)
 }
 
 // The text with what is shown of each of its runs in its place, in brackets.
@@ -220,6 +242,7 @@ fn answer(line: &str) -> String {
         ["flags", text] => in_place(text, find_numbers(text, Wanted::EVERYDAY), flags),
         ["read_quantity", way, text] => told(chinese_to_quantity(text, method(way)).map(shown)),
         ["find_quantities", text] => find_expressions(text),
+        ["doubts", text] => in_place(text, find_quantities(text, Wanted::EVERYDAY), doubt),
         ["print_quantity", way, script, case, words] => print_quantity(way, script, case, words),
         ["quantity_figures", words] => format!("ok {}", quantity(words).to_figures()),
         ["trim_quantity", words] => format!("ok {}", shown(quantity(words).trimmed())),

@@ -49,7 +49,7 @@ pub enum Kind {
     I128 = 9,
 }
 
-/// The ways in which a number is written; by `Any` it is read alone.
+/// The ways in which a number is read or written; `Any` goes by the text, or by the script and number.
 #[derive(Copy, Clone)]
 pub enum Way {
     Digits = 0,
@@ -139,7 +139,7 @@ pub enum Sought {
     Quantities,
 }
 
-/// What is told of a run in a text.
+/// What is reported of a run in a text.
 pub mod flag {
     pub const PLAIN_DIGITS: u32 = 1;
     pub const STANDS_ALONE: u32 = 2;
@@ -147,7 +147,15 @@ pub mod flag {
     pub const ONE_CHARACTER: u32 = 8;
 }
 
-/// A run in a text: where it begins and ends, in bytes, and its flags, added together.
+/// The options of what is replaced, with the last two flags.
+pub mod option {
+    pub const DOUBTFUL: u32 = 16;
+    pub const EXPANDED: u32 = 32;
+    pub const CANONICAL: u32 = 64;
+}
+
+/// A run in a text: where it begins and ends, in bytes, and its flags, added together, with the code
+/// of its doubt times 16.
 #[derive(Debug, Copy, Clone, Default)]
 #[repr(C)]
 pub struct Span {
@@ -276,7 +284,7 @@ unsafe extern "C" {
         upper: u32,
         greatest: u32,
         method: u32,
-        included: u32,
+        options: u32,
         room: *mut u8,
         room_length: usize,
         length: *mut usize,
@@ -463,7 +471,7 @@ pub fn quantities_to_figures(
     text: &str,
     (upper, greatest): (bool, Unit),
     method: Way,
-    included: u32,
+    options: u32,
 ) -> String {
     let (upper, greatest, method) = (u32::from(upper), greatest as u32, method as u32);
     let (start, end) = (text.as_ptr(), text.len());
@@ -474,7 +482,7 @@ pub fn quantities_to_figures(
         // writes to and does not read; and the length is a place of its own.
         let (length, status) = answered(|length| unsafe {
             chinese_quantities_to_figures(
-                start, end, upper, greatest, method, included, room, most, length,
+                start, end, upper, greatest, method, options, room, most, length,
             )
         });
         if status == status::DONE {

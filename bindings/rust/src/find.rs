@@ -5,7 +5,8 @@ use core::ops::Range;
 
 use crate::abi::{self, flag, Sought};
 use crate::{
-    chinese_to_quantity, ChineseCountMethod, ChineseToNumber, ChineseToNumberError, Quantity, Unit,
+    chinese_to_quantity, ChineseCountMethod, ChineseToNumber, ChineseToNumberError, Doubt,
+    Quantity, Unit,
 };
 
 /// Which characters are looked for: the digits and the units up to the greatest one, with or without
@@ -24,6 +25,10 @@ impl Wanted {
     /// All characters that the readers read.
     pub const ALL: Self = Self { upper: true, greatest: Unit::Ji };
 }
+
+// Each reason, so that one is found by its code.
+const DOUBTS: [Doubt; 6] =
+    [Doubt::Word, Doubt::Digits, Doubt::Term, Doubt::Part, Doubt::Time, Doubt::Range];
 
 /// A run of numeral characters in its text.
 #[derive(Debug, Copy, Clone, Eq, PartialEq)]
@@ -90,6 +95,24 @@ impl<'a> Found<'a> {
         self.flags & flag::ONE_CHARACTER != 0
     }
 
+    /// Why a reader may mean by an expression something else than its quantity, if anything suggests
+    /// that. A number has no doubt.
+    ///
+    /// ```rust
+    /// use chinese_number::{find_quantities, Doubt, Wanted};
+    ///
+    /// let doubts: Vec<Option<Doubt>> = find_quantities("五一假期，三十六计，二十人", Wanted::EVERYDAY)
+    ///     .map(|found| found.doubt())
+    ///     .collect();
+    /// assert_eq!(doubts, [Some(Doubt::Digits), Some(Doubt::Word), None]);
+    /// ```
+    #[inline]
+    #[must_use]
+    pub fn doubt(self) -> Option<Doubt> {
+        let code = self.flags / 16;
+        DOUBTS.into_iter().find(|doubt| *doubt as u32 == code)
+    }
+
     /// Its number as plain digits where it is those, else by units.
     ///
     /// # Errors
@@ -108,14 +131,14 @@ impl<'a> Found<'a> {
         }
     }
 
-    /// Its number as [`ChineseToNumber::to_number_any`] reads it, and none where that refuses it.
+    /// Its number by [`ChineseCountMethod::TenThousand`], and none where [`Self::number`] refuses it.
     #[inline]
     #[must_use]
     pub fn value<T>(self) -> Option<T>
     where
         &'a str: ChineseToNumber<T>,
     {
-        self.text.to_number_any().ok()
+        self.number(ChineseCountMethod::TenThousand).ok()
     }
 
     /// The exact quantity that its text is, as [`find_quantities`] finds them.

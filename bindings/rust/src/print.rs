@@ -29,7 +29,27 @@ impl Display for NumberToChineseError {
 impl core::error::Error for NumberToChineseError {}
 
 /// An integer type, one of the twelve.
-pub trait Integer: Whole {}
+///
+/// ```rust
+/// use chinese_number::{ChineseCase, ChineseToNumber, ChineseVariant, Integer};
+///
+/// let text = 1_000_000_000_000i64.to_chinese_any(ChineseVariant::Simple, ChineseCase::Lower);
+/// assert_eq!(text, "一万亿");
+/// assert_eq!(text.to_number_any(), Ok(1_000_000_000_000i64));
+/// let text = 1_000_000_000_000i64.to_chinese_any(ChineseVariant::Traditional, ChineseCase::Lower);
+/// assert_eq!(text, "一兆");
+/// ```
+pub trait Integer: Whole {
+    /// Writes the number with units as [`ChineseToNumber::to_number_any`] reads it back: in the
+    /// simple script below 10^16 by `Middle`, else by `TenThousand`.
+    ///
+    /// [`ChineseToNumber::to_number_any`]: crate::ChineseToNumber::to_number_any
+    #[inline]
+    #[must_use]
+    fn to_chinese_any(self, chinese_variant: ChineseVariant, chinese_case: ChineseCase) -> String {
+        Room::new().number_any(chinese_variant, chinese_case, self).into()
+    }
+}
 
 impl<T: Whole> Integer for T {}
 
@@ -91,6 +111,17 @@ impl Room {
         unrefused(self.by_way(chinese_variant, chinese_case, Way::Digits, value))
     }
 
+    /// Prints a number as [`Integer::to_chinese_any`] does.
+    #[inline]
+    pub fn number_any<T: Integer>(
+        &mut self,
+        chinese_variant: ChineseVariant,
+        chinese_case: ChineseCase,
+        value: T,
+    ) -> &str {
+        unrefused(self.by_way(chinese_variant, chinese_case, Way::Any, value))
+    }
+
     #[inline]
     fn by_way<T: Whole>(
         &mut self,
@@ -120,9 +151,33 @@ impl Room {
         method: ChineseCountMethod,
         quantity: Quantity,
     ) -> Result<&str, QuantityToChineseError> {
-        let method = method.into();
-        let text =
-            abi::print_quantity(&mut self.0, chinese_variant, chinese_case, method, quantity);
+        self.quantity_by_way(chinese_variant, chinese_case, method.into(), quantity)
+    }
+
+    /// Prints a quantity, as [`Quantity::to_chinese_any`] does.
+    ///
+    /// # Errors
+    ///
+    /// A denominator of 0 is refused.
+    #[inline]
+    pub fn quantity_any(
+        &mut self,
+        chinese_variant: ChineseVariant,
+        chinese_case: ChineseCase,
+        quantity: Quantity,
+    ) -> Result<&str, QuantityToChineseError> {
+        self.quantity_by_way(chinese_variant, chinese_case, Way::Any, quantity)
+    }
+
+    #[inline]
+    fn quantity_by_way(
+        &mut self,
+        variant: ChineseVariant,
+        case: ChineseCase,
+        way: Way,
+        quantity: Quantity,
+    ) -> Result<&str, QuantityToChineseError> {
+        let text = abi::print_quantity(&mut self.0, variant, case, way, quantity);
         text.map_err(|status| match status {
             status::TOO_LARGE => QuantityToChineseError::Overflow,
             status::TOO_SMALL => QuantityToChineseError::Underflow,
@@ -414,6 +469,31 @@ impl Quantity {
         method: ChineseCountMethod,
     ) -> Result<String, QuantityToChineseError> {
         Room::new().quantity(chinese_variant, chinese_case, method, self).map(String::from)
+    }
+
+    /// Writes the quantity in the simple script by `Middle` where each number that is spelled in it
+    /// is below 10^16, else by `TenThousand`, by which `chinese_to_quantity` reads it back.
+    ///
+    /// # Errors
+    ///
+    /// A denominator of 0 is refused.
+    ///
+    /// ```rust
+    /// use chinese_number::{ChineseCase, ChineseVariant, Quantity};
+    ///
+    /// let quantity = Quantity::decimal(10_000_000_000_005, 1).unwrap();
+    /// let text = quantity.to_chinese_any(ChineseVariant::Simple, ChineseCase::Lower);
+    /// assert_eq!(text.unwrap(), "一万亿点五");
+    /// let text = quantity.to_chinese_any(ChineseVariant::Traditional, ChineseCase::Lower);
+    /// assert_eq!(text.unwrap(), "一兆點五");
+    /// ```
+    #[inline]
+    pub fn to_chinese_any(
+        self,
+        chinese_variant: ChineseVariant,
+        chinese_case: ChineseCase,
+    ) -> Result<String, QuantityToChineseError> {
+        Room::new().quantity_any(chinese_variant, chinese_case, self).map(String::from)
     }
 
     /// Writes the quantity in figures, without the zeros at the end of its decimals.

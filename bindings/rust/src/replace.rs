@@ -2,37 +2,83 @@
 
 use alloc::string::String;
 
-use crate::abi::{self, flag};
-use crate::{find_quantities, ChineseCountMethod, Found, Wanted};
+use crate::abi::{self, flag, option};
+use crate::{find_quantities, ChineseCountMethod, Doubt, Found, Wanted};
 
-/// Which quantities of a text are replaced that are else left.
+/// Which quantities of a text are replaced that else stay.
 #[derive(Debug, Default, Copy, Clone, Eq, PartialEq, Hash)]
 pub struct Included {
     /// Whether those about so much are, as the 300 of 300多.
     pub about: bool,
     /// Whether those of one Chinese character are, as the 一 of 一般.
     pub one_character: bool,
+    /// Whether those that are doubtful are, as 五一; but those with [`Doubt::Part`] stay always.
+    pub doubtful: bool,
 }
 
 impl Included {
-    /// Neither of them.
-    pub const NONE: Self = Self { about: false, one_character: false };
+    /// None of them.
+    pub const NONE: Self = Self { about: false, one_character: false, doubtful: false };
 
     #[inline]
-    fn flags(self) -> u32 {
-        u32::from(self.about) * flag::ABOUT + u32::from(self.one_character) * flag::ONE_CHARACTER
+    fn options(self) -> u32 {
+        u32::from(self.about) * flag::ABOUT
+            + u32::from(self.one_character) * flag::ONE_CHARACTER
+            + u32::from(self.doubtful) * option::DOUBTFUL
     }
 
     #[inline]
     fn has(self, found: Found<'_>) -> bool {
-        (self.about || !found.is_about()) && (self.one_character || !found.is_one_character())
+        let is_left = match found.doubt() {
+            None => false,
+            Some(Doubt::Part) => true,
+            Some(_) => !self.doubtful,
+        };
+        let is_counted =
+            (self.about || !found.is_about()) && (self.one_character || !found.is_one_character());
+        is_counted && !is_left
+    }
+}
+
+/// How a number in numerals is written in figures.
+#[derive(Debug, Default, Copy, Clone, Eq, PartialEq, Hash)]
+pub enum Style {
+    /// Great units stay: 三千五百亿 becomes 3500亿.
+    #[default]
+    Kept,
+    /// No great unit is kept, also of what is in figures: 三千五百亿 and 3500亿 become 350000000000.
+    Expanded,
+}
+
+/// How the quantities of a text are written in figures.
+#[derive(Debug, Default, Copy, Clone, Eq, PartialEq, Hash)]
+pub struct Figures {
+    /// What is written in figures that else stays.
+    pub included: Included,
+    /// How numerals are written.
+    pub style: Style,
+    /// Whether what is written in figures alone is rewritten in ASCII, without commas and leading
+    /// zeros.
+    pub canonical: bool,
+}
+
+impl Figures {
+    /// Great units stay, and so does what is in figures and what is doubtful.
+    pub const DEFAULT: Self =
+        Self { included: Included::NONE, style: Style::Kept, canonical: false };
+
+    #[inline]
+    fn options(self) -> u32 {
+        self.included.options()
+            + u32::from(self.style == Style::Expanded) * option::EXPANDED
+            + u32::from(self.canonical) * option::CANONICAL
     }
 }
 
 /// The text with its quantities replaced: `new` gives the new text of each, or none where it stays.
 ///
 /// It is asked for each expression of [`find_quantities`] that has a quantity by the method, in
-/// order, but for those that are not included. All else stands as it stood.
+/// order, but for those that are not included. All else stays as it is.
 ///
 /// ```rust
 /// use chinese_number::{replace_quantities, ChineseCountMethod, Found, Included, Wanted};
@@ -64,23 +110,30 @@ pub fn replace_quantities<T: AsRef<str>>(
     done
 }
 
-/// The text with its quantities in figures, as `Quantity::to_figures` writes them: those that
-/// [`replace_quantities`] replaces.
+/// The text with its numerals in figures, as an editor writes them.
+///
+/// What already is in figures stays, and so do what [`replace_quantities`] does not replace, a part
+/// of a name, an address or another number, 千分之五 and 二又五分之三, and the other parts of a date, a
+/// time, a length, an amount or a range of which one part stays.
 ///
 /// ```rust
-/// use chinese_number::{quantities_to_figures, ChineseCountMethod, Included, Wanted};
+/// use chinese_number::{quantities_to_figures, ChineseCountMethod, Figures, Style, Wanted};
 ///
 /// let (wanted, method) = (Wanted::EVERYDAY, ChineseCountMethod::TenThousand);
-/// let text = quantities_to_figures("共3.5万元，剩三分之一", wanted, method, Included::NONE);
-/// assert_eq!(text, "共35000元，剩1/3");
+/// let text = "市值三点五亿元，占百分之十二点五";
+/// let usual = quantities_to_figures(text, wanted, method, Figures::DEFAULT);
+/// assert_eq!(usual, "市值3.5亿元，占12.5%");
+/// let expanded = Figures { style: Style::Expanded, ..Figures::DEFAULT };
+/// let plain = quantities_to_figures(text, wanted, method, expanded);
+/// assert_eq!(plain, "市值350000000元，占12.5%");
 /// ```
 #[must_use]
 pub fn quantities_to_figures(
     text: &str,
     wanted: Wanted,
     method: ChineseCountMethod,
-    included: Included,
+    figures: Figures,
 ) -> String {
     let Wanted { upper, greatest } = wanted;
-    abi::quantities_to_figures(text, (upper, greatest), method.into(), included.flags())
+    abi::quantities_to_figures(text, (upper, greatest), method.into(), figures.options())
 }

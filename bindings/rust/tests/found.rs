@@ -50,6 +50,9 @@ fn answers_as_the_readers_do() {
     let refused = Err(ChineseToNumberError::ChineseNumberIncorrect { char_index: 0 });
     assert_eq!(found.number::<u8>(METHOD), refused);
     assert_eq!(found.number::<i8>(METHOD), Ok(5));
+    let found = find_numbers("正33", Wanted::ALL).next().unwrap();
+    let refused = Err(ChineseToNumberError::ChineseNumberIncorrect { char_index: 1 });
+    assert_eq!((found.number::<i64>(METHOD), found.value::<i64>()), (refused, None));
 }
 
 #[test]

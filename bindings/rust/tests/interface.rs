@@ -153,7 +153,11 @@ fn signatures_of_amounts_of_dates_and_of_the_search() {
     let _: fn(Found<'static>, ChineseCountMethod) -> Answer<u8> = Found::number;
     let _: fn(Found<'static>) -> Option<u8> = Found::value;
     let _: fn(Found<'static>) -> Range<usize> = Found::range;
+    let _: fn(Found<'static>) -> Option<Doubt> = Found::doubt;
+    let _: fn(&'static str, Wanted) -> Numbers<'static> = find_quantities;
+    let _: fn(&str, Wanted, ChineseCountMethod, Figures) -> String = quantities_to_figures;
     let _: [Wanted; 2] = const { [Wanted::EVERYDAY, Wanted::ALL] };
+    let _: (Included, Figures) = const { (Included::NONE, Figures::DEFAULT) };
 }
 
 // What is read and written by the traits as a number of this type.
@@ -197,6 +201,9 @@ fn traits() {
     is_a_value::<Quantity>();
     is_a_value::<QuantityForm>();
     is_a_value::<Included>();
+    is_a_value::<Doubt>();
+    is_a_value::<Style>();
+    is_a_value::<Figures>();
     is_an_error::<QuantityToChineseError>();
     is_an_error::<DateToChineseError>();
     is_an_error::<ChineseToDateError>();
@@ -208,8 +215,12 @@ fn traits() {
     has_a_hash::<Quantity>();
     has_a_hash::<QuantityForm>();
     has_a_hash::<Included>();
+    has_a_hash::<Doubt>();
+    has_a_hash::<Style>();
+    has_a_hash::<Figures>();
     has_a_hash::<BillDate>();
     has_a_hash::<AmountForm>();
+    assert_eq!(Figures::default(), Figures::DEFAULT);
     assert!(Unit::Wan < Unit::Yi);
     assert!(ChineseVariant::Traditional < ChineseVariant::Simple);
 }

@@ -78,10 +78,29 @@ fn replaced() {
 #[test]
 fn in_figures() {
     let many = "共一百亿，".repeat(1_000);
-    let text = quantities_to_figures(&many, BY.0, BY.1, Included::NONE);
+    let text = quantities_to_figures(&many, BY.0, BY.1, Figures::DEFAULT);
+    assert_eq!(text, "共100亿，".repeat(1_000));
+    let expanded = Figures { style: Style::Expanded, ..Figures::default() };
+    let text = quantities_to_figures(&many, BY.0, BY.1, expanded);
     assert_eq!(text, "共10000000000，".repeat(1_000));
-    let text = quantities_to_figures("一亿", BY.0, ChineseCountMethod::Low, Included::NONE);
+    let text = quantities_to_figures("一亿", BY.0, ChineseCountMethod::Low, expanded);
     assert_eq!(text, "100000");
+    let canonical = Figures { canonical: true, ..Figures::DEFAULT };
+    assert_eq!(quantities_to_figures("1,280元", BY.0, BY.1, canonical), "1280元");
     let upper = Wanted { upper: true, ..Wanted::EVERYDAY };
-    assert_eq!(quantities_to_figures("陆拾", upper, BY.1, Included::NONE), "60");
+    assert_eq!(quantities_to_figures("陆拾", upper, BY.1, Figures::DEFAULT), "60");
+}
+
+#[test]
+fn in_doubt() {
+    let doubts = |text| find_quantities(text, BY.0).map(Found::doubt).collect::<Vec<_>>();
+    assert_eq!(doubts("五一，二十"), [Some(Doubt::Digits), None]);
+    assert_eq!(find_numbers("五一", BY.0).next().unwrap().doubt(), None);
+    let doubtful = Included { doubtful: true, ..Included::NONE };
+    let text = "五一，八五折";
+    let all = |included| replace_quantities(text, BY.0, BY.1, included, |_| Some("?"));
+    assert_eq!(all(Included::NONE), text);
+    assert_eq!(all(doubtful), "?，八五折");
+    let figures = Figures { included: doubtful, ..Figures::DEFAULT };
+    assert_eq!(quantities_to_figures(text, BY.0, BY.1, figures), "51，八五折");
 }

@@ -39,8 +39,7 @@ function numeralsOf(quantity) {
       return quantity.toChinese({ ...methodChosen(), ...options });
     }
     if (quantity.form !== 'whole') throw Object.assign(new RangeError(), { code: 'notWhole' });
-    const written = way.value === 'any' ? 'tenThousand' : way.value;
-    return toChinese(quantity.numerator, { kind: kindChosen(), way: written, ...options });
+    return toChinese(quantity.numerator, { kind: kindChosen(), way: way.value, ...options });
   };
   return ['lower', 'upper'].flatMap((it) =>
     inEachScript((script) => textOf({ script, case: it }), `_${it}`));

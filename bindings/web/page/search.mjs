@@ -6,23 +6,29 @@ import { sentences, words } from './language.mjs';
 import { methodChosen } from './numbers.mjs';
 import { reasonOf } from './typed.mjs';
 
-const IDS = ['text', 'textSaid', 'found', 'replaced', 'upper', 'about', 'oneCharacter'];
-const [text, said, found, replaced, upper, about, oneCharacter] =
-  IDS.map((id) => document.getElementById(id));
+const byId = (id) => document.getElementById(id);
+const [text, said, found, replaced] = ['text', 'textSaid', 'found', 'replaced'].map(byId);
+// What is looked for, and how it is replaced.
+const CHOICES = ['upper', 'about', 'oneCharacter', 'doubtful', 'expanded', 'canonical'];
+const [upper, about, oneCharacter, doubtful, expanded, canonical] = CHOICES.map(byId);
 const mirror = document.querySelector('#searching .mirror');
 const MOST_LISTED = 100;
 // So many characters of a text that is too long for marks are searched at each key.
 const NEAR = 400;
 let caret = 0;
-// What belongs to an expression is decided by at most four characters on either side of it.
-const SIGHT = 4;
+// What belongs to an expression, and nearly always its doubt, is decided by so many characters on
+// either side of it.
+const SIGHT = 10;
 
 const isLong = (typed) => typed.length > MOST_MARKED;
 const wanted = () => (upper.checked ? { upper: true, greatest: 'ji' } : {});
 
 function inFigures(typed) {
-  const included = { about: about.checked, oneCharacter: oneCharacter.checked };
-  return quantitiesToFigures(typed, { ...wanted(), ...methodChosen(), ...included });
+  const included = {
+    about: about.checked, oneCharacter: oneCharacter.checked, doubtful: doubtful.checked,
+  };
+  const style = { expanded: expanded.checked, canonical: canonical.checked };
+  return quantitiesToFigures(typed, { ...wanted(), ...methodChosen(), ...included, ...style });
 }
 
 /** The figures of an expression, or why it has none and where. */
@@ -41,18 +47,27 @@ function valueOf(it) {
   }
 }
 
+const isLeft = ({ isAbout, isOneCharacter, doubt }) => (isAbout && !about.checked)
+  || (isOneCharacter && !oneCharacter.checked)
+  || doubt === 'part' || (doubt !== null && !doubtful.checked);
+
+/** The value of an expression in words: whether it is about so much, and why it is doubtful. */
+function toldOf(value, { isAbout, doubt }) {
+  const told = isAbout ? words('valueAbout', { value }) : value;
+  return doubt ? words('valueInDoubt', { value: told, doubt: words(`doubt_${doubt}`) }) : told;
+}
+
 /**
- * The class of an expression, and what is said of it: refused; left as it stands, since nobody
- * asked for what is about so much or one character; doubtful, since it is about so much or may be a
- * part of something; or none of these.
+ * The class of an expression, and what is said of it: refused; left as it is, since nobody asked
+ * for what is about so much, one character or doubtful; doubtful, since it is about so much, may be
+ * a part of something or is in doubt; or none of these.
  */
 function judge(it) {
   const { value, fault } = valueOf(it);
   if (fault) return { name: 'fault', told: value, fault };
-  const told = it.isAbout ? words('valueAbout', { value }) : value;
-  if ((it.isAbout && !about.checked) || (it.isOneCharacter && !oneCharacter.checked)) {
-    return { name: 'left', told };
-  }
+  const told = toldOf(value, it);
+  if (isLeft(it)) return { name: 'left', told };
+  if (it.doubt) return { name: 'doubtful', told };
   return it.standsAlone
     ? { name: it.isAbout ? 'doubtful' : '', told }
     : { name: 'doubtful', told: words('valueDoubtful', { value: told }) };
@@ -142,5 +157,5 @@ for (const it of ['keyup', 'pointerup']) {
     if (isLong(text.value) && text.selectionStart !== caret) search();
   });
 }
-for (const it of [upper, about, oneCharacter]) it.addEventListener('change', search);
+for (const it of CHOICES) byId(it).addEventListener('change', search);
 document.forms.searching.addEventListener('submit', (event) => event.preventDefault());

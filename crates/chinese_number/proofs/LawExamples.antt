@@ -1,5 +1,5 @@
 -- Of each law that has premises, values that meet all of them.
-use Rattle.std.proofs.Common.{◌≡◌, ℕ, ◌+◌, ◌^◌, ◌<◌, pos, negsuc, IsTrue, not, List, [], ◌∷◌, ◌++◌, All, codes, encode_utf8_all, slice_index, Some, Ok, Err, false, refl, arith}
+use Rattle.std.proofs.Common.{◌≡◌, ℕ, ◌+◌, ◌^◌, ◌<◌, pos, negsuc, nat_abs, IsTrue, not, List, [], ◌∷◌, ◌++◌, All, codes, encode_utf8_all, slice_index, Some, Ok, Err, false, refl, arith}
 use Rattle.std.specs.Char.{encode_utf8}
 use Rattle.std.specs.Fmt.{digits}
 use Rattle.std.specs.Str.{chars}
@@ -17,10 +17,11 @@ use Rattle.cn_core.specs.Reading.{Reads, is_minus, naive_reading}
 use Rattle.cn_core.specs.Refusal.{incorrect_at}
 use Rattle.cn_core.specs.Text.{text_of, marks_of}
 use Rattle.cn_core.specs.Value.{numeral_value}
+use Rattle.cn_quantity.specs.Misread.{is_misread}
 use Rattle.cn_core.specs.Whole.{holds, signed_kind, signed_number, unsigned_kind}
 use Rattle.cn_core.proofs.Fronts.{IsPlace-place_of}
 use Rattle.cn_core.proofs.Judging.{Judges-by_walk}
-use Rattle.chinese_number.specs.Methods.{names_no_unit_above_wan}
+use Rattle.chinese_number.specs.Methods.{names_no_unit_above_wan, names_no_unit_above_yi}
 use Rattle.chinese_number.specs.Parts.{sign_length, sign_text, unsigned_text}
 
 -- a string by its bytes
@@ -43,11 +44,17 @@ methods_spell_alike_below-three = omega arith
 methods_spell_alike_below-two : 10 ^ 16 + 10 ^ 12 < 10 ^ 24
 methods_spell_alike_below-two = omega arith
 
-small_units_read_alike : IsTrue
+small_units_read_alike-all : IsTrue
     (names_no_unit_above_wan
     (marks_of (unsigned_text (signed_kind 32) (string (codes "負一百二十萬")))))
 unfolding chars encode_utf8 digit_of rank_of sign_of
-small_units_read_alike = refl
+small_units_read_alike-all = refl
+
+small_units_read_alike-three : IsTrue
+    (names_no_unit_above_yi
+    (marks_of (unsigned_text (signed_kind 64) (string (codes "負一萬二千億")))))
+unfolding chars encode_utf8 digit_of rank_of sign_of
+small_units_read_alike-three = refl
 
 -- 三 before 個億 makes a numeral
 ends_can_be_completed : Completable (marks_of (codes "個億"))
@@ -79,13 +86,15 @@ leading_zeros_change_nothing = (
 
 numbers_stay_numbers-units : Reads (signed_kind 128) TenThousand (string (codes "負一百二十萬"))
     (Ok (negsuc 1199999))
+    × (is_misread (unsigned_text (signed_kind 128) (string (codes "負一百二十萬"))) ≡ false)
 unfolding chars encode_utf8 digit_of rank_of sign_of
-numbers_stay_numbers-units = (Ok 1200000, refl, refl)
+numbers_stay_numbers-units = ((Ok 1200000, refl, refl), refl)
 
-numbers_stay_numbers-digits : naive_reading (signed_kind 128) (string (codes "二零二五"))
-    ≡ Ok (pos 2025)
+numbers_stay_numbers-digits : (naive_reading (signed_kind 128) (string (codes "二零二五"))
+    ≡ Ok (pos 2025))
+    × (is_misread (unsigned_text (signed_kind 128) (string (codes "二零二五"))) ≡ false)
 unfolding chars encode_utf8 digit_of rank_of sign_of
-numbers_stay_numbers-digits = refl
+numbers_stay_numbers-digits = (refl, refl)
 
 spellings_are_numerals : IsTrue (holds (unsigned_kind 8) (pos 110))
     × IsTrue (is_printable Low (pos 110))
@@ -94,6 +103,11 @@ spellings_are_numerals = (refl, refl)
 spellings_read_back : IsTrue (holds (unsigned_kind 32) (pos 1280500))
     × IsTrue (is_printable TenThousand (pos 1280500))
 spellings_read_back = (refl, refl)
+
+-- 一萬億
+middle_is_read_by_ten_thousand : IsTrue (holds (signed_kind 64) (pos (10 ^ 12)))
+    × (nat_abs (pos (10 ^ 12)) < 10 ^ 16)
+middle_is_read_by_ten_thousand = (refl, omega arith)
 
 -- 一百二十 and 一百零二
 one_text_for_each_number-units : IsTrue (holds (unsigned_kind 8) (pos 120))

@@ -11,5 +11,4 @@ pub mod Quantities
 pub mod Reading
 pub mod Refusals
 pub mod Signs
-pub mod SmallUnits
 pub mod WhiteSpace

@@ -1,5 +1,5 @@
 -- Methods spell alike where they have the same units.
-use Rattle.std.proofs.Common.{◌≡◌, ℕ, zero, suc, ◌+◌, ◌/◌, ◌%◌, ◌^◌, ◌<◌, ◌≤◌, false, nat_le, List, ◌∷◌, ◌++◌, refl, sym, ap, ap₂, ◌∙◌, arith}
+use Rattle.std.proofs.Common.{◌≡◌, ℕ, zero, suc, ◌+◌, ◌/◌, ◌%◌, ◌^◌, ◌<◌, ◌≤◌, true, false, nat_le, nat_lt, List, ◌∷◌, ◌++◌, refl, sym, ap, ap₂, ◌∙◌, arith}
 use Rattle.std.proofs.Math.Decide.{dec_lt}
 use Rattle.std.proofs.Math.Nat.{div-le_self, mod-lt}
 use Rattle.std.proofs.lemmas.Bool.{leb-true}
@@ -118,7 +118,26 @@ exponent-low TenThousand rank h = grind (arith, nat_tests)
 exponent-low Middle rank h = grind (arith, nat_tests)
 exponent-low High rank h = grind (arith, nat_tests)
 
-pub scale-low : (one second : ChineseCountMethod) (rank : ℕ) → rank ≤ 4
+pub exponent-small : (one second : ChineseCountMethod) (rank : ℕ) → nat_lt rank 5 ≡ true
+    → exponent one rank ≡ exponent second rank
+exponent-small one second rank h =
+    let low : rank ≤ 4 = grind (arith, nat_tests, h) in
+    exponent-low one rank low ∙ sym (exponent-low second rank low)
+
+-- all but `Low` up to 億 too
+pub exponent-to_yi : (rank : ℕ) → nat_lt rank 6 ≡ true
+    → (exponent TenThousand rank ≡ exponent Middle rank)
+    × (exponent Middle rank ≡ exponent High rank)
+exponent-to_yi rank h = by (dec_lt rank 5) where
+  by : Dec (rank < 5) → (exponent TenThousand rank ≡ exponent Middle rank)
+      × (exponent Middle rank ≡ exponent High rank)
+  by (yes low) =
+      let test : nat_lt rank 5 ≡ true = grind (arith, nat_tests, low) in
+      (exponent-small TenThousand Middle rank test, exponent-small Middle High rank test)
+  by (no high) =
+      let yi : rank ≡ 5 = grind (arith, nat_tests, h, high) in rw yi (refl, refl)
+
+scale-low : (one second : ChineseCountMethod) (rank : ℕ) → rank ≤ 4
     → scale one rank ≡ scale second rank
 scale-low one second rank h = ap (λ e. 10 ^ e) (exponent-low one rank h
     ∙ sym (exponent-low second rank h))

@@ -1,14 +1,12 @@
 -- What is read as a number is that number as a quantity.
-use Rattle.std.proofs.Common.{◌≡◌, ℕ, ℤ, ◌^◌, ◌<◌, ◌≤◌, Bool, true, false, nat_le, ◌&&◌, List, [], ◌∷◌, length, drop, Option, Some, None, is_some, Result, Ok, Err, refl, sym, ap, ◌∙◌, arith, rules, if◌then◌else◌}
+use Rattle.std.proofs.Common.{◌≡◌, ℕ, ℤ, ◌^◌, ◌<◌, Bool, true, false, nat_le, List, [], ◌∷◌, length, drop, Option, Some, None, is_some, Result, Ok, Err, refl, sym, ap, ◌∙◌, arith, rules, if◌then◌else◌}
 use Rattle.std.specs.List.{list_all}
 use Rattle.std.proofs.lemmas.Bool.Decides.{nat_tests}
 use Rattle.cn_core.specs.declared.method.ChineseCountMethod.{ChineseCountMethod}
 use Rattle.cn_core.specs.declared.sign.Sign.{Sign}
-use Rattle.cn_core.specs.declared.sign.Sign.TheVariants.{Plus, Minus}
 use Rattle.cn_core.specs.Characters.{digit_of, rank_of}
-use Rattle.cn_core.specs.Judge.{Judges}
 use Rattle.cn_core.specs.Judging.{judge}
-use Rattle.cn_core.specs.Mark.{Mark, digit, unit, other, mark_from, mark_of}
+use Rattle.cn_core.specs.Mark.{Mark, digit, mark_from, mark_of}
 use Rattle.cn_core.specs.Naive.{decimal_value, naive_answer}
 use Rattle.cn_core.specs.Numeral.{is_numeral}
 use Rattle.cn_core.specs.Reading.{Reads, is_minus, leading_sign, naive_reading, sign_len, typed_answer, typed_number}
@@ -19,12 +17,14 @@ use Rattle.cn_core.proofs.Fronts.{and-left, and-right, both}
 use Rattle.cn_core.proofs.Judging.{Judges-judge, Judges-same}
 use Rattle.cn_find.specs.Plain.{is_decimal}
 use Rattle.cn_find.proofs.Agreement.{one-number}
-use Rattle.cn_quantity.specs.declared.quantity.Quantity.{Quantity}
 use Rattle.cn_quantity.specs.declared.quantity.QuantityForm.TheVariants.{Whole}
-use Rattle.cn_quantity.specs.Number.{is_plain, whole_answer}
+use Rattle.cn_quantity.specs.Misread.{first_misread, is_misread}
 use Rattle.cn_quantity.specs.Reading.{quantity_answer}
+use Rattle.cn_quantity.specs.WholeNumber.{is_plain, reader_answer}
 use Rattle.cn_quantity.proofs.Today.{answered-numeral, digit-low, judged-numeral, numeral-ratio, plain-marks, plain-ratio, quantity-today}
+use Rattle.cn_quantity.proofs.WholeNumbers.{whole-reader}
 use Rattle.chinese_number.specs.Digits.{is_digit}
+use Rattle.chinese_number.specs.Parts.{unsigned_text}
 use Rattle.chinese_number.proofs.PlainDigits.{IsPlain-answered, naive_answer-digits}
 
 -- plain digits as marks
@@ -63,9 +63,9 @@ digits-plain (c ∷ rest) h =
       by None None h = cc
 
 -- a numeral is answered as a whole number, plain digits or not
-whole-judged : (method : ChineseCountMethod) (text : List ℕ) (number : ℕ)
-    → judge method (marks_of text) ≡ Ok number → whole_answer method text ≡ Ok number
-whole-judged method text number h = by (is_plain text) refl where
+reader-judged : (method : ChineseCountMethod) (text : List ℕ) (number : ℕ)
+    → judge method (marks_of text) ≡ Ok number → reader_answer method text ≡ Ok number
+reader-judged method text number h = by (is_plain text) refl where
   by : (b : Bool) → is_plain text ≡ b
       → (if b then naive_answer (marks_of text) else judge method (marks_of text)) ≡ Ok number
   by false e = h
@@ -82,6 +82,14 @@ whole-judged method text number h = by (is_plain text) refl where
         some [] h = cc
         some (mark ∷ rest) h = omega arith
 
+-- a text that is not misread has no first misread character
+none-misread : (text : List ℕ) → is_misread text ≡ false → first_misread text ≡ None
+none-misread text h = by (first_misread text) refl h where
+  by : (found : Option ℕ) → first_misread text ≡ found → is_some found ≡ false
+      → first_misread text ≡ None
+  by None e h = e
+  by (Some place) e h = cc
+
 -- where the answer for a type is a number, so is the judgement
 typed-from : (bytes : List ℕ) (sign : Option Sign) (judged : Result ℕ Refusal) (number : ℤ)
     → Ok number ≡ typed_answer (signed_kind 128) bytes sign judged
@@ -95,9 +103,10 @@ typed-from bytes sign (Err too_large) number h = cc
 
 pub numeral-stays : (method : ChineseCountMethod) (bytes : List ℕ) (number : ℤ)
     → Reads (signed_kind 128) method bytes (Ok number)
+    → is_misread (unsigned_text (signed_kind 128) bytes) ≡ false
     → quantity_answer method bytes
     ≡ Ok (record { numerator = number; denominator = 1; form = Whole })
-numeral-stays method bytes number (judged, judges, is) =
+numeral-stays method bytes number (judged, judges, is) clear =
     let sign = leading_sign true (text_of bytes) in
     let text = drop (sign_len sign) (text_of bytes) in
     let found = typed-from bytes sign judged number is in
@@ -105,14 +114,15 @@ numeral-stays method bytes number (judged, judges, is) =
     Judges-same method (marks_of text) (judge method (marks_of text)) judged
     (Judges-judge method (marks_of text)) judges ∙ found.1 in
     let ratio = numeral-ratio method text found.0 computed
-    (whole-judged method text found.0 computed) in
+    (whole-reader method text (none-misread text clear) ∙ reader-judged method text found.0 computed) in
     quantity-today method bytes number found.0 ratio.0 ratio.1 found.2
 
 pub plain-stays : (method : ChineseCountMethod) (bytes : List ℕ) (number : ℤ)
     → naive_reading (signed_kind 128) bytes ≡ Ok number
+    → is_misread (unsigned_text (signed_kind 128) bytes) ≡ false
     → quantity_answer method bytes
     ≡ Ok (record { numerator = number; denominator = 1; form = Whole })
-plain-stays method bytes number h =
+plain-stays method bytes number h clear =
     let sign = leading_sign true (text_of bytes) in
     let text = drop (sign_len sign) (text_of bytes) in
     let found = typed-from bytes sign (naive_answer (marks_of text)) number (sym h) in
@@ -125,4 +135,4 @@ plain-stays method bytes number h =
     (signed_number (is_minus sign) (decimal_value (marks_of text))) ≡ Ok number =
     rw plain.value found.2 in
     quantity-today method bytes number (decimal_value (marks_of text)) (plain-marks text all)
-    (plain-ratio method text all small answered) held
+    (plain-ratio method text all (none-misread text clear) small answered) held

@@ -1,5 +1,5 @@
 -- The answer to a string, from its text; and to the written text of a number.
-use Rattle.std.proofs.Common.{◌≡◌, ℕ, zero, suc, ◌^◌, ◌<◌, ◌≤◌, ℤ, pos, negsuc, nat_abs, int_lt, Bool, true, false, List, [], ◌∷◌, map, drop, encode_utf8_all, Option, Some, None, Result, Ok, Err, refl, sym, ap, subst, ◌∙◌, arith}
+use Rattle.std.proofs.Common.{◌≡◌, ℕ, zero, suc, ◌^◌, ◌<◌, ℤ, pos, nat_abs, int_lt, Bool, true, false, List, [], ◌∷◌, map, drop, encode_utf8_all, Option, Some, None, Result, Ok, Err, refl, sym, ap, subst, ◌∙◌, arith}
 use Rattle.std.proofs.lemmas.Int.{ints}
 use Rattle.std.specs.List.{list_all}
 use Rattle.cn_core.specs.declared.case.ChineseCase.{ChineseCase}
@@ -23,7 +23,8 @@ use Rattle.cn_core.proofs.Judging.{Judges-judge, Judges-same}
 use Rattle.cn_core.proofs.ReadBack.{spelling-is_numeral}
 use Rattle.cn_spell.proofs.Printed.{is_printed, IsReadBack-marks, text_of-signed_text, minus_is_sign, no_sign}
 use Rattle.cn_spell.proofs.SignedNumbers.{typed_number-held, written_sign, signed_number-signed_text}
-use Rattle.cn_spell.proofs.SpelledMarks.{below_square, spelling-printed, Judges-spelling}
+use Rattle.cn_spell.proofs.ReadByOther.{IsReadBy, IsReadBy-own, Judges-read}
+use Rattle.cn_spell.proofs.SpelledMarks.{below_square, spelling-printed}
 
 -- what is answered is a number that the type holds
 pub held-typed_number : (kind : Kind) (number answer : ℤ) → typed_number kind number ≡ Ok answer
@@ -117,20 +118,27 @@ minus_is_signed kind number whole held below = by kind.signed refl where
   by true e = refl
   by false e = absurd (grind (arith, ints, whole.from_zero e, held, below))
 
+-- what one method spells is read back by another that reads it
+pub Reads-by : (kind : Kind) (write read : ChineseCountMethod) (variant : ChineseVariant) (case : ChineseCase) (number : ℤ) → IsWhole kind → holds kind number ≡ true → IsReadBy write read (nat_abs number)
+    → Reads kind read (encode_utf8_all (spelled_text variant case write number)) (Ok number)
+Reads-by kind write read variant case number whole held is =
+    let small = whole.fits number held in
+    let marks = spelling write (nat_abs number) in
+    let bytes = encode_utf8_all (spelled_text variant case write number) in
+    let negative = int_lt number (pos 0) in
+    let n = spelling-is_numeral write (nat_abs number) is.square in
+    subst (λ answer. Reads kind read bytes answer) (typed_answer-held kind number bytes held)
+    (Reads-parts kind read bytes (written_sign negative) marks (Ok (nat_abs number))
+    (HasParts-signed_text kind variant case negative marks (minus_is_signed kind number whole held) (spelling-printed write (nat_abs number) is.square) (and-left (starts_with_digit (with_first_digit marks)) _ n.0))
+    (Judges-read write read (nat_abs number) small is))
+
 -- every written spelling is read back
 pub Reads-spelled : (kind : Kind) (method : ChineseCountMethod) (variant : ChineseVariant) (case : ChineseCase) (number : ℤ) → IsWhole kind → holds kind number ≡ true → is_printable method number ≡ true
     → Reads kind method (encode_utf8_all (spelled_text variant case method number)) (Ok number)
 Reads-spelled kind method variant case number whole held printable =
     let small = whole.fits number held in
-    let square = below_square method number small printable in
-    let marks = spelling method (nat_abs number) in
-    let bytes = encode_utf8_all (spelled_text variant case method number) in
-    let negative = int_lt number (pos 0) in
-    let n = spelling-is_numeral method (nat_abs number) square in
-    subst (λ answer. Reads kind method bytes answer) (typed_answer-held kind number bytes held)
-    (Reads-parts kind method bytes (written_sign negative) marks (Ok (nat_abs number))
-    (HasParts-signed_text kind variant case negative marks (minus_is_signed kind number whole held) (spelling-printed method (nat_abs number) square) (and-left (starts_with_digit (with_first_digit marks)) _ n.0))
-    (Judges-spelling method (nat_abs number) small square))
+    Reads-by kind method method variant case number whole held
+    (IsReadBy-own method (nat_abs number) small (below_square method number small printable))
 
 -- and no other number is
 pub Reads-only : (kind : Kind) (method : ChineseCountMethod) (bytes : List ℕ)

@@ -33,7 +33,8 @@ pub use cn_replace::laws::{
     included_constants_are, texts_are_put_in_figures_in_parts, texts_stay_where_nothing_is_new,
 };
 pub use enums::{
-    equal_dates_are_the_same_day, equal_values_are_the_same_variant, units_compare_by_rank,
+    equal_amount_forms_ask_for_the_same, equal_dates_are_the_same_day,
+    equal_quantities_have_equal_parts, equal_values_are_the_same_variant, units_compare_by_rank,
 };
 pub use methods::{
     methods_spell_alike_below, methods_spell_otherwise_from, small_units_read_alike,
@@ -46,8 +47,8 @@ pub use plain_digits::{
     digits_alone_are_read, leading_zeros_change_nothing, naive_texts_read_back,
 };
 pub use read_back::{
-    beginnings_are_read, one_text_for_each_number, reading_then_printing_is_idempotent,
-    spellings_are_numerals, spellings_read_back,
+    beginnings_are_read, middle_is_read_by_ten_thousand, one_text_for_each_number,
+    reading_then_printing_is_idempotent, spellings_are_numerals, spellings_read_back,
 };
 pub use refusals::{empty_is_nothing_left, unsigned_types_never_underflow};
 pub use scripts::{texts_of_a_number_are_equally_long, texts_of_a_number_read_alike};

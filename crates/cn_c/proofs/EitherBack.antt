@@ -1,22 +1,24 @@
--- What is printed as plain digits or by the standard method is read back either way.
-use Rattle.std.proofs.Common.{◌≡◌, ℕ, ℤ, pos, int_lt, nat_abs, nat_lt, nat_le, ◌^◌, ◌*◌, ◌<◌, Bool, true, false, ◌&&◌, List, [], ◌∷◌, length, take, drop, decimal, is_some, Option, Some, None, Result, Ok, if◌then◌else◌, refl, sym, ap, subst, ◌∙◌, arith, rules}
+-- What is printed as plain digits, by the standard method or either way is read back either way.
+use Rattle.std.proofs.Common.{◌≡◌, ℕ, ℤ, pos, int_lt, nat_abs, nat_lt, nat_le, ◌^◌, ◌<◌, Bool, true, false, ◌&&◌, List, [], ◌∷◌, length, take, drop, decimal, encode_utf8_all, is_some, Option, Some, None, Result, Ok, if◌then◌else◌, refl, sym, ap, subst, ◌∙◌, arith, rules}
 use Rattle.std.proofs.lemmas.Bool.Decides.{nat_tests}
 use Rattle.std.specs.List.{list_all}
 use Rattle.std.specs.Str.{IsUtf8}
-use Rattle.cn_core.specs.declared.method.ChineseCountMethod.TheVariants.{TenThousand}
+use Rattle.cn_core.specs.declared.method.ChineseCountMethod.TheVariants.{TenThousand, Middle}
+use Rattle.cn_core.specs.declared.method.ChineseCountMethod.{ChineseCountMethod}
+use Rattle.cn_core.specs.declared.case.ChineseCase.{ChineseCase}
+use Rattle.cn_core.specs.declared.script.ChineseVariant.{ChineseVariant}
+use Rattle.cn_core.specs.declared.script.ChineseVariant.TheVariants.{Traditional, Simple}
 use Rattle.cn_core.specs.declared.sign.Sign.{Sign}
 use Rattle.cn_core.specs.Characters.{digit_of, rank_of}
 use Rattle.cn_core.specs.Mark.{Mark, mark_from, digit, unit, other}
 use Rattle.cn_core.specs.Naive.{decimal_digits, decimal_value}
 use Rattle.cn_core.specs.Numeral.{IsNumeral, starts_with_digit, with_first_digit}
-use Rattle.cn_core.specs.Printing.{signed_bytes}
+use Rattle.cn_core.specs.Printing.{signed_bytes, spelled_text}
 use Rattle.cn_core.specs.Reading.{naive_reading, sign_len, typed_answer}
 use Rattle.cn_core.specs.Refusal.{Refusal}
-use Rattle.cn_core.specs.Scale.{scale}
 use Rattle.cn_core.specs.Spelling.{spelling}
 use Rattle.cn_core.specs.Text.{text_of, marks_of}
-use Rattle.cn_core.specs.Value.{numeral_value}
-use Rattle.cn_core.specs.Whole.{Kind}
+use Rattle.cn_core.specs.Whole.{Kind, holds}
 use Rattle.cn_core.proofs.Fronts.{and-left, and-right}
 use Rattle.cn_core.proofs.ReadBack.{spelling-is_numeral}
 use Rattle.cn_find.specs.Plain.{is_decimal}
@@ -26,15 +28,21 @@ use Rattle.chinese_number.specs.Number.{is_plain}
 use Rattle.chinese_number.specs.Parts.{unsigned_text}
 use Rattle.chinese_number.proofs.PlainDigits.{decimal_is, starts, naive_answer-digits}
 use Rattle.cn_spell.proofs.Printed.{is_printed}
-use Rattle.chinese_number.proofs.Reading.{HasParts, HasParts-signed_text, minus_is_signed, naive_reading-parts, typed_answer-held}
+use Rattle.chinese_number.proofs.Reading.{IsWhole, HasParts, HasParts-signed_text, minus_is_signed, naive_reading-parts, typed_answer-held}
 use Rattle.cn_spell.proofs.SignedNumbers.{written_sign}
-use Rattle.cn_spell.proofs.SpelledMarks.{below_square, spelling-printed}
+use Rattle.cn_spell.proofs.SpelledMarks.{spelling-printed}
 use Rattle.cn_faces.specs.Either.{either_way}
-use Rattle.cn_faces.specs.Ways.{ReadsBy}
 use Rattle.cn_faces.specs.declared.Way.{Way}
 use Rattle.cn_faces.specs.declared.Way.TheVariants.{Digits, Units}
-use Rattle.cn_c.specs.declared.codes.ReadingWay.TheVariants.{Either}
-use Rattle.cn_c.proofs.ReadBack.{put-text, IsAnswered, read-by}
+use Rattle.cn_faces.specs.Ways.{ReadsBy, written_by}
+use Rattle.cn_faces.specs.declared.IntegerType.{IntegerType}
+use Rattle.cn_spell.proofs.ReadByOther.{IsReadBy, IsReadBy-middle}
+use Rattle.cn_c.specs.declared.codes.NamedWay.{NamedWay}
+use Rattle.cn_c.specs.declared.codes.NamedWay.TheVariants.{By, Either}
+use Rattle.cn_c.specs.declared.number.Number.{Number}
+use Rattle.cn_c.specs.Codes.{CN_DONE}
+use Rattle.cn_c.specs.Prints.{PutsIfItFits, PutsWritten, IsPrintedAs, way_written}
+use Rattle.cn_c.proofs.ReadBack.{put-text, IsAnswered, ReadsBackAs, own-read, read-by, read-named, read-spelled}
 
 -- a text is plain digits where each of its marks is a digit
 plain-marks : (text : List ℕ) → is_plain text ≡ list_all is_digit (marks_of text)
@@ -57,7 +65,7 @@ plain-parts kind bytes sign marks parts =
 abbrev way_of : Bool → Way
 way_of plain = if plain then Digits else Units TenThousand
 
-pub either-digits : IsAnswered Digits Either
+pub either-digits : IsAnswered (By Digits) Either
 either-digits kind script case number old new len whole held h =
     let small = whole.fits number held in
     let d = decimal_is (nat_abs number) small in
@@ -89,8 +97,13 @@ some : (marks : List Mark) → starts_with_digit (with_first_digit marks) ≡ tr
 some [] h = cc
 some (mark ∷ rest) h = omega arith
 
-pub either-ten_thousand : IsAnswered (Units TenThousand) Either
-either-ten_thousand kind script case number old new len whole held h = (back.0, answered) where
+either-spelled : (write : ChineseCountMethod) (kind : Kind) (script : ChineseVariant) (case : ChineseCase) (number : ℤ)
+    (old new : List ℕ) (len : ℕ) → IsWhole kind → holds kind number ≡ true
+    → IsReadBy write TenThousand (nat_abs number)
+    → PutsIfItFits (encode_utf8_all (spelled_text script case write number)) old CN_DONE new len
+    → IsUtf8 (take len new) × ((answer : Result ℤ Refusal)
+    → ReadsBy kind (either_way kind (take len new)) (take len new) answer → answer ≡ Ok number)
+either-spelled write kind script case number old new len whole held is h = (back.0, answered) where
   small : nat_abs number < 2 ^ 128
   small = whole.fits number held
 
@@ -98,22 +111,19 @@ either-ten_thousand kind script case number old new len whole held h = (back.0, 
   negative = int_lt number (pos 0)
 
   marks : List Mark
-  marks = spelling TenThousand (nat_abs number)
+  marks = spelling write (nat_abs number)
 
   bytes : List ℕ
   bytes = signed_bytes script case negative marks
 
-  square : nat_abs number < scale TenThousand 15 * scale TenThousand 15
-  square = below_square TenThousand number small refl
-
-  numeral : IsNumeral marks × (numeral_value TenThousand marks ≡ nat_abs number)
-  numeral = spelling-is_numeral TenThousand (nat_abs number) square
+  numeral : IsNumeral marks
+  numeral = (spelling-is_numeral write (nat_abs number) is.square).0
 
   starts_so : starts_with_digit (with_first_digit marks) ≡ true
-  starts_so = and-left (starts_with_digit (with_first_digit marks)) _ numeral.0
+  starts_so = and-left (starts_with_digit (with_first_digit marks)) _ numeral
 
   printed : list_all is_printed marks ≡ true
-  printed = spelling-printed TenThousand (nat_abs number) square
+  printed = spelling-printed write (nat_abs number) is.square
 
   text : take len new ≡ bytes
   text = put-text bytes old new len h
@@ -126,12 +136,12 @@ either-ten_thousand kind script case number old new len whole held h = (back.0, 
 
   back : IsUtf8 (take len new) × ((answer : Result ℤ Refusal)
       → ReadsBy kind (Units TenThousand) (take len new) answer → answer ≡ Ok number)
-  back = read-by kind (Units TenThousand) script case number old new len whole held h
+  back = read-spelled kind write TenThousand script case number old new len whole held is h
 
   as_digits : list_all is_digit marks ≡ true → naive_reading kind (take len new) ≡ Ok number
   as_digits digits =
       let value : decimal_value marks ≡ nat_abs number =
-      sym (one-number TenThousand marks (decimals marks printed digits) (search (rules, numeral.0))) ∙ numeral.1 in
+      sym (one-number TenThousand marks (decimals marks printed digits) (search (rules, numeral))) ∙ is.value in
       ap (naive_reading kind) text
       ∙ naive_reading-parts kind bytes (written_sign negative) marks parts
       ∙ ap (typed_answer kind bytes (written_sign negative))
@@ -146,3 +156,40 @@ either-ten_thousand kind script case number old new len whole held h = (back.0, 
   answered : (answer : Result ℤ Refusal) → ReadsBy kind (either_way kind (take len new)) (take len new) answer → answer ≡ Ok number
   answered answer r = by (list_all is_digit marks) refl answer
       (subst (λ w. ReadsBy kind w (take len new) answer) (way (list_all is_digit marks) refl) r)
+
+pub either-ten_thousand : IsAnswered (By (Units TenThousand)) Either
+either-ten_thousand kind script case number old new len whole held h =
+    either-spelled TenThousand kind script case number old new len whole held
+    (own-read kind TenThousand number whole held refl) h
+
+either-simple : (kind : Kind) (case : ChineseCase) (number : ℤ) (old new : List ℕ) (len : ℕ)
+    → IsWhole kind → holds kind number ≡ true
+    → PutsWritten (written_by (way_written Either Simple (nat_abs number)) Simple case number) old CN_DONE new len
+    → IsUtf8 (take len new) × ((answer : Result ℤ Refusal)
+    → ReadsBy kind (either_way kind (take len new)) (take len new) answer → answer ≡ Ok number)
+either-simple kind case number old new len whole held h = by (nat_lt (nat_abs number) (10 ^ 16)) refl h where
+  by : (b : Bool) → nat_lt (nat_abs number) (10 ^ 16) ≡ b
+      → PutsWritten (written_by (Units (if b then Middle else TenThousand)) Simple case number) old CN_DONE new len
+      → IsUtf8 (take len new) × ((answer : Result ℤ Refusal)
+      → ReadsBy kind (either_way kind (take len new)) (take len new) answer → answer ≡ Ok number)
+  by true e h =
+      either-spelled Middle kind Simple case number old new len whole held
+      (IsReadBy-middle (nat_abs number) (grind (arith, nat_tests, e))) h
+  by false e h = either-ten_thousand kind Simple case number old new len whole held h
+
+pub either-either : IsAnswered Either Either
+either-either kind Traditional case number old new len whole held h =
+    either-ten_thousand kind Traditional case number old new len whole held h
+either-either kind Simple case number old new len whole held h =
+    either-simple kind case number old new len whole held h
+
+-- so what is printed in any way is read in it
+pub read-back : (number : Number) (kind : Option IntegerType) (way : Option NamedWay) (script : Option ChineseVariant) (case : Option ChineseCase) (old new : List ℕ) (len : ℕ)
+    → IsPrintedAs number kind way script case old CN_DONE new len
+    → ReadsBackAs (take len new) kind way number
+read-back number None None script case old new len h = absurd (omega (arith, h.0))
+read-back number (Some kind) None script case old new len h = absurd (omega (arith, h.0))
+read-back number kind (Some (By way)) script case old new len h =
+    read-named (By way) (By way) (λ kind. read-by kind way) number kind script case old new len h
+read-back number kind (Some Either) script case old new len h =
+    read-named Either Either either-either number kind script case old new len h

@@ -2,12 +2,11 @@
 use Rattle.std.proofs.Common.{◌≡◌, ℕ, ◌+◌, ◌<◌, ◌≤◌, List, [], ◌∷◌, ◌++◌, length, map, take, drop, set, refl, sym, ap, arith, add-one, zero, suc, subst, ◌∙◌}
 use Rattle.std.proofs.Math.Seq.{drop-length, take-nil}
 use Rattle.std.proofs.lemmas.Str.{IsCharBoundary-end}
-use Rattle.cn_find.specs.Rule.{Rule}
 use Rattle.cn_find.specs.Spans.{left_by}
 use Rattle.cn_find.proofs.Runs.{none_left}
 use Rattle.cn_c.specs.declared.finding.Span.{Span}
 use Rattle.cn_c.specs.Codes.{CN_DONE}
-use Rattle.cn_c.specs.Finds.{Fills, FindsFrom, span_told, spans_told}
+use Rattle.cn_c.specs.Finds.{Fills, FindsFrom, Search, span_told, spans_told}
 
 -- where one is left, it is put behind those that were
 filled-suc : {A B : Type 0} (f : A → B) (n : ℕ) (all rest : List A) (old : List B) (x : A)
@@ -61,18 +60,19 @@ taken (suc n) (suc most) (a ∷ all) e l =
     ap (λ xs. a ∷ xs) (taken n most all e (omega (arith, l)))
 
 -- at the end of a text none is left
-nothing-told : (rule : Rule) (text : List ℕ) (most : ℕ) → spans_told rule text (length text) most ≡ []
-nothing-told rule text most =
-    ap (λ runs. map span_told (take most runs))
-    (ap (left_by rule text) (drop-length text) ∙ none_left rule text)
-    ∙ ap (map span_told) (take-nil most)
+nothing-told : (search : Search) (text : List ℕ) (most : ℕ)
+    → spans_told search text (length text) most ≡ []
+nothing-told search text most =
+    ap (λ runs. map (span_told search.doubt) (take most runs))
+    (ap (left_by search.rule text) (drop-length text) ∙ none_left search.rule text)
+    ∙ ap (map (span_told search.doubt)) (take-nil most)
 
-pub nothing-found : (rule : Rule) (text : List ℕ) (old : List Span)
-    → FindsFrom rule text (length text) old CN_DONE old 0
-nothing-found rule text old = record {
+pub nothing-found : (search : Search) (text : List ℕ) (old : List Span)
+    → FindsFrom search text (length text) old CN_DONE old 0
+nothing-found search text old = record {
   found = λ at. (
     refl,
-    subst (λ told. Fills told old old 0) (sym (nothing-told rule text (length old))) (refl, refl),
+    subst (λ told. Fills told old old 0) (sym (nothing-told search text (length old))) (refl, refl),
   );
   none = λ none. absurd (none (IsCharBoundary-end text));
 }

@@ -6,7 +6,7 @@ use Rattle.cn_core.specs.Characters.{digit_char, minus_char, unit_char}
 use Rattle.cn_quantity.specs.Trimmed.{decimals_over}
 use Rattle.cn_c.specs.declared.quantity.Quantity.{Quantity}
 use Rattle.cn_c.specs.Amounts.{IsAmountPrinted}
-use Rattle.cn_c.specs.Codes.{CN_DIGITS, CN_DONE, CN_TEN_THOUSAND}
+use Rattle.cn_c.specs.Codes.{CN_ANY, CN_DIGITS, CN_DONE, CN_TEN_THOUSAND}
 use Rattle.cn_c.specs.Dates.{IsDatePrinted}
 use Rattle.cn_c.specs.Halves.{AreHalves}
 use Rattle.cn_c.specs.Prints.{IsPrinted}
@@ -39,6 +39,12 @@ printed_numbers_read_back_either_way-ten_thousand : IsPrinted 1280500 0 2 CN_TEN
 unfolding encode_utf8 digit_char unit_char
 printed_numbers_read_back_either_way-ten_thousand = (refl, refl, refl)
 
+-- 10^12 as a `u64` in the simple script
+printed_numbers_read_back_either_way-either : IsPrinted (10 ^ 12) 0 3 CN_ANY 1 1
+    (room 16) CN_DONE (string (codes "一万亿") ++ room 7) 9
+unfolding encode_utf8 digit_char unit_char
+printed_numbers_read_back_either_way-either = (refl, refl, refl)
+
 -- 314 over 100, as a decimal
 abbrev quantity : Quantity
 quantity = record {
@@ -49,11 +55,21 @@ quantity = record {
   byte_index = 0;
 }
 
-printed_quantities_read_back : AreHalves quantity.numerator × AreHalves quantity.denominator
+printed_quantities_read_back-same : AreHalves quantity.numerator × AreHalves quantity.denominator
     × IsQuantityPrinted quantity CN_TEN_THOUSAND 0 1 (room 16) CN_DONE
     (string (codes "三點一四") ++ room 4) 12
 unfolding decimals_over encode_utf8 digit_char unit_char
-printed_quantities_read_back = (
+printed_quantities_read_back-same = (
+  (omega arith, omega arith),
+  (omega arith, omega arith),
+  (refl, refl, refl),
+)
+
+printed_quantities_read_back-either : AreHalves quantity.numerator × AreHalves quantity.denominator
+    × IsQuantityPrinted quantity CN_ANY 1 1 (room 16) CN_DONE
+    (string (codes "三点一四") ++ room 4) 12
+unfolding decimals_over encode_utf8 digit_char unit_char
+printed_quantities_read_back-either = (
   (omega arith, omega arith),
   (omega arith, omega arith),
   (refl, refl, refl),

@@ -1,5 +1,5 @@
 -- What is printed is read back as the same number.
-use Rattle.std.proofs.Common.{◌≡◌, ℕ, zero, suc, slice_get, option_map, sym, ap, subst, ◌-◌, ◌^◌, ◌<◌, ◌≤◌, ℤ, pos, int_lt, nat_abs, nat_le, Bool, true, false, MatchBool, MatchOption, List, [], ◌∷◌, ◌++◌, length, take, drop, encode_utf8_all, Option, Some, None, Result, Ok, Err, if◌then◌else◌, refl, ◌∙◌, arith}
+use Rattle.std.proofs.Common.{◌≡◌, ℕ, ◌-◌, ◌^◌, ◌<◌, ◌≤◌, ℤ, pos, int_lt, nat_abs, nat_le, Bool, true, false, MatchBool, MatchOption, List, [], ◌∷◌, ◌++◌, length, take, drop, encode_utf8_all, Option, Some, None, Result, Ok, Err, if◌then◌else◌, refl, ◌∙◌, arith}
 use Rattle.std.proofs.Math.Seq.{take-append_seam}
 use Rattle.std.proofs.lemmas.Int.{ints}
 use Rattle.std.proofs.lemmas.Str.{IsUtf8-nil, IsUtf8-append, IsUtf8-encode, is_utf8-from_IsUtf8}
@@ -7,6 +7,8 @@ use Rattle.std.specs.List.{list_all}
 use Rattle.std.specs.Str.{IsUtf8, all_scalars}
 use Rattle.cn_core.specs.declared.case.ChineseCase.{ChineseCase}
 use Rattle.cn_core.specs.declared.script.ChineseVariant.{ChineseVariant}
+use Rattle.cn_core.specs.declared.method.ChineseCountMethod.{ChineseCountMethod}
+use Rattle.cn_core.specs.Reading.{Reads}
 use Rattle.cn_core.specs.Refusal.{Refusal, too_large, too_small}
 use Rattle.cn_core.specs.Spelling.{spelling}
 use Rattle.cn_core.specs.Whole.{Kind, holds, unsigned_kind, signed_kind}
@@ -18,7 +20,8 @@ use Rattle.cn_core.proofs.Characters.{takes_three}
 use Rattle.cn_spell.proofs.ThreeBytes.{IsUtf8-three, three-minus}
 use Rattle.chinese_number.proofs.PlainDigits.{naive_reading-signed_text}
 use Rattle.cn_spell.proofs.Printed.{is_printed, IsReadBack-marks}
-use Rattle.chinese_number.proofs.Reading.{IsWhole, Reads-same, Reads-spelled}
+use Rattle.chinese_number.proofs.Reading.{IsWhole, Reads-by, Reads-same}
+use Rattle.cn_spell.proofs.ReadByOther.{IsReadBy, IsReadBy-own}
 use Rattle.cn_spell.proofs.SpelledMarks.{below_square, spelling-printed}
 use Rattle.cn_faces.specs.declared.IntegerType.{IntegerType}
 use Rattle.cn_faces.specs.declared.IntegerType.TheVariants.{U8, U16, U32, U64, U128, I8, I16, I32, I64, I128}
@@ -28,11 +31,10 @@ use Rattle.cn_c.specs.declared.number.Number.{Number}
 use Rattle.cn_c.specs.declared.reading.Reading.{Reading}
 use Rattle.cn_faces.specs.IntegerTypes.{the_kind}
 use Rattle.cn_faces.specs.Ways.{ReadsBy, unprintable, written_by}
-use Rattle.cn_c.specs.declared.codes.ReadingWay.{ReadingWay}
-use Rattle.cn_c.specs.declared.codes.ReadingWay.TheVariants.{By}
-use Rattle.cn_c.specs.Codes.{CN_DONE, ways, reading_ways, refusal_status}
+use Rattle.cn_c.specs.declared.codes.NamedWay.{NamedWay}
+use Rattle.cn_c.specs.Codes.{CN_DONE, refusal_status}
 use Rattle.cn_c.specs.Halves.{number_of}
-use Rattle.cn_c.specs.Prints.{PutsNothing, PutsIfItFits, PutsWritten, PrintsNumber, IsPrintedAs}
+use Rattle.cn_c.specs.Prints.{PutsNothing, PutsIfItFits, PutsWritten, PrintsNumber, IsPrintedAs, way_written}
 use Rattle.cn_c.specs.Reads.{Tells, ReadsInto, IsReadAs, way_meant}
 
 -- what is put where all goes well
@@ -60,6 +62,27 @@ utf8-signed_text : (variant : ChineseVariant) (case : ChineseCase) (negative : B
 utf8-signed_text variant case true marks h = IsUtf8-append _ _ (IsUtf8-three _ (three-minus variant)) (utf8-scalars _ (IsReadBack-marks variant case marks h).scalars)
 utf8-signed_text variant case false marks h = utf8-scalars _ (IsReadBack-marks variant case marks h).scalars
 
+-- a number that one method spells is read by another that reads it
+pub read-spelled : (kind : Kind) (write read : ChineseCountMethod) (script : ChineseVariant) (case : ChineseCase) (number : ℤ) (old new : List ℕ) (len : ℕ) → IsWhole kind → holds kind number ≡ true
+    → IsReadBy write read (nat_abs number)
+    → PutsIfItFits (encode_utf8_all (spelled_text script case write number)) old CN_DONE new len
+    → IsUtf8 (take len new) × ((answer : Result ℤ Refusal) → Reads kind read (take len new) answer
+    → answer ≡ Ok number)
+read-spelled kind write read script case number old new len whole held is h =
+    let text = put-text (encode_utf8_all (spelled_text script case write number)) old new len h in
+    let marks = spelling-printed write (nat_abs number) is.square in
+    rw text (
+      utf8-signed_text script case (int_lt number (pos 0)) (spelling write (nat_abs number)) marks,
+      λ answer r. Reads-same kind read (encode_utf8_all (spelled_text script case write number)) answer (Ok number) r (Reads-by kind write read script case number whole held is),
+    )
+
+-- what a method writes it reads
+pub own-read : (kind : Kind) (method : ChineseCountMethod) (number : ℤ) → IsWhole kind → holds kind number ≡ true
+    → is_printable method number ≡ true → IsReadBy method method (nat_abs number)
+own-read kind method number whole held e =
+    let small = whole.fits number held in
+    IsReadBy-own method (nat_abs number) small (below_square method number small e)
+
 -- a number that is printed in a way is read in it
 pub read-by : (kind : Kind) (way : Way) (script : ChineseVariant) (case : ChineseCase) (number : ℤ) (old new : List ℕ) (len : ℕ) → IsWhole kind → holds kind number ≡ true
     → PutsWritten (written_by way script case number) old CN_DONE new len
@@ -73,20 +96,11 @@ read-by kind Digits script case number old new len whole held h =
       λ answer r. r ∙ naive_reading-signed_text kind script case number whole held,
     )
 read-by kind (Units method) script case number old new len whole held h = by (is_printable method number) refl h where
-  small : nat_abs number < 2 ^ 128
-  small = whole.fits number held
-
   by : (b : Bool) → is_printable method number ≡ b
       → PutsWritten (if b then Ok (spelled_text script case method number) else Err (unprintable number)) old CN_DONE new len
       → IsUtf8 (take len new) × ((answer : Result ℤ Refusal)
       → ReadsBy kind (Units method) (take len new) answer → answer ≡ Ok number)
-  by true e h =
-      let text = put-text (encode_utf8_all (spelled_text script case method number)) old new len h in
-      let marks = spelling-printed method (nat_abs number) (below_square method number small e) in
-      rw text (
-        utf8-signed_text script case (int_lt number (pos 0)) (spelling method (nat_abs number)) marks,
-        λ answer r. Reads-same kind method (encode_utf8_all (spelled_text script case method number)) answer (Ok number) r (Reads-spelled kind method script case number whole held e),
-      )
+  by true e h = read-spelled kind method method script case number old new len whole held (own-read kind method number whole held e) h
   by false e h = absurd (other (int_lt number (pos 0)) h.0) where
     other : (b : Bool) → CN_DONE ≡ refusal_status (if b then too_small else too_large) → ⊥
     other true e = omega (arith, e)
@@ -123,7 +137,7 @@ told : (signed : Bool) (text : List ℕ) (value : ℤ) (status : ℕ) (reading :
 told signed text value status reading answer e tells = rw e at tells
 
 -- the bytes are read back, by the type and the way that two codes name
-abbrev pub ReadsBackAs : List ℕ → Option IntegerType → Option ReadingWay → Number → Type 0
+abbrev pub ReadsBackAs : List ℕ → Option IntegerType → Option NamedWay → Number → Type 0
 ReadsBackAs bytes kind way number =
     IsUtf8 bytes × ((status : ℕ) (reading : Reading) → IsReadAs kind way bytes status reading
     → (status ≡ CN_DONE) × MatchOption kind ⊥
@@ -132,16 +146,16 @@ ReadsBackAs bytes kind way number =
     × (reading.char_index ≡ 0) × (reading.byte_index ≡ 0))
 
 -- what is printed in one way is answered in another by its number
-abbrev pub IsAnswered : Way → ReadingWay → Type 0
+abbrev pub IsAnswered : NamedWay → NamedWay → Type 0
 IsAnswered way to_read = (kind : Kind) (script : ChineseVariant) (case : ChineseCase) (number : ℤ)
     (old new : List ℕ) (len : ℕ) → IsWhole kind → holds kind number ≡ true
-    → PutsWritten (written_by way script case number) old CN_DONE new len
+    → PutsWritten (written_by (way_written way script (nat_abs number)) script case number) old CN_DONE new len
     → IsUtf8 (take len new) × ((answer : Result ℤ Refusal)
     → ReadsBy kind (way_meant kind to_read (take len new)) (take len new) answer → answer ≡ Ok number)
 
-read-as : (way : Way) (to_read : ReadingWay) → IsAnswered way to_read
+read-as : (way to_read : NamedWay) → IsAnswered way to_read
     → (kind : IntegerType) (script : ChineseVariant) (case : ChineseCase) (number : Number) (old new : List ℕ) (len : ℕ)
-    → PrintsNumber (the_kind kind) way script case (number_of (the_kind kind).signed number) old CN_DONE new len
+    → PrintsNumber (the_kind kind) (way_written way script (nat_abs (number_of (the_kind kind).signed number))) script case (number_of (the_kind kind).signed number) old CN_DONE new len
     → ReadsBackAs (take len new) (Some kind) (Some to_read) number
 read-as way to_read answered code script case number old new len = by (holds kind value) refl where
   kind : Kind
@@ -150,7 +164,7 @@ read-as way to_read answered code script case number old new len = by (holds kin
   value : ℤ
   value = number_of kind.signed number
 
-  by : (b : Bool) → holds kind value ≡ b → MatchBool b (PutsWritten (written_by way script case value) old CN_DONE new len) (PutsNothing 7 old CN_DONE new len)
+  by : (b : Bool) → holds kind value ≡ b → MatchBool b (PutsWritten (written_by (way_written way script (nat_abs value)) script case value) old CN_DONE new len) (PutsNothing 7 old CN_DONE new len)
       → ReadsBackAs (take len new) (Some code) (Some to_read) number
   by true e h =
       let back = answered kind script case value old new len (whole code) e h in (
@@ -162,7 +176,7 @@ read-as way to_read answered code script case number old new len = by (holds kin
       )
   by false e h = absurd (omega (arith, h.0))
 
-pub read-named : (way : Way) (to_read : ReadingWay) → IsAnswered way to_read
+pub read-named : (way to_read : NamedWay) → IsAnswered way to_read
     → (number : Number) (kind : Option IntegerType) (script : Option ChineseVariant) (case : Option ChineseCase) (old new : List ℕ) (len : ℕ)
     → IsPrintedAs number kind (Some way) script case old CN_DONE new len
     → ReadsBackAs (take len new) kind (Some to_read) number
@@ -170,29 +184,3 @@ read-named way to_read answered number (Some kind) (Some script) (Some case) old
 read-named way to_read answered number None script case old new len h = absurd (omega (arith, h.0))
 read-named way to_read answered number (Some kind) None case old new len h = absurd (omega (arith, h.0))
 read-named way to_read answered number (Some kind) (Some script) None old new len h = absurd (omega (arith, h.0))
-
--- a way's code names it for reading too
-reading_way : (code : ℕ) (way : Way) → slice_get ways code ≡ Some way
-    → slice_get reading_ways code ≡ Some (By way)
-reading_way zero way e = ap (option_map By) e
-reading_way (suc zero) way e = ap (option_map By) e
-reading_way (suc (suc zero)) way e = ap (option_map By) e
-reading_way (suc (suc (suc zero))) way e = ap (option_map By) e
-reading_way (suc (suc (suc (suc zero)))) way e = ap (option_map By) e
-reading_way (suc (suc (suc (suc (suc code))))) way e = cc
-
-pub read-back : (number : Number) (kind : Option IntegerType) (way : ℕ) (script : Option ChineseVariant) (case : Option ChineseCase) (old new : List ℕ) (len : ℕ)
-    → IsPrintedAs number kind (slice_get ways way) script case old CN_DONE new len
-    → ReadsBackAs (take len new) kind (slice_get reading_ways way) number
-read-back number kind code script case old new len h = by (slice_get ways code) refl h where
-  unnamed : (kind : Option IntegerType) → IsPrintedAs number kind None script case old CN_DONE new len → ⊥
-  unnamed None h = omega (arith, h.0)
-  unnamed (Some kind) h = omega (arith, h.0)
-
-  by : (way : Option Way) → slice_get ways code ≡ way
-      → IsPrintedAs number kind way script case old CN_DONE new len
-      → ReadsBackAs (take len new) kind (slice_get reading_ways code) number
-  by None e h = absurd (unnamed kind h)
-  by (Some way) e h = subst (λ w. ReadsBackAs (take len new) kind w number)
-      (sym (reading_way code way e))
-      (read-named way (By way) (λ kind. read-by kind way) number kind script case old new len h)

@@ -11,8 +11,8 @@ use Rattle.chinese_number.specs.declared.Unit.TheVariants.{Ge, Shi, Bai, Qian, W
 use Rattle.chinese_number.specs.Refusal.{Refusal, empty, incorrect_at, too_large, too_small}
 use Rattle.cn_faces.specs.declared.IntegerType.{IntegerType}
 use Rattle.cn_faces.specs.declared.IntegerType.TheVariants.{U8, U16, U32, U64, U128, I8, I16, I32, I64, I128}
-use Rattle.cn_c.specs.declared.codes.ReadingWay.{ReadingWay}
-use Rattle.cn_c.specs.declared.codes.ReadingWay.TheVariants.{By, Either}
+use Rattle.cn_c.specs.declared.codes.NamedWay.{NamedWay}
+use Rattle.cn_c.specs.declared.codes.NamedWay.TheVariants.{By, Either}
 use Rattle.cn_faces.specs.declared.Way.{Way}
 use Rattle.cn_faces.specs.declared.Way.TheVariants.{Digits, Units}
 
@@ -20,15 +20,15 @@ use Rattle.cn_faces.specs.declared.Way.TheVariants.{Digits, Units}
 abbrev pub kinds : List IntegerType
 kinds = U8 ∷ U16 ∷ U32 ∷ U64 ∷ U128 ∷ I8 ∷ I16 ∷ I32 ∷ I64 ∷ I128 ∷ []
 
--- the ways, likewise
+-- the ways, likewise, but for either way
 abbrev pub ways : List Way
 ways = Digits ∷ Units Low ∷ Units TenThousand ∷ Units Middle ∷ Units High ∷ []
 
--- the ways to read: these, and behind them either way
-abbrev pub reading_ways : List ReadingWay
-reading_ways = map By ways ++ Either ∷ []
+-- these, and behind them either way
+abbrev pub named_ways : List NamedWay
+named_ways = map By ways ++ Either ∷ []
 
--- the codes of plain digits, of the standard method and of reading either way
+-- the codes of plain digits, of the standard method and of either way
 abbrev pub CN_DIGITS : ℕ
 CN_DIGITS = 0
 
@@ -80,14 +80,37 @@ CN_ABOUT = 4
 abbrev pub CN_ONE_CHARACTER : ℕ
 CN_ONE_CHARACTER = 8
 
+-- more flags of what is asked for, beside the bits that tell a doubt
 abbrev pub CN_DOUBTFUL : ℕ
-CN_DOUBTFUL = 16
+CN_DOUBTFUL = 128
 
 abbrev pub CN_EXPANDED : ℕ
-CN_EXPANDED = 32
+CN_EXPANDED = 256
 
 abbrev pub CN_CANONICAL : ℕ
-CN_CANONICAL = 64
+CN_CANONICAL = 512
+
+-- the codes of doubts
+abbrev pub CN_NO_DOUBT : ℕ
+CN_NO_DOUBT = 0
+
+abbrev pub CN_DOUBT_WORD : ℕ
+CN_DOUBT_WORD = 1
+
+abbrev pub CN_DOUBT_DIGITS : ℕ
+CN_DOUBT_DIGITS = 2
+
+abbrev pub CN_DOUBT_TERM : ℕ
+CN_DOUBT_TERM = 3
+
+abbrev pub CN_DOUBT_PART : ℕ
+CN_DOUBT_PART = 4
+
+abbrev pub CN_DOUBT_TIME : ℕ
+CN_DOUBT_TIME = 5
+
+abbrev pub CN_DOUBT_RANGE : ℕ
+CN_DOUBT_RANGE = 6
 
 -- whether the forms of the upper case are looked for
 abbrev pub uppers : List Bool

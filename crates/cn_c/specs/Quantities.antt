@@ -4,21 +4,25 @@ use Rattle.std.specs.Option.{option_map}
 use Rattle.std.specs.Bool.{MatchBool}
 use Rattle.std.specs.Str.{is_utf8}
 use Rattle.chinese_number.specs.declared.ChineseCountMethod.{ChineseCountMethod}
+use Rattle.chinese_number.specs.declared.ChineseCountMethod.TheVariants.{TenThousand}
 use Rattle.chinese_number.specs.Refusal.{Refusal}
-use Rattle.cn_faces.specs.declared.Way.{Way}
 use Rattle.cn_faces.specs.declared.Way.TheVariants.{Units}
 use Rattle.cn_quantity.specs.declared.quantity.Quantity.{Quantity as ExactQuantity}
 use Rattle.cn_quantity.specs.declared.quantity.QuantityForm.{QuantityForm}
 use Rattle.cn_quantity.specs.declared.quantity.QuantityForm.TheVariants.{Whole, Decimal, Percent, Fraction}
 use Rattle.cn_quantity.specs.Reading.{quantity_answer}
+use Rattle.cn_c.specs.declared.codes.NamedWay.{NamedWay}
+use Rattle.cn_c.specs.declared.codes.NamedWay.TheVariants.{By, Either}
 use Rattle.cn_c.specs.declared.quantity.Quantity.{Quantity}
-use Rattle.cn_c.specs.Codes.{ways, refusal_status, CN_DONE, CN_NOT_UTF8, CN_UNKNOWN}
+use Rattle.cn_c.specs.Codes.{named_ways, refusal_status, CN_DONE, CN_NOT_UTF8, CN_UNKNOWN}
 use Rattle.cn_c.specs.Halves.{bits_of, number_of}
 use Rattle.cn_c.specs.Reads.{chars_in_front, bytes_in_front}
 
--- the method that a way with units has
-abbrev pub method_of : Option Way → Option ChineseCountMethod
-method_of (Some (Units method)) = Some method
+-- the method by which a quantity is read: that of a way with units, and either way the standard one,
+-- since a quantity may be plain digits by each
+abbrev pub method_of : Option NamedWay → Option ChineseCountMethod
+method_of (Some (By (Units method))) = Some method
+method_of (Some Either) = Some TenThousand
 method_of way = None
 
 -- the codes of the forms
@@ -77,4 +81,4 @@ IsQuantityReadAs None bytes status told = (status ≡ CN_UNKNOWN) × (told ≡ n
 -- what is told of bytes and the code of a method
 abbrev pub IsQuantityRead : List ℕ → ℕ → ℕ → Quantity → Type 0
 IsQuantityRead bytes method status told =
-    IsQuantityReadAs (method_of (slice_get ways method)) bytes status told
+    IsQuantityReadAs (method_of (slice_get named_ways method)) bytes status told

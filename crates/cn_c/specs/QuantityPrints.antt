@@ -1,17 +1,21 @@
 -- What the calls that print quantities answer.
-use Rattle.std.specs.Prelude.{ℕ, ◌==◌, pos, int_lt, List, Option, Some, slice_get, if◌then◌else◌}
+use Rattle.std.specs.Prelude.{ℕ, ◌==◌, pos, int_lt, List, Option, Some, None, MatchOption, slice_get, if◌then◌else◌}
 use Rattle.std.specs.Bool.{MatchBool}
 use Rattle.chinese_number.specs.declared.ChineseCase.{ChineseCase}
 use Rattle.chinese_number.specs.declared.ChineseCountMethod.{ChineseCountMethod}
 use Rattle.chinese_number.specs.declared.ChineseVariant.{ChineseVariant}
 use Rattle.cn_express.specs.Figures.{figures_text}
-use Rattle.cn_express.specs.Numerals.{is_written_by}
+use Rattle.cn_express.specs.Numerals.{greatest_spelled, is_written_by}
 use Rattle.cn_express.specs.Writes.{numeral_bytes}
+use Rattle.cn_faces.specs.declared.Way.TheVariants.{Units}
+use Rattle.cn_faces.specs.Either.{written_method}
 use Rattle.cn_quantity.specs.declared.quantity.Quantity.{Quantity as ExactQuantity}
+use Rattle.cn_c.specs.declared.codes.NamedWay.{NamedWay}
+use Rattle.cn_c.specs.declared.codes.NamedWay.TheVariants.{By, Either}
 use Rattle.cn_c.specs.declared.quantity.Quantity.{Quantity}
-use Rattle.cn_c.specs.Codes.{cases, scripts, ways, CN_NOT_A_QUANTITY, CN_TOO_LARGE, CN_TOO_SMALL, CN_UNKNOWN}
+use Rattle.cn_c.specs.Codes.{cases, named_ways, scripts, CN_NOT_A_QUANTITY, CN_TOO_LARGE, CN_TOO_SMALL, CN_UNKNOWN}
 use Rattle.cn_c.specs.Prints.{PutsNothing, PutsIfItFits}
-use Rattle.cn_c.specs.Quantities.{method_of, quantity_of}
+use Rattle.cn_c.specs.Quantities.{quantity_of}
 
 -- what is put for a quantity: its text, or why there is none
 abbrev pub PutsQuantity : ExactQuantity → ChineseCountMethod → ChineseVariant → ChineseCase
@@ -23,18 +27,28 @@ PutsQuantity quantity method script case old status new len =
     (PutsNothing (if int_lt quantity.numerator (pos 0) then CN_TOO_SMALL else CN_TOO_LARGE) old
     status new len))
 
+-- the method by which a quantity is written: that of a way with units, and either way that of the
+-- greatest number that is spelled in it
+abbrev pub method_written : Option NamedWay → ChineseVariant → ExactQuantity
+    → Option ChineseCountMethod
+method_written (Some (By (Units method))) script quantity = Some method
+method_written (Some Either) script quantity =
+    Some (written_method script (greatest_spelled quantity))
+method_written way script quantity = None
+
 -- what is put for what a quantity and three codes name
-abbrev pub IsQuantityPrintedAs : Option ExactQuantity → Option ChineseCountMethod
-    → Option ChineseVariant → Option ChineseCase → List ℕ → ℕ → List ℕ → ℕ → Type 0
-IsQuantityPrintedAs (Some quantity) (Some method) (Some script) (Some case) old status new len =
-    PutsQuantity quantity method script case old status new len
-IsQuantityPrintedAs quantity method script case old status new len =
+abbrev pub IsQuantityPrintedAs : Option ExactQuantity → Option NamedWay → Option ChineseVariant
+    → Option ChineseCase → List ℕ → ℕ → List ℕ → ℕ → Type 0
+IsQuantityPrintedAs (Some quantity) way (Some script) (Some case) old status new len =
+    MatchOption (method_written way script quantity) (PutsNothing CN_UNKNOWN old status new len)
+    (λ method. PutsQuantity quantity method script case old status new len)
+IsQuantityPrintedAs quantity way script case old status new len =
     PutsNothing CN_UNKNOWN old status new len
 
 -- what is put for a quantity and the codes of a method, a script and a case
 abbrev pub IsQuantityPrinted : Quantity → ℕ → ℕ → ℕ → List ℕ → ℕ → List ℕ → ℕ → Type 0
 IsQuantityPrinted quantity method script case old status new len =
-    IsQuantityPrintedAs (quantity_of quantity) (method_of (slice_get ways method))
+    IsQuantityPrintedAs (quantity_of quantity) (slice_get named_ways method)
     (slice_get scripts script) (slice_get cases case) old status new len
 
 -- what is put of a quantity in figures, if it has a form

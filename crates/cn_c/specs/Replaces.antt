@@ -8,7 +8,7 @@ use Rattle.cn_replace.specs.declared.options.Figures.{Figures}
 use Rattle.cn_replace.specs.declared.options.Style.{Style}
 use Rattle.cn_replace.specs.declared.options.Style.TheVariants.{Kept, Expanded}
 use Rattle.cn_replace.specs.InFigures.{in_figures}
-use Rattle.cn_c.specs.Codes.{units, uppers, ways, CN_ABOUT, CN_CANONICAL, CN_DOUBTFUL, CN_EXPANDED, CN_ONE_CHARACTER, CN_DONE, CN_NO_ROOM, CN_NOT_UTF8, CN_UNKNOWN}
+use Rattle.cn_c.specs.Codes.{named_ways, units, uppers, CN_ABOUT, CN_CANONICAL, CN_DOUBTFUL, CN_EXPANDED, CN_ONE_CHARACTER, CN_DONE, CN_NO_ROOM, CN_NOT_UTF8, CN_UNKNOWN}
 use Rattle.cn_c.specs.Prints.{PutsNothing}
 use Rattle.cn_c.specs.Quantities.{method_of}
 
@@ -22,7 +22,7 @@ style_of flags = if has_flag flags CN_EXPANDED then Expanded else Kept
 -- how quantities are written in figures, by the sum of none or some of five flags
 abbrev pub figures_of : ℕ → Option Figures
 figures_of flags =
-    if flags % 4 == 0 && nat_lt flags 128 then Some (record {
+    if flags % 4 == 0 && (flags / 16 % 8 == 0 && nat_lt flags 1024) then Some (record {
       included = record {
         about = has_flag flags CN_ABOUT;
         one_character = has_flag flags CN_ONE_CHARACTER;
@@ -57,4 +57,4 @@ IsReplacedAs upper greatest method figures bytes old status new len =
 abbrev pub IsReplaced : List ℕ → ℕ → ℕ → ℕ → ℕ → List ℕ → ℕ → List ℕ → ℕ → Type 0
 IsReplaced bytes upper greatest method included old status new len =
     IsReplacedAs (slice_get uppers upper) (slice_get units greatest)
-    (method_of (slice_get ways method)) (figures_of included) bytes old status new len
+    (method_of (slice_get named_ways method)) (figures_of included) bytes old status new len

@@ -2,12 +2,11 @@
 ghost use Rattle.std.specs.Prelude.{◌≡◌, Some, map, take, IfNone, IfSome, IsUtf8, length, slice_get};
 ghost use Rattle.std.specs.Str.{is_utf8};
 ghost use Rattle.chinese_number.specs.Spans.{span_of};
-ghost use Rattle.cn_find.specs.Rule.{number_rule};
-ghost use Rattle.cn_c.specs.Finds.{Fills, FindsFrom, IsFound, IsFoundAs, IsQuantityFound, span_told, wanted_of};
+ghost use Rattle.cn_c.specs.Finds.{Fills, FindsFrom, IsFound, IsFoundAs, IsQuantityFound, number_search, span_told, wanted_of};
 ghost use Rattle.cn_c.specs.Codes.{units, uppers, CN_DONE, CN_NOT_UTF8};
 
 use crate::codes::{unit_of, upper_of};
-use crate::flags::flags_of;
+use crate::flags::flags_and_doubt;
 use crate::status::{DONE, NOT_UTF8, UNKNOWN, tell_none};
 use chinese_number::{
     Found, Numbers, SearchRule, Unit, Wanted, find_numbers_from, find_quantities_from,
@@ -26,26 +25,26 @@ pub struct Span {
 
 // A run as it is told to C. By a call each takes some 25 instructions more.
 #[inline(always)]
-fn span_of_found(found: Found<'_>) -> Span
-    ensures { result ≡ span_told (span_of found.entry) }
+fn span_of_found<R: SearchRule>(found: Found<'_>) -> Span
+    ensures { result ≡ span_told R.doubt (span_of found.entry) }
 {
     Span {
         start: found.start(),
         end: found.end(),
-        flags: flags_of(found),
+        flags: flags_and_doubt::<R>(found),
     }
 }
 
 // Tells the runs until none is left or the spans are full, and how many these are.
 fn fill<R: SearchRule>(mut runs: Numbers<'_, R>, spans: &mut [Span]) -> usize
-    ensures { Fills (map span_told (take (length spans.old) runs.entry)) spans.old spans.new result }
+    ensures { Fills (map (span_told R.doubt) (take (length spans.old) runs.entry)) spans.old spans.new result }
 {
     let mut count = 0;
     'filling: while count < spans.len() {
         let Some(found) = runs.next() else {
             break;
         };
-        spans[count] = span_of_found(found);
+        spans[count] = span_of_found::<R>(found);
         count += 1;
     }
     count
@@ -54,7 +53,7 @@ fn fill<R: SearchRule>(mut runs: Numbers<'_, R>, spans: &mut [Span]) -> usize
 // Tells what is found from a byte on, if a character begins there or the text ends.
 fn tell<R: SearchRule>(runs: Option<Numbers<'_, R>>, spans: &mut [Span], count: &mut usize) -> u32
     ensures some { IfSome runs.entry (λ left. (result ≡ CN_DONE)
-        × Fills (map span_told (take (length spans.old) left)) spans.old spans.new count.new) }
+        × Fills (map (span_told R.doubt) (take (length spans.old) left)) spans.old spans.new count.new) }
     ensures none { IfNone runs.entry
         ((result ≡ CN_NOT_UTF8) × (spans.new ≡ spans.old) × (count.new ≡ 0)) }
 {
@@ -85,7 +84,7 @@ fn find_ahead(
     spans: &mut [Span],
     count: &mut usize,
 ) -> u32
-    ensures { FindsFrom (number_rule (record { upper = upper; greatest = greatest })) text.now from
+    ensures { FindsFrom (number_search (record { upper = upper; greatest = greatest })) text.now from
         spans.old result spans.new count.new }
 {
     tell(
@@ -113,7 +112,7 @@ fn find_tested(
     spans: &mut [Span],
     count: &mut usize,
 ) -> u32
-    ensures { IsFoundAs number_rule (Some (record { upper = upper; greatest = greatest })) bytes.now from
+    ensures { IsFoundAs number_search (Some (record { upper = upper; greatest = greatest })) bytes.now from
         spans.old result spans.new count.new }
 {
     if are_utf8(bytes) {

@@ -1,10 +1,10 @@
 // What is told of a number in a text, and what is asked for: flags, added together.
-ghost use Rattle.std.specs.Prelude.{◌≡◌, ◌<◌};
+ghost use Rattle.std.specs.Prelude.{◌≡◌, ◌+◌, ◌*◌, ◌<◌, ◌≤◌};
 ghost use Rattle.chinese_number.specs.Spans.{span_of};
-ghost use Rattle.cn_c.specs.Finds.{flag_if, flags_told};
+ghost use Rattle.cn_c.specs.Finds.{doubt_code, flag_if, flags_told};
 ghost use Rattle.cn_c.specs.Replaces.{figures_of, has_flag, style_of};
 
-use chinese_number::Found;
+use chinese_number::{Doubt, Found, SearchRule};
 use cn_find::told_of;
 use cn_replace::{Figures, Included, Style};
 
@@ -27,10 +27,11 @@ fn flag_if(told: bool, flag: u32) -> u32
     if told { flag } else { 0 }
 }
 
-/// What is told of a number.
+// What is told of a number.
 #[inline(always)]
-pub fn flags_of(found: Found<'_>) -> u32
-    ensures { result ≡ flags_told (span_of found.entry) }
+fn flags_of(found: Found<'_>) -> u32
+    ensures value { result ≡ flags_told (span_of found.entry) }
+    ensures most { result ≤ 15 }
 {
     let told = told_of(found.before, found.text, found.after);
     flag_if(told.is_plain, PLAIN_DIGITS)
@@ -39,14 +40,39 @@ pub fn flags_of(found: Found<'_>) -> u32
         + flag_if(told.is_one_character, ONE_CHARACTER)
 }
 
+// The code of a doubt.
+fn doubt_code(doubt: Option<Doubt>) -> u32
+    ensures value { result ≡ doubt_code doubt }
+    ensures most { result ≤ 6 }
+{
+    match doubt {
+        None => 0,
+        Some(Doubt::Word) => 1,
+        Some(Doubt::Digits) => 2,
+        Some(Doubt::Term) => 3,
+        Some(Doubt::Part) => 4,
+        Some(Doubt::Time) => 5,
+        Some(Doubt::Range) => 6,
+    }
+}
+
+/// The flags of what a rule finds, and the code of its doubt.
+#[inline(always)]
+pub fn flags_and_doubt<R: SearchRule>(found: Found<'_>) -> u32
+    ensures { result
+        ≡ flags_told (span_of found.entry) + doubt_code (R.doubt (span_of found.entry)) * 16 }
+{
+    flags_of(found) + doubt_code(R::doubt_of(found)) * 16
+}
+
 /// An expression of which a reader may mean something else is written in figures too.
-pub const DOUBTFUL: u32 = 16;
+pub const DOUBTFUL: u32 = 128;
 
 /// Great units do not stay.
-pub const EXPANDED: u32 = 32;
+pub const EXPANDED: u32 = 256;
 
 /// What is in figures alone is written in ASCII, without commas and leading zeros.
-pub const CANONICAL: u32 = 64;
+pub const CANONICAL: u32 = 512;
 
 // Whether one of those flags is among these.
 fn has_flag(flags: u32, flag: u32) -> bool
@@ -71,7 +97,7 @@ fn style_of(flags: u32) -> Style
 pub fn figures_of(flags: u32) -> Option<Figures>
     ensures { result ≡ figures_of flags }
 {
-    if flags % 4 != 0 || flags >= 128 {
+    if flags % 4 != 0 || flags / 16 % 8 != 0 || flags >= 1024 {
         return None;
     }
     Some(Figures {

@@ -26,7 +26,8 @@ pub fn printed_numbers_read_back()
         → ReadsBack (take len new) kind way number }
 {}
 
-/// What it writes as plain digits or by the standard method is read either way as the same number.
+/// What it writes as plain digits, by the standard method or either way is read either way as the same
+/// number.
 ///
 /// For callers who do not know how a number was written.
 pub fn printed_numbers_read_back_either_way()
@@ -36,18 +37,30 @@ pub fn printed_numbers_read_back_either_way()
     ensures ten_thousand { (number : Number) (kind script case : ℕ) (old new : List ℕ) (len : ℕ)
         → IsPrinted number.low number.high kind CN_TEN_THOUSAND script case old CN_DONE new len
         → ReadsBack (take len new) kind CN_ANY number }
+    ensures either { (number : Number) (kind script case : ℕ) (old new : List ℕ) (len : ℕ)
+        → IsPrinted number.low number.high kind CN_ANY script case old CN_DONE new len
+        → ReadsBack (take len new) kind CN_ANY number }
 {}
 
 /// What `chinese_quantity_print` writes is UTF-8, and `chinese_quantity_read` reads it, by the same
-/// method, as the same numerator and denominator.
+/// method, as the same numerator and denominator. What it writes either way is read by `TenThousand`.
 ///
 /// For quantities that cross from one language to another.
 pub fn printed_quantities_read_back()
-    ensures { (quantity : Quantity) (method script case : ℕ) (old new : List ℕ) (len : ℕ)
+    ensures same { (quantity : Quantity) (method script case : ℕ) (old new : List ℕ) (len : ℕ)
         → AreHalves quantity.numerator → AreHalves quantity.denominator
         → IsQuantityPrinted quantity method script case old CN_DONE new len
         → IsUtf8 (take len new)
         × ((status : ℕ) (told : Quantity) → IsQuantityRead (take len new) method status told
+        → (status ≡ CN_DONE)
+        × (number_of true told.numerator ≡ number_of true quantity.numerator)
+        × (number_of false told.denominator ≡ number_of false quantity.denominator)) }
+    ensures either { (quantity : Quantity) (script case : ℕ) (old new : List ℕ) (len : ℕ)
+        → AreHalves quantity.numerator → AreHalves quantity.denominator
+        → IsQuantityPrinted quantity CN_ANY script case old CN_DONE new len
+        → IsUtf8 (take len new)
+        × ((status : ℕ) (told : Quantity)
+        → IsQuantityRead (take len new) CN_TEN_THOUSAND status told
         → (status ≡ CN_DONE)
         × (number_of true told.numerator ≡ number_of true quantity.numerator)
         × (number_of false told.denominator ≡ number_of false quantity.denominator)) }

@@ -1,21 +1,31 @@
 // Printing.
-ghost use Rattle.std.specs.Prelude.{◌≤◌};
-ghost use Rattle.cn_c.specs.Prints.{PrintsNumber, IsPrinted};
+ghost use Rattle.std.specs.Prelude.{◌≡◌, ◌≤◌, nat_abs};
+ghost use Rattle.cn_c.specs.Prints.{PrintsNumber, IsPrinted, way_written};
 ghost use Rattle.cn_faces.specs.IntegerTypes.{the_kind};
 
-use crate::codes::{case_of, kind_of, script_of, way_of};
+use crate::codes::{NamedWay, case_of, kind_of, named_way_of, script_of};
 use crate::number::{Number, bits_of, signed_number};
 use crate::room::put_text;
 use crate::status::{NOT_HELD, TOO_LARGE, TOO_SMALL, UNKNOWN, tell_none};
 use chinese_number::{ChineseCase, ChineseVariant, NumberToChineseError, ROOM_BYTES, Whole};
-use cn_faces::{IntegerType, SignedMagnitude, Way, put_by};
+use cn_faces::{IntegerType, SignedMagnitude, Way, put_by, written_method};
 
 /// How a number is to be written.
 #[derive(Clone, Copy)]
 pub struct Style {
-    pub way: Way,
+    pub way: NamedWay,
     pub script: ChineseVariant,
     pub case: ChineseCase,
+}
+
+// The way in which a magnitude is written.
+fn way_written(way: NamedWay, script: ChineseVariant, magnitude: u128) -> Way
+    ensures { result ≡ way_written way script magnitude }
+{
+    match way {
+        NamedWay::By(way) => way,
+        NamedWay::Either => Way::Units(written_method(script, magnitude)),
+    }
 }
 
 // Prints a number of 128 bits, if the type holds it.
@@ -26,7 +36,8 @@ fn print_as<T: Whole>(
     room: &mut [u8],
     len: &mut usize,
 ) -> u32
-    ensures printed { PrintsNumber (the_kind integer) style.way style.script style.case
+    ensures printed { PrintsNumber (the_kind integer)
+        (way_written style.way style.script (nat_abs (T.number value))) style.script style.case
         (T.number value) room.old result room.new len.new }
     ensures bound { len.new ≤ 234 }
 {
@@ -34,6 +45,7 @@ fn print_as<T: Whole>(
         return tell_none(len, NOT_HELD);
     }
     let Style { way, script, case } = style;
+    let way = way_written(way, script, value.magnitude());
     let mut scratch = [0; ROOM_BYTES];
     match put_by(&mut scratch, way, script, case, value) {
         Ok(text) => put_text(text.as_bytes(), room, len),
@@ -63,7 +75,7 @@ pub extern "C" fn chinese_number_print(
     let Some(integer) = kind_of(kind) else {
         return tell_none(len, UNKNOWN);
     };
-    let Some(way) = way_of(way) else {
+    let Some(way) = named_way_of(way) else {
         return tell_none(len, UNKNOWN);
     };
     let Some(script) = script_of(script) else {

@@ -1,10 +1,10 @@
 // Exact quantities.
 ghost use Rattle.std.specs.Prelude.{◌≡◌, slice_get};
 ghost use Rattle.chinese_number.specs.Answer.{answer_of};
-ghost use Rattle.cn_c.specs.Codes.{ways};
+ghost use Rattle.cn_c.specs.Codes.{named_ways};
 ghost use Rattle.cn_c.specs.Quantities.{TellsQuantity, IsQuantityRead, method_of, quantity_of};
 
-use crate::codes::way_of;
+use crate::codes::{NamedWay, named_way_of};
 use crate::number::{Number, bits_of, halves, signed_number};
 use crate::quantity_form::{form_code, quantity_form_of};
 use crate::reading::refusal_status;
@@ -34,12 +34,13 @@ const NOTHING: Quantity = Quantity {
     byte_index: 0,
 };
 
-/// The method of a code.
+/// The method of a code by which a quantity is read.
 pub fn method_of(code: u32) -> Option<ChineseCountMethod>
-    ensures { result ≡ method_of (slice_get ways code) }
+    ensures { result ≡ method_of (slice_get named_ways code) }
 {
-    match way_of(code) {
-        Some(Way::Units(method)) => Some(method),
+    match named_way_of(code) {
+        Some(NamedWay::By(Way::Units(method))) => Some(method),
+        Some(NamedWay::Either) => Some(ChineseCountMethod::TenThousand),
         _ => None,
     }
 }

@@ -1,14 +1,32 @@
 // Printing quantities in numerals.
-ghost use Rattle.std.specs.Prelude.{◌≤◌};
-ghost use Rattle.cn_c.specs.QuantityPrints.{IsQuantityPrinted};
+ghost use Rattle.std.specs.Prelude.{◌≡◌, ◌≤◌, slice_get};
+ghost use Rattle.cn_c.specs.Codes.{named_ways};
+ghost use Rattle.cn_c.specs.QuantityPrints.{IsQuantityPrinted, method_written};
 
-use crate::codes::{case_of, script_of};
-use crate::quantity::{Quantity, method_of, quantity_of};
+use crate::codes::{NamedWay, case_of, named_way_of, script_of};
+use crate::quantity::{Quantity, quantity_of};
 use crate::room::put_text;
 use crate::status::{NOT_A_QUANTITY, TOO_LARGE, TOO_SMALL, UNKNOWN};
-use cn_express::{MOST_QUANTITY_BYTES, QuantityToChineseError, put_quantity};
+use chinese_number::{ChineseCountMethod, ChineseVariant};
+use cn_express::{MOST_QUANTITY_BYTES, QuantityToChineseError, greatest_spelled, put_quantity};
+use cn_faces::{Way, written_method};
 
-/// Prints a quantity in numerals by a method into the caller's room, where 471 bytes are enough for
+// The method of a code by which a quantity is written.
+fn method_written(
+    code: u32,
+    script: ChineseVariant,
+    quantity: chinese_number::Quantity,
+) -> Option<ChineseCountMethod>
+    ensures { result ≡ method_written (slice_get named_ways code) script quantity }
+{
+    match named_way_of(code) {
+        Some(NamedWay::By(Way::Units(method))) => Some(method),
+        Some(NamedWay::Either) => Some(written_method(script, greatest_spelled(quantity))),
+        _ => None,
+    }
+}
+
+/// Prints a quantity in numerals by a method, or either way, into the caller's room, where 471 bytes are enough for
 /// any.
 ///
 /// Writes `*len`, and the bytes in front of it where the text fits; all else in the room stays.
@@ -26,10 +44,13 @@ pub extern "C" fn chinese_quantity_print(
     ensures bound { len.new ≤ 471 }
 {
     *len = 0;
-    let (Some(quantity), Some(method)) = (quantity_of(quantity), method_of(method)) else {
+    let (Some(script), Some(case)) = (script_of(script), case_of(case)) else {
         return UNKNOWN;
     };
-    let (Some(script), Some(case)) = (script_of(script), case_of(case)) else {
+    let Some(quantity) = quantity_of(quantity) else {
+        return UNKNOWN;
+    };
+    let Some(method) = method_written(method, script, quantity) else {
         return UNKNOWN;
     };
     let mut scratch = [0; MOST_QUANTITY_BYTES];

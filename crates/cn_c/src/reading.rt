@@ -1,12 +1,12 @@
 // Reading.
 ghost use Rattle.std.specs.Prelude.{◌≡◌, IsSome, slice_get, true, false, IsUtf8};
 ghost use Rattle.chinese_number.specs.Answer.{refusal_of};
-ghost use Rattle.cn_c.specs.declared.codes.ReadingWay.TheVariants.{By, Either};
-ghost use Rattle.cn_c.specs.Codes.{kinds, reading_ways, refusal_status};
+ghost use Rattle.cn_c.specs.declared.codes.NamedWay.TheVariants.{By, Either};
+ghost use Rattle.cn_c.specs.Codes.{kinds, named_ways, refusal_status};
 ghost use Rattle.cn_c.specs.Reads.{ReadsInto, IsRead, bytes_in_front, chars_in_front, no_number};
 ghost use Rattle.cn_faces.specs.IntegerTypes.{the_kind};
 
-use crate::codes::{ReadingWay, kind_of, reading_way_of};
+use crate::codes::{NamedWay, kind_of, named_way_of};
 use crate::number::{Number, halves, halves_of};
 use crate::status::{DONE, EMPTY, INCORRECT, NOT_UTF8, TOO_LARGE, TOO_SMALL, UNKNOWN};
 use chinese_number::ChineseToNumberError;
@@ -130,7 +130,7 @@ fn read_either(text: &str, integer: IntegerType, reading: &mut Reading) -> u32
 #[inline(never)]
 fn read_uncommon(text: &[u8], kind: u32, way: u32, reading: &mut Reading) -> u32
     requires kind { IsSome (slice_get kinds kind) }
-    requires way { IsSome (slice_get reading_ways way) }
+    requires way { IsSome (slice_get named_ways way) }
     ensures { IsRead text.now kind way result reading.new }
 {
     if !are_utf8_at_all(text) {
@@ -157,7 +157,7 @@ pub extern "C" fn chinese_number_read(
     let Some(_) = kind_of(kind) else {
         return tell_nothing(reading, UNKNOWN);
     };
-    let Some(_) = reading_way_of(way) else {
+    let Some(_) = named_way_of(way) else {
         return tell_nothing(reading, UNKNOWN);
     };
     if are_common(text) {
@@ -177,12 +177,12 @@ pub unsafe extern "C" fn chinese_number_read_utf8(
     requires { IsUtf8 text.now }
     ensures { IsRead text.now kind way result reading.new }
 {
-    let (Some(integer), Some(way)) = (kind_of(kind), reading_way_of(way)) else {
+    let (Some(integer), Some(way)) = (kind_of(kind), named_way_of(way)) else {
         return tell_nothing(reading, UNKNOWN);
     };
     let text = unsafe { str::from_utf8_unchecked(text) };
     match way {
-        ReadingWay::By(way) => read_text(text, integer, way, reading),
-        ReadingWay::Either => read_either(text, integer, reading),
+        NamedWay::By(way) => read_text(text, integer, way, reading),
+        NamedWay::Either => read_either(text, integer, reading),
     }
 }

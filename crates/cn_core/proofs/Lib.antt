@@ -3,6 +3,8 @@ pub mod Characters
 pub mod Chars
 pub mod Cuts
 pub mod Ends
+pub mod FigureExamples
+pub mod FigureRows
 pub mod Fronts
 pub mod Grammar
 pub mod Judging
@@ -15,6 +17,7 @@ pub mod Powers
 pub mod ReadBack
 pub mod ScaleExamples
 pub mod ScaleLaws
+pub mod SmallUnits
 pub mod SpellingExamples
 pub mod Spellings
 pub mod Sums

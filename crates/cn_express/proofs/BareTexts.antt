@@ -1,4 +1,4 @@
--- Texts that hold neither white space, nor 分, nor a percent sign.
+-- Texts that hold neither white space, nor 分, nor a percent sign or ‰.
 use Rattle.std.proofs.Common.{◌≡◌, ℕ, zero, suc, Bool, true, not, ◌&&◌, List, [], ◌∷◌, ◌++◌, map, Some, refl, ap, ◌∙◌, if◌then◌else◌}
 use Rattle.std.specs.Char.{is_not_whitespace}
 use Rattle.std.specs.List.{list_all}
@@ -10,16 +10,16 @@ use Rattle.cn_core.proofs.Fronts.{and-left, and-right, both}
 use Rattle.cn_express.specs.Digits.{behind_point, last_digits}
 use Rattle.cn_express.proofs.Cuts.{lacks}
 use Rattle.cn_express.proofs.DigitTexts.{WritesDigits, digits-all, last-digits}
-use Rattle.cn_express.proofs.WrittenTexts.{IsText, IsText-append, IsText-nil}
+use Rattle.cn_express.proofs.WrittenTexts.{IsText, IsText-append, IsText-nil, is_front}
 use Rattle.cn_quantity.specs.declared.characters.DigitKind.{DigitKind}
-use Rattle.cn_quantity.specs.Characters.{digit_by, is_fen, is_percent}
+use Rattle.cn_quantity.specs.Characters.{digit_by, is_fen, is_share, share_of}
 use Rattle.cn_quantity.proofs.Today.{are_marks, own}
 
 abbrev is_clean : ℕ → Bool
-is_clean c = not (is_fen c) && not (is_percent c)
+is_clean c = not (is_fen c) && not (is_share c)
 
 abbrev is_dark : ℕ → Bool
-is_dark c = all_scalars (c ∷ []) && is_not_whitespace c
+is_dark c = all_scalars (c ∷ []) && is_not_whitespace c && not (is_front c)
 
 -- such a character
 unfoldable pub is_bare : ℕ → Bool
@@ -45,14 +45,14 @@ pub bare-no_fen : (text : List ℕ) → are_bare text ≡ true → lacks is_fen 
 unfolding is_bare
 bare-no_fen text bare =
     all-weaker is_bare (λ c. not (is_fen c))
-    (λ c h. and-left (not (is_fen c)) (not (is_percent c)) (and-right (is_dark c) (is_clean c) h))
+    (λ c h. and-left (not (is_fen c)) (not (is_share c)) (and-right (is_dark c) (is_clean c) h))
     text bare
 
-pub bare-no_percent : (text : List ℕ) → are_bare text ≡ true → lacks is_percent text ≡ true
+pub bare-no_share : (text : List ℕ) → are_bare text ≡ true → lacks is_share text ≡ true
 unfolding is_bare
-bare-no_percent text bare =
-    all-weaker is_bare (λ c. not (is_percent c))
-    (λ c h. and-right (not (is_fen c)) (not (is_percent c)) (and-right (is_dark c) (is_clean c) h))
+bare-no_share text bare =
+    all-weaker is_bare (λ c. not (is_share c))
+    (λ c h. and-right (not (is_fen c)) (not (is_share c)) (and-right (is_dark c) (is_clean c) h))
     text bare
 
 pub bare-text : (text : List ℕ) → are_bare text ≡ true → IsText text
@@ -60,16 +60,19 @@ unfolding is_bare
 bare-text [] bare = IsText-nil
 bare-text (c ∷ rest) bare =
     let dark = and-left (is_dark c) (is_clean c) (and-left (is_bare c) (are_bare rest) bare) in
+    let seen = and-left (all_scalars (c ∷ []) && is_not_whitespace c) (not (is_front c)) dark in
     IsText-append (c ∷ []) rest (record {
-      scalars = and-left (all_scalars (c ∷ [])) (is_not_whitespace c) dark;
+      scalars = and-left (all_scalars (c ∷ [])) (is_not_whitespace c) seen;
       kept = ap (λ b. if b then c ∷ [] else [])
-          (and-right (all_scalars (c ∷ [])) (is_not_whitespace c) dark);
+          (and-right (all_scalars (c ∷ [])) (is_not_whitespace c) seen);
+      bare = both (not (is_front c)) true
+          (and-right (all_scalars (c ∷ []) && is_not_whitespace c) (not (is_front c)) dark) refl;
     })
     (bare-text rest (and-right (is_bare c) (are_bare rest) bare))
 
 -- digits and units of numerals
 pub mark-bare : (c : ℕ) → is_digit_or_unit (mark_of c) ≡ true → is_bare c ≡ true
-unfolding is_bare is_fen is_percent
+unfolding is_bare is_fen share_of
 mark-bare c marked = own is_bare c refl refl marked
 
 pub marks-bare : (text : List ℕ) → are_marks text ≡ true → are_bare text ≡ true

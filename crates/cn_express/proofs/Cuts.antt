@@ -1,14 +1,14 @@
--- A text of known parts, cut at its point, at 分之 and before a percent sign.
-use Rattle.std.proofs.Common.{◌≡◌, ℕ, Bool, true, false, not, ◌&&◌, if◌then◌else◌, List, [], ◌∷◌, ◌++◌, refl, ap, ◌∙◌}
+-- A text of known parts, cut at its point, at 分之 and before the sign of a share.
+use Rattle.std.proofs.Common.{◌≡◌, ℕ, Bool, true, false, not, ◌&&◌, if◌then◌else◌, nat_lt, List, [], ◌∷◌, ◌++◌, length, Option, Some, None, is_some, refl, ap, ◌∙◌}
 use Rattle.std.specs.List.{list_all}
 use Rattle.std.proofs.lemmas.List.Folds.{list_all-append}
 use Rattle.cn_core.specs.Mark.{mark_of}
 use Rattle.cn_core.specs.Numeral.{is_digit_or_unit}
 use Rattle.cn_core.proofs.Fronts.{and-left, and-right, both}
 use Rattle.cn_quantity.specs.declared.characters.DigitKind.TheVariants.{Chinese}
-use Rattle.cn_quantity.specs.Characters.{is_fen, is_percent, is_point, is_zhi}
+use Rattle.cn_quantity.specs.Characters.{is_fen, is_point, is_share, is_zhi, share_of}
 use Rattle.cn_quantity.specs.Decimal.{after_point, before_point}
-use Rattle.cn_quantity.specs.Ratio.{after_bar, before_bar, begins_with_zhi, ends_with_percent}
+use Rattle.cn_quantity.specs.Ratio.{after_bar, before_bar, begins_with_zhi, last_share, share}
 use Rattle.cn_quantity.proofs.Bars.{bar-cut, bar-gone, bar-passed, bar-stops}
 use Rattle.cn_quantity.proofs.Today.{are_marks, first-mark, none-of, rest-marks}
 
@@ -77,10 +77,19 @@ point-at (c ∷ front) point rest none is =
           ∙ more.1,
     )
 
--- the percent sign
-pub percent-none : (text : List ℕ) → lacks is_percent text ≡ true
-    → ends_with_percent text ≡ false
-percent-none [] h = refl
-percent-none (c ∷ []) h = lacks-first is_percent c [] h
-percent-none (c ∷ next ∷ rest) h =
-    percent-none (next ∷ rest) (lacks-rest is_percent c (next ∷ rest) h)
+-- the sign of a share
+none-from : (o : Option ℕ) → is_some o ≡ false → o ≡ None
+none-from None h = refl
+none-from (Some divisor) h = cc
+
+last_share-none : (text : List ℕ) → lacks is_share text ≡ true → last_share text ≡ None
+last_share-none [] h = refl
+last_share-none (c ∷ []) h = none-from (share_of c) (lacks-first is_share c [] h)
+last_share-none (c ∷ next ∷ rest) h =
+    last_share-none (next ∷ rest) (lacks-rest is_share c (next ∷ rest) h)
+
+pub share-none : (text : List ℕ) → lacks is_share text ≡ true → share text ≡ None
+share-none text h = by (nat_lt 1 (length text)) (last_share-none text h) where
+  by : (b : Bool) → last_share text ≡ None → (if b then last_share text else None) ≡ None
+  by true h = h
+  by false h = refl

@@ -1,5 +1,5 @@
 -- A written number, with decimals or without, is read as that number.
-use Rattle.std.proofs.Common.{◌≡◌, ℕ, zero, suc, ◌*◌, ◌/◌, ◌^◌, ◌<◌, pos, Bool, true, false, ◌&&◌, nat_lt, is_none, is_some, List, [], ◌∷◌, ◌++◌, length, map, Some, None, Ok, refl, ap, ap₂, ◌∙◌, arith, if◌then◌else◌, append-nil}
+use Rattle.std.proofs.Common.{◌≡◌, ℕ, zero, suc, ◌/◌, ◌^◌, ◌<◌, Bool, true, false, ◌&&◌, nat_lt, is_none, is_some, List, [], ◌∷◌, ◌++◌, length, map, Some, None, Ok, refl, ap, ap₂, ◌∙◌, arith, if◌then◌else◌, append-nil}
 use Rattle.std.specs.Char.{is_ascii_digit}
 use Rattle.std.specs.List.{list_all}
 use Rattle.std.proofs.lemmas.Bool.Decides.{nat_tests}
@@ -11,15 +11,14 @@ use Rattle.cn_core.specs.declared.script.ChineseVariant.TheVariants.{Traditional
 use Rattle.cn_core.specs.Characters.{digit_of, rank_of, digit_char}
 use Rattle.cn_core.specs.Mark.{Mark, mark_of}
 use Rattle.cn_core.specs.Numeral.{is_digit_or_unit, starts_with_digit, with_first_digit}
-use Rattle.cn_core.specs.Printing.{is_printable, mark_char}
-use Rattle.cn_core.specs.Scale.{scale}
+use Rattle.cn_core.specs.Printing.{mark_char}
 use Rattle.cn_core.specs.Spelling.{spelling}
-use Rattle.cn_core.specs.Text.{marks_of}
 use Rattle.cn_core.proofs.Fronts.{and-left, and-right, both}
 use Rattle.cn_core.proofs.ReadBack.{spelling-is_numeral}
 use Rattle.cn_express.specs.Digits.{behind_point, last_digits}
 use Rattle.cn_express.specs.Numerals.{decimal_text, magnitude_text, point_char}
 use Rattle.cn_express.proofs.BareTexts.{bare-text, is_bare, mark-bare, marks-bare}
+use Rattle.cn_express.proofs.ClearTexts.{magnitude-clear}
 use Rattle.cn_express.proofs.Cuts.{marks-lack, point-at}
 use Rattle.cn_express.proofs.DigitTexts.{WritesDigits, WritesDigits-each, are_digits, digits-alone, digits-all, last-count, last-digits, last-read, no-factors}
 use Rattle.cn_express.proofs.LastMarks.{spelled-ended}
@@ -27,21 +26,23 @@ use Rattle.cn_express.proofs.SpelledNumbers.{BeginsNumber, BeginsNumber-marks, d
 use Rattle.cn_express.proofs.WrittenTexts.{IsText}
 use Rattle.cn_quantity.specs.declared.characters.DigitKind.TheVariants.{Chinese, Figure}
 use Rattle.cn_quantity.specs.Answer.{and_then}
-use Rattle.cn_quantity.specs.Characters.{chinese_digit_of, is_fen, is_percent, is_point}
+use Rattle.cn_quantity.specs.Characters.{chinese_digit_of, is_fen, is_point, share_of}
 use Rattle.cn_quantity.specs.Decimal.{after_point, before_point, ends_colloquially, is_chinese_decimal}
 use Rattle.cn_quantity.specs.Digits.{after_digits, leading_digits, read_with_units}
 use Rattle.cn_quantity.specs.Figures.{is_in_figures}
-use Rattle.cn_quantity.specs.Number.{decimal_of, number_answer, part_answer, whole_answer}
+use Rattle.cn_quantity.specs.Number.{decimal_of, number_answer, part_answer}
 use Rattle.cn_quantity.specs.Units.{are_rising_units, times_units}
+use Rattle.cn_quantity.specs.WholeNumber.{whole_answer}
+use Rattle.cn_quantity.proofs.Groups.{turns-begin}
 use Rattle.cn_quantity.proofs.Numbers.{a-decimal}
-use Rattle.cn_quantity.proofs.Today.{and-none, are_marks, digit-mark, digit-no_unit, no-point, number-whole}
+use Rattle.cn_quantity.proofs.Today.{and-none, are_marks, digit-mark, digit-no_unit, marks-broken, no-point, number-shaped, number-whole, point-no_mark}
 use Rattle.cn_spell.proofs.Printed.{IsReadBack-marks, is_printed}
-use Rattle.cn_spell.proofs.SpelledMarks.{below_square, spelling-printed}
+use Rattle.cn_spell.proofs.ReadByOther.{IsReadBy}
+use Rattle.cn_spell.proofs.SpelledMarks.{spelling-printed}
 
--- what a written spelling is like
+-- what a written spelling is like to a method that reads it
 pub record IsSpelled (method : ChineseCountMethod) (number : ℕ) (text : List ℕ) : Type 0 where
   pub written : IsText text
-  pub same : marks_of text ≡ spelling method number
   pub marks : are_marks text ≡ true
   pub whole : whole_answer method text ≡ Ok number
   pub begins : BeginsNumber text
@@ -57,27 +58,24 @@ printed-marks variant case (mark ∷ rest) h =
     (printed-marks variant case rest (and-right (is_printed mark) (list_all is_printed rest) h))
 
 pub IsSpelled-magnitude : (variant : ChineseVariant) (case : ChineseCase)
-    (method : ChineseCountMethod) (number : ℕ) → number < 2 ^ 128
-    → is_printable method (pos number) ≡ true
-    → IsSpelled method number (magnitude_text variant case method number)
-IsSpelled-magnitude variant case method number small printable =
-    let square : number < scale method 15 * scale method 15 =
-    below_square method (pos number) small printable in
-    let marks = spelling method number in
-    let printed = spelling-printed method number square in
+    (write read : ChineseCountMethod) (number : ℕ) → number < 2 ^ 128
+    → IsReadBy write read number
+    → IsSpelled read number (magnitude_text variant case write number)
+IsSpelled-magnitude variant case write read number small is =
+    let marks = spelling write number in
+    let printed = spelling-printed write number is.square in
     let back = IsReadBack-marks variant case marks printed in
-    let numeral = spelling-is_numeral method number square in
+    let numeral = spelling-is_numeral write number is.square in
     let known = printed-marks variant case marks printed in
     record {
       written = bare-text (map (mark_char variant case) marks)
           (marks-bare (map (mark_char variant case) marks) known);
-      same = back.marks_same;
       marks = known;
-      whole = spelled-whole method number (map (mark_char variant case) marks) small square
-          back.marks_same;
+      whole = spelled-whole write read number (map (mark_char variant case) marks) small is
+          back.marks_same (magnitude-clear variant case write number is.square);
       begins = BeginsNumber-marks variant case marks printed
           (and-left (starts_with_digit (with_first_digit marks)) _ numeral.0);
-      ended = spelled-ended method number (map (mark_char variant case) marks) square
+      ended = spelled-ended write number (map (mark_char variant case) marks) is.square
           back.marks_same;
     }
 
@@ -103,12 +101,7 @@ part-number method text more begins = rw none where
 pub whole-read : (method : ChineseCountMethod) (number : ℕ) (text : List ℕ)
     → IsSpelled method number text
     → number_answer method text ≡ Ok (record { number = number; decimals = 0 })
-whole-read method number text s =
-    number-whole method text number s.marks s.whole (λ f. absurd (none f.some)) where
-      none : 0 < leading_digits Figure text → ⊥
-      none some =
-          let zero_is : leading_digits Figure text ≡ 0 =
-          rw append-nil at (not-figures text [] s.begins) in omega (arith, some, zero_is)
+whole-read method number text s = number-whole method text number s.whole
 
 -- of a fraction too
 pub part-whole : (method : ChineseCountMethod) (number : ℕ) (text : List ℕ)
@@ -130,7 +123,7 @@ point_is Traditional = refl
 point_is Simple = refl
 
 pub point_bare : (variant : ChineseVariant) → is_bare (point_char variant) ≡ true
-unfolding is_bare is_fen is_percent
+unfolding is_bare is_fen share_of
 point_bare Traditional = refl
 point_bare Simple = refl
 
@@ -176,7 +169,9 @@ point-read : (method : ChineseCountMethod) (whole count number point : ℕ) (fro
     → number_answer method (front ++ point ∷ digits)
     ≡ Ok (record { number = number; decimals = count })
 point-read method whole count number point front digits s point_is all size some read =
-    a-decimal method text (not-in-figures front (point ∷ digits) s.begins) is_decimal
+    number-shaped method text (marks-broken front point digits (point-no_mark point point_is))
+    ∙ a-decimal method text (not-in-figures front (point ∷ digits) s.begins)
+    (turns-begin method text (not-figures front (point ∷ digits) s.begins)) is_decimal
     ∙ ap₂ (λ before behind. and_then (whole_answer method before)
     (λ whole. decimal_of (leading_digits Chinese behind)
     (read_with_units method Chinese whole behind))) cut.0 cut.1
@@ -223,13 +218,13 @@ behind-text method variant case (suc count) number front s small =
     (last-count (digit_char variant case) (suc count) number) (omega arith)
     (decimals-read method variant case (suc count) number small)
 
-pub decimal-read : (method : ChineseCountMethod) (variant : ChineseVariant) (case : ChineseCase)
-    (count number : ℕ) → number < 2 ^ 128
-    → is_printable method (pos (number / 10 ^ count)) ≡ true
-    → number_answer method (decimal_text variant case method count number)
+pub decimal-read : (write read : ChineseCountMethod) (variant : ChineseVariant)
+    (case : ChineseCase) (count number : ℕ) → number < 2 ^ 128
+    → IsReadBy write read (number / 10 ^ count)
+    → number_answer read (decimal_text variant case write count number)
     ≡ Ok (record { number = number; decimals = count })
-decimal-read method variant case count number small printable =
-    behind-text method variant case count number
-    (magnitude_text variant case method (number / 10 ^ count))
-    (IsSpelled-magnitude variant case method (number / 10 ^ count)
-    (omega (arith, small, div-le_self number (10 ^ count))) printable) small
+decimal-read write read variant case count number small is =
+    behind-text read variant case count number
+    (magnitude_text variant case write (number / 10 ^ count))
+    (IsSpelled-magnitude variant case write read (number / 10 ^ count)
+    (omega (arith, small, div-le_self number (10 ^ count))) is) small

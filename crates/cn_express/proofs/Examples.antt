@@ -11,7 +11,7 @@ use Rattle.cn_quantity.specs.declared.quantity.QuantityForm.TheVariants.{Whole, 
 use Rattle.cn_quantity.specs.Trimmed.{decimals_over, trimmed}
 use Rattle.cn_express.specs.Digits.{last_digits}
 use Rattle.cn_express.specs.Figures.{figures_text}
-use Rattle.cn_express.specs.Numerals.{quantity_text}
+use Rattle.cn_express.specs.Numerals.{greatest_spelled, quantity_text}
 
 -- this numerator over this denominator, in this form
 abbrev is : ℤ → ℕ → QuantityForm → Quantity
@@ -48,6 +48,13 @@ in_upper_case : quantity_text Simple Upper TenThousand (is (pos 1250) 10000 Perc
     ≡ codes "佰分之拾贰点伍零"
 unfolding digit_char unit_char decimals_over
 in_upper_case = refl
+
+-- of a decimal what stands in front of its point, of a fraction the greater of its two numbers
+greatest_numbers : map greatest_spelled (is (pos 314) 10 Decimal ∷ is (pos 1250) 10000 Percent
+    ∷ is (negsuc 0) 7 Fraction ∷ is (pos 50) 7 Fraction ∷ is (pos 3) 1 Decimal ∷ [])
+    ≡ 31 ∷ 12 ∷ 7 ∷ 50 ∷ 3 ∷ []
+unfolding decimals_over
+greatest_numbers = refl
 
 without_zeros : map trimmed (is (pos 350000) 10 Decimal ∷ is (pos 310) 100 Decimal
     ∷ is (pos 1250) 10000 Percent ∷ is (pos 500) 100 Percent ∷ is (pos 50) 100 Fraction

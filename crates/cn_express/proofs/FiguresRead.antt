@@ -1,5 +1,5 @@
 -- A quantity in figures is read as that quantity.
-use Rattle.std.proofs.Common.{◌≡◌, ℕ, zero, suc, ◌+◌, ◌*◌, ◌/◌, ◌%◌, ◌^◌, ◌<◌, ◌≤◌, pos, int_lt, nat_abs, Bool, true, false, ◌==◌, nat_lt, is_none, is_some, List, [], ◌∷◌, ◌++◌, length, map, codes, decimal, encode_utf8_all, slice_index, Some, None, Ok, refl, sym, ap, ap₂, ◌∙◌, arith, if◌then◌else◌, append-nil, length-append}
+use Rattle.std.proofs.Common.{◌≡◌, ℕ, zero, suc, ◌+◌, ◌*◌, ◌/◌, ◌%◌, ◌^◌, ◌<◌, ◌≤◌, pos, int_lt, nat_abs, Bool, true, false, ◌==◌, nat_lt, not, is_none, is_some, List, [], ◌∷◌, ◌++◌, length, map, codes, decimal, encode_utf8_all, slice_index, Some, None, Ok, refl, sym, ap, ap₂, ◌∙◌, arith, if◌then◌else◌, append-nil, length-append, Option, Result, Err, fold}
 use Rattle.std.specs.List.{list_all}
 use Rattle.std.specs.Option.{option_map_or}
 use Rattle.std.proofs.lemmas.Bool.Decides.{nat_tests}
@@ -11,33 +11,44 @@ use Rattle.std.proofs.lemmas.Str.Ascii.{IsAscii-nil}
 use Rattle.std.proofs.Math.Nat.{div-add-mod', div-le_self}
 use Rattle.cn_core.specs.declared.method.ChineseCountMethod.{ChineseCountMethod}
 use Rattle.cn_core.specs.declared.sign.Sign.TheVariants.{Minus}
-use Rattle.cn_core.specs.Characters.{rank_of}
+use Rattle.cn_core.specs.Characters.{digit_of, rank_of, sign_of as numeral_sign}
+use Rattle.cn_core.specs.Mark.{Mark, mark_of}
+use Rattle.cn_core.specs.Naive.{decimal_value, digit_value, naive_answer, refused_or}
+use Rattle.cn_core.specs.Numeral.{is_digit_or_unit}
+use Rattle.cn_core.specs.Refusal.{Refusal}
+use Rattle.cn_core.specs.Text.{marks_of}
 use Rattle.cn_core.specs.Whole.{holds, signed_kind}
-use Rattle.cn_core.proofs.Fronts.{and-left, both}
+use Rattle.cn_core.proofs.Fronts.{and-left, and-right, both}
+use Rattle.cn_core.specs.Figures.{figure_of, figure_rows, is_comma}
 use Rattle.cn_express.specs.Digits.{behind_point, last_digits}
 use Rattle.cn_express.specs.Figures.{figure_char, figures_of, figures_with, percent_sign, unsigned_figures}
+use Rattle.cn_express.proofs.ClearTexts.{digits-not_misread}
 use Rattle.cn_express.proofs.BareTexts.{bare-append, bare-no_fen, bare-text, behind-bare, is_bare}
 use Rattle.cn_express.proofs.Cuts.{lacks, lacks-append}
 use Rattle.cn_express.proofs.DigitTexts.{WritesDigits, WritesDigits-each, are_digits, digits-all, digits-alone, digits-lead, has_no_units, last-count, last-digits, last-read, no-factors, read-digit, read_on-append}
-use Rattle.cn_express.proofs.KnownDecimals.{over-is}
 use Rattle.cn_express.proofs.NumberTexts.{IsNumberText, IsUnsigned-decimal, IsUnsigned-whole}
-use Rattle.cn_express.proofs.Ratios.{percent-ratio, ratio-fits}
+use Rattle.cn_express.proofs.Ratios.{no-negated, percent-ratio, ratio-fits}
 use Rattle.cn_express.proofs.SignedTexts.{IsUnsigned, magnitude-fits, signed-read}
-use Rattle.cn_express.proofs.WrittenTexts.{IsText, IsText-append}
+use Rattle.cn_express.proofs.WrittenTexts.{IsText, IsText-append, not-mixed}
 use Rattle.cn_judge.proofs.Walking.{rows_have}
 use Rattle.cn_quantity.specs.declared.characters.DigitKind.TheVariants.{Figure}
 use Rattle.cn_quantity.specs.declared.quantity.Quantity.{Quantity}
 use Rattle.cn_quantity.specs.declared.quantity.QuantityForm.{QuantityForm}
 use Rattle.cn_quantity.specs.declared.quantity.QuantityForm.TheVariants.{Whole, Decimal, Percent, Fraction}
-use Rattle.cn_quantity.specs.Characters.{figure_of, figure_rows, is_comma, is_fen, is_percent, is_point, sign_of}
+use Rattle.cn_quantity.specs.Characters.{is_fen, is_point, share_of, sign_of}
 use Rattle.cn_quantity.specs.Digits.{after_digits, begins_with_digit, is_digit, leading_digits, read_on, read_with_units}
 use Rattle.cn_quantity.specs.Figures.{after_figures, after_groups, decimals_of, ends_in_figures, is_in_figures, may_lead_groups}
-use Rattle.cn_quantity.specs.Number.{decimal_of, number_answer}
+use Rattle.cn_quantity.specs.Number.{decimal_of, number_answer, or_shaped, shaped_number}
 use Rattle.cn_quantity.specs.Reading.{leading_sign, quantity_answer}
 use Rattle.cn_quantity.specs.Trimmed.{decimals_in, decimals_of as decimals_of_quantity}
+use Rattle.cn_quantity.specs.Misread.{first_misread, is_digit as is_digit_mark, is_liang}
 use Rattle.cn_quantity.specs.Units.{times_units}
+use Rattle.cn_quantity.specs.WholeNumber.{is_plain, whole_answer}
+use Rattle.cn_quantity.proofs.KnownDecimals.{over-is}
 use Rattle.cn_quantity.proofs.Numbers.{in-figures}
-use Rattle.cn_spell.proofs.Printed.{each_below, none_from_is_none}
+use Rattle.cn_quantity.proofs.Today.{digit-mark, marks-broken, whole-marks}
+use Rattle.cn_quantity.proofs.WholeNumbers.{whole-reader}
+use Rattle.cn_spell.proofs.Printed.{each_below, each_below-at, none_from_is_none}
 
 -- what each figure has
 figure-has : (test : ℕ → Bool) → list_all (list_all test) figure_rows ≡ true → (c value : ℕ)
@@ -50,7 +61,7 @@ figures-have : (test : ℕ → Bool) → list_all (list_all test) figure_rows �
 figures-have test all text figures = digits-all Figure test (figure-has test all) text figures
 
 figure-bare : (c value : ℕ) → figure_of c ≡ Some value → is_bare c ≡ true
-unfolding is_bare is_fen is_percent
+unfolding is_bare is_fen share_of
 figure-bare c value is = figure-has is_bare refl c value is
 
 figures-no_units : (text : List ℕ) → are_digits Figure text ≡ true → has_no_units text ≡ true
@@ -59,7 +70,7 @@ figures-no_units text figures = figures-have (λ c. is_none (rank_of c)) refl te
 
 figures-signless : (text : List ℕ) → are_digits Figure text ≡ true
     → list_all (λ c. is_none (sign_of c)) text ≡ true
-unfolding sign_of
+unfolding sign_of numeral_sign
 figures-signless text figures = figures-have (λ c. is_none (sign_of c)) refl text figures
 
 figures-no_sign : (text more : List ℕ) → are_digits Figure text ≡ true → 0 < length text
@@ -68,6 +79,84 @@ figures-no_sign [] more figures some = absurd (omega (arith, some))
 figures-no_sign (c ∷ rest) more figures some =
     none_from_is_none (sign_of c)
     (and-left (is_none (sign_of c)) _ (figures-signless (c ∷ rest) figures))
+
+-- a figure that is a digit of numerals, of the same value, as the full-width ones are not
+agree : Option ℕ → Option ℕ → Bool
+agree (Some v) (Some w) = v == w
+agree f d = false
+
+unfoldable is_same : ℕ → Bool
+is_same c = agree (figure_of c) (digit_of c)
+
+record IsSame (c : ℕ) : Type 0 where
+  value : ℕ
+  figure : figure_of c ≡ Some value
+  digit_is : digit_of c ≡ Some value
+
+same-is : (c : ℕ) → is_same c ≡ true → IsSame c
+unfolding is_same agree
+same-is c h = by (figure_of c) (digit_of c) refl refl h where
+  by : (f d : Option ℕ) → figure_of c ≡ f → digit_of c ≡ d → agree f d ≡ true → IsSame c
+  by (Some v) (Some w) e g h =
+      let same : v ≡ w = grind (arith, nat_tests, h) in
+      record { value = w; figure = e ∙ ap Some same; digit_is = g }
+  by None d e g h = cc
+  by (Some v) None e g h = cc
+
+same-plain : (text : List ℕ) → list_all is_same text ≡ true → is_plain text ≡ true
+same-plain [] h = refl
+same-plain (c ∷ rest) h =
+    let s = same-is c (and-left (is_same c) (list_all is_same rest) h) in
+    both (is_some (digit_of c)) (is_plain rest) (ap is_some s.digit_is)
+    (same-plain rest (and-right (is_same c) (list_all is_same rest) h))
+
+same-value : (number : ℕ) (text : List ℕ) → list_all is_same text ≡ true
+    → read_on Figure number text
+    ≡ fold (λ number mark. number * 10 + digit_value mark) number (marks_of text)
+same-value number [] h = refl
+same-value number (c ∷ rest) h =
+    let s = same-is c (and-left (is_same c) (list_all is_same rest) h) in
+    rw (s.figure, digit-mark c s.value s.digit_is)
+    (same-value (number * 10 + s.value) rest (and-right (is_same c) (list_all is_same rest) h))
+
+-- and none of them is misread
+same-digits : (text : List ℕ) → list_all is_same text ≡ true
+    → list_all is_digit_mark (marks_of text) ≡ true
+same-digits [] h = refl
+same-digits (c ∷ rest) h =
+    let s = same-is c (and-left (is_same c) (list_all is_same rest) h) in
+    both (is_digit_mark (mark_of c)) (list_all is_digit_mark (marks_of rest))
+    (rw (digit-mark c s.value s.digit_is) refl)
+    (same-digits rest (and-right (is_same c) (list_all is_same rest) h))
+
+same-no_liang : (text : List ℕ) → list_all is_same text ≡ true
+    → list_all (λ c. not (is_liang c)) text ≡ true
+same-no_liang [] h = refl
+same-no_liang (c ∷ rest) h =
+    let s = same-is c (and-left (is_same c) (list_all is_same rest) h) in
+    both (not (is_liang c)) (list_all (λ c. not (is_liang c)) rest)
+    (figure-has (λ c. not (is_liang c)) refl c s.value s.figure)
+    (same-no_liang rest (and-right (is_same c) (list_all is_same rest) h))
+
+same-clear : (text : List ℕ) → list_all is_same text ≡ true → first_misread text ≡ None
+same-clear text h = digits-not_misread text (same-digits text h) (same-no_liang text h)
+
+-- as a whole number they are read alike
+figures-answered : (method : ChineseCountMethod) (text : List ℕ) (number : ℕ)
+    → list_all is_same text ≡ true → whole_answer method text ≡ Ok number
+    → number ≡ read_on Figure 0 text
+figures-answered method text number figures h =
+    by (marks_of text) (rw (same-plain text figures) at
+    (sym (whole-reader method text (same-clear text figures)) ∙ h))
+    ∙ sym (same-value 0 text figures)
+  where
+    told : (f : Option Refusal) (value : ℕ) → refused_or f value ≡ Ok number → number ≡ value
+    told None value e = cc
+    told (Some refusal) value e = cc
+
+    by : (marks : List Mark) → naive_answer marks ≡ Ok number → number ≡ decimal_value marks
+    by [] e = cc
+    by (mark ∷ rest) e = told _ _ e
 
 -- the digits that are written
 figures_written : each_below (λ value. option_map_or (λ read. read == value)
@@ -83,6 +172,12 @@ record IsDecimal (number : ℕ) (text : List ℕ) : Type 0 where
   figures : are_digits Figure text ≡ true
   some : 0 < length text
   read : read_on Figure 0 text ≡ number
+  same : list_all is_same text ≡ true
+
+-- the digits that are written are
+same_written : each_below (λ value. is_same (figure_char value)) 10 ≡ true
+unfolding is_same agree figure_of digit_of
+same_written = refl
 
 IsDecimal-one : (number : ℕ) → number < 10 → IsDecimal number (figure_char number ∷ [])
 IsDecimal-one number low = record {
@@ -90,6 +185,8 @@ IsDecimal-one number low = record {
       (ap is_some (WritesDigits-figures number low)) refl;
   some = omega arith;
   read = read-digit Figure figure_char 0 number [] WritesDigits-figures low ∙ omega arith;
+  same = both (is_same (figure_char number)) true
+      (each_below-at (λ value. is_same (figure_char value)) 10 number same_written low) refl;
 }
 
 IsDecimal-more : (number : ℕ) (text : List ℕ) → 10 ≤ number → IsDecimal (number / 10) text
@@ -105,6 +202,8 @@ IsDecimal-more number text ten h =
           ∙ ap (λ n. read_on Figure n (figure_char (number % 10) ∷ [])) h.read
           ∙ read-digit Figure figure_char (number / 10) (number % 10) [] WritesDigits-figures low
           ∙ div-add-mod' number 10;
+      same = list_all-append is_same text (figure_char (number % 10) ∷ [])
+          ∙ both (list_all is_same text) _ h.same last.same;
     }
 
 IsDecimal-written : (number : ℕ) → number < 2 ^ 128 → IsDecimal number (decimal number)
@@ -119,6 +218,9 @@ record IsBehind (count number : ℕ) (text : List ℕ) : Type 0 where
   ends : ends_in_figures text ≡ true
   decimals : decimals_of text ≡ count
   read : read_on Figure (number / 10 ^ count) text ≡ number
+  whole : (method : ChineseCountMethod) (front : List ℕ) (n : ℕ) → list_all is_same front ≡ true
+      → whole_answer method (front ++ text) ≡ Ok n
+      → (count ≡ 0) × (n ≡ read_on Figure 0 (front ++ text))
 
 groups-none : (c : ℕ) (rest : List ℕ) → is_comma c ≡ false → after_groups (c ∷ rest) ≡ c ∷ rest
 groups-none c [] none = refl
@@ -133,15 +235,17 @@ record IsPoint (c : ℕ) : Type 0 where
   no_figure : figure_of c ≡ None
   no_comma : is_comma c ≡ false
   point : is_point Figure c ≡ true
+  no_mark : is_digit_or_unit (mark_of c) ≡ false
 
 IsPoint-ascii : IsPoint (slice_index (codes ".") 0)
-unfolding is_bare is_fen is_percent rank_of figure_of is_comma is_point
+unfolding is_bare is_fen share_of rank_of digit_of figure_of is_point
 IsPoint-ascii = record {
   bare = refl;
   no_unit = refl;
   no_figure = refl;
   no_comma = refl;
   point = refl;
+  no_mark = refl;
 }
 
 IsBehind-point : (count number c : ℕ) → 0 < count → IsPoint c
@@ -156,6 +260,9 @@ IsBehind-point count number c some p = record {
   read = ap (λ d. read_on Figure (option_map_or (λ digit. number / 10 ^ count * 10 + digit) d
       (number / 10 ^ count)) digits) p.no_figure
       ∙ last-read Figure figure_char count number WritesDigits-figures;
+  whole = λ method front n figures h.
+      let marks = whole-marks method (front ++ c ∷ digits) n h in
+      let broken = marks-broken front c digits p.no_mark in cc;
 } where
   digits : List ℕ
   digits = map figure_char (last_digits count number)
@@ -183,6 +290,9 @@ IsBehind-written zero number = record {
   ends = refl;
   decimals = refl;
   read = omega arith;
+  whole = λ method front n figures h.
+      let same = rw append-nil at h in
+      (refl, figures-answered method front n figures same ∙ ap (read_on Figure 0) (sym (append-nil front)));
 }
 IsBehind-written (suc count) number =
     IsBehind-point (suc count) number (slice_index (codes ".") 0) (omega arith) IsPoint-ascii
@@ -193,8 +303,7 @@ figures-number : (method : ChineseCountMethod) (count number : ℕ) (front behin
     → number_answer method (front ++ behind)
     ≡ Ok (record { number = number; decimals = count })
 figures-number method count number front behind f b small =
-    in-figures method (front ++ behind) is
-    ∙ ap₂ (λ decimals read. decimal_of decimals read) (ap decimals_of after ∙ b.decimals) read where
+    by (whole_answer method (front ++ behind)) refl where
       lead : (leading_digits Figure (front ++ behind) ≡ length front)
           × (after_digits Figure (front ++ behind) ≡ behind)
       lead = digits-lead Figure front behind f.figures b.no_digit
@@ -219,6 +328,19 @@ figures-number method count number front behind f b small =
           ∙ no-factors method number (front ++ behind)
           (list_all-append (λ c. is_none (rank_of c)) front behind
           ∙ both (has_no_units front) _ (figures-no_units front f.figures) b.no_units) small
+
+      by : (first : Result ℕ Refusal) → whole_answer method (front ++ behind) ≡ first
+          → or_shaped first (shaped_number method (front ++ behind))
+          ≡ Ok (record { number = number; decimals = count })
+      by (Err refusal) e =
+          in-figures method (front ++ behind) is
+          ∙ ap₂ (λ decimals read. decimal_of decimals read) (ap decimals_of after ∙ b.decimals) read
+      by (Ok n) e =
+          let alone = b.whole method front n f.same e in
+          let none = alone.0 in
+          let same : n ≡ number = alone.1 ∙ read_on-append Figure 0 front behind
+          ∙ ap (λ n. read_on Figure n behind) f.read ∙ b.read in
+          rw (same, none)
 
 IsNumberText-figures : (method : ChineseCountMethod) (count number : ℕ) → number < 2 ^ 128
     → (0 < length (figures_with count number))
@@ -247,13 +369,13 @@ sign-front : (text more : List ℕ) → 0 < length text
 sign-front [] more some = absurd (omega (arith, some))
 sign-front (c ∷ rest) more some = refl
 
-percent-is : (is_percent (slice_index (codes "%") 0) ≡ true)
+percent-is : (share_of (slice_index (codes "%") 0) ≡ Some 100)
     × (lacks is_fen (codes "%") ≡ true)
-unfolding is_percent is_fen
+unfolding share_of is_fen
 percent-is = (refl, refl)
 
 IsText-percent : IsText (codes "%")
-IsText-percent = record { scalars = refl; kept = refl }
+IsText-percent = record { scalars = refl; kept = refl; bare = refl }
 
 IsUnsigned-percent : (method : ChineseCountMethod) (number decimals denominator : ℕ)
     (text : List ℕ) → 0 < length text
@@ -263,15 +385,19 @@ IsUnsigned-percent : (method : ChineseCountMethod) (number decimals denominator 
     (record { numerator = number; denominator = denominator; form = Percent })
     (text ++ codes "%")
 IsUnsigned-percent method number decimals denominator text some n is small = record {
-  written = IsText-append text (codes "%") (bare-text text n.bare) IsText-percent;
+  written = text_is;
   no_sign = sign-front text (codes "%") some ∙ n.no_sign;
+  no_minus = no-negated (text ++ codes "%")
+      (lacks-append is_fen text (codes "%") (bare-no_fen text n.bare) (percent-is.1));
   read = percent-ratio method (record { number = number; decimals = decimals })
-      (slice_index (codes "%") 0) text
+      (slice_index (codes "%") 0) text (not-mixed method (text ++ codes "%") text_is)
       (lacks-append is_fen text (codes "%") (bare-no_fen text n.bare) (percent-is.1))
       (percent-is.0) some n.read
       ∙ ratio-fits 100 number decimals denominator Percent
       (over-is 100 denominator decimals is) small;
-}
+} where
+  text_is : IsText (text ++ codes "%")
+  text_is = IsText-append text (codes "%") (bare-text text n.bare) IsText-percent
 
 -- without its sign
 figures-by : (method : ChineseCountMethod) (form : QuantityForm)
@@ -294,11 +420,11 @@ figures-by method Fraction number denominator decimals is small fits = cc
 
 -- with it
 minus-is : sign_of (slice_index (codes "-") 0) ≡ Some Minus
-unfolding sign_of
+unfolding sign_of numeral_sign
 minus-is = refl
 
 IsText-minus : IsText (codes "-")
-IsText-minus = record { scalars = refl; kept = refl }
+IsText-minus = record { scalars = refl; kept = refl; bare = refl }
 
 figures-encoded : (method : ChineseCountMethod) (q : Quantity) (decimals : ℕ)
     → holds (signed_kind 128) q.numerator ≡ true → q.denominator < 2 ^ 128

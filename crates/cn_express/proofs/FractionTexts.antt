@@ -1,5 +1,5 @@
 -- A written fraction is read as that fraction.
-use Rattle.std.proofs.Common.{◌≡◌, ℕ, ◌*◌, ◌^◌, ◌<◌, ◌≤◌, pos, Bool, true, false, ◌&&◌, ◌||◌, ◌==◌, nat_le, nat_lt, is_none, List, [], ◌∷◌, ◌++◌, length, map, Option, Some, None, Ok, Err, refl, sym, ap, ◌∙◌, arith, if◌then◌else◌}
+use Rattle.std.proofs.Common.{◌≡◌, ℕ, ◌*◌, ◌^◌, ◌<◌, ◌≤◌, Bool, true, false, ◌&&◌, ◌||◌, ◌==◌, nat_le, nat_lt, is_none, List, [], ◌∷◌, ◌++◌, length, map, Option, Some, None, Ok, Err, refl, sym, ap, ◌∙◌, arith, if◌then◌else◌}
 use Rattle.std.specs.List.{list_all}
 use Rattle.std.specs.Option.{option_map_or}
 use Rattle.std.proofs.lemmas.Bool.Decides.{nat_tests}
@@ -7,18 +7,16 @@ use Rattle.cn_core.specs.declared.case.ChineseCase.{ChineseCase}
 use Rattle.cn_core.specs.declared.method.ChineseCountMethod.{ChineseCountMethod}
 use Rattle.cn_core.specs.declared.script.ChineseVariant.{ChineseVariant}
 use Rattle.cn_core.specs.declared.sign.Sign.{Sign}
-use Rattle.cn_core.specs.Characters.{rank_of, digit_char}
+use Rattle.cn_core.specs.Characters.{rank_of, digit_char, sign_of as numeral_sign}
 use Rattle.cn_core.specs.Mark.{Mark, digit, mark_of}
 use Rattle.cn_core.specs.Numeral.{is_digit_or_unit}
 use Rattle.cn_core.specs.Place.{some_unfit}
-use Rattle.cn_core.specs.Printing.{is_printable, mark_char}
+use Rattle.cn_core.specs.Printing.{mark_char}
 use Rattle.cn_core.specs.Refusal.{incorrect_at}
-use Rattle.cn_core.specs.Scale.{scale}
 use Rattle.cn_core.specs.Spelling.{spelling}
 use Rattle.cn_core.specs.Text.{marks_of}
 use Rattle.cn_core.specs.Value.{numeral_value, weight}
 use Rattle.cn_core.proofs.Fronts.{and-left, and-right, both}
-use Rattle.cn_core.proofs.ReadBack.{spelling-is_numeral}
 use Rattle.cn_express.specs.Numerals.{divisor_text, stand_alone, without_front}
 use Rattle.cn_express.proofs.DecimalTexts.{IsSpelled, IsSpelled-magnitude, part-whole, printed-marks}
 use Rattle.cn_express.proofs.SpelledNumbers.{mark_read}
@@ -29,7 +27,8 @@ use Rattle.cn_quantity.specs.Reading.{leading_sign}
 use Rattle.cn_quantity.specs.Units.{are_rising_units, times_units}
 use Rattle.cn_quantity.proofs.Today.{are_marks, first-mark, own, units-no_value, units-product}
 use Rattle.cn_spell.proofs.Printed.{IsReadBack, IsReadBack-marks, is_printed}
-use Rattle.cn_spell.proofs.SpelledMarks.{below_square, spelling-fits, spelling-printed}
+use Rattle.cn_spell.proofs.ReadByOther.{IsReadBy}
+use Rattle.cn_spell.proofs.SpelledMarks.{spelling-printed}
 
 -- what a written divisor is like
 pub record IsDivisorText (method : ChineseCountMethod) (divisor : ℕ)
@@ -52,24 +51,24 @@ IsDivisorText-spelled method divisor text s = record {
   filled = let size = ap length s.begins.parts in omega (arith, size)
 
 -- the scales of rising units behind 一 are the number
-units-number : (method : ChineseCountMethod) (divisor : ℕ) (text : List ℕ)
-    → divisor < 2 ^ 128 → divisor < scale method 15 * scale method 15
-    → spelling method divisor ≡ digit 1 ∷ marks_of text → are_rising_units text ≡ true
-    → times_units method 1 text ≡ Some divisor
-units-number method divisor text small square spelled rising =
-    let none = units-no_value method 1 text rising in
-    let value : numeral_value method (digit 1 ∷ marks_of text) ≡ divisor =
-    ap (numeral_value method) (sym spelled) ∙ (spelling-is_numeral method divisor square).1 in
-    let product : 1 * weight method (marks_of text) ≡ divisor = omega (arith, none, value) in
-    let fits : some_unfit method (marks_of text) ≡ false =
-    ap (some_unfit method) (sym spelled) ∙ spelling-fits method divisor small square in
-    units-product method 1 0 1 text rising (omega arith) fits (omega (arith, product, small))
+units-number : (write read : ChineseCountMethod) (divisor : ℕ) (text : List ℕ)
+    → divisor < 2 ^ 128 → IsReadBy write read divisor
+    → spelling write divisor ≡ digit 1 ∷ marks_of text → are_rising_units text ≡ true
+    → times_units read 1 text ≡ Some divisor
+units-number write read divisor text small is spelled rising =
+    let none = units-no_value read 1 text rising in
+    let value : numeral_value read (digit 1 ∷ marks_of text) ≡ divisor =
+    ap (numeral_value read) (sym spelled) ∙ is.value in
+    let product : 1 * weight read (marks_of text) ≡ divisor = omega (arith, none, value) in
+    let fits : some_unfit read (marks_of text) ≡ false =
+    ap (some_unfit read) (sym spelled) ∙ is.fits in
+    units-product read 1 0 1 text rising (omega arith) fits (omega (arith, product, small))
     ∙ ap Some product
 
 -- a unit below 兆 is no sign
 small-no_sign : (c rank : ℕ) → is_digit_or_unit (mark_of c) ≡ true → rank_of c ≡ Some rank
     → rank ≤ 5 → sign_of c ≡ None
-unfolding rank_of sign_of
+unfolding rank_of sign_of numeral_sign
 small-no_sign c rank marked is low = by (sign_of c) (ap (λ r. option_map_or (λ rank. nat_lt 5 rank)
     r true || is_none (sign_of c)) (sym is)
     ∙ own (λ c. option_map_or (λ rank. nat_lt 5 rank) (rank_of c) true || is_none (sign_of c)) c
@@ -97,20 +96,20 @@ alone-some [] alone = cc
 alone-some (c ∷ rest) alone = omega arith
 
 -- without its 一 the divisor is rising units
-IsDivisorText-alone : (variant : ChineseVariant) (case : ChineseCase) (method : ChineseCountMethod)
-    (divisor : ℕ) (marks : List Mark) → divisor < 2 ^ 128
-    → divisor < scale method 15 * scale method 15 → spelling method divisor ≡ digit 1 ∷ marks
+IsDivisorText-alone : (variant : ChineseVariant) (case : ChineseCase)
+    (write read : ChineseCountMethod) (divisor : ℕ) (marks : List Mark) → divisor < 2 ^ 128
+    → IsReadBy write read divisor → spelling write divisor ≡ digit 1 ∷ marks
     → list_all is_printed marks ≡ true
     → stand_alone (map (mark_char variant case) marks) ≡ true
-    → IsDivisorText method divisor (map (mark_char variant case) marks)
-IsDivisorText-alone variant case method divisor marks small square spelled printed alone = record {
+    → IsDivisorText read divisor (map (mark_char variant case) marks)
+IsDivisorText-alone variant case write read divisor marks small is spelled printed alone = record {
   marks = known;
   some = some;
   no_sign = λ more. alone-no_sign text more known alone;
-  read = ap (λ b. if b then decimal_of 0 (times_units method 1 text)
-      else number_answer method text) (both (nat_lt 0 (length text)) (are_rising_units text)
+  read = ap (λ b. if b then decimal_of 0 (times_units read 1 text)
+      else number_answer read text) (both (nat_lt 0 (length text)) (are_rising_units text)
       (grind (arith, nat_tests, some)) rising)
-      ∙ ap (decimal_of 0) (units-number method divisor text small square
+      ∙ ap (decimal_of 0) (units-number write read divisor text small is
       (spelled ∙ ap (λ l. digit 1 ∷ l) (sym back.marks_same)) rising);
 } where
   text : List ℕ
@@ -137,41 +136,39 @@ one-mark variant case mark printed same =
     grind (arith, nat_tests, same) in
     sym (mark_read variant case mark printed) ∙ ap mark_of e ∙ mark_read variant case (digit 1) refl
 
-divisor-by : (variant : ChineseVariant) (case : ChineseCase) (method : ChineseCountMethod)
+divisor-by : (variant : ChineseVariant) (case : ChineseCase) (write read : ChineseCountMethod)
     (divisor : ℕ) (marks : List Mark) → divisor < 2 ^ 128
-    → divisor < scale method 15 * scale method 15 → spelling method divisor ≡ marks
+    → IsReadBy write read divisor → spelling write divisor ≡ marks
     → list_all is_printed marks ≡ true
-    → IsSpelled method divisor (map (mark_char variant case) marks)
-    → IsDivisorText method divisor
+    → IsSpelled read divisor (map (mark_char variant case) marks)
+    → IsDivisorText read divisor
     (without_front (digit_char variant case 1) (map (mark_char variant case) marks))
-divisor-by variant case method divisor [] small square spelled printed s =
-    IsDivisorText-spelled method divisor [] s
-divisor-by variant case method divisor (mark ∷ rest) small square spelled printed s =
+divisor-by variant case write read divisor [] small is spelled printed s =
+    IsDivisorText-spelled read divisor [] s
+divisor-by variant case write read divisor (mark ∷ rest) small is spelled printed s =
     by (mark_char variant case mark == digit_char variant case 1)
     (stand_alone (map (mark_char variant case) rest)) refl refl where
       by : (one alone : Bool) → (mark_char variant case mark == digit_char variant case 1) ≡ one
           → stand_alone (map (mark_char variant case) rest) ≡ alone
-          → IsDivisorText method divisor (if one && alone then map (mark_char variant case) rest
+          → IsDivisorText read divisor (if one && alone then map (mark_char variant case) rest
           else map (mark_char variant case) (mark ∷ rest))
-      by false alone e f = IsDivisorText-spelled method divisor _ s
-      by true false e f = IsDivisorText-spelled method divisor _ s
+      by false alone e f = IsDivisorText-spelled read divisor _ s
+      by true false e f = IsDivisorText-spelled read divisor _ s
       by true true e f =
           let first = one-mark variant case mark
           (and-left (is_printed mark) (list_all is_printed rest) printed) e in
-          IsDivisorText-alone variant case method divisor rest small square
+          IsDivisorText-alone variant case write read divisor rest small is
           (spelled ∙ ap (λ m. m ∷ rest) first)
           (and-right (is_printed mark) (list_all is_printed rest) printed) f
 
 pub IsDivisorText-written : (variant : ChineseVariant) (case : ChineseCase)
-    (method : ChineseCountMethod) (divisor : ℕ) → divisor < 2 ^ 128
-    → is_printable method (pos divisor) ≡ true
-    → IsDivisorText method divisor (divisor_text variant case method divisor)
-IsDivisorText-written variant case method divisor small printable =
-    let square : divisor < scale method 15 * scale method 15 =
-    below_square method (pos divisor) small printable in
-    divisor-by variant case method divisor (spelling method divisor) small square refl
-    (spelling-printed method divisor square)
-    (IsSpelled-magnitude variant case method divisor small printable)
+    (write read : ChineseCountMethod) (divisor : ℕ) → divisor < 2 ^ 128
+    → IsReadBy write read divisor
+    → IsDivisorText read divisor (divisor_text variant case write divisor)
+IsDivisorText-written variant case write read divisor small is =
+    divisor-by variant case write read divisor (spelling write divisor) small is refl
+    (spelling-printed write divisor is.square)
+    (IsSpelled-magnitude variant case write read divisor small is)
 
 -- a divisor above 0 is answered
 pub divisor-answered : (method : ChineseCountMethod) (divisor : ℕ) (text : List ℕ) → 0 < divisor

@@ -1,12 +1,13 @@
 pub mod BareTexts
 pub mod Bytes
+pub mod ClearSpellings
+pub mod ClearTexts
 pub mod Cuts
 pub mod DecimalTexts
 pub mod DigitTexts
 mod Examples
 pub mod FiguresRead
 pub mod FractionTexts
-pub mod KnownDecimals
 pub mod KnownFigures
 pub mod LastFigures
 pub mod LastMarks

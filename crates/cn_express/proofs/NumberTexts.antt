@@ -1,10 +1,10 @@
 -- A text that is a number by itself is read as a whole number or a decimal.
 use Rattle.std.proofs.Common.{◌≡◌, ℕ, zero, suc, ◌^◌, ◌<◌, true, List, None, Some, Ok, refl, sym, ap, ◌∙◌, arith}
 use Rattle.cn_core.specs.declared.method.ChineseCountMethod.{ChineseCountMethod}
-use Rattle.cn_express.proofs.BareTexts.{are_bare, bare-no_fen, bare-no_percent, bare-text}
-use Rattle.cn_express.proofs.KnownDecimals.{decimal-is, whole-is}
-use Rattle.cn_express.proofs.Ratios.{number-ratio, ratio-fits}
+use Rattle.cn_express.proofs.BareTexts.{are_bare, bare-no_fen, bare-no_share, bare-text}
+use Rattle.cn_express.proofs.Ratios.{no-negated, number-ratio, ratio-fits}
 use Rattle.cn_express.proofs.SignedTexts.{IsUnsigned}
+use Rattle.cn_express.proofs.WrittenTexts.{not-mixed}
 use Rattle.cn_quantity.specs.declared.number.Decimal.{Decimal as DecimalNumber}
 use Rattle.cn_quantity.specs.declared.quantity.QuantityForm.{QuantityForm}
 use Rattle.cn_quantity.specs.declared.quantity.QuantityForm.TheVariants.{Whole, Decimal}
@@ -12,6 +12,7 @@ use Rattle.cn_quantity.specs.Number.{number_answer}
 use Rattle.cn_quantity.specs.Ratio.{form_of}
 use Rattle.cn_quantity.specs.Reading.{leading_sign}
 use Rattle.cn_quantity.specs.Trimmed.{decimals_in}
+use Rattle.cn_quantity.proofs.KnownDecimals.{decimal-is, whole-is}
 
 -- what a written number with decimals is like
 pub record IsNumberText (method : ChineseCountMethod) (decimal : DecimalNumber)
@@ -29,8 +30,9 @@ IsUnsigned-number : (method : ChineseCountMethod) (number decimals denominator :
 IsUnsigned-number method number decimals denominator form text n form_is is small = record {
   written = bare-text text n.bare;
   no_sign = n.no_sign;
+  no_minus = no-negated text (bare-no_fen text n.bare);
   read = number-ratio method (record { number = number; decimals = decimals }) text
-      (bare-no_fen text n.bare) (bare-no_percent text n.bare) n.read
+      (not-mixed method text (bare-text text n.bare)) (bare-no_fen text n.bare) (bare-no_share text n.bare) n.read
       ∙ ratio-fits 1 number decimals denominator (form_of decimals) (omega (arith, is)) small
       ∙ ap (λ form. Ok (record {
         numerator = number;

@@ -22,6 +22,7 @@ use Rattle.cn_core.proofs.Fronts.{and-left, and-right, both}
 use Rattle.cn_spell.specs.Prints.{PutsSpelled}
 use Rattle.cn_spell.proofs.Bounds.{marks-fit, most_bytes-le}
 use Rattle.cn_spell.proofs.Printed.{each_below, each_below-at, is_printed}
+use Rattle.cn_spell.proofs.ReadByOther.{IsReadBy-own}
 use Rattle.cn_spell.proofs.SpelledMarks.{below_square, spelling-printed}
 use Rattle.cn_spell.proofs.ThreeBytes.{length-encode_all}
 use Rattle.cn_express.specs.declared.room.Room.{Room}
@@ -89,7 +90,9 @@ spelled-bytes variant case method number bytes small puts =
     let text = magnitude_text variant case method number in
     let content : bytes ≡ encode_utf8_all text =
     puts.1.text ∙ ap encode_utf8_all (spelled-same variant case method number) in
-    let written = (IsSpelled-magnitude variant case method number small puts.0).written in
+    let own = IsReadBy-own method number small
+    (below_square method (pos number) small puts.0) in
+    let written = (IsSpelled-magnitude variant case method method number small own).written in
     let characters : chars bytes ≡ text =
     ap chars content ∙ chars-encodes text written.scalars in
     record {

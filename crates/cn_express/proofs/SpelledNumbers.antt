@@ -23,16 +23,19 @@ use Rattle.cn_core.proofs.Fronts.{and-left, both}
 use Rattle.cn_core.proofs.Judging.{Judges-judge, Judges-same}
 use Rattle.cn_core.proofs.Spellings.{short_spelling-by, spelled-by}
 use Rattle.cn_core.proofs.Sums.{spelled-digit}
+use Rattle.cn_core.specs.Figures.{figure_of}
 use Rattle.cn_express.proofs.DigitTexts.{WritesDigits-each}
 use Rattle.cn_express.proofs.LastMarks.{digit-as_mark, is_digit}
 use Rattle.cn_judge.proofs.Walking.{rows_have}
 use Rattle.cn_quantity.specs.declared.characters.DigitKind.TheVariants.{Chinese}
-use Rattle.cn_quantity.specs.Characters.{chinese_digit_of, figure_of, sign_of}
-use Rattle.cn_quantity.specs.Number.{is_plain, whole_answer}
+use Rattle.cn_quantity.specs.Characters.{chinese_digit_of, sign_of}
+use Rattle.cn_quantity.specs.Misread.{first_misread}
 use Rattle.cn_quantity.specs.Units.{are_rising}
+use Rattle.cn_quantity.specs.WholeNumber.{is_plain, reader_answer, whole_answer}
 use Rattle.cn_quantity.proofs.Today.{digit-no_unit, mark-sign}
+use Rattle.cn_quantity.proofs.WholeNumbers.{whole-reader}
 use Rattle.cn_spell.proofs.Printed.{IsReadBack-marks, each_below, is_printed, no_sign, none_from_is_none}
-use Rattle.cn_spell.proofs.SpelledMarks.{Judges-spelling}
+use Rattle.cn_spell.proofs.ReadByOther.{IsReadBy, Judges-read}
 
 -- plain digits are digits as marks
 plain-marks : (text : List ℕ) → is_plain text ≡ list_all is_digit (marks_of text)
@@ -68,40 +71,45 @@ one-digit number low =
     rw test (ap Ok same)
 
 -- it is judged its number
-judged : (method : ChineseCountMethod) (number : ℕ) → number < 2 ^ 128
-    → number < scale method 15 * scale method 15
-    → judge method (spelling method number) ≡ Ok number
-judged method number small square =
-    Judges-same method (spelling method number) (judge method (spelling method number))
-    (Ok number) (Judges-judge method (spelling method number))
-    (Judges-spelling method number small square)
+judged : (write read : ChineseCountMethod) (number : ℕ) → number < 2 ^ 128
+    → IsReadBy write read number → judge read (spelling write number) ≡ Ok number
+judged write read number small is =
+    Judges-same read (spelling write number) (judge read (spelling write number))
+    (Ok number) (Judges-judge read (spelling write number))
+    (Judges-read write read number small is)
 
 -- and read as a whole number, by units or as one digit
-pub spelled-whole : (method : ChineseCountMethod) (number : ℕ) (text : List ℕ) → number < 2 ^ 128
-    → number < scale method 15 * scale method 15 → marks_of text ≡ spelling method number
-    → whole_answer method text ≡ Ok number
-spelled-whole method number text small square same = by (dec_lt number 10) where
-  units : judge method (marks_of text) ≡ Ok number
-  units = ap (judge method) same ∙ judged method number small square
+spelled-read : (write read : ChineseCountMethod) (number : ℕ) (text : List ℕ)
+    → number < 2 ^ 128 → IsReadBy write read number → marks_of text ≡ spelling write number
+    → reader_answer read text ≡ Ok number
+spelled-read write read number text small is same = by (dec_lt number 10) where
+  units : judge read (marks_of text) ≡ Ok number
+  units = ap (judge read) same ∙ judged write read number small is
 
   digits : number < 10 → naive_answer (marks_of text) ≡ Ok number
   digits low =
-      ap naive_answer (same ∙ ap short_spelling (spelled-digit number method number low))
+      ap naive_answer (same ∙ ap short_spelling (spelled-digit number write number low))
       ∙ one-digit number low
 
   either : (b : Bool) → naive_answer (marks_of text) ≡ Ok number
-      → (if b then naive_answer (marks_of text) else judge method (marks_of text)) ≡ Ok number
+      → (if b then naive_answer (marks_of text) else judge read (marks_of text)) ≡ Ok number
   either true h = h
   either false h = units
 
-  by : Dec (number < 10) → whole_answer method text ≡ Ok number
+  by : Dec (number < 10) → reader_answer read text ≡ Ok number
   by (yes low) = either (is_plain text) (digits low)
   by (no high) =
       let none : is_plain text ≡ false =
       plain-marks text ∙ ap (list_all is_digit) same
-      ∙ spelling-unit method number (omega (arith, high)) square in
-      ap (λ b. if b then naive_answer (marks_of text) else judge method (marks_of text)) none
+      ∙ spelling-unit write number (omega (arith, high)) is.square in
+      ap (λ b. if b then naive_answer (marks_of text) else judge read (marks_of text)) none
       ∙ units
+
+pub spelled-whole : (write read : ChineseCountMethod) (number : ℕ) (text : List ℕ)
+    → number < 2 ^ 128 → IsReadBy write read number → marks_of text ≡ spelling write number
+    → first_misread text ≡ None → whole_answer read text ≡ Ok number
+spelled-whole write read number text small is same clear =
+    whole-reader read text clear ∙ spelled-read write read number text small is same
 
 -- each digit is written as a Chinese digit of its value
 pub digits_written : (variant : ChineseVariant) (case : ChineseCase)

@@ -1,5 +1,5 @@
 -- A quantity in numerals.
-use Rattle.std.specs.Prelude.{ℕ, ◌/◌, ◌^◌, ◌==◌, ℤ, pos, int_lt, nat_abs, nat_le, Bool, ◌&&◌, false, List, [], ◌∷◌, ◌++◌, map, codes, slice_index, if◌then◌else◌}
+use Rattle.std.specs.Prelude.{ℕ, ◌/◌, ◌^◌, ◌==◌, ℤ, pos, int_lt, nat_abs, nat_le, max, Bool, ◌&&◌, false, List, [], ◌∷◌, ◌++◌, map, codes, slice_index, if◌then◌else◌}
 use Rattle.std.specs.Option.{option_map_or}
 use Rattle.std.specs.List.{list_all}
 use Rattle.cn_core.specs.declared.case.ChineseCase.{ChineseCase}
@@ -84,6 +84,15 @@ abbrev pub spelled_numbers : Quantity → List ℕ
 spelled_numbers q =
     option_map_or (λ decimals. nat_abs q.numerator / 10 ^ decimals ∷ []) (decimals_of q)
     (q.denominator ∷ nat_abs q.numerator ∷ [])
+
+-- the greatest of some numbers, or 0
+abbrev pub greatest : List ℕ → ℕ
+greatest [] = 0
+greatest (number ∷ rest) = max number (greatest rest)
+
+-- the greatest number that is spelled in a quantity
+abbrev pub greatest_spelled : Quantity → ℕ
+greatest_spelled q = greatest (spelled_numbers q)
 
 -- the method writes each of them: by `Low` each is below 10^16
 abbrev pub is_written_by : ChineseCountMethod → Quantity → Bool

@@ -1,13 +1,17 @@
 //! What users may count on, as contracts of functions that do nothing.
-ghost use Rattle.std.specs.Prelude.{◌≡◌, ◌<◌, ◌^◌, IsSome, IsTrue, Ok};
+ghost use Rattle.std.specs.Prelude.{◌≡◌, ℕ, ◌<◌, ◌^◌, IsSome, IsTrue, Ok, false, pos};
 ghost use Rattle.cn_core.specs.declared.case.ChineseCase.{ChineseCase};
 ghost use Rattle.cn_core.specs.declared.method.ChineseCountMethod.{ChineseCountMethod};
+ghost use Rattle.cn_core.specs.declared.method.ChineseCountMethod.TheVariants.{Middle, TenThousand};
 ghost use Rattle.cn_core.specs.declared.script.ChineseVariant.{ChineseVariant};
+ghost use Rattle.cn_core.specs.Printing.{is_printable};
 ghost use Rattle.cn_core.specs.Whole.{holds, signed_kind};
 ghost use Rattle.cn_express.specs.Figures.{figures_text};
+ghost use Rattle.cn_express.specs.Numerals.{greatest_spelled, magnitude_text};
 ghost use Rattle.cn_express.specs.ReadBack.{form_read_back};
 ghost use Rattle.cn_express.specs.Writes.{IsWritten, numeral_bytes};
 ghost use Rattle.cn_quantity.specs.declared.quantity.Quantity.{Quantity};
+ghost use Rattle.cn_quantity.specs.Misread.{is_misread};
 ghost use Rattle.cn_quantity.specs.Reading.{quantity_answer};
 ghost use Rattle.cn_quantity.specs.Trimmed.{decimals_of, trimmed};
 
@@ -29,6 +33,22 @@ pub fn what_is_written_is_read_back()
         }) }
 {}
 
+/// What is written by `Middle`, where each number that is spelled is below 10^16, is read by
+/// `TenThousand` too, as what is read by `Middle`.
+///
+/// For whoever writes for readers on the mainland, where 10^12 is 一万亿, and reads whatever comes.
+pub fn middle_is_read_by_ten_thousand()
+    ensures { (variant : ChineseVariant) (case : ChineseCase) (q : Quantity)
+        → IsTrue (holds (signed_kind 128) q.numerator)
+        → 0 < q.denominator → q.denominator < 2 ^ 128 → greatest_spelled q < 10 ^ 16
+        → quantity_answer TenThousand (numeral_bytes variant case Middle q)
+        ≡ Ok (record {
+          numerator = q.numerator;
+          denominator = q.denominator;
+          form = form_read_back q;
+        }) }
+{}
+
 /// What is written in figures without a fraction's line is read back, by each method: as exactly
 /// the quantity that is written, which has no zeros at the end of its decimals.
 ///
@@ -39,4 +59,12 @@ pub fn figures_are_read_back()
         → IsTrue (holds (signed_kind 128) q.numerator) → q.denominator < 2 ^ 128
         → IsSome (decimals_of q)
         → quantity_answer method (figures_text q) ≡ Ok (trimmed q) }
+{}
+
+/// No spelling that is printed is misread, in any script and case and by any method. So each is read
+/// as a quantity of the number that was printed.
+pub fn no_spelling_is_misread()
+    ensures { (variant : ChineseVariant) (case : ChineseCase) (method : ChineseCountMethod)
+        (magnitude : ℕ) → magnitude < 2 ^ 128 → IsTrue (is_printable method (pos magnitude))
+        → is_misread (magnitude_text variant case method magnitude) ≡ false }
 {}

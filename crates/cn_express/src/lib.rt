@@ -13,4 +13,4 @@ mod room;
 
 pub use error::QuantityToChineseError;
 pub use figures::{MOST_FIGURES_BYTES, put_figures, quantity_to_figures};
-pub use numerals::{MOST_QUANTITY_BYTES, put_quantity, quantity_to_chinese};
+pub use numerals::{MOST_QUANTITY_BYTES, greatest_spelled, put_quantity, quantity_to_chinese};

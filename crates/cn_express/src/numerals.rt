@@ -4,7 +4,7 @@ ghost use Rattle.cn_core.specs.declared.method.ChineseCountMethod.{ChineseCountM
 ghost use Rattle.cn_core.specs.Characters.{digit_char};
 ghost use Rattle.cn_core.specs.Printing.{is_printable};
 ghost use Rattle.cn_core.specs.Text.{text_of};
-ghost use Rattle.cn_express.specs.Numerals.{decimal_text, divisor_text, fraction_text, hundredths, is_written_by, magnitude_text, point_char, quantity_text, sign_text, stand_alone, unsigned_text, without_front};
+ghost use Rattle.cn_express.specs.Numerals.{decimal_text, divisor_text, fraction_text, greatest_spelled, hundredths, is_written_by, magnitude_text, point_char, quantity_text, sign_text, stand_alone, unsigned_text, without_front};
 ghost use Rattle.cn_express.specs.Working.Room.{PutsCharacters, PutsIfWritten};
 ghost use Rattle.cn_express.specs.Working.Spelled.{IsSpelled};
 ghost use Rattle.cn_express.specs.Writes.{IsTooGreat, IsUnwritten, PutsQuantity, WritesQuantity};
@@ -210,6 +210,23 @@ fn put_at_end(
     put_unsigned(&mut text, style, quantity)?;
     put_sign(&mut text, style.variant, quantity.numerator);
     Ok(text.free)
+}
+
+/// The greatest number that is spelled where a quantity is written: the number in front of its point,
+/// or of a fraction the numerator without its sign or the denominator, whichever is greater.
+///
+/// ```text
+/// greatest_spelled(quantity) == 31 // for 314/10, which is 三十一点四
+/// greatest_spelled(quantity) == 7 // for -1/7, which is 负七分之一
+/// ```
+pub fn greatest_spelled(quantity: Quantity) -> u128
+    ensures { result ≡ greatest_spelled quantity }
+{
+    let magnitude = quantity.numerator.unsigned_abs();
+    match decimals_of(quantity) {
+        Some(decimals) => magnitude / 10_u128.pow(decimals as u32),
+        None => quantity.denominator.max(magnitude),
+    }
 }
 
 // Why the method does not write a quantity.

@@ -1,3 +1,4 @@
 pub mod Characters
 pub mod Decimal
+mod EitherExamples
 pub mod PlainTexts

@@ -1,6 +1,10 @@
--- What is read of a text that is plain digits or a numeral with units, whichever it is.
-use Rattle.std.specs.Prelude.{ℕ, List, if◌then◌else◌}
-use Rattle.chinese_number.specs.declared.ChineseCountMethod.TheVariants.{TenThousand}
+-- What is read of a text that is plain digits or a numeral with units, whichever it is, and how a number
+-- is written that is read so.
+use Rattle.std.specs.Prelude.{ℕ, ◌^◌, nat_lt, List, if◌then◌else◌}
+use Rattle.chinese_number.specs.declared.ChineseCountMethod.{ChineseCountMethod}
+use Rattle.chinese_number.specs.declared.ChineseCountMethod.TheVariants.{TenThousand, Middle}
+use Rattle.chinese_number.specs.declared.ChineseVariant.{ChineseVariant}
+use Rattle.chinese_number.specs.declared.ChineseVariant.TheVariants.{Traditional, Simple}
 use Rattle.chinese_number.specs.Number.{is_plain}
 use Rattle.chinese_number.specs.Parts.{unsigned_text}
 use Rattle.chinese_number.specs.Whole.{Kind}
@@ -11,3 +15,9 @@ use Rattle.cn_faces.specs.declared.way.Way.TheVariants.{Digits, Units}
 -- leading sign; else the standard method
 abbrev pub either_way : Kind → List ℕ → Way
 either_way kind text = if is_plain (unsigned_text kind text) then Digits else Units TenThousand
+
+-- the method by which a magnitude is written: in the simple script below 10^16 `Middle`, so that 10^12
+-- is 一万亿, and else the standard method
+abbrev pub written_method : ChineseVariant → ℕ → ChineseCountMethod
+written_method Simple magnitude = if nat_lt magnitude (10 ^ 16) then Middle else TenThousand
+written_method Traditional magnitude = TenThousand

@@ -1,16 +1,20 @@
-// Numerals that are read either way: as plain digits or with units, whichever they are.
+// Numerals that are read either way: as plain digits or with units, whichever they are; and how a number
+// is written that is read so.
 ghost use Rattle.std.specs.Prelude.{◌≡◌, ◌||◌, chars, is_some};
 ghost use Rattle.std.specs.Char.{is_whitespace};
 ghost use Rattle.std.specs.List.{list_all};
 ghost use Rattle.chinese_number.specs.Characters.{digit_of};
 ghost use Rattle.chinese_number.specs.Number.{is_plain};
 ghost use Rattle.chinese_number.specs.Text.{text_of};
-ghost use Rattle.cn_faces.specs.Either.{either_way};
+ghost use Rattle.cn_faces.specs.Either.{either_way, written_method};
 ghost use Rattle.cn_faces.specs.IntegerTypes.{the_kind};
 
 use crate::{IntegerType, Way};
-use chinese_number::{ChineseCountMethod, digit_of};
+use chinese_number::{ChineseCountMethod, ChineseVariant, digit_of};
 use cn_judge::split_sign;
+
+// From 10^16 on `Middle` has units of its own.
+const MIDDLE_LIMIT: u128 = 10_000_000_000_000_000;
 
 // Whether a character is a digit or white space.
 fn is_digit_or_white(c: char) -> bool
@@ -44,5 +48,16 @@ pub fn either_way(integer: IntegerType, text: &str) -> Way
         Way::Digits
     } else {
         Way::Units(ChineseCountMethod::TenThousand)
+    }
+}
+
+/// The method by which a magnitude is written that is read either way: `Middle` in the simple script
+/// below 10^16, where 10^12 is 一万亿, and else `TenThousand`, by which it is 一兆.
+pub fn written_method(script: ChineseVariant, magnitude: u128) -> ChineseCountMethod
+    ensures { result ≡ written_method script magnitude }
+{
+    match script {
+        ChineseVariant::Simple if magnitude < MIDDLE_LIMIT => ChineseCountMethod::Middle,
+        _ => ChineseCountMethod::TenThousand,
     }
 }

@@ -1,5 +1,5 @@
 //! What the faces of the library share: the integer types, the way in which a number is read or
-//! written, or read either way, a number by its sign and its magnitude, what decimal digits write, and
+//! written, or either way, a number by its sign and its magnitude, what decimal digits write, and
 //! bytes that are text.
 //!
 //! For the programs and the calls for C. Callers in Rattle use `chinese_number`.
@@ -11,7 +11,7 @@ mod read;
 mod utf8;
 mod way;
 
-pub use either::either_way;
+pub use either::{either_way, written_method};
 pub use integer_type::IntegerType;
 pub use read::{read_as, read_unsigned};
 pub use utf8::{are_common, are_utf8_at_all, utf8_text};

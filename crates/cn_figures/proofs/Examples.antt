@@ -6,6 +6,7 @@ use Rattle.cn_capitals.specs.declared.refusal.Refusal.TheVariants.{Unfinished, I
 use Rattle.cn_capitals.specs.Answers.{Answers}
 use Rattle.cn_capitals.specs.Machine.{Leads}
 use Rattle.cn_capitals.proofs.Reading.{unfinished-read, place-refused}
+use Rattle.cn_core.specs.Figures.{figure_of}
 use Rattle.cn_figures.specs.declared.part.Part.TheVariants.{Digit}
 use Rattle.cn_figures.specs.declared.progress.Progress.{Progress}
 use Rattle.cn_figures.specs.declared.state.State.TheVariants.{Beginning, Many, AfterComma, CommaThree, AfterPoint, Fen}
@@ -39,34 +40,34 @@ made text currency front triples places some short zeros is = (
 )
 
 pub yuan_alone : IsFigures (codes "0015") 1500
-unfolding part_of
+unfolding part_of figure_of
 yuan_alone = made (codes "0015") false (0 ∷ 0 ∷ 1 ∷ 5 ∷ []) [] [] (omega arith) (inl refl) refl refl
 
 one_place : IsFigures (codes "1409.5") 140950
-unfolding part_of
+unfolding part_of figure_of
 one_place = made (codes "1409.5") false (1 ∷ 4 ∷ 0 ∷ 9 ∷ []) [] (5 ∷ []) (omega arith) (inl refl) refl refl
 
 two_places : IsFigures (codes "1409.05") 140905
-unfolding part_of
+unfolding part_of figure_of
 two_places = made (codes "1409.05") false (1 ∷ 4 ∷ 0 ∷ 9 ∷ []) [] (0 ∷ 5 ∷ []) (omega arith) (inl refl) refl refl
 
 zeros_behind : IsFigures (codes "15.0600") 1506
-unfolding part_of
+unfolding part_of figure_of
 zeros_behind =
     made (codes "15.0600") false (1 ∷ 5 ∷ []) [] (0 ∷ 6 ∷ 0 ∷ 0 ∷ []) (omega arith) (inl refl) refl refl
 
 two_commas : IsFigures (codes "12,345,678.90") 1234567890
-unfolding part_of
+unfolding part_of figure_of
 two_commas =
     made (codes "12,345,678.90") false (1 ∷ 2 ∷ []) ((3, 4, 5) ∷ (6, 7, 8) ∷ []) (9 ∷ 0 ∷ []) (omega arith)
     (inr (omega arith)) refl refl
 
 with_currency : IsFigures (codes "¥15") 1500
-unfolding part_of
+unfolding part_of figure_of
 with_currency = made (codes "¥15") true (1 ∷ 5 ∷ []) [] [] (omega arith) (inl refl) refl refl
 
 full_width : IsFigures (codes "￥１，４０９．５0") 140950
-unfolding part_of
+unfolding part_of figure_of
 full_width =
     made (codes "￥１，４０９．５0") true (1 ∷ []) ((4, 0, 9) ∷ []) (5 ∷ 0 ∷ []) (omega arith) (inr (omega arith)) refl refl
 
@@ -76,11 +77,14 @@ with_minus = (true, 1500, (refl, yuan_alone), refl)
 printed_minus : WriteSignedAmount (codes "−¥15") (Some (neg_ℤ (pos 1500)))
 printed_minus = (true, 1500, (refl, with_currency), refl)
 
+full_width_minus : WriteSignedAmount (codes "－0015") (Some (neg_ℤ (pos 1500)))
+full_width_minus = (true, 1500, (refl, yuan_alone), refl)
+
 no_minus : WriteSignedAmount (codes "¥15") (Some (pos 1500))
 no_minus = (false, 1500, with_currency, refl)
 
 zero : IsFigures (codes "0.00") 0
-unfolding part_of
+unfolding part_of figure_of
 zero = made (codes "0.00") false (0 ∷ []) [] (0 ∷ 0 ∷ []) (omega arith) (inl refl) refl refl
 
 minus_zero : WriteSignedAmount (codes "-0.00") (Some (pos 0))
@@ -88,7 +92,7 @@ minus_zero = (true, 0, (refl, zero), refl)
 
 -- one yuan more than the greatest amount
 too_large : WriteAmount (codes "10000000000000000") None
-unfolding part_of
+unfolding part_of figure_of
 too_large = (
   1000000000000000000,
   made (codes "10000000000000000") false
@@ -107,11 +111,11 @@ nothing : Answers WriteAmount [] (Err Unfinished)
 nothing = unfinished [] (at Beginning (Some 0)) refl refl
 
 pub behind_point : Answers WriteAmount (codes "15.") (Err Unfinished)
-unfolding part_of
+unfolding part_of figure_of
 behind_point = unfinished (codes "15.") (at AfterPoint (Some 1500)) refl refl
 
 behind_comma : Answers WriteAmount (codes "15,") (Err Unfinished)
-unfolding part_of
+unfolding part_of figure_of
 behind_comma = unfinished (codes "15,") (at AfterComma (Some 1500)) refl refl
 
 -- what is wrong, behind a front that leads so far
@@ -123,21 +127,21 @@ incorrect front c place progress is leads none =
     refl is leads none
 
 comma_first : Answers WriteAmount (codes ",") (Err (Incorrect 0))
-unfolding part_of
+unfolding part_of figure_of
 comma_first = incorrect [] 44 0 (at Beginning (Some 0)) refl refl refl
 
 point_first : Answers WriteAmount (codes ".") (Err (Incorrect 0))
-unfolding part_of
+unfolding part_of figure_of
 point_first = incorrect [] 46 0 (at Beginning (Some 0)) refl refl refl
 
 long_triple : Answers WriteAmount (codes "1,2345") (Err (Incorrect 5))
-unfolding part_of
+unfolding part_of figure_of
 long_triple = incorrect (codes "1,234") 53 5 (at CommaThree (Some 123400)) refl refl refl
 
 long_front : Answers WriteAmount (codes "1234,") (Err (Incorrect 4))
-unfolding part_of
+unfolding part_of figure_of
 long_front = incorrect (codes "1234") 44 4 (at Many (Some 123400)) refl refl refl
 
 third_place : Answers WriteAmount (codes "15.005") (Err (Incorrect 5))
-unfolding part_of
+unfolding part_of figure_of
 third_place = incorrect (codes "15.00") 53 5 (at Fen (Some 1500)) refl refl refl

@@ -4,6 +4,7 @@ use Rattle.std.proofs.lemmas.List.{map-append}
 use Rattle.cn_capitals.specs.Answers.{Begins}
 use Rattle.cn_capitals.specs.Machine.{run, Leads, Reads, step_as}
 use Rattle.cn_capitals.proofs.Runs.{some-is, run-ran, run-behind, run-map, kept}
+use Rattle.cn_core.specs.Figures.{figure_of}
 use Rattle.cn_figures.specs.declared.part.Part.{Part}
 use Rattle.cn_figures.specs.declared.part.Part.TheVariants.{Digit}
 use Rattle.cn_figures.specs.declared.progress.Progress.{Progress}
@@ -104,7 +105,7 @@ completed-whole state fen ends = record {
 completed-by : (state next : State) (fen : Option ℕ)
     → advance (at state fen) (Digit 0) ≡ Some (at next (fen_with state fen (Digit 0)))
     → is_end next ≡ true → IsCompleted state fen
-unfolding part_of
+unfolding part_of figure_of
 completed-by state next fen step ends = record {
   behind = codes "0";
   parts = Digit 0 ∷ [];
@@ -115,7 +116,7 @@ completed-by state next fen step ends = record {
 }
 
 completed : (state : State) (fen : Option ℕ) → IsCompleted state fen
-unfolding part_of
+unfolding part_of figure_of
 completed AfterComma fen = record {
   behind = codes "000";
   parts = Digit 0 ∷ Digit 0 ∷ Digit 0 ∷ [];

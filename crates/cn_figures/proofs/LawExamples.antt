@@ -3,6 +3,7 @@
 use Rattle.std.proofs.Common.{◌-◌, ◌^◌, ◌<◌, inr, false, [], ◌∷◌, ◌++◌, Some, codes, refl, arith}
 use Rattle.cn_amount.specs.Places.{amount_limit}
 use Rattle.cn_capitals.specs.Machine.{Reads}
+use Rattle.cn_core.specs.Figures.{figure_of}
 use Rattle.cn_figures.specs.Figures.{IsFigures, WriteAmount}
 use Rattle.cn_figures.specs.Parts.{part_of}
 use Rattle.cn_figures.specs.Working.Steps.{figures_machine}
@@ -14,7 +15,7 @@ shown_amounts_are_read : 10 ^ 18 - 1 < amount_limit
 shown_amounts_are_read = omega arith
 
 figures : IsFigures (codes "1,409.50") 140950
-unfolding part_of
+unfolding part_of figure_of
 figures =
     made (codes "1,409.50") false (1 ∷ []) ((4, 0, 9) ∷ []) (5 ∷ 0 ∷ []) (omega arith) (inr (omega arith)) refl refl
 

@@ -12,6 +12,7 @@ use Rattle.std.proofs.lemmas.Str.Parse.{IsNumeralModel, IsDigitsTest, FoldsDigit
 use Rattle.cn_amount.specs.Places.{amount_limit}
 use Rattle.cn_capitals.proofs.Characters.{AllBelow, all-at}
 use Rattle.cn_core.proofs.Fronts.{and-left, and-right}
+use Rattle.cn_core.specs.Figures.{figure_of}
 use Rattle.cn_figures.specs.declared.part.Part.{Part}
 use Rattle.cn_figures.specs.declared.part.Part.TheVariants.{Digit, Point}
 use Rattle.cn_figures.specs.Figures.{value_after, value_of, IsFigures, ReadsFigures, figures_of}
@@ -40,7 +41,7 @@ model = numerals_by_fold AreDigits tells (λ number text. value_after number (di
 
 -- each is read as itself
 each-digit : AllBelow (λ digit. part_of (48 + digit) ≡ Some (Digit digit)) 10
-unfolding part_of
+unfolding part_of figure_of
 each-digit = (refl, (refl, (refl, (refl, (refl, (refl, (refl, (refl, (refl, (refl, tt))))))))))
 
 digit-part : (digit : ℕ) → digit < 10 → part_of (48 + digit) ≡ Some (Digit digit)
@@ -57,7 +58,7 @@ digits-parts (c ∷ text) h =
     (digits-parts text (and-right (is_ascii_digit c) _ h))
 
 point-part : part_of 46 ≡ Some Point
-unfolding part_of
+unfolding part_of figure_of
 point-part = refl
 
 -- so many fen, by the digits that are shown

@@ -7,12 +7,13 @@ use Rattle.cn_capitals.specs.declared.refusal.Refusal.{Refusal}
 use Rattle.cn_capitals.specs.declared.refusal.Refusal.TheVariants.{Unfinished as unfinished, Incorrect as incorrect_at}
 use Rattle.cn_capitals.specs.Answers.{Begins, Answers}
 use Rattle.cn_capitals.proofs.OneAnswer.{IsOneValue, each-answer, one-answer, one-value}
+use Rattle.cn_core.specs.Figures.{figure_of, is_figure_minus}
 use Rattle.cn_core.specs.Whole.{signed_number}
 use Rattle.cn_figures.specs.declared.error.FiguresError.{FiguresError}
 use Rattle.cn_figures.specs.declared.error.FiguresError.TheVariants.{Unfinished, Incorrect, TooLarge}
 use Rattle.cn_figures.specs.declared.part.Part.{Part}
 use Rattle.cn_figures.specs.Figures.{below, WriteAmount, WriteSignedAmount, answer_of}
-use Rattle.cn_figures.specs.Parts.{is_minus, part_of, parts_of}
+use Rattle.cn_figures.specs.Parts.{part_of, parts_of}
 use Rattle.cn_figures.specs.Working.Minus.{IsBare, IsBehindMinus}
 use Rattle.cn_figures.specs.Working.Steps.{figures_machine}
 use Rattle.cn_figures.proofs.FiguresRead.{figures-read}
@@ -33,15 +34,18 @@ answer_bare (Ok amount) = Ok (signed false amount)
 answer_bare (Err refusal) = Err refusal
 
 -- no figures begin with a minus
-no-part : (c : ℕ) → is_minus c ≡ true → part_of c ≡ None
-unfolding part_of
-no-part c minus = by (c == 45) refl where
-  by : (b : Bool) → (c == 45) ≡ b → part_of c ≡ None
-  by true is = let same : c ≡ 45 = grind (arith, nat_tests, is) in subst (λ c. part_of c ≡ None) (sym same) refl
-  by false is = let same : c ≡ 8722 = grind (arith, nat_tests, is, minus) in
+no-part : (c : ℕ) → is_figure_minus c ≡ true → part_of c ≡ None
+unfolding part_of figure_of
+no-part c minus = by (c == 45) (c == 8722) refl refl where
+  by : (a b : Bool) → (c == 45) ≡ a → (c == 8722) ≡ b → part_of c ≡ None
+  by true b is none = let same : c ≡ 45 = grind (arith, nat_tests, is) in
+      subst (λ c. part_of c ≡ None) (sym same) refl
+  by false true is one = let same : c ≡ 8722 = grind (arith, nat_tests, one) in
+      subst (λ c. part_of c ≡ None) (sym same) refl
+  by false false is none = let same : c ≡ 65293 = grind (arith, nat_tests, is, none, minus) in
       subst (λ c. part_of c ≡ None) (sym same) refl
 
-no-figures : (c : ℕ) (text : List ℕ) (amount : Option ℕ) → is_minus c ≡ true
+no-figures : (c : ℕ) (text : List ℕ) (amount : Option ℕ) → is_figure_minus c ≡ true
     → ¬ WriteAmount (c ∷ text) amount
 no-figures c text amount minus (fen, (parts, is, are), worth) = by parts is where
   by : (parts : List Part) → parts_of (c ∷ text) ≡ map Some parts → ⊥
@@ -51,24 +55,24 @@ no-figures c text amount minus (fen, (parts, is, are), worth) = by parts is wher
       let some : part_of c ≡ Some part = cc in absurd (cc)
 
 -- behind a minus
-minus-written : (c : ℕ) (text : List ℕ) (amount : Option ℕ) → is_minus c ≡ true
+minus-written : (c : ℕ) (text : List ℕ) (amount : Option ℕ) → is_figure_minus c ≡ true
     → WriteAmount text amount → WriteSignedAmount (c ∷ text) (signed true amount)
 minus-written c text amount minus (fen, is, worth) =
     (true, fen, (minus, is), ap (signed true) worth)
 
-minus-read : (c : ℕ) (text : List ℕ) (amount : Option ℤ) → is_minus c ≡ true
+minus-read : (c : ℕ) (text : List ℕ) (amount : Option ℤ) → is_figure_minus c ≡ true
     → WriteSignedAmount (c ∷ text) amount
     → (plain : Option ℕ) × WriteAmount text plain × (amount ≡ signed true plain)
 minus-read c text amount minus (true, fen, (_, is), worth) = (below fen, (fen, is, refl), worth)
 minus-read c text amount minus (false, fen, is, worth) =
     absurd (no-figures c text (below fen) minus (fen, is, refl))
 
-minus-begins : (c : ℕ) (text : List ℕ) → is_minus c ≡ true → Begins WriteAmount text
+minus-begins : (c : ℕ) (text : List ℕ) → is_figure_minus c ≡ true → Begins WriteAmount text
     → Begins WriteSignedAmount (c ∷ text)
 minus-begins c text minus (behind, amount, h) =
     (behind, signed true amount, minus-written c (text ++ behind) amount minus h)
 
-minus-begun : (c : ℕ) (text : List ℕ) → is_minus c ≡ true → Begins WriteSignedAmount (c ∷ text)
+minus-begun : (c : ℕ) (text : List ℕ) → is_figure_minus c ≡ true → Begins WriteSignedAmount (c ∷ text)
     → Begins WriteAmount text
 minus-begun c text minus (behind, amount, h) =
     let plain = minus-read c (text ++ behind) amount minus h in (behind, plain.0, plain.1)
@@ -77,7 +81,7 @@ take-more : (place : ℕ) (c : ℕ) (text : List ℕ) → take (place + 1) (c �
 take-more place c text = ap (λ count. take count (c ∷ text)) (add-one place)
 
 pub minus-answers : (c : ℕ) (text : List ℕ) (answer : Result (Option ℕ) Refusal)
-    → is_minus c ≡ true → Answers WriteAmount text answer
+    → is_figure_minus c ≡ true → Answers WriteAmount text answer
     → Answers WriteSignedAmount (c ∷ text) (answer_behind answer)
 minus-answers c text (Ok amount) minus h = minus-written c text amount minus h
 minus-answers c text (Err unfinished) minus h = (
@@ -106,7 +110,7 @@ bare-begins : (text : List ℕ) → Begins WriteAmount text → Begins WriteSign
 bare-begins text (behind, amount, h) =
     (behind, signed false amount, bare-written (text ++ behind) amount h)
 
-bare-begun : (c : ℕ) (text : List ℕ) → is_minus c ≡ false → Begins WriteSignedAmount (c ∷ text)
+bare-begun : (c : ℕ) (text : List ℕ) → is_figure_minus c ≡ false → Begins WriteSignedAmount (c ∷ text)
     → Begins WriteAmount (c ∷ text)
 bare-begun c text bare (behind, amount, h) =
     let plain = bare-read (c ∷ (text ++ behind)) amount bare h in (behind, plain.0, plain.1)
@@ -136,8 +140,8 @@ signed-value [] one two h k =
     let a = bare-read [] one tt h in
     let b = bare-read [] two tt k in
     a.2 ∙ ap (signed false) (plain-value [] a.0 b.0 a.1 b.1) ∙ sym b.2
-signed-value (c ∷ text) one two h k = by (is_minus c) refl where
-  by : (minus : Bool) → is_minus c ≡ minus → one ≡ two
+signed-value (c ∷ text) one two h k = by (is_figure_minus c) refl where
+  by : (minus : Bool) → is_figure_minus c ≡ minus → one ≡ two
   by true minus =
       let a = minus-read c text one minus h in
       let b = minus-read c text two minus k in
@@ -152,8 +156,8 @@ some-answer : (text : List ℕ)
 some-answer [] =
     let a = each-answer WriteAmount figures_machine figures-read [] in
     (answer_bare a.0, bare-answers [] a.0 tt a.1)
-some-answer (c ∷ text) = by (is_minus c) refl where
-  by : (minus : Bool) → is_minus c ≡ minus
+some-answer (c ∷ text) = by (is_figure_minus c) refl where
+  by : (minus : Bool) → is_figure_minus c ≡ minus
       → (answer : Result (Option ℤ) Refusal) × Answers WriteSignedAmount (c ∷ text) answer
   by true minus =
       let a = each-answer WriteAmount figures_machine figures-read text in

@@ -2,6 +2,7 @@
 use Rattle.std.specs.Prelude.{◌≡◌, ℕ, ℤ, ◌+◌, ◌*◌, ◌/◌, ◌%◌, ◌<◌, ◌≤◌, ◌==◌, ◌⊎◌, nat_lt, IsTrue, Bool, true, false, List, [], ◌∷◌, ◌++◌, length, map, drop, fold, Option, Some, None, option_map, Result, Ok, Err, codes, chars, decimal, if◌then◌else◌}
 use Rattle.std.specs.List.{list_all}
 use Rattle.cn_amount.specs.Places.{amount_limit}
+use Rattle.cn_core.specs.Figures.{is_figure_minus}
 use Rattle.cn_core.specs.Whole.{signed_number}
 use Rattle.cn_capitals.specs.declared.refusal.Refusal.{Refusal}
 use Rattle.cn_capitals.specs.declared.refusal.Refusal.TheVariants.{Unfinished as unfinished, Incorrect as incorrect_at}
@@ -10,7 +11,7 @@ use Rattle.cn_figures.specs.declared.error.FiguresError.{FiguresError}
 use Rattle.cn_figures.specs.declared.error.FiguresError.TheVariants.{Unfinished, Incorrect, TooLarge}
 use Rattle.cn_figures.specs.declared.part.Part.{Part}
 use Rattle.cn_figures.specs.declared.part.Part.TheVariants.{Currency, Digit, Comma, Point}
-use Rattle.cn_figures.specs.Parts.{parts_of, is_minus}
+use Rattle.cn_figures.specs.Parts.{parts_of}
 
 -- the number that digits write after those of another number
 abbrev pub value_after : ℕ → List ℕ → ℕ
@@ -72,7 +73,7 @@ IsFigures figures fen =
 abbrev pub IsSignedFigures : Bool → List ℕ → ℕ → Type 0
 IsSignedFigures false figures fen = IsFigures figures fen
 IsSignedFigures true [] fen = ⊥
-IsSignedFigures true (c ∷ figures) fen = IsTrue (is_minus c) × IsFigures figures fen
+IsSignedFigures true (c ∷ figures) fen = IsTrue (is_figure_minus c) × IsFigures figures fen
 
 -- an amount, and none from the limit on
 abbrev pub below : ℕ → Option ℕ

@@ -1,9 +1,21 @@
 //! What users can count on, each as the contract of a function that does nothing.
-ghost use Rattle.std.specs.Prelude.{◌≡◌, ℕ, ℤ, ◌<◌, List, Option, Result, Ok};
+ghost use Rattle.std.specs.Prelude.{◌≡◌, ◌↔◌, ℕ, ℤ, ◌<◌, List, Option, Result, Ok, IsTrue};
 ghost use Rattle.cn_amount.specs.Places.{amount_limit};
 ghost use Rattle.cn_capitals.specs.declared.refusal.Refusal.{Refusal};
 ghost use Rattle.cn_capitals.specs.Answers.{Answers};
+ghost use Rattle.cn_figures.specs.declared.error.FiguresError.{FiguresError as ReadingError};
 ghost use Rattle.cn_figures.specs.Figures.{WriteAmount, WriteSignedAmount, ReadsFigures, figures_of};
+
+use crate::FiguresError;
+
+/// Two errors are equal exactly where they are the same variant, with the same char_index where there
+/// is one.
+///
+/// For callers who compare errors: two that are incorrect at different characters are not equal.
+pub fn equal_errors_are_the_same_variant()
+    ensures { (a b : ReadingError)
+        → IsTrue (⟦<FiguresError as PartialEq>⟧.eq a b) ↔ (a ≡ b) }
+{}
 
 /// Figures have one answer and no more.
 pub fn figures_have_one_answer()

@@ -1,5 +1,7 @@
 ghost use Rattle.std.specs.Prelude.{◌≡◌};
-ghost use Rattle.cn_figures.specs.Parts.{part_of, is_minus};
+ghost use Rattle.cn_figures.specs.Parts.{part_of};
+
+use cn_core::{figure_of, is_comma, is_currency, is_figure_point};
 
 /// What a character of figures is.
 #[derive(Clone, Copy)]
@@ -19,27 +21,15 @@ pub enum Part {
 pub fn part_of(character: char) -> Option<Part>
     ensures { result ≡ part_of character }
 {
-    match character {
-        '¥' | '￥' => Some(Part::Currency),
-        '0' | '０' => Some(Part::Digit(0)),
-        '1' | '１' => Some(Part::Digit(1)),
-        '2' | '２' => Some(Part::Digit(2)),
-        '3' | '３' => Some(Part::Digit(3)),
-        '4' | '４' => Some(Part::Digit(4)),
-        '5' | '５' => Some(Part::Digit(5)),
-        '6' | '６' => Some(Part::Digit(6)),
-        '7' | '７' => Some(Part::Digit(7)),
-        '8' | '８' => Some(Part::Digit(8)),
-        '9' | '９' => Some(Part::Digit(9)),
-        ',' | '，' => Some(Part::Comma),
-        '.' | '．' => Some(Part::Point),
-        _ => None,
+    if is_currency(character) {
+        return Some(Part::Currency);
     }
-}
-
-/// Whether a character is a minus.
-pub fn is_minus(character: char) -> bool
-    ensures { result ≡ is_minus character }
-{
-    matches!(character, '-' | '−')
+    if is_comma(character) {
+        return Some(Part::Comma);
+    }
+    if is_figure_point(character) {
+        return Some(Part::Point);
+    }
+    let digit = figure_of(character)?;
+    Some(Part::Digit(digit))
 }

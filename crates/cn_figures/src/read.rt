@@ -5,10 +5,9 @@ ghost use Rattle.cn_figures.specs.Figures.{ReadsFigures, ReadsSignedFigures};
 ghost use Rattle.cn_figures.specs.Working.Minus.{IsBare, IsBehindMinus};
 
 use crate::error::FiguresError;
-use crate::part::is_minus;
 use crate::progress::Progress;
 use cn_capitals::{Refusal, read};
-use cn_core::split_first_char;
+use cn_core::{is_figure_minus, split_first_char};
 
 /// The amount that figures write, in fen. In front stands ¥ or not; then digits of the yuan, with a
 /// comma in front of each three of them from the last or with none; then nothing, or a point and
@@ -38,7 +37,7 @@ fn after_minus(figures: &str) -> Option<&str>
         (λ rest. IsBehindMinus (chars figures.now) (chars rest.now)) }
 {
     match split_first_char(figures) {
-        Some((first, rest)) if is_minus(first) => Some(rest),
+        Some((first, rest)) if is_figure_minus(first) => Some(rest),
         _ => None,
     }
 }
@@ -51,10 +50,11 @@ fn negated(fen: u64) -> i64
     -(fen as i64)
 }
 
-/// The same of figures with one `-` or `−` in front, which makes the amount negative, or with none.
+/// The same of figures with one `-`, `−` or `－` in front, which makes the amount negative, or with none.
 ///
 /// ```text
 /// signed_yuan_to_fen("-¥15") == Ok(-1_500)
+/// signed_yuan_to_fen("－15") == Ok(-1_500)
 /// signed_yuan_to_fen("15") == Ok(1_500)
 /// signed_yuan_to_fen("¥-15") == Err(FiguresError::Incorrect { char_index: 1 })
 /// ```

@@ -10,9 +10,10 @@ use Rattle.std.proofs.lemmas.Str.{chars-encodes, encodes-append, scalars-chars}
 use Rattle.cn_core.specs.Characters.{digit_of, rank, rank_of}
 use Rattle.cn_core.specs.Mark.{mark_from}
 use Rattle.cn_core.proofs.Fronts.{and-left, and-right}
+use Rattle.cn_core.specs.Figures.{is_wide_figure}
 use Rattle.cn_find.specs.declared.wanted.Wanted.{Wanted}
 use Rattle.cn_find.specs.Belongs.{belongs, is_chinese_digit, is_mega, is_numeral, is_parted, is_wanted, is_wanted_mark}
-use Rattle.cn_find.specs.Flags.{clings, goes_on, is_link, is_wide_digit, stands_alone}
+use Rattle.cn_find.specs.Flags.{clings, goes_on, is_link, stands_alone}
 use Rattle.cn_find.specs.Parting.{Meet, is_alone}
 use Rattle.cn_find.specs.Rule.{number_rule, is_joined}
 use Rattle.cn_find.specs.Runs.{IsRun, each_belongs, last_joined}
@@ -29,7 +30,7 @@ belongs-numeral wanted c after h = and-left (is_numeral wanted c after) _ h
 
 clings-digit : (c : ℕ) → is_some (digit_of c) ≡ true → clings c ≡ true
 unfolding clings
-clings-digit c e = by (is_ascii_alphanumeric c || is_wide_digit c) where
+clings-digit c e = by (is_ascii_alphanumeric c || is_wide_figure c) where
   by : (a : Bool) → (a || is_some (digit_of c) || char_set_contains (codes "_廿卅卌幺") c) ≡ true
   by true = refl
   by false = rw e

@@ -1,5 +1,5 @@
 -- The amount at one end of a text, as far as it is passed.
-use Rattle.std.proofs.Common.{◌≡◌, ℕ, ◌-◌, Bool, true, false, List, [], ◌∷◌, ◌++◌, length, take, drop, reverse, chars, encode_utf8, encode_utf8_all, IsUtf8, refl, sym, ap, ◌∙◌, arith, append_assoc, append-nil, length-append}
+use Rattle.std.proofs.Common.{◌≡◌, ℕ, ◌-◌, true, List, [], ◌∷◌, ◌++◌, length, take, drop, reverse, chars, encode_utf8_all, IsUtf8, refl, sym, ap, ◌∙◌, append_assoc, append-nil}
 use Rattle.std.proofs.Math.Seq.{take-append_seam, drop-append_seam}
 use Rattle.std.proofs.Math.Utf8.{scalar, scalars}
 use Rattle.std.proofs.lemmas.List.{reverse-append, reverse-reverse}

@@ -13,7 +13,7 @@ use Rattle.cn_core.specs.Text.{marks_of}
 use Rattle.cn_core.proofs.Fronts.{and-left, and-right, both}
 use Rattle.cn_core.proofs.OpenUnits.{digit_of-low}
 use Rattle.cn_find.specs.Belongs.{is_chinese_digit}
-use Rattle.cn_find.specs.Flags.{Pair, are_near, is_estimate, is_one_estimate, pair_at, pairs}
+use Rattle.cn_find.specs.Flags.{Pair, are_near, is_any_digit, is_estimate, is_one_estimate, pair_at, pairs}
 
 -- the pair is no estimate
 abbrev is_far : Pair → Bool
@@ -28,22 +28,30 @@ zero-far : (value next : ℕ) → value < 10 → separates_digits (digit value) 
     → are_near (Some value) (Some next) ≡ false
 zero-far value next low h = grind (arith, nat_tests)
 
+-- where there is a pair or none
+maybe-far : (b : Bool) (pair : Pair) → is_estimate pair ≡ false
+    → list_all is_far (if b then pair ∷ [] else []) ≡ true
+maybe-far true pair e = rw e
+maybe-far false pair e = refl
+
 pair-far : (c : ℕ) (others : List ℕ) → separates_digits (mark_of c) (marks_of others) ≡ true
     → list_all is_far (pair_at c others) ≡ true
 pair-far c [] h = refl
-pair-far c (next ∷ others) h = by (digit_of c) (digit_of next) refl refl h where
-  by : (d e : Option ℕ) → digit_of c ≡ d → digit_of next ≡ e
-      → separates_digits (mark_from d (rank_of c)) (mark_from e (rank_of next) ∷ marks_of others)
-      ≡ true → list_all is_far (pair_at c (next ∷ others)) ≡ true
-  by None e is_d is_e h = rw is_d
-  by (Some value) None is_d is_e h = rw (is_d, is_e)
-  by (Some value) (Some number) is_d is_e h =
-      let far : are_near (Some value) (Some number) ≡ false =
-      zero-far value number (digit_of-low c value is_d) h in
-      let none : is_estimate (record { first = c; second = next }) ≡ false =
-      ap (λ b. is_chinese_digit c && is_chinese_digit next && b) (rw (is_d, is_e) far)
-      ∙ and-false (is_chinese_digit c && is_chinese_digit next) in
-      rw (is_d, is_e) (ap (λ b. not b && true) none)
+pair-far c (next ∷ others) h =
+    maybe-far (is_any_digit c && is_any_digit next) (record { first = c; second = next })
+    (by (digit_of c) (digit_of next) refl refl h) where
+      by : (d e : Option ℕ) → digit_of c ≡ d → digit_of next ≡ e
+          → separates_digits (mark_from d (rank_of c)) (mark_from e (rank_of next) ∷ marks_of others)
+          ≡ true → is_estimate (record { first = c; second = next }) ≡ false
+      by None e is_d is_e h = rw is_d
+      by (Some value) None is_d is_e h =
+          ap (λ b. is_chinese_digit c && b && are_near (digit_of c) (digit_of next)) (rw is_e)
+          ∙ ap (λ b. b && are_near (digit_of c) (digit_of next)) (and-false (is_chinese_digit c))
+      by (Some value) (Some number) is_d is_e h =
+          let far : are_near (Some value) (Some number) ≡ false =
+          zero-far value number (digit_of-low c value is_d) h in
+          ap (λ b. is_chinese_digit c && is_chinese_digit next && b) (rw (is_d, is_e) far)
+          ∙ and-false (is_chinese_digit c && is_chinese_digit next)
 
 each-separates : (mark : Mark) (rest : List Mark) → may_precede mark rest ≡ true
     → separates_digits mark rest ≡ true
@@ -70,9 +78,10 @@ all-far (c ∷ others) h =
     (and-left (may_precede (mark_of c) (marks_of others)) _ h)))
     (all-far others (and-right (may_precede (mark_of c) (marks_of others)) _ h)))
 
-none-at : (c : ℕ) (others : List ℕ) → digit_of c ≡ None → pair_at c others ≡ []
-none-at c [] e = refl
-none-at c (next ∷ others) e = rw e
+no-pair-far : (c : ℕ) (others : List ℕ) → digit_of c ≡ None
+    → list_all is_far (pair_at c others) ≡ true
+no-pair-far c [] e = refl
+no-pair-far c (next ∷ others) e = maybe-far (is_any_digit c && is_any_digit next) _ (rw e)
 
 pub no-estimate : (text : List ℕ) → is_numeral (marks_of text) ≡ true
     → is_one_estimate (pairs text) ≡ false
@@ -90,6 +99,7 @@ no-estimate (c ∷ others) h = by (digit_of c) (rank_of c) refl refl h where
       and-right (starts_with_digit (first ∷ marks_of others)) _ h in
       one-far (pairs (c ∷ others)) (cut-far (char_set_contains (codes "点點") c)
       (pair_at c others ++ pairs others)
-      (ap (λ l. list_all is_far (l ++ pairs others)) (none-at c others is_d)
-      ∙ all-far others (and-right (may_precede first (marks_of others)) _ each)))
+      (list_all-append is_far (pair_at c others) (pairs others)
+      ∙ both _ _ (no-pair-far c others is_d)
+      (all-far others (and-right (may_precede first (marks_of others)) _ each))))
   by None None is_d is_r h = cc

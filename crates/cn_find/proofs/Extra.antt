@@ -5,10 +5,10 @@ use Rattle.std.specs.List.{list_all}
 use Rattle.std.proofs.lemmas.Bool.{not-true}
 use Rattle.std.proofs.Math.Bool.{and-false, and-true, or-false}
 use Rattle.cn_core.proofs.Fronts.{and-left, and-right}
+use Rattle.cn_core.specs.Figures.{is_figure, is_wide_figure}
 use Rattle.cn_find.specs.declared.wanted.Wanted.{Wanted}
 use Rattle.cn_find.specs.Belongs.{belongs, is_chinese_digit, is_parted}
-use Rattle.cn_find.specs.Expressions.{expression_rule, is_extra, is_figure, is_item, is_kilo, is_numeric, is_other_word, is_tens, is_weight, is_word_digit, joins, parts_expressions}
-use Rattle.cn_find.specs.Flags.{is_wide_digit}
+use Rattle.cn_find.specs.Expressions.{expression_rule, is_extra, is_item, is_kilo, is_numeric, is_other_word, is_tens, is_weight, is_word_digit, joins, parts_expressions}
 use Rattle.cn_find.specs.Rule.{number_rule, is_joined}
 use Rattle.cn_find.specs.Spans.{run_of, after_run, span_at, begun_at, spans_after, expressions, spans}
 use Rattle.cn_find.proofs.Unwanted.{outside}
@@ -20,13 +20,13 @@ neither false b e = (refl, e)
 
 pub record IsUsual (c : ℕ) : Type 0 where
   pub tens : is_tens c ≡ false
-  pub wide : is_wide_digit c ≡ false
+  pub wide : is_wide_figure c ≡ false
   pub joiner : char_set_contains (codes "点點.．,， 分之%％‰又下负負-−－¥￥两兩个個千仟") c ≡ false
 
 pub IsUsual-of : (c : ℕ) → is_extra c ≡ false → IsUsual c
 unfolding is_extra
 IsUsual-of c e =
-    let one = neither (is_tens c || is_wide_digit c) _ e in
+    let one = neither (is_tens c || is_wide_figure c) _ e in
     let two = neither (is_tens c) _ one.0 in
     record { tens = two.0; wide = two.1; joiner = one.1 }
 
@@ -49,7 +49,8 @@ usual-joins wanted front c after e = rw (
   no-joiner (codes " ") c refl e,
   no-joiner (codes "分") c refl e,
   no-joiner (codes "之") c refl e,
-  no-joiner (codes "%％‰") c refl e,
+  no-joiner (codes "%％") c refl e,
+  no-joiner (codes "‰") c refl e,
   no-joiner (codes "又") c refl e,
   no-joiner (codes "下") c refl e,
   no-joiner (codes "负負") c refl e,
@@ -71,7 +72,7 @@ pub usual-numeric : (wanted : Wanted) (c : ℕ) (after : List ℕ) → is_extra 
 unfolding is_numeric
 usual-numeric wanted c after e =
     let u = IsUsual-of c e in
-    ap (λ b. belongs wanted c after || (b || is_wide_digit c)) u.tens
+    ap (λ b. belongs wanted c after || (b || is_wide_figure c)) u.tens
     ∙ ap (λ b. belongs wanted c after || b) u.wide ∙ or-false (belongs wanted c after)
 
 -- so it belongs to an expression as to a number
@@ -96,7 +97,7 @@ usual-figure : (c : ℕ) → is_usual c ≡ true → is_figure c ≡ false
 usual-figure c e = not-true (is_figure c) (and-left (not (is_figure c)) (not (is_extra c)) e)
 
 usual-ascii : (c : ℕ) → is_usual c ≡ true → is_ascii_digit c ≡ false
-usual-ascii c e = (neither (is_ascii_digit c) (is_wide_digit c) (usual-figure c e)).0
+usual-ascii c e = (neither (is_ascii_digit c) (is_wide_figure c) (usual-figure c e)).0
 
 usual-apart : (c next : ℕ) → is_usual c ≡ true → is_usual next ≡ true
     → parts_expressions c next ≡ false
@@ -104,7 +105,8 @@ unfolding parts_expressions
 usual-apart c next e f = rw (
   usual-figure c e,
   usual-figure next f,
-  no-joiner (codes "%％‰") c refl (usual-extra c e),
+  no-joiner (codes "%％") c refl (usual-extra c e),
+  no-joiner (codes "‰") c refl (usual-extra c e),
 ) (or-false ((is_word_digit c && not (char_set_contains (codes "零〇") c)) && false)
     ∙ and-false (is_word_digit c && not (char_set_contains (codes "零〇") c)))
 

@@ -17,9 +17,10 @@ use Rattle.cn_core.specs.Refusal.{incorrect_at}
 use Rattle.cn_core.specs.Text.{marks_of, text_of}
 use Rattle.cn_core.specs.Whole.{holds, signed_kind, unsigned_kind}
 use Rattle.cn_core.proofs.Judging.{Judges-by_walk}
+use Rattle.cn_core.specs.Figures.{is_figure, tens_of}
 use Rattle.cn_find.specs.declared.wanted.Wanted.{Wanted}
 use Rattle.cn_find.specs.Belongs.{begins_measure, belongs, is_upper, is_wanted}
-use Rattle.cn_find.specs.Expressions.{begins_number, begins_word, binds_minus, follows_one, is_extra, is_numeric, is_tens, joins, parts_expressions, precedes_minus, is_figure, is_han, is_item, is_kilo, is_weight}
+use Rattle.cn_find.specs.Expressions.{begins_number, begins_word, binds_minus, follows_one, is_extra, is_numeric, is_tens, joins, parts_expressions, precedes_minus, is_han, is_item, is_kilo, is_weight}
 use Rattle.cn_find.specs.Flags.{is_one_character}
 use Rattle.cn_find.specs.Number.{IsAnswer}
 use Rattle.cn_find.specs.Parting.{Meet, is_named, is_of_measure}
@@ -76,7 +77,7 @@ searches_go_on_in_the_whole_text = (
 unnamed_characters_part_texts : IsUtf8 (bytes (codes "占12.5%"))
     × IsUtf8 (encode_utf8 10 ++ bytes (codes "共3.5万"))
     × (is_wanted everyday 10 ≡ false) × (is_named 10 ≡ false)
-unfolding encode_utf8 digit_of rank_of is_upper is_named is_han binds_minus is_extra is_tens
+unfolding encode_utf8 digit_of rank_of is_upper is_named is_han binds_minus is_extra is_tens tens_of
 unnamed_characters_part_texts =
     ((codes "占12.5%", (refl, refl)), (10 ∷ codes "共3.5万", (refl, refl)), refl, refl)
 
@@ -85,7 +86,7 @@ searches_for_expressions_go_on_in_the_whole_text : IsUtf8 (bytes (codes "1-2-3")
     × IsCharBoundary (bytes (codes "1-2-3")) 1
     × (expressions_left everyday (bytes (codes "1-2-3")) (drop 1 (bytes (codes "1-2-3")))
     ≡ found (codes "1-") (codes "2") (codes "-3") ∷ found (codes "1-2-") (codes "3") [] ∷ [])
-unfolding chars encode_utf8 digit_of rank_of belongs is_upper begins_measure is_numeric is_tens joins parts_expressions begins_word begins_number follows_one is_weight is_item is_kilo precedes_minus binds_minus
+unfolding chars encode_utf8 digit_of rank_of belongs is_upper begins_measure is_numeric is_tens tens_of joins parts_expressions begins_word begins_number follows_one is_weight is_item is_kilo precedes_minus binds_minus
 searches_for_expressions_go_on_in_the_whole_text = (
   (codes "1-2-3", (refl, refl)),
   IsCharBoundary-at_seam _ (bytes (codes "1")) (bytes (codes "-2-3")) refl
@@ -95,7 +96,7 @@ searches_for_expressions_go_on_in_the_whole_text = (
 
 expressions_of_numerals_are_numbers : IsTrue
     (list_all (λ c. not (is_figure c) && not (is_extra c)) (chars (bytes (codes "三百二十人"))))
-unfolding chars encode_utf8 is_extra is_tens
+unfolding chars encode_utf8 is_extra is_tens tens_of
 expressions_of_numerals_are_numbers = refl
 
 -- an ASCII digit and another one are two numbers

@@ -9,6 +9,7 @@ use Rattle.std.proofs.lemmas.List.{append-nil}
 use Rattle.std.proofs.lemmas.Str.{IsUtf8-drop, encodes-chars, length-encode, len_utf8_bounds}
 use lib.Utf8.{encode}
 use Rattle.cn_core.specs.Characters.{digit_of, rank_of, digit_rows, unit_rows, row_with}
+use Rattle.cn_core.specs.Figures.{is_figure, is_wide_figure}
 use Rattle.cn_core.specs.Mark.{digit, other, mark_of, mark_from}
 use Rattle.cn_core.specs.declared.unit.Unit.{Unit as NumeralUnit}
 use Rattle.cn_judge.specs.Marked.{marked}
@@ -21,7 +22,7 @@ use Rattle.cn_judge.proofs.Passing.{ascii-first}
 use Rattle.cn_judge.proofs.ThreeBytes.{bytes_by, encode-by}
 use Rattle.cn_judge.proofs.Walking.{outside-mark, rows_have}
 use Rattle.cn_find.specs.Belongs.{begins_with}
-use Rattle.cn_find.specs.Flags.{clings, is_no_figure, is_wide_digit}
+use Rattle.cn_find.specs.Flags.{clings}
 
 none-from : (x : Option ℕ) → not (is_some x) ≡ true → false ≡ is_some x
 none-from None e = refl
@@ -103,18 +104,18 @@ three-bytes text c whole three same = by (ltb c 128) refl where
   by false e = ltb-false c 128 e
 
 no-wide : (c : ℕ) (mark : ReadMark) → marked mark ≡ mark_of c → (mark ≡ Other → ⊥)
-    → is_wide_digit c ≡ false
-no-wide c mark same known = by (is_wide_digit c) refl where
-  by : (b : Bool) → is_wide_digit c ≡ b → b ≡ false
+    → is_wide_figure c ≡ false
+no-wide c mark same known = by (is_wide_figure c) refl where
+  by : (b : Bool) → is_wide_figure c ≡ b → b ≡ false
   by false e = refl
-  by true e = absurd (known (is-other mark (same ∙ outside-mark (λ d. not (is_wide_digit d)) c refl refl (ap not e)))) where
+  by true e = absurd (known (is-other mark (same ∙ outside-mark (λ d. not (is_wide_figure d)) c refl refl (ap not e)))) where
     is-other : (m : ReadMark) → marked m ≡ other → m ≡ Other
     is-other (Digit value) e = cc
     is-other (Unit which) e = cc
     is-other Other e = refl
 
 known_no_figure : (text : List ℕ) (c : ℕ) (mark : ReadMark) → IsUtf8 text → length text ≡ 3
-    → chars text ≡ c ∷ [] → marked mark ≡ mark_of c → (mark ≡ Other → ⊥) → is_no_figure c ≡ true
+    → chars text ≡ c ∷ [] → marked mark ≡ mark_of c → (mark ≡ Other → ⊥) → is_figure c ≡ false
 known_no_figure text c mark whole three same marks known =
     let large = three-bytes text c whole three same in
     let wide = no-wide c mark marks known in grind (arith, nat_tests, large, wide)
@@ -122,7 +123,7 @@ known_no_figure text c mark whole three same marks known =
 pub only-known : (text rest : List ℕ) (mark : ReadMark) → IsUtf8 text → length text ≡ 3
     → length rest + 3 ≡ length text → (mark ≡ Other → ⊥)
     → ((c : ℕ) × (chars text ≡ c ∷ chars rest) × (marked mark ≡ mark_of c) × (is_whitespace c ≡ false))
-    → (c : ℕ) × (chars text ≡ c ∷ []) × (marked mark ≡ mark_of c) × (is_no_figure c ≡ true)
+    → (c : ℕ) × (chars text ≡ c ∷ []) × (marked mark ≡ mark_of c) × (is_figure c ≡ false)
 only-known text rest mark whole three short known first =
     let alone : chars text ≡ first.0 ∷ [] =
     first.1 ∙ ap (λ l. first.0 ∷ l) (chars-from_empty rest (omega (arith, three, short))) in

@@ -5,11 +5,11 @@ use Rattle.std.specs.Char.{char_set_contains}
 use Rattle.std.proofs.lemmas.Bool.{or_from}
 use Rattle.std.proofs.Math.Bool.{and-false}
 use Rattle.cn_core.specs.Characters.{digit_of}
+use Rattle.cn_core.specs.Figures.{is_currency, is_figure, is_percent, is_share_sign, is_wide_figure}
 use Rattle.cn_core.specs.Mark.{mark_of}
 use Rattle.cn_find.specs.declared.wanted.Wanted.{Wanted}
 use Rattle.cn_find.specs.Belongs.{begins_with, belongs, is_chinese_digit, is_wanted}
-use Rattle.cn_find.specs.Expressions.{begins_bar, begins_below_zero, begins_counted, begins_decimals, begins_degrees, begins_figure, begins_fraction, begins_group, begins_han, begins_minutes, begins_multiplier, begins_number, begins_numeral, begins_numerator, begins_signed, begins_sum, begins_time, begins_wan, begins_wide, begins_word, binds_minus, ends_bound, ends_decimals, ends_denominator, ends_group, ends_head, ends_minus, ends_numeral, ends_power, ends_spaced, ends_verb, ends_word, ends_words, ends_zero, expression_rule, three_figures, follows_one, is_extra, is_figure, is_han, is_item, is_kilo, is_multiplier, is_numeric, is_other_word, is_tens, is_weight, joins, precedes_minus}
-use Rattle.cn_find.specs.Flags.{is_wide_digit}
+use Rattle.cn_find.specs.Expressions.{begins_bar, begins_below_zero, begins_counted, begins_decimals, begins_degrees, begins_figure, begins_fraction, begins_group, begins_han, begins_minutes, begins_multiplier, begins_number, begins_numeral, begins_numerator, begins_signed, begins_sum, begins_time, begins_wan, begins_wide, begins_word, binds_minus, ends_bound, ends_comma, ends_decimals, ends_denominator, ends_group, ends_head, ends_minus, ends_numeral, ends_power, ends_spaced, ends_verb, ends_word, ends_words, ends_zero, expression_rule, three_figures, follows_one, is_extra, is_han, is_item, is_kilo, is_multiplier, is_numeric, is_other_word, is_tens, is_weight, joins, precedes_minus}
 use Rattle.cn_find.specs.Parting.{is_named, is_of_measure}
 use Rattle.cn_find.proofs.Extra.{neither, is_joiner, IsUsual-of, no-joiner, usual_belongs, usual-numeric}
 use Rattle.cn_find.proofs.Parting.{Parts}
@@ -76,7 +76,7 @@ numeric-same : (wanted : Wanted) (d c : ℕ) (right xs : List ℕ) → IsUnnamed
     → is_numeric wanted d (xs ++ c ∷ right) ≡ is_numeric wanted d xs
 unfolding is_numeric
 numeric-same wanted d c right xs u =
-    ap (λ b. b || (is_tens d || is_wide_digit d)) (belongs-seen wanted d c right xs u)
+    ap (λ b. b || (is_tens d || is_wide_figure d)) (belongs-seen wanted d c right xs u)
 
 numeral-same : (wanted : Wanted) (c : ℕ) (right xs : List ℕ) → IsUnnamed wanted c
     → begins_numeral wanted (xs ++ c ∷ right) ≡ begins_numeral wanted xs
@@ -100,7 +100,7 @@ minutes-same wanted c right [] u =
     ap (λ b. b && begins_time right)
     (or_from (is_some (digit_of c)) _ u.digit (IsUsual-of c u.extra).wide)
 minutes-same wanted c right (x ∷ xs) u =
-    ap (λ b. (is_some (digit_of x) || is_wide_digit x) && b) (time-same wanted c right xs u)
+    ap (λ b. (is_some (digit_of x) || is_wide_figure x) && b) (time-same wanted c right xs u)
 
 end-same : (wanted : Wanted) (c : ℕ) (right xs : List ℕ) → IsUnnamed wanted c
     → ends_word (xs ++ c ∷ right) ≡ ends_word xs
@@ -151,9 +151,10 @@ multiplier-same wanted c right [] u =
     or_from (is_multiplier (mark_of c) && belongs wanted c right) _
     (ap (λ b. is_multiplier (mark_of c) && b) (unwanted wanted c right (IsUnseen-of wanted c u))
     ∙ and-false (is_multiplier (mark_of c)))
-    (no-joiner (codes "%％‰") c refl u.extra)
+    (or_from (is_percent c) _ (no-joiner (codes "%％") c refl u.extra)
+    (no-joiner (codes "‰") c refl u.extra))
 multiplier-same wanted c right (x ∷ xs) u =
-    ap (λ b. (is_multiplier (mark_of x) && b) || char_set_contains (codes "%％‰") x)
+    ap (λ b. (is_multiplier (mark_of x) && b) || is_share_sign x)
     (belongs-seen wanted x c right xs u)
 
 signed-same : (wanted : Wanted) (c : ℕ) (right xs : List ℕ) → IsUnnamed wanted c
@@ -207,7 +208,7 @@ sum-same : (wanted : Wanted) (c : ℕ) (right xs : List ℕ) → IsUnnamed wante
     → begins_sum (xs ++ c ∷ right) ≡ begins_sum xs
 sum-same wanted c right [] u = rw (u.figure, no-joiner (codes "¥￥") c refl u.extra)
 sum-same wanted c right (x ∷ xs) u =
-    ap (λ b. is_figure x || (char_set_contains (codes "¥￥") x && b)) (figure-same wanted c right xs u)
+    ap (λ b. is_figure x || (is_currency x && b)) (figure-same wanted c right xs u)
 
 wide-same : (wanted : Wanted) (c : ℕ) (right xs : List ℕ) → IsUnnamed wanted c
     → begins_wide (xs ++ c ∷ right) ≡ begins_wide xs
@@ -306,11 +307,15 @@ nearest-head wanted (suc most) c left (x ∷ front) u =
     ∙ ap (λ b. is_figure x && (begins_number x front || b))
     (nearest-head wanted most c left front u)
 
+nearest-comma : (wanted : Wanted) (c : ℕ) (left front : List ℕ) → IsUnnamed wanted c
+    → ends_comma (front ++ c ∷ left) ≡ ends_comma front
+nearest-comma wanted c left [] u = no-joiner (codes ",，") c refl u.extra
+nearest-comma wanted c left (x ∷ front) u = refl
+
 nearest-group : (wanted : Wanted) (c : ℕ) (left front : List ℕ) → IsUnnamed wanted c
     → ends_group (front ++ c ∷ left) ≡ ends_group front
 nearest-group wanted c left front u =
-    three-same (λ others. begins_with (codes ",，") others) c left front u.figure
-    (λ ys. nearest-mark wanted (codes ",，") c left ys refl u)
+    three-same ends_comma c left front u.figure (λ ys. nearest-comma wanted c left ys u)
 
 nearest-denominator : (wanted : Wanted) (c : ℕ) (left front : List ℕ) → IsUnnamed wanted c
     → ends_denominator wanted (front ++ c ∷ left) ≡ ends_denominator wanted front

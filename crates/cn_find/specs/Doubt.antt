@@ -1,6 +1,6 @@
 -- Why a reader may mean something else than the quantity of an expression. Of the characters before it
 -- the nearest is the first.
-use Rattle.std.specs.Prelude.{ℕ, suc, ◌+◌, Bool, true, false, not, ◌&&◌, ◌||◌, ◌==◌, nat_le, List, [], ◌∷◌, length, reverse, codes, chars, Option, Some, None, is_some, if◌then◌else◌}
+use Rattle.std.specs.Prelude.{ℕ, Bool, true, false, not, ◌&&◌, ◌||◌, nat_le, List, [], ◌∷◌, length, reverse, codes, chars, Option, Some, None, if◌then◌else◌}
 use Rattle.std.specs.Char.{char_set_contains}
 use Rattle.std.specs.List.{list_all}
 use Rattle.std.specs.Option.{option_map_or}
@@ -126,9 +126,9 @@ is_time front text after =
 abbrev pub doubt_of : List ℕ → List ℕ → List ℕ → Option Doubt
 doubt_of before text after =
     let front = reverse (chars before) in
-    if is_of_word front (chars text) (chars after) then Some Word
+    if is_part (chars text) (chars after) then Some Part
+    else (if is_of_word front (chars text) (chars after) then Some Word
     else (if is_doubtful_list front (chars text) (chars after) then Some Digits
     else (if is_term (chars text) (chars after) then Some Term
-    else (if is_part (chars text) (chars after) then Some Part
     else (if is_time front (chars text) (chars after) then Some Time
     else (if is_end_of_range before text after then Some Range else None)))))

@@ -1,25 +1,22 @@
 -- Which characters of a text belong to an expression: a number with its sign, its figures, its point
 -- and its units, a percent sign, or a fraction. Of the characters in front the nearest is the first.
 use Rattle.std.specs.Prelude.{ℕ, zero, suc, nat_le, Bool, false, not, ◌&&◌, ◌||◌, List, [], ◌∷◌, codes, is_some}
-use Rattle.std.specs.Char.{char_set_contains, is_ascii_alphabetic, is_ascii_digit}
+use Rattle.std.specs.Char.{char_set_contains, is_ascii_alphabetic}
 use Rattle.cn_core.specs.Characters.{digit_of}
+use Rattle.cn_core.specs.Figures.{is_comma, is_currency, is_figure, is_figure_minus, is_figure_point, is_share_sign, is_wide_figure, tens_of}
 use Rattle.cn_core.specs.Mark.{Mark, unit, mark_of}
 use Rattle.cn_find.specs.declared.wanted.Wanted.{Wanted}
 use Rattle.cn_find.specs.Belongs.{begins_with, belongs, is_chinese_digit, is_ge, is_wanted}
-use Rattle.cn_find.specs.Flags.{is_wide_digit}
+use Rattle.cn_find.specs.Flags.{is_any_digit}
 use Rattle.cn_find.specs.Rule.{Rule}
 
 -- 廿 or 卅
 unfoldable pub is_tens : ℕ → Bool
-is_tens c = char_set_contains (codes "廿卅") c
-
--- a figure: an ASCII digit or its full-width form
-abbrev pub is_figure : ℕ → Bool
-is_figure c = is_ascii_digit c || is_wide_digit c
+is_tens c = is_some (tens_of c)
 
 -- a numeral character: it belongs to a number, or is 廿, 卅 or a full-width figure
 unfoldable pub is_numeric : Wanted → ℕ → List ℕ → Bool
-is_numeric wanted c after = belongs wanted c after || (is_tens c || is_wide_digit c)
+is_numeric wanted c after = belongs wanted c after || (is_tens c || is_wide_figure c)
 
 -- the characters begin with a numeral character
 abbrev pub begins_numeral : Wanted → List ℕ → Bool
@@ -48,7 +45,7 @@ begins_time after = begins_with (codes "分刻十点點") after
 -- the characters begin with a digit of any kind, and a time follows it
 abbrev pub begins_minutes : List ℕ → Bool
 begins_minutes [] = false
-begins_minutes (c ∷ after) = (is_some (digit_of c) || is_wide_digit c) && begins_time after
+begins_minutes (c ∷ after) = is_any_digit c && begins_time after
 
 -- the character makes a word with 一 in front of it, as 起 does
 unfoldable pub follows_one : ℕ → Bool
@@ -121,7 +118,7 @@ ends_power wanted (c ∷ front) = is_wanted wanted c && is_power (mark_of c)
 abbrev pub ends_decimals : List ℕ → Bool
 ends_decimals [] = false
 ends_decimals (c ∷ front) =
-    (is_some (digit_of c) || is_wide_digit c)
+    is_any_digit c
     && (begins_with (codes "点點.．") front || ends_decimals front)
 
 -- 千 as a part of a measure, as in 30亿千瓦时
@@ -146,9 +143,14 @@ three_figures passes others = false
 abbrev pub begins_group : List ℕ → Bool
 begins_group after = three_figures (λ others. not (begins_figure others)) after
 
+-- the nearest character is a comma
+abbrev pub ends_comma : List ℕ → Bool
+ends_comma [] = false
+ends_comma (c ∷ front) = is_comma c
+
 -- the nearest characters are three figures, and a comma in front of them
 abbrev pub ends_group : List ℕ → Bool
-ends_group front = three_figures (λ others. begins_with (codes ",，") others) front
+ends_group front = three_figures ends_comma front
 
 -- a figure with these characters in front begins a number: it is no 0, and stands behind no figure,
 -- comma or point
@@ -172,7 +174,7 @@ parts_groups front after = (ends_head 3 front || ends_group front) && begins_gro
 abbrev pub begins_multiplier : Wanted → List ℕ → Bool
 begins_multiplier wanted [] = false
 begins_multiplier wanted (c ∷ after) =
-    (is_multiplier (mark_of c) && belongs wanted c after) || char_set_contains (codes "%％‰") c
+    (is_multiplier (mark_of c) && belongs wanted c after) || is_share_sign c
 
 -- the characters begin with a numeral character, or a minus sign and one
 abbrev pub begins_signed : Wanted → List ℕ → Bool
@@ -250,8 +252,7 @@ ends_bound (c ∷ front) = binds_minus c
 -- the characters begin with a figure, or a sign of money and one
 abbrev pub begins_sum : List ℕ → Bool
 begins_sum [] = false
-begins_sum (c ∷ after) =
-    is_figure c || (char_set_contains (codes "¥￥") c && begins_figure after)
+begins_sum (c ∷ after) = is_figure c || (is_currency c && begins_figure after)
 
 -- `-` may be a sign after these characters
 abbrev pub may_precede_minus : Wanted → List ℕ → Bool
@@ -260,20 +261,19 @@ may_precede_minus wanted front = not (ends_numeral wanted front) && not (ends_bo
 -- the nearest character is such a sign
 abbrev pub ends_minus : Wanted → List ℕ → Bool
 ends_minus wanted [] = false
-ends_minus wanted (c ∷ front) =
-    char_set_contains (codes "-−－") c && may_precede_minus wanted front
+ends_minus wanted (c ∷ front) = is_figure_minus c && may_precede_minus wanted front
 
 -- the characters begin with a full-width figure
 abbrev pub begins_wide : List ℕ → Bool
 begins_wide [] = false
-begins_wide (c ∷ others) = is_wide_digit c
+begins_wide (c ∷ others) = is_wide_figure c
 
 -- the character belongs to an expression by what stands around it
 unfoldable pub joins : Wanted → List ℕ → ℕ → List ℕ → Bool
 joins wanted front c after =
     (char_set_contains (codes "点點") c
     && (ends_words wanted front && begins_decimals wanted after))
-    || (char_set_contains (codes ".．") c && (begins_figure front && begins_figure after))
+    || (is_figure_point c && (begins_figure front && begins_figure after))
     || (char_set_contains (codes ",") c && parts_groups front after)
     || (char_set_contains (codes "，") c
     && (parts_groups front after && (begins_wide front && begins_wide after)))
@@ -283,8 +283,7 @@ joins wanted front c after =
     && (ends_numeral wanted front && begins_numerator wanted after))
     || (char_set_contains (codes "之") c
     && (ends_denominator wanted front && begins_signed wanted after))
-    || (char_set_contains (codes "%％‰") c
-    && (ends_numeral wanted front || ends_spaced front))
+    || (is_share_sign c && (ends_numeral wanted front || ends_spaced front))
     || (char_set_contains (codes "又") c
     && (ends_numeral wanted front && begins_fraction wanted after))
     || (char_set_contains (codes "下") c
@@ -292,15 +291,13 @@ joins wanted front c after =
     || (char_set_contains (codes "负負") c
     && (begins_numeral wanted after && (not (ends_numeral wanted front)
     && not (ends_verb front))))
-    || (char_set_contains (codes "-−－") c
-    && (begins_sum after && may_precede_minus wanted front))
-    || (char_set_contains (codes "¥￥") c
-    && (begins_figure after && ends_minus wanted front))
+    || (is_figure_minus c && (begins_sum after && may_precede_minus wanted front))
+    || (is_currency c && (begins_figure after && ends_minus wanted front))
 
 -- a character that expressions treat otherwise than numbers do
 unfoldable pub is_extra : ℕ → Bool
 is_extra c =
-    is_tens c || is_wide_digit c
+    is_tens c || is_wide_figure c
     || char_set_contains (codes "点點.．,， 分之%％‰又下负負-−－¥￥两兩个個千仟") c
 
 -- a digit that is no figure, or 廿 or 卅
@@ -308,12 +305,12 @@ abbrev pub is_word_digit : ℕ → Bool
 is_word_digit c = is_chinese_digit c || is_tens c
 
 -- two neighbours are of two expressions: the one is a figure and the other such a digit, but for 零 before
--- a figure; or the first is a percent sign
+-- a figure; or the first is a percent sign or ‰
 unfoldable pub parts_expressions : ℕ → ℕ → Bool
 parts_expressions c next =
     (is_figure c && is_word_digit next)
     || ((is_word_digit c && not (char_set_contains (codes "零〇") c)) && is_figure next)
-    || char_set_contains (codes "%％‰") c
+    || is_share_sign c
 
 -- the rule of expressions
 abbrev pub expression_rule : Wanted → Rule

@@ -1,23 +1,15 @@
 -- What is told of a number by what stands around it, and by its own characters.
 use Rattle.std.specs.Prelude.{ℕ, ◌+◌, nat_le, Bool, false, not, ◌&&◌, ◌||◌, ◌==◌, List, [], ◌∷◌, ◌++◌, reverse, codes, Option, Some, is_some, if◌then◌else◌}
-use Rattle.std.specs.Char.{char_set_contains, is_ascii_alphanumeric, is_ascii_digit}
-use Rattle.std.specs.Int.{is_in_range}
+use Rattle.std.specs.Char.{char_set_contains, is_ascii_alphanumeric}
 use Rattle.cn_core.specs.Characters.{digit_of, rank_of}
+use Rattle.cn_core.specs.Figures.{is_figure, is_wide_figure}
 use Rattle.cn_find.specs.Belongs.{begins_with, is_chinese_digit}
-
--- the character is a full-width digit
-abbrev pub is_wide_digit : ℕ → Bool
-is_wide_digit c = is_in_range 65296 65305 c
-
--- neither an ASCII nor a full-width digit
-abbrev pub is_no_figure : ℕ → Bool
-is_no_figure c = not (is_ascii_digit c) && not (is_wide_digit c)
 
 -- the character clings to a number that it touches: an ASCII letter, a digit of any kind, or one of
 -- these others
 unfoldable pub clings : ℕ → Bool
 clings c =
-    is_ascii_alphanumeric c || is_wide_digit c || is_some (digit_of c)
+    is_ascii_alphanumeric c || is_wide_figure c || is_some (digit_of c)
     || char_set_contains (codes "_廿卅卌幺") c
 
 -- the character links a number to what stands on its other side
@@ -48,13 +40,15 @@ pub record Pair : Type 0 where
   pub first : ℕ
   pub second : ℕ
 
--- the digits that stand side by side, where the character stands in front of the others
+-- a digit of any kind
+abbrev pub is_any_digit : ℕ → Bool
+is_any_digit c = is_some (digit_of c) || is_wide_figure c
+
+-- the character and the first of the others, if both are digits
 abbrev pub pair_at : ℕ → List ℕ → List Pair
 pair_at c [] = []
 pair_at c (next ∷ others) =
-    if is_some (digit_of c) && is_some (digit_of next)
-    then record { first = c; second = next } ∷ []
-    else []
+    if is_any_digit c && is_any_digit next then record { first = c; second = next } ∷ [] else []
 
 -- the digits that stand side by side, before the first Chinese point
 abbrev pub pairs : List ℕ → List Pair
@@ -94,7 +88,7 @@ is_about before text after =
     || begins_estimate after
     || is_one_estimate (pairs text)
 
--- one character, and no ASCII or full-width digit: a Chinese one, of a number
+-- one character, and no figure: a Chinese one, of a number
 abbrev pub is_one_character : List ℕ → Bool
-is_one_character (c ∷ []) = is_no_figure c
+is_one_character (c ∷ []) = not (is_figure c)
 is_one_character text = false

@@ -1,23 +1,22 @@
 -- Ranges whose ends share a unit or 百分之: 3~5万, 三到五百, 百分之三到五.
-use Rattle.std.specs.Prelude.{ℕ, suc, ◌+◌, ◌-◌, ◌/◌, nat_abs, Bool, true, false, not, ◌&&◌, ◌||◌, ◌==◌, nat_le, nat_lt, List, [], ◌∷◌, length, take, reverse, codes, chars, encode_utf8_all, Option, Some, None, is_some, Result, Ok, Err, if◌then◌else◌}
+use Rattle.std.specs.Prelude.{ℕ, ◌+◌, ◌/◌, nat_abs, Bool, true, false, not, ◌&&◌, ◌||◌, ◌==◌, nat_le, nat_lt, List, [], ◌∷◌, length, reverse, codes, chars, encode_utf8_all, Option, Some, Result, Ok, Err, if◌then◌else◌}
 use Rattle.std.specs.Char.{char_set_contains}
-use Rattle.std.specs.Option.{option_map_or}
 use Rattle.cn_core.specs.declared.method.ChineseCountMethod.TheVariants.{TenThousand}
-use Rattle.cn_core.specs.Characters.{digit_of, rank_of}
+use Rattle.cn_core.specs.Characters.{digit_of}
 use Rattle.cn_core.specs.Mark.{Mark, unit, mark_of}
 use Rattle.cn_core.specs.Refusal.{Refusal}
 use Rattle.cn_quantity.specs.declared.quantity.Quantity.{Quantity}
 use Rattle.cn_quantity.specs.declared.quantity.QuantityForm.{QuantityForm}
-use Rattle.cn_quantity.specs.declared.quantity.QuantityForm.TheVariants.{Whole, Decimal, Percent, Fraction}
+use Rattle.cn_quantity.specs.declared.quantity.QuantityForm.TheVariants.{Percent}
 use Rattle.cn_quantity.specs.Reading.{quantity_answer}
-use Rattle.cn_find.specs.Belongs.{begins_with, is_chinese_digit}
+use Rattle.cn_find.specs.Belongs.{is_chinese_digit}
 use Rattle.cn_find.specs.Expressions.{is_power, is_tens}
-use Rattle.cn_find.specs.Flags.{is_wide_digit}
+use Rattle.cn_find.specs.Flags.{is_any_digit}
 
 -- a character of a number, a percentage or a fraction without its sign
 unfoldable pub is_of_amount : ℕ → Bool
 is_of_amount c =
-    is_some (digit_of c) || is_wide_digit c || is_tens c || is_power (mark_of c)
+    is_any_digit c || is_tens c || is_power (mark_of c)
     || char_set_contains (codes "点點.．分之%％") c
 
 -- the characters with which a text begins that are such

@@ -1,5 +1,5 @@
 -- Words that begin with a number, or end with one, and mean none.
-use Rattle.std.specs.Prelude.{ℕ, Bool, true, false, not, ◌&&◌, ◌||◌, ◌==◌, List, [], ◌∷◌, codes}
+use Rattle.std.specs.Prelude.{ℕ, Bool, true, false, ◌&&◌, ◌||◌, ◌==◌, List, [], ◌∷◌, codes}
 use Rattle.std.specs.Char.{char_set_contains}
 use Rattle.cn_find.specs.Belongs.{begins_with}
 

@@ -241,6 +241,9 @@ fn is_time(before: &str, text: &str, after: &str) -> bool
 pub fn doubt_of(before: &str, text: &str, after: &str) -> Option<Doubt>
     ensures { result ≡ doubt_of before.now text.now after.now }
 {
+    if is_part(text, after) {
+        return Some(Doubt::Part);
+    }
     if is_of_word(before, text, after) {
         return Some(Doubt::Word);
     }
@@ -249,9 +252,6 @@ pub fn doubt_of(before: &str, text: &str, after: &str) -> Option<Doubt>
     }
     if is_term(text, after) {
         return Some(Doubt::Term);
-    }
-    if is_part(text, after) {
-        return Some(Doubt::Part);
     }
     if is_time(before, text, after) {
         return Some(Doubt::Time);

@@ -1,17 +1,19 @@
 // Whether a character of a text is one of an expression.
 ghost use Rattle.std.specs.Prelude.{◌≡◌, ◌<◌, ◌||◌, ◌∷◌, [], codes, chars, length, IfSome, MatchOption};
 ghost use Rattle.std.specs.Char.{char_set_contains};
+ghost use Rattle.cn_core.specs.Figures.{is_figure, is_wide_figure};
 ghost use Rattle.cn_core.specs.Mark.{mark_of};
 ghost use Rattle.cn_judge.specs.Marked.{marked};
 ghost use Rattle.cn_find.specs.Belongs.{begins_with, is_ge};
-ghost use Rattle.cn_find.specs.Expressions.{begins_bar, begins_below_zero, begins_counted, begins_decimals, begins_degrees, begins_figure, begins_fraction, begins_group, begins_han, begins_minutes, begins_multiplier, begins_number, begins_numeral, begins_numerator, begins_signed, begins_sum, begins_time, begins_wan, begins_wide, begins_word, binds_minus, ends_bound, ends_decimals, ends_denominator, ends_group, ends_head, ends_minus, ends_numeral, ends_power, ends_spaced, ends_verb, ends_word, ends_words, ends_zero, expression_rule, follows_one, is_extra, is_figure, is_han, is_item, is_kilo, is_multiplier, is_numeric, is_other_word, is_power, is_tens, is_weight, is_word_digit, joins, may_precede_minus, parts_expressions, parts_groups, precedes_minus};
-ghost use Rattle.cn_find.specs.Flags.{is_wide_digit};
+ghost use Rattle.cn_find.specs.Expressions.{begins_bar, begins_below_zero, begins_counted, begins_decimals, begins_degrees, begins_figure, begins_fraction, begins_group, begins_han, begins_minutes, begins_multiplier, begins_number, begins_numeral, begins_numerator, begins_signed, begins_sum, begins_time, begins_wan, begins_wide, begins_word, binds_minus, ends_bound, ends_comma, ends_decimals, ends_denominator, ends_group, ends_head, ends_minus, ends_numeral, ends_power, ends_spaced, ends_verb, ends_word, ends_words, ends_zero, expression_rule, follows_one, is_extra, is_han, is_item, is_kilo, is_multiplier, is_numeric, is_other_word, is_power, is_tens, is_weight, is_word_digit, joins, may_precede_minus, parts_expressions, parts_groups, precedes_minus};
 ghost use Rattle.cn_find.specs.Spans.{in_front};
 
 use crate::Wanted;
 use crate::belongs::{belongs, is_chinese_digit, is_up_to, is_wanted};
-use crate::flags::is_wide_digit;
-use cn_core::{Unit, digit_of, split_first_char};
+use cn_core::{
+    Unit, digit_of, is_comma, is_currency, is_figure, is_figure_minus, is_share_sign,
+    is_wide_figure, split_first_char,
+};
 use cn_judge::{Mark, mark_of, split_first_mark, split_last_char};
 
 /// The nearest character before a number, and what is before that.
@@ -24,24 +26,18 @@ pub fn split_nearest(before: &str) -> Option<(char, &str)>
     split_last_char(before)
 }
 
-#[tactic(auto, unfolding(crate::specs::Expressions::is_tens))]
+#[tactic(auto, unfolding(crate::specs::Expressions::is_tens, cn_core::specs::Figures::tens_of))]
 pub fn is_tens(c: char) -> bool
     ensures { result ≡ is_tens c }
 {
     matches!(c, '廿' | '卅')
 }
 
-fn is_figure(c: char) -> bool
-    ensures { result ≡ is_figure c }
-{
-    c.is_ascii_digit() || is_wide_digit(c)
-}
-
 // Whether a character is 廿, 卅 or a full-width figure.
 fn is_extra_numeral(c: char) -> bool
-    ensures { result ≡ (is_tens c || is_wide_digit c) }
+    ensures { result ≡ (is_tens c || is_wide_figure c) }
 {
-    is_tens(c) || is_wide_digit(c)
+    is_tens(c) || is_wide_figure(c)
 }
 
 // Whether a character with its mark is a numeral character, by what follows it.
@@ -110,7 +106,7 @@ fn begins_wide(after: &str) -> bool
     ensures { result ≡ begins_wide (chars after.now) }
 {
     match split_first_char(after) {
-        Some((c, _)) => is_wide_digit(c),
+        Some((c, _)) => is_wide_figure(c),
         None => false,
     }
 }
@@ -120,7 +116,7 @@ fn ends_wide(before: &str) -> bool
     ensures { result ≡ begins_wide (in_front before.now) }
 {
     match split_nearest(before) {
-        Some((c, _)) => is_wide_digit(c),
+        Some((c, _)) => is_wide_figure(c),
         None => false,
     }
 }
@@ -138,7 +134,7 @@ fn begins_minutes(after: &str) -> bool
     ensures { result ≡ begins_minutes (chars after.now) }
 {
     match split_first_char(after) {
-        Some((c, others)) => { (digit_of(c).is_some() || is_wide_digit(c)) && begins_time(others) }
+        Some((c, others)) => { (digit_of(c).is_some() || is_wide_figure(c)) && begins_time(others) }
         None => false,
     }
 }
@@ -206,10 +202,10 @@ fn begins_group(after: &str) -> bool
 }
 
 fn ends_comma(before: &str) -> bool
-    ensures { result ≡ begins_with (codes ",，") (in_front before.now) }
+    ensures { result ≡ ends_comma (in_front before.now) }
 {
     match split_nearest(before) {
-        Some((c, _)) => matches!(c, ',' | '，'),
+        Some((c, _)) => is_comma(c),
         None => false,
     }
 }
@@ -282,8 +278,7 @@ fn begins_multiplier(wanted: Wanted, after: &str) -> bool
 {
     match split_first_mark(after) {
         Some((c, mark, others)) => {
-            (is_multiplier(mark) && belongs(wanted, c, mark, others))
-                || matches!(c, '%' | '％' | '‰')
+            (is_multiplier(mark) && belongs(wanted, c, mark, others)) || is_share_sign(c)
         }
         None => false,
     }
@@ -436,7 +431,7 @@ fn begins_sum(after: &str) -> bool
     ensures { result ≡ begins_sum (chars after.now) }
 {
     match split_first_char(after) {
-        Some((c, others)) => is_figure(c) || (matches!(c, '¥' | '￥') && begins_figure(others)),
+        Some((c, others)) => is_figure(c) || (is_currency(c) && begins_figure(others)),
         None => false,
     }
 }
@@ -451,7 +446,7 @@ fn ends_minus(wanted: Wanted, before: &str) -> bool
     ensures { result ≡ ends_minus wanted (in_front before.now) }
 {
     match split_nearest(before) {
-        Some((c, front)) => matches!(c, '-' | '−' | '－') && may_precede_minus(wanted, front),
+        Some((c, front)) => is_figure_minus(c) && may_precede_minus(wanted, front),
         None => false,
     }
 }
@@ -567,7 +562,7 @@ fn ends_decimals(before: &str) -> bool
 {
     let mut rest = before;
     'passing: while let Some((c, front)) = split_nearest(rest) {
-        if digit_of(c).is_none() && !is_wide_digit(c) {
+        if digit_of(c).is_none() && !is_wide_figure(c) {
             return false;
         }
         if ends_point(front) {
@@ -611,7 +606,7 @@ fn is_extra(c: char) -> bool
     ensures { result ≡ is_extra c }
 {
     is_tens(c)
-        || is_wide_digit(c)
+        || is_wide_figure(c)
         || matches!(
             c,
             '点' | '點'
@@ -670,5 +665,5 @@ pub fn parts_expressions(c: char, next: char) -> bool
 {
     (is_figure(c) && is_word_digit(next))
         || (is_word_digit(c) && !matches!(c, '零' | '〇') && is_figure(next))
-        || matches!(c, '%' | '％' | '‰')
+        || is_share_sign(c)
 }

@@ -1,49 +1,25 @@
 // What is told of a number by what stands around it, and by its own characters. Whoever finds other
 // numbers than those of this crate tells the same of them.
-ghost use Rattle.std.specs.Prelude.{◌≡◌, ◌≢◌, ℕ, ◌<◌, ◌&&◌, ◌||◌, true, false, List, ◌∷◌, [], length, reverse, codes, chars, is_some, Some, MatchOption, IfSome, IfNone, IsTrue};
+ghost use Rattle.std.specs.Prelude.{◌≡◌, ◌≢◌, ℕ, ◌<◌, ◌&&◌, ◌||◌, not, true, false, List, ◌∷◌, [], length, reverse, codes, chars, is_some, Some, MatchOption, IfSome, IfNone, IsTrue};
 ghost use Rattle.std.specs.Char.{char_set_contains};
 ghost use Rattle.cn_core.specs.Characters.{digit_of, rank_of};
+ghost use Rattle.cn_core.specs.Figures.{is_figure};
 ghost use Rattle.cn_core.specs.Mark.{mark_of};
 ghost use Rattle.cn_judge.specs.Marked.{marked};
 ghost use Rattle.cn_find.specs.Belongs.{begins_with};
 ghost use Rattle.cn_find.specs.Number.{is_plain};
 ghost use Rattle.cn_find.specs.Private.{does_cling, does_link, estimates_last, estimates_next, is_quite};
-ghost use Rattle.cn_find.specs.Flags.{are_near, begins_estimate, begins_linked, begins_with_unit, clings, goes_on, is_about, is_estimate, is_link, is_no_figure, is_one_character, is_one_estimate, is_wide_digit, pairs, stands_alone};
+ghost use Rattle.cn_find.specs.Flags.{are_near, begins_estimate, begins_linked, begins_with_unit, clings, goes_on, is_about, is_any_digit, is_estimate, is_link, is_one_character, is_one_estimate, pairs, stands_alone};
 
-use cn_core::split_first_char;
+use crate::belongs::is_chinese_digit;
+use cn_core::{digit_of, is_figure, is_wide_figure, split_first_char};
 use cn_judge::{Mark, mark_of, split_end_mark, split_first_known, split_first_mark};
-
-/// Whether a character is a full-width digit.
-pub fn is_wide_digit(c: char) -> bool
-    ensures { result ≡ is_wide_digit c }
-{
-    matches!(c, '０'..='９')
-}
-
-// Whether a character is neither an ASCII nor a full-width digit.
-#[inline(always)]
-fn is_no_figure(c: char) -> bool
-    ensures { result ≡ is_no_figure c }
-{
-    !c.is_ascii_digit() && !is_wide_digit(c)
-}
 
 #[inline(always)]
 fn is_digit(mark: Mark) -> bool
     ensures { (c : ℕ) → marked mark ≡ mark_of c → result ≡ is_some (digit_of c) }
 {
     matches!(mark, Mark::Digit(_))
-}
-
-// The value of a digit, by its mark.
-#[inline(always)]
-fn value_of(mark: Mark) -> Option<u8>
-    ensures { (c : ℕ) → marked mark ≡ mark_of c → result ≡ digit_of c }
-{
-    match mark {
-        Mark::Digit(value) => Some(value),
-        _ => None,
-    }
 }
 
 #[inline(always)]
@@ -272,24 +248,29 @@ pub fn is_plain(text: &str) -> bool
     true
 }
 
-// Two digits that stand side by side with their values, and the text from the second of them on.
+// Whether a character with its mark is a digit of any kind.
+#[inline(always)]
+fn is_any_digit(c: char, mark: Mark) -> bool
+    requires { marked mark ≡ mark_of c }
+    ensures { result ≡ is_any_digit c }
+{
+    is_digit(mark) || is_wide_figure(c)
+}
+
+// Two digits that are side by side, and the text from the second of them on.
 #[derive(Copy, Clone)]
 struct DigitPair<'a> {
     first: char,
-    value: u8,
     second: char,
-    next_value: u8,
     rest: &'a str,
 }
 
-// The first two digits that stand side by side.
+// The first two digits that are side by side before a point.
 #[inline(always)]
 fn first_pair(text: &str) -> Option<DigitPair<'_>>
-    ensures pair { MatchOption result (pairs (chars text.now) ≡ [])
+    ensures { MatchOption result (pairs (chars text.now) ≡ [])
         (λ pair. pairs (chars text.now)
         ≡ record { first = pair.first; second = pair.second } ∷ pairs (chars pair.rest.now)) }
-    ensures value { IfSome result (λ pair. digit_of pair.first ≡ Some pair.value) }
-    ensures next_value { IfSome result (λ pair. digit_of pair.second ≡ Some pair.next_value) }
 {
     let mut rest = text;
     'looking: while let Some((first, mark, others)) = split_first_mark(rest) {
@@ -297,14 +278,12 @@ fn first_pair(text: &str) -> Option<DigitPair<'_>>
             return None;
         }
         rest = others;
-        if let Some(value) = value_of(mark) {
+        if is_any_digit(first, mark) {
             if let Some((second, next, _)) = split_first_mark(others) {
-                if let Some(next_value) = value_of(next) {
+                if is_any_digit(second, next) {
                     return Some(DigitPair {
                         first,
-                        value,
                         second,
-                        next_value,
                         rest: others,
                     });
                 }
@@ -314,23 +293,26 @@ fn first_pair(text: &str) -> Option<DigitPair<'_>>
     None
 }
 
-fn are_near(value: u8, next: u8) -> bool
-    ensures { result ≡ are_near (Some value) (Some next) }
+fn are_near(value: Option<u8>, next: Option<u8>) -> bool
+    ensures { result ≡ are_near value next }
 {
-    value >= 1 && (u32::from(next) == u32::from(value) + 1 || (value == 3 && next == 5))
+    match (value, next) {
+        (Some(value), Some(next)) => {
+            value >= 1 && (u32::from(next) == u32::from(value) + 1 || (value == 3 && next == 5))
+        }
+        _ => false,
+    }
 }
 
 // Whether these digits are said for about so many.
 #[inline(always)]
 fn is_estimate(pair: DigitPair<'_>) -> bool
-    requires value { digit_of pair.first ≡ Some pair.value }
-    requires next_value { digit_of pair.second ≡ Some pair.next_value }
     ensures { result
         ≡ is_estimate (record { first = pair.entry.first; second = pair.entry.second }) }
 {
-    !pair.first.is_ascii_digit()
-        && !pair.second.is_ascii_digit()
-        && are_near(pair.value, pair.next_value)
+    is_chinese_digit(pair.first)
+        && is_chinese_digit(pair.second)
+        && are_near(digit_of(pair.first), digit_of(pair.second))
 }
 
 // Whether two digits alone stand side by side, and are said for about so many.
@@ -373,7 +355,7 @@ pub fn is_about(before: &str, text: &str, after: &str) -> bool
 #[inline(always)]
 fn only_known(text: &str) -> Option<Mark>
     ensures { IfSome result (λ mark. (c : ℕ) × (chars text.now ≡ c ∷ []) × (marked mark ≡ mark_of c)
-        × (is_no_figure c ≡ true)) }
+        × (is_figure c ≡ false)) }
 {
     if text.len() != 3 {
         return None;
@@ -391,12 +373,12 @@ fn only_known(text: &str) -> Option<Mark>
 fn only_mark_slowly(text: &str) -> Option<(Mark, bool)>
     ensures { MatchOption result ((c : ℕ) → chars text.now ≢ c ∷ [])
         (λ r. (c : ℕ) × (chars text.now ≡ c ∷ []) × (marked r.0 ≡ mark_of c)
-        × (r.1 ≡ is_no_figure c)) }
+        × (r.1 ≡ not (is_figure c))) }
 {
     let (c, mark, others) = split_first_mark(text)?;
     match split_first_char(others) {
         Some(_) => None,
-        None => Some((mark, is_no_figure(c))),
+        None => Some((mark, !is_figure(c))),
     }
 }
 
@@ -409,7 +391,7 @@ fn only_mark_slowly(text: &str) -> Option<(Mark, bool)>
 fn only_mark(text: &str) -> Option<(Mark, bool)>
     ensures { MatchOption result ((c : ℕ) → chars text.now ≢ c ∷ [])
         (λ r. (c : ℕ) × (chars text.now ≡ c ∷ []) × (marked r.0 ≡ mark_of c)
-        × (r.1 ≡ is_no_figure c)) }
+        × (r.1 ≡ not (is_figure c))) }
 {
     if let Some(mark) = only_known(text) {
         return Some((mark, true));
@@ -417,7 +399,7 @@ fn only_mark(text: &str) -> Option<(Mark, bool)>
     let bytes = text.as_bytes();
     if bytes.len() == 1 {
         let c = bytes[0] as char;
-        return Some((mark_of(c), is_no_figure(c)));
+        return Some((mark_of(c), !is_figure(c)));
     }
     // No character takes more bytes,
     if bytes.len() > 4 {

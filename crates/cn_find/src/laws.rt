@@ -6,6 +6,7 @@ ghost use Rattle.cn_core.specs.declared.method.ChineseCountMethod.{ChineseCountM
 ghost use Rattle.cn_core.specs.declared.sign.Sign.TheVariants.{Plus};
 ghost use Rattle.cn_core.specs.declared.unit.Unit.TheVariants.{Zhao, Ji};
 ghost use Rattle.cn_core.specs.Characters.{sign_of};
+ghost use Rattle.cn_core.specs.Figures.{is_figure};
 ghost use Rattle.cn_core.specs.Mark.{Mark};
 ghost use Rattle.cn_core.specs.Naive.{decimal_value};
 ghost use Rattle.cn_core.specs.Numeral.{IsNumeral};
@@ -15,7 +16,7 @@ ghost use Rattle.cn_core.specs.Text.{marks_of, text_of};
 ghost use Rattle.cn_core.specs.Value.{numeral_value};
 ghost use Rattle.cn_core.specs.Whole.{Kind, holds};
 ghost use Rattle.cn_find.specs.Belongs.{is_mega, is_wanted};
-ghost use Rattle.cn_find.specs.Expressions.{is_extra, is_figure};
+ghost use Rattle.cn_find.specs.Expressions.{is_extra};
 ghost use Rattle.cn_find.specs.Flags.{is_one_character, is_one_estimate, pairs};
 ghost use Rattle.cn_find.specs.Number.{IsAnswer};
 ghost use Rattle.cn_find.specs.Parting.{Meet, is_alone, is_named, is_of_measure, with_text_after, with_text_before};

@@ -12,8 +12,7 @@ ghost use Rattle.cn_find.specs.Spans.{in_front};
 
 use crate::belongs::is_chinese_digit;
 use crate::expressions::{is_power, is_tens, split_nearest};
-use crate::flags::is_wide_digit;
-use cn_core::{ChineseCountMethod, digit_of, split_first_char};
+use cn_core::{ChineseCountMethod, digit_of, is_wide_figure, split_first_char};
 use cn_judge::{ChineseToNumberError, Mark, mark_of};
 use cn_quantity::{Quantity, QuantityForm, chinese_to_quantity};
 
@@ -23,7 +22,7 @@ fn is_of_amount(c: char) -> bool
     ensures { result ≡ is_of_amount c }
 {
     digit_of(c).is_some()
-        || is_wide_digit(c)
+        || is_wide_figure(c)
         || is_tens(c)
         || is_power(mark_of(c))
         || matches!(c, '点' | '點' | '.' | '．' | '分' | '之' | '%' | '％')

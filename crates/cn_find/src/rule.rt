@@ -1,13 +1,15 @@
-ghost use Rattle.std.specs.Prelude.{◌≡◌, chars};
+ghost use Rattle.std.specs.Prelude.{◌≡◌, Option, None, chars};
 ghost use Rattle.cn_core.specs.Mark.{mark_of};
 ghost use Rattle.cn_judge.specs.Marked.{marked};
+ghost use Rattle.cn_find.specs.declared.doubt.Doubt.{Doubt};
+ghost use Rattle.cn_find.specs.Doubt.{doubt_of};
 ghost use Rattle.cn_find.specs.Expressions.{expression_rule};
 ghost use Rattle.cn_find.specs.Rule.{Rule, number_rule};
-ghost use Rattle.cn_find.specs.Spans.{in_front};
+ghost use Rattle.cn_find.specs.Spans.{Span, in_front, span_of};
 
-use crate::Wanted;
 use crate::belongs::{belongs, is_parted};
 use crate::expressions::{is_of_expression, parts_expressions};
+use crate::{Doubt, Found, Wanted};
 use cn_judge::Mark;
 
 /// What a search goes by: which characters of a text belong to what is looked for.
@@ -23,6 +25,14 @@ pub trait SearchRule: Copy {
     /// Whether two neighbours are parted though both belong.
     fn is_parted(self, c: char, next: char) -> bool
         ensures { result ≡ (rule self).is_parted c next };
+
+    // Why a reader may mean something else than the value of what is found.
+    ghost doubt: { Span → Option Doubt };
+
+    /// Why a reader may mean something else than the value of what is found; `None` if nothing suggests
+    /// that.
+    fn doubt_of(found: Found<'_>) -> Option<Doubt>
+        ensures { result ≡ doubt (span_of found.entry) };
 }
 
 /// The rule of numbers.
@@ -44,6 +54,14 @@ impl SearchRule for NumberRule {
     fn is_parted(self, c: char, next: char) -> bool {
         is_parted(c, next)
     }
+
+    // No reason is sought for numbers.
+    ghost doubt = { λ span. None };
+
+    #[inline(always)]
+    fn doubt_of(found: Found<'_>) -> Option<Doubt> {
+        None
+    }
 }
 
 /// The rule of expressions.
@@ -63,5 +81,11 @@ impl SearchRule for QuantityRule {
     #[inline(always)]
     fn is_parted(self, c: char, next: char) -> bool {
         parts_expressions(c, next)
+    }
+
+    ghost doubt = { λ span. doubt_of span.before span.text span.after };
+
+    fn doubt_of(found: Found<'_>) -> Option<Doubt> {
+        found.doubt()
     }
 }

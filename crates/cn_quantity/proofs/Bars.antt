@@ -1,11 +1,11 @@
 -- A text, cut at its first 分之, and before a percent sign at its end.
-use Rattle.std.proofs.Common.{◌≡◌, ℕ, ◌+◌, ◌-◌, ◌<◌, true, false, ◌&&◌, nat_lt, List, [], ◌∷◌, ◌++◌, length, take, chars, refl, sym, ap, ◌∙◌, arith, append_assoc, append-nil, length-append}
+use Rattle.std.proofs.Common.{◌≡◌, ℕ, ◌+◌, ◌-◌, ◌<◌, true, false, ◌&&◌, nat_lt, List, [], ◌∷◌, ◌++◌, length, take, None, if◌then◌else◌, chars, refl, sym, ap, ◌∙◌, arith, append_assoc, append-nil, length-append}
 use Rattle.std.proofs.lemmas.Bool.Decides.{nat_tests}
 use Rattle.std.proofs.Math.Seq.{take-append_seam}
 use Rattle.std.proofs.lemmas.List.{append_cancel_right}
 use Rattle.cn_core.specs.Text.{text_of}
-use Rattle.cn_quantity.specs.Characters.{is_fen, is_zhi, is_percent}
-use Rattle.cn_quantity.specs.Ratio.{after_bar, before_bar, begins_with_zhi, ends_with_percent, is_percentage}
+use Rattle.cn_quantity.specs.Characters.{is_fen, is_zhi, share_of}
+use Rattle.cn_quantity.specs.Ratio.{after_bar, before_bar, begins_with_zhi, last_share, share}
 use Rattle.cn_quantity.specs.Private.{BeginsWith, IsEnd, SplitsAtBar}
 use Rattle.cn_quantity.proofs.Ends.{IsEnd-all, IsEnd-end, text-parts}
 
@@ -99,23 +99,23 @@ pub none-barred : (bytes rest : List ℕ) → IsBarSought bytes rest → text_of
 none-barred bytes rest s none = s.after ∙ ap after_bar none
 
 -- the last character
-percent-last : (c : ℕ) (xs : List ℕ) → ends_with_percent (xs ++ c ∷ []) ≡ is_percent c
-percent-last c [] = refl
-percent-last c (x ∷ []) = refl
-percent-last c (x ∷ y ∷ rest) = percent-last c (y ∷ rest)
+share-last : (c : ℕ) (xs : List ℕ) → last_share (xs ++ c ∷ []) ≡ share_of c
+share-last c [] = refl
+share-last c (x ∷ []) = refl
+share-last c (x ∷ y ∷ rest) = share-last c (y ∷ rest)
 
-pub percent-none : (c : ℕ) (text before : List ℕ) → text ≡ before ++ c ∷ [] → before ≡ []
-    → is_percentage text ≡ false
-percent-none c text before parts none = rw (parts, none)
+pub share-none : (c : ℕ) (text before : List ℕ) → text ≡ before ++ c ∷ [] → before ≡ []
+    → share text ≡ None
+share-none c text before parts none = rw (parts, none)
 
-pub percent-some : (c x : ℕ) (text before rest : List ℕ) → text ≡ before ++ c ∷ []
-    → before ≡ x ∷ rest → is_percentage text ≡ is_percent c
-percent-some c x text before rest parts some =
+pub share-some : (c x : ℕ) (text before rest : List ℕ) → text ≡ before ++ c ∷ []
+    → before ≡ x ∷ rest → share text ≡ share_of c
+share-some c x text before rest parts some =
     let size : 1 < length text =
     (let all = ap length parts in let front = ap length some in
     omega (arith, all, front, length-append before (c ∷ []))) in
     let test : nat_lt 1 (length text) ≡ true = grind (arith, nat_tests, size) in
-    ap (λ b. b && ends_with_percent text) test ∙ ap ends_with_percent parts ∙ percent-last c before
+    ap (λ b. if b then last_share text else None) test ∙ ap last_share parts ∙ share-last c before
 
 pub front-taken : (c : ℕ) (text before : List ℕ) → text ≡ before ++ c ∷ []
     → before ≡ take (length text - 1) text

@@ -1,8 +1,14 @@
 pub mod Bars
+pub mod DroppedZeros
 pub mod Ends
 mod Examples
+pub mod Groups
 pub mod Growing
+pub mod KnownDecimals
 mod LawExamples
+pub mod Misreads
+pub mod MixedTexts
+pub mod Negated
 pub mod Numbers
 pub mod Points
 pub mod Ratios
@@ -10,4 +16,5 @@ pub mod Signed
 pub mod Today
 pub mod Told
 pub mod Trims
+pub mod WholeNumbers
 pub mod WholeQuantities

@@ -1,14 +1,9 @@
 -- A whole number and a number, from what their parts are answered.
 use Rattle.std.proofs.Common.{◌≡◌, ℕ, suc, ◌+◌, ◌<◌, ◌≤◌, Bool, true, false, nat_lt, ◌&&◌, List, [], ◌∷◌, length, Option, Some, None, Result, Ok, Err, refl, sym, ap, ◌∙◌, arith, if◌then◌else◌}
-use Rattle.std.proofs.lemmas.List.{length-map}
 use Rattle.std.specs.Option.{option_map_or}
 use Rattle.cn_core.specs.declared.method.ChineseCountMethod.{ChineseCountMethod}
-use Rattle.cn_core.specs.Judging.{judge}
-use Rattle.cn_core.specs.Mark.{mark_of}
-use Rattle.cn_core.specs.Naive.{naive_answer}
-use Rattle.cn_core.specs.Refusal.{Refusal, empty, incorrect_at}
-use Rattle.cn_core.specs.Text.{text_of, marks_of}
-use Rattle.cn_core.proofs.Within.{judge-within, naive-within}
+use Rattle.cn_core.specs.Refusal.{Refusal, empty, incorrect_at, too_large, too_small}
+use Rattle.cn_core.specs.Text.{text_of}
 use Rattle.std.specs.Char.{is_whitespace}
 use Rattle.cn_judge.specs.Piece.{StandsAt, answer_at}
 use Rattle.cn_judge.proofs.Pieces.{char_index-at}
@@ -19,35 +14,13 @@ use Rattle.cn_quantity.specs.Characters.{is_point}
 use Rattle.cn_quantity.specs.Decimal.{after_point, before_point, decimals_behind_point, is_chinese_decimal}
 use Rattle.cn_quantity.specs.Digits.{read_with_units}
 use Rattle.cn_quantity.specs.Figures.{decimals_in_figures, is_in_figures}
-use Rattle.cn_quantity.specs.Number.{chinese_decimal_answer, decimal_of, divisor_answer, is_divisor, is_plain, number_answer, part_answer, short_tens, whole_answer, whole_number_answer}
+use Rattle.cn_quantity.specs.Number.{chinese_decimal_answer, decimal_of, divisor_answer, is_divisor, number_answer, or_shaped, part_answer, shaped_number, short_tens, whole_number_answer}
 use Rattle.cn_quantity.specs.Private.{SplitsAtPoint}
+use Rattle.cn_quantity.specs.Turns.{by_turns}
 use Rattle.cn_quantity.specs.Units.{are_rising_units, times_units}
+use Rattle.cn_quantity.specs.WholeNumber.{whole_answer}
+use Rattle.cn_quantity.proofs.WholeNumbers.{whole-low}
 use Rattle.cn_quantity.proofs.Told.{told-front, told-stops, told-goes_on}
-
--- a refusal of a whole number points into its text
-pub whole-low : (method : ChineseCountMethod) (text : List ℕ) (place : ℕ)
-    → whole_answer method text ≡ Err (incorrect_at place) → place < length text
-whole-low method text place h = by (is_plain text) h where
-  low : place < length (marks_of text) → place < length text
-  low h = let size = length-map text mark_of in omega (arith, h, size)
-
-  by : (b : Bool) → (if b then naive_answer (marks_of text) else judge method (marks_of text))
-      ≡ Err (incorrect_at place) → place < length text
-  by true e = low (naive-within (marks_of text) place e)
-  by false e = low (judge-within method (marks_of text) place e)
-
--- which whole number a text is
-pub whole-plain : (method : ChineseCountMethod) (skipped : ℕ) (bytes text : List ℕ)
-    (answer : Result ℕ Refusal) → is_plain text ≡ true
-    → answer ≡ answer_at skipped bytes (naive_answer (marks_of text))
-    → answer ≡ answer_at skipped bytes (whole_answer method text)
-whole-plain method skipped bytes text answer plain is = rw plain is
-
-pub whole-units : (method : ChineseCountMethod) (skipped : ℕ) (bytes text : List ℕ)
-    (answer : Result ℕ Refusal) → is_plain text ≡ false
-    → answer ≡ answer_at skipped bytes (judge method (marks_of text))
-    → answer ≡ answer_at skipped bytes (whole_answer method text)
-whole-units method skipped bytes text answer plain is = rw plain is
 
 -- a number that fits or not names no place
 pub decimal-told : (skipped : ℕ) (bytes : List ℕ) (decimals : ℕ) (number : Option ℕ)
@@ -70,19 +43,24 @@ first-refused (Err refusal) decimals next place h = cc
 
 -- which number a text is
 pub in-figures : (method : ChineseCountMethod) (text : List ℕ) → is_in_figures text ≡ true
-    → number_answer method text
+    → shaped_number method text
     ≡ decimal_of (decimals_in_figures text) (read_with_units method Figure 0 text)
 in-figures method text e = rw e
 
+pub a-turned : (method : ChineseCountMethod) (text : List ℕ) (number : ℕ)
+    → is_in_figures text ≡ false → by_turns method text ≡ Some number
+    → shaped_number method text ≡ decimal_of 0 (Some number)
+a-turned method text number e t = rw (e, t)
+
 pub a-decimal : (method : ChineseCountMethod) (text : List ℕ) → is_in_figures text ≡ false
-    → is_chinese_decimal text ≡ true
-    → number_answer method text ≡ chinese_decimal_answer method text
-a-decimal method text e f = rw (e, f)
+    → by_turns method text ≡ None → is_chinese_decimal text ≡ true
+    → shaped_number method text ≡ chinese_decimal_answer method text
+a-decimal method text e t f = rw (e, t, f)
 
 pub a-whole : (method : ChineseCountMethod) (text : List ℕ) → is_in_figures text ≡ false
-    → is_chinese_decimal text ≡ false
-    → number_answer method text ≡ whole_number_answer method text
-a-whole method text e f = rw (e, f)
+    → by_turns method text ≡ None → is_chinese_decimal text ≡ false
+    → shaped_number method text ≡ whole_number_answer method text
+a-whole method text e t f = rw (e, t, f)
 
 pub not-true : (b : Bool) → ¬ (b ≡ true) → b ≡ false
 not-true true h = absurd (h refl)
@@ -93,10 +71,19 @@ pub figures-told : (method : ChineseCountMethod) (skipped : ℕ) (bytes : List �
     (answer : Result Decimal Refusal) → is_in_figures (text_of bytes) ≡ true
     → answer ≡ decimal_of (decimals_in_figures (text_of bytes))
     (read_with_units method Figure 0 (text_of bytes))
-    → answer ≡ answer_at skipped bytes (number_answer method (text_of bytes))
+    → answer ≡ answer_at skipped bytes (shaped_number method (text_of bytes))
 figures-told method skipped bytes answer e is =
     is ∙ decimal-told skipped bytes _ _
     ∙ ap (answer_at skipped bytes) (sym (in-figures method (text_of bytes) e))
+
+-- a number by turns
+pub turned-told : (method : ChineseCountMethod) (skipped number : ℕ) (bytes : List ℕ)
+    (answer : Result Decimal Refusal) → is_in_figures (text_of bytes) ≡ false
+    → Some number ≡ by_turns method (text_of bytes) → answer ≡ decimal_of 0 (Some number)
+    → answer ≡ answer_at skipped bytes (shaped_number method (text_of bytes))
+turned-told method skipped number bytes answer e t is =
+    is ∙ decimal-told skipped bytes 0 (Some number)
+    ∙ ap (answer_at skipped bytes) (sym (a-turned method (text_of bytes) number e (sym t)))
 
 -- the answer to what stands in front of a point, told in the whole text
 told-before : (method : ChineseCountMethod) (skipped : ℕ) (bytes before behind : List ℕ)
@@ -111,73 +98,77 @@ told-before method skipped bytes before behind s =
 -- a Chinese decimal, whose whole part is refused
 pub decimal-stops : (method : ChineseCountMethod) (skipped : ℕ) (bytes before behind : List ℕ)
     (refusal : Refusal) → is_in_figures (text_of bytes) ≡ false
-    → is_chinese_decimal (text_of bytes) ≡ true
+    → by_turns method (text_of bytes) ≡ None → is_chinese_decimal (text_of bytes) ≡ true
     → SplitsAtPoint bytes before behind
     → Err refusal ≡ answer_at skipped before (whole_answer method (text_of before))
-    → Err refusal ≡ answer_at skipped bytes (number_answer method (text_of bytes))
-decimal-stops method skipped bytes before behind refusal e f s h =
+    → Err refusal ≡ answer_at skipped bytes (shaped_number method (text_of bytes))
+decimal-stops method skipped bytes before behind refusal e t f s h =
     told-stops skipped bytes (whole_answer method (before_point (text_of bytes))) _ refusal
     (h ∙ told-before method skipped bytes before behind s)
-    ∙ ap (answer_at skipped bytes) (sym (a-decimal method (text_of bytes) e f))
+    ∙ ap (answer_at skipped bytes) (sym (a-decimal method (text_of bytes) e t f))
 
 -- and one whose whole part is a number
 pub decimal-goes_on : (method : ChineseCountMethod) (skipped decimals whole : ℕ)
     (bytes before behind : List ℕ) (answer : Result Decimal Refusal)
-    → is_in_figures (text_of bytes) ≡ false → is_chinese_decimal (text_of bytes) ≡ true
+    → is_in_figures (text_of bytes) ≡ false
+    → by_turns method (text_of bytes) ≡ None → is_chinese_decimal (text_of bytes) ≡ true
     → SplitsAtPoint bytes before behind
     → Ok whole ≡ answer_at skipped before (whole_answer method (text_of before))
     → decimals ≡ decimals_behind_point (text_of bytes)
     → answer ≡ decimal_of decimals (read_with_units method Chinese whole (text_of behind))
-    → answer ≡ answer_at skipped bytes (number_answer method (text_of bytes))
-decimal-goes_on method skipped decimals whole bytes before behind answer e f s h d is =
+    → answer ≡ answer_at skipped bytes (shaped_number method (text_of bytes))
+decimal-goes_on method skipped decimals whole bytes before behind answer e t f s h d is =
     is ∙ ap (λ l. decimal_of decimals (read_with_units method Chinese whole l)) s.behind_is
     ∙ ap (λ n. decimal_of n (read_with_units method Chinese whole (after_point (text_of bytes)))) d
     ∙ decimal-told skipped bytes (decimals_behind_point (text_of bytes))
     (read_with_units method Chinese whole (after_point (text_of bytes)))
-    ∙ ap (answer_at skipped bytes) (sym (a-decimal method (text_of bytes) e f
+    ∙ ap (answer_at skipped bytes) (sym (a-decimal method (text_of bytes) e t f
     ∙ told-goes_on skipped bytes (whole_answer method (before_point (text_of bytes))) _ whole
     (h ∙ told-before method skipped bytes before behind s)))
 
 -- 廿 or 卅
 pub tens-told : (method : ChineseCountMethod) (skipped number : ℕ) (bytes : List ℕ)
     (answer : Result Decimal Refusal)
-    → is_in_figures (text_of bytes) ≡ false → is_chinese_decimal (text_of bytes) ≡ false
+    → is_in_figures (text_of bytes) ≡ false
+    → by_turns method (text_of bytes) ≡ None → is_chinese_decimal (text_of bytes) ≡ false
     → Some number ≡ short_tens (text_of bytes) → answer ≡ decimal_of 0 (Some number)
-    → answer ≡ answer_at skipped bytes (number_answer method (text_of bytes))
-tens-told method skipped number bytes answer e f tens is =
-    is ∙ ap (answer_at skipped bytes) (sym (a-whole method (text_of bytes) e f
+    → answer ≡ answer_at skipped bytes (shaped_number method (text_of bytes))
+tens-told method skipped number bytes answer e t f tens is =
+    is ∙ ap (answer_at skipped bytes) (sym (a-whole method (text_of bytes) e t f
     ∙ ap (λ t. option_map_or (λ number. decimal_of 0 (Some number)) t
     (and_then (whole_answer method (text_of bytes)) (λ whole. decimal_of 0 (Some whole))))
     (sym tens)))
 
 -- a whole number
 pub whole-alone : (method : ChineseCountMethod) (text : List ℕ)
-    → is_in_figures text ≡ false → is_chinese_decimal text ≡ false → short_tens text ≡ None
-    → number_answer method text
+    → is_in_figures text ≡ false → by_turns method text ≡ None → is_chinese_decimal text ≡ false
+    → short_tens text ≡ None
+    → shaped_number method text
     ≡ and_then (whole_answer method text) (λ whole. decimal_of 0 (Some whole))
-whole-alone method text e f none = a-whole method text e f ∙ rw none
+whole-alone method text e t f none = a-whole method text e t f ∙ rw none
 
 pub whole-stops : (method : ChineseCountMethod) (skipped : ℕ) (bytes : List ℕ) (refusal : Refusal)
-    → is_in_figures (text_of bytes) ≡ false → is_chinese_decimal (text_of bytes) ≡ false
+    → is_in_figures (text_of bytes) ≡ false
+    → by_turns method (text_of bytes) ≡ None → is_chinese_decimal (text_of bytes) ≡ false
     → short_tens (text_of bytes) ≡ None
     → Err refusal ≡ answer_at skipped bytes (whole_answer method (text_of bytes))
-    → Err refusal ≡ answer_at skipped bytes (number_answer method (text_of bytes))
-whole-stops method skipped bytes refusal e f none h =
+    → Err refusal ≡ answer_at skipped bytes (shaped_number method (text_of bytes))
+whole-stops method skipped bytes refusal e t f none h =
     told-stops skipped bytes (whole_answer method (text_of bytes)) _ refusal h
-    ∙ ap (answer_at skipped bytes) (sym (whole-alone method (text_of bytes) e f none))
+    ∙ ap (answer_at skipped bytes) (sym (whole-alone method (text_of bytes) e t f none))
 
 pub whole-goes_on : (method : ChineseCountMethod) (skipped whole : ℕ) (bytes : List ℕ)
     (answer : Result Decimal Refusal)
-    → is_in_figures (text_of bytes) ≡ false → is_chinese_decimal (text_of bytes) ≡ false
+    → is_in_figures (text_of bytes) ≡ false
+    → by_turns method (text_of bytes) ≡ None → is_chinese_decimal (text_of bytes) ≡ false
     → short_tens (text_of bytes) ≡ None
     → Ok whole ≡ answer_at skipped bytes (whole_answer method (text_of bytes))
     → answer ≡ decimal_of 0 (Some whole)
-    → answer ≡ answer_at skipped bytes (number_answer method (text_of bytes))
-whole-goes_on method skipped whole bytes answer e f none h is =
-    is ∙ ap (answer_at skipped bytes) (sym (whole-alone method (text_of bytes) e f none
+    → answer ≡ answer_at skipped bytes (shaped_number method (text_of bytes))
+whole-goes_on method skipped whole bytes answer e t f none h is =
+    is ∙ ap (answer_at skipped bytes) (sym (whole-alone method (text_of bytes) e t f none
     ∙ told-goes_on skipped bytes (whole_answer method (text_of bytes)) _ whole h))
 
--- a refusal of a number points into its text
 before-shorter : (text : List ℕ) → length (before_point text) ≤ length text
 before-shorter [] = omega arith
 before-shorter (c ∷ rest) = by (is_point Chinese c) (before-shorter rest) where
@@ -186,9 +177,9 @@ before-shorter (c ∷ rest) = by (is_point Chinese c) (before-shorter rest) wher
   by true ih = omega arith
   by false ih = omega (arith, ih)
 
-pub number-low : (method : ChineseCountMethod) (text : List ℕ) (place : ℕ)
-    → number_answer method text ≡ Err (incorrect_at place) → place < length text
-number-low method text place h = by (is_in_figures text) (is_chinese_decimal text) refl refl where
+shaped-low : (method : ChineseCountMethod) (text : List ℕ) (place : ℕ)
+    → shaped_number method text ≡ Err (incorrect_at place) → place < length text
+shaped-low method text place h = by (is_in_figures text) (by_turns method text) (is_chinese_decimal text) refl refl refl where
   alone : (t : Option ℕ) → option_map_or (λ number. decimal_of 0 (Some number)) t
       (and_then (whole_answer method text) (λ whole. decimal_of 0 (Some whole)))
       ≡ Err (incorrect_at place) → place < length text
@@ -197,16 +188,47 @@ number-low method text place h = by (is_in_figures text) (is_chinese_decimal tex
       whole-low method text place
       (first-refused (whole_answer method text) 0 (λ whole. Some whole) place e)
 
-  by : (a b : Bool) → is_in_figures text ≡ a → is_chinese_decimal text ≡ b → place < length text
-  by true b e f = absurd (decimal-placeless _ _ place (sym (in-figures method text e) ∙ h))
-  by false true e f =
+  by : (a : Bool) (o : Option ℕ) (b : Bool) → is_in_figures text ≡ a
+      → by_turns method text ≡ o → is_chinese_decimal text ≡ b → place < length text
+  by true o b e t f = absurd (decimal-placeless _ _ place (sym (in-figures method text e) ∙ h))
+  by false (Some number) b e t f =
+      absurd (decimal-placeless 0 (Some number) place (sym (a-turned method text number e t) ∙ h))
+  by false None true e t f =
       let first = first-refused (whole_answer method (before_point text))
       (decimals_behind_point text)
       (λ whole. read_with_units method Chinese whole (after_point text)) place
-      (sym (a-decimal method text e f) ∙ h) in
+      (sym (a-decimal method text e t f) ∙ h) in
       let low = whole-low method (before_point text) place first in
       omega (arith, low, before-shorter text)
-  by false false e f = alone (short_tens text) (sym (a-whole method text e f) ∙ h)
+  by false None false e t f = alone (short_tens text) (sym (a-whole method text e t f) ∙ h)
+
+-- a refusal of a number points into its text
+pub number-low : (method : ChineseCountMethod) (text : List ℕ) (place : ℕ)
+    → number_answer method text ≡ Err (incorrect_at place) → place < length text
+number-low method text place h = by (whole_answer method text) h where
+  by : (first : Result ℕ Refusal) → or_shaped first (shaped_number method text)
+      ≡ Err (incorrect_at place) → place < length text
+  by (Ok number) e = cc
+  by (Err refusal) e = shaped-low method text place e
+
+-- a whole number, told in the whole text, and any other answer
+pub whole-first : (skipped : ℕ) (bytes : List ℕ) (first : Result ℕ Refusal)
+    (shaped answer : Result Decimal Refusal) (number : ℕ)
+    → Ok number ≡ answer_at skipped bytes first → answer ≡ decimal_of 0 (Some number)
+    → answer ≡ answer_at skipped bytes (or_shaped first shaped)
+whole-first skipped bytes (Ok n) shaped answer number h is =
+    let same : number ≡ n = cc in rw (← same) is
+whole-first skipped bytes (Err empty) shaped answer number h is = cc
+whole-first skipped bytes (Err too_large) shaped answer number h is = cc
+whole-first skipped bytes (Err too_small) shaped answer number h is = cc
+whole-first skipped bytes (Err (incorrect_at p)) shaped answer number h is = cc
+
+pub shaped-else : (skipped : ℕ) (bytes : List ℕ) (first : Result ℕ Refusal)
+    (shaped answer : Result Decimal Refusal) (refusal : Refusal)
+    → Err refusal ≡ answer_at skipped bytes first → answer ≡ answer_at skipped bytes shaped
+    → answer ≡ answer_at skipped bytes (or_shaped first shaped)
+shaped-else skipped bytes (Ok n) shaped answer refusal h is = cc
+shaped-else skipped bytes (Err r) shaped answer refusal h is = is
 
 pub part-low : (method : ChineseCountMethod) (text : List ℕ) (place : ℕ)
     → part_answer method text ≡ Err (incorrect_at place) → place < length text

@@ -1,5 +1,5 @@
 -- The answer to a string, from the answer to what follows its sign.
-use Rattle.std.proofs.Common.{◌≡◌, ℕ, ◌+◌, ◌<◌, ℤ, int_lt, Bool, true, false, List, length, chars, drop, Option, Some, None, Result, Ok, Err, refl, sym, ap, ◌∙◌, arith, length-drop, if◌then◌else◌}
+use Rattle.std.proofs.Common.{◌≡◌, ℕ, ◌+◌, ◌<◌, ℤ, int_lt, Bool, true, false, ◌&&◌, is_none, is_some, not, suc, ◌≤◌, List, [], ◌∷◌, length, chars, drop, Option, Some, None, Result, Ok, Err, refl, sym, ap, ap₂, ◌∙◌, arith, length-drop, if◌then◌else◌}
 use Rattle.cn_core.specs.declared.method.ChineseCountMethod.{ChineseCountMethod}
 use Rattle.cn_core.specs.declared.sign.Sign.{Sign}
 use Rattle.cn_core.specs.declared.sign.Sign.TheVariants.{Plus, Minus}
@@ -8,61 +8,155 @@ use Rattle.cn_core.specs.Reading.{is_minus, sign_len, too_far}
 use Rattle.cn_core.specs.Refusal.{Refusal, empty, incorrect_at, too_large, too_small}
 use Rattle.cn_core.specs.Text.{text_of}
 use Rattle.cn_core.specs.Whole.{signed_kind, signed_number}
+use Rattle.cn_core.proofs.Fronts.{both}
+use Rattle.cn_core.specs.Figures.{figure_of, is_currency}
+use Rattle.cn_quantity.specs.Characters.{sign_of}
 use Rattle.cn_judge.specs.Piece.{StandsAt, answer_at}
 use Rattle.cn_judge.proofs.Pieces.{char_index-rest, text_of-rest}
 use Rattle.cn_quantity.specs.declared.quantity.Quantity.{Quantity}
 use Rattle.cn_quantity.specs.declared.ratio.Ratio.{Ratio}
 use Rattle.cn_quantity.specs.Answer.{and_then}
-use Rattle.cn_quantity.specs.Private.{signed_refusal}
-use Rattle.cn_quantity.specs.Ratio.{ratio_answer}
-use Rattle.cn_quantity.proofs.Ratios.{ratio-low}
-use Rattle.cn_quantity.specs.Reading.{leading_sign, quantity_answer, signed_answer, signed_ratio}
+use Rattle.cn_quantity.specs.Private.{SplitsNegated, signed_by}
+use Rattle.cn_quantity.specs.Ratio.{before_bar, fraction_answer, is_negated, negated_answer, ratio_answer}
+use Rattle.cn_quantity.proofs.Ratios.{negated-low, ratio-low}
+use Rattle.cn_quantity.specs.Reading.{front_length, is_below_zero, number_sign, quantity_answer, sign_length, signed_answer, signed_ratio, yen_length}
 
--- the answer by the sign, where places are told already
-abbrev pub signed_by : Option Sign → Result Ratio Refusal → Result Quantity Refusal
-signed_by sign (Ok ratio) = signed_ratio sign ratio
-signed_by sign (Err refusal) = Err (signed_refusal sign refusal)
+signed-rest : (bytes rest : List ℕ) (skipped place : ℕ) (sign : Option Sign)
+    (answer : Result Ratio Refusal) → StandsAt bytes (chars rest) skipped place
+    → signed_by sign (answer_at skipped rest answer) ≡ signed_answer bytes sign place answer
+signed-rest bytes rest skipped place sign (Ok ratio) at = refl
+signed-rest bytes rest skipped place sign (Err empty) at = refl
+signed-rest bytes rest skipped place sign (Err too_large) at = refl
+signed-rest bytes rest skipped place sign (Err too_small) at = refl
+signed-rest bytes rest skipped place sign (Err (incorrect_at p)) at =
+    ap (λ n. Err (incorrect_at n)) (sym (char_index-rest bytes rest skipped place p at))
 
-signed-rest : (bytes rest : List ℕ) (skipped : ℕ) (sign : Option Sign)
-    (answer : Result Ratio Refusal) → StandsAt bytes (chars rest) skipped (sign_len sign)
-    → signed_by sign (answer_at skipped rest answer) ≡ signed_answer bytes sign answer
-signed-rest bytes rest skipped sign (Ok ratio) at = refl
-signed-rest bytes rest skipped sign (Err empty) at = refl
-signed-rest bytes rest skipped sign (Err too_large) at = refl
-signed-rest bytes rest skipped sign (Err too_small) at = refl
-signed-rest bytes rest skipped sign (Err (incorrect_at place)) at =
-    ap (λ n. Err (incorrect_at n))
-    (sym (char_index-rest bytes rest skipped (sign_len sign) place at))
+-- the answer to a text with no minus sign after 分之, and to one with such a sign
+pub quantity-plain : (method : ChineseCountMethod) (bytes : List ℕ)
+    → (is_none (number_sign (text_of bytes))
+    && is_negated (drop (front_length (text_of bytes)) (text_of bytes))) ≡ false
+    → quantity_answer method bytes
+    ≡ signed_answer bytes (number_sign (text_of bytes)) (front_length (text_of bytes))
+    (ratio_answer method (drop (front_length (text_of bytes)) (text_of bytes)))
+quantity-plain method bytes none = rw none
 
-quantity-signed : (method : ChineseCountMethod) (bytes rest : List ℕ) (skipped : ℕ)
-    (sign : Option Sign) → sign ≡ leading_sign (text_of bytes)
-    → StandsAt bytes (chars rest) skipped (sign_len sign)
-    → signed_by sign (answer_at skipped rest (ratio_answer method (text_of rest)))
-    ≡ quantity_answer method bytes
-quantity-signed method bytes rest skipped sign leads at =
-    signed-rest bytes rest skipped sign (ratio_answer method (text_of rest)) at
-    ∙ ap (λ l. signed_answer bytes sign (ratio_answer method l))
-    (sym (text_of-rest bytes rest skipped (sign_len sign) at))
-    ∙ ap (λ s. signed_answer bytes s (ratio_answer method (drop (sign_len s) (text_of bytes))))
-    leads
+pub quantity-negated : (method : ChineseCountMethod) (bytes : List ℕ)
+    → (is_none (number_sign (text_of bytes))
+    && is_negated (drop (front_length (text_of bytes)) (text_of bytes))) ≡ true
+    → quantity_answer method bytes
+    ≡ signed_answer bytes (Some Minus) (front_length (text_of bytes))
+    (negated_answer method (drop (front_length (text_of bytes)) (text_of bytes)))
+quantity-negated method bytes some = rw some
 
-pub quantity-goes_on : (method : ChineseCountMethod) (bytes rest : List ℕ) (skipped : ℕ)
-    (sign : Option Sign) (ratio : Ratio) (answer : Result Quantity Refusal)
-    → sign ≡ leading_sign (text_of bytes)
-    → StandsAt bytes (chars rest) skipped (sign_len sign)
-    → Ok ratio ≡ answer_at skipped rest (ratio_answer method (text_of rest))
-    → answer ≡ signed_ratio sign ratio → answer ≡ quantity_answer method bytes
-quantity-goes_on method bytes rest skipped sign ratio answer leads at h is =
-    is ∙ ap (signed_by sign) h ∙ quantity-signed method bytes rest skipped sign leads at
+-- the same, by what follows the sign
+pub signed-plain : (method : ChineseCountMethod) (bytes rest : List ℕ) (skipped : ℕ)
+    (sign : Option Sign) (answer : Result Quantity Refusal) (ratio : Result Ratio Refusal)
+    → sign ≡ number_sign (text_of bytes)
+    → StandsAt bytes (chars rest) skipped (front_length (text_of bytes))
+    → (is_none sign && is_negated (text_of rest)) ≡ false
+    → ratio ≡ answer_at skipped rest (ratio_answer method (text_of rest))
+    → answer ≡ signed_by sign ratio → answer ≡ quantity_answer method bytes
+signed-plain method bytes rest skipped sign answer ratio leads at none h is =
+    let front = front_length (text_of bytes) in
+    let same : drop (front_length (text_of bytes)) (text_of bytes) ≡ text_of rest =
+    text_of-rest bytes rest skipped front at in
+    is ∙ ap (signed_by sign) h
+    ∙ signed-rest bytes rest skipped front sign (ratio_answer method (text_of rest)) at
+    ∙ ap₂ (λ s l. signed_answer bytes s (front_length (text_of bytes)) (ratio_answer method l))
+    leads (sym same)
+    ∙ sym (quantity-plain method bytes
+    (ap₂ (λ s l. is_none s && is_negated l) (sym leads) same ∙ none))
 
-pub quantity-stops : (method : ChineseCountMethod) (bytes rest : List ℕ) (skipped : ℕ)
-    (sign : Option Sign) (refusal told : Refusal)
-    → sign ≡ leading_sign (text_of bytes)
-    → StandsAt bytes (chars rest) skipped (sign_len sign)
-    → Err refusal ≡ answer_at skipped rest (ratio_answer method (text_of rest))
-    → told ≡ signed_refusal sign refusal → Err told ≡ quantity_answer method bytes
-quantity-stops method bytes rest skipped sign refusal told leads at h is =
-    ap Err is ∙ ap (signed_by sign) h ∙ quantity-signed method bytes rest skipped sign leads at
+pub signed-negated : (method : ChineseCountMethod) (bytes rest divisor over : List ℕ)
+    (skipped index : ℕ) (sign : Option Sign) (answer : Result Quantity Refusal)
+    (ratio : Result Ratio Refusal) → sign ≡ number_sign (text_of bytes)
+    → StandsAt bytes (chars rest) skipped (front_length (text_of bytes))
+    → is_none sign ≡ true → is_negated (text_of rest) ≡ true
+    → SplitsNegated rest divisor index over
+    → ratio ≡ answer_at skipped rest (fraction_answer method (text_of divisor)
+    (length (before_bar (text_of rest)) + 3) (text_of over))
+    → answer ≡ signed_by (Some Minus) ratio → answer ≡ quantity_answer method bytes
+signed-negated method bytes rest divisor over skipped index sign answer ratio leads at none is_so s h
+    is =
+    let front = front_length (text_of bytes) in
+    let same : drop (front_length (text_of bytes)) (text_of bytes) ≡ text_of rest =
+    text_of-rest bytes rest skipped front at in
+    is ∙ ap (signed_by (Some Minus)) h
+    ∙ ap₂ (λ d o. signed_by (Some Minus) (answer_at skipped rest (fraction_answer method d
+    (length (before_bar (text_of rest)) + 3) o))) s.divisor_is s.over_is
+    ∙ signed-rest bytes rest skipped front (Some Minus) (negated_answer method (text_of rest)) at
+    ∙ ap (λ l. signed_answer bytes (Some Minus) (front_length (text_of bytes))
+    (negated_answer method l)) (sym same)
+    ∙ sym (quantity-negated method bytes
+    (ap₂ (λ s l. is_none s && is_negated l) (sym leads) same ∙ both (is_none sign) (is_negated (text_of rest)) none is_so))
+
+pub none-by : {T : Type 0} (o : Option T) (result is : Bool) → is_some o ≡ not result
+    → result ≡ is → is_none o ≡ is
+none-by o true true h e = rw h refl
+none-by o false false h e = rw h refl
+none-by o true false h e = cc
+none-by o false true h e = cc
+
+pub not-negated : (none negated : Bool) → negated ≡ false → (none && negated) ≡ false
+not-negated true negated h = h
+not-negated false negated h = refl
+
+-- how many characters stand before the number
+sign-within : (text : List ℕ) → sign_length text ≤ length text
+sign-within [] = omega arith
+sign-within (c ∷ []) = by (sign_of c) where
+  by : (sign : Option Sign) → sign_len sign ≤ suc 0
+  by None = omega arith
+  by (Some sign) = omega arith
+sign-within (c ∷ d ∷ []) = by (sign_of c) where
+  by : (sign : Option Sign) → sign_len sign ≤ suc (suc 0)
+  by None = omega arith
+  by (Some sign) = omega arith
+sign-within (c ∷ d ∷ next ∷ rest) =
+    by (is_below_zero (c ∷ d ∷ next ∷ rest)) (sign_of c) where
+      by : (b : Bool) (sign : Option Sign)
+          → (if b then 2 else sign_len sign) ≤ suc (suc (suc (length rest)))
+      by true sign = omega arith
+      by false None = omega arith
+      by false (Some sign) = omega arith
+
+yen-within : (text : List ℕ) → yen_length text ≤ length text
+yen-within [] = omega arith
+yen-within (c ∷ []) = omega arith
+yen-within (c ∷ next ∷ rest) = by (is_currency c && is_some (figure_of next)) where
+  by : (b : Bool) → (if b then 1 else 0) ≤ suc (suc (length rest))
+  by true = omega arith
+  by false = omega arith
+
+pub front-within : (text : List ℕ) → front_length text ≤ length text
+front-within text =
+    let one = sign-within text in
+    let two = yen-within (drop (sign_length text) text) in
+    omega (arith, one, two, length-drop (sign_length text) text)
+
+-- what is left of the text counts on from there
+pub front-place : (bytes number rest : List ℕ)
+    → text_of number ≡ drop (sign_length (text_of bytes)) (text_of bytes)
+    → text_of rest ≡ drop (yen_length (text_of number)) (text_of number)
+    → front_length (text_of bytes) + length (text_of rest) ≡ length (text_of bytes)
+front-place bytes number rest first second =
+    let text = text_of bytes in
+    let one = sign-within (text_of bytes) in
+    let two = yen-within (text_of number) in
+    let same : yen_length (drop (sign_length (text_of bytes)) (text_of bytes))
+    ≡ yen_length (text_of number) = ap yen_length (sym first) in
+    let a = ap length first in
+    let b = ap length second in
+    omega (
+      arith,
+      one,
+      two,
+      same,
+      a,
+      b,
+      length-drop (sign_length (text_of bytes)) (text_of bytes),
+      length-drop (yen_length (text_of number)) (text_of number),
+    )
 
 -- a ratio with its sign names no place
 signed-placeless : (sign : Option Sign) (ratio : Ratio) (place : ℕ)
@@ -94,29 +188,55 @@ pub quantity-points : (method : ChineseCountMethod) (bytes : List ℕ) (char_ind
     → quantity_answer method bytes ≡ Err (incorrect_at char_index)
     → (place : ℕ) × (place < length (text_of bytes)) × (char_index ≡ char_index_of bytes place)
 quantity-points method bytes char_index h =
-    by (ratio_answer method (drop (sign_len (leading_sign (text_of bytes))) (text_of bytes))) refl
-    h where
-      sign : Option Sign
-      sign = leading_sign (text_of bytes)
+    by (is_none (number_sign (text_of bytes))) (is_negated rest) refl h where
+      rest : List ℕ
+      rest = drop (front_length (text_of bytes)) (text_of bytes)
 
-      by : (answer : Result Ratio Refusal)
-          → ratio_answer method (drop (sign_len sign) (text_of bytes)) ≡ answer
-          → signed_answer bytes sign answer ≡ Err (incorrect_at char_index)
+      far : (sign : Option Sign)
+          → ◌≡◌ {A = Result Quantity Refusal} (Err (too_far sign)) (Err (incorrect_at char_index))
+          → ⊥
+      far None e = cc
+      far (Some Plus) e = cc
+      far (Some Minus) e = cc
+
+      points : (sign : Option Sign) (answer : Result Ratio Refusal)
+          → ((place : ℕ) → answer ≡ Err (incorrect_at place)
+          → place < length (drop (front_length (text_of bytes)) (text_of bytes)))
+          → signed_answer bytes sign (front_length (text_of bytes)) answer
+          ≡ Err (incorrect_at char_index)
           → (place : ℕ) × (place < length (text_of bytes))
           × (char_index ≡ char_index_of bytes place)
-      by (Ok ratio) is e = absurd (signed-placeless sign ratio char_index e)
-      by (Err empty) is e = cc
-      by (Err too_small) is e = cc
-      by (Err too_large) is e = absurd (far sign e) where
-        far : (sign : Option Sign)
-            → ◌≡◌ {A = Result Quantity Refusal} (Err (too_far sign)) (Err (incorrect_at char_index))
-            → ⊥
-        far None e = cc
-        far (Some Plus) e = cc
-        far (Some Minus) e = cc
-      by (Err (incorrect_at place)) is e =
-          let low = ratio-low method (drop (sign_len sign) (text_of bytes)) place is in (
-            place + sign_len sign,
-            omega (arith, low, length-drop (sign_len sign) (text_of bytes)),
+      points sign (Ok ratio) low e = absurd (signed-placeless sign ratio char_index e)
+      points sign (Err empty) low e = cc
+      points sign (Err too_small) low e = cc
+      points sign (Err too_large) low e = absurd (far sign e)
+      points sign (Err (incorrect_at place)) low e =
+          let less = low place refl in
+          let within = front-within (text_of bytes) in (
+            place + front_length (text_of bytes),
+            omega (arith, less, within, length-drop (front_length (text_of bytes)) (text_of bytes)),
             cc,
           )
+
+      by : (a b : Bool) → is_negated (drop (front_length (text_of bytes)) (text_of bytes)) ≡ b
+          → (if a && b
+          then signed_answer bytes (Some Minus) (front_length (text_of bytes))
+          (negated_answer method (drop (front_length (text_of bytes)) (text_of bytes)))
+          else signed_answer bytes (number_sign (text_of bytes)) (front_length (text_of bytes))
+          (ratio_answer method (drop (front_length (text_of bytes)) (text_of bytes))))
+          ≡ Err (incorrect_at char_index)
+          → (place : ℕ) × (place < length (text_of bytes))
+          × (char_index ≡ char_index_of bytes place)
+      by true true is e =
+          points (Some Minus)
+          (negated_answer method (drop (front_length (text_of bytes)) (text_of bytes)))
+          (λ place l. negated-low method (drop (front_length (text_of bytes)) (text_of bytes)) place
+          is l) e
+      by true false is e =
+          points (number_sign (text_of bytes))
+          (ratio_answer method (drop (front_length (text_of bytes)) (text_of bytes)))
+          (ratio-low method (drop (front_length (text_of bytes)) (text_of bytes))) e
+      by false b is e =
+          points (number_sign (text_of bytes))
+          (ratio_answer method (drop (front_length (text_of bytes)) (text_of bytes)))
+          (ratio-low method (drop (front_length (text_of bytes)) (text_of bytes))) e

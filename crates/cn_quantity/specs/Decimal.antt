@@ -6,7 +6,7 @@ use Rattle.cn_quantity.specs.declared.characters.DigitKind.TheVariants.{Chinese}
 use Rattle.cn_quantity.specs.Characters.{is_point}
 use Rattle.cn_quantity.specs.Digits.{leading_digits, after_digits}
 use Rattle.cn_quantity.specs.Figures.{are_decimals}
-use Rattle.cn_quantity.specs.Units.{are_below, first_rank}
+use Rattle.cn_quantity.specs.Units.{are_below, first_factor}
 
 -- what stands in front of the first point, and what behind it
 abbrev pub before_point : List ℕ → List ℕ
@@ -34,7 +34,7 @@ is_chinese_decimal text =
     let whole = before_point text in
     let behind = after_point text in
     nat_lt 0 (length whole) && not (ends_colloquially whole)
-    && are_decimals Chinese behind && are_below (first_rank (after_digits Chinese behind)) whole
+    && are_decimals Chinese behind && are_below (first_factor (after_digits Chinese behind)) whole
 
 -- how many digits stand behind the point
 abbrev pub decimals_behind_point : List ℕ → ℕ

@@ -1,12 +1,13 @@
 -- A number in figures: figures, with a comma in front of each three or with none, then a point and
--- figures or none, then rising units or none, as 1,280.5万.
+-- figures or none, then units or none, as 1,280.5万.
 use Rattle.std.specs.Prelude.{ℕ, Bool, true, false, ◌&&◌, nat_lt, nat_le, List, [], ◌∷◌, if◌then◌else◌}
 use Rattle.std.specs.Option.{option_map_or}
+use Rattle.cn_core.specs.Figures.{figure_of, is_comma}
 use Rattle.cn_quantity.specs.declared.characters.DigitKind.{DigitKind}
 use Rattle.cn_quantity.specs.declared.characters.DigitKind.TheVariants.{Figure}
-use Rattle.cn_quantity.specs.Characters.{is_comma, is_point, figure_of}
+use Rattle.cn_quantity.specs.Characters.{is_point}
 use Rattle.cn_quantity.specs.Digits.{is_digit, leading_digits, after_digits}
-use Rattle.cn_quantity.specs.Units.{are_rising_units}
+use Rattle.cn_quantity.specs.Units.{are_factors}
 
 -- one to three figures that do not begin with 0: groups may follow them
 abbrev pub may_lead_groups : List ℕ → Bool
@@ -28,16 +29,16 @@ after_figures text =
     if may_lead_groups text then after_groups (after_digits Figure text)
     else after_digits Figure text
 
--- digits, and then rising units or none: what stands behind a point
+-- digits, and then units or none: what stands after a point
 abbrev pub are_decimals : DigitKind → List ℕ → Bool
 are_decimals kind text =
-    nat_lt 0 (leading_digits kind text) && are_rising_units (after_digits kind text)
+    nat_lt 0 (leading_digits kind text) && are_factors (after_digits kind text)
 
--- a point and decimals, or rising units, or nothing: what stands behind the figures
+-- a point and decimals, or units, or nothing: what stands after the figures
 abbrev pub ends_in_figures : List ℕ → Bool
 ends_in_figures [] = true
 ends_in_figures (c ∷ rest) =
-    if is_point Figure c then are_decimals Figure rest else are_rising_units (c ∷ rest)
+    if is_point Figure c then are_decimals Figure rest else are_factors (c ∷ rest)
 
 abbrev pub is_in_figures : List ℕ → Bool
 is_in_figures text =

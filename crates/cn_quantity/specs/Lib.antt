@@ -3,10 +3,13 @@ pub mod Characters
 pub mod Decimal
 pub mod Digits
 pub mod Figures
+pub mod Misread
 pub mod Number
 pub mod Private
 pub mod Ratio
 pub mod Reading
 pub mod Trimmed
+pub mod Turns
 pub mod Units
 pub mod Whole
+pub mod WholeNumber

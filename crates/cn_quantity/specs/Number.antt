@@ -1,30 +1,19 @@
 -- What a text is worth that has no sign, no percent sign and no 分之.
-use Rattle.std.specs.Prelude.{ℕ, ◌+◌, Bool, ◌&&◌, ◌==◌, nat_lt, List, [], ◌∷◌, length, Option, Some, None, is_some, Result, Ok, Err, if◌then◌else◌, option_map}
+use Rattle.std.specs.Prelude.{ℕ, ◌+◌, Bool, ◌&&◌, ◌==◌, nat_lt, List, [], ◌∷◌, length, Option, Some, None, Result, Ok, Err, if◌then◌else◌, option_map}
 use Rattle.std.specs.Option.{option_map_or}
-use Rattle.std.specs.List.{list_all}
+use Rattle.cn_core.specs.Figures.{tens_of}
 use Rattle.cn_core.specs.declared.method.ChineseCountMethod.{ChineseCountMethod}
-use Rattle.cn_core.specs.Characters.{digit_of}
-use Rattle.cn_core.specs.Judging.{judge}
-use Rattle.cn_core.specs.Naive.{naive_answer}
 use Rattle.cn_core.specs.Refusal.{Refusal, incorrect_at, too_large}
-use Rattle.cn_core.specs.Text.{marks_of}
 use Rattle.cn_quantity.specs.declared.characters.DigitKind.TheVariants.{Figure, Chinese}
 use Rattle.cn_quantity.specs.declared.number.Decimal.{Decimal}
 use Rattle.cn_quantity.specs.Answer.{and_then}
-use Rattle.cn_quantity.specs.Characters.{chinese_digit_of, tens_of}
+use Rattle.cn_quantity.specs.Characters.{chinese_digit_of}
 use Rattle.cn_quantity.specs.Decimal.{after_point, before_point, decimals_behind_point, is_chinese_decimal}
 use Rattle.cn_quantity.specs.Digits.{read_with_units}
 use Rattle.cn_quantity.specs.Figures.{decimals_in_figures, is_in_figures}
+use Rattle.cn_quantity.specs.Turns.{by_turns}
 use Rattle.cn_quantity.specs.Units.{are_rising_units, times_units}
-
--- each character is a digit of numerals
-abbrev pub is_plain : List ℕ → Bool
-is_plain text = list_all (λ c. is_some (digit_of c)) text
-
--- a whole number as the readers of numerals read it: plain digits, and any other text by units
-abbrev pub whole_answer : ChineseCountMethod → List ℕ → Result ℕ Refusal
-whole_answer method text =
-    if is_plain text then naive_answer (marks_of text) else judge method (marks_of text)
+use Rattle.cn_quantity.specs.WholeNumber.{whole_answer}
 
 -- 廿 or 卅, and one Chinese digit or none: 23 of 廿三
 abbrev pub short_tens : List ℕ → Option ℕ
@@ -53,13 +42,23 @@ whole_number_answer method text =
     option_map_or (λ number. decimal_of 0 (Some number)) (short_tens text)
     (and_then (whole_answer method text) (λ whole. decimal_of 0 (Some whole)))
 
--- a number in figures, or a Chinese decimal, or a whole number
-abbrev pub number_answer : ChineseCountMethod → List ℕ → Result Decimal Refusal
-number_answer method text =
+-- a number in figures, or by turns, or a Chinese decimal, or a whole number
+abbrev pub shaped_number : ChineseCountMethod → List ℕ → Result Decimal Refusal
+shaped_number method text =
     if is_in_figures text
     then decimal_of (decimals_in_figures text) (read_with_units method Figure 0 text)
-    else (if is_chinese_decimal text then chinese_decimal_answer method text
+    else option_map_or (λ number. decimal_of 0 (Some number)) (by_turns method text)
+    (if is_chinese_decimal text then chinese_decimal_answer method text
     else whole_number_answer method text)
+
+-- a whole number where there is one, else another answer
+abbrev pub or_shaped : Result ℕ Refusal → Result Decimal Refusal → Result Decimal Refusal
+or_shaped (Ok number) shaped = decimal_of 0 (Some number)
+or_shaped (Err refusal) shaped = shaped
+
+-- what the readers of numerals read is that whole number, and any other text goes by its shape
+abbrev pub number_answer : ChineseCountMethod → List ℕ → Result Decimal Refusal
+number_answer method text = or_shaped (whole_answer method text) (shaped_number method text)
 
 -- of a part of a fraction the same, but rising units alone count as with 一 in front, as in 百分之百
 abbrev pub part_answer : ChineseCountMethod → List ℕ → Result Decimal Refusal

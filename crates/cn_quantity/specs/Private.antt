@@ -1,12 +1,22 @@
 -- What contracts of private functions cite: ends of a string, and answers to pieces of it.
-use Rattle.std.specs.Prelude.{◌≡◌, ℕ, ◌+◌, List, [], ◌∷◌, ◌++◌, length, chars, Option}
+use Rattle.std.specs.Prelude.{◌≡◌, ℕ, Bool, ◌+◌, List, [], ◌∷◌, ◌++◌, length, ◌<◌, chars, drop, reverse, Option, Some, Result, Ok, Err}
 use Rattle.cn_core.specs.declared.sign.Sign.{Sign}
+use Rattle.cn_core.specs.Mark.{Mark, mark_of}
 use Rattle.cn_core.specs.Reading.{too_far}
 use Rattle.cn_core.specs.Refusal.{Refusal, too_large}
-use Rattle.cn_core.specs.Text.{text_of}
+use Rattle.cn_core.specs.Text.{marks_of, text_of}
+use Rattle.cn_judge.specs.Marked.{marked}
 use Rattle.cn_judge.specs.Piece.{StandsAt}
+use Rattle.cn_quantity.specs.declared.misread.Before.{Before}
 use Rattle.cn_quantity.specs.Decimal.{after_point, before_point}
-use Rattle.cn_quantity.specs.Ratio.{after_bar, before_bar}
+use Rattle.cn_quantity.specs.Misread.{bare_ten, first_misread}
+use Rattle.cn_quantity.specs.declared.quantity.Quantity.{Quantity}
+use Rattle.cn_quantity.specs.declared.ratio.Ratio.{Ratio}
+use Rattle.cn_quantity.specs.Ratio.{after_bar, after_you, before_bar, before_you}
+use Rattle.cn_quantity.specs.declared.characters.DigitKind.TheVariants.{Figure}
+use Rattle.cn_quantity.specs.Digits.{leading_digits}
+use Rattle.cn_quantity.specs.Reading.{signed_ratio}
+use Rattle.cn_quantity.specs.Turns.{after_group, begins_with_nought, number_of, units_of}
 
 -- the string ends with this one
 pub record IsEnd (bytes rest : List ℕ) : Type 0 where
@@ -42,7 +52,53 @@ pub record SplitsAtBar (bytes divisor : List ℕ) (index : ℕ) (behind : List �
   pub front : IsFront bytes divisor
   pub stands : StandsAt bytes (chars behind) index (length (before_bar (text_of bytes)) + 2)
 
--- a refusal of what stands behind a sign
+-- what stands before 分之, and the part over it, which stands after so many characters of a string
+pub record SplitsFraction (bytes divisor : List ℕ) (index place : ℕ)
+    (over : List ℕ) : Type 0 where
+  pub some : 0 < length (text_of divisor)
+  pub front : IsFront bytes divisor
+  pub stands : StandsAt bytes (chars over) index place
+
+-- the same of a fraction with a minus sign after 分之
+pub record SplitsNegated (bytes divisor : List ℕ) (index : ℕ) (over : List ℕ) : Type 0 where
+  pub divisor_is : text_of divisor ≡ before_bar (text_of bytes)
+  pub over_is : text_of over ≡ drop 1 (after_bar (text_of bytes))
+  pub parts : SplitsFraction bytes divisor index (length (before_bar (text_of bytes)) + 3) over
+
+-- a refusal of what stands after a sign
 abbrev pub signed_refusal : Option Sign → Refusal → Refusal
 signed_refusal sign too_large = too_far sign
 signed_refusal sign refusal = refusal
+
+-- the answer by the sign, where places are char_indexes already
+abbrev pub signed_by : Option Sign → Result Ratio Refusal → Result Quantity Refusal
+signed_by sign (Ok ratio) = signed_ratio sign ratio
+signed_by sign (Err refusal) = Err (signed_refusal sign refusal)
+
+-- the marks of the characters before a place, the nearest first
+abbrev pub marks_before : Before → List Mark
+marks_before before = marked before.first ∷ marked before.second ∷ marked before.third ∷ []
+
+-- what stands before the first misread character of a string, that character and what stands after
+-- it, and the rank of the unit that it stands after, where it is a bare ten
+pub record SplitsAtMisread (bytes before from : List ℕ) (bare : Option ℕ) : Type 0 where
+  pub first : ℕ
+  pub after : List ℕ
+  pub place : first_misread (text_of bytes) ≡ Some (length (text_of before))
+  pub parts : chars bytes ≡ chars before ++ chars from
+  pub from_is : text_of from ≡ first ∷ after
+  pub bare_is : bare ≡ bare_ten (marks_of (reverse (text_of before))) (mark_of first)
+
+-- the group at the start of a text
+pub record IsGroup (bytes : List ℕ) (count number : ℕ) (nought : Bool)
+    (units rest : List ℕ) : Type 0 where
+  pub count_is : count ≡ leading_digits Figure (text_of bytes)
+  pub number_is : number_of (text_of bytes) ≡ Some number
+  pub nought_is : nought ≡ begins_with_nought (text_of bytes)
+  pub units_is : text_of units ≡ units_of (text_of bytes)
+  pub rest_is : text_of rest ≡ after_group (text_of bytes)
+
+-- what stands before the first 又 of a string, and what after it
+pub record SplitsAtYou (bytes before rest : List ℕ) : Type 0 where
+  pub before_is : text_of before ≡ before_you (text_of bytes)
+  pub rest_is : text_of rest ≡ after_you (text_of bytes)

@@ -1,14 +1,17 @@
 -- What a text without sign is worth: a fraction, a percentage, or a number by itself.
-use Rattle.std.specs.Prelude.{ℕ, zero, suc, ◌+◌, ◌-◌, ◌*◌, ◌^◌, Bool, false, ◌&&◌, ◌==◌, nat_lt, List, [], ◌∷◌, length, take, Result, Ok, Err, if◌then◌else◌}
+use Rattle.std.specs.Prelude.{ℕ, zero, suc, ◌+◌, ◌-◌, ◌*◌, ◌^◌, Bool, false, ◌&&◌, ◌==◌, nat_lt, List, [], ◌∷◌, length, take, drop, Option, Some, None, Result, Ok, Err, if◌then◌else◌}
+use Rattle.std.specs.Option.{option_map_or}
 use Rattle.cn_core.specs.declared.method.ChineseCountMethod.{ChineseCountMethod}
+use Rattle.cn_core.specs.Reading.{is_minus}
 use Rattle.cn_core.specs.Refusal.{Refusal, too_large}
 use Rattle.cn_quantity.specs.declared.number.Decimal.{Decimal as DecimalNumber}
 use Rattle.cn_quantity.specs.declared.quantity.QuantityForm.{QuantityForm}
 use Rattle.cn_quantity.specs.declared.quantity.QuantityForm.TheVariants.{Whole, Decimal, Percent, Fraction}
 use Rattle.cn_quantity.specs.declared.ratio.Ratio.{Ratio}
 use Rattle.cn_quantity.specs.Answer.{and_then, further_by}
-use Rattle.cn_quantity.specs.Characters.{is_fen, is_zhi, is_percent}
+use Rattle.cn_quantity.specs.Characters.{is_fen, is_you, is_zhi, share_of, sign_of}
 use Rattle.cn_quantity.specs.Number.{divisor_answer, number_answer, part_answer}
+use Rattle.cn_quantity.specs.WholeNumber.{whole_answer}
 
 -- a number over a divisor, as written, if what is below the line fits 128 bits: over 100, 12.5 is
 -- 125/1000
@@ -47,29 +50,84 @@ is_fraction text = nat_lt 0 (length (before_bar text)) && nat_lt 0 (length (afte
 abbrev pub form_over : ℕ → QuantityForm
 form_over divisor = if divisor == 100 then Percent else Fraction
 
--- a fraction by its divisor and what stands behind 分之
-abbrev pub fraction_answer : ChineseCountMethod → List ℕ → List ℕ → Result Ratio Refusal
-fraction_answer method before behind =
+-- a fraction by its divisor and by the part over it, which stands after so many characters
+abbrev pub fraction_answer : ChineseCountMethod → List ℕ → ℕ → List ℕ → Result Ratio Refusal
+fraction_answer method before place after =
     and_then (divisor_answer method before) (λ divisor.
-    and_then (further_by (length before + 2) (part_answer method behind))
+    and_then (further_by place (part_answer method after))
     (λ decimal. ratio_of divisor (form_over divisor) decimal))
 
--- the last character is a percent sign
-abbrev pub ends_with_percent : List ℕ → Bool
-ends_with_percent [] = false
-ends_with_percent (c ∷ []) = is_percent c
-ends_with_percent (c ∷ next ∷ rest) = ends_with_percent (next ∷ rest)
+-- the text begins with a minus sign, and something follows it
+abbrev pub begins_with_minus : List ℕ → Bool
+begins_with_minus (c ∷ next ∷ rest) = is_minus (sign_of c)
+begins_with_minus text = false
 
--- a percent sign at the end, and something in front of it
-abbrev pub is_percentage : List ℕ → Bool
-is_percentage text = nat_lt 1 (length text) && ends_with_percent text
+-- a fraction with a minus sign directly after 分之, as 百分之负五
+abbrev pub is_negated : List ℕ → Bool
+is_negated text = is_fraction text && begins_with_minus (after_bar text)
+
+-- the answer to it without that sign
+abbrev pub negated_answer : ChineseCountMethod → List ℕ → Result Ratio Refusal
+negated_answer method text =
+    fraction_answer method (before_bar text) (length (before_bar text) + 3)
+    (drop 1 (after_bar text))
+
+-- what the last character divides by
+abbrev pub last_share : List ℕ → Option ℕ
+last_share [] = None
+last_share (c ∷ []) = share_of c
+last_share (c ∷ next ∷ rest) = last_share (next ∷ rest)
+
+-- what a percent sign or ‰ at the end divides by, with something before it
+abbrev pub share : List ℕ → Option ℕ
+share text = if nat_lt 1 (length text) then last_share text else None
+
+-- a percentage or a per mille: the number before its sign, over what the sign divides by
+abbrev pub share_answer : ChineseCountMethod → ℕ → List ℕ → Result Ratio Refusal
+share_answer method divisor text =
+    and_then (number_answer method (take (length text - 1) text))
+    (λ decimal. ratio_of divisor (form_over divisor) decimal)
+
+-- what stands before the first 又, and what after it
+abbrev pub before_you : List ℕ → List ℕ
+before_you [] = []
+before_you (c ∷ rest) = if is_you c then [] else c ∷ before_you rest
+
+abbrev pub after_you : List ℕ → List ℕ
+after_you [] = []
+after_you (c ∷ rest) = if is_you c then rest else after_you rest
+
+-- a whole number and a fraction, whose numerator is a whole number below its denominator, if what is
+-- above the line then fits 128 bits
+abbrev pub mixed_ratio : ℕ → ℕ → DecimalNumber → Option Ratio
+mixed_ratio whole divisor decimal =
+    let numerator = whole * divisor + decimal.number in
+    if decimal.decimals == 0 && nat_lt decimal.number divisor && nat_lt numerator (2 ^ 128)
+    then Some (record { numerator = numerator; denominator = divisor; form = Fraction }) else None
+
+abbrev pub mixed_of : Result ℕ Refusal → Result ℕ Refusal → Result DecimalNumber Refusal
+    → Option Ratio
+mixed_of (Ok whole) (Ok divisor) (Ok decimal) = mixed_ratio whole divisor decimal
+mixed_of whole divisor decimal = None
+
+-- the mixed fraction that a text is, with a whole number before 又: 13/5 of 二又五分之三
+abbrev pub mixed : ChineseCountMethod → List ℕ → Option Ratio
+mixed method text =
+    if nat_lt 0 (length (before_you text)) && is_fraction (after_you text)
+    then mixed_of (whole_answer method (before_you text))
+    (divisor_answer method (before_bar (after_you text)))
+    (part_answer method (after_bar (after_you text))) else None
+
+-- the answer to a text without sign that is no mixed fraction
+abbrev pub simple_answer : ChineseCountMethod → List ℕ → Result Ratio Refusal
+simple_answer method text =
+    if is_fraction text
+    then fraction_answer method (before_bar text) (length (before_bar text) + 2) (after_bar text)
+    else option_map_or (λ divisor. share_answer method divisor text) (share text)
+    (and_then (number_answer method text)
+    (λ decimal. ratio_of 1 (form_of decimal.decimals) decimal))
 
 -- the answer to a text without sign
 abbrev pub ratio_answer : ChineseCountMethod → List ℕ → Result Ratio Refusal
 ratio_answer method text =
-    if is_fraction text then fraction_answer method (before_bar text) (after_bar text)
-    else (if is_percentage text
-    then and_then (number_answer method (take (length text - 1) text))
-    (λ decimal. ratio_of 100 Percent decimal)
-    else and_then (number_answer method text)
-    (λ decimal. ratio_of 1 (form_of decimal.decimals) decimal))
+    option_map_or (λ ratio. Ok ratio) (mixed method text) (simple_answer method text)

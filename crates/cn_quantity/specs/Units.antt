@@ -1,5 +1,5 @@
 -- Units that multiply what stands in front of them, as 百万 in 2.5百万.
-use Rattle.std.specs.Prelude.{ℕ, ◌*◌, ◌^◌, Bool, true, false, ◌&&◌, nat_lt, List, [], ◌∷◌, Option, Some, None, if◌then◌else◌}
+use Rattle.std.specs.Prelude.{ℕ, ◌*◌, ◌^◌, Bool, true, false, ◌&&◌, ◌==◌, nat_le, nat_lt, List, [], ◌∷◌, Option, Some, None, if◌then◌else◌}
 use Rattle.std.specs.Option.{option_map_or}
 use Rattle.std.specs.List.{list_all}
 use Rattle.cn_core.specs.declared.method.ChineseCountMethod.{ChineseCountMethod}
@@ -34,3 +34,21 @@ are_below (Some greatest) text =
 abbrev pub first_rank : List ℕ → Option ℕ
 first_rank [] = None
 first_rank (c ∷ rest) = rank_of c
+
+-- 個
+abbrev pub is_ge : ℕ → Bool
+is_ge c = option_map_or (λ rank. rank == 0) (rank_of c) false
+
+-- the rank of the first unit, without 個 before it
+abbrev pub first_factor : List ℕ → Option ℕ
+first_factor [] = None
+first_factor (c ∷ rest) = if is_ge c then first_rank rest else rank_of c
+
+-- rising units, and 個 directly before them or not where the first is 萬 or greater: what may follow
+-- figures and decimals, as in 3万 and 3个亿
+abbrev pub are_factors : List ℕ → Bool
+are_factors [] = true
+are_factors (c ∷ rest) =
+    if is_ge c then option_map_or (λ rank. nat_le 4 rank) (first_rank rest) false
+    && are_rising_units rest
+    else are_rising_units (c ∷ rest)

@@ -8,7 +8,7 @@ use crate::characters::{DigitKind, is_point};
 use crate::digits::split_digits;
 use crate::figures::count_decimals;
 use crate::pieces::{before_end, split_first, split_last};
-use crate::units::{are_below, first_unit};
+use crate::units::{are_below, first_factor};
 use cn_core::{Unit, digit_of, unit_of};
 
 // What stands in front of the first point and what behind it.
@@ -70,7 +70,7 @@ pub fn split_decimal(text: &str) -> Option<ChineseDecimal<'_>>
     split_first(whole)?;
     let decimals = count_decimals(DigitKind::Chinese, behind)?;
     let (_, units) = split_digits(DigitKind::Chinese, behind);
-    if !ends_colloquially(whole) && are_below(first_unit(units), whole) {
+    if !ends_colloquially(whole) && are_below(first_factor(units), whole) {
         Some(ChineseDecimal {
             whole,
             behind,

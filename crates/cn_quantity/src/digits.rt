@@ -26,8 +26,8 @@ pub fn split_digits(kind: DigitKind, text: &str) -> (usize, &str)
     (count, rest)
 }
 
-// A number with one more digit, if it fits.
-fn with_digit(number: u128, digit: u8) -> Option<u128>
+/// A number with one more digit, if it fits.
+pub fn with_digit(number: u128, digit: u8) -> Option<u128>
     ensures { SomeIff result (number * 10 + digit < 2 ^ 128) (number * 10 + digit) }
 {
     number.checked_mul(10)?.checked_add(digit as u128)

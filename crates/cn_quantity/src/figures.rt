@@ -5,10 +5,11 @@ ghost use Rattle.cn_quantity.specs.declared.characters.DigitKind.TheVariants.{Fi
 ghost use Rattle.cn_quantity.specs.Digits.{begins_with_digit, is_digit, leading_digits};
 ghost use Rattle.cn_quantity.specs.Figures.{after_groups, are_decimals, decimals_in_figures, decimals_of, ends_in_figures, is_in_figures, may_lead_groups};
 
-use crate::characters::{DigitKind, digit_by, is_comma, is_point};
+use crate::characters::{DigitKind, digit_by, is_point};
 use crate::digits::split_digits;
 use crate::pieces::split_first;
-use crate::units::are_rising_units;
+use crate::units::are_factors;
+use cn_core::is_comma;
 
 // What follows a figure at the start.
 fn after_figure(text: &str) -> Option<&str>
@@ -65,13 +66,13 @@ fn may_lead_groups(count: usize, text: &str) -> bool
     }
 }
 
-/// How many digits the text begins with, if there is one, and rising units or nothing behind them.
+/// How many digits the text begins with, if there is one, and units or nothing after them.
 pub fn count_decimals(kind: DigitKind, text: &str) -> Option<usize>
     ensures { SomeIff result (are_decimals kind (text_of text.now) ≡ true)
         (leading_digits kind (text_of text.now)) }
 {
     let (count, units) = split_digits(kind, text);
-    if count > 0 && are_rising_units(units) {
+    if count > 0 && are_factors(units) {
         Some(count)
     } else {
         None
@@ -88,7 +89,7 @@ fn end_in_figures(text: &str) -> Option<usize>
     };
     if is_point(DigitKind::Figure, c) {
         count_decimals(DigitKind::Figure, rest)
-    } else if are_rising_units(text) {
+    } else if are_factors(text) {
         Some(0)
     } else {
         None

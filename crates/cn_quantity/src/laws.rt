@@ -1,10 +1,13 @@
 //! What users may count on, as contracts of functions that do nothing.
-ghost use Rattle.std.specs.Prelude.{◌≡◌, ◌<◌, ℕ, List, length, Err};
+ghost use Rattle.std.specs.Prelude.{◌≡◌, ◌↔◌, ◌⊎◌, ◌<◌, ◌%◌, ◌*ℤ◌, ℕ, List, length, nat_abs, pos, Err, IsSome, None, Some};
 ghost use Rattle.cn_core.specs.declared.method.ChineseCountMethod.{ChineseCountMethod};
 ghost use Rattle.cn_core.specs.CharIndex.{char_index_of};
 ghost use Rattle.cn_core.specs.Refusal.{incorrect_at};
 ghost use Rattle.cn_core.specs.Text.{text_of};
+ghost use Rattle.cn_quantity.specs.declared.quantity.Quantity.{Quantity};
+ghost use Rattle.cn_quantity.specs.declared.quantity.QuantityForm.TheVariants.{Percent};
 ghost use Rattle.cn_quantity.specs.Reading.{quantity_answer};
+ghost use Rattle.cn_quantity.specs.Trimmed.{decimals_of, trimmed};
 
 /// A refusal points at a character: its char_index is that of a place of the text, the sign's
 /// counted.
@@ -15,4 +18,22 @@ pub fn refusals_point_at_characters()
         → quantity_answer method bytes ≡ Err (incorrect_at char_index)
         → (place : ℕ) × (place < length (text_of bytes))
         × (char_index ≡ char_index_of bytes place) }
+{}
+
+/// `trimmed` keeps the value: the two numerators and denominators are one ratio, a denominator above
+/// 0 stays above 0, and a percentage, and nothing else, becomes a percentage. Where the decimals are
+/// known, they still are, and none is left, or the last one is no zero; where they are not, the
+/// quantity stays as it is.
+///
+/// For whoever shows or compares quantities without zeros at their end: 350000/10 is 35000/1, and
+/// 12.50%, which is 1250/10000, is 125/1000.
+pub fn trimmed_keeps_the_value()
+    ensures value { (q : Quantity)
+        → (trimmed q).numerator *ℤ pos q.denominator ≡ q.numerator *ℤ pos (trimmed q).denominator }
+    ensures above { (q : Quantity) → 0 < q.denominator → 0 < (trimmed q).denominator }
+    ensures percent { (q : Quantity) → ((trimmed q).form ≡ Percent) ↔ (q.form ≡ Percent) }
+    ensures known { (q : Quantity) → IsSome (decimals_of q) → IsSome (decimals_of (trimmed q)) }
+    ensures last { (q : Quantity) → IsSome (decimals_of q)
+        → (decimals_of (trimmed q) ≡ Some 0) ⊎ (0 < nat_abs (trimmed q).numerator % 10) }
+    ensures unknown { (q : Quantity) → decimals_of q ≡ None → trimmed q ≡ q }
 {}

@@ -8,12 +8,16 @@ mod decimal;
 mod digits;
 mod figures;
 pub mod laws;
+mod misread;
+mod mixed;
 mod number;
 mod pieces;
 mod quantity;
 mod ratio;
 mod trimmed;
+mod turns;
 mod units;
+mod whole_number;
 
 pub use quantity::{Quantity, QuantityForm, chinese_to_quantity};
 pub use trimmed::decimals_of;

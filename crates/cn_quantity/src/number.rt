@@ -3,54 +3,24 @@ ghost use Rattle.std.specs.Prelude.{◌≡◌, ◌+◌, ◌^◌, ◌<◌, length
 ghost use Rattle.cn_core.specs.Text.{text_of};
 ghost use Rattle.cn_judge.specs.Answer.{answer_of};
 ghost use Rattle.cn_judge.specs.Piece.{answer_at};
-ghost use Rattle.cn_quantity.specs.Number.{decimal_of, divisor_answer, is_divisor, is_plain, number_answer, part_answer, short_tens, whole_answer};
+ghost use Rattle.cn_quantity.specs.Number.{decimal_of, divisor_answer, is_divisor, number_answer, part_answer, shaped_number, short_tens};
 
-use crate::characters::{DigitKind, digit_by, tens_of};
+use crate::characters::{DigitKind, digit_by};
 use crate::decimal::split_decimal;
 use crate::digits::read_with_units;
 use crate::figures::decimals_in_figures;
 use crate::pieces::split_first;
+use crate::turns::by_turns;
 use crate::units::{are_rising_units, times_units};
-use cn_core::{ChineseCountMethod, digit_of};
-use cn_judge::{ChineseToNumberError, judge_naive, judge_text};
+use crate::whole_number::judge_whole;
+use cn_core::{ChineseCountMethod, tens_of};
+use cn_judge::ChineseToNumberError;
 
 /// A number without its point, and how many decimals it has: 314 and 2 for 3.14.
 #[derive(Copy, Clone)]
 pub struct Decimal {
     pub number: u128,
     pub decimals: usize,
-}
-
-// Whether each character is a digit of numerals.
-fn is_plain(text: &str) -> bool
-    ensures { result ≡ is_plain (text_of text.now) }
-{
-    let mut rest = text;
-    'looking: while let Some((c, after)) = split_first(rest) {
-        if digit_of(c).is_none() {
-            return false;
-        }
-        rest = after;
-    }
-    true
-}
-
-// The whole number of a text as the readers of numerals read it, behind so many characters of the
-// caller's string.
-fn judge_whole(
-    method: ChineseCountMethod,
-    skipped: usize,
-    text: &str,
-) -> Result<u128, ChineseToNumberError>
-    requires { skipped + length text.now < 2 ^ 64 }
-    ensures { answer_of (λ n. n) result
-        ≡ answer_at skipped text.now (whole_answer method (text_of text.now)) }
-{
-    if is_plain(text) {
-        judge_naive(skipped, text)
-    } else {
-        judge_text(method, skipped, text)
-    }
 }
 
 // The number of 廿 or 卅 with one digit behind it or none.
@@ -79,22 +49,24 @@ fn decimal_of(decimals: usize, number: Option<u128>) -> Result<Decimal, ChineseT
     }
 }
 
-/// The answer to a text that has no sign, no percent sign and no 分之, behind so many characters of
-/// the caller's string.
-pub fn judge_number(
+// The answer to a text by its shape, behind so many characters of the caller's string.
+fn judge_shaped(
     method: ChineseCountMethod,
     skipped: usize,
     text: &str,
 ) -> Result<Decimal, ChineseToNumberError>
     requires { skipped + length text.now < 2 ^ 64 }
     ensures { answer_of (λ d. d) result
-        ≡ answer_at skipped text.now (number_answer method (text_of text.now)) }
+        ≡ answer_at skipped text.now (shaped_number method (text_of text.now)) }
 {
     if let Some(decimals) = decimals_in_figures(text) {
         return decimal_of(
             decimals,
             read_with_units(method, DigitKind::Figure, 0, text),
         );
+    }
+    if let Some(number) = by_turns(method, text) {
+        return decimal_of(0, Some(number));
     }
     if let Some(parts) = split_decimal(text) {
         let whole = judge_whole(method, skipped, parts.whole)?;
@@ -108,6 +80,23 @@ pub fn judge_number(
     }
     let whole = judge_whole(method, skipped, text)?;
     decimal_of(0, Some(whole))
+}
+
+/// The answer to a text that has no sign, no percent sign and no 分之, behind so many characters of
+/// the caller's string: what the readers of numerals read is that whole number.
+pub fn judge_number(
+    method: ChineseCountMethod,
+    skipped: usize,
+    text: &str,
+) -> Result<Decimal, ChineseToNumberError>
+    requires { skipped + length text.now < 2 ^ 64 }
+    ensures { answer_of (λ d. d) result
+        ≡ answer_at skipped text.now (number_answer method (text_of text.now)) }
+{
+    match judge_whole(method, skipped, text) {
+        Ok(number) => decimal_of(0, Some(number)),
+        Err(_) => judge_shaped(method, skipped, text),
+    }
 }
 
 /// The same of a part of a fraction, where units alone count as with 一 in front.

@@ -1,8 +1,11 @@
 // A text, taken apart: its first and last character that are no white space, and what stands before
 // one of its ends.
-ghost use Rattle.std.specs.Prelude.{◌≡◌, ◌+◌, ◌++◌, ◌<◌, [], ◌∷◌, length, chars, IfSome, MatchOption};
+ghost use Rattle.std.specs.Prelude.{◌≡◌, ℕ, ◌+◌, ◌++◌, ◌<◌, ◌≤◌, [], ◌∷◌, length, chars, IfSome, MatchOption};
 ghost use Rattle.cn_core.specs.Text.{text_of};
+ghost use Rattle.cn_judge.specs.Piece.{StandsAt};
 ghost use Rattle.cn_quantity.specs.Private.{BeginsWith, FinishesWith, IsEnd};
+
+use cn_judge::count_chars;
 
 /// The first character that is no white space, and what stands behind it.
 pub fn split_first(text: &str) -> Option<(char, &str)>
@@ -32,4 +35,14 @@ pub fn before_end<'a>(text: &'a str, end: &str) -> &'a str
 {
     let (before, _) = text.split_at(text.len() - end.len());
     before
+}
+
+/// How many characters of the text stand before an end of it.
+pub fn count_before(text: &str, end: &str) -> usize
+    requires { IsEnd text.now end.now }
+    ensures stands { (place : ℕ) → place + length (text_of end.now) ≡ length (text_of text.now)
+        → StandsAt text.now (chars end.now) result place }
+    ensures within { result + length end.now ≤ length text.now }
+{
+    count_chars(before_end(text, end))
 }

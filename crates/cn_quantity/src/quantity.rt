@@ -1,20 +1,22 @@
-ghost use Rattle.std.specs.Prelude.{◌≡◌, ◌+◌, ◌*◌, ◌^◌, ◌<◌, ◌≤◌, ℤ, length, chars, IsTrue, MatchOption, SomeIff};
-ghost use Rattle.cn_core.specs.Reading.{sign_len};
+ghost use Rattle.std.specs.Prelude.{◌≡◌, ◌+◌, ◌*◌, ◌^◌, ◌<◌, ◌≤◌, ℤ, true, false, length, drop, chars, IfSome, IsTrue, MatchOption, SomeIff};
 ghost use Rattle.cn_core.specs.Text.{text_of};
 ghost use Rattle.cn_core.specs.Whole.{holds};
 ghost use Rattle.cn_judge.specs.Answer.{answer_of, refusal_of};
 ghost use Rattle.cn_judge.specs.Piece.{StandsAt};
-ghost use Rattle.cn_quantity.specs.Reading.{leading_sign, quantity_answer, signed_ratio};
-ghost use Rattle.cn_quantity.specs.Private.{signed_refusal};
+ghost use Rattle.cn_quantity.specs.Reading.{begins_number, front_length, is_below_zero, number_sign, quantity_answer, sign_length, signed_ratio, yen_length};
+ghost use Rattle.cn_quantity.specs.Private.{IsEnd, signed_by, signed_refusal};
 ghost use Rattle.cn_quantity.specs.Ratio.{form_of};
 ghost use Rattle.cn_quantity.specs.Trimmed.{trimmed};
 ghost use Rattle.cn_quantity.specs.Whole.{IsTimes};
 ghost use Rattle.cn_quantity.specs.declared.quantity.QuantityForm.TheVariants.{Percent, Fraction};
 
-use crate::characters::sign_of;
-use crate::ratio::{Ratio, form_of, judge_ratio};
+use crate::characters::{DigitKind, digit_by, is_ling, is_xia, sign_of};
+use crate::pieces::{count_before, split_first};
+use crate::ratio::{Ratio, form_of, judge_fraction, judge_ratio, split_negated};
 use crate::trimmed::{decimals_of, without_zeros, zeros_at_end};
-use cn_core::{ChineseCountMethod, Sign, Whole, power_of_ten};
+use cn_core::{
+    ChineseCountMethod, Sign, Unit, Whole, digit_of, is_currency, power_of_ten, unit_of,
+};
 use cn_judge::{AfterSign, ChineseToNumberError, signed_answer};
 
 /// How a quantity is written.
@@ -149,25 +151,77 @@ impl Quantity {
     }
 }
 
-// The sign at the start of a text, and what follows it.
-fn split_sign(text: &str) -> AfterSign<'_>
-    ensures sign { result.sign ≡ leading_sign (text_of text.now) }
-    ensures rest { StandsAt text.now (chars result.rest.now) result.skipped (sign_len result.sign) }
-    ensures within { result.skipped + length result.rest.now ≤ length text.now }
+// Whether a number may begin with the character: a digit of numerals, a figure or 十.
+fn begins_number(c: char) -> bool
+    ensures { result ≡ begins_number c }
 {
-    if let Some(first) = cn_judge::split_first(text) {
-        if let Some(sign) = sign_of(first.character) {
-            return AfterSign {
-                sign: Some(sign),
-                skipped: first.skipped + 1,
-                rest: first.rest,
-            };
+    digit_of(c).is_some()
+        || digit_by(DigitKind::Figure, c).is_some()
+        || unit_of(c) == Some(Unit::Shi)
+}
+
+// What follows 零下 before a number.
+fn after_below_zero(text: &str) -> Option<&str>
+    ensures below { MatchOption result (is_below_zero (text_of text.now) ≡ false)
+        (λ r. (is_below_zero (text_of text.now) ≡ true)
+        × (text_of r.now ≡ drop 2 (text_of text.now))) }
+    ensures end { IfSome result (λ r. IsEnd text.now r.now) }
+{
+    let (first, rest) = split_first(text)?;
+    let (second, number) = split_first(rest)?;
+    let (third, _) = split_first(number)?;
+    if is_ling(first) && is_xia(second) && begins_number(third) {
+        Some(number)
+    } else {
+        None
+    }
+}
+
+// The sign before a number, and what follows it.
+fn split_sign(text: &str) -> (Option<Sign>, &str)
+    ensures sign { result.0 ≡ number_sign (text_of text.now) }
+    ensures rest { text_of result.1.now ≡ drop (sign_length (text_of text.now)) (text_of text.now) }
+    ensures end { IsEnd text.now result.1.now }
+{
+    if let Some(number) = after_below_zero(text) {
+        return (Some(Sign::Minus), number);
+    }
+    if let Some((c, rest)) = split_first(text) {
+        if let Some(sign) = sign_of(c) {
+            return (Some(sign), rest);
         }
     }
+    (None, text)
+}
+
+// What follows a ¥ before a figure, or the text where there is none.
+fn after_yen(text: &str) -> &str
+    ensures rest { text_of result.now ≡ drop (yen_length (text_of text.now)) (text_of text.now) }
+    ensures end { IsEnd text.now result.now }
+{
+    if let Some((first, rest)) = split_first(text) {
+        if let Some((second, _)) = split_first(rest) {
+            if is_currency(first) && digit_by(DigitKind::Figure, second).is_some() {
+                return rest;
+            }
+        }
+    }
+    text
+}
+
+// The sign before a number, and the number without it and without ¥.
+fn split_front(text: &str) -> AfterSign<'_>
+    ensures sign { result.sign ≡ number_sign (text_of text.now) }
+    ensures rest { StandsAt text.now (chars result.rest.now) result.skipped
+        (front_length (text_of text.now)) }
+    ensures within { result.skipped + length result.rest.now ≤ length text.now }
+{
+    let (sign, number) = split_sign(text);
+    let rest = after_yen(number);
     AfterSign {
-        sign: None,
-        skipped: 0,
-        rest: text,
+        sign,
+        skipped: count_before(text, rest),
+        rest,
     }
 }
 
@@ -193,6 +247,19 @@ fn signed_error(sign: Option<Sign>, error: ChineseToNumberError) -> ChineseToNum
     }
 }
 
+// The answer with its sign.
+fn signed_quantity(
+    sign: Option<Sign>,
+    answer: Result<Ratio, ChineseToNumberError>,
+) -> Result<Quantity, ChineseToNumberError>
+    ensures { answer_of (λ q. q) result ≡ signed_by sign (answer_of (λ r. r) answer) }
+{
+    match answer {
+        Ok(ratio) => signed_ratio(sign, ratio),
+        Err(error) => Err(signed_error(sign, error)),
+    }
+}
+
 /// The quantity that a text is: a whole number, a decimal, a percentage or a fraction, in figures or
 /// numerals, with a sign in front or none. It is exact, and as written.
 ///
@@ -209,9 +276,14 @@ pub fn chinese_to_quantity(
 ) -> Result<Quantity, ChineseToNumberError>
     ensures { answer_of (λ q. q) result ≡ quantity_answer method text.now }
 {
-    let after = split_sign(text);
-    match judge_ratio(method, after.skipped, after.rest) {
-        Ok(ratio) => signed_ratio(after.sign, ratio),
-        Err(error) => Err(signed_error(after.sign, error)),
+    let after = split_front(text);
+    if after.sign.is_none() {
+        if let Some(bar) = split_negated(after.rest) {
+            return signed_quantity(
+                Some(Sign::Minus),
+                judge_fraction(method, after.skipped, bar),
+            );
+        }
     }
+    signed_quantity(after.sign, judge_ratio(method, after.skipped, after.rest))
 }

@@ -1,17 +1,18 @@
 // What a text without sign is worth: a fraction, a percentage, or a number by itself.
-ghost use Rattle.std.specs.Prelude.{◌≡◌, ℕ, ◌+◌, ◌-◌, ◌*◌, ◌^◌, ◌<◌, ◌≤◌, ◌&&◌, true, false, [], length, take, IfSome, MatchOption, SomeIff};
+ghost use Rattle.std.specs.Prelude.{◌≡◌, ℕ, List, ◌+◌, ◌-◌, ◌*◌, ◌^◌, ◌<◌, ◌≤◌, ◌&&◌, true, false, [], length, take, IfSome, MatchOption, None, Some, SomeIff};
 ghost use Rattle.cn_core.specs.Text.{text_of};
 ghost use Rattle.cn_judge.specs.Answer.{answer_of};
 ghost use Rattle.cn_judge.specs.Piece.{answer_at};
 ghost use Rattle.cn_quantity.specs.Characters.{is_fen, is_zhi};
-ghost use Rattle.cn_quantity.specs.Private.{BeginsWith, IsFront, SplitsAtBar};
-ghost use Rattle.cn_quantity.specs.Ratio.{after_bar, begins_with_zhi, form_of, form_over, is_fraction, is_percentage, ratio_answer, ratio_of};
+ghost use Rattle.cn_quantity.specs.Private.{BeginsWith, IsFront, SplitsAtBar, SplitsFraction, SplitsNegated};
+ghost use Rattle.cn_quantity.specs.Ratio.{after_bar, begins_with_zhi, form_of, form_over, fraction_answer, is_fraction, is_negated, ratio_answer, ratio_of, share, simple_answer};
 
 use crate::QuantityForm;
-use crate::characters::{is_fen, is_percent, is_zhi};
+use crate::characters::{is_fen, is_zhi, share_of, sign_of};
+use crate::mixed::mixed;
 use crate::number::{Decimal, judge_divisor, judge_number, judge_part};
-use crate::pieces::{before_end, split_first, split_last};
-use cn_core::{ChineseCountMethod, power_of_ten};
+use crate::pieces::{before_end, count_before, split_first, split_last};
+use cn_core::{ChineseCountMethod, Sign, power_of_ten};
 use cn_judge::{ChineseToNumberError, count_chars};
 
 /// A quantity without its sign.
@@ -73,12 +74,12 @@ fn after_bar<'a>(c: char, text: &'a str) -> Option<&'a str>
     if is_zhi(next) { Some(behind) } else { None }
 }
 
-// What stands in front of 分之, what behind it, and how many characters before that.
+/// What stands before 分之, what stands over it, and how many characters stand before that.
 #[derive(Copy, Clone)]
-struct Bar<'a> {
-    divisor: &'a str,
-    skipped: usize,
-    behind: &'a str,
+pub struct Bar<'a> {
+    pub divisor: &'a str,
+    pub skipped: usize,
+    pub behind: &'a str,
 }
 
 // A text at its first 分之.
@@ -103,8 +104,8 @@ fn split_bar(text: &str) -> Option<Bar<'_>>
     None
 }
 
-// The parts of the text, if it is a fraction.
-fn split_fraction(text: &str) -> Option<Bar<'_>>
+/// The parts of the text, if it is a fraction.
+pub fn split_fraction(text: &str) -> Option<Bar<'_>>
     ensures fraction { MatchOption result (is_fraction (text_of text.now) ≡ false)
         (λ _. is_fraction (text_of text.now) ≡ true) }
     ensures parts { IfSome result
@@ -119,18 +120,20 @@ fn split_fraction(text: &str) -> Option<Bar<'_>>
     Some(bar)
 }
 
-// What stands in front of the percent sign, if the text is a percentage.
-fn split_percent(text: &str) -> Option<&str>
-    ensures percentage { MatchOption result (is_percentage (text_of text.now) ≡ false)
-        (λ _. is_percentage (text_of text.now) ≡ true) }
-    ensures parts { IfSome result (λ r. text_of r.now
+// What stands before a percent sign or ‰ at the end, if something does, and what the sign divides by.
+fn split_share(text: &str) -> Option<(&str, u128)>
+    ensures share { MatchOption result (share (text_of text.now) ≡ None)
+        (λ r. share (text_of text.now) ≡ Some r.1) }
+    ensures above { IfSome result (λ r. 0 < r.1) }
+    ensures parts { IfSome result (λ r. text_of r.0.now
         ≡ take (length (text_of text.now) - 1) (text_of text.now)) }
-    ensures front { IfSome result (λ r. IsFront text.now r.now) }
-    ensures shorter { IfSome result (λ r. length r.now < length text.now) }
+    ensures front { IfSome result (λ r. IsFront text.now r.0.now) }
+    ensures shorter { IfSome result (λ r. length r.0.now < length text.now) }
 {
     let (c, before) = split_last(text)?;
     split_first(before)?;
-    if is_percent(c) { Some(before) } else { None }
+    let divisor = share_of(c)?;
+    Some((before, divisor))
 }
 
 // The form of what is over a divisor.
@@ -144,6 +147,68 @@ fn form_over(divisor: u128) -> QuantityForm
     }
 }
 
+/// The parts of a fraction with a minus sign directly after 分之, if the text is one.
+pub fn split_negated(text: &str) -> Option<Bar<'_>>
+    ensures negated { MatchOption result (is_negated (text_of text.now) ≡ false)
+        (λ _. is_negated (text_of text.now) ≡ true) }
+    ensures parts { IfSome result
+        (λ bar. SplitsNegated text.now bar.divisor.now bar.skipped bar.behind.now) }
+    ensures divisor { IfSome result (λ bar. length bar.divisor.now ≤ length text.now) }
+    ensures behind { IfSome result
+        (λ bar. bar.skipped + length bar.behind.now ≤ length text.now) }
+{
+    let bar = split_fraction(text)?;
+    let (c, behind) = split_first(bar.behind)?;
+    split_first(behind)?;
+    match sign_of(c) {
+        Some(Sign::Minus) => Some(Bar {
+            divisor: bar.divisor,
+            skipped: count_before(text, behind),
+            behind,
+        }),
+        _ => None,
+    }
+}
+
+/// The answer to a fraction by its parts, after so many characters of the caller's string.
+pub fn judge_fraction(
+    method: ChineseCountMethod,
+    skipped: usize,
+    bar: Bar<'_>,
+) -> Result<Ratio, ChineseToNumberError>
+    requires divisor { skipped + length bar.divisor.now < 2 ^ 64 }
+    requires behind { skipped + bar.skipped + length bar.behind.now < 2 ^ 64 }
+    ensures { (bytes : List ℕ) (place : ℕ)
+        → SplitsFraction bytes bar.entry.divisor.now bar.entry.skipped place bar.entry.behind.now
+        → answer_of (λ r. r) result ≡ answer_at skipped bytes (fraction_answer method
+        (text_of bar.entry.divisor.now) place (text_of bar.entry.behind.now)) }
+{
+    let divisor = judge_divisor(method, skipped, bar.divisor)?;
+    let decimal = judge_part(method, skipped + bar.skipped, bar.behind)?;
+    ratio_of(divisor, form_over(divisor), decimal)
+}
+
+// The answer to a text without sign that is no mixed fraction.
+fn judge_simple(
+    method: ChineseCountMethod,
+    skipped: usize,
+    text: &str,
+) -> Result<Ratio, ChineseToNumberError>
+    requires { skipped + length text.now < 2 ^ 64 }
+    ensures { answer_of (λ r. r) result
+        ≡ answer_at skipped text.now (simple_answer method (text_of text.now)) }
+{
+    if let Some(bar) = split_fraction(text) {
+        return judge_fraction(method, skipped, bar);
+    }
+    if let Some((before, divisor)) = split_share(text) {
+        let decimal = judge_number(method, skipped, before)?;
+        return ratio_of(divisor, form_over(divisor), decimal);
+    }
+    let decimal = judge_number(method, skipped, text)?;
+    ratio_of(1, form_of(decimal.decimals), decimal)
+}
+
 /// The answer to a text without sign, behind so many characters of the caller's string.
 pub fn judge_ratio(
     method: ChineseCountMethod,
@@ -154,15 +219,8 @@ pub fn judge_ratio(
     ensures { answer_of (λ r. r) result
         ≡ answer_at skipped text.now (ratio_answer method (text_of text.now)) }
 {
-    if let Some(bar) = split_fraction(text) {
-        let divisor = judge_divisor(method, skipped, bar.divisor)?;
-        let decimal = judge_part(method, skipped + bar.skipped, bar.behind)?;
-        return ratio_of(divisor, form_over(divisor), decimal);
+    match mixed(method, text) {
+        Some(ratio) => Ok(ratio),
+        None => judge_simple(method, skipped, text),
     }
-    if let Some(before) = split_percent(text) {
-        let decimal = judge_number(method, skipped, before)?;
-        return ratio_of(100, QuantityForm::Percent, decimal);
-    }
-    let decimal = judge_number(method, skipped, text)?;
-    ratio_of(1, form_of(decimal.decimals), decimal)
 }

@@ -1,9 +1,10 @@
 // Units that multiply what stands in front of them.
-ghost use Rattle.std.specs.Prelude.{◌≡◌, ◌*◌, ◌^◌, ◌<◌, IsTrue, SomeIff, option_map};
+ghost use Rattle.std.specs.Prelude.{◌≡◌, ◌*◌, ◌^◌, ◌<◌, IsTrue, SomeIff, false, nat_le, option_map};
+ghost use Rattle.std.specs.Option.{option_map_or};
 ghost use Rattle.cn_core.specs.Characters.{rank};
 ghost use Rattle.cn_core.specs.Scale.{scale, scale_fits};
 ghost use Rattle.cn_core.specs.Text.{text_of};
-ghost use Rattle.cn_quantity.specs.Units.{are_below, are_rising_units, first_rank, times_units};
+ghost use Rattle.cn_quantity.specs.Units.{are_below, are_factors, are_rising_units, first_factor, first_rank, is_ge, times_units};
 
 use crate::pieces::split_first;
 use cn_core::{ChineseCountMethod, Unit, scale, unit_of};
@@ -72,4 +73,51 @@ pub fn are_below(greatest: Option<Unit>, text: &str) -> bool
         rest = after;
     }
     true
+}
+
+// 個
+fn is_ge(c: char) -> bool
+    ensures { result ≡ is_ge c }
+{
+    match unit_of(c) {
+        Some(unit) => unit == Unit::Ge,
+        None => false,
+    }
+}
+
+/// The first unit of the text, without 個 before it.
+pub fn first_factor(text: &str) -> Option<Unit>
+    ensures { option_map rank result ≡ first_factor (text_of text.now) }
+{
+    let (c, rest) = split_first(text)?;
+    if is_ge(c) {
+        first_unit(rest)
+    } else {
+        unit_of(c)
+    }
+}
+
+// Whether the text begins with a unit from 萬 up.
+fn begins_from_wan(text: &str) -> bool
+    ensures { result ≡ option_map_or (λ rank. nat_le 4 rank) (first_rank (text_of text.now)) false }
+{
+    match first_unit(text) {
+        Some(unit) => unit >= Unit::Wan,
+        None => false,
+    }
+}
+
+/// Whether the text is rising units or nothing, with 個 before them or not where the first is 萬 or
+/// greater.
+pub fn are_factors(text: &str) -> bool
+    ensures { result ≡ are_factors (text_of text.now) }
+{
+    let Some((c, rest)) = split_first(text) else {
+        return true;
+    };
+    if is_ge(c) {
+        begins_from_wan(rest) && are_rising_units(rest)
+    } else {
+        are_rising_units(text)
+    }
 }

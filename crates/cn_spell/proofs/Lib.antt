@@ -3,6 +3,7 @@ pub mod Ends
 pub mod NaiveTexts
 pub mod Pens
 pub mod Printed
+pub mod ReadByOther
 pub mod Rooms
 pub mod SectionCuts
 pub mod SectionWalks

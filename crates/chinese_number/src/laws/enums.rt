@@ -3,6 +3,7 @@ ghost use Rattle.std.specs.Prelude.{◌≡◌, ◌↔◌, IsTrue};
 ghost use Rattle.std.specs.Ordering.{nat_cmp};
 ghost use Rattle.cn_amount.specs.declared.error.AmountToChineseError.{AmountToChineseError as AmountPrintingError};
 ghost use Rattle.cn_amount.specs.declared.error.ChineseToAmountError.{ChineseToAmountError as AmountReadingError};
+ghost use Rattle.cn_amount.specs.declared.form.AmountForm.{AmountForm as FormOfAmount};
 ghost use Rattle.cn_core.specs.Characters.{rank};
 ghost use Rattle.cn_core.specs.declared.case.ChineseCase.{ChineseCase as Case};
 ghost use Rattle.cn_core.specs.declared.method.ChineseCountMethod.{ChineseCountMethod as Method};
@@ -12,19 +13,24 @@ ghost use Rattle.cn_core.specs.declared.unit.Unit.{Unit as NumeralUnit};
 ghost use Rattle.cn_date.specs.declared.date.BillDate.{BillDate as DateOfBill};
 ghost use Rattle.cn_date.specs.declared.error.ChineseToDateError.{ChineseToDateError as DateReadingError};
 ghost use Rattle.cn_date.specs.declared.error.DateToChineseError.{DateToChineseError as DatePrintingError};
+ghost use Rattle.cn_express.specs.declared.error.QuantityToChineseError.{QuantityToChineseError as QuantityPrintingError};
 ghost use Rattle.cn_judge.specs.declared.error.ChineseToNumberError.{ChineseToNumberError as ReadingError};
+ghost use Rattle.cn_quantity.specs.declared.quantity.Quantity.{Quantity as ExactQuantity};
+ghost use Rattle.cn_quantity.specs.declared.quantity.QuantityForm.{QuantityForm as FormOfQuantity};
 ghost use Rattle.cn_spell.specs.declared.error.NumberToChineseError.{NumberToChineseError as PrintingError};
 
-use cn_amount::{AmountToChineseError, ChineseToAmountError};
+use cn_amount::{AmountForm, AmountToChineseError, ChineseToAmountError};
 use cn_core::{ChineseCase, ChineseCountMethod, ChineseVariant, Sign, Unit};
 use cn_date::{BillDate, ChineseToDateError, DateToChineseError};
+use cn_express::QuantityToChineseError;
 use cn_print::NumberToChineseError;
+use cn_quantity::{Quantity, QuantityForm};
 use cn_read::ChineseToNumberError;
 
 /// Two values of an enum are equal exactly where they are the same variant, with the same
 /// char_index where there is one.
 ///
-/// For callers who compare scripts, cases, methods, units, signs or errors.
+/// For callers who compare scripts, cases, methods, units, signs, forms of quantities or errors.
 pub fn equal_values_are_the_same_variant()
     ensures units { (a b : NumeralUnit) → IsTrue (⟦<Unit as PartialEq>⟧.eq a b) ↔ (a ≡ b) }
     ensures signs { (a b : NumeralSign) → IsTrue (⟦<Sign as PartialEq>⟧.eq a b) ↔ (a ≡ b) }
@@ -32,10 +38,14 @@ pub fn equal_values_are_the_same_variant()
     ensures cases { (a b : Case) → IsTrue (⟦<ChineseCase as PartialEq>⟧.eq a b) ↔ (a ≡ b) }
     ensures methods { (a b : Method)
         → IsTrue (⟦<ChineseCountMethod as PartialEq>⟧.eq a b) ↔ (a ≡ b) }
+    ensures quantity_forms { (a b : FormOfQuantity)
+        → IsTrue (⟦<QuantityForm as PartialEq>⟧.eq a b) ↔ (a ≡ b) }
     ensures reading_errors { (a b : ReadingError)
         → IsTrue (⟦<ChineseToNumberError as PartialEq>⟧.eq a b) ↔ (a ≡ b) }
     ensures printing_errors { (a b : PrintingError)
         → IsTrue (⟦<NumberToChineseError as PartialEq>⟧.eq a b) ↔ (a ≡ b) }
+    ensures quantity_printing_errors { (a b : QuantityPrintingError)
+        → IsTrue (⟦<QuantityToChineseError as PartialEq>⟧.eq a b) ↔ (a ≡ b) }
     ensures amount_reading_errors { (a b : AmountReadingError)
         → IsTrue (⟦<ChineseToAmountError as PartialEq>⟧.eq a b) ↔ (a ≡ b) }
     ensures amount_printing_errors { (a b : AmountPrintingError)
@@ -51,6 +61,20 @@ pub fn equal_values_are_the_same_variant()
 /// For callers who compare dates.
 pub fn equal_dates_are_the_same_day()
     ensures { (a b : DateOfBill) → IsTrue (⟦<BillDate as PartialEq>⟧.eq a b) ↔ (a ≡ b) }
+{}
+
+/// Two quantities are equal exactly where numerators, denominators and forms are.
+///
+/// For callers who compare quantities: 3.10, which is 310/100, and 3.1, which is 31/10, are two.
+pub fn equal_quantities_have_equal_parts()
+    ensures { (a b : ExactQuantity) → IsTrue (⟦<Quantity as PartialEq>⟧.eq a b) ↔ (a ≡ b) }
+{}
+
+/// Two forms of an amount are equal exactly where they ask for the same.
+///
+/// For callers who compare what was asked for: 圆 in place of 元 is another form than 人民币 in front.
+pub fn equal_amount_forms_ask_for_the_same()
+    ensures { (a b : FormOfAmount) → IsTrue (⟦<AmountForm as PartialEq>⟧.eq a b) ↔ (a ≡ b) }
 {}
 
 /// Units are ordered by rank: 個 is the least and 極 the greatest.

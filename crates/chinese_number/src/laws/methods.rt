@@ -1,6 +1,6 @@
 // Where the four methods agree, and where they do not.
 ghost use Rattle.std.specs.Prelude.{◌≡◌, ◌≢◌, ◌↔◌, ◌^◌, ◌<◌, ℕ, ℤ, List, Result, IsTrue};
-ghost use Rattle.chinese_number.specs.Methods.{names_no_unit_above_wan};
+ghost use Rattle.chinese_number.specs.Methods.{names_no_unit_above_wan, names_no_unit_above_yi};
 ghost use Rattle.chinese_number.specs.Parts.{unsigned_text};
 ghost use Rattle.cn_core.specs.Refusal.{Refusal};
 ghost use Rattle.cn_core.specs.Spelling.{spelling};
@@ -39,12 +39,19 @@ pub fn methods_spell_otherwise_from()
 {}
 
 /// A string that names no unit above 萬 has the same answer under all four methods, the char_index
-/// of a refusal included. The sign that its type takes off does not count.
+/// of a refusal included, and one that names none above 億 under all but `Low`. The sign that its
+/// type takes off does not count.
 ///
-/// For readers of dates and chapter numbers: there no method has to be chosen.
+/// For readers of dates and chapter numbers: there no method has to be chosen. 一萬億 is 10^12 by
+/// three of them.
 pub fn small_units_read_alike()
-    ensures { (kind : Kind) (bytes : List ℕ)
+    ensures all { (kind : Kind) (bytes : List ℕ)
         → IsTrue (names_no_unit_above_wan (marks_of (unsigned_text kind bytes)))
         → (one other : ChineseCountMethod) (answer : Result ℤ Refusal)
         → Reads kind one bytes answer ↔ Reads kind other bytes answer }
+    ensures three { (kind : Kind) (bytes : List ℕ)
+        → IsTrue (names_no_unit_above_yi (marks_of (unsigned_text kind bytes)))
+        → (answer : Result ℤ Refusal)
+        → (Reads kind TenThousand bytes answer ↔ Reads kind Middle bytes answer)
+        × (Reads kind Middle bytes answer ↔ Reads kind High bytes answer) }
 {}

@@ -1,5 +1,5 @@
 // What is printed is read back.
-ghost use Rattle.std.specs.Prelude.{◌≡◌, ◌↔◌, ℕ, ◌<◌, ℤ, nat_abs, List, take, Result, Ok, IsTrue, encode_utf8_all};
+ghost use Rattle.std.specs.Prelude.{◌≡◌, ◌↔◌, ℕ, ◌^◌, ◌<◌, ℤ, nat_abs, List, take, Result, Ok, IsTrue, encode_utf8_all};
 ghost use Rattle.chinese_number.specs.Parts.{sign_length};
 ghost use Rattle.cn_core.specs.Numeral.{IsNumeral};
 ghost use Rattle.cn_core.specs.Refusal.{Refusal};
@@ -10,6 +10,7 @@ ghost use Rattle.cn_core.specs.Whole.{holds};
 ghost use Rattle.cn_core.specs.Printing.{naive_text, spelled_text, is_printable};
 ghost use Rattle.cn_core.specs.declared.case.ChineseCase.{ChineseCase};
 ghost use Rattle.cn_core.specs.declared.method.ChineseCountMethod.{ChineseCountMethod};
+ghost use Rattle.cn_core.specs.declared.method.ChineseCountMethod.TheVariants.{Middle, TenThousand};
 ghost use Rattle.cn_core.specs.declared.script.ChineseVariant.{ChineseVariant};
 
 use cn_core::Whole;
@@ -36,6 +37,18 @@ pub fn spellings_read_back<T: Whole>()
         (number : ℤ) → IsTrue (holds T.kind number) → IsTrue (is_printable method number)
         → (answer : Result ℤ Refusal)
         → Reads T.kind method (encode_utf8_all (spelled_text variant case method number)) answer
+        ↔ (answer ≡ Ok number) }
+{}
+
+/// What `Middle` spells for a magnitude below 10^16 is read by `TenThousand` too, as the same number
+/// and as nothing else.
+///
+/// For whoever writes for readers on the mainland, where 10^12 is 一万亿, and reads whatever comes:
+/// there no method has to be known.
+pub fn middle_is_read_by_ten_thousand<T: Whole>()
+    ensures { (variant : ChineseVariant) (case : ChineseCase) (number : ℤ)
+        → IsTrue (holds T.kind number) → nat_abs number < 10 ^ 16 → (answer : Result ℤ Refusal)
+        → Reads T.kind TenThousand (encode_utf8_all (spelled_text variant case Middle number)) answer
         ↔ (answer ≡ Ok number) }
 {}
 

@@ -14,7 +14,7 @@ filling-preserved g c =
       within = within c.filling.count c.args.runs _ _ next;
       room = omega arith;
       left = sym (left c.filling.count c.args.runs _ _ next);
-      told = rw c.span_of_found.ensures (rw c.filling.invariant.told (filled span_told c.filling.count c.args.runs _ _ _ next room));
+      told = rw c.span_of_found.ensures (rw c.filling.invariant.told (filled (span_told g.R.SearchRule.doubt) c.filling.count c.args.runs _ _ _ next room));
     }
 
 pub returns-in_default : goal.returns-in_default
@@ -23,6 +23,6 @@ returns-in_default g c =
     sym c.filling.invariant.left ∙ c.in_default.ensures.steps.0 in
     let all : take (length c.args.spans.now) c.args.runs ≡ take c.filling.count c.args.runs =
     taken c.filling.count _ c.args.runs none c.filling.invariant.room in
-    let count : length (map span_told (take c.filling.count c.args.runs)) ≡ c.filling.count =
+    let count : length (map (span_told g.R.SearchRule.doubt) (take c.filling.count c.args.runs)) ≡ c.filling.count =
     length-map _ _ ∙ length-take-le c.filling.count c.args.runs c.filling.invariant.within in
     simp (all, count) (c.filling.invariant.told, refl)

@@ -7,5 +7,5 @@ invariant-filling g l = record {
   within : l.count ≤ length l.fn.runs;
   room : l.count ≤ length l.fn.spans;
   left : l.runs ≡ drop l.count l.fn.runs;
-  told : l.spans ≡ map span_told (take l.count l.fn.runs) ++ drop l.count l.fn.spans;
+  told : l.spans ≡ map (span_told g.R.SearchRule.doubt) (take l.count l.fn.runs) ++ drop l.count l.fn.spans;
 }

@@ -1,58 +1,14 @@
-use Rattle.std.proofs.Common.{ap, ◌∙◌}
-use Rattle.cn_quantity.specs.Ratio.{ratio_of}
-use Rattle.cn_quantity.proofs.Ratios.{fraction-stops, fraction-stops_behind, fraction-goes_on, percent-stops, percent-goes_on, number-stops, number-goes_on}
-use Rattle.cn_quantity.proofs.Told.{err-told}
+use Rattle.std.proofs.Common.{ap, sym, ◌∙◌}
+use Rattle.cn_core.specs.Text.{text_of}
+use Rattle.cn_judge.specs.Piece.{answer_at}
+use Rattle.cn_quantity.proofs.Ratios.{mixed-is, simple-is}
 use Rattle.cn_quantity.proofs.ratio.judge_ratio.Goals as goal
 
-pub returns-in_err-divisor : goal.returns-in_err-divisor
-returns-in_err-divisor c =
-    err-told (λ r. r) _ _ c.from_residual.ensures
-    ∙ fraction-stops c.args.method c.args.skipped _ c.args.text.now _ _ _
-    c.in-Some.ensures.fraction c.in-Some.ensures.parts c.in_err-divisor.ensures.answer
-
-pub returns-in_err-decimal : goal.returns-in_err-decimal
-returns-in_err-decimal c =
-    err-told (λ r. r) _ _ c.from_residual-in_err-decimal.ensures
-    ∙ fraction-stops_behind c.args.method c.args.skipped _ _ c.args.text.now _ _ _
-    c.in-Some.ensures.fraction c.in-Some.ensures.parts c.in_ok-divisor.ensures.answer
-    c.in_err-decimal.ensures
-
-pub ratio_of-requires : goal.ratio_of-requires
-ratio_of-requires c = c.in_ok-divisor.ensures.above
-
 pub returns-in-Some : goal.returns-in-Some
-returns-in-Some c =
-    fraction-goes_on c.args.method c.args.skipped _ _ c.args.text.now _ _ _ _
-    c.in-Some.ensures.fraction c.in-Some.ensures.parts c.in_ok-divisor.ensures.answer
-    c.in_ok-decimal.ensures
-    (c.ratio_of.ensures
-    ∙ ap (λ f. ratio_of c.in_ok-divisor.divisor f c.in_ok-decimal.decimal) c.form_over.ensures)
+returns-in-Some c = mixed-is c.args.method c.args.skipped c.args.text.now _ c.in-Some.ensures
 
-pub returns-in_err-decimal-2 : goal.returns-in_err-decimal-2
-returns-in_err-decimal-2 c =
-    err-told (λ r. r) _ _ c.from_residual-in_err-decimal-2.ensures
-    ∙ percent-stops c.args.method c.args.skipped c.args.text.now _ _
-    c.in_default.ensures.fraction c.in-Some-split_percent.ensures.percentage
-    c.in-Some-split_percent.ensures.front c.in-Some-split_percent.ensures.parts
-    c.in_err-decimal-2.ensures
-
-pub returns-in-Some-split_percent : goal.returns-in-Some-split_percent
-returns-in-Some-split_percent c =
-    percent-goes_on c.args.method c.args.skipped c.args.text.now _ _ _
-    c.in_default.ensures.fraction c.in-Some-split_percent.ensures.percentage
-    c.in-Some-split_percent.ensures.front c.in-Some-split_percent.ensures.parts
-    c.in_ok-decimal-2.ensures c.ratio_of-in-Some-split_percent.ensures
-
-pub returns-in_err-decimal-3 : goal.returns-in_err-decimal-3
-returns-in_err-decimal-3 c =
-    err-told (λ r. r) _ _ c.from_residual-in_err-decimal-3.ensures
-    ∙ number-stops c.args.method c.args.skipped c.args.text.now _
-    c.in_default.ensures.fraction c.in_default-split_percent.ensures.percentage
-    c.in_err-decimal-3.ensures
-
-pub returns : goal.returns
-returns c =
-    number-goes_on c.args.method c.args.skipped c.args.text.now _ _
-    c.in_default.ensures.fraction c.in_default-split_percent.ensures.percentage
-    c.in_ok-decimal-3.ensures
-    (c.ratio_of-2.ensures ∙ ap (λ f. ratio_of 1 f c.in_ok-decimal-3.decimal) c.form_of.ensures)
+pub returns-in-None : goal.returns-in-None
+returns-in-None c =
+    c.judge_simple.ensures
+    ∙ ap (answer_at c.args.skipped c.args.text.now)
+    (sym (simple-is c.args.method (text_of c.args.text.now) (sym c.in-None.ensures)))

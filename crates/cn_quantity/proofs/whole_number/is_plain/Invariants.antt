@@ -2,8 +2,8 @@ use Rattle.std.proofs.Common.{◌≡◌, length}
 use denote.Shadow.{shadow}
 use denote.Text.{Utf8}
 use Rattle.cn_core.specs.Text.{text_of}
-use Rattle.cn_quantity.specs.Number.{is_plain}
-use Rattle.cn_quantity.proofs.number.is_plain.Given as goal
+use Rattle.cn_quantity.specs.WholeNumber.{is_plain}
+use Rattle.cn_quantity.proofs.whole_number.is_plain.Given as goal
 
 abbrev pub invariant-looking : goal.invariant-looking
 invariant-looking l = record {

@@ -1,0 +1,8 @@
+-- The figures are the characters that have a value as one.
+use Rattle.std.proofs.Common.{◌≡◌, ℕ, is_some, arith}
+use Rattle.std.proofs.lemmas.Bool.Decides.{nat_tests}
+use Rattle.cn_core.specs.Figures.{figure_of, is_figure}
+
+pub figure_value : (c : ℕ) → is_figure c ≡ is_some (figure_of c)
+unfolding figure_of
+figure_value c = grind (arith, nat_tests)

@@ -1,0 +1,236 @@
+// Where a whole number says what no reader means.
+ghost use Rattle.std.specs.Prelude.{◌≡◌, ◌≤◌, ◌+◌, ◌&&◌, ◌||◌, not, [], ◌∷◌, length, IfSome, MatchOption, option_map, None};
+ghost use Rattle.cn_core.specs.Characters.{rank};
+ghost use Rattle.cn_core.specs.Mark.{mark_of};
+ghost use Rattle.cn_core.specs.Text.{marks_of, text_of};
+ghost use Rattle.cn_judge.specs.Marked.{marked};
+ghost use Rattle.cn_judge.specs.declared.mark.Mark.TheVariants.{Other};
+ghost use Rattle.std.specs.List.{list_any};
+ghost use Rattle.cn_quantity.specs.Misread.{bare_ten, counts_after_smaller, first_misread, has_two_readings, is_liang, is_misread_mark, is_small_unit, is_unit_from, leaves_out_zero, multiplies_zero, repeats_ten, unit_before_ten, weighs};
+ghost use Rattle.cn_quantity.specs.Private.{SplitsAtMisread, marks_before};
+
+use crate::pieces::{before_end, split_first};
+use cn_core::Unit;
+use cn_judge::{Mark, mark_of};
+
+// The marks of the three characters before a place, the nearest first; `Other` where there is none.
+#[derive(Copy, Clone)]
+struct Before {
+    first: Mark,
+    second: Mark,
+    third: Mark,
+}
+
+impl Before {
+    // Before the first character.
+    fn nothing() -> Before
+        ensures { result ≡ record { first = Other; second = Other; third = Other } }
+    {
+        Before {
+            first: Mark::Other,
+            second: Mark::Other,
+            third: Mark::Other,
+        }
+    }
+
+    // After one more character.
+    fn then(self, mark: Mark) -> Before
+        ensures { result ≡ record { first = mark; second = self.first; third = self.second } }
+    {
+        Before {
+            first: mark,
+            second: self.first,
+            third: self.second,
+        }
+    }
+}
+
+// The unit that a bare 十 would stand after: 百, or one from 千 up with 零 after it.
+fn unit_before_ten(before: Before) -> Option<Unit>
+    ensures { option_map rank result ≡ unit_before_ten (marks_before before) }
+{
+    match (before.first, before.second) {
+        (Mark::Unit(Unit::Bai), _) => Some(Unit::Bai),
+        (Mark::Digit(0), Mark::Unit(unit)) if unit >= Unit::Qian => Some(unit),
+        _ => None,
+    }
+}
+
+// The unit that a bare ten stands after, where the mark is one.
+fn bare_ten(before: Before, mark: Mark) -> Option<Unit>
+    ensures { option_map rank result ≡ bare_ten (marks_before before) (marked mark) }
+{
+    match mark {
+        Mark::Unit(Unit::Shi) => unit_before_ten(before),
+        _ => None,
+    }
+}
+
+// Whether the mark is 十 or 百 directly after 十.
+fn repeats_ten(before: Before, mark: Mark) -> bool
+    ensures { result ≡ repeats_ten (marks_before before) (marked mark) }
+{
+    match (before.first, mark) {
+        (Mark::Unit(Unit::Shi), Mark::Unit(unit)) => matches!(unit, Unit::Shi | Unit::Bai),
+        _ => false,
+    }
+}
+
+// Whether the mark is a unit directly after 零.
+fn multiplies_zero(before: Before, mark: Mark) -> bool
+    ensures { result ≡ multiplies_zero (marks_before before) (marked mark) }
+{
+    match (before.first, mark) {
+        (Mark::Digit(value), Mark::Unit(_)) => value == 0,
+        _ => false,
+    }
+}
+
+// Whether 两 is a weight here, by what stands directly before and after it.
+fn weighs(before: Before, after: Mark) -> bool
+    ensures { result ≡ weighs (marks_before before) (marked after ∷ []) }
+{
+    let stands_after = match before.first {
+        Mark::Digit(_) => true,
+        Mark::Unit(unit) => unit > Unit::Ge,
+        Mark::Other => false,
+    };
+    let is_counted = match after {
+        Mark::Unit(unit) => unit == Unit::Ge || unit >= Unit::Bai,
+        _ => false,
+    };
+    stands_after && !is_counted
+}
+
+// Whether a digit from 1 to 9 stands directly before, and before that a unit from 百 up that is
+// smaller than this one.
+fn counts_after_smaller(unit: Unit, first: Mark, second: Mark) -> bool
+    ensures { result ≡ counts_after_smaller (rank unit) (marked first ∷ marked second ∷ []) }
+{
+    match (first, second) {
+        (Mark::Digit(value), Mark::Unit(smaller)) => {
+            value > 0 && smaller >= Unit::Bai && smaller < unit
+        }
+        _ => false,
+    }
+}
+
+// Whether the mark is a unit from 萬 up that may count that digit alone, or all before it.
+fn has_two_readings(before: Before, mark: Mark) -> bool
+    ensures { result ≡ has_two_readings (marks_before before) (marked mark) }
+{
+    let Mark::Unit(unit) = mark else {
+        return false;
+    };
+    if unit < Unit::Wan {
+        return false;
+    }
+    match before.first {
+        Mark::Unit(Unit::Ge) => counts_after_smaller(unit, before.second, before.third),
+        first => counts_after_smaller(unit, first, before.second),
+    }
+}
+
+// Whether no unit from 萬 up follows, and 十, 百 or 千 does, or has been seen.
+fn ends_below_wan(seen: bool, text: &str) -> bool
+    ensures { result ≡ (not (list_any (is_unit_from 4) (marks_of (text_of text.now)))
+        && (seen || list_any is_small_unit (marks_of (text_of text.now)))) }
+{
+    let mut found = seen;
+    let mut rest = text;
+    'looking: while let Some((c, after)) = split_first(rest) {
+        match mark_of(c) {
+            Mark::Unit(unit) if unit >= Unit::Wan => return false,
+            Mark::Unit(unit) if unit > Unit::Ge => found = true,
+            _ => {}
+        }
+        rest = after;
+    }
+    found
+}
+
+// Whether 零 is left out before the mark, a digit or 十 directly after a unit from 億 up.
+fn leaves_out_zero(before: Before, mark: Mark, after: &str) -> bool
+    ensures { result ≡ leaves_out_zero (marks_before before) (marked mark) (marks_of (text_of after.now)) }
+{
+    let Mark::Unit(unit) = before.first else {
+        return false;
+    };
+    if unit < Unit::Yi {
+        return false;
+    }
+    match mark {
+        Mark::Digit(value) => value > 0 && ends_below_wan(false, after),
+        Mark::Unit(Unit::Shi) => ends_below_wan(true, after),
+        _ => false,
+    }
+}
+
+// 两
+fn is_liang(c: char) -> bool
+    ensures { result ≡ is_liang c }
+{
+    matches!(c, '两' | '兩')
+}
+
+// Whether the character is 两 as a weight.
+fn is_weight(before: Before, c: char, after: &str) -> bool
+    ensures { result ≡ (is_liang c
+        && weighs (marks_before before) (marks_of (text_of after.now))) }
+{
+    if !is_liang(c) {
+        return false;
+    }
+    match split_first(after) {
+        Some((next, _)) => weighs(before, mark_of(next)),
+        None => weighs(before, Mark::Other),
+    }
+}
+
+// Whether the character is misread.
+fn is_misread_at(before: Before, c: char, after: &str) -> bool
+    ensures { result ≡ (is_misread_mark (marks_before before) (mark_of c) (marks_of (text_of after.now))
+        || (is_liang c && weighs (marks_before before) (marks_of (text_of after.now)))) }
+{
+    let mark = mark_of(c);
+    bare_ten(before, mark).is_some()
+        || repeats_ten(before, mark)
+        || multiplies_zero(before, mark)
+        || has_two_readings(before, mark)
+        || leaves_out_zero(before, mark, after)
+        || is_weight(before, c, after)
+}
+
+/// A text in two parts, at its first misread character.
+#[derive(Copy, Clone)]
+pub struct Misread<'a> {
+    /// What stands before that character.
+    pub before: &'a str,
+    /// The character, and what stands after it.
+    pub from: &'a str,
+    /// The unit that it stands after, where it is a bare ten.
+    pub unit: Option<Unit>,
+}
+
+/// The text in two parts at its first misread character, if it has one.
+pub fn first_misread(text: &str) -> Option<Misread<'_>>
+    ensures parts { MatchOption result (first_misread (text_of text.now) ≡ None)
+        (λ r. SplitsAtMisread text.now r.before.now r.from.now (option_map rank r.unit)) }
+    ensures sizes { IfSome result
+        (λ r. length r.before.now + length r.from.now ≡ length text.now) }
+{
+    let mut before = Before::nothing();
+    let mut rest = text;
+    'looking: while let Some((c, after)) = split_first(rest) {
+        if is_misread_at(before, c, after) {
+            return Some(Misread {
+                before: before_end(text, rest),
+                from: rest,
+                unit: bare_ten(before, mark_of(c)),
+            });
+        }
+        before = before.then(mark_of(c));
+        rest = after;
+    }
+    None
+}

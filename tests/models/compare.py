@@ -1,0 +1,91 @@
+"""Compares the library with the model in text.py on random texts.
+
+Usage: python3 tests/models/compare.py COUNT [SEED]
+
+It needs the Python module, as `pip install ./bindings/python` installs it. A text is made of pieces of
+numerals and of what is around numbers in a text, or of a sentence of tests/corpus.tsv in which some
+characters are changed. What is found in it, with values, flags and doubts, and what it becomes in
+figures, by random options, have to be the same.
+"""
+import random
+import sys
+from pathlib import Path
+
+import text as model
+
+CORPUS = Path(__file__).resolve().parent.parent / "corpus.tsv"
+PIECES = (
+    list("零〇一二两兩三四五六七八九0123456789０１２３４５６７８９") * 2
+    + list("十百千万萬亿億兆个個") * 3
+    + list("点點.．,，%％‰负負-−－¥￥ 又下廿卅到至~、年月日号时分秒元块角度米斤半折成比有单")
+    + "分之 分之 百分之 零下 几 数 多 好几 小时 分钟 千瓦 千克 兆字节 双十一 十二指肠 三十六计".split()
+    + "进制 项 划线 号 室 级 早上 下午 度 倍 个人 三个亿 两千 一百 二十 五 km GB a _ : / A-1".split()
+    + list("的人在，。\n") * 2
+)
+OPTIONS = ("about", "one_character", "doubtful", "canonical")
+
+
+def sentences():
+    rows = CORPUS.read_text(encoding="utf-8").splitlines()
+    return [row.split("\t")[3] for row in rows if not row.startswith("# ")]
+
+
+def random_text(source, known):
+    if source.random() < 0.3:
+        characters = list(source.choice(known))
+        for _ in range(source.randrange(4)):
+            characters[source.randrange(len(characters))] = source.choice(PIECES)
+        return "".join(characters)
+    return "".join(source.choice(PIECES) for _ in range(source.randrange(1, 14)))
+
+
+def options(source):
+    chosen = {it: source.random() < 0.2 for it in OPTIONS}
+    return chosen, source.random() < 0.3
+
+
+def found_by_library(library, string):
+    for it in library.find_quantities(string):
+        value = it.value()
+        quantity = value and (value.numerator, value.denominator, value.form.value)
+        doubt = it.doubt.value if it.doubt else None
+        yield it.start, it.end, quantity, it.is_about, it.is_one_character, doubt
+
+
+def found_by_model(string):
+    for it in model.find_quantities(string):
+        quantity = it.quantity and tuple(it.quantity)
+        yield it.start, it.end, quantity, it.is_about, it.is_one_character, it.doubt
+
+
+def difference(library, source, known):
+    """What differs on a random text, in words; None if nothing does."""
+    string = random_text(source, known)
+    left, right = list(found_by_library(library, string)), list(found_by_model(string))
+    if left != right:
+        return f"{string!r}\n  library {left}\n  model   {right}"
+    chosen, expanded = options(source)
+    left = library.quantities_to_figures(string, expanded=expanded, **chosen)
+    right = model.to_figures(string, style="expanded" if expanded else "kept", **chosen)
+    if left != right:
+        return f"{string!r} {chosen} expanded={expanded}\n  library {left!r}\n  model   {right!r}"
+    return None
+
+
+def differences(library, count, seed):
+    source, known = random.Random(seed), sentences()
+    found = (difference(library, source, known) for _ in range(count))
+    return [it for it in found if it]
+
+
+def main():
+    import chinese_number
+
+    count, seed = int(sys.argv[1]), int(sys.argv[2]) if len(sys.argv) > 2 else 1
+    found = differences(chinese_number, count, seed)
+    print(*found[:20], f"{len(found)} differences in {count} texts", sep="\n")
+    sys.exit(1 if found else 0)
+
+
+if __name__ == "__main__":
+    main()
