@@ -80,15 +80,15 @@ CN_ABOUT = 4
 abbrev pub CN_ONE_CHARACTER : ℕ
 CN_ONE_CHARACTER = 8
 
--- more flags of what is asked for, beside the bits that tell a doubt
+-- more flags of what is asked for, which tell nothing of a number
 abbrev pub CN_DOUBTFUL : ℕ
-CN_DOUBTFUL = 128
+CN_DOUBTFUL = 16
 
 abbrev pub CN_EXPANDED : ℕ
-CN_EXPANDED = 256
+CN_EXPANDED = 32
 
 abbrev pub CN_CANONICAL : ℕ
-CN_CANONICAL = 512
+CN_CANONICAL = 64
 
 -- the codes of doubts
 abbrev pub CN_NO_DOUBT : ℕ

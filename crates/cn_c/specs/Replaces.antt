@@ -22,7 +22,7 @@ style_of flags = if has_flag flags CN_EXPANDED then Expanded else Kept
 -- how quantities are written in figures, by the sum of none or some of five flags
 abbrev pub figures_of : ℕ → Option Figures
 figures_of flags =
-    if flags % 4 == 0 && (flags / 16 % 8 == 0 && nat_lt flags 1024) then Some (record {
+    if flags % 4 == 0 && nat_lt flags 128 then Some (record {
       included = record {
         about = has_flag flags CN_ABOUT;
         one_character = has_flag flags CN_ONE_CHARACTER;

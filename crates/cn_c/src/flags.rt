@@ -66,13 +66,13 @@ pub fn flags_and_doubt<R: SearchRule>(found: Found<'_>) -> u32
 }
 
 /// An expression of which a reader may mean something else is written in figures too.
-pub const DOUBTFUL: u32 = 128;
+pub const DOUBTFUL: u32 = 16;
 
 /// Great units do not stay.
-pub const EXPANDED: u32 = 256;
+pub const EXPANDED: u32 = 32;
 
 /// What is in figures alone is written in ASCII, without commas and leading zeros.
-pub const CANONICAL: u32 = 512;
+pub const CANONICAL: u32 = 64;
 
 // Whether one of those flags is among these.
 fn has_flag(flags: u32, flag: u32) -> bool
@@ -97,7 +97,7 @@ fn style_of(flags: u32) -> Style
 pub fn figures_of(flags: u32) -> Option<Figures>
     ensures { result ≡ figures_of flags }
 {
-    if flags % 4 != 0 || flags / 16 % 8 != 0 || flags >= 1024 {
+    if flags % 4 != 0 || flags >= 128 {
         return None;
     }
     Some(Figures {

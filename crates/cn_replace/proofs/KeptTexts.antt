@@ -2,8 +2,9 @@
 use Rattle.std.proofs.Common.{◌≡◌, ℕ, true, false, List, [], ◌∷◌, ◌++◌, chars, encode_utf8_all, reverse, codes, Option, Some, refl, sym, ap, ◌∙◌}
 use Rattle.std.proofs.lemmas.List.{reverse-reverse}
 use Rattle.cn_core.specs.declared.method.ChineseCountMethod.{ChineseCountMethod}
+use Rattle.cn_core.specs.Figures.{is_share_sign}
 use Rattle.cn_find.specs.Spans.{in_front}
-use Rattle.cn_replace.specs.Kept.{denominator_text, is_below_zero, is_minus, is_percent, is_small, kept_text, percent_text, signed_text, unsigned_text}
+use Rattle.cn_replace.specs.Kept.{denominator_text, is_below_zero, is_minus, is_small, kept_text, percent_text, signed_text, unsigned_text}
 use Rattle.cn_replace.specs.KeptNumbers.{and_text, number_text, quantity_of}
 use Rattle.cn_replace.proofs.Passing.{same_front}
 
@@ -19,7 +20,7 @@ unfolding denominator_text
 denominator_is method text small = sym (rw small refl)
 
 pub plain_is : (method : ChineseCountMethod) (text front : List ℕ) (c : ℕ)
-    → in_front text ≡ c ∷ front → is_percent c ≡ false
+    → in_front text ≡ c ∷ front → is_share_sign c ≡ false
     → number_text method (chars text) ≡ percent_text method (in_front text)
 unfolding percent_text
 plain_is method text front c e none =

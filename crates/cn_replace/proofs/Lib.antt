@@ -5,6 +5,7 @@ pub mod KeptTexts
 pub mod Measures
 pub mod Passing
 pub mod Replacing
+pub mod Staying
 pub mod Tenths
 pub mod Texts
 pub mod Unchanged

@@ -3,7 +3,8 @@ use Rattle.std.proofs.Common.{◌≡◌, ℕ, Bool, true, false, not, ◌&&◌, 
 use Rattle.std.specs.Char.{is_ascii_alphabetic}
 use Rattle.std.proofs.lemmas.Str.{encodes-chars}
 use Rattle.cn_replace.specs.Clings.{begins_measure, is_word_of, measures}
-use Rattle.cn_replace.specs.Pieces.{after_leading, begins, is_figure, leading}
+use Rattle.cn_core.specs.Figures.{is_figure}
+use Rattle.cn_replace.specs.Pieces.{after_leading, begins, leading}
 
 pub measure_is : (text letters after : List ℕ) (is_word : Bool) → IsUtf8 letters
     → chars letters ≡ leading is_ascii_alphabetic text

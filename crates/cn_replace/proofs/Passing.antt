@@ -56,12 +56,68 @@ leading_more test text rest others c p e passes =
     passing_more (leading test) (after_leading test) text rest others c p e (rw passes refl)
     (rw passes refl)
 
-pub end_more : (text rest others : List ℕ) (c : ℕ)
-    → Passing before_end end_of text rest → chars rest ≡ c ∷ chars others
-    → is_end (chars rest) ≡ false → Passing before_end end_of text others
-end_more text rest others c p e stays =
-    let no_end : is_end (c ∷ chars others) ≡ false = ap is_end (sym e) ∙ stays in
-    passing_more before_end end_of text rest others c p e (rw no_end refl) (rw no_end refl)
+-- so much of a section is passed, and its end is sought
+pub record Ending (section rest : List ℕ) : Type 0 where
+  pub front : List ℕ
+  pub parts : chars section ≡ front ++ chars rest
+  pub before_is : before_end [] (chars section) ≡ front ++ before_end front (chars rest)
+  pub after_is : end_of [] (chars section) ≡ end_of front (chars rest)
+
+pub ending_all : (section : List ℕ) → Ending section section
+ending_all section = record { front = []; parts = refl; before_is = refl; after_is = refl }
+
+pub ending_end : (section rest : List ℕ) → Ending section rest → IsEnd section rest
+ending_end section rest p = record { front = p.front; parts = p.parts }
+
+module _ (section rest : List ℕ) (p : Ending section rest) (piece : List ℕ)
+    (parts : chars section ≡ chars piece ++ chars rest) where
+  piece-front : chars piece ≡ p.front
+  piece-front = same_front p.front (chars piece) (chars rest) (sym parts ∙ p.parts)
+
+  pub ending_more : (others : List ℕ) (c : ℕ) → chars rest ≡ c ∷ chars others
+      → is_end (chars piece) (chars rest) ≡ false → Ending section others
+  ending_more others c e stays = record {
+    front = p.front ++ c ∷ [];
+    parts = p.parts ∙ ap (λ l. p.front ++ l) e
+        ∙ sym (append_assoc p.front (c ∷ []) (chars others));
+    before_is = p.before_is ∙ ap (λ l. p.front ++ before_end p.front l) e
+        ∙ ap (λ l. p.front ++ l) before-more
+        ∙ sym (append_assoc p.front (c ∷ []) (before_end (p.front ++ c ∷ []) (chars others)));
+    after_is = p.after_is ∙ ap (end_of p.front) e ∙ after-more;
+  } where
+    no_end : is_end p.front (c ∷ chars others) ≡ false
+    no_end = ap (λ l. is_end l (c ∷ chars others)) (sym piece-front)
+        ∙ ap (is_end (chars piece)) (sym e) ∙ stays
+
+    before-more : before_end p.front (c ∷ chars others)
+        ≡ c ∷ before_end (p.front ++ c ∷ []) (chars others)
+    before-more = rw no_end refl
+
+    after-more : end_of p.front (c ∷ chars others) ≡ end_of (p.front ++ c ∷ []) (chars others)
+    after-more = rw no_end refl
+
+  end-here : (front text : List ℕ) → is_end front text ≡ true
+      → (before_end front text ≡ []) × (end_of front text ≡ text)
+  end-here front [] e = (refl, refl)
+  end-here front (c ∷ text) e = (rw e refl, rw e refl)
+
+  pub ending_found : is_end (chars piece) (chars rest) ≡ true
+      → (chars piece ≡ before_end [] (chars section)) × (chars rest ≡ end_of [] (chars section))
+  ending_found ends =
+      let here = end-here p.front (chars rest)
+      (ap (λ l. is_end l (chars rest)) (sym piece-front) ∙ ends) in (
+        piece-front ∙ sym (append-nil p.front) ∙ ap (λ l. p.front ++ l) (sym here.0)
+            ∙ sym p.before_is,
+        sym (p.after_is ∙ here.1),
+      )
+
+pub ending_none : (section rest : List ℕ) → Ending section rest → chars rest ≡ []
+    → (chars section ≡ before_end [] (chars section)) × ([] ≡ end_of [] (chars section))
+ending_none section rest p none = (
+  p.parts ∙ ap (λ l. p.front ++ l) none
+      ∙ sym (p.before_is ∙ ap (λ l. p.front ++ before_end p.front l) none),
+  sym (p.after_is ∙ ap (end_of p.front) none),
+)
 
 -- a character that begins no bar
 bar_before : (c : ℕ) (text : List ℕ)
@@ -127,11 +183,7 @@ fraction_is text before after e f some more =
     ap (λ l. nat_lt 0 (length l)) (sym f) ∙ more in
     both (nat_lt 0 (length (before_bar text))) (nat_lt 0 (length (after_bar text))) first second
 
--- nothing passes, or the end of a section is reached
+-- nothing passes
 pub none_leads : (test : ℕ → Bool) (text others : List ℕ) (c : ℕ) → text ≡ c ∷ others
     → test c ≡ false → leading test text ≡ []
 none_leads test text others c e fails = ap (leading test) e ∙ rw fails refl
-
-pub end_is : (text : List ℕ) → is_end text ≡ true → before_end text ≡ []
-end_is [] e = refl
-end_is (c ∷ text) e = rw e refl

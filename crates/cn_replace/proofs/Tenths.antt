@@ -3,7 +3,7 @@ use Rattle.std.proofs.Common.{◌≡◌, ℕ, Bool, true, false, not, ◌&&◌, 
 use Rattle.std.proofs.lemmas.List.{reverse-reverse}
 use Rattle.cn_core.specs.declared.method.ChineseCountMethod.{ChineseCountMethod}
 use Rattle.cn_find.specs.Spans.{in_front}
-use Rattle.cn_replace.specs.KeptNumbers.{and_text, before_end, end_of, ends_section, figure_or_same, is_tenth, section_text, sections_text, tenth_text, whole_text}
+use Rattle.cn_replace.specs.KeptNumbers.{and_text, before_end, end_of, is_above, figure_or_same, is_tenth, quantity_figures, section_text, sections_text, tenth_text}
 use Rattle.cn_replace.specs.Pieces.{after_leading, is_zero, leading}
 use Rattle.cn_replace.specs.Private.{IsEnd, PutsText}
 use Rattle.cn_replace.proofs.Passing.{same_front}
@@ -16,14 +16,14 @@ twice_reversed text = reverse-reverse (chars text)
 pub tenth_is : (method : ChineseCountMethod) (text front unit : List ℕ) (c u : ℕ)
     → in_front text ≡ c ∷ u ∷ in_front front → chars unit ≡ u ∷ []
     → tenth_text method (in_front text)
-    ≡ and_text (whole_text method (chars front))
+    ≡ and_text (quantity_figures method (chars front))
     (Some (codes "." ++ figure_or_same c ++ encode_utf8_all (chars unit)))
 unfolding tenth_text
 tenth_is method text front unit c u e f =
     ap (tenth_text method) e
-    ∙ ap (λ l. and_text (whole_text method l) (Some (codes "." ++ figure_or_same c ++ encode_utf8 u)))
+    ∙ ap (λ l. and_text (quantity_figures method l) (Some (codes "." ++ figure_or_same c ++ encode_utf8 u)))
     (reverse-reverse (chars front))
-    ∙ ap (λ l. and_text (whole_text method (chars front)) (Some (codes "." ++ figure_or_same c ++ l)))
+    ∙ ap (λ l. and_text (quantity_figures method (chars front)) (Some (codes "." ++ figure_or_same c ++ l)))
     (sym (append-nil (encode_utf8 u)) ∙ ap encode_utf8_all (sym f))
 
 pub chosen : (method : ChineseCountMethod) (front : List ℕ) (other text : Option (List ℕ))
@@ -67,12 +67,12 @@ module _ {S : Type 0} (took : S → S → List ℕ → Type 0)
     pub section_end : IsEnd start others
     section_end = record { front = p.section ++ c ∷ []; parts = begun-more }
 
-    one-more : ends_section c (chars others) ≡ false
+    one-more : is_above c (chars others) ≡ false
         → sections_text method p.section (c ∷ chars others)
         ≡ sections_text method (p.section ++ c ∷ []) (chars others)
     one-more none = rw none refl
 
-    pub section_goes_on : ends_section c (chars others) ≡ false
+    pub section_goes_on : is_above c (chars others) ≡ false
         → Sections took method text start others old now
     section_goes_on none = record {
       section = p.section ++ c ∷ [];
@@ -85,7 +85,7 @@ module _ {S : Type 0} (took : S → S → List ℕ → Type 0)
     }
 
     module _ (piece : List ℕ) (parts : chars start ≡ chars piece ++ chars others)
-        (ends : ends_section c (chars others) ≡ true) where
+        (ends : is_above c (chars others) ≡ true) where
       piece_is : chars piece ≡ p.section ++ c ∷ []
       piece_is = same_front (p.section ++ c ∷ []) (chars piece) (chars others)
           (sym parts ∙ begun-more)
@@ -156,19 +156,19 @@ module _ {S : Type 0} (took : S → S → List ℕ → Type 0)
 
 -- pieces by what they are
 pub counted_is : (method : ChineseCountMethod) (whole end a b : List ℕ) → whole ≡ a → end ≡ b
-    → and_text (whole_text method whole) (Some (encode_utf8_all end))
-    ≡ and_text (whole_text method a) (Some (encode_utf8_all b))
+    → and_text (quantity_figures method whole) (Some (encode_utf8_all end))
+    ≡ and_text (quantity_figures method a) (Some (encode_utf8_all b))
 counted_is method whole end a b e f =
-    ap (λ l. and_text (whole_text method l) (Some (encode_utf8_all end))) e
-    ∙ ap (λ l. and_text (whole_text method a) (Some (encode_utf8_all l))) f
+    ap (λ l. and_text (quantity_figures method l) (Some (encode_utf8_all end))) e
+    ∙ ap (λ l. and_text (quantity_figures method a) (Some (encode_utf8_all l))) f
 
 pub section_is : (method : ChineseCountMethod) (section zeros rest : List ℕ)
     → zeros ≡ leading is_zero section → rest ≡ after_leading is_zero section
-    → and_text (Some (encode_utf8_all zeros)) (and_text (whole_text method (before_end rest))
-    (Some (encode_utf8_all (end_of rest)))) ≡ section_text method section
+    → and_text (Some (encode_utf8_all zeros)) (and_text (quantity_figures method (before_end [] rest))
+    (Some (encode_utf8_all (end_of [] rest)))) ≡ section_text method section
 unfolding section_text
 section_is method section zeros rest e f =
-    ap (λ l. and_text (Some (encode_utf8_all l)) (and_text (whole_text method (before_end rest))
-    (Some (encode_utf8_all (end_of rest))))) e
+    ap (λ l. and_text (Some (encode_utf8_all l)) (and_text (quantity_figures method (before_end [] rest))
+    (Some (encode_utf8_all (end_of [] rest))))) e
     ∙ ap (λ l. and_text (Some (encode_utf8_all (leading is_zero section)))
-    (and_text (whole_text method (before_end l)) (Some (encode_utf8_all (end_of l))))) f
+    (and_text (quantity_figures method (before_end [] l)) (Some (encode_utf8_all (end_of [] l))))) f

@@ -4,11 +4,13 @@ use Rattle.std.specs.Char.{char_set_contains}
 use Rattle.std.specs.List.{list_all}
 use Rattle.std.specs.Option.{option_map_or}
 use Rattle.cn_core.specs.Characters.{row_with}
-use Rattle.cn_replace.specs.Pieces.{begins, is_figure}
+use Rattle.cn_core.specs.Figures.{is_comma, is_figure, is_figure_minus, is_figure_point}
+use Rattle.cn_replace.specs.Pieces.{begins}
 
 -- a figure, a point, a comma or a sign
-unfoldable pub is_of_figures : ℕ → Bool
-is_of_figures c = char_set_contains (codes "0123456789０１２３４５６７８９.．,，-−－") c
+abbrev pub is_of_figures : ℕ → Bool
+is_of_figures c =
+    is_figure c || (is_figure_point c || (is_comma c || is_figure_minus c))
 
 -- each character is one of those
 abbrev pub are_figures : List ℕ → Bool

@@ -1,7 +1,8 @@
 -- Whether an expression clings to a name, an address or a number that is beside it.
 use Rattle.std.specs.Prelude.{ℕ, Bool, false, not, ◌&&◌, ◌||◌, List, [], ◌∷◌, reverse, codes, bytes_eq, encode_utf8_all}
 use Rattle.std.specs.Char.{char_set_contains, is_ascii_alphabetic}
-use Rattle.cn_replace.specs.Pieces.{after_leading, begins, is_figure, is_letter_or_figure, leading}
+use Rattle.cn_core.specs.Figures.{is_figure}
+use Rattle.cn_replace.specs.Pieces.{after_leading, begins, is_letter_or_figure, leading}
 
 -- an expression clings to this character beside it
 unfoldable pub is_bound : ℕ → Bool
@@ -25,11 +26,12 @@ is_word_of (word ∷ words) bytes = bytes_eq bytes word || is_word_of words byte
 abbrev pub measures : List (List ℕ)
 measures =
     codes "km" ∷ codes "m" ∷ codes "cm" ∷ codes "mm" ∷ codes "nm" ∷ codes "kg" ∷ codes "g"
-    ∷ codes "mg" ∷ codes "t" ∷ codes "L" ∷ codes "l" ∷ codes "mL" ∷ codes "ml" ∷ codes "kW"
-    ∷ codes "W" ∷ codes "kWh" ∷ codes "MW" ∷ codes "GW" ∷ codes "kHz" ∷ codes "MHz"
-    ∷ codes "GHz" ∷ codes "Hz" ∷ codes "KB" ∷ codes "MB" ∷ codes "GB" ∷ codes "TB" ∷ codes "kB"
-    ∷ codes "V" ∷ codes "A" ∷ codes "mA" ∷ codes "mAh" ∷ codes "px" ∷ codes "pt" ∷ codes "s"
-    ∷ codes "ms" ∷ codes "h" ∷ codes "min" ∷ []
+    ∷ codes "mg" ∷ codes "t" ∷ codes "L" ∷ codes "l" ∷ codes "mL" ∷ codes "ml" ∷ codes "cc"
+    ∷ codes "kW" ∷ codes "W" ∷ codes "kWh" ∷ codes "MW" ∷ codes "GW" ∷ codes "kPa" ∷ codes "MPa"
+    ∷ codes "kcal" ∷ codes "kHz" ∷ codes "MHz" ∷ codes "GHz" ∷ codes "Hz" ∷ codes "dB"
+    ∷ codes "KB" ∷ codes "MB" ∷ codes "GB" ∷ codes "TB" ∷ codes "kB" ∷ codes "K" ∷ codes "M"
+    ∷ codes "G" ∷ codes "T" ∷ codes "Mbps" ∷ codes "Gbps" ∷ codes "V" ∷ codes "A" ∷ codes "mA"
+    ∷ codes "mAh" ∷ codes "px" ∷ codes "pt" ∷ codes "s" ∷ codes "ms" ∷ codes "h" ∷ codes "min" ∷ []
 
 -- the characters begin with letters that are a measure, and no figure comes after them
 unfoldable pub begins_measure : List ℕ → Bool

@@ -20,7 +20,8 @@ use Rattle.cn_replace.specs.Chains.{in_chains}
 use Rattle.cn_replace.specs.Clings.{clings}
 use Rattle.cn_replace.specs.Kept.{kept_text}
 use Rattle.cn_replace.specs.KeptNumbers.{quantity_figures}
-use Rattle.cn_replace.specs.Pieces.{is_figure, is_unit_from, is_zero}
+use Rattle.cn_core.specs.Figures.{is_figure}
+use Rattle.cn_replace.specs.Pieces.{is_unit_from, is_zero}
 
 -- what is doubtful as part of something is never included
 abbrev pub is_doubt_included : Included → Option Doubt → Bool

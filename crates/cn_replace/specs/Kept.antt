@@ -3,6 +3,7 @@ use Rattle.std.specs.Prelude.{ℕ, ℤ, Bool, false, ◌&&◌, List, [], ◌∷�
 use Rattle.std.specs.Char.{char_set_contains, encode_utf8}
 use Rattle.std.specs.List.{list_all}
 use Rattle.cn_core.specs.declared.method.ChineseCountMethod.{ChineseCountMethod}
+use Rattle.cn_core.specs.Figures.{is_share_sign}
 use Rattle.cn_core.specs.Refusal.{Refusal}
 use Rattle.cn_express.specs.Figures.{figures_text}
 use Rattle.cn_quantity.specs.declared.quantity.Quantity.{Quantity}
@@ -15,10 +16,6 @@ use Rattle.cn_replace.specs.Pieces.{is_unit_from}
 -- a minus sign
 unfoldable pub is_minus : ℕ → Bool
 is_minus c = char_set_contains (codes "负負-−－") c
-
--- a percent sign
-unfoldable pub is_percent : ℕ → Bool
-is_percent c = char_set_contains (codes "%％‰") c
 
 -- 零下
 unfoldable pub is_below_zero : ℕ → ℕ → Bool
@@ -68,7 +65,7 @@ fraction_text method (Err refusal) text = None
 unfoldable pub percent_text : ChineseCountMethod → List ℕ → Option (List ℕ)
 percent_text method [] = None
 percent_text method (c ∷ front) =
-    if is_percent c
+    if is_share_sign c
     then and_text (number_text method (reverse front)) (Some (encode_utf8 c))
     else number_text method (reverse (c ∷ front))
 

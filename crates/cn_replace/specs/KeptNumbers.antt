@@ -1,5 +1,5 @@
 -- The new text of a number without its sign, in the kept style: its bytes, if it has one.
-use Rattle.std.specs.Prelude.{ℕ, Bool, false, not, ◌&&◌, ◌||◌, List, [], ◌∷◌, ◌++◌, take, drop, reverse, codes, encode_utf8_all, Option, Some, None, is_some, Result, Ok, Err, if◌then◌else◌}
+use Rattle.std.specs.Prelude.{ℕ, Bool, false, not, ◌&&◌, ◌||◌, nat_lt, List, [], ◌∷◌, ◌++◌, take, drop, reverse, codes, encode_utf8_all, Option, Some, None, is_some, Result, Ok, Err, if◌then◌else◌}
 use Rattle.std.specs.Char.{char_set_contains, encode_utf8}
 use Rattle.std.specs.List.{list_all}
 use Rattle.std.specs.Option.{option_map_or}
@@ -11,7 +11,8 @@ use Rattle.cn_find.specs.Belongs.{is_chinese_digit}
 use Rattle.cn_quantity.specs.declared.quantity.Quantity.{Quantity}
 use Rattle.cn_quantity.specs.Reading.{quantity_answer}
 use Rattle.cn_quantity.specs.Units.{are_below}
-use Rattle.cn_replace.specs.Pieces.{after_leading, begins, is_figure, is_point, is_unit_from, is_zero, leading}
+use Rattle.cn_core.specs.Figures.{is_figure}
+use Rattle.cn_replace.specs.Pieces.{after_leading, begins, is_point, is_unit_from, is_zero, leading}
 
 -- one text and then another, if there are both
 abbrev pub and_text : Option (List ℕ) → Option (List ℕ) → Option (List ℕ)
@@ -30,17 +31,6 @@ quantity_of method text = quantity_answer method (encode_utf8_all text)
 -- the figures of that
 unfoldable pub quantity_figures : ChineseCountMethod → List ℕ → Option (List ℕ)
 quantity_figures method text = figures_of_answer (quantity_of method text)
-
--- the last characters, the last one first, are a digit and before it a unit from 百 up, as in 一百二: with
--- something after it that is said for 102 and for 120
-abbrev pub ends_colloquially : List ℕ → Bool
-ends_colloquially (d ∷ u ∷ front) = is_some (digit_of d) && is_unit_from 2 u
-ends_colloquially front = false
-
--- a whole number in figures
-unfoldable pub whole_text : ChineseCountMethod → List ℕ → Option (List ℕ)
-whole_text method text =
-    if ends_colloquially (reverse text) then None else quantity_figures method text
 
 -- a digit as its figure, and any other character as it is
 abbrev pub figure_or_same : ℕ → List ℕ
@@ -70,44 +60,49 @@ is_kept_decimal text = begins is_point (from_point text) && begins is_kept (reve
 -- its whole part, its decimals one by one, and its units as they are
 unfoldable pub decimal_text : ChineseCountMethod → List ℕ → Option (List ℕ)
 decimal_text method text =
-    and_text (whole_text method (before_point text))
+    and_text (quantity_figures method (before_point text))
     (Some (codes "." ++ digits_text (drop 1 (from_point text))))
 
 -- 個
 unfoldable pub is_ge : ℕ → Bool
 is_ge c = char_set_contains (codes "个個") c
 
--- the characters are units from 萬 up, with 個 before them or not
-abbrev pub is_end : List ℕ → Bool
-is_end [] = false
-is_end (c ∷ text) =
-    (is_unit_from 4 c || is_ge c) && list_all (is_unit_from 4) text
+-- a unit from 萬 up that is greater than each unit among these characters
+abbrev pub is_above : ℕ → List ℕ → Bool
+is_above c others = is_unit_from 4 c && are_below (rank_of c) others
 
--- those with which a section ends, and what is before them
-abbrev pub end_of : List ℕ → List ℕ
-end_of [] = []
-end_of (c ∷ text) = if is_end (c ∷ text) then c ∷ text else end_of text
+-- the characters are units from 萬 up, of which the first is greater than each unit before it, with 個
+-- before it or not
+abbrev pub is_end : List ℕ → List ℕ → Bool
+is_end front [] = false
+is_end front (c ∷ text) =
+    list_all (is_unit_from 4) text
+    && (is_above c front || (is_ge c && begins (λ u. is_above u front) text))
 
-abbrev pub before_end : List ℕ → List ℕ
-before_end [] = []
-before_end (c ∷ text) = if is_end (c ∷ text) then [] else c ∷ before_end text
+-- those with which a section ends, of which these come first, and what of it is before those
+abbrev pub end_of : List ℕ → List ℕ → List ℕ
+end_of front [] = []
+end_of front (c ∷ text) =
+    if is_end front (c ∷ text) then c ∷ text else end_of (front ++ c ∷ []) text
+
+abbrev pub before_end : List ℕ → List ℕ → List ℕ
+before_end front [] = []
+before_end front (c ∷ text) =
+    if is_end front (c ∷ text) then [] else c ∷ before_end (front ++ c ∷ []) text
 
 -- a section: its zeros, a whole number in figures, and its units: 零800万 of 零八百万
 unfoldable pub section_text : ChineseCountMethod → List ℕ → Option (List ℕ)
 section_text method section =
     let rest = after_leading is_zero section in
     and_text (Some (encode_utf8_all (leading is_zero section)))
-    (and_text (whole_text method (before_end rest)) (Some (encode_utf8_all (end_of rest))))
+    (and_text (quantity_figures method (before_end [] rest)) (Some (encode_utf8_all (end_of [] rest))))
 
--- a section ends after this character: a unit from 萬 up that is greater than each unit after it
-abbrev pub ends_section : ℕ → List ℕ → Bool
-ends_section c after = is_unit_from 4 c && are_below (rank_of c) after
-
--- the sections of what follows, where these characters begin the first one
+-- the sections of what follows, where these characters begin the first one: a section ends after each
+-- unit from 萬 up that is greater than each unit after it
 abbrev pub sections_text : ChineseCountMethod → List ℕ → List ℕ → Option (List ℕ)
 sections_text method section [] = Some []
 sections_text method section (c ∷ text) =
-    if ends_section c text
+    if is_above c text
     then and_text (section_text method (section ++ c ∷ [])) (sections_text method [] text)
     else sections_text method (section ++ c ∷ []) text
 
@@ -118,15 +113,16 @@ may_have_tenths front u =
     is_unit_from 5 u && (are_below (rank_of u) (reverse front)
     && not (begins (λ c. is_unit_from 4 c || is_ge c) front))
 
--- the last characters, the last one first, are a digit and such a unit before it: 三亿二
+-- the last characters, the last one first, are a digit from 1 to 9 and such a unit before it: 三亿二
 unfoldable pub is_tenth : List ℕ → Bool
-is_tenth (d ∷ u ∷ front) = is_some (digit_of d) && may_have_tenths front u
+is_tenth (d ∷ u ∷ front) =
+    option_map_or (λ digit. nat_lt 0 digit) (digit_of d) false && may_have_tenths front u
 is_tenth front = false
 
 -- what is before that unit as a whole number, the digit as a decimal, and the unit: 3.2亿
 unfoldable pub tenth_text : ChineseCountMethod → List ℕ → Option (List ℕ)
 tenth_text method (d ∷ u ∷ front) =
-    and_text (whole_text method (reverse front))
+    and_text (quantity_figures method (reverse front))
     (Some (codes "." ++ figure_or_same d ++ encode_utf8 u))
 tenth_text method front = None
 

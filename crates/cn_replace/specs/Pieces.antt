@@ -4,10 +4,7 @@ use Rattle.std.specs.Prelude.{ℕ, Bool, false, ◌||◌, nat_le, List, [], ◌�
 use Rattle.std.specs.Char.{char_set_contains, is_ascii_alphabetic}
 use Rattle.std.specs.Option.{option_map_or}
 use Rattle.cn_core.specs.Characters.{rank_of}
-
--- a figure: an ASCII digit or its full-width form
-unfoldable pub is_figure : ℕ → Bool
-is_figure c = char_set_contains (codes "0123456789０１２３４５６７８９") c
+use Rattle.cn_core.specs.Figures.{is_figure}
 
 -- a Chinese point
 unfoldable pub is_point : ℕ → Bool

@@ -1,11 +1,11 @@
 // What is in figures alone, in ASCII, without commas and without leading zeros.
 ghost use Rattle.std.specs.Prelude.{◌≡◌, ◌&&◌, ◌||◌, not, chars, OnOk};
-ghost use Rattle.cn_replace.specs.Pieces.{is_figure};
+ghost use Rattle.cn_core.specs.Figures.{is_figure};
 ghost use Rattle.cn_replace.specs.Canonical.{are_figures, ascii_of, ascii_unless, canonical_text, is_leading_zero, is_zero_figure};
 
 use crate::Sink;
 use crate::pieces::{CharTest, Figure, all, begins};
-use cn_core::split_first_char;
+use cn_core::{is_comma, is_figure, is_figure_minus, is_figure_point, split_first_char};
 
 // A figure, a point, a comma or a sign.
 #[derive(Copy, Clone)]
@@ -16,9 +16,8 @@ impl CharTest for OfFigures {
 
     ghost test = { λ _. is_of_figures };
 
-    #[tactic(auto, unfolding(crate::specs::Canonical::is_of_figures, crate::specs::Pieces::is_figure))]
     fn passes(self, c: char) -> bool {
-        Figure.passes(c) || matches!(c, '.' | '．' | ',' | '，' | '-' | '−' | '－')
+        is_figure(c) || is_figure_point(c) || is_comma(c) || is_figure_minus(c)
     }
 }
 
@@ -75,7 +74,7 @@ fn ascii_unless(is_left_out: bool, c: char) -> &'static str
 fn has_figure_after(leads: bool, has_figure: bool, c: char) -> bool
     ensures { result ≡ (not leads && (has_figure || is_figure c)) }
 {
-    !leads && (has_figure || Figure.passes(c))
+    !leads && (has_figure || is_figure(c))
 }
 
 /// Puts what is in figures alone.

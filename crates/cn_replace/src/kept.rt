@@ -3,7 +3,7 @@ ghost use Rattle.std.specs.Prelude.{◌≡◌, ◌∷◌, ◌&&◌, ℕ, List, n
 ghost use Rattle.cn_find.specs.Spans.{in_front};
 ghost use Rattle.cn_quantity.specs.Characters.{is_fen, is_zhi};
 ghost use Rattle.cn_quantity.specs.Ratio.{after_bar, before_bar, is_fraction};
-ghost use Rattle.cn_replace.specs.Kept.{denominator_text, divisor_text, is_below_zero, is_minus, is_percent, is_small, kept_text, numerator_text, percent_text, signed_text, unsigned_text};
+ghost use Rattle.cn_replace.specs.Kept.{denominator_text, divisor_text, is_below_zero, is_minus, is_small, kept_text, numerator_text, percent_text, signed_text, unsigned_text};
 ghost use Rattle.cn_replace.specs.KeptNumbers.{and_text, number_text, quantity_of};
 ghost use Rattle.cn_replace.specs.Pieces.{begins};
 ghost use Rattle.cn_replace.specs.Private.{PutsText};
@@ -11,7 +11,7 @@ ghost use Rattle.cn_replace.specs.Private.{PutsText};
 use crate::Sink;
 use crate::numbers::{put_number, put_quantity, put_same, quantity_of};
 use crate::pieces::{UnitFrom, all, before_rest, split_last};
-use cn_core::{ChineseCountMethod, Unit, split_first_char};
+use cn_core::{ChineseCountMethod, Unit, is_share_sign, split_first_char};
 use cn_quantity::{Quantity, QuantityForm};
 
 // What is after 分之, of which this is the first character and the text goes on after it.
@@ -176,13 +176,6 @@ fn put_fraction<S: Sink>(
     put_divisor(sink, method, quantity.form, before)
 }
 
-#[tactic(auto, unfolding(crate::specs::Kept::is_percent))]
-fn is_percent(c: char) -> bool
-    ensures { result ≡ is_percent c }
-{
-    matches!(c, '%' | '％' | '‰')
-}
-
 // Puts a number and the percent sign after it.
 fn put_with_percent<S: Sink>(
     sink: &mut S,
@@ -214,7 +207,7 @@ fn put_percent<S: Sink>(
     let Some((c, front, sign)) = split_last(text) else {
         return Ok(false);
     };
-    if is_percent(c) {
+    if is_share_sign(c) {
         put_with_percent(sink, method, front, sign)
     } else {
         put_number(sink, method, text)

@@ -3,7 +3,7 @@ ghost use Rattle.std.specs.Prelude.{◌≡◌, ◌&&◌, ◌||◌, ◌∷◌, []
 ghost use Rattle.cn_express.specs.Figures.{figures_text};
 ghost use Rattle.cn_find.specs.Spans.{in_front};
 ghost use Rattle.cn_judge.specs.Answer.{answer_of};
-ghost use Rattle.cn_replace.specs.KeptNumbers.{and_text, before_end, before_point, digits_text, decimal_text, end_of, ends_colloquially, ends_section, figure_or_same, from_point, is_end, is_ge, is_kept_decimal, is_tenth, may_have_tenths, number_text, quantity_figures, quantity_of, section_text, sections_text, tenth_text, whole_text};
+ghost use Rattle.cn_replace.specs.KeptNumbers.{and_text, before_end, before_point, digits_text, decimal_text, end_of, is_above, figure_or_same, from_point, is_end, is_ge, is_kept_decimal, is_tenth, may_have_tenths, number_text, quantity_figures, quantity_of, section_text, sections_text, tenth_text};
 ghost use Rattle.cn_replace.specs.Pieces.{begins, is_unit_from};
 ghost use Rattle.cn_replace.specs.Private.{PutsText};
 
@@ -55,35 +55,6 @@ pub fn put_read<S: Sink>(
         }
         Err(_) => Ok(false),
     }
-}
-
-// Whether the text ends with a digit directly after a unit from 百 up.
-fn ends_colloquially(text: &str) -> bool
-    ensures { result ≡ ends_colloquially (in_front text.now) }
-{
-    let Some((digit, head)) = split_nearest(text) else {
-        return false;
-    };
-    match split_nearest(head) {
-        Some((unit, _)) => digit_of(digit).is_some() && UnitFrom { least: Unit::Bai }.passes(unit),
-        None => false,
-    }
-}
-
-// Puts a whole number in figures.
-#[tactic(auto, unfolding(crate::specs::KeptNumbers::whole_text))]
-fn put_whole<S: Sink>(
-    sink: &mut S,
-    method: ChineseCountMethod,
-    text: &str,
-) -> Result<bool, S::Error>
-    ensures { IfOk result
-        (PutsText S.took sink.old sink.new (whole_text method (chars text.now))) }
-{
-    if ends_colloquially(text) {
-        return Ok(false);
-    }
-    put_read(sink, method, text)
 }
 
 // The figure of a digit.
@@ -181,41 +152,70 @@ fn put_decimal<S: Sink>(
     decimals: &str,
 ) -> Result<bool, S::Error>
     ensures { IfOk result (PutsText S.took sink.old sink.new
-        (and_text (whole_text method (chars whole.now))
+        (and_text (quantity_figures method (chars whole.now))
         (Some (codes "." ++ digits_text (chars decimals.now))))) }
 {
-    if !put_whole(sink, method, whole)? {
+    if !put_read(sink, method, whole)? {
         return Ok(false);
     }
     put_decimals(sink, decimals)
 }
 
-// Whether the text is units from 萬 up, with 個 before them or not.
-#[tactic(auto, unfolding(crate::specs::KeptNumbers::is_ge))]
-fn is_end(text: &str) -> bool
-    ensures { result ≡ is_end (chars text.now) }
+// Whether a character is a unit from 萬 up that is greater than each unit of a text.
+fn is_above(c: char, others: &str) -> bool
+    ensures { result ≡ is_above c (chars others.now) }
 {
-    let great = UnitFrom { least: Unit::Wan };
+    match unit_of(c) {
+        Some(unit) => unit >= Unit::Wan && all(Below { greatest: unit }, others),
+        None => false,
+    }
+}
+
+// Whether the text begins with such a unit.
+fn begins_above(text: &str, others: &str) -> bool
+    ensures { result ≡ begins (λ c. is_above c (chars others.now)) (chars text.now) }
+{
     match split_first_char(text) {
-        Some((c, others)) => (great.passes(c) || matches!(c, '个' | '個')) && all(great, others),
+        Some((c, _)) => is_above(c, others),
+        None => false,
+    }
+}
+
+#[tactic(auto, unfolding(crate::specs::KeptNumbers::is_ge))]
+fn is_ge(c: char) -> bool
+    ensures { result ≡ is_ge c }
+{
+    matches!(c, '个' | '個')
+}
+
+// Whether the text is units from 萬 up, of which the first is greater than each unit before it, with 個
+// before it or not.
+fn is_end(front: &str, text: &str) -> bool
+    ensures { result ≡ is_end (chars front.now) (chars text.now) }
+{
+    match split_first_char(text) {
+        Some((c, others)) => {
+            all(UnitFrom { least: Unit::Wan }, others)
+                && (is_above(c, front) || (is_ge(c) && begins_above(others, front)))
+        }
         None => false,
     }
 }
 
 // What is before the units with which a section ends, and those.
-#[tactic(auto, using(crate::proofs::Passing::passing_all, crate::proofs::Passing::end_more, crate::proofs::Passing::passing_end, crate::proofs::Passing::passing_before))]
 fn split_end(section: &str) -> (&str, &str)
-    ensures before { chars result.0.now ≡ before_end (chars section.now) }
-    ensures end { chars result.1.now ≡ end_of (chars section.now) }
+    ensures before { chars result.0.now ≡ before_end [] (chars section.now) }
+    ensures end { chars result.1.now ≡ end_of [] (chars section.now) }
 {
     let mut rest = section;
     'passing: while let Some((_, others)) = split_first_char(rest) {
-        if is_end(rest) {
-            break;
+        let front = before_rest(section, rest);
+        if is_end(front, rest) {
+            return (front, rest);
         }
         rest = others;
     }
-    (before_rest(section, rest), rest)
+    (section, "")
 }
 
 // Puts what a section is without its zeros.
@@ -225,11 +225,11 @@ fn put_counted<S: Sink>(
     text: &str,
 ) -> Result<bool, S::Error>
     ensures { IfOk result (PutsText S.took sink.old sink.new
-        (and_text (whole_text method (before_end (chars text.now)))
-        (Some (encode_utf8_all (end_of (chars text.now)))))) }
+        (and_text (quantity_figures method (before_end [] (chars text.now)))
+        (Some (encode_utf8_all (end_of [] (chars text.now)))))) }
 {
     let (whole, end) = split_end(text);
-    if !put_whole(sink, method, whole)? {
+    if !put_read(sink, method, whole)? {
         return Ok(false);
     }
     put_same(sink, end)?;
@@ -250,16 +250,6 @@ fn put_section<S: Sink>(
     put_counted(sink, method, rest)
 }
 
-// Whether a section ends after a character.
-fn ends_section(c: char, after: &str) -> bool
-    ensures { result ≡ ends_section c (chars after.now) }
-{
-    match unit_of(c) {
-        Some(unit) => unit >= Unit::Wan && all(Below { greatest: unit }, after),
-        None => false,
-    }
-}
-
 // Puts the sections of a numeral that ends with a unit from 萬 up.
 fn put_sections<S: Sink>(
     sink: &mut S,
@@ -272,7 +262,7 @@ fn put_sections<S: Sink>(
     let mut start = text;
     let mut rest = text;
     'putting: while let Some((c, others)) = split_first_char(rest) {
-        if ends_section(c, others) {
+        if is_above(c, others) {
             if !put_section(sink, method, before_rest(start, others))? {
                 return Ok(false);
             }
@@ -294,9 +284,8 @@ impl CharTest for Counting {
 
     ghost test = { λ _ c. is_unit_from 4 c || is_ge c };
 
-    #[tactic(auto, unfolding(crate::specs::KeptNumbers::is_ge))]
     fn passes(self, c: char) -> bool {
-        UnitFrom { least: Unit::Wan }.passes(c) || matches!(c, '个' | '個')
+        UnitFrom { least: Unit::Wan }.passes(c) || is_ge(c)
     }
 }
 
@@ -318,7 +307,10 @@ fn may_have_tenths(front: &str, c: char) -> bool
 fn has_tenths(front: &str, u: char, d: char) -> bool
     ensures { result ≡ is_tenth (d ∷ u ∷ in_front front.now) }
 {
-    digit_of(d).is_some() && may_have_tenths(front, u)
+    match digit_of(d) {
+        Some(digit) => digit > 0 && may_have_tenths(front, u),
+        None => false,
+    }
 }
 
 // Puts a point, a digit as a decimal, and the unit.
@@ -377,7 +369,7 @@ fn put_small<S: Sink>(
     let Some(tenth) = split_tenth(text) else {
         return put_read(sink, method, text);
     };
-    if !put_whole(sink, method, tenth.front)? {
+    if !put_read(sink, method, tenth.front)? {
         return Ok(false);
     }
     put_tenth(sink, tenth.c, tenth.digit, tenth.unit)

@@ -6,10 +6,11 @@ ghost use Rattle.std.specs.Option.{option_map_or};
 ghost use Rattle.cn_core.specs.Characters.{digit_of, rank, rank_of};
 ghost use Rattle.cn_find.specs.Belongs.{is_chinese_digit};
 ghost use Rattle.cn_find.specs.Spans.{in_front};
-ghost use Rattle.cn_replace.specs.Pieces.{after_leading, begins, is_figure, is_letter_or_figure, is_point, is_unit_from, is_zero, leading};
+ghost use Rattle.cn_core.specs.Figures.{is_figure};
+ghost use Rattle.cn_replace.specs.Pieces.{after_leading, begins, is_letter_or_figure, is_point, is_unit_from, is_zero, leading};
 ghost use Rattle.cn_replace.specs.Private.{IsEnd};
 
-use cn_core::{Unit, digit_of, split_first_char, unit_of};
+use cn_core::{Unit, digit_of, is_figure, split_first_char, unit_of};
 use cn_judge::split_last_char;
 
 /// A test of characters.
@@ -28,30 +29,8 @@ pub struct Figure;
 impl CharTest for Figure {
     ghost test = { λ _. is_figure };
 
-    #[tactic(auto, unfolding(crate::specs::Pieces::is_figure))]
     fn passes(self, c: char) -> bool {
-        matches!(
-            c,
-            '0' | '1'
-                | '2'
-                | '3'
-                | '4'
-                | '5'
-                | '6'
-                | '7'
-                | '8'
-                | '9'
-                | '０'
-                | '１'
-                | '２'
-                | '３'
-                | '４'
-                | '５'
-                | '６'
-                | '７'
-                | '８'
-                | '９'
-        )
+        is_figure(c)
     }
 }
 

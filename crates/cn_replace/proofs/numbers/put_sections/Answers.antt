@@ -19,14 +19,14 @@ pub returns-then-not-branch : goal.returns-then-not-branch
 returns-then-not-branch g c =
     section_fails g.S.Sink.took g.met.S.Sink.took_both _ _ _ _ _ _ _ _ c.putting.invariant.so_far
     c.in-Some.ensures.parts _ c.before_rest.ensures
-    (sym c.ends_section.ensures ∙ c.if-ends_section.true) _ _ _ c.if-not-branch.true
+    (sym c.is_above.ensures ∙ c.if-is_above.true) _ _ _ c.if-not-branch.true
     c.in_ok-put_section.ensures
 
 pub putting-preserved-else-not-branch : goal.putting-preserved-else-not-branch
 putting-preserved-else-not-branch g c = record {
   so_far = section_done g.S.Sink.took g.met.S.Sink.took_both _ _ _ _ _ _ _ _
       c.putting.invariant.so_far c.in-Some.ensures.parts _ c.before_rest.ensures
-      (sym c.ends_section.ensures ∙ c.if-ends_section.true) _ _ c.if-not-branch.false
+      (sym c.is_above.ensures ∙ c.if-is_above.true) _ _ c.if-not-branch.false
       c.in_ok-put_section.ensures;
   utf8_start = search rules;
   utf8 = search rules;

@@ -6,11 +6,11 @@ pub returns-then-not-branch : goal.returns-then-not-branch
 returns-then-not-branch g c =
     let e = c.in-Some.ensures in
     puts g.S.Sink.took _ _ _ _ _ (chosen _ _ _ _ e.0 (tenth_is _ _ _ _ _ _ e.1.1 e.1.2))
-    (none-first g.S.Sink.took _ _ _ _ _ _ c.if-not-branch.true c.in_ok-put_whole.ensures)
+    (none-first g.S.Sink.took _ _ _ _ _ _ c.if-not-branch.true c.in_ok-put_read.ensures)
 
 pub returns : goal.returns
 returns g c =
     let e = c.in-Some.ensures in
     if_puts g.S.Sink.took _ _ _ _ _ (chosen _ _ _ _ e.0 (tenth_is _ _ _ _ _ _ e.1.1 e.1.2))
     (and-after g.S.Sink.took g.met.S.Sink.took_both _ _ _ _ _ _ _ c.if-not-branch.false
-    c.in_ok-put_whole.ensures c.put_tenth.ensures)
+    c.in_ok-put_read.ensures c.put_tenth.ensures)

@@ -1,14 +1,27 @@
-use Rattle.std.proofs.Common.{◌≡◌, [], chars, ap, sym, ◌∙◌}
-use Rattle.cn_replace.specs.KeptNumbers.{before_end, end_of}
-use Rattle.cn_replace.proofs.Passing.{end_is, passing_before}
+use Rattle.std.proofs.Common.{sym, ◌∙◌, rules}
+use Rattle.std.proofs.lemmas.Str.{chars-nil}
+use Rattle.cn_replace.proofs.Passing.{ending_all, ending_end, ending_found, ending_more, ending_none}
 use Rattle.cn_replace.proofs.numbers.split_end.Goals as goal
-use Rattle.cn_replace.proofs.numbers.split_end.Goals.{in-Some+then-is_end, in_default}
 
-pub returns-clause-before : goal.returns-clause-before
-returns-clause-before c =
-    let none : before_end (chars c.passing.rest.now) ≡ [] =
-    elim c.match-split_first_char.branch [
-      | in-Some+then-is_end w ↦ end_is _ (sym w.is_end.ensures ∙ w.if-is_end.true)
-      | in_default w ↦ ap before_end w.in_default.ensures.parts
-    ] in
-    passing_before before_end end_of _ _ _ c.passing.invariant.passed none c.before_rest.ensures
+pub passing-init : goal.passing-init
+passing-init c = record { passed = ending_all c.args.section.now; utf8 = search rules }
+
+pub before_rest-front-requires : goal.before_rest-front-requires
+before_rest-front-requires c = ending_end _ _ c.passing.invariant.passed
+
+pub passing-preserved : goal.passing-preserved
+passing-preserved c = record {
+  passed = ending_more _ _ c.passing.invariant.passed _ c.before_rest-front.ensures _ _
+      c.in-Some.ensures.parts (sym c.is_end.ensures ∙ c.if-is_end.false);
+  utf8 = search rules;
+}
+
+pub returns-then-is_end : goal.returns-then-is_end
+returns-then-is_end c =
+    ending_found _ _ c.passing.invariant.passed _ c.before_rest-front.ensures
+    (sym c.is_end.ensures ∙ c.if-is_end.true)
+
+pub returns : goal.returns
+returns c =
+    let none = ending_none _ _ c.passing.invariant.passed c.in_default.ensures.parts in
+    (none.0, chars-nil ∙ none.1)

@@ -1,13 +1,12 @@
 use Rattle.std.proofs.Common.{length}
 use denote.Shadow.{shadow}
 use denote.Text.{Utf8}
-use Rattle.cn_replace.specs.KeptNumbers.{before_end, end_of}
-use Rattle.cn_replace.proofs.Passing.{Passing}
+use Rattle.cn_replace.proofs.Passing.{Ending}
 use Rattle.cn_replace.proofs.numbers.split_end.Given as goal
 
 abbrev pub invariant-passing : goal.invariant-passing
 invariant-passing l = record {
-  passed : Passing before_end end_of l.fn.section l.rest;
+  passed : Ending l.fn.section l.rest;
   utf8 : shadow (Utf8 l.rest);
 }
 
