@@ -1,3 +1,5 @@
+mod Examples
+mod LawExamples
 pub mod Canonicals
 pub mod ChainsPut
 pub mod Ends

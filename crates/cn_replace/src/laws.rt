@@ -18,11 +18,7 @@ pub fn texts_stay_where_nothing_is_new(wanted: Wanted)
 {}
 
 /// A text without expressions stays as it is when it is put in figures.
-pub fn texts_without_expressions_stay(
-    wanted: Wanted,
-    method: ChineseCountMethod,
-    figures: Figures,
-)
+pub fn texts_without_expressions_stay(wanted: Wanted, method: ChineseCountMethod, figures: Figures)
     ensures { (bytes : List ℕ) → expressions wanted bytes ≡ []
         → in_figures method figures wanted bytes ≡ bytes }
 {}

@@ -18,10 +18,12 @@ passing-preserved c = record {
 
 pub returns-then-is_end : goal.returns-then-is_end
 returns-then-is_end c =
-    ending_found _ _ c.passing.invariant.passed _ c.before_rest-front.ensures
-    (sym c.is_end.ensures ∙ c.if-is_end.true)
+    let found = ending_found _ _ c.passing.invariant.passed _ c.before_rest-front.ensures
+    (sym c.is_end.ensures ∙ c.if-is_end.true) in record { before = found.0; end = found.1 }
 
 pub returns : goal.returns
 returns c =
-    let none = ending_none _ _ c.passing.invariant.passed c.in_default.ensures.parts in
-    (none.0, chars-nil ∙ none.1)
+    let none = ending_none _ _ c.passing.invariant.passed c.in_default.ensures.parts in record {
+      before = none.0;
+      end = chars-nil ∙ none.1;
+    }

@@ -1,5 +1,4 @@
 use Rattle.std.proofs.Common.{◌∷◌, sym, ap, ◌∙◌}
-use Rattle.cn_find.specs.Spans.{in_front}
 use Rattle.cn_replace.specs.KeptNumbers.{is_tenth}
 use Rattle.cn_replace.proofs.numbers.split_tenth.Goals as goal
 
