@@ -9,8 +9,8 @@ use chinese_number::ChineseCase::Lower;
 use chinese_number::ChineseCountMethod::{High, Low, Middle, TenThousand};
 use chinese_number::ChineseVariant::{Simple, Traditional};
 use chinese_number::{
-    AMOUNT_LIMIT, AmountForm, BillDate, ChineseCountMethod, ChineseVariant, InFigures, Included,
-    NumberToChinese, Quantity, QuantityForm, Wanted,
+    AMOUNT_LIMIT, AmountForm, BillDate, ChineseCountMethod, ChineseVariant, Figures, InFigures,
+    NumberToChinese, Quantity, QuantityForm, Style, Wanted,
 };
 use std::fmt::{Debug, Display};
 use std::io;
@@ -247,10 +247,14 @@ fn dates(rt: &(impl Print + AllocGlobal)) -> io::Result<()> {
 
 // Texts with their quantities in figures, which take as many bytes.
 fn in_figures(rt: &(impl Print + AllocGlobal)) -> io::Result<()> {
-    let (wanted, method, included) = (Wanted::EVERYDAY, TenThousand, Included::NONE);
-    let outcome = chinese_number::quantities_to_figures(rt.alloc(), "十萬", wanted, method, included);
+    let (wanted, method) = (Wanted::EVERYDAY, TenThousand);
+    let figures = Figures {
+        style: Style::Expanded,
+        ..Figures::DEFAULT
+    };
+    let outcome = chinese_number::quantities_to_figures(rt.alloc(), "十萬", wanted, method, figures);
     show(rt, "quantities_to_figures", outcome)?;
-    let figures = InFigures { method, included };
+    let figures = InFigures { method, figures };
     let outcome = chinese_number::replace_quantities(rt.alloc(), "共十萬人", wanted, figures);
     show(rt, "replace_quantities", outcome)
 }

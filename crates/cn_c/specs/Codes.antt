@@ -80,6 +80,16 @@ CN_ABOUT = 4
 abbrev pub CN_ONE_CHARACTER : ℕ
 CN_ONE_CHARACTER = 8
 
+-- more flags of what is asked for, which tell nothing of a number
+abbrev pub CN_DOUBTFUL : ℕ
+CN_DOUBTFUL = 16
+
+abbrev pub CN_EXPANDED : ℕ
+CN_EXPANDED = 32
+
+abbrev pub CN_CANONICAL : ℕ
+CN_CANONICAL = 64
+
 -- the codes of doubts
 abbrev pub CN_NO_DOUBT : ℕ
 CN_NO_DOUBT = 0

@@ -1,25 +1,36 @@
 -- What the call that replaces the quantities of a text answers.
-use Rattle.std.specs.Prelude.{◌≡◌, ℕ, ◌+◌, ◌-◌, ◌^◌, ◌==◌, min, nat_le, Bool, true, false, List, ◌++◌, length, drop, Option, Some, None, slice_get, if◌then◌else◌}
+use Rattle.std.specs.Prelude.{◌≡◌, ℕ, ◌-◌, ◌/◌, ◌%◌, ◌^◌, ◌==◌, min, nat_le, nat_lt, Bool, ◌&&◌, List, ◌++◌, length, drop, Option, Some, None, slice_get, if◌then◌else◌}
 use Rattle.std.specs.Bool.{MatchBool}
 use Rattle.std.specs.Str.{is_utf8}
 use Rattle.chinese_number.specs.declared.ChineseCountMethod.{ChineseCountMethod}
 use Rattle.chinese_number.specs.declared.Unit.{Unit as NumeralUnit}
-use Rattle.cn_replace.specs.declared.figures.Included.{Included}
+use Rattle.cn_replace.specs.declared.options.Figures.{Figures}
+use Rattle.cn_replace.specs.declared.options.Style.{Style}
+use Rattle.cn_replace.specs.declared.options.Style.TheVariants.{Kept, Expanded}
 use Rattle.cn_replace.specs.InFigures.{in_figures}
-use Rattle.cn_c.specs.Codes.{named_ways, units, uppers, CN_ABOUT, CN_ONE_CHARACTER, CN_DONE, CN_NO_ROOM, CN_NOT_UTF8, CN_UNKNOWN}
+use Rattle.cn_c.specs.Codes.{named_ways, units, uppers, CN_ABOUT, CN_CANONICAL, CN_DOUBTFUL, CN_EXPANDED, CN_ONE_CHARACTER, CN_DONE, CN_NO_ROOM, CN_NOT_UTF8, CN_UNKNOWN}
 use Rattle.cn_c.specs.Prints.{PutsNothing}
 use Rattle.cn_c.specs.Quantities.{method_of}
 
-abbrev pub including : Bool → Bool → Included
-including about one_character = record { about = about; one_character = one_character }
+-- one of the flags, each a power of two, is among these
+abbrev pub has_flag : ℕ → ℕ → Bool
+has_flag flags flag = flags / flag % 2 == 1
 
--- what is replaced too, by none, one or both of two flags
-abbrev pub included_of : ℕ → Option Included
-included_of flags =
-    if flags == 0 then Some (including false false)
-    else if flags == CN_ABOUT then Some (including true false)
-    else if flags == CN_ONE_CHARACTER then Some (including false true)
-    else if flags == CN_ABOUT + CN_ONE_CHARACTER then Some (including true true) else None
+abbrev pub style_of : ℕ → Style
+style_of flags = if has_flag flags CN_EXPANDED then Expanded else Kept
+
+-- how quantities are written in figures, by the sum of none or some of five flags
+abbrev pub figures_of : ℕ → Option Figures
+figures_of flags =
+    if flags % 4 == 0 && nat_lt flags 128 then Some (record {
+      included = record {
+        about = has_flag flags CN_ABOUT;
+        one_character = has_flag flags CN_ONE_CHARACTER;
+        doubtful = has_flag flags CN_DOUBTFUL;
+      };
+      style = style_of flags;
+      canonical = has_flag flags CN_CANONICAL;
+    }) else None
 
 -- the length of a text is told, up to the greatest one, and the text put at the room's start if it
 -- fits; else it is not said what the room then holds
@@ -31,14 +42,14 @@ PutsText text old status new len =
 
 -- what is put of bytes, by what four codes name
 abbrev pub IsReplacedAs : Option Bool → Option NumeralUnit → Option ChineseCountMethod
-    → Option Included → List ℕ → List ℕ → ℕ → List ℕ → ℕ → Type 0
-IsReplacedAs (Some upper) (Some greatest) (Some method) (Some included) bytes old status new len =
+    → Option Figures → List ℕ → List ℕ → ℕ → List ℕ → ℕ → Type 0
+IsReplacedAs (Some upper) (Some greatest) (Some method) (Some figures) bytes old status new len =
     MatchBool (is_utf8 bytes)
     (PutsText
-    (in_figures method included (record { upper = upper; greatest = greatest }) bytes) old status
+    (in_figures method figures (record { upper = upper; greatest = greatest }) bytes) old status
     new len)
     (PutsNothing CN_NOT_UTF8 old status new len)
-IsReplacedAs upper greatest method included bytes old status new len =
+IsReplacedAs upper greatest method figures bytes old status new len =
     PutsNothing CN_UNKNOWN old status new len
 
 -- what is put of bytes, by whether the upper case is wanted, the codes of the greatest unit and of a
@@ -46,4 +57,4 @@ IsReplacedAs upper greatest method included bytes old status new len =
 abbrev pub IsReplaced : List ℕ → ℕ → ℕ → ℕ → ℕ → List ℕ → ℕ → List ℕ → ℕ → Type 0
 IsReplaced bytes upper greatest method included old status new len =
     IsReplacedAs (slice_get uppers upper) (slice_get units greatest)
-    (method_of (slice_get named_ways method)) (included_of included) bytes old status new len
+    (method_of (slice_get named_ways method)) (figures_of included) bytes old status new len

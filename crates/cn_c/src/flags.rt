@@ -1,12 +1,12 @@
 // What is told of a number in a text, and what is asked for: flags, added together.
-ghost use Rattle.std.specs.Prelude.{◌≡◌, ◌+◌, ◌*◌, ◌≤◌};
+ghost use Rattle.std.specs.Prelude.{◌≡◌, ◌+◌, ◌*◌, ◌<◌, ◌≤◌};
 ghost use Rattle.chinese_number.specs.Spans.{span_of};
 ghost use Rattle.cn_c.specs.Finds.{doubt_code, flag_if, flags_told};
-ghost use Rattle.cn_c.specs.Replaces.{included_of};
+ghost use Rattle.cn_c.specs.Replaces.{figures_of, has_flag, style_of};
 
 use chinese_number::{Doubt, Found, SearchRule};
 use cn_find::told_of;
-use cn_replace::Included;
+use cn_replace::{Figures, Included, Style};
 
 /// Each of its characters is a digit.
 pub const PLAIN_DIGITS: u32 = 1;
@@ -65,21 +65,48 @@ pub fn flags_and_doubt<R: SearchRule>(found: Found<'_>) -> u32
     flags_of(found) + doubt_code(R::doubt_of(found)) * 16
 }
 
-const BOTH: u32 = ABOUT + ONE_CHARACTER;
+/// An expression of which a reader may mean something else is written in figures too.
+pub const DOUBTFUL: u32 = 16;
 
-/// What is replaced too, by none, one or both of two flags.
-pub fn included_of(flags: u32) -> Option<Included>
-    ensures { result ≡ included_of flags }
+/// Great units do not stay.
+pub const EXPANDED: u32 = 32;
+
+/// What is in figures alone is written in ASCII, without commas and leading zeros.
+pub const CANONICAL: u32 = 64;
+
+// Whether one of those flags is among these.
+fn has_flag(flags: u32, flag: u32) -> bool
+    requires { 0 < flag }
+    ensures { result ≡ has_flag flags flag }
 {
-    let (about, one_character) = match flags {
-        0 => (false, false),
-        ABOUT => (true, false),
-        ONE_CHARACTER => (false, true),
-        BOTH => (true, true),
-        _ => return None,
-    };
-    Some(Included {
-        about,
-        one_character,
+    flags / flag % 2 == 1
+}
+
+// The style that flags name.
+fn style_of(flags: u32) -> Style
+    ensures { result ≡ style_of flags }
+{
+    if has_flag(flags, EXPANDED) {
+        Style::Expanded
+    } else {
+        Style::Kept
+    }
+}
+
+/// How the quantities of a text are written in figures, by the sum of none or some of five flags.
+pub fn figures_of(flags: u32) -> Option<Figures>
+    ensures { result ≡ figures_of flags }
+{
+    if flags % 4 != 0 || flags >= 128 {
+        return None;
+    }
+    Some(Figures {
+        included: Included {
+            about: has_flag(flags, ABOUT),
+            one_character: has_flag(flags, ONE_CHARACTER),
+            doubtful: has_flag(flags, DOUBTFUL),
+        },
+        style: style_of(flags),
+        canonical: has_flag(flags, CANONICAL),
     })
 }

@@ -2,15 +2,16 @@
 ghost use Rattle.cn_c.specs.Replaces.{IsReplaced};
 
 use crate::codes::{unit_of, upper_of};
-use crate::flags::included_of;
+use crate::flags::figures_of;
 use crate::quantity::method_of;
 use crate::status::{DONE, NO_ROOM, NOT_UTF8, UNKNOWN};
 use chinese_number::Wanted;
 use cn_faces::utf8_text;
 use cn_replace::put_quantities_in_figures;
 
-/// Puts a text into the caller's room with its quantities in figures, but for those that are about so
-/// much or one Chinese character, where the flags do not include them.
+/// Puts a text into the caller's room with its quantities in figures. By default those stay that are
+/// about so much, one Chinese character or doubtful, and so do great units and what is in figures; the
+/// flags say otherwise.
 ///
 /// Writes `*len`, and to the room: where the new text fits it stands at the start of the room.
 #[unsafe(no_mangle)]
@@ -29,13 +30,13 @@ pub extern "C" fn chinese_quantities_to_figures(
     let (Some(upper), Some(greatest)) = (upper_of(upper), unit_of(greatest)) else {
         return UNKNOWN;
     };
-    let (Some(method), Some(included)) = (method_of(method), included_of(included)) else {
+    let (Some(method), Some(figures)) = (method_of(method), figures_of(included)) else {
         return UNKNOWN;
     };
     let Some(text) = utf8_text(text) else {
         return NOT_UTF8;
     };
     let wanted = Wanted { upper, greatest };
-    *len = put_quantities_in_figures(room, text, wanted, method, included);
+    *len = put_quantities_in_figures(room, text, wanted, method, figures);
     if *len <= room.len() { DONE } else { NO_ROOM }
 }

@@ -28,7 +28,7 @@ parts-of wanted bytes span utf8 found =
       r = found-is_run (expression_rule wanted) bytes span found
 
 -- where a text may be cut, its beginning may be cut too
-boundary-front : (bytes front behind : List ℕ) (from : ℕ) → bytes ≡ front ++ behind
+pub boundary-front : (bytes front behind : List ℕ) (from : ℕ) → bytes ≡ front ++ behind
     → from ≤ length front → IsCharBoundary bytes from → IsCharBoundary front from
 boundary-front bytes front behind from parts within boundary = (
   within,

@@ -1,38 +1,86 @@
 -- The expressions of a text in figures.
-use Rattle.std.specs.Prelude.{ℕ, Bool, not, ◌&&◌, ◌||◌, List, codes, chars, Option, Some, None, Result, Ok, Err, if◌then◌else◌}
+use Rattle.std.specs.Prelude.{ℕ, Bool, true, false, not, ◌&&◌, ◌||◌, List, codes, chars, Option, Some, None, is_some, is_ok, if◌then◌else◌}
 use Rattle.std.specs.Char.{char_set_contains}
+use Rattle.std.specs.List.{list_any}
 use Rattle.cn_core.specs.declared.method.ChineseCountMethod.{ChineseCountMethod}
-use Rattle.cn_core.specs.Refusal.{Refusal}
-use Rattle.cn_express.specs.Figures.{figures_text}
+use Rattle.cn_find.specs.declared.doubt.Doubt.{Doubt}
+use Rattle.cn_find.specs.declared.doubt.Doubt.TheVariants.{Part}
 use Rattle.cn_find.specs.declared.wanted.Wanted.{Wanted}
+use Rattle.cn_find.specs.Doubt.{doubt_of}
 use Rattle.cn_find.specs.Flags.{is_about, is_one_character}
 use Rattle.cn_find.specs.Spans.{Span}
-use Rattle.cn_quantity.specs.declared.quantity.Quantity.{Quantity}
+use Rattle.cn_quantity.specs.Ratio.{is_fraction}
 use Rattle.cn_quantity.specs.Reading.{quantity_answer}
-use Rattle.cn_replace.specs.declared.figures.Included.{Included}
-use Rattle.cn_replace.specs.Replaced.{replaced}
+use Rattle.cn_replace.specs.declared.options.Figures.{Figures}
+use Rattle.cn_replace.specs.declared.options.Included.{Included}
+use Rattle.cn_replace.specs.declared.options.Style.{Style}
+use Rattle.cn_replace.specs.declared.options.Style.TheVariants.{Kept, Expanded}
+use Rattle.cn_replace.specs.Canonical.{are_figures, canonical_text}
+use Rattle.cn_replace.specs.Chains.{in_chains}
+use Rattle.cn_replace.specs.Clings.{clings}
+use Rattle.cn_replace.specs.Kept.{kept_text}
+use Rattle.cn_replace.specs.KeptNumbers.{quantity_figures}
+use Rattle.cn_core.specs.Figures.{is_figure}
+use Rattle.cn_replace.specs.Pieces.{is_unit_from, is_zero}
 
--- an expression is replaced unless it is one character or about so much, and those are not included
+-- what is doubtful as part of something is never included
+abbrev pub is_doubt_included : Included → Option Doubt → Bool
+is_doubt_included included None = true
+is_doubt_included included (Some Part) = false
+is_doubt_included included (Some doubt) = included.doubtful
+
+-- an expression is one character, about so much or doubtful only where that is included
 abbrev pub is_included : Included → Span → Bool
 is_included included span =
     (included.one_character || not (is_one_character (chars span.text)))
-    && (included.about || not (is_about (chars span.before) (chars span.text) (chars span.after)))
+    && ((included.about || not (is_about (chars span.before) (chars span.text) (chars span.after)))
+    && is_doubt_included included (doubt_of span.before span.text span.after))
 
--- the figures of what was read, if it was
-abbrev pub figures_of_answer : Result Quantity Refusal → Option (List ℕ)
-figures_of_answer (Ok quantity) = Some (figures_text quantity)
-figures_of_answer (Err refusal) = None
+-- an expression may have a new text: it is included, clings to nothing and is read
+unfoldable pub may_change : ChineseCountMethod → Included → Span → Bool
+may_change method included span =
+    is_included included span
+    && (not (clings (chars span.before) (chars span.after))
+    && is_ok (quantity_answer method span.text))
 
--- the figures that replace an expression, if it is replaced
-abbrev pub figures_for : ChineseCountMethod → Included → Span → Option (List ℕ)
-figures_for method included span =
-    if is_included included span then figures_of_answer (quantity_answer method span.text) else None
+-- it has a figure and no 分之
+abbrev pub is_in_figures : List ℕ → Bool
+is_in_figures text = list_any is_figure text && not (is_fraction text)
+
+-- it has a unit or a zero that is no figure
+abbrev pub has_unit_or_zero : List ℕ → Bool
+has_unit_or_zero text = list_any (λ c. is_unit_from 1 c || is_zero c) text
+
+-- 又
+unfoldable pub is_again : ℕ → Bool
+is_again c = char_set_contains (codes "又") c
+
+-- the new text in a style, of what is not figures alone
+unfoldable pub styled_text : ChineseCountMethod → Style → List ℕ → Option (List ℕ)
+styled_text method Kept text =
+    if is_in_figures text || list_any is_again text then None else kept_text method text
+styled_text method Expanded text =
+    if is_in_figures text && not (has_unit_or_zero text) then None
+    else quantity_figures method text
+
+-- the new text of an expression by its characters
+unfoldable pub written_text : ChineseCountMethod → Figures → List ℕ → Option (List ℕ)
+written_text method options text =
+    if are_figures text then (if options.canonical then Some (canonical_text text) else None)
+    else styled_text method options.style text
+
+-- the new text of an expression, if it has one
+unfoldable pub figures_for : ChineseCountMethod → Figures → Span → Option (List ℕ)
+figures_for method options span =
+    if may_change method options.included span
+    then written_text method options (chars span.text) else None
+
+-- an expression without figures that stays holds all that it is joined to
+unfoldable pub holds_others : ChineseCountMethod → Figures → Span → Bool
+holds_others method options span =
+    not (list_any is_figure (chars span.text)) && not (is_some (figures_for method options span))
 
 -- a text with its expressions in figures
-abbrev pub in_figures : ChineseCountMethod → Included → Wanted → List ℕ → List ℕ
-in_figures method included wanted bytes = replaced (figures_for method included) wanted bytes
-
--- the character can tell of an expression beside it that it is about so much
-unfoldable pub tells_about : ℕ → Bool
-tells_about c =
-    char_set_contains (codes "几幾数數") c || char_set_contains (codes "几幾多余餘来來") c
+unfoldable pub in_figures : ChineseCountMethod → Figures → Wanted → List ℕ → List ℕ
+in_figures method options wanted bytes =
+    in_chains (figures_for method options) (holds_others method options) wanted bytes

@@ -1,4 +1,12 @@
+pub mod Canonical
+pub mod Chains
+pub mod Clings
 pub mod InFigures
+pub mod Joined
+pub mod Kept
+pub mod KeptNumbers
+pub mod Pieces
+pub mod Private
 pub mod Replaced
 pub mod SinkLaws
 pub mod Sinks

@@ -1,14 +1,12 @@
 //! What callers can count on of a text in which expressions are replaced, each as the contract of a
 //! function that does nothing.
-ghost use Rattle.std.specs.Prelude.{◌≡◌, ◌++◌, ℕ, List, false, None, Option, Contains, IsUtf8};
-ghost use Rattle.std.specs.Char.{encode_utf8};
-ghost use Rattle.cn_find.specs.Belongs.{is_wanted};
-ghost use Rattle.cn_find.specs.Parting.{is_named};
+ghost use Rattle.std.specs.Prelude.{◌≡◌, ℕ, List, [], false, true, chars, None, Option, Contains, IsUtf8};
 ghost use Rattle.cn_find.specs.Spans.{Span, expressions};
-ghost use Rattle.cn_replace.specs.InFigures.{in_figures, tells_about};
+ghost use Rattle.cn_replace.specs.declared.options.Style.TheVariants.{Kept};
+ghost use Rattle.cn_replace.specs.InFigures.{figures_for, in_figures, is_in_figures};
 ghost use Rattle.cn_replace.specs.Replaced.{replaced};
 
-use crate::Included;
+use crate::{Figures, Included};
 use cn_core::ChineseCountMethod;
 use cn_find::Wanted;
 
@@ -19,22 +17,23 @@ pub fn texts_stay_where_nothing_is_new(wanted: Wanted)
         → replaced new wanted bytes ≡ bytes }
 {}
 
-/// A character that is not wanted, that the rule of expressions does not name, and that tells of
-/// nothing that it is about so much, as a line feed, parts a text: what stands in front of it is put in
-/// figures, and what stands behind it. So the lines of a text are put in figures one by one.
-pub fn texts_are_put_in_figures_in_parts(
-    wanted: Wanted,
-    method: ChineseCountMethod,
-    included: Included,
-)
-    ensures { (left right : List ℕ) (c : ℕ) → IsUtf8 left → IsUtf8 (encode_utf8 c ++ right)
-        → is_wanted wanted c ≡ false → is_named c ≡ false → tells_about c ≡ false
-        → in_figures method included wanted (left ++ (encode_utf8 c ++ right))
-        ≡ in_figures method included wanted left
-        ++ (encode_utf8 c ++ in_figures method included wanted right) }
+/// A text without expressions stays as it is when it is put in figures.
+pub fn texts_without_expressions_stay(wanted: Wanted, method: ChineseCountMethod, figures: Figures)
+    ensures { (bytes : List ℕ) → expressions wanted bytes ≡ []
+        → in_figures method figures wanted bytes ≡ bytes }
 {}
 
-/// `NONE` includes neither what is about so much nor one character.
-pub fn included_constants_are()
-    ensures { Included.NONE ≡ record { about = false; one_character = false } }
+/// What has a figure and no 分之 stays in the kept style, unless canonical figures are asked for.
+pub fn figures_stay(method: ChineseCountMethod, included: Included)
+    ensures { (span : Span) → is_in_figures (chars span.text) ≡ true
+        → figures_for method (record { included = included; style = Kept; canonical = false }) span
+        ≡ None }
+{}
+
+/// `NONE` includes nothing, and by `DEFAULT` great units stay, and so does what is in figures.
+pub fn figures_constants_are()
+    ensures none { Included.NONE
+        ≡ record { about = false; one_character = false; doubtful = false } }
+    ensures default { Figures.DEFAULT
+        ≡ record { included = Included.NONE; style = Kept; canonical = false } }
 {}

@@ -1,14 +1,27 @@
-//! Replaces the expressions of a text by other texts, as 三点五万 by 35000. All else stands as it stood.
+//! Replaces the expressions of a text by other texts, and writes them in figures, as 三点五万 as 3.5万. All
+//! else stays as it is.
 #![tactic(auto)]
 
-mod figures;
+mod canonical;
+mod chains;
+mod clings;
+mod in_figures;
+mod joined;
+mod kept;
 pub mod laws;
+mod nothing;
+mod numbers;
+mod options;
+mod pieces;
+mod quantities;
 mod replace;
 mod replacement;
 mod room;
 mod sink;
 
-pub use figures::{InFigures, Included, put_quantities_in_figures, quantities_to_figures};
+pub use in_figures::InFigures;
+pub use options::{Figures, Included, Style};
+pub use quantities::{put_quantities_in_figures, quantities_to_figures};
 pub use replace::replace_quantities;
 pub use replacement::Replacement;
 pub use sink::Sink;

@@ -6,8 +6,8 @@ use crate::{Replacement, Sink};
 use cn_find::{Found, Wanted, find_quantities};
 use std::alloc::{AllocError, Global};
 
-// Puts what stands in place of an expression.
-fn put_in_place<S: Sink, R: Replacement>(
+/// Puts what stands in place of an expression.
+pub fn put_in_place<S: Sink, R: Replacement>(
     sink: &mut S,
     found: Found<'_>,
     replacement: R,

@@ -2,7 +2,7 @@
 ghost use Rattle.std.specs.Prelude.{codes, Some, None, if◌then◌else◌, nat_lt, length};
 
 use chinese_number::{
-    ChineseCountMethod, Found, Included, Replacement, Sink, Wanted, put_quantities_in_figures,
+    ChineseCountMethod, Figures, Found, Included, Replacement, Sink, Style, Wanted, put_quantities_in_figures,
     quantities_to_figures, replace_quantities,
 };
 use std::test::Fail;
@@ -29,42 +29,57 @@ fn replaces_by_stars(rt: HostRuntime) -> Result<(), Fail> {
     Ok(())
 }
 
-// A text, and the same in figures: without those that are about so much or one character, and with
-// them.
-static IN_FIGURES: [(&str, &str, &str); 10] = [
-    ("共3.5万元，占12.50%", "共35000元，占12.5%", "共35000元，占12.5%"),
-    ("一般十分", "一般十分", "1般10分"),
-    ("十几人", "十几人", "10几人"),
-    ("三百多人", "三百多人", "300多人"),
-    ("廿三日", "23日", "23日"),
-    ("三分之一", "1/3", "1/3"),
-    ("零下负三点五度", "零下-3.5度", "0下-3.5度"),
-    ("二十十", "二十十", "二十十"),
-    ("", "", ""),
-    ("没有", "没有", "没有"),
+const METHOD: ChineseCountMethod = ChineseCountMethod::TenThousand;
+
+// A text, and the same in figures: by default, expanded, with canonical figures, and with all included.
+static IN_FIGURES: [[&str; 5]; 8] = [
+    ["三千五百亿", "3500亿", "350000000000", "3500亿", "3500亿"],
+    ["１２３，5万", "１２３，5万", "１２３，50000", "123，5万", "１２３，5万"],
+    ["007，0.50", "007，0.50", "007，0.50", "7，0.50", "007，0.50"],
+    ["一般十几人", "一般十几人", "一般十几人", "一般十几人", "1般10几人"],
+    ["五一，八五折", "五一，八五折", "五一，八五折", "五一，八五折", "51，八五折"],
+    ["十五天，二两", "15天，二两", "15天，二两", "15天，二两", "15天，2两"],
+    ["二十十", "二十十", "二十十", "二十十", "二十十"],
+    ["", "", "", "", ""],
 ];
 
-// Whether a text in figures is said to have the length of this one, and a buffer that is large
-// enough begins with it.
-fn puts(buffer: &mut [u8], text: &str, included: Included, expected: &str) -> bool {
-    let method = ChineseCountMethod::TenThousand;
-    let count = put_quantities_in_figures(buffer, text, Wanted::EVERYDAY, method, included);
+// The ways of those columns.
+fn way_of(column: usize) -> Figures {
+    let plain = Figures::DEFAULT;
+    let included = Included {
+        about: true,
+        one_character: true,
+        doubtful: true,
+    };
+    match column {
+        1 => plain,
+        2 => Figures {
+            style: Style::Expanded,
+            ..plain
+        },
+        3 => Figures {
+            canonical: true,
+            ..plain
+        },
+        _ => Figures { included, ..plain },
+    }
+}
+
+// Whether a text in figures has the length of this one, and a buffer that is large enough begins with it.
+fn puts(buffer: &mut [u8], text: &str, figures: Figures, expected: &str) -> bool {
+    let count = put_quantities_in_figures(buffer, text, Wanted::EVERYDAY, METHOD, figures);
     count == expected.len() && (count > buffer.len() || buffer.starts_with(expected.as_bytes()))
 }
 
 #[test]
 fn puts_in_figures(rt: HostRuntime) -> Result<(), Fail> {
-    let all = Included {
-        about: true,
-        one_character: true,
-    };
-    let method = ChineseCountMethod::TenThousand;
-    for (text, some, every) in &IN_FIGURES {
-        for (included, expected) in [(Included::NONE, *some), (all, *every)] {
-            let new = quantities_to_figures(rt.alloc(), text, Wanted::EVERYDAY, method, included)?;
+    for row in &IN_FIGURES {
+        for column in 1..5usize {
+            let (text, expected, figures) = (row[0], row[column], way_of(column));
+            let new = quantities_to_figures(rt.alloc(), text, Wanted::EVERYDAY, METHOD, figures)?;
             assert_eq!(rt; new.as_str(), expected);
-            assert!(rt; puts(&mut [7; 24], text, included, expected));
-            assert!(rt; puts(&mut [7], text, included, expected));
+            assert!(rt; puts(&mut [7; 36], text, figures, expected));
+            assert!(rt; puts(&mut [7], text, figures, expected));
         }
     }
     Ok(())

@@ -1,0 +1,24 @@
+use Rattle.std.proofs.Common.{ap, rules}
+use Rattle.cn_replace.specs.Canonical.{canonical_from}
+use Rattle.cn_replace.proofs.Canonicals.{canonical_more}
+use Rattle.cn_replace.proofs.Texts.{so_far-all, so_far-more, so_far-none}
+use Rattle.cn_replace.proofs.canonical.put_canonical.Goals as goal
+
+pub putting-init : goal.putting-init
+putting-init g c = record {
+  so_far = so_far-none g.S.Sink.took g.met.S.Sink.took_both _ _ (g.met.S.Sink.took_none c.args.sink.now);
+  utf8 = search rules;
+}
+
+pub putting-preserved : goal.putting-preserved
+putting-preserved g c = record {
+  so_far = so_far-more g.S.Sink.took g.met.S.Sink.took_both _ _ _ _ _ _ _ c.putting.invariant.so_far
+      (canonical_more _ _ _ _ _ _ _ c.in-Some.ensures.parts c.is_leading_zero-leads.ensures
+      c.ascii_unless.ensures c.has_figure_after-has_figure.ensures) c.in_ok-put.ensures;
+  utf8 = search rules;
+}
+
+pub returns : goal.returns
+returns g c =
+    so_far-all g.S.Sink.took g.met.S.Sink.took_both _ _ _ _ c.putting.invariant.so_far
+    (ap (canonical_from c.putting.has_figure) c.in_default.ensures.parts)

@@ -1,0 +1,11 @@
+use Rattle.cn_replace.proofs.Texts.{none-first, then-piece}
+use Rattle.cn_replace.proofs.kept.put_with_percent.Goals as goal
+
+pub returns-then-not-branch : goal.returns-then-not-branch
+returns-then-not-branch g c =
+    none-first g.S.Sink.took _ _ _ _ _ _ c.if-not-branch.true c.in_ok-put_number.ensures
+
+pub returns : goal.returns
+returns g c =
+    then-piece g.S.Sink.took g.met.S.Sink.took_both _ _ _ _ _ _ c.if-not-branch.false
+    c.in_ok-put_number.ensures c.in_ok-put_same.ensures

@@ -1,0 +1,48 @@
+-- A text in which the expressions of a chain, each joined to the next, are replaced together, or stay.
+use Rattle.std.specs.Prelude.{ℕ, Bool, false, ◌&&◌, ◌||◌, List, [], ◌∷◌, ◌++◌, drop, Option, Some, None, unwrap_or, if◌then◌else◌}
+use Rattle.cn_find.specs.declared.wanted.Wanted.{Wanted}
+use Rattle.cn_find.specs.Spans.{Span, expressions}
+use Rattle.cn_replace.specs.Joined.{are_joined, end_of, is_joined_at}
+use Rattle.cn_replace.specs.Replaced.{text_for}
+
+-- an expression is joined to the first of the others
+abbrev pub is_joined_to_next : Span → List Span → Bool
+is_joined_to_next span [] = false
+is_joined_to_next span (next ∷ others) = are_joined span next
+
+-- the first of these expressions holds its chain, or one does to which it is joined, from one to the
+-- next
+abbrev pub is_held : (Span → Bool) → List Span → Bool
+is_held holds [] = false
+is_held holds (span ∷ others) =
+    holds span || (is_joined_to_next span others && is_held holds others)
+
+-- an expression is joined to what ended at that byte, if anything did
+abbrev pub goes_on : Option ℕ → Span → Bool
+goes_on None span = false
+goes_on (Some end) span = is_joined_at end span
+
+-- whether the chain of the first of these expressions is held, where the last one before it ended at
+-- that byte, and its chain was held or not
+abbrev pub held_on : (Span → Bool) → Option ℕ → Bool → Span → List Span → Bool
+held_on holds end held span others =
+    if goes_on end span then held else is_held holds (span ∷ others)
+
+-- what is put for an expression
+abbrev pub text_unless : Bool → (Span → Option (List ℕ)) → Span → List ℕ
+text_unless held new span = if held then span.text else text_for new span
+
+-- a text from where the last expression ended, with these replaced that no chain holds
+abbrev pub in_chains_from : (Span → Option (List ℕ)) → (Span → Bool) → List ℕ → Option ℕ → Bool
+    → List Span → List ℕ
+in_chains_from new holds bytes end held [] = drop (unwrap_or end 0) bytes
+in_chains_from new holds bytes end held (span ∷ others) =
+    drop (unwrap_or end 0) span.before
+    ++ text_unless (held_on holds end held span others) new span
+    ++ in_chains_from new holds bytes (Some (end_of span))
+    (held_on holds end held span others) others
+
+-- a text with its expressions replaced but for those whose chain is held
+abbrev pub in_chains : (Span → Option (List ℕ)) → (Span → Bool) → Wanted → List ℕ → List ℕ
+in_chains new holds wanted bytes =
+    in_chains_from new holds bytes None false (expressions wanted bytes)

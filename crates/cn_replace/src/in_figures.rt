@@ -1,0 +1,174 @@
+// The new text of an expression in figures.
+ghost use Rattle.std.specs.Prelude.{◌≡◌, ◌&&◌, ◌||◌, not, chars, is_some, IfOk};
+ghost use Rattle.cn_find.specs.Spans.{span_of};
+ghost use Rattle.cn_replace.specs.InFigures.{figures_for, has_unit_or_zero, holds_others, is_again, is_doubt_included, is_in_figures, is_included, may_change, styled_text, written_text};
+ghost use Rattle.cn_replace.specs.Private.{PutsText};
+
+use crate::canonical::{are_figures, put_canonical};
+use crate::clings::clings;
+use crate::kept::{put_kept, split_bar};
+use crate::nothing::Nothing;
+use crate::numbers::put_read;
+use crate::pieces::{CharTest, Figure, UnitFrom, Zero, any};
+use crate::{Figures, Included, Replacement, Sink, Style};
+use cn_core::{ChineseCountMethod, Unit};
+use cn_find::{Doubt, Found};
+
+// Whether an expression with this doubt is included.
+fn is_doubt_included(included: Included, doubt: Option<Doubt>) -> bool
+    ensures { result ≡ is_doubt_included included doubt }
+{
+    match doubt {
+        None => true,
+        Some(Doubt::Part) => false,
+        Some(_) => included.doubtful,
+    }
+}
+
+// Whether an expression is included, by what is known of it.
+fn is_included(included: Included, found: Found<'_>) -> bool
+    ensures { result ≡ is_included included (span_of found.entry) }
+{
+    (included.one_character || !found.is_one_character())
+        && (included.about || !found.is_about())
+        && is_doubt_included(included, found.doubt())
+}
+
+// Whether an expression may have a new text.
+#[tactic(auto, unfolding(crate::specs::InFigures::may_change))]
+fn may_change(method: ChineseCountMethod, included: Included, found: Found<'_>) -> bool
+    ensures { result ≡ may_change method included (span_of found.entry) }
+{
+    is_included(included, found)
+        && !clings(found.before, found.after)
+        && found.quantity(method).is_ok()
+}
+
+// 又.
+#[derive(Copy, Clone)]
+struct Again;
+
+impl CharTest for Again {
+    ghost use Rattle.cn_replace.specs.InFigures.{is_again};
+
+    ghost test = { λ _. is_again };
+
+    #[tactic(auto, unfolding(crate::specs::InFigures::is_again))]
+    fn passes(self, c: char) -> bool {
+        c == '又'
+    }
+}
+
+// A unit from 十 up, or a zero that is no figure.
+#[derive(Copy, Clone)]
+struct UnitOrZero;
+
+impl CharTest for UnitOrZero {
+    ghost use Rattle.std.specs.Prelude.{◌||◌};
+    ghost use Rattle.cn_replace.specs.Pieces.{is_unit_from, is_zero};
+
+    ghost test = { λ _ c. is_unit_from 1 c || is_zero c };
+
+    fn passes(self, c: char) -> bool {
+        UnitFrom { least: Unit::Shi }.passes(c) || Zero.passes(c)
+    }
+}
+
+// Whether a text has a figure and no 分之.
+fn is_in_figures(text: &str) -> bool
+    ensures { result ≡ is_in_figures (chars text.now) }
+{
+    any(Figure, text) && split_bar(text).is_none()
+}
+
+// Puts the new text in a style of what is not in figures alone.
+#[tactic(auto, unfolding(crate::specs::InFigures::styled_text))]
+fn put_styled<S: Sink>(
+    sink: &mut S,
+    method: ChineseCountMethod,
+    style: Style,
+    text: &str,
+) -> Result<bool, S::Error>
+    ensures { IfOk result (PutsText S.took sink.old sink.new
+        (styled_text method style (chars text.now))) }
+{
+    match style {
+        Style::Kept => {
+            if is_in_figures(text) || any(Again, text) {
+                return Ok(false);
+            }
+            put_kept(sink, method, text)
+        }
+        Style::Expanded => {
+            if is_in_figures(text) && !any(UnitOrZero, text) {
+                return Ok(false);
+            }
+            put_read(sink, method, text)
+        }
+    }
+}
+
+/// What puts the figures of an expression in its place, where it is to be changed.
+#[derive(Debug, Copy, Clone)]
+pub struct InFigures {
+    pub method: ChineseCountMethod,
+    pub figures: Figures,
+}
+
+impl InFigures {
+    // Puts the new text of an expression that may change, and returns whether it has one. If not,
+    // anything may have been put.
+    #[tactic(auto, unfolding(crate::specs::InFigures::written_text))]
+    fn put_written<S: Sink>(self, sink: &mut S, text: &str) -> Result<bool, S::Error>
+        ensures { IfOk result (PutsText S.took sink.old sink.new
+            (written_text self.method self.figures (chars text.now))) }
+    {
+        if !are_figures(text) {
+            return put_styled(sink, self.method, self.figures.style, text);
+        }
+        if !self.figures.canonical {
+            return Ok(false);
+        }
+        put_canonical(sink, text)?;
+        Ok(true)
+    }
+
+    // Whether a text has a new one.
+    fn is_written(self, text: &str) -> bool
+        ensures { result ≡ is_some (written_text self.method self.figures (chars text.now)) }
+    {
+        match self.put_written(&mut Nothing {}, text) {
+            Ok(is_written) => is_written,
+            Err(never) => match never {},
+        }
+    }
+
+    // Whether an expression has a new text.
+    #[tactic(auto, unfolding(crate::specs::InFigures::figures_for))]
+    fn is_new(self, found: Found<'_>) -> bool
+        ensures { result
+            ≡ is_some (figures_for self.method self.figures (span_of found.entry)) }
+    {
+        may_change(self.method, self.figures.included, found) && self.is_written(found.text)
+    }
+
+    /// Whether an expression stays, has no figure, and so holds what it is joined to.
+    #[tactic(auto, unfolding(crate::specs::InFigures::holds_others))]
+    pub fn holds_others(self, found: Found<'_>) -> bool
+        ensures { result ≡ holds_others self.method self.figures (span_of found.entry) }
+    {
+        !any(Figure, found.text) && !self.is_new(found)
+    }
+}
+
+impl Replacement for InFigures {
+    ghost new = { λ r. figures_for r.method r.figures };
+
+    #[tactic(auto, unfolding(crate::specs::InFigures::figures_for))]
+    fn put_new<S: Sink>(self, found: Found<'_>, sink: &mut S) -> Result<bool, S::Error> {
+        if !self.is_new(found) {
+            return Ok(false);
+        }
+        self.put_written(sink, found.text)
+    }
+}

@@ -1,0 +1,60 @@
+// The expressions of a text in figures.
+ghost use Rattle.std.specs.Prelude.{◌≡◌, ◌++◌, ◌-◌, ◌^◌, ◌≤◌, min, drop, length, string_bytes, IfOk};
+ghost use Rattle.cn_replace.specs.InFigures.{in_figures};
+
+use crate::chains::put_in_chains;
+use crate::room::LentRoom;
+use crate::{Figures, InFigures};
+use cn_core::ChineseCountMethod;
+use cn_find::Wanted;
+use std::alloc::{AllocError, Global};
+
+/// A text with its expressions in figures, where numerals have to be changed for that and mean what they
+/// say. The rules are those of docs/RULES.md, "Expressions replaced".
+///
+/// ```text
+/// quantities_to_figures(alloc, "一般占百分之三十，共三点五万", Wanted::EVERYDAY,
+///     ChineseCountMethod::TenThousand, Figures::DEFAULT) == Ok("一般占30%，共3.5万")
+/// ```
+///
+/// The error is running out of memory, which is asked for as the text grows.
+pub fn quantities_to_figures(
+    alloc: Global,
+    text: &str,
+    wanted: Wanted,
+    method: ChineseCountMethod,
+    figures: Figures,
+) -> Result<String, AllocError>
+    ensures { IfOk result (λ new. string_bytes new ≡ in_figures method figures wanted text.now) }
+{
+    let mut new = String::with_capacity(alloc, text.len())?;
+    put_in_chains(&mut new, text, wanted, InFigures { method, figures })?;
+    Ok(new)
+}
+
+/// Puts the same at the start of a room, if it fits, and returns how many bytes it has, at most the
+/// greatest `usize`. Where it does not fit, the room holds a beginning of it or less.
+///
+/// ```text
+/// let mut room = [0; 8];
+/// put_quantities_in_figures(&mut room, "三点五万", Wanted::EVERYDAY, ChineseCountMethod::TenThousand,
+///     Figures::DEFAULT) == 6 // and the room begins with 3.5万
+/// ```
+pub fn put_quantities_in_figures(
+    room: &mut [u8],
+    text: &str,
+    wanted: Wanted,
+    method: ChineseCountMethod,
+    figures: Figures,
+) -> usize
+    ensures count { let new = in_figures method figures wanted text.now in
+        result ≡ min (length new) (2 ^ 64 - 1) }
+    ensures put { let new = in_figures method figures wanted text.now in
+        length new ≤ length room.old → room.new ≡ new ++ drop (length new) room.old }
+{
+    let mut lent = LentRoom { room, count: 0 };
+    match put_in_chains(&mut lent, text, wanted, InFigures { method, figures }) {
+        Ok(()) => lent.count,
+        Err(never) => match never {},
+    }
+}
