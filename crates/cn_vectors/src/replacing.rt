@@ -2,8 +2,8 @@
 ghost use Rattle.std.specs.Prelude.{codes, Some, None, if◌then◌else◌, nat_lt, length};
 
 use chinese_number::{
-    ChineseCountMethod, Figures, Found, Included, Replacement, Sink, Style, Wanted, put_quantities_in_figures,
-    quantities_to_figures, replace_quantities,
+    ChineseCountMethod, Figures, Found, Included, Replacement, Sink, Style, Wanted,
+    put_quantities_in_figures, quantities_to_figures, replace_quantities,
 };
 use std::test::Fail;
 
