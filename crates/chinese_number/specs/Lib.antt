@@ -13,6 +13,7 @@ pub use Rattle.cn_amount.specs.Typed as AmountTyped
 pub use Rattle.cn_amount.specs.Writes as AmountWrites
 pub use Rattle.cn_core.specs.CharIndex
 pub use Rattle.cn_core.specs.Characters
+pub use Rattle.cn_core.specs.Figures
 pub use Rattle.cn_core.specs.Judge
 pub use Rattle.cn_core.specs.Judging
 pub use Rattle.cn_core.specs.Mark

@@ -14,7 +14,7 @@ use Rattle.cn_quantity.specs.Private.{IsGroup}
 use Rattle.cn_quantity.specs.declared.turns.Turns.{Turns}
 use Rattle.std.specs.Char.{char_set_contains}
 use Rattle.cn_core.specs.declared.method.ChineseCountMethod.{ChineseCountMethod}
-use Rattle.cn_quantity.specs.Turns.{after_group, after_units, begins_with_nought, begins_with_zero, by_turns, first_group, last_group, later_group, leading_number, leading_units, number_of, turns_after, unit_group, units_of, with_group, with_last, without_zero}
+use Rattle.cn_quantity.specs.Turns.{after_group, after_units, begins_with_nought, begins_with_zero, by_turns, first_group, has_two_readings, last_group, later_group, leading_number, leading_units, number_of, turns_after, unit_group, units_of, with_group, with_last, without_zero}
 use Rattle.cn_quantity.proofs.Ends.{text-parts}
 
 -- more figures make no smaller number
@@ -129,7 +129,8 @@ later-some method turns next after_zero group h =
       by : (o : Option ℕ) (b : Bool) → nat_lt 0 (leading_digits Figure group) ≡ b
           → Some next ≡ option_map_or (λ number. if b
           then (if nat_lt 0 (length (units_of group))
-          then unit_group method turns number (begins_with_nought group) (units_of group)
+          then (if has_two_readings method turns after_zero (units_of group) then None
+          else unit_group method turns number (begins_with_nought group) (units_of group))
           else last_group turns after_zero (begins_with_nought group)
           (leading_digits Figure group) number) else None) o None
           → 0 < leading_digits Figure group

@@ -1,5 +1,5 @@
 -- A number in figures and units by turns, as 1亿2000万, 12万3千 and 5千5.
-use Rattle.std.specs.Prelude.{ℕ, zero, suc, ◌+◌, ◌*◌, ◌/◌, ◌^◌, Bool, false, not, ◌&&◌, ◌==◌, nat_lt, List, [], ◌∷◌, codes, length, Option, Some, None, if◌then◌else◌}
+use Rattle.std.specs.Prelude.{ℕ, zero, suc, ◌+◌, ◌*◌, ◌/◌, ◌^◌, Bool, false, not, ◌&&◌, ◌==◌, nat_le, nat_lt, List, [], ◌∷◌, codes, length, Option, Some, None, if◌then◌else◌}
 use Rattle.std.specs.Char.{char_set_contains}
 use Rattle.std.specs.Option.{option_map_or}
 use Rattle.cn_core.specs.declared.method.ChineseCountMethod.{ChineseCountMethod}
@@ -114,13 +114,20 @@ unit_group method turns number nought units =
     if not nought && is_below (times_units method number units) turns.product
     then with_group method turns.sum number units else None
 
+-- units below 10000 directly after units of 10^8 or more: 1亿2千 is 1.2亿 for some, and 1亿零2千 for others
+abbrev pub has_two_readings : ChineseCountMethod → Turns → Bool → List ℕ → Bool
+has_two_readings method turns after_zero units =
+    not after_zero
+    && (nat_le (10 ^ 8) turns.product && is_below (times_units method 1 units) 10000)
+
 -- a later group, after 零 or not
 abbrev pub later_group : ChineseCountMethod → Turns → Bool → List ℕ → Option Turns
 later_group method turns after_zero group =
     option_map_or (λ number.
     if nat_lt 0 (leading_digits Figure group)
     then (if nat_lt 0 (length (units_of group))
-    then unit_group method turns number (begins_with_nought group) (units_of group)
+    then (if has_two_readings method turns after_zero (units_of group) then None
+    else unit_group method turns number (begins_with_nought group) (units_of group))
     else last_group turns after_zero (begins_with_nought group) (leading_digits Figure group) number)
     else None)
     (number_of group) None

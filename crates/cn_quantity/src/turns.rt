@@ -4,7 +4,7 @@ ghost use Rattle.cn_core.specs.Text.{text_of};
 ghost use Rattle.cn_quantity.specs.declared.characters.DigitKind.TheVariants.{Figure};
 ghost use Rattle.cn_quantity.specs.Digits.{leading_digits};
 ghost use Rattle.cn_quantity.specs.Private.{IsEnd, IsGroup};
-ghost use Rattle.cn_quantity.specs.Turns.{after_group, after_units, begins_with_nought, begins_with_zero, by_turns, fills, first_group, is_below, is_tenth, last_group, later_group, leading_number, number_of, unit_group, with_group, with_last, without_zero};
+ghost use Rattle.cn_quantity.specs.Turns.{after_group, after_units, begins_with_nought, begins_with_zero, by_turns, fills, first_group, has_two_readings, is_below, is_tenth, last_group, later_group, leading_number, number_of, unit_group, with_group, with_last, without_zero};
 ghost use Rattle.cn_quantity.specs.Units.{times_units};
 
 use crate::characters::{DigitKind, digit_by};
@@ -227,6 +227,13 @@ fn unit_group(
     }
 }
 
+// Whether units below 10000 are directly after units of 10^8 or more, as in 1亿2千.
+fn has_two_readings(method: ChineseCountMethod, turns: Turns, after_zero: bool, units: &str) -> bool
+    ensures { result ≡ has_two_readings method turns after_zero (text_of units.now) }
+{
+    !after_zero && turns.product >= 100_000_000 && is_below(method, 1, units, 10_000)
+}
+
 // The groups with a later one, after 零 or not.
 fn later_group(
     method: ChineseCountMethod,
@@ -244,6 +251,7 @@ fn later_group(
         return None;
     }
     let next = match split_first(group.units) {
+        Some(_) if has_two_readings(method, turns, after_zero, group.units) => return None,
         Some(_) => unit_group(method, turns, group.number, group.nought, group.units)?,
         None => last_group(turns, after_zero, group.nought, group.count, group.number)?,
     };
