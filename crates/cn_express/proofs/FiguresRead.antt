@@ -11,7 +11,7 @@ use Rattle.std.proofs.lemmas.Str.Ascii.{IsAscii-nil}
 use Rattle.std.proofs.Math.Nat.{div-add-mod', div-le_self}
 use Rattle.cn_core.specs.declared.method.ChineseCountMethod.{ChineseCountMethod}
 use Rattle.cn_core.specs.declared.sign.Sign.TheVariants.{Minus}
-use Rattle.cn_core.specs.Characters.{digit_of, rank_of}
+use Rattle.cn_core.specs.Characters.{digit_of, rank_of, sign_of as numeral_sign}
 use Rattle.cn_core.specs.Mark.{Mark, mark_of}
 use Rattle.cn_core.specs.Naive.{decimal_value, digit_value, naive_answer, refused_or}
 use Rattle.cn_core.specs.Numeral.{is_digit_or_unit}
@@ -19,6 +19,7 @@ use Rattle.cn_core.specs.Refusal.{Refusal}
 use Rattle.cn_core.specs.Text.{marks_of}
 use Rattle.cn_core.specs.Whole.{holds, signed_kind}
 use Rattle.cn_core.proofs.Fronts.{and-left, and-right, both}
+use Rattle.cn_core.specs.Figures.{figure_of, figure_rows, is_comma}
 use Rattle.cn_express.specs.Digits.{behind_point, last_digits}
 use Rattle.cn_express.specs.Figures.{figure_char, figures_of, figures_with, percent_sign, unsigned_figures}
 use Rattle.cn_express.proofs.ClearTexts.{digits-not_misread}
@@ -28,13 +29,13 @@ use Rattle.cn_express.proofs.DigitTexts.{WritesDigits, WritesDigits-each, are_di
 use Rattle.cn_express.proofs.NumberTexts.{IsNumberText, IsUnsigned-decimal, IsUnsigned-whole}
 use Rattle.cn_express.proofs.Ratios.{no-negated, percent-ratio, ratio-fits}
 use Rattle.cn_express.proofs.SignedTexts.{IsUnsigned, magnitude-fits, signed-read}
-use Rattle.cn_express.proofs.WrittenTexts.{IsText, IsText-append}
+use Rattle.cn_express.proofs.WrittenTexts.{IsText, IsText-append, not-mixed}
 use Rattle.cn_judge.proofs.Walking.{rows_have}
 use Rattle.cn_quantity.specs.declared.characters.DigitKind.TheVariants.{Figure}
 use Rattle.cn_quantity.specs.declared.quantity.Quantity.{Quantity}
 use Rattle.cn_quantity.specs.declared.quantity.QuantityForm.{QuantityForm}
 use Rattle.cn_quantity.specs.declared.quantity.QuantityForm.TheVariants.{Whole, Decimal, Percent, Fraction}
-use Rattle.cn_quantity.specs.Characters.{figure_of, figure_rows, is_comma, is_fen, is_point, share_of, sign_of}
+use Rattle.cn_quantity.specs.Characters.{is_fen, is_point, share_of, sign_of}
 use Rattle.cn_quantity.specs.Digits.{after_digits, begins_with_digit, is_digit, leading_digits, read_on, read_with_units}
 use Rattle.cn_quantity.specs.Figures.{after_figures, after_groups, decimals_of, ends_in_figures, is_in_figures, may_lead_groups}
 use Rattle.cn_quantity.specs.Number.{decimal_of, number_answer, or_shaped, shaped_number}
@@ -69,7 +70,7 @@ figures-no_units text figures = figures-have (λ c. is_none (rank_of c)) refl te
 
 figures-signless : (text : List ℕ) → are_digits Figure text ≡ true
     → list_all (λ c. is_none (sign_of c)) text ≡ true
-unfolding sign_of
+unfolding sign_of numeral_sign
 figures-signless text figures = figures-have (λ c. is_none (sign_of c)) refl text figures
 
 figures-no_sign : (text more : List ℕ) → are_digits Figure text ≡ true → 0 < length text
@@ -237,7 +238,7 @@ record IsPoint (c : ℕ) : Type 0 where
   no_mark : is_digit_or_unit (mark_of c) ≡ false
 
 IsPoint-ascii : IsPoint (slice_index (codes ".") 0)
-unfolding is_bare is_fen share_of rank_of digit_of figure_of is_comma is_point
+unfolding is_bare is_fen share_of rank_of digit_of figure_of is_point
 IsPoint-ascii = record {
   bare = refl;
   no_unit = refl;
@@ -384,17 +385,19 @@ IsUnsigned-percent : (method : ChineseCountMethod) (number decimals denominator 
     (record { numerator = number; denominator = denominator; form = Percent })
     (text ++ codes "%")
 IsUnsigned-percent method number decimals denominator text some n is small = record {
-  written = IsText-append text (codes "%") (bare-text text n.bare) IsText-percent;
+  written = text_is;
   no_sign = sign-front text (codes "%") some ∙ n.no_sign;
   no_minus = no-negated (text ++ codes "%")
       (lacks-append is_fen text (codes "%") (bare-no_fen text n.bare) (percent-is.1));
   read = percent-ratio method (record { number = number; decimals = decimals })
-      (slice_index (codes "%") 0) text
+      (slice_index (codes "%") 0) text (not-mixed method (text ++ codes "%") text_is)
       (lacks-append is_fen text (codes "%") (bare-no_fen text n.bare) (percent-is.1))
       (percent-is.0) some n.read
       ∙ ratio-fits 100 number decimals denominator Percent
       (over-is 100 denominator decimals is) small;
-}
+} where
+  text_is : IsText (text ++ codes "%")
+  text_is = IsText-append text (codes "%") (bare-text text n.bare) IsText-percent
 
 -- without its sign
 figures-by : (method : ChineseCountMethod) (form : QuantityForm)
@@ -417,7 +420,7 @@ figures-by method Fraction number denominator decimals is small fits = cc
 
 -- with it
 minus-is : sign_of (slice_index (codes "-") 0) ≡ Some Minus
-unfolding sign_of
+unfolding sign_of numeral_sign
 minus-is = refl
 
 IsText-minus : IsText (codes "-")

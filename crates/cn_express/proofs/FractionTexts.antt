@@ -7,7 +7,7 @@ use Rattle.cn_core.specs.declared.case.ChineseCase.{ChineseCase}
 use Rattle.cn_core.specs.declared.method.ChineseCountMethod.{ChineseCountMethod}
 use Rattle.cn_core.specs.declared.script.ChineseVariant.{ChineseVariant}
 use Rattle.cn_core.specs.declared.sign.Sign.{Sign}
-use Rattle.cn_core.specs.Characters.{rank_of, digit_char}
+use Rattle.cn_core.specs.Characters.{rank_of, digit_char, sign_of as numeral_sign}
 use Rattle.cn_core.specs.Mark.{Mark, digit, mark_of}
 use Rattle.cn_core.specs.Numeral.{is_digit_or_unit}
 use Rattle.cn_core.specs.Place.{some_unfit}
@@ -68,7 +68,7 @@ units-number write read divisor text small is spelled rising =
 -- a unit below 兆 is no sign
 small-no_sign : (c rank : ℕ) → is_digit_or_unit (mark_of c) ≡ true → rank_of c ≡ Some rank
     → rank ≤ 5 → sign_of c ≡ None
-unfolding rank_of sign_of
+unfolding rank_of sign_of numeral_sign
 small-no_sign c rank marked is low = by (sign_of c) (ap (λ r. option_map_or (λ rank. nat_lt 5 rank)
     r true || is_none (sign_of c)) (sym is)
     ∙ own (λ c. option_map_or (λ rank. nat_lt 5 rank) (rank_of c) true || is_none (sign_of c)) c

@@ -4,6 +4,7 @@ use Rattle.cn_core.specs.declared.method.ChineseCountMethod.{ChineseCountMethod}
 use Rattle.cn_express.proofs.BareTexts.{are_bare, bare-no_fen, bare-no_share, bare-text}
 use Rattle.cn_express.proofs.Ratios.{no-negated, number-ratio, ratio-fits}
 use Rattle.cn_express.proofs.SignedTexts.{IsUnsigned}
+use Rattle.cn_express.proofs.WrittenTexts.{not-mixed}
 use Rattle.cn_quantity.specs.declared.number.Decimal.{Decimal as DecimalNumber}
 use Rattle.cn_quantity.specs.declared.quantity.QuantityForm.{QuantityForm}
 use Rattle.cn_quantity.specs.declared.quantity.QuantityForm.TheVariants.{Whole, Decimal}
@@ -31,7 +32,7 @@ IsUnsigned-number method number decimals denominator form text n form_is is smal
   no_sign = n.no_sign;
   no_minus = no-negated text (bare-no_fen text n.bare);
   read = number-ratio method (record { number = number; decimals = decimals }) text
-      (bare-no_fen text n.bare) (bare-no_share text n.bare) n.read
+      (not-mixed method text (bare-text text n.bare)) (bare-no_fen text n.bare) (bare-no_share text n.bare) n.read
       ∙ ratio-fits 1 number decimals denominator (form_of decimals) (omega (arith, is)) small
       ∙ ap (λ form. Ok (record {
         numerator = number;

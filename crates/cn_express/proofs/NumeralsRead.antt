@@ -11,7 +11,7 @@ use Rattle.cn_core.specs.declared.method.ChineseCountMethod.TheVariants.{Low, Te
 use Rattle.cn_core.specs.declared.script.ChineseVariant.{ChineseVariant}
 use Rattle.cn_core.specs.declared.script.ChineseVariant.TheVariants.{Traditional, Simple}
 use Rattle.cn_core.specs.declared.sign.Sign.TheVariants.{Minus}
-use Rattle.cn_core.specs.Characters.{digit_char, minus_char, rank_of, unit_char}
+use Rattle.cn_core.specs.Characters.{digit_char, minus_char, rank_of, unit_char, sign_of as numeral_sign}
 use Rattle.cn_core.specs.Mark.{digit, unit}
 use Rattle.cn_core.specs.Printing.{is_printable, mark_char}
 use Rattle.cn_core.specs.Spelling.{spelling}
@@ -26,7 +26,7 @@ use Rattle.cn_express.proofs.FractionTexts.{IsDivisorText, IsDivisorText-written
 use Rattle.cn_express.proofs.NumberTexts.{IsNumberText, IsUnsigned-decimal, IsUnsigned-whole}
 use Rattle.cn_express.proofs.Ratios.{fraction-ratio, ratio-fits, unsigned-over}
 use Rattle.cn_express.proofs.SignedTexts.{IsUnsigned, magnitude-fits, sign-text, signed-read}
-use Rattle.cn_express.proofs.WrittenTexts.{IsText, IsText-append}
+use Rattle.cn_express.proofs.WrittenTexts.{IsText, IsText-append, not-mixed}
 use Rattle.cn_quantity.specs.declared.characters.DigitKind.TheVariants.{Chinese}
 use Rattle.cn_quantity.specs.declared.quantity.Quantity.{Quantity}
 use Rattle.cn_quantity.specs.declared.quantity.QuantityForm.{QuantityForm}
@@ -89,15 +89,17 @@ IsUnsigned-fraction : (method : ChineseCountMethod)
     (before ++ (bar ++ after))
 IsUnsigned-fraction method divisor number decimals denominator before after d written sign some part
     above is small = record {
-      written = IsText-append before (bar ++ after) (bare-text before (marks-bare before d.marks))
-          (IsText-append bar after IsText-bar written);
+      written = text_is;
       no_sign = d.no_sign (bar ++ after);
       no_minus = unsigned-over before after (bare-no_fen before (marks-bare before d.marks)) sign;
       read = fraction-ratio method divisor (record { number = number; decimals = decimals })
-          before after (bare-no_fen before (marks-bare before d.marks)) d.some some
+          before after (not-mixed method (before ++ (bar ++ after)) text_is) (bare-no_fen before (marks-bare before d.marks)) d.some some
           (divisor-answered method divisor before above d.read) part
           ∙ ratio-fits divisor number decimals denominator (form_over divisor) is small;
-    }
+    } where
+      text_is : IsText (before ++ (bar ++ after))
+      text_is = IsText-append before (bar ++ after) (bare-text before (marks-bare before d.marks))
+          (IsText-append bar after IsText-bar written)
 
 -- 百
 hundred-marks : (method : ChineseCountMethod) → spelling method 100 ≡ digit 1 ∷ unit 2 ∷ []
@@ -131,7 +133,7 @@ IsDivisorText-hundred variant case method =
 
 -- the minus sign
 minus-sign : (variant : ChineseVariant) → sign_of (minus_char variant) ≡ Some Minus
-unfolding minus_char sign_of
+unfolding minus_char sign_of numeral_sign
 minus-sign Traditional = refl
 minus-sign Simple = refl
 
@@ -207,7 +209,8 @@ numerals-by variant case write read test passes form number denominator (Some de
           IsUnsigned-fraction read 100 number decimals denominator
           (unit_char variant case 2 ∷ []) (decimal_text variant case write decimals number)
           (IsDivisorText-hundred variant case read)
-          (bare-text (decimal_text variant case write decimals number) n.bare) n.no_sign part.0 part.1
+          (bare-text (decimal_text variant case write decimals number) n.bare) n.no_sign
+          part.0 part.1
           (omega arith) (over-is 100 denominator decimals is) fits
       by Fraction is = cc
 

@@ -10,11 +10,11 @@ use Rattle.cn_quantity.specs.declared.quantity.QuantityForm.TheVariants.{Percent
 use Rattle.cn_quantity.specs.Answer.{and_then, further_by}
 use Rattle.cn_quantity.specs.Characters.{is_fen, is_share, is_zhi, share_of}
 use Rattle.cn_quantity.specs.Number.{divisor_answer, number_answer, part_answer}
-use Rattle.cn_quantity.specs.Ratio.{after_bar, before_bar, begins_with_minus, form_of, form_over, fraction_answer, is_fraction, is_negated, ratio_answer, ratio_of, share}
+use Rattle.cn_quantity.specs.Ratio.{after_bar, before_bar, begins_with_minus, form_of, form_over, fraction_answer, is_fraction, is_negated, mixed, ratio_answer, ratio_of, share}
 use Rattle.cn_core.specs.Reading.{is_minus}
 use Rattle.cn_quantity.specs.Reading.{leading_sign}
 use Rattle.cn_quantity.proofs.Bars.{front-taken, share-some}
-use Rattle.cn_quantity.proofs.Ratios.{a-fraction, a-number, a-share}
+use Rattle.cn_quantity.proofs.Ratios.{a-fraction, a-number, a-share, simple-is}
 use Rattle.cn_quantity.proofs.Today.{and-none}
 
 -- a ratio whose denominator fits
@@ -35,11 +35,13 @@ bar-cut before after none =
     bar-at before (slice_index bar 0) (slice_index bar 1) after none refl refl
 
 pub fraction-ratio : (method : ChineseCountMethod) (divisor : ℕ) (decimal : DecimalNumber)
-    (before after : List ℕ) → lacks is_fen before ≡ true → 0 < length before → 0 < length after
+    (before after : List ℕ) → mixed method (before ++ (bar ++ after)) ≡ None
+    → lacks is_fen before ≡ true → 0 < length before → 0 < length after
     → divisor_answer method before ≡ Ok divisor → part_answer method after ≡ Ok decimal
     → ratio_answer method (before ++ (bar ++ after)) ≡ ratio_of divisor (form_over divisor) decimal
-fraction-ratio method divisor decimal before after none some many one other =
-    a-fraction method (before ++ (bar ++ after)) is
+fraction-ratio method divisor decimal before after simple none some many one other =
+    simple-is method (before ++ (bar ++ after)) simple
+    ∙ a-fraction method (before ++ (bar ++ after)) is
     ∙ ap₂ (λ b a. fraction_answer method b (length b + 2) a) cut.0 cut.1
     ∙ ap (λ a. and_then a (λ divisor.
     and_then (further_by (length before + 2) (part_answer method after))
@@ -79,11 +81,13 @@ unsigned-over before after none sign =
 
 -- a percent sign at the end
 pub percent-ratio : (method : ChineseCountMethod) (decimal : DecimalNumber) (sign : ℕ)
-    (text : List ℕ) → lacks is_fen (text ++ sign ∷ []) ≡ true → share_of sign ≡ Some 100
+    (text : List ℕ) → mixed method (text ++ sign ∷ []) ≡ None
+    → lacks is_fen (text ++ sign ∷ []) ≡ true → share_of sign ≡ Some 100
     → 0 < length text → number_answer method text ≡ Ok decimal
     → ratio_answer method (text ++ sign ∷ []) ≡ ratio_of 100 Percent decimal
-percent-ratio method decimal sign text no_fen percent some read =
-    a-share method (text ++ sign ∷ []) 100
+percent-ratio method decimal sign text simple no_fen percent some read =
+    simple-is method (text ++ sign ∷ []) simple
+    ∙ a-share method (text ++ sign ∷ []) 100
     (no-fraction (text ++ sign ∷ []) no_fen) (is text some)
     ∙ ap (λ l. and_then (number_answer method l) (λ decimal. ratio_of 100 Percent decimal))
     (sym (front-taken sign (text ++ sign ∷ []) text refl))
@@ -95,10 +99,11 @@ percent-ratio method decimal sign text no_fen percent some read =
 
 -- a text with neither 分之 nor a percent sign
 pub number-ratio : (method : ChineseCountMethod) (decimal : DecimalNumber) (text : List ℕ)
-    → lacks is_fen text ≡ true → lacks is_share text ≡ true
+    → mixed method text ≡ None → lacks is_fen text ≡ true → lacks is_share text ≡ true
     → number_answer method text ≡ Ok decimal
     → ratio_answer method text ≡ ratio_of 1 (form_of decimal.decimals) decimal
-number-ratio method decimal text no_fen no_share read =
-    a-number method text
+number-ratio method decimal text simple no_fen no_share read =
+    simple-is method text simple
+    ∙ a-number method text
     (no-fraction text no_fen) (share-none text no_share)
     ∙ ap (λ a. and_then a (λ decimal. ratio_of 1 (form_of decimal.decimals) decimal)) read

@@ -23,11 +23,12 @@ use Rattle.cn_core.proofs.Fronts.{and-left, both}
 use Rattle.cn_core.proofs.Judging.{Judges-judge, Judges-same}
 use Rattle.cn_core.proofs.Spellings.{short_spelling-by, spelled-by}
 use Rattle.cn_core.proofs.Sums.{spelled-digit}
+use Rattle.cn_core.specs.Figures.{figure_of}
 use Rattle.cn_express.proofs.DigitTexts.{WritesDigits-each}
 use Rattle.cn_express.proofs.LastMarks.{digit-as_mark, is_digit}
 use Rattle.cn_judge.proofs.Walking.{rows_have}
 use Rattle.cn_quantity.specs.declared.characters.DigitKind.TheVariants.{Chinese}
-use Rattle.cn_quantity.specs.Characters.{chinese_digit_of, figure_of, sign_of}
+use Rattle.cn_quantity.specs.Characters.{chinese_digit_of, sign_of}
 use Rattle.cn_quantity.specs.Misread.{first_misread}
 use Rattle.cn_quantity.specs.Units.{are_rising}
 use Rattle.cn_quantity.specs.WholeNumber.{is_plain, reader_answer, whole_answer}

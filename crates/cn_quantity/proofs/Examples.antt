@@ -3,12 +3,13 @@ use Rattle.std.proofs.Common.{◌≡◌, ℕ, ℤ, pos, negsuc, List, [], ◌∷
 use Rattle.std.specs.Char.{encode_utf8}
 use Rattle.std.specs.Str.{chars}
 use Rattle.cn_core.specs.declared.method.ChineseCountMethod.TheVariants.{TenThousand}
-use Rattle.cn_core.specs.Characters.{digit_of, rank_of}
+use Rattle.cn_core.specs.Characters.{digit_of, rank_of, sign_of as numeral_sign}
+use Rattle.cn_core.specs.Figures.{figure_of, tens_of}
 use Rattle.cn_core.specs.Refusal.{Refusal, empty, incorrect_at, too_large}
 use Rattle.cn_quantity.specs.declared.quantity.Quantity.{Quantity}
 use Rattle.cn_quantity.specs.declared.quantity.QuantityForm.{QuantityForm}
 use Rattle.cn_quantity.specs.declared.quantity.QuantityForm.TheVariants.{Whole, Decimal, Percent, Fraction}
-use Rattle.cn_quantity.specs.Characters.{chinese_digit_of, figure_of, is_comma, is_fen, is_point, is_zhi, share_of, sign_of, tens_of}
+use Rattle.cn_quantity.specs.Characters.{chinese_digit_of, is_fen, is_point, is_zhi, share_of, sign_of}
 use Rattle.cn_quantity.specs.Reading.{quantity_answer}
 
 abbrev answers : List (List ℕ) → List (Result Quantity Refusal)
@@ -24,7 +25,7 @@ chinese_decimals : answers (codes "三點一四" ∷ codes "三点一零" ∷ co
     ≡ is (pos 314) 100 Decimal ∷ is (pos 310) 100 Decimal ∷ is (pos 350000) 10 Decimal
     ∷ is (pos 1234500000000) 10 Decimal ∷ is (pos 202530000) 10 Decimal
     ∷ is (pos 3500000000) 10 Decimal ∷ []
-unfolding chars encode_utf8 digit_of rank_of figure_of chinese_digit_of tens_of sign_of is_point is_comma
+unfolding chars encode_utf8 digit_of rank_of figure_of chinese_digit_of tens_of sign_of numeral_sign is_point
     is_fen is_zhi share_of
 chinese_decimals = refl
 
@@ -32,7 +33,7 @@ no_decimals : answers (codes "一百二点五" ∷ codes "一百二点五万" �
     ∷ codes "三点五十" ∷ codes "点五" ∷ codes "三点" ∷ codes "3点5" ∷ [])
     ≡ Err (incorrect_at 3) ∷ Err (incorrect_at 3) ∷ Err (incorrect_at 4)
     ∷ Err (incorrect_at 1) ∷ Err (incorrect_at 0) ∷ Err (incorrect_at 1) ∷ Err (incorrect_at 1) ∷ []
-unfolding chars encode_utf8 digit_of rank_of figure_of chinese_digit_of tens_of sign_of is_point is_comma
+unfolding chars encode_utf8 digit_of rank_of figure_of chinese_digit_of tens_of sign_of numeral_sign is_point
     is_fen is_zhi share_of
 no_decimals = refl
 
@@ -41,7 +42,7 @@ figures : answers (codes "3.5万" ∷ codes "128万" ∷ codes "1.2万亿" ∷ c
     ≡ is (pos 350000) 10 Decimal ∷ is (pos 1280000) 1 Whole ∷ is (pos 12000000000000) 10 Decimal
     ∷ is (pos 128050) 100 Decimal ∷ is (pos 125) 10 Decimal ∷ is (pos 1280) 1 Whole
     ∷ is (pos 300000000) 1 Whole ∷ is (pos 150000) 10 Decimal ∷ []
-unfolding chars encode_utf8 digit_of rank_of figure_of chinese_digit_of tens_of sign_of is_point is_comma
+unfolding chars encode_utf8 digit_of rank_of figure_of chinese_digit_of tens_of sign_of numeral_sign is_point
     is_fen is_zhi share_of
 figures = refl
 
@@ -49,7 +50,7 @@ no_figures : answers (codes "12,34" ∷ codes "0,100" ∷ codes ".5" ∷ codes "
     ∷ codes "1亿2000" ∷ codes "3万500" ∷ codes "0极" ∷ codes "1/3" ∷ codes "13个百" ∷ codes "3个" ∷ [])
     ≡ Err (incorrect_at 3) ∷ Err (incorrect_at 2) ∷ Err (incorrect_at 0) ∷ Err (incorrect_at 3)
     ∷ Err (incorrect_at 2) ∷ Err (incorrect_at 2) ∷ Err too_large ∷ Err (incorrect_at 1) ∷ Err (incorrect_at 0) ∷ Err (incorrect_at 1) ∷ []
-unfolding chars encode_utf8 digit_of rank_of figure_of chinese_digit_of tens_of sign_of is_point is_comma
+unfolding chars encode_utf8 digit_of rank_of figure_of chinese_digit_of tens_of sign_of numeral_sign is_point
     is_fen is_zhi share_of
 no_figures = refl
 
@@ -57,7 +58,7 @@ whole_numbers : answers (codes "一百二" ∷ codes "二零二五" ∷ codes "�
     ∷ codes "卅" ∷ codes "一百廿" ∷ codes "百" ∷ codes "正" ∷ [])
     ≡ is (pos 120) 1 Whole ∷ is (pos 2025) 1 Whole ∷ is (pos 20) 1 Whole ∷ is (pos 23) 1 Whole
     ∷ is (pos 30) 1 Whole ∷ Err (incorrect_at 2) ∷ Err (incorrect_at 0) ∷ Err empty ∷ []
-unfolding chars encode_utf8 digit_of rank_of figure_of chinese_digit_of tens_of sign_of is_point is_comma
+unfolding chars encode_utf8 digit_of rank_of figure_of chinese_digit_of tens_of sign_of numeral_sign is_point
     is_fen is_zhi share_of
 whole_numbers = refl
 
@@ -65,7 +66,7 @@ percentages : answers (codes "12.5%" ∷ codes "五十％" ∷ codes "百%" ∷ 
     ≡ is (pos 125) 1000 Percent ∷ is (pos 50) 100 Percent ∷ Err (incorrect_at 0)
     ∷ Err (incorrect_at 2) ∷ is (pos 5) 1000 Fraction ∷ is (pos 125) 10000 Fraction
     ∷ Err (incorrect_at 0) ∷ []
-unfolding chars encode_utf8 digit_of rank_of figure_of chinese_digit_of tens_of sign_of is_point is_comma
+unfolding chars encode_utf8 digit_of rank_of figure_of chinese_digit_of tens_of sign_of numeral_sign is_point
     is_fen is_zhi share_of
 percentages = refl
 
@@ -74,15 +75,15 @@ fractions : answers (codes "三分之一" ∷ codes "百分之五十" ∷ codes 
     ≡ is (pos 1) 3 Fraction ∷ is (pos 50) 100 Percent ∷ is (pos 100) 100 Percent
     ∷ is (pos 125) 1000 Percent ∷ is (pos 3) 1000000 Fraction ∷ is (negsuc 4) 100 Percent
     ∷ is (negsuc 0) 3 Fraction ∷ []
-unfolding chars encode_utf8 digit_of rank_of figure_of chinese_digit_of tens_of sign_of is_point is_comma
+unfolding chars encode_utf8 digit_of rank_of figure_of chinese_digit_of tens_of sign_of numeral_sign is_point
     is_fen is_zhi share_of
 fractions = refl
 
 no_fractions : answers (codes "零分之一" ∷ codes "三分之" ∷ codes "负三分之负一" ∷ codes "三分之负"
-    ∷ codes "二又三分之一" ∷ codes "百分之五十%" ∷ [])
+    ∷ codes "二又三分之四" ∷ codes "百分之五十%" ∷ [])
     ≡ Err (incorrect_at 0) ∷ Err (incorrect_at 2) ∷ Err (incorrect_at 4) ∷ Err (incorrect_at 3)
     ∷ Err (incorrect_at 1) ∷ Err (incorrect_at 5) ∷ []
-unfolding chars encode_utf8 digit_of rank_of figure_of chinese_digit_of tens_of sign_of is_point is_comma
+unfolding chars encode_utf8 digit_of rank_of figure_of chinese_digit_of tens_of sign_of numeral_sign is_point
     is_fen is_zhi share_of
 no_fractions = refl
 
@@ -91,7 +92,7 @@ signs : answers (codes " 负 三点五" ∷ codes "−5" ∷ codes "--5" ∷ cod
     ≡ is (negsuc 34) 10 Decimal ∷ is (negsuc 4) 1 Whole ∷ Err (incorrect_at 1)
     ∷ is (negsuc 11) 1 Whole ∷ Err (incorrect_at 1) ∷ is (negsuc 4) 1 Whole
     ∷ is (pos 1280) 1 Whole ∷ Err (incorrect_at 0) ∷ []
-unfolding chars encode_utf8 digit_of rank_of figure_of chinese_digit_of tens_of sign_of is_point is_comma
+unfolding chars encode_utf8 digit_of rank_of figure_of chinese_digit_of tens_of sign_of numeral_sign is_point
     is_fen is_zhi share_of
 signs = refl
 
@@ -100,7 +101,7 @@ bare_tens : answers (codes "一百十五" ∷ codes "两千零十五" ∷ codes 
     ∷ codes "一亿零十万" ∷ codes "两千零十五点五" ∷ [])
     ≡ is (pos 115) 1 Whole ∷ is (pos 2015) 1 Whole ∷ is (pos 1011) 1 Whole
     ∷ is (pos 10010) 1 Whole ∷ is (pos 100100000) 1 Whole ∷ is (pos 20155) 10 Decimal ∷ []
-unfolding chars encode_utf8 digit_of rank_of figure_of chinese_digit_of tens_of sign_of is_point is_comma
+unfolding chars encode_utf8 digit_of rank_of figure_of chinese_digit_of tens_of sign_of numeral_sign is_point
     is_fen is_zhi share_of
 bare_tens = refl
 
@@ -108,7 +109,7 @@ no_bare_tens : answers (codes "一百零十五" ∷ codes "一百十五万" ∷ 
     ∷ codes "零十" ∷ codes "十十" ∷ codes "二十百" ∷ codes "一亿零万" ∷ [])
     ≡ Err (incorrect_at 3) ∷ Err (incorrect_at 2) ∷ Err (incorrect_at 3) ∷ Err (incorrect_at 2)
     ∷ Err (incorrect_at 1) ∷ Err (incorrect_at 1) ∷ Err (incorrect_at 2) ∷ Err (incorrect_at 3) ∷ []
-unfolding chars encode_utf8 digit_of rank_of figure_of chinese_digit_of tens_of sign_of is_point is_comma
+unfolding chars encode_utf8 digit_of rank_of figure_of chinese_digit_of tens_of sign_of numeral_sign is_point
     is_fen is_zhi share_of
 no_bare_tens = refl
 
@@ -116,7 +117,7 @@ weights : answers (codes "二两" ∷ codes "十两" ∷ codes "一百两" ∷ c
     ∷ codes "一万零两百" ∷ codes "十两个亿" ∷ [])
     ≡ Err (incorrect_at 1) ∷ Err (incorrect_at 1) ∷ Err (incorrect_at 2)
     ∷ is (pos 1200) 1 Whole ∷ is (pos 10200) 1 Whole ∷ is (pos 1200000000) 1 Whole ∷ []
-unfolding chars encode_utf8 digit_of rank_of figure_of chinese_digit_of tens_of sign_of is_point is_comma
+unfolding chars encode_utf8 digit_of rank_of figure_of chinese_digit_of tens_of sign_of numeral_sign is_point
     is_fen is_zhi share_of
 weights = refl
 
@@ -125,7 +126,7 @@ two_readings : answers (codes "一百五万" ∷ codes "二百三個億" ∷ cod
     ≡ Err (incorrect_at 3) ∷ Err (incorrect_at 4) ∷ Err (incorrect_at 3) ∷ Err (incorrect_at 2)
     ∷ Err (incorrect_at 2) ∷ is (pos 120000000) 1 Whole ∷ is (pos 100002000) 1 Whole
     ∷ is (pos 120000000) 1 Whole ∷ []
-unfolding chars encode_utf8 digit_of rank_of figure_of chinese_digit_of tens_of sign_of is_point is_comma
+unfolding chars encode_utf8 digit_of rank_of figure_of chinese_digit_of tens_of sign_of numeral_sign is_point
     is_fen is_zhi share_of
 two_readings = refl
 
@@ -134,6 +135,18 @@ by_turns : answers (codes "1亿2000万" ∷ codes "12万3千" ∷ codes "5千5" 
     ≡ is (pos 120000000) 1 Whole ∷ is (pos 123000) 1 Whole ∷ is (pos 5500) 1 Whole
     ∷ is (pos 123456) 1 Whole ∷ is (pos 1008175288) 1 Whole ∷ is (pos 30005) 1 Whole
     ∷ is (pos 123000) 1 Whole ∷ is (pos 123000) 1 Whole ∷ []
-unfolding chars encode_utf8 digit_of rank_of figure_of chinese_digit_of tens_of sign_of is_point is_comma
+unfolding chars encode_utf8 digit_of rank_of figure_of chinese_digit_of tens_of sign_of numeral_sign is_point
     is_fen is_zhi share_of
 by_turns = refl
+
+mixed_fractions : answers (codes "二又五分之三" ∷ codes "-1又2分之1" ∷ codes "十二又百分之五" ∷ [])
+    ≡ is (pos 13) 5 Fraction ∷ is (negsuc 2) 2 Fraction ∷ is (pos 1205) 100 Fraction ∷ []
+unfolding chars encode_utf8 digit_of rank_of figure_of chinese_digit_of tens_of sign_of numeral_sign is_point
+    is_fen is_zhi share_of
+mixed_fractions = refl
+
+no_mixed_fractions : answers (codes "又五分之三" ∷ codes "二又五分之五" ∷ codes "二又五" ∷ [])
+    ≡ Err (incorrect_at 0) ∷ Err (incorrect_at 1) ∷ Err (incorrect_at 1) ∷ []
+unfolding chars encode_utf8 digit_of rank_of figure_of chinese_digit_of tens_of sign_of numeral_sign is_point
+    is_fen is_zhi share_of
+no_mixed_fractions = refl

@@ -3,9 +3,10 @@ use Rattle.std.proofs.Common.{◌≡◌, ◌<◌, pos, negsuc, codes, encode_utf
 use Rattle.std.specs.Char.{encode_utf8}
 use Rattle.std.specs.Str.{chars}
 use Rattle.cn_core.specs.declared.method.ChineseCountMethod.TheVariants.{TenThousand}
-use Rattle.cn_core.specs.Characters.{digit_of, rank_of}
+use Rattle.cn_core.specs.Characters.{digit_of, rank_of, sign_of as numeral_sign}
+use Rattle.cn_core.specs.Figures.{figure_of, tens_of}
 use Rattle.cn_core.specs.Refusal.{incorrect_at}
-use Rattle.cn_quantity.specs.Characters.{chinese_digit_of, figure_of, is_comma, is_fen, is_point, is_zhi, share_of, sign_of, tens_of}
+use Rattle.cn_quantity.specs.Characters.{chinese_digit_of, is_fen, is_point, is_zhi, share_of, sign_of}
 use Rattle.cn_quantity.specs.declared.quantity.Quantity.{Quantity}
 use Rattle.cn_quantity.specs.declared.quantity.QuantityForm.TheVariants.{Fraction, Percent}
 use Rattle.cn_quantity.specs.Reading.{quantity_answer}
@@ -14,7 +15,7 @@ use Rattle.cn_quantity.specs.Trimmed.{decimals_of, decimals_over}
 -- at 点, with the sign and the white space counted
 refusals_point_at_characters : quantity_answer TenThousand (encode_utf8_all (codes "负 一百二点五"))
     ≡ Err (incorrect_at 5)
-unfolding chars encode_utf8 digit_of rank_of figure_of chinese_digit_of tens_of sign_of is_point is_comma
+unfolding chars encode_utf8 digit_of rank_of figure_of chinese_digit_of tens_of sign_of numeral_sign is_point
     is_fen is_zhi share_of
 refusals_point_at_characters = refl
 

@@ -7,6 +7,7 @@ pub mod Growing
 pub mod KnownDecimals
 mod LawExamples
 pub mod Misreads
+pub mod MixedTexts
 pub mod Negated
 pub mod Numbers
 pub mod Points

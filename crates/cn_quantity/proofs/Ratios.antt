@@ -13,7 +13,7 @@ use Rattle.cn_quantity.specs.Answer.{and_then, further_by}
 use Rattle.cn_quantity.specs.Characters.{is_fen, is_zhi}
 use Rattle.cn_quantity.specs.Number.{divisor_answer, number_answer, part_answer}
 use Rattle.cn_quantity.specs.Private.{IsFront, SplitsAtBar, SplitsFraction}
-use Rattle.cn_quantity.specs.Ratio.{after_bar, before_bar, begins_with_minus, form_of, form_over, fraction_answer, is_fraction, is_negated, negated_answer, ratio_answer, ratio_of, share, share_answer}
+use Rattle.cn_quantity.specs.Ratio.{after_bar, before_bar, begins_with_minus, form_of, form_over, fraction_answer, is_fraction, is_negated, mixed, negated_answer, ratio_answer, ratio_of, share, share_answer, simple_answer}
 use Rattle.cn_quantity.proofs.Numbers.{divisor-within, number-low, part-low}
 use Rattle.cn_quantity.proofs.Told.{told-end, told-front, told-goes_on, told-stops}
 
@@ -40,18 +40,18 @@ ratio-told skipped bytes divisor form decimal =
 
 -- which text is a fraction, a percentage, or neither
 pub a-fraction : (method : ChineseCountMethod) (text : List ℕ) → is_fraction text ≡ true
-    → ratio_answer method text
+    → simple_answer method text
     ≡ fraction_answer method (before_bar text) (length (before_bar text) + 2) (after_bar text)
 a-fraction method text e = rw e
 
 pub a-share : (method : ChineseCountMethod) (text : List ℕ) (divisor : ℕ)
     → is_fraction text ≡ false → share text ≡ Some divisor
-    → ratio_answer method text ≡ share_answer method divisor text
+    → simple_answer method text ≡ share_answer method divisor text
 a-share method text divisor e f = rw (e, f)
 
 pub a-number : (method : ChineseCountMethod) (text : List ℕ) → is_fraction text ≡ false
     → share text ≡ None
-    → ratio_answer method text ≡ and_then (number_answer method text)
+    → simple_answer method text ≡ and_then (number_answer method text)
     (λ decimal. ratio_of 1 (form_of decimal.decimals) decimal)
 a-number method text e f = rw (e, f)
 
@@ -149,7 +149,7 @@ pub fraction-is : (method : ChineseCountMethod) (skipped index : ℕ) (bytes div
     → SplitsAtBar bytes divisor index over
     → answer ≡ answer_at skipped bytes (fraction_answer method (text_of divisor)
     (length (before_bar (text_of bytes)) + 2) (text_of over))
-    → answer ≡ answer_at skipped bytes (ratio_answer method (text_of bytes))
+    → answer ≡ answer_at skipped bytes (simple_answer method (text_of bytes))
 fraction-is method skipped index bytes divisor over answer e s is =
     is
     ∙ ap₂ (λ d o. answer_at skipped bytes (fraction_answer method d
@@ -173,7 +173,7 @@ pub share-stops : (method : ChineseCountMethod) (skipped divisor : ℕ) (bytes b
     → share (text_of bytes) ≡ Some divisor → IsFront bytes before
     → text_of before ≡ take (length (text_of bytes) - 1) (text_of bytes)
     → Err refusal ≡ answer_at skipped before (number_answer method (text_of before))
-    → Err refusal ≡ answer_at skipped bytes (ratio_answer method (text_of bytes))
+    → Err refusal ≡ answer_at skipped bytes (simple_answer method (text_of bytes))
 share-stops method skipped divisor bytes before refusal e p f is h =
     told-stops skipped bytes
     (number_answer method (take (length (text_of bytes) - 1) (text_of bytes)))
@@ -187,7 +187,7 @@ pub share-goes_on : (method : ChineseCountMethod) (skipped divisor : ℕ) (bytes
     → text_of before ≡ take (length (text_of bytes) - 1) (text_of bytes)
     → Ok decimal ≡ answer_at skipped before (number_answer method (text_of before))
     → answer ≡ ratio_of divisor (form_over divisor) decimal
-    → answer ≡ answer_at skipped bytes (ratio_answer method (text_of bytes))
+    → answer ≡ answer_at skipped bytes (simple_answer method (text_of bytes))
 share-goes_on method skipped divisor bytes before decimal answer e p f front h is =
     is ∙ ratio-told skipped bytes divisor (form_over divisor) decimal
     ∙ ap (answer_at skipped bytes) (sym (a-share method (text_of bytes) divisor e p
@@ -201,7 +201,7 @@ pub number-stops : (method : ChineseCountMethod) (skipped : ℕ) (bytes : List �
     (refusal : Refusal) → is_fraction (text_of bytes) ≡ false
     → share (text_of bytes) ≡ None
     → Err refusal ≡ answer_at skipped bytes (number_answer method (text_of bytes))
-    → Err refusal ≡ answer_at skipped bytes (ratio_answer method (text_of bytes))
+    → Err refusal ≡ answer_at skipped bytes (simple_answer method (text_of bytes))
 number-stops method skipped bytes refusal e p h =
     told-stops skipped bytes (number_answer method (text_of bytes))
     (λ decimal. ratio_of 1 (form_of decimal.decimals) decimal) refusal h
@@ -212,7 +212,7 @@ pub number-goes_on : (method : ChineseCountMethod) (skipped : ℕ) (bytes : List
     → share (text_of bytes) ≡ None
     → Ok decimal ≡ answer_at skipped bytes (number_answer method (text_of bytes))
     → answer ≡ ratio_of 1 (form_of decimal.decimals) decimal
-    → answer ≡ answer_at skipped bytes (ratio_answer method (text_of bytes))
+    → answer ≡ answer_at skipped bytes (simple_answer method (text_of bytes))
 number-goes_on method skipped bytes decimal answer e p h is =
     is ∙ ratio-told skipped bytes 1 (form_of decimal.decimals) decimal
     ∙ ap (answer_at skipped bytes) (sym (a-number method (text_of bytes) e p
@@ -317,9 +317,9 @@ negated-low method text place is h =
     omega (arith, low, minus, all)
 
 -- a refusal of a text without sign points into it
-pub ratio-low : (method : ChineseCountMethod) (text : List ℕ) (place : ℕ)
-    → ratio_answer method text ≡ Err (incorrect_at place) → place < length text
-ratio-low method text place h = by (is_fraction text) (share text) refl h where
+pub simple-low : (method : ChineseCountMethod) (text : List ℕ) (place : ℕ)
+    → simple_answer method text ≡ Err (incorrect_at place) → place < length text
+simple-low method text place h = by (is_fraction text) (share text) refl h where
   by : (a : Bool) (b : Option ℕ) → is_fraction text ≡ a
       → (if a
       then fraction_answer method (before_bar text) (length (before_bar text) + 2) (after_bar text)
@@ -340,3 +340,24 @@ ratio-low method text place h = by (is_fraction text) (share text) refl h where
   by false None e h =
       number-low method text place
       (over-refused (number_answer method text) 1 (λ decimal. form_of decimal.decimals) place h)
+
+-- a mixed fraction, or another text
+pub mixed-is : (method : ChineseCountMethod) (skipped : ℕ) (bytes : List ℕ) (ratio : Ratio)
+    → Some ratio ≡ mixed method (text_of bytes)
+    → Ok ratio ≡ answer_at skipped bytes (ratio_answer method (text_of bytes))
+mixed-is method skipped bytes ratio is =
+    ap (λ o. answer_at skipped bytes (option_map_or (λ r. Ok r) o
+    (simple_answer method (text_of bytes)))) is
+
+pub simple-is : (method : ChineseCountMethod) (text : List ℕ) → mixed method text ≡ None
+    → ratio_answer method text ≡ simple_answer method text
+simple-is method text none =
+    ap (λ o. option_map_or (λ r. Ok r) o (simple_answer method text)) none
+
+pub ratio-low : (method : ChineseCountMethod) (text : List ℕ) (place : ℕ)
+    → ratio_answer method text ≡ Err (incorrect_at place) → place < length text
+ratio-low method text place h = by (mixed method text) h where
+  by : (o : Option Ratio) → option_map_or (λ r. Ok r) o (simple_answer method text)
+      ≡ Err (incorrect_at place) → place < length text
+  by (Some ratio) e = cc
+  by None e = simple-low method text place e

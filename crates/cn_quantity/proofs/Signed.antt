@@ -9,7 +9,8 @@ use Rattle.cn_core.specs.Refusal.{Refusal, empty, incorrect_at, too_large, too_s
 use Rattle.cn_core.specs.Text.{text_of}
 use Rattle.cn_core.specs.Whole.{signed_kind, signed_number}
 use Rattle.cn_core.proofs.Fronts.{both}
-use Rattle.cn_quantity.specs.Characters.{figure_of, is_yen, sign_of}
+use Rattle.cn_core.specs.Figures.{figure_of, is_currency}
+use Rattle.cn_quantity.specs.Characters.{sign_of}
 use Rattle.cn_judge.specs.Piece.{StandsAt, answer_at}
 use Rattle.cn_judge.proofs.Pieces.{char_index-rest, text_of-rest}
 use Rattle.cn_quantity.specs.declared.quantity.Quantity.{Quantity}
@@ -122,7 +123,7 @@ sign-within (c ∷ d ∷ next ∷ rest) =
 yen-within : (text : List ℕ) → yen_length text ≤ length text
 yen-within [] = omega arith
 yen-within (c ∷ []) = omega arith
-yen-within (c ∷ next ∷ rest) = by (is_yen c && is_some (figure_of next)) where
+yen-within (c ∷ next ∷ rest) = by (is_currency c && is_some (figure_of next)) where
   by : (b : Bool) → (if b then 1 else 0) ≤ suc (suc (length rest))
   by true = omega arith
   by false = omega arith

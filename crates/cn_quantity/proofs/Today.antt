@@ -26,14 +26,16 @@ use Rattle.cn_core.specs.Text.{marks_of, text_of}
 use Rattle.cn_core.specs.Whole.{signed_kind, signed_number}
 use Rattle.cn_core.specs.Value.{colloquial_value, numeral_value, product, records_from}
 use Rattle.cn_core.proofs.Fronts.{and-left, and-right, both}
+use Rattle.cn_core.specs.Figures.{figure_of, is_currency}
 use Rattle.cn_judge.proofs.Walking.{outside-mark}
 use Rattle.cn_quantity.specs.declared.characters.DigitKind.TheVariants.{Chinese}
 use Rattle.cn_quantity.specs.declared.quantity.QuantityForm.TheVariants.{Whole}
 use Rattle.cn_quantity.specs.Answer.{and_then, further_by}
-use Rattle.cn_quantity.specs.Characters.{figure_of, is_fen, is_ling, is_point, is_xia, is_yen, share_of, sign_of}
+use Rattle.cn_quantity.specs.Characters.{is_fen, is_ling, is_point, is_xia, is_you, share_of, sign_of}
 use Rattle.cn_quantity.specs.Number.{number_answer, or_shaped, shaped_number}
-use Rattle.cn_quantity.proofs.Ratios.{a-number}
-use Rattle.cn_quantity.specs.Ratio.{after_bar, before_bar, begins_with_minus, form_of, is_fraction, is_negated, last_share, ratio_answer, ratio_of, share}
+use Rattle.cn_quantity.proofs.Ratios.{a-number, simple-is}
+use Rattle.cn_quantity.proofs.MixedTexts.{no-you}
+use Rattle.cn_quantity.specs.Ratio.{after_bar, after_you, before_bar, begins_with_minus, form_of, is_fraction, is_negated, last_share, ratio_answer, ratio_of, share}
 use Rattle.cn_quantity.specs.Reading.{begins_number, front_length, is_below_zero, leading_sign, number_sign, quantity_answer, sign_length, signed_answer, yen_length}
 use Rattle.cn_quantity.proofs.Signed.{not-negated as rest-not_negated, quantity-plain}
 use Rattle.cn_quantity.specs.Misread.{bare_ten_between, first_misread}
@@ -119,6 +121,15 @@ first-mark c rest h = and-left (is_digit_or_unit (mark_of c)) (are_marks rest) h
 
 pub rest-marks : (c : ℕ) (rest : List ℕ) → are_marks (c ∷ rest) ≡ true → are_marks rest ≡ true
 rest-marks c rest h = and-right (is_digit_or_unit (mark_of c)) (are_marks rest) h
+
+no-you_mark : (c : ℕ) → is_digit_or_unit (mark_of c) ≡ true → is_you c ≡ false
+no-you_mark c = lacks is_you c refl refl
+
+you-nowhere : (text : List ℕ) → are_marks text ≡ true → after_you text ≡ []
+you-nowhere [] h = refl
+you-nowhere (c ∷ rest) h =
+    ap (λ b. if b then rest else after_you rest) (no-you_mark c (first-mark c rest h))
+    ∙ you-nowhere rest (rest-marks c rest h)
 
 bar-nowhere : (text : List ℕ) → are_marks text ≡ true → after_bar text ≡ []
 bar-nowhere [] h = refl
@@ -232,7 +243,8 @@ pub ratio-whole : (method : ChineseCountMethod) (text : List ℕ) (number : ℕ)
     → ratio_answer method text
     ≡ Ok (record { numerator = number; denominator = 1; form = Whole })
 ratio-whole method text number m is =
-    a-number method text (no-fraction text m) (no-shares text m)
+    simple-is method text (no-you method text (you-nowhere text m))
+    ∙ a-number method text (no-fraction text m) (no-shares text m)
     ∙ ap (λ a. and_then a (λ decimal. ratio_of 1 (form_of decimal.decimals) decimal)) is
 
 -- a text that is a numeral
@@ -493,8 +505,8 @@ signs-same (c ∷ rest) m = by (numeral_sign c) refl m where
 no-xia : (c : ℕ) → is_digit_or_unit (mark_of c) ≡ true → is_xia c ≡ false
 no-xia c = lacks is_xia c refl refl
 
-no-yen : (c : ℕ) → is_digit_or_unit (mark_of c) ≡ true → is_yen c ≡ false
-no-yen c = lacks is_yen c refl refl
+no-yen : (c : ℕ) → is_digit_or_unit (mark_of c) ≡ true → is_currency c ≡ false
+no-yen c = lacks is_currency c refl refl
 
 second-mark : (sign : Option Sign) (c d : ℕ) (rest : List ℕ)
     → are_marks (drop (sign_len sign) (c ∷ d ∷ rest)) ≡ true

@@ -2,9 +2,10 @@
 -- figures or none, then units or none, as 1,280.5万.
 use Rattle.std.specs.Prelude.{ℕ, Bool, true, false, ◌&&◌, nat_lt, nat_le, List, [], ◌∷◌, if◌then◌else◌}
 use Rattle.std.specs.Option.{option_map_or}
+use Rattle.cn_core.specs.Figures.{figure_of, is_comma}
 use Rattle.cn_quantity.specs.declared.characters.DigitKind.{DigitKind}
 use Rattle.cn_quantity.specs.declared.characters.DigitKind.TheVariants.{Figure}
-use Rattle.cn_quantity.specs.Characters.{is_comma, is_point, figure_of}
+use Rattle.cn_quantity.specs.Characters.{is_point}
 use Rattle.cn_quantity.specs.Digits.{is_digit, leading_digits, after_digits}
 use Rattle.cn_quantity.specs.Units.{are_factors}
 

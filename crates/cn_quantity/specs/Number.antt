@@ -1,12 +1,13 @@
 -- What a text is worth that has no sign, no percent sign and no 分之.
 use Rattle.std.specs.Prelude.{ℕ, ◌+◌, Bool, ◌&&◌, ◌==◌, nat_lt, List, [], ◌∷◌, length, Option, Some, None, Result, Ok, Err, if◌then◌else◌, option_map}
 use Rattle.std.specs.Option.{option_map_or}
+use Rattle.cn_core.specs.Figures.{tens_of}
 use Rattle.cn_core.specs.declared.method.ChineseCountMethod.{ChineseCountMethod}
 use Rattle.cn_core.specs.Refusal.{Refusal, incorrect_at, too_large}
 use Rattle.cn_quantity.specs.declared.characters.DigitKind.TheVariants.{Figure, Chinese}
 use Rattle.cn_quantity.specs.declared.number.Decimal.{Decimal}
 use Rattle.cn_quantity.specs.Answer.{and_then}
-use Rattle.cn_quantity.specs.Characters.{chinese_digit_of, tens_of}
+use Rattle.cn_quantity.specs.Characters.{chinese_digit_of}
 use Rattle.cn_quantity.specs.Decimal.{after_point, before_point, decimals_behind_point, is_chinese_decimal}
 use Rattle.cn_quantity.specs.Digits.{read_with_units}
 use Rattle.cn_quantity.specs.Figures.{decimals_in_figures, is_in_figures}

@@ -12,7 +12,7 @@ use Rattle.cn_quantity.specs.Decimal.{after_point, before_point}
 use Rattle.cn_quantity.specs.Misread.{bare_ten, first_misread}
 use Rattle.cn_quantity.specs.declared.quantity.Quantity.{Quantity}
 use Rattle.cn_quantity.specs.declared.ratio.Ratio.{Ratio}
-use Rattle.cn_quantity.specs.Ratio.{after_bar, before_bar}
+use Rattle.cn_quantity.specs.Ratio.{after_bar, after_you, before_bar, before_you}
 use Rattle.cn_quantity.specs.declared.characters.DigitKind.TheVariants.{Figure}
 use Rattle.cn_quantity.specs.Digits.{leading_digits}
 use Rattle.cn_quantity.specs.Reading.{signed_ratio}
@@ -97,3 +97,8 @@ pub record IsGroup (bytes : List ℕ) (count number : ℕ) (nought : Bool)
   pub nought_is : nought ≡ begins_with_nought (text_of bytes)
   pub units_is : text_of units ≡ units_of (text_of bytes)
   pub rest_is : text_of rest ≡ after_group (text_of bytes)
+
+-- what stands before the first 又 of a string, and what after it
+pub record SplitsAtYou (bytes before rest : List ℕ) : Type 0 where
+  pub before_is : text_of before ≡ before_you (text_of bytes)
+  pub rest_is : text_of rest ≡ after_you (text_of bytes)

@@ -1,5 +1,5 @@
 -- What a text without sign is worth: a fraction, a percentage, or a number by itself.
-use Rattle.std.specs.Prelude.{ℕ, zero, suc, ◌+◌, ◌-◌, ◌*◌, ◌^◌, Bool, false, ◌&&◌, ◌==◌, nat_lt, List, [], ◌∷◌, length, take, drop, Option, None, Result, Ok, Err, if◌then◌else◌}
+use Rattle.std.specs.Prelude.{ℕ, zero, suc, ◌+◌, ◌-◌, ◌*◌, ◌^◌, Bool, false, ◌&&◌, ◌==◌, nat_lt, List, [], ◌∷◌, length, take, drop, Option, Some, None, Result, Ok, Err, if◌then◌else◌}
 use Rattle.std.specs.Option.{option_map_or}
 use Rattle.cn_core.specs.declared.method.ChineseCountMethod.{ChineseCountMethod}
 use Rattle.cn_core.specs.Reading.{is_minus}
@@ -9,8 +9,9 @@ use Rattle.cn_quantity.specs.declared.quantity.QuantityForm.{QuantityForm}
 use Rattle.cn_quantity.specs.declared.quantity.QuantityForm.TheVariants.{Whole, Decimal, Percent, Fraction}
 use Rattle.cn_quantity.specs.declared.ratio.Ratio.{Ratio}
 use Rattle.cn_quantity.specs.Answer.{and_then, further_by}
-use Rattle.cn_quantity.specs.Characters.{is_fen, is_zhi, share_of, sign_of}
+use Rattle.cn_quantity.specs.Characters.{is_fen, is_you, is_zhi, share_of, sign_of}
 use Rattle.cn_quantity.specs.Number.{divisor_answer, number_answer, part_answer}
+use Rattle.cn_quantity.specs.WholeNumber.{whole_answer}
 
 -- a number over a divisor, as written, if what is below the line fits 128 bits: over 100, 12.5 is
 -- 125/1000
@@ -87,11 +88,46 @@ share_answer method divisor text =
     and_then (number_answer method (take (length text - 1) text))
     (λ decimal. ratio_of divisor (form_over divisor) decimal)
 
--- the answer to a text without sign
-abbrev pub ratio_answer : ChineseCountMethod → List ℕ → Result Ratio Refusal
-ratio_answer method text =
+-- what stands before the first 又, and what after it
+abbrev pub before_you : List ℕ → List ℕ
+before_you [] = []
+before_you (c ∷ rest) = if is_you c then [] else c ∷ before_you rest
+
+abbrev pub after_you : List ℕ → List ℕ
+after_you [] = []
+after_you (c ∷ rest) = if is_you c then rest else after_you rest
+
+-- a whole number and a fraction, whose numerator is a whole number below its denominator, if what is
+-- above the line then fits 128 bits
+abbrev pub mixed_ratio : ℕ → ℕ → DecimalNumber → Option Ratio
+mixed_ratio whole divisor decimal =
+    let numerator = whole * divisor + decimal.number in
+    if decimal.decimals == 0 && nat_lt decimal.number divisor && nat_lt numerator (2 ^ 128)
+    then Some (record { numerator = numerator; denominator = divisor; form = Fraction }) else None
+
+abbrev pub mixed_of : Result ℕ Refusal → Result ℕ Refusal → Result DecimalNumber Refusal
+    → Option Ratio
+mixed_of (Ok whole) (Ok divisor) (Ok decimal) = mixed_ratio whole divisor decimal
+mixed_of whole divisor decimal = None
+
+-- the mixed fraction that a text is, with a whole number before 又: 13/5 of 二又五分之三
+abbrev pub mixed : ChineseCountMethod → List ℕ → Option Ratio
+mixed method text =
+    if nat_lt 0 (length (before_you text)) && is_fraction (after_you text)
+    then mixed_of (whole_answer method (before_you text))
+    (divisor_answer method (before_bar (after_you text)))
+    (part_answer method (after_bar (after_you text))) else None
+
+-- the answer to a text without sign that is no mixed fraction
+abbrev pub simple_answer : ChineseCountMethod → List ℕ → Result Ratio Refusal
+simple_answer method text =
     if is_fraction text
     then fraction_answer method (before_bar text) (length (before_bar text) + 2) (after_bar text)
     else option_map_or (λ divisor. share_answer method divisor text) (share text)
     (and_then (number_answer method text)
     (λ decimal. ratio_of 1 (form_of decimal.decimals) decimal))
+
+-- the answer to a text without sign
+abbrev pub ratio_answer : ChineseCountMethod → List ℕ → Result Ratio Refusal
+ratio_answer method text =
+    option_map_or (λ ratio. Ok ratio) (mixed method text) (simple_answer method text)

@@ -6,6 +6,7 @@ use Rattle.cn_core.specs.declared.sign.Sign.{Sign}
 use Rattle.cn_core.specs.declared.sign.Sign.TheVariants.{Minus}
 use Rattle.cn_core.specs.Characters.{digit_of, rank_of}
 use Rattle.cn_core.specs.CharIndex.{char_index_of}
+use Rattle.cn_core.specs.Figures.{figure_of, is_currency}
 use Rattle.cn_core.specs.Reading.{sign_len, is_minus, too_far, typed_number}
 use Rattle.cn_core.specs.Refusal.{Refusal, incorrect_at, too_large}
 use Rattle.cn_core.specs.Text.{text_of}
@@ -13,7 +14,7 @@ use Rattle.cn_core.specs.Whole.{signed_kind, signed_number}
 use Rattle.cn_quantity.specs.declared.quantity.Quantity.{Quantity}
 use Rattle.cn_quantity.specs.declared.ratio.Ratio.{Ratio}
 use Rattle.cn_quantity.specs.Answer.{and_then}
-use Rattle.cn_quantity.specs.Characters.{figure_of, is_ling, is_xia, is_yen, sign_of}
+use Rattle.cn_quantity.specs.Characters.{is_ling, is_xia, sign_of}
 use Rattle.cn_quantity.specs.Ratio.{is_negated, negated_answer, ratio_answer}
 
 -- the one sign at the start of a text
@@ -41,7 +42,7 @@ sign_length text = if is_below_zero text then 2 else sign_len (leading_sign text
 
 -- how many a ¥ before a figure takes
 abbrev pub yen_length : List ℕ → ℕ
-yen_length (c ∷ next ∷ rest) = if is_yen c && is_some (figure_of next) then 1 else 0
+yen_length (c ∷ next ∷ rest) = if is_currency c && is_some (figure_of next) then 1 else 0
 yen_length text = 0
 
 -- how many characters stand before the number: its sign, and ¥

@@ -5,10 +5,11 @@ ghost use Rattle.cn_quantity.specs.declared.characters.DigitKind.TheVariants.{Fi
 ghost use Rattle.cn_quantity.specs.Digits.{begins_with_digit, is_digit, leading_digits};
 ghost use Rattle.cn_quantity.specs.Figures.{after_groups, are_decimals, decimals_in_figures, decimals_of, ends_in_figures, is_in_figures, may_lead_groups};
 
-use crate::characters::{DigitKind, digit_by, is_comma, is_point};
+use crate::characters::{DigitKind, digit_by, is_point};
 use crate::digits::split_digits;
 use crate::pieces::split_first;
 use crate::units::are_factors;
+use cn_core::is_comma;
 
 // What follows a figure at the start.
 fn after_figure(text: &str) -> Option<&str>

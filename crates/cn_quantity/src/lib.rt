@@ -9,6 +9,7 @@ mod digits;
 mod figures;
 pub mod laws;
 mod misread;
+mod mixed;
 mod number;
 mod pieces;
 mod quantity;

@@ -5,7 +5,7 @@ ghost use Rattle.cn_judge.specs.Answer.{answer_of};
 ghost use Rattle.cn_judge.specs.Piece.{answer_at};
 ghost use Rattle.cn_quantity.specs.Number.{decimal_of, divisor_answer, is_divisor, number_answer, part_answer, shaped_number, short_tens};
 
-use crate::characters::{DigitKind, digit_by, tens_of};
+use crate::characters::{DigitKind, digit_by};
 use crate::decimal::split_decimal;
 use crate::digits::read_with_units;
 use crate::figures::decimals_in_figures;
@@ -13,7 +13,7 @@ use crate::pieces::split_first;
 use crate::turns::by_turns;
 use crate::units::{are_rising_units, times_units};
 use crate::whole_number::judge_whole;
-use cn_core::ChineseCountMethod;
+use cn_core::{ChineseCountMethod, tens_of};
 use cn_judge::ChineseToNumberError;
 
 /// A number without its point, and how many decimals it has: 314 and 2 for 3.14.

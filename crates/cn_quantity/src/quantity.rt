@@ -10,11 +10,13 @@ ghost use Rattle.cn_quantity.specs.Trimmed.{trimmed};
 ghost use Rattle.cn_quantity.specs.Whole.{IsTimes};
 ghost use Rattle.cn_quantity.specs.declared.quantity.QuantityForm.TheVariants.{Percent, Fraction};
 
-use crate::characters::{DigitKind, digit_by, is_ling, is_xia, is_yen, sign_of};
+use crate::characters::{DigitKind, digit_by, is_ling, is_xia, sign_of};
 use crate::pieces::{count_before, split_first};
 use crate::ratio::{Ratio, form_of, judge_fraction, judge_ratio, split_negated};
 use crate::trimmed::{decimals_of, without_zeros, zeros_at_end};
-use cn_core::{ChineseCountMethod, Sign, Unit, Whole, digit_of, power_of_ten, unit_of};
+use cn_core::{
+    ChineseCountMethod, Sign, Unit, Whole, digit_of, is_currency, power_of_ten, unit_of,
+};
 use cn_judge::{AfterSign, ChineseToNumberError, signed_answer};
 
 /// How a quantity is written.
@@ -199,7 +201,7 @@ fn after_yen(text: &str) -> &str
 {
     if let Some((first, rest)) = split_first(text) {
         if let Some((second, _)) = split_first(rest) {
-            if is_yen(first) && digit_by(DigitKind::Figure, second).is_some() {
+            if is_currency(first) && digit_by(DigitKind::Figure, second).is_some() {
                 return rest;
             }
         }

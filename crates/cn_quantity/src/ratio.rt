@@ -5,10 +5,11 @@ ghost use Rattle.cn_judge.specs.Answer.{answer_of};
 ghost use Rattle.cn_judge.specs.Piece.{answer_at};
 ghost use Rattle.cn_quantity.specs.Characters.{is_fen, is_zhi};
 ghost use Rattle.cn_quantity.specs.Private.{BeginsWith, IsFront, SplitsAtBar, SplitsFraction, SplitsNegated};
-ghost use Rattle.cn_quantity.specs.Ratio.{after_bar, begins_with_zhi, form_of, form_over, fraction_answer, is_fraction, is_negated, ratio_answer, ratio_of, share};
+ghost use Rattle.cn_quantity.specs.Ratio.{after_bar, begins_with_zhi, form_of, form_over, fraction_answer, is_fraction, is_negated, ratio_answer, ratio_of, share, simple_answer};
 
 use crate::QuantityForm;
 use crate::characters::{is_fen, is_zhi, share_of, sign_of};
+use crate::mixed::mixed;
 use crate::number::{Decimal, judge_divisor, judge_number, judge_part};
 use crate::pieces::{before_end, count_before, split_first, split_last};
 use cn_core::{ChineseCountMethod, Sign, power_of_ten};
@@ -103,8 +104,8 @@ fn split_bar(text: &str) -> Option<Bar<'_>>
     None
 }
 
-// The parts of the text, if it is a fraction.
-fn split_fraction(text: &str) -> Option<Bar<'_>>
+/// The parts of the text, if it is a fraction.
+pub fn split_fraction(text: &str) -> Option<Bar<'_>>
     ensures fraction { MatchOption result (is_fraction (text_of text.now) ≡ false)
         (λ _. is_fraction (text_of text.now) ≡ true) }
     ensures parts { IfSome result
@@ -187,15 +188,15 @@ pub fn judge_fraction(
     ratio_of(divisor, form_over(divisor), decimal)
 }
 
-/// The answer to a text without sign, behind so many characters of the caller's string.
-pub fn judge_ratio(
+// The answer to a text without sign that is no mixed fraction.
+fn judge_simple(
     method: ChineseCountMethod,
     skipped: usize,
     text: &str,
 ) -> Result<Ratio, ChineseToNumberError>
     requires { skipped + length text.now < 2 ^ 64 }
     ensures { answer_of (λ r. r) result
-        ≡ answer_at skipped text.now (ratio_answer method (text_of text.now)) }
+        ≡ answer_at skipped text.now (simple_answer method (text_of text.now)) }
 {
     if let Some(bar) = split_fraction(text) {
         return judge_fraction(method, skipped, bar);
@@ -206,4 +207,20 @@ pub fn judge_ratio(
     }
     let decimal = judge_number(method, skipped, text)?;
     ratio_of(1, form_of(decimal.decimals), decimal)
+}
+
+/// The answer to a text without sign, behind so many characters of the caller's string.
+pub fn judge_ratio(
+    method: ChineseCountMethod,
+    skipped: usize,
+    text: &str,
+) -> Result<Ratio, ChineseToNumberError>
+    requires { skipped + length text.now < 2 ^ 64 }
+    ensures { answer_of (λ r. r) result
+        ≡ answer_at skipped text.now (ratio_answer method (text_of text.now)) }
+{
+    match mixed(method, text) {
+        Some(ratio) => Ok(ratio),
+        None => judge_simple(method, skipped, text),
+    }
 }
