@@ -3,23 +3,9 @@ import sys
 from datetime import date
 
 from chinese_number import Quantity, QuantityForm, amount_to_chinese, chinese_to_amount
-from chinese_number import (
-    chinese_to_amount_as_typed,
-    chinese_to_date,
-    chinese_to_signed_amount,
-)
-from chinese_number import (
-    date_to_chinese,
-    find_numbers,
-    find_quantities,
-    quantities_to_figures,
-)
-from chinese_number import (
-    replace_quantities,
-    signed_amount_to_chinese,
-    to_chinese,
-    to_number,
-)
+from chinese_number import chinese_to_amount_as_typed, chinese_to_date, chinese_to_signed_amount
+from chinese_number import date_to_chinese, find_numbers, find_quantities, quantities_to_figures
+from chinese_number import replace_quantities, signed_amount_to_chinese, to_chinese, to_number
 from chinese_number import to_quantity, yuan_to_fen
 
 # The words of questions that this package has other ones for.

@@ -94,10 +94,7 @@ def about():
     # The source package's own, or a clone's.
     for folder in (HERE, HERE.parent.parent / "dist"):
         if (folder / "PROVENANCE.json").is_file():
-            return {
-                **files,
-                "PROVENANCE.json": (folder / "PROVENANCE.json").read_bytes(),
-            }
+            return {**files, "PROVENANCE.json": (folder / "PROVENANCE.json").read_bytes()}
     return files
 
 
@@ -161,16 +158,7 @@ def call(source, library):
         header = source.with_suffix(".h").read_text(encoding="utf-8")
         calls = re.findall(r"^uint32_t (chinese_\w+)\(", header, re.M)
         exports = [f"/EXPORT:{name}" for name in calls]
-        return [
-            *words,
-            "/nologo",
-            "/O2",
-            "/LD",
-            str(source),
-            f"/Fe:{library}",
-            "/link",
-            *exports,
-        ]
+        return [*words, "/nologo", "/O2", "/LD", str(source), f"/Fe:{library}", "/link", *exports]
     flags = ["-shared"] if library.suffix == ".dll" else ["-shared", "-fPIC"]
     if (
         sysconfig.get_platform()[:3] == "mac"
@@ -181,15 +169,7 @@ def call(source, library):
     if native:
         headers = source.parent, sysconfig.get_path("include")
         flags += [*(f"-I{it}" for it in headers), str(HERE / "native.c")]
-    return [
-        *words,
-        "-O2",
-        "-fvisibility=hidden",
-        *flags,
-        str(source),
-        "-o",
-        str(library),
-    ]
+    return [*words, "-O2", "-fvisibility=hidden", *flags, str(source), "-o", str(library)]
 
 
 def shared_library():

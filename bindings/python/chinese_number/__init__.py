@@ -667,8 +667,7 @@ def chinese_to_date(text: str) -> date:
 
 def _over_power(value: Decimal) -> Tuple[int, int, QuantityForm]:
     """The numerator, the denominator and the form of a Decimal. Of one of many digits, or far from
-    1 as Decimal('1E+999999999999'), they are others that 128 bits do not hold either.
-    """
+    1 as Decimal('1E+999999999999'), they are others that 128 bits do not hold either."""
     sign, digits, exponent = value.as_tuple()
     if not isinstance(exponent, int):
         raise ValueError(f"a finite number is wanted, and not {_shown(value)}")
@@ -876,6 +875,19 @@ class _Run(_library.Run):
     is_about: bool = field()
     is_one_character: bool = field()
 
+    def __new__(
+        cls,
+        start: int,
+        end: int,
+        text: str,
+        is_plain: bool,
+        stands_alone: bool,
+        is_about: bool,
+        is_one_character: bool,
+    ) -> Any:
+        flags = is_plain, stands_alone, is_about, is_one_character
+        return _library.Run.__new__(cls, start, end, text, *flags)
+
     def __reduce__(self) -> Tuple[Any, ...]:
         values = tuple(getattr(self, it.name) for it in fields(self))
         return type(self), values, getattr(self, "__dict__", None)
@@ -919,7 +931,7 @@ class Found(_Run):
 
 
 class _Doubted(_Run):
-    """A run whose doubt is read of its code."""
+    """A run whose doubt is that of its code."""
 
     __slots__ = ()
 
@@ -952,13 +964,8 @@ class FoundQuantity(_Doubted):
         doubt: Union[Doubt, str, None] = None,
     ) -> FoundQuantity:
         code = 0 if doubt is None else _code(_DOUBTS, doubt, "doubt")
-        places, flags = (start, end, text), (
-            is_plain,
-            stands_alone,
-            is_about,
-            is_one_character,
-        )
-        made: FoundQuantity = _Doubted.__new__(cls, *places, *flags, code)
+        flags = is_plain, stands_alone, is_about, is_one_character
+        made: FoundQuantity = _library.Run.__new__(cls, start, end, text, *flags, code)
         return made
 
     def quantity(self, *, method: Union[Way, str] = Way.ANY) -> Quantity:
@@ -1022,11 +1029,7 @@ _AnyRun = TypeVar("_AnyRun", bound=_Run)
 
 
 def _found(
-    find: Callable[..., _library.Some],
-    of: Type[_AnyRun],
-    text: str,
-    upper: bool,
-    greatest: int,
+    find: Callable[..., _library.Some], of: Type[_AnyRun], text: str, upper: bool, greatest: int
 ) -> Iterator[List[_AnyRun]]:
     """What is found in a text, some at a time."""
     # A str of a class below has ways of its own, and can hold what is found in it.
@@ -1119,11 +1122,7 @@ def quantities_to_figures(
     >>> quantities_to_figures('１,２８０人，007号', canonical=True)
     '1280人，7号'
     """
-    wanted = (
-        _flag(upper),
-        _code(_UNITS, greatest, "greatest"),
-        _code(_METHODS, method, "method"),
-    )
+    wanted = _flag(upper), _code(_UNITS, greatest, "greatest"), _code(_METHODS, method, "method")
     options = sum(
         option
         for option, is_chosen in (

@@ -13,42 +13,12 @@ import re
 import sys
 from datetime import date
 from functools import partial
-from typing import (
-    Any,
-    Callable,
-    Dict,
-    Iterable,
-    Iterator,
-    List,
-    Optional,
-    TextIO,
-    Tuple,
-)
+from typing import Any, Callable, Dict, Iterable, Iterator, List, Optional, TextIO, Tuple
 
-from . import (
-    AmountError,
-    DateError,
-    Found,
-    FoundQuantity,
-    Kind,
-    NumeralError,
-    Status,
-    Way,
-)
-from . import (
-    __version__,
-    chinese_to_amount,
-    chinese_to_amount_as_typed,
-    chinese_to_date,
-)
+from . import AmountError, DateError, Found, FoundQuantity, Kind, NumeralError, Status, Way
+from . import __version__, chinese_to_amount, chinese_to_amount_as_typed, chinese_to_date
 from . import chinese_to_signed_amount, date_to_chinese, find_numbers, find_quantities
-from . import (
-    quantities_to_figures,
-    signed_amount_to_chinese,
-    to_chinese,
-    to_number,
-    yuan_to_fen,
-)
+from . import quantities_to_figures, signed_amount_to_chinese, to_chinese, to_number, yuan_to_fen
 from ._tables import Table, write_table
 
 
@@ -246,11 +216,7 @@ _COMMANDS: Dict[str, Tuple[Callable[..., Any], Callable[[str], Any], _Options]] 
     "date": (_date, str, _TRADITIONAL),
     "read": (to_number, str, {**_KIND, **_WAY}),
     "print": (to_chinese, _number, {**_TRADITIONAL, "--upper": _FLAG, **_KIND, **_WAY}),
-    "find": (
-        _find,
-        str,
-        {"--exact": _FLAG, "--all": _FLAG, **_KIND, **_WAY, **_METHOD},
-    ),
+    "find": (_find, str, {"--exact": _FLAG, "--all": _FLAG, **_KIND, **_WAY, **_METHOD}),
     "replace": (quantities_to_figures, str, {"--all": _FLAG, **_METHOD, **_REPLACED}),
 }
 
@@ -333,13 +299,7 @@ def _run(words: List[str]) -> int:
 
 def _stream(number: int) -> TextIO:
     return open(
-        number,
-        "w",
-        buffering=1,
-        encoding="utf-8",
-        errors="replace",
-        newline="\n",
-        closefd=False,
+        number, "w", buffering=1, encoding="utf-8", errors="replace", newline="\n", closefd=False
     )
 
 

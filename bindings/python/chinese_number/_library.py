@@ -51,12 +51,7 @@ class _Number(ctypes.Structure):
 
 
 class _Quantity(ctypes.Structure):
-    _fields_ = [
-        ("numerator", _Number),
-        ("denominator", _Number),
-        ("form", _CODE),
-        *_PLACE,
-    ]
+    _fields_ = [("numerator", _Number), ("denominator", _Number), ("form", _CODE), *_PLACE]
 
 
 class _Amount(ctypes.Structure):
@@ -125,13 +120,7 @@ class Run:
     for."""
 
     __slots__ = (
-        "start",
-        "end",
-        "text",
-        "is_plain",
-        "stands_alone",
-        "is_about",
-        "is_one_character",
+        *("start", "end", "text", "is_plain", "stands_alone", "is_about", "is_one_character"),
         "_doubt",
     )
     _doubt: int
@@ -295,11 +284,7 @@ def read_quantity(text: str, method: int) -> Tuple[int, Words, int]:
     it = _Quantity()
     status = _read(library.chinese_quantity_read, text, it, method)
     above, below = it.numerator, it.denominator
-    return (
-        status,
-        (above.low, above.high, below.low, below.high, it.form),
-        it.char_index,
-    )
+    return status, (above.low, above.high, below.low, below.high, it.form), it.char_index
 
 
 def print_number(
@@ -346,11 +331,7 @@ def quantities_to_figures(
     data: bytes, upper: bool, greatest: int, method: int, options: int
 ) -> Tuple[int, str]:
     """The text with its quantities in figures. The data are the text in UTF-8."""
-    codes, length, status = (
-        (upper, greatest, method, options),
-        _SIZE(len(data)),
-        _NO_ROOM,
-    )
+    codes, length, status = (upper, greatest, method, options), _SIZE(len(data)), _NO_ROOM
     while status == _NO_ROOM:
         room = ctypes.create_string_buffer(max(length.value, _MOST_FIGURES_BYTES))
         status = library.chinese_quantities_to_figures(
