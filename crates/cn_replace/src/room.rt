@@ -14,7 +14,10 @@ pub struct LentRoom<'a> {
     ghost counted: { count < 2 ^ 64 },
 }
 
-// Puts bytes behind so many of a room if they fit, and says how many they are with those.
+// Puts bytes behind so many of a room if they fit, and says how many they are with those. It is a call of
+// its own, since a compiler turns copies of known lengths into stores, and the C source of `dist/` lets a
+// caller's memory be written by copies alone.
+#[inline(never)]
 fn put_behind(room: &mut [u8], count: usize, bytes: &[u8]) -> usize
     ensures { PutsTo count room.old result room.new bytes.now }
 {
