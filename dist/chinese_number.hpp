@@ -26,7 +26,7 @@
 
 namespace chinese_number {
 
-/* In which way a number is written; by `any` it is read alone. */
+/* In which way a number is read or written; `any` goes by the text, and by the script and the number. */
 enum class Way : std::uint32_t {
     digits = CN_DIGITS, low = CN_LOW, ten_thousand = CN_TEN_THOUSAND, middle = CN_MIDDLE, high = CN_HIGH, any = CN_ANY
 };
@@ -44,6 +44,12 @@ enum class QuantityForm : std::uint32_t {
     whole = CN_WHOLE, decimal = CN_DECIMAL, percent = CN_PERCENT, fraction = CN_FRACTION
 };
 
+/* Why a reader may mean by an expression something else than its quantity; CN_DOUBT_WORD and the others have examples. */
+enum class Doubt : std::uint32_t {
+    none = CN_NO_DOUBT, word = CN_DOUBT_WORD, digits = CN_DOUBT_DIGITS, term = CN_DOUBT_TERM, part = CN_DOUBT_PART,
+    time = CN_DOUBT_TIME, range = CN_DOUBT_RANGE
+};
+
 enum class Status : std::uint32_t {
     done = CN_DONE, empty = CN_EMPTY, incorrect = CN_INCORRECT, too_large = CN_TOO_LARGE, too_small = CN_TOO_SMALL,
     not_utf8 = CN_NOT_UTF8, no_room = CN_NO_ROOM, not_held = CN_NOT_HELD, unknown = CN_UNKNOWN,
@@ -53,7 +59,7 @@ enum class Status : std::uint32_t {
 
 /* How a number is printed. */
 struct Style {
-    Way way = Way::ten_thousand;
+    Way way = Way::any;
     Script script = Script::simplified;
     Case letter_case = Case::lower;
 };
@@ -78,10 +84,19 @@ struct Wanted {
     Unit greatest = Unit::zhao;
 };
 
-/* Which quantities of a text are replaced that are else left: those about so much, and those of one Chinese character. */
+/* Which quantities of a text are replaced that else stay: those about so much, those of one Chinese character, and those that
+ * are doubtful, but for Doubt::part. */
 struct Included {
     bool about = false;
     bool one_character = false;
+    bool doubtful = false;
+};
+
+/* How quantities_to_figures writes: expanded, 三千五百亿 becomes 350000000000, and else 3500亿; canonical, what is written in
+ * figures alone is rewritten in ASCII, without commas and leading zeros. */
+struct Figures {
+    bool expanded = false;
+    bool canonical = false;
 };
 
 /* Why there is no number, amount, date or text; at Status::incorrect with the place of the character at fault. */
@@ -178,8 +193,10 @@ constexpr cn_form flags_of(AmountForm form) {
          | (form.upright_closing ? CN_UPRIGHT_CLOSING : CN_PLAIN);
 }
 
-constexpr std::uint32_t flags_of(Included included) {
-    return (included.about ? CN_ABOUT : 0u) | (included.one_character ? CN_ONE_CHARACTER : 0u);
+constexpr std::uint32_t options_of(Included included, Figures figures) {
+    return (included.about ? CN_ABOUT : 0u) | (included.one_character ? CN_ONE_CHARACTER : 0u)
+         | (included.doubtful ? CN_DOUBTFUL : 0u) | (figures.expanded ? CN_EXPANDED : 0u)
+         | (figures.canonical ? CN_CANONICAL : 0u);
 }
 
 constexpr bool are_same(cn_number one, cn_number other) {
@@ -272,7 +289,7 @@ struct Quantity {
     Quantity trimmed() const;
 
     /* Its text: 三点五, 百分之十二点五, 三分之一. There is none where the denominator is 0 (Status::not_a_quantity), and by
-     * Way::low where a number in it is 10^16 or more; the style's way is a method. */
+     * Way::low where a number in it is 10^16 or more; the style's way is none of Way::digits. */
     Result<std::string> to_chinese(Style style = {}) const;
 
     /* Its text in figures, without the zeros at the end of its decimals: 35000, -3.5, 12.5%, 1/3. */
@@ -291,7 +308,7 @@ private:
 };
 
 /* The exact quantity of a text, by a method: a whole number, a decimal, a percentage or a fraction, as 3.5万 and 三分之一. */
-inline Result<Quantity> chinese_to_quantity(std::string_view text, Way method = Way::ten_thousand) {
+inline Result<Quantity> chinese_to_quantity(std::string_view text, Way method = Way::any) {
     cn_quantity read;
     const cn_status status = cn_read_quantity(text.data(), text.size(), static_cast<cn_way>(method), &read);
     const Quantity quantity = {read.numerator, read.denominator, static_cast<QuantityForm>(read.form)};
@@ -330,7 +347,7 @@ inline std::string Quantity::to_figures() const {
     return cn_quantity_figures(&quantity, room, sizeof room) == CN_DONE ? room : "";
 }
 
-/* The text of a number in halves. By Way::low there is none for 10^16 and more, and by Way::any none at all. */
+/* The text of a number in halves. By Way::low there is none for 10^16 and more. */
 inline Result<std::string> to_chinese(cn_number number, cn_kind kind, Style style = {}) {
     char room[CN_MOST_BYTES + 1];
     const cn_status status =
@@ -413,7 +430,8 @@ inline Result<Date> chinese_to_date(std::string_view text) {
     return detail::told(status, Date{read.year, read.month, read.day}, "date", read.char_index, read.byte_index);
 }
 
-/* A number that was found in a text, where it stands there, in bytes, and what cn_flag tells of it. */
+/* A number or an expression that was found in a text, where it stands there, in bytes, and what cn_flag and cn_doubt report
+ * of it. */
 struct Found {
     std::string_view text;
     std::size_t start;
@@ -422,21 +440,23 @@ struct Found {
     bool stands_alone;
     bool is_about;
     bool is_one_character;
+    Doubt doubt; /* of a number always Doubt::none */
 
-    /* The number: plain digits as such, and else by a method. */
+    /* The number: plain digits as such, and else by a method, where Way::any is Way::ten_thousand. */
     template <typename T>
-    Result<T> number(Way method = Way::ten_thousand) const {
-        return to_number<T>(text, is_plain ? Way::digits : method);
+    Result<T> number(Way method = Way::any) const {
+        const Way units = method == Way::any ? Way::ten_thousand : method;
+        return to_number<T>(text, is_plain ? Way::digits : units);
     }
 
     /* The number, or nothing where the run is none, as 百 by itself, or the type does not hold it. */
     template <typename T>
-    std::optional<T> value(Way method = Way::ten_thousand) const {
+    std::optional<T> value(Way method = Way::any) const {
         return number<T>(method).optional();
     }
 
     /* The exact quantity of its text, as find_quantities finds them. */
-    Result<Quantity> quantity(Way method = Way::ten_thousand) const { return chinese_to_quantity(text, method); }
+    Result<Quantity> quantity(Way method = Way::any) const { return chinese_to_quantity(text, method); }
 };
 
 /* The numbers or the expressions of a text, in order. They look into the text, which has to outlive them. */
@@ -460,7 +480,8 @@ public:
 
         Found operator*() const {
             return {text.substr(span.start, span.end - span.start), span.start, span.end,
-                    tells(CN_PLAIN_DIGITS), tells(CN_STANDS_ALONE), tells(CN_ABOUT), tells(CN_ONE_CHARACTER)};
+                    tells(CN_PLAIN_DIGITS), tells(CN_STANDS_ALONE), tells(CN_ABOUT), tells(CN_ONE_CHARACTER),
+                    static_cast<Doubt>(cn_doubt_of(&span))};
         }
         iterator &operator++() {
             search();
@@ -513,15 +534,25 @@ inline Numbers find_quantities(std::string_view text, Wanted wanted = {}) {
     return {text, wanted, cn_find_next_quantity};
 }
 
+namespace detail {
+
+inline bool is_included(const Found &found, Included included) {
+    return (!found.is_about || included.about) && (!found.is_one_character || included.one_character)
+        && (found.doubt == Doubt::none || (included.doubtful && found.doubt != Doubt::part));
+}
+
+} // namespace detail
+
 /* The text with its quantities replaced by what a function of a Found gives: its new text as a std::string, or std::nullopt
- * where it is to stay. It is asked for each expression that has a quantity by the method, in order; what is about so much or
- * one Chinese character stays, unless it is included. There is no text where the bytes are no UTF-8 (Status::not_utf8).
+ * where it is to stay. It is asked for each expression that has a quantity by the method, in order; what is about so much,
+ * one Chinese character or doubtful stays, unless it is included, and what is doubtful as Doubt::part always. There is no
+ * text where the bytes are no UTF-8 (Status::not_utf8).
  *
  *     auto text = replace_quantities("共3.5万元", [](Found found) { return '[' + found.quantity()->to_figures() + ']'; });
  *     *text; // 共[35000]元 */
 template <typename Replacement>
 Result<std::string> replace_quantities(std::string_view text, Replacement &&replacement, Wanted wanted = {},
-                                       Way method = Way::ten_thousand, Included included = {}) {
+                                       Way method = Way::any, Included included = {}) {
     const Numbers expressions = find_quantities(text, wanted);
     if (expressions.status() != Status::done && expressions.status() != Status::none)
         return Error{expressions.status(), "text", 0, 0};
@@ -531,7 +562,7 @@ Result<std::string> replace_quantities(std::string_view text, Replacement &&repl
         const Result<Quantity> quantity = found.quantity(method);
         if (!quantity && quantity.error().status == Status::unknown)
             return quantity.error();
-        if (!quantity || (found.is_about && !included.about) || (found.is_one_character && !included.one_character))
+        if (!quantity || !detail::is_included(found, included))
             continue;
         if (const std::optional<std::string> put = replacement(found)) {
             done.append(text.substr(at, found.start - at)).append(*put);
@@ -541,14 +572,15 @@ Result<std::string> replace_quantities(std::string_view text, Replacement &&repl
     return done.append(text.substr(at));
 }
 
-/* The same with their figures, as Quantity::to_figures gives them: 共35000元 of 共3.5万元. */
-inline Result<std::string> quantities_to_figures(std::string_view text, Wanted wanted = {}, Way method = Way::ten_thousand,
-                                                 Included included = {}) {
+/* The text with its numerals in figures, as an editor writes them: 市值三点五亿元，占百分之十二点五 becomes 市值3.5亿元，占12.5%.
+ * chinese_quantities_to_figures says which expressions stay as they are. */
+inline Result<std::string> quantities_to_figures(std::string_view text, Wanted wanted = {}, Way method = Way::any,
+                                                 Included included = {}, Figures figures = {}) {
     std::string done(text.size(), '\0');
     std::size_t length = 0;
     const auto put = [&] {
         return cn_quantities_to_figures(text.data(), text.size(), wanted.upper, static_cast<cn_unit>(wanted.greatest),
-                                        static_cast<cn_way>(method), detail::flags_of(included), done.data(),
+                                        static_cast<cn_way>(method), detail::options_of(included, figures), done.data(),
                                         done.size() + 1, &length);
     };
     cn_status status = put();

@@ -11,12 +11,14 @@ export const KINDS: readonly ['u8', 'u16', 'u32', 'u64', 'u128', 'i8', 'i16', 'i
 
 /**
  * How a number is written: as plain digits (一二三), or with units (一百二十三) by one of four methods.
- * 'any' is a way to read alone: as plain digits what is those, and else by 'tenThousand'.
+ * 'any' reads as plain digits what is those, and else by 'tenThousand', and writes what it reads
+ * back: by 'middle' in the simplified script below 10 ** 16, so that 10 ** 12 is 一万亿, and else by
+ * 'tenThousand'.
  */
 export const WAYS: readonly ['digits', 'low', 'tenThousand', 'middle', 'high', 'any'];
 
-/** The methods: the ways with units, by which an exact quantity is read and written. */
-export const METHODS: readonly ['low', 'tenThousand', 'middle', 'high'];
+/** The methods: the ways with units, and 'any', by which an exact quantity is read and written. */
+export const METHODS: readonly ['low', 'tenThousand', 'middle', 'high', 'any'];
 
 /** The scripts. */
 export const SCRIPTS: readonly ['traditional', 'simplified'];
@@ -36,24 +38,37 @@ export const UNITS: readonly [
 /** How a quantity is written: 35, 3.5, 12.5% or 百分之五十, and 三分之一. */
 export const QUANTITY_FORMS: readonly ['whole', 'decimal', 'percent', 'fraction'];
 
+/**
+ * Why a reader may mean by an expression something else than its quantity:
+ * - 'word': it is part of a word: 十二 of 十二指肠, 十一 of 双十一;
+ * - 'digits': it is two or three Chinese digits, or more that rise: 五一, 一二三四;
+ * - 'term': it is part of a term: 负二 of 负二项, 十六 of 十六进制;
+ * - 'part': it is part of an expression with 折, 成 or 半: 八五 of 八五折, 一 of 一个半;
+ * - 'time': it may be a time: 三点五 of 下午三点五, 十点零五;
+ * - 'range': it is one end of a range whose ends share a unit or 百分之: 3 and 5万 of 3~5万.
+ */
+export const DOUBTS: readonly ['word', 'digits', 'term', 'part', 'time', 'range'];
+
 export type Kind = (typeof KINDS)[number];
 export type Way = (typeof WAYS)[number];
-export type PrintWay = Exclude<Way, 'any'>;
 export type Method = (typeof METHODS)[number];
 export type Script = (typeof SCRIPTS)[number];
 export type Case = (typeof CASES)[number];
 export type Unit = (typeof UNITS)[number];
 export type QuantityForm = (typeof QUANTITY_FORMS)[number];
+export type Doubt = (typeof DOUBTS)[number];
 export type Yuan = '元' | '圆';
 export type Closing = '整' | '正';
 export type ReadOptions = { kind?: Kind; way?: Way };
-export type PrintOptions = { kind?: Kind; way?: PrintWay; script?: Script; case?: Case };
+export type PrintOptions = { kind?: Kind; way?: Way; script?: Script; case?: Case };
 export type ScriptOptions = { script?: Script };
 export type AmountOptions = { script?: Script; currency?: boolean; yuan?: Yuan; closing?: Closing };
 export type Wanted = { upper?: boolean; greatest?: Unit };
 export type MethodOptions = { method?: Method };
 export type QuantityOptions = { method?: Method; script?: Script; case?: Case };
-export type ReplaceOptions = Wanted & MethodOptions & { about?: boolean; oneCharacter?: boolean };
+export type Included = { about?: boolean; oneCharacter?: boolean; doubtful?: boolean };
+export type ReplaceOptions = Wanted & MethodOptions & Included;
+export type FiguresOptions = ReplaceOptions & { expanded?: boolean; canonical?: boolean };
 export type BillDate = { year: number; month: number; day: number };
 export type Place = { charIndex: number; start: number; end: number };
 export type NumeralCode =
@@ -96,10 +111,10 @@ export function toBigInt(string: string, options?: ReadOptions): bigint;
  * The text of a number: `toChinese(120)` is '一百二十'. The number is a BigInt, or a whole Number that
  * is exact.
  *
- * It is one of a kind, 'i128' where none is named, and is written by a way, else 'tenThousand', in
- * a script, else 'simplified', and a case, else 'lower'. Throws a NumeralError where the kind does
- * not hold the number or the way has no text for it, and a TypeError where it is no such number, or
- * an option or what it names is unknown, as 'any', which is no way to write.
+ * It is one of a kind, 'i128' where none is named, and is written by a way, else 'any', in a script,
+ * else 'simplified', and a case, else 'lower'. Throws a NumeralError where the kind does not hold the
+ * number or the way has no text for it, and a TypeError where it is no such number, or an option or
+ * what it names is unknown.
  *
  * @param {bigint | number} number
  * @param {PrintOptions} options
@@ -271,8 +286,8 @@ export function findNumbers(string: string, options?: Wanted): Generator<Found, 
  * 125/1000, and of '三分之一' 1/3.
  *
  * It is a whole number, a decimal, a percentage or a fraction, in figures, in numerals or in both,
- * with one sign in front or none; white space is left out. It is read by a method, else
- * 'tenThousand'. Throws a NumeralError where the text is none or its numbers are too large, and a
+ * with one sign in front or none; white space is left out. It is read by a method, else by 'any',
+ * which is 'tenThousand' here. Throws a NumeralError where the text is none or its numbers are too large, and a
  * TypeError where it is no string, or an option or what it names is unknown.
  *
  * @param {string} string
@@ -300,9 +315,9 @@ export function findQuantities(
  *
  * Each expression that `findQuantities` finds, and `toQuantity` reads by the method, is handed to a
  * function, which gives the text that stands in its place, or undefined, and then it stays. Those
- * that are about so much, or one Chinese character, stay too, unless `about` or `oneCharacter` is
- * true. Throws what the function throws, and a TypeError where it gives anything else, or as
- * `findQuantities` does.
+ * that are about so much, one Chinese character or doubtful stay too, unless `about`,
+ * `oneCharacter` or `doubtful` is true; those with the doubt 'part' always. Throws what the function
+ * throws, and a TypeError where it gives anything else, or as `findQuantities` does.
  *
  * @param {string} string
  * @param {(found: FoundQuantity) => string | undefined} replacement
@@ -316,17 +331,22 @@ export function replaceQuantities(
 ): string;
 
 /**
- * Puts figures in the place of the expressions of a text: '共3.5万元，占12.50%' becomes
- * '共35000元，占12.5%'.
+ * Puts figures in the place of the numerals of a text, as an editor does:
+ * '市值三点五亿元，占百分之十二点五' becomes '市值3.5亿元，占12.5%'.
  *
- * They are those of `toFigures`, and stand for each expression that `replaceQuantities` hands on.
- * All else of the text stays. Throws a TypeError as `findQuantities` does.
+ * What already is in figures stays, and so does what `toQuantity` refuses; what is about so much,
+ * one Chinese character or doubtful, unless `about`, `oneCharacter` or `doubtful` is true; what has
+ * the doubt 'part'; a part of a name, an address or another number; 千分之五 and 二又五分之三; and the
+ * other parts of a date, a time, a length, an amount or a range of which one part stays. With
+ * `expanded` no great unit is kept: 三千五百亿 and 3500亿 become 350000000000. With `canonical`
+ * figures are rewritten in ASCII, without commas and leading zeros. All else of the text stays.
+ * Throws a TypeError as `findQuantities` does.
  *
  * @param {string} string
- * @param {ReplaceOptions} options
+ * @param {FiguresOptions} options
  * @returns {string}
  */
-export function quantitiesToFigures(string: string, options?: ReplaceOptions): string;
+export function quantitiesToFigures(string: string, options?: FiguresOptions): string;
 
 /** A refusal, with the place of the character at fault where there is one. */
 declare class Refusal extends Error {
@@ -477,9 +497,9 @@ export class Quantity {
    * 三点一四 of 3.14, 百分之十二点五 of 12.5%, 三分之一 of 1/3. What has no denominator of its form is
    * written as a fraction.
    *
-   * It is written by a method, else 'tenThousand', in a script, else 'simplified', and a case, else
-   * 'lower'. Throws a NumeralError where 'low' has no text for one of its numbers, and a TypeError
-   * where an option or what it names is unknown.
+   * It is written by a method, else 'any', in a script, else 'simplified', and a case, else 'lower'.
+   * 'any' goes by the greatest number that is spelled. Throws a NumeralError where 'low' has no text
+   * for one of its numbers, and a TypeError where an option or what it names is unknown.
    *
    * @param {QuantityOptions} options
    * @returns {string}
@@ -494,7 +514,7 @@ export class Quantity {
   toFigures(): string;
 }
 
-/** Where a number or an expression stands in a text, and what is told of it. */
+/** Where a number or an expression stands in a text, and what is reported of it. */
 declare class Span {
   /**
    * @param {number} start
@@ -524,7 +544,7 @@ declare class Span {
 export class Found extends Span {
   /**
    * The number, as toNumber reads its text: as plain digits where it is those, else by the way that
-   * is named.
+   * is named, where 'any' is 'tenThousand'.
    *
    * Throws what toNumber throws; a place counts within the number's own text.
    *
@@ -551,6 +571,11 @@ export class Found extends Span {
 
 /** An expression in its text, as findQuantities gives it. */
 export class FoundQuantity extends Span {
+  /**
+   * Why a reader may mean something else than its quantity, or null: 'digits' of 五一.
+   * @type {Doubt | null}
+   */
+  doubt: Doubt | null;
   /**
    * The quantity, as toQuantity reads its text.
    *

@@ -97,10 +97,10 @@ typedef enum cn_kind CN_OF_CODE {
 typedef enum cn_way CN_OF_CODE {
     CN_DIGITS = 0,
     CN_LOW = 1,          /* each unit is ten times the one before: 億 is 10^5 */
-    CN_TEN_THOUSAND = 2, /* the one to use: after 萬 each is 10^4 times the one before. 10^12 is 兆, as in Taiwan; by the next two 萬億, as on the mainland */
+    CN_TEN_THOUSAND = 2, /* after 萬 each is 10^4 times the one before: 10^12 is 兆, as in Taiwan; by the next two 萬億, as on the mainland */
     CN_MIDDLE = 3,       /* after 億 each is 10^8 times the one before: 兆 is 10^16, 京 is 10^24 */
     CN_HIGH = 4,         /* from 億 on each is the square of the one before: 兆 is 10^16, 京 is 10^32 */
-    CN_ANY = 5           /* for reading alone: digits as CN_DIGITS, with a sign or without, and any other text as CN_TEN_THOUSAND */
+    CN_ANY = 5           /* the one to use. Reads digits as CN_DIGITS, with a sign or without, any other text as CN_TEN_THOUSAND. Writes what it reads back: as CN_MIDDLE in CN_SIMPLIFIED below 10^16, so that 10^12 is 一万亿, and else as CN_TEN_THOUSAND */
 } cn_way;
 
 /* The script of a printed text: 萬 or 万. Both are read. */
@@ -131,13 +131,31 @@ typedef enum cn_quantity_form CN_OF_CODE {
     CN_FRACTION = 3 /* 三分之一, 千分之五 */
 } cn_quantity_form;
 
-/* The flags that are told of a number or an expression in a text: none or several of these, added together. */
+/* The flags that are reported of a number or an expression in a text: none or several of these, added together. */
 typedef enum cn_flag CN_OF_CODE {
     CN_PLAIN_DIGITS = 1,  /* each of its characters is a digit: it is read by CN_DIGITS, and else by a method */
     CN_STANDS_ALONE = 2,  /* no letter or digit touches it, and none is linked to it: so neither part of 3.5萬 or 1,280 does */
     CN_ABOUT = 4,         /* it is about so much, as the 十 of 十几 and 几十, and 五六 are */
     CN_ONE_CHARACTER = 8  /* it is one Chinese character, as the 一 of 一般 is */
 } CN_FLAGS cn_flag;
+
+/* Why a reader may mean by an expression something else than its quantity. Of several reasons CN_DOUBT_PART is reported, or
+ * else the first one here. In the flags of a span it is multiplied by 16 and added to the flags above, so read it by
+ * cn_doubt_of. A number has none. */
+typedef enum cn_doubt CN_OF_CODE {
+    CN_NO_DOUBT = 0,
+    CN_DOUBT_WORD = 1,   /* it is part of a word: 十二 of 十二指肠, 十一 of 双十一 */
+    CN_DOUBT_DIGITS = 2, /* it is two or three Chinese digits, or more that rise: 五一, 一二三四 */
+    CN_DOUBT_TERM = 3,   /* it is part of a term: 负二 of 负二项, 十六 of 十六进制 */
+    CN_DOUBT_PART = 4,   /* it is part of an expression with 折, 成 or 半: 八五 of 八五折, 一 of 一个半 */
+    CN_DOUBT_TIME = 5,   /* it may be a time: 三点五 of 下午三点五, 十点零五 */
+    CN_DOUBT_RANGE = 6   /* it is one end of a range whose ends share a unit or 百分之: 3 and 5万 of 3~5万 */
+} cn_doubt;
+
+/* The options of chinese_quantities_to_figures, which are added together, with CN_ABOUT and CN_ONE_CHARACTER of cn_flag. */
+#define CN_DOUBTFUL 16u  /* what is doubtful is replaced too, but for CN_DOUBT_PART */
+#define CN_EXPANDED 32u  /* no great unit is kept: 三千五百亿 becomes 350000000000, and not 3500亿 */
+#define CN_CANONICAL 64u /* what is written in figures alone is rewritten in ASCII, without commas and leading zeros: １,２８０ becomes 1280 */
 
 /* The units, by rank: the greatest one that is looked for in a text. */
 typedef enum cn_unit CN_OF_CODE {
@@ -169,7 +187,7 @@ typedef enum cn_status CN_OF_CODE {
     CN_NOT_UTF8 = 5,  /* read, find, replace: the bytes are no UTF-8; find: no character begins at `from`, nor does the text end there */
     CN_NO_ROOM = 6,   /* print, replace: the text has more bytes than the room; *length says how many */
     CN_NOT_HELD = 7,  /* print: the type does not hold the number */
-    CN_UNKNOWN = 8,   /* a code names no type, way, script, case, form, unit or flag; CN_ANY is no way to print, and CN_DIGITS and CN_ANY are no method */
+    CN_UNKNOWN = 8,   /* a code names no type, way, script, case, form, unit or option; CN_DIGITS is no method */
     CN_UNFINISHED = 9, /* read an amount, figures or a date: the text is none, but something behind it can make it one */
     CN_NONE = 10,      /* cn_find_next, cn_find_next_quantity: there is no further one in the text */
     CN_NOT_A_DATE = 11, /* print a date: there is no such date */
@@ -225,8 +243,8 @@ typedef struct cn_quantity {
     size_t byte_index;
 } cn_quantity;
 
-/* Where a number or an expression stands in a text, in bytes from its start, and what is told of it: flags of cn_flag, added
- * together. */
+/* Where a number or an expression stands in a text, in bytes from its start, and what is reported of it: flags of cn_flag,
+ * added together, and 16 times a reason of cn_doubt. So test one flag by &, and compare no flags as a whole. */
 typedef struct cn_span {
     size_t start;
     size_t end;
@@ -266,15 +284,16 @@ uint32_t chinese_number_find(const uint8_t *text, size_t text_length, size_t fro
 uint32_t chinese_number_find_utf8(const uint8_t *text, size_t text_length, size_t from, uint32_t upper, uint32_t greatest,
                                   cn_span *spans, size_t most, size_t *count);
 
-/* Reads a text, in UTF-8, as a quantity by a method, CN_LOW to CN_HIGH: a whole number, a decimal, a percentage or a
- * fraction, in figures, in numerals or in both, with one sign in front or none. Writes *quantity whole at each status, and
- * nothing else.
+/* Reads a text, in UTF-8, as a quantity by a method, CN_LOW to CN_HIGH, or by CN_ANY, which is CN_TEN_THOUSAND here: a
+ * whole number, a decimal, a percentage or a fraction, in figures, in numerals or in both, with one sign in front or none.
+ * Writes *quantity whole at each status, and nothing else.
  *
  * Returns CN_DONE, CN_EMPTY, CN_INCORRECT, CN_TOO_LARGE, CN_TOO_SMALL, CN_NOT_UTF8 or CN_UNKNOWN. */
 uint32_t chinese_quantity_read(const uint8_t *text, size_t text_length, uint32_t method, cn_quantity *quantity);
 
 /* Finds the expressions of a text, as chinese_number_find finds its numbers: numbers with their sign, figures, point and
- * units, percentages and fractions, each to be read by chinese_quantity_read. */
+ * units, percentages and fractions, each to be read by chinese_quantity_read. cn_doubt_of a span says why a reader may mean
+ * something else. */
 uint32_t chinese_quantity_find(const uint8_t *text, size_t text_length, size_t from, uint32_t upper, uint32_t greatest,
                                cn_span *spans, size_t most, size_t *count);
 
@@ -282,11 +301,12 @@ uint32_t chinese_quantity_find(const uint8_t *text, size_t text_length, size_t f
 uint32_t chinese_quantity_find_utf8(const uint8_t *text, size_t text_length, size_t from, uint32_t upper, uint32_t greatest,
                                     cn_span *spans, size_t most, size_t *count);
 
-/* Prints a quantity by a method, CN_LOW to CN_HIGH, at the start of a room, in UTF-8: 三点一四 for 314/100 of CN_DECIMAL,
- * 百分之十二点五 for 125/1000 of CN_PERCENT, 三分之一 for 1/3. A quantity whose denominator is not one of its form (1 of a
- * whole number, 10, 100 and so on of a decimal, 100, 1000 and so on of a percentage) is printed as a fraction. What is
- * printed is read by chinese_quantity_read as the same numerator and denominator. Its char_index and byte_index are not
- * looked at. Length and room as with chinese_number_print.
+/* Prints a quantity by a method, CN_LOW to CN_HIGH, or by CN_ANY, at the start of a room, in UTF-8: 三点一四 for 314/100
+ * of CN_DECIMAL, 百分之十二点五 for 125/1000 of CN_PERCENT, 三分之一 for 1/3. By CN_ANY it goes by CN_MIDDLE where the
+ * script is CN_SIMPLIFIED and each number that is spelled in it is below 10^16, and else by CN_TEN_THOUSAND. A quantity
+ * whose denominator is not one of its form (1 of a whole number, 10, 100 and so on of a decimal, 100, 1000 and so on of
+ * a percentage) is printed as a fraction. What is printed is read by chinese_quantity_read as the same numerator and
+ * denominator. Its char_index and byte_index are not looked at. Length and room as with chinese_number_print.
  *
  * Returns CN_DONE, CN_TOO_LARGE, CN_TOO_SMALL, CN_NO_ROOM, CN_NOT_A_QUANTITY or CN_UNKNOWN (also where its form is none). A
  * room of CN_MOST_QUANTITY_BYTES is never too small. */
@@ -299,15 +319,23 @@ uint32_t chinese_quantity_print(const cn_quantity *quantity, uint32_t method, ui
  * Returns CN_DONE, CN_NO_ROOM or CN_UNKNOWN (its form is none). A room of CN_MOST_FIGURES_BYTES is never too small. */
 uint32_t chinese_quantity_figures(const cn_quantity *quantity, uint8_t *room, size_t room_length, size_t *length);
 
-/* Writes a text in UTF-8 anew, with the expressions of chinese_quantity_find that chinese_quantity_read reads by a method in
- * figures, as chinese_quantity_figures prints them: 共3.5万元 becomes 共35000元. An expression that is about so much, or one
- * Chinese character, stands as it stood, unless `included` has CN_ABOUT or CN_ONE_CHARACTER; it is both, one of them or 0.
- * All else of the text stands as it stood. Writes *length at each status: at CN_DONE and CN_NO_ROOM how many bytes the new
- * text has (SIZE_MAX for more), else 0. What the room holds behind the new text, and at other statuses, is not said.
+/* Writes a text in UTF-8 anew, with the numerals among the expressions of chinese_quantity_find in figures, as an editor
+ * writes them: 市值三点五亿元，占百分之十二点五 becomes 市值3.5亿元，占12.5%. `options` is 0, or a sum of CN_ABOUT,
+ * CN_ONE_CHARACTER, CN_DOUBTFUL, CN_EXPANDED and CN_CANONICAL. The section "Expressions replaced" of docs/RULES.md has the
+ * rules; in short, these expressions stay as they are:
+ * - what is already in figures, but for one with 分之 (CN_EXPANDED, CN_CANONICAL);
+ * - what chinese_quantity_read refuses by the method;
+ * - what is about so much, one Chinese character or doubtful, unless `options` has CN_ABOUT, CN_ONE_CHARACTER or
+ *   CN_DOUBTFUL; what is doubtful as CN_DOUBT_PART always;
+ * - a part of a name, an address or another number, as in a_十二;
+ * - a fraction over 1000 or more, or with 又, as 千分之五;
+ * - the other parts of a date, a time, a length, an amount or a range of which one part stays.
+ * All else of the text stays as it is. Writes *length at each status: at CN_DONE and CN_NO_ROOM how many bytes the new text
+ * has (SIZE_MAX for more), else 0. What the room holds after the new text, and at other statuses, is not specified.
  *
- * Returns CN_DONE, CN_NO_ROOM, CN_NOT_UTF8 or CN_UNKNOWN. */
+ * Returns CN_DONE, CN_NO_ROOM, CN_NOT_UTF8 or CN_UNKNOWN (also where `options` has any other bit). */
 uint32_t chinese_quantities_to_figures(const uint8_t *text, size_t text_length, uint32_t upper, uint32_t greatest,
-                                       uint32_t method, uint32_t included, uint8_t *room, size_t room_length,
+                                       uint32_t method, uint32_t options, uint8_t *room, size_t room_length,
                                        size_t *length);
 
 /* What was read as an amount: how many fen, the hundredth part of a yuan, at CN_DONE, and at CN_INCORRECT how many
@@ -491,12 +519,18 @@ CN_NODISCARD static inline cn_status cn_find_next_quantity(const char *text, siz
     return cn_next(status, count, span);
 }
 
-/* Reads the number that stands at a span of a text: plain digits as such, and else by a method. The span is one that a call
- * that finds has written for this text, whose bytes are not tested again. */
+/* Why a reader may mean by the expression at a span something else than its quantity. */
+static inline cn_doubt cn_doubt_of(const cn_span *span) {
+    return CN_AS(cn_doubt, span->flags / 16);
+}
+
+/* Reads the number that stands at a span of a text: plain digits as such, and else by a method, where CN_ANY is
+ * CN_TEN_THOUSAND. The span is one that a call that finds has written for this text, whose bytes are not tested again. */
 CN_NODISCARD static inline cn_status cn_read_found(const char *text, const cn_span *span, cn_kind kind, cn_way method,
                                                    cn_reading *reading) {
     const uint8_t *found = cn_bytes(text, span->end) + span->start;
-    cn_way way = (span->flags & CN_PLAIN_DIGITS) != 0 ? CN_DIGITS : method;
+    cn_way units = method == CN_ANY ? CN_TEN_THOUSAND : method;
+    cn_way way = (span->flags & CN_PLAIN_DIGITS) != 0 ? CN_DIGITS : units;
     return CN_AS(cn_status, chinese_number_read_utf8(found, span->end - span->start, kind, way, reading));
 }
 
@@ -549,12 +583,12 @@ CN_NODISCARD static inline cn_status cn_quantity_figures(const cn_quantity *quan
 /* chinese_quantities_to_figures for a text in char, into a room of char, likewise: at CN_NO_ROOM one of *length + 1 is not
  * too small. */
 CN_NODISCARD static inline cn_status cn_quantities_to_figures(const char *text, size_t text_length, uint32_t upper,
-                                                              cn_unit greatest, cn_way method, uint32_t included,
+                                                              cn_unit greatest, cn_way method, uint32_t options,
                                                               char *room, size_t room_length, size_t *length) {
     uint8_t none;
     size_t most = cn_most_of_text(room_length);
     uint32_t status = chinese_quantities_to_figures(cn_bytes(text, text_length), text_length, upper, greatest, method,
-                                                    included, cn_room(room, room_length, &none), most, length);
+                                                    options, cn_room(room, room_length, &none), most, length);
     return cn_ended(status, room, room_length, *length);
 }
 
@@ -596,7 +630,7 @@ static inline const char *cn_status_text(uint32_t status) {
     case CN_NOT_UTF8: return "the text is no UTF-8";
     case CN_NO_ROOM: return "the room is too small for the text";
     case CN_NOT_HELD: return "the type does not hold the number";
-    case CN_UNKNOWN: return "a code names no type, way, script, case, form, unit or flag";
+    case CN_UNKNOWN: return "a code names no type, way, script, case, form, unit or option";
     case CN_UNFINISHED: return "the amount or date is not finished";
     case CN_NONE: return "there is no number in the text";
     case CN_NOT_A_DATE: return "there is no such date";

@@ -10,7 +10,7 @@
 //     for (const found of findNumbers('第二十三回')) ..  found.number() is 23
 //     toQuantity('3.5万').toFigures()                 '35000'
 //     Quantity.fraction(1, 3).toChinese()             '三分之一'
-//     quantitiesToFigures('共三点五万元')             '共35000元'
+//     quantitiesToFigures('市值三点五亿元')           '市值3.5亿元'
 //
 // What gives a Number gives only one that is exact, a safe integer, and has a second name for the
 // BigInt: there `BigInt` stands for `Number`, or at the end. The module takes no memory of its own:
@@ -32,14 +32,16 @@ export const KINDS = Object.freeze(/** @type {const} */ (
 
 /**
  * How a number is written: as plain digits (一二三), or with units (一百二十三) by one of four methods.
- * 'any' is a way to read alone: as plain digits what is those, and else by 'tenThousand'.
+ * 'any' reads as plain digits what is those, and else by 'tenThousand', and writes what it reads
+ * back: by 'middle' in the simplified script below 10 ** 16, so that 10 ** 12 is 一万亿, and else by
+ * 'tenThousand'.
  */
 export const WAYS = Object.freeze(/** @type {const} */ (
   ['digits', 'low', 'tenThousand', 'middle', 'high', 'any']));
 
-/** The methods: the ways with units, by which an exact quantity is read and written. */
+/** The methods: the ways with units, and 'any', by which an exact quantity is read and written. */
 export const METHODS = Object.freeze(/** @type {const} */ (
-  ['low', 'tenThousand', 'middle', 'high']));
+  ['low', 'tenThousand', 'middle', 'high', 'any']));
 
 /** The scripts. */
 export const SCRIPTS = Object.freeze(/** @type {const} */ (['traditional', 'simplified']));
@@ -59,16 +61,34 @@ export const UNITS = Object.freeze(/** @type {const} */ (
 export const QUANTITY_FORMS = Object.freeze(/** @type {const} */ (
   ['whole', 'decimal', 'percent', 'fraction']));
 
+/**
+ * Why a reader may mean by an expression something else than its quantity:
+ * - 'word': it is part of a word: 十二 of 十二指肠, 十一 of 双十一;
+ * - 'digits': it is two or three Chinese digits, or more that rise: 五一, 一二三四;
+ * - 'term': it is part of a term: 负二 of 负二项, 十六 of 十六进制;
+ * - 'part': it is part of an expression with 折, 成 or 半: 八五 of 八五折, 一 of 一个半;
+ * - 'time': it may be a time: 三点五 of 下午三点五, 十点零五;
+ * - 'range': it is one end of a range whose ends share a unit or 百分之: 3 and 5万 of 3~5万.
+ */
+export const DOUBTS = Object.freeze(/** @type {const} */ (
+  ['word', 'digits', 'term', 'part', 'time', 'range']));
+
 const STATUSES = /** @type {Array<any>} */ (
   ['done', 'empty', 'incorrect', 'tooLarge', 'tooSmall', 'notUtf8', 'noRoom', 'notHeld', 'unknown',
     'unfinished', 'none', 'notADate', 'notAQuantity']);
 
-// The bits of what is told of a number or an expression that was found, each twice the one before.
+// The bits of what is reported of a number or an expression that was found, each twice the one
+// before. Above them is the code of a doubt: its place in DOUBTS from 1 on, or 0 for none.
 const FLAGS = ['plainDigits', 'standsAlone', 'about', 'oneCharacter'];
 const [PLAIN_DIGITS, STANDS_ALONE, ABOUT, ONE_CHARACTER] = FLAGS.map((_, bit) => 1 << bit);
+const DOUBT = FLAGS.length;
+// The bits of the options of quantitiesToFigures, with the two last ones of these.
+const OPTIONS = ['doubtful', 'expanded', 'canonical'];
+const [DOUBTFUL, EXPANDED, CANONICAL] = OPTIONS.map((_, bit) => 1 << DOUBT + bit);
 
 const DONE = STATUSES.indexOf('done'), NO_ROOM = STATUSES.indexOf('noRoom');
 const DIGITS = WAYS.indexOf('digits'), FIRST_METHOD = WAYS.indexOf('low');
+const TEN_THOUSAND = WAYS.indexOf('tenThousand'), ANY = WAYS.indexOf('any');
 const FIRST_SIGNED = KINDS.indexOf('i8');
 
 // An option, which has one of these names, else the usual one. The last one that a call named is
@@ -81,8 +101,7 @@ function option(what, names, usual) {
 
 const KIND = option('kind', KINDS, 'i128');
 const WAY = option('way', WAYS, 'any');
-const PRINT_WAY = option('way to write', WAYS.filter((it) => it !== 'any'), 'tenThousand');
-const METHOD = option('method', METHODS, 'tenThousand');
+const METHOD = option('method', METHODS, 'any');
 const SCRIPT = option('script', SCRIPTS, 'simplified');
 const CASE = option('case', CASES, 'lower');
 const YUAN = option('yuan', ['元', '圆'], '元');
@@ -100,21 +119,22 @@ const HAS = {
   searches: (it) => it === 'upper' || it === 'greatest',
   quantities: (it) => it === 'method',
   writing: (it) => it === 'method' || it === 'script' || it === 'case',
-  replacing: (it) => it === 'about' || it === 'oneCharacter' || HAS.searches(it)
-    || HAS.quantities(it),
+  replacing: (it) => it === 'about' || it === 'oneCharacter' || it === 'doubtful'
+    || HAS.searches(it) || HAS.quantities(it),
+  figures: (it) => it === 'expanded' || it === 'canonical' || HAS.replacing(it),
 };
 
 /**
  * @typedef {typeof KINDS[number]} Kind
  * @typedef {typeof WAYS[number]} Way
- * @typedef {Exclude<Way, 'any'>} PrintWay
  * @typedef {typeof METHODS[number]} Method
  * @typedef {typeof SCRIPTS[number]} Script
  * @typedef {typeof CASES[number]} Case
  * @typedef {typeof UNITS[number]} Unit
  * @typedef {typeof QUANTITY_FORMS[number]} QuantityForm
+ * @typedef {typeof DOUBTS[number]} Doubt
  * @typedef {{ kind?: Kind, way?: Way }} ReadOptions
- * @typedef {{ kind?: Kind, way?: PrintWay, script?: Script, case?: Case }} PrintOptions
+ * @typedef {{ kind?: Kind, way?: Way, script?: Script, case?: Case }} PrintOptions
  * @typedef {{ script?: Script }} ScriptOptions
  * @typedef {'元' | '圆'} Yuan
  * @typedef {'整' | '正'} Closing
@@ -122,7 +142,9 @@ const HAS = {
  * @typedef {{ upper?: boolean, greatest?: Unit }} Wanted
  * @typedef {{ method?: Method }} MethodOptions
  * @typedef {{ method?: Method, script?: Script, case?: Case }} QuantityOptions
- * @typedef {Wanted & MethodOptions & { about?: boolean, oneCharacter?: boolean }} ReplaceOptions
+ * @typedef {{ about?: boolean, oneCharacter?: boolean, doubtful?: boolean }} Included
+ * @typedef {Wanted & MethodOptions & Included} ReplaceOptions
+ * @typedef {ReplaceOptions & { expanded?: boolean, canonical?: boolean }} FiguresOptions
  * @typedef {{ year: number, month: number, day: number }} BillDate
  * @typedef {{ charIndex: number, start: number, end: number }} Place
  * @typedef {keyof typeof MESSAGES} NumeralCode
@@ -468,7 +490,7 @@ function refuseOthers(options, has) {
  * @returns {number}
  */
 export function toNumber(string, options = NO_OPTIONS) {
-  return safeNumber(readNumeral(string, options, false));
+  return safeNumber(readNumeral(string, options, false, ANY));
 }
 
 /**
@@ -480,17 +502,23 @@ export function toNumber(string, options = NO_OPTIONS) {
  * @returns {bigint}
  */
 export function toBigInt(string, options = NO_OPTIONS) {
-  return wholeNumber(readNumeral(string, options, false));
+  return wholeNumber(readNumeral(string, options, false, ANY));
 }
 
-// Has the module read a numeral, by its digits where it is plain, and gives the code of its kind.
-/** @param {string} string @param {ReadOptions} options @param {boolean} isPlain */
-function readNumeral(string, options, isPlain) {
+// Has the module read a numeral, and gives the code of its kind. It is read by its digits where it is
+// plain, and else by the way, where 'any' stands for the way with a code.
+/**
+ * @param {string} string
+ * @param {ReadOptions} options
+ * @param {boolean} isPlain
+ * @param {number} any
+ */
+function readNumeral(string, options, isPlain, any) {
   refuseOthers(options, HAS.reading);
   const kind = codeOf(KIND, options.kind), way = codeOf(WAY, options.way);
   hand(string);
-  const status = ended(library.chinese_number_read_utf8(
-    TEXT_AT, words[LENGTH_WORD], kind, isPlain ? DIGITS : way, READING_AT));
+  const status = ended(library.chinese_number_read_utf8(TEXT_AT, words[LENGTH_WORD], kind,
+    isPlain ? DIGITS : way === ANY ? any : way, READING_AT));
   if (status !== DONE) throw new NumeralError(STATUSES[status], KINDS[kind], placeOf(status, 2));
   return kind;
 }
@@ -515,10 +543,10 @@ function wholeNumber(kind, word = 0) {
  * The text of a number: `toChinese(120)` is '一百二十'. The number is a BigInt, or a whole Number that
  * is exact.
  *
- * It is one of a kind, 'i128' where none is named, and is written by a way, else 'tenThousand', in
- * a script, else 'simplified', and a case, else 'lower'. Throws a NumeralError where the kind does
- * not hold the number or the way has no text for it, and a TypeError where it is no such number, or
- * an option or what it names is unknown, as 'any', which is no way to write.
+ * It is one of a kind, 'i128' where none is named, and is written by a way, else 'any', in a script,
+ * else 'simplified', and a case, else 'lower'. Throws a NumeralError where the kind does not hold the
+ * number or the way has no text for it, and a TypeError where it is no such number, or an option or
+ * what it names is unknown.
  *
  * @param {bigint | number} number
  * @param {PrintOptions} options
@@ -527,7 +555,7 @@ function wholeNumber(kind, word = 0) {
 export function toChinese(number, options = NO_OPTIONS) {
   refuseOthers(options, HAS.printing);
   const kind = codeOf(KIND, options.kind);
-  const way = codeOf(PRINT_WAY, options.way);
+  const way = codeOf(WAY, options.way);
   const script = scriptOf(options), letterCase = codeOf(CASE, options.case);
   const whole = wholeOf(number), high = highOf(number, kind);
   lend(MOST_PRINTED);
@@ -887,9 +915,9 @@ export class Quantity {
    * 三点一四 of 3.14, 百分之十二点五 of 12.5%, 三分之一 of 1/3. What has no denominator of its form is
    * written as a fraction.
    *
-   * It is written by a method, else 'tenThousand', in a script, else 'simplified', and a case, else
-   * 'lower'. Throws a NumeralError where 'low' has no text for one of its numbers, and a TypeError
-   * where an option or what it names is unknown.
+   * It is written by a method, else 'any', in a script, else 'simplified', and a case, else 'lower'.
+   * 'any' goes by the greatest number that is spelled. Throws a NumeralError where 'low' has no text
+   * for one of its numbers, and a TypeError where an option or what it names is unknown.
    *
    * @param {QuantityOptions} options
    * @returns {string}
@@ -955,8 +983,8 @@ const decoded = (start) =>
  * 125/1000, and of '三分之一' 1/3.
  *
  * It is a whole number, a decimal, a percentage or a fraction, in figures, in numerals or in both,
- * with one sign in front or none; white space is left out. It is read by a method, else
- * 'tenThousand'. Throws a NumeralError where the text is none or its numbers are too large, and a
+ * with one sign in front or none; white space is left out. It is read by a method, else by 'any',
+ * which is 'tenThousand' here. Throws a NumeralError where the text is none or its numbers are too large, and a
  * TypeError where it is no string, or an option or what it names is unknown.
  *
  * @param {string} string
@@ -974,7 +1002,7 @@ export function toQuantity(string, options = NO_OPTIONS) {
     wholeNumber(NUMERATOR), wholeNumber(DENOMINATOR, 2), QUANTITY_FORMS[halves[FORM_HALF]]);
 }
 
-/** Where a number or an expression stands in a text, and what is told of it. */
+/** Where a number or an expression stands in a text, and what is reported of it. */
 class Span {
   /**
    * @param {number} start
@@ -1005,7 +1033,7 @@ class Span {
 export class Found extends Span {
   /**
    * The number, as toNumber reads its text: as plain digits where it is those, else by the way that
-   * is named.
+   * is named, where 'any' is 'tenThousand'.
    *
    * Throws what toNumber throws; a place counts within the number's own text.
    *
@@ -1013,7 +1041,7 @@ export class Found extends Span {
    * @returns {number}
    */
   number(options = NO_OPTIONS) {
-    return safeNumber(readNumeral(this.text, options, this.isPlain));
+    return safeNumber(readNumeral(this.text, options, this.isPlain, TEN_THOUSAND));
   }
 
   /**
@@ -1023,7 +1051,7 @@ export class Found extends Span {
    * @returns {bigint}
    */
   bigInt(options = NO_OPTIONS) {
-    return wholeNumber(readNumeral(this.text, options, this.isPlain));
+    return wholeNumber(readNumeral(this.text, options, this.isPlain, TEN_THOUSAND));
   }
 
   /**
@@ -1040,6 +1068,20 @@ export class Found extends Span {
 
 /** An expression in its text, as findQuantities gives it. */
 export class FoundQuantity extends Span {
+  /**
+   * @param {number} start
+   * @param {string} text
+   * @param {number} flags
+   */
+  constructor(start, text, flags) {
+    super(start, text, flags);
+    /**
+     * Why a reader may mean something else than its quantity, or null: 'digits' of 五一.
+     * @type {Doubt | null}
+     */
+    this.doubt = DOUBTS[(flags >> DOUBT) - 1] ?? null;
+  }
+
   /**
    * The quantity, as toQuantity reads its text.
    *
@@ -1167,9 +1209,9 @@ function unitsBetween(start, end) {
  *
  * Each expression that `findQuantities` finds, and `toQuantity` reads by the method, is handed to a
  * function, which gives the text that stands in its place, or undefined, and then it stays. Those
- * that are about so much, or one Chinese character, stay too, unless `about` or `oneCharacter` is
- * true. Throws what the function throws, and a TypeError where it gives anything else, or as
- * `findQuantities` does.
+ * that are about so much, one Chinese character or doubtful stay too, unless `about`,
+ * `oneCharacter` or `doubtful` is true; those with the doubt 'part' always. Throws what the function
+ * throws, and a TypeError where it gives anything else, or as `findQuantities` does.
  *
  * @param {string} string
  * @param {(found: FoundQuantity) => string | undefined} replacement
@@ -1179,7 +1221,7 @@ function unitsBetween(start, end) {
 export function replaceQuantities(string, replacement, options = NO_OPTIONS) {
   refuseOthers(options, HAS.replacing);
   if (typeof replacement !== 'function') throw new TypeError('a replacement is a function');
-  const included = includedOf(options), { method } = options;
+  const { method } = options, included = includedOf(options);
   methodOf(options);
   let replaced = '', at = 0;
   for (const found of expressionsOf(string, options)) {
@@ -1194,35 +1236,45 @@ export function replaceQuantities(string, replacement, options = NO_OPTIONS) {
 }
 
 /** @param {FoundQuantity} found @param {number} included */
-const isReplaced = ({ isAbout, isOneCharacter }, included) =>
-  (!isAbout || (included & ABOUT) !== 0) && (!isOneCharacter || (included & ONE_CHARACTER) !== 0);
+const isReplaced = ({ isAbout, isOneCharacter, doubt }, included) =>
+  (!isAbout || (included & ABOUT) !== 0) && (!isOneCharacter || (included & ONE_CHARACTER) !== 0)
+  && (doubt === null || (doubt !== 'part' && (included & DOUBTFUL) !== 0));
 
-/** @param {ReplaceOptions} options */
-const includedOf = ({ about, oneCharacter }) =>
-  ABOUT * flagOf(about, 'about') + ONE_CHARACTER * flagOf(oneCharacter, 'oneCharacter');
+/** @param {Included} options */
+const includedOf = ({ about, oneCharacter, doubtful }) => ABOUT * flagOf(about, 'about')
+  + ONE_CHARACTER * flagOf(oneCharacter, 'oneCharacter') + DOUBTFUL * flagOf(doubtful, 'doubtful');
+
+/** @param {FiguresOptions} options */
+const styleOf = ({ expanded, canonical }) =>
+  EXPANDED * flagOf(expanded, 'expanded') + CANONICAL * flagOf(canonical, 'canonical');
 
 /**
- * Puts figures in the place of the expressions of a text: '共3.5万元，占12.50%' becomes
- * '共35000元，占12.5%'.
+ * Puts figures in the place of the numerals of a text, as an editor does:
+ * '市值三点五亿元，占百分之十二点五' becomes '市值3.5亿元，占12.5%'.
  *
- * They are those of `toFigures`, and stand for each expression that `replaceQuantities` hands on.
- * All else of the text stays. Throws a TypeError as `findQuantities` does.
+ * What already is in figures stays, and so does what `toQuantity` refuses; what is about so much,
+ * one Chinese character or doubtful, unless `about`, `oneCharacter` or `doubtful` is true; what has
+ * the doubt 'part'; a part of a name, an address or another number; 千分之五 and 二又五分之三; and the
+ * other parts of a date, a time, a length, an amount or a range of which one part stays. With
+ * `expanded` no great unit is kept: 三千五百亿 and 3500亿 become 350000000000. With `canonical`
+ * figures are rewritten in ASCII, without commas and leading zeros. All else of the text stays.
+ * Throws a TypeError as `findQuantities` does.
  *
  * @param {string} string
- * @param {ReplaceOptions} options
+ * @param {FiguresOptions} options
  * @returns {string}
  */
 export function quantitiesToFigures(string, options = NO_OPTIONS) {
-  refuseOthers(options, HAS.replacing);
+  refuseOthers(options, HAS.figures);
   const upper = flagOf(options.upper, 'upper'), greatest = codeOf(UNIT, options.greatest);
-  const method = methodOf(options), included = includedOf(options);
-  // Figures seldom have more bytes than what they stand for. Where they do, the call says how many.
+  const method = methodOf(options), bits = includedOf(options) + styleOf(options);
+  // Figures seldom have more bytes than what they replace. Where they do, the call says how many.
   let room = 3 * string.length + Number(MOST_FIGURES_BYTES), length, status;
   do {
     hand(string, room);
     length = words[LENGTH_WORD];
     status = ended(library.chinese_quantities_to_figures(TEXT_AT, length, upper, greatest, method,
-      included, TEXT_AT + length, BigInt(room), LENGTH_AT));
+      bits, TEXT_AT + length, BigInt(room), LENGTH_AT));
     room = Number(words[LENGTH_WORD]);
   } while (status === NO_ROOM);
   return withHalves(decoded(Number(length)), string);
