@@ -1,5 +1,5 @@
 -- Worked examples of doubts. Of the characters before an expression the nearest is the first.
-use Rattle.std.proofs.Common.{◌≡◌, ℕ, Bool, true, false, List, [], ◌∷◌, codes, refl}
+use Rattle.std.proofs.Common.{◌≡◌, ℕ, Bool, true, false, List, [], codes, refl}
 use Rattle.cn_core.specs.Characters.{digit_of, rank_of}
 use Rattle.cn_core.specs.Figures.{tens_of}
 use Rattle.cn_find.specs.Doubt.{is_doubtful_list, is_part, is_term, is_time}

@@ -1,5 +1,5 @@
 -- A text that is put in chains.
-use Rattle.std.proofs.Common.{◌≡◌, ℕ, ◌+◌, ◌-◌, ◌≤◌, nat_le, Bool, true, false, ◌&&◌, ◌||◌, List, [], ◌∷◌, ◌++◌, length, take, drop, chars, reverse, IsUtf8, Option, Some, None, unwrap_or, if◌then◌else◌, refl, sym, ap, subst, ◌∙◌, arith, append_assoc, length-append}
+use Rattle.std.proofs.Common.{◌≡◌, ℕ, ◌-◌, ◌≤◌, nat_le, Bool, true, false, ◌&&◌, ◌||◌, List, [], ◌∷◌, ◌++◌, length, take, drop, chars, reverse, IsUtf8, Option, Some, None, unwrap_or, refl, sym, ap, subst, ◌∙◌, arith, append_assoc, length-append}
 use Rattle.std.specs.List.{Contains}
 use Rattle.std.specs.Str.{IsCharBoundary}
 use Rattle.std.proofs.lemmas.Bool.Decides.{nat_tests}
@@ -12,8 +12,8 @@ use Rattle.cn_find.specs.Runs.{is_rising}
 use Rattle.cn_find.specs.Spans.{Span, expressions, expressions_left, in_front, spans_after}
 use Rattle.cn_find.proofs.GoingOn.{search-goes_on}
 use Rattle.cn_find.proofs.RunLaws.{spans-rise}
-use Rattle.cn_replace.specs.Chains.{goes_on, held_on, in_chains, in_chains_from, is_held, is_joined_to_next, text_unless}
-use Rattle.cn_replace.specs.Joined.{are_joined, end_of, is_joined_at}
+use Rattle.cn_replace.specs.Chains.{held_on, in_chains, in_chains_from, is_held, is_joined_to_next, text_unless}
+use Rattle.cn_replace.specs.Joined.{end_of, is_joined_at}
 use Rattle.cn_replace.specs.Private.{IsFoundIn}
 use Rattle.cn_replace.proofs.Replacing.{boundary-front, parts-of}
 

@@ -1,5 +1,5 @@
 -- Worked examples of the definitions.
-use Rattle.std.proofs.Common.{◌≡◌, true, false, [], ◌∷◌, codes, encode_utf8_all, refl}
+use Rattle.std.proofs.Common.{◌≡◌, true, false, [], codes, refl}
 use Rattle.std.specs.Char.{encode_utf8}
 use Rattle.cn_core.specs.Characters.{digit_of, rank_of}
 use Rattle.cn_find.specs.Expressions.{is_han}

@@ -1,5 +1,5 @@
 -- A measure after a number.
-use Rattle.std.proofs.Common.{◌≡◌, ℕ, Bool, true, false, not, ◌&&◌, List, chars, encode_utf8_all, IsUtf8, refl, sym, ap, ◌∙◌}
+use Rattle.std.proofs.Common.{◌≡◌, ℕ, Bool, not, ◌&&◌, List, chars, encode_utf8_all, IsUtf8, sym, ap, ◌∙◌}
 use Rattle.std.specs.Char.{is_ascii_alphabetic}
 use Rattle.std.proofs.lemmas.Str.{encodes-chars}
 use Rattle.cn_replace.specs.Clings.{begins_measure, is_word_of, measures}

@@ -1,6 +1,5 @@
 -- What stays.
-use Rattle.std.proofs.Common.{◌≡◌, ℕ, Bool, true, false, ◌||◌, List, [], chars, Option, None, if◌then◌else◌, refl, sym, ap, ◌∙◌}
-use Rattle.std.specs.List.{list_any}
+use Rattle.std.proofs.Common.{◌≡◌, ℕ, Bool, true, false, List, [], chars, Option, None, if◌then◌else◌, refl, ap}
 use Rattle.cn_core.specs.declared.method.ChineseCountMethod.{ChineseCountMethod}
 use Rattle.cn_find.specs.declared.wanted.Wanted.{Wanted}
 use Rattle.cn_find.specs.Spans.{Span, expressions}
@@ -9,7 +8,7 @@ use Rattle.cn_replace.specs.declared.options.Included.{Included}
 use Rattle.cn_replace.specs.declared.options.Style.TheVariants.{Kept}
 use Rattle.cn_replace.specs.Canonical.{are_figures}
 use Rattle.cn_replace.specs.Chains.{in_chains_from}
-use Rattle.cn_replace.specs.InFigures.{figures_for, holds_others, in_figures, is_again, is_in_figures, may_change, styled_text, written_text}
+use Rattle.cn_replace.specs.InFigures.{figures_for, holds_others, in_figures, is_in_figures, may_change, styled_text, written_text}
 
 pub none-found : (method : ChineseCountMethod) (options : Figures) (wanted : Wanted)
     (bytes : List ℕ) → expressions wanted bytes ≡ [] → in_figures method options wanted bytes ≡ bytes

@@ -1,5 +1,5 @@
 -- The new text of an expression in the kept style: its bytes, if it has one.
-use Rattle.std.specs.Prelude.{ℕ, ℤ, Bool, false, ◌&&◌, List, [], ◌∷◌, ◌++◌, reverse, codes, encode_utf8_all, int_lt, pos, Option, Some, None, Result, Ok, Err, if◌then◌else◌}
+use Rattle.std.specs.Prelude.{ℕ, Bool, false, ◌&&◌, List, [], ◌∷◌, reverse, codes, encode_utf8_all, int_lt, pos, Option, Some, None, Result, Ok, Err, if◌then◌else◌}
 use Rattle.std.specs.Char.{char_set_contains, encode_utf8}
 use Rattle.std.specs.List.{list_all}
 use Rattle.cn_core.specs.declared.method.ChineseCountMethod.{ChineseCountMethod}
