@@ -568,14 +568,15 @@ def is_other_word(line: Line, i: int) -> bool:
     """A numeral character that belongs to another word than a number."""
     c, after = line.at(i), line.at(i + 1)
     if c in "两兩" and line.is_numeric(i - 1):
-        return not (rank_of(after) == 0 or rank_of(after) >= 2)
+        return not (line.is_wanted(i + 1) and (rank_of(after) == 0 or rank_of(after) >= 2))
     if c in "个個" and after in "万萬":
         return not (line.is_numeric(i - 1) and not is_han(line.at(i + 2)))
     if c in "千仟" and after in "瓦克米卡赫伏安焦帕":
         j = i
         while is_any_digit(line.at(j - 1)):
             j -= 1
-        return line.at(i - 1) in RANKS or (j < i and line.at(j - 1) in ".．点點")
+        is_power = line.is_wanted(i - 1) and rank_of(line.at(i - 1)) >= 1
+        return is_power or (j < i and line.at(j - 1) in ".．点點")
     return False
 
 
@@ -583,7 +584,7 @@ def begins_time_or_word(line: Line, i: int) -> bool:
     """The digit at i, after 点, begins a time or a word."""
     if line.at(i + 1) in "分刻十点點":
         return True
-    if line.at(i) in "零〇" and line.at(i + 1) in DIGITS and line.at(i + 2) in "分刻十点點":
+    if line.at(i) in "零〇" and is_any_digit(line.at(i + 1)) and line.at(i + 2) in "分刻十点點":
         return True
     return line.at(i) == "一" and line.at(i + 1) in "定直起样樣些下切滴线線"
 
@@ -705,6 +706,8 @@ def is_part(line: Line, start: int, end: int) -> bool:
 def is_word(line: Line, start: int, end: int) -> bool:
     text = line.text.translate(SIMPLE)
     head, tail = text[:start], text[end:]
+    if re.search("亿萬|億万", line.text[start:end]):
+        return False
     if head.endswith(("正月", "腊月")):
         return True
     return any(
@@ -735,7 +738,7 @@ def is_term(line: Line, start: int, end: int) -> bool:
         return True
     if after in "进進" and line.at(end + 1) in "制位":
         return True
-    return after in "届屆" and line.at(end + 1) in DIGITS and line.at(end + 2) == "中"
+    return after in "届屆" and is_chinese_digit(line.at(end + 1)) and line.at(end + 2) == "中"
 
 
 def is_time(line: Line, start: int, end: int) -> bool:
@@ -751,9 +754,8 @@ def is_time(line: Line, start: int, end: int) -> bool:
 
 
 def whole_part(q: Quantity) -> int:
-    """A quantity without what is behind its point."""
-    whole = abs(q.numerator) // q.denominator
-    return -whole if q.numerator < 0 else whole
+    """A quantity without its sign and what is behind its point."""
+    return abs(q.numerator) // q.denominator
 
 
 def share(first: str, second: str) -> bool:
@@ -783,7 +785,8 @@ def are_range(first: str, link: str, second: str) -> bool:
 
 def is_range(line: Line, start: int, end: int) -> bool:
     def is_of_end(i: int) -> bool:
-        return line.is_numeric(i) or line.at(i) in "点點.．分之%％‰"
+        c = line.at(i)
+        return is_any_digit(c) or rank_of(c) >= 1 or c in "廿卅点點.．分之%％"
 
     text, left, right = line.text, start - 1, end + 1
     while is_of_end(left - 1):
@@ -808,7 +811,7 @@ def doubt_of(line: Line, start: int, end: int) -> Optional[str]:
 
 # ---- Expressions replaced: the new text ------------------------------------------------------
 
-FIGURES_ALONE = re.compile(f"([-−－负負]?)({_F}[0-9０-９,，]*)(?:[.．]({_F}+))?")
+FIGURES_ALONE = re.compile(f"([-−－]?)({_F}[0-9０-９,，]*)(?:[.．]({_F}+))?")
 
 
 def kept_text(text: str) -> Optional[str]:
@@ -930,7 +933,7 @@ def are_joined(line: Line, first: Found, second: Found) -> bool:
         return False
     if second.text == "一" and is_han(after) and after not in CHARACTERS_ABOVE and after != "的":
         return False
-    return between in CALENDAR or not (len(second.text) == 1 and after in COUNTED)
+    return between in CALENDAR or not (second.is_one_character and after in COUNTED)
 
 
 def has_figure(text: str) -> bool:
