@@ -635,7 +635,7 @@ def joins(line: Line, i: int) -> bool:
             return False
         if after == "一" and not (line.is_numeric(i + 2) or line.at(i + 2) in "度点點摄攝℃"):
             return False
-        return is_any_digit(after) or rank_of(after) == 1
+        return is_figure(after) or (line.is_wanted(i + 1) and (after in DIGITS or after == "十"))
     if c in "负負":
         if line.is_numeric(i - 1) or before in "正非背揹肩担擔抱胜勝辜欺自不":
             return False
@@ -691,6 +691,7 @@ SIMPLE = str.maketrans("腸黨羅漢層長黃計變華個雙萬億臘", "肠党�
 HALVED = "个個倍天岁歲里年月日号號點点时時分秒刻元圆圓块塊角毛度米斤两兩"
 LINKS = "到至~～－–—〜-"
 CHINESE_DIGITS = re.compile(f"{_D}+")
+HOUR = re.compile("[一二两兩三四五六七八九]|十[一二两兩三四五六七八九]?|[二两兩]十|二十[一二三四]")
 TIME = re.compile(f"([^点點]{{1,3}})[点點]([零〇]?)({_D})")
 
 
@@ -733,8 +734,7 @@ def is_term(line: Line, start: int, end: int) -> bool:
     text, after = line.text[start:end], line.at(end)
     if text[0] in "负負" and after in "项項楼樓层層":
         return True
-    decimal = chinese_decimal(signed(text_of(text))[1], TEN_THOUSAND)
-    if decimal is not None and after in "划劃线線":
+    if re.search("[点點]", text) and after in "划劃线線":
         return True
     if after in "进進" and line.at(end + 1) in "制位":
         return True
@@ -745,8 +745,7 @@ def is_time(line: Line, start: int, end: int) -> bool:
     found = TIME.fullmatch(line.text[start:end])
     if found is None or DIGITS[found.group(3)] == 0:
         return False
-    hour = whole_number(found.group(1))
-    if hour is None or not 1 <= hour <= 24:
+    if not HOUR.fullmatch(found.group(1)):
         return False
     if found.group(2) and line.at(end) not in "元米度倍吨噸克升":
         return True
@@ -823,7 +822,8 @@ def kept_text(text: str) -> Optional[str]:
     if "分之" in text:  # 2
         below, _, above = text.partition("分之")
         minus = "-" if above[0] in MINUS else ""
-        numerator, denominator = kept_part(above[len(minus) :]), kept_part(below)
+        numerator = kept_text(above[1:]) if minus else kept_part(above)
+        denominator = kept_part(below)
         if numerator is None or denominator is None:
             return None
         is_percentage = part(text_of(below), TEN_THOUSAND) == (100, 1)
@@ -850,8 +850,7 @@ def kept_text(text: str) -> Optional[str]:
             value = whole_number(text_of(before))
             return None if value is None else f"{value}.{DIGITS[text[-1]]}{text[-2]}"
     answer = quantity(text)  # 8
-    assert answer is not None, text
-    return figures_text(answer)
+    return answer and figures_text(answer)
 
 
 def kept_part(text: str) -> Optional[str]:
@@ -875,7 +874,7 @@ def sections(numeral: str) -> List[str]:
 def kept_section(section: str) -> Optional[str]:
     """Its 零〇 at the start, a whole number in figures, and the units at its end as they are."""
     start, end = len(section) - len(section.lstrip("零〇")), len(section) - 1
-    while rank_of(section[end - 1]) >= 4:
+    while end > 0 and rank_of(section[end - 1]) >= 4:
         end -= 1
     while any(rank_of(c) >= rank_of(section[end]) for c in section[:end]):
         end += 1
