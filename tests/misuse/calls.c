@@ -591,6 +591,11 @@ static int is_right_place(const question *it, answer said) {
         && characters == said.char_index;
 }
 
+/* A number has no doubt. */
+static uint64_t greatest_doubt(const call *by) {
+    return by->ask == quantity_find ? CN_DOUBT_RANGE : CN_NO_DOUBT;
+}
+
 /* Whether an answer to UTF-8 has what its status has, and nothing else. */
 static int is_whole(const call *by, const question *it, answer said) {
     answer nothing = {said.status, {0}, 0, 0};
@@ -605,7 +610,7 @@ static int is_whole(const call *by, const question *it, answer said) {
         return is_same(said, nothing);
     if (by->statuses == FIND)
         return said.values[0] < said.values[1] && is_boundary(it, said.values[0])
-            && is_boundary(it, said.values[1]) && said.values[2] < 16;
+            && is_boundary(it, said.values[1]) && said.values[2] / 16 <= greatest_doubt(by);
     return said.char_index == 0 && said.byte_index == 0;
 }
 
