@@ -45,8 +45,8 @@ function numeralsOf(quantity) {
     inEachScript((script) => textOf({ script, case: it }), `_${it}`));
 }
 
-// What may end a number that is not read as it stands, as 1,4 and 三点 and 三分.
-const ENDS = ['0', '00', '000', '一', '之一', '分之一'];
+// What may complete a number that is not read as it is, as 1,4 and 三点, 三分 and 一亿二千.
+const ENDS = ['0', '00', '000', '一', '之一', '分之一', '万', '十万', '百万', '一万'];
 
 const IN_FIGURES = {
   read: (text) => toQuantity(text).trimmed(),
