@@ -286,7 +286,7 @@ def by_turns(text: str, exponents: Exponents) -> Optional[Ratio]:
                 return None
             if (units or zero) and FIGURES[figures[0]] == "0":
                 return None
-            if units and not zero and rank_of(units[-1]) < 4 and rank_of(units_before[-1]) >= 5:
+            if units and not zero and product < 10**4 and product_before >= 10**8:
                 return None
             if not units and not zero and len(figures) != len(str(product_before)) - 1:
                 if len(figures) != 1 or value == 0 or len(units_before) != 1:
@@ -628,7 +628,8 @@ def joins(line: Line, i: int) -> bool:
         j = i + 1
         while line.is_numeric(j):
             j += 1
-        fraction_follows = line.text.startswith("分之", j) and line.is_numeric(j + 2)
+        sign = line.at(j + 2) in MINUS and line.is_numeric(j + 3)
+        fraction_follows = line.text.startswith("分之", j) and (line.is_numeric(j + 2) or sign)
         return line.is_numeric(i - 1) and j > i + 1 and fraction_follows
     if c == "下":
         if before != "零" or line.is_numeric(i - 2):

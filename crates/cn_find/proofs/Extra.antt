@@ -1,11 +1,13 @@
 -- The characters that belong to expressions alone.
-use Rattle.std.proofs.Common.{◌≡◌, ℕ, Bool, true, false, not, ◌&&◌, ◌||◌, if◌then◌else◌, List, [], ◌∷◌, ◌++◌, reverse, chars, codes, encode_utf8_all, refl, sym, ap, ◌∙◌}
+use Rattle.std.proofs.Common.{◌≡◌, ℕ, Bool, true, false, not, ◌&&◌, ◌||◌, if◌then◌else◌, List, [], ◌∷◌, ◌++◌, reverse, chars, codes, encode_utf8_all, refl, sym, ap, ◌∙◌, Option, Some, None, is_some}
 use Rattle.std.specs.Char.{char_set_contains, is_ascii_digit}
 use Rattle.std.specs.List.{list_all}
 use Rattle.std.proofs.lemmas.Bool.{not-true}
 use Rattle.std.proofs.Math.Bool.{and-false, and-true, or-false}
 use Rattle.cn_core.proofs.Fronts.{and-left, and-right}
+use Rattle.cn_core.specs.Characters.{digit_of, rank_of}
 use Rattle.cn_core.specs.Figures.{is_figure, is_wide_figure}
+use Rattle.cn_core.specs.Mark.{mark_from, mark_of, other}
 use Rattle.cn_find.specs.declared.wanted.Wanted.{Wanted}
 use Rattle.cn_find.specs.Belongs.{belongs, is_chinese_digit, is_parted}
 use Rattle.cn_find.specs.Expressions.{expression_rule, is_extra, is_item, is_kilo, is_numeric, is_other_word, is_tens, is_weight, is_word_digit, joins, parts_expressions}
@@ -66,6 +68,40 @@ usual-word wanted front c after e = rw (
   no-joiner (codes "个個") c refl e,
   no-joiner (codes "千仟") c refl e,
 )
+
+-- a character with no mark is of no such word, and no numeral character but 廿, 卅 or a full-width figure
+abbrev has_mark : ℕ → Bool
+has_mark c = is_some (digit_of c) || is_some (rank_of c)
+
+no-mark : (c : ℕ) → mark_of c ≡ other → has_mark c ≡ false
+no-mark c e = by (digit_of c) (rank_of c) e where
+  by : (d r : Option ℕ) → mark_from d r ≡ other → (is_some d || is_some r) ≡ false
+  by (Some value) r e = cc
+  by None (Some rank) e = cc
+  by None None e = refl
+
+unmarked-word : (wanted : Wanted) (front : List ℕ) (c : ℕ) (after : List ℕ) → mark_of c ≡ other
+    → is_other_word wanted front c after ≡ false
+unfolding is_weight is_item is_kilo digit_of rank_of
+unmarked-word wanted front c after e = rw (
+  outside has_mark (codes "两兩") c refl (no-mark c e),
+  outside has_mark (codes "个個") c refl (no-mark c e),
+  outside has_mark (codes "千仟") c refl (no-mark c e),
+)
+
+unmarked-belongs : (wanted : Wanted) (c : ℕ) (after : List ℕ) → mark_of c ≡ other
+    → belongs wanted c after ≡ false
+unfolding belongs
+unmarked-belongs wanted c after e = rw e
+
+pub unmarked : (wanted : Wanted) (front : List ℕ) (c : ℕ) (after : List ℕ) → mark_of c ≡ other
+    → (is_numeric wanted c after && not (is_other_word wanted front c after))
+    ≡ (is_tens c || is_wide_figure c)
+unfolding is_numeric
+unmarked wanted front c after e =
+    ap (λ b. is_numeric wanted c after && not b) (unmarked-word wanted front c after e)
+    ∙ and-true (is_numeric wanted c after)
+    ∙ ap (λ b. b || (is_tens c || is_wide_figure c)) (unmarked-belongs wanted c after e)
 
 pub usual-numeric : (wanted : Wanted) (c : ℕ) (after : List ℕ) → is_extra c ≡ false
     → is_numeric wanted c after ≡ belongs wanted c after

@@ -78,8 +78,10 @@ ends_word front text =
     || ((begins_with (codes "年") front && is_exactly (codes "三十") text)
     || begins_with_two (codes "月") (codes "正腊臘") front)
 
+-- one of those words begins with the number
+abbrev pub begins_word : List ℕ → List ℕ → Bool
+begins_word text after = is_named_group text after || (is_title text after || is_saying text after)
+
 -- the number with these neighbours is a word
 abbrev pub is_of_word : List ℕ → List ℕ → List ℕ → Bool
-is_of_word front text after =
-    ends_word front text
-    || (is_named_group text after || (is_title text after || is_saying text after))
+is_of_word front text after = ends_word front text || begins_word text after

@@ -132,13 +132,20 @@ fn begins_plenum(after: &str) -> bool
     matches!(c, '届' | '屆') && is_chinese_digit(d) && begins_with(&['中'], others)
 }
 
+// Which doubts the character after an expression can raise: it is decoded once.
 fn is_term(text: &str, after: &str) -> bool
     ensures { result ≡ is_term (chars text.now) (chars after.now) }
 {
-    (begins_with(&['负', '負'], text) && begins_with(&['项', '項', '楼', '樓', '层', '層'], after))
-        || (has_point(text) && begins_with(&['划', '劃', '线', '線'], after))
-        || begins_with_two(&['进', '進'], &['制', '位'], after)
-        || begins_plenum(after)
+    let Some((c, others)) = split_first_char(after) else {
+        return false;
+    };
+    match c {
+        '项' | '項' | '楼' | '樓' | '层' | '層' => begins_with(&['负', '負'], text),
+        '划' | '劃' | '线' | '線' => has_point(text),
+        '进' | '進' => begins_with(&['制', '位'], others),
+        '届' | '屆' => begins_plenum(after),
+        _ => false,
+    }
 }
 
 // What 半 follows in 两倍半, 一米半 and the like.
@@ -150,9 +157,14 @@ const BEFORE_HALF: &[char] = &[
 fn is_part(text: &str, after: &str) -> bool
     ensures { result ≡ is_part (chars text.now) (chars after.now) }
 {
-    begins_without(&['折'], &['算', '合', '旧', '舊', '叠', '疊', '磨', '返'], after)
-        || (begins_with(&['成'], after) && are_chinese_digits(text) && has_at_most(2, text))
-        || begins_with_two(BEFORE_HALF, &['半'], after)
+    let Some((c, others)) = split_first_char(after) else {
+        return false;
+    };
+    match c {
+        '折' => !begins_with(&['算', '合', '旧', '舊', '叠', '疊', '磨', '返'], others),
+        '成' => are_chinese_digits(text) && has_at_most(2, text),
+        _ => begins_with_two(BEFORE_HALF, &['半'], after),
+    }
 }
 
 // Whether a character is a digit from 1 to 9, and no figure.
@@ -227,7 +239,10 @@ fn ends_part_of_day(before: &str) -> bool
 fn is_time(before: &str, text: &str, after: &str) -> bool
     ensures { result ≡ is_time (in_front before.now) (chars text.now) (chars after.now) }
 {
-    (is_clock(text) && ends_part_of_day(before))
+    if !is_clock(text) {
+        return false;
+    }
+    ends_part_of_day(before)
         || (is_clock_with_zero(text)
             && !begins_with(&['元', '米', '度', '倍', '吨', '噸', '克', '升'], after))
 }

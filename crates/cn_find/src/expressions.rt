@@ -1,5 +1,5 @@
 // Whether a character of a text is one of an expression.
-ghost use Rattle.std.specs.Prelude.{◌≡◌, ◌<◌, ◌||◌, ◌∷◌, [], codes, chars, length, IfSome, MatchOption};
+ghost use Rattle.std.specs.Prelude.{◌≡◌, ◌<◌, ◌||◌, ◌∷◌, [], codes, chars, length, IfSome, MatchOption, ◌&&◌, not};
 ghost use Rattle.std.specs.Char.{char_set_contains};
 ghost use Rattle.cn_core.specs.Figures.{is_figure, is_wide_figure};
 ghost use Rattle.cn_core.specs.Mark.{mark_of};
@@ -638,6 +638,21 @@ fn is_extra(c: char) -> bool
         )
 }
 
+// Whether a character with its mark is a numeral character, and belongs to no other word.
+#[inline(always)]
+#[tactic(auto, using(crate::proofs::Extra::unmarked))]
+fn is_numeral_here(wanted: Wanted, before: &str, c: char, mark: Mark, after: &str) -> bool
+    requires { marked mark ≡ mark_of c }
+    ensures { result ≡ (is_numeric wanted c (chars after.now)
+        && not (is_other_word wanted (in_front before.now) c (chars after.now))) }
+{
+    match mark {
+        // Most of the characters that are asked are points, commas and blanks.
+        Mark::Other => is_extra_numeral(c),
+        _ => is_numeric(wanted, c, mark, after) && !is_other_word(wanted, before, c, after),
+    }
+}
+
 /// Whether a character with its mark is one of an expression.
 #[inline(always)]
 pub fn is_of_expression(wanted: Wanted, before: &str, c: char, mark: Mark, after: &str) -> bool
@@ -645,8 +660,7 @@ pub fn is_of_expression(wanted: Wanted, before: &str, c: char, mark: Mark, after
     ensures { result ≡ (expression_rule wanted).belongs (in_front before.now) c (chars after.now) }
 {
     if is_extra(c) {
-        (is_numeric(wanted, c, mark, after) && !is_other_word(wanted, before, c, after))
-            || joins(wanted, before, c, after)
+        is_numeral_here(wanted, before, c, mark, after) || joins(wanted, before, c, after)
     } else {
         belongs(wanted, c, mark, after)
     }

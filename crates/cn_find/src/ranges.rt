@@ -188,13 +188,20 @@ fn are_ends(c: char, low: &str, high: &str) -> bool
     (is_range_link(c) || (c == '、' && precedes(low, high))) && shares(low, high)
 }
 
+// Whether a character may part the ends of a range: most do not, and no amount is sought beyond them.
+fn may_part(c: char) -> bool
+    ensures { result ≡ (is_range_link c || char_set_contains (codes "、") c) }
+{
+    is_range_link(c) || c == '、'
+}
+
 fn is_first_end(text: &str, after: &str) -> bool
     ensures { result ≡ is_first_end text.now (chars after.now) }
 {
     let Some((c, others)) = split_first_char(after) else {
         return false;
     };
-    are_ends(c, text, first_amount(others))
+    may_part(c) && are_ends(c, text, first_amount(others))
 }
 
 fn is_second_end(text: &str, before: &str) -> bool
@@ -203,7 +210,7 @@ fn is_second_end(text: &str, before: &str) -> bool
     let Some((c, front)) = split_nearest(before) else {
         return false;
     };
-    are_ends(c, last_amount(front), text)
+    may_part(c) && are_ends(c, last_amount(front), text)
 }
 
 /// Whether the text is an end of a range whose ends share a unit or 百分之, between these texts.

@@ -3,7 +3,8 @@ ghost use Rattle.std.specs.Prelude.{◌≡◌, ◌||◌, codes, chars};
 ghost use Rattle.std.specs.Char.{char_set_contains};
 ghost use Rattle.cn_find.specs.Belongs.{begins_with};
 ghost use Rattle.cn_find.specs.Spans.{in_front};
-ghost use Rattle.cn_find.specs.Words.{begins_with_two, ends_word, is_exactly, is_named_group, is_of_word, is_saying, is_saying_of_tens, is_title, is_word_by_itself};
+ghost use Rattle.cn_find.specs.Private.{may_begin_word};
+ghost use Rattle.cn_find.specs.Words.{begins_with_two, begins_word, ends_word, is_exactly, is_named_group, is_of_word, is_saying, is_saying_of_tens, is_title, is_word_by_itself};
 
 use crate::expressions::split_nearest;
 use cn_core::split_first_char;
@@ -43,7 +44,7 @@ pub fn begins_with_two(first: &[char], second: &[char], text: &str) -> bool
     ensures { result ≡ begins_with_two first.now second.now (chars text.now) }
 {
     match split_first_char(text) {
-        Some((c, others)) => is_one_of(first, c) && begins_with(second, others),
+        Some((c, others)) => begins_with(second, others) && is_one_of(first, c),
         None => false,
     }
 }
@@ -140,18 +141,40 @@ fn is_saying(text: &str, after: &str) -> bool
 fn ends_word(before: &str, text: &str) -> bool
     ensures { result ≡ ends_word (in_front before.now) (chars text.now) }
 {
-    (ends_with(&['双', '雙'], before)
-        && (is_exactly(&['十', '一'], text) || is_exactly(&['十', '二'], text)))
-        || (ends_with(&['年'], before) && is_exactly(&['三', '十'], text))
-        || ends_with_two(&['月'], &['正', '腊', '臘'], before)
+    let Some((c, front)) = split_nearest(before) else {
+        return false;
+    };
+    match c {
+        '双' | '雙' => is_exactly(&['十', '一'], text) || is_exactly(&['十', '二'], text),
+        '年' => is_exactly(&['三', '十'], text),
+        '月' => ends_with(&['正', '腊', '臘'], front),
+        _ => false,
+    }
+}
+
+fn begins_word(text: &str, after: &str) -> bool
+    ensures { result ≡ begins_word (chars text.now) (chars after.now) }
+{
+    is_named_group(text, after) || is_title(text, after) || is_saying(text, after)
+}
+
+// Whether the first two characters are those of some word: most numbers in a text have no such two.
+fn may_begin_word(text: &str) -> bool
+    ensures { result ≡ may_begin_word (chars text.now) }
+{
+    begins_with_two(
+        &['十', '二', '三', '七', '一', '四', '五', '亿', '億'],
+        &[
+            '十', '百', '千', '万', '萬', '一', '二', '三', '四', '五', '六', '八', '九',
+        ],
+        text,
+    )
 }
 
 /// Whether a number with these neighbours is a word: 十二 of 十二指肠 is, and 十一 of 双十一.
+#[tactic(auto, using(crate::proofs::WordStarts::begins_none))]
 pub fn is_of_word(before: &str, text: &str, after: &str) -> bool
     ensures { result ≡ is_of_word (in_front before.now) (chars text.now) (chars after.now) }
 {
-    ends_word(before, text)
-        || is_named_group(text, after)
-        || is_title(text, after)
-        || is_saying(text, after)
+    ends_word(before, text) || (may_begin_word(text) && begins_word(text, after))
 }
