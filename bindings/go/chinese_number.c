@@ -324,10 +324,7 @@ static const u8 constants[] = {
   0x00, 0x08, 0x00, 0x00, 0xe7, 0x84, 0xa1, 0x00, 0x02, 0x00, 0x00, 0x00,
   0xe7, 0x84, 0xa1, 0x00, 0x02, 0x00, 0x00, 0x00, 0xe8, 0xbc, 0x89, 0x00,
   0x01, 0x0e, 0x00, 0x00, 0xe5, 0x9b, 0x9b, 0x00, 0x00, 0x04, 0x00, 0x00,
-  0xe7, 0x84, 0xa1, 0x00, 0x02, 0x00, 0x00, 0x00, 0x98, 0x62, 0x00, 0x00,
-  0x97, 0x7b, 0x00, 0x00, 0x08, 0x54, 0x00, 0x00, 0xe7, 0x65, 0x00, 0x00,
-  0x0a, 0x82, 0x00, 0x00, 0xe0, 0x53, 0x00, 0x00, 0x8a, 0x75, 0x00, 0x00,
-  0xe8, 0x78, 0x00, 0x00, 0xd4, 0x8f, 0x00, 0x00, 0x2a, 0x4e, 0x00, 0x00,
+  0xe7, 0x84, 0xa1, 0x00, 0x02, 0x00, 0x00, 0x00, 0x2a, 0x4e, 0x00, 0x00,
   0x0b, 0x50, 0x00, 0x00, 0x0d, 0x50, 0x00, 0x00, 0x29, 0x59, 0x00, 0x00,
   0x81, 0x5c, 0x00, 0x00, 0x72, 0x6b, 0x00, 0x00, 0xcc, 0x91, 0x00, 0x00,
   0x74, 0x5e, 0x00, 0x00, 0x08, 0x67, 0x00, 0x00, 0xe5, 0x65, 0x00, 0x00,
@@ -338,23 +335,27 @@ static const u8 constants[] = {
   0x57, 0x57, 0x00, 0x00, 0x4a, 0x58, 0x00, 0x00, 0xd2, 0x89, 0x00, 0x00,
   0xdb, 0x6b, 0x00, 0x00, 0xa6, 0x5e, 0x00, 0x00, 0x73, 0x7c, 0x00, 0x00,
   0xa4, 0x65, 0x00, 0x00, 0x24, 0x4e, 0x00, 0x00, 0x69, 0x51, 0x00, 0x00,
-  0x4a, 0x53, 0x00, 0x00, 0x74, 0x5e, 0x00, 0x00, 0x08, 0x67, 0x00, 0x00,
-  0x63, 0x6b, 0x00, 0x00, 0x4a, 0x81, 0x00, 0x00, 0xd8, 0x81, 0x00, 0x00,
-  0x07, 0x63, 0x00, 0x00, 0xa0, 0x80, 0x00, 0x00, 0x78, 0x81, 0x00, 0x00,
-  0x1f, 0x75, 0x00, 0x00, 0x96, 0x80, 0x00, 0x00, 0x5a, 0x51, 0x00, 0x00,
+  0x4a, 0x53, 0x00, 0x00, 0x41, 0x53, 0x00, 0x00, 0x8c, 0x4e, 0x00, 0x00,
+  0x09, 0x4e, 0x00, 0x00, 0x03, 0x4e, 0x00, 0x00, 0x00, 0x4e, 0x00, 0x00,
+  0xdb, 0x56, 0x00, 0x00, 0x94, 0x4e, 0x00, 0x00, 0xbf, 0x4e, 0x00, 0x00,
+  0x04, 0x51, 0x00, 0x00, 0x41, 0x53, 0x00, 0x00, 0x7e, 0x76, 0x00, 0x00,
+  0x43, 0x53, 0x00, 0x00, 0x07, 0x4e, 0x00, 0x00, 0x2c, 0x84, 0x00, 0x00,
+  0x00, 0x4e, 0x00, 0x00, 0x8c, 0x4e, 0x00, 0x00, 0x09, 0x4e, 0x00, 0x00,
+  0xdb, 0x56, 0x00, 0x00, 0x94, 0x4e, 0x00, 0x00, 0x6d, 0x51, 0x00, 0x00,
+  0x6b, 0x51, 0x00, 0x00, 0x5d, 0x4e, 0x00, 0x00, 0x07, 0x63, 0x00, 0x00,
+  0xa0, 0x80, 0x00, 0x00, 0x78, 0x81, 0x00, 0x00, 0x1f, 0x75, 0x00, 0x00,
+  0x96, 0x80, 0x00, 0x00, 0x08, 0x67, 0x00, 0x00, 0x5a, 0x51, 0x00, 0x00,
   0xe8, 0x9e, 0x00, 0x00, 0x57, 0x7f, 0x00, 0x00, 0x85, 0x7f, 0x00, 0x00,
   0x49, 0x6c, 0x00, 0x00, 0x22, 0x6f, 0x00, 0x00, 0x42, 0x5c, 0x00, 0x00,
   0x64, 0x5c, 0x00, 0x00, 0x30, 0x57, 0x00, 0x00, 0x47, 0x50, 0x00, 0x00,
   0x1f, 0x67, 0x00, 0x00, 0x7f, 0x95, 0x00, 0x00, 0x77, 0x95, 0x00, 0x00,
   0xc4, 0x9e, 0x00, 0x00, 0xc3, 0x9e, 0x00, 0x00, 0xd1, 0x91, 0x00, 0x00,
-  0x4e, 0x53, 0x00, 0x00, 0xef, 0x83, 0x00, 0x00, 0x6b, 0x70, 0x00, 0x00,
-  0x25, 0x60, 0x00, 0x00, 0x0c, 0x80, 0x00, 0x00, 0xcb, 0x7a, 0x00, 0x00,
-  0xb3, 0x6c, 0x00, 0x00, 0x0d, 0x4e, 0x00, 0x00, 0xd1, 0x60, 0x00, 0x00,
-  0x65, 0x6b, 0x00, 0x00, 0x11, 0x7b, 0x00, 0x00, 0x2a, 0x4e, 0x00, 0x00,
-  0x0b, 0x50, 0x00, 0x00, 0x0a, 0x54, 0x00, 0x00, 0xa7, 0x7e, 0x00, 0x00,
-  0x1a, 0x7d, 0x00, 0x00, 0xdb, 0x8f, 0x00, 0x00, 0x32, 0x90, 0x00, 0x00,
-  0x36, 0x52, 0x00, 0x00, 0x4d, 0x4f, 0x00, 0x00, 0x0a, 0x4e, 0x00, 0x00,
-  0xe9, 0x65, 0x00, 0x00, 0x5a, 0x66, 0x00, 0x00, 0x00, 0x00, 0x01, 0x00,
+  0x74, 0x5e, 0x00, 0x00, 0x4e, 0x53, 0x00, 0x00, 0xef, 0x83, 0x00, 0x00,
+  0x6b, 0x70, 0x00, 0x00, 0x25, 0x60, 0x00, 0x00, 0x0c, 0x80, 0x00, 0x00,
+  0xcb, 0x7a, 0x00, 0x00, 0xb3, 0x6c, 0x00, 0x00, 0x0d, 0x4e, 0x00, 0x00,
+  0xd1, 0x60, 0x00, 0x00, 0x65, 0x6b, 0x00, 0x00, 0x11, 0x7b, 0x00, 0x00,
+  0x2a, 0x4e, 0x00, 0x00, 0x0b, 0x50, 0x00, 0x00, 0x0a, 0x54, 0x00, 0x00,
+  0xa7, 0x7e, 0x00, 0x00, 0x1a, 0x7d, 0x00, 0x00, 0x00, 0x00, 0x01, 0x00,
   0x02, 0x00, 0x03, 0x00, 0x04, 0x00, 0x05, 0x00, 0x06, 0x00, 0x07, 0x00,
   0x08, 0x00, 0x09, 0x00, 0x0a, 0x00, 0x0b, 0x00, 0x0c, 0x00, 0x0d, 0x00,
   0x0e, 0x00, 0x0f, 0x00, 0x00, 0x00, 0x01, 0x00, 0x02, 0x00, 0x03, 0x00,
@@ -366,116 +367,117 @@ static const u8 constants[] = {
   0x02, 0x00, 0x03, 0x00, 0x04, 0x00, 0x08, 0x00, 0x10, 0x00, 0x20, 0x00,
   0x40, 0x00, 0x80, 0x00, 0x00, 0x01, 0x00, 0x02, 0x00, 0x04, 0x00, 0x08,
   0x00, 0x10, 0x00, 0x20, 0x00, 0x00, 0x00, 0x00, 0x00, 0x00, 0x00, 0x00,
-  0x01, 0x00, 0x00, 0x00, 0x00, 0x00, 0x00, 0x00, 0x00, 0x00, 0x00, 0x00,
-  0x00, 0x00, 0x00, 0x00, 0x0a, 0x00, 0x00, 0x00, 0x00, 0x00, 0x00, 0x00,
-  0x00, 0x00, 0x00, 0x00, 0x00, 0x00, 0x00, 0x00, 0x64, 0x00, 0x00, 0x00,
+  0x00, 0x00, 0x00, 0x00, 0x01, 0x00, 0x00, 0x00, 0x00, 0x00, 0x00, 0x00,
+  0x00, 0x00, 0x00, 0x00, 0x00, 0x00, 0x00, 0x00, 0x0a, 0x00, 0x00, 0x00,
   0x00, 0x00, 0x00, 0x00, 0x00, 0x00, 0x00, 0x00, 0x00, 0x00, 0x00, 0x00,
-  0xe8, 0x03, 0x00, 0x00, 0x00, 0x00, 0x00, 0x00, 0x00, 0x00, 0x00, 0x00,
-  0x00, 0x00, 0x00, 0x00, 0x10, 0x27, 0x00, 0x00, 0x00, 0x00, 0x00, 0x00,
-  0x00, 0x00, 0x00, 0x00, 0x00, 0x00, 0x00, 0x00, 0xa0, 0x86, 0x01, 0x00,
+  0x64, 0x00, 0x00, 0x00, 0x00, 0x00, 0x00, 0x00, 0x00, 0x00, 0x00, 0x00,
+  0x00, 0x00, 0x00, 0x00, 0xe8, 0x03, 0x00, 0x00, 0x00, 0x00, 0x00, 0x00,
+  0x00, 0x00, 0x00, 0x00, 0x00, 0x00, 0x00, 0x00, 0x10, 0x27, 0x00, 0x00,
   0x00, 0x00, 0x00, 0x00, 0x00, 0x00, 0x00, 0x00, 0x00, 0x00, 0x00, 0x00,
-  0x40, 0x42, 0x0f, 0x00, 0x00, 0x00, 0x00, 0x00, 0x00, 0x00, 0x00, 0x00,
-  0x00, 0x00, 0x00, 0x00, 0x80, 0x96, 0x98, 0x00, 0x00, 0x00, 0x00, 0x00,
-  0x00, 0x00, 0x00, 0x00, 0x00, 0x00, 0x00, 0x00, 0x00, 0xe1, 0xf5, 0x05,
+  0xa0, 0x86, 0x01, 0x00, 0x00, 0x00, 0x00, 0x00, 0x00, 0x00, 0x00, 0x00,
+  0x00, 0x00, 0x00, 0x00, 0x40, 0x42, 0x0f, 0x00, 0x00, 0x00, 0x00, 0x00,
+  0x00, 0x00, 0x00, 0x00, 0x00, 0x00, 0x00, 0x00, 0x80, 0x96, 0x98, 0x00,
   0x00, 0x00, 0x00, 0x00, 0x00, 0x00, 0x00, 0x00, 0x00, 0x00, 0x00, 0x00,
-  0x00, 0xca, 0x9a, 0x3b, 0x00, 0x00, 0x00, 0x00, 0x00, 0x00, 0x00, 0x00,
-  0x00, 0x00, 0x00, 0x00, 0x00, 0xe4, 0x0b, 0x54, 0x02, 0x00, 0x00, 0x00,
-  0x00, 0x00, 0x00, 0x00, 0x00, 0x00, 0x00, 0x00, 0x00, 0xe8, 0x76, 0x48,
-  0x17, 0x00, 0x00, 0x00, 0x00, 0x00, 0x00, 0x00, 0x00, 0x00, 0x00, 0x00,
-  0x00, 0x10, 0xa5, 0xd4, 0xe8, 0x00, 0x00, 0x00, 0x00, 0x00, 0x00, 0x00,
-  0x00, 0x00, 0x00, 0x00, 0x00, 0xa0, 0x72, 0x4e, 0x18, 0x09, 0x00, 0x00,
-  0x00, 0x00, 0x00, 0x00, 0x00, 0x00, 0x00, 0x00, 0x00, 0x40, 0x7a, 0x10,
-  0xf3, 0x5a, 0x00, 0x00, 0x00, 0x00, 0x00, 0x00, 0x00, 0x00, 0x00, 0x00,
-  0x00, 0x80, 0xc6, 0xa4, 0x7e, 0x8d, 0x03, 0x00, 0x00, 0x00, 0x00, 0x00,
-  0x00, 0x00, 0x00, 0x00, 0x00, 0x00, 0xc1, 0x6f, 0xf2, 0x86, 0x23, 0x00,
-  0x00, 0x00, 0x00, 0x00, 0x00, 0x00, 0x00, 0x00, 0x00, 0x00, 0x8a, 0x5d,
-  0x78, 0x45, 0x63, 0x01, 0x00, 0x00, 0x00, 0x00, 0x00, 0x00, 0x00, 0x00,
-  0x00, 0x00, 0x64, 0xa7, 0xb3, 0xb6, 0xe0, 0x0d, 0x00, 0x00, 0x00, 0x00,
-  0x00, 0x00, 0x00, 0x00, 0x00, 0x00, 0xe8, 0x89, 0x04, 0x23, 0xc7, 0x8a,
-  0x00, 0x00, 0x00, 0x00, 0x00, 0x00, 0x00, 0x00, 0x00, 0x00, 0x10, 0x63,
-  0x2d, 0x5e, 0xc7, 0x6b, 0x05, 0x00, 0x00, 0x00, 0x00, 0x00, 0x00, 0x00,
-  0x00, 0x00, 0xa0, 0xde, 0xc5, 0xad, 0xc9, 0x35, 0x36, 0x00, 0x00, 0x00,
-  0x00, 0x00, 0x00, 0x00, 0x00, 0x00, 0x40, 0xb2, 0xba, 0xc9, 0xe0, 0x19,
-  0x1e, 0x02, 0x00, 0x00, 0x00, 0x00, 0x00, 0x00, 0x00, 0x00, 0x80, 0xf6,
-  0x4a, 0xe1, 0xc7, 0x02, 0x2d, 0x15, 0x00, 0x00, 0x00, 0x00, 0x00, 0x00,
-  0x00, 0x00, 0x00, 0xa1, 0xed, 0xcc, 0xce, 0x1b, 0xc2, 0xd3, 0x00, 0x00,
-  0x00, 0x00, 0x00, 0x00, 0x00, 0x00, 0x00, 0x4a, 0x48, 0x01, 0x14, 0x16,
-  0x95, 0x45, 0x08, 0x00, 0x00, 0x00, 0x00, 0x00, 0x00, 0x00, 0x00, 0xe4,
-  0xd2, 0x0c, 0xc8, 0xdc, 0xd2, 0xb7, 0x52, 0x00, 0x00, 0x00, 0x00, 0x00,
-  0x00, 0x00, 0x00, 0xe8, 0x3c, 0x80, 0xd0, 0x9f, 0x3c, 0x2e, 0x3b, 0x03,
-  0x00, 0x00, 0x00, 0x00, 0x00, 0x00, 0x00, 0x10, 0x61, 0x02, 0x25, 0x3e,
-  0x5e, 0xce, 0x4f, 0x20, 0x00, 0x00, 0x00, 0x00, 0x00, 0x00, 0x00, 0xa0,
-  0xca, 0x17, 0x72, 0x6d, 0xae, 0x0f, 0x1e, 0x43, 0x01, 0x00, 0x00, 0x00,
-  0x00, 0x00, 0x00, 0x40, 0xea, 0xed, 0x74, 0x46, 0xd0, 0x9c, 0x2c, 0x9f,
-  0x0c, 0x00, 0x00, 0x00, 0x00, 0x00, 0x00, 0x80, 0x26, 0x4b, 0x91, 0xc0,
-  0x22, 0x20, 0xbe, 0x37, 0x7e, 0x00, 0x00, 0x00, 0x00, 0x00, 0x00, 0x00,
-  0x81, 0xef, 0xac, 0x85, 0x5b, 0x41, 0x6d, 0x2d, 0xee, 0x04, 0x00, 0x00,
-  0x00, 0x00, 0x00, 0x00, 0x0a, 0x5b, 0xc1, 0x38, 0x93, 0x8d, 0x44, 0xc6,
-  0x4d, 0x31, 0x00, 0x00, 0x00, 0x00, 0x00, 0x00, 0x64, 0x8e, 0x8d, 0x37,
-  0xc0, 0x87, 0xad, 0xbe, 0x09, 0xed, 0x01, 0x00, 0x00, 0x00, 0x00, 0x00,
-  0xe8, 0x8f, 0x87, 0x2b, 0x82, 0x4d, 0xc7, 0x72, 0x61, 0x42, 0x13, 0x00,
-  0x00, 0x00, 0x00, 0x00, 0x10, 0x9f, 0x4b, 0xb3, 0x15, 0x07, 0xc9, 0x7b,
-  0xce, 0x97, 0xc0, 0x00, 0x00, 0x00, 0x00, 0x00, 0xa0, 0x36, 0xf4, 0x00,
-  0xd9, 0x46, 0xda, 0xd5, 0x10, 0xee, 0x85, 0x07, 0x00, 0x00, 0x00, 0x00,
-  0x40, 0x22, 0x8a, 0x09, 0x7a, 0xc4, 0x86, 0x5a, 0xa8, 0x4c, 0x3b, 0x4b,
-  0x00, 0x00, 0x01, 0x00, 0x01, 0x01, 0x01, 0x02, 0x01, 0x03, 0x00, 0x00,
-  0x00, 0x00, 0x00, 0x00, 0xff, 0x00, 0x00, 0x00, 0x00, 0x00, 0x00, 0x00,
-  0x00, 0x00, 0x00, 0x00, 0x00, 0x00, 0x00, 0x00, 0x00, 0x00, 0x00, 0x00,
-  0x00, 0x00, 0x00, 0x00, 0x00, 0x00, 0x00, 0x00, 0x00, 0x00, 0x00, 0x00,
-  0xff, 0xff, 0x00, 0x00, 0x00, 0x00, 0x00, 0x00, 0x00, 0x00, 0x00, 0x00,
-  0x00, 0x00, 0x00, 0x00, 0x00, 0x00, 0x00, 0x00, 0x00, 0x00, 0x00, 0x00,
-  0x00, 0x00, 0x00, 0x00, 0x00, 0x00, 0x00, 0x00, 0xff, 0xff, 0xff, 0xff,
+  0x00, 0xe1, 0xf5, 0x05, 0x00, 0x00, 0x00, 0x00, 0x00, 0x00, 0x00, 0x00,
+  0x00, 0x00, 0x00, 0x00, 0x00, 0xca, 0x9a, 0x3b, 0x00, 0x00, 0x00, 0x00,
+  0x00, 0x00, 0x00, 0x00, 0x00, 0x00, 0x00, 0x00, 0x00, 0xe4, 0x0b, 0x54,
+  0x02, 0x00, 0x00, 0x00, 0x00, 0x00, 0x00, 0x00, 0x00, 0x00, 0x00, 0x00,
+  0x00, 0xe8, 0x76, 0x48, 0x17, 0x00, 0x00, 0x00, 0x00, 0x00, 0x00, 0x00,
+  0x00, 0x00, 0x00, 0x00, 0x00, 0x10, 0xa5, 0xd4, 0xe8, 0x00, 0x00, 0x00,
+  0x00, 0x00, 0x00, 0x00, 0x00, 0x00, 0x00, 0x00, 0x00, 0xa0, 0x72, 0x4e,
+  0x18, 0x09, 0x00, 0x00, 0x00, 0x00, 0x00, 0x00, 0x00, 0x00, 0x00, 0x00,
+  0x00, 0x40, 0x7a, 0x10, 0xf3, 0x5a, 0x00, 0x00, 0x00, 0x00, 0x00, 0x00,
+  0x00, 0x00, 0x00, 0x00, 0x00, 0x80, 0xc6, 0xa4, 0x7e, 0x8d, 0x03, 0x00,
+  0x00, 0x00, 0x00, 0x00, 0x00, 0x00, 0x00, 0x00, 0x00, 0x00, 0xc1, 0x6f,
+  0xf2, 0x86, 0x23, 0x00, 0x00, 0x00, 0x00, 0x00, 0x00, 0x00, 0x00, 0x00,
+  0x00, 0x00, 0x8a, 0x5d, 0x78, 0x45, 0x63, 0x01, 0x00, 0x00, 0x00, 0x00,
+  0x00, 0x00, 0x00, 0x00, 0x00, 0x00, 0x64, 0xa7, 0xb3, 0xb6, 0xe0, 0x0d,
+  0x00, 0x00, 0x00, 0x00, 0x00, 0x00, 0x00, 0x00, 0x00, 0x00, 0xe8, 0x89,
+  0x04, 0x23, 0xc7, 0x8a, 0x00, 0x00, 0x00, 0x00, 0x00, 0x00, 0x00, 0x00,
+  0x00, 0x00, 0x10, 0x63, 0x2d, 0x5e, 0xc7, 0x6b, 0x05, 0x00, 0x00, 0x00,
+  0x00, 0x00, 0x00, 0x00, 0x00, 0x00, 0xa0, 0xde, 0xc5, 0xad, 0xc9, 0x35,
+  0x36, 0x00, 0x00, 0x00, 0x00, 0x00, 0x00, 0x00, 0x00, 0x00, 0x40, 0xb2,
+  0xba, 0xc9, 0xe0, 0x19, 0x1e, 0x02, 0x00, 0x00, 0x00, 0x00, 0x00, 0x00,
+  0x00, 0x00, 0x80, 0xf6, 0x4a, 0xe1, 0xc7, 0x02, 0x2d, 0x15, 0x00, 0x00,
+  0x00, 0x00, 0x00, 0x00, 0x00, 0x00, 0x00, 0xa1, 0xed, 0xcc, 0xce, 0x1b,
+  0xc2, 0xd3, 0x00, 0x00, 0x00, 0x00, 0x00, 0x00, 0x00, 0x00, 0x00, 0x4a,
+  0x48, 0x01, 0x14, 0x16, 0x95, 0x45, 0x08, 0x00, 0x00, 0x00, 0x00, 0x00,
+  0x00, 0x00, 0x00, 0xe4, 0xd2, 0x0c, 0xc8, 0xdc, 0xd2, 0xb7, 0x52, 0x00,
+  0x00, 0x00, 0x00, 0x00, 0x00, 0x00, 0x00, 0xe8, 0x3c, 0x80, 0xd0, 0x9f,
+  0x3c, 0x2e, 0x3b, 0x03, 0x00, 0x00, 0x00, 0x00, 0x00, 0x00, 0x00, 0x10,
+  0x61, 0x02, 0x25, 0x3e, 0x5e, 0xce, 0x4f, 0x20, 0x00, 0x00, 0x00, 0x00,
+  0x00, 0x00, 0x00, 0xa0, 0xca, 0x17, 0x72, 0x6d, 0xae, 0x0f, 0x1e, 0x43,
+  0x01, 0x00, 0x00, 0x00, 0x00, 0x00, 0x00, 0x40, 0xea, 0xed, 0x74, 0x46,
+  0xd0, 0x9c, 0x2c, 0x9f, 0x0c, 0x00, 0x00, 0x00, 0x00, 0x00, 0x00, 0x80,
+  0x26, 0x4b, 0x91, 0xc0, 0x22, 0x20, 0xbe, 0x37, 0x7e, 0x00, 0x00, 0x00,
+  0x00, 0x00, 0x00, 0x00, 0x81, 0xef, 0xac, 0x85, 0x5b, 0x41, 0x6d, 0x2d,
+  0xee, 0x04, 0x00, 0x00, 0x00, 0x00, 0x00, 0x00, 0x0a, 0x5b, 0xc1, 0x38,
+  0x93, 0x8d, 0x44, 0xc6, 0x4d, 0x31, 0x00, 0x00, 0x00, 0x00, 0x00, 0x00,
+  0x64, 0x8e, 0x8d, 0x37, 0xc0, 0x87, 0xad, 0xbe, 0x09, 0xed, 0x01, 0x00,
+  0x00, 0x00, 0x00, 0x00, 0xe8, 0x8f, 0x87, 0x2b, 0x82, 0x4d, 0xc7, 0x72,
+  0x61, 0x42, 0x13, 0x00, 0x00, 0x00, 0x00, 0x00, 0x10, 0x9f, 0x4b, 0xb3,
+  0x15, 0x07, 0xc9, 0x7b, 0xce, 0x97, 0xc0, 0x00, 0x00, 0x00, 0x00, 0x00,
+  0xa0, 0x36, 0xf4, 0x00, 0xd9, 0x46, 0xda, 0xd5, 0x10, 0xee, 0x85, 0x07,
+  0x00, 0x00, 0x00, 0x00, 0x40, 0x22, 0x8a, 0x09, 0x7a, 0xc4, 0x86, 0x5a,
+  0xa8, 0x4c, 0x3b, 0x4b, 0x00, 0x00, 0x01, 0x00, 0x01, 0x01, 0x01, 0x02,
+  0x01, 0x03, 0x00, 0x00, 0x00, 0x00, 0x00, 0x00, 0xff, 0x00, 0x00, 0x00,
   0x00, 0x00, 0x00, 0x00, 0x00, 0x00, 0x00, 0x00, 0x00, 0x00, 0x00, 0x00,
   0x00, 0x00, 0x00, 0x00, 0x00, 0x00, 0x00, 0x00, 0x00, 0x00, 0x00, 0x00,
-  0x00, 0x00, 0x00, 0x00, 0xff, 0xff, 0xff, 0xff, 0xff, 0xff, 0xff, 0xff,
+  0x00, 0x00, 0x00, 0x00, 0xff, 0xff, 0x00, 0x00, 0x00, 0x00, 0x00, 0x00,
   0x00, 0x00, 0x00, 0x00, 0x00, 0x00, 0x00, 0x00, 0x00, 0x00, 0x00, 0x00,
   0x00, 0x00, 0x00, 0x00, 0x00, 0x00, 0x00, 0x00, 0x00, 0x00, 0x00, 0x00,
-  0xff, 0xff, 0xff, 0xff, 0xff, 0xff, 0xff, 0xff, 0xff, 0xff, 0xff, 0xff,
   0xff, 0xff, 0xff, 0xff, 0x00, 0x00, 0x00, 0x00, 0x00, 0x00, 0x00, 0x00,
-  0x00, 0x00, 0x00, 0x00, 0x00, 0x00, 0x00, 0x00, 0x7f, 0x00, 0x00, 0x00,
   0x00, 0x00, 0x00, 0x00, 0x00, 0x00, 0x00, 0x00, 0x00, 0x00, 0x00, 0x00,
-  0x80, 0x00, 0x00, 0x00, 0x00, 0x00, 0x00, 0x00, 0x00, 0x00, 0x00, 0x00,
-  0x00, 0x00, 0x00, 0x00, 0xff, 0x7f, 0x00, 0x00, 0x00, 0x00, 0x00, 0x00,
-  0x00, 0x00, 0x00, 0x00, 0x00, 0x00, 0x00, 0x00, 0x00, 0x80, 0x00, 0x00,
-  0x00, 0x00, 0x00, 0x00, 0x00, 0x00, 0x00, 0x00, 0x00, 0x00, 0x00, 0x00,
-  0xff, 0xff, 0xff, 0x7f, 0x00, 0x00, 0x00, 0x00, 0x00, 0x00, 0x00, 0x00,
-  0x00, 0x00, 0x00, 0x00, 0x00, 0x00, 0x00, 0x80, 0x00, 0x00, 0x00, 0x00,
   0x00, 0x00, 0x00, 0x00, 0x00, 0x00, 0x00, 0x00, 0xff, 0xff, 0xff, 0xff,
-  0xff, 0xff, 0xff, 0x7f, 0x00, 0x00, 0x00, 0x00, 0x00, 0x00, 0x00, 0x00,
-  0x00, 0x00, 0x00, 0x00, 0x00, 0x00, 0x00, 0x80, 0x00, 0x00, 0x00, 0x00,
+  0xff, 0xff, 0xff, 0xff, 0x00, 0x00, 0x00, 0x00, 0x00, 0x00, 0x00, 0x00,
+  0x00, 0x00, 0x00, 0x00, 0x00, 0x00, 0x00, 0x00, 0x00, 0x00, 0x00, 0x00,
   0x00, 0x00, 0x00, 0x00, 0xff, 0xff, 0xff, 0xff, 0xff, 0xff, 0xff, 0xff,
+  0xff, 0xff, 0xff, 0xff, 0xff, 0xff, 0xff, 0xff, 0x00, 0x00, 0x00, 0x00,
+  0x00, 0x00, 0x00, 0x00, 0x00, 0x00, 0x00, 0x00, 0x00, 0x00, 0x00, 0x00,
+  0x7f, 0x00, 0x00, 0x00, 0x00, 0x00, 0x00, 0x00, 0x00, 0x00, 0x00, 0x00,
+  0x00, 0x00, 0x00, 0x00, 0x80, 0x00, 0x00, 0x00, 0x00, 0x00, 0x00, 0x00,
+  0x00, 0x00, 0x00, 0x00, 0x00, 0x00, 0x00, 0x00, 0xff, 0x7f, 0x00, 0x00,
+  0x00, 0x00, 0x00, 0x00, 0x00, 0x00, 0x00, 0x00, 0x00, 0x00, 0x00, 0x00,
+  0x00, 0x80, 0x00, 0x00, 0x00, 0x00, 0x00, 0x00, 0x00, 0x00, 0x00, 0x00,
+  0x00, 0x00, 0x00, 0x00, 0xff, 0xff, 0xff, 0x7f, 0x00, 0x00, 0x00, 0x00,
+  0x00, 0x00, 0x00, 0x00, 0x00, 0x00, 0x00, 0x00, 0x00, 0x00, 0x00, 0x80,
+  0x00, 0x00, 0x00, 0x00, 0x00, 0x00, 0x00, 0x00, 0x00, 0x00, 0x00, 0x00,
   0xff, 0xff, 0xff, 0xff, 0xff, 0xff, 0xff, 0x7f, 0x00, 0x00, 0x00, 0x00,
   0x00, 0x00, 0x00, 0x00, 0x00, 0x00, 0x00, 0x00, 0x00, 0x00, 0x00, 0x80,
-  0x01, 0x00, 0x00, 0x00, 0x00, 0x00, 0x00, 0x00, 0x0a, 0x00, 0x00, 0x00,
-  0x00, 0x00, 0x00, 0x00, 0x64, 0x00, 0x00, 0x00, 0x00, 0x00, 0x00, 0x00,
-  0xe8, 0x03, 0x00, 0x00, 0x00, 0x00, 0x00, 0x00, 0x10, 0x27, 0x00, 0x00,
-  0x00, 0x00, 0x00, 0x00, 0xa0, 0x86, 0x01, 0x00, 0x00, 0x00, 0x00, 0x00,
-  0x40, 0x42, 0x0f, 0x00, 0x00, 0x00, 0x00, 0x00, 0x80, 0x96, 0x98, 0x00,
-  0x00, 0x00, 0x00, 0x00, 0x00, 0xe1, 0xf5, 0x05, 0x00, 0x00, 0x00, 0x00,
-  0x00, 0xca, 0x9a, 0x3b, 0x00, 0x00, 0x00, 0x00, 0x00, 0xe4, 0x0b, 0x54,
-  0x02, 0x00, 0x00, 0x00, 0x00, 0xe8, 0x76, 0x48, 0x17, 0x00, 0x00, 0x00,
-  0x00, 0x10, 0xa5, 0xd4, 0xe8, 0x00, 0x00, 0x00, 0x00, 0xa0, 0x72, 0x4e,
-  0x18, 0x09, 0x00, 0x00, 0x00, 0x40, 0x7a, 0x10, 0xf3, 0x5a, 0x00, 0x00,
-  0x00, 0x80, 0xc6, 0xa4, 0x7e, 0x8d, 0x03, 0x00, 0x30, 0x31, 0x32, 0x33,
-  0x34, 0x35, 0x36, 0x37, 0x38, 0x39, 0x2e, 0x00, 0x01, 0x02, 0x03, 0x04,
-  0x05, 0x06, 0x07, 0x08, 0x09, 0x0a, 0x0b, 0x0c, 0x0d, 0x0e, 0x0f, 0x00,
-  0x01, 0x02, 0x03, 0x04, 0x01, 0x02, 0x03, 0x05, 0x01, 0x02, 0x03, 0x06,
-  0x01, 0x02, 0x03, 0x07, 0x01, 0x02, 0x03, 0x08, 0x01, 0x02, 0x03, 0x09,
-  0x01, 0x02, 0x03, 0x0a, 0x01, 0x02, 0x03, 0x0b, 0x01, 0x02, 0x03, 0x0c,
-  0x01, 0x02, 0x00, 0x01, 0x02, 0x03, 0x04, 0x01, 0x02, 0x03, 0x05, 0x01,
-  0x02, 0x03, 0x04, 0x01, 0x02, 0x03, 0x06, 0x01, 0x02, 0x03, 0x04, 0x01,
-  0x02, 0x03, 0x07, 0x01, 0x02, 0x03, 0x04, 0x01, 0x02, 0x03, 0x08, 0x01,
-  0x02, 0x03, 0x04, 0x01, 0x02, 0x00, 0x01, 0x02, 0x03, 0x04, 0x01, 0x02,
-  0x03, 0x05, 0x01, 0x02, 0x03, 0x04, 0x01, 0x02, 0x03, 0x06, 0x01, 0x02,
+  0x00, 0x00, 0x00, 0x00, 0x00, 0x00, 0x00, 0x00, 0xff, 0xff, 0xff, 0xff,
+  0xff, 0xff, 0xff, 0xff, 0xff, 0xff, 0xff, 0xff, 0xff, 0xff, 0xff, 0x7f,
+  0x00, 0x00, 0x00, 0x00, 0x00, 0x00, 0x00, 0x00, 0x00, 0x00, 0x00, 0x00,
+  0x00, 0x00, 0x00, 0x80, 0x01, 0x00, 0x00, 0x00, 0x00, 0x00, 0x00, 0x00,
+  0x0a, 0x00, 0x00, 0x00, 0x00, 0x00, 0x00, 0x00, 0x64, 0x00, 0x00, 0x00,
+  0x00, 0x00, 0x00, 0x00, 0xe8, 0x03, 0x00, 0x00, 0x00, 0x00, 0x00, 0x00,
+  0x10, 0x27, 0x00, 0x00, 0x00, 0x00, 0x00, 0x00, 0xa0, 0x86, 0x01, 0x00,
+  0x00, 0x00, 0x00, 0x00, 0x40, 0x42, 0x0f, 0x00, 0x00, 0x00, 0x00, 0x00,
+  0x80, 0x96, 0x98, 0x00, 0x00, 0x00, 0x00, 0x00, 0x00, 0xe1, 0xf5, 0x05,
+  0x00, 0x00, 0x00, 0x00, 0x00, 0xca, 0x9a, 0x3b, 0x00, 0x00, 0x00, 0x00,
+  0x00, 0xe4, 0x0b, 0x54, 0x02, 0x00, 0x00, 0x00, 0x00, 0xe8, 0x76, 0x48,
+  0x17, 0x00, 0x00, 0x00, 0x00, 0x10, 0xa5, 0xd4, 0xe8, 0x00, 0x00, 0x00,
+  0x00, 0xa0, 0x72, 0x4e, 0x18, 0x09, 0x00, 0x00, 0x00, 0x40, 0x7a, 0x10,
+  0xf3, 0x5a, 0x00, 0x00, 0x00, 0x80, 0xc6, 0xa4, 0x7e, 0x8d, 0x03, 0x00,
+  0x30, 0x31, 0x32, 0x33, 0x34, 0x35, 0x36, 0x37, 0x38, 0x39, 0x2e, 0x00,
+  0x01, 0x02, 0x03, 0x04, 0x05, 0x06, 0x07, 0x08, 0x09, 0x0a, 0x0b, 0x0c,
+  0x0d, 0x0e, 0x0f, 0x00, 0x01, 0x02, 0x03, 0x04, 0x01, 0x02, 0x03, 0x05,
+  0x01, 0x02, 0x03, 0x06, 0x01, 0x02, 0x03, 0x07, 0x01, 0x02, 0x03, 0x08,
+  0x01, 0x02, 0x03, 0x09, 0x01, 0x02, 0x03, 0x0a, 0x01, 0x02, 0x03, 0x0b,
+  0x01, 0x02, 0x03, 0x0c, 0x01, 0x02, 0x00, 0x01, 0x02, 0x03, 0x04, 0x01,
+  0x02, 0x03, 0x05, 0x01, 0x02, 0x03, 0x04, 0x01, 0x02, 0x03, 0x06, 0x01,
+  0x02, 0x03, 0x04, 0x01, 0x02, 0x03, 0x07, 0x01, 0x02, 0x03, 0x04, 0x01,
+  0x02, 0x03, 0x08, 0x01, 0x02, 0x03, 0x04, 0x01, 0x02, 0x00, 0x01, 0x02,
   0x03, 0x04, 0x01, 0x02, 0x03, 0x05, 0x01, 0x02, 0x03, 0x04, 0x01, 0x02,
-  0x03, 0x07, 0x01, 0x02, 0x03, 0x04, 0x01, 0x02, 0xe5, 0x88, 0x86, 0xe4,
-  0xb9, 0x8b, 0x00, 0x00, 0x30, 0x11, 0x01, 0x00, 0x00, 0x00, 0x00, 0x00,
-  0x31, 0x11, 0x01, 0x00, 0x00, 0x00, 0x00, 0x00, 0x32, 0x11, 0x01, 0x00,
-  0x00, 0x00, 0x00, 0x00, 0x33, 0x11, 0x01, 0x00, 0x00, 0x00, 0x00, 0x00,
-  0x34, 0x11, 0x01, 0x00, 0x00, 0x00, 0x00, 0x00, 0x35, 0x11, 0x01, 0x00,
-  0x00, 0x00, 0x00, 0x00, 0x36, 0x11, 0x01, 0x00, 0x00, 0x00, 0x00, 0x00,
-  0x37, 0x11, 0x01, 0x00, 0x00, 0x00, 0x00, 0x00, 0x38, 0x11, 0x01, 0x00,
-  0x00, 0x00, 0x00, 0x00, 0x39, 0x11, 0x01, 0x00, 0x00, 0x00, 0x00, 0x00,
+  0x03, 0x06, 0x01, 0x02, 0x03, 0x04, 0x01, 0x02, 0x03, 0x05, 0x01, 0x02,
+  0x03, 0x04, 0x01, 0x02, 0x03, 0x07, 0x01, 0x02, 0x03, 0x04, 0x01, 0x02,
+  0xe5, 0x88, 0x86, 0xe4, 0xb9, 0x8b, 0x00, 0x00, 0x40, 0x11, 0x01, 0x00,
+  0x00, 0x00, 0x00, 0x00, 0x41, 0x11, 0x01, 0x00, 0x00, 0x00, 0x00, 0x00,
+  0x42, 0x11, 0x01, 0x00, 0x00, 0x00, 0x00, 0x00, 0x43, 0x11, 0x01, 0x00,
+  0x00, 0x00, 0x00, 0x00, 0x44, 0x11, 0x01, 0x00, 0x00, 0x00, 0x00, 0x00,
+  0x45, 0x11, 0x01, 0x00, 0x00, 0x00, 0x00, 0x00, 0x46, 0x11, 0x01, 0x00,
+  0x00, 0x00, 0x00, 0x00, 0x47, 0x11, 0x01, 0x00, 0x00, 0x00, 0x00, 0x00,
+  0x48, 0x11, 0x01, 0x00, 0x00, 0x00, 0x00, 0x00, 0x49, 0x11, 0x01, 0x00,
+  0x00, 0x00, 0x00, 0x00,
 };
 
 /* Each access has its test where it stands: then a call takes less time. */
@@ -686,103 +688,102 @@ static u32 w2c_f35(module *, u32, u32, u64, u64);
 static u32 w2c_f36(module *, u32, u32, u64, u64);
 static u32 w2c_f37(module *, u32, u32, u64, u64);
 static u32 w2c_f38(module *, u64, u64, u64, u64, u64, u64);
-static u32 w2c_f39(module *, u64, u64, u64, u64, u64);
+static u32 w2c_f39(module *, u64, u64);
 static u32 w2c_f40(module *, u64, u64);
-static u32 w2c_f41(module *, u64, u64);
-static u32 w2c_f42(module *, u32);
-static u32 w2c_f43(module *, u32, u64, u64, u64, u64);
-static void w2c_f44(module *, u64, u64, u64, u32);
-static void w2c_f45(module *, u64, u64, u64);
-static void w2c_f46(module *, u64, u32);
-static void w2c_f47(module *, u64, u64, u64);
-static void w2c_f48(module *, u64, u32, u64, u64);
+static u32 w2c_f41(module *, u32);
+static u32 w2c_f42(module *, u32, u64, u64, u64, u64);
+static void w2c_f43(module *, u64, u64, u64, u32);
+static void w2c_f44(module *, u64, u64, u64);
+static void w2c_f45(module *, u64, u32);
+static void w2c_f46(module *, u64, u64, u64);
+static void w2c_f47(module *, u64, u32, u64, u64);
+static void w2c_f48(module *, u64, u32, u64, u64, u64);
 static void w2c_f49(module *, u64, u32, u64, u64, u64);
 static void w2c_f50(module *, u64, u32, u64, u64, u64);
-static void w2c_f51(module *, u64, u32, u64, u64, u64);
-static void w2c_f52(module *, u64, u64, u64);
-static void w2c_f53(module *, u64, u32, u64, u64, u64);
-static u64 w2c_f54(module *, u64, u64);
-static void w2c_f55(module *, u64, u32, u64, u64, u64, u64);
-static void w2c_f56(module *, u64, u64, u64);
-static void w2c_f57(module *, u64, u32, u32, u64, u64, u64, u64);
-static void w2c_f58(module *, u64, u64, u64);
-static void w2c_f59(module *, u64, u32, u64, u64, u64, u64, u64, u64);
-static u32 w2c_f60(module *, u64, u64);
-static void w2c_f61(module *, u64, u64, u64);
-static void w2c_f62(module *, u64, u64, u64, u64);
+static void w2c_f51(module *, u64, u64, u64);
+static void w2c_f52(module *, u64, u32, u64, u64, u64);
+static u64 w2c_f53(module *, u64, u64);
+static void w2c_f54(module *, u64, u32, u64, u64, u64, u64);
+static void w2c_f55(module *, u64, u64, u64);
+static void w2c_f56(module *, u64, u32, u32, u64, u64, u64, u64);
+static void w2c_f57(module *, u64, u64, u64);
+static void w2c_f58(module *, u64, u32, u64, u64, u64, u64, u64, u64);
+static u32 w2c_f59(module *, u64, u64);
+static void w2c_f60(module *, u64, u64, u64);
+static void w2c_f61(module *, u64, u64, u64, u64);
+static void w2c_f62(module *, u64, u64, u64);
 static void w2c_f63(module *, u64, u64, u64);
-static void w2c_f64(module *, u64, u64, u64);
-static void w2c_f65(module *, u64, u32, u64, u32, u64, u64);
-static void w2c_f66(module *, u64, u32, u64, u64, u32, u32);
-static u32 w2c_f67(module *, u32, u64, u64);
-static u32 w2c_f68(module *, u64, u64, u32, u32, u32, u64);
-static void w2c_f69(module *, u64, u32, u64, u64, u64);
-static u32 w2c_f70(module *, u64, u64, u32, u32, u32, u64);
-static u32 w2c_f71(module *, u64, u64, u32, u64);
-static void w2c_f72(module *, u64, u32, u64, u64);
-static u32 w2c_f73(module *, u64, u64);
-static u32 w2c_f74(module *, u32);
-static u32 w2c_f75(module *, u64, u64, u64, u64);
+static void w2c_f64(module *, u64, u32, u64, u32, u64, u64);
+static void w2c_f65(module *, u64, u32, u64, u64, u32, u32);
+static u32 w2c_f66(module *, u32, u64, u64);
+static u32 w2c_f67(module *, u64, u64, u32, u32, u32, u64);
+static void w2c_f68(module *, u64, u32, u64, u64, u64);
+static u32 w2c_f69(module *, u64, u64, u32, u32, u32, u64);
+static u32 w2c_f70(module *, u64, u64, u32, u64);
+static void w2c_f71(module *, u64, u32, u64, u64);
+static u32 w2c_f72(module *, u64, u64);
+static u32 w2c_f73(module *, u32);
+static u32 w2c_f74(module *, u64, u64, u64, u64);
+static u32 w2c_f75(module *, u64, u64);
 static u32 w2c_f76(module *, u64, u64);
 static u32 w2c_f77(module *, u64, u64);
 static u32 w2c_f78(module *, u64, u64);
-static u32 w2c_f79(module *, u64, u64);
-static void w2c_f80(module *, u64, u64, u64);
-static void w2c_f81(module *, u64, u32, u64, u64);
-static void w2c_f82(module *, u64, u32, u32);
-static void w2c_f83(module *, u64, u64, u64);
-static void w2c_f84(module *, u64, u32, u64, u64);
-static void w2c_f85(module *, u64, u64, u64);
-static u32 w2c_f86(module *, u64, u64);
-static u32 w2c_f87(module *, u32, u64, u64);
+static void w2c_f79(module *, u64, u64, u64);
+static void w2c_f80(module *, u64, u32, u64, u64);
+static void w2c_f81(module *, u64, u32, u32);
+static void w2c_f82(module *, u64, u64, u64);
+static void w2c_f83(module *, u64, u32, u64, u64);
+static void w2c_f84(module *, u64, u64, u64);
+static u32 w2c_f85(module *, u64, u64);
+static u32 w2c_f86(module *, u32, u64, u64);
+static void w2c_f87(module *, u64, u64, u64);
 static void w2c_f88(module *, u64, u64, u64);
-static void w2c_f89(module *, u64, u64, u64);
-static void w2c_f90(module *, u64, u64, u32, u64, u64);
-static u64 w2c_f91(module *, u64, u64, u64, u64, u64);
-static void w2c_f92(module *, u64, u64, u32, u64, u64);
-static void w2c_f93(module *, u64, u64, u64);
-static u64 w2c_f94(module *, u64, u64, u32, u32, u64, u64);
-static u32 w2c_f95(module *, u64, u64, u32, u32, u64);
+static void w2c_f89(module *, u64, u64, u32, u64, u64);
+static u64 w2c_f90(module *, u64, u64, u64, u64, u64);
+static void w2c_f91(module *, u64, u64, u32, u64, u64);
+static void w2c_f92(module *, u64, u64, u64);
+static u64 w2c_f93(module *, u64, u64, u32, u32, u64, u64);
+static u32 w2c_f94(module *, u64, u64, u32, u32, u64);
 static u32 w2c_chinese_number_version(module *);
-static void w2c_f97(module *);
+static void w2c_f96(module *);
 static u32 w2c_chinese_date_print(module *, u32, u32, u32, u32, u64, u64, u64);
-static u32 w2c_f99(module *, u32, u32, u32, u32, u64, u64, u64);
+static u32 w2c_f98(module *, u32, u32, u32, u32, u64, u64, u64);
 static u32 w2c_chinese_signed_amount_print(module *, u64, u32, u32, u64, u64, u64);
-static u32 w2c_f101(module *, u64, u32, u32, u64, u64, u64);
+static u32 w2c_f100(module *, u64, u32, u32, u64, u64, u64);
 static u32 w2c_chinese_quantity_figures(module *, u64, u64, u64, u64);
-static u32 w2c_f103(module *, u64, u64, u64, u64);
+static u32 w2c_f102(module *, u64, u64, u64, u64);
 static u32 w2c_chinese_amount_read(module *, u64, u64, u64);
-static u32 w2c_f105(module *, u64, u64, u64);
+static u32 w2c_f104(module *, u64, u64, u64);
 static u32 w2c_chinese_typed_amount_read(module *, u64, u64, u64);
-static u32 w2c_f107(module *, u64, u64, u64);
+static u32 w2c_f106(module *, u64, u64, u64);
 static u32 w2c_chinese_date_read(module *, u64, u64, u64);
-static u32 w2c_f109(module *, u64, u64, u64);
+static u32 w2c_f108(module *, u64, u64, u64);
 static u32 w2c_chinese_amount_print(module *, u64, u32, u32, u64, u64, u64);
-static u32 w2c_f111(module *, u64, u32, u32, u64, u64, u64);
+static u32 w2c_f110(module *, u64, u32, u32, u64, u64, u64);
 static u32 w2c_chinese_figures_read(module *, u64, u64, u64);
-static u32 w2c_f113(module *, u64, u64, u64);
+static u32 w2c_f112(module *, u64, u64, u64);
 static u32 w2c_chinese_signed_amount_read(module *, u64, u64, u64);
-static u32 w2c_f115(module *, u64, u64, u64);
+static u32 w2c_f114(module *, u64, u64, u64);
 static u32 w2c_chinese_number_find(module *, u64, u64, u64, u32, u32, u64, u64, u64);
-static u32 w2c_f117(module *, u64, u64, u64, u32, u32, u64, u64, u64);
+static u32 w2c_f116(module *, u64, u64, u64, u32, u32, u64, u64, u64);
 static u32 w2c_chinese_number_find_utf8(module *, u64, u64, u64, u32, u32, u64, u64, u64);
-static u32 w2c_f119(module *, u64, u64, u64, u32, u32, u64, u64, u64);
+static u32 w2c_f118(module *, u64, u64, u64, u32, u32, u64, u64, u64);
 static u32 w2c_chinese_quantity_find_utf8(module *, u64, u64, u64, u32, u32, u64, u64, u64);
-static u32 w2c_f121(module *, u64, u64, u64, u32, u32, u64, u64, u64);
+static u32 w2c_f120(module *, u64, u64, u64, u32, u32, u64, u64, u64);
 static u32 w2c_chinese_quantity_find(module *, u64, u64, u64, u32, u32, u64, u64, u64);
-static u32 w2c_f123(module *, u64, u64, u64, u32, u32, u64, u64, u64);
+static u32 w2c_f122(module *, u64, u64, u64, u32, u32, u64, u64, u64);
 static u32 w2c_chinese_number_read_utf8(module *, u64, u64, u32, u32, u64);
-static u32 w2c_f125(module *, u64, u64, u32, u32, u64);
+static u32 w2c_f124(module *, u64, u64, u32, u32, u64);
 static u32 w2c_chinese_quantities_to_figures(module *, u64, u64, u32, u32, u32, u32, u64, u64, u64);
-static u32 w2c_f127(module *, u64, u64, u32, u32, u32, u32, u64, u64, u64);
+static u32 w2c_f126(module *, u64, u64, u32, u32, u32, u32, u64, u64, u64);
 static u32 w2c_chinese_quantity_read(module *, u64, u64, u32, u64);
-static u32 w2c_f129(module *, u64, u64, u32, u64);
+static u32 w2c_f128(module *, u64, u64, u32, u64);
 static u32 w2c_chinese_quantity_print(module *, u64, u32, u32, u32, u64, u64, u64);
-static u32 w2c_f131(module *, u64, u32, u32, u32, u64, u64, u64);
+static u32 w2c_f130(module *, u64, u32, u32, u32, u64, u64, u64);
 static u32 w2c_chinese_number_read(module *, u64, u64, u32, u32, u64);
-static u32 w2c_f133(module *, u64, u64, u32, u32, u64);
+static u32 w2c_f132(module *, u64, u64, u32, u32, u64);
 static u32 w2c_chinese_number_print(module *, u64, u64, u32, u32, u32, u32, u64, u64, u64);
-static u32 w2c_f135(module *, u64, u64, u32, u32, u32, u32, u64, u64, u64);
+static u32 w2c_f134(module *, u64, u64, u32, u32, u32, u32, u64, u64, u64);
 
 static u32 w2c_f0(module *m) {
   u32 w2c_l0 = 0;
@@ -17240,6 +17241,28 @@ static void w2c_f28(module *m, u64 w2c_p0, u64 w2c_p1) {
     w2c_i0 = w2c_i0 > w2c_i1;
     if (w2c_i0) {goto w2c_B10;}
     w2c_B11:;
+    w2c_i0 = w2c_l18;
+    w2c_i1 = 255u;
+    w2c_i0 &= w2c_i1;
+    w2c_i1 = 2u;
+    w2c_i0 = w2c_i0 != w2c_i1;
+    if (w2c_i0) {goto w2c_B23;}
+    w2c_i0 = w2c_l16;
+    w2c_i1 = 950143u;
+    w2c_i0 = w2c_i0 == w2c_i1;
+    if (w2c_i0) {goto w2c_B2;}
+    w2c_i0 = w2c_l16;
+    w2c_i1 = 947141u;
+    w2c_i0 = w2c_i0 == w2c_i1;
+    if (w2c_i0) {goto w2c_B2;}
+    w2c_i0 = w2c_l16;
+    w2c_i1 = 4293976176u;
+    w2c_i0 += w2c_i1;
+    w2c_i1 = 10u;
+    w2c_i0 = w2c_i0 >= w2c_i1;
+    if (w2c_i0) {goto w2c_B22;}
+    goto w2c_B2;
+    w2c_B23:;
     w2c_i0 = w2c_l14;
     w2c_i1 = w2c_l13;
     w2c_i2 = w2c_l15;
@@ -17279,12 +17302,12 @@ static void w2c_f28(module *m, u64 w2c_p0, u64 w2c_p1) {
     w2c_j0 &= w2c_j1;
     w2c_i0 = (u32)(w2c_j0);
     switch (w2c_i0) {
-      case 0: goto w2c_B23;
-      case 1: goto w2c_B24;
+      case 0: goto w2c_B24;
+      case 1: goto w2c_B25;
       case 2: goto w2c_L5;
-      default: goto w2c_B23;
+      default: goto w2c_B24;
     }
-    w2c_B24:;
+    w2c_B25:;
     w2c_i0 = w2c_l13;
     w2c_i1 = 255u;
     w2c_i0 &= w2c_i1;
@@ -17293,19 +17316,19 @@ static void w2c_f28(module *m, u64 w2c_p0, u64 w2c_p1) {
     w2c_i1 &= w2c_i2;
     w2c_i0 = w2c_i0 < w2c_i1;
     if (w2c_i0) {goto w2c_L5;}
-    w2c_B23:;
+    w2c_B24:;
     w2c_i0 = w2c_l14;
     w2c_i1 = 1u;
     w2c_i0 &= w2c_i1;
-    if (w2c_i0) {goto w2c_B25;}
+    if (w2c_i0) {goto w2c_B26;}
     w2c_i0 = w2c_l16;
     w2c_i1 = 955413u;
     w2c_i0 = (u32)((s32)w2c_i0 > (s32)w2c_i1);
-    if (w2c_i0) {goto w2c_B27;}
+    if (w2c_i0) {goto w2c_B28;}
     w2c_i0 = w2c_l16;
     w2c_i1 = 948600u;
     w2c_i0 = (u32)((s32)w2c_i0 > (s32)w2c_i1);
-    if (w2c_i0) {goto w2c_B28;}
+    if (w2c_i0) {goto w2c_B29;}
     w2c_i0 = w2c_l16;
     w2c_i1 = 946015u;
     w2c_i0 = w2c_i0 == w2c_i1;
@@ -17318,12 +17341,12 @@ static void w2c_f28(module *m, u64 w2c_p0, u64 w2c_p1) {
     w2c_i1 = 946160u;
     w2c_i0 = w2c_i0 == w2c_i1;
     if (w2c_i0) {goto w2c_L5;}
-    goto w2c_B26;
-    w2c_B28:;
+    goto w2c_B27;
+    w2c_B29:;
     w2c_i0 = w2c_l16;
     w2c_i1 = 951243u;
     w2c_i0 = (u32)((s32)w2c_i0 > (s32)w2c_i1);
-    if (w2c_i0) {goto w2c_B29;}
+    if (w2c_i0) {goto w2c_B30;}
     w2c_i0 = w2c_l16;
     w2c_i1 = 948601u;
     w2c_i0 = w2c_i0 == w2c_i1;
@@ -17332,8 +17355,8 @@ static void w2c_f28(module *m, u64 w2c_p0, u64 w2c_p1) {
     w2c_i1 = 951166u;
     w2c_i0 = w2c_i0 == w2c_i1;
     if (w2c_i0) {goto w2c_L5;}
-    goto w2c_B26;
-    w2c_B29:;
+    goto w2c_B27;
+    w2c_B30:;
     w2c_i0 = w2c_l16;
     w2c_i1 = 951244u;
     w2c_i0 = w2c_i0 == w2c_i1;
@@ -17342,25 +17365,25 @@ static void w2c_f28(module *m, u64 w2c_p0, u64 w2c_p1) {
     w2c_i1 = 952402u;
     w2c_i0 = w2c_i0 == w2c_i1;
     if (w2c_i0) {goto w2c_L5;}
-    goto w2c_B26;
-    w2c_B27:;
+    goto w2c_B27;
+    w2c_B28:;
     w2c_i0 = w2c_l16;
     w2c_i1 = 961967u;
     w2c_i0 = (u32)((s32)w2c_i0 > (s32)w2c_i1);
-    if (w2c_i0) {goto w2c_B30;}
+    if (w2c_i0) {goto w2c_B31;}
     w2c_i0 = w2c_l16;
     w2c_i1 = 4294005458u;
     w2c_i0 += w2c_i1;
     switch (w2c_i0) {
       case 0: goto w2c_L5;
-      case 1: goto w2c_B26;
-      case 2: goto w2c_B26;
-      case 3: goto w2c_B26;
-      case 4: goto w2c_B26;
+      case 1: goto w2c_B27;
+      case 2: goto w2c_B27;
+      case 3: goto w2c_B27;
+      case 4: goto w2c_B27;
       case 5: goto w2c_L5;
-      default: goto w2c_B31;
+      default: goto w2c_B32;
     }
-    w2c_B31:;
+    w2c_B32:;
     w2c_i0 = w2c_l16;
     w2c_i1 = 955414u;
     w2c_i0 = w2c_i0 == w2c_i1;
@@ -17369,8 +17392,8 @@ static void w2c_f28(module *m, u64 w2c_p0, u64 w2c_p1) {
     w2c_i1 = 958726u;
     w2c_i0 = w2c_i0 == w2c_i1;
     if (w2c_i0) {goto w2c_L5;}
-    goto w2c_B26;
-    w2c_B30:;
+    goto w2c_B27;
+    w2c_B31:;
     w2c_i0 = w2c_l16;
     w2c_i1 = 961968u;
     w2c_i0 = w2c_i0 == w2c_i1;
@@ -17383,14 +17406,14 @@ static void w2c_f28(module *m, u64 w2c_p0, u64 w2c_p1) {
     w2c_i1 = 964344u;
     w2c_i0 = w2c_i0 == w2c_i1;
     if (w2c_i0) {goto w2c_L5;}
-    w2c_B26:;
+    w2c_B27:;
     w2c_i0 = w2c_l16;
     w2c_i1 = 4294020031u;
     w2c_i0 += w2c_i1;
     w2c_i1 = 4u;
     w2c_i0 = w2c_i0 < w2c_i1;
     if (w2c_i0) {goto w2c_L5;}
-    w2c_B25:;
+    w2c_B26:;
     w2c_i0 = w2c_l18;
     w2c_i1 = 255u;
     w2c_i0 &= w2c_i1;
@@ -17416,7 +17439,7 @@ static void w2c_f28(module *m, u64 w2c_p0, u64 w2c_p1) {
     w2c_j0 = w2c_l8;
     w2c_i0 = !(w2c_j0);
     w2c_i0 = !(w2c_i0);
-    if (w2c_i0) {goto w2c_B32;}
+    if (w2c_i0) {goto w2c_B33;}
     w2c_j0 = 0ull;
     w2c_l7 = w2c_j0;
     w2c_j0 = 66431ull;
@@ -17434,7 +17457,7 @@ static void w2c_f28(module *m, u64 w2c_p0, u64 w2c_p1) {
     w2c_j0 = 0ull;
     w2c_l11 = w2c_j0;
     goto w2c_B1;
-    w2c_B32:;
+    w2c_B33:;
     w2c_j0 = w2c_l7;
     w2c_i0 = (u32)(w2c_j0);
     w2c_i0 = i32_load8_u(m, (u64)(w2c_i0));
@@ -17446,7 +17469,7 @@ static void w2c_f28(module *m, u64 w2c_p0, u64 w2c_p1) {
     w2c_i0 = (u32)(s32)(s8)(u8)(w2c_i0);
     w2c_i1 = 4294967295u;
     w2c_i0 = (u32)((s32)w2c_i0 > (s32)w2c_i1);
-    if (w2c_i0) {goto w2c_B33;}
+    if (w2c_i0) {goto w2c_B34;}
     w2c_j0 = w2c_l7;
     w2c_i0 = (u32)(w2c_j0);
     w2c_i0 = i32_load8_u(m, (u64)(w2c_i0) + 1u);
@@ -17456,7 +17479,7 @@ static void w2c_f28(module *m, u64 w2c_p0, u64 w2c_p1) {
     w2c_i0 = w2c_l15;
     w2c_i1 = 223u;
     w2c_i0 = w2c_i0 > w2c_i1;
-    if (w2c_i0) {goto w2c_B34;}
+    if (w2c_i0) {goto w2c_B35;}
     w2c_i0 = w2c_l15;
     w2c_i1 = 6u;
     w2c_i0 <<= (w2c_i1 & 31);
@@ -17467,8 +17490,8 @@ static void w2c_f28(module *m, u64 w2c_p0, u64 w2c_p1) {
     w2c_l15 = w2c_i0;
     w2c_j0 = 2ull;
     w2c_l4 = w2c_j0;
-    goto w2c_B33;
-    w2c_B34:;
+    goto w2c_B34;
+    w2c_B35:;
     w2c_j0 = w2c_l7;
     w2c_i0 = (u32)(w2c_j0);
     w2c_i0 = i32_load8_u(m, (u64)(w2c_i0) + 2u);
@@ -17478,7 +17501,7 @@ static void w2c_f28(module *m, u64 w2c_p0, u64 w2c_p1) {
     w2c_i0 = w2c_l15;
     w2c_i1 = 239u;
     w2c_i0 = w2c_i0 > w2c_i1;
-    if (w2c_i0) {goto w2c_B35;}
+    if (w2c_i0) {goto w2c_B36;}
     w2c_i0 = w2c_l16;
     w2c_i1 = 6u;
     w2c_i0 <<= (w2c_i1 & 31);
@@ -17493,8 +17516,8 @@ static void w2c_f28(module *m, u64 w2c_p0, u64 w2c_p1) {
     w2c_l15 = w2c_i0;
     w2c_j0 = 3ull;
     w2c_l4 = w2c_j0;
-    goto w2c_B33;
-    w2c_B35:;
+    goto w2c_B34;
+    w2c_B36:;
     w2c_i0 = w2c_l18;
     w2c_i1 = 6u;
     w2c_i0 <<= (w2c_i1 & 31);
@@ -17517,13 +17540,13 @@ static void w2c_f28(module *m, u64 w2c_p0, u64 w2c_p1) {
     w2c_l15 = w2c_i0;
     w2c_j0 = 4ull;
     w2c_l4 = w2c_j0;
-    w2c_B33:;
+    w2c_B34:;
     w2c_i0 = w2c_l15;
     w2c_i1 = 4294965248u;
     w2c_i0 += w2c_i1;
     w2c_i1 = 63487u;
     w2c_i0 = w2c_i0 > w2c_i1;
-    if (w2c_i0) {goto w2c_B37;}
+    if (w2c_i0) {goto w2c_B38;}
     w2c_i0 = w2c_l15;
     w2c_i1 = 12u;
     w2c_i0 >>= (w2c_i1 & 31);
@@ -17572,8 +17595,8 @@ static void w2c_f28(module *m, u64 w2c_p0, u64 w2c_p1) {
     w2c_i2 = w2c_l16;
     w2c_i0 = w2c_i2 ? w2c_i0 : w2c_i1;
     w2c_l16 = w2c_i0;
-    goto w2c_B36;
-    w2c_B37:;
+    goto w2c_B37;
+    w2c_B38:;
     w2c_i0 = w2c_l15;
     w2c_i1 = 4294967248u;
     w2c_i0 += w2c_i1;
@@ -17590,7 +17613,7 @@ static void w2c_f28(module *m, u64 w2c_p0, u64 w2c_p1) {
     w2c_i2 = w2c_l16;
     w2c_i0 = w2c_i2 ? w2c_i0 : w2c_i1;
     w2c_l16 = w2c_i0;
-    w2c_B36:;
+    w2c_B37:;
     w2c_j0 = w2c_l8;
     w2c_j1 = w2c_l4;
     w2c_j0 -= w2c_j1;
@@ -17602,170 +17625,192 @@ static void w2c_f28(module *m, u64 w2c_p0, u64 w2c_p1) {
     w2c_i0 = w2c_l15;
     w2c_i1 = 21317u;
     w2c_i0 = w2c_i0 == w2c_i1;
-    if (w2c_i0) {goto w2c_B39;}
+    if (w2c_i0) {goto w2c_B40;}
     w2c_i0 = w2c_l15;
     w2c_i1 = 24319u;
     w2c_i0 = w2c_i0 == w2c_i1;
-    if (w2c_i0) {goto w2c_B39;}
+    if (w2c_i0) {goto w2c_B40;}
     w2c_i0 = w2c_l15;
     w2c_i1 = 4294902000u;
     w2c_i0 += w2c_i1;
     w2c_i1 = 10u;
     w2c_i0 = w2c_i0 < w2c_i1;
-    if (w2c_i0) {goto w2c_B39;}
+    if (w2c_i0) {goto w2c_B40;}
     w2c_i0 = w2c_l15;
     w2c_i1 = 20490u;
     w2c_i0 = (u32)((s32)w2c_i0 > (s32)w2c_i1);
-    if (w2c_i0) {goto w2c_B41;}
+    if (w2c_i0) {goto w2c_B42;}
     w2c_i0 = w2c_l15;
     w2c_i1 = 19978u;
     w2c_i0 = (u32)((s32)w2c_i0 > (s32)w2c_i1);
-    if (w2c_i0) {goto w2c_B42;}
+    if (w2c_i0) {goto w2c_B43;}
     w2c_i0 = w2c_l15;
     w2c_i1 = 8239u;
     w2c_i0 = (u32)((s32)w2c_i0 > (s32)w2c_i1);
-    if (w2c_i0) {goto w2c_B43;}
+    if (w2c_i0) {goto w2c_B44;}
     w2c_i0 = w2c_l15;
     w2c_i1 = 4294967264u;
     w2c_i0 += w2c_i1;
     switch (w2c_i0) {
-      case 0: goto w2c_B39;
-      case 1: goto w2c_B40;
-      case 2: goto w2c_B40;
-      case 3: goto w2c_B40;
-      case 4: goto w2c_B40;
-      case 5: goto w2c_B39;
-      default: goto w2c_B44;
+      case 0: goto w2c_B40;
+      case 1: goto w2c_B41;
+      case 2: goto w2c_B41;
+      case 3: goto w2c_B41;
+      case 4: goto w2c_B41;
+      case 5: goto w2c_B40;
+      default: goto w2c_B45;
     }
-    w2c_B44:;
+    w2c_B45:;
     w2c_i0 = w2c_l15;
     w2c_i1 = 165u;
     w2c_i0 = w2c_i0 != w2c_i1;
-    if (w2c_i0) {goto w2c_B40;}
-    goto w2c_B39;
-    w2c_B43:;
+    if (w2c_i0) {goto w2c_B41;}
+    goto w2c_B40;
+    w2c_B44:;
     w2c_i0 = w2c_l15;
     w2c_i1 = 8240u;
     w2c_i0 = w2c_i0 == w2c_i1;
-    if (w2c_i0) {goto w2c_B39;}
+    if (w2c_i0) {goto w2c_B40;}
     w2c_i0 = w2c_l15;
     w2c_i1 = 8722u;
     w2c_i0 = w2c_i0 != w2c_i1;
-    if (w2c_i0) {goto w2c_B40;}
-    goto w2c_B39;
-    w2c_B42:;
+    if (w2c_i0) {goto w2c_B41;}
+    goto w2c_B40;
+    w2c_B43:;
     w2c_i0 = w2c_l15;
     w2c_i1 = 20042u;
     w2c_i0 = (u32)((s32)w2c_i0 > (s32)w2c_i1);
-    if (w2c_i0) {goto w2c_B45;}
+    if (w2c_i0) {goto w2c_B46;}
     w2c_i0 = w2c_l15;
     w2c_i1 = 4294947292u;
     w2c_i0 += w2c_i1;
     switch (w2c_i0) {
-      case 0: goto w2c_B39;
-      case 1: goto w2c_B40;
-      case 2: goto w2c_B40;
-      case 3: goto w2c_B40;
-      case 4: goto w2c_B40;
-      case 5: goto w2c_B40;
-      case 6: goto w2c_B39;
-      default: goto w2c_B46;
+      case 0: goto w2c_B40;
+      case 1: goto w2c_B41;
+      case 2: goto w2c_B41;
+      case 3: goto w2c_B41;
+      case 4: goto w2c_B41;
+      case 5: goto w2c_B41;
+      case 6: goto w2c_B40;
+      default: goto w2c_B47;
     }
-    w2c_B46:;
+    w2c_B47:;
     w2c_i0 = w2c_l15;
     w2c_i1 = 19979u;
     w2c_i0 = w2c_i0 != w2c_i1;
-    if (w2c_i0) {goto w2c_B40;}
-    goto w2c_B39;
-    w2c_B45:;
+    if (w2c_i0) {goto w2c_B41;}
+    goto w2c_B40;
+    w2c_B46:;
     w2c_i0 = w2c_l15;
     w2c_i1 = 20043u;
     w2c_i0 = w2c_i0 == w2c_i1;
-    if (w2c_i0) {goto w2c_B39;}
+    if (w2c_i0) {goto w2c_B40;}
     w2c_i0 = w2c_l15;
     w2c_i1 = 20191u;
     w2c_i0 = w2c_i0 != w2c_i1;
-    if (w2c_i0) {goto w2c_B40;}
-    goto w2c_B39;
-    w2c_B41:;
+    if (w2c_i0) {goto w2c_B41;}
+    goto w2c_B40;
+    w2c_B42:;
     w2c_i0 = w2c_l15;
     w2c_i1 = 28856u;
     w2c_i0 = (u32)((s32)w2c_i0 > (s32)w2c_i1);
-    if (w2c_i0) {goto w2c_B47;}
+    if (w2c_i0) {goto w2c_B48;}
     w2c_i0 = w2c_l15;
     w2c_i1 = 20997u;
     w2c_i0 = (u32)((s32)w2c_i0 > (s32)w2c_i1);
-    if (w2c_i0) {goto w2c_B48;}
+    if (w2c_i0) {goto w2c_B49;}
     w2c_i0 = w2c_l15;
     w2c_i1 = 20491u;
     w2c_i0 = w2c_i0 == w2c_i1;
-    if (w2c_i0) {goto w2c_B39;}
+    if (w2c_i0) {goto w2c_B40;}
     w2c_i0 = w2c_l15;
     w2c_i1 = 20841u;
     w2c_i0 = w2c_i0 != w2c_i1;
-    if (w2c_i0) {goto w2c_B40;}
-    goto w2c_B39;
-    w2c_B48:;
+    if (w2c_i0) {goto w2c_B41;}
+    goto w2c_B40;
+    w2c_B49:;
     w2c_i0 = w2c_l15;
     w2c_i1 = 20998u;
     w2c_i0 = w2c_i0 == w2c_i1;
-    if (w2c_i0) {goto w2c_B39;}
+    if (w2c_i0) {goto w2c_B40;}
     w2c_i0 = w2c_l15;
     w2c_i1 = 21315u;
     w2c_i0 = w2c_i0 == w2c_i1;
-    if (w2c_i0) {goto w2c_B39;}
+    if (w2c_i0) {goto w2c_B40;}
     w2c_i0 = w2c_l15;
     w2c_i1 = 21448u;
     w2c_i0 = w2c_i0 != w2c_i1;
-    if (w2c_i0) {goto w2c_B40;}
-    goto w2c_B39;
-    w2c_B47:;
+    if (w2c_i0) {goto w2c_B41;}
+    goto w2c_B40;
+    w2c_B48:;
     w2c_i0 = w2c_l15;
     w2c_i1 = 40669u;
     w2c_i0 = (u32)((s32)w2c_i0 > (s32)w2c_i1);
-    if (w2c_i0) {goto w2c_B49;}
+    if (w2c_i0) {goto w2c_B50;}
     w2c_i0 = w2c_l15;
     w2c_i1 = 28857u;
     w2c_i0 = w2c_i0 == w2c_i1;
-    if (w2c_i0) {goto w2c_B39;}
+    if (w2c_i0) {goto w2c_B40;}
     w2c_i0 = w2c_l15;
     w2c_i1 = 36000u;
     w2c_i0 = w2c_i0 == w2c_i1;
-    if (w2c_i0) {goto w2c_B39;}
+    if (w2c_i0) {goto w2c_B40;}
     w2c_i0 = w2c_l15;
     w2c_i1 = 36127u;
     w2c_i0 = w2c_i0 != w2c_i1;
-    if (w2c_i0) {goto w2c_B40;}
-    goto w2c_B39;
-    w2c_B49:;
+    if (w2c_i0) {goto w2c_B41;}
+    goto w2c_B40;
+    w2c_B50:;
     w2c_i0 = w2c_l15;
     w2c_i1 = 40670u;
     w2c_i0 = w2c_i0 == w2c_i1;
-    if (w2c_i0) {goto w2c_B39;}
+    if (w2c_i0) {goto w2c_B40;}
     w2c_i0 = w2c_l15;
     w2c_i1 = 65285u;
     w2c_i0 = w2c_i0 == w2c_i1;
-    if (w2c_i0) {goto w2c_B39;}
+    if (w2c_i0) {goto w2c_B40;}
     w2c_i0 = w2c_l15;
     w2c_i1 = 65509u;
     w2c_i0 = w2c_i0 == w2c_i1;
-    if (w2c_i0) {goto w2c_B39;}
-    w2c_B40:;
+    if (w2c_i0) {goto w2c_B40;}
+    w2c_B41:;
     w2c_i0 = w2c_l15;
     w2c_i1 = 44u;
     w2c_i0 = w2c_i0 < w2c_i1;
-    if (w2c_i0) {goto w2c_B38;}
+    if (w2c_i0) {goto w2c_B39;}
     w2c_i0 = w2c_l15;
     w2c_i1 = 47u;
     w2c_i0 = w2c_i0 < w2c_i1;
-    if (w2c_i0) {goto w2c_B39;}
+    if (w2c_i0) {goto w2c_B40;}
     w2c_i0 = w2c_l15;
     w2c_i1 = 4294902004u;
     w2c_i0 += w2c_i1;
     w2c_i1 = 2u;
     w2c_i0 = w2c_i0 > w2c_i1;
-    if (w2c_i0) {goto w2c_B38;}
-    w2c_B39:;
+    if (w2c_i0) {goto w2c_B39;}
+    w2c_B40:;
+    w2c_i0 = w2c_l16;
+    w2c_i1 = 255u;
+    w2c_i0 &= w2c_i1;
+    w2c_i1 = 2u;
+    w2c_i0 = w2c_i0 != w2c_i1;
+    if (w2c_i0) {goto w2c_B52;}
+    w2c_i0 = w2c_l15;
+    w2c_i1 = 21317u;
+    w2c_i0 = w2c_i0 == w2c_i1;
+    if (w2c_i0) {goto w2c_B2;}
+    w2c_i0 = w2c_l15;
+    w2c_i1 = 24319u;
+    w2c_i0 = w2c_i0 == w2c_i1;
+    if (w2c_i0) {goto w2c_B2;}
+    w2c_i0 = w2c_l15;
+    w2c_i1 = 4294902000u;
+    w2c_i0 += w2c_i1;
+    w2c_i1 = 10u;
+    w2c_i0 = w2c_i0 >= w2c_i1;
+    if (w2c_i0) {goto w2c_B51;}
+    goto w2c_B2;
+    w2c_B52:;
     w2c_i0 = w2c_l14;
     w2c_i1 = w2c_l13;
     w2c_i2 = w2c_l15;
@@ -17775,7 +17820,7 @@ static void w2c_f28(module *m, u64 w2c_p0, u64 w2c_p1) {
     w2c_j6 = w2c_l2;
     w2c_i0 = w2c_f30(m, w2c_i0, w2c_i1, w2c_i2, w2c_i3, w2c_i4, w2c_j5, w2c_j6);
     w2c_i0 = !(w2c_i0);
-    if (w2c_i0) {goto w2c_B50;}
+    if (w2c_i0) {goto w2c_B51;}
     w2c_i0 = w2c_l14;
     w2c_i1 = w2c_l13;
     w2c_j2 = w2c_l6;
@@ -17786,7 +17831,7 @@ static void w2c_f28(module *m, u64 w2c_p0, u64 w2c_p1) {
     w2c_i0 = w2c_f31(m, w2c_i0, w2c_i1, w2c_j2, w2c_j3, w2c_i4, w2c_j5, w2c_j6);
     w2c_i0 = !(w2c_i0);
     if (w2c_i0) {goto w2c_B2;}
-    w2c_B50:;
+    w2c_B51:;
     w2c_i0 = w2c_l14;
     w2c_i1 = w2c_l13;
     w2c_j2 = w2c_l6;
@@ -17798,19 +17843,19 @@ static void w2c_f28(module *m, u64 w2c_p0, u64 w2c_p1) {
     w2c_i0 = !(w2c_i0);
     if (w2c_i0) {goto w2c_L5;}
     goto w2c_B2;
-    w2c_B38:;
+    w2c_B39:;
     w2c_i0 = w2c_l16;
     w2c_j0 = (u64)(w2c_i0);
     w2c_j1 = 255ull;
     w2c_j0 &= w2c_j1;
     w2c_i0 = (u32)(w2c_j0);
     switch (w2c_i0) {
-      case 0: goto w2c_B51;
-      case 1: goto w2c_B52;
+      case 0: goto w2c_B53;
+      case 1: goto w2c_B54;
       case 2: goto w2c_L5;
-      default: goto w2c_B51;
+      default: goto w2c_B53;
     }
-    w2c_B52:;
+    w2c_B54:;
     w2c_i0 = w2c_l13;
     w2c_i1 = 255u;
     w2c_i0 &= w2c_i1;
@@ -17819,19 +17864,19 @@ static void w2c_f28(module *m, u64 w2c_p0, u64 w2c_p1) {
     w2c_i1 &= w2c_i2;
     w2c_i0 = w2c_i0 < w2c_i1;
     if (w2c_i0) {goto w2c_L5;}
-    w2c_B51:;
+    w2c_B53:;
     w2c_i0 = w2c_l14;
     w2c_i1 = 1u;
     w2c_i0 &= w2c_i1;
-    if (w2c_i0) {goto w2c_B53;}
+    if (w2c_i0) {goto w2c_B55;}
     w2c_i0 = w2c_l15;
     w2c_i1 = 29589u;
     w2c_i0 = (u32)((s32)w2c_i0 > (s32)w2c_i1);
-    if (w2c_i0) {goto w2c_B55;}
+    if (w2c_i0) {goto w2c_B57;}
     w2c_i0 = w2c_l15;
     w2c_i1 = 22776u;
     w2c_i0 = (u32)((s32)w2c_i0 > (s32)w2c_i1);
-    if (w2c_i0) {goto w2c_B56;}
+    if (w2c_i0) {goto w2c_B58;}
     w2c_i0 = w2c_l15;
     w2c_i1 = 20191u;
     w2c_i0 = w2c_i0 == w2c_i1;
@@ -17844,12 +17889,12 @@ static void w2c_f28(module *m, u64 w2c_p0, u64 w2c_p1) {
     w2c_i1 = 20336u;
     w2c_i0 = w2c_i0 == w2c_i1;
     if (w2c_i0) {goto w2c_L5;}
-    goto w2c_B54;
-    w2c_B56:;
+    goto w2c_B56;
+    w2c_B58:;
     w2c_i0 = w2c_l15;
     w2c_i1 = 25419u;
     w2c_i0 = (u32)((s32)w2c_i0 > (s32)w2c_i1);
-    if (w2c_i0) {goto w2c_B57;}
+    if (w2c_i0) {goto w2c_B59;}
     w2c_i0 = w2c_l15;
     w2c_i1 = 22777u;
     w2c_i0 = w2c_i0 == w2c_i1;
@@ -17858,8 +17903,8 @@ static void w2c_f28(module *m, u64 w2c_p0, u64 w2c_p1) {
     w2c_i1 = 25342u;
     w2c_i0 = w2c_i0 == w2c_i1;
     if (w2c_i0) {goto w2c_L5;}
-    goto w2c_B54;
-    w2c_B57:;
+    goto w2c_B56;
+    w2c_B59:;
     w2c_i0 = w2c_l15;
     w2c_i1 = 25420u;
     w2c_i0 = w2c_i0 == w2c_i1;
@@ -17868,25 +17913,25 @@ static void w2c_f28(module *m, u64 w2c_p0, u64 w2c_p1) {
     w2c_i1 = 26578u;
     w2c_i0 = w2c_i0 == w2c_i1;
     if (w2c_i0) {goto w2c_L5;}
-    goto w2c_B54;
-    w2c_B55:;
+    goto w2c_B56;
+    w2c_B57:;
     w2c_i0 = w2c_l15;
     w2c_i1 = 36143u;
     w2c_i0 = (u32)((s32)w2c_i0 > (s32)w2c_i1);
-    if (w2c_i0) {goto w2c_B58;}
+    if (w2c_i0) {goto w2c_B60;}
     w2c_i0 = w2c_l15;
     w2c_i1 = 4294931282u;
     w2c_i0 += w2c_i1;
     switch (w2c_i0) {
       case 0: goto w2c_L5;
-      case 1: goto w2c_B54;
-      case 2: goto w2c_B54;
-      case 3: goto w2c_B54;
-      case 4: goto w2c_B54;
+      case 1: goto w2c_B56;
+      case 2: goto w2c_B56;
+      case 3: goto w2c_B56;
+      case 4: goto w2c_B56;
       case 5: goto w2c_L5;
-      default: goto w2c_B59;
+      default: goto w2c_B61;
     }
-    w2c_B59:;
+    w2c_B61:;
     w2c_i0 = w2c_l15;
     w2c_i1 = 29590u;
     w2c_i0 = w2c_i0 == w2c_i1;
@@ -17895,8 +17940,8 @@ static void w2c_f28(module *m, u64 w2c_p0, u64 w2c_p1) {
     w2c_i1 = 32902u;
     w2c_i0 = w2c_i0 == w2c_i1;
     if (w2c_i0) {goto w2c_L5;}
-    goto w2c_B54;
-    w2c_B58:;
+    goto w2c_B56;
+    w2c_B60:;
     w2c_i0 = w2c_l15;
     w2c_i1 = 36144u;
     w2c_i0 = w2c_i0 == w2c_i1;
@@ -17909,14 +17954,14 @@ static void w2c_f28(module *m, u64 w2c_p0, u64 w2c_p1) {
     w2c_i1 = 38520u;
     w2c_i0 = w2c_i0 == w2c_i1;
     if (w2c_i0) {goto w2c_L5;}
-    w2c_B54:;
+    w2c_B56:;
     w2c_i0 = w2c_l15;
     w2c_i1 = 4294945855u;
     w2c_i0 += w2c_i1;
     w2c_i1 = 4u;
     w2c_i0 = w2c_i0 < w2c_i1;
     if (w2c_i0) {goto w2c_L5;}
-    w2c_B53:;
+    w2c_B55:;
     w2c_i0 = w2c_l16;
     w2c_i1 = 255u;
     w2c_i0 &= w2c_i1;
@@ -17960,7 +18005,7 @@ static void w2c_f28(module *m, u64 w2c_p0, u64 w2c_p1) {
   w2c_B3:;
   UNREACHABLE;
   w2c_B2:;
-  w2c_L61:
+  w2c_L63:
     w2c_j0 = w2c_l4;
     w2c_l10 = w2c_j0;
     w2c_i0 = w2c_l15;
@@ -17969,7 +18014,7 @@ static void w2c_f28(module *m, u64 w2c_p0, u64 w2c_p1) {
     w2c_l11 = w2c_j0;
     w2c_j1 = 3ull;
     w2c_i0 = w2c_j0 < w2c_j1;
-    if (w2c_i0) {goto w2c_B64;}
+    if (w2c_i0) {goto w2c_B66;}
     w2c_j0 = w2c_l10;
     w2c_i0 = (u32)(w2c_j0);
     w2c_i0 = i32_load8_u(m, (u64)(w2c_i0));
@@ -17978,7 +18023,7 @@ static void w2c_f28(module *m, u64 w2c_p0, u64 w2c_p1) {
     w2c_i0 &= w2c_i1;
     w2c_i1 = 224u;
     w2c_i0 = w2c_i0 != w2c_i1;
-    if (w2c_i0) {goto w2c_B63;}
+    if (w2c_i0) {goto w2c_B65;}
     w2c_j0 = w2c_l10;
     w2c_i0 = (u32)(w2c_j0);
     w2c_i0 = i32_load8_u(m, (u64)(w2c_i0) + 1u);
@@ -18045,23 +18090,23 @@ static void w2c_f28(module *m, u64 w2c_p0, u64 w2c_p1) {
     w2c_j1 = 3ull;
     w2c_j0 += w2c_j1;
     w2c_l4 = w2c_j0;
-    goto w2c_B62;
-    w2c_B64:;
+    goto w2c_B64;
+    w2c_B66:;
     w2c_j0 = w2c_l11;
     w2c_i0 = !(w2c_j0);
-    if (w2c_i0) {goto w2c_B60;}
+    if (w2c_i0) {goto w2c_B62;}
     w2c_j0 = w2c_l10;
     w2c_i0 = (u32)(w2c_j0);
     w2c_i0 = i32_load8_u(m, (u64)(w2c_i0));
     w2c_l15 = w2c_i0;
-    w2c_B63:;
+    w2c_B65:;
     w2c_j0 = 1ull;
     w2c_l4 = w2c_j0;
     w2c_i0 = w2c_l15;
     w2c_i0 = (u32)(s32)(s8)(u8)(w2c_i0);
     w2c_i1 = 4294967295u;
     w2c_i0 = (u32)((s32)w2c_i0 > (s32)w2c_i1);
-    if (w2c_i0) {goto w2c_B65;}
+    if (w2c_i0) {goto w2c_B67;}
     w2c_j0 = w2c_l10;
     w2c_i0 = (u32)(w2c_j0);
     w2c_i0 = i32_load8_u(m, (u64)(w2c_i0) + 1u);
@@ -18071,7 +18116,7 @@ static void w2c_f28(module *m, u64 w2c_p0, u64 w2c_p1) {
     w2c_i0 = w2c_l15;
     w2c_i1 = 223u;
     w2c_i0 = w2c_i0 > w2c_i1;
-    if (w2c_i0) {goto w2c_B66;}
+    if (w2c_i0) {goto w2c_B68;}
     w2c_i0 = w2c_l15;
     w2c_i1 = 6u;
     w2c_i0 <<= (w2c_i1 & 31);
@@ -18082,8 +18127,8 @@ static void w2c_f28(module *m, u64 w2c_p0, u64 w2c_p1) {
     w2c_l15 = w2c_i0;
     w2c_j0 = 2ull;
     w2c_l4 = w2c_j0;
-    goto w2c_B65;
-    w2c_B66:;
+    goto w2c_B67;
+    w2c_B68:;
     w2c_j0 = w2c_l10;
     w2c_i0 = (u32)(w2c_j0);
     w2c_i0 = i32_load8_u(m, (u64)(w2c_i0) + 2u);
@@ -18093,7 +18138,7 @@ static void w2c_f28(module *m, u64 w2c_p0, u64 w2c_p1) {
     w2c_i0 = w2c_l15;
     w2c_i1 = 239u;
     w2c_i0 = w2c_i0 > w2c_i1;
-    if (w2c_i0) {goto w2c_B67;}
+    if (w2c_i0) {goto w2c_B69;}
     w2c_i0 = w2c_l18;
     w2c_i1 = 6u;
     w2c_i0 <<= (w2c_i1 & 31);
@@ -18108,8 +18153,8 @@ static void w2c_f28(module *m, u64 w2c_p0, u64 w2c_p1) {
     w2c_l15 = w2c_i0;
     w2c_j0 = 3ull;
     w2c_l4 = w2c_j0;
-    goto w2c_B65;
-    w2c_B67:;
+    goto w2c_B67;
+    w2c_B69:;
     w2c_i0 = w2c_l17;
     w2c_i1 = 6u;
     w2c_i0 <<= (w2c_i1 & 31);
@@ -18132,7 +18177,7 @@ static void w2c_f28(module *m, u64 w2c_p0, u64 w2c_p1) {
     w2c_l15 = w2c_i0;
     w2c_j0 = 4ull;
     w2c_l4 = w2c_j0;
-    w2c_B65:;
+    w2c_B67:;
     w2c_j0 = w2c_l11;
     w2c_j1 = w2c_l4;
     w2c_j0 -= w2c_j1;
@@ -18146,7 +18191,7 @@ static void w2c_f28(module *m, u64 w2c_p0, u64 w2c_p1) {
     w2c_i0 += w2c_i1;
     w2c_i1 = 63487u;
     w2c_i0 = w2c_i0 > w2c_i1;
-    if (w2c_i0) {goto w2c_B68;}
+    if (w2c_i0) {goto w2c_B70;}
     w2c_i0 = w2c_l15;
     w2c_i1 = 12u;
     w2c_i0 >>= (w2c_i1 & 31);
@@ -18195,8 +18240,8 @@ static void w2c_f28(module *m, u64 w2c_p0, u64 w2c_p1) {
     w2c_i2 = w2c_l18;
     w2c_i0 = w2c_i2 ? w2c_i0 : w2c_i1;
     w2c_l18 = w2c_i0;
-    goto w2c_B62;
-    w2c_B68:;
+    goto w2c_B64;
+    w2c_B70:;
     w2c_i0 = w2c_l15;
     w2c_i1 = 4294967248u;
     w2c_i0 += w2c_i1;
@@ -18213,7 +18258,184 @@ static void w2c_f28(module *m, u64 w2c_p0, u64 w2c_p1) {
     w2c_i2 = w2c_l18;
     w2c_i0 = w2c_i2 ? w2c_i0 : w2c_i1;
     w2c_l18 = w2c_i0;
-    w2c_B62:;
+    w2c_B64:;
+    w2c_i0 = w2c_l15;
+    w2c_i1 = 21317u;
+    w2c_i0 = w2c_i0 == w2c_i1;
+    if (w2c_i0) {goto w2c_B73;}
+    w2c_i0 = w2c_l15;
+    w2c_i1 = 24319u;
+    w2c_i0 = w2c_i0 == w2c_i1;
+    if (w2c_i0) {goto w2c_B73;}
+    w2c_i0 = w2c_l15;
+    w2c_i1 = 4294902000u;
+    w2c_i0 += w2c_i1;
+    w2c_i1 = 10u;
+    w2c_i0 = w2c_i0 < w2c_i1;
+    if (w2c_i0) {goto w2c_B73;}
+    w2c_i0 = w2c_l15;
+    w2c_i1 = 20490u;
+    w2c_i0 = (u32)((s32)w2c_i0 > (s32)w2c_i1);
+    if (w2c_i0) {goto w2c_B75;}
+    w2c_i0 = w2c_l15;
+    w2c_i1 = 19978u;
+    w2c_i0 = (u32)((s32)w2c_i0 > (s32)w2c_i1);
+    if (w2c_i0) {goto w2c_B76;}
+    w2c_i0 = w2c_l15;
+    w2c_i1 = 8239u;
+    w2c_i0 = (u32)((s32)w2c_i0 > (s32)w2c_i1);
+    if (w2c_i0) {goto w2c_B77;}
+    w2c_i0 = w2c_l15;
+    w2c_i1 = 4294967264u;
+    w2c_i0 += w2c_i1;
+    switch (w2c_i0) {
+      case 0: goto w2c_B73;
+      case 1: goto w2c_B74;
+      case 2: goto w2c_B74;
+      case 3: goto w2c_B74;
+      case 4: goto w2c_B74;
+      case 5: goto w2c_B73;
+      default: goto w2c_B78;
+    }
+    w2c_B78:;
+    w2c_i0 = w2c_l15;
+    w2c_i1 = 165u;
+    w2c_i0 = w2c_i0 != w2c_i1;
+    if (w2c_i0) {goto w2c_B74;}
+    goto w2c_B73;
+    w2c_B77:;
+    w2c_i0 = w2c_l15;
+    w2c_i1 = 8240u;
+    w2c_i0 = w2c_i0 == w2c_i1;
+    if (w2c_i0) {goto w2c_B73;}
+    w2c_i0 = w2c_l15;
+    w2c_i1 = 8722u;
+    w2c_i0 = w2c_i0 != w2c_i1;
+    if (w2c_i0) {goto w2c_B74;}
+    goto w2c_B73;
+    w2c_B76:;
+    w2c_i0 = w2c_l15;
+    w2c_i1 = 20042u;
+    w2c_i0 = (u32)((s32)w2c_i0 > (s32)w2c_i1);
+    if (w2c_i0) {goto w2c_B79;}
+    w2c_i0 = w2c_l15;
+    w2c_i1 = 4294947292u;
+    w2c_i0 += w2c_i1;
+    switch (w2c_i0) {
+      case 0: goto w2c_B73;
+      case 1: goto w2c_B74;
+      case 2: goto w2c_B74;
+      case 3: goto w2c_B74;
+      case 4: goto w2c_B74;
+      case 5: goto w2c_B74;
+      case 6: goto w2c_B73;
+      default: goto w2c_B80;
+    }
+    w2c_B80:;
+    w2c_i0 = w2c_l15;
+    w2c_i1 = 19979u;
+    w2c_i0 = w2c_i0 != w2c_i1;
+    if (w2c_i0) {goto w2c_B74;}
+    goto w2c_B73;
+    w2c_B79:;
+    w2c_i0 = w2c_l15;
+    w2c_i1 = 20043u;
+    w2c_i0 = w2c_i0 == w2c_i1;
+    if (w2c_i0) {goto w2c_B73;}
+    w2c_i0 = w2c_l15;
+    w2c_i1 = 20191u;
+    w2c_i0 = w2c_i0 != w2c_i1;
+    if (w2c_i0) {goto w2c_B74;}
+    goto w2c_B73;
+    w2c_B75:;
+    w2c_i0 = w2c_l15;
+    w2c_i1 = 28856u;
+    w2c_i0 = (u32)((s32)w2c_i0 > (s32)w2c_i1);
+    if (w2c_i0) {goto w2c_B81;}
+    w2c_i0 = w2c_l15;
+    w2c_i1 = 20997u;
+    w2c_i0 = (u32)((s32)w2c_i0 > (s32)w2c_i1);
+    if (w2c_i0) {goto w2c_B82;}
+    w2c_i0 = w2c_l15;
+    w2c_i1 = 20491u;
+    w2c_i0 = w2c_i0 == w2c_i1;
+    if (w2c_i0) {goto w2c_B73;}
+    w2c_i0 = w2c_l15;
+    w2c_i1 = 20841u;
+    w2c_i0 = w2c_i0 != w2c_i1;
+    if (w2c_i0) {goto w2c_B74;}
+    goto w2c_B73;
+    w2c_B82:;
+    w2c_i0 = w2c_l15;
+    w2c_i1 = 20998u;
+    w2c_i0 = w2c_i0 == w2c_i1;
+    if (w2c_i0) {goto w2c_B73;}
+    w2c_i0 = w2c_l15;
+    w2c_i1 = 21315u;
+    w2c_i0 = w2c_i0 == w2c_i1;
+    if (w2c_i0) {goto w2c_B73;}
+    w2c_i0 = w2c_l15;
+    w2c_i1 = 21448u;
+    w2c_i0 = w2c_i0 != w2c_i1;
+    if (w2c_i0) {goto w2c_B74;}
+    goto w2c_B73;
+    w2c_B81:;
+    w2c_i0 = w2c_l15;
+    w2c_i1 = 40669u;
+    w2c_i0 = (u32)((s32)w2c_i0 > (s32)w2c_i1);
+    if (w2c_i0) {goto w2c_B83;}
+    w2c_i0 = w2c_l15;
+    w2c_i1 = 28857u;
+    w2c_i0 = w2c_i0 == w2c_i1;
+    if (w2c_i0) {goto w2c_B73;}
+    w2c_i0 = w2c_l15;
+    w2c_i1 = 36000u;
+    w2c_i0 = w2c_i0 == w2c_i1;
+    if (w2c_i0) {goto w2c_B73;}
+    w2c_i0 = w2c_l15;
+    w2c_i1 = 36127u;
+    w2c_i0 = w2c_i0 != w2c_i1;
+    if (w2c_i0) {goto w2c_B74;}
+    goto w2c_B73;
+    w2c_B83:;
+    w2c_i0 = w2c_l15;
+    w2c_i1 = 40670u;
+    w2c_i0 = w2c_i0 == w2c_i1;
+    if (w2c_i0) {goto w2c_B73;}
+    w2c_i0 = w2c_l15;
+    w2c_i1 = 65285u;
+    w2c_i0 = w2c_i0 == w2c_i1;
+    if (w2c_i0) {goto w2c_B73;}
+    w2c_i0 = w2c_l15;
+    w2c_i1 = 65509u;
+    w2c_i0 = w2c_i0 == w2c_i1;
+    if (w2c_i0) {goto w2c_B73;}
+    w2c_B74:;
+    w2c_i0 = w2c_l15;
+    w2c_i1 = 44u;
+    w2c_i0 = w2c_i0 < w2c_i1;
+    if (w2c_i0) {goto w2c_B72;}
+    w2c_i0 = w2c_l15;
+    w2c_i1 = 47u;
+    w2c_i0 = w2c_i0 < w2c_i1;
+    if (w2c_i0) {goto w2c_B73;}
+    w2c_i0 = w2c_l15;
+    w2c_i1 = 4294902004u;
+    w2c_i0 += w2c_i1;
+    w2c_i1 = 2u;
+    w2c_i0 = w2c_i0 > w2c_i1;
+    if (w2c_i0) {goto w2c_B72;}
+    w2c_B73:;
+    w2c_j0 = w2c_l5;
+    w2c_j1 = w2c_l11;
+    w2c_j0 -= w2c_j1;
+    w2c_l12 = w2c_j0;
+    w2c_i0 = w2c_l18;
+    w2c_i1 = 255u;
+    w2c_i0 &= w2c_i1;
+    w2c_i1 = 2u;
+    w2c_i0 = w2c_i0 != w2c_i1;
+    if (w2c_i0) {goto w2c_B85;}
     w2c_i0 = w2c_l15;
     w2c_i1 = 21317u;
     w2c_i0 = w2c_i0 == w2c_i1;
@@ -18226,165 +18448,10 @@ static void w2c_f28(module *m, u64 w2c_p0, u64 w2c_p1) {
     w2c_i1 = 4294902000u;
     w2c_i0 += w2c_i1;
     w2c_i1 = 10u;
-    w2c_i0 = w2c_i0 < w2c_i1;
-    if (w2c_i0) {goto w2c_B71;}
-    w2c_i0 = w2c_l15;
-    w2c_i1 = 20490u;
-    w2c_i0 = (u32)((s32)w2c_i0 > (s32)w2c_i1);
-    if (w2c_i0) {goto w2c_B73;}
-    w2c_i0 = w2c_l15;
-    w2c_i1 = 19978u;
-    w2c_i0 = (u32)((s32)w2c_i0 > (s32)w2c_i1);
-    if (w2c_i0) {goto w2c_B74;}
-    w2c_i0 = w2c_l15;
-    w2c_i1 = 8239u;
-    w2c_i0 = (u32)((s32)w2c_i0 > (s32)w2c_i1);
-    if (w2c_i0) {goto w2c_B75;}
-    w2c_i0 = w2c_l15;
-    w2c_i1 = 4294967264u;
-    w2c_i0 += w2c_i1;
-    switch (w2c_i0) {
-      case 0: goto w2c_B71;
-      case 1: goto w2c_B72;
-      case 2: goto w2c_B72;
-      case 3: goto w2c_B72;
-      case 4: goto w2c_B72;
-      case 5: goto w2c_B71;
-      default: goto w2c_B76;
-    }
-    w2c_B76:;
-    w2c_i0 = w2c_l15;
-    w2c_i1 = 165u;
-    w2c_i0 = w2c_i0 != w2c_i1;
-    if (w2c_i0) {goto w2c_B72;}
+    w2c_i0 = w2c_i0 >= w2c_i1;
+    if (w2c_i0) {goto w2c_B84;}
     goto w2c_B71;
-    w2c_B75:;
-    w2c_i0 = w2c_l15;
-    w2c_i1 = 8240u;
-    w2c_i0 = w2c_i0 == w2c_i1;
-    if (w2c_i0) {goto w2c_B71;}
-    w2c_i0 = w2c_l15;
-    w2c_i1 = 8722u;
-    w2c_i0 = w2c_i0 != w2c_i1;
-    if (w2c_i0) {goto w2c_B72;}
-    goto w2c_B71;
-    w2c_B74:;
-    w2c_i0 = w2c_l15;
-    w2c_i1 = 20042u;
-    w2c_i0 = (u32)((s32)w2c_i0 > (s32)w2c_i1);
-    if (w2c_i0) {goto w2c_B77;}
-    w2c_i0 = w2c_l15;
-    w2c_i1 = 4294947292u;
-    w2c_i0 += w2c_i1;
-    switch (w2c_i0) {
-      case 0: goto w2c_B71;
-      case 1: goto w2c_B72;
-      case 2: goto w2c_B72;
-      case 3: goto w2c_B72;
-      case 4: goto w2c_B72;
-      case 5: goto w2c_B72;
-      case 6: goto w2c_B71;
-      default: goto w2c_B78;
-    }
-    w2c_B78:;
-    w2c_i0 = w2c_l15;
-    w2c_i1 = 19979u;
-    w2c_i0 = w2c_i0 != w2c_i1;
-    if (w2c_i0) {goto w2c_B72;}
-    goto w2c_B71;
-    w2c_B77:;
-    w2c_i0 = w2c_l15;
-    w2c_i1 = 20043u;
-    w2c_i0 = w2c_i0 == w2c_i1;
-    if (w2c_i0) {goto w2c_B71;}
-    w2c_i0 = w2c_l15;
-    w2c_i1 = 20191u;
-    w2c_i0 = w2c_i0 != w2c_i1;
-    if (w2c_i0) {goto w2c_B72;}
-    goto w2c_B71;
-    w2c_B73:;
-    w2c_i0 = w2c_l15;
-    w2c_i1 = 28856u;
-    w2c_i0 = (u32)((s32)w2c_i0 > (s32)w2c_i1);
-    if (w2c_i0) {goto w2c_B79;}
-    w2c_i0 = w2c_l15;
-    w2c_i1 = 20997u;
-    w2c_i0 = (u32)((s32)w2c_i0 > (s32)w2c_i1);
-    if (w2c_i0) {goto w2c_B80;}
-    w2c_i0 = w2c_l15;
-    w2c_i1 = 20491u;
-    w2c_i0 = w2c_i0 == w2c_i1;
-    if (w2c_i0) {goto w2c_B71;}
-    w2c_i0 = w2c_l15;
-    w2c_i1 = 20841u;
-    w2c_i0 = w2c_i0 != w2c_i1;
-    if (w2c_i0) {goto w2c_B72;}
-    goto w2c_B71;
-    w2c_B80:;
-    w2c_i0 = w2c_l15;
-    w2c_i1 = 20998u;
-    w2c_i0 = w2c_i0 == w2c_i1;
-    if (w2c_i0) {goto w2c_B71;}
-    w2c_i0 = w2c_l15;
-    w2c_i1 = 21315u;
-    w2c_i0 = w2c_i0 == w2c_i1;
-    if (w2c_i0) {goto w2c_B71;}
-    w2c_i0 = w2c_l15;
-    w2c_i1 = 21448u;
-    w2c_i0 = w2c_i0 != w2c_i1;
-    if (w2c_i0) {goto w2c_B72;}
-    goto w2c_B71;
-    w2c_B79:;
-    w2c_i0 = w2c_l15;
-    w2c_i1 = 40669u;
-    w2c_i0 = (u32)((s32)w2c_i0 > (s32)w2c_i1);
-    if (w2c_i0) {goto w2c_B81;}
-    w2c_i0 = w2c_l15;
-    w2c_i1 = 28857u;
-    w2c_i0 = w2c_i0 == w2c_i1;
-    if (w2c_i0) {goto w2c_B71;}
-    w2c_i0 = w2c_l15;
-    w2c_i1 = 36000u;
-    w2c_i0 = w2c_i0 == w2c_i1;
-    if (w2c_i0) {goto w2c_B71;}
-    w2c_i0 = w2c_l15;
-    w2c_i1 = 36127u;
-    w2c_i0 = w2c_i0 != w2c_i1;
-    if (w2c_i0) {goto w2c_B72;}
-    goto w2c_B71;
-    w2c_B81:;
-    w2c_i0 = w2c_l15;
-    w2c_i1 = 40670u;
-    w2c_i0 = w2c_i0 == w2c_i1;
-    if (w2c_i0) {goto w2c_B71;}
-    w2c_i0 = w2c_l15;
-    w2c_i1 = 65285u;
-    w2c_i0 = w2c_i0 == w2c_i1;
-    if (w2c_i0) {goto w2c_B71;}
-    w2c_i0 = w2c_l15;
-    w2c_i1 = 65509u;
-    w2c_i0 = w2c_i0 == w2c_i1;
-    if (w2c_i0) {goto w2c_B71;}
-    w2c_B72:;
-    w2c_i0 = w2c_l15;
-    w2c_i1 = 44u;
-    w2c_i0 = w2c_i0 < w2c_i1;
-    if (w2c_i0) {goto w2c_B70;}
-    w2c_i0 = w2c_l15;
-    w2c_i1 = 47u;
-    w2c_i0 = w2c_i0 < w2c_i1;
-    if (w2c_i0) {goto w2c_B71;}
-    w2c_i0 = w2c_l15;
-    w2c_i1 = 4294902004u;
-    w2c_i0 += w2c_i1;
-    w2c_i1 = 2u;
-    w2c_i0 = w2c_i0 > w2c_i1;
-    if (w2c_i0) {goto w2c_B70;}
-    w2c_B71:;
-    w2c_j0 = w2c_l5;
-    w2c_j1 = w2c_l11;
-    w2c_j0 -= w2c_j1;
-    w2c_l12 = w2c_j0;
+    w2c_B85:;
     w2c_i0 = w2c_l14;
     w2c_i1 = w2c_l13;
     w2c_i2 = w2c_l15;
@@ -18394,7 +18461,7 @@ static void w2c_f28(module *m, u64 w2c_p0, u64 w2c_p1) {
     w2c_j6 = w2c_l2;
     w2c_i0 = w2c_f30(m, w2c_i0, w2c_i1, w2c_i2, w2c_i3, w2c_i4, w2c_j5, w2c_j6);
     w2c_i0 = !(w2c_i0);
-    if (w2c_i0) {goto w2c_B82;}
+    if (w2c_i0) {goto w2c_B84;}
     w2c_i0 = w2c_l14;
     w2c_i1 = w2c_l13;
     w2c_j2 = w2c_l6;
@@ -18404,8 +18471,8 @@ static void w2c_f28(module *m, u64 w2c_p0, u64 w2c_p1) {
     w2c_j6 = w2c_l2;
     w2c_i0 = w2c_f31(m, w2c_i0, w2c_i1, w2c_j2, w2c_j3, w2c_i4, w2c_j5, w2c_j6);
     w2c_i0 = !(w2c_i0);
-    if (w2c_i0) {goto w2c_B69;}
-    w2c_B82:;
+    if (w2c_i0) {goto w2c_B71;}
+    w2c_B84:;
     w2c_i0 = w2c_l14;
     w2c_i1 = w2c_l13;
     w2c_j2 = w2c_l6;
@@ -18414,21 +18481,21 @@ static void w2c_f28(module *m, u64 w2c_p0, u64 w2c_p1) {
     w2c_j5 = w2c_l4;
     w2c_j6 = w2c_l2;
     w2c_i0 = w2c_f32(m, w2c_i0, w2c_i1, w2c_j2, w2c_j3, w2c_i4, w2c_j5, w2c_j6);
-    if (w2c_i0) {goto w2c_B69;}
-    goto w2c_B60;
-    w2c_B70:;
+    if (w2c_i0) {goto w2c_B71;}
+    goto w2c_B62;
+    w2c_B72:;
     w2c_i0 = w2c_l18;
     w2c_j0 = (u64)(w2c_i0);
     w2c_j1 = 255ull;
     w2c_j0 &= w2c_j1;
     w2c_i0 = (u32)(w2c_j0);
     switch (w2c_i0) {
-      case 0: goto w2c_B83;
-      case 1: goto w2c_B84;
-      case 2: goto w2c_B60;
-      default: goto w2c_B83;
+      case 0: goto w2c_B86;
+      case 1: goto w2c_B87;
+      case 2: goto w2c_B62;
+      default: goto w2c_B86;
     }
-    w2c_B84:;
+    w2c_B87:;
     w2c_i0 = w2c_l13;
     w2c_i1 = 255u;
     w2c_i0 &= w2c_i1;
@@ -18436,111 +18503,111 @@ static void w2c_f28(module *m, u64 w2c_p0, u64 w2c_p1) {
     w2c_i2 = 255u;
     w2c_i1 &= w2c_i2;
     w2c_i0 = w2c_i0 < w2c_i1;
-    if (w2c_i0) {goto w2c_B60;}
-    w2c_B83:;
+    if (w2c_i0) {goto w2c_B62;}
+    w2c_B86:;
     w2c_i0 = w2c_l14;
     w2c_i1 = 1u;
     w2c_i0 &= w2c_i1;
-    if (w2c_i0) {goto w2c_B85;}
+    if (w2c_i0) {goto w2c_B88;}
     w2c_i0 = w2c_l15;
     w2c_i1 = 29589u;
     w2c_i0 = (u32)((s32)w2c_i0 > (s32)w2c_i1);
-    if (w2c_i0) {goto w2c_B87;}
+    if (w2c_i0) {goto w2c_B90;}
     w2c_i0 = w2c_l15;
     w2c_i1 = 22776u;
     w2c_i0 = (u32)((s32)w2c_i0 > (s32)w2c_i1);
-    if (w2c_i0) {goto w2c_B88;}
+    if (w2c_i0) {goto w2c_B91;}
     w2c_i0 = w2c_l15;
     w2c_i1 = 20191u;
     w2c_i0 = w2c_i0 == w2c_i1;
-    if (w2c_i0) {goto w2c_B60;}
+    if (w2c_i0) {goto w2c_B62;}
     w2c_i0 = w2c_l15;
     w2c_i1 = 20237u;
     w2c_i0 = w2c_i0 == w2c_i1;
-    if (w2c_i0) {goto w2c_B60;}
+    if (w2c_i0) {goto w2c_B62;}
     w2c_i0 = w2c_l15;
     w2c_i1 = 20336u;
     w2c_i0 = w2c_i0 != w2c_i1;
-    if (w2c_i0) {goto w2c_B86;}
-    goto w2c_B60;
-    w2c_B88:;
+    if (w2c_i0) {goto w2c_B89;}
+    goto w2c_B62;
+    w2c_B91:;
     w2c_i0 = w2c_l15;
     w2c_i1 = 25419u;
     w2c_i0 = (u32)((s32)w2c_i0 > (s32)w2c_i1);
-    if (w2c_i0) {goto w2c_B89;}
+    if (w2c_i0) {goto w2c_B92;}
     w2c_i0 = w2c_l15;
     w2c_i1 = 22777u;
     w2c_i0 = w2c_i0 == w2c_i1;
-    if (w2c_i0) {goto w2c_B60;}
+    if (w2c_i0) {goto w2c_B62;}
     w2c_i0 = w2c_l15;
     w2c_i1 = 25342u;
     w2c_i0 = w2c_i0 != w2c_i1;
-    if (w2c_i0) {goto w2c_B86;}
-    goto w2c_B60;
-    w2c_B89:;
+    if (w2c_i0) {goto w2c_B89;}
+    goto w2c_B62;
+    w2c_B92:;
     w2c_i0 = w2c_l15;
     w2c_i1 = 25420u;
     w2c_i0 = w2c_i0 == w2c_i1;
-    if (w2c_i0) {goto w2c_B60;}
+    if (w2c_i0) {goto w2c_B62;}
     w2c_i0 = w2c_l15;
     w2c_i1 = 26578u;
     w2c_i0 = w2c_i0 != w2c_i1;
-    if (w2c_i0) {goto w2c_B86;}
-    goto w2c_B60;
-    w2c_B87:;
+    if (w2c_i0) {goto w2c_B89;}
+    goto w2c_B62;
+    w2c_B90:;
     w2c_i0 = w2c_l15;
     w2c_i1 = 36143u;
     w2c_i0 = (u32)((s32)w2c_i0 > (s32)w2c_i1);
-    if (w2c_i0) {goto w2c_B90;}
+    if (w2c_i0) {goto w2c_B93;}
     w2c_i0 = w2c_l15;
     w2c_i1 = 4294931282u;
     w2c_i0 += w2c_i1;
     switch (w2c_i0) {
-      case 0: goto w2c_B60;
-      case 1: goto w2c_B86;
-      case 2: goto w2c_B86;
-      case 3: goto w2c_B86;
-      case 4: goto w2c_B86;
-      case 5: goto w2c_B60;
-      default: goto w2c_B91;
+      case 0: goto w2c_B62;
+      case 1: goto w2c_B89;
+      case 2: goto w2c_B89;
+      case 3: goto w2c_B89;
+      case 4: goto w2c_B89;
+      case 5: goto w2c_B62;
+      default: goto w2c_B94;
     }
-    w2c_B91:;
+    w2c_B94:;
     w2c_i0 = w2c_l15;
     w2c_i1 = 29590u;
     w2c_i0 = w2c_i0 == w2c_i1;
-    if (w2c_i0) {goto w2c_B60;}
+    if (w2c_i0) {goto w2c_B62;}
     w2c_i0 = w2c_l15;
     w2c_i1 = 32902u;
     w2c_i0 = w2c_i0 != w2c_i1;
-    if (w2c_i0) {goto w2c_B86;}
-    goto w2c_B60;
-    w2c_B90:;
+    if (w2c_i0) {goto w2c_B89;}
+    goto w2c_B62;
+    w2c_B93:;
     w2c_i0 = w2c_l15;
     w2c_i1 = 36144u;
     w2c_i0 = w2c_i0 == w2c_i1;
-    if (w2c_i0) {goto w2c_B60;}
+    if (w2c_i0) {goto w2c_B62;}
     w2c_i0 = w2c_l15;
     w2c_i1 = 38470u;
     w2c_i0 = w2c_i0 == w2c_i1;
-    if (w2c_i0) {goto w2c_B60;}
+    if (w2c_i0) {goto w2c_B62;}
     w2c_i0 = w2c_l15;
     w2c_i1 = 38520u;
     w2c_i0 = w2c_i0 == w2c_i1;
-    if (w2c_i0) {goto w2c_B60;}
-    w2c_B86:;
+    if (w2c_i0) {goto w2c_B62;}
+    w2c_B89:;
     w2c_i0 = w2c_l15;
     w2c_i1 = 4294945855u;
     w2c_i0 += w2c_i1;
     w2c_i1 = 4u;
     w2c_i0 = w2c_i0 < w2c_i1;
-    if (w2c_i0) {goto w2c_B60;}
-    w2c_B85:;
+    if (w2c_i0) {goto w2c_B62;}
+    w2c_B88:;
     w2c_i0 = w2c_l18;
     w2c_i1 = 255u;
     w2c_i0 &= w2c_i1;
     w2c_i1 = 1u;
     w2c_i0 = w2c_i0 != w2c_i1;
-    if (w2c_i0) {goto w2c_B69;}
+    if (w2c_i0) {goto w2c_B71;}
     w2c_i0 = 1u;
     w2c_i1 = w2c_l17;
     w2c_i2 = 255u;
@@ -18549,38 +18616,38 @@ static void w2c_f28(module *m, u64 w2c_p0, u64 w2c_p1) {
     w2c_i0 <<= (w2c_i1 & 31);
     w2c_i1 = 65470u;
     w2c_i0 &= w2c_i1;
-    if (w2c_i0) {goto w2c_B69;}
+    if (w2c_i0) {goto w2c_B71;}
     w2c_i0 = w2c_l18;
     w2c_i0 = !(w2c_i0);
-    if (w2c_i0) {goto w2c_B92;}
+    if (w2c_i0) {goto w2c_B95;}
     w2c_j0 = w2c_l4;
     w2c_j1 = w2c_l2;
     w2c_i0 = w2c_f20(m, w2c_j0, w2c_j1);
     w2c_i0 = !(w2c_i0);
-    if (w2c_i0) {goto w2c_B69;}
-    goto w2c_B60;
-    w2c_B92:;
+    if (w2c_i0) {goto w2c_B71;}
+    goto w2c_B62;
+    w2c_B95:;
     w2c_i0 = w2c_l14;
     w2c_i1 = w2c_l13;
     w2c_j2 = w2c_l4;
     w2c_j3 = w2c_l2;
     w2c_i0 = w2c_f21(m, w2c_i0, w2c_i1, w2c_j2, w2c_j3);
     w2c_i0 = !(w2c_i0);
-    if (w2c_i0) {goto w2c_B60;}
-    w2c_B69:;
+    if (w2c_i0) {goto w2c_B62;}
+    w2c_B71:;
     w2c_i0 = w2c_l16;
     w2c_i1 = 4294967248u;
     w2c_i0 += w2c_i1;
     w2c_i1 = 10u;
     w2c_i0 = w2c_i0 < w2c_i1;
-    if (w2c_i0) {goto w2c_B94;}
+    if (w2c_i0) {goto w2c_B97;}
     w2c_i0 = w2c_l16;
     w2c_i1 = 4294902000u;
     w2c_i0 += w2c_i1;
     w2c_i1 = 9u;
     w2c_i0 = w2c_i0 > w2c_i1;
-    if (w2c_i0) {goto w2c_B93;}
-    w2c_B94:;
+    if (w2c_i0) {goto w2c_B96;}
+    w2c_B97:;
     w2c_j0 = w2c_l3;
     w2c_j1 = 8ull;
     w2c_j0 += w2c_j1;
@@ -18591,7 +18658,7 @@ static void w2c_f28(module *m, u64 w2c_p0, u64 w2c_p1) {
     w2c_i0 += w2c_i1;
     w2c_i1 = 4294967285u;
     w2c_i0 = w2c_i0 > w2c_i1;
-    if (w2c_i0) {goto w2c_B95;}
+    if (w2c_i0) {goto w2c_B98;}
     w2c_j0 = w2c_l3;
     w2c_i0 = (u32)(w2c_j0);
     w2c_i0 = i32_load8_u(m, (u64)(w2c_i0) + 8u);
@@ -18599,17 +18666,17 @@ static void w2c_f28(module *m, u64 w2c_p0, u64 w2c_p1) {
     w2c_i0 &= w2c_i1;
     w2c_i1 = 1u;
     w2c_i0 = w2c_i0 == w2c_i1;
-    if (w2c_i0) {goto w2c_B60;}
-    w2c_B95:;
+    if (w2c_i0) {goto w2c_B62;}
+    w2c_B98:;
     w2c_i0 = w2c_l15;
     w2c_i1 = 21317u;
     w2c_i0 = w2c_i0 == w2c_i1;
-    if (w2c_i0) {goto w2c_B60;}
+    if (w2c_i0) {goto w2c_B62;}
     w2c_i0 = w2c_l15;
     w2c_i1 = 24319u;
     w2c_i0 = w2c_i0 == w2c_i1;
-    if (w2c_i0) {goto w2c_B60;}
-    w2c_B93:;
+    if (w2c_i0) {goto w2c_B62;}
+    w2c_B96:;
     w2c_j0 = w2c_l3;
     w2c_i1 = w2c_l16;
     w2c_f22(m, w2c_j0, w2c_i1);
@@ -18618,7 +18685,7 @@ static void w2c_f28(module *m, u64 w2c_p0, u64 w2c_p1) {
     w2c_i0 += w2c_i1;
     w2c_i1 = 4294967285u;
     w2c_i0 = w2c_i0 > w2c_i1;
-    if (w2c_i0) {goto w2c_B98;}
+    if (w2c_i0) {goto w2c_B101;}
     w2c_j0 = w2c_l3;
     w2c_i0 = (u32)(w2c_j0);
     w2c_i0 = i32_load8_u(m, (u64)(w2c_i0));
@@ -18626,70 +18693,70 @@ static void w2c_f28(module *m, u64 w2c_p0, u64 w2c_p1) {
     w2c_i0 &= w2c_i1;
     w2c_i1 = 1u;
     w2c_i0 = w2c_i0 == w2c_i1;
-    if (w2c_i0) {goto w2c_B97;}
-    w2c_B98:;
+    if (w2c_i0) {goto w2c_B100;}
+    w2c_B101:;
     w2c_i0 = w2c_l16;
     w2c_i1 = 24318u;
     w2c_i0 = (u32)((s32)w2c_i0 > (s32)w2c_i1);
-    if (w2c_i0) {goto w2c_B99;}
+    if (w2c_i0) {goto w2c_B102;}
     w2c_i0 = w2c_l16;
     w2c_i1 = 21317u;
     w2c_i0 = w2c_i0 == w2c_i1;
-    if (w2c_i0) {goto w2c_B96;}
+    if (w2c_i0) {goto w2c_B99;}
     w2c_i0 = w2c_l16;
     w2c_i1 = 37u;
     w2c_i0 = w2c_i0 == w2c_i1;
-    if (w2c_i0) {goto w2c_B60;}
+    if (w2c_i0) {goto w2c_B62;}
     w2c_i0 = w2c_l16;
     w2c_i1 = 8240u;
     w2c_i0 = w2c_i0 != w2c_i1;
-    if (w2c_i0) {goto w2c_L61;}
-    goto w2c_B60;
-    w2c_B99:;
+    if (w2c_i0) {goto w2c_L63;}
+    goto w2c_B62;
+    w2c_B102:;
     w2c_i0 = w2c_l16;
     w2c_i1 = 24319u;
     w2c_i0 = w2c_i0 == w2c_i1;
-    if (w2c_i0) {goto w2c_B96;}
+    if (w2c_i0) {goto w2c_B99;}
     w2c_i0 = w2c_l16;
     w2c_i1 = 65285u;
     w2c_i0 = w2c_i0 != w2c_i1;
-    if (w2c_i0) {goto w2c_L61;}
-    goto w2c_B60;
-    w2c_B97:;
+    if (w2c_i0) {goto w2c_L63;}
+    goto w2c_B62;
+    w2c_B100:;
     w2c_i0 = w2c_l16;
     w2c_i1 = 12295u;
     w2c_i0 = w2c_i0 == w2c_i1;
-    if (w2c_i0) {goto w2c_L61;}
+    if (w2c_i0) {goto w2c_L63;}
     w2c_i0 = w2c_l16;
     w2c_i1 = 38646u;
     w2c_i0 = w2c_i0 == w2c_i1;
-    if (w2c_i0) {goto w2c_L61;}
-    w2c_B96:;
+    if (w2c_i0) {goto w2c_L63;}
+    w2c_B99:;
     w2c_i0 = w2c_l15;
     w2c_i1 = 4294967248u;
     w2c_i0 += w2c_i1;
     w2c_i1 = 10u;
     w2c_i0 = w2c_i0 < w2c_i1;
-    if (w2c_i0) {goto w2c_B60;}
+    if (w2c_i0) {goto w2c_B62;}
     w2c_i0 = w2c_l15;
     w2c_i1 = 4294902000u;
     w2c_i0 += w2c_i1;
     w2c_i1 = 10u;
     w2c_i0 = w2c_i0 < w2c_i1;
-    if (w2c_i0) {goto w2c_B60;}
+    if (w2c_i0) {goto w2c_B62;}
     w2c_i0 = w2c_l16;
     w2c_i1 = 37u;
     w2c_i0 = w2c_i0 == w2c_i1;
-    if (w2c_i0) {goto w2c_B60;}
+    if (w2c_i0) {goto w2c_B62;}
     w2c_i0 = w2c_l16;
     w2c_i1 = 65285u;
     w2c_i0 = w2c_i0 == w2c_i1;
-    if (w2c_i0) {goto w2c_B60;}
+    if (w2c_i0) {goto w2c_B62;}
     w2c_i0 = w2c_l16;
     w2c_i1 = 8240u;
     w2c_i0 = w2c_i0 != w2c_i1;
-    if (w2c_i0) {goto w2c_L61;}
-  w2c_B60:;
+    if (w2c_i0) {goto w2c_L63;}
+  w2c_B62:;
   w2c_j0 = w2c_l8;
   w2c_j1 = w2c_l11;
   w2c_j0 -= w2c_j1;
@@ -18759,7 +18826,7 @@ static void w2c_f28(module *m, u64 w2c_p0, u64 w2c_p1) {
 }
 
 static void w2c_f29(module *m, u64 w2c_p0, u64 w2c_p1, u64 w2c_p2, u64 w2c_p3, u64 w2c_p4, u64 w2c_p5, u64 w2c_p6) {
-  u32 w2c_l12 = 0, w2c_l13 = 0, w2c_l14 = 0, w2c_l15 = 0, w2c_l16 = 0, w2c_l17 = 0, w2c_l18 = 0, w2c_l19 = 0, w2c_l20 = 0, w2c_l21 = 0, w2c_l22 = 0, w2c_l23 = 0;
+  u32 w2c_l12 = 0, w2c_l13 = 0, w2c_l14 = 0, w2c_l15 = 0, w2c_l16 = 0, w2c_l17 = 0, w2c_l18 = 0, w2c_l19 = 0, w2c_l20 = 0, w2c_l21 = 0;
   u64 w2c_l7 = 0, w2c_l8 = 0, w2c_l9 = 0, w2c_l10 = 0, w2c_l11 = 0;
   u32 w2c_i0, w2c_i1, w2c_i2, w2c_i3, w2c_i4, w2c_i5;
   u64 w2c_j0, w2c_j1, w2c_j2, w2c_j3, w2c_j4, w2c_j5, w2c_j6, w2c_j7;
@@ -18773,32 +18840,46 @@ static void w2c_f29(module *m, u64 w2c_p0, u64 w2c_p1, u64 w2c_p2, u64 w2c_p3, u
   w2c_l8 = w2c_j0;
   w2c_j1 = 16ull;
   w2c_i0 = (u64)((s64)w2c_j0 < (s64)w2c_j1);
-  if (w2c_i0) {goto w2c_B4;}
+  if (w2c_i0) {goto w2c_B13;}
   w2c_j0 = w2c_p6;
   w2c_i0 = !(w2c_j0);
   w2c_l12 = w2c_i0;
-  if (w2c_i0) {goto w2c_B5;}
+  if (w2c_i0) {goto w2c_B14;}
   w2c_j0 = w2c_p5;
   w2c_i0 = (u32)(w2c_j0);
   w2c_i0 = i32_load8_s(m, (u64)(w2c_i0));
   w2c_l13 = w2c_i0;
-  w2c_i1 = 4294967295u;
-  w2c_i0 = (u32)((s32)w2c_i0 > (s32)w2c_i1);
-  if (w2c_i0) {goto w2c_B5;}
-  w2c_i0 = w2c_l13;
-  w2c_i1 = 4294967264u;
-  w2c_i0 = w2c_i0 < w2c_i1;
-  if (w2c_i0) {goto w2c_B5;}
-  w2c_i0 = w2c_l13;
   w2c_i1 = 255u;
   w2c_i0 &= w2c_i1;
   w2c_l14 = w2c_i0;
+  w2c_j0 = 1ull;
+  w2c_l7 = w2c_j0;
+  w2c_i0 = w2c_l13;
+  w2c_i1 = 4294967295u;
+  w2c_i0 = (u32)((s32)w2c_i0 > (s32)w2c_i1);
+  if (w2c_i0) {goto w2c_B15;}
   w2c_j0 = w2c_p5;
   w2c_i0 = (u32)(w2c_j0);
   w2c_i0 = i32_load8_u(m, (u64)(w2c_i0) + 1u);
   w2c_i1 = 63u;
   w2c_i0 &= w2c_i1;
   w2c_l15 = w2c_i0;
+  w2c_i0 = w2c_l13;
+  w2c_i1 = 4294967263u;
+  w2c_i0 = w2c_i0 > w2c_i1;
+  if (w2c_i0) {goto w2c_B16;}
+  w2c_i0 = w2c_l14;
+  w2c_i1 = 6u;
+  w2c_i0 <<= (w2c_i1 & 31);
+  w2c_i1 = 1984u;
+  w2c_i0 &= w2c_i1;
+  w2c_i1 = w2c_l15;
+  w2c_i0 |= w2c_i1;
+  w2c_l14 = w2c_i0;
+  w2c_j0 = 2ull;
+  w2c_l7 = w2c_j0;
+  goto w2c_B15;
+  w2c_B16:;
   w2c_j0 = w2c_p5;
   w2c_i0 = (u32)(w2c_j0);
   w2c_i0 = i32_load8_u(m, (u64)(w2c_i0) + 2u);
@@ -18808,7 +18889,7 @@ static void w2c_f29(module *m, u64 w2c_p0, u64 w2c_p1, u64 w2c_p2, u64 w2c_p3, u
   w2c_i0 = w2c_l13;
   w2c_i1 = 4294967279u;
   w2c_i0 = w2c_i0 > w2c_i1;
-  if (w2c_i0) {goto w2c_B7;}
+  if (w2c_i0) {goto w2c_B17;}
   w2c_i0 = w2c_l15;
   w2c_i1 = 6u;
   w2c_i0 <<= (w2c_i1 & 31);
@@ -18820,9 +18901,11 @@ static void w2c_f29(module *m, u64 w2c_p0, u64 w2c_p1, u64 w2c_p2, u64 w2c_p3, u
   w2c_i0 |= w2c_i1;
   w2c_i1 = w2c_l16;
   w2c_i0 |= w2c_i1;
-  w2c_l17 = w2c_i0;
-  goto w2c_B6;
-  w2c_B7:;
+  w2c_l14 = w2c_i0;
+  w2c_j0 = 3ull;
+  w2c_l7 = w2c_j0;
+  goto w2c_B15;
+  w2c_B17:;
   w2c_i0 = w2c_l16;
   w2c_i1 = 6u;
   w2c_i0 <<= (w2c_i1 & 31);
@@ -18842,126 +18925,219 @@ static void w2c_f29(module *m, u64 w2c_p0, u64 w2c_p1, u64 w2c_p2, u64 w2c_p3, u
   w2c_i2 = 63u;
   w2c_i1 &= w2c_i2;
   w2c_i0 |= w2c_i1;
-  w2c_l17 = w2c_i0;
-  w2c_B6:;
-  w2c_i0 = w2c_l17;
+  w2c_l14 = w2c_i0;
+  w2c_j0 = 4ull;
+  w2c_l7 = w2c_j0;
+  w2c_B15:;
+  w2c_i0 = w2c_l14;
   w2c_i1 = 25240u;
-  w2c_i0 = w2c_i0 != w2c_i1;
-  if (w2c_i0) {goto w2c_B8;}
+  w2c_i0 = w2c_i0 == w2c_i1;
+  if (w2c_i0) {goto w2c_B19;}
+  w2c_j0 = w2c_p3;
+  w2c_l7 = w2c_j0;
+  w2c_j0 = w2c_p4;
+  w2c_l9 = w2c_j0;
+  w2c_i0 = w2c_l14;
+  w2c_i1 = 25104u;
+  w2c_i0 = w2c_i0 == w2c_i1;
+  if (w2c_i0) {goto w2c_B18;}
   w2c_j0 = 68352ull;
-  w2c_j1 = 1ull;
-  w2c_j2 = 68356ull;
-  w2c_j3 = 8ull;
+  w2c_j1 = 31ull;
+  w2c_j2 = 68476ull;
+  w2c_j3 = 1ull;
   w2c_j4 = w2c_p5;
   w2c_j5 = w2c_p6;
   w2c_i0 = w2c_f38(m, w2c_j0, w2c_j1, w2c_j2, w2c_j3, w2c_j4, w2c_j5);
-  if (w2c_i0) {goto w2c_B8;}
+  w2c_i0 = !(w2c_i0);
+  if (w2c_i0) {goto w2c_B14;}
   w2c_i0 = 1u;
   w2c_l14 = w2c_i0;
   w2c_i0 = 3u;
   w2c_l13 = w2c_i0;
   goto w2c_B0;
-  w2c_B8:;
-  w2c_i0 = w2c_l13;
+  w2c_B19:;
+  w2c_i0 = 1u;
+  w2c_l14 = w2c_i0;
+  w2c_i0 = 3u;
+  w2c_l13 = w2c_i0;
+  w2c_j0 = w2c_p6;
+  w2c_j1 = w2c_l7;
+  w2c_i0 = w2c_j0 == w2c_j1;
+  if (w2c_i0) {goto w2c_B0;}
+  w2c_j0 = w2c_p5;
+  w2c_j1 = w2c_l7;
+  w2c_j0 += w2c_j1;
+  w2c_l7 = w2c_j0;
+  w2c_i0 = (u32)(w2c_j0);
+  w2c_i0 = i32_load8_s(m, (u64)(w2c_i0));
+  w2c_l15 = w2c_i0;
+  w2c_i1 = 4294967295u;
+  w2c_i0 = (u32)((s32)w2c_i0 > (s32)w2c_i1);
+  if (w2c_i0) {goto w2c_B0;}
+  w2c_i0 = w2c_l15;
+  w2c_i1 = 4294967264u;
+  w2c_i0 = w2c_i0 < w2c_i1;
+  if (w2c_i0) {goto w2c_B0;}
+  w2c_i0 = w2c_l15;
+  w2c_i1 = 255u;
+  w2c_i0 &= w2c_i1;
+  w2c_l16 = w2c_i0;
+  w2c_j0 = w2c_l7;
+  w2c_i0 = (u32)(w2c_j0);
+  w2c_i0 = i32_load8_u(m, (u64)(w2c_i0) + 1u);
+  w2c_i1 = 63u;
+  w2c_i0 &= w2c_i1;
+  w2c_l17 = w2c_i0;
+  w2c_j0 = w2c_l7;
+  w2c_i0 = (u32)(w2c_j0);
+  w2c_i0 = i32_load8_u(m, (u64)(w2c_i0) + 2u);
+  w2c_i1 = 63u;
+  w2c_i0 &= w2c_i1;
+  w2c_l18 = w2c_i0;
+  w2c_i0 = w2c_l15;
   w2c_i1 = 4294967279u;
   w2c_i0 = w2c_i0 > w2c_i1;
-  if (w2c_i0) {goto w2c_B10;}
-  w2c_i0 = w2c_l15;
+  if (w2c_i0) {goto w2c_B21;}
+  w2c_i0 = w2c_l17;
   w2c_i1 = 6u;
   w2c_i0 <<= (w2c_i1 & 31);
-  w2c_i1 = w2c_l14;
+  w2c_i1 = w2c_l16;
   w2c_i2 = 12u;
   w2c_i1 <<= (w2c_i2 & 31);
   w2c_i2 = 61440u;
   w2c_i1 &= w2c_i2;
   w2c_i0 |= w2c_i1;
-  w2c_i1 = w2c_l16;
+  w2c_i1 = w2c_l18;
   w2c_i0 |= w2c_i1;
-  w2c_l13 = w2c_i0;
-  goto w2c_B9;
-  w2c_B10:;
-  w2c_i0 = w2c_l16;
+  w2c_l15 = w2c_i0;
+  goto w2c_B20;
+  w2c_B21:;
+  w2c_i0 = w2c_l18;
   w2c_i1 = 6u;
   w2c_i0 <<= (w2c_i1 & 31);
-  w2c_i1 = w2c_l15;
+  w2c_i1 = w2c_l17;
   w2c_i2 = 12u;
   w2c_i1 <<= (w2c_i2 & 31);
-  w2c_i2 = w2c_l14;
+  w2c_i2 = w2c_l16;
   w2c_i3 = 18u;
   w2c_i2 <<= (w2c_i3 & 31);
   w2c_i3 = 1835008u;
   w2c_i2 &= w2c_i3;
   w2c_i1 |= w2c_i2;
   w2c_i0 |= w2c_i1;
-  w2c_j1 = w2c_p5;
+  w2c_j1 = w2c_l7;
   w2c_i1 = (u32)(w2c_j1);
   w2c_i1 = i32_load8_u(m, (u64)(w2c_i1) + 3u);
   w2c_i2 = 63u;
   w2c_i1 &= w2c_i2;
   w2c_i0 |= w2c_i1;
-  w2c_l13 = w2c_i0;
-  w2c_B9:;
-  w2c_i0 = w2c_l13;
-  w2c_i1 = 25104u;
-  w2c_i0 = w2c_i0 != w2c_i1;
-  if (w2c_i0) {goto w2c_B5;}
-  w2c_j0 = w2c_p3;
-  w2c_l7 = w2c_j0;
-  w2c_j0 = w2c_p4;
-  w2c_l9 = w2c_j0;
-  w2c_L12:
+  w2c_l15 = w2c_i0;
+  w2c_B20:;
+  w2c_i0 = w2c_l15;
+  w2c_i1 = 30951u;
+  w2c_i0 = (u32)((s32)w2c_i0 > (s32)w2c_i1);
+  if (w2c_i0) {goto w2c_B22;}
+  w2c_i0 = w2c_l15;
+  w2c_i1 = 26086u;
+  w2c_i0 = (u32)((s32)w2c_i0 > (s32)w2c_i1);
+  if (w2c_i0) {goto w2c_B23;}
+  w2c_i0 = w2c_l15;
+  w2c_i1 = 21472u;
+  w2c_i0 = w2c_i0 == w2c_i1;
+  if (w2c_i0) {goto w2c_B14;}
+  w2c_i0 = w2c_l15;
+  w2c_i1 = 21512u;
+  w2c_i0 = w2c_i0 == w2c_i1;
+  if (w2c_i0) {goto w2c_B14;}
+  goto w2c_B0;
+  w2c_B23:;
+  w2c_i0 = w2c_l15;
+  w2c_i1 = 26087u;
+  w2c_i0 = w2c_i0 == w2c_i1;
+  if (w2c_i0) {goto w2c_B14;}
+  w2c_i0 = w2c_l15;
+  w2c_i1 = 30090u;
+  w2c_i0 = w2c_i0 == w2c_i1;
+  if (w2c_i0) {goto w2c_B14;}
+  goto w2c_B0;
+  w2c_B22:;
+  w2c_i0 = w2c_l15;
+  w2c_i1 = 33289u;
+  w2c_i0 = (u32)((s32)w2c_i0 > (s32)w2c_i1);
+  if (w2c_i0) {goto w2c_B24;}
+  w2c_i0 = w2c_l15;
+  w2c_i1 = 30952u;
+  w2c_i0 = w2c_i0 == w2c_i1;
+  if (w2c_i0) {goto w2c_B14;}
+  w2c_i0 = w2c_l15;
+  w2c_i1 = 31639u;
+  w2c_i0 = w2c_i0 == w2c_i1;
+  if (w2c_i0) {goto w2c_B14;}
+  goto w2c_B0;
+  w2c_B24:;
+  w2c_i0 = w2c_l15;
+  w2c_i1 = 33290u;
+  w2c_i0 = w2c_i0 == w2c_i1;
+  if (w2c_i0) {goto w2c_B14;}
+  w2c_i0 = w2c_l15;
+  w2c_i1 = 36820u;
+  w2c_i0 = w2c_i0 == w2c_i1;
+  if (w2c_i0) {goto w2c_B14;}
+  goto w2c_B0;
+  w2c_B18:;
+  w2c_L26:
     w2c_j0 = w2c_l9;
     w2c_i0 = !(w2c_j0);
-    if (w2c_i0) {goto w2c_B11;}
+    if (w2c_i0) {goto w2c_B25;}
     w2c_j0 = w2c_l7;
     w2c_i0 = (u32)(w2c_j0);
     w2c_i0 = i32_load8_s(m, (u64)(w2c_i0));
-    w2c_l14 = w2c_i0;
+    w2c_l13 = w2c_i0;
     w2c_i1 = 255u;
     w2c_i0 &= w2c_i1;
-    w2c_l13 = w2c_i0;
+    w2c_l14 = w2c_i0;
     w2c_j0 = 1ull;
     w2c_l10 = w2c_j0;
-    w2c_i0 = w2c_l14;
+    w2c_i0 = w2c_l13;
     w2c_i1 = 4294967295u;
     w2c_i0 = (u32)((s32)w2c_i0 > (s32)w2c_i1);
-    if (w2c_i0) {goto w2c_B13;}
+    if (w2c_i0) {goto w2c_B27;}
     w2c_j0 = w2c_l7;
     w2c_i0 = (u32)(w2c_j0);
     w2c_i0 = i32_load8_u(m, (u64)(w2c_i0) + 1u);
     w2c_i1 = 63u;
     w2c_i0 &= w2c_i1;
     w2c_l15 = w2c_i0;
-    w2c_i0 = w2c_l14;
+    w2c_i0 = w2c_l13;
     w2c_i1 = 4294967263u;
     w2c_i0 = w2c_i0 > w2c_i1;
-    if (w2c_i0) {goto w2c_B14;}
-    w2c_i0 = w2c_l13;
+    if (w2c_i0) {goto w2c_B28;}
+    w2c_i0 = w2c_l14;
     w2c_i1 = 6u;
     w2c_i0 <<= (w2c_i1 & 31);
     w2c_i1 = 1984u;
     w2c_i0 &= w2c_i1;
     w2c_i1 = w2c_l15;
     w2c_i0 |= w2c_i1;
-    w2c_l13 = w2c_i0;
+    w2c_l14 = w2c_i0;
     w2c_j0 = 2ull;
     w2c_l10 = w2c_j0;
-    goto w2c_B13;
-    w2c_B14:;
+    goto w2c_B27;
+    w2c_B28:;
     w2c_j0 = w2c_l7;
     w2c_i0 = (u32)(w2c_j0);
     w2c_i0 = i32_load8_u(m, (u64)(w2c_i0) + 2u);
     w2c_i1 = 63u;
     w2c_i0 &= w2c_i1;
     w2c_l16 = w2c_i0;
-    w2c_i0 = w2c_l14;
+    w2c_i0 = w2c_l13;
     w2c_i1 = 4294967279u;
     w2c_i0 = w2c_i0 > w2c_i1;
-    if (w2c_i0) {goto w2c_B15;}
+    if (w2c_i0) {goto w2c_B29;}
     w2c_i0 = w2c_l15;
     w2c_i1 = 6u;
     w2c_i0 <<= (w2c_i1 & 31);
-    w2c_i1 = w2c_l13;
+    w2c_i1 = w2c_l14;
     w2c_i2 = 12u;
     w2c_i1 <<= (w2c_i2 & 31);
     w2c_i2 = 61440u;
@@ -18969,18 +19145,18 @@ static void w2c_f29(module *m, u64 w2c_p0, u64 w2c_p1, u64 w2c_p2, u64 w2c_p3, u
     w2c_i0 |= w2c_i1;
     w2c_i1 = w2c_l16;
     w2c_i0 |= w2c_i1;
-    w2c_l13 = w2c_i0;
+    w2c_l14 = w2c_i0;
     w2c_j0 = 3ull;
     w2c_l10 = w2c_j0;
-    goto w2c_B13;
-    w2c_B15:;
+    goto w2c_B27;
+    w2c_B29:;
     w2c_i0 = w2c_l16;
     w2c_i1 = 6u;
     w2c_i0 <<= (w2c_i1 & 31);
     w2c_i1 = w2c_l15;
     w2c_i2 = 12u;
     w2c_i1 <<= (w2c_i2 & 31);
-    w2c_i2 = w2c_l13;
+    w2c_i2 = w2c_l14;
     w2c_i3 = 18u;
     w2c_i2 <<= (w2c_i3 & 31);
     w2c_i3 = 1835008u;
@@ -18993,21 +19169,21 @@ static void w2c_f29(module *m, u64 w2c_p0, u64 w2c_p1, u64 w2c_p2, u64 w2c_p3, u
     w2c_i2 = 63u;
     w2c_i1 &= w2c_i2;
     w2c_i0 |= w2c_i1;
-    w2c_l13 = w2c_i0;
+    w2c_l14 = w2c_i0;
     w2c_j0 = 4ull;
     w2c_l10 = w2c_j0;
-    w2c_B13:;
+    w2c_B27:;
     w2c_j0 = w2c_l8;
     w2c_j1 = 56ull;
     w2c_j0 += w2c_j1;
-    w2c_i1 = w2c_l13;
+    w2c_i1 = w2c_l14;
     w2c_f22(m, w2c_j0, w2c_i1);
-    w2c_i0 = w2c_l13;
+    w2c_i0 = w2c_l14;
     w2c_i1 = 4294967238u;
     w2c_i0 += w2c_i1;
     w2c_i1 = 4294967285u;
     w2c_i0 = w2c_i0 > w2c_i1;
-    if (w2c_i0) {goto w2c_B5;}
+    if (w2c_i0) {goto w2c_B14;}
     w2c_j0 = w2c_l9;
     w2c_j1 = w2c_l10;
     w2c_j0 -= w2c_j1;
@@ -19023,10 +19199,10 @@ static void w2c_f29(module *m, u64 w2c_p0, u64 w2c_p1, u64 w2c_p2, u64 w2c_p3, u
     w2c_i0 &= w2c_i1;
     w2c_i1 = 1u;
     w2c_i0 = w2c_i0 == w2c_i1;
-    if (w2c_i0) {goto w2c_L12;}
-    goto w2c_B5;
+    if (w2c_i0) {goto w2c_L26;}
+    goto w2c_B14;
   UNREACHABLE;
-  w2c_B11:;
+  w2c_B25:;
   w2c_i0 = 1u;
   w2c_l14 = w2c_i0;
   w2c_i0 = 3u;
@@ -19040,19 +19216,19 @@ static void w2c_f29(module *m, u64 w2c_p0, u64 w2c_p1, u64 w2c_p2, u64 w2c_p3, u
   w2c_l15 = w2c_i0;
   w2c_i1 = 4294967295u;
   w2c_i0 = (u32)((s32)w2c_i0 <= (s32)w2c_i1);
-  if (w2c_i0) {goto w2c_B17;}
+  if (w2c_i0) {goto w2c_B31;}
   w2c_j0 = 1ull;
   w2c_l7 = w2c_j0;
-  goto w2c_B16;
-  w2c_B17:;
+  goto w2c_B30;
+  w2c_B31:;
   w2c_i0 = w2c_l15;
   w2c_i1 = 4294967264u;
   w2c_i0 = w2c_i0 >= w2c_i1;
-  if (w2c_i0) {goto w2c_B18;}
+  if (w2c_i0) {goto w2c_B32;}
   w2c_j0 = 2ull;
   w2c_l7 = w2c_j0;
-  goto w2c_B16;
-  w2c_B18:;
+  goto w2c_B30;
+  w2c_B32:;
   w2c_j0 = 3ull;
   w2c_j1 = 4ull;
   w2c_i2 = w2c_l15;
@@ -19060,7 +19236,7 @@ static void w2c_f29(module *m, u64 w2c_p0, u64 w2c_p1, u64 w2c_p2, u64 w2c_p3, u
   w2c_i2 = w2c_i2 < w2c_i3;
   w2c_j0 = w2c_i2 ? w2c_j0 : w2c_j1;
   w2c_l7 = w2c_j0;
-  w2c_B16:;
+  w2c_B30:;
   w2c_j0 = w2c_p4;
   w2c_j1 = w2c_l7;
   w2c_i0 = w2c_j0 == w2c_j1;
@@ -19073,19 +19249,19 @@ static void w2c_f29(module *m, u64 w2c_p0, u64 w2c_p1, u64 w2c_p2, u64 w2c_p3, u
   w2c_l15 = w2c_i0;
   w2c_i1 = 4294967295u;
   w2c_i0 = (u32)((s32)w2c_i0 <= (s32)w2c_i1);
-  if (w2c_i0) {goto w2c_B20;}
+  if (w2c_i0) {goto w2c_B34;}
   w2c_j0 = 1ull;
   w2c_l10 = w2c_j0;
-  goto w2c_B19;
-  w2c_B20:;
+  goto w2c_B33;
+  w2c_B34:;
   w2c_i0 = w2c_l15;
   w2c_i1 = 4294967264u;
   w2c_i0 = w2c_i0 >= w2c_i1;
-  if (w2c_i0) {goto w2c_B21;}
+  if (w2c_i0) {goto w2c_B35;}
   w2c_j0 = 2ull;
   w2c_l10 = w2c_j0;
-  goto w2c_B19;
-  w2c_B21:;
+  goto w2c_B33;
+  w2c_B35:;
   w2c_j0 = 3ull;
   w2c_j1 = 4ull;
   w2c_i2 = w2c_l15;
@@ -19093,58 +19269,46 @@ static void w2c_f29(module *m, u64 w2c_p0, u64 w2c_p1, u64 w2c_p2, u64 w2c_p3, u
   w2c_i2 = w2c_i2 < w2c_i3;
   w2c_j0 = w2c_i2 ? w2c_j0 : w2c_j1;
   w2c_l10 = w2c_j0;
-  w2c_B19:;
+  w2c_B33:;
   w2c_j0 = w2c_p4;
   w2c_j1 = w2c_l10;
   w2c_j2 = w2c_l7;
   w2c_j1 += w2c_j2;
   w2c_i0 = w2c_j0 == w2c_j1;
   if (w2c_i0) {goto w2c_B0;}
-  w2c_B5:;
-  w2c_j0 = 68388ull;
-  w2c_j1 = 31ull;
-  w2c_j2 = 68512ull;
-  w2c_j3 = 1ull;
-  w2c_j4 = w2c_p5;
-  w2c_j5 = w2c_p6;
-  w2c_i0 = w2c_f38(m, w2c_j0, w2c_j1, w2c_j2, w2c_j3, w2c_j4, w2c_j5);
-  w2c_i0 = !(w2c_i0);
-  if (w2c_i0) {goto w2c_B22;}
-  w2c_i0 = 3u;
-  w2c_l13 = w2c_i0;
-  w2c_i0 = 1u;
-  w2c_l14 = w2c_i0;
-  goto w2c_B0;
-  w2c_B22:;
+  w2c_B14:;
   w2c_j0 = w2c_p2;
   w2c_i0 = !(w2c_j0);
   w2c_l17 = w2c_i0;
-  if (w2c_i0) {goto w2c_B23;}
+  if (w2c_i0) {goto w2c_B38;}
   w2c_j0 = w2c_p1;
   w2c_j1 = w2c_p2;
-  w2c_j0 += w2c_j1;
-  w2c_l7 = w2c_j0;
-  w2c_j1 = 18446744073709551615ull;
+  w2c_j2 = 18446744073709551615ull;
+  w2c_j1 += w2c_j2;
+  w2c_l7 = w2c_j1;
   w2c_j0 += w2c_j1;
   w2c_i0 = (u32)(w2c_j0);
   w2c_i0 = i32_load8_s(m, (u64)(w2c_i0));
-  w2c_i1 = 4294967295u;
-  w2c_i0 = (u32)((s32)w2c_i0 > (s32)w2c_i1);
-  if (w2c_i0) {goto w2c_B23;}
+  w2c_l14 = w2c_i0;
+  w2c_i1 = 0u;
+  w2c_i0 = (u32)((s32)w2c_i0 >= (s32)w2c_i1);
+  if (w2c_i0) {goto w2c_B39;}
   w2c_j0 = 18446744073709551614ull;
+  w2c_l7 = w2c_j0;
+  w2c_j0 = w2c_p1;
+  w2c_j1 = w2c_p2;
+  w2c_j0 += w2c_j1;
   w2c_l10 = w2c_j0;
-  w2c_j0 = w2c_l7;
   w2c_j1 = 18446744073709551614ull;
   w2c_j0 += w2c_j1;
   w2c_i0 = (u32)(w2c_j0);
   w2c_i0 = i32_load8_u(m, (u64)(w2c_i0));
-  w2c_l13 = w2c_i0;
   w2c_i1 = 191u;
   w2c_i0 = w2c_i0 > w2c_i1;
-  if (w2c_i0) {goto w2c_B24;}
+  if (w2c_i0) {goto w2c_B40;}
   w2c_j0 = 18446744073709551613ull;
   w2c_j1 = 18446744073709551612ull;
-  w2c_j2 = w2c_l7;
+  w2c_j2 = w2c_l10;
   w2c_j3 = 18446744073709551613ull;
   w2c_j2 += w2c_j3;
   w2c_i2 = (u32)(w2c_j2);
@@ -19152,65 +19316,76 @@ static void w2c_f29(module *m, u64 w2c_p0, u64 w2c_p1, u64 w2c_p2, u64 w2c_p3, u
   w2c_i3 = 191u;
   w2c_i2 = w2c_i2 > w2c_i3;
   w2c_j0 = w2c_i2 ? w2c_j0 : w2c_j1;
-  w2c_l10 = w2c_j0;
-  w2c_B24:;
+  w2c_l7 = w2c_j0;
+  w2c_B40:;
   w2c_j0 = w2c_p1;
-  w2c_j1 = w2c_l10;
-  w2c_j0 += w2c_j1;
-  w2c_j1 = w2c_p2;
+  w2c_j1 = w2c_l7;
+  w2c_j2 = w2c_p2;
+  w2c_j1 += w2c_j2;
+  w2c_l7 = w2c_j1;
   w2c_j0 += w2c_j1;
   w2c_l10 = w2c_j0;
   w2c_i0 = (u32)(w2c_j0);
   w2c_i0 = i32_load8_s(m, (u64)(w2c_i0));
-  w2c_l14 = w2c_i0;
-  w2c_i1 = 4294967295u;
-  w2c_i0 = (u32)((s32)w2c_i0 > (s32)w2c_i1);
-  if (w2c_i0) {goto w2c_B25;}
-  w2c_i0 = w2c_l14;
-  w2c_i1 = 4294967264u;
-  w2c_i0 = w2c_i0 < w2c_i1;
-  if (w2c_i0) {goto w2c_B25;}
-  w2c_i0 = w2c_l14;
+  w2c_l13 = w2c_i0;
   w2c_i1 = 255u;
   w2c_i0 &= w2c_i1;
-  w2c_l15 = w2c_i0;
+  w2c_l14 = w2c_i0;
+  w2c_i0 = w2c_l13;
+  w2c_i1 = 4294967295u;
+  w2c_i0 = (u32)((s32)w2c_i0 > (s32)w2c_i1);
+  if (w2c_i0) {goto w2c_B39;}
   w2c_j0 = w2c_l10;
   w2c_i0 = (u32)(w2c_j0);
   w2c_i0 = i32_load8_u(m, (u64)(w2c_i0) + 1u);
   w2c_i1 = 63u;
   w2c_i0 &= w2c_i1;
-  w2c_l16 = w2c_i0;
+  w2c_l15 = w2c_i0;
+  w2c_i0 = w2c_l13;
+  w2c_i1 = 4294967263u;
+  w2c_i0 = w2c_i0 > w2c_i1;
+  if (w2c_i0) {goto w2c_B41;}
+  w2c_i0 = w2c_l14;
+  w2c_i1 = 6u;
+  w2c_i0 <<= (w2c_i1 & 31);
+  w2c_i1 = 1984u;
+  w2c_i0 &= w2c_i1;
+  w2c_i1 = w2c_l15;
+  w2c_i0 |= w2c_i1;
+  w2c_l14 = w2c_i0;
+  goto w2c_B39;
+  w2c_B41:;
   w2c_j0 = w2c_l10;
   w2c_i0 = (u32)(w2c_j0);
   w2c_i0 = i32_load8_u(m, (u64)(w2c_i0) + 2u);
   w2c_i1 = 63u;
   w2c_i0 &= w2c_i1;
-  w2c_l18 = w2c_i0;
-  w2c_i0 = w2c_l14;
+  w2c_l16 = w2c_i0;
+  w2c_i0 = w2c_l13;
   w2c_i1 = 4294967279u;
   w2c_i0 = w2c_i0 > w2c_i1;
-  if (w2c_i0) {goto w2c_B27;}
+  if (w2c_i0) {goto w2c_B42;}
+  w2c_i0 = w2c_l15;
+  w2c_i1 = 6u;
+  w2c_i0 <<= (w2c_i1 & 31);
+  w2c_i1 = w2c_l14;
+  w2c_i2 = 12u;
+  w2c_i1 <<= (w2c_i2 & 31);
+  w2c_i2 = 61440u;
+  w2c_i1 &= w2c_i2;
+  w2c_i0 |= w2c_i1;
+  w2c_i1 = w2c_l16;
+  w2c_i0 |= w2c_i1;
+  w2c_l14 = w2c_i0;
+  goto w2c_B39;
+  w2c_B42:;
   w2c_i0 = w2c_l16;
   w2c_i1 = 6u;
   w2c_i0 <<= (w2c_i1 & 31);
   w2c_i1 = w2c_l15;
   w2c_i2 = 12u;
   w2c_i1 <<= (w2c_i2 & 31);
-  w2c_i2 = 61440u;
-  w2c_i1 &= w2c_i2;
-  w2c_i0 |= w2c_i1;
-  w2c_i1 = w2c_l18;
-  w2c_i0 |= w2c_i1;
-  w2c_l14 = w2c_i0;
-  goto w2c_B26;
-  w2c_B27:;
-  w2c_i0 = w2c_l18;
-  w2c_i1 = 6u;
-  w2c_i0 <<= (w2c_i1 & 31);
-  w2c_i1 = w2c_l16;
-  w2c_i2 = 12u;
-  w2c_i1 <<= (w2c_i2 & 31);
-  w2c_i2 = w2c_l15;
+  w2c_i2 = w2c_l14;
   w2c_i3 = 18u;
   w2c_i2 <<= (w2c_i3 & 31);
   w2c_i3 = 1835008u;
@@ -19224,79 +19399,135 @@ static void w2c_f29(module *m, u64 w2c_p0, u64 w2c_p1, u64 w2c_p2, u64 w2c_p3, u
   w2c_i1 &= w2c_i2;
   w2c_i0 |= w2c_i1;
   w2c_l14 = w2c_i0;
-  w2c_B26:;
+  w2c_B39:;
+  w2c_i0 = w2c_l14;
+  w2c_i1 = 26375u;
+  w2c_i0 = (u32)((s32)w2c_i0 > (s32)w2c_i1);
+  if (w2c_i0) {goto w2c_B47;}
   w2c_i0 = w2c_l14;
   w2c_i1 = 21452u;
-  w2c_i0 = w2c_i0 != w2c_i1;
-  if (w2c_i0) {goto w2c_B29;}
-  w2c_j0 = w2c_p4;
-  w2c_i0 = !(w2c_j0);
-  w2c_i0 = !(w2c_i0);
-  if (w2c_i0) {goto w2c_B28;}
-  goto w2c_B25;
-  w2c_B29:;
-  w2c_j0 = w2c_p4;
-  w2c_i0 = !(w2c_j0);
-  if (w2c_i0) {goto w2c_B25;}
+  w2c_i0 = w2c_i0 == w2c_i1;
+  if (w2c_i0) {goto w2c_B46;}
   w2c_i0 = w2c_l14;
-  w2c_i1 = 38617u;
+  w2c_i1 = 24180u;
   w2c_i0 = w2c_i0 != w2c_i1;
-  if (w2c_i0) {goto w2c_B25;}
-  w2c_B28:;
+  if (w2c_i0) {goto w2c_B38;}
+  w2c_j0 = w2c_p4;
+  w2c_i0 = !(w2c_j0);
+  if (w2c_i0) {goto w2c_B37;}
   w2c_j0 = w2c_p3;
   w2c_i0 = (u32)(w2c_j0);
   w2c_i0 = i32_load8_s(m, (u64)(w2c_i0));
   w2c_l14 = w2c_i0;
   w2c_i1 = 4294967295u;
   w2c_i0 = (u32)((s32)w2c_i0 > (s32)w2c_i1);
-  if (w2c_i0) {goto w2c_B25;}
+  if (w2c_i0) {goto w2c_B38;}
   w2c_i0 = w2c_l14;
   w2c_i1 = 4294967264u;
   w2c_i0 = w2c_i0 < w2c_i1;
-  if (w2c_i0) {goto w2c_B25;}
+  if (w2c_i0) {goto w2c_B38;}
   w2c_i0 = w2c_l14;
   w2c_i1 = 255u;
   w2c_i0 &= w2c_i1;
-  w2c_l15 = w2c_i0;
+  w2c_l13 = w2c_i0;
   w2c_j0 = w2c_p3;
   w2c_i0 = (u32)(w2c_j0);
   w2c_i0 = i32_load8_u(m, (u64)(w2c_i0) + 1u);
   w2c_i1 = 63u;
   w2c_i0 &= w2c_i1;
-  w2c_l16 = w2c_i0;
+  w2c_l15 = w2c_i0;
   w2c_j0 = w2c_p3;
   w2c_i0 = (u32)(w2c_j0);
   w2c_i0 = i32_load8_u(m, (u64)(w2c_i0) + 2u);
   w2c_i1 = 63u;
   w2c_i0 &= w2c_i1;
-  w2c_l18 = w2c_i0;
+  w2c_l16 = w2c_i0;
   w2c_i0 = w2c_l14;
   w2c_i1 = 4294967279u;
   w2c_i0 = w2c_i0 > w2c_i1;
-  if (w2c_i0) {goto w2c_B31;}
+  if (w2c_i0) {goto w2c_B45;}
+  w2c_i0 = w2c_l15;
+  w2c_i1 = 6u;
+  w2c_i0 <<= (w2c_i1 & 31);
+  w2c_i1 = w2c_l13;
+  w2c_i2 = 12u;
+  w2c_i1 <<= (w2c_i2 & 31);
+  w2c_i2 = 61440u;
+  w2c_i1 &= w2c_i2;
+  w2c_i0 |= w2c_i1;
+  w2c_i1 = w2c_l16;
+  w2c_i0 |= w2c_i1;
+  w2c_l14 = w2c_i0;
+  w2c_j0 = 3ull;
+  w2c_l7 = w2c_j0;
+  goto w2c_B44;
+  w2c_B47:;
+  w2c_i0 = w2c_l14;
+  w2c_i1 = 26376u;
+  w2c_i0 = w2c_i0 == w2c_i1;
+  if (w2c_i0) {goto w2c_B43;}
+  w2c_i0 = w2c_l14;
+  w2c_i1 = 38617u;
+  w2c_i0 = w2c_i0 != w2c_i1;
+  if (w2c_i0) {goto w2c_B38;}
+  w2c_B46:;
+  w2c_j0 = w2c_p4;
+  w2c_i0 = !(w2c_j0);
+  if (w2c_i0) {goto w2c_B37;}
+  w2c_j0 = w2c_p3;
+  w2c_i0 = (u32)(w2c_j0);
+  w2c_i0 = i32_load8_s(m, (u64)(w2c_i0));
+  w2c_l14 = w2c_i0;
+  w2c_i1 = 4294967295u;
+  w2c_i0 = (u32)((s32)w2c_i0 > (s32)w2c_i1);
+  if (w2c_i0) {goto w2c_B38;}
+  w2c_i0 = w2c_l14;
+  w2c_i1 = 4294967264u;
+  w2c_i0 = w2c_i0 < w2c_i1;
+  if (w2c_i0) {goto w2c_B38;}
+  w2c_i0 = w2c_l14;
+  w2c_i1 = 255u;
+  w2c_i0 &= w2c_i1;
+  w2c_l13 = w2c_i0;
+  w2c_j0 = w2c_p3;
+  w2c_i0 = (u32)(w2c_j0);
+  w2c_i0 = i32_load8_u(m, (u64)(w2c_i0) + 1u);
+  w2c_i1 = 63u;
+  w2c_i0 &= w2c_i1;
+  w2c_l15 = w2c_i0;
+  w2c_j0 = w2c_p3;
+  w2c_i0 = (u32)(w2c_j0);
+  w2c_i0 = i32_load8_u(m, (u64)(w2c_i0) + 2u);
+  w2c_i1 = 63u;
+  w2c_i0 &= w2c_i1;
+  w2c_l16 = w2c_i0;
+  w2c_i0 = w2c_l14;
+  w2c_i1 = 4294967279u;
+  w2c_i0 = w2c_i0 > w2c_i1;
+  if (w2c_i0) {goto w2c_B49;}
+  w2c_i0 = w2c_l15;
+  w2c_i1 = 6u;
+  w2c_i0 <<= (w2c_i1 & 31);
+  w2c_i1 = w2c_l13;
+  w2c_i2 = 12u;
+  w2c_i1 <<= (w2c_i2 & 31);
+  w2c_i2 = 61440u;
+  w2c_i1 &= w2c_i2;
+  w2c_i0 |= w2c_i1;
+  w2c_i1 = w2c_l16;
+  w2c_i0 |= w2c_i1;
+  w2c_l18 = w2c_i0;
+  w2c_j0 = 3ull;
+  w2c_l7 = w2c_j0;
+  goto w2c_B48;
+  w2c_B49:;
   w2c_i0 = w2c_l16;
   w2c_i1 = 6u;
   w2c_i0 <<= (w2c_i1 & 31);
   w2c_i1 = w2c_l15;
   w2c_i2 = 12u;
   w2c_i1 <<= (w2c_i2 & 31);
-  w2c_i2 = 61440u;
-  w2c_i1 &= w2c_i2;
-  w2c_i0 |= w2c_i1;
-  w2c_i1 = w2c_l18;
-  w2c_i0 |= w2c_i1;
-  w2c_l19 = w2c_i0;
-  w2c_j0 = 3ull;
-  w2c_l10 = w2c_j0;
-  goto w2c_B30;
-  w2c_B31:;
-  w2c_i0 = w2c_l18;
-  w2c_i1 = 6u;
-  w2c_i0 <<= (w2c_i1 & 31);
-  w2c_i1 = w2c_l16;
-  w2c_i2 = 12u;
-  w2c_i1 <<= (w2c_i2 & 31);
-  w2c_i2 = w2c_l15;
+  w2c_i2 = w2c_l13;
   w2c_i3 = 18u;
   w2c_i2 <<= (w2c_i3 & 31);
   w2c_i3 = 1835008u;
@@ -19309,129 +19540,129 @@ static void w2c_f29(module *m, u64 w2c_p0, u64 w2c_p1, u64 w2c_p2, u64 w2c_p3, u
   w2c_i2 = 63u;
   w2c_i1 &= w2c_i2;
   w2c_i0 |= w2c_i1;
-  w2c_l19 = w2c_i0;
+  w2c_l18 = w2c_i0;
   w2c_j0 = 4ull;
-  w2c_l10 = w2c_j0;
-  w2c_B30:;
+  w2c_l7 = w2c_j0;
+  w2c_B48:;
   w2c_j0 = w2c_p4;
-  w2c_j1 = w2c_l10;
+  w2c_j1 = w2c_l7;
   w2c_i0 = w2c_j0 == w2c_j1;
-  if (w2c_i0) {goto w2c_B32;}
-  w2c_i0 = w2c_l19;
+  if (w2c_i0) {goto w2c_B50;}
+  w2c_i0 = w2c_l18;
   w2c_i1 = 21313u;
   w2c_i0 = w2c_i0 != w2c_i1;
-  if (w2c_i0) {goto w2c_B32;}
+  if (w2c_i0) {goto w2c_B50;}
   w2c_j0 = w2c_p3;
-  w2c_j1 = w2c_l10;
+  w2c_j1 = w2c_l7;
   w2c_j0 += w2c_j1;
-  w2c_l9 = w2c_j0;
+  w2c_l10 = w2c_j0;
   w2c_i0 = (u32)(w2c_j0);
   w2c_i0 = i32_load8_s(m, (u64)(w2c_i0));
-  w2c_l19 = w2c_i0;
+  w2c_l18 = w2c_i0;
   w2c_i1 = 4294967295u;
   w2c_i0 = (u32)((s32)w2c_i0 > (s32)w2c_i1);
-  if (w2c_i0) {goto w2c_B32;}
-  w2c_i0 = w2c_l19;
+  if (w2c_i0) {goto w2c_B50;}
+  w2c_i0 = w2c_l18;
   w2c_i1 = 4294967264u;
   w2c_i0 = w2c_i0 < w2c_i1;
-  if (w2c_i0) {goto w2c_B32;}
-  w2c_i0 = w2c_l19;
+  if (w2c_i0) {goto w2c_B50;}
+  w2c_i0 = w2c_l18;
   w2c_i1 = 255u;
   w2c_i0 &= w2c_i1;
-  w2c_l20 = w2c_i0;
-  w2c_j0 = w2c_l9;
+  w2c_l19 = w2c_i0;
+  w2c_j0 = w2c_l10;
   w2c_i0 = (u32)(w2c_j0);
   w2c_i0 = i32_load8_u(m, (u64)(w2c_i0) + 1u);
   w2c_i1 = 63u;
   w2c_i0 &= w2c_i1;
-  w2c_l21 = w2c_i0;
-  w2c_j0 = w2c_l9;
+  w2c_l20 = w2c_i0;
+  w2c_j0 = w2c_l10;
   w2c_i0 = (u32)(w2c_j0);
   w2c_i0 = i32_load8_u(m, (u64)(w2c_i0) + 2u);
   w2c_i1 = 63u;
   w2c_i0 &= w2c_i1;
-  w2c_l22 = w2c_i0;
-  w2c_i0 = w2c_l19;
+  w2c_l21 = w2c_i0;
+  w2c_i0 = w2c_l18;
   w2c_i1 = 4294967280u;
   w2c_i0 = w2c_i0 < w2c_i1;
-  if (w2c_i0) {goto w2c_B34;}
-  w2c_i0 = w2c_l22;
-  w2c_i1 = 6u;
-  w2c_i0 <<= (w2c_i1 & 31);
-  w2c_i1 = w2c_l21;
-  w2c_i2 = 12u;
-  w2c_i1 <<= (w2c_i2 & 31);
-  w2c_i2 = w2c_l20;
-  w2c_i3 = 18u;
-  w2c_i2 <<= (w2c_i3 & 31);
-  w2c_i3 = 1835008u;
-  w2c_i2 &= w2c_i3;
-  w2c_i1 |= w2c_i2;
-  w2c_i0 |= w2c_i1;
-  w2c_j1 = w2c_l9;
-  w2c_i1 = (u32)(w2c_j1);
-  w2c_i1 = i32_load8_u(m, (u64)(w2c_i1) + 3u);
-  w2c_i2 = 63u;
-  w2c_i1 &= w2c_i2;
-  w2c_i0 |= w2c_i1;
-  w2c_l19 = w2c_i0;
-  w2c_j0 = 4ull;
-  w2c_l9 = w2c_j0;
-  goto w2c_B33;
-  w2c_B34:;
+  if (w2c_i0) {goto w2c_B52;}
   w2c_i0 = w2c_l21;
   w2c_i1 = 6u;
   w2c_i0 <<= (w2c_i1 & 31);
   w2c_i1 = w2c_l20;
   w2c_i2 = 12u;
   w2c_i1 <<= (w2c_i2 & 31);
+  w2c_i2 = w2c_l19;
+  w2c_i3 = 18u;
+  w2c_i2 <<= (w2c_i3 & 31);
+  w2c_i3 = 1835008u;
+  w2c_i2 &= w2c_i3;
+  w2c_i1 |= w2c_i2;
+  w2c_i0 |= w2c_i1;
+  w2c_j1 = w2c_l10;
+  w2c_i1 = (u32)(w2c_j1);
+  w2c_i1 = i32_load8_u(m, (u64)(w2c_i1) + 3u);
+  w2c_i2 = 63u;
+  w2c_i1 &= w2c_i2;
+  w2c_i0 |= w2c_i1;
+  w2c_l18 = w2c_i0;
+  w2c_j0 = 4ull;
+  w2c_l10 = w2c_j0;
+  goto w2c_B51;
+  w2c_B52:;
+  w2c_i0 = w2c_l20;
+  w2c_i1 = 6u;
+  w2c_i0 <<= (w2c_i1 & 31);
+  w2c_i1 = w2c_l19;
+  w2c_i2 = 12u;
+  w2c_i1 <<= (w2c_i2 & 31);
   w2c_i2 = 61440u;
   w2c_i1 &= w2c_i2;
   w2c_i0 |= w2c_i1;
-  w2c_i1 = w2c_l22;
+  w2c_i1 = w2c_l21;
   w2c_i0 |= w2c_i1;
-  w2c_l19 = w2c_i0;
+  w2c_l18 = w2c_i0;
   w2c_j0 = 3ull;
-  w2c_l9 = w2c_j0;
-  w2c_B33:;
-  w2c_i0 = w2c_l19;
+  w2c_l10 = w2c_j0;
+  w2c_B51:;
+  w2c_i0 = w2c_l18;
   w2c_i1 = 19968u;
   w2c_i0 = w2c_i0 != w2c_i1;
-  if (w2c_i0) {goto w2c_B32;}
+  if (w2c_i0) {goto w2c_B50;}
   w2c_j0 = w2c_p4;
-  w2c_j1 = w2c_l9;
-  w2c_j2 = w2c_l10;
+  w2c_j1 = w2c_l10;
+  w2c_j2 = w2c_l7;
   w2c_j1 += w2c_j2;
   w2c_i0 = w2c_j0 == w2c_j1;
   if (w2c_i0) {goto w2c_B1;}
-  w2c_B32:;
+  w2c_B50:;
   w2c_i0 = w2c_l14;
   w2c_i1 = 4294967279u;
   w2c_i0 = w2c_i0 > w2c_i1;
-  if (w2c_i0) {goto w2c_B36;}
+  if (w2c_i0) {goto w2c_B54;}
+  w2c_i0 = w2c_l15;
+  w2c_i1 = 6u;
+  w2c_i0 <<= (w2c_i1 & 31);
+  w2c_i1 = w2c_l13;
+  w2c_i2 = 12u;
+  w2c_i1 <<= (w2c_i2 & 31);
+  w2c_i2 = 61440u;
+  w2c_i1 &= w2c_i2;
+  w2c_i0 |= w2c_i1;
+  w2c_i1 = w2c_l16;
+  w2c_i0 |= w2c_i1;
+  w2c_l14 = w2c_i0;
+  w2c_j0 = 3ull;
+  w2c_l7 = w2c_j0;
+  goto w2c_B53;
+  w2c_B54:;
   w2c_i0 = w2c_l16;
   w2c_i1 = 6u;
   w2c_i0 <<= (w2c_i1 & 31);
   w2c_i1 = w2c_l15;
   w2c_i2 = 12u;
   w2c_i1 <<= (w2c_i2 & 31);
-  w2c_i2 = 61440u;
-  w2c_i1 &= w2c_i2;
-  w2c_i0 |= w2c_i1;
-  w2c_i1 = w2c_l18;
-  w2c_i0 |= w2c_i1;
-  w2c_l14 = w2c_i0;
-  w2c_j0 = 3ull;
-  w2c_l10 = w2c_j0;
-  goto w2c_B35;
-  w2c_B36:;
-  w2c_i0 = w2c_l18;
-  w2c_i1 = 6u;
-  w2c_i0 <<= (w2c_i1 & 31);
-  w2c_i1 = w2c_l16;
-  w2c_i2 = 12u;
-  w2c_i1 <<= (w2c_i2 & 31);
-  w2c_i2 = w2c_l15;
+  w2c_i2 = w2c_l13;
   w2c_i3 = 18u;
   w2c_i2 <<= (w2c_i3 & 31);
   w2c_i3 = 1835008u;
@@ -19446,64 +19677,64 @@ static void w2c_f29(module *m, u64 w2c_p0, u64 w2c_p1, u64 w2c_p2, u64 w2c_p3, u
   w2c_i0 |= w2c_i1;
   w2c_l14 = w2c_i0;
   w2c_j0 = 4ull;
-  w2c_l10 = w2c_j0;
-  w2c_B35:;
+  w2c_l7 = w2c_j0;
+  w2c_B53:;
   w2c_j0 = w2c_p4;
-  w2c_j1 = w2c_l10;
+  w2c_j1 = w2c_l7;
   w2c_i0 = w2c_j0 == w2c_j1;
-  if (w2c_i0) {goto w2c_B25;}
+  if (w2c_i0) {goto w2c_B38;}
   w2c_i0 = w2c_l14;
   w2c_i1 = 21313u;
   w2c_i0 = w2c_i0 != w2c_i1;
-  if (w2c_i0) {goto w2c_B25;}
+  if (w2c_i0) {goto w2c_B38;}
   w2c_j0 = w2c_p3;
-  w2c_j1 = w2c_l10;
+  w2c_j1 = w2c_l7;
   w2c_j0 += w2c_j1;
-  w2c_l9 = w2c_j0;
+  w2c_l10 = w2c_j0;
   w2c_i0 = (u32)(w2c_j0);
   w2c_i0 = i32_load8_s(m, (u64)(w2c_i0));
   w2c_l14 = w2c_i0;
   w2c_i1 = 4294967295u;
   w2c_i0 = (u32)((s32)w2c_i0 > (s32)w2c_i1);
-  if (w2c_i0) {goto w2c_B25;}
+  if (w2c_i0) {goto w2c_B38;}
   w2c_i0 = w2c_l14;
   w2c_i1 = 4294967264u;
   w2c_i0 = w2c_i0 < w2c_i1;
-  if (w2c_i0) {goto w2c_B25;}
+  if (w2c_i0) {goto w2c_B38;}
   w2c_i0 = w2c_l14;
   w2c_i1 = 255u;
   w2c_i0 &= w2c_i1;
-  w2c_l15 = w2c_i0;
-  w2c_j0 = w2c_l9;
+  w2c_l13 = w2c_i0;
+  w2c_j0 = w2c_l10;
   w2c_i0 = (u32)(w2c_j0);
   w2c_i0 = i32_load8_u(m, (u64)(w2c_i0) + 1u);
   w2c_i1 = 63u;
   w2c_i0 &= w2c_i1;
-  w2c_l16 = w2c_i0;
-  w2c_j0 = w2c_l9;
+  w2c_l15 = w2c_i0;
+  w2c_j0 = w2c_l10;
   w2c_i0 = (u32)(w2c_j0);
   w2c_i0 = i32_load8_u(m, (u64)(w2c_i0) + 2u);
   w2c_i1 = 63u;
   w2c_i0 &= w2c_i1;
-  w2c_l18 = w2c_i0;
+  w2c_l16 = w2c_i0;
   w2c_i0 = w2c_l14;
   w2c_i1 = 4294967280u;
   w2c_i0 = w2c_i0 < w2c_i1;
-  if (w2c_i0) {goto w2c_B38;}
-  w2c_i0 = w2c_l18;
+  if (w2c_i0) {goto w2c_B56;}
+  w2c_i0 = w2c_l16;
   w2c_i1 = 6u;
   w2c_i0 <<= (w2c_i1 & 31);
-  w2c_i1 = w2c_l16;
+  w2c_i1 = w2c_l15;
   w2c_i2 = 12u;
   w2c_i1 <<= (w2c_i2 & 31);
-  w2c_i2 = w2c_l15;
+  w2c_i2 = w2c_l13;
   w2c_i3 = 18u;
   w2c_i2 <<= (w2c_i3 & 31);
   w2c_i3 = 1835008u;
   w2c_i2 &= w2c_i3;
   w2c_i1 |= w2c_i2;
   w2c_i0 |= w2c_i1;
-  w2c_j1 = w2c_l9;
+  w2c_j1 = w2c_l10;
   w2c_i1 = (u32)(w2c_j1);
   w2c_i1 = i32_load8_u(m, (u64)(w2c_i1) + 3u);
   w2c_i2 = 63u;
@@ -19511,44 +19742,179 @@ static void w2c_f29(module *m, u64 w2c_p0, u64 w2c_p1, u64 w2c_p2, u64 w2c_p3, u
   w2c_i0 |= w2c_i1;
   w2c_l14 = w2c_i0;
   w2c_j0 = 4ull;
-  w2c_l9 = w2c_j0;
-  goto w2c_B37;
-  w2c_B38:;
+  w2c_l10 = w2c_j0;
+  goto w2c_B55;
+  w2c_B56:;
+  w2c_i0 = w2c_l15;
+  w2c_i1 = 6u;
+  w2c_i0 <<= (w2c_i1 & 31);
+  w2c_i1 = w2c_l13;
+  w2c_i2 = 12u;
+  w2c_i1 <<= (w2c_i2 & 31);
+  w2c_i2 = 61440u;
+  w2c_i1 &= w2c_i2;
+  w2c_i0 |= w2c_i1;
+  w2c_i1 = w2c_l16;
+  w2c_i0 |= w2c_i1;
+  w2c_l14 = w2c_i0;
+  w2c_j0 = 3ull;
+  w2c_l10 = w2c_j0;
+  w2c_B55:;
+  w2c_i0 = w2c_l14;
+  w2c_i1 = 20108u;
+  w2c_i0 = w2c_i0 != w2c_i1;
+  if (w2c_i0) {goto w2c_B38;}
+  w2c_j0 = w2c_p4;
+  w2c_j1 = w2c_l10;
+  w2c_j2 = w2c_l7;
+  w2c_j1 += w2c_j2;
+  w2c_i0 = w2c_j0 == w2c_j1;
+  if (w2c_i0) {goto w2c_B1;}
+  goto w2c_B38;
+  w2c_B45:;
   w2c_i0 = w2c_l16;
   w2c_i1 = 6u;
   w2c_i0 <<= (w2c_i1 & 31);
   w2c_i1 = w2c_l15;
   w2c_i2 = 12u;
   w2c_i1 <<= (w2c_i2 & 31);
+  w2c_i2 = w2c_l13;
+  w2c_i3 = 18u;
+  w2c_i2 <<= (w2c_i3 & 31);
+  w2c_i3 = 1835008u;
+  w2c_i2 &= w2c_i3;
+  w2c_i1 |= w2c_i2;
+  w2c_i0 |= w2c_i1;
+  w2c_j1 = w2c_p3;
+  w2c_i1 = (u32)(w2c_j1);
+  w2c_i1 = i32_load8_u(m, (u64)(w2c_i1) + 3u);
+  w2c_i2 = 63u;
+  w2c_i1 &= w2c_i2;
+  w2c_i0 |= w2c_i1;
+  w2c_l14 = w2c_i0;
+  w2c_j0 = 4ull;
+  w2c_l7 = w2c_j0;
+  w2c_B44:;
+  w2c_j0 = w2c_p4;
+  w2c_j1 = w2c_l7;
+  w2c_i0 = w2c_j0 == w2c_j1;
+  if (w2c_i0) {goto w2c_B38;}
+  w2c_i0 = w2c_l14;
+  w2c_i1 = 19977u;
+  w2c_i0 = w2c_i0 != w2c_i1;
+  if (w2c_i0) {goto w2c_B38;}
+  w2c_j0 = w2c_p3;
+  w2c_j1 = w2c_l7;
+  w2c_j0 += w2c_j1;
+  w2c_l10 = w2c_j0;
+  w2c_i0 = (u32)(w2c_j0);
+  w2c_i0 = i32_load8_s(m, (u64)(w2c_i0));
+  w2c_l14 = w2c_i0;
+  w2c_i1 = 4294967295u;
+  w2c_i0 = (u32)((s32)w2c_i0 > (s32)w2c_i1);
+  if (w2c_i0) {goto w2c_B38;}
+  w2c_i0 = w2c_l14;
+  w2c_i1 = 4294967264u;
+  w2c_i0 = w2c_i0 < w2c_i1;
+  if (w2c_i0) {goto w2c_B38;}
+  w2c_i0 = w2c_l14;
+  w2c_i1 = 255u;
+  w2c_i0 &= w2c_i1;
+  w2c_l13 = w2c_i0;
+  w2c_j0 = w2c_l10;
+  w2c_i0 = (u32)(w2c_j0);
+  w2c_i0 = i32_load8_u(m, (u64)(w2c_i0) + 1u);
+  w2c_i1 = 63u;
+  w2c_i0 &= w2c_i1;
+  w2c_l15 = w2c_i0;
+  w2c_j0 = w2c_l10;
+  w2c_i0 = (u32)(w2c_j0);
+  w2c_i0 = i32_load8_u(m, (u64)(w2c_i0) + 2u);
+  w2c_i1 = 63u;
+  w2c_i0 &= w2c_i1;
+  w2c_l16 = w2c_i0;
+  w2c_i0 = w2c_l14;
+  w2c_i1 = 4294967280u;
+  w2c_i0 = w2c_i0 < w2c_i1;
+  if (w2c_i0) {goto w2c_B58;}
+  w2c_i0 = w2c_l16;
+  w2c_i1 = 6u;
+  w2c_i0 <<= (w2c_i1 & 31);
+  w2c_i1 = w2c_l15;
+  w2c_i2 = 12u;
+  w2c_i1 <<= (w2c_i2 & 31);
+  w2c_i2 = w2c_l13;
+  w2c_i3 = 18u;
+  w2c_i2 <<= (w2c_i3 & 31);
+  w2c_i3 = 1835008u;
+  w2c_i2 &= w2c_i3;
+  w2c_i1 |= w2c_i2;
+  w2c_i0 |= w2c_i1;
+  w2c_j1 = w2c_l10;
+  w2c_i1 = (u32)(w2c_j1);
+  w2c_i1 = i32_load8_u(m, (u64)(w2c_i1) + 3u);
+  w2c_i2 = 63u;
+  w2c_i1 &= w2c_i2;
+  w2c_i0 |= w2c_i1;
+  w2c_l14 = w2c_i0;
+  w2c_j0 = 4ull;
+  w2c_l10 = w2c_j0;
+  goto w2c_B57;
+  w2c_B58:;
+  w2c_i0 = w2c_l15;
+  w2c_i1 = 6u;
+  w2c_i0 <<= (w2c_i1 & 31);
+  w2c_i1 = w2c_l13;
+  w2c_i2 = 12u;
+  w2c_i1 <<= (w2c_i2 & 31);
   w2c_i2 = 61440u;
   w2c_i1 &= w2c_i2;
   w2c_i0 |= w2c_i1;
-  w2c_i1 = w2c_l18;
+  w2c_i1 = w2c_l16;
   w2c_i0 |= w2c_i1;
   w2c_l14 = w2c_i0;
   w2c_j0 = 3ull;
-  w2c_l9 = w2c_j0;
-  w2c_B37:;
+  w2c_l10 = w2c_j0;
+  w2c_B57:;
   w2c_i0 = w2c_l14;
-  w2c_i1 = 20108u;
+  w2c_i1 = 21313u;
   w2c_i0 = w2c_i0 != w2c_i1;
-  if (w2c_i0) {goto w2c_B25;}
+  if (w2c_i0) {goto w2c_B38;}
   w2c_j0 = w2c_p4;
-  w2c_j1 = w2c_l9;
-  w2c_j2 = w2c_l10;
+  w2c_j1 = w2c_l10;
+  w2c_j2 = w2c_l7;
   w2c_j1 += w2c_j2;
   w2c_i0 = w2c_j0 == w2c_j1;
   if (w2c_i0) {goto w2c_B1;}
-  w2c_B25:;
-  w2c_j0 = 18446744073709551614ull;
+  goto w2c_B38;
+  w2c_B43:;
+  w2c_j0 = w2c_l7;
+  w2c_i0 = !(w2c_j0);
+  if (w2c_i0) {goto w2c_B38;}
+  w2c_j0 = w2c_p1;
+  w2c_j1 = w2c_l7;
+  w2c_j0 += w2c_j1;
   w2c_l10 = w2c_j0;
-  w2c_i0 = w2c_l13;
+  w2c_j1 = 18446744073709551615ull;
+  w2c_j0 += w2c_j1;
+  w2c_i0 = (u32)(w2c_j0);
+  w2c_i0 = i32_load8_s(m, (u64)(w2c_i0));
+  w2c_i1 = 4294967295u;
+  w2c_i0 = (u32)((s32)w2c_i0 > (s32)w2c_i1);
+  if (w2c_i0) {goto w2c_B38;}
+  w2c_j0 = 18446744073709551614ull;
+  w2c_l9 = w2c_j0;
+  w2c_j0 = w2c_l10;
+  w2c_j1 = 18446744073709551614ull;
+  w2c_j0 += w2c_j1;
+  w2c_i0 = (u32)(w2c_j0);
+  w2c_i0 = i32_load8_u(m, (u64)(w2c_i0));
   w2c_i1 = 191u;
   w2c_i0 = w2c_i0 > w2c_i1;
-  if (w2c_i0) {goto w2c_B39;}
+  if (w2c_i0) {goto w2c_B59;}
   w2c_j0 = 18446744073709551613ull;
   w2c_j1 = 18446744073709551612ull;
-  w2c_j2 = w2c_l7;
+  w2c_j2 = w2c_l10;
   w2c_j3 = 18446744073709551613ull;
   w2c_j2 += w2c_j3;
   w2c_i2 = (u32)(w2c_j2);
@@ -19556,28 +19922,28 @@ static void w2c_f29(module *m, u64 w2c_p0, u64 w2c_p1, u64 w2c_p2, u64 w2c_p3, u
   w2c_i3 = 191u;
   w2c_i2 = w2c_i2 > w2c_i3;
   w2c_j0 = w2c_i2 ? w2c_j0 : w2c_j1;
-  w2c_l10 = w2c_j0;
-  w2c_B39:;
+  w2c_l9 = w2c_j0;
+  w2c_B59:;
   w2c_j0 = w2c_p1;
-  w2c_j1 = w2c_l10;
+  w2c_j1 = w2c_l9;
   w2c_j0 += w2c_j1;
-  w2c_j1 = w2c_p2;
+  w2c_j1 = w2c_l7;
   w2c_j0 += w2c_j1;
   w2c_l7 = w2c_j0;
   w2c_i0 = (u32)(w2c_j0);
   w2c_i0 = i32_load8_s(m, (u64)(w2c_i0));
-  w2c_l13 = w2c_i0;
+  w2c_l14 = w2c_i0;
   w2c_i1 = 4294967295u;
   w2c_i0 = (u32)((s32)w2c_i0 > (s32)w2c_i1);
-  if (w2c_i0) {goto w2c_B23;}
-  w2c_i0 = w2c_l13;
+  if (w2c_i0) {goto w2c_B38;}
+  w2c_i0 = w2c_l14;
   w2c_i1 = 4294967264u;
   w2c_i0 = w2c_i0 < w2c_i1;
-  if (w2c_i0) {goto w2c_B23;}
-  w2c_i0 = w2c_l13;
+  if (w2c_i0) {goto w2c_B38;}
+  w2c_i0 = w2c_l14;
   w2c_i1 = 255u;
   w2c_i0 &= w2c_i1;
-  w2c_l14 = w2c_i0;
+  w2c_l13 = w2c_i0;
   w2c_j0 = w2c_l7;
   w2c_i0 = (u32)(w2c_j0);
   w2c_i0 = i32_load8_u(m, (u64)(w2c_i0) + 1u);
@@ -19590,14 +19956,14 @@ static void w2c_f29(module *m, u64 w2c_p0, u64 w2c_p1, u64 w2c_p2, u64 w2c_p3, u
   w2c_i1 = 63u;
   w2c_i0 &= w2c_i1;
   w2c_l16 = w2c_i0;
-  w2c_i0 = w2c_l13;
+  w2c_i0 = w2c_l14;
   w2c_i1 = 4294967279u;
   w2c_i0 = w2c_i0 > w2c_i1;
-  if (w2c_i0) {goto w2c_B41;}
+  if (w2c_i0) {goto w2c_B61;}
   w2c_i0 = w2c_l15;
   w2c_i1 = 6u;
   w2c_i0 <<= (w2c_i1 & 31);
-  w2c_i1 = w2c_l14;
+  w2c_i1 = w2c_l13;
   w2c_i2 = 12u;
   w2c_i1 <<= (w2c_i2 & 31);
   w2c_i2 = 61440u;
@@ -19605,252 +19971,96 @@ static void w2c_f29(module *m, u64 w2c_p0, u64 w2c_p1, u64 w2c_p2, u64 w2c_p3, u
   w2c_i0 |= w2c_i1;
   w2c_i1 = w2c_l16;
   w2c_i0 |= w2c_i1;
-  w2c_l13 = w2c_i0;
-  goto w2c_B40;
-  w2c_B41:;
-  w2c_i0 = w2c_l16;
-  w2c_i1 = 6u;
-  w2c_i0 <<= (w2c_i1 & 31);
-  w2c_i1 = w2c_l15;
-  w2c_i2 = 12u;
-  w2c_i1 <<= (w2c_i2 & 31);
-  w2c_i2 = w2c_l14;
-  w2c_i3 = 18u;
-  w2c_i2 <<= (w2c_i3 & 31);
-  w2c_i3 = 1835008u;
-  w2c_i2 &= w2c_i3;
-  w2c_i1 |= w2c_i2;
-  w2c_i0 |= w2c_i1;
-  w2c_j1 = w2c_l7;
-  w2c_i1 = (u32)(w2c_j1);
-  w2c_i1 = i32_load8_u(m, (u64)(w2c_i1) + 3u);
-  w2c_i2 = 63u;
-  w2c_i1 &= w2c_i2;
-  w2c_i0 |= w2c_i1;
-  w2c_l13 = w2c_i0;
-  w2c_B40:;
-  w2c_j0 = w2c_p4;
-  w2c_i0 = !(w2c_j0);
-  if (w2c_i0) {goto w2c_B23;}
-  w2c_i0 = w2c_l13;
-  w2c_i1 = 24180u;
-  w2c_i0 = w2c_i0 != w2c_i1;
-  if (w2c_i0) {goto w2c_B23;}
-  w2c_j0 = w2c_p3;
-  w2c_i0 = (u32)(w2c_j0);
-  w2c_i0 = i32_load8_s(m, (u64)(w2c_i0));
-  w2c_l13 = w2c_i0;
-  w2c_i1 = 4294967295u;
-  w2c_i0 = (u32)((s32)w2c_i0 > (s32)w2c_i1);
-  if (w2c_i0) {goto w2c_B23;}
-  w2c_i0 = w2c_l13;
-  w2c_i1 = 4294967264u;
-  w2c_i0 = w2c_i0 < w2c_i1;
-  if (w2c_i0) {goto w2c_B23;}
-  w2c_i0 = w2c_l13;
-  w2c_i1 = 255u;
-  w2c_i0 &= w2c_i1;
-  w2c_l14 = w2c_i0;
-  w2c_j0 = w2c_p3;
-  w2c_i0 = (u32)(w2c_j0);
-  w2c_i0 = i32_load8_u(m, (u64)(w2c_i0) + 1u);
-  w2c_i1 = 63u;
-  w2c_i0 &= w2c_i1;
   w2c_l15 = w2c_i0;
-  w2c_j0 = w2c_p3;
-  w2c_i0 = (u32)(w2c_j0);
-  w2c_i0 = i32_load8_u(m, (u64)(w2c_i0) + 2u);
-  w2c_i1 = 63u;
-  w2c_i0 &= w2c_i1;
-  w2c_l16 = w2c_i0;
-  w2c_i0 = w2c_l13;
-  w2c_i1 = 4294967279u;
-  w2c_i0 = w2c_i0 > w2c_i1;
-  if (w2c_i0) {goto w2c_B43;}
-  w2c_i0 = w2c_l15;
-  w2c_i1 = 6u;
-  w2c_i0 <<= (w2c_i1 & 31);
-  w2c_i1 = w2c_l14;
-  w2c_i2 = 12u;
-  w2c_i1 <<= (w2c_i2 & 31);
-  w2c_i2 = 61440u;
-  w2c_i1 &= w2c_i2;
-  w2c_i0 |= w2c_i1;
-  w2c_i1 = w2c_l16;
-  w2c_i0 |= w2c_i1;
-  w2c_l13 = w2c_i0;
-  w2c_j0 = 3ull;
-  w2c_l7 = w2c_j0;
-  goto w2c_B42;
-  w2c_B43:;
+  goto w2c_B60;
+  w2c_B61:;
   w2c_i0 = w2c_l16;
   w2c_i1 = 6u;
   w2c_i0 <<= (w2c_i1 & 31);
   w2c_i1 = w2c_l15;
   w2c_i2 = 12u;
   w2c_i1 <<= (w2c_i2 & 31);
-  w2c_i2 = w2c_l14;
+  w2c_i2 = w2c_l13;
   w2c_i3 = 18u;
   w2c_i2 <<= (w2c_i3 & 31);
   w2c_i3 = 1835008u;
   w2c_i2 &= w2c_i3;
   w2c_i1 |= w2c_i2;
   w2c_i0 |= w2c_i1;
-  w2c_j1 = w2c_p3;
+  w2c_j1 = w2c_l7;
   w2c_i1 = (u32)(w2c_j1);
   w2c_i1 = i32_load8_u(m, (u64)(w2c_i1) + 3u);
   w2c_i2 = 63u;
   w2c_i1 &= w2c_i2;
   w2c_i0 |= w2c_i1;
-  w2c_l13 = w2c_i0;
-  w2c_j0 = 4ull;
-  w2c_l7 = w2c_j0;
-  w2c_B42:;
-  w2c_j0 = w2c_p4;
-  w2c_j1 = w2c_l7;
-  w2c_i0 = w2c_j0 == w2c_j1;
-  if (w2c_i0) {goto w2c_B23;}
-  w2c_i0 = w2c_l13;
-  w2c_i1 = 19977u;
-  w2c_i0 = w2c_i0 != w2c_i1;
-  if (w2c_i0) {goto w2c_B23;}
-  w2c_j0 = w2c_p3;
-  w2c_j1 = w2c_l7;
-  w2c_j0 += w2c_j1;
-  w2c_l10 = w2c_j0;
-  w2c_i0 = (u32)(w2c_j0);
-  w2c_i0 = i32_load8_s(m, (u64)(w2c_i0));
-  w2c_l13 = w2c_i0;
-  w2c_i1 = 4294967295u;
-  w2c_i0 = (u32)((s32)w2c_i0 > (s32)w2c_i1);
-  if (w2c_i0) {goto w2c_B23;}
-  w2c_i0 = w2c_l13;
-  w2c_i1 = 4294967264u;
-  w2c_i0 = w2c_i0 < w2c_i1;
-  if (w2c_i0) {goto w2c_B23;}
-  w2c_i0 = w2c_l13;
-  w2c_i1 = 255u;
-  w2c_i0 &= w2c_i1;
-  w2c_l14 = w2c_i0;
-  w2c_j0 = w2c_l10;
-  w2c_i0 = (u32)(w2c_j0);
-  w2c_i0 = i32_load8_u(m, (u64)(w2c_i0) + 1u);
-  w2c_i1 = 63u;
-  w2c_i0 &= w2c_i1;
   w2c_l15 = w2c_i0;
-  w2c_j0 = w2c_l10;
-  w2c_i0 = (u32)(w2c_j0);
-  w2c_i0 = i32_load8_u(m, (u64)(w2c_i0) + 2u);
-  w2c_i1 = 63u;
-  w2c_i0 &= w2c_i1;
-  w2c_l16 = w2c_i0;
-  w2c_i0 = w2c_l13;
-  w2c_i1 = 4294967280u;
-  w2c_i0 = w2c_i0 < w2c_i1;
-  if (w2c_i0) {goto w2c_B45;}
-  w2c_i0 = w2c_l16;
-  w2c_i1 = 6u;
-  w2c_i0 <<= (w2c_i1 & 31);
-  w2c_i1 = w2c_l15;
-  w2c_i2 = 12u;
-  w2c_i1 <<= (w2c_i2 & 31);
-  w2c_i2 = w2c_l14;
-  w2c_i3 = 18u;
-  w2c_i2 <<= (w2c_i3 & 31);
-  w2c_i3 = 1835008u;
-  w2c_i2 &= w2c_i3;
-  w2c_i1 |= w2c_i2;
-  w2c_i0 |= w2c_i1;
-  w2c_j1 = w2c_l10;
-  w2c_i1 = (u32)(w2c_j1);
-  w2c_i1 = i32_load8_u(m, (u64)(w2c_i1) + 3u);
-  w2c_i2 = 63u;
-  w2c_i1 &= w2c_i2;
-  w2c_i0 |= w2c_i1;
-  w2c_l13 = w2c_i0;
-  w2c_j0 = 4ull;
-  w2c_l10 = w2c_j0;
-  goto w2c_B44;
-  w2c_B45:;
-  w2c_i0 = w2c_l15;
-  w2c_i1 = 6u;
-  w2c_i0 <<= (w2c_i1 & 31);
-  w2c_i1 = w2c_l14;
-  w2c_i2 = 12u;
-  w2c_i1 <<= (w2c_i2 & 31);
-  w2c_i2 = 61440u;
-  w2c_i1 &= w2c_i2;
-  w2c_i0 |= w2c_i1;
-  w2c_i1 = w2c_l16;
-  w2c_i0 |= w2c_i1;
-  w2c_l13 = w2c_i0;
-  w2c_j0 = 3ull;
-  w2c_l10 = w2c_j0;
-  w2c_B44:;
-  w2c_i0 = w2c_l13;
-  w2c_i1 = 21313u;
-  w2c_i0 = w2c_i0 != w2c_i1;
-  if (w2c_i0) {goto w2c_B23;}
-  w2c_j0 = w2c_p4;
-  w2c_j1 = w2c_l10;
-  w2c_j2 = w2c_l7;
-  w2c_j1 += w2c_j2;
-  w2c_i0 = w2c_j0 == w2c_j1;
-  if (w2c_i0) {goto w2c_B1;}
-  w2c_B23:;
-  w2c_i0 = 0u;
-  w2c_l13 = w2c_i0;
-  w2c_j0 = 68520ull;
-  w2c_j1 = 68524ull;
-  w2c_j2 = 3ull;
-  w2c_j3 = w2c_p1;
-  w2c_j4 = w2c_p2;
-  w2c_i0 = w2c_f39(m, w2c_j0, w2c_j1, w2c_j2, w2c_j3, w2c_j4);
-  w2c_i0 = !(w2c_i0);
-  if (w2c_i0) {goto w2c_B46;}
+  w2c_B60:;
   w2c_i0 = 1u;
   w2c_l14 = w2c_i0;
-  goto w2c_B0;
-  w2c_B46:;
+  w2c_i0 = 0u;
+  w2c_l13 = w2c_i0;
+  w2c_i0 = w2c_l15;
+  w2c_i1 = 27491u;
+  w2c_i0 = w2c_i0 == w2c_i1;
+  if (w2c_i0) {goto w2c_B0;}
+  w2c_i0 = w2c_l15;
+  w2c_i1 = 33098u;
+  w2c_i0 = w2c_i0 == w2c_i1;
+  if (w2c_i0) {goto w2c_B0;}
+  w2c_i0 = w2c_l15;
+  w2c_i1 = 33240u;
+  w2c_i0 = w2c_i0 == w2c_i1;
+  if (w2c_i0) {goto w2c_B0;}
+  w2c_B38:;
+  w2c_j0 = 68480ull;
+  w2c_j1 = 9ull;
+  w2c_j2 = 68516ull;
+  w2c_j3 = 13ull;
+  w2c_j4 = w2c_p3;
+  w2c_j5 = w2c_p4;
+  w2c_i0 = w2c_f38(m, w2c_j0, w2c_j1, w2c_j2, w2c_j3, w2c_j4, w2c_j5);
+  w2c_l14 = w2c_i0;
   w2c_j0 = w2c_p4;
   w2c_i0 = !(w2c_j0);
-  w2c_l18 = w2c_i0;
-  if (w2c_i0) {goto w2c_B2;}
+  if (w2c_i0) {goto w2c_B36;}
+  w2c_i0 = w2c_l14;
+  w2c_i0 = !(w2c_i0);
+  if (w2c_i0) {goto w2c_B36;}
   w2c_j0 = w2c_p3;
   w2c_i0 = (u32)(w2c_j0);
   w2c_i0 = i32_load8_s(m, (u64)(w2c_i0));
-  w2c_l14 = w2c_i0;
+  w2c_l15 = w2c_i0;
   w2c_i1 = 4294967295u;
   w2c_i0 = (u32)((s32)w2c_i0 > (s32)w2c_i1);
-  if (w2c_i0) {goto w2c_B2;}
-  w2c_i0 = w2c_l14;
+  if (w2c_i0) {goto w2c_B36;}
+  w2c_i0 = w2c_l15;
   w2c_i1 = 4294967264u;
   w2c_i0 = w2c_i0 < w2c_i1;
-  if (w2c_i0) {goto w2c_B2;}
-  w2c_i0 = w2c_l14;
+  if (w2c_i0) {goto w2c_B36;}
+  w2c_i0 = w2c_l15;
   w2c_i1 = 255u;
   w2c_i0 &= w2c_i1;
-  w2c_l15 = w2c_i0;
+  w2c_l16 = w2c_i0;
   w2c_j0 = w2c_p3;
   w2c_i0 = (u32)(w2c_j0);
   w2c_i0 = i32_load8_u(m, (u64)(w2c_i0) + 1u);
   w2c_i1 = 63u;
   w2c_i0 &= w2c_i1;
-  w2c_l16 = w2c_i0;
+  w2c_l18 = w2c_i0;
   w2c_j0 = w2c_p3;
   w2c_i0 = (u32)(w2c_j0);
   w2c_i0 = i32_load8_u(m, (u64)(w2c_i0) + 2u);
   w2c_i1 = 63u;
   w2c_i0 &= w2c_i1;
   w2c_l19 = w2c_i0;
-  w2c_i0 = w2c_l14;
+  w2c_i0 = w2c_l15;
   w2c_i1 = 4294967279u;
   w2c_i0 = w2c_i0 > w2c_i1;
-  if (w2c_i0) {goto w2c_B48;}
-  w2c_i0 = w2c_l16;
+  if (w2c_i0) {goto w2c_B63;}
+  w2c_i0 = w2c_l18;
   w2c_i1 = 6u;
   w2c_i0 <<= (w2c_i1 & 31);
-  w2c_i1 = w2c_l15;
+  w2c_i1 = w2c_l16;
   w2c_i2 = 12u;
   w2c_i1 <<= (w2c_i2 & 31);
   w2c_i2 = 61440u;
@@ -19858,18 +20068,18 @@ static void w2c_f29(module *m, u64 w2c_p0, u64 w2c_p1, u64 w2c_p2, u64 w2c_p3, u
   w2c_i0 |= w2c_i1;
   w2c_i1 = w2c_l19;
   w2c_i0 |= w2c_i1;
-  w2c_l20 = w2c_i0;
+  w2c_l14 = w2c_i0;
   w2c_j0 = 3ull;
   w2c_l7 = w2c_j0;
-  goto w2c_B47;
-  w2c_B48:;
+  goto w2c_B62;
+  w2c_B63:;
   w2c_i0 = w2c_l19;
   w2c_i1 = 6u;
   w2c_i0 <<= (w2c_i1 & 31);
-  w2c_i1 = w2c_l16;
+  w2c_i1 = w2c_l18;
   w2c_i2 = 12u;
   w2c_i1 <<= (w2c_i2 & 31);
-  w2c_i2 = w2c_l15;
+  w2c_i2 = w2c_l16;
   w2c_i3 = 18u;
   w2c_i2 <<= (w2c_i3 & 31);
   w2c_i3 = 1835008u;
@@ -19882,59 +20092,59 @@ static void w2c_f29(module *m, u64 w2c_p0, u64 w2c_p1, u64 w2c_p2, u64 w2c_p3, u
   w2c_i2 = 63u;
   w2c_i1 &= w2c_i2;
   w2c_i0 |= w2c_i1;
-  w2c_l20 = w2c_i0;
+  w2c_l14 = w2c_i0;
   w2c_j0 = 4ull;
   w2c_l7 = w2c_j0;
-  w2c_B47:;
+  w2c_B62:;
   w2c_j0 = w2c_p4;
   w2c_j1 = w2c_l7;
   w2c_i0 = w2c_j0 == w2c_j1;
-  if (w2c_i0) {goto w2c_B49;}
-  w2c_i0 = w2c_l20;
+  if (w2c_i0) {goto w2c_B64;}
+  w2c_i0 = w2c_l14;
   w2c_i1 = 21313u;
   w2c_i0 = w2c_i0 != w2c_i1;
-  if (w2c_i0) {goto w2c_B49;}
+  if (w2c_i0) {goto w2c_B64;}
   w2c_j0 = w2c_p3;
   w2c_j1 = w2c_l7;
   w2c_j0 += w2c_j1;
   w2c_l10 = w2c_j0;
   w2c_i0 = (u32)(w2c_j0);
   w2c_i0 = i32_load8_s(m, (u64)(w2c_i0));
-  w2c_l20 = w2c_i0;
+  w2c_l14 = w2c_i0;
   w2c_i1 = 4294967295u;
   w2c_i0 = (u32)((s32)w2c_i0 > (s32)w2c_i1);
-  if (w2c_i0) {goto w2c_B49;}
-  w2c_i0 = w2c_l20;
+  if (w2c_i0) {goto w2c_B64;}
+  w2c_i0 = w2c_l14;
   w2c_i1 = 4294967264u;
   w2c_i0 = w2c_i0 < w2c_i1;
-  if (w2c_i0) {goto w2c_B49;}
-  w2c_i0 = w2c_l20;
+  if (w2c_i0) {goto w2c_B64;}
+  w2c_i0 = w2c_l14;
   w2c_i1 = 255u;
   w2c_i0 &= w2c_i1;
-  w2c_l21 = w2c_i0;
+  w2c_l13 = w2c_i0;
   w2c_j0 = w2c_l10;
   w2c_i0 = (u32)(w2c_j0);
   w2c_i0 = i32_load8_u(m, (u64)(w2c_i0) + 1u);
   w2c_i1 = 63u;
   w2c_i0 &= w2c_i1;
-  w2c_l22 = w2c_i0;
+  w2c_l20 = w2c_i0;
   w2c_j0 = w2c_l10;
   w2c_i0 = (u32)(w2c_j0);
   w2c_i0 = i32_load8_u(m, (u64)(w2c_i0) + 2u);
   w2c_i1 = 63u;
   w2c_i0 &= w2c_i1;
-  w2c_l23 = w2c_i0;
-  w2c_i0 = w2c_l20;
+  w2c_l21 = w2c_i0;
+  w2c_i0 = w2c_l14;
   w2c_i1 = 4294967280u;
   w2c_i0 = w2c_i0 < w2c_i1;
-  if (w2c_i0) {goto w2c_B51;}
-  w2c_i0 = w2c_l23;
+  if (w2c_i0) {goto w2c_B66;}
+  w2c_i0 = w2c_l21;
   w2c_i1 = 6u;
   w2c_i0 <<= (w2c_i1 & 31);
-  w2c_i1 = w2c_l22;
+  w2c_i1 = w2c_l20;
   w2c_i2 = 12u;
   w2c_i1 <<= (w2c_i2 & 31);
-  w2c_i2 = w2c_l21;
+  w2c_i2 = w2c_l13;
   w2c_i3 = 18u;
   w2c_i2 <<= (w2c_i3 & 31);
   w2c_i3 = 1835008u;
@@ -19947,327 +20157,73 @@ static void w2c_f29(module *m, u64 w2c_p0, u64 w2c_p1, u64 w2c_p2, u64 w2c_p3, u
   w2c_i2 = 63u;
   w2c_i1 &= w2c_i2;
   w2c_i0 |= w2c_i1;
-  w2c_l20 = w2c_i0;
+  w2c_l14 = w2c_i0;
   w2c_j0 = 4ull;
   w2c_l10 = w2c_j0;
-  goto w2c_B50;
-  w2c_B51:;
-  w2c_i0 = w2c_l22;
+  goto w2c_B65;
+  w2c_B66:;
+  w2c_i0 = w2c_l20;
   w2c_i1 = 6u;
   w2c_i0 <<= (w2c_i1 & 31);
-  w2c_i1 = w2c_l21;
+  w2c_i1 = w2c_l13;
   w2c_i2 = 12u;
   w2c_i1 <<= (w2c_i2 & 31);
   w2c_i2 = 61440u;
   w2c_i1 &= w2c_i2;
   w2c_i0 |= w2c_i1;
-  w2c_i1 = w2c_l23;
+  w2c_i1 = w2c_l21;
   w2c_i0 |= w2c_i1;
-  w2c_l20 = w2c_i0;
+  w2c_l14 = w2c_i0;
   w2c_j0 = 3ull;
   w2c_l10 = w2c_j0;
-  w2c_B50:;
-  w2c_i0 = w2c_l20;
+  w2c_B65:;
+  w2c_i0 = w2c_l14;
   w2c_i1 = 20108u;
   w2c_i0 = w2c_i0 != w2c_i1;
-  if (w2c_i0) {goto w2c_B49;}
+  if (w2c_i0) {goto w2c_B64;}
   w2c_j0 = w2c_p4;
   w2c_j1 = w2c_l10;
   w2c_j2 = w2c_l7;
   w2c_j1 += w2c_j2;
   w2c_i0 = w2c_j0 != w2c_j1;
-  if (w2c_i0) {goto w2c_B49;}
-  w2c_j0 = 68536ull;
+  if (w2c_i0) {goto w2c_B64;}
+  w2c_i0 = 1u;
+  w2c_l14 = w2c_i0;
+  w2c_i0 = 0u;
+  w2c_l13 = w2c_i0;
+  w2c_j0 = 68568ull;
   w2c_j1 = 1ull;
-  w2c_j2 = 68540ull;
-  w2c_j3 = 2ull;
-  w2c_j4 = w2c_p5;
-  w2c_j5 = w2c_p6;
-  w2c_i0 = w2c_f38(m, w2c_j0, w2c_j1, w2c_j2, w2c_j3, w2c_j4, w2c_j5);
-  w2c_i0 = !(w2c_i0);
-  if (w2c_i0) {goto w2c_B52;}
-  w2c_i0 = 1u;
-  w2c_l14 = w2c_i0;
-  goto w2c_B0;
-  w2c_B52:;
-  w2c_j0 = 68548ull;
-  w2c_j1 = 1ull;
-  w2c_j2 = 68552ull;
-  w2c_j3 = 1ull;
-  w2c_j4 = w2c_p5;
-  w2c_j5 = w2c_p6;
-  w2c_i0 = w2c_f38(m, w2c_j0, w2c_j1, w2c_j2, w2c_j3, w2c_j4, w2c_j5);
-  w2c_i0 = !(w2c_i0);
-  if (w2c_i0) {goto w2c_B53;}
-  w2c_i0 = 1u;
-  w2c_l14 = w2c_i0;
-  goto w2c_B0;
-  w2c_B53:;
-  w2c_j0 = 68520ull;
-  w2c_j1 = 1ull;
-  w2c_j2 = 68556ull;
-  w2c_j3 = 2ull;
-  w2c_j4 = w2c_p5;
-  w2c_j5 = w2c_p6;
-  w2c_i0 = w2c_f38(m, w2c_j0, w2c_j1, w2c_j2, w2c_j3, w2c_j4, w2c_j5);
-  w2c_i0 = !(w2c_i0);
-  if (w2c_i0) {goto w2c_B49;}
-  w2c_i0 = 1u;
-  w2c_l14 = w2c_i0;
-  goto w2c_B0;
-  w2c_B49:;
-  w2c_i0 = w2c_l14;
-  w2c_i1 = 4294967279u;
-  w2c_i0 = w2c_i0 > w2c_i1;
-  if (w2c_i0) {goto w2c_B55;}
-  w2c_i0 = w2c_l16;
-  w2c_i1 = 6u;
-  w2c_i0 <<= (w2c_i1 & 31);
-  w2c_i1 = w2c_l15;
-  w2c_i2 = 12u;
-  w2c_i1 <<= (w2c_i2 & 31);
-  w2c_i2 = 61440u;
-  w2c_i1 &= w2c_i2;
-  w2c_i0 |= w2c_i1;
-  w2c_i1 = w2c_l19;
-  w2c_i0 |= w2c_i1;
-  w2c_l20 = w2c_i0;
-  w2c_j0 = 3ull;
-  w2c_l7 = w2c_j0;
-  goto w2c_B54;
-  w2c_B55:;
-  w2c_i0 = w2c_l19;
-  w2c_i1 = 6u;
-  w2c_i0 <<= (w2c_i1 & 31);
-  w2c_i1 = w2c_l16;
-  w2c_i2 = 12u;
-  w2c_i1 <<= (w2c_i2 & 31);
-  w2c_i2 = w2c_l15;
-  w2c_i3 = 18u;
-  w2c_i2 <<= (w2c_i3 & 31);
-  w2c_i3 = 1835008u;
-  w2c_i2 &= w2c_i3;
-  w2c_i1 |= w2c_i2;
-  w2c_i0 |= w2c_i1;
-  w2c_j1 = w2c_p3;
-  w2c_i1 = (u32)(w2c_j1);
-  w2c_i1 = i32_load8_u(m, (u64)(w2c_i1) + 3u);
-  w2c_i2 = 63u;
-  w2c_i1 &= w2c_i2;
-  w2c_i0 |= w2c_i1;
-  w2c_l20 = w2c_i0;
-  w2c_j0 = 4ull;
-  w2c_l7 = w2c_j0;
-  w2c_B54:;
-  w2c_j0 = w2c_p4;
-  w2c_j1 = w2c_l7;
-  w2c_i0 = w2c_j0 == w2c_j1;
-  if (w2c_i0) {goto w2c_B56;}
-  w2c_i0 = w2c_l20;
-  w2c_i1 = 21313u;
-  w2c_i0 = w2c_i0 != w2c_i1;
-  if (w2c_i0) {goto w2c_B56;}
-  w2c_j0 = w2c_p3;
-  w2c_j1 = w2c_l7;
-  w2c_j0 += w2c_j1;
-  w2c_l10 = w2c_j0;
-  w2c_i0 = (u32)(w2c_j0);
-  w2c_i0 = i32_load8_s(m, (u64)(w2c_i0));
-  w2c_l20 = w2c_i0;
-  w2c_i1 = 4294967295u;
-  w2c_i0 = (u32)((s32)w2c_i0 > (s32)w2c_i1);
-  if (w2c_i0) {goto w2c_B56;}
-  w2c_i0 = w2c_l20;
-  w2c_i1 = 4294967264u;
-  w2c_i0 = w2c_i0 < w2c_i1;
-  if (w2c_i0) {goto w2c_B56;}
-  w2c_i0 = w2c_l20;
-  w2c_i1 = 255u;
-  w2c_i0 &= w2c_i1;
-  w2c_l21 = w2c_i0;
-  w2c_j0 = w2c_l10;
-  w2c_i0 = (u32)(w2c_j0);
-  w2c_i0 = i32_load8_u(m, (u64)(w2c_i0) + 1u);
-  w2c_i1 = 63u;
-  w2c_i0 &= w2c_i1;
-  w2c_l22 = w2c_i0;
-  w2c_j0 = w2c_l10;
-  w2c_i0 = (u32)(w2c_j0);
-  w2c_i0 = i32_load8_u(m, (u64)(w2c_i0) + 2u);
-  w2c_i1 = 63u;
-  w2c_i0 &= w2c_i1;
-  w2c_l23 = w2c_i0;
-  w2c_i0 = w2c_l20;
-  w2c_i1 = 4294967280u;
-  w2c_i0 = w2c_i0 < w2c_i1;
-  if (w2c_i0) {goto w2c_B58;}
-  w2c_i0 = w2c_l23;
-  w2c_i1 = 6u;
-  w2c_i0 <<= (w2c_i1 & 31);
-  w2c_i1 = w2c_l22;
-  w2c_i2 = 12u;
-  w2c_i1 <<= (w2c_i2 & 31);
-  w2c_i2 = w2c_l21;
-  w2c_i3 = 18u;
-  w2c_i2 <<= (w2c_i3 & 31);
-  w2c_i3 = 1835008u;
-  w2c_i2 &= w2c_i3;
-  w2c_i1 |= w2c_i2;
-  w2c_i0 |= w2c_i1;
-  w2c_j1 = w2c_l10;
-  w2c_i1 = (u32)(w2c_j1);
-  w2c_i1 = i32_load8_u(m, (u64)(w2c_i1) + 3u);
-  w2c_i2 = 63u;
-  w2c_i1 &= w2c_i2;
-  w2c_i0 |= w2c_i1;
-  w2c_l20 = w2c_i0;
-  w2c_j0 = 4ull;
-  w2c_l10 = w2c_j0;
-  goto w2c_B57;
-  w2c_B58:;
-  w2c_i0 = w2c_l22;
-  w2c_i1 = 6u;
-  w2c_i0 <<= (w2c_i1 & 31);
-  w2c_i1 = w2c_l21;
-  w2c_i2 = 12u;
-  w2c_i1 <<= (w2c_i2 & 31);
-  w2c_i2 = 61440u;
-  w2c_i1 &= w2c_i2;
-  w2c_i0 |= w2c_i1;
-  w2c_i1 = w2c_l23;
-  w2c_i0 |= w2c_i1;
-  w2c_l20 = w2c_i0;
-  w2c_j0 = 3ull;
-  w2c_l10 = w2c_j0;
-  w2c_B57:;
-  w2c_i0 = w2c_l20;
-  w2c_i1 = 20843u;
-  w2c_i0 = w2c_i0 != w2c_i1;
-  if (w2c_i0) {goto w2c_B56;}
-  w2c_j0 = w2c_p4;
-  w2c_j1 = w2c_l10;
-  w2c_j2 = w2c_l7;
-  w2c_j1 += w2c_j2;
-  w2c_i0 = w2c_j0 != w2c_j1;
-  if (w2c_i0) {goto w2c_B56;}
-  w2c_i0 = w2c_l12;
-  if (w2c_i0) {goto w2c_B59;}
-  w2c_j0 = w2c_p5;
-  w2c_i0 = (u32)(w2c_j0);
-  w2c_i0 = i32_load8_s(m, (u64)(w2c_i0));
-  w2c_l20 = w2c_i0;
-  w2c_i1 = 4294967295u;
-  w2c_i0 = (u32)((s32)w2c_i0 > (s32)w2c_i1);
-  if (w2c_i0) {goto w2c_B59;}
-  w2c_i0 = w2c_l20;
-  w2c_i1 = 4294967264u;
-  w2c_i0 = w2c_i0 < w2c_i1;
-  if (w2c_i0) {goto w2c_B59;}
-  w2c_i0 = w2c_l20;
-  w2c_i1 = 255u;
-  w2c_i0 &= w2c_i1;
-  w2c_l21 = w2c_i0;
-  w2c_j0 = w2c_p5;
-  w2c_i0 = (u32)(w2c_j0);
-  w2c_i0 = i32_load8_u(m, (u64)(w2c_i0) + 1u);
-  w2c_i1 = 63u;
-  w2c_i0 &= w2c_i1;
-  w2c_l22 = w2c_i0;
-  w2c_j0 = w2c_p5;
-  w2c_i0 = (u32)(w2c_j0);
-  w2c_i0 = i32_load8_u(m, (u64)(w2c_i0) + 2u);
-  w2c_i1 = 63u;
-  w2c_i0 &= w2c_i1;
-  w2c_l23 = w2c_i0;
-  w2c_i0 = w2c_l20;
-  w2c_i1 = 4294967279u;
-  w2c_i0 = w2c_i0 > w2c_i1;
-  if (w2c_i0) {goto w2c_B61;}
-  w2c_i0 = w2c_l22;
-  w2c_i1 = 6u;
-  w2c_i0 <<= (w2c_i1 & 31);
-  w2c_i1 = w2c_l21;
-  w2c_i2 = 12u;
-  w2c_i1 <<= (w2c_i2 & 31);
-  w2c_i2 = 61440u;
-  w2c_i1 &= w2c_i2;
-  w2c_i0 |= w2c_i1;
-  w2c_i1 = w2c_l23;
-  w2c_i0 |= w2c_i1;
-  w2c_l20 = w2c_i0;
-  goto w2c_B60;
-  w2c_B61:;
-  w2c_i0 = w2c_l23;
-  w2c_i1 = 6u;
-  w2c_i0 <<= (w2c_i1 & 31);
-  w2c_i1 = w2c_l22;
-  w2c_i2 = 12u;
-  w2c_i1 <<= (w2c_i2 & 31);
-  w2c_i2 = w2c_l21;
-  w2c_i3 = 18u;
-  w2c_i2 <<= (w2c_i3 & 31);
-  w2c_i3 = 1835008u;
-  w2c_i2 &= w2c_i3;
-  w2c_i1 |= w2c_i2;
-  w2c_i0 |= w2c_i1;
-  w2c_j1 = w2c_p5;
-  w2c_i1 = (u32)(w2c_j1);
-  w2c_i1 = i32_load8_u(m, (u64)(w2c_i1) + 3u);
-  w2c_i2 = 63u;
-  w2c_i1 &= w2c_i2;
-  w2c_i0 |= w2c_i1;
-  w2c_l20 = w2c_i0;
-  w2c_B60:;
-  w2c_i0 = w2c_l20;
-  w2c_i1 = 22823u;
-  w2c_i0 = w2c_i0 != w2c_i1;
-  if (w2c_i0) {goto w2c_B62;}
-  w2c_i0 = 1u;
-  w2c_l14 = w2c_i0;
-  goto w2c_B0;
-  w2c_B62:;
-  w2c_i0 = w2c_l20;
-  w2c_i1 = 33324u;
-  w2c_i0 = w2c_i0 != w2c_i1;
-  if (w2c_i0) {goto w2c_B59;}
-  w2c_i0 = 1u;
-  w2c_l14 = w2c_i0;
-  goto w2c_B0;
-  w2c_B59:;
-  w2c_j0 = 68564ull;
-  w2c_j1 = 2ull;
   w2c_j2 = 68572ull;
   w2c_j3 = 2ull;
   w2c_j4 = w2c_p5;
   w2c_j5 = w2c_p6;
   w2c_i0 = w2c_f38(m, w2c_j0, w2c_j1, w2c_j2, w2c_j3, w2c_j4, w2c_j5);
-  w2c_i0 = !(w2c_i0);
-  if (w2c_i0) {goto w2c_B63;}
-  w2c_i0 = 1u;
-  w2c_l14 = w2c_i0;
-  goto w2c_B0;
-  w2c_B63:;
+  if (w2c_i0) {goto w2c_B0;}
   w2c_j0 = 68580ull;
-  w2c_j1 = 2ull;
-  w2c_j2 = 68588ull;
+  w2c_j1 = 1ull;
+  w2c_j2 = 68584ull;
   w2c_j3 = 1ull;
   w2c_j4 = w2c_p5;
   w2c_j5 = w2c_p6;
   w2c_i0 = w2c_f38(m, w2c_j0, w2c_j1, w2c_j2, w2c_j3, w2c_j4, w2c_j5);
-  w2c_i0 = !(w2c_i0);
-  if (w2c_i0) {goto w2c_B56;}
-  w2c_i0 = 1u;
-  w2c_l14 = w2c_i0;
-  goto w2c_B0;
-  w2c_B56:;
-  w2c_i0 = w2c_l14;
+  if (w2c_i0) {goto w2c_B0;}
+  w2c_j0 = 68588ull;
+  w2c_j1 = 1ull;
+  w2c_j2 = 68592ull;
+  w2c_j3 = 2ull;
+  w2c_j4 = w2c_p5;
+  w2c_j5 = w2c_p6;
+  w2c_i0 = w2c_f38(m, w2c_j0, w2c_j1, w2c_j2, w2c_j3, w2c_j4, w2c_j5);
+  if (w2c_i0) {goto w2c_B0;}
+  w2c_B64:;
+  w2c_i0 = w2c_l15;
   w2c_i1 = 4294967279u;
   w2c_i0 = w2c_i0 > w2c_i1;
-  if (w2c_i0) {goto w2c_B65;}
-  w2c_i0 = w2c_l16;
+  if (w2c_i0) {goto w2c_B68;}
+  w2c_i0 = w2c_l18;
   w2c_i1 = 6u;
   w2c_i0 <<= (w2c_i1 & 31);
-  w2c_i1 = w2c_l15;
+  w2c_i1 = w2c_l16;
   w2c_i2 = 12u;
   w2c_i1 <<= (w2c_i2 & 31);
   w2c_i2 = 61440u;
@@ -20275,18 +20231,18 @@ static void w2c_f29(module *m, u64 w2c_p0, u64 w2c_p1, u64 w2c_p2, u64 w2c_p3, u
   w2c_i0 |= w2c_i1;
   w2c_i1 = w2c_l19;
   w2c_i0 |= w2c_i1;
-  w2c_l20 = w2c_i0;
+  w2c_l14 = w2c_i0;
   w2c_j0 = 3ull;
   w2c_l7 = w2c_j0;
-  goto w2c_B64;
-  w2c_B65:;
+  goto w2c_B67;
+  w2c_B68:;
   w2c_i0 = w2c_l19;
   w2c_i1 = 6u;
   w2c_i0 <<= (w2c_i1 & 31);
-  w2c_i1 = w2c_l16;
+  w2c_i1 = w2c_l18;
   w2c_i2 = 12u;
   w2c_i1 <<= (w2c_i2 & 31);
-  w2c_i2 = w2c_l15;
+  w2c_i2 = w2c_l16;
   w2c_i3 = 18u;
   w2c_i2 <<= (w2c_i3 & 31);
   w2c_i3 = 1835008u;
@@ -20299,59 +20255,59 @@ static void w2c_f29(module *m, u64 w2c_p0, u64 w2c_p1, u64 w2c_p2, u64 w2c_p3, u
   w2c_i2 = 63u;
   w2c_i1 &= w2c_i2;
   w2c_i0 |= w2c_i1;
-  w2c_l20 = w2c_i0;
+  w2c_l14 = w2c_i0;
   w2c_j0 = 4ull;
   w2c_l7 = w2c_j0;
-  w2c_B64:;
+  w2c_B67:;
   w2c_j0 = w2c_p4;
   w2c_j1 = w2c_l7;
   w2c_i0 = w2c_j0 == w2c_j1;
-  if (w2c_i0) {goto w2c_B68;}
-  w2c_i0 = w2c_l20;
+  if (w2c_i0) {goto w2c_B69;}
+  w2c_i0 = w2c_l14;
   w2c_i1 = 21313u;
   w2c_i0 = w2c_i0 != w2c_i1;
-  if (w2c_i0) {goto w2c_B68;}
+  if (w2c_i0) {goto w2c_B69;}
   w2c_j0 = w2c_p3;
   w2c_j1 = w2c_l7;
   w2c_j0 += w2c_j1;
   w2c_l10 = w2c_j0;
   w2c_i0 = (u32)(w2c_j0);
   w2c_i0 = i32_load8_s(m, (u64)(w2c_i0));
-  w2c_l20 = w2c_i0;
+  w2c_l14 = w2c_i0;
   w2c_i1 = 4294967295u;
   w2c_i0 = (u32)((s32)w2c_i0 > (s32)w2c_i1);
-  if (w2c_i0) {goto w2c_B68;}
-  w2c_i0 = w2c_l20;
+  if (w2c_i0) {goto w2c_B69;}
+  w2c_i0 = w2c_l14;
   w2c_i1 = 4294967264u;
   w2c_i0 = w2c_i0 < w2c_i1;
-  if (w2c_i0) {goto w2c_B68;}
-  w2c_i0 = w2c_l20;
+  if (w2c_i0) {goto w2c_B69;}
+  w2c_i0 = w2c_l14;
   w2c_i1 = 255u;
   w2c_i0 &= w2c_i1;
-  w2c_l21 = w2c_i0;
+  w2c_l13 = w2c_i0;
   w2c_j0 = w2c_l10;
   w2c_i0 = (u32)(w2c_j0);
   w2c_i0 = i32_load8_u(m, (u64)(w2c_i0) + 1u);
   w2c_i1 = 63u;
   w2c_i0 &= w2c_i1;
-  w2c_l22 = w2c_i0;
+  w2c_l20 = w2c_i0;
   w2c_j0 = w2c_l10;
   w2c_i0 = (u32)(w2c_j0);
   w2c_i0 = i32_load8_u(m, (u64)(w2c_i0) + 2u);
   w2c_i1 = 63u;
   w2c_i0 &= w2c_i1;
-  w2c_l23 = w2c_i0;
-  w2c_i0 = w2c_l20;
+  w2c_l21 = w2c_i0;
+  w2c_i0 = w2c_l14;
   w2c_i1 = 4294967280u;
   w2c_i0 = w2c_i0 < w2c_i1;
-  if (w2c_i0) {goto w2c_B70;}
-  w2c_i0 = w2c_l23;
+  if (w2c_i0) {goto w2c_B71;}
+  w2c_i0 = w2c_l21;
   w2c_i1 = 6u;
   w2c_i0 <<= (w2c_i1 & 31);
-  w2c_i1 = w2c_l22;
+  w2c_i1 = w2c_l20;
   w2c_i2 = 12u;
   w2c_i1 <<= (w2c_i2 & 31);
-  w2c_i2 = w2c_l21;
+  w2c_i2 = w2c_l13;
   w2c_i3 = 18u;
   w2c_i2 <<= (w2c_i3 & 31);
   w2c_i3 = 1835008u;
@@ -20364,281 +20320,165 @@ static void w2c_f29(module *m, u64 w2c_p0, u64 w2c_p1, u64 w2c_p2, u64 w2c_p3, u
   w2c_i2 = 63u;
   w2c_i1 &= w2c_i2;
   w2c_i0 |= w2c_i1;
-  w2c_l20 = w2c_i0;
+  w2c_l14 = w2c_i0;
   w2c_j0 = 4ull;
   w2c_l10 = w2c_j0;
-  goto w2c_B69;
-  w2c_B70:;
-  w2c_i0 = w2c_l22;
+  goto w2c_B70;
+  w2c_B71:;
+  w2c_i0 = w2c_l20;
   w2c_i1 = 6u;
   w2c_i0 <<= (w2c_i1 & 31);
-  w2c_i1 = w2c_l21;
+  w2c_i1 = w2c_l13;
   w2c_i2 = 12u;
   w2c_i1 <<= (w2c_i2 & 31);
   w2c_i2 = 61440u;
   w2c_i1 &= w2c_i2;
   w2c_i0 |= w2c_i1;
-  w2c_i1 = w2c_l23;
+  w2c_i1 = w2c_l21;
   w2c_i0 |= w2c_i1;
-  w2c_l20 = w2c_i0;
+  w2c_l14 = w2c_i0;
   w2c_j0 = 3ull;
   w2c_l10 = w2c_j0;
-  w2c_B69:;
-  w2c_i0 = w2c_l20;
-  w2c_i1 = 20061u;
+  w2c_B70:;
+  w2c_i0 = w2c_l14;
+  w2c_i1 = 20843u;
   w2c_i0 = w2c_i0 != w2c_i1;
-  if (w2c_i0) {goto w2c_B68;}
+  if (w2c_i0) {goto w2c_B69;}
   w2c_j0 = w2c_p4;
   w2c_j1 = w2c_l10;
   w2c_j2 = w2c_l7;
   w2c_j1 += w2c_j2;
-  w2c_i0 = w2c_j0 == w2c_j1;
-  if (w2c_i0) {goto w2c_B67;}
-  w2c_B68:;
+  w2c_i0 = w2c_j0 != w2c_j1;
+  if (w2c_i0) {goto w2c_B69;}
+  w2c_i0 = w2c_l12;
+  if (w2c_i0) {goto w2c_B72;}
+  w2c_j0 = w2c_p5;
+  w2c_i0 = (u32)(w2c_j0);
+  w2c_i0 = i32_load8_s(m, (u64)(w2c_i0));
+  w2c_l14 = w2c_i0;
+  w2c_i1 = 4294967295u;
+  w2c_i0 = (u32)((s32)w2c_i0 > (s32)w2c_i1);
+  if (w2c_i0) {goto w2c_B72;}
+  w2c_i0 = w2c_l14;
+  w2c_i1 = 4294967264u;
+  w2c_i0 = w2c_i0 < w2c_i1;
+  if (w2c_i0) {goto w2c_B72;}
+  w2c_i0 = w2c_l14;
+  w2c_i1 = 255u;
+  w2c_i0 &= w2c_i1;
+  w2c_l13 = w2c_i0;
+  w2c_j0 = w2c_p5;
+  w2c_i0 = (u32)(w2c_j0);
+  w2c_i0 = i32_load8_u(m, (u64)(w2c_i0) + 1u);
+  w2c_i1 = 63u;
+  w2c_i0 &= w2c_i1;
+  w2c_l20 = w2c_i0;
+  w2c_j0 = w2c_p5;
+  w2c_i0 = (u32)(w2c_j0);
+  w2c_i0 = i32_load8_u(m, (u64)(w2c_i0) + 2u);
+  w2c_i1 = 63u;
+  w2c_i0 &= w2c_i1;
+  w2c_l21 = w2c_i0;
   w2c_i0 = w2c_l14;
   w2c_i1 = 4294967279u;
   w2c_i0 = w2c_i0 > w2c_i1;
-  if (w2c_i0) {goto w2c_B72;}
-  w2c_i0 = w2c_l16;
+  if (w2c_i0) {goto w2c_B74;}
+  w2c_i0 = w2c_l20;
   w2c_i1 = 6u;
   w2c_i0 <<= (w2c_i1 & 31);
-  w2c_i1 = w2c_l15;
+  w2c_i1 = w2c_l13;
   w2c_i2 = 12u;
   w2c_i1 <<= (w2c_i2 & 31);
   w2c_i2 = 61440u;
   w2c_i1 &= w2c_i2;
   w2c_i0 |= w2c_i1;
-  w2c_i1 = w2c_l19;
+  w2c_i1 = w2c_l21;
   w2c_i0 |= w2c_i1;
   w2c_l20 = w2c_i0;
-  w2c_j0 = 3ull;
-  w2c_l7 = w2c_j0;
-  goto w2c_B71;
-  w2c_B72:;
-  w2c_i0 = w2c_l19;
-  w2c_i1 = 6u;
-  w2c_i0 <<= (w2c_i1 & 31);
-  w2c_i1 = w2c_l16;
-  w2c_i2 = 12u;
-  w2c_i1 <<= (w2c_i2 & 31);
-  w2c_i2 = w2c_l15;
-  w2c_i3 = 18u;
-  w2c_i2 <<= (w2c_i3 & 31);
-  w2c_i3 = 1835008u;
-  w2c_i2 &= w2c_i3;
-  w2c_i1 |= w2c_i2;
-  w2c_i0 |= w2c_i1;
-  w2c_j1 = w2c_p3;
-  w2c_i1 = (u32)(w2c_j1);
-  w2c_i1 = i32_load8_u(m, (u64)(w2c_i1) + 3u);
-  w2c_i2 = 63u;
-  w2c_i1 &= w2c_i2;
-  w2c_i0 |= w2c_i1;
-  w2c_l20 = w2c_i0;
-  w2c_j0 = 4ull;
-  w2c_l7 = w2c_j0;
-  w2c_B71:;
-  w2c_j0 = w2c_p4;
-  w2c_j1 = w2c_l7;
-  w2c_i0 = w2c_j0 == w2c_j1;
-  if (w2c_i0) {goto w2c_B3;}
-  w2c_i0 = w2c_l20;
-  w2c_i1 = 20108u;
-  w2c_i0 = w2c_i0 != w2c_i1;
-  if (w2c_i0) {goto w2c_B3;}
-  w2c_j0 = w2c_p3;
-  w2c_j1 = w2c_l7;
-  w2c_j0 += w2c_j1;
-  w2c_l10 = w2c_j0;
-  w2c_i0 = (u32)(w2c_j0);
-  w2c_i0 = i32_load8_s(m, (u64)(w2c_i0));
-  w2c_l20 = w2c_i0;
-  w2c_i1 = 4294967295u;
-  w2c_i0 = (u32)((s32)w2c_i0 > (s32)w2c_i1);
-  if (w2c_i0) {goto w2c_B3;}
-  w2c_i0 = w2c_l20;
-  w2c_i1 = 4294967264u;
-  w2c_i0 = w2c_i0 < w2c_i1;
-  if (w2c_i0) {goto w2c_B3;}
-  w2c_i0 = w2c_l20;
-  w2c_i1 = 255u;
-  w2c_i0 &= w2c_i1;
-  w2c_l21 = w2c_i0;
-  w2c_j0 = w2c_l10;
-  w2c_i0 = (u32)(w2c_j0);
-  w2c_i0 = i32_load8_u(m, (u64)(w2c_i0) + 1u);
-  w2c_i1 = 63u;
-  w2c_i0 &= w2c_i1;
-  w2c_l22 = w2c_i0;
-  w2c_j0 = w2c_l10;
-  w2c_i0 = (u32)(w2c_j0);
-  w2c_i0 = i32_load8_u(m, (u64)(w2c_i0) + 2u);
-  w2c_i1 = 63u;
-  w2c_i0 &= w2c_i1;
-  w2c_l23 = w2c_i0;
-  w2c_i0 = w2c_l20;
-  w2c_i1 = 4294967280u;
-  w2c_i0 = w2c_i0 < w2c_i1;
-  if (w2c_i0) {goto w2c_B74;}
-  w2c_i0 = w2c_l23;
-  w2c_i1 = 6u;
-  w2c_i0 <<= (w2c_i1 & 31);
-  w2c_i1 = w2c_l22;
-  w2c_i2 = 12u;
-  w2c_i1 <<= (w2c_i2 & 31);
-  w2c_i2 = w2c_l21;
-  w2c_i3 = 18u;
-  w2c_i2 <<= (w2c_i3 & 31);
-  w2c_i3 = 1835008u;
-  w2c_i2 &= w2c_i3;
-  w2c_i1 |= w2c_i2;
-  w2c_i0 |= w2c_i1;
-  w2c_j1 = w2c_l10;
-  w2c_i1 = (u32)(w2c_j1);
-  w2c_i1 = i32_load8_u(m, (u64)(w2c_i1) + 3u);
-  w2c_i2 = 63u;
-  w2c_i1 &= w2c_i2;
-  w2c_i0 |= w2c_i1;
-  w2c_l20 = w2c_i0;
-  w2c_j0 = 4ull;
-  w2c_l10 = w2c_j0;
   goto w2c_B73;
   w2c_B74:;
-  w2c_i0 = w2c_l22;
+  w2c_i0 = w2c_l21;
   w2c_i1 = 6u;
   w2c_i0 <<= (w2c_i1 & 31);
-  w2c_i1 = w2c_l21;
+  w2c_i1 = w2c_l20;
   w2c_i2 = 12u;
   w2c_i1 <<= (w2c_i2 & 31);
-  w2c_i2 = 61440u;
+  w2c_i2 = w2c_l13;
+  w2c_i3 = 18u;
+  w2c_i2 <<= (w2c_i3 & 31);
+  w2c_i3 = 1835008u;
+  w2c_i2 &= w2c_i3;
+  w2c_i1 |= w2c_i2;
+  w2c_i0 |= w2c_i1;
+  w2c_j1 = w2c_p5;
+  w2c_i1 = (u32)(w2c_j1);
+  w2c_i1 = i32_load8_u(m, (u64)(w2c_i1) + 3u);
+  w2c_i2 = 63u;
   w2c_i1 &= w2c_i2;
   w2c_i0 |= w2c_i1;
-  w2c_i1 = w2c_l23;
-  w2c_i0 |= w2c_i1;
   w2c_l20 = w2c_i0;
-  w2c_j0 = 3ull;
-  w2c_l10 = w2c_j0;
   w2c_B73:;
+  w2c_i0 = 1u;
+  w2c_l14 = w2c_i0;
+  w2c_i0 = 0u;
+  w2c_l13 = w2c_i0;
   w2c_i0 = w2c_l20;
-  w2c_i1 = 21313u;
-  w2c_i0 = w2c_i0 != w2c_i1;
-  if (w2c_i0) {goto w2c_B3;}
-  w2c_i0 = w2c_l12;
-  if (w2c_i0) {goto w2c_B3;}
-  w2c_j0 = w2c_p4;
-  w2c_j1 = w2c_l10;
-  w2c_j2 = w2c_l7;
-  w2c_j1 += w2c_j2;
-  w2c_i0 = w2c_j0 == w2c_j1;
-  if (w2c_i0) {goto w2c_B66;}
-  goto w2c_B3;
-  w2c_B67:;
-  w2c_i0 = w2c_l12;
-  if (w2c_i0) {goto w2c_B3;}
-  w2c_B66:;
-  w2c_j0 = w2c_p5;
-  w2c_i0 = (u32)(w2c_j0);
-  w2c_i0 = i32_load8_s(m, (u64)(w2c_i0));
-  w2c_l20 = w2c_i0;
-  w2c_i1 = 4294967295u;
-  w2c_i0 = (u32)((s32)w2c_i0 > (s32)w2c_i1);
-  if (w2c_i0) {goto w2c_B3;}
+  w2c_i1 = 22823u;
+  w2c_i0 = w2c_i0 == w2c_i1;
+  if (w2c_i0) {goto w2c_B0;}
   w2c_i0 = w2c_l20;
-  w2c_i1 = 4294967264u;
-  w2c_i0 = w2c_i0 < w2c_i1;
-  if (w2c_i0) {goto w2c_B3;}
-  w2c_i0 = w2c_l20;
-  w2c_i1 = 255u;
-  w2c_i0 &= w2c_i1;
-  w2c_l21 = w2c_i0;
-  w2c_j0 = w2c_p5;
-  w2c_i0 = (u32)(w2c_j0);
-  w2c_i0 = i32_load8_u(m, (u64)(w2c_i0) + 1u);
-  w2c_i1 = 63u;
-  w2c_i0 &= w2c_i1;
-  w2c_l22 = w2c_i0;
-  w2c_j0 = w2c_p5;
-  w2c_i0 = (u32)(w2c_j0);
-  w2c_i0 = i32_load8_u(m, (u64)(w2c_i0) + 2u);
-  w2c_i1 = 63u;
-  w2c_i0 &= w2c_i1;
-  w2c_l23 = w2c_i0;
-  w2c_i0 = w2c_l20;
+  w2c_i1 = 33324u;
+  w2c_i0 = w2c_i0 == w2c_i1;
+  if (w2c_i0) {goto w2c_B0;}
+  w2c_B72:;
+  w2c_i0 = 1u;
+  w2c_l14 = w2c_i0;
+  w2c_i0 = 0u;
+  w2c_l13 = w2c_i0;
+  w2c_j0 = 68600ull;
+  w2c_j1 = 2ull;
+  w2c_j2 = 68608ull;
+  w2c_j3 = 2ull;
+  w2c_j4 = w2c_p5;
+  w2c_j5 = w2c_p6;
+  w2c_i0 = w2c_f38(m, w2c_j0, w2c_j1, w2c_j2, w2c_j3, w2c_j4, w2c_j5);
+  if (w2c_i0) {goto w2c_B0;}
+  w2c_j0 = 68616ull;
+  w2c_j1 = 2ull;
+  w2c_j2 = 68624ull;
+  w2c_j3 = 1ull;
+  w2c_j4 = w2c_p5;
+  w2c_j5 = w2c_p6;
+  w2c_i0 = w2c_f38(m, w2c_j0, w2c_j1, w2c_j2, w2c_j3, w2c_j4, w2c_j5);
+  if (w2c_i0) {goto w2c_B0;}
+  w2c_B69:;
+  w2c_i0 = w2c_l15;
   w2c_i1 = 4294967279u;
   w2c_i0 = w2c_i0 > w2c_i1;
   if (w2c_i0) {goto w2c_B76;}
-  w2c_i0 = w2c_l22;
+  w2c_i0 = w2c_l18;
   w2c_i1 = 6u;
   w2c_i0 <<= (w2c_i1 & 31);
-  w2c_i1 = w2c_l21;
+  w2c_i1 = w2c_l16;
   w2c_i2 = 12u;
   w2c_i1 <<= (w2c_i2 & 31);
   w2c_i2 = 61440u;
   w2c_i1 &= w2c_i2;
   w2c_i0 |= w2c_i1;
-  w2c_i1 = w2c_l23;
+  w2c_i1 = w2c_l19;
   w2c_i0 |= w2c_i1;
-  w2c_l20 = w2c_i0;
+  w2c_l14 = w2c_i0;
+  w2c_j0 = 3ull;
+  w2c_l7 = w2c_j0;
   goto w2c_B75;
   w2c_B76:;
-  w2c_i0 = w2c_l23;
-  w2c_i1 = 6u;
-  w2c_i0 <<= (w2c_i1 & 31);
-  w2c_i1 = w2c_l22;
-  w2c_i2 = 12u;
-  w2c_i1 <<= (w2c_i2 & 31);
-  w2c_i2 = w2c_l21;
-  w2c_i3 = 18u;
-  w2c_i2 <<= (w2c_i3 & 31);
-  w2c_i3 = 1835008u;
-  w2c_i2 &= w2c_i3;
-  w2c_i1 |= w2c_i2;
-  w2c_i0 |= w2c_i1;
-  w2c_j1 = w2c_p5;
-  w2c_i1 = (u32)(w2c_j1);
-  w2c_i1 = i32_load8_u(m, (u64)(w2c_i1) + 3u);
-  w2c_i2 = 63u;
-  w2c_i1 &= w2c_i2;
-  w2c_i0 |= w2c_i1;
-  w2c_l20 = w2c_i0;
-  w2c_B75:;
-  w2c_i0 = w2c_l20;
-  w2c_i1 = 22823u;
-  w2c_i0 = w2c_i0 != w2c_i1;
-  if (w2c_i0) {goto w2c_B3;}
-  w2c_i0 = 1u;
-  w2c_l14 = w2c_i0;
-  goto w2c_B0;
-  w2c_B4:;
-  UNREACHABLE;
-  w2c_B3:;
-  w2c_i0 = w2c_l14;
-  w2c_i1 = 4294967279u;
-  w2c_i0 = w2c_i0 > w2c_i1;
-  if (w2c_i0) {goto w2c_B78;}
-  w2c_i0 = w2c_l16;
-  w2c_i1 = 6u;
-  w2c_i0 <<= (w2c_i1 & 31);
-  w2c_i1 = w2c_l15;
-  w2c_i2 = 12u;
-  w2c_i1 <<= (w2c_i2 & 31);
-  w2c_i2 = 61440u;
-  w2c_i1 &= w2c_i2;
-  w2c_i0 |= w2c_i1;
-  w2c_i1 = w2c_l19;
-  w2c_i0 |= w2c_i1;
-  w2c_l20 = w2c_i0;
-  w2c_j0 = 3ull;
-  w2c_l7 = w2c_j0;
-  goto w2c_B77;
-  w2c_B78:;
   w2c_i0 = w2c_l19;
   w2c_i1 = 6u;
   w2c_i0 <<= (w2c_i1 & 31);
-  w2c_i1 = w2c_l16;
+  w2c_i1 = w2c_l18;
   w2c_i2 = 12u;
   w2c_i1 <<= (w2c_i2 & 31);
-  w2c_i2 = w2c_l15;
+  w2c_i2 = w2c_l16;
   w2c_i3 = 18u;
   w2c_i2 <<= (w2c_i3 & 31);
   w2c_i3 = 1835008u;
@@ -20651,59 +20491,59 @@ static void w2c_f29(module *m, u64 w2c_p0, u64 w2c_p1, u64 w2c_p2, u64 w2c_p3, u
   w2c_i2 = 63u;
   w2c_i1 &= w2c_i2;
   w2c_i0 |= w2c_i1;
-  w2c_l20 = w2c_i0;
+  w2c_l14 = w2c_i0;
   w2c_j0 = 4ull;
   w2c_l7 = w2c_j0;
-  w2c_B77:;
+  w2c_B75:;
   w2c_j0 = w2c_p4;
   w2c_j1 = w2c_l7;
   w2c_i0 = w2c_j0 == w2c_j1;
-  if (w2c_i0) {goto w2c_B79;}
-  w2c_i0 = w2c_l20;
+  if (w2c_i0) {goto w2c_B80;}
+  w2c_i0 = w2c_l14;
   w2c_i1 = 21313u;
   w2c_i0 = w2c_i0 != w2c_i1;
-  if (w2c_i0) {goto w2c_B79;}
+  if (w2c_i0) {goto w2c_B80;}
   w2c_j0 = w2c_p3;
   w2c_j1 = w2c_l7;
   w2c_j0 += w2c_j1;
   w2c_l10 = w2c_j0;
   w2c_i0 = (u32)(w2c_j0);
   w2c_i0 = i32_load8_s(m, (u64)(w2c_i0));
-  w2c_l20 = w2c_i0;
+  w2c_l14 = w2c_i0;
   w2c_i1 = 4294967295u;
   w2c_i0 = (u32)((s32)w2c_i0 > (s32)w2c_i1);
-  if (w2c_i0) {goto w2c_B79;}
-  w2c_i0 = w2c_l20;
+  if (w2c_i0) {goto w2c_B80;}
+  w2c_i0 = w2c_l14;
   w2c_i1 = 4294967264u;
   w2c_i0 = w2c_i0 < w2c_i1;
-  if (w2c_i0) {goto w2c_B79;}
-  w2c_i0 = w2c_l20;
+  if (w2c_i0) {goto w2c_B80;}
+  w2c_i0 = w2c_l14;
   w2c_i1 = 255u;
   w2c_i0 &= w2c_i1;
-  w2c_l21 = w2c_i0;
+  w2c_l13 = w2c_i0;
   w2c_j0 = w2c_l10;
   w2c_i0 = (u32)(w2c_j0);
   w2c_i0 = i32_load8_u(m, (u64)(w2c_i0) + 1u);
   w2c_i1 = 63u;
   w2c_i0 &= w2c_i1;
-  w2c_l22 = w2c_i0;
+  w2c_l20 = w2c_i0;
   w2c_j0 = w2c_l10;
   w2c_i0 = (u32)(w2c_j0);
   w2c_i0 = i32_load8_u(m, (u64)(w2c_i0) + 2u);
   w2c_i1 = 63u;
   w2c_i0 &= w2c_i1;
-  w2c_l23 = w2c_i0;
-  w2c_i0 = w2c_l20;
+  w2c_l21 = w2c_i0;
+  w2c_i0 = w2c_l14;
   w2c_i1 = 4294967280u;
   w2c_i0 = w2c_i0 < w2c_i1;
-  if (w2c_i0) {goto w2c_B81;}
-  w2c_i0 = w2c_l23;
+  if (w2c_i0) {goto w2c_B82;}
+  w2c_i0 = w2c_l21;
   w2c_i1 = 6u;
   w2c_i0 <<= (w2c_i1 & 31);
-  w2c_i1 = w2c_l22;
+  w2c_i1 = w2c_l20;
   w2c_i2 = 12u;
   w2c_i1 <<= (w2c_i2 & 31);
-  w2c_i2 = w2c_l21;
+  w2c_i2 = w2c_l13;
   w2c_i3 = 18u;
   w2c_i2 <<= (w2c_i3 & 31);
   w2c_i3 = 1835008u;
@@ -20716,83 +20556,45 @@ static void w2c_f29(module *m, u64 w2c_p0, u64 w2c_p1, u64 w2c_p2, u64 w2c_p3, u
   w2c_i2 = 63u;
   w2c_i1 &= w2c_i2;
   w2c_i0 |= w2c_i1;
-  w2c_l20 = w2c_i0;
+  w2c_l14 = w2c_i0;
   w2c_j0 = 4ull;
   w2c_l10 = w2c_j0;
-  goto w2c_B80;
-  w2c_B81:;
-  w2c_i0 = w2c_l22;
+  goto w2c_B81;
+  w2c_B82:;
+  w2c_i0 = w2c_l20;
   w2c_i1 = 6u;
   w2c_i0 <<= (w2c_i1 & 31);
-  w2c_i1 = w2c_l21;
+  w2c_i1 = w2c_l13;
   w2c_i2 = 12u;
   w2c_i1 <<= (w2c_i2 & 31);
   w2c_i2 = 61440u;
   w2c_i1 &= w2c_i2;
   w2c_i0 |= w2c_i1;
-  w2c_i1 = w2c_l23;
+  w2c_i1 = w2c_l21;
   w2c_i0 |= w2c_i1;
-  w2c_l20 = w2c_i0;
+  w2c_l14 = w2c_i0;
   w2c_j0 = 3ull;
   w2c_l10 = w2c_j0;
-  w2c_B80:;
-  w2c_i0 = w2c_l20;
-  w2c_i1 = 19968u;
+  w2c_B81:;
+  w2c_i0 = w2c_l14;
+  w2c_i1 = 20061u;
   w2c_i0 = w2c_i0 != w2c_i1;
-  if (w2c_i0) {goto w2c_B79;}
+  if (w2c_i0) {goto w2c_B80;}
   w2c_j0 = w2c_p4;
   w2c_j1 = w2c_l10;
   w2c_j2 = w2c_l7;
   w2c_j1 += w2c_j2;
-  w2c_i0 = w2c_j0 != w2c_j1;
+  w2c_i0 = w2c_j0 == w2c_j1;
   if (w2c_i0) {goto w2c_B79;}
-  w2c_j0 = 68592ull;
-  w2c_j1 = 1ull;
-  w2c_j2 = 68596ull;
-  w2c_j3 = 1ull;
-  w2c_j4 = w2c_p5;
-  w2c_j5 = w2c_p6;
-  w2c_i0 = w2c_f38(m, w2c_j0, w2c_j1, w2c_j2, w2c_j3, w2c_j4, w2c_j5);
-  w2c_i0 = !(w2c_i0);
-  if (w2c_i0) {goto w2c_B82;}
-  w2c_i0 = 1u;
-  w2c_l14 = w2c_i0;
-  goto w2c_B0;
-  w2c_B82:;
-  w2c_j0 = 68600ull;
-  w2c_j1 = 2ull;
-  w2c_j2 = 68592ull;
-  w2c_j3 = 1ull;
-  w2c_j4 = w2c_p5;
-  w2c_j5 = w2c_p6;
-  w2c_i0 = w2c_f38(m, w2c_j0, w2c_j1, w2c_j2, w2c_j3, w2c_j4, w2c_j5);
-  w2c_i0 = !(w2c_i0);
-  if (w2c_i0) {goto w2c_B83;}
-  w2c_i0 = 1u;
-  w2c_l14 = w2c_i0;
-  goto w2c_B0;
-  w2c_B83:;
-  w2c_j0 = 68608ull;
-  w2c_j1 = 2ull;
-  w2c_j2 = 68616ull;
-  w2c_j3 = 1ull;
-  w2c_j4 = w2c_p5;
-  w2c_j5 = w2c_p6;
-  w2c_i0 = w2c_f38(m, w2c_j0, w2c_j1, w2c_j2, w2c_j3, w2c_j4, w2c_j5);
-  w2c_i0 = !(w2c_i0);
-  if (w2c_i0) {goto w2c_B79;}
-  w2c_i0 = 1u;
-  w2c_l14 = w2c_i0;
-  goto w2c_B0;
-  w2c_B79:;
-  w2c_i0 = w2c_l14;
+  w2c_B80:;
+  w2c_i0 = w2c_l15;
   w2c_i1 = 4294967279u;
   w2c_i0 = w2c_i0 > w2c_i1;
-  if (w2c_i0) {goto w2c_B85;}
-  w2c_i0 = w2c_l16;
+  if (w2c_i0) {goto w2c_B84;}
+  w2c_i0 = w2c_l18;
   w2c_i1 = 6u;
   w2c_i0 <<= (w2c_i1 & 31);
-  w2c_i1 = w2c_l15;
+  w2c_i1 = w2c_l16;
   w2c_i2 = 12u;
   w2c_i1 <<= (w2c_i2 & 31);
   w2c_i2 = 61440u;
@@ -20800,18 +20602,18 @@ static void w2c_f29(module *m, u64 w2c_p0, u64 w2c_p1, u64 w2c_p2, u64 w2c_p3, u
   w2c_i0 |= w2c_i1;
   w2c_i1 = w2c_l19;
   w2c_i0 |= w2c_i1;
-  w2c_l20 = w2c_i0;
+  w2c_l14 = w2c_i0;
   w2c_j0 = 3ull;
   w2c_l7 = w2c_j0;
-  goto w2c_B84;
-  w2c_B85:;
+  goto w2c_B83;
+  w2c_B84:;
   w2c_i0 = w2c_l19;
   w2c_i1 = 6u;
   w2c_i0 <<= (w2c_i1 & 31);
-  w2c_i1 = w2c_l16;
+  w2c_i1 = w2c_l18;
   w2c_i2 = 12u;
   w2c_i1 <<= (w2c_i2 & 31);
-  w2c_i2 = w2c_l15;
+  w2c_i2 = w2c_l16;
   w2c_i3 = 18u;
   w2c_i2 <<= (w2c_i3 & 31);
   w2c_i3 = 1835008u;
@@ -20824,59 +20626,59 @@ static void w2c_f29(module *m, u64 w2c_p0, u64 w2c_p1, u64 w2c_p2, u64 w2c_p3, u
   w2c_i2 = 63u;
   w2c_i1 &= w2c_i2;
   w2c_i0 |= w2c_i1;
-  w2c_l20 = w2c_i0;
+  w2c_l14 = w2c_i0;
   w2c_j0 = 4ull;
   w2c_l7 = w2c_j0;
-  w2c_B84:;
+  w2c_B83:;
   w2c_j0 = w2c_p4;
   w2c_j1 = w2c_l7;
   w2c_i0 = w2c_j0 == w2c_j1;
-  if (w2c_i0) {goto w2c_B86;}
-  w2c_i0 = w2c_l20;
-  w2c_i1 = 19977u;
+  if (w2c_i0) {goto w2c_B77;}
+  w2c_i0 = w2c_l14;
+  w2c_i1 = 20108u;
   w2c_i0 = w2c_i0 != w2c_i1;
-  if (w2c_i0) {goto w2c_B86;}
+  if (w2c_i0) {goto w2c_B77;}
   w2c_j0 = w2c_p3;
   w2c_j1 = w2c_l7;
   w2c_j0 += w2c_j1;
   w2c_l10 = w2c_j0;
   w2c_i0 = (u32)(w2c_j0);
   w2c_i0 = i32_load8_s(m, (u64)(w2c_i0));
-  w2c_l20 = w2c_i0;
+  w2c_l14 = w2c_i0;
   w2c_i1 = 4294967295u;
   w2c_i0 = (u32)((s32)w2c_i0 > (s32)w2c_i1);
-  if (w2c_i0) {goto w2c_B86;}
-  w2c_i0 = w2c_l20;
+  if (w2c_i0) {goto w2c_B77;}
+  w2c_i0 = w2c_l14;
   w2c_i1 = 4294967264u;
   w2c_i0 = w2c_i0 < w2c_i1;
-  if (w2c_i0) {goto w2c_B86;}
-  w2c_i0 = w2c_l20;
+  if (w2c_i0) {goto w2c_B77;}
+  w2c_i0 = w2c_l14;
   w2c_i1 = 255u;
   w2c_i0 &= w2c_i1;
-  w2c_l21 = w2c_i0;
+  w2c_l13 = w2c_i0;
   w2c_j0 = w2c_l10;
   w2c_i0 = (u32)(w2c_j0);
   w2c_i0 = i32_load8_u(m, (u64)(w2c_i0) + 1u);
   w2c_i1 = 63u;
   w2c_i0 &= w2c_i1;
-  w2c_l22 = w2c_i0;
+  w2c_l20 = w2c_i0;
   w2c_j0 = w2c_l10;
   w2c_i0 = (u32)(w2c_j0);
   w2c_i0 = i32_load8_u(m, (u64)(w2c_i0) + 2u);
   w2c_i1 = 63u;
   w2c_i0 &= w2c_i1;
-  w2c_l23 = w2c_i0;
-  w2c_i0 = w2c_l20;
+  w2c_l21 = w2c_i0;
+  w2c_i0 = w2c_l14;
   w2c_i1 = 4294967280u;
   w2c_i0 = w2c_i0 < w2c_i1;
-  if (w2c_i0) {goto w2c_B88;}
-  w2c_i0 = w2c_l23;
+  if (w2c_i0) {goto w2c_B86;}
+  w2c_i0 = w2c_l21;
   w2c_i1 = 6u;
   w2c_i0 <<= (w2c_i1 & 31);
-  w2c_i1 = w2c_l22;
+  w2c_i1 = w2c_l20;
   w2c_i2 = 12u;
   w2c_i1 <<= (w2c_i2 & 31);
-  w2c_i2 = w2c_l21;
+  w2c_i2 = w2c_l13;
   w2c_i3 = 18u;
   w2c_i2 <<= (w2c_i3 & 31);
   w2c_i3 = 1835008u;
@@ -20889,174 +20691,95 @@ static void w2c_f29(module *m, u64 w2c_p0, u64 w2c_p1, u64 w2c_p2, u64 w2c_p3, u
   w2c_i2 = 63u;
   w2c_i1 &= w2c_i2;
   w2c_i0 |= w2c_i1;
-  w2c_l20 = w2c_i0;
+  w2c_l14 = w2c_i0;
   w2c_j0 = 4ull;
-  w2c_l9 = w2c_j0;
+  w2c_l10 = w2c_j0;
+  goto w2c_B85;
+  w2c_B86:;
+  w2c_i0 = w2c_l20;
+  w2c_i1 = 6u;
+  w2c_i0 <<= (w2c_i1 & 31);
+  w2c_i1 = w2c_l13;
+  w2c_i2 = 12u;
+  w2c_i1 <<= (w2c_i2 & 31);
+  w2c_i2 = 61440u;
+  w2c_i1 &= w2c_i2;
+  w2c_i0 |= w2c_i1;
+  w2c_i1 = w2c_l21;
+  w2c_i0 |= w2c_i1;
+  w2c_l14 = w2c_i0;
+  w2c_j0 = 3ull;
+  w2c_l10 = w2c_j0;
+  w2c_B85:;
+  w2c_i0 = w2c_l14;
+  w2c_i1 = 21313u;
+  w2c_i0 = w2c_i0 != w2c_i1;
+  if (w2c_i0) {goto w2c_B77;}
+  w2c_i0 = w2c_l12;
+  if (w2c_i0) {goto w2c_B77;}
+  w2c_j0 = w2c_p4;
+  w2c_j1 = w2c_l10;
+  w2c_j2 = w2c_l7;
+  w2c_j1 += w2c_j2;
+  w2c_i0 = w2c_j0 == w2c_j1;
+  if (w2c_i0) {goto w2c_B78;}
+  goto w2c_B77;
+  w2c_B79:;
+  w2c_i0 = w2c_l12;
+  if (w2c_i0) {goto w2c_B77;}
+  w2c_B78:;
+  w2c_j0 = w2c_p5;
+  w2c_i0 = (u32)(w2c_j0);
+  w2c_i0 = i32_load8_s(m, (u64)(w2c_i0));
+  w2c_l14 = w2c_i0;
+  w2c_i1 = 4294967295u;
+  w2c_i0 = (u32)((s32)w2c_i0 > (s32)w2c_i1);
+  if (w2c_i0) {goto w2c_B77;}
+  w2c_i0 = w2c_l14;
+  w2c_i1 = 4294967264u;
+  w2c_i0 = w2c_i0 < w2c_i1;
+  if (w2c_i0) {goto w2c_B77;}
+  w2c_i0 = w2c_l14;
+  w2c_i1 = 255u;
+  w2c_i0 &= w2c_i1;
+  w2c_l13 = w2c_i0;
+  w2c_j0 = w2c_p5;
+  w2c_i0 = (u32)(w2c_j0);
+  w2c_i0 = i32_load8_u(m, (u64)(w2c_i0) + 1u);
+  w2c_i1 = 63u;
+  w2c_i0 &= w2c_i1;
+  w2c_l20 = w2c_i0;
+  w2c_j0 = w2c_p5;
+  w2c_i0 = (u32)(w2c_j0);
+  w2c_i0 = i32_load8_u(m, (u64)(w2c_i0) + 2u);
+  w2c_i1 = 63u;
+  w2c_i0 &= w2c_i1;
+  w2c_l21 = w2c_i0;
+  w2c_i0 = w2c_l14;
+  w2c_i1 = 4294967279u;
+  w2c_i0 = w2c_i0 > w2c_i1;
+  if (w2c_i0) {goto w2c_B88;}
+  w2c_i0 = w2c_l20;
+  w2c_i1 = 6u;
+  w2c_i0 <<= (w2c_i1 & 31);
+  w2c_i1 = w2c_l13;
+  w2c_i2 = 12u;
+  w2c_i1 <<= (w2c_i2 & 31);
+  w2c_i2 = 61440u;
+  w2c_i1 &= w2c_i2;
+  w2c_i0 |= w2c_i1;
+  w2c_i1 = w2c_l21;
+  w2c_i0 |= w2c_i1;
+  w2c_l14 = w2c_i0;
   goto w2c_B87;
   w2c_B88:;
-  w2c_i0 = w2c_l22;
+  w2c_i0 = w2c_l21;
   w2c_i1 = 6u;
   w2c_i0 <<= (w2c_i1 & 31);
-  w2c_i1 = w2c_l21;
+  w2c_i1 = w2c_l20;
   w2c_i2 = 12u;
   w2c_i1 <<= (w2c_i2 & 31);
-  w2c_i2 = 61440u;
-  w2c_i1 &= w2c_i2;
-  w2c_i0 |= w2c_i1;
-  w2c_i1 = w2c_l23;
-  w2c_i0 |= w2c_i1;
-  w2c_l20 = w2c_i0;
-  w2c_j0 = 3ull;
-  w2c_l9 = w2c_j0;
-  w2c_B87:;
-  w2c_i0 = w2c_l20;
-  w2c_i1 = 21313u;
-  w2c_i0 = w2c_i0 != w2c_i1;
-  if (w2c_i0) {goto w2c_B86;}
-  w2c_j0 = w2c_p4;
-  w2c_j1 = w2c_l9;
-  w2c_j2 = w2c_l7;
-  w2c_j1 += w2c_j2;
-  w2c_l7 = w2c_j1;
-  w2c_i0 = w2c_j0 == w2c_j1;
-  if (w2c_i0) {goto w2c_B86;}
-  w2c_j0 = w2c_l10;
-  w2c_j1 = w2c_l9;
-  w2c_j0 += w2c_j1;
-  w2c_l10 = w2c_j0;
-  w2c_i0 = (u32)(w2c_j0);
-  w2c_i0 = i32_load8_s(m, (u64)(w2c_i0));
-  w2c_l20 = w2c_i0;
-  w2c_i1 = 4294967295u;
-  w2c_i0 = (u32)((s32)w2c_i0 > (s32)w2c_i1);
-  if (w2c_i0) {goto w2c_B86;}
-  w2c_i0 = w2c_l20;
-  w2c_i1 = 4294967264u;
-  w2c_i0 = w2c_i0 < w2c_i1;
-  if (w2c_i0) {goto w2c_B86;}
-  w2c_i0 = w2c_l20;
-  w2c_i1 = 255u;
-  w2c_i0 &= w2c_i1;
-  w2c_l21 = w2c_i0;
-  w2c_j0 = w2c_l10;
-  w2c_i0 = (u32)(w2c_j0);
-  w2c_i0 = i32_load8_u(m, (u64)(w2c_i0) + 1u);
-  w2c_i1 = 63u;
-  w2c_i0 &= w2c_i1;
-  w2c_l22 = w2c_i0;
-  w2c_j0 = w2c_l10;
-  w2c_i0 = (u32)(w2c_j0);
-  w2c_i0 = i32_load8_u(m, (u64)(w2c_i0) + 2u);
-  w2c_i1 = 63u;
-  w2c_i0 &= w2c_i1;
-  w2c_l23 = w2c_i0;
-  w2c_i0 = w2c_l20;
-  w2c_i1 = 4294967280u;
-  w2c_i0 = w2c_i0 < w2c_i1;
-  if (w2c_i0) {goto w2c_B90;}
-  w2c_i0 = w2c_l23;
-  w2c_i1 = 6u;
-  w2c_i0 <<= (w2c_i1 & 31);
-  w2c_i1 = w2c_l22;
-  w2c_i2 = 12u;
-  w2c_i1 <<= (w2c_i2 & 31);
-  w2c_i2 = w2c_l21;
-  w2c_i3 = 18u;
-  w2c_i2 <<= (w2c_i3 & 31);
-  w2c_i3 = 1835008u;
-  w2c_i2 &= w2c_i3;
-  w2c_i1 |= w2c_i2;
-  w2c_i0 |= w2c_i1;
-  w2c_j1 = w2c_l10;
-  w2c_i1 = (u32)(w2c_j1);
-  w2c_i1 = i32_load8_u(m, (u64)(w2c_i1) + 3u);
-  w2c_i2 = 63u;
-  w2c_i1 &= w2c_i2;
-  w2c_i0 |= w2c_i1;
-  w2c_l20 = w2c_i0;
-  w2c_j0 = 4ull;
-  w2c_l10 = w2c_j0;
-  goto w2c_B89;
-  w2c_B90:;
-  w2c_i0 = w2c_l22;
-  w2c_i1 = 6u;
-  w2c_i0 <<= (w2c_i1 & 31);
-  w2c_i1 = w2c_l21;
-  w2c_i2 = 12u;
-  w2c_i1 <<= (w2c_i2 & 31);
-  w2c_i2 = 61440u;
-  w2c_i1 &= w2c_i2;
-  w2c_i0 |= w2c_i1;
-  w2c_i1 = w2c_l23;
-  w2c_i0 |= w2c_i1;
-  w2c_l20 = w2c_i0;
-  w2c_j0 = 3ull;
-  w2c_l10 = w2c_j0;
-  w2c_B89:;
-  w2c_i0 = w2c_l20;
-  w2c_i1 = 20845u;
-  w2c_i0 = w2c_i0 != w2c_i1;
-  if (w2c_i0) {goto w2c_B86;}
-  w2c_i0 = w2c_l12;
-  if (w2c_i0) {goto w2c_B86;}
-  w2c_j0 = w2c_p4;
-  w2c_j1 = w2c_l10;
-  w2c_j2 = w2c_l7;
-  w2c_j1 += w2c_j2;
-  w2c_i0 = w2c_j0 != w2c_j1;
-  if (w2c_i0) {goto w2c_B86;}
-  w2c_j0 = w2c_p5;
-  w2c_i0 = (u32)(w2c_j0);
-  w2c_i0 = i32_load8_s(m, (u64)(w2c_i0));
-  w2c_l20 = w2c_i0;
-  w2c_i1 = 4294967295u;
-  w2c_i0 = (u32)((s32)w2c_i0 > (s32)w2c_i1);
-  if (w2c_i0) {goto w2c_B86;}
-  w2c_i0 = w2c_l20;
-  w2c_i1 = 4294967264u;
-  w2c_i0 = w2c_i0 < w2c_i1;
-  if (w2c_i0) {goto w2c_B86;}
-  w2c_i0 = w2c_l20;
-  w2c_i1 = 255u;
-  w2c_i0 &= w2c_i1;
-  w2c_l21 = w2c_i0;
-  w2c_j0 = w2c_p5;
-  w2c_i0 = (u32)(w2c_j0);
-  w2c_i0 = i32_load8_u(m, (u64)(w2c_i0) + 1u);
-  w2c_i1 = 63u;
-  w2c_i0 &= w2c_i1;
-  w2c_l22 = w2c_i0;
-  w2c_j0 = w2c_p5;
-  w2c_i0 = (u32)(w2c_j0);
-  w2c_i0 = i32_load8_u(m, (u64)(w2c_i0) + 2u);
-  w2c_i1 = 63u;
-  w2c_i0 &= w2c_i1;
-  w2c_l23 = w2c_i0;
-  w2c_i0 = w2c_l20;
-  w2c_i1 = 4294967279u;
-  w2c_i0 = w2c_i0 > w2c_i1;
-  if (w2c_i0) {goto w2c_B92;}
-  w2c_i0 = w2c_l22;
-  w2c_i1 = 6u;
-  w2c_i0 <<= (w2c_i1 & 31);
-  w2c_i1 = w2c_l21;
-  w2c_i2 = 12u;
-  w2c_i1 <<= (w2c_i2 & 31);
-  w2c_i2 = 61440u;
-  w2c_i1 &= w2c_i2;
-  w2c_i0 |= w2c_i1;
-  w2c_i1 = w2c_l23;
-  w2c_i0 |= w2c_i1;
-  w2c_l20 = w2c_i0;
-  goto w2c_B91;
-  w2c_B92:;
-  w2c_i0 = w2c_l23;
-  w2c_i1 = 6u;
-  w2c_i0 <<= (w2c_i1 & 31);
-  w2c_i1 = w2c_l22;
-  w2c_i2 = 12u;
-  w2c_i1 <<= (w2c_i2 & 31);
-  w2c_i2 = w2c_l21;
+  w2c_i2 = w2c_l13;
   w2c_i3 = 18u;
   w2c_i2 <<= (w2c_i3 & 31);
   w2c_i3 = 1835008u;
@@ -21069,32 +20792,184 @@ static void w2c_f29(module *m, u64 w2c_p0, u64 w2c_p1, u64 w2c_p2, u64 w2c_p3, u
   w2c_i2 = 63u;
   w2c_i1 &= w2c_i2;
   w2c_i0 |= w2c_i1;
-  w2c_l20 = w2c_i0;
-  w2c_B91:;
-  w2c_i0 = w2c_l20;
-  w2c_i1 = 35336u;
-  w2c_i0 = w2c_i0 != w2c_i1;
-  if (w2c_i0) {goto w2c_B93;}
-  w2c_i0 = 1u;
   w2c_l14 = w2c_i0;
-  goto w2c_B0;
+  w2c_B87:;
+  w2c_i0 = w2c_l14;
+  w2c_i1 = 22823u;
+  w2c_i0 = w2c_i0 == w2c_i1;
+  if (w2c_i0) {goto w2c_B1;}
+  w2c_B77:;
+  w2c_i0 = w2c_l15;
+  w2c_i1 = 4294967279u;
+  w2c_i0 = w2c_i0 > w2c_i1;
+  if (w2c_i0) {goto w2c_B90;}
+  w2c_i0 = w2c_l18;
+  w2c_i1 = 6u;
+  w2c_i0 <<= (w2c_i1 & 31);
+  w2c_i1 = w2c_l16;
+  w2c_i2 = 12u;
+  w2c_i1 <<= (w2c_i2 & 31);
+  w2c_i2 = 61440u;
+  w2c_i1 &= w2c_i2;
+  w2c_i0 |= w2c_i1;
+  w2c_i1 = w2c_l19;
+  w2c_i0 |= w2c_i1;
+  w2c_l14 = w2c_i0;
+  w2c_j0 = 3ull;
+  w2c_l7 = w2c_j0;
+  goto w2c_B89;
+  w2c_B90:;
+  w2c_i0 = w2c_l19;
+  w2c_i1 = 6u;
+  w2c_i0 <<= (w2c_i1 & 31);
+  w2c_i1 = w2c_l18;
+  w2c_i2 = 12u;
+  w2c_i1 <<= (w2c_i2 & 31);
+  w2c_i2 = w2c_l16;
+  w2c_i3 = 18u;
+  w2c_i2 <<= (w2c_i3 & 31);
+  w2c_i3 = 1835008u;
+  w2c_i2 &= w2c_i3;
+  w2c_i1 |= w2c_i2;
+  w2c_i0 |= w2c_i1;
+  w2c_j1 = w2c_p3;
+  w2c_i1 = (u32)(w2c_j1);
+  w2c_i1 = i32_load8_u(m, (u64)(w2c_i1) + 3u);
+  w2c_i2 = 63u;
+  w2c_i1 &= w2c_i2;
+  w2c_i0 |= w2c_i1;
+  w2c_l14 = w2c_i0;
+  w2c_j0 = 4ull;
+  w2c_l7 = w2c_j0;
+  w2c_B89:;
+  w2c_j0 = w2c_p4;
+  w2c_j1 = w2c_l7;
+  w2c_i0 = w2c_j0 == w2c_j1;
+  if (w2c_i0) {goto w2c_B91;}
+  w2c_i0 = w2c_l14;
+  w2c_i1 = 21313u;
+  w2c_i0 = w2c_i0 != w2c_i1;
+  if (w2c_i0) {goto w2c_B91;}
+  w2c_j0 = w2c_p3;
+  w2c_j1 = w2c_l7;
+  w2c_j0 += w2c_j1;
+  w2c_l10 = w2c_j0;
+  w2c_i0 = (u32)(w2c_j0);
+  w2c_i0 = i32_load8_s(m, (u64)(w2c_i0));
+  w2c_l14 = w2c_i0;
+  w2c_i1 = 4294967295u;
+  w2c_i0 = (u32)((s32)w2c_i0 > (s32)w2c_i1);
+  if (w2c_i0) {goto w2c_B91;}
+  w2c_i0 = w2c_l14;
+  w2c_i1 = 4294967264u;
+  w2c_i0 = w2c_i0 < w2c_i1;
+  if (w2c_i0) {goto w2c_B91;}
+  w2c_i0 = w2c_l14;
+  w2c_i1 = 255u;
+  w2c_i0 &= w2c_i1;
+  w2c_l13 = w2c_i0;
+  w2c_j0 = w2c_l10;
+  w2c_i0 = (u32)(w2c_j0);
+  w2c_i0 = i32_load8_u(m, (u64)(w2c_i0) + 1u);
+  w2c_i1 = 63u;
+  w2c_i0 &= w2c_i1;
+  w2c_l20 = w2c_i0;
+  w2c_j0 = w2c_l10;
+  w2c_i0 = (u32)(w2c_j0);
+  w2c_i0 = i32_load8_u(m, (u64)(w2c_i0) + 2u);
+  w2c_i1 = 63u;
+  w2c_i0 &= w2c_i1;
+  w2c_l21 = w2c_i0;
+  w2c_i0 = w2c_l14;
+  w2c_i1 = 4294967280u;
+  w2c_i0 = w2c_i0 < w2c_i1;
+  if (w2c_i0) {goto w2c_B93;}
+  w2c_i0 = w2c_l21;
+  w2c_i1 = 6u;
+  w2c_i0 <<= (w2c_i1 & 31);
+  w2c_i1 = w2c_l20;
+  w2c_i2 = 12u;
+  w2c_i1 <<= (w2c_i2 & 31);
+  w2c_i2 = w2c_l13;
+  w2c_i3 = 18u;
+  w2c_i2 <<= (w2c_i3 & 31);
+  w2c_i3 = 1835008u;
+  w2c_i2 &= w2c_i3;
+  w2c_i1 |= w2c_i2;
+  w2c_i0 |= w2c_i1;
+  w2c_j1 = w2c_l10;
+  w2c_i1 = (u32)(w2c_j1);
+  w2c_i1 = i32_load8_u(m, (u64)(w2c_i1) + 3u);
+  w2c_i2 = 63u;
+  w2c_i1 &= w2c_i2;
+  w2c_i0 |= w2c_i1;
+  w2c_l14 = w2c_i0;
+  w2c_j0 = 4ull;
+  w2c_l10 = w2c_j0;
+  goto w2c_B92;
   w2c_B93:;
   w2c_i0 = w2c_l20;
-  w2c_i1 = 35745u;
+  w2c_i1 = 6u;
+  w2c_i0 <<= (w2c_i1 & 31);
+  w2c_i1 = w2c_l13;
+  w2c_i2 = 12u;
+  w2c_i1 <<= (w2c_i2 & 31);
+  w2c_i2 = 61440u;
+  w2c_i1 &= w2c_i2;
+  w2c_i0 |= w2c_i1;
+  w2c_i1 = w2c_l21;
+  w2c_i0 |= w2c_i1;
+  w2c_l14 = w2c_i0;
+  w2c_j0 = 3ull;
+  w2c_l10 = w2c_j0;
+  w2c_B92:;
+  w2c_i0 = w2c_l14;
+  w2c_i1 = 19968u;
   w2c_i0 = w2c_i0 != w2c_i1;
-  if (w2c_i0) {goto w2c_B86;}
+  if (w2c_i0) {goto w2c_B91;}
+  w2c_j0 = w2c_p4;
+  w2c_j1 = w2c_l10;
+  w2c_j2 = w2c_l7;
+  w2c_j1 += w2c_j2;
+  w2c_i0 = w2c_j0 != w2c_j1;
+  if (w2c_i0) {goto w2c_B91;}
   w2c_i0 = 1u;
   w2c_l14 = w2c_i0;
-  goto w2c_B0;
-  w2c_B86:;
-  w2c_i0 = w2c_l14;
+  w2c_i0 = 0u;
+  w2c_l13 = w2c_i0;
+  w2c_j0 = 68628ull;
+  w2c_j1 = 1ull;
+  w2c_j2 = 68632ull;
+  w2c_j3 = 1ull;
+  w2c_j4 = w2c_p5;
+  w2c_j5 = w2c_p6;
+  w2c_i0 = w2c_f38(m, w2c_j0, w2c_j1, w2c_j2, w2c_j3, w2c_j4, w2c_j5);
+  if (w2c_i0) {goto w2c_B0;}
+  w2c_j0 = 68636ull;
+  w2c_j1 = 2ull;
+  w2c_j2 = 68628ull;
+  w2c_j3 = 1ull;
+  w2c_j4 = w2c_p5;
+  w2c_j5 = w2c_p6;
+  w2c_i0 = w2c_f38(m, w2c_j0, w2c_j1, w2c_j2, w2c_j3, w2c_j4, w2c_j5);
+  if (w2c_i0) {goto w2c_B0;}
+  w2c_j0 = 68644ull;
+  w2c_j1 = 2ull;
+  w2c_j2 = 68652ull;
+  w2c_j3 = 1ull;
+  w2c_j4 = w2c_p5;
+  w2c_j5 = w2c_p6;
+  w2c_i0 = w2c_f38(m, w2c_j0, w2c_j1, w2c_j2, w2c_j3, w2c_j4, w2c_j5);
+  if (w2c_i0) {goto w2c_B0;}
+  w2c_B91:;
+  w2c_i0 = w2c_l15;
   w2c_i1 = 4294967279u;
   w2c_i0 = w2c_i0 > w2c_i1;
   if (w2c_i0) {goto w2c_B95;}
-  w2c_i0 = w2c_l16;
+  w2c_i0 = w2c_l18;
   w2c_i1 = 6u;
   w2c_i0 <<= (w2c_i1 & 31);
-  w2c_i1 = w2c_l15;
+  w2c_i1 = w2c_l16;
   w2c_i2 = 12u;
   w2c_i1 <<= (w2c_i2 & 31);
   w2c_i2 = 61440u;
@@ -21102,7 +20977,7 @@ static void w2c_f29(module *m, u64 w2c_p0, u64 w2c_p1, u64 w2c_p2, u64 w2c_p3, u
   w2c_i0 |= w2c_i1;
   w2c_i1 = w2c_l19;
   w2c_i0 |= w2c_i1;
-  w2c_l20 = w2c_i0;
+  w2c_l14 = w2c_i0;
   w2c_j0 = 3ull;
   w2c_l7 = w2c_j0;
   goto w2c_B94;
@@ -21110,10 +20985,10 @@ static void w2c_f29(module *m, u64 w2c_p0, u64 w2c_p1, u64 w2c_p2, u64 w2c_p3, u
   w2c_i0 = w2c_l19;
   w2c_i1 = 6u;
   w2c_i0 <<= (w2c_i1 & 31);
-  w2c_i1 = w2c_l16;
+  w2c_i1 = w2c_l18;
   w2c_i2 = 12u;
   w2c_i1 <<= (w2c_i2 & 31);
-  w2c_i2 = w2c_l15;
+  w2c_i2 = w2c_l16;
   w2c_i3 = 18u;
   w2c_i2 <<= (w2c_i3 & 31);
   w2c_i3 = 1835008u;
@@ -21126,7 +21001,7 @@ static void w2c_f29(module *m, u64 w2c_p0, u64 w2c_p1, u64 w2c_p2, u64 w2c_p3, u
   w2c_i2 = 63u;
   w2c_i1 &= w2c_i2;
   w2c_i0 |= w2c_i1;
-  w2c_l20 = w2c_i0;
+  w2c_l14 = w2c_i0;
   w2c_j0 = 4ull;
   w2c_l7 = w2c_j0;
   w2c_B94:;
@@ -21134,8 +21009,8 @@ static void w2c_f29(module *m, u64 w2c_p0, u64 w2c_p1, u64 w2c_p2, u64 w2c_p3, u
   w2c_j1 = w2c_l7;
   w2c_i0 = w2c_j0 == w2c_j1;
   if (w2c_i0) {goto w2c_B96;}
-  w2c_i0 = w2c_l20;
-  w2c_i1 = 19971u;
+  w2c_i0 = w2c_l14;
+  w2c_i1 = 19977u;
   w2c_i0 = w2c_i0 != w2c_i1;
   if (w2c_i0) {goto w2c_B96;}
   w2c_j0 = w2c_p3;
@@ -21144,41 +21019,41 @@ static void w2c_f29(module *m, u64 w2c_p0, u64 w2c_p1, u64 w2c_p2, u64 w2c_p3, u
   w2c_l10 = w2c_j0;
   w2c_i0 = (u32)(w2c_j0);
   w2c_i0 = i32_load8_s(m, (u64)(w2c_i0));
-  w2c_l20 = w2c_i0;
+  w2c_l14 = w2c_i0;
   w2c_i1 = 4294967295u;
   w2c_i0 = (u32)((s32)w2c_i0 > (s32)w2c_i1);
   if (w2c_i0) {goto w2c_B96;}
-  w2c_i0 = w2c_l20;
+  w2c_i0 = w2c_l14;
   w2c_i1 = 4294967264u;
   w2c_i0 = w2c_i0 < w2c_i1;
   if (w2c_i0) {goto w2c_B96;}
-  w2c_i0 = w2c_l20;
+  w2c_i0 = w2c_l14;
   w2c_i1 = 255u;
   w2c_i0 &= w2c_i1;
-  w2c_l21 = w2c_i0;
+  w2c_l13 = w2c_i0;
   w2c_j0 = w2c_l10;
   w2c_i0 = (u32)(w2c_j0);
   w2c_i0 = i32_load8_u(m, (u64)(w2c_i0) + 1u);
   w2c_i1 = 63u;
   w2c_i0 &= w2c_i1;
-  w2c_l22 = w2c_i0;
+  w2c_l20 = w2c_i0;
   w2c_j0 = w2c_l10;
   w2c_i0 = (u32)(w2c_j0);
   w2c_i0 = i32_load8_u(m, (u64)(w2c_i0) + 2u);
   w2c_i1 = 63u;
   w2c_i0 &= w2c_i1;
-  w2c_l23 = w2c_i0;
-  w2c_i0 = w2c_l20;
+  w2c_l21 = w2c_i0;
+  w2c_i0 = w2c_l14;
   w2c_i1 = 4294967280u;
   w2c_i0 = w2c_i0 < w2c_i1;
   if (w2c_i0) {goto w2c_B98;}
-  w2c_i0 = w2c_l23;
+  w2c_i0 = w2c_l21;
   w2c_i1 = 6u;
   w2c_i0 <<= (w2c_i1 & 31);
-  w2c_i1 = w2c_l22;
+  w2c_i1 = w2c_l20;
   w2c_i2 = 12u;
   w2c_i1 <<= (w2c_i2 & 31);
-  w2c_i2 = w2c_l21;
+  w2c_i2 = w2c_l13;
   w2c_i3 = 18u;
   w2c_i2 <<= (w2c_i3 & 31);
   w2c_i3 = 1835008u;
@@ -21191,27 +21066,27 @@ static void w2c_f29(module *m, u64 w2c_p0, u64 w2c_p1, u64 w2c_p2, u64 w2c_p3, u
   w2c_i2 = 63u;
   w2c_i1 &= w2c_i2;
   w2c_i0 |= w2c_i1;
-  w2c_l20 = w2c_i0;
+  w2c_l14 = w2c_i0;
   w2c_j0 = 4ull;
   w2c_l9 = w2c_j0;
   goto w2c_B97;
   w2c_B98:;
-  w2c_i0 = w2c_l22;
+  w2c_i0 = w2c_l20;
   w2c_i1 = 6u;
   w2c_i0 <<= (w2c_i1 & 31);
-  w2c_i1 = w2c_l21;
+  w2c_i1 = w2c_l13;
   w2c_i2 = 12u;
   w2c_i1 <<= (w2c_i2 & 31);
   w2c_i2 = 61440u;
   w2c_i1 &= w2c_i2;
   w2c_i0 |= w2c_i1;
-  w2c_i1 = w2c_l23;
+  w2c_i1 = w2c_l21;
   w2c_i0 |= w2c_i1;
-  w2c_l20 = w2c_i0;
+  w2c_l14 = w2c_i0;
   w2c_j0 = 3ull;
   w2c_l9 = w2c_j0;
   w2c_B97:;
-  w2c_i0 = w2c_l20;
+  w2c_i0 = w2c_l14;
   w2c_i1 = 21313u;
   w2c_i0 = w2c_i0 != w2c_i1;
   if (w2c_i0) {goto w2c_B96;}
@@ -21228,41 +21103,41 @@ static void w2c_f29(module *m, u64 w2c_p0, u64 w2c_p1, u64 w2c_p2, u64 w2c_p3, u
   w2c_l10 = w2c_j0;
   w2c_i0 = (u32)(w2c_j0);
   w2c_i0 = i32_load8_s(m, (u64)(w2c_i0));
-  w2c_l20 = w2c_i0;
+  w2c_l14 = w2c_i0;
   w2c_i1 = 4294967295u;
   w2c_i0 = (u32)((s32)w2c_i0 > (s32)w2c_i1);
   if (w2c_i0) {goto w2c_B96;}
-  w2c_i0 = w2c_l20;
+  w2c_i0 = w2c_l14;
   w2c_i1 = 4294967264u;
   w2c_i0 = w2c_i0 < w2c_i1;
   if (w2c_i0) {goto w2c_B96;}
-  w2c_i0 = w2c_l20;
+  w2c_i0 = w2c_l14;
   w2c_i1 = 255u;
   w2c_i0 &= w2c_i1;
-  w2c_l21 = w2c_i0;
+  w2c_l13 = w2c_i0;
   w2c_j0 = w2c_l10;
   w2c_i0 = (u32)(w2c_j0);
   w2c_i0 = i32_load8_u(m, (u64)(w2c_i0) + 1u);
   w2c_i1 = 63u;
   w2c_i0 &= w2c_i1;
-  w2c_l22 = w2c_i0;
+  w2c_l20 = w2c_i0;
   w2c_j0 = w2c_l10;
   w2c_i0 = (u32)(w2c_j0);
   w2c_i0 = i32_load8_u(m, (u64)(w2c_i0) + 2u);
   w2c_i1 = 63u;
   w2c_i0 &= w2c_i1;
-  w2c_l23 = w2c_i0;
-  w2c_i0 = w2c_l20;
+  w2c_l21 = w2c_i0;
+  w2c_i0 = w2c_l14;
   w2c_i1 = 4294967280u;
   w2c_i0 = w2c_i0 < w2c_i1;
   if (w2c_i0) {goto w2c_B100;}
-  w2c_i0 = w2c_l23;
+  w2c_i0 = w2c_l21;
   w2c_i1 = 6u;
   w2c_i0 <<= (w2c_i1 & 31);
-  w2c_i1 = w2c_l22;
+  w2c_i1 = w2c_l20;
   w2c_i2 = 12u;
   w2c_i1 <<= (w2c_i2 & 31);
-  w2c_i2 = w2c_l21;
+  w2c_i2 = w2c_l13;
   w2c_i3 = 18u;
   w2c_i2 <<= (w2c_i3 & 31);
   w2c_i3 = 1835008u;
@@ -21275,28 +21150,28 @@ static void w2c_f29(module *m, u64 w2c_p0, u64 w2c_p1, u64 w2c_p2, u64 w2c_p3, u
   w2c_i2 = 63u;
   w2c_i1 &= w2c_i2;
   w2c_i0 |= w2c_i1;
-  w2c_l20 = w2c_i0;
+  w2c_l14 = w2c_i0;
   w2c_j0 = 4ull;
   w2c_l10 = w2c_j0;
   goto w2c_B99;
   w2c_B100:;
-  w2c_i0 = w2c_l22;
+  w2c_i0 = w2c_l20;
   w2c_i1 = 6u;
   w2c_i0 <<= (w2c_i1 & 31);
-  w2c_i1 = w2c_l21;
+  w2c_i1 = w2c_l13;
   w2c_i2 = 12u;
   w2c_i1 <<= (w2c_i2 & 31);
   w2c_i2 = 61440u;
   w2c_i1 &= w2c_i2;
   w2c_i0 |= w2c_i1;
-  w2c_i1 = w2c_l23;
+  w2c_i1 = w2c_l21;
   w2c_i0 |= w2c_i1;
-  w2c_l20 = w2c_i0;
+  w2c_l14 = w2c_i0;
   w2c_j0 = 3ull;
   w2c_l10 = w2c_j0;
   w2c_B99:;
-  w2c_i0 = w2c_l20;
-  w2c_i1 = 20108u;
+  w2c_i0 = w2c_l14;
+  w2c_i1 = 20845u;
   w2c_i0 = w2c_i0 != w2c_i1;
   if (w2c_i0) {goto w2c_B96;}
   w2c_i0 = w2c_l12;
@@ -21310,55 +21185,55 @@ static void w2c_f29(module *m, u64 w2c_p0, u64 w2c_p1, u64 w2c_p2, u64 w2c_p3, u
   w2c_j0 = w2c_p5;
   w2c_i0 = (u32)(w2c_j0);
   w2c_i0 = i32_load8_s(m, (u64)(w2c_i0));
-  w2c_l20 = w2c_i0;
+  w2c_l14 = w2c_i0;
   w2c_i1 = 4294967295u;
   w2c_i0 = (u32)((s32)w2c_i0 > (s32)w2c_i1);
   if (w2c_i0) {goto w2c_B96;}
-  w2c_i0 = w2c_l20;
+  w2c_i0 = w2c_l14;
   w2c_i1 = 4294967264u;
   w2c_i0 = w2c_i0 < w2c_i1;
   if (w2c_i0) {goto w2c_B96;}
-  w2c_i0 = w2c_l20;
+  w2c_i0 = w2c_l14;
   w2c_i1 = 255u;
   w2c_i0 &= w2c_i1;
-  w2c_l21 = w2c_i0;
+  w2c_l13 = w2c_i0;
   w2c_j0 = w2c_p5;
   w2c_i0 = (u32)(w2c_j0);
   w2c_i0 = i32_load8_u(m, (u64)(w2c_i0) + 1u);
   w2c_i1 = 63u;
   w2c_i0 &= w2c_i1;
-  w2c_l22 = w2c_i0;
+  w2c_l20 = w2c_i0;
   w2c_j0 = w2c_p5;
   w2c_i0 = (u32)(w2c_j0);
   w2c_i0 = i32_load8_u(m, (u64)(w2c_i0) + 2u);
   w2c_i1 = 63u;
   w2c_i0 &= w2c_i1;
-  w2c_l23 = w2c_i0;
-  w2c_i0 = w2c_l20;
+  w2c_l21 = w2c_i0;
+  w2c_i0 = w2c_l14;
   w2c_i1 = 4294967279u;
   w2c_i0 = w2c_i0 > w2c_i1;
   if (w2c_i0) {goto w2c_B102;}
-  w2c_i0 = w2c_l22;
+  w2c_i0 = w2c_l20;
   w2c_i1 = 6u;
   w2c_i0 <<= (w2c_i1 & 31);
-  w2c_i1 = w2c_l21;
+  w2c_i1 = w2c_l13;
   w2c_i2 = 12u;
   w2c_i1 <<= (w2c_i2 & 31);
   w2c_i2 = 61440u;
   w2c_i1 &= w2c_i2;
   w2c_i0 |= w2c_i1;
-  w2c_i1 = w2c_l23;
+  w2c_i1 = w2c_l21;
   w2c_i0 |= w2c_i1;
   w2c_l20 = w2c_i0;
   goto w2c_B101;
   w2c_B102:;
-  w2c_i0 = w2c_l23;
+  w2c_i0 = w2c_l21;
   w2c_i1 = 6u;
   w2c_i0 <<= (w2c_i1 & 31);
-  w2c_i1 = w2c_l22;
+  w2c_i1 = w2c_l20;
   w2c_i2 = 12u;
   w2c_i1 <<= (w2c_i2 & 31);
-  w2c_i2 = w2c_l21;
+  w2c_i2 = w2c_l13;
   w2c_i3 = 18u;
   w2c_i2 <<= (w2c_i3 & 31);
   w2c_i3 = 1835008u;
@@ -21373,38 +21248,27 @@ static void w2c_f29(module *m, u64 w2c_p0, u64 w2c_p1, u64 w2c_p2, u64 w2c_p3, u
   w2c_i0 |= w2c_i1;
   w2c_l20 = w2c_i0;
   w2c_B101:;
-  w2c_i0 = w2c_l20;
-  w2c_i1 = 21464u;
-  w2c_i0 = w2c_i0 != w2c_i1;
-  if (w2c_i0) {goto w2c_B103;}
   w2c_i0 = 1u;
   w2c_l14 = w2c_i0;
-  goto w2c_B0;
-  w2c_B103:;
+  w2c_i0 = 0u;
+  w2c_l13 = w2c_i0;
   w2c_i0 = w2c_l20;
-  w2c_i1 = 34892u;
-  w2c_i0 = w2c_i0 != w2c_i1;
-  if (w2c_i0) {goto w2c_B104;}
-  w2c_i0 = 1u;
-  w2c_l14 = w2c_i0;
-  goto w2c_B0;
-  w2c_B104:;
+  w2c_i1 = 35336u;
+  w2c_i0 = w2c_i0 == w2c_i1;
+  if (w2c_i0) {goto w2c_B0;}
   w2c_i0 = w2c_l20;
-  w2c_i1 = 35722u;
-  w2c_i0 = w2c_i0 != w2c_i1;
-  if (w2c_i0) {goto w2c_B96;}
-  w2c_i0 = 1u;
-  w2c_l14 = w2c_i0;
-  goto w2c_B0;
+  w2c_i1 = 35745u;
+  w2c_i0 = w2c_i0 == w2c_i1;
+  if (w2c_i0) {goto w2c_B0;}
   w2c_B96:;
-  w2c_i0 = w2c_l14;
+  w2c_i0 = w2c_l15;
   w2c_i1 = 4294967279u;
   w2c_i0 = w2c_i0 > w2c_i1;
-  if (w2c_i0) {goto w2c_B106;}
-  w2c_i0 = w2c_l16;
+  if (w2c_i0) {goto w2c_B104;}
+  w2c_i0 = w2c_l18;
   w2c_i1 = 6u;
   w2c_i0 <<= (w2c_i1 & 31);
-  w2c_i1 = w2c_l15;
+  w2c_i1 = w2c_l16;
   w2c_i2 = 12u;
   w2c_i1 <<= (w2c_i2 & 31);
   w2c_i2 = 61440u;
@@ -21412,18 +21276,18 @@ static void w2c_f29(module *m, u64 w2c_p0, u64 w2c_p1, u64 w2c_p2, u64 w2c_p3, u
   w2c_i0 |= w2c_i1;
   w2c_i1 = w2c_l19;
   w2c_i0 |= w2c_i1;
-  w2c_l20 = w2c_i0;
+  w2c_l14 = w2c_i0;
   w2c_j0 = 3ull;
   w2c_l7 = w2c_j0;
-  goto w2c_B105;
-  w2c_B106:;
+  goto w2c_B103;
+  w2c_B104:;
   w2c_i0 = w2c_l19;
   w2c_i1 = 6u;
   w2c_i0 <<= (w2c_i1 & 31);
-  w2c_i1 = w2c_l16;
+  w2c_i1 = w2c_l18;
   w2c_i2 = 12u;
   w2c_i1 <<= (w2c_i2 & 31);
-  w2c_i2 = w2c_l15;
+  w2c_i2 = w2c_l16;
   w2c_i3 = 18u;
   w2c_i2 <<= (w2c_i3 & 31);
   w2c_i3 = 1835008u;
@@ -21436,2629 +21300,239 @@ static void w2c_f29(module *m, u64 w2c_p0, u64 w2c_p1, u64 w2c_p2, u64 w2c_p3, u
   w2c_i2 = 63u;
   w2c_i1 &= w2c_i2;
   w2c_i0 |= w2c_i1;
-  w2c_l20 = w2c_i0;
+  w2c_l14 = w2c_i0;
   w2c_j0 = 4ull;
   w2c_l7 = w2c_j0;
-  w2c_B105:;
+  w2c_B103:;
   w2c_j0 = w2c_p4;
   w2c_j1 = w2c_l7;
   w2c_i0 = w2c_j0 == w2c_j1;
-  if (w2c_i0) {goto w2c_B107;}
-  w2c_i0 = w2c_l20;
-  w2c_i1 = 19977u;
-  w2c_i0 = w2c_i0 != w2c_i1;
-  if (w2c_i0) {goto w2c_B107;}
-  w2c_j0 = w2c_p3;
-  w2c_j1 = w2c_l7;
-  w2c_j0 += w2c_j1;
-  w2c_l10 = w2c_j0;
-  w2c_i0 = (u32)(w2c_j0);
-  w2c_i0 = i32_load8_s(m, (u64)(w2c_i0));
-  w2c_l20 = w2c_i0;
-  w2c_i1 = 4294967295u;
-  w2c_i0 = (u32)((s32)w2c_i0 > (s32)w2c_i1);
-  if (w2c_i0) {goto w2c_B107;}
-  w2c_i0 = w2c_l20;
-  w2c_i1 = 4294967264u;
-  w2c_i0 = w2c_i0 < w2c_i1;
-  if (w2c_i0) {goto w2c_B107;}
-  w2c_i0 = w2c_l20;
-  w2c_i1 = 255u;
-  w2c_i0 &= w2c_i1;
-  w2c_l21 = w2c_i0;
-  w2c_j0 = w2c_l10;
-  w2c_i0 = (u32)(w2c_j0);
-  w2c_i0 = i32_load8_u(m, (u64)(w2c_i0) + 1u);
-  w2c_i1 = 63u;
-  w2c_i0 &= w2c_i1;
-  w2c_l22 = w2c_i0;
-  w2c_j0 = w2c_l10;
-  w2c_i0 = (u32)(w2c_j0);
-  w2c_i0 = i32_load8_u(m, (u64)(w2c_i0) + 2u);
-  w2c_i1 = 63u;
-  w2c_i0 &= w2c_i1;
-  w2c_l23 = w2c_i0;
-  w2c_i0 = w2c_l20;
-  w2c_i1 = 4294967280u;
-  w2c_i0 = w2c_i0 < w2c_i1;
-  if (w2c_i0) {goto w2c_B109;}
-  w2c_i0 = w2c_l23;
-  w2c_i1 = 6u;
-  w2c_i0 <<= (w2c_i1 & 31);
-  w2c_i1 = w2c_l22;
-  w2c_i2 = 12u;
-  w2c_i1 <<= (w2c_i2 & 31);
-  w2c_i2 = w2c_l21;
-  w2c_i3 = 18u;
-  w2c_i2 <<= (w2c_i3 & 31);
-  w2c_i3 = 1835008u;
-  w2c_i2 &= w2c_i3;
-  w2c_i1 |= w2c_i2;
-  w2c_i0 |= w2c_i1;
-  w2c_j1 = w2c_l10;
-  w2c_i1 = (u32)(w2c_j1);
-  w2c_i1 = i32_load8_u(m, (u64)(w2c_i1) + 3u);
-  w2c_i2 = 63u;
-  w2c_i1 &= w2c_i2;
-  w2c_i0 |= w2c_i1;
-  w2c_l20 = w2c_i0;
-  w2c_j0 = 4ull;
-  w2c_l9 = w2c_j0;
-  goto w2c_B108;
-  w2c_B109:;
-  w2c_i0 = w2c_l22;
-  w2c_i1 = 6u;
-  w2c_i0 <<= (w2c_i1 & 31);
-  w2c_i1 = w2c_l21;
-  w2c_i2 = 12u;
-  w2c_i1 <<= (w2c_i2 & 31);
-  w2c_i2 = 61440u;
-  w2c_i1 &= w2c_i2;
-  w2c_i0 |= w2c_i1;
-  w2c_i1 = w2c_l23;
-  w2c_i0 |= w2c_i1;
-  w2c_l20 = w2c_i0;
-  w2c_j0 = 3ull;
-  w2c_l9 = w2c_j0;
-  w2c_B108:;
-  w2c_i0 = w2c_l20;
-  w2c_i1 = 30334u;
-  w2c_i0 = w2c_i0 != w2c_i1;
-  if (w2c_i0) {goto w2c_B107;}
-  w2c_j0 = w2c_p4;
-  w2c_j1 = w2c_l9;
-  w2c_j2 = w2c_l7;
-  w2c_j1 += w2c_j2;
-  w2c_l7 = w2c_j1;
-  w2c_i0 = w2c_j0 == w2c_j1;
-  if (w2c_i0) {goto w2c_B107;}
-  w2c_j0 = w2c_l10;
-  w2c_j1 = w2c_l9;
-  w2c_j0 += w2c_j1;
-  w2c_l10 = w2c_j0;
-  w2c_i0 = (u32)(w2c_j0);
-  w2c_i0 = i32_load8_s(m, (u64)(w2c_i0));
-  w2c_l20 = w2c_i0;
-  w2c_i1 = 4294967295u;
-  w2c_i0 = (u32)((s32)w2c_i0 > (s32)w2c_i1);
-  if (w2c_i0) {goto w2c_B107;}
-  w2c_i0 = w2c_l20;
-  w2c_i1 = 4294967264u;
-  w2c_i0 = w2c_i0 < w2c_i1;
-  if (w2c_i0) {goto w2c_B107;}
-  w2c_i0 = w2c_l20;
-  w2c_i1 = 255u;
-  w2c_i0 &= w2c_i1;
-  w2c_l21 = w2c_i0;
-  w2c_j0 = w2c_l10;
-  w2c_i0 = (u32)(w2c_j0);
-  w2c_i0 = i32_load8_u(m, (u64)(w2c_i0) + 1u);
-  w2c_i1 = 63u;
-  w2c_i0 &= w2c_i1;
-  w2c_l22 = w2c_i0;
-  w2c_j0 = w2c_l10;
-  w2c_i0 = (u32)(w2c_j0);
-  w2c_i0 = i32_load8_u(m, (u64)(w2c_i0) + 2u);
-  w2c_i1 = 63u;
-  w2c_i0 &= w2c_i1;
-  w2c_l23 = w2c_i0;
-  w2c_i0 = w2c_l20;
-  w2c_i1 = 4294967280u;
-  w2c_i0 = w2c_i0 < w2c_i1;
-  if (w2c_i0) {goto w2c_B111;}
-  w2c_i0 = w2c_l23;
-  w2c_i1 = 6u;
-  w2c_i0 <<= (w2c_i1 & 31);
-  w2c_i1 = w2c_l22;
-  w2c_i2 = 12u;
-  w2c_i1 <<= (w2c_i2 & 31);
-  w2c_i2 = w2c_l21;
-  w2c_i3 = 18u;
-  w2c_i2 <<= (w2c_i3 & 31);
-  w2c_i3 = 1835008u;
-  w2c_i2 &= w2c_i3;
-  w2c_i1 |= w2c_i2;
-  w2c_i0 |= w2c_i1;
-  w2c_j1 = w2c_l10;
-  w2c_i1 = (u32)(w2c_j1);
-  w2c_i1 = i32_load8_u(m, (u64)(w2c_i1) + 3u);
-  w2c_i2 = 63u;
-  w2c_i1 &= w2c_i2;
-  w2c_i0 |= w2c_i1;
-  w2c_l20 = w2c_i0;
-  w2c_j0 = 4ull;
-  w2c_l9 = w2c_j0;
-  goto w2c_B110;
-  w2c_B111:;
-  w2c_i0 = w2c_l22;
-  w2c_i1 = 6u;
-  w2c_i0 <<= (w2c_i1 & 31);
-  w2c_i1 = w2c_l21;
-  w2c_i2 = 12u;
-  w2c_i1 <<= (w2c_i2 & 31);
-  w2c_i2 = 61440u;
-  w2c_i1 &= w2c_i2;
-  w2c_i0 |= w2c_i1;
-  w2c_i1 = w2c_l23;
-  w2c_i0 |= w2c_i1;
-  w2c_l20 = w2c_i0;
-  w2c_j0 = 3ull;
-  w2c_l9 = w2c_j0;
-  w2c_B110:;
-  w2c_i0 = w2c_l20;
-  w2c_i1 = 20845u;
-  w2c_i0 = w2c_i0 != w2c_i1;
-  if (w2c_i0) {goto w2c_B107;}
-  w2c_j0 = w2c_p4;
-  w2c_j1 = w2c_l9;
-  w2c_j2 = w2c_l7;
-  w2c_j1 += w2c_j2;
-  w2c_l7 = w2c_j1;
-  w2c_i0 = w2c_j0 == w2c_j1;
-  if (w2c_i0) {goto w2c_B107;}
-  w2c_j0 = w2c_l10;
-  w2c_j1 = w2c_l9;
-  w2c_j0 += w2c_j1;
-  w2c_l10 = w2c_j0;
-  w2c_i0 = (u32)(w2c_j0);
-  w2c_i0 = i32_load8_s(m, (u64)(w2c_i0));
-  w2c_l20 = w2c_i0;
-  w2c_i1 = 4294967295u;
-  w2c_i0 = (u32)((s32)w2c_i0 > (s32)w2c_i1);
-  if (w2c_i0) {goto w2c_B107;}
-  w2c_i0 = w2c_l20;
-  w2c_i1 = 4294967264u;
-  w2c_i0 = w2c_i0 < w2c_i1;
-  if (w2c_i0) {goto w2c_B107;}
-  w2c_i0 = w2c_l20;
-  w2c_i1 = 255u;
-  w2c_i0 &= w2c_i1;
-  w2c_l21 = w2c_i0;
-  w2c_j0 = w2c_l10;
-  w2c_i0 = (u32)(w2c_j0);
-  w2c_i0 = i32_load8_u(m, (u64)(w2c_i0) + 1u);
-  w2c_i1 = 63u;
-  w2c_i0 &= w2c_i1;
-  w2c_l22 = w2c_i0;
-  w2c_j0 = w2c_l10;
-  w2c_i0 = (u32)(w2c_j0);
-  w2c_i0 = i32_load8_u(m, (u64)(w2c_i0) + 2u);
-  w2c_i1 = 63u;
-  w2c_i0 &= w2c_i1;
-  w2c_l23 = w2c_i0;
-  w2c_i0 = w2c_l20;
-  w2c_i1 = 4294967280u;
-  w2c_i0 = w2c_i0 < w2c_i1;
-  if (w2c_i0) {goto w2c_B113;}
-  w2c_i0 = w2c_l23;
-  w2c_i1 = 6u;
-  w2c_i0 <<= (w2c_i1 & 31);
-  w2c_i1 = w2c_l22;
-  w2c_i2 = 12u;
-  w2c_i1 <<= (w2c_i2 & 31);
-  w2c_i2 = w2c_l21;
-  w2c_i3 = 18u;
-  w2c_i2 <<= (w2c_i3 & 31);
-  w2c_i3 = 1835008u;
-  w2c_i2 &= w2c_i3;
-  w2c_i1 |= w2c_i2;
-  w2c_i0 |= w2c_i1;
-  w2c_j1 = w2c_l10;
-  w2c_i1 = (u32)(w2c_j1);
-  w2c_i1 = i32_load8_u(m, (u64)(w2c_i1) + 3u);
-  w2c_i2 = 63u;
-  w2c_i1 &= w2c_i2;
-  w2c_i0 |= w2c_i1;
-  w2c_l20 = w2c_i0;
-  w2c_j0 = 4ull;
-  w2c_l10 = w2c_j0;
-  goto w2c_B112;
-  w2c_B113:;
-  w2c_i0 = w2c_l22;
-  w2c_i1 = 6u;
-  w2c_i0 <<= (w2c_i1 & 31);
-  w2c_i1 = w2c_l21;
-  w2c_i2 = 12u;
-  w2c_i1 <<= (w2c_i2 & 31);
-  w2c_i2 = 61440u;
-  w2c_i1 &= w2c_i2;
-  w2c_i0 |= w2c_i1;
-  w2c_i1 = w2c_l23;
-  w2c_i0 |= w2c_i1;
-  w2c_l20 = w2c_i0;
-  w2c_j0 = 3ull;
-  w2c_l10 = w2c_j0;
-  w2c_B112:;
-  w2c_i0 = w2c_l20;
-  w2c_i1 = 21313u;
-  w2c_i0 = w2c_i0 != w2c_i1;
-  if (w2c_i0) {goto w2c_B107;}
-  w2c_i0 = w2c_l12;
-  if (w2c_i0) {goto w2c_B107;}
-  w2c_j0 = w2c_p4;
-  w2c_j1 = w2c_l10;
-  w2c_j2 = w2c_l7;
-  w2c_j1 += w2c_j2;
-  w2c_i0 = w2c_j0 != w2c_j1;
-  if (w2c_i0) {goto w2c_B107;}
-  w2c_j0 = w2c_p5;
-  w2c_i0 = (u32)(w2c_j0);
-  w2c_i0 = i32_load8_s(m, (u64)(w2c_i0));
-  w2c_l20 = w2c_i0;
-  w2c_i1 = 4294967295u;
-  w2c_i0 = (u32)((s32)w2c_i0 > (s32)w2c_i1);
-  if (w2c_i0) {goto w2c_B107;}
-  w2c_i0 = w2c_l20;
-  w2c_i1 = 4294967264u;
-  w2c_i0 = w2c_i0 < w2c_i1;
-  if (w2c_i0) {goto w2c_B107;}
-  w2c_i0 = w2c_l20;
-  w2c_i1 = 255u;
-  w2c_i0 &= w2c_i1;
-  w2c_l21 = w2c_i0;
-  w2c_j0 = w2c_p5;
-  w2c_i0 = (u32)(w2c_j0);
-  w2c_i0 = i32_load8_u(m, (u64)(w2c_i0) + 1u);
-  w2c_i1 = 63u;
-  w2c_i0 &= w2c_i1;
-  w2c_l22 = w2c_i0;
-  w2c_j0 = w2c_p5;
-  w2c_i0 = (u32)(w2c_j0);
-  w2c_i0 = i32_load8_u(m, (u64)(w2c_i0) + 2u);
-  w2c_i1 = 63u;
-  w2c_i0 &= w2c_i1;
-  w2c_l23 = w2c_i0;
-  w2c_i0 = w2c_l20;
-  w2c_i1 = 4294967279u;
-  w2c_i0 = w2c_i0 > w2c_i1;
-  if (w2c_i0) {goto w2c_B115;}
-  w2c_i0 = w2c_l22;
-  w2c_i1 = 6u;
-  w2c_i0 <<= (w2c_i1 & 31);
-  w2c_i1 = w2c_l21;
-  w2c_i2 = 12u;
-  w2c_i1 <<= (w2c_i2 & 31);
-  w2c_i2 = 61440u;
-  w2c_i1 &= w2c_i2;
-  w2c_i0 |= w2c_i1;
-  w2c_i1 = w2c_l23;
-  w2c_i0 |= w2c_i1;
-  w2c_l20 = w2c_i0;
-  goto w2c_B114;
-  w2c_B115:;
-  w2c_i0 = w2c_l23;
-  w2c_i1 = 6u;
-  w2c_i0 <<= (w2c_i1 & 31);
-  w2c_i1 = w2c_l22;
-  w2c_i2 = 12u;
-  w2c_i1 <<= (w2c_i2 & 31);
-  w2c_i2 = w2c_l21;
-  w2c_i3 = 18u;
-  w2c_i2 <<= (w2c_i3 & 31);
-  w2c_i3 = 1835008u;
-  w2c_i2 &= w2c_i3;
-  w2c_i1 |= w2c_i2;
-  w2c_i0 |= w2c_i1;
-  w2c_j1 = w2c_p5;
-  w2c_i1 = (u32)(w2c_j1);
-  w2c_i1 = i32_load8_u(m, (u64)(w2c_i1) + 3u);
-  w2c_i2 = 63u;
-  w2c_i1 &= w2c_i2;
-  w2c_i0 |= w2c_i1;
-  w2c_l20 = w2c_i0;
-  w2c_B114:;
-  w2c_i0 = w2c_l20;
-  w2c_i1 = 34892u;
-  w2c_i0 = w2c_i0 != w2c_i1;
-  if (w2c_i0) {goto w2c_B107;}
-  w2c_i0 = 1u;
-  w2c_l14 = w2c_i0;
-  goto w2c_B0;
-  w2c_B107:;
+  if (w2c_i0) {goto w2c_B105;}
   w2c_i0 = w2c_l14;
-  w2c_i1 = 4294967279u;
-  w2c_i0 = w2c_i0 > w2c_i1;
-  if (w2c_i0) {goto w2c_B117;}
-  w2c_i0 = w2c_l16;
-  w2c_i1 = 6u;
-  w2c_i0 <<= (w2c_i1 & 31);
-  w2c_i1 = w2c_l15;
-  w2c_i2 = 12u;
-  w2c_i1 <<= (w2c_i2 & 31);
-  w2c_i2 = 61440u;
-  w2c_i1 &= w2c_i2;
-  w2c_i0 |= w2c_i1;
-  w2c_i1 = w2c_l19;
-  w2c_i0 |= w2c_i1;
-  w2c_l20 = w2c_i0;
-  w2c_j0 = 3ull;
-  w2c_l7 = w2c_j0;
-  goto w2c_B116;
-  w2c_B117:;
-  w2c_i0 = w2c_l19;
-  w2c_i1 = 6u;
-  w2c_i0 <<= (w2c_i1 & 31);
-  w2c_i1 = w2c_l16;
-  w2c_i2 = 12u;
-  w2c_i1 <<= (w2c_i2 & 31);
-  w2c_i2 = w2c_l15;
-  w2c_i3 = 18u;
-  w2c_i2 <<= (w2c_i3 & 31);
-  w2c_i3 = 1835008u;
-  w2c_i2 &= w2c_i3;
-  w2c_i1 |= w2c_i2;
-  w2c_i0 |= w2c_i1;
-  w2c_j1 = w2c_p3;
-  w2c_i1 = (u32)(w2c_j1);
-  w2c_i1 = i32_load8_u(m, (u64)(w2c_i1) + 3u);
-  w2c_i2 = 63u;
-  w2c_i1 &= w2c_i2;
-  w2c_i0 |= w2c_i1;
-  w2c_l20 = w2c_i0;
-  w2c_j0 = 4ull;
-  w2c_l7 = w2c_j0;
-  w2c_B116:;
-  w2c_j0 = w2c_p4;
-  w2c_j1 = w2c_l7;
-  w2c_i0 = w2c_j0 == w2c_j1;
-  if (w2c_i0) {goto w2c_B118;}
-  w2c_i0 = w2c_l20;
-  w2c_i1 = 20108u;
+  w2c_i1 = 19971u;
   w2c_i0 = w2c_i0 != w2c_i1;
-  if (w2c_i0) {goto w2c_B118;}
+  if (w2c_i0) {goto w2c_B105;}
   w2c_j0 = w2c_p3;
   w2c_j1 = w2c_l7;
   w2c_j0 += w2c_j1;
   w2c_l10 = w2c_j0;
   w2c_i0 = (u32)(w2c_j0);
   w2c_i0 = i32_load8_s(m, (u64)(w2c_i0));
-  w2c_l20 = w2c_i0;
-  w2c_i1 = 4294967295u;
-  w2c_i0 = (u32)((s32)w2c_i0 > (s32)w2c_i1);
-  if (w2c_i0) {goto w2c_B118;}
-  w2c_i0 = w2c_l20;
-  w2c_i1 = 4294967264u;
-  w2c_i0 = w2c_i0 < w2c_i1;
-  if (w2c_i0) {goto w2c_B118;}
-  w2c_i0 = w2c_l20;
-  w2c_i1 = 255u;
-  w2c_i0 &= w2c_i1;
-  w2c_l21 = w2c_i0;
-  w2c_j0 = w2c_l10;
-  w2c_i0 = (u32)(w2c_j0);
-  w2c_i0 = i32_load8_u(m, (u64)(w2c_i0) + 1u);
-  w2c_i1 = 63u;
-  w2c_i0 &= w2c_i1;
-  w2c_l22 = w2c_i0;
-  w2c_j0 = w2c_l10;
-  w2c_i0 = (u32)(w2c_j0);
-  w2c_i0 = i32_load8_u(m, (u64)(w2c_i0) + 2u);
-  w2c_i1 = 63u;
-  w2c_i0 &= w2c_i1;
-  w2c_l23 = w2c_i0;
-  w2c_i0 = w2c_l20;
-  w2c_i1 = 4294967280u;
-  w2c_i0 = w2c_i0 < w2c_i1;
-  if (w2c_i0) {goto w2c_B120;}
-  w2c_i0 = w2c_l23;
-  w2c_i1 = 6u;
-  w2c_i0 <<= (w2c_i1 & 31);
-  w2c_i1 = w2c_l22;
-  w2c_i2 = 12u;
-  w2c_i1 <<= (w2c_i2 & 31);
-  w2c_i2 = w2c_l21;
-  w2c_i3 = 18u;
-  w2c_i2 <<= (w2c_i3 & 31);
-  w2c_i3 = 1835008u;
-  w2c_i2 &= w2c_i3;
-  w2c_i1 |= w2c_i2;
-  w2c_i0 |= w2c_i1;
-  w2c_j1 = w2c_l10;
-  w2c_i1 = (u32)(w2c_j1);
-  w2c_i1 = i32_load8_u(m, (u64)(w2c_i1) + 3u);
-  w2c_i2 = 63u;
-  w2c_i1 &= w2c_i2;
-  w2c_i0 |= w2c_i1;
-  w2c_l20 = w2c_i0;
-  w2c_j0 = 4ull;
-  w2c_l9 = w2c_j0;
-  goto w2c_B119;
-  w2c_B120:;
-  w2c_i0 = w2c_l22;
-  w2c_i1 = 6u;
-  w2c_i0 <<= (w2c_i1 & 31);
-  w2c_i1 = w2c_l21;
-  w2c_i2 = 12u;
-  w2c_i1 <<= (w2c_i2 & 31);
-  w2c_i2 = 61440u;
-  w2c_i1 &= w2c_i2;
-  w2c_i0 |= w2c_i1;
-  w2c_i1 = w2c_l23;
-  w2c_i0 |= w2c_i1;
-  w2c_l20 = w2c_i0;
-  w2c_j0 = 3ull;
-  w2c_l9 = w2c_j0;
-  w2c_B119:;
-  w2c_i0 = w2c_l20;
-  w2c_i1 = 21313u;
-  w2c_i0 = w2c_i0 != w2c_i1;
-  if (w2c_i0) {goto w2c_B118;}
-  w2c_j0 = w2c_p4;
-  w2c_j1 = w2c_l9;
-  w2c_j2 = w2c_l7;
-  w2c_j1 += w2c_j2;
-  w2c_l7 = w2c_j1;
-  w2c_i0 = w2c_j0 == w2c_j1;
-  if (w2c_i0) {goto w2c_B118;}
-  w2c_j0 = w2c_l10;
-  w2c_j1 = w2c_l9;
-  w2c_j0 += w2c_j1;
-  w2c_l10 = w2c_j0;
-  w2c_i0 = (u32)(w2c_j0);
-  w2c_i0 = i32_load8_s(m, (u64)(w2c_i0));
-  w2c_l20 = w2c_i0;
-  w2c_i1 = 4294967295u;
-  w2c_i0 = (u32)((s32)w2c_i0 > (s32)w2c_i1);
-  if (w2c_i0) {goto w2c_B118;}
-  w2c_i0 = w2c_l20;
-  w2c_i1 = 4294967264u;
-  w2c_i0 = w2c_i0 < w2c_i1;
-  if (w2c_i0) {goto w2c_B118;}
-  w2c_i0 = w2c_l20;
-  w2c_i1 = 255u;
-  w2c_i0 &= w2c_i1;
-  w2c_l21 = w2c_i0;
-  w2c_j0 = w2c_l10;
-  w2c_i0 = (u32)(w2c_j0);
-  w2c_i0 = i32_load8_u(m, (u64)(w2c_i0) + 1u);
-  w2c_i1 = 63u;
-  w2c_i0 &= w2c_i1;
-  w2c_l22 = w2c_i0;
-  w2c_j0 = w2c_l10;
-  w2c_i0 = (u32)(w2c_j0);
-  w2c_i0 = i32_load8_u(m, (u64)(w2c_i0) + 2u);
-  w2c_i1 = 63u;
-  w2c_i0 &= w2c_i1;
-  w2c_l23 = w2c_i0;
-  w2c_i0 = w2c_l20;
-  w2c_i1 = 4294967280u;
-  w2c_i0 = w2c_i0 < w2c_i1;
-  if (w2c_i0) {goto w2c_B122;}
-  w2c_i0 = w2c_l23;
-  w2c_i1 = 6u;
-  w2c_i0 <<= (w2c_i1 & 31);
-  w2c_i1 = w2c_l22;
-  w2c_i2 = 12u;
-  w2c_i1 <<= (w2c_i2 & 31);
-  w2c_i2 = w2c_l21;
-  w2c_i3 = 18u;
-  w2c_i2 <<= (w2c_i3 & 31);
-  w2c_i3 = 1835008u;
-  w2c_i2 &= w2c_i3;
-  w2c_i1 |= w2c_i2;
-  w2c_i0 |= w2c_i1;
-  w2c_j1 = w2c_l10;
-  w2c_i1 = (u32)(w2c_j1);
-  w2c_i1 = i32_load8_u(m, (u64)(w2c_i1) + 3u);
-  w2c_i2 = 63u;
-  w2c_i1 &= w2c_i2;
-  w2c_i0 |= w2c_i1;
-  w2c_l20 = w2c_i0;
-  w2c_j0 = 4ull;
-  w2c_l10 = w2c_j0;
-  goto w2c_B121;
-  w2c_B122:;
-  w2c_i0 = w2c_l22;
-  w2c_i1 = 6u;
-  w2c_i0 <<= (w2c_i1 & 31);
-  w2c_i1 = w2c_l21;
-  w2c_i2 = 12u;
-  w2c_i1 <<= (w2c_i2 & 31);
-  w2c_i2 = 61440u;
-  w2c_i1 &= w2c_i2;
-  w2c_i0 |= w2c_i1;
-  w2c_i1 = w2c_l23;
-  w2c_i0 |= w2c_i1;
-  w2c_l20 = w2c_i0;
-  w2c_j0 = 3ull;
-  w2c_l10 = w2c_j0;
-  w2c_B121:;
-  w2c_i0 = w2c_l20;
-  w2c_i1 = 22235u;
-  w2c_i0 = w2c_i0 != w2c_i1;
-  if (w2c_i0) {goto w2c_B118;}
-  w2c_i0 = w2c_l12;
-  if (w2c_i0) {goto w2c_B118;}
-  w2c_j0 = w2c_p4;
-  w2c_j1 = w2c_l10;
-  w2c_j2 = w2c_l7;
-  w2c_j1 += w2c_j2;
-  w2c_i0 = w2c_j0 != w2c_j1;
-  if (w2c_i0) {goto w2c_B118;}
-  w2c_j0 = w2c_p5;
-  w2c_i0 = (u32)(w2c_j0);
-  w2c_i0 = i32_load8_s(m, (u64)(w2c_i0));
-  w2c_l20 = w2c_i0;
-  w2c_i1 = 4294967295u;
-  w2c_i0 = (u32)((s32)w2c_i0 > (s32)w2c_i1);
-  if (w2c_i0) {goto w2c_B118;}
-  w2c_i0 = w2c_l20;
-  w2c_i1 = 4294967264u;
-  w2c_i0 = w2c_i0 < w2c_i1;
-  if (w2c_i0) {goto w2c_B118;}
-  w2c_i0 = w2c_l20;
-  w2c_i1 = 255u;
-  w2c_i0 &= w2c_i1;
-  w2c_l21 = w2c_i0;
-  w2c_j0 = w2c_p5;
-  w2c_i0 = (u32)(w2c_j0);
-  w2c_i0 = i32_load8_u(m, (u64)(w2c_i0) + 1u);
-  w2c_i1 = 63u;
-  w2c_i0 &= w2c_i1;
-  w2c_l22 = w2c_i0;
-  w2c_j0 = w2c_p5;
-  w2c_i0 = (u32)(w2c_j0);
-  w2c_i0 = i32_load8_u(m, (u64)(w2c_i0) + 2u);
-  w2c_i1 = 63u;
-  w2c_i0 &= w2c_i1;
-  w2c_l23 = w2c_i0;
-  w2c_i0 = w2c_l20;
-  w2c_i1 = 4294967279u;
-  w2c_i0 = w2c_i0 > w2c_i1;
-  if (w2c_i0) {goto w2c_B124;}
-  w2c_i0 = w2c_l22;
-  w2c_i1 = 6u;
-  w2c_i0 <<= (w2c_i1 & 31);
-  w2c_i1 = w2c_l21;
-  w2c_i2 = 12u;
-  w2c_i1 <<= (w2c_i2 & 31);
-  w2c_i2 = 61440u;
-  w2c_i1 &= w2c_i2;
-  w2c_i0 |= w2c_i1;
-  w2c_i1 = w2c_l23;
-  w2c_i0 |= w2c_i1;
-  w2c_l20 = w2c_i0;
-  goto w2c_B123;
-  w2c_B124:;
-  w2c_i0 = w2c_l23;
-  w2c_i1 = 6u;
-  w2c_i0 <<= (w2c_i1 & 31);
-  w2c_i1 = w2c_l22;
-  w2c_i2 = 12u;
-  w2c_i1 <<= (w2c_i2 & 31);
-  w2c_i2 = w2c_l21;
-  w2c_i3 = 18u;
-  w2c_i2 <<= (w2c_i3 & 31);
-  w2c_i3 = 1835008u;
-  w2c_i2 &= w2c_i3;
-  w2c_i1 |= w2c_i2;
-  w2c_i0 |= w2c_i1;
-  w2c_j1 = w2c_p5;
-  w2c_i1 = (u32)(w2c_j1);
-  w2c_i1 = i32_load8_u(m, (u64)(w2c_i1) + 3u);
-  w2c_i2 = 63u;
-  w2c_i1 &= w2c_i2;
-  w2c_i0 |= w2c_i1;
-  w2c_l20 = w2c_i0;
-  w2c_B123:;
-  w2c_i0 = w2c_l20;
-  w2c_i1 = 21490u;
-  w2c_i0 = w2c_i0 != w2c_i1;
-  if (w2c_i0) {goto w2c_B118;}
-  w2c_i0 = 1u;
   w2c_l14 = w2c_i0;
-  goto w2c_B0;
-  w2c_B118:;
+  w2c_i1 = 4294967295u;
+  w2c_i0 = (u32)((s32)w2c_i0 > (s32)w2c_i1);
+  if (w2c_i0) {goto w2c_B105;}
   w2c_i0 = w2c_l14;
-  w2c_i1 = 4294967279u;
-  w2c_i0 = w2c_i0 > w2c_i1;
-  if (w2c_i0) {goto w2c_B126;}
-  w2c_i0 = w2c_l16;
-  w2c_i1 = 6u;
-  w2c_i0 <<= (w2c_i1 & 31);
-  w2c_i1 = w2c_l15;
-  w2c_i2 = 12u;
-  w2c_i1 <<= (w2c_i2 & 31);
-  w2c_i2 = 61440u;
-  w2c_i1 &= w2c_i2;
-  w2c_i0 |= w2c_i1;
-  w2c_i1 = w2c_l19;
-  w2c_i0 |= w2c_i1;
-  w2c_l20 = w2c_i0;
-  w2c_j0 = 3ull;
-  w2c_l7 = w2c_j0;
-  goto w2c_B125;
-  w2c_B126:;
-  w2c_i0 = w2c_l19;
-  w2c_i1 = 6u;
-  w2c_i0 <<= (w2c_i1 & 31);
-  w2c_i1 = w2c_l16;
-  w2c_i2 = 12u;
-  w2c_i1 <<= (w2c_i2 & 31);
-  w2c_i2 = w2c_l15;
-  w2c_i3 = 18u;
-  w2c_i2 <<= (w2c_i3 & 31);
-  w2c_i3 = 1835008u;
-  w2c_i2 &= w2c_i3;
-  w2c_i1 |= w2c_i2;
-  w2c_i0 |= w2c_i1;
-  w2c_j1 = w2c_p3;
-  w2c_i1 = (u32)(w2c_j1);
-  w2c_i1 = i32_load8_u(m, (u64)(w2c_i1) + 3u);
-  w2c_i2 = 63u;
-  w2c_i1 &= w2c_i2;
-  w2c_i0 |= w2c_i1;
-  w2c_l20 = w2c_i0;
-  w2c_j0 = 4ull;
-  w2c_l7 = w2c_j0;
-  w2c_B125:;
-  w2c_j0 = w2c_p4;
-  w2c_j1 = w2c_l7;
-  w2c_i0 = w2c_j0 == w2c_j1;
-  if (w2c_i0) {goto w2c_B127;}
-  w2c_i0 = w2c_l20;
-  w2c_i1 = 20108u;
-  w2c_i0 = w2c_i0 != w2c_i1;
-  if (w2c_i0) {goto w2c_B127;}
-  w2c_j0 = w2c_p3;
-  w2c_j1 = w2c_l7;
-  w2c_j0 += w2c_j1;
-  w2c_l10 = w2c_j0;
-  w2c_i0 = (u32)(w2c_j0);
-  w2c_i0 = i32_load8_s(m, (u64)(w2c_i0));
-  w2c_l20 = w2c_i0;
-  w2c_i1 = 4294967295u;
-  w2c_i0 = (u32)((s32)w2c_i0 > (s32)w2c_i1);
-  if (w2c_i0) {goto w2c_B127;}
-  w2c_i0 = w2c_l20;
   w2c_i1 = 4294967264u;
   w2c_i0 = w2c_i0 < w2c_i1;
-  if (w2c_i0) {goto w2c_B127;}
-  w2c_i0 = w2c_l20;
-  w2c_i1 = 255u;
-  w2c_i0 &= w2c_i1;
-  w2c_l21 = w2c_i0;
-  w2c_j0 = w2c_l10;
-  w2c_i0 = (u32)(w2c_j0);
-  w2c_i0 = i32_load8_u(m, (u64)(w2c_i0) + 1u);
-  w2c_i1 = 63u;
-  w2c_i0 &= w2c_i1;
-  w2c_l22 = w2c_i0;
-  w2c_j0 = w2c_l10;
-  w2c_i0 = (u32)(w2c_j0);
-  w2c_i0 = i32_load8_u(m, (u64)(w2c_i0) + 2u);
-  w2c_i1 = 63u;
-  w2c_i0 &= w2c_i1;
-  w2c_l23 = w2c_i0;
-  w2c_i0 = w2c_l20;
-  w2c_i1 = 4294967280u;
-  w2c_i0 = w2c_i0 < w2c_i1;
-  if (w2c_i0) {goto w2c_B129;}
-  w2c_i0 = w2c_l23;
-  w2c_i1 = 6u;
-  w2c_i0 <<= (w2c_i1 & 31);
-  w2c_i1 = w2c_l22;
-  w2c_i2 = 12u;
-  w2c_i1 <<= (w2c_i2 & 31);
-  w2c_i2 = w2c_l21;
-  w2c_i3 = 18u;
-  w2c_i2 <<= (w2c_i3 & 31);
-  w2c_i3 = 1835008u;
-  w2c_i2 &= w2c_i3;
-  w2c_i1 |= w2c_i2;
-  w2c_i0 |= w2c_i1;
-  w2c_j1 = w2c_l10;
-  w2c_i1 = (u32)(w2c_j1);
-  w2c_i1 = i32_load8_u(m, (u64)(w2c_i1) + 3u);
-  w2c_i2 = 63u;
-  w2c_i1 &= w2c_i2;
-  w2c_i0 |= w2c_i1;
-  w2c_l20 = w2c_i0;
-  w2c_j0 = 4ull;
-  w2c_l9 = w2c_j0;
-  goto w2c_B128;
-  w2c_B129:;
-  w2c_i0 = w2c_l22;
-  w2c_i1 = 6u;
-  w2c_i0 <<= (w2c_i1 & 31);
-  w2c_i1 = w2c_l21;
-  w2c_i2 = 12u;
-  w2c_i1 <<= (w2c_i2 & 31);
-  w2c_i2 = 61440u;
-  w2c_i1 &= w2c_i2;
-  w2c_i0 |= w2c_i1;
-  w2c_i1 = w2c_l23;
-  w2c_i0 |= w2c_i1;
-  w2c_l20 = w2c_i0;
-  w2c_j0 = 3ull;
-  w2c_l9 = w2c_j0;
-  w2c_B128:;
-  w2c_i0 = w2c_l20;
-  w2c_i1 = 21313u;
-  w2c_i0 = w2c_i0 != w2c_i1;
-  if (w2c_i0) {goto w2c_B127;}
-  w2c_j0 = w2c_p4;
-  w2c_j1 = w2c_l9;
-  w2c_j2 = w2c_l7;
-  w2c_j1 += w2c_j2;
-  w2c_l7 = w2c_j1;
-  w2c_i0 = w2c_j0 == w2c_j1;
-  if (w2c_i0) {goto w2c_B127;}
-  w2c_j0 = w2c_l10;
-  w2c_j1 = w2c_l9;
-  w2c_j0 += w2c_j1;
-  w2c_l10 = w2c_j0;
-  w2c_i0 = (u32)(w2c_j0);
-  w2c_i0 = i32_load8_s(m, (u64)(w2c_i0));
-  w2c_l20 = w2c_i0;
-  w2c_i1 = 4294967295u;
-  w2c_i0 = (u32)((s32)w2c_i0 > (s32)w2c_i1);
-  if (w2c_i0) {goto w2c_B127;}
-  w2c_i0 = w2c_l20;
-  w2c_i1 = 4294967264u;
-  w2c_i0 = w2c_i0 < w2c_i1;
-  if (w2c_i0) {goto w2c_B127;}
-  w2c_i0 = w2c_l20;
-  w2c_i1 = 255u;
-  w2c_i0 &= w2c_i1;
-  w2c_l21 = w2c_i0;
-  w2c_j0 = w2c_l10;
-  w2c_i0 = (u32)(w2c_j0);
-  w2c_i0 = i32_load8_u(m, (u64)(w2c_i0) + 1u);
-  w2c_i1 = 63u;
-  w2c_i0 &= w2c_i1;
-  w2c_l22 = w2c_i0;
-  w2c_j0 = w2c_l10;
-  w2c_i0 = (u32)(w2c_j0);
-  w2c_i0 = i32_load8_u(m, (u64)(w2c_i0) + 2u);
-  w2c_i1 = 63u;
-  w2c_i0 &= w2c_i1;
-  w2c_l23 = w2c_i0;
-  w2c_i0 = w2c_l20;
-  w2c_i1 = 4294967280u;
-  w2c_i0 = w2c_i0 < w2c_i1;
-  if (w2c_i0) {goto w2c_B131;}
-  w2c_i0 = w2c_l23;
-  w2c_i1 = 6u;
-  w2c_i0 <<= (w2c_i1 & 31);
-  w2c_i1 = w2c_l22;
-  w2c_i2 = 12u;
-  w2c_i1 <<= (w2c_i2 & 31);
-  w2c_i2 = w2c_l21;
-  w2c_i3 = 18u;
-  w2c_i2 <<= (w2c_i3 & 31);
-  w2c_i3 = 1835008u;
-  w2c_i2 &= w2c_i3;
-  w2c_i1 |= w2c_i2;
-  w2c_i0 |= w2c_i1;
-  w2c_j1 = w2c_l10;
-  w2c_i1 = (u32)(w2c_j1);
-  w2c_i1 = i32_load8_u(m, (u64)(w2c_i1) + 3u);
-  w2c_i2 = 63u;
-  w2c_i1 &= w2c_i2;
-  w2c_i0 |= w2c_i1;
-  w2c_l20 = w2c_i0;
-  w2c_j0 = 4ull;
-  w2c_l10 = w2c_j0;
-  goto w2c_B130;
-  w2c_B131:;
-  w2c_i0 = w2c_l22;
-  w2c_i1 = 6u;
-  w2c_i0 <<= (w2c_i1 & 31);
-  w2c_i1 = w2c_l21;
-  w2c_i2 = 12u;
-  w2c_i1 <<= (w2c_i2 & 31);
-  w2c_i2 = 61440u;
-  w2c_i1 &= w2c_i2;
-  w2c_i0 |= w2c_i1;
-  w2c_i1 = w2c_l23;
-  w2c_i0 |= w2c_i1;
-  w2c_l20 = w2c_i0;
-  w2c_j0 = 3ull;
-  w2c_l10 = w2c_j0;
-  w2c_B130:;
-  w2c_i0 = w2c_l20;
-  w2c_i1 = 20843u;
-  w2c_i0 = w2c_i0 != w2c_i1;
-  if (w2c_i0) {goto w2c_B127;}
-  w2c_i0 = w2c_l12;
-  if (w2c_i0) {goto w2c_B127;}
-  w2c_j0 = w2c_p4;
-  w2c_j1 = w2c_l10;
-  w2c_j2 = w2c_l7;
-  w2c_j1 += w2c_j2;
-  w2c_i0 = w2c_j0 != w2c_j1;
-  if (w2c_i0) {goto w2c_B127;}
-  w2c_j0 = w2c_p5;
-  w2c_i0 = (u32)(w2c_j0);
-  w2c_i0 = i32_load8_s(m, (u64)(w2c_i0));
-  w2c_l20 = w2c_i0;
-  w2c_i1 = 4294967295u;
-  w2c_i0 = (u32)((s32)w2c_i0 > (s32)w2c_i1);
-  if (w2c_i0) {goto w2c_B127;}
-  w2c_i0 = w2c_l20;
-  w2c_i1 = 4294967264u;
-  w2c_i0 = w2c_i0 < w2c_i1;
-  if (w2c_i0) {goto w2c_B127;}
-  w2c_i0 = w2c_l20;
-  w2c_i1 = 255u;
-  w2c_i0 &= w2c_i1;
-  w2c_l21 = w2c_i0;
-  w2c_j0 = w2c_p5;
-  w2c_i0 = (u32)(w2c_j0);
-  w2c_i0 = i32_load8_u(m, (u64)(w2c_i0) + 1u);
-  w2c_i1 = 63u;
-  w2c_i0 &= w2c_i1;
-  w2c_l22 = w2c_i0;
-  w2c_j0 = w2c_p5;
-  w2c_i0 = (u32)(w2c_j0);
-  w2c_i0 = i32_load8_u(m, (u64)(w2c_i0) + 2u);
-  w2c_i1 = 63u;
-  w2c_i0 &= w2c_i1;
-  w2c_l23 = w2c_i0;
-  w2c_i0 = w2c_l20;
-  w2c_i1 = 4294967279u;
-  w2c_i0 = w2c_i0 > w2c_i1;
-  if (w2c_i0) {goto w2c_B133;}
-  w2c_i0 = w2c_l22;
-  w2c_i1 = 6u;
-  w2c_i0 <<= (w2c_i1 & 31);
-  w2c_i1 = w2c_l21;
-  w2c_i2 = 12u;
-  w2c_i1 <<= (w2c_i2 & 31);
-  w2c_i2 = 61440u;
-  w2c_i1 &= w2c_i2;
-  w2c_i0 |= w2c_i1;
-  w2c_i1 = w2c_l23;
-  w2c_i0 |= w2c_i1;
-  w2c_l20 = w2c_i0;
-  goto w2c_B132;
-  w2c_B133:;
-  w2c_i0 = w2c_l23;
-  w2c_i1 = 6u;
-  w2c_i0 <<= (w2c_i1 & 31);
-  w2c_i1 = w2c_l22;
-  w2c_i2 = 12u;
-  w2c_i1 <<= (w2c_i2 & 31);
-  w2c_i2 = w2c_l21;
-  w2c_i3 = 18u;
-  w2c_i2 <<= (w2c_i3 & 31);
-  w2c_i3 = 1835008u;
-  w2c_i2 &= w2c_i3;
-  w2c_i1 |= w2c_i2;
-  w2c_i0 |= w2c_i1;
-  w2c_j1 = w2c_p5;
-  w2c_i1 = (u32)(w2c_j1);
-  w2c_i1 = i32_load8_u(m, (u64)(w2c_i1) + 3u);
-  w2c_i2 = 63u;
-  w2c_i1 &= w2c_i2;
-  w2c_i0 |= w2c_i1;
-  w2c_l20 = w2c_i0;
-  w2c_B132:;
-  w2c_i0 = w2c_l20;
-  w2c_i1 = 23487u;
-  w2c_i0 = w2c_i0 != w2c_i1;
-  if (w2c_i0) {goto w2c_B127;}
-  w2c_i0 = 1u;
-  w2c_l14 = w2c_i0;
-  goto w2c_B0;
-  w2c_B127:;
+  if (w2c_i0) {goto w2c_B105;}
   w2c_i0 = w2c_l14;
-  w2c_i1 = 4294967279u;
-  w2c_i0 = w2c_i0 > w2c_i1;
-  if (w2c_i0) {goto w2c_B135;}
-  w2c_i0 = w2c_l16;
-  w2c_i1 = 6u;
-  w2c_i0 <<= (w2c_i1 & 31);
-  w2c_i1 = w2c_l15;
-  w2c_i2 = 12u;
-  w2c_i1 <<= (w2c_i2 & 31);
-  w2c_i2 = 61440u;
-  w2c_i1 &= w2c_i2;
-  w2c_i0 |= w2c_i1;
-  w2c_i1 = w2c_l19;
-  w2c_i0 |= w2c_i1;
-  w2c_l20 = w2c_i0;
-  w2c_j0 = 3ull;
-  w2c_l7 = w2c_j0;
-  goto w2c_B134;
-  w2c_B135:;
-  w2c_i0 = w2c_l19;
-  w2c_i1 = 6u;
-  w2c_i0 <<= (w2c_i1 & 31);
-  w2c_i1 = w2c_l16;
-  w2c_i2 = 12u;
-  w2c_i1 <<= (w2c_i2 & 31);
-  w2c_i2 = w2c_l15;
-  w2c_i3 = 18u;
-  w2c_i2 <<= (w2c_i3 & 31);
-  w2c_i3 = 1835008u;
-  w2c_i2 &= w2c_i3;
-  w2c_i1 |= w2c_i2;
-  w2c_i0 |= w2c_i1;
-  w2c_j1 = w2c_p3;
-  w2c_i1 = (u32)(w2c_j1);
-  w2c_i1 = i32_load8_u(m, (u64)(w2c_i1) + 3u);
-  w2c_i2 = 63u;
-  w2c_i1 &= w2c_i2;
-  w2c_i0 |= w2c_i1;
-  w2c_l20 = w2c_i0;
-  w2c_j0 = 4ull;
-  w2c_l7 = w2c_j0;
-  w2c_B134:;
-  w2c_j0 = w2c_p4;
-  w2c_j1 = w2c_l7;
-  w2c_i0 = w2c_j0 == w2c_j1;
-  if (w2c_i0) {goto w2c_B136;}
-  w2c_i0 = w2c_l20;
-  w2c_i1 = 21313u;
-  w2c_i0 = w2c_i0 != w2c_i1;
-  if (w2c_i0) {goto w2c_B136;}
-  w2c_j0 = w2c_p3;
-  w2c_j1 = w2c_l7;
-  w2c_j0 += w2c_j1;
-  w2c_l10 = w2c_j0;
-  w2c_i0 = (u32)(w2c_j0);
-  w2c_i0 = i32_load8_s(m, (u64)(w2c_i0));
-  w2c_l20 = w2c_i0;
-  w2c_i1 = 4294967295u;
-  w2c_i0 = (u32)((s32)w2c_i0 > (s32)w2c_i1);
-  if (w2c_i0) {goto w2c_B136;}
-  w2c_i0 = w2c_l20;
-  w2c_i1 = 4294967264u;
-  w2c_i0 = w2c_i0 < w2c_i1;
-  if (w2c_i0) {goto w2c_B136;}
-  w2c_i0 = w2c_l20;
   w2c_i1 = 255u;
   w2c_i0 &= w2c_i1;
-  w2c_l21 = w2c_i0;
+  w2c_l13 = w2c_i0;
   w2c_j0 = w2c_l10;
   w2c_i0 = (u32)(w2c_j0);
   w2c_i0 = i32_load8_u(m, (u64)(w2c_i0) + 1u);
   w2c_i1 = 63u;
   w2c_i0 &= w2c_i1;
-  w2c_l22 = w2c_i0;
+  w2c_l20 = w2c_i0;
   w2c_j0 = w2c_l10;
   w2c_i0 = (u32)(w2c_j0);
   w2c_i0 = i32_load8_u(m, (u64)(w2c_i0) + 2u);
   w2c_i1 = 63u;
   w2c_i0 &= w2c_i1;
-  w2c_l23 = w2c_i0;
-  w2c_i0 = w2c_l20;
-  w2c_i1 = 4294967280u;
-  w2c_i0 = w2c_i0 < w2c_i1;
-  if (w2c_i0) {goto w2c_B138;}
-  w2c_i0 = w2c_l23;
-  w2c_i1 = 6u;
-  w2c_i0 <<= (w2c_i1 & 31);
-  w2c_i1 = w2c_l22;
-  w2c_i2 = 12u;
-  w2c_i1 <<= (w2c_i2 & 31);
-  w2c_i2 = w2c_l21;
-  w2c_i3 = 18u;
-  w2c_i2 <<= (w2c_i3 & 31);
-  w2c_i3 = 1835008u;
-  w2c_i2 &= w2c_i3;
-  w2c_i1 |= w2c_i2;
-  w2c_i0 |= w2c_i1;
-  w2c_j1 = w2c_l10;
-  w2c_i1 = (u32)(w2c_j1);
-  w2c_i1 = i32_load8_u(m, (u64)(w2c_i1) + 3u);
-  w2c_i2 = 63u;
-  w2c_i1 &= w2c_i2;
-  w2c_i0 |= w2c_i1;
-  w2c_l20 = w2c_i0;
-  w2c_j0 = 4ull;
-  w2c_l10 = w2c_j0;
-  goto w2c_B137;
-  w2c_B138:;
-  w2c_i0 = w2c_l22;
-  w2c_i1 = 6u;
-  w2c_i0 <<= (w2c_i1 & 31);
-  w2c_i1 = w2c_l21;
-  w2c_i2 = 12u;
-  w2c_i1 <<= (w2c_i2 & 31);
-  w2c_i2 = 61440u;
-  w2c_i1 &= w2c_i2;
-  w2c_i0 |= w2c_i1;
-  w2c_i1 = w2c_l23;
-  w2c_i0 |= w2c_i1;
-  w2c_l20 = w2c_i0;
-  w2c_j0 = 3ull;
-  w2c_l10 = w2c_j0;
-  w2c_B137:;
-  w2c_i0 = w2c_l20;
-  w2c_i1 = 19977u;
-  w2c_i0 = w2c_i0 != w2c_i1;
-  if (w2c_i0) {goto w2c_B136;}
-  w2c_i0 = w2c_l12;
-  if (w2c_i0) {goto w2c_B136;}
-  w2c_j0 = w2c_p4;
-  w2c_j1 = w2c_l10;
-  w2c_j2 = w2c_l7;
-  w2c_j1 += w2c_j2;
-  w2c_i0 = w2c_j0 != w2c_j1;
-  if (w2c_i0) {goto w2c_B136;}
-  w2c_j0 = w2c_p5;
-  w2c_i0 = (u32)(w2c_j0);
-  w2c_i0 = i32_load8_s(m, (u64)(w2c_i0));
-  w2c_l20 = w2c_i0;
-  w2c_i1 = 4294967295u;
-  w2c_i0 = (u32)((s32)w2c_i0 > (s32)w2c_i1);
-  if (w2c_i0) {goto w2c_B136;}
-  w2c_i0 = w2c_l20;
-  w2c_i1 = 4294967264u;
-  w2c_i0 = w2c_i0 < w2c_i1;
-  if (w2c_i0) {goto w2c_B136;}
-  w2c_i0 = w2c_l20;
-  w2c_i1 = 255u;
-  w2c_i0 &= w2c_i1;
   w2c_l21 = w2c_i0;
-  w2c_j0 = w2c_p5;
-  w2c_i0 = (u32)(w2c_j0);
-  w2c_i0 = i32_load8_u(m, (u64)(w2c_i0) + 1u);
-  w2c_i1 = 63u;
-  w2c_i0 &= w2c_i1;
-  w2c_l22 = w2c_i0;
-  w2c_j0 = w2c_p5;
-  w2c_i0 = (u32)(w2c_j0);
-  w2c_i0 = i32_load8_u(m, (u64)(w2c_i0) + 2u);
-  w2c_i1 = 63u;
-  w2c_i0 &= w2c_i1;
-  w2c_l23 = w2c_i0;
-  w2c_i0 = w2c_l20;
-  w2c_i1 = 4294967279u;
-  w2c_i0 = w2c_i0 > w2c_i1;
-  if (w2c_i0) {goto w2c_B140;}
-  w2c_i0 = w2c_l22;
-  w2c_i1 = 6u;
-  w2c_i0 <<= (w2c_i1 & 31);
-  w2c_i1 = w2c_l21;
-  w2c_i2 = 12u;
-  w2c_i1 <<= (w2c_i2 & 31);
-  w2c_i2 = 61440u;
-  w2c_i1 &= w2c_i2;
-  w2c_i0 |= w2c_i1;
-  w2c_i1 = w2c_l23;
-  w2c_i0 |= w2c_i1;
-  w2c_l20 = w2c_i0;
-  goto w2c_B139;
-  w2c_B140:;
-  w2c_i0 = w2c_l23;
-  w2c_i1 = 6u;
-  w2c_i0 <<= (w2c_i1 & 31);
-  w2c_i1 = w2c_l22;
-  w2c_i2 = 12u;
-  w2c_i1 <<= (w2c_i2 & 31);
-  w2c_i2 = w2c_l21;
-  w2c_i3 = 18u;
-  w2c_i2 <<= (w2c_i3 & 31);
-  w2c_i3 = 1835008u;
-  w2c_i2 &= w2c_i3;
-  w2c_i1 |= w2c_i2;
-  w2c_i0 |= w2c_i1;
-  w2c_j1 = w2c_p5;
-  w2c_i1 = (u32)(w2c_j1);
-  w2c_i1 = i32_load8_u(m, (u64)(w2c_i1) + 3u);
-  w2c_i2 = 63u;
-  w2c_i1 &= w2c_i2;
-  w2c_i0 |= w2c_i1;
-  w2c_l20 = w2c_i0;
-  w2c_B139:;
-  w2c_i0 = w2c_l20;
-  w2c_i1 = 22969u;
-  w2c_i0 = w2c_i0 != w2c_i1;
-  if (w2c_i0) {goto w2c_B141;}
-  w2c_i0 = 1u;
-  w2c_l14 = w2c_i0;
-  goto w2c_B0;
-  w2c_B141:;
-  w2c_i0 = w2c_l20;
-  w2c_i1 = 38517u;
-  w2c_i0 = w2c_i0 != w2c_i1;
-  if (w2c_i0) {goto w2c_B136;}
-  w2c_i0 = 1u;
-  w2c_l14 = w2c_i0;
-  goto w2c_B0;
-  w2c_B136:;
   w2c_i0 = w2c_l14;
-  w2c_i1 = 4294967279u;
-  w2c_i0 = w2c_i0 > w2c_i1;
-  if (w2c_i0) {goto w2c_B143;}
-  w2c_i0 = w2c_l16;
-  w2c_i1 = 6u;
-  w2c_i0 <<= (w2c_i1 & 31);
-  w2c_i1 = w2c_l15;
-  w2c_i2 = 12u;
-  w2c_i1 <<= (w2c_i2 & 31);
-  w2c_i2 = 61440u;
-  w2c_i1 &= w2c_i2;
-  w2c_i0 |= w2c_i1;
-  w2c_i1 = w2c_l19;
-  w2c_i0 |= w2c_i1;
-  w2c_l20 = w2c_i0;
-  w2c_j0 = 3ull;
-  w2c_l7 = w2c_j0;
-  goto w2c_B142;
-  w2c_B143:;
-  w2c_i0 = w2c_l19;
-  w2c_i1 = 6u;
-  w2c_i0 <<= (w2c_i1 & 31);
-  w2c_i1 = w2c_l16;
-  w2c_i2 = 12u;
-  w2c_i1 <<= (w2c_i2 & 31);
-  w2c_i2 = w2c_l15;
-  w2c_i3 = 18u;
-  w2c_i2 <<= (w2c_i3 & 31);
-  w2c_i3 = 1835008u;
-  w2c_i2 &= w2c_i3;
-  w2c_i1 |= w2c_i2;
-  w2c_i0 |= w2c_i1;
-  w2c_j1 = w2c_p3;
-  w2c_i1 = (u32)(w2c_j1);
-  w2c_i1 = i32_load8_u(m, (u64)(w2c_i1) + 3u);
-  w2c_i2 = 63u;
-  w2c_i1 &= w2c_i2;
-  w2c_i0 |= w2c_i1;
-  w2c_l20 = w2c_i0;
-  w2c_j0 = 4ull;
-  w2c_l7 = w2c_j0;
-  w2c_B142:;
-  w2c_j0 = w2c_p4;
-  w2c_j1 = w2c_l7;
-  w2c_i0 = w2c_j0 == w2c_j1;
-  if (w2c_i0) {goto w2c_B144;}
-  w2c_i0 = w2c_l20;
-  w2c_i1 = 19968u;
-  w2c_i0 = w2c_i0 != w2c_i1;
-  if (w2c_i0) {goto w2c_B144;}
-  w2c_j0 = w2c_p3;
-  w2c_j1 = w2c_l7;
-  w2c_j0 += w2c_j1;
-  w2c_l10 = w2c_j0;
-  w2c_i0 = (u32)(w2c_j0);
-  w2c_i0 = i32_load8_s(m, (u64)(w2c_i0));
-  w2c_l20 = w2c_i0;
-  w2c_i1 = 4294967295u;
-  w2c_i0 = (u32)((s32)w2c_i0 > (s32)w2c_i1);
-  if (w2c_i0) {goto w2c_B144;}
-  w2c_i0 = w2c_l20;
-  w2c_i1 = 4294967264u;
-  w2c_i0 = w2c_i0 < w2c_i1;
-  if (w2c_i0) {goto w2c_B144;}
-  w2c_i0 = w2c_l20;
-  w2c_i1 = 255u;
-  w2c_i0 &= w2c_i1;
-  w2c_l21 = w2c_i0;
-  w2c_j0 = w2c_l10;
-  w2c_i0 = (u32)(w2c_j0);
-  w2c_i0 = i32_load8_u(m, (u64)(w2c_i0) + 1u);
-  w2c_i1 = 63u;
-  w2c_i0 &= w2c_i1;
-  w2c_l22 = w2c_i0;
-  w2c_j0 = w2c_l10;
-  w2c_i0 = (u32)(w2c_j0);
-  w2c_i0 = i32_load8_u(m, (u64)(w2c_i0) + 2u);
-  w2c_i1 = 63u;
-  w2c_i0 &= w2c_i1;
-  w2c_l23 = w2c_i0;
-  w2c_i0 = w2c_l20;
   w2c_i1 = 4294967280u;
   w2c_i0 = w2c_i0 < w2c_i1;
-  if (w2c_i0) {goto w2c_B146;}
-  w2c_i0 = w2c_l23;
-  w2c_i1 = 6u;
-  w2c_i0 <<= (w2c_i1 & 31);
-  w2c_i1 = w2c_l22;
-  w2c_i2 = 12u;
-  w2c_i1 <<= (w2c_i2 & 31);
-  w2c_i2 = w2c_l21;
-  w2c_i3 = 18u;
-  w2c_i2 <<= (w2c_i3 & 31);
-  w2c_i3 = 1835008u;
-  w2c_i2 &= w2c_i3;
-  w2c_i1 |= w2c_i2;
-  w2c_i0 |= w2c_i1;
-  w2c_j1 = w2c_l10;
-  w2c_i1 = (u32)(w2c_j1);
-  w2c_i1 = i32_load8_u(m, (u64)(w2c_i1) + 3u);
-  w2c_i2 = 63u;
-  w2c_i1 &= w2c_i2;
-  w2c_i0 |= w2c_i1;
-  w2c_l20 = w2c_i0;
-  w2c_j0 = 4ull;
-  w2c_l9 = w2c_j0;
-  goto w2c_B145;
-  w2c_B146:;
-  w2c_i0 = w2c_l22;
-  w2c_i1 = 6u;
-  w2c_i0 <<= (w2c_i1 & 31);
-  w2c_i1 = w2c_l21;
-  w2c_i2 = 12u;
-  w2c_i1 <<= (w2c_i2 & 31);
-  w2c_i2 = 61440u;
-  w2c_i1 &= w2c_i2;
-  w2c_i0 |= w2c_i1;
-  w2c_i1 = w2c_l23;
-  w2c_i0 |= w2c_i1;
-  w2c_l20 = w2c_i0;
-  w2c_j0 = 3ull;
-  w2c_l9 = w2c_j0;
-  w2c_B145:;
-  w2c_i0 = w2c_l20;
-  w2c_i1 = 21315u;
-  w2c_i0 = w2c_i0 != w2c_i1;
-  if (w2c_i0) {goto w2c_B144;}
-  w2c_j0 = w2c_p4;
-  w2c_j1 = w2c_l9;
-  w2c_j2 = w2c_l7;
-  w2c_j1 += w2c_j2;
-  w2c_l7 = w2c_j1;
-  w2c_i0 = w2c_j0 == w2c_j1;
-  if (w2c_i0) {goto w2c_B144;}
-  w2c_j0 = w2c_l10;
-  w2c_j1 = w2c_l9;
-  w2c_j0 += w2c_j1;
-  w2c_l10 = w2c_j0;
-  w2c_i0 = (u32)(w2c_j0);
-  w2c_i0 = i32_load8_s(m, (u64)(w2c_i0));
-  w2c_l20 = w2c_i0;
-  w2c_i1 = 4294967295u;
-  w2c_i0 = (u32)((s32)w2c_i0 > (s32)w2c_i1);
-  if (w2c_i0) {goto w2c_B144;}
-  w2c_i0 = w2c_l20;
-  w2c_i1 = 4294967264u;
-  w2c_i0 = w2c_i0 < w2c_i1;
-  if (w2c_i0) {goto w2c_B144;}
-  w2c_i0 = w2c_l20;
-  w2c_i1 = 255u;
-  w2c_i0 &= w2c_i1;
-  w2c_l21 = w2c_i0;
-  w2c_j0 = w2c_l10;
-  w2c_i0 = (u32)(w2c_j0);
-  w2c_i0 = i32_load8_u(m, (u64)(w2c_i0) + 1u);
-  w2c_i1 = 63u;
-  w2c_i0 &= w2c_i1;
-  w2c_l22 = w2c_i0;
-  w2c_j0 = w2c_l10;
-  w2c_i0 = (u32)(w2c_j0);
-  w2c_i0 = i32_load8_u(m, (u64)(w2c_i0) + 2u);
-  w2c_i1 = 63u;
-  w2c_i0 &= w2c_i1;
-  w2c_l23 = w2c_i0;
-  w2c_i0 = w2c_l20;
-  w2c_i1 = 4294967280u;
-  w2c_i0 = w2c_i0 < w2c_i1;
-  if (w2c_i0) {goto w2c_B148;}
-  w2c_i0 = w2c_l23;
-  w2c_i1 = 6u;
-  w2c_i0 <<= (w2c_i1 & 31);
-  w2c_i1 = w2c_l22;
-  w2c_i2 = 12u;
-  w2c_i1 <<= (w2c_i2 & 31);
-  w2c_i2 = w2c_l21;
-  w2c_i3 = 18u;
-  w2c_i2 <<= (w2c_i3 & 31);
-  w2c_i3 = 1835008u;
-  w2c_i2 &= w2c_i3;
-  w2c_i1 |= w2c_i2;
-  w2c_i0 |= w2c_i1;
-  w2c_j1 = w2c_l10;
-  w2c_i1 = (u32)(w2c_j1);
-  w2c_i1 = i32_load8_u(m, (u64)(w2c_i1) + 3u);
-  w2c_i2 = 63u;
-  w2c_i1 &= w2c_i2;
-  w2c_i0 |= w2c_i1;
-  w2c_l20 = w2c_i0;
-  w2c_j0 = 4ull;
-  w2c_l9 = w2c_j0;
-  goto w2c_B147;
-  w2c_B148:;
-  w2c_i0 = w2c_l22;
-  w2c_i1 = 6u;
-  w2c_i0 <<= (w2c_i1 & 31);
-  w2c_i1 = w2c_l21;
-  w2c_i2 = 12u;
-  w2c_i1 <<= (w2c_i2 & 31);
-  w2c_i2 = 61440u;
-  w2c_i1 &= w2c_i2;
-  w2c_i0 |= w2c_i1;
-  w2c_i1 = w2c_l23;
-  w2c_i0 |= w2c_i1;
-  w2c_l20 = w2c_i0;
-  w2c_j0 = 3ull;
-  w2c_l9 = w2c_j0;
-  w2c_B147:;
-  w2c_i0 = w2c_l20;
-  w2c_i1 = 38646u;
-  w2c_i0 = w2c_i0 != w2c_i1;
-  if (w2c_i0) {goto w2c_B144;}
-  w2c_j0 = w2c_p4;
-  w2c_j1 = w2c_l9;
-  w2c_j2 = w2c_l7;
-  w2c_j1 += w2c_j2;
-  w2c_l7 = w2c_j1;
-  w2c_i0 = w2c_j0 == w2c_j1;
-  if (w2c_i0) {goto w2c_B144;}
-  w2c_j0 = w2c_l10;
-  w2c_j1 = w2c_l9;
-  w2c_j0 += w2c_j1;
-  w2c_l10 = w2c_j0;
-  w2c_i0 = (u32)(w2c_j0);
-  w2c_i0 = i32_load8_s(m, (u64)(w2c_i0));
-  w2c_l20 = w2c_i0;
-  w2c_i1 = 4294967295u;
-  w2c_i0 = (u32)((s32)w2c_i0 > (s32)w2c_i1);
-  if (w2c_i0) {goto w2c_B144;}
-  w2c_i0 = w2c_l20;
-  w2c_i1 = 4294967264u;
-  w2c_i0 = w2c_i0 < w2c_i1;
-  if (w2c_i0) {goto w2c_B144;}
-  w2c_i0 = w2c_l20;
-  w2c_i1 = 255u;
-  w2c_i0 &= w2c_i1;
-  w2c_l21 = w2c_i0;
-  w2c_j0 = w2c_l10;
-  w2c_i0 = (u32)(w2c_j0);
-  w2c_i0 = i32_load8_u(m, (u64)(w2c_i0) + 1u);
-  w2c_i1 = 63u;
-  w2c_i0 &= w2c_i1;
-  w2c_l22 = w2c_i0;
-  w2c_j0 = w2c_l10;
-  w2c_i0 = (u32)(w2c_j0);
-  w2c_i0 = i32_load8_u(m, (u64)(w2c_i0) + 2u);
-  w2c_i1 = 63u;
-  w2c_i0 &= w2c_i1;
-  w2c_l23 = w2c_i0;
-  w2c_i0 = w2c_l20;
-  w2c_i1 = 4294967280u;
-  w2c_i0 = w2c_i0 < w2c_i1;
-  if (w2c_i0) {goto w2c_B150;}
-  w2c_i0 = w2c_l23;
-  w2c_i1 = 6u;
-  w2c_i0 <<= (w2c_i1 & 31);
-  w2c_i1 = w2c_l22;
-  w2c_i2 = 12u;
-  w2c_i1 <<= (w2c_i2 & 31);
-  w2c_i2 = w2c_l21;
-  w2c_i3 = 18u;
-  w2c_i2 <<= (w2c_i3 & 31);
-  w2c_i3 = 1835008u;
-  w2c_i2 &= w2c_i3;
-  w2c_i1 |= w2c_i2;
-  w2c_i0 |= w2c_i1;
-  w2c_j1 = w2c_l10;
-  w2c_i1 = (u32)(w2c_j1);
-  w2c_i1 = i32_load8_u(m, (u64)(w2c_i1) + 3u);
-  w2c_i2 = 63u;
-  w2c_i1 &= w2c_i2;
-  w2c_i0 |= w2c_i1;
-  w2c_l20 = w2c_i0;
-  w2c_j0 = 4ull;
-  w2c_l10 = w2c_j0;
-  goto w2c_B149;
-  w2c_B150:;
-  w2c_i0 = w2c_l22;
-  w2c_i1 = 6u;
-  w2c_i0 <<= (w2c_i1 & 31);
-  w2c_i1 = w2c_l21;
-  w2c_i2 = 12u;
-  w2c_i1 <<= (w2c_i2 & 31);
-  w2c_i2 = 61440u;
-  w2c_i1 &= w2c_i2;
-  w2c_i0 |= w2c_i1;
-  w2c_i1 = w2c_l23;
-  w2c_i0 |= w2c_i1;
-  w2c_l20 = w2c_i0;
-  w2c_j0 = 3ull;
-  w2c_l10 = w2c_j0;
-  w2c_B149:;
-  w2c_i0 = w2c_l20;
-  w2c_i1 = 19968u;
-  w2c_i0 = w2c_i0 != w2c_i1;
-  if (w2c_i0) {goto w2c_B144;}
-  w2c_i0 = w2c_l12;
-  if (w2c_i0) {goto w2c_B144;}
-  w2c_j0 = w2c_p4;
-  w2c_j1 = w2c_l10;
-  w2c_j2 = w2c_l7;
-  w2c_j1 += w2c_j2;
-  w2c_i0 = w2c_j0 != w2c_j1;
-  if (w2c_i0) {goto w2c_B144;}
-  w2c_j0 = w2c_p5;
-  w2c_i0 = (u32)(w2c_j0);
-  w2c_i0 = i32_load8_s(m, (u64)(w2c_i0));
-  w2c_l20 = w2c_i0;
-  w2c_i1 = 4294967295u;
-  w2c_i0 = (u32)((s32)w2c_i0 > (s32)w2c_i1);
-  if (w2c_i0) {goto w2c_B144;}
-  w2c_i0 = w2c_l20;
-  w2c_i1 = 4294967264u;
-  w2c_i0 = w2c_i0 < w2c_i1;
-  if (w2c_i0) {goto w2c_B144;}
-  w2c_i0 = w2c_l20;
-  w2c_i1 = 255u;
-  w2c_i0 &= w2c_i1;
-  w2c_l21 = w2c_i0;
-  w2c_j0 = w2c_p5;
-  w2c_i0 = (u32)(w2c_j0);
-  w2c_i0 = i32_load8_u(m, (u64)(w2c_i0) + 1u);
-  w2c_i1 = 63u;
-  w2c_i0 &= w2c_i1;
-  w2c_l22 = w2c_i0;
-  w2c_j0 = w2c_p5;
-  w2c_i0 = (u32)(w2c_j0);
-  w2c_i0 = i32_load8_u(m, (u64)(w2c_i0) + 2u);
-  w2c_i1 = 63u;
-  w2c_i0 &= w2c_i1;
-  w2c_l23 = w2c_i0;
-  w2c_i0 = w2c_l20;
-  w2c_i1 = 4294967279u;
-  w2c_i0 = w2c_i0 > w2c_i1;
-  if (w2c_i0) {goto w2c_B152;}
-  w2c_i0 = w2c_l22;
-  w2c_i1 = 6u;
-  w2c_i0 <<= (w2c_i1 & 31);
-  w2c_i1 = w2c_l21;
-  w2c_i2 = 12u;
-  w2c_i1 <<= (w2c_i2 & 31);
-  w2c_i2 = 61440u;
-  w2c_i1 &= w2c_i2;
-  w2c_i0 |= w2c_i1;
-  w2c_i1 = w2c_l23;
-  w2c_i0 |= w2c_i1;
-  w2c_l20 = w2c_i0;
-  goto w2c_B151;
-  w2c_B152:;
-  w2c_i0 = w2c_l23;
-  w2c_i1 = 6u;
-  w2c_i0 <<= (w2c_i1 & 31);
-  w2c_i1 = w2c_l22;
-  w2c_i2 = 12u;
-  w2c_i1 <<= (w2c_i2 & 31);
-  w2c_i2 = w2c_l21;
-  w2c_i3 = 18u;
-  w2c_i2 <<= (w2c_i3 & 31);
-  w2c_i3 = 1835008u;
-  w2c_i2 &= w2c_i3;
-  w2c_i1 |= w2c_i2;
-  w2c_i0 |= w2c_i1;
-  w2c_j1 = w2c_p5;
-  w2c_i1 = (u32)(w2c_j1);
-  w2c_i1 = i32_load8_u(m, (u64)(w2c_i1) + 3u);
-  w2c_i2 = 63u;
-  w2c_i1 &= w2c_i2;
-  w2c_i0 |= w2c_i1;
-  w2c_l20 = w2c_i0;
-  w2c_B151:;
-  w2c_i0 = w2c_l20;
-  w2c_i1 = 22812u;
-  w2c_i0 = w2c_i0 != w2c_i1;
-  if (w2c_i0) {goto w2c_B144;}
-  w2c_i0 = 1u;
-  w2c_l14 = w2c_i0;
-  goto w2c_B0;
-  w2c_B144:;
-  w2c_i0 = w2c_l14;
-  w2c_i1 = 4294967279u;
-  w2c_i0 = w2c_i0 > w2c_i1;
-  if (w2c_i0) {goto w2c_B154;}
-  w2c_i0 = w2c_l16;
-  w2c_i1 = 6u;
-  w2c_i0 <<= (w2c_i1 & 31);
-  w2c_i1 = w2c_l15;
-  w2c_i2 = 12u;
-  w2c_i1 <<= (w2c_i2 & 31);
-  w2c_i2 = 61440u;
-  w2c_i1 &= w2c_i2;
-  w2c_i0 |= w2c_i1;
-  w2c_i1 = w2c_l19;
-  w2c_i0 |= w2c_i1;
-  w2c_l19 = w2c_i0;
-  w2c_j0 = 3ull;
-  w2c_l7 = w2c_j0;
-  goto w2c_B153;
-  w2c_B154:;
-  w2c_i0 = w2c_l19;
-  w2c_i1 = 6u;
-  w2c_i0 <<= (w2c_i1 & 31);
-  w2c_i1 = w2c_l16;
-  w2c_i2 = 12u;
-  w2c_i1 <<= (w2c_i2 & 31);
-  w2c_i2 = w2c_l15;
-  w2c_i3 = 18u;
-  w2c_i2 <<= (w2c_i3 & 31);
-  w2c_i3 = 1835008u;
-  w2c_i2 &= w2c_i3;
-  w2c_i1 |= w2c_i2;
-  w2c_i0 |= w2c_i1;
-  w2c_j1 = w2c_p3;
-  w2c_i1 = (u32)(w2c_j1);
-  w2c_i1 = i32_load8_u(m, (u64)(w2c_i1) + 3u);
-  w2c_i2 = 63u;
-  w2c_i1 &= w2c_i2;
-  w2c_i0 |= w2c_i1;
-  w2c_l19 = w2c_i0;
-  w2c_j0 = 4ull;
-  w2c_l7 = w2c_j0;
-  w2c_B153:;
-  w2c_j0 = w2c_p4;
-  w2c_j1 = w2c_l7;
-  w2c_i0 = w2c_j0 == w2c_j1;
-  if (w2c_i0) {goto w2c_B155;}
-  w2c_i0 = w2c_l19;
-  w2c_i1 = 20108u;
-  w2c_i0 = w2c_i0 != w2c_i1;
-  if (w2c_i0) {goto w2c_B155;}
-  w2c_j0 = w2c_p3;
-  w2c_j1 = w2c_l7;
-  w2c_j0 += w2c_j1;
-  w2c_l10 = w2c_j0;
-  w2c_i0 = (u32)(w2c_j0);
-  w2c_i0 = i32_load8_s(m, (u64)(w2c_i0));
-  w2c_l19 = w2c_i0;
-  w2c_i1 = 4294967295u;
-  w2c_i0 = (u32)((s32)w2c_i0 > (s32)w2c_i1);
-  if (w2c_i0) {goto w2c_B155;}
-  w2c_i0 = w2c_l19;
-  w2c_i1 = 4294967264u;
-  w2c_i0 = w2c_i0 < w2c_i1;
-  if (w2c_i0) {goto w2c_B155;}
-  w2c_i0 = w2c_l19;
-  w2c_i1 = 255u;
-  w2c_i0 &= w2c_i1;
-  w2c_l20 = w2c_i0;
-  w2c_j0 = w2c_l10;
-  w2c_i0 = (u32)(w2c_j0);
-  w2c_i0 = i32_load8_u(m, (u64)(w2c_i0) + 1u);
-  w2c_i1 = 63u;
-  w2c_i0 &= w2c_i1;
-  w2c_l21 = w2c_i0;
-  w2c_j0 = w2c_l10;
-  w2c_i0 = (u32)(w2c_j0);
-  w2c_i0 = i32_load8_u(m, (u64)(w2c_i0) + 2u);
-  w2c_i1 = 63u;
-  w2c_i0 &= w2c_i1;
-  w2c_l22 = w2c_i0;
-  w2c_i0 = w2c_l19;
-  w2c_i1 = 4294967280u;
-  w2c_i0 = w2c_i0 < w2c_i1;
-  if (w2c_i0) {goto w2c_B157;}
-  w2c_i0 = w2c_l22;
-  w2c_i1 = 6u;
-  w2c_i0 <<= (w2c_i1 & 31);
-  w2c_i1 = w2c_l21;
-  w2c_i2 = 12u;
-  w2c_i1 <<= (w2c_i2 & 31);
-  w2c_i2 = w2c_l20;
-  w2c_i3 = 18u;
-  w2c_i2 <<= (w2c_i3 & 31);
-  w2c_i3 = 1835008u;
-  w2c_i2 &= w2c_i3;
-  w2c_i1 |= w2c_i2;
-  w2c_i0 |= w2c_i1;
-  w2c_j1 = w2c_l10;
-  w2c_i1 = (u32)(w2c_j1);
-  w2c_i1 = i32_load8_u(m, (u64)(w2c_i1) + 3u);
-  w2c_i2 = 63u;
-  w2c_i1 &= w2c_i2;
-  w2c_i0 |= w2c_i1;
-  w2c_l19 = w2c_i0;
-  w2c_j0 = 4ull;
-  w2c_l10 = w2c_j0;
-  goto w2c_B156;
-  w2c_B157:;
+  if (w2c_i0) {goto w2c_B107;}
   w2c_i0 = w2c_l21;
   w2c_i1 = 6u;
   w2c_i0 <<= (w2c_i1 & 31);
   w2c_i1 = w2c_l20;
   w2c_i2 = 12u;
   w2c_i1 <<= (w2c_i2 & 31);
+  w2c_i2 = w2c_l13;
+  w2c_i3 = 18u;
+  w2c_i2 <<= (w2c_i3 & 31);
+  w2c_i3 = 1835008u;
+  w2c_i2 &= w2c_i3;
+  w2c_i1 |= w2c_i2;
+  w2c_i0 |= w2c_i1;
+  w2c_j1 = w2c_l10;
+  w2c_i1 = (u32)(w2c_j1);
+  w2c_i1 = i32_load8_u(m, (u64)(w2c_i1) + 3u);
+  w2c_i2 = 63u;
+  w2c_i1 &= w2c_i2;
+  w2c_i0 |= w2c_i1;
+  w2c_l14 = w2c_i0;
+  w2c_j0 = 4ull;
+  w2c_l9 = w2c_j0;
+  goto w2c_B106;
+  w2c_B107:;
+  w2c_i0 = w2c_l20;
+  w2c_i1 = 6u;
+  w2c_i0 <<= (w2c_i1 & 31);
+  w2c_i1 = w2c_l13;
+  w2c_i2 = 12u;
+  w2c_i1 <<= (w2c_i2 & 31);
   w2c_i2 = 61440u;
   w2c_i1 &= w2c_i2;
   w2c_i0 |= w2c_i1;
-  w2c_i1 = w2c_l22;
+  w2c_i1 = w2c_l21;
   w2c_i0 |= w2c_i1;
-  w2c_l19 = w2c_i0;
+  w2c_l14 = w2c_i0;
+  w2c_j0 = 3ull;
+  w2c_l9 = w2c_j0;
+  w2c_B106:;
+  w2c_i0 = w2c_l14;
+  w2c_i1 = 21313u;
+  w2c_i0 = w2c_i0 != w2c_i1;
+  if (w2c_i0) {goto w2c_B105;}
+  w2c_j0 = w2c_p4;
+  w2c_j1 = w2c_l9;
+  w2c_j2 = w2c_l7;
+  w2c_j1 += w2c_j2;
+  w2c_l7 = w2c_j1;
+  w2c_i0 = w2c_j0 == w2c_j1;
+  if (w2c_i0) {goto w2c_B105;}
+  w2c_j0 = w2c_l10;
+  w2c_j1 = w2c_l9;
+  w2c_j0 += w2c_j1;
+  w2c_l10 = w2c_j0;
+  w2c_i0 = (u32)(w2c_j0);
+  w2c_i0 = i32_load8_s(m, (u64)(w2c_i0));
+  w2c_l14 = w2c_i0;
+  w2c_i1 = 4294967295u;
+  w2c_i0 = (u32)((s32)w2c_i0 > (s32)w2c_i1);
+  if (w2c_i0) {goto w2c_B105;}
+  w2c_i0 = w2c_l14;
+  w2c_i1 = 4294967264u;
+  w2c_i0 = w2c_i0 < w2c_i1;
+  if (w2c_i0) {goto w2c_B105;}
+  w2c_i0 = w2c_l14;
+  w2c_i1 = 255u;
+  w2c_i0 &= w2c_i1;
+  w2c_l13 = w2c_i0;
+  w2c_j0 = w2c_l10;
+  w2c_i0 = (u32)(w2c_j0);
+  w2c_i0 = i32_load8_u(m, (u64)(w2c_i0) + 1u);
+  w2c_i1 = 63u;
+  w2c_i0 &= w2c_i1;
+  w2c_l20 = w2c_i0;
+  w2c_j0 = w2c_l10;
+  w2c_i0 = (u32)(w2c_j0);
+  w2c_i0 = i32_load8_u(m, (u64)(w2c_i0) + 2u);
+  w2c_i1 = 63u;
+  w2c_i0 &= w2c_i1;
+  w2c_l21 = w2c_i0;
+  w2c_i0 = w2c_l14;
+  w2c_i1 = 4294967280u;
+  w2c_i0 = w2c_i0 < w2c_i1;
+  if (w2c_i0) {goto w2c_B109;}
+  w2c_i0 = w2c_l21;
+  w2c_i1 = 6u;
+  w2c_i0 <<= (w2c_i1 & 31);
+  w2c_i1 = w2c_l20;
+  w2c_i2 = 12u;
+  w2c_i1 <<= (w2c_i2 & 31);
+  w2c_i2 = w2c_l13;
+  w2c_i3 = 18u;
+  w2c_i2 <<= (w2c_i3 & 31);
+  w2c_i3 = 1835008u;
+  w2c_i2 &= w2c_i3;
+  w2c_i1 |= w2c_i2;
+  w2c_i0 |= w2c_i1;
+  w2c_j1 = w2c_l10;
+  w2c_i1 = (u32)(w2c_j1);
+  w2c_i1 = i32_load8_u(m, (u64)(w2c_i1) + 3u);
+  w2c_i2 = 63u;
+  w2c_i1 &= w2c_i2;
+  w2c_i0 |= w2c_i1;
+  w2c_l14 = w2c_i0;
+  w2c_j0 = 4ull;
+  w2c_l10 = w2c_j0;
+  goto w2c_B108;
+  w2c_B109:;
+  w2c_i0 = w2c_l20;
+  w2c_i1 = 6u;
+  w2c_i0 <<= (w2c_i1 & 31);
+  w2c_i1 = w2c_l13;
+  w2c_i2 = 12u;
+  w2c_i1 <<= (w2c_i2 & 31);
+  w2c_i2 = 61440u;
+  w2c_i1 &= w2c_i2;
+  w2c_i0 |= w2c_i1;
+  w2c_i1 = w2c_l21;
+  w2c_i0 |= w2c_i1;
+  w2c_l14 = w2c_i0;
   w2c_j0 = 3ull;
   w2c_l10 = w2c_j0;
-  w2c_B156:;
-  w2c_i0 = w2c_l19;
-  w2c_i1 = 20843u;
+  w2c_B108:;
+  w2c_i0 = w2c_l14;
+  w2c_i1 = 20108u;
   w2c_i0 = w2c_i0 != w2c_i1;
-  if (w2c_i0) {goto w2c_B155;}
+  if (w2c_i0) {goto w2c_B105;}
+  w2c_i0 = w2c_l12;
+  if (w2c_i0) {goto w2c_B105;}
   w2c_j0 = w2c_p4;
   w2c_j1 = w2c_l10;
   w2c_j2 = w2c_l7;
   w2c_j1 += w2c_j2;
   w2c_i0 = w2c_j0 != w2c_j1;
-  if (w2c_i0) {goto w2c_B155;}
-  w2c_j0 = 68516ull;
-  w2c_j1 = 1ull;
-  w2c_j2 = 68620ull;
-  w2c_j3 = 2ull;
-  w2c_j4 = w2c_p5;
-  w2c_j5 = w2c_p6;
-  w2c_i0 = w2c_f38(m, w2c_j0, w2c_j1, w2c_j2, w2c_j3, w2c_j4, w2c_j5);
-  w2c_i0 = !(w2c_i0);
-  if (w2c_i0) {goto w2c_B155;}
-  w2c_i0 = 1u;
+  if (w2c_i0) {goto w2c_B105;}
+  w2c_j0 = w2c_p5;
+  w2c_i0 = (u32)(w2c_j0);
+  w2c_i0 = i32_load8_s(m, (u64)(w2c_i0));
   w2c_l14 = w2c_i0;
-  goto w2c_B0;
-  w2c_B155:;
-  w2c_j0 = w2c_p3;
-  w2c_i0 = (u32)(w2c_j0);
-  w2c_i0 = i32_load8_u(m, (u64)(w2c_i0) + 2u);
-  w2c_i1 = 63u;
-  w2c_i0 &= w2c_i1;
-  w2c_l19 = w2c_i0;
+  w2c_i1 = 4294967295u;
+  w2c_i0 = (u32)((s32)w2c_i0 > (s32)w2c_i1);
+  if (w2c_i0) {goto w2c_B105;}
   w2c_i0 = w2c_l14;
-  w2c_i1 = 4294967279u;
-  w2c_i0 = w2c_i0 > w2c_i1;
-  if (w2c_i0) {goto w2c_B159;}
-  w2c_i0 = w2c_l16;
-  w2c_i1 = 6u;
-  w2c_i0 <<= (w2c_i1 & 31);
-  w2c_i1 = w2c_l15;
-  w2c_i2 = 12u;
-  w2c_i1 <<= (w2c_i2 & 31);
-  w2c_i2 = 61440u;
-  w2c_i1 &= w2c_i2;
-  w2c_i0 |= w2c_i1;
-  w2c_i1 = w2c_l19;
-  w2c_i0 |= w2c_i1;
-  w2c_l20 = w2c_i0;
-  w2c_j0 = 3ull;
-  w2c_l7 = w2c_j0;
-  goto w2c_B158;
-  w2c_B159:;
-  w2c_i0 = w2c_l19;
-  w2c_i1 = 6u;
-  w2c_i0 <<= (w2c_i1 & 31);
-  w2c_i1 = w2c_l16;
-  w2c_i2 = 12u;
-  w2c_i1 <<= (w2c_i2 & 31);
-  w2c_i2 = w2c_l15;
-  w2c_i3 = 18u;
-  w2c_i2 <<= (w2c_i3 & 31);
-  w2c_i3 = 1835008u;
-  w2c_i2 &= w2c_i3;
-  w2c_i1 |= w2c_i2;
-  w2c_i0 |= w2c_i1;
-  w2c_j1 = w2c_p3;
-  w2c_i1 = (u32)(w2c_j1);
-  w2c_i1 = i32_load8_u(m, (u64)(w2c_i1) + 3u);
-  w2c_i2 = 63u;
-  w2c_i1 &= w2c_i2;
-  w2c_i0 |= w2c_i1;
-  w2c_l20 = w2c_i0;
-  w2c_j0 = 4ull;
-  w2c_l7 = w2c_j0;
-  w2c_B158:;
-  w2c_j0 = w2c_p4;
-  w2c_j1 = w2c_l7;
-  w2c_i0 = w2c_j0 == w2c_j1;
-  if (w2c_i0) {goto w2c_B162;}
-  w2c_i0 = w2c_l20;
-  w2c_i1 = 21313u;
-  w2c_i0 = w2c_i0 != w2c_i1;
-  if (w2c_i0) {goto w2c_B162;}
-  w2c_j0 = w2c_p3;
-  w2c_j1 = w2c_l7;
-  w2c_j0 += w2c_j1;
-  w2c_l10 = w2c_j0;
-  w2c_i0 = (u32)(w2c_j0);
-  w2c_i0 = i32_load8_s(m, (u64)(w2c_i0));
-  w2c_l20 = w2c_i0;
-  w2c_i1 = 4294967295u;
-  w2c_i0 = (u32)((s32)w2c_i0 > (s32)w2c_i1);
-  if (w2c_i0) {goto w2c_B162;}
-  w2c_i0 = w2c_l20;
   w2c_i1 = 4294967264u;
   w2c_i0 = w2c_i0 < w2c_i1;
-  if (w2c_i0) {goto w2c_B162;}
-  w2c_i0 = w2c_l20;
-  w2c_i1 = 255u;
-  w2c_i0 &= w2c_i1;
-  w2c_l21 = w2c_i0;
-  w2c_j0 = w2c_l10;
-  w2c_i0 = (u32)(w2c_j0);
-  w2c_i0 = i32_load8_u(m, (u64)(w2c_i0) + 1u);
-  w2c_i1 = 63u;
-  w2c_i0 &= w2c_i1;
-  w2c_l22 = w2c_i0;
-  w2c_j0 = w2c_l10;
-  w2c_i0 = (u32)(w2c_j0);
-  w2c_i0 = i32_load8_u(m, (u64)(w2c_i0) + 2u);
-  w2c_i1 = 63u;
-  w2c_i0 &= w2c_i1;
-  w2c_l23 = w2c_i0;
-  w2c_i0 = w2c_l20;
-  w2c_i1 = 4294967280u;
-  w2c_i0 = w2c_i0 < w2c_i1;
-  if (w2c_i0) {goto w2c_B164;}
-  w2c_i0 = w2c_l23;
-  w2c_i1 = 6u;
-  w2c_i0 <<= (w2c_i1 & 31);
-  w2c_i1 = w2c_l22;
-  w2c_i2 = 12u;
-  w2c_i1 <<= (w2c_i2 & 31);
-  w2c_i2 = w2c_l21;
-  w2c_i3 = 18u;
-  w2c_i2 <<= (w2c_i3 & 31);
-  w2c_i3 = 1835008u;
-  w2c_i2 &= w2c_i3;
-  w2c_i1 |= w2c_i2;
-  w2c_i0 |= w2c_i1;
-  w2c_j1 = w2c_l10;
-  w2c_i1 = (u32)(w2c_j1);
-  w2c_i1 = i32_load8_u(m, (u64)(w2c_i1) + 3u);
-  w2c_i2 = 63u;
-  w2c_i1 &= w2c_i2;
-  w2c_i0 |= w2c_i1;
-  w2c_l20 = w2c_i0;
-  w2c_j0 = 4ull;
-  w2c_l10 = w2c_j0;
-  goto w2c_B163;
-  w2c_B164:;
-  w2c_i0 = w2c_l22;
-  w2c_i1 = 6u;
-  w2c_i0 <<= (w2c_i1 & 31);
-  w2c_i1 = w2c_l21;
-  w2c_i2 = 12u;
-  w2c_i1 <<= (w2c_i2 & 31);
-  w2c_i2 = 61440u;
-  w2c_i1 &= w2c_i2;
-  w2c_i0 |= w2c_i1;
-  w2c_i1 = w2c_l23;
-  w2c_i0 |= w2c_i1;
-  w2c_l20 = w2c_i0;
-  w2c_j0 = 3ull;
-  w2c_l10 = w2c_j0;
-  w2c_B163:;
-  w2c_i0 = w2c_l20;
-  w2c_i1 = 19975u;
-  w2c_i0 = w2c_i0 != w2c_i1;
-  if (w2c_i0) {goto w2c_B162;}
-  w2c_j0 = w2c_p4;
-  w2c_j1 = w2c_l10;
-  w2c_j2 = w2c_l7;
-  w2c_j1 += w2c_j2;
-  w2c_i0 = w2c_j0 == w2c_j1;
-  if (w2c_i0) {goto w2c_B161;}
-  w2c_B162:;
+  if (w2c_i0) {goto w2c_B105;}
   w2c_i0 = w2c_l14;
-  w2c_i1 = 4294967279u;
-  w2c_i0 = w2c_i0 > w2c_i1;
-  if (w2c_i0) {goto w2c_B166;}
-  w2c_i0 = w2c_l16;
-  w2c_i1 = 6u;
-  w2c_i0 <<= (w2c_i1 & 31);
-  w2c_i1 = w2c_l15;
-  w2c_i2 = 12u;
-  w2c_i1 <<= (w2c_i2 & 31);
-  w2c_i2 = 61440u;
-  w2c_i1 &= w2c_i2;
-  w2c_i0 |= w2c_i1;
-  w2c_i1 = w2c_l19;
-  w2c_i0 |= w2c_i1;
-  w2c_l20 = w2c_i0;
-  w2c_j0 = 3ull;
-  w2c_l7 = w2c_j0;
-  goto w2c_B165;
-  w2c_B166:;
-  w2c_i0 = w2c_l19;
-  w2c_i1 = 6u;
-  w2c_i0 <<= (w2c_i1 & 31);
-  w2c_i1 = w2c_l16;
-  w2c_i2 = 12u;
-  w2c_i1 <<= (w2c_i2 & 31);
-  w2c_i2 = w2c_l15;
-  w2c_i3 = 18u;
-  w2c_i2 <<= (w2c_i3 & 31);
-  w2c_i3 = 1835008u;
-  w2c_i2 &= w2c_i3;
-  w2c_i1 |= w2c_i2;
-  w2c_i0 |= w2c_i1;
-  w2c_j1 = w2c_p3;
-  w2c_i1 = (u32)(w2c_j1);
-  w2c_i1 = i32_load8_u(m, (u64)(w2c_i1) + 3u);
-  w2c_i2 = 63u;
-  w2c_i1 &= w2c_i2;
-  w2c_i0 |= w2c_i1;
-  w2c_l20 = w2c_i0;
-  w2c_j0 = 4ull;
-  w2c_l7 = w2c_j0;
-  w2c_B165:;
-  w2c_j0 = w2c_p4;
-  w2c_j1 = w2c_l7;
-  w2c_i0 = w2c_j0 == w2c_j1;
-  if (w2c_i0) {goto w2c_B160;}
-  w2c_i0 = w2c_l20;
-  w2c_i1 = 21313u;
-  w2c_i0 = w2c_i0 != w2c_i1;
-  if (w2c_i0) {goto w2c_B160;}
-  w2c_j0 = w2c_p3;
-  w2c_j1 = w2c_l7;
-  w2c_j0 += w2c_j1;
-  w2c_l10 = w2c_j0;
-  w2c_i0 = (u32)(w2c_j0);
-  w2c_i0 = i32_load8_s(m, (u64)(w2c_i0));
-  w2c_l20 = w2c_i0;
-  w2c_i1 = 4294967295u;
-  w2c_i0 = (u32)((s32)w2c_i0 > (s32)w2c_i1);
-  if (w2c_i0) {goto w2c_B160;}
-  w2c_i0 = w2c_l20;
-  w2c_i1 = 4294967264u;
-  w2c_i0 = w2c_i0 < w2c_i1;
-  if (w2c_i0) {goto w2c_B160;}
-  w2c_i0 = w2c_l20;
   w2c_i1 = 255u;
   w2c_i0 &= w2c_i1;
-  w2c_l21 = w2c_i0;
-  w2c_j0 = w2c_l10;
-  w2c_i0 = (u32)(w2c_j0);
-  w2c_i0 = i32_load8_u(m, (u64)(w2c_i0) + 1u);
-  w2c_i1 = 63u;
-  w2c_i0 &= w2c_i1;
-  w2c_l22 = w2c_i0;
-  w2c_j0 = w2c_l10;
-  w2c_i0 = (u32)(w2c_j0);
-  w2c_i0 = i32_load8_u(m, (u64)(w2c_i0) + 2u);
-  w2c_i1 = 63u;
-  w2c_i0 &= w2c_i1;
-  w2c_l23 = w2c_i0;
-  w2c_i0 = w2c_l20;
-  w2c_i1 = 4294967280u;
-  w2c_i0 = w2c_i0 < w2c_i1;
-  if (w2c_i0) {goto w2c_B168;}
-  w2c_i0 = w2c_l23;
-  w2c_i1 = 6u;
-  w2c_i0 <<= (w2c_i1 & 31);
-  w2c_i1 = w2c_l22;
-  w2c_i2 = 12u;
-  w2c_i1 <<= (w2c_i2 & 31);
-  w2c_i2 = w2c_l21;
-  w2c_i3 = 18u;
-  w2c_i2 <<= (w2c_i3 & 31);
-  w2c_i3 = 1835008u;
-  w2c_i2 &= w2c_i3;
-  w2c_i1 |= w2c_i2;
-  w2c_i0 |= w2c_i1;
-  w2c_j1 = w2c_l10;
-  w2c_i1 = (u32)(w2c_j1);
-  w2c_i1 = i32_load8_u(m, (u64)(w2c_i1) + 3u);
-  w2c_i2 = 63u;
-  w2c_i1 &= w2c_i2;
-  w2c_i0 |= w2c_i1;
-  w2c_l20 = w2c_i0;
-  w2c_j0 = 4ull;
-  w2c_l10 = w2c_j0;
-  goto w2c_B167;
-  w2c_B168:;
-  w2c_i0 = w2c_l22;
-  w2c_i1 = 6u;
-  w2c_i0 <<= (w2c_i1 & 31);
-  w2c_i1 = w2c_l21;
-  w2c_i2 = 12u;
-  w2c_i1 <<= (w2c_i2 & 31);
-  w2c_i2 = 61440u;
-  w2c_i1 &= w2c_i2;
-  w2c_i0 |= w2c_i1;
-  w2c_i1 = w2c_l23;
-  w2c_i0 |= w2c_i1;
-  w2c_l20 = w2c_i0;
-  w2c_j0 = 3ull;
-  w2c_l10 = w2c_j0;
-  w2c_B167:;
-  w2c_i0 = w2c_l20;
-  w2c_i1 = 33836u;
-  w2c_i0 = w2c_i0 != w2c_i1;
-  if (w2c_i0) {goto w2c_B160;}
-  w2c_j0 = w2c_p4;
-  w2c_j1 = w2c_l10;
-  w2c_j2 = w2c_l7;
-  w2c_j1 += w2c_j2;
-  w2c_i0 = w2c_j0 != w2c_j1;
-  if (w2c_i0) {goto w2c_B160;}
-  w2c_B161:;
-  w2c_j0 = 68628ull;
-  w2c_j1 = 1ull;
-  w2c_j2 = 68632ull;
-  w2c_j3 = 1ull;
-  w2c_j4 = w2c_p5;
-  w2c_j5 = w2c_p6;
-  w2c_i0 = w2c_f38(m, w2c_j0, w2c_j1, w2c_j2, w2c_j3, w2c_j4, w2c_j5);
-  w2c_i0 = !(w2c_i0);
-  if (w2c_i0) {goto w2c_B160;}
-  w2c_i0 = 1u;
-  w2c_l14 = w2c_i0;
-  goto w2c_B0;
-  w2c_B160:;
-  w2c_i0 = w2c_l14;
-  w2c_i1 = 4294967279u;
-  w2c_i0 = w2c_i0 > w2c_i1;
-  if (w2c_i0) {goto w2c_B170;}
-  w2c_i0 = w2c_l16;
-  w2c_i1 = 6u;
-  w2c_i0 <<= (w2c_i1 & 31);
-  w2c_i1 = w2c_l15;
-  w2c_i2 = 12u;
-  w2c_i1 <<= (w2c_i2 & 31);
-  w2c_i2 = 61440u;
-  w2c_i1 &= w2c_i2;
-  w2c_i0 |= w2c_i1;
-  w2c_i1 = w2c_l19;
-  w2c_i0 |= w2c_i1;
-  w2c_l20 = w2c_i0;
-  w2c_j0 = 3ull;
-  w2c_l7 = w2c_j0;
-  goto w2c_B169;
-  w2c_B170:;
-  w2c_i0 = w2c_l19;
-  w2c_i1 = 6u;
-  w2c_i0 <<= (w2c_i1 & 31);
-  w2c_i1 = w2c_l16;
-  w2c_i2 = 12u;
-  w2c_i1 <<= (w2c_i2 & 31);
-  w2c_i2 = w2c_l15;
-  w2c_i3 = 18u;
-  w2c_i2 <<= (w2c_i3 & 31);
-  w2c_i3 = 1835008u;
-  w2c_i2 &= w2c_i3;
-  w2c_i1 |= w2c_i2;
-  w2c_i0 |= w2c_i1;
-  w2c_j1 = w2c_p3;
-  w2c_i1 = (u32)(w2c_j1);
-  w2c_i1 = i32_load8_u(m, (u64)(w2c_i1) + 3u);
-  w2c_i2 = 63u;
-  w2c_i1 &= w2c_i2;
-  w2c_i0 |= w2c_i1;
-  w2c_l20 = w2c_i0;
-  w2c_j0 = 4ull;
-  w2c_l7 = w2c_j0;
-  w2c_B169:;
-  w2c_j0 = w2c_p4;
-  w2c_j1 = w2c_l7;
-  w2c_i0 = w2c_j0 == w2c_j1;
-  if (w2c_i0) {goto w2c_B174;}
-  w2c_i0 = w2c_l20;
-  w2c_i1 = 21313u;
-  w2c_i0 = w2c_i0 != w2c_i1;
-  if (w2c_i0) {goto w2c_B174;}
-  w2c_j0 = w2c_p3;
-  w2c_j1 = w2c_l7;
-  w2c_j0 += w2c_j1;
-  w2c_l10 = w2c_j0;
-  w2c_i0 = (u32)(w2c_j0);
-  w2c_i0 = i32_load8_s(m, (u64)(w2c_i0));
-  w2c_l20 = w2c_i0;
-  w2c_i1 = 4294967295u;
-  w2c_i0 = (u32)((s32)w2c_i0 > (s32)w2c_i1);
-  if (w2c_i0) {goto w2c_B174;}
-  w2c_i0 = w2c_l20;
-  w2c_i1 = 4294967264u;
-  w2c_i0 = w2c_i0 < w2c_i1;
-  if (w2c_i0) {goto w2c_B174;}
-  w2c_i0 = w2c_l20;
-  w2c_i1 = 255u;
-  w2c_i0 &= w2c_i1;
-  w2c_l21 = w2c_i0;
-  w2c_j0 = w2c_l10;
-  w2c_i0 = (u32)(w2c_j0);
-  w2c_i0 = i32_load8_u(m, (u64)(w2c_i0) + 1u);
-  w2c_i1 = 63u;
-  w2c_i0 &= w2c_i1;
-  w2c_l22 = w2c_i0;
-  w2c_j0 = w2c_l10;
-  w2c_i0 = (u32)(w2c_j0);
-  w2c_i0 = i32_load8_u(m, (u64)(w2c_i0) + 2u);
-  w2c_i1 = 63u;
-  w2c_i0 &= w2c_i1;
-  w2c_l23 = w2c_i0;
-  w2c_i0 = w2c_l20;
-  w2c_i1 = 4294967280u;
-  w2c_i0 = w2c_i0 < w2c_i1;
-  if (w2c_i0) {goto w2c_B176;}
-  w2c_i0 = w2c_l23;
-  w2c_i1 = 6u;
-  w2c_i0 <<= (w2c_i1 & 31);
-  w2c_i1 = w2c_l22;
-  w2c_i2 = 12u;
-  w2c_i1 <<= (w2c_i2 & 31);
-  w2c_i2 = w2c_l21;
-  w2c_i3 = 18u;
-  w2c_i2 <<= (w2c_i3 & 31);
-  w2c_i3 = 1835008u;
-  w2c_i2 &= w2c_i3;
-  w2c_i1 |= w2c_i2;
-  w2c_i0 |= w2c_i1;
-  w2c_j1 = w2c_l10;
-  w2c_i1 = (u32)(w2c_j1);
-  w2c_i1 = i32_load8_u(m, (u64)(w2c_i1) + 3u);
-  w2c_i2 = 63u;
-  w2c_i1 &= w2c_i2;
-  w2c_i0 |= w2c_i1;
-  w2c_l20 = w2c_i0;
-  w2c_j0 = 4ull;
-  w2c_l9 = w2c_j0;
-  goto w2c_B175;
-  w2c_B176:;
-  w2c_i0 = w2c_l22;
-  w2c_i1 = 6u;
-  w2c_i0 <<= (w2c_i1 & 31);
-  w2c_i1 = w2c_l21;
-  w2c_i2 = 12u;
-  w2c_i1 <<= (w2c_i2 & 31);
-  w2c_i2 = 61440u;
-  w2c_i1 &= w2c_i2;
-  w2c_i0 |= w2c_i1;
-  w2c_i1 = w2c_l23;
-  w2c_i0 |= w2c_i1;
-  w2c_l20 = w2c_i0;
-  w2c_j0 = 3ull;
-  w2c_l9 = w2c_j0;
-  w2c_B175:;
-  w2c_i0 = w2c_l20;
-  w2c_i1 = 19975u;
-  w2c_i0 = w2c_i0 != w2c_i1;
-  if (w2c_i0) {goto w2c_B174;}
-  w2c_j0 = w2c_p4;
-  w2c_j1 = w2c_l9;
-  w2c_j2 = w2c_l7;
-  w2c_j1 += w2c_j2;
-  w2c_l7 = w2c_j1;
-  w2c_i0 = w2c_j0 == w2c_j1;
-  if (w2c_i0) {goto w2c_B174;}
-  w2c_j0 = w2c_l10;
-  w2c_j1 = w2c_l9;
-  w2c_j0 += w2c_j1;
-  w2c_l10 = w2c_j0;
-  w2c_i0 = (u32)(w2c_j0);
-  w2c_i0 = i32_load8_s(m, (u64)(w2c_i0));
-  w2c_l20 = w2c_i0;
-  w2c_i1 = 4294967295u;
-  w2c_i0 = (u32)((s32)w2c_i0 > (s32)w2c_i1);
-  if (w2c_i0) {goto w2c_B174;}
-  w2c_i0 = w2c_l20;
-  w2c_i1 = 4294967264u;
-  w2c_i0 = w2c_i0 < w2c_i1;
-  if (w2c_i0) {goto w2c_B174;}
-  w2c_i0 = w2c_l20;
-  w2c_i1 = 255u;
-  w2c_i0 &= w2c_i1;
-  w2c_l21 = w2c_i0;
-  w2c_j0 = w2c_l10;
-  w2c_i0 = (u32)(w2c_j0);
-  w2c_i0 = i32_load8_u(m, (u64)(w2c_i0) + 1u);
-  w2c_i1 = 63u;
-  w2c_i0 &= w2c_i1;
-  w2c_l22 = w2c_i0;
-  w2c_j0 = w2c_l10;
-  w2c_i0 = (u32)(w2c_j0);
-  w2c_i0 = i32_load8_u(m, (u64)(w2c_i0) + 2u);
-  w2c_i1 = 63u;
-  w2c_i0 &= w2c_i1;
-  w2c_l23 = w2c_i0;
-  w2c_i0 = w2c_l20;
-  w2c_i1 = 4294967280u;
-  w2c_i0 = w2c_i0 < w2c_i1;
-  if (w2c_i0) {goto w2c_B178;}
-  w2c_i0 = w2c_l23;
-  w2c_i1 = 6u;
-  w2c_i0 <<= (w2c_i1 & 31);
-  w2c_i1 = w2c_l22;
-  w2c_i2 = 12u;
-  w2c_i1 <<= (w2c_i2 & 31);
-  w2c_i2 = w2c_l21;
-  w2c_i3 = 18u;
-  w2c_i2 <<= (w2c_i3 & 31);
-  w2c_i3 = 1835008u;
-  w2c_i2 &= w2c_i3;
-  w2c_i1 |= w2c_i2;
-  w2c_i0 |= w2c_i1;
-  w2c_j1 = w2c_l10;
-  w2c_i1 = (u32)(w2c_j1);
-  w2c_i1 = i32_load8_u(m, (u64)(w2c_i1) + 3u);
-  w2c_i2 = 63u;
-  w2c_i1 &= w2c_i2;
-  w2c_i0 |= w2c_i1;
-  w2c_l20 = w2c_i0;
-  w2c_j0 = 4ull;
-  w2c_l9 = w2c_j0;
-  goto w2c_B177;
-  w2c_B178:;
-  w2c_i0 = w2c_l22;
-  w2c_i1 = 6u;
-  w2c_i0 <<= (w2c_i1 & 31);
-  w2c_i1 = w2c_l21;
-  w2c_i2 = 12u;
-  w2c_i1 <<= (w2c_i2 & 31);
-  w2c_i2 = 61440u;
-  w2c_i1 &= w2c_i2;
-  w2c_i0 |= w2c_i1;
-  w2c_i1 = w2c_l23;
-  w2c_i0 |= w2c_i1;
-  w2c_l20 = w2c_i0;
-  w2c_j0 = 3ull;
-  w2c_l9 = w2c_j0;
-  w2c_B177:;
-  w2c_i0 = w2c_l20;
-  w2c_i1 = 20843u;
-  w2c_i0 = w2c_i0 != w2c_i1;
-  if (w2c_i0) {goto w2c_B174;}
-  w2c_j0 = w2c_p4;
-  w2c_j1 = w2c_l9;
-  w2c_j2 = w2c_l7;
-  w2c_j1 += w2c_j2;
-  w2c_l7 = w2c_j1;
-  w2c_i0 = w2c_j0 == w2c_j1;
-  if (w2c_i0) {goto w2c_B174;}
-  w2c_j0 = w2c_l10;
-  w2c_j1 = w2c_l9;
-  w2c_j0 += w2c_j1;
-  w2c_l10 = w2c_j0;
-  w2c_i0 = (u32)(w2c_j0);
-  w2c_i0 = i32_load8_s(m, (u64)(w2c_i0));
-  w2c_l20 = w2c_i0;
-  w2c_i1 = 4294967295u;
-  w2c_i0 = (u32)((s32)w2c_i0 > (s32)w2c_i1);
-  if (w2c_i0) {goto w2c_B174;}
-  w2c_i0 = w2c_l20;
-  w2c_i1 = 4294967264u;
-  w2c_i0 = w2c_i0 < w2c_i1;
-  if (w2c_i0) {goto w2c_B174;}
-  w2c_i0 = w2c_l20;
-  w2c_i1 = 255u;
-  w2c_i0 &= w2c_i1;
-  w2c_l21 = w2c_i0;
-  w2c_j0 = w2c_l10;
-  w2c_i0 = (u32)(w2c_j0);
-  w2c_i0 = i32_load8_u(m, (u64)(w2c_i0) + 1u);
-  w2c_i1 = 63u;
-  w2c_i0 &= w2c_i1;
-  w2c_l22 = w2c_i0;
-  w2c_j0 = w2c_l10;
-  w2c_i0 = (u32)(w2c_j0);
-  w2c_i0 = i32_load8_u(m, (u64)(w2c_i0) + 2u);
-  w2c_i1 = 63u;
-  w2c_i0 &= w2c_i1;
-  w2c_l23 = w2c_i0;
-  w2c_i0 = w2c_l20;
-  w2c_i1 = 4294967280u;
-  w2c_i0 = w2c_i0 < w2c_i1;
-  if (w2c_i0) {goto w2c_B180;}
-  w2c_i0 = w2c_l23;
-  w2c_i1 = 6u;
-  w2c_i0 <<= (w2c_i1 & 31);
-  w2c_i1 = w2c_l22;
-  w2c_i2 = 12u;
-  w2c_i1 <<= (w2c_i2 & 31);
-  w2c_i2 = w2c_l21;
-  w2c_i3 = 18u;
-  w2c_i2 <<= (w2c_i3 & 31);
-  w2c_i3 = 1835008u;
-  w2c_i2 &= w2c_i3;
-  w2c_i1 |= w2c_i2;
-  w2c_i0 |= w2c_i1;
-  w2c_j1 = w2c_l10;
-  w2c_i1 = (u32)(w2c_j1);
-  w2c_i1 = i32_load8_u(m, (u64)(w2c_i1) + 3u);
-  w2c_i2 = 63u;
-  w2c_i1 &= w2c_i2;
-  w2c_i0 |= w2c_i1;
-  w2c_l20 = w2c_i0;
-  w2c_j0 = 4ull;
-  w2c_l10 = w2c_j0;
-  goto w2c_B179;
-  w2c_B180:;
-  w2c_i0 = w2c_l22;
-  w2c_i1 = 6u;
-  w2c_i0 <<= (w2c_i1 & 31);
-  w2c_i1 = w2c_l21;
-  w2c_i2 = 12u;
-  w2c_i1 <<= (w2c_i2 & 31);
-  w2c_i2 = 61440u;
-  w2c_i1 &= w2c_i2;
-  w2c_i0 |= w2c_i1;
-  w2c_i1 = w2c_l23;
-  w2c_i0 |= w2c_i1;
-  w2c_l20 = w2c_i0;
-  w2c_j0 = 3ull;
-  w2c_l10 = w2c_j0;
-  w2c_B179:;
-  w2c_i0 = w2c_l20;
-  w2c_i1 = 21315u;
-  w2c_i0 = w2c_i0 != w2c_i1;
-  if (w2c_i0) {goto w2c_B174;}
-  w2c_j0 = w2c_p4;
-  w2c_j1 = w2c_l10;
-  w2c_j2 = w2c_l7;
-  w2c_j1 += w2c_j2;
-  w2c_i0 = w2c_j0 == w2c_j1;
-  if (w2c_i0) {goto w2c_B173;}
-  w2c_B174:;
-  w2c_i0 = w2c_l14;
-  w2c_i1 = 4294967279u;
-  w2c_i0 = w2c_i0 > w2c_i1;
-  if (w2c_i0) {goto w2c_B182;}
-  w2c_i0 = w2c_l16;
-  w2c_i1 = 6u;
-  w2c_i0 <<= (w2c_i1 & 31);
-  w2c_i1 = w2c_l15;
-  w2c_i2 = 12u;
-  w2c_i1 <<= (w2c_i2 & 31);
-  w2c_i2 = 61440u;
-  w2c_i1 &= w2c_i2;
-  w2c_i0 |= w2c_i1;
-  w2c_i1 = w2c_l19;
-  w2c_i0 |= w2c_i1;
-  w2c_l20 = w2c_i0;
-  w2c_j0 = 3ull;
-  w2c_l7 = w2c_j0;
-  goto w2c_B181;
-  w2c_B182:;
-  w2c_i0 = w2c_l19;
-  w2c_i1 = 6u;
-  w2c_i0 <<= (w2c_i1 & 31);
-  w2c_i1 = w2c_l16;
-  w2c_i2 = 12u;
-  w2c_i1 <<= (w2c_i2 & 31);
-  w2c_i2 = w2c_l15;
-  w2c_i3 = 18u;
-  w2c_i2 <<= (w2c_i3 & 31);
-  w2c_i3 = 1835008u;
-  w2c_i2 &= w2c_i3;
-  w2c_i1 |= w2c_i2;
-  w2c_i0 |= w2c_i1;
-  w2c_j1 = w2c_p3;
-  w2c_i1 = (u32)(w2c_j1);
-  w2c_i1 = i32_load8_u(m, (u64)(w2c_i1) + 3u);
-  w2c_i2 = 63u;
-  w2c_i1 &= w2c_i2;
-  w2c_i0 |= w2c_i1;
-  w2c_l20 = w2c_i0;
-  w2c_j0 = 4ull;
-  w2c_l7 = w2c_j0;
-  w2c_B181:;
-  w2c_j0 = w2c_p4;
-  w2c_j1 = w2c_l7;
-  w2c_i0 = w2c_j0 == w2c_j1;
-  if (w2c_i0) {goto w2c_B171;}
-  w2c_i0 = w2c_l20;
-  w2c_i1 = 21313u;
-  w2c_i0 = w2c_i0 != w2c_i1;
-  if (w2c_i0) {goto w2c_B171;}
-  w2c_j0 = w2c_p3;
-  w2c_j1 = w2c_l7;
-  w2c_j0 += w2c_j1;
-  w2c_l10 = w2c_j0;
-  w2c_i0 = (u32)(w2c_j0);
-  w2c_i0 = i32_load8_s(m, (u64)(w2c_i0));
-  w2c_l20 = w2c_i0;
-  w2c_i1 = 4294967295u;
-  w2c_i0 = (u32)((s32)w2c_i0 > (s32)w2c_i1);
-  if (w2c_i0) {goto w2c_B171;}
-  w2c_i0 = w2c_l20;
-  w2c_i1 = 4294967264u;
-  w2c_i0 = w2c_i0 < w2c_i1;
-  if (w2c_i0) {goto w2c_B171;}
-  w2c_i0 = w2c_l20;
-  w2c_i1 = 255u;
-  w2c_i0 &= w2c_i1;
-  w2c_l21 = w2c_i0;
-  w2c_j0 = w2c_l10;
-  w2c_i0 = (u32)(w2c_j0);
-  w2c_i0 = i32_load8_u(m, (u64)(w2c_i0) + 1u);
-  w2c_i1 = 63u;
-  w2c_i0 &= w2c_i1;
-  w2c_l22 = w2c_i0;
-  w2c_j0 = w2c_l10;
-  w2c_i0 = (u32)(w2c_j0);
-  w2c_i0 = i32_load8_u(m, (u64)(w2c_i0) + 2u);
-  w2c_i1 = 63u;
-  w2c_i0 &= w2c_i1;
-  w2c_l23 = w2c_i0;
-  w2c_i0 = w2c_l20;
-  w2c_i1 = 4294967280u;
-  w2c_i0 = w2c_i0 < w2c_i1;
-  if (w2c_i0) {goto w2c_B184;}
-  w2c_i0 = w2c_l23;
-  w2c_i1 = 6u;
-  w2c_i0 <<= (w2c_i1 & 31);
-  w2c_i1 = w2c_l22;
-  w2c_i2 = 12u;
-  w2c_i1 <<= (w2c_i2 & 31);
-  w2c_i2 = w2c_l21;
-  w2c_i3 = 18u;
-  w2c_i2 <<= (w2c_i3 & 31);
-  w2c_i3 = 1835008u;
-  w2c_i2 &= w2c_i3;
-  w2c_i1 |= w2c_i2;
-  w2c_i0 |= w2c_i1;
-  w2c_j1 = w2c_l10;
-  w2c_i1 = (u32)(w2c_j1);
-  w2c_i1 = i32_load8_u(m, (u64)(w2c_i1) + 3u);
-  w2c_i2 = 63u;
-  w2c_i1 &= w2c_i2;
-  w2c_i0 |= w2c_i1;
-  w2c_l20 = w2c_i0;
-  w2c_j0 = 4ull;
-  w2c_l9 = w2c_j0;
-  goto w2c_B183;
-  w2c_B184:;
-  w2c_i0 = w2c_l22;
-  w2c_i1 = 6u;
-  w2c_i0 <<= (w2c_i1 & 31);
-  w2c_i1 = w2c_l21;
-  w2c_i2 = 12u;
-  w2c_i1 <<= (w2c_i2 & 31);
-  w2c_i2 = 61440u;
-  w2c_i1 &= w2c_i2;
-  w2c_i0 |= w2c_i1;
-  w2c_i1 = w2c_l23;
-  w2c_i0 |= w2c_i1;
-  w2c_l20 = w2c_i0;
-  w2c_j0 = 3ull;
-  w2c_l9 = w2c_j0;
-  w2c_B183:;
-  w2c_i0 = w2c_l20;
-  w2c_i1 = 33836u;
-  w2c_i0 = w2c_i0 != w2c_i1;
-  if (w2c_i0) {goto w2c_B171;}
-  w2c_j0 = w2c_p4;
-  w2c_j1 = w2c_l9;
-  w2c_j2 = w2c_l7;
-  w2c_j1 += w2c_j2;
-  w2c_l7 = w2c_j1;
-  w2c_i0 = w2c_j0 == w2c_j1;
-  if (w2c_i0) {goto w2c_B171;}
-  w2c_j0 = w2c_l10;
-  w2c_j1 = w2c_l9;
-  w2c_j0 += w2c_j1;
-  w2c_l10 = w2c_j0;
-  w2c_i0 = (u32)(w2c_j0);
-  w2c_i0 = i32_load8_s(m, (u64)(w2c_i0));
-  w2c_l20 = w2c_i0;
-  w2c_i1 = 4294967295u;
-  w2c_i0 = (u32)((s32)w2c_i0 > (s32)w2c_i1);
-  if (w2c_i0) {goto w2c_B171;}
-  w2c_i0 = w2c_l20;
-  w2c_i1 = 4294967264u;
-  w2c_i0 = w2c_i0 < w2c_i1;
-  if (w2c_i0) {goto w2c_B171;}
-  w2c_i0 = w2c_l20;
-  w2c_i1 = 255u;
-  w2c_i0 &= w2c_i1;
-  w2c_l21 = w2c_i0;
-  w2c_j0 = w2c_l10;
-  w2c_i0 = (u32)(w2c_j0);
-  w2c_i0 = i32_load8_u(m, (u64)(w2c_i0) + 1u);
-  w2c_i1 = 63u;
-  w2c_i0 &= w2c_i1;
-  w2c_l22 = w2c_i0;
-  w2c_j0 = w2c_l10;
-  w2c_i0 = (u32)(w2c_j0);
-  w2c_i0 = i32_load8_u(m, (u64)(w2c_i0) + 2u);
-  w2c_i1 = 63u;
-  w2c_i0 &= w2c_i1;
-  w2c_l23 = w2c_i0;
-  w2c_i0 = w2c_l20;
-  w2c_i1 = 4294967280u;
-  w2c_i0 = w2c_i0 < w2c_i1;
-  if (w2c_i0) {goto w2c_B186;}
-  w2c_i0 = w2c_l23;
-  w2c_i1 = 6u;
-  w2c_i0 <<= (w2c_i1 & 31);
-  w2c_i1 = w2c_l22;
-  w2c_i2 = 12u;
-  w2c_i1 <<= (w2c_i2 & 31);
-  w2c_i2 = w2c_l21;
-  w2c_i3 = 18u;
-  w2c_i2 <<= (w2c_i3 & 31);
-  w2c_i3 = 1835008u;
-  w2c_i2 &= w2c_i3;
-  w2c_i1 |= w2c_i2;
-  w2c_i0 |= w2c_i1;
-  w2c_j1 = w2c_l10;
-  w2c_i1 = (u32)(w2c_j1);
-  w2c_i1 = i32_load8_u(m, (u64)(w2c_i1) + 3u);
-  w2c_i2 = 63u;
-  w2c_i1 &= w2c_i2;
-  w2c_i0 |= w2c_i1;
-  w2c_l20 = w2c_i0;
-  w2c_j0 = 4ull;
-  w2c_l9 = w2c_j0;
-  goto w2c_B185;
-  w2c_B186:;
-  w2c_i0 = w2c_l22;
-  w2c_i1 = 6u;
-  w2c_i0 <<= (w2c_i1 & 31);
-  w2c_i1 = w2c_l21;
-  w2c_i2 = 12u;
-  w2c_i1 <<= (w2c_i2 & 31);
-  w2c_i2 = 61440u;
-  w2c_i1 &= w2c_i2;
-  w2c_i0 |= w2c_i1;
-  w2c_i1 = w2c_l23;
-  w2c_i0 |= w2c_i1;
-  w2c_l20 = w2c_i0;
-  w2c_j0 = 3ull;
-  w2c_l9 = w2c_j0;
-  w2c_B185:;
-  w2c_i0 = w2c_l20;
-  w2c_i1 = 20843u;
-  w2c_i0 = w2c_i0 != w2c_i1;
-  if (w2c_i0) {goto w2c_B171;}
-  w2c_j0 = w2c_p4;
-  w2c_j1 = w2c_l9;
-  w2c_j2 = w2c_l7;
-  w2c_j1 += w2c_j2;
-  w2c_l7 = w2c_j1;
-  w2c_i0 = w2c_j0 == w2c_j1;
-  if (w2c_i0) {goto w2c_B171;}
-  w2c_j0 = w2c_l10;
-  w2c_j1 = w2c_l9;
-  w2c_j0 += w2c_j1;
-  w2c_l10 = w2c_j0;
-  w2c_i0 = (u32)(w2c_j0);
-  w2c_i0 = i32_load8_s(m, (u64)(w2c_i0));
-  w2c_l20 = w2c_i0;
-  w2c_i1 = 4294967295u;
-  w2c_i0 = (u32)((s32)w2c_i0 > (s32)w2c_i1);
-  if (w2c_i0) {goto w2c_B171;}
-  w2c_i0 = w2c_l20;
-  w2c_i1 = 4294967264u;
-  w2c_i0 = w2c_i0 < w2c_i1;
-  if (w2c_i0) {goto w2c_B171;}
-  w2c_i0 = w2c_l20;
-  w2c_i1 = 255u;
-  w2c_i0 &= w2c_i1;
-  w2c_l21 = w2c_i0;
-  w2c_j0 = w2c_l10;
-  w2c_i0 = (u32)(w2c_j0);
-  w2c_i0 = i32_load8_u(m, (u64)(w2c_i0) + 1u);
-  w2c_i1 = 63u;
-  w2c_i0 &= w2c_i1;
-  w2c_l22 = w2c_i0;
-  w2c_j0 = w2c_l10;
-  w2c_i0 = (u32)(w2c_j0);
-  w2c_i0 = i32_load8_u(m, (u64)(w2c_i0) + 2u);
-  w2c_i1 = 63u;
-  w2c_i0 &= w2c_i1;
-  w2c_l23 = w2c_i0;
-  w2c_i0 = w2c_l20;
-  w2c_i1 = 4294967280u;
-  w2c_i0 = w2c_i0 < w2c_i1;
-  if (w2c_i0) {goto w2c_B188;}
-  w2c_i0 = w2c_l23;
-  w2c_i1 = 6u;
-  w2c_i0 <<= (w2c_i1 & 31);
-  w2c_i1 = w2c_l22;
-  w2c_i2 = 12u;
-  w2c_i1 <<= (w2c_i2 & 31);
-  w2c_i2 = w2c_l21;
-  w2c_i3 = 18u;
-  w2c_i2 <<= (w2c_i3 & 31);
-  w2c_i3 = 1835008u;
-  w2c_i2 &= w2c_i3;
-  w2c_i1 |= w2c_i2;
-  w2c_i0 |= w2c_i1;
-  w2c_j1 = w2c_l10;
-  w2c_i1 = (u32)(w2c_j1);
-  w2c_i1 = i32_load8_u(m, (u64)(w2c_i1) + 3u);
-  w2c_i2 = 63u;
-  w2c_i1 &= w2c_i2;
-  w2c_i0 |= w2c_i1;
-  w2c_l20 = w2c_i0;
-  w2c_j0 = 4ull;
-  w2c_l10 = w2c_j0;
-  goto w2c_B187;
-  w2c_B188:;
-  w2c_i0 = w2c_l22;
-  w2c_i1 = 6u;
-  w2c_i0 <<= (w2c_i1 & 31);
-  w2c_i1 = w2c_l21;
-  w2c_i2 = 12u;
-  w2c_i1 <<= (w2c_i2 & 31);
-  w2c_i2 = 61440u;
-  w2c_i1 &= w2c_i2;
-  w2c_i0 |= w2c_i1;
-  w2c_i1 = w2c_l23;
-  w2c_i0 |= w2c_i1;
-  w2c_l20 = w2c_i0;
-  w2c_j0 = 3ull;
-  w2c_l10 = w2c_j0;
-  w2c_B187:;
-  w2c_i0 = w2c_l20;
-  w2c_i1 = 21315u;
-  w2c_i0 = w2c_i0 != w2c_i1;
-  if (w2c_i0) {goto w2c_B171;}
-  w2c_i0 = w2c_l12;
-  if (w2c_i0) {goto w2c_B171;}
-  w2c_j0 = w2c_p4;
-  w2c_j1 = w2c_l10;
-  w2c_j2 = w2c_l7;
-  w2c_j1 += w2c_j2;
-  w2c_i0 = w2c_j0 == w2c_j1;
-  if (w2c_i0) {goto w2c_B172;}
-  goto w2c_B171;
-  w2c_B173:;
-  w2c_i0 = w2c_l12;
-  if (w2c_i0) {goto w2c_B171;}
-  w2c_B172:;
-  w2c_j0 = w2c_p5;
-  w2c_i0 = (u32)(w2c_j0);
-  w2c_i0 = i32_load8_s(m, (u64)(w2c_i0));
-  w2c_l20 = w2c_i0;
-  w2c_i1 = 4294967295u;
-  w2c_i0 = (u32)((s32)w2c_i0 > (s32)w2c_i1);
-  if (w2c_i0) {goto w2c_B171;}
-  w2c_i0 = w2c_l20;
-  w2c_i1 = 4294967264u;
-  w2c_i0 = w2c_i0 < w2c_i1;
-  if (w2c_i0) {goto w2c_B171;}
-  w2c_i0 = w2c_l20;
-  w2c_i1 = 255u;
-  w2c_i0 &= w2c_i1;
-  w2c_l21 = w2c_i0;
+  w2c_l13 = w2c_i0;
   w2c_j0 = w2c_p5;
   w2c_i0 = (u32)(w2c_j0);
   w2c_i0 = i32_load8_u(m, (u64)(w2c_i0) + 1u);
   w2c_i1 = 63u;
   w2c_i0 &= w2c_i1;
-  w2c_l22 = w2c_i0;
+  w2c_l20 = w2c_i0;
   w2c_j0 = w2c_p5;
   w2c_i0 = (u32)(w2c_j0);
   w2c_i0 = i32_load8_u(m, (u64)(w2c_i0) + 2u);
   w2c_i1 = 63u;
   w2c_i0 &= w2c_i1;
-  w2c_l23 = w2c_i0;
-  w2c_i0 = w2c_l20;
+  w2c_l21 = w2c_i0;
+  w2c_i0 = w2c_l14;
   w2c_i1 = 4294967279u;
   w2c_i0 = w2c_i0 > w2c_i1;
-  if (w2c_i0) {goto w2c_B190;}
-  w2c_i0 = w2c_l22;
+  if (w2c_i0) {goto w2c_B111;}
+  w2c_i0 = w2c_l20;
   w2c_i1 = 6u;
   w2c_i0 <<= (w2c_i1 & 31);
-  w2c_i1 = w2c_l21;
+  w2c_i1 = w2c_l13;
   w2c_i2 = 12u;
   w2c_i1 <<= (w2c_i2 & 31);
   w2c_i2 = 61440u;
   w2c_i1 &= w2c_i2;
   w2c_i0 |= w2c_i1;
-  w2c_i1 = w2c_l23;
+  w2c_i1 = w2c_l21;
   w2c_i0 |= w2c_i1;
   w2c_l20 = w2c_i0;
-  goto w2c_B189;
-  w2c_B190:;
-  w2c_i0 = w2c_l23;
+  goto w2c_B110;
+  w2c_B111:;
+  w2c_i0 = w2c_l21;
   w2c_i1 = 6u;
   w2c_i0 <<= (w2c_i1 & 31);
-  w2c_i1 = w2c_l22;
+  w2c_i1 = w2c_l20;
   w2c_i2 = 12u;
   w2c_i1 <<= (w2c_i2 & 31);
-  w2c_i2 = w2c_l21;
+  w2c_i2 = w2c_l13;
   w2c_i3 = 18u;
   w2c_i2 <<= (w2c_i3 & 31);
   w2c_i3 = 1835008u;
@@ -24072,23 +21546,32 @@ static void w2c_f29(module *m, u64 w2c_p0, u64 w2c_p1, u64 w2c_p2, u64 w2c_p3, u
   w2c_i1 &= w2c_i2;
   w2c_i0 |= w2c_i1;
   w2c_l20 = w2c_i0;
-  w2c_B189:;
-  w2c_i0 = w2c_l20;
-  w2c_i1 = 37324u;
-  w2c_i0 = w2c_i0 != w2c_i1;
-  if (w2c_i0) {goto w2c_B171;}
+  w2c_B110:;
   w2c_i0 = 1u;
   w2c_l14 = w2c_i0;
-  goto w2c_B0;
-  w2c_B171:;
-  w2c_i0 = w2c_l14;
+  w2c_i0 = 0u;
+  w2c_l13 = w2c_i0;
+  w2c_i0 = w2c_l20;
+  w2c_i1 = 21464u;
+  w2c_i0 = w2c_i0 == w2c_i1;
+  if (w2c_i0) {goto w2c_B0;}
+  w2c_i0 = w2c_l20;
+  w2c_i1 = 34892u;
+  w2c_i0 = w2c_i0 == w2c_i1;
+  if (w2c_i0) {goto w2c_B0;}
+  w2c_i0 = w2c_l20;
+  w2c_i1 = 35722u;
+  w2c_i0 = w2c_i0 == w2c_i1;
+  if (w2c_i0) {goto w2c_B0;}
+  w2c_B105:;
+  w2c_i0 = w2c_l15;
   w2c_i1 = 4294967279u;
   w2c_i0 = w2c_i0 > w2c_i1;
-  if (w2c_i0) {goto w2c_B192;}
-  w2c_i0 = w2c_l16;
+  if (w2c_i0) {goto w2c_B113;}
+  w2c_i0 = w2c_l18;
   w2c_i1 = 6u;
   w2c_i0 <<= (w2c_i1 & 31);
-  w2c_i1 = w2c_l15;
+  w2c_i1 = w2c_l16;
   w2c_i2 = 12u;
   w2c_i1 <<= (w2c_i2 & 31);
   w2c_i2 = 61440u;
@@ -24096,18 +21579,18 @@ static void w2c_f29(module *m, u64 w2c_p0, u64 w2c_p1, u64 w2c_p2, u64 w2c_p3, u
   w2c_i0 |= w2c_i1;
   w2c_i1 = w2c_l19;
   w2c_i0 |= w2c_i1;
-  w2c_l20 = w2c_i0;
+  w2c_l14 = w2c_i0;
   w2c_j0 = 3ull;
   w2c_l7 = w2c_j0;
-  goto w2c_B191;
-  w2c_B192:;
+  goto w2c_B112;
+  w2c_B113:;
   w2c_i0 = w2c_l19;
   w2c_i1 = 6u;
   w2c_i0 <<= (w2c_i1 & 31);
-  w2c_i1 = w2c_l16;
+  w2c_i1 = w2c_l18;
   w2c_i2 = 12u;
   w2c_i1 <<= (w2c_i2 & 31);
-  w2c_i2 = w2c_l15;
+  w2c_i2 = w2c_l16;
   w2c_i3 = 18u;
   w2c_i2 <<= (w2c_i3 & 31);
   w2c_i3 = 1835008u;
@@ -24120,59 +21603,59 @@ static void w2c_f29(module *m, u64 w2c_p0, u64 w2c_p1, u64 w2c_p2, u64 w2c_p3, u
   w2c_i2 = 63u;
   w2c_i1 &= w2c_i2;
   w2c_i0 |= w2c_i1;
-  w2c_l20 = w2c_i0;
+  w2c_l14 = w2c_i0;
   w2c_j0 = 4ull;
   w2c_l7 = w2c_j0;
-  w2c_B191:;
+  w2c_B112:;
   w2c_j0 = w2c_p4;
   w2c_j1 = w2c_l7;
   w2c_i0 = w2c_j0 == w2c_j1;
-  if (w2c_i0) {goto w2c_B193;}
-  w2c_i0 = w2c_l20;
+  if (w2c_i0) {goto w2c_B114;}
+  w2c_i0 = w2c_l14;
   w2c_i1 = 19977u;
   w2c_i0 = w2c_i0 != w2c_i1;
-  if (w2c_i0) {goto w2c_B193;}
+  if (w2c_i0) {goto w2c_B114;}
   w2c_j0 = w2c_p3;
   w2c_j1 = w2c_l7;
   w2c_j0 += w2c_j1;
   w2c_l10 = w2c_j0;
   w2c_i0 = (u32)(w2c_j0);
   w2c_i0 = i32_load8_s(m, (u64)(w2c_i0));
-  w2c_l20 = w2c_i0;
+  w2c_l14 = w2c_i0;
   w2c_i1 = 4294967295u;
   w2c_i0 = (u32)((s32)w2c_i0 > (s32)w2c_i1);
-  if (w2c_i0) {goto w2c_B193;}
-  w2c_i0 = w2c_l20;
+  if (w2c_i0) {goto w2c_B114;}
+  w2c_i0 = w2c_l14;
   w2c_i1 = 4294967264u;
   w2c_i0 = w2c_i0 < w2c_i1;
-  if (w2c_i0) {goto w2c_B193;}
-  w2c_i0 = w2c_l20;
+  if (w2c_i0) {goto w2c_B114;}
+  w2c_i0 = w2c_l14;
   w2c_i1 = 255u;
   w2c_i0 &= w2c_i1;
-  w2c_l21 = w2c_i0;
+  w2c_l13 = w2c_i0;
   w2c_j0 = w2c_l10;
   w2c_i0 = (u32)(w2c_j0);
   w2c_i0 = i32_load8_u(m, (u64)(w2c_i0) + 1u);
   w2c_i1 = 63u;
   w2c_i0 &= w2c_i1;
-  w2c_l22 = w2c_i0;
+  w2c_l20 = w2c_i0;
   w2c_j0 = w2c_l10;
   w2c_i0 = (u32)(w2c_j0);
   w2c_i0 = i32_load8_u(m, (u64)(w2c_i0) + 2u);
   w2c_i1 = 63u;
   w2c_i0 &= w2c_i1;
-  w2c_l23 = w2c_i0;
-  w2c_i0 = w2c_l20;
+  w2c_l21 = w2c_i0;
+  w2c_i0 = w2c_l14;
   w2c_i1 = 4294967280u;
   w2c_i0 = w2c_i0 < w2c_i1;
-  if (w2c_i0) {goto w2c_B195;}
-  w2c_i0 = w2c_l23;
+  if (w2c_i0) {goto w2c_B116;}
+  w2c_i0 = w2c_l21;
   w2c_i1 = 6u;
   w2c_i0 <<= (w2c_i1 & 31);
-  w2c_i1 = w2c_l22;
+  w2c_i1 = w2c_l20;
   w2c_i2 = 12u;
   w2c_i1 <<= (w2c_i2 & 31);
-  w2c_i2 = w2c_l21;
+  w2c_i2 = w2c_l13;
   w2c_i3 = 18u;
   w2c_i2 <<= (w2c_i3 & 31);
   w2c_i3 = 1835008u;
@@ -24185,70 +21668,285 @@ static void w2c_f29(module *m, u64 w2c_p0, u64 w2c_p1, u64 w2c_p2, u64 w2c_p3, u
   w2c_i2 = 63u;
   w2c_i1 &= w2c_i2;
   w2c_i0 |= w2c_i1;
-  w2c_l20 = w2c_i0;
+  w2c_l14 = w2c_i0;
   w2c_j0 = 4ull;
-  w2c_l10 = w2c_j0;
-  goto w2c_B194;
-  w2c_B195:;
-  w2c_i0 = w2c_l22;
+  w2c_l9 = w2c_j0;
+  goto w2c_B115;
+  w2c_B116:;
+  w2c_i0 = w2c_l20;
   w2c_i1 = 6u;
   w2c_i0 <<= (w2c_i1 & 31);
-  w2c_i1 = w2c_l21;
+  w2c_i1 = w2c_l13;
   w2c_i2 = 12u;
   w2c_i1 <<= (w2c_i2 & 31);
   w2c_i2 = 61440u;
   w2c_i1 &= w2c_i2;
   w2c_i0 |= w2c_i1;
-  w2c_i1 = w2c_l23;
+  w2c_i1 = w2c_l21;
   w2c_i0 |= w2c_i1;
+  w2c_l14 = w2c_i0;
+  w2c_j0 = 3ull;
+  w2c_l9 = w2c_j0;
+  w2c_B115:;
+  w2c_i0 = w2c_l14;
+  w2c_i1 = 30334u;
+  w2c_i0 = w2c_i0 != w2c_i1;
+  if (w2c_i0) {goto w2c_B114;}
+  w2c_j0 = w2c_p4;
+  w2c_j1 = w2c_l9;
+  w2c_j2 = w2c_l7;
+  w2c_j1 += w2c_j2;
+  w2c_l7 = w2c_j1;
+  w2c_i0 = w2c_j0 == w2c_j1;
+  if (w2c_i0) {goto w2c_B114;}
+  w2c_j0 = w2c_l10;
+  w2c_j1 = w2c_l9;
+  w2c_j0 += w2c_j1;
+  w2c_l10 = w2c_j0;
+  w2c_i0 = (u32)(w2c_j0);
+  w2c_i0 = i32_load8_s(m, (u64)(w2c_i0));
+  w2c_l14 = w2c_i0;
+  w2c_i1 = 4294967295u;
+  w2c_i0 = (u32)((s32)w2c_i0 > (s32)w2c_i1);
+  if (w2c_i0) {goto w2c_B114;}
+  w2c_i0 = w2c_l14;
+  w2c_i1 = 4294967264u;
+  w2c_i0 = w2c_i0 < w2c_i1;
+  if (w2c_i0) {goto w2c_B114;}
+  w2c_i0 = w2c_l14;
+  w2c_i1 = 255u;
+  w2c_i0 &= w2c_i1;
+  w2c_l13 = w2c_i0;
+  w2c_j0 = w2c_l10;
+  w2c_i0 = (u32)(w2c_j0);
+  w2c_i0 = i32_load8_u(m, (u64)(w2c_i0) + 1u);
+  w2c_i1 = 63u;
+  w2c_i0 &= w2c_i1;
   w2c_l20 = w2c_i0;
+  w2c_j0 = w2c_l10;
+  w2c_i0 = (u32)(w2c_j0);
+  w2c_i0 = i32_load8_u(m, (u64)(w2c_i0) + 2u);
+  w2c_i1 = 63u;
+  w2c_i0 &= w2c_i1;
+  w2c_l21 = w2c_i0;
+  w2c_i0 = w2c_l14;
+  w2c_i1 = 4294967280u;
+  w2c_i0 = w2c_i0 < w2c_i1;
+  if (w2c_i0) {goto w2c_B118;}
+  w2c_i0 = w2c_l21;
+  w2c_i1 = 6u;
+  w2c_i0 <<= (w2c_i1 & 31);
+  w2c_i1 = w2c_l20;
+  w2c_i2 = 12u;
+  w2c_i1 <<= (w2c_i2 & 31);
+  w2c_i2 = w2c_l13;
+  w2c_i3 = 18u;
+  w2c_i2 <<= (w2c_i3 & 31);
+  w2c_i3 = 1835008u;
+  w2c_i2 &= w2c_i3;
+  w2c_i1 |= w2c_i2;
+  w2c_i0 |= w2c_i1;
+  w2c_j1 = w2c_l10;
+  w2c_i1 = (u32)(w2c_j1);
+  w2c_i1 = i32_load8_u(m, (u64)(w2c_i1) + 3u);
+  w2c_i2 = 63u;
+  w2c_i1 &= w2c_i2;
+  w2c_i0 |= w2c_i1;
+  w2c_l14 = w2c_i0;
+  w2c_j0 = 4ull;
+  w2c_l9 = w2c_j0;
+  goto w2c_B117;
+  w2c_B118:;
+  w2c_i0 = w2c_l20;
+  w2c_i1 = 6u;
+  w2c_i0 <<= (w2c_i1 & 31);
+  w2c_i1 = w2c_l13;
+  w2c_i2 = 12u;
+  w2c_i1 <<= (w2c_i2 & 31);
+  w2c_i2 = 61440u;
+  w2c_i1 &= w2c_i2;
+  w2c_i0 |= w2c_i1;
+  w2c_i1 = w2c_l21;
+  w2c_i0 |= w2c_i1;
+  w2c_l14 = w2c_i0;
+  w2c_j0 = 3ull;
+  w2c_l9 = w2c_j0;
+  w2c_B117:;
+  w2c_i0 = w2c_l14;
+  w2c_i1 = 20845u;
+  w2c_i0 = w2c_i0 != w2c_i1;
+  if (w2c_i0) {goto w2c_B114;}
+  w2c_j0 = w2c_p4;
+  w2c_j1 = w2c_l9;
+  w2c_j2 = w2c_l7;
+  w2c_j1 += w2c_j2;
+  w2c_l7 = w2c_j1;
+  w2c_i0 = w2c_j0 == w2c_j1;
+  if (w2c_i0) {goto w2c_B114;}
+  w2c_j0 = w2c_l10;
+  w2c_j1 = w2c_l9;
+  w2c_j0 += w2c_j1;
+  w2c_l10 = w2c_j0;
+  w2c_i0 = (u32)(w2c_j0);
+  w2c_i0 = i32_load8_s(m, (u64)(w2c_i0));
+  w2c_l14 = w2c_i0;
+  w2c_i1 = 4294967295u;
+  w2c_i0 = (u32)((s32)w2c_i0 > (s32)w2c_i1);
+  if (w2c_i0) {goto w2c_B114;}
+  w2c_i0 = w2c_l14;
+  w2c_i1 = 4294967264u;
+  w2c_i0 = w2c_i0 < w2c_i1;
+  if (w2c_i0) {goto w2c_B114;}
+  w2c_i0 = w2c_l14;
+  w2c_i1 = 255u;
+  w2c_i0 &= w2c_i1;
+  w2c_l13 = w2c_i0;
+  w2c_j0 = w2c_l10;
+  w2c_i0 = (u32)(w2c_j0);
+  w2c_i0 = i32_load8_u(m, (u64)(w2c_i0) + 1u);
+  w2c_i1 = 63u;
+  w2c_i0 &= w2c_i1;
+  w2c_l20 = w2c_i0;
+  w2c_j0 = w2c_l10;
+  w2c_i0 = (u32)(w2c_j0);
+  w2c_i0 = i32_load8_u(m, (u64)(w2c_i0) + 2u);
+  w2c_i1 = 63u;
+  w2c_i0 &= w2c_i1;
+  w2c_l21 = w2c_i0;
+  w2c_i0 = w2c_l14;
+  w2c_i1 = 4294967280u;
+  w2c_i0 = w2c_i0 < w2c_i1;
+  if (w2c_i0) {goto w2c_B120;}
+  w2c_i0 = w2c_l21;
+  w2c_i1 = 6u;
+  w2c_i0 <<= (w2c_i1 & 31);
+  w2c_i1 = w2c_l20;
+  w2c_i2 = 12u;
+  w2c_i1 <<= (w2c_i2 & 31);
+  w2c_i2 = w2c_l13;
+  w2c_i3 = 18u;
+  w2c_i2 <<= (w2c_i3 & 31);
+  w2c_i3 = 1835008u;
+  w2c_i2 &= w2c_i3;
+  w2c_i1 |= w2c_i2;
+  w2c_i0 |= w2c_i1;
+  w2c_j1 = w2c_l10;
+  w2c_i1 = (u32)(w2c_j1);
+  w2c_i1 = i32_load8_u(m, (u64)(w2c_i1) + 3u);
+  w2c_i2 = 63u;
+  w2c_i1 &= w2c_i2;
+  w2c_i0 |= w2c_i1;
+  w2c_l14 = w2c_i0;
+  w2c_j0 = 4ull;
+  w2c_l10 = w2c_j0;
+  goto w2c_B119;
+  w2c_B120:;
+  w2c_i0 = w2c_l20;
+  w2c_i1 = 6u;
+  w2c_i0 <<= (w2c_i1 & 31);
+  w2c_i1 = w2c_l13;
+  w2c_i2 = 12u;
+  w2c_i1 <<= (w2c_i2 & 31);
+  w2c_i2 = 61440u;
+  w2c_i1 &= w2c_i2;
+  w2c_i0 |= w2c_i1;
+  w2c_i1 = w2c_l21;
+  w2c_i0 |= w2c_i1;
+  w2c_l14 = w2c_i0;
   w2c_j0 = 3ull;
   w2c_l10 = w2c_j0;
-  w2c_B194:;
-  w2c_i0 = w2c_l20;
+  w2c_B119:;
+  w2c_i0 = w2c_l14;
   w2c_i1 = 21313u;
   w2c_i0 = w2c_i0 != w2c_i1;
-  if (w2c_i0) {goto w2c_B193;}
+  if (w2c_i0) {goto w2c_B114;}
+  w2c_i0 = w2c_l12;
+  if (w2c_i0) {goto w2c_B114;}
   w2c_j0 = w2c_p4;
   w2c_j1 = w2c_l10;
   w2c_j2 = w2c_l7;
   w2c_j1 += w2c_j2;
   w2c_i0 = w2c_j0 != w2c_j1;
-  if (w2c_i0) {goto w2c_B193;}
-  w2c_j0 = 68636ull;
-  w2c_j1 = 1ull;
-  w2c_j2 = 68640ull;
-  w2c_j3 = 1ull;
-  w2c_j4 = w2c_p5;
-  w2c_j5 = w2c_p6;
-  w2c_i0 = w2c_f38(m, w2c_j0, w2c_j1, w2c_j2, w2c_j3, w2c_j4, w2c_j5);
-  w2c_i0 = !(w2c_i0);
-  if (w2c_i0) {goto w2c_B196;}
-  w2c_i0 = 1u;
+  if (w2c_i0) {goto w2c_B114;}
+  w2c_j0 = w2c_p5;
+  w2c_i0 = (u32)(w2c_j0);
+  w2c_i0 = i32_load8_s(m, (u64)(w2c_i0));
   w2c_l14 = w2c_i0;
-  goto w2c_B0;
-  w2c_B196:;
-  w2c_j0 = 68516ull;
-  w2c_j1 = 1ull;
-  w2c_j2 = 68644ull;
-  w2c_j3 = 1ull;
-  w2c_j4 = w2c_p5;
-  w2c_j5 = w2c_p6;
-  w2c_i0 = w2c_f38(m, w2c_j0, w2c_j1, w2c_j2, w2c_j3, w2c_j4, w2c_j5);
-  w2c_i0 = !(w2c_i0);
-  if (w2c_i0) {goto w2c_B193;}
-  w2c_i0 = 1u;
-  w2c_l14 = w2c_i0;
-  goto w2c_B0;
-  w2c_B193:;
+  w2c_i1 = 4294967295u;
+  w2c_i0 = (u32)((s32)w2c_i0 > (s32)w2c_i1);
+  if (w2c_i0) {goto w2c_B114;}
+  w2c_i0 = w2c_l14;
+  w2c_i1 = 4294967264u;
+  w2c_i0 = w2c_i0 < w2c_i1;
+  if (w2c_i0) {goto w2c_B114;}
+  w2c_i0 = w2c_l14;
+  w2c_i1 = 255u;
+  w2c_i0 &= w2c_i1;
+  w2c_l13 = w2c_i0;
+  w2c_j0 = w2c_p5;
+  w2c_i0 = (u32)(w2c_j0);
+  w2c_i0 = i32_load8_u(m, (u64)(w2c_i0) + 1u);
+  w2c_i1 = 63u;
+  w2c_i0 &= w2c_i1;
+  w2c_l20 = w2c_i0;
+  w2c_j0 = w2c_p5;
+  w2c_i0 = (u32)(w2c_j0);
+  w2c_i0 = i32_load8_u(m, (u64)(w2c_i0) + 2u);
+  w2c_i1 = 63u;
+  w2c_i0 &= w2c_i1;
+  w2c_l21 = w2c_i0;
   w2c_i0 = w2c_l14;
   w2c_i1 = 4294967279u;
   w2c_i0 = w2c_i0 > w2c_i1;
-  if (w2c_i0) {goto w2c_B198;}
-  w2c_i0 = w2c_l16;
+  if (w2c_i0) {goto w2c_B122;}
+  w2c_i0 = w2c_l20;
   w2c_i1 = 6u;
   w2c_i0 <<= (w2c_i1 & 31);
-  w2c_i1 = w2c_l15;
+  w2c_i1 = w2c_l13;
+  w2c_i2 = 12u;
+  w2c_i1 <<= (w2c_i2 & 31);
+  w2c_i2 = 61440u;
+  w2c_i1 &= w2c_i2;
+  w2c_i0 |= w2c_i1;
+  w2c_i1 = w2c_l21;
+  w2c_i0 |= w2c_i1;
+  w2c_l14 = w2c_i0;
+  goto w2c_B121;
+  w2c_B122:;
+  w2c_i0 = w2c_l21;
+  w2c_i1 = 6u;
+  w2c_i0 <<= (w2c_i1 & 31);
+  w2c_i1 = w2c_l20;
+  w2c_i2 = 12u;
+  w2c_i1 <<= (w2c_i2 & 31);
+  w2c_i2 = w2c_l13;
+  w2c_i3 = 18u;
+  w2c_i2 <<= (w2c_i3 & 31);
+  w2c_i3 = 1835008u;
+  w2c_i2 &= w2c_i3;
+  w2c_i1 |= w2c_i2;
+  w2c_i0 |= w2c_i1;
+  w2c_j1 = w2c_p5;
+  w2c_i1 = (u32)(w2c_j1);
+  w2c_i1 = i32_load8_u(m, (u64)(w2c_i1) + 3u);
+  w2c_i2 = 63u;
+  w2c_i1 &= w2c_i2;
+  w2c_i0 |= w2c_i1;
+  w2c_l14 = w2c_i0;
+  w2c_B121:;
+  w2c_i0 = w2c_l14;
+  w2c_i1 = 34892u;
+  w2c_i0 = w2c_i0 == w2c_i1;
+  if (w2c_i0) {goto w2c_B1;}
+  w2c_B114:;
+  w2c_i0 = w2c_l15;
+  w2c_i1 = 4294967279u;
+  w2c_i0 = w2c_i0 > w2c_i1;
+  if (w2c_i0) {goto w2c_B124;}
+  w2c_i0 = w2c_l18;
+  w2c_i1 = 6u;
+  w2c_i0 <<= (w2c_i1 & 31);
+  w2c_i1 = w2c_l16;
   w2c_i2 = 12u;
   w2c_i1 <<= (w2c_i2 & 31);
   w2c_i2 = 61440u;
@@ -24256,7 +21954,2284 @@ static void w2c_f29(module *m, u64 w2c_p0, u64 w2c_p1, u64 w2c_p2, u64 w2c_p3, u
   w2c_i0 |= w2c_i1;
   w2c_i1 = w2c_l19;
   w2c_i0 |= w2c_i1;
+  w2c_l14 = w2c_i0;
+  w2c_j0 = 3ull;
+  w2c_l7 = w2c_j0;
+  goto w2c_B123;
+  w2c_B124:;
+  w2c_i0 = w2c_l19;
+  w2c_i1 = 6u;
+  w2c_i0 <<= (w2c_i1 & 31);
+  w2c_i1 = w2c_l18;
+  w2c_i2 = 12u;
+  w2c_i1 <<= (w2c_i2 & 31);
+  w2c_i2 = w2c_l16;
+  w2c_i3 = 18u;
+  w2c_i2 <<= (w2c_i3 & 31);
+  w2c_i3 = 1835008u;
+  w2c_i2 &= w2c_i3;
+  w2c_i1 |= w2c_i2;
+  w2c_i0 |= w2c_i1;
+  w2c_j1 = w2c_p3;
+  w2c_i1 = (u32)(w2c_j1);
+  w2c_i1 = i32_load8_u(m, (u64)(w2c_i1) + 3u);
+  w2c_i2 = 63u;
+  w2c_i1 &= w2c_i2;
+  w2c_i0 |= w2c_i1;
+  w2c_l14 = w2c_i0;
+  w2c_j0 = 4ull;
+  w2c_l7 = w2c_j0;
+  w2c_B123:;
+  w2c_j0 = w2c_p4;
+  w2c_j1 = w2c_l7;
+  w2c_i0 = w2c_j0 == w2c_j1;
+  if (w2c_i0) {goto w2c_B125;}
+  w2c_i0 = w2c_l14;
+  w2c_i1 = 20108u;
+  w2c_i0 = w2c_i0 != w2c_i1;
+  if (w2c_i0) {goto w2c_B125;}
+  w2c_j0 = w2c_p3;
+  w2c_j1 = w2c_l7;
+  w2c_j0 += w2c_j1;
+  w2c_l10 = w2c_j0;
+  w2c_i0 = (u32)(w2c_j0);
+  w2c_i0 = i32_load8_s(m, (u64)(w2c_i0));
+  w2c_l14 = w2c_i0;
+  w2c_i1 = 4294967295u;
+  w2c_i0 = (u32)((s32)w2c_i0 > (s32)w2c_i1);
+  if (w2c_i0) {goto w2c_B125;}
+  w2c_i0 = w2c_l14;
+  w2c_i1 = 4294967264u;
+  w2c_i0 = w2c_i0 < w2c_i1;
+  if (w2c_i0) {goto w2c_B125;}
+  w2c_i0 = w2c_l14;
+  w2c_i1 = 255u;
+  w2c_i0 &= w2c_i1;
+  w2c_l13 = w2c_i0;
+  w2c_j0 = w2c_l10;
+  w2c_i0 = (u32)(w2c_j0);
+  w2c_i0 = i32_load8_u(m, (u64)(w2c_i0) + 1u);
+  w2c_i1 = 63u;
+  w2c_i0 &= w2c_i1;
   w2c_l20 = w2c_i0;
+  w2c_j0 = w2c_l10;
+  w2c_i0 = (u32)(w2c_j0);
+  w2c_i0 = i32_load8_u(m, (u64)(w2c_i0) + 2u);
+  w2c_i1 = 63u;
+  w2c_i0 &= w2c_i1;
+  w2c_l21 = w2c_i0;
+  w2c_i0 = w2c_l14;
+  w2c_i1 = 4294967280u;
+  w2c_i0 = w2c_i0 < w2c_i1;
+  if (w2c_i0) {goto w2c_B127;}
+  w2c_i0 = w2c_l21;
+  w2c_i1 = 6u;
+  w2c_i0 <<= (w2c_i1 & 31);
+  w2c_i1 = w2c_l20;
+  w2c_i2 = 12u;
+  w2c_i1 <<= (w2c_i2 & 31);
+  w2c_i2 = w2c_l13;
+  w2c_i3 = 18u;
+  w2c_i2 <<= (w2c_i3 & 31);
+  w2c_i3 = 1835008u;
+  w2c_i2 &= w2c_i3;
+  w2c_i1 |= w2c_i2;
+  w2c_i0 |= w2c_i1;
+  w2c_j1 = w2c_l10;
+  w2c_i1 = (u32)(w2c_j1);
+  w2c_i1 = i32_load8_u(m, (u64)(w2c_i1) + 3u);
+  w2c_i2 = 63u;
+  w2c_i1 &= w2c_i2;
+  w2c_i0 |= w2c_i1;
+  w2c_l14 = w2c_i0;
+  w2c_j0 = 4ull;
+  w2c_l9 = w2c_j0;
+  goto w2c_B126;
+  w2c_B127:;
+  w2c_i0 = w2c_l20;
+  w2c_i1 = 6u;
+  w2c_i0 <<= (w2c_i1 & 31);
+  w2c_i1 = w2c_l13;
+  w2c_i2 = 12u;
+  w2c_i1 <<= (w2c_i2 & 31);
+  w2c_i2 = 61440u;
+  w2c_i1 &= w2c_i2;
+  w2c_i0 |= w2c_i1;
+  w2c_i1 = w2c_l21;
+  w2c_i0 |= w2c_i1;
+  w2c_l14 = w2c_i0;
+  w2c_j0 = 3ull;
+  w2c_l9 = w2c_j0;
+  w2c_B126:;
+  w2c_i0 = w2c_l14;
+  w2c_i1 = 21313u;
+  w2c_i0 = w2c_i0 != w2c_i1;
+  if (w2c_i0) {goto w2c_B125;}
+  w2c_j0 = w2c_p4;
+  w2c_j1 = w2c_l9;
+  w2c_j2 = w2c_l7;
+  w2c_j1 += w2c_j2;
+  w2c_l7 = w2c_j1;
+  w2c_i0 = w2c_j0 == w2c_j1;
+  if (w2c_i0) {goto w2c_B125;}
+  w2c_j0 = w2c_l10;
+  w2c_j1 = w2c_l9;
+  w2c_j0 += w2c_j1;
+  w2c_l10 = w2c_j0;
+  w2c_i0 = (u32)(w2c_j0);
+  w2c_i0 = i32_load8_s(m, (u64)(w2c_i0));
+  w2c_l14 = w2c_i0;
+  w2c_i1 = 4294967295u;
+  w2c_i0 = (u32)((s32)w2c_i0 > (s32)w2c_i1);
+  if (w2c_i0) {goto w2c_B125;}
+  w2c_i0 = w2c_l14;
+  w2c_i1 = 4294967264u;
+  w2c_i0 = w2c_i0 < w2c_i1;
+  if (w2c_i0) {goto w2c_B125;}
+  w2c_i0 = w2c_l14;
+  w2c_i1 = 255u;
+  w2c_i0 &= w2c_i1;
+  w2c_l13 = w2c_i0;
+  w2c_j0 = w2c_l10;
+  w2c_i0 = (u32)(w2c_j0);
+  w2c_i0 = i32_load8_u(m, (u64)(w2c_i0) + 1u);
+  w2c_i1 = 63u;
+  w2c_i0 &= w2c_i1;
+  w2c_l20 = w2c_i0;
+  w2c_j0 = w2c_l10;
+  w2c_i0 = (u32)(w2c_j0);
+  w2c_i0 = i32_load8_u(m, (u64)(w2c_i0) + 2u);
+  w2c_i1 = 63u;
+  w2c_i0 &= w2c_i1;
+  w2c_l21 = w2c_i0;
+  w2c_i0 = w2c_l14;
+  w2c_i1 = 4294967280u;
+  w2c_i0 = w2c_i0 < w2c_i1;
+  if (w2c_i0) {goto w2c_B129;}
+  w2c_i0 = w2c_l21;
+  w2c_i1 = 6u;
+  w2c_i0 <<= (w2c_i1 & 31);
+  w2c_i1 = w2c_l20;
+  w2c_i2 = 12u;
+  w2c_i1 <<= (w2c_i2 & 31);
+  w2c_i2 = w2c_l13;
+  w2c_i3 = 18u;
+  w2c_i2 <<= (w2c_i3 & 31);
+  w2c_i3 = 1835008u;
+  w2c_i2 &= w2c_i3;
+  w2c_i1 |= w2c_i2;
+  w2c_i0 |= w2c_i1;
+  w2c_j1 = w2c_l10;
+  w2c_i1 = (u32)(w2c_j1);
+  w2c_i1 = i32_load8_u(m, (u64)(w2c_i1) + 3u);
+  w2c_i2 = 63u;
+  w2c_i1 &= w2c_i2;
+  w2c_i0 |= w2c_i1;
+  w2c_l14 = w2c_i0;
+  w2c_j0 = 4ull;
+  w2c_l10 = w2c_j0;
+  goto w2c_B128;
+  w2c_B129:;
+  w2c_i0 = w2c_l20;
+  w2c_i1 = 6u;
+  w2c_i0 <<= (w2c_i1 & 31);
+  w2c_i1 = w2c_l13;
+  w2c_i2 = 12u;
+  w2c_i1 <<= (w2c_i2 & 31);
+  w2c_i2 = 61440u;
+  w2c_i1 &= w2c_i2;
+  w2c_i0 |= w2c_i1;
+  w2c_i1 = w2c_l21;
+  w2c_i0 |= w2c_i1;
+  w2c_l14 = w2c_i0;
+  w2c_j0 = 3ull;
+  w2c_l10 = w2c_j0;
+  w2c_B128:;
+  w2c_i0 = w2c_l14;
+  w2c_i1 = 22235u;
+  w2c_i0 = w2c_i0 != w2c_i1;
+  if (w2c_i0) {goto w2c_B125;}
+  w2c_i0 = w2c_l12;
+  if (w2c_i0) {goto w2c_B125;}
+  w2c_j0 = w2c_p4;
+  w2c_j1 = w2c_l10;
+  w2c_j2 = w2c_l7;
+  w2c_j1 += w2c_j2;
+  w2c_i0 = w2c_j0 != w2c_j1;
+  if (w2c_i0) {goto w2c_B125;}
+  w2c_j0 = w2c_p5;
+  w2c_i0 = (u32)(w2c_j0);
+  w2c_i0 = i32_load8_s(m, (u64)(w2c_i0));
+  w2c_l14 = w2c_i0;
+  w2c_i1 = 4294967295u;
+  w2c_i0 = (u32)((s32)w2c_i0 > (s32)w2c_i1);
+  if (w2c_i0) {goto w2c_B125;}
+  w2c_i0 = w2c_l14;
+  w2c_i1 = 4294967264u;
+  w2c_i0 = w2c_i0 < w2c_i1;
+  if (w2c_i0) {goto w2c_B125;}
+  w2c_i0 = w2c_l14;
+  w2c_i1 = 255u;
+  w2c_i0 &= w2c_i1;
+  w2c_l13 = w2c_i0;
+  w2c_j0 = w2c_p5;
+  w2c_i0 = (u32)(w2c_j0);
+  w2c_i0 = i32_load8_u(m, (u64)(w2c_i0) + 1u);
+  w2c_i1 = 63u;
+  w2c_i0 &= w2c_i1;
+  w2c_l20 = w2c_i0;
+  w2c_j0 = w2c_p5;
+  w2c_i0 = (u32)(w2c_j0);
+  w2c_i0 = i32_load8_u(m, (u64)(w2c_i0) + 2u);
+  w2c_i1 = 63u;
+  w2c_i0 &= w2c_i1;
+  w2c_l21 = w2c_i0;
+  w2c_i0 = w2c_l14;
+  w2c_i1 = 4294967279u;
+  w2c_i0 = w2c_i0 > w2c_i1;
+  if (w2c_i0) {goto w2c_B131;}
+  w2c_i0 = w2c_l20;
+  w2c_i1 = 6u;
+  w2c_i0 <<= (w2c_i1 & 31);
+  w2c_i1 = w2c_l13;
+  w2c_i2 = 12u;
+  w2c_i1 <<= (w2c_i2 & 31);
+  w2c_i2 = 61440u;
+  w2c_i1 &= w2c_i2;
+  w2c_i0 |= w2c_i1;
+  w2c_i1 = w2c_l21;
+  w2c_i0 |= w2c_i1;
+  w2c_l14 = w2c_i0;
+  goto w2c_B130;
+  w2c_B131:;
+  w2c_i0 = w2c_l21;
+  w2c_i1 = 6u;
+  w2c_i0 <<= (w2c_i1 & 31);
+  w2c_i1 = w2c_l20;
+  w2c_i2 = 12u;
+  w2c_i1 <<= (w2c_i2 & 31);
+  w2c_i2 = w2c_l13;
+  w2c_i3 = 18u;
+  w2c_i2 <<= (w2c_i3 & 31);
+  w2c_i3 = 1835008u;
+  w2c_i2 &= w2c_i3;
+  w2c_i1 |= w2c_i2;
+  w2c_i0 |= w2c_i1;
+  w2c_j1 = w2c_p5;
+  w2c_i1 = (u32)(w2c_j1);
+  w2c_i1 = i32_load8_u(m, (u64)(w2c_i1) + 3u);
+  w2c_i2 = 63u;
+  w2c_i1 &= w2c_i2;
+  w2c_i0 |= w2c_i1;
+  w2c_l14 = w2c_i0;
+  w2c_B130:;
+  w2c_i0 = w2c_l14;
+  w2c_i1 = 21490u;
+  w2c_i0 = w2c_i0 == w2c_i1;
+  if (w2c_i0) {goto w2c_B1;}
+  w2c_B125:;
+  w2c_i0 = w2c_l15;
+  w2c_i1 = 4294967279u;
+  w2c_i0 = w2c_i0 > w2c_i1;
+  if (w2c_i0) {goto w2c_B133;}
+  w2c_i0 = w2c_l18;
+  w2c_i1 = 6u;
+  w2c_i0 <<= (w2c_i1 & 31);
+  w2c_i1 = w2c_l16;
+  w2c_i2 = 12u;
+  w2c_i1 <<= (w2c_i2 & 31);
+  w2c_i2 = 61440u;
+  w2c_i1 &= w2c_i2;
+  w2c_i0 |= w2c_i1;
+  w2c_i1 = w2c_l19;
+  w2c_i0 |= w2c_i1;
+  w2c_l14 = w2c_i0;
+  w2c_j0 = 3ull;
+  w2c_l7 = w2c_j0;
+  goto w2c_B132;
+  w2c_B133:;
+  w2c_i0 = w2c_l19;
+  w2c_i1 = 6u;
+  w2c_i0 <<= (w2c_i1 & 31);
+  w2c_i1 = w2c_l18;
+  w2c_i2 = 12u;
+  w2c_i1 <<= (w2c_i2 & 31);
+  w2c_i2 = w2c_l16;
+  w2c_i3 = 18u;
+  w2c_i2 <<= (w2c_i3 & 31);
+  w2c_i3 = 1835008u;
+  w2c_i2 &= w2c_i3;
+  w2c_i1 |= w2c_i2;
+  w2c_i0 |= w2c_i1;
+  w2c_j1 = w2c_p3;
+  w2c_i1 = (u32)(w2c_j1);
+  w2c_i1 = i32_load8_u(m, (u64)(w2c_i1) + 3u);
+  w2c_i2 = 63u;
+  w2c_i1 &= w2c_i2;
+  w2c_i0 |= w2c_i1;
+  w2c_l14 = w2c_i0;
+  w2c_j0 = 4ull;
+  w2c_l7 = w2c_j0;
+  w2c_B132:;
+  w2c_j0 = w2c_p4;
+  w2c_j1 = w2c_l7;
+  w2c_i0 = w2c_j0 == w2c_j1;
+  if (w2c_i0) {goto w2c_B134;}
+  w2c_i0 = w2c_l14;
+  w2c_i1 = 20108u;
+  w2c_i0 = w2c_i0 != w2c_i1;
+  if (w2c_i0) {goto w2c_B134;}
+  w2c_j0 = w2c_p3;
+  w2c_j1 = w2c_l7;
+  w2c_j0 += w2c_j1;
+  w2c_l10 = w2c_j0;
+  w2c_i0 = (u32)(w2c_j0);
+  w2c_i0 = i32_load8_s(m, (u64)(w2c_i0));
+  w2c_l14 = w2c_i0;
+  w2c_i1 = 4294967295u;
+  w2c_i0 = (u32)((s32)w2c_i0 > (s32)w2c_i1);
+  if (w2c_i0) {goto w2c_B134;}
+  w2c_i0 = w2c_l14;
+  w2c_i1 = 4294967264u;
+  w2c_i0 = w2c_i0 < w2c_i1;
+  if (w2c_i0) {goto w2c_B134;}
+  w2c_i0 = w2c_l14;
+  w2c_i1 = 255u;
+  w2c_i0 &= w2c_i1;
+  w2c_l13 = w2c_i0;
+  w2c_j0 = w2c_l10;
+  w2c_i0 = (u32)(w2c_j0);
+  w2c_i0 = i32_load8_u(m, (u64)(w2c_i0) + 1u);
+  w2c_i1 = 63u;
+  w2c_i0 &= w2c_i1;
+  w2c_l20 = w2c_i0;
+  w2c_j0 = w2c_l10;
+  w2c_i0 = (u32)(w2c_j0);
+  w2c_i0 = i32_load8_u(m, (u64)(w2c_i0) + 2u);
+  w2c_i1 = 63u;
+  w2c_i0 &= w2c_i1;
+  w2c_l21 = w2c_i0;
+  w2c_i0 = w2c_l14;
+  w2c_i1 = 4294967280u;
+  w2c_i0 = w2c_i0 < w2c_i1;
+  if (w2c_i0) {goto w2c_B136;}
+  w2c_i0 = w2c_l21;
+  w2c_i1 = 6u;
+  w2c_i0 <<= (w2c_i1 & 31);
+  w2c_i1 = w2c_l20;
+  w2c_i2 = 12u;
+  w2c_i1 <<= (w2c_i2 & 31);
+  w2c_i2 = w2c_l13;
+  w2c_i3 = 18u;
+  w2c_i2 <<= (w2c_i3 & 31);
+  w2c_i3 = 1835008u;
+  w2c_i2 &= w2c_i3;
+  w2c_i1 |= w2c_i2;
+  w2c_i0 |= w2c_i1;
+  w2c_j1 = w2c_l10;
+  w2c_i1 = (u32)(w2c_j1);
+  w2c_i1 = i32_load8_u(m, (u64)(w2c_i1) + 3u);
+  w2c_i2 = 63u;
+  w2c_i1 &= w2c_i2;
+  w2c_i0 |= w2c_i1;
+  w2c_l14 = w2c_i0;
+  w2c_j0 = 4ull;
+  w2c_l9 = w2c_j0;
+  goto w2c_B135;
+  w2c_B136:;
+  w2c_i0 = w2c_l20;
+  w2c_i1 = 6u;
+  w2c_i0 <<= (w2c_i1 & 31);
+  w2c_i1 = w2c_l13;
+  w2c_i2 = 12u;
+  w2c_i1 <<= (w2c_i2 & 31);
+  w2c_i2 = 61440u;
+  w2c_i1 &= w2c_i2;
+  w2c_i0 |= w2c_i1;
+  w2c_i1 = w2c_l21;
+  w2c_i0 |= w2c_i1;
+  w2c_l14 = w2c_i0;
+  w2c_j0 = 3ull;
+  w2c_l9 = w2c_j0;
+  w2c_B135:;
+  w2c_i0 = w2c_l14;
+  w2c_i1 = 21313u;
+  w2c_i0 = w2c_i0 != w2c_i1;
+  if (w2c_i0) {goto w2c_B134;}
+  w2c_j0 = w2c_p4;
+  w2c_j1 = w2c_l9;
+  w2c_j2 = w2c_l7;
+  w2c_j1 += w2c_j2;
+  w2c_l7 = w2c_j1;
+  w2c_i0 = w2c_j0 == w2c_j1;
+  if (w2c_i0) {goto w2c_B134;}
+  w2c_j0 = w2c_l10;
+  w2c_j1 = w2c_l9;
+  w2c_j0 += w2c_j1;
+  w2c_l10 = w2c_j0;
+  w2c_i0 = (u32)(w2c_j0);
+  w2c_i0 = i32_load8_s(m, (u64)(w2c_i0));
+  w2c_l14 = w2c_i0;
+  w2c_i1 = 4294967295u;
+  w2c_i0 = (u32)((s32)w2c_i0 > (s32)w2c_i1);
+  if (w2c_i0) {goto w2c_B134;}
+  w2c_i0 = w2c_l14;
+  w2c_i1 = 4294967264u;
+  w2c_i0 = w2c_i0 < w2c_i1;
+  if (w2c_i0) {goto w2c_B134;}
+  w2c_i0 = w2c_l14;
+  w2c_i1 = 255u;
+  w2c_i0 &= w2c_i1;
+  w2c_l13 = w2c_i0;
+  w2c_j0 = w2c_l10;
+  w2c_i0 = (u32)(w2c_j0);
+  w2c_i0 = i32_load8_u(m, (u64)(w2c_i0) + 1u);
+  w2c_i1 = 63u;
+  w2c_i0 &= w2c_i1;
+  w2c_l20 = w2c_i0;
+  w2c_j0 = w2c_l10;
+  w2c_i0 = (u32)(w2c_j0);
+  w2c_i0 = i32_load8_u(m, (u64)(w2c_i0) + 2u);
+  w2c_i1 = 63u;
+  w2c_i0 &= w2c_i1;
+  w2c_l21 = w2c_i0;
+  w2c_i0 = w2c_l14;
+  w2c_i1 = 4294967280u;
+  w2c_i0 = w2c_i0 < w2c_i1;
+  if (w2c_i0) {goto w2c_B138;}
+  w2c_i0 = w2c_l21;
+  w2c_i1 = 6u;
+  w2c_i0 <<= (w2c_i1 & 31);
+  w2c_i1 = w2c_l20;
+  w2c_i2 = 12u;
+  w2c_i1 <<= (w2c_i2 & 31);
+  w2c_i2 = w2c_l13;
+  w2c_i3 = 18u;
+  w2c_i2 <<= (w2c_i3 & 31);
+  w2c_i3 = 1835008u;
+  w2c_i2 &= w2c_i3;
+  w2c_i1 |= w2c_i2;
+  w2c_i0 |= w2c_i1;
+  w2c_j1 = w2c_l10;
+  w2c_i1 = (u32)(w2c_j1);
+  w2c_i1 = i32_load8_u(m, (u64)(w2c_i1) + 3u);
+  w2c_i2 = 63u;
+  w2c_i1 &= w2c_i2;
+  w2c_i0 |= w2c_i1;
+  w2c_l14 = w2c_i0;
+  w2c_j0 = 4ull;
+  w2c_l10 = w2c_j0;
+  goto w2c_B137;
+  w2c_B138:;
+  w2c_i0 = w2c_l20;
+  w2c_i1 = 6u;
+  w2c_i0 <<= (w2c_i1 & 31);
+  w2c_i1 = w2c_l13;
+  w2c_i2 = 12u;
+  w2c_i1 <<= (w2c_i2 & 31);
+  w2c_i2 = 61440u;
+  w2c_i1 &= w2c_i2;
+  w2c_i0 |= w2c_i1;
+  w2c_i1 = w2c_l21;
+  w2c_i0 |= w2c_i1;
+  w2c_l14 = w2c_i0;
+  w2c_j0 = 3ull;
+  w2c_l10 = w2c_j0;
+  w2c_B137:;
+  w2c_i0 = w2c_l14;
+  w2c_i1 = 20843u;
+  w2c_i0 = w2c_i0 != w2c_i1;
+  if (w2c_i0) {goto w2c_B134;}
+  w2c_i0 = w2c_l12;
+  if (w2c_i0) {goto w2c_B134;}
+  w2c_j0 = w2c_p4;
+  w2c_j1 = w2c_l10;
+  w2c_j2 = w2c_l7;
+  w2c_j1 += w2c_j2;
+  w2c_i0 = w2c_j0 != w2c_j1;
+  if (w2c_i0) {goto w2c_B134;}
+  w2c_j0 = w2c_p5;
+  w2c_i0 = (u32)(w2c_j0);
+  w2c_i0 = i32_load8_s(m, (u64)(w2c_i0));
+  w2c_l14 = w2c_i0;
+  w2c_i1 = 4294967295u;
+  w2c_i0 = (u32)((s32)w2c_i0 > (s32)w2c_i1);
+  if (w2c_i0) {goto w2c_B134;}
+  w2c_i0 = w2c_l14;
+  w2c_i1 = 4294967264u;
+  w2c_i0 = w2c_i0 < w2c_i1;
+  if (w2c_i0) {goto w2c_B134;}
+  w2c_i0 = w2c_l14;
+  w2c_i1 = 255u;
+  w2c_i0 &= w2c_i1;
+  w2c_l13 = w2c_i0;
+  w2c_j0 = w2c_p5;
+  w2c_i0 = (u32)(w2c_j0);
+  w2c_i0 = i32_load8_u(m, (u64)(w2c_i0) + 1u);
+  w2c_i1 = 63u;
+  w2c_i0 &= w2c_i1;
+  w2c_l20 = w2c_i0;
+  w2c_j0 = w2c_p5;
+  w2c_i0 = (u32)(w2c_j0);
+  w2c_i0 = i32_load8_u(m, (u64)(w2c_i0) + 2u);
+  w2c_i1 = 63u;
+  w2c_i0 &= w2c_i1;
+  w2c_l21 = w2c_i0;
+  w2c_i0 = w2c_l14;
+  w2c_i1 = 4294967279u;
+  w2c_i0 = w2c_i0 > w2c_i1;
+  if (w2c_i0) {goto w2c_B140;}
+  w2c_i0 = w2c_l20;
+  w2c_i1 = 6u;
+  w2c_i0 <<= (w2c_i1 & 31);
+  w2c_i1 = w2c_l13;
+  w2c_i2 = 12u;
+  w2c_i1 <<= (w2c_i2 & 31);
+  w2c_i2 = 61440u;
+  w2c_i1 &= w2c_i2;
+  w2c_i0 |= w2c_i1;
+  w2c_i1 = w2c_l21;
+  w2c_i0 |= w2c_i1;
+  w2c_l14 = w2c_i0;
+  goto w2c_B139;
+  w2c_B140:;
+  w2c_i0 = w2c_l21;
+  w2c_i1 = 6u;
+  w2c_i0 <<= (w2c_i1 & 31);
+  w2c_i1 = w2c_l20;
+  w2c_i2 = 12u;
+  w2c_i1 <<= (w2c_i2 & 31);
+  w2c_i2 = w2c_l13;
+  w2c_i3 = 18u;
+  w2c_i2 <<= (w2c_i3 & 31);
+  w2c_i3 = 1835008u;
+  w2c_i2 &= w2c_i3;
+  w2c_i1 |= w2c_i2;
+  w2c_i0 |= w2c_i1;
+  w2c_j1 = w2c_p5;
+  w2c_i1 = (u32)(w2c_j1);
+  w2c_i1 = i32_load8_u(m, (u64)(w2c_i1) + 3u);
+  w2c_i2 = 63u;
+  w2c_i1 &= w2c_i2;
+  w2c_i0 |= w2c_i1;
+  w2c_l14 = w2c_i0;
+  w2c_B139:;
+  w2c_i0 = w2c_l14;
+  w2c_i1 = 23487u;
+  w2c_i0 = w2c_i0 == w2c_i1;
+  if (w2c_i0) {goto w2c_B1;}
+  w2c_B134:;
+  w2c_i0 = w2c_l15;
+  w2c_i1 = 4294967279u;
+  w2c_i0 = w2c_i0 > w2c_i1;
+  if (w2c_i0) {goto w2c_B142;}
+  w2c_i0 = w2c_l18;
+  w2c_i1 = 6u;
+  w2c_i0 <<= (w2c_i1 & 31);
+  w2c_i1 = w2c_l16;
+  w2c_i2 = 12u;
+  w2c_i1 <<= (w2c_i2 & 31);
+  w2c_i2 = 61440u;
+  w2c_i1 &= w2c_i2;
+  w2c_i0 |= w2c_i1;
+  w2c_i1 = w2c_l19;
+  w2c_i0 |= w2c_i1;
+  w2c_l14 = w2c_i0;
+  w2c_j0 = 3ull;
+  w2c_l7 = w2c_j0;
+  goto w2c_B141;
+  w2c_B142:;
+  w2c_i0 = w2c_l19;
+  w2c_i1 = 6u;
+  w2c_i0 <<= (w2c_i1 & 31);
+  w2c_i1 = w2c_l18;
+  w2c_i2 = 12u;
+  w2c_i1 <<= (w2c_i2 & 31);
+  w2c_i2 = w2c_l16;
+  w2c_i3 = 18u;
+  w2c_i2 <<= (w2c_i3 & 31);
+  w2c_i3 = 1835008u;
+  w2c_i2 &= w2c_i3;
+  w2c_i1 |= w2c_i2;
+  w2c_i0 |= w2c_i1;
+  w2c_j1 = w2c_p3;
+  w2c_i1 = (u32)(w2c_j1);
+  w2c_i1 = i32_load8_u(m, (u64)(w2c_i1) + 3u);
+  w2c_i2 = 63u;
+  w2c_i1 &= w2c_i2;
+  w2c_i0 |= w2c_i1;
+  w2c_l14 = w2c_i0;
+  w2c_j0 = 4ull;
+  w2c_l7 = w2c_j0;
+  w2c_B141:;
+  w2c_j0 = w2c_p4;
+  w2c_j1 = w2c_l7;
+  w2c_i0 = w2c_j0 == w2c_j1;
+  if (w2c_i0) {goto w2c_B143;}
+  w2c_i0 = w2c_l14;
+  w2c_i1 = 21313u;
+  w2c_i0 = w2c_i0 != w2c_i1;
+  if (w2c_i0) {goto w2c_B143;}
+  w2c_j0 = w2c_p3;
+  w2c_j1 = w2c_l7;
+  w2c_j0 += w2c_j1;
+  w2c_l10 = w2c_j0;
+  w2c_i0 = (u32)(w2c_j0);
+  w2c_i0 = i32_load8_s(m, (u64)(w2c_i0));
+  w2c_l14 = w2c_i0;
+  w2c_i1 = 4294967295u;
+  w2c_i0 = (u32)((s32)w2c_i0 > (s32)w2c_i1);
+  if (w2c_i0) {goto w2c_B143;}
+  w2c_i0 = w2c_l14;
+  w2c_i1 = 4294967264u;
+  w2c_i0 = w2c_i0 < w2c_i1;
+  if (w2c_i0) {goto w2c_B143;}
+  w2c_i0 = w2c_l14;
+  w2c_i1 = 255u;
+  w2c_i0 &= w2c_i1;
+  w2c_l13 = w2c_i0;
+  w2c_j0 = w2c_l10;
+  w2c_i0 = (u32)(w2c_j0);
+  w2c_i0 = i32_load8_u(m, (u64)(w2c_i0) + 1u);
+  w2c_i1 = 63u;
+  w2c_i0 &= w2c_i1;
+  w2c_l20 = w2c_i0;
+  w2c_j0 = w2c_l10;
+  w2c_i0 = (u32)(w2c_j0);
+  w2c_i0 = i32_load8_u(m, (u64)(w2c_i0) + 2u);
+  w2c_i1 = 63u;
+  w2c_i0 &= w2c_i1;
+  w2c_l21 = w2c_i0;
+  w2c_i0 = w2c_l14;
+  w2c_i1 = 4294967280u;
+  w2c_i0 = w2c_i0 < w2c_i1;
+  if (w2c_i0) {goto w2c_B145;}
+  w2c_i0 = w2c_l21;
+  w2c_i1 = 6u;
+  w2c_i0 <<= (w2c_i1 & 31);
+  w2c_i1 = w2c_l20;
+  w2c_i2 = 12u;
+  w2c_i1 <<= (w2c_i2 & 31);
+  w2c_i2 = w2c_l13;
+  w2c_i3 = 18u;
+  w2c_i2 <<= (w2c_i3 & 31);
+  w2c_i3 = 1835008u;
+  w2c_i2 &= w2c_i3;
+  w2c_i1 |= w2c_i2;
+  w2c_i0 |= w2c_i1;
+  w2c_j1 = w2c_l10;
+  w2c_i1 = (u32)(w2c_j1);
+  w2c_i1 = i32_load8_u(m, (u64)(w2c_i1) + 3u);
+  w2c_i2 = 63u;
+  w2c_i1 &= w2c_i2;
+  w2c_i0 |= w2c_i1;
+  w2c_l14 = w2c_i0;
+  w2c_j0 = 4ull;
+  w2c_l10 = w2c_j0;
+  goto w2c_B144;
+  w2c_B145:;
+  w2c_i0 = w2c_l20;
+  w2c_i1 = 6u;
+  w2c_i0 <<= (w2c_i1 & 31);
+  w2c_i1 = w2c_l13;
+  w2c_i2 = 12u;
+  w2c_i1 <<= (w2c_i2 & 31);
+  w2c_i2 = 61440u;
+  w2c_i1 &= w2c_i2;
+  w2c_i0 |= w2c_i1;
+  w2c_i1 = w2c_l21;
+  w2c_i0 |= w2c_i1;
+  w2c_l14 = w2c_i0;
+  w2c_j0 = 3ull;
+  w2c_l10 = w2c_j0;
+  w2c_B144:;
+  w2c_i0 = w2c_l14;
+  w2c_i1 = 19977u;
+  w2c_i0 = w2c_i0 != w2c_i1;
+  if (w2c_i0) {goto w2c_B143;}
+  w2c_i0 = w2c_l12;
+  if (w2c_i0) {goto w2c_B143;}
+  w2c_j0 = w2c_p4;
+  w2c_j1 = w2c_l10;
+  w2c_j2 = w2c_l7;
+  w2c_j1 += w2c_j2;
+  w2c_i0 = w2c_j0 != w2c_j1;
+  if (w2c_i0) {goto w2c_B143;}
+  w2c_j0 = w2c_p5;
+  w2c_i0 = (u32)(w2c_j0);
+  w2c_i0 = i32_load8_s(m, (u64)(w2c_i0));
+  w2c_l14 = w2c_i0;
+  w2c_i1 = 4294967295u;
+  w2c_i0 = (u32)((s32)w2c_i0 > (s32)w2c_i1);
+  if (w2c_i0) {goto w2c_B143;}
+  w2c_i0 = w2c_l14;
+  w2c_i1 = 4294967264u;
+  w2c_i0 = w2c_i0 < w2c_i1;
+  if (w2c_i0) {goto w2c_B143;}
+  w2c_i0 = w2c_l14;
+  w2c_i1 = 255u;
+  w2c_i0 &= w2c_i1;
+  w2c_l13 = w2c_i0;
+  w2c_j0 = w2c_p5;
+  w2c_i0 = (u32)(w2c_j0);
+  w2c_i0 = i32_load8_u(m, (u64)(w2c_i0) + 1u);
+  w2c_i1 = 63u;
+  w2c_i0 &= w2c_i1;
+  w2c_l20 = w2c_i0;
+  w2c_j0 = w2c_p5;
+  w2c_i0 = (u32)(w2c_j0);
+  w2c_i0 = i32_load8_u(m, (u64)(w2c_i0) + 2u);
+  w2c_i1 = 63u;
+  w2c_i0 &= w2c_i1;
+  w2c_l21 = w2c_i0;
+  w2c_i0 = w2c_l14;
+  w2c_i1 = 4294967279u;
+  w2c_i0 = w2c_i0 > w2c_i1;
+  if (w2c_i0) {goto w2c_B147;}
+  w2c_i0 = w2c_l20;
+  w2c_i1 = 6u;
+  w2c_i0 <<= (w2c_i1 & 31);
+  w2c_i1 = w2c_l13;
+  w2c_i2 = 12u;
+  w2c_i1 <<= (w2c_i2 & 31);
+  w2c_i2 = 61440u;
+  w2c_i1 &= w2c_i2;
+  w2c_i0 |= w2c_i1;
+  w2c_i1 = w2c_l21;
+  w2c_i0 |= w2c_i1;
+  w2c_l20 = w2c_i0;
+  goto w2c_B146;
+  w2c_B147:;
+  w2c_i0 = w2c_l21;
+  w2c_i1 = 6u;
+  w2c_i0 <<= (w2c_i1 & 31);
+  w2c_i1 = w2c_l20;
+  w2c_i2 = 12u;
+  w2c_i1 <<= (w2c_i2 & 31);
+  w2c_i2 = w2c_l13;
+  w2c_i3 = 18u;
+  w2c_i2 <<= (w2c_i3 & 31);
+  w2c_i3 = 1835008u;
+  w2c_i2 &= w2c_i3;
+  w2c_i1 |= w2c_i2;
+  w2c_i0 |= w2c_i1;
+  w2c_j1 = w2c_p5;
+  w2c_i1 = (u32)(w2c_j1);
+  w2c_i1 = i32_load8_u(m, (u64)(w2c_i1) + 3u);
+  w2c_i2 = 63u;
+  w2c_i1 &= w2c_i2;
+  w2c_i0 |= w2c_i1;
+  w2c_l20 = w2c_i0;
+  w2c_B146:;
+  w2c_i0 = 1u;
+  w2c_l14 = w2c_i0;
+  w2c_i0 = 0u;
+  w2c_l13 = w2c_i0;
+  w2c_i0 = w2c_l20;
+  w2c_i1 = 22969u;
+  w2c_i0 = w2c_i0 == w2c_i1;
+  if (w2c_i0) {goto w2c_B0;}
+  w2c_i0 = w2c_l20;
+  w2c_i1 = 38517u;
+  w2c_i0 = w2c_i0 == w2c_i1;
+  if (w2c_i0) {goto w2c_B0;}
+  w2c_B143:;
+  w2c_i0 = w2c_l15;
+  w2c_i1 = 4294967279u;
+  w2c_i0 = w2c_i0 > w2c_i1;
+  if (w2c_i0) {goto w2c_B149;}
+  w2c_i0 = w2c_l18;
+  w2c_i1 = 6u;
+  w2c_i0 <<= (w2c_i1 & 31);
+  w2c_i1 = w2c_l16;
+  w2c_i2 = 12u;
+  w2c_i1 <<= (w2c_i2 & 31);
+  w2c_i2 = 61440u;
+  w2c_i1 &= w2c_i2;
+  w2c_i0 |= w2c_i1;
+  w2c_i1 = w2c_l19;
+  w2c_i0 |= w2c_i1;
+  w2c_l14 = w2c_i0;
+  w2c_j0 = 3ull;
+  w2c_l7 = w2c_j0;
+  goto w2c_B148;
+  w2c_B149:;
+  w2c_i0 = w2c_l19;
+  w2c_i1 = 6u;
+  w2c_i0 <<= (w2c_i1 & 31);
+  w2c_i1 = w2c_l18;
+  w2c_i2 = 12u;
+  w2c_i1 <<= (w2c_i2 & 31);
+  w2c_i2 = w2c_l16;
+  w2c_i3 = 18u;
+  w2c_i2 <<= (w2c_i3 & 31);
+  w2c_i3 = 1835008u;
+  w2c_i2 &= w2c_i3;
+  w2c_i1 |= w2c_i2;
+  w2c_i0 |= w2c_i1;
+  w2c_j1 = w2c_p3;
+  w2c_i1 = (u32)(w2c_j1);
+  w2c_i1 = i32_load8_u(m, (u64)(w2c_i1) + 3u);
+  w2c_i2 = 63u;
+  w2c_i1 &= w2c_i2;
+  w2c_i0 |= w2c_i1;
+  w2c_l14 = w2c_i0;
+  w2c_j0 = 4ull;
+  w2c_l7 = w2c_j0;
+  w2c_B148:;
+  w2c_j0 = w2c_p4;
+  w2c_j1 = w2c_l7;
+  w2c_i0 = w2c_j0 == w2c_j1;
+  if (w2c_i0) {goto w2c_B150;}
+  w2c_i0 = w2c_l14;
+  w2c_i1 = 19968u;
+  w2c_i0 = w2c_i0 != w2c_i1;
+  if (w2c_i0) {goto w2c_B150;}
+  w2c_j0 = w2c_p3;
+  w2c_j1 = w2c_l7;
+  w2c_j0 += w2c_j1;
+  w2c_l10 = w2c_j0;
+  w2c_i0 = (u32)(w2c_j0);
+  w2c_i0 = i32_load8_s(m, (u64)(w2c_i0));
+  w2c_l14 = w2c_i0;
+  w2c_i1 = 4294967295u;
+  w2c_i0 = (u32)((s32)w2c_i0 > (s32)w2c_i1);
+  if (w2c_i0) {goto w2c_B150;}
+  w2c_i0 = w2c_l14;
+  w2c_i1 = 4294967264u;
+  w2c_i0 = w2c_i0 < w2c_i1;
+  if (w2c_i0) {goto w2c_B150;}
+  w2c_i0 = w2c_l14;
+  w2c_i1 = 255u;
+  w2c_i0 &= w2c_i1;
+  w2c_l13 = w2c_i0;
+  w2c_j0 = w2c_l10;
+  w2c_i0 = (u32)(w2c_j0);
+  w2c_i0 = i32_load8_u(m, (u64)(w2c_i0) + 1u);
+  w2c_i1 = 63u;
+  w2c_i0 &= w2c_i1;
+  w2c_l20 = w2c_i0;
+  w2c_j0 = w2c_l10;
+  w2c_i0 = (u32)(w2c_j0);
+  w2c_i0 = i32_load8_u(m, (u64)(w2c_i0) + 2u);
+  w2c_i1 = 63u;
+  w2c_i0 &= w2c_i1;
+  w2c_l21 = w2c_i0;
+  w2c_i0 = w2c_l14;
+  w2c_i1 = 4294967280u;
+  w2c_i0 = w2c_i0 < w2c_i1;
+  if (w2c_i0) {goto w2c_B152;}
+  w2c_i0 = w2c_l21;
+  w2c_i1 = 6u;
+  w2c_i0 <<= (w2c_i1 & 31);
+  w2c_i1 = w2c_l20;
+  w2c_i2 = 12u;
+  w2c_i1 <<= (w2c_i2 & 31);
+  w2c_i2 = w2c_l13;
+  w2c_i3 = 18u;
+  w2c_i2 <<= (w2c_i3 & 31);
+  w2c_i3 = 1835008u;
+  w2c_i2 &= w2c_i3;
+  w2c_i1 |= w2c_i2;
+  w2c_i0 |= w2c_i1;
+  w2c_j1 = w2c_l10;
+  w2c_i1 = (u32)(w2c_j1);
+  w2c_i1 = i32_load8_u(m, (u64)(w2c_i1) + 3u);
+  w2c_i2 = 63u;
+  w2c_i1 &= w2c_i2;
+  w2c_i0 |= w2c_i1;
+  w2c_l14 = w2c_i0;
+  w2c_j0 = 4ull;
+  w2c_l9 = w2c_j0;
+  goto w2c_B151;
+  w2c_B152:;
+  w2c_i0 = w2c_l20;
+  w2c_i1 = 6u;
+  w2c_i0 <<= (w2c_i1 & 31);
+  w2c_i1 = w2c_l13;
+  w2c_i2 = 12u;
+  w2c_i1 <<= (w2c_i2 & 31);
+  w2c_i2 = 61440u;
+  w2c_i1 &= w2c_i2;
+  w2c_i0 |= w2c_i1;
+  w2c_i1 = w2c_l21;
+  w2c_i0 |= w2c_i1;
+  w2c_l14 = w2c_i0;
+  w2c_j0 = 3ull;
+  w2c_l9 = w2c_j0;
+  w2c_B151:;
+  w2c_i0 = w2c_l14;
+  w2c_i1 = 21315u;
+  w2c_i0 = w2c_i0 != w2c_i1;
+  if (w2c_i0) {goto w2c_B150;}
+  w2c_j0 = w2c_p4;
+  w2c_j1 = w2c_l9;
+  w2c_j2 = w2c_l7;
+  w2c_j1 += w2c_j2;
+  w2c_l7 = w2c_j1;
+  w2c_i0 = w2c_j0 == w2c_j1;
+  if (w2c_i0) {goto w2c_B150;}
+  w2c_j0 = w2c_l10;
+  w2c_j1 = w2c_l9;
+  w2c_j0 += w2c_j1;
+  w2c_l10 = w2c_j0;
+  w2c_i0 = (u32)(w2c_j0);
+  w2c_i0 = i32_load8_s(m, (u64)(w2c_i0));
+  w2c_l14 = w2c_i0;
+  w2c_i1 = 4294967295u;
+  w2c_i0 = (u32)((s32)w2c_i0 > (s32)w2c_i1);
+  if (w2c_i0) {goto w2c_B150;}
+  w2c_i0 = w2c_l14;
+  w2c_i1 = 4294967264u;
+  w2c_i0 = w2c_i0 < w2c_i1;
+  if (w2c_i0) {goto w2c_B150;}
+  w2c_i0 = w2c_l14;
+  w2c_i1 = 255u;
+  w2c_i0 &= w2c_i1;
+  w2c_l13 = w2c_i0;
+  w2c_j0 = w2c_l10;
+  w2c_i0 = (u32)(w2c_j0);
+  w2c_i0 = i32_load8_u(m, (u64)(w2c_i0) + 1u);
+  w2c_i1 = 63u;
+  w2c_i0 &= w2c_i1;
+  w2c_l20 = w2c_i0;
+  w2c_j0 = w2c_l10;
+  w2c_i0 = (u32)(w2c_j0);
+  w2c_i0 = i32_load8_u(m, (u64)(w2c_i0) + 2u);
+  w2c_i1 = 63u;
+  w2c_i0 &= w2c_i1;
+  w2c_l21 = w2c_i0;
+  w2c_i0 = w2c_l14;
+  w2c_i1 = 4294967280u;
+  w2c_i0 = w2c_i0 < w2c_i1;
+  if (w2c_i0) {goto w2c_B154;}
+  w2c_i0 = w2c_l21;
+  w2c_i1 = 6u;
+  w2c_i0 <<= (w2c_i1 & 31);
+  w2c_i1 = w2c_l20;
+  w2c_i2 = 12u;
+  w2c_i1 <<= (w2c_i2 & 31);
+  w2c_i2 = w2c_l13;
+  w2c_i3 = 18u;
+  w2c_i2 <<= (w2c_i3 & 31);
+  w2c_i3 = 1835008u;
+  w2c_i2 &= w2c_i3;
+  w2c_i1 |= w2c_i2;
+  w2c_i0 |= w2c_i1;
+  w2c_j1 = w2c_l10;
+  w2c_i1 = (u32)(w2c_j1);
+  w2c_i1 = i32_load8_u(m, (u64)(w2c_i1) + 3u);
+  w2c_i2 = 63u;
+  w2c_i1 &= w2c_i2;
+  w2c_i0 |= w2c_i1;
+  w2c_l14 = w2c_i0;
+  w2c_j0 = 4ull;
+  w2c_l9 = w2c_j0;
+  goto w2c_B153;
+  w2c_B154:;
+  w2c_i0 = w2c_l20;
+  w2c_i1 = 6u;
+  w2c_i0 <<= (w2c_i1 & 31);
+  w2c_i1 = w2c_l13;
+  w2c_i2 = 12u;
+  w2c_i1 <<= (w2c_i2 & 31);
+  w2c_i2 = 61440u;
+  w2c_i1 &= w2c_i2;
+  w2c_i0 |= w2c_i1;
+  w2c_i1 = w2c_l21;
+  w2c_i0 |= w2c_i1;
+  w2c_l14 = w2c_i0;
+  w2c_j0 = 3ull;
+  w2c_l9 = w2c_j0;
+  w2c_B153:;
+  w2c_i0 = w2c_l14;
+  w2c_i1 = 38646u;
+  w2c_i0 = w2c_i0 != w2c_i1;
+  if (w2c_i0) {goto w2c_B150;}
+  w2c_j0 = w2c_p4;
+  w2c_j1 = w2c_l9;
+  w2c_j2 = w2c_l7;
+  w2c_j1 += w2c_j2;
+  w2c_l7 = w2c_j1;
+  w2c_i0 = w2c_j0 == w2c_j1;
+  if (w2c_i0) {goto w2c_B150;}
+  w2c_j0 = w2c_l10;
+  w2c_j1 = w2c_l9;
+  w2c_j0 += w2c_j1;
+  w2c_l10 = w2c_j0;
+  w2c_i0 = (u32)(w2c_j0);
+  w2c_i0 = i32_load8_s(m, (u64)(w2c_i0));
+  w2c_l14 = w2c_i0;
+  w2c_i1 = 4294967295u;
+  w2c_i0 = (u32)((s32)w2c_i0 > (s32)w2c_i1);
+  if (w2c_i0) {goto w2c_B150;}
+  w2c_i0 = w2c_l14;
+  w2c_i1 = 4294967264u;
+  w2c_i0 = w2c_i0 < w2c_i1;
+  if (w2c_i0) {goto w2c_B150;}
+  w2c_i0 = w2c_l14;
+  w2c_i1 = 255u;
+  w2c_i0 &= w2c_i1;
+  w2c_l13 = w2c_i0;
+  w2c_j0 = w2c_l10;
+  w2c_i0 = (u32)(w2c_j0);
+  w2c_i0 = i32_load8_u(m, (u64)(w2c_i0) + 1u);
+  w2c_i1 = 63u;
+  w2c_i0 &= w2c_i1;
+  w2c_l20 = w2c_i0;
+  w2c_j0 = w2c_l10;
+  w2c_i0 = (u32)(w2c_j0);
+  w2c_i0 = i32_load8_u(m, (u64)(w2c_i0) + 2u);
+  w2c_i1 = 63u;
+  w2c_i0 &= w2c_i1;
+  w2c_l21 = w2c_i0;
+  w2c_i0 = w2c_l14;
+  w2c_i1 = 4294967280u;
+  w2c_i0 = w2c_i0 < w2c_i1;
+  if (w2c_i0) {goto w2c_B156;}
+  w2c_i0 = w2c_l21;
+  w2c_i1 = 6u;
+  w2c_i0 <<= (w2c_i1 & 31);
+  w2c_i1 = w2c_l20;
+  w2c_i2 = 12u;
+  w2c_i1 <<= (w2c_i2 & 31);
+  w2c_i2 = w2c_l13;
+  w2c_i3 = 18u;
+  w2c_i2 <<= (w2c_i3 & 31);
+  w2c_i3 = 1835008u;
+  w2c_i2 &= w2c_i3;
+  w2c_i1 |= w2c_i2;
+  w2c_i0 |= w2c_i1;
+  w2c_j1 = w2c_l10;
+  w2c_i1 = (u32)(w2c_j1);
+  w2c_i1 = i32_load8_u(m, (u64)(w2c_i1) + 3u);
+  w2c_i2 = 63u;
+  w2c_i1 &= w2c_i2;
+  w2c_i0 |= w2c_i1;
+  w2c_l14 = w2c_i0;
+  w2c_j0 = 4ull;
+  w2c_l10 = w2c_j0;
+  goto w2c_B155;
+  w2c_B156:;
+  w2c_i0 = w2c_l20;
+  w2c_i1 = 6u;
+  w2c_i0 <<= (w2c_i1 & 31);
+  w2c_i1 = w2c_l13;
+  w2c_i2 = 12u;
+  w2c_i1 <<= (w2c_i2 & 31);
+  w2c_i2 = 61440u;
+  w2c_i1 &= w2c_i2;
+  w2c_i0 |= w2c_i1;
+  w2c_i1 = w2c_l21;
+  w2c_i0 |= w2c_i1;
+  w2c_l14 = w2c_i0;
+  w2c_j0 = 3ull;
+  w2c_l10 = w2c_j0;
+  w2c_B155:;
+  w2c_i0 = w2c_l14;
+  w2c_i1 = 19968u;
+  w2c_i0 = w2c_i0 != w2c_i1;
+  if (w2c_i0) {goto w2c_B150;}
+  w2c_i0 = w2c_l12;
+  if (w2c_i0) {goto w2c_B150;}
+  w2c_j0 = w2c_p4;
+  w2c_j1 = w2c_l10;
+  w2c_j2 = w2c_l7;
+  w2c_j1 += w2c_j2;
+  w2c_i0 = w2c_j0 != w2c_j1;
+  if (w2c_i0) {goto w2c_B150;}
+  w2c_j0 = w2c_p5;
+  w2c_i0 = (u32)(w2c_j0);
+  w2c_i0 = i32_load8_s(m, (u64)(w2c_i0));
+  w2c_l14 = w2c_i0;
+  w2c_i1 = 4294967295u;
+  w2c_i0 = (u32)((s32)w2c_i0 > (s32)w2c_i1);
+  if (w2c_i0) {goto w2c_B150;}
+  w2c_i0 = w2c_l14;
+  w2c_i1 = 4294967264u;
+  w2c_i0 = w2c_i0 < w2c_i1;
+  if (w2c_i0) {goto w2c_B150;}
+  w2c_i0 = w2c_l14;
+  w2c_i1 = 255u;
+  w2c_i0 &= w2c_i1;
+  w2c_l13 = w2c_i0;
+  w2c_j0 = w2c_p5;
+  w2c_i0 = (u32)(w2c_j0);
+  w2c_i0 = i32_load8_u(m, (u64)(w2c_i0) + 1u);
+  w2c_i1 = 63u;
+  w2c_i0 &= w2c_i1;
+  w2c_l20 = w2c_i0;
+  w2c_j0 = w2c_p5;
+  w2c_i0 = (u32)(w2c_j0);
+  w2c_i0 = i32_load8_u(m, (u64)(w2c_i0) + 2u);
+  w2c_i1 = 63u;
+  w2c_i0 &= w2c_i1;
+  w2c_l21 = w2c_i0;
+  w2c_i0 = w2c_l14;
+  w2c_i1 = 4294967279u;
+  w2c_i0 = w2c_i0 > w2c_i1;
+  if (w2c_i0) {goto w2c_B158;}
+  w2c_i0 = w2c_l20;
+  w2c_i1 = 6u;
+  w2c_i0 <<= (w2c_i1 & 31);
+  w2c_i1 = w2c_l13;
+  w2c_i2 = 12u;
+  w2c_i1 <<= (w2c_i2 & 31);
+  w2c_i2 = 61440u;
+  w2c_i1 &= w2c_i2;
+  w2c_i0 |= w2c_i1;
+  w2c_i1 = w2c_l21;
+  w2c_i0 |= w2c_i1;
+  w2c_l14 = w2c_i0;
+  goto w2c_B157;
+  w2c_B158:;
+  w2c_i0 = w2c_l21;
+  w2c_i1 = 6u;
+  w2c_i0 <<= (w2c_i1 & 31);
+  w2c_i1 = w2c_l20;
+  w2c_i2 = 12u;
+  w2c_i1 <<= (w2c_i2 & 31);
+  w2c_i2 = w2c_l13;
+  w2c_i3 = 18u;
+  w2c_i2 <<= (w2c_i3 & 31);
+  w2c_i3 = 1835008u;
+  w2c_i2 &= w2c_i3;
+  w2c_i1 |= w2c_i2;
+  w2c_i0 |= w2c_i1;
+  w2c_j1 = w2c_p5;
+  w2c_i1 = (u32)(w2c_j1);
+  w2c_i1 = i32_load8_u(m, (u64)(w2c_i1) + 3u);
+  w2c_i2 = 63u;
+  w2c_i1 &= w2c_i2;
+  w2c_i0 |= w2c_i1;
+  w2c_l14 = w2c_i0;
+  w2c_B157:;
+  w2c_i0 = w2c_l14;
+  w2c_i1 = 22812u;
+  w2c_i0 = w2c_i0 == w2c_i1;
+  if (w2c_i0) {goto w2c_B1;}
+  w2c_B150:;
+  w2c_i0 = w2c_l15;
+  w2c_i1 = 4294967279u;
+  w2c_i0 = w2c_i0 > w2c_i1;
+  if (w2c_i0) {goto w2c_B160;}
+  w2c_i0 = w2c_l18;
+  w2c_i1 = 6u;
+  w2c_i0 <<= (w2c_i1 & 31);
+  w2c_i1 = w2c_l16;
+  w2c_i2 = 12u;
+  w2c_i1 <<= (w2c_i2 & 31);
+  w2c_i2 = 61440u;
+  w2c_i1 &= w2c_i2;
+  w2c_i0 |= w2c_i1;
+  w2c_i1 = w2c_l19;
+  w2c_i0 |= w2c_i1;
+  w2c_l14 = w2c_i0;
+  w2c_j0 = 3ull;
+  w2c_l7 = w2c_j0;
+  goto w2c_B159;
+  w2c_B160:;
+  w2c_i0 = w2c_l19;
+  w2c_i1 = 6u;
+  w2c_i0 <<= (w2c_i1 & 31);
+  w2c_i1 = w2c_l18;
+  w2c_i2 = 12u;
+  w2c_i1 <<= (w2c_i2 & 31);
+  w2c_i2 = w2c_l16;
+  w2c_i3 = 18u;
+  w2c_i2 <<= (w2c_i3 & 31);
+  w2c_i3 = 1835008u;
+  w2c_i2 &= w2c_i3;
+  w2c_i1 |= w2c_i2;
+  w2c_i0 |= w2c_i1;
+  w2c_j1 = w2c_p3;
+  w2c_i1 = (u32)(w2c_j1);
+  w2c_i1 = i32_load8_u(m, (u64)(w2c_i1) + 3u);
+  w2c_i2 = 63u;
+  w2c_i1 &= w2c_i2;
+  w2c_i0 |= w2c_i1;
+  w2c_l14 = w2c_i0;
+  w2c_j0 = 4ull;
+  w2c_l7 = w2c_j0;
+  w2c_B159:;
+  w2c_j0 = w2c_p4;
+  w2c_j1 = w2c_l7;
+  w2c_i0 = w2c_j0 == w2c_j1;
+  if (w2c_i0) {goto w2c_B161;}
+  w2c_i0 = w2c_l14;
+  w2c_i1 = 20108u;
+  w2c_i0 = w2c_i0 != w2c_i1;
+  if (w2c_i0) {goto w2c_B161;}
+  w2c_j0 = w2c_p3;
+  w2c_j1 = w2c_l7;
+  w2c_j0 += w2c_j1;
+  w2c_l10 = w2c_j0;
+  w2c_i0 = (u32)(w2c_j0);
+  w2c_i0 = i32_load8_s(m, (u64)(w2c_i0));
+  w2c_l14 = w2c_i0;
+  w2c_i1 = 4294967295u;
+  w2c_i0 = (u32)((s32)w2c_i0 > (s32)w2c_i1);
+  if (w2c_i0) {goto w2c_B161;}
+  w2c_i0 = w2c_l14;
+  w2c_i1 = 4294967264u;
+  w2c_i0 = w2c_i0 < w2c_i1;
+  if (w2c_i0) {goto w2c_B161;}
+  w2c_i0 = w2c_l14;
+  w2c_i1 = 255u;
+  w2c_i0 &= w2c_i1;
+  w2c_l13 = w2c_i0;
+  w2c_j0 = w2c_l10;
+  w2c_i0 = (u32)(w2c_j0);
+  w2c_i0 = i32_load8_u(m, (u64)(w2c_i0) + 1u);
+  w2c_i1 = 63u;
+  w2c_i0 &= w2c_i1;
+  w2c_l20 = w2c_i0;
+  w2c_j0 = w2c_l10;
+  w2c_i0 = (u32)(w2c_j0);
+  w2c_i0 = i32_load8_u(m, (u64)(w2c_i0) + 2u);
+  w2c_i1 = 63u;
+  w2c_i0 &= w2c_i1;
+  w2c_l21 = w2c_i0;
+  w2c_i0 = w2c_l14;
+  w2c_i1 = 4294967280u;
+  w2c_i0 = w2c_i0 < w2c_i1;
+  if (w2c_i0) {goto w2c_B163;}
+  w2c_i0 = w2c_l21;
+  w2c_i1 = 6u;
+  w2c_i0 <<= (w2c_i1 & 31);
+  w2c_i1 = w2c_l20;
+  w2c_i2 = 12u;
+  w2c_i1 <<= (w2c_i2 & 31);
+  w2c_i2 = w2c_l13;
+  w2c_i3 = 18u;
+  w2c_i2 <<= (w2c_i3 & 31);
+  w2c_i3 = 1835008u;
+  w2c_i2 &= w2c_i3;
+  w2c_i1 |= w2c_i2;
+  w2c_i0 |= w2c_i1;
+  w2c_j1 = w2c_l10;
+  w2c_i1 = (u32)(w2c_j1);
+  w2c_i1 = i32_load8_u(m, (u64)(w2c_i1) + 3u);
+  w2c_i2 = 63u;
+  w2c_i1 &= w2c_i2;
+  w2c_i0 |= w2c_i1;
+  w2c_l14 = w2c_i0;
+  w2c_j0 = 4ull;
+  w2c_l10 = w2c_j0;
+  goto w2c_B162;
+  w2c_B163:;
+  w2c_i0 = w2c_l20;
+  w2c_i1 = 6u;
+  w2c_i0 <<= (w2c_i1 & 31);
+  w2c_i1 = w2c_l13;
+  w2c_i2 = 12u;
+  w2c_i1 <<= (w2c_i2 & 31);
+  w2c_i2 = 61440u;
+  w2c_i1 &= w2c_i2;
+  w2c_i0 |= w2c_i1;
+  w2c_i1 = w2c_l21;
+  w2c_i0 |= w2c_i1;
+  w2c_l14 = w2c_i0;
+  w2c_j0 = 3ull;
+  w2c_l10 = w2c_j0;
+  w2c_B162:;
+  w2c_i0 = w2c_l14;
+  w2c_i1 = 20843u;
+  w2c_i0 = w2c_i0 != w2c_i1;
+  if (w2c_i0) {goto w2c_B161;}
+  w2c_j0 = w2c_p4;
+  w2c_j1 = w2c_l10;
+  w2c_j2 = w2c_l7;
+  w2c_j1 += w2c_j2;
+  w2c_i0 = w2c_j0 != w2c_j1;
+  if (w2c_i0) {goto w2c_B161;}
+  w2c_j0 = 68656ull;
+  w2c_j1 = 1ull;
+  w2c_j2 = 68660ull;
+  w2c_j3 = 2ull;
+  w2c_j4 = w2c_p5;
+  w2c_j5 = w2c_p6;
+  w2c_i0 = w2c_f38(m, w2c_j0, w2c_j1, w2c_j2, w2c_j3, w2c_j4, w2c_j5);
+  if (w2c_i0) {goto w2c_B1;}
+  w2c_B161:;
+  w2c_i0 = w2c_l15;
+  w2c_i1 = 4294967279u;
+  w2c_i0 = w2c_i0 > w2c_i1;
+  if (w2c_i0) {goto w2c_B165;}
+  w2c_i0 = w2c_l18;
+  w2c_i1 = 6u;
+  w2c_i0 <<= (w2c_i1 & 31);
+  w2c_i1 = w2c_l16;
+  w2c_i2 = 12u;
+  w2c_i1 <<= (w2c_i2 & 31);
+  w2c_i2 = 61440u;
+  w2c_i1 &= w2c_i2;
+  w2c_i0 |= w2c_i1;
+  w2c_i1 = w2c_l19;
+  w2c_i0 |= w2c_i1;
+  w2c_l14 = w2c_i0;
+  w2c_j0 = 3ull;
+  w2c_l7 = w2c_j0;
+  goto w2c_B164;
+  w2c_B165:;
+  w2c_i0 = w2c_l19;
+  w2c_i1 = 6u;
+  w2c_i0 <<= (w2c_i1 & 31);
+  w2c_i1 = w2c_l18;
+  w2c_i2 = 12u;
+  w2c_i1 <<= (w2c_i2 & 31);
+  w2c_i2 = w2c_l16;
+  w2c_i3 = 18u;
+  w2c_i2 <<= (w2c_i3 & 31);
+  w2c_i3 = 1835008u;
+  w2c_i2 &= w2c_i3;
+  w2c_i1 |= w2c_i2;
+  w2c_i0 |= w2c_i1;
+  w2c_j1 = w2c_p3;
+  w2c_i1 = (u32)(w2c_j1);
+  w2c_i1 = i32_load8_u(m, (u64)(w2c_i1) + 3u);
+  w2c_i2 = 63u;
+  w2c_i1 &= w2c_i2;
+  w2c_i0 |= w2c_i1;
+  w2c_l14 = w2c_i0;
+  w2c_j0 = 4ull;
+  w2c_l7 = w2c_j0;
+  w2c_B164:;
+  w2c_j0 = w2c_p4;
+  w2c_j1 = w2c_l7;
+  w2c_i0 = w2c_j0 == w2c_j1;
+  if (w2c_i0) {goto w2c_B168;}
+  w2c_i0 = w2c_l14;
+  w2c_i1 = 21313u;
+  w2c_i0 = w2c_i0 != w2c_i1;
+  if (w2c_i0) {goto w2c_B168;}
+  w2c_j0 = w2c_p3;
+  w2c_j1 = w2c_l7;
+  w2c_j0 += w2c_j1;
+  w2c_l10 = w2c_j0;
+  w2c_i0 = (u32)(w2c_j0);
+  w2c_i0 = i32_load8_s(m, (u64)(w2c_i0));
+  w2c_l14 = w2c_i0;
+  w2c_i1 = 4294967295u;
+  w2c_i0 = (u32)((s32)w2c_i0 > (s32)w2c_i1);
+  if (w2c_i0) {goto w2c_B168;}
+  w2c_i0 = w2c_l14;
+  w2c_i1 = 4294967264u;
+  w2c_i0 = w2c_i0 < w2c_i1;
+  if (w2c_i0) {goto w2c_B168;}
+  w2c_i0 = w2c_l14;
+  w2c_i1 = 255u;
+  w2c_i0 &= w2c_i1;
+  w2c_l13 = w2c_i0;
+  w2c_j0 = w2c_l10;
+  w2c_i0 = (u32)(w2c_j0);
+  w2c_i0 = i32_load8_u(m, (u64)(w2c_i0) + 1u);
+  w2c_i1 = 63u;
+  w2c_i0 &= w2c_i1;
+  w2c_l20 = w2c_i0;
+  w2c_j0 = w2c_l10;
+  w2c_i0 = (u32)(w2c_j0);
+  w2c_i0 = i32_load8_u(m, (u64)(w2c_i0) + 2u);
+  w2c_i1 = 63u;
+  w2c_i0 &= w2c_i1;
+  w2c_l21 = w2c_i0;
+  w2c_i0 = w2c_l14;
+  w2c_i1 = 4294967280u;
+  w2c_i0 = w2c_i0 < w2c_i1;
+  if (w2c_i0) {goto w2c_B170;}
+  w2c_i0 = w2c_l21;
+  w2c_i1 = 6u;
+  w2c_i0 <<= (w2c_i1 & 31);
+  w2c_i1 = w2c_l20;
+  w2c_i2 = 12u;
+  w2c_i1 <<= (w2c_i2 & 31);
+  w2c_i2 = w2c_l13;
+  w2c_i3 = 18u;
+  w2c_i2 <<= (w2c_i3 & 31);
+  w2c_i3 = 1835008u;
+  w2c_i2 &= w2c_i3;
+  w2c_i1 |= w2c_i2;
+  w2c_i0 |= w2c_i1;
+  w2c_j1 = w2c_l10;
+  w2c_i1 = (u32)(w2c_j1);
+  w2c_i1 = i32_load8_u(m, (u64)(w2c_i1) + 3u);
+  w2c_i2 = 63u;
+  w2c_i1 &= w2c_i2;
+  w2c_i0 |= w2c_i1;
+  w2c_l14 = w2c_i0;
+  w2c_j0 = 4ull;
+  w2c_l10 = w2c_j0;
+  goto w2c_B169;
+  w2c_B170:;
+  w2c_i0 = w2c_l20;
+  w2c_i1 = 6u;
+  w2c_i0 <<= (w2c_i1 & 31);
+  w2c_i1 = w2c_l13;
+  w2c_i2 = 12u;
+  w2c_i1 <<= (w2c_i2 & 31);
+  w2c_i2 = 61440u;
+  w2c_i1 &= w2c_i2;
+  w2c_i0 |= w2c_i1;
+  w2c_i1 = w2c_l21;
+  w2c_i0 |= w2c_i1;
+  w2c_l14 = w2c_i0;
+  w2c_j0 = 3ull;
+  w2c_l10 = w2c_j0;
+  w2c_B169:;
+  w2c_i0 = w2c_l14;
+  w2c_i1 = 19975u;
+  w2c_i0 = w2c_i0 != w2c_i1;
+  if (w2c_i0) {goto w2c_B168;}
+  w2c_j0 = w2c_p4;
+  w2c_j1 = w2c_l10;
+  w2c_j2 = w2c_l7;
+  w2c_j1 += w2c_j2;
+  w2c_i0 = w2c_j0 == w2c_j1;
+  if (w2c_i0) {goto w2c_B167;}
+  w2c_B168:;
+  w2c_i0 = w2c_l15;
+  w2c_i1 = 4294967279u;
+  w2c_i0 = w2c_i0 > w2c_i1;
+  if (w2c_i0) {goto w2c_B172;}
+  w2c_i0 = w2c_l18;
+  w2c_i1 = 6u;
+  w2c_i0 <<= (w2c_i1 & 31);
+  w2c_i1 = w2c_l16;
+  w2c_i2 = 12u;
+  w2c_i1 <<= (w2c_i2 & 31);
+  w2c_i2 = 61440u;
+  w2c_i1 &= w2c_i2;
+  w2c_i0 |= w2c_i1;
+  w2c_i1 = w2c_l19;
+  w2c_i0 |= w2c_i1;
+  w2c_l14 = w2c_i0;
+  w2c_j0 = 3ull;
+  w2c_l7 = w2c_j0;
+  goto w2c_B171;
+  w2c_B172:;
+  w2c_i0 = w2c_l19;
+  w2c_i1 = 6u;
+  w2c_i0 <<= (w2c_i1 & 31);
+  w2c_i1 = w2c_l18;
+  w2c_i2 = 12u;
+  w2c_i1 <<= (w2c_i2 & 31);
+  w2c_i2 = w2c_l16;
+  w2c_i3 = 18u;
+  w2c_i2 <<= (w2c_i3 & 31);
+  w2c_i3 = 1835008u;
+  w2c_i2 &= w2c_i3;
+  w2c_i1 |= w2c_i2;
+  w2c_i0 |= w2c_i1;
+  w2c_j1 = w2c_p3;
+  w2c_i1 = (u32)(w2c_j1);
+  w2c_i1 = i32_load8_u(m, (u64)(w2c_i1) + 3u);
+  w2c_i2 = 63u;
+  w2c_i1 &= w2c_i2;
+  w2c_i0 |= w2c_i1;
+  w2c_l14 = w2c_i0;
+  w2c_j0 = 4ull;
+  w2c_l7 = w2c_j0;
+  w2c_B171:;
+  w2c_j0 = w2c_p4;
+  w2c_j1 = w2c_l7;
+  w2c_i0 = w2c_j0 == w2c_j1;
+  if (w2c_i0) {goto w2c_B166;}
+  w2c_i0 = w2c_l14;
+  w2c_i1 = 21313u;
+  w2c_i0 = w2c_i0 != w2c_i1;
+  if (w2c_i0) {goto w2c_B166;}
+  w2c_j0 = w2c_p3;
+  w2c_j1 = w2c_l7;
+  w2c_j0 += w2c_j1;
+  w2c_l10 = w2c_j0;
+  w2c_i0 = (u32)(w2c_j0);
+  w2c_i0 = i32_load8_s(m, (u64)(w2c_i0));
+  w2c_l14 = w2c_i0;
+  w2c_i1 = 4294967295u;
+  w2c_i0 = (u32)((s32)w2c_i0 > (s32)w2c_i1);
+  if (w2c_i0) {goto w2c_B166;}
+  w2c_i0 = w2c_l14;
+  w2c_i1 = 4294967264u;
+  w2c_i0 = w2c_i0 < w2c_i1;
+  if (w2c_i0) {goto w2c_B166;}
+  w2c_i0 = w2c_l14;
+  w2c_i1 = 255u;
+  w2c_i0 &= w2c_i1;
+  w2c_l13 = w2c_i0;
+  w2c_j0 = w2c_l10;
+  w2c_i0 = (u32)(w2c_j0);
+  w2c_i0 = i32_load8_u(m, (u64)(w2c_i0) + 1u);
+  w2c_i1 = 63u;
+  w2c_i0 &= w2c_i1;
+  w2c_l20 = w2c_i0;
+  w2c_j0 = w2c_l10;
+  w2c_i0 = (u32)(w2c_j0);
+  w2c_i0 = i32_load8_u(m, (u64)(w2c_i0) + 2u);
+  w2c_i1 = 63u;
+  w2c_i0 &= w2c_i1;
+  w2c_l21 = w2c_i0;
+  w2c_i0 = w2c_l14;
+  w2c_i1 = 4294967280u;
+  w2c_i0 = w2c_i0 < w2c_i1;
+  if (w2c_i0) {goto w2c_B174;}
+  w2c_i0 = w2c_l21;
+  w2c_i1 = 6u;
+  w2c_i0 <<= (w2c_i1 & 31);
+  w2c_i1 = w2c_l20;
+  w2c_i2 = 12u;
+  w2c_i1 <<= (w2c_i2 & 31);
+  w2c_i2 = w2c_l13;
+  w2c_i3 = 18u;
+  w2c_i2 <<= (w2c_i3 & 31);
+  w2c_i3 = 1835008u;
+  w2c_i2 &= w2c_i3;
+  w2c_i1 |= w2c_i2;
+  w2c_i0 |= w2c_i1;
+  w2c_j1 = w2c_l10;
+  w2c_i1 = (u32)(w2c_j1);
+  w2c_i1 = i32_load8_u(m, (u64)(w2c_i1) + 3u);
+  w2c_i2 = 63u;
+  w2c_i1 &= w2c_i2;
+  w2c_i0 |= w2c_i1;
+  w2c_l14 = w2c_i0;
+  w2c_j0 = 4ull;
+  w2c_l10 = w2c_j0;
+  goto w2c_B173;
+  w2c_B174:;
+  w2c_i0 = w2c_l20;
+  w2c_i1 = 6u;
+  w2c_i0 <<= (w2c_i1 & 31);
+  w2c_i1 = w2c_l13;
+  w2c_i2 = 12u;
+  w2c_i1 <<= (w2c_i2 & 31);
+  w2c_i2 = 61440u;
+  w2c_i1 &= w2c_i2;
+  w2c_i0 |= w2c_i1;
+  w2c_i1 = w2c_l21;
+  w2c_i0 |= w2c_i1;
+  w2c_l14 = w2c_i0;
+  w2c_j0 = 3ull;
+  w2c_l10 = w2c_j0;
+  w2c_B173:;
+  w2c_i0 = w2c_l14;
+  w2c_i1 = 33836u;
+  w2c_i0 = w2c_i0 != w2c_i1;
+  if (w2c_i0) {goto w2c_B166;}
+  w2c_j0 = w2c_p4;
+  w2c_j1 = w2c_l10;
+  w2c_j2 = w2c_l7;
+  w2c_j1 += w2c_j2;
+  w2c_i0 = w2c_j0 != w2c_j1;
+  if (w2c_i0) {goto w2c_B166;}
+  w2c_B167:;
+  w2c_j0 = 68668ull;
+  w2c_j1 = 1ull;
+  w2c_j2 = 68672ull;
+  w2c_j3 = 1ull;
+  w2c_j4 = w2c_p5;
+  w2c_j5 = w2c_p6;
+  w2c_i0 = w2c_f38(m, w2c_j0, w2c_j1, w2c_j2, w2c_j3, w2c_j4, w2c_j5);
+  if (w2c_i0) {goto w2c_B1;}
+  w2c_B166:;
+  w2c_i0 = w2c_l15;
+  w2c_i1 = 4294967279u;
+  w2c_i0 = w2c_i0 > w2c_i1;
+  if (w2c_i0) {goto w2c_B176;}
+  w2c_i0 = w2c_l18;
+  w2c_i1 = 6u;
+  w2c_i0 <<= (w2c_i1 & 31);
+  w2c_i1 = w2c_l16;
+  w2c_i2 = 12u;
+  w2c_i1 <<= (w2c_i2 & 31);
+  w2c_i2 = 61440u;
+  w2c_i1 &= w2c_i2;
+  w2c_i0 |= w2c_i1;
+  w2c_i1 = w2c_l19;
+  w2c_i0 |= w2c_i1;
+  w2c_l14 = w2c_i0;
+  w2c_j0 = 3ull;
+  w2c_l7 = w2c_j0;
+  goto w2c_B175;
+  w2c_B176:;
+  w2c_i0 = w2c_l19;
+  w2c_i1 = 6u;
+  w2c_i0 <<= (w2c_i1 & 31);
+  w2c_i1 = w2c_l18;
+  w2c_i2 = 12u;
+  w2c_i1 <<= (w2c_i2 & 31);
+  w2c_i2 = w2c_l16;
+  w2c_i3 = 18u;
+  w2c_i2 <<= (w2c_i3 & 31);
+  w2c_i3 = 1835008u;
+  w2c_i2 &= w2c_i3;
+  w2c_i1 |= w2c_i2;
+  w2c_i0 |= w2c_i1;
+  w2c_j1 = w2c_p3;
+  w2c_i1 = (u32)(w2c_j1);
+  w2c_i1 = i32_load8_u(m, (u64)(w2c_i1) + 3u);
+  w2c_i2 = 63u;
+  w2c_i1 &= w2c_i2;
+  w2c_i0 |= w2c_i1;
+  w2c_l14 = w2c_i0;
+  w2c_j0 = 4ull;
+  w2c_l7 = w2c_j0;
+  w2c_B175:;
+  w2c_j0 = w2c_p4;
+  w2c_j1 = w2c_l7;
+  w2c_i0 = w2c_j0 == w2c_j1;
+  if (w2c_i0) {goto w2c_B180;}
+  w2c_i0 = w2c_l14;
+  w2c_i1 = 21313u;
+  w2c_i0 = w2c_i0 != w2c_i1;
+  if (w2c_i0) {goto w2c_B180;}
+  w2c_j0 = w2c_p3;
+  w2c_j1 = w2c_l7;
+  w2c_j0 += w2c_j1;
+  w2c_l10 = w2c_j0;
+  w2c_i0 = (u32)(w2c_j0);
+  w2c_i0 = i32_load8_s(m, (u64)(w2c_i0));
+  w2c_l14 = w2c_i0;
+  w2c_i1 = 4294967295u;
+  w2c_i0 = (u32)((s32)w2c_i0 > (s32)w2c_i1);
+  if (w2c_i0) {goto w2c_B180;}
+  w2c_i0 = w2c_l14;
+  w2c_i1 = 4294967264u;
+  w2c_i0 = w2c_i0 < w2c_i1;
+  if (w2c_i0) {goto w2c_B180;}
+  w2c_i0 = w2c_l14;
+  w2c_i1 = 255u;
+  w2c_i0 &= w2c_i1;
+  w2c_l13 = w2c_i0;
+  w2c_j0 = w2c_l10;
+  w2c_i0 = (u32)(w2c_j0);
+  w2c_i0 = i32_load8_u(m, (u64)(w2c_i0) + 1u);
+  w2c_i1 = 63u;
+  w2c_i0 &= w2c_i1;
+  w2c_l20 = w2c_i0;
+  w2c_j0 = w2c_l10;
+  w2c_i0 = (u32)(w2c_j0);
+  w2c_i0 = i32_load8_u(m, (u64)(w2c_i0) + 2u);
+  w2c_i1 = 63u;
+  w2c_i0 &= w2c_i1;
+  w2c_l21 = w2c_i0;
+  w2c_i0 = w2c_l14;
+  w2c_i1 = 4294967280u;
+  w2c_i0 = w2c_i0 < w2c_i1;
+  if (w2c_i0) {goto w2c_B182;}
+  w2c_i0 = w2c_l21;
+  w2c_i1 = 6u;
+  w2c_i0 <<= (w2c_i1 & 31);
+  w2c_i1 = w2c_l20;
+  w2c_i2 = 12u;
+  w2c_i1 <<= (w2c_i2 & 31);
+  w2c_i2 = w2c_l13;
+  w2c_i3 = 18u;
+  w2c_i2 <<= (w2c_i3 & 31);
+  w2c_i3 = 1835008u;
+  w2c_i2 &= w2c_i3;
+  w2c_i1 |= w2c_i2;
+  w2c_i0 |= w2c_i1;
+  w2c_j1 = w2c_l10;
+  w2c_i1 = (u32)(w2c_j1);
+  w2c_i1 = i32_load8_u(m, (u64)(w2c_i1) + 3u);
+  w2c_i2 = 63u;
+  w2c_i1 &= w2c_i2;
+  w2c_i0 |= w2c_i1;
+  w2c_l14 = w2c_i0;
+  w2c_j0 = 4ull;
+  w2c_l9 = w2c_j0;
+  goto w2c_B181;
+  w2c_B182:;
+  w2c_i0 = w2c_l20;
+  w2c_i1 = 6u;
+  w2c_i0 <<= (w2c_i1 & 31);
+  w2c_i1 = w2c_l13;
+  w2c_i2 = 12u;
+  w2c_i1 <<= (w2c_i2 & 31);
+  w2c_i2 = 61440u;
+  w2c_i1 &= w2c_i2;
+  w2c_i0 |= w2c_i1;
+  w2c_i1 = w2c_l21;
+  w2c_i0 |= w2c_i1;
+  w2c_l14 = w2c_i0;
+  w2c_j0 = 3ull;
+  w2c_l9 = w2c_j0;
+  w2c_B181:;
+  w2c_i0 = w2c_l14;
+  w2c_i1 = 19975u;
+  w2c_i0 = w2c_i0 != w2c_i1;
+  if (w2c_i0) {goto w2c_B180;}
+  w2c_j0 = w2c_p4;
+  w2c_j1 = w2c_l9;
+  w2c_j2 = w2c_l7;
+  w2c_j1 += w2c_j2;
+  w2c_l7 = w2c_j1;
+  w2c_i0 = w2c_j0 == w2c_j1;
+  if (w2c_i0) {goto w2c_B180;}
+  w2c_j0 = w2c_l10;
+  w2c_j1 = w2c_l9;
+  w2c_j0 += w2c_j1;
+  w2c_l10 = w2c_j0;
+  w2c_i0 = (u32)(w2c_j0);
+  w2c_i0 = i32_load8_s(m, (u64)(w2c_i0));
+  w2c_l14 = w2c_i0;
+  w2c_i1 = 4294967295u;
+  w2c_i0 = (u32)((s32)w2c_i0 > (s32)w2c_i1);
+  if (w2c_i0) {goto w2c_B180;}
+  w2c_i0 = w2c_l14;
+  w2c_i1 = 4294967264u;
+  w2c_i0 = w2c_i0 < w2c_i1;
+  if (w2c_i0) {goto w2c_B180;}
+  w2c_i0 = w2c_l14;
+  w2c_i1 = 255u;
+  w2c_i0 &= w2c_i1;
+  w2c_l13 = w2c_i0;
+  w2c_j0 = w2c_l10;
+  w2c_i0 = (u32)(w2c_j0);
+  w2c_i0 = i32_load8_u(m, (u64)(w2c_i0) + 1u);
+  w2c_i1 = 63u;
+  w2c_i0 &= w2c_i1;
+  w2c_l20 = w2c_i0;
+  w2c_j0 = w2c_l10;
+  w2c_i0 = (u32)(w2c_j0);
+  w2c_i0 = i32_load8_u(m, (u64)(w2c_i0) + 2u);
+  w2c_i1 = 63u;
+  w2c_i0 &= w2c_i1;
+  w2c_l21 = w2c_i0;
+  w2c_i0 = w2c_l14;
+  w2c_i1 = 4294967280u;
+  w2c_i0 = w2c_i0 < w2c_i1;
+  if (w2c_i0) {goto w2c_B184;}
+  w2c_i0 = w2c_l21;
+  w2c_i1 = 6u;
+  w2c_i0 <<= (w2c_i1 & 31);
+  w2c_i1 = w2c_l20;
+  w2c_i2 = 12u;
+  w2c_i1 <<= (w2c_i2 & 31);
+  w2c_i2 = w2c_l13;
+  w2c_i3 = 18u;
+  w2c_i2 <<= (w2c_i3 & 31);
+  w2c_i3 = 1835008u;
+  w2c_i2 &= w2c_i3;
+  w2c_i1 |= w2c_i2;
+  w2c_i0 |= w2c_i1;
+  w2c_j1 = w2c_l10;
+  w2c_i1 = (u32)(w2c_j1);
+  w2c_i1 = i32_load8_u(m, (u64)(w2c_i1) + 3u);
+  w2c_i2 = 63u;
+  w2c_i1 &= w2c_i2;
+  w2c_i0 |= w2c_i1;
+  w2c_l14 = w2c_i0;
+  w2c_j0 = 4ull;
+  w2c_l9 = w2c_j0;
+  goto w2c_B183;
+  w2c_B184:;
+  w2c_i0 = w2c_l20;
+  w2c_i1 = 6u;
+  w2c_i0 <<= (w2c_i1 & 31);
+  w2c_i1 = w2c_l13;
+  w2c_i2 = 12u;
+  w2c_i1 <<= (w2c_i2 & 31);
+  w2c_i2 = 61440u;
+  w2c_i1 &= w2c_i2;
+  w2c_i0 |= w2c_i1;
+  w2c_i1 = w2c_l21;
+  w2c_i0 |= w2c_i1;
+  w2c_l14 = w2c_i0;
+  w2c_j0 = 3ull;
+  w2c_l9 = w2c_j0;
+  w2c_B183:;
+  w2c_i0 = w2c_l14;
+  w2c_i1 = 20843u;
+  w2c_i0 = w2c_i0 != w2c_i1;
+  if (w2c_i0) {goto w2c_B180;}
+  w2c_j0 = w2c_p4;
+  w2c_j1 = w2c_l9;
+  w2c_j2 = w2c_l7;
+  w2c_j1 += w2c_j2;
+  w2c_l7 = w2c_j1;
+  w2c_i0 = w2c_j0 == w2c_j1;
+  if (w2c_i0) {goto w2c_B180;}
+  w2c_j0 = w2c_l10;
+  w2c_j1 = w2c_l9;
+  w2c_j0 += w2c_j1;
+  w2c_l10 = w2c_j0;
+  w2c_i0 = (u32)(w2c_j0);
+  w2c_i0 = i32_load8_s(m, (u64)(w2c_i0));
+  w2c_l14 = w2c_i0;
+  w2c_i1 = 4294967295u;
+  w2c_i0 = (u32)((s32)w2c_i0 > (s32)w2c_i1);
+  if (w2c_i0) {goto w2c_B180;}
+  w2c_i0 = w2c_l14;
+  w2c_i1 = 4294967264u;
+  w2c_i0 = w2c_i0 < w2c_i1;
+  if (w2c_i0) {goto w2c_B180;}
+  w2c_i0 = w2c_l14;
+  w2c_i1 = 255u;
+  w2c_i0 &= w2c_i1;
+  w2c_l13 = w2c_i0;
+  w2c_j0 = w2c_l10;
+  w2c_i0 = (u32)(w2c_j0);
+  w2c_i0 = i32_load8_u(m, (u64)(w2c_i0) + 1u);
+  w2c_i1 = 63u;
+  w2c_i0 &= w2c_i1;
+  w2c_l20 = w2c_i0;
+  w2c_j0 = w2c_l10;
+  w2c_i0 = (u32)(w2c_j0);
+  w2c_i0 = i32_load8_u(m, (u64)(w2c_i0) + 2u);
+  w2c_i1 = 63u;
+  w2c_i0 &= w2c_i1;
+  w2c_l21 = w2c_i0;
+  w2c_i0 = w2c_l14;
+  w2c_i1 = 4294967280u;
+  w2c_i0 = w2c_i0 < w2c_i1;
+  if (w2c_i0) {goto w2c_B186;}
+  w2c_i0 = w2c_l21;
+  w2c_i1 = 6u;
+  w2c_i0 <<= (w2c_i1 & 31);
+  w2c_i1 = w2c_l20;
+  w2c_i2 = 12u;
+  w2c_i1 <<= (w2c_i2 & 31);
+  w2c_i2 = w2c_l13;
+  w2c_i3 = 18u;
+  w2c_i2 <<= (w2c_i3 & 31);
+  w2c_i3 = 1835008u;
+  w2c_i2 &= w2c_i3;
+  w2c_i1 |= w2c_i2;
+  w2c_i0 |= w2c_i1;
+  w2c_j1 = w2c_l10;
+  w2c_i1 = (u32)(w2c_j1);
+  w2c_i1 = i32_load8_u(m, (u64)(w2c_i1) + 3u);
+  w2c_i2 = 63u;
+  w2c_i1 &= w2c_i2;
+  w2c_i0 |= w2c_i1;
+  w2c_l14 = w2c_i0;
+  w2c_j0 = 4ull;
+  w2c_l10 = w2c_j0;
+  goto w2c_B185;
+  w2c_B186:;
+  w2c_i0 = w2c_l20;
+  w2c_i1 = 6u;
+  w2c_i0 <<= (w2c_i1 & 31);
+  w2c_i1 = w2c_l13;
+  w2c_i2 = 12u;
+  w2c_i1 <<= (w2c_i2 & 31);
+  w2c_i2 = 61440u;
+  w2c_i1 &= w2c_i2;
+  w2c_i0 |= w2c_i1;
+  w2c_i1 = w2c_l21;
+  w2c_i0 |= w2c_i1;
+  w2c_l14 = w2c_i0;
+  w2c_j0 = 3ull;
+  w2c_l10 = w2c_j0;
+  w2c_B185:;
+  w2c_i0 = w2c_l14;
+  w2c_i1 = 21315u;
+  w2c_i0 = w2c_i0 != w2c_i1;
+  if (w2c_i0) {goto w2c_B180;}
+  w2c_j0 = w2c_p4;
+  w2c_j1 = w2c_l10;
+  w2c_j2 = w2c_l7;
+  w2c_j1 += w2c_j2;
+  w2c_i0 = w2c_j0 == w2c_j1;
+  if (w2c_i0) {goto w2c_B179;}
+  w2c_B180:;
+  w2c_i0 = w2c_l15;
+  w2c_i1 = 4294967279u;
+  w2c_i0 = w2c_i0 > w2c_i1;
+  if (w2c_i0) {goto w2c_B188;}
+  w2c_i0 = w2c_l18;
+  w2c_i1 = 6u;
+  w2c_i0 <<= (w2c_i1 & 31);
+  w2c_i1 = w2c_l16;
+  w2c_i2 = 12u;
+  w2c_i1 <<= (w2c_i2 & 31);
+  w2c_i2 = 61440u;
+  w2c_i1 &= w2c_i2;
+  w2c_i0 |= w2c_i1;
+  w2c_i1 = w2c_l19;
+  w2c_i0 |= w2c_i1;
+  w2c_l14 = w2c_i0;
+  w2c_j0 = 3ull;
+  w2c_l7 = w2c_j0;
+  goto w2c_B187;
+  w2c_B188:;
+  w2c_i0 = w2c_l19;
+  w2c_i1 = 6u;
+  w2c_i0 <<= (w2c_i1 & 31);
+  w2c_i1 = w2c_l18;
+  w2c_i2 = 12u;
+  w2c_i1 <<= (w2c_i2 & 31);
+  w2c_i2 = w2c_l16;
+  w2c_i3 = 18u;
+  w2c_i2 <<= (w2c_i3 & 31);
+  w2c_i3 = 1835008u;
+  w2c_i2 &= w2c_i3;
+  w2c_i1 |= w2c_i2;
+  w2c_i0 |= w2c_i1;
+  w2c_j1 = w2c_p3;
+  w2c_i1 = (u32)(w2c_j1);
+  w2c_i1 = i32_load8_u(m, (u64)(w2c_i1) + 3u);
+  w2c_i2 = 63u;
+  w2c_i1 &= w2c_i2;
+  w2c_i0 |= w2c_i1;
+  w2c_l14 = w2c_i0;
+  w2c_j0 = 4ull;
+  w2c_l7 = w2c_j0;
+  w2c_B187:;
+  w2c_j0 = w2c_p4;
+  w2c_j1 = w2c_l7;
+  w2c_i0 = w2c_j0 == w2c_j1;
+  if (w2c_i0) {goto w2c_B177;}
+  w2c_i0 = w2c_l14;
+  w2c_i1 = 21313u;
+  w2c_i0 = w2c_i0 != w2c_i1;
+  if (w2c_i0) {goto w2c_B177;}
+  w2c_j0 = w2c_p3;
+  w2c_j1 = w2c_l7;
+  w2c_j0 += w2c_j1;
+  w2c_l10 = w2c_j0;
+  w2c_i0 = (u32)(w2c_j0);
+  w2c_i0 = i32_load8_s(m, (u64)(w2c_i0));
+  w2c_l14 = w2c_i0;
+  w2c_i1 = 4294967295u;
+  w2c_i0 = (u32)((s32)w2c_i0 > (s32)w2c_i1);
+  if (w2c_i0) {goto w2c_B177;}
+  w2c_i0 = w2c_l14;
+  w2c_i1 = 4294967264u;
+  w2c_i0 = w2c_i0 < w2c_i1;
+  if (w2c_i0) {goto w2c_B177;}
+  w2c_i0 = w2c_l14;
+  w2c_i1 = 255u;
+  w2c_i0 &= w2c_i1;
+  w2c_l13 = w2c_i0;
+  w2c_j0 = w2c_l10;
+  w2c_i0 = (u32)(w2c_j0);
+  w2c_i0 = i32_load8_u(m, (u64)(w2c_i0) + 1u);
+  w2c_i1 = 63u;
+  w2c_i0 &= w2c_i1;
+  w2c_l20 = w2c_i0;
+  w2c_j0 = w2c_l10;
+  w2c_i0 = (u32)(w2c_j0);
+  w2c_i0 = i32_load8_u(m, (u64)(w2c_i0) + 2u);
+  w2c_i1 = 63u;
+  w2c_i0 &= w2c_i1;
+  w2c_l21 = w2c_i0;
+  w2c_i0 = w2c_l14;
+  w2c_i1 = 4294967280u;
+  w2c_i0 = w2c_i0 < w2c_i1;
+  if (w2c_i0) {goto w2c_B190;}
+  w2c_i0 = w2c_l21;
+  w2c_i1 = 6u;
+  w2c_i0 <<= (w2c_i1 & 31);
+  w2c_i1 = w2c_l20;
+  w2c_i2 = 12u;
+  w2c_i1 <<= (w2c_i2 & 31);
+  w2c_i2 = w2c_l13;
+  w2c_i3 = 18u;
+  w2c_i2 <<= (w2c_i3 & 31);
+  w2c_i3 = 1835008u;
+  w2c_i2 &= w2c_i3;
+  w2c_i1 |= w2c_i2;
+  w2c_i0 |= w2c_i1;
+  w2c_j1 = w2c_l10;
+  w2c_i1 = (u32)(w2c_j1);
+  w2c_i1 = i32_load8_u(m, (u64)(w2c_i1) + 3u);
+  w2c_i2 = 63u;
+  w2c_i1 &= w2c_i2;
+  w2c_i0 |= w2c_i1;
+  w2c_l14 = w2c_i0;
+  w2c_j0 = 4ull;
+  w2c_l9 = w2c_j0;
+  goto w2c_B189;
+  w2c_B190:;
+  w2c_i0 = w2c_l20;
+  w2c_i1 = 6u;
+  w2c_i0 <<= (w2c_i1 & 31);
+  w2c_i1 = w2c_l13;
+  w2c_i2 = 12u;
+  w2c_i1 <<= (w2c_i2 & 31);
+  w2c_i2 = 61440u;
+  w2c_i1 &= w2c_i2;
+  w2c_i0 |= w2c_i1;
+  w2c_i1 = w2c_l21;
+  w2c_i0 |= w2c_i1;
+  w2c_l14 = w2c_i0;
+  w2c_j0 = 3ull;
+  w2c_l9 = w2c_j0;
+  w2c_B189:;
+  w2c_i0 = w2c_l14;
+  w2c_i1 = 33836u;
+  w2c_i0 = w2c_i0 != w2c_i1;
+  if (w2c_i0) {goto w2c_B177;}
+  w2c_j0 = w2c_p4;
+  w2c_j1 = w2c_l9;
+  w2c_j2 = w2c_l7;
+  w2c_j1 += w2c_j2;
+  w2c_l7 = w2c_j1;
+  w2c_i0 = w2c_j0 == w2c_j1;
+  if (w2c_i0) {goto w2c_B177;}
+  w2c_j0 = w2c_l10;
+  w2c_j1 = w2c_l9;
+  w2c_j0 += w2c_j1;
+  w2c_l10 = w2c_j0;
+  w2c_i0 = (u32)(w2c_j0);
+  w2c_i0 = i32_load8_s(m, (u64)(w2c_i0));
+  w2c_l14 = w2c_i0;
+  w2c_i1 = 4294967295u;
+  w2c_i0 = (u32)((s32)w2c_i0 > (s32)w2c_i1);
+  if (w2c_i0) {goto w2c_B177;}
+  w2c_i0 = w2c_l14;
+  w2c_i1 = 4294967264u;
+  w2c_i0 = w2c_i0 < w2c_i1;
+  if (w2c_i0) {goto w2c_B177;}
+  w2c_i0 = w2c_l14;
+  w2c_i1 = 255u;
+  w2c_i0 &= w2c_i1;
+  w2c_l13 = w2c_i0;
+  w2c_j0 = w2c_l10;
+  w2c_i0 = (u32)(w2c_j0);
+  w2c_i0 = i32_load8_u(m, (u64)(w2c_i0) + 1u);
+  w2c_i1 = 63u;
+  w2c_i0 &= w2c_i1;
+  w2c_l20 = w2c_i0;
+  w2c_j0 = w2c_l10;
+  w2c_i0 = (u32)(w2c_j0);
+  w2c_i0 = i32_load8_u(m, (u64)(w2c_i0) + 2u);
+  w2c_i1 = 63u;
+  w2c_i0 &= w2c_i1;
+  w2c_l21 = w2c_i0;
+  w2c_i0 = w2c_l14;
+  w2c_i1 = 4294967280u;
+  w2c_i0 = w2c_i0 < w2c_i1;
+  if (w2c_i0) {goto w2c_B192;}
+  w2c_i0 = w2c_l21;
+  w2c_i1 = 6u;
+  w2c_i0 <<= (w2c_i1 & 31);
+  w2c_i1 = w2c_l20;
+  w2c_i2 = 12u;
+  w2c_i1 <<= (w2c_i2 & 31);
+  w2c_i2 = w2c_l13;
+  w2c_i3 = 18u;
+  w2c_i2 <<= (w2c_i3 & 31);
+  w2c_i3 = 1835008u;
+  w2c_i2 &= w2c_i3;
+  w2c_i1 |= w2c_i2;
+  w2c_i0 |= w2c_i1;
+  w2c_j1 = w2c_l10;
+  w2c_i1 = (u32)(w2c_j1);
+  w2c_i1 = i32_load8_u(m, (u64)(w2c_i1) + 3u);
+  w2c_i2 = 63u;
+  w2c_i1 &= w2c_i2;
+  w2c_i0 |= w2c_i1;
+  w2c_l14 = w2c_i0;
+  w2c_j0 = 4ull;
+  w2c_l9 = w2c_j0;
+  goto w2c_B191;
+  w2c_B192:;
+  w2c_i0 = w2c_l20;
+  w2c_i1 = 6u;
+  w2c_i0 <<= (w2c_i1 & 31);
+  w2c_i1 = w2c_l13;
+  w2c_i2 = 12u;
+  w2c_i1 <<= (w2c_i2 & 31);
+  w2c_i2 = 61440u;
+  w2c_i1 &= w2c_i2;
+  w2c_i0 |= w2c_i1;
+  w2c_i1 = w2c_l21;
+  w2c_i0 |= w2c_i1;
+  w2c_l14 = w2c_i0;
+  w2c_j0 = 3ull;
+  w2c_l9 = w2c_j0;
+  w2c_B191:;
+  w2c_i0 = w2c_l14;
+  w2c_i1 = 20843u;
+  w2c_i0 = w2c_i0 != w2c_i1;
+  if (w2c_i0) {goto w2c_B177;}
+  w2c_j0 = w2c_p4;
+  w2c_j1 = w2c_l9;
+  w2c_j2 = w2c_l7;
+  w2c_j1 += w2c_j2;
+  w2c_l7 = w2c_j1;
+  w2c_i0 = w2c_j0 == w2c_j1;
+  if (w2c_i0) {goto w2c_B177;}
+  w2c_j0 = w2c_l10;
+  w2c_j1 = w2c_l9;
+  w2c_j0 += w2c_j1;
+  w2c_l10 = w2c_j0;
+  w2c_i0 = (u32)(w2c_j0);
+  w2c_i0 = i32_load8_s(m, (u64)(w2c_i0));
+  w2c_l14 = w2c_i0;
+  w2c_i1 = 4294967295u;
+  w2c_i0 = (u32)((s32)w2c_i0 > (s32)w2c_i1);
+  if (w2c_i0) {goto w2c_B177;}
+  w2c_i0 = w2c_l14;
+  w2c_i1 = 4294967264u;
+  w2c_i0 = w2c_i0 < w2c_i1;
+  if (w2c_i0) {goto w2c_B177;}
+  w2c_i0 = w2c_l14;
+  w2c_i1 = 255u;
+  w2c_i0 &= w2c_i1;
+  w2c_l13 = w2c_i0;
+  w2c_j0 = w2c_l10;
+  w2c_i0 = (u32)(w2c_j0);
+  w2c_i0 = i32_load8_u(m, (u64)(w2c_i0) + 1u);
+  w2c_i1 = 63u;
+  w2c_i0 &= w2c_i1;
+  w2c_l20 = w2c_i0;
+  w2c_j0 = w2c_l10;
+  w2c_i0 = (u32)(w2c_j0);
+  w2c_i0 = i32_load8_u(m, (u64)(w2c_i0) + 2u);
+  w2c_i1 = 63u;
+  w2c_i0 &= w2c_i1;
+  w2c_l21 = w2c_i0;
+  w2c_i0 = w2c_l14;
+  w2c_i1 = 4294967280u;
+  w2c_i0 = w2c_i0 < w2c_i1;
+  if (w2c_i0) {goto w2c_B194;}
+  w2c_i0 = w2c_l21;
+  w2c_i1 = 6u;
+  w2c_i0 <<= (w2c_i1 & 31);
+  w2c_i1 = w2c_l20;
+  w2c_i2 = 12u;
+  w2c_i1 <<= (w2c_i2 & 31);
+  w2c_i2 = w2c_l13;
+  w2c_i3 = 18u;
+  w2c_i2 <<= (w2c_i3 & 31);
+  w2c_i3 = 1835008u;
+  w2c_i2 &= w2c_i3;
+  w2c_i1 |= w2c_i2;
+  w2c_i0 |= w2c_i1;
+  w2c_j1 = w2c_l10;
+  w2c_i1 = (u32)(w2c_j1);
+  w2c_i1 = i32_load8_u(m, (u64)(w2c_i1) + 3u);
+  w2c_i2 = 63u;
+  w2c_i1 &= w2c_i2;
+  w2c_i0 |= w2c_i1;
+  w2c_l14 = w2c_i0;
+  w2c_j0 = 4ull;
+  w2c_l10 = w2c_j0;
+  goto w2c_B193;
+  w2c_B194:;
+  w2c_i0 = w2c_l20;
+  w2c_i1 = 6u;
+  w2c_i0 <<= (w2c_i1 & 31);
+  w2c_i1 = w2c_l13;
+  w2c_i2 = 12u;
+  w2c_i1 <<= (w2c_i2 & 31);
+  w2c_i2 = 61440u;
+  w2c_i1 &= w2c_i2;
+  w2c_i0 |= w2c_i1;
+  w2c_i1 = w2c_l21;
+  w2c_i0 |= w2c_i1;
+  w2c_l14 = w2c_i0;
+  w2c_j0 = 3ull;
+  w2c_l10 = w2c_j0;
+  w2c_B193:;
+  w2c_i0 = w2c_l14;
+  w2c_i1 = 21315u;
+  w2c_i0 = w2c_i0 != w2c_i1;
+  if (w2c_i0) {goto w2c_B177;}
+  w2c_i0 = w2c_l12;
+  if (w2c_i0) {goto w2c_B177;}
+  w2c_j0 = w2c_p4;
+  w2c_j1 = w2c_l10;
+  w2c_j2 = w2c_l7;
+  w2c_j1 += w2c_j2;
+  w2c_i0 = w2c_j0 == w2c_j1;
+  if (w2c_i0) {goto w2c_B178;}
+  goto w2c_B177;
+  w2c_B179:;
+  w2c_i0 = w2c_l12;
+  if (w2c_i0) {goto w2c_B177;}
+  w2c_B178:;
+  w2c_j0 = w2c_p5;
+  w2c_i0 = (u32)(w2c_j0);
+  w2c_i0 = i32_load8_s(m, (u64)(w2c_i0));
+  w2c_l14 = w2c_i0;
+  w2c_i1 = 4294967295u;
+  w2c_i0 = (u32)((s32)w2c_i0 > (s32)w2c_i1);
+  if (w2c_i0) {goto w2c_B177;}
+  w2c_i0 = w2c_l14;
+  w2c_i1 = 4294967264u;
+  w2c_i0 = w2c_i0 < w2c_i1;
+  if (w2c_i0) {goto w2c_B177;}
+  w2c_i0 = w2c_l14;
+  w2c_i1 = 255u;
+  w2c_i0 &= w2c_i1;
+  w2c_l13 = w2c_i0;
+  w2c_j0 = w2c_p5;
+  w2c_i0 = (u32)(w2c_j0);
+  w2c_i0 = i32_load8_u(m, (u64)(w2c_i0) + 1u);
+  w2c_i1 = 63u;
+  w2c_i0 &= w2c_i1;
+  w2c_l20 = w2c_i0;
+  w2c_j0 = w2c_p5;
+  w2c_i0 = (u32)(w2c_j0);
+  w2c_i0 = i32_load8_u(m, (u64)(w2c_i0) + 2u);
+  w2c_i1 = 63u;
+  w2c_i0 &= w2c_i1;
+  w2c_l21 = w2c_i0;
+  w2c_i0 = w2c_l14;
+  w2c_i1 = 4294967279u;
+  w2c_i0 = w2c_i0 > w2c_i1;
+  if (w2c_i0) {goto w2c_B196;}
+  w2c_i0 = w2c_l20;
+  w2c_i1 = 6u;
+  w2c_i0 <<= (w2c_i1 & 31);
+  w2c_i1 = w2c_l13;
+  w2c_i2 = 12u;
+  w2c_i1 <<= (w2c_i2 & 31);
+  w2c_i2 = 61440u;
+  w2c_i1 &= w2c_i2;
+  w2c_i0 |= w2c_i1;
+  w2c_i1 = w2c_l21;
+  w2c_i0 |= w2c_i1;
+  w2c_l14 = w2c_i0;
+  goto w2c_B195;
+  w2c_B196:;
+  w2c_i0 = w2c_l21;
+  w2c_i1 = 6u;
+  w2c_i0 <<= (w2c_i1 & 31);
+  w2c_i1 = w2c_l20;
+  w2c_i2 = 12u;
+  w2c_i1 <<= (w2c_i2 & 31);
+  w2c_i2 = w2c_l13;
+  w2c_i3 = 18u;
+  w2c_i2 <<= (w2c_i3 & 31);
+  w2c_i3 = 1835008u;
+  w2c_i2 &= w2c_i3;
+  w2c_i1 |= w2c_i2;
+  w2c_i0 |= w2c_i1;
+  w2c_j1 = w2c_p5;
+  w2c_i1 = (u32)(w2c_j1);
+  w2c_i1 = i32_load8_u(m, (u64)(w2c_i1) + 3u);
+  w2c_i2 = 63u;
+  w2c_i1 &= w2c_i2;
+  w2c_i0 |= w2c_i1;
+  w2c_l14 = w2c_i0;
+  w2c_B195:;
+  w2c_i0 = w2c_l14;
+  w2c_i1 = 37324u;
+  w2c_i0 = w2c_i0 == w2c_i1;
+  if (w2c_i0) {goto w2c_B1;}
+  w2c_B177:;
+  w2c_i0 = w2c_l15;
+  w2c_i1 = 4294967279u;
+  w2c_i0 = w2c_i0 > w2c_i1;
+  if (w2c_i0) {goto w2c_B198;}
+  w2c_i0 = w2c_l18;
+  w2c_i1 = 6u;
+  w2c_i0 <<= (w2c_i1 & 31);
+  w2c_i1 = w2c_l16;
+  w2c_i2 = 12u;
+  w2c_i1 <<= (w2c_i2 & 31);
+  w2c_i2 = 61440u;
+  w2c_i1 &= w2c_i2;
+  w2c_i0 |= w2c_i1;
+  w2c_i1 = w2c_l19;
+  w2c_i0 |= w2c_i1;
+  w2c_l14 = w2c_i0;
   w2c_j0 = 3ull;
   w2c_l7 = w2c_j0;
   goto w2c_B197;
@@ -24264,10 +24239,10 @@ static void w2c_f29(module *m, u64 w2c_p0, u64 w2c_p1, u64 w2c_p2, u64 w2c_p3, u
   w2c_i0 = w2c_l19;
   w2c_i1 = 6u;
   w2c_i0 <<= (w2c_i1 & 31);
-  w2c_i1 = w2c_l16;
+  w2c_i1 = w2c_l18;
   w2c_i2 = 12u;
   w2c_i1 <<= (w2c_i2 & 31);
-  w2c_i2 = w2c_l15;
+  w2c_i2 = w2c_l16;
   w2c_i3 = 18u;
   w2c_i2 <<= (w2c_i3 & 31);
   w2c_i3 = 1835008u;
@@ -24280,7 +24255,7 @@ static void w2c_f29(module *m, u64 w2c_p0, u64 w2c_p1, u64 w2c_p2, u64 w2c_p3, u
   w2c_i2 = 63u;
   w2c_i1 &= w2c_i2;
   w2c_i0 |= w2c_i1;
-  w2c_l20 = w2c_i0;
+  w2c_l14 = w2c_i0;
   w2c_j0 = 4ull;
   w2c_l7 = w2c_j0;
   w2c_B197:;
@@ -24288,8 +24263,8 @@ static void w2c_f29(module *m, u64 w2c_p0, u64 w2c_p1, u64 w2c_p2, u64 w2c_p3, u
   w2c_j1 = w2c_l7;
   w2c_i0 = w2c_j0 == w2c_j1;
   if (w2c_i0) {goto w2c_B199;}
-  w2c_i0 = w2c_l20;
-  w2c_i1 = 22235u;
+  w2c_i0 = w2c_l14;
+  w2c_i1 = 19977u;
   w2c_i0 = w2c_i0 != w2c_i1;
   if (w2c_i0) {goto w2c_B199;}
   w2c_j0 = w2c_p3;
@@ -24298,41 +24273,41 @@ static void w2c_f29(module *m, u64 w2c_p0, u64 w2c_p1, u64 w2c_p2, u64 w2c_p3, u
   w2c_l10 = w2c_j0;
   w2c_i0 = (u32)(w2c_j0);
   w2c_i0 = i32_load8_s(m, (u64)(w2c_i0));
-  w2c_l20 = w2c_i0;
+  w2c_l14 = w2c_i0;
   w2c_i1 = 4294967295u;
   w2c_i0 = (u32)((s32)w2c_i0 > (s32)w2c_i1);
   if (w2c_i0) {goto w2c_B199;}
-  w2c_i0 = w2c_l20;
+  w2c_i0 = w2c_l14;
   w2c_i1 = 4294967264u;
   w2c_i0 = w2c_i0 < w2c_i1;
   if (w2c_i0) {goto w2c_B199;}
-  w2c_i0 = w2c_l20;
+  w2c_i0 = w2c_l14;
   w2c_i1 = 255u;
   w2c_i0 &= w2c_i1;
-  w2c_l21 = w2c_i0;
+  w2c_l13 = w2c_i0;
   w2c_j0 = w2c_l10;
   w2c_i0 = (u32)(w2c_j0);
   w2c_i0 = i32_load8_u(m, (u64)(w2c_i0) + 1u);
   w2c_i1 = 63u;
   w2c_i0 &= w2c_i1;
-  w2c_l22 = w2c_i0;
+  w2c_l20 = w2c_i0;
   w2c_j0 = w2c_l10;
   w2c_i0 = (u32)(w2c_j0);
   w2c_i0 = i32_load8_u(m, (u64)(w2c_i0) + 2u);
   w2c_i1 = 63u;
   w2c_i0 &= w2c_i1;
-  w2c_l23 = w2c_i0;
-  w2c_i0 = w2c_l20;
+  w2c_l21 = w2c_i0;
+  w2c_i0 = w2c_l14;
   w2c_i1 = 4294967280u;
   w2c_i0 = w2c_i0 < w2c_i1;
   if (w2c_i0) {goto w2c_B201;}
-  w2c_i0 = w2c_l23;
+  w2c_i0 = w2c_l21;
   w2c_i1 = 6u;
   w2c_i0 <<= (w2c_i1 & 31);
-  w2c_i1 = w2c_l22;
+  w2c_i1 = w2c_l20;
   w2c_i2 = 12u;
   w2c_i1 <<= (w2c_i2 & 31);
-  w2c_i2 = w2c_l21;
+  w2c_i2 = w2c_l13;
   w2c_i3 = 18u;
   w2c_i2 <<= (w2c_i3 & 31);
   w2c_i3 = 1835008u;
@@ -24345,27 +24320,27 @@ static void w2c_f29(module *m, u64 w2c_p0, u64 w2c_p1, u64 w2c_p2, u64 w2c_p3, u
   w2c_i2 = 63u;
   w2c_i1 &= w2c_i2;
   w2c_i0 |= w2c_i1;
-  w2c_l20 = w2c_i0;
+  w2c_l14 = w2c_i0;
   w2c_j0 = 4ull;
   w2c_l10 = w2c_j0;
   goto w2c_B200;
   w2c_B201:;
-  w2c_i0 = w2c_l22;
+  w2c_i0 = w2c_l20;
   w2c_i1 = 6u;
   w2c_i0 <<= (w2c_i1 & 31);
-  w2c_i1 = w2c_l21;
+  w2c_i1 = w2c_l13;
   w2c_i2 = 12u;
   w2c_i1 <<= (w2c_i2 & 31);
   w2c_i2 = 61440u;
   w2c_i1 &= w2c_i2;
   w2c_i0 |= w2c_i1;
-  w2c_i1 = w2c_l23;
+  w2c_i1 = w2c_l21;
   w2c_i0 |= w2c_i1;
-  w2c_l20 = w2c_i0;
+  w2c_l14 = w2c_i0;
   w2c_j0 = 3ull;
   w2c_l10 = w2c_j0;
   w2c_B200:;
-  w2c_i0 = w2c_l20;
+  w2c_i0 = w2c_l14;
   w2c_i1 = 21313u;
   w2c_i0 = w2c_i0 != w2c_i1;
   if (w2c_i0) {goto w2c_B199;}
@@ -24375,27 +24350,35 @@ static void w2c_f29(module *m, u64 w2c_p0, u64 w2c_p1, u64 w2c_p2, u64 w2c_p3, u
   w2c_j1 += w2c_j2;
   w2c_i0 = w2c_j0 != w2c_j1;
   if (w2c_i0) {goto w2c_B199;}
-  w2c_j0 = 68648ull;
+  w2c_i0 = 1u;
+  w2c_l14 = w2c_i0;
+  w2c_i0 = 0u;
+  w2c_l13 = w2c_i0;
+  w2c_j0 = 68676ull;
   w2c_j1 = 1ull;
-  w2c_j2 = 68652ull;
+  w2c_j2 = 68680ull;
   w2c_j3 = 1ull;
   w2c_j4 = w2c_p5;
   w2c_j5 = w2c_p6;
   w2c_i0 = w2c_f38(m, w2c_j0, w2c_j1, w2c_j2, w2c_j3, w2c_j4, w2c_j5);
-  w2c_i0 = !(w2c_i0);
-  if (w2c_i0) {goto w2c_B199;}
-  w2c_i0 = 1u;
-  w2c_l14 = w2c_i0;
-  goto w2c_B0;
+  if (w2c_i0) {goto w2c_B0;}
+  w2c_j0 = 68656ull;
+  w2c_j1 = 1ull;
+  w2c_j2 = 68684ull;
+  w2c_j3 = 1ull;
+  w2c_j4 = w2c_p5;
+  w2c_j5 = w2c_p6;
+  w2c_i0 = w2c_f38(m, w2c_j0, w2c_j1, w2c_j2, w2c_j3, w2c_j4, w2c_j5);
+  if (w2c_i0) {goto w2c_B0;}
   w2c_B199:;
-  w2c_i0 = w2c_l14;
+  w2c_i0 = w2c_l15;
   w2c_i1 = 4294967279u;
   w2c_i0 = w2c_i0 > w2c_i1;
   if (w2c_i0) {goto w2c_B203;}
-  w2c_i0 = w2c_l16;
+  w2c_i0 = w2c_l18;
   w2c_i1 = 6u;
   w2c_i0 <<= (w2c_i1 & 31);
-  w2c_i1 = w2c_l15;
+  w2c_i1 = w2c_l16;
   w2c_i2 = 12u;
   w2c_i1 <<= (w2c_i2 & 31);
   w2c_i2 = 61440u;
@@ -24403,7 +24386,7 @@ static void w2c_f29(module *m, u64 w2c_p0, u64 w2c_p1, u64 w2c_p2, u64 w2c_p3, u
   w2c_i0 |= w2c_i1;
   w2c_i1 = w2c_l19;
   w2c_i0 |= w2c_i1;
-  w2c_l20 = w2c_i0;
+  w2c_l14 = w2c_i0;
   w2c_j0 = 3ull;
   w2c_l7 = w2c_j0;
   goto w2c_B202;
@@ -24411,10 +24394,10 @@ static void w2c_f29(module *m, u64 w2c_p0, u64 w2c_p1, u64 w2c_p2, u64 w2c_p3, u
   w2c_i0 = w2c_l19;
   w2c_i1 = 6u;
   w2c_i0 <<= (w2c_i1 & 31);
-  w2c_i1 = w2c_l16;
+  w2c_i1 = w2c_l18;
   w2c_i2 = 12u;
   w2c_i1 <<= (w2c_i2 & 31);
-  w2c_i2 = w2c_l15;
+  w2c_i2 = w2c_l16;
   w2c_i3 = 18u;
   w2c_i2 <<= (w2c_i3 & 31);
   w2c_i3 = 1835008u;
@@ -24427,7 +24410,7 @@ static void w2c_f29(module *m, u64 w2c_p0, u64 w2c_p1, u64 w2c_p2, u64 w2c_p3, u
   w2c_i2 = 63u;
   w2c_i1 &= w2c_i2;
   w2c_i0 |= w2c_i1;
-  w2c_l20 = w2c_i0;
+  w2c_l14 = w2c_i0;
   w2c_j0 = 4ull;
   w2c_l7 = w2c_j0;
   w2c_B202:;
@@ -24435,8 +24418,8 @@ static void w2c_f29(module *m, u64 w2c_p0, u64 w2c_p1, u64 w2c_p2, u64 w2c_p3, u
   w2c_j1 = w2c_l7;
   w2c_i0 = w2c_j0 == w2c_j1;
   if (w2c_i0) {goto w2c_B204;}
-  w2c_i0 = w2c_l20;
-  w2c_i1 = 20116u;
+  w2c_i0 = w2c_l14;
+  w2c_i1 = 22235u;
   w2c_i0 = w2c_i0 != w2c_i1;
   if (w2c_i0) {goto w2c_B204;}
   w2c_j0 = w2c_p3;
@@ -24445,41 +24428,41 @@ static void w2c_f29(module *m, u64 w2c_p0, u64 w2c_p1, u64 w2c_p2, u64 w2c_p3, u
   w2c_l10 = w2c_j0;
   w2c_i0 = (u32)(w2c_j0);
   w2c_i0 = i32_load8_s(m, (u64)(w2c_i0));
-  w2c_l20 = w2c_i0;
+  w2c_l14 = w2c_i0;
   w2c_i1 = 4294967295u;
   w2c_i0 = (u32)((s32)w2c_i0 > (s32)w2c_i1);
   if (w2c_i0) {goto w2c_B204;}
-  w2c_i0 = w2c_l20;
+  w2c_i0 = w2c_l14;
   w2c_i1 = 4294967264u;
   w2c_i0 = w2c_i0 < w2c_i1;
   if (w2c_i0) {goto w2c_B204;}
-  w2c_i0 = w2c_l20;
+  w2c_i0 = w2c_l14;
   w2c_i1 = 255u;
   w2c_i0 &= w2c_i1;
-  w2c_l21 = w2c_i0;
+  w2c_l13 = w2c_i0;
   w2c_j0 = w2c_l10;
   w2c_i0 = (u32)(w2c_j0);
   w2c_i0 = i32_load8_u(m, (u64)(w2c_i0) + 1u);
   w2c_i1 = 63u;
   w2c_i0 &= w2c_i1;
-  w2c_l22 = w2c_i0;
+  w2c_l20 = w2c_i0;
   w2c_j0 = w2c_l10;
   w2c_i0 = (u32)(w2c_j0);
   w2c_i0 = i32_load8_u(m, (u64)(w2c_i0) + 2u);
   w2c_i1 = 63u;
   w2c_i0 &= w2c_i1;
-  w2c_l23 = w2c_i0;
-  w2c_i0 = w2c_l20;
+  w2c_l21 = w2c_i0;
+  w2c_i0 = w2c_l14;
   w2c_i1 = 4294967280u;
   w2c_i0 = w2c_i0 < w2c_i1;
   if (w2c_i0) {goto w2c_B206;}
-  w2c_i0 = w2c_l23;
+  w2c_i0 = w2c_l21;
   w2c_i1 = 6u;
   w2c_i0 <<= (w2c_i1 & 31);
-  w2c_i1 = w2c_l22;
+  w2c_i1 = w2c_l20;
   w2c_i2 = 12u;
   w2c_i1 <<= (w2c_i2 & 31);
-  w2c_i2 = w2c_l21;
+  w2c_i2 = w2c_l13;
   w2c_i3 = 18u;
   w2c_i2 <<= (w2c_i3 & 31);
   w2c_i3 = 1835008u;
@@ -24492,27 +24475,27 @@ static void w2c_f29(module *m, u64 w2c_p0, u64 w2c_p1, u64 w2c_p2, u64 w2c_p3, u
   w2c_i2 = 63u;
   w2c_i1 &= w2c_i2;
   w2c_i0 |= w2c_i1;
-  w2c_l20 = w2c_i0;
+  w2c_l14 = w2c_i0;
   w2c_j0 = 4ull;
   w2c_l10 = w2c_j0;
   goto w2c_B205;
   w2c_B206:;
-  w2c_i0 = w2c_l22;
+  w2c_i0 = w2c_l20;
   w2c_i1 = 6u;
   w2c_i0 <<= (w2c_i1 & 31);
-  w2c_i1 = w2c_l21;
+  w2c_i1 = w2c_l13;
   w2c_i2 = 12u;
   w2c_i1 <<= (w2c_i2 & 31);
   w2c_i2 = 61440u;
   w2c_i1 &= w2c_i2;
   w2c_i0 |= w2c_i1;
-  w2c_i1 = w2c_l23;
+  w2c_i1 = w2c_l21;
   w2c_i0 |= w2c_i1;
-  w2c_l20 = w2c_i0;
+  w2c_l14 = w2c_i0;
   w2c_j0 = 3ull;
   w2c_l10 = w2c_j0;
   w2c_B205:;
-  w2c_i0 = w2c_l20;
+  w2c_i0 = w2c_l14;
   w2c_i1 = 21313u;
   w2c_i0 = w2c_i0 != w2c_i1;
   if (w2c_i0) {goto w2c_B204;}
@@ -24522,27 +24505,23 @@ static void w2c_f29(module *m, u64 w2c_p0, u64 w2c_p1, u64 w2c_p2, u64 w2c_p3, u
   w2c_j1 += w2c_j2;
   w2c_i0 = w2c_j0 != w2c_j1;
   if (w2c_i0) {goto w2c_B204;}
-  w2c_j0 = 68656ull;
+  w2c_j0 = 68688ull;
   w2c_j1 = 1ull;
-  w2c_j2 = 68660ull;
+  w2c_j2 = 68692ull;
   w2c_j3 = 1ull;
   w2c_j4 = w2c_p5;
   w2c_j5 = w2c_p6;
   w2c_i0 = w2c_f38(m, w2c_j0, w2c_j1, w2c_j2, w2c_j3, w2c_j4, w2c_j5);
-  w2c_i0 = !(w2c_i0);
-  if (w2c_i0) {goto w2c_B204;}
-  w2c_i0 = 1u;
-  w2c_l14 = w2c_i0;
-  goto w2c_B0;
+  if (w2c_i0) {goto w2c_B1;}
   w2c_B204:;
-  w2c_i0 = w2c_l14;
+  w2c_i0 = w2c_l15;
   w2c_i1 = 4294967279u;
   w2c_i0 = w2c_i0 > w2c_i1;
   if (w2c_i0) {goto w2c_B208;}
-  w2c_i0 = w2c_l16;
+  w2c_i0 = w2c_l18;
   w2c_i1 = 6u;
   w2c_i0 <<= (w2c_i1 & 31);
-  w2c_i1 = w2c_l15;
+  w2c_i1 = w2c_l16;
   w2c_i2 = 12u;
   w2c_i1 <<= (w2c_i2 & 31);
   w2c_i2 = 61440u;
@@ -24550,7 +24529,7 @@ static void w2c_f29(module *m, u64 w2c_p0, u64 w2c_p1, u64 w2c_p2, u64 w2c_p3, u
   w2c_i0 |= w2c_i1;
   w2c_i1 = w2c_l19;
   w2c_i0 |= w2c_i1;
-  w2c_l20 = w2c_i0;
+  w2c_l14 = w2c_i0;
   w2c_j0 = 3ull;
   w2c_l7 = w2c_j0;
   goto w2c_B207;
@@ -24558,10 +24537,10 @@ static void w2c_f29(module *m, u64 w2c_p0, u64 w2c_p1, u64 w2c_p2, u64 w2c_p3, u
   w2c_i0 = w2c_l19;
   w2c_i1 = 6u;
   w2c_i0 <<= (w2c_i1 & 31);
-  w2c_i1 = w2c_l16;
+  w2c_i1 = w2c_l18;
   w2c_i2 = 12u;
   w2c_i1 <<= (w2c_i2 & 31);
-  w2c_i2 = w2c_l15;
+  w2c_i2 = w2c_l16;
   w2c_i3 = 18u;
   w2c_i2 <<= (w2c_i3 & 31);
   w2c_i3 = 1835008u;
@@ -24574,7 +24553,7 @@ static void w2c_f29(module *m, u64 w2c_p0, u64 w2c_p1, u64 w2c_p2, u64 w2c_p3, u
   w2c_i2 = 63u;
   w2c_i1 &= w2c_i2;
   w2c_i0 |= w2c_i1;
-  w2c_l20 = w2c_i0;
+  w2c_l14 = w2c_i0;
   w2c_j0 = 4ull;
   w2c_l7 = w2c_j0;
   w2c_B207:;
@@ -24582,8 +24561,8 @@ static void w2c_f29(module *m, u64 w2c_p0, u64 w2c_p1, u64 w2c_p2, u64 w2c_p3, u
   w2c_j1 = w2c_l7;
   w2c_i0 = w2c_j0 == w2c_j1;
   if (w2c_i0) {goto w2c_B209;}
-  w2c_i0 = w2c_l20;
-  w2c_i1 = 21313u;
+  w2c_i0 = w2c_l14;
+  w2c_i1 = 20116u;
   w2c_i0 = w2c_i0 != w2c_i1;
   if (w2c_i0) {goto w2c_B209;}
   w2c_j0 = w2c_p3;
@@ -24592,41 +24571,41 @@ static void w2c_f29(module *m, u64 w2c_p0, u64 w2c_p1, u64 w2c_p2, u64 w2c_p3, u
   w2c_l10 = w2c_j0;
   w2c_i0 = (u32)(w2c_j0);
   w2c_i0 = i32_load8_s(m, (u64)(w2c_i0));
-  w2c_l20 = w2c_i0;
+  w2c_l14 = w2c_i0;
   w2c_i1 = 4294967295u;
   w2c_i0 = (u32)((s32)w2c_i0 > (s32)w2c_i1);
   if (w2c_i0) {goto w2c_B209;}
-  w2c_i0 = w2c_l20;
+  w2c_i0 = w2c_l14;
   w2c_i1 = 4294967264u;
   w2c_i0 = w2c_i0 < w2c_i1;
   if (w2c_i0) {goto w2c_B209;}
-  w2c_i0 = w2c_l20;
+  w2c_i0 = w2c_l14;
   w2c_i1 = 255u;
   w2c_i0 &= w2c_i1;
-  w2c_l21 = w2c_i0;
+  w2c_l13 = w2c_i0;
   w2c_j0 = w2c_l10;
   w2c_i0 = (u32)(w2c_j0);
   w2c_i0 = i32_load8_u(m, (u64)(w2c_i0) + 1u);
   w2c_i1 = 63u;
   w2c_i0 &= w2c_i1;
-  w2c_l22 = w2c_i0;
+  w2c_l20 = w2c_i0;
   w2c_j0 = w2c_l10;
   w2c_i0 = (u32)(w2c_j0);
   w2c_i0 = i32_load8_u(m, (u64)(w2c_i0) + 2u);
   w2c_i1 = 63u;
   w2c_i0 &= w2c_i1;
-  w2c_l23 = w2c_i0;
-  w2c_i0 = w2c_l20;
+  w2c_l21 = w2c_i0;
+  w2c_i0 = w2c_l14;
   w2c_i1 = 4294967280u;
   w2c_i0 = w2c_i0 < w2c_i1;
   if (w2c_i0) {goto w2c_B211;}
-  w2c_i0 = w2c_l23;
+  w2c_i0 = w2c_l21;
   w2c_i1 = 6u;
   w2c_i0 <<= (w2c_i1 & 31);
-  w2c_i1 = w2c_l22;
+  w2c_i1 = w2c_l20;
   w2c_i2 = 12u;
   w2c_i1 <<= (w2c_i2 & 31);
-  w2c_i2 = w2c_l21;
+  w2c_i2 = w2c_l13;
   w2c_i3 = 18u;
   w2c_i2 <<= (w2c_i3 & 31);
   w2c_i3 = 1835008u;
@@ -24639,28 +24618,28 @@ static void w2c_f29(module *m, u64 w2c_p0, u64 w2c_p1, u64 w2c_p2, u64 w2c_p3, u
   w2c_i2 = 63u;
   w2c_i1 &= w2c_i2;
   w2c_i0 |= w2c_i1;
-  w2c_l20 = w2c_i0;
+  w2c_l14 = w2c_i0;
   w2c_j0 = 4ull;
   w2c_l10 = w2c_j0;
   goto w2c_B210;
   w2c_B211:;
-  w2c_i0 = w2c_l22;
+  w2c_i0 = w2c_l20;
   w2c_i1 = 6u;
   w2c_i0 <<= (w2c_i1 & 31);
-  w2c_i1 = w2c_l21;
+  w2c_i1 = w2c_l13;
   w2c_i2 = 12u;
   w2c_i1 <<= (w2c_i2 & 31);
   w2c_i2 = 61440u;
   w2c_i1 &= w2c_i2;
   w2c_i0 |= w2c_i1;
-  w2c_i1 = w2c_l23;
+  w2c_i1 = w2c_l21;
   w2c_i0 |= w2c_i1;
-  w2c_l20 = w2c_i0;
+  w2c_l14 = w2c_i0;
   w2c_j0 = 3ull;
   w2c_l10 = w2c_j0;
   w2c_B210:;
-  w2c_i0 = w2c_l20;
-  w2c_i1 = 20116u;
+  w2c_i0 = w2c_l14;
+  w2c_i1 = 21313u;
   w2c_i0 = w2c_i0 != w2c_i1;
   if (w2c_i0) {goto w2c_B209;}
   w2c_j0 = w2c_p4;
@@ -24669,27 +24648,23 @@ static void w2c_f29(module *m, u64 w2c_p0, u64 w2c_p1, u64 w2c_p2, u64 w2c_p3, u
   w2c_j1 += w2c_j2;
   w2c_i0 = w2c_j0 != w2c_j1;
   if (w2c_i0) {goto w2c_B209;}
-  w2c_j0 = 68664ull;
-  w2c_j1 = 2ull;
-  w2c_j2 = 68672ull;
+  w2c_j0 = 68696ull;
+  w2c_j1 = 1ull;
+  w2c_j2 = 68700ull;
   w2c_j3 = 1ull;
   w2c_j4 = w2c_p5;
   w2c_j5 = w2c_p6;
   w2c_i0 = w2c_f38(m, w2c_j0, w2c_j1, w2c_j2, w2c_j3, w2c_j4, w2c_j5);
-  w2c_i0 = !(w2c_i0);
-  if (w2c_i0) {goto w2c_B209;}
-  w2c_i0 = 1u;
-  w2c_l14 = w2c_i0;
-  goto w2c_B0;
+  if (w2c_i0) {goto w2c_B1;}
   w2c_B209:;
-  w2c_i0 = w2c_l14;
+  w2c_i0 = w2c_l15;
   w2c_i1 = 4294967279u;
   w2c_i0 = w2c_i0 > w2c_i1;
   if (w2c_i0) {goto w2c_B213;}
-  w2c_i0 = w2c_l16;
+  w2c_i0 = w2c_l18;
   w2c_i1 = 6u;
   w2c_i0 <<= (w2c_i1 & 31);
-  w2c_i1 = w2c_l15;
+  w2c_i1 = w2c_l16;
   w2c_i2 = 12u;
   w2c_i1 <<= (w2c_i2 & 31);
   w2c_i2 = 61440u;
@@ -24697,7 +24672,7 @@ static void w2c_f29(module *m, u64 w2c_p0, u64 w2c_p1, u64 w2c_p2, u64 w2c_p3, u
   w2c_i0 |= w2c_i1;
   w2c_i1 = w2c_l19;
   w2c_i0 |= w2c_i1;
-  w2c_l20 = w2c_i0;
+  w2c_l14 = w2c_i0;
   w2c_j0 = 3ull;
   w2c_l7 = w2c_j0;
   goto w2c_B212;
@@ -24705,10 +24680,10 @@ static void w2c_f29(module *m, u64 w2c_p0, u64 w2c_p1, u64 w2c_p2, u64 w2c_p3, u
   w2c_i0 = w2c_l19;
   w2c_i1 = 6u;
   w2c_i0 <<= (w2c_i1 & 31);
-  w2c_i1 = w2c_l16;
+  w2c_i1 = w2c_l18;
   w2c_i2 = 12u;
   w2c_i1 <<= (w2c_i2 & 31);
-  w2c_i2 = w2c_l15;
+  w2c_i2 = w2c_l16;
   w2c_i3 = 18u;
   w2c_i2 <<= (w2c_i3 & 31);
   w2c_i3 = 1835008u;
@@ -24721,7 +24696,7 @@ static void w2c_f29(module *m, u64 w2c_p0, u64 w2c_p1, u64 w2c_p2, u64 w2c_p3, u
   w2c_i2 = 63u;
   w2c_i1 &= w2c_i2;
   w2c_i0 |= w2c_i1;
-  w2c_l20 = w2c_i0;
+  w2c_l14 = w2c_i0;
   w2c_j0 = 4ull;
   w2c_l7 = w2c_j0;
   w2c_B212:;
@@ -24729,8 +24704,8 @@ static void w2c_f29(module *m, u64 w2c_p0, u64 w2c_p1, u64 w2c_p2, u64 w2c_p3, u
   w2c_j1 = w2c_l7;
   w2c_i0 = w2c_j0 == w2c_j1;
   if (w2c_i0) {goto w2c_B214;}
-  w2c_i0 = w2c_l20;
-  w2c_i1 = 20108u;
+  w2c_i0 = w2c_l14;
+  w2c_i1 = 21313u;
   w2c_i0 = w2c_i0 != w2c_i1;
   if (w2c_i0) {goto w2c_B214;}
   w2c_j0 = w2c_p3;
@@ -24739,41 +24714,41 @@ static void w2c_f29(module *m, u64 w2c_p0, u64 w2c_p1, u64 w2c_p2, u64 w2c_p3, u
   w2c_l10 = w2c_j0;
   w2c_i0 = (u32)(w2c_j0);
   w2c_i0 = i32_load8_s(m, (u64)(w2c_i0));
-  w2c_l20 = w2c_i0;
+  w2c_l14 = w2c_i0;
   w2c_i1 = 4294967295u;
   w2c_i0 = (u32)((s32)w2c_i0 > (s32)w2c_i1);
   if (w2c_i0) {goto w2c_B214;}
-  w2c_i0 = w2c_l20;
+  w2c_i0 = w2c_l14;
   w2c_i1 = 4294967264u;
   w2c_i0 = w2c_i0 < w2c_i1;
   if (w2c_i0) {goto w2c_B214;}
-  w2c_i0 = w2c_l20;
+  w2c_i0 = w2c_l14;
   w2c_i1 = 255u;
   w2c_i0 &= w2c_i1;
-  w2c_l21 = w2c_i0;
+  w2c_l13 = w2c_i0;
   w2c_j0 = w2c_l10;
   w2c_i0 = (u32)(w2c_j0);
   w2c_i0 = i32_load8_u(m, (u64)(w2c_i0) + 1u);
   w2c_i1 = 63u;
   w2c_i0 &= w2c_i1;
-  w2c_l22 = w2c_i0;
+  w2c_l20 = w2c_i0;
   w2c_j0 = w2c_l10;
   w2c_i0 = (u32)(w2c_j0);
   w2c_i0 = i32_load8_u(m, (u64)(w2c_i0) + 2u);
   w2c_i1 = 63u;
   w2c_i0 &= w2c_i1;
-  w2c_l23 = w2c_i0;
-  w2c_i0 = w2c_l20;
+  w2c_l21 = w2c_i0;
+  w2c_i0 = w2c_l14;
   w2c_i1 = 4294967280u;
   w2c_i0 = w2c_i0 < w2c_i1;
   if (w2c_i0) {goto w2c_B216;}
-  w2c_i0 = w2c_l23;
+  w2c_i0 = w2c_l21;
   w2c_i1 = 6u;
   w2c_i0 <<= (w2c_i1 & 31);
-  w2c_i1 = w2c_l22;
+  w2c_i1 = w2c_l20;
   w2c_i2 = 12u;
   w2c_i1 <<= (w2c_i2 & 31);
-  w2c_i2 = w2c_l21;
+  w2c_i2 = w2c_l13;
   w2c_i3 = 18u;
   w2c_i2 <<= (w2c_i3 & 31);
   w2c_i3 = 1835008u;
@@ -24786,111 +24761,27 @@ static void w2c_f29(module *m, u64 w2c_p0, u64 w2c_p1, u64 w2c_p2, u64 w2c_p3, u
   w2c_i2 = 63u;
   w2c_i1 &= w2c_i2;
   w2c_i0 |= w2c_i1;
-  w2c_l20 = w2c_i0;
+  w2c_l14 = w2c_i0;
   w2c_j0 = 4ull;
-  w2c_l9 = w2c_j0;
+  w2c_l10 = w2c_j0;
   goto w2c_B215;
   w2c_B216:;
-  w2c_i0 = w2c_l22;
+  w2c_i0 = w2c_l20;
   w2c_i1 = 6u;
   w2c_i0 <<= (w2c_i1 & 31);
-  w2c_i1 = w2c_l21;
+  w2c_i1 = w2c_l13;
   w2c_i2 = 12u;
   w2c_i1 <<= (w2c_i2 & 31);
   w2c_i2 = 61440u;
   w2c_i1 &= w2c_i2;
   w2c_i0 |= w2c_i1;
-  w2c_i1 = w2c_l23;
+  w2c_i1 = w2c_l21;
   w2c_i0 |= w2c_i1;
-  w2c_l20 = w2c_i0;
+  w2c_l14 = w2c_i0;
   w2c_j0 = 3ull;
-  w2c_l9 = w2c_j0;
+  w2c_l10 = w2c_j0;
   w2c_B215:;
-  w2c_i0 = w2c_l20;
-  w2c_i1 = 30334u;
-  w2c_i0 = w2c_i0 != w2c_i1;
-  if (w2c_i0) {goto w2c_B214;}
-  w2c_j0 = w2c_p4;
-  w2c_j1 = w2c_l9;
-  w2c_j2 = w2c_l7;
-  w2c_j1 += w2c_j2;
-  w2c_l7 = w2c_j1;
-  w2c_i0 = w2c_j0 == w2c_j1;
-  if (w2c_i0) {goto w2c_B214;}
-  w2c_j0 = w2c_l10;
-  w2c_j1 = w2c_l9;
-  w2c_j0 += w2c_j1;
-  w2c_l10 = w2c_j0;
-  w2c_i0 = (u32)(w2c_j0);
-  w2c_i0 = i32_load8_s(m, (u64)(w2c_i0));
-  w2c_l20 = w2c_i0;
-  w2c_i1 = 4294967295u;
-  w2c_i0 = (u32)((s32)w2c_i0 > (s32)w2c_i1);
-  if (w2c_i0) {goto w2c_B214;}
-  w2c_i0 = w2c_l20;
-  w2c_i1 = 4294967264u;
-  w2c_i0 = w2c_i0 < w2c_i1;
-  if (w2c_i0) {goto w2c_B214;}
-  w2c_i0 = w2c_l20;
-  w2c_i1 = 255u;
-  w2c_i0 &= w2c_i1;
-  w2c_l21 = w2c_i0;
-  w2c_j0 = w2c_l10;
-  w2c_i0 = (u32)(w2c_j0);
-  w2c_i0 = i32_load8_u(m, (u64)(w2c_i0) + 1u);
-  w2c_i1 = 63u;
-  w2c_i0 &= w2c_i1;
-  w2c_l22 = w2c_i0;
-  w2c_j0 = w2c_l10;
-  w2c_i0 = (u32)(w2c_j0);
-  w2c_i0 = i32_load8_u(m, (u64)(w2c_i0) + 2u);
-  w2c_i1 = 63u;
-  w2c_i0 &= w2c_i1;
-  w2c_l23 = w2c_i0;
-  w2c_i0 = w2c_l20;
-  w2c_i1 = 4294967280u;
-  w2c_i0 = w2c_i0 < w2c_i1;
-  if (w2c_i0) {goto w2c_B218;}
-  w2c_i0 = w2c_l23;
-  w2c_i1 = 6u;
-  w2c_i0 <<= (w2c_i1 & 31);
-  w2c_i1 = w2c_l22;
-  w2c_i2 = 12u;
-  w2c_i1 <<= (w2c_i2 & 31);
-  w2c_i2 = w2c_l21;
-  w2c_i3 = 18u;
-  w2c_i2 <<= (w2c_i3 & 31);
-  w2c_i3 = 1835008u;
-  w2c_i2 &= w2c_i3;
-  w2c_i1 |= w2c_i2;
-  w2c_i0 |= w2c_i1;
-  w2c_j1 = w2c_l10;
-  w2c_i1 = (u32)(w2c_j1);
-  w2c_i1 = i32_load8_u(m, (u64)(w2c_i1) + 3u);
-  w2c_i2 = 63u;
-  w2c_i1 &= w2c_i2;
-  w2c_i0 |= w2c_i1;
-  w2c_l20 = w2c_i0;
-  w2c_j0 = 4ull;
-  w2c_l10 = w2c_j0;
-  goto w2c_B217;
-  w2c_B218:;
-  w2c_i0 = w2c_l22;
-  w2c_i1 = 6u;
-  w2c_i0 <<= (w2c_i1 & 31);
-  w2c_i1 = w2c_l21;
-  w2c_i2 = 12u;
-  w2c_i1 <<= (w2c_i2 & 31);
-  w2c_i2 = 61440u;
-  w2c_i1 &= w2c_i2;
-  w2c_i0 |= w2c_i1;
-  w2c_i1 = w2c_l23;
-  w2c_i0 |= w2c_i1;
-  w2c_l20 = w2c_i0;
-  w2c_j0 = 3ull;
-  w2c_l10 = w2c_j0;
-  w2c_B217:;
-  w2c_i0 = w2c_l20;
+  w2c_i0 = w2c_l14;
   w2c_i1 = 20116u;
   w2c_i0 = w2c_i0 != w2c_i1;
   if (w2c_i0) {goto w2c_B214;}
@@ -24900,18 +24791,23 @@ static void w2c_f29(module *m, u64 w2c_p0, u64 w2c_p1, u64 w2c_p2, u64 w2c_p3, u
   w2c_j1 += w2c_j2;
   w2c_i0 = w2c_j0 != w2c_j1;
   if (w2c_i0) {goto w2c_B214;}
-  w2c_i0 = 1u;
-  w2c_l14 = w2c_i0;
-  goto w2c_B0;
+  w2c_j0 = 68704ull;
+  w2c_j1 = 2ull;
+  w2c_j2 = 68712ull;
+  w2c_j3 = 1ull;
+  w2c_j4 = w2c_p5;
+  w2c_j5 = w2c_p6;
+  w2c_i0 = w2c_f38(m, w2c_j0, w2c_j1, w2c_j2, w2c_j3, w2c_j4, w2c_j5);
+  if (w2c_i0) {goto w2c_B1;}
   w2c_B214:;
-  w2c_i0 = w2c_l14;
+  w2c_i0 = w2c_l15;
   w2c_i1 = 4294967279u;
   w2c_i0 = w2c_i0 > w2c_i1;
-  if (w2c_i0) {goto w2c_B220;}
-  w2c_i0 = w2c_l16;
+  if (w2c_i0) {goto w2c_B218;}
+  w2c_i0 = w2c_l18;
   w2c_i1 = 6u;
   w2c_i0 <<= (w2c_i1 & 31);
-  w2c_i1 = w2c_l15;
+  w2c_i1 = w2c_l16;
   w2c_i2 = 12u;
   w2c_i1 <<= (w2c_i2 & 31);
   w2c_i2 = 61440u;
@@ -24919,18 +24815,18 @@ static void w2c_f29(module *m, u64 w2c_p0, u64 w2c_p1, u64 w2c_p2, u64 w2c_p3, u
   w2c_i0 |= w2c_i1;
   w2c_i1 = w2c_l19;
   w2c_i0 |= w2c_i1;
-  w2c_l20 = w2c_i0;
+  w2c_l14 = w2c_i0;
   w2c_j0 = 3ull;
   w2c_l7 = w2c_j0;
-  goto w2c_B219;
-  w2c_B220:;
+  goto w2c_B217;
+  w2c_B218:;
   w2c_i0 = w2c_l19;
   w2c_i1 = 6u;
   w2c_i0 <<= (w2c_i1 & 31);
-  w2c_i1 = w2c_l16;
+  w2c_i1 = w2c_l18;
   w2c_i2 = 12u;
   w2c_i1 <<= (w2c_i2 & 31);
-  w2c_i2 = w2c_l15;
+  w2c_i2 = w2c_l16;
   w2c_i3 = 18u;
   w2c_i2 <<= (w2c_i3 & 31);
   w2c_i3 = 1835008u;
@@ -24943,59 +24839,59 @@ static void w2c_f29(module *m, u64 w2c_p0, u64 w2c_p1, u64 w2c_p2, u64 w2c_p3, u
   w2c_i2 = 63u;
   w2c_i1 &= w2c_i2;
   w2c_i0 |= w2c_i1;
-  w2c_l20 = w2c_i0;
+  w2c_l14 = w2c_i0;
   w2c_j0 = 4ull;
   w2c_l7 = w2c_j0;
-  w2c_B219:;
+  w2c_B217:;
   w2c_j0 = w2c_p4;
   w2c_j1 = w2c_l7;
   w2c_i0 = w2c_j0 == w2c_j1;
-  if (w2c_i0) {goto w2c_B221;}
-  w2c_i0 = w2c_l20;
-  w2c_i1 = 20159u;
+  if (w2c_i0) {goto w2c_B219;}
+  w2c_i0 = w2c_l14;
+  w2c_i1 = 20108u;
   w2c_i0 = w2c_i0 != w2c_i1;
-  if (w2c_i0) {goto w2c_B221;}
+  if (w2c_i0) {goto w2c_B219;}
   w2c_j0 = w2c_p3;
   w2c_j1 = w2c_l7;
   w2c_j0 += w2c_j1;
   w2c_l10 = w2c_j0;
   w2c_i0 = (u32)(w2c_j0);
   w2c_i0 = i32_load8_s(m, (u64)(w2c_i0));
-  w2c_l20 = w2c_i0;
+  w2c_l14 = w2c_i0;
   w2c_i1 = 4294967295u;
   w2c_i0 = (u32)((s32)w2c_i0 > (s32)w2c_i1);
-  if (w2c_i0) {goto w2c_B221;}
-  w2c_i0 = w2c_l20;
+  if (w2c_i0) {goto w2c_B219;}
+  w2c_i0 = w2c_l14;
   w2c_i1 = 4294967264u;
   w2c_i0 = w2c_i0 < w2c_i1;
-  if (w2c_i0) {goto w2c_B221;}
-  w2c_i0 = w2c_l20;
+  if (w2c_i0) {goto w2c_B219;}
+  w2c_i0 = w2c_l14;
   w2c_i1 = 255u;
   w2c_i0 &= w2c_i1;
-  w2c_l21 = w2c_i0;
+  w2c_l13 = w2c_i0;
   w2c_j0 = w2c_l10;
   w2c_i0 = (u32)(w2c_j0);
   w2c_i0 = i32_load8_u(m, (u64)(w2c_i0) + 1u);
   w2c_i1 = 63u;
   w2c_i0 &= w2c_i1;
-  w2c_l22 = w2c_i0;
+  w2c_l20 = w2c_i0;
   w2c_j0 = w2c_l10;
   w2c_i0 = (u32)(w2c_j0);
   w2c_i0 = i32_load8_u(m, (u64)(w2c_i0) + 2u);
   w2c_i1 = 63u;
   w2c_i0 &= w2c_i1;
-  w2c_l23 = w2c_i0;
-  w2c_i0 = w2c_l20;
+  w2c_l21 = w2c_i0;
+  w2c_i0 = w2c_l14;
   w2c_i1 = 4294967280u;
   w2c_i0 = w2c_i0 < w2c_i1;
-  if (w2c_i0) {goto w2c_B223;}
-  w2c_i0 = w2c_l23;
+  if (w2c_i0) {goto w2c_B221;}
+  w2c_i0 = w2c_l21;
   w2c_i1 = 6u;
   w2c_i0 <<= (w2c_i1 & 31);
-  w2c_i1 = w2c_l22;
+  w2c_i1 = w2c_l20;
   w2c_i2 = 12u;
   w2c_i1 <<= (w2c_i2 & 31);
-  w2c_i2 = w2c_l21;
+  w2c_i2 = w2c_l13;
   w2c_i3 = 18u;
   w2c_i2 <<= (w2c_i3 & 31);
   w2c_i3 = 1835008u;
@@ -25008,48 +24904,129 @@ static void w2c_f29(module *m, u64 w2c_p0, u64 w2c_p1, u64 w2c_p2, u64 w2c_p3, u
   w2c_i2 = 63u;
   w2c_i1 &= w2c_i2;
   w2c_i0 |= w2c_i1;
-  w2c_l20 = w2c_i0;
+  w2c_l14 = w2c_i0;
   w2c_j0 = 4ull;
-  w2c_l10 = w2c_j0;
-  goto w2c_B222;
-  w2c_B223:;
-  w2c_i0 = w2c_l22;
+  w2c_l9 = w2c_j0;
+  goto w2c_B220;
+  w2c_B221:;
+  w2c_i0 = w2c_l20;
   w2c_i1 = 6u;
   w2c_i0 <<= (w2c_i1 & 31);
-  w2c_i1 = w2c_l21;
+  w2c_i1 = w2c_l13;
   w2c_i2 = 12u;
   w2c_i1 <<= (w2c_i2 & 31);
   w2c_i2 = 61440u;
   w2c_i1 &= w2c_i2;
   w2c_i0 |= w2c_i1;
-  w2c_i1 = w2c_l23;
+  w2c_i1 = w2c_l21;
   w2c_i0 |= w2c_i1;
+  w2c_l14 = w2c_i0;
+  w2c_j0 = 3ull;
+  w2c_l9 = w2c_j0;
+  w2c_B220:;
+  w2c_i0 = w2c_l14;
+  w2c_i1 = 30334u;
+  w2c_i0 = w2c_i0 != w2c_i1;
+  if (w2c_i0) {goto w2c_B219;}
+  w2c_j0 = w2c_p4;
+  w2c_j1 = w2c_l9;
+  w2c_j2 = w2c_l7;
+  w2c_j1 += w2c_j2;
+  w2c_l7 = w2c_j1;
+  w2c_i0 = w2c_j0 == w2c_j1;
+  if (w2c_i0) {goto w2c_B219;}
+  w2c_j0 = w2c_l10;
+  w2c_j1 = w2c_l9;
+  w2c_j0 += w2c_j1;
+  w2c_l10 = w2c_j0;
+  w2c_i0 = (u32)(w2c_j0);
+  w2c_i0 = i32_load8_s(m, (u64)(w2c_i0));
+  w2c_l14 = w2c_i0;
+  w2c_i1 = 4294967295u;
+  w2c_i0 = (u32)((s32)w2c_i0 > (s32)w2c_i1);
+  if (w2c_i0) {goto w2c_B219;}
+  w2c_i0 = w2c_l14;
+  w2c_i1 = 4294967264u;
+  w2c_i0 = w2c_i0 < w2c_i1;
+  if (w2c_i0) {goto w2c_B219;}
+  w2c_i0 = w2c_l14;
+  w2c_i1 = 255u;
+  w2c_i0 &= w2c_i1;
+  w2c_l13 = w2c_i0;
+  w2c_j0 = w2c_l10;
+  w2c_i0 = (u32)(w2c_j0);
+  w2c_i0 = i32_load8_u(m, (u64)(w2c_i0) + 1u);
+  w2c_i1 = 63u;
+  w2c_i0 &= w2c_i1;
   w2c_l20 = w2c_i0;
+  w2c_j0 = w2c_l10;
+  w2c_i0 = (u32)(w2c_j0);
+  w2c_i0 = i32_load8_u(m, (u64)(w2c_i0) + 2u);
+  w2c_i1 = 63u;
+  w2c_i0 &= w2c_i1;
+  w2c_l21 = w2c_i0;
+  w2c_i0 = w2c_l14;
+  w2c_i1 = 4294967280u;
+  w2c_i0 = w2c_i0 < w2c_i1;
+  if (w2c_i0) {goto w2c_B223;}
+  w2c_i0 = w2c_l21;
+  w2c_i1 = 6u;
+  w2c_i0 <<= (w2c_i1 & 31);
+  w2c_i1 = w2c_l20;
+  w2c_i2 = 12u;
+  w2c_i1 <<= (w2c_i2 & 31);
+  w2c_i2 = w2c_l13;
+  w2c_i3 = 18u;
+  w2c_i2 <<= (w2c_i3 & 31);
+  w2c_i3 = 1835008u;
+  w2c_i2 &= w2c_i3;
+  w2c_i1 |= w2c_i2;
+  w2c_i0 |= w2c_i1;
+  w2c_j1 = w2c_l10;
+  w2c_i1 = (u32)(w2c_j1);
+  w2c_i1 = i32_load8_u(m, (u64)(w2c_i1) + 3u);
+  w2c_i2 = 63u;
+  w2c_i1 &= w2c_i2;
+  w2c_i0 |= w2c_i1;
+  w2c_l14 = w2c_i0;
+  w2c_j0 = 4ull;
+  w2c_l10 = w2c_j0;
+  goto w2c_B222;
+  w2c_B223:;
+  w2c_i0 = w2c_l20;
+  w2c_i1 = 6u;
+  w2c_i0 <<= (w2c_i1 & 31);
+  w2c_i1 = w2c_l13;
+  w2c_i2 = 12u;
+  w2c_i1 <<= (w2c_i2 & 31);
+  w2c_i2 = 61440u;
+  w2c_i1 &= w2c_i2;
+  w2c_i0 |= w2c_i1;
+  w2c_i1 = w2c_l21;
+  w2c_i0 |= w2c_i1;
+  w2c_l14 = w2c_i0;
   w2c_j0 = 3ull;
   w2c_l10 = w2c_j0;
   w2c_B222:;
-  w2c_i0 = w2c_l20;
-  w2c_i1 = 19975u;
+  w2c_i0 = w2c_l14;
+  w2c_i1 = 20116u;
   w2c_i0 = w2c_i0 != w2c_i1;
-  if (w2c_i0) {goto w2c_B221;}
+  if (w2c_i0) {goto w2c_B219;}
   w2c_j0 = w2c_p4;
   w2c_j1 = w2c_l10;
   w2c_j2 = w2c_l7;
   w2c_j1 += w2c_j2;
-  w2c_i0 = w2c_j0 != w2c_j1;
-  if (w2c_i0) {goto w2c_B221;}
-  w2c_i0 = 1u;
-  w2c_l14 = w2c_i0;
-  goto w2c_B0;
-  w2c_B221:;
-  w2c_i0 = w2c_l14;
+  w2c_i0 = w2c_j0 == w2c_j1;
+  if (w2c_i0) {goto w2c_B1;}
+  w2c_B219:;
+  w2c_i0 = w2c_l15;
   w2c_i1 = 4294967279u;
   w2c_i0 = w2c_i0 > w2c_i1;
   if (w2c_i0) {goto w2c_B225;}
-  w2c_i0 = w2c_l16;
+  w2c_i0 = w2c_l18;
   w2c_i1 = 6u;
   w2c_i0 <<= (w2c_i1 & 31);
-  w2c_i1 = w2c_l15;
+  w2c_i1 = w2c_l16;
   w2c_i2 = 12u;
   w2c_i1 <<= (w2c_i2 & 31);
   w2c_i2 = 61440u;
@@ -25065,10 +25042,10 @@ static void w2c_f29(module *m, u64 w2c_p0, u64 w2c_p1, u64 w2c_p2, u64 w2c_p3, u
   w2c_i0 = w2c_l19;
   w2c_i1 = 6u;
   w2c_i0 <<= (w2c_i1 & 31);
-  w2c_i1 = w2c_l16;
+  w2c_i1 = w2c_l18;
   w2c_i2 = 12u;
   w2c_i1 <<= (w2c_i2 & 31);
-  w2c_i2 = w2c_l15;
+  w2c_i2 = w2c_l16;
   w2c_i3 = 18u;
   w2c_i2 <<= (w2c_i3 & 31);
   w2c_i3 = 1835008u;
@@ -25088,11 +25065,11 @@ static void w2c_f29(module *m, u64 w2c_p0, u64 w2c_p1, u64 w2c_p2, u64 w2c_p3, u
   w2c_j0 = w2c_p4;
   w2c_j1 = w2c_l7;
   w2c_i0 = w2c_j0 == w2c_j1;
-  if (w2c_i0) {goto w2c_B2;}
+  if (w2c_i0) {goto w2c_B226;}
   w2c_i0 = w2c_l14;
-  w2c_i1 = 20740u;
+  w2c_i1 = 20159u;
   w2c_i0 = w2c_i0 != w2c_i1;
-  if (w2c_i0) {goto w2c_B2;}
+  if (w2c_i0) {goto w2c_B226;}
   w2c_j0 = w2c_p3;
   w2c_j1 = w2c_l7;
   w2c_j0 += w2c_j1;
@@ -25102,38 +25079,38 @@ static void w2c_f29(module *m, u64 w2c_p0, u64 w2c_p1, u64 w2c_p2, u64 w2c_p3, u
   w2c_l14 = w2c_i0;
   w2c_i1 = 4294967295u;
   w2c_i0 = (u32)((s32)w2c_i0 > (s32)w2c_i1);
-  if (w2c_i0) {goto w2c_B2;}
+  if (w2c_i0) {goto w2c_B226;}
   w2c_i0 = w2c_l14;
   w2c_i1 = 4294967264u;
   w2c_i0 = w2c_i0 < w2c_i1;
-  if (w2c_i0) {goto w2c_B2;}
+  if (w2c_i0) {goto w2c_B226;}
   w2c_i0 = w2c_l14;
   w2c_i1 = 255u;
   w2c_i0 &= w2c_i1;
-  w2c_l15 = w2c_i0;
+  w2c_l13 = w2c_i0;
   w2c_j0 = w2c_l10;
   w2c_i0 = (u32)(w2c_j0);
   w2c_i0 = i32_load8_u(m, (u64)(w2c_i0) + 1u);
   w2c_i1 = 63u;
   w2c_i0 &= w2c_i1;
-  w2c_l16 = w2c_i0;
+  w2c_l20 = w2c_i0;
   w2c_j0 = w2c_l10;
   w2c_i0 = (u32)(w2c_j0);
   w2c_i0 = i32_load8_u(m, (u64)(w2c_i0) + 2u);
   w2c_i1 = 63u;
   w2c_i0 &= w2c_i1;
-  w2c_l19 = w2c_i0;
+  w2c_l21 = w2c_i0;
   w2c_i0 = w2c_l14;
   w2c_i1 = 4294967280u;
   w2c_i0 = w2c_i0 < w2c_i1;
-  if (w2c_i0) {goto w2c_B227;}
-  w2c_i0 = w2c_l19;
+  if (w2c_i0) {goto w2c_B228;}
+  w2c_i0 = w2c_l21;
   w2c_i1 = 6u;
   w2c_i0 <<= (w2c_i1 & 31);
-  w2c_i1 = w2c_l16;
+  w2c_i1 = w2c_l20;
   w2c_i2 = 12u;
   w2c_i1 <<= (w2c_i2 & 31);
-  w2c_i2 = w2c_l15;
+  w2c_i2 = w2c_l13;
   w2c_i3 = 18u;
   w2c_i2 <<= (w2c_i3 & 31);
   w2c_i3 = 1835008u;
@@ -25149,12 +25126,42 @@ static void w2c_f29(module *m, u64 w2c_p0, u64 w2c_p1, u64 w2c_p2, u64 w2c_p3, u
   w2c_l14 = w2c_i0;
   w2c_j0 = 4ull;
   w2c_l10 = w2c_j0;
-  goto w2c_B226;
-  w2c_B227:;
-  w2c_i0 = w2c_l16;
+  goto w2c_B227;
+  w2c_B228:;
+  w2c_i0 = w2c_l20;
   w2c_i1 = 6u;
   w2c_i0 <<= (w2c_i1 & 31);
-  w2c_i1 = w2c_l15;
+  w2c_i1 = w2c_l13;
+  w2c_i2 = 12u;
+  w2c_i1 <<= (w2c_i2 & 31);
+  w2c_i2 = 61440u;
+  w2c_i1 &= w2c_i2;
+  w2c_i0 |= w2c_i1;
+  w2c_i1 = w2c_l21;
+  w2c_i0 |= w2c_i1;
+  w2c_l14 = w2c_i0;
+  w2c_j0 = 3ull;
+  w2c_l10 = w2c_j0;
+  w2c_B227:;
+  w2c_i0 = w2c_l14;
+  w2c_i1 = 19975u;
+  w2c_i0 = w2c_i0 != w2c_i1;
+  if (w2c_i0) {goto w2c_B226;}
+  w2c_j0 = w2c_p4;
+  w2c_j1 = w2c_l10;
+  w2c_j2 = w2c_l7;
+  w2c_j1 += w2c_j2;
+  w2c_i0 = w2c_j0 == w2c_j1;
+  if (w2c_i0) {goto w2c_B1;}
+  w2c_B226:;
+  w2c_i0 = w2c_l15;
+  w2c_i1 = 4294967279u;
+  w2c_i0 = w2c_i0 > w2c_i1;
+  if (w2c_i0) {goto w2c_B230;}
+  w2c_i0 = w2c_l18;
+  w2c_i1 = 6u;
+  w2c_i0 <<= (w2c_i1 & 31);
+  w2c_i1 = w2c_l16;
   w2c_i2 = 12u;
   w2c_i1 <<= (w2c_i2 & 31);
   w2c_i2 = 61440u;
@@ -25164,22 +25171,133 @@ static void w2c_f29(module *m, u64 w2c_p0, u64 w2c_p1, u64 w2c_p2, u64 w2c_p3, u
   w2c_i0 |= w2c_i1;
   w2c_l14 = w2c_i0;
   w2c_j0 = 3ull;
+  w2c_l7 = w2c_j0;
+  goto w2c_B229;
+  w2c_B230:;
+  w2c_i0 = w2c_l19;
+  w2c_i1 = 6u;
+  w2c_i0 <<= (w2c_i1 & 31);
+  w2c_i1 = w2c_l18;
+  w2c_i2 = 12u;
+  w2c_i1 <<= (w2c_i2 & 31);
+  w2c_i2 = w2c_l16;
+  w2c_i3 = 18u;
+  w2c_i2 <<= (w2c_i3 & 31);
+  w2c_i3 = 1835008u;
+  w2c_i2 &= w2c_i3;
+  w2c_i1 |= w2c_i2;
+  w2c_i0 |= w2c_i1;
+  w2c_j1 = w2c_p3;
+  w2c_i1 = (u32)(w2c_j1);
+  w2c_i1 = i32_load8_u(m, (u64)(w2c_i1) + 3u);
+  w2c_i2 = 63u;
+  w2c_i1 &= w2c_i2;
+  w2c_i0 |= w2c_i1;
+  w2c_l14 = w2c_i0;
+  w2c_j0 = 4ull;
+  w2c_l7 = w2c_j0;
+  w2c_B229:;
+  w2c_j0 = w2c_p4;
+  w2c_j1 = w2c_l7;
+  w2c_i0 = w2c_j0 == w2c_j1;
+  if (w2c_i0) {goto w2c_B36;}
+  w2c_i0 = w2c_l14;
+  w2c_i1 = 20740u;
+  w2c_i0 = w2c_i0 != w2c_i1;
+  if (w2c_i0) {goto w2c_B36;}
+  w2c_j0 = w2c_p3;
+  w2c_j1 = w2c_l7;
+  w2c_j0 += w2c_j1;
   w2c_l10 = w2c_j0;
-  w2c_B226:;
+  w2c_i0 = (u32)(w2c_j0);
+  w2c_i0 = i32_load8_s(m, (u64)(w2c_i0));
+  w2c_l14 = w2c_i0;
+  w2c_i1 = 4294967295u;
+  w2c_i0 = (u32)((s32)w2c_i0 > (s32)w2c_i1);
+  if (w2c_i0) {goto w2c_B36;}
+  w2c_i0 = w2c_l14;
+  w2c_i1 = 4294967264u;
+  w2c_i0 = w2c_i0 < w2c_i1;
+  if (w2c_i0) {goto w2c_B36;}
+  w2c_i0 = w2c_l14;
+  w2c_i1 = 255u;
+  w2c_i0 &= w2c_i1;
+  w2c_l13 = w2c_i0;
+  w2c_j0 = w2c_l10;
+  w2c_i0 = (u32)(w2c_j0);
+  w2c_i0 = i32_load8_u(m, (u64)(w2c_i0) + 1u);
+  w2c_i1 = 63u;
+  w2c_i0 &= w2c_i1;
+  w2c_l15 = w2c_i0;
+  w2c_j0 = w2c_l10;
+  w2c_i0 = (u32)(w2c_j0);
+  w2c_i0 = i32_load8_u(m, (u64)(w2c_i0) + 2u);
+  w2c_i1 = 63u;
+  w2c_i0 &= w2c_i1;
+  w2c_l16 = w2c_i0;
+  w2c_i0 = w2c_l14;
+  w2c_i1 = 4294967280u;
+  w2c_i0 = w2c_i0 < w2c_i1;
+  if (w2c_i0) {goto w2c_B232;}
+  w2c_i0 = w2c_l16;
+  w2c_i1 = 6u;
+  w2c_i0 <<= (w2c_i1 & 31);
+  w2c_i1 = w2c_l15;
+  w2c_i2 = 12u;
+  w2c_i1 <<= (w2c_i2 & 31);
+  w2c_i2 = w2c_l13;
+  w2c_i3 = 18u;
+  w2c_i2 <<= (w2c_i3 & 31);
+  w2c_i3 = 1835008u;
+  w2c_i2 &= w2c_i3;
+  w2c_i1 |= w2c_i2;
+  w2c_i0 |= w2c_i1;
+  w2c_j1 = w2c_l10;
+  w2c_i1 = (u32)(w2c_j1);
+  w2c_i1 = i32_load8_u(m, (u64)(w2c_i1) + 3u);
+  w2c_i2 = 63u;
+  w2c_i1 &= w2c_i2;
+  w2c_i0 |= w2c_i1;
+  w2c_l14 = w2c_i0;
+  w2c_j0 = 4ull;
+  w2c_l10 = w2c_j0;
+  goto w2c_B231;
+  w2c_B232:;
+  w2c_i0 = w2c_l15;
+  w2c_i1 = 6u;
+  w2c_i0 <<= (w2c_i1 & 31);
+  w2c_i1 = w2c_l13;
+  w2c_i2 = 12u;
+  w2c_i1 <<= (w2c_i2 & 31);
+  w2c_i2 = 61440u;
+  w2c_i1 &= w2c_i2;
+  w2c_i0 |= w2c_i1;
+  w2c_i1 = w2c_l16;
+  w2c_i0 |= w2c_i1;
+  w2c_l14 = w2c_i0;
+  w2c_j0 = 3ull;
+  w2c_l10 = w2c_j0;
+  w2c_B231:;
   w2c_i0 = w2c_l14;
   w2c_i1 = 33836u;
   w2c_i0 = w2c_i0 != w2c_i1;
-  if (w2c_i0) {goto w2c_B2;}
+  if (w2c_i0) {goto w2c_B36;}
   w2c_j0 = w2c_p4;
   w2c_j1 = w2c_l10;
   w2c_j2 = w2c_l7;
   w2c_j1 += w2c_j2;
-  w2c_i0 = w2c_j0 != w2c_j1;
-  if (w2c_i0) {goto w2c_B2;}
-  w2c_i0 = 1u;
-  w2c_l14 = w2c_i0;
-  goto w2c_B0;
-  w2c_B2:;
+  w2c_i0 = w2c_j0 == w2c_j1;
+  if (w2c_i0) {goto w2c_B1;}
+  goto w2c_B36;
+  w2c_B37:;
+  w2c_j0 = 68480ull;
+  w2c_j1 = 9ull;
+  w2c_j2 = 68516ull;
+  w2c_j3 = 13ull;
+  w2c_j4 = w2c_p3;
+  w2c_j5 = w2c_p4;
+  w2c_i0 = w2c_f38(m, w2c_j0, w2c_j1, w2c_j2, w2c_j3, w2c_j4, w2c_j5);
+  w2c_B36:;
   w2c_j0 = w2c_p3;
   w2c_l7 = w2c_j0;
   w2c_j0 = w2c_p4;
@@ -25191,13 +25309,13 @@ static void w2c_f29(module *m, u64 w2c_p0, u64 w2c_p1, u64 w2c_p2, u64 w2c_p3, u
     w2c_j0 = w2c_l7;
     w2c_i0 = (u32)(w2c_j0);
     w2c_i0 = i32_load8_s(m, (u64)(w2c_i0));
-    w2c_l14 = w2c_i0;
+    w2c_l13 = w2c_i0;
     w2c_i1 = 255u;
     w2c_i0 &= w2c_i1;
-    w2c_l13 = w2c_i0;
+    w2c_l14 = w2c_i0;
     w2c_j0 = 1ull;
     w2c_l10 = w2c_j0;
-    w2c_i0 = w2c_l14;
+    w2c_i0 = w2c_l13;
     w2c_i1 = 4294967295u;
     w2c_i0 = (u32)((s32)w2c_i0 > (s32)w2c_i1);
     if (w2c_i0) {goto w2c_B235;}
@@ -25207,18 +25325,18 @@ static void w2c_f29(module *m, u64 w2c_p0, u64 w2c_p1, u64 w2c_p2, u64 w2c_p3, u
     w2c_i1 = 63u;
     w2c_i0 &= w2c_i1;
     w2c_l15 = w2c_i0;
-    w2c_i0 = w2c_l14;
+    w2c_i0 = w2c_l13;
     w2c_i1 = 4294967263u;
     w2c_i0 = w2c_i0 > w2c_i1;
     if (w2c_i0) {goto w2c_B236;}
-    w2c_i0 = w2c_l13;
+    w2c_i0 = w2c_l14;
     w2c_i1 = 6u;
     w2c_i0 <<= (w2c_i1 & 31);
     w2c_i1 = 1984u;
     w2c_i0 &= w2c_i1;
     w2c_i1 = w2c_l15;
     w2c_i0 |= w2c_i1;
-    w2c_l13 = w2c_i0;
+    w2c_l14 = w2c_i0;
     w2c_j0 = 2ull;
     w2c_l10 = w2c_j0;
     goto w2c_B235;
@@ -25229,14 +25347,14 @@ static void w2c_f29(module *m, u64 w2c_p0, u64 w2c_p1, u64 w2c_p2, u64 w2c_p3, u
     w2c_i1 = 63u;
     w2c_i0 &= w2c_i1;
     w2c_l16 = w2c_i0;
-    w2c_i0 = w2c_l14;
+    w2c_i0 = w2c_l13;
     w2c_i1 = 4294967279u;
     w2c_i0 = w2c_i0 > w2c_i1;
     if (w2c_i0) {goto w2c_B237;}
     w2c_i0 = w2c_l15;
     w2c_i1 = 6u;
     w2c_i0 <<= (w2c_i1 & 31);
-    w2c_i1 = w2c_l13;
+    w2c_i1 = w2c_l14;
     w2c_i2 = 12u;
     w2c_i1 <<= (w2c_i2 & 31);
     w2c_i2 = 61440u;
@@ -25244,7 +25362,7 @@ static void w2c_f29(module *m, u64 w2c_p0, u64 w2c_p1, u64 w2c_p2, u64 w2c_p3, u
     w2c_i0 |= w2c_i1;
     w2c_i1 = w2c_l16;
     w2c_i0 |= w2c_i1;
-    w2c_l13 = w2c_i0;
+    w2c_l14 = w2c_i0;
     w2c_j0 = 3ull;
     w2c_l10 = w2c_j0;
     goto w2c_B235;
@@ -25255,7 +25373,7 @@ static void w2c_f29(module *m, u64 w2c_p0, u64 w2c_p1, u64 w2c_p2, u64 w2c_p3, u
     w2c_i1 = w2c_l15;
     w2c_i2 = 12u;
     w2c_i1 <<= (w2c_i2 & 31);
-    w2c_i2 = w2c_l13;
+    w2c_i2 = w2c_l14;
     w2c_i3 = 18u;
     w2c_i2 <<= (w2c_i3 & 31);
     w2c_i3 = 1835008u;
@@ -25268,21 +25386,21 @@ static void w2c_f29(module *m, u64 w2c_p0, u64 w2c_p1, u64 w2c_p2, u64 w2c_p3, u
     w2c_i2 = 63u;
     w2c_i1 &= w2c_i2;
     w2c_i0 |= w2c_i1;
-    w2c_l13 = w2c_i0;
+    w2c_l14 = w2c_i0;
     w2c_j0 = 4ull;
     w2c_l10 = w2c_j0;
     w2c_B235:;
     w2c_j0 = w2c_l8;
     w2c_j1 = 48ull;
     w2c_j0 += w2c_j1;
-    w2c_i1 = w2c_l13;
+    w2c_i1 = w2c_l14;
     w2c_f22(m, w2c_j0, w2c_i1);
-    w2c_i0 = w2c_l13;
+    w2c_i0 = w2c_l14;
     w2c_i1 = 4294967238u;
     w2c_i0 += w2c_i1;
     w2c_i1 = 4294967285u;
     w2c_i0 = w2c_i0 > w2c_i1;
-    if (w2c_i0) {goto w2c_B232;}
+    if (w2c_i0) {goto w2c_B11;}
     w2c_j0 = w2c_l9;
     w2c_j1 = w2c_l10;
     w2c_j0 -= w2c_j1;
@@ -25299,11 +25417,12 @@ static void w2c_f29(module *m, u64 w2c_p0, u64 w2c_p1, u64 w2c_p2, u64 w2c_p3, u
     w2c_i1 = 1u;
     w2c_i0 = w2c_i0 == w2c_i1;
     if (w2c_i0) {goto w2c_L234;}
-    goto w2c_B232;
+    goto w2c_B11;
   UNREACHABLE;
   w2c_B233:;
-  w2c_i0 = w2c_l18;
-  if (w2c_i0) {goto w2c_B229;}
+  w2c_j0 = w2c_p4;
+  w2c_i0 = !(w2c_j0);
+  if (w2c_i0) {goto w2c_B11;}
   w2c_j0 = w2c_p3;
   w2c_i0 = (u32)(w2c_j0);
   w2c_i0 = i32_load8_s(m, (u64)(w2c_i0));
@@ -25325,18 +25444,15 @@ static void w2c_f29(module *m, u64 w2c_p0, u64 w2c_p1, u64 w2c_p2, u64 w2c_p3, u
   w2c_j1 = w2c_i3 ? w2c_j1 : w2c_j2;
   w2c_l7 = w2c_j1;
   w2c_i0 = w2c_j0 == w2c_j1;
-  if (w2c_i0) {goto w2c_B231;}
+  if (w2c_i0) {goto w2c_B11;}
   goto w2c_B238;
   w2c_B239:;
   w2c_j0 = 1ull;
   w2c_l7 = w2c_j0;
   w2c_j0 = w2c_p4;
   w2c_j1 = 1ull;
-  w2c_i0 = w2c_j0 != w2c_j1;
-  if (w2c_i0) {goto w2c_B238;}
-  w2c_i0 = 0u;
-  w2c_l18 = w2c_i0;
-  goto w2c_B228;
+  w2c_i0 = w2c_j0 == w2c_j1;
+  if (w2c_i0) {goto w2c_B11;}
   w2c_B238:;
   w2c_j0 = w2c_p3;
   w2c_j1 = w2c_l7;
@@ -25344,7 +25460,7 @@ static void w2c_f29(module *m, u64 w2c_p0, u64 w2c_p1, u64 w2c_p2, u64 w2c_p3, u
   w2c_l9 = w2c_j0;
   w2c_i0 = (u32)(w2c_j0);
   w2c_i0 = i32_load8_s(m, (u64)(w2c_i0));
-  w2c_l13 = w2c_i0;
+  w2c_l14 = w2c_i0;
   w2c_i1 = 4294967295u;
   w2c_i0 = (u32)((s32)w2c_i0 <= (s32)w2c_i1);
   if (w2c_i0) {goto w2c_B241;}
@@ -25352,7 +25468,7 @@ static void w2c_f29(module *m, u64 w2c_p0, u64 w2c_p1, u64 w2c_p2, u64 w2c_p3, u
   w2c_l10 = w2c_j0;
   goto w2c_B240;
   w2c_B241:;
-  w2c_i0 = w2c_l13;
+  w2c_i0 = w2c_l14;
   w2c_i1 = 4294967264u;
   w2c_i0 = w2c_i0 >= w2c_i1;
   if (w2c_i0) {goto w2c_B242;}
@@ -25362,7 +25478,7 @@ static void w2c_f29(module *m, u64 w2c_p0, u64 w2c_p1, u64 w2c_p2, u64 w2c_p3, u
   w2c_B242:;
   w2c_j0 = 3ull;
   w2c_j1 = 4ull;
-  w2c_i2 = w2c_l13;
+  w2c_i2 = w2c_l14;
   w2c_i3 = 4294967280u;
   w2c_i2 = w2c_i2 < w2c_i3;
   w2c_j0 = w2c_i2 ? w2c_j0 : w2c_j1;
@@ -25371,7 +25487,7 @@ static void w2c_f29(module *m, u64 w2c_p0, u64 w2c_p1, u64 w2c_p2, u64 w2c_p3, u
   w2c_i0 = w2c_l16;
   w2c_i1 = 255u;
   w2c_i0 &= w2c_i1;
-  w2c_l20 = w2c_i0;
+  w2c_l19 = w2c_i0;
   w2c_j0 = w2c_p4;
   w2c_j1 = w2c_l10;
   w2c_j2 = w2c_l7;
@@ -25384,7 +25500,7 @@ static void w2c_f29(module *m, u64 w2c_p0, u64 w2c_p1, u64 w2c_p2, u64 w2c_p3, u
   w2c_j0 += w2c_j1;
   w2c_i0 = (u32)(w2c_j0);
   w2c_i0 = i32_load8_s(m, (u64)(w2c_i0));
-  w2c_l13 = w2c_i0;
+  w2c_l14 = w2c_i0;
   w2c_i1 = 4294967295u;
   w2c_i0 = (u32)((s32)w2c_i0 <= (s32)w2c_i1);
   if (w2c_i0) {goto w2c_B245;}
@@ -25392,7 +25508,7 @@ static void w2c_f29(module *m, u64 w2c_p0, u64 w2c_p1, u64 w2c_p2, u64 w2c_p3, u
   w2c_l10 = w2c_j0;
   goto w2c_B244;
   w2c_B245:;
-  w2c_i0 = w2c_l13;
+  w2c_i0 = w2c_l14;
   w2c_i1 = 4294967264u;
   w2c_i0 = w2c_i0 >= w2c_i1;
   if (w2c_i0) {goto w2c_B246;}
@@ -25402,7 +25518,7 @@ static void w2c_f29(module *m, u64 w2c_p0, u64 w2c_p1, u64 w2c_p2, u64 w2c_p3, u
   w2c_B246:;
   w2c_j0 = 3ull;
   w2c_j1 = 4ull;
-  w2c_i2 = w2c_l13;
+  w2c_i2 = w2c_l14;
   w2c_i3 = 4294967280u;
   w2c_i2 = w2c_i2 < w2c_i3;
   w2c_j0 = w2c_i2 ? w2c_j0 : w2c_j1;
@@ -25415,19 +25531,19 @@ static void w2c_f29(module *m, u64 w2c_p0, u64 w2c_p1, u64 w2c_p2, u64 w2c_p3, u
   w2c_i0 = w2c_j0 == w2c_j1;
   if (w2c_i0) {goto w2c_B243;}
   w2c_i0 = w2c_l16;
-  w2c_l13 = w2c_i0;
+  w2c_l14 = w2c_i0;
   w2c_j0 = w2c_p4;
   w2c_l9 = w2c_j0;
   w2c_j0 = w2c_p3;
   w2c_l10 = w2c_j0;
   w2c_L247:
-    w2c_i0 = w2c_l13;
+    w2c_i0 = w2c_l14;
     w2c_i1 = 255u;
     w2c_i0 &= w2c_i1;
-    w2c_l14 = w2c_i0;
+    w2c_l13 = w2c_i0;
     w2c_j0 = 1ull;
     w2c_l7 = w2c_j0;
-    w2c_i0 = w2c_l13;
+    w2c_i0 = w2c_l14;
     w2c_i0 = (u32)(s32)(s8)(u8)(w2c_i0);
     w2c_i1 = 4294967295u;
     w2c_i0 = (u32)((s32)w2c_i0 > (s32)w2c_i1);
@@ -25438,20 +25554,20 @@ static void w2c_f29(module *m, u64 w2c_p0, u64 w2c_p1, u64 w2c_p2, u64 w2c_p3, u
     w2c_i1 = 63u;
     w2c_i0 &= w2c_i1;
     w2c_l15 = w2c_i0;
-    w2c_i0 = w2c_l13;
+    w2c_i0 = w2c_l14;
     w2c_i1 = 255u;
     w2c_i0 &= w2c_i1;
     w2c_i1 = 223u;
     w2c_i0 = w2c_i0 > w2c_i1;
     if (w2c_i0) {goto w2c_B249;}
-    w2c_i0 = w2c_l14;
+    w2c_i0 = w2c_l13;
     w2c_i1 = 6u;
     w2c_i0 <<= (w2c_i1 & 31);
     w2c_i1 = 1984u;
     w2c_i0 &= w2c_i1;
     w2c_i1 = w2c_l15;
     w2c_i0 |= w2c_i1;
-    w2c_l14 = w2c_i0;
+    w2c_l13 = w2c_i0;
     w2c_j0 = 2ull;
     w2c_l7 = w2c_j0;
     goto w2c_B248;
@@ -25461,8 +25577,8 @@ static void w2c_f29(module *m, u64 w2c_p0, u64 w2c_p1, u64 w2c_p2, u64 w2c_p3, u
     w2c_i0 = i32_load8_u(m, (u64)(w2c_i0) + 2u);
     w2c_i1 = 63u;
     w2c_i0 &= w2c_i1;
-    w2c_l19 = w2c_i0;
-    w2c_i0 = w2c_l13;
+    w2c_l18 = w2c_i0;
+    w2c_i0 = w2c_l14;
     w2c_i1 = 255u;
     w2c_i0 &= w2c_i1;
     w2c_i1 = 239u;
@@ -25471,26 +25587,26 @@ static void w2c_f29(module *m, u64 w2c_p0, u64 w2c_p1, u64 w2c_p2, u64 w2c_p3, u
     w2c_i0 = w2c_l15;
     w2c_i1 = 6u;
     w2c_i0 <<= (w2c_i1 & 31);
-    w2c_i1 = w2c_l14;
+    w2c_i1 = w2c_l13;
     w2c_i2 = 12u;
     w2c_i1 <<= (w2c_i2 & 31);
     w2c_i2 = 61440u;
     w2c_i1 &= w2c_i2;
     w2c_i0 |= w2c_i1;
-    w2c_i1 = w2c_l19;
+    w2c_i1 = w2c_l18;
     w2c_i0 |= w2c_i1;
-    w2c_l14 = w2c_i0;
+    w2c_l13 = w2c_i0;
     w2c_j0 = 3ull;
     w2c_l7 = w2c_j0;
     goto w2c_B248;
     w2c_B250:;
-    w2c_i0 = w2c_l19;
+    w2c_i0 = w2c_l18;
     w2c_i1 = 6u;
     w2c_i0 <<= (w2c_i1 & 31);
     w2c_i1 = w2c_l15;
     w2c_i2 = 12u;
     w2c_i1 <<= (w2c_i2 & 31);
-    w2c_i2 = w2c_l14;
+    w2c_i2 = w2c_l13;
     w2c_i3 = 18u;
     w2c_i2 <<= (w2c_i3 & 31);
     w2c_i3 = 1835008u;
@@ -25503,14 +25619,14 @@ static void w2c_f29(module *m, u64 w2c_p0, u64 w2c_p1, u64 w2c_p2, u64 w2c_p3, u
     w2c_i2 = 63u;
     w2c_i1 &= w2c_i2;
     w2c_i0 |= w2c_i1;
-    w2c_l14 = w2c_i0;
+    w2c_l13 = w2c_i0;
     w2c_j0 = 4ull;
     w2c_l7 = w2c_j0;
     w2c_B248:;
     w2c_j0 = w2c_l8;
     w2c_j1 = 40ull;
     w2c_j0 += w2c_j1;
-    w2c_i1 = w2c_l14;
+    w2c_i1 = w2c_l13;
     w2c_f22(m, w2c_j0, w2c_i1);
     w2c_j0 = w2c_l9;
     w2c_j1 = w2c_l7;
@@ -25524,11 +25640,11 @@ static void w2c_f29(module *m, u64 w2c_p0, u64 w2c_p1, u64 w2c_p2, u64 w2c_p3, u
     w2c_l10 = w2c_j0;
     w2c_i0 = (u32)(w2c_j0);
     w2c_i0 = i32_load8_s(m, (u64)(w2c_i0));
-    w2c_l13 = w2c_i0;
+    w2c_l14 = w2c_i0;
     w2c_i1 = 255u;
     w2c_i0 &= w2c_i1;
-    w2c_l14 = w2c_i0;
-    w2c_i0 = w2c_l13;
+    w2c_l13 = w2c_i0;
+    w2c_i0 = w2c_l14;
     w2c_i1 = 4294967295u;
     w2c_i0 = (u32)((s32)w2c_i0 > (s32)w2c_i1);
     if (w2c_i0) {goto w2c_B252;}
@@ -25538,18 +25654,18 @@ static void w2c_f29(module *m, u64 w2c_p0, u64 w2c_p1, u64 w2c_p2, u64 w2c_p3, u
     w2c_i1 = 63u;
     w2c_i0 &= w2c_i1;
     w2c_l15 = w2c_i0;
-    w2c_i0 = w2c_l13;
+    w2c_i0 = w2c_l14;
     w2c_i1 = 4294967263u;
     w2c_i0 = w2c_i0 > w2c_i1;
     if (w2c_i0) {goto w2c_B253;}
-    w2c_i0 = w2c_l14;
+    w2c_i0 = w2c_l13;
     w2c_i1 = 6u;
     w2c_i0 <<= (w2c_i1 & 31);
     w2c_i1 = 1984u;
     w2c_i0 &= w2c_i1;
     w2c_i1 = w2c_l15;
     w2c_i0 |= w2c_i1;
-    w2c_l14 = w2c_i0;
+    w2c_l13 = w2c_i0;
     goto w2c_B252;
     w2c_B253:;
     w2c_j0 = w2c_l10;
@@ -25557,32 +25673,32 @@ static void w2c_f29(module *m, u64 w2c_p0, u64 w2c_p1, u64 w2c_p2, u64 w2c_p3, u
     w2c_i0 = i32_load8_u(m, (u64)(w2c_i0) + 2u);
     w2c_i1 = 63u;
     w2c_i0 &= w2c_i1;
-    w2c_l19 = w2c_i0;
-    w2c_i0 = w2c_l13;
+    w2c_l18 = w2c_i0;
+    w2c_i0 = w2c_l14;
     w2c_i1 = 4294967279u;
     w2c_i0 = w2c_i0 > w2c_i1;
     if (w2c_i0) {goto w2c_B254;}
     w2c_i0 = w2c_l15;
     w2c_i1 = 6u;
     w2c_i0 <<= (w2c_i1 & 31);
-    w2c_i1 = w2c_l14;
+    w2c_i1 = w2c_l13;
     w2c_i2 = 12u;
     w2c_i1 <<= (w2c_i2 & 31);
     w2c_i2 = 61440u;
     w2c_i1 &= w2c_i2;
     w2c_i0 |= w2c_i1;
-    w2c_i1 = w2c_l19;
+    w2c_i1 = w2c_l18;
     w2c_i0 |= w2c_i1;
-    w2c_l14 = w2c_i0;
+    w2c_l13 = w2c_i0;
     goto w2c_B252;
     w2c_B254:;
-    w2c_i0 = w2c_l19;
+    w2c_i0 = w2c_l18;
     w2c_i1 = 6u;
     w2c_i0 <<= (w2c_i1 & 31);
     w2c_i1 = w2c_l15;
     w2c_i2 = 12u;
     w2c_i1 <<= (w2c_i2 & 31);
-    w2c_i2 = w2c_l14;
+    w2c_i2 = w2c_l13;
     w2c_i3 = 18u;
     w2c_i2 <<= (w2c_i3 & 31);
     w2c_i3 = 1835008u;
@@ -25595,12 +25711,12 @@ static void w2c_f29(module *m, u64 w2c_p0, u64 w2c_p1, u64 w2c_p2, u64 w2c_p3, u
     w2c_i2 = 63u;
     w2c_i1 &= w2c_i2;
     w2c_i0 |= w2c_i1;
-    w2c_l14 = w2c_i0;
+    w2c_l13 = w2c_i0;
     w2c_B252:;
     w2c_j0 = w2c_l8;
     w2c_i0 = (u32)(w2c_j0);
     w2c_i0 = i32_load8_u(m, (u64)(w2c_i0) + 41u);
-    w2c_l19 = w2c_i0;
+    w2c_l18 = w2c_i0;
     w2c_j0 = w2c_l8;
     w2c_i0 = (u32)(w2c_j0);
     w2c_i0 = i32_load8_u(m, (u64)(w2c_i0) + 40u);
@@ -25608,7 +25724,7 @@ static void w2c_f29(module *m, u64 w2c_p0, u64 w2c_p1, u64 w2c_p2, u64 w2c_p3, u
     w2c_j0 = w2c_l8;
     w2c_j1 = 32ull;
     w2c_j0 += w2c_j1;
-    w2c_i1 = w2c_l14;
+    w2c_i1 = w2c_l13;
     w2c_f22(m, w2c_j0, w2c_i1);
     w2c_i0 = w2c_l15;
     w2c_i1 = 1u;
@@ -25623,7 +25739,7 @@ static void w2c_f29(module *m, u64 w2c_p0, u64 w2c_p1, u64 w2c_p2, u64 w2c_p3, u
     w2c_i1 = 1u;
     w2c_i0 = w2c_i0 != w2c_i1;
     if (w2c_i0) {goto w2c_L247;}
-    w2c_i0 = w2c_l19;
+    w2c_i0 = w2c_l18;
     w2c_i1 = 255u;
     w2c_i0 &= w2c_i1;
     w2c_j1 = w2c_l8;
@@ -25631,9 +25747,9 @@ static void w2c_f29(module *m, u64 w2c_p0, u64 w2c_p1, u64 w2c_p2, u64 w2c_p3, u
     w2c_i1 = i32_load8_u(m, (u64)(w2c_i1) + 33u);
     w2c_i2 = 255u;
     w2c_i1 &= w2c_i2;
-    w2c_i0 = w2c_i0 <= w2c_i1;
-    if (w2c_i0) {goto w2c_L247;}
-    goto w2c_B232;
+    w2c_i0 = w2c_i0 > w2c_i1;
+    if (w2c_i0) {goto w2c_B11;}
+    goto w2c_L247;
     w2c_B251:;
   w2c_i0 = w2c_l16;
   w2c_i1 = 4294967295u;
@@ -25648,38 +25764,38 @@ static void w2c_f29(module *m, u64 w2c_p0, u64 w2c_p1, u64 w2c_p2, u64 w2c_p3, u
   w2c_i0 = i32_load8_u(m, (u64)(w2c_i0) + 1u);
   w2c_i1 = 63u;
   w2c_i0 &= w2c_i1;
-  w2c_l13 = w2c_i0;
+  w2c_l14 = w2c_i0;
   w2c_j0 = w2c_p3;
   w2c_i0 = (u32)(w2c_j0);
   w2c_i0 = i32_load8_u(m, (u64)(w2c_i0) + 2u);
   w2c_i1 = 63u;
   w2c_i0 &= w2c_i1;
-  w2c_l14 = w2c_i0;
+  w2c_l13 = w2c_i0;
   w2c_i0 = w2c_l16;
   w2c_i1 = 4294967279u;
   w2c_i0 = w2c_i0 > w2c_i1;
   if (w2c_i0) {goto w2c_B256;}
-  w2c_i0 = w2c_l13;
+  w2c_i0 = w2c_l14;
   w2c_i1 = 6u;
   w2c_i0 <<= (w2c_i1 & 31);
-  w2c_i1 = w2c_l20;
+  w2c_i1 = w2c_l19;
   w2c_i2 = 12u;
   w2c_i1 <<= (w2c_i2 & 31);
   w2c_i2 = 61440u;
   w2c_i1 &= w2c_i2;
   w2c_i0 |= w2c_i1;
-  w2c_i1 = w2c_l14;
+  w2c_i1 = w2c_l13;
   w2c_i0 |= w2c_i1;
-  w2c_l13 = w2c_i0;
+  w2c_l14 = w2c_i0;
   goto w2c_B255;
   w2c_B256:;
-  w2c_i0 = w2c_l14;
+  w2c_i0 = w2c_l13;
   w2c_i1 = 6u;
   w2c_i0 <<= (w2c_i1 & 31);
-  w2c_i1 = w2c_l13;
+  w2c_i1 = w2c_l14;
   w2c_i2 = 12u;
   w2c_i1 <<= (w2c_i2 & 31);
-  w2c_i2 = w2c_l20;
+  w2c_i2 = w2c_l19;
   w2c_i3 = 18u;
   w2c_i2 <<= (w2c_i3 & 31);
   w2c_i3 = 1835008u;
@@ -25692,34 +25808,34 @@ static void w2c_f29(module *m, u64 w2c_p0, u64 w2c_p1, u64 w2c_p2, u64 w2c_p3, u
   w2c_i2 = 63u;
   w2c_i1 &= w2c_i2;
   w2c_i0 |= w2c_i1;
-  w2c_l13 = w2c_i0;
+  w2c_l14 = w2c_i0;
   w2c_B255:;
-  w2c_i0 = w2c_l13;
+  w2c_i0 = w2c_l14;
   w2c_i1 = 12295u;
   w2c_i0 = w2c_i0 == w2c_i1;
-  if (w2c_i0) {goto w2c_B232;}
-  w2c_i0 = w2c_l13;
+  if (w2c_i0) {goto w2c_B11;}
+  w2c_i0 = w2c_l14;
   w2c_i1 = 38646u;
   w2c_i0 = w2c_i0 == w2c_i1;
-  if (w2c_i0) {goto w2c_B232;}
+  if (w2c_i0) {goto w2c_B11;}
   w2c_B243:;
   w2c_i0 = w2c_l12;
   if (w2c_i0) {goto w2c_B257;}
   w2c_j0 = w2c_p5;
   w2c_i0 = (u32)(w2c_j0);
   w2c_i0 = i32_load8_s(m, (u64)(w2c_i0));
-  w2c_l13 = w2c_i0;
+  w2c_l14 = w2c_i0;
   w2c_i1 = 4294967295u;
   w2c_i0 = (u32)((s32)w2c_i0 > (s32)w2c_i1);
   if (w2c_i0) {goto w2c_B257;}
-  w2c_i0 = w2c_l13;
+  w2c_i0 = w2c_l14;
   w2c_i1 = 4294967264u;
   w2c_i0 = w2c_i0 < w2c_i1;
   if (w2c_i0) {goto w2c_B257;}
-  w2c_i0 = w2c_l13;
+  w2c_i0 = w2c_l14;
   w2c_i1 = 255u;
   w2c_i0 &= w2c_i1;
-  w2c_l14 = w2c_i0;
+  w2c_l13 = w2c_i0;
   w2c_j0 = w2c_p5;
   w2c_i0 = (u32)(w2c_j0);
   w2c_i0 = i32_load8_u(m, (u64)(w2c_i0) + 1u);
@@ -25731,32 +25847,32 @@ static void w2c_f29(module *m, u64 w2c_p0, u64 w2c_p1, u64 w2c_p2, u64 w2c_p3, u
   w2c_i0 = i32_load8_u(m, (u64)(w2c_i0) + 2u);
   w2c_i1 = 63u;
   w2c_i0 &= w2c_i1;
-  w2c_l19 = w2c_i0;
-  w2c_i0 = w2c_l13;
+  w2c_l18 = w2c_i0;
+  w2c_i0 = w2c_l14;
   w2c_i1 = 4294967279u;
   w2c_i0 = w2c_i0 > w2c_i1;
   if (w2c_i0) {goto w2c_B259;}
   w2c_i0 = w2c_l15;
   w2c_i1 = 6u;
   w2c_i0 <<= (w2c_i1 & 31);
-  w2c_i1 = w2c_l14;
+  w2c_i1 = w2c_l13;
   w2c_i2 = 12u;
   w2c_i1 <<= (w2c_i2 & 31);
   w2c_i2 = 61440u;
   w2c_i1 &= w2c_i2;
   w2c_i0 |= w2c_i1;
-  w2c_i1 = w2c_l19;
+  w2c_i1 = w2c_l18;
   w2c_i0 |= w2c_i1;
-  w2c_l21 = w2c_i0;
+  w2c_l20 = w2c_i0;
   goto w2c_B258;
   w2c_B259:;
-  w2c_i0 = w2c_l19;
+  w2c_i0 = w2c_l18;
   w2c_i1 = 6u;
   w2c_i0 <<= (w2c_i1 & 31);
   w2c_i1 = w2c_l15;
   w2c_i2 = 12u;
   w2c_i1 <<= (w2c_i2 & 31);
-  w2c_i2 = w2c_l14;
+  w2c_i2 = w2c_l13;
   w2c_i3 = 18u;
   w2c_i2 <<= (w2c_i3 & 31);
   w2c_i3 = 1835008u;
@@ -25769,47 +25885,47 @@ static void w2c_f29(module *m, u64 w2c_p0, u64 w2c_p1, u64 w2c_p2, u64 w2c_p3, u
   w2c_i2 = 63u;
   w2c_i1 &= w2c_i2;
   w2c_i0 |= w2c_i1;
-  w2c_l21 = w2c_i0;
+  w2c_l20 = w2c_i0;
   w2c_B258:;
-  w2c_i0 = w2c_l21;
+  w2c_i0 = w2c_l20;
   w2c_i1 = 24180u;
   w2c_i0 = w2c_i0 != w2c_i1;
   if (w2c_i0) {goto w2c_B260;}
-  w2c_j0 = 68516ull;
+  w2c_j0 = 68656ull;
   w2c_j1 = 1ull;
-  w2c_j2 = 68676ull;
+  w2c_j2 = 68716ull;
   w2c_j3 = 2ull;
   w2c_j4 = w2c_p5;
   w2c_j5 = w2c_p6;
   w2c_i0 = w2c_f38(m, w2c_j0, w2c_j1, w2c_j2, w2c_j3, w2c_j4, w2c_j5);
   w2c_i0 = !(w2c_i0);
-  if (w2c_i0) {goto w2c_B232;}
+  if (w2c_i0) {goto w2c_B10;}
   w2c_B260:;
-  w2c_i0 = w2c_l13;
+  w2c_i0 = w2c_l14;
   w2c_i1 = 4294967279u;
   w2c_i0 = w2c_i0 > w2c_i1;
   if (w2c_i0) {goto w2c_B262;}
   w2c_i0 = w2c_l15;
   w2c_i1 = 6u;
   w2c_i0 <<= (w2c_i1 & 31);
-  w2c_i1 = w2c_l14;
+  w2c_i1 = w2c_l13;
   w2c_i2 = 12u;
   w2c_i1 <<= (w2c_i2 & 31);
   w2c_i2 = 61440u;
   w2c_i1 &= w2c_i2;
   w2c_i0 |= w2c_i1;
-  w2c_i1 = w2c_l19;
+  w2c_i1 = w2c_l18;
   w2c_i0 |= w2c_i1;
-  w2c_l13 = w2c_i0;
+  w2c_l14 = w2c_i0;
   goto w2c_B261;
   w2c_B262:;
-  w2c_i0 = w2c_l19;
+  w2c_i0 = w2c_l18;
   w2c_i1 = 6u;
   w2c_i0 <<= (w2c_i1 & 31);
   w2c_i1 = w2c_l15;
   w2c_i2 = 12u;
   w2c_i1 <<= (w2c_i2 & 31);
-  w2c_i2 = w2c_l14;
+  w2c_i2 = w2c_l13;
   w2c_i3 = 18u;
   w2c_i2 <<= (w2c_i3 & 31);
   w2c_i3 = 1835008u;
@@ -25822,30 +25938,30 @@ static void w2c_f29(module *m, u64 w2c_p0, u64 w2c_p1, u64 w2c_p2, u64 w2c_p3, u
   w2c_i2 = 63u;
   w2c_i1 &= w2c_i2;
   w2c_i0 |= w2c_i1;
-  w2c_l13 = w2c_i0;
+  w2c_l14 = w2c_i0;
   w2c_B261:;
-  w2c_i0 = w2c_l13;
+  w2c_i0 = w2c_l14;
   w2c_i1 = 25150u;
   w2c_i0 = (u32)((s32)w2c_i0 > (s32)w2c_i1);
   if (w2c_i0) {goto w2c_B263;}
-  w2c_i0 = w2c_l13;
+  w2c_i0 = w2c_l14;
   w2c_i1 = 21495u;
   w2c_i0 = w2c_i0 == w2c_i1;
-  if (w2c_i0) {goto w2c_B232;}
-  w2c_i0 = w2c_l13;
+  if (w2c_i0) {goto w2c_B10;}
+  w2c_i0 = w2c_l14;
   w2c_i1 = 23460u;
   w2c_i0 = w2c_i0 != w2c_i1;
   if (w2c_i0) {goto w2c_B257;}
-  goto w2c_B232;
+  goto w2c_B10;
   w2c_B263:;
-  w2c_i0 = w2c_l13;
+  w2c_i0 = w2c_l14;
   w2c_i1 = 25151u;
   w2c_i0 = w2c_i0 == w2c_i1;
-  if (w2c_i0) {goto w2c_B232;}
-  w2c_i0 = w2c_l13;
+  if (w2c_i0) {goto w2c_B10;}
+  w2c_i0 = w2c_l14;
   w2c_i1 = 34399u;
   w2c_i0 = w2c_i0 == w2c_i1;
-  if (w2c_i0) {goto w2c_B232;}
+  if (w2c_i0) {goto w2c_B10;}
   w2c_B257:;
   w2c_i0 = 1u;
   w2c_l13 = w2c_i0;
@@ -25868,38 +25984,38 @@ static void w2c_f29(module *m, u64 w2c_p0, u64 w2c_p1, u64 w2c_p2, u64 w2c_p3, u
   w2c_i0 = i32_load8_u(m, (u64)(w2c_i0) + 1u);
   w2c_i1 = 63u;
   w2c_i0 &= w2c_i1;
-  w2c_l13 = w2c_i0;
+  w2c_l14 = w2c_i0;
   w2c_j0 = w2c_p3;
   w2c_i0 = (u32)(w2c_j0);
   w2c_i0 = i32_load8_u(m, (u64)(w2c_i0) + 2u);
   w2c_i1 = 63u;
   w2c_i0 &= w2c_i1;
-  w2c_l14 = w2c_i0;
+  w2c_l13 = w2c_i0;
   w2c_i0 = w2c_l16;
   w2c_i1 = 4294967279u;
   w2c_i0 = w2c_i0 > w2c_i1;
   if (w2c_i0) {goto w2c_B265;}
-  w2c_i0 = w2c_l13;
+  w2c_i0 = w2c_l14;
   w2c_i1 = 6u;
   w2c_i0 <<= (w2c_i1 & 31);
-  w2c_i1 = w2c_l20;
+  w2c_i1 = w2c_l19;
   w2c_i2 = 12u;
   w2c_i1 <<= (w2c_i2 & 31);
   w2c_i2 = 61440u;
   w2c_i1 &= w2c_i2;
   w2c_i0 |= w2c_i1;
-  w2c_i1 = w2c_l14;
+  w2c_i1 = w2c_l13;
   w2c_i0 |= w2c_i1;
   w2c_l15 = w2c_i0;
   goto w2c_B264;
   w2c_B265:;
-  w2c_i0 = w2c_l14;
+  w2c_i0 = w2c_l13;
   w2c_i1 = 6u;
   w2c_i0 <<= (w2c_i1 & 31);
-  w2c_i1 = w2c_l13;
+  w2c_i1 = w2c_l14;
   w2c_i2 = 12u;
   w2c_i1 <<= (w2c_i2 & 31);
-  w2c_i2 = w2c_l20;
+  w2c_i2 = w2c_l19;
   w2c_i3 = 18u;
   w2c_i2 <<= (w2c_i3 & 31);
   w2c_i3 = 1835008u;
@@ -25928,7 +26044,7 @@ static void w2c_f29(module *m, u64 w2c_p0, u64 w2c_p1, u64 w2c_p2, u64 w2c_p3, u
   if (w2c_i0) {goto w2c_B0;}
   w2c_B266:;
   w2c_i0 = w2c_l17;
-  if (w2c_i0) {goto w2c_B230;}
+  if (w2c_i0) {goto w2c_B12;}
   w2c_i0 = 1u;
   w2c_l13 = w2c_i0;
   w2c_i0 = 1u;
@@ -25993,13 +26109,13 @@ static void w2c_f29(module *m, u64 w2c_p0, u64 w2c_p1, u64 w2c_p2, u64 w2c_p3, u
   w2c_i0 = w2c_l15;
   w2c_i1 = 255u;
   w2c_i0 &= w2c_i1;
-  w2c_l13 = w2c_i0;
+  w2c_l14 = w2c_i0;
   w2c_j0 = w2c_l7;
   w2c_i0 = (u32)(w2c_j0);
   w2c_i0 = i32_load8_u(m, (u64)(w2c_i0) + 1u);
   w2c_i1 = 63u;
   w2c_i0 &= w2c_i1;
-  w2c_l14 = w2c_i0;
+  w2c_l13 = w2c_i0;
   w2c_j0 = w2c_l7;
   w2c_i0 = (u32)(w2c_j0);
   w2c_i0 = i32_load8_u(m, (u64)(w2c_i0) + 2u);
@@ -26010,10 +26126,10 @@ static void w2c_f29(module *m, u64 w2c_p0, u64 w2c_p1, u64 w2c_p2, u64 w2c_p3, u
   w2c_i1 = 4294967279u;
   w2c_i0 = w2c_i0 > w2c_i1;
   if (w2c_i0) {goto w2c_B269;}
-  w2c_i0 = w2c_l14;
+  w2c_i0 = w2c_l13;
   w2c_i1 = 6u;
   w2c_i0 <<= (w2c_i1 & 31);
-  w2c_i1 = w2c_l13;
+  w2c_i1 = w2c_l14;
   w2c_i2 = 12u;
   w2c_i1 <<= (w2c_i2 & 31);
   w2c_i2 = 61440u;
@@ -26027,10 +26143,10 @@ static void w2c_f29(module *m, u64 w2c_p0, u64 w2c_p1, u64 w2c_p2, u64 w2c_p3, u
   w2c_i0 = w2c_l16;
   w2c_i1 = 6u;
   w2c_i0 <<= (w2c_i1 & 31);
-  w2c_i1 = w2c_l14;
+  w2c_i1 = w2c_l13;
   w2c_i2 = 12u;
   w2c_i1 <<= (w2c_i2 & 31);
-  w2c_i2 = w2c_l13;
+  w2c_i2 = w2c_l14;
   w2c_i3 = 18u;
   w2c_i2 <<= (w2c_i3 & 31);
   w2c_i3 = 1835008u;
@@ -26079,7 +26195,7 @@ static void w2c_f29(module *m, u64 w2c_p0, u64 w2c_p1, u64 w2c_p2, u64 w2c_p3, u
   if (w2c_i0) {goto w2c_B0;}
   w2c_B270:;
   w2c_i0 = w2c_l12;
-  if (w2c_i0) {goto w2c_B230;}
+  if (w2c_i0) {goto w2c_B12;}
   w2c_i0 = 1u;
   w2c_l13 = w2c_i0;
   w2c_i0 = 1u;
@@ -26102,13 +26218,13 @@ static void w2c_f29(module *m, u64 w2c_p0, u64 w2c_p1, u64 w2c_p2, u64 w2c_p3, u
   w2c_i0 = w2c_l15;
   w2c_i1 = 255u;
   w2c_i0 &= w2c_i1;
-  w2c_l13 = w2c_i0;
+  w2c_l14 = w2c_i0;
   w2c_j0 = w2c_p5;
   w2c_i0 = (u32)(w2c_j0);
   w2c_i0 = i32_load8_u(m, (u64)(w2c_i0) + 1u);
   w2c_i1 = 63u;
   w2c_i0 &= w2c_i1;
-  w2c_l14 = w2c_i0;
+  w2c_l13 = w2c_i0;
   w2c_j0 = w2c_p5;
   w2c_i0 = (u32)(w2c_j0);
   w2c_i0 = i32_load8_u(m, (u64)(w2c_i0) + 2u);
@@ -26119,10 +26235,10 @@ static void w2c_f29(module *m, u64 w2c_p0, u64 w2c_p1, u64 w2c_p2, u64 w2c_p3, u
   w2c_i1 = 4294967279u;
   w2c_i0 = w2c_i0 > w2c_i1;
   if (w2c_i0) {goto w2c_B273;}
-  w2c_i0 = w2c_l14;
+  w2c_i0 = w2c_l13;
   w2c_i1 = 6u;
   w2c_i0 <<= (w2c_i1 & 31);
-  w2c_i1 = w2c_l13;
+  w2c_i1 = w2c_l14;
   w2c_i2 = 12u;
   w2c_i1 <<= (w2c_i2 & 31);
   w2c_i2 = 61440u;
@@ -26136,10 +26252,10 @@ static void w2c_f29(module *m, u64 w2c_p0, u64 w2c_p1, u64 w2c_p2, u64 w2c_p3, u
   w2c_i0 = w2c_l16;
   w2c_i1 = 6u;
   w2c_i0 <<= (w2c_i1 & 31);
-  w2c_i1 = w2c_l14;
+  w2c_i1 = w2c_l13;
   w2c_i2 = 12u;
   w2c_i1 <<= (w2c_i2 & 31);
-  w2c_i2 = w2c_l13;
+  w2c_i2 = w2c_l14;
   w2c_i3 = 18u;
   w2c_i2 <<= (w2c_i3 & 31);
   w2c_i3 = 1835008u;
@@ -26155,152 +26271,99 @@ static void w2c_f29(module *m, u64 w2c_p0, u64 w2c_p1, u64 w2c_p2, u64 w2c_p3, u
   w2c_l15 = w2c_i0;
   w2c_B272:;
   w2c_i0 = w2c_l15;
-  w2c_i1 = 31186u;
+  w2c_i1 = 20998u;
   w2c_i0 = w2c_i0 == w2c_i1;
-  if (w2c_i0) {goto w2c_B232;}
+  if (w2c_i0) {goto w2c_B10;}
   w2c_i0 = 1u;
   w2c_l13 = w2c_i0;
   w2c_i0 = 1u;
   w2c_l14 = w2c_i0;
   w2c_i0 = w2c_l15;
-  w2c_i1 = 20998u;
+  w2c_i1 = 31186u;
   w2c_i0 = w2c_i0 != w2c_i1;
   if (w2c_i0) {goto w2c_B0;}
-  w2c_B232:;
-  w2c_i0 = w2c_l18;
-  if (w2c_i0) {goto w2c_B229;}
-  w2c_B231:;
-  w2c_i0 = 0u;
-  w2c_l18 = w2c_i0;
-  w2c_j0 = w2c_p3;
+  goto w2c_B10;
+  w2c_B13:;
+  UNREACHABLE;
+  w2c_B12:;
+  w2c_i0 = 1u;
+  w2c_l13 = w2c_i0;
+  w2c_i0 = 1u;
+  w2c_l14 = w2c_i0;
+  goto w2c_B0;
+  w2c_B11:;
+  w2c_i0 = w2c_l12;
+  if (w2c_i0) {goto w2c_B9;}
+  w2c_B10:;
+  w2c_j0 = 1ull;
+  w2c_l7 = w2c_j0;
+  w2c_j0 = w2c_p5;
   w2c_i0 = (u32)(w2c_j0);
   w2c_i0 = i32_load8_s(m, (u64)(w2c_i0));
-  w2c_l13 = w2c_i0;
-  w2c_i1 = 4294967295u;
-  w2c_i0 = (u32)((s32)w2c_i0 > (s32)w2c_i1);
-  if (w2c_i0) {goto w2c_B228;}
-  w2c_i0 = w2c_l13;
-  w2c_i1 = 4294967264u;
-  w2c_i0 = w2c_i0 < w2c_i1;
-  if (w2c_i0) {goto w2c_B228;}
-  w2c_i0 = w2c_l13;
+  w2c_l15 = w2c_i0;
   w2c_i1 = 255u;
   w2c_i0 &= w2c_i1;
+  w2c_l16 = w2c_i0;
   w2c_l14 = w2c_i0;
-  w2c_j0 = w2c_p3;
+  w2c_i0 = w2c_l15;
+  w2c_i1 = 4294967295u;
+  w2c_i0 = (u32)((s32)w2c_i0 > (s32)w2c_i1);
+  if (w2c_i0) {goto w2c_B274;}
+  w2c_j0 = w2c_p5;
   w2c_i0 = (u32)(w2c_j0);
   w2c_i0 = i32_load8_u(m, (u64)(w2c_i0) + 1u);
   w2c_i1 = 63u;
   w2c_i0 &= w2c_i1;
-  w2c_l15 = w2c_i0;
-  w2c_j0 = w2c_p3;
-  w2c_i0 = (u32)(w2c_j0);
-  w2c_i0 = i32_load8_u(m, (u64)(w2c_i0) + 2u);
-  w2c_i1 = 63u;
-  w2c_i0 &= w2c_i1;
-  w2c_l16 = w2c_i0;
-  w2c_i0 = w2c_l13;
-  w2c_i1 = 4294967279u;
+  w2c_l14 = w2c_i0;
+  w2c_i0 = w2c_l15;
+  w2c_i1 = 4294967263u;
   w2c_i0 = w2c_i0 > w2c_i1;
   if (w2c_i0) {goto w2c_B275;}
-  w2c_i0 = w2c_l15;
-  w2c_i1 = 6u;
-  w2c_i0 <<= (w2c_i1 & 31);
-  w2c_i1 = w2c_l14;
-  w2c_i2 = 12u;
-  w2c_i1 <<= (w2c_i2 & 31);
-  w2c_i2 = 61440u;
-  w2c_i1 &= w2c_i2;
-  w2c_i0 |= w2c_i1;
-  w2c_i1 = w2c_l16;
-  w2c_i0 |= w2c_i1;
-  w2c_l13 = w2c_i0;
-  goto w2c_B274;
-  w2c_B275:;
   w2c_i0 = w2c_l16;
   w2c_i1 = 6u;
   w2c_i0 <<= (w2c_i1 & 31);
-  w2c_i1 = w2c_l15;
-  w2c_i2 = 12u;
-  w2c_i1 <<= (w2c_i2 & 31);
-  w2c_i2 = w2c_l14;
-  w2c_i3 = 18u;
-  w2c_i2 <<= (w2c_i3 & 31);
-  w2c_i3 = 1835008u;
-  w2c_i2 &= w2c_i3;
-  w2c_i1 |= w2c_i2;
-  w2c_i0 |= w2c_i1;
-  w2c_j1 = w2c_p3;
-  w2c_i1 = (u32)(w2c_j1);
-  w2c_i1 = i32_load8_u(m, (u64)(w2c_i1) + 3u);
-  w2c_i2 = 63u;
-  w2c_i1 &= w2c_i2;
-  w2c_i0 |= w2c_i1;
-  w2c_l13 = w2c_i0;
-  w2c_B274:;
-  w2c_i0 = w2c_l13;
-  w2c_i1 = 36127u;
-  w2c_i0 = w2c_i0 == w2c_i1;
-  if (w2c_i0) {goto w2c_B276;}
-  w2c_i0 = w2c_l13;
-  w2c_i1 = 36000u;
-  w2c_i0 = w2c_i0 != w2c_i1;
-  if (w2c_i0) {goto w2c_B228;}
-  w2c_B276:;
-  w2c_i0 = w2c_l12;
-  if (w2c_i0) {goto w2c_B228;}
-  w2c_j0 = w2c_p5;
-  w2c_i0 = (u32)(w2c_j0);
-  w2c_i0 = i32_load8_s(m, (u64)(w2c_i0));
-  w2c_l13 = w2c_i0;
-  w2c_i1 = 4294967295u;
-  w2c_i0 = (u32)((s32)w2c_i0 > (s32)w2c_i1);
-  if (w2c_i0) {goto w2c_B228;}
-  w2c_i0 = w2c_l13;
-  w2c_i1 = 4294967264u;
-  w2c_i0 = w2c_i0 < w2c_i1;
-  if (w2c_i0) {goto w2c_B228;}
-  w2c_i0 = w2c_l13;
-  w2c_i1 = 255u;
+  w2c_i1 = 1984u;
   w2c_i0 &= w2c_i1;
+  w2c_i1 = w2c_l14;
+  w2c_i0 |= w2c_i1;
   w2c_l14 = w2c_i0;
-  w2c_j0 = w2c_p5;
-  w2c_i0 = (u32)(w2c_j0);
-  w2c_i0 = i32_load8_u(m, (u64)(w2c_i0) + 1u);
-  w2c_i1 = 63u;
-  w2c_i0 &= w2c_i1;
-  w2c_l15 = w2c_i0;
+  w2c_j0 = 2ull;
+  w2c_l7 = w2c_j0;
+  goto w2c_B274;
+  w2c_B275:;
   w2c_j0 = w2c_p5;
   w2c_i0 = (u32)(w2c_j0);
   w2c_i0 = i32_load8_u(m, (u64)(w2c_i0) + 2u);
   w2c_i1 = 63u;
   w2c_i0 &= w2c_i1;
-  w2c_l16 = w2c_i0;
-  w2c_i0 = w2c_l13;
+  w2c_l13 = w2c_i0;
+  w2c_i0 = w2c_l15;
   w2c_i1 = 4294967279u;
   w2c_i0 = w2c_i0 > w2c_i1;
-  if (w2c_i0) {goto w2c_B278;}
-  w2c_i0 = w2c_l15;
+  if (w2c_i0) {goto w2c_B276;}
+  w2c_i0 = w2c_l14;
   w2c_i1 = 6u;
   w2c_i0 <<= (w2c_i1 & 31);
-  w2c_i1 = w2c_l14;
+  w2c_i1 = w2c_l16;
   w2c_i2 = 12u;
   w2c_i1 <<= (w2c_i2 & 31);
   w2c_i2 = 61440u;
   w2c_i1 &= w2c_i2;
   w2c_i0 |= w2c_i1;
-  w2c_i1 = w2c_l16;
+  w2c_i1 = w2c_l13;
   w2c_i0 |= w2c_i1;
   w2c_l14 = w2c_i0;
-  goto w2c_B277;
-  w2c_B278:;
-  w2c_i0 = w2c_l16;
+  w2c_j0 = 3ull;
+  w2c_l7 = w2c_j0;
+  goto w2c_B274;
+  w2c_B276:;
+  w2c_i0 = w2c_l13;
   w2c_i1 = 6u;
   w2c_i0 <<= (w2c_i1 & 31);
-  w2c_i1 = w2c_l15;
+  w2c_i1 = w2c_l14;
   w2c_i2 = 12u;
   w2c_i1 <<= (w2c_i2 & 31);
-  w2c_i2 = w2c_l14;
+  w2c_i2 = w2c_l16;
   w2c_i3 = 18u;
   w2c_i2 <<= (w2c_i3 & 31);
   w2c_i3 = 1835008u;
@@ -26314,127 +26377,155 @@ static void w2c_f29(module *m, u64 w2c_p0, u64 w2c_p1, u64 w2c_p2, u64 w2c_p3, u
   w2c_i1 &= w2c_i2;
   w2c_i0 |= w2c_i1;
   w2c_l14 = w2c_i0;
-  w2c_B277:;
-  w2c_i0 = 2u;
-  w2c_l13 = w2c_i0;
+  w2c_j0 = 4ull;
+  w2c_l7 = w2c_j0;
+  w2c_B274:;
   w2c_i0 = w2c_l14;
   w2c_i1 = 27154u;
   w2c_i0 = (u32)((s32)w2c_i0 > (s32)w2c_i1);
-  if (w2c_i0) {goto w2c_B279;}
+  if (w2c_i0) {goto w2c_B287;}
   w2c_i0 = w2c_l14;
-  w2c_i1 = 23618u;
-  w2c_i0 = w2c_i0 != w2c_i1;
-  if (w2c_i0) {goto w2c_B280;}
-  w2c_i0 = 1u;
-  w2c_l14 = w2c_i0;
-  goto w2c_B0;
-  w2c_B280:;
-  w2c_i0 = w2c_l14;
-  w2c_i1 = 23652u;
-  w2c_i0 = w2c_i0 != w2c_i1;
-  if (w2c_i0) {goto w2c_B281;}
-  w2c_i0 = 1u;
-  w2c_l14 = w2c_i0;
-  goto w2c_B0;
-  w2c_B281:;
-  w2c_i0 = w2c_l14;
-  w2c_i1 = 27004u;
-  w2c_i0 = w2c_i0 != w2c_i1;
-  if (w2c_i0) {goto w2c_B228;}
-  w2c_i0 = 1u;
-  w2c_l14 = w2c_i0;
-  goto w2c_B0;
-  w2c_B279:;
-  w2c_i0 = w2c_l14;
-  w2c_i1 = 27155u;
-  w2c_i0 = w2c_i0 != w2c_i1;
-  if (w2c_i0) {goto w2c_B282;}
-  w2c_i0 = 1u;
-  w2c_l14 = w2c_i0;
-  goto w2c_B0;
-  w2c_B282:;
-  w2c_i0 = w2c_l14;
-  w2c_i1 = 38917u;
-  w2c_i0 = w2c_i0 != w2c_i1;
-  if (w2c_i0) {goto w2c_B283;}
-  w2c_i0 = 1u;
-  w2c_l14 = w2c_i0;
-  goto w2c_B0;
-  w2c_B283:;
-  w2c_i0 = w2c_l14;
-  w2c_i1 = 39033u;
-  w2c_i0 = w2c_i0 != w2c_i1;
-  if (w2c_i0) {goto w2c_B228;}
-  w2c_i0 = 1u;
-  w2c_l14 = w2c_i0;
-  goto w2c_B0;
-  w2c_B230:;
-  w2c_i0 = 1u;
-  w2c_l13 = w2c_i0;
-  w2c_i0 = 1u;
-  w2c_l14 = w2c_i0;
-  goto w2c_B0;
-  w2c_B229:;
-  w2c_i0 = 1u;
-  w2c_l18 = w2c_i0;
-  w2c_B228:;
+  w2c_i1 = 23617u;
+  w2c_i0 = (u32)((s32)w2c_i0 > (s32)w2c_i1);
+  if (w2c_i0) {goto w2c_B288;}
   w2c_j0 = w2c_p3;
   w2c_l7 = w2c_j0;
   w2c_j0 = w2c_p4;
   w2c_l9 = w2c_j0;
-  w2c_L286:
+  w2c_i0 = w2c_l14;
+  w2c_i1 = 21010u;
+  w2c_i0 = w2c_i0 == w2c_i1;
+  if (w2c_i0) {goto w2c_B286;}
+  w2c_j0 = w2c_p3;
+  w2c_l7 = w2c_j0;
+  w2c_j0 = w2c_p4;
+  w2c_l9 = w2c_j0;
+  w2c_i0 = w2c_l14;
+  w2c_i1 = 21123u;
+  w2c_i0 = w2c_i0 == w2c_i1;
+  if (w2c_i0) {goto w2c_B286;}
+  goto w2c_B9;
+  w2c_B288:;
+  w2c_i0 = w2c_l14;
+  w2c_i1 = 4294943678u;
+  w2c_i0 += w2c_i1;
+  switch (w2c_i0) {
+    case 0: goto w2c_B281;
+    case 1: goto w2c_B9;
+    case 2: goto w2c_B9;
+    case 3: goto w2c_B9;
+    case 4: goto w2c_B285;
+    case 5: goto w2c_B9;
+    case 6: goto w2c_B9;
+    case 7: goto w2c_B9;
+    case 8: goto w2c_B285;
+    case 9: goto w2c_B9;
+    case 10: goto w2c_B9;
+    case 11: goto w2c_B9;
+    case 12: goto w2c_B9;
+    case 13: goto w2c_B9;
+    case 14: goto w2c_B9;
+    case 15: goto w2c_B9;
+    case 16: goto w2c_B9;
+    case 17: goto w2c_B9;
+    case 18: goto w2c_B9;
+    case 19: goto w2c_B9;
+    case 20: goto w2c_B9;
+    case 21: goto w2c_B9;
+    case 22: goto w2c_B9;
+    case 23: goto w2c_B9;
+    case 24: goto w2c_B9;
+    case 25: goto w2c_B9;
+    case 26: goto w2c_B9;
+    case 27: goto w2c_B9;
+    case 28: goto w2c_B9;
+    case 29: goto w2c_B9;
+    case 30: goto w2c_B9;
+    case 31: goto w2c_B9;
+    case 32: goto w2c_B9;
+    case 33: goto w2c_B9;
+    case 34: goto w2c_B281;
+    default: goto w2c_B284;
+  }
+  w2c_B287:;
+  w2c_i0 = w2c_l14;
+  w2c_i1 = 36826u;
+  w2c_i0 = (u32)((s32)w2c_i0 > (s32)w2c_i1);
+  if (w2c_i0) {goto w2c_B282;}
+  w2c_i0 = w2c_l14;
+  w2c_i1 = 27155u;
+  w2c_i0 = w2c_i0 == w2c_i1;
+  if (w2c_i0) {goto w2c_B281;}
+  w2c_j0 = w2c_p3;
+  w2c_l7 = w2c_j0;
+  w2c_j0 = w2c_p4;
+  w2c_l9 = w2c_j0;
+  w2c_i0 = w2c_l14;
+  w2c_i1 = 32218u;
+  w2c_i0 = w2c_i0 == w2c_i1;
+  if (w2c_i0) {goto w2c_B286;}
+  w2c_j0 = w2c_p3;
+  w2c_l7 = w2c_j0;
+  w2c_j0 = w2c_p4;
+  w2c_l9 = w2c_j0;
+  w2c_i0 = w2c_l14;
+  w2c_i1 = 32447u;
+  w2c_i0 = w2c_i0 != w2c_i1;
+  if (w2c_i0) {goto w2c_B9;}
+  w2c_B286:;
+  w2c_L289:
     w2c_j0 = w2c_l9;
     w2c_i0 = !(w2c_j0);
-    if (w2c_i0) {goto w2c_B285;}
+    if (w2c_i0) {goto w2c_B9;}
     w2c_j0 = w2c_l7;
     w2c_i0 = (u32)(w2c_j0);
     w2c_i0 = i32_load8_s(m, (u64)(w2c_i0));
-    w2c_l14 = w2c_i0;
+    w2c_l13 = w2c_i0;
     w2c_i1 = 255u;
     w2c_i0 &= w2c_i1;
-    w2c_l13 = w2c_i0;
+    w2c_l14 = w2c_i0;
     w2c_j0 = 1ull;
     w2c_l10 = w2c_j0;
-    w2c_i0 = w2c_l14;
+    w2c_i0 = w2c_l13;
     w2c_i1 = 4294967295u;
     w2c_i0 = (u32)((s32)w2c_i0 > (s32)w2c_i1);
-    if (w2c_i0) {goto w2c_B287;}
+    if (w2c_i0) {goto w2c_B290;}
     w2c_j0 = w2c_l7;
     w2c_i0 = (u32)(w2c_j0);
     w2c_i0 = i32_load8_u(m, (u64)(w2c_i0) + 1u);
     w2c_i1 = 63u;
     w2c_i0 &= w2c_i1;
     w2c_l15 = w2c_i0;
-    w2c_i0 = w2c_l14;
+    w2c_i0 = w2c_l13;
     w2c_i1 = 4294967263u;
     w2c_i0 = w2c_i0 > w2c_i1;
-    if (w2c_i0) {goto w2c_B288;}
-    w2c_i0 = w2c_l13;
+    if (w2c_i0) {goto w2c_B291;}
+    w2c_i0 = w2c_l14;
     w2c_i1 = 6u;
     w2c_i0 <<= (w2c_i1 & 31);
     w2c_i1 = 1984u;
     w2c_i0 &= w2c_i1;
     w2c_i1 = w2c_l15;
     w2c_i0 |= w2c_i1;
-    w2c_l13 = w2c_i0;
+    w2c_l14 = w2c_i0;
     w2c_j0 = 2ull;
     w2c_l10 = w2c_j0;
-    goto w2c_B287;
-    w2c_B288:;
+    goto w2c_B290;
+    w2c_B291:;
     w2c_j0 = w2c_l7;
     w2c_i0 = (u32)(w2c_j0);
     w2c_i0 = i32_load8_u(m, (u64)(w2c_i0) + 2u);
     w2c_i1 = 63u;
     w2c_i0 &= w2c_i1;
     w2c_l16 = w2c_i0;
-    w2c_i0 = w2c_l14;
+    w2c_i0 = w2c_l13;
     w2c_i1 = 4294967279u;
     w2c_i0 = w2c_i0 > w2c_i1;
-    if (w2c_i0) {goto w2c_B289;}
+    if (w2c_i0) {goto w2c_B292;}
     w2c_i0 = w2c_l15;
     w2c_i1 = 6u;
     w2c_i0 <<= (w2c_i1 & 31);
-    w2c_i1 = w2c_l13;
+    w2c_i1 = w2c_l14;
     w2c_i2 = 12u;
     w2c_i1 <<= (w2c_i2 & 31);
     w2c_i2 = 61440u;
@@ -26442,18 +26533,18 @@ static void w2c_f29(module *m, u64 w2c_p0, u64 w2c_p1, u64 w2c_p2, u64 w2c_p3, u
     w2c_i0 |= w2c_i1;
     w2c_i1 = w2c_l16;
     w2c_i0 |= w2c_i1;
-    w2c_l13 = w2c_i0;
+    w2c_l14 = w2c_i0;
     w2c_j0 = 3ull;
     w2c_l10 = w2c_j0;
-    goto w2c_B287;
-    w2c_B289:;
+    goto w2c_B290;
+    w2c_B292:;
     w2c_i0 = w2c_l16;
     w2c_i1 = 6u;
     w2c_i0 <<= (w2c_i1 & 31);
     w2c_i1 = w2c_l15;
     w2c_i2 = 12u;
     w2c_i1 <<= (w2c_i2 & 31);
-    w2c_i2 = w2c_l13;
+    w2c_i2 = w2c_l14;
     w2c_i3 = 18u;
     w2c_i2 <<= (w2c_i3 & 31);
     w2c_i3 = 1835008u;
@@ -26466,14 +26557,14 @@ static void w2c_f29(module *m, u64 w2c_p0, u64 w2c_p1, u64 w2c_p2, u64 w2c_p3, u
     w2c_i2 = 63u;
     w2c_i1 &= w2c_i2;
     w2c_i0 |= w2c_i1;
-    w2c_l13 = w2c_i0;
+    w2c_l14 = w2c_i0;
     w2c_j0 = 4ull;
     w2c_l10 = w2c_j0;
-    w2c_B287:;
-    w2c_i0 = w2c_l13;
-    w2c_i1 = 40670u;
+    w2c_B290:;
+    w2c_i0 = w2c_l14;
+    w2c_i1 = 28857u;
     w2c_i0 = w2c_i0 == w2c_i1;
-    if (w2c_i0) {goto w2c_B290;}
+    if (w2c_i0) {goto w2c_B283;}
     w2c_j0 = w2c_l9;
     w2c_j1 = w2c_l10;
     w2c_j0 -= w2c_j1;
@@ -26482,290 +26573,71 @@ static void w2c_f29(module *m, u64 w2c_p0, u64 w2c_p1, u64 w2c_p2, u64 w2c_p3, u
     w2c_j1 = w2c_l10;
     w2c_j0 += w2c_j1;
     w2c_l7 = w2c_j0;
-    w2c_i0 = w2c_l13;
-    w2c_i1 = 28857u;
+    w2c_i0 = w2c_l14;
+    w2c_i1 = 40670u;
     w2c_i0 = w2c_i0 != w2c_i1;
-    if (w2c_i0) {goto w2c_L286;}
-    w2c_B290:;
-  w2c_i0 = w2c_l12;
-  if (w2c_i0) {goto w2c_B284;}
-  w2c_j0 = w2c_p5;
-  w2c_i0 = (u32)(w2c_j0);
-  w2c_i0 = i32_load8_s(m, (u64)(w2c_i0));
-  w2c_l13 = w2c_i0;
+    if (w2c_i0) {goto w2c_L289;}
+    goto w2c_B283;
+  UNREACHABLE;
+  w2c_B285:;
+  w2c_j0 = 1ull;
+  w2c_l7 = w2c_j0;
+  w2c_i0 = w2c_l15;
   w2c_i1 = 4294967295u;
   w2c_i0 = (u32)((s32)w2c_i0 > (s32)w2c_i1);
-  if (w2c_i0) {goto w2c_B285;}
-  w2c_i0 = w2c_l13;
-  w2c_i1 = 4294967264u;
-  w2c_i0 = w2c_i0 < w2c_i1;
-  if (w2c_i0) {goto w2c_B285;}
-  w2c_i0 = w2c_l13;
-  w2c_i1 = 255u;
-  w2c_i0 &= w2c_i1;
-  w2c_l14 = w2c_i0;
+  if (w2c_i0) {goto w2c_B293;}
   w2c_j0 = w2c_p5;
   w2c_i0 = (u32)(w2c_j0);
   w2c_i0 = i32_load8_u(m, (u64)(w2c_i0) + 1u);
   w2c_i1 = 63u;
   w2c_i0 &= w2c_i1;
-  w2c_l15 = w2c_i0;
+  w2c_l14 = w2c_i0;
+  w2c_i0 = w2c_l15;
+  w2c_i1 = 4294967263u;
+  w2c_i0 = w2c_i0 > w2c_i1;
+  if (w2c_i0) {goto w2c_B294;}
+  w2c_i0 = w2c_l16;
+  w2c_i1 = 6u;
+  w2c_i0 <<= (w2c_i1 & 31);
+  w2c_i1 = 1984u;
+  w2c_i0 &= w2c_i1;
+  w2c_i1 = w2c_l14;
+  w2c_i0 |= w2c_i1;
+  w2c_l16 = w2c_i0;
+  w2c_j0 = 2ull;
+  w2c_l7 = w2c_j0;
+  goto w2c_B293;
+  w2c_B294:;
   w2c_j0 = w2c_p5;
   w2c_i0 = (u32)(w2c_j0);
   w2c_i0 = i32_load8_u(m, (u64)(w2c_i0) + 2u);
   w2c_i1 = 63u;
   w2c_i0 &= w2c_i1;
-  w2c_l16 = w2c_i0;
-  w2c_i0 = w2c_l13;
+  w2c_l13 = w2c_i0;
+  w2c_i0 = w2c_l15;
   w2c_i1 = 4294967279u;
   w2c_i0 = w2c_i0 > w2c_i1;
-  if (w2c_i0) {goto w2c_B292;}
-  w2c_i0 = w2c_l15;
+  if (w2c_i0) {goto w2c_B295;}
+  w2c_i0 = w2c_l14;
+  w2c_i1 = 6u;
+  w2c_i0 <<= (w2c_i1 & 31);
+  w2c_i1 = w2c_l16;
+  w2c_i2 = 12u;
+  w2c_i1 <<= (w2c_i2 & 31);
+  w2c_i2 = 61440u;
+  w2c_i1 &= w2c_i2;
+  w2c_i0 |= w2c_i1;
+  w2c_i1 = w2c_l13;
+  w2c_i0 |= w2c_i1;
+  w2c_l16 = w2c_i0;
+  w2c_j0 = 3ull;
+  w2c_l7 = w2c_j0;
+  goto w2c_B293;
+  w2c_B295:;
+  w2c_i0 = w2c_l13;
   w2c_i1 = 6u;
   w2c_i0 <<= (w2c_i1 & 31);
   w2c_i1 = w2c_l14;
-  w2c_i2 = 12u;
-  w2c_i1 <<= (w2c_i2 & 31);
-  w2c_i2 = 61440u;
-  w2c_i1 &= w2c_i2;
-  w2c_i0 |= w2c_i1;
-  w2c_i1 = w2c_l16;
-  w2c_i0 |= w2c_i1;
-  w2c_l14 = w2c_i0;
-  goto w2c_B291;
-  w2c_B292:;
-  w2c_i0 = w2c_l16;
-  w2c_i1 = 6u;
-  w2c_i0 <<= (w2c_i1 & 31);
-  w2c_i1 = w2c_l15;
-  w2c_i2 = 12u;
-  w2c_i1 <<= (w2c_i2 & 31);
-  w2c_i2 = w2c_l14;
-  w2c_i3 = 18u;
-  w2c_i2 <<= (w2c_i3 & 31);
-  w2c_i3 = 1835008u;
-  w2c_i2 &= w2c_i3;
-  w2c_i1 |= w2c_i2;
-  w2c_i0 |= w2c_i1;
-  w2c_j1 = w2c_p5;
-  w2c_i1 = (u32)(w2c_j1);
-  w2c_i1 = i32_load8_u(m, (u64)(w2c_i1) + 3u);
-  w2c_i2 = 63u;
-  w2c_i1 &= w2c_i2;
-  w2c_i0 |= w2c_i1;
-  w2c_l14 = w2c_i0;
-  w2c_B291:;
-  w2c_i0 = 2u;
-  w2c_l13 = w2c_i0;
-  w2c_i0 = w2c_l14;
-  w2c_i1 = 32217u;
-  w2c_i0 = (u32)((s32)w2c_i0 > (s32)w2c_i1);
-  if (w2c_i0) {goto w2c_B293;}
-  w2c_i0 = w2c_l14;
-  w2c_i1 = 21010u;
-  w2c_i0 = w2c_i0 != w2c_i1;
-  if (w2c_i0) {goto w2c_B294;}
-  w2c_i0 = 1u;
-  w2c_l14 = w2c_i0;
-  goto w2c_B0;
-  w2c_B294:;
-  w2c_i0 = w2c_l14;
-  w2c_i1 = 21123u;
-  w2c_i0 = w2c_i0 != w2c_i1;
-  if (w2c_i0) {goto w2c_B285;}
-  w2c_i0 = 1u;
-  w2c_l14 = w2c_i0;
-  goto w2c_B0;
-  w2c_B293:;
-  w2c_i0 = w2c_l14;
-  w2c_i1 = 32218u;
-  w2c_i0 = w2c_i0 != w2c_i1;
-  if (w2c_i0) {goto w2c_B295;}
-  w2c_i0 = 1u;
-  w2c_l14 = w2c_i0;
-  goto w2c_B0;
-  w2c_B295:;
-  w2c_i0 = w2c_l14;
-  w2c_i1 = 32447u;
-  w2c_i0 = w2c_i0 != w2c_i1;
-  if (w2c_i0) {goto w2c_B285;}
-  w2c_i0 = 1u;
-  w2c_l14 = w2c_i0;
-  goto w2c_B0;
-  w2c_B285:;
-  w2c_i0 = 2u;
-  w2c_l13 = w2c_i0;
-  w2c_j0 = 68684ull;
-  w2c_j1 = 2ull;
-  w2c_j2 = 68692ull;
-  w2c_j3 = 2ull;
-  w2c_j4 = w2c_p5;
-  w2c_j5 = w2c_p6;
-  w2c_i0 = w2c_f38(m, w2c_j0, w2c_j1, w2c_j2, w2c_j3, w2c_j4, w2c_j5);
-  w2c_i0 = !(w2c_i0);
-  if (w2c_i0) {goto w2c_B296;}
-  w2c_i0 = 1u;
-  w2c_l14 = w2c_i0;
-  goto w2c_B0;
-  w2c_B296:;
-  w2c_i0 = w2c_l12;
-  if (w2c_i0) {goto w2c_B284;}
-  w2c_j0 = w2c_p5;
-  w2c_i0 = (u32)(w2c_j0);
-  w2c_i0 = i32_load8_s(m, (u64)(w2c_i0));
-  w2c_l14 = w2c_i0;
-  w2c_i1 = 255u;
-  w2c_i0 &= w2c_i1;
-  w2c_l15 = w2c_i0;
-  w2c_j0 = 1ull;
-  w2c_l7 = w2c_j0;
-  w2c_i0 = w2c_l14;
-  w2c_i1 = 4294967295u;
-  w2c_i0 = (u32)((s32)w2c_i0 > (s32)w2c_i1);
-  if (w2c_i0) {goto w2c_B297;}
-  w2c_j0 = w2c_p5;
-  w2c_i0 = (u32)(w2c_j0);
-  w2c_i0 = i32_load8_u(m, (u64)(w2c_i0) + 1u);
-  w2c_i1 = 63u;
-  w2c_i0 &= w2c_i1;
-  w2c_l16 = w2c_i0;
-  w2c_i0 = w2c_l14;
-  w2c_i1 = 4294967263u;
-  w2c_i0 = w2c_i0 > w2c_i1;
-  if (w2c_i0) {goto w2c_B298;}
-  w2c_i0 = w2c_l15;
-  w2c_i1 = 6u;
-  w2c_i0 <<= (w2c_i1 & 31);
-  w2c_i1 = 1984u;
-  w2c_i0 &= w2c_i1;
-  w2c_i1 = w2c_l16;
-  w2c_i0 |= w2c_i1;
-  w2c_l15 = w2c_i0;
-  w2c_j0 = 2ull;
-  w2c_l7 = w2c_j0;
-  goto w2c_B297;
-  w2c_B298:;
-  w2c_j0 = w2c_p5;
-  w2c_i0 = (u32)(w2c_j0);
-  w2c_i0 = i32_load8_u(m, (u64)(w2c_i0) + 2u);
-  w2c_i1 = 63u;
-  w2c_i0 &= w2c_i1;
-  w2c_l19 = w2c_i0;
-  w2c_i0 = w2c_l14;
-  w2c_i1 = 4294967279u;
-  w2c_i0 = w2c_i0 > w2c_i1;
-  if (w2c_i0) {goto w2c_B299;}
-  w2c_i0 = w2c_l16;
-  w2c_i1 = 6u;
-  w2c_i0 <<= (w2c_i1 & 31);
-  w2c_i1 = w2c_l15;
-  w2c_i2 = 12u;
-  w2c_i1 <<= (w2c_i2 & 31);
-  w2c_i2 = 61440u;
-  w2c_i1 &= w2c_i2;
-  w2c_i0 |= w2c_i1;
-  w2c_i1 = w2c_l19;
-  w2c_i0 |= w2c_i1;
-  w2c_l15 = w2c_i0;
-  w2c_j0 = 3ull;
-  w2c_l7 = w2c_j0;
-  goto w2c_B297;
-  w2c_B299:;
-  w2c_i0 = w2c_l19;
-  w2c_i1 = 6u;
-  w2c_i0 <<= (w2c_i1 & 31);
-  w2c_i1 = w2c_l16;
-  w2c_i2 = 12u;
-  w2c_i1 <<= (w2c_i2 & 31);
-  w2c_i2 = w2c_l15;
-  w2c_i3 = 18u;
-  w2c_i2 <<= (w2c_i3 & 31);
-  w2c_i3 = 1835008u;
-  w2c_i2 &= w2c_i3;
-  w2c_i1 |= w2c_i2;
-  w2c_i0 |= w2c_i1;
-  w2c_j1 = w2c_p5;
-  w2c_i1 = (u32)(w2c_j1);
-  w2c_i1 = i32_load8_u(m, (u64)(w2c_i1) + 3u);
-  w2c_i2 = 63u;
-  w2c_i1 &= w2c_i2;
-  w2c_i0 |= w2c_i1;
-  w2c_l15 = w2c_i0;
-  w2c_j0 = 4ull;
-  w2c_l7 = w2c_j0;
-  w2c_B297:;
-  w2c_j0 = w2c_p6;
-  w2c_j1 = w2c_l7;
-  w2c_i0 = w2c_j0 == w2c_j1;
-  if (w2c_i0) {goto w2c_B284;}
-  w2c_j0 = w2c_p5;
-  w2c_j1 = w2c_l7;
-  w2c_j0 += w2c_j1;
-  w2c_l9 = w2c_j0;
-  w2c_i0 = (u32)(w2c_j0);
-  w2c_i0 = i32_load8_s(m, (u64)(w2c_i0));
-  w2c_l14 = w2c_i0;
-  w2c_i1 = 255u;
-  w2c_i0 &= w2c_i1;
-  w2c_l16 = w2c_i0;
-  w2c_j0 = 1ull;
-  w2c_l10 = w2c_j0;
-  w2c_i0 = w2c_l14;
-  w2c_i1 = 4294967295u;
-  w2c_i0 = (u32)((s32)w2c_i0 > (s32)w2c_i1);
-  if (w2c_i0) {goto w2c_B300;}
-  w2c_j0 = w2c_l9;
-  w2c_i0 = (u32)(w2c_j0);
-  w2c_i0 = i32_load8_u(m, (u64)(w2c_i0) + 1u);
-  w2c_i1 = 63u;
-  w2c_i0 &= w2c_i1;
-  w2c_l19 = w2c_i0;
-  w2c_i0 = w2c_l14;
-  w2c_i1 = 4294967263u;
-  w2c_i0 = w2c_i0 > w2c_i1;
-  if (w2c_i0) {goto w2c_B301;}
-  w2c_i0 = w2c_l16;
-  w2c_i1 = 6u;
-  w2c_i0 <<= (w2c_i1 & 31);
-  w2c_i1 = 1984u;
-  w2c_i0 &= w2c_i1;
-  w2c_i1 = w2c_l19;
-  w2c_i0 |= w2c_i1;
-  w2c_l16 = w2c_i0;
-  w2c_j0 = 2ull;
-  w2c_l10 = w2c_j0;
-  goto w2c_B300;
-  w2c_B301:;
-  w2c_j0 = w2c_l9;
-  w2c_i0 = (u32)(w2c_j0);
-  w2c_i0 = i32_load8_u(m, (u64)(w2c_i0) + 2u);
-  w2c_i1 = 63u;
-  w2c_i0 &= w2c_i1;
-  w2c_l20 = w2c_i0;
-  w2c_i0 = w2c_l14;
-  w2c_i1 = 4294967279u;
-  w2c_i0 = w2c_i0 > w2c_i1;
-  if (w2c_i0) {goto w2c_B302;}
-  w2c_i0 = w2c_l19;
-  w2c_i1 = 6u;
-  w2c_i0 <<= (w2c_i1 & 31);
-  w2c_i1 = w2c_l16;
-  w2c_i2 = 12u;
-  w2c_i1 <<= (w2c_i2 & 31);
-  w2c_i2 = 61440u;
-  w2c_i1 &= w2c_i2;
-  w2c_i0 |= w2c_i1;
-  w2c_i1 = w2c_l20;
-  w2c_i0 |= w2c_i1;
-  w2c_l16 = w2c_i0;
-  w2c_j0 = 3ull;
-  w2c_l10 = w2c_j0;
-  goto w2c_B300;
-  w2c_B302:;
-  w2c_i0 = w2c_l20;
-  w2c_i1 = 6u;
-  w2c_i0 <<= (w2c_i1 & 31);
-  w2c_i1 = w2c_l19;
   w2c_i2 = 12u;
   w2c_i1 <<= (w2c_i2 & 31);
   w2c_i2 = w2c_l16;
@@ -26775,7 +26647,7 @@ static void w2c_f29(module *m, u64 w2c_p0, u64 w2c_p1, u64 w2c_p2, u64 w2c_p3, u
   w2c_i2 &= w2c_i3;
   w2c_i1 |= w2c_i2;
   w2c_i0 |= w2c_i1;
-  w2c_j1 = w2c_l9;
+  w2c_j1 = w2c_p5;
   w2c_i1 = (u32)(w2c_j1);
   w2c_i1 = i32_load8_u(m, (u64)(w2c_i1) + 3u);
   w2c_i2 = 63u;
@@ -26783,164 +26655,14 @@ static void w2c_f29(module *m, u64 w2c_p0, u64 w2c_p1, u64 w2c_p2, u64 w2c_p3, u
   w2c_i0 |= w2c_i1;
   w2c_l16 = w2c_i0;
   w2c_j0 = 4ull;
-  w2c_l10 = w2c_j0;
-  w2c_B300:;
-  w2c_i0 = w2c_l15;
-  w2c_i1 = 4294943674u;
-  w2c_i0 += w2c_i1;
-  w2c_i1 = 4294967291u;
-  w2c_i0 &= w2c_i1;
-  if (w2c_i0) {goto w2c_B284;}
-  w2c_j0 = w2c_l8;
-  w2c_j1 = 24ull;
-  w2c_j0 += w2c_j1;
-  w2c_i1 = w2c_l16;
-  w2c_f22(m, w2c_j0, w2c_i1);
-  w2c_j0 = w2c_p6;
-  w2c_j1 = w2c_l10;
-  w2c_j2 = w2c_l7;
-  w2c_j1 += w2c_j2;
-  w2c_i0 = w2c_j0 == w2c_j1;
-  if (w2c_i0) {goto w2c_B284;}
-  w2c_i0 = w2c_l16;
-  w2c_i1 = 4294967248u;
-  w2c_i0 += w2c_i1;
-  w2c_i1 = 10u;
-  w2c_i0 = w2c_i0 < w2c_i1;
-  if (w2c_i0) {goto w2c_B284;}
-  w2c_j0 = w2c_l8;
-  w2c_i0 = (u32)(w2c_j0);
-  w2c_i0 = i32_load8_u(m, (u64)(w2c_i0) + 24u);
-  w2c_i1 = 255u;
-  w2c_i0 &= w2c_i1;
-  w2c_i1 = 1u;
-  w2c_i0 = w2c_i0 != w2c_i1;
-  if (w2c_i0) {goto w2c_B284;}
-  w2c_j0 = w2c_l9;
-  w2c_j1 = w2c_l10;
-  w2c_j0 += w2c_j1;
   w2c_l7 = w2c_j0;
-  w2c_i0 = (u32)(w2c_j0);
-  w2c_i0 = i32_load8_s(m, (u64)(w2c_i0));
-  w2c_l14 = w2c_i0;
-  w2c_i1 = 4294967295u;
-  w2c_i0 = (u32)((s32)w2c_i0 > (s32)w2c_i1);
-  if (w2c_i0) {goto w2c_B284;}
-  w2c_i0 = w2c_l14;
-  w2c_i1 = 4294967264u;
-  w2c_i0 = w2c_i0 < w2c_i1;
-  if (w2c_i0) {goto w2c_B284;}
-  w2c_i0 = w2c_l14;
-  w2c_i1 = 255u;
-  w2c_i0 &= w2c_i1;
-  w2c_l15 = w2c_i0;
-  w2c_j0 = w2c_l7;
-  w2c_i0 = (u32)(w2c_j0);
-  w2c_i0 = i32_load8_u(m, (u64)(w2c_i0) + 1u);
-  w2c_i1 = 63u;
-  w2c_i0 &= w2c_i1;
-  w2c_l16 = w2c_i0;
-  w2c_j0 = w2c_l7;
-  w2c_i0 = (u32)(w2c_j0);
-  w2c_i0 = i32_load8_u(m, (u64)(w2c_i0) + 2u);
-  w2c_i1 = 63u;
-  w2c_i0 &= w2c_i1;
-  w2c_l19 = w2c_i0;
-  w2c_i0 = w2c_l14;
-  w2c_i1 = 4294967279u;
-  w2c_i0 = w2c_i0 > w2c_i1;
-  if (w2c_i0) {goto w2c_B304;}
-  w2c_i0 = w2c_l16;
-  w2c_i1 = 6u;
-  w2c_i0 <<= (w2c_i1 & 31);
-  w2c_i1 = w2c_l15;
-  w2c_i2 = 12u;
-  w2c_i1 <<= (w2c_i2 & 31);
-  w2c_i2 = 61440u;
-  w2c_i1 &= w2c_i2;
-  w2c_i0 |= w2c_i1;
-  w2c_i1 = w2c_l19;
-  w2c_i0 |= w2c_i1;
-  w2c_l14 = w2c_i0;
-  goto w2c_B303;
-  w2c_B304:;
-  w2c_i0 = w2c_l19;
-  w2c_i1 = 6u;
-  w2c_i0 <<= (w2c_i1 & 31);
-  w2c_i1 = w2c_l16;
-  w2c_i2 = 12u;
-  w2c_i1 <<= (w2c_i2 & 31);
-  w2c_i2 = w2c_l15;
-  w2c_i3 = 18u;
-  w2c_i2 <<= (w2c_i3 & 31);
-  w2c_i3 = 1835008u;
-  w2c_i2 &= w2c_i3;
-  w2c_i1 |= w2c_i2;
-  w2c_i0 |= w2c_i1;
+  w2c_B293:;
+  w2c_j0 = w2c_p6;
   w2c_j1 = w2c_l7;
-  w2c_i1 = (u32)(w2c_j1);
-  w2c_i1 = i32_load8_u(m, (u64)(w2c_i1) + 3u);
-  w2c_i2 = 63u;
-  w2c_i1 &= w2c_i2;
-  w2c_i0 |= w2c_i1;
-  w2c_l14 = w2c_i0;
-  w2c_B303:;
-  w2c_i0 = w2c_l14;
-  w2c_i1 = 20013u;
-  w2c_i0 = w2c_i0 != w2c_i1;
-  if (w2c_i0) {goto w2c_B284;}
-  w2c_i0 = 1u;
-  w2c_l14 = w2c_i0;
-  goto w2c_B0;
-  w2c_B284:;
-  w2c_i0 = w2c_l18;
-  if (w2c_i0) {goto w2c_B308;}
-  w2c_j0 = w2c_p3;
-  w2c_j1 = w2c_p4;
-  w2c_j2 = 18446744073709551615ull;
-  w2c_j1 += w2c_j2;
-  w2c_l7 = w2c_j1;
-  w2c_j0 += w2c_j1;
-  w2c_i0 = (u32)(w2c_j0);
-  w2c_i0 = i32_load8_s(m, (u64)(w2c_i0));
-  w2c_l15 = w2c_i0;
-  w2c_l13 = w2c_i0;
-  w2c_j0 = w2c_l7;
-  w2c_l10 = w2c_j0;
-  w2c_i0 = w2c_l15;
-  w2c_i1 = 0u;
-  w2c_i0 = (u32)((s32)w2c_i0 >= (s32)w2c_i1);
-  if (w2c_i0) {goto w2c_B309;}
-  w2c_j0 = 18446744073709551614ull;
-  w2c_l10 = w2c_j0;
-  w2c_j0 = w2c_p3;
-  w2c_j1 = w2c_p4;
-  w2c_j0 += w2c_j1;
-  w2c_l9 = w2c_j0;
-  w2c_j1 = 18446744073709551614ull;
-  w2c_j0 += w2c_j1;
-  w2c_i0 = (u32)(w2c_j0);
-  w2c_i0 = i32_load8_u(m, (u64)(w2c_i0));
-  w2c_i1 = 191u;
-  w2c_i0 = w2c_i0 > w2c_i1;
-  if (w2c_i0) {goto w2c_B310;}
-  w2c_j0 = 18446744073709551613ull;
-  w2c_j1 = 18446744073709551612ull;
-  w2c_j2 = w2c_l9;
-  w2c_j3 = 18446744073709551613ull;
-  w2c_j2 += w2c_j3;
-  w2c_i2 = (u32)(w2c_j2);
-  w2c_i2 = i32_load8_u(m, (u64)(w2c_i2));
-  w2c_i3 = 191u;
-  w2c_i2 = w2c_i2 > w2c_i3;
-  w2c_j0 = w2c_i2 ? w2c_j0 : w2c_j1;
-  w2c_l10 = w2c_j0;
-  w2c_B310:;
-  w2c_j0 = w2c_p3;
-  w2c_j1 = w2c_l10;
-  w2c_j2 = w2c_p4;
-  w2c_j1 += w2c_j2;
-  w2c_l10 = w2c_j1;
+  w2c_i0 = w2c_j0 == w2c_j1;
+  if (w2c_i0) {goto w2c_B9;}
+  w2c_j0 = w2c_p5;
+  w2c_j1 = w2c_l7;
   w2c_j0 += w2c_j1;
   w2c_l9 = w2c_j0;
   w2c_i0 = (u32)(w2c_j0);
@@ -26949,30 +26671,34 @@ static void w2c_f29(module *m, u64 w2c_p0, u64 w2c_p1, u64 w2c_p2, u64 w2c_p3, u
   w2c_i1 = 255u;
   w2c_i0 &= w2c_i1;
   w2c_l13 = w2c_i0;
+  w2c_j0 = 1ull;
+  w2c_l10 = w2c_j0;
   w2c_i0 = w2c_l14;
   w2c_i1 = 4294967295u;
   w2c_i0 = (u32)((s32)w2c_i0 > (s32)w2c_i1);
-  if (w2c_i0) {goto w2c_B309;}
+  if (w2c_i0) {goto w2c_B296;}
   w2c_j0 = w2c_l9;
   w2c_i0 = (u32)(w2c_j0);
   w2c_i0 = i32_load8_u(m, (u64)(w2c_i0) + 1u);
   w2c_i1 = 63u;
   w2c_i0 &= w2c_i1;
-  w2c_l16 = w2c_i0;
+  w2c_l15 = w2c_i0;
   w2c_i0 = w2c_l14;
   w2c_i1 = 4294967263u;
   w2c_i0 = w2c_i0 > w2c_i1;
-  if (w2c_i0) {goto w2c_B311;}
+  if (w2c_i0) {goto w2c_B297;}
   w2c_i0 = w2c_l13;
   w2c_i1 = 6u;
   w2c_i0 <<= (w2c_i1 & 31);
   w2c_i1 = 1984u;
   w2c_i0 &= w2c_i1;
-  w2c_i1 = w2c_l16;
+  w2c_i1 = w2c_l15;
   w2c_i0 |= w2c_i1;
   w2c_l13 = w2c_i0;
-  goto w2c_B309;
-  w2c_B311:;
+  w2c_j0 = 2ull;
+  w2c_l10 = w2c_j0;
+  goto w2c_B296;
+  w2c_B297:;
   w2c_j0 = w2c_l9;
   w2c_i0 = (u32)(w2c_j0);
   w2c_i0 = i32_load8_u(m, (u64)(w2c_i0) + 2u);
@@ -26982,8 +26708,8 @@ static void w2c_f29(module *m, u64 w2c_p0, u64 w2c_p1, u64 w2c_p2, u64 w2c_p3, u
   w2c_i0 = w2c_l14;
   w2c_i1 = 4294967279u;
   w2c_i0 = w2c_i0 > w2c_i1;
-  if (w2c_i0) {goto w2c_B312;}
-  w2c_i0 = w2c_l16;
+  if (w2c_i0) {goto w2c_B298;}
+  w2c_i0 = w2c_l15;
   w2c_i1 = 6u;
   w2c_i0 <<= (w2c_i1 & 31);
   w2c_i1 = w2c_l13;
@@ -26995,12 +26721,14 @@ static void w2c_f29(module *m, u64 w2c_p0, u64 w2c_p1, u64 w2c_p2, u64 w2c_p3, u
   w2c_i1 = w2c_l18;
   w2c_i0 |= w2c_i1;
   w2c_l13 = w2c_i0;
-  goto w2c_B309;
-  w2c_B312:;
+  w2c_j0 = 3ull;
+  w2c_l10 = w2c_j0;
+  goto w2c_B296;
+  w2c_B298:;
   w2c_i0 = w2c_l18;
   w2c_i1 = 6u;
   w2c_i0 <<= (w2c_i1 & 31);
-  w2c_i1 = w2c_l16;
+  w2c_i1 = w2c_l15;
   w2c_i2 = 12u;
   w2c_i1 <<= (w2c_i2 & 31);
   w2c_i2 = w2c_l13;
@@ -27017,70 +26745,355 @@ static void w2c_f29(module *m, u64 w2c_p0, u64 w2c_p1, u64 w2c_p2, u64 w2c_p3, u
   w2c_i1 &= w2c_i2;
   w2c_i0 |= w2c_i1;
   w2c_l13 = w2c_i0;
-  w2c_B309:;
+  w2c_j0 = 4ull;
+  w2c_l10 = w2c_j0;
+  w2c_B296:;
+  w2c_i0 = w2c_l16;
+  w2c_i1 = 4294943674u;
+  w2c_i0 += w2c_i1;
+  w2c_i1 = 4294967291u;
+  w2c_i0 &= w2c_i1;
+  if (w2c_i0) {goto w2c_B9;}
   w2c_j0 = w2c_l8;
-  w2c_j1 = 16ull;
+  w2c_j1 = 24ull;
   w2c_j0 += w2c_j1;
   w2c_i1 = w2c_l13;
   w2c_f22(m, w2c_j0, w2c_i1);
+  w2c_j0 = w2c_p6;
+  w2c_j1 = w2c_l10;
+  w2c_j2 = w2c_l7;
+  w2c_j1 += w2c_j2;
+  w2c_i0 = w2c_j0 == w2c_j1;
+  if (w2c_i0) {goto w2c_B9;}
   w2c_i0 = w2c_l13;
-  w2c_i1 = 4294967238u;
+  w2c_i1 = 4294967248u;
   w2c_i0 += w2c_i1;
-  w2c_i1 = 4294967285u;
-  w2c_i0 = w2c_i0 > w2c_i1;
-  if (w2c_i0) {goto w2c_B313;}
+  w2c_i1 = 10u;
+  w2c_i0 = w2c_i0 < w2c_i1;
+  if (w2c_i0) {goto w2c_B9;}
   w2c_j0 = w2c_l8;
   w2c_i0 = (u32)(w2c_j0);
-  w2c_i0 = i32_load8_u(m, (u64)(w2c_i0) + 16u);
+  w2c_i0 = i32_load8_u(m, (u64)(w2c_i0) + 24u);
   w2c_i1 = 255u;
   w2c_i0 &= w2c_i1;
   w2c_i1 = 1u;
   w2c_i0 = w2c_i0 != w2c_i1;
-  if (w2c_i0) {goto w2c_B313;}
-  w2c_i0 = w2c_l13;
-  w2c_i1 = 12295u;
-  w2c_i0 = w2c_i0 == w2c_i1;
-  if (w2c_i0) {goto w2c_B313;}
-  w2c_i0 = w2c_l13;
-  w2c_i1 = 38646u;
-  w2c_i0 = w2c_i0 == w2c_i1;
-  if (w2c_i0) {goto w2c_B313;}
-  w2c_j0 = w2c_p3;
+  if (w2c_i0) {goto w2c_B9;}
+  w2c_j0 = w2c_l9;
   w2c_j1 = w2c_l10;
-  w2c_i0 = w2c_f40(m, w2c_j0, w2c_j1);
-  if (w2c_i0) {goto w2c_B314;}
-  w2c_j0 = w2c_p3;
-  w2c_j1 = w2c_l10;
-  w2c_i0 = w2c_f41(m, w2c_j0, w2c_j1);
-  w2c_i0 = !(w2c_i0);
-  if (w2c_i0) {goto w2c_B313;}
-  w2c_B314:;
-  w2c_i0 = w2c_l17;
-  if (w2c_i0) {goto w2c_B315;}
-  w2c_j0 = w2c_p1;
-  w2c_j1 = w2c_p2;
   w2c_j0 += w2c_j1;
-  w2c_l10 = w2c_j0;
-  w2c_j1 = 18446744073709551615ull;
+  w2c_l7 = w2c_j0;
+  w2c_i0 = (u32)(w2c_j0);
+  w2c_i0 = i32_load8_s(m, (u64)(w2c_i0));
+  w2c_l14 = w2c_i0;
+  w2c_i1 = 4294967295u;
+  w2c_i0 = (u32)((s32)w2c_i0 > (s32)w2c_i1);
+  if (w2c_i0) {goto w2c_B9;}
+  w2c_i0 = w2c_l14;
+  w2c_i1 = 4294967264u;
+  w2c_i0 = w2c_i0 < w2c_i1;
+  if (w2c_i0) {goto w2c_B9;}
+  w2c_i0 = w2c_l14;
+  w2c_i1 = 255u;
+  w2c_i0 &= w2c_i1;
+  w2c_l13 = w2c_i0;
+  w2c_j0 = w2c_l7;
+  w2c_i0 = (u32)(w2c_j0);
+  w2c_i0 = i32_load8_u(m, (u64)(w2c_i0) + 1u);
+  w2c_i1 = 63u;
+  w2c_i0 &= w2c_i1;
+  w2c_l15 = w2c_i0;
+  w2c_j0 = w2c_l7;
+  w2c_i0 = (u32)(w2c_j0);
+  w2c_i0 = i32_load8_u(m, (u64)(w2c_i0) + 2u);
+  w2c_i1 = 63u;
+  w2c_i0 &= w2c_i1;
+  w2c_l16 = w2c_i0;
+  w2c_i0 = w2c_l14;
+  w2c_i1 = 4294967279u;
+  w2c_i0 = w2c_i0 > w2c_i1;
+  if (w2c_i0) {goto w2c_B300;}
+  w2c_i0 = w2c_l15;
+  w2c_i1 = 6u;
+  w2c_i0 <<= (w2c_i1 & 31);
+  w2c_i1 = w2c_l13;
+  w2c_i2 = 12u;
+  w2c_i1 <<= (w2c_i2 & 31);
+  w2c_i2 = 61440u;
+  w2c_i1 &= w2c_i2;
+  w2c_i0 |= w2c_i1;
+  w2c_i1 = w2c_l16;
+  w2c_i0 |= w2c_i1;
+  w2c_l14 = w2c_i0;
+  goto w2c_B299;
+  w2c_B300:;
+  w2c_i0 = w2c_l16;
+  w2c_i1 = 6u;
+  w2c_i0 <<= (w2c_i1 & 31);
+  w2c_i1 = w2c_l15;
+  w2c_i2 = 12u;
+  w2c_i1 <<= (w2c_i2 & 31);
+  w2c_i2 = w2c_l13;
+  w2c_i3 = 18u;
+  w2c_i2 <<= (w2c_i3 & 31);
+  w2c_i3 = 1835008u;
+  w2c_i2 &= w2c_i3;
+  w2c_i1 |= w2c_i2;
+  w2c_i0 |= w2c_i1;
+  w2c_j1 = w2c_l7;
+  w2c_i1 = (u32)(w2c_j1);
+  w2c_i1 = i32_load8_u(m, (u64)(w2c_i1) + 3u);
+  w2c_i2 = 63u;
+  w2c_i1 &= w2c_i2;
+  w2c_i0 |= w2c_i1;
+  w2c_l14 = w2c_i0;
+  w2c_B299:;
+  w2c_i0 = w2c_l14;
+  w2c_i1 = 20013u;
+  w2c_i0 = w2c_i0 == w2c_i1;
+  if (w2c_i0) {goto w2c_B283;}
+  goto w2c_B9;
+  w2c_B284:;
+  w2c_i0 = w2c_l14;
+  w2c_i1 = 27004u;
+  w2c_i0 = w2c_i0 == w2c_i1;
+  if (w2c_i0) {goto w2c_B281;}
+  goto w2c_B9;
+  w2c_B283:;
+  w2c_i0 = 1u;
+  w2c_l14 = w2c_i0;
+  w2c_i0 = 2u;
+  w2c_l13 = w2c_i0;
+  goto w2c_B0;
+  w2c_B282:;
+  w2c_i0 = w2c_l14;
+  w2c_i1 = 38916u;
+  w2c_i0 = (u32)((s32)w2c_i0 > (s32)w2c_i1);
+  if (w2c_i0) {goto w2c_B301;}
+  w2c_i0 = w2c_l14;
+  w2c_i1 = 36827u;
+  w2c_i0 = w2c_i0 == w2c_i1;
+  if (w2c_i0) {goto w2c_B302;}
+  w2c_i0 = w2c_l14;
+  w2c_i1 = 36914u;
+  w2c_i0 = w2c_i0 != w2c_i1;
+  if (w2c_i0) {goto w2c_B9;}
+  w2c_B302:;
+  w2c_j0 = w2c_p6;
+  w2c_j1 = w2c_l7;
+  w2c_i0 = w2c_j0 == w2c_j1;
+  if (w2c_i0) {goto w2c_B9;}
+  w2c_j0 = w2c_p5;
+  w2c_j1 = w2c_l7;
+  w2c_j0 += w2c_j1;
+  w2c_l7 = w2c_j0;
+  w2c_i0 = (u32)(w2c_j0);
+  w2c_i0 = i32_load8_s(m, (u64)(w2c_i0));
+  w2c_l14 = w2c_i0;
+  w2c_i1 = 4294967295u;
+  w2c_i0 = (u32)((s32)w2c_i0 > (s32)w2c_i1);
+  if (w2c_i0) {goto w2c_B9;}
+  w2c_i0 = w2c_l14;
+  w2c_i1 = 4294967264u;
+  w2c_i0 = w2c_i0 < w2c_i1;
+  if (w2c_i0) {goto w2c_B9;}
+  w2c_i0 = w2c_l14;
+  w2c_i1 = 255u;
+  w2c_i0 &= w2c_i1;
+  w2c_l13 = w2c_i0;
+  w2c_j0 = w2c_l7;
+  w2c_i0 = (u32)(w2c_j0);
+  w2c_i0 = i32_load8_u(m, (u64)(w2c_i0) + 1u);
+  w2c_i1 = 63u;
+  w2c_i0 &= w2c_i1;
+  w2c_l15 = w2c_i0;
+  w2c_j0 = w2c_l7;
+  w2c_i0 = (u32)(w2c_j0);
+  w2c_i0 = i32_load8_u(m, (u64)(w2c_i0) + 2u);
+  w2c_i1 = 63u;
+  w2c_i0 &= w2c_i1;
+  w2c_l16 = w2c_i0;
+  w2c_i0 = w2c_l14;
+  w2c_i1 = 4294967279u;
+  w2c_i0 = w2c_i0 > w2c_i1;
+  if (w2c_i0) {goto w2c_B280;}
+  w2c_i0 = w2c_l15;
+  w2c_i1 = 6u;
+  w2c_i0 <<= (w2c_i1 & 31);
+  w2c_i1 = w2c_l13;
+  w2c_i2 = 12u;
+  w2c_i1 <<= (w2c_i2 & 31);
+  w2c_i2 = 61440u;
+  w2c_i1 &= w2c_i2;
+  w2c_i0 |= w2c_i1;
+  w2c_i1 = w2c_l16;
+  w2c_i0 |= w2c_i1;
+  w2c_l15 = w2c_i0;
+  goto w2c_B279;
+  w2c_B301:;
+  w2c_i0 = w2c_l14;
+  w2c_i1 = 38917u;
+  w2c_i0 = w2c_i0 == w2c_i1;
+  if (w2c_i0) {goto w2c_B281;}
+  w2c_i0 = w2c_l14;
+  w2c_i1 = 39033u;
+  w2c_i0 = w2c_i0 != w2c_i1;
+  if (w2c_i0) {goto w2c_B9;}
+  w2c_B281:;
+  w2c_j0 = w2c_p4;
+  w2c_i0 = !(w2c_j0);
+  if (w2c_i0) {goto w2c_B6;}
+  w2c_j0 = w2c_p3;
+  w2c_i0 = (u32)(w2c_j0);
+  w2c_i0 = i32_load8_s(m, (u64)(w2c_i0));
+  w2c_l14 = w2c_i0;
+  w2c_i1 = 4294967295u;
+  w2c_i0 = (u32)((s32)w2c_i0 > (s32)w2c_i1);
+  if (w2c_i0) {goto w2c_B8;}
+  w2c_i0 = w2c_l14;
+  w2c_i1 = 4294967264u;
+  w2c_i0 = w2c_i0 < w2c_i1;
+  if (w2c_i0) {goto w2c_B8;}
+  w2c_i0 = w2c_l14;
+  w2c_i1 = 255u;
+  w2c_i0 &= w2c_i1;
+  w2c_l13 = w2c_i0;
+  w2c_j0 = w2c_p3;
+  w2c_i0 = (u32)(w2c_j0);
+  w2c_i0 = i32_load8_u(m, (u64)(w2c_i0) + 1u);
+  w2c_i1 = 63u;
+  w2c_i0 &= w2c_i1;
+  w2c_l15 = w2c_i0;
+  w2c_j0 = w2c_p3;
+  w2c_i0 = (u32)(w2c_j0);
+  w2c_i0 = i32_load8_u(m, (u64)(w2c_i0) + 2u);
+  w2c_i1 = 63u;
+  w2c_i0 &= w2c_i1;
+  w2c_l16 = w2c_i0;
+  w2c_i0 = w2c_l14;
+  w2c_i1 = 4294967279u;
+  w2c_i0 = w2c_i0 > w2c_i1;
+  if (w2c_i0) {goto w2c_B278;}
+  w2c_i0 = w2c_l15;
+  w2c_i1 = 6u;
+  w2c_i0 <<= (w2c_i1 & 31);
+  w2c_i1 = w2c_l13;
+  w2c_i2 = 12u;
+  w2c_i1 <<= (w2c_i2 & 31);
+  w2c_i2 = 61440u;
+  w2c_i1 &= w2c_i2;
+  w2c_i0 |= w2c_i1;
+  w2c_i1 = w2c_l16;
+  w2c_i0 |= w2c_i1;
+  w2c_l15 = w2c_i0;
+  goto w2c_B277;
+  w2c_B280:;
+  w2c_i0 = w2c_l16;
+  w2c_i1 = 6u;
+  w2c_i0 <<= (w2c_i1 & 31);
+  w2c_i1 = w2c_l15;
+  w2c_i2 = 12u;
+  w2c_i1 <<= (w2c_i2 & 31);
+  w2c_i2 = w2c_l13;
+  w2c_i3 = 18u;
+  w2c_i2 <<= (w2c_i3 & 31);
+  w2c_i3 = 1835008u;
+  w2c_i2 &= w2c_i3;
+  w2c_i1 |= w2c_i2;
+  w2c_i0 |= w2c_i1;
+  w2c_j1 = w2c_l7;
+  w2c_i1 = (u32)(w2c_j1);
+  w2c_i1 = i32_load8_u(m, (u64)(w2c_i1) + 3u);
+  w2c_i2 = 63u;
+  w2c_i1 &= w2c_i2;
+  w2c_i0 |= w2c_i1;
+  w2c_l15 = w2c_i0;
+  w2c_B279:;
+  w2c_i0 = 1u;
+  w2c_l14 = w2c_i0;
+  w2c_i0 = 2u;
+  w2c_l13 = w2c_i0;
+  w2c_i0 = w2c_l15;
+  w2c_i1 = 20301u;
+  w2c_i0 = w2c_i0 == w2c_i1;
+  if (w2c_i0) {goto w2c_B0;}
+  w2c_i0 = w2c_l15;
+  w2c_i1 = 21046u;
+  w2c_i0 = w2c_i0 != w2c_i1;
+  if (w2c_i0) {goto w2c_B9;}
+  goto w2c_B0;
+  w2c_B278:;
+  w2c_i0 = w2c_l16;
+  w2c_i1 = 6u;
+  w2c_i0 <<= (w2c_i1 & 31);
+  w2c_i1 = w2c_l15;
+  w2c_i2 = 12u;
+  w2c_i1 <<= (w2c_i2 & 31);
+  w2c_i2 = w2c_l13;
+  w2c_i3 = 18u;
+  w2c_i2 <<= (w2c_i3 & 31);
+  w2c_i3 = 1835008u;
+  w2c_i2 &= w2c_i3;
+  w2c_i1 |= w2c_i2;
+  w2c_i0 |= w2c_i1;
+  w2c_j1 = w2c_p3;
+  w2c_i1 = (u32)(w2c_j1);
+  w2c_i1 = i32_load8_u(m, (u64)(w2c_i1) + 3u);
+  w2c_i2 = 63u;
+  w2c_i1 &= w2c_i2;
+  w2c_i0 |= w2c_i1;
+  w2c_l15 = w2c_i0;
+  w2c_B277:;
+  w2c_i0 = 1u;
+  w2c_l14 = w2c_i0;
+  w2c_i0 = 2u;
+  w2c_l13 = w2c_i0;
+  w2c_i0 = w2c_l15;
+  w2c_i1 = 36000u;
+  w2c_i0 = w2c_i0 == w2c_i1;
+  if (w2c_i0) {goto w2c_B0;}
+  w2c_i0 = w2c_l15;
+  w2c_i1 = 36127u;
+  w2c_i0 = w2c_i0 != w2c_i1;
+  if (w2c_i0) {goto w2c_B8;}
+  goto w2c_B0;
+  w2c_B9:;
+  w2c_j0 = w2c_p4;
+  w2c_i0 = !(w2c_j0);
+  if (w2c_i0) {goto w2c_B7;}
+  w2c_B8:;
+  w2c_j0 = w2c_p3;
+  w2c_j1 = w2c_p4;
+  w2c_j2 = 18446744073709551615ull;
+  w2c_j1 += w2c_j2;
+  w2c_l7 = w2c_j1;
   w2c_j0 += w2c_j1;
   w2c_i0 = (u32)(w2c_j0);
   w2c_i0 = i32_load8_s(m, (u64)(w2c_i0));
-  w2c_i1 = 4294967295u;
-  w2c_i0 = (u32)((s32)w2c_i0 > (s32)w2c_i1);
-  if (w2c_i0) {goto w2c_B315;}
+  w2c_l15 = w2c_i0;
+  w2c_l14 = w2c_i0;
+  w2c_j0 = w2c_l7;
+  w2c_l10 = w2c_j0;
+  w2c_i0 = w2c_l15;
+  w2c_i1 = 0u;
+  w2c_i0 = (u32)((s32)w2c_i0 >= (s32)w2c_i1);
+  if (w2c_i0) {goto w2c_B303;}
   w2c_j0 = 18446744073709551614ull;
+  w2c_l10 = w2c_j0;
+  w2c_j0 = w2c_p3;
+  w2c_j1 = w2c_p4;
+  w2c_j0 += w2c_j1;
   w2c_l9 = w2c_j0;
-  w2c_j0 = w2c_l10;
   w2c_j1 = 18446744073709551614ull;
   w2c_j0 += w2c_j1;
   w2c_i0 = (u32)(w2c_j0);
   w2c_i0 = i32_load8_u(m, (u64)(w2c_i0));
   w2c_i1 = 191u;
   w2c_i0 = w2c_i0 > w2c_i1;
-  if (w2c_i0) {goto w2c_B316;}
+  if (w2c_i0) {goto w2c_B304;}
   w2c_j0 = 18446744073709551613ull;
   w2c_j1 = 18446744073709551612ull;
-  w2c_j2 = w2c_l10;
+  w2c_j2 = w2c_l9;
   w2c_j3 = 18446744073709551613ull;
   w2c_j2 += w2c_j3;
   w2c_i2 = (u32)(w2c_j2);
@@ -27088,35 +27101,46 @@ static void w2c_f29(module *m, u64 w2c_p0, u64 w2c_p1, u64 w2c_p2, u64 w2c_p3, u
   w2c_i3 = 191u;
   w2c_i2 = w2c_i2 > w2c_i3;
   w2c_j0 = w2c_i2 ? w2c_j0 : w2c_j1;
-  w2c_l9 = w2c_j0;
-  w2c_B316:;
-  w2c_j0 = w2c_p1;
-  w2c_j1 = w2c_l9;
-  w2c_j0 += w2c_j1;
-  w2c_j1 = w2c_p2;
-  w2c_j0 += w2c_j1;
   w2c_l10 = w2c_j0;
+  w2c_B304:;
+  w2c_j0 = w2c_p3;
+  w2c_j1 = w2c_l10;
+  w2c_j2 = w2c_p4;
+  w2c_j1 += w2c_j2;
+  w2c_l10 = w2c_j1;
+  w2c_j0 += w2c_j1;
+  w2c_l9 = w2c_j0;
   w2c_i0 = (u32)(w2c_j0);
   w2c_i0 = i32_load8_s(m, (u64)(w2c_i0));
   w2c_l13 = w2c_i0;
-  w2c_i1 = 4294967295u;
-  w2c_i0 = (u32)((s32)w2c_i0 > (s32)w2c_i1);
-  if (w2c_i0) {goto w2c_B315;}
-  w2c_i0 = w2c_l13;
-  w2c_i1 = 4294967264u;
-  w2c_i0 = w2c_i0 < w2c_i1;
-  if (w2c_i0) {goto w2c_B315;}
-  w2c_i0 = w2c_l13;
   w2c_i1 = 255u;
   w2c_i0 &= w2c_i1;
   w2c_l14 = w2c_i0;
-  w2c_j0 = w2c_l10;
+  w2c_i0 = w2c_l13;
+  w2c_i1 = 4294967295u;
+  w2c_i0 = (u32)((s32)w2c_i0 > (s32)w2c_i1);
+  if (w2c_i0) {goto w2c_B303;}
+  w2c_j0 = w2c_l9;
   w2c_i0 = (u32)(w2c_j0);
   w2c_i0 = i32_load8_u(m, (u64)(w2c_i0) + 1u);
   w2c_i1 = 63u;
   w2c_i0 &= w2c_i1;
   w2c_l16 = w2c_i0;
-  w2c_j0 = w2c_l10;
+  w2c_i0 = w2c_l13;
+  w2c_i1 = 4294967263u;
+  w2c_i0 = w2c_i0 > w2c_i1;
+  if (w2c_i0) {goto w2c_B305;}
+  w2c_i0 = w2c_l14;
+  w2c_i1 = 6u;
+  w2c_i0 <<= (w2c_i1 & 31);
+  w2c_i1 = 1984u;
+  w2c_i0 &= w2c_i1;
+  w2c_i1 = w2c_l16;
+  w2c_i0 |= w2c_i1;
+  w2c_l14 = w2c_i0;
+  goto w2c_B303;
+  w2c_B305:;
+  w2c_j0 = w2c_l9;
   w2c_i0 = (u32)(w2c_j0);
   w2c_i0 = i32_load8_u(m, (u64)(w2c_i0) + 2u);
   w2c_i1 = 63u;
@@ -27125,7 +27149,7 @@ static void w2c_f29(module *m, u64 w2c_p0, u64 w2c_p1, u64 w2c_p2, u64 w2c_p3, u
   w2c_i0 = w2c_l13;
   w2c_i1 = 4294967279u;
   w2c_i0 = w2c_i0 > w2c_i1;
-  if (w2c_i0) {goto w2c_B318;}
+  if (w2c_i0) {goto w2c_B306;}
   w2c_i0 = w2c_l16;
   w2c_i1 = 6u;
   w2c_i0 <<= (w2c_i1 & 31);
@@ -27137,9 +27161,9 @@ static void w2c_f29(module *m, u64 w2c_p0, u64 w2c_p1, u64 w2c_p2, u64 w2c_p3, u
   w2c_i0 |= w2c_i1;
   w2c_i1 = w2c_l18;
   w2c_i0 |= w2c_i1;
-  w2c_l16 = w2c_i0;
-  goto w2c_B317;
-  w2c_B318:;
+  w2c_l14 = w2c_i0;
+  goto w2c_B303;
+  w2c_B306:;
   w2c_i0 = w2c_l18;
   w2c_i1 = 6u;
   w2c_i0 <<= (w2c_i1 & 31);
@@ -27153,6 +27177,392 @@ static void w2c_f29(module *m, u64 w2c_p0, u64 w2c_p1, u64 w2c_p2, u64 w2c_p3, u
   w2c_i2 &= w2c_i3;
   w2c_i1 |= w2c_i2;
   w2c_i0 |= w2c_i1;
+  w2c_j1 = w2c_l9;
+  w2c_i1 = (u32)(w2c_j1);
+  w2c_i1 = i32_load8_u(m, (u64)(w2c_i1) + 3u);
+  w2c_i2 = 63u;
+  w2c_i1 &= w2c_i2;
+  w2c_i0 |= w2c_i1;
+  w2c_l14 = w2c_i0;
+  w2c_B303:;
+  w2c_j0 = w2c_l8;
+  w2c_j1 = 16ull;
+  w2c_j0 += w2c_j1;
+  w2c_i1 = w2c_l14;
+  w2c_f22(m, w2c_j0, w2c_i1);
+  w2c_i0 = w2c_l14;
+  w2c_i1 = 4294967238u;
+  w2c_i0 += w2c_i1;
+  w2c_i1 = 4294967285u;
+  w2c_i0 = w2c_i0 > w2c_i1;
+  if (w2c_i0) {goto w2c_B7;}
+  w2c_j0 = w2c_l8;
+  w2c_i0 = (u32)(w2c_j0);
+  w2c_i0 = i32_load8_u(m, (u64)(w2c_i0) + 16u);
+  w2c_i1 = 255u;
+  w2c_i0 &= w2c_i1;
+  w2c_i1 = 1u;
+  w2c_i0 = w2c_i0 != w2c_i1;
+  if (w2c_i0) {goto w2c_B7;}
+  w2c_i0 = w2c_l14;
+  w2c_i1 = 12295u;
+  w2c_i0 = w2c_i0 == w2c_i1;
+  if (w2c_i0) {goto w2c_B7;}
+  w2c_i0 = w2c_l14;
+  w2c_i1 = 38646u;
+  w2c_i0 = w2c_i0 == w2c_i1;
+  if (w2c_i0) {goto w2c_B7;}
+  w2c_j0 = w2c_p3;
+  w2c_j1 = w2c_l10;
+  w2c_i0 = w2c_f39(m, w2c_j0, w2c_j1);
+  if (w2c_i0) {goto w2c_B307;}
+  w2c_j0 = w2c_p3;
+  w2c_j1 = w2c_l10;
+  w2c_i0 = w2c_f40(m, w2c_j0, w2c_j1);
+  w2c_i0 = !(w2c_i0);
+  if (w2c_i0) {goto w2c_B7;}
+  w2c_B307:;
+  w2c_i0 = w2c_l17;
+  if (w2c_i0) {goto w2c_B308;}
+  w2c_j0 = w2c_p1;
+  w2c_j1 = w2c_p2;
+  w2c_j0 += w2c_j1;
+  w2c_l10 = w2c_j0;
+  w2c_j1 = 18446744073709551615ull;
+  w2c_j0 += w2c_j1;
+  w2c_i0 = (u32)(w2c_j0);
+  w2c_i0 = i32_load8_s(m, (u64)(w2c_i0));
+  w2c_i1 = 4294967295u;
+  w2c_i0 = (u32)((s32)w2c_i0 > (s32)w2c_i1);
+  if (w2c_i0) {goto w2c_B308;}
+  w2c_j0 = 18446744073709551614ull;
+  w2c_l9 = w2c_j0;
+  w2c_j0 = w2c_l10;
+  w2c_j1 = 18446744073709551614ull;
+  w2c_j0 += w2c_j1;
+  w2c_i0 = (u32)(w2c_j0);
+  w2c_i0 = i32_load8_u(m, (u64)(w2c_i0));
+  w2c_l16 = w2c_i0;
+  w2c_i1 = 191u;
+  w2c_i0 = w2c_i0 > w2c_i1;
+  if (w2c_i0) {goto w2c_B309;}
+  w2c_j0 = 18446744073709551613ull;
+  w2c_j1 = 18446744073709551612ull;
+  w2c_j2 = w2c_l10;
+  w2c_j3 = 18446744073709551613ull;
+  w2c_j2 += w2c_j3;
+  w2c_i2 = (u32)(w2c_j2);
+  w2c_i2 = i32_load8_u(m, (u64)(w2c_i2));
+  w2c_i3 = 191u;
+  w2c_i2 = w2c_i2 > w2c_i3;
+  w2c_j0 = w2c_i2 ? w2c_j0 : w2c_j1;
+  w2c_l9 = w2c_j0;
+  w2c_B309:;
+  w2c_j0 = w2c_p1;
+  w2c_j1 = w2c_l9;
+  w2c_j0 += w2c_j1;
+  w2c_j1 = w2c_p2;
+  w2c_j0 += w2c_j1;
+  w2c_l9 = w2c_j0;
+  w2c_i0 = (u32)(w2c_j0);
+  w2c_i0 = i32_load8_s(m, (u64)(w2c_i0));
+  w2c_l14 = w2c_i0;
+  w2c_i1 = 4294967295u;
+  w2c_i0 = (u32)((s32)w2c_i0 > (s32)w2c_i1);
+  if (w2c_i0) {goto w2c_B310;}
+  w2c_i0 = w2c_l14;
+  w2c_i1 = 4294967264u;
+  w2c_i0 = w2c_i0 < w2c_i1;
+  if (w2c_i0) {goto w2c_B310;}
+  w2c_i0 = w2c_l14;
+  w2c_i1 = 255u;
+  w2c_i0 &= w2c_i1;
+  w2c_l13 = w2c_i0;
+  w2c_j0 = w2c_l9;
+  w2c_i0 = (u32)(w2c_j0);
+  w2c_i0 = i32_load8_u(m, (u64)(w2c_i0) + 1u);
+  w2c_i1 = 63u;
+  w2c_i0 &= w2c_i1;
+  w2c_l18 = w2c_i0;
+  w2c_j0 = w2c_l9;
+  w2c_i0 = (u32)(w2c_j0);
+  w2c_i0 = i32_load8_u(m, (u64)(w2c_i0) + 2u);
+  w2c_i1 = 63u;
+  w2c_i0 &= w2c_i1;
+  w2c_l19 = w2c_i0;
+  w2c_i0 = w2c_l14;
+  w2c_i1 = 4294967279u;
+  w2c_i0 = w2c_i0 > w2c_i1;
+  if (w2c_i0) {goto w2c_B312;}
+  w2c_i0 = w2c_l18;
+  w2c_i1 = 6u;
+  w2c_i0 <<= (w2c_i1 & 31);
+  w2c_i1 = w2c_l13;
+  w2c_i2 = 12u;
+  w2c_i1 <<= (w2c_i2 & 31);
+  w2c_i2 = 61440u;
+  w2c_i1 &= w2c_i2;
+  w2c_i0 |= w2c_i1;
+  w2c_i1 = w2c_l19;
+  w2c_i0 |= w2c_i1;
+  w2c_l18 = w2c_i0;
+  goto w2c_B311;
+  w2c_B312:;
+  w2c_i0 = w2c_l19;
+  w2c_i1 = 6u;
+  w2c_i0 <<= (w2c_i1 & 31);
+  w2c_i1 = w2c_l18;
+  w2c_i2 = 12u;
+  w2c_i1 <<= (w2c_i2 & 31);
+  w2c_i2 = w2c_l13;
+  w2c_i3 = 18u;
+  w2c_i2 <<= (w2c_i3 & 31);
+  w2c_i3 = 1835008u;
+  w2c_i2 &= w2c_i3;
+  w2c_i1 |= w2c_i2;
+  w2c_i0 |= w2c_i1;
+  w2c_j1 = w2c_l9;
+  w2c_i1 = (u32)(w2c_j1);
+  w2c_i1 = i32_load8_u(m, (u64)(w2c_i1) + 3u);
+  w2c_i2 = 63u;
+  w2c_i1 &= w2c_i2;
+  w2c_i0 |= w2c_i1;
+  w2c_l18 = w2c_i0;
+  w2c_B311:;
+  w2c_i0 = 1u;
+  w2c_l14 = w2c_i0;
+  w2c_i0 = 4u;
+  w2c_l13 = w2c_i0;
+  w2c_i0 = w2c_l18;
+  w2c_i1 = 26201u;
+  w2c_i0 = (u32)((s32)w2c_i0 > (s32)w2c_i1);
+  if (w2c_i0) {goto w2c_B313;}
+  w2c_i0 = w2c_l18;
+  w2c_i1 = 21320u;
+  w2c_i0 = w2c_i0 == w2c_i1;
+  if (w2c_i0) {goto w2c_B0;}
+  w2c_i0 = w2c_l18;
+  w2c_i1 = 22812u;
+  w2c_i0 = w2c_i0 == w2c_i1;
+  if (w2c_i0) {goto w2c_B0;}
+  w2c_i0 = w2c_l18;
+  w2c_i1 = 26089u;
+  w2c_i0 = w2c_i0 == w2c_i1;
+  if (w2c_i0) {goto w2c_B0;}
+  goto w2c_B310;
+  w2c_B313:;
+  w2c_i0 = w2c_l18;
+  w2c_i1 = 4294941094u;
+  w2c_i0 += w2c_i1;
+  switch (w2c_i0) {
+    case 0: goto w2c_B0;
+    case 1: goto w2c_B310;
+    case 2: goto w2c_B310;
+    case 3: goto w2c_B310;
+    case 4: goto w2c_B310;
+    case 5: goto w2c_B310;
+    case 6: goto w2c_B310;
+    case 7: goto w2c_B310;
+    case 8: goto w2c_B310;
+    case 9: goto w2c_B310;
+    case 10: goto w2c_B310;
+    case 11: goto w2c_B310;
+    case 12: goto w2c_B310;
+    case 13: goto w2c_B310;
+    case 14: goto w2c_B0;
+    default: goto w2c_B310;
+  }
+  w2c_B310:;
+  w2c_j0 = 18446744073709551614ull;
+  w2c_l9 = w2c_j0;
+  w2c_i0 = w2c_l16;
+  w2c_i1 = 191u;
+  w2c_i0 = w2c_i0 > w2c_i1;
+  if (w2c_i0) {goto w2c_B314;}
+  w2c_j0 = 18446744073709551613ull;
+  w2c_j1 = 18446744073709551612ull;
+  w2c_j2 = w2c_l10;
+  w2c_j3 = 18446744073709551613ull;
+  w2c_j2 += w2c_j3;
+  w2c_i2 = (u32)(w2c_j2);
+  w2c_i2 = i32_load8_u(m, (u64)(w2c_i2));
+  w2c_i3 = 191u;
+  w2c_i2 = w2c_i2 > w2c_i3;
+  w2c_j0 = w2c_i2 ? w2c_j0 : w2c_j1;
+  w2c_l9 = w2c_j0;
+  w2c_B314:;
+  w2c_j0 = w2c_p1;
+  w2c_j1 = w2c_l9;
+  w2c_j2 = w2c_p2;
+  w2c_j1 += w2c_j2;
+  w2c_l9 = w2c_j1;
+  w2c_j0 += w2c_j1;
+  w2c_l10 = w2c_j0;
+  w2c_i0 = (u32)(w2c_j0);
+  w2c_i0 = i32_load8_s(m, (u64)(w2c_i0));
+  w2c_l14 = w2c_i0;
+  w2c_i1 = 4294967295u;
+  w2c_i0 = (u32)((s32)w2c_i0 > (s32)w2c_i1);
+  if (w2c_i0) {goto w2c_B308;}
+  w2c_i0 = w2c_l14;
+  w2c_i1 = 4294967264u;
+  w2c_i0 = w2c_i0 < w2c_i1;
+  if (w2c_i0) {goto w2c_B308;}
+  w2c_i0 = w2c_l14;
+  w2c_i1 = 255u;
+  w2c_i0 &= w2c_i1;
+  w2c_l13 = w2c_i0;
+  w2c_j0 = w2c_l10;
+  w2c_i0 = (u32)(w2c_j0);
+  w2c_i0 = i32_load8_u(m, (u64)(w2c_i0) + 1u);
+  w2c_i1 = 63u;
+  w2c_i0 &= w2c_i1;
+  w2c_l16 = w2c_i0;
+  w2c_j0 = w2c_l10;
+  w2c_i0 = (u32)(w2c_j0);
+  w2c_i0 = i32_load8_u(m, (u64)(w2c_i0) + 2u);
+  w2c_i1 = 63u;
+  w2c_i0 &= w2c_i1;
+  w2c_l18 = w2c_i0;
+  w2c_i0 = w2c_l14;
+  w2c_i1 = 4294967279u;
+  w2c_i0 = w2c_i0 > w2c_i1;
+  if (w2c_i0) {goto w2c_B316;}
+  w2c_i0 = w2c_l16;
+  w2c_i1 = 6u;
+  w2c_i0 <<= (w2c_i1 & 31);
+  w2c_i1 = w2c_l13;
+  w2c_i2 = 12u;
+  w2c_i1 <<= (w2c_i2 & 31);
+  w2c_i2 = 61440u;
+  w2c_i1 &= w2c_i2;
+  w2c_i0 |= w2c_i1;
+  w2c_i1 = w2c_l18;
+  w2c_i0 |= w2c_i1;
+  w2c_l14 = w2c_i0;
+  goto w2c_B315;
+  w2c_B316:;
+  w2c_i0 = w2c_l18;
+  w2c_i1 = 6u;
+  w2c_i0 <<= (w2c_i1 & 31);
+  w2c_i1 = w2c_l16;
+  w2c_i2 = 12u;
+  w2c_i1 <<= (w2c_i2 & 31);
+  w2c_i2 = w2c_l13;
+  w2c_i3 = 18u;
+  w2c_i2 <<= (w2c_i3 & 31);
+  w2c_i3 = 1835008u;
+  w2c_i2 &= w2c_i3;
+  w2c_i1 |= w2c_i2;
+  w2c_i0 |= w2c_i1;
+  w2c_j1 = w2c_l10;
+  w2c_i1 = (u32)(w2c_j1);
+  w2c_i1 = i32_load8_u(m, (u64)(w2c_i1) + 3u);
+  w2c_i2 = 63u;
+  w2c_i1 &= w2c_i2;
+  w2c_i0 |= w2c_i1;
+  w2c_l14 = w2c_i0;
+  w2c_B315:;
+  w2c_j0 = w2c_l9;
+  w2c_i0 = !(w2c_j0);
+  if (w2c_i0) {goto w2c_B308;}
+  w2c_i0 = w2c_l14;
+  w2c_i1 = 19978u;
+  w2c_i0 = w2c_i0 != w2c_i1;
+  if (w2c_i0) {goto w2c_B308;}
+  w2c_j0 = w2c_l10;
+  w2c_j1 = 18446744073709551615ull;
+  w2c_j0 += w2c_j1;
+  w2c_i0 = (u32)(w2c_j0);
+  w2c_i0 = i32_load8_s(m, (u64)(w2c_i0));
+  w2c_i1 = 4294967295u;
+  w2c_i0 = (u32)((s32)w2c_i0 > (s32)w2c_i1);
+  if (w2c_i0) {goto w2c_B308;}
+  w2c_j0 = 18446744073709551614ull;
+  w2c_l11 = w2c_j0;
+  w2c_j0 = w2c_l10;
+  w2c_j1 = 18446744073709551614ull;
+  w2c_j0 += w2c_j1;
+  w2c_i0 = (u32)(w2c_j0);
+  w2c_i0 = i32_load8_u(m, (u64)(w2c_i0));
+  w2c_i1 = 191u;
+  w2c_i0 = w2c_i0 > w2c_i1;
+  if (w2c_i0) {goto w2c_B317;}
+  w2c_j0 = 18446744073709551613ull;
+  w2c_j1 = 18446744073709551612ull;
+  w2c_j2 = w2c_l10;
+  w2c_j3 = 18446744073709551613ull;
+  w2c_j2 += w2c_j3;
+  w2c_i2 = (u32)(w2c_j2);
+  w2c_i2 = i32_load8_u(m, (u64)(w2c_i2));
+  w2c_i3 = 191u;
+  w2c_i2 = w2c_i2 > w2c_i3;
+  w2c_j0 = w2c_i2 ? w2c_j0 : w2c_j1;
+  w2c_l11 = w2c_j0;
+  w2c_B317:;
+  w2c_j0 = w2c_p1;
+  w2c_j1 = w2c_l11;
+  w2c_j0 += w2c_j1;
+  w2c_j1 = w2c_l9;
+  w2c_j0 += w2c_j1;
+  w2c_l10 = w2c_j0;
+  w2c_i0 = (u32)(w2c_j0);
+  w2c_i0 = i32_load8_s(m, (u64)(w2c_i0));
+  w2c_l14 = w2c_i0;
+  w2c_i1 = 4294967295u;
+  w2c_i0 = (u32)((s32)w2c_i0 > (s32)w2c_i1);
+  if (w2c_i0) {goto w2c_B308;}
+  w2c_i0 = w2c_l14;
+  w2c_i1 = 4294967264u;
+  w2c_i0 = w2c_i0 < w2c_i1;
+  if (w2c_i0) {goto w2c_B308;}
+  w2c_i0 = w2c_l14;
+  w2c_i1 = 255u;
+  w2c_i0 &= w2c_i1;
+  w2c_l13 = w2c_i0;
+  w2c_j0 = w2c_l10;
+  w2c_i0 = (u32)(w2c_j0);
+  w2c_i0 = i32_load8_u(m, (u64)(w2c_i0) + 1u);
+  w2c_i1 = 63u;
+  w2c_i0 &= w2c_i1;
+  w2c_l16 = w2c_i0;
+  w2c_j0 = w2c_l10;
+  w2c_i0 = (u32)(w2c_j0);
+  w2c_i0 = i32_load8_u(m, (u64)(w2c_i0) + 2u);
+  w2c_i1 = 63u;
+  w2c_i0 &= w2c_i1;
+  w2c_l18 = w2c_i0;
+  w2c_i0 = w2c_l14;
+  w2c_i1 = 4294967279u;
+  w2c_i0 = w2c_i0 > w2c_i1;
+  if (w2c_i0) {goto w2c_B319;}
+  w2c_i0 = w2c_l16;
+  w2c_i1 = 6u;
+  w2c_i0 <<= (w2c_i1 & 31);
+  w2c_i1 = w2c_l13;
+  w2c_i2 = 12u;
+  w2c_i1 <<= (w2c_i2 & 31);
+  w2c_i2 = 61440u;
+  w2c_i1 &= w2c_i2;
+  w2c_i0 |= w2c_i1;
+  w2c_i1 = w2c_l18;
+  w2c_i0 |= w2c_i1;
+  w2c_l16 = w2c_i0;
+  goto w2c_B318;
+  w2c_B319:;
+  w2c_i0 = w2c_l18;
+  w2c_i1 = 6u;
+  w2c_i0 <<= (w2c_i1 & 31);
+  w2c_i1 = w2c_l16;
+  w2c_i2 = 12u;
+  w2c_i1 <<= (w2c_i2 & 31);
+  w2c_i2 = w2c_l13;
+  w2c_i3 = 18u;
+  w2c_i2 <<= (w2c_i3 & 31);
+  w2c_i3 = 1835008u;
+  w2c_i2 &= w2c_i3;
+  w2c_i1 |= w2c_i2;
+  w2c_i0 |= w2c_i1;
   w2c_j1 = w2c_l10;
   w2c_i1 = (u32)(w2c_j1);
   w2c_i1 = i32_load8_u(m, (u64)(w2c_i1) + 3u);
@@ -27160,65 +27570,20 @@ static void w2c_f29(module *m, u64 w2c_p0, u64 w2c_p1, u64 w2c_p2, u64 w2c_p3, u
   w2c_i1 &= w2c_i2;
   w2c_i0 |= w2c_i1;
   w2c_l16 = w2c_i0;
-  w2c_B317:;
+  w2c_B318:;
   w2c_i0 = 1u;
   w2c_l14 = w2c_i0;
   w2c_i0 = 4u;
   w2c_l13 = w2c_i0;
-  w2c_i0 = w2c_l16;
-  w2c_i1 = 26201u;
-  w2c_i0 = (u32)((s32)w2c_i0 > (s32)w2c_i1);
-  if (w2c_i0) {goto w2c_B319;}
-  w2c_i0 = w2c_l16;
-  w2c_i1 = 21320u;
-  w2c_i0 = w2c_i0 == w2c_i1;
-  if (w2c_i0) {goto w2c_B0;}
-  w2c_i0 = w2c_l16;
-  w2c_i1 = 22812u;
-  w2c_i0 = w2c_i0 == w2c_i1;
-  if (w2c_i0) {goto w2c_B0;}
   w2c_i0 = w2c_l16;
   w2c_i1 = 26089u;
   w2c_i0 = w2c_i0 == w2c_i1;
   if (w2c_i0) {goto w2c_B0;}
-  goto w2c_B315;
-  w2c_B319:;
   w2c_i0 = w2c_l16;
-  w2c_i1 = 4294941094u;
-  w2c_i0 += w2c_i1;
-  switch (w2c_i0) {
-    case 0: goto w2c_B0;
-    case 1: goto w2c_B315;
-    case 2: goto w2c_B315;
-    case 3: goto w2c_B315;
-    case 4: goto w2c_B315;
-    case 5: goto w2c_B315;
-    case 6: goto w2c_B315;
-    case 7: goto w2c_B315;
-    case 8: goto w2c_B315;
-    case 9: goto w2c_B315;
-    case 10: goto w2c_B315;
-    case 11: goto w2c_B315;
-    case 12: goto w2c_B315;
-    case 13: goto w2c_B315;
-    case 14: goto w2c_B0;
-    default: goto w2c_B315;
-  }
-  w2c_B315:;
-  w2c_j0 = 68700ull;
-  w2c_j1 = 68704ull;
-  w2c_j2 = 2ull;
-  w2c_j3 = w2c_p1;
-  w2c_j4 = w2c_p2;
-  w2c_i0 = w2c_f39(m, w2c_j0, w2c_j1, w2c_j2, w2c_j3, w2c_j4);
-  w2c_i0 = !(w2c_i0);
-  if (w2c_i0) {goto w2c_B313;}
-  w2c_i0 = 1u;
-  w2c_l14 = w2c_i0;
-  w2c_i0 = 4u;
-  w2c_l13 = w2c_i0;
-  goto w2c_B0;
-  w2c_B313:;
+  w2c_i1 = 26202u;
+  w2c_i0 = w2c_i0 == w2c_i1;
+  if (w2c_i0) {goto w2c_B0;}
+  w2c_B308:;
   w2c_i0 = w2c_l15;
   w2c_i1 = 0u;
   w2c_i0 = (u32)((s32)w2c_i0 >= (s32)w2c_i1);
@@ -27257,11 +27622,11 @@ static void w2c_f29(module *m, u64 w2c_p0, u64 w2c_p1, u64 w2c_p2, u64 w2c_p3, u
   w2c_l10 = w2c_j0;
   w2c_i0 = (u32)(w2c_j0);
   w2c_i0 = i32_load8_s(m, (u64)(w2c_i0));
-  w2c_l13 = w2c_i0;
+  w2c_l14 = w2c_i0;
   w2c_i1 = 255u;
   w2c_i0 &= w2c_i1;
   w2c_l15 = w2c_i0;
-  w2c_i0 = w2c_l13;
+  w2c_i0 = w2c_l14;
   w2c_i1 = 4294967295u;
   w2c_i0 = (u32)((s32)w2c_i0 > (s32)w2c_i1);
   if (w2c_i0) {goto w2c_B320;}
@@ -27270,8 +27635,8 @@ static void w2c_f29(module *m, u64 w2c_p0, u64 w2c_p1, u64 w2c_p2, u64 w2c_p3, u
   w2c_i0 = i32_load8_u(m, (u64)(w2c_i0) + 1u);
   w2c_i1 = 63u;
   w2c_i0 &= w2c_i1;
-  w2c_l14 = w2c_i0;
-  w2c_i0 = w2c_l13;
+  w2c_l13 = w2c_i0;
+  w2c_i0 = w2c_l14;
   w2c_i1 = 4294967263u;
   w2c_i0 = w2c_i0 > w2c_i1;
   if (w2c_i0) {goto w2c_B322;}
@@ -27280,7 +27645,7 @@ static void w2c_f29(module *m, u64 w2c_p0, u64 w2c_p1, u64 w2c_p2, u64 w2c_p3, u
   w2c_i0 <<= (w2c_i1 & 31);
   w2c_i1 = 1984u;
   w2c_i0 &= w2c_i1;
-  w2c_i1 = w2c_l14;
+  w2c_i1 = w2c_l13;
   w2c_i0 |= w2c_i1;
   w2c_l15 = w2c_i0;
   goto w2c_B320;
@@ -27291,11 +27656,11 @@ static void w2c_f29(module *m, u64 w2c_p0, u64 w2c_p1, u64 w2c_p2, u64 w2c_p3, u
   w2c_i1 = 63u;
   w2c_i0 &= w2c_i1;
   w2c_l16 = w2c_i0;
-  w2c_i0 = w2c_l13;
+  w2c_i0 = w2c_l14;
   w2c_i1 = 4294967279u;
   w2c_i0 = w2c_i0 > w2c_i1;
   if (w2c_i0) {goto w2c_B323;}
-  w2c_i0 = w2c_l14;
+  w2c_i0 = w2c_l13;
   w2c_i1 = 6u;
   w2c_i0 <<= (w2c_i1 & 31);
   w2c_i1 = w2c_l15;
@@ -27312,7 +27677,7 @@ static void w2c_f29(module *m, u64 w2c_p0, u64 w2c_p1, u64 w2c_p2, u64 w2c_p3, u
   w2c_i0 = w2c_l16;
   w2c_i1 = 6u;
   w2c_i0 <<= (w2c_i1 & 31);
-  w2c_i1 = w2c_l14;
+  w2c_i1 = w2c_l13;
   w2c_i2 = 12u;
   w2c_i1 <<= (w2c_i2 & 31);
   w2c_i2 = w2c_l15;
@@ -27340,7 +27705,7 @@ static void w2c_f29(module *m, u64 w2c_p0, u64 w2c_p1, u64 w2c_p2, u64 w2c_p3, u
   w2c_i0 += w2c_i1;
   w2c_i1 = 4294967285u;
   w2c_i0 = w2c_i0 > w2c_i1;
-  if (w2c_i0) {goto w2c_B308;}
+  if (w2c_i0) {goto w2c_B7;}
   w2c_j0 = w2c_l8;
   w2c_i0 = (u32)(w2c_j0);
   w2c_i0 = i32_load8_u(m, (u64)(w2c_i0) + 8u);
@@ -27348,20 +27713,20 @@ static void w2c_f29(module *m, u64 w2c_p0, u64 w2c_p1, u64 w2c_p2, u64 w2c_p3, u
   w2c_i0 &= w2c_i1;
   w2c_i1 = 1u;
   w2c_i0 = w2c_i0 != w2c_i1;
-  if (w2c_i0) {goto w2c_B308;}
+  if (w2c_i0) {goto w2c_B7;}
   w2c_i0 = w2c_l15;
   w2c_i1 = 12295u;
   w2c_i0 = w2c_i0 == w2c_i1;
-  if (w2c_i0) {goto w2c_B308;}
+  if (w2c_i0) {goto w2c_B7;}
   w2c_i0 = w2c_l15;
   w2c_i1 = 38646u;
   w2c_i0 = w2c_i0 == w2c_i1;
-  if (w2c_i0) {goto w2c_B308;}
+  if (w2c_i0) {goto w2c_B7;}
   w2c_j0 = w2c_p3;
   w2c_j1 = w2c_l7;
-  w2c_i0 = w2c_f41(m, w2c_j0, w2c_j1);
+  w2c_i0 = w2c_f40(m, w2c_j0, w2c_j1);
   w2c_i0 = !(w2c_i0);
-  if (w2c_i0) {goto w2c_B308;}
+  if (w2c_i0) {goto w2c_B7;}
   w2c_i0 = 1u;
   w2c_l14 = w2c_i0;
   w2c_i0 = 4u;
@@ -27382,13 +27747,13 @@ static void w2c_f29(module *m, u64 w2c_p0, u64 w2c_p1, u64 w2c_p2, u64 w2c_p3, u
   w2c_i0 = w2c_l15;
   w2c_i1 = 255u;
   w2c_i0 &= w2c_i1;
-  w2c_l12 = w2c_i0;
+  w2c_l16 = w2c_i0;
   w2c_j0 = w2c_p5;
   w2c_i0 = (u32)(w2c_j0);
   w2c_i0 = i32_load8_u(m, (u64)(w2c_i0) + 1u);
   w2c_i1 = 63u;
   w2c_i0 &= w2c_i1;
-  w2c_l16 = w2c_i0;
+  w2c_l12 = w2c_i0;
   w2c_j0 = w2c_p5;
   w2c_i0 = (u32)(w2c_j0);
   w2c_i0 = i32_load8_u(m, (u64)(w2c_i0) + 2u);
@@ -27399,10 +27764,10 @@ static void w2c_f29(module *m, u64 w2c_p0, u64 w2c_p1, u64 w2c_p2, u64 w2c_p3, u
   w2c_i1 = 4294967279u;
   w2c_i0 = w2c_i0 > w2c_i1;
   if (w2c_i0) {goto w2c_B325;}
-  w2c_i0 = w2c_l16;
+  w2c_i0 = w2c_l12;
   w2c_i1 = 6u;
   w2c_i0 <<= (w2c_i1 & 31);
-  w2c_i1 = w2c_l12;
+  w2c_i1 = w2c_l16;
   w2c_i2 = 12u;
   w2c_i1 <<= (w2c_i2 & 31);
   w2c_i2 = 61440u;
@@ -27410,16 +27775,16 @@ static void w2c_f29(module *m, u64 w2c_p0, u64 w2c_p1, u64 w2c_p2, u64 w2c_p3, u
   w2c_i0 |= w2c_i1;
   w2c_i1 = w2c_l18;
   w2c_i0 |= w2c_i1;
-  w2c_l15 = w2c_i0;
+  w2c_l12 = w2c_i0;
   goto w2c_B324;
   w2c_B325:;
   w2c_i0 = w2c_l18;
   w2c_i1 = 6u;
   w2c_i0 <<= (w2c_i1 & 31);
-  w2c_i1 = w2c_l16;
+  w2c_i1 = w2c_l12;
   w2c_i2 = 12u;
   w2c_i1 <<= (w2c_i2 & 31);
-  w2c_i2 = w2c_l12;
+  w2c_i2 = w2c_l16;
   w2c_i3 = 18u;
   w2c_i2 <<= (w2c_i3 & 31);
   w2c_i3 = 1835008u;
@@ -27432,17 +27797,17 @@ static void w2c_f29(module *m, u64 w2c_p0, u64 w2c_p1, u64 w2c_p2, u64 w2c_p3, u
   w2c_i2 = 63u;
   w2c_i1 &= w2c_i2;
   w2c_i0 |= w2c_i1;
-  w2c_l15 = w2c_i0;
+  w2c_l12 = w2c_i0;
   w2c_B324:;
-  w2c_i0 = w2c_l15;
+  w2c_i0 = w2c_l12;
   w2c_i1 = 21543u;
   w2c_i0 = (u32)((s32)w2c_i0 > (s32)w2c_i1);
-  if (w2c_i0) {goto w2c_B326;}
-  w2c_i0 = w2c_l15;
+  if (w2c_i0) {goto w2c_B327;}
+  w2c_i0 = w2c_l12;
   w2c_i1 = 4294946493u;
   w2c_i0 += w2c_i1;
   switch (w2c_i0) {
-    case 0: goto w2c_B307;
+    case 0: goto w2c_B326;
     case 1: goto w2c_B0;
     case 2: goto w2c_B0;
     case 3: goto w2c_B0;
@@ -27450,70 +27815,78 @@ static void w2c_f29(module *m, u64 w2c_p0, u64 w2c_p1, u64 w2c_p2, u64 w2c_p3, u
     case 5: goto w2c_B0;
     case 6: goto w2c_B0;
     case 7: goto w2c_B0;
-    case 8: goto w2c_B307;
-    default: goto w2c_B327;
+    case 8: goto w2c_B326;
+    default: goto w2c_B328;
   }
-  w2c_B327:;
-  w2c_i0 = w2c_l15;
+  w2c_B328:;
+  w2c_i0 = w2c_l12;
   w2c_i1 = 20493u;
   w2c_i0 = w2c_i0 == w2c_i1;
-  if (w2c_i0) {goto w2c_B307;}
-  w2c_i0 = w2c_l15;
+  if (w2c_i0) {goto w2c_B326;}
+  w2c_i0 = w2c_l12;
   w2c_i1 = 21319u;
   w2c_i0 = w2c_i0 == w2c_i1;
-  if (w2c_i0) {goto w2c_B307;}
+  if (w2c_i0) {goto w2c_B326;}
   goto w2c_B0;
-  w2c_B326:;
-  w2c_i0 = w2c_l15;
+  w2c_B327:;
+  w2c_i0 = w2c_l12;
   w2c_i1 = 24229u;
   w2c_i0 = (u32)((s32)w2c_i0 > (s32)w2c_i1);
-  if (w2c_i0) {goto w2c_B328;}
-  w2c_i0 = w2c_l15;
+  if (w2c_i0) {goto w2c_B329;}
+  w2c_i0 = w2c_l12;
   w2c_i1 = 21544u;
   w2c_i0 = w2c_i0 == w2c_i1;
-  if (w2c_i0) {goto w2c_B307;}
-  w2c_i0 = w2c_l15;
+  if (w2c_i0) {goto w2c_B326;}
+  w2c_i0 = w2c_l12;
   w2c_i1 = 22136u;
   w2c_i0 = w2c_i0 == w2c_i1;
-  if (w2c_i0) {goto w2c_B307;}
+  if (w2c_i0) {goto w2c_B326;}
   goto w2c_B0;
-  w2c_B328:;
-  w2c_i0 = w2c_l15;
+  w2c_B329:;
+  w2c_i0 = w2c_l12;
   w2c_i1 = 24230u;
   w2c_i0 = w2c_i0 == w2c_i1;
-  if (w2c_i0) {goto w2c_B307;}
-  w2c_i0 = w2c_l15;
-  w2c_i1 = 31859u;
-  w2c_i0 = w2c_i0 == w2c_i1;
-  if (w2c_i0) {goto w2c_B307;}
-  goto w2c_B0;
-  w2c_B308:;
+  if (w2c_i0) {goto w2c_B326;}
   w2c_i0 = w2c_l12;
-  if (w2c_i0) {goto w2c_B306;}
-  w2c_B307:;
-  w2c_j0 = w2c_p5;
-  w2c_i0 = (u32)(w2c_j0);
-  w2c_i0 = i32_load8_s(m, (u64)(w2c_i0));
-  w2c_l13 = w2c_i0;
-  w2c_i1 = 255u;
-  w2c_i0 &= w2c_i1;
-  w2c_l16 = w2c_i0;
-  w2c_j0 = 1ull;
-  w2c_l10 = w2c_j0;
-  w2c_i0 = w2c_l13;
-  w2c_i1 = 4294967295u;
-  w2c_i0 = (u32)((s32)w2c_i0 > (s32)w2c_i1);
-  if (w2c_i0) {goto w2c_B329;}
+  w2c_i1 = 31859u;
+  w2c_i0 = w2c_i0 != w2c_i1;
+  if (w2c_i0) {goto w2c_B0;}
+  w2c_B326:;
   w2c_j0 = w2c_p5;
   w2c_i0 = (u32)(w2c_j0);
   w2c_i0 = i32_load8_u(m, (u64)(w2c_i0) + 1u);
   w2c_i1 = 63u;
   w2c_i0 &= w2c_i1;
   w2c_l14 = w2c_i0;
-  w2c_i0 = w2c_l13;
-  w2c_i1 = 4294967263u;
+  goto w2c_B5;
+  w2c_B7:;
+  w2c_i0 = w2c_l12;
+  if (w2c_i0) {goto w2c_B3;}
+  w2c_j0 = w2c_p5;
+  w2c_i0 = (u32)(w2c_j0);
+  w2c_i0 = i32_load8_u(m, (u64)(w2c_i0));
+  w2c_l16 = w2c_i0;
+  w2c_l15 = w2c_i0;
+  w2c_B6:;
+  w2c_j0 = 1ull;
+  w2c_l10 = w2c_j0;
+  w2c_i0 = w2c_l15;
+  w2c_i0 = (u32)(s32)(s8)(u8)(w2c_i0);
+  w2c_i1 = 4294967295u;
+  w2c_i0 = (u32)((s32)w2c_i0 > (s32)w2c_i1);
+  if (w2c_i0) {goto w2c_B4;}
+  w2c_j0 = w2c_p5;
+  w2c_i0 = (u32)(w2c_j0);
+  w2c_i0 = i32_load8_u(m, (u64)(w2c_i0) + 1u);
+  w2c_i1 = 63u;
+  w2c_i0 &= w2c_i1;
+  w2c_l14 = w2c_i0;
+  w2c_i0 = w2c_l15;
+  w2c_i1 = 255u;
+  w2c_i0 &= w2c_i1;
+  w2c_i1 = 223u;
   w2c_i0 = w2c_i0 > w2c_i1;
-  if (w2c_i0) {goto w2c_B330;}
+  if (w2c_i0) {goto w2c_B5;}
   w2c_i0 = w2c_l16;
   w2c_i1 = 6u;
   w2c_i0 <<= (w2c_i1 & 31);
@@ -27524,18 +27897,20 @@ static void w2c_f29(module *m, u64 w2c_p0, u64 w2c_p1, u64 w2c_p2, u64 w2c_p3, u
   w2c_l16 = w2c_i0;
   w2c_j0 = 2ull;
   w2c_l10 = w2c_j0;
-  goto w2c_B329;
-  w2c_B330:;
+  goto w2c_B4;
+  w2c_B5:;
   w2c_j0 = w2c_p5;
   w2c_i0 = (u32)(w2c_j0);
   w2c_i0 = i32_load8_u(m, (u64)(w2c_i0) + 2u);
   w2c_i1 = 63u;
   w2c_i0 &= w2c_i1;
-  w2c_l15 = w2c_i0;
-  w2c_i0 = w2c_l13;
-  w2c_i1 = 4294967279u;
+  w2c_l13 = w2c_i0;
+  w2c_i0 = w2c_l15;
+  w2c_i1 = 255u;
+  w2c_i0 &= w2c_i1;
+  w2c_i1 = 239u;
   w2c_i0 = w2c_i0 > w2c_i1;
-  if (w2c_i0) {goto w2c_B331;}
+  if (w2c_i0) {goto w2c_B330;}
   w2c_i0 = w2c_l14;
   w2c_i1 = 6u;
   w2c_i0 <<= (w2c_i1 & 31);
@@ -27545,14 +27920,14 @@ static void w2c_f29(module *m, u64 w2c_p0, u64 w2c_p1, u64 w2c_p2, u64 w2c_p3, u
   w2c_i2 = 61440u;
   w2c_i1 &= w2c_i2;
   w2c_i0 |= w2c_i1;
-  w2c_i1 = w2c_l15;
+  w2c_i1 = w2c_l13;
   w2c_i0 |= w2c_i1;
   w2c_l16 = w2c_i0;
   w2c_j0 = 3ull;
   w2c_l10 = w2c_j0;
-  goto w2c_B329;
-  w2c_B331:;
-  w2c_i0 = w2c_l15;
+  goto w2c_B4;
+  w2c_B330:;
+  w2c_i0 = w2c_l13;
   w2c_i1 = 6u;
   w2c_i0 <<= (w2c_i1 & 31);
   w2c_i1 = w2c_l14;
@@ -27574,7 +27949,64 @@ static void w2c_f29(module *m, u64 w2c_p0, u64 w2c_p1, u64 w2c_p2, u64 w2c_p3, u
   w2c_l16 = w2c_i0;
   w2c_j0 = 4ull;
   w2c_l10 = w2c_j0;
-  w2c_B329:;
+  w2c_B4:;
+  w2c_i0 = w2c_l16;
+  w2c_i1 = 12315u;
+  w2c_i0 = (u32)((s32)w2c_i0 > (s32)w2c_i1);
+  if (w2c_i0) {goto w2c_B332;}
+  w2c_i0 = w2c_l16;
+  w2c_i1 = 8210u;
+  w2c_i0 = (u32)((s32)w2c_i0 > (s32)w2c_i1);
+  if (w2c_i0) {goto w2c_B333;}
+  w2c_i0 = w2c_l16;
+  w2c_i1 = 45u;
+  w2c_i0 = w2c_i0 == w2c_i1;
+  if (w2c_i0) {goto w2c_B331;}
+  w2c_i0 = w2c_l16;
+  w2c_i1 = 126u;
+  w2c_i0 = w2c_i0 != w2c_i1;
+  if (w2c_i0) {goto w2c_B3;}
+  goto w2c_B331;
+  w2c_B333:;
+  w2c_i0 = w2c_l16;
+  w2c_i1 = 4294959085u;
+  w2c_i0 += w2c_i1;
+  w2c_i1 = 2u;
+  w2c_i0 = w2c_i0 < w2c_i1;
+  if (w2c_i0) {goto w2c_B331;}
+  w2c_i0 = w2c_l16;
+  w2c_i1 = 12289u;
+  w2c_i0 = w2c_i0 != w2c_i1;
+  if (w2c_i0) {goto w2c_B3;}
+  goto w2c_B331;
+  w2c_B332:;
+  w2c_i0 = w2c_l16;
+  w2c_i1 = 33266u;
+  w2c_i0 = (u32)((s32)w2c_i0 > (s32)w2c_i1);
+  if (w2c_i0) {goto w2c_B334;}
+  w2c_i0 = w2c_l16;
+  w2c_i1 = 12316u;
+  w2c_i0 = w2c_i0 == w2c_i1;
+  if (w2c_i0) {goto w2c_B331;}
+  w2c_i0 = w2c_l16;
+  w2c_i1 = 21040u;
+  w2c_i0 = w2c_i0 == w2c_i1;
+  if (w2c_i0) {goto w2c_B331;}
+  goto w2c_B3;
+  w2c_B334:;
+  w2c_i0 = w2c_l16;
+  w2c_i1 = 33267u;
+  w2c_i0 = w2c_i0 == w2c_i1;
+  if (w2c_i0) {goto w2c_B331;}
+  w2c_i0 = w2c_l16;
+  w2c_i1 = 65374u;
+  w2c_i0 = w2c_i0 == w2c_i1;
+  if (w2c_i0) {goto w2c_B331;}
+  w2c_i0 = w2c_l16;
+  w2c_i1 = 65293u;
+  w2c_i0 = w2c_i0 != w2c_i1;
+  if (w2c_i0) {goto w2c_B3;}
+  w2c_B331:;
   w2c_j0 = w2c_p5;
   w2c_j1 = w2c_l10;
   w2c_j0 += w2c_j1;
@@ -27585,60 +28017,60 @@ static void w2c_f29(module *m, u64 w2c_p0, u64 w2c_p1, u64 w2c_p2, u64 w2c_p3, u
   w2c_j0 -= w2c_j1;
   w2c_p6 = w2c_j0;
   w2c_l9 = w2c_j0;
-  w2c_L333:
+  w2c_L336:
     w2c_j0 = w2c_l9;
     w2c_p5 = w2c_j0;
     w2c_i0 = !(w2c_j0);
-    if (w2c_i0) {goto w2c_B332;}
+    if (w2c_i0) {goto w2c_B335;}
     w2c_j0 = w2c_l7;
     w2c_i0 = (u32)(w2c_j0);
     w2c_i0 = i32_load8_s(m, (u64)(w2c_i0));
-    w2c_l14 = w2c_i0;
+    w2c_l13 = w2c_i0;
     w2c_i1 = 255u;
     w2c_i0 &= w2c_i1;
-    w2c_l13 = w2c_i0;
+    w2c_l14 = w2c_i0;
     w2c_j0 = 1ull;
     w2c_l10 = w2c_j0;
-    w2c_i0 = w2c_l14;
+    w2c_i0 = w2c_l13;
     w2c_i1 = 4294967295u;
     w2c_i0 = (u32)((s32)w2c_i0 > (s32)w2c_i1);
-    if (w2c_i0) {goto w2c_B334;}
+    if (w2c_i0) {goto w2c_B337;}
     w2c_j0 = w2c_l7;
     w2c_i0 = (u32)(w2c_j0);
     w2c_i0 = i32_load8_u(m, (u64)(w2c_i0) + 1u);
     w2c_i1 = 63u;
     w2c_i0 &= w2c_i1;
     w2c_l15 = w2c_i0;
-    w2c_i0 = w2c_l14;
+    w2c_i0 = w2c_l13;
     w2c_i1 = 4294967263u;
     w2c_i0 = w2c_i0 > w2c_i1;
-    if (w2c_i0) {goto w2c_B335;}
-    w2c_i0 = w2c_l13;
+    if (w2c_i0) {goto w2c_B338;}
+    w2c_i0 = w2c_l14;
     w2c_i1 = 6u;
     w2c_i0 <<= (w2c_i1 & 31);
     w2c_i1 = 1984u;
     w2c_i0 &= w2c_i1;
     w2c_i1 = w2c_l15;
     w2c_i0 |= w2c_i1;
-    w2c_l13 = w2c_i0;
+    w2c_l14 = w2c_i0;
     w2c_j0 = 2ull;
     w2c_l10 = w2c_j0;
-    goto w2c_B334;
-    w2c_B335:;
+    goto w2c_B337;
+    w2c_B338:;
     w2c_j0 = w2c_l7;
     w2c_i0 = (u32)(w2c_j0);
     w2c_i0 = i32_load8_u(m, (u64)(w2c_i0) + 2u);
     w2c_i1 = 63u;
     w2c_i0 &= w2c_i1;
     w2c_l12 = w2c_i0;
-    w2c_i0 = w2c_l14;
+    w2c_i0 = w2c_l13;
     w2c_i1 = 4294967279u;
     w2c_i0 = w2c_i0 > w2c_i1;
-    if (w2c_i0) {goto w2c_B336;}
+    if (w2c_i0) {goto w2c_B339;}
     w2c_i0 = w2c_l15;
     w2c_i1 = 6u;
     w2c_i0 <<= (w2c_i1 & 31);
-    w2c_i1 = w2c_l13;
+    w2c_i1 = w2c_l14;
     w2c_i2 = 12u;
     w2c_i1 <<= (w2c_i2 & 31);
     w2c_i2 = 61440u;
@@ -27646,18 +28078,18 @@ static void w2c_f29(module *m, u64 w2c_p0, u64 w2c_p1, u64 w2c_p2, u64 w2c_p3, u
     w2c_i0 |= w2c_i1;
     w2c_i1 = w2c_l12;
     w2c_i0 |= w2c_i1;
-    w2c_l13 = w2c_i0;
+    w2c_l14 = w2c_i0;
     w2c_j0 = 3ull;
     w2c_l10 = w2c_j0;
-    goto w2c_B334;
-    w2c_B336:;
+    goto w2c_B337;
+    w2c_B339:;
     w2c_i0 = w2c_l12;
     w2c_i1 = 6u;
     w2c_i0 <<= (w2c_i1 & 31);
     w2c_i1 = w2c_l15;
     w2c_i2 = 12u;
     w2c_i1 <<= (w2c_i2 & 31);
-    w2c_i2 = w2c_l13;
+    w2c_i2 = w2c_l14;
     w2c_i3 = 18u;
     w2c_i2 <<= (w2c_i3 & 31);
     w2c_i3 = 1835008u;
@@ -27670,10 +28102,10 @@ static void w2c_f29(module *m, u64 w2c_p0, u64 w2c_p1, u64 w2c_p2, u64 w2c_p3, u
     w2c_i2 = 63u;
     w2c_i1 &= w2c_i2;
     w2c_i0 |= w2c_i1;
-    w2c_l13 = w2c_i0;
+    w2c_l14 = w2c_i0;
     w2c_j0 = 4ull;
     w2c_l10 = w2c_j0;
-    w2c_B334:;
+    w2c_B337:;
     w2c_j0 = w2c_p5;
     w2c_j1 = w2c_l10;
     w2c_j0 -= w2c_j1;
@@ -27682,10 +28114,10 @@ static void w2c_f29(module *m, u64 w2c_p0, u64 w2c_p1, u64 w2c_p2, u64 w2c_p3, u
     w2c_j1 = w2c_l10;
     w2c_j0 += w2c_j1;
     w2c_l7 = w2c_j0;
-    w2c_i0 = w2c_l13;
-    w2c_i0 = w2c_f42(m, w2c_i0);
-    if (w2c_i0) {goto w2c_L333;}
-  w2c_B332:;
+    w2c_i0 = w2c_l14;
+    w2c_i0 = w2c_f41(m, w2c_i0);
+    if (w2c_i0) {goto w2c_L336;}
+  w2c_B335:;
   w2c_i0 = 5u;
   w2c_i1 = 0u;
   w2c_i2 = w2c_l16;
@@ -27695,7 +28127,7 @@ static void w2c_f29(module *m, u64 w2c_p0, u64 w2c_p1, u64 w2c_p2, u64 w2c_p3, u
   w2c_j6 = w2c_p6;
   w2c_j7 = w2c_p5;
   w2c_j6 -= w2c_j7;
-  w2c_i2 = w2c_f43(m, w2c_i2, w2c_j3, w2c_j4, w2c_j5, w2c_j6);
+  w2c_i2 = w2c_f42(m, w2c_i2, w2c_j3, w2c_j4, w2c_j5, w2c_j6);
   w2c_l14 = w2c_i2;
   w2c_i0 = w2c_i2 ? w2c_i0 : w2c_i1;
   w2c_l13 = w2c_i0;
@@ -27703,17 +28135,19 @@ static void w2c_f29(module *m, u64 w2c_p0, u64 w2c_p1, u64 w2c_p2, u64 w2c_p3, u
   if (w2c_i0) {goto w2c_B0;}
   w2c_i0 = w2c_l14;
   if (w2c_i0) {goto w2c_B0;}
-  goto w2c_B305;
-  w2c_B306:;
+  goto w2c_B2;
+  w2c_B3:;
   w2c_i0 = w2c_l17;
   w2c_i0 = !(w2c_i0);
-  if (w2c_i0) {goto w2c_B305;}
-  w2c_i0 = 0u;
-  w2c_l13 = w2c_i0;
+  if (w2c_i0) {goto w2c_B2;}
   w2c_i0 = 0u;
   w2c_l14 = w2c_i0;
+  w2c_i0 = 0u;
+  w2c_l13 = w2c_i0;
   goto w2c_B0;
-  w2c_B305:;
+  w2c_B2:;
+  w2c_i0 = 0u;
+  w2c_l13 = w2c_i0;
   w2c_j0 = w2c_p1;
   w2c_j1 = w2c_p2;
   w2c_j2 = 18446744073709551615ull;
@@ -27722,10 +28156,10 @@ static void w2c_f29(module *m, u64 w2c_p0, u64 w2c_p1, u64 w2c_p2, u64 w2c_p3, u
   w2c_j0 += w2c_j1;
   w2c_i0 = (u32)(w2c_j0);
   w2c_i0 = i32_load8_s(m, (u64)(w2c_i0));
-  w2c_l12 = w2c_i0;
+  w2c_l15 = w2c_i0;
   w2c_i1 = 0u;
   w2c_i0 = (u32)((s32)w2c_i0 >= (s32)w2c_i1);
-  if (w2c_i0) {goto w2c_B337;}
+  if (w2c_i0) {goto w2c_B340;}
   w2c_j0 = 18446744073709551614ull;
   w2c_l7 = w2c_j0;
   w2c_j0 = w2c_p1;
@@ -27738,7 +28172,7 @@ static void w2c_f29(module *m, u64 w2c_p0, u64 w2c_p1, u64 w2c_p2, u64 w2c_p3, u
   w2c_i0 = i32_load8_u(m, (u64)(w2c_i0));
   w2c_i1 = 191u;
   w2c_i0 = w2c_i0 > w2c_i1;
-  if (w2c_i0) {goto w2c_B338;}
+  if (w2c_i0) {goto w2c_B341;}
   w2c_j0 = 18446744073709551613ull;
   w2c_j1 = 18446744073709551612ull;
   w2c_j2 = w2c_l10;
@@ -27750,7 +28184,7 @@ static void w2c_f29(module *m, u64 w2c_p0, u64 w2c_p1, u64 w2c_p2, u64 w2c_p3, u
   w2c_i2 = w2c_i2 > w2c_i3;
   w2c_j0 = w2c_i2 ? w2c_j0 : w2c_j1;
   w2c_l7 = w2c_j0;
-  w2c_B338:;
+  w2c_B341:;
   w2c_j0 = w2c_p1;
   w2c_j1 = w2c_l7;
   w2c_j2 = w2c_p2;
@@ -27760,65 +28194,65 @@ static void w2c_f29(module *m, u64 w2c_p0, u64 w2c_p1, u64 w2c_p2, u64 w2c_p3, u
   w2c_l7 = w2c_j0;
   w2c_i0 = (u32)(w2c_j0);
   w2c_i0 = i32_load8_s(m, (u64)(w2c_i0));
-  w2c_l13 = w2c_i0;
+  w2c_l14 = w2c_i0;
   w2c_i1 = 255u;
   w2c_i0 &= w2c_i1;
-  w2c_l12 = w2c_i0;
-  w2c_i0 = w2c_l13;
+  w2c_l15 = w2c_i0;
+  w2c_i0 = w2c_l14;
   w2c_i1 = 4294967295u;
   w2c_i0 = (u32)((s32)w2c_i0 > (s32)w2c_i1);
-  if (w2c_i0) {goto w2c_B337;}
+  if (w2c_i0) {goto w2c_B340;}
   w2c_j0 = w2c_l7;
   w2c_i0 = (u32)(w2c_j0);
   w2c_i0 = i32_load8_u(m, (u64)(w2c_i0) + 1u);
   w2c_i1 = 63u;
   w2c_i0 &= w2c_i1;
-  w2c_l14 = w2c_i0;
-  w2c_i0 = w2c_l13;
+  w2c_l16 = w2c_i0;
+  w2c_i0 = w2c_l14;
   w2c_i1 = 4294967263u;
   w2c_i0 = w2c_i0 > w2c_i1;
-  if (w2c_i0) {goto w2c_B339;}
-  w2c_i0 = w2c_l12;
+  if (w2c_i0) {goto w2c_B342;}
+  w2c_i0 = w2c_l15;
   w2c_i1 = 6u;
   w2c_i0 <<= (w2c_i1 & 31);
   w2c_i1 = 1984u;
   w2c_i0 &= w2c_i1;
-  w2c_i1 = w2c_l14;
+  w2c_i1 = w2c_l16;
   w2c_i0 |= w2c_i1;
-  w2c_l12 = w2c_i0;
-  goto w2c_B337;
-  w2c_B339:;
+  w2c_l15 = w2c_i0;
+  goto w2c_B340;
+  w2c_B342:;
   w2c_j0 = w2c_l7;
   w2c_i0 = (u32)(w2c_j0);
   w2c_i0 = i32_load8_u(m, (u64)(w2c_i0) + 2u);
   w2c_i1 = 63u;
   w2c_i0 &= w2c_i1;
-  w2c_l15 = w2c_i0;
-  w2c_i0 = w2c_l13;
+  w2c_l12 = w2c_i0;
+  w2c_i0 = w2c_l14;
   w2c_i1 = 4294967279u;
   w2c_i0 = w2c_i0 > w2c_i1;
-  if (w2c_i0) {goto w2c_B340;}
-  w2c_i0 = w2c_l14;
+  if (w2c_i0) {goto w2c_B343;}
+  w2c_i0 = w2c_l16;
   w2c_i1 = 6u;
   w2c_i0 <<= (w2c_i1 & 31);
-  w2c_i1 = w2c_l12;
+  w2c_i1 = w2c_l15;
   w2c_i2 = 12u;
   w2c_i1 <<= (w2c_i2 & 31);
   w2c_i2 = 61440u;
   w2c_i1 &= w2c_i2;
   w2c_i0 |= w2c_i1;
-  w2c_i1 = w2c_l15;
+  w2c_i1 = w2c_l12;
   w2c_i0 |= w2c_i1;
-  w2c_l12 = w2c_i0;
-  goto w2c_B337;
-  w2c_B340:;
-  w2c_i0 = w2c_l15;
+  w2c_l15 = w2c_i0;
+  goto w2c_B340;
+  w2c_B343:;
+  w2c_i0 = w2c_l12;
   w2c_i1 = 6u;
   w2c_i0 <<= (w2c_i1 & 31);
-  w2c_i1 = w2c_l14;
+  w2c_i1 = w2c_l16;
   w2c_i2 = 12u;
   w2c_i1 <<= (w2c_i2 & 31);
-  w2c_i2 = w2c_l12;
+  w2c_i2 = w2c_l15;
   w2c_i3 = 18u;
   w2c_i2 <<= (w2c_i3 & 31);
   w2c_i3 = 1835008u;
@@ -27831,15 +28265,80 @@ static void w2c_f29(module *m, u64 w2c_p0, u64 w2c_p1, u64 w2c_p2, u64 w2c_p3, u
   w2c_i2 = 63u;
   w2c_i1 &= w2c_i2;
   w2c_i0 |= w2c_i1;
-  w2c_l12 = w2c_i0;
-  w2c_B337:;
+  w2c_l15 = w2c_i0;
+  w2c_B340:;
+  w2c_i0 = w2c_l15;
+  w2c_i1 = 12315u;
+  w2c_i0 = (u32)((s32)w2c_i0 > (s32)w2c_i1);
+  if (w2c_i0) {goto w2c_B345;}
+  w2c_i0 = w2c_l15;
+  w2c_i1 = 8210u;
+  w2c_i0 = (u32)((s32)w2c_i0 > (s32)w2c_i1);
+  if (w2c_i0) {goto w2c_B346;}
+  w2c_i0 = w2c_l15;
+  w2c_i1 = 45u;
+  w2c_i0 = w2c_i0 == w2c_i1;
+  if (w2c_i0) {goto w2c_B344;}
+  w2c_i0 = 0u;
+  w2c_l14 = w2c_i0;
+  w2c_i0 = w2c_l15;
+  w2c_i1 = 126u;
+  w2c_i0 = w2c_i0 == w2c_i1;
+  if (w2c_i0) {goto w2c_B344;}
+  goto w2c_B0;
+  w2c_B346:;
+  w2c_i0 = w2c_l15;
+  w2c_i1 = 4294959085u;
+  w2c_i0 += w2c_i1;
+  w2c_i1 = 2u;
+  w2c_i0 = w2c_i0 < w2c_i1;
+  if (w2c_i0) {goto w2c_B344;}
+  w2c_i0 = 0u;
+  w2c_l14 = w2c_i0;
+  w2c_i0 = w2c_l15;
+  w2c_i1 = 12289u;
+  w2c_i0 = w2c_i0 == w2c_i1;
+  if (w2c_i0) {goto w2c_B344;}
+  goto w2c_B0;
+  w2c_B345:;
+  w2c_i0 = w2c_l15;
+  w2c_i1 = 33266u;
+  w2c_i0 = (u32)((s32)w2c_i0 > (s32)w2c_i1);
+  if (w2c_i0) {goto w2c_B347;}
+  w2c_i0 = w2c_l15;
+  w2c_i1 = 12316u;
+  w2c_i0 = w2c_i0 == w2c_i1;
+  if (w2c_i0) {goto w2c_B344;}
+  w2c_i0 = 0u;
+  w2c_l14 = w2c_i0;
+  w2c_i0 = w2c_l15;
+  w2c_i1 = 21040u;
+  w2c_i0 = w2c_i0 == w2c_i1;
+  if (w2c_i0) {goto w2c_B344;}
+  goto w2c_B0;
+  w2c_B347:;
+  w2c_i0 = w2c_l15;
+  w2c_i1 = 33267u;
+  w2c_i0 = w2c_i0 == w2c_i1;
+  if (w2c_i0) {goto w2c_B344;}
+  w2c_i0 = w2c_l15;
+  w2c_i1 = 65374u;
+  w2c_i0 = w2c_i0 == w2c_i1;
+  if (w2c_i0) {goto w2c_B344;}
+  w2c_i0 = 0u;
+  w2c_l14 = w2c_i0;
+  w2c_i0 = w2c_l15;
+  w2c_i1 = 65293u;
+  w2c_i0 = w2c_i0 != w2c_i1;
+  if (w2c_i0) {goto w2c_B0;}
+  w2c_B344:;
   w2c_j0 = w2c_p5;
   w2c_l10 = w2c_j0;
-  w2c_L342:
+  w2c_L349:
     w2c_j0 = w2c_l10;
     w2c_l7 = w2c_j0;
     w2c_i0 = !(w2c_j0);
-    if (w2c_i0) {goto w2c_B341;}
+    if (w2c_i0) {goto w2c_B348;}
     w2c_j0 = w2c_p1;
     w2c_j1 = w2c_l7;
     w2c_j2 = 18446744073709551615ull;
@@ -27848,10 +28347,10 @@ static void w2c_f29(module *m, u64 w2c_p0, u64 w2c_p1, u64 w2c_p2, u64 w2c_p3, u
     w2c_j0 += w2c_j1;
     w2c_i0 = (u32)(w2c_j0);
     w2c_i0 = i32_load8_s(m, (u64)(w2c_i0));
-    w2c_l13 = w2c_i0;
+    w2c_l14 = w2c_i0;
     w2c_i1 = 0u;
     w2c_i0 = (u32)((s32)w2c_i0 >= (s32)w2c_i1);
-    if (w2c_i0) {goto w2c_B343;}
+    if (w2c_i0) {goto w2c_B350;}
     w2c_j0 = 18446744073709551614ull;
     w2c_l10 = w2c_j0;
     w2c_j0 = w2c_p1;
@@ -27864,7 +28363,7 @@ static void w2c_f29(module *m, u64 w2c_p0, u64 w2c_p1, u64 w2c_p2, u64 w2c_p3, u
     w2c_i0 = i32_load8_u(m, (u64)(w2c_i0));
     w2c_i1 = 191u;
     w2c_i0 = w2c_i0 > w2c_i1;
-    if (w2c_i0) {goto w2c_B344;}
+    if (w2c_i0) {goto w2c_B351;}
     w2c_j0 = 18446744073709551613ull;
     w2c_j1 = 18446744073709551612ull;
     w2c_j2 = w2c_l9;
@@ -27876,7 +28375,7 @@ static void w2c_f29(module *m, u64 w2c_p0, u64 w2c_p1, u64 w2c_p2, u64 w2c_p3, u
     w2c_i2 = w2c_i2 > w2c_i3;
     w2c_j0 = w2c_i2 ? w2c_j0 : w2c_j1;
     w2c_l10 = w2c_j0;
-    w2c_B344:;
+    w2c_B351:;
     w2c_j0 = w2c_p1;
     w2c_j1 = w2c_l10;
     w2c_j2 = w2c_l7;
@@ -27886,65 +28385,65 @@ static void w2c_f29(module *m, u64 w2c_p0, u64 w2c_p1, u64 w2c_p2, u64 w2c_p3, u
     w2c_l9 = w2c_j0;
     w2c_i0 = (u32)(w2c_j0);
     w2c_i0 = i32_load8_s(m, (u64)(w2c_i0));
-    w2c_l14 = w2c_i0;
+    w2c_l13 = w2c_i0;
     w2c_i1 = 255u;
     w2c_i0 &= w2c_i1;
-    w2c_l13 = w2c_i0;
-    w2c_i0 = w2c_l14;
+    w2c_l14 = w2c_i0;
+    w2c_i0 = w2c_l13;
     w2c_i1 = 4294967295u;
     w2c_i0 = (u32)((s32)w2c_i0 > (s32)w2c_i1);
-    if (w2c_i0) {goto w2c_B343;}
+    if (w2c_i0) {goto w2c_B350;}
     w2c_j0 = w2c_l9;
     w2c_i0 = (u32)(w2c_j0);
     w2c_i0 = i32_load8_u(m, (u64)(w2c_i0) + 1u);
     w2c_i1 = 63u;
     w2c_i0 &= w2c_i1;
-    w2c_l15 = w2c_i0;
-    w2c_i0 = w2c_l14;
+    w2c_l16 = w2c_i0;
+    w2c_i0 = w2c_l13;
     w2c_i1 = 4294967263u;
     w2c_i0 = w2c_i0 > w2c_i1;
-    if (w2c_i0) {goto w2c_B345;}
-    w2c_i0 = w2c_l13;
+    if (w2c_i0) {goto w2c_B352;}
+    w2c_i0 = w2c_l14;
     w2c_i1 = 6u;
     w2c_i0 <<= (w2c_i1 & 31);
     w2c_i1 = 1984u;
     w2c_i0 &= w2c_i1;
-    w2c_i1 = w2c_l15;
+    w2c_i1 = w2c_l16;
     w2c_i0 |= w2c_i1;
-    w2c_l13 = w2c_i0;
-    goto w2c_B343;
-    w2c_B345:;
+    w2c_l14 = w2c_i0;
+    goto w2c_B350;
+    w2c_B352:;
     w2c_j0 = w2c_l9;
     w2c_i0 = (u32)(w2c_j0);
     w2c_i0 = i32_load8_u(m, (u64)(w2c_i0) + 2u);
     w2c_i1 = 63u;
     w2c_i0 &= w2c_i1;
-    w2c_l16 = w2c_i0;
-    w2c_i0 = w2c_l14;
+    w2c_l12 = w2c_i0;
+    w2c_i0 = w2c_l13;
     w2c_i1 = 4294967279u;
     w2c_i0 = w2c_i0 > w2c_i1;
-    if (w2c_i0) {goto w2c_B346;}
-    w2c_i0 = w2c_l15;
+    if (w2c_i0) {goto w2c_B353;}
+    w2c_i0 = w2c_l16;
     w2c_i1 = 6u;
     w2c_i0 <<= (w2c_i1 & 31);
-    w2c_i1 = w2c_l13;
+    w2c_i1 = w2c_l14;
     w2c_i2 = 12u;
     w2c_i1 <<= (w2c_i2 & 31);
     w2c_i2 = 61440u;
     w2c_i1 &= w2c_i2;
     w2c_i0 |= w2c_i1;
-    w2c_i1 = w2c_l16;
+    w2c_i1 = w2c_l12;
     w2c_i0 |= w2c_i1;
-    w2c_l13 = w2c_i0;
-    goto w2c_B343;
-    w2c_B346:;
-    w2c_i0 = w2c_l16;
+    w2c_l14 = w2c_i0;
+    goto w2c_B350;
+    w2c_B353:;
+    w2c_i0 = w2c_l12;
     w2c_i1 = 6u;
     w2c_i0 <<= (w2c_i1 & 31);
-    w2c_i1 = w2c_l15;
+    w2c_i1 = w2c_l16;
     w2c_i2 = 12u;
     w2c_i1 <<= (w2c_i2 & 31);
-    w2c_i2 = w2c_l13;
+    w2c_i2 = w2c_l14;
     w2c_i3 = 18u;
     w2c_i2 <<= (w2c_i3 & 31);
     w2c_i3 = 1835008u;
@@ -27957,15 +28456,15 @@ static void w2c_f29(module *m, u64 w2c_p0, u64 w2c_p1, u64 w2c_p2, u64 w2c_p3, u
     w2c_i2 = 63u;
     w2c_i1 &= w2c_i2;
     w2c_i0 |= w2c_i1;
-    w2c_l13 = w2c_i0;
-    w2c_B343:;
-    w2c_i0 = w2c_l13;
-    w2c_i0 = w2c_f42(m, w2c_i0);
-    if (w2c_i0) {goto w2c_L342;}
-  w2c_B341:;
+    w2c_l14 = w2c_i0;
+    w2c_B350:;
+    w2c_i0 = w2c_l14;
+    w2c_i0 = w2c_f41(m, w2c_i0);
+    if (w2c_i0) {goto w2c_L349;}
+  w2c_B348:;
   w2c_i0 = 5u;
   w2c_i1 = 0u;
-  w2c_i2 = w2c_l12;
+  w2c_i2 = w2c_l15;
   w2c_j3 = w2c_p1;
   w2c_j4 = w2c_l7;
   w2c_j3 += w2c_j4;
@@ -27974,16 +28473,16 @@ static void w2c_f29(module *m, u64 w2c_p0, u64 w2c_p1, u64 w2c_p2, u64 w2c_p3, u
   w2c_j4 -= w2c_j5;
   w2c_j5 = w2c_p3;
   w2c_j6 = w2c_p4;
-  w2c_i2 = w2c_f43(m, w2c_i2, w2c_j3, w2c_j4, w2c_j5, w2c_j6);
+  w2c_i2 = w2c_f42(m, w2c_i2, w2c_j3, w2c_j4, w2c_j5, w2c_j6);
   w2c_l14 = w2c_i2;
   w2c_i0 = w2c_i2 ? w2c_i0 : w2c_i1;
   w2c_l13 = w2c_i0;
   goto w2c_B0;
   w2c_B1:;
-  w2c_i0 = 0u;
-  w2c_l13 = w2c_i0;
   w2c_i0 = 1u;
   w2c_l14 = w2c_i0;
+  w2c_i0 = 0u;
+  w2c_l13 = w2c_i0;
   w2c_B0:;
   w2c_j0 = w2c_p0;
   w2c_i0 = (u32)(w2c_j0);
@@ -37576,8 +38075,8 @@ static u32 w2c_f37(module *m, u32 w2c_p0, u32 w2c_p1, u64 w2c_p2, u64 w2c_p3) {
 }
 
 static u32 w2c_f38(module *m, u64 w2c_p0, u64 w2c_p1, u64 w2c_p2, u64 w2c_p3, u64 w2c_p4, u64 w2c_p5) {
-  u32 w2c_l6 = 0, w2c_l7 = 0, w2c_l8 = 0, w2c_l9 = 0, w2c_l10 = 0;
-  u64 w2c_l11 = 0;
+  u32 w2c_l6 = 0, w2c_l7 = 0, w2c_l8 = 0, w2c_l9 = 0, w2c_l10 = 0, w2c_l11 = 0;
+  u64 w2c_l12 = 0;
   u32 w2c_i0, w2c_i1, w2c_i2, w2c_i3;
   u64 w2c_j0, w2c_j1;
   w2c_j0 = m->w2c_g0;
@@ -37597,7 +38096,7 @@ static u32 w2c_f38(module *m, u64 w2c_p0, u64 w2c_p1, u64 w2c_p2, u64 w2c_p3, u6
   w2c_i0 &= w2c_i1;
   w2c_l8 = w2c_i0;
   w2c_j0 = 1ull;
-  w2c_l11 = w2c_j0;
+  w2c_l12 = w2c_j0;
   w2c_i0 = w2c_l7;
   w2c_i1 = 4294967295u;
   w2c_i0 = (u32)((s32)w2c_i0 > (s32)w2c_i1);
@@ -37621,7 +38120,7 @@ static u32 w2c_f38(module *m, u64 w2c_p0, u64 w2c_p1, u64 w2c_p2, u64 w2c_p3, u6
   w2c_i0 |= w2c_i1;
   w2c_l8 = w2c_i0;
   w2c_j0 = 2ull;
-  w2c_l11 = w2c_j0;
+  w2c_l12 = w2c_j0;
   goto w2c_B2;
   w2c_B3:;
   w2c_j0 = w2c_p4;
@@ -37647,7 +38146,7 @@ static u32 w2c_f38(module *m, u64 w2c_p0, u64 w2c_p1, u64 w2c_p2, u64 w2c_p3, u6
   w2c_i0 |= w2c_i1;
   w2c_l8 = w2c_i0;
   w2c_j0 = 3ull;
-  w2c_l11 = w2c_j0;
+  w2c_l12 = w2c_j0;
   goto w2c_B2;
   w2c_B4:;
   w2c_i0 = w2c_l10;
@@ -37671,210 +38170,138 @@ static u32 w2c_f38(module *m, u64 w2c_p0, u64 w2c_p1, u64 w2c_p2, u64 w2c_p3, u6
   w2c_i0 |= w2c_i1;
   w2c_l8 = w2c_i0;
   w2c_j0 = 4ull;
-  w2c_l11 = w2c_j0;
+  w2c_l12 = w2c_j0;
   w2c_B2:;
+  w2c_j0 = w2c_p5;
+  w2c_j1 = w2c_l12;
+  w2c_i0 = w2c_j0 == w2c_j1;
+  if (w2c_i0) {goto w2c_B1;}
   w2c_j0 = w2c_p4;
-  w2c_j1 = w2c_l11;
+  w2c_j1 = w2c_l12;
   w2c_j0 += w2c_j1;
-  w2c_p4 = w2c_j0;
-  w2c_L6:
-    w2c_j0 = w2c_p0;
+  w2c_p5 = w2c_j0;
+  w2c_i0 = (u32)(w2c_j0);
+  w2c_i0 = i32_load8_s(m, (u64)(w2c_i0));
+  w2c_l9 = w2c_i0;
+  w2c_i1 = 255u;
+  w2c_i0 &= w2c_i1;
+  w2c_l7 = w2c_i0;
+  w2c_i0 = w2c_l9;
+  w2c_i1 = 4294967295u;
+  w2c_i0 = (u32)((s32)w2c_i0 > (s32)w2c_i1);
+  if (w2c_i0) {goto w2c_B5;}
+  w2c_j0 = w2c_p5;
+  w2c_i0 = (u32)(w2c_j0);
+  w2c_i0 = i32_load8_u(m, (u64)(w2c_i0) + 1u);
+  w2c_i1 = 63u;
+  w2c_i0 &= w2c_i1;
+  w2c_l10 = w2c_i0;
+  w2c_i0 = w2c_l9;
+  w2c_i1 = 4294967263u;
+  w2c_i0 = w2c_i0 > w2c_i1;
+  if (w2c_i0) {goto w2c_B6;}
+  w2c_i0 = w2c_l7;
+  w2c_i1 = 6u;
+  w2c_i0 <<= (w2c_i1 & 31);
+  w2c_i1 = 1984u;
+  w2c_i0 &= w2c_i1;
+  w2c_i1 = w2c_l10;
+  w2c_i0 |= w2c_i1;
+  w2c_l7 = w2c_i0;
+  goto w2c_B5;
+  w2c_B6:;
+  w2c_j0 = w2c_p5;
+  w2c_i0 = (u32)(w2c_j0);
+  w2c_i0 = i32_load8_u(m, (u64)(w2c_i0) + 2u);
+  w2c_i1 = 63u;
+  w2c_i0 &= w2c_i1;
+  w2c_l11 = w2c_i0;
+  w2c_i0 = w2c_l9;
+  w2c_i1 = 4294967279u;
+  w2c_i0 = w2c_i0 > w2c_i1;
+  if (w2c_i0) {goto w2c_B7;}
+  w2c_i0 = w2c_l10;
+  w2c_i1 = 6u;
+  w2c_i0 <<= (w2c_i1 & 31);
+  w2c_i1 = w2c_l7;
+  w2c_i2 = 12u;
+  w2c_i1 <<= (w2c_i2 & 31);
+  w2c_i2 = 61440u;
+  w2c_i1 &= w2c_i2;
+  w2c_i0 |= w2c_i1;
+  w2c_i1 = w2c_l11;
+  w2c_i0 |= w2c_i1;
+  w2c_l7 = w2c_i0;
+  goto w2c_B5;
+  w2c_B7:;
+  w2c_i0 = w2c_l11;
+  w2c_i1 = 6u;
+  w2c_i0 <<= (w2c_i1 & 31);
+  w2c_i1 = w2c_l10;
+  w2c_i2 = 12u;
+  w2c_i1 <<= (w2c_i2 & 31);
+  w2c_i2 = w2c_l7;
+  w2c_i3 = 18u;
+  w2c_i2 <<= (w2c_i3 & 31);
+  w2c_i3 = 1835008u;
+  w2c_i2 &= w2c_i3;
+  w2c_i1 |= w2c_i2;
+  w2c_i0 |= w2c_i1;
+  w2c_j1 = w2c_p5;
+  w2c_i1 = (u32)(w2c_j1);
+  w2c_i1 = i32_load8_u(m, (u64)(w2c_i1) + 3u);
+  w2c_i2 = 63u;
+  w2c_i1 &= w2c_i2;
+  w2c_i0 |= w2c_i1;
+  w2c_l7 = w2c_i0;
+  w2c_B5:;
+  w2c_L8:
+    w2c_j0 = w2c_p2;
     w2c_i0 = (u32)(w2c_j0);
     w2c_i0 = i32_load_of_text(m, (u64)(w2c_i0));
-    w2c_i1 = w2c_l8;
-    w2c_i0 = w2c_i0 == w2c_i1;
-    if (w2c_i0) {goto w2c_B5;}
-    w2c_j0 = w2c_p0;
-    w2c_j1 = 4ull;
-    w2c_j0 += w2c_j1;
-    w2c_p0 = w2c_j0;
+    w2c_i1 = w2c_l7;
+    w2c_i0 = w2c_i0 != w2c_i1;
+    if (w2c_i0) {goto w2c_B9;}
     w2c_j0 = w2c_p1;
     w2c_j1 = 18446744073709551615ull;
     w2c_j0 += w2c_j1;
-    w2c_p1 = w2c_j0;
+    w2c_p2 = w2c_j0;
+    w2c_L10:
+      w2c_j0 = w2c_p0;
+      w2c_i0 = (u32)(w2c_j0);
+      w2c_i0 = i32_load_of_text(m, (u64)(w2c_i0));
+      w2c_i1 = w2c_l8;
+      w2c_i0 = w2c_i0 == w2c_i1;
+      w2c_l6 = w2c_i0;
+      if (w2c_i0) {goto w2c_B1;}
+      w2c_j0 = w2c_p0;
+      w2c_j1 = 4ull;
+      w2c_j0 += w2c_j1;
+      w2c_p0 = w2c_j0;
+      w2c_j0 = w2c_p2;
+      w2c_j1 = 0ull;
+      w2c_i0 = w2c_j0 != w2c_j1;
+      w2c_l7 = w2c_i0;
+      w2c_j0 = w2c_p2;
+      w2c_j1 = 18446744073709551615ull;
+      w2c_j0 += w2c_j1;
+      w2c_p2 = w2c_j0;
+      w2c_i0 = w2c_l7;
+      if (w2c_i0) {goto w2c_L10;}
+      goto w2c_B1;
+    UNREACHABLE;
+    w2c_B9:;
+    w2c_j0 = w2c_p2;
+    w2c_j1 = 4ull;
+    w2c_j0 += w2c_j1;
+    w2c_p2 = w2c_j0;
+    w2c_j0 = w2c_p3;
+    w2c_j1 = 18446744073709551615ull;
+    w2c_j0 += w2c_j1;
+    w2c_p3 = w2c_j0;
     w2c_i0 = !(w2c_j0);
     w2c_i0 = !(w2c_i0);
-    if (w2c_i0) {goto w2c_L6;}
-    goto w2c_B1;
-  UNREACHABLE;
-  w2c_B5:;
-  w2c_j0 = w2c_p5;
-  w2c_j1 = w2c_l11;
-  w2c_i0 = w2c_j0 == w2c_j1;
-  if (w2c_i0) {goto w2c_B1;}
-  w2c_j0 = w2c_p4;
-  w2c_i0 = (u32)(w2c_j0);
-  w2c_i0 = i32_load8_s(m, (u64)(w2c_i0));
-  w2c_l6 = w2c_i0;
-  w2c_i1 = 255u;
-  w2c_i0 &= w2c_i1;
-  w2c_l8 = w2c_i0;
-  w2c_i0 = w2c_l6;
-  w2c_i1 = 4294967295u;
-  w2c_i0 = (u32)((s32)w2c_i0 > (s32)w2c_i1);
-  if (w2c_i0) {goto w2c_B7;}
-  w2c_j0 = w2c_p4;
-  w2c_i0 = (u32)(w2c_j0);
-  w2c_i0 = i32_load8_u(m, (u64)(w2c_i0) + 1u);
-  w2c_i1 = 63u;
-  w2c_i0 &= w2c_i1;
-  w2c_l7 = w2c_i0;
-  w2c_i0 = w2c_l6;
-  w2c_i1 = 4294967263u;
-  w2c_i0 = w2c_i0 > w2c_i1;
-  if (w2c_i0) {goto w2c_B8;}
-  w2c_i0 = w2c_l8;
-  w2c_i1 = 6u;
-  w2c_i0 <<= (w2c_i1 & 31);
-  w2c_i1 = 1984u;
-  w2c_i0 &= w2c_i1;
-  w2c_i1 = w2c_l7;
-  w2c_i0 |= w2c_i1;
-  w2c_l8 = w2c_i0;
-  goto w2c_B7;
-  w2c_B8:;
-  w2c_j0 = w2c_p4;
-  w2c_i0 = (u32)(w2c_j0);
-  w2c_i0 = i32_load8_u(m, (u64)(w2c_i0) + 2u);
-  w2c_i1 = 63u;
-  w2c_i0 &= w2c_i1;
-  w2c_l9 = w2c_i0;
-  w2c_i0 = w2c_l6;
-  w2c_i1 = 4294967279u;
-  w2c_i0 = w2c_i0 > w2c_i1;
-  if (w2c_i0) {goto w2c_B9;}
-  w2c_i0 = w2c_l7;
-  w2c_i1 = 6u;
-  w2c_i0 <<= (w2c_i1 & 31);
-  w2c_i1 = w2c_l8;
-  w2c_i2 = 12u;
-  w2c_i1 <<= (w2c_i2 & 31);
-  w2c_i2 = 61440u;
-  w2c_i1 &= w2c_i2;
-  w2c_i0 |= w2c_i1;
-  w2c_i1 = w2c_l9;
-  w2c_i0 |= w2c_i1;
-  w2c_l8 = w2c_i0;
-  goto w2c_B7;
-  w2c_B9:;
-  w2c_i0 = w2c_l9;
-  w2c_i1 = 6u;
-  w2c_i0 <<= (w2c_i1 & 31);
-  w2c_i1 = w2c_l7;
-  w2c_i2 = 12u;
-  w2c_i1 <<= (w2c_i2 & 31);
-  w2c_i2 = w2c_l8;
-  w2c_i3 = 18u;
-  w2c_i2 <<= (w2c_i3 & 31);
-  w2c_i3 = 1835008u;
-  w2c_i2 &= w2c_i3;
-  w2c_i1 |= w2c_i2;
-  w2c_i0 |= w2c_i1;
-  w2c_j1 = w2c_p4;
-  w2c_i1 = (u32)(w2c_j1);
-  w2c_i1 = i32_load8_u(m, (u64)(w2c_i1) + 3u);
-  w2c_i2 = 63u;
-  w2c_i1 &= w2c_i2;
-  w2c_i0 |= w2c_i1;
-  w2c_l8 = w2c_i0;
-  w2c_B7:;
-  w2c_j0 = w2c_p2;
-  w2c_i0 = (u32)(w2c_j0);
-  w2c_i0 = i32_load_of_text(m, (u64)(w2c_i0));
-  w2c_i1 = w2c_l8;
-  w2c_i0 = w2c_i0 == w2c_i1;
-  w2c_l6 = w2c_i0;
-  if (w2c_i0) {goto w2c_B1;}
-  w2c_j0 = w2c_p3;
-  w2c_j1 = 1ull;
-  w2c_i0 = w2c_j0 == w2c_j1;
-  if (w2c_i0) {goto w2c_B1;}
-  w2c_j0 = w2c_p2;
-  w2c_j1 = 4ull;
-  w2c_j0 += w2c_j1;
-  w2c_i0 = (u32)(w2c_j0);
-  w2c_i0 = i32_load_of_text(m, (u64)(w2c_i0));
-  w2c_i1 = w2c_l8;
-  w2c_i0 = w2c_i0 == w2c_i1;
-  w2c_l6 = w2c_i0;
-  if (w2c_i0) {goto w2c_B1;}
-  w2c_j0 = w2c_p3;
-  w2c_j1 = 2ull;
-  w2c_i0 = w2c_j0 == w2c_j1;
-  if (w2c_i0) {goto w2c_B1;}
-  w2c_j0 = w2c_p2;
-  w2c_j1 = 8ull;
-  w2c_j0 += w2c_j1;
-  w2c_i0 = (u32)(w2c_j0);
-  w2c_i0 = i32_load_of_text(m, (u64)(w2c_i0));
-  w2c_i1 = w2c_l8;
-  w2c_i0 = w2c_i0 == w2c_i1;
-  w2c_l6 = w2c_i0;
-  if (w2c_i0) {goto w2c_B1;}
-  w2c_j0 = w2c_p3;
-  w2c_j1 = 3ull;
-  w2c_i0 = w2c_j0 == w2c_j1;
-  if (w2c_i0) {goto w2c_B1;}
-  w2c_j0 = w2c_p2;
-  w2c_j1 = 12ull;
-  w2c_j0 += w2c_j1;
-  w2c_i0 = (u32)(w2c_j0);
-  w2c_i0 = i32_load_of_text(m, (u64)(w2c_i0));
-  w2c_i1 = w2c_l8;
-  w2c_i0 = w2c_i0 == w2c_i1;
-  w2c_l6 = w2c_i0;
-  if (w2c_i0) {goto w2c_B1;}
-  w2c_j0 = w2c_p3;
-  w2c_j1 = 4ull;
-  w2c_i0 = w2c_j0 == w2c_j1;
-  if (w2c_i0) {goto w2c_B1;}
-  w2c_j0 = w2c_p2;
-  w2c_j1 = 16ull;
-  w2c_j0 += w2c_j1;
-  w2c_i0 = (u32)(w2c_j0);
-  w2c_i0 = i32_load_of_text(m, (u64)(w2c_i0));
-  w2c_i1 = w2c_l8;
-  w2c_i0 = w2c_i0 == w2c_i1;
-  w2c_l6 = w2c_i0;
-  if (w2c_i0) {goto w2c_B1;}
-  w2c_j0 = w2c_p3;
-  w2c_j1 = 5ull;
-  w2c_i0 = w2c_j0 == w2c_j1;
-  if (w2c_i0) {goto w2c_B1;}
-  w2c_j0 = w2c_p2;
-  w2c_j1 = 20ull;
-  w2c_j0 += w2c_j1;
-  w2c_i0 = (u32)(w2c_j0);
-  w2c_i0 = i32_load_of_text(m, (u64)(w2c_i0));
-  w2c_i1 = w2c_l8;
-  w2c_i0 = w2c_i0 == w2c_i1;
-  w2c_l6 = w2c_i0;
-  if (w2c_i0) {goto w2c_B1;}
-  w2c_j0 = w2c_p3;
-  w2c_j1 = 6ull;
-  w2c_i0 = w2c_j0 == w2c_j1;
-  if (w2c_i0) {goto w2c_B1;}
-  w2c_j0 = w2c_p2;
-  w2c_j1 = 24ull;
-  w2c_j0 += w2c_j1;
-  w2c_i0 = (u32)(w2c_j0);
-  w2c_i0 = i32_load_of_text(m, (u64)(w2c_i0));
-  w2c_i1 = w2c_l8;
-  w2c_i0 = w2c_i0 == w2c_i1;
-  w2c_l6 = w2c_i0;
-  if (w2c_i0) {goto w2c_B1;}
-  w2c_j0 = w2c_p3;
-  w2c_j1 = 7ull;
-  w2c_i0 = w2c_j0 == w2c_j1;
-  if (w2c_i0) {goto w2c_B1;}
-  w2c_j0 = w2c_p2;
-  w2c_j1 = 28ull;
-  w2c_j0 += w2c_j1;
-  w2c_i0 = (u32)(w2c_j0);
-  w2c_i0 = i32_load_of_text(m, (u64)(w2c_i0));
-  w2c_i1 = w2c_l8;
-  w2c_i0 = w2c_i0 == w2c_i1;
-  w2c_l6 = w2c_i0;
+    if (w2c_i0) {goto w2c_L8;}
   w2c_B1:;
   w2c_i0 = w2c_l6;
   goto w2c_Bfunc;
@@ -37884,307 +38311,7 @@ static u32 w2c_f38(module *m, u64 w2c_p0, u64 w2c_p1, u64 w2c_p2, u64 w2c_p3, u6
   return w2c_i0;
 }
 
-static u32 w2c_f39(module *m, u64 w2c_p0, u64 w2c_p1, u64 w2c_p2, u64 w2c_p3, u64 w2c_p4) {
-  u32 w2c_l5 = 0, w2c_l6 = 0, w2c_l7 = 0, w2c_l8 = 0, w2c_l9 = 0;
-  u64 w2c_l10 = 0, w2c_l11 = 0;
-  u32 w2c_i0, w2c_i1, w2c_i2, w2c_i3;
-  u64 w2c_j0, w2c_j1, w2c_j2, w2c_j3;
-  w2c_j0 = m->w2c_g0;
-  w2c_j1 = 16ull;
-  w2c_i0 = (u64)((s64)w2c_j0 < (s64)w2c_j1);
-  if (w2c_i0) {goto w2c_B0;}
-  w2c_j0 = w2c_p4;
-  w2c_i0 = !(w2c_j0);
-  w2c_i0 = !(w2c_i0);
-  if (w2c_i0) {goto w2c_B1;}
-  w2c_i0 = 0u;
-  goto w2c_Bfunc;
-  w2c_B1:;
-  w2c_i0 = 0u;
-  w2c_l5 = w2c_i0;
-  w2c_j0 = w2c_p3;
-  w2c_j1 = w2c_p4;
-  w2c_j2 = 18446744073709551615ull;
-  w2c_j1 += w2c_j2;
-  w2c_l10 = w2c_j1;
-  w2c_j0 += w2c_j1;
-  w2c_i0 = (u32)(w2c_j0);
-  w2c_i0 = i32_load8_s(m, (u64)(w2c_i0));
-  w2c_l6 = w2c_i0;
-  w2c_i1 = 0u;
-  w2c_i0 = (u32)((s32)w2c_i0 >= (s32)w2c_i1);
-  if (w2c_i0) {goto w2c_B2;}
-  w2c_j0 = 18446744073709551614ull;
-  w2c_l10 = w2c_j0;
-  w2c_j0 = w2c_p3;
-  w2c_j1 = w2c_p4;
-  w2c_j0 += w2c_j1;
-  w2c_l11 = w2c_j0;
-  w2c_j1 = 18446744073709551614ull;
-  w2c_j0 += w2c_j1;
-  w2c_i0 = (u32)(w2c_j0);
-  w2c_i0 = i32_load8_u(m, (u64)(w2c_i0));
-  w2c_i1 = 191u;
-  w2c_i0 = w2c_i0 > w2c_i1;
-  if (w2c_i0) {goto w2c_B3;}
-  w2c_j0 = 18446744073709551613ull;
-  w2c_j1 = 18446744073709551612ull;
-  w2c_j2 = w2c_l11;
-  w2c_j3 = 18446744073709551613ull;
-  w2c_j2 += w2c_j3;
-  w2c_i2 = (u32)(w2c_j2);
-  w2c_i2 = i32_load8_u(m, (u64)(w2c_i2));
-  w2c_i3 = 191u;
-  w2c_i2 = w2c_i2 > w2c_i3;
-  w2c_j0 = w2c_i2 ? w2c_j0 : w2c_j1;
-  w2c_l10 = w2c_j0;
-  w2c_B3:;
-  w2c_j0 = w2c_p3;
-  w2c_j1 = w2c_l10;
-  w2c_j2 = w2c_p4;
-  w2c_j1 += w2c_j2;
-  w2c_l10 = w2c_j1;
-  w2c_j0 += w2c_j1;
-  w2c_p4 = w2c_j0;
-  w2c_i0 = (u32)(w2c_j0);
-  w2c_i0 = i32_load8_s(m, (u64)(w2c_i0));
-  w2c_l7 = w2c_i0;
-  w2c_i1 = 255u;
-  w2c_i0 &= w2c_i1;
-  w2c_l6 = w2c_i0;
-  w2c_i0 = w2c_l7;
-  w2c_i1 = 4294967295u;
-  w2c_i0 = (u32)((s32)w2c_i0 > (s32)w2c_i1);
-  if (w2c_i0) {goto w2c_B2;}
-  w2c_j0 = w2c_p4;
-  w2c_i0 = (u32)(w2c_j0);
-  w2c_i0 = i32_load8_u(m, (u64)(w2c_i0) + 1u);
-  w2c_i1 = 63u;
-  w2c_i0 &= w2c_i1;
-  w2c_l8 = w2c_i0;
-  w2c_i0 = w2c_l7;
-  w2c_i1 = 4294967263u;
-  w2c_i0 = w2c_i0 > w2c_i1;
-  if (w2c_i0) {goto w2c_B4;}
-  w2c_i0 = w2c_l6;
-  w2c_i1 = 6u;
-  w2c_i0 <<= (w2c_i1 & 31);
-  w2c_i1 = 1984u;
-  w2c_i0 &= w2c_i1;
-  w2c_i1 = w2c_l8;
-  w2c_i0 |= w2c_i1;
-  w2c_l6 = w2c_i0;
-  goto w2c_B2;
-  w2c_B4:;
-  w2c_j0 = w2c_p4;
-  w2c_i0 = (u32)(w2c_j0);
-  w2c_i0 = i32_load8_u(m, (u64)(w2c_i0) + 2u);
-  w2c_i1 = 63u;
-  w2c_i0 &= w2c_i1;
-  w2c_l9 = w2c_i0;
-  w2c_i0 = w2c_l7;
-  w2c_i1 = 4294967279u;
-  w2c_i0 = w2c_i0 > w2c_i1;
-  if (w2c_i0) {goto w2c_B5;}
-  w2c_i0 = w2c_l8;
-  w2c_i1 = 6u;
-  w2c_i0 <<= (w2c_i1 & 31);
-  w2c_i1 = w2c_l6;
-  w2c_i2 = 12u;
-  w2c_i1 <<= (w2c_i2 & 31);
-  w2c_i2 = 61440u;
-  w2c_i1 &= w2c_i2;
-  w2c_i0 |= w2c_i1;
-  w2c_i1 = w2c_l9;
-  w2c_i0 |= w2c_i1;
-  w2c_l6 = w2c_i0;
-  goto w2c_B2;
-  w2c_B5:;
-  w2c_i0 = w2c_l9;
-  w2c_i1 = 6u;
-  w2c_i0 <<= (w2c_i1 & 31);
-  w2c_i1 = w2c_l8;
-  w2c_i2 = 12u;
-  w2c_i1 <<= (w2c_i2 & 31);
-  w2c_i2 = w2c_l6;
-  w2c_i3 = 18u;
-  w2c_i2 <<= (w2c_i3 & 31);
-  w2c_i3 = 1835008u;
-  w2c_i2 &= w2c_i3;
-  w2c_i1 |= w2c_i2;
-  w2c_i0 |= w2c_i1;
-  w2c_j1 = w2c_p4;
-  w2c_i1 = (u32)(w2c_j1);
-  w2c_i1 = i32_load8_u(m, (u64)(w2c_i1) + 3u);
-  w2c_i2 = 63u;
-  w2c_i1 &= w2c_i2;
-  w2c_i0 |= w2c_i1;
-  w2c_l6 = w2c_i0;
-  w2c_B2:;
-  w2c_j0 = w2c_p0;
-  w2c_i0 = (u32)(w2c_j0);
-  w2c_i0 = i32_load_of_text(m, (u64)(w2c_i0));
-  w2c_i1 = w2c_l6;
-  w2c_i0 = w2c_i0 != w2c_i1;
-  if (w2c_i0) {goto w2c_B6;}
-  w2c_j0 = w2c_l10;
-  w2c_i0 = !(w2c_j0);
-  if (w2c_i0) {goto w2c_B6;}
-  w2c_j0 = w2c_p3;
-  w2c_j1 = w2c_l10;
-  w2c_j0 += w2c_j1;
-  w2c_p4 = w2c_j0;
-  w2c_j1 = 18446744073709551615ull;
-  w2c_j0 += w2c_j1;
-  w2c_i0 = (u32)(w2c_j0);
-  w2c_i0 = i32_load8_s(m, (u64)(w2c_i0));
-  w2c_l6 = w2c_i0;
-  w2c_i1 = 0u;
-  w2c_i0 = (u32)((s32)w2c_i0 >= (s32)w2c_i1);
-  if (w2c_i0) {goto w2c_B7;}
-  w2c_j0 = 18446744073709551614ull;
-  w2c_p0 = w2c_j0;
-  w2c_j0 = w2c_p4;
-  w2c_j1 = 18446744073709551614ull;
-  w2c_j0 += w2c_j1;
-  w2c_i0 = (u32)(w2c_j0);
-  w2c_i0 = i32_load8_u(m, (u64)(w2c_i0));
-  w2c_i1 = 191u;
-  w2c_i0 = w2c_i0 > w2c_i1;
-  if (w2c_i0) {goto w2c_B8;}
-  w2c_j0 = 18446744073709551613ull;
-  w2c_j1 = 18446744073709551612ull;
-  w2c_j2 = w2c_p4;
-  w2c_j3 = 18446744073709551613ull;
-  w2c_j2 += w2c_j3;
-  w2c_i2 = (u32)(w2c_j2);
-  w2c_i2 = i32_load8_u(m, (u64)(w2c_i2));
-  w2c_i3 = 191u;
-  w2c_i2 = w2c_i2 > w2c_i3;
-  w2c_j0 = w2c_i2 ? w2c_j0 : w2c_j1;
-  w2c_p0 = w2c_j0;
-  w2c_B8:;
-  w2c_j0 = w2c_p3;
-  w2c_j1 = w2c_p0;
-  w2c_j0 += w2c_j1;
-  w2c_j1 = w2c_l10;
-  w2c_j0 += w2c_j1;
-  w2c_p4 = w2c_j0;
-  w2c_i0 = (u32)(w2c_j0);
-  w2c_i0 = i32_load8_s(m, (u64)(w2c_i0));
-  w2c_l5 = w2c_i0;
-  w2c_i1 = 255u;
-  w2c_i0 &= w2c_i1;
-  w2c_l6 = w2c_i0;
-  w2c_i0 = w2c_l5;
-  w2c_i1 = 4294967295u;
-  w2c_i0 = (u32)((s32)w2c_i0 > (s32)w2c_i1);
-  if (w2c_i0) {goto w2c_B7;}
-  w2c_j0 = w2c_p4;
-  w2c_i0 = (u32)(w2c_j0);
-  w2c_i0 = i32_load8_u(m, (u64)(w2c_i0) + 1u);
-  w2c_i1 = 63u;
-  w2c_i0 &= w2c_i1;
-  w2c_l7 = w2c_i0;
-  w2c_i0 = w2c_l5;
-  w2c_i1 = 4294967263u;
-  w2c_i0 = w2c_i0 > w2c_i1;
-  if (w2c_i0) {goto w2c_B9;}
-  w2c_i0 = w2c_l6;
-  w2c_i1 = 6u;
-  w2c_i0 <<= (w2c_i1 & 31);
-  w2c_i1 = 1984u;
-  w2c_i0 &= w2c_i1;
-  w2c_i1 = w2c_l7;
-  w2c_i0 |= w2c_i1;
-  w2c_l6 = w2c_i0;
-  goto w2c_B7;
-  w2c_B9:;
-  w2c_j0 = w2c_p4;
-  w2c_i0 = (u32)(w2c_j0);
-  w2c_i0 = i32_load8_u(m, (u64)(w2c_i0) + 2u);
-  w2c_i1 = 63u;
-  w2c_i0 &= w2c_i1;
-  w2c_l8 = w2c_i0;
-  w2c_i0 = w2c_l5;
-  w2c_i1 = 4294967279u;
-  w2c_i0 = w2c_i0 > w2c_i1;
-  if (w2c_i0) {goto w2c_B10;}
-  w2c_i0 = w2c_l7;
-  w2c_i1 = 6u;
-  w2c_i0 <<= (w2c_i1 & 31);
-  w2c_i1 = w2c_l6;
-  w2c_i2 = 12u;
-  w2c_i1 <<= (w2c_i2 & 31);
-  w2c_i2 = 61440u;
-  w2c_i1 &= w2c_i2;
-  w2c_i0 |= w2c_i1;
-  w2c_i1 = w2c_l8;
-  w2c_i0 |= w2c_i1;
-  w2c_l6 = w2c_i0;
-  goto w2c_B7;
-  w2c_B10:;
-  w2c_i0 = w2c_l8;
-  w2c_i1 = 6u;
-  w2c_i0 <<= (w2c_i1 & 31);
-  w2c_i1 = w2c_l7;
-  w2c_i2 = 12u;
-  w2c_i1 <<= (w2c_i2 & 31);
-  w2c_i2 = w2c_l6;
-  w2c_i3 = 18u;
-  w2c_i2 <<= (w2c_i3 & 31);
-  w2c_i3 = 1835008u;
-  w2c_i2 &= w2c_i3;
-  w2c_i1 |= w2c_i2;
-  w2c_i0 |= w2c_i1;
-  w2c_j1 = w2c_p4;
-  w2c_i1 = (u32)(w2c_j1);
-  w2c_i1 = i32_load8_u(m, (u64)(w2c_i1) + 3u);
-  w2c_i2 = 63u;
-  w2c_i1 &= w2c_i2;
-  w2c_i0 |= w2c_i1;
-  w2c_l6 = w2c_i0;
-  w2c_B7:;
-  w2c_j0 = w2c_p1;
-  w2c_i0 = (u32)(w2c_j0);
-  w2c_i0 = i32_load_of_text(m, (u64)(w2c_i0));
-  w2c_i1 = w2c_l6;
-  w2c_i0 = w2c_i0 != w2c_i1;
-  if (w2c_i0) {goto w2c_B11;}
-  w2c_i0 = 1u;
-  goto w2c_Bfunc;
-  w2c_B11:;
-  w2c_j0 = w2c_p1;
-  w2c_j1 = 4ull;
-  w2c_j0 += w2c_j1;
-  w2c_i0 = (u32)(w2c_j0);
-  w2c_i0 = i32_load_of_text(m, (u64)(w2c_i0));
-  w2c_i1 = w2c_l6;
-  w2c_i0 = w2c_i0 == w2c_i1;
-  w2c_l5 = w2c_i0;
-  if (w2c_i0) {goto w2c_B6;}
-  w2c_j0 = w2c_p2;
-  w2c_j1 = 2ull;
-  w2c_i0 = w2c_j0 == w2c_j1;
-  if (w2c_i0) {goto w2c_B6;}
-  w2c_j0 = w2c_p1;
-  w2c_j1 = 8ull;
-  w2c_j0 += w2c_j1;
-  w2c_i0 = (u32)(w2c_j0);
-  w2c_i0 = i32_load_of_text(m, (u64)(w2c_i0));
-  w2c_i1 = w2c_l6;
-  w2c_i0 = w2c_i0 == w2c_i1;
-  w2c_l5 = w2c_i0;
-  w2c_B6:;
-  w2c_i0 = w2c_l5;
-  goto w2c_Bfunc;
-  w2c_B0:;
-  UNREACHABLE;
-  w2c_Bfunc:;
-  return w2c_i0;
-}
-
-static u32 w2c_f40(module *m, u64 w2c_p0, u64 w2c_p1) {
+static u32 w2c_f39(module *m, u64 w2c_p0, u64 w2c_p1) {
   u32 w2c_l5 = 0, w2c_l6 = 0, w2c_l7 = 0, w2c_l8 = 0, w2c_l9 = 0, w2c_l10 = 0, w2c_l11 = 0;
   u64 w2c_l2 = 0, w2c_l3 = 0, w2c_l4 = 0;
   u32 w2c_i0, w2c_i1, w2c_i2, w2c_i3;
@@ -38843,7 +38970,7 @@ static u32 w2c_f40(module *m, u64 w2c_p0, u64 w2c_p1) {
   return w2c_i0;
 }
 
-static u32 w2c_f41(module *m, u64 w2c_p0, u64 w2c_p1) {
+static u32 w2c_f40(module *m, u64 w2c_p0, u64 w2c_p1) {
   u32 w2c_l5 = 0, w2c_l6 = 0, w2c_l7 = 0, w2c_l8 = 0;
   u64 w2c_l2 = 0, w2c_l3 = 0, w2c_l4 = 0;
   u32 w2c_i0, w2c_i1, w2c_i2, w2c_i3;
@@ -39001,7 +39128,7 @@ static u32 w2c_f41(module *m, u64 w2c_p0, u64 w2c_p1) {
   w2c_B6:;
   w2c_j0 = w2c_p0;
   w2c_j1 = w2c_l3;
-  w2c_i0 = w2c_f40(m, w2c_j0, w2c_j1);
+  w2c_i0 = w2c_f39(m, w2c_j0, w2c_j1);
   w2c_l5 = w2c_i0;
   w2c_j0 = w2c_l2;
   m->w2c_g0 = w2c_j0;
@@ -39013,7 +39140,7 @@ static u32 w2c_f41(module *m, u64 w2c_p0, u64 w2c_p1) {
   return w2c_i0;
 }
 
-static u32 w2c_f42(module *m, u32 w2c_p0) {
+static u32 w2c_f41(module *m, u32 w2c_p0) {
   u32 w2c_l3 = 0;
   u64 w2c_l1 = 0, w2c_l2 = 0;
   u32 w2c_i0, w2c_i1, w2c_i2;
@@ -39214,7 +39341,7 @@ static u32 w2c_f42(module *m, u32 w2c_p0) {
   return w2c_i0;
 }
 
-static u32 w2c_f43(module *m, u32 w2c_p0, u64 w2c_p1, u64 w2c_p2, u64 w2c_p3, u64 w2c_p4) {
+static u32 w2c_f42(module *m, u32 w2c_p0, u64 w2c_p1, u64 w2c_p2, u64 w2c_p3, u64 w2c_p4) {
   u32 w2c_l19 = 0, w2c_l20 = 0, w2c_l21 = 0, w2c_l22 = 0, w2c_l23 = 0;
   u64 w2c_l5 = 0, w2c_l6 = 0, w2c_l7 = 0, w2c_l8 = 0, w2c_l9 = 0, w2c_l10 = 0, w2c_l11 = 0, w2c_l12 = 0, w2c_l13 = 0, w2c_l14 = 0, w2c_l15 = 0, w2c_l16 = 0, w2c_l17 = 0, w2c_l18 = 0;
   u32 w2c_i0, w2c_i1, w2c_i2, w2c_i3, w2c_i4, w2c_i5, w2c_i6;
@@ -39569,7 +39696,7 @@ static u32 w2c_f43(module *m, u32 w2c_p0, u64 w2c_p1, u64 w2c_p2, u64 w2c_p3, u6
   w2c_j1 = w2c_p1;
   w2c_j2 = w2c_p2;
   w2c_i3 = 1u;
-  w2c_f44(m, w2c_j0, w2c_j1, w2c_j2, w2c_i3);
+  w2c_f43(m, w2c_j0, w2c_j1, w2c_j2, w2c_i3);
   w2c_j0 = w2c_l5;
   w2c_i0 = (u32)(w2c_j0);
   w2c_j0 = i64_load(m, (u64)(w2c_i0) + 136u);
@@ -39632,7 +39759,7 @@ static u32 w2c_f43(module *m, u32 w2c_p0, u64 w2c_p1, u64 w2c_p2, u64 w2c_p3, u6
   w2c_j1 = w2c_p3;
   w2c_j2 = w2c_p4;
   w2c_i3 = 1u;
-  w2c_f44(m, w2c_j0, w2c_j1, w2c_j2, w2c_i3);
+  w2c_f43(m, w2c_j0, w2c_j1, w2c_j2, w2c_i3);
   w2c_i0 = w2c_p0;
   w2c_j1 = w2c_l5;
   w2c_i1 = (u32)(w2c_j1);
@@ -40100,7 +40227,7 @@ static u32 w2c_f43(module *m, u32 w2c_p0, u64 w2c_p1, u64 w2c_p2, u64 w2c_p3, u6
   w2c_j1 = w2c_p3;
   w2c_j2 = w2c_l10;
   w2c_i3 = 1u;
-  w2c_f44(m, w2c_j0, w2c_j1, w2c_j2, w2c_i3);
+  w2c_f43(m, w2c_j0, w2c_j1, w2c_j2, w2c_i3);
   w2c_i0 = 0u;
   w2c_l19 = w2c_i0;
   w2c_j0 = w2c_l5;
@@ -40661,7 +40788,7 @@ static u32 w2c_f43(module *m, u32 w2c_p0, u64 w2c_p1, u64 w2c_p2, u64 w2c_p3, u6
   return w2c_i0;
 }
 
-static void w2c_f44(module *m, u64 w2c_p0, u64 w2c_p1, u64 w2c_p2, u32 w2c_p3) {
+static void w2c_f43(module *m, u64 w2c_p0, u64 w2c_p1, u64 w2c_p2, u32 w2c_p3) {
   u32 w2c_l13 = 0, w2c_l14 = 0, w2c_l15 = 0, w2c_l16 = 0;
   u64 w2c_l4 = 0, w2c_l5 = 0, w2c_l6 = 0, w2c_l7 = 0, w2c_l8 = 0, w2c_l9 = 0, w2c_l10 = 0, w2c_l11 = 0, w2c_l12 = 0;
   u32 w2c_i0, w2c_i1, w2c_i2, w2c_i3, w2c_i4, w2c_i5;
@@ -40782,7 +40909,7 @@ static void w2c_f44(module *m, u64 w2c_p0, u64 w2c_p1, u64 w2c_p2, u32 w2c_p3) {
   w2c_j0 += w2c_j1;
   w2c_j1 = w2c_p1;
   w2c_j2 = w2c_p2;
-  w2c_f45(m, w2c_j0, w2c_j1, w2c_j2);
+  w2c_f44(m, w2c_j0, w2c_j1, w2c_j2);
   w2c_j0 = w2c_l4;
   w2c_i0 = (u32)(w2c_j0);
   w2c_i0 = i32_load8_u(m, (u64)(w2c_i0) + 480u);
@@ -40802,7 +40929,7 @@ static void w2c_f44(module *m, u64 w2c_p0, u64 w2c_p1, u64 w2c_p2, u32 w2c_p3) {
   w2c_j2 = w2c_l4;
   w2c_i2 = (u32)(w2c_j2);
   w2c_j2 = i64_load(m, (u64)(w2c_i2) + 504u);
-  w2c_f45(m, w2c_j0, w2c_j1, w2c_j2);
+  w2c_f44(m, w2c_j0, w2c_j1, w2c_j2);
   w2c_j0 = w2c_l4;
   w2c_i0 = (u32)(w2c_j0);
   w2c_i0 = i32_load8_u(m, (u64)(w2c_i0) + 480u);
@@ -40824,7 +40951,7 @@ static void w2c_f44(module *m, u64 w2c_p0, u64 w2c_p1, u64 w2c_p2, u32 w2c_p3) {
   w2c_i2 = (u32)(w2c_j2);
   w2c_j2 = i64_load(m, (u64)(w2c_i2) + 504u);
   w2c_l6 = w2c_j2;
-  w2c_f45(m, w2c_j0, w2c_j1, w2c_j2);
+  w2c_f44(m, w2c_j0, w2c_j1, w2c_j2);
   w2c_j0 = w2c_l4;
   w2c_i0 = (u32)(w2c_j0);
   w2c_i0 = i32_load8_u(m, (u64)(w2c_i0) + 480u);
@@ -40870,7 +40997,7 @@ static void w2c_f44(module *m, u64 w2c_p0, u64 w2c_p1, u64 w2c_p2, u32 w2c_p3) {
   w2c_j1 = 144ull;
   w2c_j0 += w2c_j1;
   w2c_i1 = w2c_l14;
-  w2c_f46(m, w2c_j0, w2c_i1);
+  w2c_f45(m, w2c_j0, w2c_i1);
   w2c_j0 = w2c_l4;
   w2c_i0 = (u32)(w2c_j0);
   w2c_i0 = i32_load8_u(m, (u64)(w2c_i0) + 144u);
@@ -40891,7 +41018,7 @@ static void w2c_f44(module *m, u64 w2c_p0, u64 w2c_p1, u64 w2c_p2, u32 w2c_p3) {
   w2c_j0 += w2c_j1;
   w2c_j1 = w2c_p1;
   w2c_j2 = w2c_p2;
-  w2c_f45(m, w2c_j0, w2c_j1, w2c_j2);
+  w2c_f44(m, w2c_j0, w2c_j1, w2c_j2);
   w2c_i0 = 1u;
   w2c_l13 = w2c_i0;
   w2c_j0 = w2c_l4;
@@ -41011,7 +41138,7 @@ static void w2c_f44(module *m, u64 w2c_p0, u64 w2c_p1, u64 w2c_p2, u32 w2c_p3) {
   w2c_j0 += w2c_j1;
   w2c_j1 = w2c_l5;
   w2c_j2 = w2c_l6;
-  w2c_f45(m, w2c_j0, w2c_j1, w2c_j2);
+  w2c_f44(m, w2c_j0, w2c_j1, w2c_j2);
   w2c_j0 = w2c_l4;
   w2c_i0 = (u32)(w2c_j0);
   w2c_i0 = i32_load8_u(m, (u64)(w2c_i0) + 480u);
@@ -41033,7 +41160,7 @@ static void w2c_f44(module *m, u64 w2c_p0, u64 w2c_p1, u64 w2c_p2, u32 w2c_p3) {
   w2c_i2 = (u32)(w2c_j2);
   w2c_j2 = i64_load(m, (u64)(w2c_i2) + 504u);
   w2c_l8 = w2c_j2;
-  w2c_f45(m, w2c_j0, w2c_j1, w2c_j2);
+  w2c_f44(m, w2c_j0, w2c_j1, w2c_j2);
   w2c_j0 = w2c_l4;
   w2c_i0 = (u32)(w2c_j0);
   w2c_i0 = i32_load8_u(m, (u64)(w2c_i0) + 432u);
@@ -41232,7 +41359,7 @@ static void w2c_f44(module *m, u64 w2c_p0, u64 w2c_p1, u64 w2c_p2, u32 w2c_p3) {
   w2c_j0 += w2c_j1;
   w2c_j1 = w2c_l7;
   w2c_j2 = w2c_l8;
-  w2c_f47(m, w2c_j0, w2c_j1, w2c_j2);
+  w2c_f46(m, w2c_j0, w2c_j1, w2c_j2);
   w2c_j0 = w2c_l4;
   w2c_i0 = (u32)(w2c_j0);
   w2c_i0 = i32_load8_u(m, (u64)(w2c_i0) + 480u);
@@ -41248,7 +41375,7 @@ static void w2c_f44(module *m, u64 w2c_p0, u64 w2c_p1, u64 w2c_p2, u32 w2c_p3) {
   w2c_j2 = w2c_l4;
   w2c_i2 = (u32)(w2c_j2);
   w2c_j2 = i64_load(m, (u64)(w2c_i2) + 520u);
-  w2c_f45(m, w2c_j0, w2c_j1, w2c_j2);
+  w2c_f44(m, w2c_j0, w2c_j1, w2c_j2);
   w2c_j0 = w2c_l4;
   w2c_i0 = (u32)(w2c_j0);
   w2c_i0 = i32_load8_u(m, (u64)(w2c_i0) + 432u);
@@ -41270,7 +41397,7 @@ static void w2c_f44(module *m, u64 w2c_p0, u64 w2c_p1, u64 w2c_p2, u32 w2c_p3) {
   w2c_i2 = (u32)(w2c_j2);
   w2c_j2 = i64_load(m, (u64)(w2c_i2) + 456u);
   w2c_l11 = w2c_j2;
-  w2c_f45(m, w2c_j0, w2c_j1, w2c_j2);
+  w2c_f44(m, w2c_j0, w2c_j1, w2c_j2);
   w2c_j0 = w2c_l4;
   w2c_i0 = (u32)(w2c_j0);
   w2c_i0 = i32_load8_u(m, (u64)(w2c_i0) + 432u);
@@ -41491,7 +41618,7 @@ static void w2c_f44(module *m, u64 w2c_p0, u64 w2c_p1, u64 w2c_p2, u32 w2c_p3) {
   w2c_j3 = w2c_l4;
   w2c_j4 = 168ull;
   w2c_j3 += w2c_j4;
-  w2c_f48(m, w2c_j0, w2c_i1, w2c_j2, w2c_j3);
+  w2c_f47(m, w2c_j0, w2c_i1, w2c_j2, w2c_j3);
   w2c_j0 = w2c_l4;
   w2c_i0 = (u32)(w2c_j0);
   w2c_j0 = i64_load(m, (u64)(w2c_i0) + 224u);
@@ -41779,7 +41906,7 @@ static void w2c_f44(module *m, u64 w2c_p0, u64 w2c_p1, u64 w2c_p2, u32 w2c_p3) {
     w2c_j1 = w2c_p2;
     w2c_j2 = w2c_l5;
     w2c_p1 = w2c_j2;
-    w2c_f45(m, w2c_j0, w2c_j1, w2c_j2);
+    w2c_f44(m, w2c_j0, w2c_j1, w2c_j2);
     w2c_j0 = w2c_l4;
     w2c_i0 = (u32)(w2c_j0);
     w2c_i0 = i32_load8_u(m, (u64)(w2c_i0) + 384u);
@@ -41808,7 +41935,7 @@ static void w2c_f44(module *m, u64 w2c_p0, u64 w2c_p1, u64 w2c_p2, u32 w2c_p3) {
   w2c_j3 = w2c_p1;
   w2c_j2 -= w2c_j3;
   w2c_p1 = w2c_j2;
-  w2c_f45(m, w2c_j0, w2c_j1, w2c_j2);
+  w2c_f44(m, w2c_j0, w2c_j1, w2c_j2);
   w2c_j0 = w2c_l4;
   w2c_i0 = (u32)(w2c_j0);
   w2c_i0 = i32_load8_u(m, (u64)(w2c_i0) + 336u);
@@ -41820,7 +41947,7 @@ static void w2c_f44(module *m, u64 w2c_p0, u64 w2c_p1, u64 w2c_p2, u32 w2c_p3) {
   w2c_j0 += w2c_j1;
   w2c_j1 = w2c_p2;
   w2c_j2 = w2c_l5;
-  w2c_f47(m, w2c_j0, w2c_j1, w2c_j2);
+  w2c_f46(m, w2c_j0, w2c_j1, w2c_j2);
   w2c_j0 = w2c_l4;
   w2c_i0 = (u32)(w2c_j0);
   w2c_i0 = i32_load8_u(m, (u64)(w2c_i0) + 480u);
@@ -41850,7 +41977,7 @@ static void w2c_f44(module *m, u64 w2c_p0, u64 w2c_p1, u64 w2c_p2, u32 w2c_p3) {
   w2c_j2 = 0ull;
   w2c_j3 = w2c_l7;
   w2c_j4 = w2c_p1;
-  w2c_f49(m, w2c_j0, w2c_i1, w2c_j2, w2c_j3, w2c_j4);
+  w2c_f48(m, w2c_j0, w2c_i1, w2c_j2, w2c_j3, w2c_j4);
   w2c_j0 = w2c_l4;
   w2c_j1 = 304ull;
   w2c_j0 += w2c_j1;
@@ -41858,7 +41985,7 @@ static void w2c_f44(module *m, u64 w2c_p0, u64 w2c_p1, u64 w2c_p2, u32 w2c_p3) {
   w2c_j2 = 0ull;
   w2c_j3 = w2c_l11;
   w2c_j4 = w2c_l9;
-  w2c_f50(m, w2c_j0, w2c_i1, w2c_j2, w2c_j3, w2c_j4);
+  w2c_f49(m, w2c_j0, w2c_i1, w2c_j2, w2c_j3, w2c_j4);
   w2c_j0 = w2c_l4;
   w2c_j1 = 432ull;
   w2c_j0 += w2c_j1;
@@ -41866,7 +41993,7 @@ static void w2c_f44(module *m, u64 w2c_p0, u64 w2c_p1, u64 w2c_p2, u32 w2c_p3) {
   w2c_j2 = 0ull;
   w2c_j3 = w2c_p2;
   w2c_j4 = w2c_l5;
-  w2c_f51(m, w2c_j0, w2c_i1, w2c_j2, w2c_j3, w2c_j4);
+  w2c_f50(m, w2c_j0, w2c_i1, w2c_j2, w2c_j3, w2c_j4);
   w2c_j0 = w2c_l4;
   w2c_i0 = (u32)(w2c_j0);
   w2c_i0 = i32_load8_u(m, (u64)(w2c_i0) + 544u);
@@ -42151,7 +42278,7 @@ static void w2c_f44(module *m, u64 w2c_p0, u64 w2c_p1, u64 w2c_p2, u32 w2c_p3) {
   w2c_j0 += w2c_j1;
   w2c_j1 = w2c_l7;
   w2c_j2 = w2c_l8;
-  w2c_f47(m, w2c_j0, w2c_j1, w2c_j2);
+  w2c_f46(m, w2c_j0, w2c_j1, w2c_j2);
   w2c_j0 = w2c_l4;
   w2c_i0 = (u32)(w2c_j0);
   w2c_i0 = i32_load8_u(m, (u64)(w2c_i0) + 432u);
@@ -42179,7 +42306,7 @@ static void w2c_f44(module *m, u64 w2c_p0, u64 w2c_p1, u64 w2c_p2, u32 w2c_p3) {
   w2c_j0 += w2c_j1;
   w2c_j1 = w2c_l7;
   w2c_j2 = w2c_l8;
-  w2c_f52(m, w2c_j0, w2c_j1, w2c_j2);
+  w2c_f51(m, w2c_j0, w2c_j1, w2c_j2);
   w2c_j0 = w2c_l4;
   w2c_i0 = (u32)(w2c_j0);
   w2c_i0 = i32_load8_u(m, (u64)(w2c_i0) + 544u);
@@ -42201,7 +42328,7 @@ static void w2c_f44(module *m, u64 w2c_p0, u64 w2c_p1, u64 w2c_p2, u32 w2c_p3) {
   w2c_i2 = (u32)(w2c_j2);
   w2c_j2 = i64_load(m, (u64)(w2c_i2) + 568u);
   w2c_p2 = w2c_j2;
-  w2c_f45(m, w2c_j0, w2c_j1, w2c_j2);
+  w2c_f44(m, w2c_j0, w2c_j1, w2c_j2);
   w2c_j0 = w2c_l4;
   w2c_i0 = (u32)(w2c_j0);
   w2c_i0 = i32_load8_u(m, (u64)(w2c_i0) + 544u);
@@ -42236,7 +42363,7 @@ static void w2c_f44(module *m, u64 w2c_p0, u64 w2c_p1, u64 w2c_p2, u32 w2c_p3) {
   w2c_j2 = w2c_l6;
   w2c_j3 = w2c_l5;
   w2c_j4 = w2c_p2;
-  w2c_f53(m, w2c_j0, w2c_i1, w2c_j2, w2c_j3, w2c_j4);
+  w2c_f52(m, w2c_j0, w2c_i1, w2c_j2, w2c_j3, w2c_j4);
   w2c_j0 = w2c_l4;
   w2c_i0 = (u32)(w2c_j0);
   w2c_j0 = i64_load(m, (u64)(w2c_i0) + 400u);
@@ -42271,7 +42398,7 @@ static void w2c_f44(module *m, u64 w2c_p0, u64 w2c_p1, u64 w2c_p2, u32 w2c_p3) {
   w2c_j2 = 4ull;
   w2c_j1 <<= (w2c_j2 & 63);
   w2c_p2 = w2c_j1;
-  w2c_j2 = 68848ull;
+  w2c_j2 = 68864ull;
   w2c_j1 += w2c_j2;
   w2c_i1 = (u32)(w2c_j1);
   w2c_j1 = i64_load(m, (u64)(w2c_i1));
@@ -42281,7 +42408,7 @@ static void w2c_f44(module *m, u64 w2c_p0, u64 w2c_p1, u64 w2c_p2, u32 w2c_p3) {
   w2c_f3(m, w2c_j0, w2c_j1, w2c_j2, w2c_j3, w2c_j4);
   w2c_j0 = w2c_l4;
   w2c_j1 = w2c_p2;
-  w2c_j2 = 68856ull;
+  w2c_j2 = 68872ull;
   w2c_j1 += w2c_j2;
   w2c_i1 = (u32)(w2c_j1);
   w2c_j1 = i64_load(m, (u64)(w2c_i1));
@@ -42357,7 +42484,7 @@ static void w2c_f44(module *m, u64 w2c_p0, u64 w2c_p1, u64 w2c_p2, u32 w2c_p3) {
   w2c_j2 = w2c_l6;
   w2c_j3 = w2c_l7;
   w2c_j4 = w2c_l8;
-  w2c_f53(m, w2c_j0, w2c_i1, w2c_j2, w2c_j3, w2c_j4);
+  w2c_f52(m, w2c_j0, w2c_i1, w2c_j2, w2c_j3, w2c_j4);
   w2c_j0 = w2c_l4;
   w2c_i0 = (u32)(w2c_j0);
   w2c_j0 = i64_load(m, (u64)(w2c_i0) + 352u);
@@ -42426,13 +42553,13 @@ static void w2c_f44(module *m, u64 w2c_p0, u64 w2c_p1, u64 w2c_p2, u32 w2c_p3) {
   w2c_j1 = 4ull;
   w2c_j0 <<= (w2c_j1 & 63);
   w2c_l5 = w2c_j0;
-  w2c_j1 = 68856ull;
+  w2c_j1 = 68872ull;
   w2c_j0 += w2c_j1;
   w2c_i0 = (u32)(w2c_j0);
   w2c_j0 = i64_load(m, (u64)(w2c_i0));
   w2c_p2 = w2c_j0;
   w2c_j0 = w2c_l5;
-  w2c_j1 = 68848ull;
+  w2c_j1 = 68864ull;
   w2c_j0 += w2c_j1;
   w2c_i0 = (u32)(w2c_j0);
   w2c_j0 = i64_load(m, (u64)(w2c_i0));
@@ -42460,7 +42587,7 @@ static void w2c_f44(module *m, u64 w2c_p0, u64 w2c_p1, u64 w2c_p2, u32 w2c_p3) {
   w2c_j3 = w2c_l4;
   w2c_j4 = 440ull;
   w2c_j3 += w2c_j4;
-  w2c_f48(m, w2c_j0, w2c_i1, w2c_j2, w2c_j3);
+  w2c_f47(m, w2c_j0, w2c_i1, w2c_j2, w2c_j3);
   w2c_j0 = w2c_l4;
   w2c_i0 = (u32)(w2c_j0);
   w2c_j0 = i64_load(m, (u64)(w2c_i0) + 520u);
@@ -42673,7 +42800,7 @@ static void w2c_f44(module *m, u64 w2c_p0, u64 w2c_p1, u64 w2c_p2, u32 w2c_p3) {
   m->w2c_g0 = w2c_j0;
 }
 
-static void w2c_f45(module *m, u64 w2c_p0, u64 w2c_p1, u64 w2c_p2) {
+static void w2c_f44(module *m, u64 w2c_p0, u64 w2c_p1, u64 w2c_p2) {
   u32 w2c_l3 = 0, w2c_l4 = 0, w2c_l5 = 0, w2c_l6 = 0;
   u64 w2c_l7 = 0;
   u32 w2c_i0, w2c_i1, w2c_i2, w2c_i3;
@@ -43031,7 +43158,7 @@ static void w2c_f45(module *m, u64 w2c_p0, u64 w2c_p1, u64 w2c_p2) {
   w2c_Bfunc:;
 }
 
-static void w2c_f46(module *m, u64 w2c_p0, u32 w2c_p1) {
+static void w2c_f45(module *m, u64 w2c_p0, u32 w2c_p1) {
   u32 w2c_l2 = 0, w2c_l3 = 0;
   u32 w2c_i0, w2c_i1;
   u64 w2c_j0, w2c_j1;
@@ -43287,7 +43414,7 @@ static void w2c_f46(module *m, u64 w2c_p0, u32 w2c_p1) {
   i32_store8(m, (u64)(w2c_i0), w2c_i1);
 }
 
-static void w2c_f47(module *m, u64 w2c_p0, u64 w2c_p1, u64 w2c_p2) {
+static void w2c_f46(module *m, u64 w2c_p0, u64 w2c_p1, u64 w2c_p2) {
   u32 w2c_l11 = 0;
   u64 w2c_l3 = 0, w2c_l4 = 0, w2c_l5 = 0, w2c_l6 = 0, w2c_l7 = 0, w2c_l8 = 0, w2c_l9 = 0, w2c_l10 = 0;
   u32 w2c_i0, w2c_i1;
@@ -43340,7 +43467,7 @@ static void w2c_f47(module *m, u64 w2c_p0, u64 w2c_p1, u64 w2c_p2) {
   w2c_j0 += w2c_j1;
   w2c_j1 = w2c_p1;
   w2c_j2 = w2c_p2;
-  w2c_f45(m, w2c_j0, w2c_j1, w2c_j2);
+  w2c_f44(m, w2c_j0, w2c_j1, w2c_j2);
   w2c_j0 = w2c_p2;
   w2c_l4 = w2c_j0;
   w2c_j0 = w2c_l3;
@@ -43387,7 +43514,7 @@ static void w2c_f47(module *m, u64 w2c_p0, u64 w2c_p1, u64 w2c_p2) {
     w2c_j0 += w2c_j1;
     w2c_j1 = w2c_l6;
     w2c_j2 = w2c_l5;
-    w2c_f45(m, w2c_j0, w2c_j1, w2c_j2);
+    w2c_f44(m, w2c_j0, w2c_j1, w2c_j2);
     w2c_j0 = w2c_l3;
     w2c_i0 = (u32)(w2c_j0);
     w2c_i0 = i32_load8_u(m, (u64)(w2c_i0) + 80u);
@@ -43406,7 +43533,7 @@ static void w2c_f47(module *m, u64 w2c_p0, u64 w2c_p1, u64 w2c_p2) {
     w2c_j0 += w2c_j1;
     w2c_j1 = w2c_l6;
     w2c_j2 = w2c_l5;
-    w2c_f45(m, w2c_j0, w2c_j1, w2c_j2);
+    w2c_f44(m, w2c_j0, w2c_j1, w2c_j2);
     w2c_j0 = w2c_l5;
     w2c_l4 = w2c_j0;
     w2c_j0 = w2c_l3;
@@ -43569,7 +43696,7 @@ static void w2c_f47(module *m, u64 w2c_p0, u64 w2c_p1, u64 w2c_p2) {
   w2c_j0 += w2c_j1;
   w2c_j1 = w2c_p1;
   w2c_j2 = w2c_l4;
-  w2c_f45(m, w2c_j0, w2c_j1, w2c_j2);
+  w2c_f44(m, w2c_j0, w2c_j1, w2c_j2);
   w2c_j0 = w2c_l3;
   w2c_i0 = (u32)(w2c_j0);
   w2c_i0 = i32_load8_u(m, (u64)(w2c_i0) + 16u);
@@ -43581,7 +43708,7 @@ static void w2c_f47(module *m, u64 w2c_p0, u64 w2c_p1, u64 w2c_p2) {
   w2c_j0 += w2c_j1;
   w2c_j1 = w2c_l7;
   w2c_j2 = w2c_l8;
-  w2c_f45(m, w2c_j0, w2c_j1, w2c_j2);
+  w2c_f44(m, w2c_j0, w2c_j1, w2c_j2);
   w2c_j0 = w2c_l3;
   w2c_i0 = (u32)(w2c_j0);
   w2c_i0 = i32_load8_u(m, (u64)(w2c_i0) + 16u);
@@ -43681,7 +43808,7 @@ static void w2c_f47(module *m, u64 w2c_p0, u64 w2c_p1, u64 w2c_p2) {
   m->w2c_g0 = w2c_j0;
 }
 
-static void w2c_f48(module *m, u64 w2c_p0, u32 w2c_p1, u64 w2c_p2, u64 w2c_p3) {
+static void w2c_f47(module *m, u64 w2c_p0, u32 w2c_p1, u64 w2c_p2, u64 w2c_p3) {
   u64 w2c_l4 = 0, w2c_l5 = 0, w2c_l6 = 0, w2c_l7 = 0, w2c_l8 = 0, w2c_l9 = 0, w2c_l10 = 0, w2c_l11 = 0, w2c_l12 = 0;
   u32 w2c_i0, w2c_i1, w2c_i2, w2c_i3, w2c_i4;
   u64 w2c_j0, w2c_j1, w2c_j2, w2c_j3, w2c_j4;
@@ -43759,7 +43886,7 @@ static void w2c_f48(module *m, u64 w2c_p0, u32 w2c_p1, u64 w2c_p2, u64 w2c_p3) {
   w2c_j4 = w2c_p3;
   w2c_i4 = (u32)(w2c_j4);
   w2c_j4 = i64_load(m, (u64)(w2c_i4) + 8u);
-  w2c_f50(m, w2c_j0, w2c_i1, w2c_j2, w2c_j3, w2c_j4);
+  w2c_f49(m, w2c_j0, w2c_i1, w2c_j2, w2c_j3, w2c_j4);
   w2c_j0 = w2c_l4;
   w2c_i0 = (u32)(w2c_j0);
   w2c_j0 = i64_load(m, (u64)(w2c_i0) + 128u);
@@ -43781,7 +43908,7 @@ static void w2c_f48(module *m, u64 w2c_p0, u32 w2c_p1, u64 w2c_p2, u64 w2c_p3) {
   w2c_j2 += w2c_j3;
   w2c_j3 = w2c_l6;
   w2c_j4 = w2c_l5;
-  w2c_f51(m, w2c_j0, w2c_i1, w2c_j2, w2c_j3, w2c_j4);
+  w2c_f50(m, w2c_j0, w2c_i1, w2c_j2, w2c_j3, w2c_j4);
   w2c_j0 = w2c_l4;
   w2c_i0 = (u32)(w2c_j0);
   w2c_j0 = i64_load(m, (u64)(w2c_i0) + 80u);
@@ -43870,7 +43997,7 @@ static void w2c_f48(module *m, u64 w2c_p0, u32 w2c_p1, u64 w2c_p2, u64 w2c_p3) {
   w2c_j2 = 4ull;
   w2c_j1 <<= (w2c_j2 & 63);
   w2c_l6 = w2c_j1;
-  w2c_j2 = 68848ull;
+  w2c_j2 = 68864ull;
   w2c_j1 += w2c_j2;
   w2c_i1 = (u32)(w2c_j1);
   w2c_j1 = i64_load(m, (u64)(w2c_i1));
@@ -43881,7 +44008,7 @@ static void w2c_f48(module *m, u64 w2c_p0, u32 w2c_p1, u64 w2c_p2, u64 w2c_p3) {
   w2c_f3(m, w2c_j0, w2c_j1, w2c_j2, w2c_j3, w2c_j4);
   w2c_j0 = w2c_l4;
   w2c_j1 = w2c_l6;
-  w2c_j2 = 68856ull;
+  w2c_j2 = 68872ull;
   w2c_j1 += w2c_j2;
   w2c_i1 = (u32)(w2c_j1);
   w2c_j1 = i64_load(m, (u64)(w2c_i1));
@@ -44096,7 +44223,7 @@ static void w2c_f48(module *m, u64 w2c_p0, u32 w2c_p1, u64 w2c_p2, u64 w2c_p3) {
   m->w2c_g0 = w2c_j0;
 }
 
-static void w2c_f49(module *m, u64 w2c_p0, u32 w2c_p1, u64 w2c_p2, u64 w2c_p3, u64 w2c_p4) {
+static void w2c_f48(module *m, u64 w2c_p0, u32 w2c_p1, u64 w2c_p2, u64 w2c_p3, u64 w2c_p4) {
   u32 w2c_l17 = 0, w2c_l18 = 0, w2c_l19 = 0, w2c_l20 = 0, w2c_l21 = 0, w2c_l22 = 0, w2c_l23 = 0;
   u64 w2c_l5 = 0, w2c_l6 = 0, w2c_l7 = 0, w2c_l8 = 0, w2c_l9 = 0, w2c_l10 = 0, w2c_l11 = 0, w2c_l12 = 0, w2c_l13 = 0, w2c_l14 = 0, w2c_l15 = 0, w2c_l16 = 0;
   u32 w2c_i0, w2c_i1, w2c_i2, w2c_i3, w2c_i4, w2c_i5;
@@ -44141,7 +44268,7 @@ static void w2c_f49(module *m, u64 w2c_p0, u32 w2c_p1, u64 w2c_p2, u64 w2c_p3, u
   w2c_j0 += w2c_j1;
   w2c_j1 = w2c_p3;
   w2c_j2 = w2c_p4;
-  w2c_f61(m, w2c_j0, w2c_j1, w2c_j2);
+  w2c_f60(m, w2c_j0, w2c_j1, w2c_j2);
   w2c_j0 = w2c_l5;
   w2c_i0 = (u32)(w2c_j0);
   w2c_i0 = i32_load8_u(m, (u64)(w2c_i0) + 80u);
@@ -44188,7 +44315,7 @@ static void w2c_f49(module *m, u64 w2c_p0, u32 w2c_p1, u64 w2c_p2, u64 w2c_p3, u
     w2c_j0 += w2c_j1;
     w2c_j1 = w2c_l6;
     w2c_j2 = w2c_l7;
-    w2c_f45(m, w2c_j0, w2c_j1, w2c_j2);
+    w2c_f44(m, w2c_j0, w2c_j1, w2c_j2);
     w2c_j0 = w2c_l5;
     w2c_i0 = (u32)(w2c_j0);
     w2c_i0 = i32_load8_u(m, (u64)(w2c_i0) + 176u);
@@ -44485,7 +44612,7 @@ static void w2c_f49(module *m, u64 w2c_p0, u32 w2c_p1, u64 w2c_p2, u64 w2c_p3, u
   w2c_j1 = w2c_p2;
   w2c_j2 = w2c_p3;
   w2c_j3 = w2c_p4;
-  w2c_f62(m, w2c_j0, w2c_j1, w2c_j2, w2c_j3);
+  w2c_f61(m, w2c_j0, w2c_j1, w2c_j2, w2c_j3);
   w2c_j0 = w2c_l5;
   w2c_i0 = (u32)(w2c_j0);
   w2c_i0 = i32_load8_u(m, (u64)(w2c_i0) + 424u);
@@ -44597,7 +44724,7 @@ static void w2c_f49(module *m, u64 w2c_p0, u32 w2c_p1, u64 w2c_p2, u64 w2c_p3, u
   w2c_j0 += w2c_j1;
   w2c_j1 = w2c_l9;
   w2c_j2 = w2c_l8;
-  w2c_f61(m, w2c_j0, w2c_j1, w2c_j2);
+  w2c_f60(m, w2c_j0, w2c_j1, w2c_j2);
   w2c_j0 = w2c_l5;
   w2c_i0 = (u32)(w2c_j0);
   w2c_i0 = i32_load8_u(m, (u64)(w2c_i0) + 176u);
@@ -44887,7 +45014,7 @@ static void w2c_f49(module *m, u64 w2c_p0, u32 w2c_p1, u64 w2c_p2, u64 w2c_p3, u
   w2c_j2 = w2c_l5;
   w2c_j3 = 224ull;
   w2c_j2 += w2c_j3;
-  w2c_f63(m, w2c_j0, w2c_j1, w2c_j2);
+  w2c_f62(m, w2c_j0, w2c_j1, w2c_j2);
   w2c_j0 = 0ull;
   w2c_l6 = w2c_j0;
   w2c_j0 = w2c_l5;
@@ -44933,7 +45060,7 @@ static void w2c_f49(module *m, u64 w2c_p0, u32 w2c_p1, u64 w2c_p2, u64 w2c_p3, u
   w2c_j2 = w2c_l5;
   w2c_j3 = 128ull;
   w2c_j2 += w2c_j3;
-  w2c_f63(m, w2c_j0, w2c_j1, w2c_j2);
+  w2c_f62(m, w2c_j0, w2c_j1, w2c_j2);
   w2c_j0 = 0ull;
   w2c_l6 = w2c_j0;
   w2c_j0 = w2c_l5;
@@ -45188,7 +45315,7 @@ static void w2c_f49(module *m, u64 w2c_p0, u32 w2c_p1, u64 w2c_p2, u64 w2c_p3, u
   w2c_j0 += w2c_j1;
   w2c_j1 = w2c_p3;
   w2c_j2 = w2c_l6;
-  w2c_f64(m, w2c_j0, w2c_j1, w2c_j2);
+  w2c_f63(m, w2c_j0, w2c_j1, w2c_j2);
   w2c_j0 = w2c_l5;
   w2c_i0 = (u32)(w2c_j0);
   w2c_i0 = i32_load8_u(m, (u64)(w2c_i0) + 416u);
@@ -45323,7 +45450,7 @@ static void w2c_f49(module *m, u64 w2c_p0, u32 w2c_p1, u64 w2c_p2, u64 w2c_p3, u
   w2c_j0 += w2c_j1;
   w2c_j1 = w2c_l13;
   w2c_j2 = w2c_l7;
-  w2c_f64(m, w2c_j0, w2c_j1, w2c_j2);
+  w2c_f63(m, w2c_j0, w2c_j1, w2c_j2);
   w2c_j0 = w2c_l5;
   w2c_i0 = (u32)(w2c_j0);
   w2c_i0 = i32_load8_u(m, (u64)(w2c_i0) + 416u);
@@ -45375,7 +45502,7 @@ static void w2c_f49(module *m, u64 w2c_p0, u32 w2c_p1, u64 w2c_p2, u64 w2c_p3, u
   w2c_i3 = w2c_l17;
   w2c_j4 = w2c_l13;
   w2c_j5 = w2c_l7;
-  w2c_f65(m, w2c_j0, w2c_i1, w2c_j2, w2c_i3, w2c_j4, w2c_j5);
+  w2c_f64(m, w2c_j0, w2c_i1, w2c_j2, w2c_i3, w2c_j4, w2c_j5);
   w2c_j0 = w2c_l5;
   w2c_i0 = (u32)(w2c_j0);
   w2c_j0 = i64_load(m, (u64)(w2c_i0) + 368u);
@@ -45391,7 +45518,7 @@ static void w2c_f49(module *m, u64 w2c_p0, u32 w2c_p1, u64 w2c_p2, u64 w2c_p3, u
   if (w2c_i0) {goto w2c_B48;}
   w2c_j0 = w2c_l13;
   w2c_j1 = w2c_l7;
-  w2c_j0 = w2c_f54(m, w2c_j0, w2c_j1);
+  w2c_j0 = w2c_f53(m, w2c_j0, w2c_j1);
   w2c_j1 = w2c_p4;
   w2c_j0 += w2c_j1;
   w2c_j1 = 1ull;
@@ -45407,7 +45534,7 @@ static void w2c_f49(module *m, u64 w2c_p0, u32 w2c_p1, u64 w2c_p2, u64 w2c_p3, u
   w2c_i3 = w2c_l17;
   w2c_j4 = w2c_p3;
   w2c_j5 = w2c_l6;
-  w2c_f65(m, w2c_j0, w2c_i1, w2c_j2, w2c_i3, w2c_j4, w2c_j5);
+  w2c_f64(m, w2c_j0, w2c_i1, w2c_j2, w2c_i3, w2c_j4, w2c_j5);
   w2c_j0 = w2c_l5;
   w2c_i0 = (u32)(w2c_j0);
   w2c_j0 = i64_load(m, (u64)(w2c_i0) + 400u);
@@ -45447,7 +45574,7 @@ static void w2c_f49(module *m, u64 w2c_p0, u32 w2c_p1, u64 w2c_p2, u64 w2c_p3, u
   w2c_j3 = i64_load(m, (u64)(w2c_i3) + 376u);
   w2c_i4 = w2c_l23;
   w2c_i5 = w2c_l22;
-  w2c_f66(m, w2c_j0, w2c_i1, w2c_j2, w2c_j3, w2c_i4, w2c_i5);
+  w2c_f65(m, w2c_j0, w2c_i1, w2c_j2, w2c_j3, w2c_i4, w2c_i5);
   w2c_i0 = 1u;
   w2c_l17 = w2c_i0;
   w2c_j0 = w2c_l5;
@@ -46065,7 +46192,7 @@ static void w2c_f49(module *m, u64 w2c_p0, u32 w2c_p1, u64 w2c_p2, u64 w2c_p3, u
   w2c_j0 += w2c_j1;
   w2c_j1 = w2c_l6;
   w2c_j2 = w2c_l7;
-  w2c_f64(m, w2c_j0, w2c_j1, w2c_j2);
+  w2c_f63(m, w2c_j0, w2c_j1, w2c_j2);
   w2c_j0 = w2c_l5;
   w2c_i0 = (u32)(w2c_j0);
   w2c_i0 = i32_load8_u(m, (u64)(w2c_i0) + 416u);
@@ -46200,7 +46327,7 @@ static void w2c_f49(module *m, u64 w2c_p0, u32 w2c_p1, u64 w2c_p2, u64 w2c_p3, u
   w2c_j0 += w2c_j1;
   w2c_j1 = w2c_l15;
   w2c_j2 = w2c_p4;
-  w2c_f64(m, w2c_j0, w2c_j1, w2c_j2);
+  w2c_f63(m, w2c_j0, w2c_j1, w2c_j2);
   w2c_j0 = w2c_l5;
   w2c_i0 = (u32)(w2c_j0);
   w2c_i0 = i32_load8_u(m, (u64)(w2c_i0) + 416u);
@@ -46252,7 +46379,7 @@ static void w2c_f49(module *m, u64 w2c_p0, u32 w2c_p1, u64 w2c_p2, u64 w2c_p3, u
   w2c_i3 = w2c_l17;
   w2c_j4 = w2c_l15;
   w2c_j5 = w2c_p4;
-  w2c_f65(m, w2c_j0, w2c_i1, w2c_j2, w2c_i3, w2c_j4, w2c_j5);
+  w2c_f64(m, w2c_j0, w2c_i1, w2c_j2, w2c_i3, w2c_j4, w2c_j5);
   w2c_j0 = w2c_l5;
   w2c_i0 = (u32)(w2c_j0);
   w2c_j0 = i64_load(m, (u64)(w2c_i0) + 368u);
@@ -46268,7 +46395,7 @@ static void w2c_f49(module *m, u64 w2c_p0, u32 w2c_p1, u64 w2c_p2, u64 w2c_p3, u
   if (w2c_i0) {goto w2c_B82;}
   w2c_j0 = w2c_l15;
   w2c_j1 = w2c_p4;
-  w2c_j0 = w2c_f54(m, w2c_j0, w2c_j1);
+  w2c_j0 = w2c_f53(m, w2c_j0, w2c_j1);
   w2c_j1 = w2c_l13;
   w2c_j0 += w2c_j1;
   w2c_j1 = 1ull;
@@ -46284,7 +46411,7 @@ static void w2c_f49(module *m, u64 w2c_p0, u32 w2c_p1, u64 w2c_p2, u64 w2c_p3, u
   w2c_i3 = w2c_l17;
   w2c_j4 = w2c_l6;
   w2c_j5 = w2c_l7;
-  w2c_f65(m, w2c_j0, w2c_i1, w2c_j2, w2c_i3, w2c_j4, w2c_j5);
+  w2c_f64(m, w2c_j0, w2c_i1, w2c_j2, w2c_i3, w2c_j4, w2c_j5);
   w2c_j0 = w2c_l5;
   w2c_i0 = (u32)(w2c_j0);
   w2c_j0 = i64_load(m, (u64)(w2c_i0) + 400u);
@@ -46332,7 +46459,7 @@ static void w2c_f49(module *m, u64 w2c_p0, u32 w2c_p1, u64 w2c_p2, u64 w2c_p3, u
   w2c_j3 = i64_load(m, (u64)(w2c_i3) + 376u);
   w2c_i4 = w2c_l23;
   w2c_i5 = w2c_l22;
-  w2c_f66(m, w2c_j0, w2c_i1, w2c_j2, w2c_j3, w2c_i4, w2c_i5);
+  w2c_f65(m, w2c_j0, w2c_i1, w2c_j2, w2c_j3, w2c_i4, w2c_i5);
   w2c_i0 = 1u;
   w2c_l17 = w2c_i0;
   w2c_j0 = w2c_l5;
@@ -46374,7 +46501,7 @@ static void w2c_f49(module *m, u64 w2c_p0, u32 w2c_p1, u64 w2c_p2, u64 w2c_p3, u
   w2c_j2 = 1ull;
   w2c_j1 <<= (w2c_j2 & 63);
   w2c_j0 += w2c_j1;
-  w2c_j1 = 68712ull;
+  w2c_j1 = 68724ull;
   w2c_j0 += w2c_j1;
   w2c_i0 = (u32)(w2c_j0);
   w2c_j0 = i64_load16_u(m, (u64)(w2c_i0));
@@ -46387,14 +46514,14 @@ static void w2c_f49(module *m, u64 w2c_p0, u32 w2c_p1, u64 w2c_p2, u64 w2c_p3, u
   w2c_j2 = 4ull;
   w2c_j1 <<= (w2c_j2 & 63);
   w2c_p4 = w2c_j1;
-  w2c_j2 = 68848ull;
+  w2c_j2 = 68864ull;
   w2c_j1 += w2c_j2;
   w2c_i1 = (u32)(w2c_j1);
   w2c_j1 = i64_load(m, (u64)(w2c_i1));
   w2c_i0 = w2c_j0 >= w2c_j1;
   w2c_j1 = w2c_l6;
   w2c_j2 = w2c_p4;
-  w2c_j3 = 68856ull;
+  w2c_j3 = 68872ull;
   w2c_j2 += w2c_j3;
   w2c_i2 = (u32)(w2c_j2);
   w2c_j2 = i64_load(m, (u64)(w2c_i2));
@@ -46481,7 +46608,7 @@ static void w2c_f49(module *m, u64 w2c_p0, u32 w2c_p1, u64 w2c_p2, u64 w2c_p3, u
   w2c_j2 = w2c_l5;
   w2c_j3 = 272ull;
   w2c_j2 += w2c_j3;
-  w2c_f63(m, w2c_j0, w2c_j1, w2c_j2);
+  w2c_f62(m, w2c_j0, w2c_j1, w2c_j2);
   w2c_j0 = 0ull;
   w2c_l6 = w2c_j0;
   w2c_j0 = w2c_l5;
@@ -46764,7 +46891,7 @@ static void w2c_f49(module *m, u64 w2c_p0, u32 w2c_p1, u64 w2c_p2, u64 w2c_p3, u
   w2c_j0 += w2c_j1;
   w2c_j1 = w2c_p3;
   w2c_j2 = w2c_l6;
-  w2c_f64(m, w2c_j0, w2c_j1, w2c_j2);
+  w2c_f63(m, w2c_j0, w2c_j1, w2c_j2);
   w2c_j0 = w2c_l5;
   w2c_i0 = (u32)(w2c_j0);
   w2c_i0 = i32_load8_u(m, (u64)(w2c_i0) + 176u);
@@ -46899,7 +47026,7 @@ static void w2c_f49(module *m, u64 w2c_p0, u32 w2c_p1, u64 w2c_p2, u64 w2c_p3, u
   w2c_j0 += w2c_j1;
   w2c_j1 = w2c_p4;
   w2c_j2 = w2c_l7;
-  w2c_f64(m, w2c_j0, w2c_j1, w2c_j2);
+  w2c_f63(m, w2c_j0, w2c_j1, w2c_j2);
   w2c_j0 = w2c_l5;
   w2c_i0 = (u32)(w2c_j0);
   w2c_i0 = i32_load8_u(m, (u64)(w2c_i0) + 176u);
@@ -46951,7 +47078,7 @@ static void w2c_f49(module *m, u64 w2c_p0, u32 w2c_p1, u64 w2c_p2, u64 w2c_p3, u
   w2c_i3 = w2c_l17;
   w2c_j4 = w2c_p4;
   w2c_j5 = w2c_l7;
-  w2c_f65(m, w2c_j0, w2c_i1, w2c_j2, w2c_i3, w2c_j4, w2c_j5);
+  w2c_f64(m, w2c_j0, w2c_i1, w2c_j2, w2c_i3, w2c_j4, w2c_j5);
   w2c_j0 = w2c_l5;
   w2c_i0 = (u32)(w2c_j0);
   w2c_j0 = i64_load(m, (u64)(w2c_i0) + 240u);
@@ -46974,7 +47101,7 @@ static void w2c_f49(module *m, u64 w2c_p0, u32 w2c_p1, u64 w2c_p2, u64 w2c_p3, u
   w2c_j3 = i64_load(m, (u64)(w2c_i3) + 248u);
   w2c_i4 = w2c_l22;
   w2c_i5 = w2c_l21;
-  w2c_f66(m, w2c_j0, w2c_i1, w2c_j2, w2c_j3, w2c_i4, w2c_i5);
+  w2c_f65(m, w2c_j0, w2c_i1, w2c_j2, w2c_j3, w2c_i4, w2c_i5);
   w2c_j0 = w2c_l5;
   w2c_i0 = (u32)(w2c_j0);
   w2c_j1 = 0ull;
@@ -47017,7 +47144,7 @@ static void w2c_f49(module *m, u64 w2c_p0, u32 w2c_p1, u64 w2c_p2, u64 w2c_p3, u
   w2c_B106:;
   w2c_j0 = w2c_p4;
   w2c_j1 = w2c_l7;
-  w2c_j0 = w2c_f54(m, w2c_j0, w2c_j1);
+  w2c_j0 = w2c_f53(m, w2c_j0, w2c_j1);
   w2c_p3 = w2c_j0;
   w2c_j0 = w2c_l5;
   w2c_i0 = (u32)(w2c_j0);
@@ -47052,7 +47179,7 @@ static void w2c_f49(module *m, u64 w2c_p0, u32 w2c_p1, u64 w2c_p2, u64 w2c_p3, u
   w2c_i3 = w2c_l17;
   w2c_j4 = w2c_p3;
   w2c_j5 = w2c_l6;
-  w2c_f65(m, w2c_j0, w2c_i1, w2c_j2, w2c_i3, w2c_j4, w2c_j5);
+  w2c_f64(m, w2c_j0, w2c_i1, w2c_j2, w2c_i3, w2c_j4, w2c_j5);
   w2c_j0 = w2c_l5;
   w2c_i0 = (u32)(w2c_j0);
   w2c_j1 = w2c_l5;
@@ -47147,7 +47274,7 @@ static void w2c_f49(module *m, u64 w2c_p0, u32 w2c_p1, u64 w2c_p2, u64 w2c_p3, u
   m->w2c_g0 = w2c_j0;
 }
 
-static void w2c_f50(module *m, u64 w2c_p0, u32 w2c_p1, u64 w2c_p2, u64 w2c_p3, u64 w2c_p4) {
+static void w2c_f49(module *m, u64 w2c_p0, u32 w2c_p1, u64 w2c_p2, u64 w2c_p3, u64 w2c_p4) {
   u32 w2c_l10 = 0, w2c_l11 = 0, w2c_l12 = 0, w2c_l13 = 0;
   u64 w2c_l5 = 0, w2c_l6 = 0, w2c_l7 = 0, w2c_l8 = 0, w2c_l9 = 0;
   u32 w2c_i0, w2c_i1, w2c_i2, w2c_i3, w2c_i4;
@@ -47393,7 +47520,7 @@ static void w2c_f50(module *m, u64 w2c_p0, u32 w2c_p1, u64 w2c_p2, u64 w2c_p3, u
   w2c_j2 = w2c_p2;
   w2c_j3 = w2c_p3;
   w2c_j4 = w2c_p4;
-  w2c_f51(m, w2c_j0, w2c_i1, w2c_j2, w2c_j3, w2c_j4);
+  w2c_f50(m, w2c_j0, w2c_i1, w2c_j2, w2c_j3, w2c_j4);
   w2c_j0 = w2c_l6;
   w2c_i0 = (u32)(w2c_j0);
   w2c_j0 = i64_load(m, (u64)(w2c_i0) + 16u);
@@ -47478,7 +47605,7 @@ static void w2c_f50(module *m, u64 w2c_p0, u32 w2c_p1, u64 w2c_p2, u64 w2c_p3, u
   m->w2c_g0 = w2c_j0;
 }
 
-static void w2c_f51(module *m, u64 w2c_p0, u32 w2c_p1, u64 w2c_p2, u64 w2c_p3, u64 w2c_p4) {
+static void w2c_f50(module *m, u64 w2c_p0, u32 w2c_p1, u64 w2c_p2, u64 w2c_p3, u64 w2c_p4) {
   u32 w2c_l8 = 0, w2c_l9 = 0, w2c_l10 = 0;
   u64 w2c_l5 = 0, w2c_l6 = 0, w2c_l7 = 0;
   u32 w2c_i0, w2c_i1, w2c_i2;
@@ -47555,7 +47682,7 @@ static void w2c_f51(module *m, u64 w2c_p0, u32 w2c_p1, u64 w2c_p2, u64 w2c_p3, u
   w2c_j0 += w2c_j1;
   w2c_j1 = w2c_p3;
   w2c_j2 = w2c_p4;
-  w2c_f45(m, w2c_j0, w2c_j1, w2c_j2);
+  w2c_f44(m, w2c_j0, w2c_j1, w2c_j2);
   w2c_i0 = 1u;
   w2c_l8 = w2c_i0;
   w2c_j0 = w2c_l5;
@@ -47590,7 +47717,7 @@ static void w2c_f51(module *m, u64 w2c_p0, u32 w2c_p1, u64 w2c_p2, u64 w2c_p3, u
     w2c_j0 += w2c_j1;
     w2c_j1 = w2c_l6;
     w2c_j2 = w2c_l7;
-    w2c_f45(m, w2c_j0, w2c_j1, w2c_j2);
+    w2c_f44(m, w2c_j0, w2c_j1, w2c_j2);
     w2c_i0 = 1u;
     w2c_l9 = w2c_i0;
     w2c_j0 = w2c_l5;
@@ -47613,7 +47740,7 @@ static void w2c_f51(module *m, u64 w2c_p0, u32 w2c_p1, u64 w2c_p2, u64 w2c_p3, u
     w2c_j1 = w2c_l5;
     w2c_i1 = (u32)(w2c_j1);
     w2c_i1 = i32_load_of_text(m, (u64)(w2c_i1) + 136u);
-    w2c_f46(m, w2c_j0, w2c_i1);
+    w2c_f45(m, w2c_j0, w2c_i1);
     w2c_j0 = w2c_l5;
     w2c_i0 = (u32)(w2c_j0);
     w2c_i0 = i32_load8_u(m, (u64)(w2c_i0) + 8u);
@@ -47643,7 +47770,7 @@ static void w2c_f51(module *m, u64 w2c_p0, u32 w2c_p1, u64 w2c_p2, u64 w2c_p3, u
   w2c_j2 = w2c_p2;
   w2c_j3 = w2c_p3;
   w2c_j4 = w2c_p4;
-  w2c_f53(m, w2c_j0, w2c_i1, w2c_j2, w2c_j3, w2c_j4);
+  w2c_f52(m, w2c_j0, w2c_i1, w2c_j2, w2c_j3, w2c_j4);
   w2c_j0 = w2c_l5;
   w2c_i0 = (u32)(w2c_j0);
   w2c_i0 = i32_load8_u(m, (u64)(w2c_i0) + 88u);
@@ -47662,7 +47789,7 @@ static void w2c_f51(module *m, u64 w2c_p0, u32 w2c_p1, u64 w2c_p2, u64 w2c_p3, u
   w2c_j3 = 0ull;
   w2c_j4 = w2c_p3;
   w2c_j5 = w2c_p4;
-  w2c_f55(m, w2c_j0, w2c_i1, w2c_j2, w2c_j3, w2c_j4, w2c_j5);
+  w2c_f54(m, w2c_j0, w2c_i1, w2c_j2, w2c_j3, w2c_j4, w2c_j5);
   w2c_i0 = 2u;
   w2c_l8 = w2c_i0;
   w2c_j0 = 0ull;
@@ -47763,7 +47890,7 @@ static void w2c_f51(module *m, u64 w2c_p0, u32 w2c_p1, u64 w2c_p2, u64 w2c_p3, u
   w2c_Bfunc:;
 }
 
-static void w2c_f52(module *m, u64 w2c_p0, u64 w2c_p1, u64 w2c_p2) {
+static void w2c_f51(module *m, u64 w2c_p0, u64 w2c_p1, u64 w2c_p2) {
   u32 w2c_l5 = 0, w2c_l6 = 0, w2c_l7 = 0, w2c_l8 = 0;
   u64 w2c_l3 = 0, w2c_l4 = 0;
   u32 w2c_i0, w2c_i1, w2c_i2, w2c_i3;
@@ -48133,7 +48260,7 @@ static void w2c_f52(module *m, u64 w2c_p0, u64 w2c_p1, u64 w2c_p2) {
   w2c_Bfunc:;
 }
 
-static void w2c_f53(module *m, u64 w2c_p0, u32 w2c_p1, u64 w2c_p2, u64 w2c_p3, u64 w2c_p4) {
+static void w2c_f52(module *m, u64 w2c_p0, u32 w2c_p1, u64 w2c_p2, u64 w2c_p3, u64 w2c_p4) {
   u32 w2c_l24 = 0, w2c_l25 = 0, w2c_l26 = 0;
   u64 w2c_l5 = 0, w2c_l6 = 0, w2c_l7 = 0, w2c_l8 = 0, w2c_l9 = 0, w2c_l10 = 0, w2c_l11 = 0, w2c_l12 = 0, w2c_l13 = 0, w2c_l14 = 0, w2c_l15 = 0, w2c_l16 = 0, w2c_l17 = 0, w2c_l18 = 0, w2c_l19 = 0, w2c_l20 = 0, w2c_l21 = 0, w2c_l22 = 0, w2c_l23 = 0;
   u32 w2c_i0, w2c_i1, w2c_i2, w2c_i3, w2c_i4, w2c_i5, w2c_i6;
@@ -48174,7 +48301,7 @@ static void w2c_f53(module *m, u64 w2c_p0, u32 w2c_p1, u64 w2c_p2, u64 w2c_p3, u
   w2c_j2 = w2c_p2;
   w2c_j3 = w2c_p3;
   w2c_j4 = w2c_p4;
-  w2c_f49(m, w2c_j0, w2c_i1, w2c_j2, w2c_j3, w2c_j4);
+  w2c_f48(m, w2c_j0, w2c_i1, w2c_j2, w2c_j3, w2c_j4);
   w2c_j0 = w2c_l5;
   w2c_i0 = (u32)(w2c_j0);
   w2c_i0 = i32_load8_u(m, (u64)(w2c_i0) + 256u);
@@ -48278,7 +48405,7 @@ static void w2c_f53(module *m, u64 w2c_p0, u32 w2c_p1, u64 w2c_p2, u64 w2c_p3, u
   w2c_j0 += w2c_j1;
   w2c_j1 = w2c_p3;
   w2c_j2 = w2c_p4;
-  w2c_f45(m, w2c_j0, w2c_j1, w2c_j2);
+  w2c_f44(m, w2c_j0, w2c_j1, w2c_j2);
   w2c_j0 = w2c_l5;
   w2c_i0 = (u32)(w2c_j0);
   w2c_i0 = i32_load8_u(m, (u64)(w2c_i0) + 480u);
@@ -48318,7 +48445,7 @@ static void w2c_f53(module *m, u64 w2c_p0, u32 w2c_p1, u64 w2c_p2, u64 w2c_p3, u
     w2c_l10 = w2c_j1;
     w2c_j2 = w2c_l6;
     w2c_l11 = w2c_j2;
-    w2c_f45(m, w2c_j0, w2c_j1, w2c_j2);
+    w2c_f44(m, w2c_j0, w2c_j1, w2c_j2);
     w2c_j0 = w2c_l5;
     w2c_i0 = (u32)(w2c_j0);
     w2c_i0 = i32_load8_u(m, (u64)(w2c_i0) + 480u);
@@ -48375,7 +48502,7 @@ static void w2c_f53(module *m, u64 w2c_p0, u32 w2c_p1, u64 w2c_p2, u64 w2c_p3, u
   w2c_j0 += w2c_j1;
   w2c_j1 = w2c_p3;
   w2c_j2 = w2c_p4;
-  w2c_f45(m, w2c_j0, w2c_j1, w2c_j2);
+  w2c_f44(m, w2c_j0, w2c_j1, w2c_j2);
   w2c_j0 = w2c_l5;
   w2c_i0 = (u32)(w2c_j0);
   w2c_i0 = i32_load8_u(m, (u64)(w2c_i0) + 480u);
@@ -48427,7 +48554,7 @@ static void w2c_f53(module *m, u64 w2c_p0, u32 w2c_p1, u64 w2c_p2, u64 w2c_p3, u
   w2c_j0 += w2c_j1;
   w2c_j1 = w2c_l10;
   w2c_j2 = w2c_l11;
-  w2c_f45(m, w2c_j0, w2c_j1, w2c_j2);
+  w2c_f44(m, w2c_j0, w2c_j1, w2c_j2);
   w2c_j0 = w2c_l5;
   w2c_i0 = (u32)(w2c_j0);
   w2c_i0 = i32_load8_u(m, (u64)(w2c_i0) + 576u);
@@ -48476,7 +48603,7 @@ static void w2c_f53(module *m, u64 w2c_p0, u32 w2c_p1, u64 w2c_p2, u64 w2c_p3, u
     w2c_j0 += w2c_j1;
     w2c_j1 = w2c_l6;
     w2c_j2 = w2c_l7;
-    w2c_f45(m, w2c_j0, w2c_j1, w2c_j2);
+    w2c_f44(m, w2c_j0, w2c_j1, w2c_j2);
     w2c_j0 = w2c_l5;
     w2c_i0 = (u32)(w2c_j0);
     w2c_i0 = i32_load8_u(m, (u64)(w2c_i0) + 480u);
@@ -48525,7 +48652,7 @@ static void w2c_f53(module *m, u64 w2c_p0, u32 w2c_p1, u64 w2c_p2, u64 w2c_p3, u
     w2c_j0 += w2c_j1;
     w2c_j1 = w2c_l7;
     w2c_j2 = w2c_l6;
-    w2c_f45(m, w2c_j0, w2c_j1, w2c_j2);
+    w2c_f44(m, w2c_j0, w2c_j1, w2c_j2);
     w2c_j0 = w2c_l5;
     w2c_i0 = (u32)(w2c_j0);
     w2c_i0 = i32_load8_u(m, (u64)(w2c_i0) + 480u);
@@ -48574,7 +48701,7 @@ static void w2c_f53(module *m, u64 w2c_p0, u32 w2c_p1, u64 w2c_p2, u64 w2c_p3, u
     w2c_j0 += w2c_j1;
     w2c_j1 = w2c_l7;
     w2c_j2 = w2c_l6;
-    w2c_f45(m, w2c_j0, w2c_j1, w2c_j2);
+    w2c_f44(m, w2c_j0, w2c_j1, w2c_j2);
     w2c_j0 = w2c_l5;
     w2c_i0 = (u32)(w2c_j0);
     w2c_i0 = i32_load8_u(m, (u64)(w2c_i0) + 480u);
@@ -48623,7 +48750,7 @@ static void w2c_f53(module *m, u64 w2c_p0, u32 w2c_p1, u64 w2c_p2, u64 w2c_p3, u
     w2c_j0 += w2c_j1;
     w2c_j1 = w2c_l10;
     w2c_j2 = w2c_l11;
-    w2c_f45(m, w2c_j0, w2c_j1, w2c_j2);
+    w2c_f44(m, w2c_j0, w2c_j1, w2c_j2);
     w2c_j0 = w2c_l5;
     w2c_i0 = (u32)(w2c_j0);
     w2c_i0 = i32_load8_u(m, (u64)(w2c_i0) + 576u);
@@ -48636,7 +48763,7 @@ static void w2c_f53(module *m, u64 w2c_p0, u32 w2c_p1, u64 w2c_p2, u64 w2c_p3, u
   w2c_j0 += w2c_j1;
   w2c_j1 = w2c_l10;
   w2c_j2 = w2c_l11;
-  w2c_f56(m, w2c_j0, w2c_j1, w2c_j2);
+  w2c_f55(m, w2c_j0, w2c_j1, w2c_j2);
   w2c_j0 = w2c_l5;
   w2c_i0 = (u32)(w2c_j0);
   w2c_j0 = i64_load(m, (u64)(w2c_i0) + 184u);
@@ -48652,7 +48779,7 @@ static void w2c_f53(module *m, u64 w2c_p0, u32 w2c_p1, u64 w2c_p2, u64 w2c_p3, u
   w2c_j0 += w2c_j1;
   w2c_j1 = w2c_l10;
   w2c_j2 = w2c_l11;
-  w2c_f56(m, w2c_j0, w2c_j1, w2c_j2);
+  w2c_f55(m, w2c_j0, w2c_j1, w2c_j2);
   w2c_j0 = w2c_l5;
   w2c_i0 = (u32)(w2c_j0);
   w2c_j0 = i64_load(m, (u64)(w2c_i0) + 224u);
@@ -48681,7 +48808,7 @@ static void w2c_f53(module *m, u64 w2c_p0, u32 w2c_p1, u64 w2c_p2, u64 w2c_p3, u
   w2c_j4 = 0ull;
   w2c_j5 = w2c_p3;
   w2c_j6 = w2c_p4;
-  w2c_f57(m, w2c_j0, w2c_i1, w2c_i2, w2c_j3, w2c_j4, w2c_j5, w2c_j6);
+  w2c_f56(m, w2c_j0, w2c_i1, w2c_i2, w2c_j3, w2c_j4, w2c_j5, w2c_j6);
   w2c_j0 = w2c_l5;
   w2c_i0 = (u32)(w2c_j0);
   w2c_i0 = i32_load8_u(m, (u64)(w2c_i0) + 384u);
@@ -48777,7 +48904,7 @@ static void w2c_f53(module *m, u64 w2c_p0, u32 w2c_p1, u64 w2c_p2, u64 w2c_p3, u
   w2c_j0 += w2c_j1;
   w2c_j1 = w2c_p3;
   w2c_j2 = w2c_p4;
-  w2c_f58(m, w2c_j0, w2c_j1, w2c_j2);
+  w2c_f57(m, w2c_j0, w2c_j1, w2c_j2);
   w2c_j0 = w2c_l5;
   w2c_i0 = (u32)(w2c_j0);
   w2c_i0 = i32_load8_u(m, (u64)(w2c_i0) + 480u);
@@ -48814,7 +48941,7 @@ static void w2c_f53(module *m, u64 w2c_p0, u32 w2c_p1, u64 w2c_p2, u64 w2c_p3, u
   w2c_i2 = (u32)(w2c_j2);
   w2c_j2 = i64_load(m, (u64)(w2c_i2) + 544u);
   w2c_l8 = w2c_j2;
-  w2c_f45(m, w2c_j0, w2c_j1, w2c_j2);
+  w2c_f44(m, w2c_j0, w2c_j1, w2c_j2);
   w2c_j0 = w2c_l5;
   w2c_i0 = (u32)(w2c_j0);
   w2c_i0 = i32_load8_u(m, (u64)(w2c_i0) + 640u);
@@ -48831,7 +48958,7 @@ static void w2c_f53(module *m, u64 w2c_p0, u32 w2c_p1, u64 w2c_p2, u64 w2c_p3, u
   w2c_j5 = w2c_l6;
   w2c_j6 = w2c_l9;
   w2c_j7 = w2c_l8;
-  w2c_f59(m, w2c_j0, w2c_i1, w2c_j2, w2c_j3, w2c_j4, w2c_j5, w2c_j6, w2c_j7);
+  w2c_f58(m, w2c_j0, w2c_i1, w2c_j2, w2c_j3, w2c_j4, w2c_j5, w2c_j6, w2c_j7);
   w2c_j0 = w2c_l5;
   w2c_i0 = (u32)(w2c_j0);
   w2c_i0 = i32_load8_u(m, (u64)(w2c_i0) + 576u);
@@ -48869,7 +48996,7 @@ static void w2c_f53(module *m, u64 w2c_p0, u32 w2c_p1, u64 w2c_p2, u64 w2c_p3, u
   w2c_i2 = (u32)(w2c_j2);
   w2c_j2 = i64_load(m, (u64)(w2c_i2) + 560u);
   w2c_l9 = w2c_j2;
-  w2c_f45(m, w2c_j0, w2c_j1, w2c_j2);
+  w2c_f44(m, w2c_j0, w2c_j1, w2c_j2);
   w2c_j0 = w2c_l5;
   w2c_i0 = (u32)(w2c_j0);
   w2c_i0 = i32_load8_u(m, (u64)(w2c_i0) + 416u);
@@ -48898,7 +49025,7 @@ static void w2c_f53(module *m, u64 w2c_p0, u32 w2c_p1, u64 w2c_p2, u64 w2c_p3, u
     w2c_j0 += w2c_j1;
     w2c_j1 = w2c_l6;
     w2c_j2 = w2c_l9;
-    w2c_f45(m, w2c_j0, w2c_j1, w2c_j2);
+    w2c_f44(m, w2c_j0, w2c_j1, w2c_j2);
     w2c_j0 = w2c_l5;
     w2c_i0 = (u32)(w2c_j0);
     w2c_i0 = i32_load8_u(m, (u64)(w2c_i0) + 480u);
@@ -48963,7 +49090,7 @@ static void w2c_f53(module *m, u64 w2c_p0, u32 w2c_p1, u64 w2c_p2, u64 w2c_p3, u
     w2c_j0 += w2c_j1;
     w2c_j1 = w2c_l6;
     w2c_j2 = w2c_l9;
-    w2c_f58(m, w2c_j0, w2c_j1, w2c_j2);
+    w2c_f57(m, w2c_j0, w2c_j1, w2c_j2);
     w2c_j0 = w2c_l5;
     w2c_i0 = (u32)(w2c_j0);
     w2c_i0 = i32_load8_u(m, (u64)(w2c_i0) + 480u);
@@ -49007,7 +49134,7 @@ static void w2c_f53(module *m, u64 w2c_p0, u32 w2c_p1, u64 w2c_p2, u64 w2c_p3, u
     w2c_i2 = (u32)(w2c_j2);
     w2c_j2 = i64_load(m, (u64)(w2c_i2) + 544u);
     w2c_l16 = w2c_j2;
-    w2c_f45(m, w2c_j0, w2c_j1, w2c_j2);
+    w2c_f44(m, w2c_j0, w2c_j1, w2c_j2);
     w2c_j0 = w2c_l5;
     w2c_i0 = (u32)(w2c_j0);
     w2c_i0 = i32_load8_u(m, (u64)(w2c_i0) + 448u);
@@ -49048,7 +49175,7 @@ static void w2c_f53(module *m, u64 w2c_p0, u32 w2c_p1, u64 w2c_p2, u64 w2c_p3, u
     w2c_j3 = 0ull;
     w2c_j4 = w2c_l15;
     w2c_j5 = w2c_l16;
-    w2c_f55(m, w2c_j0, w2c_i1, w2c_j2, w2c_j3, w2c_j4, w2c_j5);
+    w2c_f54(m, w2c_j0, w2c_i1, w2c_j2, w2c_j3, w2c_j4, w2c_j5);
     w2c_j0 = w2c_l5;
     w2c_i0 = (u32)(w2c_j0);
     w2c_i0 = i32_load8_u(m, (u64)(w2c_i0) + 576u);
@@ -49128,7 +49255,7 @@ static void w2c_f53(module *m, u64 w2c_p0, u32 w2c_p1, u64 w2c_p2, u64 w2c_p3, u
     w2c_j3 = w2c_l14;
     w2c_j4 = w2c_l15;
     w2c_j5 = w2c_l16;
-    w2c_f55(m, w2c_j0, w2c_i1, w2c_j2, w2c_j3, w2c_j4, w2c_j5);
+    w2c_f54(m, w2c_j0, w2c_i1, w2c_j2, w2c_j3, w2c_j4, w2c_j5);
     w2c_j0 = w2c_l5;
     w2c_i0 = (u32)(w2c_j0);
     w2c_i0 = i32_load8_u(m, (u64)(w2c_i0) + 640u);
@@ -49161,7 +49288,7 @@ static void w2c_f53(module *m, u64 w2c_p0, u32 w2c_p1, u64 w2c_p2, u64 w2c_p3, u
     w2c_j5 = w2c_l14;
     w2c_j6 = w2c_l15;
     w2c_j7 = w2c_l16;
-    w2c_f59(m, w2c_j0, w2c_i1, w2c_j2, w2c_j3, w2c_j4, w2c_j5, w2c_j6, w2c_j7);
+    w2c_f58(m, w2c_j0, w2c_i1, w2c_j2, w2c_j3, w2c_j4, w2c_j5, w2c_j6, w2c_j7);
     w2c_j0 = w2c_l5;
     w2c_i0 = (u32)(w2c_j0);
     w2c_i0 = i32_load8_u(m, (u64)(w2c_i0) + 576u);
@@ -49247,14 +49374,14 @@ static void w2c_f53(module *m, u64 w2c_p0, u32 w2c_p1, u64 w2c_p2, u64 w2c_p3, u
     w2c_j2 = 4ull;
     w2c_j1 <<= (w2c_j2 & 63);
     w2c_l15 = w2c_j1;
-    w2c_j2 = 68848ull;
+    w2c_j2 = 68864ull;
     w2c_j1 += w2c_j2;
     w2c_i1 = (u32)(w2c_j1);
     w2c_j1 = i64_load(m, (u64)(w2c_i1));
     w2c_j0 ^= w2c_j1;
     w2c_j1 = w2c_l10;
     w2c_j2 = w2c_l15;
-    w2c_j3 = 68856ull;
+    w2c_j3 = 68872ull;
     w2c_j2 += w2c_j3;
     w2c_i2 = (u32)(w2c_j2);
     w2c_j2 = i64_load(m, (u64)(w2c_i2));
@@ -49640,7 +49767,7 @@ static void w2c_f53(module *m, u64 w2c_p0, u32 w2c_p1, u64 w2c_p2, u64 w2c_p3, u
     w2c_j0 += w2c_j1;
     w2c_j1 = w2c_l6;
     w2c_j2 = w2c_l9;
-    w2c_f45(m, w2c_j0, w2c_j1, w2c_j2);
+    w2c_f44(m, w2c_j0, w2c_j1, w2c_j2);
     w2c_j0 = w2c_l5;
     w2c_i0 = (u32)(w2c_j0);
     w2c_i0 = i32_load8_u(m, (u64)(w2c_i0) + 416u);
@@ -49697,7 +49824,7 @@ static void w2c_f53(module *m, u64 w2c_p0, u32 w2c_p1, u64 w2c_p2, u64 w2c_p3, u
     w2c_j1 = w2c_l6;
     w2c_j2 = w2c_l7;
     w2c_l9 = w2c_j2;
-    w2c_f45(m, w2c_j0, w2c_j1, w2c_j2);
+    w2c_f44(m, w2c_j0, w2c_j1, w2c_j2);
     w2c_j0 = w2c_l5;
     w2c_i0 = (u32)(w2c_j0);
     w2c_i0 = i32_load8_u(m, (u64)(w2c_i0) + 480u);
@@ -49732,7 +49859,7 @@ static void w2c_f53(module *m, u64 w2c_p0, u32 w2c_p1, u64 w2c_p2, u64 w2c_p3, u
   w2c_j3 = w2c_l9;
   w2c_j2 -= w2c_j3;
   w2c_l14 = w2c_j2;
-  w2c_f45(m, w2c_j0, w2c_j1, w2c_j2);
+  w2c_f44(m, w2c_j0, w2c_j1, w2c_j2);
   w2c_j0 = w2c_l5;
   w2c_i0 = (u32)(w2c_j0);
   w2c_i0 = i32_load8_u(m, (u64)(w2c_i0) + 640u);
@@ -49760,7 +49887,7 @@ static void w2c_f53(module *m, u64 w2c_p0, u32 w2c_p1, u64 w2c_p2, u64 w2c_p3, u
   w2c_j0 += w2c_j1;
   w2c_j1 = w2c_l6;
   w2c_j2 = w2c_l7;
-  w2c_f45(m, w2c_j0, w2c_j1, w2c_j2);
+  w2c_f44(m, w2c_j0, w2c_j1, w2c_j2);
   w2c_j0 = w2c_l5;
   w2c_i0 = (u32)(w2c_j0);
   w2c_i0 = i32_load8_u(m, (u64)(w2c_i0) + 480u);
@@ -49807,7 +49934,7 @@ static void w2c_f53(module *m, u64 w2c_p0, u32 w2c_p1, u64 w2c_p2, u64 w2c_p3, u
     w2c_l12 = w2c_j1;
     w2c_j2 = w2c_l10;
     w2c_l15 = w2c_j2;
-    w2c_f45(m, w2c_j0, w2c_j1, w2c_j2);
+    w2c_f44(m, w2c_j0, w2c_j1, w2c_j2);
     w2c_j0 = w2c_l5;
     w2c_i0 = (u32)(w2c_j0);
     w2c_i0 = i32_load8_u(m, (u64)(w2c_i0) + 480u);
@@ -49852,7 +49979,7 @@ static void w2c_f53(module *m, u64 w2c_p0, u32 w2c_p1, u64 w2c_p2, u64 w2c_p3, u
   if (w2c_i0) {goto w2c_B31;}
   w2c_j0 = w2c_l12;
   w2c_j1 = w2c_l15;
-  w2c_i0 = w2c_f60(m, w2c_j0, w2c_j1);
+  w2c_i0 = w2c_f59(m, w2c_j0, w2c_j1);
   w2c_i0 = !(w2c_i0);
   if (w2c_i0) {goto w2c_B31;}
   w2c_j0 = w2c_l5;
@@ -49876,7 +50003,7 @@ static void w2c_f53(module *m, u64 w2c_p0, u32 w2c_p1, u64 w2c_p2, u64 w2c_p3, u
   w2c_j0 += w2c_j1;
   w2c_j1 = w2c_l6;
   w2c_j2 = w2c_l7;
-  w2c_f45(m, w2c_j0, w2c_j1, w2c_j2);
+  w2c_f44(m, w2c_j0, w2c_j1, w2c_j2);
   w2c_j0 = w2c_l6;
   w2c_l8 = w2c_j0;
   w2c_j0 = w2c_l7;
@@ -49931,7 +50058,7 @@ static void w2c_f53(module *m, u64 w2c_p0, u32 w2c_p1, u64 w2c_p2, u64 w2c_p3, u
     w2c_l8 = w2c_j1;
     w2c_j2 = w2c_l12;
     w2c_l10 = w2c_j2;
-    w2c_f45(m, w2c_j0, w2c_j1, w2c_j2);
+    w2c_f44(m, w2c_j0, w2c_j1, w2c_j2);
     w2c_j0 = w2c_l5;
     w2c_i0 = (u32)(w2c_j0);
     w2c_i0 = i32_load8_u(m, (u64)(w2c_i0) + 480u);
@@ -50004,7 +50131,7 @@ static void w2c_f53(module *m, u64 w2c_p0, u32 w2c_p1, u64 w2c_p2, u64 w2c_p3, u
   w2c_j0 += w2c_j1;
   w2c_j1 = w2c_p3;
   w2c_j2 = w2c_l14;
-  w2c_f52(m, w2c_j0, w2c_j1, w2c_j2);
+  w2c_f51(m, w2c_j0, w2c_j1, w2c_j2);
   w2c_j0 = w2c_l5;
   w2c_i0 = (u32)(w2c_j0);
   w2c_i0 = i32_load8_u(m, (u64)(w2c_i0) + 480u);
@@ -50024,7 +50151,7 @@ static void w2c_f53(module *m, u64 w2c_p0, u32 w2c_p1, u64 w2c_p2, u64 w2c_p3, u
   w2c_j2 = w2c_l5;
   w2c_i2 = (u32)(w2c_j2);
   w2c_j2 = i64_load(m, (u64)(w2c_i2) + 504u);
-  w2c_f52(m, w2c_j0, w2c_j1, w2c_j2);
+  w2c_f51(m, w2c_j0, w2c_j1, w2c_j2);
   w2c_j0 = w2c_l5;
   w2c_i0 = (u32)(w2c_j0);
   w2c_i0 = i32_load8_u(m, (u64)(w2c_i0) + 576u);
@@ -50037,7 +50164,7 @@ static void w2c_f53(module *m, u64 w2c_p0, u32 w2c_p1, u64 w2c_p2, u64 w2c_p3, u
   w2c_j1 = w2c_l5;
   w2c_i1 = (u32)(w2c_j1);
   w2c_i1 = i32_load_of_text(m, (u64)(w2c_i1) + 584u);
-  w2c_f46(m, w2c_j0, w2c_i1);
+  w2c_f45(m, w2c_j0, w2c_i1);
   w2c_j0 = w2c_l5;
   w2c_i0 = (u32)(w2c_j0);
   w2c_i0 = i32_load8_u(m, (u64)(w2c_i0) + 40u);
@@ -50085,7 +50212,7 @@ static void w2c_f53(module *m, u64 w2c_p0, u32 w2c_p1, u64 w2c_p2, u64 w2c_p3, u
   w2c_j0 += w2c_j1;
   w2c_j1 = w2c_l8;
   w2c_j2 = w2c_l10;
-  w2c_f45(m, w2c_j0, w2c_j1, w2c_j2);
+  w2c_f44(m, w2c_j0, w2c_j1, w2c_j2);
   w2c_j0 = w2c_l5;
   w2c_i0 = (u32)(w2c_j0);
   w2c_i0 = i32_load8_u(m, (u64)(w2c_i0) + 576u);
@@ -50106,7 +50233,7 @@ static void w2c_f53(module *m, u64 w2c_p0, u32 w2c_p1, u64 w2c_p2, u64 w2c_p3, u
   w2c_j1 = w2c_l5;
   w2c_i1 = (u32)(w2c_j1);
   w2c_i1 = i32_load_of_text(m, (u64)(w2c_i1) + 584u);
-  w2c_f46(m, w2c_j0, w2c_i1);
+  w2c_f45(m, w2c_j0, w2c_i1);
   w2c_j0 = w2c_l5;
   w2c_i0 = (u32)(w2c_j0);
   w2c_i0 = i32_load8_u(m, (u64)(w2c_i0) + 25u);
@@ -50143,7 +50270,7 @@ static void w2c_f53(module *m, u64 w2c_p0, u32 w2c_p1, u64 w2c_p2, u64 w2c_p3, u
   w2c_j0 += w2c_j1;
   w2c_j1 = w2c_l10;
   w2c_j2 = w2c_l8;
-  w2c_f45(m, w2c_j0, w2c_j1, w2c_j2);
+  w2c_f44(m, w2c_j0, w2c_j1, w2c_j2);
   w2c_j0 = w2c_l5;
   w2c_i0 = (u32)(w2c_j0);
   w2c_i0 = i32_load8_u(m, (u64)(w2c_i0) + 480u);
@@ -50156,7 +50283,7 @@ static void w2c_f53(module *m, u64 w2c_p0, u32 w2c_p1, u64 w2c_p2, u64 w2c_p3, u
   w2c_j1 = w2c_l5;
   w2c_i1 = (u32)(w2c_j1);
   w2c_i1 = i32_load_of_text(m, (u64)(w2c_i1) + 488u);
-  w2c_f46(m, w2c_j0, w2c_i1);
+  w2c_f45(m, w2c_j0, w2c_i1);
   w2c_j0 = w2c_l5;
   w2c_i0 = (u32)(w2c_j0);
   w2c_i0 = i32_load8_u(m, (u64)(w2c_i0) + 17u);
@@ -50219,7 +50346,7 @@ static void w2c_f53(module *m, u64 w2c_p0, u32 w2c_p1, u64 w2c_p2, u64 w2c_p3, u
     w2c_j0 += w2c_j1;
     w2c_j1 = w2c_l8;
     w2c_j2 = w2c_l10;
-    w2c_f45(m, w2c_j0, w2c_j1, w2c_j2);
+    w2c_f44(m, w2c_j0, w2c_j1, w2c_j2);
     w2c_j0 = w2c_l5;
     w2c_i0 = (u32)(w2c_j0);
     w2c_i0 = i32_load8_u(m, (u64)(w2c_i0) + 480u);
@@ -50240,7 +50367,7 @@ static void w2c_f53(module *m, u64 w2c_p0, u32 w2c_p1, u64 w2c_p2, u64 w2c_p3, u
     w2c_j1 = w2c_l5;
     w2c_i1 = (u32)(w2c_j1);
     w2c_i1 = i32_load_of_text(m, (u64)(w2c_i1) + 488u);
-    w2c_f46(m, w2c_j0, w2c_i1);
+    w2c_f45(m, w2c_j0, w2c_i1);
     w2c_j0 = w2c_l5;
     w2c_i0 = (u32)(w2c_j0);
     w2c_i0 = i32_load8_u(m, (u64)(w2c_i0) + 8u);
@@ -50297,7 +50424,7 @@ static void w2c_f53(module *m, u64 w2c_p0, u32 w2c_p1, u64 w2c_p2, u64 w2c_p3, u
   w2c_j0 += w2c_j1;
   w2c_j1 = w2c_p3;
   w2c_j2 = w2c_p4;
-  w2c_f45(m, w2c_j0, w2c_j1, w2c_j2);
+  w2c_f44(m, w2c_j0, w2c_j1, w2c_j2);
   w2c_j0 = w2c_l5;
   w2c_i0 = (u32)(w2c_j0);
   w2c_i0 = i32_load8_u(m, (u64)(w2c_i0) + 480u);
@@ -50335,7 +50462,7 @@ static void w2c_f53(module *m, u64 w2c_p0, u32 w2c_p1, u64 w2c_p2, u64 w2c_p3, u
   w2c_j0 += w2c_j1;
   w2c_j1 = w2c_l9;
   w2c_j2 = w2c_l7;
-  w2c_f45(m, w2c_j0, w2c_j1, w2c_j2);
+  w2c_f44(m, w2c_j0, w2c_j1, w2c_j2);
   w2c_j0 = w2c_l5;
   w2c_i0 = (u32)(w2c_j0);
   w2c_i0 = i32_load8_u(m, (u64)(w2c_i0) + 576u);
@@ -50355,7 +50482,7 @@ static void w2c_f53(module *m, u64 w2c_p0, u32 w2c_p1, u64 w2c_p2, u64 w2c_p3, u
   w2c_j2 = w2c_l5;
   w2c_i2 = (u32)(w2c_j2);
   w2c_j2 = i64_load(m, (u64)(w2c_i2) + 600u);
-  w2c_f45(m, w2c_j0, w2c_j1, w2c_j2);
+  w2c_f44(m, w2c_j0, w2c_j1, w2c_j2);
   w2c_i0 = w2c_l24;
   w2c_i1 = 4294967248u;
   w2c_i0 += w2c_i1;
@@ -50405,7 +50532,7 @@ static void w2c_f53(module *m, u64 w2c_p0, u32 w2c_p1, u64 w2c_p2, u64 w2c_p3, u
   w2c_j2 = w2c_p2;
   w2c_j3 = w2c_p3;
   w2c_j4 = w2c_p4;
-  w2c_f49(m, w2c_j0, w2c_i1, w2c_j2, w2c_j3, w2c_j4);
+  w2c_f48(m, w2c_j0, w2c_i1, w2c_j2, w2c_j3, w2c_j4);
   w2c_j0 = w2c_l5;
   w2c_i0 = (u32)(w2c_j0);
   w2c_j0 = i64_load(m, (u64)(w2c_i0) + 304u);
@@ -50441,7 +50568,7 @@ static void w2c_f53(module *m, u64 w2c_p0, u32 w2c_p1, u64 w2c_p2, u64 w2c_p3, u
   w2c_j2 = w2c_p2;
   w2c_j3 = w2c_p3;
   w2c_j4 = w2c_l14;
-  w2c_f49(m, w2c_j0, w2c_i1, w2c_j2, w2c_j3, w2c_j4);
+  w2c_f48(m, w2c_j0, w2c_i1, w2c_j2, w2c_j3, w2c_j4);
   w2c_j0 = w2c_l5;
   w2c_i0 = (u32)(w2c_j0);
   w2c_j0 = i64_load(m, (u64)(w2c_i0) + 368u);
@@ -50461,7 +50588,7 @@ static void w2c_f53(module *m, u64 w2c_p0, u32 w2c_p1, u64 w2c_p2, u64 w2c_p3, u
   w2c_j4 = i64_load(m, (u64)(w2c_i4) + 376u);
   w2c_j5 = w2c_l6;
   w2c_j6 = w2c_l7;
-  w2c_f57(m, w2c_j0, w2c_i1, w2c_i2, w2c_j3, w2c_j4, w2c_j5, w2c_j6);
+  w2c_f56(m, w2c_j0, w2c_i1, w2c_i2, w2c_j3, w2c_j4, w2c_j5, w2c_j6);
   w2c_j0 = w2c_l5;
   w2c_i0 = (u32)(w2c_j0);
   w2c_i0 = i32_load8_u(m, (u64)(w2c_i0) + 320u);
@@ -50552,7 +50679,7 @@ static void w2c_f53(module *m, u64 w2c_p0, u32 w2c_p1, u64 w2c_p2, u64 w2c_p3, u
   m->w2c_g0 = w2c_j0;
 }
 
-static u64 w2c_f54(module *m, u64 w2c_p0, u64 w2c_p1) {
+static u64 w2c_f53(module *m, u64 w2c_p0, u64 w2c_p1) {
   u64 w2c_l2 = 0, w2c_l3 = 0, w2c_l4 = 0, w2c_l5 = 0;
   u32 w2c_i0, w2c_i1;
   u64 w2c_j0, w2c_j1, w2c_j2, w2c_j3;
@@ -50683,7 +50810,7 @@ static u64 w2c_f54(module *m, u64 w2c_p0, u64 w2c_p1) {
   return w2c_j0;
 }
 
-static void w2c_f55(module *m, u64 w2c_p0, u32 w2c_p1, u64 w2c_p2, u64 w2c_p3, u64 w2c_p4, u64 w2c_p5) {
+static void w2c_f54(module *m, u64 w2c_p0, u32 w2c_p1, u64 w2c_p2, u64 w2c_p3, u64 w2c_p4, u64 w2c_p5) {
   u64 w2c_l6 = 0, w2c_l7 = 0, w2c_l8 = 0, w2c_l9 = 0;
   u32 w2c_i0, w2c_i1, w2c_i2;
   u64 w2c_j0, w2c_j1, w2c_j2, w2c_j3, w2c_j4;
@@ -50719,7 +50846,7 @@ static void w2c_f55(module *m, u64 w2c_p0, u32 w2c_p1, u64 w2c_p2, u64 w2c_p3, u
   w2c_j0 += w2c_j1;
   w2c_j1 = w2c_p4;
   w2c_j2 = w2c_p5;
-  w2c_f45(m, w2c_j0, w2c_j1, w2c_j2);
+  w2c_f44(m, w2c_j0, w2c_j1, w2c_j2);
   w2c_j0 = w2c_l6;
   w2c_i0 = (u32)(w2c_j0);
   w2c_i0 = i32_load8_u(m, (u64)(w2c_i0) + 80u);
@@ -50732,7 +50859,7 @@ static void w2c_f55(module *m, u64 w2c_p0, u32 w2c_p1, u64 w2c_p2, u64 w2c_p3, u
   w2c_j0 &= w2c_j1;
   w2c_j1 = 5ull;
   w2c_j0 <<= (w2c_j1 & 63);
-  w2c_j1 = 68712ull;
+  w2c_j1 = 68724ull;
   w2c_j0 += w2c_j1;
   w2c_l7 = w2c_j0;
   w2c_L4:
@@ -50750,7 +50877,7 @@ static void w2c_f55(module *m, u64 w2c_p0, u32 w2c_p1, u64 w2c_p2, u64 w2c_p3, u
     w2c_j1 = w2c_l6;
     w2c_i1 = (u32)(w2c_j1);
     w2c_i1 = i32_load_of_text(m, (u64)(w2c_i1) + 88u);
-    w2c_f46(m, w2c_j0, w2c_i1);
+    w2c_f45(m, w2c_j0, w2c_i1);
     w2c_j0 = w2c_l6;
     w2c_i0 = (u32)(w2c_j0);
     w2c_i0 = i32_load8_u(m, (u64)(w2c_i0) + 72u);
@@ -50780,7 +50907,7 @@ static void w2c_f55(module *m, u64 w2c_p0, u32 w2c_p1, u64 w2c_p2, u64 w2c_p3, u
     w2c_j2 = 4ull;
     w2c_j1 <<= (w2c_j2 & 63);
     w2c_l8 = w2c_j1;
-    w2c_j2 = 68848ull;
+    w2c_j2 = 68864ull;
     w2c_j1 += w2c_j2;
     w2c_i1 = (u32)(w2c_j1);
     w2c_j1 = i64_load(m, (u64)(w2c_i1));
@@ -50791,7 +50918,7 @@ static void w2c_f55(module *m, u64 w2c_p0, u32 w2c_p1, u64 w2c_p2, u64 w2c_p3, u
     w2c_f3(m, w2c_j0, w2c_j1, w2c_j2, w2c_j3, w2c_j4);
     w2c_j0 = w2c_l6;
     w2c_j1 = w2c_l8;
-    w2c_j2 = 68856ull;
+    w2c_j2 = 68872ull;
     w2c_j1 += w2c_j2;
     w2c_i1 = (u32)(w2c_j1);
     w2c_j1 = i64_load(m, (u64)(w2c_i1));
@@ -50874,7 +51001,7 @@ static void w2c_f55(module *m, u64 w2c_p0, u32 w2c_p1, u64 w2c_p2, u64 w2c_p3, u
     w2c_j0 += w2c_j1;
     w2c_j1 = w2c_p4;
     w2c_j2 = w2c_p5;
-    w2c_f45(m, w2c_j0, w2c_j1, w2c_j2);
+    w2c_f44(m, w2c_j0, w2c_j1, w2c_j2);
     w2c_j0 = w2c_l6;
     w2c_i0 = (u32)(w2c_j0);
     w2c_i0 = i32_load8_u(m, (u64)(w2c_i0) + 80u);
@@ -50931,7 +51058,7 @@ static void w2c_f55(module *m, u64 w2c_p0, u32 w2c_p1, u64 w2c_p2, u64 w2c_p3, u
   w2c_Bfunc:;
 }
 
-static void w2c_f56(module *m, u64 w2c_p0, u64 w2c_p1, u64 w2c_p2) {
+static void w2c_f55(module *m, u64 w2c_p0, u64 w2c_p1, u64 w2c_p2) {
   u32 w2c_l8 = 0;
   u64 w2c_l3 = 0, w2c_l4 = 0, w2c_l5 = 0, w2c_l6 = 0, w2c_l7 = 0;
   u32 w2c_i0, w2c_i1;
@@ -50970,7 +51097,7 @@ static void w2c_f56(module *m, u64 w2c_p0, u64 w2c_p1, u64 w2c_p2) {
   w2c_j0 += w2c_j1;
   w2c_j1 = w2c_p1;
   w2c_j2 = w2c_p2;
-  w2c_f45(m, w2c_j0, w2c_j1, w2c_j2);
+  w2c_f44(m, w2c_j0, w2c_j1, w2c_j2);
   w2c_i0 = 1u;
   w2c_l8 = w2c_i0;
   w2c_j0 = w2c_l3;
@@ -51020,7 +51147,7 @@ static void w2c_f56(module *m, u64 w2c_p0, u64 w2c_p1, u64 w2c_p2) {
   w2c_j0 += w2c_j1;
   w2c_j1 = w2c_l4;
   w2c_j2 = w2c_p2;
-  w2c_f45(m, w2c_j0, w2c_j1, w2c_j2);
+  w2c_f44(m, w2c_j0, w2c_j1, w2c_j2);
   w2c_j0 = w2c_l3;
   w2c_i0 = (u32)(w2c_j0);
   w2c_i0 = i32_load8_u(m, (u64)(w2c_i0) + 48u);
@@ -51060,7 +51187,7 @@ static void w2c_f56(module *m, u64 w2c_p0, u64 w2c_p1, u64 w2c_p2) {
     w2c_l6 = w2c_j1;
     w2c_j2 = w2c_p2;
     w2c_l7 = w2c_j2;
-    w2c_f45(m, w2c_j0, w2c_j1, w2c_j2);
+    w2c_f44(m, w2c_j0, w2c_j1, w2c_j2);
     w2c_j0 = w2c_l3;
     w2c_i0 = (u32)(w2c_j0);
     w2c_i0 = i32_load8_u(m, (u64)(w2c_i0) + 48u);
@@ -51098,7 +51225,7 @@ static void w2c_f56(module *m, u64 w2c_p0, u64 w2c_p1, u64 w2c_p2) {
   w2c_l8 = w2c_i0;
   w2c_j0 = w2c_l6;
   w2c_j1 = w2c_l7;
-  w2c_i0 = w2c_f60(m, w2c_j0, w2c_j1);
+  w2c_i0 = w2c_f59(m, w2c_j0, w2c_j1);
   if (w2c_i0) {goto w2c_B1;}
   w2c_B4:;
   w2c_i0 = 0u;
@@ -51109,7 +51236,7 @@ static void w2c_f56(module *m, u64 w2c_p0, u64 w2c_p1, u64 w2c_p2) {
   w2c_B2:;
   w2c_j0 = w2c_p1;
   w2c_j1 = w2c_p2;
-  w2c_i0 = w2c_f60(m, w2c_j0, w2c_j1);
+  w2c_i0 = w2c_f59(m, w2c_j0, w2c_j1);
   w2c_l8 = w2c_i0;
   w2c_B1:;
   w2c_j0 = w2c_p0;
@@ -51130,7 +51257,7 @@ static void w2c_f56(module *m, u64 w2c_p0, u64 w2c_p1, u64 w2c_p2) {
   w2c_Bfunc:;
 }
 
-static void w2c_f57(module *m, u64 w2c_p0, u32 w2c_p1, u32 w2c_p2, u64 w2c_p3, u64 w2c_p4, u64 w2c_p5, u64 w2c_p6) {
+static void w2c_f56(module *m, u64 w2c_p0, u32 w2c_p1, u32 w2c_p2, u64 w2c_p3, u64 w2c_p4, u64 w2c_p5, u64 w2c_p6) {
   u64 w2c_l7 = 0, w2c_l8 = 0, w2c_l9 = 0, w2c_l10 = 0;
   u32 w2c_i0, w2c_i1, w2c_i2;
   u64 w2c_j0, w2c_j1, w2c_j2, w2c_j3, w2c_j4, w2c_j5;
@@ -51182,7 +51309,7 @@ static void w2c_f57(module *m, u64 w2c_p0, u32 w2c_p1, u32 w2c_p2, u64 w2c_p3, u
   w2c_j0 += w2c_j1;
   w2c_j1 = w2c_p5;
   w2c_j2 = w2c_p6;
-  w2c_f45(m, w2c_j0, w2c_j1, w2c_j2);
+  w2c_f44(m, w2c_j0, w2c_j1, w2c_j2);
   w2c_j0 = w2c_l7;
   w2c_i0 = (u32)(w2c_j0);
   w2c_i0 = i32_load8_u(m, (u64)(w2c_i0) + 128u);
@@ -51296,7 +51423,7 @@ static void w2c_f57(module *m, u64 w2c_p0, u32 w2c_p1, u32 w2c_p2, u64 w2c_p3, u
     w2c_j0 += w2c_j1;
     w2c_j1 = w2c_l9;
     w2c_j2 = w2c_l8;
-    w2c_f45(m, w2c_j0, w2c_j1, w2c_j2);
+    w2c_f44(m, w2c_j0, w2c_j1, w2c_j2);
     w2c_j0 = w2c_l7;
     w2c_i0 = (u32)(w2c_j0);
     w2c_i0 = i32_load8_u(m, (u64)(w2c_i0) + 128u);
@@ -51403,7 +51530,7 @@ static void w2c_f57(module *m, u64 w2c_p0, u32 w2c_p1, u32 w2c_p2, u64 w2c_p3, u
     w2c_j0 += w2c_j1;
     w2c_j1 = w2c_l9;
     w2c_j2 = w2c_l8;
-    w2c_f45(m, w2c_j0, w2c_j1, w2c_j2);
+    w2c_f44(m, w2c_j0, w2c_j1, w2c_j2);
     w2c_j0 = w2c_l7;
     w2c_i0 = (u32)(w2c_j0);
     w2c_i0 = i32_load8_u(m, (u64)(w2c_i0) + 128u);
@@ -51419,7 +51546,7 @@ static void w2c_f57(module *m, u64 w2c_p0, u32 w2c_p1, u32 w2c_p2, u64 w2c_p3, u
   w2c_j3 = w2c_p4;
   w2c_j4 = w2c_p5;
   w2c_j5 = w2c_p6;
-  w2c_f55(m, w2c_j0, w2c_i1, w2c_j2, w2c_j3, w2c_j4, w2c_j5);
+  w2c_f54(m, w2c_j0, w2c_i1, w2c_j2, w2c_j3, w2c_j4, w2c_j5);
   w2c_j0 = w2c_p0;
   w2c_i0 = (u32)(w2c_j0);
   w2c_j1 = 0ull;
@@ -51474,7 +51601,7 @@ static void w2c_f57(module *m, u64 w2c_p0, u32 w2c_p1, u32 w2c_p2, u64 w2c_p3, u
   m->w2c_g0 = w2c_j0;
 }
 
-static void w2c_f58(module *m, u64 w2c_p0, u64 w2c_p1, u64 w2c_p2) {
+static void w2c_f57(module *m, u64 w2c_p0, u64 w2c_p1, u64 w2c_p2) {
   u32 w2c_l13 = 0, w2c_l14 = 0, w2c_l15 = 0;
   u64 w2c_l3 = 0, w2c_l4 = 0, w2c_l5 = 0, w2c_l6 = 0, w2c_l7 = 0, w2c_l8 = 0, w2c_l9 = 0, w2c_l10 = 0, w2c_l11 = 0, w2c_l12 = 0;
   u32 w2c_i0, w2c_i1, w2c_i2;
@@ -51528,7 +51655,7 @@ static void w2c_f58(module *m, u64 w2c_p0, u64 w2c_p1, u64 w2c_p2) {
     w2c_j0 += w2c_j1;
     w2c_j1 = w2c_l5;
     w2c_j2 = w2c_l6;
-    w2c_f45(m, w2c_j0, w2c_j1, w2c_j2);
+    w2c_f44(m, w2c_j0, w2c_j1, w2c_j2);
     w2c_j0 = w2c_l3;
     w2c_i0 = (u32)(w2c_j0);
     w2c_i0 = i32_load8_u(m, (u64)(w2c_i0) + 80u);
@@ -51654,7 +51781,7 @@ static void w2c_f58(module *m, u64 w2c_p0, u64 w2c_p1, u64 w2c_p2) {
   w2c_j0 += w2c_j1;
   w2c_j1 = w2c_p1;
   w2c_j2 = w2c_p2;
-  w2c_f45(m, w2c_j0, w2c_j1, w2c_j2);
+  w2c_f44(m, w2c_j0, w2c_j1, w2c_j2);
   w2c_j0 = 0ull;
   w2c_l10 = w2c_j0;
   w2c_j0 = w2c_p1;
@@ -51706,7 +51833,7 @@ static void w2c_f58(module *m, u64 w2c_p0, u64 w2c_p1, u64 w2c_p2) {
     w2c_l11 = w2c_j1;
     w2c_j2 = w2c_l9;
     w2c_l12 = w2c_j2;
-    w2c_f45(m, w2c_j0, w2c_j1, w2c_j2);
+    w2c_f44(m, w2c_j0, w2c_j1, w2c_j2);
     w2c_j0 = w2c_l3;
     w2c_i0 = (u32)(w2c_j0);
     w2c_i0 = i32_load8_u(m, (u64)(w2c_i0) + 80u);
@@ -51769,7 +51896,7 @@ static void w2c_f58(module *m, u64 w2c_p0, u64 w2c_p1, u64 w2c_p2) {
     w2c_l6 = w2c_j1;
     w2c_j2 = w2c_l8;
     w2c_l5 = w2c_j2;
-    w2c_f45(m, w2c_j0, w2c_j1, w2c_j2);
+    w2c_f44(m, w2c_j0, w2c_j1, w2c_j2);
     w2c_j0 = w2c_l3;
     w2c_i0 = (u32)(w2c_j0);
     w2c_i0 = i32_load8_u(m, (u64)(w2c_i0) + 80u);
@@ -51790,7 +51917,7 @@ static void w2c_f58(module *m, u64 w2c_p0, u64 w2c_p1, u64 w2c_p2) {
     w2c_j1 = w2c_l3;
     w2c_i1 = (u32)(w2c_j1);
     w2c_i1 = i32_load_of_text(m, (u64)(w2c_i1) + 88u);
-    w2c_f46(m, w2c_j0, w2c_i1);
+    w2c_f45(m, w2c_j0, w2c_i1);
     w2c_j0 = w2c_l3;
     w2c_i0 = (u32)(w2c_j0);
     w2c_i0 = i32_load8_u(m, (u64)(w2c_i0) + 40u);
@@ -51834,7 +51961,7 @@ static void w2c_f58(module *m, u64 w2c_p0, u64 w2c_p1, u64 w2c_p2) {
   w2c_j0 += w2c_j1;
   w2c_j1 = w2c_p1;
   w2c_j2 = w2c_p2;
-  w2c_f45(m, w2c_j0, w2c_j1, w2c_j2);
+  w2c_f44(m, w2c_j0, w2c_j1, w2c_j2);
   w2c_i0 = 0u;
   w2c_l13 = w2c_i0;
   w2c_j0 = w2c_l3;
@@ -51961,7 +52088,7 @@ static void w2c_f58(module *m, u64 w2c_p0, u64 w2c_p1, u64 w2c_p2) {
   w2c_Bfunc:;
 }
 
-static void w2c_f59(module *m, u64 w2c_p0, u32 w2c_p1, u64 w2c_p2, u64 w2c_p3, u64 w2c_p4, u64 w2c_p5, u64 w2c_p6, u64 w2c_p7) {
+static void w2c_f58(module *m, u64 w2c_p0, u32 w2c_p1, u64 w2c_p2, u64 w2c_p3, u64 w2c_p4, u64 w2c_p5, u64 w2c_p6, u64 w2c_p7) {
   u64 w2c_l8 = 0, w2c_l9 = 0, w2c_l10 = 0;
   u32 w2c_i0, w2c_i1, w2c_i2;
   u64 w2c_j0, w2c_j1, w2c_j2, w2c_j3, w2c_j4, w2c_j5;
@@ -51998,7 +52125,7 @@ static void w2c_f59(module *m, u64 w2c_p0, u32 w2c_p1, u64 w2c_p2, u64 w2c_p3, u
   w2c_j3 = w2c_p5;
   w2c_j4 = w2c_p6;
   w2c_j5 = w2c_p7;
-  w2c_f55(m, w2c_j0, w2c_i1, w2c_j2, w2c_j3, w2c_j4, w2c_j5);
+  w2c_f54(m, w2c_j0, w2c_i1, w2c_j2, w2c_j3, w2c_j4, w2c_j5);
   w2c_j0 = w2c_l8;
   w2c_i0 = (u32)(w2c_j0);
   w2c_i0 = i32_load8_u(m, (u64)(w2c_i0));
@@ -52019,7 +52146,7 @@ static void w2c_f59(module *m, u64 w2c_p0, u32 w2c_p1, u64 w2c_p2, u64 w2c_p3, u
   w2c_j3 = 0ull;
   w2c_j4 = w2c_p6;
   w2c_j5 = w2c_p7;
-  w2c_f55(m, w2c_j0, w2c_i1, w2c_j2, w2c_j3, w2c_j4, w2c_j5);
+  w2c_f54(m, w2c_j0, w2c_i1, w2c_j2, w2c_j3, w2c_j4, w2c_j5);
   w2c_j0 = w2c_l8;
   w2c_i0 = (u32)(w2c_j0);
   w2c_i0 = i32_load8_u(m, (u64)(w2c_i0));
@@ -52099,7 +52226,7 @@ static void w2c_f59(module *m, u64 w2c_p0, u32 w2c_p1, u64 w2c_p2, u64 w2c_p3, u
   w2c_j0 += w2c_j1;
   w2c_j1 = w2c_p6;
   w2c_j2 = w2c_p7;
-  w2c_f45(m, w2c_j0, w2c_j1, w2c_j2);
+  w2c_f44(m, w2c_j0, w2c_j1, w2c_j2);
   w2c_i0 = 0u;
   w2c_p1 = w2c_i0;
   w2c_j0 = w2c_l8;
@@ -52117,7 +52244,7 @@ static void w2c_f59(module *m, u64 w2c_p0, u32 w2c_p1, u64 w2c_p2, u64 w2c_p3, u
   w2c_j2 = w2c_l8;
   w2c_i2 = (u32)(w2c_j2);
   w2c_j2 = i64_load(m, (u64)(w2c_i2) + 88u);
-  w2c_f45(m, w2c_j0, w2c_j1, w2c_j2);
+  w2c_f44(m, w2c_j0, w2c_j1, w2c_j2);
   w2c_j0 = w2c_l8;
   w2c_i0 = (u32)(w2c_j0);
   w2c_i0 = i32_load8_u(m, (u64)(w2c_i0) + 32u);
@@ -52287,7 +52414,7 @@ static void w2c_f59(module *m, u64 w2c_p0, u32 w2c_p1, u64 w2c_p2, u64 w2c_p3, u
   m->w2c_g0 = w2c_j0;
 }
 
-static u32 w2c_f60(module *m, u64 w2c_p0, u64 w2c_p1) {
+static u32 w2c_f59(module *m, u64 w2c_p0, u64 w2c_p1) {
   u32 w2c_l5 = 0, w2c_l6 = 0, w2c_l7 = 0, w2c_l8 = 0;
   u64 w2c_l2 = 0, w2c_l3 = 0, w2c_l4 = 0;
   u32 w2c_i0, w2c_i1, w2c_i2;
@@ -52324,7 +52451,7 @@ static u32 w2c_f60(module *m, u64 w2c_p0, u64 w2c_p1) {
   w2c_j0 += w2c_j1;
   w2c_j1 = w2c_p0;
   w2c_j2 = w2c_p1;
-  w2c_f45(m, w2c_j0, w2c_j1, w2c_j2);
+  w2c_f44(m, w2c_j0, w2c_j1, w2c_j2);
   w2c_i0 = 1u;
   w2c_l5 = w2c_i0;
   w2c_j0 = w2c_l2;
@@ -52347,7 +52474,7 @@ static u32 w2c_f60(module *m, u64 w2c_p0, u64 w2c_p1) {
   w2c_j1 = w2c_l2;
   w2c_i1 = (u32)(w2c_j1);
   w2c_i1 = i32_load_of_text(m, (u64)(w2c_i1) + 40u);
-  w2c_f46(m, w2c_j0, w2c_i1);
+  w2c_f45(m, w2c_j0, w2c_i1);
   w2c_i0 = 1u;
   w2c_l6 = w2c_i0;
   w2c_j0 = w2c_l2;
@@ -52383,7 +52510,7 @@ static u32 w2c_f60(module *m, u64 w2c_p0, u64 w2c_p1) {
   w2c_j0 += w2c_j1;
   w2c_j1 = w2c_l4;
   w2c_j2 = w2c_l3;
-  w2c_f45(m, w2c_j0, w2c_j1, w2c_j2);
+  w2c_f44(m, w2c_j0, w2c_j1, w2c_j2);
   w2c_j0 = w2c_l2;
   w2c_i0 = (u32)(w2c_j0);
   w2c_i0 = i32_load8_u(m, (u64)(w2c_i0) + 64u);
@@ -52400,7 +52527,7 @@ static u32 w2c_f60(module *m, u64 w2c_p0, u64 w2c_p1) {
   w2c_j1 = w2c_l2;
   w2c_i1 = (u32)(w2c_j1);
   w2c_i1 = i32_load_of_text(m, (u64)(w2c_i1) + 72u);
-  w2c_f46(m, w2c_j0, w2c_i1);
+  w2c_f45(m, w2c_j0, w2c_i1);
   w2c_i0 = 0u;
   w2c_l5 = w2c_i0;
   w2c_j0 = w2c_l2;
@@ -52441,7 +52568,7 @@ static u32 w2c_f60(module *m, u64 w2c_p0, u64 w2c_p1) {
     w2c_j0 += w2c_j1;
     w2c_j1 = w2c_l4;
     w2c_j2 = w2c_l3;
-    w2c_f45(m, w2c_j0, w2c_j1, w2c_j2);
+    w2c_f44(m, w2c_j0, w2c_j1, w2c_j2);
     w2c_j0 = w2c_l2;
     w2c_i0 = (u32)(w2c_j0);
     w2c_i0 = i32_load8_u(m, (u64)(w2c_i0) + 64u);
@@ -52461,7 +52588,7 @@ static u32 w2c_f60(module *m, u64 w2c_p0, u64 w2c_p1) {
     w2c_j1 = w2c_l2;
     w2c_i1 = (u32)(w2c_j1);
     w2c_i1 = i32_load_of_text(m, (u64)(w2c_i1) + 72u);
-    w2c_f46(m, w2c_j0, w2c_i1);
+    w2c_f45(m, w2c_j0, w2c_i1);
     w2c_j0 = w2c_l2;
     w2c_i0 = (u32)(w2c_j0);
     w2c_i0 = i32_load8_u(m, (u64)(w2c_i0));
@@ -52508,7 +52635,7 @@ static u32 w2c_f60(module *m, u64 w2c_p0, u64 w2c_p1) {
     w2c_j0 += w2c_j1;
     w2c_j1 = w2c_p0;
     w2c_j2 = w2c_p1;
-    w2c_f45(m, w2c_j0, w2c_j1, w2c_j2);
+    w2c_f44(m, w2c_j0, w2c_j1, w2c_j2);
     w2c_j0 = w2c_l2;
     w2c_i0 = (u32)(w2c_j0);
     w2c_i0 = i32_load8_u(m, (u64)(w2c_i0) + 64u);
@@ -52530,7 +52657,7 @@ static u32 w2c_f60(module *m, u64 w2c_p0, u64 w2c_p1) {
     w2c_j1 = w2c_l2;
     w2c_i1 = (u32)(w2c_j1);
     w2c_i1 = i32_load_of_text(m, (u64)(w2c_i1) + 72u);
-    w2c_f46(m, w2c_j0, w2c_i1);
+    w2c_f45(m, w2c_j0, w2c_i1);
     w2c_j0 = w2c_l2;
     w2c_i0 = (u32)(w2c_j0);
     w2c_i0 = i32_load8_u(m, (u64)(w2c_i0) + 16u);
@@ -52565,7 +52692,7 @@ static u32 w2c_f60(module *m, u64 w2c_p0, u64 w2c_p1) {
   return w2c_i0;
 }
 
-static void w2c_f61(module *m, u64 w2c_p0, u64 w2c_p1, u64 w2c_p2) {
+static void w2c_f60(module *m, u64 w2c_p0, u64 w2c_p1, u64 w2c_p2) {
   u32 w2c_l9 = 0, w2c_l10 = 0, w2c_l11 = 0, w2c_l12 = 0, w2c_l13 = 0, w2c_l14 = 0, w2c_l15 = 0, w2c_l16 = 0, w2c_l17 = 0, w2c_l18 = 0, w2c_l19 = 0, w2c_l20 = 0;
   u64 w2c_l3 = 0, w2c_l4 = 0, w2c_l5 = 0, w2c_l6 = 0, w2c_l7 = 0, w2c_l8 = 0;
   u32 w2c_i0, w2c_i1, w2c_i2, w2c_i3;
@@ -52600,7 +52727,7 @@ static void w2c_f61(module *m, u64 w2c_p0, u64 w2c_p1, u64 w2c_p2) {
   w2c_j0 = w2c_l3;
   w2c_j1 = w2c_p1;
   w2c_j2 = w2c_p2;
-  w2c_f45(m, w2c_j0, w2c_j1, w2c_j2);
+  w2c_f44(m, w2c_j0, w2c_j1, w2c_j2);
   w2c_j0 = w2c_l3;
   w2c_i0 = (u32)(w2c_j0);
   w2c_i0 = i32_load8_u(m, (u64)(w2c_i0));
@@ -52957,7 +53084,7 @@ static void w2c_f61(module *m, u64 w2c_p0, u64 w2c_p1, u64 w2c_p2) {
     w2c_i0 = 1u;
     w2c_j1 = w2c_l7;
     w2c_j2 = w2c_l6;
-    w2c_i0 = w2c_f67(m, w2c_i0, w2c_j1, w2c_j2);
+    w2c_i0 = w2c_f66(m, w2c_i0, w2c_j1, w2c_j2);
     w2c_i0 = !(w2c_i0);
     if (w2c_i0) {goto w2c_B14;}
     goto w2c_B4;
@@ -52970,7 +53097,7 @@ static void w2c_f61(module *m, u64 w2c_p0, u64 w2c_p1, u64 w2c_p2) {
     w2c_i0 = 0u;
     w2c_j1 = w2c_l7;
     w2c_j2 = w2c_l6;
-    w2c_i0 = w2c_f67(m, w2c_i0, w2c_j1, w2c_j2);
+    w2c_i0 = w2c_f66(m, w2c_i0, w2c_j1, w2c_j2);
     if (w2c_i0) {goto w2c_B4;}
     w2c_B14:;
     w2c_j0 = w2c_l3;
@@ -53003,7 +53130,7 @@ static void w2c_f61(module *m, u64 w2c_p0, u64 w2c_p1, u64 w2c_p2) {
     w2c_j0 += w2c_j1;
     w2c_j1 = w2c_l7;
     w2c_j2 = w2c_l6;
-    w2c_f45(m, w2c_j0, w2c_j1, w2c_j2);
+    w2c_f44(m, w2c_j0, w2c_j1, w2c_j2);
     w2c_j0 = w2c_l3;
     w2c_i0 = (u32)(w2c_j0);
     w2c_i0 = i32_load8_u(m, (u64)(w2c_i0) + 32u);
@@ -53237,7 +53364,7 @@ static void w2c_f61(module *m, u64 w2c_p0, u64 w2c_p1, u64 w2c_p2) {
     w2c_j0 = w2c_l3;
     w2c_j1 = w2c_l7;
     w2c_j2 = w2c_l6;
-    w2c_f45(m, w2c_j0, w2c_j1, w2c_j2);
+    w2c_f44(m, w2c_j0, w2c_j1, w2c_j2);
     w2c_j0 = w2c_l6;
     w2c_l4 = w2c_j0;
     w2c_j0 = w2c_l7;
@@ -53440,7 +53567,7 @@ static void w2c_f61(module *m, u64 w2c_p0, u64 w2c_p1, u64 w2c_p2) {
   m->w2c_g0 = w2c_j0;
 }
 
-static void w2c_f62(module *m, u64 w2c_p0, u64 w2c_p1, u64 w2c_p2, u64 w2c_p3) {
+static void w2c_f61(module *m, u64 w2c_p0, u64 w2c_p1, u64 w2c_p2, u64 w2c_p3) {
   u32 w2c_l16 = 0, w2c_l17 = 0, w2c_l18 = 0, w2c_l19 = 0;
   u64 w2c_l4 = 0, w2c_l5 = 0, w2c_l6 = 0, w2c_l7 = 0, w2c_l8 = 0, w2c_l9 = 0, w2c_l10 = 0, w2c_l11 = 0, w2c_l12 = 0, w2c_l13 = 0, w2c_l14 = 0, w2c_l15 = 0;
   u32 w2c_i0, w2c_i1, w2c_i2, w2c_i3;
@@ -54063,7 +54190,7 @@ static void w2c_f62(module *m, u64 w2c_p0, u64 w2c_p1, u64 w2c_p2, u64 w2c_p3) {
   m->w2c_g0 = w2c_j0;
 }
 
-static void w2c_f63(module *m, u64 w2c_p0, u64 w2c_p1, u64 w2c_p2) {
+static void w2c_f62(module *m, u64 w2c_p0, u64 w2c_p1, u64 w2c_p2) {
   u32 w2c_l9 = 0, w2c_l10 = 0, w2c_l11 = 0, w2c_l12 = 0, w2c_l13 = 0;
   u64 w2c_l3 = 0, w2c_l4 = 0, w2c_l5 = 0, w2c_l6 = 0, w2c_l7 = 0, w2c_l8 = 0;
   u32 w2c_i0, w2c_i1;
@@ -54400,7 +54527,7 @@ static void w2c_f63(module *m, u64 w2c_p0, u64 w2c_p1, u64 w2c_p2) {
   m->w2c_g0 = w2c_j0;
 }
 
-static void w2c_f64(module *m, u64 w2c_p0, u64 w2c_p1, u64 w2c_p2) {
+static void w2c_f63(module *m, u64 w2c_p0, u64 w2c_p1, u64 w2c_p2) {
   u32 w2c_l5 = 0, w2c_l6 = 0, w2c_l7 = 0, w2c_l8 = 0;
   u64 w2c_l3 = 0, w2c_l4 = 0;
   u32 w2c_i0, w2c_i1, w2c_i2, w2c_i3;
@@ -54911,7 +55038,7 @@ static void w2c_f64(module *m, u64 w2c_p0, u64 w2c_p1, u64 w2c_p2) {
   w2c_Bfunc:;
 }
 
-static void w2c_f65(module *m, u64 w2c_p0, u32 w2c_p1, u64 w2c_p2, u32 w2c_p3, u64 w2c_p4, u64 w2c_p5) {
+static void w2c_f64(module *m, u64 w2c_p0, u32 w2c_p1, u64 w2c_p2, u32 w2c_p3, u64 w2c_p4, u64 w2c_p5) {
   u32 w2c_l19 = 0, w2c_l20 = 0, w2c_l21 = 0, w2c_l22 = 0, w2c_l23 = 0;
   u64 w2c_l6 = 0, w2c_l7 = 0, w2c_l8 = 0, w2c_l9 = 0, w2c_l10 = 0, w2c_l11 = 0, w2c_l12 = 0, w2c_l13 = 0, w2c_l14 = 0, w2c_l15 = 0, w2c_l16 = 0, w2c_l17 = 0, w2c_l18 = 0;
   u32 w2c_i0, w2c_i1, w2c_i2, w2c_i3, w2c_i4;
@@ -54947,7 +55074,7 @@ static void w2c_f65(module *m, u64 w2c_p0, u32 w2c_p1, u64 w2c_p2, u32 w2c_p3, u
   w2c_j0 &= w2c_j1;
   w2c_j1 = 5ull;
   w2c_j0 <<= (w2c_j1 & 63);
-  w2c_j1 = 68712ull;
+  w2c_j1 = 68724ull;
   w2c_j0 += w2c_j1;
   w2c_l8 = w2c_j0;
   w2c_j0 = w2c_l6;
@@ -55069,7 +55196,7 @@ static void w2c_f65(module *m, u64 w2c_p0, u32 w2c_p1, u64 w2c_p2, u32 w2c_p3, u
     w2c_j0 += w2c_j1;
     w2c_j1 = w2c_p4;
     w2c_j2 = w2c_p5;
-    w2c_f64(m, w2c_j0, w2c_j1, w2c_j2);
+    w2c_f63(m, w2c_j0, w2c_j1, w2c_j2);
     w2c_j0 = w2c_l6;
     w2c_i0 = (u32)(w2c_j0);
     w2c_i0 = i32_load8_u(m, (u64)(w2c_i0) + 704u);
@@ -55238,13 +55365,13 @@ static void w2c_f65(module *m, u64 w2c_p0, u32 w2c_p1, u64 w2c_p2, u32 w2c_p3, u
       w2c_j1 = 4ull;
       w2c_j0 <<= (w2c_j1 & 63);
       w2c_l18 = w2c_j0;
-      w2c_j1 = 68848ull;
+      w2c_j1 = 68864ull;
       w2c_j0 += w2c_j1;
       w2c_i0 = (u32)(w2c_j0);
       w2c_j0 = i64_load(m, (u64)(w2c_i0));
       w2c_l13 = w2c_j0;
       w2c_j0 = w2c_l18;
-      w2c_j1 = 68856ull;
+      w2c_j1 = 68872ull;
       w2c_j0 += w2c_j1;
       w2c_i0 = (u32)(w2c_j0);
       w2c_j0 = i64_load(m, (u64)(w2c_i0));
@@ -55739,13 +55866,13 @@ static void w2c_f65(module *m, u64 w2c_p0, u32 w2c_p1, u64 w2c_p2, u32 w2c_p3, u
       w2c_j1 = 4ull;
       w2c_j0 <<= (w2c_j1 & 63);
       w2c_l18 = w2c_j0;
-      w2c_j1 = 68848ull;
+      w2c_j1 = 68864ull;
       w2c_j0 += w2c_j1;
       w2c_i0 = (u32)(w2c_j0);
       w2c_j0 = i64_load(m, (u64)(w2c_i0));
       w2c_l12 = w2c_j0;
       w2c_j0 = w2c_l18;
-      w2c_j1 = 68856ull;
+      w2c_j1 = 68872ull;
       w2c_j0 += w2c_j1;
       w2c_i0 = (u32)(w2c_j0);
       w2c_j0 = i64_load(m, (u64)(w2c_i0));
@@ -56065,7 +56192,7 @@ static void w2c_f65(module *m, u64 w2c_p0, u32 w2c_p1, u64 w2c_p2, u32 w2c_p3, u
   w2c_Bfunc:;
 }
 
-static void w2c_f66(module *m, u64 w2c_p0, u32 w2c_p1, u64 w2c_p2, u64 w2c_p3, u32 w2c_p4, u32 w2c_p5) {
+static void w2c_f65(module *m, u64 w2c_p0, u32 w2c_p1, u64 w2c_p2, u64 w2c_p3, u32 w2c_p4, u32 w2c_p5) {
   u64 w2c_l6 = 0, w2c_l7 = 0, w2c_l8 = 0, w2c_l9 = 0, w2c_l10 = 0, w2c_l11 = 0, w2c_l12 = 0, w2c_l13 = 0, w2c_l14 = 0, w2c_l15 = 0, w2c_l16 = 0, w2c_l17 = 0, w2c_l18 = 0;
   u32 w2c_i0, w2c_i1, w2c_i2, w2c_i3, w2c_i4, w2c_i5, w2c_i6;
   u64 w2c_j0, w2c_j1, w2c_j2, w2c_j3, w2c_j4, w2c_j5, w2c_j6, w2c_j7;
@@ -56093,7 +56220,7 @@ static void w2c_f66(module *m, u64 w2c_p0, u32 w2c_p1, u64 w2c_p2, u64 w2c_p3, u
   w2c_j2 = 1ull;
   w2c_j1 <<= (w2c_j2 & 63);
   w2c_j0 += w2c_j1;
-  w2c_j1 = 68712ull;
+  w2c_j1 = 68724ull;
   w2c_j0 += w2c_j1;
   w2c_i0 = (u32)(w2c_j0);
   w2c_j0 = i64_load16_u(m, (u64)(w2c_i0));
@@ -56106,14 +56233,14 @@ static void w2c_f66(module *m, u64 w2c_p0, u32 w2c_p1, u64 w2c_p2, u64 w2c_p3, u
   w2c_j2 = 4ull;
   w2c_j1 <<= (w2c_j2 & 63);
   w2c_l6 = w2c_j1;
-  w2c_j2 = 68856ull;
+  w2c_j2 = 68872ull;
   w2c_j1 += w2c_j2;
   w2c_i1 = (u32)(w2c_j1);
   w2c_j1 = i64_load(m, (u64)(w2c_i1));
   w2c_l8 = w2c_j1;
   w2c_j2 = w2c_l8;
   w2c_j3 = w2c_l6;
-  w2c_j4 = 68848ull;
+  w2c_j4 = 68864ull;
   w2c_j3 += w2c_j4;
   w2c_i3 = (u32)(w2c_j3);
   w2c_j3 = i64_load(m, (u64)(w2c_i3));
@@ -56400,7 +56527,7 @@ static void w2c_f66(module *m, u64 w2c_p0, u32 w2c_p1, u64 w2c_p2, u64 w2c_p3, u
   m->w2c_g0 = w2c_j0;
 }
 
-static u32 w2c_f67(module *m, u32 w2c_p0, u64 w2c_p1, u64 w2c_p2) {
+static u32 w2c_f66(module *m, u32 w2c_p0, u64 w2c_p1, u64 w2c_p2) {
   u32 w2c_l5 = 0, w2c_l6 = 0;
   u64 w2c_l3 = 0, w2c_l4 = 0;
   u32 w2c_i0, w2c_i1, w2c_i2, w2c_i3;
@@ -56435,7 +56562,7 @@ static u32 w2c_f67(module *m, u32 w2c_p0, u64 w2c_p1, u64 w2c_p2) {
   w2c_j0 = w2c_l3;
   w2c_j1 = w2c_p1;
   w2c_j2 = w2c_p2;
-  w2c_f45(m, w2c_j0, w2c_j1, w2c_j2);
+  w2c_f44(m, w2c_j0, w2c_j1, w2c_j2);
   w2c_j0 = w2c_l3;
   w2c_i0 = (u32)(w2c_j0);
   w2c_i0 = i32_load8_u(m, (u64)(w2c_i0));
@@ -56534,7 +56661,7 @@ static u32 w2c_f67(module *m, u32 w2c_p0, u64 w2c_p1, u64 w2c_p2) {
     w2c_j0 = w2c_l3;
     w2c_j1 = w2c_p1;
     w2c_j2 = w2c_p2;
-    w2c_f45(m, w2c_j0, w2c_j1, w2c_j2);
+    w2c_f44(m, w2c_j0, w2c_j1, w2c_j2);
     w2c_j0 = w2c_l3;
     w2c_i0 = (u32)(w2c_j0);
     w2c_i0 = i32_load8_u(m, (u64)(w2c_i0));
@@ -56556,7 +56683,7 @@ static u32 w2c_f67(module *m, u32 w2c_p0, u64 w2c_p1, u64 w2c_p2) {
   return w2c_i0;
 }
 
-static u32 w2c_f68(module *m, u64 w2c_p0, u64 w2c_p1, u32 w2c_p2, u32 w2c_p3, u32 w2c_p4, u64 w2c_p5) {
+static u32 w2c_f67(module *m, u64 w2c_p0, u64 w2c_p1, u32 w2c_p2, u32 w2c_p3, u32 w2c_p4, u64 w2c_p5) {
   u32 w2c_l12 = 0, w2c_l13 = 0, w2c_l14 = 0;
   u64 w2c_l6 = 0, w2c_l7 = 0, w2c_l8 = 0, w2c_l9 = 0, w2c_l10 = 0, w2c_l11 = 0;
   u32 w2c_i0, w2c_i1, w2c_i2, w2c_i3, w2c_i4;
@@ -57175,7 +57302,7 @@ static u32 w2c_f68(module *m, u64 w2c_p0, u64 w2c_p1, u32 w2c_p2, u32 w2c_p3, u3
   w2c_j2 = w2c_l8;
   w2c_j3 = w2c_l6;
   w2c_j4 = w2c_l9;
-  w2c_f69(m, w2c_j0, w2c_i1, w2c_j2, w2c_j3, w2c_j4);
+  w2c_f68(m, w2c_j0, w2c_i1, w2c_j2, w2c_j3, w2c_j4);
   w2c_i0 = 2u;
   w2c_p3 = w2c_i0;
   w2c_i0 = 0u;
@@ -57192,7 +57319,7 @@ static u32 w2c_f68(module *m, u64 w2c_p0, u64 w2c_p1, u32 w2c_p2, u32 w2c_p3, u3
   w2c_j2 = w2c_l10;
   w2c_j3 = w2c_l8;
   w2c_j4 = w2c_l11;
-  w2c_f69(m, w2c_j0, w2c_i1, w2c_j2, w2c_j3, w2c_j4);
+  w2c_f68(m, w2c_j0, w2c_i1, w2c_j2, w2c_j3, w2c_j4);
   w2c_i0 = 3u;
   w2c_i1 = 2u;
   w2c_i2 = w2c_l13;
@@ -57218,8 +57345,8 @@ static u32 w2c_f68(module *m, u64 w2c_p0, u64 w2c_p1, u32 w2c_p2, u32 w2c_p3, u3
   w2c_j1 &= w2c_j2;
   w2c_j2 = 5ull;
   w2c_j1 <<= (w2c_j2 & 63);
-  w2c_j2 = 69504ull;
-  w2c_j3 = 69488ull;
+  w2c_j2 = 69520ull;
+  w2c_j3 = 69504ull;
   w2c_i4 = w2c_l13;
   w2c_j2 = w2c_i4 ? w2c_j2 : w2c_j3;
   w2c_j1 += w2c_j2;
@@ -57423,7 +57550,7 @@ static u32 w2c_f68(module *m, u64 w2c_p0, u64 w2c_p1, u32 w2c_p2, u32 w2c_p3, u3
   w2c_j1 = w2c_l8;
   w2c_j2 = w2c_l6;
   w2c_j3 = w2c_l9;
-  w2c_f62(m, w2c_j0, w2c_j1, w2c_j2, w2c_j3);
+  w2c_f61(m, w2c_j0, w2c_j1, w2c_j2, w2c_j3);
   w2c_i0 = 2u;
   w2c_p3 = w2c_i0;
   w2c_i0 = 0u;
@@ -57439,7 +57566,7 @@ static u32 w2c_f68(module *m, u64 w2c_p0, u64 w2c_p1, u32 w2c_p2, u32 w2c_p3, u3
   w2c_j1 = w2c_l10;
   w2c_j2 = w2c_l8;
   w2c_j3 = w2c_l11;
-  w2c_f62(m, w2c_j0, w2c_j1, w2c_j2, w2c_j3);
+  w2c_f61(m, w2c_j0, w2c_j1, w2c_j2, w2c_j3);
   w2c_i0 = 3u;
   w2c_i1 = 2u;
   w2c_i2 = w2c_p4;
@@ -57465,8 +57592,8 @@ static u32 w2c_f68(module *m, u64 w2c_p0, u64 w2c_p1, u32 w2c_p2, u32 w2c_p3, u3
   w2c_j1 &= w2c_j2;
   w2c_j2 = 5ull;
   w2c_j1 <<= (w2c_j2 & 63);
-  w2c_j2 = 69504ull;
-  w2c_j3 = 69488ull;
+  w2c_j2 = 69520ull;
+  w2c_j3 = 69504ull;
   w2c_i4 = w2c_p4;
   w2c_j2 = w2c_i4 ? w2c_j2 : w2c_j3;
   w2c_j1 += w2c_j2;
@@ -57743,7 +57870,7 @@ static u32 w2c_f68(module *m, u64 w2c_p0, u64 w2c_p1, u32 w2c_p2, u32 w2c_p3, u3
   return w2c_i0;
 }
 
-static void w2c_f69(module *m, u64 w2c_p0, u32 w2c_p1, u64 w2c_p2, u64 w2c_p3, u64 w2c_p4) {
+static void w2c_f68(module *m, u64 w2c_p0, u32 w2c_p1, u64 w2c_p2, u64 w2c_p3, u64 w2c_p4) {
   u32 w2c_l18 = 0, w2c_l19 = 0, w2c_l20 = 0, w2c_l21 = 0, w2c_l22 = 0, w2c_l23 = 0;
   u64 w2c_l5 = 0, w2c_l6 = 0, w2c_l7 = 0, w2c_l8 = 0, w2c_l9 = 0, w2c_l10 = 0, w2c_l11 = 0, w2c_l12 = 0, w2c_l13 = 0, w2c_l14 = 0, w2c_l15 = 0, w2c_l16 = 0, w2c_l17 = 0;
   u32 w2c_i0, w2c_i1, w2c_i2, w2c_i3, w2c_i4, w2c_i5;
@@ -57798,7 +57925,7 @@ static void w2c_f69(module *m, u64 w2c_p0, u32 w2c_p1, u64 w2c_p2, u64 w2c_p3, u
   w2c_j0 &= w2c_j1;
   w2c_j1 = 5ull;
   w2c_j0 <<= (w2c_j1 & 63);
-  w2c_j1 = 68712ull;
+  w2c_j1 = 68724ull;
   w2c_j0 += w2c_j1;
   w2c_l8 = w2c_j0;
   w2c_j0 = w2c_l6;
@@ -57964,7 +58091,7 @@ static void w2c_f69(module *m, u64 w2c_p0, u32 w2c_p1, u64 w2c_p2, u64 w2c_p3, u
     w2c_j1 = 3ull;
     w2c_j0 <<= (w2c_j1 & 63);
     w2c_i0 = (u32)(w2c_j0);
-    w2c_j0 = i64_load(m, (u64)(w2c_i0) + 69808u);
+    w2c_j0 = i64_load(m, (u64)(w2c_i0) + 69824u);
     w2c_i1 = w2c_l18;
     w2c_j1 = (u64)(w2c_i1);
     w2c_j2 = 255ull;
@@ -58136,7 +58263,7 @@ static void w2c_f69(module *m, u64 w2c_p0, u32 w2c_p1, u64 w2c_p2, u64 w2c_p3, u
       w2c_j2 = 3ull;
       w2c_j1 <<= (w2c_j2 & 63);
       w2c_i1 = (u32)(w2c_j1);
-      w2c_j1 = i64_load(m, (u64)(w2c_i1) + 69808u);
+      w2c_j1 = i64_load(m, (u64)(w2c_i1) + 69824u);
       w2c_i2 = w2c_l18;
       w2c_j2 = (u64)(w2c_i2);
       w2c_j3 = 255ull;
@@ -58212,13 +58339,13 @@ static void w2c_f69(module *m, u64 w2c_p0, u32 w2c_p1, u64 w2c_p2, u64 w2c_p3, u
     w2c_j1 = 4ull;
     w2c_j0 <<= (w2c_j1 & 63);
     w2c_l16 = w2c_j0;
-    w2c_j1 = 68856ull;
+    w2c_j1 = 68872ull;
     w2c_j0 += w2c_j1;
     w2c_i0 = (u32)(w2c_j0);
     w2c_j0 = i64_load(m, (u64)(w2c_i0));
     w2c_l17 = w2c_j0;
     w2c_j0 = w2c_l16;
-    w2c_j1 = 68848ull;
+    w2c_j1 = 68864ull;
     w2c_j0 += w2c_j1;
     w2c_i0 = (u32)(w2c_j0);
     w2c_j0 = i64_load(m, (u64)(w2c_i0));
@@ -58624,7 +58751,7 @@ static void w2c_f69(module *m, u64 w2c_p0, u32 w2c_p1, u64 w2c_p2, u64 w2c_p3, u
   w2c_j1 = 3ull;
   w2c_j0 <<= (w2c_j1 & 63);
   w2c_i0 = (u32)(w2c_j0);
-  w2c_j0 = i64_load(m, (u64)(w2c_i0) + 69808u);
+  w2c_j0 = i64_load(m, (u64)(w2c_i0) + 69824u);
   w2c_i1 = w2c_l18;
   w2c_j1 = (u64)(w2c_i1);
   w2c_j2 = 255ull;
@@ -58785,7 +58912,7 @@ static void w2c_f69(module *m, u64 w2c_p0, u32 w2c_p1, u64 w2c_p2, u64 w2c_p3, u
     w2c_j2 = 3ull;
     w2c_j1 <<= (w2c_j2 & 63);
     w2c_i1 = (u32)(w2c_j1);
-    w2c_j1 = i64_load(m, (u64)(w2c_i1) + 69808u);
+    w2c_j1 = i64_load(m, (u64)(w2c_i1) + 69824u);
     w2c_i2 = w2c_l18;
     w2c_j2 = (u64)(w2c_i2);
     w2c_j3 = 255ull;
@@ -58887,7 +59014,7 @@ static void w2c_f69(module *m, u64 w2c_p0, u32 w2c_p1, u64 w2c_p2, u64 w2c_p3, u
   w2c_j2 = 3ull;
   w2c_j1 <<= (w2c_j2 & 63);
   w2c_i1 = (u32)(w2c_j1);
-  w2c_j1 = i64_load(m, (u64)(w2c_i1) + 69808u);
+  w2c_j1 = i64_load(m, (u64)(w2c_i1) + 69824u);
   w2c_j2 = w2c_l5;
   w2c_j1 *= w2c_j2;
   w2c_l5 = w2c_j1;
@@ -58931,13 +59058,13 @@ static void w2c_f69(module *m, u64 w2c_p0, u32 w2c_p1, u64 w2c_p2, u64 w2c_p3, u
   w2c_j1 = 4ull;
   w2c_j0 <<= (w2c_j1 & 63);
   w2c_l15 = w2c_j0;
-  w2c_j1 = 68856ull;
+  w2c_j1 = 68872ull;
   w2c_j0 += w2c_j1;
   w2c_i0 = (u32)(w2c_j0);
   w2c_j0 = i64_load(m, (u64)(w2c_i0));
   w2c_l16 = w2c_j0;
   w2c_j0 = w2c_l15;
-  w2c_j1 = 68848ull;
+  w2c_j1 = 68864ull;
   w2c_j0 += w2c_j1;
   w2c_i0 = (u32)(w2c_j0);
   w2c_j0 = i64_load(m, (u64)(w2c_i0));
@@ -59523,7 +59650,7 @@ static void w2c_f69(module *m, u64 w2c_p0, u32 w2c_p1, u64 w2c_p2, u64 w2c_p3, u
   w2c_j0 += w2c_j1;
   w2c_j1 = w2c_p3;
   w2c_j2 = w2c_l5;
-  w2c_f64(m, w2c_j0, w2c_j1, w2c_j2);
+  w2c_f63(m, w2c_j0, w2c_j1, w2c_j2);
   w2c_j0 = w2c_l6;
   w2c_i0 = (u32)(w2c_j0);
   w2c_i0 = i32_load8_u(m, (u64)(w2c_i0) + 200u);
@@ -59658,7 +59785,7 @@ static void w2c_f69(module *m, u64 w2c_p0, u32 w2c_p1, u64 w2c_p2, u64 w2c_p3, u
   w2c_j0 += w2c_j1;
   w2c_j1 = w2c_l12;
   w2c_j2 = w2c_p4;
-  w2c_f64(m, w2c_j0, w2c_j1, w2c_j2);
+  w2c_f63(m, w2c_j0, w2c_j1, w2c_j2);
   w2c_j0 = w2c_l6;
   w2c_i0 = (u32)(w2c_j0);
   w2c_i0 = i32_load8_u(m, (u64)(w2c_i0) + 200u);
@@ -59710,7 +59837,7 @@ static void w2c_f69(module *m, u64 w2c_p0, u32 w2c_p1, u64 w2c_p2, u64 w2c_p3, u
   w2c_i3 = w2c_l18;
   w2c_j4 = w2c_l12;
   w2c_j5 = w2c_p4;
-  w2c_f65(m, w2c_j0, w2c_i1, w2c_j2, w2c_i3, w2c_j4, w2c_j5);
+  w2c_f64(m, w2c_j0, w2c_i1, w2c_j2, w2c_i3, w2c_j4, w2c_j5);
   w2c_j0 = w2c_l6;
   w2c_i0 = (u32)(w2c_j0);
   w2c_j0 = i64_load(m, (u64)(w2c_i0) + 144u);
@@ -59733,7 +59860,7 @@ static void w2c_f69(module *m, u64 w2c_p0, u32 w2c_p1, u64 w2c_p2, u64 w2c_p3, u
   w2c_j3 = i64_load(m, (u64)(w2c_i3) + 152u);
   w2c_i4 = w2c_l23;
   w2c_i5 = w2c_l21;
-  w2c_f66(m, w2c_j0, w2c_i1, w2c_j2, w2c_j3, w2c_i4, w2c_i5);
+  w2c_f65(m, w2c_j0, w2c_i1, w2c_j2, w2c_j3, w2c_i4, w2c_i5);
   w2c_j0 = 0ull;
   w2c_j1 = w2c_l6;
   w2c_i1 = (u32)(w2c_j1);
@@ -59764,7 +59891,7 @@ static void w2c_f69(module *m, u64 w2c_p0, u32 w2c_p1, u64 w2c_p2, u64 w2c_p3, u
   w2c_i0 = (u32)(w2c_j0);
   w2c_j1 = w2c_l12;
   w2c_j2 = w2c_p4;
-  w2c_j1 = w2c_f54(m, w2c_j1, w2c_j2);
+  w2c_j1 = w2c_f53(m, w2c_j1, w2c_j2);
   w2c_j2 = w2c_p2;
   w2c_j1 += w2c_j2;
   w2c_j2 = 1ull;
@@ -59789,7 +59916,7 @@ static void w2c_f69(module *m, u64 w2c_p0, u32 w2c_p1, u64 w2c_p2, u64 w2c_p3, u
   w2c_i3 = w2c_l18;
   w2c_j4 = w2c_p3;
   w2c_j5 = w2c_l5;
-  w2c_f65(m, w2c_j0, w2c_i1, w2c_j2, w2c_i3, w2c_j4, w2c_j5);
+  w2c_f64(m, w2c_j0, w2c_i1, w2c_j2, w2c_i3, w2c_j4, w2c_j5);
   w2c_j0 = w2c_l6;
   w2c_i0 = (u32)(w2c_j0);
   w2c_j0 = i64_load(m, (u64)(w2c_i0) + 184u);
@@ -59882,7 +60009,7 @@ static void w2c_f69(module *m, u64 w2c_p0, u32 w2c_p1, u64 w2c_p2, u64 w2c_p3, u
   m->w2c_g0 = w2c_j0;
 }
 
-static u32 w2c_f70(module *m, u64 w2c_p0, u64 w2c_p1, u32 w2c_p2, u32 w2c_p3, u32 w2c_p4, u64 w2c_p5) {
+static u32 w2c_f69(module *m, u64 w2c_p0, u64 w2c_p1, u32 w2c_p2, u32 w2c_p3, u32 w2c_p4, u64 w2c_p5) {
   u64 w2c_l6 = 0, w2c_l7 = 0, w2c_l8 = 0, w2c_l9 = 0;
   u32 w2c_i0, w2c_i1, w2c_i2;
   u64 w2c_j0, w2c_j1, w2c_j2, w2c_j3, w2c_j4;
@@ -59923,7 +60050,7 @@ static u32 w2c_f70(module *m, u64 w2c_p0, u64 w2c_p1, u32 w2c_p2, u32 w2c_p3, u3
   w2c_j1 = 0ull;
   w2c_j2 = w2c_p0;
   w2c_j3 = w2c_p1;
-  w2c_f62(m, w2c_j0, w2c_j1, w2c_j2, w2c_j3);
+  w2c_f61(m, w2c_j0, w2c_j1, w2c_j2, w2c_j3);
   goto w2c_B3;
   w2c_B4:;
   w2c_j0 = w2c_l7;
@@ -59933,7 +60060,7 @@ static u32 w2c_f70(module *m, u64 w2c_p0, u64 w2c_p1, u32 w2c_p2, u32 w2c_p3, u3
   w2c_j2 = 0ull;
   w2c_j3 = w2c_p0;
   w2c_j4 = w2c_p1;
-  w2c_f69(m, w2c_j0, w2c_i1, w2c_j2, w2c_j3, w2c_j4);
+  w2c_f68(m, w2c_j0, w2c_i1, w2c_j2, w2c_j3, w2c_j4);
   w2c_B3:;
   w2c_j0 = w2c_l7;
   w2c_i0 = (u32)(w2c_j0);
@@ -59951,12 +60078,12 @@ static u32 w2c_f70(module *m, u64 w2c_p0, u64 w2c_p1, u32 w2c_p2, u32 w2c_p3, u3
   w2c_j0 <<= (w2c_j1 & 63);
   w2c_l6 = w2c_j0;
   w2c_i0 = (u32)(w2c_j0);
-  w2c_j0 = i64_load(m, (u64)(w2c_i0) + 69488u);
+  w2c_j0 = i64_load(m, (u64)(w2c_i0) + 69504u);
   w2c_j1 = w2c_l8;
   w2c_i0 = w2c_j0 >= w2c_j1;
   w2c_j1 = w2c_l6;
   w2c_i1 = (u32)(w2c_j1);
-  w2c_j1 = i64_load(m, (u64)(w2c_i1) + 69496u);
+  w2c_j1 = i64_load(m, (u64)(w2c_i1) + 69512u);
   w2c_p1 = w2c_j1;
   w2c_j2 = w2c_l7;
   w2c_i2 = (u32)(w2c_j2);
@@ -60184,7 +60311,7 @@ static u32 w2c_f70(module *m, u64 w2c_p0, u64 w2c_p1, u32 w2c_p2, u32 w2c_p3, u3
   return w2c_i0;
 }
 
-static u32 w2c_f71(module *m, u64 w2c_p0, u64 w2c_p1, u32 w2c_p2, u64 w2c_p3) {
+static u32 w2c_f70(module *m, u64 w2c_p0, u64 w2c_p1, u32 w2c_p2, u64 w2c_p3) {
   u32 w2c_l5 = 0, w2c_l6 = 0;
   u64 w2c_l4 = 0;
   u32 w2c_i0, w2c_i1, w2c_i2, w2c_i3, w2c_i4;
@@ -60206,7 +60333,7 @@ static u32 w2c_f71(module *m, u64 w2c_p0, u64 w2c_p1, u32 w2c_p2, u64 w2c_p3) {
   w2c_i1 = w2c_p2;
   w2c_j2 = w2c_p0;
   w2c_j3 = w2c_p1;
-  w2c_f72(m, w2c_j0, w2c_i1, w2c_j2, w2c_j3);
+  w2c_f71(m, w2c_j0, w2c_i1, w2c_j2, w2c_j3);
   w2c_j0 = w2c_l4;
   w2c_i0 = (u32)(w2c_j0);
   w2c_i0 = i32_load8_u(m, (u64)(w2c_i0) + 9u);
@@ -60227,7 +60354,7 @@ static u32 w2c_f71(module *m, u64 w2c_p0, u64 w2c_p1, u32 w2c_p2, u64 w2c_p3) {
   w2c_i3 = w2c_l6;
   w2c_i4 = w2c_l5;
   w2c_j5 = w2c_p3;
-  w2c_i0 = w2c_f68(m, w2c_j0, w2c_j1, w2c_i2, w2c_i3, w2c_i4, w2c_j5);
+  w2c_i0 = w2c_f67(m, w2c_j0, w2c_j1, w2c_i2, w2c_i3, w2c_i4, w2c_j5);
   w2c_p2 = w2c_i0;
   goto w2c_B1;
   w2c_B2:;
@@ -60237,7 +60364,7 @@ static u32 w2c_f71(module *m, u64 w2c_p0, u64 w2c_p1, u32 w2c_p2, u64 w2c_p3) {
   w2c_i3 = w2c_l6;
   w2c_i4 = w2c_l5;
   w2c_j5 = w2c_p3;
-  w2c_i0 = w2c_f70(m, w2c_j0, w2c_j1, w2c_i2, w2c_i3, w2c_i4, w2c_j5);
+  w2c_i0 = w2c_f69(m, w2c_j0, w2c_j1, w2c_i2, w2c_i3, w2c_i4, w2c_j5);
   w2c_p2 = w2c_i0;
   w2c_B1:;
   w2c_j0 = w2c_l4;
@@ -60252,7 +60379,7 @@ static u32 w2c_f71(module *m, u64 w2c_p0, u64 w2c_p1, u32 w2c_p2, u64 w2c_p3) {
   return w2c_i0;
 }
 
-static void w2c_f72(module *m, u64 w2c_p0, u32 w2c_p1, u64 w2c_p2, u64 w2c_p3) {
+static void w2c_f71(module *m, u64 w2c_p0, u32 w2c_p1, u64 w2c_p2, u64 w2c_p3) {
   u32 w2c_l7 = 0, w2c_l8 = 0, w2c_l9 = 0, w2c_l10 = 0;
   u64 w2c_l4 = 0, w2c_l5 = 0, w2c_l6 = 0;
   u32 w2c_i0, w2c_i1, w2c_i2, w2c_i3;
@@ -60781,7 +60908,7 @@ static void w2c_f72(module *m, u64 w2c_p0, u32 w2c_p1, u64 w2c_p2, u64 w2c_p3) {
   m->w2c_g0 = w2c_j0;
 }
 
-static u32 w2c_f73(module *m, u64 w2c_p0, u64 w2c_p1) {
+static u32 w2c_f72(module *m, u64 w2c_p0, u64 w2c_p1) {
   u32 w2c_l6 = 0, w2c_l7 = 0, w2c_l8 = 0, w2c_l9 = 0, w2c_l10 = 0, w2c_l11 = 0, w2c_l12 = 0;
   u64 w2c_l2 = 0, w2c_l3 = 0, w2c_l4 = 0, w2c_l5 = 0;
   u32 w2c_i0, w2c_i1, w2c_i2, w2c_i3;
@@ -61434,7 +61561,7 @@ static u32 w2c_f73(module *m, u64 w2c_p0, u64 w2c_p1) {
   goto w2c_B0;
   w2c_B8:;
   w2c_i0 = w2c_l8;
-  w2c_i0 = w2c_f74(m, w2c_i0);
+  w2c_i0 = w2c_f73(m, w2c_i0);
   w2c_i0 = !(w2c_i0);
   if (w2c_i0) {goto w2c_B41;}
   w2c_i0 = 1u;
@@ -61523,7 +61650,7 @@ static u32 w2c_f73(module *m, u64 w2c_p0, u64 w2c_p1) {
   w2c_j1 = w2c_p0;
   w2c_j2 = w2c_l4;
   w2c_j3 = w2c_p1;
-  w2c_i0 = w2c_f75(m, w2c_j0, w2c_j1, w2c_j2, w2c_j3);
+  w2c_i0 = w2c_f74(m, w2c_j0, w2c_j1, w2c_j2, w2c_j3);
   if (w2c_i0) {goto w2c_B46;}
   w2c_i0 = 1u;
   w2c_l6 = w2c_i0;
@@ -61593,7 +61720,7 @@ static u32 w2c_f73(module *m, u64 w2c_p0, u64 w2c_p1) {
   w2c_j1 = w2c_p0;
   w2c_j2 = w2c_l4;
   w2c_j3 = w2c_p1;
-  w2c_i0 = w2c_f75(m, w2c_j0, w2c_j1, w2c_j2, w2c_j3);
+  w2c_i0 = w2c_f74(m, w2c_j0, w2c_j1, w2c_j2, w2c_j3);
   if (w2c_i0) {goto w2c_B0;}
   w2c_j0 = w2c_l2;
   w2c_i0 = (u32)(w2c_j0);
@@ -61999,7 +62126,7 @@ static u32 w2c_f73(module *m, u64 w2c_p0, u64 w2c_p1) {
   return w2c_i0;
 }
 
-static u32 w2c_f74(module *m, u32 w2c_p0) {
+static u32 w2c_f73(module *m, u32 w2c_p0) {
   u32 w2c_l1 = 0;
   u32 w2c_i0, w2c_i1;
   u64 w2c_j0, w2c_j1;
@@ -62189,7 +62316,7 @@ static u32 w2c_f74(module *m, u32 w2c_p0) {
   return w2c_i0;
 }
 
-static u32 w2c_f75(module *m, u64 w2c_p0, u64 w2c_p1, u64 w2c_p2, u64 w2c_p3) {
+static u32 w2c_f74(module *m, u64 w2c_p0, u64 w2c_p1, u64 w2c_p2, u64 w2c_p3) {
   u32 w2c_l5 = 0, w2c_l6 = 0, w2c_l7 = 0, w2c_l8 = 0, w2c_l9 = 0;
   u64 w2c_l4 = 0;
   u32 w2c_i0, w2c_i1, w2c_i2, w2c_i3;
@@ -62376,7 +62503,7 @@ static u32 w2c_f75(module *m, u64 w2c_p0, u64 w2c_p1, u64 w2c_p2, u64 w2c_p3) {
   w2c_i0 = w2c_i0 == w2c_i1;
   if (w2c_i0) {goto w2c_B1;}
   w2c_i0 = w2c_l6;
-  w2c_i0 = w2c_f74(m, w2c_i0);
+  w2c_i0 = w2c_f73(m, w2c_i0);
   if (w2c_i0) {goto w2c_B1;}
   w2c_i0 = w2c_l6;
   w2c_i1 = 26376u;
@@ -62450,7 +62577,7 @@ static u32 w2c_f75(module *m, u64 w2c_p0, u64 w2c_p1, u64 w2c_p2, u64 w2c_p3) {
   return w2c_i0;
 }
 
-static u32 w2c_f76(module *m, u64 w2c_p0, u64 w2c_p1) {
+static u32 w2c_f75(module *m, u64 w2c_p0, u64 w2c_p1) {
   u32 w2c_l8 = 0, w2c_l9 = 0, w2c_l10 = 0, w2c_l11 = 0;
   u64 w2c_l2 = 0, w2c_l3 = 0, w2c_l4 = 0, w2c_l5 = 0, w2c_l6 = 0, w2c_l7 = 0;
   u32 w2c_i0, w2c_i1, w2c_i2, w2c_i3;
@@ -62643,7 +62770,7 @@ static u32 w2c_f76(module *m, u64 w2c_p0, u64 w2c_p1) {
   w2c_j1 = w2c_l3;
   w2c_j2 = 8ull;
   w2c_j1 += w2c_j2;
-  w2c_i0 = w2c_f77(m, w2c_j0, w2c_j1);
+  w2c_i0 = w2c_f76(m, w2c_j0, w2c_j1);
   w2c_i1 = 1u;
   w2c_i0 ^= w2c_i1;
   w2c_l8 = w2c_i0;
@@ -62660,7 +62787,7 @@ static u32 w2c_f76(module *m, u64 w2c_p0, u64 w2c_p1) {
   return w2c_i0;
 }
 
-static u32 w2c_f77(module *m, u64 w2c_p0, u64 w2c_p1) {
+static u32 w2c_f76(module *m, u64 w2c_p0, u64 w2c_p1) {
   u32 w2c_l10 = 0, w2c_l11 = 0, w2c_l12 = 0, w2c_l13 = 0, w2c_l14 = 0, w2c_l15 = 0, w2c_l16 = 0, w2c_l17 = 0, w2c_l18 = 0;
   u64 w2c_l2 = 0, w2c_l3 = 0, w2c_l4 = 0, w2c_l5 = 0, w2c_l6 = 0, w2c_l7 = 0, w2c_l8 = 0, w2c_l9 = 0;
   u32 w2c_i0, w2c_i1, w2c_i2, w2c_i3;
@@ -65306,7 +65433,7 @@ static u32 w2c_f77(module *m, u64 w2c_p0, u64 w2c_p1) {
   w2c_j1 = w2c_l6;
   w2c_j2 = w2c_l5;
   w2c_i3 = w2c_l14;
-  w2c_f44(m, w2c_j0, w2c_j1, w2c_j2, w2c_i3);
+  w2c_f43(m, w2c_j0, w2c_j1, w2c_j2, w2c_i3);
   w2c_j0 = w2c_l2;
   w2c_i0 = (u32)(w2c_j0);
   w2c_i0 = i32_load8_u(m, (u64)(w2c_i0) + 128u);
@@ -65318,11 +65445,11 @@ static u32 w2c_f77(module *m, u64 w2c_p0, u64 w2c_p1) {
   w2c_B134:;
   w2c_j0 = w2c_l6;
   w2c_j1 = w2c_l5;
-  w2c_i0 = w2c_f78(m, w2c_j0, w2c_j1);
+  w2c_i0 = w2c_f77(m, w2c_j0, w2c_j1);
   if (w2c_i0) {goto w2c_B136;}
   w2c_j0 = w2c_l6;
   w2c_j1 = w2c_l5;
-  w2c_i0 = w2c_f79(m, w2c_j0, w2c_j1);
+  w2c_i0 = w2c_f78(m, w2c_j0, w2c_j1);
   w2c_l13 = w2c_i0;
   w2c_i0 = w2c_l11;
   w2c_i1 = 255u;
@@ -65460,7 +65587,7 @@ static u32 w2c_f77(module *m, u64 w2c_p0, u64 w2c_p1) {
   w2c_j0 += w2c_j1;
   w2c_j1 = w2c_l6;
   w2c_j2 = w2c_l5;
-  w2c_f80(m, w2c_j0, w2c_j1, w2c_j2);
+  w2c_f79(m, w2c_j0, w2c_j1, w2c_j2);
   w2c_j0 = w2c_l2;
   w2c_i0 = (u32)(w2c_j0);
   w2c_i0 = i32_load8_u(m, (u64)(w2c_i0) + 128u);
@@ -65477,7 +65604,7 @@ static u32 w2c_f77(module *m, u64 w2c_p0, u64 w2c_p1) {
   w2c_j3 = w2c_l2;
   w2c_i3 = (u32)(w2c_j3);
   w2c_j3 = i64_load(m, (u64)(w2c_i3) + 144u);
-  w2c_f81(m, w2c_j0, w2c_i1, w2c_j2, w2c_j3);
+  w2c_f80(m, w2c_j0, w2c_i1, w2c_j2, w2c_j3);
   w2c_j0 = w2c_l2;
   w2c_i0 = (u32)(w2c_j0);
   w2c_i0 = i32_load8_u(m, (u64)(w2c_i0) + 25u);
@@ -65608,7 +65735,7 @@ static u32 w2c_f77(module *m, u64 w2c_p0, u64 w2c_p1) {
   w2c_j3 = w2c_l5;
   w2c_j4 = w2c_p1;
   w2c_j3 -= w2c_j4;
-  w2c_f81(m, w2c_j0, w2c_i1, w2c_j2, w2c_j3);
+  w2c_f80(m, w2c_j0, w2c_i1, w2c_j2, w2c_j3);
   w2c_j0 = w2c_l2;
   w2c_i0 = (u32)(w2c_j0);
   w2c_i0 = i32_load8_u(m, (u64)(w2c_i0) + 41u);
@@ -65719,7 +65846,7 @@ static u32 w2c_f77(module *m, u64 w2c_p0, u64 w2c_p1) {
     w2c_j1 = 64ull;
     w2c_j0 += w2c_j1;
     w2c_i1 = w2c_l13;
-    w2c_f46(m, w2c_j0, w2c_i1);
+    w2c_f45(m, w2c_j0, w2c_i1);
     w2c_j0 = w2c_l2;
     w2c_i0 = (u32)(w2c_j0);
     w2c_i0 = i32_load8_u(m, (u64)(w2c_i0) + 64u);
@@ -65788,7 +65915,7 @@ static u32 w2c_f77(module *m, u64 w2c_p0, u64 w2c_p1) {
   w2c_j1 = w2c_l6;
   w2c_j2 = w2c_l5;
   w2c_i3 = w2c_l14;
-  w2c_f44(m, w2c_j0, w2c_j1, w2c_j2, w2c_i3);
+  w2c_f43(m, w2c_j0, w2c_j1, w2c_j2, w2c_i3);
   w2c_j0 = w2c_l2;
   w2c_i0 = (u32)(w2c_j0);
   w2c_j1 = w2c_l2;
@@ -66073,7 +66200,7 @@ static u32 w2c_f77(module *m, u64 w2c_p0, u64 w2c_p1) {
     w2c_j0 += w2c_j1;
     w2c_i1 = w2c_l12;
     w2c_i2 = w2c_l13;
-    w2c_f82(m, w2c_j0, w2c_i1, w2c_i2);
+    w2c_f81(m, w2c_j0, w2c_i1, w2c_i2);
     w2c_i0 = w2c_l14;
     w2c_i1 = w2c_l12;
     w2c_i0 |= w2c_i1;
@@ -66117,7 +66244,7 @@ static u32 w2c_f77(module *m, u64 w2c_p0, u64 w2c_p1) {
   w2c_i1 = w2c_l14;
   w2c_j2 = w2c_l6;
   w2c_j3 = w2c_l5;
-  w2c_f81(m, w2c_j0, w2c_i1, w2c_j2, w2c_j3);
+  w2c_f80(m, w2c_j0, w2c_i1, w2c_j2, w2c_j3);
   w2c_j0 = w2c_l2;
   w2c_i0 = (u32)(w2c_j0);
   w2c_i0 = i32_load8_u(m, (u64)(w2c_i0) + 33u);
@@ -66133,7 +66260,7 @@ static u32 w2c_f77(module *m, u64 w2c_p0, u64 w2c_p1) {
   return w2c_i0;
 }
 
-static u32 w2c_f78(module *m, u64 w2c_p0, u64 w2c_p1) {
+static u32 w2c_f77(module *m, u64 w2c_p0, u64 w2c_p1) {
   u32 w2c_l2 = 0, w2c_l3 = 0, w2c_l4 = 0, w2c_l5 = 0;
   u64 w2c_l6 = 0;
   u32 w2c_i0, w2c_i1, w2c_i2, w2c_i3;
@@ -66281,7 +66408,7 @@ static u32 w2c_f78(module *m, u64 w2c_p0, u64 w2c_p1) {
   return w2c_i0;
 }
 
-static u32 w2c_f79(module *m, u64 w2c_p0, u64 w2c_p1) {
+static u32 w2c_f78(module *m, u64 w2c_p0, u64 w2c_p1) {
   u32 w2c_l6 = 0, w2c_l7 = 0, w2c_l8 = 0, w2c_l9 = 0;
   u64 w2c_l2 = 0, w2c_l3 = 0, w2c_l4 = 0, w2c_l5 = 0;
   u32 w2c_i0, w2c_i1, w2c_i2, w2c_i3;
@@ -66440,7 +66567,7 @@ static u32 w2c_f79(module *m, u64 w2c_p0, u64 w2c_p1) {
   w2c_j0 += w2c_j1;
   w2c_j1 = w2c_p0;
   w2c_j2 = w2c_p1;
-  w2c_f83(m, w2c_j0, w2c_j1, w2c_j2);
+  w2c_f82(m, w2c_j0, w2c_j1, w2c_j2);
   w2c_j0 = w2c_l3;
   w2c_i0 = (u32)(w2c_j0);
   w2c_i0 = i32_load8_u(m, (u64)(w2c_i0) + 8u);
@@ -66460,7 +66587,7 @@ static u32 w2c_f79(module *m, u64 w2c_p0, u64 w2c_p1) {
   return w2c_i0;
 }
 
-static void w2c_f80(module *m, u64 w2c_p0, u64 w2c_p1, u64 w2c_p2) {
+static void w2c_f79(module *m, u64 w2c_p0, u64 w2c_p1, u64 w2c_p2) {
   u32 w2c_l3 = 0, w2c_l4 = 0, w2c_l5 = 0, w2c_l6 = 0, w2c_l7 = 0;
   u64 w2c_l8 = 0, w2c_l9 = 0;
   u32 w2c_i0, w2c_i1, w2c_i2, w2c_i3, w2c_i4, w2c_i5;
@@ -66717,7 +66844,7 @@ static void w2c_f80(module *m, u64 w2c_p0, u64 w2c_p1, u64 w2c_p2) {
   w2c_Bfunc:;
 }
 
-static void w2c_f81(module *m, u64 w2c_p0, u32 w2c_p1, u64 w2c_p2, u64 w2c_p3) {
+static void w2c_f80(module *m, u64 w2c_p0, u32 w2c_p1, u64 w2c_p2, u64 w2c_p3) {
   u32 w2c_l12 = 0, w2c_l13 = 0, w2c_l14 = 0, w2c_l15 = 0, w2c_l16 = 0, w2c_l17 = 0;
   u64 w2c_l4 = 0, w2c_l5 = 0, w2c_l6 = 0, w2c_l7 = 0, w2c_l8 = 0, w2c_l9 = 0, w2c_l10 = 0, w2c_l11 = 0;
   u32 w2c_i0, w2c_i1, w2c_i2, w2c_i3;
@@ -66758,7 +66885,7 @@ static void w2c_f81(module *m, u64 w2c_p0, u32 w2c_p1, u64 w2c_p2, u64 w2c_p3) {
   w2c_j0 += w2c_j1;
   w2c_j1 = w2c_p2;
   w2c_j2 = w2c_p3;
-  w2c_f83(m, w2c_j0, w2c_j1, w2c_j2);
+  w2c_f82(m, w2c_j0, w2c_j1, w2c_j2);
   w2c_j0 = w2c_l4;
   w2c_i0 = (u32)(w2c_j0);
   w2c_i0 = i32_load8_u(m, (u64)(w2c_i0) + 72u);
@@ -66819,7 +66946,7 @@ static void w2c_f81(module *m, u64 w2c_p0, u32 w2c_p1, u64 w2c_p2, u64 w2c_p3) {
   w2c_j1 = w2c_p2;
   w2c_j2 = w2c_p3;
   w2c_i3 = w2c_p1;
-  w2c_f44(m, w2c_j0, w2c_j1, w2c_j2, w2c_i3);
+  w2c_f43(m, w2c_j0, w2c_j1, w2c_j2, w2c_i3);
   w2c_i0 = 0u;
   w2c_l12 = w2c_i0;
   w2c_j0 = w2c_l4;
@@ -66934,7 +67061,7 @@ static void w2c_f81(module *m, u64 w2c_p0, u32 w2c_p1, u64 w2c_p2, u64 w2c_p3) {
     w2c_j1 = 48ull;
     w2c_j0 += w2c_j1;
     w2c_i1 = w2c_l15;
-    w2c_f46(m, w2c_j0, w2c_i1);
+    w2c_f45(m, w2c_j0, w2c_i1);
     w2c_j0 = w2c_l4;
     w2c_i0 = (u32)(w2c_j0);
     w2c_i0 = i32_load8_u(m, (u64)(w2c_i0) + 48u);
@@ -67082,7 +67209,7 @@ static void w2c_f81(module *m, u64 w2c_p0, u32 w2c_p1, u64 w2c_p2, u64 w2c_p3) {
   w2c_j3 = w2c_l5;
   w2c_j4 = w2c_p3;
   w2c_j3 -= w2c_j4;
-  w2c_f84(m, w2c_j0, w2c_i1, w2c_j2, w2c_j3);
+  w2c_f83(m, w2c_j0, w2c_i1, w2c_j2, w2c_j3);
   w2c_j0 = w2c_l4;
   w2c_i0 = (u32)(w2c_j0);
   w2c_i0 = i32_load8_u(m, (u64)(w2c_i0) + 41u);
@@ -67141,7 +67268,7 @@ static void w2c_f81(module *m, u64 w2c_p0, u32 w2c_p1, u64 w2c_p2, u64 w2c_p3) {
   w2c_i1 = w2c_p1;
   w2c_j2 = w2c_l6;
   w2c_j3 = w2c_l5;
-  w2c_f84(m, w2c_j0, w2c_i1, w2c_j2, w2c_j3);
+  w2c_f83(m, w2c_j0, w2c_i1, w2c_j2, w2c_j3);
   w2c_j0 = w2c_l4;
   w2c_i0 = (u32)(w2c_j0);
   w2c_i0 = i32_load8_u(m, (u64)(w2c_i0) + 33u);
@@ -67201,7 +67328,7 @@ static void w2c_f81(module *m, u64 w2c_p0, u32 w2c_p1, u64 w2c_p2, u64 w2c_p3) {
   w2c_j1 = w2c_l8;
   w2c_j2 = w2c_l7;
   w2c_i3 = w2c_p1;
-  w2c_f44(m, w2c_j0, w2c_j1, w2c_j2, w2c_i3);
+  w2c_f43(m, w2c_j0, w2c_j1, w2c_j2, w2c_i3);
   w2c_j0 = w2c_l4;
   w2c_i0 = (u32)(w2c_j0);
   w2c_i0 = i32_load8_u(m, (u64)(w2c_i0) + 112u);
@@ -67227,7 +67354,7 @@ static void w2c_f81(module *m, u64 w2c_p0, u32 w2c_p1, u64 w2c_p2, u64 w2c_p3) {
   w2c_i1 = w2c_p1;
   w2c_j2 = w2c_l8;
   w2c_j3 = w2c_l7;
-  w2c_f84(m, w2c_j0, w2c_i1, w2c_j2, w2c_j3);
+  w2c_f83(m, w2c_j0, w2c_i1, w2c_j2, w2c_j3);
   w2c_j0 = w2c_l4;
   w2c_i0 = (u32)(w2c_j0);
   w2c_i0 = i32_load8_u(m, (u64)(w2c_i0) + 9u);
@@ -67380,7 +67507,7 @@ static void w2c_f81(module *m, u64 w2c_p0, u32 w2c_p1, u64 w2c_p2, u64 w2c_p3) {
   w2c_i1 = w2c_p1;
   w2c_j2 = w2c_p2;
   w2c_j3 = w2c_l11;
-  w2c_f84(m, w2c_j0, w2c_i1, w2c_j2, w2c_j3);
+  w2c_f83(m, w2c_j0, w2c_i1, w2c_j2, w2c_j3);
   w2c_j0 = w2c_l4;
   w2c_i0 = (u32)(w2c_j0);
   w2c_i0 = i32_load8_u(m, (u64)(w2c_i0) + 65u);
@@ -67395,7 +67522,7 @@ static void w2c_f81(module *m, u64 w2c_p0, u32 w2c_p1, u64 w2c_p2, u64 w2c_p3) {
   w2c_i1 = w2c_p1;
   w2c_j2 = w2c_p2;
   w2c_j3 = w2c_p3;
-  w2c_f84(m, w2c_j0, w2c_i1, w2c_j2, w2c_j3);
+  w2c_f83(m, w2c_j0, w2c_i1, w2c_j2, w2c_j3);
   w2c_j0 = w2c_l4;
   w2c_i0 = (u32)(w2c_j0);
   w2c_i0 = i32_load8_u(m, (u64)(w2c_i0) + 57u);
@@ -67415,7 +67542,7 @@ static void w2c_f81(module *m, u64 w2c_p0, u32 w2c_p1, u64 w2c_p2, u64 w2c_p3) {
   m->w2c_g0 = w2c_j0;
 }
 
-static void w2c_f82(module *m, u64 w2c_p0, u32 w2c_p1, u32 w2c_p2) {
+static void w2c_f81(module *m, u64 w2c_p0, u32 w2c_p1, u32 w2c_p2) {
   u64 w2c_l3 = 0, w2c_l4 = 0;
   u32 w2c_i0, w2c_i1;
   u64 w2c_j0, w2c_j1;
@@ -67431,7 +67558,7 @@ static void w2c_f82(module *m, u64 w2c_p0, u32 w2c_p1, u32 w2c_p2) {
   if (w2c_i0) {goto w2c_B0;}
   w2c_j0 = 1ull;
   w2c_l3 = w2c_j0;
-  w2c_j0 = 69936ull;
+  w2c_j0 = 69952ull;
   w2c_l4 = w2c_j0;
   w2c_i0 = w2c_p2;
   w2c_i1 = 4294967251u;
@@ -67473,43 +67600,43 @@ static void w2c_f82(module *m, u64 w2c_p0, u32 w2c_p1, u32 w2c_p2) {
     default: goto w2c_B4;
   }
   w2c_B14:;
-  w2c_j0 = 69937ull;
+  w2c_j0 = 69953ull;
   w2c_l4 = w2c_j0;
   goto w2c_B0;
   w2c_B13:;
-  w2c_j0 = 69938ull;
+  w2c_j0 = 69954ull;
   w2c_l4 = w2c_j0;
   goto w2c_B0;
   w2c_B12:;
-  w2c_j0 = 69939ull;
+  w2c_j0 = 69955ull;
   w2c_l4 = w2c_j0;
   goto w2c_B0;
   w2c_B11:;
-  w2c_j0 = 69940ull;
+  w2c_j0 = 69956ull;
   w2c_l4 = w2c_j0;
   goto w2c_B0;
   w2c_B10:;
-  w2c_j0 = 69941ull;
+  w2c_j0 = 69957ull;
   w2c_l4 = w2c_j0;
   goto w2c_B0;
   w2c_B9:;
-  w2c_j0 = 69942ull;
+  w2c_j0 = 69958ull;
   w2c_l4 = w2c_j0;
   goto w2c_B0;
   w2c_B8:;
-  w2c_j0 = 69943ull;
+  w2c_j0 = 69959ull;
   w2c_l4 = w2c_j0;
   goto w2c_B0;
   w2c_B7:;
-  w2c_j0 = 69944ull;
+  w2c_j0 = 69960ull;
   w2c_l4 = w2c_j0;
   goto w2c_B0;
   w2c_B6:;
-  w2c_j0 = 69945ull;
+  w2c_j0 = 69961ull;
   w2c_l4 = w2c_j0;
   goto w2c_B0;
   w2c_B5:;
-  w2c_j0 = 69946ull;
+  w2c_j0 = 69962ull;
   w2c_l4 = w2c_j0;
   goto w2c_B0;
   w2c_B4:;
@@ -67539,7 +67666,7 @@ static void w2c_f82(module *m, u64 w2c_p0, u32 w2c_p1, u32 w2c_p2) {
   i64_store(m, (u64)(w2c_i0), w2c_j1);
 }
 
-static void w2c_f83(module *m, u64 w2c_p0, u64 w2c_p1, u64 w2c_p2) {
+static void w2c_f82(module *m, u64 w2c_p0, u64 w2c_p1, u64 w2c_p2) {
   u32 w2c_l3 = 0, w2c_l4 = 0, w2c_l5 = 0, w2c_l6 = 0, w2c_l7 = 0;
   u64 w2c_l8 = 0, w2c_l9 = 0, w2c_l10 = 0, w2c_l11 = 0;
   u32 w2c_i0, w2c_i1, w2c_i2, w2c_i3;
@@ -67823,7 +67950,7 @@ static void w2c_f83(module *m, u64 w2c_p0, u64 w2c_p1, u64 w2c_p2) {
   w2c_Bfunc:;
 }
 
-static void w2c_f84(module *m, u64 w2c_p0, u32 w2c_p1, u64 w2c_p2, u64 w2c_p3) {
+static void w2c_f83(module *m, u64 w2c_p0, u32 w2c_p1, u64 w2c_p2, u64 w2c_p3) {
   u32 w2c_l11 = 0, w2c_l12 = 0, w2c_l13 = 0, w2c_l14 = 0, w2c_l15 = 0, w2c_l16 = 0;
   u64 w2c_l4 = 0, w2c_l5 = 0, w2c_l6 = 0, w2c_l7 = 0, w2c_l8 = 0, w2c_l9 = 0, w2c_l10 = 0;
   u32 w2c_i0, w2c_i1, w2c_i2, w2c_i3;
@@ -68079,7 +68206,7 @@ static void w2c_f84(module *m, u64 w2c_p0, u32 w2c_p1, u64 w2c_p2, u64 w2c_p3) {
   w2c_j0 += w2c_j1;
   w2c_j1 = w2c_p2;
   w2c_j2 = w2c_p3;
-  w2c_f85(m, w2c_j0, w2c_j1, w2c_j2);
+  w2c_f84(m, w2c_j0, w2c_j1, w2c_j2);
   w2c_j0 = w2c_l4;
   w2c_i0 = (u32)(w2c_j0);
   w2c_i0 = i32_load8_u(m, (u64)(w2c_i0) + 104u);
@@ -68140,7 +68267,7 @@ static void w2c_f84(module *m, u64 w2c_p0, u32 w2c_p1, u64 w2c_p2, u64 w2c_p3) {
   w2c_j1 = w2c_l6;
   w2c_j2 = w2c_l5;
   w2c_i3 = w2c_p1;
-  w2c_f44(m, w2c_j0, w2c_j1, w2c_j2, w2c_i3);
+  w2c_f43(m, w2c_j0, w2c_j1, w2c_j2, w2c_i3);
   w2c_j0 = w2c_l4;
   w2c_i0 = (u32)(w2c_j0);
   w2c_j1 = w2c_l4;
@@ -68423,7 +68550,7 @@ static void w2c_f84(module *m, u64 w2c_p0, u32 w2c_p1, u64 w2c_p2, u64 w2c_p3) {
   w2c_B7:;
   w2c_j0 = w2c_p2;
   w2c_j1 = w2c_p3;
-  w2c_i0 = w2c_f86(m, w2c_j0, w2c_j1);
+  w2c_i0 = w2c_f85(m, w2c_j0, w2c_j1);
   w2c_i0 = !(w2c_i0);
   if (w2c_i0) {goto w2c_B23;}
   w2c_i0 = 1u;
@@ -68532,7 +68659,7 @@ static void w2c_f84(module *m, u64 w2c_p0, u32 w2c_p1, u64 w2c_p2, u64 w2c_p3) {
     w2c_j3 = w2c_l5;
     w2c_j2 -= w2c_j3;
     w2c_l10 = w2c_j2;
-    w2c_i0 = w2c_f87(m, w2c_i0, w2c_j1, w2c_j2);
+    w2c_i0 = w2c_f86(m, w2c_i0, w2c_j1, w2c_j2);
     w2c_i0 = !(w2c_i0);
     if (w2c_i0) {goto w2c_B28;}
     w2c_j0 = w2c_p3;
@@ -68678,7 +68805,7 @@ static void w2c_f84(module *m, u64 w2c_p0, u32 w2c_p1, u64 w2c_p2, u64 w2c_p3) {
     w2c_j0 += w2c_j1;
     w2c_j1 = w2c_p2;
     w2c_j2 = w2c_l6;
-    w2c_f88(m, w2c_j0, w2c_j1, w2c_j2);
+    w2c_f87(m, w2c_j0, w2c_j1, w2c_j2);
     w2c_j0 = w2c_l4;
     w2c_i0 = (u32)(w2c_j0);
     w2c_j0 = i64_load(m, (u64)(w2c_i0) + 216u);
@@ -68725,7 +68852,7 @@ static void w2c_f84(module *m, u64 w2c_p0, u32 w2c_p1, u64 w2c_p2, u64 w2c_p3) {
     w2c_j1 = w2c_l5;
     w2c_j2 = w2c_p2;
     w2c_i3 = w2c_p1;
-    w2c_f44(m, w2c_j0, w2c_j1, w2c_j2, w2c_i3);
+    w2c_f43(m, w2c_j0, w2c_j1, w2c_j2, w2c_i3);
     w2c_j0 = w2c_l4;
     w2c_i0 = (u32)(w2c_j0);
     w2c_j1 = w2c_l8;
@@ -68833,7 +68960,7 @@ static void w2c_f84(module *m, u64 w2c_p0, u32 w2c_p1, u64 w2c_p2, u64 w2c_p3) {
   w2c_j0 += w2c_j1;
   w2c_j1 = w2c_p2;
   w2c_j2 = w2c_p3;
-  w2c_f89(m, w2c_j0, w2c_j1, w2c_j2);
+  w2c_f88(m, w2c_j0, w2c_j1, w2c_j2);
   w2c_j0 = w2c_l4;
   w2c_i0 = (u32)(w2c_j0);
   w2c_i0 = i32_load8_u(m, (u64)(w2c_i0) + 144u);
@@ -68890,7 +69017,7 @@ static void w2c_f84(module *m, u64 w2c_p0, u32 w2c_p1, u64 w2c_p2, u64 w2c_p3) {
   w2c_j1 = w2c_l5;
   w2c_j2 = w2c_p2;
   w2c_i3 = w2c_p1;
-  w2c_f44(m, w2c_j0, w2c_j1, w2c_j2, w2c_i3);
+  w2c_f43(m, w2c_j0, w2c_j1, w2c_j2, w2c_i3);
   w2c_j0 = w2c_l4;
   w2c_i0 = (u32)(w2c_j0);
   w2c_j1 = w2c_l4;
@@ -68974,7 +69101,7 @@ static void w2c_f84(module *m, u64 w2c_p0, u32 w2c_p1, u64 w2c_p2, u64 w2c_p3) {
   w2c_j1 = w2c_p2;
   w2c_j2 = w2c_p3;
   w2c_i3 = w2c_p1;
-  w2c_f44(m, w2c_j0, w2c_j1, w2c_j2, w2c_i3);
+  w2c_f43(m, w2c_j0, w2c_j1, w2c_j2, w2c_i3);
   w2c_j0 = w2c_l4;
   w2c_i0 = (u32)(w2c_j0);
   w2c_j1 = w2c_l4;
@@ -69084,7 +69211,7 @@ static void w2c_f84(module *m, u64 w2c_p0, u32 w2c_p1, u64 w2c_p2, u64 w2c_p3) {
   m->w2c_g0 = w2c_j0;
 }
 
-static void w2c_f85(module *m, u64 w2c_p0, u64 w2c_p1, u64 w2c_p2) {
+static void w2c_f84(module *m, u64 w2c_p0, u64 w2c_p1, u64 w2c_p2) {
   u32 w2c_l9 = 0, w2c_l10 = 0, w2c_l11 = 0, w2c_l12 = 0;
   u64 w2c_l3 = 0, w2c_l4 = 0, w2c_l5 = 0, w2c_l6 = 0, w2c_l7 = 0, w2c_l8 = 0;
   u32 w2c_i0, w2c_i1, w2c_i2, w2c_i3;
@@ -69430,7 +69557,7 @@ static void w2c_f85(module *m, u64 w2c_p0, u64 w2c_p1, u64 w2c_p2) {
   if (w2c_i0) {goto w2c_B11;}
   w2c_j0 = w2c_l4;
   w2c_i1 = w2c_l11;
-  w2c_f46(m, w2c_j0, w2c_i1);
+  w2c_f45(m, w2c_j0, w2c_i1);
   w2c_j0 = w2c_l4;
   w2c_i0 = (u32)(w2c_j0);
   w2c_i0 = i32_load8_u(m, (u64)(w2c_i0));
@@ -69533,7 +69660,7 @@ static void w2c_f85(module *m, u64 w2c_p0, u64 w2c_p1, u64 w2c_p2) {
   m->w2c_g0 = w2c_j0;
 }
 
-static u32 w2c_f86(module *m, u64 w2c_p0, u64 w2c_p1) {
+static u32 w2c_f85(module *m, u64 w2c_p0, u64 w2c_p1) {
   u32 w2c_l5 = 0, w2c_l6 = 0, w2c_l7 = 0, w2c_l8 = 0;
   u64 w2c_l2 = 0, w2c_l3 = 0, w2c_l4 = 0;
   u32 w2c_i0, w2c_i1, w2c_i2, w2c_i3;
@@ -69676,7 +69803,7 @@ static u32 w2c_f86(module *m, u64 w2c_p0, u64 w2c_p1) {
   w2c_j1 = 8ull;
   w2c_j0 += w2c_j1;
   w2c_i1 = w2c_l5;
-  w2c_f46(m, w2c_j0, w2c_i1);
+  w2c_f45(m, w2c_j0, w2c_i1);
   w2c_j0 = w2c_l2;
   w2c_i0 = (u32)(w2c_j0);
   w2c_i0 = i32_load8_u(m, (u64)(w2c_i0) + 8u);
@@ -69704,7 +69831,7 @@ static u32 w2c_f86(module *m, u64 w2c_p0, u64 w2c_p1) {
   return w2c_i0;
 }
 
-static u32 w2c_f87(module *m, u32 w2c_p0, u64 w2c_p1, u64 w2c_p2) {
+static u32 w2c_f86(module *m, u32 w2c_p0, u64 w2c_p1, u64 w2c_p2) {
   u32 w2c_l5 = 0, w2c_l6 = 0, w2c_l7 = 0, w2c_l8 = 0, w2c_l9 = 0;
   u64 w2c_l3 = 0, w2c_l4 = 0;
   u32 w2c_i0, w2c_i1, w2c_i2, w2c_i3;
@@ -69724,7 +69851,7 @@ static u32 w2c_f87(module *m, u32 w2c_p0, u64 w2c_p1, u64 w2c_p2) {
   w2c_j1 = 8ull;
   w2c_j0 += w2c_j1;
   w2c_i1 = w2c_p0;
-  w2c_f46(m, w2c_j0, w2c_i1);
+  w2c_f45(m, w2c_j0, w2c_i1);
   w2c_i0 = 0u;
   w2c_l5 = w2c_i0;
   w2c_j0 = w2c_l3;
@@ -69833,7 +69960,7 @@ static u32 w2c_f87(module *m, u32 w2c_p0, u64 w2c_p1, u64 w2c_p2) {
     w2c_B3:;
     w2c_j0 = w2c_l3;
     w2c_i1 = w2c_p0;
-    w2c_f46(m, w2c_j0, w2c_i1);
+    w2c_f45(m, w2c_j0, w2c_i1);
     w2c_j0 = w2c_p2;
     w2c_j1 = w2c_l4;
     w2c_j0 -= w2c_j1;
@@ -69871,7 +69998,7 @@ static u32 w2c_f87(module *m, u32 w2c_p0, u64 w2c_p1, u64 w2c_p2) {
   return w2c_i0;
 }
 
-static void w2c_f88(module *m, u64 w2c_p0, u64 w2c_p1, u64 w2c_p2) {
+static void w2c_f87(module *m, u64 w2c_p0, u64 w2c_p1, u64 w2c_p2) {
   u32 w2c_l12 = 0, w2c_l13 = 0, w2c_l14 = 0, w2c_l15 = 0, w2c_l16 = 0, w2c_l17 = 0;
   u64 w2c_l3 = 0, w2c_l4 = 0, w2c_l5 = 0, w2c_l6 = 0, w2c_l7 = 0, w2c_l8 = 0, w2c_l9 = 0, w2c_l10 = 0, w2c_l11 = 0;
   u32 w2c_i0, w2c_i1, w2c_i2, w2c_i3, w2c_i4, w2c_i5;
@@ -70255,7 +70382,7 @@ static void w2c_f88(module *m, u64 w2c_p0, u64 w2c_p1, u64 w2c_p2) {
     w2c_j3 = w2c_l6;
     w2c_j2 -= w2c_j3;
     w2c_l8 = w2c_j2;
-    w2c_i0 = w2c_f87(m, w2c_i0, w2c_j1, w2c_j2);
+    w2c_i0 = w2c_f86(m, w2c_i0, w2c_j1, w2c_j2);
     if (w2c_i0) {goto w2c_B2;}
     w2c_i0 = w2c_l13;
     w2c_i1 = 20491u;
@@ -70347,7 +70474,7 @@ static void w2c_f88(module *m, u64 w2c_p0, u64 w2c_p1, u64 w2c_p2) {
     w2c_i0 = w2c_l12;
     w2c_j1 = w2c_p1;
     w2c_j2 = w2c_l8;
-    w2c_i0 = w2c_f87(m, w2c_i0, w2c_j1, w2c_j2);
+    w2c_i0 = w2c_f86(m, w2c_i0, w2c_j1, w2c_j2);
     if (w2c_i0) {goto w2c_B2;}
     w2c_B9:;
     w2c_j0 = w2c_l4;
@@ -70394,7 +70521,7 @@ static void w2c_f88(module *m, u64 w2c_p0, u64 w2c_p1, u64 w2c_p2) {
   w2c_Bfunc:;
 }
 
-static void w2c_f89(module *m, u64 w2c_p0, u64 w2c_p1, u64 w2c_p2) {
+static void w2c_f88(module *m, u64 w2c_p0, u64 w2c_p1, u64 w2c_p2) {
   u32 w2c_l11 = 0, w2c_l12 = 0, w2c_l13 = 0, w2c_l14 = 0, w2c_l15 = 0, w2c_l16 = 0;
   u64 w2c_l3 = 0, w2c_l4 = 0, w2c_l5 = 0, w2c_l6 = 0, w2c_l7 = 0, w2c_l8 = 0, w2c_l9 = 0, w2c_l10 = 0;
   u32 w2c_i0, w2c_i1, w2c_i2, w2c_i3;
@@ -70711,7 +70838,7 @@ static void w2c_f89(module *m, u64 w2c_p0, u64 w2c_p1, u64 w2c_p2) {
   w2c_j1 = 16ull;
   w2c_j0 += w2c_j1;
   w2c_i1 = w2c_l12;
-  w2c_f46(m, w2c_j0, w2c_i1);
+  w2c_f45(m, w2c_j0, w2c_i1);
   w2c_j0 = w2c_l3;
   w2c_i0 = (u32)(w2c_j0);
   w2c_i0 = i32_load8_u(m, (u64)(w2c_i0) + 16u);
@@ -70835,7 +70962,7 @@ static void w2c_f89(module *m, u64 w2c_p0, u64 w2c_p1, u64 w2c_p2) {
     w2c_j1 = 8ull;
     w2c_j0 += w2c_j1;
     w2c_i1 = w2c_l12;
-    w2c_f46(m, w2c_j0, w2c_i1);
+    w2c_f45(m, w2c_j0, w2c_i1);
     w2c_j0 = w2c_l5;
     w2c_j1 = w2c_l4;
     w2c_j0 -= w2c_j1;
@@ -70980,7 +71107,7 @@ static void w2c_f89(module *m, u64 w2c_p0, u64 w2c_p1, u64 w2c_p2) {
   w2c_B19:;
   w2c_j0 = w2c_l3;
   w2c_i1 = w2c_l12;
-  w2c_f46(m, w2c_j0, w2c_i1);
+  w2c_f45(m, w2c_j0, w2c_i1);
   w2c_j0 = w2c_l3;
   w2c_i0 = (u32)(w2c_j0);
   w2c_i0 = i32_load8_u(m, (u64)(w2c_i0));
@@ -71134,7 +71261,7 @@ static void w2c_f89(module *m, u64 w2c_p0, u64 w2c_p1, u64 w2c_p2) {
   m->w2c_g0 = w2c_j0;
 }
 
-static void w2c_f90(module *m, u64 w2c_p0, u64 w2c_p1, u32 w2c_p2, u64 w2c_p3, u64 w2c_p4) {
+static void w2c_f89(module *m, u64 w2c_p0, u64 w2c_p1, u32 w2c_p2, u64 w2c_p3, u64 w2c_p4) {
   u32 w2c_l13 = 0, w2c_l14 = 0, w2c_l15 = 0, w2c_l16 = 0, w2c_l17 = 0, w2c_l18 = 0;
   u64 w2c_l5 = 0, w2c_l6 = 0, w2c_l7 = 0, w2c_l8 = 0, w2c_l9 = 0, w2c_l10 = 0, w2c_l11 = 0, w2c_l12 = 0;
   u32 w2c_i0, w2c_i1, w2c_i2, w2c_i3, w2c_i4, w2c_i5;
@@ -71175,7 +71302,7 @@ static void w2c_f90(module *m, u64 w2c_p0, u64 w2c_p1, u32 w2c_p2, u64 w2c_p3, u
   w2c_j0 += w2c_j1;
   w2c_j1 = w2c_p3;
   w2c_j2 = w2c_p4;
-  w2c_f83(m, w2c_j0, w2c_j1, w2c_j2);
+  w2c_f82(m, w2c_j0, w2c_j1, w2c_j2);
   w2c_j0 = w2c_l5;
   w2c_i0 = (u32)(w2c_j0);
   w2c_i0 = i32_load8_u(m, (u64)(w2c_i0) + 72u);
@@ -71236,7 +71363,7 @@ static void w2c_f90(module *m, u64 w2c_p0, u64 w2c_p1, u32 w2c_p2, u64 w2c_p3, u
   w2c_j1 = w2c_p3;
   w2c_j2 = w2c_p4;
   w2c_i3 = w2c_p2;
-  w2c_f44(m, w2c_j0, w2c_j1, w2c_j2, w2c_i3);
+  w2c_f43(m, w2c_j0, w2c_j1, w2c_j2, w2c_i3);
   w2c_i0 = 0u;
   w2c_l13 = w2c_i0;
   w2c_j0 = w2c_l5;
@@ -71351,7 +71478,7 @@ static void w2c_f90(module *m, u64 w2c_p0, u64 w2c_p1, u32 w2c_p2, u64 w2c_p3, u
     w2c_j1 = 48ull;
     w2c_j0 += w2c_j1;
     w2c_i1 = w2c_l16;
-    w2c_f46(m, w2c_j0, w2c_i1);
+    w2c_f45(m, w2c_j0, w2c_i1);
     w2c_j0 = w2c_l5;
     w2c_i0 = (u32)(w2c_j0);
     w2c_i0 = i32_load8_u(m, (u64)(w2c_i0) + 48u);
@@ -71508,7 +71635,7 @@ static void w2c_f90(module *m, u64 w2c_p0, u64 w2c_p1, u32 w2c_p2, u64 w2c_p3, u
   w2c_j3 = i64_load(m, (u64)(w2c_i3));
   w2c_j4 = 66428ull;
   w2c_j5 = 1ull;
-  w2c_j1 = w2c_f91(m, w2c_j1, w2c_j2, w2c_j3, w2c_j4, w2c_j5);
+  w2c_j1 = w2c_f90(m, w2c_j1, w2c_j2, w2c_j3, w2c_j4, w2c_j5);
   i64_store(m, (u64)(w2c_i0), w2c_j1);
   w2c_j0 = w2c_l5;
   w2c_j1 = 40ull;
@@ -71521,7 +71648,7 @@ static void w2c_f90(module *m, u64 w2c_p0, u64 w2c_p1, u32 w2c_p2, u64 w2c_p3, u
   w2c_j4 = w2c_l6;
   w2c_j5 = w2c_p4;
   w2c_j4 -= w2c_j5;
-  w2c_f92(m, w2c_j0, w2c_j1, w2c_i2, w2c_j3, w2c_j4);
+  w2c_f91(m, w2c_j0, w2c_j1, w2c_i2, w2c_j3, w2c_j4);
   w2c_j0 = w2c_l5;
   w2c_i0 = (u32)(w2c_j0);
   w2c_i0 = i32_load8_u(m, (u64)(w2c_i0) + 41u);
@@ -71593,7 +71720,7 @@ static void w2c_f90(module *m, u64 w2c_p0, u64 w2c_p1, u32 w2c_p2, u64 w2c_p3, u
   w2c_j5 = w2c_l5;
   w2c_i5 = (u32)(w2c_j5);
   w2c_j5 = i64_load(m, (u64)(w2c_i5) + 24u);
-  w2c_j1 = w2c_f91(m, w2c_j1, w2c_j2, w2c_j3, w2c_j4, w2c_j5);
+  w2c_j1 = w2c_f90(m, w2c_j1, w2c_j2, w2c_j3, w2c_j4, w2c_j5);
   i64_store(m, (u64)(w2c_i0), w2c_j1);
   goto w2c_B2;
   w2c_B5:;
@@ -71606,7 +71733,7 @@ static void w2c_f90(module *m, u64 w2c_p0, u64 w2c_p1, u32 w2c_p2, u64 w2c_p3, u
   w2c_i2 = w2c_p2;
   w2c_j3 = w2c_l7;
   w2c_j4 = w2c_l6;
-  w2c_f92(m, w2c_j0, w2c_j1, w2c_i2, w2c_j3, w2c_j4);
+  w2c_f91(m, w2c_j0, w2c_j1, w2c_i2, w2c_j3, w2c_j4);
   w2c_j0 = w2c_l5;
   w2c_i0 = (u32)(w2c_j0);
   w2c_i0 = i32_load8_u(m, (u64)(w2c_i0) + 33u);
@@ -71643,7 +71770,7 @@ static void w2c_f90(module *m, u64 w2c_p0, u64 w2c_p1, u32 w2c_p2, u64 w2c_p3, u
   w2c_j3 = i64_load(m, (u64)(w2c_i3));
   w2c_j4 = 66430ull;
   w2c_j5 = 1ull;
-  w2c_j1 = w2c_f91(m, w2c_j1, w2c_j2, w2c_j3, w2c_j4, w2c_j5);
+  w2c_j1 = w2c_f90(m, w2c_j1, w2c_j2, w2c_j3, w2c_j4, w2c_j5);
   i64_store(m, (u64)(w2c_i0), w2c_j1);
   w2c_i0 = 1u;
   w2c_l13 = w2c_i0;
@@ -71687,7 +71814,7 @@ static void w2c_f90(module *m, u64 w2c_p0, u64 w2c_p1, u32 w2c_p2, u64 w2c_p3, u
   w2c_j1 = w2c_l9;
   w2c_j2 = w2c_l8;
   w2c_i3 = w2c_p2;
-  w2c_f44(m, w2c_j0, w2c_j1, w2c_j2, w2c_i3);
+  w2c_f43(m, w2c_j0, w2c_j1, w2c_j2, w2c_i3);
   w2c_j0 = w2c_l5;
   w2c_i0 = (u32)(w2c_j0);
   w2c_i0 = i32_load8_u(m, (u64)(w2c_i0) + 112u);
@@ -71726,7 +71853,7 @@ static void w2c_f90(module *m, u64 w2c_p0, u64 w2c_p1, u32 w2c_p2, u64 w2c_p3, u
   w2c_j3 = i64_load(m, (u64)(w2c_i3));
   w2c_j4 = 66429ull;
   w2c_j5 = 1ull;
-  w2c_j1 = w2c_f91(m, w2c_j1, w2c_j2, w2c_j3, w2c_j4, w2c_j5);
+  w2c_j1 = w2c_f90(m, w2c_j1, w2c_j2, w2c_j3, w2c_j4, w2c_j5);
   i64_store(m, (u64)(w2c_i0), w2c_j1);
   w2c_j0 = w2c_l5;
   w2c_j1 = 8ull;
@@ -71735,7 +71862,7 @@ static void w2c_f90(module *m, u64 w2c_p0, u64 w2c_p1, u32 w2c_p2, u64 w2c_p3, u
   w2c_i2 = w2c_p2;
   w2c_j3 = w2c_l9;
   w2c_j4 = w2c_l8;
-  w2c_f92(m, w2c_j0, w2c_j1, w2c_i2, w2c_j3, w2c_j4);
+  w2c_f91(m, w2c_j0, w2c_j1, w2c_i2, w2c_j3, w2c_j4);
   w2c_j0 = w2c_l5;
   w2c_i0 = (u32)(w2c_j0);
   w2c_i0 = i32_load8_u(m, (u64)(w2c_i0) + 9u);
@@ -71889,7 +72016,7 @@ static void w2c_f90(module *m, u64 w2c_p0, u64 w2c_p1, u32 w2c_p2, u64 w2c_p3, u
   w2c_i2 = w2c_p2;
   w2c_j3 = w2c_p3;
   w2c_j4 = w2c_l12;
-  w2c_f92(m, w2c_j0, w2c_j1, w2c_i2, w2c_j3, w2c_j4);
+  w2c_f91(m, w2c_j0, w2c_j1, w2c_i2, w2c_j3, w2c_j4);
   w2c_i0 = 1u;
   w2c_l13 = w2c_i0;
   w2c_j0 = w2c_l5;
@@ -71925,7 +72052,7 @@ static void w2c_f90(module *m, u64 w2c_p0, u64 w2c_p1, u32 w2c_p2, u64 w2c_p3, u
   w2c_j5 = w2c_p4;
   w2c_j6 = w2c_l12;
   w2c_j5 -= w2c_j6;
-  w2c_j1 = w2c_f91(m, w2c_j1, w2c_j2, w2c_j3, w2c_j4, w2c_j5);
+  w2c_j1 = w2c_f90(m, w2c_j1, w2c_j2, w2c_j3, w2c_j4, w2c_j5);
   i64_store(m, (u64)(w2c_i0), w2c_j1);
   goto w2c_B0;
   w2c_B23:;
@@ -71936,7 +72063,7 @@ static void w2c_f90(module *m, u64 w2c_p0, u64 w2c_p1, u32 w2c_p2, u64 w2c_p3, u
   w2c_i2 = w2c_p2;
   w2c_j3 = w2c_p3;
   w2c_j4 = w2c_p4;
-  w2c_f92(m, w2c_j0, w2c_j1, w2c_i2, w2c_j3, w2c_j4);
+  w2c_f91(m, w2c_j0, w2c_j1, w2c_i2, w2c_j3, w2c_j4);
   w2c_j0 = w2c_l5;
   w2c_i0 = (u32)(w2c_j0);
   w2c_i0 = i32_load8_u(m, (u64)(w2c_i0) + 57u);
@@ -71956,7 +72083,7 @@ static void w2c_f90(module *m, u64 w2c_p0, u64 w2c_p1, u32 w2c_p2, u64 w2c_p3, u
   m->w2c_g0 = w2c_j0;
 }
 
-static u64 w2c_f91(module *m, u64 w2c_p0, u64 w2c_p1, u64 w2c_p2, u64 w2c_p3, u64 w2c_p4) {
+static u64 w2c_f90(module *m, u64 w2c_p0, u64 w2c_p1, u64 w2c_p2, u64 w2c_p3, u64 w2c_p4) {
   u64 w2c_l5 = 0, w2c_l6 = 0, w2c_l7 = 0, w2c_l8 = 0, w2c_l9 = 0;
   u32 w2c_i0, w2c_i1, w2c_i2;
   u64 w2c_j0, w2c_j1, w2c_j2, w2c_j3;
@@ -72110,7 +72237,7 @@ static u64 w2c_f91(module *m, u64 w2c_p0, u64 w2c_p1, u64 w2c_p2, u64 w2c_p3, u6
   return w2c_j0;
 }
 
-static void w2c_f92(module *m, u64 w2c_p0, u64 w2c_p1, u32 w2c_p2, u64 w2c_p3, u64 w2c_p4) {
+static void w2c_f91(module *m, u64 w2c_p0, u64 w2c_p1, u32 w2c_p2, u64 w2c_p3, u64 w2c_p4) {
   u32 w2c_l13 = 0, w2c_l14 = 0, w2c_l15 = 0, w2c_l16 = 0, w2c_l17 = 0, w2c_l18 = 0;
   u64 w2c_l5 = 0, w2c_l6 = 0, w2c_l7 = 0, w2c_l8 = 0, w2c_l9 = 0, w2c_l10 = 0, w2c_l11 = 0, w2c_l12 = 0;
   u32 w2c_i0, w2c_i1, w2c_i2, w2c_i3, w2c_i4, w2c_i5;
@@ -72266,7 +72393,7 @@ static void w2c_f92(module *m, u64 w2c_p0, u64 w2c_p1, u32 w2c_p2, u64 w2c_p3, u
   w2c_j3 = i64_load(m, (u64)(w2c_i3));
   w2c_j4 = w2c_p3;
   w2c_j5 = w2c_p4;
-  w2c_j1 = w2c_f91(m, w2c_j1, w2c_j2, w2c_j3, w2c_j4, w2c_j5);
+  w2c_j1 = w2c_f90(m, w2c_j1, w2c_j2, w2c_j3, w2c_j4, w2c_j5);
   i64_store(m, (u64)(w2c_i0), w2c_j1);
   goto w2c_B1;
   w2c_B5:;
@@ -72391,7 +72518,7 @@ static void w2c_f92(module *m, u64 w2c_p0, u64 w2c_p1, u32 w2c_p2, u64 w2c_p3, u
   w2c_j0 += w2c_j1;
   w2c_j1 = w2c_p3;
   w2c_j2 = w2c_p4;
-  w2c_f85(m, w2c_j0, w2c_j1, w2c_j2);
+  w2c_f84(m, w2c_j0, w2c_j1, w2c_j2);
   w2c_j0 = w2c_l5;
   w2c_i0 = (u32)(w2c_j0);
   w2c_i0 = i32_load8_u(m, (u64)(w2c_i0) + 88u);
@@ -72452,7 +72579,7 @@ static void w2c_f92(module *m, u64 w2c_p0, u64 w2c_p1, u32 w2c_p2, u64 w2c_p3, u
   w2c_j1 = w2c_l8;
   w2c_j2 = w2c_l6;
   w2c_i3 = w2c_p2;
-  w2c_f44(m, w2c_j0, w2c_j1, w2c_j2, w2c_i3);
+  w2c_f43(m, w2c_j0, w2c_j1, w2c_j2, w2c_i3);
   w2c_j0 = w2c_l5;
   w2c_i0 = (u32)(w2c_j0);
   w2c_j1 = w2c_l5;
@@ -72540,7 +72667,7 @@ static void w2c_f92(module *m, u64 w2c_p0, u64 w2c_p1, u32 w2c_p2, u64 w2c_p3, u
   w2c_j5 = w2c_l5;
   w2c_i5 = (u32)(w2c_j5);
   w2c_j5 = i64_load(m, (u64)(w2c_i5) + 16u);
-  w2c_j1 = w2c_f91(m, w2c_j1, w2c_j2, w2c_j3, w2c_j4, w2c_j5);
+  w2c_j1 = w2c_f90(m, w2c_j1, w2c_j2, w2c_j3, w2c_j4, w2c_j5);
   w2c_p3 = w2c_j1;
   i64_store(m, (u64)(w2c_i0), w2c_j1);
   w2c_j0 = w2c_l6;
@@ -72552,19 +72679,19 @@ static void w2c_f92(module *m, u64 w2c_p0, u64 w2c_p1, u32 w2c_p2, u64 w2c_p3, u
   w2c_i2 = (u32)(w2c_j2);
   w2c_j2 = i64_load(m, (u64)(w2c_i2));
   w2c_j3 = w2c_p3;
-  w2c_j4 = 69946ull;
+  w2c_j4 = 69962ull;
   w2c_j5 = 1ull;
-  w2c_j1 = w2c_f91(m, w2c_j1, w2c_j2, w2c_j3, w2c_j4, w2c_j5);
+  w2c_j1 = w2c_f90(m, w2c_j1, w2c_j2, w2c_j3, w2c_j4, w2c_j5);
   i64_store(m, (u64)(w2c_i0), w2c_j1);
   w2c_j0 = w2c_p1;
   w2c_j1 = w2c_l9;
   w2c_j2 = w2c_l7;
-  w2c_f93(m, w2c_j0, w2c_j1, w2c_j2);
+  w2c_f92(m, w2c_j0, w2c_j1, w2c_j2);
   goto w2c_B1;
   w2c_B15:;
   w2c_j0 = w2c_p3;
   w2c_j1 = w2c_p4;
-  w2c_i0 = w2c_f86(m, w2c_j0, w2c_j1);
+  w2c_i0 = w2c_f85(m, w2c_j0, w2c_j1);
   w2c_i0 = !(w2c_i0);
   if (w2c_i0) {goto w2c_B17;}
   w2c_i0 = 1u;
@@ -72673,7 +72800,7 @@ static void w2c_f92(module *m, u64 w2c_p0, u64 w2c_p1, u32 w2c_p2, u64 w2c_p3, u
     w2c_j3 = w2c_l6;
     w2c_j2 -= w2c_j3;
     w2c_l12 = w2c_j2;
-    w2c_i0 = w2c_f87(m, w2c_i0, w2c_j1, w2c_j2);
+    w2c_i0 = w2c_f86(m, w2c_i0, w2c_j1, w2c_j2);
     w2c_i0 = !(w2c_i0);
     if (w2c_i0) {goto w2c_B22;}
     w2c_j0 = w2c_p3;
@@ -72823,7 +72950,7 @@ static void w2c_f92(module *m, u64 w2c_p0, u64 w2c_p1, u32 w2c_p2, u64 w2c_p3, u
     w2c_j5 = w2c_p4;
     w2c_j6 = w2c_l9;
     w2c_j5 -= w2c_j6;
-    w2c_j1 = w2c_f91(m, w2c_j1, w2c_j2, w2c_j3, w2c_j4, w2c_j5);
+    w2c_j1 = w2c_f90(m, w2c_j1, w2c_j2, w2c_j3, w2c_j4, w2c_j5);
     i64_store(m, (u64)(w2c_i0), w2c_j1);
     w2c_j0 = w2c_l5;
     w2c_i0 = (u32)(w2c_j0);
@@ -72846,7 +72973,7 @@ static void w2c_f92(module *m, u64 w2c_p0, u64 w2c_p1, u32 w2c_p2, u64 w2c_p3, u
     w2c_j0 += w2c_j1;
     w2c_j1 = w2c_l6;
     w2c_j2 = w2c_l9;
-    w2c_f88(m, w2c_j0, w2c_j1, w2c_j2);
+    w2c_f87(m, w2c_j0, w2c_j1, w2c_j2);
     w2c_j0 = w2c_l5;
     w2c_i0 = (u32)(w2c_j0);
     w2c_j0 = i64_load(m, (u64)(w2c_i0) + 216u);
@@ -72901,7 +73028,7 @@ static void w2c_f92(module *m, u64 w2c_p0, u64 w2c_p1, u32 w2c_p2, u64 w2c_p3, u
     w2c_j1 = w2c_l9;
     w2c_j2 = w2c_l6;
     w2c_i3 = w2c_p2;
-    w2c_f44(m, w2c_j0, w2c_j1, w2c_j2, w2c_i3);
+    w2c_f43(m, w2c_j0, w2c_j1, w2c_j2, w2c_i3);
     w2c_j0 = w2c_l5;
     w2c_i0 = (u32)(w2c_j0);
     w2c_j1 = w2c_l10;
@@ -72977,7 +73104,7 @@ static void w2c_f92(module *m, u64 w2c_p0, u64 w2c_p1, u32 w2c_p2, u64 w2c_p3, u
     w2c_j5 = w2c_l5;
     w2c_i5 = (u32)(w2c_j5);
     w2c_j5 = i64_load(m, (u64)(w2c_i5) + 32u);
-    w2c_j1 = w2c_f91(m, w2c_j1, w2c_j2, w2c_j3, w2c_j4, w2c_j5);
+    w2c_j1 = w2c_f90(m, w2c_j1, w2c_j2, w2c_j3, w2c_j4, w2c_j5);
     w2c_l6 = w2c_j1;
     i64_store(m, (u64)(w2c_i0), w2c_j1);
     w2c_j0 = w2c_l8;
@@ -72991,7 +73118,7 @@ static void w2c_f92(module *m, u64 w2c_p0, u64 w2c_p1, u32 w2c_p2, u64 w2c_p3, u
     w2c_j3 = w2c_l6;
     w2c_j4 = w2c_p4;
     w2c_j5 = w2c_p3;
-    w2c_j1 = w2c_f91(m, w2c_j1, w2c_j2, w2c_j3, w2c_j4, w2c_j5);
+    w2c_j1 = w2c_f90(m, w2c_j1, w2c_j2, w2c_j3, w2c_j4, w2c_j5);
     i64_store(m, (u64)(w2c_i0), w2c_j1);
     w2c_j0 = w2c_l12;
     w2c_p4 = w2c_j0;
@@ -73042,7 +73169,7 @@ static void w2c_f92(module *m, u64 w2c_p0, u64 w2c_p1, u32 w2c_p2, u64 w2c_p3, u
   w2c_j0 += w2c_j1;
   w2c_j1 = w2c_p3;
   w2c_j2 = w2c_p4;
-  w2c_f89(m, w2c_j0, w2c_j1, w2c_j2);
+  w2c_f88(m, w2c_j0, w2c_j1, w2c_j2);
   w2c_j0 = w2c_l5;
   w2c_i0 = (u32)(w2c_j0);
   w2c_i0 = i32_load8_u(m, (u64)(w2c_i0) + 128u);
@@ -73115,7 +73242,7 @@ static void w2c_f92(module *m, u64 w2c_p0, u64 w2c_p1, u32 w2c_p2, u64 w2c_p3, u
   w2c_j1 = w2c_l8;
   w2c_j2 = w2c_l6;
   w2c_i3 = w2c_p2;
-  w2c_f44(m, w2c_j0, w2c_j1, w2c_j2, w2c_i3);
+  w2c_f43(m, w2c_j0, w2c_j1, w2c_j2, w2c_i3);
   w2c_j0 = w2c_l5;
   w2c_i0 = (u32)(w2c_j0);
   w2c_j1 = w2c_l5;
@@ -73199,7 +73326,7 @@ static void w2c_f92(module *m, u64 w2c_p0, u64 w2c_p1, u32 w2c_p2, u64 w2c_p3, u
   w2c_j1 = w2c_p3;
   w2c_j2 = w2c_p4;
   w2c_i3 = w2c_p2;
-  w2c_f44(m, w2c_j0, w2c_j1, w2c_j2, w2c_i3);
+  w2c_f43(m, w2c_j0, w2c_j1, w2c_j2, w2c_i3);
   w2c_j0 = w2c_l5;
   w2c_i0 = (u32)(w2c_j0);
   w2c_j1 = w2c_l5;
@@ -73283,7 +73410,7 @@ static void w2c_f92(module *m, u64 w2c_p0, u64 w2c_p1, u32 w2c_p2, u64 w2c_p3, u
   w2c_j5 = w2c_l5;
   w2c_i5 = (u32)(w2c_j5);
   w2c_j5 = i64_load(m, (u64)(w2c_i5) + 72u);
-  w2c_j1 = w2c_f91(m, w2c_j1, w2c_j2, w2c_j3, w2c_j4, w2c_j5);
+  w2c_j1 = w2c_f90(m, w2c_j1, w2c_j2, w2c_j3, w2c_j4, w2c_j5);
   i64_store(m, (u64)(w2c_i0), w2c_j1);
   goto w2c_B1;
   w2c_B29:;
@@ -73329,7 +73456,7 @@ static void w2c_f92(module *m, u64 w2c_p0, u64 w2c_p1, u32 w2c_p2, u64 w2c_p3, u
   w2c_j5 = w2c_l5;
   w2c_i5 = (u32)(w2c_j5);
   w2c_j5 = i64_load(m, (u64)(w2c_i5) + 56u);
-  w2c_j1 = w2c_f91(m, w2c_j1, w2c_j2, w2c_j3, w2c_j4, w2c_j5);
+  w2c_j1 = w2c_f90(m, w2c_j1, w2c_j2, w2c_j3, w2c_j4, w2c_j5);
   w2c_l11 = w2c_j1;
   i64_store(m, (u64)(w2c_i0), w2c_j1);
   w2c_j0 = w2c_l6;
@@ -73341,9 +73468,9 @@ static void w2c_f92(module *m, u64 w2c_p0, u64 w2c_p1, u32 w2c_p2, u64 w2c_p3, u
   w2c_i2 = (u32)(w2c_j2);
   w2c_j2 = i64_load(m, (u64)(w2c_i2));
   w2c_j3 = w2c_l11;
-  w2c_j4 = 69946ull;
+  w2c_j4 = 69962ull;
   w2c_j5 = 1ull;
-  w2c_j1 = w2c_f91(m, w2c_j1, w2c_j2, w2c_j3, w2c_j4, w2c_j5);
+  w2c_j1 = w2c_f90(m, w2c_j1, w2c_j2, w2c_j3, w2c_j4, w2c_j5);
   w2c_l11 = w2c_j1;
   i64_store(m, (u64)(w2c_i0), w2c_j1);
   w2c_j0 = w2c_l5;
@@ -73373,9 +73500,9 @@ static void w2c_f92(module *m, u64 w2c_p0, u64 w2c_p1, u32 w2c_p2, u64 w2c_p3, u
   w2c_j4 = 3ull;
   w2c_j3 <<= (w2c_j4 & 63);
   w2c_i3 = (u32)(w2c_j3);
-  w2c_j3 = i64_load(m, (u64)(w2c_i3) + 70088u);
+  w2c_j3 = i64_load(m, (u64)(w2c_i3) + 70104u);
   w2c_j4 = 1ull;
-  w2c_j0 = w2c_f91(m, w2c_j0, w2c_j1, w2c_j2, w2c_j3, w2c_j4);
+  w2c_j0 = w2c_f90(m, w2c_j0, w2c_j1, w2c_j2, w2c_j3, w2c_j4);
   w2c_l6 = w2c_j0;
   goto w2c_B31;
   w2c_B32:;
@@ -73388,7 +73515,7 @@ static void w2c_f92(module *m, u64 w2c_p0, u64 w2c_p1, u32 w2c_p2, u64 w2c_p3, u
   w2c_j2 = w2c_l11;
   w2c_j3 = w2c_p4;
   w2c_j4 = w2c_p3;
-  w2c_j0 = w2c_f91(m, w2c_j0, w2c_j1, w2c_j2, w2c_j3, w2c_j4);
+  w2c_j0 = w2c_f90(m, w2c_j0, w2c_j1, w2c_j2, w2c_j3, w2c_j4);
   w2c_l6 = w2c_j0;
   w2c_B31:;
   w2c_j0 = w2c_p1;
@@ -73411,7 +73538,7 @@ static void w2c_f92(module *m, u64 w2c_p0, u64 w2c_p1, u32 w2c_p2, u64 w2c_p3, u
   w2c_j3 = w2c_l6;
   w2c_j4 = w2c_l9;
   w2c_j5 = w2c_l7;
-  w2c_j1 = w2c_f91(m, w2c_j1, w2c_j2, w2c_j3, w2c_j4, w2c_j5);
+  w2c_j1 = w2c_f90(m, w2c_j1, w2c_j2, w2c_j3, w2c_j4, w2c_j5);
   i64_store(m, (u64)(w2c_i0), w2c_j1);
   goto w2c_B1;
   w2c_B4:;
@@ -73420,7 +73547,7 @@ static void w2c_f92(module *m, u64 w2c_p0, u64 w2c_p1, u32 w2c_p2, u64 w2c_p3, u
   w2c_j0 = w2c_p1;
   w2c_j1 = w2c_p3;
   w2c_j2 = w2c_p4;
-  w2c_f93(m, w2c_j0, w2c_j1, w2c_j2);
+  w2c_f92(m, w2c_j0, w2c_j1, w2c_j2);
   goto w2c_B1;
   w2c_B2:;
   w2c_i0 = 0u;
@@ -73444,7 +73571,7 @@ static void w2c_f92(module *m, u64 w2c_p0, u64 w2c_p1, u32 w2c_p2, u64 w2c_p3, u
   m->w2c_g0 = w2c_j0;
 }
 
-static void w2c_f93(module *m, u64 w2c_p0, u64 w2c_p1, u64 w2c_p2) {
+static void w2c_f92(module *m, u64 w2c_p0, u64 w2c_p1, u64 w2c_p2) {
   u32 w2c_l6 = 0, w2c_l7 = 0, w2c_l8 = 0, w2c_l9 = 0;
   u64 w2c_l3 = 0, w2c_l4 = 0, w2c_l5 = 0;
   u32 w2c_i0, w2c_i1, w2c_i2, w2c_i3;
@@ -73585,9 +73712,9 @@ static void w2c_f93(module *m, u64 w2c_p0, u64 w2c_p1, u64 w2c_p2) {
     w2c_j4 = 3ull;
     w2c_j3 <<= (w2c_j4 & 63);
     w2c_i3 = (u32)(w2c_j3);
-    w2c_j3 = i64_load(m, (u64)(w2c_i3) + 70088u);
+    w2c_j3 = i64_load(m, (u64)(w2c_i3) + 70104u);
     w2c_j4 = 1ull;
-    w2c_j0 = w2c_f91(m, w2c_j0, w2c_j1, w2c_j2, w2c_j3, w2c_j4);
+    w2c_j0 = w2c_f90(m, w2c_j0, w2c_j1, w2c_j2, w2c_j3, w2c_j4);
     w2c_l5 = w2c_j0;
     goto w2c_B6;
     w2c_B7:;
@@ -73606,7 +73733,7 @@ static void w2c_f93(module *m, u64 w2c_p0, u64 w2c_p1, u64 w2c_p2) {
     w2c_j2 = i64_load(m, (u64)(w2c_i2));
     w2c_j3 = w2c_p1;
     w2c_j4 = w2c_l3;
-    w2c_j0 = w2c_f91(m, w2c_j0, w2c_j1, w2c_j2, w2c_j3, w2c_j4);
+    w2c_j0 = w2c_f90(m, w2c_j0, w2c_j1, w2c_j2, w2c_j3, w2c_j4);
     w2c_l5 = w2c_j0;
     w2c_B6:;
     w2c_j0 = w2c_p1;
@@ -73634,7 +73761,7 @@ static void w2c_f93(module *m, u64 w2c_p0, u64 w2c_p1, u64 w2c_p2) {
   w2c_Bfunc:;
 }
 
-static u64 w2c_f94(module *m, u64 w2c_p0, u64 w2c_p1, u32 w2c_p2, u32 w2c_p3, u64 w2c_p4, u64 w2c_p5) {
+static u64 w2c_f93(module *m, u64 w2c_p0, u64 w2c_p1, u32 w2c_p2, u32 w2c_p3, u64 w2c_p4, u64 w2c_p5) {
   u32 w2c_l14 = 0, w2c_l15 = 0, w2c_l16 = 0, w2c_l17 = 0, w2c_l18 = 0;
   u64 w2c_l6 = 0, w2c_l7 = 0, w2c_l8 = 0, w2c_l9 = 0, w2c_l10 = 0, w2c_l11 = 0, w2c_l12 = 0, w2c_l13 = 0;
   u32 w2c_i0, w2c_i1, w2c_i2, w2c_i3, w2c_i4, w2c_i5, w2c_i6;
@@ -73689,7 +73816,7 @@ static u64 w2c_f94(module *m, u64 w2c_p0, u64 w2c_p1, u32 w2c_p2, u32 w2c_p3, u6
     w2c_i0 = (u32)(w2c_j0);
     w2c_j1 = w2c_l7;
     w2c_j2 = w2c_l8;
-    w2c_j3 = 69947ull;
+    w2c_j3 = 69963ull;
     w2c_j2 += w2c_j3;
     w2c_i2 = (u32)(w2c_j2);
     w2c_j2 = i64_load8_u(m, (u64)(w2c_i2));
@@ -73770,7 +73897,7 @@ static u64 w2c_f94(module *m, u64 w2c_p0, u64 w2c_p1, u32 w2c_p2, u32 w2c_p3, u6
   w2c_i0 = (u32)(w2c_j0);
   w2c_j1 = w2c_l7;
   w2c_j2 = w2c_l8;
-  w2c_j3 = 69947ull;
+  w2c_j3 = 69963ull;
   w2c_j2 += w2c_j3;
   w2c_i2 = (u32)(w2c_j2);
   w2c_j2 = i64_load8_u(m, (u64)(w2c_i2));
@@ -74091,7 +74218,7 @@ static u64 w2c_f94(module *m, u64 w2c_p0, u64 w2c_p1, u32 w2c_p2, u32 w2c_p3, u6
     w2c_i0 = (u32)(w2c_j0);
     w2c_j1 = w2c_l12;
     w2c_j2 = w2c_l8;
-    w2c_j3 = 69963ull;
+    w2c_j3 = 69979ull;
     w2c_j2 += w2c_j3;
     w2c_i2 = (u32)(w2c_j2);
     w2c_j2 = i64_load8_u(m, (u64)(w2c_i2));
@@ -74147,7 +74274,7 @@ static u64 w2c_f94(module *m, u64 w2c_p0, u64 w2c_p1, u32 w2c_p2, u32 w2c_p3, u6
     w2c_i0 = (u32)(w2c_j0);
     w2c_j1 = w2c_l12;
     w2c_j2 = w2c_l8;
-    w2c_j3 = 69963ull;
+    w2c_j3 = 69979ull;
     w2c_j2 += w2c_j3;
     w2c_i2 = (u32)(w2c_j2);
     w2c_j2 = i64_load8_u(m, (u64)(w2c_i2));
@@ -74201,7 +74328,7 @@ static u64 w2c_f94(module *m, u64 w2c_p0, u64 w2c_p1, u32 w2c_p2, u32 w2c_p3, u6
     w2c_i0 = (u32)(w2c_j0);
     w2c_j1 = w2c_l12;
     w2c_j2 = w2c_l8;
-    w2c_j3 = 69963ull;
+    w2c_j3 = 69979ull;
     w2c_j2 += w2c_j3;
     w2c_i2 = (u32)(w2c_j2);
     w2c_j2 = i64_load8_u(m, (u64)(w2c_i2));
@@ -74485,7 +74612,7 @@ static u64 w2c_f94(module *m, u64 w2c_p0, u64 w2c_p1, u32 w2c_p2, u32 w2c_p3, u6
   w2c_j1 = w2c_l12;
   w2c_j2 = w2c_l8;
   w2c_i2 = (u32)(w2c_j2);
-  w2c_j2 = i64_load8_u(m, (u64)(w2c_i2) + 69963u);
+  w2c_j2 = i64_load8_u(m, (u64)(w2c_i2) + 69979u);
   w2c_j3 = 2ull;
   w2c_j2 <<= (w2c_j3 & 63);
   w2c_j1 += w2c_j2;
@@ -74539,7 +74666,7 @@ static u64 w2c_f94(module *m, u64 w2c_p0, u64 w2c_p1, u32 w2c_p2, u32 w2c_p3, u6
   w2c_j1 = w2c_l12;
   w2c_j2 = w2c_l8;
   w2c_i2 = (u32)(w2c_j2);
-  w2c_j2 = i64_load8_u(m, (u64)(w2c_i2) + 69963u);
+  w2c_j2 = i64_load8_u(m, (u64)(w2c_i2) + 69979u);
   w2c_j3 = 2ull;
   w2c_j2 <<= (w2c_j3 & 63);
   w2c_j1 += w2c_j2;
@@ -74591,7 +74718,7 @@ static u64 w2c_f94(module *m, u64 w2c_p0, u64 w2c_p1, u32 w2c_p2, u32 w2c_p3, u6
   w2c_j1 = w2c_l12;
   w2c_j2 = w2c_l8;
   w2c_i2 = (u32)(w2c_j2);
-  w2c_j2 = i64_load8_u(m, (u64)(w2c_i2) + 69963u);
+  w2c_j2 = i64_load8_u(m, (u64)(w2c_i2) + 69979u);
   w2c_j3 = 2ull;
   w2c_j2 <<= (w2c_j3 & 63);
   w2c_j1 += w2c_j2;
@@ -74624,7 +74751,7 @@ static u64 w2c_f94(module *m, u64 w2c_p0, u64 w2c_p1, u32 w2c_p2, u32 w2c_p3, u6
     w2c_i0 = (u32)(w2c_j0);
     w2c_j1 = w2c_l7;
     w2c_j2 = w2c_l8;
-    w2c_j3 = 69947ull;
+    w2c_j3 = 69963ull;
     w2c_j2 += w2c_j3;
     w2c_i2 = (u32)(w2c_j2);
     w2c_j2 = i64_load8_u(m, (u64)(w2c_i2));
@@ -74705,7 +74832,7 @@ static u64 w2c_f94(module *m, u64 w2c_p0, u64 w2c_p1, u32 w2c_p2, u32 w2c_p3, u6
   w2c_i0 = (u32)(w2c_j0);
   w2c_j1 = w2c_l7;
   w2c_j2 = w2c_l8;
-  w2c_j3 = 69947ull;
+  w2c_j3 = 69963ull;
   w2c_j2 += w2c_j3;
   w2c_i2 = (u32)(w2c_j2);
   w2c_j2 = i64_load8_u(m, (u64)(w2c_i2));
@@ -75026,7 +75153,7 @@ static u64 w2c_f94(module *m, u64 w2c_p0, u64 w2c_p1, u32 w2c_p2, u32 w2c_p3, u6
     w2c_i0 = (u32)(w2c_j0);
     w2c_j1 = w2c_l12;
     w2c_j2 = w2c_l8;
-    w2c_j3 = 70002ull;
+    w2c_j3 = 70018ull;
     w2c_j2 += w2c_j3;
     w2c_i2 = (u32)(w2c_j2);
     w2c_j2 = i64_load8_u(m, (u64)(w2c_i2));
@@ -75086,7 +75213,7 @@ static u64 w2c_f94(module *m, u64 w2c_p0, u64 w2c_p1, u32 w2c_p2, u32 w2c_p3, u6
     w2c_j1 = w2c_l12;
     w2c_j2 = w2c_l13;
     w2c_i2 = (u32)(w2c_j2);
-    w2c_j2 = i64_load8_u(m, (u64)(w2c_i2) + 70002u);
+    w2c_j2 = i64_load8_u(m, (u64)(w2c_i2) + 70018u);
     w2c_j3 = 2ull;
     w2c_j2 <<= (w2c_j3 & 63);
     w2c_j1 += w2c_j2;
@@ -75137,7 +75264,7 @@ static u64 w2c_f94(module *m, u64 w2c_p0, u64 w2c_p1, u32 w2c_p2, u32 w2c_p3, u6
     w2c_i0 = (u32)(w2c_j0);
     w2c_j1 = w2c_l12;
     w2c_j2 = w2c_l8;
-    w2c_j3 = 70002ull;
+    w2c_j3 = 70018ull;
     w2c_j2 += w2c_j3;
     w2c_i2 = (u32)(w2c_j2);
     w2c_j2 = i64_load8_u(m, (u64)(w2c_i2));
@@ -75191,7 +75318,7 @@ static u64 w2c_f94(module *m, u64 w2c_p0, u64 w2c_p1, u32 w2c_p2, u32 w2c_p3, u6
     w2c_i0 = (u32)(w2c_j0);
     w2c_j1 = w2c_l12;
     w2c_j2 = w2c_l8;
-    w2c_j3 = 70002ull;
+    w2c_j3 = 70018ull;
     w2c_j2 += w2c_j3;
     w2c_i2 = (u32)(w2c_j2);
     w2c_j2 = i64_load8_u(m, (u64)(w2c_i2));
@@ -75475,7 +75602,7 @@ static u64 w2c_f94(module *m, u64 w2c_p0, u64 w2c_p1, u32 w2c_p2, u32 w2c_p3, u6
   w2c_j1 = w2c_l12;
   w2c_j2 = w2c_l8;
   w2c_i2 = (u32)(w2c_j2);
-  w2c_j2 = i64_load8_u(m, (u64)(w2c_i2) + 70002u);
+  w2c_j2 = i64_load8_u(m, (u64)(w2c_i2) + 70018u);
   w2c_j3 = 2ull;
   w2c_j2 <<= (w2c_j3 & 63);
   w2c_j1 += w2c_j2;
@@ -75532,7 +75659,7 @@ static u64 w2c_f94(module *m, u64 w2c_p0, u64 w2c_p1, u32 w2c_p2, u32 w2c_p3, u6
   w2c_j1 = w2c_l12;
   w2c_j2 = w2c_l10;
   w2c_i2 = (u32)(w2c_j2);
-  w2c_j2 = i64_load8_u(m, (u64)(w2c_i2) + 70002u);
+  w2c_j2 = i64_load8_u(m, (u64)(w2c_i2) + 70018u);
   w2c_j3 = 2ull;
   w2c_j2 <<= (w2c_j3 & 63);
   w2c_j1 += w2c_j2;
@@ -75584,7 +75711,7 @@ static u64 w2c_f94(module *m, u64 w2c_p0, u64 w2c_p1, u32 w2c_p2, u32 w2c_p3, u6
   w2c_j1 = w2c_l12;
   w2c_j2 = w2c_l8;
   w2c_i2 = (u32)(w2c_j2);
-  w2c_j2 = i64_load8_u(m, (u64)(w2c_i2) + 70002u);
+  w2c_j2 = i64_load8_u(m, (u64)(w2c_i2) + 70018u);
   w2c_j3 = 2ull;
   w2c_j2 <<= (w2c_j3 & 63);
   w2c_j1 += w2c_j2;
@@ -75636,7 +75763,7 @@ static u64 w2c_f94(module *m, u64 w2c_p0, u64 w2c_p1, u32 w2c_p2, u32 w2c_p3, u6
   w2c_j1 = w2c_l12;
   w2c_j2 = w2c_l8;
   w2c_i2 = (u32)(w2c_j2);
-  w2c_j2 = i64_load8_u(m, (u64)(w2c_i2) + 70002u);
+  w2c_j2 = i64_load8_u(m, (u64)(w2c_i2) + 70018u);
   w2c_j3 = 2ull;
   w2c_j2 <<= (w2c_j3 & 63);
   w2c_j1 += w2c_j2;
@@ -75669,7 +75796,7 @@ static u64 w2c_f94(module *m, u64 w2c_p0, u64 w2c_p1, u32 w2c_p2, u32 w2c_p3, u6
     w2c_i0 = (u32)(w2c_j0);
     w2c_j1 = w2c_l7;
     w2c_j2 = w2c_l8;
-    w2c_j3 = 69947ull;
+    w2c_j3 = 69963ull;
     w2c_j2 += w2c_j3;
     w2c_i2 = (u32)(w2c_j2);
     w2c_j2 = i64_load8_u(m, (u64)(w2c_i2));
@@ -75750,7 +75877,7 @@ static u64 w2c_f94(module *m, u64 w2c_p0, u64 w2c_p1, u32 w2c_p2, u32 w2c_p3, u6
   w2c_i0 = (u32)(w2c_j0);
   w2c_j1 = w2c_l7;
   w2c_j2 = w2c_l8;
-  w2c_j3 = 69947ull;
+  w2c_j3 = 69963ull;
   w2c_j2 += w2c_j3;
   w2c_i2 = (u32)(w2c_j2);
   w2c_j2 = i64_load8_u(m, (u64)(w2c_i2));
@@ -76071,7 +76198,7 @@ static u64 w2c_f94(module *m, u64 w2c_p0, u64 w2c_p1, u32 w2c_p2, u32 w2c_p3, u6
     w2c_i0 = (u32)(w2c_j0);
     w2c_j1 = w2c_l12;
     w2c_j2 = w2c_l8;
-    w2c_j3 = 70041ull;
+    w2c_j3 = 70057ull;
     w2c_j2 += w2c_j3;
     w2c_i2 = (u32)(w2c_j2);
     w2c_j2 = i64_load8_u(m, (u64)(w2c_i2));
@@ -76131,7 +76258,7 @@ static u64 w2c_f94(module *m, u64 w2c_p0, u64 w2c_p1, u32 w2c_p2, u32 w2c_p3, u6
     w2c_j1 = w2c_l12;
     w2c_j2 = w2c_l13;
     w2c_i2 = (u32)(w2c_j2);
-    w2c_j2 = i64_load8_u(m, (u64)(w2c_i2) + 70041u);
+    w2c_j2 = i64_load8_u(m, (u64)(w2c_i2) + 70057u);
     w2c_j3 = 2ull;
     w2c_j2 <<= (w2c_j3 & 63);
     w2c_j1 += w2c_j2;
@@ -76186,7 +76313,7 @@ static u64 w2c_f94(module *m, u64 w2c_p0, u64 w2c_p1, u32 w2c_p2, u32 w2c_p3, u6
     w2c_j1 = w2c_l12;
     w2c_j2 = w2c_l13;
     w2c_i2 = (u32)(w2c_j2);
-    w2c_j2 = i64_load8_u(m, (u64)(w2c_i2) + 70041u);
+    w2c_j2 = i64_load8_u(m, (u64)(w2c_i2) + 70057u);
     w2c_j3 = 2ull;
     w2c_j2 <<= (w2c_j3 & 63);
     w2c_j1 += w2c_j2;
@@ -76241,7 +76368,7 @@ static u64 w2c_f94(module *m, u64 w2c_p0, u64 w2c_p1, u32 w2c_p2, u32 w2c_p3, u6
     w2c_j1 = w2c_l12;
     w2c_j2 = w2c_l13;
     w2c_i2 = (u32)(w2c_j2);
-    w2c_j2 = i64_load8_u(m, (u64)(w2c_i2) + 70041u);
+    w2c_j2 = i64_load8_u(m, (u64)(w2c_i2) + 70057u);
     w2c_j3 = 2ull;
     w2c_j2 <<= (w2c_j3 & 63);
     w2c_j1 += w2c_j2;
@@ -76292,7 +76419,7 @@ static u64 w2c_f94(module *m, u64 w2c_p0, u64 w2c_p1, u32 w2c_p2, u32 w2c_p3, u6
     w2c_i0 = (u32)(w2c_j0);
     w2c_j1 = w2c_l12;
     w2c_j2 = w2c_l8;
-    w2c_j3 = 70041ull;
+    w2c_j3 = 70057ull;
     w2c_j2 += w2c_j3;
     w2c_i2 = (u32)(w2c_j2);
     w2c_j2 = i64_load8_u(m, (u64)(w2c_i2));
@@ -76346,7 +76473,7 @@ static u64 w2c_f94(module *m, u64 w2c_p0, u64 w2c_p1, u32 w2c_p2, u32 w2c_p3, u6
     w2c_i0 = (u32)(w2c_j0);
     w2c_j1 = w2c_l12;
     w2c_j2 = w2c_l8;
-    w2c_j3 = 70041ull;
+    w2c_j3 = 70057ull;
     w2c_j2 += w2c_j3;
     w2c_i2 = (u32)(w2c_j2);
     w2c_j2 = i64_load8_u(m, (u64)(w2c_i2));
@@ -76630,7 +76757,7 @@ static u64 w2c_f94(module *m, u64 w2c_p0, u64 w2c_p1, u32 w2c_p2, u32 w2c_p3, u6
   w2c_j1 = w2c_l12;
   w2c_j2 = w2c_l8;
   w2c_i2 = (u32)(w2c_j2);
-  w2c_j2 = i64_load8_u(m, (u64)(w2c_i2) + 70041u);
+  w2c_j2 = i64_load8_u(m, (u64)(w2c_i2) + 70057u);
   w2c_j3 = 2ull;
   w2c_j2 <<= (w2c_j3 & 63);
   w2c_j1 += w2c_j2;
@@ -76687,7 +76814,7 @@ static u64 w2c_f94(module *m, u64 w2c_p0, u64 w2c_p1, u32 w2c_p2, u32 w2c_p3, u6
   w2c_j1 = w2c_l12;
   w2c_j2 = w2c_l10;
   w2c_i2 = (u32)(w2c_j2);
-  w2c_j2 = i64_load8_u(m, (u64)(w2c_i2) + 70041u);
+  w2c_j2 = i64_load8_u(m, (u64)(w2c_i2) + 70057u);
   w2c_j3 = 2ull;
   w2c_j2 <<= (w2c_j3 & 63);
   w2c_j1 += w2c_j2;
@@ -76742,7 +76869,7 @@ static u64 w2c_f94(module *m, u64 w2c_p0, u64 w2c_p1, u32 w2c_p2, u32 w2c_p3, u6
   w2c_j1 = w2c_l12;
   w2c_j2 = w2c_l10;
   w2c_i2 = (u32)(w2c_j2);
-  w2c_j2 = i64_load8_u(m, (u64)(w2c_i2) + 70041u);
+  w2c_j2 = i64_load8_u(m, (u64)(w2c_i2) + 70057u);
   w2c_j3 = 2ull;
   w2c_j2 <<= (w2c_j3 & 63);
   w2c_j1 += w2c_j2;
@@ -76797,7 +76924,7 @@ static u64 w2c_f94(module *m, u64 w2c_p0, u64 w2c_p1, u32 w2c_p2, u32 w2c_p3, u6
   w2c_j1 = w2c_l12;
   w2c_j2 = w2c_l10;
   w2c_i2 = (u32)(w2c_j2);
-  w2c_j2 = i64_load8_u(m, (u64)(w2c_i2) + 70041u);
+  w2c_j2 = i64_load8_u(m, (u64)(w2c_i2) + 70057u);
   w2c_j3 = 2ull;
   w2c_j2 <<= (w2c_j3 & 63);
   w2c_j1 += w2c_j2;
@@ -76849,7 +76976,7 @@ static u64 w2c_f94(module *m, u64 w2c_p0, u64 w2c_p1, u32 w2c_p2, u32 w2c_p3, u6
   w2c_j1 = w2c_l12;
   w2c_j2 = w2c_l8;
   w2c_i2 = (u32)(w2c_j2);
-  w2c_j2 = i64_load8_u(m, (u64)(w2c_i2) + 70041u);
+  w2c_j2 = i64_load8_u(m, (u64)(w2c_i2) + 70057u);
   w2c_j3 = 2ull;
   w2c_j2 <<= (w2c_j3 & 63);
   w2c_j1 += w2c_j2;
@@ -76901,7 +77028,7 @@ static u64 w2c_f94(module *m, u64 w2c_p0, u64 w2c_p1, u32 w2c_p2, u32 w2c_p3, u6
   w2c_j1 = w2c_l12;
   w2c_j2 = w2c_l8;
   w2c_i2 = (u32)(w2c_j2);
-  w2c_j2 = i64_load8_u(m, (u64)(w2c_i2) + 70041u);
+  w2c_j2 = i64_load8_u(m, (u64)(w2c_i2) + 70057u);
   w2c_j3 = 2ull;
   w2c_j2 <<= (w2c_j3 & 63);
   w2c_j1 += w2c_j2;
@@ -76934,7 +77061,7 @@ static u64 w2c_f94(module *m, u64 w2c_p0, u64 w2c_p1, u32 w2c_p2, u32 w2c_p3, u6
     w2c_i0 = (u32)(w2c_j0);
     w2c_j1 = w2c_l7;
     w2c_j2 = w2c_l8;
-    w2c_j3 = 69947ull;
+    w2c_j3 = 69963ull;
     w2c_j2 += w2c_j3;
     w2c_i2 = (u32)(w2c_j2);
     w2c_j2 = i64_load8_u(m, (u64)(w2c_i2));
@@ -77015,7 +77142,7 @@ static u64 w2c_f94(module *m, u64 w2c_p0, u64 w2c_p1, u32 w2c_p2, u32 w2c_p3, u6
   w2c_i0 = (u32)(w2c_j0);
   w2c_j1 = w2c_l7;
   w2c_j2 = w2c_l8;
-  w2c_j3 = 69947ull;
+  w2c_j3 = 69963ull;
   w2c_j2 += w2c_j3;
   w2c_i2 = (u32)(w2c_j2);
   w2c_j2 = i64_load8_u(m, (u64)(w2c_i2));
@@ -77222,7 +77349,7 @@ static u64 w2c_f94(module *m, u64 w2c_p0, u64 w2c_p1, u32 w2c_p2, u32 w2c_p3, u6
   return w2c_j0;
 }
 
-static u32 w2c_f95(module *m, u64 w2c_p0, u64 w2c_p1, u32 w2c_p2, u32 w2c_p3, u64 w2c_p4) {
+static u32 w2c_f94(module *m, u64 w2c_p0, u64 w2c_p1, u32 w2c_p2, u32 w2c_p3, u64 w2c_p4) {
   u32 w2c_l12 = 0, w2c_l13 = 0;
   u64 w2c_l5 = 0, w2c_l6 = 0, w2c_l7 = 0, w2c_l8 = 0, w2c_l9 = 0, w2c_l10 = 0, w2c_l11 = 0;
   u32 w2c_i0, w2c_i1, w2c_i2, w2c_i3, w2c_i4;
@@ -77519,7 +77646,7 @@ static u32 w2c_f95(module *m, u64 w2c_p0, u64 w2c_p1, u32 w2c_p2, u32 w2c_p3, u6
   w2c_j1 = w2c_p1;
   w2c_i2 = w2c_p2;
   w2c_j3 = w2c_p4;
-  w2c_i0 = w2c_f71(m, w2c_j0, w2c_j1, w2c_i2, w2c_j3);
+  w2c_i0 = w2c_f70(m, w2c_j0, w2c_j1, w2c_i2, w2c_j3);
   w2c_l12 = w2c_i0;
   w2c_j0 = w2c_l5;
   m->w2c_g0 = w2c_j0;
@@ -77557,13 +77684,13 @@ static u32 w2c_f95(module *m, u64 w2c_p0, u64 w2c_p1, u32 w2c_p2, u32 w2c_p3, u6
   w2c_j1 = 1ull;
   w2c_j0 <<= (w2c_j1 & 63);
   w2c_l7 = w2c_j0;
-  w2c_j1 = 69473ull;
+  w2c_j1 = 69489ull;
   w2c_j0 += w2c_j1;
   w2c_i0 = (u32)(w2c_j0);
   w2c_i0 = i32_load8_u(m, (u64)(w2c_i0));
   w2c_l12 = w2c_i0;
   w2c_j0 = w2c_l7;
-  w2c_j1 = 69472ull;
+  w2c_j1 = 69488ull;
   w2c_j0 += w2c_j1;
   w2c_i0 = (u32)(w2c_j0);
   w2c_i0 = i32_load8_u(m, (u64)(w2c_i0));
@@ -77578,7 +77705,7 @@ static u32 w2c_f95(module *m, u64 w2c_p0, u64 w2c_p1, u32 w2c_p2, u32 w2c_p3, u6
   w2c_i3 = w2c_p3;
   w2c_i4 = w2c_l12;
   w2c_j5 = w2c_p4;
-  w2c_i0 = w2c_f68(m, w2c_j0, w2c_j1, w2c_i2, w2c_i3, w2c_i4, w2c_j5);
+  w2c_i0 = w2c_f67(m, w2c_j0, w2c_j1, w2c_i2, w2c_i3, w2c_i4, w2c_j5);
   w2c_l12 = w2c_i0;
   w2c_j0 = w2c_l5;
   m->w2c_g0 = w2c_j0;
@@ -77591,7 +77718,7 @@ static u32 w2c_f95(module *m, u64 w2c_p0, u64 w2c_p1, u32 w2c_p2, u32 w2c_p3, u6
   w2c_i3 = w2c_p3;
   w2c_i4 = w2c_l12;
   w2c_j5 = w2c_p4;
-  w2c_i0 = w2c_f70(m, w2c_j0, w2c_j1, w2c_i2, w2c_i3, w2c_i4, w2c_j5);
+  w2c_i0 = w2c_f69(m, w2c_j0, w2c_j1, w2c_i2, w2c_i3, w2c_i4, w2c_j5);
   w2c_l12 = w2c_i0;
   w2c_j0 = w2c_l5;
   m->w2c_g0 = w2c_j0;
@@ -77611,13 +77738,13 @@ static u32 w2c_chinese_number_version(module *m) {
   w2c_f2(m);
   UNREACHABLE;
   w2c_B0:;
-  w2c_f97(m);
+  w2c_f96(m);
   w2c_f1(m);
   w2c_i0 = 1000u;
   return w2c_i0;
 }
 
-static void w2c_f97(module *m) {
+static void w2c_f96(module *m) {
   u32 w2c_i0;
   u64 w2c_j0, w2c_j1;
   w2c_j0 = m->w2c_g0;
@@ -77644,14 +77771,14 @@ static u32 w2c_chinese_date_print(module *m, u32 w2c_p0, u32 w2c_p1, u32 w2c_p2,
   w2c_j4 = w2c_p4;
   w2c_j5 = w2c_p5;
   w2c_j6 = w2c_p6;
-  w2c_i0 = w2c_f99(m, w2c_i0, w2c_i1, w2c_i2, w2c_i3, w2c_j4, w2c_j5, w2c_j6);
+  w2c_i0 = w2c_f98(m, w2c_i0, w2c_i1, w2c_i2, w2c_i3, w2c_j4, w2c_j5, w2c_j6);
   w2c_p3 = w2c_i0;
   w2c_f1(m);
   w2c_i0 = w2c_p3;
   return w2c_i0;
 }
 
-static u32 w2c_f99(module *m, u32 w2c_p0, u32 w2c_p1, u32 w2c_p2, u32 w2c_p3, u64 w2c_p4, u64 w2c_p5, u64 w2c_p6) {
+static u32 w2c_f98(module *m, u32 w2c_p0, u32 w2c_p1, u32 w2c_p2, u32 w2c_p3, u64 w2c_p4, u64 w2c_p5, u64 w2c_p6) {
   u32 w2c_l11 = 0, w2c_l12 = 0, w2c_l13 = 0;
   u64 w2c_l7 = 0, w2c_l8 = 0, w2c_l9 = 0, w2c_l10 = 0;
   u32 w2c_i0, w2c_i1, w2c_i2, w2c_i3, w2c_i4;
@@ -78067,14 +78194,14 @@ static u32 w2c_chinese_signed_amount_print(module *m, u64 w2c_p0, u32 w2c_p1, u3
   w2c_j3 = w2c_p3;
   w2c_j4 = w2c_p4;
   w2c_j5 = w2c_p5;
-  w2c_i0 = w2c_f101(m, w2c_j0, w2c_i1, w2c_i2, w2c_j3, w2c_j4, w2c_j5);
+  w2c_i0 = w2c_f100(m, w2c_j0, w2c_i1, w2c_i2, w2c_j3, w2c_j4, w2c_j5);
   w2c_p2 = w2c_i0;
   w2c_f1(m);
   w2c_i0 = w2c_p2;
   return w2c_i0;
 }
 
-static u32 w2c_f101(module *m, u64 w2c_p0, u32 w2c_p1, u32 w2c_p2, u64 w2c_p3, u64 w2c_p4, u64 w2c_p5) {
+static u32 w2c_f100(module *m, u64 w2c_p0, u32 w2c_p1, u32 w2c_p2, u64 w2c_p3, u64 w2c_p4, u64 w2c_p5) {
   u32 w2c_l9 = 0;
   u64 w2c_l6 = 0, w2c_l7 = 0, w2c_l8 = 0;
   u32 w2c_i0, w2c_i1, w2c_i2, w2c_i3;
@@ -78294,14 +78421,14 @@ static u32 w2c_chinese_quantity_figures(module *m, u64 w2c_p0, u64 w2c_p1, u64 w
   w2c_j1 = w2c_p1;
   w2c_j2 = w2c_p2;
   w2c_j3 = w2c_p3;
-  w2c_i0 = w2c_f103(m, w2c_j0, w2c_j1, w2c_j2, w2c_j3);
+  w2c_i0 = w2c_f102(m, w2c_j0, w2c_j1, w2c_j2, w2c_j3);
   w2c_l4 = w2c_i0;
   w2c_f1(m);
   w2c_i0 = w2c_l4;
   return w2c_i0;
 }
 
-static u32 w2c_f103(module *m, u64 w2c_p0, u64 w2c_p1, u64 w2c_p2, u64 w2c_p3) {
+static u32 w2c_f102(module *m, u64 w2c_p0, u64 w2c_p1, u64 w2c_p2, u64 w2c_p3) {
   u32 w2c_l10 = 0;
   u64 w2c_l4 = 0, w2c_l5 = 0, w2c_l6 = 0, w2c_l7 = 0, w2c_l8 = 0, w2c_l9 = 0;
   u32 w2c_i0, w2c_i1, w2c_i2, w2c_i3;
@@ -78568,14 +78695,14 @@ static u32 w2c_chinese_amount_read(module *m, u64 w2c_p0, u64 w2c_p1, u64 w2c_p2
   w2c_j0 = w2c_p0;
   w2c_j1 = w2c_p1;
   w2c_j2 = w2c_p2;
-  w2c_i0 = w2c_f105(m, w2c_j0, w2c_j1, w2c_j2);
+  w2c_i0 = w2c_f104(m, w2c_j0, w2c_j1, w2c_j2);
   w2c_l3 = w2c_i0;
   w2c_f1(m);
   w2c_i0 = w2c_l3;
   return w2c_i0;
 }
 
-static u32 w2c_f105(module *m, u64 w2c_p0, u64 w2c_p1, u64 w2c_p2) {
+static u32 w2c_f104(module *m, u64 w2c_p0, u64 w2c_p1, u64 w2c_p2) {
   u32 w2c_l14 = 0, w2c_l15 = 0, w2c_l16 = 0, w2c_l17 = 0, w2c_l18 = 0, w2c_l19 = 0, w2c_l20 = 0, w2c_l21 = 0;
   u64 w2c_l3 = 0, w2c_l4 = 0, w2c_l5 = 0, w2c_l6 = 0, w2c_l7 = 0, w2c_l8 = 0, w2c_l9 = 0, w2c_l10 = 0, w2c_l11 = 0, w2c_l12 = 0, w2c_l13 = 0;
   u32 w2c_i0, w2c_i1, w2c_i2, w2c_i3;
@@ -80587,14 +80714,14 @@ static u32 w2c_chinese_typed_amount_read(module *m, u64 w2c_p0, u64 w2c_p1, u64 
   w2c_j0 = w2c_p0;
   w2c_j1 = w2c_p1;
   w2c_j2 = w2c_p2;
-  w2c_i0 = w2c_f107(m, w2c_j0, w2c_j1, w2c_j2);
+  w2c_i0 = w2c_f106(m, w2c_j0, w2c_j1, w2c_j2);
   w2c_l3 = w2c_i0;
   w2c_f1(m);
   w2c_i0 = w2c_l3;
   return w2c_i0;
 }
 
-static u32 w2c_f107(module *m, u64 w2c_p0, u64 w2c_p1, u64 w2c_p2) {
+static u32 w2c_f106(module *m, u64 w2c_p0, u64 w2c_p1, u64 w2c_p2) {
   u32 w2c_l12 = 0, w2c_l13 = 0, w2c_l14 = 0, w2c_l15 = 0, w2c_l16 = 0, w2c_l17 = 0, w2c_l18 = 0, w2c_l19 = 0, w2c_l20 = 0;
   u64 w2c_l3 = 0, w2c_l4 = 0, w2c_l5 = 0, w2c_l6 = 0, w2c_l7 = 0, w2c_l8 = 0, w2c_l9 = 0, w2c_l10 = 0, w2c_l11 = 0;
   u32 w2c_i0, w2c_i1, w2c_i2, w2c_i3, w2c_i4;
@@ -82649,14 +82776,14 @@ static u32 w2c_chinese_date_read(module *m, u64 w2c_p0, u64 w2c_p1, u64 w2c_p2) 
   w2c_j0 = w2c_p0;
   w2c_j1 = w2c_p1;
   w2c_j2 = w2c_p2;
-  w2c_i0 = w2c_f109(m, w2c_j0, w2c_j1, w2c_j2);
+  w2c_i0 = w2c_f108(m, w2c_j0, w2c_j1, w2c_j2);
   w2c_l3 = w2c_i0;
   w2c_f1(m);
   w2c_i0 = w2c_l3;
   return w2c_i0;
 }
 
-static u32 w2c_f109(module *m, u64 w2c_p0, u64 w2c_p1, u64 w2c_p2) {
+static u32 w2c_f108(module *m, u64 w2c_p0, u64 w2c_p1, u64 w2c_p2) {
   u32 w2c_l9 = 0, w2c_l10 = 0, w2c_l11 = 0, w2c_l12 = 0, w2c_l13 = 0, w2c_l14 = 0, w2c_l15 = 0, w2c_l16 = 0, w2c_l17 = 0, w2c_l18 = 0, w2c_l19 = 0, w2c_l20 = 0, w2c_l21 = 0;
   u64 w2c_l3 = 0, w2c_l4 = 0, w2c_l5 = 0, w2c_l6 = 0, w2c_l7 = 0, w2c_l8 = 0;
   u32 w2c_i0, w2c_i1, w2c_i2, w2c_i3, w2c_i4;
@@ -83781,14 +83908,14 @@ static u32 w2c_chinese_amount_print(module *m, u64 w2c_p0, u32 w2c_p1, u32 w2c_p
   w2c_j3 = w2c_p3;
   w2c_j4 = w2c_p4;
   w2c_j5 = w2c_p5;
-  w2c_i0 = w2c_f111(m, w2c_j0, w2c_i1, w2c_i2, w2c_j3, w2c_j4, w2c_j5);
+  w2c_i0 = w2c_f110(m, w2c_j0, w2c_i1, w2c_i2, w2c_j3, w2c_j4, w2c_j5);
   w2c_p2 = w2c_i0;
   w2c_f1(m);
   w2c_i0 = w2c_p2;
   return w2c_i0;
 }
 
-static u32 w2c_f111(module *m, u64 w2c_p0, u32 w2c_p1, u32 w2c_p2, u64 w2c_p3, u64 w2c_p4, u64 w2c_p5) {
+static u32 w2c_f110(module *m, u64 w2c_p0, u32 w2c_p1, u32 w2c_p2, u64 w2c_p3, u64 w2c_p4, u64 w2c_p5) {
   u64 w2c_l6 = 0;
   u32 w2c_i0, w2c_i1, w2c_i2, w2c_i6;
   u64 w2c_j0, w2c_j1, w2c_j2, w2c_j3, w2c_j4, w2c_j5, w2c_j6;
@@ -83882,14 +84009,14 @@ static u32 w2c_chinese_figures_read(module *m, u64 w2c_p0, u64 w2c_p1, u64 w2c_p
   w2c_j0 = w2c_p0;
   w2c_j1 = w2c_p1;
   w2c_j2 = w2c_p2;
-  w2c_i0 = w2c_f113(m, w2c_j0, w2c_j1, w2c_j2);
+  w2c_i0 = w2c_f112(m, w2c_j0, w2c_j1, w2c_j2);
   w2c_l3 = w2c_i0;
   w2c_f1(m);
   w2c_i0 = w2c_l3;
   return w2c_i0;
 }
 
-static u32 w2c_f113(module *m, u64 w2c_p0, u64 w2c_p1, u64 w2c_p2) {
+static u32 w2c_f112(module *m, u64 w2c_p0, u64 w2c_p1, u64 w2c_p2) {
   u32 w2c_l8 = 0, w2c_l9 = 0, w2c_l10 = 0, w2c_l11 = 0;
   u64 w2c_l3 = 0, w2c_l4 = 0, w2c_l5 = 0, w2c_l6 = 0, w2c_l7 = 0;
   u32 w2c_i0, w2c_i1, w2c_i2, w2c_i3;
@@ -84410,14 +84537,14 @@ static u32 w2c_chinese_signed_amount_read(module *m, u64 w2c_p0, u64 w2c_p1, u64
   w2c_j0 = w2c_p0;
   w2c_j1 = w2c_p1;
   w2c_j2 = w2c_p2;
-  w2c_i0 = w2c_f115(m, w2c_j0, w2c_j1, w2c_j2);
+  w2c_i0 = w2c_f114(m, w2c_j0, w2c_j1, w2c_j2);
   w2c_l3 = w2c_i0;
   w2c_f1(m);
   w2c_i0 = w2c_l3;
   return w2c_i0;
 }
 
-static u32 w2c_f115(module *m, u64 w2c_p0, u64 w2c_p1, u64 w2c_p2) {
+static u32 w2c_f114(module *m, u64 w2c_p0, u64 w2c_p1, u64 w2c_p2) {
   u32 w2c_l14 = 0, w2c_l15 = 0, w2c_l16 = 0, w2c_l17 = 0, w2c_l18 = 0, w2c_l19 = 0, w2c_l20 = 0, w2c_l21 = 0, w2c_l22 = 0;
   u64 w2c_l3 = 0, w2c_l4 = 0, w2c_l5 = 0, w2c_l6 = 0, w2c_l7 = 0, w2c_l8 = 0, w2c_l9 = 0, w2c_l10 = 0, w2c_l11 = 0, w2c_l12 = 0, w2c_l13 = 0;
   u32 w2c_i0, w2c_i1, w2c_i2, w2c_i3, w2c_i4;
@@ -86438,14 +86565,14 @@ static u32 w2c_chinese_number_find(module *m, u64 w2c_p0, u64 w2c_p1, u64 w2c_p2
   w2c_j5 = w2c_p5;
   w2c_j6 = w2c_p6;
   w2c_j7 = w2c_p7;
-  w2c_i0 = w2c_f117(m, w2c_j0, w2c_j1, w2c_j2, w2c_i3, w2c_i4, w2c_j5, w2c_j6, w2c_j7);
+  w2c_i0 = w2c_f116(m, w2c_j0, w2c_j1, w2c_j2, w2c_i3, w2c_i4, w2c_j5, w2c_j6, w2c_j7);
   w2c_p4 = w2c_i0;
   w2c_f1(m);
   w2c_i0 = w2c_p4;
   return w2c_i0;
 }
 
-static u32 w2c_f117(module *m, u64 w2c_p0, u64 w2c_p1, u64 w2c_p2, u32 w2c_p3, u32 w2c_p4, u64 w2c_p5, u64 w2c_p6, u64 w2c_p7) {
+static u32 w2c_f116(module *m, u64 w2c_p0, u64 w2c_p1, u64 w2c_p2, u32 w2c_p3, u32 w2c_p4, u64 w2c_p5, u64 w2c_p6, u64 w2c_p7) {
   u64 w2c_l8 = 0;
   u32 w2c_i0, w2c_i1, w2c_i3, w2c_i4, w2c_i8;
   u64 w2c_j0, w2c_j1, w2c_j2, w2c_j3, w2c_j5, w2c_j6, w2c_j7, w2c_j8;
@@ -86526,14 +86653,14 @@ static u32 w2c_chinese_number_find_utf8(module *m, u64 w2c_p0, u64 w2c_p1, u64 w
   w2c_j5 = w2c_p5;
   w2c_j6 = w2c_p6;
   w2c_j7 = w2c_p7;
-  w2c_i0 = w2c_f119(m, w2c_j0, w2c_j1, w2c_j2, w2c_i3, w2c_i4, w2c_j5, w2c_j6, w2c_j7);
+  w2c_i0 = w2c_f118(m, w2c_j0, w2c_j1, w2c_j2, w2c_i3, w2c_i4, w2c_j5, w2c_j6, w2c_j7);
   w2c_p4 = w2c_i0;
   w2c_f1(m);
   w2c_i0 = w2c_p4;
   return w2c_i0;
 }
 
-static u32 w2c_f119(module *m, u64 w2c_p0, u64 w2c_p1, u64 w2c_p2, u32 w2c_p3, u32 w2c_p4, u64 w2c_p5, u64 w2c_p6, u64 w2c_p7) {
+static u32 w2c_f118(module *m, u64 w2c_p0, u64 w2c_p1, u64 w2c_p2, u32 w2c_p3, u32 w2c_p4, u64 w2c_p5, u64 w2c_p6, u64 w2c_p7) {
   u64 w2c_l8 = 0;
   u32 w2c_i0, w2c_i1, w2c_i3, w2c_i4, w2c_i8;
   u64 w2c_j0, w2c_j1, w2c_j2, w2c_j3, w2c_j5, w2c_j6, w2c_j7, w2c_j8;
@@ -86627,14 +86754,14 @@ static u32 w2c_chinese_quantity_find_utf8(module *m, u64 w2c_p0, u64 w2c_p1, u64
   w2c_j5 = w2c_p5;
   w2c_j6 = w2c_p6;
   w2c_j7 = w2c_p7;
-  w2c_i0 = w2c_f121(m, w2c_j0, w2c_j1, w2c_j2, w2c_i3, w2c_i4, w2c_j5, w2c_j6, w2c_j7);
+  w2c_i0 = w2c_f120(m, w2c_j0, w2c_j1, w2c_j2, w2c_i3, w2c_i4, w2c_j5, w2c_j6, w2c_j7);
   w2c_p4 = w2c_i0;
   w2c_f1(m);
   w2c_i0 = w2c_p4;
   return w2c_i0;
 }
 
-static u32 w2c_f121(module *m, u64 w2c_p0, u64 w2c_p1, u64 w2c_p2, u32 w2c_p3, u32 w2c_p4, u64 w2c_p5, u64 w2c_p6, u64 w2c_p7) {
+static u32 w2c_f120(module *m, u64 w2c_p0, u64 w2c_p1, u64 w2c_p2, u32 w2c_p3, u32 w2c_p4, u64 w2c_p5, u64 w2c_p6, u64 w2c_p7) {
   u32 w2c_i0, w2c_i3, w2c_i4, w2c_i8;
   u64 w2c_j0, w2c_j1, w2c_j2, w2c_j3, w2c_j5, w2c_j6, w2c_j7, w2c_j8;
   w2c_j0 = w2c_p0;
@@ -86678,14 +86805,14 @@ static u32 w2c_chinese_quantity_find(module *m, u64 w2c_p0, u64 w2c_p1, u64 w2c_
   w2c_j5 = w2c_p5;
   w2c_j6 = w2c_p6;
   w2c_j7 = w2c_p7;
-  w2c_i0 = w2c_f123(m, w2c_j0, w2c_j1, w2c_j2, w2c_i3, w2c_i4, w2c_j5, w2c_j6, w2c_j7);
+  w2c_i0 = w2c_f122(m, w2c_j0, w2c_j1, w2c_j2, w2c_i3, w2c_i4, w2c_j5, w2c_j6, w2c_j7);
   w2c_p4 = w2c_i0;
   w2c_f1(m);
   w2c_i0 = w2c_p4;
   return w2c_i0;
 }
 
-static u32 w2c_f123(module *m, u64 w2c_p0, u64 w2c_p1, u64 w2c_p2, u32 w2c_p3, u32 w2c_p4, u64 w2c_p5, u64 w2c_p6, u64 w2c_p7) {
+static u32 w2c_f122(module *m, u64 w2c_p0, u64 w2c_p1, u64 w2c_p2, u32 w2c_p3, u32 w2c_p4, u64 w2c_p5, u64 w2c_p6, u64 w2c_p7) {
   u64 w2c_l8 = 0, w2c_l9 = 0, w2c_l10 = 0;
   u32 w2c_i0, w2c_i1, w2c_i2, w2c_i3, w2c_i4, w2c_i8;
   u64 w2c_j0, w2c_j1, w2c_j2, w2c_j3, w2c_j5, w2c_j6, w2c_j7, w2c_j8;
@@ -86836,14 +86963,14 @@ static u32 w2c_chinese_number_read_utf8(module *m, u64 w2c_p0, u64 w2c_p1, u32 w
   w2c_i2 = w2c_p2;
   w2c_i3 = w2c_p3;
   w2c_j4 = w2c_p4;
-  w2c_i0 = w2c_f125(m, w2c_j0, w2c_j1, w2c_i2, w2c_i3, w2c_j4);
+  w2c_i0 = w2c_f124(m, w2c_j0, w2c_j1, w2c_i2, w2c_i3, w2c_j4);
   w2c_p3 = w2c_i0;
   w2c_f1(m);
   w2c_i0 = w2c_p3;
   return w2c_i0;
 }
 
-static u32 w2c_f125(module *m, u64 w2c_p0, u64 w2c_p1, u32 w2c_p2, u32 w2c_p3, u64 w2c_p4) {
+static u32 w2c_f124(module *m, u64 w2c_p0, u64 w2c_p1, u32 w2c_p2, u32 w2c_p3, u64 w2c_p4) {
   u32 w2c_l7 = 0;
   u64 w2c_l5 = 0, w2c_l6 = 0;
   u32 w2c_i0, w2c_i1, w2c_i2, w2c_i3, w2c_i4;
@@ -86877,7 +87004,7 @@ static u32 w2c_f125(module *m, u64 w2c_p0, u64 w2c_p1, u32 w2c_p2, u32 w2c_p3, u
   w2c_j1 = w2c_p1;
   w2c_i2 = w2c_p2;
   w2c_j3 = w2c_p4;
-  w2c_i0 = w2c_f71(m, w2c_j0, w2c_j1, w2c_i2, w2c_j3);
+  w2c_i0 = w2c_f70(m, w2c_j0, w2c_j1, w2c_i2, w2c_j3);
   w2c_p2 = w2c_i0;
   w2c_j0 = w2c_l5;
   m->w2c_g0 = w2c_j0;
@@ -86915,13 +87042,13 @@ static u32 w2c_f125(module *m, u64 w2c_p0, u64 w2c_p1, u32 w2c_p2, u32 w2c_p3, u
   w2c_j1 = 1ull;
   w2c_j0 <<= (w2c_j1 & 63);
   w2c_l6 = w2c_j0;
-  w2c_j1 = 69473ull;
+  w2c_j1 = 69489ull;
   w2c_j0 += w2c_j1;
   w2c_i0 = (u32)(w2c_j0);
   w2c_i0 = i32_load8_u(m, (u64)(w2c_i0));
   w2c_p3 = w2c_i0;
   w2c_j0 = w2c_l6;
-  w2c_j1 = 69472ull;
+  w2c_j1 = 69488ull;
   w2c_j0 += w2c_j1;
   w2c_i0 = (u32)(w2c_j0);
   w2c_i0 = i32_load8_u(m, (u64)(w2c_i0));
@@ -86936,7 +87063,7 @@ static u32 w2c_f125(module *m, u64 w2c_p0, u64 w2c_p1, u32 w2c_p2, u32 w2c_p3, u
   w2c_i3 = w2c_l7;
   w2c_i4 = w2c_p3;
   w2c_j5 = w2c_p4;
-  w2c_i0 = w2c_f68(m, w2c_j0, w2c_j1, w2c_i2, w2c_i3, w2c_i4, w2c_j5);
+  w2c_i0 = w2c_f67(m, w2c_j0, w2c_j1, w2c_i2, w2c_i3, w2c_i4, w2c_j5);
   w2c_p2 = w2c_i0;
   w2c_j0 = w2c_l5;
   m->w2c_g0 = w2c_j0;
@@ -86951,7 +87078,7 @@ static u32 w2c_f125(module *m, u64 w2c_p0, u64 w2c_p1, u32 w2c_p2, u32 w2c_p3, u
   w2c_i3 = w2c_l7;
   w2c_i4 = w2c_p3;
   w2c_j5 = w2c_p4;
-  w2c_i0 = w2c_f70(m, w2c_j0, w2c_j1, w2c_i2, w2c_i3, w2c_i4, w2c_j5);
+  w2c_i0 = w2c_f69(m, w2c_j0, w2c_j1, w2c_i2, w2c_i3, w2c_i4, w2c_j5);
   w2c_p2 = w2c_i0;
   w2c_j0 = w2c_l5;
   m->w2c_g0 = w2c_j0;
@@ -86978,14 +87105,14 @@ static u32 w2c_chinese_quantities_to_figures(module *m, u64 w2c_p0, u64 w2c_p1, 
   w2c_j6 = w2c_p6;
   w2c_j7 = w2c_p7;
   w2c_j8 = w2c_p8;
-  w2c_i0 = w2c_f127(m, w2c_j0, w2c_j1, w2c_i2, w2c_i3, w2c_i4, w2c_i5, w2c_j6, w2c_j7, w2c_j8);
+  w2c_i0 = w2c_f126(m, w2c_j0, w2c_j1, w2c_i2, w2c_i3, w2c_i4, w2c_i5, w2c_j6, w2c_j7, w2c_j8);
   w2c_p5 = w2c_i0;
   w2c_f1(m);
   w2c_i0 = w2c_p5;
   return w2c_i0;
 }
 
-static u32 w2c_f127(module *m, u64 w2c_p0, u64 w2c_p1, u32 w2c_p2, u32 w2c_p3, u32 w2c_p4, u32 w2c_p5, u64 w2c_p6, u64 w2c_p7, u64 w2c_p8) {
+static u32 w2c_f126(module *m, u64 w2c_p0, u64 w2c_p1, u32 w2c_p2, u32 w2c_p3, u32 w2c_p4, u32 w2c_p5, u64 w2c_p6, u64 w2c_p7, u64 w2c_p8) {
   u32 w2c_l27 = 0, w2c_l28 = 0, w2c_l29 = 0, w2c_l30 = 0, w2c_l31 = 0, w2c_l32 = 0, w2c_l33 = 0, w2c_l34 = 0;
   u64 w2c_l9 = 0, w2c_l10 = 0, w2c_l11 = 0, w2c_l12 = 0, w2c_l13 = 0, w2c_l14 = 0, w2c_l15 = 0, w2c_l16 = 0, w2c_l17 = 0, w2c_l18 = 0, w2c_l19 = 0, w2c_l20 = 0, w2c_l21 = 0, w2c_l22 = 0, w2c_l23 = 0, w2c_l24 = 0, w2c_l25 = 0, w2c_l26 = 0;
   u32 w2c_i0, w2c_i1, w2c_i2, w2c_i3, w2c_i4, w2c_i5, w2c_i6, w2c_i7, w2c_i8;
@@ -87031,7 +87158,7 @@ static u32 w2c_f127(module *m, u64 w2c_p0, u64 w2c_p1, u32 w2c_p2, u32 w2c_p3, u
   w2c_j1 = 1ull;
   w2c_j0 <<= (w2c_j1 & 63);
   w2c_l10 = w2c_j0;
-  w2c_j1 = 69473ull;
+  w2c_j1 = 69489ull;
   w2c_j0 += w2c_j1;
   w2c_i0 = (u32)(w2c_j0);
   w2c_i0 = i32_load8_u(m, (u64)(w2c_i0));
@@ -87384,7 +87511,7 @@ static u32 w2c_f127(module *m, u64 w2c_p0, u64 w2c_p1, u32 w2c_p2, u32 w2c_p3, u
     w2c_j1 = w2c_l9;
     w2c_j2 = 384ull;
     w2c_j1 += w2c_j2;
-    w2c_i0 = w2c_f73(m, w2c_j0, w2c_j1);
+    w2c_i0 = w2c_f72(m, w2c_j0, w2c_j1);
     if (w2c_i0) {goto w2c_B11;}
     w2c_B12:;
     w2c_j0 = w2c_l18;
@@ -87473,7 +87600,7 @@ static u32 w2c_f127(module *m, u64 w2c_p0, u64 w2c_p1, u32 w2c_p2, u32 w2c_p3, u
     w2c_j1 = w2c_l9;
     w2c_j2 = 336ull;
     w2c_j1 += w2c_j2;
-    w2c_i0 = w2c_f76(m, w2c_j0, w2c_j1);
+    w2c_i0 = w2c_f75(m, w2c_j0, w2c_j1);
     if (w2c_i0) {goto w2c_B13;}
     w2c_j0 = w2c_p1;
     w2c_j1 = w2c_l10;
@@ -87593,7 +87720,7 @@ static u32 w2c_f127(module *m, u64 w2c_p0, u64 w2c_p1, u32 w2c_p2, u32 w2c_p3, u
       w2c_j1 = w2c_l9;
       w2c_j2 = 288ull;
       w2c_j1 += w2c_j2;
-      w2c_i0 = w2c_f73(m, w2c_j0, w2c_j1);
+      w2c_i0 = w2c_f72(m, w2c_j0, w2c_j1);
       w2c_i0 = !(w2c_i0);
       if (w2c_i0) {goto w2c_B11;}
       w2c_j0 = w2c_l15;
@@ -87630,7 +87757,7 @@ static u32 w2c_f127(module *m, u64 w2c_p0, u64 w2c_p1, u32 w2c_p2, u32 w2c_p3, u
       w2c_j1 = w2c_l9;
       w2c_j2 = 200ull;
       w2c_j1 += w2c_j2;
-      w2c_i0 = w2c_f76(m, w2c_j0, w2c_j1);
+      w2c_i0 = w2c_f75(m, w2c_j0, w2c_j1);
       if (w2c_i0) {goto w2c_B13;}
       w2c_j0 = w2c_l23;
       w2c_j1 = w2c_l25;
@@ -87680,7 +87807,7 @@ static u32 w2c_f127(module *m, u64 w2c_p0, u64 w2c_p1, u32 w2c_p2, u32 w2c_p3, u
     w2c_j5 = w2c_p6;
     w2c_j6 = w2c_l25;
     w2c_j5 -= w2c_j6;
-    w2c_j1 = w2c_f91(m, w2c_j1, w2c_j2, w2c_j3, w2c_j4, w2c_j5);
+    w2c_j1 = w2c_f90(m, w2c_j1, w2c_j2, w2c_j3, w2c_j4, w2c_j5);
     w2c_l25 = w2c_j1;
     i64_store(m, (u64)(w2c_i0) + 88, w2c_j1);
     w2c_i0 = w2c_l31;
@@ -87695,7 +87822,7 @@ static u32 w2c_f127(module *m, u64 w2c_p0, u64 w2c_p1, u32 w2c_p2, u32 w2c_p3, u
     w2c_j3 = w2c_l25;
     w2c_j4 = w2c_p0;
     w2c_j5 = w2c_l10;
-    w2c_j1 = w2c_f91(m, w2c_j1, w2c_j2, w2c_j3, w2c_j4, w2c_j5);
+    w2c_j1 = w2c_f90(m, w2c_j1, w2c_j2, w2c_j3, w2c_j4, w2c_j5);
     i64_store(m, (u64)(w2c_i0) + 88, w2c_j1);
     goto w2c_B16;
     w2c_B17:;
@@ -87733,16 +87860,16 @@ static u32 w2c_f127(module *m, u64 w2c_p0, u64 w2c_p1, u32 w2c_p2, u32 w2c_p3, u
     w2c_j1 = w2c_l9;
     w2c_j2 = 288ull;
     w2c_j1 += w2c_j2;
-    w2c_i0 = w2c_f77(m, w2c_j0, w2c_j1);
+    w2c_i0 = w2c_f76(m, w2c_j0, w2c_j1);
     w2c_i0 = !(w2c_i0);
     if (w2c_i0) {goto w2c_B18;}
     w2c_j0 = w2c_p0;
     w2c_j1 = w2c_l10;
-    w2c_i0 = w2c_f78(m, w2c_j0, w2c_j1);
+    w2c_i0 = w2c_f77(m, w2c_j0, w2c_j1);
     if (w2c_i0) {goto w2c_B21;}
     w2c_j0 = w2c_p0;
     w2c_j1 = w2c_l10;
-    w2c_i0 = w2c_f79(m, w2c_j0, w2c_j1);
+    w2c_i0 = w2c_f78(m, w2c_j0, w2c_j1);
     w2c_l27 = w2c_i0;
     w2c_i0 = w2c_l29;
     if (w2c_i0) {goto w2c_B22;}
@@ -87872,7 +87999,7 @@ static u32 w2c_f127(module *m, u64 w2c_p0, u64 w2c_p1, u32 w2c_p2, u32 w2c_p3, u
     w2c_j0 += w2c_j1;
     w2c_j1 = w2c_p0;
     w2c_j2 = w2c_l10;
-    w2c_f80(m, w2c_j0, w2c_j1, w2c_j2);
+    w2c_f79(m, w2c_j0, w2c_j1, w2c_j2);
     w2c_j0 = w2c_l9;
     w2c_i0 = (u32)(w2c_j0);
     w2c_i0 = i32_load8_u(m, (u64)(w2c_i0) + 384u);
@@ -87895,7 +88022,7 @@ static u32 w2c_f127(module *m, u64 w2c_p0, u64 w2c_p1, u32 w2c_p2, u32 w2c_p3, u
     w2c_j6 = i64_load(m, (u64)(w2c_i6) + 400u);
     w2c_l23 = w2c_j6;
     w2c_j5 -= w2c_j6;
-    w2c_j1 = w2c_f91(m, w2c_j1, w2c_j2, w2c_j3, w2c_j4, w2c_j5);
+    w2c_j1 = w2c_f90(m, w2c_j1, w2c_j2, w2c_j3, w2c_j4, w2c_j5);
     i64_store(m, (u64)(w2c_i0) + 88, w2c_j1);
     w2c_j0 = w2c_l9;
     w2c_j1 = 24ull;
@@ -87906,7 +88033,7 @@ static u32 w2c_f127(module *m, u64 w2c_p0, u64 w2c_p1, u32 w2c_p2, u32 w2c_p3, u
     w2c_i2 = w2c_l28;
     w2c_j3 = w2c_l21;
     w2c_j4 = w2c_l23;
-    w2c_f90(m, w2c_j0, w2c_j1, w2c_i2, w2c_j3, w2c_j4);
+    w2c_f89(m, w2c_j0, w2c_j1, w2c_i2, w2c_j3, w2c_j4);
     w2c_j0 = w2c_l9;
     w2c_i0 = (u32)(w2c_j0);
     w2c_i0 = i32_load8_u(m, (u64)(w2c_i0) + 25u);
@@ -88034,7 +88161,7 @@ static u32 w2c_f127(module *m, u64 w2c_p0, u64 w2c_p1, u32 w2c_p2, u32 w2c_p3, u
     w2c_j3 = w2c_l25;
     w2c_j4 = 66428ull;
     w2c_j5 = 1ull;
-    w2c_j1 = w2c_f91(m, w2c_j1, w2c_j2, w2c_j3, w2c_j4, w2c_j5);
+    w2c_j1 = w2c_f90(m, w2c_j1, w2c_j2, w2c_j3, w2c_j4, w2c_j5);
     i64_store(m, (u64)(w2c_i0) + 88, w2c_j1);
     w2c_j0 = w2c_l9;
     w2c_j1 = 40ull;
@@ -88049,7 +88176,7 @@ static u32 w2c_f127(module *m, u64 w2c_p0, u64 w2c_p1, u32 w2c_p2, u32 w2c_p3, u
     w2c_j4 = w2c_l10;
     w2c_j5 = w2c_l21;
     w2c_j4 -= w2c_j5;
-    w2c_f90(m, w2c_j0, w2c_j1, w2c_i2, w2c_j3, w2c_j4);
+    w2c_f89(m, w2c_j0, w2c_j1, w2c_i2, w2c_j3, w2c_j4);
     w2c_j0 = w2c_l9;
     w2c_i0 = (u32)(w2c_j0);
     w2c_i0 = i32_load8_u(m, (u64)(w2c_i0) + 41u);
@@ -88155,7 +88282,7 @@ static u32 w2c_f127(module *m, u64 w2c_p0, u64 w2c_p1, u32 w2c_p2, u32 w2c_p3, u
       w2c_j1 = 64ull;
       w2c_j0 += w2c_j1;
       w2c_i1 = w2c_l27;
-      w2c_f46(m, w2c_j0, w2c_i1);
+      w2c_f45(m, w2c_j0, w2c_i1);
       w2c_j0 = w2c_l9;
       w2c_i0 = (u32)(w2c_j0);
       w2c_i0 = i32_load8_u(m, (u64)(w2c_i0) + 64u);
@@ -88224,7 +88351,7 @@ static u32 w2c_f127(module *m, u64 w2c_p0, u64 w2c_p1, u32 w2c_p2, u32 w2c_p3, u
     w2c_j1 = w2c_p0;
     w2c_j2 = w2c_l10;
     w2c_i3 = w2c_l28;
-    w2c_f44(m, w2c_j0, w2c_j1, w2c_j2, w2c_i3);
+    w2c_f43(m, w2c_j0, w2c_j1, w2c_j2, w2c_i3);
     w2c_j0 = w2c_l9;
     w2c_i0 = (u32)(w2c_j0);
     w2c_j1 = w2c_l13;
@@ -88294,7 +88421,7 @@ static u32 w2c_f127(module *m, u64 w2c_p0, u64 w2c_p1, u32 w2c_p2, u32 w2c_p3, u
     w2c_j5 = w2c_l9;
     w2c_i5 = (u32)(w2c_j5);
     w2c_j5 = i64_load(m, (u64)(w2c_i5) + 56u);
-    w2c_j1 = w2c_f91(m, w2c_j1, w2c_j2, w2c_j3, w2c_j4, w2c_j5);
+    w2c_j1 = w2c_f90(m, w2c_j1, w2c_j2, w2c_j3, w2c_j4, w2c_j5);
     i64_store(m, (u64)(w2c_i0) + 88, w2c_j1);
     goto w2c_B16;
     w2c_B21:;
@@ -88514,7 +88641,7 @@ static u32 w2c_f127(module *m, u64 w2c_p0, u64 w2c_p1, u32 w2c_p2, u32 w2c_p3, u
       w2c_j0 += w2c_j1;
       w2c_i1 = w2c_p4;
       w2c_i2 = w2c_l27;
-      w2c_f82(m, w2c_j0, w2c_i1, w2c_i2);
+      w2c_f81(m, w2c_j0, w2c_i1, w2c_i2);
       w2c_j0 = w2c_l22;
       w2c_j1 = w2c_l24;
       w2c_j2 = w2c_l25;
@@ -88524,7 +88651,7 @@ static u32 w2c_f127(module *m, u64 w2c_p0, u64 w2c_p1, u32 w2c_p2, u32 w2c_p3, u
       w2c_j4 = w2c_l9;
       w2c_i4 = (u32)(w2c_j4);
       w2c_j4 = i64_load(m, (u64)(w2c_i4) + 16u);
-      w2c_j0 = w2c_f91(m, w2c_j0, w2c_j1, w2c_j2, w2c_j3, w2c_j4);
+      w2c_j0 = w2c_f90(m, w2c_j0, w2c_j1, w2c_j2, w2c_j3, w2c_j4);
       w2c_l25 = w2c_j0;
       w2c_i0 = w2c_p3;
       w2c_i1 = w2c_p4;
@@ -88573,7 +88700,7 @@ static u32 w2c_f127(module *m, u64 w2c_p0, u64 w2c_p1, u32 w2c_p2, u32 w2c_p3, u
     w2c_i2 = w2c_l28;
     w2c_j3 = w2c_p0;
     w2c_j4 = w2c_l10;
-    w2c_f90(m, w2c_j0, w2c_j1, w2c_i2, w2c_j3, w2c_j4);
+    w2c_f89(m, w2c_j0, w2c_j1, w2c_i2, w2c_j3, w2c_j4);
     w2c_j0 = w2c_l9;
     w2c_i0 = (u32)(w2c_j0);
     w2c_i0 = i32_load8_u(m, (u64)(w2c_i0) + 33u);
@@ -88603,7 +88730,7 @@ static u32 w2c_f127(module *m, u64 w2c_p0, u64 w2c_p1, u32 w2c_p2, u32 w2c_p3, u
     w2c_j3 = w2c_l25;
     w2c_j4 = w2c_p0;
     w2c_j5 = w2c_l10;
-    w2c_j1 = w2c_f91(m, w2c_j1, w2c_j2, w2c_j3, w2c_j4, w2c_j5);
+    w2c_j1 = w2c_f90(m, w2c_j1, w2c_j2, w2c_j3, w2c_j4, w2c_j5);
     i64_store(m, (u64)(w2c_i0) + 88, w2c_j1);
     w2c_B16:;
     w2c_j0 = w2c_l10;
@@ -88649,7 +88776,7 @@ static u32 w2c_f127(module *m, u64 w2c_p0, u64 w2c_p1, u32 w2c_p2, u32 w2c_p3, u
   w2c_j5 = w2c_p1;
   w2c_j6 = w2c_l12;
   w2c_j5 -= w2c_j6;
-  w2c_j1 = w2c_f91(m, w2c_j1, w2c_j2, w2c_j3, w2c_j4, w2c_j5);
+  w2c_j1 = w2c_f90(m, w2c_j1, w2c_j2, w2c_j3, w2c_j4, w2c_j5);
   w2c_p0 = w2c_j1;
   i64_store(m, (u64)(w2c_i0), w2c_j1);
   w2c_i0 = 6u;
@@ -88685,14 +88812,14 @@ static u32 w2c_chinese_quantity_read(module *m, u64 w2c_p0, u64 w2c_p1, u32 w2c_
   w2c_j1 = w2c_p1;
   w2c_i2 = w2c_p2;
   w2c_j3 = w2c_p3;
-  w2c_i0 = w2c_f129(m, w2c_j0, w2c_j1, w2c_i2, w2c_j3);
+  w2c_i0 = w2c_f128(m, w2c_j0, w2c_j1, w2c_i2, w2c_j3);
   w2c_p2 = w2c_i0;
   w2c_f1(m);
   w2c_i0 = w2c_p2;
   return w2c_i0;
 }
 
-static u32 w2c_f129(module *m, u64 w2c_p0, u64 w2c_p1, u32 w2c_p2, u64 w2c_p3) {
+static u32 w2c_f128(module *m, u64 w2c_p0, u64 w2c_p1, u32 w2c_p2, u64 w2c_p3) {
   u32 w2c_l8 = 0;
   u64 w2c_l4 = 0, w2c_l5 = 0, w2c_l6 = 0, w2c_l7 = 0;
   u32 w2c_i0, w2c_i1, w2c_i2, w2c_i3, w2c_i4;
@@ -88784,7 +88911,7 @@ static u32 w2c_f129(module *m, u64 w2c_p0, u64 w2c_p1, u32 w2c_p2, u64 w2c_p3) {
   w2c_i0 = !(w2c_j0);
   if (w2c_i0) {goto w2c_B3;}
   w2c_j0 = w2c_l5;
-  w2c_j1 = 69473ull;
+  w2c_j1 = 69489ull;
   w2c_j0 += w2c_j1;
   w2c_i0 = (u32)(w2c_j0);
   w2c_i0 = i32_load8_u(m, (u64)(w2c_i0));
@@ -88893,7 +89020,7 @@ static u32 w2c_f129(module *m, u64 w2c_p0, u64 w2c_p1, u32 w2c_p2, u64 w2c_p3) {
   w2c_j1 = w2c_l6;
   w2c_j2 = w2c_p1;
   w2c_i3 = w2c_l8;
-  w2c_f44(m, w2c_j0, w2c_j1, w2c_j2, w2c_i3);
+  w2c_f43(m, w2c_j0, w2c_j1, w2c_j2, w2c_i3);
   w2c_j0 = w2c_p3;
   w2c_i0 = (u32)(w2c_j0);
   w2c_j1 = 0ull;
@@ -89176,14 +89303,14 @@ static u32 w2c_chinese_quantity_print(module *m, u64 w2c_p0, u32 w2c_p1, u32 w2c
   w2c_j4 = w2c_p4;
   w2c_j5 = w2c_p5;
   w2c_j6 = w2c_p6;
-  w2c_i0 = w2c_f131(m, w2c_j0, w2c_i1, w2c_i2, w2c_i3, w2c_j4, w2c_j5, w2c_j6);
+  w2c_i0 = w2c_f130(m, w2c_j0, w2c_i1, w2c_i2, w2c_i3, w2c_j4, w2c_j5, w2c_j6);
   w2c_p3 = w2c_i0;
   w2c_f1(m);
   w2c_i0 = w2c_p3;
   return w2c_i0;
 }
 
-static u32 w2c_f131(module *m, u64 w2c_p0, u32 w2c_p1, u32 w2c_p2, u32 w2c_p3, u64 w2c_p4, u64 w2c_p5, u64 w2c_p6) {
+static u32 w2c_f130(module *m, u64 w2c_p0, u32 w2c_p1, u32 w2c_p2, u32 w2c_p3, u64 w2c_p4, u64 w2c_p5, u64 w2c_p6) {
   u32 w2c_l27 = 0, w2c_l28 = 0, w2c_l29 = 0, w2c_l30 = 0, w2c_l31 = 0;
   u64 w2c_l7 = 0, w2c_l8 = 0, w2c_l9 = 0, w2c_l10 = 0, w2c_l11 = 0, w2c_l12 = 0, w2c_l13 = 0, w2c_l14 = 0, w2c_l15 = 0, w2c_l16 = 0, w2c_l17 = 0, w2c_l18 = 0, w2c_l19 = 0, w2c_l20 = 0, w2c_l21 = 0, w2c_l22 = 0, w2c_l23 = 0, w2c_l24 = 0, w2c_l25 = 0, w2c_l26 = 0;
   u32 w2c_i0, w2c_i1, w2c_i2, w2c_i3, w2c_i4, w2c_i5, w2c_i6;
@@ -89611,7 +89738,7 @@ static u32 w2c_f131(module *m, u64 w2c_p0, u32 w2c_p1, u32 w2c_p2, u32 w2c_p3, u
   w2c_i0 = !(w2c_j0);
   if (w2c_i0) {goto w2c_B0;}
   w2c_j0 = w2c_p0;
-  w2c_j1 = 69473ull;
+  w2c_j1 = 69489ull;
   w2c_j0 += w2c_j1;
   w2c_i0 = (u32)(w2c_j0);
   w2c_i0 = i32_load8_u(m, (u64)(w2c_i0));
@@ -91023,7 +91150,7 @@ static u32 w2c_f131(module *m, u64 w2c_p0, u32 w2c_p1, u32 w2c_p2, u32 w2c_p3, u
   w2c_i4 = 0u;
   w2c_j5 = w2c_l24;
   w2c_j6 = w2c_l25;
-  w2c_j1 = w2c_f94(m, w2c_j1, w2c_j2, w2c_i3, w2c_i4, w2c_j5, w2c_j6);
+  w2c_j1 = w2c_f93(m, w2c_j1, w2c_j2, w2c_i3, w2c_i4, w2c_j5, w2c_j6);
   w2c_p0 = w2c_j1;
   w2c_j0 -= w2c_j1;
   w2c_l17 = w2c_j0;
@@ -91056,7 +91183,7 @@ static u32 w2c_f131(module *m, u64 w2c_p0, u32 w2c_p1, u32 w2c_p2, u32 w2c_p3, u
   w2c_p0 = w2c_j1;
   w2c_j0 += w2c_j1;
   w2c_l17 = w2c_j0;
-  w2c_j1 = 70080ull;
+  w2c_j1 = 70096ull;
   w2c_j0 -= w2c_j1;
   w2c_j1 = 5ull;
   w2c_i0 = w2c_j0 > w2c_j1;
@@ -91075,13 +91202,13 @@ static u32 w2c_f131(module *m, u64 w2c_p0, u32 w2c_p1, u32 w2c_p2, u32 w2c_p3, u
   w2c_i0 = (u32)(w2c_j0);
   w2c_j1 = 0ull;
   w2c_i1 = (u32)(w2c_j1);
-  w2c_i1 = i32_load16_u(m, (u64)(w2c_i1) + 70084u);
+  w2c_i1 = i32_load16_u(m, (u64)(w2c_i1) + 70100u);
   i32_store16(m, (u64)(w2c_i0) + 4, w2c_i1);
   w2c_j0 = w2c_l17;
   w2c_i0 = (u32)(w2c_j0);
   w2c_j1 = 0ull;
   w2c_i1 = (u32)(w2c_j1);
-  w2c_i1 = i32_load(m, (u64)(w2c_i1) + 70080u);
+  w2c_i1 = i32_load(m, (u64)(w2c_i1) + 70096u);
   i32_store(m, (u64)(w2c_i0), w2c_i1);
   w2c_B50:;
   w2c_j0 = w2c_l8;
@@ -91137,7 +91264,7 @@ static u32 w2c_f131(module *m, u64 w2c_p0, u32 w2c_p1, u32 w2c_p2, u32 w2c_p3, u
   w2c_i3 = 0u;
   w2c_j4 = w2c_l9;
   w2c_j5 = w2c_l7;
-  w2c_j0 = w2c_f94(m, w2c_j0, w2c_j1, w2c_i2, w2c_i3, w2c_j4, w2c_j5);
+  w2c_j0 = w2c_f93(m, w2c_j0, w2c_j1, w2c_i2, w2c_i3, w2c_j4, w2c_j5);
   w2c_l9 = w2c_j0;
   w2c_j0 = w2c_l16;
   w2c_j1 = 112ull;
@@ -91281,7 +91408,7 @@ static u32 w2c_f131(module *m, u64 w2c_p0, u32 w2c_p1, u32 w2c_p2, u32 w2c_p3, u
   w2c_j3 = w2c_l17;
   w2c_j2 -= w2c_j3;
   w2c_l13 = w2c_j2;
-  w2c_f45(m, w2c_j0, w2c_j1, w2c_j2);
+  w2c_f44(m, w2c_j0, w2c_j1, w2c_j2);
   w2c_j0 = w2c_l8;
   w2c_i0 = (u32)(w2c_j0);
   w2c_i0 = i32_load8_u(m, (u64)(w2c_i0) + 1200u);
@@ -91294,7 +91421,7 @@ static u32 w2c_f131(module *m, u64 w2c_p0, u32 w2c_p1, u32 w2c_p2, u32 w2c_p3, u
   w2c_j1 = w2c_l8;
   w2c_i1 = (u32)(w2c_j1);
   w2c_i1 = i32_load(m, (u64)(w2c_i1) + 1208u);
-  w2c_f46(m, w2c_j0, w2c_i1);
+  w2c_f45(m, w2c_j0, w2c_i1);
   w2c_j0 = w2c_l8;
   w2c_i0 = (u32)(w2c_j0);
   w2c_i0 = i32_load8_u(m, (u64)(w2c_i0) + 40u);
@@ -91337,7 +91464,7 @@ static u32 w2c_f131(module *m, u64 w2c_p0, u32 w2c_p1, u32 w2c_p2, u32 w2c_p3, u
     w2c_j0 += w2c_j1;
     w2c_j1 = w2c_l9;
     w2c_j2 = w2c_l17;
-    w2c_f45(m, w2c_j0, w2c_j1, w2c_j2);
+    w2c_f44(m, w2c_j0, w2c_j1, w2c_j2);
     w2c_j0 = w2c_l8;
     w2c_i0 = (u32)(w2c_j0);
     w2c_i0 = i32_load8_u(m, (u64)(w2c_i0) + 1200u);
@@ -91364,7 +91491,7 @@ static u32 w2c_f131(module *m, u64 w2c_p0, u32 w2c_p1, u32 w2c_p2, u32 w2c_p3, u
     w2c_j1 = w2c_l8;
     w2c_i1 = (u32)(w2c_j1);
     w2c_i1 = i32_load(m, (u64)(w2c_i1) + 1208u);
-    w2c_f46(m, w2c_j0, w2c_i1);
+    w2c_f45(m, w2c_j0, w2c_i1);
     w2c_j0 = w2c_l8;
     w2c_i0 = (u32)(w2c_j0);
     w2c_i0 = i32_load8_u(m, (u64)(w2c_i0) + 32u);
@@ -91506,7 +91633,7 @@ static u32 w2c_f131(module *m, u64 w2c_p0, u32 w2c_p1, u32 w2c_p2, u32 w2c_p3, u
   w2c_i6 = 0u;
   w2c_j7 = w2c_l7;
   w2c_j8 = w2c_l9;
-  w2c_j3 = w2c_f94(m, w2c_j3, w2c_j4, w2c_i5, w2c_i6, w2c_j7, w2c_j8);
+  w2c_j3 = w2c_f93(m, w2c_j3, w2c_j4, w2c_i5, w2c_i6, w2c_j7, w2c_j8);
   w2c_l16 = w2c_j3;
   w2c_j2 -= w2c_j3;
   w2c_l7 = w2c_j2;
@@ -91537,7 +91664,7 @@ static u32 w2c_f131(module *m, u64 w2c_p0, u32 w2c_p1, u32 w2c_p2, u32 w2c_p3, u
   w2c_j1 = 18446744073709551610ull;
   w2c_j0 += w2c_j1;
   w2c_l7 = w2c_j0;
-  w2c_j1 = 70080ull;
+  w2c_j1 = 70096ull;
   w2c_j0 -= w2c_j1;
   w2c_j1 = 5ull;
   w2c_i0 = w2c_j0 > w2c_j1;
@@ -91564,13 +91691,13 @@ static u32 w2c_f131(module *m, u64 w2c_p0, u32 w2c_p1, u32 w2c_p2, u32 w2c_p3, u
   w2c_i0 = (u32)(w2c_j0);
   w2c_j1 = 0ull;
   w2c_i1 = (u32)(w2c_j1);
-  w2c_i1 = i32_load16_u(m, (u64)(w2c_i1) + 70084u);
+  w2c_i1 = i32_load16_u(m, (u64)(w2c_i1) + 70100u);
   i32_store16(m, (u64)(w2c_i0) + 4, w2c_i1);
   w2c_j0 = w2c_l7;
   w2c_i0 = (u32)(w2c_j0);
   w2c_j1 = 0ull;
   w2c_i1 = (u32)(w2c_j1);
-  w2c_i1 = i32_load(m, (u64)(w2c_i1) + 70080u);
+  w2c_i1 = i32_load(m, (u64)(w2c_i1) + 70096u);
   i32_store(m, (u64)(w2c_i0), w2c_i1);
   w2c_B63:;
   w2c_j0 = w2c_l17;
@@ -91726,14 +91853,14 @@ static u32 w2c_chinese_number_read(module *m, u64 w2c_p0, u64 w2c_p1, u32 w2c_p2
   w2c_i2 = w2c_p2;
   w2c_i3 = w2c_p3;
   w2c_j4 = w2c_p4;
-  w2c_i0 = w2c_f133(m, w2c_j0, w2c_j1, w2c_i2, w2c_i3, w2c_j4);
+  w2c_i0 = w2c_f132(m, w2c_j0, w2c_j1, w2c_i2, w2c_i3, w2c_j4);
   w2c_p3 = w2c_i0;
   w2c_f1(m);
   w2c_i0 = w2c_p3;
   return w2c_i0;
 }
 
-static u32 w2c_f133(module *m, u64 w2c_p0, u64 w2c_p1, u32 w2c_p2, u32 w2c_p3, u64 w2c_p4) {
+static u32 w2c_f132(module *m, u64 w2c_p0, u64 w2c_p1, u32 w2c_p2, u32 w2c_p3, u64 w2c_p4) {
   u32 w2c_l8 = 0;
   u64 w2c_l5 = 0, w2c_l6 = 0, w2c_l7 = 0;
   u32 w2c_i0, w2c_i1, w2c_i2, w2c_i3, w2c_i4;
@@ -91849,13 +91976,13 @@ static u32 w2c_f133(module *m, u64 w2c_p0, u64 w2c_p1, u32 w2c_p2, u32 w2c_p3, u
   w2c_j1 = 1ull;
   w2c_j0 <<= (w2c_j1 & 63);
   w2c_p0 = w2c_j0;
-  w2c_j1 = 69473ull;
+  w2c_j1 = 69489ull;
   w2c_j0 += w2c_j1;
   w2c_i0 = (u32)(w2c_j0);
   w2c_i0 = i32_load8_u(m, (u64)(w2c_i0));
   w2c_p3 = w2c_i0;
   w2c_j0 = w2c_p0;
-  w2c_j1 = 69472ull;
+  w2c_j1 = 69488ull;
   w2c_j0 += w2c_j1;
   w2c_i0 = (u32)(w2c_j0);
   w2c_i0 = i32_load8_u(m, (u64)(w2c_i0));
@@ -91870,7 +91997,7 @@ static u32 w2c_f133(module *m, u64 w2c_p0, u64 w2c_p1, u32 w2c_p2, u32 w2c_p3, u
   w2c_i3 = w2c_l8;
   w2c_i4 = w2c_p3;
   w2c_j5 = w2c_p4;
-  w2c_i0 = w2c_f68(m, w2c_j0, w2c_j1, w2c_i2, w2c_i3, w2c_i4, w2c_j5);
+  w2c_i0 = w2c_f67(m, w2c_j0, w2c_j1, w2c_i2, w2c_i3, w2c_i4, w2c_j5);
   w2c_p2 = w2c_i0;
   w2c_j0 = w2c_l5;
   m->w2c_g0 = w2c_j0;
@@ -91883,7 +92010,7 @@ static u32 w2c_f133(module *m, u64 w2c_p0, u64 w2c_p1, u32 w2c_p2, u32 w2c_p3, u
   w2c_i3 = w2c_l8;
   w2c_i4 = w2c_p3;
   w2c_j5 = w2c_p4;
-  w2c_i0 = w2c_f70(m, w2c_j0, w2c_j1, w2c_i2, w2c_i3, w2c_i4, w2c_j5);
+  w2c_i0 = w2c_f69(m, w2c_j0, w2c_j1, w2c_i2, w2c_i3, w2c_i4, w2c_j5);
   w2c_p2 = w2c_i0;
   w2c_j0 = w2c_l5;
   m->w2c_g0 = w2c_j0;
@@ -91894,7 +92021,7 @@ static u32 w2c_f133(module *m, u64 w2c_p0, u64 w2c_p1, u32 w2c_p2, u32 w2c_p3, u
   w2c_j1 = w2c_p1;
   w2c_i2 = w2c_p2;
   w2c_j3 = w2c_p4;
-  w2c_i0 = w2c_f71(m, w2c_j0, w2c_j1, w2c_i2, w2c_j3);
+  w2c_i0 = w2c_f70(m, w2c_j0, w2c_j1, w2c_i2, w2c_j3);
   w2c_p2 = w2c_i0;
   w2c_j0 = w2c_l5;
   m->w2c_g0 = w2c_j0;
@@ -91906,7 +92033,7 @@ static u32 w2c_f133(module *m, u64 w2c_p0, u64 w2c_p1, u32 w2c_p2, u32 w2c_p3, u
   w2c_i2 = w2c_p2;
   w2c_i3 = w2c_p3;
   w2c_j4 = w2c_p4;
-  w2c_i0 = w2c_f95(m, w2c_j0, w2c_j1, w2c_i2, w2c_i3, w2c_j4);
+  w2c_i0 = w2c_f94(m, w2c_j0, w2c_j1, w2c_i2, w2c_i3, w2c_j4);
   w2c_p2 = w2c_i0;
   w2c_j0 = w2c_l5;
   m->w2c_g0 = w2c_j0;
@@ -91957,14 +92084,14 @@ static u32 w2c_chinese_number_print(module *m, u64 w2c_p0, u64 w2c_p1, u32 w2c_p
   w2c_j6 = w2c_p6;
   w2c_j7 = w2c_p7;
   w2c_j8 = w2c_p8;
-  w2c_i0 = w2c_f135(m, w2c_j0, w2c_j1, w2c_i2, w2c_i3, w2c_i4, w2c_i5, w2c_j6, w2c_j7, w2c_j8);
+  w2c_i0 = w2c_f134(m, w2c_j0, w2c_j1, w2c_i2, w2c_i3, w2c_i4, w2c_i5, w2c_j6, w2c_j7, w2c_j8);
   w2c_p5 = w2c_i0;
   w2c_f1(m);
   w2c_i0 = w2c_p5;
   return w2c_i0;
 }
 
-static u32 w2c_f135(module *m, u64 w2c_p0, u64 w2c_p1, u32 w2c_p2, u32 w2c_p3, u32 w2c_p4, u32 w2c_p5, u64 w2c_p6, u64 w2c_p7, u64 w2c_p8) {
+static u32 w2c_f134(module *m, u64 w2c_p0, u64 w2c_p1, u32 w2c_p2, u32 w2c_p3, u32 w2c_p4, u32 w2c_p5, u64 w2c_p6, u64 w2c_p7, u64 w2c_p8) {
   u32 w2c_l16 = 0, w2c_l17 = 0, w2c_l18 = 0, w2c_l19 = 0, w2c_l20 = 0;
   u64 w2c_l9 = 0, w2c_l10 = 0, w2c_l11 = 0, w2c_l12 = 0, w2c_l13 = 0, w2c_l14 = 0, w2c_l15 = 0;
   u32 w2c_i0, w2c_i1, w2c_i2, w2c_i3, w2c_i4;
@@ -91992,7 +92119,7 @@ static u32 w2c_f135(module *m, u64 w2c_p0, u64 w2c_p1, u32 w2c_p2, u32 w2c_p3, u
   w2c_j0 = (u64)(w2c_i0);
   w2c_j1 = 1ull;
   w2c_j0 <<= (w2c_j1 & 63);
-  w2c_j1 = 69473ull;
+  w2c_j1 = 69489ull;
   w2c_j0 += w2c_j1;
   w2c_i0 = (u32)(w2c_j0);
   w2c_i0 = i32_load8_u(m, (u64)(w2c_i0));
@@ -92059,8 +92186,8 @@ static u32 w2c_f135(module *m, u64 w2c_p0, u64 w2c_p1, u32 w2c_p2, u32 w2c_p3, u
   w2c_j1 = (u64)(w2c_i1);
   w2c_j2 = 5ull;
   w2c_j1 <<= (w2c_j2 & 63);
-  w2c_j2 = 69504ull;
-  w2c_j3 = 69488ull;
+  w2c_j2 = 69520ull;
+  w2c_j3 = 69504ull;
   w2c_i4 = w2c_l20;
   w2c_j2 = w2c_i4 ? w2c_j2 : w2c_j3;
   w2c_j1 += w2c_j2;
@@ -92621,7 +92748,7 @@ static u32 w2c_f135(module *m, u64 w2c_p0, u64 w2c_p1, u32 w2c_p2, u32 w2c_p3, u
   w2c_i3 = w2c_l20;
   w2c_j4 = w2c_p6;
   w2c_j5 = w2c_p0;
-  w2c_j0 = w2c_f94(m, w2c_j0, w2c_j1, w2c_i2, w2c_i3, w2c_j4, w2c_j5);
+  w2c_j0 = w2c_f93(m, w2c_j0, w2c_j1, w2c_i2, w2c_i3, w2c_j4, w2c_j5);
   w2c_p0 = w2c_j0;
   w2c_B12:;
   w2c_j0 = w2c_p8;
@@ -92676,12 +92803,12 @@ static u32 w2c_f135(module *m, u64 w2c_p0, u64 w2c_p1, u32 w2c_p2, u32 w2c_p3, u
   w2c_j1 <<= (w2c_j2 & 63);
   w2c_p6 = w2c_j1;
   w2c_i1 = (u32)(w2c_j1);
-  w2c_j1 = i64_load(m, (u64)(w2c_i1) + 69488u);
+  w2c_j1 = i64_load(m, (u64)(w2c_i1) + 69504u);
   w2c_i0 = w2c_j0 <= w2c_j1;
   w2c_j1 = w2c_p1;
   w2c_j2 = w2c_p6;
   w2c_i2 = (u32)(w2c_j2);
-  w2c_j2 = i64_load(m, (u64)(w2c_i2) + 69496u);
+  w2c_j2 = i64_load(m, (u64)(w2c_i2) + 69512u);
   w2c_p6 = w2c_j2;
   w2c_i1 = w2c_j1 <= w2c_j2;
   w2c_j2 = w2c_p1;
@@ -93195,7 +93322,7 @@ static u32 w2c_f135(module *m, u64 w2c_p0, u64 w2c_p1, u32 w2c_p2, u32 w2c_p3, u
   w2c_i3 = 0u;
   w2c_j4 = w2c_p0;
   w2c_j5 = w2c_p1;
-  w2c_j0 = w2c_f94(m, w2c_j0, w2c_j1, w2c_i2, w2c_i3, w2c_j4, w2c_j5);
+  w2c_j0 = w2c_f93(m, w2c_j0, w2c_j1, w2c_i2, w2c_i3, w2c_j4, w2c_j5);
   w2c_p1 = w2c_j0;
   w2c_B26:;
   w2c_j0 = w2c_p8;
