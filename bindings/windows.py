@@ -27,7 +27,7 @@ LAST = ["module.bc", "-o", "module.o", "-fPIC", "-O3"]
 
 NAME, VALUE = r'@(?:[\w.]+|"[^"]+")', r"(?:%[\w.]+|@static\.\d+|-?\d+|true|false)"
 TYPE = r"(?:void|ptr|i\d+|\[\d+ x i8\]|\{ [\w, ]+ \})"
-TEXT = r'"(?:[^"\\]|\\[0-9A-F]{2})*"'
+TEXT = r'"(?:[^"\\]|\\[0-9A-F]{2}|\\\\)*"'
 
 
 def listed(item):
