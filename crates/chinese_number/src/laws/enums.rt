@@ -14,6 +14,7 @@ ghost use Rattle.cn_date.specs.declared.date.BillDate.{BillDate as DateOfBill};
 ghost use Rattle.cn_date.specs.declared.error.ChineseToDateError.{ChineseToDateError as DateReadingError};
 ghost use Rattle.cn_date.specs.declared.error.DateToChineseError.{DateToChineseError as DatePrintingError};
 ghost use Rattle.cn_express.specs.declared.error.QuantityToChineseError.{QuantityToChineseError as QuantityPrintingError};
+ghost use Rattle.cn_find.specs.declared.doubt.Doubt.{Doubt as DoubtOfFound};
 ghost use Rattle.cn_judge.specs.declared.error.ChineseToNumberError.{ChineseToNumberError as ReadingError};
 ghost use Rattle.cn_quantity.specs.declared.quantity.Quantity.{Quantity as ExactQuantity};
 ghost use Rattle.cn_quantity.specs.declared.quantity.QuantityForm.{QuantityForm as FormOfQuantity};
@@ -23,6 +24,7 @@ use cn_amount::{AmountForm, AmountToChineseError, ChineseToAmountError};
 use cn_core::{ChineseCase, ChineseCountMethod, ChineseVariant, Sign, Unit};
 use cn_date::{BillDate, ChineseToDateError, DateToChineseError};
 use cn_express::QuantityToChineseError;
+use cn_find::Doubt;
 use cn_print::NumberToChineseError;
 use cn_quantity::{Quantity, QuantityForm};
 use cn_read::ChineseToNumberError;
@@ -30,7 +32,8 @@ use cn_read::ChineseToNumberError;
 /// Two values of an enum are equal exactly where they are the same variant, with the same
 /// char_index where there is one.
 ///
-/// For callers who compare scripts, cases, methods, units, signs, forms of quantities or errors.
+/// For callers who compare scripts, cases, methods, units, signs, forms of quantities, doubts or
+/// errors.
 pub fn equal_values_are_the_same_variant()
     ensures units { (a b : NumeralUnit) → IsTrue (⟦<Unit as PartialEq>⟧.eq a b) ↔ (a ≡ b) }
     ensures signs { (a b : NumeralSign) → IsTrue (⟦<Sign as PartialEq>⟧.eq a b) ↔ (a ≡ b) }
@@ -40,6 +43,7 @@ pub fn equal_values_are_the_same_variant()
         → IsTrue (⟦<ChineseCountMethod as PartialEq>⟧.eq a b) ↔ (a ≡ b) }
     ensures quantity_forms { (a b : FormOfQuantity)
         → IsTrue (⟦<QuantityForm as PartialEq>⟧.eq a b) ↔ (a ≡ b) }
+    ensures doubts { (a b : DoubtOfFound) → IsTrue (⟦<Doubt as PartialEq>⟧.eq a b) ↔ (a ≡ b) }
     ensures reading_errors { (a b : ReadingError)
         → IsTrue (⟦<ChineseToNumberError as PartialEq>⟧.eq a b) ↔ (a ≡ b) }
     ensures printing_errors { (a b : PrintingError)
