@@ -6,7 +6,7 @@
 - The pages that there are in Chinese too have the same rows and the same code in both languages,
   but that those in Chinese may have more rows.
 - The example in the comment of each of the 96 calls by name is asked, with its type and method.
-- Each block of Rust in README.md stands, line by line, in a source of a program of `crates/`.
+- Each block of Rust in docs/RATTLE.md is, line by line, in a source of a program of `crates/`.
 - Each folder of `crates/` and `bindings/` has a row in docs/DESIGN.md.
 - The documents name one toolchain, by the logic that `rt version` says.
 """
@@ -208,9 +208,9 @@ def test_numbers(numbers):
 
 
 def test_blocks():
-    """The Rust of README stands in sources."""
+    """The Rust of RATTLE is in sources."""
     texts = [text_of(path) for path in TOP.glob("crates/*/src/*.rt")]
-    blocks = re.findall(r"^```rust\n(.*?)^```$", text_of(TOP / "README.md"), re.M | re.S)
+    blocks = re.findall(r"^```rust\n(.*?)^```$", text_of(TOP / "docs/RATTLE.md"), re.M | re.S)
     assert blocks and [it for it in blocks if not any(it in text for text in texts)] == []
 
 
