@@ -37,7 +37,7 @@ ten_within : Judges TenThousand (marks_of (codes "二十十")) (Err (incorrect_a
 unfolding digit_of rank_of
 ten_within = Judges-by_walk TenThousand (marks_of (codes "二十十")) _ refl
 
--- 個 stands directly before a greater unit
+-- 個 is directly before a greater unit
 counting_a_unit : Judges TenThousand (marks_of (codes "一百零個億")) (Ok 10000000000)
 unfolding digit_of rank_of
 counting_a_unit = refl

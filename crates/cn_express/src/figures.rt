@@ -123,6 +123,8 @@ pub fn put_figures(room: &mut [u8; MOST_FIGURES_BYTES], quantity: Quantity) -> &
 /// ```text
 /// quantity_to_figures(alloc, quantity) == Ok("3.5") // for 35/10
 /// ```
+///
+/// The only error is `AllocError`, if the memory cannot be allocated.
 pub fn quantity_to_figures(alloc: Global, quantity: Quantity) -> Result<String, AllocError>
     ensures { IfOk result (IsStringOf (figures_text quantity)) }
 {

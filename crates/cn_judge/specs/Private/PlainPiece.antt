@@ -5,8 +5,8 @@ use Rattle.cn_core.specs.Mark.{digit, mark_of}
 use Rattle.cn_judge.specs.declared.naive.Piece.{Piece}
 use Rattle.cn_judge.specs.declared.naive.Piece.TheVariants.{Digits, White, Wrong}
 
--- the text starts with `count` digits, and `after` them the other text follows; `weight` is 10 to
--- the power of `count`, and `value` is the number of the digits
+-- the first text is some digits and then the second text; the three numbers are how many digits
+-- these are, 10 to the power of that, and the number that the digits write
 pub data IsDigitRun (bytes : List ℕ) : List ℕ → ℕ → ℕ → ℕ → Type 0 where
   no_digit : IsDigitRun bytes bytes 0 1 0
   one_more : (ahead after : List ℕ) (c next count weight value : ℕ)
