@@ -46,12 +46,13 @@ abbrev pub without_front : ℕ → List ℕ → List ℕ
 without_front front [] = []
 without_front front (c ∷ rest) = if c == front && stand_alone rest then rest else c ∷ rest
 
--- a divisor: 三, 百, 百萬, 一兆
+-- the text of a divisor: its spelling, without a first 一 before a text that stands alone: 三, 百, 百萬,
+-- 一兆
 abbrev pub divisor_text : ChineseVariant → ChineseCase → ChineseCountMethod → ℕ → List ℕ
 divisor_text variant case method divisor =
     without_front (digit_char variant case 1) (magnitude_text variant case method divisor)
 
--- a fraction: 三分之一
+-- the text of a fraction, which has the divisor before 分之 and the number after it: 三分之一
 abbrev pub fraction_text : ChineseVariant → ChineseCase → ChineseCountMethod → ℕ → ℕ → List ℕ
 fraction_text variant case method divisor number =
     divisor_text variant case method divisor ++ (bar ++ magnitude_text variant case method number)
@@ -74,7 +75,7 @@ abbrev pub sign_text : ChineseVariant → ℤ → List ℕ
 sign_text variant numerator =
     if int_lt numerator (pos 0) then minus_char variant ∷ [] else []
 
--- a quantity: 三點一四, 百分之十二點五, 負三分之一
+-- the text of a quantity, with its sign: 三點一四, 百分之十二點五, 負三分之一
 abbrev pub quantity_text : ChineseVariant → ChineseCase → ChineseCountMethod → Quantity → List ℕ
 quantity_text variant case method q =
     sign_text variant q.numerator ++ unsigned_text variant case method q

@@ -18,7 +18,7 @@ abbrev pub named : {A : Type 0} → List ℕ → List (List ℕ × A) → Option
 named name [] = None
 named name (row ∷ rows) = if bytes_eq name row.0 then Some row.1 else named name rows
 
--- the way of a name
+-- the way with this name
 abbrev pub way_named : List ℕ → Option Way
 way_named name = named name
     ((codes "naive", Digits) ∷ (codes "low", Units Low)

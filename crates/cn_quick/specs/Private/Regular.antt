@@ -63,7 +63,7 @@ no_entry = record { unit = Ge; exponent = 0 }
 abbrev pub entry_at : OpenExponent → OpenEntry
 entry_at entry = (rank entry.unit, entry.exponent)
 
--- the first entries, the last of them first
+-- the open units in the first `len` entries, the last of them first
 abbrev pub entries_of : List OpenExponent → ℕ → List OpenEntry
 entries_of entries len = stacked entry_at no_entry entries len
 
