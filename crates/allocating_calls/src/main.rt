@@ -1,8 +1,8 @@
-//! Makes each call that takes memory once, and prints what came of it in a line: its text, or the
-//! name of the error.
+//! Makes each call that allocates memory once, and prints one line with its result: the text, or
+//! the name of the error.
 //!
-//! Each line takes one growth, so that `tests/test_memory.py` can refuse them in turn. The last
-//! lines take none: they refuse their number, quantity or date by name.
+//! Each line makes one allocation, so that `tests/test_memory.py` can make them fail in turn. The
+//! last lines make none: they print the error for a number, quantity or date that is refused.
 #![tactic(auto)]
 
 use chinese_number::ChineseCase::Lower;
@@ -15,7 +15,7 @@ use chinese_number::{
 use std::fmt::{Debug, Display};
 use std::io;
 
-// Prints what came of a call, in a line of its own.
+// Prints the result of a call on a line.
 fn show<E: Debug + Drop>(
     rt: &impl Print,
     call: impl Display + Drop,
@@ -27,7 +27,7 @@ fn show<E: Debug + Drop>(
     }
 }
 
-// A line for each of these printers, by name, with what it makes of a number.
+// Prints a line for each of these printers, with its name and its result for a number.
 macro_rules! show_each {
     ($rt:ident, $number:expr; $($printer:ident)+) => {
         $(
@@ -85,7 +85,7 @@ fn high(rt: &(impl Print + AllocGlobal)) -> io::Result<()> {
     Ok(())
 }
 
-// A number by the trait, with units.
+// Prints a number with the trait, with units.
 fn by_units<T: NumberToChinese>(
     rt: &(impl Print + AllocGlobal),
     name: &str,
@@ -96,7 +96,7 @@ fn by_units<T: NumberToChinese>(
     show(rt, format_args!("{name}.to_chinese"), outcome)
 }
 
-// A number by the trait, as plain digits.
+// Prints a number with the trait, as plain digits.
 fn by_digits<T: NumberToChinese>(
     rt: &(impl Print + AllocGlobal),
     name: &str,
@@ -106,7 +106,7 @@ fn by_digits<T: NumberToChinese>(
     show(rt, format_args!("{name}.to_chinese_naive"), outcome)
 }
 
-// All that the trait prints of a number of one character.
+// Makes each call of the trait for a number of one character.
 fn by_trait<T: NumberToChinese>(
     rt: &(impl Print + AllocGlobal),
     name: &str,
@@ -133,7 +133,7 @@ fn one_at_each_type(rt: &(impl Print + AllocGlobal)) -> io::Result<()> {
     by_trait(rt, "isize", 1isize)
 }
 
-// The shortest and the longest texts, by name.
+// The shortest and the longest texts, with the functions for each type.
 fn ends_by_name(rt: &(impl Print + AllocGlobal)) -> io::Result<()> {
     show_each!(rt, 0; from_u8_to_chinese from_u8_to_chinese_naive);
     show_each!(rt, MOST_BY_LOW; from_u64_to_chinese_low);
@@ -142,7 +142,7 @@ fn ends_by_name(rt: &(impl Print + AllocGlobal)) -> io::Result<()> {
     Ok(())
 }
 
-// The same, by the trait.
+// The same, with the trait.
 fn ends_by_trait(rt: &(impl Print + AllocGlobal)) -> io::Result<()> {
     by_trait(rt, "u8", 0u8)?;
     by_units(rt, "u64", MOST_BY_LOW, Low)?;
@@ -152,7 +152,7 @@ fn ends_by_trait(rt: &(impl Print + AllocGlobal)) -> io::Result<()> {
     by_units(rt, "u128", u128::MAX, High)
 }
 
-// A quantity in numerals.
+// Writes a quantity in numerals.
 fn numerals(rt: &(impl Print + AllocGlobal), quantity: Quantity) -> io::Result<()> {
     let alloc = rt.alloc();
     let outcome = chinese_number::quantity_to_chinese(
@@ -165,27 +165,27 @@ fn numerals(rt: &(impl Print + AllocGlobal), quantity: Quantity) -> io::Result<(
     show(rt, "quantity_to_chinese", outcome)
 }
 
-// A quantity in figures.
+// Writes a quantity in figures.
 fn figures(rt: &(impl Print + AllocGlobal), quantity: Quantity) -> io::Result<()> {
     let outcome = chinese_number::quantity_to_figures(rt.alloc(), quantity);
     show(rt, "quantity_to_figures", outcome)
 }
 
-// The quantity whose texts are the longest: each number has 39 digits, and no digit is 0.
+// The quantity with the longest texts: each number has 39 digits, and no digit is 0.
 const LONGEST_QUANTITY: Quantity = Quantity {
     numerator: -111_111_111_111_111_111_111_111_111_111_111_111_111,
     denominator: 211_111_111_111_111_111_111_111_111_111_111_111_111,
     form: QuantityForm::Fraction,
 };
 
-// The quantity whose texts are the shortest, of a whole number.
+// The quantity with the shortest texts, which is a whole number.
 const NONE: Quantity = Quantity {
     numerator: 0,
     denominator: 1,
     form: QuantityForm::Whole,
 };
 
-// These, and a percentage.
+// These two, and a percentage.
 fn quantities(rt: &(impl Print + AllocGlobal)) -> io::Result<()> {
     let percentage = Quantity {
         numerator: 1_250,
@@ -199,26 +199,26 @@ fn quantities(rt: &(impl Print + AllocGlobal)) -> io::Result<()> {
     Ok(())
 }
 
-// An amount of money.
+// Writes an amount of money.
 fn amount(rt: &(impl Print + AllocGlobal), variant: ChineseVariant, fen: u64) -> io::Result<()> {
     let outcome = chinese_number::amount_to_chinese(rt.alloc(), variant, fen);
     show(rt, "amount_to_chinese", outcome)
 }
 
-// An amount of money in the longest form.
+// Writes an amount of money in the longest form.
 fn amount_as(rt: &(impl Print + AllocGlobal), fen: u64) -> io::Result<()> {
     let outcome = chinese_number::amount_to_chinese_as(rt.alloc(), Traditional, LONGEST, fen);
     show(rt, "amount_to_chinese_as", outcome)
 }
 
-// The same of one that may be below zero.
+// Writes an amount of money that may be below zero, in the longest form.
 fn signed_amount(rt: &(impl Print + AllocGlobal), fen: i64) -> io::Result<()> {
     let outcome = chinese_number::signed_amount_to_chinese(rt.alloc(), Traditional, LONGEST, fen);
     show(rt, "signed_amount_to_chinese", outcome)
 }
 
-// The shortest amounts and the longest one, and one between them; and those that are longest in a
-// form, and below zero.
+// The shortest amounts, the longest one and one between them, and those that are longest in a form
+// and below zero.
 fn amounts(rt: &(impl Print + AllocGlobal)) -> io::Result<()> {
     amount(rt, Simple, 0)?;
     amount(rt, Simple, 5)?;
@@ -228,7 +228,7 @@ fn amounts(rt: &(impl Print + AllocGlobal)) -> io::Result<()> {
     signed_amount(rt, -999_999_999_999_999_999)
 }
 
-// A date, of its year, month and day.
+// Writes a date, given its year, month and day.
 fn date(
     rt: &(impl Print + AllocGlobal),
     variant: ChineseVariant,
@@ -245,7 +245,7 @@ fn dates(rt: &(impl Print + AllocGlobal)) -> io::Result<()> {
     date(rt, Traditional, (9999, 12, 31))
 }
 
-// Texts with their quantities in figures, which take as many bytes.
+// Texts whose quantities are written in figures of the same number of bytes.
 fn in_figures(rt: &(impl Print + AllocGlobal)) -> io::Result<()> {
     let (wanted, method) = (Wanted::EVERYDAY, TenThousand);
     let figures = Figures {
@@ -259,7 +259,7 @@ fn in_figures(rt: &(impl Print + AllocGlobal)) -> io::Result<()> {
     show(rt, "replace_quantities", outcome)
 }
 
-// The form that is longest: 圓 has as many bytes as 元, and 正 as 整.
+// The longest form: 圓 has as many bytes as 元, and 正 as many as 整.
 const LONGEST: AmountForm = AmountForm {
     currency: true,
     ..AmountForm::PLAIN
@@ -268,7 +268,7 @@ const LONGEST: AmountForm = AmountForm {
 // The greatest number that `Low` prints.
 const MOST_BY_LOW: u64 = 9_999_999_999_999_999;
 
-// The calls that refuse their number before they ask for memory.
+// The calls that return an error before they allocate memory.
 fn refused(rt: &(impl Print + AllocGlobal)) -> io::Result<()> {
     show_each!(rt, MOST_BY_LOW + 1; from_u64_to_chinese_low);
     show_each!(rt, -10_000_000_000_000_000; from_i64_to_chinese_low);

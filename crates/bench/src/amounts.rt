@@ -1,8 +1,8 @@
-// Amounts of money, written and read.
+// Writes and reads amounts of money.
 use chinese_number::{AmountToChineseError, ChineseVariant, amount_to_chinese, chinese_to_amount};
 use std::alloc::{AllocError, Global};
 
-// The text of an amount; of one that is too large, none.
+// The text of an amount; an empty text if the amount is too large.
 fn amount_text(alloc: Global, fen: u64) -> Result<String, AllocError> {
     match amount_to_chinese(alloc, ChineseVariant::Simple, fen) {
         Ok(text) => Ok(text),
@@ -11,7 +11,7 @@ fn amount_text(alloc: Global, fen: u64) -> Result<String, AllocError> {
     }
 }
 
-/// Writes the amounts in turn, and adds up the lengths of their texts.
+/// Writes the amounts in turn, and returns the sum of the lengths of their texts.
 pub fn print_amounts(alloc: Global, amounts: &[u64], passes: u32) -> Result<u64, AllocError> {
     let mut sum = 0u64;
     for _ in 0..passes {
@@ -23,7 +23,7 @@ pub fn print_amounts(alloc: Global, amounts: &[u64], passes: u32) -> Result<u64,
     Ok(sum)
 }
 
-/// Reads the texts of the amounts in turn, and adds up the amounts.
+/// Reads the texts of the amounts in turn, and returns the sum of the amounts.
 pub fn read_amounts(alloc: Global, amounts: &[u64], passes: u32) -> Result<u64, AllocError> {
     let mut texts = Vec::new(alloc);
     for fen in amounts {

@@ -1,9 +1,9 @@
-// The numbers of a text.
+// Finds the numbers in a text.
 use crate::numbers::next;
 use chinese_number::{Wanted, find_numbers};
 use std::alloc::{AllocError, Global};
 
-// How many characters the text has.
+// The number of characters of the text.
 const CHARACTERS: u32 = 1_000_000;
 
 // The characters of everyday numbers.
@@ -12,8 +12,8 @@ const NUMERALS: [char; 20] = [
     '5',
 ];
 
-// The next character of the text: one in twenty of a number, and others from 一 on, of which some
-// are of one too.
+// The next character of the text. One in twenty is taken from the characters of numbers; the others
+// are from 一 on, and some of them also occur in numbers.
 fn next_char(state: &mut u64) -> char {
     let drawn = next(state);
     let which = drawn >> 32;
@@ -33,7 +33,7 @@ fn running_text(alloc: Global) -> Result<String, AllocError> {
     Ok(text)
 }
 
-/// Finds the numbers of the text in turn, and adds up the lengths of their texts.
+/// Finds the numbers of the text in turn, and returns the sum of the lengths of their texts.
 pub fn find_sum(alloc: Global, passes: u32) -> Result<u64, AllocError> {
     let text = running_text(alloc)?;
     let mut sum = 0u64;

@@ -1,5 +1,5 @@
-//! Repeats a call over numbers or amounts of all lengths or over a text, and prints a checksum that
-//! keeps the work alive.
+//! Repeats a call over numbers or amounts of all lengths or over a text, and prints a checksum, so
+//! that the compiler cannot remove the work.
 //!
 //! ```text
 //! bench print u128 naive 1000
@@ -8,9 +8,9 @@
 //! bench find 10
 //! ```
 //!
-//! The last word says how often it goes over all ten thousand numbers or amounts, or over the text of
-//! a million characters. It is to be timed from outside, less the time with 0, in which only what it
-//! goes over is made.
+//! The last word is the number of passes over all ten thousand numbers or amounts, or over the text
+//! of a million characters. Measure the time from outside, and subtract the time with 0 passes, in
+//! which only the data is made.
 #![tactic(auto)]
 
 mod amounts;

@@ -1,11 +1,11 @@
-// Pseudo-random numbers of all lengths.
+// Makes pseudo-random numbers of all lengths.
 use chinese_number::AMOUNT_LIMIT;
 use std::alloc::{AllocError, Global};
 
-// How many there are.
+// The number of numbers.
 const NUMBERS: u32 = 10_000;
 
-/// The next of a run of pseudo-random numbers.
+/// The next number of a pseudo-random sequence.
 pub fn next(state: &mut u64) -> u64 {
     *state ^= *state << 13;
     *state ^= *state >> 7;

@@ -1,28 +1,28 @@
-// What is repeated, and how often.
+// The call that is repeated, and the number of passes.
 use chinese_number::{ChineseCase, ChineseVariant, NumberToChinese, NumberToChineseError};
 use cn_faces::{Way, read_by, way_named};
 use std::alloc::{AllocError, Global};
 
-/// Which way a number goes.
+/// Whether numbers are written or read.
 #[derive(Copy, Clone)]
 pub enum Call {
     Print,
     Read,
 }
 
-/// What is repeated.
+/// The call that is repeated.
 #[derive(Copy, Clone)]
 pub enum Job {
-    /// A call for `u64`, or for `u128`, in one of the ways.
+    /// A call for `u64` (`Narrow`) or `u128` (`Wide`), in one of the ways.
     Narrow(Call, Way),
     Wide(Call, Way),
-    /// Amounts of money.
+    /// Writing or reading amounts of money.
     Amounts(Call),
-    /// A search.
+    /// Finding numbers in a text.
     Find,
 }
 
-/// What is repeated, and how often it goes over all there is.
+/// The call that is repeated, and the number of passes over the data.
 #[derive(Copy, Clone)]
 pub struct Task {
     pub job: Job,
@@ -38,7 +38,7 @@ fn call_named(word: &str) -> Option<Call> {
 }
 
 impl Task {
-    /// The task that these words name; one pass of printing where there are none.
+    /// The task that these words name; without words, one pass that prints `u128`s as plain digits.
     pub fn from_words(words: &[String]) -> Option<Self> {
         let [job @ .., passes] = words else {
             return Some(Task {
@@ -67,7 +67,7 @@ impl Task {
     }
 }
 
-// The text of a number; of one that `Low` does not write, the text of 0.
+// The text of a number; the text of 0 for a number that `Low` does not write.
 fn printed_text<T: NumberToChinese>(
     alloc: Global,
     way: Way,
@@ -84,7 +84,7 @@ fn printed_text<T: NumberToChinese>(
     }
 }
 
-/// Prints the numbers in turn, and adds up the lengths of their texts.
+/// Writes the numbers in turn, and returns the sum of the lengths of their texts.
 pub fn print_sum<T: NumberToChinese>(
     alloc: Global,
     numbers: &[T],
@@ -101,7 +101,7 @@ pub fn print_sum<T: NumberToChinese>(
     Ok(sum)
 }
 
-/// Reads the texts of the numbers in turn, and adds up the numbers.
+/// Reads the texts of the numbers in turn, and returns the sum of the numbers.
 pub fn read_sum<T: NumberToChinese>(
     alloc: Global,
     numbers: &[T],

@@ -1,4 +1,4 @@
--- Every beginning of a spelling is a numeral of at most its number.
+-- Every prefix of a spelling is a numeral whose value is at most the spelled number.
 use Rattle.std.proofs.Common.{◌≡◌, ℕ, ◌*◌, ◌<◌, ◌≤◌, Bool, true, false, ◌&&◌, ◌==◌, nat_lt, List, [], ◌∷◌, ◌++◌, length, Some, if◌then◌else◌, refl, sym, subst, arith}
 use Rattle.std.specs.List.{list_all}
 use Rattle.std.specs.Option.{option_map_or}
@@ -14,7 +14,7 @@ use Rattle.cn_core.proofs.Ends.{front-value}
 use Rattle.cn_core.proofs.Grammar.{is_no_ge}
 use Rattle.cn_core.proofs.ReadBack.{IsOpened, IsOpened-spelling}
 
--- the rules that hold of a mark and what stands to its right hold of it and a beginning of that,
+-- if the rules hold of a mark and the marks to its right, they hold of it and a prefix of those,
 -- except for 個
 groups-front : (rank : ℕ) (front back : List Mark)
     → groups_strictly (unit rank) (front ++ back) ≡ true → groups_strictly (unit rank) front ≡ true
@@ -64,7 +64,7 @@ each-front (mark ∷ front) back n h =
     (each-front front back (and-right (is_no_ge mark) _ n)
     (and-right (may_precede mark (front ++ back)) _ h))
 
--- whether a list starts with a digit is seen at its first mark
+-- whether a list starts with a digit depends only on its first mark
 pub starts-alike : (mark : Mark) (one second : List Mark) → starts_with_digit (mark ∷ one) ≡ true
     → starts_with_digit (mark ∷ second) ≡ true
 starts-alike (digit value) one second h = refl

@@ -1,4 +1,4 @@
--- How many characters write digits and units, and at which place each unit stands.
+-- How many characters write digits and units, and the index of each unit.
 use Rattle.std.proofs.Common.{◌≡◌, ◌≤◌, ◌<◌, ℕ, zero, suc, Bool, true, ◌&&◌, nat_le, nat_lt, List, [], ◌∷◌, slice_index, length, refl, arith}
 use Rattle.std.specs.List.{list_all}
 use Rattle.std.proofs.lemmas.Bool.Decides.{nat_tests}
@@ -46,7 +46,7 @@ rank-low = elim [
   | Ji ↦ omega arith
 ]
 
--- the number that the code makes of a unit is its rank
+-- the number that the compiled code uses for a unit is its rank
 pub tag_rank : (unit : NumeralUnit) → tag_of the_type unit ≡ rank unit
 tag_rank = elim [
   | Ge ↦ refl
@@ -67,11 +67,12 @@ tag_rank = elim [
   | Ji ↦ refl
 ]
 
--- from 0x800 up, below the surrogates: three bytes in UTF-8
+-- whether the UTF-8 of a character is three bytes long: it is from 0x800 up and below the
+-- surrogates
 abbrev pub takes_three : ℕ → Bool
 takes_three c = nat_le 0x800 c && nat_lt c 0xD800
 
--- a test that each passes is passed at each index
+-- if each element passes a test, the element at each index passes it
 passes-at : (test : ℕ → Bool) (xs : List ℕ) (k : ℕ) → list_all test xs ≡ true → k < length xs
     → test (slice_index xs k) ≡ true
 passes-at test [] k h less = absurd (omega (arith, less))

@@ -1,4 +1,4 @@
--- The characters of bytes.
+-- A string of no bytes has no characters.
 use Rattle.std.proofs.Common.{◌≡◌, ℕ, List, [], ◌∷◌, length, chars, arith}
 use Rattle.std.proofs.lemmas.Str.{chars-nil}
 

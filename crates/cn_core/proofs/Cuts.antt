@@ -1,4 +1,4 @@
--- A spelling is cut at each unit that it holds, whatever the method.
+-- Under each method, a spelling can be cut at each unit that it holds.
 use Rattle.std.proofs.Common.{◌≡◌, ℕ, zero, suc, ◌+◌, ◌*◌, ◌/◌, ◌%◌, ◌<◌, ◌≤◌, false, ◌==◌, ◌&&◌, nat_le, nat_lt, List, [], ◌∷◌, ◌++◌, if◌then◌else◌, refl, sym, ◌∙◌, arith}
 use Rattle.std.proofs.lemmas.Bool.Decides.{nat_tests}
 use Rattle.std.proofs.Math.Decide.{dec_lt}
@@ -12,15 +12,15 @@ use Rattle.cn_core.proofs.ScaleLaws.{IsGreatest-unit, greatest-scale, scale-ten}
 use Rattle.cn_core.proofs.Spellings.{IsCut-greatest, spelled-step}
 use Rattle.cn_core.proofs.Sums.{spelled-digit}
 
--- the spelling of a number as a part of another, nothing for 0
+-- the spelling of a number as a part of another spelling: empty for 0
 abbrev pub part : ChineseCountMethod → ℕ → List Mark
 part method number = if number == 0 then [] else spelling_within number method number
 
--- 零 after a unit of this size, where what stands below leaves the next place empty
+-- 零 after a unit of this size, if the remainder is positive and below a tenth of the size
 abbrev pub gap : ℕ → ℕ → List Mark
 gap below size = if nat_lt 0 below && nat_lt below (size / 10) then digit 0 ∷ [] else []
 
--- more steps than the number change nothing
+-- with at least as many steps as the number, the number of steps does not matter
 pub spelled-fuel : (steps more : ℕ) (method : ChineseCountMethod) (number : ℕ) → number ≤ steps
     → number ≤ more → number < scale method 15 * scale method 15
     → spelling_within steps method number ≡ spelling_within more method number
@@ -51,7 +51,7 @@ spelled-fuel (suc steps) (suc more) method number a b small =
           )) in
           rw (spelled-step steps method number ten, spelled-step more method number ten, q, r) refl
 
--- the greatest unit is the one that the number reaches, and no greater one
+-- the greatest unit of a number is the one that the number reaches while it reaches no greater one
 pub greatest-is : (method : ChineseCountMethod) (number rank : ℕ) → 10 ≤ number
     → scale method rank ≤ number → rank ≤ 15
     → ((more : ℕ) → rank < more → more ≤ 15 → number < scale method more)

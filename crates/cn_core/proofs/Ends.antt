@@ -1,5 +1,5 @@
--- A beginning of a spelling has at most its value, even where a last digit counts a tenth of the
--- unit before it.
+-- A prefix of a spelling has at most the spelled value, even if its last digit counts a tenth of
+-- the unit before it.
 use Rattle.std.proofs.Common.{◌≡◌, ℕ, zero, suc, ◌+◌, ◌-◌, ◌*◌, ◌/◌, ◌%◌, ◌^◌, ◌<◌, ◌≤◌, Bool, true, false, nat_lt, List, [], ◌∷◌, ◌++◌, map, refl, sym, ap, ◌∙◌, arith, if◌then◌else◌}
 use Rattle.std.proofs.lemmas.Bool.Decides.{nat_tests}
 use Rattle.std.proofs.Math.Decide.{dec_le}
@@ -18,7 +18,7 @@ product-pos : (method : ChineseCountMethod) (ranks : List ℕ)
 product-pos method [] = omega arith
 product-pos method (rank ∷ ranks) = mul-pos (scale-pos method rank) (product-pos method ranks)
 
--- marks behind a list lower no weight
+-- appending marks to a list lowers no weight
 weight-more : (method : ChineseCountMethod) (least : ℕ) (marks back : List Mark)
     → product (map (scale method) (records_from least marks))
     ≤ product (map (scale method) (records_from least (marks ++ back)))
@@ -39,8 +39,8 @@ value-more method (digit number ∷ marks) back = let w =
 value-more method (unit rank ∷ marks) back = value-more method marks back
 value-more method (other ∷ marks) back = value-more method marks back
 
--- what starts with a digit directly behind a unit has at least the value of that digit as the last
--- one
+-- a list that starts with a digit and is directly after a unit has at least the value that this
+-- digit would have as the last mark
 abbrev OutweighsEnd : ChineseCountMethod → Mark → List Mark → Type 0
 OutweighsEnd method (unit rank) (digit number ∷ rest) =
     colloquial_value method (unit rank ∷ digit number ∷ []) ≤ value method (digit number ∷ rest)
@@ -50,7 +50,7 @@ abbrev pub EachOutweighsEnd : ChineseCountMethod → List Mark → Type 0
 EachOutweighsEnd method [] = Unit {0}
 EachOutweighsEnd method (mark ∷ rest) = OutweighsEnd method mark rest × EachOutweighsEnd method rest
 
--- so wherever such a list is cut, its front has at most its value
+-- so wherever such a list is cut, the value of its prefix is at most the value of the list
 pub front-value : (method : ChineseCountMethod) (front back : List Mark)
     → EachOutweighsEnd method (front ++ back)
     → colloquial_value method front ≤ value method (front ++ back)
@@ -98,7 +98,7 @@ first_digit-cut (digit number ∷ front) back rank = refl
 first_digit-cut (unit next ∷ front) back rank = refl
 first_digit-cut (other ∷ front) back rank = refl
 
--- a first digit times each power of ten that the number reaches is at most the number
+-- the first digit times any power of ten that the number reaches is at most the number
 abbrev Leads : ℕ → ℕ → Type 0
 Leads first number = (power : ℕ) → 10 ^ power ≤ number → first * 10 ^ power ≤ number
 
@@ -134,7 +134,7 @@ Leads-cut method number rank first cut rest power h =
     ap (λ n. first * n) whole ∙ sym (mul_assoc first (10 ^ k) (scale method rank)) in
     omega (arith, up, same, high, cut.sum)
 
--- what stands directly behind a unit is at least a tenth of it, or starts with 零
+-- the marks directly after a unit have a value of at least a tenth of the unit, or start with 零
 behind-unit : (method : ChineseCountMethod) (rank remainder : ℕ) (marks : List Mark) → 1 ≤ rank
     → IsLed method remainder marks → 0 < remainder → scale method rank / 10 ≤ remainder
     → OutweighsEnd method (unit rank) marks

@@ -1,4 +1,4 @@
--- The figures are the characters that have a value as one.
+-- A character is a figure exactly if it has a value as a figure.
 use Rattle.std.proofs.Common.{◌≡◌, ℕ, is_some, arith}
 use Rattle.std.proofs.lemmas.Bool.Decides.{nat_tests}
 use Rattle.cn_core.specs.Figures.{figure_of, is_figure}

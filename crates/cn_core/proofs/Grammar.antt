@@ -13,7 +13,7 @@ use Rattle.cn_core.proofs.Fronts.{and-left, and-right, both, list_all-both, zero
 use Rattle.cn_core.proofs.Sums.{all_below}
 use Rattle.cn_core.proofs.Spellings.{Spells, Spells-digit, Spells-step, IsCut, after_unit-by, after_unit-all, spelled-by}
 
--- a greater unit further on breaks no group
+-- a greater unit further to the right breaks no group
 groups-more : (rank more : ℕ) (rest back : List Mark) → nat_lt rank more ≡ true
     → option_map_or (λ next. nat_lt rank next) (first_not_smaller rank rest) true ≡ true
     → option_map_or (λ next. nat_lt rank next) (first_not_smaller rank (rest ++ unit more ∷ back))
@@ -34,7 +34,7 @@ groups-more rank more (unit next ∷ rest) back less h =
       by true ih h = ih h
       by false ih h = h
 
--- nor does it break another rule of what stands before it
+-- and it breaks no other rule on the marks before it
 may_precede-more : (mark : Mark) (rest back : List Mark) (more : ℕ) → is_below more mark ≡ true
     → may_precede mark rest ≡ true → may_precede mark (rest ++ unit more ∷ back) ≡ true
 may_precede-more other rest back more low h = cc
@@ -93,7 +93,7 @@ none_below rank (other ∷ rest) h = none_below rank rest h
 none_below rank (unit next ∷ rest) h = rw (and-left (nat_lt next rank) _ h) (none_below rank rest
     (and-right (nat_lt next rank) _ h))
 
--- what a list that follows a unit is like: empty, or it starts with a digit
+-- the marks that follow a unit in a spelling: none, or a list that starts with a digit
 abbrev may_follow : List Mark → Bool
 may_follow [] = true
 may_follow marks = starts_with_digit marks
@@ -111,8 +111,8 @@ abbrev pub is_no_ge : Mark → Bool
 is_no_ge (unit rank) = nat_le 1 rank
 is_no_ge mark = true
 
--- what a spelling is like: it has its number's value, keeps the rules, starts with a digit and has
--- no 個
+-- the properties of a spelling: it has the value of its number, keeps the rules, starts with a
+-- digit and has no 個
 pub record IsRegular (method : ChineseCountMethod) (number : ℕ) (marks : List Mark) : Type 0 where
   pub spells : Spells method number marks
   pub rules : each_may_precede marks ≡ true

@@ -1,4 +1,4 @@
--- How many marks a spelling has.
+-- The number of marks in a spelling.
 use Rattle.std.proofs.Common.{◌≡◌, ℕ, ◌+◌, ◌-◌, ◌*◌, ◌/◌, ◌%◌, ◌^◌, ◌<◌, ◌≤◌, List, ◌∷◌, ◌++◌, length, ap, ◌∙◌, arith, length-append}
 use Rattle.std.proofs.Math.Decide.{dec_lt}
 use Rattle.std.proofs.Math.Nat.{pow-le-pow_right, lt_of_mul-lt-mul_right}
@@ -10,12 +10,12 @@ use Rattle.cn_core.specs.Spelling.{spelling_within, after_unit, spelling}
 use Rattle.cn_core.proofs.ScaleLaws.{exponent-some}
 use Rattle.cn_core.proofs.Spellings.{IsCut, spelled-by, after_unit-by, short_spelling-by}
 
--- how many marks a number of so many decimal digits has
+-- a number of at most this many decimal digits has at most twice as many marks, less one
 abbrev HasLength : ℕ → List Mark → Type 0
 HasLength number marks = (digits : ℕ) → 1 ≤ digits → number < 10 ^ digits
     → length marks + 1 ≤ 2 * digits
 
--- after a unit stand at most twice as many marks as its scale has zeros, less one
+-- the marks after a unit are at most twice as many as its scale has zeros, less one
 length-after : (e remainder : ℕ) (back : List Mark) → 1 ≤ e → remainder < 10 ^ e
     → HasLength remainder back → length (after_unit remainder (10 ^ e) back) + 1 ≤ 2 * e
 length-after e remainder back some less h =
@@ -57,7 +57,8 @@ HasLength-step method number rank front back cut f b digits some h =
     let r = length-after e (number % size) back e_some cut.remainder b in
     rw length-append (omega (arith, q, r, e_less))
 
--- a number of so many decimal digits has at most twice as many marks, less one
+-- the spelling of a number of at most this many decimal digits has at most twice as many marks,
+-- less one
 pub length-spelling : (method : ChineseCountMethod) (number digits : ℕ) → 1 ≤ digits
     → number < 10 ^ digits → number < scale method 15 * scale method 15
     → length (spelling method number) + 1 ≤ 2 * digits

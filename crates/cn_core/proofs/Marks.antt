@@ -1,4 +1,4 @@
--- When two marks are one.
+-- A test whether two marks are equal.
 use Rattle.std.proofs.Common.{◌≡◌, ◌==◌, Bool, true, false, refl, ap, arith}
 use Rattle.std.proofs.lemmas.Bool.Decides.{nat_tests}
 use Rattle.cn_core.specs.Mark.{Mark, digit, unit, other}

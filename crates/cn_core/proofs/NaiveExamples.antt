@@ -1,4 +1,4 @@
--- Worked examples of plain digits: what the definitions compute to.
+-- Worked examples of plain digits, each proved by computing the definitions.
 use Rattle.std.proofs.Common.{◌≡◌, ◌^◌, ◌-◌, List, ℕ, refl, codes, Ok, Err, encode_utf8_all, false, true, pos, negsuc}
 use Rattle.std.specs.Str.{chars}
 use Rattle.std.specs.Char.{encode_utf8}
@@ -21,7 +21,7 @@ white_space : text_of (string (codes " 二 十\u{3000}十")) ≡ codes "二十�
 unfolding chars encode_utf8
 white_space = refl
 
--- written
+-- numbers that are written
 lower_digits : signed_text Traditional Lower false (decimal_digits 1203) ≡ codes "一二零三"
 unfolding digits digit_char
 lower_digits = refl
@@ -39,7 +39,7 @@ zero_is_written : signed_text Traditional Lower false (decimal_digits 0) ≡ cod
 unfolding digits digit_char
 zero_is_written = refl
 
--- read
+-- strings that are read
 any_form_of_digits : naive_reading (unsigned_kind 128) (string (codes "零〇1兩")) ≡ Ok (pos 12)
 unfolding chars encode_utf8 digit_of rank_of
 any_form_of_digits = refl
@@ -83,7 +83,7 @@ ten_is_no_digit : naive_reading (unsigned_kind 128) (string (codes "一十")) �
 unfolding chars encode_utf8 digit_of rank_of
 ten_is_no_digit = refl
 
--- the range is judged last, but past 128 bits no more is read
+-- the range is checked last, but nothing is read after the number exceeds 128 bits
 range_after_the_end : naive_reading (unsigned_kind 8) (string (codes "九九九x")) ≡ Err (incorrect_at 3)
 unfolding chars encode_utf8 digit_of rank_of
 range_after_the_end = refl
@@ -97,7 +97,7 @@ past_128_bits_stops : naive_reading (signed_kind 8)
 unfolding chars encode_utf8 digit_of rank_of sign_of
 past_128_bits_stops = refl
 
--- white space counts where a refusal points
+-- white space counts in the index that a refusal reports
 white_space_counts : naive_reading (unsigned_kind 128) (string (codes "零 一 十"))
     ≡ Err (incorrect_at 4)
 unfolding chars encode_utf8 digit_of rank_of

@@ -1,4 +1,4 @@
--- Worked examples of numerals: what the definitions compute to.
+-- Worked examples of numerals, each proved by computing the definitions.
 use Rattle.std.proofs.Common.{◌*◌, ◌^◌, refl, codes, Ok, Err}
 use Rattle.cn_core.specs.declared.method.ChineseCountMethod.TheVariants.{Low, TenThousand, Middle}
 use Rattle.cn_core.specs.Characters.{digit_of, rank_of}
@@ -37,7 +37,7 @@ ten_within : Judges TenThousand (marks_of (codes "二十十")) (Err (incorrect_a
 unfolding digit_of rank_of
 ten_within = Judges-by_walk TenThousand (marks_of (codes "二十十")) _ refl
 
--- 個 stands directly before a greater unit
+-- 個 is directly before a greater unit
 counting_a_unit : Judges TenThousand (marks_of (codes "一百零個億")) (Ok 10000000000)
 unfolding digit_of rank_of
 counting_a_unit = refl
@@ -50,7 +50,7 @@ ten_that_counts_none : Judges TenThousand (marks_of (codes "十個")) (Err (inco
 unfolding digit_of rank_of
 ten_that_counts_none = Judges-by_walk TenThousand (marks_of (codes "十個")) _ refl
 
--- a body that is a numeral, and a last character at fault
+-- the body is a numeral, and the last character is at fault
 last_character_at_fault : Judges TenThousand (marks_of (codes "一百個")) (Err (incorrect_at 2))
 unfolding digit_of rank_of
 last_character_at_fault = refl
@@ -67,7 +67,7 @@ completable_but_no_numeral : Judges TenThousand (marks_of (codes "個億")) (Err
 unfolding digit_of rank_of
 completable_but_no_numeral = Judges-by_walk TenThousand (marks_of (codes "個億")) _ refl
 
--- each unit that is named has to have a scale that fits
+-- the scale of each unit that occurs must fit 128 bits
 zero_of_a_unit_that_fits : Judges Low (marks_of (codes "零極")) (Ok 0)
 unfolding digit_of rank_of
 zero_of_a_unit_that_fits = refl
@@ -84,7 +84,7 @@ unit_that_does_not_fit_after_the_place : Judges TenThousand (marks_of (codes "�
 unfolding digit_of rank_of
 unit_that_does_not_fit_after_the_place = Judges-by_walk TenThousand (marks_of (codes "極極")) _ refl
 
--- a group overflows where a greater unit closes it
+-- a group overflows if a greater unit closes it
 group_that_is_closed : Judges TenThousand (marks_of (codes "x二澗一億溝")) (Err too_large)
 unfolding digit_of rank_of
 group_that_is_closed = Judges-by_walk TenThousand (marks_of (codes "x二澗一億溝")) _ refl

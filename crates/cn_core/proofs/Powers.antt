@@ -1,4 +1,4 @@
--- The table of powers of ten has each of them in its place.
+-- The table of powers of ten has each power at the index that is its exponent.
 use Rattle.std.proofs.Common.{◌≡◌, ℕ, zero, suc, ◌+◌, ◌^◌, ◌<◌, ◌≤◌, List, Option, Some, None, Bor, map, get_or, ap, ◌∙◌, refl, arith}
 use Rattle.std.specs.Option.{SomeIff, option_copied}
 use Rattle.std.specs.Slice.{IsItemAt}
@@ -8,7 +8,7 @@ use Rattle.cn_core.specs.declared.scales.TheConstants.{POWERS_OF_TEN}
 abbrev powers_from : ℕ → ℕ → List ℕ
 powers_from low count = map (λ e. 10 ^ e) (range_with_len low count)
 
--- all 39, from 10^0 to 10^38
+-- all 39 powers, from 10^0 to 10^38
 powers : POWERS_OF_TEN ≡ powers_from 0 39
 powers = refl
 

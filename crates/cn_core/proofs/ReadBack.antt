@@ -1,4 +1,4 @@
--- Every spelling is a numeral of its number.
+-- Every spelling is a numeral whose value is the spelled number.
 use Rattle.std.proofs.Common.{◌≡◌, ℕ, ◌+◌, ◌*◌, ◌/◌, ◌<◌, ◌≤◌, Bool, true, false, ◌&&◌, nat_lt, List, [], ◌∷◌, map, refl, sym, ap, subst, ◌∙◌, arith, append-nil, if◌then◌else◌}
 use Rattle.std.specs.Option.{option_map_or}
 use Rattle.std.specs.List.{list_all}
@@ -17,7 +17,7 @@ use Rattle.cn_core.proofs.Ends.{EachOutweighsEnd, front-value, IsLed-spelling_wi
 use Rattle.cn_core.proofs.Spellings.{short_spelling-by}
 use Rattle.cn_core.proofs.Grammar.{is_no_ge, IsRegular-spelling_within}
 
--- a last digit counts at least as much after a unit
+-- the colloquial value is at least the value: a last digit after a unit counts at least as much
 value-colloquial : (method : ChineseCountMethod) (marks : List Mark)
     → value method marks ≤ colloquial_value method marks
 value-colloquial method [] = omega arith
@@ -40,7 +40,7 @@ value-colloquial method (unit rank ∷ digit number ∷ []) = by (nat_lt rank 2)
 value-colloquial method (unit rank ∷ digit number ∷ mark ∷ rest) =
     value-colloquial method (digit number ∷ mark ∷ rest)
 
--- where 十 may stand and no 個 does, the first record is above 十
+-- if 十 may precede the list and the list has no 個, its first record is above 十
 records-above_ten : (rest : List Mark) → list_all is_no_ge rest ≡ true
     → option_map_or (λ next. nat_lt 1 next) (first_not_smaller 1 rest) true ≡ true
     → records_from 2 rest ≡ records_from 0 rest
@@ -55,7 +55,7 @@ scale_ten TenThousand = refl
 scale_ten Middle = refl
 scale_ten High = refl
 
--- what a spelling is like once a 十 at its start is read as ten
+-- the properties of a spelling after a first 十 is replaced by the digit ten
 pub record IsOpened (method : ChineseCountMethod) (number : ℕ) (marks : List Mark) : Type 0 where
   pub sum : value method marks ≡ number
   pub rules : each_may_precede marks ≡ true
@@ -111,7 +111,7 @@ IsOpened-spelling method number small =
     (subst (IsOpened method number) (sym (with_first_digit-digit marks h.starts)) h)
     (λ rest ten. IsOpened-ten method number rest (subst (IsOpened method number) ten h))
 
--- every spelling is a numeral of its number
+-- every spelling is a numeral whose value is the spelled number
 pub spelling-is_numeral : (method : ChineseCountMethod) (number : ℕ)
     → number < scale method 15 * scale method 15
     → IsNumeral (spelling method number) × (numeral_value method (spelling method number) ≡ number)

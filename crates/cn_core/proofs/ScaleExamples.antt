@@ -1,11 +1,11 @@
--- Worked examples of scales: the powers of ten of all sixteen units by each method.
+-- Worked examples of scales: the powers of ten of all sixteen units under each method.
 use Rattle.std.proofs.Common.{◌≡◌, ◌^◌, ℕ, List, [], ◌∷◌, ◌++◌, Option, Some, None, if◌then◌else◌, map, refl}
 use Rattle.std.specs.List.{repeat}
 use Rattle.cn_core.specs.declared.method.ChineseCountMethod.{ChineseCountMethod}
 use Rattle.cn_core.specs.declared.method.ChineseCountMethod.TheVariants.{Low, TenThousand, Middle, High}
 use Rattle.cn_core.specs.Scale.{exponent, scale, scale_fits}
 
--- the powers of ten of the units from rank 0 to rank 15, and None for a scale that does not fit 128
+-- the exponents of the units from rank 0 to rank 15, and `None` for a scale that does not fit 128
 -- bits
 abbrev powers : ChineseCountMethod → List (Option ℕ)
 powers method = map (λ rank. if scale_fits method rank then Some (exponent method rank) else None)
@@ -20,16 +20,17 @@ ten_thousand : powers TenThousand ≡ map Some
     (0 ∷ 1 ∷ 2 ∷ 3 ∷ 4 ∷ 8 ∷ 12 ∷ 16 ∷ 20 ∷ 24 ∷ 28 ∷ 32 ∷ 36 ∷ []) ++ None ∷ None ∷ None ∷ []
 ten_thousand = refl
 
--- 垓 is the last that fits
+-- 垓 is the last unit that fits
 middle : powers Middle ≡ map Some (0 ∷ 1 ∷ 2 ∷ 3 ∷ 4 ∷ 8 ∷ 16 ∷ 24 ∷ 32 ∷ [])
     ++ repeat 7 (None ∷ [])
 middle = refl
 
--- 京 is the last that fits
+-- 京 is the last unit that fits
 high : powers High ≡ map Some (0 ∷ 1 ∷ 2 ∷ 3 ∷ 4 ∷ 8 ∷ 16 ∷ 32 ∷ []) ++ repeat 8 (None ∷ [])
 high = refl
 
--- 極 by the smallest scales, and 澗, 垓 and 京, the greatest that fit by the others
+-- the scale of 極 under `Low`, and those of 澗, 垓 and 京, the greatest units that fit under the other
+-- methods
 greatest_of_low : scale Low 15 ≡ 1000000000000000
 greatest_of_low = refl
 

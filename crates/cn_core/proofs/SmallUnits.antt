@@ -1,4 +1,5 @@
--- Texts with none but small units, below which two methods have the same ones, are judged alike by both.
+-- Texts whose units are all below a limit, up to which two methods have the same scales, are judged
+-- alike under both methods.
 use Rattle.std.proofs.Common.{◌≡◌, ℕ, zero, suc, ◌+◌, ◌-◌, ◌*◌, ◌/◌, ◌^◌, max, ℤ, Bool, true, false, not, ◌&&◌, ◌||◌, ◌==◌, nat_lt, nat_le, if◌then◌else◌, List, [], ◌∷◌, length, map, reverse, take, drop, take_while, Result, Ok, Err, is_ok, refl, sym, ap, ap₂, ◌∙◌, arith}
 use Rattle.std.proofs.lemmas.Bool.Decides.{nat_tests}
 use Rattle.std.specs.List.{prefix_len}

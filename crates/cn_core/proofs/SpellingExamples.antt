@@ -1,4 +1,4 @@
--- Worked examples of spellings: what the definitions compute to.
+-- Worked examples of spellings, each proved by computing the definitions.
 use Rattle.std.proofs.Common.{◌≡◌, ◌+◌, ◌-◌, ◌^◌, refl, codes, pos, negsuc}
 use Rattle.cn_core.specs.declared.method.ChineseCountMethod.TheVariants.{Low, TenThousand, Middle, High}
 use Rattle.cn_core.specs.declared.script.ChineseVariant.TheVariants.{Traditional, Simple}
@@ -10,7 +10,7 @@ zero : spelled_text Traditional Lower TenThousand (pos 0) ≡ codes "零"
 unfolding digit_char unit_char minus_char
 zero = refl
 
--- 一十 at the start becomes 十, and stays inside
+-- 一十 becomes 十 at the start, and stays 一十 elsewhere
 ten : spelled_text Traditional Lower High (pos 10) ≡ codes "十"
 unfolding digit_char unit_char minus_char
 ten = refl
@@ -50,7 +50,7 @@ greatest_of_low : spelled_text Traditional Lower Low (pos (10 ^ 16 - 1))
 unfolding digit_char unit_char minus_char
 greatest_of_low = refl
 
--- one 零 for all places that a unit leaves empty
+-- one 零 for all places that are empty after a unit
 one_zero_for_all_empty_places : spelled_text Traditional Lower High (pos (10 ^ 16 + 10 ^ 12))
     ≡ codes "一兆零一萬億"
 unfolding digit_char unit_char minus_char

@@ -1,4 +1,4 @@
--- A spelling has the value of its number.
+-- The value of a spelling is the spelled number.
 use Rattle.std.proofs.Common.{◌≡◌, ℕ, zero, suc, ◌+◌, ◌*◌, ◌/◌, ◌%◌, ◌<◌, ◌≤◌, Bool, true, false, ◌&&◌, ◌==◌, nat_lt, List, [], ◌∷◌, ◌++◌, refl, ap, ap₂, ◌∙◌, arith, if◌then◌else◌}
 use Rattle.std.specs.List.{list_all}
 use Rattle.std.proofs.lemmas.Bool.Decides.{nat_tests}
@@ -14,7 +14,7 @@ use Rattle.cn_core.proofs.Fronts.{and-left, and-right, both, list_all-both}
 use Rattle.cn_core.proofs.ScaleLaws.{IsGreatest-unit, greatest-scale, greatest-square, scale-ten, scale-mono}
 use Rattle.cn_core.proofs.Sums.{all_below, value-closed, spelled-digit}
 
--- what a spelling's parts keep
+-- the properties of the parts of a spelling
 pub record Spells (method : ChineseCountMethod) (number : ℕ) (marks : List Mark) : Type 0 where
   pub sum : value method marks ≡ number
   pub below : (rank : ℕ) → number < scale method rank → all_below rank marks ≡ true
@@ -23,7 +23,7 @@ pub Spells-digit : (method : ChineseCountMethod) (number : ℕ)
     → Spells method number (digit number ∷ [])
 Spells-digit method number = record { sum = omega arith; below = λ rank h. refl }
 
--- what holds of each list that can follow a unit holds of what does
+-- a property of each list that can follow a unit is a property of the list that does
 pub after_unit-by : (P : List Mark → Type 0) (remainder size : ℕ) (marks : List Mark)
     → (remainder ≡ 0 → P []) → (0 < remainder → remainder < size / 10 → P (digit 0 ∷ marks))
     → (0 < remainder → size / 10 ≤ remainder → P marks) → P (after_unit remainder size marks)
@@ -52,7 +52,7 @@ after_unit-sum method remainder size marks h =
     after_unit-by (λ l. value method l ≡ remainder) remainder size marks
     (λ none. omega (arith, none)) (λ some gap. omega (arith, h.sum)) (λ some full. h.sum)
 
--- what is tested of 零 and of each mark of a remainder's spelling
+-- a test that 零 and each mark of a remainder's spelling pass is passed by each mark after the unit
 pub after_unit-all : (test : Mark → Bool) (remainder size : ℕ) (marks : List Mark) → test (digit 0)
     ≡ true → list_all test marks ≡ true → list_all test (after_unit remainder size marks) ≡ true
 after_unit-all test remainder size marks none h =
@@ -69,7 +69,7 @@ pub spelled-step : (steps : ℕ) (method : ChineseCountMethod) (number : ℕ) �
 spelled-step steps method number h = let test : nat_lt number 10 ≡ false =
     grind (arith, nat_tests) in rw (test, spelling_within)
 
--- the parts of a number at its greatest unit
+-- a number cut at its greatest unit, and its two parts
 pub record IsCut (method : ChineseCountMethod) (number rank : ℕ) : Type 0 where
   pub low : 1 ≤ rank
   pub high : rank ≤ 15
@@ -106,8 +106,8 @@ IsCut-greatest method number h small =
       smaller = omega (arith, tenfold, back, h);
     }
 
--- what holds of one digit, and of a number where it holds of the parts at a unit, holds of each
--- spelling
+-- a property of each one-digit spelling, and of a spelling if its parts at a unit have it, is a
+-- property of each spelling
 pub spelled-by : (method : ChineseCountMethod) (P : ℕ → List Mark → Type 0)
     → ((number : ℕ) → number < 10 → P number (digit number ∷ []))
     → ((number rank : ℕ) (front back : List Mark) → IsCut method number rank
@@ -180,7 +180,8 @@ pub Spells-spelling_within : (method : ChineseCountMethod) (steps number : ℕ) 
 Spells-spelling_within method = spelled-by method (Spells method)
     (λ number low. Spells-digit method number) (Spells-step method)
 
--- what holds of a list, and of what 一十 at its start becomes, holds of it once it is shortened
+-- a property of a list, and of the list that it becomes if a first 一十 is shortened, is a property
+-- of the shortened list
 pub short_spelling-by : (P : List Mark → Type 0) (marks : List Mark) → P marks
     → ((rest : List Mark) → marks ≡ digit 1 ∷ unit 1 ∷ rest → P (unit 1 ∷ rest))
     → P (short_spelling marks)

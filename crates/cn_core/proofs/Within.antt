@@ -1,4 +1,4 @@
--- A refusal points into the text: its place is one of the marks.
+-- A refusal points into the text: its place is the index of one of the marks.
 use Rattle.std.proofs.Common.{◌≡◌, ℕ, suc, ◌+◌, ◌-◌, ◌^◌, ◌<◌, ◌≤◌, Bool, true, false, nat_le, List, [], ◌∷◌, length, take, reverse, Option, Some, None, Result, Ok, Err, refl, ap, ◌∙◌, arith, length-take, if◌then◌else◌}
 use Rattle.std.specs.Option.{option_or}
 use Rattle.cn_core.specs.declared.method.ChineseCountMethod.{ChineseCountMethod}
@@ -46,7 +46,7 @@ last-place : (b : Bool) (last place : ℕ) (answer : Answer)
 last-place true last place answer e h = cc
 last-place false last place answer e h = cc
 
--- the judgement that is computed
+-- the place that `judge` computes is one of the marks
 pub judge-within : (method : ChineseCountMethod) (marks : List Mark) (place : ℕ)
     → judge method marks ≡ Err (incorrect_at place) → place < length marks
 judge-within method [] place h = cc
@@ -64,7 +64,7 @@ judge-within method (mark ∷ rest) place h =
           (place_of (body (mark ∷ rest))) place _ refl h in
           omega (arith, e, place-low (body (mark ∷ rest)), body-length (mark ∷ rest))
 
--- and so the judgement
+-- so the place of a judgement is one of the marks
 pub Judges-within : (method : ChineseCountMethod) (marks : List Mark) (place : ℕ)
     → Judges method marks (Err (incorrect_at place)) → place < length marks
 Judges-within method marks place h =
@@ -72,7 +72,7 @@ Judges-within method marks place h =
     (Judges-same method marks (judge method marks) (Err (incorrect_at place))
     (Judges-judge method marks) h)
 
--- plain digits
+-- the same for plain digits
 fault-within : (marks : List Mark) (start : ℕ) (rest : List Mark) (place : ℕ)
     → first_fault marks start rest ≡ Some (incorrect_at place) → place < start + length rest
 fault-within marks start [] place h = cc

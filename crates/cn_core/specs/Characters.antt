@@ -1,4 +1,4 @@
--- Which characters are digits, units and signs, and which one writes each digit, unit and sign.
+-- Which characters are read as digits, units and signs, and which character writes each of them.
 use Rattle.std.specs.Prelude.{ℕ, if◌then◌else◌, List, [], ◌∷◌, codes, position, Option, Some, None, slice_index}
 use Rattle.std.specs.Char.{char_set_contains, encode_utf8}
 use Rattle.cn_core.specs.declared.script.ChineseVariant.{ChineseVariant}
@@ -10,7 +10,7 @@ use Rattle.cn_core.specs.declared.unit.Unit.TheVariants.{Ge, Shi, Bai, Qian, Wan
 use Rattle.cn_core.specs.declared.sign.Sign.{Sign}
 use Rattle.cn_core.specs.declared.sign.Sign.TheVariants.{Plus, Minus}
 
--- the row, counted from 0, that holds the character
+-- the number of the first row that contains the character, counted from 0
 abbrev pub row_with : ℕ → List (List ℕ) → Option ℕ
 row_with c rows = position (λ row. char_set_contains row c) rows
 
@@ -27,11 +27,11 @@ unit_rows =
     ∷ codes "兆" ∷ codes "京" ∷ codes "垓" ∷ codes "秭" ∷ codes "穰" ∷ codes "溝沟" ∷ codes "澗涧"
     ∷ codes "正" ∷ codes "載载" ∷ codes "極极" ∷ []
 
--- the value of a digit character: 2 of 兩
+-- the value of a digit character: 2 for 兩
 unfoldable pub digit_of : ℕ → Option ℕ
 digit_of c = row_with c digit_rows
 
--- the rank of a unit character: 1 of 拾
+-- the rank of a unit character: 1 for 拾
 unfoldable pub rank_of : ℕ → Option ℕ
 rank_of c = row_with c unit_rows
 
@@ -73,7 +73,7 @@ printed_units Simple Lower = codes "个十百千万亿兆京垓秭穰沟涧正�
 printed_units Traditional Upper = codes "個拾佰仟萬億兆京垓秭穰溝澗正載極"
 printed_units Simple Upper = codes "个拾佰仟万亿兆京垓秭穰沟涧正载极"
 
--- a printed character as a word: a 0, and its bytes
+-- the word of a printed character: the byte 0, then the bytes of the character
 abbrev pub printed_word : ℕ → List ℕ
 printed_word c = 0 ∷ encode_utf8 c
 

@@ -1,5 +1,6 @@
--- The judgement of a text, as a function. Contracts cite `Judges`, which says what the judgement is
--- and speaks of all fronts; the law `judgements_can_be_computed` says that it is this.
+-- The judgement of a text as a function. Contracts cite `Judges`, which says what the judgement is
+-- and quantifies over all prefixes; the law `judgements_can_be_computed` says that it is this
+-- function.
 use Rattle.std.specs.Prelude.{ℕ, suc, List, [], ◌∷◌, Result, Err, if◌then◌else◌}
 use Rattle.cn_core.specs.declared.method.ChineseCountMethod.{ChineseCountMethod}
 use Rattle.cn_core.specs.Mark.{Mark}
@@ -8,18 +9,19 @@ use Rattle.cn_core.specs.Place.{body, is_early}
 use Rattle.cn_core.specs.Refusal.{Refusal, empty, incorrect_at, too_large}
 use Rattle.cn_core.specs.Judge.{numeral_answer, last_mark_answer}
 
--- the place: the first mark where all after it keep the rules, else the place among those; 1 in 二十十
+-- the place: the first one after which every mark keeps the rules; 1 in 二十十
 abbrev pub place_of : List Mark → ℕ
 place_of [] = 0
 place_of (mark ∷ rest) = if each_may_precede rest then 0 else suc (place_of rest)
 
--- of a body that is no numeral: its place is at fault, unless the body is too large before that
+-- the answer to a body that is not a numeral: its place is at fault, unless the body is too large
+-- before that
 abbrev pub judge_body : ChineseCountMethod → List Mark → Result ℕ Refusal
 judge_body method marks =
     let place = place_of marks in
     if is_early method marks place then Err too_large else Err (incorrect_at place)
 
--- the judgement of a text without sign
+-- the answer to a text without sign
 abbrev pub judge : ChineseCountMethod → List Mark → Result ℕ Refusal
 judge method [] = Err empty
 judge method (mark ∷ rest) =

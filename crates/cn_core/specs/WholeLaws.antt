@@ -1,16 +1,17 @@
--- What holds of every integer type: but for `farthest` and `IsWholeType` these are proofs, and
--- nothing hangs on them. They stand in `specs`, since the code of a trait may cite no `proofs`.
+-- Facts about every integer type. `farthest` and `IsWholeType` are definitions; the rest are
+-- proofs, which no contract depends on. They are in `specs` because the code of a trait cannot cite
+-- `proofs`.
 use Rattle.std.proofs.Common.{◌≡◌, ◌↔◌, ℕ, ◌^◌, ◌<◌, ◌≤◌, max, nat_le, nat_lt, ℤ, pos, negsuc, nat_abs, Bool, true, false, if◌then◌else◌, refl, sym, ap, ◌∙◌, arith}
 use Rattle.std.proofs.lemmas.Bool.Decides.{nat_tests}
 use Rattle.std.proofs.lemmas.Int.{ints}
 use Rattle.cn_core.specs.Whole.{Kind, unsigned_kind, holds}
 
--- the greatest magnitude that a type of this kind holds: 128 of `i8`, 255 of `u8`
+-- the greatest magnitude that a type of this kind holds: 128 for `i8`, 255 for `u8`
 abbrev pub farthest : Kind → ℕ
 farthest kind = max (nat_abs kind.least) (nat_abs kind.greatest)
 
--- What a type shows by computing: its sign; that it holds 0, and begins there if it is unsigned;
--- whether its magnitudes end at 65535; and that they fit 128 bits.
+-- The facts that each type shows by computation: its sign; that it holds 0, and starts there if it
+-- is unsigned; whether no magnitude is above 65535; and that its magnitudes fit 128 bits.
 pub record IsWholeType (signed narrow : Bool) (kind : Kind) : Type 0 where
   pub sign : kind.signed ≡ signed
   pub zero : holds kind (pos 0) ≡ true
@@ -44,7 +45,7 @@ pub magnitude-fits : (signed narrow : Bool) (kind : Kind) → IsWholeType signed
 magnitude-fits signed narrow kind h z held =
     grind (arith, nat_tests, h.fits, within kind z held)
 
--- a number that is seen by its magnitude alone
+-- a nonnegative number is determined by its magnitude
 pub pos_same : (x y : ℕ) → pos x ≡ pos y → x ≡ y
 pos_same x y e = ap nat_abs e
 

@@ -1,10 +1,10 @@
-// What each character is read as.
+// How each character is read: as a digit, a unit or a sign.
 ghost use Rattle.std.specs.Prelude.{◌≡◌, option_map};
 ghost use Rattle.cn_core.specs.Characters.{digit_of, rank_of, rank, sign_of};
 
 use crate::{Sign, Unit};
 
-/// The value of a digit character, 0 to 9; `None` for any other character, 十 too.
+/// The value of a digit character, 0 to 9; `None` for any other character, such as 十.
 ///
 /// ```text
 /// digit_of('兩') == Some(2)
@@ -68,7 +68,8 @@ pub fn unit_of(c: char) -> Option<Unit>
 /// sign_of('-') == None
 /// ```
 ///
-/// 正 is a unit, too: it is a sign only in front of a text that is read for a signed type.
+/// 正 is also a unit. It is a sign only as the first character of a text that is read for a signed
+/// type.
 #[tactic(auto, unfolding(crate::specs::Characters::sign_of))]
 pub fn sign_of(c: char) -> Option<Sign>
     ensures { result ≡ sign_of c }

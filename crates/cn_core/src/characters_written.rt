@@ -4,16 +4,16 @@ ghost use Rattle.cn_core.specs.Characters.{rank, digit_char, unit_char, minus_ch
 
 use crate::{ChineseCase, ChineseVariant, Unit};
 
-// The words, by which numbers are printed, stand first: behind the characters, a `u8` as plain digits
-// takes 6 instructions more.
-/// What a script and case are printed with. A word is a 0 and a character's three bytes, so that they
-/// are put at once.
+// The words come first because the printers use them: with the words after the characters, printing
+// a `u8` as plain digits took 6 more instructions.
+/// The characters that a script and case print with. A word is the byte 0 and the three bytes of a
+/// character, so that all of them can be written at once.
 pub struct PrintedCharacters {
     /// The word of each digit from 0 to 9.
     pub digit_words: [[u8; 4]; 10],
-    /// That of each unit from 個 to 極.
+    /// The word of each unit from 個 to 極.
     pub unit_words: [[u8; 4]; 16],
-    /// That of the minus sign.
+    /// The word of the minus sign.
     pub minus_word: [u8; 4],
     /// The digits.
     pub digits: [char; 10],
@@ -23,7 +23,7 @@ pub struct PrintedCharacters {
     pub minus: char,
 }
 
-// The word of a character, which takes three bytes.
+// The word of a character whose UTF-8 is three bytes long.
 macro_rules! word {
     ($character:literal) => {
         [
@@ -73,7 +73,7 @@ static SIMPLE_UPPER: PrintedCharacters = printed! {
     '负'
 };
 
-/// The characters of a script and case, each found by a look-up.
+/// The characters of a script and case, found by one look-up.
 #[tactic(auto, unfolding(crate::specs::Characters::minus_char))]
 pub fn printed_characters(variant: ChineseVariant, case: ChineseCase) -> &'static PrintedCharacters
     ensures digits { result.now.digits ≡ printed_digits variant case }
@@ -95,7 +95,7 @@ pub fn printed_characters(variant: ChineseVariant, case: ChineseCase) -> &'stati
     }
 }
 
-// A printed character, of which this tells the compiler that it takes three bytes.
+// Returns a printed character, and lets the compiler assume that its UTF-8 is three bytes long.
 // Same answer (|| → &&): each printed character has three bytes; the test only informs the
 // compiler.
 #[inline(always)]
@@ -109,7 +109,7 @@ fn of_three_bytes(character: char) -> char
     character
 }
 
-/// The character that writes a digit, which the caller keeps from 0 to 9.
+/// The character that writes a digit, which must be from 0 to 9.
 ///
 /// ```text
 /// digit_char(ChineseVariant::Simple, ChineseCase::Upper, 2) == '贰'

@@ -1,4 +1,4 @@
-// Which characters stand in figures, and beside numerals in quantities.
+// Which characters occur in figures, and beside numerals in quantities.
 ghost use Rattle.std.specs.Prelude.{◌≡◌, is_some};
 ghost use Rattle.cn_core.specs.Figures.{figure_of, is_comma, is_currency, is_figure, is_figure_minus, is_figure_plus, is_figure_point, is_per_mille, is_percent, is_share_sign, is_wide_figure, tens_of};
 
@@ -41,7 +41,7 @@ pub fn is_wide_figure(c: char) -> bool
     matches!(c, '０'..='９')
 }
 
-/// Whether a character is a figure: one that has a value by [`figure_of`].
+/// Whether a character is a figure: one for which [`figure_of`] returns a value.
 ///
 /// ```text
 /// is_figure('７') == true
@@ -54,7 +54,7 @@ pub fn is_figure(c: char) -> bool
     c.is_ascii_digit() || is_wide_figure(c)
 }
 
-/// Whether a character is a minus in front of figures: as it is typed, as it is printed, or
+/// Whether a character is a minus sign before figures: as it is typed, as it is printed, or
 /// full-width.
 ///
 /// ```text
@@ -67,7 +67,7 @@ pub fn is_figure_minus(c: char) -> bool
     matches!(c, '-' | '−' | '－')
 }
 
-/// Whether a character is a plus in front of figures.
+/// Whether a character is a plus sign before figures.
 ///
 /// ```text
 /// is_figure_plus('＋') == true
@@ -91,7 +91,7 @@ pub fn is_figure_point(c: char) -> bool
     matches!(c, '.' | '．')
 }
 
-/// Whether a character is a comma, which may stand in front of three figures.
+/// Whether a character is a comma, which may occur before three figures.
 ///
 /// ```text
 /// is_comma('，') == true
@@ -151,7 +151,7 @@ pub fn is_currency(c: char) -> bool
     matches!(c, '¥' | '￥')
 }
 
-/// The tens that one character is: 20 of 廿, 30 of 卅; `None` for any other character.
+/// The tens that one character stands for: 20 for 廿, 30 for 卅; `None` for any other character.
 ///
 /// ```text
 /// tens_of('廿') == Some(20)

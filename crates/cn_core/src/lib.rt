@@ -1,5 +1,5 @@
-//! Characters and integer types of Chinese numerals, and what numerals mean: the definitions that
-//! the readers and printers are proved against stand in `specs/`.
+//! The characters and integer types of Chinese numerals, and what numerals mean. The definitions
+//! that the readers and printers are proved against are in `specs/`.
 #![tactic(auto)]
 
 pub mod case;

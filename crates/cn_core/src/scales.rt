@@ -47,7 +47,7 @@ static POWERS_OF_TEN: [u128; 39] = [
     100_000_000_000_000_000_000_000_000_000_000_000_000,
 ];
 
-// The exponents by method and unit: a line for `Low`, `TenThousand`, `Middle` and `High`.
+// The exponents by method and unit: a row each for `Low`, `TenThousand`, `Middle` and `High`.
 static EXPONENTS: [[u16; 16]; 4] = [
     [0, 1, 2, 3, 4, 5, 6, 7, 8, 9, 10, 11, 12, 13, 14, 15],
     [0, 1, 2, 3, 4, 8, 12, 16, 20, 24, 28, 32, 36, 40, 44, 48],
@@ -68,7 +68,7 @@ pub fn exponent(method: ChineseCountMethod, unit: Unit) -> usize
     EXPONENTS[method as usize][unit as usize] as usize
 }
 
-/// The power of ten with this exponent; `None` exactly where it does not fit `u128`.
+/// The power of ten with this exponent; `None` exactly if it does not fit `u128`.
 ///
 /// ```text
 /// power_of_ten(4) == Some(10_000)
@@ -80,7 +80,7 @@ pub fn power_of_ten(exponent: usize) -> Option<u128>
     POWERS_OF_TEN.get(exponent).copied()
 }
 
-/// The number that a unit stands for under a method; `None` exactly where it does not fit `u128`.
+/// The number that a unit stands for under a method; `None` exactly if it does not fit `u128`.
 ///
 /// ```text
 /// scale(ChineseCountMethod::TenThousand, Unit::Zhao) == Some(1_000_000_000_000)

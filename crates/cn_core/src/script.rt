@@ -1,4 +1,4 @@
-/// The script in which a numeral is written: 億 and 負 are traditional, 亿 and 负 simple.
+/// The script in which a numeral is written: 億 and 負 are traditional, 亿 and 负 are simple.
 #[derive(Debug, Copy, Clone, Eq, PartialEq, Hash)]
 pub enum ChineseVariant {
     /// 萬億 and 負.

@@ -1,7 +1,7 @@
-// The characters of a text, one by one.
+// Splits off the first character of a text.
 ghost use Rattle.std.specs.Prelude.{◌≡◌, ◌<◌, [], ◌∷◌, length, chars, IfSome, MatchOption};
 
-/// The first character, and what stands after it.
+/// The first character of a text and the text after it; `None` if the text is empty.
 #[inline(always)]
 pub fn split_first_char(text: &str) -> Option<(char, &str)>
     ensures parts { MatchOption result (chars text.now ≡ [])

@@ -1,4 +1,4 @@
-/// A unit of a numeral, by rank from 0, 個, to 15, 極. A unit is greater where its rank is.
+/// A unit of a numeral, by rank from 0, 個, to 15, 極. The unit with the greater rank is greater.
 #[derive(Debug, Copy, Clone, Eq, PartialEq, Hash, PartialOrd, Ord)]
 pub enum Unit {
     /// 個, 个

@@ -6,9 +6,9 @@ mod signed;
 mod unsigned;
 mod wide;
 
-/// An integer type that numerals are read and written for: the twelve from `u8` to `isize`.
+/// An integer type that numerals are read and written for: one of the twelve from `u8` to `isize`.
 ///
-/// A value is seen as its sign and its magnitude.
+/// A value is given by its sign and its magnitude.
 ///
 /// ```text
 /// i8::from_magnitude(true, 128) == Some(i8::MIN)
@@ -21,7 +21,8 @@ pub trait Whole: Copy {
     /// Whether the type has 8 or 16 bits: true for `u8`, `u16`, `i8` and `i16`, false for the other
     /// eight.
     ///
-    /// For callers alone, who can tell the types whose readers by name all read by `Low`.
+    /// No reader or printer uses it. A caller can use it to find the types whose readers by name
+    /// all read with `Low`.
     const NARROW: bool;
 
     ghost SIGNED: { Bool };
@@ -37,7 +38,7 @@ pub trait Whole: Copy {
 
     ghost MAX: { Self };
 
-    // Whether the type is signed, and its least and greatest number.
+    // The kind of the type: whether it is signed, and its least and greatest number.
     ghost kind: { Kind };
 
     // The number that a value stands for.
@@ -78,14 +79,14 @@ pub trait Whole: Copy {
         Self::MAX
     }
 
-    /// The value with this sign and magnitude; `None` exactly where the type does not hold it.
+    /// The value with this sign and magnitude; `None` exactly if the type does not hold it.
     ///
-    /// A negative 0 is 0.
+    /// With magnitude 0 the sign does not matter.
     fn from_magnitude(negative: bool, magnitude: u128) -> Option<Self>
         ensures value { IfSome result (λ x. number x ≡ signed_number negative magnitude) }
         ensures held { IsSome result ↔ IsTrue (holds kind (signed_number negative magnitude)) };
 
-    // The laws: a value is its number, which is its sign and its magnitude.
+    // The laws. Values with the same number are equal.
     ghost same_number: { (x y : Self) → number x ≡ number y → x ≡ y };
 
     // The type holds each number from its least to its greatest.
@@ -95,7 +96,7 @@ pub trait Whole: Copy {
 
     ghost greatest_is: { number MAX ≡ kind.greatest };
 
-    // What each type shows by computing; the laws below follow from it.
+    // The facts that each type shows by computation; the laws below follow from them.
     ghost is_whole: { IsWholeType SIGNED NARROW kind };
 
     ghost signed_is: { kind.signed ≡ SIGNED } = { is_whole.sign };
@@ -104,7 +105,7 @@ pub trait Whole: Copy {
 
     ghost unsigned_from_zero: { SIGNED ≡ false → kind.least ≡ pos 0 } = { from-zero _ _ _ is_whole };
 
-    // A type is narrow exactly where no magnitude that it holds is above 65535.
+    // A type is narrow exactly if no magnitude that it holds is above 65535.
     ghost narrow_is: { NARROW ≡ true ↔ ((z : ℤ)
         → IsTrue (holds kind z) → nat_abs z ≤ 65535) } = { narrow-magnitudes _ _ _ is_whole };
 

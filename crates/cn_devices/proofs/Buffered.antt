@@ -1,23 +1,23 @@
--- What a writer holds together with the bytes that are buffered for it.
+-- The contents of a writer together with the bytes that are buffered for it.
 use Rattle.std.proofs.Common.{◌≡◌, ℕ, ◌+◌, List, [], ◌++◌, Option, None, Some, Result, Ok, Err, append-nil, sym, ap, subst, ◌∙◌, take, drop, length, ◌-◌, ◌≤◌}
 use Rattle.std.proofs.lemmas.List.{take-append-drop, drop-drop, take_all, length-drop}
 use Rattle.std.proofs.KnownBytes.{Keeps-refl}
 use Rattle.std.proofs.Math.Nat.{le_refl}
 use Rattle.std.specs.Io.KnownBytes.{Keeps, WriteAppends, append_known}
 
--- a call that leaves both as they were
+-- a call that changes neither
 pub kept-same : (a : Option (List ℕ)) {buffered left : List ℕ} → buffered ≡ left
     → Keeps (append_known a buffered) (append_known a left)
 kept-same a {buffered = buffered} same =
     subst (λ left. Keeps (append_known a buffered) (append_known a left)) same (Keeps-refl _)
 
--- what is left once the writer has taken the front of what was left
+-- the rest after the writer has taken a prefix of it
 pub left_after : (all left : List ℕ) (gone count : ℕ) → left ≡ drop gone all
     → left ≡ take count left ++ drop (gone + count) all
 left_after all left gone count is = sym (take-append-drop count left)
     ∙ ap (λ rest. take count left ++ rest) (ap (drop count) is ∙ drop-drop count gone all)
 
--- what is left, as a slice up to the end
+-- the rest, as a slice up to the end
 pub slice_to_end : (all now : List ℕ) (gone : ℕ) → now ≡ all
     → take (length now - gone) (drop gone now) ≡ drop gone all
 slice_to_end all now gone same =
@@ -25,7 +25,7 @@ slice_to_end all now gone same =
     (subst (λ n. n ≤ length now - gone) (sym (length-drop gone now))
     (le_refl (length now - gone))) ∙ ap (drop gone) same
 
--- a call of the writer where nothing is buffered any more
+-- a call of the writer after everything that was buffered is written
 pub written_through : {E : Type 0} (a b c : Option (List ℕ)) (buffered : List ℕ)
     (result : Result ℕ E) (bytes : List ℕ)
     → Keeps (append_known a buffered) (append_known b []) → WriteAppends b c result bytes

@@ -1,5 +1,5 @@
-// Output that is buffered and goes out in few writes: when the buffer is full, and at a flush.
-// Unlike std's buffered writer it tries no write again that was interrupted.
+// Output that is buffered and written in few calls: when the buffer is full, and at a flush. Unlike
+// std's buffered writer, it does not retry a write that was interrupted.
 ghost use Rattle.std.specs.Prelude.{◌≡◌, ◌↔◌, ◌+◌, ◌<◌, ◌≤◌, ◌==◌, ◌||◌, ◌&&◌, ◌++◌, [], drop, false, if◌then◌else◌, is_err, length, not, IfOk, IsTrue, OnOk, vec_capacity, vec_len};
 ghost use Rattle.std.specs.Io.KnownBytes.{Keeps, WriteAppends, append_known};
 ghost use Rattle.cn_devices.specs.declared.buffered_sink.TheConstants.{CAPACITY};
@@ -8,15 +8,15 @@ use crate::device::Sink;
 use crate::fault::DeviceFault;
 use std::alloc::{AllocError, Global};
 
-// How many bytes are buffered at most.
+// The most bytes that are buffered.
 const CAPACITY: usize = 65536;
 
-/// A sink behind a buffer for its next bytes.
+/// A sink with a buffer before it.
 #[derive(Drop)]
 pub struct BufferedSink<W> {
     inner: W,
     buffer: Vec<u8>,
-    // how many bytes of the buffer have gone out
+    // the number of bytes of the buffer that are written to the inner sink
     written: usize,
     ghost within: { written ≤ vec_len buffer },
     ghost fits: { vec_len buffer ≤ CAPACITY },
@@ -24,7 +24,7 @@ pub struct BufferedSink<W> {
 }
 
 impl<W: Sink> BufferedSink<W> {
-    /// Takes the memory of its buffer at once: the only error is running out of it.
+    /// Allocates the memory of its buffer at once. The only error is that it cannot be allocated.
     pub fn new(alloc: Global, inner: W) -> Result<BufferedSink<W>, AllocError>
     where
         W: Drop,
@@ -41,8 +41,8 @@ impl<W: Sink> BufferedSink<W> {
         })
     }
 
-    // Appends the bytes to the buffer, if all of them fit. No memory is asked for, so nothing else
-    // stops it.
+    // Appends the bytes to the buffer if all of them fit. It allocates no memory, so it fails for
+    // no other reason.
     fn try_append(&mut self, bytes: &[u8]) -> bool
         ensures takes { IsTrue result ↔ (vec_len self.old.buffer + length bytes.now ≤ CAPACITY) }
         ensures buffer { self.new.buffer.items
@@ -53,8 +53,8 @@ impl<W: Sink> BufferedSink<W> {
         bytes.len() <= CAPACITY - self.buffer.len() && self.buffer.extend_from_slice(bytes).is_ok()
     }
 
-    // Writes what is buffered. What has gone out before an error is not written again, and the rest
-    // is kept.
+    // Writes the buffered bytes. After an error, the bytes that were written are not written again,
+    // and the rest is kept.
     fn write_out(&mut self) -> Result<(), DeviceFault>
         requires works { (W.state self.old.inner).failed ≡ false }
         ensures fails { (W.state self.new.inner).failed ≡ is_err result }
@@ -77,7 +77,8 @@ impl<W: Sink> BufferedSink<W> {
 }
 
 impl<W: Sink> Sink for BufferedSink<W> {
-    // Its contents are the bytes of the sink behind it, and those that are still to go out.
+    // Its contents are the bytes of the inner sink and then those that are still to be written to
+    // it.
     ghost state = { λ s. record {
       contents = append_known (W.state s.inner).contents (drop s.written s.buffer.items);
       failed = (W.state s.inner).failed;
@@ -85,7 +86,8 @@ impl<W: Sink> Sink for BufferedSink<W> {
       flush_failed = vec_len s.buffer == 0 && (W.state s.inner).flush_failed;
     } };
 
-    // Bytes that fit 65,536 with those that are buffered go behind them, and nothing goes on.
+    // If the bytes and those that are buffered are at most 65,536, they are appended to the buffer,
+    // and nothing is written to the inner sink.
     fn write(&mut self, bytes: &[u8]) -> Result<usize, DeviceFault>
         requires some { 0 < length bytes.now }
         requires works { (W.state self.old.inner).failed ≡ false }

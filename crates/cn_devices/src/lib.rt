@@ -1,7 +1,7 @@
-//! What the program `numeral` reads from and writes to: sources and sinks of bytes, over std and
-//! over memory, and a sink that buffers its output.
+//! The devices that the program `numeral` reads from and writes to: sources and sinks of bytes,
+//! over std and over memory, and a sink that buffers its output.
 //!
-//! What stands here serves that program alone, which hands the devices and their faults on.
+//! Only that program uses this crate; it re-exports the devices and their faults.
 #![tactic(auto)]
 
 pub mod buffered_sink;

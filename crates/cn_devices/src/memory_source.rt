@@ -5,14 +5,14 @@ ghost use Rattle.cn_devices.specs.Devices.{CountsRead};
 use crate::device::{EmptyReads, Source};
 use crate::fault::DeviceFault;
 
-/// A source of the bytes of a lent slice.
+/// A source that returns the bytes of a borrowed slice.
 ///
 /// It fails at call number `failing`, and at no other.
 #[derive(Drop)]
 pub struct MemorySource<'a> {
     rest: &'a [u8],
     most: usize,
-    // which call from now on fails; 0 for none
+    // the number, from now on, of the call that fails; 0 for none
     fails_in: u64,
     failed: bool,
     empty: EmptyReads,
@@ -20,8 +20,8 @@ pub struct MemorySource<'a> {
 }
 
 impl<'a> MemorySource<'a> {
-    /// Gives these bytes, at most so many in a call, which is at least 1. Of the calls, counted
-    /// from 1, this one fails; `Some(0)` fails none.
+    /// Returns these bytes, at most `most` in a call; `most` must be at least 1. The call number
+    /// `failing`, counted from 1, fails; `Some(0)` makes none fail.
     pub fn new(bytes: &'a [u8], most: usize, failing: Option<u64>) -> MemorySource<'a>
         requires { 0 < most }
         ensures remaining { result.rest.now ≡ bytes.now }

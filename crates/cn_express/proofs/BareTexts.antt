@@ -1,4 +1,4 @@
--- Texts that hold neither white space, nor 分, nor a percent sign or ‰.
+-- Texts that contain no white space, no 分, no percent sign and no ‰.
 use Rattle.std.proofs.Common.{◌≡◌, ℕ, zero, suc, Bool, true, not, ◌&&◌, List, [], ◌∷◌, ◌++◌, map, Some, refl, ap, ◌∙◌, if◌then◌else◌}
 use Rattle.std.specs.Char.{is_not_whitespace}
 use Rattle.std.specs.List.{list_all}
@@ -21,7 +21,7 @@ is_clean c = not (is_fen c) && not (is_share c)
 abbrev is_dark : ℕ → Bool
 is_dark c = all_scalars (c ∷ []) && is_not_whitespace c && not (is_front c)
 
--- such a character
+-- the character is none of these
 unfoldable pub is_bare : ℕ → Bool
 is_bare c = is_dark c && is_clean c
 
@@ -33,7 +33,7 @@ pub bare-append : (front rest : List ℕ) → are_bare front ≡ true → are_ba
 bare-append front rest one other =
     list_all-append is_bare front rest ∙ both (are_bare front) (are_bare rest) one other
 
--- what is tested of each character, where one test is stronger
+-- if one test is stronger than another, a text whose characters all pass it passes the other
 all-weaker : (strong weak : ℕ → Bool) → ((c : ℕ) → strong c ≡ true → weak c ≡ true)
     → (text : List ℕ) → list_all strong text ≡ true → list_all weak text ≡ true
 all-weaker strong weak one [] h = refl
@@ -70,7 +70,7 @@ bare-text (c ∷ rest) bare =
     })
     (bare-text rest (and-right (is_bare c) (are_bare rest) bare))
 
--- digits and units of numerals
+-- the digits and units of numerals
 pub mark-bare : (c : ℕ) → is_digit_or_unit (mark_of c) ≡ true → is_bare c ≡ true
 unfolding is_bare is_fen share_of
 mark-bare c marked = own is_bare c refl refl marked
@@ -78,7 +78,7 @@ mark-bare c marked = own is_bare c refl refl marked
 pub marks-bare : (text : List ℕ) → are_marks text ≡ true → are_bare text ≡ true
 marks-bare text marks = all-weaker (λ c. is_digit_or_unit (mark_of c)) is_bare mark-bare text marks
 
--- what stands behind a whole part
+-- the point and digits after a whole part
 pub behind-bare : (kind : DigitKind) (point : ℕ) (character : ℕ → ℕ) (count number : ℕ)
     → is_bare point ≡ true → WritesDigits kind character
     → ((c value : ℕ) → digit_by kind c ≡ Some value → is_bare c ≡ true)

@@ -1,4 +1,4 @@
--- How many bytes characters take.
+-- The number of bytes of characters.
 use Rattle.std.proofs.Common.{◌≡◌, ℕ, true, length, ap}
 use Rattle.std.specs.Char.{encode_utf8}
 use Rattle.cn_core.proofs.Characters.{takes_three}

@@ -14,7 +14,7 @@ use Rattle.cn_core.proofs.Spellings.{IsCut, IsCut-greatest, after_unit-by, spell
 use Rattle.cn_core.proofs.Sums.{spelled-digit}
 use Rattle.cn_quantity.specs.Misread.{bare_ten, begins, counts_after_smaller, has_two_readings, is_count, is_misread_mark, is_small_unit, is_unit, is_unit_from, is_zero, leaves_out_zero, multiplies_zero, repeats_ten, unit_before_ten}
 
--- the parts of a number at its greatest unit, and that no greater one fits
+-- the parts of a number at its greatest unit, and the fact that no greater unit fits
 record IsTop (method : ChineseCountMethod) (number rank : ℕ) : Type 0 where
   cut : IsCut method number rank
   above : (more : ℕ) → rank < more → more ≤ 15 → number < scale method more
@@ -39,8 +39,8 @@ quotient-some method number rank cut = by (number / scale method rank) refl wher
       let size = cut.size in absurd (omega (arith, sum, less, size))
   by (suc q) e = omega (arith, e)
 
--- what holds of one digit above 0, and of a number where it holds of its quotient, and of its
--- remainder if there is one, holds of each spelling of a number above 0
+-- a property of each digit above 0, and of each number whose quotient and remainder, if that is not
+-- 0, have it, is a property of each spelling of a number above 0
 topped-by : (method : ChineseCountMethod) (P : ℕ → List Mark → Type 0)
     → ((number : ℕ) → 0 < number → number < 10 → P number (digit number ∷ []))
     → ((number rank : ℕ) (front back : List Mark) → IsTop method number rank
@@ -71,7 +71,7 @@ topped-by method P one step (suc steps) number fuel some small =
           (λ left. rest (number % size) (omega (arith, cut.remainder, cut.size, fuel)) left
           (omega (arith, cut.remainder, cut.size, small))))
 
--- the marks, nearest first, after one more list
+-- the first list, reversed, before `front`: the marks before a position, with the nearest first
 abbrev pub onto : List Mark → List Mark → List Mark
 onto [] front = front
 onto (mark ∷ rest) front = onto rest (mark ∷ front)
@@ -80,7 +80,7 @@ onto-append : (marks more front : List Mark) → onto (marks ++ more) front ≡ 
 onto-append [] more front = refl
 onto-append (mark ∷ rest) more front = onto-append rest more (mark ∷ front)
 
--- no mark of the list is misread, between these two lists
+-- no mark of the list is misread between these two lists
 abbrev pub clears : List Mark → List Mark → List Mark → Bool
 clears front [] after = true
 clears front (mark ∷ rest) after =
@@ -97,22 +97,22 @@ clears-append front (mark ∷ rest) more after p q =
     (clears-append (mark ∷ front) rest more after
     (and-right (not (is_misread_mark front mark (rest ++ (more ++ after)))) _ p) q)
 
--- where the spelling of a number may stand: after no unit that is not greater, and directly after
--- one from 億 up only where a unit from 萬 up is in it or follows
+-- where the spelling of a number may occur: after no unit that is not greater, and directly after a
+-- unit from 億 up only if it contains a unit from 萬 up or one follows it
 pub record Fits (method : ChineseCountMethod) (front : List Mark) (number : ℕ)
     (after : List Mark) : Type 0 where
   pub below : (rank : ℕ) (rest : List Mark) → front ≡ unit rank ∷ rest → number < scale method rank
   pub great : (rank : ℕ) (rest : List Mark) → front ≡ unit rank ∷ rest → 5 ≤ rank
       → (10 ^ 4 ≤ number) ⊎ (list_any (is_unit_from 4) after ≡ true)
 
--- how a spelling ends, from its last mark: with a unit, or with a digit after 十 or 零
+-- the end of a spelling, from its last mark: it ends with a unit, or with a digit after 十 or 零
 abbrev pub closed : List Mark → Bool
 closed (unit rank ∷ rest) = nat_le 1 rank
 closed (digit value ∷ unit rank ∷ rest) = nat_lt 0 value && rank == 1
 closed (digit value ∷ digit next ∷ rest) = nat_lt 0 value && next == 0
 closed marks = false
 
--- what the spelling of a number above 0 keeps
+-- the properties of the spelling of a number above 0
 pub record IsClear (method : ChineseCountMethod) (number : ℕ) (marks : List Mark) : Type 0 where
   pub one : number < 10 → marks ≡ digit number ∷ []
   pub closes : 10 ≤ number → (front : List Mark) → closed (onto marks front) ≡ true
@@ -241,7 +241,7 @@ after_digit-clear method number rank value front after more some fits size =
     clear-of (digit value ∷ front) (unit rank) more (no-bare rank value front none) refl
     (rw none refl) (rw counts (and-no (nat_le 4 rank) false refl)) refl
 
--- a unit from 千 up after the end of a spelling
+-- a unit from 千 up after a spelling
 closed-clear : (front more : List Mark) (rank : ℕ) → closed front ≡ true → 3 ≤ rank
     → is_misread_mark front (unit rank) more ≡ false
 closed-clear [] more rank h high = cc
@@ -273,7 +273,7 @@ closed-clear (digit v ∷ digit w ∷ rest) more rank h high =
     clear-of (digit v ∷ digit w ∷ rest) (unit rank) more (rw one refl) refl (rw some refl)
     (and-no (nat_le 4 rank) false refl) refl
 
--- a number below 10^4 has no greater unit, and so on
+-- a number from 10^4 up has a greatest unit of 萬 or above
 top-rank : (method : ChineseCountMethod) (number rank : ℕ) → IsTop method number rank
     → 10 ^ 4 ≤ number → 4 ≤ rank
 top-rank method number rank top much = by (dec_lt rank 4) where
@@ -311,7 +311,7 @@ quotient-low method number rank top ten = by (dec_lt rank 3) where
     | no more ↦ absurd (two (omega (arith, more, low)))
   ]
 
--- a remainder of one digit directly after its unit stands after 十
+-- a remainder of one digit that is directly after its unit is after 十
 remainder-ten : (method : ChineseCountMethod) (rank remainder : ℕ) → 1 ≤ rank
     → scale method rank / 10 ≤ remainder → remainder < 10 → rank ≡ 1
 remainder-ten method rank remainder some full low = by (dec_lt 1 rank) where
@@ -332,7 +332,7 @@ list_any-front test (mark ∷ front) marks h = by (test mark) (list_any-front te
     by true ih = refl
     by false ih = ih
 
--- one digit
+-- a spelling of one digit
 IsClear-digit : (method : ChineseCountMethod) (number : ℕ) → 0 < number → number < 10
     → IsClear method number (digit number ∷ [])
 IsClear-digit method number some low = record {
@@ -342,7 +342,7 @@ IsClear-digit method number some low = record {
       let clear = digit-clear method number front after low fits in rw clear refl;
 }
 
--- a number by its greatest unit
+-- a number with its greatest unit
 closes-step : (method : ChineseCountMethod) (number rank : ℕ) (back : List Mark)
     → IsTop method number rank
     → (0 < number % scale method rank → IsClear method (number % scale method rank) back)
@@ -377,7 +377,7 @@ closes-step method number rank back top b front =
       by-full (no high) some full =
           (b some).closes (omega (arith, high)) (unit rank ∷ front)
 
--- its quotient, where the number may stand
+-- the quotient fits in its place if the number does
 Fits-quotient : (method : ChineseCountMethod) (number rank : ℕ) (front after more : List Mark)
     → IsTop method number rank → Fits method front number after
     → Fits method front (number / scale method rank) (unit rank ∷ more ++ after)
@@ -390,7 +390,7 @@ Fits-quotient method number rank front after more top fits = record {
   ];
 }
 
--- its remainder directly after the unit
+-- the remainder, directly after the unit
 Fits-remainder : (method : ChineseCountMethod) (number rank : ℕ) (front after : List Mark)
     → IsTop method number rank → scale method rank / 10 ≤ number % scale method rank
     → Fits method (unit rank ∷ front) (number % scale method rank) after
@@ -405,7 +405,7 @@ Fits-remainder method number rank front after top full = record {
       omega (arith, p, four, full));
 }
 
--- and after 零
+-- the remainder, after 零
 Fits-zero : (method : ChineseCountMethod) (number : ℕ) (front after : List Mark)
     → Fits method (digit 0 ∷ front) number after
 Fits-zero method number front after = record {

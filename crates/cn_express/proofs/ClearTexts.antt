@@ -23,7 +23,7 @@ use Rattle.cn_quantity.proofs.Misreads.{bare-same, counted-same}
 use Rattle.cn_spell.proofs.Printed.{IsReadBack-marks, each_below, each_below-at, is_printed}
 use Rattle.cn_spell.proofs.SpelledMarks.{below_square, spelling-printed}
 
--- 一 before 十 at the start decides nothing after them
+-- whether 一 is before 十 at the start does not affect the marks after them
 begins-ten : (test : Mark → Bool) (front : List Mark)
     → begins test (front ++ unit 1 ∷ digit 1 ∷ []) ≡ begins test (front ++ unit 1 ∷ [])
 begins-ten test [] = refl
@@ -99,7 +99,7 @@ spelling-clears method number small =
         → clears [] (unit 1 ∷ rest) [] ≡ true
     short rest h = sym (clears-ten [] rest []) ∙ h
 
--- no character that is written is 两
+-- no written character is 两
 digits_no_liang : (variant : ChineseVariant) (case : ChineseCase)
     → each_below (λ value. not (is_liang (digit_char variant case value))) 10 ≡ true
 unfolding digit_char
@@ -135,7 +135,7 @@ marks-no_liang variant case (mark ∷ rest) h =
     (mark-no_liang variant case mark (and-left (is_printed mark) (list_all is_printed rest) h))
     (marks-no_liang variant case rest (and-right (is_printed mark) (list_all is_printed rest) h))
 
--- a text whose marks are not misread, and that has no 两
+-- a text without 两 whose marks are not misread is not misread
 not-true : (b : Bool) → not b ≡ true → b ≡ false
 not-true true h = cc
 not-true false h = refl
@@ -175,7 +175,7 @@ magnitude-not_misread variant case method number small printable =
     ap is_some (magnitude-clear variant case method number
     (below_square method (pos number) small printable))
 
--- digits alone, without 两, are not misread
+-- a text of digits alone, without 两, is not misread
 digit-clear : (front after : List Mark) (value : ℕ) → list_all is_digit front ≡ true
     → is_misread_mark front (digit value) after ≡ false
 digit-clear front after value h = digit-clear_of front after value (by front h) where

@@ -1,4 +1,4 @@
--- A text of known parts, cut at its point, at 分之 and before the sign of a share.
+-- A text of known parts, cut at its point, at 分之 and before a share sign.
 use Rattle.std.proofs.Common.{◌≡◌, ℕ, Bool, true, false, not, ◌&&◌, if◌then◌else◌, nat_lt, List, [], ◌∷◌, ◌++◌, length, Option, Some, None, is_some, refl, ap, ◌∙◌}
 use Rattle.std.specs.List.{list_all}
 use Rattle.std.proofs.lemmas.List.Folds.{list_all-append}
@@ -12,7 +12,7 @@ use Rattle.cn_quantity.specs.Ratio.{after_bar, before_bar, begins_with_zhi, last
 use Rattle.cn_quantity.proofs.Bars.{bar-cut, bar-gone, bar-passed, bar-stops}
 use Rattle.cn_quantity.proofs.Today.{are_marks, first-mark, none-of, rest-marks}
 
--- no character of the text is one of these
+-- no character of the text passes the test
 abbrev pub lacks : (ℕ → Bool) → List ℕ → Bool
 lacks test text = list_all (λ c. not (test c)) text
 
@@ -30,7 +30,7 @@ lacks-rest : (test : ℕ → Bool) (c : ℕ) (rest : List ℕ) → lacks test (c
     → lacks test rest ≡ true
 lacks-rest test c rest h = and-right (not (test c)) (lacks test rest) h
 
--- what no digit or unit of numerals is, a text of these lacks
+-- if no digit or unit of numerals passes a test, no character of a text of these passes it
 pub marks-lack : (test : ℕ → Bool)
     → ((c : ℕ) → is_digit_or_unit (mark_of c) ≡ true → test c ≡ false)
     → (text : List ℕ) → are_marks text ≡ true → lacks test text ≡ true
@@ -77,7 +77,7 @@ point-at (c ∷ front) point rest none is =
           ∙ more.1,
     )
 
--- the sign of a share
+-- the share sign
 none-from : (o : Option ℕ) → is_some o ≡ false → o ≡ None
 none-from None h = refl
 none-from (Some divisor) h = cc

@@ -40,7 +40,7 @@ use Rattle.cn_spell.proofs.Printed.{IsReadBack-marks, is_printed}
 use Rattle.cn_spell.proofs.ReadByOther.{IsReadBy}
 use Rattle.cn_spell.proofs.SpelledMarks.{spelling-printed}
 
--- what a written spelling is like to a method that reads it
+-- the properties of a written spelling for a method that reads it
 pub record IsSpelled (method : ChineseCountMethod) (number : ℕ) (text : List ℕ) : Type 0 where
   pub written : IsText text
   pub marks : are_marks text ≡ true
@@ -79,7 +79,8 @@ IsSpelled-magnitude variant case write read number small is =
           back.marks_same;
     }
 
--- a text that begins so is no number in figures, and no unit that multiplies alone
+-- a text that begins like this is not a number in figures, and not a unit that multiplies on its
+-- own
 pub not-figures : (text more : List ℕ) → BeginsNumber text
     → leading_digits Figure (text ++ more) ≡ 0
 not-figures text more begins =
@@ -103,14 +104,14 @@ pub whole-read : (method : ChineseCountMethod) (number : ℕ) (text : List ℕ)
     → number_answer method text ≡ Ok (record { number = number; decimals = 0 })
 whole-read method number text s = number-whole method text number s.whole
 
--- of a fraction too
+-- the same as part of a fraction
 pub part-whole : (method : ChineseCountMethod) (number : ℕ) (text : List ℕ)
     → IsSpelled method number text
     → part_answer method text ≡ Ok (record { number = number; decimals = 0 })
 part-whole method number text s =
     rw append-nil at (part-number method text [] s.begins) ∙ whole-read method number text s
 
--- the digits behind a point
+-- the digits after a point
 pub WritesDigits-chinese : (variant : ChineseVariant) (case : ChineseCase)
     → WritesDigits Chinese (digit_char variant case)
 WritesDigits-chinese variant case =
@@ -127,7 +128,7 @@ unfolding is_bare is_fen share_of
 point_bare Traditional = refl
 point_bare Simple = refl
 
--- digits behind a point hold no unit
+-- digits after a point contain no unit
 chinese-digit : (c value : ℕ) → chinese_digit_of c ≡ Some value → digit_of c ≡ Some value
 unfolding chinese_digit_of
 chinese-digit c value h = by (is_ascii_digit c) h where
@@ -142,7 +143,7 @@ pub chinese-bare : (c value : ℕ) → chinese_digit_of c ≡ Some value → is_
 chinese-bare c value is =
     mark-bare c (ap is_digit_or_unit (digit-mark c value (chinese-digit c value is)))
 
--- what decimals are read as
+-- the value that decimals are read as
 pub decimals-read : (method : ChineseCountMethod) (variant : ChineseVariant) (case : ChineseCase)
     (count number : ℕ) → number < 2 ^ 128
     → read_with_units method Chinese (number / 10 ^ count)

@@ -1,4 +1,4 @@
--- Digits that are written side by side, as behind a point, and what is read of them.
+-- Digits that are written side by side, such as those after a point, and how they are read.
 use Rattle.std.proofs.Common.{◌≡◌, ℕ, zero, suc, ◌+◌, ◌*◌, ◌/◌, ◌%◌, ◌^◌, ◌<◌, Bool, true, false, ◌==◌, nat_lt, is_none, is_some, List, [], ◌∷◌, ◌++◌, length, map, Option, Some, None, refl, sym, ap, ◌∙◌, arith, if◌then◌else◌, append-nil}
 use Rattle.std.specs.List.{list_all}
 use Rattle.std.specs.Option.{option_map_or}
@@ -15,11 +15,11 @@ use Rattle.cn_quantity.specs.Units.{times_units}
 use Rattle.cn_quantity.proofs.Today.{times-digit}
 use Rattle.cn_spell.proofs.Printed.{each_below, each_below-at, none_from_is_none}
 
--- digits of this kind alone
+-- the text has only digits of this kind
 abbrev pub are_digits : DigitKind → List ℕ → Bool
 are_digits kind text = list_all (is_digit kind) text
 
--- what each digit has
+-- a property of each digit
 pub digits-all : (kind : DigitKind) (test : ℕ → Bool)
     → ((c value : ℕ) → digit_by kind c ≡ Some value → test c ≡ true)
     → (text : List ℕ) → are_digits kind text ≡ true → list_all test text ≡ true
@@ -37,7 +37,7 @@ none-lead : (kind : DigitKind) (text : List ℕ) → begins_with_digit kind text
 none-lead kind [] h = (refl, refl)
 none-lead kind (c ∷ rest) h = (rw h, rw h)
 
--- what stands behind digits
+-- the text after digits
 pub digits-lead : (kind : DigitKind) (front rest : List ℕ) → are_digits kind front ≡ true
     → begins_with_digit kind rest ≡ false
     → (leading_digits kind (front ++ rest) ≡ length front)
@@ -51,7 +51,7 @@ digits-lead kind (c ∷ front) rest all none =
       ap (λ b. if b then after_digits kind (front ++ rest) else c ∷ front ++ rest) one ∙ more.1,
     )
 
--- digits by themselves
+-- a text of digits alone
 pub digits-alone : (kind : DigitKind) (text : List ℕ) → are_digits kind text ≡ true
     → (leading_digits kind text ≡ length text) × (after_digits kind text ≡ [])
 digits-alone kind text all = rw append-nil at (digits-lead kind text [] all refl)
@@ -68,7 +68,7 @@ abbrev pub WritesDigits : DigitKind → (ℕ → ℕ) → Type 0
 WritesDigits kind character =
     (value : ℕ) → value < 10 → digit_by kind (character value) ≡ Some value
 
--- as a table of the digits shows
+-- it is enough to check a table of the ten digits
 pub WritesDigits-each : (kind : DigitKind) (character : ℕ → ℕ)
     → each_below (λ value. option_map_or (λ read. read == value)
     (digit_by kind (character value)) false) 10 ≡ true → WritesDigits kind character
@@ -106,7 +106,7 @@ pub last-count : (character : ℕ → ℕ) (count number : ℕ)
 last-count character zero number = refl
 last-count character (suc count) number = ap suc (last-count character count number)
 
--- read on behind the digits in front of them they give the number
+-- appended to other digits, they give the number
 pub last-read : (kind : DigitKind) (character : ℕ → ℕ) (count number : ℕ)
     → WritesDigits kind character
     → read_on kind (number / 10 ^ count) (map character (last_digits count number)) ≡ number
@@ -126,7 +126,7 @@ last-read kind character (suc count) number writes =
 abbrev pub has_no_units : List ℕ → Bool
 has_no_units text = list_all (λ c. is_none (rank_of c)) text
 
--- without units a number stays as it is
+-- without units a number is not multiplied
 pub no-factors : (method : ChineseCountMethod) (number : ℕ) (text : List ℕ)
     → has_no_units text ≡ true → number < 2 ^ 128 → times_units method number text ≡ Some number
 no-factors method number [] none small =

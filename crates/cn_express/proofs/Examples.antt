@@ -1,4 +1,4 @@
--- Worked examples: what the definitions compute to. They stand in the rules.
+-- Worked examples, each proved by computing the definitions. RULES shows them.
 use Rattle.std.proofs.Common.{◌≡◌, ℕ, ℤ, pos, negsuc, List, [], ◌∷◌, map, codes, refl}
 use Rattle.std.specs.Fmt.{digits}
 use Rattle.cn_core.specs.declared.case.ChineseCase.TheVariants.{Upper, Lower}
@@ -49,7 +49,7 @@ in_upper_case : quantity_text Simple Upper TenThousand (is (pos 1250) 10000 Perc
 unfolding digit_char unit_char decimals_over
 in_upper_case = refl
 
--- of a decimal what stands in front of its point, of a fraction the greater of its two numbers
+-- for a decimal the number before its point, for a fraction the greater of its two numbers
 greatest_numbers : map greatest_spelled (is (pos 314) 10 Decimal ∷ is (pos 1250) 10000 Percent
     ∷ is (negsuc 0) 7 Fraction ∷ is (pos 50) 7 Fraction ∷ is (pos 3) 1 Decimal ∷ [])
     ≡ 31 ∷ 12 ∷ 7 ∷ 50 ∷ 3 ∷ []

@@ -50,7 +50,7 @@ use Rattle.cn_quantity.proofs.Today.{digit-mark, marks-broken, whole-marks}
 use Rattle.cn_quantity.proofs.WholeNumbers.{whole-reader}
 use Rattle.cn_spell.proofs.Printed.{each_below, each_below-at, none_from_is_none}
 
--- what each figure has
+-- a property of each figure
 figure-has : (test : ℕ → Bool) → list_all (list_all test) figure_rows ≡ true → (c value : ℕ)
     → figure_of c ≡ Some value → test c ≡ true
 unfolding figure_of
@@ -80,7 +80,7 @@ figures-no_sign (c ∷ rest) more figures some =
     none_from_is_none (sign_of c)
     (and-left (is_none (sign_of c)) _ (figures-signless (c ∷ rest) figures))
 
--- a figure that is a digit of numerals, of the same value, as the full-width ones are not
+-- a figure that is also a digit of numerals with the same value; full-width figures are not
 agree : Option ℕ → Option ℕ → Bool
 agree (Some v) (Some w) = v == w
 agree f d = false
@@ -119,7 +119,7 @@ same-value number (c ∷ rest) h =
     rw (s.figure, digit-mark c s.value s.digit_is)
     (same-value (number * 10 + s.value) rest (and-right (is_same c) (list_all is_same rest) h))
 
--- and none of them is misread
+-- and none of these is misread
 same-digits : (text : List ℕ) → list_all is_same text ≡ true
     → list_all is_digit_mark (marks_of text) ≡ true
 same-digits [] h = refl
@@ -141,7 +141,7 @@ same-no_liang (c ∷ rest) h =
 same-clear : (text : List ℕ) → list_all is_same text ≡ true → first_misread text ≡ None
 same-clear text h = digits-not_misread text (same-digits text h) (same-no_liang text h)
 
--- as a whole number they are read alike
+-- both readings give the same whole number
 figures-answered : (method : ChineseCountMethod) (text : List ℕ) (number : ℕ)
     → list_all is_same text ≡ true → whole_answer method text ≡ Ok number
     → number ≡ read_on Figure 0 text
@@ -158,7 +158,7 @@ figures-answered method text number figures h =
     by [] e = cc
     by (mark ∷ rest) e = told _ _ e
 
--- the digits that are written
+-- the digits that are written are figures
 figures_written : each_below (λ value. option_map_or (λ read. read == value)
     (figure_of (figure_char value)) false) 10 ≡ true
 unfolding figure_of
@@ -174,7 +174,7 @@ record IsDecimal (number : ℕ) (text : List ℕ) : Type 0 where
   read : read_on Figure 0 text ≡ number
   same : list_all is_same text ≡ true
 
--- the digits that are written are
+-- and they are such figures
 same_written : each_below (λ value. is_same (figure_char value)) 10 ≡ true
 unfolding is_same agree figure_of digit_of
 same_written = refl
@@ -210,7 +210,7 @@ IsDecimal-written : (number : ℕ) → number < 2 ^ 128 → IsDecimal number (de
 IsDecimal-written number small =
     decimal_by_steps_wide IsDecimal IsDecimal-one IsDecimal-more number (omega (arith, small))
 
--- what stands behind the whole part
+-- the point and digits after the whole part
 record IsBehind (count number : ℕ) (text : List ℕ) : Type 0 where
   no_units : has_no_units text ≡ true
   no_digit : begins_with_digit Figure text ≡ false
@@ -297,7 +297,7 @@ IsBehind-written zero number = record {
 IsBehind-written (suc count) number =
     IsBehind-point (suc count) number (slice_index (codes ".") 0) (omega arith) IsPoint-ascii
 
--- a number with so many decimals
+-- a number whose last `count` digits are after the point
 figures-number : (method : ChineseCountMethod) (count number : ℕ) (front behind : List ℕ)
     → IsDecimal (number / 10 ^ count) front → IsBehind count number behind → number < 2 ^ 128
     → number_answer method (front ++ behind)
@@ -399,7 +399,7 @@ IsUnsigned-percent method number decimals denominator text some n is small = rec
   text_is : IsText (text ++ codes "%")
   text_is = IsText-append text (codes "%") (bare-text text n.bare) IsText-percent
 
--- without its sign
+-- a quantity without its sign
 figures-by : (method : ChineseCountMethod) (form : QuantityForm)
     (number denominator decimals : ℕ) → decimals_in form denominator ≡ Some decimals
     → number < 2 ^ 128 → denominator < 2 ^ 128
@@ -418,7 +418,7 @@ figures-by method Percent number denominator decimals is small fits =
     n.0 n.1 is fits
 figures-by method Fraction number denominator decimals is small fits = cc
 
--- with it
+-- a quantity with its sign
 minus-is : sign_of (slice_index (codes "-") 0) ≡ Some Minus
 unfolding sign_of numeral_sign
 minus-is = refl

@@ -30,7 +30,7 @@ use Rattle.cn_spell.proofs.Printed.{IsReadBack, IsReadBack-marks, is_printed}
 use Rattle.cn_spell.proofs.ReadByOther.{IsReadBy}
 use Rattle.cn_spell.proofs.SpelledMarks.{spelling-printed}
 
--- what a written divisor is like
+-- the properties of a written divisor
 pub record IsDivisorText (method : ChineseCountMethod) (divisor : ℕ)
     (text : List ℕ) : Type 0 where
   pub marks : are_marks text ≡ true
@@ -38,7 +38,7 @@ pub record IsDivisorText (method : ChineseCountMethod) (divisor : ℕ)
   pub no_sign : (more : List ℕ) → leading_sign (text ++ more) ≡ None
   pub read : part_answer method text ≡ Ok (record { number = divisor; decimals = 0 })
 
--- with its 一, or where there is none, it is a number as any other
+-- a divisor with its 一, or without one to leave out, is a number like any other
 IsDivisorText-spelled : (method : ChineseCountMethod) (divisor : ℕ) (text : List ℕ)
     → IsSpelled method divisor text → IsDivisorText method divisor text
 IsDivisorText-spelled method divisor text s = record {
@@ -50,7 +50,7 @@ IsDivisorText-spelled method divisor text s = record {
   filled : 0 < length text
   filled = let size = ap length s.begins.parts in omega (arith, size)
 
--- the scales of rising units behind 一 are the number
+-- after 一, the product of the scales of the rising units is the number
 units-number : (write read : ChineseCountMethod) (divisor : ℕ) (text : List ℕ)
     → divisor < 2 ^ 128 → IsReadBy write read divisor
     → spelling write divisor ≡ digit 1 ∷ marks_of text → are_rising_units text ≡ true
@@ -65,7 +65,7 @@ units-number write read divisor text small is spelled rising =
     units-product read 1 0 1 text rising (omega arith) fits (omega (arith, product, small))
     ∙ ap Some product
 
--- a unit below 兆 is no sign
+-- a unit below 兆 is not a sign
 small-no_sign : (c rank : ℕ) → is_digit_or_unit (mark_of c) ≡ true → rank_of c ≡ Some rank
     → rank ≤ 5 → sign_of c ≡ None
 unfolding rank_of sign_of numeral_sign
@@ -79,7 +79,7 @@ small-no_sign c rank marked is low = by (sign_of c) (ap (λ r. option_map_or (λ
           let above : (nat_lt 5 rank || false) ≡ true = h in
           absurd (grind (arith, nat_tests, low, above))
 
--- what stands alone begins with such a unit
+-- a text that stands alone begins with such a unit
 alone-no_sign : (text more : List ℕ) → are_marks text ≡ true → stand_alone text ≡ true
     → leading_sign (text ++ more) ≡ None
 alone-no_sign [] more marks alone = cc
@@ -95,7 +95,7 @@ alone-some : (text : List ℕ) → stand_alone text ≡ true → 0 < length text
 alone-some [] alone = cc
 alone-some (c ∷ rest) alone = omega arith
 
--- without its 一 the divisor is rising units
+-- without its 一, the divisor is rising units
 IsDivisorText-alone : (variant : ChineseVariant) (case : ChineseCase)
     (write read : ChineseCountMethod) (divisor : ℕ) (marks : List Mark) → divisor < 2 ^ 128
     → IsReadBy write read divisor → spelling write divisor ≡ digit 1 ∷ marks
@@ -127,7 +127,7 @@ IsDivisorText-alone variant case write read divisor marks small is spelled print
   rising : are_rising_units (map (mark_char variant case) marks) ≡ true
   rising = and-left (are_rising_units (map (mark_char variant case) marks)) _ alone
 
--- the character of 一 is that of no other mark
+-- the character of 一 is not the character of any other mark
 one-mark : (variant : ChineseVariant) (case : ChineseCase) (mark : Mark)
     → is_printed mark ≡ true
     → (mark_char variant case mark == digit_char variant case 1) ≡ true → mark ≡ digit 1
@@ -170,7 +170,7 @@ IsDivisorText-written variant case write read divisor small is =
     (spelling-printed write divisor is.square)
     (IsSpelled-magnitude variant case write read divisor small is)
 
--- a divisor above 0 is answered
+-- a divisor above 0 is read as a number
 pub divisor-answered : (method : ChineseCountMethod) (divisor : ℕ) (text : List ℕ) → 0 < divisor
     → part_answer method text ≡ Ok (record { number = divisor; decimals = 0 })
     → divisor_answer method text ≡ Ok divisor

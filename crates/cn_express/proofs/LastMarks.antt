@@ -1,4 +1,4 @@
--- A spelling does not end colloquially, as 一百二 does.
+-- A spelling never ends in a digit that counts a tenth of a unit, as 一百二 does.
 use Rattle.std.proofs.Common.{◌≡◌, ℕ, suc, ◌+◌, ◌*◌, ◌/◌, ◌%◌, ◌<◌, ◌≤◌, Bool, true, false, ◌&&◌, nat_le, is_some, List, [], ◌∷◌, ◌++◌, length, Option, Some, None, refl, sym, ap, ◌∙◌, arith, length-append}
 use Rattle.std.specs.Option.{option_map_or}
 use Rattle.std.proofs.lemmas.Bool.Decides.{nat_tests}
@@ -22,7 +22,7 @@ abbrev pub is_digit : Mark → Bool
 is_digit (digit value) = true
 is_digit mark = false
 
--- the last mark is a digit directly behind a unit from 百 up
+-- the last mark is a digit directly after a unit from 百 up
 abbrev ends_short : List Mark → Bool
 ends_short (mark ∷ next ∷ []) = is_great mark && is_digit next
 ends_short (mark ∷ next ∷ more ∷ rest) = ends_short (next ∷ more ∷ rest)
@@ -50,7 +50,7 @@ ends-marks (c ∷ []) = refl
 ends-marks (c ∷ d ∷ []) = rw (great-mark c, digit-as_mark d)
 ends-marks (c ∷ d ∷ e ∷ rest) = ends-marks (d ∷ e ∷ rest)
 
--- only the last two marks count
+-- only the last two marks matter
 ends-behind : (mark : Mark) (rest : List Mark) → 2 ≤ length rest
     → ends_short (mark ∷ rest) ≡ ends_short rest
 ends-behind mark [] h = absurd (omega (arith, h))
@@ -75,7 +75,7 @@ ends-unit (mark ∷ next ∷ front) rank =
     (omega (arith, length-append front (unit rank ∷ [])))
     ∙ ends-unit (next ∷ front) rank
 
--- the end of a spelling: from ten on it has two marks or more
+-- the end of a spelling: a number from 10 up has at least two marks
 record IsEnded (number : ℕ) (marks : List Mark) : Type 0 where
   full : ends_short marks ≡ false
   some : 1 ≤ length marks
@@ -85,7 +85,7 @@ IsEnded-digit : (number : ℕ) → number < 10 → IsEnded number (digit number 
 IsEnded-digit number low =
     record { full = refl; some = omega arith; many = λ h. absurd (omega (arith, low, h)) }
 
--- behind a unit a digit by itself stands behind 十 or 零
+-- after a unit, a last digit is after 十 or 零
 ends-one : (rank : ℕ) (back : List Mark) → ends_short back ≡ false → 1 ≤ length back
     → (2 ≤ rank → 2 ≤ length back) → ends_short (unit rank ∷ back) ≡ false
 ends-one rank [] full some many = absurd (omega (arith, some))
@@ -153,7 +153,7 @@ spelling-ended method number small =
       short [] full = refl
       short (mark ∷ rest) full = full
 
--- so does its text
+-- the text of a spelling has the same end
 pub spelled-ended : (method : ChineseCountMethod) (number : ℕ) (text : List ℕ)
     → number < scale method 15 * scale method 15 → marks_of text ≡ spelling method number
     → ends_colloquially text ≡ false

@@ -1,4 +1,4 @@
--- Of each law that has premises, values that meet all of them.
+-- For each law that has premises, values that meet all of them.
 use Rattle.std.proofs.Common.{◌+◌, ◌^◌, ◌<◌, pos, refl, arith}
 use Rattle.std.specs.Prelude.{IsSome, IsTrue}
 use Rattle.cn_core.specs.declared.method.ChineseCountMethod.TheVariants.{TenThousand}

@@ -14,7 +14,7 @@ use Rattle.cn_quantity.specs.Reading.{leading_sign}
 use Rattle.cn_quantity.specs.Trimmed.{decimals_in}
 use Rattle.cn_quantity.proofs.KnownDecimals.{decimal-is, whole-is}
 
--- what a written number with decimals is like
+-- the properties of a written number with decimals
 pub record IsNumberText (method : ChineseCountMethod) (decimal : DecimalNumber)
     (text : List ℕ) : Type 0 where
   pub bare : are_bare text ≡ true
@@ -41,7 +41,7 @@ IsUnsigned-number method number decimals denominator form text n form_is is smal
       })) form_is;
 }
 
--- without decimals it is a whole number
+-- without decimals it is read as a whole number
 pub IsUnsigned-whole : (method : ChineseCountMethod) (number decimals denominator : ℕ)
     (text : List ℕ) → IsNumberText method (record { number = number; decimals = decimals }) text
     → decimals_in Whole denominator ≡ Some decimals → denominator < 2 ^ 128
@@ -52,7 +52,7 @@ IsUnsigned-whole method number decimals denominator text n is small =
     IsUnsigned-number method number decimals denominator Whole text n (ap form_of known.0)
     (ap (λ n. 10 ^ n) known.0 ∙ sym known.1) small
 
--- with some it is a decimal
+-- with decimals it is read as a decimal
 form-some : (decimals : ℕ) → 0 < decimals → form_of decimals ≡ Decimal
 form-some zero some = absurd (omega (arith, some))
 form-some (suc decimals) some = refl

@@ -57,7 +57,7 @@ IsNumberText-decimal variant case write read count number small is =
       read = decimal-read write read variant case count number small is;
     }
 
--- of a fraction too
+-- the same as part of a fraction
 decimal-part : (variant : ChineseVariant) (case : ChineseCase) (write read : ChineseCountMethod)
     (count number : ℕ) → number < 2 ^ 128 → IsReadBy write read (number / 10 ^ count)
     → (0 < length (decimal_text variant case write count number))
@@ -142,12 +142,12 @@ unfolding minus_char
 IsText-minus Traditional = record { scalars = refl; kept = refl; bare = refl }
 IsText-minus Simple = record { scalars = refl; kept = refl; bare = refl }
 
--- what passes a test is spelled by one method so that the other reads it
+-- each number that passes the test is spelled by one method so that the other reads it
 abbrev PassesAsRead : (ℕ → Bool) → ChineseCountMethod → ChineseCountMethod → Type 0
 PassesAsRead test write read =
     (number : ℕ) → number < 2 ^ 128 → test number ≡ true → IsReadBy write read number
 
--- without its sign
+-- a quantity without its sign
 numerals-by : (variant : ChineseVariant) (case : ChineseCase) (write read : ChineseCountMethod)
     (test : ℕ → Bool) → PassesAsRead test write read
     → (form : QuantityForm) (number denominator : ℕ) (decimals : Option ℕ)
@@ -214,7 +214,7 @@ numerals-by variant case write read test passes form number denominator (Some de
           (omega arith) (over-is 100 denominator decimals is) fits
       by Fraction is = cc
 
--- a quantity whose numbers are so spelled
+-- a quantity whose numbers pass the test
 module _ (variant : ChineseVariant) (case : ChineseCase) (write read : ChineseCountMethod)
     (test : ℕ → Bool) (passes : PassesAsRead test write read) (q : Quantity)
     (held : holds (signed_kind 128) q.numerator ≡ true) (above : 0 < q.denominator)
@@ -230,7 +230,7 @@ module _ (variant : ChineseVariant) (case : ChineseCase) (write read : ChineseCo
       numerals-by variant case write read test passes q.form (nat_abs q.numerator) q.denominator
       (decimals_of q) refl (magnitude-fits q.numerator held) above fits tested
 
-  -- with its sign
+  -- a quantity with its sign
   tested-text : IsText (quantity_text variant case write q)
   tested-text =
       sign-text (int_lt q.numerator (pos 0)) (minus_char variant)
@@ -247,7 +247,7 @@ module _ (variant : ChineseVariant) (case : ChineseCase) (write read : ChineseCo
       (unsigned_text variant case write q) held (minus-sign variant) (IsText-minus variant)
       unsigned-is
 
--- by one method
+-- written and read with one method
 own-passes : (method : ChineseCountMethod)
     → PassesAsRead (λ number. is_printable method (pos number)) method method
 own-passes method number small printable =
@@ -274,7 +274,7 @@ numerals-read variant case method q held above fits written =
     tested-read variant case method method (λ number. is_printable method (pos number))
     (own-passes method) q held above fits written
 
--- by `Middle`, where each number is below 10^16, for `TenThousand`
+-- written with `Middle` and read with `TenThousand`, if each number is below 10^16
 middle-passes : PassesAsRead (λ number. nat_lt number (10 ^ 16)) Middle TenThousand
 middle-passes number small low = IsReadBy-middle number (grind (arith, nat_tests, low))
 

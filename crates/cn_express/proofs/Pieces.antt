@@ -1,4 +1,4 @@
--- Pieces of a text, each put in front of the one before, and written by the method or not.
+-- Pieces of a text, each written before the one that was written last, if the method writes it.
 use Rattle.std.proofs.Common.{◌≡◌, ℕ, ◌+◌, ◌/◌, ◌^◌, ◌≤◌, pos, nat_abs, Bool, true, false, ◌&&◌, List, [], ◌∷◌, ◌++◌, length, encode_utf8_all, Option, Some, None, Result, Ok, Err, refl, sym, ap, subst, ◌∙◌, append-nil, length-append, arith}
 use Rattle.std.proofs.lemmas.List.{drop_all}
 use Rattle.std.proofs.lemmas.Str.{encodes-append}
@@ -16,7 +16,7 @@ use Rattle.cn_express.specs.Numerals.{bar, decimal_text, fraction_text, hundredt
 use Rattle.cn_express.specs.Working.Room.{PutsCharacters, PutsIfWritten, PutsInFront, text_in}
 use Rattle.cn_express.proofs.Rooms.{puts-characters}
 
--- what is put takes no more room than is gone
+-- a written text takes at most the space by which the free space shrank
 pub puts-bounded : (old new : Room) (characters : List ℕ) (most : ℕ)
     → PutsInFront old new (encode_utf8_all characters) → old.free ≤ new.free + most
     → PutsCharacters old new characters most
@@ -35,7 +35,7 @@ pieces old mid new front rest a b one two = record {
       omega (arith, size, one.bound, two.bound);
 }
 
--- the second of which is written or not
+-- two pieces, of which the method may not write the second
 pub pieces-if : {T E : Type 0} (old mid new : Room) (front rest : List ℕ) (a b : ℕ)
     (written : Bool) (result : Result T E) → PutsCharacters old mid rest a
     → PutsIfWritten written mid new front b result
@@ -44,13 +44,13 @@ pieces-if old mid new front rest a b written (Ok x) one two =
     (two.0, pieces old mid new front rest a b one two.1)
 pieces-if old mid new front rest a b written (Err e) one two = two
 
--- in a room that has more than they take
+-- the same with more free space
 pub roomy : (old new : Room) (characters : List ℕ) (a b : ℕ) → a ≤ b
     → PutsCharacters old new characters a → PutsCharacters old new characters b
 roomy old new characters a b less h =
     record { put = h.put; bound = omega (arith, less, h.bound) }
 
--- where the first of two numbers is written, both are if the second is
+-- if the method writes the first of two numbers, it writes both exactly if it writes the second
 pub first-written : {T E : Type 0} (old new : Room) (characters : List ℕ) (most : ℕ)
     (a b : Bool) (result : Result T E) → b ≡ true
     → PutsIfWritten a old new characters most result
@@ -62,7 +62,7 @@ first-written old new characters most a true result is h = by a h where
   by false h = h
 first-written old new characters most a false result is h = cc
 
--- a quantity whose decimals are known, and one that is a fraction
+-- a quantity whose decimals are known, and a quantity that is a fraction
 pub text-known : (variant : ChineseVariant) (case : ChineseCase) (method : ChineseCountMethod)
     (q : Quantity) (found : Option ℕ) → found ≡ decimals_of q
     → unsigned_text variant case method q
@@ -118,7 +118,7 @@ bar-put old new put = record {
   bound = omega (arith, ap length bar-bytes);
 }
 
--- a room that was empty holds what was put, and no more
+-- a buffer that was empty holds exactly the text that was written
 pub whole-text : (old new : Room) (bytes : List ℕ) → old.free ≡ length old.bytes.now
     → PutsInFront old new bytes → text_in new ≡ bytes
 whole-text old new bytes empty put =

@@ -1,4 +1,4 @@
--- Which ratio a text without sign is, from what its parts are answered.
+-- The ratio that a text without sign is, from the answers to its parts.
 use Rattle.std.proofs.Common.{◌≡◌, ℕ, ◌+◌, ◌*◌, ◌^◌, ◌<◌, true, false, ◌&&◌, nat_lt, List, [], ◌∷◌, ◌++◌, length, slice_index, None, Some, Ok, refl, sym, ap, ap₂, ◌∙◌, arith}
 use Rattle.std.proofs.lemmas.Bool.Decides.{nat_tests}
 use Rattle.cn_core.specs.declared.method.ChineseCountMethod.{ChineseCountMethod}
@@ -55,18 +55,18 @@ fraction-ratio method divisor decimal before after simple none some many one oth
       is : is_fraction (before ++ (bar ++ after)) ≡ true
       is = rw (cut.0, cut.1) (grind (arith, nat_tests, some, many))
 
--- without 分之 a text is no fraction
+-- a text without 分之 is not a fraction
 no-fraction : (text : List ℕ) → lacks is_fen text ≡ true → is_fraction text ≡ false
 no-fraction text no_fen =
     ap (λ l. nat_lt 0 (length (before_bar text)) && nat_lt 0 (length l)) (bar-none text no_fen)
     ∙ and-none (nat_lt 0 (length (before_bar text)))
 
--- nor one with a minus sign
+-- and it is not a fraction with a minus sign
 pub no-negated : (text : List ℕ) → lacks is_fen text ≡ true → is_negated text ≡ false
 no-negated text no_fen =
     ap (λ b. b && begins_with_minus (after_bar text)) (no-fraction text no_fen)
 
--- and one whose part over the line begins with no sign has none either
+-- a fraction whose numerator begins with no sign has no minus sign
 pub unsigned-over : (before after : List ℕ) → lacks is_fen before ≡ true
     → leading_sign after ≡ None → is_negated (before ++ (bar ++ after)) ≡ false
 unsigned-over before after none sign =

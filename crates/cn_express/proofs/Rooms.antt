@@ -1,4 +1,4 @@
--- What stands in a room after a text is put.
+-- The contents of a buffer after a text is written.
 use Rattle.std.proofs.Common.{◌≡◌, ℕ, ◌+◌, ◌-◌, ◌≤◌, List, [], ◌∷◌, ◌++◌, length, take, drop, encode_utf8, encode_utf8_all, refl, sym, ap, subst, ◌∙◌, append_assoc, length-append, length-drop, arith}
 use Rattle.std.proofs.lemmas.List.{drop-drop, drop_at, length-take-le}
 use Rattle.std.proofs.lemmas.Str.{encodes-append}
@@ -6,7 +6,7 @@ use borrow.Rule.Slice.PartMut.{put_mid}
 use Rattle.cn_express.specs.declared.room.Room.{Room}
 use Rattle.cn_express.specs.Working.Room.{PutsInFront, text_in}
 
--- a part of a list is written, and stands in front of what followed it
+-- a part of a list is overwritten, and is before the items that followed it
 pub put-front : (start free : ℕ) (items more : List ℕ) → start ≤ free → free ≤ length items
     → drop start (put_mid start (free - start) items more) ≡ more ++ drop free items
 put-front start free items more before within =
@@ -30,12 +30,12 @@ put-size start free items more end within =
       length-drop start items,
     )
 
--- nothing is put
+-- nothing is written
 pub puts-nothing : (room : Room) → PutsInFront room room []
 puts-nothing room =
     record { lender = refl; size = refl; free = omega arith; text = refl }
 
--- two texts, the second in front of the first
+-- two texts, the second before the first
 pub puts-two : (old mid new : Room) (first second : List ℕ) → PutsInFront old mid first
     → PutsInFront mid new second → PutsInFront old new (second ++ first)
 puts-two old mid new first second one two = record {
@@ -46,7 +46,7 @@ puts-two old mid new first second one two = record {
       ∙ sym (append_assoc second first (text_in old));
 }
 
--- what is put takes room: the room that is left follows from the text
+-- the free space after a text is written follows from the text
 pub puts-text : (old new : Room) (more : List ℕ)
     → new.bytes.ghost_name ≡ old.bytes.ghost_name
     → length new.bytes.now ≡ length old.bytes.now → text_in new ≡ more ++ text_in old
@@ -67,7 +67,7 @@ puts-text old new more lender size text = record {
   text = text;
 }
 
--- two runs of characters, the second in front of the first
+-- two runs of characters, the second before the first
 pub puts-characters : (old mid new : Room) (first second : List ℕ)
     → PutsInFront old mid (encode_utf8_all first) → PutsInFront mid new (encode_utf8_all second)
     → PutsInFront old new (encode_utf8_all (second ++ first))
@@ -75,7 +75,7 @@ puts-characters old mid new first second one two =
     subst (PutsInFront old new) (sym (encodes-append second first))
     (puts-two old mid new _ _ one two)
 
--- a character in front of others
+-- a character before others
 pub puts-one : (old mid new : Room) (c : ℕ) (rest : List ℕ)
     → PutsInFront old mid (encode_utf8_all rest) → PutsInFront mid new (encode_utf8 c)
     → PutsInFront old new (encode_utf8_all (c ∷ rest))

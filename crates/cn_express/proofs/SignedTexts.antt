@@ -1,4 +1,4 @@
--- A quantity is read from its sign and from what is read without it.
+-- A quantity is read from its sign and the ratio of the text without it.
 use Rattle.std.proofs.Common.{◌≡◌, ℕ, ◌^◌, ◌<◌, ℤ, pos, negsuc, int_lt, nat_abs, Bool, true, false, List, [], ◌∷◌, ◌++◌, drop, encode_utf8_all, Some, None, is_none, Ok, refl, ap, ap₂, ◌∙◌, arith, if◌then◌else◌}
 use Rattle.std.proofs.lemmas.Int.{ints}
 use Rattle.cn_core.specs.declared.method.ChineseCountMethod.{ChineseCountMethod}
@@ -43,7 +43,7 @@ sign-rest : (negative : Bool) (minus : ℕ) (text : List ℕ)
 sign-rest true minus text = refl
 sign-rest false minus text = refl
 
--- what stands before the number
+-- the sign that a text begins with, and the text after it
 record IsFronted (negative : Bool) (whole text : List ℕ) : Type 0 where
   sign : number_sign whole ≡ written_sign negative
   rest : drop (front_length whole) whole ≡ text

@@ -1,4 +1,4 @@
--- A spelled number that is put into a room.
+-- A spelled number that is written into a buffer.
 use Rattle.std.proofs.Common.{◌≡◌, ℕ, ◌^◌, ◌<◌, ◌≤◌, ◌==◌, pos, int_lt, Bool, true, false, ◌&&◌, List, [], ◌∷◌, length, map, filter, chars, IsUtf8, encode_utf8_all, if◌then◌else◌, refl, sym, ap, ap₂, subst, ◌∙◌, arith}
 use Rattle.std.specs.Char.{is_not_whitespace}
 use Rattle.std.specs.List.{list_all}
@@ -32,7 +32,7 @@ use Rattle.cn_express.specs.Working.Spelled.{IsSpelled}
 use Rattle.cn_express.proofs.DecimalTexts.{IsSpelled-magnitude}
 use Rattle.cn_express.proofs.WrittenTexts.{text_of-written}
 
--- each of its characters takes three bytes
+-- each of its characters is three bytes long
 units-three : (variant : ChineseVariant) (case : ChineseCase)
     → each_below (λ rank. takes_three (unit_char variant case rank)) 16 ≡ true
 unfolding unit_char
@@ -81,7 +81,7 @@ spelled-same variant case method number =
     let above : int_lt (pos number) (pos 0) ≡ false = grind (arith, ints, nat_tests) in
     ap (λ b. signed_text variant case b (spelling method number)) above
 
--- what the printer puts of it
+-- the bytes that the printer writes for it
 pub spelled-bytes : (variant : ChineseVariant) (case : ChineseCase) (method : ChineseCountMethod)
     (number : ℕ) (bytes : List ℕ) → number < 2 ^ 128
     → PutsSpelled variant case method (pos number) bytes
@@ -107,7 +107,7 @@ spelled-bytes variant case method number bytes small puts =
 few-kept : (p : ℕ → Bool) (xs : List ℕ) → length (filter p xs) ≤ length xs
 few-kept p xs = omega (arith, length-filter p xs, count_by-le-length p xs)
 
--- a text of no white space has none behind its first character
+-- a text without white space has none after its first character
 pub plain-rest : (c : ℕ) (rest : List ℕ) → filter is_not_whitespace (c ∷ rest) ≡ c ∷ rest
     → filter is_not_whitespace rest ≡ rest
 plain-rest c rest kept = by (is_not_whitespace c) kept where
@@ -125,7 +125,7 @@ pub front-by : (front c : ℕ) (rest : List ℕ) (gone : Bool)
     → without_front front (c ∷ rest) ≡ (if gone then rest else c ∷ rest)
 front-by front c rest gone is = ap (λ b. if b then rest else c ∷ rest) is
 
--- a divisor is put
+-- a divisor is written
 pub divisor-bytes : (variant : ChineseVariant) (case : ChineseCase) (method : ChineseCountMethod)
     (number front : ℕ) (spelled bytes : List ℕ)
     → IsSpelled variant case method number spelled → front ≡ digit_char variant case 1

@@ -1,4 +1,4 @@
--- A written spelling is a number by itself.
+-- A written spelling is a number on its own.
 use Rattle.std.proofs.Common.{◌≡◌, ℕ, ◌+◌, ◌*◌, ◌%◌, ◌^◌, ◌<◌, ◌≤◌, Bool, true, false, ◌&&◌, ◌||◌, ◌==◌, nat_le, nat_lt, is_none, List, [], ◌∷◌, ◌++◌, map, Option, Some, None, Ok, refl, sym, ap, ap₂, ◌∙◌, arith, if◌then◌else◌}
 use Rattle.std.specs.Char.{is_ascii_digit}
 use Rattle.std.specs.List.{list_all}
@@ -37,12 +37,12 @@ use Rattle.cn_quantity.proofs.WholeNumbers.{whole-reader}
 use Rattle.cn_spell.proofs.Printed.{IsReadBack-marks, each_below, is_printed, no_sign, none_from_is_none}
 use Rattle.cn_spell.proofs.ReadByOther.{IsReadBy, Judges-read}
 
--- plain digits are digits as marks
+-- a text of plain digits is a text whose marks are digits
 plain-marks : (text : List ℕ) → is_plain text ≡ list_all is_digit (marks_of text)
 plain-marks [] = refl
 plain-marks (c ∷ rest) = ap₂ (λ a b. a && b) (digit-as_mark c) (plain-marks rest)
 
--- from ten on a spelling has a unit in it
+-- the spelling of a number from 10 up contains a unit
 has-unit : (front back : List Mark) (rank : ℕ)
     → list_all is_digit (front ++ unit rank ∷ back) ≡ false
 has-unit [] back rank = refl
@@ -70,7 +70,7 @@ one-digit number low =
     let same : 0 * 10 + number ≡ number = omega arith in
     rw test (ap Ok same)
 
--- it is judged its number
+-- its judgement is its number
 judged : (write read : ChineseCountMethod) (number : ℕ) → number < 2 ^ 128
     → IsReadBy write read number → judge read (spelling write number) ≡ Ok number
 judged write read number small is =
@@ -78,7 +78,7 @@ judged write read number small is =
     (Ok number) (Judges-judge read (spelling write number))
     (Judges-read write read number small is)
 
--- and read as a whole number, by units or as one digit
+-- it is read as a whole number, with units or as one digit
 spelled-read : (write read : ChineseCountMethod) (number : ℕ) (text : List ℕ)
     → number < 2 ^ 128 → IsReadBy write read number → marks_of text ≡ spelling write number
     → reader_answer read text ≡ Ok number
@@ -121,7 +121,7 @@ digits_written Traditional Lower = refl
 digits_written Simple Upper = refl
 digits_written Simple Lower = refl
 
--- no such digit is a figure, and no unit is
+-- no such digit and no unit is a figure
 digit-no_figure : (c value : ℕ) → chinese_digit_of c ≡ Some value → figure_of c ≡ None
 unfolding chinese_digit_of digit_of figure_of
 digit-no_figure c value is = by (is_ascii_digit c) refl is where
@@ -151,7 +151,8 @@ mark_read variant case mark h =
     let back = IsReadBack-marks variant case (mark ∷ []) (both (is_printed mark) true h refl) in
     let same = back.marks_same in cc
 
--- what a written spelling begins with: neither a sign, nor a figure, nor a unit that multiplies
+-- the beginning of a written spelling: it is not a sign, not a figure, and not a unit that
+-- multiplies
 pub record BeginsNumber (text : List ℕ) : Type 0 where
   pub first : ℕ
   pub rest : List ℕ

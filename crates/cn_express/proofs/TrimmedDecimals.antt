@@ -1,4 +1,4 @@
--- A quantity without the zeros at the end of its decimals fits, and has the others.
+-- A quantity without the zeros at the end of its decimals fits, and has the other decimals.
 use Rattle.std.proofs.Common.{◌≡◌, ℕ, ◌-◌, ◌/◌, ◌^◌, ◌<◌, pos, int_lt, nat_abs, Bool, true, false, Some, refl, sym, ap, ◌∙◌, arith}
 use Rattle.std.proofs.Math.Nat.{div-le_self}
 use Rattle.cn_core.specs.Reading.{is_minus}
@@ -8,7 +8,7 @@ use Rattle.cn_quantity.specs.Trimmed.{decimals_of, without_zeros, zeros_at_end}
 use Rattle.cn_quantity.proofs.DroppedZeros.{IsCut-zeros, decimals-left}
 use Rattle.cn_spell.proofs.SignedNumbers.{held-smaller, written_sign}
 
--- the quantity that is left fits, and has these
+-- the remaining quantity fits, and has these decimals
 pub record IsTrimmed (q : Quantity) (decimals : ℕ) : Type 0 where
   pub held : holds (signed_kind 128) q.numerator ≡ true
   pub fits : q.denominator < 2 ^ 128

@@ -1,4 +1,4 @@
--- The text of what is written is what is written.
+-- The part of a written text that is read is the whole text.
 use Rattle.std.proofs.Common.{◌≡◌, ℕ, Bool, true, false, not, ◌&&◌, ◌||◌, if◌then◌else◌, is_some, None, List, [], ◌∷◌, ◌++◌, filter, encode_utf8_all, refl, ap, ap₂, ◌∙◌}
 use Rattle.std.specs.List.{list_all}
 use Rattle.std.proofs.lemmas.List.Folds.{list_all-append}
@@ -43,7 +43,7 @@ IsText-append front rest one other = record {
       ∙ both (list_all (λ c. not (is_front c)) front) _ one.bare other.bare;
 }
 
--- so neither 零下 nor ¥ stands before it
+-- so neither 零下 nor ¥ is before it
 pub not-below : (text : List ℕ) → IsText text → is_below_zero text ≡ false
 not-below [] is = refl
 not-below (c ∷ []) is = refl
@@ -70,7 +70,7 @@ no-yen (c ∷ next ∷ rest) is = by (is_xia c) (is_currency c) (is_you c) bare 
   by false true f h = cc
   by false false f h = refl
 
--- and it is no mixed fraction
+-- and it is not a mixed fraction
 no-you : (text : List ℕ) → list_all (λ c. not (is_front c)) text ≡ true → after_you text ≡ []
 no-you [] h = refl
 no-you (c ∷ rest) h =

@@ -1,10 +1,10 @@
--- What is shown of an error.
+-- The text that an error is displayed as.
 use Rattle.std.specs.Prelude.{ℕ, List, codes}
 use Rattle.cn_core.specs.Refusal.{refusal_text, too_large, too_small}
 use Rattle.cn_express.specs.declared.error.QuantityToChineseError.{QuantityToChineseError}
 use Rattle.cn_express.specs.declared.error.QuantityToChineseError.TheVariants.{Overflow, Underflow, ZeroDenominator, OutOfMemory}
 
--- the bytes that `{}` writes
+-- the bytes of an error's text, which `{}` writes
 abbrev pub writing_error_text : QuantityToChineseError → List ℕ
 writing_error_text Overflow = refusal_text too_large
 writing_error_text Underflow = refusal_text too_small

@@ -1,4 +1,4 @@
--- A quantity in figures. All characters are ASCII, and each is its byte.
+-- A quantity in figures. All characters are ASCII, so each is one byte.
 use Rattle.std.specs.Prelude.{ℕ, ◌+◌, ◌/◌, ◌^◌, pos, int_lt, nat_abs, List, [], ◌++◌, codes, decimal, slice_index, if◌then◌else◌}
 use Rattle.std.specs.Option.{option_map_or}
 use Rattle.cn_quantity.specs.declared.quantity.Quantity.{Quantity}
@@ -11,18 +11,18 @@ use Rattle.cn_express.specs.Digits.{behind_point}
 abbrev pub figure_char : ℕ → ℕ
 figure_char digit = 48 + digit
 
--- a number with so many decimals: 3.14 of 314 with two
+-- a number whose last `decimals` digits are after the point: 3.14 for 314 with two
 abbrev pub figures_with : ℕ → ℕ → List ℕ
 figures_with decimals number =
     decimal (number / 10 ^ decimals)
     ++ behind_point (slice_index (codes ".") 0) figure_char decimals number
 
--- the sign of a percentage
+-- the percent sign of a percentage, and nothing for another form
 abbrev pub percent_sign : QuantityForm → List ℕ
 percent_sign Percent = codes "%"
 percent_sign form = []
 
--- the numerator without its sign, and what is behind it
+-- the numerator without its sign, and the decimals and percent sign or the denominator after it
 abbrev pub unsigned_figures : Quantity → List ℕ
 unsigned_figures q =
     option_map_or (λ decimals. figures_with decimals (nat_abs q.numerator) ++ percent_sign q.form)
@@ -34,7 +34,7 @@ abbrev pub figures_of : Quantity → List ℕ
 figures_of q =
     (if int_lt q.numerator (pos 0) then codes "-" else []) ++ unsigned_figures q
 
--- the figures of a quantity, without zeros at the end of its decimals: 3.5 of 350/100, 12.5% of
--- 125/1000 as a percentage, 7/3
+-- the figures of a quantity, without zeros at the end of its decimals: 3.5 for 350/100, 12.5% for
+-- 125/1000 as a percentage, and 7/3
 abbrev pub figures_text : Quantity → List ℕ
 figures_text q = figures_of (trimmed q)

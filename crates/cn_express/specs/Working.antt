@@ -1,3 +1,3 @@
--- Words that private contracts alone cite.
+-- Definitions that only contracts of private functions cite.
 pub mod Room
 pub mod Spelled

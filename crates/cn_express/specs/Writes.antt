@@ -1,4 +1,4 @@
--- What the calls that write a quantity answer.
+-- The results of the calls that write a quantity.
 use Rattle.std.specs.Prelude.{◌≡◌, ℕ, ◌<◌, ◌≤◌, pos, ◌<ℤ◌, ◌≤ℤ◌, IsTrue, IsFalse, List, length, encode_utf8_all, Result, MatchResult, string_bytes, string_len, string_capacity}
 use Rattle.std.specs.declared.string.String.{String}
 use Rattle.cn_core.specs.declared.case.ChineseCase.{ChineseCase}
@@ -9,22 +9,23 @@ use Rattle.cn_express.specs.declared.error.QuantityToChineseError.{QuantityToChi
 use Rattle.cn_express.specs.declared.error.QuantityToChineseError.TheVariants.{Overflow, Underflow, ZeroDenominator, OutOfMemory}
 use Rattle.cn_express.specs.Numerals.{is_written_by, quantity_text}
 
--- a quantity that the method writes
+-- the method writes the quantity
 abbrev pub IsWritten : ChineseCountMethod → Quantity → Type 0
 IsWritten method q = (0 < q.denominator) × IsTrue (is_written_by method q)
 
--- a number in it is too great for the method
+-- a number of the quantity is too great for the method
 abbrev pub IsTooGreat : ChineseCountMethod → Quantity → Type 0
 IsTooGreat method q = (0 < q.denominator) × IsFalse (is_written_by method q)
 
--- why a quantity is not written: it divides by 0, or is too large or too small, by its sign
+-- the error is the reason why a quantity is not written: its denominator is 0, or it is too large
+-- or too small, by its sign
 abbrev pub IsUnwritten : ChineseCountMethod → Quantity → QuantityToChineseError → Type 0
 IsUnwritten method q ZeroDenominator = q.denominator ≡ 0
 IsUnwritten method q Overflow = (pos 0 ≤ℤ q.numerator) × IsTooGreat method q
 IsUnwritten method q Underflow = (q.numerator <ℤ pos 0) × IsTooGreat method q
 IsUnwritten method q OutOfMemory = ⊥
 
--- when each refusal comes: memory is asked for only where the method writes the quantity
+-- when each error is returned: memory is requested only if the method writes the quantity
 abbrev pub Refuses : ChineseCountMethod → Quantity → QuantityToChineseError → Type 0
 Refuses method q OutOfMemory = IsWritten method q
 Refuses method q error = IsUnwritten method q error
@@ -33,18 +34,18 @@ Refuses method q error = IsUnwritten method q error
 abbrev pub numeral_bytes : ChineseVariant → ChineseCase → ChineseCountMethod → Quantity → List ℕ
 numeral_bytes variant case method q = encode_utf8_all (quantity_text variant case method q)
 
--- the bytes of the text of a quantity that the method writes
+-- the method writes the quantity, and these are the bytes of its text
 abbrev pub PutsQuantity : ChineseVariant → ChineseCase → ChineseCountMethod → Quantity → List ℕ
     → Type 0
 PutsQuantity variant case method q bytes =
     IsWritten method q × (bytes ≡ numeral_bytes variant case method q) × (length bytes ≤ 471)
 
--- a string of these bytes, which holds no more memory than they take
+-- a string of these bytes, which holds no more memory than they need
 pub record IsStringOf {Z : Type 0} (bytes : List ℕ) (text : String Z) : Type 0 where
   pub content : string_bytes text ≡ bytes
   pub capacity : string_capacity text ≡ string_len text
 
--- the text of a quantity that the method writes, or the refusal
+-- the result is the text of a quantity that the method writes, or the error
 abbrev pub WritesQuantity : {Z : Type 0} → ChineseVariant → ChineseCase → ChineseCountMethod
     → Quantity → Result (String Z) QuantityToChineseError → Type 0
 WritesQuantity variant case method q result =

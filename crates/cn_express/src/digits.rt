@@ -1,17 +1,17 @@
-// Digits behind a point.
+// Digits after a decimal point.
 ghost use Rattle.std.specs.Prelude.{◌≡◌, ◌+◌, ◌*◌, ℕ, ◌≤◌, ◌<◌, length, map, encode_utf8, encode_utf8_all};
 ghost use Rattle.cn_express.specs.Digits.{behind_point, last_digits};
 ghost use Rattle.cn_express.specs.Working.Room.{PutsInFront};
 
 use crate::room::Room;
 
-/// The characters in which digits are written.
+/// The characters that digits and the point are written in.
 pub trait Hand {
     ghost point: { Self → ℕ };
 
     ghost character: { Self → ℕ → ℕ };
 
-    // The most bytes that a character takes.
+    // The most bytes of a character.
     ghost most: { ℕ };
 
     /// The point.
@@ -26,7 +26,7 @@ pub trait Hand {
         ensures bytes { length (encode_utf8 result) ≤ most };
 }
 
-// Puts the last so many digits of a number.
+// Writes the last `count` digits of a number.
 fn put_last_digits<H: Hand>(text: &mut Room, hand: &H, count: usize, number: u128)
     requires { H.most * count ≤ text.old.free }
     ensures put { PutsInFront text.old text.new
@@ -40,7 +40,7 @@ fn put_last_digits<H: Hand>(text: &mut Room, hand: &H, count: usize, number: u12
     }
 }
 
-/// Puts a point and so many digits of a number, or nothing where there are none.
+/// Writes a point and the last `count` digits of a number, or nothing if `count` is 0.
 pub fn put_behind_point<H: Hand>(text: &mut Room, hand: &H, count: usize, number: u128)
     requires { H.most * (count + 1) ≤ text.old.free }
     ensures put { PutsInFront text.old text.new

@@ -5,16 +5,17 @@ use std::alloc::AllocError;
 use std::error::Error;
 use std::fmt;
 
-/// Why a quantity was not written.
+/// Why a quantity is not written.
 #[derive(Debug, Copy, Clone, Eq, PartialEq)]
 pub enum QuantityToChineseError {
     /// A number in it is 10^16 or more, and the method is `Low`, whose greatest unit, 極, is 10^15.
+    /// The quantity is not below zero.
     Overflow,
-    /// The same, of a quantity below zero.
+    /// The same, for a quantity below zero.
     Underflow,
     /// The denominator is 0.
     ZeroDenominator,
-    /// There was no memory for the text.
+    /// The memory for the text could not be allocated.
     OutOfMemory,
 }
 

@@ -1,4 +1,4 @@
-// A quantity in figures.
+// Writes a quantity in figures.
 ghost use Rattle.std.specs.Prelude.{◌≡◌, ◌+◌, ◌≤◌, IfOk, IsUtf8, decimal, drop, length};
 ghost use Rattle.cn_express.specs.Figures.{figure_char, figures_of, figures_text, figures_with, percent_sign, unsigned_figures};
 ghost use Rattle.cn_express.specs.Working.Room.{PutsInFront};
@@ -11,7 +11,7 @@ use cn_quantity::{Quantity, QuantityForm, decimals_of};
 use std::alloc::{AllocError, Global};
 use std::str;
 
-/// The most bytes that a quantity in figures has.
+/// The most bytes of a quantity in figures.
 pub const MOST_FIGURES_BYTES: usize = 80;
 
 // ASCII digits.
@@ -33,7 +33,7 @@ impl Hand for Ascii {
     }
 }
 
-// Puts a number.
+// Writes a number.
 fn put_number(text: &mut Room, number: u128)
     requires { 39 ≤ text.old.free }
     ensures put { PutsInFront text.old text.new (decimal number) }
@@ -47,7 +47,7 @@ fn put_number(text: &mut Room, number: u128)
     text.put_char(Ascii.digit(left as u8));
 }
 
-// Puts a number with so many decimals.
+// Writes a number whose last `decimals` digits are after the point.
 fn put_with_decimals(text: &mut Room, decimals: usize, number: u128)
     requires decimals { decimals ≤ 38 }
     requires room { 78 ≤ text.old.free }
@@ -58,7 +58,7 @@ fn put_with_decimals(text: &mut Room, decimals: usize, number: u128)
     put_number(text, number / 10_u128.pow(decimals as u32));
 }
 
-// Puts the sign of a percentage.
+// Writes the percent sign of a percentage.
 fn put_percent_sign(text: &mut Room, form: QuantityForm)
     requires { 1 ≤ text.old.free }
     ensures put { PutsInFront text.old text.new (percent_sign form) }
@@ -69,7 +69,7 @@ fn put_percent_sign(text: &mut Room, form: QuantityForm)
     }
 }
 
-// Puts a quantity without its sign.
+// Writes a quantity without its sign.
 fn put_unsigned(text: &mut Room, quantity: Quantity)
     requires { 79 ≤ text.old.free }
     ensures put { PutsInFront text.old text.new (unsigned_figures quantity) }
@@ -89,7 +89,7 @@ fn put_unsigned(text: &mut Room, quantity: Quantity)
     }
 }
 
-// The figures of a quantity as it is, at the end of a room, and where they begin.
+// Writes the figures of a quantity as it is at the end of a buffer, and returns where they begin.
 fn put_at_end(room: &mut [u8; MOST_FIGURES_BYTES], quantity: Quantity) -> usize
     ensures text { drop result room.new ≡ figures_of quantity }
     ensures utf8 { IsUtf8 (drop result room.new) }
@@ -103,8 +103,8 @@ fn put_at_end(room: &mut [u8; MOST_FIGURES_BYTES], quantity: Quantity) -> usize
     text.free
 }
 
-/// Puts a quantity in figures into a room, without zeros at the end of its decimals, and hands out
-/// its text, which is the end of the room. It asks for no memory.
+/// Writes a quantity in figures at the end of a buffer, without zeros at the end of its decimals,
+/// and returns its text. It allocates no memory and cannot fail.
 ///
 /// ```text
 /// let mut room = [0; MOST_FIGURES_BYTES];
@@ -118,11 +118,13 @@ pub fn put_figures(room: &mut [u8; MOST_FIGURES_BYTES], quantity: Quantity) -> &
     unsafe { str::from_utf8_unchecked(&room[start..]) }
 }
 
-/// A quantity in figures, as `put_figures` puts it, in one request for memory of its very size.
+/// A quantity in figures, as `put_figures` writes it, with one allocation of exactly its size.
 ///
 /// ```text
 /// quantity_to_figures(alloc, quantity) == Ok("3.5") // for 35/10
 /// ```
+///
+/// The only error is `AllocError`, if the memory cannot be allocated.
 pub fn quantity_to_figures(alloc: Global, quantity: Quantity) -> Result<String, AllocError>
     ensures { IfOk result (IsStringOf (figures_text quantity)) }
 {

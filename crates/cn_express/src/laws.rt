@@ -1,4 +1,4 @@
-//! What users may count on, as contracts of functions that do nothing.
+//! The laws that users can rely on, stated as contracts of functions that do nothing.
 ghost use Rattle.std.specs.Prelude.{◌≡◌, ℕ, ◌<◌, ◌^◌, IsSome, IsTrue, Ok, false, pos};
 ghost use Rattle.cn_core.specs.declared.case.ChineseCase.{ChineseCase};
 ghost use Rattle.cn_core.specs.declared.method.ChineseCountMethod.{ChineseCountMethod};
@@ -15,11 +15,12 @@ ghost use Rattle.cn_quantity.specs.Misread.{is_misread};
 ghost use Rattle.cn_quantity.specs.Reading.{quantity_answer};
 ghost use Rattle.cn_quantity.specs.Trimmed.{decimals_of, trimmed};
 
-/// What is written in numerals is read back, by the same method: as the same numerator over the
-/// same denominator, in the same form. But what is written as a fraction since its denominator is
-/// not one of its form is read as one, and over 100 as a percentage.
+/// A quantity that is written in numerals is read back with the same method, as the same numerator
+/// over the same denominator. Its form is the same too, except that a quantity written as a
+/// fraction, because its denominator is not one of its form, is read as a fraction, or as a
+/// percentage over 100.
 ///
-/// For whoever shows quantities in numerals: 314/100 is 三點一四 as a decimal, which is read as
+/// For programs that show quantities in numerals: 314/100 is 三點一四 as a decimal, which is read as
 /// 314/100, and as nothing else.
 pub fn what_is_written_is_read_back()
     ensures { (variant : ChineseVariant) (case : ChineseCase) (method : ChineseCountMethod)
@@ -33,10 +34,11 @@ pub fn what_is_written_is_read_back()
         }) }
 {}
 
-/// What is written by `Middle`, where each number that is spelled is below 10^16, is read by
-/// `TenThousand` too, as what is read by `Middle`.
+/// A quantity that is written with `Middle`, and in which each spelled number is below 10^16, is
+/// also read back with `TenThousand`, with the same result as with `Middle`.
 ///
-/// For whoever writes for readers on the mainland, where 10^12 is 一万亿, and reads whatever comes.
+/// For programs that write for readers on the mainland, where 10^12 is 一万亿, and read texts of any
+/// origin.
 pub fn middle_is_read_by_ten_thousand()
     ensures { (variant : ChineseVariant) (case : ChineseCase) (q : Quantity)
         → IsTrue (holds (signed_kind 128) q.numerator)
@@ -49,11 +51,11 @@ pub fn middle_is_read_by_ten_thousand()
         }) }
 {}
 
-/// What is written in figures without a fraction's line is read back, by each method: as exactly
-/// the quantity that is written, which has no zeros at the end of its decimals.
+/// A quantity that is written in figures without a fraction bar is read back with each method, as
+/// exactly the quantity that is written, which has no zeros at the end of its decimals.
 ///
-/// For whoever keeps quantities as figures: 1250/10000 as a percentage is 12.5%, which is read as
-/// 125/1000, a percentage.
+/// For programs that store quantities as figures: 1250/10000 as a percentage is 12.5%, which is
+/// read as 125/1000, a percentage.
 pub fn figures_are_read_back()
     ensures { (method : ChineseCountMethod) (q : Quantity)
         → IsTrue (holds (signed_kind 128) q.numerator) → q.denominator < 2 ^ 128
@@ -61,7 +63,7 @@ pub fn figures_are_read_back()
         → quantity_answer method (figures_text q) ≡ Ok (trimmed q) }
 {}
 
-/// No spelling that is printed is misread, in any script and case and by any method. So each is read
+/// No printed spelling is misread, in any script and case and with any method. So each one is read
 /// as a quantity of the number that was printed.
 pub fn no_spelling_is_misread()
     ensures { (variant : ChineseVariant) (case : ChineseCase) (method : ChineseCountMethod)

@@ -1,6 +1,6 @@
 //! Writes a quantity in numerals or in figures, exactly as the definitions in `specs/` say.
 //!
-//! A room is filled from its last character to its first, and the text is its end.
+//! A buffer is filled from its last character to its first, and the text is then its end.
 #![tactic(auto)]
 
 mod digits;

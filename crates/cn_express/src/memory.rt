@@ -1,10 +1,10 @@
-// Memory for a text.
+// Allocates memory for a text.
 ghost use Rattle.std.specs.Prelude.{IfOk};
 ghost use Rattle.cn_express.specs.Writes.{IsStringOf};
 
 use std::alloc::{AllocError, Global};
 
-/// A text as a string, in one request for memory of its very size.
+/// A text as a string, with one allocation of exactly its size.
 pub fn string_of(alloc: Global, text: &str) -> Result<String, AllocError>
     ensures { IfOk result (IsStringOf text.now) }
 {

@@ -1,4 +1,4 @@
-// A quantity in numerals.
+// Writes a quantity in numerals.
 ghost use Rattle.std.specs.Prelude.{◌≡◌, ◌/◌, ◌^◌, ◌&&◌, ◌≤◌, pos, IsTrue, IsFalse, MatchResult, IsUtf8, chars, drop, length, encode_utf8_all};
 ghost use Rattle.cn_core.specs.declared.method.ChineseCountMethod.{ChineseCountMethod};
 ghost use Rattle.cn_core.specs.Characters.{digit_char};
@@ -22,11 +22,11 @@ use cn_spell::{NumberToChineseError, ROOM_BYTES, put_chinese};
 use std::alloc::Global;
 use std::str;
 
-/// The most bytes that a quantity in numerals has: three for each of a sign, two numbers of 39 digits
-/// and 38 units, and 分之.
+/// The most bytes of a quantity in numerals: three for each character of a sign, two numbers of 39
+/// digits and 38 units, and 分之.
 pub const MOST_QUANTITY_BYTES: usize = 471;
 
-// In which characters numbers are written, and by which method.
+// The characters in which numbers are written, and the method.
 #[derive(Clone, Copy)]
 struct Style {
     variant: ChineseVariant,
@@ -66,7 +66,7 @@ fn spell(
     put_chinese(room, style.variant, style.case, style.method, number)
 }
 
-// Puts a magnitude, if the method writes it.
+// Writes a magnitude, if the method writes it.
 fn put_magnitude(text: &mut Room, style: Style, number: u128) -> Result<(), NumberToChineseError>
     requires { 231 ≤ text.old.free }
     ensures lender { text.new.bytes.ghost_name ≡ text.old.bytes.ghost_name }
@@ -78,8 +78,8 @@ fn put_magnitude(text: &mut Room, style: Style, number: u128) -> Result<(), Numb
     Ok(())
 }
 
-// Whether a divisor has no 一 in front of this text: it is rising units, of which the first is 百,
-// 千, 萬 or 億.
+// Whether a divisor has no 一 before this text: the text is rising units, and the first is 百, 千, 萬
+// or 億.
 fn stand_alone(text: &str) -> bool
     ensures { result ≡ stand_alone (text_of text.now) }
 {
@@ -89,7 +89,7 @@ fn stand_alone(text: &str) -> bool
     }
 }
 
-// A text without its first character, where that is this one and such units follow.
+// The text without its first character, if that is `front` and units that stand alone follow it.
 fn without_front(front: char, text: &str) -> &str
     requires { text_of text.now ≡ chars text.now }
     ensures text { chars result.now ≡ without_front front (chars text.now) }
@@ -101,7 +101,7 @@ fn without_front(front: char, text: &str) -> &str
     }
 }
 
-// Puts a divisor, if the method writes it.
+// Writes a divisor, if the method writes it.
 fn put_divisor(text: &mut Room, style: Style, divisor: u128) -> Result<(), NumberToChineseError>
     requires { 231 ≤ text.old.free }
     ensures lender { text.new.bytes.ghost_name ≡ text.old.bytes.ghost_name }
@@ -114,7 +114,7 @@ fn put_divisor(text: &mut Room, style: Style, divisor: u128) -> Result<(), Numbe
     Ok(())
 }
 
-// Puts a number with so many decimals, if the method writes it.
+// Writes a number whose last `decimals` digits are after the point, if the method writes it.
 fn put_with_decimals(
     text: &mut Room,
     style: Style,
@@ -132,7 +132,7 @@ fn put_with_decimals(
     put_magnitude(text, style, number / 10_u128.pow(decimals as u32))
 }
 
-// Puts a fraction, if the method writes it.
+// Writes a fraction, if the method writes it.
 fn put_fraction(
     text: &mut Room,
     style: Style,
@@ -151,7 +151,7 @@ fn put_fraction(
     put_divisor(text, style, divisor)
 }
 
-// Puts what stands in front of a percentage.
+// Writes 百分之, which begins a percentage.
 fn put_hundredths(text: &mut Room, style: Style, form: QuantityForm)
     requires { 9 ≤ text.old.free }
     ensures { PutsCharacters text.old text.new (hundredths style.variant style.case form) 9 }
@@ -162,7 +162,7 @@ fn put_hundredths(text: &mut Room, style: Style, form: QuantityForm)
     }
 }
 
-// Puts a quantity without its sign, if the method writes it.
+// Writes a quantity without its sign, if the method writes it.
 fn put_unsigned(
     text: &mut Room,
     style: Style,
@@ -184,7 +184,7 @@ fn put_unsigned(
     }
 }
 
-// Puts the sign of a numerator below 0.
+// Writes the minus sign if the numerator is below 0.
 fn put_sign(text: &mut Room, variant: ChineseVariant, numerator: i128)
     requires { 3 ≤ text.old.free }
     ensures { PutsCharacters text.old text.new (sign_text variant numerator) 3 }
@@ -194,7 +194,7 @@ fn put_sign(text: &mut Room, variant: ChineseVariant, numerator: i128)
     }
 }
 
-// A quantity at the end of a room, and where it begins, if the method writes it.
+// Writes a quantity at the end of a buffer, and returns where it begins, if the method writes it.
 fn put_at_end(
     room: &mut [u8; MOST_QUANTITY_BYTES],
     style: Style,
@@ -212,8 +212,8 @@ fn put_at_end(
     Ok(text.free)
 }
 
-/// The greatest number that is spelled where a quantity is written: the number in front of its point,
-/// or of a fraction the numerator without its sign or the denominator, whichever is greater.
+/// The greatest number that is spelled when a quantity is written: the number before its point or,
+/// for a fraction, the greater of the numerator without its sign and the denominator.
 ///
 /// ```text
 /// greatest_spelled(quantity) == 31 // for 314/10, which is 三十一点四
@@ -229,7 +229,7 @@ pub fn greatest_spelled(quantity: Quantity) -> u128
     }
 }
 
-// Why the method does not write a quantity.
+// The reason why the method does not write a quantity with a number that is too great.
 fn too_far(quantity: Quantity) -> QuantityToChineseError
     ensures { (method : ChineseCountMethod) → IsTooGreat method quantity
         → IsUnwritten method quantity result }
@@ -241,8 +241,8 @@ fn too_far(quantity: Quantity) -> QuantityToChineseError
     }
 }
 
-/// Puts a quantity in numerals into a room, and hands out its text, which is the end of the room.
-/// Zeros at the end of its decimals stay.
+/// Writes a quantity in numerals at the end of a buffer, and returns its text. Zeros at the end of
+/// its decimals are kept.
 ///
 /// ```text
 /// let mut room = [0; MOST_QUANTITY_BYTES];
@@ -250,8 +250,9 @@ fn too_far(quantity: Quantity) -> QuantityToChineseError
 /// // 三点一四 for 314/100, 百分之十二点五 for 125/1000 as a percentage, 三分之一 for 1/3
 /// ```
 ///
-/// It asks for no memory. `ZeroDenominator` where the denominator is 0; by `Low`, where a number in
-/// it is 10^16 or more, `Overflow`, or `Underflow` for a quantity below zero.
+/// It allocates no memory. Returns `ZeroDenominator` if the denominator is 0. With `Low`, if a
+/// number in the quantity is 10^16 or more, returns `Overflow`, or `Underflow` for a quantity below
+/// zero.
 pub fn put_quantity<'a>(
     room: &'a mut [u8; MOST_QUANTITY_BYTES],
     variant: ChineseVariant,
@@ -276,14 +277,14 @@ pub fn put_quantity<'a>(
     }
 }
 
-/// A quantity in numerals, as `put_quantity` puts it, in one request for memory of its very size.
+/// A quantity in numerals, as `put_quantity` writes it, with one allocation of exactly its size.
 ///
 /// ```text
 /// quantity_to_chinese(alloc, variant, case, method, quantity) == Ok("三点五") // for 35/10
 /// ```
 ///
-/// It refuses what `put_quantity` refuses, before memory is asked for; `OutOfMemory` where there is
-/// none for the text.
+/// Returns the errors of `put_quantity`, before memory is allocated, and `OutOfMemory` if the
+/// memory cannot be allocated.
 pub fn quantity_to_chinese(
     alloc: Global,
     variant: ChineseVariant,

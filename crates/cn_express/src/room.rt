@@ -1,10 +1,10 @@
-// A room that is filled from its end.
+// A buffer that is filled from its end.
 ghost use Rattle.std.specs.Prelude.{◌≤◌, drop, length, IsUtf8};
 
 mod methods;
 
-/// A text that is put into a room from its last character to its first: some free bytes, and behind
-/// them the text.
+/// The buffer of a text that is written from its last character to its first: some free bytes, and
+/// the text after them.
 #[derive(Drop)]
 pub struct Room<'a> {
     bytes: &'a mut [u8],

@@ -1,4 +1,4 @@
--- The bytes of one character, and what stands behind them.
+-- The bytes of one character, and the bytes after them.
 use Rattle.std.proofs.Common.{◌≡◌, ◌<◌, ◌≤◌, ◌+◌, ◌-◌, ◌*◌, ◌/◌, ◌%◌, ℕ, zero, suc, Bool, false, true, ◌&&◌, ltb, List, [], ◌∷◌, ◌++◌, length, take, drop, get_or, refl, ap, ◌∙◌, sym, subst, arith, rules, length-drop, get_or-drop}
 use Rattle.std.proofs.Math.Logic.{⊎_elim}
 use Rattle.std.proofs.lemmas.Bool.{ltb-false}
@@ -154,7 +154,7 @@ pub none_are_utf8 : (bytes : List ℕ) → length bytes ≡ 0 → is_utf8 bytes 
 none_are_utf8 [] none = is_utf8-from_IsUtf8 [] IsUtf8-nil
 none_are_utf8 (byte ∷ bytes) none = absurd (omega (arith, none))
 
--- what stands behind characters is UTF-8 where all is
+-- if bytes begin with whole characters, the bytes after those are UTF-8 exactly if all bytes are
 behind_utf8 : (bytes : List ℕ) (len : ℕ) → len ≤ length bytes → IsUtf8 (take len bytes)
     → is_utf8 (drop len bytes) ≡ is_utf8 bytes
 behind_utf8 bytes len within front = by (is_utf8 (drop len bytes)) (is_utf8 bytes) refl refl where
@@ -179,7 +179,7 @@ pub past_utf8 : (bytes : List ℕ) (len : ℕ) → len ≤ length bytes → IsUt
 past_utf8 bytes len within front =
     ap is_utf8 (all-behind bytes len) ∙ behind_utf8 bytes len within front
 
--- an end of bytes
+-- a suffix of some bytes that is UTF-8 exactly if they are
 abbrev pub IsBehind : List ℕ → List ℕ → Type 0
 IsBehind bytes rest = (is_utf8 rest ≡ is_utf8 bytes) × (length rest ≤ length bytes)
     × ((i : ℕ) → get_or rest i 0 < 256)
@@ -194,7 +194,7 @@ past_character bytes rest len behind within front =
       λ i. subst (λ n. n < 256) (sym (get_or-drop len rest i 0)) (behind.2 (len + i)),
     )
 
--- the first four bytes, by the word that they are
+-- the first four bytes are this word
 pub record StartsWithWord (bytes : List ℕ) (word : ℕ) : Type 0 where
   pub within : 4 ≤ length bytes
   pub first : word % 256 ≡ get_or bytes 0 0
@@ -221,7 +221,7 @@ starts-with-word bytes four word fits chunk is =
       at : (i : ℕ) → i < 4 → get_or four i 0 ≡ get_or bytes i 0
       at i low = ap (λ l. get_or l i 0) chunk.same ∙ get_or-take 4 bytes i 0 low
 
--- three bytes of which these are the key are a character
+-- three bytes in these ranges are a character
 pub common_is_utf8 : (bytes : List ℕ) (first second third : ℕ) → first ≡ get_or bytes 0 0
     → second ≡ get_or bytes 1 0 → third ≡ get_or bytes 2 0 → IsInRange 0xE2 0xE9 first
     → IsInRange 0x80 0xBF second → IsInRange 0x80 0xBF third → IsUtf8 (take 3 bytes)
@@ -234,7 +234,7 @@ common_is_utf8 bytes first second third e f g p q r =
       λ far. absurd (omega (arith, e, p, f, q, far)),
     )
 
--- bytes of ASCII are UTF-8
+-- ASCII bytes are UTF-8
 pub all_ascii_are_utf8 : (bytes : List ℕ) (n : ℕ) → n ≤ length bytes
     → ((k : ℕ) → k < n → get_or bytes k 0 < 128) → IsUtf8 (take n bytes)
 all_ascii_are_utf8 bytes n within at = IsUtf8-from_ascii (take n bytes) low where
@@ -247,7 +247,7 @@ all_ascii_are_utf8 bytes n within at = IsUtf8-from_ascii (take n bytes) low wher
         omega (arith, length-take-le n bytes within, ltb-false k n e) in
         subst (λ b. b < 128) (sym (get_or_past (take n bytes) k 0 past)) (omega arith)
 
--- and so are more of them behind
+-- more ASCII bytes after ASCII bytes
 pub more-ascii : (bytes : List ℕ) (n m : ℕ) → ((k : ℕ) → k < n → get_or bytes k 0 < 128)
     → ((k : ℕ) → k < m → get_or bytes (n + k) 0 < 128)
     → (k : ℕ) → k < n + m → get_or bytes k 0 < 128
@@ -258,7 +258,7 @@ more-ascii bytes n m front behind k less = by (ltb k n) refl where
       let far = ltb-false k n e in
       subst (λ i. get_or bytes i 0 < 128) (omega (arith, far)) (behind (k - n) (omega (arith, far, less)))
 
--- four at most, by the bytes of a word
+-- at most four ASCII bytes, by the bytes of a word
 pub ascii_are_utf8 : (bytes : List ℕ) (n : ℕ) → n ≤ length bytes → n ≤ 4
     → (0 < n → get_or bytes 0 0 < 128) → (1 < n → get_or bytes 1 0 < 128)
     → (2 < n → get_or bytes 2 0 < 128) → (3 < n → get_or bytes 3 0 < 128) → IsUtf8 (take n bytes)

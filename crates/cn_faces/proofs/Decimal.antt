@@ -1,4 +1,4 @@
--- More decimal digits write no smaller number.
+-- Appending decimal digits never makes the number smaller.
 use Rattle.std.proofs.Common.{◌≤◌, ◌+◌, ◌-◌, ◌*◌, ℕ, List, [], ◌∷◌, arith}
 use Rattle.cn_faces.specs.Decimal.{value_after}
 

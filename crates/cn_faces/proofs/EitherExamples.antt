@@ -1,4 +1,4 @@
--- Worked examples: what the definitions compute to. They stand in the rules.
+-- Worked examples, each proved by computing the definitions. RULES shows them.
 use Rattle.std.proofs.Common.{◌≡◌, [], ◌∷◌, map, refl}
 use Rattle.chinese_number.specs.declared.ChineseCountMethod.TheVariants.{Middle, TenThousand}
 use Rattle.chinese_number.specs.declared.ChineseVariant.TheVariants.{Traditional, Simple}

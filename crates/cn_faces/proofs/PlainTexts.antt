@@ -1,4 +1,4 @@
--- Plain digits with white space between them, and what follows a sign.
+-- Plain digits with white space between them, and the text after a sign.
 use Rattle.std.proofs.Common.{◌≡◌, ℕ, Bool, true, false, ◌||◌, ◌&&◌, List, [], ◌∷◌, filter, drop, chars, is_some, Option, Some, None, refl, sym, ap, ◌∙◌}
 use Rattle.std.specs.Char.{is_whitespace, is_not_whitespace}
 use Rattle.std.specs.List.{list_all}
@@ -13,7 +13,7 @@ use Rattle.cn_judge.proofs.Pieces.{text_of-rest}
 use Rattle.cn_judge.proofs.Walking.{white-mark}
 use Rattle.chinese_number.specs.Number.{is_plain}
 
--- white space is passed over
+-- white space is skipped
 pub dark_plain : (text : List ℕ)
     → list_all (λ c. is_some (digit_of c) || is_whitespace c) text
     ≡ is_plain (filter is_not_whitespace text)
@@ -30,7 +30,7 @@ dark_plain (c ∷ text) = by (is_whitespace c) (digit_of c) refl refl (dark_plai
   by false (Some value) e f h = rw (e, f) h
   by true (Some value) e f h = let no = white-mark c e in cc
 
--- what follows the sign, taken off, is what the definitions read
+-- the text after the sign, as the code splits it off, is the text that the definitions read
 pub unsigned_text-rest : (kind : Kind) (signed : Bool) (text rest : List ℕ) (skipped : ℕ)
     (sign : Option Sign) → kind.signed ≡ signed → sign ≡ leading_sign signed (text_of text)
     → StandsAt text (chars rest) skipped (sign_len sign) → unsigned_text kind text ≡ text_of rest

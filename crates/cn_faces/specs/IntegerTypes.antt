@@ -1,9 +1,9 @@
--- What the integer types are.
+-- The kinds of the integer types.
 use Rattle.chinese_number.specs.Whole.{Kind, unsigned_kind, signed_kind}
 use Rattle.cn_faces.specs.declared.integer_type.IntegerType.{IntegerType}
 use Rattle.cn_faces.specs.declared.integer_type.IntegerType.TheVariants.{U8, U16, U32, U64, U128, I8, I16, I32, I64, I128}
 
--- whether an integer type is signed, and what it holds
+-- the kind of an integer type: whether it is signed, and its range
 abbrev pub the_kind : IntegerType → Kind
 the_kind U8 = unsigned_kind 8
 the_kind U16 = unsigned_kind 16

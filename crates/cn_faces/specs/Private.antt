@@ -1,2 +1,2 @@
--- Words that contracts of private functions alone cite.
+-- Definitions that only contracts of private functions cite.
 pub mod CharacterBytes

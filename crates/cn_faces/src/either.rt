@@ -1,5 +1,5 @@
-// Numerals that are read either way: as plain digits or with units, whichever they are; and how a number
-// is written that is read so.
+// Numerals that are read either as plain digits or with units, whichever they are, and how a number
+// that was read like this is written.
 ghost use Rattle.std.specs.Prelude.{◌≡◌, ◌||◌, chars, is_some};
 ghost use Rattle.std.specs.Char.{is_whitespace};
 ghost use Rattle.std.specs.List.{list_all};
@@ -13,7 +13,7 @@ use crate::{IntegerType, Way};
 use chinese_number::{ChineseCountMethod, ChineseVariant, digit_of};
 use cn_judge::split_sign;
 
-// From 10^16 on `Middle` has units of its own.
+// From 10^16 on, `Middle` has its own units.
 const MIDDLE_LIMIT: u128 = 10_000_000_000_000_000;
 
 // Whether a character is a digit or white space.
@@ -30,16 +30,16 @@ fn is_digits_and_white(text: &str) -> bool
     text.chars().all(|c| is_digit_or_white(c))
 }
 
-// Whether each character that is no white space is a digit.
+// Whether each character that is not white space is a digit.
 fn is_plain(text: &str) -> bool
     ensures { result ≡ is_plain (text_of text.now) }
 {
     is_digits_and_white(text)
 }
 
-// It stands by itself, so that reading in a way that is named is short.
-/// The way in which a text is read either way, as a number of a type: plain digits as such, and any
-/// other text by `TenThousand`.
+// Not inlined, so that reading in a named way stays short.
+/// The way in which a text of either kind is read as a number of a type: plain digits as digits,
+/// and any other text with `TenThousand`.
 #[inline(never)]
 pub fn either_way(integer: IntegerType, text: &str) -> Way
     ensures { result ≡ either_way (the_kind integer) text.now }
@@ -51,8 +51,8 @@ pub fn either_way(integer: IntegerType, text: &str) -> Way
     }
 }
 
-/// The method by which a magnitude is written that is read either way: `Middle` in the simple script
-/// below 10^16, where 10^12 is 一万亿, and else `TenThousand`, by which it is 一兆.
+/// The method with which a magnitude is written after it was read either way: `Middle` in the
+/// simple script below 10^16, where 10^12 is 一万亿, else `TenThousand`, which writes 一兆.
 pub fn written_method(script: ChineseVariant, magnitude: u128) -> ChineseCountMethod
     ensures { result ≡ written_method script magnitude }
 {

@@ -1,4 +1,4 @@
-// The integer types, and what they hold.
+// The integer types and their ranges.
 ghost use Rattle.std.specs.Prelude.{◌≡◌, pos, neg_ℤ, IsTrue};
 ghost use Rattle.chinese_number.specs.Whole.{holds};
 ghost use Rattle.cn_faces.specs.IntegerTypes.{the_kind};
@@ -21,8 +21,8 @@ pub enum IntegerType {
     I128,
 }
 
-// The greatest magnitudes that the types hold above zero, and below, in their order. By a `match` a
-// number takes 4 instructions more to be read.
+// The greatest magnitudes that the types hold above zero and below zero, in the order of the types.
+// With a `match`, reading a number takes 4 more instructions.
 static MOST: [(u128, u128); 10] = [
     (u8::MAX as u128, 0),
     (u16::MAX as u128, 0),
@@ -55,7 +55,7 @@ impl IntegerType {
         }
     }
 
-    // The greatest magnitude that the type holds above zero, and below.
+    // The greatest magnitudes that the type holds above zero and below zero.
     fn most(self) -> (u128, u128)
         ensures above { (the_kind self).greatest ≡ pos result.0 }
         ensures below { (the_kind self).least ≡ neg_ℤ (pos result.1) }

@@ -1,8 +1,8 @@
-//! What the faces of the library share: the integer types, the way in which a number is read or
-//! written, or either way, a number by its sign and its magnitude, what decimal digits write, and
-//! bytes that are text.
+//! The code that the interfaces of the library share: the integer types; the ways of reading and
+//! writing a number, and the choice between them; a number as its sign and its magnitude; the value
+//! of decimal digits; and the test whether bytes are text.
 //!
-//! For the programs and the calls for C. Callers in Rattle use `chinese_number`.
+//! The programs and the calls for C use it. Callers in Rattle use `chinese_number`.
 #![tactic(auto)]
 
 mod either;

@@ -1,4 +1,4 @@
-// Texts that are read as numbers of an integer type that is given.
+// Reads a text as a number of an integer type that is given as a value.
 ghost use Rattle.std.specs.Prelude.{◌≡◌, None, false, pos, IsTrue, IfOk};
 ghost use Rattle.chinese_number.specs.Answer.{answer_of};
 ghost use Rattle.chinese_number.specs.Reading.{Reads, naive_reading};
@@ -12,7 +12,7 @@ use chinese_number::{ChineseCountMethod, ChineseToNumberError, Sign};
 use cn_judge::{judge_naive, split_sign};
 use cn_quick::judge_quickly;
 
-// The answer for a type, from the sign and the answer to what stands after it.
+// The answer for a type, from the sign and the answer to the text after it.
 #[inline(always)]
 fn signed_answer(
     integer: IntegerType,
@@ -71,7 +71,8 @@ fn read_units(
     signed_answer(integer, after.sign, judged)
 }
 
-/// Reads a text in a way as a number of an integer type, as `read_by` does: one body for all types.
+/// Reads a text in the given way as a number of an integer type, as `read_by` does, but with one
+/// function for all types.
 #[inline(always)]
 pub fn read_as(
     integer: IntegerType,
@@ -103,7 +104,8 @@ fn unsigned_answer(
     }
 }
 
-/// Reads a text in a way as a number of an unsigned type, in fewer instructions than `read_as` takes.
+/// Reads a text in the given way as a number of an unsigned type, in fewer instructions than
+/// `read_as`.
 #[inline(always)]
 pub fn read_unsigned(
     integer: IntegerType,

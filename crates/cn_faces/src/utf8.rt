@@ -1,4 +1,4 @@
-// Bytes that are text.
+// Tests whether bytes are text in UTF-8.
 ghost use Rattle.std.specs.Prelude.{◌≡◌, ◌↔◌, ◌/◌, ◌%◌, ◌<◌, ◌≤◌, true, false, take, get_or, length, IsTrue, IsUtf8, MatchOption};
 ghost use Rattle.std.specs.Int.{IsInRange};
 ghost use Rattle.std.specs.Str.{is_utf8};
@@ -7,8 +7,8 @@ ghost use Rattle.cn_faces.specs.Private.CharacterBytes.{IsTwo, IsThree, IsFour};
 use cn_judge::eight_ascii_at;
 use std::str;
 
-// Whether the first three bytes of a word are a character from U+2000 to U+9FFF, as most in numerals
-// are. By what the subtraction leaves of the first byte, all is one test.
+// Whether the first three bytes of a word are a character from U+2000 to U+9FFF, as most characters
+// of numerals are. The subtraction turns the tests of the three bytes into one.
 // Same answer (% → /, / → * #3, / → * #5): then no text is common, and `is_three` decides, more
 // slowly.
 // Same answer (/ → *, 8 → 7): fewer texts are common, and `is_three` decides on the others, more
@@ -37,9 +37,9 @@ fn is_common_alone(bytes: &[u8]) -> bool
     }
 }
 
-/// Whether these bytes are characters from U+2000 to U+9FFF alone, as those of most numerals are, so
-/// that they are UTF-8. The three bytes of each but the last are loaded at once, with the one behind
-/// them. `false` says nothing of the bytes.
+/// Whether these bytes are only characters from U+2000 to U+9FFF, as those of most numerals are,
+/// and so are UTF-8. The three bytes of each character except the last are loaded together with the
+/// byte after them. `false` says nothing about the bytes.
 #[inline(always)]
 pub fn are_common(bytes: &[u8]) -> bool
     ensures { IsTrue result → IsUtf8 bytes.now }
@@ -54,7 +54,7 @@ pub fn are_common(bytes: &[u8]) -> bool
     rest.is_empty() || is_common_alone(rest)
 }
 
-// Whether the four bytes of a word are of ASCII.
+// Whether the four bytes of a word are all ASCII.
 // Same answer (0x80_0000 → 0x7fffff, 0x8000_0000 → 0x7fffffff): fewer words are taken as ASCII at
 // once, and `ascii_len` decides on the others, more slowly.
 #[inline(always)]
@@ -70,7 +70,7 @@ fn four_are_ascii(word: u32) -> bool
         & (word / 0x8000_0000 == 0)
 }
 
-// How many bytes of ASCII a word begins with.
+// The number of ASCII bytes that a word begins with.
 // Same answer (0x80_0000 → 0x7fffff): fewer bytes are decided at once, which is slower.
 // Same answer (3 → 2): the third byte is decided next, which is slower.
 #[inline(always)]
@@ -95,7 +95,8 @@ fn ascii_len(word: u32) -> usize
     }
 }
 
-// The first four bytes as one number, the first of them the lowest, and 0 for what is behind the last.
+// The first four bytes as one number, with the first byte lowest, and 0 for each byte after the
+// last.
 #[inline(always)]
 fn first_word(bytes: &[u8]) -> u32
     ensures first { result % 256 ≡ get_or bytes.now 0 0 }
@@ -114,7 +115,8 @@ fn first_word(bytes: &[u8]) -> u32
     }
 }
 
-// Whether a word begins with a character of two bytes. What `&` joins is one test, here and below.
+// Whether a word begins with a character of two bytes. Conditions that `&` joins are compiled to
+// one test, here and below.
 #[inline(always)]
 fn is_two(word: u32) -> bool
     ensures { IsTrue result ↔ IsTwo (word % 256) (word / 256 % 256) }
@@ -148,8 +150,8 @@ fn is_four(word: u32) -> bool
         && leading <= 0xF4 * 64 + 0x8F
 }
 
-// How many bytes are passed of the ASCII in front, the first eight at once and then sixteen at a time;
-// 0 where fewer than eight stand there.
+// The number of ASCII bytes that are passed at the start: the first eight at once, and then sixteen
+// at a time. It is 0 if the bytes begin with fewer than eight.
 // Same answer (8 → 7): the eighth byte is examined again.
 // Same answer (>= → >, 16 → 17): the last sixteen bytes are passed as eight and eight.
 // Same answer (16 → 15): of fifteen bytes the last eight are not all present.
@@ -171,7 +173,8 @@ fn ascii_eights_len(bytes: &[u8]) -> usize
     len
 }
 
-// How many bytes some characters have with which these bytes begin, or 0 where they begin with none.
+// The number of bytes of some characters that these bytes begin with, or 0 if they do not begin
+// with a character.
 // Same answer (== → !=): eight ASCII bytes are not looked for or not found, and four are passed.
 // Same answer (4 → 3): eight ASCII bytes are not found, and four are passed.
 // Same answer (4 → 5): eight ASCII bytes are not looked for, and four are passed.
@@ -195,7 +198,7 @@ fn front_len(bytes: &[u8]) -> usize
             return eights;
         }
     }
-    // What is behind the last byte is 0 in the word, as if of ASCII.
+    // After the last byte, the word has zeros, which look like ASCII.
     if ascii > 0 {
         ascii.min(bytes.len())
     } else if word % 256 < 0xE0 {
@@ -209,9 +212,9 @@ fn front_len(bytes: &[u8]) -> usize
     }
 }
 
-// By std's `from_utf8`, which is a call, a long text of Chinese takes more than twice as many
-// instructions, one of ASCII fewer than half, of Cyrillic or of French a sixth fewer.
-/// Whether any bytes are UTF-8.
+// With std's `from_utf8`, which is a call, a long Chinese text takes more than twice as many
+// instructions, an ASCII text less than half, and a Cyrillic or French text a sixth less.
+/// Whether these bytes are UTF-8, whatever characters they are.
 #[inline(always)]
 pub fn are_utf8_at_all(bytes: &[u8]) -> bool
     ensures { result ≡ is_utf8 bytes.now }
@@ -227,7 +230,7 @@ pub fn are_utf8_at_all(bytes: &[u8]) -> bool
     true
 }
 
-// It stands by itself, so that the calls that seldom come here are short.
+// Not inlined, so that the calls that rarely need it stay short.
 #[inline(never)]
 fn are_utf8_alone(bytes: &[u8]) -> bool
     ensures { result ≡ is_utf8 bytes.now }

@@ -1,4 +1,4 @@
-// The ways in which a number is read or written, and numbers of whatever type.
+// The ways in which a number is read or written, and numbers of any type.
 ghost use Rattle.std.specs.Prelude.{◌≡◌, ◌↔◌, ◌≤◌, ◌<ℤ◌, pos, length, IsTrue, IfOk, MatchResult};
 ghost use Rattle.chinese_number.specs.Answer.{answer_of};
 ghost use Rattle.chinese_number.specs.Whole.{holds};
@@ -9,14 +9,14 @@ use chinese_number::{
     NumberToChineseError, ROOM_BYTES, Whole, put_chinese, put_chinese_naive,
 };
 
-/// How a number is written: as its plain digits, or with units by a method.
+/// The way in which a number is written: as plain digits, or with the units of a method.
 #[derive(Clone, Copy)]
 pub enum Way {
     Digits,
     Units(ChineseCountMethod),
 }
 
-/// The way of a name, as the programs have it.
+/// The way with this name; the programs use these names.
 pub fn way_named(name: &[u8]) -> Option<Way>
     ensures { result ≡ way_named name.now }
 {
@@ -35,7 +35,7 @@ pub fn way_named(name: &[u8]) -> Option<Way>
     }
 }
 
-/// Reads a text in a way, as a number of a type.
+/// Reads a text in the given way as a number of a type.
 pub fn read_by<T: Whole>(way: Way, text: &str) -> Result<T, ChineseToNumberError>
     ensures { ReadsBy T.kind way text.now (answer_of T.number result) }
 {
@@ -45,8 +45,8 @@ pub fn read_by<T: Whole>(way: Way, text: &str) -> Result<T, ChineseToNumberError
     }
 }
 
-/// Puts a number in a way into a room, and hands out its text, which is the end of the room. No
-/// memory is asked for, so it never runs out.
+/// Writes a number in the given way at the end of a buffer, and returns its text. It allocates no
+/// memory, so the error is never `OutOfMemory`.
 #[inline(always)]
 pub fn put_by<'a, T: Whole>(
     room: &'a mut [u8; ROOM_BYTES],
@@ -66,7 +66,7 @@ pub fn put_by<'a, T: Whole>(
     }
 }
 
-/// A number by its sign and its magnitude; the sign of 0 may be a minus.
+/// A number as its sign and its magnitude; 0 may have a minus sign.
 #[derive(Clone, Copy)]
 pub struct SignedMagnitude {
     pub negative: bool,
@@ -74,7 +74,7 @@ pub struct SignedMagnitude {
 }
 
 impl SignedMagnitude {
-    /// A number of a type.
+    /// The sign and magnitude of a number of any type.
     pub fn of<T: Whole>(value: T) -> Self
         ensures number { stands_for result ≡ T.number value }
         ensures held { IsTrue (holds T.kind (stands_for result)) }

@@ -1,4 +1,4 @@
--- Digits that stand side by side, taken at once.
+-- A run of digits that is read at once.
 use Rattle.std.proofs.Common.{Bool, chars, ◌≡◌, ℕ, ◌+◌, ◌*◌, ◌^◌, ◌<◌, ◌≤◌, true, false, nat_lt, List, ◌∷◌, Err, refl, ◌∙◌, arith}
 use Rattle.std.proofs.lemmas.Bool.Decides.{nat_tests}
 use Rattle.cn_core.specs.Naive.{naive_answer}
@@ -15,7 +15,7 @@ more_sum : (number weight value next : ℕ)
     → number * (weight * 10) + (value * 10 + next) ≡ (number * weight + value) * 10 + next
 more_sum number weight value next = grind arith
 
--- where a text stands after a run
+-- the state of the reader after a run
 record HasTaken (skipped : ℕ) (bytes rest : List ℕ) (char_index number : ℕ) : Type 0 where
   is_empty : Bool
   reading : IsReading skipped bytes rest char_index number is_empty
@@ -49,7 +49,7 @@ HasTaken-run skipped bytes ahead rest char_index number count weight value is_em
           small) (omega arith) refl refl;
     }
 
--- a run of some digits that fit
+-- after a run of one or more digits, if the number fits
 pub IsReading-run : (skipped : ℕ) (bytes ahead rest : List ℕ)
     (char_index number count weight value total : ℕ) (is_empty : Bool)
     → IsReading skipped bytes ahead char_index number is_empty
@@ -66,7 +66,7 @@ IsReading-run skipped bytes ahead rest char_index number count weight value tota
     same_reading _ _ _ _ _ _ _ _ _ (IsReading-digit _ _ _ _ _ _ c next total _ taken.reading parts
     mark (sum ∙ more) small) (omega arith) refl refl
 
--- a run that makes the number too great
+-- after a run with which the number does not fit
 pub IsReading-run-great : (skipped : ℕ) (bytes ahead rest : List ℕ)
     (char_index number count weight value : ℕ) (is_empty : Bool)
     → IsReading skipped bytes ahead char_index number is_empty
@@ -94,7 +94,7 @@ same_run : (bytes rest : List ℕ) (count weight value total : ℕ)
     → IsDigitRun bytes rest count weight value → value ≡ total → IsDigitRun bytes rest count weight total
 same_run bytes rest count weight value total run e = rw e at run
 
--- one character, by what it is
+-- a piece of one character
 pub StartsWith-character : (piece : Piece) (bytes rest : List ℕ) (c : ℕ) → IsPiece piece c
     → chars bytes ≡ c ∷ chars rest → StartsWith piece bytes rest
 StartsWith-character (Digits run) bytes rest c is parts = (

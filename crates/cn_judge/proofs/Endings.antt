@@ -1,4 +1,4 @@
--- The answer at the front, and where the last mark stands apart.
+-- The answer at the first mark, and the answer to a text with a tail.
 use Rattle.std.proofs.Common.{◌≡◌, ◌≢◌, inl, inr, ℕ, ◌+◌, ◌-◌, ◌^◌, ◌<◌, Bool, true, false, not, ◌||◌, ◌==◌, nat_lt, List, [], ◌∷◌, ◌++◌, length, Option, Some, None, Result, Ok, Err, refl, sym, ap, ◌∙◌, arith, if◌then◌else◌, append_assoc, length-append}
 use Rattle.std.proofs.lemmas.Bool.Decides.{nat_tests}
 use Rattle.cn_core.specs.declared.method.ChineseCountMethod.{ChineseCountMethod}
@@ -71,7 +71,7 @@ front-fits method first walked sum units next d w numeral =
     ∙ ap (λ s. number_answer (total_sum (s + d) (opens_of method (marks_of walked)))) (sym w.sum_is)
     ∙ ap (λ o. number_answer (total_sum (sum + d) o)) (sym w.units_are)
 
--- a sum that is found where it fits
+-- a sum that is computed if it fits
 pub number_answer-ok_or : (char_index sum : ℕ) (rest : List ℕ) (found : Option ℕ)
     → SomeIff found (sum < 2 ^ 128) sum
     → answer_of (λ n. n) (ok_or found Overflow) ≡ after_first char_index rest (number_answer sum)
@@ -80,7 +80,7 @@ number_answer-ok_or char_index sum rest (Some number) h = let test : nat_lt sum 
 number_answer-ok_or char_index sum rest None h = let test : nat_lt sum (2 ^ 128) ≡ false =
     grind (arith, nat_tests) in rw test refl
 
--- where no mark stands apart, the marks are read as they stand
+-- marks without a tail are read without one
 pub judge-plain_end : (method : ChineseCountMethod) (first : Mark) (marks : List Mark)
     → HasNoTail marks → judge method (first ∷ marks) ≡ plain method (first ∷ marks)
 judge-plain_end method first [] (inl h) = judge-one method first
@@ -90,13 +90,13 @@ judge-plain_end method first marks (inr (front, second, last, parts, stands)) =
     ap (λ l. judge method (first ∷ l)) parts ∙ judge-plain method first front second last stands
     ∙ ap (λ l. plain method (first ∷ l)) (sym parts)
 
--- the answer then
+-- so the judgement of marks without a tail is `walked_answer`
 pub judge-no_tail : (method : ChineseCountMethod) (first : Mark) (marks : List Mark)
     → HasNoTail marks → judge method (first ∷ marks) ≡ walked_answer method first marks
 judge-no_tail method first marks h =
     judge-plain_end method first marks h ∙ plain-walked method first marks
 
--- and where one does
+-- the judgement of marks with a tail
 pub judge-has_tail : (method : ChineseCountMethod) (first : Mark) (marks before : List Mark)
     (rank : ℕ) (last : Mark) (place : ℕ) → HasTail marks before rank last
     → place ≡ length before + 1 → judge method (first ∷ marks)
@@ -117,7 +117,7 @@ judge-has_tail method first marks before rank last place (parts, (front, is), st
     ∙ ap (tail_answer method place rank last) (plain-walked method first (front ++ unit rank ∷ []))
     ∙ ap (λ l. tail_answer method place rank last (walked_answer method first l)) (sym is)
 
--- the unit before it fits, where the answer is a number
+-- the scale of the unit before the tail fits, if the body has no scale that does not
 unfit-end : (method : ChineseCountMethod) (front : List Mark) (rank : ℕ)
     → some_unfit method (front ++ unit rank ∷ []) ≡ false → scale_fits method rank ≡ true
 unfit-end method [] rank h = by (scale_fits method rank) h where
@@ -141,7 +141,7 @@ tail-fits method first marks before rank last number (parts, (front, is), stands
     unfit-end method front rank (ap (some_unfit method) (sym is)
     ∙ (sound-none method before (walked-sound method first before number h)).fit)
 
--- the answer to a text of two parts
+-- the judgement of a text that is split into its first character and the rest
 pub judged : (method : ChineseCountMethod) (text rest : List ℕ) (first : ℕ)
     (answer : Result ℕ Refusal) → text ≡ first ∷ rest
     → judge method (mark_of first ∷ marks_of rest) ≡ answer → Judges method (marks_of text) answer
@@ -169,7 +169,7 @@ judged_tail method text rest before first last rank place answer body parts tail
     there
     ∙ ap (tail_answer method place rank last) (sym is) ∙ h)
 
--- a last mark that is no digit is at fault
+-- a tail that is not a digit is at fault
 pub tail-stops : (method : ChineseCountMethod) (place rank number : ℕ) (last : Mark)
     → ((value : ℕ) → last ≢ digit value)
     → tail_answer method place rank last (Ok number) ≡ Err (incorrect_at place)
@@ -194,7 +194,7 @@ has-tail text before more last second rank last_mark second_mark parts more_part
       ap (λ m. is_tail m last_mark) (sym is) ∙ apart,
     )
 
--- an error that is handed on
+-- an error that is passed on unchanged
 pub err-same : (r : Result ℕ ChineseToNumberError) (x : ChineseToNumberError)
     → IsErr r × IsErrAnd r (λ e. e ≡ x) → answer_of (λ n. n) r ≡ Err (refusal_of x)
 err-same (Ok n) x h = absurd (h.1)

@@ -1,5 +1,5 @@
--- What a walk from the right finds at fault first, and that this is what the place and the early
--- overflow name.
+-- The fault that a walk from the right finds first is the one that the place and the early overflow
+-- define.
 use Rattle.std.proofs.Common.{◌≡◌, ℕ, suc, ◌+◌, ◌^◌, ◌<◌, ◌≤◌, max, Bool, true, false, not, ◌&&◌, ◌||◌, nat_le, nat_lt, ◌==◌, List, [], ◌∷◌, drop, take_while, Option, Some, None, Result, Ok, Err, refl, sym, ap, ◌∙◌, arith, if◌then◌else◌}
 use Rattle.std.proofs.lemmas.Bool.Decides.{nat_tests}
 use Rattle.cn_core.specs.declared.method.ChineseCountMethod.{ChineseCountMethod}
@@ -15,7 +15,7 @@ use Rattle.cn_core.proofs.Fronts.{each-from_completable}
 use Rattle.cn_judge.specs.Private.Walk.{number_answer, front_answer, fault_or, walked_answer, fault_of, further_or, faults}
 use Rattle.cn_judge.proofs.OpenSums.{take_while-group, group-value}
 
--- an early overflow, where the list's own place counts too
+-- an early overflow, with the group at the list's own place counted even if that is the first
 abbrev pub is_early_at : ChineseCountMethod → List Mark → ℕ → Bool
 is_early_at method marks place = some_unfit method (drop (suc place) marks)
     || some_overflowing method (drop place marks)
@@ -97,14 +97,14 @@ faults_step method mark rest false e ih =
     ∙ step_false (is_early_at method rest (place_of rest)) (may_precede mark rest) _
     (fault_of method mark rest) (place_of rest)
 
--- the walk's fault is the place's, unless an overflow comes first
+-- the walk's fault is at the place, unless an overflow comes first
 pub faults-at : (method : ChineseCountMethod) (marks : List Mark)
     → faults method marks ≡ faults_at method marks
 faults-at method [] = refl
 faults-at method (mark ∷ rest) = faults_step method mark rest (each_may_precede rest) refl
     (faults-at method rest)
 
--- what overflows early is too large as a whole
+-- a list that overflows early is too large as a whole
 value_more : (method : ChineseCountMethod) (mark : Mark) (rest : List Mark)
     → value method rest ≤ value method (mark ∷ rest)
 value_more method (digit number) rest = omega arith
@@ -174,7 +174,7 @@ ten_fits TenThousand = refl
 ten_fits Middle = refl
 ten_fits High = refl
 
--- a numeral's first mark fits
+-- the scale of a numeral's first mark fits
 pub numeral_fits : (method : ChineseCountMethod) (mark : Mark) (rest : List Mark)
     → is_numeral (mark ∷ rest) ≡ true → is_unfit method mark ≡ false
 numeral_fits method (digit number) rest h = refl
@@ -217,7 +217,7 @@ placed_cases : (early : Bool) (place : ℕ) (answer : Result ℕ Refusal)
 placed_cases true place answer = refl
 placed_cases false place answer = refl
 
--- the fold's outcome is the answer to a text as it stands
+-- `plain` is the answer to a text that has no tail
 pub plain-walked : (method : ChineseCountMethod) (mark : Mark) (rest : List Mark)
     → plain method (mark ∷ rest) ≡ walked_answer method mark rest
 plain-walked method mark rest = by (is_numeral (mark ∷ rest)) (each_may_precede rest) refl refl

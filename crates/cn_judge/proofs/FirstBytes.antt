@@ -1,4 +1,5 @@
--- The first character of a text, by its first byte, which says how many it has.
+-- The first character of a text, by its first byte, which determines the character's number of
+-- bytes.
 use Rattle.std.proofs.Common.{◌≡◌, ℕ, zero, suc, ◌+◌, ◌*◌, ◌/◌, ◌<◌, ◌≤◌, map, Bool, true, false, ltb, List, [], ◌∷◌, ◌++◌, length, get_or, drop, chars, IsUtf8, refl, sym, ap, ◌∙◌, subst, arith, length-append}
 use Rattle.std.specs.Str.{continuation_len}
 use Rattle.std.proofs.lemmas.Bool.Decides.{nat_tests}
@@ -27,7 +28,7 @@ len_four b p = grind (arith, nat_tests)
 abbrev lens_from : ℕ → ℕ → List ℕ
 lens_from low count = map (λ bits. len_by (bits * 16)) (range_with_len low count)
 
--- all 16
+-- all 16 entries of the table
 lens : CHAR_LENS ≡ lens_from 0 16
 lens = refl
 
@@ -43,7 +44,7 @@ len-at low (suc count) (suc bits) h =
 len-bits : (first : ℕ) → len_by (first / 16 * 16) ≡ len_by first
 len-bits first = grind (arith, nat_tests)
 
--- the table has it
+-- the table's entry is the number of bytes of a character with this first byte
 pub entry_is_len : (first : ℕ) → first < 256
     → get_or CHAR_LENS (first / 16) 0 ≡ continuation_len first + 1
 entry_is_len first small =

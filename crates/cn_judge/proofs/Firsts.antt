@@ -1,4 +1,4 @@
--- How many characters begin in some bytes.
+-- The number of characters that begin in some bytes.
 use Rattle.std.proofs.Common.{◌≡◌, ℕ, zero, suc, ◌+◌, ◌/◌, ◌<◌, ◌≤◌, Bool, true, false, ltb, List, ◌++◌, ◌-◌, length, get_or, take, drop, refl, sym, ap, subst, ◌∙◌, arith, length-drop, get_or-drop}
 use Rattle.std.specs.Array.{IsFirstChunk}
 use Rattle.std.proofs.lemmas.Bool.Decides.{nat_tests}
@@ -35,7 +35,7 @@ begins-low byte high = grind (arith, nat_tests)
 begins-high : (byte : ℕ) → 191 < byte → first_count byte ≡ 1
 begins-high byte low = grind (arith, nat_tests)
 
--- bytes that stand in others from a place on begin as many characters there
+-- bytes that are equal to a part of a text count as many first bytes as that part
 pub firsts-alike : (bytes part : List ℕ) (at many : ℕ)
     → ((k : ℕ) → k < many → get_or part k 0 ≡ get_or bytes (at + k) 0)
     → firsts bytes (at + many) ≡ firsts bytes at + firsts part many
@@ -54,7 +54,7 @@ firsts-alike bytes part at (suc many) same =
       ap first_count (same many (omega arith)),
     )
 
--- the first byte of a character, and the others
+-- the first byte of a character counts, and its other bytes do not
 front : (c : ℕ) (rest : List ℕ) → first_count (get_or (encode c ++ rest) 0 0) ≡ 1
 front c rest = rw (encode-by c) (by (ltb c 128) (ltb c 2048) (ltb c 65536) refl refl refl) where
   by : (x y z : Bool) → ltb c 128 ≡ x → ltb c 2048 ≡ y → ltb c 65536 ≡ z
@@ -80,7 +80,7 @@ behind-front c rest k = rw (encode-by c) (by (ltb c 128) (ltb c 2048) (ltb c 655
   by false false false (suc (suc zero)) less = continues _ (omega arith) (omega arith)
   by false false false (suc (suc (suc k))) less = absurd (omega (arith, less))
 
--- the first bytes are those of one character
+-- the first `len` bytes are those of one character
 pub record IsCharacter (bytes : List ℕ) (len : ℕ) : Type 0 where
   pub goes_on : (k : ℕ) → 0 < k → k < len → first_count (get_or bytes k 0) ≡ 0
   pub one : firsts bytes len ≡ 1
@@ -107,7 +107,7 @@ is-character bytes rest c (suc many) parts size some =
       others (suc k) more less = subst (λ l. first_count (get_or l (suc k) 0) ≡ 0) (sym parts)
           (behind-front c rest k (omega (arith, size, less)))
 
--- the next bytes, by how many are taken at once
+-- the bytes of a chunk that is taken at an index
 pub chunk-at : (bytes chunk : List ℕ) (at size : ℕ) → at ≤ length bytes
     → IsFirstChunk (take (length bytes - at) (drop at bytes)) chunk size
     → (at + size ≤ length bytes) × ((k : ℕ) → k < size → get_or chunk k 0 ≡ get_or bytes (at + k) 0)

@@ -1,5 +1,5 @@
--- The judgement of a text, from what its parts are answered, with places told by where they stand
--- in the string.
+-- The judgement of a text from the answers to its parts, with places reported as a char_index of
+-- the string.
 use Rattle.std.proofs.Common.{◌≡◌, ◌≢◌, ℕ, zero, suc, ◌+◌, ◌*◌, ◌/◌, ◌<◌, Bool, true, false, List, [], ◌∷◌, ◌++◌, length, filter, chars, Option, Some, None, Result, Ok, Err, refl, sym, ap, ◌∙◌, arith, if◌then◌else◌, add-one}
 use Rattle.std.specs.Char.{is_whitespace, is_not_whitespace}
 use Rattle.std.proofs.lemmas.List.{length-map, nil_from_length}
@@ -22,7 +22,7 @@ use Rattle.cn_judge.proofs.Endings.{judged_plain, judged_tail}
 use Rattle.cn_judge.proofs.Pieces.{StandsAt-dark, char_index-at, char_index-rest}
 use Rattle.cn_judge.proofs.Walking.{filter-append}
 
--- places count on from the first character
+-- places are counted from the first character on
 pub answer_at-first : (skipped : ℕ) (text rest : List ℕ) (index c : ℕ) (answer : Result ℕ Refusal)
     → StandsAt text (c ∷ chars rest) index 0 → is_whitespace c ≡ false
     → after_first (skipped + index) rest answer ≡ answer_at skipped text answer
@@ -54,7 +54,7 @@ text-first text rest index c at dark = rw (
   nil_from_length (filter is_not_whitespace at.front) at.place_is,
 )
 
--- a fault stands in the list
+-- the place of a fault is one of the marks of the list
 faults-low : (method : ChineseCountMethod) (marks : List Mark) (place : ℕ)
     → faults method marks ≡ Some (incorrect_at place) → place < length marks
 faults-low method [] place h = cc
@@ -79,7 +79,7 @@ faults-low method (mark ∷ rest) place h =
       by (Some (incorrect_at q)) h low = let same : suc q ≡ place = cc in let l =
           low q refl in omega (arith, l, same)
 
--- what stands after a place's character does not move it
+-- the text after the character at a place does not change its char_index
 pub char_index-prefix : (xs ys : List ℕ) (place : ℕ) → place < length (filter is_not_whitespace xs)
     → char_index_among (xs ++ ys) place ≡ char_index_among xs place
 char_index-prefix [] ys place low = absurd (omega (arith, low))
@@ -101,7 +101,7 @@ char_index-prefix (c ∷ xs) ys (suc place) low =
       by true white ih = ap suc (ih (suc place) (rw white at low))
       by false dark ih = let l = rw dark at low in ap suc (ih place (omega (arith, l)))
 
--- nor does it change the answer to the front
+-- and it does not change the answer to the body
 pub front-same : (method : ChineseCountMethod) (char_index : ℕ) (first : Mark)
     (before rest more : List ℕ) → chars rest ≡ chars before ++ more
     → after_first char_index before (walked_answer method first (marks_of (text_of before)))
@@ -137,12 +137,12 @@ front-same method char_index first before rest more parts =
       by (Some (incorrect_at place)) e =
           ap (λ n. Err (incorrect_at (char_index + 1 + n))) (moved place e)
 
--- nothing to read
+-- a text without characters to read
 pub JudgesAt-empty : (method : ChineseCountMethod) (skipped : ℕ) (text : List ℕ)
     → text_of text ≡ [] → JudgesAt method skipped text (Err empty)
 JudgesAt-empty method skipped text none = (Err empty, rw none refl, refl)
 
--- no last character stands apart
+-- a text without a tail
 pub JudgesAt-plain : (method : ChineseCountMethod) (skipped : ℕ) (text rest : List ℕ) (index c : ℕ)
     (answer : Result ℕ Refusal)
     → StandsAt text (c ∷ chars rest) index 0 → is_whitespace c ≡ false
@@ -157,7 +157,7 @@ JudgesAt-plain method skipped text rest index c answer at dark none is = (
   is ∙ answer_at-first skipped text rest index c _ at dark,
 )
 
--- one does
+-- a text with a tail
 pub JudgesAt-tail : (method : ChineseCountMethod) (skipped : ℕ) (text rest body : List ℕ)
     (index c rank : ℕ) (last : Mark) (answer : Result ℕ Refusal)
     → StandsAt text (c ∷ chars rest) index 0 → is_whitespace c ≡ false
@@ -174,7 +174,7 @@ JudgesAt-tail method skipped text rest body index c rank last answer at dark tai
   is ∙ answer_at-first skipped text rest index c _ at dark,
 )
 
--- the last character's part: what the front is refused for stays
+-- a refusal of the body is the refusal of the whole text
 pub tail-refused : (method : ChineseCountMethod) (char_index place rank : ℕ) (last : Mark)
     (before rest : List ℕ) (refusal : Refusal) (walked : Result ℕ Refusal)
     → Err refusal ≡ after_first char_index before walked
@@ -183,7 +183,7 @@ pub tail-refused : (method : ChineseCountMethod) (char_index place rank : ℕ) (
 tail-refused method char_index place rank last before rest refusal (Ok number) h same = cc
 tail-refused method char_index place rank last before rest refusal (Err r) h same = h ∙ same
 
--- a number in front is the walk's
+-- if the body is answered with a number, that number is the walk's
 pub front-number : (char_index number : ℕ) (before : List ℕ) (walked : Result ℕ Refusal)
     → Ok number ≡ after_first char_index before walked → walked ≡ Ok number
 front-number char_index number before (Ok n) h = sym h
@@ -193,7 +193,7 @@ front-number char_index number before (Err too_small) h = cc
 front-number char_index number before (Err (incorrect_at zero)) h = cc
 front-number char_index number before (Err (incorrect_at (suc p))) h = cc
 
--- a last character that is no digit is at fault
+-- a tail that is not a digit is at fault
 pub last-wrong : (char_index index : ℕ) (rest body : List ℕ) (c : ℕ) → EndsWith rest c body
     → index ≡ char_index + 1 + length (chars body)
     → Err (incorrect_at index) ≡ after_first char_index rest
@@ -205,14 +205,14 @@ last-wrong char_index index rest body c e at =
     char_index-at rest e.white c _ _ stands e.dark in
     rw add-one (ap (λ n. Err (incorrect_at n)) (at ∙ ap (λ n. char_index + 1 + n) (sym index_is)))
 
--- a mark of the code that is no digit
+-- a mark of the code that is not a digit stands for no digit
 pub not-digit : (mark : ReadMark) → ((x : ℕ) → mark ≡ Digit x → ⊥) → (value : ℕ)
     → marked mark ≢ digit value
 not-digit (Digit x) none value e = none x refl
 not-digit (Unit u) none value e = cc
 not-digit Other none value e = cc
 
--- the answer where the last character is a digit
+-- the answer if the tail is a digit
 pub last-adds : (method : ChineseCountMethod) (char_index place rank number value : ℕ)
     (rest : List ℕ) (mark : ReadMark) (walked answer : Result ℕ Refusal)
     → walked ≡ Ok number → mark ≡ Digit value

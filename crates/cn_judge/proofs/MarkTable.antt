@@ -1,5 +1,5 @@
--- The table of marks has characters of three bytes, none of them white space, each with its own
--- mark.
+-- The table of marks contains characters of three bytes, none of them white space, each with its
+-- own mark.
 use Rattle.std.proofs.Common.{◌≡◌, ℕ, ◌+◌, ◌-◌, ◌*◌, ◌/◌, ◌%◌, ◌<◌, ◌≤◌, nat_le, nat_lt, ◌==◌, ◌&&◌, ◌||◌, not, ◌≢◌, Bool, true, false, List, [], ◌∷◌, length, get_or, refl, sym, ap, ◌∙◌, arith, zero, suc}
 use Rattle.std.specs.Char.{is_whitespace}
 use Rattle.std.specs.List.{list_all}
@@ -27,14 +27,14 @@ within [] i a b low = absurd (omega (arith, low))
 within (x ∷ xs) zero a b low = refl
 within (x ∷ xs) (suc i) a b low = within xs i a b (omega arith)
 
--- the sum of three bytes by which a character's number is told, from their key
+-- the sum of the three bytes of a key from which the character's code is computed
 abbrev sum_of_bytes : ℕ → ℕ
 sum_of_bytes key = key % 256 * 4096 + key / 256 % 256 * 64 + key / 65536
 
 abbrev code_of : ℕ → ℕ
 code_of key = sum_of_bytes key - 925824
 
--- an entry's key is that of a character of three bytes, and no white space, with its own mark
+-- the mark of an entry is that of the character with its key, and this character is not white space
 is_right : ℕ × ReadMark → Bool
 is_right entry =
     same_mark (marked entry.1) (mark_of (code_of entry.0)) && not (is_whitespace (code_of entry.0))
@@ -81,7 +81,7 @@ entry-right entry h =
       lt : (a b : ℕ) → nat_lt a b ≡ true → a < b
       lt a b h = grind (arith, nat_tests)
 
--- the entry at the slot of its key
+-- an entry that is found under its own key
 pub entry-known : (key : ℕ) (entry : ℕ × ReadMark) → entry ≡ get_or MARKS (slot key) entry
     → entry.0 ≡ key → IsKnown key entry.1
 entry-known key entry at found =
@@ -96,7 +96,7 @@ entry-known key entry at found =
       dark = right.1;
     }
 
--- the table has the character, or it does not take three bytes
+-- the table has an entry for the character, or the character's UTF-8 is not three bytes long
 has : ℕ → Bool
 has c =
     nat_lt c 2048 || nat_le 65536 c || (get_or MARKS (slot (key_of c)) (0, Other)).0 == key_of c
@@ -130,7 +130,7 @@ not-had c key entry low high same at other_key =
       eq : (a b : ℕ) → a ≢ b → (a == b) ≡ false
       eq a b h = grind (arith, nat_tests)
 
--- a character of three bytes whose key is not that of the entry at its slot
+-- a character of three bytes whose key is not the key of the entry at its slot
 pub entry-unknown : (key : ℕ) (entry : ℕ × ReadMark) → entry ≡ get_or MARKS (slot key) entry
     → entry.0 ≢ key → IsUnknown key
 entry-unknown key entry at other_key =

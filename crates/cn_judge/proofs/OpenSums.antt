@@ -1,4 +1,4 @@
--- The three facts of a walk from the right.
+-- The three facts about a walk from the right: its open units, its sum and its groups.
 use Rattle.std.proofs.Common.{◌≡◌, ℕ, ◌+◌, ◌*◌, ◌≤◌, Bool, true, false, nat_le, nat_lt, List, [], ◌∷◌, map, take_while, find, refl, sym, ap, ◌∙◌, arith, if◌then◌else◌}
 use Rattle.std.proofs.lemmas.Bool.Decides.{nat_tests}
 use Rattle.std.proofs.lemmas.List.Sums.{take_while-cons}
@@ -34,7 +34,7 @@ left-ranks : (limit : ℕ) (opens : List StackEntry)
 left-ranks limit [] = refl
 left-ranks limit (top ∷ opens) = grind (arith, nat_tests, left-ranks limit opens)
 
--- the open ranks are the record units, nearest first
+-- the open units are the record units, the nearest first
 pub opens-records : (method : ChineseCountMethod) (marks : List Mark)
     → ranks_of (opens_of method marks) ≡ records_from 0 marks
 opens-records method [] = refl
@@ -70,7 +70,7 @@ scaled-opens method (other ∷ rest) = scaled-opens method rest
 scaled-opens method (unit rank ∷ rest) =
     (refl, scaled-left method (rank + 1) (opens_of method rest) (scaled-opens method rest))
 
--- a sum carries through what closes
+-- a sum passes through the closing of all units
 total-add : (method : ChineseCountMethod) (opens : List StackEntry) (sum more : ℕ)
     → AreScaled method opens
     → total_sum (sum + more) opens ≡ total_sum sum opens
@@ -87,7 +87,7 @@ total-closed limit [] sum = refl
 total-closed limit (top ∷ opens) sum =
     grind (arith, nat_tests, total-closed limit opens (sum * top.1 + top.2))
 
--- closing all gives the value
+-- closing all units gives the value of the marks
 pub total-value : (method : ChineseCountMethod) (marks : List Mark)
     → total_sum (sum_of marks) (opens_of method marks) ≡ value method marks
 total-value method [] = refl
@@ -101,14 +101,15 @@ total-value method (unit rank ∷ rest) =
     ap (λ sum. total_sum sum (still_open (rank + 1) (opens_of method rest))) (omega arith)
     ∙ total-closed (rank + 1) (opens_of method rest) (sum_of rest) ∙ total-value method rest
 
--- closing further
+-- closing the units below one rank and then those below a higher rank is the same as closing the
+-- latter at once
 closed-closed : (low high : ℕ) (opens : List StackEntry) (sum : ℕ) → low ≤ high
     → closed_sum high (closed_sum low sum opens) (still_open low opens) ≡ closed_sum high sum opens
 closed-closed low high [] sum h = refl
 closed-closed low high (top ∷ opens) sum h =
     grind (arith, nat_tests, closed-closed low high opens (sum * top.1 + top.2) h)
 
--- what stands before the first unit that is not smaller
+-- the marks before the first unit that is not smaller than this rank
 abbrev pub group : ℕ → List Mark → List Mark
 group rank [] = []
 group rank (mark ∷ rest) = if is_below rank mark then mark ∷ group rank rest else []
@@ -154,7 +155,7 @@ closed-add method limit (top ∷ opens) sum more h =
           rw (same, ih, ← (h.0)) (grind arith)
       by false ih = omega arith
 
--- closing what is smaller gives the value of what stands before the first unit that is not
+-- closing the smaller units gives the value of the marks before the first unit that is not smaller
 pub closed-group : (method : ChineseCountMethod) (limit : ℕ) (marks : List Mark)
     → closed_sum limit (sum_of marks) (opens_of method marks) ≡ value method (group limit marks)
 closed-group method limit [] = refl
@@ -185,7 +186,7 @@ closed-group method limit (unit rank ∷ rest) =
           rw (none, closed-closed (rank + 1) limit (opens_of method rest) (sum_of rest) low) ih
       by false e ih = refl
 
--- a group counts no more than the whole
+-- the value of a group is at most that of the whole list
 pub group-value : (method : ChineseCountMethod) (limit : ℕ) (marks : List Mark)
     → value method (group limit marks) ≤ value method marks
 group-value method limit marks =
@@ -208,7 +209,7 @@ top-find limit (top ∷ opens) = by (nat_lt top.0 limit) refl (top-find limit op
   by true e ih = let t : nat_le limit top.0 ≡ false = grind (arith, nat_tests) in rw t ih
   by false e ih = let t : nat_le limit top.0 ≡ true = grind (arith, nat_tests) in rw t
 
--- the first unit that is not smaller is the top once the smaller are closed
+-- the first unit that is not smaller is on top after the smaller units are closed
 pub first_not_smaller-top : (method : ChineseCountMethod) (rank : ℕ) (marks : List Mark)
     → first_not_smaller rank marks ≡ top_of (still_open rank (opens_of method marks))
 first_not_smaller-top method rank marks =

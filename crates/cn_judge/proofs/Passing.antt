@@ -1,4 +1,4 @@
--- Characters that are passed over, each by its first byte.
+-- Passing over characters, each by its first byte.
 use Rattle.std.proofs.Common.{◌≡◌, Bool, true, false, ltb, ◌-◌, ◌%◌, ℕ, zero, suc, ◌+◌, ◌/◌, ◌<◌, ◌≤◌, List, [], ◌∷◌, ◌++◌, length, get_or, take, drop, chars, encode_utf8_all, IsUtf8, refl, sym, ap, subst, ◌∙◌, arith, length-append, length-drop, get_or-drop, drop-drop}
 use Rattle.std.specs.Array.{IsFirstChunk}
 use Rattle.std.specs.Int.{w64, from_le_bytes}
@@ -15,7 +15,7 @@ use Rattle.cn_judge.proofs.FirstBytes.{len_low, len_three, starts}
 use Rattle.cn_judge.proofs.Firsts.{chunk-at, firsts-none, firsts-alike, is-character}
 use Rattle.cn_judge.proofs.ThreeBytes.{below}
 
--- this byte stands behind so many characters
+-- the byte at this index follows exactly `count` characters
 pub record Passed (text : List ℕ) (count at : ℕ) : Type 0 where
   pub within : at ≤ length text
   pub few : count ≤ at
@@ -87,7 +87,7 @@ Passed-next text count at len before more size =
     } in
     subst (λ n. Passed text n (at + len)) (omega arith) passed
 
--- the eight bytes from a place on are this number, the first of them lowest
+-- the eight bytes from an index on, with the first byte lowest, are this number
 pub record IsWordAt (bytes : List ℕ) (at word : ℕ) : Type 0 where
   pub within : at + 8 ≤ length bytes
   pub first : get_or bytes (at + 0) 0 ≡ word % 256
@@ -145,7 +145,7 @@ word-threes bytes at word is first fourth seventh =
       third = ap (λ b. b / 16) is.seventh ∙ seventh;
     }
 
--- where each byte of a word is of ASCII, so are those that it stands for
+-- if each byte of a word is ASCII, then so is each of the bytes that the word was loaded from
 pub ascii-at : (bytes : List ℕ) (at word : ℕ) → IsWordAt bytes at word → word % 256 < 128 → word / 256 % 256 < 128
     → word / 65536 % 256 < 128 → word / 16777216 % 256 < 128 → word / 4294967296 % 256 < 128
     → word / 1099511627776 % 256 < 128 → word / 281474976710656 % 256 < 128 → word / 72057594037927936 < 128
@@ -178,7 +178,7 @@ Passed-threes text count at before three =
     subst (λ n. Passed text n (at + 9)) chars
     (subst (λ n. Passed text (count + 1 + 1 + 1) n) bytes all)
 
--- so many bytes of ASCII are as many characters
+-- ASCII bytes are as many characters as bytes
 pub Passed-ascii : (text : List ℕ) (count at many : ℕ) → Passed text count at → at + many ≤ length text
     → ((k : ℕ) → k < many → get_or text (at + k) 0 < 128) → Passed text (count + many) (at + many)
 Passed-ascii text count at zero before within low =
@@ -213,7 +213,7 @@ Passed-end text count at index passed whole end far =
     ∙ ap length (encodes-chars text whole) in
     omega (arith, passed.within, end, whole-text)
 
--- no character begins within another
+-- no character begins inside another
 begins-behind : (text : List ℕ) (count at place : ℕ) → Passed text count at → at < place → place ≤ length text
     → (place < length text → first_count (get_or text place 0) ≡ 1)
     → at + (continuation_len (get_or text at 0) + 1) ≤ place
@@ -244,7 +244,7 @@ passed-here : (text : List ℕ) (count at place : ℕ) → Passed text count at 
 passed-here text count at place passed here =
     subst (λ n. Passed text (firsts text n) n) here (subst (λ n. Passed text n at) (sym passed.begun) passed)
 
--- in front of a place where a character begins stand as many as begin in the bytes there
+-- the characters before an index at which one begins are as many as the first bytes before it
 passed-on : (text : List ℕ) (steps count at place : ℕ) → Passed text count at → at ≤ place
     → place ≤ at + steps → place ≤ length text → (place < length text → first_count (get_or text place 0) ≡ 1)
     → Passed text (firsts text place) place
@@ -270,7 +270,7 @@ pub Passed-start : (text : List ℕ) (count at : ℕ) → IsUtf8 text → count 
 Passed-start text count at whole none here =
     subst (λ n. Passed text n at) (sym none) (subst (λ n. Passed text 0 n) (sym here) (Passed-none text whole))
 
--- what is passed by first bytes
+-- characters that are counted by their first bytes are passed
 pub Passed-by : (bytes text : List ℕ) (many place left passed count : ℕ) → bytes ≡ text → IsUtf8 text
     → PassesFirsts bytes many place left → (place < length bytes → first_count (get_or bytes place 0) ≡ 1)
     → passed ≡ place → count ≡ many - left → Passed text count passed
@@ -281,7 +281,7 @@ Passed-by bytes text many place left passed count same whole next begins here co
     let all : firsts text place ≡ count = omega (arith, counted, next.counted, ap (λ l. firsts l place) same) in
     subst (λ n. Passed text count n) (sym here) (subst (λ n. Passed text n place) all there)
 
--- a text that begins with ASCII
+-- a text that begins with an ASCII byte
 front-ascii : (bytes : List ℕ) → 0 < length bytes → get_or bytes 0 0 < 128
     → bytes ≡ encode (get_or bytes 0 0) ++ drop 1 bytes
 front-ascii [] some low = absurd (omega (arith, some))

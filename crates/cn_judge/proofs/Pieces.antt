@@ -1,4 +1,4 @@
--- Where a place of a text stands in the string.
+-- The char_index in the string of a place of a text.
 use Rattle.std.proofs.Common.{◌≡◌, ℤ, ℕ, zero, suc, ◌+◌, Bool, true, false, List, [], ◌∷◌, ◌++◌, length, filter, chars, drop, Ok, Err, Result, refl, sym, ap, ◌∙◌, arith, append_assoc, length-append, add-zero, zero-add, Option}
 use Rattle.std.proofs.Math.Seq.{drop-append_seam}
 use Rattle.std.specs.Char.{is_whitespace, is_not_whitespace}
@@ -14,7 +14,7 @@ use Rattle.cn_judge.specs.Piece.{StandsAt, EndsWith, answer_at}
 use Rattle.cn_judge.specs.Signed.{signed_answer}
 use Rattle.cn_judge.proofs.Walking.{filter-append}
 
--- one character further
+-- the char_index after one more character
 char_index-white : (c : ℕ) (rest : List ℕ) (place : ℕ) → is_whitespace c ≡ true
     → char_index_among (c ∷ rest) place ≡ suc (char_index_among rest place)
 char_index-white c rest zero white = rw white
@@ -28,7 +28,7 @@ char_index-here : (c : ℕ) (rest : List ℕ) → is_whitespace c ≡ false
     → char_index_among (c ∷ rest) 0 ≡ 0
 char_index-here c rest dark = rw dark
 
--- what stands in front is counted
+-- the characters of a prefix are all counted
 char_index-front : (front rest : List ℕ) (place : ℕ)
     → char_index_among (front ++ rest) (place + length (filter is_not_whitespace front))
     ≡ length front + char_index_among rest place
@@ -47,7 +47,7 @@ char_index-front (c ∷ front) rest place =
           ≡ suc (place + length (filter is_not_whitespace front)) = omega arith in
           rw (dark, next, char_index-dark c (front ++ rest) _ dark, ih) (omega arith)
 
--- the place of a character, in the string
+-- the char_index of the character at a place
 pub char_index-at : (bytes rest : List ℕ) (c index place : ℕ)
     → StandsAt bytes (c ∷ rest) index place → is_whitespace c ≡ false
     → char_index_of bytes place ≡ index
@@ -57,7 +57,7 @@ char_index-at bytes rest c index place at dark =
     ∙ ap (λ n. length at.front + n) (char_index-here c rest dark) ∙ add-zero (length at.front)
     ∙ at.index_is)
 
--- one character is passed
+-- one more character is passed
 pub StandsAt-white : (bytes rest : List ℕ) (c index place : ℕ)
     → StandsAt bytes (c ∷ rest) index place → is_whitespace c ≡ true
     → StandsAt bytes rest (index + 1) place
@@ -83,7 +83,7 @@ StandsAt-dark bytes rest c index place at dark = record {
       at.place_is in omega (arith, i, length-append (filter is_not_whitespace at.front) (c ∷ [])));
 }
 
--- the text of an end
+-- the text of a suffix
 pub text_of-rest : (bytes rest : List ℕ) (index place : ℕ)
     → StandsAt bytes (chars rest) index place → drop place (text_of bytes) ≡ text_of rest
 text_of-rest bytes rest index place at =
@@ -93,14 +93,14 @@ text_of-rest bytes rest index place at =
       ← at.place_is,
     ) (drop-append_seam (filter is_not_whitespace at.front) (text_of rest))
 
--- a place after the front
+-- the char_index of a place after a prefix
 pub char_index-rest : (bytes rest : List ℕ) (index place p : ℕ)
     → StandsAt bytes (chars rest) index place
     → char_index_of bytes (p + place) ≡ index + char_index_of rest p
 char_index-rest bytes rest index place p at =
     rw (at.parts, ← at.place_is, ← at.index_is) (char_index-front at.front (chars rest) p)
 
--- the answer for a type, from the answer to what follows the sign
+-- the answer for a type, from the answer to the text after the sign
 pub typed-rest : (kind : Kind) (bytes rest : List ℕ) (skipped : ℕ) (sign : Option Sign)
     (judged : Result ℕ Refusal)
     → StandsAt bytes (chars rest) skipped (sign_len sign)
@@ -113,7 +113,7 @@ typed-rest kind bytes rest skipped sign (Err (incorrect_at place)) at =
     ap (λ n. Err (incorrect_at n))
     (sym (char_index-rest bytes rest skipped (sign_len sign) place at))
 
--- what is answered of a string, from its sign and the judgement of what follows it
+-- the answer to a string, from its sign and the judgement of the text after it
 pub Reads-signed : (kind : Kind) (method : ChineseCountMethod) (bytes rest : List ℕ) (skipped : ℕ)
     (signed : Bool) (sign : Option Sign) (judged : Result ℕ Refusal) (answer : Result ℤ Refusal)
     → kind.signed ≡ signed → sign ≡ leading_sign signed (text_of bytes)

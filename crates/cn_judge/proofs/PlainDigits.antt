@@ -1,4 +1,4 @@
--- Plain digits, read from left to right.
+-- Reading plain digits from left to right.
 use Rattle.std.proofs.Common.{Bool, chars, ◌≡◌, ℕ, zero, suc, ◌+◌, ◌*◌, ◌^◌, ◌<◌, ◌≤◌, true, false, nat_le, List, [], ◌∷◌, ◌++◌, length, take, drop, Some, None, Err, refl, sym, ap, ◌∙◌, arith, add-one, ◌≢◌, length-drop, ◌==◌}
 use Rattle.std.proofs.lemmas.Bool.Decides.{nat_tests}
 use Rattle.std.proofs.lemmas.List.Sums.{fold-append}
@@ -13,7 +13,7 @@ use Rattle.cn_judge.proofs.Walking.{digit-dark}
 use Rattle.std.specs.Char.{is_whitespace}
 use Rattle.cn_core.specs.Refusal.{Refusal, incorrect_at, too_large}
 
--- one more mark taken
+-- one more mark is read
 taken : (place : ℕ) (marks rest : List Mark) (mark : Mark) → drop place marks ≡ mark ∷ rest
     → (take (suc place) marks ≡ take place marks ++ mark ∷ []) × (drop (suc place) marks ≡ rest)
 taken zero [] rest mark h = cc
@@ -39,7 +39,7 @@ ahead_within : (place : ℕ) (marks rest : List Mark) (mark : Mark) → drop pla
 ahead_within place marks rest mark h = let size : length (drop place marks) ≡ length rest + 1 =
     rw (h, add-one) in omega (arith, size, length-drop place marks)
 
--- where a text stands after some digits
+-- the state after some digits: the marks that are left, and the number of the digits
 pub record HasRead (marks rest : List Mark) (place number : ℕ) : Type 0 where
   pub within : place ≤ length marks
   pub ahead : drop place marks ≡ rest
@@ -90,8 +90,8 @@ HasRead-sum : (marks rest : List Mark) (place number value total : ℕ)
 HasRead-sum marks rest place number value total read e small =
     rw e (HasRead-digit marks rest place number value read (rw (← e) small))
 
--- where a string stands of which some characters are read, the last of them before this index of
--- the caller's string
+-- the state of the reader in a string; the character that it reads next has this char_index in the
+-- caller's string
 pub record IsReading (skipped : ℕ) (bytes ahead : List ℕ) (char_index number : ℕ)
     (is_empty : Bool) : Type 0 where
   pub index : ℕ
@@ -117,14 +117,14 @@ IsReading-white skipped bytes ahead after char_index number c is_empty r parts w
       empty_is = r.empty_is;
     }
 
--- what is ahead, where the next character is none
+-- the marks of the rest, if the next character is not white space
 ahead-dark : (ahead after : List ℕ) (c : ℕ) (mark : Mark) → chars ahead ≡ c ∷ chars after
     → is_whitespace c ≡ false → mark ≡ mark_of c
     → marks_of (text_of ahead) ≡ mark ∷ marks_of (text_of after)
 ahead-dark ahead after c mark parts dark same =
     rw (parts, dark) (ap (λ m. m ∷ marks_of (text_of after)) (sym same))
 
--- it is a digit
+-- the next character is a digit, and the number fits
 pub IsReading-digit : (skipped : ℕ) (bytes ahead after : List ℕ)
     (char_index number c value total : ℕ) (is_empty : Bool)
     → IsReading skipped bytes ahead char_index number is_empty
@@ -144,7 +144,7 @@ IsReading-digit skipped bytes ahead after char_index number c value total is_emp
       empty_is = grind (arith, nat_tests);
     }
 
--- one that makes the number too great
+-- the next character is a digit, and the number does not fit
 pub IsReading-great : (skipped : ℕ) (bytes ahead after : List ℕ) (char_index number c value : ℕ)
     (is_empty : Bool) → IsReading skipped bytes ahead char_index number is_empty
     → chars ahead ≡ c ∷ chars after → digit value ≡ mark_of c → 2 ^ 128 ≤ number * 10 + value
@@ -161,7 +161,7 @@ no_digit marks rest (unit rank) place number read none =
     some_marks marks (incorrect_at place) read.faults
 no_digit marks rest other place number read none = some_marks marks (incorrect_at place) read.faults
 
--- it is neither white space nor a digit
+-- the next character is neither white space nor a digit
 pub IsReading-incorrect : (skipped : ℕ) (bytes ahead after : List ℕ) (char_index number c : ℕ)
     (mark : Mark) (is_empty : Bool) → IsReading skipped bytes ahead char_index number is_empty
     → chars ahead ≡ c ∷ chars after → is_whitespace c ≡ false → mark ≡ mark_of c

@@ -1,4 +1,4 @@
--- Characters that do not take three bytes: of these the ASCII digits alone are marks.
+-- Of the characters whose UTF-8 is not three bytes long, only the ASCII digits are digits or units.
 use Rattle.std.proofs.Common.{◌≡◌, ◌⊎◌, inl, inr, ℕ, ◌+◌, ◌-◌, ◌<◌, ◌≤◌, nat_le, nat_lt, ◌&&◌, ◌||◌, Bool, true, false, refl, ◌∙◌, subst, arith}
 use Rattle.std.specs.Char.{is_ascii_digit}
 use Rattle.std.specs.List.{list_all, range_with_len}

@@ -14,14 +14,14 @@ use Rattle.cn_judge.proofs.Faults.{or_cases}
 use Rattle.cn_judge.proofs.ThreeBytes.{below, bytes_by, encode-by}
 use Rattle.cn_judge.proofs.Walking.{chars-back}
 
--- white space below U+0800
+-- white space characters below U+0800
 abbrev is_small : ℕ → Bool
 is_small c = (((nat_lt 8 c && nat_lt c 14) || c == 32) || c == 133) || c == 160
 
 abbrev is_continuation : ℕ → Bool
 is_continuation b = nat_lt 127 b && nat_lt b 192
 
--- white space of three bytes, by its code, which these three bytes have
+-- a white space character of three bytes, by its code, of which these are the bytes
 three-white : (a b d c : ℕ) → 128 ≤ b → b < 192 → 128 ≤ d → d < 192
     → c + 925824 ≡ a * 4096 + b * 64 + d → 2048 ≤ c → is_whitespace c ≡ true
     → is_three_byte_space a b d ≡ true
@@ -70,7 +70,7 @@ three-same a b d c p q r t sum large = by (is_three_byte_space a b d) (is_whites
   by false false is white = refl
   by false true is white = sym is ∙ three-white a b d c p q r t sum large white
 
--- bytes that are no white space, by one of them
+-- one byte can show that the bytes are not white space
 not-ascii : (b : ℕ) → 128 ≤ b → is_ascii_space b ≡ false
 not-ascii b high = grind (arith, nat_tests, high)
 
@@ -86,7 +86,7 @@ not-middle a b d high = grind (arith, nat_tests, high)
 not-behind : (a b d : ℕ) → d < 128 → (is_two_byte_space b d ≡ false) × (is_three_byte_space a b d ≡ false)
 not-behind a b d low = (grind (arith, nat_tests, low), grind (arith, nat_tests, low))
 
--- white space by the bytes of its code
+-- a character is white space exactly if its bytes are
 ascii-same : (c : ℕ) → c < 128 → is_ascii_space c ≡ is_whitespace c
 ascii-same c small = grind (arith, nat_tests, small)
 
@@ -122,7 +122,7 @@ first-space c rest = rw (encode-by c) (by (ltb c 128) (ltb c 2048) (ltb c 65536)
   by false false false p q r =
       let large = ltb-false c 65536 r in grind (arith, nat_tests, large)
 
--- white space comes first, of so many bytes
+-- the first character is white space and has `len` bytes
 pub record BeginsSpace (text : List ℕ) (len : ℕ) : Type 0 where
   pub code : ℕ
   pub white : is_whitespace code ≡ true
@@ -177,7 +177,7 @@ begins-dark text whole none c rest parts =
     dark-by (is_whitespace c) c
     (sym (first-space c (encode_utf8_all rest)) ∙ ap first_space_len (sym front) ∙ none)
 
--- the last character
+-- the last character of a text
 record LastChar (text : List ℕ) : Type 0 where
   pub code : ℕ
   pub front : List ℕ
@@ -262,7 +262,7 @@ last-space front c = rw (encode-by c) (by (ltb c 128) (ltb c 2048) (ltb c 65536)
       let third = at (bytes_by false false false c) 3 1 refl in
       grind (arith, nat_tests, large, first, second, third)
 
--- white space comes last, of so many bytes
+-- the last character is white space and has `len` bytes
 pub record EndsSpace (text : List ℕ) (len : ℕ) : Type 0 where
   pub code : ℕ
   pub white : is_whitespace code ≡ true

@@ -1,4 +1,4 @@
--- The open units in an array.
+-- The open units as they are stored in an array.
 use Rattle.std.proofs.Common.{◌≡◌, ℕ, nat_lt, Bool, Some, None, if◌then◌else◌, zero, suc, ◌+◌, ◌*◌, ◌^◌, ◌<◌, ◌≤◌, true, false, nat_le, List, [], ◌∷◌, length, slice_index_or, slice_set, refl, ap, arith, add-one}
 use Rattle.std.proofs.lemmas.Grind.{common_steps}
 use Rattle.cn_core.specs.declared.method.ChineseCountMethod.{ChineseCountMethod}
@@ -47,7 +47,7 @@ stacked-push meaning none entries len e h = rw (
 some_same : (a b : ℕ) → Some a ≡ Some b → a ≡ b
 some_same a b h = cc
 
--- closing never lowers a sum
+-- closing a unit never lowers the sum
 sum_grows : (sum size more : ℕ) → 0 < size → sum ≤ sum * size + more
 sum_grows sum size more h = grind arith
 
@@ -120,7 +120,7 @@ pub some_entries : (entries : List OpenUnit) (len : ℕ) (units : List StackEntr
 some_entries entries len units is some = let same =
     ap length is in omega (arith, same, length-stacked opened_at no_unit entries len, some)
 
--- an entry whose scale fits leaves all fitting
+-- if all scales fit, they still do after one entry is replaced by an entry whose scale fits
 pub scales-set : (entries : List OpenUnit) (i : ℕ) (e : OpenUnit) → e.exponent ≤ 38
     → all_scales_fit entries ≡ true → all_scales_fit (slice_set entries i e) ≡ true
 scales-set [] i e fits h = h

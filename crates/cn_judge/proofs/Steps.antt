@@ -1,4 +1,4 @@
--- One step of the walk: which fault a mark has, by what the walk holds.
+-- One step of the walk: the fault of a mark, given the state of the walk.
 use Rattle.std.proofs.Common.{◌≡◌, ◌≢◌, ℕ, suc, ◌+◌, ◌*◌, ◌^◌, ◌<◌, Bool, true, false, not, ◌&&◌, ◌||◌, nat_le, nat_lt, ◌==◌, List, [], ◌∷◌, length, Option, Some, None, refl, sym, ap, ◌∙◌, arith, if◌then◌else◌}
 use Rattle.std.proofs.lemmas.List.{length-map}
 use Rattle.std.specs.Option.{option_map_or}
@@ -18,7 +18,7 @@ use Rattle.cn_judge.specs.Private.Stack.{StackEntry, closed_sum, still_open, top
 use Rattle.cn_judge.proofs.OpenSums.{group, take_while-group, closed-group, first_not_smaller-top, opens-records, ranks_of}
 use Rattle.cn_judge.proofs.Faults.{faults_by, faults-at, is_early_at}
 
--- where the walk found no fault, the rules hold and nothing overflows
+-- if the walk found no fault, the rules hold and nothing overflows
 pub record IsSound (method : ChineseCountMethod) (marks : List Mark) : Type 0 where
   pub each : each_may_precede marks ≡ true
   pub fit : some_unfit method marks ≡ false
@@ -50,7 +50,7 @@ sound-none method marks h = by (each_may_precede marks) (some_unfit method marks
       by false o true p q h = cc
       by false o false p q h = cc
 
--- a unit's rule on a unit after it
+-- the rule on a unit directly before a unit
 pub multiplies-leading : (u : ℕ) (marks : List Mark)
     → multiplies_upwards (unit u) marks ≡ multiplies_by u (leading_rank marks)
 multiplies-leading u [] = refl
@@ -58,7 +58,7 @@ multiplies-leading u (digit n ∷ rest) = refl
 multiplies-leading u (unit n ∷ rest) = refl
 multiplies-leading u (other ∷ rest) = refl
 
--- closing what is smaller overflows exactly where the definition says so
+-- closing the smaller units overflows exactly if the definition says so
 upwards : (u v : ℕ) → (nat_lt u v || (u == 1 && v == 0)) ≡ true → nat_lt v u ≡ true
     → (u ≡ 1) × (v ≡ 0)
 upwards u v h less = by (nat_lt u v) (u == 1) (v == 0) refl refl refl h where
@@ -105,7 +105,7 @@ overflowing-closed method u (unit v ∷ rest) e h =
     sym (ap (nat_le (2 ^ 128)) (closed-group method u (unit v ∷ rest)
     ∙ group_of_units method u v rest e h))
 
--- 個 counts a unit
+-- 個 is directly before a greater unit
 counts-leading : (u : ℕ) (marks : List Mark) → multiplies_by u (leading_rank marks) ≡ true
     → leading_rank marks ≢ None → counts_a_unit (unit u) marks ≡ true
 counts-leading u [] h some = absurd (some refl)
@@ -135,7 +135,7 @@ counts-either u marks h some = by (u == 0) refl where
   by true e = counts-leading u marks h (some (grind (arith, nat_tests)))
   by false e = counts-some u marks (grind (arith, nat_tests))
 
--- the rules on a unit, by the top that is left open
+-- the rules on a unit, given the unit that is on top after the smaller ones are closed
 abbrev pub above : ℕ → Option ℕ → Bool
 above rank top = option_map_or (λ next. nat_lt rank next) top true
 
@@ -178,7 +178,7 @@ closed-next u (top ∷ opens) sum h = by (nat_lt top.0 u) refl h
           let other : top.0 ≢ u = λ same. h (ap Some same) in
           let t : nat_lt top.0 (u + 1) ≡ false = grind (arith, nat_tests) in rw t (refl, refl)
 
--- what the walk holds once the unit is open
+-- the open units after a unit is opened
 pub opens-next : (method : ChineseCountMethod) (u : ℕ) (marks : List Mark)
     → top_of (still_open u (opens_of method marks)) ≢ Some u
     → opens_of method (unit u ∷ marks) ≡ (
@@ -189,7 +189,7 @@ pub opens-next : (method : ChineseCountMethod) (u : ℕ) (marks : List Mark)
 opens-next method u marks h = let n =
     closed-next u (opens_of method marks) (sum_of marks) h in rw (n.0, n.1)
 
--- there is room for one more
+-- the array has space for one more unit
 pub opens-room : (method : ChineseCountMethod) (u : ℕ) (marks : List Mark) → in_ranks marks ≡ true
     → u < 16 → top_of (still_open u (opens_of method marks)) ≢ Some u
     → length (still_open u (opens_of method marks)) < 16
@@ -208,7 +208,7 @@ opens-room method u marks low small h =
     ap length (opens-next method u marks h) in
     omega (arith, all, same, mapped, next)
 
--- the steps at a unit
+-- the cases of a step at a unit
 pub unit-past : (method : ChineseCountMethod) (u : ℕ) (marks : List Mark) → IsSound method marks
     → multiplies_by u (leading_rank marks) ≡ true
     → ¬ (closed_sum u (sum_of marks) (opens_of method marks) < 2 ^ 128)

@@ -1,4 +1,4 @@
--- The rule on the last mark, over the answer to the list without it.
+-- The rule on the last mark, in terms of the answer to the list without it.
 use Rattle.std.proofs.Common.{◌≡◌, ℕ, ◌+◌, ◌-◌, ◌*◌, ◌/◌, ◌^◌, ◌<◌, Bool, true, false, not, ◌&&◌, ◌||◌, nat_le, nat_lt, ◌==◌, List, [], ◌∷◌, ◌++◌, length, length-append, reverse, take, Some, Result, Ok, Err, is_ok, refl, sym, ap, ap₂, ◌∙◌, arith, if◌then◌else◌}
 use Rattle.std.specs.Option.{option_map_or}
 use Rattle.std.proofs.lemmas.Bool.Decides.{nat_tests}
@@ -28,7 +28,7 @@ take-last front s l =
     let less : length (front ++ s ∷ l ∷ []) - 1 ≡ length front + 1 = omega (arith, long) in
     ap (λ n. take n (front ++ s ∷ l ∷ [])) less ∙ take-append-add front (s ∷ l ∷ []) 1
 
--- a list of three marks or more, by its last two
+-- the body of a list of at least three marks, by its last two marks
 body-tail : (x : Mark) (xs : List Mark) (s l : Mark)
     → body (x ∷ xs ++ s ∷ l ∷ []) ≡ x ∷ xs ++ s ∷ (if is_tail s l then [] else l ∷ [])
 body-tail x xs s l =
@@ -44,7 +44,7 @@ body-tail x xs s l =
       by true = take-last (x ∷ xs) s l
       by false = refl
 
--- a list that ends with a unit, with and without a digit after it
+-- a list that ends with a unit, with and without a digit after the unit
 records-tail : (least : ℕ) (xs : List Mark) (r d : ℕ)
     → records_from least (xs ++ unit r ∷ digit d ∷ []) ≡ records_from least (xs ++ unit r ∷ [])
 records-tail least [] r d = refl
@@ -142,7 +142,7 @@ each-tail (m ∷ x ∷ xs) r d =
     (λ k. first-tail k (x ∷ xs) r d))
     ∙ ap (λ b. may_precede m (x ∷ xs ++ unit r ∷ []) && b) (each-tail (x ∷ xs) r d)
 
--- the first mark as it is read there
+-- the first mark of a list, with 十 replaced by the digit ten
 abbrev pub first_read : Mark → Mark
 first_read (unit rank) = if rank == 1 then digit 10 else unit rank
 first_read mark = mark
@@ -175,12 +175,12 @@ unfit-tail : (method : ChineseCountMethod) (xs : List Mark) (r d : ℕ)
 unfit-tail method [] r d = refl
 unfit-tail method (x ∷ xs) r d = ap (λ b. is_unfit method x || b) (unfit-tail method xs r d)
 
--- the answer by a list's body
+-- the answer in terms of the list and its body
 abbrev by_body : ChineseCountMethod → List Mark → List Mark → Result ℕ Refusal
 by_body method marks body = if is_numeral marks then numeral_answer method marks
     else (if is_numeral body then last_mark_answer method marks else judge_body method body)
 
--- a list with no mark apart is judged as it stands
+-- a list without a tail is judged as a whole
 body_kept : (method : ChineseCountMethod) (x : Mark) (rest : List Mark) → body (x ∷ rest) ≡ x ∷ rest
     → (starts_with_digit (first_read x ∷ rest) ≡ true
     → colloquial_value method (first_read x ∷ rest) ≡ value method (first_read x ∷ rest))
@@ -214,7 +214,7 @@ judge-one method x = body_kept method x [] refl (one (first_read x)) where
   one (unit n) h = refl
   one other h = refl
 
--- of two marks the first is no unit, or the list is no numeral
+-- in a list of two marks, the first is not a unit, or the list is not a numeral
 pub judge-two : (method : ChineseCountMethod) (x y : Mark)
     → judge method (x ∷ y ∷ []) ≡ plain method (x ∷ y ∷ [])
 judge-two method x y = body_kept method x (y ∷ []) refl (two (first_read x) y) where
@@ -302,7 +302,7 @@ digit_tail method x xs r d place h =
           (value method (with_first_digit (x ∷ xs ++ unit r ∷ [])))
       by false number = body_refused method place r (digit d) (x ∷ xs ++ unit r ∷ [])
 
--- a mark that may stand before nothing ends no numeral
+-- a list is not a numeral if its last mark may not be before the empty list
 numeral-end : (x : Mark) (xs : List Mark) (s l : Mark) → may_precede l [] ≡ false
     → is_numeral (x ∷ xs ++ s ∷ l ∷ []) ≡ false
 numeral-end x xs s l h = by (is_numeral (x ∷ xs ++ s ∷ l ∷ [])) refl where
@@ -356,7 +356,7 @@ last_stop method x xs r place l h at_place stop =
       by true false false number = refl
       by false u t number = body_refused method place r l (x ∷ xs ++ unit r ∷ [])
 
--- a list whose last mark stands apart
+-- a list with a tail
 pub judge-tail : (method : ChineseCountMethod) (x : Mark) (xs : List Mark) (r : ℕ) (l : Mark)
     (place : ℕ) → is_tail (unit r) l ≡ true
     → place ≡ length (x ∷ xs ++ unit r ∷ l ∷ []) - 1

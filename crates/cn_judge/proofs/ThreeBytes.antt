@@ -1,4 +1,4 @@
--- Characters of three bytes, by what the bytes add up to.
+-- Characters of three bytes, by a sum of their bytes.
 use Rattle.std.proofs.Common.{◌≡◌, ℕ, ◌+◌, ◌-◌, ◌*◌, ◌/◌, ◌%◌, ◌<◌, ◌≤◌, Bool, true, false, cond, ltb, List, [], ◌∷◌, ◌++◌, length, get_or, take, drop, chars, encode_utf8, IsUtf8, refl, sym, ap, ◌∙◌, subst, arith, append-nil, add-zero, length-drop}
 use Rattle.std.specs.Int.{w32, from_le_bytes}
 use Rattle.std.specs.Str.{IsCharBoundary}
@@ -14,7 +14,7 @@ use Rattle.cn_judge.specs.Marked.{key_of}
 use Rattle.cn_judge.specs.Private.FirstKey.{EndsWithKey, StartsWithKey}
 use Rattle.cn_judge.proofs.Walking.{chars-back}
 
--- a character's bytes, by which of the three bounds it is below
+-- the bytes of a character, given which of the three bounds it is below
 abbrev pub bytes_by : Bool → Bool → Bool → ℕ → List ℕ
 bytes_by x y z c =
     cond x (c ∷ []) (cond y ((192 + c / 64) ∷ next c ∷ [])
@@ -81,7 +81,7 @@ starts-three bytes whole some low short = by whole.0 whole.1.0 whole.1.1 where
         rest = subst IsUtf8 (sym cut) (IsUtf8-past_char bytes (encodes cs) c whole (sym e));
       }
 
--- the first character
+-- the first character of a text
 pub first-starts : (bytes : List ℕ) (a : ℕ) → IsUtf8 bytes → 3 ≤ length bytes → a ≡ get_or bytes 0 0
     → 224 ≤ a → a < 240 → StartsWithThree bytes
 first-starts bytes a whole long p low high =
@@ -128,7 +128,7 @@ first-key bytes text same utf8 long p q key is kind =
     } in
     subst (λ l. StartsWithKey l key) same starts
 
--- the last character
+-- the last character of a text
 at-start : (bytes : List ℕ) (start : ℕ) → get_or (drop start bytes) 0 0 ≡ get_or bytes start 0
 at-start bytes start = get_or-drop start bytes 0 0 ∙ ap (λ n. get_or bytes n 0) (add-zero start)
 
@@ -208,7 +208,7 @@ last-key bytes text start same utf8 long p q key is kind =
     } in
     subst (λ l. EndsWithKey l key) same ends
 
--- a key by its bytes, the first of them lowest
+-- the bytes of a key, with the first byte lowest
 pub record HasBytes (key a b d : ℕ) : Type 0 where
   pub one : key % 256 ≡ a
   pub two : key / 256 % 256 ≡ b
@@ -222,7 +222,7 @@ key-bytes a b d p q = record {
       omega (arith, p, q);
 }
 
--- the last four bytes without the first of them
+-- the last three of the last four bytes
 pub word-bytes : (bytes four : List ℕ) (front start word : ℕ) → ((i : ℕ) → get_or bytes i 0 < 256)
     → start ≡ front + 1 → four ≡ drop front bytes → word ≡ from_le_bytes w32 four
     → HasBytes (word / 256) (get_or bytes start 0) (get_or bytes (start + 1) 0)

@@ -1,4 +1,4 @@
--- Units compare as their ranks do.
+-- Units are ordered as their ranks are.
 use Rattle.std.proofs.Common.{◌≡◌, ℕ, ◌<◌, false, nat_le, Some, refl, ap, ◌∙◌, arith}
 use Rattle.std.proofs.lemmas.Bool.Decides.{nat_tests}
 use Rattle.std.specs.Ordering.{nat_cmp, partial_ge, is_some_and, is_ge}

@@ -1,4 +1,4 @@
--- The steps of the walk, over what its state says.
+-- The steps of the walk, in terms of its state.
 use Rattle.std.proofs.Common.{◌≡◌, ◌≢◌, ◌↔◌, ℕ, ◌+◌, ◌^◌, ◌<◌, Bool, true, false, List, [], ◌∷◌, length, Option, Some, None, refl, sym, ap, ◌∙◌, arith, if◌then◌else◌, ◌++◌, append_assoc, filter, chars, Result, Ok, Err, subst}
 use Rattle.std.specs.Result.{IsErr, IsErrAnd, MatchResult}
 use Rattle.cn_core.specs.declared.method.ChineseCountMethod.{ChineseCountMethod}
@@ -23,7 +23,7 @@ use Rattle.cn_judge.specs.Private.Walked.{IsWalked}
 use Rattle.cn_judge.proofs.Stacks.{positive-opens}
 use Rattle.cn_judge.proofs.Steps.{sound-none, unit-past, unit-alone, unit-same, unit-step, opens-next, opens-room}
 
--- what the tests on the way say of the marks
+-- what the results of the tests say about the marks
 leading : (u : ℕ) (marks : List Mark) {a b : Option ℕ} → a ≡ b → b ≡ leading_rank marks
     → true ≡ multiplies_by u a → multiplies_by u (leading_rank marks) ≡ true
 leading u marks p q h = sym (ap (multiplies_by u) (p ∙ q)) ∙ sym h
@@ -146,7 +146,7 @@ walked-room method u sum units after next low gives top walked w =
     let same = ap length (left_same method u walked sum units after next gives w) in
     omega (arith, room, same)
 
--- a fault stays, and its place counts what stands before it
+-- a fault stays a fault with marks before it, and its place grows by their number
 past-front : (method : ChineseCountMethod) (front marks : List Mark)
     → faults method marks ≡ Some too_large → faults method (front ++ marks) ≡ Some too_large
 past-front method [] marks h = h
@@ -183,21 +183,22 @@ walked-digit method c value sum total units next walked is w h = record {
       w.sound ∙ h.0);
 }
 
--- a fault that is handed on
+-- a fault that is passed on unchanged
 pub handed-on : {A : Type 0} (r : Result A Fault) (fault : Fault) (Right : A → Type 0)
     (Wrong : Fault → Type 0)
     → IsErr r × IsErrAnd r (λ f. f ≡ fault) → Wrong fault → MatchResult r Right Wrong
 handed-on (Ok a) fault Right Wrong h w = absurd h.1
 handed-on (Err f) fault Right Wrong h w = subst Wrong (sym h.1) w
 
--- where a walk stands in a string of which this piece is still ahead
+-- the state of a walk in a string, of which the piece `ahead` is not read yet
 pub record HasWalked (method : ChineseCountMethod) (bytes ahead : List ℕ) (sum : ℕ)
     (units : List StackEntry) (next : Option ReadMark) : Type 0 where
   pub after : List ℕ
   pub parts : chars bytes ≡ chars ahead ++ after
   pub state : IsWalked method (filter is_not_whitespace after) sum units next
 
--- a step from the back: what stands after the character, less white space, is what was walked
+-- a step from the right: the characters after `c` that are not white space are those that were
+-- walked
 pub record EndsAt (bytes before after : List ℕ) (c : ℕ) : Type 0 where
   pub more : List ℕ
   pub parts : chars bytes ≡ chars before ++ c ∷ more
@@ -217,7 +218,7 @@ kept-dark : (c : ℕ) (more after : List ℕ) → is_whitespace c ≡ false
     → filter is_not_whitespace (c ∷ more) ≡ c ∷ filter is_not_whitespace after
 kept-dark c more after dark kept = rw dark (ap (λ l. c ∷ l) kept)
 
--- what a walk meets at fault, as the string's answer has it
+-- the refusal of the string's answer is the fault that the walk finds
 abbrev pub StopsAt : ChineseCountMethod → ℕ → List ℕ → Refusal → Type 0
 StopsAt method skipped bytes refusal =
     (fault : Refusal) × (faults method (marks_of (text_of bytes)) ≡ Some fault)

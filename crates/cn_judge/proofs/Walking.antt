@@ -1,4 +1,4 @@
--- A step over one character, from the front and from the back, and which characters are no white
+-- A step over one character, from the left and from the right, and which characters are not white
 -- space.
 use Rattle.std.proofs.Common.{◌≡◌, ◌≢◌, ℕ, ◌<◌, Bool, true, false, cond, List, [], ◌∷◌, ◌++◌, length, filter, chars, Option, Some, None, refl, sym, ap, ◌∙◌, arith, IsUtf8, append-nil, encode_utf8, encode_utf8_all, get_or, not, ◌==◌, ◌||◌, zero, suc}
 use Rattle.std.specs.List.{list_all}
@@ -21,7 +21,7 @@ chars-back bytes front c whole before parts =
     ∙ ap (λ l. encode_utf8_all (chars front) ++ l) (sym (append-nil (encode_utf8 c)))
     ∙ sym (encodes-append (chars front) (c ∷ [])))
 
--- the last character is the first
+-- if a text has one character, the last is the first
 pub only-back : (bytes after : List ℕ) (c : ℕ) → chars bytes ≡ c ∷ chars after → length after ≡ 0
     → chars bytes ≡ chars after ++ c ∷ []
 only-back bytes after c parts none =
@@ -36,7 +36,7 @@ filter-append p (x ∷ xs) ys = elim (p x) as
     ≡ cond b (x ∷ filter p xs) (filter p xs) ++ filter p ys)
     [ true ↦ ap (λ l. x ∷ l) (filter-append p xs ys) | false ↦ filter-append p xs ys ]
 
--- a member of a row has what each member has
+-- a property of each member of a row
 row_has : (p : ℕ → Bool) (row : List ℕ) (c : ℕ) → list_all p row ≡ true
     → char_set_contains row c ≡ true → p c ≡ true
 row_has p [] c h k = cc
@@ -58,7 +58,7 @@ rows_have p rows c i h e =
     let at = position-Some (λ row. char_set_contains row c) rows i [] e in
     row_has p (get_or rows i []) c (rows_at (list_all p) rows i h at.0) at.1
 
--- what each character of a digit or a unit has, a character that lacks it is neither
+-- a character without a property that each digit and unit character has is neither
 pub outside-mark : (p : ℕ → Bool) (c : ℕ) → list_all (list_all p) digit_rows ≡ true
     → list_all (list_all p) unit_rows ≡ true → p c ≡ false → mark_of c ≡ other
 unfolding digit_of rank_of
@@ -70,7 +70,7 @@ outside-mark p c digits units lacks =
       by None (Some rank) e f = let has = rows_have p unit_rows c rank units f in cc
       by None None e f = refl
 
--- white space is no mark
+-- white space is neither a digit nor a unit
 pub white-mark : (c : ℕ) → is_whitespace c ≡ true → mark_of c ≡ other
 white-mark c white = outside-mark is_not_whitespace c refl refl (ap not white)
 

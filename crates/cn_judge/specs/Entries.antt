@@ -1,8 +1,8 @@
--- A stack that is kept in an array.
+-- A stack that is stored in an array.
 use Rattle.std.specs.Prelude.{ℕ, zero, suc, List, [], ◌∷◌, slice_index_or}
 
--- what the first entries of an array stand for, the last of them first; the entry that is named is
--- one past the end
+-- the meanings of the first `len` entries of an array, the last of them first; `none` is the entry
+-- that is read past the end of the array
 abbrev pub stacked : {Entry Meaning : Type 0} → (Entry → Meaning) → Entry → List Entry → ℕ
     → List Meaning
 stacked meaning none entries zero = []

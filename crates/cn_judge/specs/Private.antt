@@ -1,5 +1,5 @@
--- Words that contracts of private functions alone cite: how a text is taken apart, and where a walk
--- stands.
+-- Definitions that only contracts of private functions cite: how a text is taken apart, and the
+-- state of a walk.
 pub mod FirstKey
 pub mod Firsts
 pub mod PlainPiece

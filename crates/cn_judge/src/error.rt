@@ -1,31 +1,32 @@
-// Why a text is no number of a type.
+// Why a text is not a number of a type.
 use std::fmt;
 
-/// Why a text is no number of a type.
+/// Why a text is not a number of a type.
 ///
-/// The text is first judged without its sign: it is empty, a number, incorrect, or past 128 bits.
-/// Only then is a number compared with what the type holds.
+/// The text without its sign is judged first: it is empty, a number, incorrect, or past 128 bits.
+/// Only then is a number compared with the range of the type.
 #[derive(Debug, Copy, Clone, Eq, PartialEq)]
 pub enum ChineseToNumberError {
-    /// Nothing is left of the text without its white space and, for signed types, one sign: `負` as
-    /// an `i8`.
+    /// The text is empty after white space and, for signed types, one sign are removed: `負` as an
+    /// `i8`.
     ChineseNumberEmpty,
-    /// The text is no numeral or, to a naive reader, not all digits. Of an unsigned type a sign is
-    /// at fault too: `正一` as a `u8`.
+    /// The text is not a numeral or, for a naive reader, not all digits. For an unsigned type a
+    /// sign is at fault too: `正一` as a `u8`.
     ///
-    /// `char_index` says how many characters of the caller's string, white space among them, stand
-    /// before the one at fault. To a unit reader that is, as a rule, the rightmost one that nothing
-    /// in front can put right: 1 for `二十十`, 2 for `一百個`. `docs/RULES.md` has the whole rule.
-    /// To a naive reader it is the first that is no digit.
+    /// `char_index` is the number of characters of the caller's string, white space included,
+    /// before the one at fault. For a unit reader that is, as a rule, the rightmost character that
+    /// no text before it can put right: 1 for `二十十`, 2 for `一百個`. `docs/RULES.md` has the whole
+    /// rule. For a naive reader it is the first character that is not a digit.
     ChineseNumberIncorrect { char_index: usize },
-    /// The number is greater than the type's greatest: `二百五十六` as a `u8`.
+    /// The number is greater than the greatest of the type: `二百五十六` as a `u8`.
     ///
-    /// To a unit reader also where a numeral names a unit whose scale is past 128 bits, as `零極` by
-    /// `TenThousand`; and where such a unit, or a group of that size, is met from the right before a
-    /// fault, as in `極極`. To a naive reader also where the digits pass 128 bits,
-    /// whatever follows.
+    /// A unit reader also returns this if a numeral contains a unit whose scale is past 128 bits,
+    /// such as `零極` with `TenThousand`, and if it finds such a unit, or a group of that size, from
+    /// the right before it finds a fault, as in `極極`. A naive reader also returns this if the
+    /// digits pass 128 bits, whatever follows them.
     Overflow,
-    /// The number is less than the type's least, or what would be an overflow stands after a minus.
+    /// The number is less than the least of the type, or the text after a minus would be an
+    /// overflow.
     Underflow,
 }
 

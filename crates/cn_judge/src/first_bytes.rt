@@ -1,8 +1,8 @@
-// The first bytes of characters.
+// Counts the first bytes of characters.
 ghost use Rattle.std.specs.Prelude.{◌≡◌, ◌<◌, get_or, length};
 ghost use Rattle.cn_judge.specs.Private.Firsts.{PassesFirsts, first_count, firsts};
 
-// 0 for a byte that continues a character, and 1 for any other.
+// Returns 0 for a byte that continues a character, and 1 for any other.
 #[inline(always)]
 fn first_count(byte: u8) -> u8
     ensures { result ≡ first_count byte }
@@ -10,8 +10,8 @@ fn first_count(byte: u8) -> u8
     (byte / 64 != 2) as u8
 }
 
-// How many characters begin in 32 bytes. The sum is of eight bits, so that all bytes are counted at
-// once, in 24 instructions.
+// The number of characters that begin in 32 bytes. The sum has eight bits, so that the compiled
+// code counts all bytes at once, in 24 instructions.
 #[inline(always)]
 fn firsts_of(bytes: &[u8; 32]) -> usize
     ensures { result ≡ firsts bytes.now 32 }
@@ -23,9 +23,10 @@ fn firsts_of(bytes: &[u8; 32]) -> usize
     count as usize
 }
 
-// Passes so many characters at most, 32 bytes at once: where the next one begins or the bytes end,
-// and how many characters are left to pass. It stands by itself, so that what calls it is short.
-// Same answer (> → >=): the last chunk is passed byte by byte.
+// Passes at most this many characters, 32 bytes at a time. Returns the index at which the next one
+// begins or the bytes end, and how many characters are still to be passed. It is not inlined, so
+// that its callers stay short.
+// Same answer (> → >=): the last chunk is then passed byte by byte.
 #[inline(never)]
 pub(crate) fn pass_chunks(bytes: &[u8], many: usize) -> (usize, usize)
     ensures passed { PassesFirsts bytes.now many result.0 result.1 }

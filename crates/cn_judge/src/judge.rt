@@ -1,5 +1,5 @@
-// A numeral, read by its sign, its first character, the walk over what follows, and a last digit
-// that stands apart.
+// Reads a numeral: its sign, its first character, the walk over the text after that, and a last
+// digit that is a tail.
 ghost use Rattle.std.specs.Prelude.{◌≡◌, ℕ, ◌+◌, ◌*◌, ◌/◌, ◌^◌, ◌<◌, ◌≤◌, List, ◌∷◌, true, false, length, chars, IfNone, IfSome, IsTrue, MatchOption, SomeIff};
 ghost use Rattle.cn_core.specs.Characters.{rank};
 ghost use Rattle.cn_core.specs.Mark.{Mark as NumeralMark, digit, mark_of};
@@ -27,13 +27,15 @@ use cn_core::{ChineseCountMethod, Sign, Unit, Whole, scale, sign_of};
 #[derive(Copy, Clone)]
 pub struct AfterSign<'a> {
     pub sign: Option<Sign>,
-    /// How many characters stand before the rest: the sign, if there is one, and white space before it.
+    /// The number of characters before `rest`: the sign, if there is one, and white space before
+    /// it.
     pub skipped: usize,
     pub rest: &'a str,
 }
 
-// Inlined, since by a call each number of a signed type takes more instructions.
-/// Takes off one sign at the start of a text that is read for a signed type, and the spaces there.
+// Inlined: as a call, it makes each read of a signed type take more instructions.
+/// Splits off one sign at the start of a text that is read for a signed type, and white space
+/// before it.
 #[inline(always)]
 pub fn split_sign(signed: bool, text: &str) -> AfterSign<'_>
     ensures sign { result.sign ≡ leading_sign signed (text_of text.now) }
@@ -64,7 +66,8 @@ pub fn split_sign(signed: bool, text: &str) -> AfterSign<'_>
     }
 }
 
-/// Rule 1: the digit at the start of a text, where 十 is ten; it keeps rule 3 as any other.
+/// Rule 1: the digit at the start of a text, where 十 is ten. The digit must also keep rule 3.
+/// `None` if the first mark breaks either rule.
 pub fn first_digit(first: Mark, at_digit: bool) -> Option<u8>
     ensures some { (marks : List NumeralMark) → each_may_precede marks ≡ true
         → at_digit ≡ starts_with_digit marks
@@ -86,8 +89,8 @@ pub fn first_digit(first: Mark, at_digit: bool) -> Option<u8>
     }
 }
 
-// The answer to a first character and what follows it, read as it stands. It is cold, so that where a
-// numeral is read quickly first, the registers are that reader's.
+// The answer to a first character and the text after it, if the text has no tail. It is marked
+// cold, so that where a quick reader is tried first, the compiler gives that reader the registers.
 #[cold]
 fn judge_walked(
     method: ChineseCountMethod,
@@ -110,17 +113,17 @@ fn judge_walked(
         .ok_or(ChineseToNumberError::Overflow)
 }
 
-// A last character that stands apart: it follows a unit from 百 up and is no unit above 個.
+// A last character that is a tail: it follows a unit from 百 up and is not a unit above 個.
 #[derive(Copy, Clone)]
 struct Tail<'a> {
-    // What stands before it.
+    // The text before it.
     body: &'a str,
-    // The unit at the body's end.
+    // The unit at the end of the body.
     unit: Unit,
     last: Mark,
 }
 
-// The unit at a body's end, where the mark after it stands apart.
+// The unit at the end of a body, if the mark after it is a tail.
 fn unit_before(second: Mark, last: Mark) -> Option<Unit>
     ensures { MatchOption result (is_tail (marked second) (marked last) ≡ false)
         (λ unit. (marked second ≡ unit_mark unit)
@@ -133,7 +136,8 @@ fn unit_before(second: Mark, last: Mark) -> Option<Unit>
     }
 }
 
-// The last character where it stands apart. By a call a refusal takes 22 instructions more.
+// The last character, if it is a tail. Inlined: as a call, it makes a refusal take 22 more
+// instructions.
 #[inline(always)]
 fn split_tail(text: &str) -> Option<Tail<'_>>
     ensures tail { MatchOption result (HasNoTail (marks_of (text_of text.now)))
@@ -149,7 +153,7 @@ fn split_tail(text: &str) -> Option<Tail<'_>>
     Some(Tail { body, unit, last })
 }
 
-// A number and a tenth of a unit for each of a digit.
+// Adds a digit times a tenth of a unit to a number; `None` if the sum does not fit.
 fn add_tail(method: ChineseCountMethod, number: u128, unit: Unit, digit: u8) -> Option<u128>
     requires digit { digit < 10 }
     requires hundred { 1 < rank unit }
@@ -163,8 +167,9 @@ fn add_tail(method: ChineseCountMethod, number: u128, unit: Unit, digit: u8) -> 
     number.checked_add(digit as u128 * (size / 10))
 }
 
-// By a call a refusal takes 20 instructions more.
-/// The answer to a text without sign, which stands after so many characters of the caller's string.
+// Inlined: as a call, it makes a refusal take 20 more instructions.
+/// The answer to a text without sign; `skipped` is the number of characters before it in the
+/// caller's string.
 #[inline(always)]
 pub fn judge_text(
     method: ChineseCountMethod,
@@ -192,7 +197,7 @@ pub fn judge_text(
     add_tail(method, number, tail.unit, digit).ok_or(ChineseToNumberError::Overflow)
 }
 
-/// The answer for a type, from the sign and the answer to what stands after it.
+/// The answer for a type, from the sign and the answer to the text after it.
 pub fn signed_answer<T: Whole>(
     sign: Option<Sign>,
     judged: Result<u128, ChineseToNumberError>,
@@ -212,7 +217,7 @@ pub fn signed_answer<T: Whole>(
     }
 }
 
-/// The number of a numeral after at most one sign.
+/// Reads a numeral after at most one sign.
 pub fn read<T: Whole>(method: ChineseCountMethod, text: &str) -> Result<T, ChineseToNumberError>
     ensures { Reads T.kind method text.now (answer_of T.number result) }
 {

@@ -1,10 +1,10 @@
-//! Reads a text as a number of any integer type, by units or as plain digits, exactly as the
-//! definitions of `cn_core` judge it. No reader takes memory.
+//! Reads a text as a number of any integer type, with units or as plain digits, exactly as the
+//! definitions of `cn_core` judge it. No reader allocates memory.
 //!
-//! What stands here serves the crates above it alone: `cn_read` gives the readers their public
-//! names, and hands on the error; `cn_quick` shares marks, signs and the rules on the first digit,
-//! `cn_find` marks, `cn_quantity` the judgements of a text without sign, `cn_faces` the test of eight
-//! bytes of ASCII, and `cn_c` where a character begins.
+//! Only the crates above this one use it: `cn_read` gives the readers their public names and
+//! re-exports the error; `cn_quick` uses marks, signs and the rules on the first digit; `cn_find`
+//! uses marks; `cn_quantity` uses the judgements of a text without sign; `cn_faces` uses the test
+//! for eight bytes of ASCII; and `cn_c` uses the byte index of a character.
 #![tactic(auto)]
 
 mod error;

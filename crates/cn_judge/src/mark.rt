@@ -1,4 +1,4 @@
-// What a character of a numeral is, by a look-up without a search.
+// The mark of a character, found by one table look-up without a search.
 ghost use Rattle.std.specs.Prelude.{◌≡◌, ℕ, ◌*◌, ◌/◌, ◌%◌, ◌≤◌, ◌<◌, slice_index_or, MatchOption};
 ghost use Rattle.cn_core.specs.Mark.{mark_of};
 ghost use Rattle.cn_judge.specs.Marked.{IsKnown, IsUnknown, key_of, marked};
@@ -13,8 +13,9 @@ pub enum Mark {
     Other,
 }
 
-// The characters of digits and units that take three bytes, each with its mark at its slot. The key
-// has the three bytes, the first of them lowest. 無, which is neither, fills the empty slots.
+// The characters of digits and units whose UTF-8 is three bytes long, each with its mark at its
+// slot. The key is the three bytes, with the first byte lowest. 無, which is neither digit nor unit,
+// fills the empty slots.
 static MARKS: [(u32, Mark); 128] = [
     (0x9fbbe4, Mark::Unit(Unit::Qian)), // 仟
     (0x838de5, Mark::Unit(Unit::Qian)), // 千
@@ -146,7 +147,7 @@ static MARKS: [(u32, Mark); 128] = [
     (0xa184e7, Mark::Other), // 無
 ];
 
-// The entry at the slot of a key: no two digits or units share one.
+// The entry at the slot of a key. No two digits or units share a slot.
 #[inline(always)]
 fn entry(key: u32) -> (u32, Mark)
     ensures { result ≡ slice_index_or MARKS (key * 953497 / 33554432 % 128) result }
@@ -154,7 +155,7 @@ fn entry(key: u32) -> (u32, Mark)
     MARKS[(key as u64 * 953_497 / 33_554_432 % 128) as usize]
 }
 
-/// What the character of three bytes with this key is, if it is a digit or a unit.
+/// The mark of the character of three bytes with this key, if it is a digit or a unit.
 #[inline(always)]
 pub fn known_mark(key: u32) -> Option<Mark>
     ensures { MatchOption result (IsUnknown key) (IsKnown key) }
@@ -163,7 +164,7 @@ pub fn known_mark(key: u32) -> Option<Mark>
     if known == key { Some(mark) } else { None }
 }
 
-/// What the character of three bytes with this key is.
+/// The mark of the character of three bytes with this key.
 #[inline(always)]
 pub fn mark_of_key(key: u32) -> Mark
     ensures { (c : ℕ) → 2048 ≤ c → c < 65536 → key_of c ≡ key → marked result ≡ mark_of c }
@@ -171,7 +172,7 @@ pub fn mark_of_key(key: u32) -> Mark
     known_mark(key).unwrap_or(Mark::Other)
 }
 
-// What a character of three bytes is.
+// The mark of a character of three bytes.
 #[inline(always)]
 fn three_byte_mark(c: char) -> Mark
     requires { (2048 ≤ c) × (c < 65536) }
@@ -184,7 +185,8 @@ fn three_byte_mark(c: char) -> Mark
     mark_of_key(first + second * 256 + third * 65_536)
 }
 
-/// What the character is. Each digit or unit but an ASCII digit takes three bytes.
+/// The mark of a character. The UTF-8 of each digit or unit, except an ASCII digit, is three bytes
+/// long.
 #[inline(always)]
 pub fn mark_of(c: char) -> Mark
     ensures { marked result ≡ mark_of c }

@@ -1,4 +1,4 @@
-// Plain decimal digits, read from left to right.
+// Reads plain decimal digits from left to right.
 ghost use Rattle.std.specs.Prelude.{◌≡◌, ◌+◌, ◌<◌, ◌≤◌, ◌^◌, [], length, chars, IfSome, MatchOption};
 ghost use Rattle.cn_core.specs.Mark.{mark_of};
 ghost use Rattle.cn_core.specs.Text.{text_of, marks_of};
@@ -16,8 +16,7 @@ use crate::open_units::multiply_add;
 use crate::text::{split_first_digit, split_first_mark};
 use cn_core::Whole;
 
-// Digits that stand side by side: how many, the power of ten that they make room for, and their
-// number.
+// A run of digits: how many they are, 10 to the power of that, and their number.
 #[derive(Copy, Clone)]
 struct DigitRun {
     count: usize,
@@ -25,7 +24,8 @@ struct DigitRun {
     value: u64,
 }
 
-// The digits of three bytes at the start of a text, at most nineteen, whose number fits 64 bits.
+// Splits off the digits of three bytes at the start of a text, at most nineteen, whose number fits
+// 64 bits.
 // Same answer (<= → <, 1_000_000_000_000_000_000 → 999999999999999999): more digits are read in two
 // runs, which give the same number.
 // Same answer (1_000_000_000_000_000_000 → 1000000000000000001): a weight is a power of ten.
@@ -54,7 +54,7 @@ fn split_digit_run(text: &str) -> (DigitRun, &str)
     (run, rest)
 }
 
-// What stands at the start of a text, to plain digits.
+// The piece at the start of a text that is read as plain digits.
 #[derive(Copy, Clone)]
 enum Piece {
     Digits(DigitRun),
@@ -62,7 +62,7 @@ enum Piece {
     Wrong,
 }
 
-// What a character with its mark is, whatever it is.
+// The piece of one character, given its mark.
 #[inline(always)]
 fn piece_of(c: char, mark: Mark) -> Piece
     requires { marked mark ≡ mark_of c }
@@ -85,8 +85,8 @@ fn piece_of(c: char, mark: Mark) -> Piece
     }
 }
 
-// What a text starts with, and what stands after it. Digits of three bytes are found quickly.
-// Same answer (if run.count > 0 → nothing, 0 → 1): without a run `piece_of` decides what the first
+// Splits off the first piece of a text. Digits of three bytes take a fast path.
+// Same answer (if run.count > 0 → nothing, 0 → 1): without a run, `piece_of` finds what the first
 // character is, more slowly.
 #[inline(always)]
 fn split_first_piece(text: &str) -> Option<(Piece, &str)>
@@ -103,8 +103,8 @@ fn split_first_piece(text: &str) -> Option<(Piece, &str)>
     Some((piece_of(c, mark), after))
 }
 
-/// The answer to plain digits without sign, which stand after so many characters of the caller's
-/// string.
+/// The answer to plain digits without sign; `skipped` is the number of characters before them in
+/// the caller's string.
 pub fn judge_naive(skipped: usize, text: &str) -> Result<u128, ChineseToNumberError>
     requires { skipped + length text.now < 2 ^ 64 }
     ensures { answer_of (λ n. n) result
@@ -112,7 +112,7 @@ pub fn judge_naive(skipped: usize, text: &str) -> Result<u128, ChineseToNumberEr
 {
     let mut rest = text;
     let mut digits = 0;
-    // How many other characters are in front: the caller's, and white space.
+    // The number of other characters before `rest`: those before the text, and white space.
     let mut others = skipped;
     let mut number = 0u128;
     'reading: while let Some((piece, after)) = split_first_piece(rest) {
@@ -141,7 +141,7 @@ pub fn judge_naive(skipped: usize, text: &str) -> Result<u128, ChineseToNumberEr
     }
 }
 
-/// The number of plain digits after at most one sign.
+/// Reads plain digits after at most one sign.
 pub fn read_naive<T: Whole>(text: &str) -> Result<T, ChineseToNumberError>
     ensures { answer_of T.number result ≡ naive_reading T.kind text.now }
 {

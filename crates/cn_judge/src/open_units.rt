@@ -1,4 +1,4 @@
-// The units that a walk from the back has met and that a unit further left can still join.
+// The units that a walk from the right has read and that a unit further left can still multiply.
 ghost use Rattle.std.specs.Prelude.{◌≡◌, ◌+◌, ◌*◌, ◌^◌, ◌<◌, ◌≤◌, ◌↔◌, [], ◌∷◌, length, Some, false, IsTrue, IfSome, IfNone, SomeIff, option_map};
 ghost use Rattle.cn_core.specs.Characters.{rank};
 ghost use Rattle.cn_judge.specs.Private.Stack.{ClosesTop, all_positive, closed_sum, still_open, top_of, total_sum};
@@ -6,8 +6,8 @@ ghost use Rattle.cn_judge.specs.Private.Stack.{ClosesTop, all_positive, closed_s
 use cn_core::{Unit, power_of_ten};
 use std::marker::Model;
 
-// A unit, the exponent of its scale, and the sum that it was opened over. All entries are cleared
-// first, so with the scale itself a refusal takes 26 instructions more.
+// A unit, the exponent of its scale, and the sum below it when it was opened. All entries are
+// cleared first: with the scale in place of the exponent, a refusal takes 26 more instructions.
 #[derive(Copy, Clone)]
 struct OpenUnit {
     unit: Unit,
@@ -15,8 +15,8 @@ struct OpenUnit {
     below: u128,
 }
 
-/// The units that are still open, the last one on top. Their ranks fall from the bottom to the
-/// top, so there are never more than the 16 ranks.
+/// The units that are still open, as a stack with the last one on top. The ranks fall from the
+/// bottom to the top, so there are never more than 16 units, one of each rank.
 #[derive(Drop)]
 pub struct OpenUnits {
     entries: [OpenUnit; 16],
@@ -35,8 +35,8 @@ impl Model for OpenUnits {
     ghost invariant = { λ s. (s.len ≤ 16) × IsTrue (all_scales_fit s.entries) };
 }
 
-/// A product and a sum, if they fit. Where both factors are below 2^64 the product does, and is
-/// found faster.
+/// `factor * size + more`, if the product and the sum fit. If both factors are below 2^64, the
+/// product fits and is computed faster.
 // Same answer (if let (Ok(factor), Ok(size)) = (u64::try_fro.. → nothing): the product in 128 bits
 // is the same, but slower.
 pub fn multiply_add(factor: u128, size: u128, more: u128) -> Option<u128>
@@ -49,7 +49,7 @@ pub fn multiply_add(factor: u128, size: u128, more: u128) -> Option<u128>
 }
 
 impl OpenUnits {
-    /// No unit is open.
+    /// A stack without open units.
     pub fn new() -> Self
         ensures { result ≡ [] }
     {
@@ -88,8 +88,8 @@ impl OpenUnits {
         }
     }
 
-    /// Rule 6, once all smaller units are closed: the first that is not smaller, now on top, is
-    /// greater.
+    /// Rule 6, after all smaller units are closed: the first unit that is not smaller, which is
+    /// then on top, is greater.
     pub fn groups_strictly(&self, unit: Unit) -> bool
         ensures { result ≡ false ↔ (top_of self.now ≡ Some (rank unit)) }
     {
@@ -99,7 +99,7 @@ impl OpenUnits {
         }
     }
 
-    // Closes the unit on top, if the sum fits.
+    // Closes the unit on top; `None` if the sum does not fit.
     // Same answer (sum, size, top.below → size, sum, top.below): a product is the same in either
     // order.
     fn close_top(&mut self, sum: u128) -> Option<u128>
@@ -114,7 +114,8 @@ impl OpenUnits {
         multiply_add(sum, size, top.below)
     }
 
-    /// The sum once each open unit that is smaller than this one is closed, if it fits.
+    /// The sum after each open unit that is smaller than this one is closed; `None` if it does not
+    /// fit.
     pub fn close_below(&mut self, unit: Unit, sum: u128) -> Option<u128>
         requires { IsTrue (all_positive self.old) }
         ensures sum { SomeIff result (closed_sum (rank unit) sum self.old < 2 ^ 128)
@@ -131,7 +132,7 @@ impl OpenUnits {
         Some(closed)
     }
 
-    // The sum once all are closed, if it fits.
+    // The sum after all units are closed; `None` if it does not fit.
     fn close_all(&mut self, sum: u128) -> Option<u128>
         requires { IsTrue (all_positive self.old) }
         ensures { SomeIff result (total_sum sum self.old < 2 ^ 128) (total_sum sum self.old) }
@@ -143,7 +144,7 @@ impl OpenUnits {
         Some(closed)
     }
 
-    /// The sum once a first digit is added and all are closed, if it fits.
+    /// The sum after a first digit is added and all units are closed; `None` if it does not fit.
     pub fn finish(&mut self, sum: u128, digit: u8) -> Option<u128>
         requires { IsTrue (all_positive self.old) }
         ensures { SomeIff result (total_sum (sum + digit) self.old < 2 ^ 128)

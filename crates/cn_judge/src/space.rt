@@ -1,18 +1,18 @@
-// White space, passed from either end of a text. It is told by its bytes: a character of two or three
-// bytes that is decoded first takes some 20 instructions more.
+// Skips white space at either end of a text. It compares bytes: decoding a character of two or
+// three bytes first takes some 20 more instructions.
 ghost use Rattle.std.specs.Prelude.{◌≡◌, ◌+◌, ◌≤◌, get_or, length, chars};
 ghost use Rattle.cn_judge.specs.Piece.{StandsAt};
 ghost use Rattle.cn_judge.specs.Private.Spaces.{BeginsDark, EndsBlank, EndsDark, is_three_byte_space, is_two_byte_space, first_space_len, is_ascii_space, last_space_len};
 
-// What stands behind white space.
+// The text after white space.
 #[derive(Copy, Clone)]
 pub(crate) struct Behind<'a> {
-    // How many characters stand before it.
+    // The number of characters before it.
     pub skipped: usize,
     pub rest: &'a str,
 }
 
-// Whether this byte is white space of ASCII, with the vertical tab.
+// Whether this byte is ASCII white space, which includes the vertical tab.
 #[inline(always)]
 fn is_ascii_space(byte: u8) -> bool
     ensures { result ≡ is_ascii_space byte }
@@ -20,8 +20,8 @@ fn is_ascii_space(byte: u8) -> bool
     matches!(byte, 0x09..=0x0D | 0x20)
 }
 
-// Whether these three bytes are U+1680, one from U+2000 to U+200A, U+2028, U+2029, U+202F, U+205F or
-// U+3000.
+// Whether these three bytes are U+1680, one from U+2000 to U+200A, U+2028, U+2029, U+202F, U+205F
+// or U+3000.
 #[inline(always)]
 fn is_three_byte_space(first: u8, second: u8, third: u8) -> bool
     ensures { result ≡ is_three_byte_space first second third }
@@ -35,7 +35,7 @@ fn is_three_byte_space(first: u8, second: u8, third: u8) -> bool
     )
 }
 
-// Whether two bytes of white space come first: U+0085 or U+00A0.
+// Whether the first two bytes are a white space character: U+0085 or U+00A0.
 #[inline(always)]
 fn begins_two_byte_space(bytes: &[u8]) -> bool
     ensures { result ≡ is_two_byte_space (get_or bytes.now 0 0) (get_or bytes.now 1 0) }
@@ -43,7 +43,7 @@ fn begins_two_byte_space(bytes: &[u8]) -> bool
     matches!(bytes, [0xC2, 0x85 | 0xA0, ..])
 }
 
-// Whether three bytes of white space come first.
+// Whether the first three bytes are a white space character.
 #[inline(always)]
 fn begins_three_byte_space(bytes: &[u8]) -> bool
     ensures { result
@@ -55,8 +55,8 @@ fn begins_three_byte_space(bytes: &[u8]) -> bool
     }
 }
 
-// How many bytes the first character has where it is white space, else 0. Most that are none are told
-// by their first byte.
+// The number of bytes of the first character if it is white space, else 0. For most other
+// characters the first byte decides.
 // Same answer (0xE1 → 0xe0, 0xE3 → 0xe4): no white space begins with that byte.
 #[inline(always)]
 fn first_space_len(bytes: &[u8]) -> usize
@@ -73,9 +73,9 @@ fn first_space_len(bytes: &[u8]) -> usize
     }
 }
 
-// How many bytes the last character has where it is white space, else 0.
-// Same answer (0x00 → 0x1, ..= → .., 0x7F → 0x7e): no other text that ends with that byte has white
-// space there; the answer is only slower.
+// The number of bytes of the last character if it is white space, else 0.
+// Same answer (0x00 → 0x1, ..= → .., 0x7F → 0x7e): no other text that ends with that byte ends with
+// white space; the answer is only slower.
 #[inline(always)]
 fn last_space_len(bytes: &[u8]) -> usize
     ensures { result ≡ last_space_len bytes.now }
@@ -89,7 +89,7 @@ fn last_space_len(bytes: &[u8]) -> usize
     }
 }
 
-// What stands behind the white space at the start of a text.
+// Skips the white space at the start of a text.
 #[inline(always)]
 pub(crate) fn skip_spaces(text: &str) -> Behind<'_>
     ensures at { StandsAt text.now (chars result.rest.now) result.skipped 0 }
@@ -113,7 +113,7 @@ pub(crate) fn skip_spaces(text: &str) -> Behind<'_>
     }
 }
 
-// What stands in front of the white space at the end of a text.
+// Returns the text without the white space at its end.
 #[inline(always)]
 pub(crate) fn before_spaces(text: &str) -> &str
     ensures blank { EndsBlank text.now result.now }

@@ -1,5 +1,5 @@
-// Walking a text: its characters from either end, and those that are no white space. Their marks
-// too: of characters of three bytes quickly, of any other as it comes.
+// Splits a text into characters from either end, with or without white space, and finds their
+// marks. Characters of three bytes take a fast path.
 ghost use Rattle.std.specs.Prelude.{◌≡◌, ℕ, ◌+◌, ◌<◌, ◌≤◌, List, [], ◌∷◌, ◌++◌, length, chars, false, IfSome, IfNone, MatchOption};
 ghost use Rattle.std.specs.Char.{is_whitespace};
 ghost use Rattle.std.specs.Str.{continuation_len};
@@ -17,8 +17,8 @@ use crate::space::{Behind, before_spaces, skip_spaces};
 use crate::word::{eight_ascii_at, three_threes_at};
 use cn_core::split_first_char;
 
-// The key of the first character where it takes three bytes, as most do that are searched. `None`
-// says nothing of a text.
+// The key of the first character, if that has three bytes, as most characters of searched texts
+// have. `None` says nothing about the text.
 #[inline(always)]
 fn first_key(text: &str) -> Option<u32>
     ensures { IfSome result (StartsWithKey text.now) }
@@ -36,8 +36,8 @@ fn first_key(text: &str) -> Option<u32>
     }
 }
 
-/// The first character where it takes three bytes, its mark, and what stands after it. Looked up by
-/// its bytes, each is passed in 16 instructions fewer. `None` says nothing of a text.
+/// The first character, if that has three bytes, its mark, and the text after it. Looking it up by
+/// its bytes takes 16 fewer instructions for each character. `None` says nothing about the text.
 // Same answer (65_536 → 65535, 65_536 → 65537): the third byte remains the quotient for all values
 // of the other two.
 #[inline(always)]
@@ -53,7 +53,7 @@ pub fn split_first_three(text: &str) -> Option<(char, Mark, &str)>
     Some((c, mark_of_key(key), after))
 }
 
-/// The first character, its mark, and what stands after it.
+/// The first character, its mark, and the text after it; `None` if the text is empty.
 // Same answer (if let Some((c, mark, after)) = split_first_t.. → nothing): the decoder of std gives
 // the same first character, more slowly.
 #[inline(always)]
@@ -69,17 +69,17 @@ pub fn split_first_mark(text: &str) -> Option<(char, Mark, &str)>
     Some((c, mark_of(c), after))
 }
 
-/// The first character of a text that is no white space.
+/// The first character of a text that is not white space.
 #[derive(Copy, Clone)]
 pub struct First<'a> {
     pub character: char,
-    /// How many characters stand before it.
+    /// The number of characters before it.
     pub skipped: usize,
-    /// What stands after it.
+    /// The text after it.
     pub rest: &'a str,
 }
 
-// The first character behind white space, which is none itself.
+// The first character after white space, which is not white space itself.
 #[inline(always)]
 pub(crate) fn first_behind(behind: Behind<'_>) -> Option<First<'_>>
     requires { BeginsDark behind.rest.now }
@@ -98,7 +98,7 @@ pub(crate) fn first_behind(behind: Behind<'_>) -> Option<First<'_>>
     })
 }
 
-/// The first character that is no white space.
+/// The first character that is not white space; `None` if there is none.
 #[inline(always)]
 pub fn split_first(text: &str) -> Option<First<'_>>
     ensures parts { MatchOption result (text_of text.now ≡ [])
@@ -110,7 +110,7 @@ pub fn split_first(text: &str) -> Option<First<'_>>
     first_behind(skip_spaces(text))
 }
 
-/// The last character, and what stands before it.
+/// The last character and the text before it; `None` if the text is empty.
 pub fn split_last_char(text: &str) -> Option<(char, &str)>
     ensures parts { MatchOption result (chars text.now ≡ [])
         (λ r. chars text.now ≡ chars r.1.now ++ r.0 ∷ []) }
@@ -123,8 +123,8 @@ pub fn split_last_char(text: &str) -> Option<(char, &str)>
     }
 }
 
-// The key of the last character where it takes three bytes, as most do that stand by a number.
-// `None` says nothing of a text.
+// The key of the last character, if that has three bytes, as most characters beside a number have.
+// `None` says nothing about the text.
 #[inline(always)]
 fn last_key(text: &str) -> Option<u32>
     ensures { IfSome result (EndsWithKey text.now) }
@@ -143,8 +143,8 @@ fn last_key(text: &str) -> Option<u32>
     }
 }
 
-// The last character where it takes three bytes, its mark, and what stands before it. `None` says
-// nothing of a text.
+// The last character, if that has three bytes, its mark, and the text before it. `None` says
+// nothing about the text.
 // Same answer (65_536 → 65535, 65_536 → 65537): the third byte remains the quotient for all values
 // of the other two.
 #[inline(always)]
@@ -160,7 +160,7 @@ fn split_last_three(text: &str) -> Option<(char, Mark, &str)>
     Some((c, mark_of_key(key), before))
 }
 
-/// The last character, its mark, and what stands before it.
+/// The last character, its mark, and the text before it; `None` if the text is empty.
 // Same answer (if let Some((c, mark, before)) = split_last_t.. → nothing): the decoder of std gives
 // the same last character, more slowly.
 #[inline(always)]
@@ -176,7 +176,7 @@ pub fn split_end_mark(text: &str) -> Option<(char, Mark, &str)>
     Some((c, mark_of(c), before))
 }
 
-/// The last character that is no white space, and what stands before it.
+/// The last character that is not white space, and the text before it; `None` if there is none.
 pub fn split_last(text: &str) -> Option<(char, &str)>
     ensures parts { IfSome result (λ r. EndsWith text.now r.0 r.1.now) }
     ensures none { IfNone result (text_of text.now ≡ []) }
@@ -185,11 +185,11 @@ pub fn split_last(text: &str) -> Option<(char, &str)>
     split_last_char(before_spaces(text))
 }
 
-// How many bytes a character has, by the first four of their bits.
+// The number of bytes of a character, by the first four bits of its first byte.
 static CHAR_LENS: [usize; 16] = [1, 1, 1, 1, 1, 1, 1, 1, 2, 2, 2, 2, 2, 2, 3, 4];
 
-// How many bytes a character has, by the first of them. By a `match` each takes 7 instructions more
-// to be passed.
+// The number of bytes of a character, by its first byte. A `match` in place of the table takes 7
+// more instructions for each character.
 #[inline(always)]
 fn char_len(first: u8) -> usize
     ensures { result ≡ continuation_len first + 1 }
@@ -197,9 +197,9 @@ fn char_len(first: u8) -> usize
     CHAR_LENS[(first / 16) as usize]
 }
 
-/// How many characters a text has. 32 bytes are passed at once while there are so many, then three
-/// characters of three bytes or eight of ASCII while such stand next, and the others one by one, by
-/// the first byte of each.
+/// The number of characters in a text. It passes 32 bytes at a time while that many are left, then
+/// three characters of three bytes or eight of ASCII while such follow, and then the others one by
+/// one, each by its first byte.
 pub fn count_chars(text: &str) -> usize
     ensures count { result ≡ length (chars text.now) }
     ensures within { result ≤ length text.now }
@@ -230,7 +230,8 @@ pub fn count_chars(text: &str) -> usize
     count
 }
 
-/// How many bytes of a text stand in front of a character, by how many characters do.
+/// The number of bytes of a text before the character with this char_index; the length of the text
+/// if it has no such character.
 pub fn byte_index(text: &str, char_index: usize) -> usize
     ensures { result ≡ byte_index text.now char_index }
 {
@@ -263,9 +264,9 @@ pub fn byte_index(text: &str, char_index: usize) -> usize
     passed
 }
 
-/// The mark of the last character where the table of marks has it, and what stands before it. The
-/// character and the byte in front are loaded at once, so a text of one character is left to
-/// `split_first_known`. `None` says nothing of a text.
+/// The mark of the last character, if the table of marks has it, and the text before it. The
+/// character and the byte before it are loaded at once, so a text of one character is left to
+/// `split_first_known`. `None` says nothing about the text.
 #[inline(always)]
 pub fn split_last_known(text: &str) -> Option<(Mark, &str)>
     ensures parts { IfSome result (λ r. (c : ℕ) × (chars text.now ≡ chars r.1.now ++ c ∷ [])
@@ -279,8 +280,8 @@ pub fn split_last_known(text: &str) -> Option<(Mark, &str)>
     Some((mark, before))
 }
 
-/// The mark of the first character where the table of marks has it, and what stands after it. `None`
-/// says nothing of a text.
+/// The mark of the first character, if the table of marks has it, and the text after it. `None`
+/// says nothing about the text.
 #[inline(always)]
 pub fn split_first_known(text: &str) -> Option<(Mark, &str)>
     ensures parts { IfSome result (λ r. (c : ℕ) × (chars text.now ≡ c ∷ chars r.1.now)
@@ -297,9 +298,9 @@ pub fn split_first_known(text: &str) -> Option<(Mark, &str)>
     Some((mark, after))
 }
 
-// The mark of the only character where the table of marks has it, and the nothing before it: the
-// first of a text that is walked. Left to `split_last_slowly`, 一百五 takes 650 instructions for 510.
-// `None` says nothing of a text.
+// The mark of the only character, if the table of marks has it, and the empty text before it. A
+// walk ends with such a text. Without this function, `split_last_slowly` reads it, and 一百五 takes
+// 650 instructions in place of 510. `None` says nothing about the text.
 #[inline(always)]
 fn split_only_known(text: &str) -> Option<(Mark, &str)>
     ensures parts { IfSome result (λ r. (c : ℕ) × (chars text.now ≡ chars r.1.now ++ c ∷ [])
@@ -313,7 +314,8 @@ fn split_only_known(text: &str) -> Option<(Mark, &str)>
     Some((mark, after))
 }
 
-/// The mark of the last character that is no white space, and what stands before it.
+/// The mark of the last character that is not white space, and the text before it; `None` if there
+/// is none.
 // Same answer (if let Some((mark, before)) = split_last_know.. → nothing, if let Some((mark,
 // before)) = split_only_know.. → nothing): the decoder of std gives the same last character, more
 // slowly.
@@ -333,8 +335,8 @@ pub fn split_last_mark(text: &str) -> Option<(Mark, &str)>
     split_last_slowly(text)
 }
 
-// The mark of the last character that is no white space, of which the table of marks has not all, and
-// what stands before it.
+// The mark of the last character that is not white space, and the text before it, for any
+// character, in the table of marks or not.
 fn split_last_slowly(text: &str) -> Option<(Mark, &str)>
     ensures parts { IfSome result (λ r. (c : ℕ) × EndsWith text.now c r.1.now
         × (marked r.0 ≡ mark_of c)) }
@@ -345,8 +347,8 @@ fn split_last_slowly(text: &str) -> Option<(Mark, &str)>
     Some((mark, before))
 }
 
-/// The first character where it is a digit of three bytes, and what stands after it. `None` says
-/// nothing of a text.
+/// The value of the first character, if that is a digit of three bytes, and the text after it.
+/// `None` says nothing about the text.
 #[inline(always)]
 pub fn split_first_digit(text: &str) -> Option<(u8, &str)>
     ensures parts { IfSome result (λ r. (c : ℕ) × (chars text.now ≡ c ∷ chars r.1.now)

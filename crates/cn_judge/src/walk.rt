@@ -1,4 +1,4 @@
-// The walk of a unit reader: from the back, character by character, to the first fault.
+// The walk of a unit reader: from right to left, character by character, to the first fault.
 ghost use Rattle.std.specs.Prelude.{◌≡◌, ◌==◌, ◌||◌, not, false, ℕ, ◌+◌, ◌<◌, ◌↔◌, ◌^◌, List, [], ◌∷◌, None, Some, Err, IsTrue, MatchResult, option_map, length};
 ghost use Rattle.cn_core.specs.Characters.{rank};
 ghost use Rattle.cn_core.specs.Mark.{digit, mark_of};
@@ -17,12 +17,12 @@ use crate::open_units::OpenUnits;
 use crate::text::{count_chars, split_last_mark};
 use cn_core::{ChineseCountMethod, Unit, exponent};
 
-/// Where a walk stands between two characters.
+/// The state of a walk between two characters.
 #[derive(Copy, Clone)]
 pub struct WalkState {
     /// The sum of the digits since the last unit.
     pub sum: u128,
-    /// The mark that was met last; none at the end of the text.
+    /// The mark that was read last; `None` at the end of the text.
     pub next: Option<Mark>,
 }
 
@@ -33,7 +33,7 @@ pub enum Fault {
     TooLarge,
 }
 
-// The unit that has just been met, if it was one.
+// The unit that was read last, if the last mark was a unit.
 fn unit_after(next: Option<Mark>) -> Option<Unit>
     ensures { option_map rank result ≡ unit_next next }
 {
@@ -43,14 +43,14 @@ fn unit_after(next: Option<Mark>) -> Option<Unit>
     }
 }
 
-/// Whether the mark that has just been met is a digit.
+/// Whether the mark that was read last is a digit.
 pub fn is_at_digit(next: Option<Mark>) -> bool
     ensures { result ≡ digit_next next }
 {
     matches!(next, Some(Mark::Digit(_)))
 }
 
-/// Rule 3: no digit from 1 to 9 stands directly before a digit.
+/// Rule 3: a digit from 1 to 9 is not directly before a digit.
 pub fn separates_digits(value: u8, at_digit: bool) -> bool
     ensures { result ≡ (value == 0 || not at_digit) }
 {
@@ -67,21 +67,20 @@ fn multiplies_upwards(unit: Unit, after: Option<Unit>) -> bool
     }
 }
 
-// Rule 5: 個 stands directly before a unit, which is greater where rule 4 holds.
+// Rule 5: 個 is directly before a unit; by rule 4 that unit is greater.
 fn counts_a_unit(unit: Unit, after: Option<Unit>) -> bool
     ensures { result ≡ false ↔ ((rank unit ≡ 0) × (option_map rank after ≡ None)) }
 {
     unit != Unit::Ge || after.is_some()
 }
 
-// One more unit, where what was walked holds no fault: it is opened over the sum that it leaves
-// below it.
+// Reads one more unit, to the left of marks that hold no fault, and opens it over the sum below it.
 //
-// The order is the one of `is_early`: a group that is too large is answered before rules 5 and 6
-// are asked, since only the closed sum says which unit is on top; after rule 4, since a unit
-// directly before a unit that it may not stand before closes no group; and before the scale, since
-// a unit that breaks a rule is refused whatever its scale. So 極 in front of 極 is refused by rule
-// 4.
+// The order of the tests is that of `is_early`. A group that is too large is reported before rules
+// 5 and 6 are tested, since only the closed sum shows which unit is on top. It is reported after
+// rule 4, since a unit directly before a unit that it may not precede closes no group. And it is
+// reported before the scale, since a unit that breaks a rule is refused whatever its scale. So 極
+// before 極 is refused by rule 4.
 fn step_unit(
     method: ChineseCountMethod,
     units: &mut OpenUnits,
@@ -116,7 +115,7 @@ fn step_unit(
     Ok(())
 }
 
-// The sum with one more digit, where what was walked holds no fault.
+// Reads one more digit, to the left of marks that hold no fault, and returns the sum with it.
 fn step_digit(state: WalkState, value: u8) -> Result<u128, Fault>
     requires { value < 10 }
     ensures { (method : ChineseCountMethod) (walked : List ℕ) (units : List StackEntry)
@@ -135,7 +134,7 @@ fn step_digit(state: WalkState, value: u8) -> Result<u128, Fault>
     Ok(value as u128)
 }
 
-// One more character, by its mark, where what was walked holds no fault.
+// Reads one more character, given its mark, to the left of marks that hold no fault.
 fn step(
     method: ChineseCountMethod,
     units: &mut OpenUnits,
@@ -169,7 +168,8 @@ fn step(
     }
 }
 
-/// Walks a text that stands after so many characters of the caller's string, to its first fault.
+/// Walks a text to its first fault; `skipped` is the number of characters before it in the caller's
+/// string.
 pub fn walk(
     method: ChineseCountMethod,
     skipped: usize,

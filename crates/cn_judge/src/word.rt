@@ -1,14 +1,15 @@
-// Eight bytes of a text at once.
+// Tests on eight bytes of a text at once.
 ghost use Rattle.std.specs.Prelude.{ℕ, ◌+◌, ◌/◌, ◌%◌, ◌<◌, ◌≤◌, get_or, length, IsTrue};
 ghost use Rattle.cn_judge.specs.Private.FirstKey.{BeginsThreeThrees};
 
-// Whether three characters of three bytes begin here, as most do in numerals, by the first byte of each.
-// So each is passed in 4 instructions, and alone in 7. `false` says nothing of the bytes.
+// Whether three characters of three bytes each begin here, as is common in numerals, judged by the
+// first byte of each. So a character is passed in 4 instructions, and otherwise in 7. `false` says
+// nothing about the bytes.
 // Same answer (% → /, % → / #2, / → * #3, / → * #4, / → * #5): then no word begins three such
 // characters, and each is passed by itself, more slowly.
-// Same answer (281_474_976_710_656 → 281474976710655): it differs only where the fourth byte is
-// 0xFF, which is refused.
-// Same answer (281_474_976_710_656 → 281474976710657): it differs only where the fourth byte is 0,
+// Same answer (281_474_976_710_656 → 281474976710655): it differs only if the fourth byte is 0xFF,
+// which is refused.
+// Same answer (281_474_976_710_656 → 281474976710657): it differs only if the fourth byte is 0,
 // which is refused.
 #[inline(always)]
 pub(crate) fn three_threes_at(bytes: &[u8], index: usize) -> bool
@@ -25,7 +26,7 @@ pub(crate) fn three_threes_at(bytes: &[u8], index: usize) -> bool
     (first / 16 == 14) & (fourth / 16 == 14) & (seventh / 16 == 14)
 }
 
-// Whether the eight bytes of a word are of ASCII.
+// Whether the eight bytes of a word are all ASCII.
 // Same answer (0x80_0000_0000 → 0x7fffffffff, 0x8000_0000_0000 → 0x7fffffffffff,
 // 0x8000_0000_0000_0000 → 0x7fffffffffffffff, 0x80_0000_0000_0000 → 0x7fffffffffffff): fewer words
 // are taken as ASCII at once, and the others are decided more slowly.
@@ -50,7 +51,7 @@ fn eight_are_ascii(word: u64) -> bool
         & (word / 0x8000_0000_0000_0000 == 0)
 }
 
-/// Whether eight bytes of ASCII stand from this byte on. `false` says nothing of the bytes.
+/// Whether eight ASCII bytes begin at this index. `false` says nothing about the bytes.
 #[inline(always)]
 pub fn eight_ascii_at(bytes: &[u8], index: usize) -> bool
     requires { index ≤ length bytes.now }

@@ -1,18 +1,18 @@
--- What the fields of a line stand for.
+-- The values of the fields of a line.
 use Rattle.std.proofs.Math.Nat.{pow-le-pow_right}
 use Rattle.std.proofs.lemmas.List.Sums.{fold_more, fold-append}
 use Rattle.std.proofs.Common.{◌≡◌, ◌<◌, ◌≤◌, ◌+◌, ◌-◌, ◌*◌, ◌^◌, length, take, drop, get_or, take-append-drop, sym, ap, ◌∙◌, arith, lit<, ℕ, List}
 use Rattle.cn_faces.specs.Decimal.{value_after}
 use Rattle.cn_faces.proofs.Decimal.{value_after-grows}
 
--- one more decimal digit after fewer than 19
+-- a number of fewer than 19 decimal digits with one more digit fits
 pub one_more_fits : (value i n digit : ℕ) → value < 10 ^ i → i < n → n ≤ 19 → digit ≤ 9
     → value * 10 + digit < 2 ^ 64
 one_more_fits value i n digit small before few single =
     let e : 10 ^ i ≤ 10 ^ 18 = pow-le-pow_right {n = 10} (lit< tt) {i = i} {j = 18} (omega arith) in
     omega (arith, e)
 
--- a number that is too great after one more digit stays so
+-- a number that is too great after one more digit stays too great
 pub value_after-beyond : (start : ℕ) (digits : List ℕ) (i value most : ℕ) → i < length digits
     → value ≡ value_after start (take i digits)
     → most ≤ value * 10 + (get_or digits i 0 - 48) → most ≤ value_after start digits

@@ -1,4 +1,4 @@
--- A line has one answer, and an input one output.
+-- A line has exactly one answer, and an input has exactly one output.
 use Rattle.std.proofs.Common.{◌≡◌, ◌++◌, ℕ, ℤ, Option, Some, None, Result, List, [], ◌∷◌, refl, sym, ap, ◌∙◌}
 use Rattle.chinese_number.specs.Refusal.{Refusal}
 use Rattle.chinese_number.specs.Reading.{naive_reading}
@@ -11,7 +11,7 @@ use Rattle.cn_faces.specs.declared.Way.TheVariants.{Digits, Units}
 use Rattle.cn_lines.specs.Question.{Question, read, print, question_of}
 use Rattle.cn_lines.specs.Answer.{reading_text, Answers, AnswersAny, AreReplies}
 
--- at most one list is such
+-- at most one list has this property
 abbrev IsSingle : (List ℕ → Type 0) → Type 0
 IsSingle P = (a b : List ℕ) → P a → P b → a ≡ b
 

@@ -1,4 +1,4 @@
--- The position of a byte, seen a stride at a time.
+-- The position of a byte, searched one stride of bytes at a time.
 use Rattle.std.proofs.Common.{◌≡◌, ◌≢◌, ◌+◌, ◌-◌, ◌<◌, ◌≤◌, ◌++◌, ℕ, suc, Bool, true, false, not, cond, eqb, ltb, List, [], ◌∷◌, refl, map, length, position, unwrap_or, take, drop, get_or, rules, sym, ap, ◌∙◌, arith}
 use Rattle.std.proofs.lemmas.Simd.{chunk-drop, first_set_mask_l}
 use Rattle.std.proofs.lemmas.List.Folds.{prefix_len-append}
@@ -13,7 +13,7 @@ use Rattle.std.proofs.lemmas.Bool.{false≢true}
 use lib.Count.{count_trailing_zeros}
 use lib.Lanes.{mask_l}
 
--- the first position that passes, or else the length
+-- the first position that passes the test, else the length
 pub first_or_length : (p : ℕ → Bool) (bytes : List ℕ)
     → unwrap_or (position p bytes) (length bytes) ≡ position_or_len p bytes
 first_or_length p bytes =
@@ -24,7 +24,7 @@ first_or_length p bytes =
     elim [ true ↦ λ e. rw e refl | false ↦ λ e. rw e (search (rules, nat_tests, e, most)) ] in
     go (ltb (position_or_len p bytes) (length bytes)) refl
 
--- where no bit of the mask is set, the position is the length
+-- if no bit of the mask is set, the position is the length
 pub position_of_none : (p : ℕ → Bool) (xs : List ℕ) (n mask : ℕ) → length xs ≡ n → n ≤ 64
     → mask ≡ mask_l (map p xs) → mask ≡ 0
     → n ≡ position_or_len p xs
@@ -33,7 +33,7 @@ position_of_none p xs n mask long short is none =
     sym (ap (λ b. cond b n (count_trailing_zeros 64 (mask_l (map p xs)))) e)
     ∙ first_set_mask_l p xs n long short
 
--- else it is that of the lowest bit
+-- else the position is that of the lowest set bit
 pub position_of_some : (p : ℕ → Bool) (xs : List ℕ) (n mask : ℕ) → length xs ≡ n → n ≤ 64
     → mask ≡ mask_l (map p xs) → mask ≢ 0
     → count_trailing_zeros 64 mask ≡ position_or_len p xs
@@ -42,7 +42,7 @@ position_of_some p xs n mask long short is some =
     ap (count_trailing_zeros 64) is ∙ sym (ap (λ b. cond b n (count_trailing_zeros 64
     (mask_l (map p xs)))) e) ∙ first_set_mask_l p xs n long short
 
--- a stride, and what stands after it
+-- a stride of `n` bytes at an index
 record Stride (bytes : List ℕ) (start n : ℕ) (stride : List ℕ) : Type 0 where
   room : start + n ≤ length bytes
   long : length stride ≡ n
@@ -76,7 +76,7 @@ module _ (p : ℕ → Bool) (bytes : List ℕ) (start n found : ℕ) (stride : L
       ap (position_or_len p) (stride_is bytes start n stride within chunk).parts
       ∙ prefix_len-append (λ b. not (p b)) stride (drop (start + n) bytes)
 
-  -- it stands in the stride
+  -- the byte is in the stride
   pub position_found : found < n → start + found ≡ position_or_len p bytes
   position_found inside =
       let long = (stride_is bytes start n stride within chunk).long in
@@ -89,7 +89,7 @@ module _ (p : ℕ → Bool) (bytes : List ℕ) (start n found : ℕ) (stride : L
             + position_or_len p (drop (start + n) bytes)) (position_or_len p stride)) e,
       )
 
-  -- it stands after the stride
+  -- the byte is after the stride
   pub position_further : n ≤ found
       → (start + n ≤ length bytes) × (position_or_len p bytes
       ≡ start + n + position_or_len p (drop (start + n) bytes))
@@ -111,7 +111,7 @@ module _ (p : ℕ → Bool) (bytes : List ℕ) (start n found : ℕ) (stride : L
         ),
       )
 
--- before the first line feed there is none
+-- before the first line feed there is no line feed
 pub HasNoFeed-before : (bytes : List ℕ)
     → HasNoFeed (take (position_or_len (λ b. eqb b 10) bytes) bytes)
 HasNoFeed-before [] = tt
@@ -133,7 +133,7 @@ true_from_not : (t : Bool) → not t ≡ false → t ≡ true
 true_from_not true e = refl
 true_from_not false e = sym e
 
--- and there it is one, if it is not the end
+-- and at its position there is one, if that is not the end
 pub feed_there : (bytes : List ℕ) → position_or_len (λ b. eqb b 10) bytes < length bytes
     → get_or bytes (position_or_len (λ b. eqb b 10) bytes) 0 ≡ 10
 feed_there bytes within =

@@ -1,6 +1,6 @@
--- A word that contracts of private functions alone cite.
+-- A definition that only contracts of private functions cite.
 use Rattle.std.specs.Prelude.{ℕ, ◌^◌, ◌≤◌, ℤ, nat_abs}
 
--- the number is greater than each that a type of 128 bits holds, or less
+-- the magnitude of the number does not fit 128 bits, so no type holds the number
 abbrev pub IsBeyondAll : ℤ → Type 0
 IsBeyondAll number = 2 ^ 128 ≤ nat_abs number

@@ -11,14 +11,14 @@ use chinese_number::{ChineseToNumberError, ROOM_BYTES, Whole};
 use cn_faces::{SignedMagnitude, put_by, read_as};
 use std::alloc::AllocError;
 
-// Puts the answer to a line that asks nothing.
+// Appends the answer to a line that is not a question.
 fn put_bad_line(answer: &mut String) -> Result<(), AllocError>
     ensures { OnOk result (string_bytes answer.new ≡ string_bytes answer.old ++ bad_line) }
 {
     answer.push_str("bad line")
 }
 
-// Puts the number that was read, or why there is none.
+// Appends the number that was read, or the error.
 fn put_number_or_refusal(
     answer: &mut String,
     outcome: Result<SignedMagnitude, ChineseToNumberError>,
@@ -36,7 +36,7 @@ fn put_number_or_refusal(
     }
 }
 
-// Answers what stands after `read `.
+// Answers the fields after `read `.
 fn answer_read(answer: &mut String, fields: &[u8]) -> Result<(), AllocError>
     requires { string_bytes answer.old ≡ [] }
     ensures { OnOk result (AnswersAny (read_question fields.now) (string_bytes answer.new)) }
@@ -49,7 +49,7 @@ fn answer_read(answer: &mut String, fields: &[u8]) -> Result<(), AllocError>
     }
 }
 
-// Puts the text of a number.
+// Appends the text of a number.
 fn put_text(answer: &mut String, text: &str) -> Result<(), AllocError>
     ensures { OnOk result (string_bytes answer.new
         ≡ string_bytes answer.old ++ (codes "ok " ++ text.now)) }
@@ -58,7 +58,7 @@ fn put_text(answer: &mut String, text: &str) -> Result<(), AllocError>
     answer.push_str(text)
 }
 
-// Puts the text of a number as one of a type, or why there is none.
+// Appends the text of a number as a number of a type, or the error.
 fn put_printed_as<T: Whole>(answer: &mut String, asked: Printing) -> Result<(), AllocError>
     requires { string_bytes answer.old ≡ [] }
     ensures { OnOk result (AnswersPrinting T.kind asked.way asked.variant asked.case
@@ -78,7 +78,7 @@ fn put_printed_as<T: Whole>(answer: &mut String, asked: Printing) -> Result<(), 
     }
 }
 
-// Puts the text of a number, if its type holds it, as one of 128 bits; or why there is none.
+// Appends the text of a number, written as one of 128 bits, if its own type holds it, or the error.
 fn put_printed(answer: &mut String, asked: Printing) -> Result<(), AllocError>
     requires { string_bytes answer.old ≡ [] }
     ensures { OnOk result (AnswersPrinting (the_kind asked.integer) asked.way asked.variant
@@ -93,7 +93,7 @@ fn put_printed(answer: &mut String, asked: Printing) -> Result<(), AllocError>
     }
 }
 
-// Answers what stands after `print `.
+// Answers the fields after `print `.
 fn answer_print(answer: &mut String, fields: &[u8]) -> Result<(), AllocError>
     requires { string_bytes answer.old ≡ [] }
     ensures { OnOk result (AnswersAny (print_question fields.now) (string_bytes answer.new)) }
@@ -104,7 +104,7 @@ fn answer_print(answer: &mut String, fields: &[u8]) -> Result<(), AllocError>
     }
 }
 
-/// Puts the answer to a line into the empty text.
+/// Writes the answer to a line into `answer`, which must be empty.
 #[tactic(auto, unfolding(crate::specs::Answer::Answers, crate::specs::Question::question_of))]
 pub fn answer(answer: &mut String, line: &[u8]) -> Result<(), AllocError>
     requires { string_bytes answer.old ≡ [] }

@@ -1,6 +1,6 @@
-//! The lines of the program `numeral`: where one ends, what it asks, and what is answered.
+//! The lines of the program `numeral`: where a line ends, what it asks, and what the answer is.
 //!
-//! What stands here serves that program alone, which hands the laws on.
+//! Only that program uses this crate; it re-exports the laws.
 #![tactic(auto)]
 
 pub mod answer;

@@ -1,11 +1,11 @@
-// Where a line ends, and where a byte first stands.
+// Finds the end of a line, and the first position of a byte.
 ghost use Rattle.std.specs.Prelude.{◌≡◌, ◌==◌, ◌<◌, ◌≤◌, ◌++◌, ◌∷◌, false, length, position, take, slice_index, IfSome, MatchOption, IsFalse};
 ghost use Rattle.std.specs.List.{position_or_len};
 ghost use Rattle.cn_lines.specs.Lines.{HasNoFeed};
 
 use std::simd::prelude::*;
 
-// How many bytes are looked at in one step, where the position is likely to be far.
+// The number of bytes that are compared in one step when the position is likely to be far.
 const STRIDE: usize = 64;
 
 /// The position of the first byte of this value.
@@ -23,7 +23,7 @@ fn near_position(byte: u8, bytes: &[u8]) -> usize
     first_position(byte, bytes).unwrap_or(bytes.len())
 }
 
-// The position in a stride, or its length. Its bytes are compared side by side.
+// The position in a stride, or the length of the stride. Its bytes are compared in parallel.
 #[inline(always)]
 fn position_in_stride(byte: u8, stride: &[u8; STRIDE]) -> usize
     ensures { result ≡ position_or_len (λ b. b == byte) stride.now }
@@ -37,7 +37,8 @@ fn position_in_stride(byte: u8, stride: &[u8; STRIDE]) -> usize
     found.trailing_zeros() as usize
 }
 
-/// The position of the first byte of this value, or the length, where it is likely to be far.
+/// The position of the first byte of this value, or the length; for positions that are likely to be
+/// far.
 pub(crate) fn far_position(byte: u8, bytes: &[u8]) -> usize
     ensures position { result ≡ position_or_len (λ b. b == byte) bytes.now }
     ensures bound { result ≤ length bytes.now }
@@ -62,7 +63,7 @@ fn line_len(bytes: &[u8]) -> usize
     far_position(b'\n', bytes)
 }
 
-/// The first line, and what stands after its line feed.
+/// The first line and the bytes after its line feed; `None` if there is no line feed.
 pub fn split_line(bytes: &[u8]) -> Option<(&[u8], &[u8])>
     ensures parts { MatchOption result (HasNoFeed bytes.now)
         (λ r. bytes.now ≡ r.0.now ++ 10 ∷ r.1.now) }

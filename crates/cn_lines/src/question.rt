@@ -1,4 +1,4 @@
-// What a line asks.
+// Parses the question that a line asks.
 ghost use Rattle.std.specs.Prelude.{◌≡◌, ◌==◌, ◌+◌, ◌*◌, ◌^◌, ◌<◌, ◌≤◌, ◌∷◌, position, length, IsTrue, SomeIff, IfNone, IfSome, MatchOption};
 ghost use Rattle.std.specs.List.{list_all};
 ghost use Rattle.std.specs.Char.{is_ascii_digit};
@@ -12,7 +12,7 @@ use crate::lines::first_position;
 use chinese_number::{ChineseCase, ChineseVariant};
 use cn_faces::{IntegerType, SignedMagnitude, Way, utf8_text, way_named};
 
-/// The first field, which a space ends, and all that follows the space.
+/// The first field, which ends before a space, and everything after the space.
 pub(crate) fn cut(bytes: &[u8]) -> Option<(&[u8], &[u8])>
     ensures { MatchOption result (cut bytes.now ≡ None)
         (λ r. cut bytes.now ≡ Some (r.0.now, r.1.now)) }
@@ -23,7 +23,7 @@ pub(crate) fn cut(bytes: &[u8]) -> Option<(&[u8], &[u8])>
     Some((&bytes[..end], &bytes[end + 1..]))
 }
 
-// The unsigned type whose name ends so.
+// The unsigned type whose name ends with this width.
 #[inline(always)]
 fn unsigned_type(width: &[u8]) -> Option<IntegerType>
     ensures { result ≡ type_named (117 ∷ width.now) }
@@ -39,7 +39,7 @@ fn unsigned_type(width: &[u8]) -> Option<IntegerType>
     }
 }
 
-// The signed type whose name ends so.
+// The signed type whose name ends with this width.
 #[inline(always)]
 fn signed_type(width: &[u8]) -> Option<IntegerType>
     ensures { result ≡ type_named (105 ∷ width.now) }
@@ -88,10 +88,10 @@ fn case_named(name: &[u8]) -> Option<ChineseCase>
     }
 }
 
-// So many decimal digits fit 64 bits.
+// The most decimal digits whose number always fits 64 bits.
 const SHORT: usize = 19;
 
-// The number of so few decimal digits that it fits 64 bits.
+// The number that at most this many decimal digits write.
 fn short_value(digits: &[u8]) -> Option<u64>
     requires { length digits.now ≤ SHORT }
     ensures { SomeIff result (IsTrue (list_all is_ascii_digit digits.now)) (value_of digits.now) }
@@ -106,15 +106,15 @@ fn short_value(digits: &[u8]) -> Option<u64>
     Some(value)
 }
 
-// The number with one more digit, if it fits.
+// The number with one more digit; `None` if it does not fit.
 fn push_digit(number: u128, digit: u8) -> Option<u128>
     ensures { SomeIff result (number * 10 + digit < 2 ^ 128) (number * 10 + digit) }
 {
     number.checked_mul(10)?.checked_add(digit as u128)
 }
 
-// The number that more decimal digits write after those of another. There is none, too, where it
-// passes 128 bits.
+// The number that decimal digits write when they are appended to those of another number. `None` if
+// there is another byte, or if the number does not fit 128 bits.
 fn longer_value(start: u128, digits: &[u8]) -> Option<u128>
     ensures none { IfNone result
         (IsTrue (list_all is_ascii_digit digits.now) → 2 ^ 128 ≤ value_after start digits.now) }
@@ -134,7 +134,7 @@ fn longer_value(start: u128, digits: &[u8]) -> Option<u128>
     Some(value)
 }
 
-// The magnitude of at least one decimal digit. There is none, too, where it passes 128 bits.
+// The magnitude that one or more decimal digits write. Also `None` if it does not fit 128 bits.
 fn magnitude_of(digits: &[u8]) -> Option<u128>
     ensures none { IfNone result (IfSome (magnitude_of digits.now) (λ n. 2 ^ 128 ≤ n)) }
     ensures some { IfSome result (λ n. magnitude_of digits.now ≡ Some n) }
@@ -149,7 +149,7 @@ fn magnitude_of(digits: &[u8]) -> Option<u128>
     }
 }
 
-/// A text that is to be read as a number of a type.
+/// A text to be read as a number of a type.
 #[derive(Clone, Copy)]
 pub(crate) struct Reading<'a> {
     pub(crate) integer: IntegerType,
@@ -157,7 +157,7 @@ pub(crate) struct Reading<'a> {
     pub(crate) text: &'a str,
 }
 
-/// What stands after `read `: a type, a way and a text.
+/// Parses the fields after `read `: a type, a way and a text.
 #[inline(always)]
 pub(crate) fn asked_reading(fields: &[u8]) -> Option<Reading<'_>>
     ensures { MatchOption result (read_question fields.now ≡ None)
@@ -171,8 +171,7 @@ pub(crate) fn asked_reading(fields: &[u8]) -> Option<Reading<'_>>
     Some(Reading { integer, way, text })
 }
 
-// A decimal number. There is none, too, where its magnitude passes 128 bits, since no type holds
-// it.
+// A decimal number. Also `None` if its magnitude does not fit 128 bits, since no type holds it.
 #[inline(always)]
 fn decimal_number(field: &[u8]) -> Option<SignedMagnitude>
     ensures none { IfNone result (IfSome (decimal_number field.now) IsBeyondAll) }
@@ -189,7 +188,7 @@ fn decimal_number(field: &[u8]) -> Option<SignedMagnitude>
     })
 }
 
-/// A number that is to be printed, if its type holds it.
+/// A number to be printed, if its type holds it.
 #[derive(Clone, Copy)]
 pub(crate) struct Printing {
     pub(crate) integer: IntegerType,
@@ -199,7 +198,7 @@ pub(crate) struct Printing {
     pub(crate) number: SignedMagnitude,
 }
 
-/// What stands after `print `: a type, a way, a script, a case and a number.
+/// Parses the fields after `print `: a type, a way, a script, a case and a number.
 #[inline(always)]
 pub(crate) fn asked_printing(fields: &[u8]) -> Option<Printing>
     ensures none { IfNone result (AnswersAny (print_question fields.now) bad_line) }

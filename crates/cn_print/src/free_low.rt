@@ -1,8 +1,8 @@
-// The free printers by `Low`, one for each integer type.
+// The printer functions with `Low`, one for each integer type.
 //
-// The types of 8 and 16 bits hold no number from 10^5 on, where the methods begin to differ: any
-// method would write the same text, and no body that prints by another one is wrong. Theirs is
-// `Low`, as in their contracts.
+// The methods write the same text for numbers below 10^5, and the types of 8 and 16 bits hold only
+// such numbers. So a body that prints with another method is not wrong for these types. They print
+// with `Low`, as their contracts say.
 ghost use Rattle.std.specs.Prelude.{IfOk, pos};
 ghost use Rattle.cn_core.specs.declared.method.ChineseCountMethod.TheVariants.{Low};
 ghost use Rattle.cn_core.specs.Printing.{spelled_text};
@@ -13,10 +13,10 @@ use cn_core::{ChineseCase, ChineseCountMethod, ChineseVariant};
 use cn_spell::{NumberToChineseError, print_by_units, print_or_refuse};
 use std::alloc::{AllocError, Global};
 
-/// Writes a `u8` by `Low`: 12 is `十二`
+/// Writes a `u8` with `Low`: 12 is `十二`
 /// in traditional script and lower case.
 ///
-/// The only error is `AllocError`, where memory runs out.
+/// The only error is `AllocError`, if the memory cannot be allocated.
 pub fn from_u8_to_chinese(
     alloc: Global,
     variant: ChineseVariant,
@@ -29,10 +29,10 @@ pub fn from_u8_to_chinese(
     print_by_units::<u8>(alloc, variant, case, ChineseCountMethod::Low, value)
 }
 
-/// Writes a `u16` by `Low`: 12 is `十二`
+/// Writes a `u16` with `Low`: 12 is `十二`
 /// in traditional script and lower case.
 ///
-/// The only error is `AllocError`, where memory runs out.
+/// The only error is `AllocError`, if the memory cannot be allocated.
 pub fn from_u16_to_chinese(
     alloc: Global,
     variant: ChineseVariant,
@@ -45,10 +45,10 @@ pub fn from_u16_to_chinese(
     print_by_units::<u16>(alloc, variant, case, ChineseCountMethod::Low, value)
 }
 
-/// Writes a `u32` by `Low`: 100_000 is `一億`
+/// Writes a `u32` with `Low`: 100_000 is `一億`
 /// in traditional script and lower case.
 ///
-/// The only error is `AllocError`, where memory runs out.
+/// The only error is `AllocError`, if the memory cannot be allocated.
 pub fn from_u32_to_chinese_low(
     alloc: Global,
     variant: ChineseVariant,
@@ -61,11 +61,11 @@ pub fn from_u32_to_chinese_low(
     print_by_units::<u32>(alloc, variant, case, ChineseCountMethod::Low, value)
 }
 
-/// Writes a `u64` by `Low`: 100_000 is `一億`
+/// Writes a `u64` with `Low`: 100_000 is `一億`
 /// in traditional script and lower case.
 ///
-/// A number from 10^16 up is refused with `Overflow`, before memory is asked for. Where memory runs
-/// out the error is `OutOfMemory`.
+/// Returns `Overflow` for a number of 10^16 or more, before memory is allocated, and `OutOfMemory`
+/// if the memory cannot be allocated.
 pub fn from_u64_to_chinese_low(
     alloc: Global,
     variant: ChineseVariant,
@@ -77,11 +77,11 @@ pub fn from_u64_to_chinese_low(
     print_or_refuse::<u64>(alloc, variant, case, ChineseCountMethod::Low, value)
 }
 
-/// Writes a `u128` by `Low`: 100_000 is `一億`
+/// Writes a `u128` with `Low`: 100_000 is `一億`
 /// in traditional script and lower case.
 ///
-/// A number from 10^16 up is refused with `Overflow`, before memory is asked for. Where memory runs
-/// out the error is `OutOfMemory`.
+/// Returns `Overflow` for a number of 10^16 or more, before memory is allocated, and `OutOfMemory`
+/// if the memory cannot be allocated.
 pub fn from_u128_to_chinese_low(
     alloc: Global,
     variant: ChineseVariant,
@@ -93,11 +93,11 @@ pub fn from_u128_to_chinese_low(
     print_or_refuse::<u128>(alloc, variant, case, ChineseCountMethod::Low, value)
 }
 
-/// Writes a `usize` by `Low`: 100_000 is `一億`
+/// Writes a `usize` with `Low`: 100_000 is `一億`
 /// in traditional script and lower case.
 ///
-/// A number from 10^16 up is refused with `Overflow`, before memory is asked for. Where memory runs
-/// out the error is `OutOfMemory`.
+/// Returns `Overflow` for a number of 10^16 or more, before memory is allocated, and `OutOfMemory`
+/// if the memory cannot be allocated.
 pub fn from_usize_to_chinese_low(
     alloc: Global,
     variant: ChineseVariant,
@@ -109,10 +109,10 @@ pub fn from_usize_to_chinese_low(
     print_or_refuse::<usize>(alloc, variant, case, ChineseCountMethod::Low, value)
 }
 
-/// Writes an `i8` by `Low`: -12 is `負十二`
+/// Writes an `i8` with `Low`: -12 is `負十二`
 /// in traditional script and lower case.
 ///
-/// The only error is `AllocError`, where memory runs out.
+/// The only error is `AllocError`, if the memory cannot be allocated.
 pub fn from_i8_to_chinese(
     alloc: Global,
     variant: ChineseVariant,
@@ -125,10 +125,10 @@ pub fn from_i8_to_chinese(
     print_by_units::<i8>(alloc, variant, case, ChineseCountMethod::Low, value)
 }
 
-/// Writes an `i16` by `Low`: -12 is `負十二`
+/// Writes an `i16` with `Low`: -12 is `負十二`
 /// in traditional script and lower case.
 ///
-/// The only error is `AllocError`, where memory runs out.
+/// The only error is `AllocError`, if the memory cannot be allocated.
 pub fn from_i16_to_chinese(
     alloc: Global,
     variant: ChineseVariant,
@@ -141,10 +141,10 @@ pub fn from_i16_to_chinese(
     print_by_units::<i16>(alloc, variant, case, ChineseCountMethod::Low, value)
 }
 
-/// Writes an `i32` by `Low`: -100_000 is `負一億`
+/// Writes an `i32` with `Low`: -100_000 is `負一億`
 /// in traditional script and lower case.
 ///
-/// The only error is `AllocError`, where memory runs out.
+/// The only error is `AllocError`, if the memory cannot be allocated.
 pub fn from_i32_to_chinese_low(
     alloc: Global,
     variant: ChineseVariant,
@@ -157,11 +157,11 @@ pub fn from_i32_to_chinese_low(
     print_by_units::<i32>(alloc, variant, case, ChineseCountMethod::Low, value)
 }
 
-/// Writes an `i64` by `Low`: -100_000 is `負一億`
+/// Writes an `i64` with `Low`: -100_000 is `負一億`
 /// in traditional script and lower case.
 ///
-/// A number from 10^16 up is refused with `Overflow`, and one from -10^16 down with `Underflow`,
-/// before memory is asked for. Where memory runs out the error is `OutOfMemory`.
+/// Returns `Overflow` for a number of 10^16 or more and `Underflow` for one of -10^16 or less,
+/// before memory is allocated, and `OutOfMemory` if the memory cannot be allocated.
 pub fn from_i64_to_chinese_low(
     alloc: Global,
     variant: ChineseVariant,
@@ -173,11 +173,11 @@ pub fn from_i64_to_chinese_low(
     print_or_refuse::<i64>(alloc, variant, case, ChineseCountMethod::Low, value)
 }
 
-/// Writes an `i128` by `Low`: -100_000 is `負一億`
+/// Writes an `i128` with `Low`: -100_000 is `負一億`
 /// in traditional script and lower case.
 ///
-/// A number from 10^16 up is refused with `Overflow`, and one from -10^16 down with `Underflow`,
-/// before memory is asked for. Where memory runs out the error is `OutOfMemory`.
+/// Returns `Overflow` for a number of 10^16 or more and `Underflow` for one of -10^16 or less,
+/// before memory is allocated, and `OutOfMemory` if the memory cannot be allocated.
 pub fn from_i128_to_chinese_low(
     alloc: Global,
     variant: ChineseVariant,
@@ -189,11 +189,11 @@ pub fn from_i128_to_chinese_low(
     print_or_refuse::<i128>(alloc, variant, case, ChineseCountMethod::Low, value)
 }
 
-/// Writes an `isize` by `Low`: -100_000 is `負一億`
+/// Writes an `isize` with `Low`: -100_000 is `負一億`
 /// in traditional script and lower case.
 ///
-/// A number from 10^16 up is refused with `Overflow`, and one from -10^16 down with `Underflow`,
-/// before memory is asked for. Where memory runs out the error is `OutOfMemory`.
+/// Returns `Overflow` for a number of 10^16 or more and `Underflow` for one of -10^16 or less,
+/// before memory is allocated, and `OutOfMemory` if the memory cannot be allocated.
 pub fn from_isize_to_chinese_low(
     alloc: Global,
     variant: ChineseVariant,

@@ -1,4 +1,4 @@
-// The free printers of plain digits, one for each integer type.
+// The printer functions of plain digits, one for each integer type.
 ghost use Rattle.std.specs.Prelude.{IfOk, pos};
 ghost use Rattle.cn_core.specs.Printing.{naive_text};
 ghost use Rattle.cn_spell.specs.Writes.{Writes, most_plain_bytes};
@@ -10,7 +10,7 @@ use std::alloc::{AllocError, Global};
 /// Writes a `u8` digit by digit: 120 is `一二零`
 /// in traditional script and lower case.
 ///
-/// The only error is `AllocError`, where memory runs out.
+/// The only error is `AllocError`, if the memory cannot be allocated.
 pub fn from_u8_to_chinese_naive(
     alloc: Global,
     variant: ChineseVariant,
@@ -25,7 +25,7 @@ pub fn from_u8_to_chinese_naive(
 /// Writes a `u16` digit by digit: 120 is `一二零`
 /// in traditional script and lower case.
 ///
-/// The only error is `AllocError`, where memory runs out.
+/// The only error is `AllocError`, if the memory cannot be allocated.
 pub fn from_u16_to_chinese_naive(
     alloc: Global,
     variant: ChineseVariant,
@@ -40,7 +40,7 @@ pub fn from_u16_to_chinese_naive(
 /// Writes a `u32` digit by digit: 120 is `一二零`
 /// in traditional script and lower case.
 ///
-/// The only error is `AllocError`, where memory runs out.
+/// The only error is `AllocError`, if the memory cannot be allocated.
 pub fn from_u32_to_chinese_naive(
     alloc: Global,
     variant: ChineseVariant,
@@ -55,7 +55,7 @@ pub fn from_u32_to_chinese_naive(
 /// Writes a `u64` digit by digit: 120 is `一二零`
 /// in traditional script and lower case.
 ///
-/// The only error is `AllocError`, where memory runs out.
+/// The only error is `AllocError`, if the memory cannot be allocated.
 pub fn from_u64_to_chinese_naive(
     alloc: Global,
     variant: ChineseVariant,
@@ -70,7 +70,7 @@ pub fn from_u64_to_chinese_naive(
 /// Writes a `u128` digit by digit: 120 is `一二零`
 /// in traditional script and lower case.
 ///
-/// The only error is `AllocError`, where memory runs out.
+/// The only error is `AllocError`, if the memory cannot be allocated.
 pub fn from_u128_to_chinese_naive(
     alloc: Global,
     variant: ChineseVariant,
@@ -85,7 +85,7 @@ pub fn from_u128_to_chinese_naive(
 /// Writes a `usize` digit by digit: 120 is `一二零`
 /// in traditional script and lower case.
 ///
-/// The only error is `AllocError`, where memory runs out.
+/// The only error is `AllocError`, if the memory cannot be allocated.
 pub fn from_usize_to_chinese_naive(
     alloc: Global,
     variant: ChineseVariant,
@@ -100,7 +100,7 @@ pub fn from_usize_to_chinese_naive(
 /// Writes an `i8` digit by digit: -120 is `負一二零`
 /// in traditional script and lower case.
 ///
-/// The only error is `AllocError`, where memory runs out.
+/// The only error is `AllocError`, if the memory cannot be allocated.
 pub fn from_i8_to_chinese_naive(
     alloc: Global,
     variant: ChineseVariant,
@@ -115,7 +115,7 @@ pub fn from_i8_to_chinese_naive(
 /// Writes an `i16` digit by digit: -120 is `負一二零`
 /// in traditional script and lower case.
 ///
-/// The only error is `AllocError`, where memory runs out.
+/// The only error is `AllocError`, if the memory cannot be allocated.
 pub fn from_i16_to_chinese_naive(
     alloc: Global,
     variant: ChineseVariant,
@@ -130,7 +130,7 @@ pub fn from_i16_to_chinese_naive(
 /// Writes an `i32` digit by digit: -120 is `負一二零`
 /// in traditional script and lower case.
 ///
-/// The only error is `AllocError`, where memory runs out.
+/// The only error is `AllocError`, if the memory cannot be allocated.
 pub fn from_i32_to_chinese_naive(
     alloc: Global,
     variant: ChineseVariant,
@@ -145,7 +145,7 @@ pub fn from_i32_to_chinese_naive(
 /// Writes an `i64` digit by digit: -120 is `負一二零`
 /// in traditional script and lower case.
 ///
-/// The only error is `AllocError`, where memory runs out.
+/// The only error is `AllocError`, if the memory cannot be allocated.
 pub fn from_i64_to_chinese_naive(
     alloc: Global,
     variant: ChineseVariant,
@@ -160,7 +160,7 @@ pub fn from_i64_to_chinese_naive(
 /// Writes an `i128` digit by digit: -120 is `負一二零`
 /// in traditional script and lower case.
 ///
-/// The only error is `AllocError`, where memory runs out.
+/// The only error is `AllocError`, if the memory cannot be allocated.
 pub fn from_i128_to_chinese_naive(
     alloc: Global,
     variant: ChineseVariant,
@@ -175,7 +175,7 @@ pub fn from_i128_to_chinese_naive(
 /// Writes an `isize` digit by digit: -120 is `負一二零`
 /// in traditional script and lower case.
 ///
-/// The only error is `AllocError`, where memory runs out.
+/// The only error is `AllocError`, if the memory cannot be allocated.
 pub fn from_isize_to_chinese_naive(
     alloc: Global,
     variant: ChineseVariant,

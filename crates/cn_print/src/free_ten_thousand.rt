@@ -1,4 +1,4 @@
-// The free printers by `TenThousand`, one for each integer type from 32 bits up.
+// The printer functions with `TenThousand`, one for each integer type of 32 bits or more.
 ghost use Rattle.std.specs.Prelude.{IfOk, pos};
 ghost use Rattle.cn_core.specs.declared.method.ChineseCountMethod.TheVariants.{TenThousand};
 ghost use Rattle.cn_core.specs.Printing.{spelled_text};
@@ -9,10 +9,10 @@ use cn_core::{ChineseCase, ChineseCountMethod, ChineseVariant};
 use cn_spell::print_by_units;
 use std::alloc::{AllocError, Global};
 
-/// Writes a `u32` by `TenThousand`: 100_000 is `十萬`
+/// Writes a `u32` with `TenThousand`: 100_000 is `十萬`
 /// in traditional script and lower case.
 ///
-/// The only error is `AllocError`, where memory runs out.
+/// The only error is `AllocError`, if the memory cannot be allocated.
 pub fn from_u32_to_chinese_ten_thousand(
     alloc: Global,
     variant: ChineseVariant,
@@ -25,10 +25,10 @@ pub fn from_u32_to_chinese_ten_thousand(
     print_by_units::<u32>(alloc, variant, case, ChineseCountMethod::TenThousand, value)
 }
 
-/// Writes a `u64` by `TenThousand`: 1_000_000_000_000 is `一兆`
+/// Writes a `u64` with `TenThousand`: 1_000_000_000_000 is `一兆`
 /// in traditional script and lower case.
 ///
-/// The only error is `AllocError`, where memory runs out.
+/// The only error is `AllocError`, if the memory cannot be allocated.
 pub fn from_u64_to_chinese_ten_thousand(
     alloc: Global,
     variant: ChineseVariant,
@@ -41,10 +41,10 @@ pub fn from_u64_to_chinese_ten_thousand(
     print_by_units::<u64>(alloc, variant, case, ChineseCountMethod::TenThousand, value)
 }
 
-/// Writes a `u128` by `TenThousand`: 1_000_000_000_000 is `一兆`
+/// Writes a `u128` with `TenThousand`: 1_000_000_000_000 is `一兆`
 /// in traditional script and lower case.
 ///
-/// The only error is `AllocError`, where memory runs out.
+/// The only error is `AllocError`, if the memory cannot be allocated.
 pub fn from_u128_to_chinese_ten_thousand(
     alloc: Global,
     variant: ChineseVariant,
@@ -57,10 +57,10 @@ pub fn from_u128_to_chinese_ten_thousand(
     print_by_units::<u128>(alloc, variant, case, ChineseCountMethod::TenThousand, value)
 }
 
-/// Writes a `usize` by `TenThousand`: 1_000_000_000_000 is `一兆`
+/// Writes a `usize` with `TenThousand`: 1_000_000_000_000 is `一兆`
 /// in traditional script and lower case.
 ///
-/// The only error is `AllocError`, where memory runs out.
+/// The only error is `AllocError`, if the memory cannot be allocated.
 pub fn from_usize_to_chinese_ten_thousand(
     alloc: Global,
     variant: ChineseVariant,
@@ -73,10 +73,10 @@ pub fn from_usize_to_chinese_ten_thousand(
     print_by_units::<usize>(alloc, variant, case, ChineseCountMethod::TenThousand, value)
 }
 
-/// Writes an `i32` by `TenThousand`: -100_000 is `負十萬`
+/// Writes an `i32` with `TenThousand`: -100_000 is `負十萬`
 /// in traditional script and lower case.
 ///
-/// The only error is `AllocError`, where memory runs out.
+/// The only error is `AllocError`, if the memory cannot be allocated.
 pub fn from_i32_to_chinese_ten_thousand(
     alloc: Global,
     variant: ChineseVariant,
@@ -89,10 +89,10 @@ pub fn from_i32_to_chinese_ten_thousand(
     print_by_units::<i32>(alloc, variant, case, ChineseCountMethod::TenThousand, value)
 }
 
-/// Writes an `i64` by `TenThousand`: -1_000_000_000_000 is `負一兆`
+/// Writes an `i64` with `TenThousand`: -1_000_000_000_000 is `負一兆`
 /// in traditional script and lower case.
 ///
-/// The only error is `AllocError`, where memory runs out.
+/// The only error is `AllocError`, if the memory cannot be allocated.
 pub fn from_i64_to_chinese_ten_thousand(
     alloc: Global,
     variant: ChineseVariant,
@@ -105,10 +105,10 @@ pub fn from_i64_to_chinese_ten_thousand(
     print_by_units::<i64>(alloc, variant, case, ChineseCountMethod::TenThousand, value)
 }
 
-/// Writes an `i128` by `TenThousand`: -1_000_000_000_000 is `負一兆`
+/// Writes an `i128` with `TenThousand`: -1_000_000_000_000 is `負一兆`
 /// in traditional script and lower case.
 ///
-/// The only error is `AllocError`, where memory runs out.
+/// The only error is `AllocError`, if the memory cannot be allocated.
 pub fn from_i128_to_chinese_ten_thousand(
     alloc: Global,
     variant: ChineseVariant,
@@ -121,10 +121,10 @@ pub fn from_i128_to_chinese_ten_thousand(
     print_by_units::<i128>(alloc, variant, case, ChineseCountMethod::TenThousand, value)
 }
 
-/// Writes an `isize` by `TenThousand`: -1_000_000_000_000 is `負一兆`
+/// Writes an `isize` with `TenThousand`: -1_000_000_000_000 is `負一兆`
 /// in traditional script and lower case.
 ///
-/// The only error is `AllocError`, where memory runs out.
+/// The only error is `AllocError`, if the memory cannot be allocated.
 pub fn from_isize_to_chinese_ten_thousand(
     alloc: Global,
     variant: ChineseVariant,

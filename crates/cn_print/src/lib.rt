@@ -1,6 +1,6 @@
-//! The printers of Chinese numerals by name, one for each integer type and method, and the trait
-//! `NumberToChinese`. Each is one line above `cn_spell`, whose calls that put a text into a room are
-//! handed on.
+//! The printers of Chinese numerals: one function for each integer type and method, and the trait
+//! `NumberToChinese`. Each is one line that calls `cn_spell`. The calls of `cn_spell` that write a
+//! text into a buffer are re-exported.
 #![tactic(auto)]
 
 mod free_high;

@@ -7,20 +7,21 @@ use cn_core::{ChineseCase, ChineseCountMethod, ChineseVariant, Whole};
 use cn_spell::{NumberToChineseError, print_naive, print_or_refuse};
 use std::alloc::{AllocError, Global};
 
-/// Numbers that are written in Chinese: those of the twelve integer types.
+/// Numbers that can be written in Chinese: those of the twelve integer types.
 ///
-/// `alloc` is the allocator for the text: `rt.alloc()` in `main`, which hands it on to what it
-/// calls.
+/// `alloc` is the allocator of the text. `main` gets it from `rt.alloc()` and passes it on to the
+/// functions that it calls.
 pub trait NumberToChinese: Whole {
-    /// Writes the number by the units of a method, after the minus sign where it is below zero.
+    /// Writes the number with the units of a method, after a minus sign if it is below zero.
     ///
     /// ```text
     /// 123i8.to_chinese(alloc, ChineseVariant::Simple, ChineseCase::Upper, ChineseCountMethod::Low)
     /// // 壹佰贰拾叁
     /// ```
     ///
-    /// `Low` refuses a number from 10^16 up with `Overflow` and one from -10^16 down with
-    /// `Underflow`, before memory is asked for. Where memory runs out the error is `OutOfMemory`.
+    /// With `Low`, returns `Overflow` for a number of 10^16 or more and `Underflow` for one of
+    /// -10^16 or less, before memory is allocated. Returns `OutOfMemory` if the memory cannot be
+    /// allocated.
     fn to_chinese(
         self,
         alloc: Global,
@@ -30,13 +31,13 @@ pub trait NumberToChinese: Whole {
     ) -> Result<String, NumberToChineseError>
         ensures { Prints variant case method (Self.number self) result };
 
-    /// Writes the number as plain decimal digits, after the minus sign where it is below zero.
+    /// Writes the number as plain decimal digits, after a minus sign if it is below zero.
     ///
     /// ```text
     /// (-5i8).to_chinese_naive(alloc, ChineseVariant::Simple, ChineseCase::Upper)   // 负伍
     /// ```
     ///
-    /// The only error is `AllocError`, where memory runs out.
+    /// The only error is `AllocError`, if the memory cannot be allocated.
     fn to_chinese_naive(
         self,
         alloc: Global,

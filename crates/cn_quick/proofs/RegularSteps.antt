@@ -1,4 +1,5 @@
--- The steps of a walk over a regular numeral, by the definitions of numerals and of their value.
+-- The steps of a walk over a regular numeral, in terms of the definitions of numerals and their
+-- value.
 use Rattle.std.proofs.Common.{◌≡◌, ◌⊎◌, inl, inr, ℕ, ◌+◌, ◌*◌, ◌^◌, ◌<◌, ◌≤◌, Bool, true, false, not, ◌&&◌, ◌||◌, ◌==◌, nat_le, nat_lt, List, [], ◌∷◌, ◌++◌, length, map, filter, chars, append_assoc, Option, Some, None, IfSome, Ok, refl, sym, ap, ◌∙◌, arith, if◌then◌else◌}
 use Rattle.std.specs.Char.{is_whitespace, is_not_whitespace}
 use Rattle.std.specs.List.{list_all}
@@ -24,7 +25,7 @@ use Rattle.cn_quick.proofs.RegularSums.{product-last, exponent-small, closing_ra
 use Rattle.cn_judge.proofs.Endings.{judge-plain_end}
 use Rattle.cn_judge.proofs.Faults.{numeral_fits, plain-numeral}
 
--- a unit before what follows it
+-- a unit before the marks that follow it
 multiplies : (rank : ℕ) (marks : List Mark) → list_all is_regular_mark marks ≡ true
     → ((starts_with_digit marks ≡ true) ⊎ (is_first rank (record_units marks) ≡ true))
     → multiplies_upwards (unit rank) marks ≡ true
@@ -48,7 +49,7 @@ strictly method rank last marks records low h =
     ∙ first-strict rank (record_units marks) ∙ ap (λ l. is_first rank (from_rank rank l)) records
     ∙ ap (is_first rank) (last-left rank last (records_from (closing_rank method) marks) low) ∙ h
 
--- the marks that end a text stay apart or do not
+-- the last mark is a tail or is not, after one more mark
 plain_end-more : (mark : Mark) (marks : List Mark) → HasNoTail marks → LeavesNoTail mark marks
     → HasNoTail (mark ∷ marks)
 plain_end-more mark [] h leaves = inl (omega arith)
@@ -139,7 +140,7 @@ precedes method rank last marks some low regular records h first =
     (both _ _ (multiplies rank marks regular h) (counts rank marks some))
     (strictly method rank last marks records low first)
 
--- one below 萬
+-- a unit below 萬
 pub regular-small : (method : ChineseCountMethod) (marks : List Mark) (held : List OpenEntry)
     (total sum last : ℕ) (at_digit : Bool) (rank : ℕ)
     → IsRegular method marks held total sum last at_digit
@@ -188,7 +189,7 @@ regular-small method marks held total sum last at_digit rank s h small leaves =
           else last ∷ records_from (closing_rank method) marks)) e ∙ first)
       either false false at e h first = cc
 
--- one from 萬 up: once what is smaller is closed, the unit may stand there
+-- a unit from 萬 up: after the smaller units are closed, it may be added
 may_open : (method : ChineseCountMethod) (marks : List Mark) (held left : List OpenEntry)
     (total sum last : ℕ) (at_digit : Bool) (rank : ℕ)
     → IsRegular method marks held total sum last at_digit → closing_rank method ≤ rank
@@ -220,7 +221,7 @@ may_open-digit method marks held left total sum last at_digit rank s great at gi
     may_open method marks held left total sum last at_digit rank s great gives top
     (inl (sym s.after_digit ∙ at))
 
--- there is room for it
+-- the array has space for it
 ranked : (marks : List Mark) → list_all is_regular_mark marks ≡ true → in_ranks marks ≡ true
 ranked [] h = refl
 ranked (digit value ∷ rest) h = ranked rest h
@@ -281,7 +282,7 @@ regular-closed method marks held left after total sum last at_digit rank all mor
       none : (n p : ℕ) → n ≡ n + 0 * p
       none n p = omega arith
 
--- the number of the whole
+-- the value of the whole numeral
 pub judges-regular : (method : ChineseCountMethod) (marks : List Mark) (held : List OpenEntry)
     (total sum last : ℕ) (at_digit : Bool) (first : Mark) (d more n : ℕ)
     → IsRegular method marks held total sum last at_digit
@@ -313,7 +314,8 @@ judges-option method marks held total sum last at_digit first d more None s nume
 judges-option method marks held total sum last at_digit first d more (Some n) s numeral add h =
     judges-regular method marks held total sum last at_digit first d more n s numeral add h.0 h.1
 
--- where the walk stands in a string of which this piece is still ahead: each mark took three bytes
+-- the state of the walk in a string, of which the piece `ahead` is not read yet; each mark was a
+-- character of three bytes
 pub record HasStepped (method : ChineseCountMethod) (bytes ahead : List ℕ) (held : List OpenEntry)
     (state : QuickState) : Type 0 where
   pub after : List ℕ
@@ -349,7 +351,7 @@ stepped-more method bytes ahead before held left state next c mark s parts is da
       stands = rw is at stands;
     }
 
--- the whole string, once its first character is read
+-- the whole string, after its first character is read
 pub stepped-all : (method : ChineseCountMethod) (bytes ahead rest : List ℕ) (held : List OpenEntry)
     (state : QuickState) (c : ℕ) (mark : Mark) (result : Option ℕ)
     → (s : HasStepped method bytes ahead held state) → chars ahead ≡ c ∷ chars rest

@@ -1,5 +1,5 @@
--- What the digits of a regular numeral count: the power of ten of its section, and that of the open
--- units.
+-- The weight of a digit in a regular numeral: the power of ten of its section times that of the
+-- open units.
 use Rattle.std.proofs.Common.{◌≡◌, ℕ, suc, ◌+◌, ◌*◌, ◌^◌, ◌<◌, ◌≤◌, Bool, true, false, ◌==◌, nat_le, nat_lt, List, [], ◌∷◌, length, map, find, refl, sym, ap, ◌∙◌, arith, if◌then◌else◌}
 use Rattle.std.specs.Option.{option_map_or}
 use Rattle.std.proofs.lemmas.Bool.Decides.{nat_tests}
@@ -12,7 +12,7 @@ use Rattle.cn_core.specs.Value.{product, records_from}
 use Rattle.cn_quick.specs.Private.Regular.{exponents, entries_for, top_exponent, is_below_top, not_smaller, closing_rank, with_last}
 use Rattle.cn_judge.proofs.OpenSums.{from_rank, records-left}
 
--- the scales of some ranks make a power of ten
+-- the product of the scales of some ranks is a power of ten
 product-exponents : (method : ChineseCountMethod) (ranks : List ℕ)
     → product (map (scale method) ranks) ≡ 10 ^ exponents method ranks
 product-exponents method [] = refl
@@ -20,7 +20,7 @@ product-exponents method (rank ∷ ranks) =
     ap (λ n. scale method rank * n) (product-exponents method ranks)
     ∙ sym (pow-add 10 (exponent method rank) (exponents method ranks))
 
--- no unit of a section is greater than its scale
+-- the exponent of a unit of a section is its rank
 pub exponent-small : (method : ChineseCountMethod) (rank : ℕ) → rank < closing_rank method
     → exponent method rank ≡ rank
 exponent-small Low rank h = refl
@@ -72,7 +72,7 @@ left-for method limit (rank ∷ ranks) = by (nat_lt rank limit) (left-for method
   by true ih = ih
   by false ih = refl
 
--- the first of some ranks is greater than this one
+-- the first of these ranks is greater than `rank`, or there is none
 abbrev pub is_first : ℕ → List ℕ → Bool
 is_first rank [] = true
 is_first rank (next ∷ ranks) = nat_lt rank next
@@ -102,7 +102,7 @@ pub last-left : (rank last : ℕ) (ranks : List ℕ) → last < rank
     → from_rank rank (with_last last ranks) ≡ from_rank rank ranks
 last-left rank last ranks low = grind (arith, nat_tests)
 
--- the records from a rank on are greater than what is below it
+-- the records from a rank on are greater than each rank below it
 pub records-first : (rank least : ℕ) (marks : List Mark) → rank < least
     → is_first rank (records_from least marks) ≡ true
 records-first rank least [] h = refl
@@ -124,7 +124,7 @@ pub records-small : (least rank : ℕ) (marks : List Mark) → rank < least
     → records_from least (unit rank ∷ marks) ≡ records_from least marks
 records-small least rank marks h = grind (arith, nat_tests)
 
--- and the records above a unit
+-- the records above a unit
 pub records-above : (least rank last : ℕ) (marks : List Mark)
     → records_from 0 marks ≡ with_last last (records_from least marks) → last < rank + 1
     → records_from (rank + 1) marks ≡ from_rank (rank + 1) (records_from least marks)

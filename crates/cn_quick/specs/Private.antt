@@ -1,2 +1,3 @@
--- Words that contracts of private functions alone cite: where a walk over a regular numeral stands.
+-- Definitions that only contracts of private functions cite: the state of a walk over a regular
+-- numeral.
 pub mod Regular

@@ -1,10 +1,11 @@
-//! Reads regular numerals at once, and has every other text judged by `cn_judge`.
+//! Reads regular numerals in one pass, and leaves every other text to `cn_judge`.
 //!
-//! `read_quickly` is one pass from the back over characters of three bytes, with the digits of a
-//! section in 64 bits. What it does not take is left to `cn_judge`, which judges from the beginning.
-//! Nothing hangs on this crate but speed: `read` has the contract of `cn_judge::read`, and `cn_read`
-//! and `cn_find` can call either, as `cn_faces` can call `judge_quickly` or `cn_judge::judge_text`.
-//! `read_quickly` is public so that `cn_vectors` can hold it against what printers write.
+//! `read_quickly` passes from right to left over characters of three bytes, and sums the digits of
+//! a section in 64 bits. If it cannot read a text, `cn_judge` judges the text from its beginning.
+//! This crate only makes reading faster: `read` has the contract of `cn_judge::read`, so `cn_read`
+//! and `cn_find` can call either, and `cn_faces` can call `judge_quickly` or
+//! `cn_judge::judge_text`. `read_quickly` is public so that `cn_vectors` can check it against
+//! printed numerals.
 #![tactic(auto)]
 
 mod open_exponents;

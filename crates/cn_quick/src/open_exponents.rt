@@ -1,4 +1,5 @@
-// The units from 萬 up that a walk from the back has met and that a unit further left can still join.
+// The units from 萬 up that a walk from the right has read and that a unit further left can still
+// multiply.
 ghost use Rattle.std.specs.Prelude.{◌≡◌, ◌≤◌, ℕ, ◌<◌, [], ◌∷◌, drop, List, length, option_map};
 ghost use Rattle.cn_core.specs.Characters.{rank};
 ghost use Rattle.cn_quick.specs.Private.Regular.{has_smaller_top, is_below_top, not_smaller, rank_on_top, top_exponent};
@@ -6,16 +7,16 @@ ghost use Rattle.cn_quick.specs.Private.Regular.{has_smaller_top, is_below_top, 
 use cn_core::Unit;
 use std::marker::Model;
 
-// A unit, and the exponent of the power of ten that it and the units below it make.
+// A unit, and the exponent of the product of its scale and those of the units below it.
 #[derive(Copy, Clone)]
 struct OpenExponent {
     unit: Unit,
     exponent: u8,
 }
 
-/// The units from 萬 up that are still open, since a unit further left can join them, the last
-/// opened on top. Their ranks fall from the bottom to the top, so there are never more than the 16
-/// ranks.
+/// The units from 萬 up that are still open because a unit further left can multiply them, as a
+/// stack with the one opened last on top. The ranks fall from the bottom to the top, so there are
+/// never more than 16 units, one of each rank.
 #[derive(Drop)]
 pub(crate) struct OpenExponents {
     entries: [OpenExponent; 16],
@@ -35,7 +36,7 @@ impl Model for OpenExponents {
 }
 
 impl OpenExponents {
-    /// No unit is open.
+    /// A stack without open units.
     pub(crate) fn new() -> Self
         ensures { result ≡ [] }
     {
@@ -48,7 +49,7 @@ impl OpenExponents {
         }
     }
 
-    /// Opens a unit, whose power of ten with those below it has this exponent.
+    /// Opens a unit; the product of its scale and those of the units below it has this exponent.
     pub(crate) fn open(&mut self, unit: Unit, exponent: u8)
         requires { length self.old < 16 }
         ensures { self.new ≡ (rank unit, exponent) ∷ self.old }
@@ -57,7 +58,7 @@ impl OpenExponents {
         self.len += 1;
     }
 
-    /// The exponent of the power of ten that the open units make.
+    /// The exponent of the product of the scales of all open units.
     pub(crate) fn exponent(&self) -> usize
         ensures { result ≡ top_exponent self.now }
     {

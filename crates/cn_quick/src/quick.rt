@@ -1,4 +1,5 @@
-// A regular numeral is read at once, and any other text is judged from its beginning.
+// Reads a regular numeral in one pass, and leaves any other text to the judgement from its
+// beginning.
 ghost use Rattle.std.specs.Prelude.{◌+◌, ◌^◌, ◌<◌, ◌∷◌, List, Ok, length, IfSome};
 ghost use Rattle.cn_core.specs.Judge.{Judges};
 ghost use Rattle.cn_core.specs.Mark.{Mark as NumeralMark};
@@ -18,7 +19,7 @@ use cn_judge::{
     split_last_known, split_sign,
 };
 
-// The number of a numeral by its first character, once the others are walked.
+// The number of a numeral, from its first mark and the state after the walk over the others.
 fn finish(units: &OpenExponents, state: QuickState, first: Mark) -> Option<u128>
     requires { (method : ChineseCountMethod) × (marks : List NumeralMark)
         × StandsRegular method marks units.now state }
@@ -30,10 +31,11 @@ fn finish(units: &OpenExponents, state: QuickState, first: Mark) -> Option<u128>
     add_section(units, state.total, add_digit(state, digit)?)
 }
 
-/// The number of a regular numeral: of digits and units above 個 that take three bytes each, where
-/// no last digit stands apart, a section's units rise to the front, each behind a digit, and all is
-/// within 128 bits. `None` says nothing of a text.
-// Same answer (> → >=, 3 → 2 #3): what is not read at once is judged from its start, more slowly.
+/// The number of a regular numeral. Its characters are digits and units above 個 of three bytes
+/// each, it has no tail, the units of a section increase from right to left with a digit directly
+/// after each, and all sums fit 128 bits. `None` says nothing about the text.
+// Same answer (> → >=, 3 → 2 #3): what is not read in one pass is judged from its start, more
+// slowly.
 pub fn read_quickly(method: ChineseCountMethod, text: &str) -> Option<u128>
     ensures { IfSome result (λ n. Judges method (marks_of (text_of text.now)) (Ok n)) }
 {
@@ -44,7 +46,7 @@ pub fn read_quickly(method: ChineseCountMethod, text: &str) -> Option<u128>
         last: Unit::Ge,
         at_digit: false,
     };
-    // By `checked_sub` each numeral takes 2 instructions more.
+    // With `checked_sub`, each numeral takes 2 more instructions.
     if text.len() < 3 {
         return None;
     }
@@ -60,8 +62,9 @@ pub fn read_quickly(method: ChineseCountMethod, text: &str) -> Option<u128>
     finish(&units, state, first)
 }
 
-/// The answer to a text without sign: a regular numeral is read at once, and any other text is judged
-/// from its beginning.
+/// The answer to a text without sign: a regular numeral is read in one pass, and any other text is
+/// judged from its beginning. `skipped` is the number of characters before it in the caller's
+/// string.
 pub fn judge_quickly(
     method: ChineseCountMethod,
     skipped: usize,
@@ -76,7 +79,7 @@ pub fn judge_quickly(
     }
 }
 
-/// The number of a numeral after at most one sign.
+/// Reads a numeral after at most one sign.
 pub fn read<T: Whole>(method: ChineseCountMethod, text: &str) -> Result<T, ChineseToNumberError>
     ensures { Reads T.kind method text.now (answer_of T.number result) }
 {

@@ -1,4 +1,4 @@
-// Where a quick walk stands, and what one more digit or section makes of its sums.
+// The state of a quick walk, and how one more digit or section changes its sums.
 ghost use Rattle.std.specs.Prelude.{◌≡◌, ◌≤◌, ◌+◌, ◌*◌, ◌^◌, ◌<◌, IfSome};
 ghost use Rattle.cn_core.specs.Characters.{rank};
 ghost use Rattle.cn_quick.specs.Private.Regular.{top_exponent};
@@ -6,21 +6,21 @@ ghost use Rattle.cn_quick.specs.Private.Regular.{top_exponent};
 use crate::open_exponents::OpenExponents;
 use cn_core::{Unit, power_of_ten};
 
-/// Where a quick walk stands between two characters.
+/// The state of a quick walk between two characters.
 #[derive(Copy, Clone)]
 pub(crate) struct QuickState {
-    /// The sum of the digits behind the last unit that closed a section.
+    /// The value of the digits to the right of the last unit that closed a section.
     pub(crate) total: u128,
-    /// The sum of the section since then, as if no unit was open.
+    /// The sum of the section since then, not yet multiplied by the open units.
     pub(crate) sum: u64,
     /// The last unit since then, or 個 if there is none.
     pub(crate) last: Unit,
-    /// Whether a digit has just been met.
+    /// Whether the character that was read last is a digit.
     pub(crate) at_digit: bool,
 }
 
-// The numbers that units of a section stand for, by rank: by `Low` each unit is one of a section. By
-// `power_of_ten` each digit takes an instruction more.
+// The numbers that units of a section stand for, by rank: under `Low` each unit is a unit of a
+// section. With `power_of_ten`, each digit takes one more instruction.
 static SECTION_SCALES: [u64; 16] = [
     1,
     10,
@@ -49,7 +49,7 @@ fn section_scale(unit: Unit) -> u64
     SECTION_SCALES[unit as usize]
 }
 
-/// The section's sum with one more digit, if it fits.
+/// The section's sum with one more digit; `None` if it does not fit.
 pub(crate) fn add_digit(state: QuickState, value: u8) -> Option<u64>
     ensures { IfSome result (λ sum. sum ≡ state.sum + value * 10 ^ rank state.last) }
 {
@@ -57,7 +57,7 @@ pub(crate) fn add_digit(state: QuickState, value: u8) -> Option<u64>
     state.sum.checked_add(more)
 }
 
-/// The sum so far with a section that the open units multiply, if it fits.
+/// The total with the section added, multiplied by the open units; `None` if it does not fit.
 // Same answer (<= → <, 19 → 18): a sum of 64 bits times 10^19 fits either multiplication.
 pub(crate) fn add_section(units: &OpenExponents, total: u128, sum: u64) -> Option<u128>
     ensures { IfSome result (λ n. (n ≡ total + sum * 10 ^ top_exponent units.now)

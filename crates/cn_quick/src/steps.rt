@@ -1,4 +1,4 @@
-// A step of a quick walk over one more character.
+// One step of a quick walk: it reads one more character.
 ghost use Rattle.std.specs.Prelude.{◌≡◌, ◌≤◌, ◌<◌, ◌∷◌, ◌&&◌, ◌||◌, ◌==◌, List, nat_le, nat_lt, length, IfSome, IsTrue};
 ghost use Rattle.cn_core.specs.Characters.{rank};
 ghost use Rattle.cn_core.specs.Mark.{Mark as NumeralMark, digit};
@@ -10,7 +10,7 @@ use crate::state::{QuickState, add_digit, add_section};
 use cn_core::{ChineseCountMethod, Unit, exponent};
 use cn_judge::{Mark, separates_digits};
 
-// One more digit.
+// Reads one more digit.
 fn step_digit(state: QuickState, value: u8) -> Option<QuickState>
     requires { (method : ChineseCountMethod) × (marks : List NumeralMark) × (units : List OpenEntry)
         × StandsRegular method marks units state }
@@ -29,8 +29,8 @@ fn step_digit(state: QuickState, value: u8) -> Option<QuickState>
     })
 }
 
-// Whether a unit of a section is greater than the section's last unit, and has a digit after it
-// unless it is the section's first.
+// Whether a unit of a section is greater than the section's last unit and, unless it is the
+// section's first, is directly before a digit.
 fn extends_section(state: QuickState, unit: Unit) -> bool
     ensures { result ≡ (nat_lt (rank state.last) (rank unit)
         && (state.at_digit || rank state.last == 0)) }
@@ -38,7 +38,7 @@ fn extends_section(state: QuickState, unit: Unit) -> bool
     unit > state.last && (state.at_digit || state.last == Unit::Ge)
 }
 
-// One more unit of a section.
+// Reads one more unit of a section.
 fn step_section_unit(state: QuickState, unit: Unit) -> Option<QuickState>
     ensures { (method : ChineseCountMethod) (marks : List NumeralMark) (units : List OpenEntry)
         → StandsRegular method marks units state
@@ -57,7 +57,7 @@ fn step_section_unit(state: QuickState, unit: Unit) -> Option<QuickState>
     })
 }
 
-// Whether a unit may close a section there; it closes each smaller one that is open.
+// Whether a unit may close a section here. It also closes each open unit that is smaller.
 fn makes_way(units: &mut OpenExponents, state: QuickState, unit: Unit) -> bool
     ensures { (method : ChineseCountMethod) (marks : List NumeralMark)
         → StandsRegular method marks units.old state → closing_rank method ≤ rank unit
@@ -71,7 +71,7 @@ fn makes_way(units: &mut OpenExponents, state: QuickState, unit: Unit) -> bool
     }
 }
 
-// One more unit, which closes the section.
+// Reads one more unit, which closes the section.
 fn close_section(
     method: ChineseCountMethod,
     units: &mut OpenExponents,
@@ -101,15 +101,15 @@ fn close_section(
     })
 }
 
-// Whether a digit that is the text's last character would stand apart after this unit.
+// Whether a digit that is the text's last character would be a tail after this unit.
 fn leaves_tail(unit: Unit, state: QuickState, is_second: bool) -> bool
     ensures { result ≡ (nat_le 2 (rank unit) && state.at_digit && is_second) }
 {
     unit >= Unit::Bai && state.at_digit && is_second
 }
 
-// Whether a unit closes a section: each from 萬 up does, but by `Low` none, since there each is ten
-// of the one before.
+// Whether a unit closes a section. Each unit from 萬 up does, except that under `Low`, where each
+// unit is ten times the one before, none does.
 fn closes_section(method: ChineseCountMethod, unit: Unit) -> bool
     ensures { result ≡ nat_le (closing_rank method) (rank unit) }
 {
@@ -119,7 +119,7 @@ fn closes_section(method: ChineseCountMethod, unit: Unit) -> bool
     }
 }
 
-// One more unit.
+// Reads one more unit.
 fn step_unit(
     method: ChineseCountMethod,
     units: &mut OpenExponents,
@@ -142,7 +142,7 @@ fn step_unit(
     }
 }
 
-/// One more character, by its mark.
+/// Reads one more character, given its mark.
 pub(crate) fn step(
     method: ChineseCountMethod,
     units: &mut OpenExponents,

@@ -1,8 +1,9 @@
-//! Readers of Chinese numerals: each of the twelve integer types is read from text, exactly as the
-//! definitions of `cn_core` judge it. No reader takes memory. Each call is a line over `cn_judge`,
-//! and each unit reader over `cn_quick`, which reads regular numerals at once. With
-//! `use cn_judge::read` in the place of `use cn_quick::read` all is proved and answered alike, and
-//! regular numerals take longer.
+//! Reads each of the twelve integer types from a Chinese numeral, exactly as the definitions of
+//! `cn_core` judge it. No reader allocates memory. Each function is one line that calls `cn_judge`
+//! or, for unit readers, `cn_quick`, which reads regular numerals in one pass.
+//!
+//! With `use cn_judge::read` in place of `use cn_quick::read`, every proof holds and every result
+//! is the same, but regular numerals take longer.
 #![tactic(auto)]
 
 mod naive_readers;

@@ -1,4 +1,4 @@
-// Naive readers of the twelve types: a line each over the generic one.
+// The naive readers of the twelve types. Each calls the generic reader.
 ghost use Rattle.std.specs.Prelude.{◌≡◌, pos};
 ghost use Rattle.cn_core.specs.Reading.{naive_reading};
 ghost use Rattle.cn_core.specs.Whole.{signed_kind, unsigned_kind};

@@ -1,5 +1,5 @@
-// Unit readers of the twelve types: a line each over the generic one. Those of 8 and 16 bits read
-// by `Low`.
+// The unit readers of the twelve types. Each calls the generic reader. Those of 8 and 16 bits read
+// with `Low`.
 ghost use Rattle.std.specs.Prelude.{pos};
 ghost use Rattle.cn_core.specs.declared.method.ChineseCountMethod.TheVariants.{Low, TenThousand, Middle, High};
 ghost use Rattle.cn_core.specs.Reading.{Reads};
@@ -10,7 +10,7 @@ use crate::read;
 use cn_core::ChineseCountMethod;
 use cn_judge::ChineseToNumberError;
 
-/// Reads a numeral by `Low` as a `u8`: `一百二` is 120.
+/// Reads a numeral with `Low` as a `u8`: `一百二` is 120.
 ///
 /// [`ChineseToNumberError`] says when each error comes.
 pub fn from_chinese_to_u8(text: &str) -> Result<u8, ChineseToNumberError>
@@ -19,7 +19,7 @@ pub fn from_chinese_to_u8(text: &str) -> Result<u8, ChineseToNumberError>
     read::<u8>(ChineseCountMethod::Low, text)
 }
 
-/// Reads a numeral by `Low` as a `u16`: `一百二` is 120.
+/// Reads a numeral with `Low` as a `u16`: `一百二` is 120.
 ///
 /// [`ChineseToNumberError`] says when each error comes.
 pub fn from_chinese_to_u16(text: &str) -> Result<u16, ChineseToNumberError>
@@ -28,7 +28,7 @@ pub fn from_chinese_to_u16(text: &str) -> Result<u16, ChineseToNumberError>
     read::<u16>(ChineseCountMethod::Low, text)
 }
 
-/// Reads a numeral by `Low` as a `u32`: `一億二` is 120_000.
+/// Reads a numeral with `Low` as a `u32`: `一億二` is 120_000.
 ///
 /// [`ChineseToNumberError`] says when each error comes.
 pub fn from_chinese_to_u32_low(text: &str) -> Result<u32, ChineseToNumberError>
@@ -37,7 +37,7 @@ pub fn from_chinese_to_u32_low(text: &str) -> Result<u32, ChineseToNumberError>
     read::<u32>(ChineseCountMethod::Low, text)
 }
 
-/// Reads a numeral by `TenThousand` as a `u32`: `一億二` is 120_000_000.
+/// Reads a numeral with `TenThousand` as a `u32`: `一億二` is 120_000_000.
 ///
 /// [`ChineseToNumberError`] says when each error comes.
 pub fn from_chinese_to_u32_ten_thousand(text: &str) -> Result<u32, ChineseToNumberError>
@@ -46,7 +46,7 @@ pub fn from_chinese_to_u32_ten_thousand(text: &str) -> Result<u32, ChineseToNumb
     read::<u32>(ChineseCountMethod::TenThousand, text)
 }
 
-/// Reads a numeral by `Middle` as a `u32`: `一億二` is 120_000_000.
+/// Reads a numeral with `Middle` as a `u32`: `一億二` is 120_000_000.
 ///
 /// [`ChineseToNumberError`] says when each error comes.
 pub fn from_chinese_to_u32_middle(text: &str) -> Result<u32, ChineseToNumberError>
@@ -55,7 +55,7 @@ pub fn from_chinese_to_u32_middle(text: &str) -> Result<u32, ChineseToNumberErro
     read::<u32>(ChineseCountMethod::Middle, text)
 }
 
-/// Reads a numeral by `High` as a `u32`: `一億二` is 120_000_000.
+/// Reads a numeral with `High` as a `u32`: `一億二` is 120_000_000.
 ///
 /// [`ChineseToNumberError`] says when each error comes.
 pub fn from_chinese_to_u32_high(text: &str) -> Result<u32, ChineseToNumberError>
@@ -64,7 +64,7 @@ pub fn from_chinese_to_u32_high(text: &str) -> Result<u32, ChineseToNumberError>
     read::<u32>(ChineseCountMethod::High, text)
 }
 
-/// Reads a numeral by `Low` as a `u64`: `一億二` is 120_000.
+/// Reads a numeral with `Low` as a `u64`: `一億二` is 120_000.
 ///
 /// [`ChineseToNumberError`] says when each error comes.
 pub fn from_chinese_to_u64_low(text: &str) -> Result<u64, ChineseToNumberError>
@@ -73,7 +73,7 @@ pub fn from_chinese_to_u64_low(text: &str) -> Result<u64, ChineseToNumberError>
     read::<u64>(ChineseCountMethod::Low, text)
 }
 
-/// Reads a numeral by `TenThousand` as a `u64`: `一億二` is 120_000_000.
+/// Reads a numeral with `TenThousand` as a `u64`: `一億二` is 120_000_000.
 ///
 /// [`ChineseToNumberError`] says when each error comes.
 pub fn from_chinese_to_u64_ten_thousand(text: &str) -> Result<u64, ChineseToNumberError>
@@ -82,7 +82,7 @@ pub fn from_chinese_to_u64_ten_thousand(text: &str) -> Result<u64, ChineseToNumb
     read::<u64>(ChineseCountMethod::TenThousand, text)
 }
 
-/// Reads a numeral by `Middle` as a `u64`: `一億二` is 120_000_000.
+/// Reads a numeral with `Middle` as a `u64`: `一億二` is 120_000_000.
 ///
 /// [`ChineseToNumberError`] says when each error comes.
 pub fn from_chinese_to_u64_middle(text: &str) -> Result<u64, ChineseToNumberError>
@@ -91,7 +91,7 @@ pub fn from_chinese_to_u64_middle(text: &str) -> Result<u64, ChineseToNumberErro
     read::<u64>(ChineseCountMethod::Middle, text)
 }
 
-/// Reads a numeral by `High` as a `u64`: `一億二` is 120_000_000.
+/// Reads a numeral with `High` as a `u64`: `一億二` is 120_000_000.
 ///
 /// [`ChineseToNumberError`] says when each error comes.
 pub fn from_chinese_to_u64_high(text: &str) -> Result<u64, ChineseToNumberError>
@@ -100,7 +100,7 @@ pub fn from_chinese_to_u64_high(text: &str) -> Result<u64, ChineseToNumberError>
     read::<u64>(ChineseCountMethod::High, text)
 }
 
-/// Reads a numeral by `Low` as a `u128`: `一億二` is 120_000.
+/// Reads a numeral with `Low` as a `u128`: `一億二` is 120_000.
 ///
 /// [`ChineseToNumberError`] says when each error comes.
 pub fn from_chinese_to_u128_low(text: &str) -> Result<u128, ChineseToNumberError>
@@ -109,7 +109,7 @@ pub fn from_chinese_to_u128_low(text: &str) -> Result<u128, ChineseToNumberError
     read::<u128>(ChineseCountMethod::Low, text)
 }
 
-/// Reads a numeral by `TenThousand` as a `u128`: `一億二` is 120_000_000.
+/// Reads a numeral with `TenThousand` as a `u128`: `一億二` is 120_000_000.
 ///
 /// [`ChineseToNumberError`] says when each error comes.
 pub fn from_chinese_to_u128_ten_thousand(text: &str) -> Result<u128, ChineseToNumberError>
@@ -118,7 +118,7 @@ pub fn from_chinese_to_u128_ten_thousand(text: &str) -> Result<u128, ChineseToNu
     read::<u128>(ChineseCountMethod::TenThousand, text)
 }
 
-/// Reads a numeral by `Middle` as a `u128`: `一億二` is 120_000_000.
+/// Reads a numeral with `Middle` as a `u128`: `一億二` is 120_000_000.
 ///
 /// [`ChineseToNumberError`] says when each error comes.
 pub fn from_chinese_to_u128_middle(text: &str) -> Result<u128, ChineseToNumberError>
@@ -127,7 +127,7 @@ pub fn from_chinese_to_u128_middle(text: &str) -> Result<u128, ChineseToNumberEr
     read::<u128>(ChineseCountMethod::Middle, text)
 }
 
-/// Reads a numeral by `High` as a `u128`: `一億二` is 120_000_000.
+/// Reads a numeral with `High` as a `u128`: `一億二` is 120_000_000.
 ///
 /// [`ChineseToNumberError`] says when each error comes.
 pub fn from_chinese_to_u128_high(text: &str) -> Result<u128, ChineseToNumberError>
@@ -136,7 +136,7 @@ pub fn from_chinese_to_u128_high(text: &str) -> Result<u128, ChineseToNumberErro
     read::<u128>(ChineseCountMethod::High, text)
 }
 
-/// Reads a numeral by `Low` as a `usize`: `一億二` is 120_000.
+/// Reads a numeral with `Low` as a `usize`: `一億二` is 120_000.
 ///
 /// [`ChineseToNumberError`] says when each error comes.
 pub fn from_chinese_to_usize_low(text: &str) -> Result<usize, ChineseToNumberError>
@@ -145,7 +145,7 @@ pub fn from_chinese_to_usize_low(text: &str) -> Result<usize, ChineseToNumberErr
     read::<usize>(ChineseCountMethod::Low, text)
 }
 
-/// Reads a numeral by `TenThousand` as a `usize`: `一億二` is 120_000_000.
+/// Reads a numeral with `TenThousand` as a `usize`: `一億二` is 120_000_000.
 ///
 /// [`ChineseToNumberError`] says when each error comes.
 pub fn from_chinese_to_usize_ten_thousand(text: &str) -> Result<usize, ChineseToNumberError>
@@ -154,7 +154,7 @@ pub fn from_chinese_to_usize_ten_thousand(text: &str) -> Result<usize, ChineseTo
     read::<usize>(ChineseCountMethod::TenThousand, text)
 }
 
-/// Reads a numeral by `Middle` as a `usize`: `一億二` is 120_000_000.
+/// Reads a numeral with `Middle` as a `usize`: `一億二` is 120_000_000.
 ///
 /// [`ChineseToNumberError`] says when each error comes.
 pub fn from_chinese_to_usize_middle(text: &str) -> Result<usize, ChineseToNumberError>
@@ -163,7 +163,7 @@ pub fn from_chinese_to_usize_middle(text: &str) -> Result<usize, ChineseToNumber
     read::<usize>(ChineseCountMethod::Middle, text)
 }
 
-/// Reads a numeral by `High` as a `usize`: `一億二` is 120_000_000.
+/// Reads a numeral with `High` as a `usize`: `一億二` is 120_000_000.
 ///
 /// [`ChineseToNumberError`] says when each error comes.
 pub fn from_chinese_to_usize_high(text: &str) -> Result<usize, ChineseToNumberError>
@@ -172,7 +172,7 @@ pub fn from_chinese_to_usize_high(text: &str) -> Result<usize, ChineseToNumberEr
     read::<usize>(ChineseCountMethod::High, text)
 }
 
-/// Reads a numeral by `Low` as an `i8`: `負一百二` is -120.
+/// Reads a numeral with `Low` as an `i8`: `負一百二` is -120.
 ///
 /// [`ChineseToNumberError`] says when each error comes.
 pub fn from_chinese_to_i8(text: &str) -> Result<i8, ChineseToNumberError>
@@ -181,7 +181,7 @@ pub fn from_chinese_to_i8(text: &str) -> Result<i8, ChineseToNumberError>
     read::<i8>(ChineseCountMethod::Low, text)
 }
 
-/// Reads a numeral by `Low` as an `i16`: `負一百二` is -120.
+/// Reads a numeral with `Low` as an `i16`: `負一百二` is -120.
 ///
 /// [`ChineseToNumberError`] says when each error comes.
 pub fn from_chinese_to_i16(text: &str) -> Result<i16, ChineseToNumberError>
@@ -190,7 +190,7 @@ pub fn from_chinese_to_i16(text: &str) -> Result<i16, ChineseToNumberError>
     read::<i16>(ChineseCountMethod::Low, text)
 }
 
-/// Reads a numeral by `Low` as an `i32`: `負一億二` is -120_000.
+/// Reads a numeral with `Low` as an `i32`: `負一億二` is -120_000.
 ///
 /// [`ChineseToNumberError`] says when each error comes.
 pub fn from_chinese_to_i32_low(text: &str) -> Result<i32, ChineseToNumberError>
@@ -199,7 +199,7 @@ pub fn from_chinese_to_i32_low(text: &str) -> Result<i32, ChineseToNumberError>
     read::<i32>(ChineseCountMethod::Low, text)
 }
 
-/// Reads a numeral by `TenThousand` as an `i32`: `負一億二` is -120_000_000.
+/// Reads a numeral with `TenThousand` as an `i32`: `負一億二` is -120_000_000.
 ///
 /// [`ChineseToNumberError`] says when each error comes.
 pub fn from_chinese_to_i32_ten_thousand(text: &str) -> Result<i32, ChineseToNumberError>
@@ -208,7 +208,7 @@ pub fn from_chinese_to_i32_ten_thousand(text: &str) -> Result<i32, ChineseToNumb
     read::<i32>(ChineseCountMethod::TenThousand, text)
 }
 
-/// Reads a numeral by `Middle` as an `i32`: `負一億二` is -120_000_000.
+/// Reads a numeral with `Middle` as an `i32`: `負一億二` is -120_000_000.
 ///
 /// [`ChineseToNumberError`] says when each error comes.
 pub fn from_chinese_to_i32_middle(text: &str) -> Result<i32, ChineseToNumberError>
@@ -217,7 +217,7 @@ pub fn from_chinese_to_i32_middle(text: &str) -> Result<i32, ChineseToNumberErro
     read::<i32>(ChineseCountMethod::Middle, text)
 }
 
-/// Reads a numeral by `High` as an `i32`: `負一億二` is -120_000_000.
+/// Reads a numeral with `High` as an `i32`: `負一億二` is -120_000_000.
 ///
 /// [`ChineseToNumberError`] says when each error comes.
 pub fn from_chinese_to_i32_high(text: &str) -> Result<i32, ChineseToNumberError>
@@ -226,7 +226,7 @@ pub fn from_chinese_to_i32_high(text: &str) -> Result<i32, ChineseToNumberError>
     read::<i32>(ChineseCountMethod::High, text)
 }
 
-/// Reads a numeral by `Low` as an `i64`: `負一億二` is -120_000.
+/// Reads a numeral with `Low` as an `i64`: `負一億二` is -120_000.
 ///
 /// [`ChineseToNumberError`] says when each error comes.
 pub fn from_chinese_to_i64_low(text: &str) -> Result<i64, ChineseToNumberError>
@@ -235,7 +235,7 @@ pub fn from_chinese_to_i64_low(text: &str) -> Result<i64, ChineseToNumberError>
     read::<i64>(ChineseCountMethod::Low, text)
 }
 
-/// Reads a numeral by `TenThousand` as an `i64`: `負一億二` is -120_000_000.
+/// Reads a numeral with `TenThousand` as an `i64`: `負一億二` is -120_000_000.
 ///
 /// [`ChineseToNumberError`] says when each error comes.
 pub fn from_chinese_to_i64_ten_thousand(text: &str) -> Result<i64, ChineseToNumberError>
@@ -244,7 +244,7 @@ pub fn from_chinese_to_i64_ten_thousand(text: &str) -> Result<i64, ChineseToNumb
     read::<i64>(ChineseCountMethod::TenThousand, text)
 }
 
-/// Reads a numeral by `Middle` as an `i64`: `負一億二` is -120_000_000.
+/// Reads a numeral with `Middle` as an `i64`: `負一億二` is -120_000_000.
 ///
 /// [`ChineseToNumberError`] says when each error comes.
 pub fn from_chinese_to_i64_middle(text: &str) -> Result<i64, ChineseToNumberError>
@@ -253,7 +253,7 @@ pub fn from_chinese_to_i64_middle(text: &str) -> Result<i64, ChineseToNumberErro
     read::<i64>(ChineseCountMethod::Middle, text)
 }
 
-/// Reads a numeral by `High` as an `i64`: `負一億二` is -120_000_000.
+/// Reads a numeral with `High` as an `i64`: `負一億二` is -120_000_000.
 ///
 /// [`ChineseToNumberError`] says when each error comes.
 pub fn from_chinese_to_i64_high(text: &str) -> Result<i64, ChineseToNumberError>
@@ -262,7 +262,7 @@ pub fn from_chinese_to_i64_high(text: &str) -> Result<i64, ChineseToNumberError>
     read::<i64>(ChineseCountMethod::High, text)
 }
 
-/// Reads a numeral by `Low` as an `i128`: `負一億二` is -120_000.
+/// Reads a numeral with `Low` as an `i128`: `負一億二` is -120_000.
 ///
 /// [`ChineseToNumberError`] says when each error comes.
 pub fn from_chinese_to_i128_low(text: &str) -> Result<i128, ChineseToNumberError>
@@ -271,7 +271,7 @@ pub fn from_chinese_to_i128_low(text: &str) -> Result<i128, ChineseToNumberError
     read::<i128>(ChineseCountMethod::Low, text)
 }
 
-/// Reads a numeral by `TenThousand` as an `i128`: `負一億二` is -120_000_000.
+/// Reads a numeral with `TenThousand` as an `i128`: `負一億二` is -120_000_000.
 ///
 /// [`ChineseToNumberError`] says when each error comes.
 pub fn from_chinese_to_i128_ten_thousand(text: &str) -> Result<i128, ChineseToNumberError>
@@ -280,7 +280,7 @@ pub fn from_chinese_to_i128_ten_thousand(text: &str) -> Result<i128, ChineseToNu
     read::<i128>(ChineseCountMethod::TenThousand, text)
 }
 
-/// Reads a numeral by `Middle` as an `i128`: `負一億二` is -120_000_000.
+/// Reads a numeral with `Middle` as an `i128`: `負一億二` is -120_000_000.
 ///
 /// [`ChineseToNumberError`] says when each error comes.
 pub fn from_chinese_to_i128_middle(text: &str) -> Result<i128, ChineseToNumberError>
@@ -289,7 +289,7 @@ pub fn from_chinese_to_i128_middle(text: &str) -> Result<i128, ChineseToNumberEr
     read::<i128>(ChineseCountMethod::Middle, text)
 }
 
-/// Reads a numeral by `High` as an `i128`: `負一億二` is -120_000_000.
+/// Reads a numeral with `High` as an `i128`: `負一億二` is -120_000_000.
 ///
 /// [`ChineseToNumberError`] says when each error comes.
 pub fn from_chinese_to_i128_high(text: &str) -> Result<i128, ChineseToNumberError>
@@ -298,7 +298,7 @@ pub fn from_chinese_to_i128_high(text: &str) -> Result<i128, ChineseToNumberErro
     read::<i128>(ChineseCountMethod::High, text)
 }
 
-/// Reads a numeral by `Low` as an `isize`: `負一億二` is -120_000.
+/// Reads a numeral with `Low` as an `isize`: `負一億二` is -120_000.
 ///
 /// [`ChineseToNumberError`] says when each error comes.
 pub fn from_chinese_to_isize_low(text: &str) -> Result<isize, ChineseToNumberError>
@@ -307,7 +307,7 @@ pub fn from_chinese_to_isize_low(text: &str) -> Result<isize, ChineseToNumberErr
     read::<isize>(ChineseCountMethod::Low, text)
 }
 
-/// Reads a numeral by `TenThousand` as an `isize`: `負一億二` is -120_000_000.
+/// Reads a numeral with `TenThousand` as an `isize`: `負一億二` is -120_000_000.
 ///
 /// [`ChineseToNumberError`] says when each error comes.
 pub fn from_chinese_to_isize_ten_thousand(text: &str) -> Result<isize, ChineseToNumberError>
@@ -316,7 +316,7 @@ pub fn from_chinese_to_isize_ten_thousand(text: &str) -> Result<isize, ChineseTo
     read::<isize>(ChineseCountMethod::TenThousand, text)
 }
 
-/// Reads a numeral by `Middle` as an `isize`: `負一億二` is -120_000_000.
+/// Reads a numeral with `Middle` as an `isize`: `負一億二` is -120_000_000.
 ///
 /// [`ChineseToNumberError`] says when each error comes.
 pub fn from_chinese_to_isize_middle(text: &str) -> Result<isize, ChineseToNumberError>
@@ -325,7 +325,7 @@ pub fn from_chinese_to_isize_middle(text: &str) -> Result<isize, ChineseToNumber
     read::<isize>(ChineseCountMethod::Middle, text)
 }
 
-/// Reads a numeral by `High` as an `isize`: `負一億二` is -120_000_000.
+/// Reads a numeral with `High` as an `isize`: `負一億二` is -120_000_000.
 ///
 /// [`ChineseToNumberError`] says when each error comes.
 pub fn from_chinese_to_isize_high(text: &str) -> Result<isize, ChineseToNumberError>

@@ -1,4 +1,4 @@
--- How long the texts of the numbers that a method writes are.
+-- The lengths of the texts of the numbers that a method writes.
 use Rattle.std.proofs.Common.{◌≡◌, ◌+◌, ◌*◌, ◌^◌, ◌<◌, ◌≤◌, ℕ, ℤ, pos, nat_abs, Bool, true, length, refl, arith}
 use Rattle.std.proofs.lemmas.Bool.Decides.{nat_tests}
 use Rattle.cn_core.specs.declared.script.ChineseVariant.{ChineseVariant}
@@ -13,7 +13,7 @@ use Rattle.cn_spell.specs.Working.Units.{powers_within}
 use Rattle.cn_spell.proofs.Signs.{length-signed, sign-one}
 use Rattle.cn_spell.proofs.Walks.{powers-fit, few-of}
 
--- its digits are few enough for the method's units
+-- the number has few enough digits for the method's units
 pub fits : (method : ChineseCountMethod) (number : ℤ) → is_printable method number ≡ true
     → nat_abs number < 2 ^ 128 → nat_abs number < 10 ^ powers_within method
 fits Low number printable small = grind (arith, nat_tests, printable)
@@ -27,7 +27,7 @@ some-powers TenThousand = omega arith
 some-powers Middle = omega arith
 some-powers High = omega arith
 
--- the marks of its spelling, and its sign
+-- the marks of its spelling and its sign fit the most bytes
 pub marks-fit : (method : ChineseCountMethod) (number : ℤ) → is_printable method number ≡ true
     → nat_abs number < 2 ^ 128 → 3 * (length (spelling method (nat_abs number)) + 1)
     ≤ most_bytes method
@@ -48,7 +48,7 @@ most_bytes-le TenThousand = omega arith
 most_bytes-le Middle = omega arith
 most_bytes-le High = omega arith
 
--- a magnitude is printed where its number is
+-- if a method writes a number, it writes its magnitude
 pub printable : (method : ChineseCountMethod) (number : ℤ) (magnitude : ℕ)
     → magnitude ≡ nat_abs number → is_printable method number ≡ true
     → is_printable method (pos magnitude) ≡ true

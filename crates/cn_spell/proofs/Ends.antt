@@ -1,4 +1,4 @@
--- The end of a room as the text that was put there.
+-- The end of a buffer is the text that was written there.
 use Rattle.std.proofs.Common.{◌≡◌, ◌-◌, ℕ, List, length, take, drop, ap, ◌∙◌, arith, length-drop}
 use Rattle.std.proofs.Math.Seq.{take-length}
 use Rattle.cn_spell.specs.Working.Room.{Shows}

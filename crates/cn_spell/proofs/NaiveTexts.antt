@@ -23,7 +23,7 @@ length-lowest : (count number : ℕ) → length (lowest_marks count number) ≡ 
 length-lowest zero number = refl
 length-lowest (suc count) number = ap suc (length-lowest count number)
 
--- the four digits of a section, by two of two each
+-- the four digits of a section, as two times two
 pub lowest-four : (section : ℕ) → section < 10 ^ 4
     → digit (section / 100 / 10) ∷ digit (section / 100 % 10) ∷ digit (section % 100 / 10)
     ∷ digit (section % 100 % 10) ∷ [] ≡ lowest_marks 4 section
@@ -34,7 +34,7 @@ lowest-four section small =
     let e : section % 100 % 10 ≡ section / 10 ^ 0 % 10 = omega arith in
     λ k. digit (a k) ∷ digit (b k) ∷ digit (d k) ∷ digit (e k) ∷ []
 
--- so many digits above so many others
+-- `count` digits above the lowest `lower` digits
 lowest-over : (count lower number : ℕ)
     → lowest_marks count (number / 10 ^ lower) ++ lowest_marks lower number
     ≡ lowest_marks (count + lower) number
@@ -49,7 +49,7 @@ lowest-over (suc count) lower number =
     (ap (λ rest. digit (number / 10 ^ (count + lower) % 10) ∷ rest)
     (lowest-over count lower number))
 
--- a section has the four digits that stand in its place
+-- a section has the four lowest digits of the number
 four-of : (number : ℕ) → lowest_marks 4 (number % 10 ^ 4) ≡ lowest_marks 4 number
 four-of number =
     let d0 : number % 10000 / 1 % 10 ≡ number / 1 % 10 = omega arith in
@@ -77,7 +77,7 @@ decimal_digits-step number ten small =
     ∙ map-append (λ byte. digit (byte - 48)) (decimal (number / 10)) ((48 + number % 10) ∷ [])
     ∙ ap (λ n. decimal_digits (number / 10) ++ (digit n ∷ [])) last
 
--- a number has so many digits where it reaches the highest of them
+-- a number has this many digits if it reaches the highest of them
 decimal-lowest : (count number : ℕ) → number < 10 ^ suc count → (0 < count → 10 ^ count ≤ number)
     → number < 10 ^ 64 → decimal_digits number ≡ lowest_marks (suc count) number
 decimal-lowest zero number less reach small =
@@ -109,7 +109,7 @@ top-reach (suc top) count above reach some_above h =
     let higher : 10 ^ suc (suc top) ≡ 10 * 10 ^ suc top = omega arith in
     omega (arith, one, tenth, higher, reach)
 
--- the digits of a number, by its sections and what is left above them
+-- the digits of a number, from its sections and the rest above them
 pub decimal-sections : (number count above size : ℕ) {sections : List ℕ} → number < 10 ^ 39
     → HoldsSections number sections count above
     → 0 < size → above < 10 ^ size → 10 ^ size ≤ 10 * max above 1
@@ -141,7 +141,7 @@ decimal-sections number count above (suc top) small held some less reach =
     ∙ sym (ap (λ n. lowest_marks (suc top) n ++ lowest_marks (4 * count) number) held.split
     ∙ lowest-over (suc top) (4 * count) number ∙ ap (λ n. lowest_marks n number) sum)
 
--- how many characters the text has, its sign among them
+-- the number of characters of the text, its sign included
 pub length-plain : (variant : ChineseVariant) (case : ChineseCase) (negative : Bool)
     (number count above size : ℕ) {sections : List ℕ} → number < 10 ^ 39
     → HoldsSections number sections count above
@@ -158,7 +158,7 @@ length-plain variant case negative number count above size small held some less 
       length-lowest (4 * count) number,
     )
 
--- each of their characters takes three bytes
+-- each of its characters is three bytes long
 three-decimal : (variant : ChineseVariant) (case : ChineseCase) (number : ℕ) → number < 10 ^ 64 → list_all (λ byte. takes_three (digit_char variant case (byte - 48))) (decimal number) ≡ true
 three-decimal variant case = decimal_by_steps_wide (λ number bytes. list_all (λ byte. takes_three (digit_char variant case (byte - 48))) bytes ≡ true) one more where
   one : (number : ℕ) → number < 10 → list_all (λ byte. takes_three (digit_char variant case (byte - 48))) ((48 + number) ∷ []) ≡ true
@@ -181,7 +181,7 @@ three-naive variant case negative number small = by negative where
   by true = rw (three-minus variant, digits) refl
   by false = digits
 
--- the text of a number of 128 bits has a sign and 39 digits at most
+-- the text of a number of 128 bits has at most a sign and 39 digits
 pub plain-fits : (variant : ChineseVariant) (case : ChineseCase) (negative : Bool) (number : ℕ)
     → number < 2 ^ 128
     → 3 * length (signed_text variant case negative (decimal_digits number)) ≤ most_plain_bytes

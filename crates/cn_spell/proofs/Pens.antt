@@ -1,8 +1,8 @@
--- What a pen has written since some moment.
+-- What a pen has written since an earlier state.
 use Rattle.std.proofs.Common.{◌≡◌, ℕ, ◌+◌, ◌*◌, List, ◌∷◌, ◌++◌, length, ◌∙◌, arith}
 use Rattle.cn_core.specs.Mark.{Mark}
 
--- these marks stand in front of what stood there, and took three bytes each
+-- the marks `done` are before those that were written earlier, and took three bytes each
 pub record Wrote {Setting : Type 0} (first left : ℕ) (was is : Setting)
     (showed shows : List Mark → Type 0) (done : List Mark) : Type 0 where
   pub room : left + 3 * length done ≡ first

@@ -1,4 +1,4 @@
--- What is written is read as the marks that it was written for.
+-- A written text is read as the marks that it was written for.
 use Rattle.std.proofs.Common.{◌≡◌, ℕ, zero, suc, ◌<◌, Bool, true, false, ◌&&◌, ◌==◌, nat_lt, if◌then◌else◌, List, [], ◌∷◌, map, filter, Option, Some, None, is_none, refl, ap, ◌∙◌, arith}
 use Rattle.std.proofs.Math.Decide.{dec_lt}
 use Rattle.std.proofs.lemmas.Bool.Decides.{nat_tests}
@@ -19,13 +19,13 @@ use Rattle.cn_core.specs.Printing.{mark_char, signed_text, signed_bytes}
 use Rattle.cn_core.proofs.Fronts.{and-left, and-right, both}
 use Rattle.cn_core.proofs.Marks.{same_mark, same_mark-is}
 
--- a digit of one place, or a unit
+-- the mark is a digit below 10, or a unit
 abbrev pub is_printed : Mark → Bool
 is_printed (digit value) = nat_lt value 10
 is_printed (unit rank) = nat_lt rank 16
 is_printed other = false
 
--- a test of each number below a bound
+-- the test holds of each number below a bound
 abbrev pub each_below : (ℕ → Bool) → ℕ → Bool
 each_below test zero = true
 each_below test (suc n) = test n && each_below test n
@@ -37,7 +37,7 @@ each_below-at test (suc n) k h low = elim (dec_lt k n) [
   | no last ↦ let e : k ≡ n = omega (arith, low, last) in rw e (and-left (test n) _ h)
 ]
 
--- the character of a mark is no white space, and is read as that mark
+-- the character of a mark is not white space, and is read as that mark
 abbrev is_read_back : ChineseVariant → ChineseCase → Mark → Bool
 is_read_back variant case mark =
     let c = mark_char variant case mark in same_mark (mark_of c) mark && all_scalars (c ∷ []) && is_not_whitespace c
@@ -63,7 +63,7 @@ read_back variant case (unit rank) h =
     each_below-at (λ rank. is_read_back variant case (unit rank)) 16 rank (units_read_back variant case) (grind (arith, nat_tests))
 read_back variant case other h = cc
 
--- what a list of such marks is written as
+-- the text of such marks is read as these marks
 pub record IsReadBack (text : List ℕ) (marks : List Mark) : Type 0 where
   pub scalars : all_scalars text ≡ true
   pub kept : filter is_not_whitespace text ≡ text
@@ -111,7 +111,7 @@ unfolding minus_char sign_of
 minus_is_sign Traditional = refl
 minus_is_sign Simple = refl
 
--- the text of what is written is what is written
+-- the part of a written text that is read is the whole text
 pub text_of-signed_text : (variant : ChineseVariant) (case : ChineseCase) (negative : Bool) (marks : List Mark) → list_all is_printed marks ≡ true
     → text_of (signed_bytes variant case negative marks) ≡ signed_text variant case negative marks
 text_of-signed_text variant case true marks h =
@@ -121,7 +121,7 @@ text_of-signed_text variant case false marks h =
     let r = IsReadBack-marks variant case marks h in
     ap (filter is_not_whitespace) (chars-encodes (signed_text variant case false marks) r.scalars) ∙ r.kept
 
--- a digit is no sign, nor is 十
+-- neither a digit nor 十 is a sign
 digits_no_sign : (variant : ChineseVariant) (case : ChineseCase) → each_below (λ value. is_none (sign_of (digit_char variant case value))) 10 ≡ true
 unfolding digit_char sign_of
 digits_no_sign Traditional Upper = refl
@@ -140,7 +140,7 @@ pub none_from_is_none : {A : Type 0} (o : Option A) → is_none o ≡ true → o
 none_from_is_none None h = refl
 none_from_is_none (Some x) h = cc
 
--- so what a numeral starts with is no sign
+-- so the first character of a numeral is not a sign
 pub no_sign : (variant : ChineseVariant) (case : ChineseCase) (mark : Mark) (rest : List Mark) → is_printed mark ≡ true → starts_with_digit (with_first_digit (mark ∷ rest)) ≡ true
     → sign_of (mark_char variant case mark) ≡ None
 no_sign variant case (digit value) rest h s =

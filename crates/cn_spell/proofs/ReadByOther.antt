@@ -1,4 +1,5 @@
--- Below 10^16 `Middle` spells with units up to 億 alone, which `TenThousand` reads as the same number.
+-- Below 10^16, `Middle` spells with units up to 億 only, which `TenThousand` reads as the same
+-- number.
 use Rattle.std.proofs.Common.{◌≡◌, ℕ, ◌*◌, ◌^◌, ◌<◌, true, false, nat_lt, List, Ok, sym, ap, ◌∙◌, arith}
 use Rattle.std.specs.List.{list_all}
 use Rattle.std.proofs.lemmas.Bool.Decides.{nat_tests}
@@ -16,7 +17,7 @@ use Rattle.cn_core.proofs.Spellings.{Spells-spelling_within, short_spelling-by}
 use Rattle.cn_core.proofs.Sums.{all_below}
 use Rattle.cn_spell.proofs.SpelledMarks.{Judges-numeral, spelling-fits}
 
--- what one method spells for a number is read by another as that number
+-- the spelling of a number under one method is read under another as the same number
 pub record IsReadBy (write read : ChineseCountMethod) (number : ℕ) : Type 0 where
   pub square : number < scale write 15 * scale write 15
   pub fits : some_unfit read (spelling write number) ≡ false
@@ -55,7 +56,7 @@ IsReadBy-middle number low =
           ∙ (spelling-is_numeral Middle number square).1;
     }
 
--- so it is judged
+-- so the judgement of that spelling is the number
 pub Judges-read : (write read : ChineseCountMethod) (number : ℕ) → number < 2 ^ 128
     → IsReadBy write read number → Judges read (spelling write number) (Ok number)
 Judges-read write read number small is =

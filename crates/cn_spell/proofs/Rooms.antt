@@ -1,4 +1,4 @@
--- What a room shows after a character is put.
+-- The contents of a buffer after a character is written.
 use Rattle.std.proofs.Common.{◌≡◌, ℕ, zero, suc, ◌+◌, ◌-◌, ◌≤◌, ◌<◌, Bool, true, false, List, [], ◌∷◌, ◌++◌, length, map, drop, set, slice_index, if◌then◌else◌, refl, ap, ap₂, sym, ◌∙◌, arith}
 use Rattle.std.proofs.lemmas.List.{drop-drop, drop-set-lt, drop_at, length-set}
 use Rattle.std.specs.Char.{encode_utf8}
@@ -34,7 +34,7 @@ of-word (a ∷ b ∷ d ∷ []) h = absurd (omega (arith, h))
 of-word (a ∷ b ∷ d ∷ e ∷ []) h = refl
 of-word (a ∷ b ∷ d ∷ e ∷ f ∷ rest) h = absurd (omega (arith, h))
 
--- a word's character, byte by byte
+-- the character of a word is written byte by byte
 pub put-bytes : (items word : List ℕ) (start : ℕ) → start + 3 ≤ length items → length word ≡ 4
     → drop start (set (set (set items start (slice_index word 1)) (start + 1) (slice_index word 2))
     (start + 2) (slice_index word 3)) ≡ drop 1 word ++ drop (start + 3) items
@@ -42,7 +42,7 @@ put-bytes items word start within size =
     drop-sets items start (slice_index word 1) (slice_index word 2) (slice_index word 3) within
     ∙ ap (λ character. character ++ drop (start + 3) items) (of-word word size)
 
--- and behind its byte of 0
+-- or with the word's first byte, which is 0, before it
 pub put-word : (items word : List ℕ) (start : ℕ) → 0 < start → start + 3 ≤ length items
     → length word ≡ 4
     → drop start (set (set (set (set items (start - 1) (slice_index word 0)) start
@@ -55,7 +55,7 @@ put-word items word start spare within size =
     ∙ ap (λ rest. drop 1 word ++ rest)
     (drop-set-lt (start + 3) items (start - 1) (slice_index word 0) (omega arith))
 
--- what stands in a room after a character that may be kept
+-- the bytes of the buffer after a character is written or skipped
 pub put-if : (bytes after character : List ℕ) (free taken : ℕ) (is_kept : Bool) → 3 ≤ free
     → length character ≡ 3 → drop (free - 3) after ≡ character ++ drop (free - 3 + 3) bytes
     → taken ≡ (if is_kept then 3 else 0)
@@ -70,7 +70,7 @@ put-if bytes after character free taken false three size put e =
     ∙ ap (drop 3) put ∙ drop_at character (drop (free - 3 + 3) bytes) 3 size
     ∙ ap (λ n. drop n bytes) behind)
 
--- a character more, where it is kept
+-- the characters of the buffer after one more is written or skipped
 pub Shows-if : (is_kept : Bool) (c : ℕ) {free next : ℕ} {bytes after character cs : List ℕ}
     → 3 ≤ free → next ≡ (if is_kept then free - 3 else free)
     → drop next after ≡ (if is_kept then character ++ drop free bytes else drop free bytes)
@@ -98,7 +98,7 @@ Counts-if true c more same t h = record {
 Counts-if false c more same t h =
     record { size = omega (arith, same refl, h.size); bytes = h.bytes }
 
--- a mark where it is kept is its character there
+-- if a mark is kept, its character is written
 pub kept-char : (variant : ChineseVariant) (case : ChineseCase) (is_kept : Bool) (mark : Mark) (marks : List Mark)
     → map (mark_char variant case) (kept is_kept mark ++ marks) ≡ (if is_kept then mark_char variant case mark ∷ [] else []) ++ map (mark_char variant case) marks
 kept-char variant case true mark marks = refl

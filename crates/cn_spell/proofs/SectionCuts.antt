@@ -1,11 +1,11 @@
--- The sections of a number, taken off from the lowest up.
+-- Splitting the sections off a number, from the lowest up.
 use Rattle.std.proofs.Common.{◌≡◌, ℕ, ◌+◌, ◌*◌, ◌/◌, ◌%◌, ◌^◌, ◌<◌, ◌≤◌, List, set, length, slice_index, ap, sym, ◌∙◌, arith}
 use Rattle.std.proofs.Math.Decide.{dec_lt}
 use Rattle.std.proofs.Math.Nat.{mul-le-mul_right, div-div-eq-div-mul, div-mul-le_self, pow-le-pow_right}
 use Rattle.std.proofs.lemmas.Nat.{pow-add}
 use Rattle.std.proofs.lemmas.List.{get_or-set_same, get_or-set_other}
 
--- what is left after so many more sections
+-- the rest after more sections are split off
 pub cut-more : (number count more above : ℕ) → above ≡ number / 10 ^ (4 * count)
     → above / 10 ^ (4 * more) ≡ number / 10 ^ (4 * (count + more))
 cut-more number count more above split =
@@ -16,7 +16,7 @@ cut-more number count more above split =
     ∙ div-div-eq-div-mul number (10 ^ (4 * count)) (10 ^ (4 * more))
     ∙ ap (λ n. number / n) (sym raised)
 
--- a number of 39 digits at most has few sections in front of which something stands
+-- in a number of at most 39 digits, at most nine sections have digits above them
 pub cut-few : (number count more above : ℕ) → number < 10 ^ 39 → above ≡ number / 10 ^ (4 * count)
     → 10 ^ (4 * more) ≤ above → count + more ≤ 9
 cut-few number count more above small split reach =
@@ -34,7 +34,7 @@ cut-few number count more above small split reach =
           omega (arith, q, raised, least, same, div-mul-le_self number (10 ^ (4 * count)), small))
     ]
 
--- the sections that are held when one more is
+-- the sections after one more is split off
 pub each-more : (number count above value : ℕ) (sections : List ℕ) → count < length sections
     → above ≡ number / 10 ^ (4 * count) → value ≡ above % 10 ^ 4
     → ((index : ℕ) → index < count
@@ -51,7 +51,7 @@ each-more number count above value sections within split is_value each index les
           ∙ ap (λ n. n % 10 ^ 4) split)
     ]
 
--- and when four are
+-- the sections after four more are split off
 pub each-part : (number count above : ℕ) (sections more : List ℕ)
     → above ≡ number / 10 ^ (4 * count)
     → ((index : ℕ) → index < count

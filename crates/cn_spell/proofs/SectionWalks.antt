@@ -1,4 +1,4 @@
--- A number's spelling by sections of four digits.
+-- The spelling of a number by sections of four digits.
 use Rattle.std.proofs.Common.{◌≡◌, ℕ, zero, suc, ◌+◌, ◌-◌, ◌*◌, ◌/◌, ◌%◌, ◌^◌, ◌<◌, ◌≤◌, max, Bool, true, false, ◌==◌, ◌&&◌, nat_le, nat_lt, List, [], ◌∷◌, ◌++◌, length, refl, sym, ap, subst, ◌∙◌, arith, length-append, append-nil, if◌then◌else◌}
 use Rattle.std.proofs.lemmas.Bool.Decides.{nat_tests}
 use Rattle.std.proofs.Math.Arith.{mod-mul}
@@ -22,7 +22,7 @@ use Rattle.cn_spell.proofs.Tops.{powers-few, filled_of, Filled, lower-less, part
 use Rattle.cn_spell.proofs.Single.{so_far, section-is}
 use Rattle.cn_spell.proofs.SingleTops.{part-top, top-of}
 
--- the methods that write sections
+-- the method writes sections
 abbrev pub HasSections : ChineseCountMethod → Type 0
 HasSections method = (is_chain 4 method 64 (widths_of method) ≡ true)
     × (44 ≤ exponent method 15 + exponent method 15)
@@ -40,8 +40,8 @@ starts-within TenThousand power h = omega (arith, h)
 starts-within Middle power h = omega (arith, h)
 starts-within High power h = omega (arith, h)
 
--- a section in front of what stands below it: its own spelling, and the units of the groups that it
--- is the first to fill
+-- a section before the lower marks: its own spelling, and the units of the groups that it is the
+-- first to fill
 section-lead : (method : ChineseCountMethod) (power g below filled : ℕ)
     → 0 < sections_within method → power ≤ 4 * sections_within method → power % 4 ≡ 0 → 0 < g
     → g < 10 ^ 4 → below < 10 ^ power → Fills filled below
@@ -67,7 +67,7 @@ section-split number power =
     let e : 10 ^ (power + 4) ≡ 10 ^ 4 * 10 ^ power = pow-add 10 power 4 ∙ omega arith in
     rw e (mod-mul number (omega arith) (one-le-pow power 10 (omega arith)))
 
--- a section that is not empty stands in front
+-- a section that is not empty is written before the lower marks
 pub section-more : (method : ChineseCountMethod) (number power filled : ℕ)
     → 0 < sections_within method → power ≤ 4 * sections_within method → power % 4 ≡ 0
     → 0 < section_at number power → Fills filled (number % 10 ^ power)
@@ -121,7 +121,7 @@ pub Fills-same_section : (number power filled : ℕ) → section_at number power
 Fills-same_section number power filled none fills =
     subst (Fills filled) (sym (section-none number power none)) fills
 
--- the widths are whole sections, and at last single powers
+-- each width is a multiple of four, except the last, which is 1
 abbrev are_fours : List ℕ → Bool
 are_fours [] = false
 are_fours (width ∷ []) = width == 1
@@ -173,7 +173,7 @@ over-near method (width ∷ next ∷ widths) power filled h four some under near
                 (omega arith),
           ) refl
 
--- over a section that is not empty, the only unit is the section's own
+-- after a section whose next lower section is not empty, only its own unit is written
 pub behind-near : (method : ChineseCountMethod) (power filled : ℕ) → 0 < power
     → power ≤ 4 * sections_within method → power % 4 ≡ 0 → filled ≤ power → power < filled + 4
     → units_behind method power filled
@@ -208,7 +208,7 @@ rank-start High power some pos four =
       by true false = refl
       by false d = refl
 
--- a number of four digits is spelled alike by each method
+-- a number of four digits is spelled the same under each method
 same-small : (method : ChineseCountMethod) (g : ℕ) → g < 10 ^ 4 → spelling method g ≡ spelling Low g
 same-small method g small = elim (dec_lt 0 g) [
   | yes pos ↦ ap short_spelling (sym (part-some method g pos) ∙ section-is method g small
@@ -217,7 +217,7 @@ same-small method g small = elim (dec_lt 0 g) [
       in rw (z, spelled-digit 0 method 0 (omega arith)) refl
 ]
 
--- 一 before 十 is left out by the section alone
+-- 一 before 十 is left out only at the start of the section
 short_spelling-over : (g rank : ℕ) (rest : List Mark) → 0 < g → g < 10 ^ 4 → (rank == 1) ≡ false
     → short_spelling (part Low g ++ (unit rank ∷ rest))
     ≡ short_spelling (part Low g) ++ (unit rank ∷ rest)
@@ -249,7 +249,7 @@ short_spelling-over g rank rest pos small other = by (top-of g 4 small pos) wher
       rw high at (part-top g (suc power) (omega (arith, within)) less reach) in
       rw one (deep (g / 10 ^ suc power) (suc power) (so_far Low g (suc power)))
 
--- what stands in front of the sections is spelled like a number of its own
+-- the rest above the sections is spelled like a number of its own
 above-over : (method : ChineseCountMethod) (number power lead filled : ℕ)
     → 0 < sections_within method → power ≤ 4 * sections_within method → power % 4 ≡ 0
     → lead < 10 ^ 4 → lead ≡ number / 10 ^ power → (0 < power → 0 < lead)
@@ -331,7 +331,7 @@ spelling-above High number count lead filled most small split some fills under =
     above-over High number (4 * count) lead filled (omega arith) (omega (arith, most))
     (omega arith) small split (λ pos. some (omega (arith, pos))) fills under
 
--- there is a mark in front of each section
+-- there is space for one more mark before each section
 room-section : (method : ChineseCountMethod) (number count index lead : ℕ)
     → count ≤ sections_within method → lead < above_limit method → lead ≡ number / 10 ^ (4 * count)
     → (0 < count → 0 < lead) → index < count
@@ -361,7 +361,7 @@ room-section method number count index lead most small split some less =
       length-append (units_behind method power filled) (part method (number % 10 ^ power)),
     )
 
--- the same with the section that is put next and the units behind it
+-- the same, with the next section and the units after it
 pub room-more : (method : ChineseCountMethod) (number count index lead filled : ℕ)
     {sections : List ℕ} → HoldsSections number sections count lead
     → count ≤ sections_within method → lead < above_limit method → index < count
@@ -386,7 +386,7 @@ room-more method number count index lead filled held most small less some fills 
       length-append units below,
     )
 
--- the spelling, once all sections are put
+-- the spelling after all sections are written
 pub spelling-end : (method : ChineseCountMethod) (number count index lead filled : ℕ)
     {sections : List ℕ} → HoldsSections number sections count lead
     → count ≤ sections_within method → lead < above_limit method → index ≤ count → count ≤ index

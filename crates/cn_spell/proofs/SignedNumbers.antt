@@ -1,4 +1,4 @@
--- A number that a type holds, from the sign that it is written with and its magnitude.
+-- A number that a type holds, from its written sign and its magnitude.
 use Rattle.std.proofs.Common.{◌≡◌, ℕ, zero, suc, ◌≤◌, ℤ, pos, negsuc, nat_abs, int_lt, Bool, true, false, Option, Some, None, Ok, refl, arith}
 use Rattle.std.proofs.lemmas.Int.{ints}
 use Rattle.cn_core.specs.declared.sign.Sign.{Sign}
@@ -11,7 +11,7 @@ pub typed_number-held : (kind : Kind) (number : ℤ) → holds kind number ≡ t
     → typed_number kind number ≡ Ok number
 typed_number-held kind number h = grind (arith, ints, h)
 
--- the sign that a negative number is written with, where the type has one
+-- the sign that a number is written with: minus if it is negative, else none
 abbrev pub written_sign : Bool → Option Sign
 written_sign true = Some Minus
 written_sign false = None
@@ -24,7 +24,7 @@ pub signed_number-signed_text : (number : ℤ)
 signed_number-signed_text (pos n) = rw (not_below_zero n)
 signed_number-signed_text (negsuc n) = refl
 
--- with this sign a type that holds the number, and 0, holds each smaller magnitude too
+-- if a type holds a number and 0, it holds each smaller magnitude with the same sign
 pub held-smaller : (kind : Kind) (number : ℤ) (magnitude : ℕ) → holds kind (pos 0) ≡ true
     → holds kind number ≡ true → magnitude ≤ nat_abs number
     → holds kind (signed_number (is_minus (written_sign (int_lt number (pos 0)))) magnitude) ≡ true

@@ -16,7 +16,7 @@ negative-is false (pos n) h = let none : nat_lt n 0 ≡ false = grind (arith, na
 negative-is true (negsuc n) h = refl
 negative-is false (negsuc n) h = h.1 (search (arith, ints))
 
--- the text of a number, by its sign and the marks of its magnitude
+-- the text of a number, from its sign and the marks of its magnitude
 pub signed-is : (marks : ℕ → List Mark) (variant used : ChineseVariant) (case other : ChineseCase) (negative : Bool) (magnitude : ℕ) (number : ℤ)
     → used ≡ variant → other ≡ case → (IsTrue negative ↔ (number <ℤ pos 0)) → magnitude ≡ nat_abs number
     → signed_text used other negative (marks magnitude) ≡ signed_text variant case (int_lt number (pos 0)) (marks (nat_abs number))
@@ -24,14 +24,14 @@ signed-is marks variant used case other negative magnitude number v k below valu
     ap₂ (λ x y. signed_text x y negative (marks magnitude)) v k
     ∙ ap₂ (λ b n. signed_text variant case b (marks n)) (negative-is negative number below) value
 
--- how many characters a text has, its sign among them
+-- the number of characters of a text, its sign included
 pub length-signed : (variant : ChineseVariant) (case : ChineseCase) (negative : Bool)
     (marks : List Mark)
     → length (signed_text variant case negative marks) ≡ (if negative then 1 else 0) + length marks
 length-signed variant case true marks = omega (arith, length-map marks (mark_char variant case))
 length-signed variant case false marks = omega (arith, length-map marks (mark_char variant case))
 
--- a sign is one character at most
+-- a sign is at most one character
 pub sign-one : (negative : Bool) → (if negative then 1 else 0) ≤ 1
 sign-one true = omega arith
 sign-one false = omega arith

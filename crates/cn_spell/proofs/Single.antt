@@ -13,7 +13,7 @@ use Rattle.cn_spell.specs.Working.Units.{powers_within, rank_at, start_of, units
 use Rattle.cn_spell.proofs.Walks.{Fills}
 use Rattle.cn_spell.proofs.Tops.{at, lower-split, lower-less, part-same, filled_of, Filled, part-more, part-none, behind-zero}
 
--- 零 over powers of which the next is empty
+-- 零 before the lower marks, if the next power is empty
 abbrev pub gap_marks : ℕ → ℕ → List Mark
 gap_marks filled power = kept (nat_lt 0 filled && nat_lt filled power) (digit 0)
 
@@ -33,7 +33,7 @@ over-one method power filled some under =
     ] in
     rw (start, reach, flag) refl
 
--- a group of more powers begins at none of the lowest
+-- no group of more powers begins at one of the lowest powers
 over-skip : (method : ChineseCountMethod) (power filled width next : ℕ) (widths : List ℕ)
     → power < width
     → units_over method power filled (max filled 1) (width ∷ next ∷ widths)
@@ -44,7 +44,7 @@ over-skip method power filled width next widths inside =
     let test : nat_le (max filled 1) 0 ≡ false = grind (arith, nat_tests) in
     rw (start, test) refl
 
--- a power with a unit of its own: each by `Low`, the lowest four by any method
+-- the power has its own unit: each power under `Low`, and the lowest four under any method
 abbrev pub IsOwn : ChineseCountMethod → ℕ → Type 0
 IsOwn Low power = power < 16
 IsOwn method power = power < 4
@@ -97,7 +97,7 @@ no-gap power =
       never true = refl
       never false = refl
 
--- what is written when a power is reached, 零 in front where the next power is empty
+-- the marks that are written when a power is reached, with 零 before them if the next power is empty
 abbrev pub so_far : ChineseCountMethod → ℕ → ℕ → List Mark
 so_far method number power = gap_marks (filled_of number power) power
     ++ part method (number % 10 ^ power)
@@ -180,7 +180,7 @@ step method number power within own = by (dec_lt 0 (at number power)) where
       ∙ sym (power-zero power (at number power) (nat_lt 0 (below_of number power))
       (so_far method number power) z)
 
--- the same where nothing may stand in front: 零 is put where the number reaches beyond the power
+-- the same if there may be no digit above: 零 is written if the number reaches beyond the power
 abbrev pub so_far_in : ChineseCountMethod → ℕ → ℕ → List Mark
 so_far_in method number power = (if nat_le (10 ^ power) number
     then gap_marks (filled_of number power) power else []) ++ part method (number % 10 ^ power)
@@ -255,7 +255,7 @@ own-lowest TenThousand power four = (four, omega (arith, four))
 own-lowest Middle power four = (four, omega (arith, four))
 own-lowest High power four = (four, omega (arith, four))
 
--- a section's spelling, whatever the method
+-- the spelling of a section, under any method
 pub section-is : (method : ChineseCountMethod) (section : ℕ) → section < 10 ^ 4
     → part method section ≡ section_marks section
 section-is method section small =

@@ -1,4 +1,4 @@
--- The highest of the digits whose powers have units of their own.
+-- The highest of the digits whose powers have their own units.
 use Rattle.std.proofs.Common.{◌≡◌, ℕ, zero, suc, ◌+◌, ◌-◌, ◌*◌, ◌/◌, ◌%◌, ◌^◌, ◌<◌, ◌≤◌, Bool, true, false, ◌==◌, ◌&&◌, nat_lt, List, [], ◌∷◌, ◌++◌, length, refl, sym, ap, ◌∙◌, arith, length-append, if◌then◌else◌}
 use Rattle.std.proofs.lemmas.Bool.Decides.{nat_tests}
 use Rattle.std.proofs.Math.Decide.{dec_lt}
@@ -91,7 +91,7 @@ top-of number (suc count) less some = elim (dec_lt number (10 ^ count)) [
   | no reach ↦ (count, omega arith, omega (arith, reach), less)
 ]
 
--- more powers have no fewer marks
+-- with more powers there are at least as many marks
 so-far-grows : (number power steps : ℕ) → power + steps ≤ 16
     → length (so_far Low number power) ≤ length (so_far Low number (power + steps))
 so-far-grows number power zero within = let e : power + 0 ≡ power =
@@ -108,7 +108,7 @@ so-far-grows number power (suc steps) within =
           (nat_lt 0 (below_of number (power + steps)))) (so_far Low number (power + steps)),
     ))
 
--- and there is a mark in front of each power but the highest
+-- there is a mark before those of each power, except the highest
 pub room-below : (number power : ℕ) → number < 10 ^ 16 → 10 ^ suc power ≤ number
     → length (so_far Low number (suc power)) + 1 ≤ length (spelling Low number)
 room-below number power small reach =
@@ -133,7 +133,7 @@ room-below number power small reach =
     let whole = ap length (spelled-top number top.0 top.1 top.3 (λ pos. top.2)) in
     omega (arith, grows, marks, whole, length-append (top_marks top.0 d) (so_far Low number top.0))
 
--- the next power of a number that goes on
+-- the next power, if the number reaches it
 pub next-power : (number power left : ℕ) → number < 10 ^ 16 → left ≡ number / 10 ^ power → 10
     ≤ left → (10 ^ suc power ≤ number) × (suc power < 16) × (left / 10 ≡ number / 10 ^ suc power)
 next-power number power left small split ten =
@@ -155,7 +155,7 @@ next-power number power left small split ten =
           ∙ ap (λ n. number / n) (sym raised),
     )
 
--- a power that something stands in front of
+-- a power with digits above it
 pub step-power : (number power left value below : ℕ) → number < 10 ^ 16
     → left ≡ number / 10 ^ power → 10 ≤ left → value ≡ left % 10 → below ≡ below_of number power
     → so_far Low number (power + 1)

@@ -1,4 +1,4 @@
--- What stands in a spelling: digits of one place, and units whose scales fit 128 bits.
+-- The marks of a spelling: digits below 10, and units whose scales fit 128 bits.
 use Rattle.std.proofs.Common.{◌≡◌, ℕ, ◌*◌, ◌%◌, ◌^◌, ◌<◌, ◌≤◌, ℤ, nat_abs, Bool, true, false, not, ◌||◌, nat_lt, MatchBool, List, [], ◌∷◌, ◌++◌, Ok, length, refl, sym, ap, subst, ◌∙◌, arith}
 use Rattle.std.proofs.Math.Nat.{pow-le-pow_right}
 use Rattle.std.proofs.lemmas.Bool.{leb-true}
@@ -21,7 +21,7 @@ use Rattle.cn_core.proofs.Spellings.{Spells-spelling_within, IsCut, after_unit-a
 use Rattle.cn_core.proofs.Sums.{all_below}
 use Rattle.cn_spell.proofs.Printed.{is_printed}
 
--- each number of 128 bits that a method writes is below the square of its greatest scale
+-- each number of 128 bits that a method writes is below the square of the method's greatest scale
 pub below_square : (method : ChineseCountMethod) (number : ℤ) → nat_abs number < 2 ^ 128
     → is_printable method number ≡ true → nat_abs number < scale method 15 * scale method 15
 below_square Low number small h = let low : nat_abs number < 10 ^ 16 =
@@ -31,7 +31,7 @@ below_square Middle number small h = omega (arith, small)
 below_square High number small h = let much : 2 ^ 128 ≤ scale High 15 * scale High 15 =
     leb-true _ _ refl in omega (arith, small, much)
 
--- digits of one place and units alone
+-- a spelling has only digits below 10 and units
 spelling_within-printed : (method : ChineseCountMethod) (steps number : ℕ) → number ≤ steps
     → number < scale method 15 * scale method 15
     → list_all is_printed (spelling_within steps method number) ≡ true
@@ -59,7 +59,7 @@ spelling-printed method number small =
     short_spelling-by (λ l. list_all is_printed l ≡ true) (spelling_within number method number) h
     (λ rest ten. ap (list_all is_printed) (sym ten) ∙ h)
 
--- a unit whose scale does not fit is above each number of 128 bits
+-- a unit whose scale does not fit is greater than each number of 128 bits
 unfit_scale : (method : ChineseCountMethod) (rank number : ℕ) → scale_fits method rank ≡ false
     → number < 2 ^ 128 → number < scale method rank
 unfit_scale method rank number h small =
@@ -84,7 +84,7 @@ fits-from_below method (unit rank ∷ rest) h =
           and-left (nat_lt rank rank) _ (h rank e) in let less : rank < rank =
           grind (arith, nat_tests) in omega (arith, less))
 
--- a spelling names no unit whose scale does not fit
+-- a spelling contains no unit whose scale does not fit
 pub spelling-fits : (method : ChineseCountMethod) (number : ℕ) → number < 2 ^ 128 → number
     < scale method 15 * scale method 15 → some_unfit method (spelling method number) ≡ false
 spelling-fits method number small square =
@@ -95,7 +95,7 @@ spelling-fits method number small square =
     short_spelling-by (λ l. some_unfit method l ≡ false) marks h
     (λ rest ten. ap (some_unfit method) (sym ten) ∙ h)
 
--- nor does a beginning of what names none
+-- a prefix of a list without such a unit has no such unit
 some_unfit-front : (method : ChineseCountMethod) (front back : List Mark)
     → some_unfit method (front ++ back) ≡ false → some_unfit method front ≡ false
 some_unfit-front method [] back h = refl
@@ -108,7 +108,7 @@ some_unfit-front method (mark ∷ front) back h =
       by true ih h = h
       by false ih h = ih h
 
--- a numeral whose scales and value fit is judged as its value
+-- the judgement of a numeral whose scales and value fit is its value
 pub Judges-numeral : (method : ChineseCountMethod) (marks : List Mark) (number : ℕ)
     → IsNumeral marks → some_unfit method marks ≡ false → numeral_value method marks ≡ number
     → number < 2 ^ 128
@@ -122,7 +122,7 @@ Judges-numeral method (mark ∷ rest) number n f v small =
     (body (mark ∷ rest)) (Ok number))))
     (sym n) (rw (f, v, test))
 
--- so is a spelling
+-- so the judgement of a spelling is its number
 pub Judges-spelling : (method : ChineseCountMethod) (number : ℕ) → number < 2 ^ 128 → number
     < scale method 15 * scale method 15 → Judges method (spelling method number) (Ok number)
 Judges-spelling method number small square =
@@ -130,7 +130,7 @@ Judges-spelling method number small square =
     Judges-numeral method (spelling method number) number n.0
     (spelling-fits method number small square) n.1 small
 
--- and so is each beginning of a spelling, of which none is greater
+-- and the judgement of each prefix of a spelling is a number that is not greater
 pub Judges-beginning : (method : ChineseCountMethod) (number : ℕ) (front back : List Mark)
     → number < 2 ^ 128 → number < scale method 15 * scale method 15 → 0 < length front
     → front ++ back ≡ spelling method number

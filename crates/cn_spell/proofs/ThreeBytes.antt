@@ -1,4 +1,4 @@
--- Characters that take three bytes, as those do that are printed.
+-- Characters of three bytes, which all printed characters are.
 use Rattle.std.proofs.Common.{◌≡◌, ℕ, ◌+◌, ◌*◌, ◌/◌, ◌%◌, ◌<◌, true, false, nat_lt, nat_le, List, [], ◌∷◌, length, slice_index_or, map, encode_utf8_all, refl, arith}
 use denote.Enum.Declared.{tag_of}
 use Rattle.std.specs.Char.{encode_utf8}
@@ -38,7 +38,7 @@ scalar-three c h =
 pub IsUtf8-three : (c : ℕ) → takes_three c ≡ true → IsUtf8 (encode_utf8 c)
 IsUtf8-three c h = IsUtf8-encode c (scalar-three c h)
 
--- three bytes for each character
+-- a text has three bytes for each such character
 pub length-encode_all : (cs : List ℕ) → list_all takes_three cs ≡ true
     → length (encode_utf8_all cs) ≡ 3 * length cs
 length-encode_all [] h = refl
@@ -52,14 +52,14 @@ unfolding minus_char
 three-minus Traditional = refl
 three-minus Simple = refl
 
--- the word at a digit's place
+-- the word at the index of a digit
 pub digit_words : (variant : ChineseVariant) (case : ChineseCase) (digit : ℕ) (other : List ℕ) → digit < 10
     → slice_index_or (map printed_word (printed_digits variant case)) digit other ≡ printed_word (digit_char variant case digit)
 unfolding digit_char
 digit_words variant case digit other h =
     get_or-map printed_word (printed_digits variant case) digit 0 other (omega (arith, h, length-digits variant case))
 
--- and at a unit's
+-- the word at the index of a unit
 pub unit_words : (variant : ChineseVariant) (case : ChineseCase) (unit : NumeralUnit) (other : List ℕ)
     → slice_index_or (map printed_word (printed_units variant case)) (tag_of the_type unit) other ≡ printed_word (unit_char variant case (rank unit))
 unfolding unit_char

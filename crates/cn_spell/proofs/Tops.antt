@@ -19,7 +19,7 @@ powers-few TenThousand = omega arith
 powers-few Middle = omega arith
 powers-few High = omega arith
 
--- a digit in front of what stands below it
+-- a digit before the marks of the lower powers
 pub digit-lead : (method : ChineseCountMethod) (power d below filled : ℕ)
     → power < powers_within method → 0 < d → d < 10 → below < 10 ^ power → Fills filled below
     → part method (d * 10 ^ power + below)
@@ -46,7 +46,7 @@ lower-split number power =
 pub lower-less : (number power : ℕ) → number % 10 ^ power < 10 ^ power
 lower-less number power = mod-lt number (one-le-pow power 10 (omega arith))
 
--- a power that holds 0 adds nothing
+-- a power whose digit is 0 adds nothing
 pub part-same : (method : ChineseCountMethod) (number power : ℕ) → at number power ≡ 0
     → part method (number % 10 ^ (power + 1)) ≡ part method (number % 10 ^ power)
 part-same method number power none =
@@ -61,7 +61,7 @@ Fills-same number power filled none fills =
     ∙ ap (λ d. d * 10 ^ power + number % 10 ^ power) none ∙ omega arith in
     subst (Fills filled) (sym e) fills
 
--- any other digit stands in front
+-- any other digit is written before the lower marks
 pub part-more : (method : ChineseCountMethod) (number power filled : ℕ)
     → power < powers_within method → 0 < at number power → Fills filled (number % 10 ^ power)
     → part method (number % 10 ^ (power + 1)) ≡ digit (at number power)
@@ -81,7 +81,7 @@ Fills-more number power pos = record {
       rw e (omega (arith, p, lower-split number power));
 }
 
--- nothing is filled at first
+-- at first no power is filled
 pub Fills-none : (number : ℕ) → Fills 0 (number % 10 ^ 0)
 Fills-none number = record {
   below = lower-less number 0;
@@ -93,7 +93,7 @@ pub part-none : (method : ChineseCountMethod) (number : ℕ) → part method (nu
 part-none method number = let e : number % 10 ^ 0 ≡ 0 =
     omega (arith, lower-less number 0) in ap (λ n. part method n) e
 
--- how far the powers below one are filled
+-- the number of powers below this one that are filled
 abbrev pub filled_of : ℕ → ℕ → ℕ
 filled_of number zero = 0
 filled_of number (suc power) = if nat_lt 0 (at number power) then suc power
@@ -118,7 +118,7 @@ Filled number (suc power) =
           )
     ]
 
--- more powers have no fewer marks
+-- with more powers there are at least as many marks
 pub part-grows : (method : ChineseCountMethod) (number power : ℕ) → power < powers_within method
     → length (part method (number % 10 ^ power)) ≤ length (part method (number % 10 ^ (power + 1)))
 part-grows method number power within = elim (dec_lt 0 (at number power)) [
@@ -144,7 +144,7 @@ parts-grow method number power (suc steps) within =
       part-grows method number (power + steps) (omega (arith, within)),
     ))
 
--- the innermost unit of a power is its own
+-- the last width is 1
 abbrev ends_single : List ℕ → Bool
 ends_single [] = false
 ends_single (width ∷ []) = width == 1
@@ -199,7 +199,7 @@ over-head method (width ∷ next ∷ widths) power filled above h reach =
             ) refl,
           )
 
--- nothing stands before the lowest digit
+-- no unit is written after the lowest digit
 pub behind-zero : (method : ChineseCountMethod) → units_behind method 0 0 ≡ []
 behind-zero Low = refl
 behind-zero TenThousand = refl

@@ -6,7 +6,7 @@ use Rattle.cn_core.specs.declared.method.ChineseCountMethod.{ChineseCountMethod}
 use Rattle.cn_core.specs.Mark.{Mark}
 use Rattle.cn_spell.specs.Working.Units.{start_of, unit_behind, units_over}
 
--- the loop over the widths: a group that begins above what is written
+-- a group that begins at or above the powers that are written
 pub behind-then : (method : ChineseCountMethod) (power filled above index : ℕ) (widths : List ℕ)
     (done all : List Mark) → index < length widths
     → above ≤ start_of (slice_index widths index) power
@@ -29,7 +29,7 @@ behind-then method power filled above index widths done all less reach e =
     ∙ append_assoc (units_over method power filled (start + 1) (drop (index + 1) widths))
     (unit_behind method filled above start) done
 
--- and one whose unit is written already
+-- a group whose unit is written already
 pub behind-else : (method : ChineseCountMethod) (power filled above index : ℕ) (widths : List ℕ)
     (done all : List Mark) → index < length widths
     → start_of (slice_index widths index) power < above
@@ -46,7 +46,7 @@ behind-else method power filled above index widths done all less reach e =
     e ∙ ap (λ ws. units_over method power filled above ws ++ done) items
     ∙ ap (λ marks. marks ++ done) first
 
--- the room that it takes
+-- the space that it takes
 pub behind-room : (method : ChineseCountMethod) (power filled above index : ℕ) (widths : List ℕ)
     (done all : List Mark) (first left : ℕ) → index < length widths
     → above ≤ start_of (slice_index widths index) power

@@ -1,11 +1,11 @@
--- The tables of units hold the ranks that the powers ask for.
+-- The tables of units have the rank of each power.
 use Rattle.std.proofs.Common.{◌≡◌, ℕ, zero, suc, ◌+◌, ◌<◌, Bool, true, ◌==◌, ◌&&◌, List, [], ◌∷◌, length, slice_index_or, ap, ◌∙◌, arith}
 use Rattle.std.proofs.lemmas.Bool.Decides.{nat_tests}
 use Rattle.cn_core.specs.declared.unit.Unit.{Unit as NumeralUnit}
 use Rattle.cn_core.specs.Characters.{rank}
 use Rattle.cn_core.proofs.Fronts.{and-left, and-right}
 
--- the units' ranks are those asked for at the powers from `first` on
+-- the ranks of the units are those of the powers from `first` on
 abbrev pub has_ranks : (ℕ → ℕ) → ℕ → List NumeralUnit → Bool
 has_ranks rank_of first [] = true
 has_ranks rank_of first (unit ∷ units) =
@@ -24,7 +24,7 @@ rank-at rank_of (unit ∷ units) first (suc power) default h less =
     rw e (rank-at rank_of units (first + 1) power default
     (and-right (rank unit == rank_of first) _ h) (omega (arith, less)))
 
--- a table with these ranks holds the one of each power
+-- a table with these ranks has the rank of each power
 pub rank-in : (rank_of : ℕ → ℕ) (units : List NumeralUnit) (power count : ℕ)
     (default : NumeralUnit) → power < count → has_ranks rank_of 0 units ≡ true
     → length units ≡ count

@@ -1,4 +1,4 @@
--- The units before a digit, and the spelling that they make.
+-- The units after a digit, and the spelling that they make.
 use Rattle.std.proofs.Common.{◌≡◌, ℕ, zero, suc, ◌+◌, ◌-◌, ◌*◌, ◌/◌, ◌%◌, ◌^◌, ◌<◌, ◌≤◌, max, Bool, true, false, inl, inr, ◌==◌, ◌&&◌, ◌||◌, nat_le, nat_lt, List, [], ◌∷◌, ◌++◌, refl, sym, ap, subst, ◌∙◌, arith, append_assoc, append-nil, if◌then◌else◌}
 use Rattle.std.proofs.lemmas.Bool.{cases_Bool}
 use Rattle.std.proofs.lemmas.Bool.Decides.{nat_tests}
@@ -15,13 +15,13 @@ use Rattle.cn_core.proofs.Fronts.{and-left, and-right}
 use Rattle.cn_core.proofs.ScaleLaws.{scale-mono}
 use Rattle.cn_spell.specs.Working.Units.{widths_of, powers_within, rank_at, start_of, unit_behind, units_over}
 
--- the number has digits at the powers below `filled`, and one that is not 0 just below it
+-- the number has digits only at the powers below `filled`, and the highest of these is not 0
 pub record Fills (filled number : ℕ) : Type 0 where
   pub below : number < 10 ^ filled
   pub reach : 0 < filled → 10 ^ (filled - 1) ≤ number
 
--- a group of the smaller width that begins inside a group of the greater one begins at the unit of
--- its own size
+-- if a group of the smaller width begins inside a group of the greater one, its unit has the scale
+-- of its own size
 abbrev pub stands : ChineseCountMethod → ℕ → ℕ → ℕ → Bool
 stands method outer width power =
     let inside = power % outer - power % width in
@@ -36,7 +36,7 @@ all_stand method outer width zero = true
 all_stand method outer width (suc power) =
     stands method outer width power && all_stand method outer width power
 
--- the widths part a group of the outer width, one inside the other, down to groups of so many powers
+-- each width divides the group of the one before, down to groups of `least` powers
 abbrev pub is_chain : ℕ → ChineseCountMethod → ℕ → List ℕ → Bool
 is_chain least method outer [] = outer == least
 is_chain least method outer (width ∷ widths) = outer == least
@@ -49,7 +49,7 @@ chain TenThousand = refl
 chain Middle = refl
 chain High = refl
 
--- a unit of this rank has this size, and a number of so many more powers reaches no greater one
+-- a unit of this rank has this size, and a number with `width` more powers reaches no greater unit
 pub record Stands (method : ChineseCountMethod) (size width rank : ℕ) : Type 0 where
   pub some : 1 ≤ rank
   pub high : rank ≤ 15
@@ -108,7 +108,7 @@ all_stand-at method outer width (suc limit) power h less = elim (dec_lt power li
       in rw e at (and-left (stands method outer width limit) _ h)
 ]
 
--- a printable number has no more powers than the square of the greatest unit
+-- a number that the method writes has at most as many powers as the square of the greatest unit
 pub powers-fit : (method : ChineseCountMethod)
     → powers_within method ≤ exponent method 15 + exponent method 15
 powers-fit Low = omega arith
@@ -116,7 +116,7 @@ powers-fit TenThousand = omega arith
 powers-fit Middle = omega arith
 powers-fit High = omega arith
 
--- and is less than that square
+-- and it is less than that square
 pub few-of : (method : ChineseCountMethod) (number powers : ℕ) → number < 10 ^ powers
     → powers ≤ exponent method 15 + exponent method 15 → number < scale method 15 * scale method 15
 few-of method number powers h within =
@@ -143,7 +143,7 @@ cut method high below size width rank s pos low fits small =
       same : {a b : ℕ} → a ≡ b → high * a + below ≡ high * b + below
       same f = ap (λ n. high * n + below) f
 
--- 零 is written where the powers below the unit leave one empty
+-- 零 is written if a power below the unit is empty
 gap-flag : (inner size filled above below start base : ℕ) → Fills inner below → inner ≤ size
     → 1 ≤ size → start ≡ base + size → above ≡ base + max inner 1
     → (0 < inner → filled ≡ above) → (inner ≡ 0 → filled < above)
@@ -195,7 +195,7 @@ if-else : {X : Type 0} {b : Bool} (x y : X) → b ≡ false → y ≡ (if b then
 if-else {b = true} x y e = cc
 if-else {b = false} x y e = refl
 
--- what stands above the powers of a unit
+-- the part of a number above the powers of a unit
 Fills-above : (inner size below : ℕ) → Fills inner below → size < inner
     → Fills (inner - size) (below / 10 ^ size)
 Fills-above inner size below fills deep = record { below = under; reach = λ pos. over pos } where
@@ -221,7 +221,7 @@ Fills-above inner size below fills deep = record { below = under; reach = λ pos
       lt_of_mul-lt-mul_right (10 ^ size) step in
       omega (arith, found)
 
--- a digit or a section joins what stands above the powers of a unit that is written already
+-- a digit or a section is joined to the part above the powers of a unit that is written already
 join : (method : ChineseCountMethod) (lead below size width rank : ℕ)
     (lead_marks marks : List Mark) → Stands method size width rank → 10 ^ size ≤ below
     → lead * 10 ^ size + below < 10 ^ (size + width)
@@ -254,7 +254,7 @@ join method lead below size width rank lead_marks marks unit_is least fits few k
     ∙ ap (λ rest. lead_marks ++ rest) (append_assoc marks (part method high) tail)
     ∙ ap (λ rest. lead_marks ++ (marks ++ rest)) (sym two ∙ ap (λ n. part method n) (sym split))
 
--- from one multiple to a greater one it is a multiple at least
+-- two different multiples of a number differ by at least that number
 multiples-apart : (k a b : ℕ) → a % k ≡ 0 → b % k ≡ 0 → a < b → a + k ≤ b
 multiples-apart k a b one two less =
     let low = div-add-mod a k in
@@ -263,7 +263,7 @@ multiples-apart k a b one two less =
     let step : (a / k + 1) * k ≤ b / k * k = mul-le-mul_right k (omega (arith, fewer)) in
     omega (arith, one, two, low, high, step)
 
--- above a power there is no unit of a group that holds it
+-- no group that contains a power begins above it
 pub over-none : (method : ChineseCountMethod) (widths : List ℕ) (power filled above : ℕ)
     → power < above → units_over method power filled above widths ≡ []
 over-none method [] power filled above past = refl
@@ -271,7 +271,7 @@ over-none method (width ∷ widths) power filled above past =
     let test : nat_le above (start_of width power) ≡ false = grind (arith, nat_tests, past) in
     rw test (over-none method widths power filled above past)
 
--- a lead whose group holds nothing else
+-- a lead whose group has no other digit
 lead-alone : (method : ChineseCountMethod) (widths : List ℕ)
     (powers outer power lead below inner filled above : ℕ) → outer ≡ powers → power % powers ≡ 0
     → below < 10 ^ (power % outer) → above ≡ (power - power % outer) + max inner 1
@@ -287,8 +287,8 @@ lead-alone method widths powers outer power lead below inner filled above same m
     rw (zero, empty, only, over-none method widths power filled above past)
     (sym (append-nil (part method lead)))
 
--- a lead of so many powers in front of what stands below it: the units of the groups that it is the
--- first to fill stand between
+-- a lead before the lower marks: between them are the units of the groups that it is the first to
+-- fill
 pub lead-over : (method : ChineseCountMethod) (widths : List ℕ)
     (powers outer power lead below inner filled above : ℕ)
     → is_chain powers method outer widths ≡ true → power < powers_within method

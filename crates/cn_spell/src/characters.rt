@@ -1,4 +1,4 @@
-// The characters of one script and case, as words: a 0, and the three bytes of each.
+// The characters of one script and case, as words: the byte 0 and the three bytes of a character.
 ghost use Rattle.std.specs.Prelude.{◌≡◌, ◌<◌, map};
 ghost use Rattle.cn_core.specs.Characters.{rank, digit_char, unit_char, minus_char, printed_digits, printed_units, printed_word};
 
@@ -16,7 +16,7 @@ pub struct Characters {
 }
 
 impl Characters {
-    /// Looks the table up, once for a text.
+    /// Looks up the table of a script and case, once for a text.
     pub fn new(variant: ChineseVariant, case: ChineseCase) -> Self
         ensures variant { result.variant ≡ variant }
         ensures case { result.case ≡ case }
@@ -38,7 +38,7 @@ impl Characters {
         &self.table.digit_words[digit as usize]
     }
 
-    /// That of a unit.
+    /// The word of a unit.
     #[inline(always)]
     #[tactic(auto, using(crate::proofs::ThreeBytes::unit_words))]
     pub fn unit(self, unit: Unit) -> &'static [u8; 4]
@@ -47,7 +47,7 @@ impl Characters {
         &self.table.unit_words[unit as usize]
     }
 
-    /// That of the minus sign.
+    /// The word of the minus sign.
     #[inline(always)]
     pub fn minus(self) -> &'static [u8; 4]
         ensures { result.now ≡ printed_word (minus_char self.variant) }

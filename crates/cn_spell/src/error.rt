@@ -5,14 +5,14 @@ use std::alloc::AllocError;
 use std::error::Error;
 use std::fmt;
 
-/// Why a number was not written.
+/// Why a number is not written.
 #[derive(Debug, Copy, Clone, Eq, PartialEq)]
 pub enum NumberToChineseError {
     /// The number is 10^16 or more, and the method is `Low`, whose greatest unit, 極, is 10^15.
     Overflow,
     /// The number is -10^16 or less, and the method is `Low`.
     Underflow,
-    /// There was no memory for the text.
+    /// The memory for the text could not be allocated.
     OutOfMemory,
 }
 

@@ -1,9 +1,9 @@
-//! The printer of any integer type, by units or as plain digits. It serves the crates above it
-//! alone: users take the calls of `chinese_number`.
+//! The printer of any integer type, with units or as plain digits. Only the crates above this one
+//! use it; users call `chinese_number`.
 //!
-//! It fills a room from the last character to the first: one that the caller lends, whose end the
-//! text is then, or memory, which is asked for once, for three bytes for each character that it
-//! counted before.
+//! It fills a buffer from the last character to the first. The buffer is either lent by the caller,
+//! and the text is then its end, or allocated once, with three bytes for each of the characters,
+//! which are counted first.
 #![tactic(auto)]
 
 mod characters;

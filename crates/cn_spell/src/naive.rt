@@ -1,4 +1,4 @@
-// Printing by plain decimal digits.
+// Printing as plain decimal digits.
 ghost use Rattle.std.specs.Prelude.{◌≡◌, ◌+◌, ◌*◌, ◌^◌, ◌<◌, ◌≤◌, List, ◌++◌, length, IfOk};
 ghost use Rattle.cn_core.specs.Mark.{Mark};
 ghost use Rattle.cn_core.specs.Naive.{decimal_digits};
@@ -26,9 +26,9 @@ struct Plain<'a> {
 }
 
 impl<'a> Plain<'a> {
-    // Takes the magnitude's sections into an array.
-    // Same answer (ChineseCountMethod::TenThousand → ChineseCountMethod::Middle): each method but
-    // `Low` takes the same sections.
+    // Splits the magnitude into sections, which it stores in an array.
+    // Same answer (ChineseCountMethod::TenThousand → ChineseCountMethod::Middle): all methods other
+    // than `Low` take the same sections.
     #[inline(always)]
     fn of(
         taken: &'a mut [u16; MOST],
@@ -48,7 +48,7 @@ impl<'a> Plain<'a> {
     }
 }
 
-// Puts so many of a number's lowest digits.
+// Writes the lowest `count` digits of a number.
 #[inline(always)]
 fn put_digits<P: Pen>(pen: &mut P, number: u16, count: usize)
     requires room { 3 * count ≤ P.left pen.old }
@@ -64,7 +64,7 @@ fn put_digits<P: Pen>(pen: &mut P, number: u16, count: usize)
     }
 }
 
-// Puts the four digits of a section.
+// Writes the four digits of a section.
 #[inline(always)]
 fn put_section<P: Pen>(pen: &mut P, section: u16)
     requires section { section < 10 ^ 4 }
@@ -110,7 +110,7 @@ impl Text for Plain<'_> {
     }
 }
 
-/// The text of a number by its decimal digits, in one request for memory.
+/// The text of a number as decimal digits, with one allocation.
 pub fn print_naive<T: Whole>(
     alloc: Global,
     variant: ChineseVariant,
@@ -129,8 +129,8 @@ pub fn print_naive<T: Whole>(
     NewString { alloc }.take(&text)
 }
 
-// The text of a sign and a magnitude at the end of a room, and where it begins: one body for all
-// types.
+// Writes the text of a sign and a magnitude at the end of a buffer, and returns where it begins.
+// All types share this one function.
 #[inline(always)]
 fn put_plain(
     room: &mut [u8; ROOM_BYTES],
@@ -146,15 +146,14 @@ fn put_plain(
     text.fill::<OneSpare>(room)
 }
 
-/// Puts a number as plain decimal digits into a room, and hands out its text, which is the end of
-/// the room.
+/// Writes a number as plain decimal digits at the end of a buffer, and returns its text.
 ///
 /// ```text
 /// let mut room = [0; ROOM_BYTES];
 /// put_chinese_naive(&mut room, ChineseVariant::Simple, ChineseCase::Lower, 2025)   // 二零二五
 /// ```
 ///
-/// It asks for no memory, and there is no error.
+/// It allocates no memory and cannot fail.
 #[inline(always)]
 pub fn put_chinese_naive<'a, T: Whole>(
     room: &'a mut [u8; ROOM_BYTES],

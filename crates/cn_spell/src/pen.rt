@@ -1,4 +1,4 @@
-// What marks are written by, from the last to the first: once to count them, once to fill a room.
+// Writes marks from the last to the first: once to count them, and once to fill a buffer.
 ghost use Rattle.std.specs.Prelude.{◌≡◌, ℕ, ◌+◌, ◌-◌, ◌*◌, ◌^◌, ◌≤◌, ◌<◌, IsTrue, List, [], ◌∷◌, ◌++◌, drop, length, map, if◌then◌else◌};
 ghost use Rattle.std.specs.Borrow.{GName};
 ghost use Rattle.cn_core.specs.declared.script.ChineseVariant.{ChineseVariant};
@@ -14,20 +14,20 @@ use crate::characters::Characters;
 use cn_core::Unit;
 use std::marker::PhantomData;
 
-/// Puts digits and units, from the last to the first.
+/// Writes digits and units, from the last to the first.
 pub trait Pen {
-    // How many bytes of characters it can still put.
+    // The number of bytes that it can still write.
     ghost left: { Self → ℕ };
 
-    // What it has put are these marks.
+    // The marks that it has written are these.
     ghost has_put: { Self → List Mark → Type 0 };
 
-    // What stays while it puts them.
+    // The part of its state that writing does not change.
     ghost Setting: { Type 0 };
 
     ghost setting: { Self → Setting };
 
-    // Puts a digit where it is kept; there is room for it in either case.
+    // Writes a digit if it is kept; there must be space for it in either case.
     fn put_digit_if(&mut self, is_kept: bool, value: u8)
         requires value { value < 10 }
         requires room { 3 ≤ left self.old }
@@ -36,7 +36,7 @@ pub trait Pen {
         ensures marks { (marks : List Mark) → has_put self.old marks
             → has_put self.new (kept is_kept (digit value) ++ marks) };
 
-    // Puts a unit where it is kept; there is room for it in either case.
+    // Writes a unit if it is kept; there must be space for it in either case.
     fn put_unit_if(&mut self, is_kept: bool, value: Unit)
         requires room { 3 ≤ left self.old }
         ensures setting { setting self.new ≡ setting self.old }
@@ -52,7 +52,7 @@ pub struct Count {
     pub characters: usize,
 }
 
-// It counts the same in each script and case.
+// The count is the same in each script and case.
 impl Pen for Count {
     ghost left = { λ count. 3 * (2 ^ 64 - 1 - count.characters) };
 
@@ -74,12 +74,12 @@ impl Pen for Count {
     }
 }
 
-/// How a character's three bytes are written.
+/// The way in which the three bytes of a character are written.
 pub trait Front {
-    // So many bytes in front of a text are spare.
+    // The number of spare bytes before a text.
     ghost spare: { ℕ };
 
-    // Writes those of a word.
+    // Writes the three bytes of a word's character.
     fn write_word(bytes: &mut [u8], start: usize, word: &[u8; 4])
         requires spare { spare ≤ start }
         requires within { start + 3 ≤ length bytes.old }
@@ -87,7 +87,7 @@ pub trait Front {
         ensures text { drop start bytes.new ≡ drop 1 word.now ++ drop (start + 3) bytes.old };
 }
 
-/// By themselves.
+/// Writes the three bytes alone.
 pub struct Exact;
 
 impl Front for Exact {
@@ -101,7 +101,7 @@ impl Front for Exact {
     }
 }
 
-/// With a spare byte in front of them: the whole word is loaded, and then stored at once.
+/// Writes the whole word at once, and so needs a spare byte before the text.
 pub struct OneSpare;
 
 impl Front for OneSpare {
@@ -117,8 +117,8 @@ impl Front for OneSpare {
     }
 }
 
-/// The room of a text, which is filled from its last character to its first: some free bytes, and
-/// the end of the text behind them, in these characters.
+/// The buffer of a text that is filled from its last character to its first: some free bytes, and
+/// after them the end of the text, in these characters.
 #[derive(Drop)]
 pub struct Room<'a, F: Front> {
     bytes: &'a mut [u8],
@@ -129,7 +129,7 @@ pub struct Room<'a, F: Front> {
     ghost apart: { F.spare ≤ free },
 }
 
-// How many bytes a character takes.
+// The number of bytes that a character takes.
 #[inline(always)]
 fn taken(is_kept: bool) -> usize
     ensures { result ≡ (if is_kept then 3 else 0) }
@@ -138,7 +138,7 @@ fn taken(is_kept: bool) -> usize
 }
 
 impl<'a, F: Front> Room<'a, F> {
-    /// All of these bytes are free.
+    /// A buffer in which all of these bytes are free.
     #[inline(always)]
     pub fn new(bytes: &'a mut [u8], characters: &'a Characters) -> Self
         requires { F.spare ≤ length bytes.old }
@@ -156,8 +156,8 @@ impl<'a, F: Front> Room<'a, F> {
         }
     }
 
-    /// Puts a word's character in front of the text where it is kept; its bytes are written in either
-    /// case, so that nothing branches.
+    /// Writes a word's character before the text if it is kept. Its bytes are written in either
+    /// case, so that the code has no branch.
     #[inline(always)]
     pub fn put_if(&mut self, is_kept: bool, word: &[u8; 4])
         requires { 3 + F.spare ≤ self.old.free }
@@ -173,7 +173,7 @@ impl<'a, F: Front> Room<'a, F> {
         self.free -= taken(is_kept);
     }
 
-    /// Puts the minus sign, where one is asked for.
+    /// Writes the minus sign if the number is negative.
     #[inline(always)]
     pub fn put_sign(&mut self, negative: bool)
         requires { IsTrue negative → 3 + F.spare ≤ self.old.free }
@@ -194,7 +194,7 @@ impl<F: Front> Pen for Room<'_, F> {
     ghost has_put = { λ room marks. Shows room.free room.bytes.now
         (map (mark_char room.characters.now.variant room.characters.now.case) marks) };
 
-    // Whose bytes it fills, in which characters.
+    // The bytes that it fills, and its characters.
     ghost Setting = { GName × Characters };
 
     ghost setting = { λ room. (room.bytes.ghost_name, room.characters.now) };

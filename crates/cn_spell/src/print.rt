@@ -1,4 +1,4 @@
-// Printing by units.
+// Printing with units.
 ghost use Rattle.std.specs.Prelude.{◌≡◌, pos, IfOk, IsTrue, MatchResult};
 ghost use Rattle.cn_core.specs.Spelling.{spelling};
 ghost use Rattle.cn_core.specs.Printing.{signed_text, spelled_text, is_printable};
@@ -18,7 +18,7 @@ use std::str;
 // `Low` writes magnitudes of at most sixteen digits.
 const LOW_LIMIT: u128 = 10_000_000_000_000_000;
 
-// The text of a sign and a magnitude, by a method that the compiler knows.
+// Writes a sign and a magnitude with a method that is known at compile time.
 fn spell_known<M: KnownMethod, P: Target>(
     target: &mut P,
     characters: Characters,
@@ -34,7 +34,7 @@ fn spell_known<M: KnownMethod, P: Target>(
     target.take(&Spelled::<M>::of(&mut taken, characters, negative, magnitude))
 }
 
-// The text of a sign and a magnitude, by a method that is given.
+// Writes a sign and a magnitude with the given method.
 fn spell_magnitude<P: Target>(
     target: &mut P,
     characters: Characters,
@@ -63,7 +63,7 @@ fn spell_magnitude<P: Target>(
     }
 }
 
-// The text of a number, by a method that is given.
+// Writes a number with the given method.
 #[inline(always)]
 fn spell_number<P: Target, T: Whole>(
     target: &mut P,
@@ -85,7 +85,7 @@ fn spell_number<P: Target, T: Whole>(
     )
 }
 
-/// The spelling of a number that the method writes.
+/// The spelling of a number that the method writes, with one allocation.
 pub fn print_by_units<T: Whole>(
     alloc: Global,
     variant: ChineseVariant,
@@ -101,7 +101,7 @@ pub fn print_by_units<T: Whole>(
     spell_number(&mut string, Characters::new(variant, case), method, value)
 }
 
-// Why the method does not write a number, if it does not.
+// Returns an error if the method does not write the number.
 #[inline(always)]
 fn test_printable<T: Whole>(
     method: ChineseCountMethod,
@@ -122,8 +122,8 @@ fn test_printable<T: Whole>(
     }
 }
 
-/// The spelling of any number: what the method does not write is refused before memory is asked
-/// for.
+/// The spelling of any number. If the method does not write it, the error is returned before memory
+/// is allocated.
 pub fn print_or_refuse<T: Whole>(
     alloc: Global,
     variant: ChineseVariant,
@@ -137,7 +137,7 @@ pub fn print_or_refuse<T: Whole>(
     Ok(print_by_units(alloc, variant, case, method, value)?)
 }
 
-// The text of a number at the end of a room, and where it begins.
+// Writes the text of a number at the end of a buffer, and returns where it begins.
 #[inline(always)]
 fn put_at_end<T: Whole>(
     room: &mut [u8; ROOM_BYTES],
@@ -153,8 +153,7 @@ fn put_at_end<T: Whole>(
     spell_number(&mut lent, characters, method, value)
 }
 
-/// Puts a number by the units of a method into a room, and hands out its text, which is the end of
-/// the room.
+/// Writes a number with the units of a method at the end of a buffer, and returns its text.
 ///
 /// ```text
 /// let mut room = [0; ROOM_BYTES];
@@ -162,8 +161,8 @@ fn put_at_end<T: Whole>(
 /// // 一百零五
 /// ```
 ///
-/// It asks for no memory. `Low` refuses a number from 10^16 up with `Overflow` and one from -10^16
-/// down with `Underflow`; no other error comes.
+/// It allocates no memory. With `Low`, a number of 10^16 or more returns `Overflow`, and one of
+/// -10^16 or less returns `Underflow`. There is no other error.
 #[inline(always)]
 pub fn put_chinese<'a, T: Whole>(
     room: &'a mut [u8; ROOM_BYTES],

@@ -5,16 +5,16 @@ ghost use Rattle.cn_spell.specs.Working.Units.{powers_within};
 
 use cn_core::ChineseCountMethod;
 
-// A number of 128 bits has nine sections below its highest at most.
+// A number of 128 bits has at most nine sections below its highest.
 pub const MOST: usize = 9;
 
-// A section has four digits, and a part four sections: it fits 64 bits.
+// A section has four digits. A part has four sections, and fits 64 bits.
 pub const SECTION: u64 = 10_000;
 
 // 5^16.
 const FIVES: u64 = 152_587_890_625;
 
-/// A magnitude, by its lowest sections of four digits and what is left above them.
+/// A magnitude, as its lowest sections of four digits and the rest above them.
 #[derive(Clone, Copy)]
 pub struct Sections<'a> {
     pub number: u128,
@@ -25,7 +25,7 @@ pub struct Sections<'a> {
 }
 
 impl<'a> Sections<'a> {
-    /// Takes a number that the method writes into an array.
+    /// Splits a number that the method writes into sections, which it stores in an array.
     #[inline(always)]
     pub fn of(sections: &'a mut [u16; MOST], method: ChineseCountMethod, number: u128) -> Self
         requires { number < 10 ^ powers_within method }
@@ -43,8 +43,8 @@ impl<'a> Sections<'a> {
     }
 }
 
-// Takes off all sections but the highest, and none for `Low`. The result is how many sections these
-// are, and what is left above them.
+// Splits off all sections except the highest, or none under `Low`. Returns the number of these
+// sections, and the rest above them.
 // Same answer (> → >=): the four lowest sections of 2^64 - 1 are taken at once or one by one.
 #[inline(always)]
 fn take_sections(
@@ -77,8 +77,9 @@ fn take_sections(
     (count, above)
 }
 
-// What is left above the lowest four sections, and their number. 10^16 is 2^16 times 5^16, so this
-// takes three divisions of 64 bits by 5^16, of 26 bits at a time, in place of one of 128 bits.
+// Splits a number into the rest above its lowest four sections, and those four. 10^16 is 2^16 times
+// 5^16, so this takes three divisions of 64 bits by 5^16, of 26 bits at a time, in place of one of
+// 128 bits.
 #[inline(always)]
 fn split_part(number: u128) -> (u128, u64)
     ensures above { result.0 ≡ number / 10 ^ 16 }
@@ -94,7 +95,7 @@ fn split_part(number: u128) -> (u128, u64)
     (above, low % FIVES * (1 << 16) + (number % (1 << 16)) as u64)
 }
 
-// The four sections of a part, from the index on.
+// Stores the four sections of a part in the array, from the index on.
 #[inline(always)]
 fn put_part(sections: &mut [u16], index: usize, part: u64)
     requires part { part < 10 ^ 16 }
@@ -114,7 +115,7 @@ fn put_part(sections: &mut [u16], index: usize, part: u64)
     sections[index + 3] = (high / SECTION) as u16;
 }
 
-/// How many digits a section has; 0 has one.
+/// The number of digits of a section; 0 has one digit.
 #[inline(always)]
 pub fn digits_of(section: u16) -> usize
     requires { section < 10 ^ 4 }

@@ -1,7 +1,7 @@
-// A magnitude's spelling, written from its lowest digit up.
+// Writes the spelling of a magnitude, from its lowest digit up.
 //
-// 100_100_000 by `TenThousand` has the sections 0000, 0010 and, above them, 1. What is put, from
-// the last character to the first:
+// For example, 100_100_000 under `TenThousand` has the sections 0000, 0010 and, above them, 1. This
+// is written, from the last character to the first:
 //
 //     0000   nothing
 //     0010   萬, its unit, then 十 and 一
@@ -20,7 +20,7 @@ use crate::sections::{Sections, digits_of};
 use crate::units::{unit_at, widths};
 use cn_core::ChineseCountMethod;
 
-// Puts a digit and its power's unit, where it is not 0, and 零 where a gap is to be shown.
+// Writes a digit and the unit of its power if the digit is not 0, and 零 if a gap must be shown.
 #[inline(always)]
 fn put_digit<P: Pen>(pen: &mut P, power: usize, digit: u8, is_gap: bool)
     requires power { power < 16 }
@@ -37,7 +37,7 @@ fn put_digit<P: Pen>(pen: &mut P, power: usize, digit: u8, is_gap: bool)
     pen.put_digit_if((digit > 0) | is_gap, digit);
 }
 
-// Puts a section that something stands in front of.
+// Writes a section that has digits above it.
 // Same answer (>= → >, 100 → 101 #3): 100 has no ones.
 // Same answer (100 → 99 #3): 99 has tens, which are written in either case.
 // Same answer (>= → > #2, 1000 → 1001): 1000 has no tens.
@@ -63,7 +63,7 @@ fn put_section<P: Pen>(pen: &mut P, section: u16)
     put_digit(pen, 3, thousands, false);
 }
 
-// Puts the highest digit and its unit, but no 一 before 十.
+// Writes the highest digit and its unit, without 一 before 十.
 #[inline(always)]
 fn put_top<P: Pen>(pen: &mut P, power: usize, digit: u8)
     requires power { power < 16 }
@@ -83,7 +83,7 @@ fn put_top<P: Pen>(pen: &mut P, power: usize, digit: u8)
     }
 }
 
-// Puts the spelling of a number that nothing stands in front of.
+// Writes the spelling of a number that has no digits above it.
 #[inline(always)]
 fn put_above<P: Pen>(pen: &mut P, number: u64)
     requires number { number < 10 ^ 16 }
@@ -106,9 +106,9 @@ fn put_above<P: Pen>(pen: &mut P, number: u64)
     put_top(pen, power, left as u8);
 }
 
-// Puts the units behind a section that begins at the power. What is written has digits at the
-// powers below `filled` alone, and 零 stands behind the units where the next power below is empty.
-// Where the section below has a digit, the section's own unit is the only one.
+// Writes the units after a section that begins at the power. The marks that are written have digits
+// only at the powers below `filled`, and 零 follows the units if the next lower power is empty. If
+// the section below has a digit, only the section's own unit is written.
 // Same answer (4 → 3): where the lower section has one digit, the loop writes the same, more
 // slowly.
 #[inline(always)]
@@ -143,7 +143,7 @@ fn put_units<P: Pen>(pen: &mut P, method: ChineseCountMethod, power: usize, fill
     }
 }
 
-/// Puts a magnitude's spelling, from its lowest section up.
+/// Writes the spelling of a magnitude, from its lowest section up.
 #[inline(always)]
 pub fn put_spelling<P: Pen>(pen: &mut P, method: ChineseCountMethod, sections: &Sections)
     requires number { sections.now.number < 10 ^ 39 }

@@ -1,4 +1,4 @@
-// The text of a number by units.
+// The text of a number with units.
 ghost use Rattle.std.specs.Prelude.{◌≡◌, ◌*◌, ◌^◌, ◌≤◌, ◌<◌, length, pos, IsTrue};
 ghost use Rattle.cn_core.specs.declared.method.ChineseCountMethod.{ChineseCountMethod};
 ghost use Rattle.cn_core.specs.declared.method.ChineseCountMethod.TheVariants as method;
@@ -15,7 +15,7 @@ use crate::text::Text;
 use cn_core::ChineseCountMethod;
 use std::marker::PhantomData;
 
-/// A method that the compiler knows, so that a printer is compiled for each.
+/// A method that is known at compile time, so that a printer is compiled for each method.
 pub trait KnownMethod {
     ghost stands_for: { ChineseCountMethod };
 
@@ -81,7 +81,7 @@ pub struct Spelled<'a, M: KnownMethod> {
 }
 
 impl<'a, M: KnownMethod> Spelled<'a, M> {
-    /// Takes the magnitude's sections into an array.
+    /// Splits the magnitude into sections, which it stores in an array.
     #[inline(always)]
     pub fn of(
         taken: &'a mut [u16; MOST],

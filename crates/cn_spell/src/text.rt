@@ -1,4 +1,4 @@
-// A text that says how many characters it has, and fills the end of a room.
+// A text that can count its characters and fill the end of a buffer.
 ghost use Rattle.std.specs.Prelude.{◌≡◌, ℕ, ◌+◌, ◌*◌, ◌≤◌, List, length, encode_utf8_all, vec_len, vec_capacity, IfOk};
 ghost use Rattle.cn_spell.specs.Working.Room.{Shows};
 ghost use Rattle.cn_spell.specs.Writes.{Writes};
@@ -6,11 +6,11 @@ ghost use Rattle.cn_spell.specs.Writes.{Writes};
 use crate::pen::{Exact, Front, OneSpare};
 use std::alloc::{AllocError, Global};
 
-/// The bytes of a room for the text of any number: three for each of a sign, 39 digits and 38 units,
-/// and a spare one in front.
+/// The bytes of a buffer for the text of any number: three for each of a sign, 39 digits and 38
+/// units, and a spare one before them.
 pub const ROOM_BYTES: usize = 235;
 
-/// A text of characters that take three bytes each.
+/// A text whose characters are three bytes long each.
 pub trait Text {
     // Its characters.
     ghost says: { Self → List ℕ };
@@ -18,18 +18,18 @@ pub trait Text {
     // The most bytes that they take.
     ghost most: { Self → ℕ };
 
-    // How many they are.
+    // The number of its characters.
     fn count(&self) -> usize
         ensures count { result ≡ length (says self.now) }
         ensures bytes { length (encode_utf8_all (says self.now)) ≡ 3 * length (says self.now) };
 
-    // Writes them at the end of a room, from the last to the first; the result is where they begin.
+    // Writes them at the end of a buffer, from the last to the first, and returns where they begin.
     fn fill<F: Front>(&self, bytes: &mut [u8]) -> usize
         requires { 3 * length (says self.now) + F.spare ≤ length bytes.old }
         ensures { Shows result bytes.new (says self.now) };
 }
 
-// So many bytes, in a room that has no more.
+// Allocates a vector of this many zeros, without spare capacity.
 // Same answer (0 → 1 #2): each byte is overwritten before the text is read.
 #[inline(always)]
 fn zeros(alloc: Global, len: usize) -> Result<Vec<u8>, AllocError>
@@ -43,11 +43,12 @@ fn zeros(alloc: Global, len: usize) -> Result<Vec<u8>, AllocError>
     Ok(bytes)
 }
 
-/// What takes a text: memory for a new one, or a room that is lent.
+/// Where a text is written: a new string, or a buffer that is lent.
 pub trait Target {
     type Answer;
 
-    // It took these characters, of at most so many bytes: what it was, what it is, and its answer.
+    // It received these characters, of at most this many bytes: the arguments are its state before
+    // and after, and its answer.
     ghost took: { List ℕ → ℕ → Self → Self → Self.Answer → Type 0 };
 
     fn take<X: Text>(&mut self, text: &X) -> Self::Answer
@@ -56,7 +57,7 @@ pub trait Target {
         ensures { took (X.says text.now) (X.most text.now) self.old self.new result };
 }
 
-/// A new string, in one request for memory.
+/// A new string, with one allocation.
 #[derive(Drop)]
 pub struct NewString {
     pub alloc: Global,
@@ -75,8 +76,8 @@ impl Target for NewString {
     }
 }
 
-/// A room that is lent, which has a place for any text: it is put at the end, and where it begins is
-/// told.
+/// A buffer that is lent and is large enough for any text. The text is written at its end, and the
+/// answer is where it begins.
 #[derive(Drop)]
 pub struct LentRoom<'a> {
     pub bytes: &'a mut [u8; ROOM_BYTES],

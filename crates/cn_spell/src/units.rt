@@ -30,7 +30,8 @@ static HIGH: [Unit; 39] = [
     Wan, Shi, Bai,
 ];
 
-/// The unit whose group begins at a power: 萬 at the fourth, by all methods but `Low`.
+/// The unit whose group begins at a power: 萬 at 10^4 under all methods except `Low`, where it is
+/// the unit of that power itself.
 #[inline(always)]
 pub fn unit_at(method: ChineseCountMethod, power: usize) -> Unit
     requires { power < powers_within method }
@@ -52,7 +53,7 @@ static MIDDLE_WIDTHS: [usize; 3] = [8, 4, 1];
 
 static HIGH_WIDTHS: [usize; 5] = [32, 16, 8, 4, 1];
 
-/// How many powers a unit's group spans, the widest group first.
+/// The numbers of powers that the groups of the units span, the widest group first.
 #[inline(always)]
 pub fn widths(method: ChineseCountMethod) -> &'static [usize]
     ensures { result.now ≡ widths_of method }

@@ -1,4 +1,4 @@
--- How lines go on over bytes joined end to end.
+-- The lines of two sequences of bytes that are joined.
 use Rattle.std.proofs.Common.{◌≡◌, ◌≢◌, ◌++◌, ◌<◌, ℕ, Bool, true, false, eqb, List, [], ◌∷◌, length, refl, sym, ap, ◌∙◌, append_assoc, arith, rules, eq-eqb}
 use Rattle.std.proofs.lemmas.Bool.{false≢true}
 use Rattle.std.proofs.lemmas.Bool.Decides.{nat_tests}
@@ -7,7 +7,7 @@ use Rattle.cn_lines.specs.Lines.{HasNoFeed, onto_first, onto_rest, ended, unende
 no_feed_test : (b : ℕ) → b ≢ 10 → eqb b 10 ≡ false
 no_feed_test b h = search (rules, nat_tests)
 
--- a line, its line feed, and more
+-- a line, its line feed, and more bytes
 pub ended-line : (line more : List ℕ) → HasNoFeed line
     → ended (line ++ 10 ∷ more) ≡ line ∷ ended more
 unfolding ended
@@ -24,7 +24,7 @@ unended-line (b ∷ line) more h =
     let e = no_feed_test b h.0 in
     rw e (rw (ended-line line more h.1) (unended-line line more h.1))
 
--- bytes with no line feed
+-- bytes without a line feed
 pub ended-none : (bytes : List ℕ) → HasNoFeed bytes → ended bytes ≡ []
 unfolding ended
 ended-none [] h = refl
@@ -39,12 +39,12 @@ unended-none (b ∷ bytes) h =
     let e = no_feed_test b h.0 in
     rw e (rw (ended-none bytes h.1) (ap (λ l. b ∷ l) (unended-none bytes h.1)))
 
--- a beginning, and more
+-- a prefix and more bytes
 record Joined (a b : List ℕ) : Type 0 where
   whole : ended (a ++ b) ≡ ended a ++ ended (unended a ++ b)
   rest : unended (a ++ b) ≡ unended (unended a ++ b)
 
--- at a byte that is no line feed, by the lines after it
+-- a byte before the prefix that is not a line feed, by the lines after it
 joined_byte : (x : ℕ) (a b : List ℕ) → eqb x 10 ≡ false → Joined a b → (ls : List (List ℕ))
     → ended a ≡ ls
     → (onto_first x (ended (a ++ b)) ≡ onto_first x ls ++ ended (onto_rest x ls (unended a) ++ b))
@@ -106,7 +106,7 @@ lines-append a b =
       append_assoc (ended a) (ended (unended a ++ b)) (last_line (unended (unended a ++ b))),
     ) refl
 
--- some bytes make some line
+-- one or more bytes make one or more lines
 lines-some_byte : (x : ℕ) (a : List ℕ) (ls : List (List ℕ))
     → 0 < length (onto_first x ls ++ last_line (onto_rest x ls (unended a)))
 lines-some_byte x a [] = search rules

@@ -1,4 +1,4 @@
--- What stands written when lines are answered one after the other.
+-- The bytes that are written when lines are answered one after the other.
 use Rattle.std.proofs.Common.{◌++◌, ℕ, List, [], ◌∷◌, refl, sym, ap, ◌∙◌, subst, append_assoc}
 use Rattle.std.proofs.KnownBytes.{Appends-trans, Appends-nil}
 use Rattle.cn_devices.specs.Devices.{SinkState}

@@ -1,4 +1,4 @@
--- How far a run has come: what it has written and what it keeps, over the bytes so far.
+-- The state of a run: what it has written and what it keeps, for the bytes that it has read so far.
 use Rattle.std.proofs.Common.{◌≡◌, ◌++◌, ◌+◌, ◌<◌, ℕ, false, Result, Ok, Err, List, [], ◌∷◌, length, take, refl, sym, ap, ◌∙◌, subst, append_assoc, append-nil, take-append-drop, drop, length-append, inl, inr, arith}
 use Rattle.std.specs.Io.KnownBytes.{Keeps, Consumes, IsAtEnd}
 use Rattle.std.proofs.KnownBytes.{Appends-kept, Appends-nil, Keeps-refl, Consumes-whole}
@@ -14,7 +14,7 @@ use Rattle.numeral.specs.Steps.{Puts, Replies, AnswersEnded}
 use Rattle.numeral.proofs.Cut.{ended-line, unended-line, ended-none, unended-none, ended-append, unended-append, lines-append, lines-some, HasNoFeed-unended, HasNoFeed-append}
 use Rattle.numeral.proofs.Replying.{Wrote-none, Wrote-append, WroteBeginning-after, WroteBeginning-before}
 
--- an answer and its line feed were put, or a beginning of them
+-- an answer and its line feed were written, or a prefix of them
 pub Replies-put : (T U : Type 0) (old new : SinkState) (line answer : List ℕ)
     (r : Result T RunError) → Answers line answer
     → Puts old new (answer ++ 10 ∷ []) r → Replies old new (line ∷ []) r
@@ -37,12 +37,12 @@ Replies_last old new kept line r some is replies =
     subst (λ lines. Replies old new lines r) (ap (λ l. l ∷ []) is ∙ sym (last_line-some kept some))
     replies
 
--- of the bytes got each line that ended is answered, and the rest is kept
+-- after the bytes that were read, each line that ended is answered, and the rest is kept
 pub record State (old now : SinkState) (got kept : List ℕ) : Type 0 where
   pub written : Wrote old now (ended got)
   pub rest : kept ≡ unended got
 
--- more bytes come, and their lines are answered
+-- more bytes are read, and their lines are answered
 pub State-more : (old now new : SinkState) (got kept more kept' : List ℕ) → State old now got kept
     → Wrote now new (ended (kept ++ more)) → kept' ≡ unended (kept ++ more)
     → State old new (got ++ more) kept'
@@ -55,7 +55,7 @@ State-more old now new got kept more kept' s w r =
       rest = r ∙ ap (λ k. unended (k ++ more)) s.rest ∙ sym (unended-append got more);
     }
 
--- a flush keeps what was written
+-- a flush keeps the bytes that were written
 pub State-flushed : (old now new : SinkState) (got kept : List ℕ) → State old now got kept
     → Keeps now.contents new.contents → State old new got kept
 State-flushed old now new got kept s k = record {
@@ -67,7 +67,7 @@ State-flushed old now new got kept s k = record {
   rest = s.rest;
 }
 
--- a write fails among the answers to more bytes
+-- a write of the answers to more bytes fails
 pub State-write : (old now new : SinkState) (got kept more : List ℕ) → State old now got kept
     → WroteBeginning now new (ended (kept ++ more)) → WroteBeginning old new (ended (got ++ more))
 State-write old now new got kept more s w =
@@ -76,7 +76,7 @@ State-write old now new got kept more s w =
     subst (WroteBeginning old new) (sym (ended-append got more))
     (WroteBeginning-after old now new _ _ s.written w')
 
--- memory runs out at a line of more bytes
+-- the memory for a line of more bytes cannot be allocated
 pub State-memory : (old now new : SinkState) (got kept more : List ℕ) → State old now got kept
     → WroteFirst now new (kept ++ more) → WroteFirst old new (got ++ more)
 State-memory old now new got kept more s w =
@@ -94,7 +94,7 @@ State-memory old now new got kept more s w =
       subst (Wrote old new) (sym t) (Wrote-append old now new _ _ s.written w'.2),
     )
 
--- memory runs out at the first line
+-- the memory for the first line cannot be allocated
 pub WroteFirst-none : (now new : SinkState) (bytes : List ℕ) → 0 < length bytes
     → Keeps now.contents new.contents → WroteFirst now new bytes
 WroteFirst-none now new bytes h k = (
@@ -107,7 +107,7 @@ pub State-no_feed : (old now : SinkState) (got kept : List ℕ) → State old no
     → HasNoFeed kept
 State-no_feed old now got kept s = subst HasNoFeed (sym s.rest) (HasNoFeed-unended got)
 
--- a whole line comes
+-- a whole line is read
 ended-whole : (kept line after : List ℕ) → HasNoFeed kept → HasNoFeed line
     → ended (kept ++ (line ++ 10 ∷ after)) ≡ (kept ++ line) ∷ ended after
 ended-whole kept line after p q =
@@ -134,7 +134,7 @@ State-line old now new got kept line s h w =
     State-more old now new got kept (line ++ 10 ∷ []) [] s (subst (Wrote now new) (sym e) w)
     (sym (unended-whole kept line [] n h ∙ unended-nil))
 
--- a piece with no line feed comes
+-- a piece without a line feed is read
 pub State-piece : (old now : SinkState) (got kept piece : List ℕ) → State old now got kept
     → HasNoFeed piece → State old now (got ++ piece) (kept ++ piece)
 State-piece old now got kept piece s h =
@@ -149,7 +149,7 @@ length-line line after = omega (arith, length-append line (10 ∷ after))
 length-kept : (kept more : List ℕ) → 0 < length more → 0 < length (kept ++ more)
 length-kept kept more h = omega (arith, length-append kept more)
 
--- the answer to a whole line fails
+-- answering a whole line fails
 AnswersEnded-got : (T U : Type 0) (old now new : SinkState) (got kept line after keeps : List ℕ)
     (e : RunError) → State old now got kept → HasNoFeed line
     → Replies {T = T} now new ((kept ++ line) ∷ []) (Err e)
@@ -171,7 +171,7 @@ AnswersEnded-got T U old now new got kept line after keeps Memory s h w = (
   w.1,
 )
 
--- memory runs out at a piece with no line feed
+-- the memory for a piece without a line feed cannot be allocated
 AnswersEnded-got_piece : (U : Type 0) (old now : SinkState) (got kept piece keeps : List ℕ)
     → State old now got kept → 0 < length piece
     → now.failed ≡ false → AnswersEnded {T = U} old now (got ++ piece) keeps (Err Memory)
@@ -182,7 +182,7 @@ AnswersEnded-got_piece U old now got kept piece keeps s h f = (
   f,
 )
 
--- more bytes come, and a line of theirs fails
+-- more bytes are read, and answering one of their lines fails
 pub Leaves-fed : (T U : Type 0) (left : SourceState) (old now new : SinkState)
     (got kept more keeps : List ℕ) (e : RunError) → State old now got kept
     → left.failed ≡ false → AnswersEnded {T = T} now new (kept ++ more) keeps (Err e)
@@ -199,7 +199,7 @@ State-start now kept h = record {
   rest = sym (unended-none kept h);
 }
 
--- the input has ended, and what is kept is answered if it is a line
+-- the input has ended, and the rest that is kept is answered if it is a line
 lines-is : (got kept : List ℕ) → kept ≡ unended got → lines got ≡ ended got ++ last_line kept
 unfolding lines
 lines-is got kept e = ap (λ rest. ended got ++ last_line rest) (sym e)
@@ -231,7 +231,7 @@ Leaves-finished T left old now new got kept (Err Memory) s f end w h =
     WroteFirst-none now new (kept ++ []) (omega (arith, length-append kept [])) w.0 in
     (subst (WroteFirst old new) (append-nil got) (State-memory old now new got kept [] s k), f, w.1)
 
--- ---- at a block of which a beginning was seen
+-- ---- in a block of which a prefix was read
 
 module _ (first block seen rest : List ℕ) (is : block ≡ seen ++ rest) where
   whole_is : first ++ block ≡ (first ++ seen) ++ rest
@@ -274,7 +274,7 @@ module _ (first block seen rest : List ℕ) (is : block ≡ seen ++ rest) where
   State-rest old now kept s h = subst (λ l. State old now l (kept ++ rest)) (sym whole_is)
       (State-piece old now (first ++ seen) kept rest s h)
 
--- ---- what was written is a beginning
+-- ---- the bytes that were written are a prefix
 
 lines_append : (bytes : List ℕ) → ended bytes ++ last_line (unended bytes) ≡ lines bytes
 unfolding lines
@@ -304,7 +304,7 @@ Leaves-beginning left old new bytes (Err Memory) h =
     subst (WroteBeginning old new) (take-append-drop first.0 (lines bytes))
     (whole_beginning old new (take first.0 (lines bytes)) (drop first.0 (lines bytes)) first.2)
 
--- a run that answers `Ok` answers the whole input
+-- a run that returns `Ok` has answered the whole input
 pub whole_input : {T : Type 0} (given left : SourceState) (old new : SinkState)
     (r : Result T RunError)
     → Runs given left old new r → OnOk r
@@ -314,7 +314,7 @@ whole_input given left old new (Ok x) h =
     h.2.0 h.2.1
 whole_input given left old new (Err e) h = tt
 
--- whatever a run answers, it has written a beginning of the answers to the lines read
+-- whatever a run returns, it has written a prefix of the answers to the lines that it read
 pub Runs-beginning : {T : Type 0} (given left : SourceState) (old now new : SinkState)
     (r : Result T RunError)
     → Runs given left old now r → Keeps now.contents new.contents → (bytes : List ℕ)

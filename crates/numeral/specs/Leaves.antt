@@ -1,5 +1,5 @@
--- What a run leaves behind, by what it answers: what a source or a sink told before it, `old`, and
--- what it tells after it, `new`.
+-- The effects of a run, by its result. `old` is the state of a source or a sink before the run, and
+-- `new` is the state after it.
 use Rattle.std.specs.Prelude.{◌≡◌, ◌<◌, ◌++◌, ◌||◌, ℕ, Bool, true, false, List, length, take, ◌⊎◌, Result, Ok, Err}
 use Rattle.std.specs.Io.KnownBytes.{Appends, Consumes, IsAtEnd}
 use Rattle.cn_devices.specs.declared.fault.RunError.{RunError}
@@ -8,23 +8,23 @@ use Rattle.cn_devices.specs.Devices.{SourceState, SinkState, next_count}
 use Rattle.cn_lines.specs.Lines.{ended, lines}
 use Rattle.cn_lines.specs.Answer.{AreReplies}
 
--- the answers to these lines were written, each with its line feed, and nothing else
+-- the answers to these lines were written, each followed by a line feed, and nothing else
 abbrev pub Wrote : SinkState → SinkState → List (List ℕ) → Type 0
 Wrote old new lines =
     (bytes : List ℕ) × AreReplies lines bytes × Appends old.contents new.contents bytes
 
--- a beginning of these answers was written
+-- a prefix of these answers was written
 abbrev pub WroteBeginning : SinkState → SinkState → List (List ℕ) → Type 0
 WroteBeginning old new lines =
     (part : List ℕ) × (rest : List ℕ)
     × AreReplies lines (part ++ rest) × Appends old.contents new.contents part
 
--- the answers to the first lines of these bytes were written, and there is a further line
+-- the answers to the first lines of these bytes were written, and there is at least one more line
 abbrev pub WroteFirst : SinkState → SinkState → List ℕ → Type 0
 WroteFirst old new bytes =
     (k : ℕ) × (k < length (lines bytes)) × Wrote old new (take k (lines bytes))
 
--- what a run leaves that has read these bytes
+-- the effects of a run that has read these bytes
 abbrev pub Leaves : {T : Type 0}
     → SourceState → SinkState → SinkState → List ℕ → Result T RunError → Type 0
 Leaves source old new bytes (Ok x) =
@@ -39,22 +39,23 @@ Leaves source old new bytes (Err Write) =
 Leaves source old new bytes (Err Memory) =
     WroteFirst old new bytes × (source.failed ≡ false) × (new.failed ≡ false)
 
--- a run took some bytes off what the source was to give, `given`, and leaves what its answer says
+-- the run read some bytes of the source, which was in the state `given`, and has the effects of its
+-- result
 abbrev pub Runs : {T : Type 0}
     → SourceState → SourceState → SinkState → SinkState → Result T RunError → Type 0
 Runs given left old new result =
     (bytes : List ℕ)
     × Consumes given.remaining left.remaining bytes × Leaves left old new bytes result
 
--- one read gave nothing, and it was the last
+-- exactly one read returned no byte, and it was the last read
 abbrev pub EndedOnce : SourceState → SourceState → Type 0
 EndedOnce old new = (new.empty.count ≡ next_count old.empty.count) × (new.empty.ended ≡ true)
 
--- no read gave nothing, or one did, and it was the last
+-- no read returned no byte, or exactly one did, and it was the last read
 abbrev pub EndedAtMostOnce : SourceState → SourceState → Type 0
 EndedAtMostOnce old new = (new.empty.count ≡ old.empty.count) ⊎ EndedOnce old new
 
--- how a run ends its reading: it goes on as long as a read gives a byte, and no longer
+-- how a run stops reading: it reads again as long as a read returns a byte, and no longer
 abbrev pub Stops : {T : Type 0} → SourceState → SourceState → Result T RunError → Type 0
 Stops old new (Ok x) = EndedOnce old new
 Stops old new (Err Read) = new.empty.count ≡ old.empty.count

@@ -3,7 +3,7 @@ use Rattle.std.specs.Prelude.{ℕ, Bool, true, false, Result, Ok, Err}
 use Rattle.cn_devices.specs.declared.fault.RunError.{RunError}
 use Rattle.cn_devices.specs.declared.fault.RunError.TheVariants.{Read, Write, Memory}
 
--- 2 where memory ran out, 1 where a read, a write or the last flush failed, else 0
+-- 2 if memory could not be allocated, 1 if a read, a write or the last flush failed, else 0
 abbrev pub status_of : {T : Type 0} → Result T RunError → Bool → ℕ
 status_of (Ok x) true = 0
 status_of (Ok x) false = 1

@@ -13,19 +13,19 @@ use cn_lines::answer::answer;
 use cn_lines::lines::split_line;
 use std::alloc::{AllocError, Global};
 
-// How many bytes are read at a time.
+// The number of bytes that are read at a time.
 // Same answer (65536 → 65535, 65536 → 65537): the lines are the same for every block size.
 const BLOCK: usize = 65536;
 
-// What is kept from line to line: the beginning of a line that a block has cut, and the memory
-// that an answer is put into.
+// What is kept from line to line: the start of a line that continues in the next block, and the
+// buffer that an answer is written into.
 #[derive(Drop)]
 struct Buffers {
     line: Vec<u8>,
     answer: String,
 }
 
-// What is left of the bytes after so many were written.
+// The rest of the bytes after the first `count`.
 #[inline(always)]
 fn bytes_after(bytes: &[u8], count: usize) -> &[u8]
     requires { count ≤ length bytes.now }
@@ -34,7 +34,7 @@ fn bytes_after(bytes: &[u8], count: usize) -> &[u8]
     bytes.split_at(count).1
 }
 
-// Writes all the bytes, in as many writes as it takes.
+// Writes all the bytes, in as many calls as are needed.
 fn write_all<W: Sink>(writer: &mut W, bytes: &[u8]) -> Result<(), RunError>
     requires { (W.state writer.old).failed ≡ false }
     ensures { Puts (W.state writer.old) (W.state writer.new) bytes.now result }
@@ -57,7 +57,7 @@ fn push_line_feed(answer: &mut String) -> Result<(), AllocError>
     answer.push('\n')
 }
 
-// Answers a line. The answer is whole before any of it is written.
+// Answers a line. The whole answer is computed before any of it is written.
 fn answer_line<W: Sink>(writer: &mut W, text: &mut String, line: &[u8]) -> Result<(), RunError>
     requires { (W.state writer.old).failed ≡ false }
     ensures { Replies (W.state writer.old) (W.state writer.new) (line.now ∷ []) result }
@@ -68,7 +68,7 @@ fn answer_line<W: Sink>(writer: &mut W, text: &mut String, line: &[u8]) -> Resul
     write_all(writer, text.as_bytes())
 }
 
-// Answers the line that is kept and goes on with this piece, and keeps nothing.
+// Answers the kept line with this piece appended, and then keeps nothing.
 // Same answer (if buffers.line.is_empty() → nothing): the answers are equal; only
 // tests/test_numeral.py shows which lines need memory.
 fn answer_kept<W: Sink>(writer: &mut W, buffers: &mut Buffers, piece: &[u8]) -> Result<(), RunError>
@@ -86,7 +86,7 @@ fn answer_kept<W: Sink>(writer: &mut W, buffers: &mut Buffers, piece: &[u8]) -> 
     Ok(())
 }
 
-// Takes the next bytes: answers each line that ends in them, and keeps the rest.
+// Processes the next bytes: answers each line that ends in them, and keeps the rest.
 fn answer_ended<W: Sink>(
     writer: &mut W,
     buffers: &mut Buffers,
@@ -108,7 +108,7 @@ fn answer_ended<W: Sink>(
     Ok(())
 }
 
-// Answers what is kept at the end of the input, if it is a line.
+// Answers the bytes that are kept at the end of the input, if they are a line.
 fn answer_last<W: Sink>(writer: &mut W, buffers: &mut Buffers) -> Result<(), RunError>
     requires { (W.state writer.old).failed ≡ false }
     ensures replies { Replies (W.state writer.old) (W.state writer.new)
@@ -121,7 +121,7 @@ fn answer_last<W: Sink>(writer: &mut W, buffers: &mut Buffers) -> Result<(), Run
     }
 }
 
-// What a read has put into the front of the block.
+// The bytes that a read has stored at the start of the block.
 #[inline(always)]
 fn first_bytes(block: &[u8], count: usize) -> &[u8]
     requires { count ≤ length block.now }
@@ -130,9 +130,9 @@ fn first_bytes(block: &[u8], count: usize) -> &[u8]
     block.split_at(count).0
 }
 
-// Reads into the front of the block, and says how many bytes. What was written is handed on first,
-// since whoever is to send the next bytes may wait for it; a flush that fails though no write did
-// does not keep it from reading.
+// Reads into the start of the block, and returns the number of bytes. It flushes first, since the
+// sender of the next bytes may be waiting for the answers. If the flush fails although no write
+// failed, it still reads.
 fn flush_and_read<R: Source, W: Sink>(
     reader: &mut R,
     writer: &mut W,
@@ -156,7 +156,7 @@ fn flush_and_read<R: Source, W: Sink>(
     reader.read(block).map_err(|_| RunError::Read)
 }
 
-// Runs, and reads by this block.
+// Runs with this block as its read buffer.
 fn run_by<R: Source, W: Sink>(
     alloc: Global,
     reader: &mut R,
@@ -186,12 +186,12 @@ fn run_by<R: Source, W: Sink>(
 
 /// Reads the input to its end, and writes the answers to its lines, each followed by a line feed.
 ///
-/// A line is answered and written before memory for a later one is asked for. What is written is
-/// flushed before each read, which may have to wait; where no write fails, a flush that does stops
-/// nothing, and whoever calls flushes at the end. After a read that gives nothing no more is read.
-/// After a fault nothing more is read, written or flushed: at `Read` the lines that had ended are
-/// answered, at `Write` a beginning of the answers was written, at `Memory` the lines before the
-/// one in hand are answered.
+/// A line is answered, and its answer is written, before memory for a later line is allocated. The
+/// output is flushed before each read, which may have to wait. If a flush fails although no write
+/// failed, the run goes on; the caller must flush at the end. After a read that returns no byte,
+/// there is no further read. After a fault nothing is read, written or flushed: with `Read`, the
+/// lines that had ended are answered; with `Write`, a prefix of the answers was written; with
+/// `Memory`, the lines before the current one are answered.
 pub fn run<R: Source, W: Sink>(
     alloc: Global,
     reader: &mut R,

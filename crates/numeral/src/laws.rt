@@ -1,4 +1,5 @@
-//! What users of the program can count on, each as the contract of a function that does nothing.
+//! The laws that users of the program can rely on, each stated as the contract of a function that
+//! does nothing.
 ghost use Rattle.std.specs.Prelude.{◌≡◌, ◌↔◌, IsTrue};
 ghost use Rattle.cn_devices.specs.declared.fault.DeviceFault.{DeviceFault as Fault};
 ghost use Rattle.cn_devices.specs.declared.fault.RunError.{RunError as Error};
@@ -6,10 +7,10 @@ ghost use Rattle.cn_devices.specs.declared.fault.RunError.{RunError as Error};
 use crate::fault::{DeviceFault, RunError};
 pub use cn_lines::laws::{each_input_has_one_output, each_line_has_one_answer};
 
-/// Two errors of a run are equal exactly where they are the same variant, and all faults of a
-/// device are equal.
+/// Two errors of a run are equal exactly if they are the same variant, and all faults of a device
+/// are equal.
 ///
-/// For callers who compare the outcomes of runs.
+/// For callers that compare the results of runs.
 pub fn equal_values_are_the_same_variant()
     ensures errors { (a b : Error) → IsTrue (⟦<RunError as PartialEq>⟧.eq a b) ↔ (a ≡ b) }
     ensures faults { (a b : Fault) → IsTrue (⟦<DeviceFault as PartialEq>⟧.eq a b) ↔ (a ≡ b) }

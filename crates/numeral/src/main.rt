@@ -1,4 +1,4 @@
-//! Reads and writes Chinese numerals, a line at a time.
+//! Reads and writes Chinese numerals, one line at a time.
 //!
 //! ```text
 //! read u64 ten_thousand 一百二                ok 120
@@ -8,13 +8,13 @@
 //! anything else                               bad line
 //! ```
 //!
-//! A `read` line has a type, a method or `naive`, and a text; a `print` line a type, a method or
-//! `naive`, a script, a case and a number. Exactly one space parts them, and the text is all that
-//! follows the third. The other errors are `a chinese number cannot be empty`,
+//! A `read` line has a type, a method or `naive`, and a text. A `print` line has a type, a method
+//! or `naive`, a script, a case and a number. Exactly one space separates them, and the text is
+//! everything after the third space. The other errors are `a chinese number cannot be empty`,
 //! `number is too large` and `number is too small`.
 //!
-//! The status is 0 where all was read and answered, 1 where a read, a write or the last flush
-//! failed, and 2 where memory ran out.
+//! The exit status is 0 if everything was read and answered, 1 if a read, a write or the last flush
+//! failed, and 2 if memory could not be allocated.
 #![tactic(auto)]
 
 pub mod engine;

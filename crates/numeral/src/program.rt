@@ -1,4 +1,4 @@
-// What the program does with its input and output.
+// Connects the engine to the program's input and output.
 ghost use Rattle.std.specs.Prelude.{◌≡◌, ◌≤◌, ℕ, List, true, false, IfSome};
 ghost use Rattle.std.specs.Io.KnownBytes.{Consumes};
 ghost use Rattle.cn_devices.specs.Devices.{IsHandedOn};
@@ -11,8 +11,8 @@ use crate::engine::run;
 use crate::fault::RunError;
 use std::alloc::Global;
 
-/// The status with which the program ends: 2 where memory ran out, 1 where a read or a write failed
-/// or the output could not be flushed at the end, else 0.
+/// The exit status of the program: 2 if memory could not be allocated, 1 if a read or a write
+/// failed or the output could not be flushed at the end, else 0.
 pub fn status(outcome: &Result<(), RunError>, flushed: bool) -> u8
     ensures { result ≡ status_of outcome.now flushed }
 {
@@ -23,14 +23,15 @@ pub fn status(outcome: &Result<(), RunError>, flushed: bool) -> u8
     }
 }
 
-/// Answers the lines of the reader on the writer, hands all of it on, and gives the status of the
-/// program.
+/// Answers the lines of the reader on the writer, flushes all answers, and returns the exit status
+/// of the program.
 ///
-/// What was written is a beginning of the answers to the lines read, and none of it is held back
-/// unless a write or the last flush failed. After a read that gave nothing no more is read. After 0
-/// nothing failed, the input was read to its end, and what was written is exactly the answers to
-/// its lines. 1 comes only where a read, a write or the last flush failed. After 2 the answers to
-/// the first k lines read were written, whole, and a further line was read.
+/// The bytes that were written are a prefix of the answers to the lines that were read, and none of
+/// them is held back unless a write or the last flush failed. After a read that returned no byte,
+/// there is no further read. If the status is 0, nothing failed, the input was read to its end, and
+/// exactly the answers to its lines were written. It is 1 only if a read, a write or the last flush
+/// failed. If it is 2, the complete answers to the first k lines that were read were written, and a
+/// further line was read.
 pub(crate) fn answer_all<R: Source, W: Sink>(alloc: Global, reader: &mut R, writer: &mut W) -> u8
     requires reads { (R.state reader.old).failed ≡ false }
     requires writes { (W.state writer.old).failed ≡ false }

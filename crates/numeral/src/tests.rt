@@ -1,5 +1,5 @@
-// What no clause says: that the worked lines are answered as they should be, and what a run leaves
-// at each fault.
+// Tests of facts that no contract states: the worked lines have the expected answers, and the
+// effects of a run at each fault.
 mod devices;
 mod faults;
 mod flushing;
@@ -19,7 +19,7 @@ use chinese_number::ChineseToNumberError::{
 use std::alloc::{AllocError, Global};
 use std::process::Abort;
 
-// What is answered to a line: a number or its text, the text of an error, or that it asks nothing.
+// The expected answer to a line: a number or its text, an error, or `bad line`.
 #[derive(Clone, Copy)]
 enum Answer {
     Done(&'static str),
@@ -125,7 +125,7 @@ fn push_answer(text: &mut String, answer: Answer) -> Result<(), AllocError> {
     }
 }
 
-// The first of these lines, each with its line feed, and their answers.
+// The first `count` of these lines, each followed by a line feed, and their answers.
 fn first_rows(
     alloc: Global,
     rows: &[(&str, Answer)],
@@ -140,7 +140,7 @@ fn first_rows(
     Ok((input, output))
 }
 
-// How many bytes a call moves at most, and which read and which write fail.
+// The most bytes that a call moves, and the read and the write that fail.
 #[derive(Clone, Copy)]
 struct Calls {
     most: usize,
@@ -148,7 +148,7 @@ struct Calls {
     write_fails: Option<u64>,
 }
 
-// Asserts what a run over this input answers, and what it writes.
+// Asserts the result of a run over this input and the bytes that it writes.
 fn leaves(
     rt: &(impl Abort + AllocGlobal),
     input: &[u8],
@@ -168,8 +168,8 @@ fn leaves(
     );
 }
 
-// Asserts that a run over this input ends well and writes this output, at most so many bytes a
-// call.
+// Asserts that a run over this input ends well and writes this output, with at most `most` bytes in
+// a call.
 fn ends_well(rt: &(impl Abort + AllocGlobal), input: &[u8], most: usize, output: &[u8]) {
     let calls = Calls {
         most,
@@ -179,7 +179,7 @@ fn ends_well(rt: &(impl Abort + AllocGlobal), input: &[u8], most: usize, output:
     leaves(rt, input, calls, Ok(()), output);
 }
 
-// Asserts that these lines are answered as they should be, by each of these numbers of bytes a
+// Asserts that these lines have the expected answers, with each of these numbers of bytes in a
 // call.
 fn answers_rows(
     rt: &(impl Abort + AllocGlobal),

@@ -1,24 +1,25 @@
--- A room that is filled from its end.
+-- A buffer that is filled from its end.
 use Rattle.std.specs.Prelude.{◌≡◌, ℕ, ◌+◌, ◌≤◌, Bool, IsTrue, IsFalse, List, ◌++◌, length, drop, encode_utf8_all, Result, MatchResult}
 use Rattle.cn_express.specs.declared.room.Room.{Room}
 
--- the text that stands in a room
+-- the text in a buffer
 abbrev pub text_in : Room → List ℕ
 text_in room = drop room.free room.bytes.now
 
--- these bytes are put in front of the text
+-- `new` is `old` with these bytes written before the text
 pub record PutsInFront (old new : Room) (more : List ℕ) : Type 0 where
   pub lender : new.bytes.ghost_name ≡ old.bytes.ghost_name
   pub size : length new.bytes.now ≡ length old.bytes.now
   pub free : new.free + length more ≡ old.free
   pub text : text_in new ≡ more ++ text_in old
 
--- these characters are put, and take at most so many bytes
+-- these characters are written before the text, and are at most `most` bytes
 pub record PutsCharacters (old new : Room) (characters : List ℕ) (most : ℕ) : Type 0 where
   pub put : PutsInFront old new (encode_utf8_all characters)
   pub bound : length (encode_utf8_all characters) ≤ most
 
--- the same where they are written, and else it is told that they are not
+-- the result is Ok and the characters are written, or the method does not write them and the result
+-- is an error
 abbrev pub PutsIfWritten : {T E : Type 0} → Bool → Room → Room → List ℕ → ℕ → Result T E → Type 0
 PutsIfWritten written old new characters most result =
     MatchResult result

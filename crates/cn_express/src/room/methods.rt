@@ -1,11 +1,11 @@
-// What is put into a room.
+// Writing into a buffer.
 ghost use Rattle.std.specs.Prelude.{◌≡◌, ◌≤◌, length, encode_utf8};
 ghost use Rattle.cn_express.specs.Working.Room.{PutsInFront};
 
 use super::Room;
 
 impl<'a> Room<'a> {
-    /// All of these bytes are free.
+    /// A buffer in which all of these bytes are free.
     pub fn new(bytes: &'a mut [u8]) -> Self
         ensures lender { result.bytes.ghost_name ≡ bytes.entry.ghost_name }
         ensures bytes { result.bytes.now ≡ bytes.old }
@@ -15,7 +15,7 @@ impl<'a> Room<'a> {
         Room { bytes, free }
     }
 
-    /// Puts a text in front of what is there.
+    /// Writes a text before the text that is there.
     pub fn put(&mut self, more: &str)
         requires { length more.now ≤ self.old.free }
         ensures { PutsInFront self.old self.new more.now }
@@ -25,7 +25,7 @@ impl<'a> Room<'a> {
         self.free = start;
     }
 
-    /// Puts a character in front of what is there.
+    /// Writes a character before the text that is there.
     // Same answer (4 → 5): a character has at most four bytes, so the fifth is never written.
     pub fn put_char(&mut self, character: char)
         requires { length (encode_utf8 character) ≤ self.old.free }

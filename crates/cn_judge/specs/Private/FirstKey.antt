@@ -1,9 +1,9 @@
--- What a text starts or ends with, by the bytes of its first or last character.
+-- The first or last character of a text, by its bytes.
 use Rattle.std.specs.Prelude.{◌≡◌, ℕ, ◌+◌, ◌-◌, ◌*◌, ◌/◌, ◌%◌, ◌<◌, ◌≤◌, List, [], ◌∷◌, ◌++◌, length, get_or, take, drop, chars, IsCharBoundary}
 use Rattle.std.specs.Char.{IsScalar}
 use Rattle.cn_judge.specs.Marked.{key_of}
 
--- the first character takes three bytes, and this is its key
+-- the UTF-8 of the first character is three bytes long, and `key` is its key
 pub record StartsWithKey (text : List ℕ) (key : ℕ) : Type 0 where
   pub code : ℕ
   pub key_is : key_of code ≡ key
@@ -15,7 +15,7 @@ pub record StartsWithKey (text : List ℕ) (key : ℕ) : Type 0 where
   pub boundary : IsCharBoundary text 3
   pub parts : chars text ≡ code ∷ chars (drop 3 text)
 
--- the last character takes three bytes, and this is its key
+-- the UTF-8 of the last character is three bytes long, and `key` is its key
 pub record EndsWithKey (text : List ℕ) (key : ℕ) : Type 0 where
   pub code : ℕ
   pub key_is : key_of code ≡ key
@@ -27,7 +27,7 @@ pub record EndsWithKey (text : List ℕ) (key : ℕ) : Type 0 where
   pub boundary : IsCharBoundary text (length text - 3)
   pub parts : chars text ≡ chars (take (length text - 3) text) ++ code ∷ []
 
--- three characters of three bytes begin at this byte, by the first byte of each
+-- three characters of three bytes each begin at this byte, judged by the first byte of each
 pub record BeginsThreeThrees (bytes : List ℕ) (at : ℕ) : Type 0 where
   pub within : at + 8 ≤ length bytes
   pub first : get_or bytes at 0 / 16 ≡ 14

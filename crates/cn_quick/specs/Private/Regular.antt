@@ -1,4 +1,4 @@
--- Where a walk over a regular numeral stands: the units from 萬 up that are open, the sum so far,
+-- The state of a walk over a regular numeral: the units from 萬 up that are open, the sum so far,
 -- and the section since the last of these units.
 use Rattle.std.specs.Prelude.{◌≡◌, ℕ, ◌+◌, ◌*◌, ◌^◌, ◌<◌, Bool, true, false, ◌&&◌, ◌==◌, nat_lt, List, [], ◌∷◌, Option, Some, None, if◌then◌else◌}
 use Rattle.std.specs.List.{list_all}
@@ -17,22 +17,23 @@ use Rattle.cn_quick.specs.declared.state.QuickState.{QuickState}
 use Rattle.cn_judge.specs.Entries.{stacked}
 use Rattle.cn_judge.specs.Private.Walk.{HasNoTail}
 
--- an open unit: its rank, and the exponent of the power of ten that it and the units below it make;
--- the last opened stands first
+-- an open unit: its rank, and the exponent of the product of its scale and those of the units below
+-- it; lists of them start with the one opened last
 abbrev pub OpenEntry : Type 0
 OpenEntry = ℕ × ℕ
 
--- the exponent of the power of ten that the scales of these ranks make
+-- the exponent of the product of the scales of these ranks
 abbrev pub exponents : ChineseCountMethod → List ℕ → ℕ
 exponents method [] = 0
 exponents method (rank ∷ ranks) = exponent method rank + exponents method ranks
 
--- the open units of these ranks
+-- the entries of open units with these ranks
 abbrev pub entries_for : ChineseCountMethod → List ℕ → List OpenEntry
 entries_for method [] = []
 entries_for method (rank ∷ ranks) = (rank, exponents method (rank ∷ ranks)) ∷ entries_for method ranks
 
--- what a digit counts beside the section that it stands in
+-- the exponent of the product of the scales of all open units, which multiplies each digit of the
+-- current section
 abbrev pub top_exponent : List OpenEntry → ℕ
 top_exponent [] = 0
 top_exponent (top ∷ units) = top.1
@@ -42,7 +43,7 @@ abbrev pub rank_on_top : List OpenEntry → Option ℕ
 rank_on_top [] = None
 rank_on_top (top ∷ units) = Some top.0
 
--- a unit of this rank is smaller than the one on top, or none is open
+-- a unit of this rank is smaller than the one on top, or no unit is open
 abbrev pub is_below_top : ℕ → List OpenEntry → Bool
 is_below_top rank units = option_map_or (λ top. nat_lt rank top) (rank_on_top units) true
 
@@ -50,7 +51,7 @@ is_below_top rank units = option_map_or (λ top. nat_lt rank top) (rank_on_top u
 abbrev pub has_smaller_top : ℕ → List OpenEntry → Bool
 has_smaller_top rank units = option_map_or (λ top. nat_lt top rank) (rank_on_top units) false
 
--- the open units that are not smaller than a rank
+-- the open units that are left after those below a rank are removed from the top
 abbrev pub not_smaller : ℕ → List OpenEntry → List OpenEntry
 not_smaller limit [] = []
 not_smaller limit (top ∷ units) =
@@ -62,33 +63,34 @@ no_entry = record { unit = Ge; exponent = 0 }
 abbrev pub entry_at : OpenExponent → OpenEntry
 entry_at entry = (rank entry.unit, entry.exponent)
 
--- the first entries, the last of them first
+-- the open units in the first `len` entries, the last of them first
 abbrev pub entries_of : List OpenExponent → ℕ → List OpenEntry
 entries_of entries len = stacked entry_at no_entry entries len
 
--- the rank of the least unit that closes a section: 萬, but none by Low, where each unit is ten of
--- the one before
+-- the rank of the least unit that closes a section: 萬, except that under `Low`, where each unit is
+-- ten times the one before, no unit closes one
 abbrev pub closing_rank : ChineseCountMethod → ℕ
 closing_rank Low = 16
 closing_rank method = 4
 
--- the record units: the last unit of the section, if it is above 個, before those that close one
+-- the record units: the last unit of the section, if it is above 個, and then the units that close
+-- sections
 abbrev pub with_last : ℕ → List ℕ → List ℕ
 with_last last ranks = if last == 0 then ranks else last ∷ ranks
 
--- a digit, or a unit above 個
+-- the mark is a digit or a unit above 個
 abbrev pub is_regular_mark : Mark → Bool
 is_regular_mark (digit number) = true
 is_regular_mark (unit rank) = nat_lt 0 rank && nat_lt rank 16
 is_regular_mark other = false
 
--- a mark that may be put in front without the last mark standing apart
+-- adding this mark before the list does not make the last mark a tail
 abbrev pub LeavesNoTail : Mark → List Mark → Type 0
 LeavesNoTail mark (last ∷ []) = is_tail mark last ≡ false
 LeavesNoTail mark marks = Unit {0}
 
--- where the walk stands after these marks: they are regular and keep all rules, and their value is
--- the sum so far, and the section's times what the open units make
+-- the state of the walk after these marks: they are regular and keep all rules, and their value is
+-- the total so far plus the section's sum times the product of the scales of the open units
 pub record IsRegular (method : ChineseCountMethod) (marks : List Mark) (units : List OpenEntry)
     (total sum last : ℕ) (at_digit : Bool) : Type 0 where
   pub regular : list_all is_regular_mark marks ≡ true
@@ -102,7 +104,8 @@ pub record IsRegular (method : ChineseCountMethod) (marks : List Mark) (units : 
   pub low : last < closing_rank method
   pub plain_end : HasNoTail marks
 
--- a unit may close a section there, over the units that are left open
+-- a unit of this rank may close a section before these marks, and `left` are the units that are
+-- then open
 pub record MayOpen (method : ChineseCountMethod) (marks : List Mark) (left : List OpenEntry)
     (rank : ℕ) : Type 0 where
   pub left_are : left ≡ entries_for method (records_from (rank + 1) marks)

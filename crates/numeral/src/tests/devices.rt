@@ -1,4 +1,4 @@
-// Devices over std readers and writers.
+// Tests of devices over std readers and writers.
 ghost use Rattle.std.specs.Prelude.{◌≡◌, false};
 
 use crate::device::{Sink, Source};
@@ -14,7 +14,7 @@ use std::io;
 use std::io::{ErrorKind, Read, Write};
 use std::process::Abort;
 
-// Takes nothing.
+// Accepts no byte.
 #[derive(Drop)]
 struct Full;
 
@@ -28,7 +28,7 @@ impl Write for Full {
     }
 }
 
-// Is interrupted at its first call, and would go on at the next.
+// Is interrupted at its first call, and would work at the next.
 #[derive(Drop)]
 struct Interrupted {
     calls: usize,
@@ -60,7 +60,7 @@ impl Read for Interrupted {
     }
 }
 
-// Asserts what a run over these devices answers.
+// Asserts the result of a run over these devices.
 fn ends<R: Source, W: Sink>(
     rt: &(impl Abort + AllocGlobal),
     reader: &mut R,
@@ -94,7 +94,7 @@ fn an_interrupted_call_is_a_fault(rt: HostRuntime) {
     ends(&rt, &mut reader, &mut writer, Err(RunError::Read));
 }
 
-// Under buffered output the write comes with the next flush: before a read, or at the end.
+// With buffered output, the write happens at the next flush: before a read, or at the end.
 #[test]
 fn an_interrupted_flush_is_a_fault(rt: HostRuntime) {
     let mut reader = MemorySource::new(b"hello\n", 9, None);
@@ -127,7 +127,7 @@ impl Write for Counting<'_> {
     }
 }
 
-// A flush is the writer's own.
+// A flush calls the flush of the writer.
 #[test]
 fn a_flush_is_handed_on(rt: HostRuntime) {
     let (writes, flushes) = (Cell::new(0), Cell::new(0));
@@ -139,7 +139,7 @@ fn a_flush_is_handed_on(rt: HostRuntime) {
     assert_eq!(rt; (writes.get(), flushes.get()), (0, 1));
 }
 
-// Many answers go out in one write, before the read that follows.
+// Many answers are written in one call, before the read that follows.
 #[test]
 fn answers_go_out_together(rt: HostRuntime) {
     let (writes, flushes) = (Cell::new(0), Cell::new(0));
@@ -153,8 +153,8 @@ fn answers_go_out_together(rt: HostRuntime) {
     assert_eq!(rt; (writes.get(), flushes.get()), (1, 3));
 }
 
-// The most bytes that a read moves and the read that fails, the same of writes, the status and what
-// is written.
+// The most bytes that a read moves and the read that fails, the same for writes, the exit status,
+// and the bytes that are written.
 type Program = (usize, Option<u64>, usize, Option<u64>, u8, &'static str);
 
 static PROGRAMS: [Program; 3] = [
@@ -163,7 +163,7 @@ static PROGRAMS: [Program; 3] = [
     (99, None, 1, Some(5), 1, "ok 1"),
 ];
 
-// The program over memory: its status, and what it wrote.
+// The program over memory: its exit status, and the bytes that it wrote.
 #[test]
 fn the_program_over_memory(rt: HostRuntime) {
     let input = "read u8 naive 一\nhello".as_bytes();
@@ -176,7 +176,7 @@ fn the_program_over_memory(rt: HostRuntime) {
     }
 }
 
-// So many bytes without a line feed.
+// Returns this many bytes without a line feed.
 #[derive(Drop)]
 struct LongLine {
     left: usize,

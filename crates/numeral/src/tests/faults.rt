@@ -1,11 +1,11 @@
-// What a run leaves at a fault.
+// Tests of the effects of a run at a fault.
 use super::{Calls, ROWS, first_rows, leaves};
 use crate::fault::RunError;
 use crate::program::status;
 use std::alloc::AllocError;
 use std::process::Abort;
 
-// The read of this number fails: the lines that had ended are answered.
+// The read with this number fails: the lines that had ended are answered.
 fn a_read_fails(
     rt: &(impl Abort + AllocGlobal),
     input: &[u8],
@@ -18,7 +18,7 @@ fn a_read_fails(
     let (seen, _) = input.split_at(read);
     let ended = seen.iter().filter(|byte| **byte == b'\n').count();
     let (_, output) = first_rows(rt.alloc(), &ROWS, ended)?;
-    // a run comes to this call where the one before it gave a byte
+    // a run makes this call if the call before it returned a byte
     let before = (call as usize).saturating_sub(2).saturating_mul(most);
     let outcome = if before < input.len() {
         Err(RunError::Read)
@@ -46,7 +46,7 @@ fn each_read_fails(rt: HostRuntime) -> Result<(), AllocError> {
     Ok(())
 }
 
-// Each write fails in turn: what was written is a beginning of the answers.
+// Each write fails in turn: the bytes that were written are a prefix of the answers.
 #[test]
 fn each_write_fails(rt: HostRuntime) -> Result<(), AllocError> {
     let (input, output) = first_rows(rt.alloc(), &ROWS, 9)?;
@@ -67,8 +67,8 @@ fn each_write_fails(rt: HostRuntime) -> Result<(), AllocError> {
     Ok(())
 }
 
-// A run by one byte a call: its input, the read and the write that fail, its answer and what it
-// writes.
+// A run with one byte in a call: its input, the read and the write that fail, its result, and the
+// bytes that it writes.
 type Unfinished = (
     &'static str,
     Option<u64>,
@@ -101,7 +101,8 @@ static UNFINISHED: [Unfinished; 3] = [
     ),
 ];
 
-// A fault after the last byte leaves the unfinished line unanswered; the end of the input does not.
+// After a fault after the last byte, the unfinished line is not answered; at the end of the input
+// it is.
 #[test]
 fn an_unfinished_line(rt: HostRuntime) {
     for (input, read_fails, write_fails, outcome, output) in &UNFINISHED {

@@ -1,5 +1,5 @@
-// A writer that takes every write and cannot be flushed: no write fails, and the program's last
-// flush tells.
+// Tests of a writer that accepts every write and cannot be flushed: no write fails, and the
+// program's last flush reports the fault.
 use crate::device::Sink;
 use crate::engine::run;
 use crate::fault::DeviceFault;
@@ -11,7 +11,7 @@ use std::cell::Cell;
 use std::io;
 use std::io::{ErrorKind, Write};
 
-// Shows the front of the last write, and cannot be flushed.
+// Stores the start of the last write, and cannot be flushed.
 #[derive(Drop)]
 struct Stuck<'a> {
     last: &'a Cell<[u8; 9]>,

@@ -1,5 +1,5 @@
-// Long lines and long numbers. A contract allows out of memory at any time, so it alone rules out
-// no body that gives up at some length.
+// Tests of long lines and long numbers. A contract allows a failed allocation at any time, so
+// contracts alone do not exclude a body that gives up at some length.
 use super::Answer::{Done, Refused};
 use super::{Answer, answers_rows, ends_well, push_answer};
 use chinese_number::ChineseToNumberError::ChineseNumberIncorrect;
@@ -46,7 +46,8 @@ fn answers_full_length_numbers(rt: HostRuntime) -> Result<(), AllocError> {
     answers_rows(&rt, &FULL, &[1, 7, 4096])
 }
 
-// A line's start, what stands in it 10,000 times, its end, and the answer.
+// The start of a line, a text that is repeated 10,000 times after it, the end of the line, and the
+// answer.
 static LONG: [(&str, &str, &str, Answer); 6] = [
     ("read u128 naive ", "零", "五", Done("5")),
     (

@@ -7,7 +7,7 @@ fn answers_each_row(rt: HostRuntime) -> Result<(), AllocError> {
     answers_rows(&rt, &ROWS, &[1, 2, 3, 5, 17, 64, 1000, 4096])
 }
 
-// Ends of lines and bytes that are no text.
+// Line ends, and bytes that are not text.
 static BYTES: [(&[u8], &[u8]); 6] = [
     (b"", b""),
     (b"\n", b"bad line\n"),

@@ -3,13 +3,13 @@ use Rattle.cn_core.specs.Figures.{is_wide_figure}
 use Rattle.cn_core.proofs.FigureRows.{figure_value}
 use Rattle.cn_core.proofs.figures.is_figure.Goals as goal
 
--- src/figures.rt:51:1
+-- `is_figure` returns after the first test succeeded
 pub returns-then-is_ascii_digit-clause-value : goal.returns-then-is_ascii_digit-clause-value
 returns-then-is_ascii_digit-clause-value c =
     c.if-is_ascii_digit.true ∙ ap (λ b. b || is_wide_figure c.args.c) c.if-is_ascii_digit.ensures.value
     ∙ figure_value c.args.c
 
--- src/figures.rt:51:1
+-- `is_figure` returns after the first test failed
 pub returns-else-is_ascii_digit-clause-value : goal.returns-else-is_ascii_digit-clause-value
 returns-else-is_ascii_digit-clause-value c =
     let e = figure_value c.args.c in grind (arith, e)

@@ -40,7 +40,7 @@ put_char-requires-2 c =
     let one = figures-one l.left c.loop-left-test.false in
     omega (arith, c.digit-2.ensures.bytes, one, l.invariant.room)
 
--- all its figures are put
+-- all figures of the number are written
 put-all : (c : goal.After-put_char-2)
     → PutsInFront c.args.text.now c.put_char-2.new.self (decimal c.args.number)
 put-all c =

@@ -1,4 +1,5 @@
--- The check finds this by itself; with it an edit is refused sooner, and not at a limit.
+-- The prover also finds this proof without this file. With the file it refuses a wrong edit sooner,
+-- and not only when it reaches a limit.
 use Rattle.std.proofs.Common.{rules}
 use Rattle.cn_print.proofs.free_high.from_u32_to_chinese_high.Goals as goal
 
