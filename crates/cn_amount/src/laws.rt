@@ -42,7 +42,8 @@ pub fn amounts_are_below_the_limit()
     ensures { (text : List ℕ) → (fen : ℕ) → IsAmount text fen → fen < amount_limit }
 {}
 
-/// A form has at most 39 characters, so no text takes long to read.
+/// A form has at most 39 characters, so a reader of a longer text stops at its 40th character at
+/// the latest.
 pub fn forms_are_short()
     ensures { (text : List ℕ) → (fen : ℕ) → IsAmount text fen → length text ≤ 39 }
 {}

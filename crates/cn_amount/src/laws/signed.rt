@@ -44,7 +44,8 @@ pub fn amounts_are_below_the_limit()
     ensures { (text : List ℕ) → (fen : ℤ) → IsSignedAmount text fen → nat_abs fen < amount_limit }
 {}
 
-/// A form has at most 40 characters, so no text takes long to read.
+/// A form has at most 40 characters, so a reader of a longer text stops at its 41st character at
+/// the latest.
 pub fn forms_are_short()
     ensures { (text : List ℕ) → (fen : ℤ) → IsSignedAmount text fen → length text ≤ 40 }
 {}
