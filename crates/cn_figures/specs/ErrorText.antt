@@ -1,4 +1,4 @@
--- What is shown of a refusal.
+-- The text of a refusal.
 use Rattle.std.specs.Prelude.{ℕ, List, ◌++◌, codes, decimal}
 use Rattle.cn_figures.specs.declared.error.FiguresError.{FiguresError}
 use Rattle.cn_figures.specs.declared.error.FiguresError.TheVariants.{Unfinished, Incorrect, TooLarge}

@@ -1,4 +1,4 @@
--- Figures of a date, read from the left: the state after each character.
+-- Reading the figures of a date from left to right: the state after each character.
 use Rattle.std.specs.Prelude.{ℕ, ◌+◌, ◌*◌, ◌<◌, ◌==◌, nat_lt, Option, Some, None, option_map, if◌then◌else◌}
 use Rattle.chinese_number.specs.declared.BillDate.{BillDate}
 use Rattle.cn_capitals.specs.Machine.{Machine}
@@ -7,7 +7,7 @@ use Rattle.cheque.specs.declared.dates.State.{State}
 use Rattle.cheque.specs.declared.dates.State.TheVariants.{Year, Month, Day}
 use Rattle.cheque.specs.Digits.{by_character}
 
--- a number with fewer digits than the most is below 1000
+-- a number that does not yet have all its digits is below 1000
 abbrev pub IsBelow : ℕ → Number → Type 0
 IsBelow most number = number.digits < most → number.value < 1000
 
@@ -20,7 +20,7 @@ AreBelow (Day year month day) = IsBelow 2 day
 abbrev pub no_number : Number
 no_number = record { digits = 0; value = 0 }
 
--- a number with one more digit, of so many that it has
+-- a number after one more digit, if it has fewer digits than it can have
 abbrev pub with_digit : Number → ℕ → ℕ → Option Number
 with_digit number digit most =
     if nat_lt number.digits most

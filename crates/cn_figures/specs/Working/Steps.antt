@@ -1,4 +1,4 @@
--- Figures, read from the left: the state and the fen after each part.
+-- Reading figures from left to right: the state and the fen after each part.
 use Rattle.std.specs.Prelude.{ℕ, ◌+◌, ◌*◌, ◌==◌, Bool, true, false, Option, Some, None, if◌then◌else◌}
 use Rattle.cn_capitals.specs.Machine.{Machine, step_as}
 use Rattle.cn_figures.specs.declared.part.Part.{Part}
@@ -43,7 +43,7 @@ abbrev pub after_currency : State → Option State
 after_currency Beginning = Some Marked
 after_currency state = None
 
--- the state after one more part, if figures can go on so
+-- the state after one more part; none if no figures continue with it
 abbrev pub step : State → Part → Option State
 step state Currency = after_currency state
 step state (Digit digit) = after_digit state digit
@@ -59,12 +59,12 @@ is_end CommaTwo = false
 is_end AfterPoint = false
 is_end state = true
 
--- so many times the fen, and so many more
+-- the amount times `times`, plus `more`; none from the limit on
 abbrev pub with_more : Option ℕ → ℕ → ℕ → Option ℕ
 with_more None times more = None
 with_more (Some fen) times more = below (fen * times + more)
 
--- the fen with one more part
+-- the amount in fen after one more part; none from the limit on
 abbrev pub fen_with : State → Option ℕ → Part → Option ℕ
 fen_with Fen fen (Digit digit) = fen
 fen_with Jiao fen (Digit digit) = with_more fen 1 digit
@@ -72,7 +72,7 @@ fen_with AfterPoint fen (Digit digit) = with_more fen 1 (10 * digit)
 fen_with state fen (Digit digit) = with_more fen 10 (100 * digit)
 fen_with state fen part = fen
 
--- this state and this amount
+-- the state, if there is one, with this amount
 abbrev pub with_fen : Option ℕ → Option State → Option Progress
 with_fen fen None = None
 with_fen fen (Some state) = Some (record { state = state; fen = fen })
@@ -84,7 +84,7 @@ advance progress part =
 abbrev pub end : Progress → Option (Option ℕ)
 end progress = if is_end progress.state then Some progress.fen else None
 
--- the states that read figures, character by character
+-- the machine that reads figures, character by character
 abbrev pub figures_machine : Machine Progress (Option ℕ)
 figures_machine = record {
   begin = record { state = Beginning; fen = Some 0 };
