@@ -67,6 +67,7 @@ IsCapitalsReply prefixed (Ok fen) reply =
     AnswersInMemory (encode_utf8_all (amount_text Simple (form_of prefixed) fen)) reply
 IsCapitalsReply prefixed (Err error) reply = reply ≡ refused (FiguresErrorText.refusal_text error)
 
+-- the reply with the capitals of an amount in figures
 abbrev pub RepliesCapitals : Bool → List ℕ → Reply → Type 0
 RepliesCapitals prefixed figures reply =
     (result : Result ℕ FiguresError)
@@ -77,6 +78,7 @@ abbrev pub figures_reply : Result ℕ ChineseToAmountError → Reply
 figures_reply (Ok fen) = answered (Figures.figures_of fen)
 figures_reply (Err error) = refused (AmountErrorText.reading_error_text error)
 
+-- the reply with the figures of an amount in capitals
 abbrev pub RepliesFigures : List ℕ → Reply → Type 0
 RepliesFigures capitals reply =
     (result : Result ℕ ChineseToAmountError)
@@ -89,6 +91,7 @@ IsDateCapitalsReply (Ok date) reply =
     ⊎ (¬ IsDate date × (reply ≡ refused (DateErrorText.writing_error_text NotADate)))
 IsDateCapitalsReply (Err error) reply = reply ≡ refused (DateErrorText.reading_error_text error)
 
+-- the reply with the capitals of a date in figures
 abbrev pub RepliesDateCapitals : List ℕ → Reply → Type 0
 RepliesDateCapitals figures reply =
     (result : Result BillDate ChineseToDateError)
@@ -99,6 +102,7 @@ abbrev pub date_figures_reply : Result BillDate ChineseToDateError → Reply
 date_figures_reply (Ok date) = answered (DateFigures.figures_of date)
 date_figures_reply (Err error) = refused (DateErrorText.reading_error_text error)
 
+-- the reply with the figures of a date in capitals
 abbrev pub RepliesDateFigures : List ℕ → Reply → Type 0
 RepliesDateFigures capitals reply =
     (result : Result BillDate ChineseToDateError)

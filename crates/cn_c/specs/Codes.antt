@@ -71,12 +71,15 @@ units =
 abbrev pub CN_PLAIN_DIGITS : ℕ
 CN_PLAIN_DIGITS = 1
 
+-- the text around the number does not continue it
 abbrev pub CN_STANDS_ALONE : ℕ
 CN_STANDS_ALONE = 2
 
+-- the number is approximate
 abbrev pub CN_ABOUT : ℕ
 CN_ABOUT = 4
 
+-- the number is one Chinese character
 abbrev pub CN_ONE_CHARACTER : ℕ
 CN_ONE_CHARACTER = 8
 
@@ -84,9 +87,11 @@ CN_ONE_CHARACTER = 8
 abbrev pub CN_DOUBTFUL : ℕ
 CN_DOUBTFUL = 16
 
+-- great units are not kept
 abbrev pub CN_EXPANDED : ℕ
 CN_EXPANDED = 32
 
+-- figures are rewritten in ASCII, without commas and leading zeros
 abbrev pub CN_CANONICAL : ℕ
 CN_CANONICAL = 64
 

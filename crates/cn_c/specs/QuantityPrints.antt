@@ -59,6 +59,7 @@ IsFiguresPrintedAs (Some quantity) old status new len =
     PutsIfItFits (figures_text quantity) old status new len
 IsFiguresPrintedAs quantity old status new len = PutsNothing CN_UNKNOWN old status new len
 
+-- the result of printing a quantity in figures
 abbrev pub IsFiguresPrinted : Quantity → List ℕ → ℕ → List ℕ → ℕ → Type 0
 IsFiguresPrinted quantity old status new len =
     IsFiguresPrintedAs (quantity_of quantity) old status new len

@@ -14,11 +14,12 @@ use Rattle.cn_figures.specs.Figures.{value_of, Triple, with_commas, digits_of, m
 use Rattle.cn_figures.specs.Working.Steps.{with_more, fen_with, step, is_end}
 use Rattle.cn_figures.proofs.Yuan.{IsYuan, yuan-begun, yuan-digit, yuan-triple, below-more}
 
--- the yuan before a comma
+-- the yuan of figures, after which a comma may follow
 abbrev pub IsShort : List Part → Option ℕ → Type 0
 IsShort parts fen =
     (front : List ℕ) × (triples : List Triple) × IsYuan front triples parts fen × (length front ≤ 3)
 
+-- the yuan of figures, after which a point may follow
 abbrev pub AreYuan : List Part → Option ℕ → Type 0
 AreYuan parts fen =
     (front : List ℕ) × (triples : List Triple) × IsYuan front triples parts fen

@@ -119,7 +119,7 @@ pub fn numbers_that_meet_do_not_stand_alone(wanted: Wanted)
         → Meet first second → (is_alone first ≡ false) × (is_alone second ≡ false) }
 {}
 
-/// No number ends with a 兆 that is mega: behind one stands no word that is counted so.
+/// No number ends with a 兆 that means mega: no word of a measure is directly after it.
 pub fn no_number_ends_with_mega(wanted: Wanted)
     ensures { (bytes : List ℕ) (span : Span) (front : List ℕ) (c : ℕ) → IsUtf8 bytes
         → Contains (spans wanted bytes) span → chars span.text ≡ front ++ c ∷ []

@@ -9,6 +9,7 @@ use Rattle.cn_figures.specs.declared.state.State.TheVariants.{Beginning, Marked,
 use Rattle.cn_figures.specs.Figures.{below}
 use Rattle.cn_figures.specs.Parts.{part_of}
 
+-- the state after one more digit; none if no figures continue with it
 abbrev pub after_digit : State → ℕ → Option State
 after_digit Beginning digit = Some One
 after_digit Marked digit = Some One
@@ -24,6 +25,7 @@ after_digit AfterPoint digit = Some Jiao
 after_digit Jiao digit = Some Fen
 after_digit Fen digit = if digit == 0 then Some Fen else None
 
+-- the state after a comma; none if no figures continue with it
 abbrev pub after_comma : State → Option State
 after_comma One = Some AfterComma
 after_comma Two = Some AfterComma
@@ -31,6 +33,7 @@ after_comma Three = Some AfterComma
 after_comma CommaThree = Some AfterComma
 after_comma state = None
 
+-- the state after a point; none if no figures continue with it
 abbrev pub after_point : State → Option State
 after_point One = Some AfterPoint
 after_point Two = Some AfterPoint
@@ -39,6 +42,7 @@ after_point Many = Some AfterPoint
 after_point CommaThree = Some AfterPoint
 after_point state = None
 
+-- the state after ¥; none if no figures continue with it
 abbrev pub after_currency : State → Option State
 after_currency Beginning = Some Marked
 after_currency state = None
@@ -50,6 +54,7 @@ step state (Digit digit) = after_digit state digit
 step state Comma = after_comma state
 step state Point = after_point state
 
+-- figures may end at this state
 abbrev pub is_end : State → Bool
 is_end Beginning = false
 is_end Marked = false
@@ -77,10 +82,12 @@ abbrev pub with_fen : Option ℕ → Option State → Option Progress
 with_fen fen None = None
 with_fen fen (Some state) = Some (record { state = state; fen = fen })
 
+-- the state and the amount after one more part
 abbrev pub advance : Progress → Part → Option Progress
 advance progress part =
     with_fen (fen_with progress.state progress.fen part) (step progress.state part)
 
+-- the amount if figures may end here; it is none if it is not below the limit
 abbrev pub end : Progress → Option (Option ℕ)
 end progress = if is_end progress.state then Some progress.fen else None
 
