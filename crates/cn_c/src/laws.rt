@@ -67,8 +67,8 @@ pub fn printed_quantities_read_back()
         × (number_of false told.denominator ≡ number_of false quantity.denominator)) }
 {}
 
-/// What `chinese_amount_print` writes, in each form, is UTF-8, and `chinese_amount_read` reads it as
-/// the same amount.
+/// What `chinese_amount_print` writes, in each form, is UTF-8, and `chinese_amount_read` reads it
+/// as the same amount.
 pub fn printed_amounts_read_back()
     ensures { (fen script form : ℕ) (old new : List ℕ) (len : ℕ)
         → IsAmountPrinted fen script form old CN_DONE new len
