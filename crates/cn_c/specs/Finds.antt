@@ -37,7 +37,7 @@ flags_told span =
     + flag_if (is_about (chars span.before) (chars span.text) (chars span.after)) CN_ABOUT
     + flag_if (is_one_character (chars span.text)) CN_ONE_CHARACTER
 
--- the position of a run, with its flags and the code of its doubt, 16 times, added together
+-- the position of a run, and the sum of its flags and 16 times the code of its doubt
 abbrev pub span_told : (SpanOfText → Option Doubt) → SpanOfText → Span
 span_told doubt span = record {
   start = length span.before;

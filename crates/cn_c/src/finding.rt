@@ -14,8 +14,8 @@ use chinese_number::{
 use cn_faces::{are_common, are_utf8_at_all, utf8_text};
 use std::str;
 
-/// The position of a run in its text, in bytes, with its flags and the code of its doubt, 16 times,
-/// added together.
+/// The position of a run in its text, in bytes, and the sum of its flags and 16 times the code of
+/// its doubt.
 #[repr(C)]
 #[derive(Clone, Copy)]
 pub struct Span {

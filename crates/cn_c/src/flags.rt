@@ -56,7 +56,7 @@ fn doubt_code(doubt: Option<Doubt>) -> u32
     }
 }
 
-/// The flags of what a rule finds, with the code of its doubt, 16 times, added to them.
+/// The sum of the flags of what a rule finds and 16 times the code of its doubt.
 #[inline(always)]
 pub fn flags_and_doubt<R: SearchRule>(found: Found<'_>) -> u32
     ensures { result
