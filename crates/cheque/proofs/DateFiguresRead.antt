@@ -36,7 +36,7 @@ number-more count digits value c h d = (
   omega (arith, h.2, value-more 0 digits c),
 )
 
--- a choice that was made
+-- the branch in which there is a value
 chosen : {A : Type 0} (b : Bool) (some next : A) → (if b then Some some else None) ≡ Some next
     → (b ≡ true) × (some ≡ next)
 chosen true some next e = (refl, some-is some next e)
@@ -185,7 +185,7 @@ day-small state reached year month day is whole =
     (subst (Leads date_machine reached.0) is reached.1) in
     two h.2 day.value (subst (λ count. WriteNumber count h.2 day.value) whole h.5)
 
--- what is read to its end are figures
+-- a text that is read to its end is figures
 only-read : (text : List ℕ) (state : State) (date : BillDate) → Leads date_machine text state
     → end state ≡ Some date → IsDateFigures text date
 only-read text (Day year month day) date r e =
@@ -249,7 +249,7 @@ each-read text date h =
           (sym h.writes_day.2),
     )
 
--- what is read can be completed by zeros
+-- what has been read can be completed by zeros
 abbrev zeros : ℕ → List ℕ
 zeros zero = []
 zeros (suc n) = 48 ∷ zeros n

@@ -45,7 +45,7 @@ digit-low digit h = grind (arith, nat_tests)
 pub digit-is : (digit : ℕ) → digit < 10 → is_ascii_digit (48 + digit) ≡ true
 digit-is digit low = grind (arith, nat_tests)
 
--- a digit is no mark that is none
+-- a digit is not a mark that is not a digit
 pub at-digit : {A : Type 0} (mark : ℕ) (at_mark : Option A) (at_digit : ℕ → Option A) (c : ℕ)
     → is_ascii_digit mark ≡ false → is_ascii_digit c ≡ true
     → by_character mark at_mark at_digit c ≡ at_digit (c - 48)
@@ -60,7 +60,7 @@ at-digit {A} mark at_mark at_digit c other digit = by (c == mark) refl
           let wrong : true ≡ false = sym digit ∙ ap is_ascii_digit same ∙ other in absurd (cc)
       by false is = refl
 
--- where something comes of a character, it is the mark or a digit
+-- if a character gives something, it is the mark or a digit
 pub by-either : {A : Type 0} (mark : ℕ) (at_mark : Option A) (at_digit : ℕ → Option A) (c : ℕ)
     (next : A) → by_character mark at_mark at_digit c ≡ Some next
     → ((mark ≡ c) × (at_mark ≡ Some next))

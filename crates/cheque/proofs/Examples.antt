@@ -1,4 +1,4 @@
--- Worked examples: what the definitions compute to.
+-- Worked examples: the values that the definitions compute.
 use Rattle.std.proofs.Common.{◌≡◌, ℕ, true, false, List, [], ◌∷◌, Some, None, Ok, Err, codes, inl, refl}
 use Rattle.std.specs.Prelude.{encode_utf8_all}
 use Rattle.std.specs.Char.{encode_utf8}

@@ -1,4 +1,4 @@
--- What was written is a reply.
+-- The bytes that were written are a reply.
 use Rattle.std.proofs.Common.{◌≡◌, ℕ, List, Option, refl}
 use Rattle.std.specs.Prelude.{Result, IfOk}
 use Rattle.std.specs.Io.KnownBytes.{Appends}

@@ -1,4 +1,4 @@
--- Figures that are shown are those of what they show.
+-- The figures shown for a date are figures of that date.
 use Rattle.std.proofs.Common.{◌≡◌, ℕ, ◌+◌, ◌/◌, ◌%◌, ◌<◌, [], ◌∷◌, ◌++◌, length, Ok, codes, decimal, sym, ap, ap₂, subst, ◌∙◌, append_assoc, arith, rules}
 use Rattle.std.specs.Str.{IsAscii}
 use Rattle.std.proofs.lemmas.Fmt.{decimal_digit, IsAscii-decimal}

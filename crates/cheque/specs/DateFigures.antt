@@ -1,5 +1,5 @@
--- A date in figures, as 2026-01-15: four digits, two and two, and a hyphen between them. Figures are
--- given by their characters.
+-- A date in figures, such as 2026-01-15: four digits, two digits and two digits, with hyphens
+-- between them. Figures are given by their characters.
 use Rattle.std.specs.Prelude.{◌≡◌, ℕ, ◌/◌, ◌%◌, List, ◌++◌, length, Result, codes, chars, decimal}
 use Rattle.chinese_number.specs.declared.BillDate.{BillDate}
 use Rattle.chinese_number.specs.declared.ChineseToDateError.{ChineseToDateError}
@@ -8,12 +8,12 @@ use Rattle.cn_capitals.specs.Answers as answers
 use Rattle.cn_faces.specs.Decimal.{value_of}
 use Rattle.cheque.specs.Digits.{AreDigits}
 
--- so many digits write this number
+-- `count` digits write this number
 abbrev pub WriteNumber : ℕ → List ℕ → ℕ → Type 0
 WriteNumber count digits number =
     (length digits ≡ count) × AreDigits digits × (number ≡ value_of digits)
 
--- these figures write this date, which need not be one that there is
+-- these figures write this date, which need not exist
 pub record IsDateFigures (figures : List ℕ) (date : BillDate) : Type 0 where
   pub year : List ℕ
   pub month : List ℕ
@@ -23,7 +23,7 @@ pub record IsDateFigures (figures : List ℕ) (date : BillDate) : Type 0 where
   pub writes_day : WriteNumber 2 day date.day
   pub form : figures ≡ year ++ (codes "-" ++ (month ++ (codes "-" ++ day)))
 
--- the answer to figures that are given by their bytes
+-- `answer` is the answer to figures, given by their bytes
 abbrev pub ReadsDateFigures : List ℕ → Result BillDate ChineseToDateError → Type 0
 ReadsDateFigures bytes answer =
     answers.Answers IsDateFigures (chars bytes) (answer_of answer)
@@ -32,7 +32,7 @@ ReadsDateFigures bytes answer =
 abbrev pub two_digits : ℕ → List ℕ
 two_digits number = decimal (number / 10 % 10) ++ decimal (number % 10)
 
--- how a date is written in figures
+-- the figures in which a date is written
 abbrev pub figures_of : BillDate → List ℕ
 figures_of date =
     two_digits (date.year / 100) ++ (two_digits date.year ++ (codes "-"

@@ -1,4 +1,4 @@
-//! Dates in figures, as 2026-01-15.
+//! Dates in figures, such as 2026-01-15.
 ghost use Rattle.std.specs.Prelude.{◌≡◌, ◌<◌, Some};
 ghost use Rattle.cheque.specs.DateFigures.{IsDateFigures, ReadsDateFigures};
 ghost use Rattle.cheque.specs.Working.DateSteps.{AreBelow, with_digit, after_digit, after_hyphen, date_machine};
@@ -47,7 +47,7 @@ impl fmt::Display for DateFigures {
     }
 }
 
-// A number, and how many of its digits are read.
+// A number, and how many of its digits have been read.
 #[derive(Clone, Copy)]
 struct Number {
     digits: u8,
@@ -55,13 +55,13 @@ struct Number {
 }
 
 impl Number {
-    // Nothing is read of it.
+    // A number of which nothing has been read.
     const NONE: Number = Number {
         digits: 0,
         value: 0,
     };
 
-    // With one more digit, of so many that it has.
+    // The number after one more digit, if it has fewer than `most`.
     fn with_digit(self, digit: u8, most: u8) -> Option<Number>
         requires digit { digit < 10 }
         requires below { self.digits < most → self.value < 1000 }
@@ -78,7 +78,7 @@ impl Number {
     }
 }
 
-// How far figures are read.
+// What has been read of the figures.
 #[derive(Clone, Copy)]
 enum State {
     /// Digits of the year.
@@ -150,8 +150,9 @@ impl Grammar for State {
     }
 }
 
-/// The date that figures write: four digits, a hyphen, two digits, a hyphen and two digits. It need
-/// not be one that there is.
+/// The date that figures write: four digits, a hyphen, two digits, a hyphen and two digits. The
+/// date need not exist. The error is `Incorrect` at the first character with which no figures
+/// begin, and `Unfinished` if the text ends too soon.
 ///
 /// ```text
 /// date_of("2026-01-15") == Ok(BillDate { year: 2026, month: 1, day: 15 })

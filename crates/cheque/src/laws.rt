@@ -14,7 +14,7 @@ pub fn date_figures_have_one_answer()
         → other ≡ answer) }
 {}
 
-/// The figures that are shown of a date are read as that date.
+/// The figures shown for a date are read as that date.
 pub fn shown_dates_are_read()
     ensures { (date : BillDate) → IsDate date
         → DateFigures.ReadsDateFigures (DateFigures.figures_of date) (Ok date) }

@@ -1,4 +1,4 @@
-//! Writes an amount of money or a date as it stands on a cheque, and reads it back.
+//! Writes an amount of money or a date as on a cheque, and reads it back.
 //!
 //! ```text
 //! cheque 1409.50                       壹仟肆佰零玖元伍角整
@@ -10,13 +10,14 @@
 //! cheque 贰零贰陆年零壹月壹拾伍日              2026-01-15
 //! ```
 //!
-//! The figures of an amount are those that `cn_figures` reads. Those of a date are four digits, two
-//! and two, with a hyphen between them. What begins with an ASCII character, ¥ or a full-width digit
-//! is read as figures: of a date where a hyphen stands behind the digits at the start. Any other is
-//! read as capitals: of a date where 年 is among them. Refusals go to standard error.
+//! The figures of an amount are those that `cn_figures` reads. The figures of a date are four
+//! digits, two digits and two digits, with hyphens between them. A word that begins with an ASCII
+//! character, ¥ or a full-width digit is read as figures: as those of a date if a hyphen follows
+//! the digits at its start. Any other word is read as capitals: as those of a date if it has a 年.
+//! Refusals are written to standard error.
 //!
-//! The status is 0 where the amount or the date was written, 1 where it was refused or a write
-//! failed, and 2 where memory ran out or the words of the command line ask for nothing.
+//! The status is 0 if the amount or the date was written, 1 if it was refused or a write failed,
+//! and 2 if memory ran out or the words of the command line ask for nothing.
 #![tactic(auto)]
 
 ghost use Rattle.std.specs.Prelude.{◌≡◌, MatchResult};
@@ -34,7 +35,7 @@ use std::env;
 use std::io::{self, ErrorKind, LineWriter};
 use std::process::ExitCode;
 
-// Replies to the words of the command line, and gives the status.
+// Replies to the words of the command line, and returns the status.
 fn serve(rt: &HostRuntime) -> io::Result<u8> {
     let mut words = Vec::new(rt.alloc());
     for word in env::args(rt)?.skip(1) {
@@ -45,7 +46,7 @@ fn serve(rt: &HostRuntime) -> io::Result<u8> {
     write_reply(rt.alloc(), &mut output, &mut errors, words.as_slice())
 }
 
-// The status of a run, by that of its reply or why there is none.
+// The exit status of a run: the status of its reply, or one that says why there is none.
 fn status(served: io::Result<u8>) -> u8
     ensures { MatchResult served (λ status. result ≡ status)
         (λ error. result ≡ status_of_fault (error_kind error)) }

@@ -1,4 +1,4 @@
-//! What is replied to a request.
+//! The reply to a request.
 ghost use Rattle.std.specs.Prelude.{◌≡◌, IfOk, IfSome, map, string_bytes};
 ghost use Rattle.std.specs.Io.KnownBytes.{Appends};
 ghost use Rattle.cheque.specs.Reply.{Gives, Replies, line, RepliesCapitals, RepliesDateCapitals, RepliesFigures, RepliesDateFigures, form_of};
@@ -27,7 +27,7 @@ and full-width characters are read as plain ones.
 Writes a date in capitals, as 贰零贰陆年零壹月壹拾伍日 of 2026-01-15, or reads capitals with 年 and writes
 the date in figures: four digits of the year, two of the month and two of the day.";
 
-// Writes an answer, and gives the status.
+// Writes an answer, and returns the status.
 fn show<W: Write, D: Display + Drop>(output: &mut W, answer: D) -> io::Result<u8>
     ensures { IfOk result (λ status. (status ≡ 0) × IfSome (D.output answer) (λ text.
         Appends (W.contents output.old) (W.contents output.new) (line text))) }
@@ -36,7 +36,7 @@ fn show<W: Write, D: Display + Drop>(output: &mut W, answer: D) -> io::Result<u8
     Ok(0)
 }
 
-// Writes why there is none, and gives the status.
+// Writes why there is no answer, and returns the status.
 fn refuse<E: Write, D: Display + Drop>(errors: &mut E, error: D) -> io::Result<u8>
     ensures { IfOk result (λ status. (status ≡ 1) × IfSome (D.output error) (λ text.
         Appends (E.contents errors.old) (E.contents errors.new) (line text))) }
@@ -55,7 +55,7 @@ fn form_of(prefixed: bool) -> AmountForm
     }
 }
 
-// The capitals of an amount in figures, with 人民币 in front or not.
+// Writes the capitals of an amount in figures, with or without 人民币 before them.
 fn write_capitals<W: Write, E: Write>(
     alloc: Global,
     output: &mut W,
@@ -78,7 +78,7 @@ fn write_capitals<W: Write, E: Write>(
     }
 }
 
-// The figures of an amount in capitals.
+// Writes the figures of an amount in capitals.
 fn write_figures<W: Write, E: Write>(
     output: &mut W,
     errors: &mut E,
@@ -94,7 +94,7 @@ fn write_figures<W: Write, E: Write>(
     }
 }
 
-// The capitals of a date in figures.
+// Writes the capitals of a date in figures.
 fn write_date_capitals<W: Write, E: Write>(
     alloc: Global,
     output: &mut W,
@@ -116,7 +116,7 @@ fn write_date_capitals<W: Write, E: Write>(
     }
 }
 
-// The figures of a date in capitals.
+// Writes the figures of a date in capitals.
 fn write_date_figures<W: Write, E: Write>(
     output: &mut W,
     errors: &mut E,
@@ -132,9 +132,9 @@ fn write_date_figures<W: Write, E: Write>(
     }
 }
 
-/// Writes the reply to the words of a command line, and gives the status: 0 where they are
-/// answered, 1 where they are refused, 2 where memory ran out or they ask for nothing. Of a write
-/// that fails nothing is known: part of the reply may be written.
+/// Writes the reply to the words of a command line, and returns the status: 0 if they are answered,
+/// 1 if they are refused, and 2 if memory ran out or they ask for nothing. If a write fails, part
+/// of the reply may have been written.
 pub fn write_reply<W: Write, E: Write>(
     alloc: Global,
     output: &mut W,

@@ -6,7 +6,7 @@ ghost use Rattle.cheque.specs.Request.{are_date_capitals, are_date_figures, are_
 #[derive(Debug, Copy, Clone)]
 pub enum Request<'a> {
     Help,
-    /// The capitals of these figures, with 人民币 in front or not.
+    /// The capitals of these figures, with or without 人民币 before them.
     Write { figures: &'a str, prefixed: bool },
     /// The figures of these capitals.
     Read { capitals: &'a str },
@@ -16,15 +16,15 @@ pub enum Request<'a> {
     ReadDate { capitals: &'a str },
 }
 
-// Whether figures are meant where this character stands in front: whatever begins with ASCII is
-// refused as figures.
+// Whether a word that begins with this character is figures. Every word that begins with ASCII is:
+// it is refused as figures if it is not correct.
 fn begins_figures(character: char) -> bool
     ensures { result ≡ begins_figures character }
 {
     character.is_ascii() || matches!(character, '¥' | '￥' | '０'..='９')
 }
 
-// Whether figures are meant.
+// Whether a word is figures.
 fn are_figures(word: &str) -> bool
     ensures { result ≡ are_figures word.now }
 {
@@ -34,14 +34,14 @@ fn are_figures(word: &str) -> bool
     }
 }
 
-// Where the digits in front end, if anything stands behind them.
+// Where the digits at the start end, if anything follows them.
 fn first_other(bytes: &[u8]) -> Option<usize>
     ensures { result ≡ position (λ byte. not (is_ascii_digit byte)) bytes.now }
 {
     bytes.iter().position(|byte| !byte.is_ascii_digit())
 }
 
-// Whether the figures of a date are meant: digits in front, and a hyphen behind them.
+// Whether a word is the figures of a date: it begins with digits, and a hyphen follows them.
 fn are_date_figures(word: &str) -> bool
     ensures { result ≡ are_date_figures word.now }
 {
@@ -52,14 +52,14 @@ fn are_date_figures(word: &str) -> bool
     }
 }
 
-// Whether the capitals of a date are meant: 年 is among them.
+// Whether a word is the capitals of a date: it has a 年.
 fn are_date_capitals(word: &str) -> bool
     ensures { result ≡ are_date_capitals word.now }
 {
     word.chars().any(|c| c == '年')
 }
 
-// What a word alone asks for.
+// What a single word asks for.
 fn request_of_word(word: &str) -> Option<Request<'_>>
     ensures { option_map asked_of result ≡ asked_alone word.now }
 {
@@ -81,7 +81,7 @@ fn request_of_word(word: &str) -> Option<Request<'_>>
     }
 }
 
-// What a word behind an option asks for: with 人民币 in front, the capitals of an amount alone.
+// What a word after an option asks for: only the capitals of an amount, with 人民币 before them.
 fn request_with_option<'a>(option: &str, word: &'a str) -> Option<Request<'a>>
     ensures { option_map asked_of result ≡ asked_with_option option.now word.now }
 {
@@ -95,7 +95,7 @@ fn request_with_option<'a>(option: &str, word: &'a str) -> Option<Request<'a>>
     }
 }
 
-/// The request of these words; `None` where it is none.
+/// The request of these words; `None` if they ask for nothing.
 pub fn request_of(words: &[String]) -> Option<Request<'_>>
     ensures { option_map asked_of result ≡ asked (map string_bytes words.now) }
 {

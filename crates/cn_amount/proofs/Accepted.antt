@@ -1,4 +1,4 @@
--- Each text that is written along the ways is a form, and so is what is read to its end.
+-- Each text that is written along the ways is a form, and so is each text that is read to its end.
 use Rattle.std.proofs.Common.{◌≡◌, ℕ, zero, suc, ◌<◌, Bool, true, false, not, ◌&&◌, ◌||◌, nat_lt, ◌⊎◌, inl, inr, List, [], ◌∷◌, ◌++◌, map, Some, None, refl, sym, ap, ap₂, ◌∙◌, append-nil, append_assoc, arith, if◌then◌else◌}
 use Rattle.std.specs.List.{list_all}
 use Rattle.std.proofs.Math.Bool.{and-true, and-false, or-true}
@@ -20,7 +20,7 @@ use Rattle.cn_amount.proofs.States.{is_proper, reads-ways}
 abbrev are_proper : List Capital → Bool
 are_proper t = list_all is_proper t
 
--- a text that begins with these capitals, and goes on from a point
+-- a text that begins with these capitals and continues from a point
 record Begins (word : List Capital) (p : Point) (t : List Capital) : Type 0 where
   rest : List Capital
   is : t ≡ word ++ rest
@@ -104,7 +104,7 @@ digit-read part unit units Gap (Ling ∷ t) proper h =
     }
 digit-read part unit units Gap (x ∷ t) proper h = let none = none-spelled t in cc
 
--- digits, one for each unit
+-- a list of digits, one for each unit
 abbrev Digits : List (List Capital) → Type 0
 Digits [] = Unit {0}
 Digits (unit ∷ units) = ℕ × Digits units
@@ -178,7 +178,7 @@ places-read part (unit ∷ units) before empty t proper h =
             proper = r.proper;
           }
 
--- where a 0 at the unit may count, it does or it does not
+-- if a 0 at the place of the unit may count, it does or it does not
 either-read : (part : Part) (units : List (List Capital)) (empty : Bool) (t : List Capital)
     → spells (front_ways (close_of part) part units either empty) t ≡ true
     → (keeps : Bool)
@@ -203,7 +203,7 @@ front-read part Gap t h = either-read part (units_of part) true t h
 front-read part Nothing t h = (true, h)
 front-read part Filled t h = (true, h)
 
--- the unit of a section, and the next part
+-- a text that begins with the unit of a section and continues with the next part
 record BeginsUnit (part : Part) (unit : Capital) (counts : Bool) (before : Before)
     (t : List Capital) : Type 0 where
   keeps : Bool
@@ -222,14 +222,14 @@ unit-read part unit true before t proper h =
 unit-read part unit false before t proper h =
     record { keeps = true; rest = t; is = refl; goes_on = h; proper = proper }
 
--- a text that is a form, or what stands of one from a part on
+-- a text that is a form, or the rest of one from a part on
 pub record IsForm (form : Choices → Places → List Capital) (t : List Capital) : Type 0 where
   pub choices : Choices
   pub places : Places
   pub digits : ArePlaces places
   pub is : t ≡ form choices places
 
--- jiao and fen, and what closes them; something is written
+-- a text that is jiao and fen with what closes them, after something that is written
 record IsSmall (before : Before) (t : List Capital) : Type 0 where
   jiao : ℕ
   fen : ℕ
@@ -284,13 +284,13 @@ small-read before t proper h =
 no-digits : AreDigits (record { thousands = 0; hundreds = 0; tens = 0; ones = 0 })
 no-digits = (omega arith, omega arith, omega arith, omega arith)
 
--- the amount with jiao and fen alone
+-- the amount that has only jiao and fen
 abbrev small_alone : ℕ → ℕ → Places
 small_alone jiao fen =
     let none : Section = record { thousands = 0; hundreds = 0; tens = 0; ones = 0 } in
     record { wan_yi = none; yi = none; wan = none; yuan = none; jiao = jiao; fen = fen }
 
--- 元 and what stands behind it
+-- 元 and the text after it
 abbrev yuan_rest : Before → Choices → Places → List Capital
 yuan_rest after choices p =
     let named = choices.no_yuan || are_zero (small_places p.jiao p.fen) in
@@ -354,14 +354,14 @@ yuan-unit-read after empty t proper h = by after h where
   by Filled h = behind-word Filled Filled false (Yuan ∷ [])
       (λ keeps none. (refl, filled-behind keeps)) h
 
--- the digits of a section
+-- the four digits of a section
 abbrev Four : Type 0
 Four = Digits (units_of wan)
 
 abbrev section_by : Four → Section
 section_by d = record { thousands = d.0; hundreds = d.1.0; tens = d.1.1.0; ones = d.1.1.1.0 }
 
--- three pieces, one behind the other
+-- a text of three pieces, one after the other
 joined : (t first rest second last below : List Capital) → t ≡ first ++ rest
     → rest ≡ second ++ last → last ≡ below → t ≡ (first ++ second) ++ below
 joined t first rest second last below a b c =
@@ -370,7 +370,7 @@ joined t first rest second last below a b c =
 abbrev are_low : (d : Four) → AreLow (units_of wan) d → AreDigits (section_by d)
 are_low d low = (low.0, low.1.0, low.1.1.0, low.1.1.1.0)
 
--- from each section on
+-- the texts from the section of the yuan on
 from-yuan : (before : Before) (t : List Capital) → are_proper t ≡ true
     → spells (ways (start yuan (known before))) t ≡ true
     → IsForm (λ choices p. from_yuan choices before p) t

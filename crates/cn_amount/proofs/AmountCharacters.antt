@@ -1,4 +1,4 @@
--- Of which characters the forms of amounts are.
+-- The characters that the forms of amounts have.
 use Rattle.std.proofs.Common.{◌≡◌, ℕ, Bool, true, List, [], ◌∷◌, map, Some, refl}
 use Rattle.std.specs.List.{list_all}
 use Rattle.cn_core.proofs.Fronts.{both}

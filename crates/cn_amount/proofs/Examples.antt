@@ -1,4 +1,5 @@
--- Worked examples: what the definitions compute to. Those that are marked stand in the rules.
+-- Worked examples: the values that the definitions compute. The marked ones are from the rules of
+-- the banks.
 use Rattle.std.proofs.Common.{◌≡◌, ◌-◌, ◌^◌, pos, negsuc, Bool, true, false, ◌∷◌, map, Some, refl, codes}
 use Rattle.cn_core.specs.declared.script.ChineseVariant.TheVariants.{Traditional, Simple}
 use Rattle.cn_core.specs.Characters.{digit_char, minus_char, unit_char}
@@ -12,32 +13,32 @@ use Rattle.cn_amount.specs.Signed.{minus_signs, signed_amount_text}
 use Rattle.cn_amount.specs.Typed.{regular}
 use Rattle.cn_amount.specs.Writes.{amount_text, plain}
 
--- in the rules, without 整
+-- from the rules, without 整
 jiao_alone : amount_text Simple plain 140950 ≡ codes "壹仟肆佰零玖元伍角整"
 unfolding digit_char unit_char
 jiao_alone = refl
 
--- in the rules
+-- from the rules
 zeros_inside : amount_text Simple plain 600714 ≡ codes "陆仟零柒元壹角肆分"
 unfolding digit_char unit_char
 zeros_inside = refl
 
--- in the rules
+-- from the rules
 none_before_jiao : amount_text Simple plain 168032 ≡ codes "壹仟陆佰捌拾元叁角贰分"
 unfolding digit_char unit_char
 none_before_jiao = refl
 
--- in the rules
+-- from the rules
 zero_behind_wan : amount_text Simple plain 10700053 ≡ codes "壹拾万零柒仟元伍角叁分"
 unfolding digit_char unit_char
 zero_behind_wan = refl
 
--- in the rules
+-- from the rules
 zero_before_fen : amount_text Simple plain 1640902 ≡ codes "壹万陆仟肆佰零玖元零贰分"
 unfolding digit_char unit_char
 zero_before_fen = refl
 
--- in the rules
+-- from the rules
 fen_alone : amount_text Simple plain 32504 ≡ codes "叁佰贰拾伍元零肆分"
 unfolding digit_char unit_char
 fen_alone = refl
@@ -98,7 +99,7 @@ greatest : amount_text Simple plain (10 ^ 18 - 1) ≡ codes "玖仟玖佰玖拾�
 unfolding digit_char unit_char
 greatest = refl
 
--- what is asked for
+-- the form with these choices
 abbrev asking : Bool → Bool → Bool → AmountForm
 asking currency round upright = record {
   currency = currency;
@@ -122,7 +123,7 @@ all_asked_for : amount_text Traditional (asking true true true) 1500 ≡ codes "
 unfolding digit_char unit_char
 all_asked_for = refl
 
--- what is read: the other forms that the rules allow, by their choices
+-- forms that are read but not written, by their choices
 abbrev choosing : Bool → Bool → Bool → Bool → Bool → Choices
 choosing currency no_yuan wan yuan jiao = record {
   currency = currency;
@@ -134,13 +135,13 @@ choosing currency no_yuan wan yuan jiao = record {
   behind_jiao = jiao;
 }
 
--- in the rules
+-- from the rules
 no_zero_behind_wan : capitals_of (codes "壹拾万柒仟元零伍角叁分")
     ≡ map Some (amount_form (choosing false false false true true) (places_of 10700053))
 unfolding capital_of
 no_zero_behind_wan = refl
 
--- in the rules
+-- from the rules
 nothing_behind_jiao : capitals_of (codes "壹仟肆佰零玖元伍角")
     ≡ map Some (amount_form (choosing false false true true false) (places_of 140950))
 unfolding capital_of
@@ -166,7 +167,7 @@ currency_in_front : capitals_of (codes "人民幣叄佰貳拾伍圓零肆分")
 unfolding capital_of
 currency_in_front = refl
 
--- below zero
+-- amounts below zero
 fifteen_below : signed_amount_text Simple plain (negsuc 1499) ≡ codes "负壹拾伍元整"
 unfolding digit_char unit_char minus_char
 fifteen_below = refl
@@ -184,7 +185,7 @@ zero_has_no_sign : signed_amount_text Simple plain (pos 0) ≡ codes "零元整"
 unfolding digit_char unit_char minus_char
 zero_has_no_sign = refl
 
--- behind the sign stands an amount
+-- the text after the sign is an amount
 behind_the_sign : without_front minus_signs (codes "負壹拾伍元整") ≡ codes "壹拾伍元整"
 behind_the_sign = refl
 
@@ -194,7 +195,7 @@ one_sign = refl
 minus_zero : signed_number (begins_with minus_signs (codes "负零元整")) 0 ≡ pos 0
 minus_zero = refl
 
--- as it is typed
+-- typed texts
 white_space_left_out : regular (codes "人民币 壹拾 伍元 整") ≡ codes "人民币壹拾伍元整"
 white_space_left_out = refl
 
@@ -207,7 +208,7 @@ circle_left_out = refl
 colon_left_out : regular (codes " ⊗ 人民幣 ：壹拾伍元整") ≡ codes "人民幣壹拾伍元整"
 colon_left_out = refl
 
--- and no more than that
+-- nothing else is left out
 second_circle_stays : regular (codes "⊗⊗壹元整") ≡ codes "⊗壹元整"
 second_circle_stays = refl
 

@@ -1,4 +1,4 @@
--- Each form is written along the ways, and so read to its end.
+-- Each form is written along the ways, and so it is read to its end.
 use Rattle.std.proofs.Common.{◌≡◌, ℕ, zero, suc, Bool, true, false, not, ◌&&◌, ◌||◌, inl, inr, List, [], ◌∷◌, ◌++◌, map, Some, refl, sym, ap, ◌∙◌, append-nil, append_assoc, if◌then◌else◌}
 use Rattle.std.proofs.Math.Bool.{and-true, and-false}
 use Rattle.cn_amount.specs.declared.before.Before.{Before}
@@ -13,7 +13,7 @@ use Rattle.cn_amount.specs.Working.Steps.{accepts}
 use Rattle.cn_amount.proofs.Points.{Part, wan_yi, yi, wan, yuan, small, known, either, Point, Way, at, start, units_of, behind_unit, digit_way, place_ways, front_ways, unit_ways, close_of, ways, opened, spells, spells-first, spells-more, spells-cases, fits-self}
 use Rattle.cn_amount.proofs.States.{reads-ways}
 
--- capitals that come next, and what stands behind them
+-- the capitals that come next, and the text after them
 word-spelled : (word : List Capital) (p : Point) (t : List Capital)
     → spells (opened (map Some word, p)) (word ++ t) ≡ spells (ways p) t
 word-spelled [] p t = refl
@@ -68,7 +68,7 @@ places-spelled part ((suc n, unit) ∷ places) before empty t h =
     (place_text before (suc n) unit ++ (places_text Filled places ++ t))
     (digit-spelled part unit (units_in places) before n (places_text Filled places ++ t) rest)
 
--- where a 0 at the unit may count
+-- a 0 at the place of the unit may count
 either-spelled : (part : Part) (units : List (List Capital)) (keeps empty : Bool) (t : List Capital)
     → spells (place_ways (close_of part) part units (behind keeps Gap) empty) t ≡ true
     → spells (front_ways (close_of part) part units either empty) t ≡ true
@@ -106,7 +106,7 @@ unit-spelled part unit true keeps before t h =
     ∙ front-spelled part before keeps t h
 unit-spelled part unit false keeps before t h = h
 
--- jiao and fen, where something is written
+-- jiao and fen, after something that is written
 small-spelled : (before : Before) (jiao fen : ℕ) (closes : Bool)
     → (is_written before || not (are_zero (small_places jiao fen))) ≡ true
     → spells (ways (start small (known before))) (small_text before jiao fen closes) ≡ true
@@ -124,7 +124,7 @@ small-spelled before jiao fen closes some =
       by before (suc j) zero false some = refl
       by before jiao (suc f) closes some = refl
 
--- 元 and what stands behind it
+-- 元 and the text after it
 yuan-spelled : (choices : Choices) (after : Before) (empty : Bool) (jiao fen : ℕ)
     → (let named = choices.no_yuan || are_zero (small_places jiao fen) in
     spells (close_of yuan after empty) (yuan_unit after named
@@ -172,7 +172,7 @@ yuan-spelled choices after empty jiao fen =
       by Filled no_yuan none e = word-spelled (Yuan ∷ []) (start small (known Filled)) (small_of Filled)
           ∙ behind-yuan Filled true refl
 
--- from each section on
+-- the texts from the section of the yuan on
 from-yuan : (choices : Choices) (before : Before) (p : Places)
     → spells (ways (start yuan (known before))) (from_yuan choices before p) ≡ true
 from-yuan choices before p =

@@ -1,4 +1,4 @@
--- Each capital of a form is one that a character stands for; so what is written is read as it.
+-- Each capital of a form has a character that is read as it, so a written form is read as itself.
 use Rattle.std.proofs.Common.{◌≡◌, ℕ, zero, suc, ◌/◌, ◌%◌, ◌^◌, ◌<◌, Bool, true, false, not, ◌≤◌, ◌||◌, nat_lt, List, [], ◌∷◌, ◌++◌, length, encode_utf8_all, Ok, refl, sym, subst, ◌∙◌, if◌then◌else◌, arith, ◌*◌, ap}
 use Rattle.std.specs.List.{list_all}
 use Rattle.std.specs.Str.{IsUtf8, all_scalars}
@@ -130,7 +130,7 @@ shown-form choices p digits = by choices.currency where
   by true = top
   by false = top
 
--- the digits of an amount write it
+-- the digits of an amount have its value
 pub places-of : (amount : ℕ) → ArePlaces (places_of amount)
 places-of amount = (
   (omega arith, omega arith, omega arith, omega arith),
@@ -155,7 +155,7 @@ amount-of amount low =
       section-of (amount / 100),
     )
 
--- what is written is an amount
+-- a written text is an amount
 pub written-amount : (variant : ChineseVariant) (form : AmountForm) (amount : ℕ) → amount < amount_limit
     → IsAmount (amount_text variant form amount) amount
 written-amount variant form amount low = record {
@@ -180,7 +180,7 @@ written-read variant form amount low =
     (sym (chars-encodes (amount_text variant form amount) (written-scalars variant form amount)))
     (written-amount variant form amount low)
 
--- it takes three bytes for each capital, and they are UTF-8
+-- a written text has three bytes for each capital, and they are UTF-8
 pub written-length : (variant : ChineseVariant) (form : AmountForm) (amount : ℕ)
     → length (encode_utf8_all (amount_text variant form amount)) ≡ 3 * length (amount_text variant form amount)
 written-length variant form amount =
@@ -188,7 +188,7 @@ written-length variant form amount =
     (amount_form (written_as form) (places_of amount))
     (shown-form (written_as form) (places_of amount) (places-of amount))
 
--- at most 117
+-- it has at most 117 bytes
 pub few-bytes : (variant : ChineseVariant) (form : AmountForm) (amount : ℕ)
     → length (encode_utf8_all (amount_text variant form amount)) ≤ 117
 few-bytes variant form amount = omega (
@@ -219,7 +219,7 @@ written_is variant form amount text bytes below is written =
       capacity = is.capacity;
     }
 
--- what has been put for an amount is its text, and no longer than the room
+-- the capitals written for an amount are its text, and fit the buffer
 pub text-of : (variant : ChineseVariant) (form : AmountForm) (amount : ℕ) (text : CapitalText Hand)
     → HasPut (record { variant = variant; form = form }) text (amount_form (written_as form) (places_of amount))
     → text_bytes text ≡ encode_utf8_all (amount_text variant form amount)

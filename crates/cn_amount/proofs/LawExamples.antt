@@ -1,4 +1,4 @@
--- Of each law that has premises, values that meet all of them.
+-- For each law with premises, values that meet all of them.
 use Rattle.std.proofs.Common.{◌≡◌, ℕ, ◌-◌, ◌^◌, ◌<◌, negsuc, nat_abs, true, false, List, ◌++◌, map, Some, codes, refl, arith}
 use Rattle.cn_amount.specs.Form.{Choices, written, amount_form}
 use Rattle.cn_amount.specs.Places.{amount_limit, places_of}
@@ -60,7 +60,7 @@ greatest =
 written_amounts_are_amounts : 10 ^ 18 - 1 < amount_limit
 written_amounts_are_amounts = omega arith
 
--- a form of one amount by two choices
+-- one text that is a form of one amount, twice
 each_text_is_one_amount : IsAmount (codes "壹元整") 100 × IsAmount (codes "壹元整") 100
 unfolding capital_of
 each_text_is_one_amount =

@@ -8,7 +8,8 @@ use Rattle.cn_amount.specs.declared.places.Section.{Section}
 use Rattle.cn_amount.specs.declared.places.Places.{Places}
 use Rattle.cn_amount.specs.Form.{Choices, is_empty, is_written, are_zero, after_digit, after_section, after_unit, after_wan, after_yi, after_yuan_unit, behind, place_text, small_places, section_text, unit_text, wan_text, yi_text, yuan_unit, closing, small_text, from_yuan, from_wan, from_yi, from_top, amount_form}
 
--- a 零 that is still to come; and where nothing is written, how many characters could have been
+-- one character for a 零 that is still to come; if nothing is written, the characters that could
+-- have been
 abbrev owed : ℕ → Before → ℕ
 owed unused Nothing = unused
 owed unused Gap = 1
@@ -152,7 +153,7 @@ length-top choices p =
       length-yuan choices c p,
     )
 
--- the same behind 人民币
+-- the same after 人民币
 pub length-form : (choices : Choices) (p : Places) → length (amount_form choices p) ≤ 39
 length-form choices p = by choices.currency where
   by : (b : Bool) → length ((if b then Ren ∷ Min ∷ Bi ∷ [] else []) ++ from_top choices p) ≤ 39

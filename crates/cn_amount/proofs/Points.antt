@@ -1,4 +1,4 @@
--- What can still be written, at each point of a form; and that reading it character by character
+-- What can still be written at each point of a form; and that reading a form character by character
 -- is a walk over these points.
 use Rattle.std.proofs.Common.{◌≡◌, ℕ, Bool, true, false, not, ◌&&◌, ◌||◌, ◌==◌, ◌⊎◌, inl, inr, List, [], ◌∷◌, ◌++◌, map, get_or, Option, Some, None, refl, sym, ap, ap₂, ◌∙◌, arith}
 use Rattle.std.proofs.lemmas.Bool.Decides.{nat_tests}
@@ -11,24 +11,24 @@ use Rattle.cn_amount.specs.declared.capital.Capital.{Capital}
 use Rattle.cn_amount.specs.declared.capital.Capital.TheVariants.{Ling, Digit, Shi, Bai, Qian, Wan, Yi, Yuan, Jiao, Fen, Zheng, Ren, Min, Bi, Fu}
 use Rattle.cn_amount.specs.Form.{is_written, after_digit}
 
--- the parts of a form: four sections, and the jiao and fen
+-- the parts of a form: four sections, and the jiao with the fen
 pub data Part : Type 0 where
   wan_yi yi wan yuan small : Part
 
--- what stands in front of a place: it is known, or a 0 at the unit behind which it stands may count
+-- what is before a place: it is known, or a 0 at the place of the unit before it may count
 pub data Front : Type 0 where
   known : Before → Front
   either : Front
 
--- the units of the places that are still to come, what stands in front of them, and whether each
--- digit of this part is 0 so far
+-- the units of the places that are still to come, what is before them, and whether each digit of
+-- this part is 0 so far
 pub record Point : Type 0 where
   pub part : Part
   pub units : List (List Capital)
   pub front : Front
   pub empty : Bool
 
--- the capitals that come next, where `None` stands for each digit from 1 to 9, and the point behind
+-- the capitals that come next, in which `None` is any digit from 1 to 9, and the point after them
 abbrev pub Way : Type 0
 Way = List (Option Capital) × Point
 
@@ -40,7 +40,7 @@ abbrev pub units_of : Part → List (List Capital)
 units_of small = (Jiao ∷ []) ∷ (Fen ∷ []) ∷ []
 units_of part = (Qian ∷ []) ∷ (Bai ∷ []) ∷ (Shi ∷ []) ∷ [] ∷ []
 
--- the beginning of a part
+-- the point at the start of a part
 abbrev pub start : Part → Front → Point
 start part front = record { part = part; units = units_of part; front = front; empty = true }
 
@@ -57,7 +57,7 @@ digit_way part unit units Gap =
     (Some Ling ∷ None ∷ map Some unit, at part units Filled false)
 digit_way part unit units before = (None ∷ map Some unit, at part units Filled false)
 
--- the ways from a place on, where it is given what comes behind the part
+-- the ways from a place on, given those that come after the part
 abbrev pub place_ways : (Before → Bool → List Way) → Part → List (List Capital) → Before → Bool
     → List Way
 place_ways close part [] before empty = close before empty
@@ -65,7 +65,7 @@ place_ways close part (unit ∷ units) before empty =
     digit_way part unit units before
     ∷ place_ways close part units (after_digit before 0) empty
 
--- the same where 零 may stand in front
+-- the same if 零 may be before the place
 abbrev pub front_ways : (Before → Bool → List Way) → Part → List (List Capital) → Front → Bool
     → List Way
 front_ways close part units (known before) empty = place_ways close part units before empty
@@ -74,7 +74,7 @@ front_ways close part (unit ∷ units) either empty =
     digit_way part unit units Filled ∷ digit_way part unit units Gap
     ∷ place_ways close part units Gap empty
 
--- behind a section: its unit, if it counts something
+-- the ways after a section: its unit, if it counts something
 abbrev pub unit_ways : (Before → Bool → List Way) → Part → Capital → Bool → Before → List Way
 unit_ways close part unit true before = (Some unit ∷ [], start part (behind_unit before)) ∷ []
 unit_ways close part unit false before = place_ways close part (units_of part) before true
@@ -109,7 +109,7 @@ close_of small before empty = close_small before empty
 abbrev pub ways : Point → List Way
 ways p = front_ways (close_of p.part) p.part p.units p.front p.empty
 
--- the ways behind capitals that are still to come
+-- the ways after capitals that are still to come
 abbrev pub opened : Way → List Way
 opened ([], p) = ways p
 opened (c ∷ cs, p) = (c ∷ cs, p) ∷ []
@@ -137,7 +137,7 @@ fits None (Digit value) = true
 fits None x = false
 fits (Some c) x = (code c).0 == (code x).0 && (code c).1 == (code x).1
 
--- the ways that go on with a capital
+-- the ways that continue with a capital
 abbrev pub with_capital : Capital → Way → List Way
 with_capital x ([], p) = []
 with_capital x (c ∷ cs, p) = elim (fits c x) [ true ↦ opened (cs, p) | false ↦ [] ]
@@ -150,12 +150,12 @@ abbrev pub ended : List Way → Bool
 ended [] = false
 ended (way ∷ more) = is_ended way || ended more
 
--- whether a text is written along one of these ways
+-- the text is written along one of these ways
 abbrev pub spells : List Way → List Capital → Bool
 spells more [] = ended more
 spells more (x ∷ t) = spells (flat_map (with_capital x) more) t
 
--- along one of two lists of ways
+-- the text is written along one of two lists of ways
 pub spells-append : (one two : List Way) (t : List Capital)
     → spells (one ++ two) t ≡ (spells one t || spells two t)
 spells-append one two [] = ended-append one two where
@@ -199,7 +199,7 @@ pub none-spelled : (t : List Capital) → spells [] t ≡ false
 none-spelled [] = refl
 none-spelled (x ∷ t) = none-spelled t
 
--- a capital goes with itself, and with no other
+-- a capital fits itself and no other
 pub fits-self : (c : Capital) → fits (Some c) c ≡ true
 fits-self (Digit value) = grind (arith, nat_tests)
 fits-self c = refl

@@ -1,4 +1,4 @@
--- What is known of a text while it is read, and that the states read the amounts.
+-- Facts about a text while it is read, and that the states read the amounts.
 use Rattle.std.proofs.Common.{◌≡◌, ℕ, ◌<◌, Bool, true, false, List, [], ◌∷◌, ◌++◌, map, Option, Some, None, refl, sym, ap, ap₂, subst, ◌∙◌, if◌then◌else◌, append-nil, arith}
 use Rattle.std.specs.List.{list_all}
 use Rattle.std.proofs.lemmas.List.{map-append}
@@ -74,7 +74,7 @@ is-read text progress e =
     text amount_machine.begin progress
     (record { capitals = []; is = refl; proper = refl; runs = refl; sums = refl }) e
 
--- what is read to its end is an amount, of its sum
+-- a text that is read to its end is an amount, with the value of its sum
 whole-read : (text : List ℕ) (capitals : List Capital) → capitals_of text ≡ map Some capitals
     → list_all is_proper capitals ≡ true → accepts Beginning capitals ≡ true
     → IsAmount text (sum_of no_sum capitals).closed
@@ -89,7 +89,7 @@ whole-read text capitals is proper h =
           (ap (sum_of no_sum) r.is ∙ form-sum r.choices r.places);
     }
 
--- what is read so far can be completed
+-- the text that is read so far can be completed
 completes : (text : List ℕ) (progress : Progress) (r : IsRead text progress)
     → accepts Beginning (r.capitals ++ completion progress.state) ≡ true
 completes text progress r =
@@ -133,7 +133,7 @@ step-fits progress capital next c reached is e =
     (is-read reached.0 progress reached.1)
     (ap (step_as advance progress) is ∙ ap (with_sum (add progress.sum capital)) e))
 
--- the states and the sums together
+-- the states and the sums are computed together
 runs-summed : (state last : State) (sum : Sum) (capitals : List Capital)
     → run state capitals ≡ Some last
     → machine.run advance (record { state = state; sum = sum }) capitals

@@ -1,4 +1,4 @@
--- The state after a text, what is read behind it, and that no sum is too great.
+-- The state after a text, what is read after it, and that no sum is too great.
 use Rattle.std.proofs.Common.{◌≡◌, ◌+◌, ◌<◌, ◌≤◌, Bool, true, false, List, [], ◌∷◌, ◌++◌, Option, Some, None, refl, sym, ap, ◌∙◌, arith}
 use Rattle.std.specs.List.{list_all}
 use Rattle.cn_amount.specs.declared.capital.Capital.{Capital}
@@ -15,7 +15,7 @@ use Rattle.cn_amount.proofs.Accepted.{accepted}
 use Rattle.cn_amount.proofs.States.{is_proper}
 use Rattle.cn_amount.proofs.Values.{form-sum, sum-append}
 
--- the state behind one more capital, if there is one
+-- whether the state after one more capital, if there is one, accepts the rest
 abbrev continued : Option State → List Capital → Bool
 continued state rest = elim state [ None ↦ false | Some next ↦ accepts next rest ]
 

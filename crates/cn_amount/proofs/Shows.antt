@@ -1,4 +1,4 @@
--- Characters and capitals: what is written for a capital is read as it.
+-- Characters and capitals: the character written for a capital is read as that capital.
 use Rattle.std.proofs.Common.{◌≡◌, ℕ, zero, suc, Bool, true, false, nat_lt, List, map, Some, refl, arith}
 use Rattle.std.specs.Char.{encode_utf8}
 use Rattle.std.specs.List.{list_all}
@@ -72,7 +72,7 @@ pub capitals-scalar : (variant : ChineseVariant) (form : AmountForm) (capitals :
 capitals-scalar variant form =
     every.capitals-scalar capital_of (capital_char variant form) is_proper (capital-back variant form)
 
--- each character that is read is read as a digit from 1 to 9, or as no digit
+-- each character that is read is a digit from 1 to 9, or not a digit
 pub proper-of : (c : ℕ) (capital : Capital) → capital_of c ≡ Some capital
     → is_proper capital ≡ true
 unfolding capital_of

@@ -1,4 +1,4 @@
--- The states behind a minus sign or none read the amounts that may be below zero.
+-- The states after a minus sign, or without one, read the amounts that may be below zero.
 use Rattle.std.proofs.Common.{◌≡◌, ℕ, ◌<◌, ℤ, Bool, true, false, not, List, [], ◌∷◌, Some, refl, sym, ap, subst, ◌∙◌, if◌then◌else◌, arith}
 use Rattle.std.specs.Char.{char_set_contains}
 use Rattle.cn_capitals.specs.Machine.{Reached, Reads}
@@ -18,7 +18,7 @@ use Rattle.cn_amount.specs.Working.Steps.{end, amount_machine}
 use Rattle.cn_amount.proofs.ReadText.{amount-reads}
 use Rattle.cn_amount.proofs.Runs.{amount-below}
 
--- behind the front the whole text is kept, and the front stays
+-- once the start is read, the whole text is kept, and the start stays the same
 abbrev Stays : Front → Type 0
 Stays front =
     (text : List ℕ) → (kept sign_sieve front text ≡ text) × (after sign_sieve front text ≡ front)
@@ -84,7 +84,7 @@ signed-reads = reads-same Kept IsSignedAmount signed_machine from-kept to-kept
     (sifted-reads sign_sieve both signed_value amount_machine signed_machine Open IsAmount
     signs-sifted stands-behind amount-reads)
 
--- the state of the amount is one that is reached, and its sum is below the limit
+-- the state of the amount can be reached, and its sum is below the limit
 pub under-reached : (state : SignedProgress) → Reached signed_machine state
     → Reached amount_machine state.progress
 under-reached state reached =

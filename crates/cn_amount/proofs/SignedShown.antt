@@ -1,4 +1,5 @@
--- What is written for an amount that may be below zero: its bytes, and that it is read as it.
+-- What is written for an amount that may be below zero: its bytes, and that it is read as that
+-- amount.
 use Rattle.std.proofs.Common.{◌≡◌, ℕ, ◌*◌, ◌<◌, ◌≤◌, ℤ, pos, negsuc, int_lt, nat_abs, Bool, true, false, not, List, [], ◌∷◌, ◌++◌, map, length, Ok, encode_utf8_all, refl, sym, ap, subst, ◌∙◌, if◌then◌else◌, length-append, arith}
 use Rattle.std.specs.Char.{char_set_contains, encode_utf8}
 use Rattle.std.specs.Str.{all_scalars}
@@ -27,7 +28,7 @@ use Rattle.cn_amount.specs.Writes.{capital_char, amount_text}
 use Rattle.cn_amount.proofs.AmountCharacters.{amount-passes}
 use Rattle.cn_amount.proofs.FormsShown.{few-bytes, text-length, written-amount, written-length, written-scalars}
 
--- the sign in front of a text
+-- the text after the sign, if there is one
 abbrev behind_sign : ChineseVariant → Bool → List ℕ → List ℕ
 behind_sign variant below text = (if below then minus_char variant ∷ [] else []) ++ text
 
@@ -46,7 +47,7 @@ unfolding minus_char
 sign-read Simple = refl
 sign-read Traditional = refl
 
--- a form has no sign in front
+-- a form has no sign before it
 pub no-sign : (text : List ℕ) (fen : ℕ) → IsAmount text fen
     → (without_front minus_signs text ≡ text) × (begins_with minus_signs text ≡ false)
 no-sign [] fen h = (refl, refl)
@@ -59,7 +60,7 @@ no-sign (c ∷ text) fen h =
       by true e = absurd (cc)
       by false e = (refl, refl)
 
--- what is an amount is one that may be below zero
+-- an amount is also an amount that may be below zero
 pub amount-signed : (text : List ℕ) (fen : ℕ) → IsAmount text fen → IsSignedAmount text (pos fen)
 amount-signed text fen h =
     let none = no-sign text fen h in
@@ -69,7 +70,7 @@ amount-signed text fen h =
       value = ap (λ b. signed_number b fen) (sym none.1);
     }
 
--- and its negation behind a sign
+-- after a sign it is the negated amount
 signed-below : (variant : ChineseVariant) (text : List ℕ) (fen : ℕ) → IsAmount text fen
     → IsSignedAmount (minus_char variant ∷ text) (signed_number true fen)
 signed-below variant text fen h = record {
@@ -109,7 +110,7 @@ written-signed variant form fen low =
     (scalars-behind variant below text (written-scalars variant form (nat_abs fen)))))
     (subst (λ fen. IsSignedAmount (behind_sign variant below text) fen) (number-is fen) is)
 
--- three bytes for each character, and no longer than the room
+-- the text has three bytes for each character, and fits the buffer
 length-behind : (variant : ChineseVariant) (below : Bool) (text : List ℕ)
     → length (encode_utf8_all text) ≡ 3 * length text
     → length (encode_utf8_all (behind_sign variant below text))
@@ -134,7 +135,7 @@ form-behind : (variant : ChineseVariant) (form : AmountForm) (below : Bool)
 form-behind variant form true capitals = refl
 form-behind variant form false capitals = refl
 
--- what has been put is the text
+-- the capitals written are the text
 pub signed-text-of : (variant : ChineseVariant) (form : AmountForm) (fen : ℤ)
     (text : CapitalText Hand)
     → HasPut (record { variant = variant; form = form }) text

@@ -14,7 +14,7 @@ use Rattle.cn_amount.specs.declared.state.State.TheVariants.{Beginning, AfterRen
 use Rattle.cn_amount.specs.Working.Steps.{step, is_end, accepts}
 use Rattle.cn_amount.proofs.Points.{Part, wan_yi, yi, wan, yuan, small, Front, known, either, Point, Way, at, start, finish, opened, with_capital, ended, spells, none-spelled}
 
--- which section it can be
+-- the sections that it can be
 abbrev parts_of : Stage → List Part
 parts_of Top = wan_yi ∷ yi ∷ wan ∷ yuan ∷ []
 parts_of BelowWan = yi ∷ yuan ∷ []
@@ -30,7 +30,7 @@ units_from Hundreds = (Bai ∷ []) ∷ (Shi ∷ []) ∷ [] ∷ []
 units_from Tens = (Shi ∷ []) ∷ [] ∷ []
 units_from Ones = [] ∷ []
 
--- a digit at one of these places, and what stands in front of it
+-- a digit at one of these places, and what is before it
 abbrev digits : List (Option Capital) → Part → List (List Capital) → List Way
 digits front part [] = []
 digits front part (unit ∷ units) =
@@ -40,7 +40,8 @@ abbrev digit_at : Part → List (List Capital) → List Way
 digit_at part [] = []
 digit_at part (unit ∷ units) = (map Some unit, at part units Filled false) ∷ []
 
--- behind 亿 and a 零 that no 0 asks for: a digit of 万, but of its thousands, or of the last section
+-- after 亿 and 零, although the digit at its place is not 0, the next digit is one of 万's section
+-- but not its 仟, or one of the last section
 abbrev places_of : Stage → Place → Part → List (List Capital)
 places_of BelowYiGap Thousands wan = units_from Hundreds
 places_of stage place part = units_from place
@@ -100,13 +101,13 @@ abbrev pub open_at : Option State → List Way
 open_at None = []
 open_at (Some state) = flat_map opened (stands state)
 
--- a capital of an amount: a digit is one from 1 to 9
+-- a capital that an amount can have: a digit is one from 1 to 9
 abbrev pub is_proper : Capital → Bool
 is_proper (Digit value) = nat_lt 0 value && nat_lt value 10
 is_proper Fu = false
 is_proper capital = true
 
--- what completes a text, found by trying
+-- texts that complete one, found by trying them
 abbrev tries : List Capital
 tries = Zheng ∷ Yuan ∷ Wan ∷ Fen ∷ Shi ∷ Bai ∷ Qian ∷ Jiao ∷ Ling ∷ Digit 1 ∷ Min ∷ Bi ∷ []
 
@@ -127,7 +128,7 @@ completion_within (suc n) state = elim (is_end state) [
 abbrev pub completion : State → List Capital
 completion state = completion_within 6 state
 
--- a state is right: it ends where forms do, goes on with each capital as they do, and can be
+-- a state is right: it ends where forms do, continues with each capital as they do, and can be
 -- completed
 abbrev Right : State → Type 0
 Right state =
@@ -195,7 +196,7 @@ completed state = (right state).1
 pub completion-proper : (state : State) → list_all is_proper (completion state) ≡ true
 completion-proper state = (right state).2
 
--- so what is read from a state on is written along one of its ways
+-- so a text that is read from a state on is written along one of the state's ways
 pub reads-ways : (state : State) (t : List Capital)
     → accepts state t ≡ spells (open_at (Some state)) t
 reads-ways state [] = sym (right state).0

@@ -1,4 +1,4 @@
--- The states of a typed text read the amounts that are left of it.
+-- The states of a typed text read the amount that remains of it.
 use Rattle.std.proofs.Common.{◌≡◌, ℕ, Bool, true, false, not, ◌&&◌, List, [], ◌∷◌, ◌++◌, filter, codes, refl, sym, ap, subst, ◌∙◌, if◌then◌else◌}
 use Rattle.std.specs.Char.{char_set_contains, is_whitespace, is_not_whitespace}
 use Rattle.std.specs.List.{list_all}
@@ -19,7 +19,7 @@ use Rattle.cn_amount.specs.Working.Typing.{leaves_out, first_seen, advance, type
 use Rattle.cn_amount.proofs.AmountCharacters.{amount-passes}
 use Rattle.cn_amount.proofs.ReadText.{amount-reads}
 
--- the same, of a text without white space
+-- the same sieve for a text without white space
 abbrev visible_sieve : Sieve Seen
 visible_sieve = record { keeps = λ seen c. not (leaves_out seen c); next = advance }
 
@@ -40,7 +40,7 @@ kept-visible seen (c ∷ text) =
       by true same more = same
       by false same more = ap (λ l. if not (leaves_out seen c) then c ∷ l else l) more
 
--- what is kept of it, from each point on
+-- the characters that are kept, from each point on
 abbrev kept_from : Seen → List ℕ → List ℕ
 kept_from seen text = kept visible_sieve seen text
 
@@ -56,7 +56,7 @@ currency-kept (c ∷ text) = by (char_set_contains colons c) where
   by true = rest-kept text
   by false = ap (λ l. c ∷ l) (rest-kept text)
 
--- behind the currency or something else
+-- the text after the currency, or after something else
 either-kept : (b : Bool) (text : List ℕ)
     → kept_from (if b then Currency else Rest) text
     ≡ (if b then without_front colons text else text)
@@ -106,7 +106,7 @@ nothing-kept (c ∷ text) =
 kept-is : (text : List ℕ) → kept typed_sieve Nothing text ≡ regular text
 kept-is text = kept-visible Nothing text ∙ nothing-kept (filter is_not_whitespace text)
 
--- of the characters of a form none is left out
+-- no character of a form is left out
 abbrev is_plain : ℕ → Bool
 is_plain c =
     not (is_whitespace c) && (not (char_set_contains circle c) && not (char_set_contains colons c))
@@ -170,7 +170,7 @@ typed-reads = reads-same Kept IsTypedAmount typed_machine from-kept to-kept
     (sifted-reads typed_sieve both (λ seen (fen : ℕ). fen) amount_machine typed_machine Nothing
     IsAmount typed-sifted stands-behind amount-reads)
 
--- the state of the amount is one that is reached
+-- the state of the amount can be reached
 pub under-reached : (state : TypedProgress) → Reached typed_machine state
     → Reached amount_machine state.progress
 under-reached state reached =
@@ -180,7 +180,7 @@ under-reached state reached =
       rw under.2 under.1,
     )
 
--- what is an amount is one as it is typed
+-- an amount is also an amount as people type it
 pub amount-typed : (text : List ℕ) (fen : ℕ) → IsAmount text fen → IsTypedAmount text fen
 amount-typed text fen h =
     subst (λ l. IsAmount l fen)

@@ -19,13 +19,13 @@ pub sum-append : (sum : Sum) (start back : List Capital)
 sum-append sum [] back = refl
 sum-append sum (capital ∷ start) back = sum-append (add sum capital) start back
 
--- two pieces
+-- the sum of two pieces, one after the other
 joined-sum : (first second third : Sum) (start back : List Capital) → sum_of first start ≡ second
     → sum_of second back ≡ third → sum_of first (start ++ back) ≡ third
 joined-sum first second third start back a b =
     sum-append first start back ∙ ap (λ sum. sum_of sum back) a ∙ b
 
--- a place of a section, whose unit is worth so much
+-- a place of a section, given the worth of its unit
 counted : (unit : Capital) (worth : ℕ)
     → ((closed section digit : ℕ)
     → add (sums closed section digit) unit ≡ sums closed (section + worth * digit) 0)
@@ -80,7 +80,7 @@ small-sum before start jiao fen closes =
     ∙ fens after (start + 10 * jiao) fen))
     (closings all jiao fen closes)
 
--- a section, whose last digit waits
+-- the sum of a section, whose last digit has no unit
 abbrev counted_digits : Section → ℕ
 counted_digits s = 0 + 1000 * s.thousands + 100 * s.hundreds + 10 * s.tens
 
@@ -106,7 +106,7 @@ section-sum before closed s =
     (counted Shi 10 (λ m n d. refl) b closed y s.tens)
     (ap (sum_of (sums closed z 0)) (append-nil last) ∙ ones c closed z s.ones)))
 
--- no digit of an empty section counts
+-- the digits of an empty section count nothing
 empty-zero : (a b c d : ℕ) (s : Section)
     → s ≡ record { thousands = a; hundreds = b; tens = c; ones = d } → is_empty s ≡ true
     → (counted_digits s ≡ 0) × (s.ones ≡ 0)
@@ -120,7 +120,7 @@ empty-zero zero zero zero (suc d) s is e = let no = ap is_empty is in absurd (cc
 zero-section : (s : Section) → is_empty s ≡ true → (counted_digits s ≡ 0) × (s.ones ≡ 0)
 zero-section s e = empty-zero s.thousands s.hundreds s.tens s.ones s refl e
 
--- where nothing is written, nothing counts
+-- if nothing is written, nothing counts
 abbrev Counts : Before → ℕ → Type 0
 Counts before yuan = is_written before ≡ false → yuan ≡ 0
 
@@ -155,7 +155,7 @@ unit-written true false Nothing = refl
 unit-written true false Gap = refl
 unit-written true false Filled = refl
 
--- behind a section
+-- the text after a section
 section-then : (before : Before) (yuan : ℕ) (s : Section) (unit rest : List Capital)
     (middle total : Sum) → sum_of (sums yuan (counted_digits s) s.ones) unit ≡ middle
     → sum_of middle rest ≡ total
@@ -234,7 +234,7 @@ yuan-sum after s yuan named keeps closes jiao fen none = by after named none whe
   by Gap named none = behind-yuan (behind keeps Gap)
   by Filled named none = behind-yuan Filled
 
--- from each section on
+-- the texts from the section of the yuan on
 from-yuan : (choices : Choices) (before : Before) (yuan : ℕ) (p : Places) → Counts before yuan
     → sum_of (sums yuan 0 0) (from_yuan choices before p)
     ≡ sums (100 * (yuan + section_value p.yuan) + 10 * p.jiao + p.fen) 0 0

@@ -1,6 +1,6 @@
--- In which forms an amount may stand, and in which one it is written. The rule goes by places, from
--- the top: a digit that is not 0 is written with its unit, and 零 in front of it where the digit
--- directly before it is 0.
+-- The forms that an amount can have, and the one in which it is written. The rule goes by places,
+-- from the top: a digit that is not 0 is written with its unit, and 零 is written before it if the
+-- digit directly before it is 0.
 use Rattle.std.specs.Prelude.{ℕ, zero, suc, Bool, true, false, not, ◌&&◌, ◌||◌, List, [], ◌∷◌, ◌++◌, if◌then◌else◌}
 use Rattle.cn_amount.specs.declared.before.Before.{Before}
 use Rattle.cn_amount.specs.declared.before.Before.TheVariants.{Nothing, Gap, Filled}
@@ -12,20 +12,20 @@ use Rattle.cn_amount.specs.declared.places.Places.{Places}
 
 -- what the rules leave open
 pub record Choices : Type 0 where
-  -- 人民币 in front
+  -- 人民币 at the start
   pub currency : Bool
-  -- 零元 where there are no yuan, but jiao or fen
+  -- 零元 if there are no yuan, but jiao or fen
   pub no_yuan : Bool
-  -- where the digit at the place of the unit is 0, and the next one is not: 零 behind the 万 of 万亿,
-  -- behind 亿, behind 万, behind 元
+  -- 零 after the 万 of 万亿, after 亿, after 万 or after 元, if the digit at the place of that unit
+  -- is 0 and the next one is not
   pub behind_wan_yi : Bool
   pub behind_yi : Bool
   pub behind_wan : Bool
   pub behind_yuan : Bool
-  -- 整 behind 角
+  -- 整 after 角
   pub behind_jiao : Bool
 
--- the choices of the form that is written: both rules allow it for every amount
+-- the choices of the form that is written, which both rules allow for every amount
 abbrev pub written : Choices
 written = record {
   currency = false;
@@ -37,7 +37,7 @@ written = record {
   behind_jiao = true;
 }
 
--- the same, with 人民币 in front where it is asked for
+-- the same choices, with 人民币 at the start if the form has it
 abbrev pub written_as : AmountForm → Choices
 written_as form = record {
   currency = form.currency;
@@ -49,118 +49,129 @@ written_as form = record {
   behind_jiao = written.behind_jiao;
 }
 
+-- the number is 0
 abbrev pub is_zero : ℕ → Bool
 is_zero zero = true
 is_zero (suc n) = false
 
--- what stands in front of the next place
+-- what is before the next place, after this digit
 abbrev pub after_digit : Before → ℕ → Before
 after_digit before (suc n) = Filled
 after_digit Nothing zero = Nothing
 after_digit Gap zero = Gap
 after_digit Filled zero = Gap
 
--- whether anything is written yet
+-- something is written yet
 abbrev pub is_written : Before → Bool
 is_written Nothing = false
 is_written Gap = true
 is_written Filled = true
 
--- a place, with its unit if it has one: nothing where the digit is 0
+-- the text of a place, with its unit if it has one; it is empty if the digit is 0
 abbrev pub place_text : Before → ℕ → List Capital → List Capital
 place_text before zero unit = []
 place_text Nothing (suc n) unit = Digit (suc n) ∷ unit
 place_text Gap (suc n) unit = Ling ∷ Digit (suc n) ∷ unit
 place_text Filled (suc n) unit = Digit (suc n) ∷ unit
 
--- places one behind the other, each a digit and its unit, from the top
+-- the text of several places one after the other, from the top; each is a digit and its unit
 abbrev pub places_text : Before → List (ℕ × List Capital) → List Capital
 places_text before [] = []
 places_text before (place ∷ rest) =
     place_text before place.0 place.1 ++ places_text (after_digit before place.0) rest
 
+-- what is before the place that follows these places
 abbrev pub after_places : Before → List (ℕ × List Capital) → Before
 after_places before [] = before
 after_places before (place ∷ rest) = after_places (after_digit before place.0) rest
 
+-- the digit of each of these places is 0
 abbrev pub are_zero : List (ℕ × List Capital) → Bool
 are_zero [] = true
 are_zero (place ∷ rest) = is_zero place.0 && are_zero rest
 
--- the four places of a section: 肆佰零玖 of 0, 4, 0, 9
+-- the four places of a section, such as 0, 4, 0 and 9 for 肆佰零玖
 abbrev pub places_in : Section → List (ℕ × List Capital)
 places_in s =
     (s.thousands, Qian ∷ []) ∷ (s.hundreds, Bai ∷ []) ∷ (s.tens, Shi ∷ []) ∷ (s.ones, []) ∷ []
 
+-- the text of a section
 abbrev pub section_text : Before → Section → List Capital
 section_text before s = places_text before (places_in s)
 
+-- what is before the place that follows a section
 abbrev pub after_section : Before → Section → Before
 after_section before s = after_places before (places_in s)
 
+-- each digit of a section is 0
 abbrev pub is_empty : Section → Bool
 is_empty s = are_zero (places_in s)
 
--- What stands in front of the place behind a unit above 仟: a 0 at the unit's place counts as one,
--- or it does not. Where the next digit is 0 too, there is a 零 all the same.
+-- what is before the place that follows a unit above 仟: a 0 at the place of the unit counts as
+-- one, or it does not. If the next digit is 0 too, there is a 零 in any case.
 abbrev pub behind : Bool → Before → Before
 behind true before = before
 behind false Nothing = Nothing
 behind false before = Filled
 
--- the unit of a section, if it counts something, and what stands in front of the place behind it
+-- the unit of a section if it counts something, and otherwise nothing
 abbrev pub unit_text : Bool → Capital → List Capital
 unit_text true unit = unit ∷ []
 unit_text false unit = []
 
+-- what is before the place that follows that unit
 abbrev pub after_unit : Bool → Bool → Before → Before
 after_unit true keeps before = behind keeps before
 after_unit false keeps before = before
 
--- 万 counts its section, if that is not empty
+-- the text of a section that 万 counts, with 万 if the section is not empty
 abbrev pub wan_text : Before → Section → List Capital
 wan_text before s = section_text before s ++ unit_text (not (is_empty s)) Wan
 
+-- what is before the place that follows it
 abbrev pub after_wan : Bool → Before → Section → Before
 after_wan keeps before s = after_unit (not (is_empty s)) keeps (after_section before s)
 
--- 亿 counts its section with all that stands in front of it
+-- the text of a section that 亿 counts, with 亿 if it or anything before it is not empty
 abbrev pub yi_text : Before → Section → List Capital
 yi_text before s = section_text before s ++ unit_text (is_written (after_section before s)) Yi
 
+-- what is before the place that follows it
 abbrev pub after_yi : Bool → Before → Section → Before
 after_yi keeps before s =
     after_unit (is_written (after_section before s)) keeps (after_section before s)
 
--- 元; where there are no yuan, 零元 or nothing
+-- the text of 元; if there are no yuan it is 零元 or nothing
 abbrev pub yuan_unit : Before → Bool → List Capital
 yuan_unit Nothing true = Ling ∷ Yuan ∷ []
 yuan_unit Nothing false = []
 yuan_unit Gap named = Yuan ∷ []
 yuan_unit Filled named = Yuan ∷ []
 
+-- what is before the jiao
 abbrev pub after_yuan_unit : Bool → Before → Bool → Before
 after_yuan_unit keeps Nothing true = behind keeps Gap
 after_yuan_unit keeps Nothing false = Nothing
 after_yuan_unit keeps Gap named = behind keeps Gap
 after_yuan_unit keeps Filled named = Filled
 
--- what closes an amount, so that nothing can be added: 整 where there are no fen
+-- what closes an amount, so that nothing can be added: 整 if there are no fen
 abbrev pub closing : ℕ → ℕ → Bool → List Capital
 closing jiao (suc n) closes = []
 closing zero zero closes = Zheng ∷ []
 closing (suc n) zero true = Zheng ∷ []
 closing (suc n) zero false = []
 
--- jiao, fen and what closes them
+-- the places of the jiao and the fen
 abbrev pub small_places : ℕ → ℕ → List (ℕ × List Capital)
 small_places jiao fen = (jiao, Jiao ∷ []) ∷ (fen, Fen ∷ []) ∷ []
 
+-- the text of the jiao and the fen, and what closes them
 abbrev pub small_text : Before → ℕ → ℕ → Bool → List Capital
 small_text before jiao fen closes =
     places_text before (small_places jiao fen) ++ closing jiao fen closes
 
--- the yuan without a greater unit, 元, and the rest
+-- the text of the yuan below 万, of 元, and of the rest
 abbrev pub from_yuan : Choices → Before → Places → List Capital
 from_yuan choices before p =
     let after = after_section before p.yuan in
@@ -170,22 +181,24 @@ from_yuan choices before p =
     ++ small_text (after_yuan_unit choices.behind_yuan after named) p.jiao p.fen
     choices.behind_jiao)
 
--- from the section of 万 on, from that of 亿 on, and from the top
+-- the text from the section of 万 on
 abbrev pub from_wan : Choices → Before → Places → List Capital
 from_wan choices before p =
     wan_text before p.wan
     ++ from_yuan choices (after_wan choices.behind_wan before p.wan) p
 
+-- the text from the section of 亿 on
 abbrev pub from_yi : Choices → Before → Places → List Capital
 from_yi choices before p =
     yi_text before p.yi ++ from_wan choices (after_yi choices.behind_yi before p.yi) p
 
+-- the text from the section of 万亿 on
 abbrev pub from_top : Choices → Places → List Capital
 from_top choices p =
     wan_text Nothing p.wan_yi ++ from_yi choices (after_wan choices.behind_wan_yi Nothing p.wan_yi)
     p
 
--- a form of an amount, by its digits and the choices
+-- a form of an amount, given its digits and the choices
 abbrev pub amount_form : Choices → Places → List Capital
 amount_form choices p =
     (if choices.currency then Ren ∷ Min ∷ Bi ∷ [] else []) ++ from_top choices p

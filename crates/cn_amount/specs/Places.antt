@@ -1,14 +1,14 @@
--- An amount of money by its decimal digits.
+-- The decimal digits of an amount of money.
 use Rattle.std.specs.Prelude.{ℕ, ◌+◌, ◌*◌, ◌/◌, ◌%◌, ◌^◌, ◌<◌}
 use Rattle.cn_amount.specs.declared.places.Section.{Section}
 use Rattle.cn_amount.specs.declared.places.Places.{Places}
 
--- An amount is a number of fen, the hundredth part of a yuan, below this one. From 10^16 yuan on
--- 万 and 亿 are not enough, and 兆 is read by some as 10^6 and by others as 10^12 or 10^16.
+-- An amount is a number of fen, a hundredth of a yuan, below this limit. From 10^16 yuan on 万 and
+-- 亿 are not enough, and 兆 is read by some as 10^6 and by others as 10^12 or 10^16.
 abbrev pub amount_limit : ℕ
 amount_limit = 10 ^ 18
 
--- the number that four digits write: 1409 of 1, 4, 0, 9
+-- the number that four digits write, such as 1409 for 1, 4, 0 and 9
 abbrev pub section_value : Section → ℕ
 section_value s = 1000 * s.thousands + 100 * s.hundreds + 10 * s.tens + s.ones
 
@@ -19,10 +19,11 @@ amount_value p =
     + 10000 * section_value p.wan + section_value p.yuan)
     + 10 * p.jiao + p.fen
 
--- each is a decimal digit
+-- each of the four is a decimal digit
 abbrev pub AreDigits : Section → Type 0
 AreDigits s = (s.thousands < 10) × (s.hundreds < 10) × (s.tens < 10) × (s.ones < 10)
 
+-- each digit of an amount is a decimal digit
 abbrev pub ArePlaces : Places → Type 0
 ArePlaces p =
     AreDigits p.wan_yi × AreDigits p.yi × AreDigits p.wan × AreDigits p.yuan

@@ -1,4 +1,4 @@
--- What is read as an amount, and what is answered of a text.
+-- What is read as an amount, and what the answer to a text is.
 use Rattle.std.specs.Prelude.{◌≡◌, ℕ, List, [], ◌∷◌, map, Option, Some, Result, codes, chars}
 pub use Rattle.cn_capitals.specs.declared.refusal.Refusal.{Refusal as AmountRefusal}
 pub use Rattle.cn_capitals.specs.declared.refusal.Refusal.TheVariants.{Unfinished as unfinished, Incorrect as incorrect_at}
@@ -10,7 +10,7 @@ use Rattle.cn_amount.specs.declared.places.Places.{Places}
 use Rattle.cn_amount.specs.Form.{Choices, amount_form}
 use Rattle.cn_amount.specs.Places.{ArePlaces, amount_value}
 
--- the characters that are read as each capital: those of both scripts, and no lower case
+-- the characters that are read as each capital: those of both scripts, and none of the lower case
 abbrev pub capital_rows : List (List ℕ × Capital)
 capital_rows =
     (codes "零", Ling) ∷ (codes "壹", Digit 1) ∷ (codes "贰貳", Digit 2) ∷ (codes "叁參叄", Digit 3)
@@ -20,10 +20,11 @@ capital_rows =
     ∷ (codes "角", Jiao) ∷ (codes "分", Fen) ∷ (codes "整正", Zheng) ∷ (codes "人", Ren)
     ∷ (codes "民", Min) ∷ (codes "币幣", Bi) ∷ []
 
--- what a character is read as, if it is read
+-- what a character is read as; none if it is not read
 unfoldable pub capital_of : ℕ → Option Capital
 capital_of c = first_with capital_rows c
 
+-- what each character of a text is read as
 abbrev pub capitals_of : List ℕ → List (Option Capital)
 capitals_of text = map capital_of text
 
@@ -39,10 +40,10 @@ pub record IsAmount (text : List ℕ) (fen : ℕ) : Type 0 where
 abbrev pub Begins : List ℕ → Type 0
 Begins text = answers.Begins IsAmount text
 
--- the answer to a text
+-- `answer` is the answer to a text
 abbrev pub Answers : List ℕ → Result ℕ AmountRefusal → Type 0
 Answers text answer = answers.Answers IsAmount text answer
 
--- the answer to a string, given by its bytes
+-- `answer` is the answer to a string, given by its bytes
 abbrev pub ReadsAmount : List ℕ → Result ℕ AmountRefusal → Type 0
 ReadsAmount bytes answer = Answers (chars bytes) answer

@@ -1,4 +1,4 @@
--- Amounts that may be below zero, as those of red invoices. No rule of the banks has them.
+-- Amounts that may be below zero, such as those of red invoices. No rule of the banks has them.
 use Rattle.std.specs.Prelude.{◌≡◌, ℕ, ◌*◌, ◌<◌, ◌≤◌, ℤ, pos, int_lt, nat_abs, List, [], ◌∷◌, ◌++◌, length, codes, chars, Result, MatchResult, encode_utf8_all, string_bytes, string_len, string_capacity, if◌then◌else◌}
 use Rattle.std.specs.declared.string.String.{String}
 use Rattle.cn_capitals.specs.Answers as answers
@@ -17,32 +17,34 @@ use Rattle.cn_amount.specs.Writes.{amount_text}
 abbrev pub minus_signs : List ℕ
 minus_signs = codes "負负"
 
--- the characters are a form of an amount, or a minus sign and a form of an amount, which is below
--- zero then; behind the sign 0 is 0
+-- the characters are a form of an amount; or they are a minus sign and a form of an amount, and the
+-- amount is then below zero, or 0 if it is 0 without the sign
 pub record IsSignedAmount (text : List ℕ) (fen : ℤ) : Type 0 where
   pub magnitude : ℕ
   pub form : IsAmount (without_front minus_signs text) magnitude
   pub value : fen ≡ signed_number (begins_with minus_signs text) magnitude
 
--- the answer to a text, and to a string, given by its bytes
+-- `answer` is the answer to a text
 abbrev pub SignedAnswers : List ℕ → Result ℤ AmountRefusal → Type 0
 SignedAnswers text answer = answers.Answers IsSignedAmount text answer
 
+-- `answer` is the answer to a string, given by its bytes
 abbrev pub ReadsSignedAmount : List ℕ → Result ℤ AmountRefusal → Type 0
 ReadsSignedAmount bytes answer = SignedAnswers (chars bytes) answer
 
--- the characters of an amount in a form, behind the minus sign of the script where it is below zero
+-- the characters of an amount in a form, after the minus sign of the script if it is below zero
 abbrev pub signed_amount_text : ChineseVariant → AmountForm → ℤ → List ℕ
 signed_amount_text variant form fen =
     (if int_lt fen (pos 0) then minus_char variant ∷ [] else [])
     ++ amount_text variant form (nat_abs fen)
 
--- when each refusal comes: memory is asked for only where the amount is written
+-- when each refusal occurs: memory is requested only if the amount is written
 abbrev pub RefusesSignedAmount : ℤ → AmountToChineseError → Type 0
 RefusesSignedAmount fen Overflow = amount_limit ≤ nat_abs fen
 RefusesSignedAmount fen OutOfMemory = nat_abs fen < amount_limit
 
--- the text of an amount, three bytes for each character; it holds no more memory than its bytes
+-- the text of an amount, with three bytes for each character; it holds no more memory than its
+-- bytes
 pub record IsSignedText {Z : Type 0} (variant : ChineseVariant) (form : AmountForm) (fen : ℤ)
     (text : String Z) : Type 0 where
   pub below : nat_abs fen < amount_limit

@@ -1,10 +1,10 @@
-// What stands directly in front of a place of an amount.
+// What is directly before a place of an amount.
 ghost use Rattle.std.specs.Prelude.{◌≡◌, true, false};
 ghost use Rattle.cn_amount.specs.Form.{after_digit, after_section, after_wan, after_yuan_unit, is_written};
 
 use crate::places::Section;
 
-/// What stands directly in front of a place.
+/// What is directly before a place.
 #[derive(Clone, Copy, Eq, PartialEq)]
 pub enum Before {
     /// Nothing is written yet.
@@ -16,7 +16,7 @@ pub enum Before {
 }
 
 impl Before {
-    /// Whether anything is written yet.
+    /// Whether something is written yet.
     pub fn is_written(self) -> bool
         ensures { result ≡ is_written self }
     {
@@ -26,7 +26,7 @@ impl Before {
         }
     }
 
-    /// What stands in front of the next place, behind this digit.
+    /// What is before the next place, after this digit.
     pub fn after_digit(self, digit: u8) -> Before
         ensures { result ≡ after_digit self digit }
     {
@@ -40,7 +40,7 @@ impl Before {
         }
     }
 
-    /// What stands in front of the place behind four digits.
+    /// What is before the place that follows four digits.
     pub fn after_section(self, section: Section) -> Before
         ensures { result ≡ after_section self section }
     {
@@ -50,16 +50,15 @@ impl Before {
             .after_digit(section.ones)
     }
 
-    /// What stands in front of the place behind a section that 万 counts, in the form that is
-    /// written.
+    /// What is before the place that follows a section that 万 counts, in the form that is written.
     pub fn after_wan(self, section: Section) -> Before
         ensures { result ≡ after_wan true self section }
     {
         self.after_section(section)
     }
 
-    /// What stands in front of the jiao, in the form that is written, where 零元 is `named` for no
-    /// yuan.
+    /// What is before the jiao, in the form that is written; `named` says whether 零元 is written
+    /// if there are no yuan.
     pub fn after_yuan_unit(self, named: bool) -> Before
         ensures { result ≡ after_yuan_unit false self named }
     {

@@ -25,13 +25,13 @@ pub enum Capital {
     Wan,
     /// 亿, 10^8.
     Yi,
-    /// 元, or 圆.
+    /// 元 or 圆.
     Yuan,
-    /// 角, the tenth part of a yuan.
+    /// 角, a tenth of a yuan.
     Jiao,
-    /// 分, the hundredth.
+    /// 分, a hundredth of a yuan.
     Fen,
-    /// 整, or 正, which closes an amount.
+    /// 整 or 正, which closes an amount.
     Zheng,
     /// 人, the first character of the currency, 人民币.
     Ren,
@@ -39,11 +39,11 @@ pub enum Capital {
     Min,
     /// 币
     Bi,
-    /// 負, in front of an amount below zero, which alone has it.
+    /// 負, which is only before an amount below zero.
     Fu,
 }
 
-// 元, or 圆 where it is asked for.
+// 元, or 圆 if the form has it.
 fn yuan_char(hand: Hand) -> char
     ensures { result ≡ yuan_char hand.variant hand.form.round_yuan }
 {
@@ -54,14 +54,14 @@ fn yuan_char(hand: Hand) -> char
     }
 }
 
-// 整, or 正 where it is asked for.
+// 整, or 正 if the form has it.
 fn closing_char(upright: bool) -> char
     ensures { result ≡ closing_char upright }
 {
     if upright { '正' } else { '整' }
 }
 
-// 币
+// 币, or 幣 in the traditional script.
 fn currency_char(variant: ChineseVariant) -> char
     ensures { result ≡ currency_char variant }
 {
@@ -98,7 +98,7 @@ impl Written<Hand> for Capital {
     }
 }
 
-// The characters that are read, each at its slot. 無, which is none, fills the empty ones.
+// The characters that are read, each at its slot. 無, which is not read, fills the empty slots.
 static CAPITALS: [(char, Option<Capital>); 64] = [
     ('玖', Some(Capital::Digit(9))),
     ('無', None),
@@ -166,7 +166,7 @@ static CAPITALS: [(char, Option<Capital>); 64] = [
     ('無', None),
 ];
 
-// The entry at the slot of a character: no two of those that are read share one.
+// The entry at the slot of a character. No two of the characters that are read have the same slot.
 #[inline(always)]
 fn entry(character: char) -> (char, Option<Capital>)
     ensures { result ≡ slice_index_or CAPITALS (character * 3227 / 1024 % 64) result }
@@ -174,7 +174,8 @@ fn entry(character: char) -> (char, Option<Capital>)
     CAPITALS[(character as u32 * 3227 / 1024 % 64) as usize]
 }
 
-/// What a character of either script is read as, by a look-up without a search.
+/// What a character of either script is read as, looked up without a search; `None` if it is not
+/// read.
 #[inline(always)]
 pub fn capital_of(character: char) -> Option<Capital>
     ensures { result ≡ capital_of character }

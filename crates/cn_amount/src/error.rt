@@ -40,11 +40,11 @@ impl From<AllocError> for AmountToChineseError {
 /// Why a text was not read as an amount.
 #[derive(Debug, Copy, Clone, Eq, PartialEq)]
 pub enum ChineseToAmountError {
-    /// Something is missing at the end: the text begins an amount, and is none. `壹佰元` wants 整 or
-    /// 伍角. The empty text is unfinished, too.
+    /// The text ends too soon: it is not an amount, but it begins one. `壹佰元` needs 整 or 伍角
+    /// after it. The empty text is unfinished too.
     Unfinished,
-    /// No amount begins with the text up to and with this character: so many characters of the
-    /// string stand in front of it. That is 3 for `壹佰贰元整`.
+    /// No amount begins with the text up to and including this character. `char_index` is how many
+    /// characters of the string come before it: 3 for `壹佰贰元整`.
     Incorrect { char_index: usize },
 }
 

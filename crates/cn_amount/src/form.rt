@@ -1,18 +1,18 @@
 use cn_core::ChineseVariant;
 
-/// What may be asked for where an amount is written; each is read anyway.
+/// The choices that a caller has when an amount is written. An amount is read whichever are made.
 #[derive(Debug, Clone, Copy, Eq, PartialEq)]
 pub struct AmountForm {
-    /// 人民币 (人民幣) in front.
+    /// Whether 人民币 (人民幣) is at the start.
     pub currency: bool,
-    /// 圆 (圓) in place of 元.
+    /// Whether 圆 (圓) is written in place of 元.
     pub round_yuan: bool,
-    /// 正 in place of 整.
+    /// Whether 正 is written in place of 整.
     pub upright_closing: bool,
 }
 
 impl AmountForm {
-    /// Nothing is asked for, as in 壹拾伍元整.
+    /// The form with none of these, as in 壹拾伍元整.
     pub const PLAIN: AmountForm = AmountForm {
         currency: false,
         round_yuan: false,
@@ -20,7 +20,7 @@ impl AmountForm {
     };
 }
 
-/// By what each capital of an amount is written.
+/// What decides the character that a capital of an amount is written with.
 #[derive(Clone, Copy)]
 pub struct Hand {
     pub variant: ChineseVariant,

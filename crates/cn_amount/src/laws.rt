@@ -9,7 +9,8 @@ ghost use Rattle.cn_amount.specs.Writes.{amount_text};
 pub mod signed;
 pub mod typed;
 
-/// What is written for an amount, in each form, is read as that amount, by the definition of reading.
+/// What is written for an amount, in each form, is read as that amount, by the definition of
+/// reading.
 pub fn written_amounts_are_amounts()
     ensures { (variant : ChineseVariant) → (form : AmountForm) → (amount : ℕ)
         → amount < amount_limit
@@ -29,8 +30,8 @@ pub fn each_text_has_one_answer()
         × ((other : Result ℕ AmountRefusal) → Answers text other → other ≡ answer) }
 {}
 
-/// For a form that judges at each key: each beginning of each form of an amount begins an amount,
-/// so it is unfinished or right, and never incorrect.
+/// Each prefix of each form of an amount begins an amount, so it is unfinished or an amount, and
+/// never incorrect. So an input form can judge a text at each key.
 pub fn beginnings_are_begun()
     ensures { (front behind : List ℕ) → (fen : ℕ)
         → IsAmount (front ++ behind) fen → (place : ℕ) → ¬ Answers front (Err (incorrect_at place)) }
@@ -41,7 +42,8 @@ pub fn amounts_are_below_the_limit()
     ensures { (text : List ℕ) → (fen : ℕ) → IsAmount text fen → fen < amount_limit }
 {}
 
-/// No form is long, so no text costs more than so many characters to read.
+/// A form has at most 39 characters, so a reader of a longer text stops at its 40th character at
+/// the latest.
 pub fn forms_are_short()
     ensures { (text : List ℕ) → (fen : ℕ) → IsAmount text fen → length text ≤ 39 }
 {}

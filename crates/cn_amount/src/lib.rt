@@ -1,19 +1,21 @@
-//! Amounts of money in Chinese capitals, as on cheques: written in one form, and read in each.
+//! Amounts of money in Chinese capitals, as on cheques: written in one form, and read in each form.
 //!
-//! What a form is stands in `specs/Form`, by places from the top: a digit that is not 0 with its
-//! unit, and 零 in front of it where the digit directly before it is 0. `Choices` are what the rules
-//! leave open; the form that is written makes one choice of each, but that 人民币 may be asked for, and
-//! so may 圆 and 正 in place of 元 and 整.
+//! `specs/Form` defines the forms of an amount, place by place from the top: a digit that is not 0
+//! is written with its unit, and 零 is written before it if the digit directly before it is 0.
+//! `Choices` has what the rules leave open. The form that is written makes one fixed choice of
+//! each, except that a caller can choose 人民币, and 圆 and 正 in place of 元 and 整.
 //!
-//! Writing puts that form piece by piece into room for the longest one, from which a string is made.
-//! Reading goes from the left, by states that say what may follow. What can still be written at each
-//! point of a form is a list of ways (`proofs/Points`), and each state stands for such a list, checked
-//! by computing it (`proofs/States`). So reading is right where forms are what is written along the
-//! ways: each form is (`proofs/FormsRead`), and nothing else is (`proofs/Accepted`). The sum that is
-//! taken on the way is the amount (`proofs/Values`).
+//! Writing copies that form piece by piece into a buffer for the longest form, and makes a string
+//! of it. Reading goes from left to right through states, each of which says what may follow. At
+//! each point of a form a list of ways says what can still be written (`proofs/Points`). Each state
+//! stands for such a list, which is checked by computing it (`proofs/States`). So reading is right
+//! if the forms are exactly what is written along the ways: each form is (`proofs/FormsRead`), and
+//! nothing else is (`proofs/Accepted`). The sum of the characters read is the amount
+//! (`proofs/Values`).
 //!
-//! An amount that may be below zero, and one as it is typed, are read by the same states behind a
-//! sieve, which passes over 負, or what is left out (`proofs/SignedReads`, `proofs/TypedReads`).
+//! An amount that may be below zero, and one as people type it, are read by the same states after a
+//! sieve that leaves out 負, or what a typed text may have besides (`proofs/SignedReads`,
+//! `proofs/TypedReads`).
 #![tactic(auto)]
 
 mod before;

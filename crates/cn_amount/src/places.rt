@@ -1,4 +1,4 @@
-// An amount by its decimal digits.
+// The decimal digits of an amount.
 ghost use Rattle.std.specs.Prelude.{◌≡◌, ◌<◌};
 ghost use Rattle.cn_amount.specs.Places.{section_of, places_of, AreDigits, ArePlaces};
 ghost use Rattle.cn_amount.specs.Form.{is_empty};
@@ -47,7 +47,7 @@ pub struct Places {
 }
 
 impl Places {
-    /// The digits of so many fen.
+    /// The digits of an amount in fen.
     pub fn of(amount: u64) -> Places
         ensures places { result ≡ places_of amount }
         ensures digits { ArePlaces result }

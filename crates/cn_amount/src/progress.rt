@@ -1,4 +1,4 @@
-// How far a text is read, and what is read of its sum.
+// The state of reading an amount, and the sum of what is read.
 ghost use Rattle.cn_amount.specs.Reading.{IsAmount};
 ghost use Rattle.cn_amount.specs.Working.Steps.{amount_machine};
 
@@ -7,7 +7,7 @@ use crate::state::State;
 use crate::sum::Sum;
 use cn_capitals::Grammar;
 
-/// What is read, and its sum.
+/// The state of reading an amount, and the sum so far.
 #[derive(Clone, Copy)]
 pub struct Progress {
     state: State,

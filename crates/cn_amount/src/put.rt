@@ -1,5 +1,5 @@
-// A form of an amount, put piece by piece: each digit that is not 0 with its unit, and 零 in front of
-// it where the digit directly before it is 0.
+// Writes a form of an amount, piece by piece: each digit that is not 0 with its unit, and 零 before
+// it if the digit directly before it is 0.
 ghost use Rattle.std.specs.Prelude.{◌≡◌, ◌<◌, pos, int_lt, true, List, [], ◌∷◌, ◌++◌, if◌then◌else◌};
 ghost use Rattle.cn_amount.specs.declared.capital.Capital.{Capital};
 ghost use Rattle.cn_amount.specs.declared.capital.Capital.TheVariants.{Ren, Min, Bi, Fu};
@@ -13,7 +13,7 @@ use crate::form::{AmountForm, Hand};
 use crate::places::{Places, Section};
 use cn_capitals::CapitalText;
 
-// A digit of a place that has no unit of its own.
+// Writes a digit of a place that has no unit of its own.
 fn put_digit(text: &mut CapitalText<Hand>, before: Before, digit: u8)
     requires { digit < 10 }
     ensures { PutsMore text.old text.new (place_text before digit []) }
@@ -26,7 +26,7 @@ fn put_digit(text: &mut CapitalText<Hand>, before: Before, digit: u8)
     }
 }
 
-/// A digit and its unit.
+/// Writes a digit and its unit, or nothing for 0.
 pub fn put_place(text: &mut CapitalText<Hand>, before: Before, digit: u8, unit: Capital)
     requires digit { digit < 10 }
     requires unit { IsWritten unit }
@@ -38,7 +38,7 @@ pub fn put_place(text: &mut CapitalText<Hand>, before: Before, digit: u8, unit: 
     }
 }
 
-/// Four digits.
+/// Writes four digits.
 pub fn put_section(text: &mut CapitalText<Hand>, before: Before, section: Section)
     requires { AreDigits section }
     ensures { PutsMore text.old text.new (section_text before section) }
@@ -51,7 +51,7 @@ pub fn put_section(text: &mut CapitalText<Hand>, before: Before, section: Sectio
     put_digit(text, before.after_digit(section.tens), section.ones);
 }
 
-// A section that 万 counts, and 万.
+// Writes a section that 万 counts, and 万, or nothing if each digit is 0.
 fn put_wan(text: &mut CapitalText<Hand>, before: Before, section: Section)
     requires { AreDigits section }
     ensures { PutsMore text.old text.new (wan_text before section) }
@@ -62,7 +62,7 @@ fn put_wan(text: &mut CapitalText<Hand>, before: Before, section: Section)
     }
 }
 
-// The section that 亿 counts, and 亿, if there is something that it counts.
+// Writes the section that 亿 counts, and 亿 if it counts something.
 fn put_yi(text: &mut CapitalText<Hand>, before: Before, section: Section)
     requires { AreDigits section }
     ensures { PutsMore text.old text.new (yi_text before section) }
@@ -73,7 +73,7 @@ fn put_yi(text: &mut CapitalText<Hand>, before: Before, section: Section)
     }
 }
 
-// Behind the yuan: 元, or 零元 for nothing at all.
+// Writes 元 after the yuan; if nothing was written, 零元 if `named`, and otherwise nothing.
 fn put_yuan_unit(text: &mut CapitalText<Hand>, after: Before, named: bool)
     ensures { PutsMore text.old text.new (yuan_unit after named) }
 {
@@ -85,7 +85,7 @@ fn put_yuan_unit(text: &mut CapitalText<Hand>, after: Before, named: bool)
     }
 }
 
-// The jiao, the fen, and 整 where there are no fen.
+// Writes the jiao and the fen, and 整 if there are no fen.
 fn put_small(text: &mut CapitalText<Hand>, before: Before, jiao: u8, fen: u8)
     requires jiao { jiao < 10 }
     requires fen { fen < 10 }
@@ -98,7 +98,7 @@ fn put_small(text: &mut CapitalText<Hand>, before: Before, jiao: u8, fen: u8)
     }
 }
 
-// From the section of 一 down.
+// Writes the section of the yuan, and what follows it.
 fn put_yuan(text: &mut CapitalText<Hand>, before: Before, places: Places)
     requires { ArePlaces places }
     ensures { PutsMore text.old text.new (from_yuan written before places) }
@@ -110,7 +110,7 @@ fn put_yuan(text: &mut CapitalText<Hand>, before: Before, places: Places)
     put_small(text, after.after_yuan_unit(named), places.jiao, places.fen);
 }
 
-// From the section of 万 down.
+// Writes the section that 万 counts, and what follows it.
 fn put_from_wan(text: &mut CapitalText<Hand>, before: Before, places: Places)
     requires { ArePlaces places }
     ensures { PutsMore text.old text.new (from_wan written before places) }
@@ -119,7 +119,7 @@ fn put_from_wan(text: &mut CapitalText<Hand>, before: Before, places: Places)
     put_yuan(text, before.after_wan(places.wan), places);
 }
 
-// From the section of 亿 down.
+// Writes the section that 亿 counts, and what follows it.
 fn put_from_yi(text: &mut CapitalText<Hand>, before: Before, places: Places)
     requires { ArePlaces places }
     ensures { PutsMore text.old text.new (from_yi written before places) }
@@ -128,7 +128,7 @@ fn put_from_yi(text: &mut CapitalText<Hand>, before: Before, places: Places)
     put_from_wan(text, before.after_section(places.yi), places);
 }
 
-// 人民币, where it is asked for.
+// Writes 人民币 if the form has it.
 fn put_currency(text: &mut CapitalText<Hand>, currency: bool)
     ensures { PutsMore text.old text.new (if currency then Ren ∷ Min ∷ Bi ∷ [] else []) }
 {
@@ -139,7 +139,7 @@ fn put_currency(text: &mut CapitalText<Hand>, currency: bool)
     }
 }
 
-/// 負, in front of an amount below zero.
+/// Writes 負 before an amount below zero.
 pub fn put_sign(text: &mut CapitalText<Hand>, fen: i64)
     ensures { PutsMore text.old text.new (if int_lt fen (pos 0) then Fu ∷ [] else []) }
 {
@@ -148,7 +148,7 @@ pub fn put_sign(text: &mut CapitalText<Hand>, fen: i64)
     }
 }
 
-/// The form that is written, as it is asked for.
+/// Writes an amount in a form.
 pub fn put_amount(text: &mut CapitalText<Hand>, form: AmountForm, places: Places)
     requires { ArePlaces places }
     ensures { PutsMore text.old text.new (amount_form (written_as form) places) }

@@ -1,4 +1,4 @@
-// Reading, by the states of an amount.
+// Reads amounts by their states.
 ghost use Rattle.std.specs.Prelude.{◌≡◌};
 ghost use Rattle.cn_amount.specs.Answer.{answer_of};
 ghost use Rattle.cn_amount.specs.Reading.{ReadsAmount};
@@ -11,7 +11,7 @@ use crate::signed::SignedProgress;
 use crate::typed::TypedProgress;
 use cn_capitals::{Refusal, read};
 
-// The same answer, with the error of amounts.
+// The same answer, with the error type of amounts.
 fn told<A>(answer: Result<A, Refusal>) -> Result<A, ChineseToAmountError>
     ensures { answer_of result ≡ answer }
 {
@@ -24,8 +24,8 @@ fn told<A>(answer: Result<A, Refusal>) -> Result<A, ChineseToAmountError>
     }
 }
 
-/// The amount for which a text in capitals stands, in fen: `Ok` exactly where the text is a form of
-/// an amount. It takes no memory.
+/// The amount, in fen, for which a text in capitals stands. It is `Ok` exactly if the text is a
+/// form of an amount. No memory is allocated.
 ///
 /// ```text
 /// chinese_to_amount("壹仟肆佰零玖元伍角整") == Ok(140_950)
@@ -34,21 +34,21 @@ fn told<A>(answer: Result<A, Refusal>) -> Result<A, ChineseToAmountError>
 /// chinese_to_amount("拾伍元整") == Err(ChineseToAmountError::Incorrect { char_index: 0 })
 /// ```
 ///
-/// `Unfinished` exactly where the text is no amount, and something behind it can make it one; else
-/// `Incorrect` at the first character with which no amount begins. White space is refused at its
-/// place, since nothing may be put in there.
+/// It is `Unfinished` exactly if the text is not an amount but something after it can make it one.
+/// Otherwise it is `Incorrect` at the first character with which no amount begins. White space is
+/// incorrect at its place, since nothing may be added there.
 pub fn chinese_to_amount(text: &str) -> Result<u64, ChineseToAmountError>
     ensures { ReadsAmount text.now (answer_of result) }
 {
-    // Told here, so that no register is saved for the reader.
+    // This is decided here, so that no registers are saved for the reader.
     if text.is_empty() {
         return Err(ChineseToAmountError::Unfinished);
     }
     told(read::<Progress>(text))
 }
 
-/// The amount for which a text in capitals stands, in fen, also behind 负 (負), as on red invoices:
-/// then it is below zero. It takes no memory.
+/// The amount, in fen, for which a text in capitals stands. After 负 (負), as on red invoices, the
+/// amount is below zero. No memory is allocated.
 ///
 /// ```text
 /// chinese_to_signed_amount("负壹拾伍元整") == Ok(-1_500)
@@ -57,17 +57,18 @@ pub fn chinese_to_amount(text: &str) -> Result<u64, ChineseToAmountError>
 /// chinese_to_signed_amount("负负壹元整") == Err(ChineseToAmountError::Incorrect { char_index: 1 })
 /// ```
 ///
-/// Each answer is as of `chinese_to_amount`, of these texts: the sign is unfinished, and the place
-/// of a character is counted from the front of the whole text. No rule of the banks has the sign.
+/// The answers are like those of `chinese_to_amount` for these texts: the sign alone is unfinished,
+/// and the place of a character is counted from the start of the whole text. No rule of the banks
+/// has the sign.
 pub fn chinese_to_signed_amount(text: &str) -> Result<i64, ChineseToAmountError>
     ensures { ReadsSignedAmount text.now (answer_of result) }
 {
     told(read::<SignedProgress>(text))
 }
 
-/// The amount for which a text in capitals stands as it is typed, in fen. White space is left out
-/// wherever it stands, and so are one ⊗ in front and one colon (`:` or `：`) directly behind 人民币 in
-/// front; what is left is read as by `chinese_to_amount`. It takes no memory.
+/// The amount, in fen, for which a text in capitals stands as people type it. White space is left
+/// out wherever it is, and so are one ⊗ at the start and one colon (`:` or `：`) directly after a
+/// 人民币 at the start. The rest is read as by `chinese_to_amount`. No memory is allocated.
 ///
 /// ```text
 /// chinese_to_amount_as_typed("人民币：壹拾伍元整") == Ok(1_500)
@@ -76,8 +77,9 @@ pub fn chinese_to_signed_amount(text: &str) -> Result<i64, ChineseToAmountError>
 /// chinese_to_amount_as_typed("⊗ 拾伍元整") == Err(ChineseToAmountError::Incorrect { char_index: 2 })
 /// ```
 ///
-/// `Unfinished` exactly where the text is no amount, and something behind it can make it one; else
-/// `Incorrect` at the first character of the text, as it is typed, with which none begins.
+/// It is `Unfinished` exactly if the text is not an amount but something after it can make it one.
+/// Otherwise it is `Incorrect` at the first character of the typed text with which no amount
+/// begins.
 pub fn chinese_to_amount_as_typed(text: &str) -> Result<u64, ChineseToAmountError>
     ensures { ReadsTypedAmount text.now (answer_of result) }
 {

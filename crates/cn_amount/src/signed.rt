@@ -1,4 +1,4 @@
-// How far a text is read as an amount that may be below zero.
+// The state of reading an amount that may be below zero.
 ghost use Rattle.std.specs.Prelude.{◌≡◌, ◌<◌};
 ghost use Rattle.std.specs.Char.{char_set_contains};
 ghost use Rattle.cn_core.specs.Whole.{signed_number};
@@ -9,25 +9,25 @@ ghost use Rattle.cn_amount.specs.Working.Signs.{keeps, next, is_below, signed_ma
 use crate::progress::Progress;
 use cn_capitals::Grammar;
 
-/// What stands in front of an amount.
+/// What is before an amount.
 #[derive(Clone, Copy)]
 pub enum Front {
-    /// Nothing is read.
+    /// Nothing has been read.
     Open,
-    /// Nothing.
+    /// Nothing is before it.
     Plain,
     /// 負, the minus sign.
     Minus,
 }
 
-// Whether a character is the minus sign.
+// Whether a character is a minus sign.
 fn is_minus(character: char) -> bool
     ensures { result ≡ char_set_contains minus_signs character }
 {
     matches!(character, '負' | '负')
 }
 
-// The amount that is below zero or not, with this magnitude.
+// The amount with this magnitude, below zero or not.
 fn signed_fen(is_below: bool, magnitude: u64) -> i64
     requires { magnitude < amount_limit }
     ensures { result ≡ signed_number is_below magnitude }
@@ -37,7 +37,7 @@ fn signed_fen(is_below: bool, magnitude: u64) -> i64
 }
 
 impl Front {
-    // Whether a character is one of the amount.
+    // Whether a character belongs to the amount.
     fn keeps(self, character: char) -> bool
         ensures { result ≡ keeps self character }
     {
@@ -47,7 +47,7 @@ impl Front {
         }
     }
 
-    // What stands in front, behind one more character.
+    // What is before the amount, after one more character.
     fn next(self, character: char) -> Front
         ensures { result ≡ next self character }
     {
@@ -66,7 +66,7 @@ impl Front {
     }
 }
 
-/// What stands in front, and what is read of the amount.
+/// What is before the amount, and the state of reading the amount.
 #[derive(Clone, Copy)]
 pub struct SignedProgress {
     front: Front,

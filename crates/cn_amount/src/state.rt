@@ -1,4 +1,4 @@
-// How far a text is read as an amount, from the left. Each state stands for what may follow.
+// The states of reading an amount from left to right. A state stands for what may follow.
 ghost use Rattle.std.specs.Prelude.{◌≡◌};
 ghost use Rattle.cn_amount.specs.Working.Steps.{behind_thousands, bare, close, digit_at, digit_below, after_unit, after_ling, after_great, first_digit, step, is_end};
 
@@ -13,25 +13,25 @@ pub enum Place {
     Thousands,
 }
 
-/// Which units may close a section.
+/// The units that may close a section.
 #[derive(Clone, Copy)]
 pub enum Stage {
     /// The first section: 万, 亿, 元.
     Top,
-    /// Behind a first 万: 亿, 元.
+    /// After a first 万: 亿, 元.
     BelowWan,
-    /// Behind 亿: 万, 元.
+    /// After 亿: 万, 元.
     BelowYi,
-    /// Behind 亿 and a 零 that no 0 at its place asks for: 万, 元; but 元 alone where 仟 stands in the
-    /// section, since then the whole section of 万 is left out.
+    /// After 亿 and 零, although the digit at the place of 亿 is not 0: 万, 元; but only 元 if 仟
+    /// is in the section, since then the whole section of 万 is left out.
     BelowYiGap,
-    /// Behind 亿 with no 零 behind it: 万, since no section is left out.
+    /// After 亿 with no 零 after it: 万, since no section is left out.
     OnlyWan,
-    /// Behind the last 万: 元.
+    /// After the last 万: 元.
     Last,
 }
 
-/// What is read.
+/// What has been read.
 #[derive(Clone, Copy)]
 pub enum State {
     /// Nothing.
@@ -42,7 +42,7 @@ pub enum State {
     AfterMin,
     /// 人民币
     AfterCurrency,
-    /// 零 in front of 元.
+    /// 零 before 元.
     NoYuan,
     /// The first digit.
     FirstDigit,
@@ -52,7 +52,7 @@ pub enum State {
     AfterYi(bool),
     /// The last 万, and whether the digit at its place is 0.
     AfterLastWan(bool),
-    /// 零, where a digit has to follow, at this place at most.
+    /// 零, after which a digit at this place or a lower one must follow.
     AfterLing(Stage, Place),
     /// A digit at this place.
     DigitAt(Stage, Place),
@@ -60,24 +60,24 @@ pub enum State {
     DigitBelow(Stage, Place),
     /// The unit of this place.
     AfterUnit(Stage, Place),
-    /// 元, and whether the digit in front of it is 0.
+    /// 元, and whether the digit before it is 0.
     AfterYuan(bool),
-    /// 零 behind it.
+    /// 零 after 元, and whether the digit before 元 is 0.
     AfterYuanLing(bool),
-    /// A digit behind that.
+    /// A digit after that 零, and the same.
     SmallDigit(bool),
-    /// A digit right behind 元.
+    /// A digit directly after 元.
     JiaoDigit,
     /// 角
     AfterJiao,
-    /// A digit behind 角.
+    /// A digit after 角.
     FenDigit,
-    /// All: nothing may follow.
+    /// A whole amount, which nothing may follow.
     Complete,
 }
 
 impl Stage {
-    // The stage of a section in which 仟 stands.
+    // The stage of a section that has 仟.
     fn behind_thousands(self) -> Stage
         ensures { result ≡ behind_thousands self }
     {
@@ -87,7 +87,7 @@ impl Stage {
         }
     }
 
-    // The stage of a section that begins with 仟 right behind 万 or 亿.
+    // The stage of a section that begins with 仟 directly after 万 or 亿.
     fn bare(self) -> Stage
         ensures { result ≡ bare self }
     {
@@ -97,7 +97,8 @@ impl Stage {
         }
     }
 
-    // What closes a section, whose last digit is 0 or not.
+    // The state after a section and the capital that closes it; `is_round` says whether its last
+    // digit is 0.
     #[inline(always)]
     fn close(self, is_round: bool, capital: Capital) -> Option<State>
         ensures { result ≡ close self is_round capital }
@@ -114,7 +115,7 @@ impl Stage {
         }
     }
 
-    // Behind a digit at a place.
+    // The state after a digit at a place and one more capital.
     #[inline(always)]
     fn digit_at(self, place: Place, capital: Capital) -> Option<State>
         ensures { result ≡ digit_at self place capital }
@@ -128,9 +129,9 @@ impl Stage {
         }
     }
 
-    // Behind a digit at a place or a lower one. At `Tens`, here and in `after_unit`, 佰, 仟 and 零 are
-    // refused by name, though `close` refuses them too: without that an empty text takes 22
-    // instructions from Rust, and with it 9.
+    // The state after a digit at a place or a lower one and one more capital. At `Tens`, here and
+    // in `after_unit`, 佰, 仟 and 零 are refused by name, although `close` refuses them too.
+    // Without that, reading an empty text takes 22 instructions from Rust; with it, 9.
     #[inline(always)]
     fn digit_below(self, place: Place, capital: Capital) -> Option<State>
         ensures { result ≡ digit_below self place capital }
@@ -156,7 +157,7 @@ impl Stage {
         }
     }
 
-    // Behind the unit of a place.
+    // The state after the unit of a place and one more capital.
     // Same answer (Capital::Ling → Capital::Shi #3): `close` refuses both 零 and 拾.
     #[inline(always)]
     fn after_unit(self, place: Place, capital: Capital) -> Option<State>
@@ -182,7 +183,8 @@ impl Stage {
         }
     }
 
-    // 零 right behind 万 or 亿, at whose place the digit is 0 or not.
+    // The state after a 零 directly after 万 or 亿; `is_round` says whether the digit at its place
+    // is 0.
     #[inline(always)]
     fn after_ling(self, is_round: bool) -> State
         ensures { result ≡ after_ling self is_round }
@@ -194,7 +196,7 @@ impl Stage {
         }
     }
 
-    // Right behind 万 or 亿.
+    // The state after a capital directly after 万 or 亿.
     #[inline(always)]
     fn after_great(self, is_round: bool, capital: Capital) -> Option<State>
         ensures { result ≡ after_great self is_round capital }
@@ -208,7 +210,7 @@ impl Stage {
     }
 }
 
-// Behind the first digit.
+// The state after the first digit and one more capital.
 #[inline(always)]
 fn first_digit(capital: Capital) -> Option<State>
     ensures { result ≡ first_digit capital }
@@ -221,8 +223,9 @@ fn first_digit(capital: Capital) -> Option<State>
 }
 
 impl State {
-    // All is told by one `match`: by two, a character outside of a section takes 4 instructions more.
-    /// The state after one more capital; `None` where no amount goes on so.
+    // One `match` decides all of this: with two, a character outside of a section takes 4
+    // instructions more.
+    /// The state after one more capital; `None` if no amount continues with it.
     #[inline(always)]
     pub fn step(self, capital: Capital) -> Option<State>
         ensures { result ≡ step self capital }

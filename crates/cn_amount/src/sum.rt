@@ -1,30 +1,31 @@
-// What a text stands for, summed from the left.
+// The value of a text, summed from left to right.
 ghost use Rattle.std.specs.Prelude.{◌≡◌, ◌+◌, ◌<◌};
 ghost use Rattle.cn_amount.specs.Places.{amount_limit};
 ghost use Rattle.cn_amount.specs.Working.Steps.{of_closed, with_section, with_fen, add, summed};
 
 use crate::capital::Capital;
 
-/// What the characters so far stand for.
+/// The value of the characters so far.
 #[derive(Clone, Copy)]
 pub struct Sum {
-    /// What is closed: yuan in front of 元, fen behind it; fen too where a text has 角 or 分 and no 元.
+    /// What is closed: yuan before 元, and fen after it. It is also fen in a text that has 角 or 分
+    /// and no 元.
     pub closed: u64,
-    /// The digits of the open section whose unit is read.
+    /// The digits of the open section whose units are read.
     pub section: u64,
-    /// A digit that waits for its unit.
+    /// A digit whose unit is not yet read.
     pub digit: u64,
 }
 
 impl Sum {
-    /// Of no characters.
+    /// The sum of no characters.
     pub const NONE: Sum = Sum {
         closed: 0,
         section: 0,
         digit: 0,
     };
 
-    // With so much more in the open section, where no digit waits.
+    // The sum with more in the open section, and no digit whose unit is not yet read.
     fn with_section(self, more: u64) -> Sum
         requires { self.section + more < amount_limit }
         ensures { result ≡ with_section self more }
@@ -36,7 +37,7 @@ impl Sum {
         }
     }
 
-    // So much, where no section is open.
+    // The sum with this closed, and no open section.
     fn of_closed(closed: u64) -> Sum
         ensures { result ≡ of_closed closed }
     {
@@ -47,7 +48,7 @@ impl Sum {
         }
     }
 
-    // With so many more fen, where no digit waits.
+    // The sum with more fen, and no digit whose unit is not yet read.
     fn with_fen(self, more: u64) -> Sum
         requires { self.closed + more < amount_limit }
         ensures { result ≡ with_fen self more }

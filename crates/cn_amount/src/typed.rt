@@ -1,4 +1,4 @@
-// How far a typed text is read as an amount.
+// The state of reading an amount as people type it.
 ghost use Rattle.std.specs.Prelude.{◌≡◌};
 ghost use Rattle.cn_amount.specs.Typed.{IsTypedAmount};
 ghost use Rattle.cn_amount.specs.Working.Typing.{leaves_out, advance, typed_machine};
@@ -6,25 +6,25 @@ ghost use Rattle.cn_amount.specs.Working.Typing.{leaves_out, advance, typed_mach
 use crate::progress::Progress;
 use cn_capitals::Grammar;
 
-/// What is seen of a text, as far as it says which characters are left out.
+/// What has been read of a text, as far as it decides which characters are left out.
 #[derive(Clone, Copy)]
 pub enum Seen {
     /// Nothing: ⊗ is left out.
     Nothing,
     /// ⊗
     Circle,
-    /// 人 in front.
+    /// 人 at the start.
     Ren,
     /// 人民
     Min,
     /// 人民币: a colon is left out.
     Currency,
-    /// All else: white space alone is left out.
+    /// Anything else: only white space is left out.
     Rest,
 }
 
 impl Seen {
-    // Whether a character is left out, which is no white space.
+    // Whether a character that is not white space is left out.
     fn leaves_out(self, character: char) -> bool
         ensures { result ≡ leaves_out self character }
     {
@@ -35,7 +35,7 @@ impl Seen {
         }
     }
 
-    // What is seen behind it.
+    // What has been read after one more character.
     fn advance(self, character: char) -> Seen
         ensures { result ≡ advance self character }
     {
@@ -49,7 +49,7 @@ impl Seen {
     }
 }
 
-/// What is seen, and what is read of the amount.
+/// What has been read, and the state of reading the amount.
 #[derive(Clone, Copy)]
 pub struct TypedProgress {
     seen: Seen,

@@ -1,4 +1,4 @@
-// Writing.
+// Writes amounts.
 ghost use Rattle.std.specs.Prelude.{◌≡◌, ◌<◌, ◌≤◌, nat_abs, length, encode_utf8_all};
 ghost use Rattle.cn_capitals.specs.Text.{text_bytes};
 ghost use Rattle.cn_amount.specs.Places.{amount_limit};
@@ -17,7 +17,7 @@ use std::alloc::Global;
 /// The first amount that is not written: 10^16 yuan, in fen.
 pub const AMOUNT_LIMIT: u64 = 1_000_000_000_000_000_000;
 
-/// The text of an amount below the limit, in room of its own.
+/// The text of an amount below the limit, in a buffer of its own.
 pub fn amount_text(variant: ChineseVariant, form: AmountForm, fen: u64) -> CapitalText<Hand>
     requires { fen < amount_limit }
     ensures bytes { text_bytes result ≡ encode_utf8_all (amount_text variant form fen) }
@@ -28,16 +28,15 @@ pub fn amount_text(variant: ChineseVariant, form: AmountForm, fen: u64) -> Capit
     text
 }
 
-/// The amount in capitals, as it stands on a cheque. It is given in fen, the hundredth part of a
-/// yuan.
+/// The amount in capitals, as on a cheque. The amount is given in fen, a hundredth of a yuan.
 ///
 /// ```text
 /// amount_to_chinese(alloc, ChineseVariant::Simple, 140_950) == Ok("壹仟肆佰零玖元伍角整")
 /// ```
 ///
-/// From 10^18 fen on the answer is `Overflow`, before memory is asked for: 万 and 亿 are not enough
-/// there, and 兆 is read by some as 10^6 and by others as 10^12 or 10^16. `OutOfMemory` where there
-/// is none for the text, which is one request of its size.
+/// From 10^18 fen on the result is `Overflow`, and no memory is requested: 万 and 亿 are not enough
+/// there, and 兆 is read by some as 10^6 and by others as 10^12 or 10^16. It is `OutOfMemory` if
+/// there is no memory for the text, which is requested once, in its size.
 pub fn amount_to_chinese(
     alloc: Global,
     variant: ChineseVariant,
@@ -48,7 +47,8 @@ pub fn amount_to_chinese(
     amount_to_chinese_as(alloc, variant, AmountForm::PLAIN, fen)
 }
 
-/// The amount in capitals, as `amount_to_chinese` writes it, but in the form that is asked for.
+/// The amount in capitals, as `amount_to_chinese` writes it, but in a given form. The errors are
+/// the same.
 ///
 /// ```text
 /// let form = AmountForm { currency: true, ..AmountForm::PLAIN };
@@ -68,8 +68,8 @@ pub fn amount_to_chinese_as(
     Ok(amount_text(variant, form, fen).to_string(alloc)?)
 }
 
-/// The text of an amount that may be below zero, with a magnitude below the limit, in room of its
-/// own.
+/// The text of an amount that may be below zero, with a magnitude below the limit, in a buffer of
+/// its own.
 pub fn signed_amount_text(variant: ChineseVariant, form: AmountForm, fen: i64) -> CapitalText<Hand>
     requires { nat_abs fen < amount_limit }
     ensures bytes { text_bytes result ≡ encode_utf8_all (signed_amount_text variant form fen) }
@@ -81,7 +81,7 @@ pub fn signed_amount_text(variant: ChineseVariant, form: AmountForm, fen: i64) -
     text
 }
 
-/// The amount in capitals, as `amount_to_chinese_as` writes it, but behind 负 (負) where it is below
+/// The amount in capitals, as `amount_to_chinese_as` writes it, but after 负 (負) if it is below
 /// zero, as on red invoices. No rule of the banks has the sign, and no cheque takes it.
 ///
 /// ```text
@@ -90,7 +90,7 @@ pub fn signed_amount_text(variant: ChineseVariant, form: AmountForm, fen: i64) -
 /// signed_amount_to_chinese(alloc, ChineseVariant::Simple, plain, 1_500) == Ok("壹拾伍元整")
 /// ```
 ///
-/// `Overflow` where the magnitude is 10^18 fen or more; all else as there.
+/// The result is `Overflow` if the magnitude is 10^18 fen or more, and otherwise as above.
 pub fn signed_amount_to_chinese(
     alloc: Global,
     variant: ChineseVariant,

@@ -44,7 +44,7 @@ use Rattle.cn_c.specs.Codes.{CN_DONE}
 use Rattle.cn_c.specs.Prints.{PutsIfItFits, PutsWritten, IsPrintedAs, way_written}
 use Rattle.cn_c.proofs.ReadBack.{put-text, IsAnswered, ReadsBackAs, own-read, read-by, read-named, read-spelled}
 
--- a text is plain digits where each of its marks is a digit
+-- a text is plain digits if each of its marks is a digit
 plain-marks : (text : List ℕ) → is_plain text ≡ list_all is_digit (marks_of text)
 plain-marks [] = refl
 plain-marks (c ∷ text) = by (digit_of c) (rank_of c) (plain-marks text) where
@@ -183,7 +183,7 @@ either-either kind Traditional case number old new len whole held h =
 either-either kind Simple case number old new len whole held h =
     either-simple kind case number old new len whole held h
 
--- so what is printed in any way is read in it
+-- so what is printed in any of these ways is read in that way
 pub read-back : (number : Number) (kind : Option IntegerType) (way : Option NamedWay) (script : Option ChineseVariant) (case : Option ChineseCase) (old new : List ℕ) (len : ℕ)
     → IsPrintedAs number kind way script case old CN_DONE new len
     → ReadsBackAs (take len new) kind way number

@@ -1,4 +1,5 @@
--- Steps of a loop that fills an array of what it takes from a list, and that nothing is found at the end.
+-- Steps of a loop that fills an array with values from a list; and nothing is found at the end of a
+-- text.
 use Rattle.std.proofs.Common.{◌≡◌, ℕ, ◌+◌, ◌<◌, ◌≤◌, List, [], ◌∷◌, ◌++◌, length, map, take, drop, set, refl, sym, ap, arith, add-one, zero, suc, subst, ◌∙◌}
 use Rattle.std.proofs.Math.Seq.{drop-length, take-nil}
 use Rattle.std.proofs.lemmas.Str.{IsCharBoundary-end}
@@ -8,7 +9,7 @@ use Rattle.cn_c.specs.declared.finding.Span.{Span}
 use Rattle.cn_c.specs.Codes.{CN_DONE}
 use Rattle.cn_c.specs.Finds.{Fills, FindsFrom, Search, span_told, spans_told}
 
--- where one is left, it is put behind those that were
+-- if a value is left, it is written after those that were
 filled-suc : {A B : Type 0} (f : A → B) (n : ℕ) (all rest : List A) (old : List B) (x : A)
     → drop n all ≡ x ∷ rest → n < length old
     → set (map f (take n all) ++ drop n old) n (f x)
@@ -39,7 +40,7 @@ pub left : {A : Type 0} (n : ℕ) (all rest : List A) (x : A) → drop n all ≡
     → drop (n + 1) all ≡ rest
 left n all rest x e = rw add-one (left-suc n all rest x e)
 
--- one that is left is one of them
+-- a value that is left is one of the list
 pub within : {A : Type 0} (n : ℕ) (all rest : List A) (x : A) → drop n all ≡ x ∷ rest
     → n + 1 ≤ length all
 within zero [] rest x e = cc
@@ -47,7 +48,7 @@ within zero (a ∷ all) rest x e = omega arith
 within (suc n) [] rest x e = cc
 within (suc n) (a ∷ all) rest x e = omega (arith, within n all rest x e)
 
--- where none is left, as many as there may be are all
+-- if no value is left, taking the most that there may be takes all of them
 pub taken : {A : Type 0} (n most : ℕ) (all : List A) → drop n all ≡ [] → n ≤ most
     → take most all ≡ take n all
 taken zero zero [] e l = refl
@@ -59,7 +60,7 @@ taken (suc n) zero (a ∷ all) e l = absurd (omega (arith, l))
 taken (suc n) (suc most) (a ∷ all) e l =
     ap (λ xs. a ∷ xs) (taken n most all e (omega (arith, l)))
 
--- at the end of a text none is left
+-- at the end of a text no run is left
 nothing-told : (search : Search) (text : List ℕ) (most : ℕ)
     → spans_told search text (length text) most ≡ []
 nothing-told search text most =

@@ -1,4 +1,4 @@
--- Of each law that has premises, values that meet all of them.
+-- For each law with premises, values that meet all of them.
 use Rattle.std.proofs.Common.{ℕ, ◌-◌, ◌^◌, negsuc, List, ◌++◌, codes, encode_utf8_all, inl, replicate, refl, arith}
 use Rattle.std.specs.Char.{encode_utf8}
 use Rattle.std.specs.Fmt.{digits}
@@ -13,11 +13,12 @@ use Rattle.cn_c.specs.Prints.{IsPrinted}
 use Rattle.cn_c.specs.QuantityPrints.{IsQuantityPrinted}
 use Rattle.cn_c.specs.SignedAmounts.{IsSignedPrinted}
 
--- this many bytes, each 0: the room before a call, and what the call leaves of it
+-- this many bytes, each 0: the buffer before a call, and the part of it that the call does not
+-- change
 abbrev room : ℕ → List ℕ
 room bytes = replicate bytes 0
 
--- a string by its bytes
+-- the bytes of a string
 abbrev string : List ℕ → List ℕ
 string characters = encode_utf8_all characters
 

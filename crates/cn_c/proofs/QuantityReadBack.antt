@@ -30,7 +30,7 @@ use Rattle.cn_c.specs.Quantities.{IsQuantityReadAs, TellsQuantity, method_of}
 use Rattle.cn_c.specs.QuantityPrints.{PutsQuantity, IsQuantityPrintedAs}
 use Rattle.cn_c.proofs.ReadBack.{put-text, utf8-scalars}
 
--- what is told of a quantity's text
+-- the result of reading the text of a quantity is that quantity
 abbrev IsBack : ExactQuantity → ChineseCountMethod → List ℕ → Type 0
 IsBack quantity method bytes =
     IsUtf8 bytes × ((status : ℕ) (told : Quantity)
@@ -38,7 +38,7 @@ IsBack quantity method bytes =
     → (status ≡ CN_DONE) × (number_of true told.numerator ≡ quantity.numerator)
     × (number_of false told.denominator ≡ pos quantity.denominator))
 
--- of a text that is read as a quantity
+-- a text that is read as a quantity with the same numerator and denominator
 read-back : (quantity read : ExactQuantity) (method : ChineseCountMethod) (bytes : List ℕ)
     → IsUtf8 bytes → quantity_answer method bytes ≡ Ok read
     → read.numerator ≡ quantity.numerator → read.denominator ≡ quantity.denominator
@@ -58,7 +58,7 @@ not-done : (below : Bool) → CN_DONE ≡ (if below then CN_TOO_SMALL else CN_TO
 not-done true e = omega (arith, e)
 not-done false e = omega (arith, e)
 
--- what a method writes another reads
+-- one method writes the quantity, and another reads the text
 abbrev IsReadBy : ExactQuantity → ChineseVariant → ChineseCase → ChineseCountMethod
     → ChineseCountMethod → Type 0
 IsReadBy quantity script case write read =
@@ -106,7 +106,7 @@ exact-back quantity write read script case old new len held fits reads put =
       over true is put = absurd (omega (arith, put.0))
       over false is put = by (is_written_by write quantity) refl (grind (arith, is)) put
 
--- by one method
+-- the same method writes and reads
 own-back : (quantity : ExactQuantity) (method : ChineseCountMethod) (script : ChineseVariant)
     (case : ChineseCase) (old new : List ℕ) (len : ℕ)
     → holds (signed_kind 128) quantity.numerator ≡ true → quantity.denominator < 2 ^ 128
@@ -116,7 +116,7 @@ own-back quantity method script case old new len held fits put =
     exact-back quantity method method script case old new len held fits
     (λ above written. numerals-read script case method quantity held above fits written) put
 
--- either way
+-- the quantity is written and read either way
 either-back : (quantity : ExactQuantity) (script : ChineseVariant) (case : ChineseCase)
     (old new : List ℕ) (len : ℕ)
     → holds (signed_kind 128) quantity.numerator ≡ true → quantity.denominator < 2 ^ 128
@@ -136,7 +136,7 @@ either-back quantity Simple case old new len held fits put =
           (each-below (10 ^ 16) (spelled_numbers quantity) (grind (arith, nat_tests, e)))) put
       by false e put = own-back quantity TenThousand Simple case old new len held fits put
 
--- two halves are a number of 128 bits
+-- two halves are a number that 128 bits hold
 halves-held : (number : Number) → AreHalves number → holds (signed_kind 128) (number_of true number) ≡ true
 halves-held number are = grind (arith, ints, are.0, are.1)
 

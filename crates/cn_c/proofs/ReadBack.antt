@@ -37,7 +37,7 @@ use Rattle.cn_c.specs.Halves.{number_of}
 use Rattle.cn_c.specs.Prints.{PutsNothing, PutsIfItFits, PutsWritten, PrintsNumber, IsPrintedAs, way_written}
 use Rattle.cn_c.specs.Reads.{Tells, ReadsInto, IsReadAs, way_meant}
 
--- what is put where all goes well
+-- the text is written if the status is DONE
 pub put-text : (text old new : List ℕ) (len : ℕ) → PutsIfItFits text old CN_DONE new len
     → take len new ≡ text
 put-text text old new len = by (nat_le (length text) (length old)) where
@@ -62,7 +62,7 @@ utf8-signed_text : (variant : ChineseVariant) (case : ChineseCase) (negative : B
 utf8-signed_text variant case true marks h = IsUtf8-append _ _ (IsUtf8-three _ (three-minus variant)) (utf8-scalars _ (IsReadBack-marks variant case marks h).scalars)
 utf8-signed_text variant case false marks h = utf8-scalars _ (IsReadBack-marks variant case marks h).scalars
 
--- a number that one method spells is read by another that reads it
+-- a number that one method spells is read by another method that reads it
 pub read-spelled : (kind : Kind) (write read : ChineseCountMethod) (script : ChineseVariant) (case : ChineseCase) (number : ℤ) (old new : List ℕ) (len : ℕ) → IsWhole kind → holds kind number ≡ true
     → IsReadBy write read (nat_abs number)
     → PutsIfItFits (encode_utf8_all (spelled_text script case write number)) old CN_DONE new len
@@ -76,14 +76,14 @@ read-spelled kind write read script case number old new len whole held is h =
       λ answer r. Reads-same kind read (encode_utf8_all (spelled_text script case write number)) answer (Ok number) r (Reads-by kind write read script case number whole held is),
     )
 
--- what a method writes it reads
+-- a method reads what it writes
 pub own-read : (kind : Kind) (method : ChineseCountMethod) (number : ℤ) → IsWhole kind → holds kind number ≡ true
     → is_printable method number ≡ true → IsReadBy method method (nat_abs number)
 own-read kind method number whole held e =
     let small = whole.fits number held in
     IsReadBy-own method (nat_abs number) small (below_square method number small e)
 
--- a number that is printed in a way is read in it
+-- a number that is printed in a way is read in that way
 pub read-by : (kind : Kind) (way : Way) (script : ChineseVariant) (case : ChineseCase) (number : ℤ) (old new : List ℕ) (len : ℕ) → IsWhole kind → holds kind number ≡ true
     → PutsWritten (written_by way script case number) old CN_DONE new len
     → IsUtf8 (take len new) × ((answer : Result ℤ Refusal) → ReadsBy kind way (take len new) answer
@@ -129,14 +129,14 @@ whole I32 = signed-whole 32 (omega arith)
 whole I64 = signed-whole 64 (omega arith)
 whole I128 = signed-whole 128 (omega arith)
 
--- and so it is told
+-- the result for a number is that number
 told : (signed : Bool) (text : List ℕ) (value : ℤ) (status : ℕ) (reading : Reading)
     (answer : Result ℤ Refusal) → answer ≡ Ok value → Tells signed text answer status reading
     → (status ≡ CN_DONE) × (number_of signed reading.number ≡ value)
     × (reading.char_index ≡ 0) × (reading.byte_index ≡ 0)
 told signed text value status reading answer e tells = rw e at tells
 
--- the bytes are read back, by the type and the way that two codes name
+-- the bytes are read back as the number, by a type and a way that may be named
 abbrev pub ReadsBackAs : List ℕ → Option IntegerType → Option NamedWay → Number → Type 0
 ReadsBackAs bytes kind way number =
     IsUtf8 bytes × ((status : ℕ) (reading : Reading) → IsReadAs kind way bytes status reading
@@ -145,7 +145,7 @@ ReadsBackAs bytes kind way number =
     ≡ number_of (the_kind kind).signed number)
     × (reading.char_index ≡ 0) × (reading.byte_index ≡ 0))
 
--- what is printed in one way is answered in another by its number
+-- what is printed in one way is read in another as its number
 abbrev pub IsAnswered : NamedWay → NamedWay → Type 0
 IsAnswered way to_read = (kind : Kind) (script : ChineseVariant) (case : ChineseCase) (number : ℤ)
     (old new : List ℕ) (len : ℕ) → IsWhole kind → holds kind number ≡ true

@@ -1,9 +1,9 @@
--- What is told of a printed text.
+-- The result of reading a printed text.
 use Rattle.std.proofs.Common.{◌≡◌, ℕ, MatchBool, List, Result, Ok, subst}
 use Rattle.std.proofs.lemmas.Str.{is_utf8-from_IsUtf8}
 use Rattle.std.specs.Str.{IsUtf8, is_utf8}
 
--- of a text that has one answer, that answer is told
+-- the result of reading a text with only one answer is that answer
 pub told-back : {A R Told : Type 0} (Reads : List ℕ → Result A R → Type 0)
     (Tells : List ℕ → Result A R → ℕ → Told → Type 0) (NotUtf8 : ℕ → Told → Type 0)
     (bytes : List ℕ) (value : A) → IsUtf8 bytes

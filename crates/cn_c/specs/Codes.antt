@@ -1,4 +1,4 @@
--- What each code names and what each status says, as in `chinese_number.h`.
+-- What each code means, and what each status says, as in `chinese_number.h`.
 use Rattle.std.specs.Prelude.{ℕ, Bool, true, false, List, [], ◌∷◌, ◌++◌, map}
 use Rattle.chinese_number.specs.declared.AmountForm.{AmountForm}
 use Rattle.chinese_number.specs.declared.ChineseCase.{ChineseCase}
@@ -20,11 +20,11 @@ use Rattle.cn_faces.specs.declared.Way.TheVariants.{Digits, Units}
 abbrev pub kinds : List IntegerType
 kinds = U8 ∷ U16 ∷ U32 ∷ U64 ∷ U128 ∷ I8 ∷ I16 ∷ I32 ∷ I64 ∷ I128 ∷ []
 
--- the ways, likewise, but for either way
+-- the ways in the order of their codes from 0 on, except either way
 abbrev pub ways : List Way
 ways = Digits ∷ Units Low ∷ Units TenThousand ∷ Units Middle ∷ Units High ∷ []
 
--- these, and behind them either way
+-- those ways, and either way after them
 abbrev pub named_ways : List NamedWay
 named_ways = map By ways ++ Either ∷ []
 
@@ -46,7 +46,7 @@ scripts = Traditional ∷ Simple ∷ []
 abbrev pub cases : List ChineseCase
 cases = Upper ∷ Lower ∷ []
 
--- the form of an amount: whether 人民币 stands in front, 圆 in place of 元, and 正 in place of 整
+-- the form of an amount, by whether 人民币 is at its start, 圆 replaces 元, and 正 replaces 整
 abbrev pub asking : Bool → Bool → Bool → AmountForm
 asking currency round upright = record {
   currency = currency;
@@ -54,7 +54,7 @@ asking currency round upright = record {
   upright_closing = upright;
 }
 
--- the forms: the first counts 1, the second 2 and the third 4
+-- the forms in the order of their codes: 人民币 adds 1, 圆 adds 2 and 正 adds 4
 abbrev pub forms : List AmountForm
 forms =
     asking false false false ∷ asking true false false ∷ asking false true false
@@ -67,26 +67,31 @@ units =
     Ge ∷ Shi ∷ Bai ∷ Qian ∷ Wan ∷ Yi ∷ Zhao ∷ Jing ∷ Gai ∷ Zi ∷ Rang ∷ Gou ∷ Jian ∷ Zheng ∷ Zai
     ∷ Ji ∷ []
 
--- the flags that are told of a number in a text
+-- the flags of a number in a text
 abbrev pub CN_PLAIN_DIGITS : ℕ
 CN_PLAIN_DIGITS = 1
 
+-- the text around the number does not continue it
 abbrev pub CN_STANDS_ALONE : ℕ
 CN_STANDS_ALONE = 2
 
+-- the number is approximate
 abbrev pub CN_ABOUT : ℕ
 CN_ABOUT = 4
 
+-- the number is one Chinese character
 abbrev pub CN_ONE_CHARACTER : ℕ
 CN_ONE_CHARACTER = 8
 
--- more flags of what is asked for, which tell nothing of a number
+-- more options of the call that replaces quantities, which are not flags of a number
 abbrev pub CN_DOUBTFUL : ℕ
 CN_DOUBTFUL = 16
 
+-- great units are not kept
 abbrev pub CN_EXPANDED : ℕ
 CN_EXPANDED = 32
 
+-- figures are rewritten in ASCII, without commas and leading zeros
 abbrev pub CN_CANONICAL : ℕ
 CN_CANONICAL = 64
 
@@ -112,7 +117,7 @@ CN_DOUBT_TIME = 5
 abbrev pub CN_DOUBT_RANGE : ℕ
 CN_DOUBT_RANGE = 6
 
--- whether the forms of the upper case are looked for
+-- whether a search looks for the forms of the upper case too
 abbrev pub uppers : List Bool
 uppers = false ∷ true ∷ []
 
@@ -120,11 +125,11 @@ uppers = false ∷ true ∷ []
 abbrev pub CN_DONE : ℕ
 CN_DONE = 0
 
--- nothing is left of the text
+-- the text is empty without its white space and, for a signed type, one sign
 abbrev pub CN_EMPTY : ℕ
 CN_EMPTY = 1
 
--- a character cannot stand where it stands
+-- a character cannot be where it is
 abbrev pub CN_INCORRECT : ℕ
 CN_INCORRECT = 2
 
@@ -136,11 +141,11 @@ CN_TOO_LARGE = 3
 abbrev pub CN_TOO_SMALL : ℕ
 CN_TOO_SMALL = 4
 
--- the bytes are no UTF-8
+-- the bytes are not UTF-8, or a search does not begin at a character or at the end of the text
 abbrev pub CN_NOT_UTF8 : ℕ
 CN_NOT_UTF8 = 5
 
--- the text does not fit the room
+-- the text does not fit the buffer
 abbrev pub CN_NO_ROOM : ℕ
 CN_NO_ROOM = 6
 
@@ -152,7 +157,7 @@ CN_NOT_HELD = 7
 abbrev pub CN_UNKNOWN : ℕ
 CN_UNKNOWN = 8
 
--- the text is no amount, or no date, and something behind it can make it one
+-- the text is not an amount or a date, but something after it can make it one
 abbrev pub CN_UNFINISHED : ℕ
 CN_UNFINISHED = 9
 
@@ -164,7 +169,7 @@ CN_NOT_A_DATE = 11
 abbrev pub CN_NOT_A_QUANTITY : ℕ
 CN_NOT_A_QUANTITY = 12
 
--- the status that tells a refusal
+-- the status that a refusal has
 abbrev pub refusal_status : Refusal → ℕ
 refusal_status empty = CN_EMPTY
 refusal_status (incorrect_at char_index) = CN_INCORRECT

@@ -1,4 +1,4 @@
--- What the calls for dates answer.
+-- What the calls for dates write and return.
 use Rattle.std.specs.Prelude.{◌≡◌, ℕ, ◌⊎◌, List, encode_utf8_all, Option, Some, Result, Ok, Err, slice_get}
 use Rattle.std.specs.Bool.{MatchBool}
 use Rattle.std.specs.Str.{is_utf8}
@@ -12,23 +12,24 @@ use Rattle.cn_judge.specs.ByteIndex.{byte_index}
 use Rattle.cn_c.specs.Codes.{scripts, CN_DONE, CN_INCORRECT, CN_NOT_UTF8, CN_UNKNOWN, CN_UNFINISHED, CN_NOT_A_DATE}
 use Rattle.cn_c.specs.Prints.{PutsNothing, PutsIfItFits}
 
--- the date of three numbers, which need not be one that there is
+-- the date of three numbers, which need not exist
 abbrev pub date : ℕ → ℕ → ℕ → BillDate
 date year month day = record { year = year; month = month; day = day }
 
--- what is put for a date in a script, if one names it: its text, if there is such a date
+-- the result of printing a date in a script, or UNKNOWN if none is named: the text of the date if
+-- it exists, and NOT_A_DATE otherwise
 abbrev pub IsDatePrintedAs : BillDate → Option ChineseVariant → List ℕ → ℕ → List ℕ → ℕ → Type 0
 IsDatePrintedAs date (Some script) old status new len =
     (IsDate date × PutsIfItFits (encode_utf8_all (date_text script date)) old status new len)
     ⊎ (¬ IsDate date × PutsNothing CN_NOT_A_DATE old status new len)
 IsDatePrintedAs date script old status new len = PutsNothing CN_UNKNOWN old status new len
 
--- what is put for a year, a month, a day and the code of a script
+-- the result of printing a date, given a year, a month, a day and the code of a script
 abbrev pub IsDatePrinted : ℕ → ℕ → ℕ → ℕ → List ℕ → ℕ → List ℕ → ℕ → Type 0
 IsDatePrinted year month day script old status new len =
     IsDatePrintedAs (date year month day) (slice_get scripts script) old status new len
 
--- what is told of a date, and where there is none
+-- what is written for a date
 abbrev pub date_told : BillDate → Date
 date_told date = record {
   year = date.year;
@@ -38,18 +39,19 @@ date_told date = record {
   byte_index = 0;
 }
 
+-- what is written if there is no date: zeros, and the position of a fault
 abbrev pub no_date : ℕ → ℕ → Date
 no_date char_index byte_index =
     record { year = 0; month = 0; day = 0; char_index = char_index; byte_index = byte_index }
 
--- how an answer to a text is told: by the status and what is written
+-- the answer to a text is shown by the status and by what is written
 abbrev pub TellsDate : List ℕ → Result BillDate DateRefusal → ℕ → Date → Type 0
 TellsDate text (Ok date) status told = (status ≡ CN_DONE) × (told ≡ date_told date)
 TellsDate text (Err unfinished) status told = (status ≡ CN_UNFINISHED) × (told ≡ no_date 0 0)
 TellsDate text (Err (incorrect_at char_index)) status told =
     (status ≡ CN_INCORRECT) × (told ≡ no_date char_index (byte_index text char_index))
 
--- what is told of bytes
+-- the result of reading bytes as a date
 abbrev pub IsDateRead : List ℕ → ℕ → Date → Type 0
 IsDateRead bytes status told =
     MatchBool (is_utf8 bytes)

@@ -1,4 +1,4 @@
--- Quantities as C has them, and what a call that reads them answers.
+-- Quantities as C passes them, and what a call that reads them writes and returns.
 use Rattle.std.specs.Prelude.{◌≡◌, ℕ, pos, true, false, List, [], ◌∷◌, Option, Some, None, Result, Ok, Err, slice_get}
 use Rattle.std.specs.Option.{option_map}
 use Rattle.std.specs.Bool.{MatchBool}
@@ -18,14 +18,14 @@ use Rattle.cn_c.specs.Codes.{named_ways, refusal_status, CN_DONE, CN_NOT_UTF8, C
 use Rattle.cn_c.specs.Halves.{bits_of, number_of}
 use Rattle.cn_c.specs.Reads.{chars_in_front, bytes_in_front}
 
--- the method by which a quantity is read: that of a way with units, and either way the standard one,
--- since a quantity may be plain digits by each
+-- the method by which a quantity is read: that of a way with units, and for either way the standard
+-- one, since a quantity in plain digits is read under each method
 abbrev pub method_of : Option NamedWay → Option ChineseCountMethod
 method_of (Some (By (Units method))) = Some method
 method_of (Some Either) = Some TenThousand
 method_of way = None
 
--- the codes of the forms
+-- the code of a form
 abbrev pub form_code : QuantityForm → ℕ
 form_code Whole = 0
 form_code Decimal = 1
@@ -36,7 +36,7 @@ form_code Fraction = 3
 abbrev pub quantity_forms : List QuantityForm
 quantity_forms = Whole ∷ Decimal ∷ Percent ∷ Fraction ∷ []
 
--- the quantity that halves and the code of a form are, if it names one
+-- the quantity that halves and the code of a form stand for, if the code names a form
 abbrev pub quantity_of : Quantity → Option ExactQuantity
 quantity_of told =
     option_map (λ form. record {
@@ -46,7 +46,7 @@ quantity_of told =
     })
     (slice_get quantity_forms told.form)
 
--- what is told where there is no quantity
+-- what is written if there is no quantity: zeros, and the position of a fault
 abbrev pub no_quantity : ℕ → ℕ → Quantity
 no_quantity char_index byte_index = record {
   numerator = record { low = 0; high = 0 };
@@ -56,7 +56,7 @@ no_quantity char_index byte_index = record {
   byte_index = byte_index;
 }
 
--- these halves and this code are of the quantity, and no place is told
+-- the halves and the code of the form are those of the quantity, and the position is 0
 pub record IsTold (quantity : ExactQuantity) (told : Quantity) : Type 0 where
   pub numerator : number_of true told.numerator ≡ quantity.numerator
   pub denominator : number_of false told.denominator ≡ pos quantity.denominator
@@ -64,21 +64,21 @@ pub record IsTold (quantity : ExactQuantity) (told : Quantity) : Type 0 where
   pub char_index : told.char_index ≡ 0
   pub byte_index : told.byte_index ≡ 0
 
--- how an answer to a text is told: by the status and what is written
+-- the answer to a text is shown by the status and by what is written
 abbrev pub TellsQuantity : List ℕ → Result ExactQuantity Refusal → ℕ → Quantity → Type 0
 TellsQuantity text (Ok quantity) status told = (status ≡ CN_DONE) × IsTold quantity told
 TellsQuantity text (Err refusal) status told =
     (status ≡ refusal_status refusal)
     × (told ≡ no_quantity (chars_in_front refusal) (bytes_in_front text refusal))
 
--- what is told of bytes, by the method that a code names
+-- the result of reading bytes as a quantity by a method, or UNKNOWN if none is named
 abbrev pub IsQuantityReadAs : Option ChineseCountMethod → List ℕ → ℕ → Quantity → Type 0
 IsQuantityReadAs (Some method) bytes status told =
     MatchBool (is_utf8 bytes) (TellsQuantity bytes (quantity_answer method bytes) status told)
     ((status ≡ CN_NOT_UTF8) × (told ≡ no_quantity 0 0))
 IsQuantityReadAs None bytes status told = (status ≡ CN_UNKNOWN) × (told ≡ no_quantity 0 0)
 
--- what is told of bytes and the code of a method
+-- the result of reading bytes as a quantity, given the code of a method
 abbrev pub IsQuantityRead : List ℕ → ℕ → ℕ → Quantity → Type 0
 IsQuantityRead bytes method status told =
     IsQuantityReadAs (method_of (slice_get named_ways method)) bytes status told

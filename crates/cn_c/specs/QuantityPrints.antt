@@ -1,4 +1,4 @@
--- What the calls that print quantities answer.
+-- What the calls that print quantities write and return.
 use Rattle.std.specs.Prelude.{ℕ, ◌==◌, pos, int_lt, List, Option, Some, None, MatchOption, slice_get, if◌then◌else◌}
 use Rattle.std.specs.Bool.{MatchBool}
 use Rattle.chinese_number.specs.declared.ChineseCase.{ChineseCase}
@@ -17,7 +17,8 @@ use Rattle.cn_c.specs.Codes.{cases, named_ways, scripts, CN_NOT_A_QUANTITY, CN_T
 use Rattle.cn_c.specs.Prints.{PutsNothing, PutsIfItFits}
 use Rattle.cn_c.specs.Quantities.{quantity_of}
 
--- what is put for a quantity: its text, or why there is none
+-- the result of printing a quantity by a method: its text, or the status that says why there is
+-- none
 abbrev pub PutsQuantity : ExactQuantity → ChineseCountMethod → ChineseVariant → ChineseCase
     → List ℕ → ℕ → List ℕ → ℕ → Type 0
 PutsQuantity quantity method script case old status new len =
@@ -27,8 +28,8 @@ PutsQuantity quantity method script case old status new len =
     (PutsNothing (if int_lt quantity.numerator (pos 0) then CN_TOO_SMALL else CN_TOO_LARGE) old
     status new len))
 
--- the method by which a quantity is written: that of a way with units, and either way that of the
--- greatest number that is spelled in it
+-- the method by which a quantity is written: that of a way with units, and for either way that of
+-- the greatest number that is spelled in it
 abbrev pub method_written : Option NamedWay → ChineseVariant → ExactQuantity
     → Option ChineseCountMethod
 method_written (Some (By (Units method))) script quantity = Some method
@@ -36,7 +37,8 @@ method_written (Some Either) script quantity =
     Some (written_method script (greatest_spelled quantity))
 method_written way script quantity = None
 
--- what is put for what a quantity and three codes name
+-- the result of printing a quantity, or UNKNOWN if the quantity has no form, or a method, script or
+-- case is not named
 abbrev pub IsQuantityPrintedAs : Option ExactQuantity → Option NamedWay → Option ChineseVariant
     → Option ChineseCase → List ℕ → ℕ → List ℕ → ℕ → Type 0
 IsQuantityPrintedAs (Some quantity) way (Some script) (Some case) old status new len =
@@ -45,18 +47,19 @@ IsQuantityPrintedAs (Some quantity) way (Some script) (Some case) old status new
 IsQuantityPrintedAs quantity way script case old status new len =
     PutsNothing CN_UNKNOWN old status new len
 
--- what is put for a quantity and the codes of a method, a script and a case
+-- the result of printing a quantity, given the codes of a method, a script and a case
 abbrev pub IsQuantityPrinted : Quantity → ℕ → ℕ → ℕ → List ℕ → ℕ → List ℕ → ℕ → Type 0
 IsQuantityPrinted quantity method script case old status new len =
     IsQuantityPrintedAs (quantity_of quantity) (slice_get named_ways method)
     (slice_get scripts script) (slice_get cases case) old status new len
 
--- what is put of a quantity in figures, if it has a form
+-- the result of printing a quantity in figures, or UNKNOWN if it has no form
 abbrev pub IsFiguresPrintedAs : Option ExactQuantity → List ℕ → ℕ → List ℕ → ℕ → Type 0
 IsFiguresPrintedAs (Some quantity) old status new len =
     PutsIfItFits (figures_text quantity) old status new len
 IsFiguresPrintedAs quantity old status new len = PutsNothing CN_UNKNOWN old status new len
 
+-- the result of printing a quantity in figures
 abbrev pub IsFiguresPrinted : Quantity → List ℕ → ℕ → List ℕ → ℕ → Type 0
 IsFiguresPrinted quantity old status new len =
     IsFiguresPrintedAs (quantity_of quantity) old status new len

@@ -1,4 +1,4 @@
--- What the call that replaces the quantities of a text answers.
+-- What the call that replaces the quantities of a text writes and returns.
 use Rattle.std.specs.Prelude.{◌≡◌, ℕ, ◌-◌, ◌/◌, ◌%◌, ◌^◌, ◌==◌, min, nat_le, nat_lt, Bool, ◌&&◌, List, ◌++◌, length, drop, Option, Some, None, slice_get, if◌then◌else◌}
 use Rattle.std.specs.Bool.{MatchBool}
 use Rattle.std.specs.Str.{is_utf8}
@@ -12,14 +12,15 @@ use Rattle.cn_c.specs.Codes.{named_ways, units, uppers, CN_ABOUT, CN_CANONICAL, 
 use Rattle.cn_c.specs.Prints.{PutsNothing}
 use Rattle.cn_c.specs.Quantities.{method_of}
 
--- one of the flags, each a power of two, is among these
+-- a flag, which is a power of two, is among these flags
 abbrev pub has_flag : ℕ → ℕ → Bool
 has_flag flags flag = flags / flag % 2 == 1
 
+-- the style that the flags name
 abbrev pub style_of : ℕ → Style
 style_of flags = if has_flag flags CN_EXPANDED then Expanded else Kept
 
--- how quantities are written in figures, by the sum of none or some of five flags
+-- how quantities are written in figures, given a sum of any of five flags
 abbrev pub figures_of : ℕ → Option Figures
 figures_of flags =
     if flags % 4 == 0 && nat_lt flags 128 then Some (record {
@@ -32,15 +33,15 @@ figures_of flags =
       canonical = has_flag flags CN_CANONICAL;
     }) else None
 
--- the length of a text is told, up to the greatest one, and the text put at the room's start if it
--- fits; else it is not said what the room then holds
+-- the length of a text is written, at most 2^64 - 1, and the text is written at the start of the
+-- buffer if it fits. If it does not fit, nothing is said about the contents of the buffer
 abbrev pub PutsText : List ℕ → List ℕ → ℕ → List ℕ → ℕ → Type 0
 PutsText text old status new len =
     (len ≡ min (length text) (2 ^ 64 - 1))
     × MatchBool (nat_le (length text) (length old))
     ((status ≡ CN_DONE) × (new ≡ text ++ drop (length text) old)) (status ≡ CN_NO_ROOM)
 
--- what is put of bytes, by what four codes name
+-- the result of replacing the quantities of bytes, or UNKNOWN if a code or the flags name nothing
 abbrev pub IsReplacedAs : Option Bool → Option NumeralUnit → Option ChineseCountMethod
     → Option Figures → List ℕ → List ℕ → ℕ → List ℕ → ℕ → Type 0
 IsReplacedAs (Some upper) (Some greatest) (Some method) (Some figures) bytes old status new len =
@@ -52,8 +53,8 @@ IsReplacedAs (Some upper) (Some greatest) (Some method) (Some figures) bytes old
 IsReplacedAs upper greatest method figures bytes old status new len =
     PutsNothing CN_UNKNOWN old status new len
 
--- what is put of bytes, by whether the upper case is wanted, the codes of the greatest unit and of a
--- method, and the flags of what is replaced too
+-- the result of replacing the quantities of bytes, given a code for whether the upper case is
+-- looked for, the codes of the greatest unit and of a method, and the flags
 abbrev pub IsReplaced : List ℕ → ℕ → ℕ → ℕ → ℕ → List ℕ → ℕ → List ℕ → ℕ → Type 0
 IsReplaced bytes upper greatest method included old status new len =
     IsReplacedAs (slice_get uppers upper) (slice_get units greatest)

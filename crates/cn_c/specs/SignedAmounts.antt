@@ -1,5 +1,5 @@
--- What the calls for amounts that may be below zero, for amounts as they are typed and for figures
--- answer.
+-- What the calls for amounts that may be below zero, for typed amounts and for figures write and
+-- return.
 use Rattle.std.specs.Prelude.{◌≡◌, ℕ, ℤ, pos, int_lt, nat_abs, nat_lt, List, encode_utf8_all, Option, Some, Result, Ok, Err, slice_get, if◌then◌else◌}
 use Rattle.std.specs.Bool.{MatchBool}
 use Rattle.std.specs.Str.{is_utf8}
@@ -19,8 +19,8 @@ use Rattle.cn_judge.specs.ByteIndex.{byte_index}
 use Rattle.cn_c.specs.Codes.{scripts, forms, CN_DONE, CN_INCORRECT, CN_TOO_LARGE, CN_TOO_SMALL, CN_NOT_UTF8, CN_UNKNOWN, CN_UNFINISHED}
 use Rattle.cn_c.specs.Prints.{PutsNothing, PutsIfItFits}
 
--- what is put for an amount in a script and a form, if they are named: its text, where its magnitude
--- is below the limit
+-- the result of printing an amount in a script and a form, or UNKNOWN if one is not named: its text
+-- if its magnitude is below the limit, and otherwise TOO_SMALL or TOO_LARGE
 abbrev pub IsSignedPrintedAs : ℤ → Option ChineseVariant → Option AmountForm → List ℕ → ℕ
     → List ℕ → ℕ → Type 0
 IsSignedPrintedAs fen (Some script) (Some form) old status new len =
@@ -29,20 +29,21 @@ IsSignedPrintedAs fen (Some script) (Some form) old status new len =
     (PutsNothing (if int_lt fen (pos 0) then CN_TOO_SMALL else CN_TOO_LARGE) old status new len)
 IsSignedPrintedAs fen script form old status new len = PutsNothing CN_UNKNOWN old status new len
 
--- what is put for an amount and the codes of a script and a form
+-- the result of printing an amount, given the codes of a script and a form
 abbrev pub IsSignedPrinted : ℤ → ℕ → ℕ → List ℕ → ℕ → List ℕ → ℕ → Type 0
 IsSignedPrinted fen script form old status new len =
     IsSignedPrintedAs fen (slice_get scripts script) (slice_get forms form) old status new len
 
--- what is told of an amount, and where there is none
+-- what is written for an amount
 abbrev pub signed_told : ℤ → SignedAmount
 signed_told fen = record { fen = fen; char_index = 0; byte_index = 0 }
 
+-- what is written if there is no amount: 0, and the position of a fault
 abbrev pub no_signed : ℕ → ℕ → SignedAmount
 no_signed char_index byte_index =
     record { fen = pos 0; char_index = char_index; byte_index = byte_index }
 
--- how an answer to a text is told: by the status and what is written
+-- the answer to a text is shown by the status and by what is written
 abbrev pub TellsSigned : List ℕ → Result ℤ AmountRefusal → ℕ → SignedAmount → Type 0
 TellsSigned text (Ok fen) status amount = (status ≡ CN_DONE) × (amount ≡ signed_told fen)
 TellsSigned text (Err unfinished) status amount =
@@ -50,7 +51,7 @@ TellsSigned text (Err unfinished) status amount =
 TellsSigned text (Err (incorrect_at char_index)) status amount =
     (status ≡ CN_INCORRECT) × (amount ≡ no_signed char_index (byte_index text char_index))
 
--- and an answer to figures
+-- the answer to figures is shown by the status and by what is written
 abbrev pub TellsFigures : List ℕ → Result ℤ FiguresError → ℕ → SignedAmount → Type 0
 TellsFigures text (Ok fen) status amount = (status ≡ CN_DONE) × (amount ≡ signed_told fen)
 TellsFigures text (Err Unfinished) status amount =
@@ -60,7 +61,7 @@ TellsFigures text (Err TooLarge) status amount =
 TellsFigures text (Err (Incorrect char_index)) status amount =
     (status ≡ CN_INCORRECT) × (amount ≡ no_signed char_index (byte_index text char_index))
 
--- what is told of bytes
+-- the result of reading bytes as an amount that may be below zero
 abbrev pub IsSignedRead : List ℕ → ℕ → SignedAmount → Type 0
 IsSignedRead bytes status amount =
     MatchBool (is_utf8 bytes)
@@ -68,7 +69,7 @@ IsSignedRead bytes status amount =
     × TellsSigned bytes answer status amount)
     ((status ≡ CN_NOT_UTF8) × (amount ≡ no_signed 0 0))
 
--- of bytes that are read as they are typed
+-- the result of reading bytes as an amount as people type it
 abbrev pub IsTypedRead : List ℕ → ℕ → Amount → Type 0
 IsTypedRead bytes status amount =
     MatchBool (is_utf8 bytes)
@@ -76,7 +77,7 @@ IsTypedRead bytes status amount =
     × TellsAmount bytes answer status amount)
     ((status ≡ CN_NOT_UTF8) × (amount ≡ no_amount 0 0))
 
--- and of bytes that are read as figures
+-- the result of reading bytes as an amount in figures
 abbrev pub IsFiguresRead : List ℕ → ℕ → SignedAmount → Type 0
 IsFiguresRead bytes status amount =
     MatchBool (is_utf8 bytes)

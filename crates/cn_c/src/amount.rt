@@ -16,8 +16,8 @@ use cn_amount::amount_text;
 use cn_faces::utf8_text;
 use cn_judge::byte_index;
 
-/// What was read: the amount in fen, or of the character at fault how many characters and how many
-/// bytes of the text stand in front of it.
+/// The result of reading an amount: the amount in fen; or, if a character is at fault, how many
+/// characters and how many bytes of the text come before it.
 #[repr(C)]
 #[derive(Clone, Copy)]
 pub struct Amount {
@@ -26,14 +26,15 @@ pub struct Amount {
     pub byte_index: usize,
 }
 
-/// Nothing was read.
+/// The result if no amount was read.
 pub const NOTHING: Amount = Amount {
     fen: 0,
     char_index: 0,
     byte_index: 0,
 };
 
-// Prints an amount below the limit. It stands by itself, so that a refusal saves no register.
+// Prints an amount below the limit. This is a function of its own, so that a refusal does not save
+// registers.
 #[inline(never)]
 fn print_amount(
     fen: u64,
@@ -50,9 +51,12 @@ fn print_amount(
     put_text(amount_text(script, *form, fen).as_bytes(), room, len)
 }
 
-/// Prints an amount of fen in a form into the caller's room, where 117 bytes are enough for any.
+/// Prints an amount of fen in a form into the caller's buffer, `room`. 117 bytes are enough for any
+/// amount. The status is UNKNOWN if a code names no script or form, TOO_LARGE from 10^16 yuan on,
+/// and NO_ROOM if the text does not fit.
 ///
-/// Writes `*len`, and the bytes in front of it where the text fits; all else in the room stays.
+/// Writes `*len`, which is 0 at UNKNOWN and TOO_LARGE, and otherwise the length of the text. If the
+/// text fits, it is written at the start of the buffer; no other byte of the buffer changes.
 #[unsafe(no_mangle)]
 pub extern "C" fn chinese_amount_print(
     fen: u64,
@@ -76,7 +80,7 @@ pub extern "C" fn chinese_amount_print(
     print_amount(fen, script, form, room, len)
 }
 
-/// Tells an answer to a text to C.
+/// Writes the answer to a text to `*amount`, and returns its status.
 pub fn tell_amount(
     text: &str,
     answer: Result<u64, ChineseToAmountError>,
@@ -99,10 +103,12 @@ pub fn tell_amount(
     }
 }
 
-/// Reads a text in capitals as an amount. The whole text is tested to be UTF-8, and of one that is
-/// no amount no more is read than up to the character at fault.
+/// Reads a text in capitals as an amount. The status is NOT_UTF8 if the bytes are not UTF-8,
+/// INCORRECT if a character is at fault, and UNFINISHED if the text is not an amount but something
+/// after it can make it one. The whole text is tested to be UTF-8; a text that is not an amount is
+/// read only up to the character at fault.
 ///
-/// Writes `*amount` whole at each status, and nothing else.
+/// Writes all of `*amount` at each status, and nothing else.
 #[unsafe(no_mangle)]
 pub extern "C" fn chinese_amount_read(text: &[u8], amount: &mut Amount) -> u32
     ensures { IsAmountRead text.now result amount.new }

@@ -1,4 +1,4 @@
-// Dates on bills.
+// Dates on bills and cheques.
 ghost use Rattle.std.specs.Prelude.{◌≡◌, ◌≤◌, MatchOption};
 ghost use Rattle.cn_c.specs.Dates.{date, TellsDate, IsDatePrinted, IsDateRead};
 ghost use Rattle.cn_date.specs.Answer.{answer_of};
@@ -12,8 +12,8 @@ use cn_date::date_text;
 use cn_faces::utf8_text;
 use cn_judge::byte_index;
 
-/// What was read: the date, or of the character at fault how many characters and how many bytes of
-/// the text stand in front of it.
+/// The result of reading a date: the date; or, if a character is at fault, how many characters and
+/// how many bytes of the text come before it.
 #[repr(C)]
 #[derive(Clone, Copy)]
 pub struct Date {
@@ -32,7 +32,7 @@ const NOTHING: Date = Date {
     byte_index: 0,
 };
 
-// The date of these numbers, if there is such a date.
+// The date with these numbers; `None` if there is no such date.
 fn date_of(year: u32, month: u32, day: u32) -> Option<BillDate>
     ensures { MatchOption result (¬ IsDate (date year month day))
         (λ found. (found ≡ date year month day) × IsDate found) }
@@ -45,9 +45,12 @@ fn date_of(year: u32, month: u32, day: u32) -> Option<BillDate>
     if date.is_date() { Some(date) } else { None }
 }
 
-/// Prints a date into the caller's room, where 39 bytes are enough for any.
+/// Prints a date into the caller's buffer, `room`. 39 bytes are enough for any date. The status is
+/// UNKNOWN if the code names no script, NOT_A_DATE if there is no such date, and NO_ROOM if the
+/// text does not fit.
 ///
-/// Writes `*len`, and the bytes in front of it where the text fits; all else in the room stays.
+/// Writes `*len`, which is 0 at UNKNOWN and NOT_A_DATE, and otherwise the length of the text. If
+/// the text fits, it is written at the start of the buffer; no other byte of the buffer changes.
 #[unsafe(no_mangle)]
 pub extern "C" fn chinese_date_print(
     year: u32,
@@ -70,7 +73,7 @@ pub extern "C" fn chinese_date_print(
     }
 }
 
-// Tells an answer to a text to C.
+// Writes the answer to a text to `*date`, and returns its status.
 fn tell_date(text: &str, answer: Result<BillDate, ChineseToDateError>, date: &mut Date) -> u32
     ensures { TellsDate text.now (answer_of answer) result date.new }
 {
@@ -91,10 +94,12 @@ fn tell_date(text: &str, answer: Result<BillDate, ChineseToDateError>, date: &mu
     }
 }
 
-/// Reads a text in capitals as a date. The whole text is tested to be UTF-8, and of one that is no
-/// date no more is read than up to the character at fault.
+/// Reads a text in capitals as a date. The status is NOT_UTF8 if the bytes are not UTF-8, INCORRECT
+/// if a character is at fault, and UNFINISHED if the text is not a date but something after it can
+/// make it one. The whole text is tested to be UTF-8; a text that is not a date is read only up to
+/// the character at fault.
 ///
-/// Writes `*date` whole at each status, and nothing else.
+/// Writes all of `*date` at each status, and nothing else.
 #[unsafe(no_mangle)]
 pub extern "C" fn chinese_date_read(text: &[u8], date: &mut Date) -> u32
     ensures { IsDateRead text.now result date.new }

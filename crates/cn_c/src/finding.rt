@@ -1,4 +1,4 @@
-// The numbers of a text, and its expressions.
+// Finds the numbers and the expressions of a text.
 ghost use Rattle.std.specs.Prelude.{◌≡◌, Some, map, take, IfNone, IfSome, IsUtf8, length, slice_get};
 ghost use Rattle.std.specs.Str.{is_utf8};
 ghost use Rattle.chinese_number.specs.Spans.{span_of};
@@ -14,7 +14,8 @@ use chinese_number::{
 use cn_faces::{are_common, are_utf8_at_all, utf8_text};
 use std::str;
 
-/// Where a run stands in its text, in bytes, and what is told of it: flags, added together.
+/// The position of a run in its text, in bytes, and the sum of its flags and 16 times the code of
+/// its doubt.
 #[repr(C)]
 #[derive(Clone, Copy)]
 pub struct Span {
@@ -23,7 +24,7 @@ pub struct Span {
     pub flags: u32,
 }
 
-// A run as it is told to C. By a call each takes some 25 instructions more.
+// A run as C gets it. As a call, this takes some 25 instructions more for each run.
 #[inline(always)]
 fn span_of_found<R: SearchRule>(found: Found<'_>) -> Span
     ensures { result ≡ span_told R.doubt (span_of found.entry) }
@@ -35,7 +36,8 @@ fn span_of_found<R: SearchRule>(found: Found<'_>) -> Span
     }
 }
 
-// Tells the runs until none is left or the spans are full, and how many these are.
+// Writes spans of the runs until there are no more runs or the spans are full, and returns how many
+// were written.
 fn fill<R: SearchRule>(mut runs: Numbers<'_, R>, spans: &mut [Span]) -> usize
     ensures { Fills (map (span_told R.doubt) (take (length spans.old) runs.entry)) spans.old spans.new result }
 {
@@ -50,7 +52,8 @@ fn fill<R: SearchRule>(mut runs: Numbers<'_, R>, spans: &mut [Span]) -> usize
     count
 }
 
-// Tells what is found from a byte on, if a character begins there or the text ends.
+// Writes spans of the runs from a byte on. The status is NOT_UTF8 if no character begins at that
+// byte and the text does not end there.
 fn tell<R: SearchRule>(runs: Option<Numbers<'_, R>>, spans: &mut [Span], count: &mut usize) -> u32
     ensures some { IfSome runs.entry (λ left. (result ≡ CN_DONE)
         × Fills (map (span_told R.doubt) (take (length spans.old) left)) spans.old spans.new count.new) }
@@ -64,7 +67,7 @@ fn tell<R: SearchRule>(runs: Option<Numbers<'_, R>>, spans: &mut [Span], count: 
     DONE
 }
 
-// What is wanted, by the codes.
+// The characters that a search looks for, by two codes; `None` if a code names nothing.
 fn wanted_of(upper: u32, greatest: u32) -> Option<Wanted>
     ensures { result ≡ wanted_of (slice_get uppers upper) (slice_get units greatest) }
 {
@@ -73,8 +76,8 @@ fn wanted_of(upper: u32, greatest: u32) -> Option<Wanted>
     Some(Wanted { upper, greatest })
 }
 
-// Finds the numbers of a text. It stands by itself, so that a call that finds nothing to do, for its
-// codes or at the end of the text, does not save the registers that a search takes.
+// Finds the numbers of a text. This is a function of its own, so that a call with nothing to do,
+// because of its codes or at the end of the text, does not save the registers that a search uses.
 #[inline(never)]
 fn find_ahead(
     text: &str,
@@ -94,7 +97,7 @@ fn find_ahead(
     )
 }
 
-// With no call, as `utf8_text` makes for what is not common.
+// Unlike `utf8_text`, this makes no call for bytes that are not common characters.
 #[inline(always)]
 fn are_utf8(bytes: &[u8]) -> bool
     ensures { result ≡ is_utf8 bytes.now }
@@ -102,7 +105,7 @@ fn are_utf8(bytes: &[u8]) -> bool
     are_common(bytes) || are_utf8_at_all(bytes)
 }
 
-// Finds the numbers of bytes, if they are a text. It stands by itself likewise.
+// Finds the numbers of bytes if they are UTF-8. This is a function of its own for the same reason.
 #[inline(never)]
 fn find_tested(
     bytes: &[u8],
@@ -123,10 +126,12 @@ fn find_tested(
     }
 }
 
-/// Finds the numbers of a text from a byte on, in order, until none is left or the spans are full.
-/// Where they are full, the next ones are found from the end of the last one on.
+/// Finds the numbers of a text from a byte on, in order, until there are no more or the spans are
+/// full. If they are full, the next call finds the rest from the end of the last span on. The
+/// status is UNKNOWN if a code names nothing; it is NOT_UTF8 if the bytes are not UTF-8, or if no
+/// character begins at that byte and the text does not end there.
 ///
-/// Writes `*count`, and so many spans; all behind them stay.
+/// Writes `*count` and that many spans; the spans after them do not change.
 #[unsafe(no_mangle)]
 pub extern "C" fn chinese_number_find(
     text: &[u8],
@@ -147,8 +152,8 @@ pub extern "C" fn chinese_number_find(
     find_tested(text, from, upper, greatest, spans, count)
 }
 
-/// Finds as `chinese_number_find` does, where the caller knows that the bytes are UTF-8: so a text is
-/// tested once, and not again from each place on.
+/// Finds the same as `chinese_number_find`, for a caller who knows that the bytes are UTF-8. So a
+/// text is tested once, and not again at each call.
 #[unsafe(no_mangle)]
 pub unsafe extern "C" fn chinese_number_find_utf8(
     text: &[u8],
@@ -167,7 +172,7 @@ pub unsafe extern "C" fn chinese_number_find_utf8(
     let Some(greatest) = unit_of(greatest) else {
         return tell_none(count, UNKNOWN);
     };
-    // Where nothing is left, it is told here, so that no register is saved for a search.
+    // If the text ends here, this returns at once, so that no registers are saved for a search.
     if from == text.len() {
         return tell_none(count, DONE);
     }
@@ -175,8 +180,8 @@ pub unsafe extern "C" fn chinese_number_find_utf8(
     find_ahead(text, from, upper, greatest, spans, count)
 }
 
-/// Finds the expressions of a text, which `chinese_quantity_read` reads, as `chinese_number_find` finds
-/// its numbers: 12.5% and 三分之一 are one each.
+/// Finds the expressions of a text, which `chinese_quantity_read` reads, in the same way as
+/// `chinese_number_find` finds numbers: 12.5% and 三分之一 are one expression each.
 #[unsafe(no_mangle)]
 pub extern "C" fn chinese_quantity_find(
     text: &[u8],
@@ -197,7 +202,7 @@ pub extern "C" fn chinese_quantity_find(
     }
 }
 
-/// Finds as `chinese_quantity_find` does, where the caller knows that the bytes are UTF-8.
+/// Finds the same as `chinese_quantity_find`, for a caller who knows that the bytes are UTF-8.
 #[unsafe(no_mangle)]
 pub unsafe extern "C" fn chinese_quantity_find_utf8(
     text: &[u8],

@@ -1,4 +1,4 @@
-// What is told of a number in a text, and what is asked for: flags, added together.
+// The flags of a number in a text, and the options of a call; both are added together.
 ghost use Rattle.std.specs.Prelude.{◌≡◌, ◌+◌, ◌*◌, ◌<◌, ◌≤◌};
 ghost use Rattle.chinese_number.specs.Spans.{span_of};
 ghost use Rattle.cn_c.specs.Finds.{doubt_code, flag_if, flags_told};
@@ -8,26 +8,26 @@ use chinese_number::{Doubt, Found, SearchRule};
 use cn_find::told_of;
 use cn_replace::{Figures, Included, Style};
 
-/// Each of its characters is a digit.
+/// A flag: each character of the number is a digit.
 pub const PLAIN_DIGITS: u32 = 1;
 
-/// Nothing around it goes on with it.
+/// A flag: the text around the number does not continue it.
 pub const STANDS_ALONE: u32 = 2;
 
-/// It is about so much.
+/// A flag: the number is approximate.
 pub const ABOUT: u32 = 4;
 
-/// It is one Chinese character.
+/// A flag: the number is one Chinese character.
 pub const ONE_CHARACTER: u32 = 8;
 
-// A flag, where it is told.
+// A flag if it applies, and otherwise 0.
 fn flag_if(told: bool, flag: u32) -> u32
     ensures { result ≡ flag_if told flag }
 {
     if told { flag } else { 0 }
 }
 
-// What is told of a number.
+// The flags of a number.
 #[inline(always)]
 fn flags_of(found: Found<'_>) -> u32
     ensures value { result ≡ flags_told (span_of found.entry) }
@@ -56,7 +56,7 @@ fn doubt_code(doubt: Option<Doubt>) -> u32
     }
 }
 
-/// The flags of what a rule finds, and the code of its doubt.
+/// The sum of the flags of what a rule finds and 16 times the code of its doubt.
 #[inline(always)]
 pub fn flags_and_doubt<R: SearchRule>(found: Found<'_>) -> u32
     ensures { result
@@ -65,16 +65,16 @@ pub fn flags_and_doubt<R: SearchRule>(found: Found<'_>) -> u32
     flags_of(found) + doubt_code(R::doubt_of(found)) * 16
 }
 
-/// An expression of which a reader may mean something else is written in figures too.
+/// An option: a doubtful expression is written in figures too.
 pub const DOUBTFUL: u32 = 16;
 
-/// Great units do not stay.
+/// An option: great units are not kept.
 pub const EXPANDED: u32 = 32;
 
-/// What is in figures alone is written in ASCII, without commas and leading zeros.
+/// An option: what is in figures alone is rewritten in ASCII, without commas and leading zeros.
 pub const CANONICAL: u32 = 64;
 
-// Whether one of those flags is among these.
+// Whether a flag is among these flags.
 fn has_flag(flags: u32, flag: u32) -> bool
     requires { 0 < flag }
     ensures { result ≡ has_flag flags flag }
@@ -82,7 +82,7 @@ fn has_flag(flags: u32, flag: u32) -> bool
     flags / flag % 2 == 1
 }
 
-// The style that flags name.
+// The style that the flags name.
 fn style_of(flags: u32) -> Style
     ensures { result ≡ style_of flags }
 {
@@ -93,7 +93,8 @@ fn style_of(flags: u32) -> Style
     }
 }
 
-/// How the quantities of a text are written in figures, by the sum of none or some of five flags.
+/// How the quantities of a text are written in figures, given a sum of any of five flags; `None` if
+/// it is not such a sum.
 pub fn figures_of(flags: u32) -> Option<Figures>
     ensures { result ≡ figures_of flags }
 {

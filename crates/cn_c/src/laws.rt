@@ -26,8 +26,8 @@ pub fn printed_numbers_read_back()
         → ReadsBack (take len new) kind way number }
 {}
 
-/// What it writes as plain digits, by the standard method or either way is read either way as the same
-/// number.
+/// A number that it writes as plain digits, by the standard method or either way is read either way
+/// as the same number.
 ///
 /// For callers who do not know how a number was written.
 pub fn printed_numbers_read_back_either_way()
@@ -42,8 +42,9 @@ pub fn printed_numbers_read_back_either_way()
         → ReadsBack (take len new) kind CN_ANY number }
 {}
 
-/// What `chinese_quantity_print` writes is UTF-8, and `chinese_quantity_read` reads it, by the same
-/// method, as the same numerator and denominator. What it writes either way is read by `TenThousand`.
+/// What `chinese_quantity_print` writes is UTF-8, and `chinese_quantity_read` reads it by the same
+/// method as the same numerator and denominator. What it writes either way is read by
+/// `TenThousand`.
 ///
 /// For quantities that cross from one language to another.
 pub fn printed_quantities_read_back()
@@ -66,8 +67,8 @@ pub fn printed_quantities_read_back()
         × (number_of false told.denominator ≡ number_of false quantity.denominator)) }
 {}
 
-/// What `chinese_amount_print` writes, in each form, is UTF-8, and `chinese_amount_read` reads it as
-/// the same amount.
+/// What `chinese_amount_print` writes, in each form, is UTF-8, and `chinese_amount_read` reads it
+/// as the same amount.
 pub fn printed_amounts_read_back()
     ensures { (fen script form : ℕ) (old new : List ℕ) (len : ℕ)
         → IsAmountPrinted fen script form old CN_DONE new len
@@ -76,8 +77,8 @@ pub fn printed_amounts_read_back()
         → (status ≡ CN_DONE) × (amount ≡ record { fen = fen; char_index = 0; byte_index = 0 })) }
 {}
 
-/// What `chinese_signed_amount_print` writes, in each form, is UTF-8, and `chinese_signed_amount_read`
-/// reads it as the same amount.
+/// What `chinese_signed_amount_print` writes, in each form, is UTF-8, and
+/// `chinese_signed_amount_read` reads it as the same amount.
 pub fn printed_signed_amounts_read_back()
     ensures { (fen : ℤ) → (script form : ℕ) → (old new : List ℕ) → (len : ℕ)
         → IsSignedPrinted fen script form old CN_DONE new len

@@ -1,4 +1,4 @@
-// Printing.
+// Prints numbers.
 ghost use Rattle.std.specs.Prelude.{◌≡◌, ◌≤◌, nat_abs};
 ghost use Rattle.cn_c.specs.Prints.{PrintsNumber, IsPrinted, way_written};
 ghost use Rattle.cn_faces.specs.IntegerTypes.{the_kind};
@@ -10,7 +10,7 @@ use crate::status::{NOT_HELD, TOO_LARGE, TOO_SMALL, UNKNOWN, tell_none};
 use chinese_number::{ChineseCase, ChineseVariant, NumberToChineseError, ROOM_BYTES, Whole};
 use cn_faces::{IntegerType, SignedMagnitude, Way, put_by, written_method};
 
-/// How a number is to be written.
+/// How a number is written.
 #[derive(Clone, Copy)]
 pub struct Style {
     pub way: NamedWay,
@@ -28,7 +28,7 @@ fn way_written(way: NamedWay, script: ChineseVariant, magnitude: u128) -> Way
     }
 }
 
-// Prints a number of 128 bits, if the type holds it.
+// Prints a number of 128 bits. The status is NOT_HELD if the type does not hold it.
 fn print_as<T: Whole>(
     integer: IntegerType,
     value: T,
@@ -54,10 +54,13 @@ fn print_as<T: Whole>(
     }
 }
 
-/// Prints a number of a type, given in halves, into the caller's room, where 234 bytes are enough
-/// for any.
+/// Prints a number of a type, given in halves, into the caller's buffer, `room`. 234 bytes are
+/// enough for any number. The status is UNKNOWN if a code names nothing, NOT_HELD if the type does
+/// not hold the number, TOO_LARGE or TOO_SMALL if the method does not write it, and NO_ROOM if the
+/// text does not fit.
 ///
-/// Writes `*len`, and the bytes in front of it where the text fits; all else in the room stays.
+/// Writes `*len`, which is the length of the text at DONE and NO_ROOM, and otherwise 0. If the text
+/// fits, it is written at the start of the buffer; no other byte of the buffer changes.
 #[unsafe(no_mangle)]
 pub extern "C" fn chinese_number_print(
     low: u64,

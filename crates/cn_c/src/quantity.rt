@@ -13,9 +13,9 @@ use chinese_number::{ChineseCountMethod, ChineseToNumberError, chinese_to_quanti
 use cn_faces::{SignedMagnitude, Way, utf8_text};
 use cn_judge::byte_index;
 
-/// A quantity, as it is read and printed: the numbers above and below the line and the code of the
-/// form; or of the character at fault how many characters and how many bytes of the text stand in
-/// front of it.
+/// A quantity that was read or is to be printed: its numerator, its denominator and the code of its
+/// form; or, if a character is at fault, how many characters and how many bytes of the text come
+/// before it.
 #[repr(C)]
 #[derive(Clone, Copy)]
 pub struct Quantity {
@@ -34,7 +34,7 @@ const NOTHING: Quantity = Quantity {
     byte_index: 0,
 };
 
-/// The method of a code by which a quantity is read.
+/// The method by which a quantity is read, given its code; `None` if there is none.
 pub fn method_of(code: u32) -> Option<ChineseCountMethod>
     ensures { result ≡ method_of (slice_get named_ways code) }
 {
@@ -45,7 +45,7 @@ pub fn method_of(code: u32) -> Option<ChineseCountMethod>
     }
 }
 
-/// The quantity that C tells, if the code of its form names one.
+/// The quantity that a caller in C passes; `None` if the code of its form names none.
 pub fn quantity_of(told: &Quantity) -> Option<chinese_number::Quantity>
     ensures { result ≡ quantity_of told.now }
 {
@@ -56,7 +56,7 @@ pub fn quantity_of(told: &Quantity) -> Option<chinese_number::Quantity>
     })
 }
 
-// Tells an answer to a text to C.
+// Writes the answer to a text to `*quantity`, and returns its status.
 fn tell_quantity(
     text: &str,
     answer: Result<chinese_number::Quantity, ChineseToNumberError>,
@@ -82,9 +82,11 @@ fn tell_quantity(
     }
 }
 
-/// Reads a text as an exact quantity by a method.
+/// Reads a text as an exact quantity by a method. The status is UNKNOWN if the code names no
+/// method, NOT_UTF8 if the bytes are not UTF-8, and otherwise that of a refusal: EMPTY, INCORRECT,
+/// TOO_LARGE or TOO_SMALL.
 ///
-/// Writes `*quantity` whole at each status, and nothing else.
+/// Writes all of `*quantity` at each status, and nothing else.
 #[unsafe(no_mangle)]
 pub extern "C" fn chinese_quantity_read(text: &[u8], method: u32, quantity: &mut Quantity) -> u32
     ensures { IsQuantityRead text.now method result quantity.new }

@@ -1,4 +1,4 @@
-// Printing quantities in figures.
+// Prints quantities in figures.
 ghost use Rattle.std.specs.Prelude.{◌≤◌};
 ghost use Rattle.cn_c.specs.QuantityPrints.{IsFiguresPrinted};
 
@@ -7,9 +7,12 @@ use crate::room::put_text;
 use crate::status::UNKNOWN;
 use cn_express::{MOST_FIGURES_BYTES, put_figures};
 
-/// Prints a quantity in figures into the caller's room, where 80 bytes are enough for any.
+/// Prints a quantity in figures into the caller's buffer, `room`. 80 bytes are enough for any
+/// quantity. The status is UNKNOWN if the code of the form names none, and NO_ROOM if the text does
+/// not fit.
 ///
-/// Writes `*len`, and the bytes in front of it where the text fits; all else in the room stays.
+/// Writes `*len`, which is 0 at UNKNOWN, and otherwise the length of the text. If the text fits, it
+/// is written at the start of the buffer; no other byte of the buffer changes.
 #[unsafe(no_mangle)]
 pub extern "C" fn chinese_quantity_figures(
     quantity: &Quantity,

@@ -1,19 +1,19 @@
-// The codes of how a quantity is written.
+// The codes of the forms in which a quantity is written.
 ghost use Rattle.std.specs.Prelude.{◌≡◌, slice_get};
 ghost use Rattle.cn_c.specs.Quantities.{form_code, quantity_forms};
 
 use chinese_number::QuantityForm;
 
-/// 35, 三十五, 3万
+/// A whole number: 35, 三十五, 3万
 pub const WHOLE: u32 = 0;
 
-/// 3.5, 三點五, 3.5万
+/// A decimal: 3.5, 三點五, 3.5万
 pub const DECIMAL: u32 = 1;
 
-/// 12.5%
+/// A percentage: 12.5%
 pub const PERCENT: u32 = 2;
 
-/// 三分之一, 百分之五十
+/// A fraction: 三分之一, 百分之五十
 pub const FRACTION: u32 = 3;
 
 /// The code of a form.
@@ -28,7 +28,7 @@ pub fn form_code(form: QuantityForm) -> u32
     }
 }
 
-/// The form of a code.
+/// The form with a code; `None` if there is none.
 pub fn quantity_form_of(code: u32) -> Option<QuantityForm>
     ensures { result ≡ slice_get quantity_forms code }
 {

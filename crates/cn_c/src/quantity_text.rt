@@ -1,4 +1,4 @@
-// Printing quantities in numerals.
+// Prints quantities in numerals.
 ghost use Rattle.std.specs.Prelude.{◌≡◌, ◌≤◌, slice_get};
 ghost use Rattle.cn_c.specs.Codes.{named_ways};
 ghost use Rattle.cn_c.specs.QuantityPrints.{IsQuantityPrinted, method_written};
@@ -11,7 +11,7 @@ use chinese_number::{ChineseCountMethod, ChineseVariant};
 use cn_express::{MOST_QUANTITY_BYTES, QuantityToChineseError, greatest_spelled, put_quantity};
 use cn_faces::{Way, written_method};
 
-// The method of a code by which a quantity is written.
+// The method by which a quantity is written, given its code; `None` if there is none.
 fn method_written(
     code: u32,
     script: ChineseVariant,
@@ -26,10 +26,13 @@ fn method_written(
     }
 }
 
-/// Prints a quantity in numerals by a method, or either way, into the caller's room, where 471 bytes are enough for
-/// any.
+/// Prints a quantity in numerals, by a method or either way, into the caller's buffer, `room`. 471
+/// bytes are enough for any quantity. The status is UNKNOWN if a code names nothing, NOT_A_QUANTITY
+/// if the denominator is 0, TOO_LARGE or TOO_SMALL if the method does not write the quantity, and
+/// NO_ROOM if the text does not fit.
 ///
-/// Writes `*len`, and the bytes in front of it where the text fits; all else in the room stays.
+/// Writes `*len`, which is the length of the text at DONE and NO_ROOM, and otherwise 0. If the text
+/// fits, it is written at the start of the buffer; no other byte of the buffer changes.
 #[unsafe(no_mangle)]
 pub extern "C" fn chinese_quantity_print(
     quantity: &Quantity,

@@ -1,4 +1,4 @@
-// Reading.
+// Reads numbers.
 ghost use Rattle.std.specs.Prelude.{◌≡◌, IsSome, slice_get, true, false, IsUtf8};
 ghost use Rattle.chinese_number.specs.Answer.{refusal_of};
 ghost use Rattle.cn_c.specs.declared.codes.NamedWay.TheVariants.{By, Either};
@@ -14,8 +14,8 @@ use cn_faces::{IntegerType, Way, are_common, are_utf8_at_all, either_way, read_a
 use cn_judge::byte_index;
 use std::str;
 
-/// What was read: the number, or of the character at fault how many characters and how many bytes
-/// of the text stand in front of it.
+/// The result of reading a number: the number; or, if a character is at fault, how many characters
+/// and how many bytes of the text come before it.
 #[repr(C)]
 #[derive(Clone, Copy)]
 pub struct Reading {
@@ -30,7 +30,7 @@ const NOTHING: Reading = Reading {
     byte_index: 0,
 };
 
-/// The status that tells a refusal.
+/// The status of a refusal.
 #[inline(always)]
 pub fn refusal_status(error: ChineseToNumberError) -> u32
     ensures { result ≡ refusal_status (refusal_of error) }
@@ -43,7 +43,7 @@ pub fn refusal_status(error: ChineseToNumberError) -> u32
     }
 }
 
-// Tells that nothing was read, and why.
+// Writes that nothing was read, and returns the status.
 #[inline(always)]
 fn tell_nothing(reading: &mut Reading, status: u32) -> u32
     ensures { (result ≡ status) × (reading.new ≡ no_number 0 0) }
@@ -52,7 +52,7 @@ fn tell_nothing(reading: &mut Reading, status: u32) -> u32
     status
 }
 
-// Tells why a text is refused: the status, and where the character at fault stands.
+// Writes where the character at fault is, if there is one, and returns the status of a refusal.
 #[inline(always)]
 fn tell_refusal(text: &str, error: ChineseToNumberError, reading: &mut Reading) -> u32
     ensures status { result ≡ refusal_status (refusal_of error) }
@@ -61,15 +61,16 @@ fn tell_refusal(text: &str, error: ChineseToNumberError, reading: &mut Reading) 
 {
     *reading = NOTHING;
     if let ChineseToNumberError::ChineseNumberIncorrect { char_index } = error {
-        // It is told in front of the search for its byte, so that no register keeps it meanwhile.
+        // It is written before the search for the byte, so that no register holds it during the
+        // search.
         reading.char_index = char_index;
         reading.byte_index = byte_index(text, char_index);
     }
     refusal_status(error)
 }
 
-// Reads a text as a number of a signed type. It stands by itself, as does what follows, so that what
-// calls it is short.
+// Reads a text as a number of a signed type. This is a function of its own, like the next one, so
+// that its caller is short.
 #[inline(never)]
 fn read_signed_text(text: &str, integer: IntegerType, way: Way, reading: &mut Reading) -> u32
     requires { (the_kind integer).signed ≡ true }
@@ -105,7 +106,7 @@ fn read_unsigned_text(text: &str, integer: IntegerType, way: Way, reading: &mut 
     }
 }
 
-// Reads a text in a way as a number of a type.
+// Reads a text in a way, as a number of a type.
 #[inline(always)]
 fn read_text(text: &str, integer: IntegerType, way: Way, reading: &mut Reading) -> u32
     ensures { ReadsInto (the_kind integer) (By way) text.now result reading.new }
@@ -117,7 +118,7 @@ fn read_text(text: &str, integer: IntegerType, way: Way, reading: &mut Reading) 
     }
 }
 
-// Reads a text either way as a number of a type.
+// Reads a text either way, as a number of a type.
 #[inline(never)]
 fn read_either(text: &str, integer: IntegerType, reading: &mut Reading) -> u32
     ensures { ReadsInto (the_kind integer) Either text.now result reading.new }
@@ -125,8 +126,9 @@ fn read_either(text: &str, integer: IntegerType, reading: &mut Reading) -> u32
     read_text(text, integer, either_way(integer, text), reading)
 }
 
-// Reads bytes that are not all common characters. It stands by itself, so that what calls it keeps
-// nothing over a test: so each of the others is read in some 16 instructions fewer.
+// Reads bytes that are not all common characters. This is a function of its own, so that its caller
+// keeps nothing in registers during a test: each other text is then read in some 16 instructions
+// fewer.
 #[inline(never)]
 fn read_uncommon(text: &[u8], kind: u32, way: u32, reading: &mut Reading) -> u32
     requires kind { IsSome (slice_get kinds kind) }
@@ -139,11 +141,13 @@ fn read_uncommon(text: &[u8], kind: u32, way: u32, reading: &mut Reading) -> u32
     unsafe { chinese_number_read_utf8(text, kind, way, reading) }
 }
 
-/// Reads a numeral as a number of a type.
-///
-/// Writes `*reading` whole at each status, and nothing else.
 // Same answer (if are_common(text) → nothing): the reader of uncommon text tests all bytes, more
 // slowly.
+/// Reads a numeral as a number of a type. The status is UNKNOWN if a code names no type or way,
+/// NOT_UTF8 if the bytes are not UTF-8, and otherwise that of a refusal: EMPTY, INCORRECT,
+/// TOO_LARGE or TOO_SMALL.
+///
+/// Writes all of `*reading` at each status, and nothing else.
 #[unsafe(no_mangle)]
 pub extern "C" fn chinese_number_read(
     text: &[u8],
@@ -153,7 +157,7 @@ pub extern "C" fn chinese_number_read(
 ) -> u32
     ensures { IsRead text.now kind way result reading.new }
 {
-    // Asked at once, as below, they take 2 instructions more here.
+    // Tested in one `let`, as below, the codes take 2 instructions more here.
     let Some(_) = kind_of(kind) else {
         return tell_nothing(reading, UNKNOWN);
     };
@@ -166,7 +170,7 @@ pub extern "C" fn chinese_number_read(
     read_uncommon(text, kind, way, reading)
 }
 
-/// Reads a numeral as `chinese_number_read` does, where the caller knows that the bytes are UTF-8.
+/// Reads a numeral as `chinese_number_read` does, for a caller who knows that the bytes are UTF-8.
 #[unsafe(no_mangle)]
 pub unsafe extern "C" fn chinese_number_read_utf8(
     text: &[u8],

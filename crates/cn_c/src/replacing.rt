@@ -1,4 +1,4 @@
-// The quantities of a text, replaced.
+// Replaces the quantities of a text.
 ghost use Rattle.cn_c.specs.Replaces.{IsReplaced};
 
 use crate::codes::{unit_of, upper_of};
@@ -9,11 +9,14 @@ use chinese_number::Wanted;
 use cn_faces::utf8_text;
 use cn_replace::put_quantities_in_figures;
 
-/// Puts a text into the caller's room with its quantities in figures. By default those stay that are
-/// about so much, one Chinese character or doubtful, and so do great units and what is in figures; the
-/// flags say otherwise.
+/// Writes a text, with its quantities in figures, into the caller's buffer, `room`. By default
+/// quantities that are approximate, one Chinese character or doubtful stay as they are, as do great
+/// units and what is already in figures; the flags of `included` change that. The status is UNKNOWN
+/// if a code or the flags name nothing, NOT_UTF8 if the bytes are not UTF-8, and NO_ROOM if the new
+/// text does not fit.
 ///
-/// Writes `*len`, and to the room: where the new text fits it stands at the start of the room.
+/// Writes `*len`, the length of the new text, and bytes of the buffer: if the new text fits, it is
+/// at the start of the buffer.
 #[unsafe(no_mangle)]
 pub extern "C" fn chinese_quantities_to_figures(
     text: &[u8],

@@ -1,4 +1,4 @@
-// Amounts of money that may be below zero, and those in figures.
+// Amounts of money that may be below zero, in capitals and in figures.
 ghost use Rattle.std.specs.Prelude.{◌≤◌, Err};
 ghost use Rattle.chinese_number.specs.AmountAnswer.{answer_of};
 ghost use Rattle.chinese_number.specs.AmountReading.{incorrect_at};
@@ -13,8 +13,8 @@ use cn_faces::utf8_text;
 use cn_figures::{FiguresError, signed_yuan_to_fen};
 use cn_judge::byte_index;
 
-/// What was read: the amount in fen, or of the character at fault how many characters and how many
-/// bytes of the text stand in front of it.
+/// The result of reading an amount: the amount in fen; or, if a character is at fault, how many
+/// characters and how many bytes of the text come before it.
 #[repr(C)]
 #[derive(Clone, Copy)]
 pub struct SignedAmount {
@@ -29,12 +29,15 @@ const NOTHING: SignedAmount = SignedAmount {
     byte_index: 0,
 };
 
-/// Prints an amount of fen in a form, behind 负 (負) where it is below zero, into the caller's room,
-/// where 120 bytes are enough for any.
-///
-/// Writes `*len`, and the bytes in front of it where the text fits; all else in the room stays.
 // Same answer (0 → 1 #2, < → <=): an amount of 0 is never too large, so it does not reach this
 // test.
+/// Prints an amount of fen in a form, after 负 (負) if it is below zero, into the caller's buffer,
+/// `room`. 120 bytes are enough for any amount. The status is UNKNOWN if a code names no script or
+/// form, TOO_LARGE or TOO_SMALL if the magnitude is 10^16 yuan or more, and NO_ROOM if the text
+/// does not fit.
+///
+/// Writes `*len`, which is the length of the text at DONE and NO_ROOM, and otherwise 0. If the text
+/// fits, it is written at the start of the buffer; no other byte of the buffer changes.
 #[unsafe(no_mangle)]
 pub extern "C" fn chinese_signed_amount_print(
     fen: i64,
@@ -56,7 +59,7 @@ pub extern "C" fn chinese_signed_amount_print(
     put_text(signed_amount_text(script, *form, fen).as_bytes(), room, len)
 }
 
-// Tells where a text is incorrect.
+// Writes where a text is incorrect, and returns the status INCORRECT.
 fn tell_place(text: &str, char_index: usize, amount: &mut SignedAmount) -> u32
     ensures { TellsSigned text.now (Err (incorrect_at char_index)) result amount.new }
 {
@@ -68,7 +71,7 @@ fn tell_place(text: &str, char_index: usize, amount: &mut SignedAmount) -> u32
     INCORRECT
 }
 
-// Tells an answer to a text to C.
+// Writes the answer to a text to `*amount`, and returns its status.
 fn tell_signed(
     text: &str,
     answer: Result<i64, ChineseToAmountError>,
@@ -89,10 +92,12 @@ fn tell_signed(
     }
 }
 
-/// Reads a text in capitals, behind 负 (負) or not, as an amount. The whole text is tested to be
-/// UTF-8, and of one that is no amount no more is read than up to the character at fault.
+/// Reads a text in capitals, which may begin with 负 (負), as an amount. The status is NOT_UTF8 if
+/// the bytes are not UTF-8, INCORRECT if a character is at fault, and UNFINISHED if the text is not
+/// an amount but something after it can make it one. The whole text is tested to be UTF-8; a text
+/// that is not an amount is read only up to the character at fault.
 ///
-/// Writes `*amount` whole at each status, and nothing else.
+/// Writes all of `*amount` at each status, and nothing else.
 #[unsafe(no_mangle)]
 pub extern "C" fn chinese_signed_amount_read(text: &[u8], amount: &mut SignedAmount) -> u32
     ensures { IsSignedRead text.now result amount.new }
@@ -104,7 +109,7 @@ pub extern "C" fn chinese_signed_amount_read(text: &[u8], amount: &mut SignedAmo
     }
 }
 
-// Tells an answer to figures to C.
+// Writes the answer to figures to `*amount`, and returns its status.
 fn tell_figures(text: &str, answer: Result<i64, FiguresError>, amount: &mut SignedAmount) -> u32
     ensures { TellsFigures text.now answer result amount.new }
 {
@@ -120,10 +125,12 @@ fn tell_figures(text: &str, answer: Result<i64, FiguresError>, amount: &mut Sign
     }
 }
 
-/// Reads figures, as -1,409.50, as an amount. The whole text is tested to be UTF-8, and of one that
-/// is no figures no more is read than up to the character at fault.
+/// Reads figures, such as -1,409.50, as an amount. The status is NOT_UTF8 if the bytes are not
+/// UTF-8, INCORRECT if a character is at fault, UNFINISHED if the text is not figures but something
+/// after it can make it figures, and TOO_LARGE if the amount is too large. The whole text is tested
+/// to be UTF-8; a text that is not figures is read only up to the character at fault.
 ///
-/// Writes `*amount` whole at each status, and nothing else.
+/// Writes all of `*amount` at each status, and nothing else.
 #[unsafe(no_mangle)]
 pub extern "C" fn chinese_figures_read(text: &[u8], amount: &mut SignedAmount) -> u32
     ensures { IsFiguresRead text.now result amount.new }

@@ -6,11 +6,11 @@ use crate::status::NOT_UTF8;
 use chinese_number::chinese_to_amount_as_typed;
 use cn_faces::utf8_text;
 
-/// Reads a text in capitals as it is typed, as `chinese_amount_read` does where white space, ⊗ in
-/// front and a colon behind 人民币 are left out. A character at fault is told by its place in the
-/// text that is given.
+/// Reads a text in capitals as people type it: like `chinese_amount_read`, but white space, ⊗ at
+/// the start and a colon after 人民币 are left out. The place of a character at fault is its place
+/// in the text that was passed. The statuses are those of `chinese_amount_read`.
 ///
-/// Writes `*amount` whole at each status, and nothing else.
+/// Writes all of `*amount` at each status, and nothing else.
 #[unsafe(no_mangle)]
 pub extern "C" fn chinese_typed_amount_read(text: &[u8], amount: &mut Amount) -> u32
     ensures { IsTypedRead text.now result amount.new }

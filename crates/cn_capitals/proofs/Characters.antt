@@ -1,4 +1,4 @@
--- Capitals and the characters that write them, and those that are read as them.
+-- Capitals, the characters that write them, and the characters that are read as them.
 use Rattle.std.proofs.Common.{◌≡◌, ℕ, zero, suc, ◌*◌, ◌<◌, Bool, true, false, ◌&&◌, ◌||◌, ◌==◌, List, [], ◌∷◌, map, length, Option, Some, encode_utf8_all, refl, ap₂, subst, if◌then◌else◌, length-append, arith}
 use Rattle.std.specs.Char.{char_set_contains, encode_utf8}
 use Rattle.std.specs.List.{list_all}
@@ -9,7 +9,7 @@ use Rattle.std.proofs.lemmas.Bool.Decides.{nat_tests}
 use Rattle.cn_core.proofs.Fronts.{and-left, and-right, both}
 use Rattle.cn_capitals.specs.Characters.{first_with}
 
--- what holds of each number below another, one by one
+-- the statement holds for each number below another, one by one
 abbrev pub AllBelow : (ℕ → Type 0) → ℕ → Type 0
 AllBelow P zero = Unit {0}
 AllBelow P (suc n) = P n × AllBelow P n
@@ -21,7 +21,7 @@ all-at P (suc n) k h low = elim (dec_lt k n) [
   | no last ↦ let e : n ≡ k = omega (arith, low, last) in subst P e h.0
 ]
 
--- a test that each number below another passes
+-- each number below another passes the test
 abbrev pub each_below : (ℕ → Bool) → ℕ → Bool
 each_below test zero = true
 each_below test (suc n) = test n && each_below test n
@@ -33,7 +33,7 @@ each_below-at test (suc n) k h low = elim (dec_lt k n) [
   | no last ↦ let e : k ≡ n = omega (arith, low, last) in rw e (and-left (test n) _ h)
 ]
 
--- what is read passes each test that all rows pass
+-- what a character is read as passes each test that all rows pass
 pub read-passes : {C : Type 0} (test : C → Bool) (rows : List (List ℕ × C)) (c : ℕ) (found : C)
     → list_all (λ row. test row.1) rows ≡ true → first_with rows c ≡ Some found
     → test found ≡ true
@@ -73,13 +73,13 @@ character-passes {C} test (row ∷ rows) c found h e =
       by true is e ih = in-set test row.0 c (and-left (list_all test row.0) _ h) is
       by false is e ih = ih e
 
--- a capital is written by a character of three bytes, which is read as it
+-- a capital is written as a character of three bytes, which is read as that capital
 abbrev pub IsWrittenBack : {C : Type 0} → (ℕ → Option C) → (C → ℕ) → C → Type 0
 IsWrittenBack read char capital =
     (read (char capital) ≡ Some capital) × (scalar (char capital) ≡ true)
     × (length (encode_utf8 (char capital)) ≡ 3)
 
--- so the characters of capitals are read as them
+-- so the characters of capitals are read as these capitals
 pub capitals-read : {C : Type 0} (read : ℕ → Option C) (char : C → ℕ) (test : C → Bool)
     → ((c : C) → test c ≡ true → IsWrittenBack read char c) → (capitals : List C)
     → list_all test capitals ≡ true → map read (map char capitals) ≡ map Some capitals

@@ -7,15 +7,15 @@ use Rattle.std.proofs.lemmas.List.{get_or_default}
 use Rattle.cn_core.proofs.Fronts.{and-left, and-right}
 use Rattle.cn_capitals.specs.Characters.{first_with}
 
--- what each entry says is so
+-- each entry says what its character is read as
 abbrev pub AreRight : {C : Type 0} → List (List ℕ × C) → List (ℕ × Option C) → Type 0
 AreRight rows entries = AllByRecursion (λ entry. first_with rows entry.0 ≡ entry.1) entries
 
--- the character stands at its slot
+-- the character is at its slot
 abbrev pub stands : {C : Type 0} → List (ℕ × Option C) → (ℕ → ℕ) → ℕ → Bool
 stands entries slot c = (get_or entries (slot c) (0, None)).0 == c
 
--- each character of the rows stands at its slot
+-- each character of the rows is at its slot
 abbrev pub all_stand : {C : Type 0} → List (List ℕ × C) → List (ℕ × Option C) → (ℕ → ℕ) → Bool
 all_stand rows entries slot = list_all (λ row. list_all (stands entries slot) row.0) rows
 
@@ -38,7 +38,7 @@ none-in is c (first ∷ cs) all other =
           let yes : is c ≡ true = ap is (sym same) ∙ and-left (is first) _ all in cc
       by false e ih = rw e ih
 
--- where each character of the rows passes a test, one that fails it is in no row
+-- if each character of the rows passes a test, a character that fails it is in no row
 none-with : {C : Type 0} (is : ℕ → Bool) (c : ℕ) (rows : List (List ℕ × C))
     → list_all (λ row. list_all is row.0) rows ≡ true → is c ≡ false → first_with rows c ≡ None
 none-with is c [] all other = refl
@@ -46,7 +46,7 @@ none-with is c (row ∷ rows) all other =
     rw (none-in is c row.0 (and-left (list_all is row.0) _ all) other)
     (none-with is c rows (and-right (list_all is row.0) _ all) other)
 
--- so the entry at its slot says what a character is
+-- so the entry at the slot of a character says what the character is read as
 pub entry-is : {C : Type 0} (rows : List (List ℕ × C)) (entries : List (ℕ × Option C)) (slot : ℕ → ℕ)
     → AreRight rows entries → all_stand rows entries slot ≡ true → (c : ℕ) → slot c < length entries
     → (entry : ℕ × Option C) → entry ≡ get_or entries (slot c) entry

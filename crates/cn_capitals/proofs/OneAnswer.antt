@@ -1,4 +1,4 @@
--- A text has one answer, and no more.
+-- A text has exactly one answer.
 use Rattle.std.proofs.Common.{◌≡◌, ℕ, ◌+◌, ◌<◌, List, [], ◌∷◌, ◌++◌, length, take, drop, Option, Some, None, Result, Ok, Err, refl, sym, ap, subst, ◌∙◌, append-nil, append_assoc, arith}
 use Rattle.std.proofs.Math.Decide.{dec_lt}
 use Rattle.std.proofs.lemmas.List.{take-append-drop, take-take}
@@ -22,7 +22,7 @@ one-value IsForm machine reads = λ text one two h k.
     let same : a.0 ≡ b.0 = some-is a.0 b.0 (sym a.1 ∙ b.1) in
     some-is one two (sym a.2 ∙ ap machine.end same ∙ b.2)
 
--- each beginning of what begins a form begins one
+-- each prefix of what begins a form begins one
 begins-take : {A : Type 0} (IsForm : List ℕ → A → Type 0) (text : List ℕ) (count : ℕ)
     → Begins IsForm text → Begins IsForm (take count text)
 begins-take IsForm text count h =
@@ -53,7 +53,7 @@ earlier IsForm text place later less h none = none (subst (Begins IsForm)
     (take-take (place + 1) later text (omega (arith, less))) (begins-take IsForm (take later text)
     (place + 1) h))
 
--- for any forms, whether or not there are states that read them
+-- this holds for any forms, whether or not there are states that read them
 pub one-answer : {A : Type 0} (IsForm : List ℕ → A → Type 0) → IsOneValue IsForm
     → (text : List ℕ) (r s : Result A Refusal) → Answers IsForm text r → Answers IsForm text s
     → r ≡ s
@@ -77,7 +77,7 @@ one-answer {A} F one text (Err (Incorrect p)) (Err (Incorrect q)) h k =
       by (no more) (yes less) = absurd (earlier F text q p less h.1 k.2)
       by (no more) (no less) = let e : p ≡ q = omega (arith, more, less) in ap wrong e
 
--- the answer to a text, a part of which is read
+-- the answer to a text, of which a prefix is read
 answered : {S A : Type 0} (IsForm : List ℕ → A → Type 0) (machine : Machine S A)
     → Reads IsForm machine → (text start rest : List ℕ) (state : S) → text ≡ start ++ rest
     → Leads machine start state

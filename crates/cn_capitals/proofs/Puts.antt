@@ -1,4 +1,4 @@
--- What is put to a text, and a string of it.
+-- What is appended to a text, and a string of it.
 use Rattle.std.proofs.Common.{◌≡◌, ℕ, ◌+◌, ◌≤◌, List, [], ◌∷◌, ◌++◌, length, map, encode_utf8_all, refl, sym, ap, subst, ◌∙◌, append-nil, append_assoc, length-append, arith}
 use Rattle.std.specs.Char.{encode_utf8}
 use Rattle.std.specs.String.{string_bytes, string_capacity, string_vec}
@@ -20,12 +20,12 @@ written-more character capitals capital =
     ∙ ap (λ bytes. written character capitals ++ bytes)
     (append-nil (encode_utf8 (character capital)))
 
--- more that the room holds is put
+-- more bytes are appended if the buffer holds them
 with-held : (bytes more : List ℕ) → length bytes + length more ≤ 120
     → bytes_with bytes more ≡ bytes ++ more
 with-held bytes more held = rw (le-leb _ _ held) refl
 
--- a capital is put where the room holds it, and else the text is too long for the room
+-- a capital is appended if the buffer holds it; otherwise the text is too long for the buffer
 pub puts-one : {H C : Type 0} (character : H → C → ℕ) (old new : CapitalText H)
     (capital : C) → new.hand ≡ old.hand
     → text_bytes new
@@ -47,7 +47,7 @@ puts-one character old new capital same is = λ hand capitals h.
           ∙ held ∙ ap (λ front. front ++ bytes) had ∙ sym more,
     )
 
--- two pieces, one behind the other
+-- two pieces are appended one after the other
 pub puts-two : {H C : Type 0} (character : H → C → ℕ) (old mid new : CapitalText H)
     (a b : List C) → PutsMore character old mid a → PutsMore character mid new b
     → PutsMore character old new (a ++ b)

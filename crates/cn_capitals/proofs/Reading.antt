@@ -1,4 +1,4 @@
--- What is known of a text while it is read, and what the answers to it rest on.
+-- Facts about a text while it is read, and those on which its answer rests.
 use Rattle.std.proofs.Common.{◌≡◌, ℕ, ◌+◌, ◌<◌, List, [], ◌∷◌, ◌++◌, length, take, chars, Some, None, sym, ap, ap₂, subst, ◌∙◌, append-nil, append_assoc, length-append, arith}
 use Rattle.std.proofs.Math.Seq.{take-append_seam}
 use Rattle.std.specs.Prelude.{Err}
@@ -8,7 +8,7 @@ use Rattle.cn_capitals.specs.Answers.{Answers, Begins}
 use Rattle.cn_capitals.specs.Machine.{run, Machine, Leads, Reads}
 use Rattle.cn_capitals.proofs.Runs.{some-is, run-ran, run-behind, run-more}
 
--- a text that ends before a form does
+-- a text that ends before a form does is unfinished
 pub unfinished-read : {S A : Type 0} (IsForm : List ℕ → A → Type 0) (machine : Machine S A)
     → Reads IsForm machine → (text : List ℕ) (state : S) → Leads machine text state
     → machine.end state ≡ None → Begins IsForm text × ((value : A) → ¬ IsForm text value)
@@ -20,7 +20,7 @@ unfinished-read IsForm machine reads text state r e = (
       let wrong : Some value ≡ None = sym whole.2 ∙ ap machine.end same ∙ e in absurd (cc),
 )
 
--- an empty text, where none is a form
+-- an empty text is unfinished if it is not a form
 pub empty-read : {S A : Type 0} (IsForm : List ℕ → A → Type 0) (machine : Machine S A)
     → Reads IsForm machine → machine.end machine.begin ≡ None → (bytes : List ℕ)
     → length bytes ≡ 0 → Answers IsForm (chars bytes) (Err Unfinished)
@@ -28,7 +28,7 @@ empty-read IsForm machine reads none bytes empty =
     unfinished-read IsForm machine reads (chars bytes) machine.begin
     (ap (run machine.step machine.begin) (chars-from_empty bytes empty)) none
 
--- at a character with which no form goes on
+-- a character with which no form continues is incorrect
 refused-read : {S A : Type 0} (IsForm : List ℕ → A → Type 0) (machine : Machine S A)
     → Reads IsForm machine → (start : List ℕ) (state : S) (c : ℕ)
     → Leads machine start state → machine.step state c ≡ None
@@ -63,7 +63,7 @@ place-refused IsForm machine reads text start rest place state c is at r e =
       λ h. refused-read IsForm machine reads start state c r e (subst (Begins IsForm) two h),
     )
 
--- the text so far: what is read, and what is not
+-- the text so far: the part that is read, and the rest
 pub record IsReading {S A : Type 0} (machine : Machine S A) (text rest : List ℕ) (state : S)
     (count : ℕ) : Type 0 where
   pub start : List ℕ
@@ -71,7 +71,7 @@ pub record IsReading {S A : Type 0} (machine : Machine S A) (text rest : List �
   pub counts : count ≡ length start
   pub runs : Leads machine start state
 
--- one more character
+-- one more character is read
 pub reading-more : {S A : Type 0} (machine : Machine S A) (text rest after : List ℕ)
     (state next : S) (count c : ℕ) → IsReading machine text rest state count
     → chars rest ≡ c ∷ chars after → machine.step state c ≡ Some next
@@ -93,7 +93,7 @@ reading-refused IsForm machine reads text rest after state count c r parts e =
     place-refused IsForm machine reads (chars text) r.start (chars after) count state c
     (r.is ∙ ap (λ l. r.start ++ l) parts) r.counts r.runs e
 
--- at the end of the text
+-- the end of the text is reached
 pub reading-ended : {S A : Type 0} (machine : Machine S A) (text rest : List ℕ) (state : S)
     (count : ℕ) → IsReading machine text rest state count → chars rest ≡ []
     → Leads machine (chars text) state

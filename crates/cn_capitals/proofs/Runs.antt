@@ -1,4 +1,4 @@
--- The state after a text, and after what stands behind it.
+-- The state after a text, and after the text that follows it.
 use Rattle.std.proofs.Common.{◌≡◌, List, [], ◌∷◌, ◌++◌, map, Option, Some, None, refl, sym, ap, subst, ◌∙◌, append-nil, append_assoc}
 use Rattle.cn_capitals.specs.Machine.{run}
 
@@ -36,7 +36,7 @@ pub run-more : {S C : Type 0} (step : S → C → Option S) (state : S) (start :
 run-more step state start c next e = run-behind step state start (c ∷ []) next e
     ∙ run-ran step next c [] (step next c) refl ∙ some-or-none step (step next c)
 
--- a state that steps by what each character is
+-- a state that steps by the class of each character
 pub run-map : {S C D : Type 0} (step : S → D → Option S) (class : C → D) (state : S)
     (text : List C) → run (λ s c. step s (class c)) state text ≡ run step state (map class text)
 run-map step class state [] = refl
@@ -48,7 +48,7 @@ run-map {S} step class state (c ∷ text) =
       by None ih = refl
       by (Some next) ih = ih next
 
--- what each step keeps holds of each state that a text leads to
+-- what each step keeps holds for each state that a text leads to
 pub kept : {S C : Type 0} (step : S → C → Option S) (Keeps : S → List C → Type 0)
     → ((state next : S) (text : List C) (c : C) → Keeps state text → step state c ≡ Some next
     → Keeps next (text ++ c ∷ []))

@@ -1,4 +1,4 @@
--- A reader of what a sieve keeps reads the forms of what is kept.
+-- A reader after a sieve reads the forms of the characters that the sieve keeps.
 use Rattle.std.proofs.Common.{◌≡◌, ℕ, Bool, true, false, List, [], ◌∷◌, ◌++◌, Option, Some, None, refl, sym, ap, subst, ◌∙◌, if◌then◌else◌}
 use Rattle.std.specs.Option.{option_map}
 use Rattle.cn_capitals.specs.Answers.{Begins}
@@ -6,7 +6,7 @@ use Rattle.cn_capitals.specs.Machine.{run, Machine, Leads, Reads}
 use Rattle.cn_capitals.specs.Sieve.{Sieve, kept, after, sifted}
 use Rattle.cn_capitals.proofs.Runs.{some-is, ran}
 
--- what is kept of a text and of what stands behind it
+-- the characters that are kept of a text and of the text after it
 kept-append : {F : Type 0} (sieve : Sieve F) (front : F) (text behind : List ℕ)
     → kept sieve front (text ++ behind)
     ≡ kept sieve front text ++ kept sieve (after sieve front text) behind
@@ -25,7 +25,7 @@ kept-append {F} sieve front (c ∷ text) behind =
       by true ih = ap (λ l. c ∷ l) ih
       by false ih = ih
 
--- a reader behind a sieve: how far the text is, and the state of the reader
+-- a reader after a sieve: the state of the sieve, and the state of the reader
 pub record IsSifted {F S T A B : Type 0} (sieve : Sieve F) (both : F → S → T)
     (value : F → A → B) (inner : Machine S A) (outer : Machine T B) (first : F) : Type 0 where
   pub begin : outer.begin ≡ both first inner.begin
@@ -69,7 +69,7 @@ run-sifted {F} {S} {T} sieve both value inner outer first is front state (c ∷ 
       by true ih = taken (inner.step state c) ih
       by false ih = ih state
 
--- the reader of what is kept leads as far
+-- the reader of the characters that are kept reaches the same state
 pub sifted-leads : {F S T A B : Type 0} (sieve : Sieve F) (both : F → S → T)
     (value : F → A → B) (inner : Machine S A) (outer : Machine T B) (first : F)
     → IsSifted sieve both value inner outer first → (text : List ℕ) (state : T)
@@ -87,14 +87,14 @@ sifted-leads {F} {S} {T} sieve both value inner outer first is text state leads 
       by None r e = absurd (cc)
       by (Some under) r e = (under, r, some-is state (both (after sieve first text) under) (sym e))
 
--- a form of what is kept, whose value is taken as what is passed over says
+-- the kept characters are a form, whose value depends on what is left out
 pub record IsKeptForm {F A B : Type 0} (sieve : Sieve F) (first : F) (value : F → A → B)
     (IsForm : List ℕ → A → Type 0) (text : List ℕ) (taken : B) : Type 0 where
   pub under : A
   pub form : IsForm (kept sieve first text) under
   pub is : taken ≡ value (after sieve first text) under
 
--- what completes what is kept can stand behind the text
+-- a text that completes the kept characters can also follow the text itself
 abbrev pub CanStandBehind : {F A : Type 0} → Sieve F → F → (List ℕ → A → Type 0) → Type 0
 CanStandBehind {F} {A} sieve first IsForm =
     (text behind : List ℕ) (under : A) → IsForm (kept sieve first text ++ behind) under
@@ -154,7 +154,7 @@ sifted-reads {F} {S} {T} {A} {B} sieve both value inner outer first IsForm is st
             },
           )
 
--- the same forms in other words
+-- the same forms, defined in another way
 pub reads-same : {S A : Type 0} (IsForm Same : List ℕ → A → Type 0) (machine : Machine S A)
     → ((text : List ℕ) (value : A) → IsForm text value → Same text value)
     → ((text : List ℕ) (value : A) → Same text value → IsForm text value)

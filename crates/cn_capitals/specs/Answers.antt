@@ -1,4 +1,4 @@
--- What is answered of a text, where it is said which texts are forms, and of which value.
+-- The answer to a text, given which texts are forms, and of which value.
 use Rattle.std.specs.Prelude.{ℕ, ◌+◌, ◌<◌, List, ◌++◌, length, take, Result, Ok, Err}
 use Rattle.cn_capitals.specs.declared.refusal.Refusal.{Refusal}
 use Rattle.cn_capitals.specs.declared.refusal.Refusal.TheVariants.{Unfinished, Incorrect}
@@ -7,7 +7,7 @@ use Rattle.cn_capitals.specs.declared.refusal.Refusal.TheVariants.{Unfinished, I
 abbrev pub Begins : {A : Type 0} → (List ℕ → A → Type 0) → List ℕ → Type 0
 Begins {A} IsForm text = (behind : List ℕ) × (value : A) × IsForm (text ++ behind) value
 
--- the answer to a text
+-- `answer` is the answer to a text
 abbrev pub Answers : {A : Type 0} → (List ℕ → A → Type 0) → List ℕ → Result A Refusal → Type 0
 Answers IsForm text (Ok value) = IsForm text value
 Answers {A} IsForm text (Err Unfinished) =

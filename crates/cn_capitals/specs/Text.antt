@@ -1,13 +1,13 @@
--- A text in capitals: what it holds, and what is put to it.
+-- A text in capitals: its bytes, and what is appended to it.
 use Rattle.std.specs.Prelude.{◌≡◌, ℕ, ◌+◌, ◌≤◌, nat_le, List, ◌++◌, length, map, take, encode_utf8_all, string_bytes, string_len, string_capacity, if◌then◌else◌}
 use Rattle.std.specs.declared.string.String.{String}
 use Rattle.cn_capitals.specs.declared.text.CapitalText.{CapitalText}
 
--- its bytes
+-- the bytes of the text
 abbrev pub text_bytes : {H : Type 0} → CapitalText H → List ℕ
 text_bytes text = take text.len text.bytes
 
--- bytes with more behind them, if the room holds these
+-- the bytes with more bytes after them, if the buffer holds them all
 abbrev pub bytes_with : List ℕ → List ℕ → List ℕ
 bytes_with bytes more = if nat_le (length bytes + length more) 120 then bytes ++ more else bytes
 
@@ -15,14 +15,14 @@ bytes_with bytes more = if nat_le (length bytes + length more) 120 then bytes ++
 abbrev pub written : {C : Type 0} → (C → ℕ) → List C → List ℕ
 written character capitals = encode_utf8_all (map character capitals)
 
--- what has been put are these capitals, by this hand, if the room is enough for them
+-- the capitals appended so far are these, by this hand, if the buffer is large enough for them
 unfoldable pub HasPut : {H C : Type 0} → (H → C → ℕ) → H → CapitalText H → List C → Type 0
 HasPut character hand text capitals =
     (text.hand ≡ hand)
     × (length (written (character hand) capitals) ≤ 120
     → text_bytes text ≡ written (character hand) capitals)
 
--- these capitals are put behind what has been put
+-- these capitals are appended after those before
 abbrev pub PutsMore : {H C : Type 0} → (H → C → ℕ) → CapitalText H → CapitalText H → List C
     → Type 0
 PutsMore {H} {C} character old new more =

@@ -1,27 +1,27 @@
 ghost use Rattle.std.specs.Prelude.{◌≡◌, ℕ, List};
 ghost use Rattle.cn_capitals.specs.Machine.{Machine, Reached};
 
-/// A grammar, by how far a text is read from the left.
+/// The states in which texts are read from left to right by a grammar.
 pub trait Grammar: Copy {
-    /// What a form stands for.
+    /// The type of the value that a form stands for.
     type Value: Copy;
 
     // Which texts are forms, and of which value.
     ghost is_form: { List ℕ → Self.Value → Type 0 };
 
-    // The states.
+    // The states as definitions use them.
     ghost machine: { Machine Self Self.Value };
 
-    /// Nothing is read.
+    /// The state before any character is read.
     fn begin() -> Self
         ensures { result ≡ machine.begin };
 
-    /// One more character is read; `None` where no form goes on so.
+    /// The state after one more character; `None` if no form continues with it.
     fn step(self, character: char) -> Option<Self>
         requires { Reached machine self }
         ensures { result ≡ machine.step self character };
 
-    /// The value, where a form may end here.
+    /// The value if a form may end here, and otherwise `None`.
     fn end(self) -> Option<Self::Value>
         requires { Reached machine self }
         ensures { result ≡ machine.end self };

@@ -22,8 +22,8 @@ pub fn each_text_has_one_answer<G: Grammar>()
         × ((other : Result G.Value Refusal) → Answers G.is_form text other → other ≡ answer) }
 {}
 
-/// For a form that judges at each key: each beginning of a form is unfinished or a form, and never
-/// incorrect.
+/// Each prefix of a form is unfinished or a form, and never incorrect. So an input form can judge a
+/// text at each key.
 pub fn beginnings_are_begun<G: Grammar>()
     ensures { (front behind : List ℕ) → (value : G.Value) → G.is_form (front ++ behind) value
         → (place : ℕ) → ¬ Answers G.is_form front (Err (Incorrect place)) }

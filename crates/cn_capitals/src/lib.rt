@@ -1,10 +1,10 @@
-//! What amounts and dates in capitals share: the reader from the left, which serves each grammar
-//! whose states can be given, what an entry of a table says of a character, and the text that
-//! capitals are put to.
+//! What amounts and dates in capitals share: a reader from left to right, which works for each
+//! grammar that has states; the lookup of a character in a table; and a text that capitals are
+//! appended to.
 //!
-//! What is answered of a text stands in `specs/Answers`, for any definition of a form; what a grammar
-//! has to show, once, in `specs/Machine`; how it reads what a sieve keeps of a text, in
-//! `specs/Sieve`; and what has been put to a text in `specs/Text`.
+//! `specs/Answers` defines the answer to a text, for any definition of a form. `specs/Machine` has
+//! what must be shown once for a grammar, `specs/Sieve` how a grammar reads only the characters
+//! that a sieve keeps, and `specs/Text` what has been appended to a text.
 #![tactic(auto)]
 
 mod grammar;

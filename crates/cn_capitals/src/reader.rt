@@ -1,4 +1,4 @@
-// Reading, in one pass from the left.
+// Reads a text in one pass from left to right.
 ghost use Rattle.std.specs.Prelude.{chars};
 ghost use Rattle.cn_capitals.specs.Answers.{Answers};
 ghost use Rattle.cn_capitals.specs.Machine.{Reads};
@@ -6,10 +6,11 @@ ghost use Rattle.cn_capitals.specs.Machine.{Reads};
 use crate::{Grammar, Refusal};
 use cn_core::split_first_char;
 
-/// The value for which a text stands: `Ok` exactly where the text is a form. It takes no memory.
+/// The value for which a text stands. It is `Ok` exactly if the text is a form. No memory is
+/// allocated.
 ///
-/// `Unfinished` exactly where the text is no form, and something behind it can make it one; else
-/// `Incorrect` at the first character with which no form begins.
+/// It is `Unfinished` exactly if the text is not a form but something after it can make it one.
+/// Otherwise it is `Incorrect` at the first character with which no form begins.
 pub fn read<G: Grammar>(text: &str) -> Result<G::Value, Refusal>
     requires { Reads G.is_form G.machine }
     ensures { Answers G.is_form (chars text.now) result }

@@ -1,11 +1,11 @@
-/// Why a text is not read.
+/// Why a text is not a form.
 #[derive(Debug, Clone, Copy, Eq, PartialEq)]
 pub enum Refusal {
-    /// Something is missing at its end.
+    /// It begins a form but ends too soon.
     Unfinished,
-    /// No form begins with what stands up to and with the character at this place.
+    /// No form begins with the text up to and including this character.
     Incorrect {
-        /// The place, from 0 on.
+        /// How many characters come before it.
         char_index: usize,
     },
 }

@@ -1,12 +1,12 @@
-// A text in capitals, to which they are put.
+// A text in capitals, which capitals are appended to.
 ghost use Rattle.std.specs.Prelude.{◌≤◌, take, IsUtf8};
 
 mod methods;
 
-// How many bytes a text has room for: 40 characters of three bytes each.
+// How many bytes a text can have: 40 characters of three bytes each.
 const MOST_BYTES: usize = 120;
 
-/// A text in capitals that a hand writes, of at most 120 bytes, in room of its own.
+/// A text in capitals that a hand writes, of at most 120 bytes, in a buffer of its own.
 #[derive(Drop)]
 pub struct CapitalText<H> {
     hand: H,

@@ -1,4 +1,4 @@
--- The table of characters has each that is read at its slot, with what it is.
+-- The table of characters has each character that is read at its slot, with its meaning.
 use Rattle.std.proofs.Common.{◌≡◌, ℕ, ◌*◌, ◌/◌, ◌%◌, ◌==◌, get_or, true, refl, Option, None, arith, if◌then◌else◌}
 use Rattle.cn_capitals.proofs.LookUp.{AreRight, all_stand, entry-is}
 use Rattle.cn_date.specs.declared.capital.Capital.{Capital}

@@ -1,4 +1,4 @@
--- What can be read so far can be completed.
+-- What has been read of a date can be completed.
 use Rattle.std.proofs.Common.{◌≡◌, ℕ, zero, suc, ◌+◌, ◌*◌, ◌==◌, nat_lt, nat_le, true, false, List, [], ◌∷◌, Some, refl, ◌∙◌, arith}
 use Rattle.std.specs.List.{list_all}
 use Rattle.std.proofs.lemmas.Bool.Decides.{nat_tests}
@@ -16,7 +16,7 @@ use Rattle.cn_date.proofs.Fronts.{Front}
 use Rattle.cn_capitals.proofs.Runs.{run-ran}
 use Rattle.cn_date.proofs.Shows.{is_proper}
 
--- behind a state, these capitals make it whole
+-- these capitals complete a date after this state
 pub record CanEnd (state : State) : Type 0 where
   pub behind : List Capital
   pub date : BillDate
@@ -84,7 +84,7 @@ month-ends year (Both tens ones) p f = record {
   ends = refl;
 }
 
--- 壹 behind the tens
+-- 壹 after the tens
 tens-end : (year month days digit : ℕ) → nat_lt (10 * digit) days ≡ true
     → run (Day year month days (Tens digit)) (Digit 1 ∷ Ri ∷ [])
     ≡ Some (Complete (record { year = year; month = month; day = 10 * digit + 1 }))

@@ -1,5 +1,5 @@
--- Worked examples: what the definitions compute to. The month and the day of those that are
--- marked stand in the rules.
+-- Worked examples: the values that the definitions compute. The month and the day of the marked
+-- ones are from the rules of the banks.
 use Rattle.std.proofs.Common.{◌≡◌, ℕ, true, List, ◌∷◌, ◌++◌, length, map, Some, None, Err, codes, refl, ◌∙◌, arith}
 use Rattle.cn_capitals.specs.Machine.{Leads}
 use Rattle.cn_capitals.specs.Machine as machine
@@ -23,7 +23,7 @@ on year month day = record { year = year; month = month; day = day }
 
 -- each month
 
--- in the rules
+-- from the rules
 january : date_text Simple (on 2026 1 15) ≡ codes "贰零贰陆年零壹月壹拾伍日"
 unfolding digit_char unit_char
 january = refl
@@ -72,7 +72,7 @@ december : date_text Simple (on 2026 12 15) ≡ codes "贰零贰陆年壹拾贰�
 unfolding digit_char unit_char
 december = refl
 
--- in the rules
+-- from the rules
 october_twenty : date_text Simple (on 2026 10 20) ≡ codes "贰零贰陆年零壹拾月零贰拾日"
 unfolding digit_char unit_char
 october_twenty = refl
@@ -123,7 +123,7 @@ thirty_first : date_text Simple (on 2026 1 31) ≡ codes "贰零贰陆年零壹�
 unfolding digit_char unit_char
 thirty_first = refl
 
--- the ends of February
+-- the last days of February
 
 leap : date_text Simple (on 2024 2 29) ≡ codes "贰零贰肆年零贰月贰拾玖日"
 unfolding digit_char unit_char
@@ -162,7 +162,7 @@ no_date_1900 = λ is. omega (arith, is.5)
 no_date_2024 : ¬ IsDate (on 2024 2 30)
 no_date_2024 = λ is. omega (arith, is.5)
 
--- years of fewer figures, and the greatest
+-- years of fewer figures, and the greatest year
 
 one_figure : date_text Simple (on 5 3 1) ≡ codes "伍年叁月零壹日"
 unfolding digit_char unit_char
@@ -184,7 +184,7 @@ traditional : date_text Traditional (on 2036 2 3) ≡ codes "貳零參陸年零�
 unfolding digit_char unit_char
 traditional = refl
 
--- what is read beside what is written: 零 in front of 叁月 to 玖月
+-- texts that are read but not written: 零 before 叁月 to 玖月
 
 zero_before_march : capitals_of (codes "伍年零叁月零壹日") ≡ map Some (date_form true (on 5 3 1))
 unfolding capital_of
@@ -198,7 +198,7 @@ mixed_scripts : capitals_of (codes "貳零贰陸年零叄月零參日") ≡ map 
 unfolding capital_of
 mixed_scripts = refl
 
--- what is not finished
+-- unfinished texts
 leads : (text : List ℕ) (state : State) → machine.run (machine.step_as step) (Year 0) (capitals_of text) ≡ Some state
     → Leads date_machine text state
 leads text state e = run-map (machine.step_as step) capital_of (Year 0) text ∙ e
@@ -224,7 +224,7 @@ day_without_ri : Answers (codes "贰零贰陆年零壹月壹拾伍") (Err unfini
 unfolding capital_of
 day_without_ri = not-ended (codes "贰零贰陆年零壹月壹拾伍") (Day 2026 1 31 (Both 1 5)) refl refl
 
--- what is refused, and where
+-- incorrect texts, and the place of the fault
 refused : (front : List ℕ) (c : ℕ) (behind : List ℕ) (state : State)
     → machine.run (machine.step_as step) (Year 0) (capitals_of front) ≡ Some state → machine.step_as step state (capital_of c) ≡ None
     → Answers (front ++ c ∷ behind) (Err (incorrect_at (length front)))

@@ -1,4 +1,4 @@
--- Each form is read to its end, as its date.
+-- Each form is read to its end, and its value is its date.
 use Rattle.std.proofs.Common.{◌≡◌, ℕ, zero, suc, ◌+◌, ◌*◌, ◌/◌, ◌%◌, ◌^◌, ◌==◌, ◌<◌, ◌≤◌, nat_lt, ◌||◌, Bool, true, false, ◌∷◌, ◌++◌, Some, refl, ap, subst, ◌∙◌, if◌then◌else◌, arith}
 use Rattle.std.proofs.Math.Decide.{dec_lt}
 use Rattle.std.proofs.lemmas.Bool.Decides.{nat_tests}
@@ -13,7 +13,7 @@ use Rattle.cn_capitals.proofs.Runs.{run-behind, run-more, run-ran}
 use Rattle.cn_capitals.proofs.Characters.{AllBelow, all-at}
 use Rattle.cn_date.proofs.Years.{figures-more, not-zero}
 
--- each day of a month, by its days
+-- each day of a month, given the number of its days
 abbrev ReadsDay : ℕ → ℕ → ℕ → ℕ → Type 0
 ReadsDay year month days k =
     run (Day year month days Nothing) (day_text (suc k))
@@ -46,7 +46,7 @@ reads-day year month days k low high less = elim (dec_lt days 29) [
   at : (other : ℕ) → other ≡ days → ReadsDay year month other k → ReadsDay year month days k
   at other e h = subst (λ days. ReadsDay year month days k) e h
 
--- each month, with 零 in front where it may stand and without
+-- each month, with a 零 before it if there may be one, and without
 abbrev ReadsMonth : ℕ → Bool → ℕ → Type 0
 ReadsMonth year choice k =
     run (Month year Nothing) (month_text choice (suc k))

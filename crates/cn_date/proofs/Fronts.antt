@@ -1,4 +1,4 @@
--- What each state stands for, and that each step keeps it.
+-- What each state stands for, and that each step preserves it.
 use Rattle.std.proofs.Common.{◌≡◌, ℕ, zero, suc, ◌+◌, ◌*◌, ◌<◌, ◌≤◌, ◌==◌, nat_lt, nat_le, not, Bool, true, false, List, [], ◌∷◌, ◌++◌, Option, Some, None, refl, sym, ap, subst, ◌∙◌, if◌then◌else◌, append-nil, append_assoc, arith}
 use Rattle.std.proofs.lemmas.Bool.Decides.{nat_tests}
 use Rattle.cn_core.proofs.Fronts.{and-left, and-right}
@@ -17,7 +17,7 @@ use Rattle.cn_capitals.proofs.Characters.{AllBelow, all-at}
 use Rattle.cn_date.proofs.FormsRead.{days-bounds}
 use Rattle.cn_date.proofs.Years.{year_more}
 
--- the capitals that are read of a number
+-- the capitals that have been read of a number
 abbrev pub part_text : Part → List Capital
 part_text Nothing = []
 part_text Ling = Digit 0 ∷ []
@@ -27,7 +27,7 @@ part_text (One digit) = Digit digit ∷ []
 part_text (Tens digit) = Digit digit ∷ Shi ∷ []
 part_text (Both tens ones) = Digit tens ∷ Shi ∷ Digit ones ∷ []
 
--- the capitals that are read, up to each state
+-- the capitals that have been read up to a state
 pub record YearFront (year : ℕ) (text : List Capital) : Type 0 where
   pub most : year < 10000
   pub form : text ≡ year_text year
@@ -64,7 +64,7 @@ Front (Complete date) text = DateFront date text
 pub nothing-front : Front (Year 0) []
 nothing-front = record { most = omega arith; form = refl }
 
--- one more capital of a number
+-- one more capital of a number is read
 record PartMore (part next : Part) (capital : Capital) : Type 0 where
   is_part : IsPart next
   text : part_text next ≡ part_text part ++ capital ∷ []
@@ -93,7 +93,7 @@ part-more (Tens digit) next (Digit (suc n)) p w e =
     (record { is_part = (p.0, p.1, omega arith, w); text = refl })
 part-more part next capital p w e = absurd (cc)
 
--- a month that is read whole
+-- a month that is complete
 record IsMonth (part : Part) (month : ℕ) : Type 0 where
   choice : Bool
   some : 0 < month
@@ -171,7 +171,7 @@ month-whole (Both tens ones) month p f e = both-month tens ones month p e
     (eleven tens (and-left (tens == 1) _ f)) (few ones (and-right (tens == 1) _ f))
 month-whole part month p f e = absurd (cc)
 
--- a day that is read whole
+-- a day that is complete
 record IsDay (days : ℕ) (part : Part) (day : ℕ) : Type 0 where
   some : 0 < day
   most : day ≤ days
@@ -232,7 +232,7 @@ day-whole days (Both (suc tens) (suc k)) day low high p f e =
     })
 day-whole days part day low high p f e = absurd (cc)
 
--- the branch that gives a state
+-- the branch in which there is a state
 if-some : (b : Bool) (made next : State) → (if b then Some made else None) ≡ Some next
     → (b ≡ true) × (made ≡ next)
 if-some true made next e = (refl, cc)

@@ -1,4 +1,4 @@
--- Of each law that has premises, values that meet all of them.
+-- For each law with premises, values that meet all of them.
 use Rattle.std.proofs.Common.{ℕ, true, false, ◌++◌, codes, refl, arith}
 use Rattle.cn_date.specs.declared.date.BillDate.{BillDate}
 use Rattle.cn_date.specs.Calendar.{IsDate}
@@ -7,12 +7,12 @@ use Rattle.cn_date.specs.Reading.{capital_of, IsDateText}
 abbrev on : ℕ → ℕ → ℕ → BillDate
 on year month day = record { year = year; month = month; day = day }
 
--- the day of a leap year
+-- the leap day
 written_dates_are_dates : IsDate (on 2024 2 29)
 written_dates_are_dates =
     (omega arith, omega arith, omega arith, omega arith, omega arith, omega arith)
 
--- a form of one date by both choices
+-- one text that is a form of one date, by both choices
 each_text_is_one_date : IsDateText (codes "贰零贰肆年零贰月贰拾玖日") (on 2024 2 29)
     × IsDateText (codes "贰零贰肆年零贰月贰拾玖日") (on 2024 2 29)
 unfolding capital_of

@@ -19,7 +19,7 @@ use Rattle.cn_date.proofs.FormsRead.{form-read}
 use Rattle.cn_date.proofs.Fronts.{Front, nothing-front, front-more}
 use Rattle.cn_date.proofs.Shows.{capitals-read, written-of}
 
--- each state stands for the capitals that are read
+-- each state stands for the capitals that have been read
 record IsRead (text : List ℕ) (state : State) : Type 0 where
   capitals : List Capital
   is : capitals_of text ≡ map Some capitals
@@ -51,7 +51,7 @@ has-part (Day year month days part) text e =
     (is-read text (Day year month days part) e).front.is_part
 has-part (Complete date) text e = tt
 
--- what is read to the end is a date, and a date is read to its end
+-- a text that is read to its end is a date, and a date is read to its end
 whole-read : (text : List ℕ) (state : State) (date : BillDate) → Leads date_machine text state
     → end state ≡ Some date → IsDateText text date
 whole-read text (Complete other) date leads e =
@@ -65,7 +65,7 @@ whole-read text (Year year) date leads e = absurd (cc)
 whole-read text (Month year part) date leads e = absurd (cc)
 whole-read text (Day year month days part) date leads e = absurd (cc)
 
--- the characters of capitals are read as these are
+-- a text is read as its capitals are
 runs-as : (state : State) (text : List ℕ) (capitals : List Capital)
     → capitals_of text ≡ map Some capitals
     → machine.run date_machine.step state text ≡ run state capitals

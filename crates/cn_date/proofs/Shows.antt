@@ -1,4 +1,4 @@
--- Characters and capitals: what is written for a capital is read as it.
+-- Characters and capitals: the character written for a capital is read as that capital.
 use Rattle.std.proofs.Common.{◌≡◌, ℕ, ◌<◌, Bool, true, nat_lt, List, map, Some, refl, arith}
 use Rattle.std.specs.Char.{encode_utf8}
 use Rattle.std.specs.List.{list_all}
@@ -60,7 +60,7 @@ proper-written : (capital : Capital) → is_proper capital ≡ true → IsWritte
 proper-written (Digit value) h = digit-low value h
 proper-written capital h = tt
 
--- each character that is read is read as a digit below 10, or as no digit
+-- each character that is read is a digit below 10, or not a digit
 pub written-of : (c : ℕ) (capital : Capital) → capital_of c ≡ Some capital → IsWritten capital
 unfolding capital_of
 written-of c capital e =

@@ -1,4 +1,4 @@
--- What is written for a date, by its bytes.
+-- What is written for a date, as bytes.
 use Rattle.std.proofs.Common.{◌≡◌, ℕ, zero, suc, ◌*◌, ◌<◌, ◌≤◌, ◌/◌, ◌%◌, Bool, true, false, ◌==◌, nat_lt, List, [], ◌∷◌, ◌++◌, length, encode_utf8_all, Ok, refl, sym, ap, subst, ◌∙◌, if◌then◌else◌, length-append, arith}
 use Rattle.std.specs.List.{list_all}
 use Rattle.std.specs.Str.{IsUtf8}
@@ -135,7 +135,7 @@ few-bytes variant date ok = omega (
   length-form written date ok,
 )
 
--- what has been put for a date is its text
+-- the capitals written for a date are its text
 pub text-of : (variant : ChineseVariant) (date : BillDate) (text : CapitalText ChineseVariant) → IsDate date
     → HasPut variant text (date_form written date)
     → text_bytes text ≡ encode_utf8_all (date_text variant date)

@@ -20,7 +20,7 @@ pub figures-more : (count n : ℕ) → 0 < n
     → figures (suc count) n ≡ figures count (n / 10) ++ Digit (n % 10) ∷ []
 figures-more count n some = if-false (n == 0) [] _ (not-zero n some)
 
--- no figure stands in front
+-- there is no zero before the figures
 same-figures : (count n : ℕ) → n < 10 ^ count → figures (suc count) n ≡ figures count n
 same-figures zero zero low = refl
 same-figures zero (suc n) low = absurd (omega (arith, low))

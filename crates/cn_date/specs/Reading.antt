@@ -1,4 +1,4 @@
--- What is read as a date, and what is answered of a text.
+-- What is read as a date, and what the answer to a text is.
 use Rattle.std.specs.Prelude.{◌≡◌, ℕ, Bool, List, [], ◌∷◌, map, Option, Some, Result, codes, chars}
 pub use Rattle.cn_capitals.specs.declared.refusal.Refusal.{Refusal as DateRefusal}
 pub use Rattle.cn_capitals.specs.declared.refusal.Refusal.TheVariants.{Unfinished as unfinished, Incorrect as incorrect_at}
@@ -10,7 +10,7 @@ use Rattle.cn_date.specs.declared.date.BillDate.{BillDate}
 use Rattle.cn_date.specs.Calendar.{IsDate}
 use Rattle.cn_date.specs.Form.{date_form}
 
--- the characters that are read as each capital: those of both scripts, and no lower case
+-- the characters that are read as each capital: those of both scripts, and none of the lower case
 abbrev pub capital_rows : List (List ℕ × Capital)
 capital_rows =
     (codes "零", Digit 0) ∷ (codes "壹", Digit 1) ∷ (codes "贰貳", Digit 2)
@@ -19,10 +19,11 @@ capital_rows =
     ∷ (codes "玖", Digit 9) ∷ (codes "拾", Shi) ∷ (codes "年", Nian) ∷ (codes "月", Yue)
     ∷ (codes "日", Ri) ∷ []
 
--- what a character is read as, if it is read
+-- what a character is read as; none if it is not read
 unfoldable pub capital_of : ℕ → Option Capital
 capital_of c = first_with capital_rows c
 
+-- what each character of a text is read as
 abbrev pub capitals_of : List ℕ → List (Option Capital)
 capitals_of text = map capital_of text
 
@@ -36,10 +37,10 @@ pub record IsDateText (text : List ℕ) (date : BillDate) : Type 0 where
 abbrev pub Begins : List ℕ → Type 0
 Begins text = answers.Begins IsDateText text
 
--- the answer to a text
+-- `answer` is the answer to a text
 abbrev pub Answers : List ℕ → Result BillDate DateRefusal → Type 0
 Answers text answer = answers.Answers IsDateText text answer
 
--- the answer to a string, given by its bytes
+-- `answer` is the answer to a string, given by its bytes
 abbrev pub ReadsDate : List ℕ → Result BillDate DateRefusal → Type 0
 ReadsDate bytes answer = Answers (chars bytes) answer

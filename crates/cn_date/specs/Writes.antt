@@ -1,4 +1,4 @@
--- How a date is written, and what the printer of dates answers.
+-- How a date is written, and what the printer of dates returns.
 use Rattle.std.specs.Prelude.{◌≡◌, ℕ, ◌*◌, List, length, map, codes, slice_index, Result, MatchResult, encode_utf8_all, string_bytes, string_len, string_capacity}
 use Rattle.std.specs.declared.string.String.{String}
 use Rattle.cn_core.specs.Characters.{digit_char, unit_char}
@@ -12,11 +12,11 @@ use Rattle.cn_date.specs.declared.error.DateToChineseError.TheVariants.{NotADate
 use Rattle.cn_date.specs.Calendar.{IsDate}
 use Rattle.cn_date.specs.Form.{written, date_form}
 
--- a character of a text
+-- the first character of a text
 abbrev pub char_of : List ℕ → ℕ
 char_of text = slice_index text 0
 
--- the character that writes each; the last is not written
+-- the character that writes a capital in a script
 abbrev pub capital_char : ChineseVariant → Capital → ℕ
 capital_char variant (Digit value) = digit_char variant Upper value
 capital_char variant Shi = unit_char variant Upper 1
@@ -32,12 +32,12 @@ shown variant capitals = encode_utf8_all (map (capital_char variant) capitals)
 abbrev pub date_text : ChineseVariant → BillDate → List ℕ
 date_text variant date = map (capital_char variant) (date_form written date)
 
--- when each refusal comes: memory is asked for only where the date is written
+-- when each refusal occurs: memory is requested only if the date is written
 abbrev pub RefusesDate : BillDate → DateToChineseError → Type 0
 RefusesDate date NotADate = ¬ IsDate date
 RefusesDate date OutOfMemory = IsDate date
 
--- the text of a date, three bytes for each character; it holds no more memory than its bytes
+-- the text of a date, with three bytes for each character; it holds no more memory than its bytes
 pub record IsText {Z : Type 0} (variant : ChineseVariant) (date : BillDate) (text : String Z)
     : Type 0 where
   pub is_date : IsDate date
@@ -45,7 +45,7 @@ pub record IsText {Z : Type 0} (variant : ChineseVariant) (date : BillDate) (tex
   pub len : string_len text ≡ 3 * length (date_text variant date)
   pub capacity : string_capacity text ≡ string_len text
 
--- the text of a date, or the refusal
+-- the text of a date, or a refusal
 abbrev pub WritesDate : {Z : Type 0} → ChineseVariant → BillDate
     → Result (String Z) DateToChineseError → Type 0
 WritesDate variant date result = MatchResult result (IsText variant date) (RefusesDate date)

@@ -38,7 +38,7 @@ impl Written<ChineseVariant> for Capital {
     }
 }
 
-// The characters that are read, each at its slot. 無, which is none, fills the empty ones.
+// The characters that are read, each at its slot. 無, which is not read, fills the empty slots.
 static CAPITALS: [(char, Option<Capital>); 32] = [
     ('無', None),
     ('肆', Some(Capital::Digit(4))),
@@ -74,7 +74,7 @@ static CAPITALS: [(char, Option<Capital>); 32] = [
     ('贰', Some(Capital::Digit(2))),
 ];
 
-// The entry at the slot of a character: no two of those that are read share one.
+// The entry at the slot of a character. No two of the characters that are read have the same slot.
 #[inline(always)]
 fn entry(character: char) -> (char, Option<Capital>)
     ensures { result ≡ slice_index_or CAPITALS (character * 69 / 16 % 32) result }
@@ -82,7 +82,8 @@ fn entry(character: char) -> (char, Option<Capital>)
     CAPITALS[(character as u32 * 69 / 16 % 32) as usize]
 }
 
-/// What a character of either script is read as, by a look-up without a search.
+/// What a character of either script is read as, looked up without a search; `None` if it is not
+/// read.
 #[inline(always)]
 pub fn capital_of(character: char) -> Option<Capital>
     ensures { result ≡ capital_of character }

@@ -2,7 +2,7 @@
 ghost use Rattle.std.specs.Prelude.{◌≡◌, true, false, MatchBool};
 ghost use Rattle.cn_date.specs.Calendar.{is_leap, days_of, IsDate};
 
-/// A date as it stands on a bill. It need not be one that there is.
+/// A date as on a bill. It need not exist.
 #[derive(Debug, Clone, Copy, Eq, PartialEq)]
 pub struct BillDate {
     /// From 1 to 9999.
@@ -20,7 +20,7 @@ pub fn is_leap(year: u16) -> bool
     year % 4 == 0 && (year % 100 != 0 || year % 400 == 0)
 }
 
-/// The days of a month.
+/// The number of days of a month.
 pub fn days_of(year: u16, month: u8) -> u8
     ensures { result ≡ days_of year month }
 {
@@ -34,7 +34,7 @@ pub fn days_of(year: u16, month: u8) -> u8
 }
 
 impl BillDate {
-    /// Whether there is this day.
+    /// Whether the date exists.
     pub fn is_date(self) -> bool
         ensures { MatchBool result (IsDate self) (¬ IsDate self) }
     {

@@ -8,7 +8,7 @@ use std::fmt;
 /// Why a date was not written.
 #[derive(Debug, Copy, Clone, Eq, PartialEq)]
 pub enum DateToChineseError {
-    /// There is no such date.
+    /// The date does not exist.
     NotADate,
     /// There was no memory for the text.
     OutOfMemory,
@@ -40,12 +40,11 @@ impl From<AllocError> for DateToChineseError {
 /// Why a text was not read as a date.
 #[derive(Debug, Copy, Clone, Eq, PartialEq)]
 pub enum ChineseToDateError {
-    /// Something is missing at the end: the text begins a date, and is none. The empty text is
-    /// unfinished, too.
+    /// The text ends too soon: it is not a date, but it begins one. The empty text is unfinished
+    /// too.
     Unfinished,
-    /// No date begins with the text up to and with this character: so many characters of the
-    /// string stand in front of it. That is 10 for
-    /// `贰零贰伍年零贰月贰拾玖日`.
+    /// No date begins with the text up to and including this character. `char_index` is how many
+    /// characters of the string come before it: 10 for `贰零贰伍年零贰月贰拾玖日`.
     Incorrect { char_index: usize },
 }
 

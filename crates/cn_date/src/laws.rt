@@ -25,14 +25,15 @@ pub fn each_text_has_one_answer()
         × ((other : Result BillDate DateRefusal) → Answers text other → other ≡ answer) }
 {}
 
-/// For a form that judges at each key: each beginning of each form of a date begins a date, so it is
-/// unfinished or right, and never incorrect.
+/// Each prefix of each form of a date begins a date, so it is unfinished or a date, and never
+/// incorrect. So an input form can judge a text at each key.
 pub fn beginnings_are_begun()
     ensures { (front behind : List ℕ) → (date : BillDate)
         → IsDateText (front ++ behind) date → (place : ℕ) → ¬ Answers front (Err (incorrect_at place)) }
 {}
 
-/// No form is long, so no text costs more than so many characters to read.
+/// A form has at most 13 characters, so a reader of a longer text stops at its 14th character at
+/// the latest.
 pub fn forms_are_short()
     ensures { (text : List ℕ) → (date : BillDate) → IsDateText text date → length text ≤ 13 }
 {}

@@ -1,11 +1,11 @@
-//! Dates in Chinese capitals, as on cheques: written in one form, and read in each.
+//! Dates in Chinese capitals, as on cheques: written in one form, and read in each form.
 //!
-//! What a form is stands in `specs/Form`, and which dates there are in `specs/Calendar`.
+//! `specs/Form` defines the forms of a date, and `specs/Calendar` which dates exist.
 //!
-//! Writing puts that form piece by piece into a short text, from which a string is made. Reading goes
-//! from the left, by states that say what is read. That it is right is shown in three parts: each
-//! form is read to its end (`proofs/FormsRead`), each state stands for what has been read of a form
-//! (`proofs/Fronts`), and each state can be completed (`proofs/Completed`).
+//! Writing copies that form piece by piece into a short text, and makes a string of it. Reading
+//! goes from left to right through states, which say what has been read. Three parts show that it
+//! is right: each form is read to its end (`proofs/FormsRead`), each state stands for what has been
+//! read of a form (`proofs/Fronts`), and each state can be completed (`proofs/Completed`).
 #![tactic(auto)]
 
 mod capital;

@@ -1,10 +1,10 @@
-// What is read of the number of a month or a day.
+// What has been read of the number of a month or a day.
 ghost use Rattle.std.specs.Prelude.{◌≡◌};
 ghost use Rattle.cn_date.specs.Working.Steps.{IsPart, part_step, fits_month, fits_day, month_of, day_of};
 
 use crate::capital::Capital;
 
-/// What is read. A digit is one from 1 to 9.
+/// What has been read. Each digit is from 1 to 9.
 #[derive(Clone, Copy)]
 pub enum Part {
     /// Nothing.
@@ -24,7 +24,7 @@ pub enum Part {
 }
 
 impl Part {
-    /// The part with one more character, if numbers go on so.
+    /// The part after one more character; `None` if no number continues with it.
     pub fn step(self, capital: Capital) -> Option<Part>
         ensures { result ≡ part_step self capital }
     {
@@ -39,7 +39,7 @@ impl Part {
         }
     }
 
-    /// Whether a month can begin so.
+    /// Whether a month can begin like this.
     pub fn fits_month(self) -> bool
         ensures { result ≡ fits_month self }
     {
@@ -51,7 +51,7 @@ impl Part {
         }
     }
 
-    /// Whether a day can begin so, in a month of so many days.
+    /// Whether a day can begin like this in a month of `days` days.
     pub fn fits_day(self, days: u8) -> bool
         requires { IsPart self }
         ensures { result ≡ fits_day days self }
@@ -64,7 +64,8 @@ impl Part {
         }
     }
 
-    /// The month, where it is read whole: as a day is, or one digit. 零 has to stand in front of 壹月.
+    /// The month if it is complete: it is complete like a day, or as one digit, except that 壹月
+    /// needs 零 before it.
     pub fn month(self) -> Option<u8>
         requires { IsPart self }
         ensures { result ≡ month_of self }
@@ -76,7 +77,7 @@ impl Part {
         }
     }
 
-    /// The day, where it is read whole.
+    /// The day if it is complete.
     pub fn day(self) -> Option<u8>
         requires { IsPart self }
         ensures { result ≡ day_of self }

@@ -1,4 +1,4 @@
-// The form of a date that is written, put piece by piece.
+// Writes the form of a date, piece by piece.
 ghost use Rattle.std.specs.Prelude.{◌≡◌, ◌<◌, true, List, [], ◌∷◌, ◌++◌};
 ghost use Rattle.cn_date.specs.declared.capital.Capital.{Capital};
 ghost use Rattle.cn_date.specs.Calendar.{IsDate};
@@ -10,7 +10,7 @@ use crate::date::BillDate;
 use cn_capitals::CapitalText;
 use cn_core::ChineseVariant;
 
-// The figures of a year.
+// Writes the figures of a year.
 #[tactic(auto, using(crate::proofs::Years::year_snoc))]
 fn put_year(text: &mut CapitalText<ChineseVariant>, year: u16)
     requires { year < 10000 }
@@ -22,7 +22,7 @@ fn put_year(text: &mut CapitalText<ChineseVariant>, year: u16)
     }
 }
 
-// The number of a month or a day.
+// Writes the number of a month or a day.
 fn put_number(text: &mut CapitalText<ChineseVariant>, number: u8)
     requires { number < 100 }
     ensures { PutsMore text.old text.new (number_text number) }
@@ -38,7 +38,7 @@ fn put_number(text: &mut CapitalText<ChineseVariant>, number: u8)
     }
 }
 
-// 零 where it stands in front.
+// Writes 零 if there is one before a number.
 fn put_ling(text: &mut CapitalText<ChineseVariant>, stands: bool)
     ensures { PutsMore text.old text.new (ling_text stands) }
 {
@@ -47,7 +47,7 @@ fn put_ling(text: &mut CapitalText<ChineseVariant>, stands: bool)
     }
 }
 
-// The month.
+// Writes the month.
 fn put_month(text: &mut CapitalText<ChineseVariant>, month: u8)
     requires { month < 100 }
     ensures { PutsMore text.old text.new (month_text written month) }
@@ -57,7 +57,7 @@ fn put_month(text: &mut CapitalText<ChineseVariant>, month: u8)
     text.put(Capital::Yue);
 }
 
-// The day.
+// Writes the day.
 // Same answer (< → <=, 10 → 11): 10 is a multiple of 10, which gives the same text.
 fn put_day(text: &mut CapitalText<ChineseVariant>, day: u8)
     requires { day < 100 }
@@ -68,7 +68,7 @@ fn put_day(text: &mut CapitalText<ChineseVariant>, day: u8)
     text.put(Capital::Ri);
 }
 
-/// The form that is written.
+/// Writes a date in the form that is written.
 pub fn put_date(text: &mut CapitalText<ChineseVariant>, date: BillDate)
     requires { IsDate date }
     ensures { PutsMore text.old text.new (date_form written date) }

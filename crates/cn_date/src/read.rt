@@ -1,4 +1,4 @@
-// Reading, by the states of a date.
+// Reads dates by their states.
 ghost use Rattle.cn_date.specs.Answer.{answer_of};
 ghost use Rattle.cn_date.specs.Reading.{ReadsDate};
 
@@ -6,8 +6,8 @@ use crate::state::State;
 use crate::{BillDate, ChineseToDateError};
 use cn_capitals::{Refusal, read};
 
-/// The date for which a text in capitals stands: `Ok` exactly where the text is a form of a date that
-/// there is. It takes no memory.
+/// The date for which a text in capitals stands. It is `Ok` exactly if the text is a form of a date
+/// that exists. No memory is allocated.
 ///
 /// ```text
 /// chinese_to_date("贰零贰陆年零壹月壹拾伍日") == Ok(BillDate { year: 2026, month: 1, day: 15 })
@@ -15,9 +15,9 @@ use cn_capitals::{Refusal, read};
 /// chinese_to_date("贰零贰伍年零贰月贰拾玖日") == Err(ChineseToDateError::Incorrect { char_index: 10 })
 /// ```
 ///
-/// `Unfinished` exactly where the text is no date, and something behind it can make it one; else
-/// `Incorrect` at the first character with which no date begins. White space is refused at its place,
-/// since nothing may be put in there.
+/// It is `Unfinished` exactly if the text is not a date but something after it can make it one.
+/// Otherwise it is `Incorrect` at the first character with which no date begins. White space is
+/// incorrect at its place, since nothing may be added there.
 pub fn chinese_to_date(text: &str) -> Result<BillDate, ChineseToDateError>
     ensures { ReadsDate text.now (answer_of result) }
 {

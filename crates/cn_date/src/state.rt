@@ -1,4 +1,4 @@
-// How far a text is read as a date, from the left.
+// The states of reading a date from left to right.
 ghost use Rattle.std.specs.Prelude.{◌≡◌};
 ghost use Rattle.cn_date.specs.Reading.{IsDateText};
 ghost use Rattle.cn_date.specs.Working.Putting.{IsWritten};
@@ -9,10 +9,10 @@ use crate::date::{BillDate, days_of};
 use crate::part::Part;
 use cn_capitals::Grammar;
 
-/// What is read.
+/// What has been read.
 #[derive(Clone, Copy)]
 pub enum State {
-    /// The figures of a year, 0 for none.
+    /// The figures of a year; 0 if there are none yet.
     Year(u16),
     /// The year, and a part of the month.
     Month(u16, Part),
@@ -23,12 +23,12 @@ pub enum State {
         days: u8,
         part: Part,
     },
-    /// All: nothing may follow.
+    /// A whole date, which nothing may follow.
     Complete(BillDate),
 }
 
-// Same answer (10 → 11, 10 → 9): a sum is 0 only where the year and the digit are, whatever the
-// factor.
+// Same answer (10 → 11, 10 → 9): a sum is 0 only if the year and the digit are 0, whatever the
+// factor is.
 fn year_step(year: u16, capital: Capital) -> Option<State>
     ensures { result ≡ year_step year capital }
 {
@@ -93,7 +93,7 @@ fn day_step(year: u16, month: u8, days: u8, part: Part, capital: Capital) -> Opt
 }
 
 impl State {
-    /// The state with one more character, if a date can go on so.
+    /// The state after one more capital; `None` if no date continues with it.
     fn after(self, capital: Capital) -> Option<State>
         requires part { HasPart self }
         requires digit { IsWritten capital }

@@ -1,4 +1,4 @@
-// Writing.
+// Writes dates.
 ghost use Rattle.std.specs.Prelude.{◌≡◌, ◌≤◌, length, encode_utf8_all};
 ghost use Rattle.cn_capitals.specs.Text.{text_bytes};
 ghost use Rattle.cn_date.specs.Calendar.{IsDate};
@@ -12,7 +12,7 @@ use cn_capitals::CapitalText;
 use cn_core::ChineseVariant;
 use std::alloc::Global;
 
-/// The text of a date that there is, in room of its own: three bytes for each of its characters.
+/// The text of a date that exists, in a buffer of its own, with three bytes for each character.
 pub fn date_text(variant: ChineseVariant, date: BillDate) -> CapitalText<ChineseVariant>
     requires { IsDate date }
     ensures bytes { text_bytes result ≡ encode_utf8_all (date_text variant date) }
@@ -23,16 +23,16 @@ pub fn date_text(variant: ChineseVariant, date: BillDate) -> CapitalText<Chinese
     text
 }
 
-/// The date in capitals, as it stands on a cheque.
+/// The date in capitals, as on a cheque.
 ///
 /// ```text
 /// let date = BillDate { year: 2026, month: 1, day: 15 };
 /// date_to_chinese(alloc, ChineseVariant::Simple, date) == Ok("贰零贰陆年零壹月壹拾伍日")
 /// ```
 ///
-/// `NotADate` where there is no such day in the Gregorian calendar from year 1 to year 9999, before
-/// memory is asked for. `OutOfMemory` where there is none for the text, which is one request of its
-/// size.
+/// The result is `NotADate` if the date does not exist in the Gregorian calendar from year 1 to
+/// year 9999; no memory is requested then. It is `OutOfMemory` if there is no memory for the text,
+/// which is requested once, in its size.
 pub fn date_to_chinese(
     alloc: Global,
     variant: ChineseVariant,

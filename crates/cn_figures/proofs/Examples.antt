@@ -1,4 +1,4 @@
--- Worked examples: what the definitions compute to.
+-- Worked examples: the values that the definitions compute.
 use Rattle.std.proofs.Common.{◌≡◌, ℕ, ◌+◌, ◌*◌, ◌<◌, ◌≤◌, ◌==◌, ◌⊎◌, inl, inr, Bool, true, false, List, [], ◌∷◌, ◌++◌, length, map, drop, Some, None, Err, codes, refl, arith}
 use Rattle.std.specs.Prelude.{IsTrue, pos, neg_ℤ}
 use Rattle.std.specs.List.{list_all}
@@ -16,7 +16,7 @@ use Rattle.cn_figures.specs.Working.Steps.{figures_machine}
 use Rattle.cn_figures.proofs.FiguresRead.{figures-read}
 use Rattle.cn_figures.proofs.FiguresRun.{at}
 
--- figures of ¥ or nothing, digits, triples and places
+-- figures that are made of ¥ or nothing, digits, triples and places
 pub made : (text : List ℕ) (currency : Bool) (front : List ℕ) (triples : List Triple) (places : List ℕ)
     → 0 < length front → (triples ≡ []) ⊎ (length front ≤ 3)
     → IsTrue (list_all (λ digit. digit == 0) (drop 2 places))
@@ -90,7 +90,7 @@ zero = made (codes "0.00") false (0 ∷ []) [] (0 ∷ 0 ∷ []) (omega arith) (i
 minus_zero : WriteSignedAmount (codes "-0.00") (Some (pos 0))
 minus_zero = (true, 0, (refl, zero), refl)
 
--- one yuan more than the greatest amount
+-- one yuan more than the yuan of the greatest amount
 too_large : WriteAmount (codes "10000000000000000") None
 unfolding part_of figure_of
 too_large = (
@@ -101,7 +101,7 @@ too_large = (
   refl,
 )
 
--- what is missing
+-- unfinished figures
 unfinished : (text : List ℕ) (progress : Progress) → Leads figures_machine text progress
     → figures_machine.end progress ≡ None → Answers WriteAmount text (Err Unfinished)
 unfinished text progress leads none =
@@ -118,7 +118,7 @@ behind_comma : Answers WriteAmount (codes "15,") (Err Unfinished)
 unfolding part_of figure_of
 behind_comma = unfinished (codes "15,") (at AfterComma (Some 1500)) refl refl
 
--- what is wrong, behind a front that leads so far
+-- incorrect figures, given the state before the fault
 incorrect : (front : List ℕ) (c place : ℕ) (progress : Progress) → place ≡ length front
     → Leads figures_machine front progress → figures_machine.step progress c ≡ None
     → Answers WriteAmount (front ++ c ∷ []) (Err (Incorrect place))

@@ -16,7 +16,7 @@ use Rattle.cn_figures.specs.Working.Steps.{fen_with, step, with_fen, advance, en
 use Rattle.cn_figures.proofs.FiguresRun.{at, figures-run}
 use Rattle.cn_figures.proofs.Fronts.{Front, front-more, ended}
 
--- each state stands for the parts that are read
+-- each state stands for the parts that have been read
 record IsRead (text : List ℕ) (progress : Progress) : Type 0 where
   parts : List Part
   is : parts_of text ≡ map Some parts
@@ -55,7 +55,7 @@ is-read text progress e =
     text figures_machine.begin progress
     (record { parts = []; is = refl; front = (refl, refl) }) e
 
--- what is read to an end is figures
+-- a text that is read to its end is figures
 only-read : (text : List ℕ) (progress : Progress) (amount : Option ℕ)
     → Leads figures_machine text progress → end progress ≡ Some amount → WriteAmount text amount
 only-read text progress amount leads e = by (is_end progress.state) refl e where
@@ -67,7 +67,7 @@ only-read text progress amount leads e = by (is_end progress.state) refl e where
       let all = ended progress.state r.parts progress.fen r.front is in
       (all.0, (r.parts, r.is, all.1), sym (some-is progress.fen amount e) ∙ all.2)
 
--- the characters of parts are read as these are
+-- a text is read as its parts are
 runs-as : (progress : Progress) (text : List ℕ) (parts : List Part) → parts_of text ≡ map Some parts
     → run figures_machine.step progress text ≡ run advance progress parts
 runs-as progress text parts is =
@@ -83,7 +83,7 @@ each-read text amount (fen, (parts, is, are), worth) =
       last.2 ∙ ap (λ amount. Some amount) (sym worth),
     )
 
--- what completes each state
+-- the parts that complete a state
 record IsCompleted (state : State) (fen : Option ℕ) : Type 0 where
   behind : List ℕ
   parts : List Part

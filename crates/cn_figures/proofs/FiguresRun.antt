@@ -1,4 +1,4 @@
--- Figures are read to their end, and what is read so far can be completed.
+-- Figures are read to their end, and what has been read can be completed.
 use Rattle.std.proofs.Common.{◌≡◌, ℕ, ◌+◌, ◌*◌, ◌<◌, ◌≤◌, ◌==◌, ◌⊎◌, inl, inr, Bool, true, false, List, [], ◌∷◌, ◌++◌, length, map, drop, Option, Some, None, refl, sym, ap, ◌∙◌, if◌then◌else◌, append_assoc, arith}
 use Rattle.cn_capitals.specs.Machine.{run}
 use Rattle.cn_capitals.proofs.Runs.{run-ran, run-behind}
@@ -13,11 +13,11 @@ use Rattle.cn_figures.specs.Working.Steps.{with_more, step, with_fen, advance, e
 use Rattle.cn_figures.proofs.Fronts.{AreZeros}
 use Rattle.cn_figures.proofs.Yuan.{digit-more, below-more, value-behind}
 
--- this state and this amount
+-- this state and this amount together
 abbrev pub at : State → Option ℕ → Progress
 at state fen = record { state = state; fen = fen }
 
--- parts that are read from one to another
+-- these parts lead from one state to another
 abbrev pub Runs : Progress → List Part → Progress → Type 0
 Runs progress parts last = run advance progress parts ≡ Some last
 
@@ -30,7 +30,7 @@ runs-many yuan (digit ∷ digits) =
     ap (λ fen. run advance (at Many fen) (map Digit digits)) (digit-more yuan digit)
     ∙ runs-many (yuan * 10 + digit) digits
 
--- the state behind digits with no comma
+-- the state after digits without a comma
 abbrev pub behind : List ℕ → State
 behind [] = Beginning
 behind (a ∷ []) = One
@@ -66,7 +66,7 @@ runs-begun true (a ∷ digits) some =
     ap (λ fen. run advance (at One (below fen)) (map Digit digits)) same
     ∙ runs-front (0 * 10 + a) digits
 
--- the state behind triples
+-- the state after triples
 abbrev pub behind_triples : State → List Triple → State
 behind_triples state [] = state
 behind_triples state (triple ∷ triples) = CommaThree
@@ -109,7 +109,7 @@ runs-triples state yuan ((a, b, c) ∷ triples) (inr comma) =
     ∙ ap (λ state. Some (at state (below (100 * value_after next (digits_of triples)))))
     (triples-behind triples)
 
--- digits of at most three are in front of a comma
+-- the digits before a comma are three at most
 comma-fits : (front : List ℕ) (triples : List Triple) → 0 < length front
     → (triples ≡ []) ⊎ (length front ≤ 3)
     → (triples ≡ []) ⊎ (step (behind front) Comma ≡ Some AfterComma)
@@ -120,7 +120,7 @@ comma-fits (a ∷ b ∷ []) triples some (inr few) = inr refl
 comma-fits (a ∷ b ∷ c ∷ []) triples some (inr few) = inr refl
 comma-fits (a ∷ b ∷ c ∷ d ∷ front) triples some (inr few) = absurd (omega (arith, few))
 
--- figures may end here, and a point may stand here
+-- figures may end at this state, and a point may follow
 record IsYuanEnd (state : State) : Type 0 where
   ends : is_end state ≡ true
   point : (fen : Option ℕ) → advance (at state fen) Point ≡ Some (at AfterPoint fen)
@@ -142,7 +142,7 @@ runs-zeros fen (digit ∷ zeros) h =
     (ap (λ (b : Bool). with_fen fen (if b then Some Fen else None)) (and-left (digit == 0) _ h))
     ∙ runs-zeros fen zeros (and-right (digit == 0) _ h)
 
--- the places behind the yuan
+-- the places after the yuan
 runs-places : (state : State) (yuan : ℕ) (places : List ℕ) → IsYuanEnd state
     → AreZeros (drop 2 places)
     → (last : Progress) × Runs (at state (below (100 * yuan))) (pointed places) last

@@ -1,4 +1,4 @@
--- What each state stands for, and that each step keeps it.
+-- What each state stands for, and that each step preserves it.
 use Rattle.std.proofs.Common.{◌≡◌, ℕ, ◌+◌, ◌*◌, ◌≤◌, ◌==◌, ◌⊎◌, inl, inr, Bool, true, false, List, [], ◌∷◌, ◌++◌, length, length-append, map, drop, Option, Some, None, refl, sym, ap, subst, ◌∙◌, if◌then◌else◌, append-nil, append_assoc, arith}
 use Rattle.std.specs.Prelude.{IsTrue}
 use Rattle.std.specs.List.{list_all}
@@ -14,21 +14,22 @@ use Rattle.cn_figures.specs.Figures.{value_of, Triple, with_commas, digits_of, m
 use Rattle.cn_figures.specs.Working.Steps.{with_more, fen_with, step, is_end}
 use Rattle.cn_figures.proofs.Yuan.{IsYuan, yuan-begun, yuan-digit, yuan-triple, below-more}
 
--- the yuan in front of a comma, and those in front of a point
+-- the yuan of figures, after which a comma may follow
 abbrev pub IsShort : List Part → Option ℕ → Type 0
 IsShort parts fen =
     (front : List ℕ) × (triples : List Triple) × IsYuan front triples parts fen × (length front ≤ 3)
 
+-- the yuan of figures, after which a point may follow
 abbrev pub AreYuan : List Part → Option ℕ → Type 0
 AreYuan parts fen =
     (front : List ℕ) × (triples : List Triple) × IsYuan front triples parts fen
     × ((triples ≡ []) ⊎ (length front ≤ 3))
 
--- zeros, of which any number may stand behind the fen
+-- zeros, any number of which may follow the fen
 abbrev pub AreZeros : List ℕ → Type 0
 AreZeros digits = IsTrue (list_all (λ digit. digit == 0) digits)
 
--- so many digits of the yuan, with no comma
+-- this many digits of the yuan, without a comma
 abbrev pub HasDigits : ℕ → List Part → Option ℕ → Type 0
 HasDigits count parts fen =
     (front : List ℕ) × IsYuan front [] parts fen × (length front ≡ count)
@@ -61,12 +62,12 @@ Front Fen parts fen =
     × AreZeros zeros × (parts ≡ start ++ Point ∷ Digit a ∷ Digit b ∷ map Digit zeros)
     × (fen ≡ with_more (with_more was 1 (10 * a)) 1 b)
 
--- the state that was made
+-- the state that a step gives
 to : (parts : List Part) (fen : Option ℕ) (made next : State) → Some made ≡ Some next
     → Front made parts fen → Front next parts fen
 to parts fen made next e h = subst (λ state. Front state parts fen) (some-is made next e) h
 
--- one more part behind what stands behind a start
+-- one more part after those that follow a start
 behind-more : (parts start behind : List Part) (part : Part) → parts ≡ start ++ behind
     → parts ++ part ∷ [] ≡ start ++ (behind ++ part ∷ [])
 behind-more parts start behind part is =
@@ -86,7 +87,7 @@ zeros-more : (zeros : List ℕ) (digit : ℕ) → AreZeros zeros → (digit == 0
 zeros-more zeros digit h k = list_all-append (λ digit. digit == 0) zeros (digit ∷ [])
     ∙ both (list_all (λ digit. digit == 0) zeros) _ h (both (digit == 0) true k refl)
 
--- one more digit, by the state
+-- one more digit, by the state before it
 front-digit : (state next : State) (parts : List Part) (fen : Option ℕ) (digit : ℕ)
     → Front state parts fen → step state (Digit digit) ≡ Some next
     → Front next (parts ++ Digit digit ∷ []) (fen_with state fen (Digit digit))
@@ -161,7 +162,7 @@ front-digit Fen next parts fen digit (start, was, a, b, zeros, yuan, are, is, wo
       by false same e = absurd (cc)
 front-digit CommaThree next parts fen digit h e = absurd (cc)
 
--- a comma behind the yuan, and the point
+-- a comma or a point after the yuan
 front-comma : (next : State) (parts : List Part) (fen : Option ℕ) → IsShort parts fen
     → Some AfterComma ≡ Some next → Front next (parts ++ Comma ∷ []) fen
 front-comma next parts fen short e = to _ _ AfterComma next e (parts, short, refl)
@@ -250,7 +251,7 @@ fen-worth was yuan a b is =
     ap (λ fen. with_more fen 1 b) (jiao-worth was yuan a is)
     ∙ below-more jiao 1 b (omega arith) ∙ ap below same
 
--- what is read to an end is figures
+-- parts that are read to their end are figures
 pub ended : (state : State) (parts : List Part) (fen : Option ℕ) → Front state parts fen
     → is_end state ≡ true → AreAmount parts fen
 ended One parts fen h e = no-places parts fen (plain-yuan 1 parts fen h)

@@ -1,5 +1,5 @@
--- Of each law that has premises, values that meet all of them, also of the laws of cn_capitals, which
--- speak of any grammar.
+-- For each law with premises, values that meet all of them. So too for the laws of cn_capitals,
+-- which hold for any grammar.
 use Rattle.std.proofs.Common.{◌-◌, ◌^◌, ◌<◌, inr, false, [], ◌∷◌, ◌++◌, Some, codes, refl, arith}
 use Rattle.cn_amount.specs.Places.{amount_limit}
 use Rattle.cn_capitals.specs.Machine.{Reads}

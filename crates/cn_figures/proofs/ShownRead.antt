@@ -1,4 +1,4 @@
--- Figures that are shown are those of what they show.
+-- The figures shown for an amount are figures of that amount.
 use Rattle.std.proofs.Common.{◌≡◌, ℕ, ◌+◌, ◌-◌, ◌/◌, ◌%◌, ◌^◌, ◌<◌, nat_lt, Bool, true, false, List, [], ◌∷◌, ◌++◌, map, Option, Some, None, Ok, codes, if◌then◌else◌, decimal, inl, refl, sym, ap, ap₂, subst, ◌∙◌, append-nil, arith, rules}
 use Rattle.std.specs.Prelude.{IsTrue}
 use Rattle.std.specs.Char.{is_ascii_digit}
@@ -18,7 +18,7 @@ use Rattle.cn_figures.specs.declared.part.Part.TheVariants.{Digit, Point}
 use Rattle.cn_figures.specs.Figures.{value_after, value_of, IsFigures, ReadsFigures, figures_of}
 use Rattle.cn_figures.specs.Parts.{part_of, parts_of}
 
--- decimal digits, and what they write
+-- decimal digits, and the number that they write
 abbrev AreDigits : List ℕ → Type 0
 AreDigits text = IsTrue (list_all is_ascii_digit text)
 
@@ -39,7 +39,7 @@ folds = record { empty = λ n. refl; more = λ n c cs k. refl }
 model : IsNumeralModel AreDigits (λ text. value_of (digits text))
 model = numerals_by_fold AreDigits tells (λ number text. value_after number (digits text)) folds
 
--- each is read as itself
+-- each digit is read as itself
 each-digit : AllBelow (λ digit. part_of (48 + digit) ≡ Some (Digit digit)) 10
 unfolding part_of figure_of
 each-digit = (refl, (refl, (refl, (refl, (refl, (refl, (refl, (refl, (refl, (refl, tt))))))))))
@@ -61,7 +61,7 @@ point-part : part_of 46 ≡ Some Point
 unfolding part_of figure_of
 point-part = refl
 
--- so many fen, by the digits that are shown
+-- an amount, by the digits that are shown
 shown : (fen : ℕ) → fen < amount_limit → IsFigures (figures_of fen) fen
 shown fen few =
     let short : fen / 100 < 2 ^ 64 = omega arith in

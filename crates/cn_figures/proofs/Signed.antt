@@ -1,4 +1,4 @@
--- Figures with a minus in front or not.
+-- Figures with or without a minus before them.
 use Rattle.std.proofs.Common.{◌≡◌, ℕ, ℤ, ◌+◌, ◌<◌, ◌≤◌, IsUtf8, chars, nat_lt, Bool, true, false, ◌==◌, List, [], ◌∷◌, ◌++◌, length, map, take, Option, Some, None, Result, Ok, Err, refl, sym, ap, subst, ◌∙◌, option_map, if◌then◌else◌, add-one, arith}
 use Rattle.std.proofs.lemmas.Str.{encodes-chars, length-le-encodes}
 use Rattle.std.proofs.lemmas.Bool.Decides.{nat_tests}
@@ -22,13 +22,13 @@ use Rattle.cn_figures.proofs.FiguresRead.{figures-read}
 abbrev pub signed : Bool → Option ℕ → Option ℤ
 signed negative amount = option_map (signed_number negative) amount
 
--- the answer to what stands behind a minus, as that to all
+-- the answer to the text after a minus, as an answer to the whole text
 abbrev pub answer_behind : Result (Option ℕ) Refusal → Result (Option ℤ) Refusal
 answer_behind (Ok amount) = Ok (signed true amount)
 answer_behind (Err unfinished) = Err unfinished
 answer_behind (Err (incorrect_at place)) = Err (incorrect_at (place + 1))
 
--- with no minus in front
+-- the answer to a text without a minus
 abbrev pub answer_bare : Result (Option ℕ) Refusal → Result (Option ℤ) Refusal
 answer_bare (Ok amount) = Ok (signed false amount)
 answer_bare (Err refusal) = Err refusal
@@ -54,7 +54,7 @@ no-figures c text amount minus (fen, (parts, is, are), worth) = by parts is wher
       let none = no-part c minus in
       let some : part_of c ≡ Some part = cc in absurd (cc)
 
--- behind a minus
+-- figures after a minus
 minus-written : (c : ℕ) (text : List ℕ) (amount : Option ℕ) → is_figure_minus c ≡ true
     → WriteAmount text amount → WriteSignedAmount (c ∷ text) (signed true amount)
 minus-written c text amount minus (fen, is, worth) =
@@ -186,7 +186,7 @@ pub few-chars : (bytes : List ℕ) → IsUtf8 bytes → length (chars bytes) ≤
 few-chars bytes ok = let e = ap length (encodes-chars bytes ok) in let low =
     length-le-encodes (chars bytes) in omega (arith, e, low)
 
--- the answers to a text, by those to what is read of it
+-- the answer to a text, given the answer to the text after its minus
 pub behind-minus : (text rest : List ℕ) (answer : Result (Option ℕ) Refusal)
     → IsBehindMinus text rest → Answers WriteAmount rest answer
     → Answers WriteSignedAmount text (answer_behind answer)

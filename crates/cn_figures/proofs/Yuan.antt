@@ -1,4 +1,4 @@
--- The yuan of figures that are read: their digits, and the fen that these write.
+-- The yuan of figures that have been read: their digits, and the fen that these write.
 use Rattle.std.proofs.Common.{◌≡◌, ℕ, ◌+◌, ◌*◌, ◌<◌, ◌≤◌, nat_lt, Bool, true, false, List, [], ◌∷◌, ◌++◌, length, length-append, map, Option, Some, None, refl, sym, ap, ◌∙◌, if◌then◌else◌, append-nil, append_assoc, arith}
 use Rattle.std.proofs.lemmas.Bool.Decides.{nat_tests}
 use Rattle.std.proofs.lemmas.List.{map-append}
@@ -9,7 +9,7 @@ use Rattle.cn_figures.specs.declared.part.Part.TheVariants.{Digit, Comma}
 use Rattle.cn_figures.specs.Figures.{value_after, value_of, Triple, with_commas, digits_of, marked, below}
 use Rattle.cn_figures.specs.Working.Steps.{with_more}
 
--- an amount with more is none where it was none
+-- an amount that is not below the limit stays so when it grows
 pub below-more : (fen times more : ℕ) → fen ≤ fen * times
     → with_more (below fen) times more ≡ below (fen * times + more)
 below-more fen times more grows = by (nat_lt fen amount_limit) refl where
@@ -43,7 +43,7 @@ digits-more : (triples : List Triple) (a b c : ℕ)
 digits-more [] a b c = refl
 digits-more ((x, y, z) ∷ triples) a b c = ap (λ more. x ∷ y ∷ z ∷ more) (digits-more triples a b c)
 
--- these parts are the yuan of figures, of these digits and so many fen
+-- these parts are the yuan of figures, with these digits and this many fen
 pub record IsYuan (front : List ℕ) (triples : List Triple) (parts : List Part) (fen : Option ℕ)
     : Type 0 where
   pub currency : Bool
@@ -51,7 +51,7 @@ pub record IsYuan (front : List ℕ) (triples : List Triple) (parts : List Part)
   pub form : parts ≡ marked currency ++ (map Digit front ++ with_commas triples)
   pub worth : fen ≡ below (100 * value_of (front ++ digits_of triples))
 
--- the first digit, behind ¥ or nothing
+-- the first digit, after ¥ or nothing
 pub yuan-begun : (currency : Bool) (parts : List Part) (fen : Option ℕ) (digit : ℕ)
     → parts ≡ marked currency → fen ≡ Some 0
     → IsYuan (digit ∷ []) [] (parts ++ Digit digit ∷ []) (with_more fen 10 (100 * digit))
@@ -63,7 +63,7 @@ yuan-begun currency parts fen digit is none =
       worth = ap (λ fen. with_more fen 10 (100 * digit)) none ∙ ap below same;
     }
 
--- a digit in front of all commas
+-- a digit before all commas
 pub yuan-digit : (front : List ℕ) (parts : List Part) (fen : Option ℕ) (digit : ℕ)
     → IsYuan front [] parts fen
     → IsYuan (front ++ digit ∷ []) [] (parts ++ Digit digit ∷ []) (with_more fen 10 (100 * digit))
@@ -82,7 +82,7 @@ yuan-digit front parts fen digit h = record {
       ∙ ap (λ digits. below (100 * value_of digits)) (sym (append-nil (front ++ digit ∷ [])));
 }
 
--- a triple behind its comma
+-- a triple after its comma
 pub yuan-triple : (front : List ℕ) (triples : List Triple) (parts : List Part) (fen : Option ℕ)
     (a b c : ℕ) → IsYuan front triples parts fen
     → IsYuan front (triples ++ (a, b, c) ∷ [])

@@ -6,9 +6,10 @@ use std::fmt;
 /// Why figures were refused.
 #[derive(Debug, Copy, Clone, Eq, PartialEq)]
 pub enum FiguresError {
-    /// A digit is missing at the end.
+    /// The text ends too soon: a digit must follow.
     Unfinished,
-    /// No figures begin with the text up to and with this character.
+    /// No figures begin with the text up to and including this character. `char_index` is how many
+    /// characters come before it.
     Incorrect { char_index: usize },
     /// The amount is 10^18 fen or more.
     TooLarge,

@@ -8,8 +8,8 @@ ghost use Rattle.cn_figures.specs.Figures.{WriteAmount, WriteSignedAmount, Reads
 
 use crate::FiguresError;
 
-/// Two errors are equal exactly where they are the same variant, with the same char_index where there
-/// is one.
+/// Two errors are equal exactly if they are the same variant and, if they have a char_index, it is
+/// the same.
 ///
 /// For callers who compare errors: two that are incorrect at different characters are not equal.
 pub fn equal_errors_are_the_same_variant()
@@ -25,7 +25,7 @@ pub fn figures_have_one_answer()
         → other ≡ answer) }
 {}
 
-/// So have those with a minus in front or not.
+/// Figures with or without a minus before them have one answer and no more.
 pub fn signed_figures_have_one_answer()
     ensures { (figures : List ℕ) → (answer : Result (Option ℤ) Refusal)
         × Answers WriteSignedAmount figures answer

@@ -1,9 +1,9 @@
-//! Amounts of money in figures, as 1,409.50: read exactly, and shown.
+//! Amounts of money in figures, such as 1,409.50: they are read exactly, and shown.
 //!
-//! What figures are stands in `specs/Figures`. Reading goes from the left, by states that say what is
-//! read last. That it is right is shown in three steps: each state stands for what has been read of
-//! figures (`proofs/Fronts`), figures are read to their end (`proofs/FiguresRun`), and characters are
-//! read as the parts that they are (`proofs/FiguresRead`).
+//! `specs/Figures` defines figures. Reading goes from left to right through states, which say what
+//! was read last. Three steps show that it is right: each state stands for what has been read of
+//! figures (`proofs/Fronts`), figures are read to their end (`proofs/FiguresRun`), and characters
+//! are read as the parts that they are (`proofs/FiguresRead`).
 #![tactic(auto)]
 
 mod error;

@@ -8,15 +8,16 @@ use cn_core::{figure_of, is_comma, is_currency, is_figure_point};
 pub enum Part {
     /// ¥, the currency sign.
     Currency,
-    /// A digit.
+    /// A digit from 0 to 9.
     Digit(u8),
-    /// A comma, in front of three digits.
+    /// A comma, which is before three digits.
     Comma,
-    /// The point behind the yuan.
+    /// The point after the yuan.
     Point,
 }
 
-/// What a character is read as; a full-width one as its plain one.
+/// What a character is read as; `None` if it is not read. A full-width character is read as its
+/// plain form.
 #[tactic(auto, unfolding(crate::specs::Parts::part_of))]
 pub fn part_of(character: char) -> Option<Part>
     ensures { result ≡ part_of character }

@@ -1,4 +1,4 @@
-// How far figures are read, and the amount of what is read.
+// The state of reading figures, and the amount so far.
 ghost use Rattle.cn_figures.specs.Figures.{WriteAmount};
 ghost use Rattle.cn_figures.specs.Working.Steps.{figures_machine};
 
@@ -6,7 +6,7 @@ use crate::part::part_of;
 use crate::state::State;
 use cn_capitals::Grammar;
 
-/// What is read, and its fen: none from the limit on.
+/// The state of reading figures, and the amount so far in fen; `None` from the limit on.
 #[derive(Clone, Copy)]
 pub struct Progress {
     state: State,

@@ -9,9 +9,11 @@ use crate::progress::Progress;
 use cn_capitals::{Refusal, read};
 use cn_core::{is_figure_minus, split_first_char};
 
-/// The amount that figures write, in fen. In front stands ¥ or not; then digits of the yuan, with a
-/// comma in front of each three of them from the last or with none; then nothing, or a point and
-/// digits, of which those behind the second are 0. Full-width characters are read as plain ones.
+/// The amount that figures write, in fen. They are ¥ or nothing; then digits of the yuan, with a
+/// comma before each three of them counted from the last, or with no comma; then nothing, or a
+/// point and digits, of which those after the second are 0. Full-width characters are read as their
+/// plain forms. The error is `Unfinished` if a digit is missing at the end, `Incorrect` at the
+/// first character with which no figures begin, and `TooLarge` from 10^18 fen on.
 ///
 /// ```text
 /// yuan_to_fen("1409.5") == Ok(140_950)
@@ -31,7 +33,7 @@ pub fn yuan_to_fen(figures: &str) -> Result<u64, FiguresError>
     }
 }
 
-// What stands behind a minus, if one stands in front.
+// The text after a minus at the start, if there is one.
 fn after_minus(figures: &str) -> Option<&str>
     ensures { MatchOption result (IsBare (chars figures.now))
         (λ rest. IsBehindMinus (chars figures.now) (chars rest.now)) }
@@ -42,7 +44,7 @@ fn after_minus(figures: &str) -> Option<&str>
     }
 }
 
-// The amount below zero of so many fen.
+// The amount of this many fen below zero.
 fn negated(fen: u64) -> i64
     requires { fen < amount_limit }
     ensures { result ≡ signed_number true fen }
@@ -50,7 +52,9 @@ fn negated(fen: u64) -> i64
     -(fen as i64)
 }
 
-/// The same of figures with one `-`, `−` or `－` in front, which makes the amount negative, or with none.
+/// The amount that figures write, in fen, like `yuan_to_fen`; one `-`, `−` or `－` at the start
+/// makes it negative. The errors are the same, and the place of a character is counted from the
+/// start of the whole text.
 ///
 /// ```text
 /// signed_yuan_to_fen("-¥15") == Ok(-1_500)

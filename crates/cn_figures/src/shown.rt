@@ -2,9 +2,10 @@ ghost use Rattle.std.specs.Prelude.{Some};
 
 use std::fmt;
 
-/// An amount that is shown in figures, with two places: 15.00.
+/// An amount, shown in figures with two places: 15.00.
 #[derive(Debug, Copy, Clone)]
 pub struct Figures {
+    /// The amount in fen.
     pub fen: u64,
 }
 

@@ -1,11 +1,11 @@
-// How far figures are read, from the left. Each state stands for what may follow.
+// The states of reading figures from left to right. A state stands for what may follow.
 ghost use Rattle.std.specs.Prelude.{◌≡◌};
 ghost use Rattle.cn_figures.specs.Working.Steps.{after_comma, after_currency, after_digit, after_point, fen_with, is_end, step, with_more};
 
 use crate::part::Part;
 use cn_amount::AMOUNT_LIMIT;
 
-/// What is read last.
+/// What was read last.
 #[derive(Clone, Copy)]
 pub enum State {
     /// Nothing.
@@ -18,25 +18,25 @@ pub enum State {
     Two,
     /// Three digits, and no comma.
     Three,
-    /// More digits than may stand in front of a comma.
+    /// More digits than may be before a comma.
     Many,
     /// A comma.
     AfterComma,
-    /// The first digit behind it.
+    /// The first digit after a comma.
     CommaOne,
-    /// Two digits behind it.
+    /// Two digits after a comma.
     CommaTwo,
-    /// All three digits behind it.
+    /// All three digits after a comma.
     CommaThree,
     /// The point.
     AfterPoint,
     /// The digit of the jiao.
     Jiao,
-    /// That of the fen, and zeros.
+    /// The digit of the fen, and zeros after it.
     Fen,
 }
 
-// So many times the fen, and so many more.
+// The amount times `times`, plus `more`; `None` from the limit on.
 fn with_more(fen: Option<u64>, times: u64, more: u64) -> Option<u64>
     ensures { result ≡ with_more fen times more }
 {
@@ -92,7 +92,7 @@ impl State {
         }
     }
 
-    /// The state with one more part, if figures can go on so.
+    /// The state after one more part; `None` if no figures continue with it.
     pub fn step(self, part: Part) -> Option<State>
         ensures { result ≡ step self part }
     {
@@ -104,7 +104,7 @@ impl State {
         }
     }
 
-    /// The fen of what is read with one more part, none from the limit on.
+    /// The amount in fen after one more part; `None` from the limit on.
     pub fn fen_with(self, fen: Option<u64>, part: Part) -> Option<u64>
         ensures { result ≡ fen_with self fen part }
     {

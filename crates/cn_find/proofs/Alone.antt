@@ -1,4 +1,4 @@
--- What is cut does not stand alone.
+-- A number that is cut in two does not stand alone.
 use Rattle.std.proofs.Common.{◌≡◌, ◌≢◌, inl, inr, ℕ, Bool, true, false, not, ◌&&◌, ◌||◌, List, [], ◌∷◌, ◌++◌, chars, codes, encode_utf8, encode_utf8_all, Option, Some, None, is_some, IsUtf8, reverse, refl, sym, ap, ◌∙◌, append_assoc, append-nil, rules}
 use Rattle.std.specs.Char.{char_set_contains, is_ascii_alphanumeric, is_ascii_digit}
 use Rattle.std.specs.List.{Contains}
@@ -22,7 +22,7 @@ use Rattle.cn_find.proofs.Nearest.{reverse_last}
 use Rattle.cn_find.proofs.RunLaws.{scalars-both, scalars-end, scalars-start, span-is_run}
 use Rattle.cn_find.proofs.Unwanted.{inside}
 
--- what belongs to a number, belongs there by itself
+-- a character that belongs to a number is a numeral character
 belongs-numeral : (wanted : Wanted) (c : ℕ) (after : List ℕ) → belongs wanted c after ≡ true
     → is_numeral wanted c after ≡ true
 unfolding belongs
@@ -42,7 +42,7 @@ clings-ascii c e = rw e
 clings-chinese : (c : ℕ) → is_chinese_digit c ≡ true → clings c ≡ true
 clings-chinese c e = clings-digit c (and-left (is_some (digit_of c)) _ e)
 
--- a link leads to each character that belongs to a number
+-- a link can lead to each character that belongs to a number
 linked : (wanted : Wanted) (c : ℕ) (after : List ℕ) → belongs wanted c after ≡ true
     → (clings c || is_some (rank_of c)) ≡ true
 linked wanted c after h = by (digit_of c) (rank_of c) refl refl marked where
@@ -89,7 +89,7 @@ ends wanted none at c (d ∷ run) right each apart =
       apart = e.apart;
     }
 
--- where two runs touch, both characters there cling
+-- where two runs touch, the last character of the first and the first of the second cling
 touched : (wanted : Wanted) (at : List ℕ) (c next : ℕ) (after : List ℕ)
     → belongs wanted c (next ∷ after) ≡ true → belongs wanted next after ≡ true
     → is_joined (number_rule wanted) at c (next ∷ after) ≡ false → is_parted c next ≡ true
@@ -118,7 +118,7 @@ parted-cling c next h = by (is_ascii_digit c && is_chinese_digit next) refl h wh
     clings-ascii next (and-right (is_chinese_digit c) _ h),
   )
 
--- what goes on to one side does not stand alone
+-- a number that a text on one side continues does not stand alone
 on-before : (before after : List ℕ) → goes_on (reverse before) ≡ true
     → stands_alone before after ≡ false
 on-before before after e = ap (λ b. not b && not (goes_on after)) e
@@ -200,7 +200,7 @@ placed wanted bytes span whole found =
             after = ap chars r.after_is ∙ chars-encodes r.right ended;
           }
 
--- where the characters of the second of two runs stand, if these stand between them
+-- the characters before the second of two runs, if the characters `link` are between them
 between-left : (wanted : Wanted) (text : List ℕ) (first second : Span) (link : List ℕ)
     → (p : Placed wanted text first) → (q : Placed wanted text second) → scalars link ≡ true
     → second.before ≡ first.before ++ first.text ++ encode_utf8_all link
@@ -223,7 +223,7 @@ between-right wanted text first second link p q e =
     ∙ ap (λ l. l ++ (q.first ∷ (q.others ++ q.right))) e
     ∙ append_assoc (p.left ++ p.first ∷ p.others) link (q.first ∷ (q.others ++ q.right)))
 
--- what stands in front of the second run, up to the last character of the first
+-- the characters before the second run, split before the last character of the first
 last-before : (wanted : Wanted) (text : List ℕ) (first : Span) (link : List ℕ)
     → (p : Placed wanted text first)
     → p.left ++ p.first ∷ p.others ++ link
@@ -301,7 +301,7 @@ meeting wanted bytes first second whole here there meet = elim meet [
       (search (rules, link.1)) link.2
 ]
 
--- the last character of a run is no 兆 that is mega
+-- the last character of a run is not a 兆 that means mega
 last-numeral : (wanted : Wanted) (at front : List ℕ) (c : ℕ) (right : List ℕ)
     → each_belongs (number_rule wanted) at (front ++ c ∷ []) right ≡ true
     → belongs wanted c right ≡ true

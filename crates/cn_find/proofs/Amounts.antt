@@ -1,4 +1,4 @@
--- The amount at one end of a text, as far as it is passed.
+-- The amount at the start or at the end of a text, while a loop passes it.
 use Rattle.std.proofs.Common.{◌≡◌, ℕ, ◌-◌, true, List, [], ◌∷◌, ◌++◌, length, take, drop, reverse, chars, encode_utf8_all, IsUtf8, refl, sym, ap, ◌∙◌, append_assoc, append-nil}
 use Rattle.std.proofs.Math.Seq.{take-append_seam, drop-append_seam}
 use Rattle.std.proofs.Math.Utf8.{scalar, scalars}
@@ -10,13 +10,13 @@ use Rattle.cn_find.specs.Ranges.{amount_of, is_of_amount}
 use Rattle.cn_find.specs.Spans.{in_front}
 use Rattle.cn_find.proofs.Runs.{seam-boundary, seam-length}
 
--- the characters of a text, read forwards again, are the text
+-- reversing the characters before something twice gives the text
 pub twice_reversed : (bytes : List ℕ) → IsUtf8 bytes
     → encode_utf8_all (reverse (reverse (chars bytes))) ≡ bytes
 twice_reversed bytes utf8 =
     ap encode_utf8_all (reverse-reverse (chars bytes)) ∙ encodes-chars bytes utf8
 
--- so much of the amount at the start is passed
+-- a part of the amount at the start is passed, and `rest` is ahead
 pub record Passed (text rest : List ℕ) : Type 0 where
   pub front : List ℕ
   pub parts : text ≡ encode_utf8_all front ++ rest
@@ -60,7 +60,7 @@ passed_taken text rest p none =
     ∙ take-append_seam (encode_utf8_all p.front) rest
     ∙ sym (ap encode_utf8_all (p.amount ∙ ap (λ l. p.front ++ l) none ∙ append-nil p.front))
 
--- so much of the amount at the end is passed, the last character first
+-- a part of the amount at the end is passed, the last character first, and `rest` is ahead
 pub record PassedBack (text rest : List ℕ) : Type 0 where
   pub passed : List ℕ
   pub parts : text ≡ rest ++ encode_utf8_all (reverse passed)
@@ -75,7 +75,7 @@ back_first text = record {
   amount = refl;
 }
 
--- the characters of the rest
+-- the characters of `rest` are those of the text before its last character, and that
 turned : (rest front : List ℕ) (c : ℕ) → in_front rest ≡ c ∷ in_front front
     → chars rest ≡ chars front ++ c ∷ []
 turned rest front c e =

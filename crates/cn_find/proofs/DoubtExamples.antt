@@ -1,4 +1,5 @@
--- Worked examples of doubts. Of the characters before an expression the nearest is the first.
+-- Worked examples of doubts. Of the characters before an expression the nearest is the first in the
+-- list.
 use Rattle.std.proofs.Common.{◌≡◌, ℕ, Bool, true, false, List, [], codes, refl}
 use Rattle.cn_core.specs.Characters.{digit_of, rank_of}
 use Rattle.cn_core.specs.Figures.{tens_of}
@@ -10,14 +11,14 @@ use Rattle.cn_find.specs.Words.{is_of_word}
 abbrev of_word : List ℕ → List ℕ → List ℕ → Bool
 of_word front text after = is_of_word front text after
 
--- 十二指肠, 双十一, 正月十五; but 十二个
+-- 十二指肠, 双十一, 正月十五; not 十二个
 words : (of_word [] (codes "十二") (codes "指肠") ≡ true)
     × ((of_word (codes "双") (codes "十一") [] ≡ true)
     × ((of_word (codes "月正") (codes "十五") [] ≡ true)
     × (of_word [] (codes "十二") (codes "个") ≡ false)))
 words = (refl, (refl, (refl, refl)))
 
--- 五一, 一二三四; but 八零年, 三零二室, 一九四九 and 零五 of 点零五分
+-- 五一, 一二三四; not 八零年, 三零二室, 一九四九 or the 零五 of 点零五分
 lists : (is_doubtful_list [] (codes "五一") (codes "假期") ≡ true)
     × ((is_doubtful_list [] (codes "一二三四") [] ≡ true)
     × ((is_doubtful_list [] (codes "八零") (codes "年") ≡ false)
@@ -27,7 +28,7 @@ lists : (is_doubtful_list [] (codes "五一") (codes "假期") ≡ true)
 unfolding digit_of
 lists = (refl, (refl, (refl, (refl, (refl, refl)))))
 
--- 负二项, 两点三划线, 十六进制, 十一届三中; but 负三度
+-- 负二项, 两点三划线, 十六进制, 十一届三中; not 负三度
 terms : (is_term (codes "负二") (codes "项") ≡ true)
     × ((is_term (codes "两点三") (codes "划线") ≡ true)
     × ((is_term (codes "十六") (codes "进制") ≡ true)
@@ -36,7 +37,7 @@ terms : (is_term (codes "负二") (codes "项") ≡ true)
 unfolding digit_of
 terms = (refl, (refl, (refl, (refl, refl))))
 
--- 八五折, 三成, 十五天半; but 八折算
+-- 八五折, 三成, 十五天半; not 八折算
 parts : (is_part (codes "八五") (codes "折") ≡ true)
     × ((is_part (codes "三") (codes "成") ≡ true)
     × ((is_part (codes "十五") (codes "天半") ≡ true)
@@ -44,7 +45,7 @@ parts : (is_part (codes "八五") (codes "折") ≡ true)
 unfolding digit_of
 parts = (refl, (refl, (refl, refl)))
 
--- 下午三点五, 十点零五; but 三点零五倍
+-- 下午三点五, 十点零五; not 三点零五倍
 times : (is_time (codes "午") (codes "三点五") [] ≡ true)
     × ((is_time [] (codes "十点零五") [] ≡ true)
     × ((is_time [] (codes "三点零五") (codes "倍") ≡ false)
@@ -52,7 +53,7 @@ times : (is_time (codes "午") (codes "三点五") [] ≡ true)
 unfolding digit_of
 times = (refl, (refl, (refl, refl)))
 
--- an amount at the start of a text, and a first end whose next digit begins the second
+-- an amount at the start of a text, and a first end with whose next digit the second begins
 amounts : (amount_of (codes "5万元") ≡ codes "5万") × (precedes (codes "五") (codes "六十") ≡ true)
 unfolding digit_of rank_of is_of_amount is_tens tens_of
 amounts = (refl, refl)

@@ -1,4 +1,4 @@
--- A numeral has no estimate.
+-- A numeral never means an approximate number by its own digits.
 use Rattle.std.proofs.Common.{◌≡◌, ℕ, codes, ◌<◌, Bool, true, false, not, ◌&&◌, List, [], ◌∷◌, ◌++◌, Option, Some, None, refl, ap, ◌∙◌, ◌==◌, if◌then◌else◌, arith}
 use Rattle.std.specs.Char.{char_set_contains}
 use Rattle.std.specs.List.{list_all}
@@ -15,7 +15,7 @@ use Rattle.cn_core.proofs.OpenUnits.{digit_of-low}
 use Rattle.cn_find.specs.Belongs.{is_chinese_digit}
 use Rattle.cn_find.specs.Flags.{Pair, are_near, is_any_digit, is_estimate, is_one_estimate, pair_at, pairs}
 
--- the pair is no estimate
+-- the pair does not mean an approximate number
 abbrev is_far : Pair → Bool
 is_far pair = not (is_estimate pair)
 
@@ -28,7 +28,7 @@ zero-far : (value next : ℕ) → value < 10 → separates_digits (digit value) 
     → are_near (Some value) (Some next) ≡ false
 zero-far value next low h = grind (arith, nat_tests)
 
--- where there is a pair or none
+-- a list of one pair or of none
 maybe-far : (b : Bool) (pair : Pair) → is_estimate pair ≡ false
     → list_all is_far (if b then pair ∷ [] else []) ≡ true
 maybe-far true pair e = rw e
@@ -62,7 +62,7 @@ each-separates mark rest h =
     _ (and-left (is_digit_or_unit mark && separates_digits mark rest
     && multiplies_upwards mark rest && counts_a_unit mark rest) _ h)))
 
--- where a point ends the pairs or does not
+-- the pairs, cut by a point or not
 cut-far : (b : Bool) (all : List Pair) → list_all is_far all ≡ true
     → list_all is_far (if b then [] else all) ≡ true
 cut-far true all far = refl

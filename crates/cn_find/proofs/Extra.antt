@@ -1,4 +1,4 @@
--- The characters that belong to expressions alone.
+-- The characters that belong to expressions but not to numbers.
 use Rattle.std.proofs.Common.{◌≡◌, ℕ, Bool, true, false, not, ◌&&◌, ◌||◌, if◌then◌else◌, List, [], ◌∷◌, ◌++◌, reverse, chars, codes, encode_utf8_all, refl, sym, ap, ◌∙◌, Option, Some, None, is_some}
 use Rattle.std.specs.Char.{char_set_contains, is_ascii_digit}
 use Rattle.std.specs.List.{list_all}
@@ -15,7 +15,7 @@ use Rattle.cn_find.specs.Rule.{number_rule, is_joined}
 use Rattle.cn_find.specs.Spans.{run_of, after_run, span_at, begun_at, spans_after, expressions, spans}
 use Rattle.cn_find.proofs.Unwanted.{outside}
 
--- a character that is none of them
+-- if an alternative is false, so are both of its parts
 pub neither : (a b : Bool) → (a || b) ≡ false → (a ≡ false) × (b ≡ false)
 neither true b e = cc
 neither false b e = (refl, e)
@@ -35,7 +35,7 @@ IsUsual-of c e =
 abbrev pub is_joiner : ℕ → Bool
 is_joiner c = char_set_contains (codes "点點.．,， 分之%％‰又下负負-−－¥￥两兩个個千仟") c
 
--- no set of joiners has it
+-- a character that is not extra is in no set of joiners
 pub no-joiner : (set : List ℕ) (c : ℕ) → list_all is_joiner set ≡ true → is_extra c ≡ false
     → char_set_contains set c ≡ false
 no-joiner set c all e = outside is_joiner set c all (IsUsual-of c e).joiner
@@ -69,7 +69,8 @@ usual-word wanted front c after e = rw (
   no-joiner (codes "千仟") c refl e,
 )
 
--- a character with no mark is of no such word, and no numeral character but 廿, 卅 or a full-width figure
+-- a character without a mark belongs to no such word, and is a numeral character only if it is 廿,
+-- 卅 or a full-width figure
 abbrev has_mark : ℕ → Bool
 has_mark c = is_some (digit_of c) || is_some (rank_of c)
 
@@ -111,7 +112,7 @@ usual-numeric wanted c after e =
     ap (λ b. belongs wanted c after || (b || is_wide_figure c)) u.tens
     ∙ ap (λ b. belongs wanted c after || b) u.wide ∙ or-false (belongs wanted c after)
 
--- so it belongs to an expression as to a number
+-- such a character belongs to an expression exactly if it belongs to a number
 pub usual_belongs : (wanted : Wanted) (front : List ℕ) (c : ℕ) (after : List ℕ)
     → is_extra c ≡ false
     → (expression_rule wanted).belongs front c after ≡ belongs wanted c after
@@ -122,7 +123,7 @@ usual_belongs wanted front c after e =
     ∙ or-false (is_numeric wanted c after && true) ∙ and-true (is_numeric wanted c after)
     ∙ usual-numeric wanted c after e
 
--- a text without them and without figures has its numbers alone
+-- in a text without such characters and without figures the expressions are the numbers
 abbrev is_usual : ℕ → Bool
 is_usual c = not (is_figure c) && not (is_extra c)
 

@@ -1,4 +1,4 @@
--- A search goes on behind a run, in sight of the whole text.
+-- A search goes on after a run, and sees the whole text.
 use Rattle.std.proofs.Common.{◌≡◌, ℕ, ◌+◌, true, false, List, ◌∷◌, ◌++◌, length, take, drop, reverse, chars, encode_utf8_all, IsUtf8, IsCharBoundary, refl, sym, ap, subst, ◌∙◌, append_assoc, length-append}
 use mathlib.Core.List.{reverse_aux}
 use Rattle.std.proofs.lemmas.List.{reverse-append, reverse-reverse, take-append-drop}
@@ -11,7 +11,7 @@ use Rattle.cn_find.proofs.Parting.{Rest, RestOf, rest-of}
 use Rattle.cn_find.proofs.Runs.{front-onto, seam-front}
 use Rattle.cn_find.proofs.RunLaws.{scalars-both, scalars-end, scalars-start}
 
--- what is left of a text behind these characters, the nearest first
+-- the rest of a text after these characters, the nearest first
 left-behind : (rule : Rule) (text front cs : List ℕ)
     → text ≡ encode_utf8_all (reverse front) ++ encode_utf8_all cs
     → scalars (reverse front) ≡ true → scalars cs ≡ true
@@ -28,7 +28,8 @@ left-behind rule text front cs parts before ok =
       behind = ap (drop (length (encode_utf8_all (reverse front)))) parts
           ∙ drop-append_seam (encode_utf8_all (reverse front)) (encode_utf8_all cs)
 
--- the others are left where the first one ends, and a search can begin there
+-- the other runs are those that a search finds from the end of the first one on, and a search can
+-- begin there
 gone-on : (rule : Rule) (text before rest : List ℕ) (first : Span) (others : List Span)
     → text ≡ before ++ rest → IsUtf8 before → IsUtf8 rest
     → left_by rule text rest ≡ first ∷ others

@@ -1,4 +1,4 @@
--- Of each law that has premises, values that meet all of them.
+-- For each law with premises, values that meet all of them.
 use Rattle.std.proofs.Common.{◌≡◌, ◌≢◌, ℕ, ◌<◌, pos, List, [], ◌∷◌, ◌++◌, drop, length, inl, true, false, not, Some, None, Ok, Err, codes, encode_utf8_all, refl, arith, ◌&&◌}
 use Rattle.std.specs.Prelude.{IsTrue}
 use Rattle.std.specs.Char.{encode_utf8}
@@ -38,7 +38,7 @@ abbrev found : List ℕ → List ℕ → List ℕ → Span
 found before text after =
     record { before = bytes before; text = bytes text; after = bytes after }
 
--- a number of a text is one of its spans, by its index among so many
+-- a number of a text is one of its spans, given by its index and the number of spans
 is-found : (text : List ℕ) (index size : ℕ) (span : Span) → length (spans everyday (bytes text)) ≡ size
     → index < size → slice_index_or (spans everyday (bytes text)) index span ≡ span
     → Contains (spans everyday (bytes text)) span
@@ -99,7 +99,7 @@ expressions_of_numerals_are_numbers : IsTrue
 unfolding chars encode_utf8 is_extra is_tens tens_of
 expressions_of_numerals_are_numbers = refl
 
--- an ASCII digit and another one are two numbers
+-- an ASCII digit and another digit are two numbers
 abbrev figure : Span
 figure = found (codes "買") (codes "2") (codes "兩")
 
@@ -118,7 +118,7 @@ numbers_that_meet_do_not_stand_alone = (
   inl refl,
 )
 
--- 兆 ends a number in front of 歐元, where it is not mega
+-- 兆 ends a number before 歐元, where it does not mean mega
 abbrev euros : Span
 euros = found [] (codes "3兆") (codes "歐元")
 
@@ -141,7 +141,7 @@ numerals_have_no_estimate : IsNumeral (marks_of (codes "三百二十"))
 unfolding digit_of rank_of
 numerals_have_no_estimate = refl
 
--- 三百, of which the first character is 三, with 负 before it
+-- 三百, which begins with 三, after 负
 abbrev degrees : Span
 degrees = found (codes "负") (codes "三百") (codes "度")
 

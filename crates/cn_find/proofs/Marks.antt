@@ -1,4 +1,4 @@
--- What the mark of a character tells.
+-- What the mark of a character says.
 use Rattle.std.proofs.Common.{subst, ◌≡◌, ◌≢◌, ◌+◌, ℕ, ◌<◌, ◌≤◌, ltb, List, drop, get_or, length-drop, [], ◌∷◌, length, chars, IsUtf8, encode_utf8_all, Bool, true, false, not, Option, None, Some, is_some, refl, ap, ◌∙◌, sym, arith}
 use Rattle.std.specs.Char.{is_whitespace, char_set_contains}
 use Rattle.std.specs.List.{list_all}
@@ -28,7 +28,7 @@ none-from : (x : Option ℕ) → not (is_some x) ≡ true → false ≡ is_some 
 none-from None e = refl
 none-from (Some value) e = cc
 
--- a digit is no unit, and any other character is neither
+-- a digit is not a unit, and any other character is neither
 no-unit : (d r : Option ℕ) (value : ℕ) → mark_from d r ≡ digit value → d ≡ Some value
 no-unit (Some v) r value e = cc
 no-unit None (Some r) value e = cc
@@ -58,7 +58,7 @@ no_character text c whole long same =
     let none : encode_utf8_all (c ∷ []) ≡ encode c = append-nil (encode c) in
     omega (arith, size, few, one, ap length none, long)
 
--- a number goes on with a digit that it touches, and no digit says that it is about so much
+-- a digit clings to a number that it touches, and does not make it approximate
 not-so : (b : Bool) → not b ≡ true → b ≡ false
 not-so true e = cc
 not-so false e = refl
@@ -88,7 +88,7 @@ pub digit_no_quite : (c : ℕ) → is_some (digit_of c) ≡ true → char_set_co
 digit_no_quite c is =
     not-so _ (of-digit (λ d. not (char_set_contains (codes "好") d)) c (digit_of c) refl refl is)
 
--- a character of three bytes is not of ASCII, and no full-width digit has a mark
+-- a character of three bytes is not ASCII, and a full-width digit has no mark
 three-bytes : (text : List ℕ) (c : ℕ) → IsUtf8 text → length text ≡ 3 → chars text ≡ c ∷ []
     → 128 ≤ c
 three-bytes text c whole three same = by (ltb c 128) refl where
@@ -130,7 +130,7 @@ only-known text rest mark whole three short known first =
     let mark_is = first.2 in
     (first.0, alone, mark_is, known_no_figure text first.0 mark whole three alone mark_is known)
 
--- one byte is a character
+-- one byte is one character
 pub one_byte : (text bytes : List ℕ) → bytes ≡ text → IsUtf8 text → length bytes ≡ 1
     → chars text ≡ get_or bytes 0 0 ∷ []
 one_byte text bytes same utf8 one =
@@ -143,7 +143,7 @@ one_byte text bytes same utf8 one =
     ascii.0 ∙ ap (λ l. get_or bytes 0 0 ∷ l)
     (chars-from_empty (drop 1 text) (omega (arith, left, one, ap length same)))
 
--- behind a character of ASCII another one stands, where there are more bytes
+-- a text of two or more bytes that begins with an ASCII character has more than one character
 pub two-ascii : (bytes text : List ℕ) (c : ℕ) → bytes ≡ text → IsUtf8 text → 1 < length bytes
     → get_or bytes 0 0 < 128 → chars text ≢ c ∷ []
 two-ascii bytes text c same utf8 long low alone =

@@ -1,4 +1,4 @@
--- What stands nearest to a number.
+-- The character nearest to a number.
 use Rattle.std.proofs.Common.{◌≡◌, ℕ, List, [], ◌∷◌, ◌++◌, reverse}
 use Rattle.std.proofs.lemmas.List.{reverse-append}
 

@@ -1,4 +1,4 @@
--- What one character counts.
+-- The numbers that one character can be.
 use Rattle.std.proofs.Common.{◌≡◌, ◌⊎◌, inl, inr, ℕ, ◌<◌, ◌≤◌, ℤ, pos, ◌≤ℤ◌, Bool, true, false, List, [], ◌∷◌, chars, drop, filter, ◌+◌, ◌^◌, ◌==◌, nat_le, if◌then◌else◌, Option, Some, None, Result, Ok, Err, MatchBool, refl, sym, ap, subst, arith}
 use Rattle.std.specs.Char.{is_not_whitespace}
 use Rattle.std.specs.Option.{option_or}
@@ -21,7 +21,7 @@ use Rattle.cn_find.specs.Flags.{is_one_character}
 use Rattle.cn_find.specs.Number.{IsAnswer, is_plain}
 use Rattle.cn_find.proofs.Types.{number-is}
 
--- a number up to ten, or a refusal
+-- a number of at most ten, or a refusal
 abbrev IsSmall : Result ℕ Refusal → Type 0
 IsSmall (Ok number) = number ≤ 10
 IsSmall (Err refusal) = Unit {0}
@@ -75,7 +75,7 @@ judged-one method None (Some rank) judged low h = by (rank == 1) refl where
   by false e = refused method (unit rank) judged (rw e) h
 judged-one method None None judged low h = refused method other judged refl h
 
--- at most one mark, that of a character
+-- at most one mark, which is that of a character
 abbrev IsShort : ℕ → List Mark → Type 0
 IsShort c marks = (marks ≡ []) ⊎ (marks ≡ mark_of c ∷ [])
 

@@ -1,4 +1,5 @@
--- A character that is as the end of a text parts it; and a search goes on behind a run.
+-- A character that the rule treats like the end of a text parts it, and a search goes on after a
+-- run.
 use Rattle.std.proofs.Common.{◌≡◌, ℕ, Bool, true, false, not, ◌&&◌, List, [], ◌∷◌, ◌++◌, map, reverse, chars, encode_utf8, encode_utf8_all, IsUtf8, refl, sym, ap, subst, ◌∙◌, append-nil, append_assoc, if◌then◌else◌}
 use mathlib.Core.List.{reverse_aux}
 use Rattle.std.proofs.lemmas.Grind.{reverse_onto}
@@ -12,7 +13,8 @@ use Rattle.cn_find.specs.Spans.{Span, run_of, after_run, span_at, begun_at, span
 use Rattle.cn_find.proofs.RunLaws.{whole}
 use Rattle.cn_find.proofs.Runs.{first-span, front-onto, next-character, not-joined}
 
--- by the rule the character belongs to nothing, and its neighbours see it as the end of the text
+-- the rule lets the character belong to nothing, and treats it like the end of the text for its
+-- neighbours
 pub record Parts (rule : Rule) (c : ℕ) : Type 0 where
   pub outside : (front after : List ℕ) → rule.belongs front c after ≡ false
   pub ends : (front : List ℕ) (d : ℕ) (xs right : List ℕ)
@@ -60,7 +62,7 @@ after-same rule c p front d right (x ∷ xs) =
       by true same = same
       by false same = refl
 
--- the run that begins at a character in front of it has more text behind it
+-- the run that begins at a character before it is the same, with more text after it
 span-same : (rule : Rule) (c : ℕ) → Parts rule c → (front : List ℕ) (d : ℕ) (right xs : List ℕ)
     → span_at rule front (d ∷ xs ++ c ∷ right)
     ≡ with_text_after (encode_utf8_all (c ∷ right)) (span_at rule front (d ∷ xs))
@@ -138,7 +140,7 @@ parted rule c p joined front right (d ∷ xs) =
       behind : List Span
       behind = spans_after rule false (c ∷ reverse_aux (d ∷ xs) front) right
 
--- what stands further in front changes nothing
+-- the characters `more` before any others make no difference to the rule
 abbrev IsUnseen : Rule → List ℕ → Type 0
 IsUnseen rule more = (front : List ℕ) (d : ℕ) (after : List ℕ)
     → rule.belongs (front ++ more) d after ≡ rule.belongs front d after
@@ -192,7 +194,7 @@ span-behind rule more same front xs =
       after = encode_utf8_all l;
     }) (after-behind rule more same front xs)
 
--- so the runs behind it are those of what stands behind it
+-- so the runs after them are those of the text after them
 shifted : (rule : Rule) (more : List ℕ) → IsUnseen rule more → (joined : Bool) (front cs : List ℕ)
     → spans_after rule joined (front ++ more) cs
     ≡ map (with_text_before (encode_utf8_all (reverse more))) (spans_after rule joined front cs)
@@ -219,7 +221,7 @@ shifted rule more same joined front (c ∷ ahead) =
           ∙ begun-map (with_text_before at) (not joined && rule.belongs front c ahead)
           (span_at rule front (c ∷ ahead))
 
--- the runs of a text are those in front of the character and those behind it
+-- the runs of a text are those before the character and those after it
 pub parts-text : (rule : Rule) (c : ℕ) → Parts rule c → (left right : List ℕ)
     → IsUtf8 left → IsUtf8 (encode_utf8 c ++ right)
     → spans_by rule (left ++ (encode_utf8 c ++ right))
@@ -250,7 +252,8 @@ parts-text rule c p left right first second =
           ∙ ap (λ l. encode_utf8_all (chars left) ++ l) (append-nil (encode_utf8 c))
           ∙ ap (λ l. l ++ encode_utf8 c) (encodes-chars left first)
 
--- the first of these runs ends behind `passed`, and the others are those that are left there
+-- the first of these runs ends after `passed`, and the others are those that are found from there
+-- on
 pub record Rest (rule : Rule) (front cs : List ℕ) (first : Span) (rest : List Span) : Type 0 where
   pub passed : List ℕ
   pub behind : List ℕ
@@ -309,7 +312,7 @@ rest-behind : (rule : Rule) (bytes : List ℕ) (first : Span) (rest : List Span)
 rest-behind rule bytes first rest e =
     subst (RestOf rule [] (chars bytes)) e (rest-of rule [] (chars bytes))
 
--- behind the first number of a text stand those of what stands behind it
+-- the numbers after the first one are those of the text after it
 pub searches-go_on : (wanted : Wanted) (bytes : List ℕ) (first : Span) (rest : List Span)
     → spans wanted bytes ≡ first ∷ rest → IsUtf8 first.after
     → rest ≡ map (with_text_before (first.before ++ first.text)) (spans wanted first.after)

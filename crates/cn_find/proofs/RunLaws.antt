@@ -14,7 +14,8 @@ use Rattle.cn_find.specs.Rule.{Rule, number_rule, is_joined}
 use Rattle.cn_find.specs.Spans.{Span, run_of, after_run, span_at, spans_after, spans_by, spans, text_before, in_front, left_by}
 use Rattle.cn_find.specs.Runs.{each_belongs, all_joined, last_joined, first_belongs, IsRunBy, IsRun, is_rising}
 
--- a run among the characters, of which the first is joined to the one in front of it or not
+-- a run among these characters; `joined` says whether the first of them is joined to the one before
+-- it
 record IsRunAfter (rule : Rule) (joined : Bool) (front text : List ℕ) (span : Span) : Type 0 where
   left : List ℕ
   run : List ℕ
@@ -29,7 +30,7 @@ record IsRunAfter (rule : Rule) (joined : Bool) (front text : List ℕ) (span : 
   text_is : span.text ≡ encode_utf8_all run
   after_is : span.after ≡ encode_utf8_all right
 
--- what is found from a character on, by whether a run begins there
+-- the runs that are found from a character on, of which the first may begin there
 abbrev spans_here : Rule → Bool → List ℕ → ℕ → List ℕ → List Span
 spans_here rule true front c after =
     span_at rule front (c ∷ after)
@@ -57,7 +58,7 @@ cons-other : (first : Span) (others : List Span) (span : Span) → Contains othe
     → Contains (first ∷ others) span
 cons-other first others span (k, low, e) = (suc k, omega arith, e)
 
--- the characters of a run and what follows it
+-- the characters of a run and those after it are all of the characters
 pub whole : (rule : Rule) (front cs : List ℕ) → cs ≡ run_of rule front cs ++ after_run rule front cs
 whole rule front [] = refl
 whole rule front (c ∷ after) =
@@ -68,7 +69,7 @@ whole rule front (c ∷ after) =
       by true e ih = rw e (ap (λ l. c ∷ l) ih)
       by false e ih = rw e
 
--- what a character is joined to belongs too
+-- a character that is joined to the next one belongs, and so does that
 joined-belongs : (rule : Rule) (front : List ℕ) (c : ℕ) (after : List ℕ)
     → is_joined rule front c after ≡ true → first_belongs rule (c ∷ front) after ≡ true
 joined-belongs rule front c [] e = cc
@@ -94,7 +95,7 @@ run-belongs rule front (c ∷ after) first =
           rw e (rw same (ih (joined-belongs rule front c after e)))
       by false e ih = rw e (rw first)
 
--- a character and a run behind it
+-- a character before a run that is joined to it
 joined-more : (rule : Rule) (front : List ℕ) (c : ℕ) (run right : List ℕ)
     → is_joined rule front c (run ++ right) ≡ true → all_joined rule (c ∷ front) run right ≡ true
     → all_joined rule front (c ∷ run) right ≡ true
@@ -135,7 +136,7 @@ run-apart rule none front c (next ∷ after) =
           ++ after_run rule (c ∷ front) (next ∷ after))))
       by false e ih = rw e (rw e)
 
--- one character further in front
+-- a run among the characters after one is a run among all of them
 further : (rule : Rule) (joined : Bool) (front : List ℕ) (c : ℕ) (after : List ℕ) (span : Span)
     → IsRunAfter rule (is_joined rule front c after) (c ∷ front) after span
     → IsRunAfter rule joined front (c ∷ after) span
@@ -194,7 +195,7 @@ sound rule joined front (c ∷ after) span found =
       ]
       by false e found ih = further rule joined front c after span (ih found)
 
--- a run ends where its characters are joined no more
+-- a run ends where its characters are not joined any more
 run-ends : (rule : Rule) (none : Bool) (front : List ℕ) (c : ℕ) (run right : List ℕ)
     → all_joined rule front (c ∷ run) right ≡ true
     → last_joined rule none front (c ∷ run) right ≡ false
@@ -302,12 +303,12 @@ run-is_found rule bytes span r =
             after = l;
           }) r.after_is
 
--- and of numbers
+-- the numbers of a text are exactly its runs
 pub span-is_run : (wanted : Wanted) (bytes : List ℕ) (span : Span)
     → Contains (spans wanted bytes) span → IsRun wanted (chars bytes) span
 span-is_run wanted bytes span found = found-is_run (number_rule wanted) bytes span found
 
--- where the next span may begin at the earliest
+-- the least position at which the next span may begin
 before_length : List ℕ → ℕ
 before_length front = length (encode_utf8_all (reverse front))
 
@@ -327,7 +328,7 @@ longer front c =
     ∙ length-append (encode_utf8_all (reverse front)) (encode_utf8 c ++ [])
     ∙ ap (λ l. length (encode_utf8_all (reverse front)) + length l) (append-nil (encode_utf8 c))
 
--- behind the first character of a run
+-- the same after the first character of a run
 limit-after : (rule : Rule) (front : List ℕ) (c : ℕ) (ahead : List ℕ)
     → limit rule (is_joined rule front c ahead) (c ∷ front) ahead
     ≡ before_length front + length (encode_utf8_all (run_of rule front (c ∷ ahead)))
@@ -407,7 +408,7 @@ scalars-both (c ∷ front) end h more =
     ap (λ b. b && scalars (front ++ end)) (and-left (scalar c) _ h)
     ∙ scalars-both front end (and-right (scalar c) _ h) more
 
--- what stands behind the first run of a text is UTF-8, as the text is
+-- the text after the first run of a text is UTF-8 if the text is
 pub utf8-behind : (rule : Rule) (bytes : List ℕ) (first : Span) (rest : List Span)
     → spans_by rule bytes ≡ first ∷ rest → IsUtf8 bytes → IsUtf8 first.after
 utf8-behind rule bytes first rest e whole =

@@ -14,7 +14,7 @@ use Rattle.cn_find.specs.Rule.{Rule, is_joined}
 use Rattle.cn_find.specs.Runs.{first_belongs}
 use Rattle.cn_find.specs.Spans.{Span, run_of, after_run, span_at, spans_after, spans_by, text_before, in_front, left_by}
 
--- from the second character of a run on, what is found is what is found after it
+-- from the second character of a run on, the runs that are found are those after it
 past-run : (rule : Rule) (front cs : List ℕ)
     → spans_after rule true front cs
     ≡ spans_after rule false (reverse_aux (run_of rule front cs) front) (after_run rule front cs)
@@ -31,7 +31,7 @@ past-run rule front (c ∷ ahead) =
       by true e ih = rw e ih
       by false e ih = rw e refl
 
--- a run that begins here is found first, and then what stands after it
+-- a run that begins here is found first, and then the runs after it
 pub first-span : (rule : Rule) (front cs : List ℕ) → first_belongs rule front cs ≡ true
     → spans_after rule false front cs
     ≡ span_at rule front cs
@@ -40,19 +40,19 @@ first-span rule front [] e = cc
 first-span rule front (c ∷ ahead) e =
     rw e (ap (λ l. span_at rule front (c ∷ ahead) ∷ l) (past-run rule front (c ∷ ahead)))
 
--- a character that does not belong is joined to none
+-- a character that does not belong is joined to no other
 pub not-joined : (rule : Rule) (front : List ℕ) (c : ℕ) (ahead : List ℕ)
     → rule.belongs front c ahead ≡ false → is_joined rule front c ahead ≡ false
 not-joined rule front c [] e = refl
 not-joined rule front c (next ∷ after) e = rw e
 
--- and it is passed
+-- a search passes such a character
 pub next-character : (rule : Rule) (front : List ℕ) (c : ℕ) (ahead : List ℕ)
     → rule.belongs front c ahead ≡ false
     → spans_after rule false front (c ∷ ahead) ≡ spans_after rule false (c ∷ front) ahead
 next-character rule front c ahead e = rw e (rw (not-joined rule front c ahead e))
 
--- where a text is cut
+-- the length of a text where it is cut
 pub seam-length : (whole front rest : List ℕ) → whole ≡ front ++ rest
     → length whole - length rest ≡ length front
 seam-length whole front rest e = let all =
@@ -68,7 +68,7 @@ pub seam-boundary : (whole front rest : List ℕ) → whole ≡ front ++ rest �
 seam-boundary whole front rest e ended =
     rw (seam-length whole front rest e) (IsCharBoundary-at_seam whole front rest e ended)
 
--- this is an end of the text
+-- `rest` is a suffix of the text
 abbrev pub IsEnd : List ℕ → List ℕ → Type 0
 IsEnd whole rest = text_before whole rest ++ rest ≡ whole
 
@@ -100,7 +100,7 @@ one-char bytes after c whole parts =
     ap chars (sym (append-nil (encode_utf8 c)))
     ∙ chars-encodes (c ∷ []) (both _ _ (and-left (scalar c) _ all) refl)
 
--- a character of the text was passed, with `before` in front of it
+-- a character of the text was passed, and the text before it is `before`
 pub record Passed (whole before after : List ℕ) (c : ℕ) : Type 0 where
   pub ends : IsEnd whole after
   pub front : in_front (text_before whole after) ≡ c ∷ in_front before
@@ -120,7 +120,7 @@ Passed-of whole before ahead after c cut front whole_ahead ended parts = record 
   at = cut ∙ ap (λ l. before ++ l) (first-bytes ahead after c whole_ahead ended parts)
       ∙ sym (append_assoc before (encode_utf8 c) after)
 
--- characters that do not belong were passed, and these are ahead
+-- characters that do not belong were passed, and the text `ahead` is still to be searched
 pub record Skipping (rule : Rule) (whole rest ahead : List ℕ) : Type 0 where
   pub ends : IsEnd whole ahead
   pub same : left_by rule whole rest ≡ left_by rule whole ahead
@@ -145,7 +145,8 @@ Skipping-more rule whole rest ahead after c s front here ended parts e = record 
   passed = Passed-of whole (text_before whole ahead) ahead after c (sym s.ends) front here ended
       parts
 
--- the first characters of a run were passed, `last` the last of them, and these are behind it
+-- the first characters of a run were passed, the last of these is `last`, and the text `rest` is
+-- after it
 pub record Gathered (rule : Rule) (whole before ahead rest : List ℕ) (last : ℕ) : Type 0 where
   pub passed : List ℕ
   pub front : List ℕ
@@ -175,7 +176,7 @@ Gathered-first rule whole before ahead rest first cut front here ended parts beg
   step : Passed whole before rest first
   step = Passed-of whole before ahead rest first cut front here ended parts
 
--- whether the last character and the next one are joined
+-- whether the last character is joined to the next one
 joined-is : (rule : Rule) (front : List ℕ) (last next : ℕ) (behind : List ℕ) (b p : Bool)
     → rule.belongs front last (next ∷ behind) ≡ true
     → rule.belongs (last ∷ front) next behind ≡ b → rule.is_parted last next ≡ p
@@ -264,13 +265,13 @@ EndsRun-none rule whole before ahead rest last g none here ended_here =
     ended-by rule whole before ahead rest last g (ap (is_joined rule g.front last) none) here
     ended_here
 
--- where the next run stands in the whole text
+-- the position of the next run in the whole text
 pub record IsNext (rule : Rule) (whole rest before text after : List ℕ) : Type 0 where
   pub parts : left_by rule whole rest
       ≡ record { before = before; text = text; after = after } ∷ left_by rule whole after
   pub ends : IsEnd whole after
 
--- the text up to the end of a run has the characters of the run nearest
+-- of the characters before the end of a run, those of the run are the nearest
 pub front-onto : (front run : List ℕ) → reverse_aux run front ≡ reverse run ++ front
 front-onto front [] = refl
 front-onto front (c ∷ run) =
@@ -342,11 +343,11 @@ IsNext-found rule whole rest before ahead text after s here at utf8 run_ends cut
   begins : first_belongs rule front (chars ahead) ≡ true
   begins = ap (λ l. first_belongs rule (in_front l) (chars ahead)) at ∙ here
 
--- nothing is left at the end
+-- no run is left at the end of a text
 pub none_left : (rule : Rule) (whole : List ℕ) → left_by rule whole [] ≡ []
 none_left rule whole = ap (spans_after rule false (in_front (text_before whole []))) chars-nil
 
--- and all is left at the start
+-- at its start all runs are left
 pub all-left : (rule : Rule) (whole : List ℕ) → left_by rule whole whole ≡ spans_by rule whole
 all-left rule whole =
     ap (λ l. spans_after rule false l (chars whole))

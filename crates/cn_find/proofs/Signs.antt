@@ -1,4 +1,4 @@
--- Of the characters of a run 正 alone is a sign, and none is white space.
+-- Of the characters of a run only 正 is a sign, and none is white space.
 use Rattle.std.proofs.Common.{◌≡◌, ◌≢◌, ℕ, Bool, true, false, not, ◌&&◌, List, ◌∷◌, ◌++◌, filter, reverse, chars, Option, Some, None, IsUtf8, refl, sym, ap, ◌∙◌}
 use Rattle.std.specs.Char.{is_whitespace, is_not_whitespace}
 use Rattle.std.specs.List.{Contains, list_all}
@@ -18,7 +18,7 @@ use Rattle.cn_find.specs.Runs.{each_belongs}
 use Rattle.cn_find.specs.Spans.{Span, spans}
 use Rattle.cn_find.proofs.RunLaws.{span-is_run}
 
--- no white space, and no minus sign
+-- the character is neither white space nor a minus sign
 is_dark : ℕ → Bool
 is_dark c = not (is_whitespace c) && not (is_minus (sign_of c))
 
@@ -30,7 +30,7 @@ all_units : list_all (list_all is_dark) unit_rows ≡ true
 unfolding is_dark sign_of
 all_units = refl
 
--- what belongs to a number is neither
+-- a character that belongs to a number is neither
 belongs-wanted : (wanted : Wanted) (c : ℕ) (after : List ℕ) → belongs wanted c after ≡ true
     → is_wanted wanted c ≡ true
 unfolding belongs

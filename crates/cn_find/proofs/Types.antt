@@ -1,4 +1,4 @@
--- A text without sign is answered alike by each type.
+-- A text without a sign has the same answer for each type.
 use Rattle.std.proofs.Common.{◌≡◌, ℕ, ℤ, pos, int_lt, Bool, true, false, List, chars, drop, None, Result, Ok, Err, MatchBool, if◌then◌else◌, refl, sym, ap, subst, ◌∙◌, arith}
 use Rattle.std.proofs.lemmas.Int.{ints}
 use Rattle.cn_core.specs.declared.method.ChineseCountMethod.{ChineseCountMethod}
@@ -10,7 +10,7 @@ use Rattle.cn_core.specs.Text.{text_of, marks_of}
 use Rattle.cn_core.specs.Whole.{Kind, holds}
 use Rattle.cn_find.specs.Number.{IsAnswer, is_plain}
 
--- no type reads a sign there
+-- no type reads a sign in such a text
 no-sign : (signed : Bool) (text : List ℕ) → leading_sign true text ≡ None
     → leading_sign signed text ≡ None
 no-sign true text h = h
@@ -34,7 +34,7 @@ no-place kind number place h = by (int_lt kind.greatest number) (int_lt number k
   by false true h = cc
   by false false h = cc
 
--- what is told of a judgement without sign
+-- the answer that a judgement without a sign gives to one type, it gives to another
 number-moves : (here there : Kind) (bytes : List ℕ) (judged : Result ℕ Refusal) (number : ℤ)
     → Ok number ≡ typed_answer here bytes None judged → holds there number ≡ true
     → Ok number ≡ typed_answer there bytes None judged
@@ -55,7 +55,7 @@ place-moves here there bytes (Err too_small) place h = cc
 place-moves here there bytes (Err empty) place h = cc
 place-moves here there bytes (Err (incorrect_at q)) place h = h
 
--- and so of an answer, if that of any judgement moves
+-- so an answer for one type is one for another, if that holds for each judgement
 moves : (here there : Kind) (method : ChineseCountMethod) (bytes : List ℕ)
     (answer : Result ℤ Refusal) → leading_sign true (text_of bytes) ≡ None
     → ((judged : Result ℕ Refusal) → answer ≡ typed_answer here bytes None judged

@@ -1,4 +1,4 @@
--- Which characters part a text into expressions.
+-- The characters that part a text into expressions.
 use Rattle.std.proofs.Common.{◌≡◌, ℕ, zero, suc, Bool, true, false, not, ◌&&◌, ◌||◌, List, [], ◌∷◌, ◌++◌, codes, is_some, refl, ap, ◌∙◌}
 use Rattle.std.specs.List.{list_all}
 use Rattle.std.specs.Char.{char_set_contains}
@@ -15,7 +15,7 @@ use Rattle.cn_find.proofs.Extra.{neither, is_joiner, IsUsual-of, no-joiner, usua
 use Rattle.cn_find.proofs.Parting.{Parts}
 use Rattle.cn_find.proofs.Unwanted.{belongs-same, outside, unwanted, IsUnseen}
 
--- what is known of such a character
+-- the facts about such a character
 record IsUnnamed (wanted : Wanted) (c : ℕ) : Type 0 where
   unwanted : is_wanted wanted c ≡ false
   han : is_han c ≡ false
@@ -44,7 +44,7 @@ IsUnnamed-of wanted c unwanted e =
       degree = a.1;
     }
 
--- no set of Han characters has it
+-- such a character is in no set of Han characters
 no-han : (wanted : Wanted) (set : List ℕ) (c : ℕ) → list_all is_han set ≡ true → IsUnnamed wanted c
     → char_set_contains set c ≡ false
 no-han wanted set c all u = outside is_han set c all u.han
@@ -56,7 +56,7 @@ unmeasured wanted c u = no-han wanted (codes "瓦赫帕焦伏乏字节節比特�
 IsUnseen-of : (wanted : Wanted) (c : ℕ) → IsUnnamed wanted c → IsUnseen wanted c
 IsUnseen-of wanted c u = record { unwanted = u.unwanted; unmeasured = unmeasured wanted c u }
 
--- it belongs to nothing
+-- such a character belongs to nothing
 none-belongs : (wanted : Wanted) (front : List ℕ) (c : ℕ) (after : List ℕ) → IsUnnamed wanted c
     → (expression_rule wanted).belongs front c after ≡ false
 none-belongs wanted front c after u = usual_belongs wanted front c after u.extra
@@ -71,7 +71,7 @@ belongs-seen : (wanted : Wanted) (d c : ℕ) (right xs : List ℕ) → IsUnnamed
     → belongs wanted d (xs ++ c ∷ right) ≡ belongs wanted d xs
 belongs-seen wanted d c right xs u = belongs-same wanted d c right xs (IsUnseen-of wanted c u)
 
--- in front of it a character sees the end of the text
+-- a character before it is treated as if the text ended there
 numeric-same : (wanted : Wanted) (d c : ℕ) (right xs : List ℕ) → IsUnnamed wanted c
     → is_numeric wanted d (xs ++ c ∷ right) ≡ is_numeric wanted d xs
 unfolding is_numeric
@@ -266,7 +266,7 @@ words-ahead wanted front d c right xs u = rw (
   kilo-same wanted c right xs u,
 )
 
--- and behind it the start of the text
+-- a character after it is treated as if the text began there
 nearest-figure : (wanted : Wanted) (c : ℕ) (left front : List ℕ) → IsUnnamed wanted c
     → begins_figure (front ++ c ∷ left) ≡ begins_figure front
 nearest-figure wanted c left [] u = u.figure

@@ -1,4 +1,4 @@
--- Which characters part a text into numbers.
+-- The characters that part a text into numbers.
 use Rattle.std.proofs.Common.{◌≡◌, ℕ, Bool, true, false, not, ◌&&◌, ◌||◌, ◌==◌, List, [], ◌∷◌, ◌++◌, codes, arith, refl, sym, ap, ◌∙◌}
 use Rattle.std.specs.Char.{char_set_contains}
 use Rattle.std.specs.List.{list_all}
@@ -12,12 +12,12 @@ use Rattle.cn_find.specs.Parting.{is_of_measure}
 use Rattle.cn_find.specs.Rule.{number_rule}
 use Rattle.cn_find.proofs.Parting.{Parts}
 
--- the character is not wanted, and no word of a measure has it
+-- the character is not wanted, and `begins_measure` does not test for it
 pub record IsUnseen (wanted : Wanted) (c : ℕ) : Type 0 where
   pub unwanted : is_wanted wanted c ≡ false
   pub unmeasured : is_of_measure c ≡ false
 
--- what each character of a set passes
+-- each character of a set passes a test that all of them pass
 pub inside : (test : ℕ → Bool) (set : List ℕ) (c : ℕ) → list_all test set ≡ true
     → char_set_contains set c ≡ true → test c ≡ true
 inside test [] c within has = cc
@@ -30,7 +30,7 @@ inside test (d ∷ set) c within has =
           ap test (sym same) ∙ and-left (test d) _ within
       by false e has others = others has
 
--- one that fails it is not in the set
+-- a character that fails the test is not in the set
 pub outside : (test : ℕ → Bool) (set : List ℕ) (c : ℕ) → list_all test set ≡ true → test c ≡ false
     → char_set_contains set c ≡ false
 outside test set c within none = by (char_set_contains set c) refl where
@@ -73,7 +73,7 @@ pub unwanted : (wanted : Wanted) (c : ℕ) (after : List ℕ) → IsUnseen wante
 unfolding belongs
 unwanted wanted c after e = rw e.unwanted
 
--- and no character in front of it is another one for what stands behind it
+-- a character before it is the same to numbers, whatever is after it
 numeral-same : (wanted : Wanted) (d c : ℕ) (right xs : List ℕ) → IsUnseen wanted c
     → is_numeral wanted d (xs ++ c ∷ right) ≡ is_numeral wanted d xs
 numeral-same wanted d c right xs e =

@@ -1,4 +1,4 @@
--- Where the first two characters of a number are those of no word, it begins none.
+-- A number whose first two characters are those of no word begins no word.
 use Rattle.std.proofs.Common.{◌≡◌, ℕ, Bool, true, false, ◌&&◌, ◌||◌, ◌==◌, List, [], ◌∷◌, codes, refl, sym, ap, ◌∙◌, subst, arith}
 use Rattle.std.specs.Char.{char_set_contains}
 use Rattle.std.proofs.lemmas.Bool.Decides.{nat_tests}
@@ -12,7 +12,7 @@ firsts = codes "十二三七一四五亿億"
 abbrev seconds : List ℕ
 seconds = codes "十百千万萬一二三四五六八九"
 
--- no text is exactly one that begins with two of these characters
+-- a text that does not begin with two such characters is not one that does
 not-exactly : (a b : ℕ) (rest text : List ℕ) → char_set_contains firsts a ≡ true
     → char_set_contains seconds b ≡ true → may_begin_word text ≡ false
     → is_exactly (a ∷ b ∷ rest) text ≡ false

@@ -1,5 +1,6 @@
--- Which characters of a text belong to an expression: a number with its sign, its figures, its point
--- and its units, a percent sign, or a fraction. Of the characters in front the nearest is the first.
+-- Which characters of a text belong to an expression: a number with its sign, figures, point and
+-- units, a percentage, or a fraction. Of the characters before one (`front`) the nearest is the
+-- first in the list.
 use Rattle.std.specs.Prelude.{ℕ, zero, suc, nat_le, Bool, false, not, ◌&&◌, ◌||◌, List, [], ◌∷◌, codes, is_some}
 use Rattle.std.specs.Char.{char_set_contains, is_ascii_alphabetic}
 use Rattle.cn_core.specs.Characters.{digit_of}
@@ -10,11 +11,11 @@ use Rattle.cn_find.specs.Belongs.{begins_with, belongs, is_chinese_digit, is_ge,
 use Rattle.cn_find.specs.Flags.{is_any_digit}
 use Rattle.cn_find.specs.Rule.{Rule}
 
--- 廿 or 卅
+-- the character is 廿 or 卅
 unfoldable pub is_tens : ℕ → Bool
 is_tens c = is_some (tens_of c)
 
--- a numeral character: it belongs to a number, or is 廿, 卅 or a full-width figure
+-- the character is a numeral character: it belongs to a number, or is 廿, 卅 or a full-width figure
 unfoldable pub is_numeric : Wanted → ℕ → List ℕ → Bool
 is_numeric wanted c after = belongs wanted c after || (is_tens c || is_wide_figure c)
 
@@ -23,46 +24,48 @@ abbrev pub begins_numeral : Wanted → List ℕ → Bool
 begins_numeral wanted [] = false
 begins_numeral wanted (c ∷ after) = is_numeric wanted c after
 
--- the nearest character in front is one, as at the end of a text
+-- the nearest character in `front` is a numeral character, as if nothing followed it
 abbrev pub ends_numeral : Wanted → List ℕ → Bool
 ends_numeral wanted [] = false
 ends_numeral wanted (c ∷ front) = is_numeric wanted c []
 
--- the nearest character in front is one that is no figure
+-- the nearest character in `front` is a numeral character, as if nothing followed it, and is not a
+-- figure
 abbrev pub ends_words : Wanted → List ℕ → Bool
 ends_words wanted [] = false
 ends_words wanted (c ∷ front) = not (is_figure c) && is_numeric wanted c []
 
--- the characters begin with a figure, or the nearest one is a figure
+-- the first character in the list is a figure; in `front` that is the nearest one
 abbrev pub begins_figure : List ℕ → Bool
 begins_figure [] = false
 begins_figure (c ∷ others) = is_figure c
 
--- what follows the digit behind 点 makes it a time, as 分 of 九点五分
+-- the characters begin with one of 分刻十点, which make a time of 点 and the digit before them, as
+-- in 九点五分
 abbrev pub begins_time : List ℕ → Bool
 begins_time after = begins_with (codes "分刻十点點") after
 
--- the characters begin with a digit of any kind, and a time follows it
+-- the characters begin with a digit of any kind and then one of those
 abbrev pub begins_minutes : List ℕ → Bool
 begins_minutes [] = false
 begins_minutes (c ∷ after) = is_any_digit c && begins_time after
 
--- the character makes a word with 一 in front of it, as 起 does
+-- the character makes a word with a 一 before it, as 起 does
 unfoldable pub follows_one : ℕ → Bool
 follows_one c = char_set_contains (codes "定直起样樣些下切滴线線") c
 
--- the characters begin with one that does
+-- the characters begin with such a character
 abbrev pub ends_word : List ℕ → Bool
 ends_word [] = false
 ends_word (c ∷ after) = follows_one c
 
--- the digit behind 点 begins a time, as 零 of 三点零五分, or a word, as 一 of 三点一起走
+-- the digit after 点 begins a time, as 零 in 三点零五分, or a word, as 一 in 三点一起走
 unfoldable pub begins_word : ℕ → List ℕ → Bool
 begins_word c after =
     begins_time after || (char_set_contains (codes "零〇") c && begins_minutes after)
     || (char_set_contains (codes "一") c && ends_word after)
 
--- the characters begin with a digit that is no figure, and that begins neither time nor word
+-- the characters begin with a wanted Chinese digit that begins neither a time nor a word
 abbrev pub begins_decimals : Wanted → List ℕ → Bool
 begins_decimals wanted [] = false
 begins_decimals wanted (c ∷ after) =
@@ -78,62 +81,64 @@ abbrev pub is_power : Mark → Bool
 is_power (unit rank) = nat_le 1 rank
 is_power mark = false
 
--- the characters begin with 個 or a unit from 百 up
+-- the characters begin with a wanted unit that is 個 or a unit from 百 up
 abbrev pub begins_counted : Wanted → List ℕ → Bool
 begins_counted wanted [] = false
 begins_counted wanted (c ∷ after) =
     is_wanted wanted c && (is_multiplier (mark_of c) || is_ge (mark_of c))
 
--- 两 as a weight: it follows a numeral character, and counts no unit
+-- 两 as a weight: it is directly after a numeral character and does not count a unit
 unfoldable pub is_weight : Wanted → List ℕ → ℕ → List ℕ → Bool
 is_weight wanted front c after =
     char_set_contains (codes "两兩") c
     && (ends_numeral wanted front && not (begins_counted wanted after))
 
--- a Han character
+-- the character is a Han character, from U+4E00 to U+9FFF
 unfoldable pub is_han : ℕ → Bool
 is_han c = nat_le 19968 c && nat_le c 40959
 
+-- the characters begin with a Han character
 abbrev pub begins_han : List ℕ → Bool
 begins_han [] = false
 begins_han (c ∷ after) = is_han c
 
--- the characters begin with 万, and a Han character follows, or one may
+-- the characters begin with 万, and a Han character follows unless `may` is true
 abbrev pub begins_wan : Bool → List ℕ → Bool
 begins_wan may [] = false
 begins_wan may (c ∷ after) = char_set_contains (codes "万萬") c && (may || begins_han after)
 
--- 個 before a word that begins with 万, as in 一個萬用字元: a Han character follows that, or no number
--- comes first
+-- 個 before a word that begins with 万, as in 一個萬用字元: a Han character follows 万, or no
+-- numeral character is before 個
 unfoldable pub is_item : Wanted → List ℕ → ℕ → List ℕ → Bool
 is_item wanted front c after =
     char_set_contains (codes "个個") c && begins_wan (not (ends_numeral wanted front)) after
 
--- the nearest character is a unit from 十 up
+-- the nearest character in `front` is a wanted unit from 十 up
 abbrev pub ends_power : Wanted → List ℕ → Bool
 ends_power wanted [] = false
 ends_power wanted (c ∷ front) = is_wanted wanted c && is_power (mark_of c)
 
--- the nearest characters are digits, and a point before them
+-- the nearest characters in `front` are digits of any kind, and a point is before them
 abbrev pub ends_decimals : List ℕ → Bool
 ends_decimals [] = false
 ends_decimals (c ∷ front) =
     is_any_digit c
     && (begins_with (codes "点點.．") front || ends_decimals front)
 
--- 千 as a part of a measure, as in 30亿千瓦时
+-- 千 as a part of a measure, as in 30亿千瓦时: it follows a unit from 十 up or decimals
 unfoldable pub is_kilo : Wanted → List ℕ → ℕ → List ℕ → Bool
 is_kilo wanted front c after =
     char_set_contains (codes "千仟") c
     && (begins_with (codes "瓦克米卡赫伏安焦帕") after
     && (ends_power wanted front || ends_decimals front))
 
--- a numeral character that belongs to another word than a number
+-- the character belongs to a word that is not a number: it is 两 as a weight, 個 before a word with
+-- 万, or 千 as a part of a measure
 abbrev pub is_other_word : Wanted → List ℕ → ℕ → List ℕ → Bool
 is_other_word wanted front c after =
     is_weight wanted front c after || (is_item wanted front c after || is_kilo wanted front c after)
 
--- the characters begin with three figures, and what follows them passes this test
+-- the characters begin with three figures, and those after them pass the test `passes`
 abbrev pub three_figures : (List ℕ → Bool) → List ℕ → Bool
 three_figures passes (c ∷ d ∷ e ∷ others) =
     (is_figure c && is_figure d) && (is_figure e && passes others)
@@ -143,122 +148,127 @@ three_figures passes others = false
 abbrev pub begins_group : List ℕ → Bool
 begins_group after = three_figures (λ others. not (begins_figure others)) after
 
--- the nearest character is a comma
+-- the nearest character in `front` is a comma
 abbrev pub ends_comma : List ℕ → Bool
 ends_comma [] = false
 ends_comma (c ∷ front) = is_comma c
 
--- the nearest characters are three figures, and a comma in front of them
+-- the nearest characters in `front` are three figures, and a comma is before them
 abbrev pub ends_group : List ℕ → Bool
 ends_group front = three_figures ends_comma front
 
--- a figure with these characters in front begins a number: it is no 0, and stands behind no figure,
--- comma or point
+-- a figure after these characters begins a number: it is not 0, and no figure, comma or point is
+-- directly before it
 unfoldable pub begins_number : ℕ → List ℕ → Bool
 begins_number c front =
     not (char_set_contains (codes "0０") c)
     && (not (begins_figure front) && not (begins_with (codes ",.．") front))
 
--- the nearest characters are figures, at most so many, of which the first begins a number
+-- the nearest characters in `front` are figures, at most `most` of them, and the first of these in
+-- the text begins a number
 abbrev pub ends_head : ℕ → List ℕ → Bool
 ends_head zero front = false
 ends_head (suc most) [] = false
 ends_head (suc most) (c ∷ front) =
     is_figure c && (begins_number c front || ends_head most front)
 
--- a comma between these parts groups of figures
+-- a comma between these characters separates groups of figures
 abbrev pub parts_groups : List ℕ → List ℕ → Bool
 parts_groups front after = (ends_head 3 front || ends_group front) && begins_group after
 
--- the characters begin with a unit from 百 up that belongs to a number, or with a percent sign
+-- the characters begin with a unit from 百 up that belongs to a number, or with a percent sign or ‰
 abbrev pub begins_multiplier : Wanted → List ℕ → Bool
 begins_multiplier wanted [] = false
 begins_multiplier wanted (c ∷ after) =
     (is_multiplier (mark_of c) && belongs wanted c after) || is_share_sign c
 
--- the characters begin with a numeral character, or a minus sign and one
+-- the characters begin with a numeral character, or with a minus sign and a numeral character
 abbrev pub begins_signed : Wanted → List ℕ → Bool
 begins_signed wanted [] = false
 begins_signed wanted (c ∷ after) =
     is_numeric wanted c after
     || (char_set_contains (codes "负負-−－") c && begins_numeral wanted after)
 
--- the characters begin with 之 and such a numerator
+-- the characters begin with 之 and then with the start of a numerator: a numeral character, or a
+-- minus sign and one
 abbrev pub begins_numerator : Wanted → List ℕ → Bool
 begins_numerator wanted [] = false
 begins_numerator wanted (c ∷ after) =
     char_set_contains (codes "之") c && begins_signed wanted after
 
--- the characters begin with 分 and such a numerator
+-- the characters begin with 分 and then with 之 and the start of a numerator
 abbrev pub begins_bar : Wanted → List ℕ → Bool
 begins_bar wanted [] = false
 begins_bar wanted (c ∷ after) =
     char_set_contains (codes "分") c && begins_numerator wanted after
 
--- the characters begin with numeral characters and then those
+-- the characters begin with numeral characters, then 分之 and the start of a numerator
 abbrev pub begins_fraction : Wanted → List ℕ → Bool
 begins_fraction wanted [] = false
 begins_fraction wanted (c ∷ after) =
     is_numeric wanted c after && (begins_bar wanted after || begins_fraction wanted after)
 
--- the nearest character is 零, and no numeral character is before it
+-- the nearest character in `front` is 零, and no numeral character is before it
 abbrev pub ends_zero : Wanted → List ℕ → Bool
 ends_zero wanted [] = false
 ends_zero wanted (c ∷ front) =
     char_set_contains (codes "零") c && not (ends_numeral wanted front)
 
--- what follows 一 makes it a temperature, as 度 of 零下一度, and no word, as 步 of 归零下一步
+-- the characters after 一 make a temperature of it, as 度 does in 零下一度, and not a word, as 步
+-- does in 归零下一步
 abbrev pub begins_degrees : Wanted → List ℕ → Bool
 begins_degrees wanted after =
     begins_numeral wanted after || begins_with (codes "度点點摄攝℃") after
 
--- the characters begin with a number that 零下 may be before
+-- the characters begin with a number that 零下 can be before: with a figure, a wanted digit or 十,
+-- but with 一 only if it is a temperature
 abbrev pub begins_below_zero : Wanted → List ℕ → Bool
 begins_below_zero wanted [] = false
 begins_below_zero wanted (c ∷ after) =
     (is_figure c || (is_wanted wanted c && (is_some (digit_of c) || char_set_contains (codes "十") c)))
     && (not (char_set_contains (codes "一") c) || begins_degrees wanted after)
 
--- the nearest characters are 分 and a numeral character in front of it
+-- the nearest character in `front` is 分, and a numeral character is before it
 abbrev pub ends_denominator : Wanted → List ℕ → Bool
 ends_denominator wanted [] = false
 ends_denominator wanted (c ∷ front) =
     char_set_contains (codes "分") c && ends_numeral wanted front
 
--- the nearest characters are a blank and a figure in front of it
+-- the nearest character in `front` is a blank, and a figure is before it
 abbrev pub ends_spaced : List ℕ → Bool
 ends_spaced [] = false
 ends_spaced (c ∷ front) = char_set_contains (codes " ") c && begins_figure front
 
--- the character makes a word with 负 behind it, as 抱 does
+-- the character makes a word with a 负 after it, as 抱 does
 unfoldable pub precedes_minus : ℕ → Bool
 precedes_minus c = char_set_contains (codes "正非背揹肩担擔抱胜勝辜欺自不") c
 
--- the nearest character is one that does
+-- the nearest character in `front` is such a character
 abbrev pub ends_verb : List ℕ → Bool
 ends_verb [] = false
 ends_verb (c ∷ front) = precedes_minus c
 
--- behind this character `-` is no sign: a letter, a percent sign, a bracket, a point, a bar
+-- after this character `-` is not a sign: it is a letter, a percent sign, a bracket, a point, `_`,
+-- a slash or a minus sign
 unfoldable pub binds_minus : ℕ → Bool
 binds_minus c =
     is_ascii_alphabetic c || char_set_contains (codes "%％‰)]}_.．/\\-−－") c
 
--- the nearest character is one of those
+-- the nearest character in `front` is such a character
 abbrev pub ends_bound : List ℕ → Bool
 ends_bound [] = false
 ends_bound (c ∷ front) = binds_minus c
 
--- the characters begin with a figure, or a sign of money and one
+-- the characters begin with a figure, or with a currency sign and a figure
 abbrev pub begins_sum : List ℕ → Bool
 begins_sum [] = false
 begins_sum (c ∷ after) = is_figure c || (is_currency c && begins_figure after)
 
--- `-` may be a sign after these characters
+-- `-` can be a sign after these characters
 abbrev pub may_precede_minus : Wanted → List ℕ → Bool
 may_precede_minus wanted front = not (ends_numeral wanted front) && not (ends_bound front)
 
--- the nearest character is such a sign
+-- the nearest character in `front` is a minus sign of figures, and it can be a sign there
 abbrev pub ends_minus : Wanted → List ℕ → Bool
 ends_minus wanted [] = false
 ends_minus wanted (c ∷ front) = is_figure_minus c && may_precede_minus wanted front
@@ -268,7 +278,7 @@ abbrev pub begins_wide : List ℕ → Bool
 begins_wide [] = false
 begins_wide (c ∷ others) = is_wide_figure c
 
--- the character belongs to an expression by what stands around it
+-- the character belongs to an expression because of the characters around it
 unfoldable pub joins : Wanted → List ℕ → ℕ → List ℕ → Bool
 joins wanted front c after =
     (char_set_contains (codes "点點") c
@@ -294,25 +304,27 @@ joins wanted front c after =
     || (is_figure_minus c && (begins_sum after && may_precede_minus wanted front))
     || (is_currency c && (begins_figure after && ends_minus wanted front))
 
--- a character that expressions treat otherwise than numbers do
+-- the character is one that expressions treat differently from numbers
 unfoldable pub is_extra : ℕ → Bool
 is_extra c =
     is_tens c || is_wide_figure c
     || char_set_contains (codes "点點.．,， 分之%％‰又下负負-−－¥￥两兩个個千仟") c
 
--- a digit that is no figure, or 廿 or 卅
+-- the character is a Chinese digit, 廿 or 卅
 abbrev pub is_word_digit : ℕ → Bool
 is_word_digit c = is_chinese_digit c || is_tens c
 
--- two neighbours are of two expressions: the one is a figure and the other such a digit, but for 零 before
--- a figure; or the first is a percent sign or ‰
+-- two neighbouring characters belong to different expressions: one is a figure, and the other a
+-- Chinese digit, 廿 or 卅, unless it is 零 or 〇 before the figure; or the first is a percent sign
+-- or ‰
 unfoldable pub parts_expressions : ℕ → ℕ → Bool
 parts_expressions c next =
     (is_figure c && is_word_digit next)
     || ((is_word_digit c && not (char_set_contains (codes "零〇") c)) && is_figure next)
     || is_share_sign c
 
--- the rule of expressions
+-- the rule of expressions: a character belongs if it is a numeral character that does not belong to
+-- another word, or because of the characters around it
 abbrev pub expression_rule : Wanted → Rule
 expression_rule wanted = record {
   belongs = λ front c after.

@@ -1,4 +1,4 @@
-// Whether a character of a text is one of a number.
+// Whether a character of a text belongs to a number.
 ghost use Rattle.std.specs.Prelude.{◌≡◌, ◌&&◌, ℕ, nat_le, true, chars};
 ghost use Rattle.cn_core.specs.Characters.{rank};
 ghost use Rattle.cn_core.specs.Mark.{mark_of};
@@ -9,7 +9,7 @@ use crate::Wanted;
 use cn_core::{Unit, digit_of, split_first_char};
 use cn_judge::{Mark, split_first_mark};
 
-// The forms that stand in the upper case alone.
+// Whether a character is a form that only the upper case has.
 #[inline(always)]
 #[tactic(auto, unfolding(crate::specs::Belongs::is_upper))]
 fn is_upper(c: char) -> bool
@@ -37,7 +37,7 @@ fn is_upper(c: char) -> bool
     )
 }
 
-/// Whether a unit is no greater than the greatest one.
+/// Whether `unit` is at most `greatest`, by their ranks.
 pub fn is_up_to(greatest: Unit, unit: Unit) -> bool
     ensures { result ≡ nat_le (rank unit) (rank greatest) }
 {
@@ -63,7 +63,8 @@ fn is_great(mark: Mark) -> bool
     }
 }
 
-/// Whether a character with its mark is looked for.
+/// Whether a character, given with its mark, is wanted: it is a digit or a unit up to the greatest
+/// one, and not a form of the upper case alone unless `wanted.upper` is set.
 pub fn is_wanted(wanted: Wanted, c: char, mark: Mark) -> bool
     requires { marked mark ≡ mark_of c }
     ensures { result ≡ is_wanted wanted c }
@@ -71,8 +72,8 @@ pub fn is_wanted(wanted: Wanted, c: char, mark: Mark) -> bool
     is_wanted_mark(wanted.greatest, mark) && (wanted.upper || !is_upper(c))
 }
 
-// Whether the text begins with a word that is counted in 兆 as mega: most by their first character,
-// the others by the first two.
+// Whether the text begins with a word before which 兆 means mega. Most of these words are
+// recognized by their first character, the others by their first two.
 // Same answer ('\0' → '\t'): no word has a tab or a NUL.
 #[inline(never)]
 #[tactic(auto, unfolding(crate::specs::Belongs::begins_measure))]
@@ -82,7 +83,7 @@ fn begins_measure(text: &str) -> bool
     let Some((first, after)) = split_first_char(text) else {
         return false;
     };
-    // NUL, which no word has, where none follows.
+    // If no second character follows, NUL, which no word contains.
     let next = split_first_char(after).map_or('\0', |(next, _)| next);
     match first {
         '瓦' | '赫' | '帕' | '焦' | '伏' | '乏' => true,
@@ -97,7 +98,7 @@ fn begins_measure(text: &str) -> bool
     }
 }
 
-// Whether a character is 兆 that is mega.
+// Whether a character is a 兆 that means mega.
 #[inline(always)]
 fn is_mega(c: char, mark: Mark, after: &str) -> bool
     requires { marked mark ≡ mark_of c }
@@ -106,7 +107,7 @@ fn is_mega(c: char, mark: Mark, after: &str) -> bool
     matches!(mark, Mark::Unit(Unit::Zhao)) && begins_measure(after)
 }
 
-// Whether the text begins with a unit that 個 in front of it counts.
+// Whether the text begins with a unit that a 個 before it counts.
 #[inline(never)]
 fn counts_next(wanted: Wanted, text: &str) -> bool
     ensures { result ≡ counts_next wanted (chars text.now) }
@@ -117,7 +118,7 @@ fn counts_next(wanted: Wanted, text: &str) -> bool
     is_great(mark) && is_wanted(wanted, c, mark) && !is_mega(c, mark, after)
 }
 
-// Whether a unit that is looked for is one of a number, by what follows it.
+// Whether a wanted unit belongs to a number, given the text after it.
 #[inline(always)]
 #[tactic(auto, unfolding(crate::specs::Belongs::belongs))]
 fn unit_belongs(wanted: Wanted, unit: Unit, after: &str) -> bool
@@ -131,14 +132,14 @@ fn unit_belongs(wanted: Wanted, unit: Unit, after: &str) -> bool
     }
 }
 
-/// Whether a character with its mark is one of a number, by what follows it.
+/// Whether a character, given with its mark and the text after it, belongs to a number.
 #[inline(always)]
 #[tactic(auto, unfolding(crate::specs::Belongs::belongs))]
 pub fn belongs(wanted: Wanted, c: char, mark: Mark, after: &str) -> bool
     requires { marked mark ≡ mark_of c }
     ensures { result ≡ belongs wanted c (chars after.now) }
 {
-    // Most characters of a text are neither digit nor unit, so they are told apart first.
+    // Most characters of a text are neither a digit nor a unit, so they are handled first.
     match mark {
         Mark::Other => false,
         _ if !is_wanted(wanted, c, mark) => false,
@@ -147,14 +148,14 @@ pub fn belongs(wanted: Wanted, c: char, mark: Mark, after: &str) -> bool
     }
 }
 
-/// Whether a character is a digit, and no ASCII one.
+/// Whether a character is a digit but not an ASCII digit.
 pub fn is_chinese_digit(c: char) -> bool
     ensures { result ≡ is_chinese_digit c }
 {
     digit_of(c).is_some() && !c.is_ascii_digit()
 }
 
-/// Whether the one is an ASCII digit, and the other a digit that is none.
+/// Whether one of two characters is an ASCII digit, and the other a digit that is not ASCII.
 #[inline(always)]
 pub fn is_parted(c: char, next: char) -> bool
     ensures { result ≡ is_parted c next }

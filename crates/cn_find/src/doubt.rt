@@ -1,4 +1,4 @@
-// Why a reader may mean something else than the quantity of an expression.
+// Why an expression may mean something else than its quantity.
 ghost use Rattle.std.specs.Prelude.{◌≡◌, ◌||◌, ◌&&◌, false, true, codes, chars, is_some, List, ℕ, Option, nat_le, length};
 ghost use Rattle.std.specs.Char.{char_set_contains};
 ghost use Rattle.cn_core.specs.Characters.{digit_of};
@@ -11,20 +11,21 @@ use crate::ranges::is_end_of_range;
 use crate::words::{begins_with, begins_with_two, ends_with, ends_with_two, is_of_word};
 use cn_core::{digit_of, split_first_char};
 
-/// Why a reader may mean something else than the quantity of an expression.
+/// A reason why an expression may mean something else than its quantity.
 #[derive(Debug, Copy, Clone, Eq, PartialEq)]
 pub enum Doubt {
-    /// It is a part of a word: 十二 of 十二指肠, 十一 of 双十一.
+    /// It is part of a word: 十二 of 十二指肠, 十一 of 双十一.
     Word,
-    /// It is two or three Chinese digits, or more that rise, as a list may be: 五一, 一二三四.
+    /// It is two or three Chinese digits, or more of which none is smaller than the one before it,
+    /// and so may be a list: 五一, 一二三四.
     Digits,
-    /// It is a part of a term: 负二 of 负二项, 十六 of 十六进制.
+    /// It is part of a term: 负二 of 负二项, 十六 of 十六进制.
     Term,
-    /// It is a part of what is said with 折, 成 or 半: 八五 of 八五折.
+    /// It is part of a phrase with 折, 成 or 半: 八五 of 八五折.
     Part,
-    /// It is a time as well as a decimal: 三点五 after 下午.
+    /// It may be a time as well as a decimal: 三点五 after 下午.
     Time,
-    /// It is an end of a range whose ends share a unit or 百分之: 3 and 5万 of 3~5万.
+    /// It is one end of a range whose ends share a unit or 百分之: 3 and 5万 of 3~5万.
     Range,
 }
 
@@ -47,7 +48,7 @@ fn are_chinese_digits(text: &str) -> bool
     true
 }
 
-// Whether the text is this many characters or fewer.
+// Whether the text has at most `most` characters.
 fn has_at_most(most: usize, text: &str) -> bool
     ensures { result ≡ nat_le (length (chars text.now)) most }
 {
@@ -57,7 +58,7 @@ fn has_at_most(most: usize, text: &str) -> bool
     }
 }
 
-// Whether the first digit is no smaller than this one, if both are digits.
+// Whether the first digit of the text is at least `value`, if both are digits.
 fn is_up_to_first(value: Option<u8>, text: &str) -> bool
     ensures { result ≡ is_up_to_first value (chars text.now) }
 {
@@ -132,7 +133,7 @@ fn begins_plenum(after: &str) -> bool
     matches!(c, '届' | '屆') && is_chinese_digit(d) && begins_with(&['中'], others)
 }
 
-// Which doubts the character after an expression can raise: it is decoded once.
+// The first character after the expression selects the test, so that it is decoded once.
 fn is_term(text: &str, after: &str) -> bool
     ensures { result ≡ is_term (chars text.now) (chars after.now) }
 {
@@ -148,7 +149,7 @@ fn is_term(text: &str, after: &str) -> bool
     }
 }
 
-// What 半 follows in 两倍半, 一米半 and the like.
+// What can be between an expression and 半, as in 两倍半 and 一米半.
 const BEFORE_HALF: &[char] = &[
     '个', '個', '倍', '天', '岁', '歲', '里', '年', '月', '日', '号', '號', '點', '点', '时', '時', '分', '秒', '刻',
     '元', '圆', '圓', '块', '塊', '角', '毛', '度', '米', '斤', '两', '兩',
@@ -167,7 +168,7 @@ fn is_part(text: &str, after: &str) -> bool
     }
 }
 
-// Whether a character is a digit from 1 to 9, and no figure.
+// Whether a character is a Chinese digit from 1 to 9.
 fn counts(c: char) -> bool
     ensures { result ≡ counts c }
 {
@@ -247,11 +248,12 @@ fn is_time(before: &str, text: &str, after: &str) -> bool
             && !begins_with(&['元', '米', '度', '倍', '吨', '噸', '克', '升'], after))
 }
 
-/// Why a reader may mean something else than the quantity of an expression between these texts; `None`
-/// if nothing suggests that. The rules are those of docs/RULES.md, "Doubt".
+/// The reason why an expression between these texts may mean something else than its quantity;
+/// `None` if nothing suggests that. The rules are those of docs/RULES.md, "Doubt".
 ///
 /// ```text
-/// of 五一 before 假期 it is Some(Doubt::Digits), of 三点五 before 米 None
+/// doubt_of("", "五一", "假期") == Some(Doubt::Digits)
+/// doubt_of("", "三点五", "米") == None
 /// ```
 pub fn doubt_of(before: &str, text: &str, after: &str) -> Option<Doubt>
     ensures { result ≡ doubt_of before.now text.now after.now }

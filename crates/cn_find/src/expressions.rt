@@ -1,4 +1,4 @@
-// Whether a character of a text is one of an expression.
+// Whether a character of a text belongs to an expression.
 ghost use Rattle.std.specs.Prelude.{◌≡◌, ◌<◌, ◌||◌, ◌∷◌, [], codes, chars, length, IfSome, MatchOption, ◌&&◌, not};
 ghost use Rattle.std.specs.Char.{char_set_contains};
 ghost use Rattle.cn_core.specs.Figures.{is_figure, is_wide_figure};
@@ -16,7 +16,8 @@ use cn_core::{
 };
 use cn_judge::{Mark, mark_of, split_first_mark, split_last_char};
 
-/// The nearest character before a number, and what is before that.
+/// The last character of a text and the text before it; `None` if the text is empty. In the text
+/// before a number the last character is the nearest to the number.
 #[tactic(auto, using(crate::proofs::Nearest::reverse_last))]
 pub fn split_nearest(before: &str) -> Option<(char, &str)>
     ensures parts { MatchOption result (in_front before.now ≡ [])
@@ -26,6 +27,7 @@ pub fn split_nearest(before: &str) -> Option<(char, &str)>
     split_last_char(before)
 }
 
+/// Whether a character is 廿 or 卅, which stand for 20 and 30.
 #[tactic(auto, unfolding(crate::specs::Expressions::is_tens, cn_core::specs::Figures::tens_of))]
 pub fn is_tens(c: char) -> bool
     ensures { result ≡ is_tens c }
@@ -40,7 +42,7 @@ fn is_extra_numeral(c: char) -> bool
     is_tens(c) || is_wide_figure(c)
 }
 
-// Whether a character with its mark is a numeral character, by what follows it.
+// Whether a character, given with its mark and the text after it, is a numeral character.
 #[tactic(auto, unfolding(crate::specs::Expressions::is_numeric))]
 fn is_numeric(wanted: Wanted, c: char, mark: Mark, after: &str) -> bool
     requires { marked mark ≡ mark_of c }
@@ -58,7 +60,7 @@ fn begins_numeral(wanted: Wanted, after: &str) -> bool
     }
 }
 
-// Whether a character is a numeral character at the end of a text.
+// Whether a character is a numeral character if nothing follows it.
 fn is_numeric_alone(wanted: Wanted, c: char) -> bool
     ensures { result ≡ is_numeric wanted c [] }
 {
@@ -101,7 +103,7 @@ fn ends_figure(before: &str) -> bool
     }
 }
 
-// Whether a full-width figure comes first.
+// Whether the text begins with a full-width figure.
 fn begins_wide(after: &str) -> bool
     ensures { result ≡ begins_wide (chars after.now) }
 {
@@ -111,7 +113,7 @@ fn begins_wide(after: &str) -> bool
     }
 }
 
-// Whether a full-width figure is nearest.
+// Whether the text ends with a full-width figure.
 fn ends_wide(before: &str) -> bool
     ensures { result ≡ begins_wide (in_front before.now) }
 {
@@ -139,7 +141,7 @@ fn begins_minutes(after: &str) -> bool
     }
 }
 
-// Whether a character makes a word with 一 in front of it.
+// Whether a character makes a word with a 一 before it.
 #[tactic(auto, unfolding(crate::specs::Expressions::follows_one))]
 fn follows_one(c: char) -> bool
     ensures { result ≡ follows_one c }
@@ -159,7 +161,7 @@ fn ends_word(after: &str) -> bool
     }
 }
 
-// Whether the digit behind 点 begins a time or a word.
+// Whether a digit after 点 begins a time or a word.
 #[tactic(auto, unfolding(crate::specs::Expressions::begins_word))]
 fn begins_word(c: char, after: &str) -> bool
     ensures { result ≡ begins_word c (chars after.now) }
@@ -185,7 +187,7 @@ fn begins_decimals(wanted: Wanted, after: &str) -> bool
     }
 }
 
-// Whether three figures and no fourth come first.
+// Whether the text begins with three figures and no fourth.
 fn begins_group(after: &str) -> bool
     ensures { result ≡ begins_group (chars after.now) }
 {
@@ -210,7 +212,7 @@ fn ends_comma(before: &str) -> bool
     }
 }
 
-// Whether three figures stand nearest, and a comma in front of them.
+// Whether the text ends with a comma and three figures.
 fn ends_group(before: &str) -> bool
     ensures { result ≡ ends_group (in_front before.now) }
 {
@@ -235,7 +237,7 @@ fn ends_mark(before: &str) -> bool
     }
 }
 
-// Whether a figure with this text in front begins a number.
+// Whether a figure directly after this text begins a number.
 #[tactic(auto, unfolding(crate::specs::Expressions::begins_number))]
 fn begins_number(c: char, before: &str) -> bool
     ensures { result ≡ begins_number c (in_front before.now) }
@@ -243,7 +245,7 @@ fn begins_number(c: char, before: &str) -> bool
     !matches!(c, '0' | '０') && !ends_figure(before) && !ends_mark(before)
 }
 
-// Whether so many figures or fewer stand nearest, of which the first begins a number.
+// Whether the text ends with at most `most` figures, the first of which begins a number.
 fn ends_head(most: usize, before: &str) -> bool
     ensures { result ≡ ends_head most (in_front before.now) }
 {
@@ -387,7 +389,7 @@ fn ends_spaced(before: &str) -> bool
     }
 }
 
-// Whether a character makes a word with 负 behind it.
+// Whether a character makes a word with a 负 after it.
 #[tactic(auto, unfolding(crate::specs::Expressions::precedes_minus))]
 fn precedes_minus(c: char) -> bool
     ensures { result ≡ precedes_minus c }
@@ -451,7 +453,7 @@ fn ends_minus(wanted: Wanted, before: &str) -> bool
     }
 }
 
-// Whether a character is one of an expression by what is around it.
+// Whether a character belongs to an expression because of the text around it.
 #[tactic(auto, unfolding(crate::specs::Expressions::joins))]
 fn joins(wanted: Wanted, before: &str, c: char, after: &str) -> bool
     ensures { result ≡ joins wanted (in_front before.now) c (chars after.now) }
@@ -476,6 +478,7 @@ fn joins(wanted: Wanted, before: &str, c: char, after: &str) -> bool
     }
 }
 
+/// Whether a mark is a unit from 十 up.
 pub fn is_power(mark: Mark) -> bool
     ensures { result ≡ is_power (marked mark) }
 {
@@ -599,7 +602,7 @@ fn is_other_word(wanted: Wanted, before: &str, c: char, after: &str) -> bool
         || is_kilo(wanted, before, c, after)
 }
 
-// Whether expressions treat a character otherwise than numbers do.
+// Whether a character is one that expressions treat differently from numbers.
 #[inline(always)]
 #[tactic(auto, unfolding(crate::specs::Expressions::is_extra))]
 fn is_extra(c: char) -> bool
@@ -638,7 +641,8 @@ fn is_extra(c: char) -> bool
         )
 }
 
-// Whether a character with its mark is a numeral character, and belongs to no other word.
+// Whether a character, given with its mark, is a numeral character and does not belong to a word
+// that is not a number.
 #[inline(always)]
 #[tactic(auto, using(crate::proofs::Extra::unmarked))]
 fn is_numeral_here(wanted: Wanted, before: &str, c: char, mark: Mark, after: &str) -> bool
@@ -647,13 +651,13 @@ fn is_numeral_here(wanted: Wanted, before: &str, c: char, mark: Mark, after: &st
         && not (is_other_word wanted (in_front before.now) c (chars after.now))) }
 {
     match mark {
-        // Most of the characters that are asked are points, commas and blanks.
+        // Most of the characters that get here are points, commas and blanks.
         Mark::Other => is_extra_numeral(c),
         _ => is_numeric(wanted, c, mark, after) && !is_other_word(wanted, before, c, after),
     }
 }
 
-/// Whether a character with its mark is one of an expression.
+/// Whether a character, given with its mark and the text around it, belongs to an expression.
 #[inline(always)]
 pub fn is_of_expression(wanted: Wanted, before: &str, c: char, mark: Mark, after: &str) -> bool
     requires { marked mark ≡ mark_of c }
@@ -672,7 +676,7 @@ fn is_word_digit(c: char) -> bool
     is_chinese_digit(c) || is_tens(c)
 }
 
-/// Whether two neighbours are of two expressions.
+/// Whether two neighbouring characters belong to different expressions.
 #[tactic(auto, unfolding(crate::specs::Expressions::parts_expressions))]
 pub fn parts_expressions(c: char, next: char) -> bool
     ensures { result ≡ parts_expressions c next }

@@ -1,5 +1,5 @@
-// What is told of a number by what stands around it, and by its own characters. Whoever finds other
-// numbers than those of this crate tells the same of them.
+// What the text around a number, and the number's own characters, say about it. Code that finds
+// numbers by other means can use these flags too.
 ghost use Rattle.std.specs.Prelude.{◌≡◌, ◌≢◌, ℕ, ◌<◌, ◌&&◌, ◌||◌, not, true, false, List, ◌∷◌, [], length, reverse, codes, chars, is_some, Some, MatchOption, IfSome, IfNone, IsTrue};
 ghost use Rattle.std.specs.Char.{char_set_contains};
 ghost use Rattle.cn_core.specs.Characters.{digit_of, rank_of};
@@ -29,27 +29,27 @@ fn is_unit(mark: Mark) -> bool
     matches!(mark, Mark::Unit(_))
 }
 
-// What a character that is no digit is to a number that it touches.
+// What a character that is not a digit means for a number that it touches.
 #[derive(Copy, Clone)]
 enum Neighbour {
-    // Nothing, as most.
+    // Nothing, as most characters.
     Unrelated,
-    // The number goes on with it.
+    // The number continues with it.
     Clings,
-    // It links the number to what stands on its other side.
+    // It links the number to the character on its other side.
     Links,
-    // A number behind it is about so much.
+    // A number directly after it is approximate.
     EstimatesNext,
-    // A number in front of it is.
+    // A number directly before it is approximate.
     EstimatesLast,
-    // Either is.
+    // A number directly after or before it is approximate.
     Estimates,
-    // A number before it is, where 几 follows it.
+    // A number directly before it is approximate if 几 follows it.
     Quite,
 }
 
-// All is told by one `match`, and not by one for each question. ASCII is told apart first, so that a
-// Chinese character is soon told to be nothing.
+// One `match` decides all of this, rather than one for each question. ASCII characters are handled
+// first, so that most Chinese characters are soon found to be unrelated.
 #[inline(always)]
 #[tactic(auto, unfolding(crate::specs::Flags::clings, crate::specs::Flags::is_link))]
 fn neighbour_of(c: char) -> Neighbour
@@ -78,7 +78,8 @@ fn neighbour_of(c: char) -> Neighbour
     }
 }
 
-// Whether the character with its mark is a digit, with which a number that it touches goes on.
+// Whether a character, given with its mark, is a digit. A number that touches a digit continues
+// with it.
 #[inline(always)]
 #[tactic(auto, using(crate::proofs::Marks::digit_clings, crate::proofs::Marks::digit_no_next, crate::proofs::Marks::digit_no_last, crate::proofs::Marks::digit_no_quite))]
 fn is_digit_beside(c: char, mark: Mark) -> bool
@@ -92,7 +93,7 @@ fn is_digit_beside(c: char, mark: Mark) -> bool
     is_digit(mark)
 }
 
-// Whether a link leads to the character with its mark.
+// Whether a link can lead to a character, given with its mark.
 #[inline(always)]
 #[tactic(auto, unfolding(crate::specs::Flags::clings))]
 fn is_linked(c: char, mark: Mark) -> bool
@@ -105,22 +106,22 @@ fn is_linked(c: char, mark: Mark) -> bool
     }
 }
 
-// What the text on one side of a number tells of it.
+// What the text on one side of a number says about it.
 #[derive(Copy, Clone)]
 struct Side {
-    // Whether the number goes on in it.
+    // Whether the number continues in the text.
     goes_on: bool,
-    // Whether the number is about so much by it.
+    // Whether the text makes the number approximate.
     estimates: bool,
 }
 
-// Nothing stands there.
+// The side of a number that has no text.
 const NOTHING: Side = Side {
     goes_on: false,
     estimates: false,
 };
 
-// Whether a link behind this text leads into it.
+// Whether a link directly after this text leads into it.
 #[inline(always)]
 #[tactic(auto, using(crate::proofs::Nearest::reverse_last))]
 fn ends_linked(before: &str) -> bool
@@ -132,7 +133,7 @@ fn ends_linked(before: &str) -> bool
     }
 }
 
-// Whether a link in front of this text leads into it.
+// Whether a link directly before this text leads into it.
 #[inline(always)]
 #[tactic(auto, unfolding(crate::specs::Flags::clings))]
 fn begins_linked(after: &str) -> bool
@@ -144,7 +145,8 @@ fn begins_linked(after: &str) -> bool
     }
 }
 
-// What the text in front of a number tells: about so much by a last 几 or 数, in front of a unit.
+// What the text before a number says about it. A 几 or 数 at its end makes a number approximate
+// that begins with a unit.
 #[inline(always)]
 #[tactic(auto, using(crate::proofs::Nearest::reverse_last))]
 fn look_before(before: &str) -> Side
@@ -173,7 +175,7 @@ fn look_before(before: &str) -> Side
     Side { goes_on, estimates }
 }
 
-// Whether the text begins with 几.
+// Whether the text begins with 几 or 幾.
 fn begins_few(text: &str) -> bool
     ensures { result ≡ begins_with (codes "几幾") (chars text.now) }
 {
@@ -183,7 +185,8 @@ fn begins_few(text: &str) -> bool
     }
 }
 
-// What the text after a number tells: about so much by a first 几, 多 or another such character.
+// What the text after a number says about it. A 几, 多 or another such character at its start makes
+// the number approximate.
 #[inline(always)]
 fn look_after(after: &str) -> Side
     ensures goes_on { result.goes_on ≡ goes_on (chars after.now) }
@@ -210,8 +213,9 @@ fn look_after(after: &str) -> Side
     Side { goes_on, estimates }
 }
 
-/// Whether a number between these texts stands alone: no ASCII letter, digit of any kind, `_`, 廿, 卅, 卌
-/// or 幺 touches it, and no `.`, `,`, `-`, 点 or 點 links it to one of them or to a unit.
+/// Whether a number between these texts stands alone. It does unless an ASCII letter, a digit of
+/// any kind, `_`, 廿, 卅, 卌 or 幺 touches it, or a `.`, `,`, `-`, 点 or 點 links it to one of
+/// these or to a unit.
 ///
 /// ```text
 /// stands_alone("第", "章") == true
@@ -234,7 +238,8 @@ fn begins_with_unit(text: &str) -> bool
     }
 }
 
-/// Whether each character is a digit.
+/// Whether every character of the text is a digit, as in 二零二五. Full-width digits do not count
+/// as digits here.
 pub fn is_plain(text: &str) -> bool
     ensures { result ≡ is_plain (chars text.now) }
 {
@@ -248,7 +253,7 @@ pub fn is_plain(text: &str) -> bool
     true
 }
 
-// Whether a character with its mark is a digit of any kind.
+// Whether a character, given with its mark, is a digit of any kind, full-width digits included.
 #[inline(always)]
 fn is_any_digit(c: char, mark: Mark) -> bool
     requires { marked mark ≡ mark_of c }
@@ -257,7 +262,7 @@ fn is_any_digit(c: char, mark: Mark) -> bool
     is_digit(mark) || is_wide_figure(c)
 }
 
-// Two digits that are side by side, and the text from the second of them on.
+// Two neighbouring digits, and the text from the second of them on.
 #[derive(Copy, Clone)]
 struct DigitPair<'a> {
     first: char,
@@ -265,7 +270,7 @@ struct DigitPair<'a> {
     rest: &'a str,
 }
 
-// The first two digits that are side by side before a point.
+// The first two neighbouring digits of the text before its first 点.
 #[inline(always)]
 fn first_pair(text: &str) -> Option<DigitPair<'_>>
     ensures { MatchOption result (pairs (chars text.now) ≡ [])
@@ -304,7 +309,7 @@ fn are_near(value: Option<u8>, next: Option<u8>) -> bool
     }
 }
 
-// Whether these digits are said for about so many.
+// Whether these two digits mean an approximate number, as 五六 does.
 #[inline(always)]
 fn is_estimate(pair: DigitPair<'_>) -> bool
     ensures { result
@@ -315,7 +320,8 @@ fn is_estimate(pair: DigitPair<'_>) -> bool
         && are_near(digit_of(pair.first), digit_of(pair.second))
 }
 
-// Whether two digits alone stand side by side, and are said for about so many.
+// Whether the text has exactly one pair of neighbouring digits before its first 点, and the pair
+// means an approximate number.
 fn has_one_estimate(text: &str) -> bool
     ensures { result ≡ is_one_estimate (pairs (chars text.now)) }
 {
@@ -325,7 +331,7 @@ fn has_one_estimate(text: &str) -> bool
     }
 }
 
-// Whether a number is about so much, by what its sides tell and by itself.
+// Whether a number is approximate because of the texts around it or by itself.
 #[inline(always)]
 fn estimates(front: Side, text: &str, behind: Side) -> bool
     ensures { result ≡ ((front.estimates && begins_with_unit (chars text.now)) || behind.estimates
@@ -334,9 +340,10 @@ fn estimates(front: Side, text: &str, behind: Side) -> bool
     (front.estimates && begins_with_unit(text)) || behind.estimates || has_one_estimate(text)
 }
 
-/// Whether a number between these texts is about so much: 几 or 数 directly in front of its unit, as in
-/// 几十; 几, 多, 余 or 来 directly behind it, as in 十几; or two Chinese digits side by side in it that
-/// follow one another, or are 三五, and no other two, as in 五六, 兩三百 and 十七八.
+/// Whether a number between these texts is approximate. It is if 几 or 数 is directly before it and
+/// it begins with a unit, as in 几十; if 几, 多, 余, 来 or 好几 is directly after it, as in 十几;
+/// or if it has exactly one pair of neighbouring digits before its first 点, and these are Chinese
+/// digits that follow one another or are 三五, as in 五六, 兩三百 and 十七八.
 ///
 /// ```text
 /// is_about("", "三百", "多人") == true
@@ -349,7 +356,8 @@ pub fn is_about(before: &str, text: &str, after: &str) -> bool
     estimates(look_before(before), text, look_after(after))
 }
 
-// The mark of the only character of a text where the table of marks has it: it is Chinese.
+// The mark of the only character of a text if the table of marks has the character, which is then a
+// Chinese one.
 // Same answer (3 → 2): no character of the table has two bytes, so all are decoded, which is
 // slower.
 #[inline(always)]
@@ -367,8 +375,8 @@ fn only_known(text: &str) -> Option<Mark>
     }
 }
 
-// The mark of the only character of a text, and whether that is neither an ASCII nor a full-width
-// digit, by decoding. It stands by itself, as it is seldom asked.
+// The mark of the only character of a text, and whether it is neither an ASCII nor a full-width
+// digit. The text is decoded. This is a function of its own because it is seldom called.
 #[inline(never)]
 fn only_mark_slowly(text: &str) -> Option<(Mark, bool)>
     ensures { MatchOption result ((c : ℕ) → chars text.now ≢ c ∷ [])
@@ -382,7 +390,7 @@ fn only_mark_slowly(text: &str) -> Option<(Mark, bool)>
     }
 }
 
-// The same, where most texts are told without decoding.
+// Returns what `only_mark_slowly` returns, and decides most texts without decoding them.
 // Same answer (if let Some(mark) = only_known(text) → nothing): the character is decoded, more
 // slowly.
 // Same answer (> → >= #2, 1 → 0 #2): a single byte has already been answered.
@@ -401,19 +409,19 @@ fn only_mark(text: &str) -> Option<(Mark, bool)>
         let c = bytes[0] as char;
         return Some((mark_of(c), !is_figure(c)));
     }
-    // No character takes more bytes,
+    // A character has at most four bytes,
     if bytes.len() > 4 {
         return None;
     }
-    // and none of ASCII more than one.
+    // and an ASCII character has only one.
     if bytes.len() > 1 && bytes[0].is_ascii() {
         return None;
     }
     only_mark_slowly(text)
 }
 
-/// Whether a number is one Chinese character, as the 一 of 一般, the 十 of 十分 and the 零 of 零下 are: no
-/// ASCII or full-width digit.
+/// Whether a number is one Chinese character, such as the 一 of 一般, the 十 of 十分 and the 零 of
+/// 零下. An ASCII or full-width digit is not a Chinese character.
 ///
 /// ```text
 /// is_one_character("一") == true
@@ -429,21 +437,21 @@ pub fn is_one_character(text: &str) -> bool
     }
 }
 
-/// All that is told of a number.
+/// All flags of a number.
 #[derive(Debug, Copy, Clone)]
 pub struct Told {
-    /// Whether it is plain digits.
+    /// Whether it consists of plain digits.
     pub is_plain: bool,
-    /// Whether nothing around it goes on with it.
+    /// Whether it stands alone: the text around it does not continue it.
     pub stands_alone: bool,
-    /// Whether it is about so much.
+    /// Whether it is approximate.
     pub is_about: bool,
     /// Whether it is one Chinese character.
     pub is_one_character: bool,
 }
 
-/// All that is told of a number between these texts. Each neighbour is looked at once, and a number of
-/// one character too.
+/// All flags of a number between these texts. The function looks at each neighbour once, and at a
+/// number of one character once.
 ///
 /// ```text
 /// told_of("几", "十", "人").is_about == true

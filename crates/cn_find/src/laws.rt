@@ -27,7 +27,8 @@ ghost use Rattle.cn_find.specs.Runs.{IsExpression, IsRun, is_rising};
 use crate::Wanted;
 
 /// The numbers of a text are exactly its runs: stretches of characters that belong to numbers, each
-/// joined to the next, of which the first is joined to none before it and the last to none after it.
+/// joined to the next. The first is not joined to a character before it, nor the last to one after
+/// it.
 pub fn numbers_are_the_runs(wanted: Wanted)
     ensures { (bytes : List ℕ) (span : Span)
         → Contains (spans wanted bytes) span ↔ IsRun wanted (chars bytes) span }
@@ -38,9 +39,9 @@ pub fn numbers_come_in_order(wanted: Wanted)
     ensures { (bytes : List ℕ) → IsTrue (is_rising 0 (spans wanted bytes)) }
 {}
 
-/// A character that is not wanted, and by which no word is known that is counted in 兆 as mega, parts a
-/// text: what is found is what is found in front of it, and then what is found behind it. So lines, and
-/// parts of a file, can be searched by themselves.
+/// A character that is not wanted, and that `begins_measure` does not test for, parts a text: the
+/// numbers found are those in the text before it, and then those in the text after it. So lines,
+/// and parts of a file, can be searched by themselves.
 pub fn unwanted_characters_part_texts(wanted: Wanted)
     ensures { (left right : List ℕ) (c : ℕ) → IsUtf8 left → IsUtf8 (encode_utf8 c ++ right)
         → is_wanted wanted c ≡ false → is_of_measure c ≡ false
@@ -49,16 +50,17 @@ pub fn unwanted_characters_part_texts(wanted: Wanted)
         ++ map (with_text_before (left ++ encode_utf8 c)) (spans wanted right) }
 {}
 
-/// A search goes on behind a number: what is found in a text behind its first number is what is found
-/// in what stands behind that number. So a caller in C finds one number after the other.
+/// A search goes on after a number: the numbers after the first one of a text are the numbers of
+/// the text after that one. So a caller in C can find one number after another.
 pub fn searches_go_on_behind_a_number(wanted: Wanted)
     ensures { (bytes : List ℕ) (first : Span) (rest : List Span)
         → spans wanted bytes ≡ first ∷ rest → IsUtf8 bytes
         → rest ≡ map (with_text_before (first.before ++ first.text)) (spans wanted first.after) }
 {}
 
-/// It goes on in sight of the whole text, too, from where the number ends: there a search can begin,
-/// and finds what was found behind the number. So who takes some numbers at a time takes all.
+/// A search also goes on in sight of the whole text, from where a number ends: a search can begin
+/// there, and it finds the numbers after that one. So a caller who takes a few numbers at a time
+/// gets all of them.
 pub fn searches_go_on_in_the_whole_text(wanted: Wanted)
     ensures { (bytes : List ℕ) (from : ℕ) (first : Span) (rest : List Span)
         → IsUtf8 bytes → IsCharBoundary bytes from
@@ -78,8 +80,9 @@ pub fn expressions_come_in_order(wanted: Wanted)
     ensures { (bytes : List ℕ) → IsTrue (is_rising 0 (expressions wanted bytes)) }
 {}
 
-/// A character that is not wanted, and that the rule of expressions does not name, as a line feed, parts
-/// a text: what is found is what is found in front of it, and then what is found behind it.
+/// A character that is not wanted, and that the rule of expressions does not name, such as a line
+/// feed, parts a text: the expressions found are those in the text before it, and then those in the
+/// text after it.
 pub fn unnamed_characters_part_texts(wanted: Wanted)
     ensures { (left right : List ℕ) (c : ℕ) → IsUtf8 left → IsUtf8 (encode_utf8 c ++ right)
         → is_wanted wanted c ≡ false → is_named c ≡ false
@@ -88,8 +91,9 @@ pub fn unnamed_characters_part_texts(wanted: Wanted)
         ++ map (with_text_before (left ++ encode_utf8 c)) (expressions wanted right) }
 {}
 
-/// A search for them goes on in sight of the whole text, from where an expression ends. What stands
-/// behind it can have others by itself: in `1-2` the second is 2, and in `-2` it is -2.
+/// A search for expressions goes on in sight of the whole text, from where an expression ends. The
+/// text after it can have other expressions by itself: in `1-2` the second expression is 2, and in
+/// `-2` it is -2.
 pub fn searches_for_expressions_go_on_in_the_whole_text(wanted: Wanted)
     ensures { (bytes : List ℕ) (from : ℕ) (first : Span) (rest : List Span)
         → IsUtf8 bytes → IsCharBoundary bytes from
@@ -99,23 +103,23 @@ pub fn searches_for_expressions_go_on_in_the_whole_text(wanted: Wanted)
         × IsCharBoundary bytes (length first.before + length first.text) }
 {}
 
-/// Where a text has no figures and none of the characters that expressions treat otherwise than numbers
-/// do, its expressions are its numbers.
+/// If a text has no figures and none of the characters that expressions treat differently from
+/// numbers, its expressions are its numbers.
 pub fn expressions_of_numerals_are_numbers(wanted: Wanted)
     ensures { (bytes : List ℕ)
         → IsTrue (list_all (λ c. not (is_figure c) && not (is_extra c)) (chars bytes))
         → expressions wanted bytes ≡ spans wanted bytes }
 {}
 
-/// What is cut in two does not stand alone: where a number begins at the end of another one, or behind
-/// a link there, neither of them does.
+/// Numbers that are cut apart do not stand alone: if a number begins at the end of another one, or
+/// after a link there, neither of them does.
 pub fn numbers_that_meet_do_not_stand_alone(wanted: Wanted)
     ensures { (bytes : List ℕ) (first second : Span) → IsUtf8 bytes
         → Contains (spans wanted bytes) first → Contains (spans wanted bytes) second
         → Meet first second → (is_alone first ≡ false) × (is_alone second ≡ false) }
 {}
 
-/// No number ends with a 兆 that is mega: behind one stands no word that is counted so.
+/// No number ends with a 兆 that means mega: no word of a measure is directly after it.
 pub fn no_number_ends_with_mega(wanted: Wanted)
     ensures { (bytes : List ℕ) (span : Span) (front : List ℕ) (c : ℕ) → IsUtf8 bytes
         → Contains (spans wanted bytes) span → chars span.text ≡ front ++ c ∷ []
@@ -129,8 +133,8 @@ pub fn one_character_is_at_most_ten()
         → number ≤ℤ pos 10 }
 {}
 
-/// No two digits of a numeral are said for about so many: a number by units is about so much only by
-/// what stands around it.
+/// No pair of digits of a numeral means an approximate number: a number with units is approximate
+/// only because of the text around it.
 pub fn numerals_have_no_estimate()
     ensures { (text : List ℕ) → IsNumeral (marks_of text) → is_one_estimate (pairs text) ≡ false }
 {}
@@ -142,8 +146,8 @@ pub fn runs_begin_with_no_other_sign(wanted: Wanted)
         → sign_of c ≢ Some Plus → leading_sign true (text_of span.text) ≡ None }
 {}
 
-/// A text that begins with no sign is answered alike by each type that holds its number, and refused
-/// at the same place by all: so a run that does not begin with 正.
+/// A text that begins with no sign has the same answer for each type that holds its number, and is
+/// refused at the same place for all types. So is a run that does not begin with 正.
 pub fn types_answer_alike_without_sign()
     ensures number { (here there : Kind) (method : ChineseCountMethod) (bytes : List ℕ)
         (number : ℤ) → leading_sign true (text_of bytes) ≡ None

@@ -7,12 +7,13 @@ use crate::run::next_run;
 use crate::{Found, Wanted};
 use std::marker::Model;
 
-/// The numbers of a text, or what another rule finds in it, seen as the list of those that are left.
+/// An iterator over the numbers of a text, or over what another rule finds in it. In contracts its
+/// value is the list of the runs that it has not yet returned.
 #[derive(Drop)]
 pub struct Numbers<'a, R: SearchRule = NumberRule> {
     rule: R,
     whole: &'a str,
-    // The end that is not yet searched.
+    // The suffix that is not yet searched.
     rest: &'a str,
 }
 
@@ -27,7 +28,7 @@ impl<'a, R: SearchRule> Model for Numbers<'a, R> {
     ghost invariant = { λ n. text_before n.whole.now n.rest.now ++ n.rest.now ≡ n.whole.now };
 }
 
-// What a rule finds in a text.
+// Searches a text by a rule.
 fn search<R: SearchRule>(rule: R, text: &str) -> Numbers<'_, R>
     ensures runs { result ≡ spans_by (R.rule rule) text.now }
     ensures few { length result ≤ length text.now }
@@ -39,7 +40,7 @@ fn search<R: SearchRule>(rule: R, text: &str) -> Numbers<'_, R>
     }
 }
 
-// What a rule finds in a text from a byte on, which stands behind the whole text in front of it.
+// Searches a text by a rule from a byte on. The rule also looks at the text before that byte.
 fn search_from<R: SearchRule>(rule: R, text: &str, from: usize) -> Option<Numbers<'_, R>>
     ensures variant { IsSome result ↔ IsCharBoundary text.now from }
     ensures runs { IfSome result
@@ -53,7 +54,9 @@ fn search_from<R: SearchRule>(rule: R, text: &str, from: usize) -> Option<Number
     })
 }
 
-/// The numbers of a text, from the first to the last.
+/// Finds the numbers of a text, from the first to the last.
+///
+/// `find_numbers("二零二五年十一月", Wanted::EVERYDAY)` gives 二零二五 and 十一.
 pub fn find_numbers(text: &str, wanted: Wanted) -> Numbers<'_>
     ensures numbers { result ≡ spans wanted text.now }
     ensures few { length result ≤ length text.now }
@@ -61,10 +64,10 @@ pub fn find_numbers(text: &str, wanted: Wanted) -> Numbers<'_>
     search(NumberRule { wanted }, text)
 }
 
-/// The numbers of a text from a byte on, which stand behind the whole text in front of it.
+/// Finds the numbers of a text from a byte on. All of the text before a number is its `before`.
 ///
-/// `find_numbers_from("一，二", 3, Wanted::EVERYDAY)` gives 二, behind `一，`. It is `None` where no
-/// character of the text begins at that byte, nor does the text end there.
+/// `find_numbers_from("一，二", 3, Wanted::EVERYDAY)` gives 二, after `一，`. The function returns
+/// `None` if no character of the text begins at that byte and the text does not end there.
 pub fn find_numbers_from(text: &str, from: usize, wanted: Wanted) -> Option<Numbers<'_>>
     ensures variant { IsSome result ↔ IsCharBoundary text.now from }
     ensures numbers { IfSome result
@@ -73,8 +76,8 @@ pub fn find_numbers_from(text: &str, from: usize, wanted: Wanted) -> Option<Numb
     search_from(NumberRule { wanted }, text, from)
 }
 
-/// The expressions of a text, from the first to the last: numbers with their sign, their figures, their
-/// point and their units, percentages and fractions.
+/// Finds the expressions of a text, from the first to the last: numbers with their sign, figures,
+/// point and units, percentages and fractions.
 ///
 /// `find_quantities("占12.5%，共3.5万", Wanted::EVERYDAY)` gives `12.5%` and `3.5万`.
 pub fn find_quantities(text: &str, wanted: Wanted) -> Numbers<'_, QuantityRule>
@@ -84,10 +87,12 @@ pub fn find_quantities(text: &str, wanted: Wanted) -> Numbers<'_, QuantityRule>
     search(QuantityRule { wanted }, text)
 }
 
-/// The expressions of a text from a byte on, which stand behind the whole text in front of it.
+/// Finds the expressions of a text from a byte on. All of the text before an expression is its
+/// `before`.
 ///
-/// `find_quantities_from("3-5", 1, Wanted::EVERYDAY)` gives 5, and not `-5`, behind `3-`. It is `None`
-/// where no character of the text begins at that byte, nor does the text end there.
+/// `find_quantities_from("3-5", 1, Wanted::EVERYDAY)` gives 5, after `3-`, and not `-5`: the search
+/// looks at the text before that byte too. The function returns `None` if no character of the text
+/// begins at that byte and the text does not end there.
 pub fn find_quantities_from(
     text: &str,
     from: usize,
@@ -110,7 +115,7 @@ impl<'a, R: SearchRule> Iterator for Numbers<'a, R> {
     // Same answer (if self.rest.is_empty() → nothing): an empty text has no run either.
     #[tactic(auto, using(crate::proofs::Runs::none_left, crate::proofs::Runs::none_left_of_empty))]
     fn next(&mut self) -> Option<Found<'a>> {
-        // At the end of a text it is known at once that nothing is left.
+        // An empty rest has no run, so it is not searched.
         if self.rest.is_empty() {
             return None;
         }

@@ -16,7 +16,7 @@ use cn_core::{ChineseCountMethod, digit_of, is_wide_figure, split_first_char};
 use cn_judge::{ChineseToNumberError, Mark, mark_of};
 use cn_quantity::{Quantity, QuantityForm, chinese_to_quantity};
 
-// Whether a character is one of a number, a percentage or a fraction without its sign.
+// Whether a character can belong to a number, a percentage or a fraction without its sign.
 #[tactic(auto, unfolding(crate::specs::Ranges::is_of_amount))]
 fn is_of_amount(c: char) -> bool
     ensures { result ≡ is_of_amount c }
@@ -28,7 +28,7 @@ fn is_of_amount(c: char) -> bool
         || matches!(c, '点' | '點' | '.' | '．' | '分' | '之' | '%' | '％')
 }
 
-// The amount with which a text begins.
+// The amount at the start of a text: its longest prefix of such characters.
 #[tactic(auto, using(crate::proofs::Amounts::passed_first, crate::proofs::Amounts::passed_more, crate::proofs::Amounts::passed_boundary, crate::proofs::Amounts::passed_taken))]
 fn first_amount(text: &str) -> &str
     ensures { result.now ≡ encode_utf8_all (amount_of (chars text.now)) }
@@ -44,7 +44,7 @@ fn first_amount(text: &str) -> &str
     amount
 }
 
-// The amount with which a text ends.
+// The amount at the end of a text: its longest suffix of such characters.
 #[tactic(auto, using(crate::proofs::Amounts::back_first, crate::proofs::Amounts::back_more, crate::proofs::Amounts::back_boundary, crate::proofs::Amounts::back_taken))]
 fn last_amount(text: &str) -> &str
     ensures { result.now ≡ encode_utf8_all (reverse (amount_of (in_front text.now))) }
@@ -73,7 +73,7 @@ fn is_percent(quantity: Quantity) -> bool
     matches!(quantity.form, QuantityForm::Percent)
 }
 
-// The whole part, without its sign.
+// The whole part of a quantity, without its sign.
 fn whole_part(quantity: Quantity) -> u128
     ensures { result ≡ whole_part quantity }
 {
@@ -93,7 +93,7 @@ fn is_below_mark(low: Mark, high: Mark) -> bool
     }
 }
 
-// Whether the text ends with no unit that is as great as this one.
+// Whether the text does not end with a unit that is as great as this one or greater.
 fn ends_below(mark: Mark, text: &str) -> bool
     ensures { (c : ℕ) → marked mark ≡ mark_of c → result ≡ ends_below c (in_front text.now) }
 {
@@ -103,14 +103,14 @@ fn ends_below(mark: Mark, text: &str) -> bool
     }
 }
 
-// What a text is by the standard method.
+// The quantity of a text by the standard method, `TenThousand`.
 fn by_standard(text: &str) -> Result<Quantity, ChineseToNumberError>
     ensures { answer_of (λ q. q) result ≡ quantity_answer TenThousand text.now }
 {
     chinese_to_quantity(text, ChineseCountMethod::TenThousand)
 }
 
-// Whether the whole part of the first is at most that of the second, if that is a quantity.
+// Whether `high` is a quantity and its whole part is at least that of `low`.
 fn is_at_most(low: Quantity, high: Result<Quantity, ChineseToNumberError>) -> bool
     ensures { result ≡ is_at_most low (answer_of (λ q. q) high) }
 {
@@ -120,7 +120,7 @@ fn is_at_most(low: Quantity, high: Result<Quantity, ChineseToNumberError>) -> bo
     }
 }
 
-// Whether the second text ends in a unit that both may count.
+// Whether the second text ends with a unit that can count both amounts.
 #[tactic(auto, using(crate::proofs::Amounts::twice_reversed))]
 fn counts_both(quantity: Quantity, low: &str, high: &str) -> bool
     ensures { result ≡ counts_both quantity (in_front low.now) (in_front high.now) }
@@ -138,7 +138,7 @@ fn is_one_percent(a: Quantity, b: Quantity) -> bool
     is_percent(a) != is_percent(b)
 }
 
-// Whether the text has two characters or more.
+// Whether the text has at least two characters.
 fn has_two(text: &str) -> bool
     ensures { result ≡ nat_le 2 (length (chars text.now)) }
 {
@@ -166,7 +166,8 @@ fn is_next(value: Option<u8>, next: Option<u8>) -> bool
     }
 }
 
-// Whether the first text is one Chinese digit, and the second begins with the next one.
+// Whether the first text is one Chinese digit, and the second begins with the digit that follows
+// it.
 fn precedes(low: &str, high: &str) -> bool
     ensures { result ≡ precedes (chars low.now) (chars high.now) }
 {
@@ -188,7 +189,8 @@ fn are_ends(c: char, low: &str, high: &str) -> bool
     (is_range_link(c) || (c == '、' && precedes(low, high))) && shares(low, high)
 }
 
-// Whether a character may part the ends of a range: most do not, and no amount is sought beyond them.
+// Whether a character can separate the ends of a range. Most characters cannot, and then no amount
+// is searched for beyond them.
 fn may_part(c: char) -> bool
     ensures { result ≡ (is_range_link c || char_set_contains (codes "、") c) }
 {
@@ -213,7 +215,8 @@ fn is_second_end(text: &str, before: &str) -> bool
     may_part(c) && are_ends(c, last_amount(front), text)
 }
 
-/// Whether the text is an end of a range whose ends share a unit or 百分之, between these texts.
+/// Whether the text between these texts is one end of a range whose ends share a unit or 百分之, as
+/// 3 and 5万 are in 3~5万.
 pub fn is_end_of_range(before: &str, text: &str, after: &str) -> bool
     ensures { result ≡ is_end_of_range before.now text.now after.now }
 {

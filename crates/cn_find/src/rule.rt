@@ -12,32 +12,32 @@ use crate::expressions::{is_of_expression, parts_expressions};
 use crate::{Doubt, Found, Wanted};
 use cn_judge::Mark;
 
-/// What a search goes by: which characters of a text belong to what is looked for.
+/// The rule of a search: which characters of a text belong to what it looks for.
 pub trait SearchRule: Copy {
-    // The rule, as definitions speak of it.
+    // The rule as definitions use it.
     ghost rule: { Self → Rule };
 
-    /// Whether a character with its mark belongs, by what stands before and after it.
+    /// Whether a character, given with its mark and the text before and after it, belongs.
     fn belongs(self, before: &str, c: char, mark: Mark, after: &str) -> bool
         requires { marked mark ≡ mark_of c }
         ensures { result ≡ (rule self).belongs (in_front before.now) c (chars after.now) };
 
-    /// Whether two neighbours are parted though both belong.
+    /// Whether two neighbouring characters are in different runs although both belong.
     fn is_parted(self, c: char, next: char) -> bool
         ensures { result ≡ (rule self).is_parted c next };
 
-    // Why a reader may mean something else than the value of what is found.
+    // Why what is found may mean something else than its value.
     ghost doubt: { Span → Option Doubt };
 
-    /// Why a reader may mean something else than the value of what is found; `None` if nothing suggests
-    /// that.
+    /// Why what is found may mean something else than its value; `None` if nothing suggests that.
     fn doubt_of(found: Found<'_>) -> Option<Doubt>
         ensures { result ≡ doubt (span_of found.entry) };
 }
 
-/// The rule of numbers.
+/// The rule that finds numbers.
 #[derive(Copy, Clone)]
 pub struct NumberRule {
+    /// The characters that the search looks for.
     pub wanted: Wanted,
 }
 
@@ -55,7 +55,7 @@ impl SearchRule for NumberRule {
         is_parted(c, next)
     }
 
-    // No reason is sought for numbers.
+    // This rule gives no reason.
     ghost doubt = { λ span. None };
 
     #[inline(always)]
@@ -64,9 +64,10 @@ impl SearchRule for NumberRule {
     }
 }
 
-/// The rule of expressions.
+/// The rule that finds expressions.
 #[derive(Copy, Clone)]
 pub struct QuantityRule {
+    /// The characters that the search looks for.
     pub wanted: Wanted,
 }
 

@@ -1,4 +1,4 @@
-// The next run of a text.
+// Finds the next run of a text.
 ghost use Rattle.std.specs.Prelude.{◌≡◌, ◌++◌, ◌<◌, ◌∷◌, [], true, length, chars, MatchOption, IfSome};
 ghost use Rattle.cn_core.specs.Mark.{mark_of};
 ghost use Rattle.cn_judge.specs.Marked.{marked};
@@ -10,7 +10,7 @@ use crate::rule::SearchRule;
 use cn_core::split_first_char;
 use cn_judge::{Mark, mark_of, split_first_mark, split_first_three};
 
-// What stands before the end of a text.
+// The part of a text before its suffix `rest`.
 #[inline(always)]
 fn text_before<'a>(whole: &'a str, rest: &'a str) -> &'a str
     requires { text_before whole.now rest.now ++ rest.now ≡ whole.now }
@@ -20,8 +20,8 @@ fn text_before<'a>(whole: &'a str, rest: &'a str) -> &'a str
     before
 }
 
-// The first character of an end of a text, whether it belongs to what is looked for, and what stands
-// behind it.
+// The first character of a suffix, whether it belongs to what is searched for, and the text after
+// it.
 #[derive(Copy, Clone)]
 struct Look<'a> {
     belongs: bool,
@@ -51,8 +51,8 @@ fn look_at_mark<'a, R: SearchRule>(
     }
 }
 
-// A character of three bytes is looked at by itself: so a search for numbers passes each that does not
-// belong in 22 instructions.
+// Characters of three bytes have a path of their own, so that a search for numbers quickly passes
+// those that do not belong.
 // Same answer (if let Some((first, mark, behind)) = split_fi.. → nothing): the character is decoded
 // and its mark looked up, more slowly.
 #[inline(always)]
@@ -72,7 +72,8 @@ fn look_at<'a, R: SearchRule>(rule: R, whole: &'a str, ahead: &'a str) -> Option
     Some(look_at_mark(rule, before, first, mark_of(first), behind))
 }
 
-// What follows the run that begins here with this character, behind which that text stands.
+// The text after the run that begins at `ahead` with the character `first`. The text after `first`
+// is `behind`.
 fn skip_run<'a, R: SearchRule>(
     rule: R,
     whole: &'a str,
@@ -100,7 +101,7 @@ fn skip_run<'a, R: SearchRule>(
     rest
 }
 
-/// The first run of this end of a text.
+/// The first run of a suffix of a text; `None` if it has none.
 pub fn next_run<'a, R: SearchRule>(rule: R, whole: &'a str, rest: &'a str) -> Option<Found<'a>>
     requires { text_before whole.now rest.now ++ rest.now ≡ whole.now }
     ensures parts { MatchOption result (left_by (R.rule rule) whole.now rest.now ≡ [])

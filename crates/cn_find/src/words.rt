@@ -1,4 +1,4 @@
-// Words of which a number is a part, and that mean none.
+// Words that contain a number but do not mean it.
 ghost use Rattle.std.specs.Prelude.{◌≡◌, ◌||◌, codes, chars};
 ghost use Rattle.std.specs.Char.{char_set_contains};
 ghost use Rattle.cn_find.specs.Belongs.{begins_with};
@@ -29,7 +29,7 @@ pub fn begins_with(set: &[char], text: &str) -> bool
     }
 }
 
-/// Whether the character nearest to the end is one of the set.
+/// Whether the text ends with a character of the set.
 pub fn ends_with(set: &[char], before: &str) -> bool
     ensures { result ≡ begins_with set.now (in_front before.now) }
 {
@@ -49,7 +49,7 @@ pub fn begins_with_two(first: &[char], second: &[char], text: &str) -> bool
     }
 }
 
-/// Whether the last character is one of the first set, and the one before it one of the second.
+/// Whether the last character is one of the first set, and the one before it one of the second set.
 pub fn ends_with_two(first: &[char], second: &[char], before: &str) -> bool
     ensures { result ≡ begins_with_two first.now second.now (in_front before.now) }
 {
@@ -59,7 +59,7 @@ pub fn ends_with_two(first: &[char], second: &[char], before: &str) -> bool
     }
 }
 
-// Whether the text is these characters.
+// Whether the text consists of exactly these characters.
 fn is_exactly(these: &[char], text: &str) -> bool
     ensures { result ≡ is_exactly these.now (chars text.now) }
 {
@@ -102,7 +102,7 @@ fn is_title(text: &str, after: &str) -> bool
         || (is_exactly(&['二', '八'], text) && begins_with_two(&['年'], &['华', '華'], after))
 }
 
-// Whether the text is 十万, with 萬 as well.
+// Whether the text is 十万 or 十萬.
 fn is_hundred_thousand(text: &str) -> bool
     ensures { result ≡ (is_exactly (codes "十万") (chars text.now)
         || is_exactly (codes "十萬") (chars text.now)) }
@@ -158,7 +158,8 @@ fn begins_word(text: &str, after: &str) -> bool
     is_named_group(text, after) || is_title(text, after) || is_saying(text, after)
 }
 
-// Whether the first two characters are those of some word: most numbers in a text have no such two.
+// Whether the text begins with two characters with which some word begins. Most numbers in a text
+// do not.
 fn may_begin_word(text: &str) -> bool
     ensures { result ≡ may_begin_word (chars text.now) }
 {
@@ -171,7 +172,8 @@ fn may_begin_word(text: &str) -> bool
     )
 }
 
-/// Whether a number with these neighbours is a word: 十二 of 十二指肠 is, and 十一 of 双十一.
+/// Whether a number between these texts is part of a word, as 十二 of 十二指肠 and 十一 of 双十一
+/// are.
 #[tactic(auto, using(crate::proofs::WordStarts::begins_none))]
 pub fn is_of_word(before: &str, text: &str, after: &str) -> bool
     ensures { result ≡ is_of_word (in_front before.now) (chars text.now) (chars after.now) }

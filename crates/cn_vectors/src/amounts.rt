@@ -1,4 +1,4 @@
-// Amounts of money: what is written, in one request for memory, and what is read.
+// Tests of amounts of money: what is written, with one request for memory, and what is read.
 use crate::calls::writes;
 use chinese_number::ChineseVariant::{Simple, Traditional};
 use chinese_number::{
@@ -14,7 +14,7 @@ static ENDS: [(u64, &str); 2] = [
     ),
 ];
 
-// What is written for 15 yuan where 人民币, 圆 and 正 are asked for or not.
+// What is written for 15 yuan with and without 人民币, 圆 and 正.
 static FORMS: [(ChineseVariant, bool, bool, bool, &str); 5] = [
     (Simple, false, false, false, "壹拾伍元整"),
     (Simple, true, false, false, "人民币壹拾伍元整"),

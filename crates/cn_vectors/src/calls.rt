@@ -1,4 +1,4 @@
-// The reader of a `u128` by a method that is a value, and what readers and printers answer.
+// A reader of a `u128` by a method that is a value, and assertions about readers and printers.
 use chinese_number::ChineseCountMethod::{High, Low, Middle, TenThousand};
 use chinese_number::{
     ChineseCountMethod, ChineseToNumberError, from_chinese_to_u128_high, from_chinese_to_u128_low,
@@ -7,9 +7,10 @@ use chinese_number::{
 use std::fmt::Debug;
 use std::process::Abort;
 
+/// The result of a reader.
 pub type Answer<T> = Result<T, ChineseToNumberError>;
 
-/// What the reader of `u128` by this method answers.
+/// The result of the reader of `u128` by this method.
 pub fn read_u128(method: ChineseCountMethod, text: &str) -> Answer<u128> {
     match method {
         Low => from_chinese_to_u128_low(text),
@@ -19,7 +20,7 @@ pub fn read_u128(method: ChineseCountMethod, text: &str) -> Answer<u128> {
     }
 }
 
-/// Asserts that what a reader answers to a text is this answer.
+/// Asserts that a reader returns this answer for a text.
 pub fn reads<T: Copy + PartialEq + Debug>(
     rt: &impl Abort,
     text: &str,
@@ -29,7 +30,7 @@ pub fn reads<T: Copy + PartialEq + Debug>(
     assert_eq!(rt; answer, *wanted, "{text}");
 }
 
-/// Asserts that what a printer writes is this text, in memory of its very size.
+/// Asserts that a printer writes this text, in memory of exactly its size.
 pub fn writes<E: Debug + Drop>(rt: &impl Abort, printed: Result<String, E>, text: &str) {
     let written = printed.expect(rt, text);
     assert_eq!(rt; written.as_str(), text);

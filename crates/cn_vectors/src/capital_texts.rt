@@ -1,5 +1,5 @@
-// A text in capitals: what is put is written, in one request for memory, and what does not fit is
-// left out.
+// Tests of a text in capitals: what is appended is written, with one request for memory, and what
+// does not fit is left out.
 ghost use Rattle.std.specs.Prelude.{◌≡◌};
 
 use crate::calls::writes;

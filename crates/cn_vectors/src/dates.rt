@@ -1,4 +1,4 @@
-// The shortest and the longest date are written in one request for memory.
+// Tests that the shortest and the longest date are each written with one request for memory.
 use crate::calls::writes;
 use chinese_number::{BillDate, ChineseVariant, date_to_chinese};
 

@@ -1,5 +1,5 @@
-// Each of the 48 printers by a number whose text tells it from those of its type that do not write
-// alike.
+// Tests of each of the 48 printers, with a number whose text differs from those of the printers of
+// the same type that write differently.
 use crate::calls::writes;
 use chinese_number::ChineseCase::Lower;
 use chinese_number::ChineseVariant::Traditional;

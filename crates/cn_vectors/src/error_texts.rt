@@ -1,4 +1,5 @@
-// The texts of the errors, which contracts give: no width, fill or precision changes them.
+// Tests of the texts of the errors, which contracts define: no width, fill or precision changes
+// them.
 use chinese_number::{ChineseToNumberError, NumberToChineseError};
 use std::fmt::Display;
 use std::process::Abort;

@@ -1,6 +1,7 @@
-//! Tests alone, of the libraries below, each of which would be proved twice if it had tests: each call
-//! by its name, long texts, callers who print and read back, texts in memory of their very size, and
-//! what is found and replaced. Worked examples and the upstream crate's vectors are `tests/rows`.
+//! Tests of the libraries below, each of which would be proved twice if it had tests of its own:
+//! each call by its name, long texts, callers who print and read back, texts in memory of exactly
+//! their size, and what is found and replaced. Worked examples and the vectors of the upstream
+//! crate are in `tests/rows`.
 #![tactic(auto)]
 
 #[cfg(test)]

@@ -1,11 +1,11 @@
-// Long texts: they are made here, since no page would hold them.
+// Tests of long texts, which are made here, since no page would hold them.
 use crate::calls::{Answer, read_u128, reads};
 use chinese_number::ChineseCountMethod::{Low, TenThousand};
 use chinese_number::ChineseToNumberError::{ChineseNumberEmpty, ChineseNumberIncorrect, Overflow};
 use std::alloc::{AllocError, Global};
 use std::test::Fail;
 
-// What stands before and behind so many 零, and the answer.
+// What is before and after this many 零, and the answer.
 static ZEROS: [(&str, usize, &str, Answer<u128>); 5] = [
     ("一百", 5_000, "五", Ok(105)),
     ("", 5_000, "二", Ok(2)),

@@ -1,4 +1,4 @@
-// Quantities are written, in numerals and in figures, in one request for memory.
+// Tests that quantities are written, in numerals and in figures, with one request for memory.
 use crate::calls::writes;
 use chinese_number::ChineseCase::{Lower, Upper};
 use chinese_number::ChineseCountMethod::TenThousand;
@@ -8,7 +8,7 @@ use chinese_number::{
     ChineseCase, ChineseVariant, Quantity, QuantityForm, quantity_to_chinese, quantity_to_figures,
 };
 
-// A script and a case, a numerator, a denominator and a form, and the numerals and the figures.
+// A script and a case; a numerator, a denominator and a form; and the numerals and the figures.
 type Row = (
     ChineseVariant,
     ChineseCase,

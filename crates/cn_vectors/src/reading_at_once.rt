@@ -1,5 +1,5 @@
-// That printed texts are read at once: the contract of the shortcut lets it leave any text to the
-// walk.
+// Tests that printed texts are read at once: the contract of the shortcut allows it to leave any
+// text to the slower walk.
 use chinese_number::ChineseCase::{Lower, Upper};
 use chinese_number::ChineseVariant::{Simple, Traditional};
 use chinese_number::{
@@ -39,7 +39,7 @@ static TEXTS: [(ChineseVariant, ChineseCase); 4] = [
     (Simple, Upper),
 ];
 
-// Prints a number, and reads the text at once, if the method writes it.
+// Prints a number and reads the text at once, if the method writes the number.
 fn is_read_at_once<R: AllocGlobal + Abort>(
     rt: &R,
     script: ChineseVariant,

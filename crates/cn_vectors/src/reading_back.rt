@@ -1,4 +1,4 @@
-// A caller who prints and then reads gets the number back.
+// Tests that a caller who prints a number and then reads the text gets the number back.
 ghost use Rattle.std.specs.Prelude.{◌≡◌, Ok, IfOk};
 
 use chinese_number::laws::naive_texts_read_back;
@@ -21,7 +21,7 @@ fn print_and_read<T: NumberToChinese>(
     Ok(text.as_str().to_number(method))
 }
 
-// The number, by the contracts alone; `examples` has the same by units.
+// The number, by the contracts alone. `examples` has the same with units.
 fn print_and_read_naive<T: NumberToChinese>(
     alloc: Global,
     variant: ChineseVariant,
@@ -43,8 +43,8 @@ static PAIRS: [(ChineseVariant, ChineseCase); 4] = [
     (ChineseVariant::Simple, ChineseCase::Lower),
 ];
 
-// All texts of a number are read as it: digit by digit and by each method, in each script and case.
-// `Low` writes none from 10^16 on.
+// Each text of a number is read as that number: as plain digits and by each method, in each script
+// and case. `Low` writes no number from 10^16 on.
 fn reads_back<T: NumberToChinese + PartialEq + Debug>(rt: &(impl Abort + AllocGlobal), number: T) {
     let past_low = number.magnitude() >= 10_000_000_000_000_000;
     for (variant, case) in &PAIRS {
@@ -74,7 +74,7 @@ fn worked_numbers(rt: HostRuntime) {
     }
 }
 
-// What the proof shows, as the compilers built it.
+// What the proof shows, tested as the compilers built it.
 #[test]
 fn every_narrow_number(rt: HostRuntime) {
     for number in u8::MIN..=u8::MAX {
@@ -91,7 +91,7 @@ fn every_narrow_number(rt: HostRuntime) {
     }
 }
 
-// The least and the greatest number of a type, as a caller has them who knows its bound alone.
+// The least and the greatest number of a type, as a caller has them who knows only its bound.
 fn ends_of<T: Whole>() -> (T, T)
     ensures least { T.number result.0 ≡ T.kind.least }
     ensures greatest { T.number result.1 ≡ T.kind.greatest }
@@ -99,7 +99,7 @@ fn ends_of<T: Whole>() -> (T, T)
     (T::least(), T::greatest())
 }
 
-// The ends of a type, which std gives too, are read back.
+// The least and the greatest number of a type, which std gives too, are read back.
 fn reads_back_ends<T: NumberToChinese + PartialEq + Debug>(
     rt: &(impl Abort + AllocGlobal),
     least: T,

@@ -1,4 +1,4 @@
-// Expressions that are replaced: by stars, and by figures.
+// Tests of expressions that are replaced: by stars, and by figures.
 ghost use Rattle.std.specs.Prelude.{codes, Some, None, if◌then◌else◌, nat_lt, length};
 
 use chinese_number::{
@@ -31,7 +31,8 @@ fn replaces_by_stars(rt: HostRuntime) -> Result<(), Fail> {
 
 const METHOD: ChineseCountMethod = ChineseCountMethod::TenThousand;
 
-// A text, and the same in figures: by default, expanded, with canonical figures, and with all included.
+// A text, and the same text in figures: by default, expanded, with canonical figures, and with
+// everything included.
 static IN_FIGURES: [[&str; 5]; 8] = [
     ["三千五百亿", "3500亿", "350000000000", "3500亿", "3500亿"],
     ["１２３，5万", "１２３，5万", "１２３，50000", "123，5万", "１２３，5万"],
@@ -43,7 +44,7 @@ static IN_FIGURES: [[&str; 5]; 8] = [
     ["", "", "", "", ""],
 ];
 
-// The ways of those columns.
+// How the figures of each of these columns are written.
 fn way_of(column: usize) -> Figures {
     let plain = Figures::DEFAULT;
     let included = Included {
@@ -65,7 +66,8 @@ fn way_of(column: usize) -> Figures {
     }
 }
 
-// Whether a text in figures has the length of this one, and a buffer that is large enough begins with it.
+// Whether a text in figures has the length of this one, and a buffer that is large enough begins
+// with that text.
 fn puts(buffer: &mut [u8], text: &str, figures: Figures, expected: &str) -> bool {
     let count = put_quantities_in_figures(buffer, text, Wanted::EVERYDAY, METHOD, figures);
     count == expected.len() && (count > buffer.len() || buffer.starts_with(expected.as_bytes()))

@@ -1,9 +1,10 @@
-// The scales of the units, as powers of ten.
+// Tests of the scales of the units, as powers of ten.
 use chinese_number::ChineseCountMethod::{High, Low, Middle, TenThousand};
 use chinese_number::{ChineseCountMethod, Unit, scale};
 use std::process::Abort;
 
-// The power of a unit by `Low`, `TenThousand`, `Middle` and `High`; a `u128` holds them up to 38.
+// The exponents of a unit under `Low`, `TenThousand`, `Middle` and `High`; a `u128` holds powers of
+// ten up to the exponent 38.
 static POWERS: [(Unit, u32, u32, u32, u32); 16] = [
     (Unit::Ge, 0, 0, 0, 0),
     (Unit::Shi, 1, 1, 1, 1),

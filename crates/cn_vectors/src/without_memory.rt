@@ -1,3 +1,3 @@
-// Readers take no memory: `tests/test_memory.py` runs the tests of this module once more, with the
-// first request for memory of each refused.
+// Tests that readers allocate no memory: `tests/test_memory.py` runs the tests of this module once
+// more and refuses the first request for memory of each.
 mod each_reader;

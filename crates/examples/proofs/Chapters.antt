@@ -1,4 +1,4 @@
--- Which chapters a search has passed.
+-- The chapters that a search has passed.
 use Rattle.std.proofs.Common.{◌≡◌, ℕ, ◌⊎◌, inl, inr, Bool, true, false, ◌&&◌, List, [], ◌∷◌, zero, suc, sym, subst, arith, refl}
 use Rattle.std.specs.Prelude.{Err}
 use Rattle.std.specs.List.{Contains}
@@ -12,7 +12,7 @@ use Rattle.examples.specs.Chapters.{names_chapter, IsAnswered, IsChapter, NoChap
 abbrev pub everyday : Wanted
 everyday = record { upper = false; greatest = Zhao }
 
--- what is left of the line's numbers, where each chapter among them is still to come or was refused
+-- the numbers of the line that are left; each chapter of the line is among them or was refused
 pub record Passed (line : List ℕ) (left : List Span) : Type 0 where
   pub within : (span : Span) → Contains left span → Contains (spans everyday line) span
   pub still : (span : Span) → IsChapter everyday line span
@@ -58,7 +58,7 @@ none span (inr a) = a
 pub Passed-all : (line : List ℕ) → Passed line [] → NoChapter everyday line
 Passed-all line passed = λ span is. none span (passed.still span is)
 
--- both tests, where the second was made or not
+-- both tests hold, whether or not the second was made
 pub both : (one two first second : Bool) → one ≡ true → one ≡ first → two ≡ second
     → two ≡ (first && second)
 both one two true second h e k = k

@@ -1,4 +1,4 @@
--- The chapters that a line names, as 第二十三回.
+-- The chapters that a line names, as in 第二十三回.
 use Rattle.std.specs.Prelude.{◌≡◌, ℕ, ℤ, Bool, true, ◌&&◌, List, eqb, Result, Ok, Err, codes, encode_utf8_all}
 use Rattle.std.specs.List.{Contains, starts_with, ends_with}
 use Rattle.chinese_number.specs.Number.{IsAnswer}
@@ -8,17 +8,17 @@ use Rattle.chinese_number.specs.Whole.{unsigned_kind}
 use Rattle.chinese_number.specs.declared.ChineseCountMethod.TheVariants.{TenThousand}
 use Rattle.chinese_number.specs.declared.Wanted.{Wanted}
 
--- a number of a text stands between 第 and 回
+-- a number of a text is between 第 and 回
 abbrev pub names_chapter : Span → Bool
 names_chapter span =
     ends_with eqb span.before (encode_utf8_all (codes "第"))
     && starts_with eqb span.after (encode_utf8_all (codes "回"))
 
--- it is one of the line's, and stands so
+-- the span is a number of the line, and is between 第 and 回
 abbrev pub IsChapter : Wanted → List ℕ → Span → Type 0
 IsChapter wanted line span = Contains (spans wanted line) span × (names_chapter span ≡ true)
 
--- it is answered so as a `u16`
+-- `answer` is the answer to the span, read as a `u16`
 abbrev pub IsAnswered : Span → Result ℤ Refusal → Type 0
 IsAnswered span answer = IsAnswer (unsigned_kind 16) TenThousand span.text answer
 

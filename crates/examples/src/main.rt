@@ -1,6 +1,6 @@
-//! The first program of the README, and calls with contracts, some of them the README's too: an
-//! amount in capitals, a number read, a number printed and read back, with memory and without, and
-//! the number of a chapter, read from its heading.
+//! The first program of the README, and calls with contracts, some of which are in the README too:
+//! an amount in capitals, a number that is read, a number that is printed and read back, with and
+//! without memory, and the number of a chapter, read from its heading.
 #![tactic(auto)]
 
 use chinese_number::{ChineseVariant, amount_to_chinese};

@@ -7,7 +7,8 @@ use chinese_number::{
 };
 use std::alloc::Global;
 
-/// Prints a number, and reads what was printed: the same number, wherever there is a text at all.
+/// Prints a number and reads what was printed. The result is the same number whenever a text was
+/// printed.
 pub fn print_and_read<T: NumberToChinese>(
     alloc: Global,
     variant: ChineseVariant,
@@ -23,8 +24,8 @@ pub fn print_and_read<T: NumberToChinese>(
     Ok(text.as_str().to_number(method))
 }
 
-/// Puts a number into the caller's room, and reads what was put: the same number, wherever there is
-/// a text at all.
+/// Writes a number into the caller's buffer and reads what was written. The result is the same
+/// number whenever a text was written.
 pub fn put_and_read<T: Whole>(
     room: &mut [u8; ROOM_BYTES],
     variant: ChineseVariant,

@@ -1,4 +1,4 @@
-// What the examples answer.
+// What the examples return.
 use crate::amount::amount_in_capitals;
 use crate::chapter::chapter_number;
 use crate::number::number_of;

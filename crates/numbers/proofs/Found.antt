@@ -1,4 +1,4 @@
--- What is written of the runs of a text, one after the other.
+-- What is written for the runs of a text, one after the other.
 use Rattle.std.proofs.Common.{◌≡◌, ℕ, ◌+◌, ◌-◌, ◌≤◌, true, false, List, [], ◌∷◌, ◌++◌, length, chars, encode_utf8_all, reverse, take, drop, IsCharBoundary, IsUtf8, Option, refl, sym, ap, ◌∙◌, arith, append_assoc, length-append, subst, take_at, drop_at}
 use mathlib.Core.List.{reverse_aux}
 use Rattle.std.proofs.lemmas.List.{length-reverse}
@@ -19,7 +19,7 @@ pub few-chars : (bytes : List ℕ) → IsUtf8 bytes → length (chars bytes) ≤
 few-chars bytes ok = let e = ap length (encodes-chars bytes ok) in let low =
     length-le-encodes (chars bytes) in omega (arith, e, low)
 
--- these runs are left in the rest of a text, in front of which so many characters stand
+-- these runs are in the rest of a text, and `count` characters are before the rest
 pub record Left (rule : Rule) (left : List Span) (rest : List ℕ) (count : ℕ) : Type 0 where
   pub front : List ℕ
   pub cs : List ℕ
@@ -38,7 +38,7 @@ Left-all rule text ok = record {
   count_is = refl;
 }
 
--- the first of them ends where this cuts the rest, and the others are left there
+-- the first of them ends where `cut_at` cuts the rest, and the others are after that
 abbrev pub cut_at : Span → List ℕ → ℕ
 cut_at span rest = length rest - length span.after
 
@@ -129,7 +129,8 @@ First-of {rule} {rest = rest} {count} l span others e before text = record {
       (IsUtf8-append span.before span.text before text) r.before_is
       ∙ chars-append span.before span.text before
 
--- so much was written, and what is written for the runs that are left completes it
+-- what has been written, together with what is written for the runs that are left, is the whole
+-- text
 pub record Passed (search : Search) (line : ℕ) (old now : Option (List ℕ)) (all left : List Span)
     : Type 0 where
   pub written : List ℕ
@@ -142,7 +143,7 @@ pub Passed-none : (search : Search) (line : ℕ) (old : Option (List ℕ)) (all 
 Passed-none search line old all =
     record { written = []; appends = Appends-nil _; completes = λ more found. found }
 
--- behind one more run
+-- one more run is written
 pub Passed-more : (search : Search) (line : ℕ) (old now new : Option (List ℕ)) (all : List Span)
     (span : Span) (others : List Span) (answer : List ℕ)
     → Passed search line old now all (span ∷ others)

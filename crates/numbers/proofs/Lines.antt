@@ -28,7 +28,7 @@ AnswersLine-none search line bytes none = by (is_utf8 bytes) refl where
   by true e = absurd (none (IsUtf8-from_is_utf8 bytes e))
   by false e = rw e refl
 
--- so many lines were answered, and what is written for the next ones goes on behind it
+-- the lines before these were answered, and what is written for the next ones follows their answers
 pub record Answered (search : Search) (line : ℕ) (input : List ℕ) (left old now : Option (List ℕ))
     : Type 0 where
   pub rest : List ℕ
@@ -50,15 +50,15 @@ Answered-none search (Some input) old = record {
   goes_on = λ lines behind more are answers. (lines, are, answers);
 }
 
--- a line was taken off what was left, or there was none
+-- one line was taken from what was left, or there was none
 abbrev pub Takes : Bool → Option (List ℕ) → Option (List ℕ) → List ℕ → Type 0
 Takes more left behind bytes = IfSome left (λ rest. TakesLine more rest behind bytes)
 
--- at most a line was
+-- at most one line was read
 abbrev pub ReadWithin : Option (List ℕ) → Option (List ℕ) → Type 0
 ReadWithin left behind = IfSome left (λ rest. ReadWithinLine rest behind)
 
--- all is a beginning too
+-- the whole is a prefix too
 none_unwritten : (search : Search) (input rest : List ℕ) (old now : Option (List ℕ))
     → Wrote search input rest old now → WroteBeginning search input rest old now
 none_unwritten search input rest old now w =
@@ -97,7 +97,7 @@ module _ {search : Search} {line : ℕ} {input : List ℕ} {left old now : Optio
             (reply.0, more, reply.1, answers, refl));
       }
 
-  -- all that was read is answered
+  -- everything that was read is answered
   Answered-whole : Wrote search input a.rest old now
   Answered-whole = (
     a.written,
@@ -106,12 +106,12 @@ module _ {search : Search} {line : ℕ} {input : List ℕ} {left old now : Optio
     a.appends,
   )
 
-  -- the search ends here: a write fails
+  -- the search ends here because a write fails
   pub Leaves-unsent : (e : RunError) → e ≡ Write
       → Leaves {T = Unit {0}} search input left old now (Err e)
   Leaves-unsent e is = rw is (a.rest, a.is_left, none_unwritten _ _ _ _ _ Answered-whole)
 
-  -- a read fails or memory runs out, and at most a line was read since
+  -- a read fails or memory runs out, and at most one line was read since
   pub Leaves-within : (e : RunError) (behind : Option (List ℕ)) → ReadWithin left behind
       → e ≢ Write → Leaves {T = Unit {0}} search input behind old now (Err e)
   Leaves-within e behind within other = by e other where
@@ -127,7 +127,7 @@ module _ {search : Search} {line : ℕ} {input : List ℕ} {left old now : Optio
   pub Leaves-at : Leaves {T = Unit {0}} search input left old now (Err Read)
   Leaves-at = rw a.is_left (a.rest, ([], λ k d low e. omega (arith, low), refl), Answered-whole)
 
-  -- there is no further line
+  -- there are no more lines
   pub Leaves-ended : (r : Result (Unit {0}) RunError) (behind : Option (List ℕ))
       → Takes false left behind [] → IfErr r (λ e. e ≡ Write)
       → Leaves search input behind old now r

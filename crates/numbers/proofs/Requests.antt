@@ -1,4 +1,4 @@
--- What the words of a command line ask for, a word at a time.
+-- What the words of a command line ask for, word by word.
 use Rattle.std.proofs.Common.{◌≡◌, ℕ, ◌+◌, ◌<◌, ◌||◌, Bool, true, false, List, [], ◌∷◌, ◌++◌, codes, bytes_eq, length, get_or, map, take, Option, Some, None, refl, sym, arith, append-nil, ap, ◌∙◌, if◌then◌else◌}
 use Rattle.std.proofs.Math.Bool.{or-true}
 use Rattle.std.proofs.Math.ListN.{length-map}
@@ -15,7 +15,7 @@ use Rattle.cn_find.specs.declared.wanted.TheConstants.Wanted.{ALL, EVERYDAY}
 use Rattle.numbers.specs.Request.{asked, has_word, is_known, method_named, search_of}
 use Rattle.numbers.specs.declared.options.Search.{Search}
 
--- these words are known, and ask for this
+-- these words are known, and this is what they ask for
 pub record Asks (words : List (List ℕ)) (help : Bool) (search : Search) : Type 0 where
   pub known : list_all is_known words ≡ true
   pub help_is : help ≡ has_word (codes "--help") words
@@ -53,7 +53,7 @@ wanted-more : (is_all all : Bool)
 wanted-more true all = refl
 wanted-more false all = refl
 
--- what is looked for with a word more, by what it is
+-- the search after one more word, given what the word is
 abbrev search_with : Bool → Bool → Option ChineseCountMethod → Search → Search
 search_with is_exact is_all named search = record {
   exact = is_exact || search.exact;

@@ -1,4 +1,4 @@
--- The steps of a search. No contract of a public call cites them.
+-- The steps of a search. No contract of a public function uses these definitions.
 use Rattle.std.specs.Prelude.{◌≡◌, ◌<◌, ◌++◌, ℕ, Bool, true, false, List, [], length, Option, Some, Result, Ok, Err}
 use Rattle.std.specs.Io.BufRead.{drop_through, take_through}
 use Rattle.std.specs.Io.KnownBytes.{Appends, Keeps}
@@ -7,13 +7,13 @@ use Rattle.numbers.specs.declared.fault.RunError.TheVariants.{Read, Write, Memor
 use Rattle.numbers.specs.declared.options.Search.{Search}
 use Rattle.numbers.specs.Answers.{AnswersLine}
 
--- a line was taken off what the reader had left; or there was none
+-- one line was taken from what the reader still had, or there was none
 abbrev pub TakesLine : Bool → List ℕ → Option (List ℕ) → List ℕ → Type 0
 TakesLine true input left bytes =
     (0 < length input) × (bytes ≡ take_through 10 input) × (left ≡ Some (drop_through 10 input))
 TakesLine false input left bytes = (input ≡ []) × (left ≡ Some [])
 
--- the bytes are written: all of them, or a beginning where a write failed
+-- the bytes were written: all of them, or a prefix if a write failed
 abbrev pub Puts : {T : Type 0}
     → Option (List ℕ) → Option (List ℕ) → List ℕ → Result T RunError → Type 0
 Puts old new bytes (Ok x) = Appends old new bytes
@@ -23,8 +23,8 @@ Puts old new bytes (Err Write) =
     × (bytes ≡ written ++ unwritten) × Appends old new written
 Puts old new bytes (Err Memory) = ⊥
 
--- a line is answered: as a whole, or by a beginning where a write failed, or not at all where memory
--- ran out
+-- a line was answered: as a whole, or by a prefix if a write failed, or not at all if memory ran
+-- out
 abbrev pub Replies : {T : Type 0} → Search → ℕ → List ℕ → Option (List ℕ) → Option (List ℕ)
     → Result T RunError → Type 0
 Replies search line bytes old new (Ok x) =

@@ -1,4 +1,4 @@
--- What the words of a command line ask for. They are given by their bytes.
+-- What the words of a command line ask for. Words are given by their bytes.
 use Rattle.std.specs.Prelude.{ℕ, ◌||◌, Bool, true, false, List, [], ◌∷◌, codes, bytes_eq, Option, Some, None, is_some, if◌then◌else◌}
 use Rattle.std.specs.List.{filter_map, last_or, list_all, list_any}
 use Rattle.std.specs.Option.{unwrap_or}
@@ -25,13 +25,13 @@ method_of way = None
 abbrev pub method_named : List ℕ → Option ChineseCountMethod
 method_named word = method_of (way_named word)
 
--- an option, or a method's name
+-- the word is an option or the name of a method
 abbrev pub is_known : List ℕ → Bool
 is_known word =
     has_word word (codes "--help" ∷ codes "--exact" ∷ codes "--all" ∷ [])
     || is_some (method_named word)
 
--- what is looked for: of the methods that are named the last one counts
+-- what a search looks for; if several methods are named, the last one counts
 abbrev pub search_of : List (List ℕ) → Search
 search_of words = record {
   exact = has_word (codes "--exact") words;
@@ -39,14 +39,14 @@ search_of words = record {
   method = unwrap_or (last_or None (filter_map method_named words)) TenThousand;
 }
 
--- what words ask for: nothing where one of them is unknown
+-- what the words ask for; none if one of them is unknown
 abbrev pub asked : List (List ℕ) → Option Request
 asked words =
     if list_all is_known words
     then Some (if has_word (codes "--help") words then asks.Help else asks.Search (search_of words))
     else None
 
--- something is searched
+-- the request is for a search
 abbrev pub asks_search : Option Request → Bool
 asks_search (Some (asks.Search search)) = true
 asks_search request = false

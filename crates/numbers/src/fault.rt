@@ -4,7 +4,7 @@ ghost use Rattle.numbers.specs.Faults.{fault_of_read, status_of};
 
 use std::io::{self, ErrorKind};
 
-/// Why a run stopped before its end.
+/// Why a run stopped before the end of its input.
 #[derive(Debug, Copy, Clone)]
 pub enum RunError {
     /// A read failed.
@@ -16,7 +16,8 @@ pub enum RunError {
 }
 
 impl RunError {
-    /// Why a run stops where a read fails so: reads ask for memory too.
+    /// Why a run stops if a read fails with this error. A read requests memory too, so memory may
+    /// have run out.
     pub fn of_read(error: io::Error) -> RunError
         ensures { result ≡ fault_of_read (error_kind error) }
     {
@@ -27,7 +28,8 @@ impl RunError {
     }
 }
 
-/// The status of a run, by whether the command line asked for anything or why the run stopped.
+/// The exit status of a run: whether the command line asked for anything, or why the run stopped,
+/// decides it.
 pub fn status(outcome: &Result<bool, RunError>) -> u8
     ensures { result ≡ status_of outcome.now }
 {

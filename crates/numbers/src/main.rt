@@ -1,20 +1,20 @@
-//! Finds the Chinese numbers in its input, or the expressions, a line at a time.
+//! Finds the Chinese numbers in its input, or the expressions, line by line.
 //!
 //! ```text
 //! 第二十三回，他五六十歲       1:2 二十三 23
 //!                             1:8 五六十 err the chinese number is incorrect (position: 0)
 //! ```
 //!
-//! Each number has a line of its own: where it stands, as LINE:COLUMN, both counted from 1 and
-//! columns in characters; its text; and the number, or `err` and the error's text, whose position
-//! counts within the number's text. A line that is no UTF-8 is answered LINE:1 `bad line`.
+//! Each number has a line of its own: its position, as LINE:COLUMN, both counted from 1 and columns
+//! in characters; its text; and the number, or `err` and the text of the error, whose position
+//! counts within the text of the number. A line that is not UTF-8 is answered by LINE:1 `bad line`.
 //!
-//! By `--exact` expressions have the lines in place of numbers, with their quantities, as
-//! `1:2 12.5% 125/1000`: the numerator, and `/` and the denominator where that is not 1.
+//! With `--exact` the lines are those of expressions rather than numbers, with their quantities,
+//! such as `1:2 12.5% 125/1000`: the numerator, and `/` and the denominator if that is not 1.
 //!
-//! The status is 0 where all was read and answered, 1 where a read or a write failed, and 2 where
-//! memory ran out or a word of the command line is unknown. Where it is not 0, the answers to the
-//! first lines were written, whole unless a write failed.
+//! The status is 0 if all was read and answered, 1 if a read or a write failed, and 2 if memory ran
+//! out or a word of the command line is unknown. If it is not 0, the answers to the first lines
+//! have been written, and they are whole unless a write failed.
 #![tactic(auto)]
 
 ghost use Rattle.std.specs.Prelude.{◌≡◌, IfErr, IfOk, false, is_some};
@@ -48,7 +48,7 @@ fn request(rt: &HostRuntime) -> io::Result<Option<Request>> {
     Ok(request_of(words.as_slice()))
 }
 
-// Both ends of a search, buffered. The only error is running out of memory.
+// The reader and the writer of a search, buffered. The only error is that memory ran out.
 fn buffered<R: Read + Drop, W: Write + Drop>(
     alloc: Global,
     source: R,
@@ -66,7 +66,7 @@ fn search_input(rt: &HostRuntime, search: Search) -> Result<(), RunError> {
     search_lines(rt.alloc(), &mut reader, &mut writer, search)
 }
 
-// Answers the request, and says whether there was one. Where nothing is searched, the only error is
+// Answers the request, and returns whether there was one. If nothing is searched, the only error is
 // that a write failed.
 fn serve(rt: &HostRuntime, request: Option<Request>) -> Result<bool, RunError>
     ensures answered { IfOk result (λ answered. answered ≡ is_some request) }
@@ -83,7 +83,7 @@ fn serve(rt: &HostRuntime, request: Option<Request>) -> Result<bool, RunError>
     Ok(true)
 }
 
-// Answers what the command line asks for, and says whether it asks for anything.
+// Answers what the command line asks for, and returns whether it asks for anything.
 fn run(rt: &HostRuntime) -> Result<bool, RunError> {
     let request = request(rt).map_err(RunError::of_read)?;
     serve(rt, request)

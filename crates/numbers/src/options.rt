@@ -4,23 +4,23 @@ ghost use Rattle.numbers.specs.Request.{asked, method_named};
 use chinese_number::{ChineseCountMethod, Wanted};
 use cn_faces::{Way, way_named};
 
-/// What is looked for, and how it is read.
+/// What a search looks for, and how it is read.
 #[derive(Debug, Copy, Clone)]
 pub struct Search {
-    /// Whether expressions are, which are read as quantities; else numbers.
+    /// Whether the search is for expressions, which are read as quantities, or for numbers.
     pub exact: bool,
     pub wanted: Wanted,
     pub method: ChineseCountMethod,
 }
 
-/// What the words of the command line ask for.
+/// What the words of the command line ask for: the usage, or a search.
 #[derive(Debug, Copy, Clone)]
 pub enum Request {
     Help,
     Search(Search),
 }
 
-// The method of a name.
+// The method with a name; `None` if there is none.
 fn method_named(name: &str) -> Option<ChineseCountMethod>
     ensures { result ≡ method_named name.now }
 {
@@ -30,7 +30,7 @@ fn method_named(name: &str) -> Option<ChineseCountMethod>
     }
 }
 
-/// The request of these words; `None` where one of them is unknown.
+/// The request of these words; `None` if one of them is unknown.
 pub fn request_of(words: &[String]) -> Option<Request>
     ensures { result ≡ asked (map string_bytes words.now) }
 {

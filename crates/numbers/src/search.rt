@@ -28,7 +28,7 @@ fn write_quantity<W: Write>(writer: &mut W, quantity: Quantity) -> io::Result<()
     }
 }
 
-// Writes what was found as its reader answers it.
+// Writes what the reader answers to what was found.
 fn write_answer<W: Write>(writer: &mut W, found: Found<'_>, search: Search) -> io::Result<()>
     ensures { OnOk result ((answer : List ℕ) × IsAnswered search found.entry.text.now answer
         × Appends (W.contents writer.old) (W.contents writer.new) answer) }
@@ -46,7 +46,7 @@ fn write_answer<W: Write>(writer: &mut W, found: Found<'_>, search: Search) -> i
     }
 }
 
-// Writes the line of what was found.
+// Writes the line for what was found.
 fn write_found<W: Write>(
     writer: &mut W,
     line: u64,
@@ -71,7 +71,7 @@ fn char_count(text: &str) -> usize
     text.chars().count()
 }
 
-// Writes a line for each of the runs of a line's text.
+// Writes a line for each of the runs of the text of a line.
 fn write_runs<W: Write, R: SearchRule>(
     writer: &mut W,
     line: u64,
@@ -95,7 +95,7 @@ fn write_runs<W: Write, R: SearchRule>(
     Ok(())
 }
 
-// Writes a line for each that is found in a line's text.
+// Writes a line for each number or expression that is found in the text of a line.
 fn write_numbers<W: Write>(writer: &mut W, line: u64, text: &str, search: Search) -> io::Result<()>
     ensures { OnOk result ((written : List ℕ)
         × AreFound search line (found_spans search text.now) written
@@ -110,7 +110,7 @@ fn write_numbers<W: Write>(writer: &mut W, line: u64, text: &str, search: Search
     }
 }
 
-// The same of a line's bytes.
+// Writes these lines for the bytes of a line, or `bad line` if they are not UTF-8.
 fn write_line<W: Write>(writer: &mut W, line: u64, bytes: &[u8], search: Search) -> io::Result<()>
     ensures { OnOk result ((written : List ℕ) × AnswersLine search line bytes.now written
         × Appends (W.contents writer.old) (W.contents writer.new) written) }
@@ -128,7 +128,7 @@ fn without_feed(line: &[u8]) -> &[u8]
     line.strip_suffix(b"\n").unwrap_or(line)
 }
 
-// Reads the next line, with its line feed, and says whether there was one.
+// Reads the next line, with its line feed, and returns whether there was one.
 fn read_line<R: BufRead>(reader: &mut R, bytes: &mut Vec<u8>) -> Result<bool, RunError>
     ensures line { IfOk result (λ more. IfSome (R.remaining reader.old) (λ input.
         TakesLine more input (R.remaining reader.new) bytes.new.items)) }
@@ -141,7 +141,7 @@ fn read_line<R: BufRead>(reader: &mut R, bytes: &mut Vec<u8>) -> Result<bool, Ru
     Ok(count > 0)
 }
 
-// Writes all the bytes, in as many writes as it takes.
+// Writes all the bytes, in as many writes as are needed.
 fn write_all<W: Write>(writer: &mut W, bytes: &[u8]) -> Result<(), RunError>
     ensures { Puts (W.contents writer.old) (W.contents writer.new) bytes.now result }
 {
@@ -155,7 +155,7 @@ fn write_all<W: Write>(writer: &mut W, bytes: &[u8]) -> Result<(), RunError>
     Ok(())
 }
 
-// Answers a line. The answer is whole before any of it is written.
+// Answers a line. The whole answer is made before any of it is written.
 fn answer_line<W: Write>(
     writer: &mut W,
     answer: &mut Vec<u8>,
@@ -170,7 +170,7 @@ fn answer_line<W: Write>(
     write_all(writer, answer.as_slice())
 }
 
-// Hands on what was written.
+// Flushes what was written.
 fn flush<W: Write + Drop>(writer: &mut BufWriter<W>) -> Result<(), RunError>
     ensures sent { OnOk result (writer_buffer writer.new ≡ []) }
     ensures kept { Keeps (writer_contents W.contents writer.old)
@@ -180,7 +180,7 @@ fn flush<W: Write + Drop>(writer: &mut BufWriter<W>) -> Result<(), RunError>
     writer.flush().map_err(|_| RunError::Write)
 }
 
-// Hands on what was written, where the next read may wait.
+// Flushes what was written if the next read may wait.
 // Same answer (b'\n' → b'\t'): only tests/test_numbers.py shows that answers are written before the
 // next line is read.
 fn flush_before_read<R: Read + Drop, W: Write + Drop>(
@@ -198,11 +198,12 @@ fn flush_before_read<R: Read + Drop, W: Write + Drop>(
     }
 }
 
-/// Searches the lines of the reader to its end, and writes a line for each that is found. What was
-/// written is flushed before a read that may wait, and at the end.
+/// Searches the lines of the reader up to its end, and writes a line for each number or expression
+/// that is found. What was written is flushed before a read that may wait, and at the end.
 ///
-/// At `Write` a beginning of the answers to the lines read was written. At `Read` and `Memory` the
-/// answers to the lines before the one in hand were written, whole, and nothing else.
+/// If the error is `Write`, a prefix of the answers to the lines read has been written. If it is
+/// `Read` or `Memory`, the answers to the lines before the current one have been written, and
+/// nothing else.
 pub fn search_lines<R: Read + Drop, W: Write + Drop>(
     alloc: Global,
     reader: &mut BufReader<R>,
@@ -224,6 +225,6 @@ pub fn search_lines<R: Read + Drop, W: Write + Drop>(
         let text = without_feed(bytes.as_slice());
         answer_line(writer, &mut answer, line, text, search)?;
     }
-    // There are more lines than a `u64` counts.
+    // The input has more lines than a `u64` counts.
     Err(RunError::Read)
 }

@@ -1,4 +1,4 @@
--- Reading from the left: the state after each character, and the sum so far.
+-- Reading from left to right: the state after each character, and the sum so far.
 use Rattle.std.specs.Prelude.{ℕ, ◌+◌, ◌*◌, Bool, true, false, List, [], ◌∷◌, Option, Some, None, if◌then◌else◌}
 use Rattle.cn_amount.specs.declared.capital.Capital.{Capital}
 use Rattle.cn_amount.specs.declared.capital.Capital.TheVariants.{Ling, Digit, Shi, Bai, Qian, Wan, Yi, Yuan, Jiao, Fen, Zheng, Ren, Min, Bi}
@@ -13,16 +13,18 @@ use Rattle.cn_amount.specs.declared.state.Stage.TheVariants.{Top, BelowWan, Belo
 use Rattle.cn_amount.specs.declared.state.State.{State}
 use Rattle.cn_amount.specs.declared.state.State.TheVariants.{Beginning, AfterRen, AfterMin, AfterCurrency, NoYuan, FirstDigit, AfterFirstWan, AfterYi, AfterLastWan, AfterLing, DigitAt, DigitBelow, AfterUnit, AfterYuan, AfterYuanLing, SmallDigit, JiaoDigit, AfterJiao, FenDigit, Complete}
 
--- the stage of a section in which 仟 stands, and of one that begins with it right behind 万 or 亿
+-- the stage of a section that has 仟
 abbrev pub behind_thousands : Stage → Stage
 behind_thousands BelowYiGap = Last
 behind_thousands stage = stage
 
+-- the stage of a section that begins with 仟 directly after 万 or 亿
 abbrev pub bare : Stage → Stage
 bare BelowYi = OnlyWan
 bare stage = stage
 
--- what closes a section, whose last digit is 0 or not
+-- the state after a section and the capital that closes it, by whether the last digit of the
+-- section is 0
 abbrev pub close : Stage → Bool → Capital → Option State
 close Top is_round Wan = Some (AfterFirstWan is_round)
 close BelowYi is_round Wan = Some (AfterLastWan is_round)
@@ -34,7 +36,7 @@ close OnlyWan is_round Yuan = None
 close stage is_round Yuan = Some (AfterYuan is_round)
 close stage is_round capital = None
 
--- behind a digit at a place, and behind one at a place or a lower one
+-- the state after a digit at a place and one more capital
 abbrev pub digit_at : Stage → Place → Capital → Option State
 digit_at stage Thousands Qian = Some (AfterUnit stage Thousands)
 digit_at stage Hundreds Bai = Some (AfterUnit stage Hundreds)
@@ -42,6 +44,7 @@ digit_at stage Tens Shi = Some (AfterUnit stage Tens)
 digit_at stage Ones capital = close stage false capital
 digit_at stage place capital = None
 
+-- the state after a digit at a place or a lower one and one more capital
 abbrev pub digit_below : Stage → Place → Capital → Option State
 digit_below stage Thousands Qian = Some (AfterUnit (behind_thousands stage) Thousands)
 digit_below stage Thousands Bai = Some (AfterUnit stage Hundreds)
@@ -51,7 +54,7 @@ digit_below stage Hundreds Shi = Some (AfterUnit stage Tens)
 digit_below stage Tens Shi = Some (AfterUnit stage Tens)
 digit_below stage place capital = close stage false capital
 
--- behind the unit of a place
+-- the state after the unit of a place and one more capital
 abbrev pub after_unit : Stage → Place → Capital → Option State
 after_unit stage Thousands (Digit value) = Some (DigitAt stage Hundreds)
 after_unit stage Thousands Ling = Some (AfterLing stage Tens)
@@ -60,24 +63,26 @@ after_unit stage Hundreds Ling = Some (AfterLing stage Ones)
 after_unit stage Tens (Digit value) = Some (DigitAt stage Ones)
 after_unit stage place capital = close stage true capital
 
--- right behind 万 or 亿, at whose place the digit is 0 or not
+-- the state after a 零 directly after 万 or 亿, by whether the digit at its place is 0
 abbrev pub after_ling : Stage → Bool → State
 after_ling stage true = AfterLing stage Thousands
 after_ling BelowYi false = AfterLing BelowYiGap Thousands
 after_ling stage false = AfterLing stage Hundreds
 
+-- the state after a capital directly after 万 or 亿
 abbrev pub after_great : Stage → Bool → Capital → Option State
 after_great stage is_round Ling = Some (after_ling stage is_round)
 after_great stage is_round (Digit value) = Some (DigitAt (bare stage) Thousands)
 after_great stage is_round Wan = None
 after_great stage is_round capital = close stage true capital
 
+-- the state after the first digit and one more capital
 abbrev pub first_digit : Capital → Option State
 first_digit Jiao = Some AfterJiao
 first_digit Fen = Some Complete
 first_digit capital = digit_below Top Thousands capital
 
--- the state after one more capital, if an amount can go on so
+-- the state after one more capital; none if no amount continues with it
 abbrev pub step : State → Capital → Option State
 step FirstDigit capital = first_digit capital
 step (AfterFirstWan is_round) capital = after_great BelowWan is_round capital
@@ -107,6 +112,7 @@ step (SmallDigit is_round) Fen = Some Complete
 step AfterJiao (Digit value) = Some FenDigit
 step state capital = None
 
+-- an amount may end at this state
 abbrev pub is_end : State → Bool
 is_end AfterJiao = true
 is_end Complete = true
@@ -116,7 +122,7 @@ is_end state = false
 abbrev pub run : State → List Capital → Option State
 run state capitals = machine.run step state capitals
 
--- whether a text is an amount from this state on
+-- the text makes an amount from this state on
 abbrev pub accepts : State → List Capital → Bool
 accepts state [] = is_end state
 accepts state (capital ∷ rest) = elim (step state capital) [
@@ -124,15 +130,15 @@ accepts state (capital ∷ rest) = elim (step state capital) [
   | Some next ↦ accepts next rest
 ]
 
--- the sum with so much more in the open section, and no digit that waits
+-- the sum with more in the open section, and no digit whose unit is not yet read
 abbrev pub with_section : Sum → ℕ → Sum
 with_section sum more = record sum { section = sum.section + more; digit = 0 }
 
--- so much, where no section is open
+-- the sum with this closed, and no open section
 abbrev pub of_closed : ℕ → Sum
 of_closed closed = record { closed = closed; section = 0; digit = 0 }
 
--- with so many more fen, and no digit that waits
+-- the sum with more fen, and no digit whose unit is not yet read
 abbrev pub with_fen : Sum → ℕ → Sum
 with_fen sum more = record sum { closed = sum.closed + more; digit = 0 }
 
@@ -154,26 +160,29 @@ abbrev pub sum_of : Sum → List Capital → Sum
 sum_of sum [] = sum
 sum_of sum (capital ∷ rest) = sum_of (add sum capital) rest
 
--- all that is summed up, in yuan up to 元 and in fen behind it; no character makes it less
+-- what is summed without the last digit, in yuan up to 元 and in fen after it; no character makes
+-- it less
 abbrev pub summed : Sum → ℕ
 summed sum = sum.closed + sum.section
 
+-- the sum of no characters
 abbrev pub no_sum : Sum
 no_sum = of_closed 0
 
--- what is read, and the sum of it, with one more capital
+-- the state, if there is one, with its sum
 abbrev pub with_sum : Sum → Option State → Option Progress
 with_sum sum None = None
 with_sum sum (Some state) = Some (record { state = state; sum = sum })
 
+-- the state and the sum after one more capital
 abbrev pub advance : Progress → Capital → Option Progress
 advance progress capital = with_sum (add progress.sum capital) (step progress.state capital)
 
--- the fen, where an amount may end
+-- the amount in fen if an amount may end here
 abbrev pub end : Progress → Option ℕ
 end progress = if is_end progress.state then Some progress.sum.closed else None
 
--- the states that read amounts, character by character
+-- the machine that reads amounts, character by character
 abbrev pub amount_machine : machine.Machine Progress ℕ
 amount_machine = record {
   begin = record { state = Beginning; sum = no_sum };

@@ -27,8 +27,8 @@ pub fn each_text_has_one_answer()
         × ((other : Result ℤ AmountRefusal) → SignedAnswers text other → other ≡ answer) }
 {}
 
-/// For a form that judges at each key: each beginning of each form of an amount begins an amount,
-/// so it is unfinished or right, and never incorrect.
+/// Each prefix of each form of an amount begins an amount, so it is unfinished or an amount, and
+/// never incorrect. So an input form can judge a text at each key.
 pub fn beginnings_are_begun()
     ensures { (front behind : List ℕ) → (fen : ℤ) → IsSignedAmount (front ++ behind) fen
         → (place : ℕ) → ¬ SignedAnswers front (Err (incorrect_at place)) }
@@ -44,7 +44,8 @@ pub fn amounts_are_below_the_limit()
     ensures { (text : List ℕ) → (fen : ℤ) → IsSignedAmount text fen → nat_abs fen < amount_limit }
 {}
 
-/// No form is long, so no text costs more than so many characters to read.
+/// A form has at most 40 characters, so a reader of a longer text stops at its 41st character at
+/// the latest.
 pub fn forms_are_short()
     ensures { (text : List ℕ) → (fen : ℤ) → IsSignedAmount text fen → length text ≤ 40 }
 {}

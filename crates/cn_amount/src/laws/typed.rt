@@ -28,8 +28,8 @@ pub fn each_text_has_one_answer()
         × ((other : Result ℕ AmountRefusal) → TypedAnswers text other → other ≡ answer) }
 {}
 
-/// For a form that judges at each key: each beginning of each typed amount begins an amount, so it
-/// is unfinished or right, and never incorrect.
+/// Each prefix of each typed amount begins an amount, so it is unfinished or an amount, and never
+/// incorrect. So an input form can judge a text at each key.
 pub fn beginnings_are_begun()
     ensures { (front behind : List ℕ) → (fen : ℕ) → IsTypedAmount (front ++ behind) fen
         → (place : ℕ) → ¬ TypedAnswers front (Err (incorrect_at place)) }

@@ -1,4 +1,4 @@
-// What is put to a text in capitals, and what is read of it.
+// Appending to a text in capitals, and reading its bytes.
 ghost use Rattle.std.specs.Prelude.{◌≡◌, [], ◌∷◌, IfOk, IsUtf8};
 ghost use Rattle.cn_capitals.specs.Text.{text_bytes, bytes_with, HasPut, PutsMore, IsStringOf};
 
@@ -7,7 +7,7 @@ use crate::Written;
 use std::alloc::{AllocError, Global};
 
 impl<H: Copy> CapitalText<H> {
-    /// Nothing yet.
+    /// An empty text.
     #[tactic(auto, unfolding(crate::specs::Text::HasPut))]
     pub fn new<C: Written<H>>(hand: H) -> CapitalText<H>
         ensures { HasPut C.character hand result [] }
@@ -19,8 +19,8 @@ impl<H: Copy> CapitalText<H> {
         }
     }
 
-    /// Puts one more capital behind the text. One that the room does not hold is left out.
     // Same answer (4 → 5): no character uses a fifth byte of the buffer.
+    /// Appends one more capital to the text. A capital that does not fit the buffer is left out.
     pub fn put<C: Written<H>>(&mut self, capital: C)
         requires { C.can_write capital }
         ensures { PutsMore C.character self.old self.new (capital ∷ []) }
@@ -30,7 +30,7 @@ impl<H: Copy> CapitalText<H> {
         self.put_encoded(character.encode_utf8(&mut room));
     }
 
-    // Puts what is encoded behind the text, if the room holds it.
+    // Appends encoded characters to the text if they fit the buffer.
     fn put_encoded(&mut self, more: &str)
         ensures bytes { text_bytes self.new ≡ bytes_with (text_bytes self.old) more.now }
         ensures hand { self.new.hand ≡ self.old.hand }
@@ -43,7 +43,7 @@ impl<H: Copy> CapitalText<H> {
         }
     }
 
-    /// Its bytes, which are UTF-8.
+    /// The bytes of the text, which are UTF-8.
     pub fn as_bytes(&self) -> &[u8]
         ensures bytes { result.now ≡ text_bytes self.now }
         ensures utf8 { IsUtf8 result.now }
@@ -51,7 +51,8 @@ impl<H: Copy> CapitalText<H> {
         &self.bytes[..self.len]
     }
 
-    /// The same text as a string, in one request for memory of its very size.
+    /// The text as a string. Memory is requested once, in the size of the text; the error says that
+    /// there is none.
     pub fn to_string(&self, alloc: Global) -> Result<String, AllocError>
         ensures { IfOk result (IsStringOf (text_bytes self.now)) }
     {

@@ -1,4 +1,4 @@
--- Figures, read from the left: the state and the fen after each part.
+-- Reading figures from left to right: the state and the fen after each part.
 use Rattle.std.specs.Prelude.{ℕ, ◌+◌, ◌*◌, ◌==◌, Bool, true, false, Option, Some, None, if◌then◌else◌}
 use Rattle.cn_capitals.specs.Machine.{Machine, step_as}
 use Rattle.cn_figures.specs.declared.part.Part.{Part}
@@ -9,6 +9,7 @@ use Rattle.cn_figures.specs.declared.state.State.TheVariants.{Beginning, Marked,
 use Rattle.cn_figures.specs.Figures.{below}
 use Rattle.cn_figures.specs.Parts.{part_of}
 
+-- the state after one more digit; none if no figures continue with it
 abbrev pub after_digit : State → ℕ → Option State
 after_digit Beginning digit = Some One
 after_digit Marked digit = Some One
@@ -24,6 +25,7 @@ after_digit AfterPoint digit = Some Jiao
 after_digit Jiao digit = Some Fen
 after_digit Fen digit = if digit == 0 then Some Fen else None
 
+-- the state after a comma; none if no figures continue with it
 abbrev pub after_comma : State → Option State
 after_comma One = Some AfterComma
 after_comma Two = Some AfterComma
@@ -31,6 +33,7 @@ after_comma Three = Some AfterComma
 after_comma CommaThree = Some AfterComma
 after_comma state = None
 
+-- the state after a point; none if no figures continue with it
 abbrev pub after_point : State → Option State
 after_point One = Some AfterPoint
 after_point Two = Some AfterPoint
@@ -39,17 +42,19 @@ after_point Many = Some AfterPoint
 after_point CommaThree = Some AfterPoint
 after_point state = None
 
+-- the state after ¥; none if no figures continue with it
 abbrev pub after_currency : State → Option State
 after_currency Beginning = Some Marked
 after_currency state = None
 
--- the state after one more part, if figures can go on so
+-- the state after one more part; none if no figures continue with it
 abbrev pub step : State → Part → Option State
 step state Currency = after_currency state
 step state (Digit digit) = after_digit state digit
 step state Comma = after_comma state
 step state Point = after_point state
 
+-- figures may end at this state
 abbrev pub is_end : State → Bool
 is_end Beginning = false
 is_end Marked = false
@@ -59,12 +64,12 @@ is_end CommaTwo = false
 is_end AfterPoint = false
 is_end state = true
 
--- so many times the fen, and so many more
+-- the amount times `times`, plus `more`; none from the limit on
 abbrev pub with_more : Option ℕ → ℕ → ℕ → Option ℕ
 with_more None times more = None
 with_more (Some fen) times more = below (fen * times + more)
 
--- the fen with one more part
+-- the amount in fen after one more part; none from the limit on
 abbrev pub fen_with : State → Option ℕ → Part → Option ℕ
 fen_with Fen fen (Digit digit) = fen
 fen_with Jiao fen (Digit digit) = with_more fen 1 digit
@@ -72,19 +77,21 @@ fen_with AfterPoint fen (Digit digit) = with_more fen 1 (10 * digit)
 fen_with state fen (Digit digit) = with_more fen 10 (100 * digit)
 fen_with state fen part = fen
 
--- this state and this amount
+-- the state, if there is one, with this amount
 abbrev pub with_fen : Option ℕ → Option State → Option Progress
 with_fen fen None = None
 with_fen fen (Some state) = Some (record { state = state; fen = fen })
 
+-- the state and the amount after one more part
 abbrev pub advance : Progress → Part → Option Progress
 advance progress part =
     with_fen (fen_with progress.state progress.fen part) (step progress.state part)
 
+-- the amount if figures may end here; it is none if it is not below the limit
 abbrev pub end : Progress → Option (Option ℕ)
 end progress = if is_end progress.state then Some progress.fen else None
 
--- the states that read figures, character by character
+-- the machine that reads figures, character by character
 abbrev pub figures_machine : Machine Progress (Option ℕ)
 figures_machine = record {
   begin = record { state = Beginning; fen = Some 0 };

@@ -1,5 +1,5 @@
-// Each of the 48 readers, and the trait at each type. The texts tell the methods apart: the
-// greatest unit whose scale fits, and the next one.
+// Tests of each of the 48 readers, and of the trait at each type. The texts distinguish the
+// methods: they have the greatest unit whose scale fits, and the next one.
 use crate::calls::Answer;
 use chinese_number::ChineseCountMethod::{High, Low, Middle, TenThousand};
 use chinese_number::ChineseToNumberError::{ChineseNumberEmpty, Overflow, Underflow};
@@ -78,7 +78,7 @@ static NAIVE_BELOW_ZERO: Rows = [
     ("負零〇1兩", Ok(-12)),
 ];
 
-// An answer is this one, whatever its type.
+// An answer is the same as this one, whatever its type is.
 fn same<T: Whole>(rt: &impl Abort, text: &str, answer: Answer<T>, wanted: &Answer<i128>) {
     let answer = answer.map(|number| i128::from_magnitude(
         number.is_negative(),
@@ -176,7 +176,7 @@ fn naive_signed(rt: HostRuntime) {
     );
 }
 
-// The same rows by the trait, at a type of which nothing else is known.
+// The same rows, read through the trait, at a type of which nothing else is known.
 fn by_trait<T: Whole>(rt: &impl Abort, method: ChineseCountMethod, rows: &Rows) {
     for (text, wanted) in rows {
         let answer: Answer<T> = text.to_number(method);
