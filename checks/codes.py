@@ -137,6 +137,8 @@ VERSIONS = (
     (PYTHON, r'^__version__ = "(.*)"'),
     ("../CHANGELOG.md", r"^## ([\d.]+)"),
 )
+# An address of the project, once there is one, goes into the last two of these files and into
+# METADATA of bindings/python/build_wheel.py.
 AUTHORS = (
     ("../LICENSE", r"^Copyright \(c\) \d+ (.*)"),
     ("rust/Cargo.toml", r'^authors = \["(.*)"\]'),

@@ -1,6 +1,8 @@
 ghost use Rattle.std.specs.Prelude.{◌≡◌, ℕ, List};
 ghost use Rattle.cn_capitals.specs.Machine.{Machine, Reached};
 
+// `cheque` has a short example: specs/DateFigures, src/dates.rt, specs/Working/DateSteps and
+// proofs/DateFiguresRead.
 /// A grammar, by how far a text is read from the left.
 pub trait Grammar: Copy {
     /// What a form stands for.

@@ -72,7 +72,7 @@ pub fn is_wanted(wanted: Wanted, c: char, mark: Mark) -> bool
 }
 
 // Whether the text begins with a word that is counted in 兆 as mega: most by their first character,
-// the others by the first two.
+// the others by the first two. `is_of_measure` of specs/Parting has each character of these words.
 // Same answer ('\0' → '\t'): no word has a tab or a NUL.
 #[inline(never)]
 #[tactic(auto, unfolding(crate::specs::Belongs::begins_measure))]

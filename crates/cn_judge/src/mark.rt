@@ -15,6 +15,7 @@ pub enum Mark {
 
 // The characters of digits and units that take three bytes, each with its mark at its slot. The key
 // has the three bytes, the first of them lowest. 無, which is neither, fills the empty slots.
+// `python3 checks/tables.py crates` prints this table.
 static MARKS: [(u32, Mark); 128] = [
     (0x9fbbe4, Mark::Unit(Unit::Qian)), // 仟
     (0x838de5, Mark::Unit(Unit::Qian)), // 千
