@@ -119,7 +119,7 @@ static void try_read_quantity(run *r, const text *t, uint32_t method) {
     add_word(r, quantity.form);
 }
 
-/* Each code is drawn in its own statement, since the order of evaluation of arguments is not fixed. */
+/* Each code is drawn in its own statement: the order in which arguments are evaluated may vary. */
 static void try_replace(run *r, const text *t) {
     static const uint32_t INCLUDED[] = {0, CN_ABOUT, CN_ONE_CHARACTER, CN_ABOUT | CN_ONE_CHARACTER, 1};
     uint8_t room[MOST];

@@ -1,8 +1,8 @@
 """What the command chinese-number answers, Python's and JavaScript's alike.
 
 The rows are those of `tests/rows/command.tsv`. Each word of the tests of `cheque` has its answer or
-its refusal here too, and each text of those of `numbers`. Python's runs where the locale knows ASCII
-alone.
+its refusal here too, and each text of those of `numbers`. Python's runs where the locale knows
+ASCII alone.
 """
 import os
 import pty
@@ -186,7 +186,8 @@ def test_long_cell(command):
 
 
 def test_progress(command):
-    """A terminal is told how many rows are done after more than a second, and no more at the end."""
+    """A terminal is told how many rows are done after more than a second, and no more at the
+    end."""
     terminal, errors = pty.openpty()
     pipes = {"stdin": subprocess.PIPE, "stdout": subprocess.PIPE, "stderr": errors}
     with subprocess.Popen([command.path, *TABLE], **pipes) as process:

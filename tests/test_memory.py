@@ -1,8 +1,8 @@
-"""Calls that take memory, with each growth refused in turn; and readers, which take none.
+"""Calls that request memory, with each request refused in turn; and readers, which request none.
 
-The program `allocating_calls` prints a line for each call that takes memory. Each growth is refused by
-itself and with the next one. Each line has one growth, of exactly as many bytes as its text. Where
-that is refused the line says that memory was short, and every other line stays as it is; so a
+The program `allocating_calls` prints a line for each call that takes memory. Each growth is refused
+by itself and with the next one. Each line has one growth, of exactly as many bytes as its text.
+Where that is refused the line says that memory was short, and every other line stays as it is; so a
 second growth of a line would be seen. At the end stand the calls that refuse their number, quantity
 or date by name: they ask for no memory.
 """
@@ -13,7 +13,7 @@ import pytest
 
 from running import TOP, needs_rt
 
-# The names of errors: of memory, and of what is refused before memory is asked for.
+# The names of errors: out of memory, and refusals that precede any memory request.
 SHORT = ("AllocError", "OutOfMemory")
 BY_NAME = ("Overflow", "Underflow", "ZeroDenominator", "NotADate")
 MODULE = "without_memory"

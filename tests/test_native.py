@@ -165,7 +165,8 @@ def ignored(call, argument):
 
 
 def test_nothing_is_kept(numerals):
-    """A million calls, half of them refused, leave no block of memory and no count of what all share."""
+    """A million calls, half of them refused, leave no block of memory and no count of what all
+    share."""
     it, day = numerals, numerals.chinese_to_date("贰零贰陆年零壹月壹拾伍日")
     asked = [
         (it.to_number, ("一亿二", "一" * 300, "一京" * 2, "十十", "", None, "\ud800")),

@@ -298,7 +298,8 @@ COMPILERS = (
 
 
 class OfC:
-    """A package for C: its page, what it unpacks to, and two programs over it with their answers."""
+    """A package for C: its page, what it unpacks to, and two programs over it with their
+    answers."""
 
     def __init__(self, packages, scratch, pattern, processor):
         tarball = package(packages, pattern, processor)
