@@ -892,7 +892,7 @@ function tryLongTexts() {
   const write = (count) => instancesOf(() => quantitiesToFigures('文'.repeat(count)));
   assert.deepEqual([LONG, LONG, 1, 1, LONG, LONG, 1].map(read), [0, 0, 1, 0, 0, 0, 1]);
   assert.deepEqual([LONG, LONG, 1, 1].map(write), [0, 0, 1, 0]);
-  console.log('long texts: as wanted, also where memory does not grow');
+  console.log('long texts: as expected, also if memory does not grow');
 }
 
 // Calls on a stack that is full, as far as the padding lets it be.
