@@ -1,11 +1,11 @@
 #!/usr/bin/env bash
-# check.sh [--quick | -k WORD]: runs the gate, `rt ci`, and the checks beside it; stops at the first
-# failure, and says how long each part took. The first line names the commit, the last counts what
-# `rt ci` passed and the wrong bodies that were refused. By the two a release's packages quote the
-# gate (bindings/packages.sh). What a missing tool is needed for is left out, and named at the end;
-# nothing is installed. With --quick, for daily work, all is done but the wrong bodies and the
-# mutants: the gate and what follows run in a copy without them. With -k the scripts and tests run
-# that have WORD in their names, over what an earlier run has built.
+# check.sh [--quick | -k WORD]: runs the gate, `rt ci`, and all other checks. It stops at the first
+# failure and shows how long each part took. The first line names the commit; the last line counts
+# what `rt ci` passed, and the refused wrong bodies. The packages of a release quote both lines
+# (bindings/packages.sh). Checks that need a missing tool are skipped and listed at the end; nothing
+# is installed. --quick, for daily work, runs all but the wrong bodies and mutants: the gate and the
+# later parts run in a copy without them. -k runs the scripts and tests with WORD in their names,
+# over what an earlier run built.
 set -euo pipefail
 cd "$(dirname "$0")"
 part=
@@ -20,12 +20,12 @@ scratch=$(mktemp -d)
 trap 'rm -rf "$scratch"' EXIT
 TIMEFORMAT='    %0lR, and %0lU + %0lS of processor time'
 
-leave_out() {
-    [ -z "${CI:-}" ] || { echo "left out, which under CI nothing is: $1" >&2; exit 1; }
-    echo "$1" >> "$scratch/left_out"
+skip() {
+    [ -z "${CI:-}" ] || { echo "skipped, which is an error in CI: $1" >&2; exit 1; }
+    echo "$1" >> "$scratch/skipped"
 }
 
-# What compares texts.
+# The scripts that compare texts.
 scripts() {
     cat << 'END'
 bindings/dist.py check
@@ -56,45 +56,45 @@ layout() {
         time black --check .
         ran=yes
     else
-        leave_out 'the layout of Python, since there is no black'
+        skip 'the layout of Python: there is no black'
     fi
 }
 
-# Debian's pytest is that of its own Python, which is not always the first on the path.
+# Debian's pytest belongs to its own Python, which is not always the first on the path.
 for python in /usr/bin/python3 python3 ''; do
-    [ -n "$python" ] || leave_out 'the tests, since there is no pytest'
+    [ -n "$python" ] || skip 'the tests: there is no pytest'
     ! "${python:-true}" -m pytest --version > /dev/null 2>&1 || break
 done
 at_once=()
 ! "${python:-false}" -c 'import xdist' 2> /dev/null || at_once=(-n "$(nproc)")
 
-# Where there is ccache, an object that several tests compile is compiled once in a run.
+# With ccache, an object that several tests compile is compiled once in a run.
 run_tests() { # WORD..
     [ -n "$python" ] || return 0
     local words=(-m pytest -q tests --basetemp "$scratch/of_tests") ended=0
     local -x PATH=/usr/lib/ccache:$PATH CCACHE_DIR=$scratch/ccache CCACHE_BASEDIR=$scratch
     time "$python" "${words[@]}" "$@" | tee "$scratch/tests" || ended=${PIPESTATUS[0]}
     case $ended$ran in
-        0* | 5yes) ;; # 5: no test has this name, and a script has
+        0* | 5yes) ;; # 5: no test has this name, but a script has
         *) exit 1 ;;
     esac
-    sed -n 's/^SKIPPED \[[0-9]*\] [^ ]* //p' "$scratch/tests" >> "$scratch/left_out"
+    sed -n 's/^SKIPPED \[[0-9]*\] [^ ]* //p' "$scratch/tests" >> "$scratch/skipped"
 }
 
-say_what_is_left_out() {
-    [ -s "$scratch/left_out" ] || echo nothing > "$scratch/left_out"
-    sort -u "$scratch/left_out" | sed 's/^/left out: /'
+list_skipped() {
+    [ -s "$scratch/skipped" ] || echo nothing > "$scratch/skipped"
+    sort -u "$scratch/skipped" | sed 's/^/skipped: /'
 }
 
-touch "$scratch/left_out"
+touch "$scratch/skipped"
 if [ -n "$part" ]; then
     run_scripts "$part"
     run_tests -k "$part"
-    say_what_is_left_out
+    list_skipped
     exit
 fi
 
-# The commit, and whether it is what is checked.
+# The commit, and whether there are changes after it.
 commit=$(git rev-parse HEAD 2> /dev/null || echo unknown)
 [ -z "$(git status --porcelain 2> /dev/null)" ] || commit+=', and changes'
 [ $# -eq 0 ] || commit+=', without its wrong bodies'
@@ -103,18 +103,18 @@ echo "commit $commit"
 gate() {
     local sources
     sources=$(python3 bindings/sources.py)
-    rm -rf crates/*/out/rlib # what rt ci finds it puts back, over its own
+    rm -rf crates/*/out/rlib # rt ci would put back what it finds, over its own results
     rt ci 2>&1 | tee "$scratch/gate" | sed '$d' || {
         tail -n 1 "$scratch/gate"
         return 1
     }
-    echo "$sources" > crates/chinese_number/out/gate # bindings/library.sh goes by it
+    echo "$sources" > crates/chinese_number/out/gate # bindings/library.sh compares it
 }
 
 run_scripts ''
 run_tests "${at_once[@]}" -m 'not built and not packages'
 
-# What a clone has, by itself and with no `rt` on the path.
+# A clone's files, by themselves and without `rt` on the path.
 mkdir "$scratch/clone"
 tar -c README.md README.zh.md bindings checks dist docs test.py tests | tar -x -C "$scratch/clone"
 without_rt=$(tr : '\n' <<< "$PATH" | grep -vxF "$(dirname "$(command -v rt)")" | paste -sd :)
@@ -128,12 +128,12 @@ if [ $# -gt 0 ]; then
 fi
 time gate
 
-# The programs, and the library for other languages, made of what the gate has proved.
+# The programs, and the library for other languages, made from what the gate has proved.
 time bash bindings/archive.sh "$scratch/library"
 time python3 bindings/dist.py again "$scratch/library"
 run_tests "${at_once[@]}" --library "$scratch/library" -m built
 
-# The wrong bodies, and the mutants of what changed, over the libraries that the gate has left.
+# The wrong bodies, and the mutants of what changed, with the libraries that the gate has built.
 passed=$(sed -n '$s/ passed, 0 failed$//p' "$scratch/gate")
 if [ $# -eq 0 ]; then
     time python3 checks/mutants.py --built --gate --minutes 6 | tee "$scratch/mutants"
@@ -142,7 +142,7 @@ if [ $# -eq 0 ]; then
     passed=$((passed + refused))
 fi
 
-# What users install, with the gate of just now.
+# The packages that users install, with the result of this gate.
 {
     echo "commit $commit"
     sed '$d' "$scratch/gate"
@@ -152,5 +152,5 @@ fi
 time bash bindings/packages.sh --draft "$scratch/packages" "$scratch/checked"
 run_tests "${at_once[@]}" --packages "$scratch/packages" -m packages
 
-say_what_is_left_out
+list_skipped
 tail -n 1 "$scratch/checked"

@@ -1,20 +1,20 @@
 #!/usr/bin/env python3
-"""Tests the library as a clone has it, without its toolchain and without a network.
+"""Tests the library in a clone, without its toolchain and without a network.
 
 Usage: python3 test.py
 
-It takes some 40 seconds on four cores, and needs Python from 3.8 on and a C compiler; CC and CXX
-may name others.
+It takes about 40 seconds on four cores, and needs Python 3.8 or later and a C compiler; CC and CXX
+can name other compilers.
 
-- The C source in dist/ is compiled. What it answers to 126,507 numbers, quantities, amounts, dates
-  and texts has to have the sum that the answers of the proved archive have, by dist/PROVENANCE.json.
-- Each language that is here is asked the rows of tests/rows, and the worked rows and examples of
-  README.md and docs/. What is not here is left out, and named.
-- How well numbers are found and written in figures in the sentences of tests/corpus.tsv is reported
-  by genre. The test fails where too few are right or too many wrong, by the bars of tests/corpus.py.
+- The C source in dist/ is compiled. Its answers to 126,507 numbers, quantities, amounts, dates and
+  texts must have the same sum as those of the proved archive, which is in dist/PROVENANCE.json.
+- Each language that is installed answers the rows of tests/rows, and the worked rows and examples
+  of README.md and docs/. Languages that are not installed are skipped and named.
+- The test reports by genre how well numbers are found and written in figures in the sentences of
+  tests/corpus.tsv. It fails if too few are right or too many wrong, by the bars of tests/corpus.py.
 
-Each language has a program `answers` in bindings/. It is given questions, a line each, of words
-parted by tabs. An answer is `ok` and what the call gives, or `err` and the error's text:
+Each language has a program `answers` in bindings/. It gets questions, a line each, of words
+separated by tabs. An answer is `ok` and the result of the call, or `err` and the error's text:
 
     read KIND WAY TEXT                  the number of a text; docs/RULES.md has these names, and
                                         `any` is either way
@@ -69,15 +69,15 @@ SHARED = {"darwin": "dylib", "win32": "dll"}.get(sys.platform, "so")
 
 
 class LeftOut(Exception):
-    """Why a language is not asked."""
+    """Why a language is skipped."""
 
 
 class Failed(Exception):
-    """What a command said that did not end well."""
+    """The output of a command that failed."""
 
 
 def run(*words, text="", **more):
-    """What a command answers to a text, where it ends well."""
+    """The output of a command for an input, if it succeeds."""
     words = [str(word) for word in words]
     pipes = {"stdout": subprocess.PIPE, "stderr": subprocess.PIPE}
     try:
@@ -91,7 +91,7 @@ def run(*words, text="", **more):
 
 
 def compiler(variable, *names):
-    """The words with which a compiler's call begins: the variable's, else a name that is there."""
+    """The first words of a compiler's call: those of the variable, else an installed name."""
     named = shlex.split(os.environ.get(variable, ""))
     for words in [named] if named else [[name] for name in names]:
         if shutil.which(words[0]):
@@ -100,7 +100,7 @@ def compiler(variable, *names):
 
 
 def needs(tool, *least):
-    """Refuses a tool that is not there, or older than that."""
+    """Skips a language whose tool is missing or too old."""
     if not shutil.which(tool):
         raise LeftOut(f"there is no {tool}")
     word = "version" if tool == "go" else "--version"
@@ -111,7 +111,7 @@ def needs(tool, *least):
 
 
 class Clone:
-    """What is made in a scratch folder, of what the clone has."""
+    """What is built in a scratch folder from the clone."""
 
     def __init__(self, scratch):
         self.scratch, self.object = scratch, scratch / "chinese_number.o"
@@ -164,6 +164,10 @@ class Clone:
         return run("node", BINDINGS / "web/answers.mjs", text=asked)
 
 
+# To add a language, also change bindings/README.md, COPIES of bindings/dist.py, .gitattributes,
+# tests/test_clone.py with a program in tests/users, checks/codes.py, checks/quotes.py,
+# checks/debian-packages, README.md and docs/, and add tests/test_NAME.py. If it has a package, also
+# change bindings/packages.sh, bindings/packages.py and tests/test_packages.py.
 LANGUAGES = {
     "C": Clone.c,
     "C++": Clone.cpp,
@@ -175,12 +179,12 @@ LANGUAGES = {
 
 
 def of_archive():
-    """What `same 1000` of checks/same.c shows over the proved archive."""
+    """What `same 1000` of checks/same.c prints for the proved archive."""
     return json.loads((DIST / "PROVENANCE.json").read_text(encoding="utf-8"))["answers"]
 
 
 def wrong_rows(rows, answers):
-    """The rows that are answered otherwise, each in words."""
+    """The rows with wrong answers, as text."""
     missing = ["nothing"] * (len(rows) - len(answers))
     for (question, wanted), answer in zip(rows, [*answers, *missing]):
         if answer != wanted:
@@ -188,11 +192,11 @@ def wrong_rows(rows, answers):
 
 
 def told(name, rows, asking):
-    """Says how a test ended: how many rows passed, and how many failed."""
+    """Prints the result of a test; returns how many rows passed, and how many failed."""
     try:
         wrong = list(wrong_rows(rows, asking.result().splitlines()))
     except LeftOut as why:
-        print(f"{name}: left out, since {why}")
+        print(f"{name}: skipped, since {why}")
         return 0, 0
     except Failed as why:
         print(f"{name}: 0 passed, {len(rows)} failed\n{why}")
@@ -203,12 +207,12 @@ def told(name, rows, asking):
 
 
 def told_of_sentences(asking):
-    """Says how the sentences of the corpus came out: how many bars are reached, and how many are
-    missed."""
+    """Prints the report on the sentences of the corpus; returns how many bars are reached, and how
+    many are missed."""
     try:
         lines, missed = corpus.report(asking.result().splitlines())
     except Failed as why:
-        print(f"Sentences: not asked\n{why}")
+        print(f"Sentences: not tested\n{why}")
         return 0, len(corpus.BARS)
     print("Sentences of tests/corpus.tsv, in C:", *lines, sep="\n")
     print(*(f"    missed: {it}" for it in missed), sep="\n", end="\n" if missed else "")

@@ -31,7 +31,8 @@ HERE, PROVENANCE = TOP / "bindings", "dist/PROVENANCE.json"
 TARGET, ARCHIVE = "wasm64-unknown-unknown", "libchinese_number.a"
 REMEDY = "run `python3 bindings/dist.py make`, which takes the toolchain"
 MADE = ("chinese_number.c", "chinese-number.32.wasm", "chinese-number.64.wasm")
-# Each copy, and its original.
+# Each copy, and its original. A new file of dist/ also needs a line in .gitattributes, and a script
+# that makes it a line in SCRIPTS of sources.py.
 COPIES = {
     "dist/CMakeLists.txt": "bindings/source/CMakeLists.txt",
     "dist/LICENSE": "LICENSE",

@@ -1,39 +1,47 @@
 #!/usr/bin/env python3
-"""The codes, statuses and error texts of the library's other faces: those of its own sources.
+"""Compares the codes, statuses and error texts of the bindings with those of the library's sources.
 
 Usage: codes.py CN_C BINDINGS
 
-The tables of `codes.rt` give a way, script, case or form its place as its code, and two of its
-functions a type and a unit its number; `ANY` is the way behind the others; `status.rt`, `flags.rt` and `quantity_form.rt` name the statuses, the flags of
-what is found, with the codes of doubts and the options of what is replaced, and the forms of a
-quantity. The header, the Rust crate, the Python file and the Go
-file name each of them once, with the same number or in this order, and no other, as the JavaScript
-file lists them; but what a form is made of is named by the header alone, of which Go also takes the
-flags, the options and the most bytes. The header declares each
-call that the crate exports, and no language has any other. Alike, too, are the most bytes of a
-text of each kind, which a clause of each file in BOUNDS bounds; the status of the C source alone
-for a text that is too long, and how long that is; the version of all, which is that of the first
-heading of CHANGELOG and of the packages that the pages of `bindings/` install; and the authors, who
-are those of LICENSE. The texts of refusals are those of `Refusal.antt`, and of amounts, figures and
-dates those of each `ErrorText.antt`, wherever they are written again.
+The sources define them in these files:
+
+- `codes.rt`: the code of a way, script, case or form is its index in a table, `ANY` is the way
+  after these, and two functions number the types and the units.
+- `status.rt`, `flags.rt` and `quantity_form.rt`: the statuses, the flags of what is found with the
+  codes of doubts and the options of replacing, and the forms of a quantity.
+
+The header, the Rust crate, the Python file and the Go file must name each of these once, with the
+same number or in this order, and nothing else. The JavaScript file lists them. Only the header
+names the parts of a form, and Go takes the flags, the options and the greatest lengths from the
+header.
+
+The header must declare each call that the crate exports, and no language any other call. These must
+agree too:
+
+- the greatest length of each kind of text, which a clause in each file of BOUNDS gives;
+- the status of the C source for a text that is too long, and that length;
+- the version, also in the first heading of CHANGELOG and in the packages that the pages of
+  `bindings/` install;
+- the authors, with LICENSE;
+- the texts of refusals, with `Refusal.antt` and each `ErrorText.antt`, wherever they are repeated.
 """
 import re
 import sys
 from pathlib import Path
 
 TABLES = ("KINDS", "WAYS", "SCRIPTS", "CASES", "FORMS", "UNITS")
-# The files of the others, which give each name its number.
+# The source files in which each name has a number.
 NUMBERED = {
     "QUANTITY_FORMS": "src/quantity_form.rt",
     "FLAGS": "src/flags.rt",
     "STATUSES": "src/status.rt",
 }
-# In the file of the flags: the code of each doubt; and those of the flags that are options alone.
+# In the file of the flags: the code of each doubt, and the first code that is an option.
 DOUBT = re.compile(r"Doubt::(\w+)\)? => (\d+)")
 FIRST_OPTION = 16
 ANY = re.compile(r"^pub const ANY: u32 = (\d+);", re.MULTILINE)
 TABLE = re.compile(r"^pub static (\w+): \[.*?\] = \[(.*?)\];", re.MULTILINE | re.DOTALL)
-# A function that gives each of a kind a number.
+# A function that maps each code to a variant.
 NUMBERING = re.compile(
     r"^pub fn (\w+)_of\(code: u32\)[^}]*\}\n\{\n    Some\(match code \{\n(.*?)\n    \}\)",
     re.MULTILINE | re.DOTALL,
@@ -48,7 +56,7 @@ END_OF_TABLE = re.compile(r"\n\}[ \w]*;?\n|\n\)\n|\n\n\n")
 
 HEADER, RUST, PYTHON = "c/chinese_number.h", "rust/src/abi.rs", "python/chinese_number/__init__.py"
 GO, JAVASCRIPT = "go/choices.go", "web/chinese-number.mjs"
-# The second file of a face.
+# The second file of a binding.
 MORE = {
     RUST: "rust/src/lib.rs",
     PYTHON: "python/chinese_number/_library.py",
@@ -93,7 +101,7 @@ BEGINNINGS = {
         "OPTIONS": "# The options of quantities_to_figures,",
         "STATUSES": "class Status(",
     },
-    # It has the flags and the most bytes of the header itself.
+    # Go takes the flags and the greatest lengths from the header.
     GO: {
         "KINDS": "type kind ",
         "WAYS": "type Way ",
@@ -107,20 +115,21 @@ BEGINNINGS = {
 }
 # The inherited name of a script, which the crates in Rattle and Rust keep.
 INHERITED = {"simple": "simplified"}
-# How each language names what no call of the crate answers, but the C source made of it.
+# How each language names the status that only the C source returns, and no call of the crate.
 TOO_LONG = {
     HEADER: "#define CN_TOO_LONG UINT32_MAX\n",
     RUST: "pub const TOO_LONG: u32 = u32::MAX;\n",
     PYTHON: "\n_TOO_LONG = 2**32 - 1\n",
     GO: "\nconst TooLong Status = math.MaxUint32\n",
 }
-# The C source's text begins at an address of 32 bits, and so has a most length, which these files name.
+# Texts of the C source have 32-bit addresses, and so a greatest length, which these files name.
 SOURCE = "source/chinese_number.c.in"
 OF_LENGTH = (HEADER, RUST, PYTHON, "source/README.md", MORE[RUST], GO, "go/doc.go", "go/README.md")
 EXPORTED = re.compile(r'^pub (?:unsafe )?extern "C" fn (\w+)', re.MULTILINE)
 CALL = r"chinese_(?:number|quantity|quantities|(?:signed_|typed_)?amount|figures|date)_\w+"
 CALLED = re.compile(rf"\b({CALL})\(|\blibrary\.({CALL})")
-# The most bytes of a text: what each language names so, and the file whose clauses have it.
+# The greatest length of each kind of text: its name in each language, and the file whose clauses
+# give it.
 BOUNDS = {
     "MOST_BYTES": "src/printing.rt",
     "MOST_QUANTITY_BYTES": "src/quantity_text.rt",
@@ -137,12 +146,14 @@ VERSIONS = (
     (PYTHON, r'^__version__ = "(.*)"'),
     ("../CHANGELOG.md", r"^## ([\d.]+)"),
 )
+# An address of the project, once there is one, goes into the last two of these files and into
+# METADATA of bindings/python/build_wheel.py.
 AUTHORS = (
     ("../LICENSE", r"^Copyright \(c\) \d+ (.*)"),
     ("rust/Cargo.toml", r'^authors = \["(.*)"\]'),
     ("web/package.json", r'^  "author": "(.*)"'),
 )
-# Where the texts of refusals are written again, from the repository's top.
+# The files that repeat the texts of refusals, relative to the top of the repository.
 REFUSALS = "crates/cn_core/specs/Refusal.antt"
 OF_READERS = (
     "bindings/c/chinese_number.h",
@@ -185,7 +196,7 @@ def text_of(path):
 
 
 def found_by(bindings, patterns):
-    """What stands in each of these files, by its pattern."""
+    """What the pattern of each of these files matches."""
     return {
         re.search(pattern, text_of(bindings / file), re.MULTILINE)[1] for file, pattern in patterns
     }
@@ -202,7 +213,7 @@ def numbered(names):
 
 
 def forms_of(table):
-    """What a form is made of, each with its bit. The table has each sum of them at its place, behind
+    """The parts of a form, each with its bit. The table has each sum of them at its index, after
     the plain form."""
     forms = [re.findall(r"(\w+): (true|false)", it) for it in re.findall(r"\{([^}]*)\}", table)]
     names = [name for name, _ in forms[0]]
@@ -221,7 +232,7 @@ def of_sources(crate):
         for name, arms in NUMBERING.findall(text)
     }
     if sorted([*tables, *found]) != sorted(TABLES):
-        sys.exit(f"codes: codes.rt has {[*tables, *found]}, and not {list(TABLES)}")
+        sys.exit(f"codes: codes.rt has {[*tables, *found]} instead of {list(TABLES)}")
     for name, table in tables.items():
         names = re.findall(r"(\w+)\)?\s*(?:,|$)", table.strip())
         found[name] = numbered(map(inherited, names))
@@ -236,8 +247,8 @@ def of_sources(crate):
 
 
 def parted(name, table):
-    """The flags and the options each without the others; and the doubts by their own names, which are
-    listed from 1 on, without that there is none."""
+    """The flags without the options, or the options without the flags; the doubts under their own
+    names and numbered from 1, without `no_doubt`."""
     if name in ("FLAGS", "OPTIONS"):
         are_options = name == "OPTIONS"
         return {it: code for it, code in table.items() if (code >= FIRST_OPTION) == are_options}
@@ -255,7 +266,7 @@ def inherited(name):
 def of_table(text):
     named = NAMED.findall(text) + DEFINED.findall(text)
     if len(dict(named)) != len(named):
-        sys.exit(f"codes: a name stands twice: {named}")
+        sys.exit(f"codes: a name occurs twice: {named}")
     return {snake(name): int(code) for name, code in named} or numbered(
         map(snake, LISTED.findall(text))
     )
@@ -265,7 +276,7 @@ def of_language(language, text):
     found = {}
     for name, beginning in BEGINNINGS[language].items():
         if text.count(beginning) != 1:
-            sys.exit(f"codes: {language}: {beginning!r} stands there {text.count(beginning)} times")
+            sys.exit(f"codes: {language}: {beginning!r} occurs {text.count(beginning)} times")
         table = of_table(END_OF_TABLE.split(text.split(beginning)[1])[0])
         if language == RUST and name == "SCRIPTS":
             table = {inherited(it): code for it, code in table.items()}
@@ -274,7 +285,7 @@ def of_language(language, text):
 
 
 def of_lists(text):
-    """The tables of the JavaScript file: the names in the order of their codes, or of their bits."""
+    """The tables of the JavaScript file: names in the order of their codes or their bits."""
     found = {}
     for name in BEGINNINGS[PYTHON]:
         listed = re.search(rf"\b{name} =[^\[]*?\[((?:\s*'\w+',?)+)\]", text)[1]
@@ -286,30 +297,31 @@ def of_lists(text):
 
 
 def compare_calls(crate, texts):
-    """The header declares the calls that the sources export, and no language any other; how many there are."""
+    """Checks that the header declares the calls that the sources export, and that no language has
+    any other; returns their number."""
     wanted = {name for path in crate.glob("src/*.rt") for name in EXPORTED.findall(text_of(path))}
     for language, text in texts.items():
         found = {one or other for one, other in CALLED.findall(text)}
         if not found or not found <= wanted or language == HEADER and found != wanted:
             sys.exit(
-                f"codes: {language} has the calls {sorted(found)}, and the crate exports {sorted(wanted)}"
+                f"codes: {language} has the calls {sorted(found)}, and the crate {sorted(wanted)}"
             )
     return len(wanted)
 
 
 def texts_of(path, name, count):
-    """The texts that a definition gives, up to a position."""
+    """The texts that a definition has, up to a position."""
     found = [
         text.strip()
         for text in re.findall(rf'^{name} \S.*?codes "([^"(]*)', text_of(path), re.M | re.S)
     ]
     if len(found) != count:
-        sys.exit(f"codes: {path} has the texts {found}, and not {count}")
+        sys.exit(f"codes: {path} has the texts {found} instead of {count}")
     return found
 
 
 def compare_bounds(crate, texts):
-    """Each language has as many bytes for a text as the crate's clauses say."""
+    """Checks that each language has the greatest lengths of the crate's clauses."""
     for name, file in BOUNDS.items():
         bounds = set(re.findall(r"≤ (\d+)", text_of(crate / file)))
         for language, text in texts.items():
@@ -319,7 +331,7 @@ def compare_bounds(crate, texts):
 
 
 def compare_length(bindings):
-    """Each file that names the length of a text that the C source refuses names the same."""
+    """Checks that each file names the same length for a text that the C source refuses."""
     named = dict(
         re.findall(
             r"^#define (\w+_OF_TEXT) UINT\d+_C\((\d+)\)", text_of(bindings / SOURCE), re.MULTILINE
@@ -332,12 +344,12 @@ def compare_length(bindings):
         found = set(re.findall(r"more than ([\d,]+) bytes", text_of(bindings / file)))
         if {int(length.replace(",", "")) for length in found} != {most}:
             sys.exit(
-                f"codes: {file} has texts of at most {sorted(found)} bytes, and {SOURCE} of {most}"
+                f"codes: {file} has texts of at most {sorted(found)} bytes, but {SOURCE} of {most}"
             )
 
 
 def compare_refusals(top):
-    """Each text of a refusal, up to the position that one of them has, stands in each file."""
+    """Checks that each file has each text of a refusal, up to the position that one of them has."""
     texts = texts_of(top / REFUSALS, "refusal_text", 4)
     read = [
         text
@@ -345,7 +357,7 @@ def compare_refusals(top):
         for text in texts_of(top / path, "reading_error_text", 2)
     ]
     figures = texts_of(top / REFUSALS_OF_FIGURES, "refusal_text", 3)
-    # The other one is out of memory, which is no refusal.
+    # The other one is out of memory, which is not a refusal.
     of_printers = (*REFUSALS_OF_CAPITALS, REFUSALS_OF_QUANTITIES)
     printed = [texts_of(top / path, "writing_error_text", 2)[0] for path in of_printers]
     for files, wanted in (
@@ -358,7 +370,7 @@ def compare_refusals(top):
         for file in files:
             for text in wanted:
                 if not re.search(f"(?:[\"'`]|err ){text}", text_of(top / file)):
-                    sys.exit(f"codes: {file} lacks the text {text!r} of a refusal")
+                    sys.exit(f"codes: {file} has no text {text!r} of a refusal")
 
 
 def main():
@@ -372,12 +384,12 @@ def main():
     texts[JAVASCRIPT] = text_of(bindings / JAVASCRIPT)
     found[JAVASCRIPT] = of_lists(texts[JAVASCRIPT])
     wanted = of_sources(crate)
-    # Before the crate has options, those of the header count.
+    # If the crate has no options, those of the header count.
     wanted["OPTIONS"] = wanted["OPTIONS"] or found[HEADER]["OPTIONS"]
     for language, tables in found.items():
         for name, table in tables.items():
             if table != wanted[name] or not table:
-                sys.exit(f"codes: {name} of {language}: {table}, and not {wanted[name]}")
+                sys.exit(f"codes: {name} of {language}: {table} instead of {wanted[name]}")
 
     authors, versions = found_by(bindings, AUTHORS), found_by(bindings, VERSIONS)
     for page in ("README.md", "web/README.md", "web/README.zh.md"):
@@ -393,13 +405,13 @@ def main():
         sys.exit(f"codes: versions {sorted(versions)}, and authors {sorted(authors)}")
     for language, line in TOO_LONG.items():
         if texts[language].count(line) != 1:
-            sys.exit(f"codes: {language} lacks the line {line.strip()!r}")
+            sys.exit(f"codes: {language} has no line {line.strip()!r}")
     calls = compare_calls(crate, texts)
     compare_bounds(crate, {it: text for it, text in texts.items() if it != GO})
     compare_length(bindings)
     compare_refusals(bindings.resolve().parent)
     print(
-        f"codes: {calls} calls, {sum(map(len, wanted.values()))} codes and statuses, alike in C, Rust, Python, JavaScript and Go, of version {versions.pop()}"
+        f"codes: {calls} calls, {sum(map(len, wanted.values()))} codes and statuses, the same in C, Rust, Python, JavaScript and Go, version {versions.pop()}"
     )
 
 

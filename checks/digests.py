@@ -1,9 +1,10 @@
-"""What a function's contract rests on, and a digest of it.
+"""The definitions that a function's contract depends on, and a digest of them.
 
-A digest is of the text of an item without comments and layout, its contract among it, of the names of
-its mutants, and of each definition that these cite, transitively: in `specs/`, and of types, traits
-and constants in the sources. What the library of the toolchain defines is left out, and so are the
-contracts of functions that are called: if one of them becomes too weak, the caller's own proof fails.
+A digest covers the text of an item with its contract, without comments and layout; the names of
+its mutants; and each definition that these cite, directly or indirectly: those of `specs/`, and
+types, traits and constants of the sources. It does not cover definitions of the toolchain's
+library, nor the contracts of functions that are called: if one of them becomes too weak, the
+caller's proof fails.
 """
 import hashlib
 import re
@@ -12,7 +13,7 @@ from functools import cache
 
 from items import files_of, module_of, without_comments
 
-# An import in a source or in `specs/`, without its words `ghost use`, `pub use` or `use`.
+# An import in a source or in `specs/`, without `ghost use`, `pub use` or `use`.
 IMPORT = re.compile(
     r"^ *(?:ghost |pub )?use (Rattle\.[\w.]+?)(?:\.\{([^}]*)\})?(?: as (\w+))?;?$", re.MULTILINE
 )
@@ -30,11 +31,11 @@ MIXFIX = "◌"
 
 
 class File:
-    """The definitions of a source or of a file in `specs/`, by name, and what the file imports."""
+    """The definitions of a source or of a file in `specs/`, by name, and its imports."""
 
     def __init__(self, crate, text, definitions):
         self.crate, self.definitions, self.imports = crate, definitions, {}
-        # The crate that a source takes a name from.
+        # The crate from which a source imports a name.
         self.used = {
             name: root for root, rest in USED.findall(text) for name in re.findall(r"\w+", rest)
         }
@@ -60,7 +61,7 @@ def definitions_of_specs(text):
 
 
 def named_by(line, found):
-    """What a line defines, or is a clause of."""
+    """The name that a line defines, or that it is a clause of."""
     words = WORDS.match(line)[1].split()
     signs = [it for it in words if it.startswith(MIXFIX) or it.endswith(MIXFIX)]
     if (
@@ -75,7 +76,7 @@ def named_by(line, found):
 
 
 def definitions_of_source(text):
-    """The types, traits and constants of a source; with a type comes its model."""
+    """The types, traits and constants of a source; a type includes its model."""
     text, found = without_comments(text), defaultdict(str)
     for head in BLOCK.finditer(text):
         found[head[1] or head[2] or head[3]] += block_at(text, head.start())
@@ -83,7 +84,7 @@ def definitions_of_source(text):
 
 
 def block_at(text, start):
-    """The item that begins at a place: to the `;` of its line, or to where its bracket closes."""
+    """The item that begins at an offset: to the `;` of its line, or to its closing bracket."""
     indent, is_open, at = re.match(r" *", text[start:])[0], False, start
     for line in text[start:].splitlines(keepends=True):
         at += len(line)
@@ -101,7 +102,7 @@ def block_at(text, start):
 
 
 def constructs(text, name):
-    """Whether a definition has a constructor or a field of a name."""
+    """Whether a definition has a constructor or a field with this name."""
     return re.search(rf"^  +(?:pub )?{re.escape(name)} :", text, re.MULTILINE) is not None
 
 
@@ -130,7 +131,7 @@ class Definitions:
                 self.aliases[f"Rattle.{crate}.specs.{alias or other.split('.')[-1]}"] = other
 
     def places(self, file, name, rest=None, seen=()):
-        """Where a name of a file is defined, each place with the name there; `rest` is what follows
+        """Where a name in a file is defined: each file with the name there. `rest` is what follows
         the name of a module."""
         own = self.files[file]
         if name in own.definitions:
@@ -146,7 +147,7 @@ class Definitions:
         )
 
     def exported(self, module, name, seen):
-        """Where a name of a module is defined, the module's or one that it passes on."""
+        """Where a name of a module is defined, also if the module re-exports it."""
         while module in self.aliases:
             module = self.aliases[module]
         if ".specs.declared." in module:
@@ -156,7 +157,8 @@ class Definitions:
         return self.places(module, name, None, seen) if module in self.files else set()
 
     def of_source(self, name, crate, is_used):
-        """The types, traits or constants of a name: the crate's, or all where it passes them on."""
+        """The types, traits or constants with this name: those of the crate, or all if it
+        re-exports them."""
         files = self.types.get(name, [])
         own = [it for it in files if it.startswith(f"{crate}/")] or files * is_used
         return {(it, name) for it in own}
@@ -173,7 +175,7 @@ class Definitions:
         return found
 
     def mixfix(self, file, words):
-        """The definitions of names with places for arguments, as `◌≡◌`, of which a part is cited."""
+        """The definitions of operators such as `◌≡◌` whose parts are cited."""
         names = [*self.files[file].imports, *self.files[file].definitions]
         signs = [it for it in names if MIXFIX in it and set(it.split(MIXFIX)) - {""} <= words]
         return set().union(*(self.places(file, name) for name in signs))
@@ -184,7 +186,7 @@ class Definitions:
         return self.cited(file, self.files[file].definitions[name])
 
     def closure(self, places):
-        """Definitions and all that they cite, transitively."""
+        """Definitions, and all that they cite directly or indirectly."""
         found, waiting = set(places), [*places]
         while waiting:
             new = self.cited_by(waiting.pop()) - found
@@ -197,14 +199,14 @@ class Definitions:
         return f"{file} {name} {' '.join(self.files[file].definitions[name].split())}"
 
     def rests_on(self, file, text):
-        """All definitions that a text of a file rests on."""
+        """All definitions that a text in a file depends on."""
         return self.closure(self.cited(file, text))
 
 
 def digest(definitions, crate, item, heads, names):
-    """The digest of an item; `heads` are of the functions that a constant can make wrong."""
+    """The digest of an item; `heads` are the heads of functions that a constant can make wrong."""
     file, text = f"{crate.name}/{item.file}", item.text[item.start : item.end]
-    if item.holder:  # its trait, and its ghost items
+    if item.holder:  # add its trait and its ghost items
         block = block_at(item.text, item.holder.start)
         text = block.partition("\n")[0] + "".join(GHOST.findall(block)) + text
     parts, found = [" ".join(text.split()), *names], definitions.rests_on(file, text)

@@ -1,10 +1,10 @@
 """Edits that make bodies wrong, as text.
 
-Those of a crate are in its file `wrong-bodies`, separated by empty lines, each below its name; a few
-are files `must-fail/NAME.edit`, which `rt ci` tries, and in which `# ` begins what `rt` does not read.
-An edit has a line `file:`, a line `refused:` with the functions that have to be refused for it, and
-pairs of lines `old:` and `new:`. After a `new:` that changes the shape of the code comes a line
-`twin:`, the same shape with the right value.
+The edits of a crate are in its file `wrong-bodies`, each below its name, with empty lines between
+them. A few are files `must-fail/NAME.edit`, which `rt ci` tries; there `rt` ignores the lines that
+begin with `# `. An edit has a line `file:`, a line `refused:` with the functions that the check
+must refuse, and pairs of lines `old:` and `new:`. A `new:` that changes the shape of the code is
+followed by a line `twin:`, the same shape with the right value.
 """
 from collections import namedtuple
 
@@ -34,7 +34,7 @@ def edits_of(crate):
 
 
 def read(name, text):
-    """An edit, by the text below its name."""
+    """The edit whose text this is, below its name."""
     file, refused, changes, old = None, (), [], None
     for line in text.split("\n"):
         word, _, value = line.removeprefix("# ").partition(": ")
@@ -49,9 +49,9 @@ def read(name, text):
         elif word == "twin" and changes:
             changes[-1] = changes[-1]._replace(twin=value)
         else:
-            raise ValueError(f"{name}: a line that no edit has: {line!r}")
+            raise ValueError(f"{name}: unknown line: {line!r}")
     if file is None or not refused or not changes:
-        raise ValueError(f"{name}: it lacks a line file:, refused:, old: or new:")
+        raise ValueError(f"{name}: there is no line file:, refused:, old: or new:")
     return Edit(name, file, refused, changes)
 
 
@@ -60,7 +60,7 @@ def has_twin(edit):
 
 
 def applied(edit, text, twin=False):
-    """The text of the edit's file after it; of its twin, if that is asked for."""
+    """The text of the edit's file after the edit, or after its twin."""
     for old, new, right in edit.changes:
         if text.count(old) != 1:
             raise ValueError(f"{old!r} occurs {text.count(old)} times in {edit.file}")

@@ -1,13 +1,14 @@
 #!/usr/bin/env python3
-"""Checks what the wrong bodies and the laws have to have beside a proof.
+"""Checks what wrong bodies and laws need besides a proof.
 
 Usage: edits.py CRATES
 
-- No two edits of a crate have one name, and the faults in the table of docs/DESIGN.md are edits.
-- Each law that has premises has a worked instance that meets all of them: a definition of its name
-  in a file `proofs/*Examples.antt`. A law is a function with an empty body in `src/laws.rt` or in
-  `src/laws/`; of those in `signed.rt` and `typed.rt` the instance's name begins with the file's, and
-  of a clause that has a name it ends with that.
+- No two edits of a crate have the same name, and each fault in the table of docs/DESIGN.md is an
+  edit.
+- Each law with premises has a worked instance that satisfies all of them: a definition of the law's
+  name in a file `proofs/*Examples.antt`. A law is a function with an empty body in `src/laws.rt` or
+  `src/laws/`. For laws in `signed.rt` and `typed.rt` the name of the instance begins with the name
+  of the file; for a named clause it ends with the name of the clause.
 """
 import re
 import sys
@@ -35,7 +36,7 @@ def has_premises(kind, statement):
 
 
 def instances_of(file):
-    """The names of the instances that the laws of a file have to have."""
+    """The names of the instances that the laws of a file need."""
     prefix = f"{file.stem}-" if file.stem in ("signed", "typed") else ""
     for law, text in LAW.findall(without_comments(file.read_text(encoding="utf-8"))):
         named = [it for it in CLAUSE.findall(text) if has_premises(it[0], it[2])]
@@ -44,7 +45,7 @@ def instances_of(file):
 
 
 def faults_of_laws(crates):
-    """The laws with premises that have no instance, and how many instances there are."""
+    """The laws with premises that have no instance, and all instances that laws need."""
     files = [*crates.glob("*/src/laws.rt"), *crates.glob("*/src/laws/*.rt")]
     wanted = [
         (file.relative_to(crates).parts[0], it) for file in files for it in instances_of(file)
@@ -59,7 +60,8 @@ def faults_of_laws(crates):
 
 
 def faults_of_edits(crates):
-    """The names of a crate that two edits have, and the faults of DESIGN that no edit has."""
+    """The names that two edits of a crate share, and the faults of DESIGN that are no edits; then
+    all edits."""
     edits = [
         (crate.name, edit.name)
         for crate in edit_files.crates_with_edits(crates)

@@ -1,14 +1,14 @@
 """The items of a crate that can be wrong: its functions, constants, tables and macros.
 
-Laws, whose bodies are empty, tests and ghost items are left out. The layout of `rt fmt` shows where
-an item begins and ends.
+Laws (their bodies are empty), tests and ghost items are skipped. The beginning and end of an item
+are found by the layout of `rt fmt`.
 """
 import re
 from collections import namedtuple
 from pathlib import Path
 
-# The path is as a check prints it; `start`, `begin` and `end` are the places in the file's text where
-# the item, its body and the rest of the file begin. `text` is that text without its comments.
+# `path` is the path that a check prints. `start`, `begin` and `end` are the offsets in the file at
+# which the item, its body and the rest of the file begin. `text` is the file without its comments.
 Item = namedtuple("Item", "path name kind file holder is_public start begin end text")
 
 HEAD = re.compile(
@@ -21,12 +21,12 @@ COMMENT = re.compile(rf"({QUOTED})|//[^\n]*", re.DOTALL)
 
 TESTS = re.compile(r"^#\[cfg\(test\)\]\nmod (\w+);", re.MULTILINE)
 
-# What holds an item: its name, its path, whether its items are public, and where it begins.
+# The trait or implementation of an item: name, path, whether its items are public, and its offset.
 Holder = namedtuple("Holder", "name path is_public is_trait_impl start")
 
 
 def files_of(crate):
-    """The sources of a crate without its modules of tests: each path with its text."""
+    """The sources of a crate without its test modules: each path with its text."""
     texts = {
         path.relative_to(crate).as_posix(): path.read_text(encoding="utf-8")
         for path in sorted(crate.glob("src/**/*.rt"))
@@ -36,7 +36,7 @@ def files_of(crate):
 
 
 def without_comments(text):
-    """A text whose comments are blank, so that each place stays the same."""
+    """The text with blanks instead of comments, so that offsets stay the same."""
     return COMMENT.sub(lambda it: it[1] or " " * len(it[0]), text)
 
 
@@ -50,7 +50,7 @@ def upper(word):
 
 
 def holder_of(line, start, module, modules):
-    """The implementation or trait that a line begins, if it begins one."""
+    """The implementation or trait that begins at a line, if any."""
     head = HOLDER.match(line)
     if not head:
         return None
@@ -67,7 +67,7 @@ def holder_of(line, start, module, modules):
 
 
 def exported(crate, texts):
-    """The names that the root of a crate exports, and its public modules."""
+    """The names that a crate's root exports, and its public modules."""
     root = texts.get("src/lib.rt", "")
     names = " ".join(re.findall(r"^pub use ([^;]*);", root, re.MULTILINE))
     names = set(re.findall(r"\w+\b(?!::)", names))
@@ -76,7 +76,7 @@ def exported(crate, texts):
 
 
 def items_of(crate):
-    """The items of a crate, in the order of its sources."""
+    """The items of a crate, in source order."""
     texts = {file: without_comments(text) for file, text in files_of(crate)}
     names, open_modules = exported(crate, texts)
     modules = {
@@ -106,7 +106,7 @@ def items_of(crate):
 
 
 def body_of(lines, start, head):
-    """The first line of a body, or of a value, and the first line after it."""
+    """The number of the first line of a body or value, and of the first line after it."""
     stripped = [line.rstrip() for line in lines[start:]]
     if head[3] != "fn":
         ends = [head[1] + it for it in ("}", "};", "];", ");")]

@@ -1,7 +1,7 @@
 """What the crates define, by name: enums, structs, constants, functions and their types.
 
-It is read off the sources as text. Of functions and fields of one name those of the own crate count;
-where these differ, none.
+It is taken from the sources as text. If several functions or fields share a name, those of the same
+crate count; if these have different types, none counts.
 """
 import re
 from collections import defaultdict, namedtuple
@@ -18,12 +18,12 @@ FUNCTION = re.compile(
     r"\(([^)]*)\)(?:\s*-> ([^\n{;]+))?",
     re.MULTILINE,
 )
-# A function that only hands its parameters on to another one.
-HANDS_ON = re.compile(
+# A function that only passes its parameters to another one.
+FORWARDS = re.compile(
     r"\bfn (\w+)\([^)]*\)[^{}]*?(?:ensures \{[^;]*?\}\n)?\{\n    (\w+)\([\w, ]*\)\n\}"
 )
-# A function or a method: where it is defined, whether it takes `self`, the types of its other
-# parameters, and that of what it returns.
+# A function or a method: its place, whether it takes `self`, the types of its other parameters, and
+# its result type.
 Function = namedtuple("Function", "file holder takes_self types result")
 # Methods and macros of std that have the same signature.
 ALIKE = "first last|min max|next next_back|is_some is_none|is_ok is_err|starts_with ends_with"
@@ -58,13 +58,13 @@ def parameters(words):
 
 
 class Known:
-    """The definitions of all crates. A place is the name of a crate and a file in it."""
+    """The definitions of all crates. A place is CRATE/FILE."""
 
     def __init__(self, crates):
         self.variants, self.values = {}, defaultdict(dict)
         self.functions, self.fields = defaultdict(list), defaultdict(list)
         self.constants, self.imports, self.defined = {}, {}, defaultdict(set)
-        self.handed_on = set()
+        self.forwarded = set()
         for crate in sorted(crates):
             for file, text in files_of(crate):
                 self.read(f"{crate.name}/{file}", without_comments(text))
@@ -77,8 +77,8 @@ class Known:
                 same = [it for it, other in FIELD.findall(block) if other == kind]
                 self.fields[field].append((file, kind, next_of(field, same)))
             self.defined[file].add(name)
-        for both in HANDS_ON.findall(text):
-            self.handed_on |= {both, both[::-1]}
+        for both in FORWARDS.findall(text):
+            self.forwarded |= {both, both[::-1]}
         holders = [(0, None)]
         for line in re.finditer(r"^(?:impl|pub trait|trait)\b.*", text, re.MULTILINE):
             holder = holder_of(line[0], line.start(), [], {})
@@ -108,19 +108,19 @@ class Known:
 
     @cache
     def of(self, name, crate):
-        """The functions of a name, where all that count have the same types."""
+        """The functions of a name, if all that count have the same types."""
         own = own_of(self.functions.get(name, []), crate)
         return own if len({(it.types, it.result) for it in own}) == 1 else []
 
     @cache
     def field(self, name, crate):
-        """The type of a field, and another one of its type in its struct."""
+        """The type of a field, and another field of this type in its struct."""
         own = own_of(self.fields.get(name, []), crate)
         return own[0][1:] if len({it[1:] for it in own}) == 1 else (None, None)
 
     @cache
     def fixed(self, kind, place):
-        """Fixed values of a type that a file can name."""
+        """Fixed values of a type that the code of a file can name."""
         if INTEGER.fullmatch(kind):
             return ["0"]
         if kind in FIXED:
@@ -138,7 +138,7 @@ class Known:
 
     @cache
     def other_function(self, name, place, is_method):
-        """A function of the same signature that can be called in the same place."""
+        """A function with the same signature that can be called in the same place."""
         if name in ALIKE:
             return ALIKE[name]
         found = self.of(name, place.partition("/")[0])
@@ -150,7 +150,7 @@ class Known:
             for other, its in self.functions.items()
             if its[0][1:] == one[1:]
             and (its[0].file == one.file if is_method else other in visible)
-            and (name, other) not in self.handed_on
+            and (name, other) not in self.forwarded
         ]
         return next_of(name, alike)
 
@@ -164,12 +164,12 @@ class Known:
 
 
 def own_of(found, crate):
-    """Those of a crate, or all where it has none."""
+    """Those of a crate, or all if it has none."""
     return [it for it in found if it[0].startswith(f"{crate}/")] or found
 
 
 def next_of(one, alike):
-    """The next of those that are alike, or none."""
+    """The next one in a list of alternatives, or None."""
     alike = list(dict.fromkeys(alike))
     other = alike[(alike.index(one) + 1) % len(alike)] if one in alike else one
     return None if other == one else other

@@ -1,18 +1,18 @@
-//! A printer and a reader by `TenThousand` in plain Rust: what docs/SPEED.md compares the library
-//! with, beside the upstream crate. They do what `bench` does, over the same numbers, and give the
-//! same sum:
+//! A printer and a reader with `TenThousand` in plain Rust, with which docs/SPEED.md compares the
+//! library, as well as with the upstream crate. They do what `bench` does, over the same numbers,
+//! and print the same sum:
 //!
 //!     rustc --edition 2021 -O checks/lean.rs -o lean && time ./lean print u64 1000
 //!
-//! The printer goes from the highest group of four digits down; the reader takes what the printer
-//! writes, and colloquial endings, and refuses units that do not go down.
+//! The printer starts at the highest group of four digits. The reader accepts what the printer
+//! writes and colloquial endings, and refuses units that do not decrease.
 
 const DIGITS: [char; 10] = ['零', '一', '二', '三', '四', '五', '六', '七', '八', '九'];
 const UNITS: [char; 4] = [' ', '十', '百', '千'];
 const GROUPS: [char; 10] = [' ', '萬', '億', '兆', '京', '垓', '秭', '穰', '溝', '澗'];
 const PART: u128 = 10_u128.pow(16);
 
-/// Pushes a group of four digits behind what stands in front of it.
+/// Appends a group of four digits.
 fn push_group(text: &mut String, group: u16) {
     let mut divisor = 1000;
     let mut gap = false;
@@ -144,7 +144,7 @@ fn next(state: &mut u64) -> u64 {
     *state
 }
 
-/// The numbers of `bench`: of `u64` of one to twenty digits, else of one to thirty-nine.
+/// The numbers of `bench`: for `u64` of one to twenty digits, else of one to thirty-nine.
 fn numbers(narrow: bool) -> Vec<u128> {
     let state = &mut 0x9e37_79b9_7f4a_7c15;
     let wide = |i: u32, state: &mut u64| {

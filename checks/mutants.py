@@ -1,32 +1,33 @@
 #!/usr/bin/env python3
-"""Shows what contracts let through: of each function, which mutants of its body are proved.
+"""Shows what the contracts accept: for each function, which mutants of its body are proved.
 
 Usage: mutants.py [--built] [--at-once N] [--minutes N] [--gate | --compare] [CRATE ..]
 
-mutate.py says what a mutant is. A verdict is a line of `crates/NAME/verdicts`: the digest of a
-function, as digests.py makes it, a letter for each of its mutants in order, and its path.
+mutate.py describes a mutant. A verdict is a line of `crates/NAME/verdicts`: the digest of a
+function (digests.py), a letter for each of its mutants in order, and the path of the function.
 
     r   refused by a goal of the function, or by a lemma
-    f   refused only because a written proof names something that the mutant removed
+    f   refused only because a hand-written proof names something that the mutant removed
     l   refused, but not decided: the search or the check stopped at a limit
-    s   proved, since it answers the same; a comment above the function lists it and says why:
+    s   proved, because it gives the same answer; a comment above the function gives the reason:
         // Same answer (2 → 3, len → 0): the reason.
     -   it does not compile
     .   waiting: not tried yet
 
-A verdict holds while its digest stays, so a changed function, contract or definition makes exactly
-the functions that rest on it run again, before any others that wait. Without CRATE all
-crates are tried, without --minutes all that waits; a run that is stopped keeps what it has judged.
-Mutants are planted in a copy of a crate, in rounds, and one check judges a round: the functions that
-they can make wrong and those that these call, over what `rt check` left in the crate's folder. Before
-the first, `rt lib` makes the libraries below, but with --built they are those that there are.
+A verdict is valid as long as its digest is the same. So a change of a function, contract or
+definition tries exactly the functions that depend on it again, before any others that wait. Without
+CRATE all crates are tried, without --minutes all that waits; a run that is stopped keeps its
+verdicts. Mutants are planted in a copy of a crate, in rounds. One check judges a round: it checks
+the functions that the mutants can make wrong and the functions that these call, and continues from
+the results of `rt check` in the crate's folder. `rt lib` first builds the libraries below; with
+--built the existing ones are used.
 
-It fails where a mutant is proved and no comment lists it, where a comment lists what is refused or is
-no mutant, and where all mutants of a public function are tried and none is `r` or `l`, unless an edit
-of `wrong-bodies` or `must-fail/` is refused in it. With --gate no file is changed, and of mutants that
-had waited this is only reported. --compare tries nothing. A release is made only where nothing waits.
---minutes is of processor time: a round begins only where 2.5 of them are left, which it takes as a
-rule.
+The script fails if a mutant is proved and no comment lists it, if a comment lists a mutant that is
+refused or does not exist, or if all mutants of a public function are tried and none is `r` or `l`,
+unless an edit of `wrong-bodies` or `must-fail/` is refused in it. With --gate no file is changed,
+and such faults of mutants that had waited are only reported. --compare tries nothing. A release is
+made only if nothing waits. --minutes limits the processor time: a round begins only if 2.5 minutes,
+the usual time of a round, are left.
 """
 import argparse
 import os
@@ -49,17 +50,17 @@ from planting import AT_LIMIT, BY_LEMMA, CRATES, ONLY_GONE, PROVED, REFUSED, UNC
 UNREAD, ENDLESS = "it does not compile", "its check does not end"
 LETTERS = {REFUSED: "r", BY_LEMMA: "r", ONLY_GONE: "f", AT_LIMIT: "l", UNCLEAR: "l", ENDLESS: "l"}
 LETTERS |= {PROVED: "s", UNREAD: "-"}
-# The gravest first.
+# The most serious first.
 KINDS = [REFUSED, BY_LEMMA, AT_LIMIT, UNCLEAR, ONLY_GONE, WAITING, PROVED]
-# How a mutant is planted: with any others; with others that, like it, were only held up by an unproved
-# function that they call; or by itself, where it was not clear what it makes wrong.
+# How a mutant is planted: with any others; with others that also only call an unproved function; or
+# alone, if it was not clear what it makes wrong.
 WITH_ANY, WITH_WAITING, ALONE = range(3)
-# The processor time that a check may take, and for each mutant that is planted, in seconds, and that
-# a round takes as a rule; how many are planted in copies, and how many in their places.
+# The limit of processor time of a check, and for each planted mutant, in seconds; the usual time of
+# a round; how many mutants are planted in copies, and how many in place.
 SECONDS, USUAL, IN_COPIES, IN_PLACES = (120, 40), 150, 12, 30
 
-# A mutant, or none, as it is planted: the functions that it can make wrong, the part of its file that
-# becomes another text, and where in that it is.
+# A planted mutant, or None for an unchanged copy: the functions that it can make wrong, the range
+# of its file that is replaced, the new text, and the offset of the mutant in it.
 Plant = namedtuple("Plant", "mutant item owners begin end new at")
 
 
@@ -68,7 +69,7 @@ def in_place(mutant):
 
 
 def in_copy(item, number, mutant=None):
-    """A copy of a function, which comes after it, with a mutant in it."""
+    """A copy of a function, placed after it, with a mutant in it."""
     text, name = item.text, f"{item.name}_turn_{number}"
     start = re.search(r"(?:^ *#\[[^\n]*\]\n)*\Z", text[: item.start], re.MULTILINE).start()
     head = text[start : item.begin].replace("#[unsafe(no_mangle)]\n", "")
@@ -81,7 +82,7 @@ def in_copy(item, number, mutant=None):
 
 
 def is_copied(item):
-    """Whether a function can be beside itself under another name."""
+    """Whether a copy of a function under another name can be planted."""
     is_of_trait = item.holder and (
         item.holder.is_trait_impl
         or item.holder.path[-1] == item.holder.name
@@ -92,7 +93,7 @@ def is_copied(item):
 
 
 class Function:
-    """A function or constant of a crate, its mutants, and a letter for each."""
+    """A function or constant of a crate, its mutants, and the letter of each."""
 
     def __init__(self, item, mutants, digest, committed, original):
         self.item, self.mutants, self.digest = item, mutants, digest
@@ -109,7 +110,7 @@ class Function:
 
 
 def verdicts_of(crate):
-    """The verdicts of a crate that are committed, by their paths."""
+    """The committed verdicts of a crate, by path."""
     file, found = crate / "verdicts", {}
     for line in file.read_text(encoding="utf-8").splitlines() if file.exists() else ():
         digest, letters, path = line.split(" ")
@@ -118,7 +119,7 @@ def verdicts_of(crate):
 
 
 class Crate:
-    """The functions of a crate, and how those of their mutants are planted that wait."""
+    """The functions of a crate, and how their waiting mutants are planted."""
 
     def __init__(self, name, definitions):
         self.name, self.folder, self.lock = name, CRATES / name, Lock()
@@ -142,7 +143,7 @@ class Crate:
             if letter == "."
         }
         self.copied = {path for path, it in self.functions.items() if is_copied(it.item)}
-        self.with_copies = set()  # those of which a copy as it is was proved
+        self.with_copies = set()  # functions of which an unchanged copy was proved
         self.paths = {it.path for it in items if it.kind == "fn"}
         self.public = [it for it in items if it.is_public and it.kind == "fn"]
 
@@ -150,27 +151,27 @@ class Crate:
         return self.functions[mutant.item.path].is_new
 
     def unshown(self):
-        """The functions of which no mutant is refused yet."""
+        """The functions without a refused mutant so far."""
         functions = (it for it in self.functions.values() if it.item.kind == "fn")
         return {it.item.path for it in functions if not {"r", "l"} & set(it.letters)}
 
     def rank(self):
-        """How much a round of this crate is worth: what is changed comes first, then functions of
-        which no mutant is refused, then the most."""
+        """The priority of a round of this crate: changed functions first, then functions without a
+        refused mutant, then the crate with most mutants."""
         with self.lock:
             waiting = {it.item.path for it in self.waiting}
             is_new = any(map(self.is_new, self.waiting))
             return is_new, len(waiting & self.unshown()), len(waiting)
 
     def next_round(self):
-        """How the next mutants are planted, and which; they wait no longer."""
+        """The next mutants and how they are planted; they no longer wait."""
         with self.lock:
             level, planted, taken = min(self.waiting.values(), default=ALONE), [], set()
             waiting = [it for it, its_level in self.waiting.items() if its_level == level]
             waiting = [it for it in waiting if self.is_new(it)] or waiting
-            # A constant takes as many checks as functions cite it.
+            # A constant needs a check for each function that cites it.
             waiting = [it for it in waiting if it.item.kind == "fn"] or waiting
-            unshown = self.unshown()  # they come first
+            unshown = self.unshown()  # these come first
             waiting.sort(key=lambda it: it.item.path not in unshown)
             is_fresh = bool(waiting) and waiting[0].item.path in unshown
             counts = Counter(it.item.path for it in waiting if it.item.path in self.copied)
@@ -189,7 +190,7 @@ class Crate:
             return level, planted
 
     def note(self, came):
-        """Keeps what came of a round; those of which nothing came wait again."""
+        """Stores the verdicts of a round; mutants without a verdict wait again."""
         with self.lock:
             for mutant, (kind, words) in came.items():
                 if kind is None:
@@ -205,7 +206,7 @@ class Crate:
                 (self.folder / "verdicts").write_text("".join(lines), encoding="utf-8")
 
     def unread_comments(self):
-        """The comments that list mutants of what has none."""
+        """The comments that list mutants for something that has none."""
         counts = Counter()
         for it in self.functions.values():
             counts[it.item.file] += it.comments
@@ -214,7 +215,7 @@ class Crate:
                 yield f"{file}: a comment lists mutants where there are none"
 
     def faults(self, is_gate):
-        """What is wrong; and by the gate of mutants that had only waited, which it only reports."""
+        """The faults, and those that the gate only reports: of mutants that had waited."""
         faults, reports = list(self.unread_comments()), []
         for path, it in self.functions.items():
             faults += [f"{path}: {fault}" for fault in it.faults]
@@ -233,7 +234,7 @@ class Crate:
 
 
 def fault_of(letter, is_listed):
-    """What is wrong with the verdict on a mutant, if anything is."""
+    """What is wrong with the verdict on a mutant, if anything."""
     if letter == "s" and not is_listed:
         return "it is proved, and no comment says why"
     return "a comment lists it, and it is not proved" if letter in "rfl-" and is_listed else None
@@ -256,7 +257,7 @@ def lay_out(crate, copy, planted):
 
 
 def linked(one, other):
-    """What was checked is linked where that can be, since a check replaces the file."""
+    """Links a kept result if possible, because a check replaces the file; copies it otherwise."""
     try:
         return os.link(one, other) if str(one).endswith(".oantt") else shutil.copy2(one, other)
     except OSError:
@@ -264,7 +265,7 @@ def linked(one, other):
 
 
 def distance(plant, planted, line):
-    """How far a line of a planted file is from a plant, and from the mutant in it."""
+    """The distance from a line of a planted file to a plant, and to the mutant in it."""
     text = plant.item.text
     first = text.count("\n", 0, plant.begin) + 1
     for it in planted:
@@ -275,8 +276,8 @@ def distance(plant, planted, line):
 
 
 def unread(crate, planted, said):
-    """Those that do not compile: of each error the nearest in its file, and those that close a cycle
-    of calls."""
+    """The plants that do not compile: for each error the nearest plant in its file, and plants that
+    close a cycle of calls."""
     for file, line in planting.UNREAD.findall(said):
         near = [it for it in planted if it.item.file == file]
         if near:
@@ -293,7 +294,7 @@ def unread(crate, planted, said):
 
 
 def judged(crate, planted, level, ran):
-    """What came of each mutant by what a check said; or nothing, and how to plant it again."""
+    """The verdict on each mutant from the output of a check; or None, and how to plant it again."""
     found, is_alone = planting.verdicts_of(crate.name, ran.said), len(planted) == 1
     owned = {path for plant in planted for path in plant.owners}
     others = [
@@ -301,7 +302,7 @@ def judged(crate, planted, level, ran):
         for path, (kind, words) in found.items()
         if path not in owned and kind not in (PROVED, WAITING)
     ]
-    # A lemma may fail for a constant, whichever function needs it.
+    # A lemma may fail because of a constant, whichever function needs it.
     is_lemma = not is_alone and any(kind == BY_LEMMA for kind, _ in found.values())
     for plant in planted:
         verdicts = [found[it] for it in plant.owners if it in found]
@@ -319,12 +320,12 @@ def judged(crate, planted, level, ran):
 
 
 def is_seen_elsewhere(item):
-    """Whether a proof of something else can fail for an item, as of the facts of a trait."""
+    """Whether the proof of something else can fail because of an item, such as facts of a trait."""
     return item.kind != "fn" or item.holder and item.holder.is_trait_impl
 
 
 def judged_unended(crate, planted, level, ran):
-    """The same of a check that came to no end: those that it did not reach are planted alone."""
+    """The same for a check that did not end: mutants that it did not reach are planted alone."""
     reached = set(re.findall(rf"^checked (?:{crate.name}::)?(\S+),", ran.said, re.MULTILINE))
     is_ended = [reached.issuperset(it.owners) for it in planted]
     for plant, is_reached in zip(planted, is_ended):
@@ -340,7 +341,7 @@ def judged_unended(crate, planted, level, ran):
 
 def try_round(crate, copy, group):
     """Plants the next mutants of a crate, without those that do not compile, and judges them;
-    returns the processor time that it took."""
+    returns the processor time used."""
     level, planted = crate.next_round()
     came, seconds = {}, 0
     while planted:
@@ -358,7 +359,7 @@ def try_round(crate, copy, group):
             is_ended = planting.verdicts_of(crate.name, ran.said)
             came |= (judged if is_ended else judged_unended)(crate, planted, level, ran)
             break
-    # Where a copy of a function as it is was not proved, copies of it show nothing.
+    # If an unchanged copy of a function was not proved, copies of it show nothing.
     controls = {it.item.path: kind for it, (kind, _) in came.items() if not it.mutant}
     wrong = {path for path, kind in controls.items() if kind != PROVED}
     crate.copied -= wrong
@@ -376,13 +377,13 @@ def try_round(crate, copy, group):
 
 
 class Budget:
-    """The processor time that rounds may take, in seconds, and what they took."""
+    """The processor time that rounds may use, in seconds, and what they used."""
 
     def __init__(self, most):
         self.most, self.used, self.lock = most, 0, Lock()
 
     def begin(self):
-        """Whether there is time for a round; until it ends, it counts as a usual one."""
+        """Whether there is time for a round; until it ends, it counts with the usual time."""
         with self.lock:
             is_left = self.most is None or self.used + USUAL <= self.most
             self.used += USUAL * is_left
@@ -394,7 +395,7 @@ class Budget:
 
 
 def work(crates, copy, group, budget, keeps):
-    """Tries rounds while mutants wait and time is left."""
+    """Tries rounds as long as mutants wait and time is left."""
     while (crate := max(crates, key=Crate.rank)).waiting and budget.begin():
         budget.end(try_round(crate, copy, group))
         if keeps:
@@ -412,7 +413,7 @@ def try_all(crates, given, budget):
 
 
 def report(crates, seconds):
-    """Counts what came of all mutants, and how many wait."""
+    """Counts the verdicts on all mutants, and how many wait."""
     kinds, waiting = Counter(), Counter()
     for crate in crates:
         for path, it in crate.functions.items():
@@ -421,7 +422,7 @@ def report(crates, seconds):
                 letter == "." or letter == "s" and mutant.name not in it.listed
                 for letter, mutant in zip(it.letters, it.mutants)
             )
-    words = "{r} refused, {f} for their form alone, {l} not decided, {s} answer the same"
+    words = "{r} refused, {f} only for their form, {l} not decided, {s} give the same answer"
     letters = {it: kinds[it] for it in "rfls"}
     print(f"mutants: {words.format(**letters)}; {seconds:.0f} s of processor time in this run")
     left = +waiting

@@ -1,12 +1,12 @@
-"""The mutants of a crate: each has one value of a function or a constant changed.
+"""The mutants of a crate: each changes one value of a function or a constant.
 
-Contracts, ghost items and tests are left as they are, and so is all that is outside of bodies, and a
-function with no contract, such as `main`, which only tests can check. What a value becomes: its
-opposite or neighbor, as a literal or an operator; a fixed value of its type; a field, a constant or a
-variant beside it; a variable or a function of the same type. An early return or a guard is dropped,
-and two arguments of one type are exchanged. Of a table's entries, and of the literals of patterns
-that have lines of their own, one is changed for each kind of value, drawn by the table's name. The
-value that fills an array, as in `[0; N]`, stays.
+Contracts, ghost items, tests and everything outside bodies stay as they are. So does a function
+without a contract, such as `main`, which only tests can check. A literal or an operator becomes its
+opposite or neighbor; other values become a fixed value of their type, a neighboring field, constant
+or variant, or a variable or function of the same type. An early return or a guard is dropped, and
+two arguments of the same type are exchanged. In a table, and in literals of patterns that have
+their own lines, one entry is changed for each kind of value, drawn at random with the table's name
+as seed. The value that fills an array, as in `[0; N]`, stays.
 """
 import random
 import re
@@ -17,8 +17,8 @@ from items import QUOTED, files_of, items_of
 from known import INTEGER, Known, parameters, split
 from planting import CRATES
 
-# What it changes, the functions that it can make wrong, and the part of the file that becomes another
-# text. A name says `old → new`, and is unique in its item.
+# The item that it changes, the functions that it can make wrong, the range of the file that is
+# replaced, and the new text. The name is `old → new`, and is unique in its item.
 Mutant = namedtuple("Mutant", "name item owners begin end new")
 
 PATH = r"(?:\w+(?:::|\.))*"
@@ -27,7 +27,7 @@ CALL = re.compile(rf"(?<![\w!])({PATH}\w+)(?:::<[^<>()]*>)?\(")
 SWAPPED = {"<": "<=", ">": ">=", "==": "!=", "+": "-", "*": "/", "<<": ">>", "&": "|", "&&": "||"}
 SWAPPED |= {other: one for one, other in SWAPPED.items()} | {"%": "/"}
 SWAPPED |= {"+=": "-=", "-=": "+=", "*=": "/=", "/=": "*=", "..": "..=", "..=": ".."}
-# A value that is changed by itself. Binary operators have blanks around them.
+# A value that is changed alone. Binary operators have blanks around them.
 VALUE = re.compile(
     rf"(?P<text>{QUOTED})|(?<![\w.])(?P<number>0x[\da-fA-F_]+|\d+(?:_\d+)*)"
     r"|(?<=[ \n])(?P<operator><<|>>|<=|>=|==|!=|&&|\|\||[-+*/]=|[-+*/%<>&|])(?=[ \n])"
@@ -36,8 +36,8 @@ VALUE = re.compile(
     r"|(?<=[\w)\]])\.(?P<field>[a-z_]\w*)\b(?![(!])|(?<![\w:.])(?P<constant>[A-Z][A-Z\d_]+)\b(?!:)",
     re.DOTALL,
 )
-# An early return, the guard of an arm, and a call of which only the error is used; a line of a
-# pattern that is one of literals; an array of one value; the parts that are patterns.
+# An early return; the guard of an arm; a call of which only the error is used; a line of a pattern
+# that has only literals; an array filled with one value; patterns.
 RETURN = re.compile(r"^( +)if (?:[^\n{]|\n\1 )*?(?: |\n\1)\{\n\1    return [^;]*;\n\1\}\n", re.M)
 GUARD = re.compile(r"(?<=[\w)}]) if [^\n]*?(?= =>)")
 TRIED = re.compile(r"(?m)^ *([\w&][^\n=;{}]*)\?;$")
@@ -51,7 +51,8 @@ INDEX = re.compile(r"(?<=[\w)\]])\[")
 
 
 def other_text(text, body):
-    """A text with a neighbor of its first character that is no part of a form, and not in use."""
+    """A literal in which the first character that is not part of an escape or a placeholder is
+    replaced by a neighbor that the body does not use."""
     if escape := re.fullmatch(r"'\\u\{(\w+)\}'", text):
         return rf"'\u{{{int(escape[1], 16) + 1:x}}}'"
     if escape := re.fullmatch(r"(b?['\"])\\.(['\"])", text, re.DOTALL):
@@ -66,7 +67,7 @@ def other_text(text, body):
 
 
 class Body:
-    """The body of an item, and what is known of its values."""
+    """The body of an item, and what is known about its values."""
 
     def __init__(self, item, known, crate):
         self.item, self.known, self.place = item, known, f"{crate}/{item.file}"
@@ -81,7 +82,7 @@ class Body:
         return any(begin <= at < end for begin, end in spans)
 
     def typed_variables(self):
-        """The variables whose type is known, with their types."""
+        """The variables with known types, and these types."""
         head = self.item.text[self.item.start : self.item.begin]
         inner = re.match(r"[^(]*\(([^)]*)\)", head)
         found = parameters(inner[1]) if inner else {}
@@ -92,7 +93,7 @@ class Body:
         return {name: kind for name, kind in found.items() if kind}
 
     def type_of(self, value):
-        """The type of a value that is a call of a known function."""
+        """The type of a value, if it is a call of a known function."""
         call = CALL.match(value)
         if not call or closing(value, call.end()) not in (len(value) - 1, len(value) - 2):
             return None
@@ -104,7 +105,7 @@ class Body:
         return self.holder if kind == "Self" else kind
 
     def values(self):
-        """What is changed by itself: the kind of a value, its place, and what it becomes."""
+        """The values that are changed alone: kind, range and new text of each."""
         start = self.text.find("=") % len(self.text) if self.item.kind in ("static", "const") else 0
         for found in VALUE.finditer(self.text, start):
             kind = found.lastgroup
@@ -133,7 +134,7 @@ class Body:
         return [SWAPPED[value]] if value in SWAPPED and not is_pattern else []
 
     def other_name(self, value):
-        """A constant or a variant beside the named one."""
+        """Another constant or variant of the same type or enum."""
         *prefix, last = value.split("::")
         holder = prefix[-1] if prefix else None
         holder = self.holder if holder == "Self" else holder
@@ -143,14 +144,14 @@ class Body:
         return ["::".join([*prefix, other])] if other else []
 
     def calls(self):
-        """The calls: the name's place, whether of a method, and the place of the arguments."""
+        """The calls, each with the range of its arguments."""
         for call in CALL.finditer(self.text):
             if not self.is_in(self.patterns, call.start()):
                 begin, end = call.end(), closing(self.text, call.end())
                 yield call, begin, end
 
     def arguments(self, begin, end):
-        """Of each part between commas, its place without the blanks around it."""
+        """The range of each part between commas, without the blanks around it, and its text."""
         for part in split(self.text[begin:end]):
             inner = part.strip()
             first = begin + len(part) - len(part.lstrip())
@@ -158,7 +159,8 @@ class Body:
             begin += len(part) + 1
 
     def typed_places(self):
-        """The places of values whose type is known: arguments, receivers, fields and indexes."""
+        """The ranges and types of values with known types: arguments, receivers, fields,
+        indexes."""
         for call, begin, end in self.calls():
             functions = self.known.of(name_of(call[1]), self.crate)
             types = functions[0].types if functions else ()
@@ -180,7 +182,7 @@ class Body:
                 yield index.end() + found.start(), index.end() + found.end(), "usize"
 
     def fields_written(self):
-        """The values of fields, in a struct that is made or in an assignment."""
+        """The values of fields in a struct expression or an assignment."""
         for struct in STRUCT.finditer(self.text):
             end = closing(self.text, struct.end(), "{}")
             is_pattern = re.match(r"\}+\)* (?:=>|=|\||if )", self.text[end:])
@@ -195,13 +197,13 @@ class Body:
             yield *found.span(2), self.known.field(found[1], self.crate)[0]
 
     def fixed(self):
-        """A fixed value, or another variable of its type, in the place of a value."""
+        """A fixed value, or another variable of its type, instead of a value."""
         for begin, end, kind in self.typed_places():
             value = self.text[begin:end]
             if not kind or self.is_in(self.filled, begin) or LITERAL.fullmatch(value):
                 continue
             kind = self.holder if kind == "Self" and self.holder else kind
-            # A field that has the variable's name is written once.
+            # A field with the same name as the variable is written once.
             is_field = re.search(r"\{[\w, \n]*\Z", self.text[:begin]) and self.text[end] in ", \n"
             name = f"{value}: " if is_field else ""
             for fixed in [it for it in self.known.fixed(kind, self.place) if it != value][:1]:
@@ -210,7 +212,7 @@ class Body:
                 yield "variable", begin, end, name + other
 
     def others(self, value, kind, at):
-        """Another variable of a type that is declared before a place, if there is one."""
+        """Another variable of the type that is declared before an offset, if there is one."""
         same = [it for it, its in self.variables.items() if its == kind]
         other = same[(same.index(value) + 1) % len(same)] if value in same else value
         return [other] if other != value and self.is_declared(other, at) else []
@@ -220,7 +222,7 @@ class Body:
         return not local or local.end() < at
 
     def functions(self):
-        """Another function of the same signature in the place of the one that is called."""
+        """Another function with the same signature instead of the one that is called."""
         for call, _, _ in self.calls():
             name = name_of(call[1])
             is_method = call[1].endswith(f".{name}") or call[1].startswith("Self::")
@@ -236,7 +238,7 @@ class Body:
             yield "function", *found.span(1), "write"
 
     def exchanged(self):
-        """Two arguments of one type, exchanged."""
+        """Two arguments of the same type, exchanged."""
         for call, begin, end in self.calls():
             functions = self.known.of(name_of(call[1]), self.crate)
             words = split(self.text[begin:end])
@@ -248,7 +250,7 @@ class Body:
                     yield "arguments", begin, end, ", ".join(it.strip() for it in both)
 
     def dropped(self):
-        """An early return, a guard, or the test of a call that may fail."""
+        """An early return, a guard, or the error test of a call, dropped."""
         for found in RETURN.finditer(self.text):
             yield "return", found.start(), found.end(), ""
         for found in GUARD.finditer(self.text):
@@ -257,7 +259,7 @@ class Body:
             yield "return", found.start(1), found.end(), f"let _ = {found[1]};"
 
     def turned(self):
-        """The places of the body, and what each becomes."""
+        """All changes of the body: kind, range and new text of each."""
         found = list(self.values())
         if self.item.kind == "fn":
             for more in (self.dropped, self.exchanged, self.fixed, self.functions):
@@ -270,14 +272,14 @@ def name_of(path):
 
 
 def pairs_of_one_type(types):
-    """Each place with the next one of its type."""
+    """Each index with the next index of the same type."""
     for one, kind in enumerate(types):
         if kind in types[one + 1 :]:
             yield one, types.index(kind, one + 1)
 
 
 def closing(body, at, signs="()"):
-    """Where the bracket closes that opens before a place."""
+    """The offset of the bracket that closes the one opened before an offset."""
     depth = 1
     for sign in re.compile(rf"{QUOTED}|[{re.escape(signs)}]", re.DOTALL).finditer(body, at):
         depth += (sign[0] == signs[0]) - (sign[0] == signs[1])
@@ -287,7 +289,8 @@ def closing(body, at, signs="()"):
 
 
 def is_entry(kind, body, begin):
-    """Whether a place is one of many alike: in an array, or a literal of a pattern."""
+    """Whether a range is one of many similar ones: an entry of an array, or a literal of a
+    pattern."""
     line = body[body.rfind("\n", 0, begin) + 1 :].split("\n")[0]
     return kind in ("text", "number") and bool(ENTRY.match(line))
 
@@ -298,7 +301,7 @@ def all_known():
 
 
 def promises(item):
-    """Whether a function has a contract: of its own, or of a trait that it is a method of."""
+    """Whether a function has a contract, its own or that of its trait."""
     head = item.text[item.start : item.begin]
     return item.kind == "fn" and bool(
         "ensures" in head or item.holder and item.holder.is_trait_impl
@@ -331,7 +334,7 @@ def mutants_of(crate):
 
 
 def named(old, new):
-    """The name of a mutant; a long value is cut, and what is dropped becomes `nothing`."""
+    """The name of a mutant; long values are cut, and a dropped part becomes `nothing`."""
     words = [" ".join(it.split()) for it in (old, new)]
     if words[0].startswith("if ") and not words[1]:
         words[0] = re.sub(r" \{ .*", "", words[0])
@@ -340,12 +343,13 @@ def named(old, new):
 
 
 def citing(item, items):
-    """The functions that cite a constant, or one that cites it, and the constant itself."""
+    """The functions that cite a constant, directly or through other constants, and the constant
+    itself."""
     found, names = [item], [item.name]
     for name in names:
         for other in items:
             text = other.text[other.begin : other.end]
-            # Another constant of its name, as of another type, does not cite it.
+            # A constant with the same name, for example of another type, does not cite it.
             if other.name != name and re.search(rf"\b{name}\b", text):
                 found.append(other)
                 names += [other.name] if other.kind != "fn" and other.name not in names else []

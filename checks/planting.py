@@ -1,4 +1,4 @@
-"""Wrong bodies in a copy of a crate: laid out, checked, and what a check says of each function."""
+"""Plants wrong bodies in a copy of a crate, checks it, and reads the result for each function."""
 import os
 import re
 import shutil
@@ -9,9 +9,9 @@ from collections import namedtuple
 from pathlib import Path
 
 CRATES = Path(__file__).resolve().parent.parent / "crates"
-MEMORY = 2_500_000_000  # what a check may take, in bytes
+MEMORY = 2_500_000_000  # the bytes that a check may use
 
-# A check prints what is wrong in proof files, and then of each item its open goals and a line.
+# A check prints the errors in proof files, and then for each item its open goals and a line.
 FAULT = re.compile(r"^\./(proofs(?:/\S+)?)/\w+\.antt:\d+:\d+: error: (.*(?:\n  .*)*)", re.MULTILINE)
 GOAL = re.compile(r"note: src/\S+: (?:it is not proved|`search` found no proof)")
 LINE = re.compile(r"(?:fn|impl|struct|enum|trait) (\S+): (.*)")
@@ -22,7 +22,7 @@ LIMIT = re.compile(r"gave up at one of its limits|stopped at its own limit|ran o
 GONE = re.compile(r"has no field|is not in scope|has no `")
 DEPENDS = re.compile(r"was not admitted|that depends on")
 UNREAD = re.compile(r"^(?:\./)?((?:src|specs)/\S+?):(\d+):\d+: error\b.*", re.MULTILINE)
-# What it comes to for a function.
+# The kinds of verdict on a function.
 PROVED, REFUSED = "it is proved", "it is refused"
 AT_LIMIT = "it is refused at a limit of the search"
 BY_LEMMA = "it is refused for a lemma"
@@ -31,13 +31,13 @@ WAITING = "it calls what is not proved"
 UNCLEAR = "it is not proved"
 
 Verdict = namedtuple("Verdict", "kind words")
-# What a check came to: its status, what it said, and the processor time that it took.
+# A check that has ended: its status, its output, and its processor time.
 Ran = namedtuple("Ran", "status said seconds")
 
 
 def lay_out(crate, copy, plants):
-    """Copies the crate into a folder, with these plants in it: each a file, the place in it that
-    becomes another text, and that text."""
+    """Copies the crate to a folder and plants changes: for each a file, the range in it that is
+    replaced, and the new text."""
     for part in ("src", "specs", "proofs"):
         shutil.rmtree(copy / part, ignore_errors=True)
         if (crate / part).is_dir():
@@ -49,7 +49,7 @@ def lay_out(crate, copy, plants):
 
 
 def listed(name):
-    """The libraries of a crate, and whether it is a static library, by crates.txt."""
+    """The libraries of a crate, and whether it is a static library, from crates.txt."""
     for line in (CRATES.parent / "crates.txt").read_text(encoding="utf-8").split("\n"):
         head, _, libraries = line.partition(":")
         if head.split()[:1] == [name]:
@@ -58,8 +58,8 @@ def listed(name):
 
 
 def check(name, copy, group, *more, only=(), most=None):
-    """Checks the crate in a folder, or only these functions of it and what they call, in so
-    many seconds of processor time at most."""
+    """Checks the crate in a folder, or only these functions of it and what they call, in at most
+    this many seconds of processor time."""
     kit = Path(shutil.which("rt")).resolve().parent.parent
     libraries, is_static = listed(name)
     root = "src/main.rt" if (copy / "src/main.rt").exists() else "src/lib.rt"
@@ -85,8 +85,8 @@ def check(name, copy, group, *more, only=(), most=None):
 
 
 def kind_of(words, goals, faults, lemmas):
-    """What a check says of a function: by the words of its line, the goals of it that are open,
-    what is wrong in its own proof, and in lemmas."""
+    """The kind of verdict on a function, from the words of its line, its open goals, the errors in
+    its own proof, and those in lemmas."""
     if words == "proved":
         return PROVED
     own = [it for it in faults if not GONE.search(it) and not DEPENDS.search(it)]
@@ -102,7 +102,7 @@ def kind_of(words, goals, faults, lemmas):
 
 
 def verdicts_of(name, said):
-    """What a check says of each function of the crate, by its path."""
+    """The verdict of a check on each function of the crate, by path."""
     faults, found, goals = FAULT.findall(said), {}, []
     lemmas = [it for place, it in faults if place == "proofs" and not DEPENDS.search(it)]
     for line in said.split("\n"):
@@ -112,7 +112,7 @@ def verdicts_of(name, said):
             path, words = head[1].removeprefix(f"{name}::"), head[2]
             own = [it for place, it in faults if place == f"proofs/{path}".replace("::", "/")]
             kind = kind_of(words, goals, own, lemmas)
-            # A closure goes by its function.
+            # A closure counts as its function.
             path = re.sub(r"(^|::)fn::(\w+)::.*", r"\1\2", path)
             if path not in found or found[path].kind in (PROVED, WAITING):
                 found[path] = Verdict(kind, "; ".join([words, *own, *goals])[:400])
@@ -121,16 +121,16 @@ def verdicts_of(name, said):
 
 
 def at_once_by_default():
-    """As many crates as there are processors to use, and as memory holds."""
+    """The number of crates to check at once, limited by processors and memory."""
     memory = Path("/proc/meminfo").read_text(encoding="utf-8")
     free = 1024 * int(re.search(r"MemAvailable: +(\d+)", memory)[1])
     return max(1, min(len(os.sched_getaffinity(0)), free // MEMORY))
 
 
 def scratch_folder():
-    """A folder, and who removes it when this process ends, however it ends: the leader of a group
-    of processes, which ends the others first."""
+    """A folder, and a process that removes it however this process ends. It leads a group of
+    processes, and ends the others first."""
     scratch = tempfile.mkdtemp(prefix="planting-")
-    # Its input ends with this process.
+    # Its input ends when this process ends.
     words = ["sh", "-c", 'trap "" TERM; cat; kill -TERM 0; rm -rf "$0"', scratch]
     return Path(scratch), subprocess.Popen(words, stdin=subprocess.PIPE, process_group=0)

@@ -1,11 +1,12 @@
 #!/usr/bin/env python3
-"""The examples in the pages of `bindings/`: each stands, line for line, in a file that is run.
+"""Checks that each example in the pages of `bindings/` is, line for line, in a file that is run.
 
 Usage: quotes.py BINDINGS
 
-An example of JavaScript stands in the package's README, which `tests/test_packages.py` runs. A page
-in Chinese has the examples, the commands and the code in tables of the page in English, in their
-order; and each name in its text stands there, in the first page, or in the module.
+For JavaScript that file is the package's README, which `tests/test_packages.py` runs. A page in
+Chinese must have the examples, the commands and the code in tables of the English page, in the same
+order. Each name in its text must occur in the English page, in `bindings/README.md`, or in the
+module.
 """
 import re
 import sys
@@ -34,7 +35,7 @@ PAGES = {
     "web/README.md": ["js"],
     "web/README.zh.md": ["js"],
 }
-# The module whose names a page in Chinese has.
+# The module whose names a page in Chinese may use.
 IN_CHINESE = {
     "python/README.zh.md": "python/chinese_number/__init__.py",
     "web/README.zh.md": "web/chinese-number.d.mts",
@@ -42,41 +43,42 @@ IN_CHINESE = {
 
 
 def lines_of(text):
-    """The lines without what stands in front of them, and without a mark of documentation."""
+    """The lines without indentation and without `//!`."""
     return [line.strip().removeprefix("//!").strip() for line in text.splitlines()]
 
 
 def compare_examples(page, text, text_of):
-    """The page has one example of each of its languages, which stands in a file that is run."""
+    """Checks that the page has one example of each of its languages, copied from a file that is
+    run."""
     blocks, languages = BLOCK.findall(text), PAGES.get(page, [])
     if sorted(language for language, _ in blocks) != sorted(languages):
         found = [language for language, _ in blocks]
-        sys.exit(f"quotes: {page} has blocks of {found}, and not one each of {languages}")
+        sys.exit(f"quotes: {page} has blocks of {found} instead of one each of {languages}")
     for language, block in blocks:
         quoted, lines = lines_of(block), lines_of(text_of(FILES[language]))
         if not any(lines[at : at + len(quoted)] == quoted for at in range(len(lines))):
-            sys.exit(f"quotes: what stands in {page} is not in {FILES[language]}:\n{block}")
+            sys.exit(f"quotes: {FILES[language]} has no such block as {page}:\n{block}")
 
 
 def alike(text):
-    """What a page has in common with the same page in another language."""
+    """What must be the same in a page and its translation."""
     plain = BLOCK.sub("", text)
     rows = [CODE.findall(row) for row in ROW.findall(plain)]
     return [*BLOCK.findall(text), *COMMAND.findall(plain), *rows]
 
 
 def compare_languages(page, text, text_of):
-    """A page in Chinese is as that in English, and has no name of its own."""
+    """Checks that a page in Chinese matches the English page and uses no other names."""
     english = text_of(page.replace(".zh.md", ".md"))
     for one, other in zip_longest(alike(text), alike(english)):
         if one != other:
-            sys.exit(f"quotes: {page} has {one!r}, where the page in English has {other!r}")
+            sys.exit(f"quotes: {page} has {one!r}, but the page in English has {other!r}")
     named = set(re.findall(r"\w+", " ".join(CODE.findall(BLOCK.sub("", text))), re.ASCII))
     known = set(
         re.findall(r"\w+", english + text_of("README.md") + text_of(IN_CHINESE[page]), re.ASCII)
     )
     if named - known:
-        sys.exit(f"quotes: {page} has the names {sorted(named - known)}, which are none")
+        sys.exit(f"quotes: {page} has unknown names {sorted(named - known)}")
 
 
 def main():
@@ -91,7 +93,7 @@ def main():
         compare_examples(page, text_of(page), text_of)
         if page in IN_CHINESE:
             compare_languages(page, text_of(page), text_of)
-    print(f"quotes: the examples of {len(PAGES)} pages, each from a file that is run")
+    print(f"quotes: the examples of {len(PAGES)} pages are in files that are run")
 
 
 main()

@@ -1,10 +1,10 @@
-/* same [COUNT [ROUNDS]]: shows one sum over what each call of chinese_number.h answers to COUNT
- * pseudo-random numbers of each type by each way, to ten times as many quantities, amounts in all
- * forms and in figures, dates and texts, and at the ends: what is printed, each room to its last
- * byte, and what is read, either way too, found and replaced in texts as they were printed, typed,
- * changed and cut. Builds
- * of one library have to show one sum. With -DTHREADS four threads have to find it at once. With
- * ROUNDS it shows what a call takes, too, in the best of so many rounds. */
+/* same [COUNT [ROUNDS]]: prints one sum over the results of each call of chinese_number.h. The
+ *  arguments are COUNT pseudo-random numbers of each type in each way, ten times as many
+ *  quantities, amounts in all forms and in figures, dates and texts, and the limits. The sum covers
+ *  what is printed, with each buffer to its last byte, and what is read (also in either way), found
+ *  and replaced in texts as printed, typed, changed and cut. All builds of the library must print
+ *  the same sum. With -DTHREADS four threads must find it at once. With ROUNDS the program also
+ *  prints the time of a call, in the best of this many rounds. */
 #include "chinese_number.h"
 
 #include <stdio.h>
@@ -43,7 +43,7 @@ static uint32_t below(run *r, uint32_t limit) {
     return (uint32_t)(some(r) >> 11) % limit;
 }
 
-/* A code, which once in a while names nothing. */
+/* A code, which sometimes is not valid. */
 static uint32_t code(run *r, uint32_t codes) {
     return below(r, 32) == 0 ? codes : below(r, codes);
 }
@@ -67,7 +67,7 @@ static void put(text *t, size_t at, const char *mark) {
     t->length += length;
 }
 
-/* Cuts a text, puts a mark into it, or in the place of a character. */
+/* Cuts a text, inserts a mark, or replaces a character by one. */
 static void change(run *r, text *t) {
     uint32_t how = below(r, 4);
     size_t at = below(r, (uint32_t)t->length + 1), end;
@@ -94,7 +94,7 @@ static void add_reading(run *r, uint32_t status, const cn_reading *reading) {
     add_word(r, reading->byte_index);
 }
 
-/* Only where a text was tested are its bytes known to be UTF-8. */
+/* The bytes of a text are known to be UTF-8 only if it was tested. */
 static int is_utf8(uint32_t status) {
     return status != CN_NOT_UTF8 && status != CN_UNKNOWN;
 }
@@ -119,7 +119,7 @@ static void try_read_quantity(run *r, const text *t, uint32_t method) {
     add_word(r, quantity.form);
 }
 
-/* Each code is drawn in a statement of its own, since a call may draw its arguments in any order. */
+/* Each code is drawn in its own statement: the order in which arguments are evaluated may vary. */
 static void try_replace(run *r, const text *t) {
     static const uint32_t INCLUDED[] = {0, CN_ABOUT, CN_ONE_CHARACTER, CN_ABOUT | CN_ONE_CHARACTER, 1};
     uint8_t room[MOST];
@@ -202,7 +202,7 @@ static void try_read_and_find(run *r, const text *t) {
     try_replace(r, t);
 }
 
-/* What was printed, with all of the room, and as a text to be read. */
+/* What was printed, with the whole buffer, and as a text to be read. */
 static void add_printed(run *r, uint32_t status, size_t length, text *t) {
     add_word(r, status);
     add_word(r, length);
@@ -211,7 +211,7 @@ static void add_printed(run *r, uint32_t status, size_t length, text *t) {
     r->cases++;
 }
 
-/* A room that is mostly large enough. */
+/* A buffer that is usually large enough. */
 static size_t begin(run *r, text *t, uint32_t most) {
     memset(t->bytes, 7, MOST);
     return below(r, 8) == 0 ? below(r, most) : most + below(r, 9);
@@ -245,7 +245,7 @@ static void try_number(run *r, uint32_t kind, uint32_t way, cn_number number) {
     try_read_and_find(r, &t);
 }
 
-/* A denominator that is mostly one of a decimal or a percentage. */
+/* A denominator, usually of a decimal or a percentage. */
 static cn_number some_denominator(run *r) {
     uint64_t power = 1;
     if (below(r, 4) == 0)
@@ -281,7 +281,7 @@ static void try_capitals(run *r, text *t) {
     }
 }
 
-/* A colon stands right where 人民币 is printed, and white space between any characters. */
+/* A colon is right only where 人民币 is printed; white space is right between any characters. */
 static void type(run *r, text *t) {
     if (t->length > 9 && below(r, 2) == 0)
         put(t, 9, "：");
@@ -338,7 +338,7 @@ static void try_date(run *r, uint32_t year, uint32_t month, uint32_t day) {
     try_capitals(r, &t);
 }
 
-/* A text of marks, mostly in UTF-8, and with runs of ASCII longer than a word of the processor. */
+/* A text of marks, usually in UTF-8, with runs of ASCII longer than a word of the processor. */
 static void try_text(run *r, uint32_t marks) {
     text t;
     t.length = 0;
@@ -419,7 +419,7 @@ static int is_same_in_threads(const run *wanted) {
 }
 #endif
 
-/* What a call takes to print and to read a number of 64 bits. */
+/* The time of a call that prints or reads a number of 64 bits. */
 static void show_times(run *r, int rounds) {
     static uint8_t rooms[SAMPLES][CN_MOST_BYTES];
     static size_t lengths[SAMPLES];

@@ -1,4 +1,4 @@
-"""The comments that list mutants which give the same answer, and say why:
+"""The comments that list mutants which give the same answer, with the reason:
 
     // Same answer (2 → 3, len → 0): the reason.
 """
@@ -10,12 +10,12 @@ LINE = re.compile(r"^[ \t]*//(?!/) ?(.*)$", re.MULTILINE)
 
 
 def comment_of(item, text):
-    """The words of the comment above an item of a source."""
+    """The words of the comment above an item."""
     return " ".join(LINE.findall(ABOVE.search(text[: item.start])[0]))
 
 
 def listed(words, names):
-    """The mutants that a comment lists, of these names, and what is wrong with it."""
+    """Which of the named mutants a comment lists, and what is wrong with the comment."""
     found, faults = set(), []
     for start in re.finditer(re.escape(WORDS), words):
         at, is_last = start.end(), False

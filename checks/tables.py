@@ -1,15 +1,15 @@
 #!/usr/bin/env python3
-"""The tables in which a character is looked up without a search, each entry at its slot.
+"""Prints or checks the tables in which a character is looked up directly, each entry at its slot.
 
 Usage: tables.py CRATES [--check]
 
-MARKS of `cn_judge` has each digit and unit of three bytes, as `characters_read.rt` of `cn_core`
-says what it is read as; CAPITALS of `cn_amount` and CAPITALS of `cn_date` each have the characters
-of an amount or of a date, as their `capital_rows` say. Without --check the tables are printed, as
-they stand in the crates below CRATES. Where two characters fall on one slot, the least multiplier
-from the one in use on that parts them all is said first: it then stands where the slot is taken,
-and in the proof that it parts them. With --check the script fails where a table differs, or its
-slot is taken otherwise.
+MARKS of `cn_judge` has each digit and unit of three bytes with its meaning in `characters_read.rt`
+of `cn_core`. CAPITALS of `cn_amount` and of `cn_date` have the characters of `capital_rows`, for
+amounts and for dates. Without --check the script prints the tables as they must be in the crates
+below CRATES. If two characters share a slot, it first prints the least multiplier, from the current
+one on, that separates all characters. Write this multiplier here, where the crate computes the
+slot, and in `proofs/MarkTable.antt` or `proofs/CapitalTable.antt`; the same places have the number
+of slots. With --check the script fails if a table or the expression for its slot differs.
 """
 import re
 import sys
@@ -26,7 +26,7 @@ CAPITAL_SLOT = "CAPITALS[(character as u32 * {multiplier} / {divisor} % {slots})
 
 @dataclass
 class Table:
-    """A table, where it stands, and how its entries and slots are written there."""
+    """A table, the file that has it, and how its entries and slots are written there."""
 
     name: str
     place: str
@@ -44,15 +44,15 @@ class Table:
         return self.slot.format(multiplier=text, divisor=self.divisor, slots=self.slots)
 
     def placed(self, chars):
-        """The least multiplier that gives each character a slot of its own, and the slots."""
-        period = self.slots * self.divisor  # after which the slots are the same again
+        """The least multiplier that gives each character its own slot, and the slots."""
+        period = self.slots * self.divisor  # the slots repeat with this period
         for multiplier in range(self.multiplier, self.multiplier + period, 2):
             slots = {
                 self.key(char) * multiplier // self.divisor % self.slots: char for char in chars
             }
             if len(slots) == len(chars):
                 return multiplier, slots
-        sys.exit(f"tables: no multiplier parts the characters of {self.name}: it needs more slots")
+        sys.exit(f"tables: no multiplier separates the characters of {self.name}: add slots")
 
     def written(self, found, placed):
         rows = "".join(
@@ -148,24 +148,26 @@ def main():
     for table in TABLES:
         found = table.entries(crates)
         if not found or FILLER in found:
-            sys.exit(f"tables: no characters are found for {table.name}, or {FILLER} is one")
+            sys.exit(
+                f"tables: there are no characters for {table.name}, or {FILLER} is one of them"
+            )
         multiplier, placed = table.placed(found)
         written = table.written(found, placed)
         if len(arguments) == 1:
             if multiplier != table.multiplier:
                 print(
-                    f"the multiplier of {table.name} is {multiplier:_}, here and in {table.place}"
+                    f"the new multiplier of {table.name}, here and in {table.place}: {multiplier:_}"
                 )
             print(written, end="")
             continue
         there = text_of(crates / table.place)
         if there.count(table.slot_text(multiplier)) != 1:
             sys.exit(
-                f"tables: a slot is {table.slot_text(multiplier)}, and not so in {table.place}"
+                f"tables: {table.place} does not compute a slot as {table.slot_text(multiplier)}"
             )
         if there.count(written) != 1:
             sys.exit(
-                f"tables: {table.place} has another {table.name}; this script prints the right one"
+                f"tables: {table.name} of {table.place} differs; without --check this prints it"
             )
         crate = table.place.split("/")[0]
         print(f"tables: {table.name} of {crate} has {len(found)} characters, each at its slot")

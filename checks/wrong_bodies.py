@@ -1,18 +1,18 @@
 #!/usr/bin/env python3
-"""Shows that each wrong body is refused by its own function, and that each twin is proved.
+"""Checks that the function of each wrong body is refused, and that each twin is proved.
 
 Usage: wrong_bodies.py [--built] [--at-once N] [CRATE ..]     (no CRATE: all that have any)
 
-A crate's edits (edit_files.py says where they are) are planted in a copy, in rounds, at most one in
-each function. One check judges a round: of the functions that the edits name, and of those that
-these call. Each function that an edit names has to be refused for goals of its own, and each other
-one has to be proved, unless it only calls one that is not; those of a twin have to be proved
-outright. So an edit fails that is not found, does not compile or is proved, or that is refused only
-because a proof names what is gone. Those where the search gave up at a limit say less, since the
-goal may be true: they are counted apart.
+The edits of a crate (edit_files.py describes them) are planted in a copy, in rounds, at most one
+in each function. One check judges a round: it checks the functions that the edits name and the
+functions that these call. Each function that an edit names must be refused for goals of its own.
+Each other function must be proved, unless it only calls one that is not. The functions of a twin
+must be proved. So an edit fails if its text is not found, if it does not compile or is proved, or
+if it is refused only because a proof names something that is gone. If the search gave up at a
+limit, the goal may be true: these edits are counted separately.
 
-A round goes on from what the round before kept, the first from what `rt check` left in the crate's
-folder. `rt lib` makes the libraries below first; with --built they are those that `rt ci` has left.
+A round continues from the results of the round before, the first from those of `rt check` in the
+crate's folder. `rt lib` first builds the libraries below; with --built those of `rt ci` are used.
 """
 import argparse
 import os
@@ -28,13 +28,13 @@ import edit_files
 import planting
 from planting import AT_LIMIT, BY_LEMMA, CRATES, PROVED, REFUSED, WAITING
 
-# An item of a source begins; a constant or a table of a module has its name here.
+# The beginning of an item; a constant or a table of a module has its name here.
 HEAD = re.compile(
     r"^(?:(?:pub(?:\(crate\))? )?(?:const|static) (\w+):| *[\w\"() ]*\b(?:fn|const) \w+)",
     re.MULTILINE,
 )
 
-# An edit or a twin: the part of its file's source that becomes another text.
+# An edit or a twin: the range in its file's source that is replaced, and the new text.
 Plant = namedtuple("Plant", "edit label is_twin source begin end text")
 Judgement = namedtuple("Judgement", "faults at_limit again")
 
@@ -58,13 +58,13 @@ def plants_of(crate, edits):
 
 
 def is_cited(plant, other):
-    """Whether a plant turns a constant that the other one's file cites."""
+    """Whether a plant changes a constant that the other one's file cites."""
     constants = HEAD.findall(plant.source, 0, plant.begin)
     return constants and constants[-1] and re.search(rf"\b{constants[-1]}\b", other.source)
 
 
 def are_apart(one, other):
-    """Whether two plants can stand in one round."""
+    """Whether two plants can be in the same round."""
     is_one_file = one.edit.file == other.edit.file
     overlap = is_one_file and one.begin < other.end and other.begin < one.end
     meet = set(one.edit.refused) & set(other.edit.refused)
@@ -72,7 +72,7 @@ def are_apart(one, other):
 
 
 def rounds_of(plants):
-    """The plants in rounds: each in the first that can take it."""
+    """The plants in rounds: each in the first round that can take it."""
     rounds = []
     for plant in plants:
         fit = (it for it in rounds if all(are_apart(plant, other) for other in it))
@@ -84,8 +84,8 @@ def rounds_of(plants):
 
 
 def judged(name, plants, ran):
-    """What comes of a round: what is wrong, the edits that were refused at a limit, and the twins
-    that are to be planted again, since they call what was not proved."""
+    """The result of a round: the faults, the edits that were refused at a limit, and the twins that
+    must be planted again, because they call what was not proved."""
     found = planting.verdicts_of(name, ran.said)
     unread = [it[0] for it in planting.UNREAD.finditer(ran.said)]
     if ran.status not in (0, 1, 3) or unread or not found:
@@ -111,14 +111,14 @@ def judged(name, plants, ran):
     planted = {path for plant in plants for path in plant.edit.refused}
     for path, (kind, words) in found.items():
         if path not in planted and kind not in (PROVED, WAITING):
-            faults.append(f"{path}: {kind}, and nothing is planted there: {words}")
+            faults.append(f"{path}: {kind}, although nothing is planted there: {words}")
     if len(by_lemma) > 1:
-        faults.append(f"a lemma is refused for one of these alone: {', '.join(by_lemma)}")
+        faults.append(f"a lemma is refused for only one of these: {', '.join(by_lemma)}")
     return Judgement(faults, at_limit, again)
 
 
 def try_crate(name, scratch, group):
-    """The edits of a crate, and what came of each round."""
+    """The edits of a crate, and the result of each round."""
     crate, copy, judgements = CRATES / name, scratch / name, []
     edits = edit_files.wrong_bodies_of(crate)
     rounds = rounds_of(plants_of(crate, edits))
@@ -138,13 +138,13 @@ def try_crate(name, scratch, group):
 
 
 def faults_of(name, judgements):
-    """What is wrong with the edits of a crate."""
+    """The faults of a crate's edits."""
     for number, judgement in enumerate(judgements, 1):
         yield from (f"{name}, round {number}: {it}" for it in judgement.faults)
 
 
 def try_crates(names, at_once, scratch, group):
-    """Tries the edits of these crates, and returns what is wrong, and what came of all others."""
+    """Tries the edits of these crates; returns the faults and a summary of the others."""
     faults, counts = [], [0, 0, 0]
     with ThreadPoolExecutor(at_once) as pool:
         tried = {pool.submit(try_crate, name, scratch, group): name for name in names}
@@ -173,7 +173,7 @@ def main():
     words.add_argument("crates", nargs="*", metavar="CRATE")
     given = words.parse_args()
     names = given.crates or [it.parent.name for it in CRATES.glob("*/wrong-bodies")]
-    # The longest first.
+    # The crates with most edits first.
     names.sort(key=lambda it: -len(edit_files.wrong_bodies_of(CRATES / it)))
     for name in dict.fromkeys(it for name in names for it in planting.listed(name)[0]):
         if not given.built:

@@ -1,12 +1,12 @@
 #!/usr/bin/env python3
-"""Makes a copy of the repository wrong, one way after the other, and sees that `bindings/dist.py`
-tells each.
+"""Makes a copy of the repository wrong in one way after another, and checks that `bindings/dist.py`
+reports each.
 
 Usage: wrong_dist.py [ARCHIVE]
 
-It tries what `dist.py check` tells. With the folder ARCHIVE, as archive.sh fills it, it also tries
-`dist.py again`, by the tools that PROVENANCE.json names and by ones that say another version: that
-is no part of check.sh, and is run when dist.py changes.
+It tests `dist.py check`. With the folder ARCHIVE, which archive.sh fills, it also tests `dist.py
+again`, with the tools that PROVENANCE.json names and with tools that report another version.
+check.sh does not run this second part; run it when dist.py changes.
 """
 import importlib
 import json
@@ -33,13 +33,13 @@ def with_carriage_returns(data):
 def replaced(old, new):
     def change(data):
         if data.count(old) != 1:
-            sys.exit(f"wrong dist: {old} stands there {data.count(old)} times")
+            sys.exit(f"wrong dist: {old} occurs {data.count(old)} times")
         return data.replace(old, new)
 
     return change
 
 
-# What is changed, the file, its change (None takes it away), and what check tells, if anything.
+# What is changed, the file, its change (None removes it), and what `check` reports, if anything.
 CHECKED = (
     ("a byte of the C source", C_SOURCE, longer, f"{C_SOURCE} has not the sum"),
     ("no module", "dist/chinese-number.64.wasm", None, "wasm has not the sum"),
@@ -61,8 +61,8 @@ CHECKED = (
     ("line ends of a source", "crates/cn_core/src/case.rt", with_carriage_returns, None),
     ("line ends of an original", "bindings/c/chinese_number.h", with_carriage_returns, None),
 )
-# What is changed: a tool, by what sed does to its version, and the C source, with its sums made
-# right. Then whether again ends well, and what it tells.
+# What is changed: a tool, by a sed expression on its version, and the C source, with corrected
+# sums. Then whether `again` succeeds, and what it reports.
 WASM_OPT, ALIKE = ("wasm-opt", "s/[0-9]*$/0/"), "; the archive and the C source show"
 COMMENT = replaced(b"/* Chinese numerals", b"/* Some numerals")
 WRONG_ANSWER = replaced(b"amount_print(&m, fen, script", b"amount_print(&m, fen ^ 1, script")
@@ -75,7 +75,7 @@ AGAIN = (
     ("the logic", ("rt", "s/[^ ]*$/0/"), None, False, "it was made by "),
     ("an answer, and wasm-opt", WASM_OPT, WRONG_ANSWER, False, f"{C_SOURCE} shows"),
 )
-# A tool that says its version otherwise, and is else as it was.
+# A tool that reports another version, and otherwise works as before.
 OTHERWISE = """\
 #!/bin/sh
 case $1 in version | --version) {tool} "$1" | sed '{expression}' ;; *) exec {tool} "$@" ;; esac
@@ -83,20 +83,21 @@ case $1 in version | --version) {tool} "$1" | sed '{expression}' ;; *) exec {too
 
 
 def unneeded(folder, names):
-    """What a copy is without; of what was built it has the libraries and the work kept for cn_c."""
+    """What is not copied. Of what was built, the libraries and the kept results of cn_c are
+    copied."""
     of_others = Path(folder).name == "out" and Path(folder).parent.name != "cn_c"
     return {".git", "target", *(["incremental"] if of_others else [])} & set(names)
 
 
 def named_otherwise(tool, expression, folder):
-    """Puts a tool into a folder that says its version otherwise, and is else as it was."""
+    """Writes a tool to a folder that reports another version, and otherwise works as before."""
     text = OTHERWISE.format(tool=shutil.which(tool), expression=expression)
     (folder / tool).write_text(text, encoding="utf-8")
     (folder / tool).chmod(0o755)
 
 
 class Copy:
-    """A copy of the repository, of which a case changes files."""
+    """A copy of the repository; each case changes files in it."""
 
     def __init__(self, scratch, is_built):
         self.top = scratch / "copy"
@@ -106,7 +107,7 @@ class Copy:
         self.dist = importlib.import_module("dist")
 
     def planted(self, change):
-        """The files for another C source, with its copies and its sums."""
+        """The files for a changed C source, with its copies and sums."""
         dist = self.dist
         made = {name: dist.found(f"dist/{name}") for name in dist.MADE}
         files = dist.files_of({**made, "chinese_number.c": change(made["chinese_number.c"])})
@@ -122,7 +123,7 @@ class Copy:
                 (self.top / path).write_bytes(data)
 
     def tell(self, files, *words, tool=None):
-        """Whether dist.py ends well over these files, and what it tells; then they are as before."""
+        """Whether dist.py succeeds with these files, and its output; then restores the files."""
         before = {path: (self.top / path).read_bytes() for path in files}
         self.write(files)
         with tempfile.TemporaryDirectory() as tools:
@@ -163,7 +164,7 @@ def main():
         try_check(copy)
         if archive:
             try_again(copy, archive)
-    print(f"wrong dist: {len(CHECKED) + len(AGAIN) * bool(archive)} changes, each told as it is")
+    print(f"wrong dist: {len(CHECKED) + len(AGAIN) * bool(archive)} changes, each as expected")
 
 
 main()

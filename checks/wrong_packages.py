@@ -1,11 +1,11 @@
 #!/usr/bin/env python3
-"""Makes packages wrong, one after the other, and sees that `tests/test_packages.py` refuses each.
+"""Makes packages wrong in one way after another, and checks that `tests/test_packages.py` fails.
 
 Usage: wrong_packages.py OUT
 
-OUT is a folder that `bindings/packages.sh` filled. Each is a copy of it with one fault, whose sums
-and RECORD are made right again. It is run when the test changes, by a Python that has pytest, and
-is no part of check.sh.
+OUT is a folder that `bindings/packages.sh` filled. Each case is a copy of it with one fault, with
+corrected sums and RECORD. Run it when the test changes, with a Python that has pytest; check.sh
+does not run it.
 """
 import base64
 import os
@@ -24,21 +24,21 @@ import packages as packing
 
 
 def a_byte(data):
-    """The same with its last byte but a hundred changed."""
+    """The data with the hundredth byte from the end changed."""
     return data[:-100] + bytes([data[-100] ^ 1]) + data[-99:]
 
 
 def replaced(old, new):
     def change(data):
         if data.count(old.encode()) != 1:
-            sys.exit(f"wrong packages: {old!r} stands there {data.count(old.encode())} times")
+            sys.exit(f"wrong packages: {old!r} occurs {data.count(old.encode())} times")
         return data.replace(old.encode(), new.encode())
 
     return change
 
 
 def other_module(data):
-    """Another module inside the JavaScript: one that has nothing in it."""
+    """The JavaScript with an empty module inside."""
     nothing = base64.b64encode(b"\0asm\1\0\0\0").decode()
     return re.sub(rb"(?m)^const base64 = '.*';$", f"const base64 = '{nothing}';".encode(), data)
 
@@ -64,8 +64,8 @@ def other_soname(data):
     return data.replace(b".so.0.1", b".so.0.2")
 
 
-# What is wrong, the package, the end of the file's name, the change (None takes the file away), the
-# test that fails, and how what it says begins.
+# What is wrong, the package, the suffix of the file's name, the change (None removes the file), the
+# test that fails, and a part of the first line of its message.
 WRONG = (
     ("a byte of the wheel's library", WHEEL, ".so", a_byte, "sums", NO_FILE),
     ("another library in the other one", BY_CTYPES, ".so", lambda _: b"\x7fELF", "sums", NO_FILE),
@@ -88,7 +88,7 @@ WRONG = (
 
 
 def unpacked(path):
-    """The files of a package in their order, without a wheel's RECORD; a link is a text."""
+    """The files of a package in order, without the RECORD of a wheel; a link is a str."""
     if path.suffix == ".whl":
         return {
             name: data
@@ -119,12 +119,12 @@ def make_wrong(path, end, change):
         sys.exit(f"wrong packages: {path.name} has the files {found} for {end}")
     data = files.pop(found[0])
     if change and change(data) == data:
-        sys.exit(f"wrong packages: {found[0]} is as it was")
+        sys.exit(f"wrong packages: {found[0]} is unchanged")
     pack(path, {**files, found[0]: change(data)} if change else files)
 
 
 def first_lines(copy, test):
-    """How what pytest says of each failed test begins, and its status."""
+    """The first line of pytest's message for each failed test, and all output."""
     words = [sys.executable, "-m", "pytest", "-q", TOP / "tests/test_packages.py", "-k", test]
     own = {**os.environ, "CI": "", "PYTHONDONTWRITEBYTECODE": "1"}
     ended = subprocess.run([*words, "--packages", copy], capture_output=True, text=True, env=own)

@@ -1,4 +1,4 @@
-"""What tests are given: the programs that the gate has built, and the library and its packages."""
+"""Fixtures: the programs that the gate has built, the library, and its packages."""
 import shutil
 import subprocess
 import sys
@@ -16,7 +16,7 @@ def pytest_addoption(parser):
 
 
 def made(request, tmp_path_factory, option, *words):
-    """The folder that an option names, or a new one that a script of bindings/ fills."""
+    """The folder that an option names, or a new folder filled by a script of bindings/."""
     if folder := request.config.getoption(option):
         return folder.resolve()
     needs_rt()
@@ -32,13 +32,13 @@ def archive(request, tmp_path_factory):
 
 @pytest.fixture(scope="session")
 def packages(request, tmp_path_factory):
-    """The folder of the packages, each of them made of what is proved."""
+    """The folder of the packages, all made from proved code."""
     return made(request, tmp_path_factory, "--packages", "packages.sh", "--draft")
 
 
 @pytest.fixture(scope="session")
 def of_c_source(tmp_path_factory):
-    """A folder with an archive and a shared object as a compiler makes them of the C source."""
+    """A folder with an archive and a shared object that a compiler makes from the C source."""
     needs("cc")
 
     def make(lib):
@@ -52,13 +52,13 @@ def of_c_source(tmp_path_factory):
 
 @pytest.fixture(scope="session", params=["archive", "of_c_source"])
 def library(request):
-    """Both: the tests of a language are run over each."""
+    """The tests of a language run with each of the two."""
     return request.getfixturevalue(request.param)
 
 
 @pytest.fixture(scope="session")
 def native(library, tmp_path_factory):
-    """A folder with the Python package, whose extension module is over the library."""
+    """A folder with the Python package and its extension module, linked with the library."""
     needs("cc")
     if not HEADER.is_file():
         leave_out("there is no Python.h")
@@ -73,7 +73,8 @@ def native(library, tmp_path_factory):
 
 @pytest.fixture(scope="session", params=["by ctypes", "by native"])
 def of_python(request, library):
-    """The variables by which a Python takes the package, and calls the library in either way."""
+    """The environment in which Python finds the package and calls the library in one of two
+    ways."""
     if request.param == "by ctypes":
         return {"PYTHONPATH": str(PYTHON), "CHINESE_NUMBER_LIB": str(library)}
     return {"PYTHONPATH": str(request.getfixturevalue("native")), "CHINESE_NUMBER_LIB": ""}
@@ -81,7 +82,7 @@ def of_python(request, library):
 
 @pytest.fixture(scope="session")
 def refuse_growth(tmp_path_factory):
-    """A library that refuses growths of the memory of the program into which it is loaded."""
+    """A library that refuses memory requests of the program that loads it."""
     needs("cc")
     made = tmp_path_factory.mktemp("refuse") / "refuse_growth.so"
     source = TOP / "tests/refuse_growth.c"
@@ -89,18 +90,18 @@ def refuse_growth(tmp_path_factory):
     return made
 
 
-# The fixtures of what `rt` builds.
+# The fixtures that need what `rt` builds.
 BUILT = {"archive", "library", "numeral", "cheque", "numbers", "allocating_calls", "bench"}
 
 
 def program(name):
-    """A fixture: the program of a crate."""
+    """A fixture for the program of a crate."""
 
     @pytest.fixture(scope="session", name=name)
     def give(refuse_growth):
         path = TOP / f"crates/{name}/out/{name}"
         if not path.is_file():
-            leave_out(f"{path.relative_to(TOP)} is not there, which `rt ci` builds")
+            leave_out(f"there is no {path.relative_to(TOP)}; `rt ci` builds it")
         return Program(path, refuse_growth)
 
     return give
@@ -111,7 +112,7 @@ allocating_calls, bench = program("allocating_calls"), program("bench")
 
 
 def pytest_collection_modifyitems(items):
-    """Marks what takes something that `rt` builds, and what takes the packages."""
+    """Marks the tests that need something built by `rt`, and those that need the packages."""
     for item in items:
         names = set(item.fixturenames)
         if "packages" in names:

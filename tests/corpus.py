@@ -1,9 +1,10 @@
-"""How well numbers are found and rewritten in sentences as people write them.
+"""Measures how well numbers are found and rewritten in ordinary sentences.
 
-`corpus.tsv` has a sentence in each row: whose hand it is by (`other`: somebody who had seen neither
-the rules nor the code), its genre, `D` where it is about a date, a time or a sum of money, which may
-be left as they are, the sentence, what an editor makes of it (answers parted by `|`, where `=` is the
-sentence as it is), and the values that a reader means (`EXPRESSION=VALUE`, where `?` is none).
+`corpus.tsv` has a sentence in each row, with these columns: the writer (`other`: somebody who had
+seen neither the rules nor the code); the genre; `D` if the sentence has a date, a time or a sum of
+money, which may stay unchanged; the sentence; what an editor makes of it (alternatives separated by
+`|`, where `=` is the unchanged sentence); and the values that a reader understands
+(`EXPRESSION=VALUE`, where `?` means no value).
 """
 import re
 from collections import Counter
@@ -11,8 +12,8 @@ from fractions import Fraction
 from pathlib import Path
 
 CORPUS = Path(__file__).resolve().parent / "corpus.tsv"
-# Of all sentences, and of those by others, at least so many of a hundred are right, and at most so
-# many are wrong.
+# For all sentences, and for those by others: the least percentage of right sentences, and the
+# greatest percentage of wrong ones.
 BARS = {"all": (92, 4), "other": (88, 6)}
 FORMS = {"percent": "%", "fraction": "/"}
 
@@ -23,7 +24,7 @@ def sentences():
 
 
 def questions():
-    """What is asked of each sentence: the text in figures, its quantities and their doubts."""
+    """The questions for each sentence: the text in figures, its quantities and their doubts."""
     for _, _, _, sentence, _, _ in sentences():
         yield ["quantities_to_figures", "none", sentence]
         yield ["find_quantities", sentence]
@@ -31,7 +32,7 @@ def questions():
 
 
 def judged(sentence, edited, mark, made):
-    """Whether a sentence is made right, left as it is or made wrong."""
+    """Whether the new sentence is right, unchanged (left) or wrong."""
     answers = [sentence if it == "=" else it for it in edited.split("|")]
     if made in answers or (mark == "D" and made == sentence):
         return "right"
@@ -45,7 +46,7 @@ def value_of(word):
 
 
 def found_in(sentence, answer):
-    """What is found in a sentence, as text and answer, where the answer has it in brackets."""
+    """The text and the answer of each expression that `answer` has in brackets."""
     between = re.split(r"\[([^\[\]]*)\]", answer)
     pattern = "(.+?)".join(map(re.escape, between[::2]))
     match = re.fullmatch(pattern, sentence)
@@ -53,7 +54,7 @@ def found_in(sentence, answer):
 
 
 def judged_values(sentence, values, quantities, doubts):
-    """How each value of a sentence comes out: right, left (doubtful or not found) or wrong."""
+    """For each value of a sentence: right, left (doubtful or not found) or wrong."""
     found = {text: answer for text, answer in found_in(sentence, quantities)}
     doubtful = {text for text, doubt in found_in(sentence, doubts) if doubt != "none"}
     for word in [] if values == "-" else values.split(";"):
@@ -73,8 +74,8 @@ def rate(counts):
 
 
 def report(said):
-    """The lines that say how the sentences came out, by genre and in all, and those that are below
-    a bar. `said` has an answer for each question."""
+    """The lines of the report, by genre and in total, and the bars that are missed. `said` has an
+    answer for each question."""
     texts, values = {}, Counter()
     answers = [line[3:] if line.startswith("ok ") else "" for line in said]
     for at, (hand, genre, mark, sentence, edited, meant) in enumerate(sentences()):
@@ -89,5 +90,5 @@ def report(said):
         counts = texts[group]
         total = sum(counts.values())
         if 100 * counts["right"] < right * total or 100 * counts["wrong"] > wrong * total:
-            low.append(f"{group}: at least {right} % have to be right, and at most {wrong} % wrong")
+            low.append(f"{group}: at least {right} % must be right, and at most {wrong} % wrong")
     return [*lines, f"    values: {rate(values)}"], low

@@ -1,5 +1,5 @@
-"""What the tests of installing share: the pages that say how to install, the packages, and what pip
-and cargo install into."""
+"""Shared by the tests of installation: the pages with the instructions, the packages, and the
+environments of pip and cargo."""
 import json
 import platform
 import re
@@ -23,7 +23,7 @@ edition = "2021"
 
 [dependencies]
 """
-# Go as it is, with a C compiler and without a network.
+# Go with its usual settings, with a C compiler and without a network.
 OF_GO = {"CGO_ENABLED": "1", "GOPROXY": "off", "GOTOOLCHAIN": "local", "GOWORK": "off"}
 
 
@@ -42,13 +42,13 @@ def listed(path):
 
 
 def commands(text):
-    """The commands that a page has in lines that are set in, outside of its examples."""
+    """The commands in the indented lines of a page, outside its examples."""
     return re.findall(r"(?:^    .*\n)+", re.sub(r"^```.*?^```$", "", text, flags=re.M | re.S), re.M)
 
 
 class Page:
-    """The install lines of a page, those from a clone first, and its example in a language, with
-    answers in comments."""
+    """The install commands of a page, those for a clone first, and its example in a language, with
+    the answers from its comments."""
 
     def __init__(self, text, name, language):
         blocks = re.findall(rf"^```{language}\n(.*?)^```$", text, re.M | re.S)
@@ -68,7 +68,7 @@ class Readme(Page):
         super().__init__(text, f"the README of {package.name}", language)
 
     def follow(self, packages, folder, which=1, **more):
-        """Follows install lines, the second ones of the page or others, in a folder that has the
+        """Runs install commands of the page (by default the second ones) in a folder that has the
         packages."""
         folder.mkdir(exist_ok=True)
         for package in packages_in(packages):
@@ -82,8 +82,8 @@ def packages_in(folder):
 
 
 def package(packages, pattern, what):
-    """The one package of this name. Where PROVENANCE.json says that it was left out, so is the
-    test."""
+    """The one package with this name. If PROVENANCE.json says that it was left out, the test is
+    skipped."""
     found = list(packages.glob(pattern))
     if len(found) != 1:
         provenance = json.loads((packages / "PROVENANCE.json").read_bytes())
@@ -94,14 +94,14 @@ def package(packages, pattern, what):
 
 
 def unpacked(tarball, folder):
-    """A folder with the files of a tarball. Where it stands is of no matter."""
+    """A folder with the files of a tarball; its place does not matter."""
     with tarfile.open(tarball) as packed:
         packed.extractall(folder / "first")
     return next((folder / "first").iterdir()).rename(folder / "a folder")
 
 
 def pythons(least):
-    """The Pythons of pyenv's from a version on, where there are any, and this one."""
+    """The Pythons of pyenv from a version on, if there are any, and this one."""
     programs = Path.home().glob(".pyenv/versions/3.*/bin/python3")
     found = sorted((numbers_of(it.parent.parent.name), str(it)) for it in programs)
     found = [it for it in found if it[0] >= least] + [(sys.version_info[:3], sys.executable)]
@@ -109,19 +109,19 @@ def pythons(least):
 
 
 def ends(found):
-    """The first, the one before the last and the last of them."""
+    """The first, the last but one, and the last of them."""
     names = [*found]
     return {name: found[name] for name in dict.fromkeys(names[:1] + names[-2:])}
 
 
 CPYTHONS = ends(pythons((3, 8)))
-BY_NATIVE = pythons((3, 10))  # those that take the extension module
+BY_NATIVE = pythons((3, 10))  # those that support the extension module
 PYTHONS = {**CPYTHONS, "pypy3": "pypy3"}
 
 
 def virtual_environment(program, folder):
-    """A new virtual environment of a Python, for which pip asks no index: the variables that choose
-    it."""
+    """Creates a virtual environment of a Python in which pip uses no index; returns the environment
+    variables that select it."""
     needs(program)
     run(program, "-m", "venv", "--clear", folder, cwd=folder.parent)
     quiet = {"PIP_DISABLE_PIP_VERSION_CHECK": "1", "PIP_QUIET": "1", "PIP_NO_CACHE_DIR": "1"}
@@ -130,13 +130,14 @@ def virtual_environment(program, folder):
 
 
 def of_rust(project, page):
-    """A project whose program is the example of a page."""
+    """A Rust project whose program is the example of a page."""
     write(project / "src/main.rs", f"fn main() {{\n{page.example}}}\n")
     return write(project / "Cargo.toml", MANIFEST).parent
 
 
 def npm(*words, cwd):
-    """What npm says, with settings of nobody, and with a registry where nothing listens."""
+    """The output of npm, without user settings, and with a registry address where nothing
+    listens."""
     settings = {"cache": cwd.parent / "npm", "registry": "http://127.0.0.1:9/", "offline": "true"}
     settings.update(userconfig="/dev/null", audit="false", fund="false", update_notifier="false")
     own = {f"npm_config_{name}": str(value) for name, value in settings.items()}

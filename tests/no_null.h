@@ -1,4 +1,4 @@
-/* To be included in front of a program: then its calls of the proved library are given no NULL, or
+/* To be included before a program: if the program then passes NULL to a call of the proved library,
  * the sanitizer for undefined behaviour ends it. */
 #include <stddef.h>
 #include <stdint.h>

@@ -1,10 +1,10 @@
-"""What the library is asked in all languages: the rows of `tests/rows`, the worked rows in the
+"""The questions for the library in all languages: the rows of `tests/rows`, the worked rows in the
 tables of the pages, and the worked examples of docs/RULES.md.
 
-In a row of a page that begins with two cells in code a program answers: `numeral` where the second
-is `ok ..`, `err ..` or `bad line`, and else `cheque`. An example of RULES is `ASKED`→`ANSWER`, where
-refusals are short, and its heading says what answers. test.py needs this file, which takes Python
-from 3.8 on.
+A row of a page that begins with two cells in code is a question to a program: to `numeral` if the
+second cell is `ok ..`, `err ..` or `bad line`, otherwise to `cheque`. An example of RULES is
+`ASKED`→`ANSWER`, with refusals in short form; its heading decides which program or call answers.
+test.py needs this file, which runs with Python 3.8 or later.
 """
 import re
 from pathlib import Path
@@ -15,7 +15,7 @@ RULES = "docs/RULES.md"
 ROW = re.compile(r"^\| `([^`]*)` \| `([^`]*)` \|", re.MULTILINE)
 EXAMPLE = re.compile(r"`([^`]+)`→`([^`]+)`")
 OF_NUMERAL = re.compile(r"(?:ok|err) .*|bad line")
-# The refusals that examples have in short, beside that of a position.
+# The short forms of refusals in examples, besides `at POSITION`.
 REFUSALS = {
     "empty": "err a chinese number cannot be empty",
     "unfinished": "err the {} is not finished",
@@ -24,7 +24,7 @@ REFUSALS = {
     "bad line": "bad line",
 }
 # The headings of RULES under which `cheque` answers, and those under which a call of the libraries
-# does, with its words in front. Under all others `numeral` answers.
+# answers, with the first words of its question. Under all others `numeral` answers.
 OF_CHEQUE = ("Amounts of money", "Amounts in figures", "Dates on bills")
 OF_CALLS = {
     "Numbers in a text": ["find"],
@@ -42,9 +42,9 @@ OF_CALLS = {
     "Amounts below zero": ["read_signed_amount"],
     "Amounts as typed": ["read_typed_amount"],
 }
-# The plain characters of figures; ¥ and commas stand for nothing.
+# The ASCII characters of figures; ¥ and commas are dropped.
 PLAIN = str.maketrans("０１２３４５６７８９．", "0123456789.", "¥￥,，")
-# The files of `tests/rows` that the libraries alone are asked: no program is.
+# The files of `tests/rows` for the libraries alone, and not for a program.
 OF_LIBRARIES = (
     "any",
     "forms",
@@ -57,19 +57,19 @@ OF_LIBRARIES = (
     "written",
     "replaced",
 )
-# How many words a line of `numeral` has; the last one may have spaces in it.
+# The number of words in a line of `numeral`; the last word may have spaces in it.
 WORDS = {"read": 4, "print": 6}
 
 
 def table(name):
-    """The rows of a file of `tests/rows`: of each line its cells."""
+    """The rows of a file of `tests/rows`: the cells of each line."""
     text = (TOP / "tests/rows" / (name + ".tsv")).read_text(encoding="utf-8")
     return [line.split("\t") for line in text.splitlines() if not line.startswith("# ")]
 
 
 def of_files(names=("numbers", "amounts", "dates")):
-    """What stands in files of `tests/rows`: the words of a question, and the answer. What is asked
-    of several ways stands there once."""
+    """The rows of files of `tests/rows`: the words of each question, and the answer. A row with
+    several ways gives a question for each."""
     for name in names:
         for *words, answer in table(name):
             ways = words[2].split(" ") if name == "numbers" else [None]
@@ -83,7 +83,7 @@ def pages():
 
 
 def in_full(answer, what):
-    """What answers, by the answer of an example; `what` is read."""
+    """The full answer for the short answer of an example; `what` names what is read."""
     if re.fullmatch(r"at \d+", answer):
         return f"err the {what} is incorrect (position: {answer[3:]})"
     of_numbers = re.compile(r"(?<=\[)(at )?\d+(?=\])")
@@ -92,7 +92,7 @@ def in_full(answer, what):
 
 
 def examples():
-    """The heading, what is asked and the answer of each example of RULES."""
+    """The heading, the question and the answer of each example of RULES."""
     text = (TOP / RULES).read_text(encoding="utf-8")
     for part in re.split("^#+ ", text, flags=re.MULTILINE)[1:]:
         heading, _, its = part.partition("\n")
@@ -103,12 +103,12 @@ def examples():
 
 
 def line_of(asked):
-    """The line of `numeral`. What is none is a text, read as an `i64` by `ten_thousand`."""
+    """The line for `numeral`. Anything else is a text, read as an `i64` with `ten_thousand`."""
     return asked if re.match("(read|print) ", asked) else f"read i64 ten_thousand {asked}"
 
 
 def of_numeral():
-    """The page, the line and the answer of each row and example of `numeral`."""
+    """The page, the line and the answer of each row and example for `numeral`."""
     for page, text in pages():
         for asked, answer in ROW.findall(text):
             if OF_NUMERAL.fullmatch(answer):
@@ -119,7 +119,7 @@ def of_numeral():
 
 
 def of_cheque():
-    """The word and the answer of each row and example of `cheque`."""
+    """The word and the answer of each row and example for `cheque`."""
     for _, text in pages():
         for asked, answer in ROW.findall(text):
             if not OF_NUMERAL.fullmatch(answer):
@@ -135,14 +135,14 @@ def begins_figures(text):
 
 
 def value(figures):
-    """What a call takes and gives for figures: of an amount its fen; a date stays as it is."""
+    """The argument or result of a call for figures: the fen of an amount, or the date unchanged."""
     yuan, _, places = figures.translate(PLAIN).partition(".")
     return figures if "-" in figures else str(int(yuan + places[:2].ljust(2, "0")))
 
 
 def questions_on_capitals(word, answer):
-    """What is asked by a row of `cheque`: figures are written, and what is written is read back.
-    Figures of an amount are read too, by the call that is alike but for a minus."""
+    """The questions for a row of `cheque`: figures are written, and the result is read back.
+    Figures of an amount are also read, by a call that differs only in accepting a minus."""
     what = "date" if re.search("-|年", word) else "amount"
     if begins_figures(word):
         is_refused = begins_figures(answer)
@@ -157,8 +157,8 @@ def questions_on_capitals(word, answer):
 
 
 def questions():
-    """What the calls of the library are asked, as test.py says it: the words of a question, of
-    which the first one names the call, and the answer."""
+    """The questions for the calls of the library, in the form of test.py: the words of a question,
+    of which the first names the call, and the answer."""
     yield from of_files()
     yield from of_files(OF_LIBRARIES)
     for _, line, answer in of_numeral():
@@ -172,8 +172,8 @@ def questions():
 
 
 def wrong_answers(ask):
-    """The questions that are answered otherwise, each with its answer and the one that is wanted.
-    `ask` gives what is said to questions, a line each."""
+    """The questions with wrong answers, each with its answer and the right one. `ask` returns the
+    answers to questions, a line each."""
     rows = list(questions())
     said = ask("".join("\t".join(question) + "\n" for question, _ in rows)).splitlines()
     said += ["nothing"] * (len(rows) - len(said))

@@ -1,6 +1,6 @@
-// To be preloaded into a program: refuses the growth whose number, counted from 1, stands in the
-// environment as REFUSE, and the next ones, as many as stand there as MORE. It says so on standard
-// error, a line for each, with the bytes that were asked for where the environment has SIZES.
+// To be preloaded into a program: refuses the memory request whose number, counted from 1, is in
+// the environment variable REFUSE, and as many requests after it as MORE says. It writes a line to
+// standard error for each, with the number of requested bytes if SIZES is set.
 #define _GNU_SOURCE
 #include <dlfcn.h>
 #include <errno.h>

@@ -1,5 +1,5 @@
-"""What all tests run programs by. A program's memory and its disk are refused here, it is talked to
-line by line here, and a test for which a tool is missing is left out here, and nowhere else."""
+"""How all tests run programs. Only this file refuses a program memory or disk space, talks to it
+line by line, and skips a test for which a tool is missing."""
 import fcntl
 import importlib.util
 import os
@@ -18,20 +18,20 @@ import pytest
 TOP = Path(__file__).resolve().parent.parent
 PYTHON = TOP / "bindings/python"
 HEADER = Path(sysconfig.get_path("include"), "Python.h")
-SECONDS = 10  # for an answer in a dialogue
+SECONDS = 10  # the limit for an answer in a dialogue
 WINE = "wine|wine64|/usr/lib/wine/wine64"
 
 
 def leave_out(why):
-    """Leaves a test out. Under CI, where every tool has to be, it fails."""
+    """Skips a test. In CI, where every tool must be installed, the test fails."""
     if os.environ.get("CI"):
-        fail(f"left out, which under CI nothing is: {why}")
+        fail(f"skipped, which is an error in CI: {why}")
     pytest.skip(f"{os.environ['PYTEST_CURRENT_TEST'].split('::')[0]}: {why}")
 
 
 def needs(*tools):
-    """Leaves a test out where one of these tools is missing; of two with a bar between them either
-    will do, and behind a blank stands the least version. Gives the last one."""
+    """Skips a test if one of these tools is missing. `|` separates alternatives, and a least
+    version may follow after a blank. Returns the last tool."""
     for tool in tools:
         names, _, least = tool.partition(" ")
         found = next((it for it in names.split("|") if shutil.which(it, path=PATH)), None)
@@ -43,7 +43,7 @@ def needs(*tools):
 
 
 def needs_modules(*names):
-    """Leaves a test out where this Python lacks one of these modules."""
+    """Skips a test if this Python has no module of one of these names."""
     for name in names:
         if not importlib.util.find_spec(name):
             leave_out(f"{sys.executable} has no {name}")
@@ -55,12 +55,12 @@ def needs_rt():
 
 
 def needs_compiler(folder, *words):
-    """Leaves a test out where no compiler takes these words."""
+    """Skips a test if the compiler does not accept these arguments."""
     needs(words[0])
     source = write(folder / "empty.c", "int main(void) { return 0; }\n")
     words = [*words, source, "-o", folder / "empty.exe"]
     if subprocess.run(words, env=ENVIRONMENT, capture_output=True).returncode:
-        leave_out(f"{words[0]} takes no {' '.join(words[1:-3])}")
+        leave_out(f"{words[0]} does not accept {' '.join(words[1:-3])}")
 
 
 def numbers_of(text):
@@ -89,8 +89,8 @@ def fail(why):
 
 
 def run(*words, cwd, wanted=None, stdin="", fails=False, **more):
-    """What a user's command says, where it ends well, or with `fails` ill; `wanted` is all that it
-    has to say."""
+    """The output of a user's command, which must succeed, or fail with `fails`. `wanted` is the
+    whole output that it must print."""
     words = [str(word) for word in words]
     pipes = {"stdout": subprocess.PIPE, "stderr": subprocess.STDOUT, "encoding": "utf-8"}
     own = {"input": stdin, "cwd": cwd, "env": dict(ENVIRONMENT, **more), "errors": "replace"}
@@ -101,8 +101,8 @@ def run(*words, cwd, wanted=None, stdin="", fails=False, **more):
 
 
 def of_wine(folder):
-    """The variables by which wine has a Windows of its own in a folder, without what asks for
-    downloads or makes menus."""
+    """The environment in which wine uses its own Windows in a folder, without parts that offer
+    downloads or make menus."""
     own = {"HOME": str(folder), "WINEPREFIX": str(folder / "wine"), "WINEDEBUG": "-all"}
     return {**own, "WINEDLLOVERRIDES": "mscoree,mshtml,winemenubuilder.exe="}
 
@@ -114,7 +114,7 @@ def write(path, text):
 
 
 def once(tmp_path_factory, name, make):
-    """A folder of this name that `make` fills, once for all workers of pytest-xdist."""
+    """A folder that `make` fills once, for all workers of pytest-xdist."""
     top = tmp_path_factory.getbasetemp()
     top = top.parent if "PYTEST_XDIST_WORKER" in os.environ else top
     folder = top / name
@@ -127,13 +127,13 @@ def once(tmp_path_factory, name, make):
 
 
 class Program:
-    """A program that the gate has built, and the library that refuses growths of its memory."""
+    """A program that the gate has built, and the library that refuses its memory requests."""
 
     def __init__(self, path, refuse_growth):
         self.path, self.refuse_growth = path, refuse_growth
 
     def __call__(self, *words, data=b"", megabytes=None, **more):
-        """Its status, and what it writes to its output and to standard error."""
+        """The status, standard output and standard error of a run."""
         limit = (megabytes << 20 if megabytes else resource.RLIM_INFINITY,) * 2
         more.setdefault("stdout", subprocess.PIPE)
         more.setdefault("stderr", subprocess.PIPE)
@@ -148,8 +148,8 @@ class Program:
         return ended.returncode, ended.stdout, ended.stderr
 
     def with_refused(self, first, *words, more=0, data=b""):
-        """The same with this growth of memory refused, counted from 1, and the next ones. The data
-        is in a file, which each run reads by the same pieces."""
+        """The same, with one memory request refused, counted from 1, and `more` after it. The data
+        is in a file, which each run reads in the same pieces."""
         own = {"LD_PRELOAD": str(self.refuse_growth), "REFUSE": str(first), "MORE": str(more)}
         with tempfile.TemporaryFile() as asked:
             asked.write(data)
@@ -157,8 +157,8 @@ class Program:
             return self(*words, stdin=asked, env={**os.environ, **own, "SIZES": "1"})
 
     def each_growth_refused(self, *words, data=b""):
-        """What it has written with each growth that it takes refused in turn, in a run of its own.
-        Each time the status is 2; and where a growth is not asked for, all is well."""
+        """The outputs of runs in which each memory request is refused in turn. The status must be 2
+        each time; a run in which the refused request is not made must succeed."""
         written = []
         while True:
             status, output, error = self.with_refused(len(written) + 1, *words, data=data)
@@ -169,13 +169,13 @@ class Program:
             written.append(output)
 
     def onto_a_full_disk(self, *words, data=b""):
-        """Its status, and what it says, where nothing can be written."""
+        """The status and standard error if nothing can be written."""
         with open("/dev/full", "wb") as full:
             status, _, error = self(*words, data=data, stdout=full)
         return status, error
 
     def of_no_file(self, *words):
-        """The same as of a call, where its input is a folder and cannot be read."""
+        """The result of a call whose input is a folder and cannot be read."""
         folder = os.open("/", os.O_RDONLY)
         try:
             return self(*words, stdin=folder)
@@ -187,7 +187,7 @@ class Program:
 
 
 class Dialogue:
-    """A program that is asked a line at a time, and has to answer before the next one is sent."""
+    """A program that gets a line at a time, and must answer before the next line is sent."""
 
     def __init__(self, *words):
         pipes = {"stdin": subprocess.PIPE, "stdout": subprocess.PIPE, "bufsize": 0}
@@ -209,7 +209,7 @@ class Dialogue:
         return answer.decode()[:-1]
 
     def __exit__(self, failed, *_):
-        """At the end of its input it ends well, without a further byte."""
+        """At the end of its input the program must succeed, without a further byte."""
         self.process.stdin.close()
         if failed:
             self.process.kill()

@@ -1,4 +1,4 @@
-"""`bench`, and the plain Rust with which docs/SPEED.md compares it, do the same work."""
+"""Checks that `bench` and the plain Rust with which docs/SPEED.md compares it do the same work."""
 import itertools
 
 import pytest

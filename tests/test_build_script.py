@@ -1,8 +1,8 @@
-"""The build script of the Rust crate: which archive it takes, and which tools it calls, for many
-targets.
+"""The build script of the Rust crate: the archive that it uses and the tools that it calls, for
+many targets.
 
-It runs as cargo runs it, with what rustc says of the target. It finds only tools that say how they
-were called, so no compiler for any target is needed.
+It runs as in cargo, with the configuration that rustc prints for the target. It finds only tools
+that print how they were called, so no compiler for a target is needed.
 """
 import re
 import subprocess
@@ -17,7 +17,7 @@ MICROSOFT, WEB, BARE = "x86_64-pc-windows-msvc", "wasm32-unknown-unknown", "thum
 MINGW = "x86_64-pc-windows-gnu"
 OF_WEB, OF_BARE = "CC_wasm32_unknown_unknown", "CC_thumbv8m_main_none_eabi"
 # A target, the host, variables, and the compiler and the archiver that are called; or the variable
-# that the script asks for.
+# that the script requests.
 ROWS = (
     (LINUX, LINUX, {}, "cc, ar"),
     (ARM, ARM, {}, "cc, ar"),
@@ -44,7 +44,7 @@ ROWS = (
     (MAC, LINUX, {}, "CC_aarch64_apple_darwin"),
     (MICROSOFT, LINUX, {}, "CC_x86_64_pc_windows_msvc"),
     ("i686-pc-windows-msvc", MICROSOFT, {}, "CC_i686_pc_windows_msvc"),
-    # Named tools, each before the usual one and before those that are named for more targets.
+    # Tools named by variables, which precede the usual tool and tools named for more targets.
     (WEB, LINUX, {"CC": "", "AR": "llvm-ar"}, OF_WEB),
     (WEB, LINUX, {"CC": "clang --target=wasm32"}, "clang --target=wasm32, ar"),
     (LINUX, LINUX, {"CC": "clang", "AR": "llvm-ar"}, "clang, llvm-ar"),
@@ -53,7 +53,7 @@ ROWS = (
     (BARE, LINUX, {OF_BARE: "clang", "TARGET_CC": "cc"}, "clang, ar"),
     (BARE, LINUX, {f"CC_{BARE}": "clang", OF_BARE: "cc"}, "clang, ar"),
 )
-# A target, and which of the package's archives it is given, if any.
+# A target, and the archive of the package that it gets, if any.
 ARCHIVES = (
     (LINUX, "linux-x86_64"),
     ("x86_64-unknown-linux-musl", "linux-x86_64"),
@@ -70,7 +70,7 @@ TOOL = '#!/bin/sh\necho "called ${0##*/} $*"\n'
 
 @pytest.fixture(scope="module")
 def script(tmp_path_factory):
-    """The script in a folder with C source, and with each tool that a row names."""
+    """The script in a folder with C source and each tool that a row names."""
     needs("rustc")
     folder = tmp_path_factory.mktemp("script")
     write(folder / "source/chinese_number.c", "")
@@ -82,21 +82,21 @@ def script(tmp_path_factory):
 
 
 def of_target(target):
-    """What cargo tells a build script of a target, by rustc's own word."""
+    """What cargo passes to a build script for a target, from rustc's own output."""
     said = run("rustc", "--print", "cfg", "--target", target, cwd=TOP)
     found = re.findall(r'^(target_\w+)="(.*)"$', said, re.M)
     return {f"CARGO_CFG_{name.upper()}": value for name, value in found}
 
 
 def end_of(script, folder, target, host, **variables):
-    """How the script ends for the package in a folder."""
+    """The result of the script for the package in a folder."""
     told = {"TARGET": target, "HOST": host, "CARGO_MANIFEST_DIR": folder, "OUT_DIR": folder}
     told |= {"PATH": f"{script.parent}/tools", **of_target(target), **variables}
     return subprocess.run([script], env=told, capture_output=True, text=True)
 
 
 def outcome(script, target, host, variables):
-    """The tools' calls, up to the words that the script puts behind, or what it asks for."""
+    """The calls of tools, up to the words that the script appends, or the variable it requests."""
     ended = end_of(script, script.parent, target, host, **variables)
     calls = re.findall(r"^called (.*?) (?:-O2|crs|/nologo) ", ended.stdout, re.M)
     asked = re.search(r" Set (\S+) to one\.$", ended.stderr.strip())
@@ -112,7 +112,7 @@ def test_tools(script, target, host, variables, wanted):
 
 @pytest.mark.parametrize("target, wanted", ARCHIVES)
 def test_archives(script, tmp_path, target, wanted):
-    """Where there is none for a target, the C source is compiled."""
+    """If there is no archive for a target, the C source is compiled."""
     write(tmp_path / "source/chinese_number.c", "")
     for name in {name for _, name in ARCHIVES if name}:
         write(tmp_path / "lib" / name / "libchinese_number.a", "")

@@ -1,11 +1,11 @@
-"""The examples in C, compiled as C and as C++ by each compiler, over the archive and the C source,
-and those of the header for C++.
+"""The examples in C, compiled as C and as C++ by each compiler, with the archive and the C source,
+and the examples of the C++ header.
 
-`example.c` meets each status, `sixteen_bits.c` prints and reads back each number of 16 bits, and
-each from 0 on as an amount in each form, in four threads, and `each_fen.c` 210,001 amounts, also
-below zero, as they are typed and in figures; `example.cpp` has what the rows of `tests/rows` do not
-ask. They run under valgrind too, and with the sanitizers for addresses and for undefined behaviour.
-No compiler warns of a header, and each warns of a wrong call.
+`example.c` gets each status. `sixteen_bits.c` prints and reads back each number of 16 bits, and
+each from 0 on as an amount in each form, in four threads. `each_fen.c` does so for 210,001 amounts,
+also below zero, as typed and in figures. `example.cpp` tests what the rows of `tests/rows` do not.
+They also run under valgrind and with the sanitizers for addresses and undefined behaviour. No
+compiler warns about a header, and each warns about a wrong call.
 """
 import pytest
 
@@ -45,14 +45,14 @@ EXAMPLES = {
 }
 AS_C, AS_CPP = ("-x", "c", "-std=c99"), ("-x", "c++", "-std=c++17")
 COMPILERS = {"cc": AS_C, "gcc": AS_C, "clang": AS_C, "g++": AS_CPP, "clang++": AS_CPP}
-# Of each example its compilers: those of C++ take C too.
+# The compilers of each example: C++ compilers also compile C.
 RUNS = [
     (name, compiler)
     for name in EXAMPLES
     for compiler, words in COMPILERS.items()
     if name.endswith(".c") or words is AS_CPP
 ]
-# And those of its own language.
+# The compilers of the example's own language.
 OWN = [
     (name, compiler)
     for name, compiler in RUNS
@@ -65,24 +65,23 @@ ANSWERS = [
     ("answers.cpp", "clang++"),
 ]
 STRICT = ("-Wall", "-Wextra", "-Werror", "-pedantic", "-O1", "-g", "-pthread")
-# All warnings but that a struct of the interface has bytes between its members, and that C++ is
-# younger than that of 1998.
+# All warnings except those about padding in a struct of the interface and about C++ after C++98.
 EACH_WARNING = {
     "gcc": "-Wall -Wextra -pedantic -Wconversion -Wcast-qual -Wshadow -Wundef",
     "clang": "-Weverything -Wno-padded",
     "g++": "-Wall -Wextra -pedantic -Wconversion -Wcast-qual -Wshadow -Wundef -Wold-style-cast",
     "clang++": "-Weverything -Wno-padded -Wno-c++98-compat -Wno-c++98-compat-pedantic",
 }
-# no_null.h declares the proved calls so that a NULL for one of them is undefined behaviour.
+# no_null.h declares the proved calls so that passing NULL to one is undefined behaviour.
 NO_NULL = ("-include", TOP / "tests/no_null.h")
 SANITIZERS = ("-fsanitize=address,undefined", "-fno-sanitize-recover=all", *NO_NULL)
-STEP = "31"  # of the numbers under valgrind, which takes fifty times as long
+STEP = "31"  # the numbers under valgrind, which takes fifty times as long
 VALGRIND = "valgrind --quiet --error-exitcode=9 --leak-check=full --show-leak-kinds=all"
 
 
 @pytest.fixture
 def compiled(library, tmp_path):
-    """What compiles a program of `bindings/c`, with the archive or the shared object."""
+    """The command that compiles a program of `bindings/c` with the archive or the shared object."""
 
     def call(name, compiler, *flags, shared=False):
         needs(compiler)
@@ -141,8 +140,8 @@ cn_status replaced(const char *text, char *room, size_t *length) {
 
 @pytest.mark.parametrize("compiler", EACH_WARNING)
 def test_no_warning(compiler, tmp_path):
-    """Neither header has a cause for one, nor have flags that are added together; of the header
-    for C++ the example makes what its templates say."""
+    """Neither header causes a warning, nor do flags that are added together. The example uses the
+    templates of the C++ header."""
     needs(compiler)
     flags = write(tmp_path / "flags.c", FLAGS)
     words = (*COMPILERS[compiler], *EACH_WARNING[compiler].split(), "-Werror", "-O2", "-I", C)
@@ -168,8 +167,8 @@ UNUSED = WRONG.format("", "CN_SIMPLIFIED, CN_UPPER")
 
 @pytest.mark.parametrize("compiler", EACH_WARNING)
 def test_wrong_calls(compiler, tmp_path):
-    """Exchanged arguments are warned of in C and refused in C++, and a status that is not looked
-    at is warned of."""
+    """Exchanged arguments cause a warning in C and an error in C++; an unused status causes a
+    warning."""
     needs(compiler)
     exchanged = "enum-conversion" if COMPILERS[compiler] is AS_C else "cn_case"
     for text, told in ((RIGHT, ""), (EXCHANGED, exchanged), (UNUSED, "unused-result")):
@@ -180,7 +179,7 @@ def test_wrong_calls(compiler, tmp_path):
 
 @pytest.mark.parametrize("compiler", [it for it, words in COMPILERS.items() if words is AS_CPP])
 def test_no_part_of_a_fen(compiler, tmp_path):
-    """In C++ an amount is a whole number: a double, which C would cut, is refused."""
+    """In C++ an amount is a whole number: a double, which C would truncate, is an error."""
     needs(compiler)
     call = "chinese_number::amount_to_chinese({}).value_or({{}})"
     text = f'#include "chinese_number.hpp"\nauto text = {call};\n'

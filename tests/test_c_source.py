@@ -1,8 +1,8 @@
-"""The C source of `dist/`: what each compiler makes of it answers as the archive does.
+"""The C source of `dist/`: compiled by each compiler, it answers as the archive does.
 
-`same.c` shows one sum over what the calls answer. No compiler warns of the source. The object is
-looked at, and CMake builds it as a part of a user's project, and installs it with both headers.
-test_packages.py follows the page of its package.
+`same.c` prints one sum over the results of the calls. No compiler warns about the source. The
+symbols of the object are checked. CMake builds it as a part of a user's project and installs it
+with both headers. test_packages.py follows the page of its package.
 """
 import re
 
@@ -16,12 +16,12 @@ THREADS = ("-DTHREADS", "-pthread")
 MINGW = ("x86_64-w64-mingw32-gcc", "-O2", "-static")
 STATIC = ("-O2", "-static", *THREADS)
 SANITIZED = ("-fno-sanitize-recover=all", *THREADS)
-# What compiles, and what runs the program where this machine does not: the first that is there.
+# The compiler, and what runs the program if this machine cannot: the first one that is there.
 BUILDS = {
     "gcc": (("gcc", "-O2", *THREADS), None),
     "gcc, freestanding": (("gcc", "-O2", "-ffreestanding", *THREADS), None),
     "clang": (("clang", "-O2", *THREADS), None),
-    # Each by the level by which it is compiled and run in the least time.
+    # Each with the optimization level that needs the least time to compile and run.
     "addresses": (("clang", "-O0", "-fsanitize=address,undefined", *SANITIZED), None),
     "threads": (("clang", "-O1", "-fsanitize=thread", *SANITIZED), None),
     "memory": (("clang", "-O1", "-fsanitize=memory", *SANITIZED), None),
@@ -31,13 +31,13 @@ BUILDS = {
     "s390x": (("s390x-linux-gnu-gcc", *STATIC), "qemu-s390x|qemu-s390x-static"),
     "windows": (MINGW, WINE),
 }
-# Each request for memory is refused. There are no threads, which ask for some themselves.
+# Each memory request is refused. There are no threads, which would make requests themselves.
 REFUSING = {"REFUSE": "1", "MORE": "1000000000"}
 ASKED = {"abort", "memcpy", "memmove", "memset"}
 
 
 def sum_of(folder, words, library, runner=(), **more):
-    """The sum that `same.c` shows over a library."""
+    """The sum that `same.c` prints for a library."""
     program = folder / "same.exe"
     run(*words, "-I", DIST, TOP / "checks/same.c", library, "-o", program, cwd=folder)
     said = run(*runner, program, cwd=folder, **of_wine(folder), **more)
@@ -74,9 +74,9 @@ def test_no_warning(compiler, tmp_path):
 
 
 def test_object(tmp_path):
-    """It shows the header's calls alone, asks for four names, and has no data to write."""
+    """It exports only the header's calls, imports four names, and has no writable data."""
     needs("cc", "nm", "size")
-    # What some systems have their compilers add would ask for more.
+    # What compilers add on some systems would import more.
     plain = ("-fno-stack-protector", "-U_FORTIFY_SOURCE", "-O2", "-fvisibility=hidden")
     run("cc", *plain, "-c", DIST / "chinese_number.c", cwd=tmp_path)
     header = (DIST / "chinese_number.h").read_text(encoding="utf-8")
@@ -89,7 +89,7 @@ def test_object(tmp_path):
 
 
 def test_shared_by_cmake(tmp_path):
-    """CMake builds a program over it as a shared library, in a project of the user's."""
+    """CMake builds it as a shared library with a program, in a user's project."""
     needs("cc", "cmake")
     project = (TOP / "tests/users/part.cmake").read_text(encoding="utf-8")
     write(tmp_path / "CMakeLists.txt", project)
@@ -101,7 +101,7 @@ def test_shared_by_cmake(tmp_path):
 
 
 def test_installed_by_cmake(tmp_path):
-    """What CMake installs of it serves a program in C++ by its header and pkg-config."""
+    """A C++ program can use what CMake installs, with its header and pkg-config."""
     needs("g++", "cmake", "pkg-config")
     run("cmake", "-S", DIST, "-B", "build", "-DCMAKE_INSTALL_LIBDIR=lib", cwd=tmp_path)
     run("cmake", "--build", "build", cwd=tmp_path)

@@ -1,7 +1,7 @@
-"""What `cheque` answers to its arguments, and with which status it ends.
+"""The output and the status of `cheque` for its arguments.
 
-An answer goes to standard output, and a refusal or the usage to standard error; the other stays
-empty. With each growth of memory refused in turn the status is 2, and nothing is written.
+An answer goes to standard output, a refusal or the usage to standard error; the other stays empty.
+If a memory request is refused, the status is 2 and nothing is written; each request is tried.
 """
 import pytest
 
@@ -20,7 +20,7 @@ def date_at(place):
     return f"the date is incorrect (position: {place})"
 
 
-# A word, and what is written to standard output, at status 0.
+# A word, and the standard output, with status 0.
 ANSWERED = {
     "1409.50": "壹仟肆佰零玖元伍角整",
     "1409.5": "壹仟肆佰零玖元伍角整",
@@ -53,7 +53,7 @@ ANSWERED = {
     "貳零參陸年零貳月零叄日": "2036-02-03",
     "玖玖玖玖年壹拾贰月叁拾壹日": "9999-12-31",
 }
-# A word, and the refusal, at status 1.
+# A word, and the refusal, with status 1.
 REFUSED = {
     "": NOT_FINISHED,
     "15.": NOT_FINISHED,
@@ -104,7 +104,7 @@ REFUSED = {
     "二零二六年": date_at(0),
     "贰零贰陆年 零壹月": date_at(5),
 }
-# Arguments that ask for nothing: the usage, at status 2.
+# Arguments that are no question: the usage, with status 2.
 UNKNOWN = [
     (),
     ("1", "2"),
@@ -117,7 +117,7 @@ UNKNOWN = [
 ]
 
 
-# Of amounts and of dates, written and read.
+# Amounts and dates, written and read.
 WORDS = ["15", "壹元整", "2026-01-15", "伍年叁月零壹日"]
 
 

@@ -1,8 +1,9 @@
-"""The library, installed from a clone as the pages of `bindings/` say and in further ways of pip,
-cargo, CMake and cc, where there is no `rt` on the path and no network.
+"""The library, installed from a clone as the pages of `bindings/` describe and in further ways of
+pip, cargo, CMake and cc, without `rt` on the path and without a network.
 
-The clones are of the files that are here, each in a folder with a blank in its name. Behind each
-installing stands a use of what was installed, and then the clone has no file more than was said.
+The clones have the files that are here, each in a folder with a blank in its name. Each
+installation is followed by a use of what was installed; then the clone must have only the expected
+new files.
 """
 import shutil
 import subprocess
@@ -22,19 +23,19 @@ OFFLINE = ("unshare", "--map-root-user", "--net")
 
 
 def page_of(folder, language=None):
-    """A page of `bindings/`, and its example in a language, else in that of the folder's name."""
+    """A page of `bindings/` and its example in a language, by default that of the folder's name."""
     name = f"bindings/{folder}/README.md"
     return Page((TOP / name).read_text(encoding="utf-8"), name, language or folder)
 
 
 def by_page(page, which=0):
-    """The lines that a page has for a clone."""
+    """The commands that a page has for a clone."""
     return textwrap.dedent(page.installs[which])
 
 
 @pytest.fixture(scope="module")
 def first(tmp_path_factory):
-    """The first clone, of all files that are here."""
+    """The first clone, with all files that are here."""
     needs("git")
     folder = tmp_path_factory.mktemp("clone") / "first"
     shutil.copytree(TOP, folder, ignore=NOT_CLONED)
@@ -45,15 +46,14 @@ def first(tmp_path_factory):
 
 @pytest.fixture(scope="module")
 def begin():
-    """What a command begins with, so that it has no network."""
+    """The beginning of a command that runs it without a network."""
     tried = subprocess.run([*OFFLINE, "true"], env=ENVIRONMENT, capture_output=True)
     return () if tried.returncode else OFFLINE
 
 
 @pytest.fixture
 def follow(first, begin, tmp_path):
-    """Follows commands in a folder of their own, with a clone in which they leave one file or
-    none."""
+    """Runs commands in their own folder, with a clone in which they may leave one file or none."""
     own = tmp_path / "user"
     own.mkdir()
 
@@ -88,7 +88,7 @@ if CC=/nowhere pip install "$CLONE/bindings/python" > said 2>&1; then exit 1; fi
 if grep Traceback said; then exit 1; fi
 grep -o 'install a C compiler' said
 """
-# Each way of pip, what it has to say at the end, and what it leaves in the clone.
+# Each way of pip, what it must print at the end, and what it leaves in the clone.
 OF_PIP = {
     "editable": (EDITABLE, NUMBER, BESIDE_MODULE),
     "by git": (BY_GIT, NUMBER, ""),
@@ -133,7 +133,7 @@ def test_cargo(follow, way):
     follow(OF_CARGO[way], **own)
 
 
-# The file in which go keeps that a module is vendored takes no blank in a path.
+# The file in which go lists vendored modules does not allow a blank in a path.
 BY_LINK = """\
 ln -s "$CLONE" clone
 go mod edit -replace chinese-number-proved/chinesenumber=./clone/bindings/go
@@ -151,7 +151,7 @@ def test_go(follow, way):
     follow(f"go mod init user\n{OF_MODULES[way]}go run .\n", NUMBER, **OF_GO)
 
 
-# As a part it builds as its user's project does, and installs nothing of its own.
+# As a subproject it builds as the user's project does, and installs nothing itself.
 AS_PART = """\
 cmake -S . -B build -DDIST="$CLONE/dist" -DSOURCE="$CLONE/bindings/c/example.c" > log
 cmake --build build >> log
@@ -179,7 +179,7 @@ eval cc '"$CLONE/bindings/c/example.c"' "$words" -o user
 
 @pytest.mark.parametrize("which, language", enumerate(("c", "cpp")))
 def test_cc(follow, which, language):
-    """The example answers as the page says, which has a part of it."""
+    """The example answers as the page says; the page has a part of it."""
     needs("cc", "c++")
     page, answers = page_of("c", language), EXAMPLES[f"example.{language}"]
     assert page.answer in answers

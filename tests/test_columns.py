@@ -1,7 +1,7 @@
-"""Columns of a table, by the user's program `tests/users/columns.py`.
+"""Columns of a table, with the user's program `tests/users/columns.py`.
 
-Each cell has the answer or the refusal that stands in `tests/rows`. The workers of a Dask cluster
-write what one process does, also where one of them is killed at its work.
+Each cell gets the answer or the refusal of `tests/rows`. The workers of a Dask cluster write the
+same as one process, also if one of them is killed at its work.
 """
 import importlib
 import os
@@ -21,8 +21,8 @@ from questions import of_files
 from running import ENVIRONMENT, PYTHON, fail, needs_modules, run
 from test_python import module_over
 
-# The rows that a column is asked: their file and the words in front; the call that answers them;
-# and the dtype of its answers.
+# The rows of a column: their file and first words; the call that answers them; and the dtype of its
+# answers.
 LARGE = {"kind": "u128", "way": "ten_thousand"}
 COLUMNS = [
     ("amounts", ["read_amount"], "chinese_to_amount", {}, "Int64"),
@@ -46,18 +46,18 @@ def columns(of_c_source):
 
 @pytest.fixture(scope="module")
 def own(of_c_source):
-    """The variables by which each process finds the library."""
+    """The environment in which each process finds the library."""
     return {"PYTHONPATH": str(PYTHON), "CHINESE_NUMBER_LIB": str(of_c_source)}
 
 
 def rows_of(file, front):
-    """What stands behind these words in a file of `tests/rows`, and the answers."""
+    """What follows these words in a file of `tests/rows`, and the answers."""
     rows = [(words[-1], answer) for words, answer in of_files([file]) if words[:-1] == front]
     return zip(*rows)
 
 
 def cells_behind(answer):
-    """What is put behind a cell of this answer, as texts."""
+    """The texts that are written after a cell with this answer."""
     kind, _, text = answer.partition(" ")
     place = re.search(r"position: (\d+)", text)
     return [text, None, None] if kind == "ok" else [None, text, place and place[1]]
@@ -65,8 +65,8 @@ def cells_behind(answer):
 
 @pytest.mark.parametrize("file, front, name, words, dtype", COLUMNS)
 def test_rows(columns, file, front, name, words, dtype):
-    """A missing cell stays missing, and rows stay in their order, also where an index has one label
-    for all."""
+    """A missing cell stays missing, and rows keep their order, also if all have the same index
+    label."""
     pandas, function = columns.pandas, getattr(sys.modules["chinese_number"], name)
     texts, answers = rows_of(file, front)
     cells = [int(it) for it in texts] if name == "amount_to_chinese" else texts
@@ -81,7 +81,7 @@ def test_rows(columns, file, front, name, words, dtype):
 
 @pytest.fixture(scope="module")
 def files(columns, tmp_path_factory):
-    """A table in CSV, in more files than there are workers."""
+    """A CSV table in more files than there are workers."""
     folder, (texts, _) = tmp_path_factory.mktemp("table"), rows_of("amounts", ["read_amount"])
     rows = enumerate(islice(cycle(texts), FILES * ROWS_OF_EACH))
     table = columns.pandas.DataFrame(rows, columns=["number", "amount"])
@@ -92,7 +92,7 @@ def files(columns, tmp_path_factory):
 
 
 def of_one_process(columns, files):
-    """The lines that pandas alone makes of the files."""
+    """The lines that pandas alone makes from the files."""
     parts = [
         columns.pandas.read_csv(it, **columns.AS_IT_STANDS) for it in sorted(files.parent.iterdir())
     ]
@@ -102,7 +102,7 @@ def of_one_process(columns, files):
 
 
 def written(folder):
-    """The lines of the parts in a folder, the first of which alone has its header here."""
+    """The lines of the parts in a folder; only the header of the first part is kept."""
     parts = [it.read_text(encoding="utf-8").splitlines() for it in sorted(folder.iterdir())]
     assert len(parts) == FILES
     return parts[0][:1] + [line for part in parts for line in part[1:]]
@@ -115,7 +115,7 @@ def test_one_machine(columns, own, files, tmp_path):
 
 @contextmanager
 def started(*words, log, **own):
-    """A process that runs until it is not wanted any more."""
+    """A process that runs until it is no longer needed."""
     pipes = {"stdout": log, "stderr": log, "stdin": subprocess.DEVNULL}
     process = subprocess.Popen(words, env=dict(ENVIRONMENT, **own), **pipes)
     try:
@@ -127,7 +127,7 @@ def started(*words, log, **own):
 
 @pytest.fixture
 def client(columns, own, tmp_path):
-    """Of a cluster that is started as on machines, each worker of which does one part at a time."""
+    """A cluster started as on several machines; each worker does one part at a time."""
     from distributed import Client
 
     file = tmp_path / "scheduler.json"
@@ -144,7 +144,7 @@ def client(columns, own, tmp_path):
 
 
 def kill_at_work(client, answering):
-    """Kills the process of a worker that has something done and something to do."""
+    """Kills a worker process that has finished some parts and has others to do."""
     processes = client.run(os.getpid)
     while not answering.done():
         done, to_do = client.has_what(), client.processing()
@@ -156,9 +156,9 @@ def kill_at_work(client, answering):
     fail("no worker was killed at its work")
 
 
-@pytest.mark.filterwarnings("ignore:make_current")  # of tornado, by which a client listens
+@pytest.mark.filterwarnings("ignore:make_current")  # of tornado, with which a client listens
 def test_killed(columns, own, client, files, tmp_path):
-    """The other workers do the parts of the one that is killed, also those that it has done."""
+    """The other workers do the parts of the killed worker, also those that it had finished."""
     address = client.scheduler.address
     with ThreadPoolExecutor() as pool:
         answering = pool.submit(run, *PROGRAM, files, "answered", address, cwd=tmp_path, **own)

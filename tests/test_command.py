@@ -1,8 +1,7 @@
-"""What the command chinese-number answers, Python's and JavaScript's alike.
+"""The command chinese-number, of Python and of JavaScript: both must give the same answers.
 
-The rows are those of `tests/rows/command.tsv`. Each word of the tests of `cheque` has its answer or
-its refusal here too, and each text of those of `numbers`. Python's runs where the locale knows ASCII
-alone.
+The rows are those of `tests/rows/command.tsv`. The words of the tests of `cheque` and the texts of
+those of `numbers` get the same answers or refusals here. Python's command runs in an ASCII locale.
 """
 import os
 import pty
@@ -23,7 +22,7 @@ USAGE = b"usage: chinese-number "
 MISUSE = re.compile(rb"chinese-number: .+ \(--help says more\)\n")
 MANY = "二十三\n".encode() * 20000
 TABLE, ROWS = ["amount", "--column", "1"], b"15\n" * 60000
-# Words and an input to which something is written.
+# Arguments and an input for which something is written.
 WRITTEN = [(["read", "一"], b""), (["find"], MANY), (["replace"], MANY), (TABLE, b"15\n")]
 WRITTEN.append((TABLE, ROWS))
 ESCAPES = {r"\n": "\n", r"\r": "\r", r"\xff": "\udcff"}
@@ -31,7 +30,7 @@ ESCAPES = {r"\n": "\n", r"\r": "\r", r"\xff": "\udcff"}
 
 @pytest.fixture(scope="module", params=["python", "javascript"])
 def command(request, tmp_path_factory):
-    """A program that calls the command, in an environment that says nothing of UTF-8."""
+    """A program that runs the command, in an environment that does not mention UTF-8."""
     if request.param == "python":
         words = [sys.executable, "-B", "-m", "chinese_number"]
         own = {"PYTHONPATH": TOP / "bindings/python", "PYTHONCOERCECLOCALE": 0, "PYTHONUTF8": 0}
@@ -72,7 +71,7 @@ def test_rows(command):
 
 
 def test_help(command):
-    """Both programs have one text, which stands in Python's."""
+    """Both programs have the same text, which is in Python's."""
     source = (TOP / "bindings/python/chinese_number/__main__.py").read_text(encoding="utf-8")
     text = re.search(r'USAGE = """\\\n(.*?)"""', source, re.S)[1].replace(r"\\", "\\")
     for words in (["--help"], ["amount", "--help"]):
@@ -81,7 +80,7 @@ def test_help(command):
 
 @pytest.mark.parametrize("what", ["amount", "date"])
 def test_words_of_cheque(command, what):
-    """They are told apart by the command's name, so a refusal tells which one it is."""
+    """The name of the command distinguishes them, so a refusal shows which one it is from."""
 
     def is_of_date(word, answer):
         return bool(re.search("-[0-9]+-|年", word + answer) or "date" in answer)
@@ -96,7 +95,7 @@ def test_words_of_cheque(command, what):
 
 
 def test_texts_of_numbers(command):
-    """They are answered as by `numbers`, which takes a method without its option."""
+    """The answers are those of `numbers`, which accepts a method without its option."""
     for options, text, answer in test_numbers.ANSWERED:
         name = "--method" if "--exact" in options else "--way"
         words = [it if it.startswith("--") else f"{name}={it}" for it in options]
@@ -121,7 +120,7 @@ def test_full_disk(command):
 
 
 def test_closed_pipe(command):
-    """Nobody reads what is written: no word is lost on it."""
+    """If nobody reads the output, no message is written."""
     for words, data in WRITTEN:
         reader, writer = os.pipe()
         os.close(reader)
@@ -139,7 +138,7 @@ def test_many_lines(command):
 
 
 def test_one_line(command):
-    """Of any length, and without a line feed at the end."""
+    """Lines of any length, and without a line feed at the end."""
     found = command("replace", data="三十，".encode() * 200000)
     assert found == (0, "30，".encode() * 200000, b"")
 
@@ -154,7 +153,7 @@ def test_dialogue(command):
 
 
 def test_many_rows(command):
-    """Of 20,000 rows each twentieth is wrong: it is told, and none is lost."""
+    """Of 20,000 rows each twentieth is wrong: each is reported, and none is lost."""
     rows = [(row, "15" if row % 20 else "15.005") for row in range(1, 20001)]
     answers = {"15": "壹拾伍元整", "15.005": ""}
     data = "".join(f"{row},{cell}\n" for row, cell in rows)
@@ -167,7 +166,7 @@ def test_many_rows(command):
 
 
 def test_open_quote(command):
-    """A cell whose quote is not closed has 2^17 characters at most: rows go on behind that line."""
+    """A cell with an unclosed quote has at most 2^17 characters: rows continue after that line."""
     refused = 2**17 // 3 + 1
     rows = [b'"15', *[b"15"] * (refused - 2), b"15,"]
     rows += ["15,壹拾伍元整".encode()] * (60001 - refused)
@@ -177,7 +176,7 @@ def test_open_quote(command):
 
 
 def test_long_cell(command):
-    """A cell without a quote, or whose quote is closed, may be of any length."""
+    """A cell without a quote, or with a closed quote, may have any length."""
     long = b"x" * 200000
     data = b'%s,15\n"%s",16\n' % (long, long)
     written = '%s,15,壹拾伍元整\n"%s",16,壹拾陆元整\n'.encode().replace(b"%s", long)
@@ -186,7 +185,7 @@ def test_long_cell(command):
 
 
 def test_progress(command):
-    """A terminal is told how many rows are done after more than a second, and no more at the end."""
+    """After more than a second a terminal shows how many rows are done, and nothing at the end."""
     terminal, errors = pty.openpty()
     pipes = {"stdin": subprocess.PIPE, "stdout": subprocess.PIPE, "stderr": errors}
     with subprocess.Popen([command.path, *TABLE], **pipes) as process:

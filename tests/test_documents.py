@@ -1,14 +1,14 @@
-"""What the documents, the comments and `tests/rows` show, held against programs and definitions.
+"""Compares the documents, the comments and `tests/rows` with programs and definitions.
 
-- The worked rows of the pages, the examples of docs/RULES.md and the rows of `tests/rows` are asked
-  of `numeral`, `cheque` and `numbers`.
+- `numeral`, `cheque` and `numbers` answer the worked rows of the pages, the examples of
+  docs/RULES.md and the rows of `tests/rows`.
 - The lists of characters in RULES, and its scales, are those of the definitions.
-- The pages that there are in Chinese too have the same rows and the same code in both languages,
-  but that those in Chinese may have more rows.
-- The example in the comment of each of the 96 calls by name is asked, with its type and method.
+- Pages that also exist in Chinese have the same rows and the same code in both languages; the
+  Chinese page may have more rows.
+- The example in the comment of each of the 96 calls by name is tested, with its type and method.
 - Each block of Rust in docs/RATTLE.md is, line by line, in a source of a program of `crates/`.
 - Each folder of `crates/` and `bindings/` has a row in docs/DESIGN.md.
-- The documents name one toolchain, by the logic that `rt version` says.
+- The documents name one toolchain, with the logic that `rt version` prints.
 """
 import re
 import subprocess
@@ -17,10 +17,10 @@ import pytest
 import questions
 from running import TOP, needs_rt
 
-# The pages beside which one in Chinese stands, README.zh.md.
+# The pages with a Chinese page, README.zh.md, in the same folder.
 IN_CHINESE_TOO = ("README.md", "bindings/python/README.md", "bindings/web/README.md")
 CODE = re.compile(r"^```\w*\n(.*?)^```$|^((?:    [^\n]*\n)+)", re.MULTILINE | re.DOTALL)
-# The definitions whose lists of characters stand in RULES, each as one word.
+# The definitions whose lists of characters are in RULES, each as one word.
 LISTED = (
     "cn_core/specs/Figures.antt",
     "cn_find/specs/Belongs.antt",
@@ -31,7 +31,7 @@ LISTED = (
 )
 WRITTEN = re.compile("^    (Traditional|Simple) (Upper|Lower) +(.*)$", re.MULTILINE)
 EXPONENT = re.compile(r"^exponent (\w+) rank = if nat_le rank 4 then rank else (.*)$", re.MULTILINE)
-# What `numbers` has found in a line: the column, the text and the answer.
+# What `numbers` prints for a line: the column, the text and the answer.
 FOUND = re.compile(r"^1:(\d+) (.+?) (err .*|[-\d/]+)$", re.MULTILINE)
 CALL = re.compile(r"((?:^///.*\n)+)pub fn (from_\w+)", re.MULTILINE)
 READ = re.compile(r"^/// Reads .*: `(\S+)` is (-?[\d_]+)\.$", re.MULTILINE)
@@ -44,7 +44,7 @@ def text_of(path):
 
 
 def rules(heading):
-    """What stands in RULES under a heading."""
+    """The text of RULES under a heading."""
     return text_of(TOP / questions.RULES).split(f"# {heading}\n")[1].split("\n#")[0]
 
 
@@ -61,7 +61,7 @@ def test_digits():
 
 
 def test_units():
-    """Each unit has its characters and the exponents of its scales, where these fit."""
+    """Each unit has its characters and the exponents of its scales, if these fit."""
     scales = text_of(TOP / "crates/cn_core/specs/Scale.antt")
     most = int(re.search(r"^scale_fits method rank = .*\) (\d+)$", scales, re.MULTILINE)[1])
     powers = dict(EXPONENT.findall(scales))
@@ -85,7 +85,7 @@ def test_written_characters():
 
 
 def test_lists():
-    """Each list of two characters or more stands in RULES, in whatever order."""
+    """Each list of two or more characters is in RULES, in any order."""
     words = {frozenset(it) for it in re.findall(r"[^\s`]+", text_of(TOP / questions.RULES))}
     lists = [it for path in LISTED for it in characters(path) if len(it) > 1 and " " not in it]
     assert [it for it in lists if not it[0].isdecimal() and frozenset(it) not in words] == []
@@ -99,13 +99,13 @@ def test_capitals(kind):
 
 
 def test_arrows():
-    """Each arrow in RULES is that of an example."""
+    """Each arrow in RULES belongs to an example."""
     assert text_of(TOP / questions.RULES).count("→") == len(list(questions.examples()))
 
 
 def shown(path):
-    """The code in each row of the tables of a page, and the lines of its other code, but for those
-    that are comments."""
+    """The code in each row of the tables of a page, and the lines of its other code except
+    comments."""
     text = text_of(path)
     rows = [re.findall("`[^`]+`", row) for row in re.findall(r"^\|.*\|$", text, re.MULTILINE)]
     lines = "\n".join(map("".join, CODE.findall(text))).splitlines()
@@ -115,8 +115,8 @@ def shown(path):
 
 @pytest.mark.parametrize("page", IN_CHINESE_TOO)
 def test_two_languages(page):
-    """The page in Chinese has the rows and the code of the other, and may have more rows of two
-    cells in code, of which programs are asked."""
+    """The page in Chinese has the rows and the code of the other page, and may have more rows of
+    two cells in code, which are questions to programs."""
     path = TOP / page
     (rows, code), (in_chinese, alike) = shown(path), shown(path.with_name("README.zh.md"))
     assert alike == code and [it for it in in_chinese if it in rows] == rows
@@ -137,14 +137,14 @@ def examples():
 
 
 def lines_of_files():
-    """The rows of `tests/rows` that a line of `numeral` asks."""
+    """The rows of `tests/rows` that can be a line for `numeral`."""
     for words, answer in questions.of_files():
         if words[0] in questions.WORDS:
             yield "tests/rows", " ".join(words), answer
 
 
 def test_numeral(numeral):
-    """Each row and each example is what `numeral` answers."""
+    """`numeral` gives the answer of each row and each example."""
     commented = list(examples())
     assert len({name for name, _, _ in commented}) == 96
     asked = [*questions.of_numeral(), *lines_of_files(), *commented]
@@ -155,8 +155,8 @@ def test_numeral(numeral):
 
 
 def words_of_files():
-    """The rows of `tests/rows` on capitals, but those that `cheque` takes for something else: texts
-    of dates without 年, and texts that begin as figures do. It writes simplified script."""
+    """The rows of `tests/rows` on capitals, except those that `cheque` understands differently:
+    texts of dates without 年, and texts that begin like figures. It writes simplified script."""
     for (call, *words), answer in questions.of_files():
         word, is_read = words[-1], call.startswith("read_")
         value, is_amount = answer.partition(" ")[2], call.endswith("_amount")
@@ -174,14 +174,14 @@ def figures(fen):
 
 
 def test_cheque(cheque):
-    """Each row on amounts and dates is what `cheque` answers."""
+    """`cheque` gives the answer of each row on amounts and dates."""
     for word, wanted in [*questions.of_cheque(), *words_of_files()]:
         _, output, error = cheque(word)
         assert (word, (output + error).decode()) == (word, f"{wanted}\n")
 
 
 def in_brackets(numbers, text, tell, *options):
-    """A text where what is told of each number that is found stands in its place, in brackets."""
+    """The text with the result of `tell` in brackets instead of each number that is found."""
     done, end = "", 0
     answers = numbers(*options, data=text.encode())[1].decode()
     for column, found, answer in FOUND.findall(answers):
@@ -193,7 +193,7 @@ def in_brackets(numbers, text, tell, *options):
 
 
 def test_numbers(numbers):
-    """The numbers of each text of RULES have their answers, and its expressions their places."""
+    """The numbers in the texts of RULES have their answers, and the expressions their places."""
     for heading, text, answer in questions.examples():
         if heading == "Numbers in a text":
             found = in_brackets(
@@ -208,14 +208,14 @@ def test_numbers(numbers):
 
 
 def test_blocks():
-    """The Rust of RATTLE is in sources."""
+    """The Rust of RATTLE.md is in sources."""
     texts = [text_of(path) for path in TOP.glob("crates/*/src/*.rt")]
     blocks = re.findall(r"^```rust\n(.*?)^```$", text_of(TOP / "docs/RATTLE.md"), re.M | re.S)
     assert blocks and [it for it in blocks if not any(it in text for text in texts)] == []
 
 
 def test_folders():
-    """Each folder has its row in DESIGN."""
+    """Each folder has a row in DESIGN."""
     design = text_of(TOP / "docs/DESIGN.md")
     folders = [path.parent.name for path in TOP.glob("crates/*/src")]
     folders += [f"bindings/{path.name}" for path in TOP.glob("bindings/[a-z]*") if path.is_dir()]
@@ -223,7 +223,7 @@ def test_folders():
 
 
 def test_toolchain():
-    """The documents name one toolchain, and its logic, which decides, is the logic of rt."""
+    """The documents name one toolchain, whose logic is that of rt."""
     needs_rt()
     said = subprocess.run(["rt", "version"], capture_output=True, text=True, check=True).stdout
     pages = [page for it in ("*.md", "docs/*.md", "bindings/**/*.md") for page in TOP.glob(it)]

@@ -2,8 +2,8 @@
 
 `users/freestanding` is a program over the crate, which cargo builds without a network: for
 wasm32-unknown-unknown, which node runs and which imports nothing, and for thumbv7em-none-eabi,
-which qemu runs as a Cortex-M4. It has to say what the rules say. The first rustc on the path serves that
-has `core` and `alloc` for the target, or the source to compile them of.
+which qemu runs as a Cortex-M4. It has to say what the rules say. The first rustc on the path serves
+that has `core` and `alloc` for the target, or the source to compile them of.
 """
 import os
 import shutil
@@ -17,7 +17,7 @@ from running import ENVIRONMENT, TOP, leave_out, needs, run
 
 PROGRAM = USERS / "freestanding"
 MACHINE = "-M mps2-an386 -display none -semihosting-config enable=on,target=native -kernel"
-# Of each target: its linker with its words, what runs the program, and the program's file.
+# For each target: its linker with arguments, what runs the program, and the program's file.
 TARGETS = {
     "wasm32-unknown-unknown": (
         ("wasm-ld", "--no-entry", "--export=answers"),
@@ -38,14 +38,14 @@ def asked(rustc, *words):
 
 
 def library(target):
-    """A rustc, and the words by which cargo has `core` and `alloc` for a target."""
+    """A rustc, and the cargo arguments that provide `core` and `alloc` for a target."""
     for folder in os.get_exec_path(ENVIRONMENT):
         rustc = Path(folder) / "rustc"
         if not rustc.is_file():
             continue
         try:
             built = Path(asked(rustc, "--print", "target-libdir", "--target", target))
-        except subprocess.CalledProcessError:  # one that only hands on, to what is not installed
+        except subprocess.CalledProcessError:  # a wrapper around something that is not installed
             continue
         if any(built.glob("libcore-*.rlib")):
             return rustc, []
@@ -57,7 +57,7 @@ def library(target):
 
 
 def built(project, target, linker, *words, **own):
-    """The folder of what cargo builds for a target of the program, beside which its crate is."""
+    """The folder in which cargo builds the program for a target; its crate is next to it."""
     rustc, more = library(target)
     own.update(RUSTC=str(rustc), CARGO_TARGET_DIR=str(project / "target"))
     of_target = f"CARGO_TARGET_{target.upper().replace('-', '_')}_"

@@ -1,5 +1,5 @@
-"""The Go module, over its copy of the C source and with no network: its layout, its tests and its
-examples, under the race detector too, and for other systems and processors, and its answers."""
+"""The Go module with its copy of the C source and without a network: its format, its tests and
+examples (also with the race detector, and for other systems and processors), and its answers."""
 import re
 
 import pytest
@@ -9,8 +9,8 @@ from questions import wrong_answers
 from running import TOP, leave_out, needs, of_wine, once, run
 
 MODULE = TOP / "bindings/go"
-RACES = ("x86_64", "aarch64")  # where Go has a race detector
-# What compiles the tests for another system or processor, and what runs them here.
+RACES = ("x86_64", "aarch64")  # the processors on which Go has a race detector
+# The compiler of the tests for another system or processor, and what runs them here.
 OTHERS = {
     "linux/arm": ("arm-linux-gnueabihf-gcc", "qemu-arm|qemu-arm-static"),
     "linux/s390x": ("s390x-linux-gnu-gcc", "qemu-s390x|qemu-s390x-static"),
@@ -20,7 +20,7 @@ OTHERS = {
 
 @pytest.fixture(scope="module")
 def go(tmp_path_factory):
-    """Calls go in the module, whose C source is compiled."""
+    """Runs go in the module, whose C source is compiled."""
     needs("cc", "go 1.19")
     call = lambda *words, **more: run("go", *words, cwd=MODULE, **{**OF_GO, **more})
     once(tmp_path_factory, "go", lambda _: call("build", "."))
@@ -28,7 +28,7 @@ def go(tmp_path_factory):
 
 
 def count_of(kind):
-    """How many tests or examples there are."""
+    """The number of tests or examples."""
     texts = [path.read_text("utf-8") for path in MODULE.glob("*_test.go")]
     return len(re.findall(rf"^func {kind}", "".join(texts), re.M))
 

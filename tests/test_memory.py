@@ -1,10 +1,10 @@
-"""Calls that take memory, with each growth refused in turn; and readers, which take none.
+"""Calls that request memory, with each request refused in turn; and readers, which request none.
 
-The program `allocating_calls` prints a line for each call that takes memory. Each growth is refused by
-itself and with the next one. Each line has one growth, of exactly as many bytes as its text. Where
-that is refused the line says that memory was short, and every other line stays as it is; so a
-second growth of a line would be seen. At the end stand the calls that refuse their number, quantity
-or date by name: they ask for no memory.
+The program `allocating_calls` prints a line for each call that requests memory. Each request is
+refused alone and with the next one. Each line makes one request, of exactly as many bytes as its
+text. If it is refused, the line says that memory was short, and all other lines stay the same; so a
+second request of a line would be noticed. The last calls refuse their number, quantity or date by
+name and request no memory.
 """
 import re
 import subprocess
@@ -13,15 +13,15 @@ import pytest
 
 from running import TOP, needs_rt
 
-# The names of errors: of memory, and of what is refused before memory is asked for.
+# The names of errors: out of memory, and refusals that precede any memory request.
 SHORT = ("AllocError", "OutOfMemory")
 BY_NAME = ("Overflow", "Underflow", "ZeroDenominator", "NotADate")
 MODULE = "without_memory"
 
 
 def lines_with(allocating_calls, first, more):
-    """What is printed with these growths refused, as calls and answers, and how many bytes each of
-    them asked for."""
+    """The calls and answers that are printed with these requests refused, and the number of bytes
+    of each request."""
     status, output, error = allocating_calls.with_refused(first, more=more)
     assert status == 0
     sizes = [int(line.removeprefix("refused ")) for line in error.decode().splitlines()]
@@ -46,8 +46,8 @@ def test_each_growth(allocating_calls, more):
 
 @pytest.mark.built
 def test_readers():
-    """Each reader that callers can name stands in one module of tests, and all of these pass with
-    their first growth refused."""
+    """One module of tests names each public reader, and all its tests pass with their first memory
+    request refused."""
     needs_rt()
     crate = TOP / "crates/cn_vectors"
     files = [crate / f"src/{MODULE}.rt", *crate.glob(f"src/{MODULE}/*.rt")]

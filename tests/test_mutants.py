@@ -1,4 +1,5 @@
-"""The mutants of a small crate, the digests of its functions, and the comments that list mutants."""
+"""The mutants of a small crate, the digests of its functions, and the comments that list
+mutants."""
 import sys
 
 import pytest

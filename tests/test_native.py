@@ -1,8 +1,9 @@
-"""The extension module of Python beside ctypes: what `test_python.py` cannot ask of both.
+"""The extension module of Python and ctypes: what `test_python.py` cannot test for both.
 
-It asks for nothing that is newer than its tag says, whatever header it was compiled by, and answers
-in each CPython from 3.10 on. A Python that does not take it goes by ctypes, over the same file. The
-functions in front of others look like them, and hand on what is unusual. Nothing is kept of a call.
+The module uses no names newer than its tag says, whatever header it was compiled with, and answers
+in each CPython from 3.10 on. A Python that cannot load it uses ctypes with the same file. The
+functions that wrap others look like them, and pass on unusual arguments. A call leaves nothing
+behind.
 """
 import pickle
 import pydoc
@@ -20,8 +21,8 @@ from questions import wrong_answers
 from running import PYTHON, TOP, run
 from test_python import module_over
 
-# The names of Python that the module asks for by one header or another, by the version of the
-# stable interface that has them first. Those of 3.2 are the rest.
+# The names of Python that the module may import, depending on the header, by the version of the
+# stable ABI that introduced them. All other names are from 3.2.
 SINCE = {"PyType_GetSlot": 4, "PyModuleDef_Init": 5, "PyUnicode_AsUCS4": 7}
 SINCE.update(PyModule_AddObjectRef=10, PyType_FromModuleAndSpec=10)
 SINCE.update(PyUnicode_GetLength=7, PyUnicode_Substring=7, PyCMethod_New=9)
@@ -49,7 +50,7 @@ def numerals(native):
 
 @pytest.fixture(params=[sys.executable, NEWEST], ids=["this", "newest"])
 def by_header(request, native, tmp_path):
-    """The package with the module compiled by the header of a Python."""
+    """The package with the module compiled with the header of a Python."""
     folder = shutil.copytree(native, tmp_path / "by header")
     native_sh = ("bash", PYTHON / "native.sh", folder / "chinese_number")
     run(*native_sh, cwd=TOP, PYTHON=request.param)
@@ -57,7 +58,7 @@ def by_header(request, native, tmp_path):
 
 
 def test_names(by_header):
-    """No name of Python's is newer than the tag, and none of the C library has a version."""
+    """No name of Python is newer than the tag, and no name of the C library has a version."""
     module = by_header / "chinese_number/_native.abi3.so"
     asked = re.findall(r" [Uw] (.*)", run("nm", "-D", module, cwd=TOP))
     of_python = {it for it in asked if "Py" in it}
@@ -67,7 +68,7 @@ def test_names(by_header):
 
 
 def test_pythons(by_header):
-    """Each answers all rows, by the module."""
+    """Each Python answers all rows with the module."""
     for program in BY_NATIVE.values():
         own = {"PYTHONPATH": str(by_header), "PYTHONUTF8": "1"}
         asking = partial(run, program, "-B", by_header / "answers.py", cwd=TOP, **own)
@@ -91,7 +92,7 @@ BY_CTYPES = {
 
 @pytest.mark.parametrize("which", BY_CTYPES)
 def test_by_ctypes(native, which):
-    """Without the module the same file is called by ctypes."""
+    """Without the module the same file is called with ctypes."""
     said = BY_CTYPES[which].format(name="to_chinese")
     program = NEWEST if which == "with a lock of its own" else sys.executable
     found = run(program, "-Bc", said, cwd=TOP, PYTHONPATH=str(native))
@@ -121,7 +122,7 @@ def test_fronts(numerals, library, name):
 
 
 def test_unusual(numerals, library):
-    """What is handed on is answered as by ctypes: types, words and keywords of another making."""
+    """Unusual types, words and keywords are passed on and answered as with ctypes."""
     word, keyword = "".join(["u", "8"]), "".join(["ki", "nd"])
     calls = [
         ("to_number", ("一",), {"kind": word}),
@@ -165,7 +166,8 @@ def ignored(call, argument):
 
 
 def test_nothing_is_kept(numerals):
-    """A million calls, half of them refused, leave no block of memory and no count of what all share."""
+    """A million calls, half of them refused, leave no block of memory and no count of what all
+    share."""
     it, day = numerals, numerals.chinese_to_date("贰零贰陆年零壹月壹拾伍日")
     asked = [
         (it.to_number, ("一亿二", "一" * 300, "一京" * 2, "十十", "", None, "\ud800")),

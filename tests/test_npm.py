@@ -1,8 +1,8 @@
-"""The npm package of a clone, `bindings/web` as it stands, without `rt` and a network.
+"""The npm package of a clone, `bindings/web` unchanged, without `rt` and without a network.
 
-In a copy of the folder npm links it, and by --install-links copies it. Each time programs that
-import and require it answer alike, the command answers, tsc takes both in TypeScript, and esbuild
-bundles them for browsers. What `npm pack` takes is listed below.
+npm links a copy of the folder, or copies it with --install-links. Each time, programs that import
+and require it give the same answers, the command answers, tsc accepts both in TypeScript, and
+esbuild bundles them for browsers. The files that `npm pack` includes are listed below.
 """
 import json
 import re
@@ -32,7 +32,7 @@ PACKED = {
     "package.json",
     "table.mjs",
 }
-# Each program begins by taking all that the package offers.
+# Each program begins by importing everything that the package exports.
 PROGRAMS = ("import.mjs", "files.mjs", "require.cjs")
 TSC = ("tsc", "--strict", "--target", "es2020", "--lib", "es2020,dom", "--module", "nodenext")
 DECLARE = ("--allowJs", "--checkJs", "--declaration", "--emitDeclarationOnly", "--outDir", "types")
@@ -43,7 +43,7 @@ BUNDLE = (
 
 @pytest.fixture
 def web(tmp_path):
-    """A copy of the folder, in which npm leaves no other file."""
+    """A copy of the folder, in which npm must leave no other file."""
     needs("node 20", "npm")
     copy = shutil.copytree(TOP / "bindings/web", tmp_path / "bindings/web")
     before = sorted(copy.rglob("*"))
@@ -53,7 +53,7 @@ def web(tmp_path):
 
 @pytest.fixture(params=[(), ("--install-links",)], ids=["linked", "copied"])
 def project(request, web, tmp_path):
-    """A project in which the package is installed, and from which it is taken away again."""
+    """A project in which the package is installed and later removed."""
     made = write(tmp_path / "project/package.json", '{ "private": true }\n').parent
     for path in USERS.glob("*.?[jt]s"):
         shutil.copy(path, made)
@@ -69,7 +69,7 @@ def test_packed(web):
 
 
 def test_programs(project):
-    """They answer alike."""
+    """They give the same answers."""
     (answer,) = {run("node", name, cwd=project) for name in PROGRAMS}
     assert "findNumbers" in answer and answer.endswith(" 105000 一百二十\n")
     run("node", "user.mjs", cwd=project, wanted="")
@@ -81,13 +81,13 @@ def test_command(project):
 
 
 def comments(path):
-    """The comments of a file, however their lines are broken."""
+    """The comments of a file, regardless of line breaks."""
     found = re.findall(r"/\*\*.*?\*/", path.read_text(encoding="utf-8"), re.S)
     return {" ".join(it.replace("\n", " ").replace(" * ", " ").split()) for it in found}
 
 
 def test_types(project, web, tmp_path):
-    """They serve a user, and are those of the JavaScript, down to the comments."""
+    """The types compile in a user's program and match the JavaScript, including the comments."""
     needs("tsc")
     for name in ("chinese-number.mjs", "compiled.mjs"):
         write(tmp_path / "sources" / name, (web / name).read_text(encoding="utf-8"))

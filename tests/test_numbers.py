@@ -1,15 +1,15 @@
-"""What `numbers` answers to its options and its input, and with which status it ends.
+"""The output and the status of `numbers` for its options and its input.
 
-Answers go to standard output and the usage of an unknown word to standard error; the other stays
-empty. With each growth of memory refused in turn the status is 2, and what is written are the whole
-answers to the first lines.
+Answers go to standard output, and for an unknown word the usage goes to standard error; the other
+stays empty. If a memory request is refused, the status is 2 and the complete answers to the first
+lines are written; each request is tried.
 """
 import itertools
 
 import pytest
 
 LARGE = "九千九百九十九兆九千九百九十九億"
-# Options, the input, and what is written, at status 0.
+# Options, the input, and the output, with status 0.
 ANSWERED = [
     ([], "", ""),
     ([], "\n", ""),
@@ -55,10 +55,10 @@ ANSWERED = [
     (["--exact", "--all", "--exact"], "叁点五", "1:1 叁点五 35/10\n"),
     ([], "占12.5%", "1:2 12 12\n1:5 5 5\n"),
 ]
-# What stands in a line that is no UTF-8: a byte that begins nothing, a character cut off, a
-# surrogate, and a character in more bytes than it has.
+# Lines that are not UTF-8: with a byte that begins no character, a truncated character, a
+# surrogate, and an overlong character.
 BAD = [b"\xff", "三".encode()[:2], "三".encode() + b"\xed\xa0\x80", b"\xc0\x80"]
-# Options of which one is unknown: the usage, at status 2.
+# Options with an unknown one: the usage, with status 2.
 UNKNOWN = [
     ["--every"],
     ["-"],
@@ -119,7 +119,7 @@ def test_dialogue(numbers):
 
 
 def first_answers(answers):
-    """The whole answers to the first lines, for each number of them."""
+    """The complete answers to the first lines, for each number of lines."""
     of_lines = itertools.groupby(answers.splitlines(True), lambda answer: answer.split(b":")[0])
     return list(itertools.accumulate((b"".join(line) for _, line in of_lines), initial=b""))
 
@@ -135,6 +135,6 @@ def test_memory(numbers, words, data):
 
 
 def test_memory_for_a_long_line(numbers):
-    """The last growth is for the long line, so the one before it is answered."""
+    """The last request is for the long line, so the line before it is answered."""
     written = numbers.each_growth_refused(data=b"\xff\n" + "二十三，".encode() * 30000)
     assert set(written) <= {b"", b"1:1 bad line\n"} and written[-1]

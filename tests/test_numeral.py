@@ -1,9 +1,8 @@
-"""The program `numeral`: its answers in a dialogue, the statuses with which it ends, and what it
-has written by then.
+"""The program `numeral`: its answers in a dialogue, its status, and its output at that time.
 
-The status is 0 at the end of the input, 1 where the input cannot be read or the output not be
-written, 2 where memory runs out. Answers go to standard output alone, and standard error stays
-empty, whatever the status.
+The status is 0 at the end of the input, 1 if the input cannot be read or the output cannot be
+written, and 2 if memory runs out. Answers go to standard output only, and standard error stays
+empty with every status.
 """
 import os
 
@@ -24,7 +23,7 @@ def test_ends(numeral):
 
 
 def test_full_disk(numeral):
-    for data in (LINES, LINES * 20000):  # with less and with more than there is room for
+    for data in (LINES, LINES * 20000):  # shorter and longer than the buffer
         assert numeral.onto_a_full_disk(data=data) == (1, b"")
 
 
@@ -40,13 +39,13 @@ def test_no_input(numeral):
 
 
 def test_little_memory(numeral):
-    """The lines in front of the one in hand are answered."""
+    """The lines before the current one are answered."""
     data = LINES + LONG + b"\n" + LINES
     assert numeral(data=data, megabytes=40) == (2, ANSWERS, b"")
 
 
 def test_dialogue(numeral):
-    """One prints a number and another reads it back, line by line."""
+    """One process prints a number and another reads it back, line by line."""
     number = -1
     with numeral.dialogue() as printer, numeral.dialogue() as reader:
         for count in range(ROUNDS):
@@ -58,14 +57,14 @@ def test_dialogue(numeral):
 
 
 def growths(numeral, lines):
-    """How many growths a run on these lines takes."""
+    """The number of memory requests of a run on these lines."""
     return len(numeral.each_growth_refused(data=lines))
 
 
 def test_memory(numeral):
-    """Let the first k lines take G(k) growths. With growth n refused, where G(k) < n <= G(k + 1),
-    exactly the answers of the first k lines are written; none where n <= G(0). No line is answered
-    with out of memory."""
+    """Let the first k lines make G(k) memory requests. If request n is refused, with
+    G(k) < n <= G(k + 1), exactly the answers to the first k lines are written, and none if
+    n <= G(0). No line is answered with out of memory."""
     lines = (TOP / "crates/numeral/stdin").read_bytes().splitlines(keepends=True)
     taken = [growths(numeral, b"".join(lines[:count])) for count in range(len(lines))]
     answers = numeral(data=b"".join(lines))[1].splitlines(keepends=True)
@@ -80,7 +79,7 @@ def test_memory(numeral):
 
 
 def test_memory_that_is_used_again(numeral):
-    """The room for output and the room for an answer are each taken once; a further line that is
-    read or printed takes nothing."""
+    """The buffers for the output and for an answer are each requested once; a further `read` or
+    `print` line requests nothing."""
     assert [growths(numeral, it) for it in (b"", READING, READING * COUNT)] == [1, 2, 2]
     assert growths(numeral, PRINTING * COUNT) == growths(numeral, PRINTING)

@@ -1,9 +1,9 @@
-"""The packages of `bindings/packages.sh`, installed as their users do, with no `rt` on the path.
+"""The packages of `bindings/packages.sh`, installed as by their users, without `rt` on the path.
 
-In an empty folder the install line of each package's README is followed, and then its example,
-which answers as its comments say. The types are checked, what can be uninstalled is, PyPy and musl
-are tried, and aarch64 runs under qemu. Of the C source a wheel is made, a library, and the crate
-without its archives.
+In an empty folder, the install command of each package's README is run, and then its example, which
+answers as its comments say. The types are checked, packages are uninstalled if possible, PyPy and
+musl are tried, and aarch64 runs under qemu. A wheel, a library, and the crate without its archives
+are built from the C source.
 """
 import base64
 import csv
@@ -33,7 +33,7 @@ def sha256(data):
 
 
 def test_sums(packages):
-    """The sums beside the packages, and in each package those of what was built for its
+    """The sums next to the packages, and in each package the sums of what was built for its
     processor."""
     for line in (packages / "SHA256SUMS").read_text(encoding="utf-8").splitlines():
         digest, name = line.split("  ")
@@ -54,7 +54,7 @@ def test_sums(packages):
 
 
 def of_builds(package_name, files, builds):
-    """What was built is of the builds that PROVENANCE.json names."""
+    """Each built file is one of those that PROVENANCE.json names."""
     for name, data in files.items():
         if name in ("package/compiled.mjs", "package/chinese-number.cjs"):
             data = base64.b64decode(re.search(rb"^const base64 = '(.*)';$", data, re.M)[1])
@@ -67,7 +67,7 @@ def of_builds(package_name, files, builds):
 
 
 def of_build(build, name):
-    """Whether a name has both the system and the processor of a build."""
+    """Whether a name contains both the system and the processor of a build."""
     return all(it in name for it in build.split("-"))
 
 
@@ -76,14 +76,14 @@ BY_CTYPES, BY_MODULE = f"*-py3-none-*_{NATIVE}.whl", f"*-cp310-abi3-*_{NATIVE}.w
 
 @pytest.mark.parametrize("program", PYTHONS.values(), ids=PYTHONS)
 def test_wheel(packages, tmp_path, program):
-    """pip takes the one that fits."""
+    """pip chooses the wheel that fits."""
     package(packages, BY_CTYPES, NATIVE)
     wheel = package(packages, BY_MODULE, "the extension module")
     by_pip(packages, tmp_path, Readme(wheel, "METADATA", "python"), program)
 
 
 def test_wheel_by_ctypes(packages, tmp_path):
-    """It serves where the other one would do, too."""
+    """It also works where the other wheel would."""
     wheel = package(packages, BY_CTYPES, NATIVE)
     own = virtual_environment(sys.executable, tmp_path / "venv")
     run("pip", "install", wheel, cwd=tmp_path, **own)
@@ -92,7 +92,7 @@ def test_wheel_by_ctypes(packages, tmp_path):
 
 
 def test_library_of_wheel_by_musl(packages, of_c, tmp_path):
-    """Debian has no Python over musl, so a program of musl's loads the library as Python does."""
+    """Debian has no Python for musl, so a program for musl loads the library as Python does."""
     needs("musl-gcc")
     files = listed(package(packages, BY_CTYPES, NATIVE))
     (tmp_path / "library.so").write_bytes(files["chinese_number/libchinese_number.so"])
@@ -108,7 +108,7 @@ def test_python_source(packages, tmp_path, program):
     by_pip(packages, tmp_path, Readme(sdist, "PKG-INFO", "python"), program, which=2)
 
 
-# Whether the extension module is there where this Python takes it, and else is not.
+# Whether the extension module is used if and only if this Python supports it.
 IS_RIGHT_FACE = """\
 import sys, chinese_number
 takes = sys.implementation.name == "cpython" and sys.version_info >= (3, 10)
@@ -117,14 +117,14 @@ print(takes == (type(chinese_number.to_number).__name__ != "function"))
 
 
 def by_pip(packages, scratch, readme, program, which=1):
-    """Installs by one of the README's install lines, tries what is there, and uninstalls it."""
+    """Installs with one of the README's commands, tries the result, and uninstalls it."""
     own = virtual_environment(program, scratch / "venv")
     where = "import sysconfig; print(sysconfig.get_path('purelib'))"
     site = Path(run("python", "-Ic", where, cwd=scratch, **own).strip())
     before = set(site.iterdir())
     readme.follow(packages, scratch / "python", which, **own)
     compare_record(site)
-    # It is run elsewhere, where no module of the repository stands beside it.
+    # It runs in another folder, without modules of the repository next to it.
     answers = shutil.copy(TOP / "bindings/python/answers.py", scratch)
     wrong = wrong_answers(lambda asked: run("python", answers, cwd=scratch, stdin=asked, **own))
     assert wrong == []
@@ -139,7 +139,7 @@ def by_pip(packages, scratch, readme, program, which=1):
 
 
 def compare_record(site):
-    """Each installed file has the sum and the size that the wheel's RECORD names."""
+    """Each installed file has the sum and the size of the wheel's RECORD."""
     record = next(site.glob("chinese_number_proved-*.dist-info")) / "RECORD"
     for name, digest, size in csv.reader(record.read_text(encoding="utf-8").splitlines()):
         data = (site / name).read_bytes()
@@ -187,12 +187,12 @@ def test_crate(packages, crate, of_cargo, tmp_path):
     inside = project / crate.stem
     run("cargo", "test", "--doc", cwd=inside, **of_cargo)
     run("cargo", "doc", "--no-deps", cwd=inside, **of_cargo)
-    # What cargo would pack: it has the archives, or it would not link.
+    # The files that cargo would pack: with the archives, or it would not link.
     run("cargo", "package", "--allow-dirty", cwd=inside, **of_cargo)
 
 
 def test_crate_vendored(crate, of_cargo, tmp_path):
-    """As cargo takes it from a registry: by its version and its sum."""
+    """The crate as from a registry: by its version and its sum."""
     project = of_rust(tmp_path / "project", Readme(crate, "/README.md", "rust"))
     version = re.search(r"-([\d.]+)\.crate$", crate.name)[1]
     write(project / "Cargo.toml", f'{MANIFEST}{NAME} = "{version}"\n')
@@ -206,8 +206,7 @@ def test_crate_vendored(crate, of_cargo, tmp_path):
 
 
 def test_crate_without_archives(packages, crate, of_cargo, tmp_path):
-    """cargo compiles the crate's C source where there is no archive, and says so where it
-    cannot."""
+    """cargo compiles the crate's C source if there is no archive, and says so if it cannot."""
     readme = Readme(crate, "/README.md", "rust")
     project = of_rust(tmp_path / "project", readme)
     readme.follow(packages, project, **of_cargo)
@@ -230,7 +229,7 @@ def readme_of_npm(packages):
 
 @pytest.fixture
 def project(packages, readme_of_npm, tmp_path):
-    """A project of JavaScript in which the package is installed."""
+    """A JavaScript project in which the package is installed."""
     made = write(tmp_path / "project/package.json", '{ "private": true }\n').parent
     own = {"HOME": str(tmp_path), "npm_config_cache": str(tmp_path / "npm")}
     own.update(npm_config_offline="true", npm_config_audit="false", npm_config_fund="false")
@@ -254,10 +253,10 @@ def test_npm(readme_of_npm, project):
 
 
 def test_types_of_npm(project, tmp_path):
-    """The types serve a user, and are those of the JavaScript, down to the comments."""
+    """The types compile in a user's program and match the JavaScript, including the comments."""
     needs("tsc")
     here = project / "node_modules" / NAME
-    # Elsewhere, since tsc looks at no JavaScript in node_modules.
+    # In another folder, because tsc ignores JavaScript in node_modules.
     for name in ("chinese-number.mjs", "compiled.mjs"):
         write(tmp_path / "sources" / name, (here / "files" / name).read_text(encoding="utf-8"))
     made = ("--declaration", "--emitDeclarationOnly", "--allowJs", "--checkJs", "--outDir", "types")
@@ -298,7 +297,8 @@ COMPILERS = (
 
 
 class OfC:
-    """A package for C: its page, what it unpacks to, and two programs over it with their answers."""
+    """A package for C: its page, its files, and two programs that use it, with their
+    answers."""
 
     def __init__(self, packages, scratch, pattern, processor):
         tarball = package(packages, pattern, processor)
@@ -310,7 +310,7 @@ class OfC:
         self.lib = f"{self.prefix}/lib"
 
     def compile(self, compiler, *words, runner=()):
-        """Each program is compiled with each of the two files, and answers."""
+        """Each program is compiled with each of the two files, and gives its answers."""
         own, output = {"LD_LIBRARY_PATH": self.lib}, ("-o", "program")
         for source, answer in self.programs.items():
             first = [compiler, *words, *STRICT.split(), f"-I{self.prefix}/include", "-I."]
@@ -345,7 +345,7 @@ def test_c_by_compiler(of_c, call):
 
 
 def test_cpp(packages, of_c):
-    """The example of the header for C++ answers as the page says, which has a part of it."""
+    """The example of the C++ header answers as the page says; the page has a part of it."""
     needs("g++")
     page = Readme(package(packages, NATIVE_C, NATIVE), "README.md", "cpp")
     assert page.answer in EXAMPLES["example.cpp"]
@@ -382,7 +382,7 @@ def test_c_for_aarch64(packages, tmp_path):
 
 
 def test_c_source(packages, of_c, tmp_path):
-    """By the commands of the page: the compiler alone, and CMake, which installs it."""
+    """With the commands of the page: the compiler alone, and CMake, which installs it."""
     needs("cc", "cmake")
     tarball = package(packages, "chinese-number-*-source.tar.gz", "the C source")
     folder = unpacked(tarball, tmp_path / "source")

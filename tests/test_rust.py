@@ -1,5 +1,5 @@
-"""The Rust crate: its tests, its examples and its documents, over the archive and the C source,
-with no network. A warning is a failure."""
+"""The Rust crate: its tests, examples and documentation, with the archive and with the C source,
+without a network. A warning is a failure."""
 import re
 import shutil
 
@@ -15,7 +15,7 @@ NOT_COPIED = shutil.ignore_patterns("target", "Cargo.lock")
 
 @pytest.fixture(scope="module")
 def cargo(tmp_path_factory):
-    """Calls cargo in a copy of the crate, over the library in a folder."""
+    """Runs cargo in a copy of the crate, with the library in a folder."""
     needs("cargo 1.82")
     top = tmp_path_factory.mktemp("rust")
     crate = shutil.copytree(TOP / "bindings/rust", top / "bindings/rust", ignore=NOT_COPIED)
@@ -44,7 +44,7 @@ def test_documents(cargo, of_c_source):
 
 
 def test_crate(cargo, library):
-    """Its own tests, of which there are none, those of each file, and the examples in comments."""
+    """The unit tests (there are none), the tests of each file, and the examples in comments."""
     said = cargo(library, "test")
     passed = re.findall(r"ok\. (\d+) passed; 0 failed; 0 ignored", said)
     tests = [

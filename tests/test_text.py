@@ -1,5 +1,5 @@
-"""Numbers in a text, beside the model of the rules in tests/models, on random texts; the model's head
-says how it was written. `python3 tests/models/compare.py 1000000` tries more."""
+"""Compares the numbers found in random texts with the model of the rules in tests/models; its head
+says how it was written. `python3 tests/models/compare.py 1000000` tries more texts."""
 import sys
 
 from running import TOP

@@ -17,7 +17,7 @@ CHROMIUM = "chromium|chromium-browser|google-chrome|google-chrome-stable"
 
 @pytest.fixture(scope="module", params=["64", "32"])
 def folder(request, tmp_path_factory):
-    """The face with this module alone: it has both names, whatever the host would take."""
+    """The binding with this module alone, under both names, whichever the host would choose."""
     made = tmp_path_factory.mktemp(request.param)
     for path in (WEB / "index.html", WEB / "answers.mjs", *(TOP / "tests/web").glob("*.mjs")):
         shutil.copy(path, made)
@@ -34,8 +34,8 @@ def folder(request, tmp_path_factory):
 
 @pytest.fixture(scope="module")
 def node(folder):
-    """How node is called. Version 20 has 64-bit memories behind a flag, which later ones need not
-    know."""
+    """The command for node. Version 20 needs a flag for 64-bit memories, which later versions may
+    not know."""
     needs("node 20")
     flag = "--experimental-wasm-memory64"
     asked = ["node", flag, "-e", VALID, folder / "files/chinese-number.64.wasm"]
@@ -54,7 +54,7 @@ def test_face(node, folder, numeral):
 
 
 def test_other_version(node, folder, tmp_path):
-    """A module of another version, as a page may have fetched it once, is refused."""
+    """A module of another version, which a page may have cached, is refused."""
     files = shutil.copytree(folder / "files", tmp_path / "files")
     face = files / "chinese-number.mjs"
     write(face, re.sub("(?<=VERSION = ')[0-9]+", "2000", face.read_text(encoding="utf-8")))
@@ -63,7 +63,7 @@ def test_other_version(node, folder, tmp_path):
 
 
 def test_page(folder, tmp_path, request):
-    """Without flags, so that the module has to be one that this browser takes."""
+    """Without flags, so the module must be one that this browser accepts."""
     needs("node 20")
     chromium = os.environ.get("CHROMIUM") or needs(CHROMIUM)
     pictures = request.config.getoption("--pictures") or tmp_path

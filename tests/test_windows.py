@@ -1,9 +1,9 @@
-"""What is made for Windows of the module that the toolchain makes for Linux, under wine.
+"""Under wine: the Windows files, which are made from the module that the toolchain makes for Linux.
 
-The archive of the crate and the library of the wheel show the sum of `same.c` that the archive for
-Linux shows. A program loads the library as Python does, and cargo builds one over the crate. No
-Python for Windows is here, so nothing installs the wheel. Words and lines that `windows.py` does
-not know are refused.
+The archive of the crate and the library of the wheel give the same sum of `same.c` as the archive
+for Linux. A program loads the library as Python does, and cargo builds a program with the crate.
+There is no Python for Windows here, so nothing installs the wheel. `windows.py` refuses words and
+lines that it does not know.
 """
 import shutil
 import sys
@@ -33,7 +33,7 @@ def crate(packages):
 
 @pytest.fixture(scope="module")
 def folder(wheel, crate, tmp_path_factory):
-    """A folder with what the packages have for Windows, and with a Windows of its own."""
+    """A folder with the Windows files of the packages, and with its own Windows."""
     needs(MINGW[0], WINE)
     made = tmp_path_factory.mktemp("windows")
     take(wheel, f"/{DLL}", made)
@@ -69,7 +69,7 @@ def test_library_is_loaded(folder):
 
 
 def test_crate(crate, folder, tmp_path):
-    """cargo calls no compiler of C for it but to link."""
+    """cargo calls no C compiler for it, except to link."""
     needs("cargo 1.82")
     project = shutil.copytree(PROGRAM, tmp_path / "project")
     unpacked(crate, tmp_path).rename(project / "crate")
@@ -108,7 +108,7 @@ attributes #1 = {{ cold noreturn nounwind }}
 !1 = !{{}}
 """
 EMPTY = f'target datalayout = "e-m:w-{LAYOUT}"\ntarget triple = "{TARGET}"\n'
-# What stands in a module, and what does in its place: each may mean something else on Windows.
+# A text in a module, and its replacement: each may mean something else on Windows.
 WRONG = (
     ("-unknown-linux-gnu", "-unknown-freebsd"),
     ("i128:128", "i128:64"),

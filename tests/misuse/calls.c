@@ -1,8 +1,8 @@
-/* calls THREADS STEP: calls the library as nobody should, and holds each answer to what
- * chinese_number.h says: codes that name nothing, rooms of each length, texts that are no UTF-8,
- * and NULL at length 0. What a call is given stands beside a page that nobody may touch, and all
- * bytes that it may not write are compared. Each thread makes the same tries, one of each STEP, and
- * has to come to the same sum. Says how many tries there were, and how many went wrong. */
+/* calls THREADS STEP: misuses the library and compares each answer with what chinese_number.h says:
+ *  with invalid codes, buffers of each length, texts that are not UTF-8, and NULL with length 0.
+ *  The arguments are next to a page that must not be accessed, and all bytes that a call may not
+ *  write are compared. Each thread makes the same tries, one of each STEP, and must get the same
+ *  sum. Prints the number of tries, and how many went wrong. */
 #define _DEFAULT_SOURCE
 #include "chinese_number.h"
 
@@ -36,7 +36,7 @@ typedef struct question {
     uint8_t *told_end;
 } question;
 
-/* What it says: a printed text's length, or what was read or found. */
+/* What a call returns: the length of a printed text, or what was read or found. */
 typedef struct answer {
     uint64_t status, values[5], char_index, byte_index;
 } answer;
@@ -345,12 +345,12 @@ static const call calls[] = {
     {"cn_print_date", date_print, IN_CHARS, {2}, PRINTS(dates, CN_MOST_DATE_BYTES)},
 };
 
-/* Bytes between two pages that nobody may touch. */
+/* Bytes between two pages that must not be accessed. */
 typedef struct area {
     uint8_t *first, *end;
 } area;
 
-/* What a thread has. */
+/* The data of a thread. */
 typedef struct task {
     area text, room, told;
     size_t step, tries, wrong;
@@ -466,7 +466,7 @@ static void try_codes(task *mine, const call *by) {
     }
 }
 
-/* ---- Rooms ---- */
+/* ---- Buffers ---- */
 
 /* What is to be said for a room, by what was said for one that is large enough. */
 static answer for_room(const call *by, const question *it, answer whole) {
@@ -596,7 +596,7 @@ static uint64_t greatest_doubt(const call *by) {
     return by->ask == quantity_find ? CN_DOUBT_RANGE : CN_NO_DOUBT;
 }
 
-/* Whether an answer to UTF-8 has what its status has, and nothing else. */
+/* Whether an answer to UTF-8 has what belongs to its status, and nothing else. */
 static int is_whole(const call *by, const question *it, answer said) {
     answer nothing = {said.status, {0}, 0, 0};
     if (said.status >= 32 || (by->statuses & STATUS(said.status)) == 0)

@@ -1,4 +1,5 @@
-// Asks the JavaScript here and in 4 workers at once. All have to answer alike; says how many did.
+// Calls the JavaScript here and in 4 workers at once. All must give the same answers; prints how
+// many did.
 import { Worker, isMainThread, parentPort } from 'node:worker_threads';
 
 import {
@@ -8,7 +9,7 @@ import {
 const TEXTS = 2000, WORKERS = 4;
 const PIECES = [...'一二三十百千萬亿零壹贰佰元圆整正角分年月日负兩個5- é𠀀\0', '\ud800', '\udc00'];
 
-/** What a call gives, or its refusal. */
+/** The result of a call, or its refusal. */
 function answered(call, argument) {
   try {
     return JSON.stringify(call(argument), (_, it) => (typeof it === 'bigint' ? `${it}n` : it));
@@ -17,7 +18,7 @@ function answered(call, argument) {
   }
 }
 
-/** One sum over what is answered to texts and numbers of a fixed generator. */
+/** One sum over the answers to texts and numbers of a fixed generator. */
 function sumOfAnswers() {
   const readers = [toBigInt, chineseToAmount, chineseToDate, (text) => [...findNumbers(text)]];
   let state = 1, sum = 0;

@@ -1,5 +1,5 @@
-// A folder served over HTTP, and a headless Chromium that is driven over its debugging pipe: what
-// page_test.mjs stands on.
+// A folder served over HTTP, and a headless Chromium that is driven over its debugging pipe, for
+// page_test.mjs.
 import { spawn } from 'node:child_process';
 import { mkdtemp, readFile, rm } from 'node:fs/promises';
 import { createServer } from 'node:http';
@@ -10,7 +10,7 @@ const KINDS = {
   '.html': 'text/html', '.css': 'text/css', '.mjs': 'text/javascript', '.wasm': 'application/wasm',
 };
 
-/** Serves the files of a folder; `changed` may answer other bytes for a file, or wait. */
+/** Serves the files of a folder; `changed` may return other bytes for a file, or wait. */
 export async function serve(folder, changed = (name, bytes) => bytes) {
   const asked = [];
   const server = createServer(async (request, response) => {
@@ -66,7 +66,7 @@ export async function start(program, flags = []) {
 
 const textOf = ({ exception, text }) => exception?.description ?? text;
 
-/** A tab with a cache of its own. */
+/** A tab with its own cache. */
 export async function openTab(browser, width, height) {
   const { browserContextId } = await browser.send('Target.createBrowserContext');
   const { targetId } = await browser.send('Target.createTarget',

@@ -1,7 +1,7 @@
-// node face_test.mjs NUMERAL: compares the face with the native program NUMERAL, line by line, and
-// the modules' calls with the header for C. What has no line of the program is compared with what
-// RULES says: amounts, dates, running text and quantities. test_web.py puts the face, the header
-// and the rows beside this file.
+// node face_test.mjs NUMERAL: compares the binding with the native program NUMERAL, line by line,
+// and the modules' calls with the C header. Amounts, dates, running text and quantities, for which
+// the program has no lines, are compared with RULES. test_web.py copies the binding, the header and
+// the rows next to this file.
 import assert from 'node:assert/strict';
 import { spawnSync } from 'node:child_process';
 import { existsSync, readFileSync } from 'node:fs';
@@ -25,7 +25,7 @@ const LETTERS = Array.from('零〇一二三四五六七八九十百千萬万億�
 const DIGITS = '零〇一二三四五六七八九兩两壹貳貮贰參叁叄参肆伍陸陆柒捌玖0123456789';
 const NAMED_WAYS = WAYS.filter((it) => it !== 'any');
 
-// The program's words are the names with underscores, but for plain digits and simplified.
+// The program's words are the names with underscores, except for plain digits and simplified.
 const OTHERS = { digits: 'naive', simplified: 'simple' };
 const word = (it) => OTHERS[it] ?? it.replace(/[A-Z]/g, (capital) => `_${capital.toLowerCase()}`);
 const widthOf = (kind) => Number(kind.slice(1));
@@ -59,12 +59,12 @@ function below(count) {
 }
 const one = (list) => list[below(list.length)];
 
-// A number of about the kind's width, or just past it.
+// A number of approximately the kind's width, or just past it.
 function someNumber(kind) {
   let bits = 0n;
   for (let i = 0; i < 5; i++) bits = (bits << 32n) | BigInt(below(2 ** 32));
   bits = BigInt.asUintN(1 + below(widthOf(kind) + 1), bits);
-  // Round numbers have the zeros that spellings leave out.
+  // Round numbers have the zeros that spellings omit.
   if (below(3) === 0) bits -= bits % 10n ** BigInt(below(1 + bits.toString().length));
   return isSigned(kind) && below(2) ? -bits : bits;
 }
@@ -166,7 +166,7 @@ function compareWithTheProgram() {
 const calls = () => Array.from(textOf('chinese_number.h').matchAll(/^uint32_t (chinese_\w+)\(/gm),
   ([, name]) => name);
 
-// The modules ask nothing of their host, and offer the calls of the header.
+// The modules import nothing from their host, and export the calls of the header.
 function lookAtTheModules() {
   for (const bits of [64, 32]) {
     const file = new URL(`files/chinese-number.${bits}.wasm`, import.meta.url);
@@ -214,15 +214,15 @@ function tryEdges() {
     { code: 'tooLarge', kind: 'u8', message: 'number is too large' });
   for (const it of ['', ' 　\n', '負', ' 正 ']) refuses('empty', () => toNumber(it));
   assert.equal(toNumber('\r\n一 '), 1);
-  // Half a surrogate pair is one character, and at fault.
+  // Half a surrogate pair is one character, and it is at fault.
   for (const [text, charIndex, start, end] of [['一\ud800百', 1, 1, 2], ['一\udc00百', 1, 1, 2],
     ['😀一', 0, 0, 2], ['😀😀', 1, 2, 4]]) {
     assert.throws(() => toNumber(text), { code: 'incorrect', charIndex, start, end });
   }
-  console.log('edges: as wanted');
+  console.log('edges: as expected');
 }
 
-// What is left out is i128, any, the simplified script and the lower case.
+// The defaults are i128, any, the simplified script and the lower case.
 function tryOptions() {
   assert.equal(toChinese(10n ** 12n), '一万亿');
   assert.equal(toChinese(10n ** 12n, { way: 'any', script: 'traditional' }), '一兆');
@@ -240,9 +240,9 @@ function tryOptions() {
   refusesEach([...NO_OPTIONS, { type: 'u8' }], (it) => toChinese(12, it));
   refusesEach([...NO_OPTIONS, { script: 'simplified' }], (it) => toNumber('一', it));
   assert.equal(toNumber('一', Object.assign(Object.create(null), { kind: 'u8' })), 1);
-  // What map hands on beside each text is no options.
+  // The further arguments that map passes are not options.
   assert.throws(() => ['三', '一'].map(toNumber), TypeError);
-  console.log('options: as wanted');
+  console.log('options: as expected');
 }
 
 // The capitals of an amount, by its decimal places from the top.
@@ -294,7 +294,7 @@ function amountOf(text, read = chineseToAmountBigInt) {
   }
 }
 
-// The same amount as a Number, where it is safe.
+// The same amount as a Number, if it is a safe integer.
 function readsAsANumber(text, fen, read) {
   if (isSafe(fen)) assert.equal(read(text), Number(fen));
   else assert.throws(() => read(text), { name: 'AmountError', code: 'unsafe' });
@@ -591,7 +591,7 @@ function runsOf(characters, { upper, greatest }) {
   return runs;
 }
 
-// What a call gives, or why and where it refuses.
+// The result of a call, or why and where it refuses.
 function answerOf(call) {
   try {
     return call();
@@ -682,7 +682,7 @@ function tryFound() {
     refusesEach([...NO_OPTIONS, { way: 'ten' }, { kind: 'u7' }, { script: 'simplified' }],
       (it) => plain[name](it));
   }
-  console.log('found numbers: as wanted');
+  console.log('found numbers: as expected');
 }
 
 // A quantity of a form, of which one in four has a denominator that is not of it.
@@ -892,7 +892,7 @@ function tryLongTexts() {
   const write = (count) => instancesOf(() => quantitiesToFigures('文'.repeat(count)));
   assert.deepEqual([LONG, LONG, 1, 1, LONG, LONG, 1].map(read), [0, 0, 1, 0, 0, 0, 1]);
   assert.deepEqual([LONG, LONG, 1, 1].map(write), [0, 0, 1, 0]);
-  console.log('long texts: as wanted, also where memory does not grow');
+  console.log('long texts: as expected, also if memory does not grow');
 }
 
 // Calls on a stack that is full, as far as the padding lets it be.

@@ -1,4 +1,4 @@
-// The page in a headless Chromium, as page_test.mjs asks it: opened, typed into and looked at.
+// The page in a headless Chromium for page_test.mjs: opens it, types into it and looks at it.
 import { readFile, writeFile } from 'node:fs/promises';
 import { join } from 'node:path';
 import { openTab } from './browser.mjs';
@@ -22,7 +22,7 @@ const LOADED = `new Promise((done, fail) => {
   look();
 })`;
 
-// What stands below a field: the rows, what is said, whether it is a fault, and what is marked.
+// What is below a field: the rows, the message, whether it is a fault, and what is marked.
 const ANSWER = `((field) => {
   const { form } = field, mark = form.querySelector('.mirror mark');
   return {

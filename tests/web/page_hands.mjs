@@ -1,5 +1,5 @@
-// The page under the hand: the caret, input methods, marks, copies, keys, and what a screen reader
-// tells; a part of page_test.mjs.
+// Using the page: the caret, input methods, marks, copies, keys, and what a screen reader says; a
+// part of page_test.mjs.
 import assert from 'node:assert/strict';
 import { LANGUAGES, rowsOf } from './page.mjs';
 
@@ -35,7 +35,7 @@ async function leavesTheCaret(page) {
   }
 }
 
-// What stays as it was is not said again.
+// What has not changed is not said again.
 async function saysOnce(page) {
   await page.speak('en');
   await page.choose('kind', 'u8');
@@ -134,7 +134,7 @@ async function offersDigits(page) {
     (it) => it.id)`), ['figures', 'dateFigures']);
 }
 
-// A button copies what stands in front of it, and says so.
+// A button copies the text before it, and says so.
 async function copies(page) {
   for (const language of LANGUAGES) {
     const at = await page.speak(language);

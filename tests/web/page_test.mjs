@@ -62,7 +62,7 @@ async function isStrict() {
   assert.equal(policy.replace(/\s+/g, ' '), POLICY);
 }
 
-// What is typed before the library has loaded is judged once it has.
+// What is typed before the library has loaded is judged after it has.
 async function judgesWhatCameEarly() {
   let goOn;
   const gate = new Promise((done) => {
@@ -93,8 +93,8 @@ async function judgesWhatCameEarly() {
   slow.close();
 }
 
-// A page whose policy has no 'wasm-unsafe-eval', or that lacks the module, says that the library
-// did not load.
+// A page whose policy has no 'wasm-unsafe-eval', or that does not have the module, says that the
+// library did not load.
 async function saysWhatIsMissing() {
   const without = (name, bytes) => (name === 'index.html'
     ? Buffer.from(String(bytes).replace(" 'wasm-unsafe-eval'", '')) : bytes);
@@ -131,7 +131,7 @@ async function test() {
   await page.close();
   await judgesWhatCameEarly();
   await saysWhatIsMissing();
-  console.log('page: as wanted');
+  console.log('page: as expected');
 }
 
 try {

@@ -41,7 +41,7 @@ async function findsQuantities(page) {
   await page.check('doubtful', false);
 }
 
-// Each doubt is told in each language, and part of something is never replaced.
+// Each doubt is explained in each language, and part of something is never replaced.
 async function tellsDoubts(page) {
   const told = [];
   for (const language of LANGUAGES) {
@@ -59,7 +59,7 @@ async function tellsDoubts(page) {
   await page.check('doubtful', false);
 }
 
-// A text is read by the method that is chosen, and by ten thousand where there is none.
+// A text is read with the chosen method, and with ten thousand if there is none.
 async function findsByChoices(page) {
   await page.speak('en');
   await page.check('expanded', true);
@@ -149,7 +149,7 @@ async function answersLongTexts(page) {
   await page.send('Performance.disable');
 }
 
-// A text with a million characters is read, and its place told.
+// A text with a million characters is read, and its position is shown.
 async function readsVeryLongTexts(page) {
   await page.speak('en');
   await page.type('numeral', `${' '.repeat(1_000_000)}一百二`);

@@ -5,7 +5,7 @@ import { TEXTS } from './page/texts.mjs';
 
 const FIELDS = ['figures', 'capitals', 'dateFigures', 'dateCapitals', 'number', 'numeral'];
 
-// Each text is there in each language, with the same places to fill; the page asks for no other.
+// Each text exists in each language, with the same placeholders; the page uses no other text.
 async function hasEachText(page) {
   for (const [key, texts] of Object.entries(TEXTS)) {
     assert.equal(texts.length, LANGUAGES.length, key);
@@ -113,7 +113,7 @@ async function refuses(page) {
   }
 }
 
-// What is not finished is no fault, and what may follow it is told.
+// An unfinished text is not a fault, and the page says what may follow it.
 async function leavesTheUnfinished(page) {
   for (const language of LANGUAGES) {
     const at = await page.speak(language);
@@ -132,7 +132,7 @@ async function leavesTheUnfinished(page) {
   }
 }
 
-// Any beginning of a printed text is no fault.
+// No beginning of a printed text is a fault.
 async function leavesBeginnings(page) {
   await page.speak('en');
   for (const [from, typed, to, read] of [
@@ -165,7 +165,7 @@ async function saysWhy(page) {
   }
 }
 
-// An integer type and a way are asked for; else any type and any way will do.
+// An integer type and a way can be chosen; by default any type and any way will do.
 async function goesByChoices(page) {
   await page.speak('en');
   assert.deepEqual(await page.value('[kind.value, way.value, choosing.open]'), ['', 'any', false]);
@@ -205,7 +205,7 @@ async function goesByChoices(page) {
   assert.deepEqual((await page.answer('numeral')).rows, ['-1']);
 }
 
-// Of an amount its form may be asked for.
+// The form of an amount can be chosen.
 async function writesForms(page) {
   await page.speak('zh-Hans');
   await page.type('figures', '15');

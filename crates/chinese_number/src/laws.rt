@@ -1,5 +1,9 @@
 //! What users can count on, each as the contract of a function that does nothing: that contract is
 //! the theorem, and the check proves it.
+// To add a law, write a function with an empty body in `laws.rt` or `laws/` of its crate, name it
+// here and in docs/PROMISES.md and, if it has premises, add an instance to proofs/LawExamples.antt.
+// Try it without a proof first: what the search does not find becomes a lemma that the law's
+// `Answers.antt` cites. `unfolding digit_char unit_char` computes characters.
 pub mod amounts;
 mod answers;
 pub mod dates;

@@ -99,6 +99,7 @@ impl Written<Hand> for Capital {
 }
 
 // The characters that are read, each at its slot. 無, which is not read, fills the empty slots.
+// `python3 checks/tables.py crates` prints this table from `capital_rows` of specs/Reading.
 static CAPITALS: [(char, Option<Capital>); 64] = [
     ('玖', Some(Capital::Digit(9))),
     ('無', None),

@@ -1,6 +1,8 @@
 ghost use Rattle.std.specs.Prelude.{◌≡◌, ℕ, List};
 ghost use Rattle.cn_capitals.specs.Machine.{Machine, Reached};
 
+// `cheque` has a short example: specs/DateFigures, src/dates.rt, specs/Working/DateSteps and
+// proofs/DateFiguresRead.
 /// The states in which texts are read from left to right by a grammar.
 pub trait Grammar: Copy {
     /// The type of the value that a form stands for.

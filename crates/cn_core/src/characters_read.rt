@@ -1,4 +1,7 @@
 // How each character is read: as a digit, a unit or a sign.
+//
+// To add a character of numerals, also change docs/RULES.md, `MARKS` in mark.rt of cn_judge if it
+// takes three bytes, and `is_upper` in belongs.rt of cn_find if it is an upper case form.
 ghost use Rattle.std.specs.Prelude.{◌≡◌, option_map};
 ghost use Rattle.cn_core.specs.Characters.{digit_of, rank_of, rank, sign_of};
 

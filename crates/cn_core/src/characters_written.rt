@@ -1,4 +1,5 @@
-// The characters that write digits, units and signs.
+// The characters that write digits, units and signs. Each must be one that is read, and take three
+// bytes.
 ghost use Rattle.std.specs.Prelude.{◌≡◌, ◌≤◌, ◌<◌, map};
 ghost use Rattle.cn_core.specs.Characters.{rank, digit_char, unit_char, minus_char, printed_digits, printed_units, printed_word};
 

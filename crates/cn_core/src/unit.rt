@@ -1,3 +1,5 @@
+// A unit above 極 also changes each 15 and 16 that counts the ranks (`git grep -nwE '15|16' crates`)
+// and `LOW_LIMIT` of cn_spell.
 /// A unit of a numeral, by rank from 0, 個, to 15, 極. The unit with the greater rank is greater.
 #[derive(Debug, Copy, Clone, Eq, PartialEq, Hash, PartialOrd, Ord)]
 pub enum Unit {

@@ -6,6 +6,8 @@ mod signed;
 mod unsigned;
 mod wide;
 
+// To add a type, add it to checks/calls.txt and run `python3 checks/calls.py . --write`. Types of
+// 128 bits are written by hand in whole/wide.rt.
 /// An integer type that numerals are read and written for: one of the twelve from `u8` to `isize`.
 ///
 /// A value is given by its sign and its magnitude.

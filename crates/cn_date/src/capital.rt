@@ -39,6 +39,7 @@ impl Written<ChineseVariant> for Capital {
 }
 
 // The characters that are read, each at its slot. 無, which is not read, fills the empty slots.
+// `python3 checks/tables.py crates` prints this table from `capital_rows` of specs/Reading.
 static CAPITALS: [(char, Option<Capital>); 32] = [
     ('無', None),
     ('肆', Some(Capital::Digit(4))),

@@ -74,6 +74,7 @@ pub fn is_wanted(wanted: Wanted, c: char, mark: Mark) -> bool
 
 // Whether the text begins with a word before which 兆 means mega. Most of these words are
 // recognized by their first character, the others by their first two.
+// `is_of_measure` of specs/Parting has each character of these words.
 // Same answer ('\0' → '\t'): no word has a tab or a NUL.
 #[inline(never)]
 #[tactic(auto, unfolding(crate::specs::Belongs::begins_measure))]

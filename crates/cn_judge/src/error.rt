@@ -30,6 +30,8 @@ pub enum ChineseToNumberError {
     Underflow,
 }
 
+// C++, Go and bindings/c/answers.c compose these texts from parts: a search for a whole text misses
+// them.
 impl fmt::Display for ChineseToNumberError {
     ghost use Rattle.std.specs.Prelude.{Some};
     ghost use Rattle.cn_judge.specs.ErrorText.{reading_error_text};

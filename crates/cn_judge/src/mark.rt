@@ -16,6 +16,7 @@ pub enum Mark {
 // The characters of digits and units whose UTF-8 is three bytes long, each with its mark at its
 // slot. The key is the three bytes, with the first byte lowest. 無, which is neither digit nor unit,
 // fills the empty slots.
+// `python3 checks/tables.py crates` prints this table.
 static MARKS: [(u32, Mark); 128] = [
     (0x9fbbe4, Mark::Unit(Unit::Qian)), // 仟
     (0x838de5, Mark::Unit(Unit::Qian)), // 千
