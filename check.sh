@@ -32,6 +32,8 @@ bindings/dist.py check
 checks/wrong_dist.py
 checks/calls.py .
 checks/wrong_calls.py
+checks/laws.py --check
+checks/wrong_laws.py
 checks/edits.py crates
 checks/codes.py crates/cn_c bindings
 checks/quotes.py bindings

@@ -33,7 +33,7 @@ pub fn quantities_to_figures(
 }
 
 /// Puts the same at the start of a room, if it fits, and returns how many bytes it has, at most the
-/// greatest `usize`. Where it does not fit, the room holds a beginning of it or less.
+/// greatest `usize`. If it does not fit, the bytes of the room are not specified.
 ///
 /// ```text
 /// let mut room = [0; 8];
