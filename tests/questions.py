@@ -28,7 +28,7 @@ REFUSALS = {
 OF_CHEQUE = ("Amounts of money", "Amounts in figures", "Dates on bills")
 OF_CALLS = {
     "Numbers in a text": ["find"],
-    "What is told of a number": ["flags"],
+    "Flags of a found number": ["flags"],
     "Either way": ["read", "i64", "any"],
     "Written either way": ["print", "i64", "any", "simple", "lower"],
     "Quantities": ["read_quantity", "ten_thousand"],

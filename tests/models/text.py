@@ -7,11 +7,10 @@ that RULES can be followed without the code, and not that each of those choices 
 Each function follows one rule, in the order and words of RULES.  Refusals are None: which refusal
 it is, and where, is not modelled.  Positions count characters.
 
-Where RULES leaves two readings, these are taken: the blank in an expression is U+0020, the comma
-before three figures is `,` or `，`, words of Doubt may mix the scripts (but 亿万), "a number with 负" begins
-with it, a whole part is cut off towards 0, a denominator is a whole number if it has no point, a
-mixed fraction has no sign after 分之 and is a fraction over 100 too, kept fractions have no currency
-sign, and canonical figures lift only the first reason to stay.
+Where RULES leaves two readings, these are taken: the comma before three figures is `,` or `，`, a
+whole part is cut off towards 0, a denominator is a whole number if it has no point, a mixed fraction
+has no sign after 分之 and is a fraction over 100 too, kept fractions have no currency sign, and
+canonical figures lift only the first reason to stay.
 """
 
 import re
