@@ -571,8 +571,8 @@ export function toChinese(number, options = NO_OPTIONS) {
  * The amount is in fen, hundredths of a yuan, as a BigInt or a safe integer. The script is
  * 'simplified' by default. `currency: true` adds the prefix 人民币; `yuan` is '元' by default, or '圆';
  * `closing` is '整' by default, or '正'. Throws an AmountError if the amount is below zero, or
- * 10n ** 18n or more. Throws a TypeError if the amount is of another type, or an option or its value is
- * unknown.
+ * 10n ** 18n or more. Throws a TypeError if the amount is of another type, or an option or its value
+ * is unknown.
  *
  * @param {bigint | number} fen
  * @param {AmountOptions} options
