@@ -172,7 +172,7 @@ static void each_status_of_printing_quantities(void) {
     prints_quantity(large, CN_LOW, simple, lower, most, CN_TOO_LARGE, 0, "a divisor too large for the method");
     prints_quantity(small, CN_LOW, simple, lower, most, CN_TOO_SMALL, 0, "the same below 0");
     prints_quantity(over_zero, ten_thousand, simple, lower, most, CN_NOT_A_QUANTITY, 0, "a quantity over 0");
-    prints_quantity(over_zero, CN_DIGITS, simple, lower, most, CN_UNKNOWN, 0, "a way that is no method");
+    prints_quantity(over_zero, CN_DIGITS, simple, lower, most, CN_UNKNOWN, 0, "a way that is not a method");
     prints_quantity(trillions, CN_ANY, simple, lower, most, CN_DONE, 15, "一万亿点五");
     prints_quantity(trillions, CN_ANY, CN_TRADITIONAL, lower, most, CN_DONE, 12, "一兆點五");
     prints_quantity(over_zero, CN_ANY, simple, lower, most, CN_NOT_A_QUANTITY, 0, "a quantity over 0 by any way");
@@ -214,8 +214,8 @@ static void each_status_of_replacing(void) {
     replaces("八五折", CN_TEN_THOUSAND, each, 64, CN_DONE, 9, "八五折");
     replaces("", CN_TEN_THOUSAND, 0, 0, CN_DONE, 0, "");
     replaces("\xff", CN_TEN_THOUSAND, 0, 64, CN_NOT_UTF8, 0, "no UTF-8");
-    replaces("一", CN_DIGITS, 0, 64, CN_UNKNOWN, 0, "a way that is no method");
-    replaces("一", CN_TEN_THOUSAND, each | CN_STANDS_ALONE, 64, CN_UNKNOWN, 0, "a flag that is no option");
+    replaces("一", CN_DIGITS, 0, 64, CN_UNKNOWN, 0, "a way that is not a method");
+    replaces("一", CN_TEN_THOUSAND, each | CN_STANDS_ALONE, 64, CN_UNKNOWN, 0, "a flag that is not an option");
     replaces("一", CN_TEN_THOUSAND, CN_CANONICAL * 2, 64, CN_UNKNOWN, 0, "an unknown option");
     replaces("一", CN_TEN_THOUSAND, UINT32_MAX, 64, CN_UNKNOWN, 0, "all bits of the options");
 }
@@ -266,7 +266,7 @@ static void found_by_units(void) {
     cn_span span = {0, 0, 0};
     cn_reading reading;
     cn_status status = cn_find_next(text, strlen(text), 1, CN_JI, &span);
-    expect("a unit in front", status == CN_DONE && span.start == 0 && span.end == 5);
+    expect("a unit before", status == CN_DONE && span.start == 0 && span.end == 5);
     status = cn_read_found(text, &span, CN_I64, CN_ANY, &reading);
     expect("refused by units", status == CN_INCORRECT && reading.char_index == 1);
 }
@@ -430,7 +430,7 @@ static void texts_of_char(void) {
     expect("a zero byte inside", cn_read("一\0二", 7, CN_U8, CN_DIGITS, &reading) == CN_INCORRECT
                                      && reading.char_index == 1 && reading.byte_index == 3);
     for (uint32_t status = CN_DONE; status <= CN_NOT_A_QUANTITY; status++)
-        expect("a status has words of its own", strcmp(cn_status_text(status), cn_status_text(status + 1)) != 0);
+        expect("a status has its own text", strcmp(cn_status_text(status), cn_status_text(status + 1)) != 0);
 }
 
 /* The same for amounts. */
@@ -440,7 +440,7 @@ static void amounts_of_char(void) {
     memset(room, 7, sizeof room);
     expect("a room of the amount alone", cn_print_amount(0, CN_SIMPLIFIED, CN_PLAIN, room, 9) == CN_NO_ROOM
                                              && room[0] == 0 && room[1] == 7);
-    expect("a zero byte behind an amount", cn_print_amount(0, CN_SIMPLIFIED, CN_ROUND_YUAN, room, 10) == CN_DONE
+    expect("a zero byte after an amount", cn_print_amount(0, CN_SIMPLIFIED, CN_ROUND_YUAN, room, 10) == CN_DONE
                                                && strcmp(room, "零圆整") == 0 && room[10] == 7);
     expect("no amount in the room", cn_print_amount(UINT64_MAX, CN_SIMPLIFIED, CN_PLAIN, room, 10) == CN_TOO_LARGE
                                         && room[0] == 0);
@@ -456,15 +456,15 @@ static void quantities_of_char(void) {
     cn_status status = cn_print_quantity(&half, CN_LOW, CN_SIMPLIFIED, CN_LOWER, room, 9);
     expect("a room of the quantity alone", status == CN_NO_ROOM && room[0] == 0 && room[1] == 7);
     status = cn_print_quantity(&half, CN_LOW, CN_SIMPLIFIED, CN_LOWER, room, 10);
-    expect("a zero byte behind a quantity", status == CN_DONE && strcmp(room, "零点五") == 0 && room[10] == 7);
+    expect("a zero byte after a quantity", status == CN_DONE && strcmp(room, "零点五") == 0 && room[10] == 7);
     status = cn_print_quantity(&over_zero, CN_LOW, CN_SIMPLIFIED, CN_LOWER, room, 10);
     expect("no quantity in the room", status == CN_NOT_A_QUANTITY && room[0] == 0);
     status = cn_quantity_figures(&half, room, 4);
-    expect("a zero byte behind figures", status == CN_DONE && strcmp(room, "0.5") == 0);
+    expect("a zero byte after figures", status == CN_DONE && strcmp(room, "0.5") == 0);
     status = cn_quantities_to_figures("廿三", 6, 0, CN_ZHAO, CN_LOW, 0, room, 2, &length);
     expect("a room of the new text alone", status == CN_NO_ROOM && length == 2 && room[0] == 0);
     status = cn_quantities_to_figures("廿三", 6, 0, CN_ZHAO, CN_LOW, 0, room, 3, &length);
-    expect("a zero byte behind a new text", status == CN_DONE && length == 2 && strcmp(room, "23") == 0);
+    expect("a zero byte after a new text", status == CN_DONE && length == 2 && strcmp(room, "23") == 0);
 }
 
 /* The same for dates. */
@@ -474,7 +474,7 @@ static void dates_of_char(void) {
     memset(room, 7, sizeof room);
     expect("a room of the date alone", cn_print_date(5, 3, 1, CN_SIMPLIFIED, room, 21) == CN_NO_ROOM
                                            && room[0] == 0 && room[1] == 7);
-    expect("a zero byte behind a date", cn_print_date(5, 3, 1, CN_SIMPLIFIED, room, 22) == CN_DONE
+    expect("a zero byte after a date", cn_print_date(5, 3, 1, CN_SIMPLIFIED, room, 22) == CN_DONE
                                             && strcmp(room, "伍年叁月零壹日") == 0 && room[22] == 7);
     expect("no date in the room", cn_print_date(2025, 2, 29, CN_SIMPLIFIED, room, 22) == CN_NOT_A_DATE && room[0] == 0);
     expect("a zero byte in a date", cn_read_date("伍\0年", 7, &date) == CN_INCORRECT && date.char_index == 1);

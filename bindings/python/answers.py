@@ -108,7 +108,7 @@ def flags(found):
 
 
 def in_place(text, all_found, tell):
-    """The text with what is told of each that was found, in brackets, in its place."""
+    """The text with each run replaced by its description, in brackets."""
     done, at = "", 0
     for found in all_found:
         done += f"{text[at:found.start]}[{tell(found)}]"
