@@ -1,19 +1,20 @@
 #!/usr/bin/env python3
-"""Makes `dist/`, of which the library is installed without its toolchain, and holds it to its
+"""Makes `dist/`, from which the library is installed without its toolchain, and compares it with its
 sources.
 
 Usage: dist.py make | check | again ARCHIVE
 
-make builds cn_c for WebAssembly, and C source of that, and writes `dist/` and the copies of its
-files where the tools of other languages look. It takes the toolchain, a C compiler, wasm-opt and
-wasm2c.
+make builds cn_c for WebAssembly, and C source from that, and writes `dist/` and the copies of its
+files where the tools of other languages look. It needs the toolchain, a C compiler, wasm-opt of
+binaryen, and wasm2c of wabt 1.0.32.
 
-check sees that `dist/` was made of the sources that are here, that its files have the sums that its
-PROVENANCE.json names, and that each copy is as its original. It takes Python from 3.8 on alone.
+check verifies that `dist/` was made from the sources that are here, that its files have the checksums
+in its PROVENANCE.json, and that each copy equals its original. It needs only Python 3.8 or later.
 
-again makes the files once more, and compares each byte. By other tools than PROVENANCE.json names,
-or another toolchain of the same logic, bytes may differ: then it compares what checks/same.c shows
-over the C source and over the archive in the folder ARCHIVE, as archive.sh fills it.
+again makes the files again, and compares each byte. If the tools differ from those that
+PROVENANCE.json names, or the toolchain is another one with the same logic, bytes may differ. Then it
+compares the output of checks/same.c with the C source and with the archive in the folder ARCHIVE,
+which archive.sh fills.
 """
 import base64
 import json
@@ -79,7 +80,7 @@ def stop(why):
 
 
 def said(*words):
-    """What a command prints, where it ends well."""
+    """The output of a command. Stops if the command fails."""
     words, how = [str(word) for word in words], {"stderr": subprocess.STDOUT, "encoding": "utf-8"}
     ended = subprocess.run(words, stdout=subprocess.PIPE, **how)
     if ended.returncode:
@@ -88,7 +89,7 @@ def said(*words):
 
 
 def tools():
-    """What these files are made by. Without the toolchain nothing is."""
+    """The tools that make these files. Stops if there is no toolchain."""
     if subprocess.run(["bash", HERE / "toolchain.sh"]).returncode:
         sys.exit(1)
     return {
@@ -99,7 +100,7 @@ def tools():
 
 
 def answers(library):
-    """What checks/same.c shows over a library, be it an archive or C source."""
+    """The output of checks/same.c with a library, which is an archive or C source."""
     with tempfile.TemporaryDirectory() as scratch:
         program = Path(scratch) / "same"
         said("cc", "-O1", "-I", HERE / "c", TOP / "checks/same.c", library, "-o", program)
@@ -107,14 +108,14 @@ def answers(library):
 
 
 def common_js(compiled, face):
-    """Two modules as one of CommonJS, for `require`."""
+    """Combines two modules into one CommonJS module, for `require`."""
     names = re.findall(r"^export \w+ (\w+)", face, re.MULTILINE)
     both = re.sub(r"^export ", "", compiled + face.replace(IMPORT, ""), flags=re.MULTILINE)
     return f"'use strict';\n{both}\nmodule.exports = {{ {', '.join(names)} }};\n"
 
 
 def of_javascript(module):
-    """The files that have the module inside, by path."""
+    """The files that contain the module, by path."""
     compiled = COMPILED.format(base64.b64encode(module).decode())
     face = read(HERE / "web/chinese-number.mjs").decode()
     return {
@@ -124,7 +125,7 @@ def of_javascript(module):
 
 
 def files_of(made):
-    """All files but PROVENANCE.json, by path, made of those that are built, by name."""
+    """All files except PROVENANCE.json, by path, made from the files that are built, by name."""
     files = {f"dist/{name}": made[name] for name in MADE}
     for path, original in COPIES.items():
         files[path] = files[original] if original in files else read(TOP / original)
@@ -132,13 +133,13 @@ def files_of(made):
 
 
 def sums_of(files):
-    """The sums of the files in `dist/`, by name."""
+    """The checksums of the files in `dist/`, by name."""
     in_dist = {path: data for path, data in files.items() if path.startswith("dist/")}
     return {Path(path).name: sum_of(data) for path, data in in_dist.items()}
 
 
 def built(archive, by):
-    """All files, by path, built of the sources that are here. The archive has to answer alike."""
+    """All files, by path, built from the sources here. The archive must have the same output."""
     sources = sum_of_sources()
     with tempfile.TemporaryDirectory() as scratch:
         folder = Path(scratch)
@@ -175,7 +176,7 @@ def make():
 
 
 def found(path):
-    """The bytes of a file; none where there is no such file."""
+    """The bytes of a file, or none if it does not exist."""
     return (TOP / path).read_bytes() if (TOP / path).is_file() else b""
 
 
@@ -193,7 +194,7 @@ def faults(told):
 
 
 def check():
-    """What PROVENANCE.json tells, where all is well."""
+    """The contents of PROVENANCE.json. Stops if a check fails."""
     try:
         told = json.loads(found(PROVENANCE))
     except ValueError:

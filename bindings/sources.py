@@ -1,12 +1,12 @@
 #!/usr/bin/env python3
-"""Prints one sum over what the library for other languages is made of.
+"""Prints a single checksum of everything that the library for other languages is made of.
 
 Usage: sources.py
 
-Of `cn_c` and of each crate below it, that is: its line of crates.txt, its sources, its definitions
-and its proofs; and the scripts that build the modules and the C source, with the program whose
-answers are kept beside them. Names and contents alone count, and a line ends in a line feed however
-it ends here.
+This is, for `cn_c` and each crate that it needs, its line in crates.txt, its sources, its
+definitions and its proofs; and the scripts that build the modules and the C source, with the program
+whose output is recorded in `dist/`. Only names and contents count, and all line ends count as line
+feeds.
 """
 import hashlib
 from pathlib import Path
@@ -24,12 +24,12 @@ SCRIPTS = (
 
 
 def read(path):
-    """The bytes of a text, with line feeds at the ends of its lines."""
+    """The bytes of a text, with line feeds as line ends."""
     return path.read_bytes().replace(b"\r\n", b"\n")
 
 
 def lines_below(name):
-    """The line of crates.txt for a crate, and for each that it stands on."""
+    """The lines of crates.txt for a crate and for each crate that it needs."""
     text = read(TOP / "crates.txt").decode()
     lines = {line.split(":")[0].split()[0]: line for line in text.splitlines() if line.strip()}
     found, left = {}, [name]

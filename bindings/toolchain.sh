@@ -1,7 +1,7 @@
-# Sourced by what builds: `kit` is the toolchain's folder. Where there is none, it says so and stops.
+# Sourced by scripts that build. Sets `kit` to the toolchain's folder, or stops with a message.
 command -v rt > /dev/null || {
-    echo "There is no command rt on the path, so nothing can be proved or built. README.md names" \
-        "the toolchain; dist/ has what it has made, for whoever has none." >&2
+    echo "The command rt is not on the path, so nothing can be proved or built. README.md names the" \
+        "toolchain. Without it, use the files that it has made in dist/." >&2
     exit 1
 }
 kit=$(dirname "$(dirname "$(realpath "$(command -v rt)")")")

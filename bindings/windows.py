@@ -1,13 +1,13 @@
 #!/usr/bin/env python3
-"""Makes an object for Windows in the place of clang, which the toolchain calls for Linux alone.
+"""Makes an object for Windows instead of clang, which the toolchain calls only for Linux.
 
 Usage: windows.py CLANG TARGET WORDS..
 
-`rattle build` hands a module of LLVM for Linux on x86-64 to clang, by WORDS. By the same words CLANG
-makes an object for TARGET of it, with the tables by which Windows unwinds the stack. That the module
-can mean nothing else there is seen here: a call of the library takes and gives integers and
-addresses of one register, and nothing but how names are marked is of Linux alone. Other words, and
-each line of a module that is not known, are refused.
+`rattle build` passes an LLVM module for Linux on x86-64 to clang, with WORDS. With the same words this
+script lets CLANG make an object for TARGET from it, with the tables with which Windows unwinds the
+stack. The script checks that the module means the same on Windows: the library's calls take and return
+only integers and addresses of one register, and only the mangling of names is specific to Linux. It
+refuses other words, and each unknown line of a module.
 """
 import re
 import subprocess
@@ -15,7 +15,7 @@ import sys
 
 TARGETS = ("x86_64-pc-windows-gnu", "x86_64-pc-windows-msvc")
 LINUX = "x86_64-unknown-linux-gnu"
-# The words of the toolchain, but for --sysroot; those in the middle serve each target.
+# The toolchain's words, without --sysroot; those in the middle are valid for each target.
 FIRST = [f"--target={LINUX}"]
 SHARED = (
     "-march=x86-64 -mllvm -no-trap-after-noreturn -ffunction-sections -fdata-sections "
@@ -31,7 +31,7 @@ TEXT = r'"(?:[^"\\]|\\[0-9A-F]{2}|\\\\)*"'
 
 
 def listed(item):
-    """The pattern of none, one or more of an item, with commas between them."""
+    """The pattern of zero or more items, separated by commas."""
     return rf"(?:{item}(?:, {item})*)?"
 
 
@@ -75,7 +75,7 @@ def refuse(why):
 
 
 def said(*words, stdin=""):
-    """What a command prints, where it ends well."""
+    """The output of a command. Exits if the command fails."""
     ended = subprocess.run(words, input=stdin, stdout=subprocess.PIPE, encoding="utf-8")
     return sys.exit(ended.returncode) if ended.returncode else ended.stdout
 
@@ -86,8 +86,7 @@ def header(text):
 
 
 def for_windows(text, empty):
-    """The text of a module with the target of an empty one, and tables for the unwinding of the
-    stack."""
+    """The text of a module with the target of an empty module, and with tables to unwind the stack."""
     (layout, target), (own_layout, own_target) = header(text), header(empty)
     if target != LINUX or layout.replace("-m:e-", "-m:w-") != own_layout:
         refuse(f"the module is for {target}, with the data layout {layout}, and not {own_layout}")

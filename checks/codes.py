@@ -73,7 +73,7 @@ BEGINNINGS = {
         "UNITS": "/* The units",
         "QUANTITY_FORMS": "/* How a quantity",
         "FLAGS": "/* The flags",
-        "DOUBTS": "/* Why a reader may mean by an expression something else than its quantity. Of",
+        "DOUBTS": "/* Why a reader may understand",
         "OPTIONS": "/* The options",
         "STATUSES": "/* The status",
     },

@@ -99,7 +99,7 @@ def outcome(script, target, host, variables):
     """The calls of tools, up to the words that the script appends, or the variable it requests."""
     ended = end_of(script, script.parent, target, host, **variables)
     calls = re.findall(r"^called (.*?) (?:-O2|crs|/nologo) ", ended.stdout, re.M)
-    asked = re.search(r" Set (\S+) to one\.$", ended.stderr.strip())
+    asked = re.search(r" Set (\S+) to a compiler\.$", ended.stderr.strip())
     if ended.returncode == 1 and asked and not calls:
         return asked[1]
     return ", ".join(calls) if ended.returncode == 0 else ended.stderr

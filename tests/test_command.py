@@ -19,7 +19,7 @@ from questions import table
 from running import TOP, Program, needs, write
 
 USAGE = b"usage: chinese-number "
-MISUSE = re.compile(rb"chinese-number: .+ \(--help says more\)\n")
+MISUSE = re.compile(rb"chinese-number: .+ \(see --help\)\n")
 MANY = "二十三\n".encode() * 20000
 TABLE, ROWS = ["amount", "--column", "1"], b"15\n" * 60000
 # Arguments and an input for which something is written.
@@ -160,7 +160,7 @@ def test_many_rows(command):
     written = "".join(f"{row},{cell},{answers[cell]}\n" for row, cell in rows)
     refusal = "the amount is incorrect (position: 5)"
     told = "".join(f"{row}: {refusal}\n" for row in range(20, 20001, 20))
-    told += "20000 rows: 19000 answered, 1000 refused\n"
+    told += "20000 rows: 19000 converted, 1000 refused\n"
     found = command("amount", "--column", "2", data=data.encode())
     assert found == (1, written.encode(), told.encode())
 
@@ -170,7 +170,9 @@ def test_open_quote(command):
     refused = 2**17 // 3 + 1
     rows = [b'"15', *[b"15"] * (refused - 2), b"15,"]
     rows += ["15,壹拾伍元整".encode()] * (60001 - refused)
-    told = f"1: the row is not CSV\n{60002 - refused} rows: {60001 - refused} answered, 1 refused\n"
+    told = (
+        f"1: the row is not CSV\n{60002 - refused} rows: {60001 - refused} converted, 1 refused\n"
+    )
     found = command(*TABLE, data=b'"' + b"15\n" + ROWS)
     assert found == (1, b"".join(row + b"\n" for row in rows), told.encode())
 
@@ -180,7 +182,7 @@ def test_long_cell(command):
     long = b"x" * 200000
     data = b'%s,15\n"%s",16\n' % (long, long)
     written = '%s,15,壹拾伍元整\n"%s",16,壹拾陆元整\n'.encode().replace(b"%s", long)
-    told = b"2 rows: 2 answered, 0 refused\n"
+    told = b"2 rows: 2 converted, 0 refused\n"
     assert command("amount", "--column", "2", data=data) == (0, written, told)
 
 
@@ -196,4 +198,4 @@ def test_progress(command):
     os.close(errors)
     told = os.read(terminal, 4096)
     os.close(terminal)
-    assert re.fullmatch(rb"\r2 rows\r +\r2 rows: 2 answered, 0 refused\r\n", told)
+    assert re.fullmatch(rb"\r2 rows\r +\r2 rows: 2 converted, 0 refused\r\n", told)

@@ -59,7 +59,7 @@ def test_other_version(node, folder, tmp_path):
     face = files / "chinese-number.mjs"
     write(face, re.sub("(?<=VERSION = ')[0-9]+", "2000", face.read_text(encoding="utf-8")))
     said = run(*node, face, cwd=files, fails=True)
-    assert re.search("Error: the module is of version [0-9]+, and not 2000[0-9]{6}", said)
+    assert re.search("Error: the module has version [0-9]+, not 2000[0-9]{6}", said)
 
 
 def test_page(folder, tmp_path, request):

@@ -1,4 +1,4 @@
-/* Answers the questions of test.py, which says what they are, a line each. */
+/* Answers the questions of test.py, one per line; test.py describes them. */
 #include "chinese_number.h"
 
 #include <stdio.h>
@@ -16,14 +16,14 @@ static const char *const SCRIPTS[] = {"traditional", "simple", NULL};
 static const char *const CASES[] = {"upper", "lower", NULL};
 static const char *const QUANTITY_FORMS[] = {"whole", "decimal", "percent", "fraction", NULL};
 static const char *const DOUBTS[] = {"none", "word", "digits", "term", "part", "time", "range"};
-/* Those of the flags, of the options of what is replaced and of the forms of an amount are added together. */
+/* The codes of flags, of options for replacing and of forms of an amount are added together. */
 static const char *const FLAGS[] = {"plain", "alone", "about", "one", NULL};
 static const char *const OPTIONS[] = {
     "plain", "alone", "about", "one", "doubtful", "expanded", "canonical", NULL,
 };
 static const char *const FORMS[] = {"currency", "round_yuan", "upright_closing", NULL};
 
-/* The code of a name. That of an unknown one is the first that the library refuses. */
+/* The code of a name. For an unknown name it is the first code that the library refuses. */
 static uint32_t code_of(const char *const *names, const char *name) {
     uint32_t code = 0;
     while (names[code] != NULL && strcmp(names[code], name) != 0)
@@ -31,7 +31,7 @@ static uint32_t code_of(const char *const *names, const char *name) {
     return code;
 }
 
-/* The flags or the form of words with `+` between them, of which one that is no name stands for none. */
+/* The flags or the form of words that `+` separates. A word that is not a name means none. */
 static uint32_t flags_of(const char *const *names, char *words) {
     uint32_t flags = 0;
     for (char *word = strtok(words, "+"); word != NULL; word = strtok(NULL, "+")) {
@@ -83,7 +83,7 @@ static void put_number(cn_number number, cn_kind kind) {
     fputs(digits + first, stdout);
 }
 
-/* Puts why a text is no number, amount or date, or why there is no text. */
+/* Writes why a text is not a number, amount or date, or why there is no text. */
 static void put_refusal(const char *what, cn_status status, size_t char_index) {
     if (status == CN_INCORRECT)
         printf("err the %s is incorrect (position: %lu)", what, (unsigned long)char_index);
@@ -197,7 +197,7 @@ static void answer_print_date(char **words) {
     put_printed("date", cn_print_date(year, month, day, script, text, sizeof text), text);
 }
 
-/* The quantity of words as 350000/10 decimal. */
+/* The quantity of words such as 350000/10 decimal. */
 static cn_quantity quantity_of(char *words) {
     cn_quantity quantity = {{0, 0}, {0, 0}, 0, 0, 0};
     quantity.numerator = number_of(strtok(words, "/"));
@@ -243,7 +243,7 @@ static void answer_quantity_figures(char **words) {
     put_printed("quantity", cn_quantity_figures(&quantity, text, sizeof text), text);
 }
 
-/* Figures are read as the trimmed quantity, but for those of a fraction, which are not read. */
+/* Figures are read as the trimmed quantity, except those of a fraction, which are refused. */
 static void answer_trim_quantity(char **words) {
     char text[CN_MOST_FIGURES_BYTES + 1];
     cn_quantity quantity = quantity_of(words[1]), trimmed;
@@ -253,7 +253,7 @@ static void answer_trim_quantity(char **words) {
     put_quantity(status == CN_DONE ? &trimmed : &quantity);
 }
 
-/* What is put of a run that was found in a text. */
+/* Writes a run that was found in a text. */
 static void put_found_number(const char *text, const cn_span *span) {
     cn_reading reading;
     cn_status status = cn_read_found(text, span, CN_I128, CN_TEN_THOUSAND, &reading);
@@ -281,7 +281,7 @@ static void put_doubt(const char *text, const cn_span *span) {
 
 typedef cn_status search(const char *, size_t, uint32_t, cn_unit, cn_span *);
 
-/* Puts a text with what is put of each of its runs in its place, in brackets. */
+/* Writes a text with each of its runs replaced by its description, in brackets. */
 static void answer_found(const char *text, search *next, void (*put)(const char *, const cn_span *)) {
     size_t length = strlen(text), at = 0;
     cn_span span = {0, 0, 0};
@@ -320,7 +320,7 @@ static void answer_quantities_to_figures(char **words) {
                                          options, text, sizeof text, &length), text);
 }
 
-/* Writes what is found in a text, and is no fraction, in numerals; says whether it has. */
+/* Writes an expression of a text, if it is not a fraction, in numerals; returns whether it did. */
 static int write_in_numerals(const char *text, const cn_span *span, char *room, size_t room_length) {
     cn_quantity quantity;
     cn_status status = cn_read_quantity(text + span->start, span->end - span->start,
@@ -331,7 +331,7 @@ static int write_in_numerals(const char *text, const cn_span *span, char *room, 
     return status == CN_DONE;
 }
 
-/* Whether what is found is replaced with these options, if it has a quantity. */
+/* Whether an expression is replaced with these options, if it has a quantity. */
 static int is_included(const cn_span *span, uint32_t options) {
     cn_doubt doubt = cn_doubt_of(span);
     if ((span->flags & (CN_ABOUT | CN_ONE_CHARACTER) & ~options) != 0)
@@ -383,7 +383,7 @@ static const struct {
     {"replace_quantities", 3, answer_replace_quantities},
 };
 
-/* Parts a line into its words, and says how many they are. */
+/* Splits a line into words, and returns how many there are. */
 static size_t part(char *line, char **words) {
     size_t count = 0;
     while (line != NULL && count < MOST_WORDS) {

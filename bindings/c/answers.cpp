@@ -1,5 +1,4 @@
-/* Answers the questions of test.py, which says what they are, a line each, in C++ by
- * chinese_number.hpp. */
+/* Answers the questions of test.py, one per line, with chinese_number.hpp; test.py describes them. */
 #include "chinese_number.hpp"
 
 #include <cstdio>
@@ -66,7 +65,7 @@ std::string shown(const Quantity &quantity) {
          + quantity_forms[static_cast<std::size_t>(quantity.form)];
 }
 
-/* The quantity of words as 350000/10 decimal. */
+/* The quantity of words such as 350000/10 decimal. */
 Quantity quantity_of(const std::string &words) {
     const std::size_t line = words.find('/'), blank = words.find(' ');
     const std::string numerator = words.substr(0, line), denominator = words.substr(line + 1, blank - line - 1);
@@ -111,12 +110,12 @@ bool has(const std::string &words, const char *word) {
     return words.find(word) != std::string::npos;
 }
 
-/* The form of words with + between them; `plain` is none of them. */
+/* The form of words that + separates; `plain` means none of them. */
 AmountForm form_of(const std::string &words) {
     return {has(words, "currency"), has(words, "round_yuan"), has(words, "upright_closing")};
 }
 
-/* What is included, and how figures are written, likewise; `none` is nothing. */
+/* What is included, and how figures are written, likewise; `none` means nothing. */
 Included included_of(const std::string &words) {
     return {has(words, "about"), has('+' + words + '+', "+one+"), has(words, "doubtful")};
 }
@@ -155,7 +154,7 @@ std::string doubt_of(const Found &found) {
     return doubts[static_cast<std::size_t>(found.doubt)];
 }
 
-/* The text with what is shown of each of its runs in its place, in brackets. */
+/* The text with each of its runs replaced by its description, in brackets. */
 std::string in_place(const std::string &text, Numbers runs, std::string (*shown_of)(const Found &)) {
     std::string done = "ok ";
     std::size_t at = 0;

@@ -1,13 +1,13 @@
-/* each_fen [STEP [MOST]]: takes each whole number of fen from -MOST to MOST, or the first of each STEP, and half as many
- * pseudo-random ones below 10^18, there and back: as a text in some script and form, which is read as it is typed too, and
- * in figures, with commas and without. */
+/* each_fen [STEP [MOST]]: converts each whole number of fen from -MOST to MOST, or the first of
+ * each STEP, and half as many pseudo-random ones below 10^18, to text and back: in some script and
+ * form, which is also read as typed, and in figures, with commas and without. */
 #include "chinese_number.h"
 
 #include <stdio.h>
 #include <stdlib.h>
 #include <string.h>
 
-/* Whether a text, which has no sign, is that of the amount, and is read as it is typed, too. */
+/* Whether a text without a sign is that of the amount, and is also read as typed. */
 static int is_magnitude(const char *text, uint64_t fen, cn_script script, cn_form form) {
     char same[CN_MOST_AMOUNT_BYTES + 1], typed[CN_MOST_AMOUNT_BYTES + 8];
     cn_amount amount;
@@ -16,7 +16,7 @@ static int is_magnitude(const char *text, uint64_t fen, cn_script script, cn_for
         && cn_read_typed_amount(typed, (size_t)length, &amount) == CN_DONE && amount.fen == fen;
 }
 
-/* Whether the amount is printed behind its sign as a text that is read as this amount. */
+/* Whether the amount, with its sign, is printed as a text that is read as this amount. */
 static int is_read_back(int64_t fen, uint64_t magnitude, cn_script script, cn_form form) {
     char text[CN_MOST_SIGNED_AMOUNT_BYTES + 1];
     const char *sign = fen >= 0 ? "" : script == CN_SIMPLIFIED ? "负" : "負";
@@ -26,7 +26,7 @@ static int is_read_back(int64_t fen, uint64_t magnitude, cn_script script, cn_fo
         && cn_read_signed_amount(text, strlen(text), &amount) == CN_DONE && amount.fen == fen;
 }
 
-/* Writes yuan with commas, and tells how many bytes they are. */
+/* Writes yuan with commas, and returns how many bytes they have. */
 static int put_with_commas(char *to, uint64_t yuan) {
     int length;
     if (yuan < 1000)

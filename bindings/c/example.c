@@ -1,5 +1,5 @@
-/* Prints a number, a quantity, an amount and a date, reads them back, finds the numbers of a text, replaces its quantities,
- * and meets each status. */
+/* Prints a number, a quantity, an amount and a date, reads them back, finds the numbers of a text,
+ * replaces its quantities, and causes each status. */
 #include "chinese_number.h"
 
 #include <stdio.h>
@@ -70,7 +70,7 @@ static void numbers_of_a_text(void) {
     expect("all numbers are found", count == 2 && numbers[0] == 23 && numbers[1] == 2025 && span.end == 0);
 }
 
-/* What a call prints to, and as it is before. */
+/* The buffer that a call prints to, and its contents before the call. */
 static uint8_t printed[CN_MOST_QUANTITY_BYTES], untouched[CN_MOST_QUANTITY_BYTES];
 
 static uint8_t *fresh_room(void) {
@@ -79,14 +79,15 @@ static uint8_t *fresh_room(void) {
     return printed;
 }
 
-/* What was found has this status and this length; at CN_DONE the text is this one, and nothing else is written. */
+/* Checks that the result has this status and this length, and at CN_DONE this text, and that
+ * nothing else was written. */
 static void is_printed(const char *text, uint32_t found, size_t length, uint32_t status, size_t wanted) {
     size_t written = status == CN_DONE ? wanted : 0;
     expect(text, found == status && length == wanted && memcmp(printed, text, written) == 0
                      && memcmp(printed + written, untouched, sizeof printed - written) == 0);
 }
 
-/* Finds at most two numbers of a text from a byte on, with this status and where the last one stands. */
+/* Finds at most two numbers of a text from a byte on, and checks the status and the place of the last. */
 static void finds(const char *text, size_t from, uint32_t upper, uint32_t greatest, uint32_t status, size_t count,
                   size_t start, size_t end, uint32_t flags) {
     cn_span spans[3] = {{0, 0, 0}, {0, 0, 0}, {0, 0, 0}};
@@ -114,7 +115,7 @@ static void each_status_of_finding(void) {
     finds("一", 0, 0, CN_JI + 1, CN_UNKNOWN, 0, 0, 0, 0);
 }
 
-/* Reads a text as a quantity, which has this status, numbers, form and place. */
+/* Reads a text as a quantity, and checks its status, numbers, form and place. */
 static void is_quantity(const char *text, uint32_t method, uint32_t status, int64_t numerator, uint64_t denominator,
                         uint32_t form, size_t char_index, size_t byte_index) {
     const cn_number above = cn_signed(numerator);
@@ -142,7 +143,7 @@ static void each_status_of_quantities(void) {
     is_quantity("一", CN_ANY + 1, CN_UNKNOWN, 0, 0, 0, 0, 0);
 }
 
-/* Prints a quantity into a room of this length, with this status and length; the text is this one. */
+/* Prints a quantity into a buffer of this length, and checks the status, the length and the text. */
 static void prints_quantity(cn_quantity quantity, uint32_t method, uint32_t script, uint32_t letter_case, size_t room_length,
                             uint32_t status, size_t wanted, const char *text) {
     size_t length;
@@ -150,7 +151,7 @@ static void prints_quantity(cn_quantity quantity, uint32_t method, uint32_t scri
     is_printed(text, found, length, status, wanted);
 }
 
-/* Prints it in figures, likewise. */
+/* Prints a quantity in figures, likewise. */
 static void prints_figures(cn_quantity quantity, size_t room_length, uint32_t status, size_t wanted, const char *text) {
     size_t length;
     uint32_t found = chinese_quantity_figures(&quantity, fresh_room(), room_length, &length);
@@ -171,7 +172,7 @@ static void each_status_of_printing_quantities(void) {
     prints_quantity(large, CN_LOW, simple, lower, most, CN_TOO_LARGE, 0, "a divisor too large for the method");
     prints_quantity(small, CN_LOW, simple, lower, most, CN_TOO_SMALL, 0, "the same below 0");
     prints_quantity(over_zero, ten_thousand, simple, lower, most, CN_NOT_A_QUANTITY, 0, "a quantity over 0");
-    prints_quantity(over_zero, CN_DIGITS, simple, lower, most, CN_UNKNOWN, 0, "a way that is no method");
+    prints_quantity(over_zero, CN_DIGITS, simple, lower, most, CN_UNKNOWN, 0, "a way that is not a method");
     prints_quantity(trillions, CN_ANY, simple, lower, most, CN_DONE, 15, "一万亿点五");
     prints_quantity(trillions, CN_ANY, CN_TRADITIONAL, lower, most, CN_DONE, 12, "一兆點五");
     prints_quantity(over_zero, CN_ANY, simple, lower, most, CN_NOT_A_QUANTITY, 0, "a quantity over 0 by any way");
@@ -187,7 +188,8 @@ static void each_status_of_printing_quantities(void) {
                    "-170141183460469231731687303715884105728/340282366920938463463374607431768211455");
 }
 
-/* Replaces the quantities of a text, in a room of this length, with this status and length; the new text is this one. */
+/* Replaces the quantities of a text in a buffer of this length, and checks the status, the length
+ * and the new text. */
 static void replaces(const char *text, uint32_t method, uint32_t options, size_t room_length, uint32_t status, size_t wanted,
                      const char *new_text) {
     size_t length;
@@ -212,8 +214,8 @@ static void each_status_of_replacing(void) {
     replaces("八五折", CN_TEN_THOUSAND, each, 64, CN_DONE, 9, "八五折");
     replaces("", CN_TEN_THOUSAND, 0, 0, CN_DONE, 0, "");
     replaces("\xff", CN_TEN_THOUSAND, 0, 64, CN_NOT_UTF8, 0, "no UTF-8");
-    replaces("一", CN_DIGITS, 0, 64, CN_UNKNOWN, 0, "a way that is no method");
-    replaces("一", CN_TEN_THOUSAND, each | CN_STANDS_ALONE, 64, CN_UNKNOWN, 0, "a flag that is no option");
+    replaces("一", CN_DIGITS, 0, 64, CN_UNKNOWN, 0, "a way that is not a method");
+    replaces("一", CN_TEN_THOUSAND, each | CN_STANDS_ALONE, 64, CN_UNKNOWN, 0, "a flag that is not an option");
     replaces("一", CN_TEN_THOUSAND, CN_CANONICAL * 2, 64, CN_UNKNOWN, 0, "an unknown option");
     replaces("一", CN_TEN_THOUSAND, UINT32_MAX, 64, CN_UNKNOWN, 0, "all bits of the options");
 }
@@ -244,7 +246,7 @@ static void expressions_from_a_place(void) {
     expect("the expression after it", found == CN_DONE && count == 1 && span.start == 16 && span.end == 21);
 }
 
-/* A doubt stands above the flags of an expression, and a number has none. */
+/* A doubt is in the bits above the flags of an expression, and a number has none. */
 static void doubts(void) {
     const char text[] = "五一";
     const size_t text_length = sizeof text - 1;
@@ -258,18 +260,18 @@ static void doubts(void) {
     expect("no doubt of nothing", cn_find_next(text, text_length, 0, CN_ZHAO, &span) == CN_NONE && cn_doubt_of(&span) == CN_NO_DOUBT);
 }
 
-/* What is found and is not plain is read with units, so 正 is one. */
+/* A run that is not plain is read with units, so 正 is one. */
 static void found_by_units(void) {
     const char text[] = "正33";
     cn_span span = {0, 0, 0};
     cn_reading reading;
     cn_status status = cn_find_next(text, strlen(text), 1, CN_JI, &span);
-    expect("a unit in front", status == CN_DONE && span.start == 0 && span.end == 5);
+    expect("a unit before", status == CN_DONE && span.start == 0 && span.end == 5);
     status = cn_read_found(text, &span, CN_I64, CN_ANY, &reading);
     expect("refused by units", status == CN_INCORRECT && reading.char_index == 1);
 }
 
-/* Reads a text, which has this status, number and place. */
+/* Reads a text, and checks its status, number and place. */
 static void reads(const char *text, uint32_t kind, uint32_t way, uint32_t status, cn_number number, size_t char_index,
                   size_t byte_index) {
     cn_reading reading;
@@ -298,7 +300,7 @@ static void each_status_of_reading(void) {
            chinese_number_read_utf8((const uint8_t *)"十", 3, CN_U8, CN_LOW, &reading) == CN_DONE && reading.number.low == 10);
 }
 
-/* Prints a number into a room of this length, with this status and length; the text is this one. */
+/* Prints a number into a buffer of this length, and checks the status, the length and the text. */
 static void prints(cn_number number, uint32_t kind, uint32_t way, uint32_t script, uint32_t letter_case, size_t room_length,
                    uint32_t status, size_t wanted, const char *text) {
     size_t length;
@@ -329,7 +331,7 @@ static void each_status_of_printing(void) {
     prints(cn_unsigned(1), 0, 0, 0, CN_LOWER + 1, CN_MOST_BYTES, CN_UNKNOWN, 0, "an unknown case");
 }
 
-/* Prints an amount into a room of this length, with this status and length; the text is this one. */
+/* Prints an amount into a buffer of this length, and checks the status, the length and the text. */
 static void prints_amount(uint64_t fen, uint32_t script, uint32_t form, size_t room_length, uint32_t status, size_t wanted,
                           const char *text) {
     size_t length;
@@ -353,7 +355,7 @@ static void each_status_of_printing_amounts(void) {
     prints_amount(limit, CN_SIMPLIFIED, all + 1, 0, CN_UNKNOWN, 0, "an unknown form of an amount");
 }
 
-/* Reads a text as an amount, which has this status, fen and place. */
+/* Reads a text as an amount, and checks its status, fen and place. */
 static void reads_amount(const char *text, uint32_t status, uint64_t fen, size_t char_index, size_t byte_index) {
     cn_amount amount;
     expect(text, chinese_amount_read((const uint8_t *)text, strlen(text), &amount) == status && amount.fen == fen
@@ -371,7 +373,7 @@ static void each_status_of_reading_amounts(void) {
     reads_amount("壹佰元\xff", CN_NOT_UTF8, 0, 0, 0);
 }
 
-/* Prints a date into a room of this length, with this status and length; the text is this one. */
+/* Prints a date into a buffer of this length, and checks the status, the length and the text. */
 static void prints_date(uint32_t year, uint32_t month, uint32_t day, uint32_t script, size_t room_length, uint32_t status,
                         size_t wanted, const char *text) {
     size_t length;
@@ -392,7 +394,7 @@ static void each_status_of_printing_dates(void) {
     prints_date(2025, 2, 29, CN_SIMPLIFIED + 1, CN_MOST_DATE_BYTES, CN_UNKNOWN, 0, "an unknown script of a date");
 }
 
-/* Reads a text as a date, which has this status, date and place. */
+/* Reads a text as a date, and checks its status, date and place. */
 static void reads_date(const char *text, uint32_t status, uint32_t year, uint32_t month, uint32_t day, size_t char_index,
                        size_t byte_index) {
     cn_date date;
@@ -410,8 +412,8 @@ static void each_status_of_reading_dates(void) {
     reads_date("贰零贰陆年\xff", CN_NOT_UTF8, 0, 0, 0, 0, 0);
 }
 
-/* The calls for char: the zero byte at the end needs room, at a refusal the room is empty, and a zero byte inside a text is
- * a character at fault. */
+/* The calls for char: the zero byte at the end needs space, on a refusal the buffer has the empty
+ * text, and a zero byte inside a text is a wrong character. */
 static void texts_of_char(void) {
     cn_number number = cn_unsigned(123);
     cn_reading reading;
@@ -428,24 +430,24 @@ static void texts_of_char(void) {
     expect("a zero byte inside", cn_read("一\0二", 7, CN_U8, CN_DIGITS, &reading) == CN_INCORRECT
                                      && reading.char_index == 1 && reading.byte_index == 3);
     for (uint32_t status = CN_DONE; status <= CN_NOT_A_QUANTITY; status++)
-        expect("a status has words of its own", strcmp(cn_status_text(status), cn_status_text(status + 1)) != 0);
+        expect("a status has its own text", strcmp(cn_status_text(status), cn_status_text(status + 1)) != 0);
 }
 
-/* The same of amounts. */
+/* The same for amounts. */
 static void amounts_of_char(void) {
     cn_amount amount;
     char room[11];
     memset(room, 7, sizeof room);
     expect("a room of the amount alone", cn_print_amount(0, CN_SIMPLIFIED, CN_PLAIN, room, 9) == CN_NO_ROOM
                                              && room[0] == 0 && room[1] == 7);
-    expect("a zero byte behind an amount", cn_print_amount(0, CN_SIMPLIFIED, CN_ROUND_YUAN, room, 10) == CN_DONE
+    expect("a zero byte after an amount", cn_print_amount(0, CN_SIMPLIFIED, CN_ROUND_YUAN, room, 10) == CN_DONE
                                                && strcmp(room, "零圆整") == 0 && room[10] == 7);
     expect("no amount in the room", cn_print_amount(UINT64_MAX, CN_SIMPLIFIED, CN_PLAIN, room, 10) == CN_TOO_LARGE
                                         && room[0] == 0);
     expect("a zero byte in an amount", cn_read_amount("壹\0元整", 10, &amount) == CN_INCORRECT && amount.char_index == 1);
 }
 
-/* The same of quantities. */
+/* The same for quantities. */
 static void quantities_of_char(void) {
     const cn_quantity half = {{5, 0}, {10, 0}, CN_DECIMAL, 0, 0}, over_zero = {{5, 0}, {0, 0}, CN_DECIMAL, 0, 0};
     size_t length;
@@ -454,31 +456,31 @@ static void quantities_of_char(void) {
     cn_status status = cn_print_quantity(&half, CN_LOW, CN_SIMPLIFIED, CN_LOWER, room, 9);
     expect("a room of the quantity alone", status == CN_NO_ROOM && room[0] == 0 && room[1] == 7);
     status = cn_print_quantity(&half, CN_LOW, CN_SIMPLIFIED, CN_LOWER, room, 10);
-    expect("a zero byte behind a quantity", status == CN_DONE && strcmp(room, "零点五") == 0 && room[10] == 7);
+    expect("a zero byte after a quantity", status == CN_DONE && strcmp(room, "零点五") == 0 && room[10] == 7);
     status = cn_print_quantity(&over_zero, CN_LOW, CN_SIMPLIFIED, CN_LOWER, room, 10);
     expect("no quantity in the room", status == CN_NOT_A_QUANTITY && room[0] == 0);
     status = cn_quantity_figures(&half, room, 4);
-    expect("a zero byte behind figures", status == CN_DONE && strcmp(room, "0.5") == 0);
+    expect("a zero byte after figures", status == CN_DONE && strcmp(room, "0.5") == 0);
     status = cn_quantities_to_figures("廿三", 6, 0, CN_ZHAO, CN_LOW, 0, room, 2, &length);
     expect("a room of the new text alone", status == CN_NO_ROOM && length == 2 && room[0] == 0);
     status = cn_quantities_to_figures("廿三", 6, 0, CN_ZHAO, CN_LOW, 0, room, 3, &length);
-    expect("a zero byte behind a new text", status == CN_DONE && length == 2 && strcmp(room, "23") == 0);
+    expect("a zero byte after a new text", status == CN_DONE && length == 2 && strcmp(room, "23") == 0);
 }
 
-/* The same of dates. */
+/* The same for dates. */
 static void dates_of_char(void) {
     cn_date date;
     char room[23];
     memset(room, 7, sizeof room);
     expect("a room of the date alone", cn_print_date(5, 3, 1, CN_SIMPLIFIED, room, 21) == CN_NO_ROOM
                                            && room[0] == 0 && room[1] == 7);
-    expect("a zero byte behind a date", cn_print_date(5, 3, 1, CN_SIMPLIFIED, room, 22) == CN_DONE
+    expect("a zero byte after a date", cn_print_date(5, 3, 1, CN_SIMPLIFIED, room, 22) == CN_DONE
                                             && strcmp(room, "伍年叁月零壹日") == 0 && room[22] == 7);
     expect("no date in the room", cn_print_date(2025, 2, 29, CN_SIMPLIFIED, room, 22) == CN_NOT_A_DATE && room[0] == 0);
     expect("a zero byte in a date", cn_read_date("伍\0年", 7, &date) == CN_INCORRECT && date.char_index == 1);
 }
 
-/* NULL is a text and a room of length 0. */
+/* NULL is allowed as a text and a buffer of length 0. */
 static void null_of_char(void) {
     cn_number number = cn_unsigned(1);
     cn_reading reading;

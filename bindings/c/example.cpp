@@ -1,5 +1,5 @@
-/* Numbers, quantities, amounts and dates by chinese_number.hpp: the first steps, and what the rows of
- * test.py do not ask. */
+/* Numbers, quantities, amounts and dates with chinese_number.hpp: first steps, and cases that the
+ * rows of test.py do not have. */
 #include "chinese_number.hpp"
 
 #include <iostream>
@@ -40,7 +40,7 @@ void first_steps() {
     std::cout << quantities_to_figures(sentence).value_or("") << '\n'; // 市值3.5亿元，占12.5%
 }
 
-/* Whether there is no answer, for this reason. */
+/* Whether there is no result, with this status. */
 template <typename Value>
 bool is_refused(const Result<Value> &answer, Status status) {
     return !answer && answer.error().status == status;
@@ -107,7 +107,7 @@ void replaced_quantities() {
     expect("a shorter text", quantities_to_figures("一百亿").value_or("") == "100亿");
 }
 
-/* What is replaced is asked for by members with these names. */
+/* Members with these names choose what is replaced. */
 void options() {
     Included doubtful;
     doubtful.doubtful = true;

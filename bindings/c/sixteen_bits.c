@@ -1,6 +1,7 @@
-/* sixteen_bits [STEP]: prints each number of 16 bits, or the first of each STEP, by each way and as an amount of fen in each
- * form, and reads it back, by CN_ANY too: four threads, each with one script and case. The text stands in a block of just
- * its bytes, so that a memory checker sees a byte that is read or written beyond. */
+/* sixteen_bits [STEP]: prints each number of 16 bits, or the first of each STEP, in each way and as
+ * an amount of fen in each form, and reads it back, also with CN_ANY. Four threads each use one
+ * script and case. The text is in a block of exactly its bytes, so that a memory checker detects an
+ * access beyond it. */
 #include "chinese_number.h"
 
 #include <pthread.h>
@@ -27,7 +28,8 @@ static int is_read(const uint8_t *text, size_t length, cn_number number, uint32_
         && reading.number.high == number.high;
 }
 
-/* Whether the number is printed as a text that is read as this number; in the two ways of CN_ANY by that too. */
+/* Whether the number is printed as a text that is read as this number, in the two ways of CN_ANY
+ * also with CN_ANY. */
 static int is_read_back(cn_number number, uint32_t kind, uint32_t way, const task *style) {
     uint8_t enough[CN_MOST_BYTES], *room;
     size_t length, same_length;

@@ -3,19 +3,19 @@ package chinesenumber
 // #include "library.h"
 import "C"
 
-// AmountForm is the form in which an amount is written: by default, as nil too, in Simplified,
-// with 元 and 整. All forms are read.
+// AmountForm is the form in which an amount is written. The zero value and nil mean Simplified, 元
+// and 整. All forms are read.
 type AmountForm struct {
 	Script Script
-	// Currency puts 人民币 in front.
+	// Currency adds the prefix 人民币.
 	Currency bool
-	// RoundYuan puts 圆 for 元.
+	// RoundYuan writes 圆 instead of 元.
 	RoundYuan bool
-	// UprightClosing puts 正 for 整.
+	// UprightClosing writes 正 instead of 整.
 	UprightClosing bool
 }
 
-// codes are those of its script and of the rest of it.
+// codes returns the codes of the script and of the other fields.
 func (it *AmountForm) codes() (script, form C.uint32_t) {
 	if it == nil {
 		it = &AmountForm{}
@@ -24,46 +24,46 @@ func (it *AmountForm) codes() (script, form C.uint32_t) {
 	return code(it.Script, Simplified), form | flag(it.UprightClosing, C.CN_UPRIGHT_CLOSING)
 }
 
-// AmountToChinese is the text of an amount of money in fen, in capitals as on a cheque: 壹拾伍元整 of
-// 1500. The errors are TooLarge, from 10^18 fen on, and Unknown for the script.
+// AmountToChinese writes an amount of money in fen, in capitals as on a cheque: 壹拾伍元整 for 1500. The
+// errors are TooLarge, for 10^18 fen or more, and Unknown for the script.
 func AmountToChinese(fen uint64, form *AmountForm) (string, error) {
 	script, rest := form.codes()
 	it := C.print_amount(C.uint64_t(fen), script, rest)
 	return printed(ofAmount, &it)
 }
 
-// SignedAmountToChinese is the same of an amount that may be below zero, as on a red invoice: 负
-// is then in front. TooSmall comes from -10^18 fen down.
+// SignedAmountToChinese writes an amount like AmountToChinese, and a negative one, as on a red
+// invoice, with the prefix 负. The error is TooSmall for -10^18 fen or less.
 func SignedAmountToChinese(fen int64, form *AmountForm) (string, error) {
 	script, rest := form.codes()
 	it := C.print_signed_amount(C.int64_t(fen), script, rest)
 	return printed(ofAmount, &it)
 }
 
-// ChineseToAmount is the amount of a text in capitals, in fen. The errors are Unfinished,
-// Incorrect at the first character with which no amount begins, white space too, NotUTF8 and
+// ChineseToAmount reads a text in capitals as an amount in fen. The errors are Unfinished,
+// Incorrect at the first character with which no amount begins (also at white space), NotUTF8 and
 // TooLong.
 func ChineseToAmount(text string) (uint64, error) {
 	return amount(C.read_amount(text))
 }
 
-// ChineseToSignedAmount is the same of an amount that may be below zero: 负 or 負 is then in front.
+// ChineseToSignedAmount reads an amount like ChineseToAmount, also a negative one with the prefix 负
+// or 負.
 func ChineseToSignedAmount(text string) (int64, error) {
 	return signedAmount(C.read_signed_amount(text))
 }
 
-// ChineseToAmountAsTyped is the same as ChineseToAmount of an amount as it is typed: white space
-// is left out, and so is one ⊗ in front, as an invoice has it, and then one colon directly behind
+// ChineseToAmountAsTyped reads an amount as it is typed, like ChineseToAmount, but ignores white
+// space, then one ⊗ at the start, as on an invoice, and then one colon directly after a leading
 // 人民币.
 func ChineseToAmountAsTyped(text string) (uint64, error) {
 	return amount(C.read_typed_amount(text))
 }
 
-// YuanToFen is the fen of figures in yuan, exactly: 140950 of 1409.5, of ¥1,409.50 and of
-// 1409.5000. In front of them there may be - or −, and then ¥. Commas, points, digits and ¥ may
-// be full-width. Of the digits behind the point those from the third on are 0: nothing is
-// rounded. The errors are as of ChineseToAmount, and TooLarge, from 10^18 fen on and from -10^18
-// down.
+// YuanToFen converts figures in yuan to fen, exactly: 1409.5, ¥1,409.50 and 1409.5000 to 140950.
+// The figures may have the prefix - or −, and then ¥. Commas, points, digits and ¥ may be
+// full-width. After the point, digits from the third on must be 0: nothing is rounded. The errors
+// are those of ChineseToAmount, and TooLarge for 10^18 fen or more and for -10^18 or less.
 func YuanToFen(figures string) (int64, error) {
 	return signedAmount(C.read_figures(figures))
 }

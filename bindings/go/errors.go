@@ -12,28 +12,28 @@ import "fmt"
 //		mark(text[refusal.ByteIndex:])
 //	}
 //
-// errors.Is(err, chinesenumber.Incorrect) asks for its status alone.
+// errors.Is(err, chinesenumber.Incorrect) tests only its status.
 type Error struct {
-	// Status says why.
+	// Status is the reason.
 	Status Status
-	// CharIndex is, at Incorrect, how many characters of the text stand in front of the one at
-	// fault, white space among them, and else 0.
+	// CharIndex is, for Incorrect, how many characters of the text come before the wrong one, white
+	// space included; otherwise 0.
 	CharIndex int
-	// ByteIndex is how many bytes do.
+	// ByteIndex is how many bytes come before it.
 	ByteIndex int
 
 	what string
 }
 
-// What is read and written, in the texts of errors.
+// What was read or written, for the texts of errors.
 const (
 	ofNumber = "chinese number"
 	ofAmount = "amount"
 	ofDate   = "date"
 )
 
-// Error is the status in words, as "the chinese number is incorrect (position: 3)", where the
-// position is CharIndex.
+// Error returns the status in words, such as "the chinese number is incorrect (position: 3)", where
+// the position is CharIndex.
 func (it *Error) Error() string {
 	switch it.Status {
 	case Incorrect:
@@ -44,12 +44,12 @@ func (it *Error) Error() string {
 	return it.Status.Error()
 }
 
-// Unwrap is the status, which is an error too.
+// Unwrap returns the status, which is an error too.
 func (it *Error) Unwrap() error {
 	return it.Status
 }
 
-// Error is the status in words.
+// Error returns the status in words.
 func (it Status) Error() string {
 	return C.GoString(C.cn_status_text(C.uint32_t(it)))
 }

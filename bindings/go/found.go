@@ -5,17 +5,16 @@ import "C"
 
 import "math/big"
 
-// Wanted is which characters are looked for in a text: the digits, and the units up to the
-// greatest one. By default, as nil too, those are of the lower case and up to Zhao, as sentences
-// have them.
+// Wanted says which characters a search looks for: the digits, and the units up to the greatest
+// one. The zero value and nil mean the lower case and units up to Zhao, as in everyday sentences.
 type Wanted struct {
-	// Upper adds the characters that only cheques have, as 參 and 陸.
+	// Upper adds the characters that only cheques use, such as 參 and 陸.
 	Upper bool
 	// Greatest is the greatest unit.
 	Greatest Unit
 }
 
-// codes are those of both.
+// codes returns the codes of both fields.
 func (it *Wanted) codes() (upper, greatest C.uint32_t) {
 	if it == nil {
 		it = &Wanted{}
@@ -25,43 +24,42 @@ func (it *Wanted) codes() (upper, greatest C.uint32_t) {
 
 // Found is a number or an expression in a text.
 type Found struct {
-	// Text is it.
+	// Text is the number or expression itself.
 	Text string
-	// Start and End are how many bytes of the whole text stand in front of it and of what
-	// follows it.
+	// Start and End are how many bytes of the whole text come before it and before its end.
 	Start, End int
 	// IsPlain says that it is plain digits: a single digit is, 十 is not.
 	IsPlain bool
-	// StandsAlone says that no letter or digit touches it and none is linked to it: of the
-	// numbers of 3.5万 neither does.
+	// StandsAlone says that no letter or digit touches it or is linked to it: neither number of
+	// 3.5万 stands alone.
 	StandsAlone bool
-	// IsAbout says that it is about so much, as the 十 of 十几 is, and 五六.
+	// IsAbout says that it is approximate, such as 十 in 十几, and 五六.
 	IsAbout bool
-	// IsOneCharacter says that it is one Chinese character, as the 一 of 一般.
+	// IsOneCharacter says that it is one Chinese character, such as 一 in 一般.
 	IsOneCharacter bool
-	// Doubt says why a reader may mean by an expression something else than its quantity:
-	// DoubtDigits of 五一. A number has NoDoubt.
+	// Doubt says why a reader may understand an expression as something other than its quantity:
+	// DoubtDigits for 五一. A number has NoDoubt.
 	Doubt Doubt
 }
 
-// Number is its number, as ToNumber reads it, plain digits as such, and else by a way, where Any,
-// or none that is named, is TenThousand. Its error is that of ToNumber, whose CharIndex counts
-// within the run: not each run is a number, as 五六十.
+// Number reads the text with ToNumber: plain digits as such, anything else in a way, where Any and
+// the zero value mean TenThousand. The error is that of ToNumber; its CharIndex counts within the
+// run. Not every run is a number: 五六十 is not.
 func (it Found) Number(way Way) (int64, error) {
 	return ToNumber[int64](it.Text, it.way(way))
 }
 
-// BigInt is the same, as ToBigInt reads it.
+// BigInt reads the text likewise, with ToBigInt.
 func (it Found) BigInt(way Way) (*big.Int, error) {
 	return ToBigInt(it.Text, it.way(way))
 }
 
-// Quantity is its quantity, as ToQuantity reads it.
+// Quantity reads the text with ToQuantity.
 func (it Found) Quantity(method Way) (Quantity, error) {
 	return ToQuantity(it.Text, method)
 }
 
-// way is that by which it is read. One that is none is left to be refused.
+// way returns the way to read the text. An invalid way is returned, so that the reader refuses it.
 func (it Found) way(way Way) Way {
 	switch {
 	case it.IsPlain && way <= Any:
@@ -72,15 +70,15 @@ func (it Found) way(way Way) Way {
 	return way
 }
 
-// FindNumbers is the numbers of a text, from the first to the last: its longest runs of digits
-// and of units. It does not understand sentences: 一起 has a 1 in it, 两三个 is 23, and 3.5万 is two
-// numbers. The errors are NotUTF8, TooLong, and Unknown for the unit.
+// FindNumbers returns the numbers of a text, in order: its longest runs of digits and of units. It
+// does not understand sentences: 一起 contains a 1, 两三个 is 23, and 3.5万 is two numbers. The errors
+// are NotUTF8, TooLong, and Unknown for the unit.
 func FindNumbers(text string, wanted *Wanted) ([]Found, error) {
 	return all(EachNumber, text, wanted)
 }
 
-// EachNumber gives each number of a text to visit, as FindNumbers has them, and stops where visit
-// gives false. The text is searched as it goes.
+// EachNumber calls visit for each number that FindNumbers finds, and stops if visit returns false.
+// It searches the text lazily.
 func EachNumber(text string, wanted *Wanted, visit func(Found) bool) error {
 	upper, greatest := wanted.codes()
 	return each(text, visit, func(from C.size_t) C.found {
@@ -88,14 +86,14 @@ func EachNumber(text string, wanted *Wanted, visit func(Found) bool) error {
 	})
 }
 
-// FindQuantities is the expressions of a text, from the first to the last: numbers with their
-// sign, figures, point and units, percentages and fractions. The errors are as of FindNumbers.
+// FindQuantities returns the expressions of a text, in order: numbers with their sign, figures,
+// point and units, percentages and fractions. The errors are those of FindNumbers.
 func FindQuantities(text string, wanted *Wanted) ([]Found, error) {
 	return all(EachQuantity, text, wanted)
 }
 
-// EachQuantity gives each expression of a text to visit, as FindQuantities has them, and stops
-// where visit gives false. The text is searched as it goes.
+// EachQuantity calls visit for each expression that FindQuantities finds, and stops if visit
+// returns false. It searches the text lazily.
 func EachQuantity(text string, wanted *Wanted, visit func(Found) bool) error {
 	upper, greatest := wanted.codes()
 	return each(text, visit, func(from C.size_t) C.found {
@@ -103,7 +101,7 @@ func EachQuantity(text string, wanted *Wanted, visit func(Found) bool) error {
 	})
 }
 
-// all is what a search gives.
+// all returns everything that a search finds.
 func all(
 	each func(string, *Wanted, func(Found) bool) error, text string, wanted *Wanted,
 ) ([]Found, error) {
@@ -115,7 +113,7 @@ func all(
 	return found, err
 }
 
-// each gives what is found to visit, some of which next finds behind so many bytes.
+// each calls visit for everything found. next finds some at a time, after a number of bytes.
 func each(text string, visit func(Found) bool, next func(from C.size_t) C.found) error {
 	from := C.size_t(0)
 	for {

@@ -1,6 +1,6 @@
 package chinesenumber
 
-// Without what a debugger wants, the C source is compiled in half the time.
+// Without debug information, the C source compiles in half the time.
 
 // #cgo CFLAGS: -g0
 // #include "library.h"
@@ -19,7 +19,7 @@ func (it halves) number() C.cn_number {
 	return C.cn_number{low: C.uint64_t(it.low), high: C.uint64_t(it.high)}
 }
 
-// code is that of a choice, or of the other one where none is made.
+// code returns the code of a choice, or of the default if the choice is zero.
 func code[T Way | Script | Case | Unit](choice, other T) C.uint32_t {
 	if choice == 0 {
 		choice = other
@@ -27,7 +27,7 @@ func code[T Way | Script | Case | Unit](choice, other T) C.uint32_t {
 	return C.uint32_t(choice - 1)
 }
 
-// flag is a flag where it is set, and else none.
+// flag returns a flag if it is set, otherwise 0.
 func flag(isSet bool, it C.uint32_t) C.uint32_t {
 	if isSet {
 		return it
@@ -35,7 +35,7 @@ func flag(isSet bool, it C.uint32_t) C.uint32_t {
 	return 0
 }
 
-// refusal is the error of a status; of that of a call that is done there is none.
+// refusal returns the error for a status, or nil for that of a successful call.
 func refusal(what string, status C.uint32_t, charIndex, byteIndex C.size_t) error {
 	if status == C.CN_DONE {
 		return nil
@@ -43,7 +43,7 @@ func refusal(what string, status C.uint32_t, charIndex, byteIndex C.size_t) erro
 	return &Error{Status(status), int(charIndex), int(byteIndex), what}
 }
 
-// printed is the text that a call has printed.
+// printed returns the text that a call has printed.
 func printed(what string, it *C.printed) (string, error) {
 	if it.status != C.CN_DONE {
 		return "", refusal(what, it.status, 0, 0)

@@ -1,6 +1,6 @@
-/* The calls of the library in a form for Go, which each file with `import "C"` includes. A call
- * takes texts where they are and answers with a value, so that C is given no pointer of Go but
- * those of texts and of a room for one. */
+/* The calls of the library in a form for Go. Each file with `import "C"` includes it. A call takes
+ * texts in place and returns a value, so that C gets no Go pointers except those to texts and to a
+ * buffer for one. */
 #ifndef LIBRARY_H
 #define LIBRARY_H
 
@@ -26,7 +26,7 @@ static inline quantity_read read_quantity(_GoString_ text, uint32_t method) {
     return it;
 }
 
-/* The readers that take nothing but a text. */
+/* The readers that take only a text. */
 #define READER(name, answer, call)                  \
     static inline answer name(_GoString_ text) {    \
         answer it;                                  \
@@ -40,7 +40,7 @@ READER(read_signed_amount, signed_amount_read, chinese_signed_amount_read)
 READER(read_figures, signed_amount_read, chinese_figures_read)
 READER(read_date, date_read, chinese_date_read)
 
-/* A text that was printed, of which none has more bytes. */
+/* A printed text. None has more bytes. */
 typedef struct { uint32_t status; size_t length; uint8_t text[CN_MOST_QUANTITY_BYTES]; } printed;
 
 #define ROOM(it) (it).text, sizeof (it).text, &(it).length
@@ -86,7 +86,7 @@ static inline printed print_date(uint32_t year, uint32_t month, uint32_t day, ui
 
 enum { AT_ONCE = 8 };
 
-/* Some of what is found in a text, which is tested to be UTF-8 at its start alone. */
+/* Some results of a search. Only the first search of a text tests that it is UTF-8. */
 typedef struct { uint32_t status; size_t count; cn_span spans[AT_ONCE]; } found;
 
 static inline found find_numbers(_GoString_ text, size_t from, uint32_t upper,
@@ -105,7 +105,7 @@ static inline found find_quantities(_GoString_ text, size_t from, uint32_t upper
     return it;
 }
 
-/* How many bytes a text has that is written into a room. */
+/* How many bytes a text has that was written into a buffer. */
 typedef struct { uint32_t status; size_t length; } written;
 
 static inline written write_figures(_GoString_ text, uint32_t upper, uint32_t greatest,

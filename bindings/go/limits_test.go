@@ -11,7 +11,7 @@ import (
 	cn "chinese-number-proved/chinesenumber"
 )
 
-// wantStatus fails where an error is not that of a status; that of Done is none.
+// wantStatus fails if an error does not have a status; Done means no error.
 func wantStatus(t *testing.T, what string, err error, wanted cn.Status) {
 	t.Helper()
 	if wanted == cn.Done && err != nil || wanted != cn.Done && !errors.Is(err, wanted) {
@@ -54,7 +54,7 @@ func TestEachType(t *testing.T) {
 	wantStatus(t, "-1 as a uint64", err, cn.Incorrect)
 }
 
-// power is a sum of powers of two, below zero where it says so.
+// power is a sum of powers of two, possibly negated.
 func power(sign int64, exponent uint, more int64) *big.Int {
 	it := new(big.Int).Lsh(big.NewInt(sign), exponent)
 	return it.Add(it, big.NewInt(more))
@@ -100,7 +100,7 @@ func TestBigInt(t *testing.T) {
 	}
 }
 
-// errorOf is the error of an answer.
+// errorOf is the error of a result.
 func errorOf[T any](_ T, err error) error {
 	return err
 }
@@ -213,7 +213,7 @@ func inFigures(found cn.Found) (string, bool) {
 	return quantity.ToFigures(), err == nil
 }
 
-// Texts that are longer than what is found or written at once, also such as grow.
+// Texts that are longer than what one call finds or writes, also texts that grow.
 func TestLongTexts(t *testing.T) {
 	const many = 20_000
 	for piece, its := range map[string]string{
@@ -271,7 +271,7 @@ func TestOptions(t *testing.T) {
 	}
 }
 
-// What is found and is not plain is read with units, so 正 is one.
+// A run that is not plain is read with units, so 正 is one.
 func TestFoundByUnits(t *testing.T) {
 	found, err := cn.FindNumbers("正33", &cn.Wanted{Upper: true, Greatest: cn.Ji})
 	wantStatus(t, "to search", err, cn.Done)

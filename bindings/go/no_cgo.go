@@ -2,5 +2,5 @@
 
 package chinesenumber
 
-// The C source is compiled by cgo alone. Without it the compiler's message says what is to be done.
+// Only cgo compiles the C source. Without cgo, the compiler's message says what to do.
 const _ = set_CGO_ENABLED_to_1_and_install_a_C_compiler

@@ -9,21 +9,21 @@ import (
 	"unsafe"
 )
 
-// Integer is the integer types of Go.
+// Integer permits the integer types of Go.
 type Integer interface {
 	~int | ~int8 | ~int16 | ~int32 | ~int64 |
 		~uint | ~uint8 | ~uint16 | ~uint32 | ~uint64 | ~uintptr
 }
 
-// Style is how a number or a quantity is written: by default, as nil too, by Any in
-// Simplified and Lower.
+// Style is how a number or a quantity is written. The zero value and nil mean Any, Simplified and
+// Lower.
 type Style struct {
 	Way    Way
 	Script Script
 	Case   Case
 }
 
-// codes are those of its way, its script and its case.
+// codes returns the codes of the way, the script and the case.
 func (it *Style) codes() (way, script, letterCase C.uint32_t) {
 	if it == nil {
 		it = &Style{}
@@ -31,7 +31,7 @@ func (it *Style) codes() (way, script, letterCase C.uint32_t) {
 	return code(it.Way, Any), code(it.Script, Simplified), code(it.Case, Lower)
 }
 
-// ToNumber is the number of a text, of an integer type:
+// ToNumber reads a text as a number of an integer type:
 //
 //	number, err := chinesenumber.ToNumber[int64]("一百二", chinesenumber.Any)
 //
@@ -42,18 +42,18 @@ func ToNumber[T Integer](text string, way Way) (T, error) {
 	return T(number.low), err
 }
 
-// ToBigInt is the number of a text, of 128 bits with a sign. The errors are as of ToNumber.
+// ToBigInt reads a text as a signed number of 128 bits. The errors are those of ToNumber.
 func ToBigInt(text string, way Way) (*big.Int, error) {
 	return readBig(text, i128, way)
 }
 
-// ToBigUint is the number of a text, of 128 bits without a sign. The errors are as of ToNumber.
+// ToBigUint reads a text as an unsigned number of 128 bits. The errors are those of ToNumber.
 func ToBigUint(text string, way Way) (*big.Int, error) {
 	return readBig(text, u128, way)
 }
 
-// ToChinese is the text of a number: 十万五千 of 105000. The errors are TooLarge and TooSmall, by
-// Low, and Unknown for a choice of the style.
+// ToChinese writes a number: 十万五千 for 105000. The errors are TooLarge and TooSmall, with Low, and
+// Unknown for a choice of the style.
 func ToChinese[T Integer](number T, style *Style) (string, error) {
 	low, high := uint64(number), uint64(0)
 	if number < 0 {
@@ -62,8 +62,8 @@ func ToChinese[T Integer](number T, style *Style) (string, error) {
 	return write(halves{low, high}, kindOf[T](), style)
 }
 
-// BigIntToChinese is the text of a number of 128 bits, with a sign or without. The errors are as
-// of ToChinese, and NotHeld.
+// BigIntToChinese writes a number of 128 bits, signed or unsigned. The errors are those of
+// ToChinese, and NotHeld.
 func BigIntToChinese(number *big.Int, style *Style) (string, error) {
 	kind := u128
 	if number.Sign() < 0 {
@@ -76,7 +76,7 @@ func BigIntToChinese(number *big.Int, style *Style) (string, error) {
 	return write(it, kind, style)
 }
 
-// kindOf is the integer type as the library knows it: by whether it has a sign, and by its width.
+// kindOf returns the library's code of an integer type, by its sign and its width.
 func kindOf[T Integer]() kind {
 	var zero T
 	first := u8
@@ -106,7 +106,7 @@ func write(number halves, kind kind, style *Style) (string, error) {
 	return printed(ofNumber, &it)
 }
 
-// big is the number whose halves these are.
+// big returns the number with these halves.
 func (it halves) big(kind kind) *big.Int {
 	number := new(big.Int).SetUint64(it.high)
 	number.Lsh(number, 64).Or(number, new(big.Int).SetUint64(it.low))
@@ -116,7 +116,7 @@ func (it halves) big(kind kind) *big.Int {
 	return number
 }
 
-// halvesOfBig are those of a number, where the type holds it, and else the error is NotHeld.
+// halvesOfBig returns the halves of a number if the type holds it. Otherwise the error is NotHeld.
 func halvesOfBig(number *big.Int, kind kind) (halves, error) {
 	low, high := new(big.Int), new(big.Int).Rsh(number, 64)
 	if kind == i128 && !high.IsInt64() || kind == u128 && !high.IsUint64() {

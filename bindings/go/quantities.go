@@ -6,15 +6,16 @@ import "C"
 import "math/big"
 
 // Quantity is an exact quantity: a numerator over a denominator, as written and not reduced, and
-// its form. So 12.5% is 125/1000 and Percent. Two are equal, by ==, where all three are: 3.10 and
-// 3.1 are two, of one Rat. The zero Quantity is over 0, and has no value.
+// its form. So 12.5% is 125/1000 and Percent. Two quantities are equal, with ==, if all three are:
+// 3.10 and 3.1 differ, but their Rat is equal. The zero Quantity has the denominator 0, and no
+// value.
 type Quantity struct {
 	numerator, denominator halves
 	form                   Form
 }
 
-// NewQuantity is the quantity of a numerator, a denominator and a form. The errors are NotHeld,
-// where 128 bits do not hold them or the denominator is below 0, NotAQuantity where it is 0, and
+// NewQuantity makes a quantity from a numerator, a denominator and a form. The errors are NotHeld
+// if one does not fit in 128 bits or the denominator is below 0, NotAQuantity if it is 0, and
 // Unknown for the form.
 func NewQuantity(numerator, denominator *big.Int, form Form) (Quantity, error) {
 	above, err := halvesOfBig(numerator, i128)
@@ -34,8 +35,8 @@ func NewQuantity(numerator, denominator *big.Int, form Form) (Quantity, error) {
 	return Quantity{above, below, form}, nil
 }
 
-// NewDecimal is a number with so many decimals, and a whole number where it has none: 3.14 is
-// NewDecimal(314, 2). The error is NotHeld from 39 decimals on.
+// NewDecimal makes a number with this many decimals, or a whole number for 0 decimals: 3.14 is
+// NewDecimal(314, 2). The error is NotHeld for 39 decimals or more.
 func NewDecimal(numerator int64, decimals uint) (Quantity, error) {
 	form := Decimal
 	if decimals == 0 {
@@ -44,20 +45,21 @@ func NewDecimal(numerator int64, decimals uint) (Quantity, error) {
 	return NewQuantity(big.NewInt(numerator), power(decimals), form)
 }
 
-// NewPercent is so many percent, with so many decimals: 12.5% is NewPercent(125, 1). The error is
-// NotHeld from 37 decimals on.
+// NewPercent makes a percentage with this many decimals: 12.5% is NewPercent(125, 1). The error is
+// NotHeld for 37 decimals or more.
 func NewPercent(numerator int64, decimals uint) (Quantity, error) {
 	below := power(decimals)
 	return NewQuantity(big.NewInt(numerator), below.Mul(below, big.NewInt(100)), Percent)
 }
 
-// NewFraction is a fraction, as it is given. The error is NotAQuantity where the denominator is
-// 0.
+// NewFraction makes a fraction, which it does not reduce. The error is NotAQuantity if the
+// denominator is 0.
 func NewFraction(numerator int64, denominator uint64) (Quantity, error) {
 	return NewQuantity(big.NewInt(numerator), new(big.Int).SetUint64(denominator), Fraction)
 }
 
-// power is ten to a power, or one of ten that 128 bits do not hold either.
+// power returns a power of ten. For a large exponent it is another one that does not fit in 128
+// bits.
 func power(exponent uint) *big.Int {
 	if exponent > 39 {
 		exponent = 39
@@ -65,9 +67,9 @@ func power(exponent uint) *big.Int {
 	return new(big.Int).Exp(big.NewInt(10), new(big.Int).SetUint64(uint64(exponent)), nil)
 }
 
-// ToQuantity is the quantity of a text, by a method, Low to High, or by Any, which is TenThousand
-// here and is taken where none is named: a whole number, a decimal, a percentage or a fraction, in
-// figures, in numerals or in both. The errors are as of ToNumber.
+// ToQuantity reads a text as a quantity: a whole number, a decimal, a percentage or a fraction, in
+// figures, in numerals or in both. The method is Low to High, or Any, the default, which means
+// TenThousand here. The errors are those of ToNumber.
 func ToQuantity(text string, method Way) (Quantity, error) {
 	it := C.read_quantity(text, code(method, Any))
 	told := &it.told
@@ -75,27 +77,28 @@ func ToQuantity(text string, method Way) (Quantity, error) {
 	return Quantity{halvesOf(told.numerator), halvesOf(told.denominator), Form(told.form)}, err
 }
 
-// Numerator is the number above the line, with the sign.
+// Numerator returns the numerator, with the sign.
 func (it Quantity) Numerator() *big.Int {
 	return it.numerator.big(i128)
 }
 
-// Denominator is the number below the line.
+// Denominator returns the denominator.
 func (it Quantity) Denominator() *big.Int {
 	return it.denominator.big(u128)
 }
 
-// Form is how the quantity is written.
+// Form returns how the quantity is written.
 func (it Quantity) Form() Form {
 	return it.form
 }
 
-// Rat is its value.
+// Rat returns the exact value.
 func (it Quantity) Rat() *big.Rat {
 	return new(big.Rat).SetFrac(it.Numerator(), it.Denominator())
 }
 
-// Whole is the whole number that it is, and whether it is one: 35000 of 3.5万, and none of 3.5.
+// Whole returns the value as a whole number, and whether it is one: 35000 for 3.5万, and nil for
+// 3.5.
 func (it Quantity) Whole() (whole *big.Int, isWhole bool) {
 	value := it.Rat()
 	if !value.IsInt() {
@@ -104,37 +107,37 @@ func (it Quantity) Whole() (whole *big.Int, isWhole bool) {
 	return value.Num(), true
 }
 
-// Trimmed is the same quantity without the zeros at the end of its decimals: 3.1 of 3.10, the
-// whole number 35000 of 3.5万, 12.5% of 12.50%. A fraction stays, and so does a quantity whose
-// denominator is not one of its form.
+// Trimmed returns the same quantity without the zeros at the end of its decimals: 3.1 for 3.10, the
+// whole number 35000 for 3.5万, 12.5% for 12.50%. A fraction stays the same, and so does a quantity
+// whose denominator does not match its form.
 func (it Quantity) Trimmed() Quantity {
 	trimmed, err := ToQuantity(it.ToFigures(), TenThousand)
-	if err != nil { // the figures of a fraction are no quantity
+	if err != nil { // the figures of a fraction are not a quantity
 		return it
 	}
 	return trimmed
 }
 
-// ToChinese is its text, which ToQuantity reads by the same method as the same numerator and
-// denominator: 百分之十二点五 of 12.5%. One whose denominator is not one of its form is written as a
-// fraction. The way of the style is a method, Low to High, or Any, which goes by the greatest
-// number that is spelled. The errors are TooLarge and TooSmall, by Low, NotAQuantity of the zero
-// Quantity, and Unknown for a choice of the style.
+// ToChinese writes the quantity: 百分之十二点五 for 12.5%. ToQuantity reads the text by the same method as
+// the same numerator and denominator. A quantity whose denominator does not match its form is
+// written as a fraction. The way of the style is a method, Low to High, or Any, which chooses by
+// the greatest number that is spelled. The errors are TooLarge and TooSmall, with Low, NotAQuantity
+// for the zero Quantity, and Unknown for a choice of the style.
 func (it Quantity) ToChinese(style *Style) (string, error) {
 	method, script, letterCase := style.codes()
 	printing := C.print_quantity(it.quantity(), method, script, letterCase)
 	return printed(ofNumber, &printing)
 }
 
-// ToFigures is its figures, in ASCII and without zeros at the end of its decimals: 3.5, 12.5%,
-// 1/3.
+// ToFigures writes the quantity in figures, in ASCII and without zeros at the end of its decimals:
+// 3.5, 12.5%, 1/3.
 func (it Quantity) ToFigures() string {
 	printing := C.print_quantity_figures(it.quantity())
-	figures, _ := printed(ofNumber, &printing) // each quantity has them
+	figures, _ := printed(ofNumber, &printing) // every quantity has them
 	return figures
 }
 
-// String is its figures.
+// String returns the figures.
 func (it Quantity) String() string {
 	return it.ToFigures()
 }

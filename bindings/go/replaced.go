@@ -5,28 +5,28 @@ import "C"
 
 import "strings"
 
-// Replacing is which quantities of a text are replaced: of those that are Wanted each that
-// ToQuantity reads by the method. By default, as nil too, that is Any, and those that are
-// about so much, one Chinese character or doubtful stay; those with DoubtPart always do.
+// Replacing says which quantities of a text are replaced: those that a search with Wanted finds and
+// ToQuantity reads by the method. The zero value and nil mean the method Any, and that approximate,
+// one-character and doubtful quantities stay. Those with DoubtPart always stay.
 type Replacing struct {
 	Wanted
 	// Method is Low to High, or Any.
 	Method Way
-	// About adds those that are about so much, as the 300 of 300多.
+	// About adds approximate quantities, such as 300 in 300多.
 	About bool
-	// OneCharacter adds those that are one Chinese character, as the 一 of 一般.
+	// OneCharacter adds those of one Chinese character, such as 一 in 一般.
 	OneCharacter bool
-	// Doubtful adds those that are doubtful, as 五一, but for those with DoubtPart.
+	// Doubtful adds doubtful quantities, such as 五一, except those with DoubtPart.
 	Doubtful bool
-	// Expanded is for QuantitiesToFigures alone: no great unit is kept, and 三千五百亿 becomes
-	// 350000000000, and not 3500亿.
+	// Expanded is only for QuantitiesToFigures: no great unit is kept, and 三千五百亿 becomes
+	// 350000000000, not 3500亿.
 	Expanded bool
-	// Canonical is for QuantitiesToFigures alone: what is written in figures alone is rewritten in
-	// ASCII, without commas and leading zeros.
+	// Canonical is only for QuantitiesToFigures: what is only figures is rewritten in ASCII, without
+	// commas and leading zeros.
 	Canonical bool
 }
 
-// takes says whether what was found is to be replaced.
+// takes says whether a quantity that was found is to be replaced.
 func (it *Replacing) takes(found Found) bool {
 	if found.IsAbout && !it.About || found.IsOneCharacter && !it.OneCharacter {
 		return false
@@ -38,16 +38,16 @@ func (it *Replacing) takes(found Found) bool {
 	return err == nil
 }
 
-// ReplaceQuantities is the text with its quantities written anew: replace is given each that is
-// to be replaced, and gives what stands in its place, and false where it stays. The errors are as
-// of FindQuantities, and Unknown for the method.
+// ReplaceQuantities replaces the quantities of a text. It calls replace for each one that Replacing
+// selects; replace returns the new text, or false to keep the quantity. The errors are those of
+// FindQuantities, and Unknown for the method.
 func ReplaceQuantities(
 	text string, which *Replacing, replace func(Found) (string, bool),
 ) (string, error) {
 	if which == nil {
 		which = &Replacing{}
 	}
-	if _, err := ToQuantity("0", which.Method); err != nil { // a method is asked for in each text
+	if _, err := ToQuantity("0", which.Method); err != nil { // refused for every text
 		return "", err
 	}
 	var done strings.Builder
@@ -70,11 +70,11 @@ func ReplaceQuantities(
 	return done.String(), nil
 }
 
-// QuantitiesToFigures is the text with its numerals in figures, as an editor writes them: of
-// 市值三点五亿元，占百分之十二点五 it is 市值3.5亿元，占12.5%. What already is in figures stays, and so do
-// what ReplaceQuantities does not replace, a part of a name, an address or another number, 千分之五
-// and 二又五分之三, and the other parts of a date, a time, a length, an amount or a range of which one
-// part stays. Its errors are those of ReplaceQuantities.
+// QuantitiesToFigures rewrites the numerals of a text in figures, as an editor does:
+// 市值三点五亿元，占百分之十二点五 becomes 市值3.5亿元，占12.5%. These stay: figures; what ReplaceQuantities does
+// not replace; a part of a name, an address or another number; 千分之五 and 二又五分之三; and all of a
+// date, a time, a length, an amount or a range of which one part stays. The errors are those of
+// ReplaceQuantities.
 func QuantitiesToFigures(text string, which *Replacing) (string, error) {
 	if which == nil {
 		which = &Replacing{}

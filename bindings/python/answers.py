@@ -8,7 +8,7 @@ from chinese_number import date_to_chinese, find_numbers, find_quantities, quant
 from chinese_number import replace_quantities, signed_amount_to_chinese, to_chinese, to_number
 from chinese_number import to_quantity, yuan_to_fen
 
-# The words of questions that this package has other ones for.
+# Words of the questions for which this package has other words.
 OTHERS = {"naive": "digits", "simple": "simplified"}
 FORMS = {
     "plain": {},
@@ -16,7 +16,7 @@ FORMS = {
     "round_yuan": {"yuan": "圆"},
     "upright_closing": {"closing": "正"},
 }
-# Those of what is found, as questions name them and as here.
+# The flags of a result, with their names in questions and in this package.
 FLAGS = {
     "plain": "is_plain",
     "alone": "stands_alone",
@@ -108,7 +108,7 @@ def flags(found):
 
 
 def in_place(text, all_found, tell):
-    """The text with what is told of each that was found, in brackets, in its place."""
+    """The text with each run replaced by its description, in brackets."""
     done, at = "", 0
     for found in all_found:
         done += f"{text[at:found.start]}[{tell(found)}]"

@@ -1,10 +1,10 @@
-"""Makes a wheel of a clone or of the source package, with a C compiler and Python's standard
-library alone.
+"""Makes a wheel from a clone or from the source package, with only a C compiler and Python's standard
+library.
 
-It is the build backend, so pip calls `build_wheel`, and for `pip install -e` `build_editable`. The
-compiler is the one that CC names, else Python's own, else the first that is there. For CPython from
-3.10 on, where its header is, the wheel has the extension module, and else a library for ctypes.
-bindings/packages.py packs by this file too, which alone has the metadata.
+This is the build backend: pip calls `build_wheel`, and `build_editable` for `pip install -e`. The
+compiler is the one that CC names, otherwise Python's own, otherwise the first one found. For CPython
+3.10 and later, if its header is installed, the wheel contains the extension module, otherwise a
+library for ctypes. bindings/packages.py uses this file too, for the metadata and to pack wheels.
 """
 import base64
 import hashlib
@@ -25,7 +25,7 @@ MODULE = tuple(
     f"chinese_number/{it}"
     for it in ("__init__.py", "__main__.py", "_library.py", "_tables.py", "py.typed")
 )
-# Version 2.1 and `License` are what older twine takes too.
+# Older versions of twine also accept version 2.1 and `License`.
 METADATA = """\
 Metadata-Version: 2.1
 Name: {name}
@@ -57,11 +57,11 @@ COMPILERS = ("cc", "gcc", "clang", "cl")
 
 
 class UnsupportedOperation(Exception):
-    """What a frontend looks for where a backend cannot do something."""
+    """What a frontend expects if a backend does not support a hook."""
 
 
 def stop(why):
-    """Ends by a sentence, which pip shows as it is. A traceback would hide it."""
+    """Exits with a message, which pip shows as it is. A traceback would hide it."""
     sys.exit(f"{NAME}: {why}")
 
 
@@ -70,13 +70,13 @@ def text_of(name):
 
 
 def package():
-    """The name and the version, as a package's file name begins."""
+    """The name and the version, with which a package's file name begins."""
     version = re.search(r'^__version__ = "(.*)"', text_of(MODULE[0]), re.M)[1]
     return f"{NAME.replace('-', '_')}-{version}"
 
 
 def metadata(license):
-    """What pip reads of a package, with the README."""
+    """The metadata that pip reads, with the README."""
     return METADATA.format(
         name=NAME,
         version=package().rpartition("-")[2],
@@ -87,11 +87,11 @@ def metadata(license):
 
 
 def about():
-    """The files about a wheel of C source: of wabt's licence, too, which is that of Apache."""
+    """The dist-info files of a wheel from C source, with wabt's license, which is the Apache license."""
     licenses = (HERE / "LICENSE", HERE / "source/LICENSE-wabt")
     files = {"METADATA": metadata("MIT AND Apache-2.0")}
     files.update({f"licenses/{path.name}": path.read_bytes() for path in licenses})
-    # The source package's own, or a clone's.
+    # PROVENANCE.json of the source package, or of a clone.
     for folder in (HERE, HERE.parent.parent / "dist"):
         if (folder / "PROVENANCE.json").is_file():
             return {**files, "PROVENANCE.json": (folder / "PROVENANCE.json").read_bytes()}
@@ -99,7 +99,7 @@ def about():
 
 
 def write_wheel(path, info, files):
-    """A zip archive of the files and of a RECORD of them, in this order, each of the same old date."""
+    """Writes a zip archive of the files and their RECORD, in this order, all with the same old date."""
     record = ""
     for name, data in files.items():
         digest = base64.urlsafe_b64encode(hashlib.sha256(data).digest()).rstrip(b"=").decode()
@@ -114,7 +114,7 @@ def write_wheel(path, info, files):
 
 
 def pack(folder, pythons, platforms, files, about):
-    """Writes a wheel of files and of those about it, and gives its file name."""
+    """Writes a wheel from files and its dist-info files, and returns its file name."""
     info = f"{package()}.dist-info"
     tags = "".join(f"Tag: {pythons}-{platform}\n" for platform in platforms)
     files = {**files, **{f"{info}/{it}": data for it, data in about.items()}}
@@ -134,25 +134,25 @@ def module():
 
 
 def compiler():
-    """The words with which a call of the C compiler begins."""
+    """The words with which a command of the C compiler begins."""
     named = os.environ.get("CC")
     for words in [named] if named else [sysconfig.get_config_var("CC"), *COMPILERS]:
         words = shlex.split(words or "", posix=os.name == "posix")
         if words and shutil.which(words[0]):
             return words
-    missing = f", since {named}, which CC names, is not here" if named else ""
-    return stop(f"install a C compiler (on Debian: apt install gcc), or name one by CC{missing}")
+    missing = f"; CC names {named}, which was not found" if named else ""
+    return stop(f"install a C compiler (on Debian: apt install gcc), or set CC to one{missing}")
 
 
 def takes_native():
-    """Whether this Python takes the extension module, and has the header to compile it."""
+    """Whether this Python supports the extension module, and has the header to compile it."""
     is_fit = sys.implementation.name == "cpython" and sys.version_info >= (3, 10)
     is_fit = is_fit and os.name == "posix" and not sysconfig.get_config_var("Py_GIL_DISABLED")
     return is_fit and Path(sysconfig.get_path("include"), "Python.h").is_file()
 
 
 def call(source, library):
-    """The call that makes a shared library of the C source, or the extension module."""
+    """The command that makes a shared library or the extension module from the C source."""
     words, native = compiler(), library.name == NATIVE
     if Path(words[0]).stem.lower() == "cl":
         header = source.with_suffix(".h").read_text(encoding="utf-8")
@@ -162,7 +162,7 @@ def call(source, library):
     flags = ["-shared"] if library.suffix == ".dll" else ["-shared", "-fPIC"]
     if (
         sysconfig.get_platform()[:3] == "mac"
-    ):  # a Python for two processors wants a library for both
+    ):  # a Python for two processors needs a library for both
         of_python = sysconfig.get_config_var("CFLAGS") or ""
         flags = ["-dynamiclib", *re.findall(r"-arch|(?<=-arch )\w+", of_python)]
         flags += ["-undefined", "dynamic_lookup"] * native
@@ -173,7 +173,7 @@ def call(source, library):
 
 
 def shared_library():
-    """The library, by the path that it has in a wheel, and the Pythons that take it."""
+    """The library, by its path in a wheel, and the Pythons that support it."""
     suffix = {"win": ".dll", "mac": ".dylib"}.get(sysconfig.get_platform()[:3], ".so")
     native = takes_native()
     with tempfile.TemporaryDirectory() as folder:
@@ -191,16 +191,16 @@ def build_wheel(wheel_directory, config_settings=None, metadata_directory=None):
 
 
 def build_editable(wheel_directory, config_settings=None, metadata_directory=None):
-    """The library goes beside the module, which stays here, and the wheel says where that is."""
+    """Writes the library beside the module, which stays here; the wheel contains only its path."""
     library, pythons = shared_library()
     for path, data in library.items():
         try:
             (HERE / path).write_bytes(data)
         except OSError as error:
-            stop(f"{error}. An editable install writes there; install without it")
+            stop(f"{error}. An editable install writes there; install without -e")
     files = {f"{NAME}.pth": os.fsencode(f"{HERE}\n")}
     return pack(wheel_directory, pythons, [this_platform()], files, about())
 
 
 def build_sdist(sdist_directory, config_settings=None):
-    raise UnsupportedOperation("the source package is made by bindings/packages.sh")
+    raise UnsupportedOperation("bindings/packages.sh makes the source package")

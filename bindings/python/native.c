@@ -1,7 +1,7 @@
-/* The calls of the library for CPython from 3.10 on, by its stable interface: the functions of
- * `_library.py`, which goes by ctypes, under the same names, and quick ones in front of two public
+/* The calls of the library for CPython 3.10 and later, with its stable ABI: the functions of
+ * `_library.py`, which uses ctypes, under the same names, and quick functions that wrap two public
  * functions. Texts are str, choices are the codes of chinese_number.h, and places count characters.
- * Half of a surrogate pair goes as a question mark, which is no numeral either. */
+ * Half of a surrogate pair is passed as a question mark, which is not a numeral either. */
 #define PY_SSIZE_T_CLEAN
 #define Py_LIMITED_API 0x030A0000
 #include <Python.h>
@@ -11,40 +11,40 @@
 #include "chinese_number.h"
 
 enum {
-    SHORT = 256,    /* characters; a text of no more is read from the stack, and takes no memory */
+    SHORT = 256,    /* characters; a text of at most this many is read from the stack, without allocating */
     LONG = 1 << 16, /* bytes; see let_go */
     PIECE = 8192,   /* characters; see utf8 */
-    AT_ONCE = 256,  /* numbers of a text that are found before the first of them is handed out */
+    AT_ONCE = 256,  /* numbers of a text that are found before the first one is returned */
     CHOICES = 4,
     DOUBT = 16, /* the code of a doubt is multiplied by this, and added to the flags */
-    MOST_WORDS = 20 /* of one choice: the members of its enum, and the str that each equals */
+    MOST_WORDS = 20 /* words of one choice: the members of its enum, and the str that each equals */
 };
 
-/* The keywords of the quick functions, of which to_number takes the first two. */
+/* The keywords of the quick functions; to_number has only the first two. */
 static const char *const KEYWORDS[CHOICES] = {"kind", "way", "script", "case"};
 
-/* A keyword and its words: the members of its enum by their code, and then their str. */
+/* A keyword and its words: the members of its enum in the order of their codes, and then their str. */
 typedef struct choice {
-    PyObject *keyword, *words[MOST_WORDS], *last; /* the word that was last asked for */
-    int count, code;                              /* that of `last` */
+    PyObject *keyword, *words[MOST_WORDS], *last; /* the word of the last lookup */
+    int count, code;                              /* the code of `last` */
 } choice;
 
-/* A quick function, and the Python function behind it, which takes what is unusual, with the codes
- * of its defaults, or -1. */
+/* A quick function, the Python function that it wraps, which handles unusual arguments, and the
+ * codes of its defaults, or -1. */
 typedef struct quick {
     PyMethodDef method;
-    PyObject *function, *names; /* `names`, and how many, and `places` of them: see know_names */
+    PyObject *function, *names; /* `names`, their `count` and their `places`: see know_names */
     int count, defaults[CHOICES], places[CHOICES];
 } quick;
 
-/* `run` is the class of runs, and `held` a dict, which owns all objects that are named below it. */
+/* `run` is the class of runs. `held` is a dict that owns all objects in the fields below it. */
 typedef struct state {
     PyObject *run, *held;
     choice choices[CHOICES];
     quick to_number, to_chinese;
 } state;
 
-/* The code of a word, or -1 of one that is not known as this very object. */
+/* The code of a word, or -1 if this very object is not known. */
 static int code_of(choice *of, PyObject *word) {
     if (of->last != word) {
         int members = of->count / 2, at = 0;
@@ -58,7 +58,7 @@ static int code_of(choice *of, PyObject *word) {
     return of->code;
 }
 
-/* Takes a tuple of words for each choice. */
+/* Stores a tuple of words for each choice. */
 static PyObject *know_words(PyObject *module, PyObject *given) {
     state *own = PyModule_GetState(module);
     for (int i = 0; i < CHOICES; i++) {
@@ -79,8 +79,8 @@ static PyObject *know_words(PyObject *module, PyObject *given) {
     Py_RETURN_NONE;
 }
 
-/* Learns which choice each keyword of a call is; 0 where one is none. A call has the same tuple of
- * names each time that it is made, so the last one is kept. */
+/* Finds the choice of each keyword of a call; returns 0 if a keyword is not one. The same call has
+ * the same tuple of names each time, so the last tuple is kept. */
 static int know_names(state *own, quick *of, PyObject *names) {
     of->names = NULL;
     of->count = (int)PyTuple_Size(names);
@@ -100,7 +100,7 @@ static int know_names(state *own, quick *of, PyObject *names) {
     return 1;
 }
 
-/* The codes of what a call names, and else of its defaults; 0 where one is not known. */
+/* The codes of the arguments of a call, or of the defaults; returns 0 if one is not known. */
 static int codes_of(state *own, quick *of, PyObject *const *values, PyObject *names, int *codes) {
     memcpy(codes, of->defaults, sizeof of->defaults);
     if (names && names != of->names && !know_names(own, of, names))
@@ -114,7 +114,7 @@ static int codes_of(state *own, quick *of, PyObject *const *values, PyObject *na
     return 1;
 }
 
-/* What the Python function behind a quick one makes of a call. */
+/* Calls the Python function that a quick function wraps. */
 static PyObject *unusual(const quick *of, PyObject *const *values, Py_ssize_t count,
                          PyObject *names) {
     PyObject *words = names ? PyDict_New() : NULL, *places = PyTuple_New(count), *answer = NULL;
@@ -130,15 +130,16 @@ static PyObject *unusual(const quick *of, PyObject *const *values, Py_ssize_t co
     if (!failed)
         answer = PyObject_Call(function, places, words);
     else if (!PyErr_Occurred())
-        PyErr_SetString(PyExc_RuntimeError, "the interpreter is at its end");
+        PyErr_SetString(PyExc_RuntimeError, "the interpreter is shutting down");
     Py_XDECREF(function);
     Py_XDECREF(places);
     Py_XDECREF(words);
     return answer;
 }
 
-/* The bytes of a text of at most SHORT characters, or 0 where one takes neither one byte of UTF-8 nor
- * three. Unlike PyUnicode_AsUTF8AndSize it leaves no copy in the str. */
+/* Writes a text of at most SHORT characters as UTF-8, and returns how many bytes, or 0 if a
+ * character has neither one byte nor three. Unlike PyUnicode_AsUTF8AndSize it leaves no copy in the
+ * str. */
 static size_t put_short(PyObject *text, Py_ssize_t length, uint8_t *room) {
     Py_UCS4 characters[SHORT];
     uint8_t *end = room;
@@ -158,9 +159,8 @@ static size_t put_short(PyObject *text, Py_ssize_t length, uint8_t *room) {
     return (size_t)(end - room);
 }
 
-/* Lets other threads of Python run while a long text is read. A shorter one takes less than a tenth
- * of the 5 ms that Python lets a thread run anyway, and to let go for it could cost as many to
- * wait. */
+/* Releases the GIL while a long text is read. A shorter text takes less than a tenth of the 5 ms
+ * that Python lets a thread run anyway, and releasing could mean to wait as long. */
 static PyThreadState *let_go(size_t length) {
     return length > LONG ? PyEval_SaveThread() : NULL;
 }
@@ -174,8 +174,9 @@ static PyObject *encoded(PyObject *string) {
     return string ? PyUnicode_AsEncodedString(string, "utf-8", "replace") : NULL;
 }
 
-/* The UTF-8 of a str, as bytes or a bytearray. With one character beyond ASCII a text takes as long to
- * be encoded as with many: so one that begins with ASCII goes in pieces, most of which are copied. */
+/* The UTF-8 of a str, as bytes or a bytearray. A single character beyond ASCII makes encoding as
+ * slow as many do. So a text that begins with ASCII is encoded in pieces, most of which are simply
+ * copied. */
 static PyObject *utf8(PyObject *module, PyObject *string) {
     Py_ssize_t length = PyUnicode_GetLength(string);
     PyObject *piece = PyUnicode_Substring(string, 0, PIECE), *bytes = encoded(piece);
@@ -196,7 +197,7 @@ static PyObject *utf8(PyObject *module, PyObject *string) {
     return done;
 }
 
-/* A str in UTF-8: in the room, or in the bytes that are held. */
+/* A str in UTF-8: in the buffer `room`, or in the bytes object `held`. */
 typedef struct text {
     const uint8_t *bytes;
     size_t length;
@@ -205,7 +206,7 @@ typedef struct text {
     uint8_t room[3 * SHORT];
 } text;
 
-/* Takes a str to be read. Where that takes long, other threads run until it is given back. */
+/* Takes a str for reading. If it is long, other threads run until give_back. */
 static int take(PyObject *given, text *it) {
     Py_ssize_t length = PyUnicode_GetLength(given);
     char *bytes;
@@ -231,8 +232,9 @@ static void give_back(text *it) {
     Py_XDECREF(it->held);
 }
 
-/* A function that reads a text by a call, and gives the status, what the format and the words
- * behind it make of `it`, and how many characters stand before one at fault. */
+/* Defines a function that reads a text with a call. It returns the status, the values that the
+ * format and the arguments after it make from `it`, and how many characters come before the wrong
+ * one. */
 #define READER(name, call, answer, format, ...)                                               \
     static PyObject *name(PyObject *module, PyObject *given) {                                \
         text from;                                                                            \
@@ -285,7 +287,7 @@ static int is_short(cn_number number, uint32_t kind) {
     return number.high == same.high && (number.high == 0 || kind >= CN_I8);
 }
 
-/* to_number of a short text, by known words, where 64 bits hold the number. */
+/* to_number for a short text and known words, if 64 bits hold the number. */
 static PyObject *to_number(PyObject *module, PyObject *const *values, Py_ssize_t count,
                            PyObject *names) {
     state *own = PyModule_GetState(module);
@@ -301,12 +303,12 @@ static PyObject *to_number(PyObject *module, PyObject *const *values, Py_ssize_t
         if (status == CN_DONE && is_short(it.number, kind))
             return PyLong_FromLongLong((long long)it.number.low);
     }
-    PyErr_Clear(); /* of what is no str: the Python function says so */
+    PyErr_Clear(); /* for an argument that is not a str the Python function raises */
     return unusual(of, values, count, names);
 }
 
-/* The str of a text that is printed: each of its characters takes three bytes. Python's own decoder
- * takes twice as long. */
+/* The str of a printed text, in which each character has three bytes. Python's own decoder takes
+ * twice as long. */
 static PyObject *string_of(const uint8_t *text, size_t length) {
     wchar_t characters[CN_MOST_QUANTITY_BYTES / 3];
     Py_ssize_t count = 0;
@@ -353,7 +355,7 @@ static PyObject *print_date(PyObject *module, PyObject *given) {
     return Py_BuildValue("IN", status, string_of(room, length));
 }
 
-/* A quantity of its words. */
+/* Makes a quantity from its words. */
 static int quantity_of(PyObject *words, cn_quantity *it) {
     unsigned long long low, high, below_low, below_high;
     unsigned form;
@@ -388,7 +390,7 @@ static PyObject *print_figures(PyObject *module, PyObject *words) {
     return Py_BuildValue("IN", status, figures);
 }
 
-/* The text with its quantities in figures. The data are the text in UTF-8. */
+/* The text with its quantities in figures. `data` is the text in UTF-8. */
 static PyObject *quantities_to_figures(PyObject *module, PyObject *given) {
     PyObject *data, *room = NULL;
     char *bytes;
@@ -416,7 +418,7 @@ static PyObject *quantities_to_figures(PyObject *module, PyObject *given) {
     return Py_BuildValue("IN", status, text);
 }
 
-/* to_chinese of an int that 64 bits hold with its sign, by known words. */
+/* to_chinese for a signed int of 64 bits and known words. */
 static PyObject *to_chinese(PyObject *module, PyObject *const *values, Py_ssize_t count,
                             PyObject *names) {
     state *own = PyModule_GetState(module);
@@ -437,8 +439,8 @@ static PyObject *to_chinese(PyObject *module, PyObject *const *values, Py_ssize_
     return unusual(of, values, count, names);
 }
 
-/* A quick function in front of a Python function, of which the defaults, a text that begins with
- * its signature, as inspect reads it, and its module are given. */
+/* Makes a quick function that wraps a Python function. The arguments are the function, its
+ * defaults, a text that begins with its signature, as inspect reads it, and its module. */
 static PyObject *in_front(PyObject *module, PyObject *given, quick *of, void (*call)(void),
                           const char *name) {
     state *own = PyModule_GetState(module);
@@ -467,7 +469,7 @@ static PyObject *quick_to_chinese(PyObject *module, PyObject *given) {
     return in_front(module, given, of, (void (*)(void))to_chinese, "to_chinese");
 }
 
-/* How many characters bytes of UTF-8 have: those that do not go on with one, eight at a time. */
+/* How many characters UTF-8 bytes have: counts the bytes that do not continue one, eight at a time. */
 static Py_ssize_t characters(const uint8_t *from, const uint8_t *to) {
     const uint64_t ones = UINT64_MAX / 255;
     uint64_t count = 0, eight;
@@ -480,11 +482,11 @@ static Py_ssize_t characters(const uint8_t *from, const uint8_t *to) {
     return (Py_ssize_t)count;
 }
 
-/* A run of a text. One that is found holds the whole text, and makes its own when it is asked for: a
- * search that makes each at once takes half as long again. */
+/* A run of a text. A run that a search has found holds the whole text, and creates its own text
+ * only when it is read; a search that created each text at once would take half as long again. */
 typedef struct run {
     PyObject_HEAD
-    PyObject *string; /* its own text, or the whole one where `is_found` */
+    PyObject *string; /* its own text, or the whole text if `is_found` */
     Py_ssize_t start, end;
     uint32_t flags;
     int is_found;
@@ -506,7 +508,7 @@ static PyObject *doubt_of(PyObject *self, void *none) {
     return PyLong_FromUnsignedLong(((run *)self)->flags / DOUBT);
 }
 
-/* A run of a class without places and flags. */
+/* Allocates a run of a class, without places and flags. */
 static run *new_run(PyTypeObject *class, PyObject *string) {
     run *it = (run *)PyType_GenericAlloc(class, 0);
     if (it) {
@@ -516,8 +518,8 @@ static run *new_run(PyTypeObject *class, PyObject *string) {
     return it;
 }
 
-/* Makes a run of its seven fields and the code of its doubt, or of none, for the class of runs and
- * each below it. A str of another class, which can hold the run, is copied. */
+/* Makes a run from its seven fields and the optional code of its doubt, for the class of runs and
+ * its subclasses. A str of another class, which could hold the run, is copied. */
 static PyObject *make_run(PyTypeObject *class, PyObject *values, PyObject *words) {
     static char *names[] = {"start",    "end",              "text",   "is_plain", "stands_alone",
                             "is_about", "is_one_character", "_doubt", NULL};
@@ -578,7 +580,7 @@ static PyType_Spec RUN = {
 typedef uint32_t search(const uint8_t *text, size_t length, size_t from, uint32_t upper,
                         uint32_t greatest, cn_span *spans, size_t most, size_t *count);
 
-/* The bytes of what utf8 makes, and how many, or none. */
+/* The bytes of a result of utf8, and how many they are; or NULL. */
 static const uint8_t *bytes_of(PyObject *data, Py_ssize_t *length) {
     char *bytes = NULL;
     if (PyByteArray_Check(data)) {
@@ -590,7 +592,7 @@ static const uint8_t *bytes_of(PyObject *data, Py_ssize_t *length) {
     return (const uint8_t *)bytes;
 }
 
-/* A run that is found in a text. */
+/* Makes a run that was found in a text. */
 static PyObject *found_run(PyObject *class, PyObject *string, Py_ssize_t start, Py_ssize_t end,
                            uint32_t flags) {
     run *it = new_run((PyTypeObject *)class, string);
@@ -603,9 +605,9 @@ static PyObject *found_run(PyObject *class, PyObject *string, Py_ssize_t start, 
     return (PyObject *)it;
 }
 
-/* The next numbers of a text behind its first bytes, which have so many characters, or what another
- * search finds: the status, a list of runs of a class, and up to where they were looked for, in bytes
- * and in characters. The data are what utf8 makes of the text. */
+/* Finds the next numbers of a text, or what another search finds, after a number of bytes and
+ * characters. Returns the status, a list of runs of a class, and where the search stopped, in bytes
+ * and in characters. `data` is the result of utf8 for the text. */
 static PyObject *find(PyObject *module, PyObject *given, search *next) {
     state *own = PyModule_GetState(module);
     PyObject *string, *data, *class;
@@ -621,7 +623,7 @@ static PyObject *find(PyObject *module, PyObject *given, search *next) {
         return NULL;
     if (searched < 0 || searched > length ||
         !PyType_IsSubtype((PyTypeObject *)class, (PyTypeObject *)own->run)) {
-        PyErr_SetString(PyExc_ValueError, "a place in the bytes and a class of runs are wanted");
+        PyErr_SetString(PyExc_ValueError, "expected a place in the bytes and a class of runs");
         return NULL;
     }
     PyThreadState *thread = let_go((size_t)(length - searched));
@@ -678,7 +680,7 @@ static int traverse(PyObject *module, visitproc visit, void *arg) {
     return 0;
 }
 
-/* A quick function may be there still: it knows no word, and tells nothing of itself. */
+/* A quick function may still exist: it then knows no word, and has no signature. */
 static int clear(PyObject *module) {
     state *own = PyModule_GetState(module);
     memset(own->choices, 0, sizeof own->choices);

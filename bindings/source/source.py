@@ -1,18 +1,18 @@
 #!/usr/bin/env python3
-"""Writes the module for WebAssembly with a 32-bit memory as one file of C, OUT/chinese_number.c.
+"""Writes the WebAssembly module with a 32-bit memory as one C file, OUT/chinese_number.c.
 
 Usage: source.py MODULE OUT
 
-MODULE is `chinese-number.32.wasm`, as `bindings/web/build.sh` makes it, and `wasm2c` of wabt 1.0.32
-is on the path. What that version writes is known line by line: of any other line, of another
-prelude, and of a module that is not as this one, nothing is made. The functions of the module stay
-as they are, but for their memory, which `chinese_number.c.in` has, for a test of what each takes of
-the stack, and for wabt's count of calls.
+MODULE is `chinese-number.32.wasm`, as `bindings/web/build.sh` makes it. `wasm2c` of wabt 1.0.32 must
+be on the path. The script knows what that version writes, line by line. It refuses any other line,
+another prelude, and a module of another form. The functions of the module are unchanged, except for
+their memory, which `chinese_number.c.in` defines, for a test of the stack that each function uses,
+and without wabt's count of calls.
 
-The module's stack is an array there. How deep it can become is counted: what each function takes,
-and then what those that it calls take. So a module is refused that calls through a table, or has
-functions that call each other in a circle. A function may call itself if it takes none of that
-stack.
+The module's stack is an array in the C file. The script computes how deep it can become, from what
+each function uses and what the functions that it calls use. So it refuses a module that calls through
+a table, or whose functions call each other in a circle. A function may call itself if it uses none of
+that stack.
 """
 import hashlib
 import re
@@ -22,13 +22,14 @@ import tempfile
 from pathlib import Path
 
 VERSION = "1.0.32"
-# The sum of what stands in front of each module: what its words mean, which the template has again.
+# The checksum of the prelude before each module, which defines its macros; the template redefines
+# them.
 PRELUDE = "b00ae1a3d2f037728dbc273d22e4e26f9fcce55ca1703c34526a03bc09aee686"
 TEMPLATE = Path(__file__).with_name("chinese_number.c.in")
 
 VALUE, NUMBER, LABEL = r"w2c_[ijlp]\d+", r"\d+u(?:ll)?", r"w2c_(?:[BL]\d+|Bfunc)"
 MEMORY, ADDRESS = "&instance->w2c_memory", rf"\(u64\)\({VALUE}\)(?: \+ \d+u?)?"
-# The statements, each a line; those of memory are after the template's own names.
+# The statements, each of one line. Those that access memory are built from the template's names.
 STATEMENTS = (
     rf"{VALUE} = (?:{VALUE}|{NUMBER}|instance->w2c_g[01]|{VALUE} \? {VALUE} : {VALUE});",
     rf"instance->w2c_g[01] = {VALUE};",
@@ -105,7 +106,7 @@ EXPORT = re.compile(
     rf"u32 Z_cnZ_(\w+){PARAMETERS}  return w2c_\1\(instance(?:, w2c_p\d+)*\);\n\}}\n"
 )
 CALLED = re.compile(r"\b(w2c_\w+)\(instance")
-# How a function begins that takes some of the stack, and one that takes none of it.
+# The beginning of a function that uses some of the stack, and of one that uses none.
 TAKES = re.compile(
     r" *(\w+) = instance->w2c_g0;\n *(\w+) = (\d+)ull;\n *\1 -= \2;\n"
     r" *(w2c_l\d+) = \1;\n(?P<moved> *instance->w2c_g0 = \1;\n)?"
@@ -115,7 +116,7 @@ ASKS = re.compile(
     r"16ull;\nw2c_i0 = \(u64\)\(\(s64\)\1 <|15ull;\nw2c_i0 = \(u64\)\(\(s64\)\1 >"
     r") \(s64\)\3\);\n(?P<moved>)"
 )
-# How either gives back what it took.
+# How either of them releases its stack.
 GIVES = re.compile(
     r"(\w+) = w2c_l\d+;\n(?:(\w+) = (\d+)ull;\n\1 \+= \2;\n)?instance->w2c_g0 = \1;\n"
 )
@@ -126,48 +127,48 @@ def refuse(what):
 
 
 def written(module, folder):
-    """What wasm2c writes of the module behind the prelude, with no line broken."""
+    """What wasm2c writes for the module after the prelude, with broken lines joined."""
     asked = subprocess.run(["wasm2c", "--version"], capture_output=True, text=True, check=True)
     version = asked.stdout.strip()
     if version != VERSION:
-        refuse(f"wasm2c is of version {version}, and not {VERSION}")
+        refuse(f"wasm2c has version {version}, not {VERSION}")
     file = Path(folder) / "module.c"
     subprocess.run(["wasm2c", "-n", "cn", str(module), "-o", str(file)], check=True)
     text = file.read_text(encoding="ascii")
     prelude, begins, rest = text.partition("static bool s_module_initialized")
     found = hashlib.sha256(prelude.encode()).hexdigest()
     if found != PRELUDE:
-        refuse(f"wasm2c wrote another prelude, of the sum {found}")
+        refuse(f"wasm2c wrote another prelude, with the checksum {found}")
     return begins + re.sub(r", \n +(?=[uw])", ", ", rest)
 
 
 def statement_of(template):
-    """The patterns of a line, with the accesses to memory that the template has."""
+    """The patterns of a line, with the memory accesses that the template defines."""
     loads = "|".join(re.findall(r"^LOAD\((\w+),", template, re.MULTILINE))
     stores = "|".join(re.findall(r"^STORE\((\w+),", template, re.MULTILINE))
     of_memory = (
         rf"{VALUE} = (?:{loads})\({MEMORY}, {ADDRESS}\);",
         rf"(?:{stores})\({MEMORY}, {ADDRESS}, {VALUE}\);",
     )
-    # A group of its own for each statement, since some name what they repeat by its number.
+    # Each statement is a separate pattern, since some have numbered groups.
     return [re.compile(statement) for statement in (*STATEMENTS, *of_memory)]
 
 
 def functions_of(text, statements):
-    """The functions: the lines of each, one for a statement."""
+    """The functions, each with its lines of one statement."""
     found = {}
     for function in FUNCTION.finditer(text):
         found[function["name"]] = [line.strip() for line in function["body"].splitlines()]
         for line in found[function["name"]]:
             if not any(statement.fullmatch(line) for statement in statements):
-                refuse(f"{function['name']} has a line that is not known: {line}")
+                refuse(f"{function['name']} has an unknown line: {line}")
     if FUNCTION.sub("", text):
-        refuse(f"between the functions stands {FUNCTION.sub('', text)[:200]!r}")
+        refuse(f"there is other text between the functions: {FUNCTION.sub('', text)[:200]!r}")
     return found
 
 
 def taken(name, lines):
-    """How many bytes of the module's stack a function takes."""
+    """How many bytes of the module's stack a function uses."""
     body = "".join(f"{line}\n" for line in lines)
     uses = body.count("instance->w2c_g0")
     if uses == 0:
@@ -178,20 +179,20 @@ def taken(name, lines):
     given = [int(gives[3] or 0) for gives in GIVES.finditer(body)]
     known = begins and uses == begins[0].count("instance->w2c_g0") + len(given)
     if not known or set(given) - {frame} or begins["moved"] and not given:
-        refuse(f"{name} uses the stack in a way that is not known")
+        refuse(f"{name} uses the stack in an unknown way")
     return frame
 
 
 def depth(functions, calls):
-    """How many bytes of its stack the module can take."""
+    """How many bytes of its stack the module can use."""
     frames = {name: taken(name, lines) for name, lines in functions.items()}
     found = {}
 
     def below(name, above):
         if name in above:
-            refuse(f"{name} is called by what it calls")
+            refuse(f"{name} is called by a function that it calls")
         if name in calls[name] and frames[name]:
-            refuse(f"{name} calls itself, and takes {frames[name]} bytes of the stack")
+            refuse(f"{name} calls itself, and uses {frames[name]} bytes of the stack")
         if name not in found:
             deepest = [below(other, (*above, name)) for other in calls[name] - {name}]
             found[name] = frames[name] + max(deepest, default=0)
@@ -201,18 +202,18 @@ def depth(functions, calls):
 
 
 def calls_of(exports, template):
-    """The calls that the module shows; the template makes each of them, and no other."""
+    """The number of calls that the module exports. The template must make exactly these calls."""
     shown = EXPORT.findall(exports)
     made = set(re.findall(r"= w2c_(\w+)\(", template))
-    # And one thing more, which is no call: where its constants end.
+    # It exports one more thing, which is not a call: where its constants end.
     others = exports.count("/* export: ") - len(shown)
     if set(shown) != made or others != 1 or "Z_cnZ___heap_base(" not in exports:
-        refuse(f"the module shows the calls {sorted(shown)}, and the template makes {sorted(made)}")
+        refuse(f"the module exports the calls {sorted(shown)}, the template makes {sorted(made)}")
     return len(shown)
 
 
 def of_texts(calls, template):
-    """The functions that no call without a text reaches."""
+    """The functions that only calls with a text reach."""
     reached, ahead = set(), set(re.findall(r"= (w2c_\w+)\((?!&?m, FIRST_OF_TEXT)", template))
     while ahead:
         reached |= ahead
@@ -221,8 +222,9 @@ def of_texts(calls, template):
 
 
 def ours(text, of_text):
-    """The module's text over the template's machine, where what a function takes of the stack is
-    tested once. Most words of four bytes that a function of texts alone loads are the text's."""
+    """The module's source adapted to the template's machine, which tests a function's stack once. In a
+    function that only calls with a text reach, most words of four bytes are loaded from the text.
+    """
     text = FUNCTION.sub(
         lambda it: (
             it[0].replace("i32_load(", "i32_load_of_text(") if it["name"] in of_text else it[0]
@@ -244,7 +246,7 @@ def main():
     with tempfile.TemporaryDirectory() as scratch:
         parts = PARTS.fullmatch(written(Path(sys.argv[1]).resolve(), scratch))
     if not parts:
-        refuse("wasm2c wrote a module whose parts are not as they are known")
+        refuse("wasm2c wrote a module with unknown parts")
     functions = functions_of(parts["functions"], statement_of(template))
     calls = {name: set(CALLED.findall("\n".join(lines))) for name, lines in functions.items()}
     shown, bytes_of_stack = calls_of(parts["exports"], template), depth(functions, calls)
@@ -257,14 +259,14 @@ def main():
     }
     for name, text in filled.items():
         if template.count(f"@{name}@") != 1:
-            refuse(f"the template has the place @{name}@ {template.count(f'@{name}@')} times")
+            refuse(f"the template contains @{name}@ {template.count(f'@{name}@')} times")
         template = template.replace(f"@{name}@", text)
     out = Path(sys.argv[2])
     out.mkdir(parents=True, exist_ok=True)
     (out / "chinese_number.c").write_text(template, encoding="utf-8")
     print(
-        f"source: chinese_number.c, of {shown} calls, by {len(functions)} functions of the module, "
-        f"which take at most {bytes_of_stack} bytes of its stack"
+        f"source: chinese_number.c with {shown} calls, from {len(functions)} functions of the module, "
+        f"which use at most {bytes_of_stack} bytes of its stack"
     )
 
 

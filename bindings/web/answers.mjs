@@ -1,4 +1,4 @@
-// Answers the questions of test.py, which says what they are, a line each.
+// Answers the questions of test.py, one per line; test.py describes them.
 import { readFileSync } from 'node:fs';
 
 import {
@@ -7,11 +7,11 @@ import {
   replaceQuantities, signedAmountToChinese, toBigInt, toChinese, toQuantity, yuanToFenBigInt,
 } from './chinese-number.mjs';
 
-// The words of a question that this face has others for.
+// Words of the questions for which this binding has other words.
 const OTHERS = { naive: 'digits', ten_thousand: 'tenThousand', simple: 'simplified' };
 const named = (word) => OTHERS[word] ?? word;
 
-// What a word of a form, or of an option of replacing, sets; `plain` and `none` set nothing.
+// What a word of a form, or of an option for replacing, sets; `plain` and `none` set nothing.
 const SETS = {
   plain: {}, currency: { currency: true }, round_yuan: { yuan: '圆' },
   upright_closing: { closing: '正' }, none: {}, about: { about: true },
@@ -63,7 +63,7 @@ const numeralsUnlessFraction = (found) => {
   return quantity.form === 'fraction' ? undefined : quantity.toChinese();
 };
 
-// The text with what is told of each that is found in it in its place.
+// The text with each run replaced by its description.
 function inPlace(search, text, tell) {
   let done = '', at = 0;
   for (const found of search(text)) {

@@ -1,8 +1,8 @@
 #!/usr/bin/env node
-// The command chinese-number: amounts, dates and numerals are written and read, the numbers and the
-// quantities of a text are found, and quantities are replaced. Answers go to standard output,
-// refusals to standard error. The status is 0 where all is answered, 1 where something is refused
-// or cannot be read or written, and 2 where the words of the command line ask for nothing.
+// The command chinese-number. It writes and reads amounts, dates and numerals, finds the numbers and
+// the quantities of a text, replaces quantities, and converts the amounts in a table. Results go to
+// standard output, refusals to standard error. The status is 0 if everything was converted, 1 if
+// something was refused or could not be read or written, and 2 if the command line is not valid.
 
 import { isUtf8 } from 'node:buffer';
 import { fstatSync } from 'node:fs';
@@ -14,16 +14,16 @@ import {
 } from './chinese-number.mjs';
 import { Table, linesOfTable } from './table.mjs';
 
-// The words that ask for nothing.
+// The command line is not valid.
 class Misuse extends Error {}
 
 function notOneOf(name, choices, given) {
   const wanted = [...choices].join(', ').replace(/, ([^,]*)$/, ' or $1');
-  return new Misuse(`${name} is ${wanted}${given ? `, and not ${given}` : ''}`);
+  return new Misuse(`${name} must be ${wanted}${given ? `, not ${given}` : ''}`);
 }
 
-// What an option may be set to: each word with what it stands for, or words of a pattern. A flag
-// takes no word.
+// The values of an option: each word with its meaning, or the words that match a pattern. A flag
+// does not take a value.
 const FLAG = null;
 const snake = (name) => name.replace(/[A-Z]/g, (it) => `_${it.toLowerCase()}`);
 const wordsFor = (names) => new Map(names.map((it) => [snake(it), it]));
@@ -34,7 +34,7 @@ const COLUMN = {
 };
 const DELIMITER = {
   has: (it) => /^[^"\r\n]$/u.test(it), get: String,
-  keys: () => ['a character that is no quote and no line end'],
+  keys: () => ['a character other than a quote or a line end'],
 };
 
 const USAGE = `\
@@ -50,30 +50,30 @@ usage: chinese-number amount [--traditional] [--currency] [--yuan 圆] [--closin
                               [--expanded] [--canonical] [WORD..]
        chinese-number --help | --version
 
-amount   writes yuan in capitals, 1409.50 as 壹仟肆佰零玖元伍角整, and reads capitals; with --signed
-         also below zero, -15 as 负壹拾伍元整; with --typed it reads ⊗ 人民币：壹拾 伍元整 too;
-         with --column N, reads a table in CSV, in UTF-8, from standard input and writes each row
-         with one more cell: the answer to its Nth cell, or nothing where that is refused;
-         --header leaves the first row unanswered; --delimiter $'\\t' is for tabs. Why cells are
-         refused, and how many, goes to standard error
-date     writes dates in capitals, 2026-01-15 as 贰零贰陆年零壹月壹拾伍日, and reads capitals
+amount   converts yuan to capitals, 1409.50 to 壹仟肆佰零玖元伍角整, and capitals to yuan; --signed
+         also converts negative amounts, -15 to 负壹拾伍元整; --typed also reads amounts as typed,
+         such as ⊗ 人民币：壹拾 伍元整. --column N reads a CSV table in UTF-8 from standard input and
+         writes each row with one more cell: the result for its Nth cell, or an empty cell if that is
+         refused. --header says that the first row is a header; --delimiter $'\\t' is for tabs. The
+         reasons for refusals and the number of rows go to standard error
+date     converts dates to capitals, 2026-01-15 to 贰零贰陆年零壹月壹拾伍日, and capitals to dates
 read     reads numerals, 一百二 as 120
 print    writes whole numbers as numerals, -120 as 负一百二十
-find     writes LINE:CHARACTER TEXT NUMBER of each number in standard input, or err and why it is
-         refused; with --all also of the characters of cheques and of units above 兆; with --exact
-         of each quantity, as 3.5万, -5, 12.5% and 三分之一, whose NUMBER is then exact, as 125/1000
-replace  writes words, or standard input, with their numerals in figures, 市值三点五亿元 as 市值3.5亿元;
-         with --about also those that are about so much, as in 三百多; with --one-character those of
-         one Chinese character, as in 一般; with --doubtful those that may mean something else, as
-         五一; with --expanded no great unit is kept, 三点五亿 becomes 350000000; with --canonical
-         figures lose commas and leading zeros, 1,280 becomes 1280
+find     writes LINE:CHARACTER TEXT NUMBER for each number in standard input, or err and the reason
+         if it is refused; --all also finds cheque characters and units above 兆; --exact finds
+         quantities, such as 3.5万, -5, 12.5% and 三分之一, with an exact NUMBER, such as 125/1000
+replace  writes the arguments, or standard input, with their numerals in figures, 市值三点五亿元 as
+         市值3.5亿元; --about includes approximate numbers, as in 三百多; --one-character those of one
+         Chinese character, as in 一般; --doubtful those that may mean something else, as 五一.
+         --expanded keeps no great unit: 三点五亿 becomes 350000000; --canonical removes commas and
+         leading zeros from figures: 1,280 becomes 1280
 
-A kind is u8, u16, u32, u64, u128, i8, i16, i32, i64, i128; a way is digits, low, ten_thousand,
-middle, high, any; a method is each of these but digits.
-Words behind -- are no options.
+A kind is u8, u16, u32, u64, u128, i8, i16, i32, i64 or i128; a way is digits, low, ten_thousand,
+middle, high or any; a method is any way except digits.
+Arguments after -- are not options.
 `;
 
-// Each command: the options that it has, and what runs.
+// Each command: its options, and the function that runs it.
 const COMMANDS = {
   amount: {
     options: {
@@ -115,30 +115,30 @@ const COMMANDS = {
   },
 };
 
-// Parts the words behind a command: its options, each with what it is set to, and the other words.
-// A hyphen in front of figures begins a word, and behind -- there are no options.
+// Splits the words after a command into its options, each with its value, and the other words.
+// A hyphen before figures begins an argument, and after -- there are no options.
 function parted(words, known) {
-  const options = {}, left = [...words], others = [];
-  while (left.length) {
-    const word = left.shift();
-    if (word === '--') return { options, others: [...others, ...left] };
-    if (/^-[^0-9.¥￥０-９]/.test(word)) Object.assign(options, optionOf(word, left, known));
+  const options = {}, rest = [...words], others = [];
+  while (rest.length) {
+    const word = rest.shift();
+    if (word === '--') return { options, others: [...others, ...rest] };
+    if (/^-[^0-9.¥￥０-９]/.test(word)) Object.assign(options, optionOf(word, rest, known));
     else others.push(word);
   }
   return { options, others };
 }
 
-// What a word sets, with the one behind it where it needs a value.
-function optionOf(word, left, known) {
+// The option that a word sets. If it needs a value, that may be the next word.
+function optionOf(word, rest, known) {
   const [, option, value] = /^([^=]*)(?:=(.*))?$/s.exec(word), name = option.slice(2);
   if (!option.startsWith('--') || !Object.hasOwn(known, name)) {
-    throw new Misuse(`there is no option ${option} here`);
+    throw new Misuse(`this command has no option ${option}`);
   }
   if (known[name] === FLAG) {
-    if (value !== undefined) throw new Misuse(`${option} takes no value`);
+    if (value !== undefined) throw new Misuse(`${option} does not take a value`);
     return { [name]: true };
   }
-  const chosen = value ?? left.shift() ?? '';
+  const chosen = value ?? rest.shift() ?? '';
   if (!known[name].has(chosen)) throw notOneOf(option, known[name].keys(), chosen);
   return { [name]: known[name].get(chosen) };
 }
@@ -146,9 +146,9 @@ function optionOf(word, left, known) {
 const isRefusal = (error) => error.code !== 'outOfMemory'
   && [NumeralError, AmountError, DateError].some((it) => error instanceof it);
 
-// Answers words, each on a line of its own, and gives the status.
+// Prints the result of each word on a line of its own, and returns the status.
 function answerEach(words, answerOf) {
-  if (words.length === 0) throw new Misuse('there is no word');
+  if (words.length === 0) throw new Misuse('an argument is expected');
   let status = 0;
   for (const word of words) {
     try {
@@ -163,17 +163,17 @@ function answerEach(words, answerOf) {
 }
 
 function refuseWords(words) {
-  if (words.length) throw new Misuse('standard input is answered, and no words');
+  if (words.length) throw new Misuse('standard input is read, so no argument is expected');
 }
 
 function wholeOf(word) {
   if (!/^-?[0-9]+$/.test(word)) {
-    throw notOneOf('a number', ['digits with or without - in front'], word);
+    throw notOneOf('a number', ['digits with an optional leading -'], word);
   }
   return BigInt(word);
 }
 
-// Whether a word is figures, and refused as such.
+// Whether a word is treated as figures, also if it is refused.
 const areFigures = (word) => /^[\0-\x7f¥￥０-９]/.test(word);
 const padded = (number, digits) => String(number).padStart(digits, '0');
 
@@ -182,7 +182,7 @@ function figuresOf(fen) {
   return `${fen < 0n ? '-' : ''}${magnitude / 100n}.${padded(magnitude % 100n, 2)}`;
 }
 
-// A cheque has no amount below zero.
+// A cheque has no negative amount.
 function unsignedFigures(word) {
   if (word.startsWith('-')) {
     throw new AmountError('incorrect', { charIndex: 0, start: 0, end: 1 });
@@ -190,7 +190,7 @@ function unsignedFigures(word) {
   return yuanToFenBigInt(word);
 }
 
-// How words are taken: whether they are figures, and what reads those and capitals.
+// How words are read: whether they are figures, and which calls read figures and capitals.
 const PLAIN = {
   areFigures, readFigures: unsignedFigures, readCapitals: chineseToAmountBigInt,
 };
@@ -208,18 +208,18 @@ function answerAmounts({ signed, typed, column, header, delimiter, ...form }, wo
   const answerOf = (word) => (how.areFigures(word)
     ? signedAmountToChinese(how.readFigures(word), form) : figuresOf(how.readCapitals(word)));
   if (column) refuseWords(words);
-  else if (words.length === 0) throw new Misuse('there is no word');
-  if (signed && typed) throw new Misuse('--signed and --typed exclude each other');
+  else if (words.length === 0) throw new Misuse('an argument is expected');
+  if (signed && typed) throw new Misuse('--signed and --typed cannot be used together');
   if (column) return answerTable(column, header ?? false, delimiter ?? ',', answerOf);
   if (header || delimiter) throw new Misuse('--header and --delimiter need --column');
   return answerEach(words, answerOf);
 }
 
-const FRONT_OF_DATE = /^(?:[0-9]{4}-[0-9]{2}-[0-9]{0,2}|[0-9]{4}-[0-9]{0,2}|[0-9]{0,4})/;
+const PREFIX_OF_DATE = /^(?:[0-9]{4}-[0-9]{2}-[0-9]{0,2}|[0-9]{4}-[0-9]{0,2}|[0-9]{0,4})/;
 
-// Refuses figures where only their front can begin a date, or where all of them only begin one.
+// Refuses figures if only a prefix of them begins a date, or if they are only the prefix of a date.
 function refuseOtherFigures(word) {
-  const [{ length }] = FRONT_OF_DATE.exec(word);
+  const [{ length }] = PREFIX_OF_DATE.exec(word);
   if (length < word.length) {
     throw new DateError('incorrect', { charIndex: length, start: length, end: length + 1 });
   }
@@ -236,7 +236,7 @@ function answerDate(word, options) {
   return dateToChinese({ year, month, day }, options);
 }
 
-// The lines of a stream in bytes: those that each piece of it ends.
+// The lines of a stream of bytes: yields, for each piece, the lines that end in it.
 async function* linesOf(stream) {
   let begun = [];
   for await (const piece of stream) {
@@ -254,7 +254,7 @@ async function* linesOf(stream) {
 }
 
 function input() {
-  // Of a folder node reads nothing, and says nothing.
+  // node reads nothing from a folder, without an error.
   if (fstatSync(0).isDirectory()) throw new Error('standard input is a folder');
   return process.stdin;
 }
@@ -265,7 +265,8 @@ async function write(answers) {
   }
 }
 
-// How many rows are done, where that takes more than a second and only refusals go to a terminal.
+// Shows how many rows are done, if that takes more than a second and only standard error is a
+// terminal.
 class Progress {
   #next = process.stderr.isTTY && !process.stdout.isTTY ? Date.now() + 1000 : Infinity;
   #shown = '';
@@ -283,22 +284,22 @@ class Progress {
   }
 }
 
-// Answers a column of the table in standard input, and gives the status.
+// Converts a column of the table in standard input, and returns the status.
 async function answerTable(column, isHeaded, delimiter, answerOf) {
   const table = new Table({ column, isHeaded, delimiter }, answerOf), progress = new Progress();
-  const tell = (told) => {
-    if (told) progress.wipe();
-    process.stderr.write(told);
+  const tell = (message) => {
+    if (message) progress.wipe();
+    process.stderr.write(message);
   };
   for await (const lines of linesOfTable(input())) {
     await write(table.answered(lines));
-    tell(table.told());
+    tell(table.messages());
     progress.show(table.rows);
   }
   await write(table.end());
   progress.wipe();
   const { rows, refused } = table;
-  tell(`${table.told()}${rows} rows: ${rows - refused} answered, ${refused} refused\n`);
+  tell(`${table.messages()}${rows} rows: ${rows - refused} converted, ${refused} refused\n`);
   return refused ? 1 : 0;
 }
 
@@ -311,7 +312,7 @@ function answerFound(found, answerOf) {
   }
 }
 
-// What is written of a line: of each that is found in it a line.
+// The output for a line: one line for each run that is found in it.
 function answersTo(bytes, line, find, answerOf) {
   if (!isUtf8(bytes)) return `${line}:1 bad line\n`;
   const text = bytes.toString();
@@ -332,8 +333,8 @@ function exactOf(quantity) {
 }
 
 function refuseMisfits({ exact, method, kind, way }) {
-  if (exact && kind) throw new Misuse('--exact and --kind exclude each other');
-  if (exact && way) throw new Misuse('--exact and --way exclude each other');
+  if (exact && kind) throw new Misuse('--exact and --kind cannot be used together');
+  if (exact && way) throw new Misuse('--exact and --way cannot be used together');
   if (method && !exact) throw new Misuse('--method needs --exact');
 }
 
@@ -353,13 +354,13 @@ async function findInInput({ all, ...options }, words) {
   return 0;
 }
 
-// Writes standard input anew, a line at a time. One that is no UTF-8 stays, and is told.
+// Rewrites standard input line by line. A line that is not UTF-8 stays, and is reported.
 async function replaceInInput(anew) {
   let count = 0, status = 0;
   const answerTo = (bytes) => {
     count++;
     if (isUtf8(bytes)) return Buffer.from(anew(bytes.toString()));
-    process.stderr.write(`${count}: the line is no UTF-8\n`);
+    process.stderr.write(`${count}: the line is not UTF-8\n`);
     status = 1;
     return bytes;
   };
@@ -367,7 +368,7 @@ async function replaceInInput(anew) {
   return status;
 }
 
-// Runs a command, and gives the status.
+// Runs a command, and returns the status.
 async function run(name, words) {
   if (!Object.hasOwn(COMMANDS, name)) throw notOneOf('the command', Object.keys(COMMANDS), name);
   const command = COMMANDS[name];
@@ -378,7 +379,7 @@ async function run(name, words) {
   return 0;
 }
 
-// A reader that wants no more is no fault to be told. What else cannot be written is one.
+// Reports a failure to write, unless the reader has closed the pipe.
 function endOf(error) {
   if (error.code !== 'EPIPE') process.stderr.write(`chinese-number: ${error.message}\n`);
   process.exit(1);
@@ -392,7 +393,7 @@ async function main([name = '', ...words]) {
     else process.exitCode = await run(name, words);
   } catch (error) {
     if (!(error instanceof Misuse)) endOf(error);
-    process.stderr.write(`chinese-number: ${error.message} (--help says more)\n`);
+    process.stderr.write(`chinese-number: ${error.message} (see --help)\n`);
     process.exitCode = 2;
   }
 }

@@ -1,19 +1,19 @@
-// Tables in CSV, a column of which is answered. Their texts are strings of bytes (latin1), so that
-// each byte is written as it was read. No row is held, but for its cell in that column.
+// CSV tables, of which one column is converted. Their texts are strings of bytes (latin1), so that
+// each byte is written as it was read. Only a row's cell in that column is kept in memory.
 
 import { isUtf8 } from 'node:buffer';
 
 import { AmountError } from './chinese-number.mjs';
 
-// A row that goes on behind so many bytes has a quote that is not closed.
+// A longer row, in bytes, has a quote that is not closed.
 const MOST_OF_ROW = 2 ** 17;
 
-// The lines of a stream, each with its end: those that each piece of the stream ends.
+// The lines of a stream, each with its line end: yields, for each piece, the lines that end in it.
 export async function* linesOfTable(stream) {
   let begun = '', held = '';
   for await (const piece of stream) {
     let text = held + piece.toString('latin1');
-    // Its line feed may stand in the next piece.
+    // Its line feed may be in the next piece.
     held = text.endsWith('\r') ? '\r' : '';
     if (held) text = text.slice(0, -1);
     const lines = text.split(/(?<=\n|\r(?!\n))/);
@@ -25,15 +25,15 @@ export async function* linesOfTable(stream) {
   if (begun + held) yield [begun + held];
 }
 
-// Reads a cell of each row, line by line. By RFC 4180 a cell may begin with a quote: then it ends
-// with the next one that is not doubled, and may have delimiters and line ends in it. Elsewhere a
-// quote is a character like others.
+// Reads one cell of each row, line by line. By RFC 4180 a cell may begin with a quote: then it ends
+// at the next quote that is not doubled, and may contain delimiters and line ends. Elsewhere a quote
+// is an ordinary character.
 class CellReader {
-  cell = null; // of the row; null where it has none
-  isBroken = false; // whether the row is no CSV, as it is until a quote is closed
+  cell = null; // of the row; null if it has none
+  isBroken = false; // whether the row is not CSV, which is so until a quote is closed
   isUtf8 = true; // whether the row is UTF-8
   isEnd = true; // whether the row ends with the line
-  width = 1; // how many cells are begun
+  width = 1; // how many cells have begun
   #column;
   #delimiter;
   #size = 0;
@@ -43,7 +43,7 @@ class CellReader {
     this.#delimiter = delimiter;
   }
 
-  // Reads a line, whose end is told beside it.
+  // Reads a line, whose line end is a separate argument.
   read(line, end) {
     if (this.isEnd) {
       Object.assign(this, { cell: null, isBroken: false, isUtf8: true, width: 1 });
@@ -63,7 +63,7 @@ class CellReader {
     if (this.width === this.#column) this.cell = (this.cell ?? '') + text;
   }
 
-  // These give where the next cell begins: past the line's length where the line has none.
+  // These return where the next cell begins, or past the line's length if the line has no more.
 
   #readBare(line, at) {
     const found = line.indexOf(this.#delimiter, at), end = found < 0 ? line.length : found;
@@ -93,20 +93,20 @@ class CellReader {
   }
 }
 
-// The answers to a column of a table.
+// Converts a column of a table.
 export class Table {
   rows = 0;
   refused = 0;
-  #told = '';
+  #messages = '';
   #line = 0;
   #first = 1; // the line where the row begins
-  #end = ''; // of the line in front, where the row goes on
+  #end = ''; // the previous line's end, if the row continues
   #isHeaded;
   #delimiter;
   #reader;
   #answerOf;
   #column;
-  #width = 0; // of the first row that is read
+  #width = 0; // how many cells the first row has that is read
 
   constructor({ column, isHeaded, delimiter }, answerOf) {
     this.#isHeaded = isHeaded;
@@ -116,27 +116,27 @@ export class Table {
     this.#column = column;
   }
 
-  // What is written of lines: each row with one more cell behind. Blank lines are no rows.
+  // The output for lines: each row with one more cell at its end. Blank lines are not rows.
   answered(lines) {
     return Buffer.from(lines.map((it) => this.#answeredLine(it)).join(''), 'latin1');
   }
 
-  // What is written behind the last line, of a row whose quote is not closed.
+  // The output after the last line, for a row whose quote is not closed.
   end() {
     return this.#reader.isEnd ? '' : this.#nextCell() + this.#end;
   }
 
-  // What is to be told of the rows since the last call.
-  told() {
-    const told = this.#told;
-    this.#told = '';
-    return told;
+  // The messages about the rows since the last call.
+  messages() {
+    const messages = this.#messages;
+    this.#messages = '';
+    return messages;
   }
 
   #answeredLine(line) {
     const body = line.replace(/[\r\n]+$/, ''), end = line.slice(body.length), before = this.#end;
     this.#line++;
-    // The mark of UTF-8 in front of a table is in no cell.
+    // The mark of UTF-8 at the start of a table is not part of a cell.
     const text = this.#line === 1 ? body.replace(/^ï»¿/, '') : body;
     if (this.#reader.isEnd && text === '') {
       this.#first = this.#line + 1;
@@ -148,7 +148,7 @@ export class Table {
     return before + body + (isEnd ? this.#nextCell() + end : '');
   }
 
-  // The cell behind a row, with the delimiter in front of it.
+  // The cell at the end of a row, with the delimiter before it.
   #nextCell() {
     const answer = Buffer.from(this.#answer() ?? '').toString('latin1');
     const isQuoted = answer.includes(this.#delimiter);
@@ -164,7 +164,7 @@ export class Table {
     if (isHeader && isRead) return undefined;
     this.rows++;
     if (isBroken) return this.#refuse('the row is not CSV');
-    if (!isRead) return this.#refuse('the row is no UTF-8');
+    if (!isRead) return this.#refuse('the row is not UTF-8');
     if (width !== this.#width) {
       return this.#refuse(`the row has ${width} cells, and the first has ${this.#width}`);
     }
@@ -179,7 +179,7 @@ export class Table {
 
   #refuse(reason) {
     this.refused++;
-    this.#told += `${this.#first}: ${reason}\n`;
+    this.#messages += `${this.#first}: ${reason}\n`;
     return undefined;
   }
 }

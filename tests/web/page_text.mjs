@@ -97,7 +97,7 @@ async function showsLongTexts(page) {
   const listed = () =>
     page.value(`Array.from(found.querySelectorAll('mark span'), (it) => it.textContent)`);
   assert.deepEqual(await listed(), ['七千']);
-  assert.match(await page.value('textSaid.textContent'), /^A long text: .* Quantities: 1$/);
+  assert.match(await page.value('textSaid.textContent'), /^Long text: .* Quantities: 1$/);
   // What the search saw in part is not listed: 十 of 五十.
   for (const [at, ...found] of [[0, '三百'], [5000, '五十'], [5203]]) {
     await page.value(`text.setSelectionRange(${at}, ${at});

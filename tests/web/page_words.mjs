@@ -95,7 +95,7 @@ async function answers(page) {
 const WRONG = [
   (place, it) => `第 ${place} 个字“${it}”不能写在这里。`,
   (place, it) => `第 ${place} 個字「${it}」不能寫在這裡。`,
-  (place, it) => `Character ${place}, “${it}”, cannot stand here. `,
+  (place, it) => `Character ${place}, “${it}”, is not allowed here. `,
 ];
 
 // What is refused at a character, which is marked, and why; Enter selects it.
@@ -179,7 +179,7 @@ async function goesByChoices(page) {
     ['i16', 'any', 'numeral', '負一百二十九', ['-129'], ''],
     ['u64', 'any', 'numeral', '一二〇', ['120'], ''],
     ['u64', 'any', 'number', '-1', [], 'u64 does not hold this number.'],
-    ['u64', 'any', 'number', '1.5', [], 'With this choice only whole numbers are written.'],
+    ['u64', 'any', 'number', '1.5', [], 'This choice writes only whole numbers.'],
     ['', 'low', 'number', '10000000000000000', [], 'The number is too large.'],
     ['', 'low', 'numeral', '一兆', ['1000000'], ''],
     ['', 'high', 'numeral', '一兆', ['10000000000000000'], ''],

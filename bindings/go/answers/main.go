@@ -1,4 +1,4 @@
-// Command answers answers the questions of test.py, which says what they are, a line each.
+// Command answers answers the questions of test.py, one per line; test.py describes them.
 package main
 
 import (
@@ -31,7 +31,7 @@ var forms = []string{"whole", "decimal", "percent", "fraction"}
 // The names of doubts, in the order of the doubts.
 var doubts = []string{"none", "word", "digits", "term", "part", "time", "range"}
 
-// told is what is said of the answer of a call.
+// told describes the result of a call.
 func told[T any](answer T, err error) string {
 	if err != nil {
 		return "err " + err.Error()
@@ -59,7 +59,7 @@ func read[T cn.Integer](words []string) string {
 	return told(cn.ToNumber[T](words[1], ways[words[0]]))
 }
 
-// The readers of each type, which are given a way and a text.
+// The readers of each type, which take a way and a text.
 var readers = map[string]func([]string) string{
 	"u8": read[uint8], "u16": read[uint16], "u32": read[uint32], "u64": read[uint64],
 	"i8": read[int8], "i16": read[int16], "i32": read[int32], "i64": read[int64],
@@ -67,7 +67,7 @@ var readers = map[string]func([]string) string{
 	"i128": func(words []string) string { return told(cn.ToBigInt(words[1], ways[words[0]])) },
 }
 
-// style is that of a way, a script and a case.
+// style returns the style with a way, a script and a case.
 func style(words []string) *cn.Style {
 	return &cn.Style{Way: ways[words[0]], Script: scripts[words[1]], Case: cases[words[2]]}
 }
@@ -85,14 +85,14 @@ func writeBig(words []string) string {
 	return told(cn.BigIntToChinese(bigNumber(words[3]), style(words)))
 }
 
-// The writers of each type, which are given a way, a script, a case and a number.
+// The writers of each type, which take a way, a script, a case and a number.
 var writers = map[string]func([]string) string{
 	"u8": write[uint8], "u16": write[uint16], "u32": write[uint32], "u64": write[uint64],
 	"i8": write[int8], "i16": write[int16], "i32": write[int32], "i64": write[int64],
 	"u128": writeBig, "i128": writeBig,
 }
 
-// has says whether a word is among others with + between them.
+// has says whether a word is among others that + separates.
 func has(words, word string) bool {
 	return strings.Contains("+"+words+"+", "+"+word+"+")
 }
@@ -118,7 +118,7 @@ func shown(it cn.Quantity) string {
 	return fmt.Sprintf("%v/%v %v", it.Numerator(), it.Denominator(), forms[it.Form()])
 }
 
-// shownQuantity is the answer of a call, with the quantity in words.
+// shownQuantity describes the result of a call, with the quantity in words.
 func shownQuantity(it cn.Quantity, err error) string {
 	if err != nil {
 		return told("", err)
@@ -126,7 +126,7 @@ func shownQuantity(it cn.Quantity, err error) string {
 	return told(shown(it), nil)
 }
 
-// quantity is that of words such as 350000/10 decimal.
+// quantity returns the quantity of words such as 350000/10 decimal.
 func quantity(words string) cn.Quantity {
 	numbers, name, _ := strings.Cut(words, " ")
 	numerator, denominator, _ := strings.Cut(numbers, "/")
@@ -179,7 +179,7 @@ func flags(found cn.Found) string {
 	return strings.Join(told, " ")
 }
 
-// inPlace is the text with what is shown of each that was found, in brackets, in its place.
+// inPlace returns the text with each run replaced by its description, in brackets.
 func inPlace(text string, all []cn.Found, err error, show func(cn.Found) string) string {
 	var done strings.Builder
 	at := 0
@@ -212,7 +212,7 @@ func findQuantities(text string, show func(cn.Found) string) string {
 	return inPlace(text, all, err, show)
 }
 
-// The answers to each question, by its name; each is given the other words.
+// The functions that answer each question, by its name; each takes the other words.
 var answers = map[string]func([]string) string{
 	"read":  func(words []string) string { return readers[words[0]](words[1:]) },
 	"print": func(words []string) string { return writers[words[0]](words[1:]) },

@@ -1,5 +1,5 @@
-"""Chinese numerals for whole numbers and exact quantities: texts as numbers, numbers as texts, and
-texts with their quantities written anew, by a proved library.
+"""Reads, writes, finds and replaces Chinese numerals for whole numbers and exact quantities, with a
+proved library.
 
 >>> from datetime import date
 >>> from chinese_number import amount_to_chinese, chinese_to_amount, date_to_chinese, find_numbers
@@ -50,11 +50,12 @@ Decimal('0.125')
 A kind, way, script, case, unit, form or doubt is a member of its enum, or the str that the member
 equals.
 
-The shared library libchinese_number.so, on macOS .dylib and on Windows .dll, stands beside this
-file, as pip puts it, or in the folder that CHINESE_NUMBER_LIB names, as bindings/archive.sh makes
-it, which comes first. It takes no memory, keeps nothing between calls and reads no locale, and a
-call lets other threads of Python run. Where it is made of C source, a text of more than
-4,293,918,720 bytes is an OverflowError, and so is one that has as many with its new text.
+The module loads the shared library libchinese_number.so (.dylib on macOS, .dll on Windows) from the
+folder that CHINESE_NUMBER_LIB names, as bindings/archive.sh makes it, or else from beside this file,
+where pip puts it. The library allocates no memory, keeps no state between calls and reads no locale,
+and a call lets other Python threads run. If the library was built from C source, a text of more than
+4,293,918,720 bytes raises an OverflowError, and so does a text that has as many together with its
+new text.
 """
 
 from __future__ import annotations
@@ -107,12 +108,12 @@ __all__ = [
 __version__ = "0.1.0"
 _library.load(__version__)
 
-# The members of each enum are in the order of the library's codes for them, from 0 on, and those of
-# Doubt from 1 on.
+# The members of each enum are in the order of their codes in the library. The codes begin with 0,
+# those of Doubt with 1.
 
 
 class Kind(str, Enum):
-    """The integer type that a number has to fit."""
+    """The integer type that a number must fit."""
 
     U8 = "u8"
     U16 = "u16"
@@ -130,13 +131,13 @@ class Way(str, Enum):
     """How a number is written: as plain digits (一二三), or with units (一百二十三) by four methods.
 
     LOW: each unit is ten times the one before.
-    TEN_THOUSAND: after 萬 each unit is 10**4 times the one before. At 10**12 it writes 兆, as in
-    Taiwan, where MIDDLE and HIGH write 萬億, as on the mainland.
+    TEN_THOUSAND: after 萬 each unit is 10**4 times the one before. It writes 10**12 as 兆, as in
+    Taiwan; MIDDLE and HIGH write it as 萬億, as on the mainland.
     MIDDLE: after 億 each unit is 10**8 times the one before.
     HIGH: from 億 on each unit is the square of the one before.
-    ANY, the one to use, reads as DIGITS where all of the text is digits, else as TEN_THOUSAND. It
-    writes what it reads back: in the simplified script below 10**16 as MIDDLE, so that 10**12 is
-    一万亿, and else as TEN_THOUSAND.
+    ANY is the one to use. It reads a text as DIGITS if all of it is digits, otherwise as
+    TEN_THOUSAND. It can read back what it writes: in simplified script below 10**16 it writes as
+    MIDDLE, so that 10**12 is 一万亿, and otherwise as TEN_THOUSAND.
     """
 
     DIGITS = "digits"
@@ -162,7 +163,7 @@ class Case(str, Enum):
 
 
 class Unit(str, Enum):
-    """個, 十, 百, 千, 萬, 億, 兆, 京, 垓, 秭, 穰, 溝, 澗, 正, 載 and 極, from the least on."""
+    """個, 十, 百, 千, 萬, 億, 兆, 京, 垓, 秭, 穰, 溝, 澗, 正, 載 and 極, from the smallest up."""
 
     GE = "ge"
     SHI = "shi"
@@ -192,10 +193,10 @@ class QuantityForm(str, Enum):
 
 
 class Doubt(str, Enum):
-    """Why a reader may mean by an expression something else than its quantity.
+    """Why a reader may understand an expression as something other than its quantity.
 
     WORD: it is part of a word: 十二 of 十二指肠, 十一 of 双十一.
-    DIGITS: it is two or three Chinese digits, or more that rise: 五一, 一二三四.
+    DIGITS: it is two or three Chinese digits, or more in rising order: 五一, 一二三四.
     TERM: it is part of a term: 负二 of 负二项, 十六 of 十六进制.
     PART: it is part of an expression with 折, 成 or 半: 八五 of 八五折, 一 of 一个半.
     TIME: it may be a time: 三点五 of 下午三点五, 十点零五.
@@ -211,9 +212,9 @@ class Doubt(str, Enum):
 
 
 class Status(Enum):
-    """What a call answers. A NumeralError has one of those from EMPTY to TOO_SMALL, NOT_HELD or
-    NOT_A_QUANTITY; an AmountError has INCORRECT, UNFINISHED, TOO_LARGE or TOO_SMALL, and a
-    DateError INCORRECT, UNFINISHED or NOT_A_DATE.
+    """The result of a call. A NumeralError has a status from EMPTY to TOO_SMALL, NOT_HELD or
+    NOT_A_QUANTITY; an AmountError has INCORRECT, UNFINISHED, TOO_LARGE or TOO_SMALL; a DateError has
+    INCORRECT, UNFINISHED or NOT_A_DATE.
     """
 
     DONE = 0
@@ -245,11 +246,11 @@ class _Refusal(ValueError):
 
 
 class NumeralError(_Refusal):
-    """Why a text is no number of a type or no quantity, or a number or quantity is not written.
+    """A text is not a number of a type or not a quantity, or a number or quantity cannot be written.
 
-    status says why, and kind as which type, which of a quantity is that of its numerator, I128;
-    char_index, where a character cannot stand in its place, how many characters of the text stand
-    in front of it, white space among them, and else None.
+    status is the reason. kind is the integer type; for a quantity it is that of the numerator, I128.
+    char_index is None unless status is INCORRECT: then it counts the characters, white space
+    included, before the wrong one.
 
     >>> try:
     ...     to_number(' 二 十 十 ')
@@ -278,10 +279,10 @@ class NumeralError(_Refusal):
 
 
 class AmountError(_Refusal):
-    """Why a text is no amount of money, or an amount is not written.
+    """A text is not an amount of money, or an amount cannot be written.
 
-    status says why: UNFINISHED where something is missing at the end, INCORRECT where no amount
-    begins so; char_index is then the place of the first character that is wrong, and else None.
+    status is the reason: UNFINISHED if something is missing at the end, INCORRECT if no amount begins
+    like this. For INCORRECT, char_index is the place of the first wrong character; otherwise None.
 
     >>> try:
     ...     chinese_to_amount('壹佰贰元整')
@@ -299,11 +300,12 @@ class AmountError(_Refusal):
 
 
 class DateError(_Refusal):
-    """Why a text is no date.
+    """A text is not a date, or a date cannot be written.
 
-    status says why: UNFINISHED where something is missing at the end, INCORRECT where no date
-    begins so; char_index is then the place of the first character that is wrong, and else None. A
-    subclass of datetime.date that says of itself what is no date, as the year 0, is NOT_A_DATE.
+    status is the reason: UNFINISHED if something is missing at the end, INCORRECT if no date begins
+    like this, and NOT_A_DATE for an instance of a subclass of datetime.date whose fields are not a
+    date, such as year 0. For INCORRECT, char_index is the place of the first wrong character;
+    otherwise None.
 
     >>> try:
     ...     chinese_to_date('贰零贰伍年零贰月贰拾玖日')
@@ -335,13 +337,13 @@ _FORMS, _FORM_OF = _codes(QuantityForm), tuple(QuantityForm)
 _DOUBT_OF = (None, *Doubt)
 _DOUBTS = {it: code + 1 for it, code in _codes(Doubt).items()}
 _METHODS = {way: code for way, code in _WAYS.items() if way is not Way.DIGITS}
-# What each word adds to the form in which an amount is written, and the currency in front.
+# What each word, and the prefix 人民币, adds to the code of an amount's form.
 _CURRENCY = 1
 _YUAN = {"元": 0, "圆": 2}
 _CLOSINGS = {"整": 0, "正": 4}
 _FIRST_NOT_WRITTEN = 10**18
-_TOO_MANY_PLACES = 16  # in front of the point: 10**16 yuan are 10**18 fen
-_MOST_PLACES = 38  # that a decimal has in 128 bits
+_TOO_MANY_PLACES = 16  # before the point: 10**16 yuan are 10**18 fen
+_MOST_PLACES = 38  # decimals that fit in 128 bits
 _FIRST_SIGNED = _KINDS["i8"]
 _TOO_LONG = 2**32 - 1
 _MOST_SHOWN = 100
@@ -350,7 +352,7 @@ _MOST_SHOWN = 100
 def _shown(value: object) -> str:
     """The beginning of a value's repr, for a message.
 
-    Where it has none, as an int of 5,000 digits, its type is told.
+    If repr fails, as for an int of 5,000 digits, this shows the type.
     """
     try:
         text = repr(value[:_MOST_SHOWN] if isinstance(value, str) else value)
@@ -360,39 +362,39 @@ def _shown(value: object) -> str:
 
 
 def _code(codes: Dict[str, int], word: str, what: str) -> int:
-    """The code of a word, which a member of an enum is too."""
+    """The code of a word. Members of the enums are words too."""
     try:
         return codes[word]
-    except (KeyError, TypeError):  # a TypeError of what has no hash
+    except (KeyError, TypeError):  # TypeError: the value has no hash
         error = ValueError if isinstance(word, str) else TypeError
-    raise error(f"{what} has to be one of {', '.join(codes)}, and not {_shown(word)}")
+    raise error(f"{what} must be one of {', '.join(codes)}, not {_shown(word)}")
 
 
 def _flag(value: bool) -> bool:
     if not isinstance(value, bool):
-        raise TypeError(f"a bool is wanted, and not {_shown(value)}")
+        raise TypeError(f"expected a bool, not {_shown(value)}")
     return value
 
 
 def _whole(value: SupportsIndex, what: str) -> int:
-    """A whole number of any type that is one, but no bool."""
+    """A whole number of any integer type except bool."""
     if not isinstance(value, bool):
         try:
             return operator.index(value)
         except TypeError:
             pass
-    raise TypeError(f"{what} is wanted, and not {_shown(value)}")
+    raise TypeError(f"expected {what}, not {_shown(value)}")
 
 
 def _refuse_not_held(number: int, kind: Union[Kind, str]) -> None:
-    """Refuses what 128 bits do not hold, with a sign where the kind has one."""
+    """Refuses a number that does not fit in 128 bits, signed if the kind is."""
     least = -(1 << 127) if _KINDS[kind] >= _FIRST_SIGNED else 0
     if not least <= number < least + (1 << 128):
         raise NumeralError(Status.NOT_HELD, Kind(kind))
 
 
 def _of_halves(low: int, high: int, kind: Union[Kind, str]) -> int:
-    """The number of a kind whose low and high 64 bits these are."""
+    """The number of a kind with these low and high 64 bits."""
     if high >> 63 and _KINDS[kind] >= _FIRST_SIGNED:
         high -= 1 << 64
     return high << 64 | low
@@ -400,7 +402,7 @@ def _of_halves(low: int, high: int, kind: Union[Kind, str]) -> int:
 
 def _text(value: str) -> str:
     if not isinstance(value, str):
-        raise TypeError(f"a str is wanted, and not {_shown(value)}")
+        raise TypeError(f"expected a str, not {_shown(value)}")
     return value
 
 
@@ -418,7 +420,7 @@ def _place(status: Status, char_index: int) -> Optional[int]:
 def to_number(
     text: str, *, kind: Union[Kind, str] = Kind.I128, way: Union[Way, str] = Way.ANY
 ) -> int:
-    """The number of a text; a NumeralError says why it is none of the type.
+    """Reads a text as a number. Raises NumeralError if the text is not a number of this kind.
 
     >>> to_number('一百二'), to_number('一二〇')
     (120, 120)
@@ -447,8 +449,8 @@ def to_chinese(
     script: Union[Script, str] = Script.SIMPLIFIED,
     case: Union[Case, str] = Case.LOWER,
 ) -> str:
-    """The text of a number; a NumeralError says why there is none: the type does not hold it, or it
-    has 17 digits or more and the way is LOW.
+    """Writes a number as text. Raises NumeralError if the kind does not hold the number, or if it has
+    17 digits or more and the way is LOW.
 
     >>> to_chinese(123, script='traditional', case=Case.UPPER)
     '壹佰貳拾參'
@@ -477,12 +479,11 @@ def _amount_text(
     least: int,
     choices: Tuple[Union[Script, str], bool, str, str],
 ) -> str:
-    """The text of an amount from the least one on, in a script, with the currency or without, with
-    a word for yuan and a closing."""
+    """The text of an amount that is at least `least`. The choices are the script, whether the currency
+    is written, the word for yuan, and the closing."""
     script, currency, yuan, closing = choices
-    whole, script_code = _whole(
-        fen, "a whole number of fen, which yuan_to_fen makes of yuan,"
-    ), _code(_SCRIPTS, script, "script")
+    whole = _whole(fen, "a whole number of fen (yuan_to_fen converts yuan)")
+    script_code = _code(_SCRIPTS, script, "script")
     form = _code(_YUAN, yuan, "yuan") + _code(_CLOSINGS, closing, "closing")
     form += _CURRENCY if _flag(currency) else 0
     if not least <= whole < _FIRST_NOT_WRITTEN:
@@ -501,16 +502,16 @@ def amount_to_chinese(
     yuan: str = "元",
     closing: str = "整",
 ) -> str:
-    """The text of an amount of money, in capitals as on a cheque. The amount is a whole number, of
-    fen; an AmountError says why there is no text: it is below zero, or 10**18 or more.
+    """Writes an amount of money in capitals, as on a cheque. The amount is a whole number of fen.
+    Raises AmountError if the amount is below zero, or 10**18 or more.
 
     >>> amount_to_chinese(10700053, script='traditional')
     '壹拾萬零柒仟元伍角參分'
     >>> amount_to_chinese(15.0)
     Traceback (most recent call last):
-    TypeError: a whole number of fen, which yuan_to_fen makes of yuan, is wanted, and not 15.0
+    TypeError: expected a whole number of fen (yuan_to_fen converts yuan), not 15.0
 
-    The currency is 人民币, in front; yuan is '元' or '圆', and closing '整' or '正'.
+    The currency is the prefix 人民币; yuan is '元' or '圆', and closing is '整' or '正'.
 
     >>> amount_to_chinese(1500, currency=True, yuan='圆', closing='正')
     '人民币壹拾伍圆正'
@@ -527,8 +528,8 @@ def signed_amount_to_chinese(
     yuan: str = "元",
     closing: str = "整",
 ) -> str:
-    """The same of an amount that may be below zero, as on a red invoice: 负 is then in front. An
-    AmountError says why there is no text: it is -(10**18) or less, or 10**18 or more.
+    """Writes an amount like amount_to_chinese, and a negative one, as on a red invoice, with the
+    prefix 负. Raises AmountError if the amount is -(10**18) or less, or 10**18 or more.
 
     >>> signed_amount_to_chinese(-1500), signed_amount_to_chinese(-1500, script='traditional')
     ('负壹拾伍元整', '負壹拾伍元整')
@@ -540,7 +541,7 @@ def signed_amount_to_chinese(
 
 
 def _fen(answer: Tuple[int, int, int]) -> int:
-    """The fen that a call of the library has read."""
+    """The fen that a call of the library read."""
     code, fen, char_index = answer
     if code:
         status = _status(code)
@@ -549,7 +550,7 @@ def _fen(answer: Tuple[int, int, int]) -> int:
 
 
 def chinese_to_amount(text: str) -> int:
-    """The amount of a text in capitals, in fen; an AmountError says why it is none.
+    """Reads a text in capitals as an amount in fen. Raises AmountError if the text is not an amount.
 
     >>> chinese_to_amount('人民币壹拾伍圆正')
     1500
@@ -563,7 +564,7 @@ def chinese_to_amount(text: str) -> int:
 
 
 def chinese_to_signed_amount(text: str) -> int:
-    """The same of an amount that may be below zero: 负 or 負 is then in front.
+    """Reads an amount like chinese_to_amount, also a negative one with the prefix 负 or 負.
 
     >>> chinese_to_signed_amount('负壹拾伍元整'), chinese_to_signed_amount('壹拾伍元整')
     (-1500, 1500)
@@ -572,8 +573,8 @@ def chinese_to_signed_amount(text: str) -> int:
 
 
 def chinese_to_amount_as_typed(text: str) -> int:
-    """The same as chinese_to_amount of an amount as it is typed: white space is left out, and so is
-    one ⊗ in front, as an invoice has it, and then one colon directly behind 人民币.
+    """Reads an amount as it is typed, like chinese_to_amount, but ignores white space, then one ⊗ at
+    the start, as on an invoice, and then one colon directly after a leading 人民币.
 
     >>> chinese_to_amount_as_typed('⊗ 人民币：壹拾 伍元整')
     1500
@@ -582,10 +583,10 @@ def chinese_to_amount_as_typed(text: str) -> int:
 
 
 def _figures_of(value: Decimal) -> str:
-    """Its figures. Of one that is far from 1, as Decimal('1E+999999999999'), they are others with
-    the same answer, since its own fill the memory."""
+    """The figures of a Decimal. For a value far from 1, such as Decimal('1E+999999999999'), its own
+    figures would fill the memory, so these are others with the same result."""
     sign, digits, exponent = value.as_tuple()
-    if isinstance(exponent, int):  # else it is no number or infinite
+    if isinstance(exponent, int):  # otherwise it is NaN or infinite
         if not any(digits):
             return "0"
         if value.adjusted() < -2:
@@ -595,8 +596,8 @@ def _figures_of(value: Decimal) -> str:
 
 
 def yuan_to_fen(value: Union[Decimal, str, SupportsIndex]) -> int:
-    """The fen of an amount in yuan, exactly: of figures in a str, a Decimal or a whole number. Where
-    they are no amount in fen an AmountError says why, so nothing is rounded.
+    """Converts yuan to fen exactly, from figures in a str, a Decimal or a whole number. Raises
+    AmountError if the value is not a whole number of fen; it never rounds.
 
     >>> yuan_to_fen('1409.5'), yuan_to_fen('¥1,409.50'), yuan_to_fen('-15'), yuan_to_fen(15)
     (140950, 140950, -1500, 1500)
@@ -607,39 +608,39 @@ def yuan_to_fen(value: Union[Decimal, str, SupportsIndex]) -> int:
     chinese_number.AmountError: the amount is incorrect (position: 5)
     >>> yuan_to_fen(15.5)
     Traceback (most recent call last):
-    TypeError: a float holds no exact amount: give a str or a Decimal, and not 15.5
+    TypeError: a float is not an exact amount: expected a str or a Decimal, not 15.5
 
-    In front of the figures there may be - or −, and then ¥. The yuan are digits, or one to three of
-    them and then groups of a comma and three digits; of the digits behind the point those from the
-    third on are 0. All but the minus may be full-width. A Decimal is read as format(value, 'f') is.
+    The figures may have the prefix - or −, and then ¥. The yuan are digits, or one to three digits
+    followed by groups of a comma and three digits. After the point, digits from the third on must
+    be 0. All characters except the minus may be full-width. A Decimal is read as format(value, 'f').
     """
     if isinstance(value, float):
         raise TypeError(
-            f"a float holds no exact amount: give a str or a Decimal, and not {_shown(value)}"
+            f"a float is not an exact amount: expected a str or a Decimal, not {_shown(value)}"
         )
     if isinstance(value, Decimal):
         return _fen(_library.read_figures(_figures_of(value)))
     if isinstance(value, str):
         return _fen(_library.read_figures(value))
-    whole = _whole(value, "a str, a Decimal or a whole number, in yuan,")
-    if not abs(whole) < _FIRST_NOT_WRITTEN:  # whose figures Python may refuse to make
+    whole = _whole(value, "a str, a Decimal or a whole number of yuan")
+    if not abs(whole) < _FIRST_NOT_WRITTEN:  # Python may refuse to make its figures
         raise AmountError(Status.TOO_LARGE)
     return _fen(_library.read_figures(str(whole)))
 
 
 def date_to_chinese(day: date, *, script: Union[Script, str] = Script.SIMPLIFIED) -> str:
-    """The text of a date, in capitals as on a cheque. Each datetime.date has one.
+    """Writes a date in capitals, as on a cheque. Every datetime.date has a text.
 
     >>> date_to_chinese(date(2026, 10, 20))
     '贰零贰陆年零壹拾月零贰拾日'
     >>> date_to_chinese(datetime(2026, 10, 20, 23, 30))
     Traceback (most recent call last):
-    TypeError: a date is wanted, and not datetime.datetime(2026, 10, 20, 23, 30)
+    TypeError: expected a date, not datetime.datetime(2026, 10, 20, 23, 30)
 
-    A datetime is refused, since which day it is depends on where one asks.
+    A datetime is refused, since its day depends on the time zone.
     """
     if not isinstance(day, date) or isinstance(day, datetime):
-        raise TypeError(f"a date is wanted, and not {_shown(day)}")
+        raise TypeError(f"expected a date, not {_shown(day)}")
     code = _code(_SCRIPTS, script, "script")
     status, text = _library.print_date(day.year, day.month, day.day, code)
     if status:
@@ -648,7 +649,7 @@ def date_to_chinese(day: date, *, script: Union[Script, str] = Script.SIMPLIFIED
 
 
 def chinese_to_date(text: str) -> date:
-    """The date of a text in capitals; a DateError says why it is none.
+    """Reads a text in capitals as a date. Raises DateError if the text is not a date.
 
     >>> chinese_to_date('贰零贰陆年零叁月零壹日')
     datetime.date(2026, 3, 1)
@@ -666,11 +667,11 @@ def chinese_to_date(text: str) -> date:
 
 
 def _over_power(value: Decimal) -> Tuple[int, int, QuantityForm]:
-    """The numerator, the denominator and the form of a Decimal. Of one of many digits, or far from
-    1 as Decimal('1E+999999999999'), they are others that 128 bits do not hold either."""
+    """The numerator, the denominator and the form of a Decimal. For one with many digits, or far from
+    1 such as Decimal('1E+999999999999'), these are others that do not fit in 128 bits either."""
     sign, digits, exponent = value.as_tuple()
     if not isinstance(exponent, int):
-        raise ValueError(f"a finite number is wanted, and not {_shown(value)}")
+        raise ValueError(f"expected a finite number, not {_shown(value)}")
     places = max(-_MOST_PLACES - 1, min(-exponent, _MOST_PLACES + 1))
     numerator = int(Decimal((sign, digits[: _MOST_PLACES + 2], 0))) * 10 ** max(-places, 0)
     form = QuantityForm.DECIMAL if places > 0 else QuantityForm.WHOLE
@@ -678,7 +679,7 @@ def _over_power(value: Decimal) -> Tuple[int, int, QuantityForm]:
 
 
 def _places_of(denominator: int) -> Optional[int]:
-    """How many decimals a number over it has, or None where they have no end."""
+    """How many decimals a number over this denominator has, or None if they are infinite."""
     return next((places for places in range(128) if 10**places % denominator == 0), None)
 
 
@@ -691,8 +692,9 @@ class Quantity:
     >>> Quantity(1, 3, 'fraction').to_chinese()
     '三分之一'
 
-    Two are equal where all three are: 3.10 and 3.1 are two, of one to_fraction(). A numerator that
-    i128 does not hold, and a denominator that is 0 or that u128 does not hold, is a NumeralError.
+    Two quantities are equal if all three are: 3.10 and 3.1 differ, but their to_fraction() is equal.
+    Raises NumeralError if the numerator does not fit i128, the denominator does not fit u128, or the
+    denominator is 0.
     """
 
     numerator: int
@@ -716,15 +718,15 @@ class Quantity:
 
     @classmethod
     def of(cls, value: Union[Decimal, Fraction, SupportsIndex]) -> Quantity:
-        """The quantity of a whole number, a Decimal or a Fraction, exactly, with its decimals.
+        """Makes a quantity from a whole number, a Decimal or a Fraction, exactly, with its decimals.
 
         >>> Quantity.of(Decimal('3.10')).to_chinese(), Quantity.of(Fraction(-1, 3)).to_chinese()
         ('三点一零', '负三分之一')
         >>> Quantity.of(0.5)
         Traceback (most recent call last):
-        TypeError: a whole number, a Decimal or a Fraction is wanted, and not 0.5
+        TypeError: expected a whole number, a Decimal or a Fraction, not 0.5
 
-        A NumeralError says that 128 bits do not hold it. NaN and the infinite are a ValueError.
+        Raises NumeralError if the value does not fit in 128 bits, ValueError for NaN and infinities.
         """
         if isinstance(value, Decimal):
             return cls(*_over_power(value))
@@ -735,7 +737,7 @@ class Quantity:
 
     @classmethod
     def of_percent(cls, value: Union[Decimal, SupportsIndex]) -> Quantity:
-        """So many percent: of a whole number or a Decimal, as of() takes them.
+        """Makes a percentage from a whole number or a Decimal, like of().
 
         >>> Quantity.of_percent(Decimal('12.5')).to_chinese(), Quantity.of_percent(5).to_figures()
         ('百分之十二点五', '5%')
@@ -746,7 +748,7 @@ class Quantity:
         return cls(it.numerator, 100 * it.denominator, QuantityForm.PERCENT)
 
     def to_whole(self) -> Optional[int]:
-        """The whole number that it is, or None where it is none.
+        """The value as an int, or None if it is not a whole number.
 
         >>> to_quantity('3.5万').to_whole(), to_quantity('3.5').to_whole()
         (35000, None)
@@ -755,7 +757,7 @@ class Quantity:
         return None if rest else whole
 
     def to_fraction(self) -> Fraction:
-        """Its value.
+        """The exact value.
 
         >>> to_quantity('百分之五十').to_fraction()
         Fraction(1, 2)
@@ -763,27 +765,27 @@ class Quantity:
         return Fraction(self.numerator, self.denominator)
 
     def to_decimal(self) -> Decimal:
-        """Its value with its decimals, exactly, whatever the precision of the context; a ValueError
-        where they have no end.
+        """The exact value with its decimals, whatever the precision of the context. Raises ValueError
+        if the decimals are infinite.
 
         >>> to_quantity('三点一零').to_decimal(), to_quantity('四分之三').to_decimal()
         (Decimal('3.10'), Decimal('0.75'))
         >>> to_quantity('三分之一').to_decimal()
         Traceback (most recent call last):
-        ValueError: the decimals of 1/3 have no end
+        ValueError: 1/3 has infinitely many decimals
         """
         value = self.to_fraction()
         places = _places_of(self.denominator)
         if places is None:
             places = _places_of(value.denominator)
         if places is None:
-            raise ValueError(f"the decimals of {self.to_figures()} have no end")
+            raise ValueError(f"{self.to_figures()} has infinitely many decimals")
         digits = value.numerator * 10**places // value.denominator
         return Decimal(f"{digits}E-{places}")
 
     def trimmed(self) -> Quantity:
-        """The same quantity without the zeros at the end of its decimals. One that has no decimals,
-        as a whole number or a fraction, is the same.
+        """The same quantity without the zeros at the end of its decimals. A quantity without
+        decimals, such as a whole number or a fraction, stays the same.
 
         >>> to_quantity('3.5万').trimmed()
         Quantity(numerator=35000, denominator=1, form=<QuantityForm.WHOLE: 'whole'>)
@@ -792,7 +794,7 @@ class Quantity:
         """
         try:
             return to_quantity(self.to_figures())
-        except NumeralError:  # those of a fraction are no quantity
+        except NumeralError:  # the figures of a fraction are not a quantity
             return self
 
     def to_chinese(
@@ -802,11 +804,11 @@ class Quantity:
         script: Union[Script, str] = Script.SIMPLIFIED,
         case: Union[Case, str] = Case.LOWER,
     ) -> str:
-        """Its text by a method, which to_quantity reads as the same numerator and denominator; by ANY
-        in the simplified script it is that of MIDDLE where each number spelled is below 10**16, and
-        else that of TEN_THOUSAND, by which to_quantity reads both. A percentage is read as a
-        fraction. One whose denominator is not of its form is written as a fraction. A NumeralError says why there is no text: a number in it has 17 digits or more and
-        the method is LOW.
+        """Writes the quantity by a method. to_quantity reads the text as the same numerator and
+        denominator; it reads a percentage as a fraction. ANY writes as MIDDLE in simplified script if
+        each number spelled is below 10**16, and otherwise as TEN_THOUSAND; to_quantity reads both by
+        TEN_THOUSAND. A quantity whose denominator does not match its form is written as a fraction.
+        Raises NumeralError if a number in it has 17 digits or more and the method is LOW.
 
         >>> to_quantity('-12.5%').to_chinese(script='traditional', case='upper')
         '負佰分之拾貳點伍'
@@ -823,7 +825,7 @@ class Quantity:
         return text
 
     def to_figures(self) -> str:
-        """Its figures, in ASCII and without zeros at the end of its decimals.
+        """Writes the quantity in figures, in ASCII and without zeros at the end of its decimals.
 
         >>> [to_quantity(it).to_figures() for it in ('三点一零', '12.50％', '负三分之一')]
         ['3.1', '12.5%', '-1/3']
@@ -837,9 +839,9 @@ class Quantity:
 
 
 def to_quantity(text: str, *, method: Union[Way, str] = Way.ANY) -> Quantity:
-    """The quantity of a text, by a method, low, ten_thousand, middle or high, or by any, which is
-    ten_thousand here: a whole number, a decimal, a percentage or a fraction, in figures or in
-    numerals. A NumeralError says why it is none.
+    """Reads a text as a quantity: a whole number, a decimal, a percentage or a fraction, in figures or
+    in numerals. The method is low, ten_thousand, middle, high or any, which means ten_thousand here.
+    Raises NumeralError if the text is not a quantity.
 
     >>> to_quantity('三点五万')
     Quantity(numerator=350000, denominator=10, form=<QuantityForm.DECIMAL: 'decimal'>)
@@ -863,10 +865,10 @@ def to_quantity(text: str, *, method: Union[Way, str] = Way.ANY) -> Quantity:
 
 @dataclass(frozen=True, init=False)
 class _Run(_library.Run):
-    """A run of a text, from start to end, as positions in the str. Its base makes it of its fields."""
+    """A run of a text, from start to end, as positions in the str. The base class constructs it."""
 
     __slots__ = ()
-    # Without a default, which a class of C seems to have.
+    # field() says that there is no default, though a class written in C seems to have one.
     start: int = field()
     end: int = field()
     text: str = field()
@@ -896,30 +898,32 @@ class _Run(_library.Run):
 class Found(_Run):
     """A run of numeral characters in a text, from start to end, as positions in the str.
 
-    is_plain says whether it is plain digits: a single digit is, 十 is not. stands_alone says whether
-    no letter or digit touches it and none is linked to it, so neither part of 3.5万 does; is_about,
-    whether it is about so much, as the 十 of 十几 and 五六 are; is_one_character, whether it is one
-    Chinese character, as the 一 of 一般 is. It can hold the whole text for as long as it is there.
+    is_plain: it is plain digits; a single digit is, 十 is not.
+    stands_alone: no letter or digit touches it or is linked to it; neither part of 3.5万 stands alone.
+    is_about: it is approximate, such as 十 in 十几, and 五六.
+    is_one_character: it is a single Chinese character, such as 一 in 一般.
+
+    It may keep the whole text alive as long as it exists.
     """
 
     __slots__ = ()
 
     def number(self, *, kind: Union[Kind, str] = Kind.I128, way: Union[Way, str] = Way.ANY) -> int:
-        """Its number, as plain digits where it is those, and else by the way, where ANY is
-        TEN_THOUSAND; a NumeralError says why it is none of the type. Its char_index counts within
-        the run.
+        """Reads the run as a number: plain digits as such, anything else by the way, where ANY means
+        TEN_THOUSAND. Raises NumeralError if it is not a number of this kind; char_index counts
+        within the run.
 
         >>> [(found.text, found.number()) for found in find_numbers('二〇二五年十一月')]
         [('二〇二五', 2025), ('十一', 11)]
         """
-        _code(_WAYS, way, "way")  # plain digits go by no other, and yet it has to be one
+        _code(_WAYS, way, "way")  # plain digits ignore the way, but it must be valid
         units = Way.TEN_THOUSAND if way == Way.ANY else way
         return to_number(self.text, kind=kind, way=Way.DIGITS if self.is_plain else units)
 
     def value(
         self, *, kind: Union[Kind, str] = Kind.I128, way: Union[Way, str] = Way.ANY
     ) -> Optional[int]:
-        """Its number, as number() gives it, or None where that is refused.
+        """The result of number(), or None if number() raises NumeralError.
 
         >>> [(found.text, found.value()) for found in find_numbers('百分之二十')]
         [('百', None), ('二十', 20)]
@@ -931,7 +935,7 @@ class Found(_Run):
 
 
 class _Doubted(_Run):
-    """A run whose doubt is that of its code."""
+    """A run with a doubt, which is stored as its code."""
 
     __slots__ = ()
 
@@ -942,8 +946,8 @@ class _Doubted(_Run):
 
 @dataclass(frozen=True, init=False)
 class FoundQuantity(_Doubted):
-    """An expression in a text, from start to end, as positions in the str; what else is Found is
-    reported of it, and doubt: why a reader may mean something else than its quantity, or None.
+    """An expression in a text, from start to end, as positions in the str, with the fields of Found.
+    doubt is why a reader may understand it as something other than its quantity, or None.
 
     >>> [found.doubt for found in find_quantities('3~5万，三十六计，三十六个')]
     [<Doubt.RANGE: 'range'>, <Doubt.RANGE: 'range'>, <Doubt.WORD: 'word'>, None]
@@ -969,8 +973,8 @@ class FoundQuantity(_Doubted):
         return made
 
     def quantity(self, *, method: Union[Way, str] = Way.ANY) -> Quantity:
-        """Its quantity, as to_quantity gives it; a NumeralError says why it is none. Its char_index
-        counts within the expression.
+        """Reads the expression with to_quantity. Raises NumeralError if it is not a quantity;
+        char_index counts within the expression.
 
         >>> [found.quantity().to_whole() for found in find_quantities('共3.5万人，二十三岁')]
         [35000, 23]
@@ -978,7 +982,7 @@ class FoundQuantity(_Doubted):
         return to_quantity(self.text, method=method)
 
     def value(self, *, method: Union[Way, str] = Way.ANY) -> Optional[Quantity]:
-        """Its quantity, as quantity() gives it, or None where that is refused.
+        """The result of quantity(), or None if quantity() raises NumeralError.
 
         >>> [(found.text, found.value() is None) for found in find_quantities('版本1.2.3，五六十')]
         [('1.2.3', True), ('五六十', True)]
@@ -992,18 +996,18 @@ class FoundQuantity(_Doubted):
 def find_numbers(
     text: str, *, upper: bool = False, greatest: Union[Unit, str] = Unit.ZHAO
 ) -> Iterator[Found]:
-    """The numbers of a text, from the first to the last: its longest runs of digits and of units up
-    to the greatest one, with or without the forms that only cheques have. A run ends between an
-    ASCII digit and a digit that is none, 個 is of a run directly before 萬 or a greater unit alone,
-    and 兆 of none in front of a measure, as in 8兆字节.
+    """Finds the numbers of a text, in order: its longest runs of digits and of units up to the greatest
+    one, with upper also of the characters that only cheques have. A run ends between an ASCII digit
+    and another digit. 個 belongs to a run only directly before 萬 or a greater unit, and 兆 belongs
+    to no run before a measure, as in 8兆字节.
 
     >>> [(found.start, found.end, found.text) for found in find_numbers('买2两，三个亿')]
     [(1, 2, '2'), (2, 3, '两'), (4, 7, '三个亿')]
     >>> [found.text for found in find_numbers('正在參加', upper=True, greatest='ji')]
     ['正', '參']
 
-    It does not understand sentences: 一起 has a 1 in it, 两三个 is 23, and 3.5万 is two numbers.
-    Half of a surrogate pair is one character, and parts a text.
+    It does not understand sentences: 一起 contains a 1, 两三个 is 23, and 3.5万 is two numbers.
+    Half of a surrogate pair is one character, and ends a run.
     """
     wanted = _flag(upper), _code(_UNITS, greatest, "greatest")
     return chain.from_iterable(_found(_library.find_numbers, Found, _text(text), *wanted))
@@ -1012,13 +1016,13 @@ def find_numbers(
 def find_quantities(
     text: str, *, upper: bool = False, greatest: Union[Unit, str] = Unit.ZHAO
 ) -> Iterator[FoundQuantity]:
-    """The expressions of a text, from the first to the last: numbers with their sign, figures,
-    point and units, percentages and fractions. upper and greatest are as in find_numbers.
+    """Finds the expressions of a text, in order: numbers with their sign, figures, point and units,
+    percentages and fractions. upper and greatest are as in find_numbers.
 
     >>> [(found.start, found.text) for found in find_quantities('增长12.5%，共3.5万，剩三分之一')]
     [(2, '12.5%'), (9, '3.5万'), (15, '三分之一')]
 
-    It does not understand sentences either, and half of a surrogate pair is as there.
+    It does not understand sentences either, and treats half of a surrogate pair in the same way.
     """
     wanted = _flag(upper), _code(_UNITS, greatest, "greatest")
     found = _found(_library.find_quantities, FoundQuantity, _text(text), *wanted)
@@ -1031,8 +1035,8 @@ _AnyRun = TypeVar("_AnyRun", bound=_Run)
 def _found(
     find: Callable[..., _library.Some], of: Type[_AnyRun], text: str, upper: bool, greatest: int
 ) -> Iterator[List[_AnyRun]]:
-    """What is found in a text, some at a time."""
-    # A str of a class below has ways of its own, and can hold what is found in it.
+    """Finds the runs of a text, some at a time."""
+    # A subclass of str has methods of its own, and can hold what is found in it.
     text = str.__str__(text)
     data = _library.utf8(text)
     searched = index = 0
@@ -1055,17 +1059,16 @@ def replace_quantities(
     one_character: bool = False,
     doubtful: bool = False,
 ) -> str:
-    """The text with its quantities written anew: new is given each expression that find_quantities
-    finds and to_quantity reads by the method, and gives what stands in its place, or None where it
-    stays.
+    """Replaces the quantities of a text. Calls new for each expression that find_quantities finds and
+    to_quantity reads by the method; new returns the text that replaces it, or None to keep it.
 
     >>> replace_quantities('占12.5%，共3.5万', lambda it: it.quantity().trimmed().to_chinese())
     '占百分之十二点五，共三万五千'
     >>> replace_quantities('一般三点十分', lambda it: f'[{it.text}]', one_character=True)
     '[一]般[三]点[十]分'
 
-    Those that are about so much, as 五六, one Chinese character, as the 一 of 一般, or doubtful, as 五一,
-    stay, unless about, one_character or doubtful is True; those whose doubt is PART always do.
+    Expressions that are approximate (五六), one Chinese character (一 in 一般) or doubtful (五一) stay
+    unless about, one_character or doubtful is True. Those whose doubt is PART always stay.
     """
     _code(_METHODS, method, "method")
     about, one_character, doubtful = _flag(about), _flag(one_character), _flag(doubtful)
@@ -1083,7 +1086,7 @@ def replace_quantities(
     return "".join((*done, text[at:]))
 
 
-# Half of a surrogate pair, or the mark that stands for one.
+# Half of a surrogate pair, or the mark that replaces one.
 _HALF_OR_MARK = re.compile("[\ud800-\udfff\ufffd]")
 
 
@@ -1099,23 +1102,23 @@ def quantities_to_figures(
     expanded: bool = False,
     canonical: bool = False,
 ) -> str:
-    """The text with its numerals in figures, as an editor writes them.
+    """Rewrites the numerals of a text in figures, as an editor does.
 
     >>> quantities_to_figures('市值三点五亿元，占百分之十二点五，一般剩三分之一')
     '市值3.5亿元，占12.5%，一般剩1/3'
 
-    What already is in figures stays, and so does what to_quantity refuses; what is about so much,
-    one Chinese character or doubtful, unless about, one_character or doubtful is True; what has the
-    doubt PART; a part of a name, an address or another number; 千分之五 and 二又五分之三; and the other
-    parts of a date, a time, a length, an amount or a range of which one part stays.
+    These stay: figures; what to_quantity refuses; approximate expressions, single Chinese characters
+    and doubtful expressions, unless about, one_character or doubtful is True; expressions with the
+    doubt PART; a part of a name, an address or another number; 千分之五 and 二又五分之三; and all of a
+    date, a time, a length, an amount or a range of which one part stays.
 
     >>> quantities_to_figures('一共十几个', about=True, one_character=True)
     '1共10几个'
     >>> quantities_to_figures('五一，八五折', doubtful=True)
     '51，八五折'
 
-    With expanded no great unit is kept, and with canonical figures are rewritten in ASCII, without
-    commas and leading zeros.
+    expanded keeps no great unit. canonical rewrites figures in ASCII, without commas and leading
+    zeros.
 
     >>> quantities_to_figures('三千五百亿，3500亿', expanded=True)
     '350000000000，350000000000'
@@ -1134,7 +1137,7 @@ def quantities_to_figures(
         )
         if _flag(is_chosen)
     )
-    given = str.__str__(_text(text))  # a str of a class below has ways of its own
+    given = str.__str__(_text(text))  # a subclass of str has methods of its own
     marks: List[str] = []
     try:
         data = given.encode()
@@ -1144,7 +1147,7 @@ def quantities_to_figures(
     code, figures = _library.quantities_to_figures(data, *wanted, options)
     if code:
         _status(code)
-    # No expression has one of them: they stay, in their order.
-    left = iter(marks)
-    whole: str = re.sub("\ufffd", lambda _: next(left), figures) if marks else figures
+    # No expression contains one of them: they stay, in their order.
+    rest = iter(marks)
+    whole: str = re.sub("\ufffd", lambda _: next(rest), figures) if marks else figures
     return whole

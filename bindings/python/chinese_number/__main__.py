@@ -1,9 +1,9 @@
-"""The command chinese-number: amounts, dates and numerals are written and read, the numbers and the
-quantities of a text are found, quantities are replaced, and the amounts of a table answered.
+"""The command chinese-number. It writes and reads amounts, dates and numerals, finds the numbers and
+the quantities of a text, replaces quantities, and converts the amounts in a table.
 
-Answers go to standard output, and refusals to standard error. The status is 0 where all is
-answered, 1 where something is refused or cannot be read or written, and 2 where the words of the
-command line ask for nothing. Texts are UTF-8, whatever the locale says.
+Results go to standard output, and refusals to standard error. The status is 0 if everything was
+converted, 1 if something was refused or could not be read or written, and 2 if the command line is
+not valid. Texts are UTF-8, whatever the locale is.
 """
 
 from __future__ import annotations
@@ -23,7 +23,7 @@ from ._tables import Table, write_table
 
 
 class _Matching:
-    """The words that match a pattern, and what they are."""
+    """The words that match a pattern, with a description of them."""
 
     def __init__(self, pattern: str, meaning: str) -> None:
         self._pattern, self._meaning = re.compile(pattern), meaning
@@ -49,9 +49,9 @@ _READER: _Options = {"--signed": _FLAG, "--typed": _FLAG}
 _TABLE: _Options = {
     "--column": _Matching("[1-9][0-9]{0,8}", "a number from 1 to 999999999"),
     "--header": _FLAG,
-    "--delimiter": _Matching(r'[^"\r\n]', "a character that is no quote and no line end"),
+    "--delimiter": _Matching(r'[^"\r\n]', "a character other than a quote or a line end"),
 }
-# What a flag means to a call that has no keyword of its name.
+# The keywords of a flag whose name is not itself a keyword of the call.
 _MEANINGS: Dict[str, Dict[str, Any]] = {
     "--traditional": {"script": "traditional"},
     "--upper": {"case": "upper"},
@@ -71,41 +71,41 @@ usage: chinese-number amount [--traditional] [--currency] [--yuan 圆] [--closin
                               [--expanded] [--canonical] [WORD..]
        chinese-number --help | --version
 
-amount   writes yuan in capitals, 1409.50 as 壹仟肆佰零玖元伍角整, and reads capitals; with --signed
-         also below zero, -15 as 负壹拾伍元整; with --typed it reads ⊗ 人民币：壹拾 伍元整 too;
-         with --column N, reads a table in CSV, in UTF-8, from standard input and writes each row
-         with one more cell: the answer to its Nth cell, or nothing where that is refused;
-         --header leaves the first row unanswered; --delimiter $'\\t' is for tabs. Why cells are
-         refused, and how many, goes to standard error
-date     writes dates in capitals, 2026-01-15 as 贰零贰陆年零壹月壹拾伍日, and reads capitals
+amount   converts yuan to capitals, 1409.50 to 壹仟肆佰零玖元伍角整, and capitals to yuan; --signed
+         also converts negative amounts, -15 to 负壹拾伍元整; --typed also reads amounts as typed,
+         such as ⊗ 人民币：壹拾 伍元整. --column N reads a CSV table in UTF-8 from standard input and
+         writes each row with one more cell: the result for its Nth cell, or an empty cell if that is
+         refused. --header says that the first row is a header; --delimiter $'\\t' is for tabs. The
+         reasons for refusals and the number of rows go to standard error
+date     converts dates to capitals, 2026-01-15 to 贰零贰陆年零壹月壹拾伍日, and capitals to dates
 read     reads numerals, 一百二 as 120
 print    writes whole numbers as numerals, -120 as 负一百二十
-find     writes LINE:CHARACTER TEXT NUMBER of each number in standard input, or err and why it is
-         refused; with --all also of the characters of cheques and of units above 兆; with --exact
-         of each quantity, as 3.5万, -5, 12.5% and 三分之一, whose NUMBER is then exact, as 125/1000
-replace  writes words, or standard input, with their numerals in figures, 市值三点五亿元 as 市值3.5亿元;
-         with --about also those that are about so much, as in 三百多; with --one-character those of
-         one Chinese character, as in 一般; with --doubtful those that may mean something else, as
-         五一; with --expanded no great unit is kept, 三点五亿 becomes 350000000; with --canonical
-         figures lose commas and leading zeros, 1,280 becomes 1280
+find     writes LINE:CHARACTER TEXT NUMBER for each number in standard input, or err and the reason
+         if it is refused; --all also finds cheque characters and units above 兆; --exact finds
+         quantities, such as 3.5万, -5, 12.5% and 三分之一, with an exact NUMBER, such as 125/1000
+replace  writes the arguments, or standard input, with their numerals in figures, 市值三点五亿元 as
+         市值3.5亿元; --about includes approximate numbers, as in 三百多; --one-character those of one
+         Chinese character, as in 一般; --doubtful those that may mean something else, as 五一.
+         --expanded keeps no great unit: 三点五亿 becomes 350000000; --canonical removes commas and
+         leading zeros from figures: 1,280 becomes 1280
 
-A kind is u8, u16, u32, u64, u128, i8, i16, i32, i64, i128; a way is digits, low, ten_thousand,
-middle, high, any; a method is each of these but digits.
-Words behind -- are no options."""
+A kind is u8, u16, u32, u64, u128, i8, i16, i32, i64 or i128; a way is digits, low, ten_thousand,
+middle, high or any; a method is any way except digits.
+Arguments after -- are not options."""
 
 
 class _Misuse(Exception):
-    """Why the words of the command line ask for nothing."""
+    """Why the command line is not valid."""
 
 
 def _not_one_of(name: str, choices: Iterable[str], given: str) -> _Misuse:
     wanted = re.sub(", ([^,]*)$", r" or \1", ", ".join(choices))
-    return _Misuse(f"{name} is {wanted}" + (f", and not {given}" if given else ""))
+    return _Misuse(f"{name} must be {wanted}" + (f", not {given}" if given else ""))
 
 
-# In front of the figures of an amount, and the whole of the figures of a date or a front of them.
+# The first character of an amount in figures; and a date in figures, or a prefix of one.
 _BEGINS_FIGURES = re.compile(r"[\0-\x7f¥￥０-９]")
-_FRONT_OF_DATE = re.compile(r"[0-9]{4}-[0-9]{2}-[0-9]{0,2}|[0-9]{4}-[0-9]{0,2}|[0-9]{0,4}")
+_PREFIX_OF_DATE = re.compile(r"[0-9]{4}-[0-9]{2}-[0-9]{0,2}|[0-9]{4}-[0-9]{0,2}|[0-9]{0,4}")
 
 
 def _figures(fen: int) -> str:
@@ -114,9 +114,9 @@ def _figures(fen: int) -> str:
 
 
 def _amount(word: str, *, signed: bool = False, typed: bool = False, **options: Any) -> str:
-    """An amount in figures of one in capitals, or the other way round."""
-    front = word.lstrip() if typed else word
-    if not _BEGINS_FIGURES.match(front) and not (signed and word.startswith("−")):
+    """Converts an amount in capitals to figures, or figures to capitals."""
+    begun = word.lstrip() if typed else word
+    if not _BEGINS_FIGURES.match(begun) and not (signed and word.startswith("−")):
         read = chinese_to_signed_amount if signed else chinese_to_amount
         return _figures((chinese_to_amount_as_typed if typed else read)(word))
     if word.startswith("-") and not signed:
@@ -125,7 +125,7 @@ def _amount(word: str, *, signed: bool = False, typed: bool = False, **options: 
 
 
 def _table(options: Dict[str, Any]) -> int:
-    """Answers the amounts in a column of standard input."""
+    """Converts the amounts in a column of standard input."""
     column, delimiter = int(options.pop("column")), options.pop("delimiter", ",")
     table = Table(column, options.pop("header", False), delimiter)
     return write_table(table, partial(_amount, **options))
@@ -134,7 +134,7 @@ def _table(options: Dict[str, Any]) -> int:
 def _date(word: str, **options: Any) -> str:
     if not word[:1].isascii() or not word:
         return chinese_to_date(word).isoformat()
-    rest = _FRONT_OF_DATE.sub("", word, count=1)
+    rest = _PREFIX_OF_DATE.sub("", word, count=1)
     if rest:
         raise DateError(Status.INCORRECT, len(word) - len(rest))
     if len(word) < len("2026-01-15"):
@@ -148,9 +148,9 @@ def _date(word: str, **options: Any) -> str:
 
 def _number(word: str) -> int:
     if not re.fullmatch("-?[0-9]+", word):
-        raise _not_one_of("a number", ["digits with or without - in front"], word)
+        raise _not_one_of("a number", ["digits with an optional leading -"], word)
     digits = word.lstrip("-").lstrip("0")
-    # No kind has numbers of 40 digits, and Python makes none of more than 4,300.
+    # No kind has numbers of 40 digits, and Python does not convert more than 4,300 digits.
     magnitude = int(digits[:40] or "0")
     return -magnitude if word.startswith("-") else magnitude
 
@@ -166,7 +166,7 @@ def _quantity_of(found: FoundQuantity, **options: Any) -> str:
 
 
 def _answers(line: bytes, find: Callable[[str], Any], answer: Callable[..., str]) -> Iterator[str]:
-    """The column, the text and the answer of each that is found in a line."""
+    """The column, the text and the result of each run that is found in a line."""
     try:
         text = line.decode()
     except UnicodeDecodeError:
@@ -195,7 +195,7 @@ def _find(options: Dict[str, Any]) -> int:
 
 
 def _replace(options: Dict[str, Any]) -> int:
-    """Writes standard input anew, a line at a time. One that is no UTF-8 stays, and is told."""
+    """Rewrites standard input line by line. A line that is not UTF-8 stays, and is reported."""
     status = 0
     output = sys.stdout.buffer
     with open(0, "rb", closefd=False) as lines:
@@ -203,14 +203,14 @@ def _replace(options: Dict[str, Any]) -> int:
             try:
                 line = quantities_to_figures(line.decode(), **options).encode()
             except UnicodeDecodeError:
-                print(f"{count}: the line is no UTF-8", file=sys.stderr)
+                print(f"{count}: the line is not UTF-8", file=sys.stderr)
                 status = 1
             output.write(line)
             output.flush()
     return status
 
 
-# What gives the answer to a word, what it takes for the word, and which options it has.
+# For each command: the function that converts an argument, how it parses the argument, its options.
 _COMMANDS: Dict[str, Tuple[Callable[..., Any], Callable[[str], Any], _Options]] = {
     "amount": (_amount, str, {**_TRADITIONAL, **_FORM, **_READER, **_TABLE}),
     "date": (_date, str, _TRADITIONAL),
@@ -222,23 +222,23 @@ _COMMANDS: Dict[str, Tuple[Callable[..., Any], Callable[[str], Any], _Options]] 
 
 
 def _parted(words: List[str], known: _Options) -> Tuple[List[str], Dict[str, Any]]:
-    """The words that are no options, and what the options mean."""
+    """The words that are not options, and the keywords of the options."""
     others: List[str] = []
     options: Dict[str, Any] = {}
-    left = iter(words)
-    for word in left:
+    rest = iter(words)
+    for word in rest:
         if word == "--":
-            others += left
+            others += rest
         elif not re.match("-[^0-9.¥￥０-９]", word):
             others.append(word)
         else:
             name, equals, value = word.partition("=")
             if name not in known:
-                raise _Misuse(f"there is no option {name} here")
+                raise _Misuse(f"this command has no option {name}")
             allowed = known[name]
-            chosen = value if equals else None if allowed is _FLAG else next(left, "")
+            chosen = value if equals else None if allowed is _FLAG else next(rest, "")
             if allowed is _FLAG and equals:
-                raise _Misuse(f"{name} takes no value")
+                raise _Misuse(f"{name} does not take a value")
             if chosen not in allowed:
                 raise _not_one_of(name, allowed, chosen or "")
             options.update(_MEANINGS.get(name, {name[2:]: allowed is _FLAG or chosen}))
@@ -246,11 +246,10 @@ def _parted(words: List[str], known: _Options) -> Tuple[List[str], Dict[str, Any
 
 
 def _refuse_misfits(first: str, options: Dict[str, Any]) -> None:
-    """Refuses two ways of reading, and what is said of a table or of quantities where there are
-    none."""
+    """Refuses two ways of reading at once, and options for a table or for quantities without one."""
     for one, other in (("signed", "typed"), ("exact", "kind"), ("exact", "way")):
         if options.keys() >= {one, other}:
-            raise _Misuse(f"--{one} and --{other} exclude each other")
+            raise _Misuse(f"--{one} and --{other} cannot be used together")
     if "column" not in options and options.keys() & {"header", "delimiter"}:
         raise _Misuse("--header and --delimiter need --column")
     if first == "find" and "method" in options and "exact" not in options:
@@ -258,7 +257,7 @@ def _refuse_misfits(first: str, options: Dict[str, Any]) -> None:
 
 
 def _answered(call: Callable[..., object], arguments: List[Any], options: Dict[str, Any]) -> int:
-    """Answers each of the arguments on a line of its own, and gives the status."""
+    """Prints the result of each argument on a line of its own, and returns the status."""
     status = 0
     for argument in arguments:
         try:
@@ -272,14 +271,14 @@ def _answered(call: Callable[..., object], arguments: List[Any], options: Dict[s
 def _of_input(
     first: str, others: List[str], options: Dict[str, Any]
 ) -> Optional[Callable[[Dict[str, Any]], int]]:
-    """What answers standard input, where that is asked for."""
+    """The function that converts standard input, if the command reads it."""
     if first == "replace":
         return None if others else _replace
     return _find if first == "find" else _table if "column" in options else None
 
 
 def _run(words: List[str]) -> int:
-    """Does what the words of the command line ask for, and gives the status."""
+    """Runs the command line, and returns the status."""
     first = words[0] if words else ""
     if first in ("--help", "--version"):
         print(USAGE if first == "--help" else f"chinese-number {__version__}")
@@ -292,7 +291,11 @@ def _run(words: List[str]) -> int:
         return _run(["--help"])
     of_input = _of_input(first, others, options)
     if bool(of_input) == bool(others):
-        raise _Misuse("standard input is answered, and no words" if others else "there is no word")
+        raise _Misuse(
+            "standard input is read, so no argument is expected"
+            if others
+            else "an argument is expected"
+        )
     _refuse_misfits(first, options)
     return of_input(options) if of_input else _answered(call, [*map(of_word, others)], options)
 
@@ -304,17 +307,17 @@ def _stream(number: int) -> TextIO:
 
 
 def main() -> int:
-    """Answers the command line, and gives the status."""
+    """Runs the command, and returns the status."""
     try:
         sys.stderr, sys.stdout = _stream(2), _stream(1)
         return _run([os.fsencode(it).decode("utf-8", "surrogateescape") for it in sys.argv[1:]])
     except _Misuse as error:
-        print(f"chinese-number: {error} (--help says more)", file=sys.stderr)
+        print(f"chinese-number: {error} (see --help)", file=sys.stderr)
         return 2
     except KeyboardInterrupt:
         return 130
     except OSError as error:
-        # What is left to write goes nowhere, or Python would try it again at its end.
+        # The rest of the output is discarded; otherwise Python would try to write it again at exit.
         os.dup2(os.open(os.devnull, os.O_WRONLY), 1)
         if not isinstance(error, BrokenPipeError):
             print(f"chinese-number: {error.strerror}", file=sys.stderr)

@@ -1,11 +1,11 @@
-"""The calls of the library, and nothing of what they mean: by ctypes, or by `_native`, a module of C.
+"""The bare calls of the library, through ctypes or through `_native`, a module written in C.
 
 Texts are str, choices are the codes of chinese_number.h, and places count characters. Each call
-gives the status first. `load` puts what `_native` has in the place of what has the same name here,
-where it is there and this Python takes it.
+returns the status first. If `_native` exists and this Python can load it, `load` replaces the
+functions here with those of the same names in `_native`.
 
-Half of a surrogate pair has no bytes in UTF-8. It goes as a question mark, which is no numeral
-either.
+Half of a surrogate pair has no bytes in UTF-8. It is passed as a question mark, which is not a
+numeral either.
 """
 
 from __future__ import annotations
@@ -93,7 +93,7 @@ _ARGUMENTS: Dict[str, Tuple[Any, ...]] = {
 }
 _SUFFIXES = {"darwin": "dylib", "win32": "dll"}
 _HERE = Path(__file__).resolve().parent
-# What `_native` has of this module.
+# The names of this module that `_native` has too.
 _CALLS = (
     "Run know_words utf8 read_number read_amount read_signed_amount read_typed_amount read_figures "
     "read_date read_quantity print_number print_amount print_signed_amount print_date "
@@ -101,14 +101,14 @@ _CALLS = (
 ).split()
 # The code of a doubt is multiplied by this, and added to the flags.
 _DOUBT = 16
-# Of the flags added together, whether each is among them.
+# For each sum of flags, whether each flag is in it.
 _FLAGS_OF = [
     tuple(bool(flags & it) for it in (PLAIN_DIGITS, STANDS_ALONE, ABOUT, ONE_CHARACTER))
     for flags in range(_DOUBT)
 ]
 # A quantity: the low and the high 64 bits of its numerator and of its denominator, and its form.
 Words = Tuple[int, int, int, int, int]
-# The status, some of what is found, and up to where it was looked for, in bytes and in characters.
+# The status, some of the runs found, and where the search stopped, in bytes and in characters.
 Some = Tuple[int, List[Any], int, int]
 _Function = TypeVar("_Function", bound=Any)
 library: Any = None
@@ -116,8 +116,8 @@ _native: Any = None
 
 
 class Run:
-    """A run of a text, with the code of its doubt. That of `_native` makes its text when it is asked
-    for."""
+    """A run of a text, with the code of its doubt. The class in `_native` creates the run's text only
+    when it is read."""
 
     __slots__ = (
         *("start", "end", "text", "is_plain", "stands_alone", "is_about", "is_one_character"),
@@ -146,10 +146,10 @@ class Run:
 
 
 def _module() -> Any:
-    """The module of C, where it is there and this Python takes it, else None.
+    """The module written in C, or None if it is missing or this Python cannot load it.
 
-    Free-threaded Python has no stable interface, and an interpreter with a lock of its own takes no
-    module that does not ask for it.
+    Free-threaded Python has no stable ABI, and an interpreter with its own GIL does not load a module
+    that does not declare support for it.
     """
     free_threaded = "t" in getattr(sys, "abiflags", "")
     if sys.implementation.name != "cpython" or sys.version_info < (3, 10) or free_threaded:
@@ -161,8 +161,8 @@ def _module() -> Any:
 
 
 def _opened() -> ctypes.CDLL:
-    """The shared object: of the folder that is named, else beside this file, where `_native` has the
-    library's calls too."""
+    """The shared library, from the folder that CHINESE_NUMBER_LIB names, or else from beside this file.
+    There `_native` contains the library's calls too."""
     folder = os.environ.get("CHINESE_NUMBER_LIB")
     name = f"libchinese_number.{_SUFFIXES.get(sys.platform, 'so')}"
     path = Path(folder).resolve() / name if folder else _HERE / name
@@ -173,23 +173,23 @@ def _opened() -> ctypes.CDLL:
     except OSError as error:
         raise ImportError(
             f"{error}\nRun `pip install ./bindings/python` at the top of a clone, or set "
-            f"CHINESE_NUMBER_LIB to a folder with {name}, as bindings/archive.sh OUT makes it on "
-            "Linux."
+            f"CHINESE_NUMBER_LIB to a folder that contains {name}, as bindings/archive.sh OUT "
+            "makes it on Linux."
         ) from None
 
 
 def _check_version(found: int, name: str, wanted: str) -> None:
-    """The last number of a version changes no call."""
+    """Compares versions without their last number, which does not change the calls."""
     found, wanted = found // 1000, wanted.rpartition(".")[0]
     if f"{found // 1000}.{found % 1000}" != wanted:
         raise ImportError(
-            f"{name} is not of version {wanted}. Install chinese_number anew, or set "
+            f"{name} does not have version {wanted}. Reinstall chinese_number, or set "
             "CHINESE_NUMBER_LIB to another folder."
         )
 
 
 def load(version: str) -> None:
-    """Loads the library, or says by an ImportError why it is not there in this version."""
+    """Loads the library. Raises ImportError if it is missing or has another version."""
     global library, _native
     _native = None if os.environ.get("CHINESE_NUMBER_LIB") else _module()
     if _native:
@@ -197,9 +197,9 @@ def load(version: str) -> None:
         globals().update({name: getattr(_native, name) for name in _CALLS})
         return
     opened = _opened()
-    # What tells none is older than this call.
-    tell: Any = getattr(opened, "chinese_number_version", lambda: 0)
-    _check_version(tell(), opened._name, version)
+    # A library without this call is older than the call.
+    version_of: Any = getattr(opened, "chinese_number_version", lambda: 0)
+    _check_version(version_of(), opened._name, version)
     for name, arguments in _ARGUMENTS.items():
         call = getattr(opened, name)
         call.restype, call.argtypes = _CODE, arguments
@@ -207,14 +207,14 @@ def load(version: str) -> None:
 
 
 def know_words(*choices: Tuple[str, ...]) -> None:
-    """What quick functions know by itself: of each keyword, in the order that to_chinese has them,
-    the members of its enum by their code, and then the str that each equals."""
+    """Tells the quick functions of `_native` the words of each keyword, in the order of to_chinese: the
+    members of its enum in the order of their codes, and then the str that each member equals."""
 
 
 def quick(function: _Function) -> _Function:
-    """The quick function of `_native` in front of the one of that name, where there is one. It
-    answers the usual case, and hands on all else, so it differs in nothing but time, and in that
-    Python sees no annotations of it."""
+    """Wraps a function in the quick function of the same name in `_native`, if there is one. The quick
+    function handles the usual case and calls the wrapped function otherwise. So it differs only in
+    speed, and in that Python sees no annotations."""
     make = getattr(_native, f"quick_{function.__name__}", None)
     if not make:
         return function
@@ -226,22 +226,22 @@ def quick(function: _Function) -> _Function:
 
 
 def _read(call: Any, text: str, answer: Any, *codes: int) -> int:
-    """The status with which a call reads a text into its answer."""
+    """Reads a text into `answer` with a call, and returns the status."""
     data = str.encode(text, "utf-8", "replace")
     status: int = call(data, len(data), *codes, byref(answer))
     return status
 
 
 def _printed(call: Any, most: int, *codes: Any) -> Tuple[int, str]:
-    """The status and the text of a call that prints so many bytes at most."""
+    """The status and the text of a call that prints at most `most` bytes."""
     room, length = ctypes.create_string_buffer(most), _SIZE()
     status: int = call(*codes, room, most, byref(length))
     return status, room.raw[: length.value].decode()
 
 
 def read_number(text: str, kind: int, way: int) -> Tuple[int, int, int, int]:
-    """The low and the high 64 bits of the number, and how many characters stand before one at
-    fault."""
+    """The low and the high 64 bits of the number, and the number of characters before the wrong
+    one."""
     it = _Reading()
     status = _read(library.chinese_number_read_utf8, text, it, kind, way)
     return status, it.low, it.high, it.char_index
@@ -253,34 +253,34 @@ def _read_fen(call: Any, text: str, it: Union[_Amount, _SignedAmount]) -> Tuple[
 
 
 def read_amount(text: str) -> Tuple[int, int, int]:
-    """The fen, and how many characters stand before one at fault."""
+    """The fen, and the number of characters before the wrong one."""
     return _read_fen(library.chinese_amount_read, text, _Amount())
 
 
 def read_signed_amount(text: str) -> Tuple[int, int, int]:
-    """The same of a text with its sign, or none, in front."""
+    """Like read_amount, for a text with or without a leading sign."""
     return _read_fen(library.chinese_signed_amount_read, text, _SignedAmount())
 
 
 def read_typed_amount(text: str) -> Tuple[int, int, int]:
-    """The same of a text as it is typed."""
+    """Like read_amount, for a text as it is typed."""
     return _read_fen(library.chinese_typed_amount_read, text, _Amount())
 
 
 def read_figures(text: str) -> Tuple[int, int, int]:
-    """The same of figures."""
+    """Like read_signed_amount, for figures."""
     return _read_fen(library.chinese_figures_read, text, _SignedAmount())
 
 
 def read_date(text: str) -> Tuple[int, Tuple[int, int, int], int]:
-    """Year, month and day, and how many characters stand before one at fault."""
+    """Year, month and day, and the number of characters before the wrong one."""
     it = _Date()
     status = _read(library.chinese_date_read, text, it)
     return status, (it.year, it.month, it.day), it.char_index
 
 
 def read_quantity(text: str, method: int) -> Tuple[int, Words, int]:
-    """The quantity, and how many characters stand before one at fault."""
+    """The quantity, and the number of characters before the wrong one."""
     it = _Quantity()
     status = _read(library.chinese_quantity_read, text, it, method)
     above, below = it.numerator, it.denominator
@@ -290,7 +290,7 @@ def read_quantity(text: str, method: int) -> Tuple[int, Words, int]:
 def print_number(
     low: int, high: int, kind: int, way: int, script: int, case: int
 ) -> Tuple[int, str]:
-    """The text of a number, of two words. Of what goes as a word the low 64 bits are taken."""
+    """The text of a number that is given as two words. Only the low 64 bits of each word count."""
     codes = low, high, kind, way, script, case
     return _printed(library.chinese_number_print, _MOST_BYTES, *codes)
 
@@ -301,7 +301,7 @@ def print_amount(fen: int, script: int, form: int) -> Tuple[int, str]:
 
 
 def print_signed_amount(fen: int, script: int, form: int) -> Tuple[int, str]:
-    """The text of an amount, with its sign, from -2**63 fen on and of less than 2**63."""
+    """The text of a signed amount from -2**63 fen to less than 2**63."""
     codes = fen, script, form
     return _printed(library.chinese_signed_amount_print, _MOST_SIGNED_AMOUNT_BYTES, *codes)
 
@@ -316,7 +316,7 @@ def _at_words(low: int, high: int, below_low: int, below_high: int, form: int) -
 
 
 def print_quantity(quantity: Words, method: int, script: int, case: int) -> Tuple[int, str]:
-    """The text of a quantity. Of what goes as a word the low 64 bits are taken."""
+    """The text of a quantity. Only the low 64 bits of each word count."""
     codes = _at_words(*quantity), method, script, case
     return _printed(library.chinese_quantity_print, _MOST_QUANTITY_BYTES, *codes)
 
@@ -330,7 +330,7 @@ def print_figures(quantity: Words) -> Tuple[int, str]:
 def quantities_to_figures(
     data: bytes, upper: bool, greatest: int, method: int, options: int
 ) -> Tuple[int, str]:
-    """The text with its quantities in figures. The data are the text in UTF-8."""
+    """The text with its quantities in figures. `data` is the text in UTF-8."""
     codes, length, status = (upper, greatest, method, options), _SIZE(len(data)), _NO_ROOM
     while status == _NO_ROOM:
         room = ctypes.create_string_buffer(max(length.value, _MOST_FIGURES_BYTES))
@@ -359,12 +359,12 @@ def _some(call: Any, text: str, data: bytes, searched: int, index: int, *wanted:
 
 
 def find_numbers(*words: Any) -> Some:
-    """The next numbers of a text, which is given with its UTF-8, behind its first bytes, which have
-    so many characters; whether those of the upper case are wanted, and the code of the greatest
-    unit; and a class of runs."""
+    """Finds the next numbers of a text. The arguments are the text, its UTF-8, how many bytes and how
+    many characters to skip, whether to include the upper case, the code of the greatest unit, and
+    the class of the runs."""
     return _some(library.chinese_number_find_utf8, *words)
 
 
 def find_quantities(*words: Any) -> Some:
-    """The same of the next expressions."""
+    """Like find_numbers, for expressions."""
     return _some(library.chinese_quantity_find_utf8, *words)

@@ -1,5 +1,5 @@
-"""Tables of CSV, written with one more cell behind each row. They are read row by row, so the
-memory that it takes does not grow with them."""
+"""CSV tables, written with one more cell at the end of each row. They are read row by row, so the
+memory used does not grow with the table."""
 
 from __future__ import annotations
 
@@ -12,13 +12,13 @@ from typing import Any, Callable, Iterator, List, NamedTuple, TextIO, Tuple
 
 from . import AmountError
 
-_MARK = "\ufeff"  # of UTF-8, which some programs put in front
-_NO_UTF8 = re.compile("[\udc80-\udcff]")  # what stands for bytes that are no UTF-8
-_MOST_OF_ROW = 2**17  # bytes; a row that goes on behind them has a quote that is not closed
+_MARK = "\ufeff"  # the mark of UTF-8, which some programs write at the start
+_NO_UTF8 = re.compile("[\udc80-\udcff]")  # replaces bytes that are not UTF-8
+_MOST_OF_ROW = 2**17  # bytes; a longer row has a quote that is not closed
 
 
 class Table(NamedTuple):
-    """Which column is answered, whether the first row is a header, and what parts cells."""
+    """The column to convert, whether the first row is a header, and the delimiter of cells."""
 
     column: int
     has_header: bool
@@ -26,11 +26,11 @@ class Table(NamedTuple):
 
 
 class _NoCell(ValueError):
-    """Why a row has no cell to answer."""
+    """Why a row has no cell to convert."""
 
 
 class _Row(NamedTuple):
-    """The line of the table where a row begins, its text, its cells, and why they are not read."""
+    """The line where a row begins, its text, its cells, and the reason if they cannot be read."""
 
     line: int
     text: str
@@ -38,7 +38,7 @@ class _Row(NamedTuple):
     fault: str
 
     def cell(self, column: int, width: int) -> str:
-        """The cell in a column, of as many as the first row has."""
+        """The cell in a column. `width` is the number of cells in the first row."""
         count = len(self.cells)
         if self.fault:
             raise _NoCell(self.fault)
@@ -49,14 +49,14 @@ class _Row(NamedTuple):
         return self.cells[column - 1]
 
     def with_cell(self, cell: str, delimiter: str) -> str:
-        """The text, which stays as it is, with one more cell at its end."""
+        """The unchanged text of the row with one more cell at its end."""
         end = next((it for it in ("\r\n", "\n", "\r") if self.text.endswith(it)), "")
-        front = self.text[: len(self.text) - len(end)]
-        return front + delimiter + (f'"{cell}"' if delimiter in cell else cell) + end
+        row = self.text[: len(self.text) - len(end)]
+        return row + delimiter + (f'"{cell}"' if delimiter in cell else cell) + end
 
 
 class _Messages:
-    """What is told on standard error, and how many rows are done, where somebody waits for them."""
+    """Messages on standard error, and a count of rows if the user is waiting at a terminal."""
 
     def __init__(self, output: TextIO) -> None:
         self._is_awaited = sys.stderr.isatty() and not output.isatty()
@@ -78,7 +78,7 @@ class _Messages:
 
 
 def _without_mark(lines: Iterator[str], output: TextIO) -> Iterator[str]:
-    """The lines without the mark in front, which is written."""
+    """The lines without the leading mark, which is copied to the output."""
     first = next(lines, "")
     if first.startswith(_MARK):
         output.write(_MARK)
@@ -111,7 +111,7 @@ def _rows(lines: Iterator[str], delimiter: str) -> Iterator[_Row]:
         if not text:
             return
         if _NO_UTF8.search(text):
-            fault = fault or "the row is no UTF-8"
+            fault = fault or "the row is not UTF-8"
         yield _Row(line, text, cells, fault)
         line += len(taken)
         taken.clear()
@@ -120,8 +120,8 @@ def _rows(lines: Iterator[str], delimiter: str) -> Iterator[_Row]:
 def _copy(
     lines: Iterator[str], output: TextIO, table: Table, answer: Callable[[str], str]
 ) -> Tuple[int, int]:
-    """Writes the rows of these lines with their answers, and gives how many there are, and of them
-    refused. Blank lines are no rows."""
+    """Writes the rows of these lines with their results, and returns how many rows there are and how
+    many are refused. Blank lines are not rows."""
     messages, count, refused = _Messages(output), 0, 0
     width, is_header = 0, table.has_header
     for row in _rows(_without_mark(lines, output), table.delimiter):
@@ -145,15 +145,15 @@ def _copy(
 
 
 def _opened(number: int, mode: str) -> Any:
-    """A stream whose bytes are written as they are read, also those that are no UTF-8."""
+    """A stream whose bytes are written as they are read, also those that are not UTF-8."""
     words = {"encoding": "utf-8", "errors": "surrogateescape", "newline": ""}
     return open(number, mode, closefd=False, **words)  # type: ignore
 
 
 def write_table(table: Table, answer: Callable[[str], str]) -> int:
-    """Writes the rows of standard input with the answer behind each, and gives the status."""
+    """Writes the rows of standard input with the result at the end of each, and returns the status."""
     csv.field_size_limit(2**31 - 1)
     with _opened(0, "r") as lines, _opened(1, "w") as output:
         count, refused = _copy(lines, output, table, answer)
-    print(f"{count} rows: {count - refused} answered, {refused} refused", file=sys.stderr)
+    print(f"{count} rows: {count - refused} converted, {refused} refused", file=sys.stderr)
     return int(refused > 0)

@@ -1,4 +1,4 @@
-//! Answers the questions of test.py, which says what they are, a line each.
+//! Answers the questions of test.py, one per line; test.py describes them.
 
 use std::fmt::{Debug, Display};
 use std::io;
@@ -81,7 +81,7 @@ where
     })
 }
 
-/// The form of its words with `+` between them, as `currency+round_yuan`; `plain` is none of them.
+/// The form of words that `+` separates, such as `currency+round_yuan`; `plain` means none of them.
 fn form(words: &str) -> AmountForm {
     let mut form = AmountForm::PLAIN;
     for word in words.split('+') {
@@ -119,7 +119,7 @@ fn shown(Quantity { numerator, denominator, form }: Quantity) -> String {
     format!("{numerator}/{denominator} {}", FORMS[form as usize].0)
 }
 
-/// The quantity of words as `350000/10 decimal`.
+/// The quantity of words such as `350000/10 decimal`.
 fn quantity(words: &str) -> Quantity {
     let (numerator, rest) = words.split_once('/').expect("a line");
     let (denominator, name) = rest.split_once(' ').expect("a form");
@@ -135,7 +135,7 @@ fn print_quantity(way: &str, script: &str, letter_case: &str, words: &str) -> St
     })
 }
 
-/// What is included, by its words with `+` between them; `none` is nothing.
+/// What is included, in words that `+` separates; `none` means nothing.
 fn included(words: &str) -> Included {
     let has = |name| words.split('+').any(|word| word == name);
     Included { about: has("about"), one_character: has("one"), doubtful: has("doubtful") }
@@ -182,7 +182,7 @@ fn doubt(found: Found<'_>) -> String {
     String::from(name)
 }
 
-// The text with what is shown of each of its runs in its place, in brackets.
+// The text with each of its runs replaced by its description, in brackets.
 fn in_place(text: &str, runs: Numbers<'_>, shown: impl Fn(Found<'_>) -> String) -> String {
     let (mut done, mut at) = (String::from("ok "), 0);
     for found in runs {

@@ -1,8 +1,9 @@
-//! The calls of the library, and its codes; `bindings/c/chinese_number.h` says what each answers.
+//! The calls of the library, and its codes. `bindings/c/chinese_number.h` documents what each
+//! returns.
 
 #![cfg_attr(
     not(all(feature = "number-to-chinese", feature = "chinese-to-number")),
-    allow(dead_code, reason = "each feature has calls of its own")
+    allow(dead_code, reason = "each feature has its own calls")
 )]
 
 use core::mem::MaybeUninit;
@@ -15,7 +16,7 @@ use crate::{
 };
 
 /// The statuses.
-#[allow(dead_code, reason = "some tell what this crate never asks for")]
+#[allow(dead_code, reason = "this crate never causes some of them")]
 pub mod status {
     pub const DONE: u32 = 0;
     pub const EMPTY: u32 = 1;
@@ -30,7 +31,7 @@ pub mod status {
     pub const NONE: u32 = 10;
     pub const NOT_A_DATE: u32 = 11;
     pub const NOT_A_QUANTITY: u32 = 12;
-    /// The C source alone answers it.
+    /// Only the C source returns it.
     pub const TOO_LONG: u32 = u32::MAX;
 }
 
@@ -49,7 +50,8 @@ pub enum Kind {
     I128 = 9,
 }
 
-/// The ways in which a number is read or written; `Any` goes by the text, or by the script and number.
+/// The ways in which a number is read or written. `Any` chooses by the text, or by script and
+/// number.
 #[derive(Copy, Clone)]
 pub enum Way {
     Digits = 0,
@@ -72,7 +74,8 @@ impl From<ChineseCountMethod> for Way {
     }
 }
 
-/// No printed text has more bytes: a quantity's has at most so many, and all others have fewer.
+/// The most bytes of a printed text: the text of a quantity can have this many, all others have
+/// fewer.
 pub const MOST_QUANTITY_BYTES: usize = 471;
 const MOST_BYTES: usize = 234;
 const MOST_FIGURES_BYTES: usize = 80;
@@ -83,10 +86,10 @@ const _: () = assert!(MOST_BYTES < MOST_QUANTITY_BYTES && MOST_FIGURES_BYTES < M
 const _: () = assert!(MOST_AMOUNT_BYTES < MOST_BYTES && MOST_DATE_BYTES < MOST_BYTES);
 const _: () = assert!(MOST_SIGNED_AMOUNT_BYTES < MOST_BYTES);
 
-/// The bytes of a room for one printed text.
+/// The bytes of a buffer for one printed text.
 pub type Bytes = [MaybeUninit<u8>; MOST_QUANTITY_BYTES];
 
-/// The bits of an integer, extended by its sign to 128.
+/// The bits of an integer, sign-extended to 128.
 #[derive(Default)]
 #[repr(C)]
 pub struct Number {
@@ -102,9 +105,8 @@ struct Date {
     day: u32,
 }
 
-// What is read of a text, of each kind that is read, and the place of the character at fault. In
-// the header the three numbers of a date stand in front of the place one by one, which is the same
-// layout.
+// The value that is read from a text, and the place of the wrong character. In the header the three
+// numbers of a date are separate fields before the place, which is the same layout.
 #[derive(Default)]
 #[repr(C)]
 struct Reading<T> {
@@ -113,7 +115,7 @@ struct Reading<T> {
     _byte_index: usize,
 }
 
-// A quantity as the library has it, or the place of the character at fault.
+// A quantity as the library represents it, or the place of the wrong character.
 #[derive(Default)]
 #[repr(C)]
 struct QuantityReading {
@@ -132,14 +134,14 @@ impl From<Quantity> for QuantityReading {
     }
 }
 
-/// What a text is searched for.
+/// What a search looks for.
 #[derive(Debug, Copy, Clone)]
 pub enum Sought {
     Numbers,
     Quantities,
 }
 
-/// What is reported of a run in a text.
+/// The flags of a run in a text.
 pub mod flag {
     pub const PLAIN_DIGITS: u32 = 1;
     pub const STANDS_ALONE: u32 = 2;
@@ -147,15 +149,15 @@ pub mod flag {
     pub const ONE_CHARACTER: u32 = 8;
 }
 
-/// The options of what is replaced, with the last two flags.
+/// The options for replacing, in addition to the last two flags.
 pub mod option {
     pub const DOUBTFUL: u32 = 16;
     pub const EXPANDED: u32 = 32;
     pub const CANONICAL: u32 = 64;
 }
 
-/// A run in a text: where it begins and ends, in bytes, and its flags, added together, with the code
-/// of its doubt times 16.
+/// A run in a text: where it begins and ends, in bytes, and the sum of its flags and 16 times the
+/// code of its doubt.
 #[derive(Debug, Copy, Clone, Default)]
 #[repr(C)]
 pub struct Span {
@@ -291,7 +293,7 @@ unsafe extern "C" {
     ) -> u32;
 }
 
-/// An integer type: its code, and its values as the library has them.
+/// An integer type: its code, and its values as the library represents them.
 pub trait Whole: Copy {
     const KIND: Kind;
 
@@ -308,7 +310,7 @@ macro_rules! whole {
                 clippy::cast_possible_truncation,
                 clippy::cast_possible_wrap,
                 clippy::cast_sign_loss,
-                reason = "the bits of all twelve types cross in one way, extended by the sign"
+                reason = "the bits of all twelve types cross in the same way, sign-extended"
             )]
             impl Whole for $t {
                 const KIND: Kind = Kind::$kind;
@@ -339,8 +341,8 @@ whole! { usize: U64; isize: I64; }
 #[cfg(target_pointer_width = "32")]
 whole! { usize: U32; isize: I32; }
 
-// What a call writes for a text, and its status. The interface has no error for a text that the C
-// source refuses for its length.
+// The result of a call for a text, and its status. The interface has no error for a text that is
+// too long for the C source.
 #[inline]
 fn answered<A: Default>(call: impl FnOnce(*mut A) -> u32) -> (A, u32) {
     let mut answer = A::default();
@@ -352,7 +354,7 @@ fn answered<A: Default>(call: impl FnOnce(*mut A) -> u32) -> (A, u32) {
     (answer, status)
 }
 
-// What is read, or the status and the place.
+// The value read, or the status and the place.
 #[inline]
 fn read_by<T: Default>(call: impl FnOnce(*mut Reading<T>) -> u32) -> Result<T, (u32, usize)> {
     let (reading, status) = answered(call);
@@ -367,9 +369,9 @@ fn read_by<T: Default>(call: impl FnOnce(*mut Reading<T>) -> u32) -> Result<T, (
 #[inline]
 pub fn read<T: Whole>(text: &str, way: Way) -> Result<T, (u32, usize)> {
     let (kind, way) = (T::KIND as u32, way as u32);
-    // SAFETY: the declaration is that of the header; the pointer and the length are those of one
-    // `str`, which is lent until the call returns, is UTF-8, and whose pointer is never null; the
-    // reading is a place of its own.
+    // SAFETY: the declaration is that of the header. The pointer and the length are those of one
+    // `str`, which is borrowed until the call returns, is UTF-8, and never has a null pointer. The
+    // reading overlaps nothing else.
     let number = read_by(|reading| unsafe {
         chinese_number_read_utf8(text.as_ptr(), text.len(), kind, way, reading)
     });
@@ -405,7 +407,7 @@ pub fn read_amount(text: &str) -> Result<u64, (u32, usize)> {
     read_by(|reading| unsafe { chinese_amount_read(text.as_ptr(), text.len(), reading) })
 }
 
-/// The amount of a text that may be below zero, or the status and the place.
+/// The amount of a text, possibly negative, or the status and the place.
 #[inline]
 pub fn read_signed_amount(text: &str) -> Result<i64, (u32, usize)> {
     // SAFETY: as for a number.
@@ -430,7 +432,7 @@ pub fn read_figures(text: &str) -> Result<i64, (u32, usize)> {
 #[inline]
 #[allow(
     clippy::cast_possible_truncation,
-    reason = "the year of a date that is read is below 10,000, its month at most 12, its day 31"
+    reason = "the year of a date read is below 10,000, its month at most 12, its day at most 31"
 )]
 pub fn read_date(text: &str) -> Result<BillDate, (u32, usize)> {
     // SAFETY: as for a number.
@@ -443,8 +445,8 @@ pub fn read_date(text: &str) -> Result<BillDate, (u32, usize)> {
     })
 }
 
-/// Writes the runs of a text from a byte on, as many as there are spans, and gives how many; none
-/// where no character begins at that byte.
+/// Finds the runs of a text from a byte on, at most as many as there are spans, and returns how
+/// many; none if no character begins at that byte.
 #[inline]
 pub fn find(
     sought: Sought,
@@ -457,7 +459,8 @@ pub fn find(
         Sought::Numbers => chinese_number_find_utf8,
         Sought::Quantities => chinese_quantity_find_utf8,
     };
-    // SAFETY: as for a number; the spans are those of one slice, and the count is a place of its own.
+    // SAFETY: as for a number; the spans are those of one slice, and the count overlaps nothing
+    // else.
     let (count, _) = answered(|count| unsafe {
         let (upper, greatest) = (u32::from(upper), greatest as u32);
         let (spans, most) = (spans.as_mut_ptr(), spans.len());
@@ -466,7 +469,7 @@ pub fn find(
     count
 }
 
-/// The text with its quantities in figures, also with those that have these flags.
+/// Rewrites the quantities of a text in figures, with these options.
 pub fn quantities_to_figures(
     text: &str,
     (upper, greatest): (bool, Unit),
@@ -478,8 +481,8 @@ pub fn quantities_to_figures(
     let mut bytes: Vec<u8> = Vec::with_capacity(end);
     loop {
         let (room, most) = (bytes.as_mut_ptr(), bytes.capacity());
-        // SAFETY: as for a number; the room is a vector's own, of this length, which the library
-        // writes to and does not read; and the length is a place of its own.
+        // SAFETY: as for a number; the buffer is the vector's own and has this capacity; the
+        // library writes to it and does not read it; and the length overlaps nothing else.
         let (length, status) = answered(|length| unsafe {
             chinese_quantities_to_figures(
                 start, end, upper, greatest, method, options, room, most, length,
@@ -487,8 +490,8 @@ pub fn quantities_to_figures(
         });
         if status == status::DONE {
             debug_assert!(length <= most);
-            // SAFETY: at `DONE` so many bytes, no more than there is room for, are written at its
-            // start, and they are UTF-8 as the text is.
+            // SAFETY: at `DONE` the library has written this many bytes at the start of the buffer,
+            // no more than fit, and they are UTF-8 as the text is.
             return unsafe {
                 bytes.set_len(length);
                 String::from_utf8_unchecked(bytes)
@@ -498,11 +501,11 @@ pub fn quantities_to_figures(
     }
 }
 
-// The text that a call prints into a room, or its status.
+// The text that a call prints into a buffer, or its status.
 //
-// SAFETY: the call is given a room of `MOST_QUANTITY_BYTES` bytes and a length of its own, and knows
-// that it may write to both until it returns; and at `DONE` it has written so many bytes, no more
-// than the room has, at the start of the room, and they are UTF-8.
+// SAFETY: the call gets a buffer of `MOST_QUANTITY_BYTES` bytes and a length that overlaps nothing
+// else, and may write to both until it returns. At `DONE` it must have written `length` bytes, no
+// more than the buffer has, at the start of the buffer, and they must be UTF-8.
 #[inline]
 unsafe fn printed(
     room: &mut Bytes,
@@ -529,8 +532,8 @@ pub fn print<T: Whole>(
 ) -> Result<&str, u32> {
     let Number { low, high } = value.number();
     let (kind, way, script, case) = (T::KIND as u32, way as u32, script as u32, case as u32);
-    // SAFETY: the declaration is that of the header. The library writes to the room, which has no
-    // fewer bytes, and does not read it; and no text of a number has more bytes.
+    // SAFETY: the declaration is that of the header. The library writes to the buffer, which has at
+    // least this many bytes, and does not read it. No text of a number has more bytes.
     unsafe {
         printed(room, |room, length| {
             chinese_number_print(low, high, kind, way, script, case, room, MOST_BYTES, length)
@@ -549,7 +552,7 @@ pub fn print_quantity(
 ) -> Result<&str, u32> {
     let quantity = &QuantityReading::from(quantity);
     let (method, script, case) = (method as u32, script as u32, case as u32);
-    // SAFETY: as for a number; the quantity is lent until the call returns.
+    // SAFETY: as for a number; the quantity is borrowed until the call returns.
     unsafe {
         printed(room, |room, length| {
             let most = MOST_QUANTITY_BYTES;
@@ -578,7 +581,7 @@ pub fn print_amount(
     form: u32,
     fen: u64,
 ) -> Result<&str, u32> {
-    // SAFETY: as for a number; and no text of an amount has more bytes than this room.
+    // SAFETY: as for a number; and no text of an amount has more bytes than this buffer.
     unsafe {
         printed(room, |room, length| {
             chinese_amount_print(fen, script as u32, form, room, MOST_AMOUNT_BYTES, length)
@@ -586,7 +589,7 @@ pub fn print_amount(
     }
 }
 
-/// The text of an amount that may be below zero, or the status.
+/// The text of an amount, possibly negative, or the status.
 #[inline]
 pub fn print_signed_amount(
     room: &mut Bytes,
@@ -613,7 +616,7 @@ pub fn print_signed_amount(
 #[inline]
 pub fn print_date(room: &mut Bytes, script: ChineseVariant, date: BillDate) -> Result<&str, u32> {
     let (year, month, day) = (date.year.into(), date.month.into(), date.day.into());
-    // SAFETY: as for a number; and no text of a date has more bytes than this room.
+    // SAFETY: as for a number; and no text of a date has more bytes than this buffer.
     unsafe {
         printed(room, |room, length| {
             chinese_date_print(year, month, day, script as u32, room, MOST_DATE_BYTES, length)

@@ -1,21 +1,21 @@
-//! Amounts of money in figures, which both those who print and those who read have.
+//! Amounts of money in figures, which every feature has.
 
 use core::fmt::{self, Display, Formatter};
 
 use crate::abi::{self, status};
 
-/// Why a text is no amount in figures.
+/// Why a text is not an amount in figures.
 #[non_exhaustive]
 #[derive(Debug, Copy, Clone, Eq, PartialEq)]
 pub enum FiguresError {
-    /// A digit is missing at the end. The empty text is unfinished, too.
+    /// A digit is missing at the end. The empty text is unfinished too.
     Unfinished,
-    /// No figures begin with the text up to and with this character.
+    /// No figures begin with the text up to and including this character.
     Incorrect {
-        /// How many characters of the text stand in front of it.
+        /// How many characters of the text come before it.
         char_index: usize,
     },
-    /// The amount, or what it is below zero, is 10^18 fen or more.
+    /// The amount is 10^18 fen or more, or -10^18 or less.
     Overflow,
 }
 
@@ -33,13 +33,13 @@ impl Display for FiguresError {
 
 impl core::error::Error for FiguresError {}
 
-/// Reads an amount of money in figures, as `-1,409.50`, in fen, and rounds nothing. One - or − may
-/// stand in front, and behind it ¥, and commas between groups of three digits. Digits, commas,
-/// points and ¥ may be full-width. No feature is needed for this call.
+/// Reads an amount of money in figures, such as `-1,409.50`, in fen, and never rounds. The figures
+/// may have the prefix - or −, then ¥, and commas between groups of three digits. Digits, commas,
+/// points and ¥ may be full-width. This call needs no feature.
 ///
 /// # Errors
 ///
-/// [`FiguresError`] says for what a text is refused.
+/// Returns a [`FiguresError`] if the text is refused.
 ///
 /// ```rust
 /// use chinese_number::{yuan_to_fen, FiguresError};

@@ -9,55 +9,55 @@ use crate::{
     Quantity, Unit,
 };
 
-/// Which characters are looked for: the digits and the units up to the greatest one, with or without
-/// the forms that only cheques have, as 參 and 陸, which mean other things in a sentence.
+/// Which characters a search looks for: the digits and the units up to the greatest one, with or
+/// without the forms that only cheques use, such as 參 and 陸, which mean other things in sentences.
 #[derive(Debug, Copy, Clone, Eq, PartialEq, Hash)]
 pub struct Wanted {
-    /// Whether the forms of the upper case are looked for too.
+    /// Whether to look for the forms of the upper case too.
     pub upper: bool,
-    /// The greatest unit that is looked for.
+    /// The greatest unit to look for.
     pub greatest: Unit,
 }
 
 impl Wanted {
-    /// What sentences of today have: the lower case, and units up to 兆.
+    /// The characters of everyday sentences: the lower case, and units up to 兆.
     pub const EVERYDAY: Self = Self { upper: false, greatest: Unit::Zhao };
-    /// All characters that the readers read.
+    /// All characters that the readers accept.
     pub const ALL: Self = Self { upper: true, greatest: Unit::Ji };
 }
 
-// Each reason, so that one is found by its code.
+// All reasons, to find one by its code.
 const DOUBTS: [Doubt; 6] =
     [Doubt::Word, Doubt::Digits, Doubt::Term, Doubt::Part, Doubt::Time, Doubt::Range];
 
 /// A run of numeral characters in its text.
 #[derive(Debug, Copy, Clone, Eq, PartialEq)]
 pub struct Found<'a> {
-    /// What stands before it.
+    /// The text before it.
     pub before: &'a str,
     /// The run itself.
     pub text: &'a str,
-    /// What stands after it.
+    /// The text after it.
     pub after: &'a str,
     flags: u32,
 }
 
 impl<'a> Found<'a> {
-    /// How many bytes stand before it.
+    /// How many bytes come before it.
     #[inline]
     #[must_use]
     pub fn start(self) -> usize {
         self.before.len()
     }
 
-    /// How many bytes stand before what follows it.
+    /// How many bytes come before its end.
     #[inline]
     #[must_use]
     pub fn end(self) -> usize {
         self.start() + self.text.len()
     }
 
-    /// Where it stands in its text, in bytes.
+    /// Its place in the whole text, in bytes.
     #[inline]
     #[must_use]
     pub fn range(self) -> Range<usize> {
@@ -71,32 +71,32 @@ impl<'a> Found<'a> {
         self.flags & flag::PLAIN_DIGITS != 0
     }
 
-    /// Whether nothing around it goes on with it: no ASCII letter, digit of any kind, `_`, 廿, 卅, 卌
-    /// or 幺 touches it, and no `.`, `,`, `-`, 点 or 點 links it to one of them or to a unit. So
-    /// neither part of 3.5萬 or 1,280 does, nor the 三 of 廿三.
+    /// Whether it stands alone: no ASCII letter, digit of any kind, `_`, 廿, 卅, 卌 or 幺 touches it,
+    /// and no `.`, `,`, `-`, 点 or 點 links it to one of them or to a unit. So neither part of 3.5萬
+    /// or 1,280 stands alone, nor does 三 in 廿三.
     #[inline]
     #[must_use]
     pub fn stands_alone(self) -> bool {
         self.flags & flag::STANDS_ALONE != 0
     }
 
-    /// Whether it is about so much: the 十 of 几十, 十几 and 十多 is, 五六, 三五 and 兩三百 are, and
-    /// 二零二五 is not.
+    /// Whether it is approximate: 十 in 几十, 十几 and 十多 is, and so are 五六, 三五 and 兩三百; 二零二五
+    /// is not.
     #[inline]
     #[must_use]
     pub fn is_about(self) -> bool {
         self.flags & flag::ABOUT != 0
     }
 
-    /// Whether it is one Chinese character, as the 一 of 一般 and the 十 of 十分 are.
+    /// Whether it is one Chinese character, such as 一 in 一般 and 十 in 十分.
     #[inline]
     #[must_use]
     pub fn is_one_character(self) -> bool {
         self.flags & flag::ONE_CHARACTER != 0
     }
 
-    /// Why a reader may mean by an expression something else than its quantity, if anything suggests
-    /// that. A number has no doubt.
+    /// Why a reader may understand an expression as something other than its quantity, if anything
+    /// suggests that. A number has no doubt.
     ///
     /// ```rust
     /// use chinese_number::{find_quantities, Doubt, Wanted};
@@ -113,12 +113,12 @@ impl<'a> Found<'a> {
         DOUBTS.into_iter().find(|doubt| *doubt as u32 == code)
     }
 
-    /// Its number as plain digits where it is those, else by units.
+    /// Reads the run as a number: plain digits as such, otherwise with units.
     ///
     /// # Errors
     ///
-    /// Not each run is a numeral: 五六十 is refused, and a number that the type does not hold. A
-    /// `char_index` counts within the run.
+    /// Refuses a run that is not a numeral, such as 五六十, and a number that the type does not hold.
+    /// A `char_index` counts within the run.
     #[inline]
     pub fn number<T>(self, method: ChineseCountMethod) -> Result<T, ChineseToNumberError>
     where
@@ -131,7 +131,8 @@ impl<'a> Found<'a> {
         }
     }
 
-    /// Its number by [`ChineseCountMethod::TenThousand`], and none where [`Self::number`] refuses it.
+    /// Its number by [`ChineseCountMethod::TenThousand`], or `None` if [`Self::number`] refuses
+    /// it.
     #[inline]
     #[must_use]
     pub fn value<T>(self) -> Option<T>
@@ -141,30 +142,32 @@ impl<'a> Found<'a> {
         self.number(ChineseCountMethod::TenThousand).ok()
     }
 
-    /// The exact quantity that its text is, as [`find_quantities`] finds them.
+    /// Reads the run as an exact quantity; for the results of [`find_quantities`].
     ///
     /// # Errors
     ///
-    /// [`ChineseToNumberError`] says for what a text is refused; a `char_index` counts within the run.
+    /// Returns a [`ChineseToNumberError`] if the text is refused; a `char_index` counts within the
+    /// run.
     #[inline]
     pub fn quantity(self, method: ChineseCountMethod) -> Result<Quantity, ChineseToNumberError> {
         chinese_to_quantity(self.text, method)
     }
 }
 
-// How many runs are searched for at once, behind the first one: many callers want no other.
+// How many runs are searched for at once after the first one, which is the only one many callers
+// want.
 const AT_ONCE: usize = 8;
 
-/// The runs of a text, as [`find_numbers`] and [`find_quantities`] give them.
+/// The runs of a text, as [`find_numbers`] and [`find_quantities`] return them.
 #[derive(Debug, Clone)]
-#[must_use = "the text is searched as numbers are asked for, and not much further"]
+#[must_use = "the text is searched lazily, as the iterator is advanced"]
 pub struct Numbers<'a> {
     sought: Sought,
     wanted: Wanted,
     whole: &'a str,
-    // Where the end begins that is not yet searched.
+    // Where the rest begins that is not yet searched.
     next: usize,
-    // The runs that were found last, and how many of them were given.
+    // The runs that were found last, how many they are, and how many of them were returned.
     spans: [abi::Span; AT_ONCE],
     found: usize,
     given: usize,
@@ -187,11 +190,11 @@ impl<'a> Numbers<'a> {
     }
 }
 
-/// The numbers of a text, from the first to the last: its longest runs of characters that are looked
-/// for. A run ends between an ASCII digit and a digit that is none, 個 is of a run directly before 萬 or
-/// a greater unit alone, and 兆 of none in front of a measure, as in 8兆字节.
+/// Finds the numbers of a text, in order: its longest runs of the wanted characters. A run ends
+/// between an ASCII digit and another digit. 個 belongs to a run only directly before 萬 or a greater
+/// unit, and 兆 belongs to no run before a measure, as in 8兆字节.
 ///
-/// It does not understand sentences: 一起 has a 1 in it, 兩三個 is 23, and 3.5萬 is two numbers.
+/// It does not understand sentences: 一起 contains a 1, 兩三個 is 23, and 3.5萬 is two numbers.
 ///
 /// ```rust
 /// use chinese_number::{find_numbers, Wanted};
@@ -206,8 +209,8 @@ pub fn find_numbers(text: &str, wanted: Wanted) -> Numbers<'_> {
     Numbers::of(text, Sought::Numbers, wanted)
 }
 
-/// The expressions of a text, from the first to the last: numbers with their sign, their figures,
-/// their point and their units, percentages and fractions.
+/// Finds the expressions of a text, in order: numbers with their sign, figures, point and units,
+/// percentages and fractions.
 ///
 /// ```rust
 /// use chinese_number::{find_quantities, ChineseCountMethod, Wanted};

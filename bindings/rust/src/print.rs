@@ -1,4 +1,4 @@
-//! The printers: numbers, quantities, amounts of money and dates as texts.
+//! The printers: they write numbers, quantities, amounts of money and dates.
 
 use core::fmt::{self, Display, Formatter};
 use core::mem::MaybeUninit;
@@ -8,7 +8,7 @@ use alloc::string::String;
 use crate::abi::{self, status, Way, Whole};
 use crate::{BillDate, ChineseCase, ChineseCountMethod, ChineseVariant, Quantity};
 
-/// Why a number is not written by `Low`.
+/// Why a number cannot be written with `Low`.
 #[derive(Debug, Copy, Clone, Eq, PartialEq)]
 pub enum NumberToChineseError {
     /// The number is 10^16 or more.
@@ -40,8 +40,8 @@ impl core::error::Error for NumberToChineseError {}
 /// assert_eq!(text, "一兆");
 /// ```
 pub trait Integer: Whole {
-    /// Writes the number with units as [`ChineseToNumber::to_number_any`] reads it back: in the
-    /// simple script below 10^16 by `Middle`, else by `TenThousand`.
+    /// Writes the number with units, so that [`ChineseToNumber::to_number_any`] reads it back: in
+    /// simple script below 10^16 with `Middle`, otherwise with `TenThousand`.
     ///
     /// [`ChineseToNumber::to_number_any`]: crate::ChineseToNumber::to_number_any
     #[inline]
@@ -53,8 +53,8 @@ pub trait Integer: Whole {
 
 impl<T: Whole> Integer for T {}
 
-/// A room for one text, which is printed without taking memory: the text lies in the room until the
-/// next one is printed there. It is large enough for each number, quantity, amount and date.
+/// A buffer for one text, to print without allocating. The text stays in the buffer until the next
+/// one is printed there. The buffer is large enough for every number, quantity, amount and date.
 ///
 /// ```rust
 /// use core::fmt::{self, Display, Formatter};
@@ -77,7 +77,7 @@ impl<T: Whole> Integer for T {}
 pub struct Room(abi::Bytes);
 
 impl Room {
-    /// A room with no text in it.
+    /// Makes a buffer without a text.
     #[inline]
     #[must_use]
     pub const fn new() -> Self {
@@ -88,7 +88,7 @@ impl Room {
     ///
     /// # Errors
     ///
-    /// `Low` refuses 10^16 and more, -10^16 and less.
+    /// `Low` refuses numbers of 10^16 or more, and of -10^16 or less.
     #[inline]
     pub fn number<T: Integer>(
         &mut self,
@@ -142,7 +142,7 @@ impl Room {
     ///
     /// # Errors
     ///
-    /// [`QuantityToChineseError`] says for what a quantity is refused.
+    /// Returns a [`QuantityToChineseError`] if the quantity is refused.
     #[inline]
     pub fn quantity(
         &mut self,
@@ -190,7 +190,7 @@ impl Room {
     #[inline]
     pub fn figures(&mut self, quantity: Quantity) -> &str {
         let text = abi::print_figures(&mut self.0, quantity);
-        text.unwrap_or_else(|_| unreachable!("the form is one, and the room large enough"))
+        text.unwrap_or_else(|_| unreachable!("the form is valid, and the buffer large enough"))
     }
 
     /// Prints an amount of money, in fen, as [`amount_to_chinese_as`] does.
@@ -208,12 +208,12 @@ impl Room {
         abi::print_amount(&mut self.0, chinese_variant, form.code(), fen).map_err(no_capitals)
     }
 
-    /// Prints an amount of money that may be below zero, in fen, as [`signed_amount_to_chinese`]
+    /// Prints an amount of money that may be negative, in fen, as [`signed_amount_to_chinese`]
     /// does.
     ///
     /// # Errors
     ///
-    /// Amounts of 10^18 fen and more, and of -10^18 fen and less, are refused.
+    /// Amounts of 10^18 fen or more, and of -10^18 fen or less, are refused.
     #[inline]
     pub fn signed_amount(
         &mut self,
@@ -229,7 +229,7 @@ impl Room {
     ///
     /// # Errors
     ///
-    /// What is no day of the Gregorian calendar from year 1 to 9999 is refused.
+    /// A date that is not a day of the Gregorian calendar from year 1 to 9999 is refused.
     #[inline]
     pub fn date(
         &mut self,
@@ -257,13 +257,13 @@ impl fmt::Debug for Room {
     }
 }
 
-// The text of a number that its way never refuses.
+// The text of a number in a way that never refuses one.
 #[inline]
 fn unrefused(text: Result<&str, NumberToChineseError>) -> &str {
-    text.unwrap_or_else(|_| unreachable!("`Low` alone refuses numbers, from 10^16 on"))
+    text.unwrap_or_else(|_| unreachable!("only `Low` refuses numbers, from 10^16 on"))
 }
 
-/// A number that is written in Chinese.
+/// A number that can be written in Chinese.
 ///
 /// ```rust
 /// use chinese_number::{
@@ -281,7 +281,7 @@ pub trait NumberToChinese {
     ///
     /// # Errors
     ///
-    /// `Low` refuses 10^16 and more, -10^16 and less.
+    /// `Low` refuses numbers of 10^16 or more, and of -10^16 or less.
     fn to_chinese(
         self,
         chinese_variant: ChineseVariant,
@@ -313,7 +313,7 @@ macro_rules! printer {
         ///
         /// # Errors
         ///
-        /// It refuses 10^16 and more, -10^16 and less.
+        /// Refuses numbers of 10^16 or more, and of -10^16 or less.
         #[inline]
         pub fn $name(
             chinese_variant: ChineseVariant,
@@ -349,7 +349,9 @@ macro_rules! printers {
         }
 
         printer!($t, $naive, Digits, "as plain digits");
-        $(printer!($t, $name, $method, concat!("by `", stringify!($method), "`") $(, $refuses)?);)*
+        $(
+            printer!($t, $name, $method, concat!("with `", stringify!($method), "`") $(, $refuses)?);
+        )*
     };
 }
 
@@ -414,7 +416,7 @@ printers! {
     from_isize_to_chinese_high High
 }
 
-/// Why a quantity is not written.
+/// Why a quantity cannot be written.
 #[non_exhaustive]
 #[derive(Debug, Copy, Clone, Eq, PartialEq)]
 pub enum QuantityToChineseError {
@@ -439,13 +441,14 @@ impl Display for QuantityToChineseError {
 impl core::error::Error for QuantityToChineseError {}
 
 impl Quantity {
-    /// Writes the quantity by a method: 三点一四, 百分之十二点五, 三分之一. One whose denominator is not
-    /// one of its form is written as a fraction. `chinese_to_quantity` reads the text as the same
+    /// Writes the quantity by a method: 三点一四, 百分之十二点五, 三分之一. A quantity whose denominator does not
+    /// match its form is written as a fraction. `chinese_to_quantity` reads the text as the same
     /// numerator and denominator.
     ///
     /// # Errors
     ///
-    /// A denominator of 0 is refused, and by `Low` a quantity with a number in it of 10^16 or more.
+    /// Refuses a denominator of 0, and with `Low` a quantity that contains a number of 10^16 or
+    /// more.
     ///
     /// ```rust
     /// use chinese_number::{
@@ -471,8 +474,9 @@ impl Quantity {
         Room::new().quantity(chinese_variant, chinese_case, method, self).map(String::from)
     }
 
-    /// Writes the quantity in the simple script by `Middle` where each number that is spelled in it
-    /// is below 10^16, else by `TenThousand`, by which `chinese_to_quantity` reads it back.
+    /// Writes the quantity with `Middle` if the script is simple and each number spelled in it is
+    /// below 10^16, otherwise with `TenThousand`. `chinese_to_quantity` reads it back with
+    /// `TenThousand`.
     ///
     /// # Errors
     ///
@@ -512,19 +516,19 @@ impl Quantity {
     }
 }
 
-/// How an amount of money is written, where cheques differ.
+/// How an amount of money is written: the choices in which cheques differ.
 #[derive(Debug, Default, Copy, Clone, Eq, PartialEq, Hash)]
 pub struct AmountForm {
-    /// Whether 人民币 (人民幣) stands in front.
+    /// Whether to write the prefix 人民币 (人民幣).
     pub currency: bool,
-    /// Whether 圆 (圓) stands in place of 元.
+    /// Whether to write 圆 (圓) instead of 元.
     pub round_yuan: bool,
-    /// Whether 正 stands in place of 整.
+    /// Whether to write 正 instead of 整.
     pub upright_closing: bool,
 }
 
 impl AmountForm {
-    /// With 元 and 整, and nothing in front.
+    /// With 元 and 整, and without a prefix.
     pub const PLAIN: Self = Self { currency: false, round_yuan: false, upright_closing: false };
 
     #[inline]
@@ -535,7 +539,7 @@ impl AmountForm {
     }
 }
 
-/// Why an amount is not written.
+/// Why an amount cannot be written.
 #[non_exhaustive]
 #[derive(Debug, Copy, Clone, Eq, PartialEq)]
 pub enum AmountToChineseError {
@@ -609,12 +613,12 @@ pub fn amount_to_chinese_as(
     Room::new().amount(chinese_variant, form, fen).map(String::from)
 }
 
-/// Writes an amount of money, in fen, in capitals and in a form, behind 负 (負) where it is below
-/// zero, as on a red invoice. No cheque takes such an amount.
+/// Writes an amount of money, in fen, in capitals and in a form. A negative amount, as on a red
+/// invoice, has the prefix 负 (負). Cheques have no negative amounts.
 ///
 /// # Errors
 ///
-/// Amounts of 10^18 fen and more, and of -10^18 fen and less, are refused.
+/// Amounts of 10^18 fen or more, and of -10^18 fen or less, are refused.
 ///
 /// ```rust
 /// use chinese_number::{
@@ -635,7 +639,7 @@ pub fn signed_amount_to_chinese(
     Room::new().signed_amount(chinese_variant, form, fen).map(String::from)
 }
 
-/// Why a date is not written.
+/// Why a date cannot be written.
 #[non_exhaustive]
 #[derive(Debug, Copy, Clone, Eq, PartialEq)]
 pub enum DateToChineseError {
@@ -657,7 +661,7 @@ impl core::error::Error for DateToChineseError {}
 ///
 /// # Errors
 ///
-/// What is no day of the Gregorian calendar from year 1 to 9999 is refused.
+/// A date that is not a day of the Gregorian calendar from year 1 to 9999 is refused.
 ///
 /// ```rust
 /// use chinese_number::{date_to_chinese, BillDate, ChineseVariant, DateToChineseError};

@@ -4,19 +4,20 @@ use crate::QuantityForm;
 
 /// An exact quantity, as written and not reduced: 12.5% is 125/1000.
 ///
-/// Two are equal where numerators, denominators and forms are: 3.10 and 3.1 are two.
+/// Two quantities are equal if their numerators, denominators and forms are: 3.10 and 3.1 differ.
 #[derive(Debug, Copy, Clone, Eq, PartialEq, Hash)]
 pub struct Quantity {
-    /// The number above the line, with the sign.
+    /// The numerator, with the sign.
     pub numerator: i128,
-    /// The number below the line, above 0.
+    /// The denominator, above 0.
     pub denominator: u128,
     /// How the quantity is written.
     pub form: QuantityForm,
 }
 
 impl Quantity {
-    /// A number with so many decimals, and a whole number where it has none; none from 39 on.
+    /// Makes a number with this many decimals, or a whole number for 0 decimals. Returns `None` for
+    /// 39 decimals or more.
     ///
     /// ```rust
     /// use chinese_number::{Quantity, QuantityForm};
@@ -31,7 +32,7 @@ impl Quantity {
         Some(Self { numerator, denominator: 10u128.checked_pow(decimals)?, form })
     }
 
-    /// A percentage with so many decimals; none from 37 on.
+    /// Makes a percentage with this many decimals. Returns `None` for 37 decimals or more.
     ///
     /// ```rust
     /// use chinese_number::{Quantity, QuantityForm};
@@ -46,7 +47,7 @@ impl Quantity {
         Some(Self { numerator, denominator, form: QuantityForm::Percent })
     }
 
-    /// A fraction; none where the denominator is 0.
+    /// Makes a fraction. Returns `None` if the denominator is 0.
     ///
     /// ```rust
     /// use chinese_number::{Quantity, QuantityForm};
@@ -61,9 +62,9 @@ impl Quantity {
         (denominator > 0).then_some(Self { numerator, denominator, form })
     }
 
-    /// The same quantity without the zeros at the end of its decimals: 3.1 of 3.10, the whole number
-    /// 35000 of 3.5万, 12.5% of 12.50%. A fraction stays, and so does a quantity whose denominator is
-    /// not one of its form.
+    /// The same quantity without the zeros at the end of its decimals: 3.1 for 3.10, the whole
+    /// number 35000 for 3.5万, 12.5% for 12.50%. A fraction stays the same, and so does a quantity
+    /// whose denominator does not match its form.
     ///
     /// ```rust
     /// use chinese_number::Quantity;
@@ -93,8 +94,8 @@ impl Quantity {
         Self { numerator, denominator, form }
     }
 
-    /// The whole number that it is, if it is one and the type holds it: 35000 of 3.5万, which is
-    /// 350000/10, and none of 3.5.
+    /// The value as an integer, if it is a whole number and the type holds it: 35000 for 3.5万,
+    /// which is 350000/10, and `None` for 3.5.
     #[must_use]
     pub fn to_whole<T: TryFrom<i128>>(self) -> Option<T> {
         let magnitude = self.numerator.unsigned_abs();

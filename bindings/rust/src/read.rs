@@ -1,23 +1,23 @@
-//! The readers: texts as numbers, as exact quantities, as amounts of money and as dates.
+//! The readers: they read texts as numbers, exact quantities, amounts of money and dates.
 
 use core::fmt::{self, Display, Formatter};
 
 use crate::abi::{self, status, Way, Whole};
 use crate::{BillDate, ChineseCountMethod, Quantity};
 
-/// Why a text is no number of a type.
+/// Why a text is not a number of a type.
 #[derive(Debug, Copy, Clone, Eq, PartialEq)]
 pub enum ChineseToNumberError {
-    /// Nothing is left of the text without its white space and, for signed types, one sign.
+    /// The text is empty without its white space and, for signed types, one sign.
     ChineseNumberEmpty,
-    /// A character cannot stand in its place.
+    /// A character cannot be at its place.
     ChineseNumberIncorrect {
-        /// How many characters of the text stand in front of it, white space among them.
+        /// How many characters of the text come before it, white space included.
         char_index: usize,
     },
-    /// The number is past the type's greatest, or has more than 128 bits.
+    /// The number is above the type's maximum, or has more than 128 bits.
     Overflow,
-    /// The number is past the type's least.
+    /// The number is below the type's minimum.
     Underflow,
 }
 
@@ -52,7 +52,7 @@ fn read<T: Whole>(text: &str, way: Way) -> Result<T, ChineseToNumberError> {
 }
 
 /// Reads a text as an exact quantity: a whole number, a decimal, a percentage or a fraction, in
-/// figures, in numerals or in both, with one sign in front or none.
+/// figures, in numerals or in both, with or without one leading sign.
 ///
 /// ```rust
 /// use chinese_number::{chinese_to_quantity, ChineseCountMethod, Quantity, QuantityForm};
@@ -64,8 +64,8 @@ fn read<T: Whole>(text: &str, way: Way) -> Result<T, ChineseToNumberError> {
 ///
 /// # Errors
 ///
-/// [`ChineseToNumberError`] says for what a text is refused; `Overflow` and `Underflow` where a
-/// number does not fit 128 bits.
+/// Returns a [`ChineseToNumberError`] if the text is refused: `Overflow` or `Underflow` if a number
+/// does not fit in 128 bits.
 #[inline]
 pub fn chinese_to_quantity<S: AsRef<str>>(
     text: S,
@@ -91,22 +91,22 @@ pub trait ChineseToNumber<T> {
     ///
     /// # Errors
     ///
-    /// [`ChineseToNumberError`] says for what a text is refused.
+    /// Returns a [`ChineseToNumberError`] if the text is refused.
     fn to_number(&self, method: ChineseCountMethod) -> Result<T, ChineseToNumberError>;
 
     /// Reads plain digits: 一二三 is 123.
     ///
     /// # Errors
     ///
-    /// [`ChineseToNumberError`] says for what a text is refused.
+    /// Returns a [`ChineseToNumberError`] if the text is refused.
     fn to_number_naive(&self) -> Result<T, ChineseToNumberError>;
 
-    /// Reads a numeral that is written either way: as plain digits where it is digits alone, else
-    /// by `TenThousand`. Both 一二三 and 一百二十三 are 123.
+    /// Reads a numeral that is written in either way: as plain digits if it is only digits,
+    /// otherwise by `TenThousand`. Both 一二三 and 一百二十三 are 123.
     ///
     /// # Errors
     ///
-    /// [`ChineseToNumberError`] says for what a text is refused.
+    /// Returns a [`ChineseToNumberError`] if the text is refused.
     fn to_number_any(&self) -> Result<T, ChineseToNumberError> {
         match self.to_number_naive() {
             Err(ChineseToNumberError::ChineseNumberIncorrect { .. }) => {
@@ -123,7 +123,7 @@ macro_rules! reader {
         ///
         /// # Errors
         ///
-        /// [`ChineseToNumberError`] says for what a text is refused.
+        /// Returns a [`ChineseToNumberError`] if the text is refused.
         #[inline]
         pub fn $name<S: AsRef<str>>(chinese_number: S) -> Result<$t, ChineseToNumberError> {
             read(chinese_number.as_ref(), Way::$way)
@@ -216,16 +216,16 @@ readers! {
     from_chinese_to_isize_high High
 }
 
-/// Why a text is no amount of money.
+/// Why a text is not an amount of money.
 #[non_exhaustive]
 #[derive(Debug, Copy, Clone, Eq, PartialEq)]
 pub enum ChineseToAmountError {
-    /// Something is missing at the end: the text begins an amount, and is none. `壹佰元` wants 整 or
-    /// 伍角. The empty text is unfinished, too.
+    /// Something is missing at the end: the text begins an amount, but is not one. `壹佰元` needs 整 or
+    /// 伍角. The empty text is unfinished too.
     Unfinished,
-    /// No amount begins with the text up to and with this character.
+    /// No amount begins with the text up to and including this character.
     Incorrect {
-        /// How many characters of the text stand in front of it.
+        /// How many characters of the text come before it.
         char_index: usize,
     },
 }
@@ -256,7 +256,7 @@ fn no_amount((status, char_index): (u32, usize)) -> ChineseToAmountError {
 ///
 /// # Errors
 ///
-/// [`ChineseToAmountError`] says for what a text is refused.
+/// Returns a [`ChineseToAmountError`] if the text is refused.
 ///
 /// ```rust
 /// use chinese_number::{chinese_to_amount, ChineseToAmountError};
@@ -271,11 +271,11 @@ pub fn chinese_to_amount(text: &str) -> Result<u64, ChineseToAmountError> {
     abi::read_amount(text).map_err(no_amount)
 }
 
-/// Reads an amount of money in capitals, behind one 负 (負) or not, in fen.
+/// Reads an amount of money in capitals, with or without one prefix 负 (負), in fen.
 ///
 /// # Errors
 ///
-/// [`ChineseToAmountError`] says for what a text is refused.
+/// Returns a [`ChineseToAmountError`] if the text is refused.
 ///
 /// ```rust
 /// use chinese_number::{chinese_to_signed_amount, ChineseToAmountError};
@@ -290,12 +290,12 @@ pub fn chinese_to_signed_amount(text: &str) -> Result<i64, ChineseToAmountError>
     abi::read_signed_amount(text).map_err(no_amount)
 }
 
-/// Reads an amount of money in capitals as it is typed, in fen: without its white space, with ⊗ in
-/// front or not, and with a colon behind 人民币 in front or not.
+/// Reads an amount of money in capitals as it is typed, in fen: ignores white space, then one
+/// leading ⊗, and then one colon directly after a leading 人民币.
 ///
 /// # Errors
 ///
-/// [`ChineseToAmountError`] says for what a text is refused; `char_index` is that of the text as it
+/// Returns a [`ChineseToAmountError`] if the text is refused; `char_index` counts in the text as it
 /// is typed.
 ///
 /// ```rust
@@ -311,16 +311,16 @@ pub fn chinese_to_amount_as_typed(text: &str) -> Result<u64, ChineseToAmountErro
     abi::read_typed_amount(text).map_err(no_amount)
 }
 
-/// Why a text is no date.
+/// Why a text is not a date.
 #[non_exhaustive]
 #[derive(Debug, Copy, Clone, Eq, PartialEq)]
 pub enum ChineseToDateError {
-    /// Something is missing at the end: the text begins a date, and is none. The empty text is
-    /// unfinished, too.
+    /// Something is missing at the end: the text begins a date, but is not one. The empty text is
+    /// unfinished too.
     Unfinished,
-    /// No date begins with the text up to and with this character.
+    /// No date begins with the text up to and including this character.
     Incorrect {
-        /// How many characters of the text stand in front of it.
+        /// How many characters of the text come before it.
         char_index: usize,
     },
 }
@@ -342,7 +342,7 @@ impl core::error::Error for ChineseToDateError {}
 ///
 /// # Errors
 ///
-/// [`ChineseToDateError`] says for what a text is refused.
+/// Returns a [`ChineseToDateError`] if the text is refused.
 ///
 /// ```rust
 /// use chinese_number::{chinese_to_date, BillDate, ChineseToDateError};

@@ -1,18 +1,18 @@
-//! The quantities of running text, replaced.
+//! Replaces the quantities of running text.
 
 use alloc::string::String;
 
 use crate::abi::{self, flag, option};
 use crate::{find_quantities, ChineseCountMethod, Doubt, Found, Wanted};
 
-/// Which quantities of a text are replaced that else stay.
+/// Which quantities of a text are replaced that otherwise stay.
 #[derive(Debug, Default, Copy, Clone, Eq, PartialEq, Hash)]
 pub struct Included {
-    /// Whether those about so much are, as the 300 of 300多.
+    /// Approximate ones, such as 300 in 300多.
     pub about: bool,
-    /// Whether those of one Chinese character are, as the 一 of 一般.
+    /// Those of one Chinese character, such as 一 in 一般.
     pub one_character: bool,
-    /// Whether those that are doubtful are, as 五一; but those with [`Doubt::Part`] stay always.
+    /// Doubtful ones, such as 五一. Those with [`Doubt::Part`] always stay.
     pub doubtful: bool,
 }
 
@@ -46,24 +46,23 @@ pub enum Style {
     /// Great units stay: 三千五百亿 becomes 3500亿.
     #[default]
     Kept,
-    /// No great unit is kept, also of what is in figures: 三千五百亿 and 3500亿 become 350000000000.
+    /// No great unit is kept, not even after figures: 三千五百亿 and 3500亿 become 350000000000.
     Expanded,
 }
 
 /// How the quantities of a text are written in figures.
 #[derive(Debug, Default, Copy, Clone, Eq, PartialEq, Hash)]
 pub struct Figures {
-    /// What is written in figures that else stays.
+    /// Which quantities are written in figures that otherwise stay.
     pub included: Included,
     /// How numerals are written.
     pub style: Style,
-    /// Whether what is written in figures alone is rewritten in ASCII, without commas and leading
-    /// zeros.
+    /// Whether what is only figures is rewritten in ASCII, without commas and leading zeros.
     pub canonical: bool,
 }
 
 impl Figures {
-    /// Great units stay, and so does what is in figures and what is doubtful.
+    /// Great units, figures and doubtful quantities stay.
     pub const DEFAULT: Self =
         Self { included: Included::NONE, style: Style::Kept, canonical: false };
 
@@ -75,10 +74,10 @@ impl Figures {
     }
 }
 
-/// The text with its quantities replaced: `new` gives the new text of each, or none where it stays.
+/// Replaces the quantities of a text. `new` returns the new text of each, or `None` to keep it.
 ///
-/// It is asked for each expression of [`find_quantities`] that has a quantity by the method, in
-/// order, but for those that are not included. All else stays as it is.
+/// Calls `new`, in order, for each expression of [`find_quantities`] that has a quantity by the
+/// method, except those that are not included. The rest of the text stays as it is.
 ///
 /// ```rust
 /// use chinese_number::{replace_quantities, ChineseCountMethod, Found, Included, Wanted};
@@ -110,11 +109,11 @@ pub fn replace_quantities<T: AsRef<str>>(
     done
 }
 
-/// The text with its numerals in figures, as an editor writes them.
+/// Rewrites the numerals of a text in figures, as an editor does.
 ///
-/// What already is in figures stays, and so do what [`replace_quantities`] does not replace, a part
-/// of a name, an address or another number, 千分之五 and 二又五分之三, and the other parts of a date, a
-/// time, a length, an amount or a range of which one part stays.
+/// These stay: figures; what [`replace_quantities`] does not replace; a part of a name, an address
+/// or another number; 千分之五 and 二又五分之三; and all of a date, a time, a length, an amount or a range of
+/// which one part stays.
 ///
 /// ```rust
 /// use chinese_number::{quantities_to_figures, ChineseCountMethod, Figures, Style, Wanted};

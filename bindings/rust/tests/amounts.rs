@@ -1,4 +1,4 @@
-//! Amounts of money: many of them there and back, and those that are refused.
+//! Amounts of money: many of them written and read back, and those that are refused.
 
 use chinese_number::*;
 

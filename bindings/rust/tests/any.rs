@@ -1,4 +1,4 @@
-//! Numerals that are written either way, where a type has upstream's two methods alone.
+//! Numerals that are written in either way, for a type that has only upstream's two methods.
 
 use chinese_number::*;
 

@@ -1,4 +1,4 @@
-//! Each date there and back, and what is no date.
+//! Each date written and read back, and texts that are not dates.
 
 use chinese_number::*;
 

@@ -1,4 +1,4 @@
-//! The numbers in running text: where they stand, what they are, and that they part their text.
+//! The numbers in running text: their places, their values, and that they split their text.
 use std::iter::FusedIterator;
 
 use chinese_number::*;
@@ -79,7 +79,7 @@ fn looks_for_units_up_to_the_greatest() {
     for (rank, greatest) in greatest.into_iter().enumerate() {
         let wanted = Wanted { upper: false, greatest };
         let texts: String = find_numbers(units, wanted).map(|found| found.text).collect();
-        // 個 stands directly before no unit from 萬 up.
+        // 個 is not directly before a unit from 萬 up.
         let looked_for: String = units.chars().skip(1).take(rank).collect();
         assert_eq!(texts, looked_for);
         assert_eq!(greatest as usize, rank);

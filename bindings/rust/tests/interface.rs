@@ -1,6 +1,6 @@
 //! The interface of the upstream crate for the integer types: each name with its signature, and the
-//! answers of its trait; what each type and trait can do; the texts of the errors, an empty text, and
-//! several threads at once.
+//! results of its trait; what each type and trait can do; the texts of the errors, an empty text,
+//! and several threads at once.
 
 use std::error::Error;
 use std::fmt::{Debug, Display};
@@ -13,7 +13,7 @@ use chinese_number::*;
 type Answer<T> = Result<T, ChineseToNumberError>;
 type Printed = Result<String, NumberToChineseError>;
 
-/// The way in the name of a call: none digit by digit, and `Low` where the name has none.
+/// The method in the name of a call: `None` for plain digits, and `Low` if the name has none.
 fn way(name: &str) -> Option<ChineseCountMethod> {
     use ChineseCountMethod::*;
     let named = [("_naive", None), ("_ten_thousand", Some(TenThousand)), ("_middle", Some(Middle))];
@@ -21,7 +21,7 @@ fn way(name: &str) -> Option<ChineseCountMethod> {
     found.map_or(Some(if name.ends_with("_high") { High } else { Low }), |(_, way)| *way)
 }
 
-/// Texts that tell the ways apart: the greatest unit whose scale fits, and the next one.
+/// Texts that distinguish the ways: the greatest unit whose scale fits, and the next one.
 const TEXTS: [&str; 11] = [
     "",
     "零極零五",
@@ -36,10 +36,10 @@ const TEXTS: [&str; 11] = [
     "負一二三",
 ];
 
-/// A number that fits the type, and is written otherwise by each way that can be told there.
+/// A number that fits the type, and that each distinguishable way writes differently.
 const NUMBERS: [u128; 4] = [10, 100_000, 1_000_100_000_000, 1_000_000_000_000_000_000_000_000];
 
-/// Each of these calls has this type, and answers as the trait does by the way of its name.
+/// Each of these calls has this type, and returns what the trait does in the way of its name.
 macro_rules! readers {
     ($($t:ty: $($name:ident)+;)+) => {
         $($(
@@ -276,8 +276,8 @@ fn empty_texts() {
     }
 }
 
-// Each number of 64 bits that this step leads to, ten thousand of them, is printed by each method and
-// read back.
+// Each number of 64 bits that this step leads to, ten thousand of them, is printed by each method
+// and read back.
 fn reads_back(step: i64) {
     let limits = -9_999_999_999_999_999..=9_999_999_999_999_999;
     for number in (0..10_000).map(|count| step.wrapping_mul(count)) {

@@ -1,5 +1,5 @@
-//! What this crate does of exact quantities itself: it makes them, and whole numbers of them, trims
-//! them, and replaces those of a text.
+//! What this crate itself does with exact quantities: it makes them, converts them to whole
+//! numbers, trims them, and replaces those of a text.
 use chinese_number::*;
 
 fn whole<T: TryFrom<i128>>(text: &str) -> Option<T> {

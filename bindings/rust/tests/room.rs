@@ -1,4 +1,4 @@
-//! Printing without memory: the text in a room is that of the call that gives a `String`.
+//! Printing without allocating: the text in a buffer is that of the call that returns a `String`.
 
 use std::fmt::Write;
 

@@ -1,8 +1,8 @@
-//! Amounts that may be below zero: many of them there and back, in capitals and in figures, and
-//! those that are refused.
+//! Amounts that may be negative: many of them written and read back, in capitals and in figures,
+//! and those that are refused.
 //!
-//! `CHINESE_NUMBER_FEN=10000000` tries all from so many fen below zero to as many above it, and as
-//! many others; without it they are 100,000.
+//! `CHINESE_NUMBER_FEN=10000000` tries all from this many fen below zero to as many above it, and
+//! as many others; the default is 100,000.
 
 use std::env;
 
@@ -39,7 +39,7 @@ fn figures(fen: i64) -> String {
     format!("{sign}{}.{:02}", magnitude / 100, magnitude % 100)
 }
 
-// Below zero an amount is written as its magnitude is, behind the sign.
+// A negative amount is written like its magnitude, after the sign.
 fn reads_back(variant: ChineseVariant, form: AmountForm, sign: &str, fen: i64) {
     let magnitude = fen.unsigned_abs();
     let text = signed_amount_to_chinese(variant, form, fen).unwrap();
@@ -73,7 +73,7 @@ fn refuses_great_amounts() {
     assert_eq!(written(i64::MIN), Err(AmountToChineseError::Underflow));
 }
 
-// No row has the end of a line in it. As it is typed an amount has white space anywhere.
+// No row contains a line end. An amount as typed can have white space anywhere.
 #[test]
 fn the_end_of_a_line() {
     let refused = Err(ChineseToAmountError::Incorrect { char_index: 4 });

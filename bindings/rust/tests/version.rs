@@ -1,4 +1,4 @@
-//! The library that is linked has the version of the crate.
+//! The linked library has the version of the crate.
 
 use chinese_number as _;
 

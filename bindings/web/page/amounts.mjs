@@ -22,11 +22,11 @@ function yuanOf(fen) {
   return `${fen < 0n ? '-' : ''}${digits.slice(0, -2)}.${digits.slice(-2)}`;
 }
 
-// Below zero are red invoices alone.
+// Only red invoices have negative amounts.
 const note = (fen) => (fen < 0n ? words('belowZero') : '');
 const reasons = () => ({ tooLarge: words('tooManyYuan') });
 
-// 元 may stand behind figures, as people type it.
+// Figures may end with 元, as people type it.
 const IN_FIGURES = {
   read: (text) => yuanToFenBigInt(text.replace(/[元圆圓]$/, '')),
   answer: (fen) => ({ rows: inEachScript((script) => capitalsOf(fen, script)), said: note(fen) }),

@@ -36,7 +36,7 @@ const CHARACTERS = {
   traditional: { digits: '壹貳參肆伍陸柒捌玖', others: '年月日拾零' },
 };
 
-/** Says of a date whose month does not have its day that it is so: with 叁月 it is a date. */
+/** Reports a day that its month does not have: with 叁月 it is a date. */
 function whyNoDay(text) {
   const month = text.indexOf('年') + 1, day = text.indexOf('月') + 1;
   for (const end of ['', '日']) {
@@ -46,7 +46,7 @@ function whyNoDay(text) {
         day: chineseToDate(`${text.slice(0, month)}叁月${text.slice(day)}${end}`).day,
       });
     } catch {
-      // It is something else.
+      // Another error.
     }
   }
   return '';

@@ -1,6 +1,6 @@
-// A form whose field is judged at each key. Below the field stand the rows of the result, or why
-// there is none, and in a mirror over it the character at fault is marked. What was typed goes into
-// the page as text alone, by textContent and by the strings of append and replaceChildren.
+// A form whose field is checked at each key. Below the field are the rows of the result, or the
+// reason why there is none, and a mirror over it marks the wrong character. What was typed enters
+// the page only as text, through textContent and the strings of append and replaceChildren.
 
 import { words } from './language.mjs';
 
@@ -13,7 +13,7 @@ export function element(name, ...parts) {
   return it;
 }
 
-/** A button that copies a text, which it asks for when it is pressed; `name` says of what. */
+/** A button that copies a text, which it computes when it is pressed; `name` describes the text. */
 export function copyButton(name, textOf) {
   const button = element('button');
   button.type = 'button';
@@ -28,7 +28,7 @@ export function copyButton(name, textOf) {
       label('copied');
       setTimeout(label, 2000, 'copy');
     } catch {
-      // A page without https has no clipboard: what is selected can be copied by hand.
+      // A page without https has no clipboard: the user can copy the selected text.
       const shown = button.previousElementSibling;
       if (shown.textContent === '') shown.textContent = textOf();
       getSelection().selectAllChildren(shown);
@@ -43,30 +43,30 @@ function row({ name, text, lang }) {
   return [element('dt', name), element('dd', value, copyButton(name, () => text))];
 }
 
-/** A text in parts, of which the one at fault, where there is one, is an element. */
+/** A text in parts, of which the wrong one, if any, is an element. */
 export function partsAround(text, fault, name) {
   if (!fault) return [text];
   const { start, end } = fault;
   return [text.slice(0, start), element(name, text.slice(start, end)), text.slice(end)];
 }
 
-/** Says something. What stays as it was is not written again, so no screen reader repeats it. */
+/** Shows a message. An unchanged one is not written again, so screen readers do not repeat it. */
 export function say(field, output, said, isFault) {
   if (output.textContent !== said) output.textContent = said;
   output.classList.toggle('fault', isFault);
   field.ariaInvalid = String(isFault);
 }
 
-/** Calls a function at each change of a field's text, another while an input method composes. */
+/** Calls one function at each change of a field's text, another while an input method composes. */
 export function atEachKey(field, judge, compose) {
   field.addEventListener('input', (event) => (event.isComposing ? compose : judge)());
   field.addEventListener('compositionend', judge);
 }
 
 /**
- * Has a form's field judged at each key. `judge` gives of what was typed its `rows`, what is
- * `said`, and the place of the character at `fault`, or whether it is a fault where no character is
- * one. Returns the function that judges what stands there.
+ * Checks a form's field at each key. `judge` gets what was typed and returns its `rows`, the
+ * message `said`, and the place of the wrong character as `fault`; `isFault` says that the text is
+ * wrong without such a place. Returns the function that checks the field's text.
  */
 export function judgeForm(form, judge) {
   const [field, mirror, output, select, list] =
@@ -93,11 +93,10 @@ export function judgeForm(form, judge) {
     shown = seen;
   }
 
-  // While an input method composes, its letters are no text yet: nothing is judged, and no mark
-  // stands.
+  // While an input method composes, its letters are not text yet: nothing is checked or marked.
   atEachKey(field, judgeAgain, () => mark());
   for (const it of ['scroll', 'keyup', 'pointerup', 'select']) field.addEventListener(it, follow);
-  // Enter and the button lead to the character at fault. Nothing else moves the caret.
+  // Enter and the button move the caret to the wrong character. Nothing else moves it.
   form.addEventListener('submit', (event) => {
     event.preventDefault();
     if (!place) return;

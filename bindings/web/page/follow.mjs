@@ -1,12 +1,12 @@
-// What may follow a text, and what a refused one lacks: found by asking the reader itself, with
-// each character that there is for it.
+// Finds what may follow a text, and what is missing in a refused one, by calling the reader with
+// each possible character.
 
 import { either, words } from './language.mjs';
 
-// Nothing is asked of a longer text, since each question reads all of it.
-const MOST_ASKED = 1000;
+// A longer text is not examined, since each call reads all of it.
+const MOST_EXAMINED = 1000;
 
-/** Whether a text can be read, or something behind it can make it one that can. */
+/** Whether a text can be read, or can be read with more text after it. */
 function isBegun(read, text) {
   try {
     read(text);
@@ -16,13 +16,13 @@ function isBegun(read, text) {
   }
 }
 
-/** Whether one of these ends makes a refused text one that is read. */
+/** Whether a refused text can be read with one of these suffixes. */
 export const canEnd = (read, text, ends) =>
-  text.length <= MOST_ASKED && ends.some((it) => isBegun(read, text + it));
+  text.length <= MOST_EXAMINED && ends.some((it) => isBegun(read, text + it));
 
 /** The characters that may follow a text, as words. Three digits and more in order are a range. */
-function whatMayFollow(read, front, { digits, others }) {
-  const may = (character) => isBegun(read, front + character);
+function whatMayFollow(read, prefix, { digits, others }) {
+  const may = (character) => isBegun(read, prefix + character);
   const names = { '.': 'point', ',': 'comma', 人: 'renminbi' };
   const numbers = Array.from(digits).filter(may);
   const named = Array.from(others).filter(may).map((it) => (names[it] ? words(names[it]) : it));
@@ -30,7 +30,7 @@ function whatMayFollow(read, front, { digits, others }) {
   return either([...named, ...(isRange ? [`${numbers[0]}–${numbers.at(-1)}`] : numbers)]);
 }
 
-/** Which of 零 and, before 拾, 佰 or 仟, 壹 leads a text past its fault, and in front of what. */
+/** Whether 零, or 壹 before 拾, 佰 or 仟, corrects a text's first error, and before which character. */
 function whatIsMissing(read, text, { start, end }) {
   for (const missing of '零壹') {
     for (let at = start; at >= Math.max(start - 2, 0); at--) {
@@ -42,15 +42,15 @@ function whatIsMissing(read, text, { start, end }) {
   return undefined;
 }
 
-/** What is said of a text that is not finished. */
+/** The message for a text that is not finished. */
 export function sayWhatMayFollow(read, text, characters) {
-  if (text.length > MOST_ASKED) return words('unfinished');
+  if (text.length > MOST_EXAMINED) return words('unfinished');
   return words('goOn', { next: whatMayFollow(read, text, characters) });
 }
 
-/** What is said of a text that is refused at a place: what is missing, or expected there. */
+/** The message for a text that is refused at a place: what is missing, or expected there. */
 export function sayWhatIsWrong(read, text, fault, characters) {
-  if (fault.start > MOST_ASKED) return '';
+  if (fault.start > MOST_EXAMINED) return '';
   const missing = whatIsMissing(read, text, fault);
   if (missing) return words('missing', missing);
   const next = whatMayFollow(read, text.slice(0, fault.start), characters);

@@ -1,4 +1,4 @@
-// The forms of the page, each with what judges its field.
+// The forms of the page, each with the function that checks its field.
 
 import { readAmount, writeAmount } from './amounts.mjs';
 import { readDate, writeDate } from './dates.mjs';
@@ -18,13 +18,13 @@ const judges = [
   ...judgeNumbers,
 ];
 
-// A choice judges anew what it is about.
+// After a choice changes, the fields that it affects are checked again.
 forms.writingAmounts.addEventListener('change', judgeAmount);
 document.getElementById('choosing').addEventListener('change', () => {
   for (const it of judgeNumbers) it();
 });
 
-/** Judges what stands in all fields, in the language of the page. */
+/** Checks the texts of all fields, in the language of the page. */
 export function judgeAll() {
   offerChoices();
   offerCopy();

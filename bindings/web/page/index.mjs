@@ -1,5 +1,4 @@
-// The page begins. Its words stand there before the library has loaded; where it does not load,
-// they say so.
+// Starts the page. Its texts appear before the library has loaded, and report if it fails to load.
 
 import { speak, switchInPlace, words } from './language.mjs';
 
@@ -8,7 +7,7 @@ speak();
 try {
   const { judgeAll } = await import('./forms.mjs');
   switchInPlace(judgeAll);
-  // What was typed while the library loaded.
+  // For what was typed while the library loaded.
   judgeAll();
   loading.hidden = true;
 } catch (error) {

@@ -1,9 +1,9 @@
-// The language of the page: that of the address, as ?lang=zh-Hans, else the first one of the
-// browser's that the page has, else English.
+// The language of the page: that of the address, such as ?lang=zh-Hans, otherwise the first
+// language of the browser that the page has, otherwise English.
 
 import { LANGUAGES, TEXTS } from './texts.mjs';
 
-/** The language of the page that a tag is of, as zh-TW is of zh-Hant; undefined where none is. */
+/** The page's language for a tag, such as zh-Hant for zh-TW; undefined if there is none. */
 function languageOf(tag) {
   try {
     const { language, script } = new Intl.Locale(tag).maximize();
@@ -14,14 +14,14 @@ function languageOf(tag) {
   }
 }
 
-const asked = new URLSearchParams(location.search).get('lang');
-let current = [asked, ...navigator.languages].map(languageOf).find(Boolean) ?? 'en';
+const requested = new URLSearchParams(location.search).get('lang');
+let current = [requested, ...navigator.languages].map(languageOf).find(Boolean) ?? 'en';
 
-/** A text in the language of the page, with values in the place of what stands in braces. */
+/** A text in the language of the page, with the names in braces replaced by values. */
 export const words = (key, values = {}) =>
   TEXTS[key][LANGUAGES.indexOf(current)].replace(/\{(\w+)\}/g, (_, name) => values[name]);
 
-/** Items as one text, with 'or' in front of the last one. */
+/** Items as one text, with 'or' before the last one. */
 export const either = (items) =>
   new Intl.ListFormat(current, { type: 'disjunction' }).format(items);
 
@@ -30,15 +30,15 @@ export const sentences = (...parts) => parts.filter(Boolean).join(current === 'e
 
 const LANGUAGE_OF = { simplified: 'zh-Hans', traditional: 'zh-Hant' };
 
-/** The scripts, that of the page's language first. */
+/** The scripts, beginning with that of the page's language. */
 export const scripts = () =>
   (current === 'zh-Hant' ? ['traditional', 'simplified'] : ['simplified', 'traditional']);
 
-/** The rows of a text in each script. What stands behind the script's name is a part of theirs. */
+/** The rows of a text in each script. `more` is a suffix of the keys of their names. */
 export const inEachScript = (textOf, more = '') => scripts().map((script) =>
   ({ name: words(script + more), text: textOf(script), lang: LANGUAGE_OF[script] }));
 
-/** Puts its words on the page. */
+/** Writes the texts into the page. */
 export function speak() {
   document.documentElement.lang = current;
   document.title = words('title');
@@ -54,7 +54,7 @@ export function speak() {
   for (const it of switches.children) it.ariaCurrent = String(it.lang === current);
 }
 
-/** Lets the links to the languages change them in place, and calls a function after that. */
+/** Makes the language links switch in place, and calls a function after that. */
 export function switchInPlace(switched) {
   document.getElementById('languages').addEventListener('click', (event) => {
     const { lang, href } = event.target;

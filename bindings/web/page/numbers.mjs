@@ -1,12 +1,12 @@
-// Numbers: figures to numerals, and numerals to figures. Unless an integer type or plain digits are
-// chosen, they may have decimals, and be percentages and fractions.
+// Numbers: figures to numerals, and numerals to figures. They may have decimals and be percentages
+// or fractions, unless an integer type or plain digits are chosen.
 
 import { KINDS, METHODS, toBigInt, toChinese, toQuantity } from '../files/chinese-number.mjs';
 import { inEachScript, words } from './language.mjs';
 import { answerTyped } from './typed.mjs';
 
 const [kind, way] = ['kind', 'way'].map((it) => document.getElementById(it));
-// In the order in which they are offered.
+// In the order of the menu.
 const WAYS = ['any', 'digits', 'tenThousand', 'low', 'middle', 'high'];
 
 /** Offers the integer types and the ways, in the language of the page. */
@@ -20,7 +20,7 @@ export function offerChoices() {
   offer(way, WAYS.map((it) => [it, words(it)]));
 }
 
-/** The method that was chosen, by which quantities are read and written; or none. */
+/** The chosen method for reading and writing quantities, if any. */
 export const methodChosen = () => (METHODS.includes(way.value) ? { method: way.value } : {});
 
 const kindChosen = () => kind.value || 'i128';
@@ -45,7 +45,7 @@ function numeralsOf(quantity) {
     inEachScript((script) => textOf({ script, case: it }), `_${it}`));
 }
 
-// What may complete a number that is not read as it is, as 1,4 and 三点, 三分 and 一亿二千.
+// Suffixes that may complete a number that is refused as it is, such as 1,4, 三点, 三分 and 一亿二千.
 const ENDS = ['0', '00', '000', '一', '之一', '分之一', '万', '十万', '百万', '一万'];
 
 const IN_FIGURES = {

@@ -1,4 +1,5 @@
-// The quantities of a text: marked in it, listed below it with their values, and put into figures.
+// Marks the quantities of a text, lists them below it with their values, and writes them in
+// figures.
 
 import { findQuantities, quantitiesToFigures } from '../files/chinese-number.mjs';
 import { MOST_MARKED, atEachKey, copyButton, element, partsAround, say } from './field.mjs';
@@ -8,16 +9,16 @@ import { reasonOf } from './typed.mjs';
 
 const byId = (id) => document.getElementById(id);
 const [text, said, found, replaced] = ['text', 'textSaid', 'found', 'replaced'].map(byId);
-// What is looked for, and how it is replaced.
+// The choices for searching and replacing.
 const CHOICES = ['upper', 'about', 'oneCharacter', 'doubtful', 'expanded', 'canonical'];
 const [upper, about, oneCharacter, doubtful, expanded, canonical] = CHOICES.map(byId);
 const mirror = document.querySelector('#searching .mirror');
 const MOST_LISTED = 100;
-// So many characters of a text that is too long for marks are searched at each key.
+// How many characters are searched at each key if a text is too long for marks.
 const NEAR = 400;
 let caret = 0;
-// What belongs to an expression, and nearly always its doubt, is decided by so many characters on
-// either side of it.
+// This many characters on either side of an expression determine its extent, and nearly always its
+// doubt.
 const SIGHT = 10;
 
 const isLong = (typed) => typed.length > MOST_MARKED;
@@ -31,7 +32,7 @@ function inFigures(typed) {
   return quantitiesToFigures(typed, { ...wanted(), ...methodChosen(), ...included, ...style });
 }
 
-/** The figures of an expression, or why it has none and where. */
+/** The figures of an expression, or the reason and the place of an error. */
 function valueOf(it) {
   try {
     return { value: it.quantity(methodChosen()).toFigures() };
@@ -51,26 +52,26 @@ const isLeft = ({ isAbout, isOneCharacter, doubt }) => (isAbout && !about.checke
   || (isOneCharacter && !oneCharacter.checked)
   || doubt === 'part' || (doubt !== null && !doubtful.checked);
 
-/** The value of an expression in words: whether it is about so much, and why it is doubtful. */
-function toldOf(value, { isAbout, doubt }) {
-  const told = isAbout ? words('valueAbout', { value }) : value;
-  return doubt ? words('valueInDoubt', { value: told, doubt: words(`doubt_${doubt}`) }) : told;
+/** The value of an expression in words, with whether it is approximate and why it is doubtful. */
+function shownOf(value, { isAbout, doubt }) {
+  const shown = isAbout ? words('valueAbout', { value }) : value;
+  return doubt ? words('valueInDoubt', { value: shown, doubt: words(`doubt_${doubt}`) }) : shown;
 }
 
 /**
- * The class of an expression, and what is said of it: refused; left as it is, since nobody asked
- * for what is about so much, one character or doubtful; doubtful, since it is about so much, may be
- * a part of something or is in doubt; or none of these.
+ * The class of an expression, and the text that is shown for it. The classes are: refused; left as
+ * it is, since approximate, one-character or doubtful expressions were not requested; doubtful,
+ * since it is approximate, may be part of something or has a doubt; or none of these.
  */
 function judge(it) {
   const { value, fault } = valueOf(it);
-  if (fault) return { name: 'fault', told: value, fault };
-  const told = toldOf(value, it);
-  if (isLeft(it)) return { name: 'left', told };
-  if (it.doubt) return { name: 'doubtful', told };
+  if (fault) return { name: 'fault', shown: value, fault };
+  const shown = shownOf(value, it);
+  if (isLeft(it)) return { name: 'left', shown };
+  if (it.doubt) return { name: 'doubtful', shown };
   return it.standsAlone
-    ? { name: it.isAbout ? 'doubtful' : '', told }
-    : { name: 'doubtful', told: words('valueDoubtful', { value: told }) };
+    ? { name: it.isAbout ? 'doubtful' : '', shown }
+    : { name: 'doubtful', shown: words('valueDoubtful', { value: shown }) };
 }
 
 function markOf(name, ...parts) {
@@ -92,14 +93,14 @@ function mark(typed, judged) {
 
 /** Lists the expressions with their values or refusals. */
 function list(judged) {
-  const items = judged.slice(0, MOST_LISTED).map(([it, { name, told, fault }]) => {
+  const items = judged.slice(0, MOST_LISTED).map(([it, { name, shown, fault }]) => {
     const expression = element('span', ...partsAround(it.text, fault, 'u'));
-    return element('li', markOf(name, expression, ' ', element('small', told)));
+    return element('li', markOf(name, expression, ' ', element('small', shown)));
   });
   found.replaceChildren(...items);
 }
 
-/** How many there are, and how many of each class. */
+/** How many expressions there are, and how many of each class. */
 function summaryOf(judged) {
   const all = judged.length, counts = { found: all, more: Math.max(all - MOST_LISTED, 0) };
   for (const [, { name }] of judged) {
@@ -111,7 +112,7 @@ function summaryOf(judged) {
     .map((key) => words(key, { count: counts[key] })).join(' · ');
 }
 
-/** The expressions of a text; of a long one those near the caret. */
+/** The expressions of a text; for a long text only those near the caret. */
 function expressionsOf(typed) {
   if (!isLong(typed)) return Array.from(findQuantities(typed, wanted()));
   const from = Math.max(text.selectionStart - NEAR / 2, 0), near = typed.slice(from, from + NEAR);
@@ -133,7 +134,7 @@ function show(typed) {
   return sentences(near, summaryOf(judged));
 }
 
-/** Searches the text anew. */
+/** Searches the text again. */
 export function search() {
   caret = text.selectionStart;
   try {
@@ -143,14 +144,14 @@ export function search() {
   }
 }
 
-/** Offers to copy the text in figures, in the language of the page. */
+/** Adds the button that copies the text in figures, in the language of the page. */
 export function offerCopy() {
   replaced.parentElement.querySelector('button')?.remove();
   replaced.after(copyButton(words('replaced'), () => inFigures(text.value)));
 }
 
-// While an input method composes the text stands in the mirror all the same, since the field is as
-// high as the mirror. A long text has none, and is searched anew where the caret goes.
+// While an input method composes, the mirror still contains the text, since it determines the
+// height of the field. A long text has no mirror, and is searched again when the caret moves.
 atEachKey(text, search, () => mirror.replaceChildren(isLong(text.value) ? '' : text.value));
 for (const it of ['keyup', 'pointerup']) {
   text.addEventListener(it, () => {

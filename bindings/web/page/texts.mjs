@@ -1,9 +1,9 @@
-// What the page says, in each of its languages: data, and the only words of the page.
+// The texts of the page in each of its languages. The page has no other texts.
 
 /** The languages, in the order of the texts below. */
 export const LANGUAGES = ['zh-Hans', 'zh-Hant', 'en'];
 
-/** A text by its key, in each language. What stands in braces is put in its place. */
+/** Each text by its key, in each language. Names in braces are replaced by values. */
 export const TEXTS = {
   // The page.
   title: ['大写金额与中文数字', '大寫金額與中文數字', 'Chinese amounts and numerals'],
@@ -21,9 +21,9 @@ export const TEXTS = {
   writingAmounts: ['金额转大写', '金額轉大寫', 'Amount to capitals'],
   figures: ['金额（元）', '金額（元）', 'Amount in yuan'],
   form: ['写法', '寫法', 'How it is written'],
-  currency: ['前面写“人民币”', '前面寫「人民幣」', '人民币 in front'],
-  roundYuan: ['“元”写作“圆”', '「元」寫作「圓」', '圆 for 元'],
-  uprightClosing: ['“整”写作“正”', '「整」寫作「正」', '正 for 整'],
+  currency: ['前面写“人民币”', '前面寫「人民幣」', 'with the prefix 人民币'],
+  roundYuan: ['“元”写作“圆”', '「元」寫作「圓」', '圆 instead of 元'],
+  uprightClosing: ['“整”写作“正”', '「整」寫作「正」', '正 instead of 整'],
   readingAmounts: ['大写转金额', '大寫轉金額', 'Capitals to amount'],
   capitals: ['大写金额', '大寫金額', 'Amount in capitals'],
   writingDates: ['出票日期转大写', '出票日期轉大寫', 'Date to capitals'],
@@ -49,26 +49,26 @@ export const TEXTS = {
   searching: ['文本中的数量', '文字中的數量', 'Quantities in a text'],
   text: ['文本', '文字', 'Text'],
   textExample: ['市值三点五亿元，占百分之五十', '市值三點五億元，佔百分之五十', '市值三点五亿元，占百分之五十'],
-  searchChoices: ['查找和替换', '搜尋和取代', 'What is looked for and replaced'],
+  searchChoices: ['查找和替换', '搜尋和取代', 'Search and replacement'],
   upper: [
     '也找大写（如“叁”）和比“兆”大的单位',
     '也找大寫（如「參」）和比「兆」大的單位',
-    'Capitals too, as 叁, and units above 兆',
+    'Also capitals, such as 叁, and units above 兆',
   ],
   about: [
     '也替换约数（如“十几”的“十”）',
     '也取代約數（如「十幾」的「十」）',
-    'Replace what is about so much too, as 十 of 十几',
+    'Also replace approximate numbers, such as 十 in 十几',
   ],
   oneCharacter: [
     '也替换单个字（如“一般”的“一”）',
     '也取代單個字（如「一般」的「一」）',
-    'Replace single characters too, as 一 of 一般',
+    'Also replace single characters, such as 一 in 一般',
   ],
   doubtful: [
     '也替换存疑的（如“五一”）',
     '也取代存疑的（如「五一」）',
-    'Replace what is doubtful too, as 五一',
+    'Also replace doubtful ones, such as 五一',
   ],
   expanded: [
     '展开大单位（“3500亿”写作“350000000000”）',
@@ -103,27 +103,27 @@ export const TEXTS = {
   wrong: [
     '第 {place} 个字“{character}”不能写在这里。',
     '第 {place} 個字「{character}」不能寫在這裡。',
-    'Character {place}, “{character}”, cannot stand here.',
+    'Character {place}, “{character}”, is not allowed here.',
   ],
   missing: [
     '“{before}”前面缺“{missing}”。',
     '「{before}」前面缺「{missing}」。',
-    '“{missing}” is missing in front of “{before}”.',
+    '“{missing}” is missing before “{before}”.',
   ],
   expected: ['这里应写：{next}。', '這裡應寫：{next}。', 'Expected here: {next}.'],
-  ended: ['前面已经写完。', '前面已經寫完。', 'What stands in front is complete.'],
+  ended: ['前面已经写完。', '前面已經寫完。', 'The text before it is complete.'],
   point: ['小数点', '小數點', 'a point'],
   comma: ['逗号', '逗號', 'a comma'],
   renminbi: ['人民币', '人民幣', '人民币'],
   toFen: [
     '最多写到分（两位小数）。',
     '最多寫到分（兩位小數）。',
-    'There are two decimals at most, jiao and fen.',
+    'At most two decimals are allowed, jiao and fen.',
   ],
   dateOrder: [
     '请按年、月、日的顺序写，如 2026-1-15。',
     '請按年、月、日的順序寫，如 2026-1-15。',
-    'Write year, month and day, as 2026-1-15.',
+    'Write year, month and day, such as 2026-1-15.',
   ],
   noDay: [
     '{year} 年 {month} 月没有 {day} 日。',
@@ -134,16 +134,16 @@ export const TEXTS = {
   belowZero: [
     '票据上没有负数金额；红字发票可以这样写。',
     '票據上沒有負數金額；紅字發票可以這樣寫。',
-    'No cheque has an amount below zero; red invoices have.',
+    'Cheques have no negative amounts; red invoices do.',
   ],
-  tooManyYuan: ['元的位数最多 16 位。', '元的位數最多 16 位。', 'Yuan have 16 digits at most.'],
+  tooManyYuan: ['元的位数最多 16 位。', '元的位數最多 16 位。', 'Yuan can have at most 16 digits.'],
   tooLarge: ['数字太大。', '數字太大。', 'The number is too large.'],
   tooSmall: ['数字太小。', '數字太小。', 'The number is too small.'],
   notHeld: ['{kind} 放不下这个数字。', '{kind} 放不下這個數字。', '{kind} does not hold this number.'],
   notWhole: [
     '这样只能写整数。',
     '這樣只能寫整數。',
-    'With this choice only whole numbers are written.',
+    'This choice writes only whole numbers.',
   ],
   outOfMemory: ['文本太长，内存不够。', '文字太長，記憶體不足。', 'The text is too long for the memory.'],
   failed: ['程序出错：{message}', '程式出錯：{message}', 'The library failed: {message}'],
@@ -162,7 +162,7 @@ export const TEXTS = {
   doubt_part: ['（只是一部分）', '（只是一部分）', '(only a part)'],
   doubt_time: ['（像时刻）', '（像時刻）', '(a time)'],
   doubt_range: ['（范围的一端）', '（範圍的一端）', '(one end of a range)'],
-  valueEmpty: ['只有符号', '只有符號', 'a sign alone'],
+  valueEmpty: ['只有符号', '只有符號', 'only a sign'],
   valueWrong: ['“{character}”不对', '「{character}」不對', '“{character}” is wrong'],
   valueTooLarge: ['太大', '太大', 'too large'],
   valueTooSmall: ['太小', '太小', 'too small'],
@@ -170,6 +170,6 @@ export const TEXTS = {
   long: [
     '文本较长：只看光标附近的 {count} 字，复制时换全文。',
     '文字較長：只看游標附近的 {count} 字，複製時換全文。',
-    'A long text: searched are {count} characters near the caret. Copy takes all of it.',
+    'Long text: only {count} characters near the caret are searched. Copy converts all of it.',
   ],
 };

@@ -1,14 +1,14 @@
-// What was typed, made regular, read and answered: in the same way for amounts, dates and numbers.
+// Normalizes, reads and converts what was typed, in the same way for amounts, dates and numbers.
 
 import { canEnd, sayWhatIsWrong, sayWhatMayFollow } from './follow.mjs';
 import { sentences, words } from './language.mjs';
 
-// A full-width character in its usual width; 。 is a point, which input methods write for one.
+// A full-width character in its usual width; 。 becomes a point, since input methods write it.
 const usual = (it) => (it === '。' ? '.' : String.fromCharCode(it.charCodeAt(0) - 0xfee0));
 
 /**
- * The text that is read of what was typed, without white space and with each character in its usual
- * width; and a function that says of a place in it where that was typed.
+ * The text to read: what was typed, without white space and with each character in its usual width;
+ * and a function that converts a place in it to the place in what was typed.
  */
 export function regular(typed) {
   const text = typed.replace(/\s/g, '').replace(/[。\uff01-\uff5e]/g, usual);
@@ -21,11 +21,11 @@ export function regular(typed) {
   return { text, placeOf };
 }
 
-/** What is said of a character that cannot stand where it does. */
+/** The message for a character that is not allowed at its place. */
 export const sayWhere = (typed, { charIndex, start, end }) =>
   words('wrong', { place: charIndex + 1, character: typed.slice(start, end) });
 
-/** Why a call refused, by the texts that there are for its codes. */
+/** The text for the code of a refusal. */
 export function reasonOf(error, texts) {
   const said = { outOfMemory: words('outOfMemory'), ...texts }[error.code];
   if (said) return said;
@@ -34,10 +34,10 @@ export function reasonOf(error, texts) {
 }
 
 /**
- * Answers what was typed. `read` reads a text, and `answer` makes the answer of what it gives.
- * `reasons` are the texts of refusals without a place. Of one with a place `why` says why, or else
- * what the `characters` say that can stand in a text. What one of the `ends` behind it finishes is
- * no fault.
+ * Converts what was typed. `read` reads a text, and `answer` makes the result from the value.
+ * `reasons` are the texts for refusals without a place. For a refusal with a place `why` returns
+ * the reason, or it is found with the possible `characters`. A text that one of the suffixes `ends`
+ * completes is not an error.
  */
 export function answerTyped(typed, { read, answer, reasons, characters, why, ends = [] }) {
   const { text, placeOf } = regular(typed);
