@@ -81,7 +81,8 @@ def report(said):
     for at, (hand, genre, mark, sentence, edited, meant) in enumerate(sentences()):
         made, quantities, doubts = answers[3 * at : 3 * at + 3]
         kind = judged(sentence, edited, mark, made)
-        for group in (genre, hand, "all"):
+        needs_change = judged(sentence, edited, mark, sentence) == "left"
+        for group in (genre, hand, *([f"{hand}, if a change is needed"] * needs_change), "all"):
             texts.setdefault(group, Counter())[kind] += 1
         values.update(judged_values(sentence, meant, quantities, doubts))
     lines = [f"    {group}: {rate(counts)}" for group, counts in texts.items()]
