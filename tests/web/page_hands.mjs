@@ -76,7 +76,7 @@ async function marksTheCharacter(page) {
   for (const language of LANGUAGES) {
     await page.speak(language);
     for (const [id, front, character, end] of [
-      ['numeral', '三千二', '白', '五十六'], ['numeral', '一億', 'x', '百二'],
+      ['numeral', '三千兩', '白', '五十六'], ['numeral', '一億', 'x', '百二'],
       ['numeral', '', '😀', '一百'], ['numeral', '零'.repeat(60), 'x', '一'],
       ['numeral', '一 　', '𠀀', ''], ['figures', '15.00', '5', ''],
       ['capitals', '人民币：壹佰贰', '元', '整'],

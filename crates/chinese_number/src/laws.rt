@@ -34,8 +34,8 @@ pub use cn_find::laws::{
     unnamed_characters_part_texts, unwanted_characters_part_texts, wanted_constants_are,
 };
 pub use cn_replace::laws::{
-    figures_constants_are, figures_stay, texts_stay_where_nothing_is_new,
-    texts_without_expressions_stay,
+    figures_constants_are, figures_stay, texts_are_put_in_figures_in_parts,
+    texts_stay_where_nothing_is_new, texts_without_expressions_stay,
 };
 pub use enums::{
     equal_amount_forms_ask_for_the_same, equal_dates_are_the_same_day,

@@ -1,5 +1,5 @@
 -- A whole number, from what its parts are answered.
-use Rattle.std.proofs.Common.{◌≡◌, ℕ, ◌+◌, ◌^◌, ◌<◌, ◌≤◌, Bool, true, false, nat_lt, List, [], ◌∷◌, ◌++◌, length, take, drop, chars, reverse, Option, Some, None, Result, Ok, Err, refl, sym, ap, ◌∙◌, arith, if◌then◌else◌, length-drop, length-take, zero-add}
+use Rattle.std.proofs.Common.{◌≡◌, ℕ, ◌+◌, ◌^◌, ◌<◌, ◌≤◌, Bool, true, false, nat_lt, List, [], ◌∷◌, ◌++◌, length, take, drop, chars, reverse, Option, Some, None, Result, Ok, Err, refl, sym, ap, ◌∙◌, arith, if◌then◌else◌, length-append, length-drop, length-take, zero-add}
 use Rattle.std.proofs.lemmas.Bool.Decides.{nat_tests}
 use Rattle.std.proofs.lemmas.List.{length-map}
 use Rattle.std.proofs.Math.Seq.{take-append_seam, drop-append_seam}
@@ -21,7 +21,7 @@ use Rattle.std.specs.Char.{is_whitespace}
 use Rattle.cn_quantity.specs.Answer.{and_then, further_by}
 use Rattle.cn_quantity.specs.Misread.{bare_ten, bare_ten_between, first_misread, is_misread_at, misread_after}
 use Rattle.cn_quantity.specs.Private.{SplitsAtMisread}
-use Rattle.cn_quantity.specs.WholeNumber.{fitting, is_plain, misread_answer, reader_answer, sum_answer, whole_answer}
+use Rattle.cn_quantity.specs.WholeNumber.{fitting, is_plain, misread_answer, reader_answer, refused_at, sum_answer, whole_answer}
 use Rattle.cn_quantity.proofs.Ends.{text-parts}
 use Rattle.cn_quantity.proofs.Told.{told-end, told-front, told-goes_on, told-stops}
 
@@ -123,15 +123,29 @@ sum-low method rank before from place some h = by (judge method (marks_of before
       let same : Err refusal ≡ Err (incorrect_at place) = cc in
       let low = judge-low method before place (is ∙ same) in omega (arith, low)
 
+-- what refuses a misread text is in it
+refused-low : (method : ChineseCountMethod) (before from : List ℕ) (place : ℕ) → 0 < length from
+    → refused_at (reader_answer method (before ++ from)) (length before) ≡ Err (incorrect_at place)
+    → place < length before + length from
+refused-low method before from place some h = by (reader_answer method (before ++ from)) refl h where
+  by : (answer : Result ℕ Refusal) → reader_answer method (before ++ from) ≡ answer
+      → refused_at answer (length before) ≡ Err (incorrect_at place)
+      → place < length before + length from
+  by (Ok number) is e = omega (arith, at-front place e, some)
+  by (Err refusal) is e =
+      let low = reader-low method (before ++ from) place (is ∙ e) in
+      let size = length-append before from in omega (arith, low, size)
+
 misread_answer-low : (method : ChineseCountMethod) (before from : List ℕ) (place : ℕ)
     → 0 < length from → misread_answer method before from ≡ Err (incorrect_at place)
     → place < length before + length from
 misread_answer-low method before from place some h = by (bare_ten_between before from) h where
   by : (bare : Option ℕ) → option_map_or (λ rank. sum_answer method rank before from) bare
-      (Err (incorrect_at (length before))) ≡ Err (incorrect_at place)
+      (refused_at (reader_answer method (before ++ from)) (length before))
+      ≡ Err (incorrect_at place)
       → place < length before + length from
   by (Some rank) e = sum-low method rank before from place some e
-  by None e = let same : length before ≡ place = cc in omega (arith, same, some)
+  by None e = refused-low method before from place some e
 
 -- a refusal of a whole number points into its text
 pub whole-low : (method : ChineseCountMethod) (text : List ℕ) (place : ℕ)
@@ -181,10 +195,14 @@ bare-none before (c ∷ after) place is = rw is
 
 -- which answer a misread text has
 pub misread-refused : (method : ChineseCountMethod) (skipped : ℕ) (bytes before from : List ℕ)
-    (refusal : Refusal) → bare_ten_between (text_of before) (text_of from) ≡ None
-    → refusal ≡ incorrect_at (skipped + char_index_of bytes (length (text_of before)))
+    (refusal : Refusal) (bare : Option ℕ) → SplitsAtMisread bytes before from bare
+    → bare_ten_between (text_of before) (text_of from) ≡ None
+    → Err refusal ≡ answer_at skipped bytes
+    (refused_at (reader_answer method (text_of bytes)) (length (text_of before)))
     → Err refusal ≡ answer_at skipped bytes (misread_answer method (text_of before) (text_of from))
-misread-refused method skipped bytes before from refusal none is = rw none (ap Err is)
+misread-refused method skipped bytes before from refusal bare s none is =
+    let parts = text-parts bytes before from s.parts in
+    let whole = rw parts at is in rw none whole
 
 pub no-bare : (bytes before from : List ℕ) (bare : Option ℕ) → bare ≡ None
     → SplitsAtMisread bytes before from bare

@@ -1,5 +1,5 @@
 -- What a text is worth as a whole number.
-use Rattle.std.specs.Prelude.{ℕ, ◌+◌, ◌^◌, Bool, nat_lt, List, length, take, drop, is_some, Result, Ok, Err, if◌then◌else◌}
+use Rattle.std.specs.Prelude.{ℕ, ◌+◌, ◌^◌, Bool, nat_lt, List, ◌++◌, length, take, drop, is_some, Result, Ok, Err, if◌then◌else◌}
 use Rattle.std.specs.Option.{option_map_or}
 use Rattle.std.specs.List.{list_all}
 use Rattle.cn_core.specs.declared.method.ChineseCountMethod.{ChineseCountMethod}
@@ -34,12 +34,17 @@ sum_answer method rank before from =
     if nat_lt second (scale method rank) then fitting (first + second)
     else Err (incorrect_at (length before))))
 
--- a text in two parts at its first misread character: their sum, where that is a bare ten and no
--- other character is misread; else it is refused there
+-- the refusal of the readers of numerals, if they refuse a text, else one at this place
+abbrev pub refused_at : Result ℕ Refusal → ℕ → Result ℕ Refusal
+refused_at (Ok number) place = Err (incorrect_at place)
+refused_at (Err refusal) place = Err refusal
+
+-- a text in two parts at its first misread character: their sum, if that is a bare ten and no other
+-- character is misread; else it is refused, by the readers of numerals or at that character
 abbrev pub misread_answer : ChineseCountMethod → List ℕ → List ℕ → Result ℕ Refusal
 misread_answer method before from =
     option_map_or (λ rank. sum_answer method rank before from) (bare_ten_between before from)
-    (Err (incorrect_at (length before)))
+    (refused_at (reader_answer method (before ++ from)) (length before))
 
 -- a whole number, by the reader of numerals where no character is misread
 abbrev pub whole_answer : ChineseCountMethod → List ℕ → Result ℕ Refusal

@@ -1,5 +1,5 @@
 // What a text is worth as a whole number.
-ghost use Rattle.std.specs.Prelude.{◌≡◌, ℕ, ◌+◌, ◌^◌, ◌<◌, List, length, nat_lt, option_map};
+ghost use Rattle.std.specs.Prelude.{◌≡◌, ℕ, ◌+◌, ◌^◌, ◌<◌, List, length, nat_lt, Err, option_map};
 ghost use Rattle.cn_core.specs.Characters.{rank};
 ghost use Rattle.cn_core.specs.CharIndex.{char_index_of};
 ghost use Rattle.cn_core.specs.Refusal.{incorrect_at};
@@ -8,7 +8,7 @@ ghost use Rattle.cn_core.specs.Text.{text_of};
 ghost use Rattle.cn_judge.specs.Answer.{answer_of, refusal_of};
 ghost use Rattle.cn_judge.specs.Piece.{answer_at};
 ghost use Rattle.cn_quantity.specs.Private.{SplitsAtMisread};
-ghost use Rattle.cn_quantity.specs.WholeNumber.{fitting, is_plain, misread_answer, reader_answer, sum_answer, whole_answer};
+ghost use Rattle.cn_quantity.specs.WholeNumber.{fitting, is_plain, misread_answer, reader_answer, refused_at, sum_answer, whole_answer};
 
 use crate::misread::{Misread, first_misread};
 use crate::pieces::split_first;
@@ -105,24 +105,44 @@ fn judge_sum(
     }
 }
 
+// The refusal of a text with a misread character: that of the readers of numerals, if they refuse it.
+fn refusal_of_misread(
+    method: ChineseCountMethod,
+    skipped: usize,
+    text: &str,
+    misread: Misread<'_>,
+) -> ChineseToNumberError
+    requires whole { skipped + length text.now < 2 ^ 64 }
+    requires parts { skipped + length misread.before.now + length misread.from.now < 2 ^ 64 }
+    ensures { SplitsAtMisread text.now misread.entry.before.now misread.entry.from.now (option_map rank misread.entry.unit)
+        → Err (refusal_of result) ≡ answer_at skipped text.now
+        (refused_at (reader_answer method (text_of text.now)) (length (text_of misread.entry.before.now))) }
+{
+    match judge_reader(method, skipped, text) {
+        Ok(_) => misread_error(skipped, misread),
+        Err(error) => error,
+    }
+}
+
 // The answer to a text by its two parts at its first misread character.
 fn judge_misread(
     method: ChineseCountMethod,
     skipped: usize,
+    text: &str,
     misread: Misread<'_>,
 ) -> Result<u128, ChineseToNumberError>
-    requires { skipped + length misread.before.now + length misread.from.now < 2 ^ 64 }
-    ensures { (bytes : List ℕ)
-        → SplitsAtMisread bytes misread.entry.before.now misread.entry.from.now (option_map rank misread.entry.unit)
-        → answer_of (λ n. n) result ≡ answer_at skipped bytes
+    requires whole { skipped + length text.now < 2 ^ 64 }
+    requires parts { skipped + length misread.before.now + length misread.from.now < 2 ^ 64 }
+    ensures { SplitsAtMisread text.now misread.entry.before.now misread.entry.from.now (option_map rank misread.entry.unit)
+        → answer_of (λ n. n) result ≡ answer_at skipped text.now
         (misread_answer method (text_of misread.entry.before.now) (text_of misread.entry.from.now)) }
 {
     let Some(unit) = misread.unit else {
-        return Err(misread_error(skipped, misread));
+        return Err(refusal_of_misread(method, skipped, text, misread));
     };
     match first_misread(misread.from) {
         None => judge_sum(method, skipped, unit, misread),
-        Some(_) => Err(misread_error(skipped, misread)),
+        Some(_) => Err(refusal_of_misread(method, skipped, text, misread)),
     }
 }
 
@@ -139,6 +159,6 @@ pub fn judge_whole(
 {
     match first_misread(text) {
         None => judge_reader(method, skipped, text),
-        Some(misread) => judge_misread(method, skipped, misread),
+        Some(misread) => judge_misread(method, skipped, text, misread),
     }
 }

@@ -7,6 +7,7 @@ use Rattle.cn_replace.specs.Canonical.{ascii_of, canonical_text, is_zero_figure}
 use Rattle.cn_replace.specs.Clings.{begins_measure, clings, is_bound, is_bridge}
 use Rattle.cn_replace.specs.Joined.{is_between, is_counter, is_hour, is_joint, is_length, is_link, is_of_amount, is_of_date, is_one, joins, joins_three}
 use Rattle.cn_replace.specs.KeptNumbers.{before_end, digits_text, end_of, is_ge, is_tenth, may_have_tenths}
+use Rattle.cn_replace.specs.Parting.{is_noticed}
 
 -- Chinese digits become figures one by one
 digits : digits_text (codes "零四二七") ≡ codes "0427"
@@ -69,3 +70,12 @@ once = refl
 hours : joins (codes "个小时") (codes "二十") (codes "分") ≡ true
 unfolding joins_three
 hours = refl
+
+-- a colon is noticed, and a line feed is not
+noticed : is_noticed 58 ≡ true
+unfolding is_noticed
+noticed = refl
+
+unnoticed : is_noticed 10 ≡ false
+unfolding is_noticed
+unnoticed = refl

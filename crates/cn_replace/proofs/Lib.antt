@@ -5,9 +5,11 @@ pub mod ChainsPut
 pub mod Ends
 pub mod KeptTexts
 pub mod Measures
+pub mod Parts
 pub mod Passing
 pub mod Replacing
 pub mod Staying
 pub mod Tenths
 pub mod Texts
 pub mod Unchanged
+pub mod Unnoticed

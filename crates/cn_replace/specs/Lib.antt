@@ -5,6 +5,7 @@ pub mod InFigures
 pub mod Joined
 pub mod Kept
 pub mod KeptNumbers
+pub mod Parting
 pub mod Pieces
 pub mod Private
 pub mod Replaced
