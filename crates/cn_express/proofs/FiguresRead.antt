@@ -1,6 +1,6 @@
 -- A quantity in figures is read as that quantity.
-use Rattle.std.proofs.Common.{◌≡◌, ℕ, zero, suc, ◌+◌, ◌*◌, ◌/◌, ◌%◌, ◌^◌, ◌<◌, ◌≤◌, pos, int_lt, nat_abs, Bool, true, false, ◌==◌, nat_lt, not, is_none, is_some, List, [], ◌∷◌, ◌++◌, length, map, codes, decimal, encode_utf8_all, slice_index, Some, None, Ok, refl, sym, ap, ap₂, ◌∙◌, arith, if◌then◌else◌, append-nil, length-append, Option, Result, Err, fold}
-use Rattle.std.specs.List.{list_all}
+use Rattle.std.proofs.Common.{◌≡◌, ℕ, zero, suc, ◌+◌, ◌*◌, ◌/◌, ◌%◌, ◌^◌, ◌<◌, ◌≤◌, pos, int_lt, nat_abs, Bool, true, false, ◌==◌, nat_lt, not, is_none, is_some, List, [], ◌∷◌, ◌++◌, length, map, codes, decimal, encode_utf8_all, slice_index, Some, None, Ok, refl, sym, ap, ap₂, ◌∙◌, arith, if◌then◌else◌, append-nil, length-append, filter_map, Option, Result, Err, fold}
+use Rattle.std.specs.List.{cons_option, list_all}
 use Rattle.std.specs.Option.{option_map_or}
 use Rattle.std.proofs.lemmas.Bool.Decides.{nat_tests}
 use Rattle.std.proofs.lemmas.Fmt.{IsAscii-decimal_wide, decimal_by_steps_wide}
@@ -12,6 +12,7 @@ use Rattle.std.proofs.Math.Nat.{div-add-mod', div-le_self}
 use Rattle.cn_core.specs.declared.method.ChineseCountMethod.{ChineseCountMethod}
 use Rattle.cn_core.specs.declared.sign.Sign.TheVariants.{Minus}
 use Rattle.cn_core.specs.Characters.{digit_of, rank_of, sign_of as numeral_sign}
+use Rattle.cn_core.specs.Digits.{value_after}
 use Rattle.cn_core.specs.Mark.{Mark, mark_of}
 use Rattle.cn_core.specs.Naive.{decimal_value, digit_value, naive_answer, refused_or}
 use Rattle.cn_core.specs.Numeral.{is_digit_or_unit}
@@ -257,8 +258,8 @@ IsBehind-point count number c some p = record {
   no_groups = groups-none c digits p.no_comma;
   ends = rw (p.point, alone.1, decimals);
   decimals = ap (λ b. if b then leading_digits Figure digits else 0) p.point ∙ size;
-  read = ap (λ d. read_on Figure (option_map_or (λ digit. number / 10 ^ count * 10 + digit) d
-      (number / 10 ^ count)) digits) p.no_figure
+  read = ap (λ d. value_after (number / 10 ^ count) (cons_option d (filter_map figure_of digits)))
+      p.no_figure
       ∙ last-read Figure figure_char count number WritesDigits-figures;
   whole = λ method front n figures h.
       let marks = whole-marks method (front ++ c ∷ digits) n h in
