@@ -1,6 +1,7 @@
--- A number in figures: figures, with a comma in front of each three or with none, then a point and
+-- A number in figures: figures, with commas between groups of three or with none, then a point and
 -- figures or none, then units or none, as 1,280.5万.
-use Rattle.std.specs.Prelude.{ℕ, Bool, true, false, ◌&&◌, nat_lt, nat_le, List, [], ◌∷◌, if◌then◌else◌}
+use Rattle.std.specs.Prelude.{ℕ, Bool, true, false, ◌&&◌, ◌||◌, ◌==◌, nat_lt, nat_le, List, [], ◌∷◌, length, drop, take_while, if◌then◌else◌}
+use Rattle.std.specs.List.{list_all, prefix_len, slice_split}
 use Rattle.std.specs.Option.{option_map_or}
 use Rattle.cn_core.specs.Figures.{figure_of, is_comma}
 use Rattle.cn_quantity.specs.declared.characters.DigitKind.{DigitKind}
@@ -9,45 +10,49 @@ use Rattle.cn_quantity.specs.Characters.{is_point}
 use Rattle.cn_quantity.specs.Digits.{is_digit, leading_digits, after_digits}
 use Rattle.cn_quantity.specs.Units.{are_factors}
 
--- one to three figures that do not begin with 0: groups may follow them
+-- a figure or a comma
+abbrev pub is_in_groups : ℕ → Bool
+is_in_groups c = is_digit Figure c || is_comma c
+
+-- what stands between the commas that a text begins with: 1 and 280 of 1,280.5万
+abbrev pub groups_of : List ℕ → List (List ℕ)
+groups_of text = slice_split is_comma (take_while is_in_groups text)
+
+-- what follows the figures and commas that a text begins with: .5万
+abbrev pub after_groups : List ℕ → List ℕ
+after_groups text = drop (prefix_len is_in_groups text) text
+
+-- one to three figures that do not begin with 0
 abbrev pub may_lead_groups : List ℕ → Bool
 may_lead_groups [] = false
 may_lead_groups (c ∷ rest) =
-    option_map_or (λ digit. nat_lt 0 digit) (figure_of c) false
-    && nat_le (leading_digits Figure (c ∷ rest)) 3
+    option_map_or (λ figure. nat_lt 0 figure) (figure_of c) false && nat_le (length (c ∷ rest)) 3
 
--- what follows the groups of a comma and three figures that a text begins with
-abbrev pub after_groups : List ℕ → List ℕ
-after_groups (c ∷ x ∷ y ∷ z ∷ rest) =
-    if is_comma c && is_digit Figure x && is_digit Figure y && is_digit Figure z
-    then after_groups rest else c ∷ x ∷ y ∷ z ∷ rest
-after_groups text = text
-
--- what follows the figures and groups that a text begins with
-abbrev pub after_figures : List ℕ → List ℕ
-after_figures text =
-    if may_lead_groups text then after_groups (after_digits Figure text)
-    else after_digits Figure text
+-- some figures without a comma; or one to three that do not begin with 0, and then groups of three
+abbrev pub are_groups : List (List ℕ) → Bool
+are_groups [] = false
+are_groups (figures ∷ []) = nat_lt 0 (length figures)
+are_groups (first ∷ others) =
+    may_lead_groups first && list_all (λ group. length group == 3) others
 
 -- digits, and then units or none: what stands after a point
 abbrev pub are_decimals : DigitKind → List ℕ → Bool
 are_decimals kind text =
     nat_lt 0 (leading_digits kind text) && are_factors (after_digits kind text)
 
--- a point and decimals, or units, or nothing: what stands after the figures
+-- a point and decimals, or units, or nothing: what stands after the groups
 abbrev pub ends_in_figures : List ℕ → Bool
 ends_in_figures [] = true
 ends_in_figures (c ∷ rest) =
     if is_point Figure c then are_decimals Figure rest else are_factors (c ∷ rest)
 
 abbrev pub is_in_figures : List ℕ → Bool
-is_in_figures text =
-    nat_lt 0 (leading_digits Figure text) && ends_in_figures (after_figures text)
+is_in_figures text = are_groups (groups_of text) && ends_in_figures (after_groups text)
 
--- how many figures stand behind the point
+-- how many figures stand after a point that a text begins with
 abbrev pub decimals_of : List ℕ → ℕ
 decimals_of [] = 0
 decimals_of (c ∷ rest) = if is_point Figure c then leading_digits Figure rest else 0
 
 abbrev pub decimals_in_figures : List ℕ → ℕ
-decimals_in_figures text = decimals_of (after_figures text)
+decimals_in_figures text = decimals_of (after_groups text)

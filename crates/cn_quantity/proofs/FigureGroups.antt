@@ -1,0 +1,204 @@
+-- Groups of figures, read one after another.
+use Rattle.std.proofs.Common.{◌≡◌, ℕ, suc, ◌+◌, ◌<◌, Bool, true, false, cond, not, ◌&&◌, ◌||◌, ◌==◌, nat_lt, nat_le, List, [], ◌∷◌, length, drop, take_while, is_some, Option, Some, None, refl, sym, ap, ◌∙◌, arith, if◌then◌else◌}
+use Rattle.std.specs.List.{list_all, onto_first, prefix_len, slice_split}
+use Rattle.std.proofs.lemmas.Bool.Decides.{nat_tests}
+use Rattle.std.proofs.lemmas.List.Splits.{slice_split-cons_no, slice_split-cons_yes}
+use Rattle.std.proofs.lemmas.List.Sums.{take_while-cons}
+use Rattle.cn_core.specs.Figures.{figure_of, figure_rows, is_comma}
+use Rattle.cn_judge.proofs.Walking.{rows_have}
+use Rattle.cn_quantity.specs.declared.characters.DigitKind.{DigitKind}
+use Rattle.cn_quantity.specs.declared.characters.DigitKind.TheVariants.{Figure}
+use Rattle.cn_quantity.specs.Digits.{after_digits, begins_with_digit, is_digit, leading_digits}
+use Rattle.cn_quantity.specs.Figures.{after_groups, are_groups, groups_of, is_in_groups, may_lead_groups}
+
+-- no figure is a comma
+no-comma : (c : ℕ) → is_digit Figure c ≡ true → is_comma c ≡ true → ⊥
+unfolding figure_of
+no-comma c digit comma = by (figure_of c) refl digit where
+  by : (d : Option ℕ) → figure_of c ≡ d → is_some d ≡ true → ⊥
+  by None is some = cc
+  by (Some value) is some =
+      let none : not (is_comma c) ≡ true =
+      rows_have (λ c. not (is_comma c)) figure_rows c value refl is in
+      let both : not true ≡ true = ap not (sym comma) ∙ none in cc
+
+-- the first character decides where what is taken or dropped ends
+taken : (p : ℕ → Bool) (c : ℕ) (rest : List ℕ) (b : Bool) → p c ≡ b
+    → take_while p (c ∷ rest) ≡ cond b (c ∷ take_while p rest) []
+taken p c rest b is = take_while-cons p c rest ∙ ap (λ b. cond b (c ∷ take_while p rest) []) is
+
+dropped : (p : ℕ → Bool) (c : ℕ) (rest : List ℕ) (b : Bool) → p c ≡ b
+    → drop (prefix_len p (c ∷ rest)) (c ∷ rest)
+    ≡ (if b then drop (prefix_len p rest) rest else c ∷ rest)
+dropped p c rest b is = ap (λ b. drop (cond b (1 + prefix_len p rest) 0) (c ∷ rest)) is ∙ by b where
+  by : (b : Bool) → drop (cond b (1 + prefix_len p rest) 0) (c ∷ rest)
+      ≡ (if b then drop (prefix_len p rest) rest else c ∷ rest)
+  by true =
+      let next : 1 + prefix_len p rest ≡ suc (prefix_len p rest) = omega arith in
+      ap (λ n. drop n (c ∷ rest)) next
+  by false = refl
+
+-- the figures that a text begins with
+abbrev pub figures_of : List ℕ → List ℕ
+figures_of text = take_while (is_digit Figure) text
+
+figures-count : (text : List ℕ) → length (figures_of text) ≡ leading_digits Figure text
+figures-count [] = refl
+figures-count (c ∷ rest) = by (is_digit Figure c) refl (figures-count rest) where
+  by : (b : Bool) → is_digit Figure c ≡ b → length (figures_of rest) ≡ leading_digits Figure rest
+      → length (figures_of (c ∷ rest)) ≡ leading_digits Figure (c ∷ rest)
+  by true is ih = ap length (taken (is_digit Figure) c rest true is) ∙ ap suc ih ∙ rw is refl
+  by false is ih = ap length (taken (is_digit Figure) c rest false is) ∙ rw is refl
+
+pub digits-over : (kind : DigitKind) (text : List ℕ)
+    → begins_with_digit kind (after_digits kind text) ≡ false
+digits-over kind [] = refl
+digits-over kind (c ∷ rest) = by (is_digit kind c) refl (digits-over kind rest) where
+  by : (b : Bool) → is_digit kind c ≡ b → begins_with_digit kind (after_digits kind rest) ≡ false
+      → begins_with_digit kind (if b then after_digits kind rest else c ∷ rest) ≡ false
+  by true is ih = ih
+  by false is ih = is
+
+-- the groups after the first figures
+others : List ℕ → List (List ℕ)
+others [] = []
+others (c ∷ rest) = if is_comma c then groups_of rest else []
+
+groups-first : (text : List ℕ)
+    → groups_of text ≡ figures_of text ∷ others (after_digits Figure text)
+unfolding others
+groups-first [] = refl
+groups-first (c ∷ rest) = by (is_digit Figure c) (is_comma c) refl refl (groups-first rest) where
+  in_groups : (f k : Bool) → is_digit Figure c ≡ f → is_comma c ≡ k
+      → groups_of (c ∷ rest)
+      ≡ slice_split is_comma (cond (f || k) (c ∷ take_while is_in_groups rest) [])
+  in_groups f k figure comma =
+      ap (slice_split is_comma) (taken is_in_groups c rest (f || k) (rw (figure, comma) refl))
+
+  by : (f k : Bool) → is_digit Figure c ≡ f → is_comma c ≡ k
+      → groups_of rest ≡ figures_of rest ∷ others (after_digits Figure rest)
+      → groups_of (c ∷ rest) ≡ figures_of (c ∷ rest) ∷ others (after_digits Figure (c ∷ rest))
+  by true true figure comma ih = absurd (no-comma c figure comma)
+  by true false figure comma ih =
+      in_groups true false figure comma
+      ∙ slice_split-cons_no is_comma c (take_while is_in_groups rest) comma
+      ∙ ap (onto_first c) ih
+      ∙ sym (ap (λ l. l ∷ others (after_digits Figure (c ∷ rest)))
+      (taken (is_digit Figure) c rest true figure) ∙ rw figure refl)
+  by false true figure comma ih =
+      in_groups false true figure comma
+      ∙ slice_split-cons_yes is_comma c (take_while is_in_groups rest) comma
+      ∙ sym (ap (λ l. l ∷ others (after_digits Figure (c ∷ rest)))
+      (taken (is_digit Figure) c rest false figure) ∙ rw (figure, comma) refl)
+  by false false figure comma ih =
+      in_groups false false figure comma
+      ∙ sym (ap (λ l. l ∷ others (after_digits Figure (c ∷ rest)))
+      (taken (is_digit Figure) c rest false figure) ∙ rw (figure, comma) refl)
+
+-- whether groups are written well that go on so after figures which may lead groups or not
+abbrev pub go_on : Bool → List ℕ → Bool
+go_on leads [] = true
+go_on leads (c ∷ rest) =
+    if is_comma c then leads && list_all (λ group. length group == 3) (groups_of rest) else true
+
+pub groups-none : (text : List ℕ) → leading_digits Figure text ≡ 0
+    → are_groups (groups_of text) ≡ false
+groups-none text none =
+    ap are_groups (groups-first text)
+    ∙ by (figures_of text) (others (after_digits Figure text)) (figures-count text ∙ none) where
+      by : (figures : List ℕ) (others : List (List ℕ)) → length figures ≡ 0
+          → are_groups (figures ∷ others) ≡ false
+      by [] [] none = refl
+      by [] (group ∷ others) none = refl
+      by (c ∷ rest) others none = absurd (omega (arith, none))
+
+pub groups-begin : (text : List ℕ) → 0 < leading_digits Figure text
+    → go_on (may_lead_groups (figures_of text)) (after_digits Figure text)
+    ≡ are_groups (groups_of text)
+unfolding others
+groups-begin text some =
+    sym (ap are_groups (groups-first text) ∙ by (after_digits Figure text)) where
+      figures : List ℕ
+      figures = figures_of text
+
+      alone : nat_lt 0 (length (figures_of text)) ≡ true
+      alone = let count = figures-count text in grind (arith, nat_tests, count, some)
+
+      comma : (k : Bool) (rest : List ℕ)
+          → are_groups (figures_of text ∷ (if k then groups_of rest else []))
+          ≡ (if k then may_lead_groups (figures_of text)
+          && list_all (λ group. length group == 3) (groups_of rest) else true)
+      comma true rest = rw (groups-first rest) refl
+      comma false rest = alone
+
+      by : (rest : List ℕ)
+          → are_groups (figures_of text ∷ others rest) ≡ go_on (may_lead_groups (figures_of text)) rest
+      by [] = alone
+      by (c ∷ rest) = comma (is_comma c) rest
+
+groups-more : (text : List ℕ)
+    → list_all (λ group. length group == 3) (groups_of text)
+    ≡ ((leading_digits Figure text == 3) && go_on true (after_digits Figure text))
+unfolding others
+groups-more text =
+    ap (list_all (λ group. length group == 3)) (groups-first text)
+    ∙ ap (λ n. (n == 3) && list_all (λ group. length group == 3) (others (after_digits Figure text)))
+    (figures-count text)
+    ∙ ap (λ b. (leading_digits Figure text == 3) && b) (by (after_digits Figure text)) where
+      comma : (k : Bool) (rest : List ℕ)
+          → list_all (λ group. length group == 3) (if k then groups_of rest else [])
+          ≡ (if k then list_all (λ group. length group == 3) (groups_of rest) else true)
+      comma true rest = refl
+      comma false rest = refl
+
+      by : (rest : List ℕ)
+          → list_all (λ group. length group == 3) (others rest) ≡ go_on true rest
+      by [] = refl
+      by (c ∷ rest) = comma (is_comma c) rest
+
+-- one group more, of three figures or not
+go_on-next : (leads : Bool) (c : ℕ) (group : List ℕ) → is_comma c ≡ true
+    → go_on leads (c ∷ group)
+    ≡ (leads && ((leading_digits Figure group == 3) && go_on leads (after_digits Figure group)))
+go_on-next true c group comma = rw comma (groups-more group)
+go_on-next false c group comma = rw comma refl
+
+pub go_on-more : (leads : Bool) (c : ℕ) (group : List ℕ) → is_comma c ≡ true → leads ≡ true
+    → leading_digits Figure group ≡ 3
+    → go_on leads (after_digits Figure group) ≡ go_on leads (c ∷ group)
+go_on-more leads c group comma on three = sym (go_on-next leads c group comma ∙ rw (on, three) refl)
+
+pub go_on-stops : (leads : Bool) (c : ℕ) (group : List ℕ) → is_comma c ≡ true
+    → (leads ≡ true → leading_digits Figure group ≡ 3 → ⊥) → go_on leads (c ∷ group) ≡ false
+go_on-stops false c group comma other = go_on-next false c group comma
+go_on-stops true c group comma other =
+    let some = other refl in
+    let test : (leading_digits Figure group == 3) ≡ false = grind (arith, nat_tests, some) in
+    go_on-next true c group comma ∙ rw test refl
+
+-- what follows the groups
+pub after-figures : (text : List ℕ) → after_groups (after_digits Figure text) ≡ after_groups text
+after-figures [] = refl
+after-figures (c ∷ rest) = by (is_digit Figure c) refl (after-figures rest) where
+  by : (b : Bool) → is_digit Figure c ≡ b
+      → after_groups (after_digits Figure rest) ≡ after_groups rest
+      → after_groups (if b then after_digits Figure rest else c ∷ rest) ≡ after_groups (c ∷ rest)
+  by true figure ih = ih ∙ sym (dropped is_in_groups c rest true (rw figure refl))
+  by false figure ih = refl
+
+pub after-comma : (c : ℕ) (rest : List ℕ) → is_comma c ≡ true
+    → after_groups (c ∷ rest) ≡ after_groups rest
+after-comma c rest comma = dropped is_in_groups c rest true (by (is_digit Figure c)) where
+  by : (b : Bool) → (b || is_comma c) ≡ true
+  by true = refl
+  by false = comma
+
+-- figures that begin above 0 may lead groups where they are few
+pub leads-known : (count c figure : ℕ) (text rest : List ℕ) → text ≡ c ∷ rest
+    → figure_of c ≡ Some figure → 0 < figure → count ≡ leading_digits Figure text
+    → nat_le count 3 ≡ may_lead_groups (figures_of text)
+leads-known count c figure text rest parts is some size =
+    let test : nat_lt 0 figure ≡ true = grind (arith, nat_tests, some) in
+    let all : count ≡ suc (length (figures_of rest)) =
+    size ∙ ap (leading_digits Figure) parts ∙ rw is (ap suc (sym (figures-count rest))) in
+    rw parts (rw (taken (is_digit Figure) c rest true (ap is_some is)) (rw (is, test, all) refl))
