@@ -8,7 +8,7 @@ use Rattle.cn_core.specs.Figures.{figure_of, figure_rows, is_comma}
 use Rattle.cn_judge.proofs.Walking.{rows_have}
 use Rattle.cn_quantity.specs.declared.characters.DigitKind.{DigitKind}
 use Rattle.cn_quantity.specs.declared.characters.DigitKind.TheVariants.{Figure}
-use Rattle.cn_quantity.specs.Digits.{after_digits, begins_with_digit, is_digit, leading_digits}
+use Rattle.cn_quantity.specs.Digits.{after_digits, begins_with_digit, begins_with_nought, is_digit, leading_digits}
 use Rattle.cn_quantity.specs.Figures.{after_groups, are_groups, groups_of, is_in_groups, may_lead_groups}
 
 -- no figure is a comma
@@ -49,6 +49,16 @@ figures-count (c ∷ rest) = by (is_digit Figure c) refl (figures-count rest) wh
       → length (figures_of (c ∷ rest)) ≡ leading_digits Figure (c ∷ rest)
   by true is ih = ap length (taken (is_digit Figure) c rest true is) ∙ ap suc ih ∙ rw is refl
   by false is ih = ap length (taken (is_digit Figure) c rest false is) ∙ rw is refl
+
+nought-first : (text : List ℕ)
+    → begins_with_nought (figures_of text) ≡ begins_with_nought text
+nought-first [] = refl
+nought-first (c ∷ rest) = by (figure_of c) refl where
+  by : (d : Option ℕ) → figure_of c ≡ d
+      → begins_with_nought (figures_of (c ∷ rest)) ≡ begins_with_nought (c ∷ rest)
+  by None is =
+      ap begins_with_nought (taken (is_digit Figure) c rest false (ap is_some is)) ∙ rw is refl
+  by (Some figure) is = ap begins_with_nought (taken (is_digit Figure) c rest true (ap is_some is))
 
 pub digits-over : (kind : DigitKind) (text : List ℕ)
     → begins_with_digit kind (after_digits kind text) ≡ false
@@ -113,26 +123,31 @@ groups-none text none =
       by (c ∷ rest) others none = absurd (omega (arith, none))
 
 pub groups-begin : (text : List ℕ) → 0 < leading_digits Figure text
-    → go_on (may_lead_groups (figures_of text)) (after_digits Figure text)
-    ≡ are_groups (groups_of text)
+    → go_on (nat_le (leading_digits Figure text) 3 && not (begins_with_nought text))
+    (after_digits Figure text) ≡ are_groups (groups_of text)
 unfolding others
 groups-begin text some =
     sym (ap are_groups (groups-first text) ∙ by (after_digits Figure text)) where
       figures : List ℕ
       figures = figures_of text
 
-      alone : nat_lt 0 (length (figures_of text)) ≡ true
+      leads : Bool
+      leads = nat_le (leading_digits Figure text) 3 && not (begins_with_nought text)
+
+      alone : nat_lt 0 (length figures) ≡ true
       alone = let count = figures-count text in grind (arith, nat_tests, count, some)
 
-      comma : (k : Bool) (rest : List ℕ)
-          → are_groups (figures_of text ∷ (if k then groups_of rest else []))
-          ≡ (if k then may_lead_groups (figures_of text)
-          && list_all (λ group. length group == 3) (groups_of rest) else true)
-      comma true rest = rw (groups-first rest) refl
+      lead : may_lead_groups figures ≡ leads
+      lead = rw (alone, figures-count text, nought-first text) refl
+
+      comma : (k : Bool) (rest : List ℕ) → are_groups (figures ∷ (if k then groups_of rest else []))
+          ≡ (if k then leads && list_all (λ group. length group == 3) (groups_of rest) else true)
+      comma true rest =
+          rw (groups-first rest) (ap (λ b. b && list_all (λ group. length group == 3)
+          (figures_of rest ∷ others (after_digits Figure rest))) lead)
       comma false rest = alone
 
-      by : (rest : List ℕ)
-          → are_groups (figures_of text ∷ others rest) ≡ go_on (may_lead_groups (figures_of text)) rest
+      by : (rest : List ℕ) → are_groups (figures ∷ others rest) ≡ go_on leads rest
       by [] = alone
       by (c ∷ rest) = comma (is_comma c) rest
 
@@ -192,13 +207,3 @@ after-comma c rest comma = dropped is_in_groups c rest true (by (is_digit Figure
   by : (b : Bool) → (b || is_comma c) ≡ true
   by true = refl
   by false = comma
-
--- figures that begin above 0 may lead groups where they are few
-pub leads-known : (count c figure : ℕ) (text rest : List ℕ) → text ≡ c ∷ rest
-    → figure_of c ≡ Some figure → 0 < figure → count ≡ leading_digits Figure text
-    → nat_le count 3 ≡ may_lead_groups (figures_of text)
-leads-known count c figure text rest parts is some size =
-    let test : nat_lt 0 figure ≡ true = grind (arith, nat_tests, some) in
-    let all : count ≡ suc (length (figures_of rest)) =
-    size ∙ ap (leading_digits Figure) parts ∙ rw is (ap suc (sym (figures-count rest))) in
-    rw parts (rw (taken (is_digit Figure) c rest true (ap is_some is)) (rw (is, test, all) refl))

@@ -1,7 +1,9 @@
 -- Digits that stand side by side.
-use Rattle.std.specs.Prelude.{ℕ, suc, Bool, false, List, [], ◌∷◌, filter_map, Option, is_some, if◌then◌else◌}
+use Rattle.std.specs.Prelude.{ℕ, suc, Bool, false, ◌==◌, List, [], ◌∷◌, filter_map, Option, is_some, if◌then◌else◌}
+use Rattle.std.specs.Option.{option_map_or}
 use Rattle.cn_core.specs.declared.method.ChineseCountMethod.{ChineseCountMethod}
 use Rattle.cn_core.specs.Digits.{value_after}
+use Rattle.cn_core.specs.Figures.{figure_of}
 use Rattle.cn_quantity.specs.declared.characters.DigitKind.{DigitKind}
 use Rattle.cn_quantity.specs.Characters.{digit_by}
 use Rattle.cn_quantity.specs.Units.{times_units}
@@ -13,6 +15,11 @@ is_digit kind c = is_some (digit_by kind c)
 abbrev pub begins_with_digit : DigitKind → List ℕ → Bool
 begins_with_digit kind [] = false
 begins_with_digit kind (c ∷ rest) = is_digit kind c
+
+-- the text begins with the figure 0
+abbrev pub begins_with_nought : List ℕ → Bool
+begins_with_nought [] = false
+begins_with_nought (c ∷ rest) = option_map_or (λ figure. figure == 0) (figure_of c) false
 
 -- how many digits a text begins with
 abbrev pub leading_digits : DigitKind → List ℕ → ℕ

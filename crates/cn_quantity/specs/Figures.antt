@@ -1,13 +1,12 @@
 -- A number in figures: figures, with commas between groups of three or with none, then a point and
 -- figures or none, then units or none, as 1,280.5万.
-use Rattle.std.specs.Prelude.{ℕ, Bool, true, false, ◌&&◌, ◌||◌, ◌==◌, nat_lt, nat_le, List, [], ◌∷◌, length, drop, take_while, if◌then◌else◌}
+use Rattle.std.specs.Prelude.{ℕ, Bool, true, false, not, ◌&&◌, ◌||◌, ◌==◌, nat_lt, nat_le, List, [], ◌∷◌, length, drop, take_while, if◌then◌else◌}
 use Rattle.std.specs.List.{list_all, prefix_len, slice_split}
-use Rattle.std.specs.Option.{option_map_or}
-use Rattle.cn_core.specs.Figures.{figure_of, is_comma}
+use Rattle.cn_core.specs.Figures.{is_comma}
 use Rattle.cn_quantity.specs.declared.characters.DigitKind.{DigitKind}
 use Rattle.cn_quantity.specs.declared.characters.DigitKind.TheVariants.{Figure}
 use Rattle.cn_quantity.specs.Characters.{is_point}
-use Rattle.cn_quantity.specs.Digits.{is_digit, leading_digits, after_digits}
+use Rattle.cn_quantity.specs.Digits.{after_digits, begins_with_nought, is_digit, leading_digits}
 use Rattle.cn_quantity.specs.Units.{are_factors}
 
 -- a figure or a comma
@@ -24,9 +23,8 @@ after_groups text = drop (prefix_len is_in_groups text) text
 
 -- one to three figures that do not begin with 0
 abbrev pub may_lead_groups : List ℕ → Bool
-may_lead_groups [] = false
-may_lead_groups (c ∷ rest) =
-    option_map_or (λ figure. nat_lt 0 figure) (figure_of c) false && nat_le (length (c ∷ rest)) 3
+may_lead_groups figures =
+    nat_lt 0 (length figures) && nat_le (length figures) 3 && not (begins_with_nought figures)
 
 -- some figures without a comma; or one to three that do not begin with 0, and then groups of three
 abbrev pub are_groups : List (List ℕ) → Bool

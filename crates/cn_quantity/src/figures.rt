@@ -1,28 +1,21 @@
 // A number in figures, as 1,280.5万.
-ghost use Rattle.std.specs.Prelude.{◌≡◌, true, false, take_while, MatchOption, SomeIff};
+ghost use Rattle.std.specs.Prelude.{◌≡◌, true, false, not, ◌&&◌, nat_le, MatchOption, SomeIff};
 ghost use Rattle.cn_core.specs.Text.{text_of};
 ghost use Rattle.cn_quantity.specs.declared.characters.DigitKind.TheVariants.{Figure};
-ghost use Rattle.cn_quantity.specs.Digits.{is_digit, leading_digits};
-ghost use Rattle.cn_quantity.specs.Figures.{after_groups, are_decimals, are_groups, decimals_in_figures, decimals_of, ends_in_figures, groups_of, is_in_figures, may_lead_groups};
+ghost use Rattle.cn_quantity.specs.Digits.{begins_with_nought, leading_digits};
+ghost use Rattle.cn_quantity.specs.Figures.{after_groups, are_decimals, are_groups, decimals_in_figures, decimals_of, ends_in_figures, groups_of, is_in_figures};
 
-use crate::characters::{DigitKind, digit_by, is_point};
-use crate::digits::split_digits;
+use crate::characters::{DigitKind, is_point};
+use crate::digits::{begins_with_nought, split_digits};
 use crate::pieces::split_first;
 use crate::units::are_factors;
 use cn_core::is_comma;
 
-// Whether groups may follow these figures.
+// Whether groups may follow so many figures at the start of a text.
 fn may_lead_groups(count: usize, text: &str) -> bool
-    requires { count ≡ leading_digits Figure (text_of text.now) }
-    ensures { result ≡ may_lead_groups (take_while (is_digit Figure) (text_of text.now)) }
+    ensures { result ≡ (nat_le count 3 && not (begins_with_nought (text_of text.now))) }
 {
-    let Some((c, _)) = split_first(text) else {
-        return false;
-    };
-    match digit_by(DigitKind::Figure, c) {
-        Some(digit) => digit > 0 && count <= 3,
-        None => false,
-    }
+    count <= 3 && !begins_with_nought(text)
 }
 
 // What follows the groups that the text begins with, if they are written well.

@@ -1,7 +1,7 @@
-use Rattle.std.proofs.Common.{◌<◌, inl, inr, ap, sym, ◌∙◌, arith, rules}
+use Rattle.std.proofs.Common.{◌<◌, ◌&&◌, not, nat_le, inl, inr, ap, ap₂, sym, ◌∙◌, arith, rules}
 use Rattle.cn_core.specs.Text.{text_of}
 use Rattle.cn_quantity.specs.declared.characters.DigitKind.TheVariants.{Figure}
-use Rattle.cn_quantity.specs.Digits.{leading_digits}
+use Rattle.cn_quantity.specs.Digits.{begins_with_nought, leading_digits}
 use Rattle.cn_quantity.specs.Figures.{after_groups}
 use Rattle.cn_quantity.proofs.FigureGroups.{after-comma, after-figures, digits-over, go_on, go_on-more, go_on-stops, groups-begin}
 use Rattle.cn_quantity.proofs.figures.after_groups.Goals as goal
@@ -13,7 +13,9 @@ grouping-init c =
     omega (arith, c.if-count-eq0.false, c.split_digits-count.ensures.count) in
     let rest = c.split_digits-count.ensures.rest in
     record {
-      same = rw (c.may_lead_groups-leads.ensures, rest) (groups-begin text some);
+      same = ap₂ go_on (c.may_lead_groups-leads.ensures
+          ∙ ap (λ n. nat_le n 3 && not (begins_with_nought text)) c.split_digits-count.ensures.count)
+          rest ∙ groups-begin text some;
       after = rw rest (after-figures text);
       bare = rw rest (digits-over Figure text);
       utf8 = search rules;
