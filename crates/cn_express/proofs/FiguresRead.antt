@@ -38,13 +38,14 @@ use Rattle.cn_quantity.specs.declared.quantity.QuantityForm.{QuantityForm}
 use Rattle.cn_quantity.specs.declared.quantity.QuantityForm.TheVariants.{Whole, Decimal, Percent, Fraction}
 use Rattle.cn_quantity.specs.Characters.{is_fen, is_point, share_of, sign_of}
 use Rattle.cn_quantity.specs.Digits.{after_digits, begins_with_digit, is_digit, leading_digits, read_on, read_with_units}
-use Rattle.cn_quantity.specs.Figures.{after_figures, after_groups, decimals_of, ends_in_figures, is_in_figures, may_lead_groups}
+use Rattle.cn_quantity.specs.Figures.{after_groups, are_groups, decimals_of, ends_in_figures, groups_of, is_in_figures}
 use Rattle.cn_quantity.specs.Number.{decimal_of, number_answer, or_shaped, shaped_number}
 use Rattle.cn_quantity.specs.Reading.{leading_sign, quantity_answer}
 use Rattle.cn_quantity.specs.Trimmed.{decimals_in, decimals_of as decimals_of_quantity}
 use Rattle.cn_quantity.specs.Misread.{first_misread, is_digit as is_digit_mark, is_liang}
 use Rattle.cn_quantity.specs.Units.{times_units}
 use Rattle.cn_quantity.specs.WholeNumber.{is_plain, whole_answer}
+use Rattle.cn_quantity.proofs.FigureGroups.{after-figures, go_on, groups-begin}
 use Rattle.cn_quantity.proofs.KnownDecimals.{over-is}
 use Rattle.cn_quantity.proofs.Numbers.{in-figures}
 use Rattle.cn_quantity.proofs.Today.{digit-mark, marks-broken, whole-marks}
@@ -215,6 +216,7 @@ IsDecimal-written number small =
 record IsBehind (count number : ℕ) (text : List ℕ) : Type 0 where
   no_units : has_no_units text ≡ true
   no_digit : begins_with_digit Figure text ≡ false
+  no_comma : (leads : Bool) → go_on leads text ≡ true
   no_groups : after_groups text ≡ text
   ends : ends_in_figures text ≡ true
   decimals : decimals_of text ≡ count
@@ -222,12 +224,6 @@ record IsBehind (count number : ℕ) (text : List ℕ) : Type 0 where
   whole : (method : ChineseCountMethod) (front : List ℕ) (n : ℕ) → list_all is_same front ≡ true
       → whole_answer method (front ++ text) ≡ Ok n
       → (count ≡ 0) × (n ≡ read_on Figure 0 (front ++ text))
-
-groups-none : (c : ℕ) (rest : List ℕ) → is_comma c ≡ false → after_groups (c ∷ rest) ≡ c ∷ rest
-groups-none c [] none = refl
-groups-none c (x ∷ []) none = refl
-groups-none c (x ∷ y ∷ []) none = refl
-groups-none c (x ∷ y ∷ z ∷ rest) none = rw none
 
 -- the point
 record IsPoint (c : ℕ) : Type 0 where
@@ -255,7 +251,8 @@ IsBehind-point count number c some p = record {
   no_units = both (is_none (rank_of c)) _ (and-left (is_none (rank_of c)) true p.no_unit)
       (figures-no_units digits figures);
   no_digit = ap is_some p.no_figure;
-  no_groups = groups-none c digits p.no_comma;
+  no_comma = λ leads. rw p.no_comma;
+  no_groups = rw (p.no_figure, p.no_comma) refl;
   ends = rw (p.point, alone.1, decimals);
   decimals = ap (λ b. if b then leading_digits Figure digits else 0) p.point ∙ size;
   read = ap (λ d. value_after (number / 10 ^ count) (cons_option d (filter_map figure_of digits)))
@@ -287,6 +284,7 @@ IsBehind-written : (count number : ℕ)
 IsBehind-written zero number = record {
   no_units = refl;
   no_digit = refl;
+  no_comma = λ leads. refl;
   no_groups = refl;
   ends = refl;
   decimals = refl;
@@ -309,18 +307,18 @@ figures-number method count number front behind f b small =
           × (after_digits Figure (front ++ behind) ≡ behind)
       lead = digits-lead Figure front behind f.figures b.no_digit
 
-      after : after_figures (front ++ behind) ≡ behind
-      after = by (may_lead_groups (front ++ behind)) where
-        by : (b : Bool) → (if b then after_groups (after_digits Figure (front ++ behind))
-            else after_digits Figure (front ++ behind)) ≡ behind
-        by true = ap after_groups lead.1 ∙ b.no_groups
-        by false = lead.1
+      after : after_groups (front ++ behind) ≡ behind
+      after = sym (after-figures (front ++ behind)) ∙ ap after_groups lead.1 ∙ b.no_groups
+
+      some : 0 < leading_digits Figure (front ++ behind)
+      some = let size = lead.0 in let some = f.some in omega (arith, size, some)
 
       is : is_in_figures (front ++ behind) ≡ true
       is =
-          let some = f.some in
-          let test : nat_lt 0 (length front) ≡ true = grind (arith, nat_tests, some) in
-          rw (lead.0, after, test) b.ends
+          both (are_groups (groups_of (front ++ behind)))
+          (ends_in_figures (after_groups (front ++ behind)))
+          (sym (groups-begin (front ++ behind) some) ∙ ap (go_on _) lead.1 ∙ b.no_comma _)
+          (ap ends_in_figures after ∙ b.ends)
 
       read : read_with_units method Figure 0 (front ++ behind) ≡ Some number
       read =
