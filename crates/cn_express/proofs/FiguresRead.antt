@@ -45,7 +45,7 @@ use Rattle.cn_quantity.specs.Trimmed.{decimals_in, decimals_of as decimals_of_qu
 use Rattle.cn_quantity.specs.Misread.{first_misread, is_digit as is_digit_mark, is_liang}
 use Rattle.cn_quantity.specs.Units.{times_units}
 use Rattle.cn_quantity.specs.WholeNumber.{is_plain, whole_answer}
-use Rattle.cn_quantity.proofs.FigureGroups.{after-figures, go_on, groups-begin}
+use Rattle.cn_quantity.proofs.FigureGroups.{after-figures, go_on, groups-begin, more_groups}
 use Rattle.cn_quantity.proofs.KnownDecimals.{over-is}
 use Rattle.cn_quantity.proofs.Numbers.{in-figures}
 use Rattle.cn_quantity.proofs.Today.{digit-mark, marks-broken, whole-marks}
@@ -216,7 +216,7 @@ IsDecimal-written number small =
 record IsBehind (count number : ℕ) (text : List ℕ) : Type 0 where
   no_units : has_no_units text ≡ true
   no_digit : begins_with_digit Figure text ≡ false
-  no_comma : (leads : Bool) → go_on leads text ≡ true
+  no_comma : more_groups text ≡ []
   no_groups : after_groups text ≡ text
   ends : ends_in_figures text ≡ true
   decimals : decimals_of text ≡ count
@@ -251,7 +251,7 @@ IsBehind-point count number c some p = record {
   no_units = both (is_none (rank_of c)) _ (and-left (is_none (rank_of c)) true p.no_unit)
       (figures-no_units digits figures);
   no_digit = ap is_some p.no_figure;
-  no_comma = λ leads. rw p.no_comma;
+  no_comma = rw p.no_comma;
   no_groups = rw (p.no_figure, p.no_comma) refl;
   ends = rw (p.point, alone.1, decimals);
   decimals = ap (λ b. if b then leading_digits Figure digits else 0) p.point ∙ size;
@@ -284,7 +284,7 @@ IsBehind-written : (count number : ℕ)
 IsBehind-written zero number = record {
   no_units = refl;
   no_digit = refl;
-  no_comma = λ leads. refl;
+  no_comma = refl;
   no_groups = refl;
   ends = refl;
   decimals = refl;
@@ -317,7 +317,7 @@ figures-number method count number front behind f b small =
       is =
           both (are_groups (groups_of (front ++ behind)))
           (ends_in_figures (after_groups (front ++ behind)))
-          (sym (groups-begin (front ++ behind) some) ∙ ap (go_on _) lead.1 ∙ b.no_comma _)
+          (sym (groups-begin (front ++ behind) some) ∙ ap (go_on _) (ap more_groups lead.1 ∙ b.no_comma))
           (ap ends_in_figures after ∙ b.ends)
 
       read : read_with_units method Figure 0 (front ++ behind) ≡ Some number

@@ -1,5 +1,5 @@
 -- Groups of figures, read one after another.
-use Rattle.std.proofs.Common.{◌≡◌, ℕ, suc, ◌+◌, ◌<◌, Bool, true, false, cond, not, ◌&&◌, ◌||◌, ◌==◌, nat_lt, nat_le, List, [], ◌∷◌, length, drop, take_while, is_some, Option, Some, None, refl, sym, ap, ◌∙◌, arith, if◌then◌else◌}
+use Rattle.std.proofs.Common.{◌≡◌, ℕ, suc, ◌+◌, ◌<◌, Bool, true, false, cond, not, ◌&&◌, ◌||◌, ◌==◌, nat_lt, nat_le, List, [], ◌∷◌, length, drop, take_while, is_some, Option, Some, None, refl, sym, ap, ap₂, ◌∙◌, arith, if◌then◌else◌}
 use Rattle.std.specs.List.{list_all, onto_first, prefix_len, slice_split}
 use Rattle.std.proofs.lemmas.Bool.Decides.{nat_tests}
 use Rattle.std.proofs.lemmas.List.Splits.{slice_split-cons_no, slice_split-cons_yes}
@@ -69,14 +69,13 @@ digits-over kind (c ∷ rest) = by (is_digit kind c) refl (digits-over kind rest
   by true is ih = ih
   by false is ih = is
 
--- the groups after the first figures
-others : List ℕ → List (List ℕ)
-others [] = []
-others (c ∷ rest) = if is_comma c then groups_of rest else []
+-- the groups after the figures that a text begins with
+abbrev pub more_groups : List ℕ → List (List ℕ)
+more_groups [] = []
+more_groups (c ∷ rest) = if is_comma c then groups_of rest else []
 
 groups-first : (text : List ℕ)
-    → groups_of text ≡ figures_of text ∷ others (after_digits Figure text)
-unfolding others
+    → groups_of text ≡ figures_of text ∷ more_groups (after_digits Figure text)
 groups-first [] = refl
 groups-first (c ∷ rest) = by (is_digit Figure c) (is_comma c) refl refl (groups-first rest) where
   in_groups : (f k : Bool) → is_digit Figure c ≡ f → is_comma c ≡ k
@@ -85,37 +84,38 @@ groups-first (c ∷ rest) = by (is_digit Figure c) (is_comma c) refl refl (group
   in_groups f k figure comma =
       ap (slice_split is_comma) (taken is_in_groups c rest (f || k) (rw (figure, comma) refl))
 
+  first : (f : Bool) → is_digit Figure c ≡ f
+      → figures_of (c ∷ rest) ∷ more_groups (after_digits Figure (c ∷ rest))
+      ≡ cond f (c ∷ figures_of rest) [] ∷ more_groups (if f then after_digits Figure rest else c ∷ rest)
+  first f figure =
+      ap₂ (λ figures rest. figures ∷ more_groups rest) (taken (is_digit Figure) c rest f figure)
+      (ap (λ b. if b then after_digits Figure rest else c ∷ rest) figure)
+
   by : (f k : Bool) → is_digit Figure c ≡ f → is_comma c ≡ k
-      → groups_of rest ≡ figures_of rest ∷ others (after_digits Figure rest)
-      → groups_of (c ∷ rest) ≡ figures_of (c ∷ rest) ∷ others (after_digits Figure (c ∷ rest))
+      → groups_of rest ≡ figures_of rest ∷ more_groups (after_digits Figure rest)
+      → groups_of (c ∷ rest) ≡ figures_of (c ∷ rest) ∷ more_groups (after_digits Figure (c ∷ rest))
   by true true figure comma ih = absurd (no-comma c figure comma)
   by true false figure comma ih =
       in_groups true false figure comma
       ∙ slice_split-cons_no is_comma c (take_while is_in_groups rest) comma
-      ∙ ap (onto_first c) ih
-      ∙ sym (ap (λ l. l ∷ others (after_digits Figure (c ∷ rest)))
-      (taken (is_digit Figure) c rest true figure) ∙ rw figure refl)
+      ∙ ap (onto_first c) ih ∙ sym (first true figure)
   by false true figure comma ih =
       in_groups false true figure comma
       ∙ slice_split-cons_yes is_comma c (take_while is_in_groups rest) comma
-      ∙ sym (ap (λ l. l ∷ others (after_digits Figure (c ∷ rest)))
-      (taken (is_digit Figure) c rest false figure) ∙ rw (figure, comma) refl)
+      ∙ sym (first false figure ∙ rw comma refl)
   by false false figure comma ih =
-      in_groups false false figure comma
-      ∙ sym (ap (λ l. l ∷ others (after_digits Figure (c ∷ rest)))
-      (taken (is_digit Figure) c rest false figure) ∙ rw (figure, comma) refl)
+      in_groups false false figure comma ∙ sym (first false figure ∙ rw comma refl)
 
--- whether groups are written well that go on so after figures which may lead groups or not
-abbrev pub go_on : Bool → List ℕ → Bool
+-- whether groups are written well after figures that may lead them or not
+abbrev pub go_on : Bool → List (List ℕ) → Bool
 go_on leads [] = true
-go_on leads (c ∷ rest) =
-    if is_comma c then leads && list_all (λ group. length group == 3) (groups_of rest) else true
+go_on leads groups = leads && list_all (λ group. length group == 3) groups
 
 pub groups-none : (text : List ℕ) → leading_digits Figure text ≡ 0
     → are_groups (groups_of text) ≡ false
 groups-none text none =
     ap are_groups (groups-first text)
-    ∙ by (figures_of text) (others (after_digits Figure text)) (figures-count text ∙ none) where
+    ∙ by (figures_of text) (more_groups (after_digits Figure text)) (figures-count text ∙ none) where
       by : (figures : List ℕ) (others : List (List ℕ)) → length figures ≡ 0
           → are_groups (figures ∷ others) ≡ false
       by [] [] none = refl
@@ -124,72 +124,51 @@ groups-none text none =
 
 pub groups-begin : (text : List ℕ) → 0 < leading_digits Figure text
     → go_on (nat_le (leading_digits Figure text) 3 && not (begins_with_nought text))
-    (after_digits Figure text) ≡ are_groups (groups_of text)
-unfolding others
+    (more_groups (after_digits Figure text)) ≡ are_groups (groups_of text)
 groups-begin text some =
-    sym (ap are_groups (groups-first text) ∙ by (after_digits Figure text)) where
-      figures : List ℕ
-      figures = figures_of text
-
-      leads : Bool
-      leads = nat_le (leading_digits Figure text) 3 && not (begins_with_nought text)
-
-      alone : nat_lt 0 (length figures) ≡ true
+    sym (ap are_groups (groups-first text) ∙ by (more_groups (after_digits Figure text))) where
+      alone : nat_lt 0 (length (figures_of text)) ≡ true
       alone = let count = figures-count text in grind (arith, nat_tests, count, some)
 
-      lead : may_lead_groups figures ≡ leads
+      lead : may_lead_groups (figures_of text)
+          ≡ (nat_le (leading_digits Figure text) 3 && not (begins_with_nought text))
       lead = rw (alone, figures-count text, nought-first text) refl
 
-      comma : (k : Bool) (rest : List ℕ) → are_groups (figures ∷ (if k then groups_of rest else []))
-          ≡ (if k then leads && list_all (λ group. length group == 3) (groups_of rest) else true)
-      comma true rest =
-          rw (groups-first rest) (ap (λ b. b && list_all (λ group. length group == 3)
-          (figures_of rest ∷ others (after_digits Figure rest))) lead)
-      comma false rest = alone
-
-      by : (rest : List ℕ) → are_groups (figures ∷ others rest) ≡ go_on leads rest
+      by : (groups : List (List ℕ)) → are_groups (figures_of text ∷ groups)
+          ≡ go_on (nat_le (leading_digits Figure text) 3 && not (begins_with_nought text)) groups
       by [] = alone
-      by (c ∷ rest) = comma (is_comma c) rest
-
-groups-more : (text : List ℕ)
-    → list_all (λ group. length group == 3) (groups_of text)
-    ≡ ((leading_digits Figure text == 3) && go_on true (after_digits Figure text))
-unfolding others
-groups-more text =
-    ap (list_all (λ group. length group == 3)) (groups-first text)
-    ∙ ap (λ n. (n == 3) && list_all (λ group. length group == 3) (others (after_digits Figure text)))
-    (figures-count text)
-    ∙ ap (λ b. (leading_digits Figure text == 3) && b) (by (after_digits Figure text)) where
-      comma : (k : Bool) (rest : List ℕ)
-          → list_all (λ group. length group == 3) (if k then groups_of rest else [])
-          ≡ (if k then list_all (λ group. length group == 3) (groups_of rest) else true)
-      comma true rest = refl
-      comma false rest = refl
-
-      by : (rest : List ℕ)
-          → list_all (λ group. length group == 3) (others rest) ≡ go_on true rest
-      by [] = refl
-      by (c ∷ rest) = comma (is_comma c) rest
+      by (group ∷ groups) =
+          ap (λ b. b && list_all (λ group. length group == 3) (group ∷ groups)) lead
 
 -- one group more, of three figures or not
-go_on-next : (leads : Bool) (c : ℕ) (group : List ℕ) → is_comma c ≡ true
-    → go_on leads (c ∷ group)
-    ≡ (leads && ((leading_digits Figure group == 3) && go_on leads (after_digits Figure group)))
-go_on-next true c group comma = rw comma (groups-more group)
-go_on-next false c group comma = rw comma refl
+go_on-next : (leads : Bool) (c : ℕ) (rest : List ℕ) → is_comma c ≡ true
+    → go_on leads (more_groups (c ∷ rest))
+    ≡ (leads && ((leading_digits Figure rest == 3)
+    && go_on leads (more_groups (after_digits Figure rest))))
+go_on-next leads c rest comma =
+    rw comma (ap (go_on leads) (groups-first rest)
+    ∙ by leads (more_groups (after_digits Figure rest))) where
+      by : (leads : Bool) (groups : List (List ℕ)) → go_on leads (figures_of rest ∷ groups)
+          ≡ (leads && ((leading_digits Figure rest == 3) && go_on leads groups))
+      by false groups = refl
+      by true [] = ap (λ n. (n == 3) && true) (figures-count rest)
+      by true (group ∷ groups) =
+          ap (λ n. (n == 3) && list_all (λ group. length group == 3) (group ∷ groups))
+          (figures-count rest)
 
-pub go_on-more : (leads : Bool) (c : ℕ) (group : List ℕ) → is_comma c ≡ true → leads ≡ true
-    → leading_digits Figure group ≡ 3
-    → go_on leads (after_digits Figure group) ≡ go_on leads (c ∷ group)
-go_on-more leads c group comma on three = sym (go_on-next leads c group comma ∙ rw (on, three) refl)
+pub go_on-more : (leads : Bool) (c : ℕ) (rest : List ℕ) → is_comma c ≡ true → leads ≡ true
+    → leading_digits Figure rest ≡ 3
+    → go_on leads (more_groups (after_digits Figure rest)) ≡ go_on leads (more_groups (c ∷ rest))
+go_on-more leads c rest comma on three = sym (go_on-next leads c rest comma ∙ rw (on, three) refl)
 
-pub go_on-stops : (leads : Bool) (c : ℕ) (group : List ℕ) → is_comma c ≡ true
-    → (leads ≡ true → leading_digits Figure group ≡ 3 → ⊥) → go_on leads (c ∷ group) ≡ false
-go_on-stops false c group comma other = go_on-next false c group comma
-go_on-stops true c group comma other =
+pub go_on-stops : (leads : Bool) (c : ℕ) (rest : List ℕ) → is_comma c ≡ true
+    → (leads ≡ true → leading_digits Figure rest ≡ 3 → ⊥)
+    → go_on leads (more_groups (c ∷ rest)) ≡ false
+go_on-stops false c rest comma other = go_on-next false c rest comma
+go_on-stops true c rest comma other =
     let some = other refl in
-    let test : (leading_digits Figure group == 3) ≡ false = grind (arith, nat_tests, some) in
-    go_on-next true c group comma ∙ rw test refl
+    let test : (leading_digits Figure rest == 3) ≡ false = grind (arith, nat_tests, some) in
+    go_on-next true c rest comma ∙ rw test refl
 
 -- what follows the groups
 pub after-figures : (text : List ℕ) → after_groups (after_digits Figure text) ≡ after_groups text

@@ -3,7 +3,7 @@ use Rattle.cn_core.specs.Text.{text_of}
 use Rattle.cn_quantity.specs.declared.characters.DigitKind.TheVariants.{Figure}
 use Rattle.cn_quantity.specs.Digits.{begins_with_nought, leading_digits}
 use Rattle.cn_quantity.specs.Figures.{after_groups}
-use Rattle.cn_quantity.proofs.FigureGroups.{after-comma, after-figures, digits-over, go_on, go_on-more, go_on-stops, groups-begin}
+use Rattle.cn_quantity.proofs.FigureGroups.{after-comma, after-figures, digits-over, go_on, go_on-more, go_on-stops, groups-begin, more_groups}
 use Rattle.cn_quantity.proofs.figures.after_groups.Goals as goal
 
 pub grouping-init : goal.grouping-init
@@ -15,7 +15,7 @@ grouping-init c =
     record {
       same = ap₂ go_on (c.may_lead_groups-leads.ensures
           ∙ ap (λ n. nat_le n 3 && not (begins_with_nought text)) c.split_digits-count.ensures.count)
-          rest ∙ groups-begin text some;
+          (ap more_groups rest) ∙ groups-begin text some;
       after = rw rest (after-figures text);
       bare = rw rest (digits-over Figure text);
       utf8 = search rules;
@@ -25,7 +25,7 @@ pub returns-then-not-leads : goal.returns-then-not-leads
 returns-then-not-leads c =
     let leads = c.may_lead_groups-leads.result in
     let count = c.split_digits-size.ensures.count in
-    sym c.grouping.invariant.same ∙ ap (go_on leads) c.in-Some.ensures.parts.text
+    sym c.grouping.invariant.same ∙ ap (λ l. go_on leads (more_groups l)) c.in-Some.ensures.parts.text
     ∙ go_on-stops leads c.in-Some.c (text_of c.in-Some.group.now) (search rules)
     (λ on three. elim c.then-not-leads.either [
       | inl off ↦ cc
@@ -42,7 +42,7 @@ grouping-preserved c =
     record {
       same = rw rest (go_on-more leads c.in-Some.c group (search rules) c.if-not-leads.false
           (sym c.split_digits-size.ensures.count ∙ c.if-size-ne3.false)
-          ∙ ap (go_on leads) (sym parts) ∙ l.invariant.same);
+          ∙ ap (λ l. go_on leads (more_groups l)) (sym parts) ∙ l.invariant.same);
       after = rw rest (after-figures group ∙ sym (after-comma c.in-Some.c group (search rules))
           ∙ ap after_groups (sym parts) ∙ l.invariant.after);
       bare = rw rest (digits-over Figure group);
