@@ -12,7 +12,7 @@ use Rattle.cn_core.specs.Value.{product}
 use Rattle.cn_quantity.specs.declared.characters.DigitKind.{DigitKind}
 use Rattle.cn_quantity.specs.Characters.{digit_by}
 use Rattle.cn_quantity.specs.Digits.{read_on}
-use Rattle.cn_quantity.specs.Units.{times_units}
+use Rattle.cn_quantity.specs.Units.{fitting_if, times_units}
 
 -- the digits after those of a number make it no smaller
 value-grows : (number : ℕ) (digits : List ℕ) → number ≤ value_after number digits
@@ -40,12 +40,8 @@ times-next method number c rest = by (rank_of c) where
   ranks : List ℕ
   ranks = filter_map rank_of rest
 
-  times : List ℕ → Option ℕ
-  times ranks =
-      let all = number * product (map (scale method) ranks) in
-      if list_all (scale_fits method) ranks && nat_lt all (2 ^ 128) then Some all else None
-
-  by : (r : Option ℕ) → times (cons_option r ranks)
+  by : (r : Option ℕ) → (let all = cons_option r ranks in
+      fitting_if (list_all (scale_fits method) all) (number * product (map (scale method) all)))
       ≡ option_map_or (λ rank. if scale_fits method rank
       then times_units method (number * scale method rank) rest else None) r
       (times_units method number rest)
@@ -53,12 +49,8 @@ times-next method number c rest = by (rank_of c) where
   by (Some rank) =
       rw (← mul_assoc number (scale method rank) (product (map (scale method) ranks)))
       (fits (scale_fits method rank)) where
-        all : ℕ
-        all = number * scale method rank * product (map (scale method) ranks)
-
-        fits : (b : Bool)
-            → (if (b && list_all (scale_fits method) ranks) && nat_lt all (2 ^ 128) then Some all
-            else None)
+        fits : (b : Bool) → fitting_if (b && list_all (scale_fits method) ranks)
+            (number * scale method rank * product (map (scale method) ranks))
             ≡ (if b then times_units method (number * scale method rank) rest else None)
         fits true = refl
         fits false = refl
@@ -90,7 +82,7 @@ times_units-over method number text much =
       all : ℕ
       all = number * product (map (scale method) (filter_map rank_of text))
 
-      by : (b : Bool) → (if b && nat_lt all (2 ^ 128) then Some all else None) ≡ None
+      by : (b : Bool) → fitting_if b all ≡ None
       by true =
           let one = product-above method (filter_map rank_of text) in
           let more = mul-le-mul_left number one in

@@ -17,12 +17,16 @@ are_rising least (c ∷ rest) =
 abbrev pub are_rising_units : List ℕ → Bool
 are_rising_units text = are_rising 1 text
 
+-- a number, if a condition holds and the number fits 128 bits
+abbrev pub fitting_if : Bool → ℕ → Option ℕ
+fitting_if false number = None
+fitting_if true number = if nat_lt number (2 ^ 128) then Some number else None
+
 -- a number, times the scale of each unit of a text, if each scale and the product fit 128 bits
 abbrev pub times_units : ChineseCountMethod → ℕ → List ℕ → Option ℕ
 times_units method number text =
     let ranks = filter_map rank_of text in
-    let all = number * product (map (scale method) ranks) in
-    if list_all (scale_fits method) ranks && nat_lt all (2 ^ 128) then Some all else None
+    fitting_if (list_all (scale_fits method) ranks) (number * product (map (scale method) ranks))
 
 -- each unit of the text is smaller than this one
 abbrev pub are_below : Option ℕ → List ℕ → Bool
