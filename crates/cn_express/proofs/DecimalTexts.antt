@@ -29,7 +29,7 @@ use Rattle.cn_quantity.specs.Answer.{and_then}
 use Rattle.cn_quantity.specs.Characters.{chinese_digit_of, is_fen, is_point, share_of}
 use Rattle.cn_quantity.specs.Decimal.{after_point, before_point, ends_colloquially, is_chinese_decimal}
 use Rattle.cn_quantity.specs.Digits.{after_digits, leading_digits, read_with_units}
-use Rattle.cn_quantity.specs.Figures.{after_groups, ends_in_figures, is_in_figures}
+use Rattle.cn_quantity.specs.Figures.{after_whole, ends_in_figures, is_in_figures}
 use Rattle.cn_quantity.specs.Number.{decimal_of, number_answer, part_answer}
 use Rattle.cn_quantity.specs.Units.{are_rising_units, times_units}
 use Rattle.cn_quantity.specs.WholeNumber.{whole_answer}
@@ -161,7 +161,7 @@ decimals-read method variant case count number small =
 not-in-figures : (text more : List ℕ) → BeginsNumber text
     → is_in_figures (text ++ more) ≡ false
 not-in-figures text more begins =
-    ap (λ b. b && ends_in_figures (after_groups (text ++ more)))
+    ap (λ b. b && ends_in_figures (after_whole (text ++ more)))
     (groups-none (text ++ more) (not-figures text more begins))
 
 -- a number with decimals

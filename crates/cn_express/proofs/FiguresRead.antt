@@ -38,7 +38,7 @@ use Rattle.cn_quantity.specs.declared.quantity.QuantityForm.{QuantityForm}
 use Rattle.cn_quantity.specs.declared.quantity.QuantityForm.TheVariants.{Whole, Decimal, Percent, Fraction}
 use Rattle.cn_quantity.specs.Characters.{is_fen, is_point, share_of, sign_of}
 use Rattle.cn_quantity.specs.Digits.{after_digits, begins_with_digit, is_digit, leading_digits, read_on, read_with_units}
-use Rattle.cn_quantity.specs.Figures.{after_groups, are_groups, decimals_of, ends_in_figures, groups_of, is_in_figures}
+use Rattle.cn_quantity.specs.Figures.{after_whole, are_groups, decimals_of, ends_in_figures, groups_of, is_in_figures}
 use Rattle.cn_quantity.specs.Number.{decimal_of, number_answer, or_shaped, shaped_number}
 use Rattle.cn_quantity.specs.Reading.{leading_sign, quantity_answer}
 use Rattle.cn_quantity.specs.Trimmed.{decimals_in, decimals_of as decimals_of_quantity}
@@ -217,7 +217,7 @@ record IsBehind (count number : ℕ) (text : List ℕ) : Type 0 where
   no_units : has_no_units text ≡ true
   no_digit : begins_with_digit Figure text ≡ false
   no_comma : more_groups text ≡ []
-  no_groups : after_groups text ≡ text
+  no_more : after_whole text ≡ text
   ends : ends_in_figures text ≡ true
   decimals : decimals_of text ≡ count
   read : read_on Figure (number / 10 ^ count) text ≡ number
@@ -252,7 +252,7 @@ IsBehind-point count number c some p = record {
       (figures-no_units digits figures);
   no_digit = ap is_some p.no_figure;
   no_comma = rw p.no_comma;
-  no_groups = rw (p.no_figure, p.no_comma) refl;
+  no_more = rw (p.no_figure, p.no_comma) refl;
   ends = rw (p.point, alone.1, decimals);
   decimals = ap (λ b. if b then leading_digits Figure digits else 0) p.point ∙ size;
   read = ap (λ d. value_after (number / 10 ^ count) (cons_option d (filter_map figure_of digits)))
@@ -285,7 +285,7 @@ IsBehind-written zero number = record {
   no_units = refl;
   no_digit = refl;
   no_comma = refl;
-  no_groups = refl;
+  no_more = refl;
   ends = refl;
   decimals = refl;
   read = omega arith;
@@ -307,8 +307,8 @@ figures-number method count number front behind f b small =
           × (after_digits Figure (front ++ behind) ≡ behind)
       lead = digits-lead Figure front behind f.figures b.no_digit
 
-      after : after_groups (front ++ behind) ≡ behind
-      after = sym (after-figures (front ++ behind)) ∙ ap after_groups lead.1 ∙ b.no_groups
+      after : after_whole (front ++ behind) ≡ behind
+      after = sym (after-figures (front ++ behind)) ∙ ap after_whole lead.1 ∙ b.no_more
 
       some : 0 < leading_digits Figure (front ++ behind)
       some = let size = lead.0 in let some = f.some in omega (arith, size, some)
@@ -316,7 +316,7 @@ figures-number method count number front behind f b small =
       is : is_in_figures (front ++ behind) ≡ true
       is =
           both (are_groups (groups_of (front ++ behind)))
-          (ends_in_figures (after_groups (front ++ behind)))
+          (ends_in_figures (after_whole (front ++ behind)))
           (sym (groups-begin (front ++ behind) some) ∙ ap (go_on _) (ap more_groups lead.1 ∙ b.no_comma))
           (ap ends_in_figures after ∙ b.ends)
 

@@ -1,15 +1,14 @@
 -- Groups of figures, read one after another.
-use Rattle.std.proofs.Common.{◌≡◌, ℕ, suc, ◌+◌, ◌<◌, Bool, true, false, cond, not, ◌&&◌, ◌||◌, ◌==◌, nat_lt, nat_le, List, [], ◌∷◌, length, drop, take_while, is_some, Option, Some, None, refl, sym, ap, ap₂, ◌∙◌, arith, if◌then◌else◌}
-use Rattle.std.specs.List.{list_all, onto_first, prefix_len, slice_split}
+use Rattle.std.proofs.Common.{◌≡◌, ℕ, suc, ◌<◌, Bool, true, false, not, ◌&&◌, ◌||◌, ◌==◌, nat_lt, nat_le, List, [], ◌∷◌, length, is_some, Option, Some, None, refl, sym, ap, ap₂, ◌∙◌, arith, if◌then◌else◌}
+use Rattle.std.specs.List.{list_all, onto_first, slice_split}
 use Rattle.std.proofs.lemmas.Bool.Decides.{nat_tests}
 use Rattle.std.proofs.lemmas.List.Splits.{slice_split-cons_no, slice_split-cons_yes}
-use Rattle.std.proofs.lemmas.List.Sums.{take_while-cons}
 use Rattle.cn_core.specs.Figures.{figure_of, figure_rows, is_comma}
 use Rattle.cn_judge.proofs.Walking.{rows_have}
 use Rattle.cn_quantity.specs.declared.characters.DigitKind.{DigitKind}
 use Rattle.cn_quantity.specs.declared.characters.DigitKind.TheVariants.{Figure}
 use Rattle.cn_quantity.specs.Digits.{after_digits, begins_with_digit, begins_with_nought, is_digit, leading_digits}
-use Rattle.cn_quantity.specs.Figures.{after_groups, are_groups, groups_of, is_in_groups, may_lead_groups}
+use Rattle.cn_quantity.specs.Figures.{after_whole, are_groups, groups_of, may_lead_groups, whole_part}
 
 -- no figure is a comma
 no-comma : (c : ℕ) → is_digit Figure c ≡ true → is_comma c ≡ true → ⊥
@@ -22,33 +21,19 @@ no-comma c digit comma = by (figure_of c) refl digit where
       rows_have (λ c. not (is_comma c)) figure_rows c value refl is in
       let both : not true ≡ true = ap not (sym comma) ∙ none in cc
 
--- the first character decides where what is taken or dropped ends
-taken : (p : ℕ → Bool) (c : ℕ) (rest : List ℕ) (b : Bool) → p c ≡ b
-    → take_while p (c ∷ rest) ≡ cond b (c ∷ take_while p rest) []
-taken p c rest b is = take_while-cons p c rest ∙ ap (λ b. cond b (c ∷ take_while p rest) []) is
-
-dropped : (p : ℕ → Bool) (c : ℕ) (rest : List ℕ) (b : Bool) → p c ≡ b
-    → drop (prefix_len p (c ∷ rest)) (c ∷ rest)
-    ≡ (if b then drop (prefix_len p rest) rest else c ∷ rest)
-dropped p c rest b is = ap (λ b. drop (cond b (1 + prefix_len p rest) 0) (c ∷ rest)) is ∙ by b where
-  by : (b : Bool) → drop (cond b (1 + prefix_len p rest) 0) (c ∷ rest)
-      ≡ (if b then drop (prefix_len p rest) rest else c ∷ rest)
-  by true =
-      let next : 1 + prefix_len p rest ≡ suc (prefix_len p rest) = omega arith in
-      ap (λ n. drop n (c ∷ rest)) next
-  by false = refl
-
 -- the figures that a text begins with
 abbrev pub figures_of : List ℕ → List ℕ
-figures_of text = take_while (is_digit Figure) text
+figures_of [] = []
+figures_of (c ∷ rest) = if is_digit Figure c then c ∷ figures_of rest else []
 
 figures-count : (text : List ℕ) → length (figures_of text) ≡ leading_digits Figure text
 figures-count [] = refl
-figures-count (c ∷ rest) = by (is_digit Figure c) refl (figures-count rest) where
-  by : (b : Bool) → is_digit Figure c ≡ b → length (figures_of rest) ≡ leading_digits Figure rest
-      → length (figures_of (c ∷ rest)) ≡ leading_digits Figure (c ∷ rest)
-  by true is ih = ap length (taken (is_digit Figure) c rest true is) ∙ ap suc ih ∙ rw is refl
-  by false is ih = ap length (taken (is_digit Figure) c rest false is) ∙ rw is refl
+figures-count (c ∷ rest) = by (is_digit Figure c) (figures-count rest) where
+  by : (b : Bool) → length (figures_of rest) ≡ leading_digits Figure rest
+      → length (if b then c ∷ figures_of rest else [])
+      ≡ (if b then suc (leading_digits Figure rest) else 0)
+  by true ih = ap suc ih
+  by false ih = refl
 
 nought-first : (text : List ℕ)
     → begins_with_nought (figures_of text) ≡ begins_with_nought text
@@ -57,8 +42,9 @@ nought-first (c ∷ rest) = by (figure_of c) refl where
   by : (d : Option ℕ) → figure_of c ≡ d
       → begins_with_nought (figures_of (c ∷ rest)) ≡ begins_with_nought (c ∷ rest)
   by None is =
-      ap begins_with_nought (taken (is_digit Figure) c rest false (ap is_some is)) ∙ rw is refl
-  by (Some figure) is = ap begins_with_nought (taken (is_digit Figure) c rest true (ap is_some is))
+      ap (λ d. begins_with_nought (if is_some d then c ∷ figures_of rest else [])) is ∙ rw is refl
+  by (Some figure) is =
+      ap (λ d. begins_with_nought (if is_some d then c ∷ figures_of rest else [])) is
 
 pub digits-over : (kind : DigitKind) (text : List ℕ)
     → begins_with_digit kind (after_digits kind text) ≡ false
@@ -78,33 +64,30 @@ groups-first : (text : List ℕ)
     → groups_of text ≡ figures_of text ∷ more_groups (after_digits Figure text)
 groups-first [] = refl
 groups-first (c ∷ rest) = by (is_digit Figure c) (is_comma c) refl refl (groups-first rest) where
-  in_groups : (f k : Bool) → is_digit Figure c ≡ f → is_comma c ≡ k
-      → groups_of (c ∷ rest)
-      ≡ slice_split is_comma (cond (f || k) (c ∷ take_while is_in_groups rest) [])
-  in_groups f k figure comma =
-      ap (slice_split is_comma) (taken is_in_groups c rest (f || k) (rw (figure, comma) refl))
+  in_whole : (f k : Bool) → is_digit Figure c ≡ f → is_comma c ≡ k
+      → groups_of (c ∷ rest) ≡ slice_split is_comma (if f || k then c ∷ whole_part rest else [])
+  in_whole f k =
+      ap₂ (λ f k. slice_split is_comma (if f || k then c ∷ whole_part rest else []))
 
   first : (f : Bool) → is_digit Figure c ≡ f
       → figures_of (c ∷ rest) ∷ more_groups (after_digits Figure (c ∷ rest))
-      ≡ cond f (c ∷ figures_of rest) [] ∷ more_groups (if f then after_digits Figure rest else c ∷ rest)
-  first f figure =
-      ap₂ (λ figures rest. figures ∷ more_groups rest) (taken (is_digit Figure) c rest f figure)
-      (ap (λ b. if b then after_digits Figure rest else c ∷ rest) figure)
+      ≡ (if f then c ∷ figures_of rest else [])
+      ∷ more_groups (if f then after_digits Figure rest else c ∷ rest)
+  first f = ap (λ f. (if f then c ∷ figures_of rest else [])
+      ∷ more_groups (if f then after_digits Figure rest else c ∷ rest))
 
   by : (f k : Bool) → is_digit Figure c ≡ f → is_comma c ≡ k
       → groups_of rest ≡ figures_of rest ∷ more_groups (after_digits Figure rest)
       → groups_of (c ∷ rest) ≡ figures_of (c ∷ rest) ∷ more_groups (after_digits Figure (c ∷ rest))
   by true true figure comma ih = absurd (no-comma c figure comma)
   by true false figure comma ih =
-      in_groups true false figure comma
-      ∙ slice_split-cons_no is_comma c (take_while is_in_groups rest) comma
+      in_whole true false figure comma ∙ slice_split-cons_no is_comma c (whole_part rest) comma
       ∙ ap (onto_first c) ih ∙ sym (first true figure)
   by false true figure comma ih =
-      in_groups false true figure comma
-      ∙ slice_split-cons_yes is_comma c (take_while is_in_groups rest) comma
+      in_whole false true figure comma ∙ slice_split-cons_yes is_comma c (whole_part rest) comma
       ∙ sym (first false figure ∙ rw comma refl)
   by false false figure comma ih =
-      in_groups false false figure comma ∙ sym (first false figure ∙ rw comma refl)
+      in_whole false false figure comma ∙ sym (first false figure ∙ rw comma refl)
 
 -- whether groups are written well after figures that may lead them or not
 abbrev pub go_on : Bool → List (List ℕ) → Bool
@@ -170,19 +153,19 @@ go_on-stops true c rest comma other =
     let test : (leading_digits Figure rest == 3) ≡ false = grind (arith, nat_tests, some) in
     go_on-next true c rest comma ∙ rw test refl
 
--- what follows the groups
-pub after-figures : (text : List ℕ) → after_groups (after_digits Figure text) ≡ after_groups text
+-- what follows the whole part
+pub after-figures : (text : List ℕ) → after_whole (after_digits Figure text) ≡ after_whole text
 after-figures [] = refl
 after-figures (c ∷ rest) = by (is_digit Figure c) refl (after-figures rest) where
   by : (b : Bool) → is_digit Figure c ≡ b
-      → after_groups (after_digits Figure rest) ≡ after_groups rest
-      → after_groups (if b then after_digits Figure rest else c ∷ rest) ≡ after_groups (c ∷ rest)
-  by true figure ih = ih ∙ sym (dropped is_in_groups c rest true (rw figure refl))
+      → after_whole (after_digits Figure rest) ≡ after_whole rest
+      → after_whole (if b then after_digits Figure rest else c ∷ rest) ≡ after_whole (c ∷ rest)
+  by true figure ih = ih ∙ sym (rw figure refl)
   by false figure ih = refl
 
 pub after-comma : (c : ℕ) (rest : List ℕ) → is_comma c ≡ true
-    → after_groups (c ∷ rest) ≡ after_groups rest
-after-comma c rest comma = dropped is_in_groups c rest true (by (is_digit Figure c)) where
-  by : (b : Bool) → (b || is_comma c) ≡ true
+    → after_whole (c ∷ rest) ≡ after_whole rest
+after-comma c rest comma = by (is_digit Figure c) where
+  by : (b : Bool) → (if b || is_comma c then after_whole rest else c ∷ rest) ≡ after_whole rest
   by true = refl
-  by false = comma
+  by false = rw comma refl

@@ -1,7 +1,7 @@
 -- A number in figures: figures, with commas between groups of three or with none, then a point and
 -- figures or none, then units or none, as 1,280.5万.
-use Rattle.std.specs.Prelude.{ℕ, Bool, true, false, not, ◌&&◌, ◌||◌, ◌==◌, nat_lt, nat_le, List, [], ◌∷◌, length, drop, take_while, if◌then◌else◌}
-use Rattle.std.specs.List.{list_all, prefix_len, slice_split}
+use Rattle.std.specs.Prelude.{ℕ, Bool, true, false, not, ◌&&◌, ◌||◌, ◌==◌, nat_lt, nat_le, List, [], ◌∷◌, length, if◌then◌else◌}
+use Rattle.std.specs.List.{list_all, slice_split}
 use Rattle.cn_core.specs.Figures.{is_comma}
 use Rattle.cn_quantity.specs.declared.characters.DigitKind.{DigitKind}
 use Rattle.cn_quantity.specs.declared.characters.DigitKind.TheVariants.{Figure}
@@ -9,17 +9,18 @@ use Rattle.cn_quantity.specs.Characters.{is_point}
 use Rattle.cn_quantity.specs.Digits.{after_digits, begins_with_nought, is_digit, leading_digits}
 use Rattle.cn_quantity.specs.Units.{are_factors}
 
--- a figure or a comma
-abbrev pub is_in_groups : ℕ → Bool
-is_in_groups c = is_digit Figure c || is_comma c
+-- the figures and commas that a text begins with, and what follows them
+abbrev pub whole_part : List ℕ → List ℕ
+whole_part [] = []
+whole_part (c ∷ rest) = if is_digit Figure c || is_comma c then c ∷ whole_part rest else []
 
--- what stands between the commas that a text begins with: 1 and 280 of 1,280.5万
+abbrev pub after_whole : List ℕ → List ℕ
+after_whole [] = []
+after_whole (c ∷ rest) = if is_digit Figure c || is_comma c then after_whole rest else c ∷ rest
+
+-- what stands between the commas of the whole part: 1 and 280 of 1,280.5万
 abbrev pub groups_of : List ℕ → List (List ℕ)
-groups_of text = slice_split is_comma (take_while is_in_groups text)
-
--- what follows the figures and commas that a text begins with: .5万
-abbrev pub after_groups : List ℕ → List ℕ
-after_groups text = drop (prefix_len is_in_groups text) text
+groups_of text = slice_split is_comma (whole_part text)
 
 -- one to three figures that do not begin with 0
 abbrev pub may_lead_groups : List ℕ → Bool
@@ -38,14 +39,14 @@ abbrev pub are_decimals : DigitKind → List ℕ → Bool
 are_decimals kind text =
     nat_lt 0 (leading_digits kind text) && are_factors (after_digits kind text)
 
--- a point and decimals, or units, or nothing: what stands after the groups
+-- a point and decimals, or units, or nothing: what stands after the whole part
 abbrev pub ends_in_figures : List ℕ → Bool
 ends_in_figures [] = true
 ends_in_figures (c ∷ rest) =
     if is_point Figure c then are_decimals Figure rest else are_factors (c ∷ rest)
 
 abbrev pub is_in_figures : List ℕ → Bool
-is_in_figures text = are_groups (groups_of text) && ends_in_figures (after_groups text)
+is_in_figures text = are_groups (groups_of text) && ends_in_figures (after_whole text)
 
 -- how many figures stand after a point that a text begins with
 abbrev pub decimals_of : List ℕ → ℕ
@@ -53,4 +54,4 @@ decimals_of [] = 0
 decimals_of (c ∷ rest) = if is_point Figure c then leading_digits Figure rest else 0
 
 abbrev pub decimals_in_figures : List ℕ → ℕ
-decimals_in_figures text = decimals_of (after_groups text)
+decimals_in_figures text = decimals_of (after_whole text)

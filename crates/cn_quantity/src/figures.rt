@@ -3,7 +3,7 @@ ghost use Rattle.std.specs.Prelude.{◌≡◌, true, false, not, ◌&&◌, nat_l
 ghost use Rattle.cn_core.specs.Text.{text_of};
 ghost use Rattle.cn_quantity.specs.declared.characters.DigitKind.TheVariants.{Figure};
 ghost use Rattle.cn_quantity.specs.Digits.{begins_with_nought, leading_digits};
-ghost use Rattle.cn_quantity.specs.Figures.{after_groups, are_decimals, are_groups, decimals_in_figures, decimals_of, ends_in_figures, groups_of, is_in_figures};
+ghost use Rattle.cn_quantity.specs.Figures.{after_whole, are_decimals, are_groups, decimals_in_figures, decimals_of, ends_in_figures, groups_of, is_in_figures};
 
 use crate::characters::{DigitKind, is_point};
 use crate::digits::{begins_with_nought, split_digits};
@@ -18,11 +18,11 @@ fn may_lead_groups(count: usize, text: &str) -> bool
     count <= 3 && !begins_with_nought(text)
 }
 
-// What follows the groups that the text begins with, if they are written well.
-fn after_groups(text: &str) -> Option<&str>
+// What follows the whole part that the text begins with, if its groups are written well.
+fn after_whole(text: &str) -> Option<&str>
     ensures { MatchOption result (are_groups (groups_of (text_of text.now)) ≡ false)
         (λ r. (are_groups (groups_of (text_of text.now)) ≡ true)
-        × (text_of r.now ≡ after_groups (text_of text.now))) }
+        × (text_of r.now ≡ after_whole (text_of text.now))) }
 {
     let (count, after) = split_digits(DigitKind::Figure, text);
     if count == 0 {
@@ -78,5 +78,5 @@ pub fn decimals_in_figures(text: &str) -> Option<usize>
     ensures { SomeIff result (is_in_figures (text_of text.now) ≡ true)
         (decimals_in_figures (text_of text.now)) }
 {
-    end_in_figures(after_groups(text)?)
+    end_in_figures(after_whole(text)?)
 }

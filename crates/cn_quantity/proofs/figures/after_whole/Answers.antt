@@ -2,9 +2,9 @@ use Rattle.std.proofs.Common.{◌<◌, ◌&&◌, not, nat_le, inl, inr, ap, ap�
 use Rattle.cn_core.specs.Text.{text_of}
 use Rattle.cn_quantity.specs.declared.characters.DigitKind.TheVariants.{Figure}
 use Rattle.cn_quantity.specs.Digits.{begins_with_nought, leading_digits}
-use Rattle.cn_quantity.specs.Figures.{after_groups}
-use Rattle.cn_quantity.proofs.FigureGroups.{after-comma, after-figures, digits-over, go_on, go_on-more, go_on-stops, groups-begin, more_groups}
-use Rattle.cn_quantity.proofs.figures.after_groups.Goals as goal
+use Rattle.cn_quantity.specs.Figures.{after_whole}
+use Rattle.cn_quantity.proofs.FigureGroups.{after-comma, after-figures, digits-over, go_on, go_on-more, go_on-stops, groups-begin, groups-none, more_groups}
+use Rattle.cn_quantity.proofs.figures.after_whole.Goals as goal
 
 pub grouping-init : goal.grouping-init
 grouping-init c =
@@ -20,6 +20,11 @@ grouping-init c =
       bare = rw rest (digits-over Figure text);
       utf8 = search rules;
     }
+
+pub returns-then-count-eq0 : goal.returns-then-count-eq0
+returns-then-count-eq0 c =
+    groups-none (text_of c.args.text.now) (sym c.split_digits-count.ensures.count
+    ∙ c.if-count-eq0.true)
 
 pub returns-then-not-leads : goal.returns-then-not-leads
 returns-then-not-leads c =
@@ -44,7 +49,7 @@ grouping-preserved c =
           (sym c.split_digits-size.ensures.count ∙ c.if-size-ne3.false)
           ∙ ap (λ l. go_on leads (more_groups l)) (sym parts) ∙ l.invariant.same);
       after = rw rest (after-figures group ∙ sym (after-comma c.in-Some.c group (search rules))
-          ∙ ap after_groups (sym parts) ∙ l.invariant.after);
+          ∙ ap after_whole (sym parts) ∙ l.invariant.after);
       bare = rw rest (digits-over Figure group);
       utf8 = search rules;
     }
