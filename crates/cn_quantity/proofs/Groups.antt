@@ -9,12 +9,12 @@ use Rattle.cn_core.specs.Characters.{rank_of}
 use Rattle.cn_core.specs.Figures.{figure_of}
 use Rattle.cn_core.specs.Text.{text_of}
 use Rattle.cn_quantity.specs.declared.characters.DigitKind.TheVariants.{Figure}
-use Rattle.cn_quantity.specs.Digits.{after_digits, leading_digits}
+use Rattle.cn_quantity.specs.Digits.{after_digits, begins_with_nought, leading_digits}
 use Rattle.cn_quantity.specs.Private.{IsGroup}
 use Rattle.cn_quantity.specs.declared.turns.Turns.{Turns}
 use Rattle.std.specs.Char.{char_set_contains}
 use Rattle.cn_core.specs.declared.method.ChineseCountMethod.{ChineseCountMethod}
-use Rattle.cn_quantity.specs.Turns.{after_group, after_units, begins_with_nought, begins_with_zero, by_turns, first_group, has_two_readings, last_group, later_group, leading_number, leading_units, number_of, turns_after, unit_group, units_of, with_group, with_last, without_zero}
+use Rattle.cn_quantity.specs.Turns.{after_group, after_units, begins_with_zero, by_turns, first_group, has_two_readings, last_group, later_group, leading_number, leading_units, number_of, turns_after, unit_group, units_of, with_group, with_last, without_zero}
 use Rattle.cn_quantity.proofs.Ends.{text-parts}
 
 -- more figures make no smaller number

@@ -33,6 +33,7 @@ use Rattle.cn_quantity.specs.declared.quantity.QuantityForm.TheVariants.{Whole}
 use Rattle.cn_quantity.specs.Answer.{and_then, further_by}
 use Rattle.cn_quantity.specs.Characters.{is_fen, is_ling, is_point, is_xia, is_you, share_of, sign_of}
 use Rattle.cn_quantity.specs.Number.{number_answer, or_shaped, shaped_number}
+use Rattle.cn_quantity.proofs.Growing.{times-unit}
 use Rattle.cn_quantity.proofs.Ratios.{a-number, simple-is}
 use Rattle.cn_quantity.proofs.MixedTexts.{no-you}
 use Rattle.cn_quantity.specs.Ratio.{after_bar, after_you, before_bar, begins_with_minus, form_of, is_fraction, is_negated, last_share, ratio_answer, ratio_of, share}
@@ -40,7 +41,7 @@ use Rattle.cn_quantity.specs.Reading.{begins_number, front_length, is_below_zero
 use Rattle.cn_quantity.proofs.Signed.{not-negated as rest-not_negated, quantity-plain}
 use Rattle.cn_quantity.specs.Misread.{bare_ten_between, first_misread}
 use Rattle.cn_quantity.specs.Units.{are_rising, times_units}
-use Rattle.cn_quantity.specs.WholeNumber.{fitting, is_plain, misread_answer, reader_answer, sum_answer, whole_answer}
+use Rattle.cn_quantity.specs.WholeNumber.{fitting, is_plain, misread_answer, reader_answer, refused_at, sum_answer, whole_answer}
 use Rattle.cn_quantity.proofs.WholeNumbers.{whole-reader}
 
 -- what each digit and unit of numerals has
@@ -184,16 +185,6 @@ fits : (a b : Bool) → (not a || b) ≡ false → (a ≡ true) × (b ≡ false)
 fits true b h = (refl, h)
 fits false b h = cc
 
--- one unit more, and one digit
-times-unit : (method : ChineseCountMethod) (number c rank : ℕ) (rest : List ℕ)
-    → rank_of c ≡ Some rank → scale_fits method rank ≡ true
-    → times_units method number (c ∷ rest) ≡ times_units method (number * scale method rank) rest
-times-unit method number c rank rest is fits = rw (is, fits)
-
-pub times-digit : (method : ChineseCountMethod) (number c : ℕ) (rest : List ℕ) → rank_of c ≡ None
-    → times_units method number (c ∷ rest) ≡ times_units method number rest
-times-digit method number c rest none = rw none
-
 -- rising units count the product of their scales
 pub units-product : (method : ChineseCountMethod) (least k number : ℕ) (text : List ℕ)
     → are_rising least text ≡ true → k ≤ least + 1 → some_unfit method (marks_of text) ≡ false
@@ -201,8 +192,8 @@ pub units-product : (method : ChineseCountMethod) (least k number : ℕ) (text :
     → times_units method number text
     ≡ Some (number * product (map (scale method) (records_from k (marks_of text))))
 units-product method least k number [] rising low fit small =
-    let test : nat_lt number (2 ^ 128) ≡ true = grind (arith, nat_tests, small) in
-    rw test (ap Some (omega arith))
+    let test : nat_lt (number * 1) (2 ^ 128) ≡ true = grind (arith, nat_tests, small) in
+    rw test refl
 units-product method least k number (c ∷ rest) rising low fit small =
     let r = rising-first least c rest rising in
     let mark = unit-mark c r.rank r.is in
@@ -376,16 +367,23 @@ sum-read method rank number before from h = by (judge method (marks_of before)) 
 pub whole-marks : (method : ChineseCountMethod) (text : List ℕ) (number : ℕ)
     → whole_answer method text ≡ Ok number → are_marks text ≡ true
 whole-marks method text number h = by (first_misread text) h where
+  refused : (answer : Result ℕ Refusal) (place : ℕ) → refused_at answer place ≡ Ok number → ⊥
+  refused (Ok read) place e = cc
+  refused (Err refusal) place e = cc
+
   parts : (place : ℕ) (bare : Option ℕ)
       → option_map_or (λ rank. sum_answer method rank (take place text) (drop place text)) bare
-      (Err (incorrect_at (length (take place text)))) ≡ Ok number → are_marks text ≡ true
+      (refused_at (reader_answer method (take place text ++ drop place text))
+      (length (take place text))) ≡ Ok number → are_marks text ≡ true
   parts place (Some rank) e =
       let read = sum-read method rank number (take place text) (drop place text) e in
       let test = λ (c : ℕ). is_digit_or_unit (mark_of c) in
       ap are_marks (sym (take-append-drop place text))
       ∙ list_all-append test (take place text) (drop place text)
       ∙ both (are_marks (take place text)) (are_marks (drop place text)) read.0 read.1
-  parts place None e = cc
+  parts place None e =
+      absurd (refused (reader_answer method (take place text ++ drop place text))
+      (length (take place text)) e)
 
   by : (found : Option ℕ)
       → option_map_or (λ place. misread_answer method (take place text) (drop place text)) found

@@ -1,6 +1,7 @@
 -- Decimals, and the zeros at their end.
-use Rattle.std.proofs.Common.{◌≡◌, ℕ, zero, suc, ◌+◌, ◌*◌, ◌/◌, ◌%◌, ◌^◌, ◌<◌, ◌≤◌, ◌==◌, ℤ, pos, negsuc, nat_abs, int_div, int_lt, true, false, Option, Some, None, find, refl, ◌∙◌, arith}
-use Rattle.std.proofs.Math.Nat.{pow-le-pow_right}
+use Rattle.std.proofs.Common.{◌≡◌, ℕ, zero, suc, ◌+◌, ◌*◌, ◌/◌, ◌%◌, ◌^◌, ◌<◌, ◌≤◌, ◌==◌, ℤ, pos, negsuc, nat_abs, int_div, int_lt, Bool, true, false, Option, Some, None, find, refl, ap, ◌∙◌, arith, if◌then◌else◌}
+use Rattle.std.proofs.Math.Arith.{mod-mul}
+use Rattle.std.proofs.Math.Nat.{pow-le-pow_right, pow-suc}
 use Rattle.std.proofs.lemmas.Bool.Decides.{nat_tests}
 use Rattle.std.proofs.lemmas.Bool.{eq-eqb}
 use Rattle.std.proofs.lemmas.Int.{ints}
@@ -75,13 +76,37 @@ divided (pos m) d =
     let test : int_lt (pos m) (pos 0) ≡ false = grind (arith, ints, nat_tests) in rw test refl
 divided (negsuc m) d = refl
 
+-- what is left over a power of ten, and the last digit
+digit-last : (count number : ℕ)
+    → number % 10 ^ suc count ≡ number / 10 % 10 ^ count * 10 + number % 10
+digit-last count number =
+    ap (λ n. number % n) (pow-suc 10 count) ∙ mod-mul number (ten-above count) (omega arith)
+
 -- a zero more, and no more zeros
 pub zeros-next : (count number : ℕ) → number % 10 ≤ 0
     → zeros_at_end (suc count) number ≡ suc (zeros_at_end count (number / 10))
-zeros-next count number none =
-    let test : (number % 10 == 0) ≡ true = eq-eqb _ _ (omega (arith, none)) in rw test refl
+zeros-next zero number none =
+    let test : (number % 10 ^ suc zero == 0) ≡ true = eq-eqb _ _ (omega (arith, none)) in rw test refl
+zeros-next (suc count) number none =
+    by (number / 10 % 10 ^ suc count == 0) refl (zeros-next count number none) where
+      by : (b : Bool) → (number / 10 % 10 ^ suc count == 0) ≡ b
+          → zeros_at_end (suc count) number ≡ suc (zeros_at_end count (number / 10))
+          → zeros_at_end (suc (suc count)) number
+          ≡ suc (if b then suc count else zeros_at_end count (number / 10))
+      by true e ih =
+          let last = digit-last (suc count) number in
+          let test : (number % 10 ^ suc (suc count) == 0) ≡ true =
+          grind (arith, nat_tests, e, last, none) in
+          rw test refl
+      by false e ih =
+          let last = digit-last (suc count) number in
+          let test : (number % 10 ^ suc (suc count) == 0) ≡ false =
+          grind (arith, nat_tests, e, last) in
+          rw test ih
 
 pub zeros-stop : (count number : ℕ) → 0 < number % 10 → zeros_at_end count number ≡ 0
 zeros-stop zero number some = refl
 zeros-stop (suc count) number some =
-    let test : (number % 10 == 0) ≡ false = grind (arith, nat_tests, some) in rw test refl
+    let last = digit-last count number in
+    let test : (number % 10 ^ suc count == 0) ≡ false = grind (arith, nat_tests, some, last) in
+    rw test (zeros-stop count number some)

@@ -14,9 +14,9 @@ use Rattle.cn_quantity.specs.declared.quantity.Quantity.{Quantity}
 use Rattle.cn_quantity.specs.declared.ratio.Ratio.{Ratio}
 use Rattle.cn_quantity.specs.Ratio.{after_bar, after_you, before_bar, before_you}
 use Rattle.cn_quantity.specs.declared.characters.DigitKind.TheVariants.{Figure}
-use Rattle.cn_quantity.specs.Digits.{leading_digits}
+use Rattle.cn_quantity.specs.Digits.{begins_with_nought, leading_digits}
 use Rattle.cn_quantity.specs.Reading.{signed_ratio}
-use Rattle.cn_quantity.specs.Turns.{after_group, begins_with_nought, number_of, units_of}
+use Rattle.cn_quantity.specs.Turns.{after_group, number_of, units_of}
 
 -- the string ends with this one
 pub record IsEnd (bytes rest : List ℕ) : Type 0 where

@@ -24,11 +24,12 @@ decimals_in Fraction denominator = None
 abbrev pub decimals_of : Quantity → Option ℕ
 decimals_of q = decimals_in q.form q.denominator
 
--- with how many zeros a number ends, of its last so many digits: two of 1500
+-- with how many zeros a number ends, of its last so many digits: the greatest exponent up to theirs
+-- of a power of ten that divides it, two of 1500
 abbrev pub zeros_at_end : ℕ → ℕ → ℕ
 zeros_at_end zero number = 0
 zeros_at_end (suc count) number =
-    if number % 10 == 0 then suc (zeros_at_end count (number / 10)) else 0
+    if number % 10 ^ suc count == 0 then suc count else zeros_at_end count number
 
 -- the form with so many decimals left: a decimal with none is a whole number
 abbrev pub form_with : QuantityForm → ℕ → QuantityForm

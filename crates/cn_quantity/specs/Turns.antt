@@ -7,7 +7,7 @@ use Rattle.cn_core.specs.Characters.{rank_of}
 use Rattle.cn_core.specs.Figures.{figure_of}
 use Rattle.cn_quantity.specs.declared.characters.DigitKind.TheVariants.{Figure}
 use Rattle.cn_quantity.specs.declared.turns.Turns.{Turns}
-use Rattle.cn_quantity.specs.Digits.{after_digits, leading_digits}
+use Rattle.cn_quantity.specs.Digits.{after_digits, begins_with_nought, leading_digits}
 use Rattle.cn_quantity.specs.Units.{times_units}
 
 -- the number with the figures that a text begins with after its own
@@ -15,11 +15,6 @@ abbrev pub leading_number : ℕ → List ℕ → ℕ
 leading_number number [] = number
 leading_number number (c ∷ rest) =
     option_map_or (λ figure. leading_number (number * 10 + figure) rest) (figure_of c) number
-
--- the text begins with the figure 0
-abbrev pub begins_with_nought : List ℕ → Bool
-begins_with_nought [] = false
-begins_with_nought (c ∷ rest) = option_map_or (λ figure. figure == 0) (figure_of c) false
 
 -- the rising units that a text begins with, each greater than this rank, and what follows them
 abbrev pub leading_units : ℕ → List ℕ → List ℕ

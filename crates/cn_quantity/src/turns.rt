@@ -4,11 +4,11 @@ ghost use Rattle.cn_core.specs.Text.{text_of};
 ghost use Rattle.cn_quantity.specs.declared.characters.DigitKind.TheVariants.{Figure};
 ghost use Rattle.cn_quantity.specs.Digits.{leading_digits};
 ghost use Rattle.cn_quantity.specs.Private.{IsEnd, IsGroup};
-ghost use Rattle.cn_quantity.specs.Turns.{after_group, after_units, begins_with_nought, begins_with_zero, by_turns, fills, first_group, has_two_readings, is_below, is_tenth, last_group, later_group, leading_number, number_of, unit_group, with_group, with_last, without_zero};
+ghost use Rattle.cn_quantity.specs.Turns.{after_group, after_units, begins_with_zero, by_turns, fills, first_group, has_two_readings, is_below, is_tenth, last_group, later_group, leading_number, number_of, unit_group, with_group, with_last, without_zero};
 ghost use Rattle.cn_quantity.specs.Units.{times_units};
 
 use crate::characters::{DigitKind, digit_by};
-use crate::digits::{split_digits, with_digit};
+use crate::digits::{begins_with_nought, split_digits, with_digit};
 use crate::pieces::{before_end, split_first};
 use crate::units::times_units;
 use cn_core::{ChineseCountMethod, Unit, power_of_ten, unit_of};
@@ -47,19 +47,6 @@ fn number_of(text: &str) -> Option<u128>
         rest = after;
     }
     Some(number)
-}
-
-// Whether the text begins with the figure 0.
-fn begins_with_nought(text: &str) -> bool
-    ensures { result ≡ begins_with_nought (text_of text.now) }
-{
-    let Some((c, _)) = split_first(text) else {
-        return false;
-    };
-    match digit_by(DigitKind::Figure, c) {
-        Some(figure) => figure == 0,
-        None => false,
-    }
 }
 
 // What follows the rising units that the text begins with.
