@@ -19,7 +19,7 @@ read_on-le kind number (c ∷ rest) = by (digit_by kind c) (λ m. read_on-le kin
   by None ih = ih number
   by (Some digit) ih = let h = ih (number * 10 + digit) in omega (arith, h)
 
--- one digit more
+-- one more digit
 read_on-next : (kind : DigitKind) (number longer digit c : ℕ) (text rest after : List ℕ)
     → read_on kind longer rest ≡ read_on kind number text → rest ≡ c ∷ after
     → digit_by kind c ≡ Some digit
@@ -43,7 +43,7 @@ times-le : (method : ChineseCountMethod) (number rank : ℕ) → number ≤ numb
 times-le method number rank =
     let h = mul-le-mul_left number (scale-positive method rank) in omega (arith, h)
 
--- what does not fit, fits no better once it is multiplied
+-- a number that does not fit does not fit when it is multiplied
 pub times_units-over : (method : ChineseCountMethod) (number : ℕ) (text : List ℕ)
     → ¬ (number < 2 ^ 128) → times_units method number text ≡ None
 times_units-over method number [] much =
@@ -62,7 +62,7 @@ times_units-over method number (c ∷ rest) much =
             (λ h. let le = times-le method number rank in much (omega (arith, le, h)))
         fits false = refl
 
--- one unit more
+-- one more unit
 times_units-next : (method : ChineseCountMethod) (number product rank c : ℕ)
     (text rest after : List ℕ)
     → times_units method product rest ≡ times_units method number text → rest ≡ c ∷ after

@@ -1,4 +1,4 @@
--- Digits that stand side by side.
+-- Digits that are side by side.
 use Rattle.std.specs.Prelude.{ℕ, suc, ◌+◌, ◌*◌, Bool, false, List, [], ◌∷◌, Option, is_some, if◌then◌else◌}
 use Rattle.std.specs.Option.{option_map_or}
 use Rattle.cn_core.specs.declared.method.ChineseCountMethod.{ChineseCountMethod}
@@ -14,23 +14,23 @@ abbrev pub begins_with_digit : DigitKind → List ℕ → Bool
 begins_with_digit kind [] = false
 begins_with_digit kind (c ∷ rest) = is_digit kind c
 
--- how many digits a text begins with
+-- the number of digits with which a text begins
 abbrev pub leading_digits : DigitKind → List ℕ → ℕ
 leading_digits kind [] = 0
 leading_digits kind (c ∷ rest) = if is_digit kind c then suc (leading_digits kind rest) else 0
 
--- what follows them
+-- the text after these digits
 abbrev pub after_digits : DigitKind → List ℕ → List ℕ
 after_digits kind [] = []
 after_digits kind (c ∷ rest) = if is_digit kind c then after_digits kind rest else c ∷ rest
 
--- the number with the digits of a text behind its own: 35 with 一四 behind it is 3514; what is no
--- digit is passed
+-- the number, continued with the digits of a text: 35 and 一四 make 3514; characters that are not
+-- digits are skipped
 abbrev pub read_on : DigitKind → ℕ → List ℕ → ℕ
 read_on kind number [] = number
 read_on kind number (c ∷ rest) =
     read_on kind (option_map_or (λ digit. number * 10 + digit) (digit_by kind c) number) rest
 
--- the same, times each unit of the text, if that fits: 120 with 五萬 behind it is 12050000
+-- the same number times each unit of the text, if that fits: 120 and 五萬 make 12050000
 abbrev pub read_with_units : ChineseCountMethod → DigitKind → ℕ → List ℕ → Option ℕ
 read_with_units method kind number text = times_units method (read_on kind number text) text

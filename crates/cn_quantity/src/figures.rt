@@ -1,4 +1,4 @@
-// A number in figures, as 1,280.5万.
+// A number in figures, such as 1,280.5万.
 ghost use Rattle.std.specs.Prelude.{◌≡◌, ℕ, ◌∷◌, ◌<◌, true, false, length, IfSome, MatchOption, SomeIff};
 ghost use Rattle.cn_core.specs.Text.{text_of};
 ghost use Rattle.cn_quantity.specs.declared.characters.DigitKind.TheVariants.{Figure};
@@ -11,7 +11,7 @@ use crate::pieces::split_first;
 use crate::units::are_factors;
 use cn_core::is_comma;
 
-// What follows a figure at the start.
+// The text after a figure at the start.
 fn after_figure(text: &str) -> Option<&str>
     ensures parts { MatchOption result (begins_with_digit Figure (text_of text.now) ≡ false)
         (λ r. (c : ℕ) × (text_of text.now ≡ c ∷ text_of r.now) × (is_digit Figure c ≡ true)) }
@@ -25,7 +25,7 @@ fn after_figure(text: &str) -> Option<&str>
     }
 }
 
-// What follows a comma and three figures at the start.
+// The text after a comma and three figures at the start.
 fn after_group(text: &str) -> Option<&str>
     ensures parts { MatchOption result (after_groups (text_of text.now) ≡ text_of text.now)
         (λ r. after_groups (text_of text.now) ≡ after_groups (text_of r.now)) }
@@ -41,7 +41,7 @@ fn after_group(text: &str) -> Option<&str>
     Some(third)
 }
 
-// What follows the groups that the text begins with.
+// The text after the groups with which the text begins.
 fn after_groups(text: &str) -> &str
     ensures { text_of result.now ≡ after_groups (text_of text.now) }
 {
@@ -66,7 +66,8 @@ fn may_lead_groups(count: usize, text: &str) -> bool
     }
 }
 
-/// How many digits the text begins with, if there is one, and units or nothing after them.
+/// The number of digits with which the text begins, if there are any, and units or nothing are
+/// after them.
 pub fn count_decimals(kind: DigitKind, text: &str) -> Option<usize>
     ensures { SomeIff result (are_decimals kind (text_of text.now) ≡ true)
         (leading_digits kind (text_of text.now)) }
@@ -79,7 +80,7 @@ pub fn count_decimals(kind: DigitKind, text: &str) -> Option<usize>
     }
 }
 
-// How many decimals a text has that stands behind figures, if a number in figures ends with it.
+// The number of decimals in a text after figures, if a number in figures can end with that text.
 fn end_in_figures(text: &str) -> Option<usize>
     ensures { SomeIff result (ends_in_figures (text_of text.now) ≡ true)
         (decimals_of (text_of text.now)) }
@@ -96,7 +97,7 @@ fn end_in_figures(text: &str) -> Option<usize>
     }
 }
 
-/// How many decimals the text has, if it is a number in figures.
+/// The number of decimals of the text, if it is a number in figures.
 pub fn decimals_in_figures(text: &str) -> Option<usize>
     ensures { SomeIff result (is_in_figures (text_of text.now) ≡ true)
         (decimals_in_figures (text_of text.now)) }
