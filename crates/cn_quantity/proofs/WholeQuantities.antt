@@ -47,7 +47,7 @@ whole-one z n d q some e is =
           let many : 0 < suc a * d = omega (arith, some) in
           rw (is, below-zero (suc a * d) many, ← size) refl
 
--- if there is a remainder, no number does
+-- a numerator that equals a number times the denominator leaves no remainder
 pub whole-none : (z n : ℤ) (d : ℕ) → z ≡ n *ℤ pos d → nat_abs z % d ≡ 0
 whole-none z n d is =
     ap (λ z. nat_abs z % d) is ∙ ap (λ m. m % d) (abs-times n d) ∙ mul-mod_left (nat_abs n) d

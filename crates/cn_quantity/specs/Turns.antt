@@ -99,8 +99,8 @@ fills turns count = turns.product == 10 ^ count
 abbrev pub is_tenth : Turns → Bool → ℕ → Bool
 is_tenth turns nought count = count == 1 && turns.single && not nought
 
--- a last group, which has no units; after 零 it does not begin with 0, and is below the product of the
--- units before it
+-- a last group, which has no units; after 零 it does not begin with 0, and is below the product of
+-- the units before it
 abbrev pub last_group : Turns → Bool → Bool → ℕ → ℕ → Option Turns
 last_group turns after_zero nought count number =
     if after_zero

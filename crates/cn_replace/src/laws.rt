@@ -1,5 +1,5 @@
-//! What callers can count on of a text in which expressions are replaced, each as the contract of a
-//! function that does nothing.
+//! What callers can rely on about texts in which expressions are replaced, each as the contract of
+//! a function that does nothing.
 ghost use Rattle.std.specs.Prelude.{◌≡◌, ℕ, List, [], false, true, chars, None, Option, Contains, IsUtf8};
 ghost use Rattle.cn_find.specs.Spans.{Span, expressions};
 ghost use Rattle.cn_replace.specs.declared.options.Style.TheVariants.{Kept};
@@ -10,27 +10,29 @@ use crate::{Figures, Included};
 use cn_core::ChineseCountMethod;
 use cn_find::Wanted;
 
-/// A text stays where none of its expressions has a new text: so one that has no expression does.
+/// A text in which no expression has a new text is left unchanged, and so is a text without
+/// expressions.
 pub fn texts_stay_where_nothing_is_new(wanted: Wanted)
     ensures { (new : Span → Option (List ℕ)) (bytes : List ℕ) → IsUtf8 bytes
         → ((span : Span) → Contains (expressions wanted bytes) span → new span ≡ None)
         → replaced new wanted bytes ≡ bytes }
 {}
 
-/// A text without expressions stays as it is when it is put in figures.
+/// A text without expressions is unchanged after its quantities are written in figures.
 pub fn texts_without_expressions_stay(wanted: Wanted, method: ChineseCountMethod, figures: Figures)
     ensures { (bytes : List ℕ) → expressions wanted bytes ≡ []
         → in_figures method figures wanted bytes ≡ bytes }
 {}
 
-/// What has a figure and no 分之 stays in the kept style, unless canonical figures are asked for.
+/// An expression with a figure and without 分之 is left unchanged in the kept style, unless canonical
+/// figures are requested.
 pub fn figures_stay(method: ChineseCountMethod, included: Included)
     ensures { (span : Span) → is_in_figures (chars span.text) ≡ true
         → figures_for method (record { included = included; style = Kept; canonical = false }) span
         ≡ None }
 {}
 
-/// `NONE` includes nothing, and by `DEFAULT` great units stay, and so does what is in figures.
+/// `NONE` includes nothing. With `DEFAULT` great units and figures are left unchanged.
 pub fn figures_constants_are()
     ensures none { Included.NONE
         ≡ record { about = false; one_character = false; doubtful = false } }
