@@ -15,7 +15,7 @@ use Rattle.cn_quantity.specs.Trimmed.{decimals_in, decimals_of, form_with, trimm
 use Rattle.cn_quantity.proofs.KnownDecimals.{decimal-below, decimal-is, over-below, over-is, over-some, whole-is}
 use Rattle.cn_quantity.proofs.Trims.{ten-above, zeros-next, zeros-stop}
 
--- the digits in front of so many zeros of the last so many digits
+-- the digits before the zeros among the last digits of a number
 pub record IsCut (count number zeros : ℕ) : Type 0 where
   pub front : ℕ
   pub exact : front * 10 ^ zeros ≡ number
@@ -55,7 +55,7 @@ IsCut-zeros (suc count) number = by (number % 10 == 0) refl (IsCut-zeros count (
         last = inr some;
       })
 
--- a denominator without so many of its zeros
+-- a denominator without some of its zeros
 less-dropped : (divisor decimals dropped : ℕ) → dropped ≤ decimals
     → divisor * 10 ^ decimals / 10 ^ dropped ≡ divisor * 10 ^ (decimals - dropped)
 less-dropped divisor decimals dropped low =
@@ -96,7 +96,7 @@ decimals-left Percent denominator decimals dropped is low =
     (let few = over-below 100 denominator decimals is in omega (arith, few))
 decimals-left Fraction denominator decimals dropped is low = cc
 
--- what so many decimals make of a divisor
+-- a divisor times ten for each decimal
 record IsOver (denominator decimals : ℕ) : Type 0 where
   divisor : ℕ
   exact : divisor * 10 ^ decimals ≡ denominator
@@ -113,7 +113,7 @@ IsOver-known Percent denominator decimals is =
     record { divisor = 100; exact = over-is 100 denominator decimals is }
 IsOver-known Fraction denominator decimals is = cc
 
--- a denominator ends with that many zeros
+-- a denominator ends with as many zeros
 denominator-dropped : (form : QuantityForm) (denominator decimals dropped : ℕ)
     → decimals_in form denominator ≡ Some decimals → dropped ≤ decimals
     → denominator / 10 ^ dropped * 10 ^ dropped ≡ denominator
@@ -147,7 +147,8 @@ signed-crossed (negsuc m) (suc front) power less denominator above below =
     ∙ ap (λ n. neg_ℤ (pos n)) (crossed (suc front) power less ∙ ap (λ n. n * less) above)
     ∙ sym (negsuc-*ℤ-pos m less)
 
--- what holds of a quantity, and of it without the zeros of known decimals, holds of it trimmed
+-- what holds of a quantity, and of the quantity without the zeros of known decimals, holds of the
+-- trimmed quantity
 trimmed-is : (P : Quantity → Type 0) (q : Quantity) → (decimals_of q ≡ None → P q)
     → ((decimals : ℕ) → decimals_of q ≡ Some decimals
     → P (without_zeros q decimals (zeros_at_end decimals (nat_abs q.numerator))))

@@ -1,4 +1,4 @@
--- Worked examples: what the definitions compute to. They stand in the rules.
+-- Worked examples: what the definitions compute to. docs/RULES.md has them too.
 use Rattle.std.proofs.Common.{◌≡◌, ℕ, ℤ, pos, negsuc, List, [], ◌∷◌, map, codes, encode_utf8_all, Result, Ok, Err, refl}
 use Rattle.std.specs.Char.{encode_utf8}
 use Rattle.std.specs.Str.{chars}

@@ -74,7 +74,7 @@ product-above method (rank ∷ ranks) =
     let more = mul-le-mul_left (scale method rank) (product-above method ranks) in
     omega (arith, one, more)
 
--- what does not fit, fits no better once it is multiplied
+-- a number that does not fit does not fit when it is multiplied
 pub times_units-over : (method : ChineseCountMethod) (number : ℕ) (text : List ℕ)
     → ¬ (number < 2 ^ 128) → times_units method number text ≡ None
 times_units-over method number text much =

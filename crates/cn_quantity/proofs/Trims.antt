@@ -10,7 +10,7 @@ use Rattle.std.specs.List.{range_with_len}
 use Rattle.cn_core.specs.Whole.{signed_number}
 use Rattle.cn_quantity.specs.Trimmed.{decimals_over, zeros_at_end}
 
--- the decimals from a number on, so many of them, that make the denominator
+-- the search for the number of decimals that makes the denominator, from a number on
 unfoldable pub over_from : ℕ → ℕ → ℕ → ℕ → Option ℕ
 over_from divisor denominator start count =
     find (λ decimals. divisor * 10 ^ decimals == denominator) (range_with_len start count)
@@ -20,14 +20,14 @@ pub over-all : (divisor denominator : ℕ)
 unfolding decimals_over over_from
 over-all divisor denominator = refl
 
--- these make it
+-- this number makes it
 pub over-here : (divisor denominator start count : ℕ) → divisor * 10 ^ start ≡ denominator
     → over_from divisor denominator start (suc count) ≡ Some start
 unfolding over_from
 over-here divisor denominator start count same =
     let test : (divisor * 10 ^ start == denominator) ≡ true = eq-eqb _ _ same in rw test refl
 
--- these do not
+-- this number does not
 pub over-next : (divisor denominator start count : ℕ)
     → (divisor * 10 ^ start ≡ denominator → ⊥)
     → over_from divisor denominator start (suc count)
@@ -37,7 +37,7 @@ over-next divisor denominator start count other =
     let test : (divisor * 10 ^ start == denominator) ≡ false = grind (arith, nat_tests, other) in
     rw test refl
 
--- none is left
+-- no number is left to try
 pub over-end : (divisor denominator start : ℕ) → over_from divisor denominator start 0 ≡ None
 unfolding over_from
 over-end divisor denominator start = refl
@@ -45,7 +45,7 @@ over-end divisor denominator start = refl
 pub raised : (n : ℕ) → 10 ^ (n + 1) ≡ 10 ^ n * 10
 raised n = pow-add 10 n 1
 
--- none does where the first is too great
+-- no number makes it if the first is too great
 pub over-none : (divisor denominator start count : ℕ) → denominator < divisor * 10 ^ start
     → over_from divisor denominator start count ≡ None
 over-none divisor denominator start zero less = over-end divisor denominator start
@@ -62,7 +62,7 @@ ten-up i j less = pow-le-pow_right {n = 10} (omega arith) less
 pub ten-above : (n : ℕ) → 0 < 10 ^ n
 ten-above n = let one = ten-up 0 n (omega arith) in omega (arith, one)
 
--- one that fits 128 bits, times a number above 0
+-- a product that fits 128 bits, with a factor above 0
 pub few : (m decimals : ℕ) → 0 < m → m * 10 ^ decimals < 2 ^ 128 → decimals ≤ 38
 few m decimals some fits =
     let size : (39 ≤ decimals) → 2 ^ 128 ≤ 10 ^ decimals =

@@ -26,7 +26,7 @@ abbrev pub leading_digits : DigitKind → List ℕ → ℕ
 leading_digits kind [] = 0
 leading_digits kind (c ∷ rest) = if is_digit kind c then suc (leading_digits kind rest) else 0
 
--- what follows them
+-- the text after these digits
 abbrev pub after_digits : DigitKind → List ℕ → List ℕ
 after_digits kind [] = []
 after_digits kind (c ∷ rest) = if is_digit kind c then after_digits kind rest else c ∷ rest

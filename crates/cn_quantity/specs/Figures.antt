@@ -34,7 +34,7 @@ are_groups (figures ∷ []) = nat_lt 0 (length figures)
 are_groups (first ∷ others) =
     may_lead_groups first && list_all (λ group. length group == 3) others
 
--- digits, and then units or none: what stands after a point
+-- digits, and then perhaps units: what may be after a point
 abbrev pub are_decimals : DigitKind → List ℕ → Bool
 are_decimals kind text =
     nat_lt 0 (leading_digits kind text) && are_factors (after_digits kind text)

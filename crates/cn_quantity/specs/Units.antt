@@ -43,12 +43,12 @@ first_rank (c ∷ rest) = rank_of c
 abbrev pub is_ge : ℕ → Bool
 is_ge c = option_map_or (λ rank. rank == 0) (rank_of c) false
 
--- the rank of the first unit, without 個 before it
+-- the rank of the first character, or of the second if the first is 個
 abbrev pub first_factor : List ℕ → Option ℕ
 first_factor [] = None
 first_factor (c ∷ rest) = if is_ge c then first_rank rest else rank_of c
 
--- rising units, and 個 directly before them or not where the first is 萬 or greater: what may follow
+-- rising units, and 個 may be directly before them if the first is 萬 or greater: what may follow
 -- figures and decimals, as in 3万 and 3个亿
 abbrev pub are_factors : List ℕ → Bool
 are_factors [] = true

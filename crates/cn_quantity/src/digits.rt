@@ -1,4 +1,4 @@
-// Digits that stand side by side.
+// Digits that are side by side.
 ghost use Rattle.std.specs.Prelude.{◌≡◌, ◌+◌, ◌*◌, ◌^◌, ◌<◌, ◌≤◌, length, SomeIff};
 ghost use Rattle.cn_core.specs.Text.{text_of};
 ghost use Rattle.cn_quantity.specs.Digits.{after_digits, begins_with_nought, leading_digits, read_on, read_with_units};
@@ -8,7 +8,7 @@ use crate::pieces::split_first;
 use crate::units::times_units;
 use cn_core::ChineseCountMethod;
 
-/// How many digits a text begins with, and what follows them.
+/// The number of digits with which a text begins, and the text after them.
 pub fn split_digits(kind: DigitKind, text: &str) -> (usize, &str)
     ensures count { result.0 ≡ leading_digits kind (text_of text.now) }
     ensures rest { text_of result.1.now ≡ after_digits kind (text_of text.now) }

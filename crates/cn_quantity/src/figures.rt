@@ -43,7 +43,8 @@ fn after_whole(text: &str) -> Option<&str>
     Some(rest)
 }
 
-/// How many digits the text begins with, if there is one, and units or nothing after them.
+/// The number of digits with which the text begins, if there are any, and units or nothing are
+/// after them.
 pub fn count_decimals(kind: DigitKind, text: &str) -> Option<usize>
     ensures { SomeIff result (are_decimals kind (text_of text.now) ≡ true)
         (leading_digits kind (text_of text.now)) }
@@ -73,7 +74,7 @@ fn end_in_figures(text: &str) -> Option<usize>
     }
 }
 
-/// How many decimals the text has, if it is a number in figures.
+/// The number of decimals of the text, if it is a number in figures.
 pub fn decimals_in_figures(text: &str) -> Option<usize>
     ensures { SomeIff result (is_in_figures (text_of text.now) ≡ true)
         (decimals_in_figures (text_of text.now)) }
