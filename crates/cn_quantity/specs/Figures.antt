@@ -18,7 +18,7 @@ abbrev pub after_whole : List ℕ → List ℕ
 after_whole [] = []
 after_whole (c ∷ rest) = if is_digit Figure c || is_comma c then after_whole rest else c ∷ rest
 
--- what stands between the commas of the whole part: 1 and 280 of 1,280.5万
+-- the pieces of the whole part between its commas: 1 and 280 of 1,280.5万
 abbrev pub groups_of : List ℕ → List (List ℕ)
 groups_of text = slice_split is_comma (whole_part text)
 
@@ -39,7 +39,7 @@ abbrev pub are_decimals : DigitKind → List ℕ → Bool
 are_decimals kind text =
     nat_lt 0 (leading_digits kind text) && are_factors (after_digits kind text)
 
--- a point and decimals, or units, or nothing: what stands after the whole part
+-- a point and decimals, or units, or nothing: what may follow the whole part
 abbrev pub ends_in_figures : List ℕ → Bool
 ends_in_figures [] = true
 ends_in_figures (c ∷ rest) =
@@ -48,7 +48,7 @@ ends_in_figures (c ∷ rest) =
 abbrev pub is_in_figures : List ℕ → Bool
 is_in_figures text = are_groups (groups_of text) && ends_in_figures (after_whole text)
 
--- how many figures stand after a point that a text begins with
+-- how many figures follow the point that a text begins with
 abbrev pub decimals_of : List ℕ → ℕ
 decimals_of [] = 0
 decimals_of (c ∷ rest) = if is_point Figure c then leading_digits Figure rest else 0

@@ -1,4 +1,4 @@
--- Units that multiply what stands before them, as 百万 in 2.5百万.
+-- Units that multiply what is before them, such as 百万 in 2.5百万.
 use Rattle.std.specs.Prelude.{ℕ, ◌*◌, ◌^◌, Bool, true, false, ◌&&◌, ◌==◌, nat_le, nat_lt, List, [], ◌∷◌, map, filter_map, Option, Some, None, if◌then◌else◌}
 use Rattle.std.specs.Option.{option_map_or}
 use Rattle.std.specs.List.{list_all}

@@ -57,7 +57,7 @@ pub fn count_decimals(kind: DigitKind, text: &str) -> Option<usize>
     }
 }
 
-// How many decimals a text has that stands after figures, if a number in figures ends with it.
+// How many decimals a text after figures has, if a number in figures ends with it.
 fn end_in_figures(text: &str) -> Option<usize>
     ensures { SomeIff result (ends_in_figures (text_of text.now) ≡ true)
         (decimals_of (text_of text.now)) }

@@ -1,4 +1,4 @@
-// Units that multiply what stands before them.
+// Units that multiply what is before them.
 ghost use Rattle.std.specs.Prelude.{◌≡◌, ◌*◌, ◌^◌, ◌<◌, IsTrue, SomeIff, false, nat_le, option_map};
 ghost use Rattle.std.specs.Option.{option_map_or};
 ghost use Rattle.cn_core.specs.Characters.{rank};

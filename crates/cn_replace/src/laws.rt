@@ -29,7 +29,7 @@ pub fn texts_without_expressions_stay(wanted: Wanted, method: ChineseCountMethod
 {}
 
 /// A character that is not wanted, and at which no rule looks, as a line feed, parts a text that is
-/// put in figures: what is before it and what is after it are put in figures by themselves.
+/// rewritten in figures: what is before it and what is after it are rewritten by themselves.
 pub fn texts_are_put_in_figures_in_parts(
     wanted: Wanted,
     method: ChineseCountMethod,
