@@ -28,7 +28,7 @@ pub fn texts_without_expressions_stay(wanted: Wanted, method: ChineseCountMethod
         → in_figures method figures wanted bytes ≡ bytes }
 {}
 
-/// A character that is not wanted, and at which no rule looks, as a line feed, parts a text that is
+/// A character that is not wanted, and at which no rule looks, such as a line feed, parts a text that is
 /// rewritten in figures: what is before it and what is after it are rewritten by themselves.
 pub fn texts_are_put_in_figures_in_parts(
     wanted: Wanted,
@@ -42,7 +42,7 @@ pub fn texts_are_put_in_figures_in_parts(
         ++ (encode_utf8 c ++ in_figures method figures wanted right) }
 {}
 
-/// What has a figure and no 分之 stays in the kept style, unless canonical figures are asked for.
+/// What has a figure and no 分之 stays in the kept style, unless canonical figures are requested.
 pub fn figures_stay(method: ChineseCountMethod, included: Included)
     ensures { (span : Span) → is_in_figures (chars span.text) ≡ true
         → figures_for method (record { included = included; style = Kept; canonical = false }) span
