@@ -28,8 +28,8 @@ pub fn texts_without_expressions_stay(wanted: Wanted, method: ChineseCountMethod
         → in_figures method figures wanted bytes ≡ bytes }
 {}
 
-/// A character that is not wanted, and at which no rule looks, such as a line feed, parts a text that is
-/// rewritten in figures: what is before it and what is after it are rewritten by themselves.
+/// A character that is not wanted, and at which no rule looks, such as a line feed, parts a text that
+/// is rewritten in figures: what is before it and what is after it are rewritten by themselves.
 pub fn texts_are_put_in_figures_in_parts(
     wanted: Wanted,
     method: ChineseCountMethod,
