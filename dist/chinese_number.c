@@ -1,21 +1,21 @@
-/* Chinese numerals for whole numbers, printed, read and found in a text, exact quantities, amounts of
- * money and dates in capitals, and amounts in figures: the calls of chinese_number.h, for systems
- * without an archive of the library. With that header beside this file:
+/* Chinese numerals for whole numbers and exact quantities, amounts of money and dates in capitals,
+ * and amounts in figures: the calls of chinese_number.h, for systems without an archive of the
+ * library. With that header beside this file:
  *
  *     cc -O2 -c chinese_number.c
  *
- * It is the proved module for WebAssembly of the library, to which binaryen has given 32-bit
- * addresses, and which wasm2c 1.0.32 has written as C (LICENSE-wabt), with other accesses to
- * memory. Before the module stands its machine, and after it stand the calls. Of the C library it
- * needs abort, memcpy, memmove and memset; with -ffreestanding, for where there is none, the last
- * three of whoever links it, and no header of such a library. Nothing is kept between calls, so any
- * number of threads may call at once.
+ * This is the library's proved WebAssembly module. binaryen converted it to 32-bit addresses, and
+ * wasm2c 1.0.32 (LICENSE-wabt) to C, with other accesses to memory. The file consists of a machine
+ * for the module, the module, and the calls. It needs abort, memcpy, memmove and memset of the C
+ * library. With -ffreestanding, for systems without a C library, it needs no header of one, and
+ * only the last three functions, which the user links. No state is kept between calls, so any
+ * number of threads may call at the same time.
  *
  * This file is made by bindings/source/source.py. */
 #include <limits.h>
 #include <stddef.h>
 #include <stdint.h>
-/* A compiler that does not say is taken to have a C library. */
+/* If the compiler does not define __STDC_HOSTED__, this assumes a C library. */
 #if !defined(__STDC_HOSTED__) || __STDC_HOSTED__
 #include <stdlib.h>
 #include <string.h>
@@ -24,10 +24,10 @@ void *memcpy(void *to, const void *from, size_t bytes);
 void *memmove(void *to, const void *from, size_t bytes);
 void *memset(void *to, int byte, size_t bytes);
 #define abort() __builtin_trap()
-#define memcpy __builtin_memcpy /* of a word it is one instruction */
+#define memcpy __builtin_memcpy /* one instruction for a word */
 #endif
 
-/* With -fvisibility=hidden a shared library shows the calls of the header alone. */
+/* With -fvisibility=hidden a shared library exports only the calls of the header. */
 #if defined(__GNUC__) && (defined(__ELF__) || defined(__APPLE__))
 #pragma GCC visibility push(default)
 #endif
@@ -37,7 +37,7 @@ void *memset(void *to, int byte, size_t bytes);
 #endif
 
 #if CHAR_BIT != 8
-#error "chinese_number.c: it is for processors where a byte has 8 bits"
+#error "chinese_number.c: this file needs a processor where a byte has 8 bits"
 #endif
 
 typedef uint8_t u8;
@@ -51,17 +51,17 @@ typedef int64_t s64;
 
 /* ---- The machine ----
  *
- * The module keeps nothing, so its addresses are four windows:
+ * The module keeps no state, so its addresses are four windows:
  *
- * - its own memory, which a call has on its stack: the module's stack, which grows downwards, and
- *   above it what is lent to the module for the call. How much of its stack the module can take,
- *   source.py counts;
+ * - its own memory, which is on the stack of a call: the module's stack, which grows downwards, and
+ *   above it the memory that is lent to the module for the call. source.py counts how much of its
+ *   stack the module can use;
  * - its constants;
- * - the caller's text, where it is;
- * - behind it, for a call that writes a text, the caller's room, where it is.
+ * - the caller's text, in place;
+ * - after the text, for a call that writes a text, the caller's buffer, in place.
  *
- * It reads the first three, and writes to its own memory and, by memory_copy alone, to the room. Any
- * other access ends the program by abort(). */
+ * It reads the first three, and writes to its own memory and, only with memory_copy, to the buffer.
+ * Any other access ends the program with abort(). */
 #define STACK_BYTES UINT64_C(4192)
 #define LENT_BYTES UINT64_C(544)
 #define OWN_BYTES (STACK_BYTES + LENT_BYTES)
@@ -69,10 +69,10 @@ typedef int64_t s64;
 #define FIRST_LENT (FIRST_CONSTANT - LENT_BYTES)
 #define FIRST_OWN (FIRST_CONSTANT - OWN_BYTES)
 #define FIRST_OF_TEXT UINT64_C(1048576)
-#define MOST_OF_TEXT UINT32_C(4293918720) /* what is left of 32-bit addresses */
+#define MOST_OF_TEXT UINT32_C(4293918720) /* the rest of the 32-bit addresses */
 
-/* What is lent: room for what a reader tells or a quantity, for a printed text's length or how many
- * numbers are found, and for some of their spans. */
+/* The lent memory: space for a reader's result or a quantity, for the length of a printed text or
+ * the count of numbers found, and for some of their spans. */
 #define TOLD FIRST_LENT
 #define LENGTH (FIRST_LENT + 56)
 #define SPANS (FIRST_LENT + 64)
@@ -83,7 +83,7 @@ typedef struct module {
     u64 w2c_g0; /* where the module's stack ends */
     u32 w2c_g1; /* 1 while a call runs */
     const u8 *text;
-    u32 text_length, words; /* and at how many of its places four bytes begin */
+    u32 text_length, words; /* `words`: at how many places of the text four bytes begin */
     u8 *room;
     u64 room_length;
     u8 own[OWN_BYTES];
@@ -480,7 +480,7 @@ static const u8 constants[] = {
   0x00, 0x00, 0x00, 0x00,
 };
 
-/* Each access has its test where it stands: then a call takes less time. */
+/* The test of each access is inlined, which makes calls faster. */
 #if defined(__GNUC__)
 #define INLINE inline __attribute__((always_inline))
 #define LIKELY(it) __builtin_expect(it, 1)
@@ -493,8 +493,8 @@ static INLINE int is_within(u64 from, u64 bytes, u64 size) {
     return bytes <= size && from <= size - bytes;
 }
 
-/* A function that takes some of the stack asks for all of that first, and drops the answer: then a
- * compiler can leave out most of the tests that follow. */
+/* A function that uses some of the stack first tests all of it, and ignores the result. A compiler
+ * can then omit most of the later tests. */
 static INLINE u8 *its_own(module *m, u64 address, u64 bytes) {
     u64 in_own = address - FIRST_OWN;
     if (!is_within(in_own, bytes, OWN_BYTES))
@@ -509,7 +509,7 @@ static u8 *writable(module *m, u64 address, u64 bytes) {
     return its_own(m, address, bytes);
 }
 
-/* By is_within, a search takes 7 to 9 % more instructions. */
+/* With is_within, a search takes 7 to 9 % more instructions. */
 static INLINE int is_of_text(const module *m, u64 in_text, u64 bytes) {
     if (bytes == 4)
         return in_text < m->words;
@@ -526,7 +526,8 @@ static const u8 *not_its_own(const module *m, u64 address, u64 bytes) {
     return m->text + (size_t)in_text;
 }
 
-/* Most words of 8 bytes are its own, and most shorter ones constants; many of 4 are the text's. */
+/* Most words of 8 bytes are in the module's own memory, most shorter ones are constants, and many
+ * of 4 bytes are in the text. */
 static INLINE const u8 *readable(const module *m, u64 address, u64 bytes) {
     u64 in_own = address - FIRST_OWN;
     u64 in_constants = address - FIRST_CONSTANT;
@@ -540,7 +541,7 @@ static INLINE const u8 *readable(const module *m, u64 address, u64 bytes) {
     return not_its_own(m, address, bytes);
 }
 
-/* Most bytes that are loaded with a sign are the text's. */
+/* Most bytes that are loaded with a sign are in the text. */
 static INLINE const u8 *text_first(const module *m, u64 address, u64 bytes) {
     u64 in_text = address - FIRST_OF_TEXT;
     if (LIKELY(is_of_text(m, in_text, bytes)))
@@ -548,8 +549,8 @@ static INLINE const u8 *text_first(const module *m, u64 address, u64 bytes) {
     return readable(m, address, bytes);
 }
 
-/* Copies a word between a variable and the module's memory, where its least byte is first on each
- * processor. Put together byte by byte, eight bytes can take gcc some forty instructions. */
+/* Copies a word between a variable and the module's memory, which is little-endian on each
+ * processor. If eight bytes were combined one by one, gcc could need some forty instructions. */
 static INLINE void copy_word(void *to, const void *from, size_t bytes) {
     static const u16 one = 1;
     if (*(const u8 *)&one == 1)
@@ -571,8 +572,8 @@ static INLINE void copy_word(void *to, const void *from, size_t bytes) {
         copy_word(its_own(m, address, sizeof word), &word, sizeof word);    \
     }
 
-/* The module uses some of these alone. It keeps the 0 or 1 of a comparison, which wasm2c has in 64
- * bits, in 32, and has a function that never returns. */
+/* The module uses only some of these. It stores the 0 or 1 of a comparison, which wasm2c computes
+ * in 64 bits, in 32 bits, and has a function that never returns. */
 #if defined(__GNUC__)
 #pragma GCC diagnostic push
 #pragma GCC diagnostic ignored "-Wunused"
@@ -609,7 +610,7 @@ static inline void memory_copy(module *m, u32 to, u32 from, u32 bytes) {
         memmove(writable(m, to, bytes), readable(m, from, bytes), bytes);
 }
 
-/* In pieces: gcc fills more by an instruction that takes long to begin. */
+/* In pieces, because gcc fills more bytes with an instruction that is slow to start. */
 #define PIECE 64
 static inline void memory_fill(module *m, u32 to, u32 value, u32 bytes) {
     if (bytes != 0) {
@@ -93476,8 +93477,8 @@ static u32 w2c_f134(module *m, u64 w2c_p0, u64 w2c_p1, u32 w2c_p2, u32 w2c_p3, u
 
 /* ---- The calls ---- */
 
-/* The module before a call, with a text, no room, and nothing told. Whether the text has a place
- * among the module's addresses. */
+/* Prepares the module for a call, with a text, without a buffer, and with an empty result. Returns
+ * whether the text fits among the module's addresses. */
 static INLINE int begin(module *m, const uint8_t *text, size_t text_length) {
     int has_place = text_length <= MOST_OF_TEXT;
     m->w2c_g0 = FIRST_LENT;
@@ -93491,7 +93492,7 @@ static INLINE int begin(module *m, const uint8_t *text, size_t text_length) {
     return has_place;
 }
 
-/* Where the character at fault stands. */
+/* Copies the place of the wrong character. */
 static void tell_place(const module *m, u64 at, size_t *char_index, size_t *byte_index) {
     *char_index = (size_t)i64_load(m, at);
     *byte_index = (size_t)i64_load(m, at + 8);
@@ -93532,10 +93533,11 @@ static u64 lesser(size_t room_length, u64 most) {
     return room_length < most ? room_length : most;
 }
 
-/* Where the room is, in a call with an empty text. */
+/* The address of the buffer in a call with an empty text. */
 #define ROOM FIRST_OF_TEXT
 
-/* Lends it the caller's room, and tells how much of it: no more than the longest text takes. */
+/* Lends the caller's buffer to the module, at most as much as the longest text takes, and returns
+ * how much. */
 static u64 lend(module *m, uint8_t *room, size_t room_length, u64 most) {
     m->room = room;
     m->room_length = lesser(room_length, most);
@@ -93579,10 +93581,10 @@ static void tell_spans(const module *m, u64 count, cn_span *spans) {
     }
 }
 
-/* What is found, and whether the text is known to be UTF-8. */
+/* What a search finds, and whether the text is known to be UTF-8. */
 enum { NUMBERS = 0, QUANTITIES = 2, OF_UTF8 = 1 };
 
-/* Finds as many as there is room for. */
+/* Finds as many as fit into the lent memory. */
 static uint32_t find_some(module *m, int what, u64 text_length, u64 from, u32 upper, u32 greatest,
                           u64 most) {
     uint32_t status;
@@ -93601,7 +93603,7 @@ static uint32_t find_some(module *m, int what, u64 text_length, u64 from, u32 up
     return status;
 }
 
-/* Finds some at a time. From the second time on the text is known to be UTF-8. */
+/* Finds some at a time. After the first time the text is known to be UTF-8. */
 static uint32_t find(int what, const uint8_t *text, size_t text_length, size_t from,
                      uint32_t upper, uint32_t greatest, cn_span *spans, size_t most,
                      size_t *count) {
@@ -93662,13 +93664,13 @@ uint32_t chinese_quantity_read(const uint8_t *text, size_t text_length, uint32_t
     return status;
 }
 
-/* Puts a number into what is lent. */
+/* Writes a number to the lent memory. */
 static void put_halves(module *m, u64 at, cn_number number) {
     i64_store(m, at, number.low);
     i64_store(m, at + 8, number.high);
 }
 
-/* The module before a call with a quantity. */
+/* Prepares the module for a call with a quantity. */
 static void begin_with_quantity(module *m, const cn_quantity *quantity) {
     begin(m, constants, 0);
     put_halves(m, TOLD, quantity->numerator);
@@ -93699,7 +93701,7 @@ uint32_t chinese_quantity_figures(const cn_quantity *quantity, uint8_t *room, si
     return tell_length(&m, status, length);
 }
 
-/* The room has its place among the module's addresses behind the text, where both find one. */
+/* The buffer's addresses in the module follow those of the text, if both fit. */
 uint32_t chinese_quantities_to_figures(const uint8_t *text, size_t text_length, uint32_t upper,
                                        uint32_t greatest, uint32_t method, uint32_t options,
                                        uint8_t *room, size_t room_length, size_t *length) {

@@ -1,13 +1,13 @@
-/* Chinese numerals for C++ from 17 on: numbers, exact quantities, amounts of money and dates on bills as std::string, and
- * these read and found in a std::string_view. It is written over chinese_number.h, which says what stands behind each choice
- * and each status, and what is to be linked. Texts are UTF-8. Nothing is thrown but by std::string where memory runs out,
- * and by functions of the caller's.
+/* Chinese numerals for C++17 and later: writes numbers, exact quantities, amounts of money and
+ * dates as std::string, and reads and finds them in a std::string_view. chinese_number.h, which
+ * this file wraps, documents the choices, the statuses and what to link. Texts are UTF-8. The only
+ * exceptions are those of std::string when memory runs out, and those of the caller's functions.
  *
  *     auto number = chinese_number::to_number<int>("一百二");
  *     if (number)
  *         use(*number); // 120
  *     else
- *         tell(number.error().message());
+ *         report(number.error().message());
  */
 #ifndef CHINESE_NUMBER_HPP
 #define CHINESE_NUMBER_HPP
@@ -26,7 +26,8 @@
 
 namespace chinese_number {
 
-/* In which way a number is read or written; `any` goes by the text, and by the script and the number. */
+/* The way in which a number is read or written. `any` chooses by the text, or by the script and the
+ * number. */
 enum class Way : std::uint32_t {
     digits = CN_DIGITS, low = CN_LOW, ten_thousand = CN_TEN_THOUSAND, middle = CN_MIDDLE, high = CN_HIGH, any = CN_ANY
 };
@@ -44,7 +45,8 @@ enum class QuantityForm : std::uint32_t {
     whole = CN_WHOLE, decimal = CN_DECIMAL, percent = CN_PERCENT, fraction = CN_FRACTION
 };
 
-/* Why a reader may mean by an expression something else than its quantity; CN_DOUBT_WORD and the others have examples. */
+/* Why a reader may understand an expression as something other than its quantity. cn_doubt has
+ * examples. */
 enum class Doubt : std::uint32_t {
     none = CN_NO_DOUBT, word = CN_DOUBT_WORD, digits = CN_DOUBT_DIGITS, term = CN_DOUBT_TERM, part = CN_DOUBT_PART,
     time = CN_DOUBT_TIME, range = CN_DOUBT_RANGE
@@ -64,7 +66,7 @@ struct Style {
     Case letter_case = Case::lower;
 };
 
-/* How an amount is printed: with 人民币 in front, with 圆 for 元, and with 正 for 整. */
+/* How an amount is printed: with the prefix 人民币, with 圆 instead of 元, with 正 instead of 整. */
 struct AmountForm {
     bool currency = false;
     bool round_yuan = false;
@@ -78,28 +80,30 @@ struct Date {
     std::uint32_t day;
 };
 
-/* What is looked for in a text: units up to the greatest one, and with `upper` the characters of cheques too. */
+/* What a search looks for: units up to the greatest one, and with `upper` also the characters of
+ * cheques. */
 struct Wanted {
     bool upper = false;
     Unit greatest = Unit::zhao;
 };
 
-/* Which quantities of a text are replaced that else stay: those about so much, those of one Chinese character, and those that
- * are doubtful, but for Doubt::part. */
+/* Which quantities are replaced that otherwise stay: approximate ones, those of one Chinese
+ * character, and doubtful ones except those with Doubt::part. */
 struct Included {
     bool about = false;
     bool one_character = false;
     bool doubtful = false;
 };
 
-/* How quantities_to_figures writes: expanded, 三千五百亿 becomes 350000000000, and else 3500亿; canonical, what is written in
- * figures alone is rewritten in ASCII, without commas and leading zeros. */
+/* How quantities_to_figures writes. With `expanded` 三千五百亿 becomes 350000000000, otherwise 3500亿.
+ * With `canonical` what is only figures is rewritten in ASCII, without commas and leading zeros. */
 struct Figures {
     bool expanded = false;
     bool canonical = false;
 };
 
-/* Why there is no number, amount, date or text; at Status::incorrect with the place of the character at fault. */
+/* Why there is no number, amount, date or text. At Status::incorrect it has the place of the wrong
+ * character. */
 struct Error {
     Status status;
     const char *subject; /* what was read or printed */
@@ -116,8 +120,8 @@ struct Error {
     }
 };
 
-/* A value, or why there is none. Who takes the value of one that has none, or the error of one that has a value, gets
- * undefined behaviour, as with std::optional. */
+/* A value, or the error why there is none. Accessing a missing value, or the error of a result that
+ * has a value, is undefined behaviour, as with std::optional. */
 template <typename Value>
 class [[nodiscard]] Result {
 public:
@@ -151,7 +155,7 @@ inline constexpr bool is_128_bits = false;
 template <typename T, typename... Others>
 inline constexpr bool is_one_of = (std::is_same_v<T, Others> || ...);
 
-/* The integers, without characters and truth values. */
+/* The integers, without characters and bool. */
 template <typename T>
 inline constexpr bool is_whole =
     is_128_bits<T> || (std::is_integral_v<T> && !is_one_of<T, bool, char, wchar_t, char16_t, char32_t>);
@@ -159,10 +163,10 @@ inline constexpr bool is_whole =
 template <typename T>
 inline constexpr bool is_signed = static_cast<T>(-1) < static_cast<T>(1);
 
-/* The signed types stand behind the unsigned ones, and each has twice the bits of the one before it. */
+/* The signed types follow the unsigned ones, and each has twice the bits of the one before it. */
 template <typename T>
 constexpr cn_kind kind_of() {
-    static_assert(is_whole<T>, "a number is an integer of 8 to 128 bits, and no character");
+    static_assert(is_whole<T>, "a number must be an integer of 8 to 128 bits, not a character");
     std::uint32_t code = is_signed<T> ? CN_I8 : CN_U8;
     for (std::size_t bytes = 1; bytes < sizeof(T); bytes *= 2)
         code++;
@@ -203,7 +207,8 @@ constexpr bool are_same(cn_number one, cn_number other) {
     return one.low == other.low && one.high == other.high;
 }
 
-/* The magnitude of a number in two's complement, and with a sign the number of a magnitude. */
+/* The negated number in two's complement if `is_negative`. Converts between a number and its
+ * magnitude. */
 constexpr cn_number negated_if(bool is_negative, cn_number number) {
     if (!is_negative)
         return number;
@@ -215,7 +220,7 @@ struct Division {
     cn_number rest;
 };
 
-/* A division bit by bit, since not each compiler has integers of 128 bits. */
+/* A division bit by bit, since not every compiler has integers of 128 bits. */
 constexpr Division divided(cn_number dividend, cn_number divisor) {
     Division done = {{0, 0}, {0, 0}};
     for (unsigned bit = 128; bit-- > 0;) {
@@ -232,7 +237,7 @@ constexpr Division divided(cn_number dividend, cn_number divisor) {
 }
 
 template <typename Value>
-Result<Value> told(cn_status status, Value value, const char *subject, std::size_t char_index = 0,
+Result<Value> result_of(cn_status status, Value value, const char *subject, std::size_t char_index = 0,
                    std::size_t byte_index = 0) {
     if (status == CN_DONE)
         return value;
@@ -250,7 +255,7 @@ constexpr bool is_below_zero(T value) {
 /* An amount of fen in the type that a call takes. */
 template <typename Held, typename T>
 Result<Held> held_as(T fen) {
-    static_assert(is_whole<T>, "an amount is a whole number of fen");
+    static_assert(is_whole<T>, "an amount must be a whole number of fen");
     const Held held = static_cast<Held>(fen);
     if (is_below_zero(held) != is_below_zero(fen) || static_cast<T>(held) != fen)
         return Error{is_below_zero(fen) ? Status::too_small : Status::too_large, "amount", 0, 0};
@@ -259,40 +264,44 @@ Result<Held> held_as(T fen) {
 
 } // namespace detail
 
-/* The number of a text as one of a type by its code, in halves: for 128 bits where the compiler has no such type. */
+/* Reads a text as a number of the type with a code, in halves. This is for 128 bits if the compiler
+ * has no such type. */
 inline Result<cn_number> to_number(std::string_view text, cn_kind kind, Way way = Way::any) {
     cn_reading reading;
     const cn_status status = cn_read(text.data(), text.size(), kind, static_cast<cn_way>(way), &reading);
-    return detail::told(status, reading.number, "chinese number", reading.char_index, reading.byte_index);
+    return detail::result_of(status, reading.number, "chinese number", reading.char_index, reading.byte_index);
 }
 
-/* The number of a text: to_number<int>("一百二"). */
+/* Reads a text as a number: to_number<int>("一百二"). */
 template <typename T>
 Result<T> to_number(std::string_view text, Way way = Way::any) {
     const Result<cn_number> read = to_number(text, detail::kind_of<T>(), way);
     return read ? Result<T>(detail::of_halves<T>(*read)) : read.error();
 }
 
-/* An exact quantity, as written and not reduced: 12.5% is 125/1000. Its numbers are in halves, the numerator in two's
- * complement as of CN_I128, and the denominator, above 0, as of CN_U128. Two are equal where numerators, denominators and
- * forms are: 3.10 and 3.1 are two. */
+/* An exact quantity, as written and not reduced: 12.5% is 125/1000. Its numbers are in halves: the
+ * numerator in two's complement as for CN_I128, and the denominator, above 0, as for CN_U128. Two
+ * quantities are equal if their numerators, denominators and forms are: 3.10 and 3.1 differ. */
 struct Quantity {
     cn_number numerator;
     cn_number denominator;
     QuantityForm form;
 
-    /* The whole number that it is, where it is one and the type holds it: 35000 of 3.5万, and nothing of 3.5. */
+    /* The value as an integer, if it is a whole number and the type holds it: 35000 for 3.5万,
+     * nothing for 3.5. */
     template <typename T>
     std::optional<T> to_whole() const;
 
-    /* The same quantity without the zeros at the end of its decimals: 35000 of 3.5万, 3.1 of 3.10, 12.5% of 12.50%. */
+    /* The same quantity without the zeros at the end of its decimals: 35000 for 3.5万, 3.1 for 3.10,
+     * 12.5% for 12.50%. */
     Quantity trimmed() const;
 
-    /* Its text: 三点五, 百分之十二点五, 三分之一. There is none where the denominator is 0 (Status::not_a_quantity), and by
-     * Way::low where a number in it is 10^16 or more; the style's way is none of Way::digits. */
+    /* The text: 三点五, 百分之十二点五, 三分之一. There is none if the denominator is 0 (Status::not_a_quantity),
+     * or with Way::low if a number in it is 10^16 or more. The style's way must not be
+     * Way::digits. */
     Result<std::string> to_chinese(Style style = {}) const;
 
-    /* Its text in figures, without the zeros at the end of its decimals: 35000, -3.5, 12.5%, 1/3. */
+    /* The text in figures, without zeros at the end of the decimals: 35000, -3.5, 12.5%, 1/3. */
     std::string to_figures() const;
 
     friend bool operator==(const Quantity &one, const Quantity &other) {
@@ -302,22 +311,23 @@ struct Quantity {
     friend bool operator!=(const Quantity &one, const Quantity &other) { return !(one == other); }
 
 private:
-    cn_quantity told() const {
+    cn_quantity in_c() const {
         return {numerator, denominator, static_cast<std::uint32_t>(form), 0, 0};
     }
 };
 
-/* The exact quantity of a text, by a method: a whole number, a decimal, a percentage or a fraction, as 3.5万 and 三分之一. */
+/* Reads a text as an exact quantity, by a method: a whole number, a decimal, a percentage or a
+ * fraction, such as 3.5万 and 三分之一. */
 inline Result<Quantity> chinese_to_quantity(std::string_view text, Way method = Way::any) {
     cn_quantity read;
     const cn_status status = cn_read_quantity(text.data(), text.size(), static_cast<cn_way>(method), &read);
     const Quantity quantity = {read.numerator, read.denominator, static_cast<QuantityForm>(read.form)};
-    return detail::told(status, quantity, "chinese number", read.char_index, read.byte_index);
+    return detail::result_of(status, quantity, "chinese number", read.char_index, read.byte_index);
 }
 
 template <typename T>
 std::optional<T> Quantity::to_whole() const {
-    static_assert(detail::is_whole<T>, "a whole number is an integer of 8 to 128 bits, and no character");
+    static_assert(detail::is_whole<T>, "a whole number must be an integer of 8 to 128 bits, not a character");
     const bool is_negative = numerator.high >> 63 != 0;
     const auto [quotient, rest] = detail::divided(detail::negated_if(is_negative, numerator), denominator);
     const cn_number whole = detail::negated_if(is_negative, quotient);
@@ -327,43 +337,43 @@ std::optional<T> Quantity::to_whole() const {
     return is_whole && is_held ? std::optional<T>(value) : std::nullopt;
 }
 
-/* Figures are read as the quantity without those zeros, but for those of a fraction, which are not read. */
+/* The figures are read back as the trimmed quantity; those of a fraction are refused. */
 inline Quantity Quantity::trimmed() const {
     return chinese_to_quantity(to_figures()).value_or(*this);
 }
 
 inline Result<std::string> Quantity::to_chinese(Style style) const {
-    const cn_quantity quantity = told();
+    const cn_quantity quantity = in_c();
     char room[CN_MOST_QUANTITY_BYTES + 1];
     const cn_status status =
         cn_print_quantity(&quantity, static_cast<cn_way>(style.way), static_cast<cn_script>(style.script),
                           static_cast<cn_case>(style.letter_case), room, sizeof room);
-    return detail::told(status, std::string(room), "quantity");
+    return detail::result_of(status, std::string(room), "quantity");
 }
 
 inline std::string Quantity::to_figures() const {
-    const cn_quantity quantity = told();
+    const cn_quantity quantity = in_c();
     char room[CN_MOST_FIGURES_BYTES + 1];
     return cn_quantity_figures(&quantity, room, sizeof room) == CN_DONE ? room : "";
 }
 
-/* The text of a number in halves. By Way::low there is none for 10^16 and more. */
+/* Writes a number in halves. Way::low refuses 10^16 and more. */
 inline Result<std::string> to_chinese(cn_number number, cn_kind kind, Style style = {}) {
     char room[CN_MOST_BYTES + 1];
     const cn_status status =
         cn_print(number, kind, static_cast<cn_way>(style.way), static_cast<cn_script>(style.script),
                  static_cast<cn_case>(style.letter_case), room, sizeof room);
-    return detail::told(status, std::string(room), "chinese number");
+    return detail::result_of(status, std::string(room), "chinese number");
 }
 
-/* The text of a number: to_chinese(120). */
+/* Writes a number: to_chinese(120). */
 template <typename T>
 Result<std::string> to_chinese(T number, Style style = {}) {
     return to_chinese(detail::halves_of(number), detail::kind_of<T>(), style);
 }
 
-/* The text in capitals of an amount of fen, the hundredth part of a yuan, as amount_to_chinese(1500); there is none below
- * zero and from 10^18 on. */
+/* Writes an amount of fen, hundredths of a yuan, in capitals: amount_to_chinese(1500). Refuses
+ * negative amounts, and 10^18 and more. */
 template <typename T>
 Result<std::string> amount_to_chinese(T fen, AmountForm form = {}, Script script = Script::simplified) {
     const Result<std::uint64_t> held = detail::held_as<std::uint64_t>(fen);
@@ -372,10 +382,11 @@ Result<std::string> amount_to_chinese(T fen, AmountForm form = {}, Script script
     char room[CN_MOST_AMOUNT_BYTES + 1];
     const cn_status status =
         cn_print_amount(*held, static_cast<cn_script>(script), detail::flags_of(form), room, sizeof room);
-    return detail::told(status, std::string(room), "amount");
+    return detail::result_of(status, std::string(room), "amount");
 }
 
-/* The same of an amount that may be below zero, as one of a red invoice: behind 负 then. There is none from -10^18 down. */
+/* Writes an amount likewise, and a negative one, as on a red invoice, with the prefix 负. Refuses
+ * -10^18 and less, 10^18 and more. */
 template <typename T>
 Result<std::string> signed_amount_to_chinese(T fen, AmountForm form = {}, Script script = Script::simplified) {
     const Result<std::int64_t> held = detail::held_as<std::int64_t>(fen);
@@ -384,54 +395,55 @@ Result<std::string> signed_amount_to_chinese(T fen, AmountForm form = {}, Script
     char room[CN_MOST_SIGNED_AMOUNT_BYTES + 1];
     const cn_status status =
         cn_print_signed_amount(*held, static_cast<cn_script>(script), detail::flags_of(form), room, sizeof room);
-    return detail::told(status, std::string(room), "amount");
+    return detail::result_of(status, std::string(room), "amount");
 }
 
-/* The fen of a text in capitals. */
+/* Reads a text in capitals as fen. */
 inline Result<std::uint64_t> chinese_to_amount(std::string_view text) {
     cn_amount read;
     const cn_status status = cn_read_amount(text.data(), text.size(), &read);
-    return detail::told(status, read.fen, "amount", read.char_index, read.byte_index);
+    return detail::result_of(status, read.fen, "amount", read.char_index, read.byte_index);
 }
 
-/* The fen of a text in capitals as it is typed: white space, ⊗ in front and a colon behind 人民币 are left out. */
+/* Reads a text in capitals as it is typed as fen: ignores white space, a leading ⊗, and a colon
+ * after 人民币. */
 inline Result<std::uint64_t> chinese_to_amount_as_typed(std::string_view text) {
     cn_amount read;
     const cn_status status = cn_read_typed_amount(text.data(), text.size(), &read);
-    return detail::told(status, read.fen, "amount", read.char_index, read.byte_index);
+    return detail::result_of(status, read.fen, "amount", read.char_index, read.byte_index);
 }
 
-/* The fen of a text in capitals, behind 负 or not. */
+/* Reads a text in capitals, with or without the prefix 负, as fen. */
 inline Result<std::int64_t> chinese_to_signed_amount(std::string_view text) {
     cn_signed_amount read;
     const cn_status status = cn_read_signed_amount(text.data(), text.size(), &read);
-    return detail::told(status, read.fen, "amount", read.char_index, read.byte_index);
+    return detail::result_of(status, read.fen, "amount", read.char_index, read.byte_index);
 }
 
-/* The fen of figures in yuan, exactly: yuan_to_fen("-1,409.50"). */
+/* Converts figures in yuan to fen, exactly: yuan_to_fen("-1,409.50"). */
 inline Result<std::int64_t> yuan_to_fen(std::string_view figures) {
     cn_signed_amount read;
     const cn_status status = cn_read_figures(figures.data(), figures.size(), &read);
-    return detail::told(status, read.fen, "amount", read.char_index, read.byte_index);
+    return detail::result_of(status, read.fen, "amount", read.char_index, read.byte_index);
 }
 
-/* The text in capitals of a date, from year 1 to 9999. */
+/* Writes a date, from year 1 to 9999, in capitals. */
 inline Result<std::string> date_to_chinese(Date date, Script script = Script::simplified) {
     char room[CN_MOST_DATE_BYTES + 1];
     const cn_status status =
         cn_print_date(date.year, date.month, date.day, static_cast<cn_script>(script), room, sizeof room);
-    return detail::told(status, std::string(room), "date");
+    return detail::result_of(status, std::string(room), "date");
 }
 
-/* The date of a text in capitals. */
+/* Reads a text in capitals as a date. */
 inline Result<Date> chinese_to_date(std::string_view text) {
     cn_date read;
     const cn_status status = cn_read_date(text.data(), text.size(), &read);
-    return detail::told(status, Date{read.year, read.month, read.day}, "date", read.char_index, read.byte_index);
+    return detail::result_of(status, Date{read.year, read.month, read.day}, "date", read.char_index, read.byte_index);
 }
 
-/* A number or an expression that was found in a text, where it stands there, in bytes, and what cn_flag and cn_doubt report
- * of it. */
+/* A number or an expression that was found in a text, its place there, in bytes, and its flags and
+ * doubt (see cn_flag and cn_doubt). */
 struct Found {
     std::string_view text;
     std::size_t start;
@@ -440,26 +452,27 @@ struct Found {
     bool stands_alone;
     bool is_about;
     bool is_one_character;
-    Doubt doubt; /* of a number always Doubt::none */
+    Doubt doubt; /* for a number always Doubt::none */
 
-    /* The number: plain digits as such, and else by a method, where Way::any is Way::ten_thousand. */
+    /* Reads the number: plain digits as such, anything else by a method, where Way::any means
+     * Way::ten_thousand. */
     template <typename T>
     Result<T> number(Way method = Way::any) const {
         const Way units = method == Way::any ? Way::ten_thousand : method;
         return to_number<T>(text, is_plain ? Way::digits : units);
     }
 
-    /* The number, or nothing where the run is none, as 百 by itself, or the type does not hold it. */
+    /* The number, or nothing if the run is not one (百 alone), or the type does not hold it. */
     template <typename T>
     std::optional<T> value(Way method = Way::any) const {
         return number<T>(method).optional();
     }
 
-    /* The exact quantity of its text, as find_quantities finds them. */
+    /* Reads the text as an exact quantity; for the results of find_quantities. */
     Result<Quantity> quantity(Way method = Way::any) const { return chinese_to_quantity(text, method); }
 };
 
-/* The numbers or the expressions of a text, in order. They look into the text, which has to outlive them. */
+/* The numbers or the expressions of a text, in order. The text must outlive them. */
 class Numbers {
     using Search = cn_status (*)(const char *, std::size_t, std::uint32_t, cn_unit, cn_span *);
 
@@ -472,7 +485,7 @@ public:
         using pointer = const Found *;
         using reference = Found;
 
-        /* The end of each text. */
+        /* The end iterator for every text. */
         iterator() = default;
         iterator(std::string_view searched, Wanted what, Search next) : text(searched), wanted(what), find(next) {
             search();
@@ -480,7 +493,7 @@ public:
 
         Found operator*() const {
             return {text.substr(span.start, span.end - span.start), span.start, span.end,
-                    tells(CN_PLAIN_DIGITS), tells(CN_STANDS_ALONE), tells(CN_ABOUT), tells(CN_ONE_CHARACTER),
+                    has(CN_PLAIN_DIGITS), has(CN_STANDS_ALONE), has(CN_ABOUT), has(CN_ONE_CHARACTER),
                     static_cast<Doubt>(cn_doubt_of(&span))};
         }
         iterator &operator++() {
@@ -497,9 +510,9 @@ public:
         Status status() const { return last; }
 
     private:
-        bool tells(cn_flag flag) const { return (span.flags & flag) != 0; }
+        bool has(cn_flag flag) const { return (span.flags & flag) != 0; }
 
-        /* The span is zeros where there is no further number, and no number ends at 0. */
+        /* The span is zeros if there is no further number, and no number ends at 0. */
         void search() {
             const cn_unit greatest = static_cast<cn_unit>(wanted.greatest);
             last = static_cast<Status>(find(text.data(), text.size(), wanted.upper, greatest, &span));
@@ -516,20 +529,21 @@ public:
 
     iterator begin() const { return first; }
     iterator end() const { return {}; }
-    /* Status::done where there is a number, and else Status::none, Status::not_utf8 or Status::too_long. */
+    /* Status::done if there is a number, or Status::none, Status::not_utf8, Status::too_long. */
     Status status() const { return first.status(); }
 
 private:
     iterator first;
 };
 
-/* The numbers of a text: for (auto found : find_numbers(text)). Of bytes that are no UTF-8 there are none. */
+/* Finds the numbers of a text: for (auto found : find_numbers(text)). There are none if the bytes
+ * are not UTF-8. */
 inline Numbers find_numbers(std::string_view text, Wanted wanted = {}) {
     return {text, wanted};
 }
 
-/* The expressions of a text: numbers with their sign, figures, point and units, percentages and fractions, each to be
- * asked for its quantity. */
+/* Finds the expressions of a text: numbers with their sign, figures, point and units, percentages
+ * and fractions. Found::quantity reads each. */
 inline Numbers find_quantities(std::string_view text, Wanted wanted = {}) {
     return {text, wanted, cn_find_next_quantity};
 }
@@ -543,12 +557,15 @@ inline bool is_included(const Found &found, Included included) {
 
 } // namespace detail
 
-/* The text with its quantities replaced by what a function of a Found gives: its new text as a std::string, or std::nullopt
- * where it is to stay. It is asked for each expression that has a quantity by the method, in order; what is about so much,
- * one Chinese character or doubtful stays, unless it is included, and what is doubtful as Doubt::part always. There is no
- * text where the bytes are no UTF-8 (Status::not_utf8).
+/* Replaces the quantities of a text. Calls a function with the Found of each expression that has a
+ * quantity by the method, in order. The function returns the new text as a std::string, or
+ * std::nullopt to keep it. Approximate, one-character and doubtful expressions stay unless they are
+ * included; those with Doubt::part always stay. Returns an error if the bytes are not UTF-8
+ * (Status::not_utf8).
  *
- *     auto text = replace_quantities("共3.5万元", [](Found found) { return '[' + found.quantity()->to_figures() + ']'; });
+ *     auto text = replace_quantities("共3.5万元", [](Found found) {
+ *         return '[' + found.quantity()->to_figures() + ']';
+ *     });
  *     *text; // 共[35000]元 */
 template <typename Replacement>
 Result<std::string> replace_quantities(std::string_view text, Replacement &&replacement, Wanted wanted = {},
@@ -564,35 +581,35 @@ Result<std::string> replace_quantities(std::string_view text, Replacement &&repl
             return quantity.error();
         if (!quantity || !detail::is_included(found, included))
             continue;
-        if (const std::optional<std::string> put = replacement(found)) {
-            done.append(text.substr(at, found.start - at)).append(*put);
+        if (const std::optional<std::string> written = replacement(found)) {
+            done.append(text.substr(at, found.start - at)).append(*written);
             at = found.end;
         }
     }
     return done.append(text.substr(at));
 }
 
-/* The text with its numerals in figures, as an editor writes them: 市值三点五亿元，占百分之十二点五 becomes 市值3.5亿元，占12.5%.
- * chinese_quantities_to_figures says which expressions stay as they are. */
+/* Rewrites the numerals of a text in figures, as an editor does: 市值三点五亿元，占百分之十二点五 becomes
+ * 市值3.5亿元，占12.5%. chinese_quantities_to_figures documents which expressions stay as they are. */
 inline Result<std::string> quantities_to_figures(std::string_view text, Wanted wanted = {}, Way method = Way::any,
                                                  Included included = {}, Figures figures = {}) {
     std::string done(text.size(), '\0');
     std::size_t length = 0;
-    const auto put = [&] {
+    const auto write = [&] {
         return cn_quantities_to_figures(text.data(), text.size(), wanted.upper, static_cast<cn_unit>(wanted.greatest),
                                         static_cast<cn_way>(method), detail::options_of(included, figures), done.data(),
                                         done.size() + 1, &length);
     };
-    cn_status status = put();
+    cn_status status = write();
     if (status == CN_NO_ROOM) {
         done.resize(length);
-        status = put();
+        status = write();
     }
     done.resize(length);
-    return detail::told(status, std::move(done), "text");
+    return detail::result_of(status, std::move(done), "text");
 }
 
-/* Not of a string that ends before its numbers are looked at. */
+/* Not for a temporary string, which is destroyed before its numbers are used. */
 template <typename String, std::enable_if_t<std::is_same_v<String, std::string>, int> = 0>
 Numbers find_numbers(String &&text, Wanted wanted = {}) = delete;
 template <typename String, std::enable_if_t<std::is_same_v<String, std::string>, int> = 0>

@@ -1,22 +1,27 @@
-/* Chinese numerals for whole numbers and exact quantities, printed, read, and found and replaced in a text, amounts of money
- * and dates in capitals, and amounts in figures: the C face of the proved library chinese_number. For C from C99 on;
- * chinese_number.hpp has classes for C++17 over it.
+/* The C binding of the proved library chinese_number, for C99 and later. It prints and reads
+ * Chinese numerals for whole numbers and exact quantities, finds and replaces them in a text, and
+ * prints and reads amounts of money and dates in capitals, and amounts in figures.
+ * chinese_number.hpp has classes over it for C++17.
  *
- * The calls chinese_.. are the proved ones: texts are bytes, and choices are codes. The calls cn_.., written here over
- * them, take texts in char and the enumerations below, so that a compiler can tell exchanged arguments apart.
+ * The calls chinese_.. are the proved ones: texts are bytes, and choices are codes. The calls
+ * cn_.., which are written here over them, take texts in char and the enumerations below, so that a
+ * compiler can detect swapped arguments.
  *
- * On Linux on x86-64 and aarch64, with any C library, link libchinese_number.a or libchinese_number.so. They need at most
- * memcpy, memmove and memset of it, and __divti3 and __udivti3 of the compiler's. On other systems compile
- * chinese_number.c, which is the proved module for WebAssembly as C source. It needs abort, memcpy, memmove and memset at
- * most. No call takes memory, opens a file, reads the locale or keeps anything between calls, so any number of threads may
- * call at once.
+ * On Linux on x86-64 and aarch64, with any C library, link libchinese_number.a or
+ * libchinese_number.so. From the C library they need at most memcpy, memmove and memset, and from
+ * the compiler's library __divti3 and __udivti3. On other systems compile chinese_number.c, which
+ * is the proved WebAssembly module as C source. It needs at most abort, memcpy, memmove and memset.
+ * No call allocates memory, opens a file, reads the locale or keeps state between calls, so any
+ * number of threads may call at the same time.
  *
- * What the caller must see to, since nothing tests it:
- * - no pointer is NULL, not that of an empty text, room or array either (cn_.. take NULL as a text or a room of length 0);
- * - a text and a room have as many bytes as the length says, and an array as many spans as `most` says: at most PTRDIFF_MAX
- *   bytes;
- * - what a call writes (the room, *length, *reading, *quantity, the spans, *count) overlaps nothing else that the call is given;
- * - nothing else writes to what a call is given before it returns.
+ * The caller must ensure the following, since nothing tests it:
+ * - No pointer is NULL, not even for an empty text, buffer or array. (cn_.. accept NULL for a text
+ *   or a buffer of length 0.)
+ * - A text and a buffer have as many bytes as their length says, and an array has `most` spans: at
+ *   most PTRDIFF_MAX bytes.
+ * - What a call writes (the buffer `room`, *length, *reading, *quantity, the spans, *count) does
+ *   not overlap any other argument.
+ * - Nothing else writes to the arguments before the call returns.
  *
  * All names begin with chinese_, cn_ or CN_. */
 #ifndef CHINESE_NUMBER_H
@@ -33,24 +38,24 @@
 #define CN_VERSION_MAJOR 0
 #define CN_VERSION_MINOR 1
 #define CN_VERSION_PATCH 0
-/* The version as one number, which chinese_number_version() gives of the library that is linked. */
+/* The version as one number. chinese_number_version() returns that of the linked library. */
 #define CN_VERSION_NUMBER (CN_VERSION_MAJOR * 1000000 + CN_VERSION_MINOR * 1000 + CN_VERSION_PATCH)
 
-/* In C++ a code has 32 bits of its own, so that any status can be held. */
+/* In C++ a code has exactly 32 bits, so that it can hold any status. */
 #ifdef __cplusplus
 #define CN_OF_CODE : uint32_t
 #else
 #define CN_OF_CODE
 #endif
 
-/* Of an enumeration of flags, which clang would else not let be added together. */
+/* For an enumeration of flags; without it clang warns when flags are added together. */
 #ifdef __clang__
 #define CN_FLAGS __attribute__((flag_enum))
 #else
 #define CN_FLAGS
 #endif
 
-/* In front of a call whose status is to be looked at: a compiler that can warns where it is not. */
+/* Before a call whose status must not be ignored: compilers that support it warn otherwise. */
 #if defined(__cplusplus) && __cplusplus >= 201703L
 #define CN_NODISCARD [[nodiscard]]
 #elif defined(__GNUC__)
@@ -59,7 +64,7 @@
 #define CN_NODISCARD
 #endif
 
-/* A value as one of another type, in each language's own way. */
+/* Casts, in the style of each language. */
 #ifdef __cplusplus
 #define CN_AS(type, value) static_cast<type>(value)
 #define CN_POINTER(type, value) reinterpret_cast<type *>(value)
@@ -93,14 +98,20 @@ typedef enum cn_kind CN_OF_CODE {
 #endif
 } cn_kind;
 
-/* The way in which a number is written: as plain digits (一二三), or with units (一百二十三) by one of four methods. */
+/* The way in which a number is written: as plain digits (一二三), or with units (一百二十三) by one of four
+ * methods.
+ *
+ * CN_TEN_THOUSAND writes 10^12 as 兆, as in Taiwan; CN_MIDDLE and CN_HIGH write it as 萬億, as on the
+ * mainland. CN_ANY is the one to use. It reads digits, with or without a sign, as CN_DIGITS, and
+ * any other text as CN_TEN_THOUSAND. It can read back what it writes: in CN_SIMPLIFIED below 10^16
+ * it writes as CN_MIDDLE, so that 10^12 is 一万亿, and otherwise as CN_TEN_THOUSAND. */
 typedef enum cn_way CN_OF_CODE {
     CN_DIGITS = 0,
     CN_LOW = 1,          /* each unit is ten times the one before: 億 is 10^5 */
-    CN_TEN_THOUSAND = 2, /* after 萬 each is 10^4 times the one before: 10^12 is 兆, as in Taiwan; by the next two 萬億, as on the mainland */
+    CN_TEN_THOUSAND = 2, /* after 萬 each is 10^4 times the one before: 億 is 10^8, 兆 is 10^12 */
     CN_MIDDLE = 3,       /* after 億 each is 10^8 times the one before: 兆 is 10^16, 京 is 10^24 */
-    CN_HIGH = 4,         /* from 億 on each is the square of the one before: 兆 is 10^16, 京 is 10^32 */
-    CN_ANY = 5           /* the one to use. Reads digits as CN_DIGITS, with a sign or without, any other text as CN_TEN_THOUSAND. Writes what it reads back: as CN_MIDDLE in CN_SIMPLIFIED below 10^16, so that 10^12 is 一万亿, and else as CN_TEN_THOUSAND */
+    CN_HIGH = 4,         /* from 億 on each is the square of the one before: 京 is 10^32 */
+    CN_ANY = 5
 } cn_way;
 
 /* The script of a printed text: 萬 or 万. Both are read. */
@@ -118,9 +129,9 @@ typedef enum cn_case CN_OF_CODE {
 /* The form of a printed amount: none or several of these, added together. All are read. */
 typedef enum cn_form CN_OF_CODE {
     CN_PLAIN = 0,
-    CN_CURRENCY = 1,       /* 人民币 in front */
-    CN_ROUND_YUAN = 2,     /* 圆 for 元 */
-    CN_UPRIGHT_CLOSING = 4 /* 正 for 整 */
+    CN_CURRENCY = 1,       /* with the prefix 人民币 */
+    CN_ROUND_YUAN = 2,     /* 圆 instead of 元 */
+    CN_UPRIGHT_CLOSING = 4 /* 正 instead of 整 */
 } CN_FLAGS cn_form;
 
 /* How a quantity is written. */
@@ -131,33 +142,44 @@ typedef enum cn_quantity_form CN_OF_CODE {
     CN_FRACTION = 3 /* 三分之一, 千分之五 */
 } cn_quantity_form;
 
-/* The flags that are reported of a number or an expression in a text: none or several of these, added together. */
+/* The flags of a number or an expression in a text: none or several of these, added together.
+ * - CN_PLAIN_DIGITS: each character is a digit. CN_DIGITS reads it; a method reads the others.
+ * - CN_STANDS_ALONE: no letter or digit touches it or is linked to it. Neither part of 3.5萬 or
+ *   1,280 stands alone.
+ * - CN_ABOUT: it is approximate, such as 十 in 十几 and 几十, and 五六.
+ * - CN_ONE_CHARACTER: it is one Chinese character, such as 一 in 一般. */
 typedef enum cn_flag CN_OF_CODE {
-    CN_PLAIN_DIGITS = 1,  /* each of its characters is a digit: it is read by CN_DIGITS, and else by a method */
-    CN_STANDS_ALONE = 2,  /* no letter or digit touches it, and none is linked to it: so neither part of 3.5萬 or 1,280 does */
-    CN_ABOUT = 4,         /* it is about so much, as the 十 of 十几 and 几十, and 五六 are */
-    CN_ONE_CHARACTER = 8  /* it is one Chinese character, as the 一 of 一般 is */
+    CN_PLAIN_DIGITS = 1,
+    CN_STANDS_ALONE = 2,
+    CN_ABOUT = 4,
+    CN_ONE_CHARACTER = 8
 } CN_FLAGS cn_flag;
 
-/* Why a reader may mean by an expression something else than its quantity. Of several reasons CN_DOUBT_PART is reported, or
- * else the first one here. In the flags of a span it is multiplied by 16 and added to the flags above, so read it by
- * cn_doubt_of. A number has none. */
+/* Why a reader may understand an expression as something other than its quantity. If several
+ * reasons apply, CN_DOUBT_PART is reported if it is among them, and otherwise the first in this
+ * list. The flags of a span contain the reason, multiplied by 16; cn_doubt_of returns it. A number
+ * has none. */
 typedef enum cn_doubt CN_OF_CODE {
     CN_NO_DOUBT = 0,
     CN_DOUBT_WORD = 1,   /* it is part of a word: 十二 of 十二指肠, 十一 of 双十一 */
-    CN_DOUBT_DIGITS = 2, /* it is two or three Chinese digits, or more that rise: 五一, 一二三四 */
+    CN_DOUBT_DIGITS = 2, /* it is two or three Chinese digits, or more in rising order: 五一, 一二三四 */
     CN_DOUBT_TERM = 3,   /* it is part of a term: 负二 of 负二项, 十六 of 十六进制 */
     CN_DOUBT_PART = 4,   /* it is part of an expression with 折, 成 or 半: 八五 of 八五折, 一 of 一个半 */
     CN_DOUBT_TIME = 5,   /* it may be a time: 三点五 of 下午三点五, 十点零五 */
-    CN_DOUBT_RANGE = 6   /* it is one end of a range whose ends share a unit or 百分之: 3 and 5万 of 3~5万 */
+    CN_DOUBT_RANGE = 6   /* it is one end of a range with one unit or 百分之: 3 and 5万 of 3~5万 */
 } cn_doubt;
 
-/* The options of chinese_quantities_to_figures, which are added together, with CN_ABOUT and CN_ONE_CHARACTER of cn_flag. */
-#define CN_DOUBTFUL 16u  /* what is doubtful is replaced too, but for CN_DOUBT_PART */
-#define CN_EXPANDED 32u  /* no great unit is kept: 三千五百亿 becomes 350000000000, and not 3500亿 */
-#define CN_CANONICAL 64u /* what is written in figures alone is rewritten in ASCII, without commas and leading zeros: １,２８０ becomes 1280 */
+/* The options of chinese_quantities_to_figures. They are added together, and to CN_ABOUT and
+ * CN_ONE_CHARACTER of cn_flag.
+ * - CN_DOUBTFUL replaces doubtful expressions too, except those with CN_DOUBT_PART.
+ * - CN_EXPANDED writes out 万, 亿 and so on: 三千五百亿 becomes 350000000000, not 3500亿.
+ * - CN_CANONICAL rewrites what is only figures in ASCII, without commas and leading zeros: １,２８０
+ *   becomes 1280. */
+#define CN_DOUBTFUL 16u
+#define CN_EXPANDED 32u
+#define CN_CANONICAL 64u
 
-/* The units, by rank: the greatest one that is looked for in a text. */
+/* The units, by rank. A search takes the greatest one that it looks for. */
 typedef enum cn_unit CN_OF_CODE {
     CN_GE = 0,
     CN_SHI = 1,
@@ -165,7 +187,7 @@ typedef enum cn_unit CN_OF_CODE {
     CN_QIAN = 3,
     CN_WAN = 4,
     CN_YI = 5,
-    CN_ZHAO = 6, /* the one to use: greater ones nearly always mean something else in a sentence */
+    CN_ZHAO = 6, /* the one to use: in sentences, greater ones nearly always mean something else */
     CN_JING = 7,
     CN_GAI = 8,
     CN_ZI = 9,
@@ -177,64 +199,86 @@ typedef enum cn_unit CN_OF_CODE {
     CN_JI = 15
 } cn_unit;
 
-/* The status that a call returns. */
+/* The status that a call returns.
+ * - CN_DONE: the text was read, printed or searched.
+ * - CN_EMPTY, when reading: the text is empty without white space and, for signed types, one sign.
+ * - CN_INCORRECT, when reading: the character at char_index cannot be there; no amount or date
+ *   begins with the text up to and including it.
+ * - CN_TOO_LARGE: when reading, the number is above the type's maximum, or has more than 128 bits;
+ *   when printing with CN_LOW, the number, or one within a quantity, is 10^16 or more; when
+ *   printing an amount or reading figures, the amount is 10^18 fen or more.
+ * - CN_TOO_SMALL: when reading, the number is below the type's minimum; when printing with CN_LOW,
+ *   the number is -10^16 or less, or one within a negative quantity is 10^16 or more; when printing
+ *   an amount, it is -10^18 fen or less.
+ * - CN_NOT_UTF8, when reading, finding or replacing: the bytes are not UTF-8; when finding, also:
+ *   `from` is neither the start of a character nor the end of the text.
+ * - CN_NO_ROOM, when printing or replacing: the text has more bytes than the buffer; *length says
+ *   how many.
+ * - CN_NOT_HELD, when printing: the type does not hold the number.
+ * - CN_UNKNOWN: a code names no type, way, script, case, form, unit or option; CN_DIGITS is not a
+ *   method.
+ * - CN_UNFINISHED, when reading an amount, figures or a date: the text is not one, but more text
+ *   can make it one.
+ * - CN_NONE, of cn_find_next and cn_find_next_quantity: there is no further one in the text.
+ * - CN_NOT_A_DATE, when printing a date: the date does not exist.
+ * - CN_NOT_A_QUANTITY, when printing a quantity: the denominator is 0. */
 typedef enum cn_status CN_OF_CODE {
-    CN_DONE = 0,      /* the text was read, printed or searched */
-    CN_EMPTY = 1,     /* read: nothing is left of the text without white space and, for signed types, one sign */
-    CN_INCORRECT = 2, /* read: the character at char_index cannot stand there; no amount or date begins with what ends there */
-    CN_TOO_LARGE = 3, /* read: past the type's greatest, or no number of 128 bits; print by CN_LOW: 10^16 or more, or such a number in a quantity; print an amount, read figures: 10^18 fen or more */
-    CN_TOO_SMALL = 4, /* read: past the type's least; print by CN_LOW: -10^16 or less, or such a number in a quantity below 0; print an amount: -10^18 fen or less */
-    CN_NOT_UTF8 = 5,  /* read, find, replace: the bytes are no UTF-8; find: no character begins at `from`, nor does the text end there */
-    CN_NO_ROOM = 6,   /* print, replace: the text has more bytes than the room; *length says how many */
-    CN_NOT_HELD = 7,  /* print: the type does not hold the number */
-    CN_UNKNOWN = 8,   /* a code names no type, way, script, case, form, unit or option; CN_DIGITS is no method */
-    CN_UNFINISHED = 9, /* read an amount, figures or a date: the text is none, but something behind it can make it one */
-    CN_NONE = 10,      /* cn_find_next, cn_find_next_quantity: there is no further one in the text */
-    CN_NOT_A_DATE = 11, /* print a date: there is no such date */
-    CN_NOT_A_QUANTITY = 12 /* print a quantity: its denominator is 0 */
+    CN_DONE = 0,
+    CN_EMPTY = 1,
+    CN_INCORRECT = 2,
+    CN_TOO_LARGE = 3,
+    CN_TOO_SMALL = 4,
+    CN_NOT_UTF8 = 5,
+    CN_NO_ROOM = 6,
+    CN_NOT_HELD = 7,
+    CN_UNKNOWN = 8,
+    CN_UNFINISHED = 9,
+    CN_NONE = 10,
+    CN_NOT_A_DATE = 11,
+    CN_NOT_A_QUANTITY = 12
 } cn_status;
 
-/* No number is printed with more bytes. A zero byte at the end, which cn_print alone writes, is not among them. */
+/* The most bytes of a printed number, without the zero byte that cn_print writes. */
 #define CN_MOST_BYTES 234
 
-/* No quantity is printed with more bytes, but for a zero byte that cn_print_quantity writes. */
+/* The most bytes of a printed quantity, without the zero byte that cn_print_quantity writes. */
 #define CN_MOST_QUANTITY_BYTES 471
 
-/* And none in figures, but for a zero byte that cn_quantity_figures writes. */
+/* The most bytes of a quantity in figures, without the zero byte of cn_quantity_figures. */
 #define CN_MOST_FIGURES_BYTES 80
 
-/* No amount is printed with more bytes, but for a zero byte that cn_print_amount writes. */
+/* The most bytes of a printed amount, without the zero byte that cn_print_amount writes. */
 #define CN_MOST_AMOUNT_BYTES 117
 
-/* And none that may be below zero, but for a zero byte that cn_print_signed_amount writes. */
+/* The most bytes of a printed signed amount, without the zero byte of cn_print_signed_amount. */
 #define CN_MOST_SIGNED_AMOUNT_BYTES 120
 
-/* No date is printed with more bytes, but for a zero byte that cn_print_date writes. */
+/* The most bytes of a printed date, without the zero byte that cn_print_date writes. */
 #define CN_MOST_DATE_BYTES 39
 
-/* What the C source alone returns where a text, or a text and the room for the new one, have more than 4293918720 bytes, and
- * what is written is 0; no call of the archives answers it. */
+/* Only the C source returns this status, if a text, or a text and the buffer for the new one, have
+ * more than 4293918720 bytes. What the call writes is then 0. The archives never return it. */
 #define CN_TOO_LONG UINT32_MAX
 
-/* A whole number in two halves of 64 bits; for a signed type, in two's complement of 128 bits. So (int8_t)number.low is
- * the value of a number of the type CN_I8. */
+/* A whole number in two halves of 64 bits; for a signed type, in two's complement of 128 bits. So
+ * (int8_t)number.low is the value of a number of the type CN_I8. */
 typedef struct cn_number {
     uint64_t low;
     uint64_t high;
 } cn_number;
 
-/* What was read: the number at CN_DONE, and at CN_INCORRECT how many characters and how many bytes stand in front of the
- * character at fault, white space among them. All else is 0. */
+/* The result of reading: at CN_DONE the number; at CN_INCORRECT how many characters and how many
+ * bytes come before the wrong character, white space included. The other fields are 0. */
 typedef struct cn_reading {
     cn_number number;
     size_t char_index;
     size_t byte_index;
 } cn_reading;
 
-/* What was read as a quantity, exactly and as written: at CN_DONE the numbers above and below the line, that above it with
- * the sign, in two's complement as of CN_I128, and that below it, of CN_U128, above 0; and its form, of cn_quantity_form. So
- * 12.5% is 125/1000. At CN_INCORRECT how many characters and how many bytes stand in front of the character at fault. All
- * else is 0. */
+/* The result of reading a quantity, exactly and as written. At CN_DONE: the numerator with the
+ * sign, in two's complement as for CN_I128; the denominator, as for CN_U128 and above 0; and the
+ * form, of cn_quantity_form. So 12.5% is 125/1000. At CN_INCORRECT: how many characters and how
+ * many bytes come before the wrong character. The other fields are 0. */
 typedef struct cn_quantity {
     cn_number numerator;
     cn_number denominator;
@@ -243,163 +287,185 @@ typedef struct cn_quantity {
     size_t byte_index;
 } cn_quantity;
 
-/* Where a number or an expression stands in a text, in bytes from its start, and what is reported of it: flags of cn_flag,
- * added together, and 16 times a reason of cn_doubt. So test one flag by &, and compare no flags as a whole. */
+/* The place of a number or an expression in a text, in bytes from its start, and its flags: flags
+ * of cn_flag, added together, and 16 times a reason of cn_doubt. So test single flags with &, and
+ * do not compare the flags as a whole. */
 typedef struct cn_span {
     size_t start;
     size_t end;
     uint32_t flags;
 } cn_span;
 
-/* Reads a text, in UTF-8, as a number of a type. Writes *reading whole at each status, and nothing else.
+/* Reads a text, in UTF-8, as a number of a type. Writes all of *reading at each status, and nothing
+ * else.
  *
- * Returns CN_DONE, CN_EMPTY, CN_INCORRECT, CN_TOO_LARGE, CN_TOO_SMALL, CN_NOT_UTF8 or CN_UNKNOWN. */
+ * Returns CN_DONE, CN_EMPTY, CN_INCORRECT, CN_TOO_LARGE, CN_TOO_SMALL, CN_NOT_UTF8 or
+ * CN_UNKNOWN. */
 uint32_t chinese_number_read(const uint8_t *text, size_t text_length, uint32_t kind, uint32_t way, cn_reading *reading);
 
-/* The same for bytes that the caller knows to be UTF-8. Nothing tests that: with other bytes the behaviour is undefined. */
+/* The same for bytes that the caller knows to be UTF-8. Nothing tests this: for other bytes the
+ * behaviour is undefined. */
 uint32_t chinese_number_read_utf8(const uint8_t *text, size_t text_length, uint32_t kind, uint32_t way,
                                   cn_reading *reading);
 
-/* Prints a number of a type, given in its two halves, at the start of a room, in UTF-8. Writes *length at each status: at
- * CN_DONE and CN_NO_ROOM how many bytes the text has, else 0. Writes to the room at CN_DONE alone, and there no more than
- * the text.
+/* Prints a number of a type, given in its two halves, at the start of a buffer, in UTF-8. Writes
+ * *length at each status: at CN_DONE and CN_NO_ROOM how many bytes the text has, otherwise 0.
+ * Writes to the buffer only at CN_DONE, and then only the text.
  *
- * Returns CN_DONE, CN_TOO_LARGE, CN_TOO_SMALL, CN_NO_ROOM, CN_NOT_HELD or CN_UNKNOWN. A room of CN_MOST_BYTES is never
- * too small. */
+ * Returns CN_DONE, CN_TOO_LARGE, CN_TOO_SMALL, CN_NO_ROOM, CN_NOT_HELD or CN_UNKNOWN. A buffer of
+ * CN_MOST_BYTES is never too small. */
 uint32_t chinese_number_print(uint64_t low, uint64_t high, uint32_t kind, uint32_t way, uint32_t script,
                               uint32_t letter_case, uint8_t *room, size_t room_length, size_t *length);
 
-/* Finds the numbers of a text in UTF-8, from byte `from` on and in order, until none is left or `most` are found: the runs of
- * digits and of units up to the greatest one, of the lower case (upper 0) or of both (1). `from` is 0, or any byte where a
- * character begins or the text ends. Writes *count at each status, and so many spans, and nothing else: at CN_DONE how many are
- * found, which may be 0, and else 0. Where *count is less than `most`, no further number is there; else the next ones are found
- * from the last span's end on.
+/* Finds the numbers of a text in UTF-8, in order from byte `from` on, until there are no more or
+ * `most` are found. Numbers are the runs of digits and of units up to the greatest one, in lower
+ * case (upper 0) or in both cases (upper 1). `from` is 0, or any byte where a character begins or
+ * the text ends. At each status the call writes *count, and *count spans, and nothing else. At
+ * CN_DONE *count is how many were found, which may be 0; otherwise it is 0. If *count is less than
+ * `most`, there are no further numbers; otherwise search for the next ones from the end of the last
+ * span.
  *
- * Returns CN_DONE, CN_NOT_UTF8 or CN_UNKNOWN. The whole text is tested, whatever `from` is, so a loop over all numbers of a text
- * calls this once, and from then on chinese_number_find_utf8, as cn_find_next does. */
+ * Returns CN_DONE, CN_NOT_UTF8 or CN_UNKNOWN. The whole text is tested, whatever `from` is. So a
+ * loop over all numbers of a text should call this once, and then chinese_number_find_utf8, as
+ * cn_find_next does. */
 uint32_t chinese_number_find(const uint8_t *text, size_t text_length, size_t from, uint32_t upper, uint32_t greatest,
                              cn_span *spans, size_t most, size_t *count);
 
-/* The same for bytes that the caller knows to be UTF-8. Nothing tests that: with other bytes the behaviour is undefined. */
+/* The same for bytes that the caller knows to be UTF-8. Nothing tests this: for other bytes the
+ * behaviour is undefined. */
 uint32_t chinese_number_find_utf8(const uint8_t *text, size_t text_length, size_t from, uint32_t upper, uint32_t greatest,
                                   cn_span *spans, size_t most, size_t *count);
 
-/* Reads a text, in UTF-8, as a quantity by a method, CN_LOW to CN_HIGH, or by CN_ANY, which is CN_TEN_THOUSAND here: a
- * whole number, a decimal, a percentage or a fraction, in figures, in numerals or in both, with one sign in front or none.
- * Writes *quantity whole at each status, and nothing else.
+/* Reads a text, in UTF-8, as a quantity: a whole number, a decimal, a percentage or a fraction, in
+ * figures, in numerals or in both, with or without one leading sign. The method is CN_LOW to
+ * CN_HIGH, or CN_ANY, which means CN_TEN_THOUSAND here. Writes all of *quantity at each status, and
+ * nothing else.
  *
- * Returns CN_DONE, CN_EMPTY, CN_INCORRECT, CN_TOO_LARGE, CN_TOO_SMALL, CN_NOT_UTF8 or CN_UNKNOWN. */
+ * Returns CN_DONE, CN_EMPTY, CN_INCORRECT, CN_TOO_LARGE, CN_TOO_SMALL, CN_NOT_UTF8 or
+ * CN_UNKNOWN. */
 uint32_t chinese_quantity_read(const uint8_t *text, size_t text_length, uint32_t method, cn_quantity *quantity);
 
-/* Finds the expressions of a text, as chinese_number_find finds its numbers: numbers with their sign, figures, point and
- * units, percentages and fractions, each to be read by chinese_quantity_read. cn_doubt_of a span says why a reader may mean
- * something else. */
+/* Finds the expressions of a text, as chinese_number_find finds its numbers: numbers with their
+ * sign, figures, point and units, percentages and fractions. chinese_quantity_read reads each of
+ * them. cn_doubt_of a span says why a reader may understand it as something else. */
 uint32_t chinese_quantity_find(const uint8_t *text, size_t text_length, size_t from, uint32_t upper, uint32_t greatest,
                                cn_span *spans, size_t most, size_t *count);
 
-/* The same for bytes that the caller knows to be UTF-8. Nothing tests that: with other bytes the behaviour is undefined. */
+/* The same for bytes that the caller knows to be UTF-8. Nothing tests this: for other bytes the
+ * behaviour is undefined. */
 uint32_t chinese_quantity_find_utf8(const uint8_t *text, size_t text_length, size_t from, uint32_t upper, uint32_t greatest,
                                     cn_span *spans, size_t most, size_t *count);
 
-/* Prints a quantity by a method, CN_LOW to CN_HIGH, or by CN_ANY, at the start of a room, in UTF-8: 三点一四 for 314/100
- * of CN_DECIMAL, 百分之十二点五 for 125/1000 of CN_PERCENT, 三分之一 for 1/3. By CN_ANY it goes by CN_MIDDLE where the
- * script is CN_SIMPLIFIED and each number that is spelled in it is below 10^16, and else by CN_TEN_THOUSAND. A quantity
- * whose denominator is not one of its form (1 of a whole number, 10, 100 and so on of a decimal, 100, 1000 and so on of
- * a percentage) is printed as a fraction. What is printed is read by chinese_quantity_read as the same numerator and
- * denominator. Its char_index and byte_index are not looked at. Length and room as with chinese_number_print.
+/* Prints a quantity at the start of a buffer, in UTF-8: 三点一四 for 314/100 of CN_DECIMAL, 百分之十二点五 for
+ * 125/1000 of CN_PERCENT, 三分之一 for 1/3. The method is CN_LOW to CN_HIGH, or CN_ANY, which means
+ * CN_MIDDLE if the script is CN_SIMPLIFIED and each number spelled in the text is below 10^16, and
+ * otherwise CN_TEN_THOUSAND. If the denominator does not match the form (1 for a whole number; 10,
+ * 100 and so on for a decimal; 100, 1000 and so on for a percentage), the quantity is printed as a
+ * fraction. chinese_quantity_read reads the text as the same numerator and denominator. The call
+ * ignores char_index and byte_index. The length and the buffer are as for chinese_number_print.
  *
- * Returns CN_DONE, CN_TOO_LARGE, CN_TOO_SMALL, CN_NO_ROOM, CN_NOT_A_QUANTITY or CN_UNKNOWN (also where its form is none). A
- * room of CN_MOST_QUANTITY_BYTES is never too small. */
+ * Returns CN_DONE, CN_TOO_LARGE, CN_TOO_SMALL, CN_NO_ROOM, CN_NOT_A_QUANTITY or CN_UNKNOWN (also
+ * for an unknown form). A buffer of CN_MOST_QUANTITY_BYTES is never too small. */
 uint32_t chinese_quantity_print(const cn_quantity *quantity, uint32_t method, uint32_t script, uint32_t letter_case,
                                 uint8_t *room, size_t room_length, size_t *length);
 
-/* Prints a quantity in figures, in ASCII, likewise: 35000, -3.5, 12.5%, 1/3. The zeros at the end of its decimals are left
- * out. What would be printed as a fraction is printed as numerator/denominator, also over 0.
+/* Prints a quantity in figures, in ASCII, likewise: 35000, -3.5, 12.5%, 1/3. Zeros at the end of
+ * the decimals are omitted. What would be printed as a fraction is printed as
+ * numerator/denominator, even if the denominator is 0.
  *
- * Returns CN_DONE, CN_NO_ROOM or CN_UNKNOWN (its form is none). A room of CN_MOST_FIGURES_BYTES is never too small. */
+ * Returns CN_DONE, CN_NO_ROOM or CN_UNKNOWN (for an unknown form). A buffer of
+ * CN_MOST_FIGURES_BYTES is never too small. */
 uint32_t chinese_quantity_figures(const cn_quantity *quantity, uint8_t *room, size_t room_length, size_t *length);
 
-/* Writes a text in UTF-8 anew, with the numerals among the expressions of chinese_quantity_find in figures, as an editor
- * writes them: 市值三点五亿元，占百分之十二点五 becomes 市值3.5亿元，占12.5%. `options` is 0, or a sum of CN_ABOUT,
- * CN_ONE_CHARACTER, CN_DOUBTFUL, CN_EXPANDED and CN_CANONICAL. The section "Expressions replaced" of docs/RULES.md has the
- * rules; in short, these expressions stay as they are:
- * - what is already in figures, but for one with 分之 (CN_EXPANDED, CN_CANONICAL);
- * - what chinese_quantity_read refuses by the method;
- * - what is about so much, one Chinese character or doubtful, unless `options` has CN_ABOUT, CN_ONE_CHARACTER or
- *   CN_DOUBTFUL; what is doubtful as CN_DOUBT_PART always;
+/* Rewrites a text in UTF-8, with the numerals among the expressions of chinese_quantity_find in
+ * figures, as an editor does: 市值三点五亿元，占百分之十二点五 becomes 市值3.5亿元，占12.5%. `options` is 0, or a sum of
+ * CN_ABOUT, CN_ONE_CHARACTER, CN_DOUBTFUL, CN_EXPANDED and CN_CANONICAL. docs/RULES.md has the full
+ * rules. In short, these expressions stay as they are:
+ * - those already in figures, except with 分之 (and with CN_EXPANDED, CN_CANONICAL);
+ * - those that chinese_quantity_read refuses by the method;
+ * - approximate expressions, single Chinese characters and doubtful expressions, unless `options`
+ *   has CN_ABOUT, CN_ONE_CHARACTER or CN_DOUBTFUL; those with CN_DOUBT_PART always stay;
  * - a part of a name, an address or another number, as in a_十二;
- * - a fraction over 1000 or more, or with 又, as 千分之五;
- * - the other parts of a date, a time, a length, an amount or a range of which one part stays.
- * All else of the text stays as it is. Writes *length at each status: at CN_DONE and CN_NO_ROOM how many bytes the new text
- * has (SIZE_MAX for more), else 0. What the room holds after the new text, and at other statuses, is not specified.
+ * - a fraction with a denominator of 1000 or more, such as 千分之五, or with 又;
+ * - all of a date, a time, a length, an amount or a range of which one part stays.
  *
- * Returns CN_DONE, CN_NO_ROOM, CN_NOT_UTF8 or CN_UNKNOWN (also where `options` has any other bit). */
+ * The rest of the text stays as it is. Writes *length at each status: at CN_DONE and CN_NO_ROOM how
+ * many bytes the new text has (SIZE_MAX for more), otherwise 0. The contents of the buffer after
+ * the new text, and at other statuses, are unspecified.
+ *
+ * Returns CN_DONE, CN_NO_ROOM, CN_NOT_UTF8 or CN_UNKNOWN (also if `options` has any other bit). */
 uint32_t chinese_quantities_to_figures(const uint8_t *text, size_t text_length, uint32_t upper, uint32_t greatest,
                                        uint32_t method, uint32_t options, uint8_t *room, size_t room_length,
                                        size_t *length);
 
-/* What was read as an amount: how many fen, the hundredth part of a yuan, at CN_DONE, and at CN_INCORRECT how many
- * characters and how many bytes stand in front of the character at fault. All else is 0. */
+/* The result of reading an amount: at CN_DONE the fen, hundredths of a yuan; at CN_INCORRECT how
+ * many characters and how many bytes come before the wrong character. The other fields are 0. */
 typedef struct cn_amount {
     uint64_t fen;
     size_t char_index;
     size_t byte_index;
 } cn_amount;
 
-/* Prints an amount of fen in capitals, as it stands on a cheque, in a form, at the start of a room, in UTF-8. Writes
- * *length at each status: at CN_DONE and CN_NO_ROOM how many bytes the text has, else 0. Writes to the room at CN_DONE
- * alone, and there no more than the text.
+/* Prints an amount of fen in capitals, as on a cheque, in a form, at the start of a buffer, in
+ * UTF-8. Writes *length at each status: at CN_DONE and CN_NO_ROOM how many bytes the text has,
+ * otherwise 0. Writes to the buffer only at CN_DONE, and then only the text.
  *
- * Returns CN_DONE, CN_NO_ROOM, CN_TOO_LARGE (from 10^18 fen on) or CN_UNKNOWN. A room of CN_MOST_AMOUNT_BYTES is never
- * too small. */
+ * Returns CN_DONE, CN_NO_ROOM, CN_TOO_LARGE (10^18 fen or more) or CN_UNKNOWN. A buffer of
+ * CN_MOST_AMOUNT_BYTES is never too small. */
 uint32_t chinese_amount_print(uint64_t fen, uint32_t script, uint32_t form, uint8_t *room, size_t room_length,
                               size_t *length);
 
-/* Reads a text in capitals, in UTF-8, as an amount. White space is at fault where it stands. Writes *reading whole at each
- * status, and nothing else.
+/* Reads a text in capitals, in UTF-8, as an amount. White space is an error at its place. Writes
+ * all of *reading at each status, and nothing else.
  *
- * Returns CN_DONE, CN_UNFINISHED (also for the empty text), CN_INCORRECT at the first character with which no amount
- * begins, or CN_NOT_UTF8. The whole text is tested to be UTF-8, and then read up to the character at fault, which is among
- * the first 40. */
+ * Returns CN_DONE, CN_UNFINISHED (also for the empty text), CN_INCORRECT at the first character
+ * with which no amount begins, or CN_NOT_UTF8. The call tests that the whole text is UTF-8, and
+ * then reads up to the wrong character, which is among the first 40. */
 uint32_t chinese_amount_read(const uint8_t *text, size_t text_length, cn_amount *reading);
 
-/* Reads a text as it is typed: as chinese_amount_read does, but white space, then one ⊗ in front, and then one colon, : or
- * ：, directly behind 人民币 in front are left out. The character at fault is told by its place in the text as it is typed,
- * and so may stand anywhere. */
+/* Reads a text as it is typed: like chinese_amount_read, but ignores white space, then one ⊗ at the
+ * start, and then one colon (: or ：) directly after a leading 人民币. The place of the wrong character
+ * is that in the text as it is typed, and so may be anywhere. */
 uint32_t chinese_typed_amount_read(const uint8_t *text, size_t text_length, cn_amount *reading);
 
-/* What was read as an amount that may be below zero, as one of a red invoice: as in cn_amount. */
+/* The result of reading an amount that may be negative, as on a red invoice; like cn_amount. */
 typedef struct cn_signed_amount {
     int64_t fen;
     size_t char_index;
     size_t byte_index;
 } cn_signed_amount;
 
-/* Prints an amount as chinese_amount_print does, and one below zero behind 负 (負 in traditional script).
+/* Prints an amount as chinese_amount_print does, and a negative one with the prefix 负 (負 in
+ * traditional script).
  *
- * Returns CN_DONE, CN_NO_ROOM, CN_TOO_LARGE (from 10^18 fen on), CN_TOO_SMALL (from -10^18 fen down) or CN_UNKNOWN. A room
- * of CN_MOST_SIGNED_AMOUNT_BYTES is never too small. */
+ * Returns CN_DONE, CN_NO_ROOM, CN_TOO_LARGE (10^18 fen or more), CN_TOO_SMALL (-10^18 fen or less)
+ * or CN_UNKNOWN. A buffer of CN_MOST_SIGNED_AMOUNT_BYTES is never too small. */
 uint32_t chinese_signed_amount_print(int64_t fen, uint32_t script, uint32_t form, uint8_t *room, size_t room_length,
                                      size_t *length);
 
-/* Reads a text as chinese_amount_read does, with one 负 or 負 in front or not; 负零元整 is 0. The character at fault is among
- * the first 41. */
+/* Reads a text as chinese_amount_read does, with or without one prefix 负 or 負; 负零元整 is 0. A wrong
+ * character is among the first 41. */
 uint32_t chinese_signed_amount_read(const uint8_t *text, size_t text_length, cn_signed_amount *reading);
 
-/* Reads figures in yuan, in UTF-8, as an amount; nothing is rounded. These are figures, from the front:
- * - one minus, - or − (U+2212), or none;
- * - ¥ or none;
- * - digits without commas, or one to three digits and then, once or more, a comma and three digits;
- * - nothing, or a point and one or more digits, of which those behind the second are 0.
- * Digits, commas, points and ¥ may be full-width, and white space is at fault where it stands. Writes *reading whole at
- * each status, and nothing else.
+/* Reads figures in yuan, in UTF-8, as an amount; nothing is rounded. Figures consist, in this
+ * order, of:
+ * - optionally a minus, - or − (U+2212);
+ * - optionally ¥;
+ * - digits without commas, or one to three digits followed by one or more groups of a comma and
+ *   three digits;
+ * - optionally a point and one or more digits; digits after the second must be 0.
  *
- * Returns CN_DONE, CN_UNFINISHED (also for the empty text), CN_INCORRECT at the first character with which no figures
- * begin, CN_TOO_LARGE (10^18 fen or more, or -10^18 or less) or CN_NOT_UTF8. The whole text is tested to be UTF-8. */
+ * Digits, commas, points and ¥ may be full-width. White space is an error at its place. Writes all
+ * of *reading at each status, and nothing else.
+ *
+ * Returns CN_DONE, CN_UNFINISHED (also for the empty text), CN_INCORRECT at the first character
+ * with which no figures begin, CN_TOO_LARGE (10^18 fen or more, or -10^18 or less) or CN_NOT_UTF8.
+ * The call tests that the whole text is UTF-8. */
 uint32_t chinese_figures_read(const uint8_t *text, size_t text_length, cn_signed_amount *reading);
 
-/* What was read as a date: its year, month (1 is January) and day at CN_DONE, and at CN_INCORRECT how many characters and
- * how many bytes stand in front of the character at fault. All else is 0. */
+/* The result of reading a date: at CN_DONE the year, month (1 is January) and day; at CN_INCORRECT
+ * how many characters and how many bytes come before the wrong character. The other fields are
+ * 0. */
 typedef struct cn_date {
     uint32_t year;
     uint32_t month;
@@ -408,23 +474,24 @@ typedef struct cn_date {
     size_t byte_index;
 } cn_date;
 
-/* Prints a date in capitals, as it stands on a cheque, at the start of a room, in UTF-8: one of the Gregorian calendar, from
- * year 1 to 9999. Writes *length at each status: at CN_DONE and CN_NO_ROOM how many bytes the text has, else 0. Writes to
- * the room at CN_DONE alone, and there no more than the text.
+/* Prints a date of the Gregorian calendar, from year 1 to 9999, in capitals, as on a cheque, at the
+ * start of a buffer, in UTF-8. Writes *length at each status: at CN_DONE and CN_NO_ROOM how many
+ * bytes the text has, otherwise 0. Writes to the buffer only at CN_DONE, and then only the text.
  *
- * Returns CN_DONE, CN_NO_ROOM, CN_NOT_A_DATE or CN_UNKNOWN. A room of CN_MOST_DATE_BYTES is never too small. */
+ * Returns CN_DONE, CN_NO_ROOM, CN_NOT_A_DATE or CN_UNKNOWN. A buffer of CN_MOST_DATE_BYTES is never
+ * too small. */
 uint32_t chinese_date_print(uint32_t year, uint32_t month, uint32_t day, uint32_t script, uint8_t *room, size_t room_length,
                             size_t *length);
 
-/* Reads a text in capitals, in UTF-8, as a date. White space is at fault where it stands. Writes *reading whole at each
- * status, and nothing else.
+/* Reads a text in capitals, in UTF-8, as a date. White space is an error at its place. Writes all
+ * of *reading at each status, and nothing else.
  *
- * Returns CN_DONE, CN_UNFINISHED (also for the empty text), CN_INCORRECT at the first character with which no date begins,
- * or CN_NOT_UTF8. The whole text is tested to be UTF-8, and then read up to the character at fault, which is among the
- * first 14. */
+ * Returns CN_DONE, CN_UNFINISHED (also for the empty text), CN_INCORRECT at the first character
+ * with which no date begins, or CN_NOT_UTF8. The call tests that the whole text is UTF-8, and then
+ * reads up to the wrong character, which is among the first 14. */
 uint32_t chinese_date_read(const uint8_t *text, size_t text_length, cn_date *reading);
 
-/* The version of the library that is linked: CN_VERSION_NUMBER of its header. */
+/* The version of the linked library: CN_VERSION_NUMBER of its header. */
 uint32_t chinese_number_version(void);
 
 /* The halves of a number of an unsigned type of up to 64 bits. */
@@ -448,8 +515,8 @@ static inline const uint8_t *cn_bytes(const char *text, size_t text_length) {
     return CN_POINTER(const uint8_t, text_length == 0 ? "" : text);
 }
 
-/* chinese_number_read for a text in char. It may have zero bytes, which are no numeral; strlen(text) tells the length of
- * one that ends with the first. */
+/* chinese_number_read for a text in char. The text may contain zero bytes, which are not numerals;
+ * use strlen(text) for a text that ends at the first one. */
 CN_NODISCARD static inline cn_status cn_read(const char *text, size_t text_length, cn_kind kind, cn_way way,
                                              cn_reading *reading) {
     return CN_AS(cn_status, chinese_number_read(cn_bytes(text, text_length), text_length, kind, way, reading));
@@ -487,7 +554,7 @@ CN_NODISCARD static inline cn_status cn_read_date(const char *text, size_t text_
     return CN_AS(cn_status, chinese_date_read(cn_bytes(text, text_length), text_length, reading));
 }
 
-/* What is told of a search for one span, which is zeros where none is found. */
+/* Returns the status of a search for one span. If none is found, the span becomes zeros. */
 static inline cn_status cn_next(uint32_t status, size_t count, cn_span *span) {
     if (count != 0)
         return CN_DONE;
@@ -496,9 +563,9 @@ static inline cn_status cn_next(uint32_t status, size_t count, cn_span *span) {
     return status == CN_DONE ? CN_NONE : CN_AS(cn_status, status);
 }
 
-/* Finds the number of a text in char that comes next behind span->end; a span of zeros begins at the start of the text.
- * At CN_DONE the span says where in the whole text it stands, and else it is zeros. The text is tested at its start alone:
- * for a span that an earlier call wrote, it has to be the same text. */
+/* Finds the next number of a text in char after span->end; with a span of zeros, the first number.
+ * At CN_DONE the span is its place in the whole text, otherwise zeros. Only the first call tests
+ * the text: with a span that an earlier call wrote, the text must be the same. */
 CN_NODISCARD static inline cn_status cn_find_next(const char *text, size_t text_length, uint32_t upper,
                                                   cn_unit greatest, cn_span *span) {
     const uint8_t *bytes = cn_bytes(text, text_length);
@@ -508,7 +575,7 @@ CN_NODISCARD static inline cn_status cn_find_next(const char *text, size_t text_
     return cn_next(status, count, span);
 }
 
-/* Finds the expression that comes next behind span->end, likewise. */
+/* Finds the next expression after span->end, likewise. */
 CN_NODISCARD static inline cn_status cn_find_next_quantity(const char *text, size_t text_length, uint32_t upper,
                                                            cn_unit greatest, cn_span *span) {
     const uint8_t *bytes = cn_bytes(text, text_length);
@@ -519,13 +586,14 @@ CN_NODISCARD static inline cn_status cn_find_next_quantity(const char *text, siz
     return cn_next(status, count, span);
 }
 
-/* Why a reader may mean by the expression at a span something else than its quantity. */
+/* Why a reader may take the expression at a span for something other than its quantity. */
 static inline cn_doubt cn_doubt_of(const cn_span *span) {
     return CN_AS(cn_doubt, span->flags / 16);
 }
 
-/* Reads the number that stands at a span of a text: plain digits as such, and else by a method, where CN_ANY is
- * CN_TEN_THOUSAND. The span is one that a call that finds has written for this text, whose bytes are not tested again. */
+/* Reads the number at a span of a text: plain digits as such, anything else by a method, where
+ * CN_ANY means CN_TEN_THOUSAND. A search must have written the span for this text; its bytes are
+ * not tested again. */
 CN_NODISCARD static inline cn_status cn_read_found(const char *text, const cn_span *span, cn_kind kind, cn_way method,
                                                    cn_reading *reading) {
     const uint8_t *found = cn_bytes(text, span->end) + span->start;
@@ -534,25 +602,27 @@ CN_NODISCARD static inline cn_status cn_read_found(const char *text, const cn_sp
     return CN_AS(cn_status, chinese_number_read_utf8(found, span->end - span->start, kind, way, reading));
 }
 
-/* A room of char as the proved calls take it: in place of one without a byte, which may be NULL, another such one. */
+/* A buffer of char as the proved calls take it. One of length 0, which may be NULL, is replaced by
+ * `none`. */
 static inline uint8_t *cn_room(char *room, size_t room_length, uint8_t *none) {
     return room_length == 0 ? none : CN_POINTER(uint8_t, room);
 }
 
-/* How many bytes a text can have in a room that has its end too. */
+/* How many bytes a text can have in a buffer that also holds its zero byte. */
 static inline size_t cn_most_of_text(size_t room_length) {
     return room_length == 0 ? 0 : room_length - 1;
 }
 
-/* Puts a zero byte behind the text at CN_DONE, and else at the start of the room, where it has a byte. */
+/* Writes a zero byte after the text at CN_DONE, otherwise at the start of the buffer, if it is not
+ * empty. */
 static inline cn_status cn_ended(uint32_t status, char *room, size_t room_length, size_t length) {
     if (room_length != 0)
         room[status == CN_DONE ? length : 0] = '\0';
     return CN_AS(cn_status, status);
 }
 
-/* chinese_number_print into a room of char, with a zero byte at the end of the text: a room of CN_MOST_BYTES + 1 is never
- * too small. Where there is no text, the room has the empty one. */
+/* chinese_number_print into a buffer of char, with a zero byte after the text. A buffer of
+ * CN_MOST_BYTES + 1 is never too small. At other statuses the buffer contains the empty text. */
 CN_NODISCARD static inline cn_status cn_print(cn_number number, cn_kind kind, cn_way way, cn_script script,
                                               cn_case letter_case, char *room, size_t room_length) {
     uint8_t none;
@@ -562,7 +632,8 @@ CN_NODISCARD static inline cn_status cn_print(cn_number number, cn_kind kind, cn
     return cn_ended(status, room, room_length, length);
 }
 
-/* chinese_quantity_print into a room of char, likewise: one of CN_MOST_QUANTITY_BYTES + 1 is never too small. */
+/* chinese_quantity_print into a buffer of char, likewise. A buffer of CN_MOST_QUANTITY_BYTES + 1 is
+ * never too small. */
 CN_NODISCARD static inline cn_status cn_print_quantity(const cn_quantity *quantity, cn_way method, cn_script script,
                                                        cn_case letter_case, char *room, size_t room_length) {
     uint8_t none;
@@ -572,7 +643,8 @@ CN_NODISCARD static inline cn_status cn_print_quantity(const cn_quantity *quanti
     return cn_ended(status, room, room_length, length);
 }
 
-/* chinese_quantity_figures into a room of char, likewise: one of CN_MOST_FIGURES_BYTES + 1 is never too small. */
+/* chinese_quantity_figures into a buffer of char, likewise. A buffer of CN_MOST_FIGURES_BYTES + 1
+ * is never too small. */
 CN_NODISCARD static inline cn_status cn_quantity_figures(const cn_quantity *quantity, char *room, size_t room_length) {
     uint8_t none;
     size_t length, most = cn_most_of_text(room_length);
@@ -580,8 +652,8 @@ CN_NODISCARD static inline cn_status cn_quantity_figures(const cn_quantity *quan
     return cn_ended(status, room, room_length, length);
 }
 
-/* chinese_quantities_to_figures for a text in char, into a room of char, likewise: at CN_NO_ROOM one of *length + 1 is not
- * too small. */
+/* chinese_quantities_to_figures for a text in char, into a buffer of char, likewise. At CN_NO_ROOM,
+ * a buffer of *length + 1 is large enough. */
 CN_NODISCARD static inline cn_status cn_quantities_to_figures(const char *text, size_t text_length, uint32_t upper,
                                                               cn_unit greatest, cn_way method, uint32_t options,
                                                               char *room, size_t room_length, size_t *length) {
@@ -592,7 +664,8 @@ CN_NODISCARD static inline cn_status cn_quantities_to_figures(const char *text, 
     return cn_ended(status, room, room_length, *length);
 }
 
-/* chinese_amount_print into a room of char, likewise: one of CN_MOST_AMOUNT_BYTES + 1 is never too small. */
+/* chinese_amount_print into a buffer of char, likewise. A buffer of CN_MOST_AMOUNT_BYTES + 1 is
+ * never too small. */
 CN_NODISCARD static inline cn_status cn_print_amount(uint64_t fen, cn_script script, cn_form form, char *room,
                                                      size_t room_length) {
     uint8_t none;
@@ -601,7 +674,8 @@ CN_NODISCARD static inline cn_status cn_print_amount(uint64_t fen, cn_script scr
     return cn_ended(status, room, room_length, length);
 }
 
-/* chinese_signed_amount_print into a room of char, likewise: one of CN_MOST_SIGNED_AMOUNT_BYTES + 1 is never too small. */
+/* chinese_signed_amount_print into a buffer of char, likewise. A buffer of
+ * CN_MOST_SIGNED_AMOUNT_BYTES + 1 is never too small. */
 CN_NODISCARD static inline cn_status cn_print_signed_amount(int64_t fen, cn_script script, cn_form form, char *room,
                                                             size_t room_length) {
     uint8_t none;
@@ -610,7 +684,8 @@ CN_NODISCARD static inline cn_status cn_print_signed_amount(int64_t fen, cn_scri
     return cn_ended(status, room, room_length, length);
 }
 
-/* chinese_date_print into a room of char, likewise: one of CN_MOST_DATE_BYTES + 1 is never too small. */
+/* chinese_date_print into a buffer of char, likewise. A buffer of CN_MOST_DATE_BYTES + 1 is never
+ * too small. */
 CN_NODISCARD static inline cn_status cn_print_date(uint32_t year, uint32_t month, uint32_t day, cn_script script,
                                                    char *room, size_t room_length) {
     uint8_t none;

@@ -1,4 +1,4 @@
-// The types of chinese-number.mjs; tests/test_npm.py holds them against it.
+// The types of chinese-number.mjs; tests/test_npm.py compares them with it.
 
 /**
  * The version of this file and of the module.
@@ -11,19 +11,19 @@ export const KINDS: readonly ['u8', 'u16', 'u32', 'u64', 'u128', 'i8', 'i16', 'i
 
 /**
  * How a number is written: as plain digits (一二三), or with units (一百二十三) by one of four methods.
- * 'any' reads as plain digits what is those, and else by 'tenThousand', and writes what it reads
- * back: by 'middle' in the simplified script below 10 ** 16, so that 10 ** 12 is 一万亿, and else by
- * 'tenThousand'.
+ * 'any' reads plain digits as such, and anything else as 'tenThousand'. It can read back what it
+ * writes: in simplified script below 10 ** 16 it writes as 'middle', so that 10 ** 12 is 一万亿, and
+ * otherwise as 'tenThousand'.
  */
 export const WAYS: readonly ['digits', 'low', 'tenThousand', 'middle', 'high', 'any'];
 
-/** The methods: the ways with units, and 'any', by which an exact quantity is read and written. */
+/** The methods to read and write an exact quantity: the ways with units, and 'any'. */
 export const METHODS: readonly ['low', 'tenThousand', 'middle', 'high', 'any'];
 
 /** The scripts. */
 export const SCRIPTS: readonly ['traditional', 'simplified'];
 
-/** The cases: 'upper' has the characters of cheques. */
+/** The cases: 'upper' uses the characters of cheques. */
 export const CASES: readonly ['upper', 'lower'];
 
 /**
@@ -39,9 +39,9 @@ export const UNITS: readonly [
 export const QUANTITY_FORMS: readonly ['whole', 'decimal', 'percent', 'fraction'];
 
 /**
- * Why a reader may mean by an expression something else than its quantity:
+ * Why a reader may understand an expression as something other than its quantity:
  * - 'word': it is part of a word: 十二 of 十二指肠, 十一 of 双十一;
- * - 'digits': it is two or three Chinese digits, or more that rise: 五一, 一二三四;
+ * - 'digits': it is two or three Chinese digits, or more in rising order: 五一, 一二三四;
  * - 'term': it is part of a term: 负二 of 负二项, 十六 of 十六进制;
  * - 'part': it is part of an expression with 折, 成 or 半: 八五 of 八五折, 一 of 一个半;
  * - 'time': it may be a time: 三点五 of 下午三点五, 十点零五;
@@ -84,12 +84,13 @@ export type AmountCode = 'unfinished' | 'incorrect' | 'tooLarge' | 'tooSmall' | 
 export type DateCode = 'unfinished' | 'incorrect' | 'notADate';
 
 /**
- * Reads a numeral, and gives a Number: `toNumber('一百二')` is 120.
+ * Reads a numeral as a Number: `toNumber('一百二')` is 120.
  *
- * The number is one of a kind, 'i128' where none is named, and is read by a way, else 'any'. Throws
- * a NumeralError where the text is no numeral, its number does not fit the kind, or it is past
- * 2 ** 53 - 1 on either side, where a Number is not exact, with the code 'unsafe': that `toBigInt`
- * reads. Throws a TypeError where the text is no string, or an option or what it names is unknown.
+ * The kind is 'i128' by default, and the way 'any'. Throws a NumeralError if the text is not a
+ * numeral, or its number does not fit the kind. Throws a NumeralError with the code 'unsafe' if the
+ * number is past 2 ** 53 - 1 on either side of zero, where a Number is not exact; `toBigInt` reads
+ * such numbers. Throws a TypeError if the text is not a string, or an option or its value is
+ * unknown.
  *
  * @param {string} string
  * @param {ReadOptions} options
@@ -98,8 +99,8 @@ export type DateCode = 'unfinished' | 'incorrect' | 'notADate';
 export function toNumber(string: string, options?: ReadOptions): number;
 
 /**
- * Reads a numeral, and gives a BigInt: `toBigInt('一百二')` is 120n. It is read as by `toNumber`, but
- * that no number is 'unsafe'.
+ * Reads a numeral as a BigInt: `toBigInt('一百二')` is 120n. It reads like `toNumber`, but never
+ * throws 'unsafe'.
  *
  * @param {string} string
  * @param {ReadOptions} options
@@ -108,13 +109,11 @@ export function toNumber(string: string, options?: ReadOptions): number;
 export function toBigInt(string: string, options?: ReadOptions): bigint;
 
 /**
- * The text of a number: `toChinese(120)` is '一百二十'. The number is a BigInt, or a whole Number that
- * is exact.
+ * Writes a number: `toChinese(120)` is '一百二十'. The number is a BigInt or a safe integer.
  *
- * It is one of a kind, 'i128' where none is named, and is written by a way, else 'any', in a script,
- * else 'simplified', and a case, else 'lower'. Throws a NumeralError where the kind does not hold the
- * number or the way has no text for it, and a TypeError where it is no such number, or an option or
- * what it names is unknown.
+ * The defaults are the kind 'i128', the way 'any', the script 'simplified' and the case 'lower'.
+ * Throws a NumeralError if the kind does not hold the number or the way cannot write it. Throws a
+ * TypeError if the number is of another type, or an option or its value is unknown.
  *
  * @param {bigint | number} number
  * @param {PrintOptions} options
@@ -123,13 +122,13 @@ export function toBigInt(string: string, options?: ReadOptions): bigint;
 export function toChinese(number: bigint | number, options?: PrintOptions): string;
 
 /**
- * An amount of money in capitals, as it stands on a cheque: `amountToChinese(1500)` is '壹拾伍元整'.
+ * Writes an amount of money in capitals, as on a cheque: `amountToChinese(1500)` is '壹拾伍元整'.
  *
- * The amount is given in fen, the hundredth part of a yuan, as a BigInt or a whole Number that is
- * exact, and is written in a script, else 'simplified'. With `currency` true 人民币 stands in front;
- * `yuan` is '元', or '圆', and `closing` is '整', or '正'. Throws an AmountError where the amount is
- * below zero or 10n ** 18n or more, and a TypeError where it is no such number, or an option or
- * what it names is unknown.
+ * The amount is in fen, hundredths of a yuan, as a BigInt or a safe integer. The script is
+ * 'simplified' by default. `currency: true` adds the prefix 人民币; `yuan` is '元' by default, or '圆';
+ * `closing` is '整' by default, or '正'. Throws an AmountError if the amount is below zero, or
+ * 10n ** 18n or more. Throws a TypeError if the amount is of another type, or an option or its value
+ * is unknown.
  *
  * @param {bigint | number} fen
  * @param {AmountOptions} options
@@ -138,11 +137,11 @@ export function toChinese(number: bigint | number, options?: PrintOptions): stri
 export function amountToChinese(fen: bigint | number, options?: AmountOptions): string;
 
 /**
- * An amount in capitals that may be below zero, as on a red invoice: `signedAmountToChinese(-1500)`
- * is '负壹拾伍元整', in the traditional script '負壹拾伍元整'.
+ * Writes an amount in capitals that may be negative, as on a red invoice:
+ * `signedAmountToChinese(-1500)` is '负壹拾伍元整', in traditional script '負壹拾伍元整'.
  *
- * It is written as by `amountToChinese`, behind 负 where it is below zero. Throws an AmountError
- * where it is 10n ** 18n or more, or -(10n ** 18n) or less.
+ * It writes like `amountToChinese`, with the prefix 负 if the amount is below zero. Throws an
+ * AmountError if the amount is 10n ** 18n or more, or -(10n ** 18n) or less.
  *
  * @param {bigint | number} fen
  * @param {AmountOptions} options
@@ -151,12 +150,12 @@ export function amountToChinese(fen: bigint | number, options?: AmountOptions): 
 export function signedAmountToChinese(fen: bigint | number, options?: AmountOptions): string;
 
 /**
- * Reads an amount of money in capitals, and gives its fen as a Number: `chineseToAmount('壹拾伍元整')`
- * is 1500.
+ * Reads an amount of money in capitals, and returns its fen as a Number:
+ * `chineseToAmount('壹拾伍元整')` is 1500.
  *
- * Throws an AmountError where the text is none, or its fen are past 2 ** 53 - 1, where a Number is
- * not exact, with the code 'unsafe': that `chineseToAmountBigInt` reads. Throws a TypeError where
- * the text is no string. White space is refused like any other character.
+ * Throws an AmountError if the text is not an amount. The code is 'unsafe' if the fen are past
+ * 2 ** 53 - 1, where a Number is not exact; `chineseToAmountBigInt` reads such amounts. Throws a
+ * TypeError if the text is not a string. White space is refused like any other character.
  *
  * @param {string} string
  * @returns {number}
@@ -164,7 +163,7 @@ export function signedAmountToChinese(fen: bigint | number, options?: AmountOpti
 export function chineseToAmount(string: string): number;
 
 /**
- * Reads an amount of money in capitals, as `chineseToAmount` does, and gives its fen as a BigInt:
+ * Reads an amount of money in capitals, as `chineseToAmount` does, and returns its fen as a BigInt:
  * `chineseToAmountBigInt('壹拾伍元整')` is 1500n.
  *
  * @param {string} string
@@ -173,9 +172,9 @@ export function chineseToAmount(string: string): number;
 export function chineseToAmountBigInt(string: string): bigint;
 
 /**
- * Reads an amount in capitals that may be below zero: `chineseToSignedAmount('负壹拾伍元整')` is -1500.
+ * Reads an amount in capitals that may be negative: `chineseToSignedAmount('负壹拾伍元整')` is -1500.
  *
- * It is read as by `chineseToAmount`, behind one 负 or 負 or none; 负零元整 is 0.
+ * It reads like `chineseToAmount`, with or without one prefix 负 or 負; 负零元整 is 0.
  *
  * @param {string} string
  * @returns {number}
@@ -183,7 +182,7 @@ export function chineseToAmountBigInt(string: string): bigint;
 export function chineseToSignedAmount(string: string): number;
 
 /**
- * Reads an amount in capitals, as `chineseToSignedAmount` does, and gives its fen as a BigInt:
+ * Reads an amount in capitals, as `chineseToSignedAmount` does, and returns its fen as a BigInt:
  * `chineseToSignedAmountBigInt('负壹拾伍元整')` is -1500n.
  *
  * @param {string} string
@@ -194,8 +193,8 @@ export function chineseToSignedAmountBigInt(string: string): bigint;
 /**
  * Reads an amount in capitals as people type it: `chineseToAmountAsTyped('人民币：壹拾 伍元整')` is 1500.
  *
- * It is read as by `chineseToAmount`, without all white space, one ⊗ in front, and one : or ：
- * directly behind 人民币 in front. The place of an error is that in the string as it is typed.
+ * It reads like `chineseToAmount`, but ignores white space, then one ⊗ at the start, and then one
+ * : or ： directly after a leading 人民币. The place of an error is in the string as it is typed.
  *
  * @param {string} string
  * @returns {number}
@@ -203,7 +202,7 @@ export function chineseToSignedAmountBigInt(string: string): bigint;
 export function chineseToAmountAsTyped(string: string): number;
 
 /**
- * Reads an amount in capitals, as `chineseToAmountAsTyped` does, and gives its fen as a BigInt:
+ * Reads an amount in capitals, as `chineseToAmountAsTyped` does, and returns its fen as a BigInt:
  * `chineseToAmountAsTypedBigInt('⊗壹拾伍元整')` is 1500n.
  *
  * @param {string} string
@@ -212,17 +211,17 @@ export function chineseToAmountAsTyped(string: string): number;
 export function chineseToAmountAsTypedBigInt(string: string): bigint;
 
 /**
- * The fen of an amount in yuan, exactly, as a Number: `yuanToFen('1,409.50')` is 140950, and
+ * Converts yuan to fen exactly, and returns a Number: `yuanToFen('1,409.50')` is 140950, and
  * `yuanToFen(15)` is 1500.
  *
  * The amount is a string of figures, a BigInt or a whole Number. Figures are digits, with a comma
- * in front of each three of them from the point or with none; ¥ may stand in front, and in front of
- * all a minus, - or −. Behind a point stand digits, of which those behind the second are 0. All of
- * these but the minus may be full-width. Nothing is rounded, and white space is refused.
+ * before each group of three or without commas, after an optional minus (- or −) and an optional ¥.
+ * A point may follow, with one or more digits; from the third on they must be 0. All of these
+ * except the minus may be full-width. Nothing is rounded, and white space is refused.
  *
- * Throws an AmountError for any other text, for 10n ** 16n yuan or more on either side of zero, or
- * where the fen are past 2 ** 53 - 1, with the code 'unsafe': these `yuanToFenBigInt` gives. Throws
- * a TypeError for what is none of the three, as 15.5, which holds no exact amount.
+ * Throws an AmountError for any other text, and for 10n ** 16n yuan or more on either side of zero.
+ * The code is 'unsafe' if the fen are past 2 ** 53 - 1; `yuanToFenBigInt` returns such amounts.
+ * Throws a TypeError for other types and for numbers such as 15.5, which are not exact amounts.
  *
  * @param {string | bigint | number} yuan
  * @returns {number}
@@ -230,7 +229,7 @@ export function chineseToAmountAsTypedBigInt(string: string): bigint;
 export function yuanToFen(yuan: string | bigint | number): number;
 
 /**
- * The fen of an amount in yuan, as by `yuanToFen`, as a BigInt: `yuanToFenBigInt('1,409.50')` is
+ * Converts yuan to fen, as `yuanToFen` does, and returns a BigInt: `yuanToFenBigInt('1,409.50')` is
  * 140950n.
  *
  * @param {string | bigint | number} yuan
@@ -239,13 +238,13 @@ export function yuanToFen(yuan: string | bigint | number): number;
 export function yuanToFenBigInt(yuan: string | bigint | number): bigint;
 
 /**
- * A date in capitals, as it stands on a cheque: `dateToChinese({ year: 2026, month: 1, day: 15 })`
- * is '贰零贰陆年零壹月壹拾伍日'.
+ * Writes a date in capitals, as on a cheque: `dateToChinese({ year: 2026, month: 1, day: 15 })` is
+ * '贰零贰陆年零壹月壹拾伍日'.
  *
- * The date is an object with three whole Numbers of its own, and is written in a script, else
- * 'simplified'. A Date is not taken: it is an instant, and no day of the calendar before a time
- * zone is named. Throws a DateError where there is no such day in the Gregorian calendar from year
- * 1 to 9999, and a TypeError where it is no such object, or an option or what it names is unknown.
+ * The date is an object with three whole Numbers as its own properties. The script is 'simplified'
+ * by default. A Date is not accepted: it is an instant, whose day depends on the time zone. Throws
+ * a DateError if the Gregorian calendar has no such day in the years 1 to 9999. Throws a TypeError
+ * if the date is of another type, or an option or its value is unknown.
  *
  * @param {BillDate} date
  * @param {ScriptOptions} options
@@ -257,8 +256,8 @@ export function dateToChinese(date: BillDate, options?: ScriptOptions): string;
  * Reads a date in capitals: `chineseToDate('贰零贰陆年零壹月壹拾伍日')` is
  * { year: 2026, month: 1, day: 15 }.
  *
- * Throws a DateError where the text is none, and a TypeError where it is no string. White space is
- * refused like any other character.
+ * Throws a DateError if the text is not a date, and a TypeError if it is not a string. White space
+ * is refused like any other character.
  *
  * @param {string} string
  * @returns {BillDate}
@@ -266,14 +265,13 @@ export function dateToChinese(date: BillDate, options?: ScriptOptions): string;
 export function chineseToDate(string: string): BillDate;
 
 /**
- * Finds the numbers of a text, in order, and gives them one by one: of '第二十三回' that is 二十三, from
- * 1 to 4.
+ * Finds the numbers of a text, and yields them in order: in '第二十三回', 二十三 from 1 to 4.
  *
- * A number is a longest stretch of characters that can stand in one; whether it can be read, its
- * `value()` says. Looked for are digits, and units up to the `greatest`, else 'zhao', which is 兆;
- * and the characters of cheques where `upper` is true. Sentences are not understood: 一起 has a 1 in
- * it. Throws a TypeError where the text is no string, or an option or what it names is unknown. The
- * whole text is searched by the call.
+ * A number is a longest run of characters that can be in one; its `value()` says whether it can be
+ * read. The characters are digits, units up to `greatest` ('zhao', which is 兆, by default), and
+ * with `upper: true` those of cheques. Sentences are not understood: 一起 contains a 1. Throws a
+ * TypeError if the text is not a string, or an option or its value is unknown. The call itself
+ * searches the whole text.
  *
  * @param {string} string
  * @param {Wanted} options
@@ -282,13 +280,14 @@ export function chineseToDate(string: string): BillDate;
 export function findNumbers(string: string, options?: Wanted): Generator<Found, void, undefined>;
 
 /**
- * Reads an exact quantity, as it is written: that of '3.5万' is 350000/10, a decimal, of '12.5%'
- * 125/1000, and of '三分之一' 1/3.
+ * Reads an exact quantity, as it is written: '3.5万' is the decimal 350000/10, '12.5%' is 125/1000,
+ * and '三分之一' is 1/3.
  *
- * It is a whole number, a decimal, a percentage or a fraction, in figures, in numerals or in both,
- * with one sign in front or none; white space is left out. It is read by a method, else by 'any',
- * which is 'tenThousand' here. Throws a NumeralError where the text is none or its numbers are too large, and a
- * TypeError where it is no string, or an option or what it names is unknown.
+ * A quantity is a whole number, a decimal, a percentage or a fraction, in figures, in numerals or
+ * in both, with or without one leading sign; white space is ignored. The method is 'any' by
+ * default, which means 'tenThousand' here. Throws a NumeralError if the text is not a quantity or
+ * its numbers are too large, and a TypeError if it is not a string, or an option or its value is
+ * unknown.
  *
  * @param {string} string
  * @param {MethodOptions} options
@@ -298,7 +297,7 @@ export function toQuantity(string: string, options?: MethodOptions): Quantity;
 
 /**
  * Finds the expressions of a text, as `findNumbers` finds its numbers: numbers with their sign,
- * figures, point and units, percentages and fractions. Of '占12.5%，共3.5万' these are 12.5% and 3.5万.
+ * figures, point and units, percentages and fractions. In '占12.5%，共3.5万' these are 12.5% and 3.5万.
  *
  * @param {string} string
  * @param {Wanted} options
@@ -310,14 +309,14 @@ export function findQuantities(
 ): Generator<FoundQuantity, void, undefined>;
 
 /**
- * Puts other texts in the place of the expressions of a text: with `(found) =>
- * found.quantity().toChinese()` '占12.5%' becomes '占百分之十二点五'.
+ * Replaces the expressions of a text: with `(found) => found.quantity().toChinese()` '占12.5%'
+ * becomes '占百分之十二点五'.
  *
- * Each expression that `findQuantities` finds, and `toQuantity` reads by the method, is handed to a
- * function, which gives the text that stands in its place, or undefined, and then it stays. Those
- * that are about so much, one Chinese character or doubtful stay too, unless `about`,
- * `oneCharacter` or `doubtful` is true; those with the doubt 'part' always. Throws what the function
- * throws, and a TypeError where it gives anything else, or as `findQuantities` does.
+ * Calls a function for each expression that `findQuantities` finds and `toQuantity` reads by the
+ * method. The function returns the text that replaces it, or undefined to keep it. Expressions that
+ * are approximate, one Chinese character or doubtful stay, unless `about`, `oneCharacter` or
+ * `doubtful` is true; those with the doubt 'part' always stay. Throws what the function throws, a
+ * TypeError if it returns anything else, and what `findQuantities` throws.
  *
  * @param {string} string
  * @param {(found: FoundQuantity) => string | undefined} replacement
@@ -331,16 +330,16 @@ export function replaceQuantities(
 ): string;
 
 /**
- * Puts figures in the place of the numerals of a text, as an editor does:
- * '市值三点五亿元，占百分之十二点五' becomes '市值3.5亿元，占12.5%'.
+ * Rewrites the numerals of a text in figures, as an editor does: '市值三点五亿元，占百分之十二点五'
+ * becomes '市值3.5亿元，占12.5%'.
  *
- * What already is in figures stays, and so does what `toQuantity` refuses; what is about so much,
- * one Chinese character or doubtful, unless `about`, `oneCharacter` or `doubtful` is true; what has
- * the doubt 'part'; a part of a name, an address or another number; 千分之五 and 二又五分之三; and the
- * other parts of a date, a time, a length, an amount or a range of which one part stays. With
- * `expanded` no great unit is kept: 三千五百亿 and 3500亿 become 350000000000. With `canonical`
- * figures are rewritten in ASCII, without commas and leading zeros. All else of the text stays.
- * Throws a TypeError as `findQuantities` does.
+ * These stay: figures; what `toQuantity` refuses; approximate expressions, single Chinese
+ * characters and doubtful expressions, unless `about`, `oneCharacter` or `doubtful` is true;
+ * expressions with the doubt 'part'; a part of a name, an address or another number; 千分之五 and
+ * 二又五分之三; all of a date, a time, a length, an amount or a range of which one part stays; and the
+ * rest of the text. `expanded` writes out 万, 亿 and so on: 三千五百亿 and 3500亿 become
+ * 350000000000. `canonical` rewrites figures in ASCII, without commas and leading zeros. Throws a
+ * TypeError as `findQuantities` does.
  *
  * @param {string} string
  * @param {FiguresOptions} options
@@ -348,36 +347,36 @@ export function replaceQuantities(
  */
 export function quantitiesToFigures(string: string, options?: FiguresOptions): string;
 
-/** A refusal, with the place of the character at fault where there is one. */
+/** A refusal, with the place of the wrong character if there is one. */
 declare class Refusal extends Error {
   /**
    * @param {string} message
    * @param {Place} [place]
    */
   constructor(message: string, place?: Place);
-  /** At 'incorrect': how many characters stand in front of the one at fault. */
+  /** For 'incorrect': how many characters come before the wrong one. */
   charIndex: number | undefined;
   /**
-   * At 'incorrect': where it starts in the string, in UTF-16 code units, as setSelectionRange and
+   * For 'incorrect': where it starts in the string, in UTF-16 code units, as setSelectionRange and
    * slice take it.
    */
   start: number | undefined;
-  /** At 'incorrect': where it ends, likewise. */
+  /** For 'incorrect': where it ends, likewise. */
   end: number | undefined;
 }
 
 /**
- * Why a text was not read, or a number or a quantity not printed.
+ * A text could not be read as a number or quantity, or a number or quantity could not be written.
  *
  * `code` is
- * - 'empty': nothing is left of the text without its white space and, for a signed type, one sign;
- * - 'incorrect': a character cannot stand where it stands;
- * - 'tooLarge', 'tooSmall': the number read does not fit the type, or by 'low' the number has no
- *   text;
- * - 'unsafe': the number read is no safe integer, so a Number does not hold it exactly;
- * - 'notHeld': the type does not hold the number that is to be printed, or a number of a quantity;
+ * - 'empty': the text is empty without its white space and, for a signed type, one sign;
+ * - 'incorrect': a character cannot be at its place;
+ * - 'tooLarge', 'tooSmall': the number read does not fit the type, or 'low' cannot write the
+ *   number;
+ * - 'unsafe': the number read is not a safe integer, so a Number does not hold it exactly;
+ * - 'notHeld': the type does not hold the number to write, or a number of a quantity;
  * - 'notAQuantity': the denominator is 0;
- * - 'outOfMemory': the host has no memory for the text, which may be that of any call.
+ * - 'outOfMemory': the host has no memory for the text; any call can throw this.
  */
 export class NumeralError extends Refusal {
   /**
@@ -388,22 +387,22 @@ export class NumeralError extends Refusal {
   constructor(code: NumeralCode, kind?: Kind, place?: Place);
   code: NumeralCode;
   /**
-   * The integer type that the number was to have; of a quantity that is read or written, and at
-   * 'outOfMemory', none is named.
+   * The integer type of the number; undefined if a quantity was read or written, and for
+   * 'outOfMemory'.
    */
   kind: Kind | undefined;
 }
 
 /**
- * Why a text was not read as an amount of money, or an amount not written.
+ * A text could not be read as an amount of money, or an amount could not be written.
  *
  * `code` is
- * - 'unfinished': the text is no amount, and something behind it can make it one, as '壹佰元';
- * - 'incorrect': no amount begins with the text up to and with a character;
- * - 'unsafe': the fen are no safe integer, so a Number does not hold them exactly;
- * - 'tooLarge': the amount is 10n ** 18n fen or more, and so is that of figures behind a minus;
- * - 'tooSmall': the amount to be written is -(10n ** 18n) fen or less, or is below zero and written
- *   by `amountToChinese`.
+ * - 'unfinished': the text is not an amount, but more text can make it one, as for '壹佰元';
+ * - 'incorrect': no amount begins with the text up to and including a character;
+ * - 'unsafe': the fen are not a safe integer, so a Number does not hold them exactly;
+ * - 'tooLarge': the amount is 10n ** 18n fen or more, or figures after a minus are that large;
+ * - 'tooSmall': the amount to write is -(10n ** 18n) fen or less, or `amountToChinese` got a
+ *   negative amount.
  */
 export class AmountError extends Refusal {
   /**
@@ -415,12 +414,12 @@ export class AmountError extends Refusal {
 }
 
 /**
- * Why a text was not read as a date, or a date not written.
+ * A text could not be read as a date, or a date could not be written.
  *
  * `code` is
- * - 'unfinished': the text is no date, and something behind it can make it one;
- * - 'incorrect': no date begins with the text up to and with a character;
- * - 'notADate': there is no such date to be written.
+ * - 'unfinished': the text is not a date, but more text can make it one;
+ * - 'incorrect': no date begins with the text up to and including a character;
+ * - 'notADate': the date to write does not exist.
  */
 export class DateError extends Refusal {
   /**
@@ -432,25 +431,25 @@ export class DateError extends Refusal {
 }
 
 /**
- * An exact quantity, as it is written and not reduced: 12.5% is 125/1000, of the form 'percent'.
+ * An exact quantity, as it is written and not reduced: 12.5% is 125/1000 with the form 'percent'.
  *
- * The numerator may be below 0, and the denominator is above it; both have at most 128 bits. A
- * quantity does not change. `toQuantity` reads one of a text, as of '-3.50'; `Quantity.decimal`,
- * `Quantity.percent` and `Quantity.fraction` make one of numbers. These, and the constructor, throw
- * a NumeralError where the denominator is 0 or a number has more bits, and a TypeError where a
- * number is no BigInt and no whole Number that is exact, or there is no such form.
+ * The numerator may be negative, and the denominator is above 0; both have at most 128 bits. A
+ * quantity is immutable. `toQuantity` reads one from a text, such as '-3.50'; `Quantity.decimal`,
+ * `Quantity.percent` and `Quantity.fraction` make one from numbers. These and the constructor throw
+ * a NumeralError if the denominator is 0 or a number has more bits, and a TypeError if a number is
+ * neither a BigInt nor a safe integer, or the form is unknown.
  */
 export class Quantity {
   /**
-   * A number with so many decimals, from 0 to 38: `Quantity.decimal(314, 2)` is 3.14, and
-   * `Quantity.decimal(3)` is 3, which is 'whole'.
+   * Makes a number with 0 to 38 decimals: `Quantity.decimal(314, 2)` is 3.14, and
+   * `Quantity.decimal(3)` is 3, with the form 'whole'.
    *
    * @param {bigint | number} numerator
    * @param {number} decimals
    */
   static decimal(numerator: bigint | number, decimals?: number): Quantity;
   /**
-   * A percentage with so many decimals, from 0 to 36: `Quantity.percent(125, 1)` is 12.5%, and
+   * Makes a percentage with 0 to 36 decimals: `Quantity.percent(125, 1)` is 12.5%, and
    * `Quantity.percent(5)` is 5%.
    *
    * @param {bigint | number} numerator
@@ -458,7 +457,7 @@ export class Quantity {
    */
   static percent(numerator: bigint | number, decimals?: number): Quantity;
   /**
-   * A fraction: `Quantity.fraction(1, 3)` is 三分之一.
+   * Makes a fraction: `Quantity.fraction(1, 3)` is 三分之一.
    *
    * @param {bigint | number} numerator
    * @param {bigint | number} denominator
@@ -477,44 +476,44 @@ export class Quantity {
   /** How it is written. */
   readonly form: QuantityForm;
   /**
-   * Whether another one has the same numerator, denominator and form.
+   * Whether another quantity has the same numerator, denominator and form.
    *
    * @param {Quantity} other
    */
   equals(other: Quantity): boolean;
   /**
-   * The whole number that it is, as a BigInt, or null where it is none: 35000n of 3.5万, and null of
-   * 3.5.
+   * The value as a BigInt, or null if it is not a whole number: 35000n for 3.5万, null for 3.5.
    */
   toWhole(): bigint | null;
   /**
-   * The same quantity without the zeros at the end of its decimals: 3.10 is 3.1, and 3.5万 35000,
-   * which is 'whole'. A fraction stays, and so does what has no denominator of its form.
+   * The same quantity without the zeros at the end of its decimals: 3.10 becomes 3.1, and 3.5万
+   * becomes 35000, with the form 'whole'. A fraction stays the same, and so does a quantity whose
+   * denominator does not match its form.
    */
   trimmed(): Quantity;
   /**
-   * Its text, which `toQuantity` reads by the same method as the same numerator and denominator:
-   * 三点一四 of 3.14, 百分之十二点五 of 12.5%, 三分之一 of 1/3. What has no denominator of its form is
-   * written as a fraction.
+   * Writes the quantity: 3.14 as 三点一四, 12.5% as 百分之十二点五, 1/3 as 三分之一. `toQuantity` reads
+   * the text by the same method as the same numerator and denominator. A quantity whose denominator
+   * does not match its form is written as a fraction.
    *
-   * It is written by a method, else 'any', in a script, else 'simplified', and a case, else 'lower'.
-   * 'any' goes by the greatest number that is spelled. Throws a NumeralError where 'low' has no text
-   * for one of its numbers, and a TypeError where an option or what it names is unknown.
+   * The defaults are the method 'any', the script 'simplified' and the case 'lower'. 'any' chooses
+   * the method by the greatest number that is spelled. Throws a NumeralError if 'low' cannot write
+   * one of its numbers, and a TypeError if an option or its value is unknown.
    *
    * @param {QuantityOptions} options
    * @returns {string}
    */
   toChinese(options?: QuantityOptions): string;
   /**
-   * Its figures, without zeros at the end of its decimals: '35000' of 3.5万, '-3.5', '12.5%', '1/3',
-   * and '50%' of 百分之五十.
+   * Writes the quantity in figures, without zeros at the end of its decimals: '35000' for 3.5万,
+   * '-3.5', '12.5%', '1/3', and '50%' for 百分之五十.
    *
    * @returns {string}
    */
   toFigures(): string;
 }
 
-/** Where a number or an expression stands in a text, and what is reported of it. */
+/** The place of a number or an expression in a text, and what is reported about it. */
 declare class Span {
   /**
    * @param {number} start
@@ -528,23 +527,23 @@ declare class Span {
   start: number;
   /** Where it ends, likewise. */
   end: number;
-  /** Its own text. */
+  /** The text of the number or expression itself. */
   text: string;
   /** Whether it is plain digits: 二零二五 is, 十 is not. */
   isPlain: boolean;
-  /** Whether it goes on to neither side: 二十三 of 第二十三回 does not, the 4 of A4 does. */
+  /** Whether it continues on neither side: 二十三 in 第二十三回 stands alone, the 4 in A4 does not. */
   standsAlone: boolean;
-  /** Whether it is about so much, as 十 of 十几, and 五六. */
+  /** Whether it is approximate, such as 十 in 十几, and 五六. */
   isAbout: boolean;
-  /** Whether it is one Chinese character, as 一 of 一般. */
+  /** Whether it is one Chinese character, such as 一 in 一般. */
   isOneCharacter: boolean;
 }
 
-/** A number in its text, as findNumbers gives it. */
+/** A number in a text, as findNumbers yields it. */
 export class Found extends Span {
   /**
-   * The number, as toNumber reads its text: as plain digits where it is those, else by the way that
-   * is named, where 'any' is 'tenThousand'.
+   * Reads the number as toNumber does: plain digits as such, anything else by the given way, where
+   * 'any' means 'tenThousand'.
    *
    * Throws what toNumber throws; a place counts within the number's own text.
    *
@@ -553,15 +552,15 @@ export class Found extends Span {
    */
   number(options?: ReadOptions): number;
   /**
-   * The number as a BigInt, as toBigInt reads its text.
+   * Reads the number as a BigInt, as toBigInt does.
    *
    * @param {ReadOptions} options
    * @returns {bigint}
    */
   bigInt(options?: ReadOptions): bigint;
   /**
-   * The number, or null where it has none that is a Number: where its text is refused, as 百 of
-   * 百分之五十, or the number is no safe integer. Else throws what `number` throws.
+   * The number, or null if its text is refused, such as 百 in 百分之五十, or the number is not a safe
+   * integer. Otherwise throws what `number` throws.
    *
    * @param {ReadOptions} options
    * @returns {number | null}
@@ -569,15 +568,15 @@ export class Found extends Span {
   value(options?: ReadOptions): number | null;
 }
 
-/** An expression in its text, as findQuantities gives it. */
+/** An expression in a text, as findQuantities yields it. */
 export class FoundQuantity extends Span {
   /**
-   * Why a reader may mean something else than its quantity, or null: 'digits' of 五一.
+   * Why a reader may understand it as something other than its quantity, or null: 'digits' for 五一.
    * @type {Doubt | null}
    */
   doubt: Doubt | null;
   /**
-   * The quantity, as toQuantity reads its text.
+   * Reads the expression as toQuantity does.
    *
    * Throws what toQuantity throws; a place counts within the expression's own text.
    *
@@ -586,7 +585,8 @@ export class FoundQuantity extends Span {
    */
   quantity(options?: MethodOptions): Quantity;
   /**
-   * The quantity, or null where its text is refused, as 五六十. Else throws what `quantity` throws.
+   * The quantity, or null if its text is refused, such as 五六十. Otherwise throws what `quantity`
+   * throws.
    *
    * @param {MethodOptions} options
    * @returns {Quantity | null}

@@ -1,4 +1,4 @@
-// Chinese numerals, read and printed by the proved library, which is a WebAssembly module.
+// Reads, writes and finds Chinese numerals with the proved library, which is a WebAssembly module.
 //
 //     toNumber('一百二')                                120
 //     toBigInt('一澗')                                  10n ** 36n
@@ -12,9 +12,9 @@
 //     Quantity.fraction(1, 3).toChinese()             '三分之一'
 //     quantitiesToFigures('市值三点五亿元')           '市值3.5亿元'
 //
-// What gives a Number gives only one that is exact, a safe integer, and has a second name for the
-// BigInt: there `BigInt` stands for `Number`, or at the end. The module takes no memory of its own:
-// this file lends it what lies past its __heap_base.
+// A call that returns a Number returns only safe integers, which are exact. Each has a variant that
+// returns a BigInt, with `BigInt` in the name instead of `Number`, or at the end. The module
+// allocates no memory: this file lends it the memory past its __heap_base.
 
 import { compiled } from './compiled.mjs';
 
@@ -24,7 +24,7 @@ import { compiled } from './compiled.mjs';
  */
 export const VERSION = '0.1.0';
 
-// Each list is in the order of the codes that the module has for these names.
+// Each list is in the order of the module's codes for these names.
 
 /** The integer types. */
 export const KINDS = Object.freeze(/** @type {const} */ (
@@ -32,21 +32,21 @@ export const KINDS = Object.freeze(/** @type {const} */ (
 
 /**
  * How a number is written: as plain digits (一二三), or with units (一百二十三) by one of four methods.
- * 'any' reads as plain digits what is those, and else by 'tenThousand', and writes what it reads
- * back: by 'middle' in the simplified script below 10 ** 16, so that 10 ** 12 is 一万亿, and else by
- * 'tenThousand'.
+ * 'any' reads plain digits as such, and anything else as 'tenThousand'. It can read back what it
+ * writes: in simplified script below 10 ** 16 it writes as 'middle', so that 10 ** 12 is 一万亿, and
+ * otherwise as 'tenThousand'.
  */
 export const WAYS = Object.freeze(/** @type {const} */ (
   ['digits', 'low', 'tenThousand', 'middle', 'high', 'any']));
 
-/** The methods: the ways with units, and 'any', by which an exact quantity is read and written. */
+/** The methods to read and write an exact quantity: the ways with units, and 'any'. */
 export const METHODS = Object.freeze(/** @type {const} */ (
   ['low', 'tenThousand', 'middle', 'high', 'any']));
 
 /** The scripts. */
 export const SCRIPTS = Object.freeze(/** @type {const} */ (['traditional', 'simplified']));
 
-/** The cases: 'upper' has the characters of cheques. */
+/** The cases: 'upper' uses the characters of cheques. */
 export const CASES = Object.freeze(/** @type {const} */ (['upper', 'lower']));
 
 /**
@@ -62,9 +62,9 @@ export const QUANTITY_FORMS = Object.freeze(/** @type {const} */ (
   ['whole', 'decimal', 'percent', 'fraction']));
 
 /**
- * Why a reader may mean by an expression something else than its quantity:
+ * Why a reader may understand an expression as something other than its quantity:
  * - 'word': it is part of a word: 十二 of 十二指肠, 十一 of 双十一;
- * - 'digits': it is two or three Chinese digits, or more that rise: 五一, 一二三四;
+ * - 'digits': it is two or three Chinese digits, or more in rising order: 五一, 一二三四;
  * - 'term': it is part of a term: 负二 of 负二项, 十六 of 十六进制;
  * - 'part': it is part of an expression with 折, 成 or 半: 八五 of 八五折, 一 of 一个半;
  * - 'time': it may be a time: 三点五 of 下午三点五, 十点零五;
@@ -77,12 +77,12 @@ const STATUSES = /** @type {Array<any>} */ (
   ['done', 'empty', 'incorrect', 'tooLarge', 'tooSmall', 'notUtf8', 'noRoom', 'notHeld', 'unknown',
     'unfinished', 'none', 'notADate', 'notAQuantity']);
 
-// The bits of what is reported of a number or an expression that was found, each twice the one
-// before. Above them is the code of a doubt: its place in DOUBTS from 1 on, or 0 for none.
+// The flags of a number or an expression that was found: each bit is twice the one before. The bits
+// above them are the code of a doubt: its place in DOUBTS, counted from 1, or 0 for none.
 const FLAGS = ['plainDigits', 'standsAlone', 'about', 'oneCharacter'];
 const [PLAIN_DIGITS, STANDS_ALONE, ABOUT, ONE_CHARACTER] = FLAGS.map((_, bit) => 1 << bit);
 const DOUBT = FLAGS.length;
-// The bits of the options of quantitiesToFigures, with the two last ones of these.
+// The bits of the options of quantitiesToFigures, which also has the last two flags.
 const OPTIONS = ['doubtful', 'expanded', 'canonical'];
 const [DOUBTFUL, EXPANDED, CANONICAL] = OPTIONS.map((_, bit) => 1 << DOUBT + bit);
 
@@ -91,8 +91,8 @@ const DIGITS = WAYS.indexOf('digits'), FIRST_METHOD = WAYS.indexOf('low');
 const TEN_THOUSAND = WAYS.indexOf('tenThousand'), ANY = WAYS.indexOf('any');
 const FIRST_SIGNED = KINDS.indexOf('i8');
 
-// An option, which has one of these names, else the usual one. The last one that a call named is
-// kept with its code, since most name it again.
+// An option with its possible names and its default. The name of the last call is kept with its
+// code, since most calls use the same name again.
 /** @param {string} what @param {readonly string[]} names @param {string} usual */
 function option(what, names, usual) {
   const code = names.indexOf(usual);
@@ -110,7 +110,7 @@ const UNIT = option('unit', UNITS, 'zhao');
 const QUANTITY_FORM = option('form', QUANTITY_FORMS, 'whole');
 const NO_OPTIONS = {};
 
-/** @type {Record<string, (name: string) => boolean>} Whether a call has an option of a name. */
+/** @type {Record<string, (name: string) => boolean>} Whether a call has an option with a name. */
 const HAS = {
   reading: (it) => it === 'kind' || it === 'way',
   printing: (it) => it === 'kind' || it === 'way' || it === 'script' || it === 'case',
@@ -157,7 +157,7 @@ const MESSAGES = {
   incorrect: 'the chinese number is incorrect',
   tooLarge: 'number is too large',
   tooSmall: 'number is too small',
-  notHeld: 'does not hold the number', // behind the name of the kind
+  notHeld: 'does not hold the number', // after the name of the kind
   unsafe: 'a Number does not hold the number exactly',
   notAQuantity: 'the denominator is 0',
   outOfMemory: 'out of memory',
@@ -177,7 +177,7 @@ const DATE_MESSAGES = {
   notADate: 'there is no such date',
 };
 
-/** A refusal, with the place of the character at fault where there is one. */
+/** A refusal, with the place of the wrong character if there is one. */
 class Refusal extends Error {
   /**
    * @param {string} message
@@ -185,30 +185,30 @@ class Refusal extends Error {
    */
   constructor(message, place) {
     super(place ? `${message} (position: ${place.charIndex})` : message);
-    /** At 'incorrect': how many characters stand in front of the one at fault. */
+    /** For 'incorrect': how many characters come before the wrong one. */
     this.charIndex = place?.charIndex;
     /**
-     * At 'incorrect': where it starts in the string, in UTF-16 code units, as setSelectionRange and
-     * slice take it.
+     * For 'incorrect': where it starts in the string, in UTF-16 code units, as setSelectionRange
+     * and slice take it.
      */
     this.start = place?.start;
-    /** At 'incorrect': where it ends, likewise. */
+    /** For 'incorrect': where it ends, likewise. */
     this.end = place?.end;
   }
 }
 
 /**
- * Why a text was not read, or a number or a quantity not printed.
+ * A text could not be read as a number or quantity, or a number or quantity could not be written.
  *
  * `code` is
- * - 'empty': nothing is left of the text without its white space and, for a signed type, one sign;
- * - 'incorrect': a character cannot stand where it stands;
- * - 'tooLarge', 'tooSmall': the number read does not fit the type, or by 'low' the number has no
- *   text;
- * - 'unsafe': the number read is no safe integer, so a Number does not hold it exactly;
- * - 'notHeld': the type does not hold the number that is to be printed, or a number of a quantity;
+ * - 'empty': the text is empty without its white space and, for a signed type, one sign;
+ * - 'incorrect': a character cannot be at its place;
+ * - 'tooLarge', 'tooSmall': the number read does not fit the type, or 'low' cannot write the
+ *   number;
+ * - 'unsafe': the number read is not a safe integer, so a Number does not hold it exactly;
+ * - 'notHeld': the type does not hold the number to write, or a number of a quantity;
  * - 'notAQuantity': the denominator is 0;
- * - 'outOfMemory': the host has no memory for the text, which may be that of any call.
+ * - 'outOfMemory': the host has no memory for the text; any call can throw this.
  */
 export class NumeralError extends Refusal {
   /**
@@ -221,23 +221,23 @@ export class NumeralError extends Refusal {
     this.name = 'NumeralError';
     this.code = code;
     /**
-     * The integer type that the number was to have; of a quantity that is read or written, and at
-     * 'outOfMemory', none is named.
+     * The integer type of the number; undefined if a quantity was read or written, and for
+     * 'outOfMemory'.
      */
     this.kind = kind;
   }
 }
 
 /**
- * Why a text was not read as an amount of money, or an amount not written.
+ * A text could not be read as an amount of money, or an amount could not be written.
  *
  * `code` is
- * - 'unfinished': the text is no amount, and something behind it can make it one, as '壹佰元';
- * - 'incorrect': no amount begins with the text up to and with a character;
- * - 'unsafe': the fen are no safe integer, so a Number does not hold them exactly;
- * - 'tooLarge': the amount is 10n ** 18n fen or more, and so is that of figures behind a minus;
- * - 'tooSmall': the amount to be written is -(10n ** 18n) fen or less, or is below zero and written
- *   by `amountToChinese`.
+ * - 'unfinished': the text is not an amount, but more text can make it one, as for '壹佰元';
+ * - 'incorrect': no amount begins with the text up to and including a character;
+ * - 'unsafe': the fen are not a safe integer, so a Number does not hold them exactly;
+ * - 'tooLarge': the amount is 10n ** 18n fen or more, or figures after a minus are that large;
+ * - 'tooSmall': the amount to write is -(10n ** 18n) fen or less, or `amountToChinese` got a
+ *   negative amount.
  */
 export class AmountError extends Refusal {
   /**
@@ -252,12 +252,12 @@ export class AmountError extends Refusal {
 }
 
 /**
- * Why a text was not read as a date, or a date not written.
+ * A text could not be read as a date, or a date could not be written.
  *
  * `code` is
- * - 'unfinished': the text is no date, and something behind it can make it one;
- * - 'incorrect': no date begins with the text up to and with a character;
- * - 'notADate': there is no such date to be written.
+ * - 'unfinished': the text is not a date, but more text can make it one;
+ * - 'incorrect': no date begins with the text up to and including a character;
+ * - 'notADate': the date to write does not exist.
  */
 export class DateError extends Refusal {
   /**
@@ -271,23 +271,24 @@ export class DateError extends Refusal {
   }
 }
 
-/** @returns {any} What an instance of the module exports, where that has this file's version. */
+/** @returns {any} The exports of a new instance of the module, with this file's version. */
 function instance() {
   const { exports } = new WebAssembly.Instance(compiled);
   const [major, minor, patch] = VERSION.split('.').map(Number);
   const wanted = major * 1_000_000 + minor * 1000 + patch;
   const found = /** @type {any} */ (exports).chinese_number_version?.();
-  if (found !== wanted) throw new Error(`the module is of version ${found}, and not ${wanted}`);
-  return { ...exports }; // found sooner in an object of one's own
+  if (found !== wanted) throw new Error(`the module has version ${found}, not ${wanted}`);
+  return { ...exports }; // lookups are faster in an ordinary object
 }
 
 let library = instance();
-// Whether a call has begun and not ended: it trapped, as on a full stack of the host, or there was
-// no memory. The next one has a new instance then, since this one's may be half written.
+// Whether a call has begun and not ended, because it trapped (for example on a stack overflow of
+// the host) or there was no memory. The next call then uses a new instance, since this one's memory
+// may be half written.
 let isInside = false;
 
-// What is lent: a quantity (56 bytes; a reading, an amount and a date fit there too), a length (8),
-// spans (24 each) and the text. In both modules a size has 8 bytes.
+// The memory that is lent: a quantity (56 bytes; a reading, an amount and a date fit there too), a
+// length (8), spans (24 each) and the text. In both modules a size has 8 bytes.
 const READING = Math.ceil(Number(library.__heap_base.value) / 16) * 16;
 const LENGTH = READING + 56;
 const SPANS = LENGTH + 8;
@@ -304,20 +305,20 @@ const MOST_PRINTED = Number(MOST_BYTES);
 const PAGE = 65536;
 const MOST_KEPT = 2 ** 24;
 const encoder = new TextEncoder(), decoder = new TextDecoder('utf-8', { ignoreBOM: true });
-// How many code units are written sooner one by one than by the encoder.
+// Up to this many code units, writing them one by one is faster than the encoder.
 const FEW = 40;
-// For each number of code units that a printed text may have, a list that is filled with them.
+// For each number of code units that a printed text may have, a list to fill with them.
 const UNITS_OF = Array.from({ length: MOST_PRINTED / 3 + 1 }, (_, it) => Array(it).fill(0));
 /** @type {BigInt64Array} The quantity (or reading, amount or date) and the length. */
 let words;
-/** @type {Int32Array} The halves of these and of the spans, each lower one first. */
+/** @type {Int32Array} The halves of these and of the spans, the lower half first. */
 let halves;
-// Where parts of these stand.
+// The places of parts of these.
 const FORM_HALF = 8, LENGTH_WORD = 7, LENGTH_HALF = 14, SPANS_HALF = 16;
 /** @type {Uint8Array} */
 let text = new Uint8Array(0);
 
-/** @param {number} bytes So many of text are lent to a call, which goes through `ended`. */
+/** @param {number} bytes How many bytes of text are lent to a call, which then passes `ended`. */
 function lend(bytes) {
   if (isInside || bytes >= text.length || text.length > MOST_KEPT) makeRoom(bytes);
   isInside = true;
@@ -325,14 +326,14 @@ function lend(bytes) {
 
 /** @param {number} bytes */
 function makeRoom(bytes) {
-  // Memory is never taken from an instance: one with much of it is left by the next short text.
+  // The memory of an instance never shrinks, so the next short text replaces an instance with much.
   if (isInside || (text.length > MOST_KEPT && bytes < MOST_KEPT)) {
     isInside = true;
     library = instance();
   }
   const { memory } = library, missing = TEXT + bytes - memory.buffer.byteLength;
   if (missing > 0) grow(memory, Math.ceil(missing / PAGE));
-  // A memory that has grown has another buffer, and so has that of a new instance.
+  // A memory has a new buffer after it grows, and so has a new instance.
   words = new BigInt64Array(memory.buffer, READING, LENGTH_WORD + 1);
   halves = new Int32Array(memory.buffer, READING, (TEXT - READING) / 4);
   text = new Uint8Array(memory.buffer, TEXT);
@@ -347,8 +348,8 @@ function ended(status) {
 /** @param {any} memory @param {number} pages */
 function grow(memory, pages) {
   try {
-    // A 64-bit memory counts its pages by a BigInt, though early hosts and 32-bit memories do so by
-    // a Number.
+    // A 64-bit memory counts its pages with a BigInt, but early hosts and 32-bit memories use a
+    // Number.
     try {
       memory.grow(BigInt(pages));
     } catch (error) {
@@ -360,12 +361,12 @@ function grow(memory, pages) {
   }
 }
 
-// Writes a string where the module reads it, and as the length how many bytes it has there. It is
-// UTF-8, with half a surrogate pair as U+FFFD, so the module need not test it. Behind it there is
-// room for so many bytes.
+// Writes a string where the module reads it, as UTF-8, and its length in bytes. Half of a surrogate
+// pair becomes U+FFFD, so the text is UTF-8 and the module need not test it. After the text there
+// is a buffer of `room` bytes.
 /** @param {string} string @param {number} room */
 function hand(string, room = 0) {
-  if (typeof string !== 'string') throw new TypeError('a text is a string');
+  if (typeof string !== 'string') throw new TypeError('expected a string');
   lend(3 * string.length + room);
   halves[LENGTH_HALF] = string.length > FEW ? encoded(string) : written(string);
 }
@@ -393,8 +394,8 @@ function written(string) {
   return at;
 }
 
-// Where a character is at fault in the string, whose bytes are those of the text: a word tells how
-// many characters stand in front of it, and the next one how many bytes.
+// The place in the string of the wrong character. A word of the reading counts the characters
+// before it, and the next word the bytes.
 /** @param {number} status @param {number} word */
 function placeOf(status, word) {
   if (STATUSES[status] !== 'incorrect') return undefined;
@@ -413,21 +414,21 @@ function printed() {
   return String.fromCharCode.apply(null, units);
 }
 
-// A Number becomes a BigInt sooner by its halves.
+// Converting a Number to a BigInt is faster through its halves.
 const whole = new BigInt64Array(1), halvesOfWhole = new Int32Array(whole.buffer);
 
 /** @param {bigint | number} number */
 function wholeOf(number) {
   if (typeof number === 'bigint') return number;
   if (!Number.isSafeInteger(number)) {
-    throw new TypeError('a number, or the fen of an amount, is a BigInt or a safe whole Number');
+    throw new TypeError('expected a BigInt or a safe integer');
   }
   halvesOfWhole[0] = number;
   halvesOfWhole[1] = Math.floor(number / 2 ** 32);
   return whole[0];
 }
 
-// The bits of a number above the lowest 64, where a kind of 128 bits holds it.
+// The bits of a number above the lowest 64, if a kind of 128 bits holds it.
 /** @param {bigint | number} number @param {number} kind */
 function highOf(number, kind) {
   const isSigned = kind >= FIRST_SIGNED;
@@ -438,7 +439,7 @@ function highOf(number, kind) {
   return high;
 }
 
-/** The first word of the reading as a Number, which is exact where it is a safe integer. */
+/** The first word of the reading as a Number, which is exact if it is a safe integer. */
 const firstWord = () => halves[1] * 2 ** 32 + (halves[0] >>> 0);
 
 /** @param {ReturnType<typeof option>} option @param {string | undefined} name */
@@ -451,7 +452,7 @@ function codeOf(option, name) {
 function codeAmong(option, name) {
   const { what, names } = option, code = names.indexOf(name);
   if (code < 0) {
-    throw new TypeError(`${what} is one of ${names.join(', ')}, and not ${String(name)}`);
+    throw new TypeError(`${what} must be one of ${names.join(', ')}, not ${String(name)}`);
   }
   Object.assign(option, { last: name, code });
   return code;
@@ -460,30 +461,31 @@ function codeAmong(option, name) {
 /** @param {boolean | undefined} it @param {string} name */
 function flagOf(it, name) {
   if (it === undefined) return 0;
-  if (typeof it !== 'boolean') throw new TypeError(`${name} is true or false`);
+  if (typeof it !== 'boolean') throw new TypeError(`${name} must be true or false`);
   return Number(it);
 }
 
-// Options that a call has not are refused, so that none is passed over in silence.
+// Refuses unknown options, so that none is ignored silently.
 /** @param {object} options @param {(name: string) => boolean} has */
 function refuseOthers(options, has) {
   if (options === NO_OPTIONS) return;
   if (typeof options !== 'object' || options === null || Array.isArray(options)) {
-    throw new TypeError('options are an object');
+    throw new TypeError('options must be an object');
   }
   for (const it in options) {
     if (has(it) || !Object.keys(options).includes(it)) continue;
-    throw new TypeError(`no option is named ${it}`);
+    throw new TypeError(`unknown option ${it}`);
   }
 }
 
 /**
- * Reads a numeral, and gives a Number: `toNumber('一百二')` is 120.
+ * Reads a numeral as a Number: `toNumber('一百二')` is 120.
  *
- * The number is one of a kind, 'i128' where none is named, and is read by a way, else 'any'. Throws
- * a NumeralError where the text is no numeral, its number does not fit the kind, or it is past
- * 2 ** 53 - 1 on either side, where a Number is not exact, with the code 'unsafe': that `toBigInt`
- * reads. Throws a TypeError where the text is no string, or an option or what it names is unknown.
+ * The kind is 'i128' by default, and the way 'any'. Throws a NumeralError if the text is not a
+ * numeral, or its number does not fit the kind. Throws a NumeralError with the code 'unsafe' if the
+ * number is past 2 ** 53 - 1 on either side of zero, where a Number is not exact; `toBigInt` reads
+ * such numbers. Throws a TypeError if the text is not a string, or an option or its value is
+ * unknown.
  *
  * @param {string} string
  * @param {ReadOptions} options
@@ -494,8 +496,8 @@ export function toNumber(string, options = NO_OPTIONS) {
 }
 
 /**
- * Reads a numeral, and gives a BigInt: `toBigInt('一百二')` is 120n. It is read as by `toNumber`, but
- * that no number is 'unsafe'.
+ * Reads a numeral as a BigInt: `toBigInt('一百二')` is 120n. It reads like `toNumber`, but never
+ * throws 'unsafe'.
  *
  * @param {string} string
  * @param {ReadOptions} options
@@ -505,8 +507,8 @@ export function toBigInt(string, options = NO_OPTIONS) {
   return wholeNumber(readNumeral(string, options, false, ANY));
 }
 
-// Has the module read a numeral, and gives the code of its kind. It is read by its digits where it is
-// plain, and else by the way, where 'any' stands for the way with a code.
+// Reads a numeral with the module, and returns the code of its kind. A plain numeral is read as
+// digits, any other by the way; `any` is the code of the way that 'any' means.
 /**
  * @param {string} string
  * @param {ReadOptions} options
@@ -523,7 +525,7 @@ function readNumeral(string, options, isPlain, any) {
   return kind;
 }
 
-/** @param {number} kind That of the number that was read. */
+/** @param {number} kind The kind of the number that was read. */
 function safeNumber(kind) {
   const number = firstWord(), sign = number < 0 ? -1 : 0;
   const isHeld = halves[2] === sign && halves[3] === sign && (sign === 0 || kind >= FIRST_SIGNED);
@@ -531,7 +533,7 @@ function safeNumber(kind) {
   return number;
 }
 
-/** @param {number} kind That of a number that was read. @param {number} word Where it begins. */
+/** @param {number} kind The kind of a number read. @param {number} word Where it begins. */
 function wholeNumber(kind, word = 0) {
   const low = BigInt.asUintN(64, words[word]);
   if (halves[2 * word + 2] === 0 && halves[2 * word + 3] === 0) return low;
@@ -540,13 +542,11 @@ function wholeNumber(kind, word = 0) {
 }
 
 /**
- * The text of a number: `toChinese(120)` is '一百二十'. The number is a BigInt, or a whole Number that
- * is exact.
+ * Writes a number: `toChinese(120)` is '一百二十'. The number is a BigInt or a safe integer.
  *
- * It is one of a kind, 'i128' where none is named, and is written by a way, else 'any', in a script,
- * else 'simplified', and a case, else 'lower'. Throws a NumeralError where the kind does not hold the
- * number or the way has no text for it, and a TypeError where it is no such number, or an option or
- * what it names is unknown.
+ * The defaults are the kind 'i128', the way 'any', the script 'simplified' and the case 'lower'.
+ * Throws a NumeralError if the kind does not hold the number or the way cannot write it. Throws a
+ * TypeError if the number is of another type, or an option or its value is unknown.
  *
  * @param {bigint | number} number
  * @param {PrintOptions} options
@@ -566,13 +566,13 @@ export function toChinese(number, options = NO_OPTIONS) {
 }
 
 /**
- * An amount of money in capitals, as it stands on a cheque: `amountToChinese(1500)` is '壹拾伍元整'.
+ * Writes an amount of money in capitals, as on a cheque: `amountToChinese(1500)` is '壹拾伍元整'.
  *
- * The amount is given in fen, the hundredth part of a yuan, as a BigInt or a whole Number that is
- * exact, and is written in a script, else 'simplified'. With `currency` true 人民币 stands in front;
- * `yuan` is '元', or '圆', and `closing` is '整', or '正'. Throws an AmountError where the amount is
- * below zero or 10n ** 18n or more, and a TypeError where it is no such number, or an option or
- * what it names is unknown.
+ * The amount is in fen, hundredths of a yuan, as a BigInt or a safe integer. The script is
+ * 'simplified' by default. `currency: true` adds the prefix 人民币; `yuan` is '元' by default, or '圆';
+ * `closing` is '整' by default, or '正'. Throws an AmountError if the amount is below zero, or
+ * 10n ** 18n or more. Throws a TypeError if the amount is of another type, or an option or its value
+ * is unknown.
  *
  * @param {bigint | number} fen
  * @param {AmountOptions} options
@@ -583,11 +583,11 @@ export function amountToChinese(fen, options = NO_OPTIONS) {
 }
 
 /**
- * An amount in capitals that may be below zero, as on a red invoice: `signedAmountToChinese(-1500)`
- * is '负壹拾伍元整', in the traditional script '負壹拾伍元整'.
+ * Writes an amount in capitals that may be negative, as on a red invoice:
+ * `signedAmountToChinese(-1500)` is '负壹拾伍元整', in traditional script '負壹拾伍元整'.
  *
- * It is written as by `amountToChinese`, behind 负 where it is below zero. Throws an AmountError
- * where it is 10n ** 18n or more, or -(10n ** 18n) or less.
+ * It writes like `amountToChinese`, with the prefix 负 if the amount is below zero. Throws an
+ * AmountError if the amount is 10n ** 18n or more, or -(10n ** 18n) or less.
  *
  * @param {bigint | number} fen
  * @param {AmountOptions} options
@@ -598,7 +598,7 @@ export function signedAmountToChinese(fen, options = NO_OPTIONS) {
 }
 
 /**
- * The capitals that a call of the module writes of fen.
+ * Writes fen in capitals with a call of the module.
  * @param {bigint | number} fen
  * @param {AmountOptions} options
  * @param {string} name
@@ -608,7 +608,7 @@ function capitalsOf(fen, options, name, most) {
   refuseOthers(options, HAS.amounts);
   const script = scriptOf(options), form = formOf(options), whole = wholeOf(fen);
   const isBelow = fen < 0;
-  // The module is handed 64 bits, which have to hold the fen.
+  // The module takes 64 bits, which must hold the fen.
   if ((isBelow && name === 'chinese_amount_print') || BigInt.asIntN(64, whole) !== whole) {
     throw new AmountError(isBelow ? 'tooSmall' : 'tooLarge');
   }
@@ -621,7 +621,7 @@ function capitalsOf(fen, options, name, most) {
 /** @param {ScriptOptions} options */
 const scriptOf = (options) => codeOf(SCRIPT, options.script);
 
-// The form of an amount: a bit for each of its options that is not as it is without them.
+// The form of an amount: a bit for each option that differs from its default.
 /** @param {AmountOptions} options */
 function formOf(options) {
   return flagOf(options.currency, 'currency') + 2 * codeOf(YUAN, options.yuan)
@@ -629,12 +629,12 @@ function formOf(options) {
 }
 
 /**
- * Reads an amount of money in capitals, and gives its fen as a Number: `chineseToAmount('壹拾伍元整')`
- * is 1500.
+ * Reads an amount of money in capitals, and returns its fen as a Number:
+ * `chineseToAmount('壹拾伍元整')` is 1500.
  *
- * Throws an AmountError where the text is none, or its fen are past 2 ** 53 - 1, where a Number is
- * not exact, with the code 'unsafe': that `chineseToAmountBigInt` reads. Throws a TypeError where
- * the text is no string. White space is refused like any other character.
+ * Throws an AmountError if the text is not an amount. The code is 'unsafe' if the fen are past
+ * 2 ** 53 - 1, where a Number is not exact; `chineseToAmountBigInt` reads such amounts. Throws a
+ * TypeError if the text is not a string. White space is refused like any other character.
  *
  * @param {string} string
  * @returns {number}
@@ -644,7 +644,7 @@ export function chineseToAmount(string) {
 }
 
 /**
- * Reads an amount of money in capitals, as `chineseToAmount` does, and gives its fen as a BigInt:
+ * Reads an amount of money in capitals, as `chineseToAmount` does, and returns its fen as a BigInt:
  * `chineseToAmountBigInt('壹拾伍元整')` is 1500n.
  *
  * @param {string} string
@@ -655,9 +655,9 @@ export function chineseToAmountBigInt(string) {
 }
 
 /**
- * Reads an amount in capitals that may be below zero: `chineseToSignedAmount('负壹拾伍元整')` is -1500.
+ * Reads an amount in capitals that may be negative: `chineseToSignedAmount('负壹拾伍元整')` is -1500.
  *
- * It is read as by `chineseToAmount`, behind one 负 or 負 or none; 负零元整 is 0.
+ * It reads like `chineseToAmount`, with or without one prefix 负 or 負; 负零元整 is 0.
  *
  * @param {string} string
  * @returns {number}
@@ -667,7 +667,7 @@ export function chineseToSignedAmount(string) {
 }
 
 /**
- * Reads an amount in capitals, as `chineseToSignedAmount` does, and gives its fen as a BigInt:
+ * Reads an amount in capitals, as `chineseToSignedAmount` does, and returns its fen as a BigInt:
  * `chineseToSignedAmountBigInt('负壹拾伍元整')` is -1500n.
  *
  * @param {string} string
@@ -680,8 +680,8 @@ export function chineseToSignedAmountBigInt(string) {
 /**
  * Reads an amount in capitals as people type it: `chineseToAmountAsTyped('人民币：壹拾 伍元整')` is 1500.
  *
- * It is read as by `chineseToAmount`, without all white space, one ⊗ in front, and one : or ：
- * directly behind 人民币 in front. The place of an error is that in the string as it is typed.
+ * It reads like `chineseToAmount`, but ignores white space, then one ⊗ at the start, and then one
+ * : or ： directly after a leading 人民币. The place of an error is in the string as it is typed.
  *
  * @param {string} string
  * @returns {number}
@@ -691,7 +691,7 @@ export function chineseToAmountAsTyped(string) {
 }
 
 /**
- * Reads an amount in capitals, as `chineseToAmountAsTyped` does, and gives its fen as a BigInt:
+ * Reads an amount in capitals, as `chineseToAmountAsTyped` does, and returns its fen as a BigInt:
  * `chineseToAmountAsTypedBigInt('⊗壹拾伍元整')` is 1500n.
  *
  * @param {string} string
@@ -702,17 +702,17 @@ export function chineseToAmountAsTypedBigInt(string) {
 }
 
 /**
- * The fen of an amount in yuan, exactly, as a Number: `yuanToFen('1,409.50')` is 140950, and
+ * Converts yuan to fen exactly, and returns a Number: `yuanToFen('1,409.50')` is 140950, and
  * `yuanToFen(15)` is 1500.
  *
  * The amount is a string of figures, a BigInt or a whole Number. Figures are digits, with a comma
- * in front of each three of them from the point or with none; ¥ may stand in front, and in front of
- * all a minus, - or −. Behind a point stand digits, of which those behind the second are 0. All of
- * these but the minus may be full-width. Nothing is rounded, and white space is refused.
+ * before each group of three or without commas, after an optional minus (- or −) and an optional ¥.
+ * A point may follow, with one or more digits; from the third on they must be 0. All of these
+ * except the minus may be full-width. Nothing is rounded, and white space is refused.
  *
- * Throws an AmountError for any other text, for 10n ** 16n yuan or more on either side of zero, or
- * where the fen are past 2 ** 53 - 1, with the code 'unsafe': these `yuanToFenBigInt` gives. Throws
- * a TypeError for what is none of the three, as 15.5, which holds no exact amount.
+ * Throws an AmountError for any other text, and for 10n ** 16n yuan or more on either side of zero.
+ * The code is 'unsafe' if the fen are past 2 ** 53 - 1; `yuanToFenBigInt` returns such amounts.
+ * Throws a TypeError for other types and for numbers such as 15.5, which are not exact amounts.
  *
  * @param {string | bigint | number} yuan
  * @returns {number}
@@ -722,7 +722,7 @@ export function yuanToFen(yuan) {
 }
 
 /**
- * The fen of an amount in yuan, as by `yuanToFen`, as a BigInt: `yuanToFenBigInt('1,409.50')` is
+ * Converts yuan to fen, as `yuanToFen` does, and returns a BigInt: `yuanToFenBigInt('1,409.50')` is
  * 140950n.
  *
  * @param {string | bigint | number} yuan
@@ -735,15 +735,15 @@ export function yuanToFenBigInt(yuan) {
 /** @param {string | bigint | number} yuan */
 function figuresOf(yuan) {
   if (typeof yuan === 'number' && !Number.isSafeInteger(yuan)) {
-    throw new TypeError('a Number of yuan is whole, and at most 2 ** 53 - 1: give a string');
+    throw new TypeError('a Number of yuan must be a safe integer; for others, give a string');
   }
   if (!['string', 'bigint', 'number'].includes(typeof yuan)) {
-    throw new TypeError('an amount is a string of figures, a BigInt or a whole Number');
+    throw new TypeError('expected a string of figures, a BigInt or a whole Number');
   }
   return String(yuan);
 }
 
-// The fen that a call of the module reads of a string.
+// Reads fen from a string with a call of the module.
 /** @param {string} string @param {string} name */
 function fenOf(string, name) {
   hand(string);
@@ -761,13 +761,13 @@ function safeFenOf(string, name) {
 }
 
 /**
- * A date in capitals, as it stands on a cheque: `dateToChinese({ year: 2026, month: 1, day: 15 })`
- * is '贰零贰陆年零壹月壹拾伍日'.
+ * Writes a date in capitals, as on a cheque: `dateToChinese({ year: 2026, month: 1, day: 15 })` is
+ * '贰零贰陆年零壹月壹拾伍日'.
  *
- * The date is an object with three whole Numbers of its own, and is written in a script, else
- * 'simplified'. A Date is not taken: it is an instant, and no day of the calendar before a time
- * zone is named. Throws a DateError where there is no such day in the Gregorian calendar from year
- * 1 to 9999, and a TypeError where it is no such object, or an option or what it names is unknown.
+ * The date is an object with three whole Numbers as its own properties. The script is 'simplified'
+ * by default. A Date is not accepted: it is an instant, whose day depends on the time zone. Throws
+ * a DateError if the Gregorian calendar has no such day in the years 1 to 9999. Throws a TypeError
+ * if the date is of another type, or an option or its value is unknown.
  *
  * @param {BillDate} date
  * @param {ScriptOptions} options
@@ -776,12 +776,12 @@ function safeFenOf(string, name) {
 export function dateToChinese(date, options = NO_OPTIONS) {
   refuseOthers(options, HAS.dates);
   const script = scriptOf(options);
-  // What is its own alone, since a class may count the years of another calendar.
+  // Only its own properties, since a class may count the years of another calendar.
   const { year, month, day } = { ...date };
   if (!Number.isInteger(year) || !Number.isInteger(month) || !Number.isInteger(day)) {
-    throw new TypeError('a date is an object with a year, month and day, and no Date');
+    throw new TypeError('expected an object with year, month and day, not a Date');
   }
-  // The module is handed 32 bits of each.
+  // The module takes 32 bits of each.
   if (year >>> 0 !== year || month >>> 0 !== month || day >>> 0 !== day) {
     throw new DateError('notADate');
   }
@@ -796,8 +796,8 @@ export function dateToChinese(date, options = NO_OPTIONS) {
  * Reads a date in capitals: `chineseToDate('贰零贰陆年零壹月壹拾伍日')` is
  * { year: 2026, month: 1, day: 15 }.
  *
- * Throws a DateError where the text is none, and a TypeError where it is no string. White space is
- * refused like any other character.
+ * Throws a DateError if the text is not a date, and a TypeError if it is not a string. White space
+ * is refused like any other character.
  *
  * @param {string} string
  * @returns {BillDate}
@@ -811,20 +811,20 @@ export function chineseToDate(string) {
 
 // The numbers of a quantity are of these kinds.
 const NUMERATOR = KINDS.indexOf('i128'), DENOMINATOR = KINDS.indexOf('u128');
-// The denominators of the forms that have decimals, and that without decimals.
+// For each form with decimals, its denominators, and the denominator without decimals.
 const WITH_DECIMALS = {
   decimal: { denominators: /^10+$/, least: 1n },
   percent: { denominators: /^100+$/, least: 100n },
 };
 
 /**
- * An exact quantity, as it is written and not reduced: 12.5% is 125/1000, of the form 'percent'.
+ * An exact quantity, as it is written and not reduced: 12.5% is 125/1000 with the form 'percent'.
  *
- * The numerator may be below 0, and the denominator is above it; both have at most 128 bits. A
- * quantity does not change. `toQuantity` reads one of a text, as of '-3.50'; `Quantity.decimal`,
- * `Quantity.percent` and `Quantity.fraction` make one of numbers. These, and the constructor, throw
- * a NumeralError where the denominator is 0 or a number has more bits, and a TypeError where a
- * number is no BigInt and no whole Number that is exact, or there is no such form.
+ * The numerator may be negative, and the denominator is above 0; both have at most 128 bits. A
+ * quantity is immutable. `toQuantity` reads one from a text, such as '-3.50'; `Quantity.decimal`,
+ * `Quantity.percent` and `Quantity.fraction` make one from numbers. These and the constructor throw
+ * a NumeralError if the denominator is 0 or a number has more bits, and a TypeError if a number is
+ * neither a BigInt nor a safe integer, or the form is unknown.
  */
 export class Quantity {
   /**
@@ -844,8 +844,8 @@ export class Quantity {
   }
 
   /**
-   * A number with so many decimals, from 0 to 38: `Quantity.decimal(314, 2)` is 3.14, and
-   * `Quantity.decimal(3)` is 3, which is 'whole'.
+   * Makes a number with 0 to 38 decimals: `Quantity.decimal(314, 2)` is 3.14, and
+   * `Quantity.decimal(3)` is 3, with the form 'whole'.
    *
    * @param {bigint | number} numerator
    * @param {number} decimals
@@ -855,7 +855,7 @@ export class Quantity {
   }
 
   /**
-   * A percentage with so many decimals, from 0 to 36: `Quantity.percent(125, 1)` is 12.5%, and
+   * Makes a percentage with 0 to 36 decimals: `Quantity.percent(125, 1)` is 12.5%, and
    * `Quantity.percent(5)` is 5%.
    *
    * @param {bigint | number} numerator
@@ -866,7 +866,7 @@ export class Quantity {
   }
 
   /**
-   * A fraction: `Quantity.fraction(1, 3)` is 三分之一.
+   * Makes a fraction: `Quantity.fraction(1, 3)` is 三分之一.
    *
    * @param {bigint | number} numerator
    * @param {bigint | number} denominator
@@ -876,7 +876,7 @@ export class Quantity {
   }
 
   /**
-   * Whether another one has the same numerator, denominator and form.
+   * Whether another quantity has the same numerator, denominator and form.
    *
    * @param {Quantity} other
    */
@@ -886,8 +886,7 @@ export class Quantity {
   }
 
   /**
-   * The whole number that it is, as a BigInt, or null where it is none: 35000n of 3.5万, and null of
-   * 3.5.
+   * The value as a BigInt, or null if it is not a whole number: 35000n for 3.5万, null for 3.5.
    */
   toWhole() {
     const { numerator, denominator } = this;
@@ -895,8 +894,9 @@ export class Quantity {
   }
 
   /**
-   * The same quantity without the zeros at the end of its decimals: 3.10 is 3.1, and 3.5万 35000,
-   * which is 'whole'. A fraction stays, and so does what has no denominator of its form.
+   * The same quantity without the zeros at the end of its decimals: 3.10 becomes 3.1, and 3.5万
+   * becomes 35000, with the form 'whole'. A fraction stays the same, and so does a quantity whose
+   * denominator does not match its form.
    */
   trimmed() {
     let { numerator, denominator, form } = this;
@@ -911,13 +911,13 @@ export class Quantity {
   }
 
   /**
-   * Its text, which `toQuantity` reads by the same method as the same numerator and denominator:
-   * 三点一四 of 3.14, 百分之十二点五 of 12.5%, 三分之一 of 1/3. What has no denominator of its form is
-   * written as a fraction.
+   * Writes the quantity: 3.14 as 三点一四, 12.5% as 百分之十二点五, 1/3 as 三分之一. `toQuantity` reads
+   * the text by the same method as the same numerator and denominator. A quantity whose denominator
+   * does not match its form is written as a fraction.
    *
-   * It is written by a method, else 'any', in a script, else 'simplified', and a case, else 'lower'.
-   * 'any' goes by the greatest number that is spelled. Throws a NumeralError where 'low' has no text
-   * for one of its numbers, and a TypeError where an option or what it names is unknown.
+   * The defaults are the method 'any', the script 'simplified' and the case 'lower'. 'any' chooses
+   * the method by the greatest number that is spelled. Throws a NumeralError if 'low' cannot write
+   * one of its numbers, and a TypeError if an option or its value is unknown.
    *
    * @param {QuantityOptions} options
    * @returns {string}
@@ -934,8 +934,8 @@ export class Quantity {
   }
 
   /**
-   * Its figures, without zeros at the end of its decimals: '35000' of 3.5万, '-3.5', '12.5%', '1/3',
-   * and '50%' of 百分之五十.
+   * Writes the quantity in figures, without zeros at the end of its decimals: '35000' for 3.5万,
+   * '-3.5', '12.5%', '1/3', and '50%' for 百分之五十.
    *
    * @returns {string}
    */
@@ -953,11 +953,11 @@ function heldBy(kind, number) {
   return whole;
 }
 
-// Where there are too many decimals, a number that no denominator is.
+// For too many decimals, a number that is too large for a denominator.
 /** @param {number} decimals */
 function tenTo(decimals) {
   if (!Number.isInteger(decimals) || decimals < 0) {
-    throw new TypeError('decimals are counted by a whole Number');
+    throw new TypeError('the number of decimals must be a whole Number from 0 up');
   }
   return 10n ** BigInt(Math.min(decimals, 39));
 }
@@ -973,19 +973,20 @@ function lendWith({ numerator, denominator, form }) {
   halves[FORM_HALF] = QUANTITY_FORMS.indexOf(form);
 }
 
-// The text that was written from a byte on.
+// The text that was written from byte `start` on.
 /** @param {number} start */
 const decoded = (start) =>
   decoder.decode(text.subarray(start, start + Number(words[LENGTH_WORD])));
 
 /**
- * Reads an exact quantity, as it is written: that of '3.5万' is 350000/10, a decimal, of '12.5%'
- * 125/1000, and of '三分之一' 1/3.
+ * Reads an exact quantity, as it is written: '3.5万' is the decimal 350000/10, '12.5%' is 125/1000,
+ * and '三分之一' is 1/3.
  *
- * It is a whole number, a decimal, a percentage or a fraction, in figures, in numerals or in both,
- * with one sign in front or none; white space is left out. It is read by a method, else by 'any',
- * which is 'tenThousand' here. Throws a NumeralError where the text is none or its numbers are too large, and a
- * TypeError where it is no string, or an option or what it names is unknown.
+ * A quantity is a whole number, a decimal, a percentage or a fraction, in figures, in numerals or
+ * in both, with or without one leading sign; white space is ignored. The method is 'any' by
+ * default, which means 'tenThousand' here. Throws a NumeralError if the text is not a quantity or
+ * its numbers are too large, and a TypeError if it is not a string, or an option or its value is
+ * unknown.
  *
  * @param {string} string
  * @param {MethodOptions} options
@@ -1002,7 +1003,7 @@ export function toQuantity(string, options = NO_OPTIONS) {
     wholeNumber(NUMERATOR), wholeNumber(DENOMINATOR, 2), QUANTITY_FORMS[halves[FORM_HALF]]);
 }
 
-/** Where a number or an expression stands in a text, and what is reported of it. */
+/** The place of a number or an expression in a text, and what is reported about it. */
 class Span {
   /**
    * @param {number} start
@@ -1016,24 +1017,24 @@ class Span {
     this.start = start;
     /** Where it ends, likewise. */
     this.end = start + text.length;
-    /** Its own text. */
+    /** The text of the number or expression itself. */
     this.text = text;
     /** Whether it is plain digits: 二零二五 is, 十 is not. */
     this.isPlain = (flags & PLAIN_DIGITS) !== 0;
-    /** Whether it goes on to neither side: 二十三 of 第二十三回 does not, the 4 of A4 does. */
+    /** Whether it continues on neither side: 二十三 in 第二十三回 stands alone, the 4 in A4 does not. */
     this.standsAlone = (flags & STANDS_ALONE) !== 0;
-    /** Whether it is about so much, as 十 of 十几, and 五六. */
+    /** Whether it is approximate, such as 十 in 十几, and 五六. */
     this.isAbout = (flags & ABOUT) !== 0;
-    /** Whether it is one Chinese character, as 一 of 一般. */
+    /** Whether it is one Chinese character, such as 一 in 一般. */
     this.isOneCharacter = (flags & ONE_CHARACTER) !== 0;
   }
 }
 
-/** A number in its text, as findNumbers gives it. */
+/** A number in a text, as findNumbers yields it. */
 export class Found extends Span {
   /**
-   * The number, as toNumber reads its text: as plain digits where it is those, else by the way that
-   * is named, where 'any' is 'tenThousand'.
+   * Reads the number as toNumber does: plain digits as such, anything else by the given way, where
+   * 'any' means 'tenThousand'.
    *
    * Throws what toNumber throws; a place counts within the number's own text.
    *
@@ -1045,7 +1046,7 @@ export class Found extends Span {
   }
 
   /**
-   * The number as a BigInt, as toBigInt reads its text.
+   * Reads the number as a BigInt, as toBigInt does.
    *
    * @param {ReadOptions} options
    * @returns {bigint}
@@ -1055,8 +1056,8 @@ export class Found extends Span {
   }
 
   /**
-   * The number, or null where it has none that is a Number: where its text is refused, as 百 of
-   * 百分之五十, or the number is no safe integer. Else throws what `number` throws.
+   * The number, or null if its text is refused, such as 百 in 百分之五十, or the number is not a safe
+   * integer. Otherwise throws what `number` throws.
    *
    * @param {ReadOptions} options
    * @returns {number | null}
@@ -1066,7 +1067,7 @@ export class Found extends Span {
   }
 }
 
-/** An expression in its text, as findQuantities gives it. */
+/** An expression in a text, as findQuantities yields it. */
 export class FoundQuantity extends Span {
   /**
    * @param {number} start
@@ -1076,14 +1077,15 @@ export class FoundQuantity extends Span {
   constructor(start, text, flags) {
     super(start, text, flags);
     /**
-     * Why a reader may mean something else than its quantity, or null: 'digits' of 五一.
+     * Why a reader may understand it as something other than its quantity, or null: 'digits' for
+     * 五一.
      * @type {Doubt | null}
      */
     this.doubt = DOUBTS[(flags >> DOUBT) - 1] ?? null;
   }
 
   /**
-   * The quantity, as toQuantity reads its text.
+   * Reads the expression as toQuantity does.
    *
    * Throws what toQuantity throws; a place counts within the expression's own text.
    *
@@ -1095,7 +1097,8 @@ export class FoundQuantity extends Span {
   }
 
   /**
-   * The quantity, or null where its text is refused, as 五六十. Else throws what `quantity` throws.
+   * The quantity, or null if its text is refused, such as 五六十. Otherwise throws what `quantity`
+   * throws.
    *
    * @param {MethodOptions} options
    * @returns {Quantity | null}
@@ -1119,14 +1122,13 @@ function unlessRefused(call) {
 }
 
 /**
- * Finds the numbers of a text, in order, and gives them one by one: of '第二十三回' that is 二十三, from
- * 1 to 4.
+ * Finds the numbers of a text, and yields them in order: in '第二十三回', 二十三 from 1 to 4.
  *
- * A number is a longest stretch of characters that can stand in one; whether it can be read, its
- * `value()` says. Looked for are digits, and units up to the `greatest`, else 'zhao', which is 兆;
- * and the characters of cheques where `upper` is true. Sentences are not understood: 一起 has a 1 in
- * it. Throws a TypeError where the text is no string, or an option or what it names is unknown. The
- * whole text is searched by the call.
+ * A number is a longest run of characters that can be in one; its `value()` says whether it can be
+ * read. The characters are digits, units up to `greatest` ('zhao', which is 兆, by default), and
+ * with `upper: true` those of cheques. Sentences are not understood: 一起 contains a 1. Throws a
+ * TypeError if the text is not a string, or an option or its value is unknown. The call itself
+ * searches the whole text.
  *
  * @param {string} string
  * @param {Wanted} options
@@ -1139,7 +1141,7 @@ export function findNumbers(string, options = NO_OPTIONS) {
 
 /**
  * Finds the expressions of a text, as `findNumbers` finds its numbers: numbers with their sign,
- * figures, point and units, percentages and fractions. Of '占12.5%，共3.5万' these are 12.5% and 3.5万.
+ * figures, point and units, percentages and fractions. In '占12.5%，共3.5万' these are 12.5% and 3.5万.
  *
  * @param {string} string
  * @param {Wanted} options
@@ -1167,8 +1169,8 @@ function* foundIn(string, spans, Item) {
   }
 }
 
-// All is looked for at once, since a call in between writes over the text that is lent.
-/** @param {string} string @param {Wanted} options @param {string} name That of the call. */
+// Searches the whole text at once, since another call would overwrite the text that is lent.
+/** @param {string} string @param {Wanted} options @param {string} name The name of the call. */
 function spansOf(string, options, name) {
   const upper = flagOf(options.upper, 'upper'), greatest = codeOf(UNIT, options.greatest);
   hand(string);
@@ -1189,8 +1191,8 @@ function spansOf(string, options, name) {
   return spans;
 }
 
-// How many UTF-16 code units the characters between two bytes of the text have: one of four bytes
-// is a surrogate pair.
+// How many UTF-16 code units the characters between two bytes of the text have. A character of four
+// bytes is a surrogate pair.
 /** @param {number} start @param {number} end */
 function unitsBetween(start, end) {
   const bytes = text;
@@ -1204,14 +1206,14 @@ function unitsBetween(start, end) {
 }
 
 /**
- * Puts other texts in the place of the expressions of a text: with `(found) =>
- * found.quantity().toChinese()` '占12.5%' becomes '占百分之十二点五'.
+ * Replaces the expressions of a text: with `(found) => found.quantity().toChinese()` '占12.5%'
+ * becomes '占百分之十二点五'.
  *
- * Each expression that `findQuantities` finds, and `toQuantity` reads by the method, is handed to a
- * function, which gives the text that stands in its place, or undefined, and then it stays. Those
- * that are about so much, one Chinese character or doubtful stay too, unless `about`,
- * `oneCharacter` or `doubtful` is true; those with the doubt 'part' always. Throws what the function
- * throws, and a TypeError where it gives anything else, or as `findQuantities` does.
+ * Calls a function for each expression that `findQuantities` finds and `toQuantity` reads by the
+ * method. The function returns the text that replaces it, or undefined to keep it. Expressions that
+ * are approximate, one Chinese character or doubtful stay, unless `about`, `oneCharacter` or
+ * `doubtful` is true; those with the doubt 'part' always stay. Throws what the function throws, a
+ * TypeError if it returns anything else, and what `findQuantities` throws.
  *
  * @param {string} string
  * @param {(found: FoundQuantity) => string | undefined} replacement
@@ -1220,7 +1222,7 @@ function unitsBetween(start, end) {
  */
 export function replaceQuantities(string, replacement, options = NO_OPTIONS) {
   refuseOthers(options, HAS.replacing);
-  if (typeof replacement !== 'function') throw new TypeError('a replacement is a function');
+  if (typeof replacement !== 'function') throw new TypeError('replacement must be a function');
   const { method } = options, included = includedOf(options);
   methodOf(options);
   let replaced = '', at = 0;
@@ -1228,7 +1230,9 @@ export function replaceQuantities(string, replacement, options = NO_OPTIONS) {
     if (!isReplaced(found, included) || found.value({ method }) === null) continue;
     const other = replacement(found);
     if (other === undefined) continue;
-    if (typeof other !== 'string') throw new TypeError('a replacement gives a string or undefined');
+    if (typeof other !== 'string') {
+      throw new TypeError('replacement must return a string or undefined');
+    }
     replaced += string.slice(at, found.start) + other;
     at = found.end;
   }
@@ -1249,16 +1253,16 @@ const styleOf = ({ expanded, canonical }) =>
   EXPANDED * flagOf(expanded, 'expanded') + CANONICAL * flagOf(canonical, 'canonical');
 
 /**
- * Puts figures in the place of the numerals of a text, as an editor does:
- * '市值三点五亿元，占百分之十二点五' becomes '市值3.5亿元，占12.5%'.
+ * Rewrites the numerals of a text in figures, as an editor does: '市值三点五亿元，占百分之十二点五'
+ * becomes '市值3.5亿元，占12.5%'.
  *
- * What already is in figures stays, and so does what `toQuantity` refuses; what is about so much,
- * one Chinese character or doubtful, unless `about`, `oneCharacter` or `doubtful` is true; what has
- * the doubt 'part'; a part of a name, an address or another number; 千分之五 and 二又五分之三; and the
- * other parts of a date, a time, a length, an amount or a range of which one part stays. With
- * `expanded` no great unit is kept: 三千五百亿 and 3500亿 become 350000000000. With `canonical`
- * figures are rewritten in ASCII, without commas and leading zeros. All else of the text stays.
- * Throws a TypeError as `findQuantities` does.
+ * These stay: figures; what `toQuantity` refuses; approximate expressions, single Chinese
+ * characters and doubtful expressions, unless `about`, `oneCharacter` or `doubtful` is true;
+ * expressions with the doubt 'part'; a part of a name, an address or another number; 千分之五 and
+ * 二又五分之三; all of a date, a time, a length, an amount or a range of which one part stays; and the
+ * rest of the text. `expanded` writes out 万, 亿 and so on: 三千五百亿 and 3500亿 become
+ * 350000000000. `canonical` rewrites figures in ASCII, without commas and leading zeros. Throws a
+ * TypeError as `findQuantities` does.
  *
  * @param {string} string
  * @param {FiguresOptions} options
@@ -1268,7 +1272,7 @@ export function quantitiesToFigures(string, options = NO_OPTIONS) {
   refuseOthers(options, HAS.figures);
   const upper = flagOf(options.upper, 'upper'), greatest = codeOf(UNIT, options.greatest);
   const method = methodOf(options), bits = includedOf(options) + styleOf(options);
-  // Figures seldom have more bytes than what they replace. Where they do, the call says how many.
+  // Figures seldom have more bytes than what they replace. If they do, the call reports how many.
   let room = 3 * string.length + Number(MOST_FIGURES_BYTES), length, status;
   do {
     hand(string, room);
@@ -1280,8 +1284,8 @@ export function quantitiesToFigures(string, options = NO_OPTIONS) {
   return withHalves(decoded(Number(length)), string);
 }
 
-// In a text that was written anew U+FFFD stands for each half of a surrogate pair, and for itself.
-// No expression has one, so each is that of the string at the same place among them.
+// In the new text U+FFFD replaces each half of a surrogate pair, and may be U+FFFD itself. No
+// expression contains one, so they correspond to those of the string, in order.
 /** @param {string} anew @param {string} string */
 function withHalves(anew, string) {
   if (!anew.includes('\ufffd')) return anew;
