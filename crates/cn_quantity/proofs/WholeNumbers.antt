@@ -1,5 +1,5 @@
 -- A whole number, from what its parts are answered.
-use Rattle.std.proofs.Common.{◌≡◌, ℕ, ◌+◌, ◌^◌, ◌<◌, ◌≤◌, Bool, true, false, nat_lt, List, [], ◌∷◌, ◌++◌, length, take, drop, chars, reverse, Option, Some, None, Result, Ok, Err, refl, sym, ap, ◌∙◌, arith, if◌then◌else◌, length-append, length-drop, length-take, zero-add}
+use Rattle.std.proofs.Common.{◌≡◌, ℕ, zero, suc, ◌+◌, ◌^◌, ◌<◌, ◌≤◌, Bool, true, false, nat_le, nat_lt, List, [], ◌∷◌, ◌++◌, length, take, drop, chars, reverse, Option, Some, None, Result, Ok, Err, refl, sym, ap, ◌∙◌, arith, if◌then◌else◌, length-append, length-drop, length-take, zero-add}
 use Rattle.std.proofs.lemmas.Bool.Decides.{nat_tests}
 use Rattle.std.proofs.lemmas.List.{length-map}
 use Rattle.std.proofs.Math.Seq.{take-append_seam, drop-append_seam}
@@ -7,7 +7,7 @@ use Rattle.std.proofs.Math.Nat.{pow-le-pow_right}
 use Rattle.std.proofs.lemmas.Bool.{leb-true}
 use Rattle.std.specs.Option.{option_map_or}
 use Rattle.cn_core.specs.declared.method.ChineseCountMethod.{ChineseCountMethod}
-use Rattle.cn_core.specs.CharIndex.{char_index_of}
+use Rattle.cn_core.specs.CharIndex.{char_index_among, char_index_of}
 use Rattle.cn_core.specs.Judging.{judge}
 use Rattle.cn_core.specs.Mark.{mark_of}
 use Rattle.cn_core.specs.Naive.{naive_answer}
@@ -21,7 +21,7 @@ use Rattle.std.specs.Char.{is_whitespace}
 use Rattle.cn_quantity.specs.Answer.{and_then, further_by}
 use Rattle.cn_quantity.specs.Misread.{bare_ten, bare_ten_between, first_misread, is_misread_at, misread_after}
 use Rattle.cn_quantity.specs.Private.{SplitsAtMisread}
-use Rattle.cn_quantity.specs.WholeNumber.{fitting, is_plain, misread_answer, reader_answer, refused_at, sum_answer, whole_answer}
+use Rattle.cn_quantity.specs.WholeNumber.{fitting, is_plain, later_of, misread_answer, reader_answer, refused_at, sum_answer, whole_answer}
 use Rattle.cn_quantity.proofs.Ends.{text-parts}
 use Rattle.cn_quantity.proofs.Told.{told-end, told-front, told-goes_on, told-stops}
 
@@ -128,13 +128,23 @@ refused-low : (method : ChineseCountMethod) (before from : List ℕ) (place : �
     → refused_at (reader_answer method (before ++ from)) (length before) ≡ Err (incorrect_at place)
     → place < length before + length from
 refused-low method before from place some h = by (reader_answer method (before ++ from)) refl h where
+  size : length (before ++ from) ≡ length before + length from
+  size = length-append before from
+
+  later : (p : ℕ) → reader_answer method (before ++ from) ≡ Err (incorrect_at p)
+      → (b : Bool) → (if b then length before else p) ≡ place → place < length before + length from
+  later p is true same = omega (arith, same, some)
+  later p is false same =
+      let low = reader-low method (before ++ from) p is in omega (arith, low, same, size)
+
   by : (answer : Result ℕ Refusal) → reader_answer method (before ++ from) ≡ answer
       → refused_at answer (length before) ≡ Err (incorrect_at place)
       → place < length before + length from
   by (Ok number) is e = omega (arith, at-front place e, some)
-  by (Err refusal) is e =
-      let low = reader-low method (before ++ from) place (is ∙ e) in
-      let size = length-append before from in omega (arith, low, size)
+  by (Err (incorrect_at p)) is e = later p is (nat_le p (length before)) (at-front place e)
+  by (Err empty) is e = cc
+  by (Err too_large) is e = cc
+  by (Err too_small) is e = cc
 
 misread_answer-low : (method : ChineseCountMethod) (before from : List ℕ) (place : ℕ)
     → 0 < length from → misread_answer method before from ≡ Err (incorrect_at place)
@@ -192,6 +202,70 @@ bare-none : (before from : List ℕ) (place : ℕ) → first_misread from ≡ So
     → bare_ten_between before from ≡ None
 bare-none before [] place is = refl
 bare-none before (c ∷ after) place is = rw is
+
+-- a later place has no smaller char_index
+char_index-rises : (text : List ℕ) (one two : ℕ) → one ≤ two
+    → char_index_among text one ≤ char_index_among text two
+char_index-rises [] one two le = omega arith
+char_index-rises (c ∷ rest) one two le = by (is_whitespace c) one two le refl
+    (char_index-rises rest) where
+      by : (b : Bool) (one two : ℕ) → one ≤ two → is_whitespace c ≡ b
+          → ((one two : ℕ) → one ≤ two → char_index_among rest one ≤ char_index_among rest two)
+          → char_index_among (c ∷ rest) one ≤ char_index_among (c ∷ rest) two
+      by true zero zero le white ih = omega arith
+      by true zero (suc two) le white ih = rw white (let h = ih 0 (suc two) le in omega (arith, h))
+      by true (suc one) (suc two) le white ih =
+          rw white (let h = ih (suc one) (suc two) le in omega (arith, h))
+      by false zero two le dark ih = rw dark (omega arith)
+      by false (suc one) (suc two) le dark ih =
+          rw dark (let h = ih one two (omega (arith, le)) in omega (arith, h))
+      by b (suc one) zero le is ih = absurd (omega (arith, le))
+
+-- the later of two places in a text is that in the string
+places-later : (skipped : ℕ) (bytes : List ℕ) (one two : ℕ)
+    → later_of (incorrect_at (skipped + char_index_of bytes one))
+    (incorrect_at (skipped + char_index_of bytes two))
+    ≡ incorrect_at (skipped + char_index_of bytes (if nat_le one two then two else one))
+places-later skipped bytes one two = by (nat_le one two) refl where
+  index : ℕ → ℕ
+  index place = skipped + char_index_of bytes place
+
+  next : (b c : Bool) → nat_le one two ≡ b → nat_le (index one) (index two) ≡ c
+      → (if c then index two else index one) ≡ index (if b then two else one)
+  next true true le is = refl
+  next false false le is = refl
+  next true false le is =
+      let small : one ≤ two = grind (arith, nat_tests, le) in
+      let rises = char_index-rises (chars bytes) one two small in
+      absurd (grind (arith, nat_tests, rises, is))
+  next false true le is =
+      let more : two ≤ one = grind (arith, nat_tests, le) in
+      let rises = char_index-rises (chars bytes) two one more in
+      let same : index two ≤ index one = omega (arith, rises) in
+      let other : index one ≤ index two = grind (arith, nat_tests, is) in
+      omega (arith, same, other)
+
+  by : (b : Bool) → nat_le one two ≡ b
+      → later_of (incorrect_at (index one)) (incorrect_at (index two))
+      ≡ incorrect_at (index (if nat_le one two then two else one))
+  by b is =
+      ap incorrect_at (rw is (next b (nat_le (index one) (index two)) is refl))
+
+-- the later of the readers' refusal and one at a place
+pub refused-later : (skipped : ℕ) (bytes : List ℕ) (place : ℕ) (answer : Result ℕ Refusal)
+    (refusal : Refusal) → Err refusal ≡ answer_at skipped bytes answer
+    → Err (later_of refusal (incorrect_at (skipped + char_index_of bytes place)))
+    ≡ answer_at skipped bytes (refused_at answer place)
+refused-later skipped bytes place (Ok number) refusal is = cc
+refused-later skipped bytes place (Err empty) refusal is =
+    let same : refusal ≡ empty = cc in rw same
+refused-later skipped bytes place (Err too_large) refusal is =
+    let same : refusal ≡ too_large = cc in rw same
+refused-later skipped bytes place (Err too_small) refusal is =
+    let same : refusal ≡ too_small = cc in rw same
+refused-later skipped bytes place (Err (incorrect_at p)) refusal is =
+    let same : refusal ≡ incorrect_at (skipped + char_index_of bytes p) = cc in
+    rw same (ap Err (places-later skipped bytes p place))
 
 -- which answer a misread text has
 pub misread-refused : (method : ChineseCountMethod) (skipped : ℕ) (bytes before from : List ℕ)

@@ -1,5 +1,5 @@
 -- What a text is worth as a whole number.
-use Rattle.std.specs.Prelude.{ℕ, ◌+◌, ◌^◌, Bool, nat_lt, List, ◌++◌, length, take, drop, is_some, Result, Ok, Err, if◌then◌else◌}
+use Rattle.std.specs.Prelude.{ℕ, ◌+◌, ◌^◌, Bool, nat_le, nat_lt, List, ◌++◌, length, take, drop, is_some, Result, Ok, Err, if◌then◌else◌}
 use Rattle.std.specs.Option.{option_map_or}
 use Rattle.std.specs.List.{list_all}
 use Rattle.cn_core.specs.declared.method.ChineseCountMethod.{ChineseCountMethod}
@@ -35,13 +35,20 @@ sum_answer method rank before from =
     if nat_lt second (scale method rank) then fitting (first + second)
     else Err (incorrect_at (length before))))
 
--- the refusal of the readers of numerals, if they refuse a text, else one at this place
+-- the later of two places at which a text is refused; a refusal without a place comes before these
+abbrev pub later_of : Refusal → Refusal → Refusal
+later_of (incorrect_at one) (incorrect_at other) =
+    incorrect_at (if nat_le one other then other else one)
+later_of refusal other = refusal
+
+-- the refusal of a text with a misread character at this place, given the answer of the readers of
+-- numerals: at the later place, if they refuse it too
 abbrev pub refused_at : Result ℕ Refusal → ℕ → Result ℕ Refusal
 refused_at (Ok number) place = Err (incorrect_at place)
-refused_at (Err refusal) place = Err refusal
+refused_at (Err refusal) place = Err (later_of refusal (incorrect_at place))
 
 -- a text in two parts at its first misread character: their sum, if that is a bare ten and no other
--- character is misread; else it is refused, by the readers of numerals or at that character
+-- character is misread; else it is refused, at that character or later
 abbrev pub misread_answer : ChineseCountMethod → List ℕ → List ℕ → Result ℕ Refusal
 misread_answer method before from =
     option_map_or (λ rank. sum_answer method rank before from) (bare_ten_between before from)

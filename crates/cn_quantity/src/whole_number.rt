@@ -8,7 +8,7 @@ ghost use Rattle.cn_core.specs.Text.{text_of};
 ghost use Rattle.cn_judge.specs.Answer.{answer_of, refusal_of};
 ghost use Rattle.cn_judge.specs.Piece.{answer_at};
 ghost use Rattle.cn_quantity.specs.Private.{SplitsAtMisread};
-ghost use Rattle.cn_quantity.specs.WholeNumber.{fitting, is_plain, misread_answer, reader_answer, refused_at, sum_answer, whole_answer};
+ghost use Rattle.cn_quantity.specs.WholeNumber.{fitting, is_plain, later_of, misread_answer, reader_answer, refused_at, sum_answer, whole_answer};
 
 use crate::misread::{Misread, first_misread};
 use crate::pieces::split_first;
@@ -105,7 +105,21 @@ fn judge_sum(
     }
 }
 
-// The refusal of a text with a misread character: that of the readers of numerals, if they refuse it.
+// The later of two refusals by their places; a refusal without a place comes before these.
+fn later_of(error: ChineseToNumberError, other: ChineseToNumberError) -> ChineseToNumberError
+    ensures { refusal_of result ≡ later_of (refusal_of error) (refusal_of other) }
+{
+    match (error, other) {
+        (
+            ChineseToNumberError::ChineseNumberIncorrect { char_index: one },
+            ChineseToNumberError::ChineseNumberIncorrect { char_index: two },
+        ) if one <= two => other,
+        _ => error,
+    }
+}
+
+// The refusal of a text with a misread character: there, or later if the readers of numerals refuse it
+// at a later place.
 fn refusal_of_misread(
     method: ChineseCountMethod,
     skipped: usize,
@@ -120,7 +134,7 @@ fn refusal_of_misread(
 {
     match judge_reader(method, skipped, text) {
         Ok(_) => misread_error(skipped, misread),
-        Err(error) => error,
+        Err(error) => later_of(error, misread_error(skipped, misread)),
     }
 }
 
