@@ -62,7 +62,7 @@ typedef int64_t s64;
  *
  * It reads the first three, and writes to its own memory and, only with memory_copy, to the buffer.
  * Any other access ends the program with abort(). */
-#define STACK_BYTES UINT64_C(4192)
+#define STACK_BYTES UINT64_C(4448)
 #define LENT_BYTES UINT64_C(544)
 #define OWN_BYTES (STACK_BYTES + LENT_BYTES)
 #define FIRST_CONSTANT UINT64_C(65536)
@@ -711,80 +711,81 @@ static void w2c_f57(module *, u64, u64, u64);
 static void w2c_f58(module *, u64, u32, u64, u64, u64, u64, u64, u64);
 static void w2c_f59(module *, u64, u64, u64);
 static void w2c_f60(module *, u64, u32, u64, u64, u64);
-static void w2c_f61(module *, u64, u64, u64);
+static void w2c_f61(module *, u64, u32, u64, u64, u64, u64);
 static void w2c_f62(module *, u64, u64, u64);
 static void w2c_f63(module *, u64, u32, u64, u32, u64, u64);
 static void w2c_f64(module *, u64, u32, u64, u64, u32, u32);
-static u32 w2c_f65(module *, u32, u64, u64);
-static void w2c_f66(module *, u64, u64, u64, u64);
-static u32 w2c_f67(module *, u64, u64, u32, u32, u32, u64);
-static void w2c_f68(module *, u64, u32, u64, u64, u64);
-static u32 w2c_f69(module *, u64, u64, u32, u32, u32, u64);
-static u32 w2c_f70(module *, u64, u64, u32, u64);
-static void w2c_f71(module *, u64, u32, u64, u64);
-static u32 w2c_f72(module *, u64, u64);
-static u32 w2c_f73(module *, u32);
-static u32 w2c_f74(module *, u64, u64, u64, u64);
-static u32 w2c_f75(module *, u64, u64);
+static void w2c_f65(module *, u64, u64, u64);
+static u32 w2c_f66(module *, u32, u64, u64);
+static void w2c_f67(module *, u64, u64, u64, u64);
+static u32 w2c_f68(module *, u64, u64, u32, u32, u32, u64);
+static void w2c_f69(module *, u64, u32, u64, u64, u64);
+static u32 w2c_f70(module *, u64, u64, u32, u32, u32, u64);
+static u32 w2c_f71(module *, u64, u64, u32, u64);
+static void w2c_f72(module *, u64, u32, u64, u64);
+static u32 w2c_f73(module *, u64, u64);
+static u32 w2c_f74(module *, u32);
+static u32 w2c_f75(module *, u64, u64, u64, u64);
 static u32 w2c_f76(module *, u64, u64);
 static u32 w2c_f77(module *, u64, u64);
 static u32 w2c_f78(module *, u64, u64);
-static void w2c_f79(module *, u64, u64, u64);
-static void w2c_f80(module *, u64, u32, u64, u64);
-static void w2c_f81(module *, u64, u32, u32);
-static void w2c_f82(module *, u64, u64, u64);
-static void w2c_f83(module *, u64, u32, u64, u64);
-static void w2c_f84(module *, u64, u64, u64);
-static u32 w2c_f85(module *, u64, u64);
-static u32 w2c_f86(module *, u32, u64, u64);
-static void w2c_f87(module *, u64, u64, u64);
+static u32 w2c_f79(module *, u64, u64);
+static void w2c_f80(module *, u64, u64, u64);
+static void w2c_f81(module *, u64, u32, u64, u64);
+static void w2c_f82(module *, u64, u32, u32);
+static void w2c_f83(module *, u64, u64, u64);
+static void w2c_f84(module *, u64, u32, u64, u64);
+static void w2c_f85(module *, u64, u64, u64);
+static u32 w2c_f86(module *, u64, u64);
+static u32 w2c_f87(module *, u32, u64, u64);
 static void w2c_f88(module *, u64, u64, u64);
-static void w2c_f89(module *, u64, u64, u32, u64, u64);
-static u64 w2c_f90(module *, u64, u64, u64, u64, u64);
-static void w2c_f91(module *, u64, u64, u32, u64, u64);
-static void w2c_f92(module *, u64, u64, u64);
-static u64 w2c_f93(module *, u64, u64, u32, u32, u64, u64);
-static u32 w2c_f94(module *, u64, u64, u32, u32, u64);
+static void w2c_f89(module *, u64, u64, u64);
+static void w2c_f90(module *, u64, u64, u32, u64, u64);
+static u64 w2c_f91(module *, u64, u64, u64, u64, u64);
+static void w2c_f92(module *, u64, u64, u32, u64, u64);
+static void w2c_f93(module *, u64, u64, u64);
+static u64 w2c_f94(module *, u64, u64, u32, u32, u64, u64);
+static u32 w2c_f95(module *, u64, u64, u32, u32, u64);
 static u32 w2c_chinese_number_version(module *);
-static void w2c_f96(module *);
+static void w2c_f97(module *);
 static u32 w2c_chinese_date_print(module *, u32, u32, u32, u32, u64, u64, u64);
-static u32 w2c_f98(module *, u32, u32, u32, u32, u64, u64, u64);
+static u32 w2c_f99(module *, u32, u32, u32, u32, u64, u64, u64);
 static u32 w2c_chinese_signed_amount_print(module *, u64, u32, u32, u64, u64, u64);
-static u32 w2c_f100(module *, u64, u32, u32, u64, u64, u64);
+static u32 w2c_f101(module *, u64, u32, u32, u64, u64, u64);
 static u32 w2c_chinese_quantity_figures(module *, u64, u64, u64, u64);
-static u32 w2c_f102(module *, u64, u64, u64, u64);
+static u32 w2c_f103(module *, u64, u64, u64, u64);
 static u32 w2c_chinese_amount_read(module *, u64, u64, u64);
-static u32 w2c_f104(module *, u64, u64, u64);
+static u32 w2c_f105(module *, u64, u64, u64);
 static u32 w2c_chinese_typed_amount_read(module *, u64, u64, u64);
-static u32 w2c_f106(module *, u64, u64, u64);
+static u32 w2c_f107(module *, u64, u64, u64);
 static u32 w2c_chinese_date_read(module *, u64, u64, u64);
-static u32 w2c_f108(module *, u64, u64, u64);
+static u32 w2c_f109(module *, u64, u64, u64);
 static u32 w2c_chinese_amount_print(module *, u64, u32, u32, u64, u64, u64);
-static u32 w2c_f110(module *, u64, u32, u32, u64, u64, u64);
+static u32 w2c_f111(module *, u64, u32, u32, u64, u64, u64);
 static u32 w2c_chinese_figures_read(module *, u64, u64, u64);
-static u32 w2c_f112(module *, u64, u64, u64);
+static u32 w2c_f113(module *, u64, u64, u64);
 static u32 w2c_chinese_signed_amount_read(module *, u64, u64, u64);
-static u32 w2c_f114(module *, u64, u64, u64);
+static u32 w2c_f115(module *, u64, u64, u64);
 static u32 w2c_chinese_number_find(module *, u64, u64, u64, u32, u32, u64, u64, u64);
-static u32 w2c_f116(module *, u64, u64, u64, u32, u32, u64, u64, u64);
+static u32 w2c_f117(module *, u64, u64, u64, u32, u32, u64, u64, u64);
 static u32 w2c_chinese_number_find_utf8(module *, u64, u64, u64, u32, u32, u64, u64, u64);
-static u32 w2c_f118(module *, u64, u64, u64, u32, u32, u64, u64, u64);
+static u32 w2c_f119(module *, u64, u64, u64, u32, u32, u64, u64, u64);
 static u32 w2c_chinese_quantity_find_utf8(module *, u64, u64, u64, u32, u32, u64, u64, u64);
-static u32 w2c_f120(module *, u64, u64, u64, u32, u32, u64, u64, u64);
+static u32 w2c_f121(module *, u64, u64, u64, u32, u32, u64, u64, u64);
 static u32 w2c_chinese_quantity_find(module *, u64, u64, u64, u32, u32, u64, u64, u64);
-static u32 w2c_f122(module *, u64, u64, u64, u32, u32, u64, u64, u64);
+static u32 w2c_f123(module *, u64, u64, u64, u32, u32, u64, u64, u64);
 static u32 w2c_chinese_number_read_utf8(module *, u64, u64, u32, u32, u64);
-static u32 w2c_f124(module *, u64, u64, u32, u32, u64);
+static u32 w2c_f125(module *, u64, u64, u32, u32, u64);
 static u32 w2c_chinese_quantities_to_figures(module *, u64, u64, u32, u32, u32, u32, u64, u64, u64);
-static u32 w2c_f126(module *, u64, u64, u32, u32, u32, u32, u64, u64, u64);
+static u32 w2c_f127(module *, u64, u64, u32, u32, u32, u32, u64, u64, u64);
 static u32 w2c_chinese_quantity_read(module *, u64, u64, u32, u64);
-static u32 w2c_f128(module *, u64, u64, u32, u64);
+static u32 w2c_f129(module *, u64, u64, u32, u64);
 static u32 w2c_chinese_quantity_print(module *, u64, u32, u32, u32, u64, u64, u64);
-static u32 w2c_f130(module *, u64, u32, u32, u32, u64, u64, u64);
+static u32 w2c_f131(module *, u64, u32, u32, u32, u64, u64, u64);
 static u32 w2c_chinese_number_read(module *, u64, u64, u32, u32, u64);
-static u32 w2c_f132(module *, u64, u64, u32, u32, u64);
+static u32 w2c_f133(module *, u64, u64, u32, u32, u64);
 static u32 w2c_chinese_number_print(module *, u64, u64, u32, u32, u32, u32, u64, u64, u64);
-static u32 w2c_f134(module *, u64, u64, u32, u32, u32, u32, u64, u64, u64);
+static u32 w2c_f135(module *, u64, u64, u32, u32, u32, u32, u64, u64, u64);
 
 static u32 w2c_f0(module *m) {
   u32 w2c_l0 = 0;
@@ -44228,18 +44229,22 @@ static void w2c_f48(module *m, u64 w2c_p0, u32 w2c_p1, u64 w2c_p2, u64 w2c_p3, u
   u32 w2c_l17 = 0, w2c_l18 = 0, w2c_l19 = 0, w2c_l20 = 0, w2c_l21 = 0, w2c_l22 = 0, w2c_l23 = 0;
   u64 w2c_l5 = 0, w2c_l6 = 0, w2c_l7 = 0, w2c_l8 = 0, w2c_l9 = 0, w2c_l10 = 0, w2c_l11 = 0, w2c_l12 = 0, w2c_l13 = 0, w2c_l14 = 0, w2c_l15 = 0, w2c_l16 = 0;
   u32 w2c_i0, w2c_i1, w2c_i2, w2c_i3, w2c_i4, w2c_i5;
-  u64 w2c_j0, w2c_j1, w2c_j2, w2c_j3, w2c_j4, w2c_j5;
+  u64 w2c_j0, w2c_j1, w2c_j2, w2c_j3, w2c_j4, w2c_j5, w2c_j6;
   w2c_j0 = m->w2c_g0;
-  w2c_j1 = 368ull;
+  w2c_j1 = 448ull;
   w2c_j0 -= w2c_j1;
   w2c_l5 = w2c_j0;
   m->w2c_g0 = w2c_j0;
-  (void)its_own(m, w2c_l5, 368);
+  (void)its_own(m, w2c_l5, 448);
   w2c_j0 = w2c_l5;
   w2c_l5 = w2c_j0;
   w2c_j1 = 16ull;
   w2c_i0 = (u64)((s64)w2c_j0 < (s64)w2c_j1);
-  if (w2c_i0) {goto w2c_B11;}
+  if (w2c_i0) {goto w2c_B10;}
+  w2c_j0 = w2c_l5;
+  w2c_i0 = (u32)(w2c_j0);
+  w2c_j1 = 0ull;
+  i64_store(m, (u64)(w2c_i0) + 144, w2c_j1);
   w2c_j0 = w2c_l5;
   w2c_i0 = (u32)(w2c_j0);
   w2c_j1 = 0ull;
@@ -44263,10 +44268,6 @@ static void w2c_f48(module *m, u64 w2c_p0, u32 w2c_p1, u64 w2c_p2, u64 w2c_p3, u
   w2c_j0 = w2c_l5;
   w2c_i0 = (u32)(w2c_j0);
   w2c_j1 = 0ull;
-  i64_store(m, (u64)(w2c_i0) + 96, w2c_j1);
-  w2c_j0 = w2c_l5;
-  w2c_i0 = (u32)(w2c_j0);
-  w2c_j1 = 0ull;
   i64_store(m, (u64)(w2c_i0) + 64, w2c_j1);
   w2c_j0 = w2c_l5;
   w2c_i0 = (u32)(w2c_j0);
@@ -44281,15 +44282,15 @@ static void w2c_f48(module *m, u64 w2c_p0, u32 w2c_p1, u64 w2c_p2, u64 w2c_p3, u
   w2c_j1 = 0ull;
   i64_store(m, (u64)(w2c_i0) + 88, w2c_j1);
   w2c_j0 = w2c_l5;
-  w2c_j1 = 96ull;
+  w2c_j1 = 104ull;
   w2c_j0 += w2c_j1;
   w2c_j1 = w2c_p3;
   w2c_j2 = w2c_p4;
   w2c_f59(m, w2c_j0, w2c_j1, w2c_j2);
   w2c_j0 = w2c_l5;
   w2c_i0 = (u32)(w2c_j0);
-  w2c_i0 = i32_load8_u(m, (u64)(w2c_i0) + 96u);
-  if (w2c_i0) {goto w2c_B12;}
+  w2c_i0 = i32_load8_u(m, (u64)(w2c_i0) + 104u);
+  if (w2c_i0) {goto w2c_B11;}
   w2c_j0 = w2c_l5;
   w2c_j1 = 64ull;
   w2c_j0 += w2c_j1;
@@ -44307,91 +44308,39 @@ static void w2c_f48(module *m, u64 w2c_p0, u32 w2c_p1, u64 w2c_p2, u64 w2c_p3, u
   w2c_i0 = i32_load8_u(m, (u64)(w2c_i0) + 64u);
   w2c_l17 = w2c_i0;
   goto w2c_B0;
-  w2c_B12:;
+  w2c_B11:;
   w2c_j0 = w2c_l5;
   w2c_i0 = (u32)(w2c_j0);
-  w2c_j0 = i64_load(m, (u64)(w2c_i0) + 128u);
+  w2c_j0 = i64_load(m, (u64)(w2c_i0) + 136u);
   w2c_l6 = w2c_j0;
   w2c_j0 = w2c_l5;
   w2c_i0 = (u32)(w2c_j0);
-  w2c_j0 = i64_load(m, (u64)(w2c_i0) + 120u);
+  w2c_j0 = i64_load(m, (u64)(w2c_i0) + 128u);
   w2c_l7 = w2c_j0;
   w2c_j0 = w2c_l5;
   w2c_i0 = (u32)(w2c_j0);
-  w2c_j0 = i64_load(m, (u64)(w2c_i0) + 112u);
+  w2c_j0 = i64_load(m, (u64)(w2c_i0) + 120u);
   w2c_l8 = w2c_j0;
   w2c_j0 = w2c_l5;
   w2c_i0 = (u32)(w2c_j0);
-  w2c_j0 = i64_load(m, (u64)(w2c_i0) + 104u);
+  w2c_j0 = i64_load(m, (u64)(w2c_i0) + 112u);
   w2c_l9 = w2c_j0;
   w2c_j0 = w2c_l5;
   w2c_i0 = (u32)(w2c_j0);
-  w2c_i0 = i32_load8_u(m, (u64)(w2c_i0) + 136u);
-  w2c_l17 = w2c_i0;
-  w2c_j0 = w2c_l5;
-  w2c_i0 = (u32)(w2c_j0);
-  w2c_i0 = i32_load8_u(m, (u64)(w2c_i0) + 137u);
+  w2c_i0 = i32_load8_u(m, (u64)(w2c_i0) + 144u);
   w2c_l18 = w2c_i0;
   w2c_j0 = w2c_l5;
   w2c_i0 = (u32)(w2c_j0);
-  w2c_j1 = 0ull;
-  i64_store(m, (u64)(w2c_i0) + 184, w2c_j1);
+  w2c_i0 = i32_load8_u(m, (u64)(w2c_i0) + 145u);
+  w2c_l19 = w2c_i0;
   w2c_j0 = w2c_l5;
   w2c_i0 = (u32)(w2c_j0);
   w2c_j1 = 0ull;
-  i64_store(m, (u64)(w2c_i0) + 176, w2c_j1);
+  i64_store(m, (u64)(w2c_i0) + 240, w2c_j1);
   w2c_j0 = w2c_l5;
   w2c_i0 = (u32)(w2c_j0);
   w2c_j1 = 0ull;
-  i64_store(m, (u64)(w2c_i0) + 168, w2c_j1);
-  w2c_j0 = w2c_l5;
-  w2c_i0 = (u32)(w2c_j0);
-  w2c_j1 = 0ull;
-  i64_store(m, (u64)(w2c_i0) + 160, w2c_j1);
-  w2c_j0 = w2c_l5;
-  w2c_i0 = (u32)(w2c_j0);
-  w2c_j1 = 0ull;
-  i64_store(m, (u64)(w2c_i0) + 152, w2c_j1);
-  w2c_j0 = w2c_l5;
-  w2c_i0 = (u32)(w2c_j0);
-  w2c_j1 = 0ull;
-  i64_store(m, (u64)(w2c_i0) + 144, w2c_j1);
-  w2c_i0 = w2c_l17;
-  w2c_i1 = 1u;
-  w2c_i0 = w2c_i0 != w2c_i1;
-  if (w2c_i0) {goto w2c_B9;}
-  w2c_j0 = w2c_l5;
-  w2c_j1 = 144ull;
-  w2c_j0 += w2c_j1;
-  w2c_j1 = w2c_l7;
-  w2c_j2 = w2c_l6;
-  w2c_f59(m, w2c_j0, w2c_j1, w2c_j2);
-  w2c_j0 = w2c_l5;
-  w2c_i0 = (u32)(w2c_j0);
-  w2c_i0 = i32_load8_u(m, (u64)(w2c_i0) + 144u);
-  if (w2c_i0) {goto w2c_B10;}
-  w2c_j0 = 0ull;
-  w2c_p4 = w2c_j0;
-  w2c_j0 = w2c_l5;
-  w2c_i0 = (u32)(w2c_j0);
-  w2c_j1 = 0ull;
-  i64_store(m, (u64)(w2c_i0) + 328, w2c_j1);
-  w2c_j0 = w2c_l5;
-  w2c_i0 = (u32)(w2c_j0);
-  w2c_j1 = 0ull;
-  i64_store(m, (u64)(w2c_i0) + 320, w2c_j1);
-  w2c_j0 = w2c_l5;
-  w2c_i0 = (u32)(w2c_j0);
-  w2c_j1 = 0ull;
-  i64_store(m, (u64)(w2c_i0) + 312, w2c_j1);
-  w2c_j0 = w2c_l5;
-  w2c_i0 = (u32)(w2c_j0);
-  w2c_j1 = 0ull;
-  i64_store(m, (u64)(w2c_i0) + 304, w2c_j1);
-  w2c_j0 = w2c_l5;
-  w2c_i0 = (u32)(w2c_j0);
-  w2c_j1 = 0ull;
-  i64_store(m, (u64)(w2c_i0) + 296, w2c_j1);
+  i64_store(m, (u64)(w2c_i0) + 248, w2c_j1);
   w2c_j0 = w2c_l5;
   w2c_i0 = (u32)(w2c_j0);
   w2c_j1 = 0ull;
@@ -44404,26 +44353,6 @@ static void w2c_f48(module *m, u64 w2c_p0, u32 w2c_p1, u64 w2c_p2, u64 w2c_p3, u
   w2c_i0 = (u32)(w2c_j0);
   w2c_j1 = 0ull;
   i64_store(m, (u64)(w2c_i0) + 272, w2c_j1);
-  w2c_j0 = w2c_l5;
-  w2c_i0 = (u32)(w2c_j0);
-  w2c_j1 = 0ull;
-  i64_store(m, (u64)(w2c_i0) + 280, w2c_j1);
-  w2c_j0 = w2c_l5;
-  w2c_i0 = (u32)(w2c_j0);
-  w2c_j1 = 0ull;
-  i64_store(m, (u64)(w2c_i0) + 224, w2c_j1);
-  w2c_j0 = w2c_l5;
-  w2c_i0 = (u32)(w2c_j0);
-  w2c_j1 = 0ull;
-  i64_store(m, (u64)(w2c_i0) + 232, w2c_j1);
-  w2c_j0 = w2c_l5;
-  w2c_i0 = (u32)(w2c_j0);
-  w2c_j1 = 0ull;
-  i64_store(m, (u64)(w2c_i0) + 240, w2c_j1);
-  w2c_j0 = w2c_l5;
-  w2c_i0 = (u32)(w2c_j0);
-  w2c_j1 = 0ull;
-  i64_store(m, (u64)(w2c_i0) + 248, w2c_j1);
   w2c_j0 = w2c_l5;
   w2c_i0 = (u32)(w2c_j0);
   w2c_j1 = 0ull;
@@ -44440,10 +44369,124 @@ static void w2c_f48(module *m, u64 w2c_p0, u32 w2c_p1, u64 w2c_p2, u64 w2c_p3, u
   w2c_i0 = (u32)(w2c_j0);
   w2c_j1 = 0ull;
   i64_store(m, (u64)(w2c_i0) + 216, w2c_j1);
+  w2c_j0 = w2c_l5;
+  w2c_i0 = (u32)(w2c_j0);
+  w2c_j1 = 0ull;
+  i64_store(m, (u64)(w2c_i0) + 224, w2c_j1);
+  w2c_j0 = w2c_l5;
+  w2c_i0 = (u32)(w2c_j0);
+  w2c_j1 = 0ull;
+  i64_store(m, (u64)(w2c_i0) + 232, w2c_j1);
+  w2c_j0 = w2c_l5;
+  w2c_i0 = (u32)(w2c_j0);
+  w2c_j1 = 0ull;
+  i64_store(m, (u64)(w2c_i0) + 152, w2c_j1);
+  w2c_j0 = w2c_l5;
+  w2c_i0 = (u32)(w2c_j0);
+  w2c_j1 = 0ull;
+  i64_store(m, (u64)(w2c_i0) + 160, w2c_j1);
+  w2c_j0 = w2c_l5;
+  w2c_i0 = (u32)(w2c_j0);
+  w2c_j1 = 0ull;
+  i64_store(m, (u64)(w2c_i0) + 168, w2c_j1);
+  w2c_j0 = w2c_l5;
+  w2c_i0 = (u32)(w2c_j0);
+  w2c_j1 = 0ull;
+  i64_store(m, (u64)(w2c_i0) + 176, w2c_j1);
+  w2c_j0 = w2c_l5;
+  w2c_i0 = (u32)(w2c_j0);
+  w2c_j1 = 0ull;
+  i64_store(m, (u64)(w2c_i0) + 184, w2c_j1);
+  w2c_i0 = 1u;
+  w2c_l17 = w2c_i0;
+  w2c_i0 = w2c_l18;
+  w2c_i1 = 1u;
+  w2c_i0 = w2c_i0 != w2c_i1;
+  if (w2c_i0) {goto w2c_B12;}
+  w2c_j0 = w2c_l5;
+  w2c_j1 = 192ull;
+  w2c_j0 += w2c_j1;
+  w2c_j1 = w2c_l7;
+  w2c_j2 = w2c_l6;
+  w2c_f59(m, w2c_j0, w2c_j1, w2c_j2);
+  w2c_j0 = w2c_l5;
+  w2c_i0 = (u32)(w2c_j0);
+  w2c_i0 = i32_load8_u(m, (u64)(w2c_i0) + 192u);
+  if (w2c_i0) {goto w2c_B9;}
+  w2c_j0 = 0ull;
+  w2c_p4 = w2c_j0;
+  w2c_j0 = w2c_l5;
+  w2c_i0 = (u32)(w2c_j0);
+  w2c_j1 = 0ull;
+  i64_store(m, (u64)(w2c_i0) + 312, w2c_j1);
+  w2c_j0 = w2c_l5;
+  w2c_i0 = (u32)(w2c_j0);
+  w2c_j1 = 0ull;
+  i64_store(m, (u64)(w2c_i0) + 304, w2c_j1);
+  w2c_j0 = w2c_l5;
+  w2c_i0 = (u32)(w2c_j0);
+  w2c_j1 = 0ull;
+  i64_store(m, (u64)(w2c_i0) + 296, w2c_j1);
+  w2c_j0 = w2c_l5;
+  w2c_i0 = (u32)(w2c_j0);
+  w2c_j1 = 0ull;
+  i64_store(m, (u64)(w2c_i0) + 288, w2c_j1);
+  w2c_j0 = w2c_l5;
+  w2c_i0 = (u32)(w2c_j0);
+  w2c_j1 = 0ull;
+  i64_store(m, (u64)(w2c_i0) + 280, w2c_j1);
+  w2c_j0 = w2c_l5;
+  w2c_i0 = (u32)(w2c_j0);
+  w2c_j1 = 0ull;
+  i64_store(m, (u64)(w2c_i0) + 384, w2c_j1);
+  w2c_j0 = w2c_l5;
+  w2c_i0 = (u32)(w2c_j0);
+  w2c_j1 = 0ull;
+  i64_store(m, (u64)(w2c_i0) + 392, w2c_j1);
+  w2c_j0 = w2c_l5;
+  w2c_i0 = (u32)(w2c_j0);
+  w2c_j1 = 0ull;
+  i64_store(m, (u64)(w2c_i0) + 400, w2c_j1);
+  w2c_j0 = w2c_l5;
+  w2c_i0 = (u32)(w2c_j0);
+  w2c_j1 = 0ull;
+  i64_store(m, (u64)(w2c_i0) + 408, w2c_j1);
+  w2c_j0 = w2c_l5;
+  w2c_i0 = (u32)(w2c_j0);
+  w2c_j1 = 0ull;
+  i64_store(m, (u64)(w2c_i0) + 352, w2c_j1);
+  w2c_j0 = w2c_l5;
+  w2c_i0 = (u32)(w2c_j0);
+  w2c_j1 = 0ull;
+  i64_store(m, (u64)(w2c_i0) + 360, w2c_j1);
+  w2c_j0 = w2c_l5;
+  w2c_i0 = (u32)(w2c_j0);
+  w2c_j1 = 0ull;
+  i64_store(m, (u64)(w2c_i0) + 368, w2c_j1);
+  w2c_j0 = w2c_l5;
+  w2c_i0 = (u32)(w2c_j0);
+  w2c_j1 = 0ull;
+  i64_store(m, (u64)(w2c_i0) + 376, w2c_j1);
+  w2c_j0 = w2c_l5;
+  w2c_i0 = (u32)(w2c_j0);
+  w2c_j1 = 0ull;
+  i64_store(m, (u64)(w2c_i0) + 320, w2c_j1);
+  w2c_j0 = w2c_l5;
+  w2c_i0 = (u32)(w2c_j0);
+  w2c_j1 = 0ull;
+  i64_store(m, (u64)(w2c_i0) + 328, w2c_j1);
+  w2c_j0 = w2c_l5;
+  w2c_i0 = (u32)(w2c_j0);
+  w2c_j1 = 0ull;
+  i64_store(m, (u64)(w2c_i0) + 336, w2c_j1);
+  w2c_j0 = w2c_l5;
+  w2c_i0 = (u32)(w2c_j0);
+  w2c_j1 = 0ull;
+  i64_store(m, (u64)(w2c_i0) + 344, w2c_j1);
   w2c_j0 = w2c_l8;
   w2c_i0 = !(w2c_j0);
   if (w2c_i0) {goto w2c_B3;}
-  w2c_i0 = w2c_l18;
+  w2c_i0 = w2c_l19;
   w2c_j0 = (u64)(w2c_i0);
   w2c_j1 = 255ull;
   w2c_j0 &= w2c_j1;
@@ -44488,11 +44531,11 @@ static void w2c_f48(module *m, u64 w2c_p0, u32 w2c_p1, u64 w2c_p2, u64 w2c_p3, u
     w2c_j0 = w2c_p4;
     w2c_i0 = (u32)(w2c_j0);
     w2c_i0 = i32_load8_u(m, (u64)(w2c_i0) + 1u);
-    w2c_l19 = w2c_i0;
+    w2c_l18 = w2c_i0;
     w2c_i1 = 133u;
     w2c_i0 = w2c_i0 == w2c_i1;
     if (w2c_i0) {goto w2c_B14;}
-    w2c_i0 = w2c_l19;
+    w2c_i0 = w2c_l18;
     w2c_i1 = 160u;
     w2c_i0 = w2c_i0 == w2c_i1;
     if (w2c_i0) {goto w2c_B14;}
@@ -44515,7 +44558,7 @@ static void w2c_f48(module *m, u64 w2c_p0, u32 w2c_p1, u64 w2c_p2, u64 w2c_p3, u
     w2c_j0 += w2c_j1;
     w2c_i0 = (u32)(w2c_j0);
     w2c_i0 = i32_load8_u(m, (u64)(w2c_i0));
-    w2c_l19 = w2c_i0;
+    w2c_l18 = w2c_i0;
     w2c_j0 = w2c_p4;
     w2c_j1 = 2ull;
     w2c_j0 += w2c_j1;
@@ -44528,7 +44571,7 @@ static void w2c_f48(module *m, u64 w2c_p0, u32 w2c_p1, u64 w2c_p2, u64 w2c_p3, u
     w2c_i1 = 226u;
     w2c_i0 = w2c_i0 != w2c_i1;
     if (w2c_i0) {goto w2c_B17;}
-    w2c_i0 = w2c_l19;
+    w2c_i0 = w2c_l18;
     w2c_i1 = 255u;
     w2c_i0 &= w2c_i1;
     w2c_i1 = 128u;
@@ -44553,7 +44596,7 @@ static void w2c_f48(module *m, u64 w2c_p0, u32 w2c_p1, u64 w2c_p2, u64 w2c_p3, u
     w2c_i0 = 4294967168u;
     w2c_l17 = w2c_i0;
     w2c_i0 = 128u;
-    w2c_l19 = w2c_i0;
+    w2c_l18 = w2c_i0;
     goto w2c_B7;
     w2c_B17:;
     w2c_i0 = w2c_l17;
@@ -44568,7 +44611,7 @@ static void w2c_f48(module *m, u64 w2c_p0, u32 w2c_p1, u64 w2c_p2, u64 w2c_p3, u
     w2c_B21:;
     w2c_i0 = 4294963072u;
     w2c_l17 = w2c_i0;
-    w2c_i0 = w2c_l19;
+    w2c_i0 = w2c_l18;
     w2c_i1 = 255u;
     w2c_i0 &= w2c_i1;
     w2c_i1 = 154u;
@@ -44582,7 +44625,7 @@ static void w2c_f48(module *m, u64 w2c_p0, u32 w2c_p1, u64 w2c_p2, u64 w2c_p3, u
     w2c_B20:;
     w2c_i0 = 4294967168u;
     w2c_l17 = w2c_i0;
-    w2c_i0 = w2c_l19;
+    w2c_i0 = w2c_l18;
     w2c_i1 = 255u;
     w2c_i0 &= w2c_i1;
     w2c_i1 = 129u;
@@ -44596,7 +44639,7 @@ static void w2c_f48(module *m, u64 w2c_p0, u32 w2c_p1, u64 w2c_p2, u64 w2c_p3, u
     w2c_B19:;
     w2c_i0 = 3968u;
     w2c_l17 = w2c_i0;
-    w2c_i0 = w2c_l19;
+    w2c_i0 = w2c_l18;
     w2c_i1 = 255u;
     w2c_i0 &= w2c_i1;
     w2c_i1 = 128u;
@@ -44627,69 +44670,95 @@ static void w2c_f48(module *m, u64 w2c_p0, u32 w2c_p1, u64 w2c_p2, u64 w2c_p3, u
     if (w2c_i0) {goto w2c_L13;}
     goto w2c_B4;
   UNREACHABLE;
-  w2c_B11:;
-  UNREACHABLE;
-  w2c_B10:;
+  w2c_B12:;
   w2c_j0 = w2c_l5;
   w2c_i0 = (u32)(w2c_j0);
-  w2c_j1 = 0ull;
-  i64_store(m, (u64)(w2c_i0) + 336, w2c_j1);
+  w2c_i1 = w2c_l19;
+  i32_store8(m, (u64)(w2c_i0) + 273, w2c_i1);
   w2c_j0 = w2c_l5;
   w2c_i0 = (u32)(w2c_j0);
-  w2c_j1 = 0ull;
-  i64_store(m, (u64)(w2c_i0) + 344, w2c_j1);
+  w2c_j1 = w2c_l6;
+  i64_store(m, (u64)(w2c_i0) + 264, w2c_j1);
   w2c_j0 = w2c_l5;
   w2c_i0 = (u32)(w2c_j0);
-  w2c_j1 = 0ull;
-  i64_store(m, (u64)(w2c_i0) + 352, w2c_j1);
+  w2c_j1 = w2c_l7;
+  i64_store(m, (u64)(w2c_i0) + 256, w2c_j1);
   w2c_j0 = w2c_l5;
   w2c_i0 = (u32)(w2c_j0);
-  w2c_j1 = 0ull;
-  i64_store(m, (u64)(w2c_i0) + 360, w2c_j1);
+  w2c_j1 = w2c_l8;
+  i64_store(m, (u64)(w2c_i0) + 248, w2c_j1);
   w2c_j0 = w2c_l5;
   w2c_i0 = (u32)(w2c_j0);
-  w2c_j1 = 1ull;
-  i64_store(m, (u64)(w2c_i0) + 328, w2c_j1);
+  w2c_j1 = w2c_l9;
+  i64_store(m, (u64)(w2c_i0) + 240, w2c_j1);
   w2c_j0 = w2c_l5;
-  w2c_j1 = 336ull;
+  w2c_j1 = 48ull;
   w2c_j0 += w2c_j1;
   w2c_i1 = w2c_p1;
   w2c_j2 = w2c_p2;
   w2c_j3 = w2c_p3;
   w2c_j4 = w2c_p4;
-  w2c_f60(m, w2c_j0, w2c_i1, w2c_j2, w2c_j3, w2c_j4);
+  w2c_j5 = w2c_l5;
+  w2c_j6 = 240ull;
+  w2c_j5 += w2c_j6;
+  w2c_f61(m, w2c_j0, w2c_i1, w2c_j2, w2c_j3, w2c_j4, w2c_j5);
   w2c_j0 = w2c_l5;
   w2c_i0 = (u32)(w2c_j0);
-  w2c_i0 = i32_load8_u(m, (u64)(w2c_i0) + 336u);
-  if (w2c_i0) {goto w2c_B22;}
+  w2c_j1 = 0ull;
+  i64_store(m, (u64)(w2c_i0) + 88, w2c_j1);
   w2c_j0 = w2c_l5;
   w2c_i0 = (u32)(w2c_j0);
-  w2c_i1 = w2c_l18;
-  i32_store8(m, (u64)(w2c_i0) + 329, w2c_i1);
+  w2c_j1 = w2c_l5;
+  w2c_i1 = (u32)(w2c_j1);
+  w2c_j1 = i64_load(m, (u64)(w2c_i1) + 56u);
+  i64_store(m, (u64)(w2c_i0) + 80, w2c_j1);
+  w2c_j0 = w2c_l5;
+  w2c_i0 = (u32)(w2c_j0);
+  w2c_i0 = i32_load8_u(m, (u64)(w2c_i0) + 48u);
+  w2c_p1 = w2c_i0;
+  goto w2c_B0;
+  w2c_B10:;
+  UNREACHABLE;
+  w2c_B9:;
+  w2c_j0 = w2c_l5;
+  w2c_i0 = (u32)(w2c_j0);
+  w2c_i1 = w2c_l19;
+  i32_store8(m, (u64)(w2c_i0) + 185, w2c_i1);
+  w2c_i0 = 1u;
+  w2c_l17 = w2c_i0;
+  w2c_j0 = w2c_l5;
+  w2c_i0 = (u32)(w2c_j0);
+  w2c_i1 = 1u;
+  i32_store8(m, (u64)(w2c_i0) + 184, w2c_i1);
   w2c_j0 = w2c_l5;
   w2c_i0 = (u32)(w2c_j0);
   w2c_j1 = w2c_l6;
-  i64_store(m, (u64)(w2c_i0) + 320, w2c_j1);
+  i64_store(m, (u64)(w2c_i0) + 176, w2c_j1);
   w2c_j0 = w2c_l5;
   w2c_i0 = (u32)(w2c_j0);
   w2c_j1 = w2c_l7;
-  i64_store(m, (u64)(w2c_i0) + 312, w2c_j1);
+  i64_store(m, (u64)(w2c_i0) + 168, w2c_j1);
   w2c_j0 = w2c_l5;
   w2c_i0 = (u32)(w2c_j0);
   w2c_j1 = w2c_l8;
-  i64_store(m, (u64)(w2c_i0) + 304, w2c_j1);
+  i64_store(m, (u64)(w2c_i0) + 160, w2c_j1);
   w2c_j0 = w2c_l5;
   w2c_i0 = (u32)(w2c_j0);
   w2c_j1 = w2c_l9;
-  i64_store(m, (u64)(w2c_i0) + 296, w2c_j1);
+  i64_store(m, (u64)(w2c_i0) + 152, w2c_j1);
   w2c_j0 = w2c_l5;
   w2c_j1 = 32ull;
   w2c_j0 += w2c_j1;
-  w2c_j1 = w2c_p2;
-  w2c_j2 = w2c_l5;
-  w2c_j3 = 296ull;
-  w2c_j2 += w2c_j3;
-  w2c_f61(m, w2c_j0, w2c_j1, w2c_j2);
+  w2c_i1 = w2c_p1;
+  w2c_j2 = w2c_p2;
+  w2c_j3 = w2c_p3;
+  w2c_j4 = w2c_p4;
+  w2c_j5 = w2c_l5;
+  w2c_j6 = 152ull;
+  w2c_j5 += w2c_j6;
+  w2c_f61(m, w2c_j0, w2c_i1, w2c_j2, w2c_j3, w2c_j4, w2c_j5);
+  w2c_j0 = 0ull;
+  w2c_p3 = w2c_j0;
   w2c_j0 = w2c_l5;
   w2c_i0 = (u32)(w2c_j0);
   w2c_j0 = i64_load(m, (u64)(w2c_i0) + 40u);
@@ -44698,108 +44767,7 @@ static void w2c_f48(module *m, u64 w2c_p0, u32 w2c_p1, u64 w2c_p2, u64 w2c_p3, u
   w2c_i0 = (u32)(w2c_j0);
   w2c_i0 = i32_load8_u(m, (u64)(w2c_i0) + 32u);
   w2c_p1 = w2c_i0;
-  goto w2c_B2;
-  w2c_B22:;
-  w2c_j0 = w2c_l5;
-  w2c_i0 = (u32)(w2c_j0);
-  w2c_j0 = i64_load(m, (u64)(w2c_i0) + 352u);
-  w2c_p4 = w2c_j0;
-  w2c_j0 = w2c_l5;
-  w2c_i0 = (u32)(w2c_j0);
-  w2c_i0 = i32_load8_u(m, (u64)(w2c_i0) + 344u);
-  w2c_p1 = w2c_i0;
-  goto w2c_B2;
-  w2c_B9:;
-  w2c_j0 = w2c_l5;
-  w2c_i0 = (u32)(w2c_j0);
-  w2c_j1 = 0ull;
-  i64_store(m, (u64)(w2c_i0) + 336, w2c_j1);
-  w2c_j0 = w2c_l5;
-  w2c_i0 = (u32)(w2c_j0);
-  w2c_j1 = 0ull;
-  i64_store(m, (u64)(w2c_i0) + 344, w2c_j1);
-  w2c_j0 = w2c_l5;
-  w2c_i0 = (u32)(w2c_j0);
-  w2c_j1 = 0ull;
-  i64_store(m, (u64)(w2c_i0) + 352, w2c_j1);
-  w2c_j0 = w2c_l5;
-  w2c_i0 = (u32)(w2c_j0);
-  w2c_j1 = 0ull;
-  i64_store(m, (u64)(w2c_i0) + 360, w2c_j1);
-  w2c_j0 = w2c_l5;
-  w2c_i0 = (u32)(w2c_j0);
-  w2c_j1 = 0ull;
-  i64_store(m, (u64)(w2c_i0) + 328, w2c_j1);
-  w2c_j0 = w2c_l5;
-  w2c_j1 = 336ull;
-  w2c_j0 += w2c_j1;
-  w2c_i1 = w2c_p1;
-  w2c_j2 = w2c_p2;
-  w2c_j3 = w2c_p3;
-  w2c_j4 = w2c_p4;
-  w2c_f60(m, w2c_j0, w2c_i1, w2c_j2, w2c_j3, w2c_j4);
-  w2c_j0 = w2c_l5;
-  w2c_i0 = (u32)(w2c_j0);
-  w2c_i0 = i32_load8_u(m, (u64)(w2c_i0) + 336u);
-  if (w2c_i0) {goto w2c_B24;}
-  w2c_j0 = w2c_l5;
-  w2c_i0 = (u32)(w2c_j0);
-  w2c_i1 = w2c_l18;
-  i32_store8(m, (u64)(w2c_i0) + 329, w2c_i1);
-  w2c_j0 = w2c_l5;
-  w2c_i0 = (u32)(w2c_j0);
-  w2c_j1 = w2c_l6;
-  i64_store(m, (u64)(w2c_i0) + 320, w2c_j1);
-  w2c_j0 = w2c_l5;
-  w2c_i0 = (u32)(w2c_j0);
-  w2c_j1 = w2c_l7;
-  i64_store(m, (u64)(w2c_i0) + 312, w2c_j1);
-  w2c_j0 = w2c_l5;
-  w2c_i0 = (u32)(w2c_j0);
-  w2c_j1 = w2c_l8;
-  i64_store(m, (u64)(w2c_i0) + 304, w2c_j1);
-  w2c_j0 = w2c_l5;
-  w2c_i0 = (u32)(w2c_j0);
-  w2c_j1 = w2c_l9;
-  i64_store(m, (u64)(w2c_i0) + 296, w2c_j1);
-  w2c_j0 = w2c_l5;
-  w2c_j1 = 48ull;
-  w2c_j0 += w2c_j1;
-  w2c_j1 = w2c_p2;
-  w2c_j2 = w2c_l5;
-  w2c_j3 = 296ull;
-  w2c_j2 += w2c_j3;
-  w2c_f61(m, w2c_j0, w2c_j1, w2c_j2);
-  w2c_j0 = w2c_l5;
-  w2c_i0 = (u32)(w2c_j0);
-  w2c_j0 = i64_load(m, (u64)(w2c_i0) + 56u);
-  w2c_p4 = w2c_j0;
-  w2c_j0 = w2c_l5;
-  w2c_i0 = (u32)(w2c_j0);
-  w2c_i0 = i32_load8_u(m, (u64)(w2c_i0) + 48u);
-  w2c_p1 = w2c_i0;
-  goto w2c_B23;
-  w2c_B24:;
-  w2c_j0 = w2c_l5;
-  w2c_i0 = (u32)(w2c_j0);
-  w2c_j0 = i64_load(m, (u64)(w2c_i0) + 352u);
-  w2c_p4 = w2c_j0;
-  w2c_j0 = w2c_l5;
-  w2c_i0 = (u32)(w2c_j0);
-  w2c_i0 = i32_load8_u(m, (u64)(w2c_i0) + 344u);
-  w2c_p1 = w2c_i0;
-  w2c_B23:;
-  w2c_j0 = w2c_l5;
-  w2c_i0 = (u32)(w2c_j0);
-  w2c_j1 = 0ull;
-  i64_store(m, (u64)(w2c_i0) + 88, w2c_j1);
-  w2c_j0 = w2c_l5;
-  w2c_i0 = (u32)(w2c_j0);
-  w2c_j1 = w2c_p4;
-  i64_store(m, (u64)(w2c_i0) + 80, w2c_j1);
-  w2c_i0 = 1u;
-  w2c_l17 = w2c_i0;
-  goto w2c_B0;
+  goto w2c_B1;
   w2c_B8:;
   w2c_j0 = w2c_l12;
   w2c_j1 = 3ull;
@@ -44824,14 +44792,14 @@ static void w2c_f48(module *m, u64 w2c_p0, u32 w2c_p1, u64 w2c_p2, u64 w2c_p3, u
   w2c_j0 = w2c_p4;
   w2c_i0 = (u32)(w2c_j0);
   w2c_i0 = i32_load8_u(m, (u64)(w2c_i0) + 1u);
-  w2c_l19 = w2c_i0;
+  w2c_l18 = w2c_i0;
   w2c_B7:;
   w2c_i0 = w2c_l17;
   w2c_i1 = w2c_l21;
   w2c_i2 = 255u;
   w2c_i1 &= w2c_i2;
   w2c_i0 += w2c_i1;
-  w2c_i1 = w2c_l19;
+  w2c_i1 = w2c_l18;
   w2c_i2 = 255u;
   w2c_i1 &= w2c_i2;
   w2c_i2 = 6u;
@@ -44854,29 +44822,29 @@ static void w2c_f48(module *m, u64 w2c_p0, u32 w2c_p1, u64 w2c_p2, u64 w2c_p3, u
   w2c_i0 = (u32)(s32)(s8)(u8)(w2c_i0);
   w2c_i1 = 4294967295u;
   w2c_i0 = (u32)((s32)w2c_i0 > (s32)w2c_i1);
-  if (w2c_i0) {goto w2c_B25;}
+  if (w2c_i0) {goto w2c_B22;}
   w2c_j0 = w2c_p4;
   w2c_i0 = (u32)(w2c_j0);
   w2c_i0 = i32_load8_u(m, (u64)(w2c_i0) + 1u);
   w2c_i1 = 63u;
   w2c_i0 &= w2c_i1;
-  w2c_l19 = w2c_i0;
+  w2c_l18 = w2c_i0;
   w2c_i0 = w2c_l17;
   w2c_i1 = 223u;
   w2c_i0 = w2c_i0 > w2c_i1;
-  if (w2c_i0) {goto w2c_B26;}
+  if (w2c_i0) {goto w2c_B23;}
   w2c_i0 = w2c_l17;
   w2c_i1 = 6u;
   w2c_i0 <<= (w2c_i1 & 31);
   w2c_i1 = 1984u;
   w2c_i0 &= w2c_i1;
-  w2c_i1 = w2c_l19;
+  w2c_i1 = w2c_l18;
   w2c_i0 |= w2c_i1;
   w2c_l17 = w2c_i0;
   w2c_j0 = 2ull;
   w2c_l13 = w2c_j0;
-  goto w2c_B25;
-  w2c_B26:;
+  goto w2c_B22;
+  w2c_B23:;
   w2c_j0 = w2c_p4;
   w2c_i0 = (u32)(w2c_j0);
   w2c_i0 = i32_load8_u(m, (u64)(w2c_i0) + 2u);
@@ -44886,8 +44854,8 @@ static void w2c_f48(module *m, u64 w2c_p0, u32 w2c_p1, u64 w2c_p2, u64 w2c_p3, u
   w2c_i0 = w2c_l17;
   w2c_i1 = 239u;
   w2c_i0 = w2c_i0 > w2c_i1;
-  if (w2c_i0) {goto w2c_B27;}
-  w2c_i0 = w2c_l19;
+  if (w2c_i0) {goto w2c_B24;}
+  w2c_i0 = w2c_l18;
   w2c_i1 = 6u;
   w2c_i0 <<= (w2c_i1 & 31);
   w2c_i1 = w2c_l17;
@@ -44901,12 +44869,12 @@ static void w2c_f48(module *m, u64 w2c_p0, u32 w2c_p1, u64 w2c_p2, u64 w2c_p3, u
   w2c_l17 = w2c_i0;
   w2c_j0 = 3ull;
   w2c_l13 = w2c_j0;
-  goto w2c_B25;
-  w2c_B27:;
+  goto w2c_B22;
+  w2c_B24:;
   w2c_i0 = w2c_l21;
   w2c_i1 = 6u;
   w2c_i0 <<= (w2c_i1 & 31);
-  w2c_i1 = w2c_l19;
+  w2c_i1 = w2c_l18;
   w2c_i2 = 12u;
   w2c_i1 <<= (w2c_i2 & 31);
   w2c_i2 = w2c_l17;
@@ -44925,7 +44893,7 @@ static void w2c_f48(module *m, u64 w2c_p0, u32 w2c_p1, u64 w2c_p2, u64 w2c_p3, u
   w2c_l17 = w2c_i0;
   w2c_j0 = 4ull;
   w2c_l13 = w2c_j0;
-  w2c_B25:;
+  w2c_B22:;
   w2c_j0 = w2c_l12;
   w2c_j1 = w2c_l13;
   w2c_j0 -= w2c_j1;
@@ -44938,23 +44906,23 @@ static void w2c_f48(module *m, u64 w2c_p0, u32 w2c_p1, u64 w2c_p2, u64 w2c_p3, u
   w2c_j0 = w2c_l5;
   w2c_i0 = (u32)(w2c_j0);
   w2c_j1 = 0ull;
-  i64_store(m, (u64)(w2c_i0) + 360, w2c_j1);
+  i64_store(m, (u64)(w2c_i0) + 440, w2c_j1);
   w2c_j0 = w2c_l5;
   w2c_i0 = (u32)(w2c_j0);
   w2c_j1 = 0ull;
-  i64_store(m, (u64)(w2c_i0) + 352, w2c_j1);
+  i64_store(m, (u64)(w2c_i0) + 432, w2c_j1);
   w2c_j0 = w2c_l5;
   w2c_i0 = (u32)(w2c_j0);
   w2c_j1 = 0ull;
-  i64_store(m, (u64)(w2c_i0) + 344, w2c_j1);
+  i64_store(m, (u64)(w2c_i0) + 424, w2c_j1);
   w2c_j0 = w2c_l5;
   w2c_i0 = (u32)(w2c_j0);
   w2c_j1 = 0ull;
-  i64_store(m, (u64)(w2c_i0) + 336, w2c_j1);
+  i64_store(m, (u64)(w2c_i0) + 416, w2c_j1);
   w2c_j0 = w2c_p3;
   w2c_j1 = 4ull;
   w2c_i0 = w2c_j0 < w2c_j1;
-  if (w2c_i0) {goto w2c_B40;}
+  if (w2c_i0) {goto w2c_B37;}
   w2c_j0 = w2c_p4;
   w2c_j1 = w2c_p3;
   w2c_j0 += w2c_j1;
@@ -44964,7 +44932,7 @@ static void w2c_f48(module *m, u64 w2c_p0, u32 w2c_p1, u64 w2c_p2, u64 w2c_p3, u
   w2c_i0 = i32_load_of_text(m, (u64)(w2c_i0));
   w2c_i1 = 8u;
   w2c_i0 >>= (w2c_i1 & 31);
-  w2c_l19 = w2c_i0;
+  w2c_l18 = w2c_i0;
   w2c_j0 = (u64)(w2c_i0);
   w2c_j1 = 953497ull;
   w2c_j0 *= w2c_j1;
@@ -44977,21 +44945,21 @@ static void w2c_f48(module *m, u64 w2c_p0, u32 w2c_p1, u64 w2c_p2, u64 w2c_p3, u
   w2c_j0 += w2c_j1;
   w2c_i0 = (u32)(w2c_j0);
   w2c_i0 = i32_load_of_text(m, (u64)(w2c_i0));
-  w2c_i1 = w2c_l19;
+  w2c_i1 = w2c_l18;
   w2c_i0 = w2c_i0 != w2c_i1;
-  if (w2c_i0) {goto w2c_B38;}
+  if (w2c_i0) {goto w2c_B35;}
   w2c_j0 = w2c_p3;
   w2c_j1 = 18446744073709551613ull;
   w2c_j0 += w2c_j1;
   w2c_l12 = w2c_j0;
   w2c_j0 = w2c_p4;
   w2c_l13 = w2c_j0;
-  goto w2c_B39;
-  w2c_B40:;
+  goto w2c_B36;
+  w2c_B37:;
   w2c_j0 = w2c_p3;
   w2c_j1 = 3ull;
   w2c_i0 = w2c_j0 != w2c_j1;
-  if (w2c_i0) {goto w2c_B38;}
+  if (w2c_i0) {goto w2c_B35;}
   w2c_j0 = w2c_p4;
   w2c_i0 = (u32)(w2c_j0);
   w2c_i0 = i32_load16_u(m, (u64)(w2c_i0));
@@ -45001,7 +44969,7 @@ static void w2c_f48(module *m, u64 w2c_p0, u32 w2c_p1, u64 w2c_p2, u64 w2c_p3, u
   w2c_i2 = 16u;
   w2c_i1 <<= (w2c_i2 & 31);
   w2c_i0 |= w2c_i1;
-  w2c_l19 = w2c_i0;
+  w2c_l18 = w2c_i0;
   w2c_j0 = (u64)(w2c_i0);
   w2c_j1 = 953497ull;
   w2c_j0 *= w2c_j1;
@@ -45014,16 +44982,16 @@ static void w2c_f48(module *m, u64 w2c_p0, u32 w2c_p1, u64 w2c_p2, u64 w2c_p3, u
   w2c_j0 += w2c_j1;
   w2c_i0 = (u32)(w2c_j0);
   w2c_i0 = i32_load_of_text(m, (u64)(w2c_i0));
-  w2c_i1 = w2c_l19;
+  w2c_i1 = w2c_l18;
   w2c_i0 = w2c_i0 != w2c_i1;
-  if (w2c_i0) {goto w2c_B38;}
+  if (w2c_i0) {goto w2c_B35;}
   w2c_j0 = w2c_p4;
   w2c_j1 = 3ull;
   w2c_j0 += w2c_j1;
   w2c_l13 = w2c_j0;
   w2c_j0 = 0ull;
   w2c_l12 = w2c_j0;
-  w2c_B39:;
+  w2c_B36:;
   w2c_j0 = w2c_l14;
   w2c_j1 = 67332ull;
   w2c_j0 += w2c_j1;
@@ -45036,57 +45004,57 @@ static void w2c_f48(module *m, u64 w2c_p0, u32 w2c_p1, u64 w2c_p2, u64 w2c_p3, u
   w2c_i0 = (u32)(w2c_j0);
   w2c_i0 = i32_load8_u(m, (u64)(w2c_i0));
   w2c_l22 = w2c_i0;
-  goto w2c_B37;
-  w2c_B38:;
+  goto w2c_B34;
+  w2c_B35:;
   w2c_j0 = w2c_l5;
-  w2c_j1 = 336ull;
+  w2c_j1 = 416ull;
   w2c_j0 += w2c_j1;
   w2c_j1 = w2c_p4;
   w2c_j2 = w2c_p3;
   w2c_f62(m, w2c_j0, w2c_j1, w2c_j2);
   w2c_j0 = w2c_l5;
   w2c_i0 = (u32)(w2c_j0);
-  w2c_i0 = i32_load8_u(m, (u64)(w2c_i0) + 336u);
+  w2c_i0 = i32_load8_u(m, (u64)(w2c_i0) + 416u);
   w2c_i1 = 1u;
   w2c_i0 = w2c_i0 != w2c_i1;
-  if (w2c_i0) {goto w2c_B36;}
+  if (w2c_i0) {goto w2c_B33;}
   w2c_j0 = w2c_l5;
   w2c_i0 = (u32)(w2c_j0);
-  w2c_j0 = i64_load(m, (u64)(w2c_i0) + 360u);
+  w2c_j0 = i64_load(m, (u64)(w2c_i0) + 440u);
   w2c_l12 = w2c_j0;
   w2c_j0 = w2c_l5;
   w2c_i0 = (u32)(w2c_j0);
-  w2c_j0 = i64_load(m, (u64)(w2c_i0) + 352u);
+  w2c_j0 = i64_load(m, (u64)(w2c_i0) + 432u);
   w2c_l13 = w2c_j0;
   w2c_j0 = w2c_l5;
   w2c_i0 = (u32)(w2c_j0);
-  w2c_i0 = i32_load8_u(m, (u64)(w2c_i0) + 345u);
+  w2c_i0 = i32_load8_u(m, (u64)(w2c_i0) + 425u);
   w2c_l22 = w2c_i0;
   w2c_j0 = w2c_l5;
   w2c_i0 = (u32)(w2c_j0);
-  w2c_i0 = i32_load8_u(m, (u64)(w2c_i0) + 344u);
+  w2c_i0 = i32_load8_u(m, (u64)(w2c_i0) + 424u);
   w2c_l20 = w2c_i0;
-  w2c_B37:;
+  w2c_B34:;
   w2c_j0 = w2c_l5;
   w2c_i0 = (u32)(w2c_j0);
   w2c_j1 = 0ull;
-  i64_store(m, (u64)(w2c_i0) + 360, w2c_j1);
+  i64_store(m, (u64)(w2c_i0) + 440, w2c_j1);
   w2c_j0 = w2c_l5;
   w2c_i0 = (u32)(w2c_j0);
   w2c_j1 = 0ull;
-  i64_store(m, (u64)(w2c_i0) + 352, w2c_j1);
+  i64_store(m, (u64)(w2c_i0) + 432, w2c_j1);
   w2c_j0 = w2c_l5;
   w2c_i0 = (u32)(w2c_j0);
   w2c_j1 = 0ull;
-  i64_store(m, (u64)(w2c_i0) + 344, w2c_j1);
+  i64_store(m, (u64)(w2c_i0) + 424, w2c_j1);
   w2c_j0 = w2c_l5;
   w2c_i0 = (u32)(w2c_j0);
   w2c_j1 = 0ull;
-  i64_store(m, (u64)(w2c_i0) + 336, w2c_j1);
+  i64_store(m, (u64)(w2c_i0) + 416, w2c_j1);
   w2c_j0 = w2c_l12;
   w2c_j1 = 4ull;
   w2c_i0 = w2c_j0 < w2c_j1;
-  if (w2c_i0) {goto w2c_B43;}
+  if (w2c_i0) {goto w2c_B40;}
   w2c_j0 = w2c_l13;
   w2c_j1 = w2c_l12;
   w2c_j0 += w2c_j1;
@@ -45096,7 +45064,7 @@ static void w2c_f48(module *m, u64 w2c_p0, u32 w2c_p1, u64 w2c_p2, u64 w2c_p3, u
   w2c_i0 = i32_load_of_text(m, (u64)(w2c_i0));
   w2c_i1 = 8u;
   w2c_i0 >>= (w2c_i1 & 31);
-  w2c_l19 = w2c_i0;
+  w2c_l18 = w2c_i0;
   w2c_j0 = (u64)(w2c_i0);
   w2c_j1 = 953497ull;
   w2c_j0 *= w2c_j1;
@@ -45109,9 +45077,9 @@ static void w2c_f48(module *m, u64 w2c_p0, u32 w2c_p1, u64 w2c_p2, u64 w2c_p3, u
   w2c_j0 += w2c_j1;
   w2c_i0 = (u32)(w2c_j0);
   w2c_i0 = i32_load_of_text(m, (u64)(w2c_i0));
-  w2c_i1 = w2c_l19;
+  w2c_i1 = w2c_l18;
   w2c_i0 = w2c_i0 != w2c_i1;
-  if (w2c_i0) {goto w2c_B42;}
+  if (w2c_i0) {goto w2c_B39;}
   w2c_j0 = w2c_l14;
   w2c_j1 = 67332ull;
   w2c_j0 += w2c_j1;
@@ -45125,13 +45093,13 @@ static void w2c_f48(module *m, u64 w2c_p0, u32 w2c_p1, u64 w2c_p2, u64 w2c_p3, u
   w2c_i0 = i32_load8_u(m, (u64)(w2c_i0));
   w2c_l23 = w2c_i0;
   w2c_i0 = 1u;
-  w2c_l19 = w2c_i0;
-  goto w2c_B41;
-  w2c_B43:;
+  w2c_l18 = w2c_i0;
+  goto w2c_B38;
+  w2c_B40:;
   w2c_j0 = w2c_l12;
   w2c_j1 = 3ull;
   w2c_i0 = w2c_j0 != w2c_j1;
-  if (w2c_i0) {goto w2c_B42;}
+  if (w2c_i0) {goto w2c_B39;}
   w2c_j0 = w2c_l13;
   w2c_i0 = (u32)(w2c_j0);
   w2c_i0 = i32_load16_u(m, (u64)(w2c_i0));
@@ -45141,7 +45109,7 @@ static void w2c_f48(module *m, u64 w2c_p0, u32 w2c_p1, u64 w2c_p2, u64 w2c_p3, u
   w2c_i2 = 16u;
   w2c_i1 <<= (w2c_i2 & 31);
   w2c_i0 |= w2c_i1;
-  w2c_l19 = w2c_i0;
+  w2c_l18 = w2c_i0;
   w2c_j0 = (u64)(w2c_i0);
   w2c_j1 = 953497ull;
   w2c_j0 *= w2c_j1;
@@ -45154,9 +45122,9 @@ static void w2c_f48(module *m, u64 w2c_p0, u32 w2c_p1, u64 w2c_p2, u64 w2c_p3, u
   w2c_j0 += w2c_j1;
   w2c_i0 = (u32)(w2c_j0);
   w2c_i0 = i32_load_of_text(m, (u64)(w2c_i0));
-  w2c_i1 = w2c_l19;
+  w2c_i1 = w2c_l18;
   w2c_i0 = w2c_i0 != w2c_i1;
-  if (w2c_i0) {goto w2c_B42;}
+  if (w2c_i0) {goto w2c_B39;}
   w2c_j0 = w2c_l14;
   w2c_j1 = 67332ull;
   w2c_j0 += w2c_j1;
@@ -45170,39 +45138,39 @@ static void w2c_f48(module *m, u64 w2c_p0, u32 w2c_p1, u64 w2c_p2, u64 w2c_p3, u
   w2c_i0 = i32_load8_u(m, (u64)(w2c_i0));
   w2c_l23 = w2c_i0;
   w2c_i0 = 1u;
-  w2c_l19 = w2c_i0;
-  goto w2c_B41;
-  w2c_B42:;
+  w2c_l18 = w2c_i0;
+  goto w2c_B38;
+  w2c_B39:;
   w2c_j0 = w2c_l5;
-  w2c_j1 = 336ull;
+  w2c_j1 = 416ull;
   w2c_j0 += w2c_j1;
   w2c_j1 = w2c_l13;
   w2c_j2 = w2c_l12;
   w2c_f62(m, w2c_j0, w2c_j1, w2c_j2);
   w2c_j0 = w2c_l5;
   w2c_i0 = (u32)(w2c_j0);
-  w2c_i0 = i32_load8_u(m, (u64)(w2c_i0) + 336u);
+  w2c_i0 = i32_load8_u(m, (u64)(w2c_i0) + 416u);
   w2c_i1 = 1u;
   w2c_i0 = w2c_i0 == w2c_i1;
-  w2c_l19 = w2c_i0;
+  w2c_l18 = w2c_i0;
   w2c_j0 = w2c_l5;
   w2c_i0 = (u32)(w2c_j0);
-  w2c_i0 = i32_load8_u(m, (u64)(w2c_i0) + 345u);
+  w2c_i0 = i32_load8_u(m, (u64)(w2c_i0) + 425u);
   w2c_l23 = w2c_i0;
   w2c_j0 = w2c_l5;
   w2c_i0 = (u32)(w2c_j0);
-  w2c_i0 = i32_load8_u(m, (u64)(w2c_i0) + 344u);
+  w2c_i0 = i32_load8_u(m, (u64)(w2c_i0) + 424u);
   w2c_l21 = w2c_i0;
-  w2c_B41:;
-  w2c_i0 = w2c_l19;
+  w2c_B38:;
+  w2c_i0 = w2c_l18;
   w2c_i0 = !(w2c_i0);
-  if (w2c_i0) {goto w2c_B36;}
+  if (w2c_i0) {goto w2c_B33;}
   w2c_i0 = w2c_l21;
   w2c_i1 = 255u;
   w2c_i0 &= w2c_i1;
   w2c_i1 = 1u;
   w2c_i0 = w2c_i0 != w2c_i1;
-  if (w2c_i0) {goto w2c_B36;}
+  if (w2c_i0) {goto w2c_B33;}
   w2c_i0 = w2c_l20;
   w2c_i1 = 255u;
   w2c_i0 &= w2c_i1;
@@ -45215,15 +45183,15 @@ static void w2c_f48(module *m, u64 w2c_p0, u32 w2c_p1, u64 w2c_p2, u64 w2c_p3, u
   w2c_i0 |= w2c_i1;
   w2c_i1 = 1u;
   w2c_i0 = w2c_i0 != w2c_i1;
-  if (w2c_i0) {goto w2c_B36;}
+  if (w2c_i0) {goto w2c_B33;}
   w2c_i0 = w2c_l23;
   w2c_i1 = 255u;
   w2c_i0 &= w2c_i1;
   w2c_i1 = 1u;
   w2c_i0 = w2c_i0 <= w2c_i1;
-  if (w2c_i0) {goto w2c_B36;}
+  if (w2c_i0) {goto w2c_B33;}
   w2c_j0 = w2c_l5;
-  w2c_j1 = 224ull;
+  w2c_j1 = 352ull;
   w2c_j0 += w2c_j1;
   w2c_i1 = w2c_p1;
   w2c_j2 = w2c_l11;
@@ -45233,17 +45201,17 @@ static void w2c_f48(module *m, u64 w2c_p0, u32 w2c_p1, u64 w2c_p2, u64 w2c_p3, u
   w2c_f63(m, w2c_j0, w2c_i1, w2c_j2, w2c_i3, w2c_j4, w2c_j5);
   w2c_j0 = w2c_l5;
   w2c_i0 = (u32)(w2c_j0);
-  w2c_j0 = i64_load(m, (u64)(w2c_i0) + 240u);
+  w2c_j0 = i64_load(m, (u64)(w2c_i0) + 368u);
   w2c_p4 = w2c_j0;
   w2c_j0 = w2c_l5;
   w2c_i0 = (u32)(w2c_j0);
-  w2c_i0 = i32_load8_u(m, (u64)(w2c_i0) + 224u);
-  if (w2c_i0) {goto w2c_B35;}
+  w2c_i0 = i32_load8_u(m, (u64)(w2c_i0) + 352u);
+  if (w2c_i0) {goto w2c_B32;}
   w2c_i0 = w2c_l20;
   w2c_i1 = 255u;
   w2c_i0 &= w2c_i1;
   w2c_i0 = !(w2c_i0);
-  if (w2c_i0) {goto w2c_B34;}
+  if (w2c_i0) {goto w2c_B31;}
   w2c_j0 = w2c_l13;
   w2c_j1 = w2c_l12;
   w2c_j0 = w2c_f53(m, w2c_j0, w2c_j1);
@@ -45252,10 +45220,10 @@ static void w2c_f48(module *m, u64 w2c_p0, u32 w2c_p1, u64 w2c_p2, u64 w2c_p3, u
   w2c_j1 = 1ull;
   w2c_j0 += w2c_j1;
   w2c_p4 = w2c_j0;
-  goto w2c_B28;
-  w2c_B36:;
+  goto w2c_B25;
+  w2c_B33:;
   w2c_j0 = w2c_l5;
-  w2c_j1 = 256ull;
+  w2c_j1 = 384ull;
   w2c_j0 += w2c_j1;
   w2c_i1 = w2c_p1;
   w2c_j2 = w2c_l11;
@@ -45265,41 +45233,41 @@ static void w2c_f48(module *m, u64 w2c_p0, u32 w2c_p1, u64 w2c_p2, u64 w2c_p3, u
   w2c_f63(m, w2c_j0, w2c_i1, w2c_j2, w2c_i3, w2c_j4, w2c_j5);
   w2c_j0 = w2c_l5;
   w2c_i0 = (u32)(w2c_j0);
-  w2c_j0 = i64_load(m, (u64)(w2c_i0) + 272u);
+  w2c_j0 = i64_load(m, (u64)(w2c_i0) + 400u);
   w2c_p4 = w2c_j0;
   w2c_j0 = w2c_l5;
   w2c_i0 = (u32)(w2c_j0);
-  w2c_i0 = i32_load8_u(m, (u64)(w2c_i0) + 256u);
+  w2c_i0 = i32_load8_u(m, (u64)(w2c_i0) + 384u);
   w2c_i0 = !(w2c_i0);
-  if (w2c_i0) {goto w2c_B33;}
+  if (w2c_i0) {goto w2c_B30;}
   w2c_j0 = w2c_l5;
   w2c_i0 = (u32)(w2c_j0);
-  w2c_i0 = i32_load8_u(m, (u64)(w2c_i0) + 264u);
+  w2c_i0 = i32_load8_u(m, (u64)(w2c_i0) + 392u);
   w2c_p1 = w2c_i0;
   goto w2c_B2;
-  w2c_B35:;
+  w2c_B32:;
   w2c_j0 = w2c_l5;
   w2c_i0 = (u32)(w2c_j0);
   w2c_j1 = 0ull;
-  i64_store(m, (u64)(w2c_i0) + 280, w2c_j1);
+  i64_store(m, (u64)(w2c_i0) + 408, w2c_j1);
   w2c_j0 = w2c_l5;
   w2c_i0 = (u32)(w2c_j0);
   w2c_j1 = w2c_p4;
-  i64_store(m, (u64)(w2c_i0) + 272, w2c_j1);
+  i64_store(m, (u64)(w2c_i0) + 400, w2c_j1);
   w2c_j0 = w2c_l5;
   w2c_i0 = (u32)(w2c_j0);
-  w2c_i0 = i32_load8_u(m, (u64)(w2c_i0) + 232u);
+  w2c_i0 = i32_load8_u(m, (u64)(w2c_i0) + 360u);
   w2c_p1 = w2c_i0;
   goto w2c_B2;
-  w2c_B34:;
+  w2c_B31:;
   w2c_j0 = w2c_l5;
-  w2c_j1 = 192ull;
+  w2c_j1 = 320ull;
   w2c_j0 += w2c_j1;
   w2c_i1 = w2c_p1;
   w2c_j2 = w2c_p4;
   w2c_j3 = w2c_l5;
   w2c_i3 = (u32)(w2c_j3);
-  w2c_j3 = i64_load(m, (u64)(w2c_i3) + 248u);
+  w2c_j3 = i64_load(m, (u64)(w2c_i3) + 376u);
   w2c_i4 = w2c_l23;
   w2c_i5 = w2c_l22;
   w2c_f64(m, w2c_j0, w2c_i1, w2c_j2, w2c_j3, w2c_i4, w2c_i5);
@@ -45307,25 +45275,25 @@ static void w2c_f48(module *m, u64 w2c_p0, u32 w2c_p1, u64 w2c_p2, u64 w2c_p3, u
   w2c_l17 = w2c_i0;
   w2c_j0 = w2c_l5;
   w2c_i0 = (u32)(w2c_j0);
-  w2c_i0 = i32_load8_u(m, (u64)(w2c_i0) + 192u);
+  w2c_i0 = i32_load8_u(m, (u64)(w2c_i0) + 320u);
   w2c_i1 = 1u;
   w2c_i0 = w2c_i0 != w2c_i1;
-  if (w2c_i0) {goto w2c_B31;}
+  if (w2c_i0) {goto w2c_B28;}
   w2c_j0 = w2c_l5;
   w2c_i0 = (u32)(w2c_j0);
-  w2c_j0 = i64_load(m, (u64)(w2c_i0) + 216u);
+  w2c_j0 = i64_load(m, (u64)(w2c_i0) + 344u);
   w2c_l14 = w2c_j0;
   w2c_j0 = w2c_l5;
   w2c_i0 = (u32)(w2c_j0);
-  w2c_j0 = i64_load(m, (u64)(w2c_i0) + 208u);
+  w2c_j0 = i64_load(m, (u64)(w2c_i0) + 336u);
   w2c_p4 = w2c_j0;
-  goto w2c_B32;
-  w2c_B33:;
+  goto w2c_B29;
+  w2c_B30:;
   w2c_j0 = w2c_l5;
   w2c_i0 = (u32)(w2c_j0);
-  w2c_j0 = i64_load(m, (u64)(w2c_i0) + 280u);
+  w2c_j0 = i64_load(m, (u64)(w2c_i0) + 408u);
   w2c_l14 = w2c_j0;
-  w2c_B32:;
+  w2c_B29:;
   w2c_j0 = 0ull;
   w2c_l12 = w2c_j0;
   w2c_j0 = 0ull;
@@ -45333,7 +45301,7 @@ static void w2c_f48(module *m, u64 w2c_p0, u32 w2c_p1, u64 w2c_p2, u64 w2c_p3, u
   w2c_j0 = w2c_l8;
   w2c_j1 = 32ull;
   w2c_i0 = w2c_j0 < w2c_j1;
-  if (w2c_i0) {goto w2c_B44;}
+  if (w2c_i0) {goto w2c_B41;}
   w2c_j0 = w2c_l5;
   w2c_j1 = 16ull;
   w2c_j0 += w2c_j1;
@@ -45351,14 +45319,14 @@ static void w2c_f48(module *m, u64 w2c_p0, u32 w2c_p1, u64 w2c_p2, u64 w2c_p3, u
   w2c_i0 = (u32)(w2c_j0);
   w2c_j0 = i64_load(m, (u64)(w2c_i0) + 16u);
   w2c_p3 = w2c_j0;
-  w2c_B44:;
+  w2c_B41:;
   w2c_j0 = w2c_l8;
   w2c_j1 = w2c_p3;
   w2c_j0 -= w2c_j1;
   w2c_j1 = 8ull;
   w2c_i0 = w2c_j0 < w2c_j1;
-  if (w2c_i0) {goto w2c_B45;}
-  w2c_L46:
+  if (w2c_i0) {goto w2c_B42;}
+  w2c_L43:
     w2c_j0 = w2c_l9;
     w2c_j1 = w2c_p3;
     w2c_j0 += w2c_j1;
@@ -45369,7 +45337,7 @@ static void w2c_f48(module *m, u64 w2c_p0, u32 w2c_p1, u64 w2c_p2, u64 w2c_p3, u
     w2c_j0 &= w2c_j1;
     w2c_j1 = 63050398541283552ull;
     w2c_i0 = w2c_j0 != w2c_j1;
-    if (w2c_i0) {goto w2c_B48;}
+    if (w2c_i0) {goto w2c_B45;}
     w2c_j0 = w2c_l12;
     w2c_j1 = 3ull;
     w2c_j0 += w2c_j1;
@@ -45378,14 +45346,14 @@ static void w2c_f48(module *m, u64 w2c_p0, u32 w2c_p1, u64 w2c_p2, u64 w2c_p3, u
     w2c_j1 = 9ull;
     w2c_j0 += w2c_j1;
     w2c_p3 = w2c_j0;
-    goto w2c_B47;
-    w2c_B48:;
+    goto w2c_B44;
+    w2c_B45:;
     w2c_j0 = w2c_l11;
     w2c_j1 = 9259542123273814144ull;
     w2c_j0 &= w2c_j1;
     w2c_j1 = 0ull;
     w2c_i0 = w2c_j0 != w2c_j1;
-    if (w2c_i0) {goto w2c_B45;}
+    if (w2c_i0) {goto w2c_B42;}
     w2c_j0 = w2c_l12;
     w2c_j1 = 8ull;
     w2c_j0 += w2c_j1;
@@ -45394,19 +45362,19 @@ static void w2c_f48(module *m, u64 w2c_p0, u32 w2c_p1, u64 w2c_p2, u64 w2c_p3, u
     w2c_j1 = 8ull;
     w2c_j0 += w2c_j1;
     w2c_p3 = w2c_j0;
-    w2c_B47:;
+    w2c_B44:;
     w2c_j0 = w2c_l8;
     w2c_j1 = w2c_p3;
     w2c_j0 -= w2c_j1;
     w2c_j1 = 7ull;
     w2c_i0 = w2c_j0 > w2c_j1;
-    if (w2c_i0) {goto w2c_L46;}
-  w2c_B45:;
+    if (w2c_i0) {goto w2c_L43;}
+  w2c_B42:;
   w2c_j0 = w2c_p3;
   w2c_j1 = w2c_l8;
   w2c_i0 = w2c_j0 >= w2c_j1;
-  if (w2c_i0) {goto w2c_B49;}
-  w2c_L50:
+  if (w2c_i0) {goto w2c_B46;}
+  w2c_L47:
     w2c_j0 = w2c_l12;
     w2c_j1 = 1ull;
     w2c_j0 += w2c_j1;
@@ -45430,59 +45398,59 @@ static void w2c_f48(module *m, u64 w2c_p0, u32 w2c_p1, u64 w2c_p2, u64 w2c_p3, u
     w2c_p3 = w2c_j0;
     w2c_j1 = w2c_l8;
     w2c_i0 = w2c_j0 < w2c_j1;
-    if (w2c_i0) {goto w2c_L50;}
-  w2c_B49:;
+    if (w2c_i0) {goto w2c_L47;}
+  w2c_B46:;
   w2c_j0 = w2c_l5;
   w2c_i0 = (u32)(w2c_j0);
   w2c_j1 = 0ull;
-  i64_store(m, (u64)(w2c_i0) + 256, w2c_j1);
+  i64_store(m, (u64)(w2c_i0) + 384, w2c_j1);
   w2c_j0 = w2c_l5;
   w2c_i0 = (u32)(w2c_j0);
   w2c_j1 = 0ull;
-  i64_store(m, (u64)(w2c_i0) + 264, w2c_j1);
+  i64_store(m, (u64)(w2c_i0) + 392, w2c_j1);
   w2c_j0 = w2c_l5;
   w2c_i0 = (u32)(w2c_j0);
   w2c_j1 = 0ull;
-  i64_store(m, (u64)(w2c_i0) + 272, w2c_j1);
+  i64_store(m, (u64)(w2c_i0) + 400, w2c_j1);
   w2c_j0 = w2c_l5;
   w2c_i0 = (u32)(w2c_j0);
   w2c_j1 = 0ull;
-  i64_store(m, (u64)(w2c_i0) + 280, w2c_j1);
+  i64_store(m, (u64)(w2c_i0) + 408, w2c_j1);
   w2c_j0 = w2c_l5;
   w2c_i0 = (u32)(w2c_j0);
   w2c_j1 = 0ull;
-  i64_store(m, (u64)(w2c_i0) + 224, w2c_j1);
+  i64_store(m, (u64)(w2c_i0) + 352, w2c_j1);
   w2c_j0 = w2c_l5;
   w2c_i0 = (u32)(w2c_j0);
   w2c_j1 = 0ull;
-  i64_store(m, (u64)(w2c_i0) + 232, w2c_j1);
+  i64_store(m, (u64)(w2c_i0) + 360, w2c_j1);
   w2c_j0 = w2c_l5;
   w2c_i0 = (u32)(w2c_j0);
   w2c_j1 = 0ull;
-  i64_store(m, (u64)(w2c_i0) + 240, w2c_j1);
+  i64_store(m, (u64)(w2c_i0) + 368, w2c_j1);
   w2c_j0 = w2c_l5;
   w2c_i0 = (u32)(w2c_j0);
   w2c_j1 = 0ull;
-  i64_store(m, (u64)(w2c_i0) + 248, w2c_j1);
+  i64_store(m, (u64)(w2c_i0) + 376, w2c_j1);
   w2c_j0 = w2c_l5;
   w2c_i0 = (u32)(w2c_j0);
   w2c_j1 = 0ull;
-  i64_store(m, (u64)(w2c_i0) + 192, w2c_j1);
+  i64_store(m, (u64)(w2c_i0) + 320, w2c_j1);
   w2c_j0 = w2c_l5;
   w2c_i0 = (u32)(w2c_j0);
   w2c_j1 = 0ull;
-  i64_store(m, (u64)(w2c_i0) + 200, w2c_j1);
+  i64_store(m, (u64)(w2c_i0) + 328, w2c_j1);
   w2c_j0 = w2c_l5;
   w2c_i0 = (u32)(w2c_j0);
   w2c_j1 = 0ull;
-  i64_store(m, (u64)(w2c_i0) + 208, w2c_j1);
+  i64_store(m, (u64)(w2c_i0) + 336, w2c_j1);
   w2c_j0 = w2c_l5;
   w2c_i0 = (u32)(w2c_j0);
   w2c_j1 = 0ull;
-  i64_store(m, (u64)(w2c_i0) + 216, w2c_j1);
+  i64_store(m, (u64)(w2c_i0) + 344, w2c_j1);
   w2c_j0 = w2c_l6;
   w2c_i0 = !(w2c_j0);
-  if (w2c_i0) {goto w2c_B55;}
+  if (w2c_i0) {goto w2c_B52;}
   w2c_j0 = w2c_l12;
   w2c_j1 = w2c_p2;
   w2c_j0 += w2c_j1;
@@ -45491,14 +45459,14 @@ static void w2c_f48(module *m, u64 w2c_p0, u32 w2c_p1, u64 w2c_p2, u64 w2c_p3, u
   w2c_l11 = w2c_j0;
   w2c_j0 = w2c_l7;
   w2c_p3 = w2c_j0;
-  w2c_L56:
+  w2c_L53:
     w2c_j0 = w2c_p3;
     w2c_i0 = (u32)(w2c_j0);
     w2c_i0 = i32_load8_u(m, (u64)(w2c_i0));
     w2c_l17 = w2c_i0;
     w2c_i1 = 32u;
     w2c_i0 = w2c_i0 > w2c_i1;
-    if (w2c_i0) {goto w2c_B58;}
+    if (w2c_i0) {goto w2c_B55;}
     w2c_j0 = 1ull;
     w2c_i1 = w2c_l17;
     w2c_j1 = (u64)(w2c_i1);
@@ -45507,38 +45475,38 @@ static void w2c_f48(module *m, u64 w2c_p0, u32 w2c_p1, u64 w2c_p2, u64 w2c_p3, u
     w2c_j0 &= w2c_j1;
     w2c_j1 = 0ull;
     w2c_i0 = w2c_j0 == w2c_j1;
-    if (w2c_i0) {goto w2c_B58;}
+    if (w2c_i0) {goto w2c_B55;}
     w2c_j0 = 1ull;
     w2c_l12 = w2c_j0;
-    goto w2c_B57;
-    w2c_B58:;
+    goto w2c_B54;
+    w2c_B55:;
     w2c_i0 = w2c_l17;
     w2c_i1 = 194u;
     w2c_i0 = w2c_i0 != w2c_i1;
-    if (w2c_i0) {goto w2c_B59;}
+    if (w2c_i0) {goto w2c_B56;}
     w2c_j0 = w2c_l11;
     w2c_j1 = 1ull;
     w2c_i0 = w2c_j0 == w2c_j1;
-    if (w2c_i0) {goto w2c_B52;}
+    if (w2c_i0) {goto w2c_B49;}
     w2c_j0 = 2ull;
     w2c_l12 = w2c_j0;
     w2c_j0 = w2c_p3;
     w2c_i0 = (u32)(w2c_j0);
     w2c_i0 = i32_load8_u(m, (u64)(w2c_i0) + 1u);
-    w2c_l19 = w2c_i0;
+    w2c_l18 = w2c_i0;
     w2c_i1 = 133u;
     w2c_i0 = w2c_i0 == w2c_i1;
-    if (w2c_i0) {goto w2c_B57;}
-    w2c_i0 = w2c_l19;
+    if (w2c_i0) {goto w2c_B54;}
+    w2c_i0 = w2c_l18;
     w2c_i1 = 160u;
     w2c_i0 = w2c_i0 == w2c_i1;
-    if (w2c_i0) {goto w2c_B57;}
-    goto w2c_B54;
-    w2c_B59:;
+    if (w2c_i0) {goto w2c_B54;}
+    goto w2c_B51;
+    w2c_B56:;
     w2c_j0 = w2c_l11;
     w2c_j1 = 3ull;
     w2c_i0 = w2c_j0 < w2c_j1;
-    if (w2c_i0) {goto w2c_B54;}
+    if (w2c_i0) {goto w2c_B51;}
     w2c_i0 = w2c_l17;
     w2c_i1 = 28u;
     w2c_i0 += w2c_i1;
@@ -45546,13 +45514,13 @@ static void w2c_f48(module *m, u64 w2c_p0, u32 w2c_p1, u64 w2c_p2, u64 w2c_p3, u
     w2c_i0 &= w2c_i1;
     w2c_i1 = 253u;
     w2c_i0 = w2c_i0 < w2c_i1;
-    if (w2c_i0) {goto w2c_B54;}
+    if (w2c_i0) {goto w2c_B51;}
     w2c_j0 = w2c_p3;
     w2c_j1 = 1ull;
     w2c_j0 += w2c_j1;
     w2c_i0 = (u32)(w2c_j0);
     w2c_i0 = i32_load8_u(m, (u64)(w2c_i0));
-    w2c_l19 = w2c_i0;
+    w2c_l18 = w2c_i0;
     w2c_j0 = w2c_p3;
     w2c_j1 = 2ull;
     w2c_j0 += w2c_j1;
@@ -45564,89 +45532,89 @@ static void w2c_f48(module *m, u64 w2c_p0, u32 w2c_p1, u64 w2c_p2, u64 w2c_p3, u
     w2c_i0 = w2c_l17;
     w2c_i1 = 226u;
     w2c_i0 = w2c_i0 != w2c_i1;
-    if (w2c_i0) {goto w2c_B60;}
-    w2c_i0 = w2c_l19;
+    if (w2c_i0) {goto w2c_B57;}
+    w2c_i0 = w2c_l18;
     w2c_i1 = 255u;
     w2c_i0 &= w2c_i1;
     w2c_i1 = 128u;
     w2c_i0 = w2c_i0 != w2c_i1;
-    if (w2c_i0) {goto w2c_B60;}
+    if (w2c_i0) {goto w2c_B57;}
     w2c_j0 = 3ull;
     w2c_l12 = w2c_j0;
     w2c_i0 = w2c_l21;
     w2c_i1 = 4294967179u;
     w2c_i0 = (u32)((s32)w2c_i0 < (s32)w2c_i1);
-    if (w2c_i0) {goto w2c_B57;}
+    if (w2c_i0) {goto w2c_B54;}
     w2c_i0 = w2c_l20;
     w2c_i1 = 4294967128u;
     w2c_i0 += w2c_i1;
     w2c_i1 = 2u;
     w2c_i0 = w2c_i0 < w2c_i1;
-    if (w2c_i0) {goto w2c_B57;}
+    if (w2c_i0) {goto w2c_B54;}
     w2c_i0 = w2c_l20;
     w2c_i1 = 175u;
     w2c_i0 = w2c_i0 == w2c_i1;
-    if (w2c_i0) {goto w2c_B57;}
+    if (w2c_i0) {goto w2c_B54;}
     w2c_i0 = 4294967168u;
     w2c_l17 = w2c_i0;
     w2c_i0 = 128u;
-    w2c_l19 = w2c_i0;
-    goto w2c_B53;
-    w2c_B60:;
+    w2c_l18 = w2c_i0;
+    goto w2c_B50;
+    w2c_B57:;
     w2c_i0 = w2c_l17;
     w2c_i1 = 4294967071u;
     w2c_i0 += w2c_i1;
     switch (w2c_i0) {
-      case 0: goto w2c_B64;
-      case 1: goto w2c_B63;
-      case 2: goto w2c_B62;
-      default: goto w2c_B64;
+      case 0: goto w2c_B61;
+      case 1: goto w2c_B60;
+      case 2: goto w2c_B59;
+      default: goto w2c_B61;
     }
-    w2c_B64:;
+    w2c_B61:;
     w2c_i0 = 4294963072u;
     w2c_l17 = w2c_i0;
-    w2c_i0 = w2c_l19;
+    w2c_i0 = w2c_l18;
     w2c_i1 = 255u;
     w2c_i0 &= w2c_i1;
     w2c_i1 = 154u;
     w2c_i0 = w2c_i0 != w2c_i1;
-    if (w2c_i0) {goto w2c_B53;}
+    if (w2c_i0) {goto w2c_B50;}
     w2c_i0 = w2c_l21;
     w2c_i1 = 4294967168u;
     w2c_i0 = w2c_i0 != w2c_i1;
-    if (w2c_i0) {goto w2c_B53;}
-    goto w2c_B61;
-    w2c_B63:;
+    if (w2c_i0) {goto w2c_B50;}
+    goto w2c_B58;
+    w2c_B60:;
     w2c_i0 = 4294967168u;
     w2c_l17 = w2c_i0;
-    w2c_i0 = w2c_l19;
+    w2c_i0 = w2c_l18;
     w2c_i1 = 255u;
     w2c_i0 &= w2c_i1;
     w2c_i1 = 129u;
     w2c_i0 = w2c_i0 != w2c_i1;
-    if (w2c_i0) {goto w2c_B53;}
+    if (w2c_i0) {goto w2c_B50;}
     w2c_i0 = w2c_l21;
     w2c_i1 = 4294967199u;
     w2c_i0 = w2c_i0 == w2c_i1;
-    if (w2c_i0) {goto w2c_B61;}
-    goto w2c_B53;
-    w2c_B62:;
+    if (w2c_i0) {goto w2c_B58;}
+    goto w2c_B50;
+    w2c_B59:;
     w2c_i0 = 3968u;
     w2c_l17 = w2c_i0;
-    w2c_i0 = w2c_l19;
+    w2c_i0 = w2c_l18;
     w2c_i1 = 255u;
     w2c_i0 &= w2c_i1;
     w2c_i1 = 128u;
     w2c_i0 = w2c_i0 != w2c_i1;
-    if (w2c_i0) {goto w2c_B53;}
+    if (w2c_i0) {goto w2c_B50;}
     w2c_i0 = w2c_l21;
     w2c_i1 = 4294967168u;
     w2c_i0 = w2c_i0 != w2c_i1;
-    if (w2c_i0) {goto w2c_B53;}
-    w2c_B61:;
+    if (w2c_i0) {goto w2c_B50;}
+    w2c_B58:;
     w2c_j0 = 3ull;
     w2c_l12 = w2c_j0;
-    w2c_B57:;
+    w2c_B54:;
     w2c_j0 = w2c_l13;
     w2c_j1 = 1ull;
     w2c_j0 += w2c_j1;
@@ -45661,33 +45629,33 @@ static void w2c_f48(module *m, u64 w2c_p0, u32 w2c_p1, u64 w2c_p2, u64 w2c_p3, u
     w2c_l11 = w2c_j0;
     w2c_i0 = !(w2c_j0);
     if (w2c_i0) {goto w2c_B4;}
-    goto w2c_L56;
+    goto w2c_L53;
   UNREACHABLE;
-  w2c_B55:;
+  w2c_B52:;
   w2c_j0 = w2c_l5;
   w2c_i0 = (u32)(w2c_j0);
   w2c_j1 = 0ull;
-  i64_store(m, (u64)(w2c_i0) + 272, w2c_j1);
+  i64_store(m, (u64)(w2c_i0) + 400, w2c_j1);
   w2c_j0 = w2c_l5;
   w2c_i0 = (u32)(w2c_j0);
   w2c_j1 = 0ull;
-  i64_store(m, (u64)(w2c_i0) + 264, w2c_j1);
+  i64_store(m, (u64)(w2c_i0) + 392, w2c_j1);
   w2c_i0 = 0u;
   w2c_p1 = w2c_i0;
   w2c_j0 = 0ull;
   w2c_p4 = w2c_j0;
   goto w2c_B2;
-  w2c_B54:;
+  w2c_B51:;
   w2c_j0 = w2c_l11;
   w2c_j1 = 3ull;
   w2c_i0 = w2c_j0 < w2c_j1;
-  if (w2c_i0) {goto w2c_B52;}
+  if (w2c_i0) {goto w2c_B49;}
   w2c_i0 = w2c_l17;
   w2c_i1 = 240u;
   w2c_i0 &= w2c_i1;
   w2c_i1 = 224u;
   w2c_i0 = w2c_i0 != w2c_i1;
-  if (w2c_i0) {goto w2c_B52;}
+  if (w2c_i0) {goto w2c_B49;}
   w2c_i0 = w2c_l17;
   w2c_i1 = 12u;
   w2c_i0 <<= (w2c_i1 & 31);
@@ -45701,14 +45669,14 @@ static void w2c_f48(module *m, u64 w2c_p0, u32 w2c_p1, u64 w2c_p2, u64 w2c_p3, u
   w2c_j0 = w2c_p3;
   w2c_i0 = (u32)(w2c_j0);
   w2c_i0 = i32_load8_u(m, (u64)(w2c_i0) + 1u);
-  w2c_l19 = w2c_i0;
-  w2c_B53:;
+  w2c_l18 = w2c_i0;
+  w2c_B50:;
   w2c_i0 = w2c_l17;
   w2c_i1 = w2c_l21;
   w2c_i2 = 255u;
   w2c_i1 &= w2c_i2;
   w2c_i0 += w2c_i1;
-  w2c_i1 = w2c_l19;
+  w2c_i1 = w2c_l18;
   w2c_i2 = 255u;
   w2c_i1 &= w2c_i2;
   w2c_i2 = 6u;
@@ -45723,37 +45691,37 @@ static void w2c_f48(module *m, u64 w2c_p0, u32 w2c_p1, u64 w2c_p2, u64 w2c_p3, u
   w2c_j1 = 3ull;
   w2c_j0 += w2c_j1;
   w2c_p3 = w2c_j0;
-  goto w2c_B51;
-  w2c_B52:;
+  goto w2c_B48;
+  w2c_B49:;
   w2c_j0 = 1ull;
   w2c_l15 = w2c_j0;
   w2c_i0 = w2c_l17;
   w2c_i0 = (u32)(s32)(s8)(u8)(w2c_i0);
   w2c_i1 = 4294967295u;
   w2c_i0 = (u32)((s32)w2c_i0 > (s32)w2c_i1);
-  if (w2c_i0) {goto w2c_B65;}
+  if (w2c_i0) {goto w2c_B62;}
   w2c_j0 = w2c_p3;
   w2c_i0 = (u32)(w2c_j0);
   w2c_i0 = i32_load8_u(m, (u64)(w2c_i0) + 1u);
   w2c_i1 = 63u;
   w2c_i0 &= w2c_i1;
-  w2c_l19 = w2c_i0;
+  w2c_l18 = w2c_i0;
   w2c_i0 = w2c_l17;
   w2c_i1 = 223u;
   w2c_i0 = w2c_i0 > w2c_i1;
-  if (w2c_i0) {goto w2c_B66;}
+  if (w2c_i0) {goto w2c_B63;}
   w2c_i0 = w2c_l17;
   w2c_i1 = 6u;
   w2c_i0 <<= (w2c_i1 & 31);
   w2c_i1 = 1984u;
   w2c_i0 &= w2c_i1;
-  w2c_i1 = w2c_l19;
+  w2c_i1 = w2c_l18;
   w2c_i0 |= w2c_i1;
   w2c_l17 = w2c_i0;
   w2c_j0 = 2ull;
   w2c_l15 = w2c_j0;
-  goto w2c_B65;
-  w2c_B66:;
+  goto w2c_B62;
+  w2c_B63:;
   w2c_j0 = w2c_p3;
   w2c_i0 = (u32)(w2c_j0);
   w2c_i0 = i32_load8_u(m, (u64)(w2c_i0) + 2u);
@@ -45763,8 +45731,8 @@ static void w2c_f48(module *m, u64 w2c_p0, u32 w2c_p1, u64 w2c_p2, u64 w2c_p3, u
   w2c_i0 = w2c_l17;
   w2c_i1 = 239u;
   w2c_i0 = w2c_i0 > w2c_i1;
-  if (w2c_i0) {goto w2c_B67;}
-  w2c_i0 = w2c_l19;
+  if (w2c_i0) {goto w2c_B64;}
+  w2c_i0 = w2c_l18;
   w2c_i1 = 6u;
   w2c_i0 <<= (w2c_i1 & 31);
   w2c_i1 = w2c_l17;
@@ -45778,12 +45746,12 @@ static void w2c_f48(module *m, u64 w2c_p0, u32 w2c_p1, u64 w2c_p2, u64 w2c_p3, u
   w2c_l17 = w2c_i0;
   w2c_j0 = 3ull;
   w2c_l15 = w2c_j0;
-  goto w2c_B65;
-  w2c_B67:;
+  goto w2c_B62;
+  w2c_B64:;
   w2c_i0 = w2c_l21;
   w2c_i1 = 6u;
   w2c_i0 <<= (w2c_i1 & 31);
-  w2c_i1 = w2c_l19;
+  w2c_i1 = w2c_l18;
   w2c_i2 = 12u;
   w2c_i1 <<= (w2c_i2 & 31);
   w2c_i2 = w2c_l17;
@@ -45802,7 +45770,7 @@ static void w2c_f48(module *m, u64 w2c_p0, u32 w2c_p1, u64 w2c_p2, u64 w2c_p3, u
   w2c_l17 = w2c_i0;
   w2c_j0 = 4ull;
   w2c_l15 = w2c_j0;
-  w2c_B65:;
+  w2c_B62:;
   w2c_j0 = w2c_l11;
   w2c_j1 = w2c_l15;
   w2c_j0 -= w2c_j1;
@@ -45811,27 +45779,27 @@ static void w2c_f48(module *m, u64 w2c_p0, u32 w2c_p1, u64 w2c_p2, u64 w2c_p3, u
   w2c_j1 = w2c_l15;
   w2c_j0 += w2c_j1;
   w2c_p3 = w2c_j0;
-  w2c_B51:;
+  w2c_B48:;
   w2c_j0 = w2c_l5;
   w2c_i0 = (u32)(w2c_j0);
   w2c_j1 = 0ull;
-  i64_store(m, (u64)(w2c_i0) + 360, w2c_j1);
+  i64_store(m, (u64)(w2c_i0) + 440, w2c_j1);
   w2c_j0 = w2c_l5;
   w2c_i0 = (u32)(w2c_j0);
   w2c_j1 = 0ull;
-  i64_store(m, (u64)(w2c_i0) + 352, w2c_j1);
+  i64_store(m, (u64)(w2c_i0) + 432, w2c_j1);
   w2c_j0 = w2c_l5;
   w2c_i0 = (u32)(w2c_j0);
   w2c_j1 = 0ull;
-  i64_store(m, (u64)(w2c_i0) + 344, w2c_j1);
+  i64_store(m, (u64)(w2c_i0) + 424, w2c_j1);
   w2c_j0 = w2c_l5;
   w2c_i0 = (u32)(w2c_j0);
   w2c_j1 = 0ull;
-  i64_store(m, (u64)(w2c_i0) + 336, w2c_j1);
+  i64_store(m, (u64)(w2c_i0) + 416, w2c_j1);
   w2c_j0 = w2c_l12;
   w2c_j1 = 4ull;
   w2c_i0 = w2c_j0 < w2c_j1;
-  if (w2c_i0) {goto w2c_B74;}
+  if (w2c_i0) {goto w2c_B71;}
   w2c_j0 = w2c_p3;
   w2c_j1 = w2c_l12;
   w2c_j0 += w2c_j1;
@@ -45841,7 +45809,7 @@ static void w2c_f48(module *m, u64 w2c_p0, u32 w2c_p1, u64 w2c_p2, u64 w2c_p3, u
   w2c_i0 = i32_load_of_text(m, (u64)(w2c_i0));
   w2c_i1 = 8u;
   w2c_i0 >>= (w2c_i1 & 31);
-  w2c_l19 = w2c_i0;
+  w2c_l18 = w2c_i0;
   w2c_j0 = (u64)(w2c_i0);
   w2c_j1 = 953497ull;
   w2c_j0 *= w2c_j1;
@@ -45854,21 +45822,21 @@ static void w2c_f48(module *m, u64 w2c_p0, u32 w2c_p1, u64 w2c_p2, u64 w2c_p3, u
   w2c_j0 += w2c_j1;
   w2c_i0 = (u32)(w2c_j0);
   w2c_i0 = i32_load_of_text(m, (u64)(w2c_i0));
-  w2c_i1 = w2c_l19;
+  w2c_i1 = w2c_l18;
   w2c_i0 = w2c_i0 != w2c_i1;
-  if (w2c_i0) {goto w2c_B72;}
+  if (w2c_i0) {goto w2c_B69;}
   w2c_j0 = w2c_l12;
   w2c_j1 = 18446744073709551613ull;
   w2c_j0 += w2c_j1;
   w2c_l11 = w2c_j0;
   w2c_j0 = w2c_p3;
   w2c_l15 = w2c_j0;
-  goto w2c_B73;
-  w2c_B74:;
+  goto w2c_B70;
+  w2c_B71:;
   w2c_j0 = w2c_l12;
   w2c_j1 = 3ull;
   w2c_i0 = w2c_j0 != w2c_j1;
-  if (w2c_i0) {goto w2c_B72;}
+  if (w2c_i0) {goto w2c_B69;}
   w2c_j0 = w2c_p3;
   w2c_i0 = (u32)(w2c_j0);
   w2c_i0 = i32_load16_u(m, (u64)(w2c_i0));
@@ -45878,7 +45846,7 @@ static void w2c_f48(module *m, u64 w2c_p0, u32 w2c_p1, u64 w2c_p2, u64 w2c_p3, u
   w2c_i2 = 16u;
   w2c_i1 <<= (w2c_i2 & 31);
   w2c_i0 |= w2c_i1;
-  w2c_l19 = w2c_i0;
+  w2c_l18 = w2c_i0;
   w2c_j0 = (u64)(w2c_i0);
   w2c_j1 = 953497ull;
   w2c_j0 *= w2c_j1;
@@ -45891,16 +45859,16 @@ static void w2c_f48(module *m, u64 w2c_p0, u32 w2c_p1, u64 w2c_p2, u64 w2c_p3, u
   w2c_j0 += w2c_j1;
   w2c_i0 = (u32)(w2c_j0);
   w2c_i0 = i32_load_of_text(m, (u64)(w2c_i0));
-  w2c_i1 = w2c_l19;
+  w2c_i1 = w2c_l18;
   w2c_i0 = w2c_i0 != w2c_i1;
-  if (w2c_i0) {goto w2c_B72;}
+  if (w2c_i0) {goto w2c_B69;}
   w2c_j0 = w2c_p3;
   w2c_j1 = 3ull;
   w2c_j0 += w2c_j1;
   w2c_l15 = w2c_j0;
   w2c_j0 = 0ull;
   w2c_l11 = w2c_j0;
-  w2c_B73:;
+  w2c_B70:;
   w2c_j0 = w2c_l16;
   w2c_j1 = 67332ull;
   w2c_j0 += w2c_j1;
@@ -45913,57 +45881,57 @@ static void w2c_f48(module *m, u64 w2c_p0, u32 w2c_p1, u64 w2c_p2, u64 w2c_p3, u
   w2c_i0 = (u32)(w2c_j0);
   w2c_i0 = i32_load8_u(m, (u64)(w2c_i0));
   w2c_l22 = w2c_i0;
-  goto w2c_B71;
-  w2c_B72:;
+  goto w2c_B68;
+  w2c_B69:;
   w2c_j0 = w2c_l5;
-  w2c_j1 = 336ull;
+  w2c_j1 = 416ull;
   w2c_j0 += w2c_j1;
   w2c_j1 = w2c_p3;
   w2c_j2 = w2c_l12;
   w2c_f62(m, w2c_j0, w2c_j1, w2c_j2);
   w2c_j0 = w2c_l5;
   w2c_i0 = (u32)(w2c_j0);
-  w2c_i0 = i32_load8_u(m, (u64)(w2c_i0) + 336u);
+  w2c_i0 = i32_load8_u(m, (u64)(w2c_i0) + 416u);
   w2c_i1 = 1u;
   w2c_i0 = w2c_i0 != w2c_i1;
-  if (w2c_i0) {goto w2c_B70;}
+  if (w2c_i0) {goto w2c_B67;}
   w2c_j0 = w2c_l5;
   w2c_i0 = (u32)(w2c_j0);
-  w2c_j0 = i64_load(m, (u64)(w2c_i0) + 360u);
+  w2c_j0 = i64_load(m, (u64)(w2c_i0) + 440u);
   w2c_l11 = w2c_j0;
   w2c_j0 = w2c_l5;
   w2c_i0 = (u32)(w2c_j0);
-  w2c_j0 = i64_load(m, (u64)(w2c_i0) + 352u);
+  w2c_j0 = i64_load(m, (u64)(w2c_i0) + 432u);
   w2c_l15 = w2c_j0;
   w2c_j0 = w2c_l5;
   w2c_i0 = (u32)(w2c_j0);
-  w2c_i0 = i32_load8_u(m, (u64)(w2c_i0) + 345u);
+  w2c_i0 = i32_load8_u(m, (u64)(w2c_i0) + 425u);
   w2c_l22 = w2c_i0;
   w2c_j0 = w2c_l5;
   w2c_i0 = (u32)(w2c_j0);
-  w2c_i0 = i32_load8_u(m, (u64)(w2c_i0) + 344u);
+  w2c_i0 = i32_load8_u(m, (u64)(w2c_i0) + 424u);
   w2c_l20 = w2c_i0;
-  w2c_B71:;
+  w2c_B68:;
   w2c_j0 = w2c_l5;
   w2c_i0 = (u32)(w2c_j0);
   w2c_j1 = 0ull;
-  i64_store(m, (u64)(w2c_i0) + 360, w2c_j1);
+  i64_store(m, (u64)(w2c_i0) + 440, w2c_j1);
   w2c_j0 = w2c_l5;
   w2c_i0 = (u32)(w2c_j0);
   w2c_j1 = 0ull;
-  i64_store(m, (u64)(w2c_i0) + 352, w2c_j1);
+  i64_store(m, (u64)(w2c_i0) + 432, w2c_j1);
   w2c_j0 = w2c_l5;
   w2c_i0 = (u32)(w2c_j0);
   w2c_j1 = 0ull;
-  i64_store(m, (u64)(w2c_i0) + 344, w2c_j1);
+  i64_store(m, (u64)(w2c_i0) + 424, w2c_j1);
   w2c_j0 = w2c_l5;
   w2c_i0 = (u32)(w2c_j0);
   w2c_j1 = 0ull;
-  i64_store(m, (u64)(w2c_i0) + 336, w2c_j1);
+  i64_store(m, (u64)(w2c_i0) + 416, w2c_j1);
   w2c_j0 = w2c_l11;
   w2c_j1 = 4ull;
   w2c_i0 = w2c_j0 < w2c_j1;
-  if (w2c_i0) {goto w2c_B77;}
+  if (w2c_i0) {goto w2c_B74;}
   w2c_j0 = w2c_l15;
   w2c_j1 = w2c_l11;
   w2c_j0 += w2c_j1;
@@ -45973,7 +45941,7 @@ static void w2c_f48(module *m, u64 w2c_p0, u32 w2c_p1, u64 w2c_p2, u64 w2c_p3, u
   w2c_i0 = i32_load_of_text(m, (u64)(w2c_i0));
   w2c_i1 = 8u;
   w2c_i0 >>= (w2c_i1 & 31);
-  w2c_l19 = w2c_i0;
+  w2c_l18 = w2c_i0;
   w2c_j0 = (u64)(w2c_i0);
   w2c_j1 = 953497ull;
   w2c_j0 *= w2c_j1;
@@ -45986,9 +45954,9 @@ static void w2c_f48(module *m, u64 w2c_p0, u32 w2c_p1, u64 w2c_p2, u64 w2c_p3, u
   w2c_j0 += w2c_j1;
   w2c_i0 = (u32)(w2c_j0);
   w2c_i0 = i32_load_of_text(m, (u64)(w2c_i0));
-  w2c_i1 = w2c_l19;
+  w2c_i1 = w2c_l18;
   w2c_i0 = w2c_i0 != w2c_i1;
-  if (w2c_i0) {goto w2c_B76;}
+  if (w2c_i0) {goto w2c_B73;}
   w2c_j0 = w2c_l16;
   w2c_j1 = 67332ull;
   w2c_j0 += w2c_j1;
@@ -46002,13 +45970,13 @@ static void w2c_f48(module *m, u64 w2c_p0, u32 w2c_p1, u64 w2c_p2, u64 w2c_p3, u
   w2c_i0 = i32_load8_u(m, (u64)(w2c_i0));
   w2c_l23 = w2c_i0;
   w2c_i0 = 1u;
-  w2c_l19 = w2c_i0;
-  goto w2c_B75;
-  w2c_B77:;
+  w2c_l18 = w2c_i0;
+  goto w2c_B72;
+  w2c_B74:;
   w2c_j0 = w2c_l11;
   w2c_j1 = 3ull;
   w2c_i0 = w2c_j0 != w2c_j1;
-  if (w2c_i0) {goto w2c_B76;}
+  if (w2c_i0) {goto w2c_B73;}
   w2c_j0 = w2c_l15;
   w2c_i0 = (u32)(w2c_j0);
   w2c_i0 = i32_load16_u(m, (u64)(w2c_i0));
@@ -46018,7 +45986,7 @@ static void w2c_f48(module *m, u64 w2c_p0, u32 w2c_p1, u64 w2c_p2, u64 w2c_p3, u
   w2c_i2 = 16u;
   w2c_i1 <<= (w2c_i2 & 31);
   w2c_i0 |= w2c_i1;
-  w2c_l19 = w2c_i0;
+  w2c_l18 = w2c_i0;
   w2c_j0 = (u64)(w2c_i0);
   w2c_j1 = 953497ull;
   w2c_j0 *= w2c_j1;
@@ -46031,9 +45999,9 @@ static void w2c_f48(module *m, u64 w2c_p0, u32 w2c_p1, u64 w2c_p2, u64 w2c_p3, u
   w2c_j0 += w2c_j1;
   w2c_i0 = (u32)(w2c_j0);
   w2c_i0 = i32_load_of_text(m, (u64)(w2c_i0));
-  w2c_i1 = w2c_l19;
+  w2c_i1 = w2c_l18;
   w2c_i0 = w2c_i0 != w2c_i1;
-  if (w2c_i0) {goto w2c_B76;}
+  if (w2c_i0) {goto w2c_B73;}
   w2c_j0 = w2c_l16;
   w2c_j1 = 67332ull;
   w2c_j0 += w2c_j1;
@@ -46047,39 +46015,39 @@ static void w2c_f48(module *m, u64 w2c_p0, u32 w2c_p1, u64 w2c_p2, u64 w2c_p3, u
   w2c_i0 = i32_load8_u(m, (u64)(w2c_i0));
   w2c_l23 = w2c_i0;
   w2c_i0 = 1u;
-  w2c_l19 = w2c_i0;
-  goto w2c_B75;
-  w2c_B76:;
+  w2c_l18 = w2c_i0;
+  goto w2c_B72;
+  w2c_B73:;
   w2c_j0 = w2c_l5;
-  w2c_j1 = 336ull;
+  w2c_j1 = 416ull;
   w2c_j0 += w2c_j1;
   w2c_j1 = w2c_l15;
   w2c_j2 = w2c_l11;
   w2c_f62(m, w2c_j0, w2c_j1, w2c_j2);
   w2c_j0 = w2c_l5;
   w2c_i0 = (u32)(w2c_j0);
-  w2c_i0 = i32_load8_u(m, (u64)(w2c_i0) + 336u);
+  w2c_i0 = i32_load8_u(m, (u64)(w2c_i0) + 416u);
   w2c_i1 = 1u;
   w2c_i0 = w2c_i0 == w2c_i1;
-  w2c_l19 = w2c_i0;
+  w2c_l18 = w2c_i0;
   w2c_j0 = w2c_l5;
   w2c_i0 = (u32)(w2c_j0);
-  w2c_i0 = i32_load8_u(m, (u64)(w2c_i0) + 345u);
+  w2c_i0 = i32_load8_u(m, (u64)(w2c_i0) + 425u);
   w2c_l23 = w2c_i0;
   w2c_j0 = w2c_l5;
   w2c_i0 = (u32)(w2c_j0);
-  w2c_i0 = i32_load8_u(m, (u64)(w2c_i0) + 344u);
+  w2c_i0 = i32_load8_u(m, (u64)(w2c_i0) + 424u);
   w2c_l21 = w2c_i0;
-  w2c_B75:;
-  w2c_i0 = w2c_l19;
+  w2c_B72:;
+  w2c_i0 = w2c_l18;
   w2c_i0 = !(w2c_i0);
-  if (w2c_i0) {goto w2c_B70;}
+  if (w2c_i0) {goto w2c_B67;}
   w2c_i0 = w2c_l21;
   w2c_i1 = 255u;
   w2c_i0 &= w2c_i1;
   w2c_i1 = 1u;
   w2c_i0 = w2c_i0 != w2c_i1;
-  if (w2c_i0) {goto w2c_B70;}
+  if (w2c_i0) {goto w2c_B67;}
   w2c_i0 = w2c_l20;
   w2c_i1 = 255u;
   w2c_i0 &= w2c_i1;
@@ -46092,15 +46060,15 @@ static void w2c_f48(module *m, u64 w2c_p0, u32 w2c_p1, u64 w2c_p2, u64 w2c_p3, u
   w2c_i0 |= w2c_i1;
   w2c_i1 = 1u;
   w2c_i0 = w2c_i0 != w2c_i1;
-  if (w2c_i0) {goto w2c_B70;}
+  if (w2c_i0) {goto w2c_B67;}
   w2c_i0 = w2c_l23;
   w2c_i1 = 255u;
   w2c_i0 &= w2c_i1;
   w2c_i1 = 1u;
   w2c_i0 = w2c_i0 <= w2c_i1;
-  if (w2c_i0) {goto w2c_B70;}
+  if (w2c_i0) {goto w2c_B67;}
   w2c_j0 = w2c_l5;
-  w2c_j1 = 224ull;
+  w2c_j1 = 352ull;
   w2c_j0 += w2c_j1;
   w2c_i1 = w2c_p1;
   w2c_j2 = w2c_l13;
@@ -46110,17 +46078,17 @@ static void w2c_f48(module *m, u64 w2c_p0, u32 w2c_p1, u64 w2c_p2, u64 w2c_p3, u
   w2c_f63(m, w2c_j0, w2c_i1, w2c_j2, w2c_i3, w2c_j4, w2c_j5);
   w2c_j0 = w2c_l5;
   w2c_i0 = (u32)(w2c_j0);
-  w2c_j0 = i64_load(m, (u64)(w2c_i0) + 240u);
+  w2c_j0 = i64_load(m, (u64)(w2c_i0) + 368u);
   w2c_p3 = w2c_j0;
   w2c_j0 = w2c_l5;
   w2c_i0 = (u32)(w2c_j0);
-  w2c_i0 = i32_load8_u(m, (u64)(w2c_i0) + 224u);
-  if (w2c_i0) {goto w2c_B69;}
+  w2c_i0 = i32_load8_u(m, (u64)(w2c_i0) + 352u);
+  if (w2c_i0) {goto w2c_B66;}
   w2c_i0 = w2c_l20;
   w2c_i1 = 255u;
   w2c_i0 &= w2c_i1;
   w2c_i0 = !(w2c_i0);
-  if (w2c_i0) {goto w2c_B68;}
+  if (w2c_i0) {goto w2c_B65;}
   w2c_j0 = w2c_l15;
   w2c_j1 = w2c_l11;
   w2c_j0 = w2c_f53(m, w2c_j0, w2c_j1);
@@ -46129,10 +46097,10 @@ static void w2c_f48(module *m, u64 w2c_p0, u32 w2c_p1, u64 w2c_p2, u64 w2c_p3, u
   w2c_j1 = 1ull;
   w2c_j0 += w2c_j1;
   w2c_p4 = w2c_j0;
-  goto w2c_B28;
-  w2c_B70:;
+  goto w2c_B25;
+  w2c_B67:;
   w2c_j0 = w2c_l5;
-  w2c_j1 = 256ull;
+  w2c_j1 = 384ull;
   w2c_j0 += w2c_j1;
   w2c_i1 = w2c_p1;
   w2c_j2 = w2c_l13;
@@ -46142,16 +46110,16 @@ static void w2c_f48(module *m, u64 w2c_p0, u32 w2c_p1, u64 w2c_p2, u64 w2c_p3, u
   w2c_f63(m, w2c_j0, w2c_i1, w2c_j2, w2c_i3, w2c_j4, w2c_j5);
   w2c_j0 = w2c_l5;
   w2c_i0 = (u32)(w2c_j0);
-  w2c_j0 = i64_load(m, (u64)(w2c_i0) + 272u);
+  w2c_j0 = i64_load(m, (u64)(w2c_i0) + 400u);
   w2c_l12 = w2c_j0;
   w2c_j0 = w2c_l5;
   w2c_i0 = (u32)(w2c_j0);
-  w2c_i0 = i32_load8_u(m, (u64)(w2c_i0) + 256u);
+  w2c_i0 = i32_load8_u(m, (u64)(w2c_i0) + 384u);
   w2c_i0 = !(w2c_i0);
-  if (w2c_i0) {goto w2c_B30;}
+  if (w2c_i0) {goto w2c_B27;}
   w2c_j0 = w2c_l5;
   w2c_i0 = (u32)(w2c_j0);
-  w2c_i0 = i32_load8_u(m, (u64)(w2c_i0) + 264u);
+  w2c_i0 = i32_load8_u(m, (u64)(w2c_i0) + 392u);
   w2c_p1 = w2c_i0;
   w2c_j0 = 0ull;
   w2c_p3 = w2c_j0;
@@ -46160,31 +46128,31 @@ static void w2c_f48(module *m, u64 w2c_p0, u32 w2c_p1, u64 w2c_p2, u64 w2c_p3, u
   w2c_j0 = w2c_l12;
   w2c_p4 = w2c_j0;
   goto w2c_B1;
-  w2c_B69:;
+  w2c_B66:;
   w2c_j0 = w2c_l5;
   w2c_i0 = (u32)(w2c_j0);
   w2c_j1 = 0ull;
-  i64_store(m, (u64)(w2c_i0) + 280, w2c_j1);
+  i64_store(m, (u64)(w2c_i0) + 408, w2c_j1);
   w2c_j0 = w2c_l5;
   w2c_i0 = (u32)(w2c_j0);
   w2c_j1 = w2c_p3;
-  i64_store(m, (u64)(w2c_i0) + 272, w2c_j1);
+  i64_store(m, (u64)(w2c_i0) + 400, w2c_j1);
   w2c_j0 = w2c_l5;
   w2c_i0 = (u32)(w2c_j0);
-  w2c_i0 = i32_load8_u(m, (u64)(w2c_i0) + 232u);
+  w2c_i0 = i32_load8_u(m, (u64)(w2c_i0) + 360u);
   w2c_p1 = w2c_i0;
   w2c_j0 = w2c_p3;
   w2c_p4 = w2c_j0;
   goto w2c_B2;
-  w2c_B68:;
+  w2c_B65:;
   w2c_j0 = w2c_l5;
-  w2c_j1 = 192ull;
+  w2c_j1 = 320ull;
   w2c_j0 += w2c_j1;
   w2c_i1 = w2c_p1;
   w2c_j2 = w2c_p3;
   w2c_j3 = w2c_l5;
   w2c_i3 = (u32)(w2c_j3);
-  w2c_j3 = i64_load(m, (u64)(w2c_i3) + 248u);
+  w2c_j3 = i64_load(m, (u64)(w2c_i3) + 376u);
   w2c_i4 = w2c_l23;
   w2c_i5 = w2c_l22;
   w2c_f64(m, w2c_j0, w2c_i1, w2c_j2, w2c_j3, w2c_i4, w2c_i5);
@@ -46192,20 +46160,20 @@ static void w2c_f48(module *m, u64 w2c_p0, u32 w2c_p1, u64 w2c_p2, u64 w2c_p3, u
   w2c_l17 = w2c_i0;
   w2c_j0 = w2c_l5;
   w2c_i0 = (u32)(w2c_j0);
-  w2c_i0 = i32_load8_u(m, (u64)(w2c_i0) + 192u);
+  w2c_i0 = i32_load8_u(m, (u64)(w2c_i0) + 320u);
   w2c_i1 = 1u;
   w2c_i0 = w2c_i0 != w2c_i1;
-  if (w2c_i0) {goto w2c_B31;}
+  if (w2c_i0) {goto w2c_B28;}
   w2c_j0 = w2c_l5;
   w2c_i0 = (u32)(w2c_j0);
-  w2c_j0 = i64_load(m, (u64)(w2c_i0) + 216u);
+  w2c_j0 = i64_load(m, (u64)(w2c_i0) + 344u);
   w2c_p3 = w2c_j0;
   w2c_j0 = w2c_l5;
   w2c_i0 = (u32)(w2c_j0);
-  w2c_j0 = i64_load(m, (u64)(w2c_i0) + 208u);
+  w2c_j0 = i64_load(m, (u64)(w2c_i0) + 336u);
   w2c_l12 = w2c_j0;
-  goto w2c_B29;
-  w2c_B31:;
+  goto w2c_B26;
+  w2c_B28:;
   w2c_j0 = 0ull;
   w2c_p4 = w2c_j0;
   w2c_i0 = 2u;
@@ -46213,12 +46181,12 @@ static void w2c_f48(module *m, u64 w2c_p0, u32 w2c_p1, u64 w2c_p2, u64 w2c_p3, u
   w2c_j0 = 0ull;
   w2c_p3 = w2c_j0;
   goto w2c_B1;
-  w2c_B30:;
+  w2c_B27:;
   w2c_j0 = w2c_l5;
   w2c_i0 = (u32)(w2c_j0);
-  w2c_j0 = i64_load(m, (u64)(w2c_i0) + 280u);
+  w2c_j0 = i64_load(m, (u64)(w2c_i0) + 408u);
   w2c_p3 = w2c_j0;
-  w2c_B29:;
+  w2c_B26:;
   w2c_i0 = w2c_p1;
   w2c_j0 = (u64)(w2c_i0);
   w2c_j1 = 255ull;
@@ -46236,7 +46204,7 @@ static void w2c_f48(module *m, u64 w2c_p0, u32 w2c_p1, u64 w2c_p2, u64 w2c_p3, u
   w2c_l11 = w2c_j0;
   w2c_j1 = 38ull;
   w2c_i0 = w2c_j0 > w2c_j1;
-  if (w2c_i0) {goto w2c_B79;}
+  if (w2c_i0) {goto w2c_B76;}
   w2c_j0 = w2c_l12;
   w2c_j1 = w2c_l11;
   w2c_j2 = 4ull;
@@ -46259,8 +46227,8 @@ static void w2c_f48(module *m, u64 w2c_p0, u32 w2c_p1, u64 w2c_p2, u64 w2c_p3, u
   w2c_j3 = w2c_l11;
   w2c_i2 = w2c_j2 == w2c_j3;
   w2c_i0 = w2c_i2 ? w2c_i0 : w2c_i1;
-  if (w2c_i0) {goto w2c_B78;}
-  w2c_B79:;
+  if (w2c_i0) {goto w2c_B75;}
+  w2c_B76:;
   w2c_j0 = 0ull;
   w2c_j1 = w2c_p3;
   w2c_j2 = w2c_l14;
@@ -46302,39 +46270,39 @@ static void w2c_f48(module *m, u64 w2c_p0, u32 w2c_p1, u64 w2c_p2, u64 w2c_p3, u
   w2c_i0 = w2c_i2 ? w2c_i0 : w2c_i1;
   w2c_p1 = w2c_i0;
   goto w2c_B1;
-  w2c_B78:;
+  w2c_B75:;
   w2c_j0 = w2c_l5;
   w2c_i0 = (u32)(w2c_j0);
-  w2c_i1 = w2c_l18;
-  i32_store8(m, (u64)(w2c_i0) + 329, w2c_i1);
+  w2c_i1 = w2c_l19;
+  i32_store8(m, (u64)(w2c_i0) + 313, w2c_i1);
   w2c_i0 = 1u;
   w2c_l17 = w2c_i0;
   w2c_j0 = w2c_l5;
   w2c_i0 = (u32)(w2c_j0);
   w2c_i1 = 1u;
-  i32_store8(m, (u64)(w2c_i0) + 328, w2c_i1);
+  i32_store8(m, (u64)(w2c_i0) + 312, w2c_i1);
   w2c_j0 = w2c_l5;
   w2c_i0 = (u32)(w2c_j0);
   w2c_j1 = w2c_l6;
-  i64_store(m, (u64)(w2c_i0) + 320, w2c_j1);
-  w2c_j0 = w2c_l5;
-  w2c_i0 = (u32)(w2c_j0);
-  w2c_j1 = w2c_l7;
-  i64_store(m, (u64)(w2c_i0) + 312, w2c_j1);
-  w2c_j0 = w2c_l5;
-  w2c_i0 = (u32)(w2c_j0);
-  w2c_j1 = w2c_l8;
   i64_store(m, (u64)(w2c_i0) + 304, w2c_j1);
   w2c_j0 = w2c_l5;
   w2c_i0 = (u32)(w2c_j0);
-  w2c_j1 = w2c_l9;
+  w2c_j1 = w2c_l7;
   i64_store(m, (u64)(w2c_i0) + 296, w2c_j1);
+  w2c_j0 = w2c_l5;
+  w2c_i0 = (u32)(w2c_j0);
+  w2c_j1 = w2c_l8;
+  i64_store(m, (u64)(w2c_i0) + 288, w2c_j1);
+  w2c_j0 = w2c_l5;
+  w2c_i0 = (u32)(w2c_j0);
+  w2c_j1 = w2c_l9;
+  i64_store(m, (u64)(w2c_i0) + 280, w2c_j1);
   w2c_j0 = w2c_l5;
   w2c_j1 = w2c_p2;
   w2c_j2 = w2c_l5;
-  w2c_j3 = 296ull;
+  w2c_j3 = 280ull;
   w2c_j2 += w2c_j3;
-  w2c_f61(m, w2c_j0, w2c_j1, w2c_j2);
+  w2c_f65(m, w2c_j0, w2c_j1, w2c_j2);
   w2c_j0 = 0ull;
   w2c_p3 = w2c_j0;
   w2c_j0 = w2c_l5;
@@ -46346,11 +46314,11 @@ static void w2c_f48(module *m, u64 w2c_p0, u32 w2c_p1, u64 w2c_p2, u64 w2c_p3, u
   w2c_i0 = i32_load8_u(m, (u64)(w2c_i0));
   w2c_p1 = w2c_i0;
   goto w2c_B1;
-  w2c_B28:;
+  w2c_B25:;
   w2c_j0 = w2c_l5;
   w2c_i0 = (u32)(w2c_j0);
   w2c_j1 = w2c_p4;
-  i64_store(m, (u64)(w2c_i0) + 272, w2c_j1);
+  i64_store(m, (u64)(w2c_i0) + 400, w2c_j1);
   w2c_i0 = 1u;
   w2c_p1 = w2c_i0;
   goto w2c_B2;
@@ -46361,11 +46329,11 @@ static void w2c_f48(module *m, u64 w2c_p0, u32 w2c_p1, u64 w2c_p2, u64 w2c_p3, u
   w2c_j0 = w2c_l5;
   w2c_i0 = (u32)(w2c_j0);
   w2c_j1 = w2c_p4;
-  i64_store(m, (u64)(w2c_i0) + 272, w2c_j1);
+  i64_store(m, (u64)(w2c_i0) + 400, w2c_j1);
   w2c_j0 = w2c_l5;
   w2c_i0 = (u32)(w2c_j0);
   w2c_j1 = w2c_p4;
-  i64_store(m, (u64)(w2c_i0) + 264, w2c_j1);
+  i64_store(m, (u64)(w2c_i0) + 392, w2c_j1);
   w2c_i0 = 0u;
   w2c_p1 = w2c_i0;
   w2c_B2:;
@@ -46416,7 +46384,7 @@ static void w2c_f48(module *m, u64 w2c_p0, u32 w2c_p1, u64 w2c_p2, u64 w2c_p3, u
   w2c_j1 &= w2c_j2;
   i64_store(m, (u64)(w2c_i0), w2c_j1);
   w2c_j0 = w2c_l5;
-  w2c_j1 = 368ull;
+  w2c_j1 = 448ull;
   w2c_j0 += w2c_j1;
   m->w2c_g0 = w2c_j0;
 }
@@ -52178,7 +52146,7 @@ static void w2c_f59(module *m, u64 w2c_p0, u64 w2c_p1, u64 w2c_p2) {
     w2c_i0 = 1u;
     w2c_j1 = w2c_l7;
     w2c_j2 = w2c_l6;
-    w2c_i0 = w2c_f65(m, w2c_i0, w2c_j1, w2c_j2);
+    w2c_i0 = w2c_f66(m, w2c_i0, w2c_j1, w2c_j2);
     w2c_i0 = !(w2c_i0);
     if (w2c_i0) {goto w2c_B14;}
     goto w2c_B4;
@@ -52191,7 +52159,7 @@ static void w2c_f59(module *m, u64 w2c_p0, u64 w2c_p1, u64 w2c_p2) {
     w2c_i0 = 0u;
     w2c_j1 = w2c_l7;
     w2c_j2 = w2c_l6;
-    w2c_i0 = w2c_f65(m, w2c_i0, w2c_j1, w2c_j2);
+    w2c_i0 = w2c_f66(m, w2c_i0, w2c_j1, w2c_j2);
     if (w2c_i0) {goto w2c_B4;}
     w2c_B14:;
     w2c_j0 = w2c_l3;
@@ -53006,7 +52974,7 @@ static void w2c_f60(module *m, u64 w2c_p0, u32 w2c_p1, u64 w2c_p2, u64 w2c_p3, u
   w2c_j1 = w2c_p2;
   w2c_j2 = w2c_p3;
   w2c_j3 = w2c_p4;
-  w2c_f66(m, w2c_j0, w2c_j1, w2c_j2, w2c_j3);
+  w2c_f67(m, w2c_j0, w2c_j1, w2c_j2, w2c_j3);
   w2c_j0 = w2c_l5;
   w2c_i0 = (u32)(w2c_j0);
   w2c_i0 = i32_load8_u(m, (u64)(w2c_i0) + 24u);
@@ -53638,341 +53606,236 @@ static void w2c_f60(module *m, u64 w2c_p0, u32 w2c_p1, u64 w2c_p2, u64 w2c_p3, u
   m->w2c_g0 = w2c_j0;
 }
 
-static void w2c_f61(module *m, u64 w2c_p0, u64 w2c_p1, u64 w2c_p2) {
-  u32 w2c_l9 = 0, w2c_l10 = 0, w2c_l11 = 0, w2c_l12 = 0, w2c_l13 = 0;
-  u64 w2c_l3 = 0, w2c_l4 = 0, w2c_l5 = 0, w2c_l6 = 0, w2c_l7 = 0, w2c_l8 = 0;
-  u32 w2c_i0, w2c_i1;
-  u64 w2c_j0, w2c_j1, w2c_j2, w2c_j3;
+static void w2c_f61(module *m, u64 w2c_p0, u32 w2c_p1, u64 w2c_p2, u64 w2c_p3, u64 w2c_p4, u64 w2c_p5) {
+  u32 w2c_l7 = 0, w2c_l8 = 0;
+  u64 w2c_l6 = 0;
+  u32 w2c_i0, w2c_i1, w2c_i2, w2c_i3;
+  u64 w2c_j0, w2c_j1, w2c_j2, w2c_j3, w2c_j4;
   w2c_j0 = m->w2c_g0;
-  w2c_j1 = 16ull;
+  w2c_j1 = 176ull;
   w2c_j0 -= w2c_j1;
-  w2c_l3 = w2c_j0;
-  m->w2c_g0 = w2c_j0;
-  (void)its_own(m, w2c_l3, 16);
-  w2c_j0 = w2c_l3;
-  w2c_l4 = w2c_j0;
-  w2c_j1 = 16ull;
-  w2c_i0 = (u64)((s64)w2c_j0 < (s64)w2c_j1);
-  if (w2c_i0) {goto w2c_B2;}
-  w2c_j0 = 0ull;
-  w2c_l5 = w2c_j0;
-  w2c_i0 = 0u;
-  w2c_l9 = w2c_i0;
-  w2c_j0 = w2c_p2;
-  w2c_j1 = 24ull;
-  w2c_j0 += w2c_j1;
-  w2c_i0 = (u32)(w2c_j0);
-  w2c_j0 = i64_load(m, (u64)(w2c_i0));
   w2c_l6 = w2c_j0;
-  w2c_i0 = !(w2c_j0);
-  if (w2c_i0) {goto w2c_B0;}
-  w2c_j0 = w2c_p2;
+  m->w2c_g0 = w2c_j0;
+  (void)its_own(m, w2c_l6, 176);
+  w2c_j0 = w2c_l6;
+  w2c_l6 = w2c_j0;
   w2c_i0 = (u32)(w2c_j0);
-  w2c_j0 = i64_load(m, (u64)(w2c_i0) + 8u);
-  w2c_l7 = w2c_j0;
-  w2c_j0 = w2c_p2;
-  w2c_i0 = (u32)(w2c_j0);
-  w2c_j0 = i64_load(m, (u64)(w2c_i0));
-  w2c_l8 = w2c_j0;
-  w2c_j0 = w2c_p2;
-  w2c_j1 = 16ull;
-  w2c_j0 += w2c_j1;
-  w2c_i0 = (u32)(w2c_j0);
-  w2c_j0 = i64_load(m, (u64)(w2c_i0));
-  w2c_p2 = w2c_j0;
-  w2c_L3:
-    w2c_j0 = w2c_p2;
-    w2c_i0 = (u32)(w2c_j0);
-    w2c_i0 = i32_load8_u(m, (u64)(w2c_i0));
-    w2c_l10 = w2c_i0;
-    w2c_i1 = 32u;
-    w2c_i0 = w2c_i0 > w2c_i1;
-    if (w2c_i0) {goto w2c_B5;}
-    w2c_j0 = 1ull;
-    w2c_i1 = w2c_l10;
-    w2c_j1 = (u64)(w2c_i1);
-    w2c_j0 <<= (w2c_j1 & 63);
-    w2c_j1 = 4294983168ull;
-    w2c_j0 &= w2c_j1;
-    w2c_j1 = 0ull;
-    w2c_i0 = w2c_j0 == w2c_j1;
-    if (w2c_i0) {goto w2c_B5;}
-    w2c_j0 = 1ull;
-    w2c_l3 = w2c_j0;
-    goto w2c_B4;
-    w2c_B5:;
-    w2c_i0 = w2c_l10;
-    w2c_i1 = 194u;
-    w2c_i0 = w2c_i0 != w2c_i1;
-    if (w2c_i0) {goto w2c_B6;}
-    w2c_j0 = w2c_l6;
-    w2c_j1 = 1ull;
-    w2c_i0 = w2c_j0 == w2c_j1;
-    if (w2c_i0) {goto w2c_B1;}
-    w2c_j0 = 2ull;
-    w2c_l3 = w2c_j0;
-    w2c_j0 = w2c_p2;
-    w2c_i0 = (u32)(w2c_j0);
-    w2c_i0 = i32_load8_u(m, (u64)(w2c_i0) + 1u);
-    w2c_l10 = w2c_i0;
-    w2c_i1 = 133u;
-    w2c_i0 = w2c_i0 == w2c_i1;
-    if (w2c_i0) {goto w2c_B4;}
-    w2c_i0 = w2c_l10;
-    w2c_i1 = 160u;
-    w2c_i0 = w2c_i0 == w2c_i1;
-    if (w2c_i0) {goto w2c_B4;}
-    goto w2c_B1;
-    w2c_B6:;
-    w2c_j0 = w2c_l6;
-    w2c_j1 = 3ull;
-    w2c_i0 = w2c_j0 < w2c_j1;
-    if (w2c_i0) {goto w2c_B1;}
-    w2c_i0 = w2c_l10;
-    w2c_i1 = 28u;
-    w2c_i0 += w2c_i1;
-    w2c_i1 = 255u;
-    w2c_i0 &= w2c_i1;
-    w2c_i1 = 253u;
-    w2c_i0 = w2c_i0 < w2c_i1;
-    if (w2c_i0) {goto w2c_B1;}
-    w2c_j0 = w2c_p2;
-    w2c_j1 = 1ull;
-    w2c_j0 += w2c_j1;
-    w2c_i0 = (u32)(w2c_j0);
-    w2c_i0 = i32_load8_u(m, (u64)(w2c_i0));
-    w2c_l11 = w2c_i0;
-    w2c_j0 = w2c_p2;
-    w2c_j1 = 2ull;
-    w2c_j0 += w2c_j1;
-    w2c_i0 = (u32)(w2c_j0);
-    w2c_i0 = i32_load8_u(m, (u64)(w2c_i0));
-    w2c_l12 = w2c_i0;
-    w2c_i0 = (u32)(s32)(s8)(u8)(w2c_i0);
-    w2c_l13 = w2c_i0;
-    w2c_i0 = w2c_l10;
-    w2c_i1 = 226u;
-    w2c_i0 = w2c_i0 != w2c_i1;
-    if (w2c_i0) {goto w2c_B7;}
-    w2c_i0 = w2c_l11;
-    w2c_i1 = 255u;
-    w2c_i0 &= w2c_i1;
-    w2c_i1 = 128u;
-    w2c_i0 = w2c_i0 != w2c_i1;
-    if (w2c_i0) {goto w2c_B7;}
-    w2c_j0 = 3ull;
-    w2c_l3 = w2c_j0;
-    w2c_i0 = w2c_l13;
-    w2c_i1 = 4294967179u;
-    w2c_i0 = (u32)((s32)w2c_i0 < (s32)w2c_i1);
-    if (w2c_i0) {goto w2c_B4;}
-    w2c_i0 = w2c_l12;
-    w2c_i1 = 4294967128u;
-    w2c_i0 += w2c_i1;
-    w2c_l10 = w2c_i0;
-    w2c_i1 = 7u;
-    w2c_i0 = w2c_i0 > w2c_i1;
-    if (w2c_i0) {goto w2c_B1;}
-    w2c_i0 = 1u;
-    w2c_i1 = w2c_l10;
-    w2c_i0 <<= (w2c_i1 & 31);
-    w2c_i1 = 131u;
-    w2c_i0 &= w2c_i1;
-    w2c_i0 = !(w2c_i0);
-    if (w2c_i0) {goto w2c_B1;}
-    goto w2c_B4;
-    w2c_B7:;
-    w2c_i0 = w2c_l10;
-    w2c_i1 = 4294967071u;
-    w2c_i0 += w2c_i1;
-    switch (w2c_i0) {
-      case 0: goto w2c_B11;
-      case 1: goto w2c_B10;
-      case 2: goto w2c_B9;
-      default: goto w2c_B11;
-    }
-    w2c_B11:;
-    w2c_i0 = w2c_l11;
-    w2c_i1 = 255u;
-    w2c_i0 &= w2c_i1;
-    w2c_i1 = 154u;
-    w2c_i0 = w2c_i0 != w2c_i1;
-    if (w2c_i0) {goto w2c_B1;}
-    w2c_i0 = w2c_l13;
-    w2c_i1 = 4294967168u;
-    w2c_i0 = w2c_i0 != w2c_i1;
-    if (w2c_i0) {goto w2c_B1;}
-    goto w2c_B8;
-    w2c_B10:;
-    w2c_i0 = w2c_l11;
-    w2c_i1 = 255u;
-    w2c_i0 &= w2c_i1;
-    w2c_i1 = 129u;
-    w2c_i0 = w2c_i0 != w2c_i1;
-    if (w2c_i0) {goto w2c_B1;}
-    w2c_i0 = w2c_l13;
-    w2c_i1 = 4294967199u;
-    w2c_i0 = w2c_i0 != w2c_i1;
-    if (w2c_i0) {goto w2c_B1;}
-    goto w2c_B8;
-    w2c_B9:;
-    w2c_i0 = w2c_l11;
-    w2c_i1 = 255u;
-    w2c_i0 &= w2c_i1;
-    w2c_i1 = 128u;
-    w2c_i0 = w2c_i0 != w2c_i1;
-    if (w2c_i0) {goto w2c_B1;}
-    w2c_i0 = w2c_l13;
-    w2c_i1 = 4294967168u;
-    w2c_i0 = w2c_i0 != w2c_i1;
-    if (w2c_i0) {goto w2c_B1;}
-    w2c_B8:;
-    w2c_j0 = 3ull;
-    w2c_l3 = w2c_j0;
-    w2c_B4:;
-    w2c_j0 = w2c_p1;
-    w2c_j1 = 1ull;
-    w2c_j0 += w2c_j1;
-    w2c_p1 = w2c_j0;
-    w2c_j0 = w2c_p2;
-    w2c_j1 = w2c_l3;
-    w2c_j0 += w2c_j1;
-    w2c_p2 = w2c_j0;
-    w2c_j0 = w2c_l6;
-    w2c_j1 = w2c_l3;
-    w2c_j0 -= w2c_j1;
-    w2c_l6 = w2c_j0;
-    w2c_i0 = !(w2c_j0);
-    w2c_i0 = !(w2c_i0);
-    if (w2c_i0) {goto w2c_L3;}
-    goto w2c_B0;
-  UNREACHABLE;
-  w2c_B2:;
-  UNREACHABLE;
-  w2c_B1:;
-  w2c_j0 = 0ull;
-  w2c_l3 = w2c_j0;
-  w2c_j0 = 0ull;
-  w2c_p2 = w2c_j0;
-  w2c_j0 = w2c_l7;
-  w2c_j1 = 32ull;
-  w2c_i0 = w2c_j0 < w2c_j1;
-  if (w2c_i0) {goto w2c_B12;}
-  w2c_j0 = w2c_l4;
-  w2c_j1 = w2c_l8;
-  w2c_j2 = w2c_l7;
-  w2c_j3 = w2c_l7;
-  w2c_f14(m, w2c_j0, w2c_j1, w2c_j2, w2c_j3);
-  w2c_j0 = w2c_l7;
-  w2c_j1 = w2c_l4;
+  w2c_j1 = w2c_p5;
   w2c_i1 = (u32)(w2c_j1);
   w2c_j1 = i64_load(m, (u64)(w2c_i1) + 8u);
-  w2c_j0 -= w2c_j1;
-  w2c_l3 = w2c_j0;
-  w2c_j0 = w2c_l4;
+  i64_store(m, (u64)(w2c_i0) + 168, w2c_j1);
+  w2c_j0 = w2c_l6;
   w2c_i0 = (u32)(w2c_j0);
-  w2c_j0 = i64_load(m, (u64)(w2c_i0));
-  w2c_p2 = w2c_j0;
-  w2c_B12:;
-  w2c_j0 = w2c_l7;
-  w2c_j1 = w2c_p2;
-  w2c_j0 -= w2c_j1;
-  w2c_j1 = 8ull;
-  w2c_i0 = w2c_j0 < w2c_j1;
-  if (w2c_i0) {goto w2c_B13;}
-  w2c_L14:
-    w2c_j0 = w2c_l8;
-    w2c_j1 = w2c_p2;
-    w2c_j0 += w2c_j1;
-    w2c_i0 = (u32)(w2c_j0);
-    w2c_j0 = i64_load(m, (u64)(w2c_i0));
-    w2c_l6 = w2c_j0;
-    w2c_j1 = 67553998437089520ull;
-    w2c_j0 &= w2c_j1;
-    w2c_j1 = 63050398541283552ull;
-    w2c_i0 = w2c_j0 != w2c_j1;
-    if (w2c_i0) {goto w2c_B16;}
-    w2c_j0 = w2c_l3;
-    w2c_j1 = 3ull;
-    w2c_j0 += w2c_j1;
-    w2c_l3 = w2c_j0;
-    w2c_j0 = w2c_p2;
-    w2c_j1 = 9ull;
-    w2c_j0 += w2c_j1;
-    w2c_p2 = w2c_j0;
-    goto w2c_B15;
-    w2c_B16:;
-    w2c_j0 = w2c_l6;
-    w2c_j1 = 9259542123273814144ull;
-    w2c_j0 &= w2c_j1;
-    w2c_j1 = 0ull;
-    w2c_i0 = w2c_j0 != w2c_j1;
-    if (w2c_i0) {goto w2c_B13;}
-    w2c_j0 = w2c_l3;
-    w2c_j1 = 8ull;
-    w2c_j0 += w2c_j1;
-    w2c_l3 = w2c_j0;
-    w2c_j0 = w2c_p2;
-    w2c_j1 = 8ull;
-    w2c_j0 += w2c_j1;
-    w2c_p2 = w2c_j0;
-    w2c_B15:;
-    w2c_j0 = w2c_l7;
-    w2c_j1 = w2c_p2;
-    w2c_j0 -= w2c_j1;
-    w2c_j1 = 7ull;
-    w2c_i0 = w2c_j0 > w2c_j1;
-    if (w2c_i0) {goto w2c_L14;}
-  w2c_B13:;
-  w2c_j0 = w2c_p2;
-  w2c_j1 = w2c_l7;
-  w2c_i0 = w2c_j0 >= w2c_j1;
-  if (w2c_i0) {goto w2c_B17;}
-  w2c_L18:
-    w2c_j0 = w2c_l3;
-    w2c_j1 = 1ull;
-    w2c_j0 += w2c_j1;
-    w2c_l3 = w2c_j0;
-    w2c_j0 = w2c_l8;
-    w2c_j1 = w2c_p2;
-    w2c_j0 += w2c_j1;
-    w2c_i0 = (u32)(w2c_j0);
-    w2c_i0 = i32_load8_u(m, (u64)(w2c_i0));
-    w2c_i1 = 1u;
-    w2c_i0 >>= (w2c_i1 & 31);
-    w2c_j0 = (u64)(w2c_i0);
-    w2c_j1 = 120ull;
-    w2c_j0 &= w2c_j1;
-    w2c_j1 = 66944ull;
-    w2c_j0 += w2c_j1;
-    w2c_i0 = (u32)(w2c_j0);
-    w2c_j0 = i64_load(m, (u64)(w2c_i0));
-    w2c_j1 = w2c_p2;
-    w2c_j0 += w2c_j1;
-    w2c_p2 = w2c_j0;
-    w2c_j1 = w2c_l7;
-    w2c_i0 = w2c_j0 < w2c_j1;
-    if (w2c_i0) {goto w2c_L18;}
-  w2c_B17:;
-  w2c_j0 = w2c_l3;
-  w2c_j1 = w2c_p1;
+  w2c_j1 = w2c_p5;
+  w2c_i1 = (u32)(w2c_j1);
+  w2c_j1 = i64_load(m, (u64)(w2c_i1));
+  i64_store(m, (u64)(w2c_i0) + 160, w2c_j1);
+  w2c_j0 = w2c_l6;
+  w2c_i0 = (u32)(w2c_j0);
+  w2c_j1 = w2c_p5;
+  w2c_j2 = 16ull;
+  w2c_j1 += w2c_j2;
+  w2c_i1 = (u32)(w2c_j1);
+  w2c_j1 = i64_load(m, (u64)(w2c_i1));
+  i64_store(m, (u64)(w2c_i0) + 144, w2c_j1);
+  w2c_j0 = w2c_l6;
+  w2c_i0 = (u32)(w2c_j0);
+  w2c_j1 = w2c_p5;
+  w2c_j2 = 24ull;
+  w2c_j1 += w2c_j2;
+  w2c_i1 = (u32)(w2c_j1);
+  w2c_j1 = i64_load(m, (u64)(w2c_i1));
+  i64_store(m, (u64)(w2c_i0) + 152, w2c_j1);
+  w2c_j0 = w2c_l6;
+  w2c_j1 = 16ull;
+  w2c_i0 = (u64)((s64)w2c_j0 < (s64)w2c_j1);
+  if (w2c_i0) {goto w2c_B0;}
+  w2c_j0 = w2c_p5;
+  w2c_j1 = 33ull;
   w2c_j0 += w2c_j1;
-  w2c_l5 = w2c_j0;
-  w2c_i0 = 1u;
-  w2c_l9 = w2c_i0;
-  w2c_B0:;
-  w2c_j0 = w2c_p0;
   w2c_i0 = (u32)(w2c_j0);
-  w2c_j1 = w2c_l5;
-  i64_store(m, (u64)(w2c_i0) + 8, w2c_j1);
-  w2c_j0 = w2c_p0;
+  w2c_i0 = i32_load8_u(m, (u64)(w2c_i0));
+  w2c_l7 = w2c_i0;
+  w2c_j0 = w2c_p5;
+  w2c_j1 = 32ull;
+  w2c_j0 += w2c_j1;
   w2c_i0 = (u32)(w2c_j0);
-  w2c_i1 = w2c_l9;
-  i32_store8(m, (u64)(w2c_i0), w2c_i1);
-  w2c_j0 = w2c_l4;
+  w2c_i0 = i32_load8_u(m, (u64)(w2c_i0));
+  w2c_l8 = w2c_i0;
+  w2c_j0 = w2c_l6;
+  w2c_i0 = (u32)(w2c_j0);
+  w2c_j1 = 0ull;
+  i64_store(m, (u64)(w2c_i0) + 136, w2c_j1);
+  w2c_j0 = w2c_l6;
+  w2c_i0 = (u32)(w2c_j0);
+  w2c_j1 = 0ull;
+  i64_store(m, (u64)(w2c_i0) + 128, w2c_j1);
+  w2c_j0 = w2c_l6;
+  w2c_i0 = (u32)(w2c_j0);
+  w2c_j1 = 0ull;
+  i64_store(m, (u64)(w2c_i0) + 120, w2c_j1);
+  w2c_j0 = w2c_l6;
+  w2c_i0 = (u32)(w2c_j0);
+  w2c_j1 = 0ull;
+  i64_store(m, (u64)(w2c_i0) + 112, w2c_j1);
+  w2c_j0 = w2c_l6;
+  w2c_i0 = (u32)(w2c_j0);
+  w2c_j1 = 0ull;
+  i64_store(m, (u64)(w2c_i0) + 104, w2c_j1);
+  w2c_j0 = w2c_l6;
+  w2c_i0 = (u32)(w2c_j0);
+  w2c_j1 = 0ull;
+  i64_store(m, (u64)(w2c_i0) + 64, w2c_j1);
+  w2c_j0 = w2c_l6;
+  w2c_j1 = 112ull;
+  w2c_j0 += w2c_j1;
+  w2c_i1 = w2c_p1;
+  w2c_j2 = w2c_p2;
+  w2c_j3 = w2c_p3;
+  w2c_j4 = w2c_p4;
+  w2c_f60(m, w2c_j0, w2c_i1, w2c_j2, w2c_j3, w2c_j4);
+  w2c_j0 = w2c_l6;
+  w2c_i0 = (u32)(w2c_j0);
+  w2c_i0 = i32_load8_u(m, (u64)(w2c_i0) + 112u);
+  if (w2c_i0) {goto w2c_B2;}
+  w2c_j0 = w2c_l6;
+  w2c_i0 = (u32)(w2c_j0);
+  w2c_j1 = w2c_l6;
+  w2c_i1 = (u32)(w2c_j1);
+  w2c_j1 = i64_load(m, (u64)(w2c_i1) + 168u);
+  i64_store(m, (u64)(w2c_i0) + 80, w2c_j1);
+  w2c_j0 = w2c_l6;
+  w2c_i0 = (u32)(w2c_j0);
+  w2c_j1 = w2c_l6;
+  w2c_i1 = (u32)(w2c_j1);
+  w2c_j1 = i64_load(m, (u64)(w2c_i1) + 160u);
+  i64_store(m, (u64)(w2c_i0) + 72, w2c_j1);
+  w2c_j0 = w2c_l6;
+  w2c_i0 = (u32)(w2c_j0);
+  w2c_j1 = w2c_l6;
+  w2c_i1 = (u32)(w2c_j1);
+  w2c_j1 = i64_load(m, (u64)(w2c_i1) + 144u);
+  i64_store(m, (u64)(w2c_i0) + 88, w2c_j1);
+  w2c_j0 = w2c_l6;
+  w2c_i0 = (u32)(w2c_j0);
+  w2c_j1 = w2c_l6;
+  w2c_i1 = (u32)(w2c_j1);
+  w2c_j1 = i64_load(m, (u64)(w2c_i1) + 152u);
+  i64_store(m, (u64)(w2c_i0) + 96, w2c_j1);
+  w2c_j0 = w2c_l6;
+  w2c_i0 = (u32)(w2c_j0);
+  w2c_i1 = w2c_l7;
+  i32_store8(m, (u64)(w2c_i0) + 105, w2c_i1);
+  w2c_j0 = w2c_l6;
+  w2c_i0 = (u32)(w2c_j0);
+  w2c_i1 = w2c_l8;
+  i32_store8(m, (u64)(w2c_i0) + 104, w2c_i1);
+  w2c_j0 = w2c_l6;
+  w2c_j1 = w2c_p2;
+  w2c_j2 = w2c_l6;
+  w2c_j3 = 72ull;
+  w2c_j2 += w2c_j3;
+  w2c_f65(m, w2c_j0, w2c_j1, w2c_j2);
+  w2c_j0 = w2c_l6;
+  w2c_i0 = (u32)(w2c_j0);
+  w2c_j0 = i64_load(m, (u64)(w2c_i0) + 8u);
+  w2c_p5 = w2c_j0;
+  w2c_j0 = w2c_l6;
+  w2c_i0 = (u32)(w2c_j0);
+  w2c_i0 = i32_load8_u(m, (u64)(w2c_i0));
+  w2c_p1 = w2c_i0;
+  goto w2c_B1;
+  w2c_B2:;
+  w2c_j0 = w2c_l6;
+  w2c_i0 = (u32)(w2c_j0);
+  w2c_j1 = w2c_l6;
+  w2c_i1 = (u32)(w2c_j1);
+  w2c_j1 = i64_load(m, (u64)(w2c_i1) + 160u);
+  i64_store(m, (u64)(w2c_i0) + 32, w2c_j1);
+  w2c_j0 = w2c_l6;
+  w2c_i0 = (u32)(w2c_j0);
+  w2c_j1 = w2c_l6;
+  w2c_i1 = (u32)(w2c_j1);
+  w2c_j1 = i64_load(m, (u64)(w2c_i1) + 168u);
+  i64_store(m, (u64)(w2c_i0) + 40, w2c_j1);
+  w2c_j0 = w2c_l6;
+  w2c_i0 = (u32)(w2c_j0);
+  w2c_j1 = w2c_l6;
+  w2c_i1 = (u32)(w2c_j1);
+  w2c_j1 = i64_load(m, (u64)(w2c_i1) + 144u);
+  i64_store(m, (u64)(w2c_i0) + 48, w2c_j1);
+  w2c_j0 = w2c_l6;
+  w2c_i0 = (u32)(w2c_j0);
+  w2c_j1 = w2c_l6;
+  w2c_i1 = (u32)(w2c_j1);
+  w2c_j1 = i64_load(m, (u64)(w2c_i1) + 152u);
+  i64_store(m, (u64)(w2c_i0) + 56, w2c_j1);
+  w2c_j0 = w2c_l6;
+  w2c_i0 = (u32)(w2c_j0);
+  w2c_i1 = w2c_l7;
+  i32_store8(m, (u64)(w2c_i0) + 65, w2c_i1);
+  w2c_j0 = w2c_l6;
+  w2c_i0 = (u32)(w2c_j0);
+  w2c_i1 = w2c_l8;
+  i32_store8(m, (u64)(w2c_i0) + 64, w2c_i1);
+  w2c_j0 = w2c_l6;
+  w2c_i0 = (u32)(w2c_j0);
+  w2c_i0 = i32_load8_u(m, (u64)(w2c_i0) + 120u);
+  w2c_p1 = w2c_i0;
+  w2c_j0 = w2c_l6;
+  w2c_i0 = (u32)(w2c_j0);
+  w2c_j0 = i64_load(m, (u64)(w2c_i0) + 128u);
+  w2c_p5 = w2c_j0;
+  w2c_j0 = w2c_l6;
   w2c_j1 = 16ull;
   w2c_j0 += w2c_j1;
+  w2c_j1 = w2c_p2;
+  w2c_j2 = w2c_l6;
+  w2c_j3 = 32ull;
+  w2c_j2 += w2c_j3;
+  w2c_f65(m, w2c_j0, w2c_j1, w2c_j2);
+  w2c_j0 = w2c_p5;
+  w2c_j1 = w2c_l6;
+  w2c_i1 = (u32)(w2c_j1);
+  w2c_j1 = i64_load(m, (u64)(w2c_i1) + 24u);
+  w2c_p2 = w2c_j1;
+  w2c_i2 = w2c_p1;
+  w2c_i3 = 1u;
+  w2c_i2 = w2c_i2 != w2c_i3;
+  w2c_j3 = w2c_l6;
+  w2c_i3 = (u32)(w2c_j3);
+  w2c_i3 = i32_load8_u(m, (u64)(w2c_i3) + 16u);
+  w2c_i3 = !(w2c_i3);
+  w2c_i2 |= w2c_i3;
+  w2c_j3 = w2c_p5;
+  w2c_j4 = w2c_p2;
+  w2c_i3 = w2c_j3 > w2c_j4;
+  w2c_i2 |= w2c_i3;
+  w2c_l7 = w2c_i2;
+  w2c_j0 = w2c_i2 ? w2c_j0 : w2c_j1;
+  w2c_p5 = w2c_j0;
+  w2c_i0 = w2c_p1;
+  w2c_i1 = 1u;
+  w2c_i2 = w2c_l7;
+  w2c_i0 = w2c_i2 ? w2c_i0 : w2c_i1;
+  w2c_p1 = w2c_i0;
+  w2c_B1:;
+  w2c_j0 = w2c_p0;
+  w2c_i0 = (u32)(w2c_j0);
+  w2c_i1 = w2c_p1;
+  i32_store8(m, (u64)(w2c_i0), w2c_i1);
+  w2c_j0 = w2c_p0;
+  w2c_i0 = (u32)(w2c_j0);
+  w2c_j1 = w2c_p5;
+  i64_store(m, (u64)(w2c_i0) + 8, w2c_j1);
+  w2c_j0 = w2c_l6;
+  w2c_j1 = 176ull;
+  w2c_j0 += w2c_j1;
   m->w2c_g0 = w2c_j0;
+  goto w2c_Bfunc;
+  w2c_B0:;
+  UNREACHABLE;
+  w2c_Bfunc:;
 }
 
 static void w2c_f62(module *m, u64 w2c_p0, u64 w2c_p1, u64 w2c_p2) {
@@ -55975,7 +55838,344 @@ static void w2c_f64(module *m, u64 w2c_p0, u32 w2c_p1, u64 w2c_p2, u64 w2c_p3, u
   m->w2c_g0 = w2c_j0;
 }
 
-static u32 w2c_f65(module *m, u32 w2c_p0, u64 w2c_p1, u64 w2c_p2) {
+static void w2c_f65(module *m, u64 w2c_p0, u64 w2c_p1, u64 w2c_p2) {
+  u32 w2c_l9 = 0, w2c_l10 = 0, w2c_l11 = 0, w2c_l12 = 0, w2c_l13 = 0;
+  u64 w2c_l3 = 0, w2c_l4 = 0, w2c_l5 = 0, w2c_l6 = 0, w2c_l7 = 0, w2c_l8 = 0;
+  u32 w2c_i0, w2c_i1;
+  u64 w2c_j0, w2c_j1, w2c_j2, w2c_j3;
+  w2c_j0 = m->w2c_g0;
+  w2c_j1 = 16ull;
+  w2c_j0 -= w2c_j1;
+  w2c_l3 = w2c_j0;
+  m->w2c_g0 = w2c_j0;
+  (void)its_own(m, w2c_l3, 16);
+  w2c_j0 = w2c_l3;
+  w2c_l4 = w2c_j0;
+  w2c_j1 = 16ull;
+  w2c_i0 = (u64)((s64)w2c_j0 < (s64)w2c_j1);
+  if (w2c_i0) {goto w2c_B2;}
+  w2c_j0 = 0ull;
+  w2c_l5 = w2c_j0;
+  w2c_i0 = 0u;
+  w2c_l9 = w2c_i0;
+  w2c_j0 = w2c_p2;
+  w2c_j1 = 24ull;
+  w2c_j0 += w2c_j1;
+  w2c_i0 = (u32)(w2c_j0);
+  w2c_j0 = i64_load(m, (u64)(w2c_i0));
+  w2c_l6 = w2c_j0;
+  w2c_i0 = !(w2c_j0);
+  if (w2c_i0) {goto w2c_B0;}
+  w2c_j0 = w2c_p2;
+  w2c_i0 = (u32)(w2c_j0);
+  w2c_j0 = i64_load(m, (u64)(w2c_i0) + 8u);
+  w2c_l7 = w2c_j0;
+  w2c_j0 = w2c_p2;
+  w2c_i0 = (u32)(w2c_j0);
+  w2c_j0 = i64_load(m, (u64)(w2c_i0));
+  w2c_l8 = w2c_j0;
+  w2c_j0 = w2c_p2;
+  w2c_j1 = 16ull;
+  w2c_j0 += w2c_j1;
+  w2c_i0 = (u32)(w2c_j0);
+  w2c_j0 = i64_load(m, (u64)(w2c_i0));
+  w2c_p2 = w2c_j0;
+  w2c_L3:
+    w2c_j0 = w2c_p2;
+    w2c_i0 = (u32)(w2c_j0);
+    w2c_i0 = i32_load8_u(m, (u64)(w2c_i0));
+    w2c_l10 = w2c_i0;
+    w2c_i1 = 32u;
+    w2c_i0 = w2c_i0 > w2c_i1;
+    if (w2c_i0) {goto w2c_B5;}
+    w2c_j0 = 1ull;
+    w2c_i1 = w2c_l10;
+    w2c_j1 = (u64)(w2c_i1);
+    w2c_j0 <<= (w2c_j1 & 63);
+    w2c_j1 = 4294983168ull;
+    w2c_j0 &= w2c_j1;
+    w2c_j1 = 0ull;
+    w2c_i0 = w2c_j0 == w2c_j1;
+    if (w2c_i0) {goto w2c_B5;}
+    w2c_j0 = 1ull;
+    w2c_l3 = w2c_j0;
+    goto w2c_B4;
+    w2c_B5:;
+    w2c_i0 = w2c_l10;
+    w2c_i1 = 194u;
+    w2c_i0 = w2c_i0 != w2c_i1;
+    if (w2c_i0) {goto w2c_B6;}
+    w2c_j0 = w2c_l6;
+    w2c_j1 = 1ull;
+    w2c_i0 = w2c_j0 == w2c_j1;
+    if (w2c_i0) {goto w2c_B1;}
+    w2c_j0 = 2ull;
+    w2c_l3 = w2c_j0;
+    w2c_j0 = w2c_p2;
+    w2c_i0 = (u32)(w2c_j0);
+    w2c_i0 = i32_load8_u(m, (u64)(w2c_i0) + 1u);
+    w2c_l10 = w2c_i0;
+    w2c_i1 = 133u;
+    w2c_i0 = w2c_i0 == w2c_i1;
+    if (w2c_i0) {goto w2c_B4;}
+    w2c_i0 = w2c_l10;
+    w2c_i1 = 160u;
+    w2c_i0 = w2c_i0 == w2c_i1;
+    if (w2c_i0) {goto w2c_B4;}
+    goto w2c_B1;
+    w2c_B6:;
+    w2c_j0 = w2c_l6;
+    w2c_j1 = 3ull;
+    w2c_i0 = w2c_j0 < w2c_j1;
+    if (w2c_i0) {goto w2c_B1;}
+    w2c_i0 = w2c_l10;
+    w2c_i1 = 28u;
+    w2c_i0 += w2c_i1;
+    w2c_i1 = 255u;
+    w2c_i0 &= w2c_i1;
+    w2c_i1 = 253u;
+    w2c_i0 = w2c_i0 < w2c_i1;
+    if (w2c_i0) {goto w2c_B1;}
+    w2c_j0 = w2c_p2;
+    w2c_j1 = 1ull;
+    w2c_j0 += w2c_j1;
+    w2c_i0 = (u32)(w2c_j0);
+    w2c_i0 = i32_load8_u(m, (u64)(w2c_i0));
+    w2c_l11 = w2c_i0;
+    w2c_j0 = w2c_p2;
+    w2c_j1 = 2ull;
+    w2c_j0 += w2c_j1;
+    w2c_i0 = (u32)(w2c_j0);
+    w2c_i0 = i32_load8_u(m, (u64)(w2c_i0));
+    w2c_l12 = w2c_i0;
+    w2c_i0 = (u32)(s32)(s8)(u8)(w2c_i0);
+    w2c_l13 = w2c_i0;
+    w2c_i0 = w2c_l10;
+    w2c_i1 = 226u;
+    w2c_i0 = w2c_i0 != w2c_i1;
+    if (w2c_i0) {goto w2c_B7;}
+    w2c_i0 = w2c_l11;
+    w2c_i1 = 255u;
+    w2c_i0 &= w2c_i1;
+    w2c_i1 = 128u;
+    w2c_i0 = w2c_i0 != w2c_i1;
+    if (w2c_i0) {goto w2c_B7;}
+    w2c_j0 = 3ull;
+    w2c_l3 = w2c_j0;
+    w2c_i0 = w2c_l13;
+    w2c_i1 = 4294967179u;
+    w2c_i0 = (u32)((s32)w2c_i0 < (s32)w2c_i1);
+    if (w2c_i0) {goto w2c_B4;}
+    w2c_i0 = w2c_l12;
+    w2c_i1 = 4294967128u;
+    w2c_i0 += w2c_i1;
+    w2c_l10 = w2c_i0;
+    w2c_i1 = 7u;
+    w2c_i0 = w2c_i0 > w2c_i1;
+    if (w2c_i0) {goto w2c_B1;}
+    w2c_i0 = 1u;
+    w2c_i1 = w2c_l10;
+    w2c_i0 <<= (w2c_i1 & 31);
+    w2c_i1 = 131u;
+    w2c_i0 &= w2c_i1;
+    w2c_i0 = !(w2c_i0);
+    if (w2c_i0) {goto w2c_B1;}
+    goto w2c_B4;
+    w2c_B7:;
+    w2c_i0 = w2c_l10;
+    w2c_i1 = 4294967071u;
+    w2c_i0 += w2c_i1;
+    switch (w2c_i0) {
+      case 0: goto w2c_B11;
+      case 1: goto w2c_B10;
+      case 2: goto w2c_B9;
+      default: goto w2c_B11;
+    }
+    w2c_B11:;
+    w2c_i0 = w2c_l11;
+    w2c_i1 = 255u;
+    w2c_i0 &= w2c_i1;
+    w2c_i1 = 154u;
+    w2c_i0 = w2c_i0 != w2c_i1;
+    if (w2c_i0) {goto w2c_B1;}
+    w2c_i0 = w2c_l13;
+    w2c_i1 = 4294967168u;
+    w2c_i0 = w2c_i0 != w2c_i1;
+    if (w2c_i0) {goto w2c_B1;}
+    goto w2c_B8;
+    w2c_B10:;
+    w2c_i0 = w2c_l11;
+    w2c_i1 = 255u;
+    w2c_i0 &= w2c_i1;
+    w2c_i1 = 129u;
+    w2c_i0 = w2c_i0 != w2c_i1;
+    if (w2c_i0) {goto w2c_B1;}
+    w2c_i0 = w2c_l13;
+    w2c_i1 = 4294967199u;
+    w2c_i0 = w2c_i0 != w2c_i1;
+    if (w2c_i0) {goto w2c_B1;}
+    goto w2c_B8;
+    w2c_B9:;
+    w2c_i0 = w2c_l11;
+    w2c_i1 = 255u;
+    w2c_i0 &= w2c_i1;
+    w2c_i1 = 128u;
+    w2c_i0 = w2c_i0 != w2c_i1;
+    if (w2c_i0) {goto w2c_B1;}
+    w2c_i0 = w2c_l13;
+    w2c_i1 = 4294967168u;
+    w2c_i0 = w2c_i0 != w2c_i1;
+    if (w2c_i0) {goto w2c_B1;}
+    w2c_B8:;
+    w2c_j0 = 3ull;
+    w2c_l3 = w2c_j0;
+    w2c_B4:;
+    w2c_j0 = w2c_p1;
+    w2c_j1 = 1ull;
+    w2c_j0 += w2c_j1;
+    w2c_p1 = w2c_j0;
+    w2c_j0 = w2c_p2;
+    w2c_j1 = w2c_l3;
+    w2c_j0 += w2c_j1;
+    w2c_p2 = w2c_j0;
+    w2c_j0 = w2c_l6;
+    w2c_j1 = w2c_l3;
+    w2c_j0 -= w2c_j1;
+    w2c_l6 = w2c_j0;
+    w2c_i0 = !(w2c_j0);
+    w2c_i0 = !(w2c_i0);
+    if (w2c_i0) {goto w2c_L3;}
+    goto w2c_B0;
+  UNREACHABLE;
+  w2c_B2:;
+  UNREACHABLE;
+  w2c_B1:;
+  w2c_j0 = 0ull;
+  w2c_l3 = w2c_j0;
+  w2c_j0 = 0ull;
+  w2c_p2 = w2c_j0;
+  w2c_j0 = w2c_l7;
+  w2c_j1 = 32ull;
+  w2c_i0 = w2c_j0 < w2c_j1;
+  if (w2c_i0) {goto w2c_B12;}
+  w2c_j0 = w2c_l4;
+  w2c_j1 = w2c_l8;
+  w2c_j2 = w2c_l7;
+  w2c_j3 = w2c_l7;
+  w2c_f14(m, w2c_j0, w2c_j1, w2c_j2, w2c_j3);
+  w2c_j0 = w2c_l7;
+  w2c_j1 = w2c_l4;
+  w2c_i1 = (u32)(w2c_j1);
+  w2c_j1 = i64_load(m, (u64)(w2c_i1) + 8u);
+  w2c_j0 -= w2c_j1;
+  w2c_l3 = w2c_j0;
+  w2c_j0 = w2c_l4;
+  w2c_i0 = (u32)(w2c_j0);
+  w2c_j0 = i64_load(m, (u64)(w2c_i0));
+  w2c_p2 = w2c_j0;
+  w2c_B12:;
+  w2c_j0 = w2c_l7;
+  w2c_j1 = w2c_p2;
+  w2c_j0 -= w2c_j1;
+  w2c_j1 = 8ull;
+  w2c_i0 = w2c_j0 < w2c_j1;
+  if (w2c_i0) {goto w2c_B13;}
+  w2c_L14:
+    w2c_j0 = w2c_l8;
+    w2c_j1 = w2c_p2;
+    w2c_j0 += w2c_j1;
+    w2c_i0 = (u32)(w2c_j0);
+    w2c_j0 = i64_load(m, (u64)(w2c_i0));
+    w2c_l6 = w2c_j0;
+    w2c_j1 = 67553998437089520ull;
+    w2c_j0 &= w2c_j1;
+    w2c_j1 = 63050398541283552ull;
+    w2c_i0 = w2c_j0 != w2c_j1;
+    if (w2c_i0) {goto w2c_B16;}
+    w2c_j0 = w2c_l3;
+    w2c_j1 = 3ull;
+    w2c_j0 += w2c_j1;
+    w2c_l3 = w2c_j0;
+    w2c_j0 = w2c_p2;
+    w2c_j1 = 9ull;
+    w2c_j0 += w2c_j1;
+    w2c_p2 = w2c_j0;
+    goto w2c_B15;
+    w2c_B16:;
+    w2c_j0 = w2c_l6;
+    w2c_j1 = 9259542123273814144ull;
+    w2c_j0 &= w2c_j1;
+    w2c_j1 = 0ull;
+    w2c_i0 = w2c_j0 != w2c_j1;
+    if (w2c_i0) {goto w2c_B13;}
+    w2c_j0 = w2c_l3;
+    w2c_j1 = 8ull;
+    w2c_j0 += w2c_j1;
+    w2c_l3 = w2c_j0;
+    w2c_j0 = w2c_p2;
+    w2c_j1 = 8ull;
+    w2c_j0 += w2c_j1;
+    w2c_p2 = w2c_j0;
+    w2c_B15:;
+    w2c_j0 = w2c_l7;
+    w2c_j1 = w2c_p2;
+    w2c_j0 -= w2c_j1;
+    w2c_j1 = 7ull;
+    w2c_i0 = w2c_j0 > w2c_j1;
+    if (w2c_i0) {goto w2c_L14;}
+  w2c_B13:;
+  w2c_j0 = w2c_p2;
+  w2c_j1 = w2c_l7;
+  w2c_i0 = w2c_j0 >= w2c_j1;
+  if (w2c_i0) {goto w2c_B17;}
+  w2c_L18:
+    w2c_j0 = w2c_l3;
+    w2c_j1 = 1ull;
+    w2c_j0 += w2c_j1;
+    w2c_l3 = w2c_j0;
+    w2c_j0 = w2c_l8;
+    w2c_j1 = w2c_p2;
+    w2c_j0 += w2c_j1;
+    w2c_i0 = (u32)(w2c_j0);
+    w2c_i0 = i32_load8_u(m, (u64)(w2c_i0));
+    w2c_i1 = 1u;
+    w2c_i0 >>= (w2c_i1 & 31);
+    w2c_j0 = (u64)(w2c_i0);
+    w2c_j1 = 120ull;
+    w2c_j0 &= w2c_j1;
+    w2c_j1 = 66944ull;
+    w2c_j0 += w2c_j1;
+    w2c_i0 = (u32)(w2c_j0);
+    w2c_j0 = i64_load(m, (u64)(w2c_i0));
+    w2c_j1 = w2c_p2;
+    w2c_j0 += w2c_j1;
+    w2c_p2 = w2c_j0;
+    w2c_j1 = w2c_l7;
+    w2c_i0 = w2c_j0 < w2c_j1;
+    if (w2c_i0) {goto w2c_L18;}
+  w2c_B17:;
+  w2c_j0 = w2c_l3;
+  w2c_j1 = w2c_p1;
+  w2c_j0 += w2c_j1;
+  w2c_l5 = w2c_j0;
+  w2c_i0 = 1u;
+  w2c_l9 = w2c_i0;
+  w2c_B0:;
+  w2c_j0 = w2c_p0;
+  w2c_i0 = (u32)(w2c_j0);
+  w2c_j1 = w2c_l5;
+  i64_store(m, (u64)(w2c_i0) + 8, w2c_j1);
+  w2c_j0 = w2c_p0;
+  w2c_i0 = (u32)(w2c_j0);
+  w2c_i1 = w2c_l9;
+  i32_store8(m, (u64)(w2c_i0), w2c_i1);
+  w2c_j0 = w2c_l4;
+  w2c_j1 = 16ull;
+  w2c_j0 += w2c_j1;
+  m->w2c_g0 = w2c_j0;
+}
+
+static u32 w2c_f66(module *m, u32 w2c_p0, u64 w2c_p1, u64 w2c_p2) {
   u32 w2c_l5 = 0, w2c_l6 = 0;
   u64 w2c_l3 = 0, w2c_l4 = 0;
   u32 w2c_i0, w2c_i1, w2c_i2, w2c_i3;
@@ -56131,7 +56331,7 @@ static u32 w2c_f65(module *m, u32 w2c_p0, u64 w2c_p1, u64 w2c_p2) {
   return w2c_i0;
 }
 
-static void w2c_f66(module *m, u64 w2c_p0, u64 w2c_p1, u64 w2c_p2, u64 w2c_p3) {
+static void w2c_f67(module *m, u64 w2c_p0, u64 w2c_p1, u64 w2c_p2, u64 w2c_p3) {
   u32 w2c_l16 = 0, w2c_l17 = 0, w2c_l18 = 0, w2c_l19 = 0;
   u64 w2c_l4 = 0, w2c_l5 = 0, w2c_l6 = 0, w2c_l7 = 0, w2c_l8 = 0, w2c_l9 = 0, w2c_l10 = 0, w2c_l11 = 0, w2c_l12 = 0, w2c_l13 = 0, w2c_l14 = 0, w2c_l15 = 0;
   u32 w2c_i0, w2c_i1, w2c_i2, w2c_i3;
@@ -56754,7 +56954,7 @@ static void w2c_f66(module *m, u64 w2c_p0, u64 w2c_p1, u64 w2c_p2, u64 w2c_p3) {
   m->w2c_g0 = w2c_j0;
 }
 
-static u32 w2c_f67(module *m, u64 w2c_p0, u64 w2c_p1, u32 w2c_p2, u32 w2c_p3, u32 w2c_p4, u64 w2c_p5) {
+static u32 w2c_f68(module *m, u64 w2c_p0, u64 w2c_p1, u32 w2c_p2, u32 w2c_p3, u32 w2c_p4, u64 w2c_p5) {
   u32 w2c_l12 = 0, w2c_l13 = 0, w2c_l14 = 0;
   u64 w2c_l6 = 0, w2c_l7 = 0, w2c_l8 = 0, w2c_l9 = 0, w2c_l10 = 0, w2c_l11 = 0;
   u32 w2c_i0, w2c_i1, w2c_i2, w2c_i3, w2c_i4;
@@ -57373,7 +57573,7 @@ static u32 w2c_f67(module *m, u64 w2c_p0, u64 w2c_p1, u32 w2c_p2, u32 w2c_p3, u3
   w2c_j2 = w2c_l8;
   w2c_j3 = w2c_l6;
   w2c_j4 = w2c_l9;
-  w2c_f68(m, w2c_j0, w2c_i1, w2c_j2, w2c_j3, w2c_j4);
+  w2c_f69(m, w2c_j0, w2c_i1, w2c_j2, w2c_j3, w2c_j4);
   w2c_i0 = 2u;
   w2c_p3 = w2c_i0;
   w2c_i0 = 0u;
@@ -57390,7 +57590,7 @@ static u32 w2c_f67(module *m, u64 w2c_p0, u64 w2c_p1, u32 w2c_p2, u32 w2c_p3, u3
   w2c_j2 = w2c_l10;
   w2c_j3 = w2c_l8;
   w2c_j4 = w2c_l11;
-  w2c_f68(m, w2c_j0, w2c_i1, w2c_j2, w2c_j3, w2c_j4);
+  w2c_f69(m, w2c_j0, w2c_i1, w2c_j2, w2c_j3, w2c_j4);
   w2c_i0 = 3u;
   w2c_i1 = 2u;
   w2c_i2 = w2c_l13;
@@ -57621,7 +57821,7 @@ static u32 w2c_f67(module *m, u64 w2c_p0, u64 w2c_p1, u32 w2c_p2, u32 w2c_p3, u3
   w2c_j1 = w2c_l8;
   w2c_j2 = w2c_l6;
   w2c_j3 = w2c_l9;
-  w2c_f66(m, w2c_j0, w2c_j1, w2c_j2, w2c_j3);
+  w2c_f67(m, w2c_j0, w2c_j1, w2c_j2, w2c_j3);
   w2c_i0 = 2u;
   w2c_p3 = w2c_i0;
   w2c_i0 = 0u;
@@ -57637,7 +57837,7 @@ static u32 w2c_f67(module *m, u64 w2c_p0, u64 w2c_p1, u32 w2c_p2, u32 w2c_p3, u3
   w2c_j1 = w2c_l10;
   w2c_j2 = w2c_l8;
   w2c_j3 = w2c_l11;
-  w2c_f66(m, w2c_j0, w2c_j1, w2c_j2, w2c_j3);
+  w2c_f67(m, w2c_j0, w2c_j1, w2c_j2, w2c_j3);
   w2c_i0 = 3u;
   w2c_i1 = 2u;
   w2c_i2 = w2c_p4;
@@ -57941,7 +58141,7 @@ static u32 w2c_f67(module *m, u64 w2c_p0, u64 w2c_p1, u32 w2c_p2, u32 w2c_p3, u3
   return w2c_i0;
 }
 
-static void w2c_f68(module *m, u64 w2c_p0, u32 w2c_p1, u64 w2c_p2, u64 w2c_p3, u64 w2c_p4) {
+static void w2c_f69(module *m, u64 w2c_p0, u32 w2c_p1, u64 w2c_p2, u64 w2c_p3, u64 w2c_p4) {
   u32 w2c_l18 = 0, w2c_l19 = 0, w2c_l20 = 0, w2c_l21 = 0, w2c_l22 = 0, w2c_l23 = 0;
   u64 w2c_l5 = 0, w2c_l6 = 0, w2c_l7 = 0, w2c_l8 = 0, w2c_l9 = 0, w2c_l10 = 0, w2c_l11 = 0, w2c_l12 = 0, w2c_l13 = 0, w2c_l14 = 0, w2c_l15 = 0, w2c_l16 = 0, w2c_l17 = 0;
   u32 w2c_i0, w2c_i1, w2c_i2, w2c_i3, w2c_i4, w2c_i5;
@@ -60080,7 +60280,7 @@ static void w2c_f68(module *m, u64 w2c_p0, u32 w2c_p1, u64 w2c_p2, u64 w2c_p3, u
   m->w2c_g0 = w2c_j0;
 }
 
-static u32 w2c_f69(module *m, u64 w2c_p0, u64 w2c_p1, u32 w2c_p2, u32 w2c_p3, u32 w2c_p4, u64 w2c_p5) {
+static u32 w2c_f70(module *m, u64 w2c_p0, u64 w2c_p1, u32 w2c_p2, u32 w2c_p3, u32 w2c_p4, u64 w2c_p5) {
   u64 w2c_l6 = 0, w2c_l7 = 0, w2c_l8 = 0, w2c_l9 = 0;
   u32 w2c_i0, w2c_i1, w2c_i2;
   u64 w2c_j0, w2c_j1, w2c_j2, w2c_j3, w2c_j4;
@@ -60121,7 +60321,7 @@ static u32 w2c_f69(module *m, u64 w2c_p0, u64 w2c_p1, u32 w2c_p2, u32 w2c_p3, u3
   w2c_j1 = 0ull;
   w2c_j2 = w2c_p0;
   w2c_j3 = w2c_p1;
-  w2c_f66(m, w2c_j0, w2c_j1, w2c_j2, w2c_j3);
+  w2c_f67(m, w2c_j0, w2c_j1, w2c_j2, w2c_j3);
   goto w2c_B3;
   w2c_B4:;
   w2c_j0 = w2c_l7;
@@ -60131,7 +60331,7 @@ static u32 w2c_f69(module *m, u64 w2c_p0, u64 w2c_p1, u32 w2c_p2, u32 w2c_p3, u3
   w2c_j2 = 0ull;
   w2c_j3 = w2c_p0;
   w2c_j4 = w2c_p1;
-  w2c_f68(m, w2c_j0, w2c_i1, w2c_j2, w2c_j3, w2c_j4);
+  w2c_f69(m, w2c_j0, w2c_i1, w2c_j2, w2c_j3, w2c_j4);
   w2c_B3:;
   w2c_j0 = w2c_l7;
   w2c_i0 = (u32)(w2c_j0);
@@ -60382,7 +60582,7 @@ static u32 w2c_f69(module *m, u64 w2c_p0, u64 w2c_p1, u32 w2c_p2, u32 w2c_p3, u3
   return w2c_i0;
 }
 
-static u32 w2c_f70(module *m, u64 w2c_p0, u64 w2c_p1, u32 w2c_p2, u64 w2c_p3) {
+static u32 w2c_f71(module *m, u64 w2c_p0, u64 w2c_p1, u32 w2c_p2, u64 w2c_p3) {
   u32 w2c_l5 = 0, w2c_l6 = 0;
   u64 w2c_l4 = 0;
   u32 w2c_i0, w2c_i1, w2c_i2, w2c_i3, w2c_i4;
@@ -60404,7 +60604,7 @@ static u32 w2c_f70(module *m, u64 w2c_p0, u64 w2c_p1, u32 w2c_p2, u64 w2c_p3) {
   w2c_i1 = w2c_p2;
   w2c_j2 = w2c_p0;
   w2c_j3 = w2c_p1;
-  w2c_f71(m, w2c_j0, w2c_i1, w2c_j2, w2c_j3);
+  w2c_f72(m, w2c_j0, w2c_i1, w2c_j2, w2c_j3);
   w2c_j0 = w2c_l4;
   w2c_i0 = (u32)(w2c_j0);
   w2c_i0 = i32_load8_u(m, (u64)(w2c_i0) + 9u);
@@ -60425,7 +60625,7 @@ static u32 w2c_f70(module *m, u64 w2c_p0, u64 w2c_p1, u32 w2c_p2, u64 w2c_p3) {
   w2c_i3 = w2c_l6;
   w2c_i4 = w2c_l5;
   w2c_j5 = w2c_p3;
-  w2c_i0 = w2c_f67(m, w2c_j0, w2c_j1, w2c_i2, w2c_i3, w2c_i4, w2c_j5);
+  w2c_i0 = w2c_f68(m, w2c_j0, w2c_j1, w2c_i2, w2c_i3, w2c_i4, w2c_j5);
   w2c_p2 = w2c_i0;
   goto w2c_B1;
   w2c_B2:;
@@ -60435,7 +60635,7 @@ static u32 w2c_f70(module *m, u64 w2c_p0, u64 w2c_p1, u32 w2c_p2, u64 w2c_p3) {
   w2c_i3 = w2c_l6;
   w2c_i4 = w2c_l5;
   w2c_j5 = w2c_p3;
-  w2c_i0 = w2c_f69(m, w2c_j0, w2c_j1, w2c_i2, w2c_i3, w2c_i4, w2c_j5);
+  w2c_i0 = w2c_f70(m, w2c_j0, w2c_j1, w2c_i2, w2c_i3, w2c_i4, w2c_j5);
   w2c_p2 = w2c_i0;
   w2c_B1:;
   w2c_j0 = w2c_l4;
@@ -60450,7 +60650,7 @@ static u32 w2c_f70(module *m, u64 w2c_p0, u64 w2c_p1, u32 w2c_p2, u64 w2c_p3) {
   return w2c_i0;
 }
 
-static void w2c_f71(module *m, u64 w2c_p0, u32 w2c_p1, u64 w2c_p2, u64 w2c_p3) {
+static void w2c_f72(module *m, u64 w2c_p0, u32 w2c_p1, u64 w2c_p2, u64 w2c_p3) {
   u32 w2c_l7 = 0, w2c_l8 = 0, w2c_l9 = 0, w2c_l10 = 0;
   u64 w2c_l4 = 0, w2c_l5 = 0, w2c_l6 = 0;
   u32 w2c_i0, w2c_i1, w2c_i2, w2c_i3;
@@ -60979,7 +61179,7 @@ static void w2c_f71(module *m, u64 w2c_p0, u32 w2c_p1, u64 w2c_p2, u64 w2c_p3) {
   m->w2c_g0 = w2c_j0;
 }
 
-static u32 w2c_f72(module *m, u64 w2c_p0, u64 w2c_p1) {
+static u32 w2c_f73(module *m, u64 w2c_p0, u64 w2c_p1) {
   u32 w2c_l6 = 0, w2c_l7 = 0, w2c_l8 = 0, w2c_l9 = 0, w2c_l10 = 0, w2c_l11 = 0, w2c_l12 = 0;
   u64 w2c_l2 = 0, w2c_l3 = 0, w2c_l4 = 0, w2c_l5 = 0;
   u32 w2c_i0, w2c_i1, w2c_i2, w2c_i3;
@@ -61632,7 +61832,7 @@ static u32 w2c_f72(module *m, u64 w2c_p0, u64 w2c_p1) {
   goto w2c_B0;
   w2c_B8:;
   w2c_i0 = w2c_l8;
-  w2c_i0 = w2c_f73(m, w2c_i0);
+  w2c_i0 = w2c_f74(m, w2c_i0);
   w2c_i0 = !(w2c_i0);
   if (w2c_i0) {goto w2c_B41;}
   w2c_i0 = 1u;
@@ -61721,7 +61921,7 @@ static u32 w2c_f72(module *m, u64 w2c_p0, u64 w2c_p1) {
   w2c_j1 = w2c_p0;
   w2c_j2 = w2c_l4;
   w2c_j3 = w2c_p1;
-  w2c_i0 = w2c_f74(m, w2c_j0, w2c_j1, w2c_j2, w2c_j3);
+  w2c_i0 = w2c_f75(m, w2c_j0, w2c_j1, w2c_j2, w2c_j3);
   if (w2c_i0) {goto w2c_B46;}
   w2c_i0 = 1u;
   w2c_l6 = w2c_i0;
@@ -61791,7 +61991,7 @@ static u32 w2c_f72(module *m, u64 w2c_p0, u64 w2c_p1) {
   w2c_j1 = w2c_p0;
   w2c_j2 = w2c_l4;
   w2c_j3 = w2c_p1;
-  w2c_i0 = w2c_f74(m, w2c_j0, w2c_j1, w2c_j2, w2c_j3);
+  w2c_i0 = w2c_f75(m, w2c_j0, w2c_j1, w2c_j2, w2c_j3);
   if (w2c_i0) {goto w2c_B0;}
   w2c_j0 = w2c_l2;
   w2c_i0 = (u32)(w2c_j0);
@@ -62197,7 +62397,7 @@ static u32 w2c_f72(module *m, u64 w2c_p0, u64 w2c_p1) {
   return w2c_i0;
 }
 
-static u32 w2c_f73(module *m, u32 w2c_p0) {
+static u32 w2c_f74(module *m, u32 w2c_p0) {
   u32 w2c_l1 = 0;
   u32 w2c_i0, w2c_i1;
   u64 w2c_j0, w2c_j1;
@@ -62387,7 +62587,7 @@ static u32 w2c_f73(module *m, u32 w2c_p0) {
   return w2c_i0;
 }
 
-static u32 w2c_f74(module *m, u64 w2c_p0, u64 w2c_p1, u64 w2c_p2, u64 w2c_p3) {
+static u32 w2c_f75(module *m, u64 w2c_p0, u64 w2c_p1, u64 w2c_p2, u64 w2c_p3) {
   u32 w2c_l5 = 0, w2c_l6 = 0, w2c_l7 = 0, w2c_l8 = 0, w2c_l9 = 0;
   u64 w2c_l4 = 0;
   u32 w2c_i0, w2c_i1, w2c_i2, w2c_i3;
@@ -62574,7 +62774,7 @@ static u32 w2c_f74(module *m, u64 w2c_p0, u64 w2c_p1, u64 w2c_p2, u64 w2c_p3) {
   w2c_i0 = w2c_i0 == w2c_i1;
   if (w2c_i0) {goto w2c_B1;}
   w2c_i0 = w2c_l6;
-  w2c_i0 = w2c_f73(m, w2c_i0);
+  w2c_i0 = w2c_f74(m, w2c_i0);
   if (w2c_i0) {goto w2c_B1;}
   w2c_i0 = w2c_l6;
   w2c_i1 = 26376u;
@@ -62648,7 +62848,7 @@ static u32 w2c_f74(module *m, u64 w2c_p0, u64 w2c_p1, u64 w2c_p2, u64 w2c_p3) {
   return w2c_i0;
 }
 
-static u32 w2c_f75(module *m, u64 w2c_p0, u64 w2c_p1) {
+static u32 w2c_f76(module *m, u64 w2c_p0, u64 w2c_p1) {
   u32 w2c_l8 = 0, w2c_l9 = 0, w2c_l10 = 0, w2c_l11 = 0;
   u64 w2c_l2 = 0, w2c_l3 = 0, w2c_l4 = 0, w2c_l5 = 0, w2c_l6 = 0, w2c_l7 = 0;
   u32 w2c_i0, w2c_i1, w2c_i2, w2c_i3;
@@ -62841,7 +63041,7 @@ static u32 w2c_f75(module *m, u64 w2c_p0, u64 w2c_p1) {
   w2c_j1 = w2c_l3;
   w2c_j2 = 8ull;
   w2c_j1 += w2c_j2;
-  w2c_i0 = w2c_f76(m, w2c_j0, w2c_j1);
+  w2c_i0 = w2c_f77(m, w2c_j0, w2c_j1);
   w2c_i1 = 1u;
   w2c_i0 ^= w2c_i1;
   w2c_l8 = w2c_i0;
@@ -62858,7 +63058,7 @@ static u32 w2c_f75(module *m, u64 w2c_p0, u64 w2c_p1) {
   return w2c_i0;
 }
 
-static u32 w2c_f76(module *m, u64 w2c_p0, u64 w2c_p1) {
+static u32 w2c_f77(module *m, u64 w2c_p0, u64 w2c_p1) {
   u32 w2c_l10 = 0, w2c_l11 = 0, w2c_l12 = 0, w2c_l13 = 0, w2c_l14 = 0, w2c_l15 = 0, w2c_l16 = 0, w2c_l17 = 0, w2c_l18 = 0;
   u64 w2c_l2 = 0, w2c_l3 = 0, w2c_l4 = 0, w2c_l5 = 0, w2c_l6 = 0, w2c_l7 = 0, w2c_l8 = 0, w2c_l9 = 0;
   u32 w2c_i0, w2c_i1, w2c_i2, w2c_i3;
@@ -65516,11 +65716,11 @@ static u32 w2c_f76(module *m, u64 w2c_p0, u64 w2c_p1) {
   w2c_B134:;
   w2c_j0 = w2c_l6;
   w2c_j1 = w2c_l5;
-  w2c_i0 = w2c_f77(m, w2c_j0, w2c_j1);
+  w2c_i0 = w2c_f78(m, w2c_j0, w2c_j1);
   if (w2c_i0) {goto w2c_B136;}
   w2c_j0 = w2c_l6;
   w2c_j1 = w2c_l5;
-  w2c_i0 = w2c_f78(m, w2c_j0, w2c_j1);
+  w2c_i0 = w2c_f79(m, w2c_j0, w2c_j1);
   w2c_l13 = w2c_i0;
   w2c_i0 = w2c_l11;
   w2c_i1 = 255u;
@@ -65658,7 +65858,7 @@ static u32 w2c_f76(module *m, u64 w2c_p0, u64 w2c_p1) {
   w2c_j0 += w2c_j1;
   w2c_j1 = w2c_l6;
   w2c_j2 = w2c_l5;
-  w2c_f79(m, w2c_j0, w2c_j1, w2c_j2);
+  w2c_f80(m, w2c_j0, w2c_j1, w2c_j2);
   w2c_j0 = w2c_l2;
   w2c_i0 = (u32)(w2c_j0);
   w2c_i0 = i32_load8_u(m, (u64)(w2c_i0) + 128u);
@@ -65675,7 +65875,7 @@ static u32 w2c_f76(module *m, u64 w2c_p0, u64 w2c_p1) {
   w2c_j3 = w2c_l2;
   w2c_i3 = (u32)(w2c_j3);
   w2c_j3 = i64_load(m, (u64)(w2c_i3) + 144u);
-  w2c_f80(m, w2c_j0, w2c_i1, w2c_j2, w2c_j3);
+  w2c_f81(m, w2c_j0, w2c_i1, w2c_j2, w2c_j3);
   w2c_j0 = w2c_l2;
   w2c_i0 = (u32)(w2c_j0);
   w2c_i0 = i32_load8_u(m, (u64)(w2c_i0) + 25u);
@@ -65806,7 +66006,7 @@ static u32 w2c_f76(module *m, u64 w2c_p0, u64 w2c_p1) {
   w2c_j3 = w2c_l5;
   w2c_j4 = w2c_p1;
   w2c_j3 -= w2c_j4;
-  w2c_f80(m, w2c_j0, w2c_i1, w2c_j2, w2c_j3);
+  w2c_f81(m, w2c_j0, w2c_i1, w2c_j2, w2c_j3);
   w2c_j0 = w2c_l2;
   w2c_i0 = (u32)(w2c_j0);
   w2c_i0 = i32_load8_u(m, (u64)(w2c_i0) + 41u);
@@ -66271,7 +66471,7 @@ static u32 w2c_f76(module *m, u64 w2c_p0, u64 w2c_p1) {
     w2c_j0 += w2c_j1;
     w2c_i1 = w2c_l12;
     w2c_i2 = w2c_l13;
-    w2c_f81(m, w2c_j0, w2c_i1, w2c_i2);
+    w2c_f82(m, w2c_j0, w2c_i1, w2c_i2);
     w2c_i0 = w2c_l14;
     w2c_i1 = w2c_l12;
     w2c_i0 |= w2c_i1;
@@ -66315,7 +66515,7 @@ static u32 w2c_f76(module *m, u64 w2c_p0, u64 w2c_p1) {
   w2c_i1 = w2c_l14;
   w2c_j2 = w2c_l6;
   w2c_j3 = w2c_l5;
-  w2c_f80(m, w2c_j0, w2c_i1, w2c_j2, w2c_j3);
+  w2c_f81(m, w2c_j0, w2c_i1, w2c_j2, w2c_j3);
   w2c_j0 = w2c_l2;
   w2c_i0 = (u32)(w2c_j0);
   w2c_i0 = i32_load8_u(m, (u64)(w2c_i0) + 33u);
@@ -66331,7 +66531,7 @@ static u32 w2c_f76(module *m, u64 w2c_p0, u64 w2c_p1) {
   return w2c_i0;
 }
 
-static u32 w2c_f77(module *m, u64 w2c_p0, u64 w2c_p1) {
+static u32 w2c_f78(module *m, u64 w2c_p0, u64 w2c_p1) {
   u32 w2c_l2 = 0, w2c_l3 = 0, w2c_l4 = 0, w2c_l5 = 0;
   u64 w2c_l6 = 0;
   u32 w2c_i0, w2c_i1, w2c_i2, w2c_i3;
@@ -66479,7 +66679,7 @@ static u32 w2c_f77(module *m, u64 w2c_p0, u64 w2c_p1) {
   return w2c_i0;
 }
 
-static u32 w2c_f78(module *m, u64 w2c_p0, u64 w2c_p1) {
+static u32 w2c_f79(module *m, u64 w2c_p0, u64 w2c_p1) {
   u32 w2c_l6 = 0, w2c_l7 = 0, w2c_l8 = 0, w2c_l9 = 0;
   u64 w2c_l2 = 0, w2c_l3 = 0, w2c_l4 = 0, w2c_l5 = 0;
   u32 w2c_i0, w2c_i1, w2c_i2, w2c_i3;
@@ -66638,7 +66838,7 @@ static u32 w2c_f78(module *m, u64 w2c_p0, u64 w2c_p1) {
   w2c_j0 += w2c_j1;
   w2c_j1 = w2c_p0;
   w2c_j2 = w2c_p1;
-  w2c_f82(m, w2c_j0, w2c_j1, w2c_j2);
+  w2c_f83(m, w2c_j0, w2c_j1, w2c_j2);
   w2c_j0 = w2c_l3;
   w2c_i0 = (u32)(w2c_j0);
   w2c_i0 = i32_load8_u(m, (u64)(w2c_i0) + 8u);
@@ -66658,7 +66858,7 @@ static u32 w2c_f78(module *m, u64 w2c_p0, u64 w2c_p1) {
   return w2c_i0;
 }
 
-static void w2c_f79(module *m, u64 w2c_p0, u64 w2c_p1, u64 w2c_p2) {
+static void w2c_f80(module *m, u64 w2c_p0, u64 w2c_p1, u64 w2c_p2) {
   u32 w2c_l3 = 0, w2c_l4 = 0, w2c_l5 = 0, w2c_l6 = 0, w2c_l7 = 0;
   u64 w2c_l8 = 0, w2c_l9 = 0;
   u32 w2c_i0, w2c_i1, w2c_i2, w2c_i3, w2c_i4, w2c_i5;
@@ -66915,7 +67115,7 @@ static void w2c_f79(module *m, u64 w2c_p0, u64 w2c_p1, u64 w2c_p2) {
   w2c_Bfunc:;
 }
 
-static void w2c_f80(module *m, u64 w2c_p0, u32 w2c_p1, u64 w2c_p2, u64 w2c_p3) {
+static void w2c_f81(module *m, u64 w2c_p0, u32 w2c_p1, u64 w2c_p2, u64 w2c_p3) {
   u32 w2c_l12 = 0, w2c_l13 = 0, w2c_l14 = 0, w2c_l15 = 0, w2c_l16 = 0, w2c_l17 = 0;
   u64 w2c_l4 = 0, w2c_l5 = 0, w2c_l6 = 0, w2c_l7 = 0, w2c_l8 = 0, w2c_l9 = 0, w2c_l10 = 0, w2c_l11 = 0;
   u32 w2c_i0, w2c_i1, w2c_i2, w2c_i3;
@@ -66956,7 +67156,7 @@ static void w2c_f80(module *m, u64 w2c_p0, u32 w2c_p1, u64 w2c_p2, u64 w2c_p3) {
   w2c_j0 += w2c_j1;
   w2c_j1 = w2c_p2;
   w2c_j2 = w2c_p3;
-  w2c_f82(m, w2c_j0, w2c_j1, w2c_j2);
+  w2c_f83(m, w2c_j0, w2c_j1, w2c_j2);
   w2c_j0 = w2c_l4;
   w2c_i0 = (u32)(w2c_j0);
   w2c_i0 = i32_load8_u(m, (u64)(w2c_i0) + 72u);
@@ -67280,7 +67480,7 @@ static void w2c_f80(module *m, u64 w2c_p0, u32 w2c_p1, u64 w2c_p2, u64 w2c_p3) {
   w2c_j3 = w2c_l5;
   w2c_j4 = w2c_p3;
   w2c_j3 -= w2c_j4;
-  w2c_f83(m, w2c_j0, w2c_i1, w2c_j2, w2c_j3);
+  w2c_f84(m, w2c_j0, w2c_i1, w2c_j2, w2c_j3);
   w2c_j0 = w2c_l4;
   w2c_i0 = (u32)(w2c_j0);
   w2c_i0 = i32_load8_u(m, (u64)(w2c_i0) + 41u);
@@ -67339,7 +67539,7 @@ static void w2c_f80(module *m, u64 w2c_p0, u32 w2c_p1, u64 w2c_p2, u64 w2c_p3) {
   w2c_i1 = w2c_p1;
   w2c_j2 = w2c_l6;
   w2c_j3 = w2c_l5;
-  w2c_f83(m, w2c_j0, w2c_i1, w2c_j2, w2c_j3);
+  w2c_f84(m, w2c_j0, w2c_i1, w2c_j2, w2c_j3);
   w2c_j0 = w2c_l4;
   w2c_i0 = (u32)(w2c_j0);
   w2c_i0 = i32_load8_u(m, (u64)(w2c_i0) + 33u);
@@ -67425,7 +67625,7 @@ static void w2c_f80(module *m, u64 w2c_p0, u32 w2c_p1, u64 w2c_p2, u64 w2c_p3) {
   w2c_i1 = w2c_p1;
   w2c_j2 = w2c_l8;
   w2c_j3 = w2c_l7;
-  w2c_f83(m, w2c_j0, w2c_i1, w2c_j2, w2c_j3);
+  w2c_f84(m, w2c_j0, w2c_i1, w2c_j2, w2c_j3);
   w2c_j0 = w2c_l4;
   w2c_i0 = (u32)(w2c_j0);
   w2c_i0 = i32_load8_u(m, (u64)(w2c_i0) + 9u);
@@ -67578,7 +67778,7 @@ static void w2c_f80(module *m, u64 w2c_p0, u32 w2c_p1, u64 w2c_p2, u64 w2c_p3) {
   w2c_i1 = w2c_p1;
   w2c_j2 = w2c_p2;
   w2c_j3 = w2c_l11;
-  w2c_f83(m, w2c_j0, w2c_i1, w2c_j2, w2c_j3);
+  w2c_f84(m, w2c_j0, w2c_i1, w2c_j2, w2c_j3);
   w2c_j0 = w2c_l4;
   w2c_i0 = (u32)(w2c_j0);
   w2c_i0 = i32_load8_u(m, (u64)(w2c_i0) + 65u);
@@ -67593,7 +67793,7 @@ static void w2c_f80(module *m, u64 w2c_p0, u32 w2c_p1, u64 w2c_p2, u64 w2c_p3) {
   w2c_i1 = w2c_p1;
   w2c_j2 = w2c_p2;
   w2c_j3 = w2c_p3;
-  w2c_f83(m, w2c_j0, w2c_i1, w2c_j2, w2c_j3);
+  w2c_f84(m, w2c_j0, w2c_i1, w2c_j2, w2c_j3);
   w2c_j0 = w2c_l4;
   w2c_i0 = (u32)(w2c_j0);
   w2c_i0 = i32_load8_u(m, (u64)(w2c_i0) + 57u);
@@ -67613,7 +67813,7 @@ static void w2c_f80(module *m, u64 w2c_p0, u32 w2c_p1, u64 w2c_p2, u64 w2c_p3) {
   m->w2c_g0 = w2c_j0;
 }
 
-static void w2c_f81(module *m, u64 w2c_p0, u32 w2c_p1, u32 w2c_p2) {
+static void w2c_f82(module *m, u64 w2c_p0, u32 w2c_p1, u32 w2c_p2) {
   u64 w2c_l3 = 0, w2c_l4 = 0;
   u32 w2c_i0, w2c_i1;
   u64 w2c_j0, w2c_j1;
@@ -67737,7 +67937,7 @@ static void w2c_f81(module *m, u64 w2c_p0, u32 w2c_p1, u32 w2c_p2) {
   i64_store(m, (u64)(w2c_i0), w2c_j1);
 }
 
-static void w2c_f82(module *m, u64 w2c_p0, u64 w2c_p1, u64 w2c_p2) {
+static void w2c_f83(module *m, u64 w2c_p0, u64 w2c_p1, u64 w2c_p2) {
   u32 w2c_l3 = 0, w2c_l4 = 0, w2c_l5 = 0, w2c_l6 = 0, w2c_l7 = 0;
   u64 w2c_l8 = 0, w2c_l9 = 0, w2c_l10 = 0, w2c_l11 = 0;
   u32 w2c_i0, w2c_i1, w2c_i2, w2c_i3;
@@ -68021,7 +68221,7 @@ static void w2c_f82(module *m, u64 w2c_p0, u64 w2c_p1, u64 w2c_p2) {
   w2c_Bfunc:;
 }
 
-static void w2c_f83(module *m, u64 w2c_p0, u32 w2c_p1, u64 w2c_p2, u64 w2c_p3) {
+static void w2c_f84(module *m, u64 w2c_p0, u32 w2c_p1, u64 w2c_p2, u64 w2c_p3) {
   u32 w2c_l11 = 0, w2c_l12 = 0, w2c_l13 = 0, w2c_l14 = 0, w2c_l15 = 0, w2c_l16 = 0;
   u64 w2c_l4 = 0, w2c_l5 = 0, w2c_l6 = 0, w2c_l7 = 0, w2c_l8 = 0, w2c_l9 = 0, w2c_l10 = 0;
   u32 w2c_i0, w2c_i1, w2c_i2, w2c_i3;
@@ -68277,7 +68477,7 @@ static void w2c_f83(module *m, u64 w2c_p0, u32 w2c_p1, u64 w2c_p2, u64 w2c_p3) {
   w2c_j0 += w2c_j1;
   w2c_j1 = w2c_p2;
   w2c_j2 = w2c_p3;
-  w2c_f84(m, w2c_j0, w2c_j1, w2c_j2);
+  w2c_f85(m, w2c_j0, w2c_j1, w2c_j2);
   w2c_j0 = w2c_l4;
   w2c_i0 = (u32)(w2c_j0);
   w2c_i0 = i32_load8_u(m, (u64)(w2c_i0) + 104u);
@@ -68621,7 +68821,7 @@ static void w2c_f83(module *m, u64 w2c_p0, u32 w2c_p1, u64 w2c_p2, u64 w2c_p3) {
   w2c_B7:;
   w2c_j0 = w2c_p2;
   w2c_j1 = w2c_p3;
-  w2c_i0 = w2c_f85(m, w2c_j0, w2c_j1);
+  w2c_i0 = w2c_f86(m, w2c_j0, w2c_j1);
   w2c_i0 = !(w2c_i0);
   if (w2c_i0) {goto w2c_B23;}
   w2c_i0 = 1u;
@@ -68730,7 +68930,7 @@ static void w2c_f83(module *m, u64 w2c_p0, u32 w2c_p1, u64 w2c_p2, u64 w2c_p3) {
     w2c_j3 = w2c_l5;
     w2c_j2 -= w2c_j3;
     w2c_l10 = w2c_j2;
-    w2c_i0 = w2c_f86(m, w2c_i0, w2c_j1, w2c_j2);
+    w2c_i0 = w2c_f87(m, w2c_i0, w2c_j1, w2c_j2);
     w2c_i0 = !(w2c_i0);
     if (w2c_i0) {goto w2c_B28;}
     w2c_j0 = w2c_p3;
@@ -68876,7 +69076,7 @@ static void w2c_f83(module *m, u64 w2c_p0, u32 w2c_p1, u64 w2c_p2, u64 w2c_p3) {
     w2c_j0 += w2c_j1;
     w2c_j1 = w2c_p2;
     w2c_j2 = w2c_l6;
-    w2c_f87(m, w2c_j0, w2c_j1, w2c_j2);
+    w2c_f88(m, w2c_j0, w2c_j1, w2c_j2);
     w2c_j0 = w2c_l4;
     w2c_i0 = (u32)(w2c_j0);
     w2c_j0 = i64_load(m, (u64)(w2c_i0) + 216u);
@@ -69031,7 +69231,7 @@ static void w2c_f83(module *m, u64 w2c_p0, u32 w2c_p1, u64 w2c_p2, u64 w2c_p3) {
   w2c_j0 += w2c_j1;
   w2c_j1 = w2c_p2;
   w2c_j2 = w2c_p3;
-  w2c_f88(m, w2c_j0, w2c_j1, w2c_j2);
+  w2c_f89(m, w2c_j0, w2c_j1, w2c_j2);
   w2c_j0 = w2c_l4;
   w2c_i0 = (u32)(w2c_j0);
   w2c_i0 = i32_load8_u(m, (u64)(w2c_i0) + 144u);
@@ -69282,7 +69482,7 @@ static void w2c_f83(module *m, u64 w2c_p0, u32 w2c_p1, u64 w2c_p2, u64 w2c_p3) {
   m->w2c_g0 = w2c_j0;
 }
 
-static void w2c_f84(module *m, u64 w2c_p0, u64 w2c_p1, u64 w2c_p2) {
+static void w2c_f85(module *m, u64 w2c_p0, u64 w2c_p1, u64 w2c_p2) {
   u32 w2c_l9 = 0, w2c_l10 = 0, w2c_l11 = 0, w2c_l12 = 0;
   u64 w2c_l3 = 0, w2c_l4 = 0, w2c_l5 = 0, w2c_l6 = 0, w2c_l7 = 0, w2c_l8 = 0;
   u32 w2c_i0, w2c_i1, w2c_i2, w2c_i3;
@@ -69731,7 +69931,7 @@ static void w2c_f84(module *m, u64 w2c_p0, u64 w2c_p1, u64 w2c_p2) {
   m->w2c_g0 = w2c_j0;
 }
 
-static u32 w2c_f85(module *m, u64 w2c_p0, u64 w2c_p1) {
+static u32 w2c_f86(module *m, u64 w2c_p0, u64 w2c_p1) {
   u32 w2c_l5 = 0, w2c_l6 = 0, w2c_l7 = 0, w2c_l8 = 0;
   u64 w2c_l2 = 0, w2c_l3 = 0, w2c_l4 = 0;
   u32 w2c_i0, w2c_i1, w2c_i2, w2c_i3;
@@ -69902,7 +70102,7 @@ static u32 w2c_f85(module *m, u64 w2c_p0, u64 w2c_p1) {
   return w2c_i0;
 }
 
-static u32 w2c_f86(module *m, u32 w2c_p0, u64 w2c_p1, u64 w2c_p2) {
+static u32 w2c_f87(module *m, u32 w2c_p0, u64 w2c_p1, u64 w2c_p2) {
   u32 w2c_l5 = 0, w2c_l6 = 0, w2c_l7 = 0, w2c_l8 = 0, w2c_l9 = 0;
   u64 w2c_l3 = 0, w2c_l4 = 0;
   u32 w2c_i0, w2c_i1, w2c_i2, w2c_i3;
@@ -70069,7 +70269,7 @@ static u32 w2c_f86(module *m, u32 w2c_p0, u64 w2c_p1, u64 w2c_p2) {
   return w2c_i0;
 }
 
-static void w2c_f87(module *m, u64 w2c_p0, u64 w2c_p1, u64 w2c_p2) {
+static void w2c_f88(module *m, u64 w2c_p0, u64 w2c_p1, u64 w2c_p2) {
   u32 w2c_l12 = 0, w2c_l13 = 0, w2c_l14 = 0, w2c_l15 = 0, w2c_l16 = 0, w2c_l17 = 0;
   u64 w2c_l3 = 0, w2c_l4 = 0, w2c_l5 = 0, w2c_l6 = 0, w2c_l7 = 0, w2c_l8 = 0, w2c_l9 = 0, w2c_l10 = 0, w2c_l11 = 0;
   u32 w2c_i0, w2c_i1, w2c_i2, w2c_i3, w2c_i4, w2c_i5;
@@ -70453,7 +70653,7 @@ static void w2c_f87(module *m, u64 w2c_p0, u64 w2c_p1, u64 w2c_p2) {
     w2c_j3 = w2c_l6;
     w2c_j2 -= w2c_j3;
     w2c_l8 = w2c_j2;
-    w2c_i0 = w2c_f86(m, w2c_i0, w2c_j1, w2c_j2);
+    w2c_i0 = w2c_f87(m, w2c_i0, w2c_j1, w2c_j2);
     if (w2c_i0) {goto w2c_B2;}
     w2c_i0 = w2c_l13;
     w2c_i1 = 20491u;
@@ -70545,7 +70745,7 @@ static void w2c_f87(module *m, u64 w2c_p0, u64 w2c_p1, u64 w2c_p2) {
     w2c_i0 = w2c_l12;
     w2c_j1 = w2c_p1;
     w2c_j2 = w2c_l8;
-    w2c_i0 = w2c_f86(m, w2c_i0, w2c_j1, w2c_j2);
+    w2c_i0 = w2c_f87(m, w2c_i0, w2c_j1, w2c_j2);
     if (w2c_i0) {goto w2c_B2;}
     w2c_B9:;
     w2c_j0 = w2c_l4;
@@ -70592,7 +70792,7 @@ static void w2c_f87(module *m, u64 w2c_p0, u64 w2c_p1, u64 w2c_p2) {
   w2c_Bfunc:;
 }
 
-static void w2c_f88(module *m, u64 w2c_p0, u64 w2c_p1, u64 w2c_p2) {
+static void w2c_f89(module *m, u64 w2c_p0, u64 w2c_p1, u64 w2c_p2) {
   u32 w2c_l11 = 0, w2c_l12 = 0, w2c_l13 = 0, w2c_l14 = 0, w2c_l15 = 0, w2c_l16 = 0;
   u64 w2c_l3 = 0, w2c_l4 = 0, w2c_l5 = 0, w2c_l6 = 0, w2c_l7 = 0, w2c_l8 = 0, w2c_l9 = 0, w2c_l10 = 0;
   u32 w2c_i0, w2c_i1, w2c_i2, w2c_i3;
@@ -71332,7 +71532,7 @@ static void w2c_f88(module *m, u64 w2c_p0, u64 w2c_p1, u64 w2c_p2) {
   m->w2c_g0 = w2c_j0;
 }
 
-static void w2c_f89(module *m, u64 w2c_p0, u64 w2c_p1, u32 w2c_p2, u64 w2c_p3, u64 w2c_p4) {
+static void w2c_f90(module *m, u64 w2c_p0, u64 w2c_p1, u32 w2c_p2, u64 w2c_p3, u64 w2c_p4) {
   u32 w2c_l13 = 0, w2c_l14 = 0, w2c_l15 = 0, w2c_l16 = 0, w2c_l17 = 0, w2c_l18 = 0;
   u64 w2c_l5 = 0, w2c_l6 = 0, w2c_l7 = 0, w2c_l8 = 0, w2c_l9 = 0, w2c_l10 = 0, w2c_l11 = 0, w2c_l12 = 0;
   u32 w2c_i0, w2c_i1, w2c_i2, w2c_i3, w2c_i4, w2c_i5;
@@ -71373,7 +71573,7 @@ static void w2c_f89(module *m, u64 w2c_p0, u64 w2c_p1, u32 w2c_p2, u64 w2c_p3, u
   w2c_j0 += w2c_j1;
   w2c_j1 = w2c_p3;
   w2c_j2 = w2c_p4;
-  w2c_f82(m, w2c_j0, w2c_j1, w2c_j2);
+  w2c_f83(m, w2c_j0, w2c_j1, w2c_j2);
   w2c_j0 = w2c_l5;
   w2c_i0 = (u32)(w2c_j0);
   w2c_i0 = i32_load8_u(m, (u64)(w2c_i0) + 72u);
@@ -71706,7 +71906,7 @@ static void w2c_f89(module *m, u64 w2c_p0, u64 w2c_p1, u32 w2c_p2, u64 w2c_p3, u
   w2c_j3 = i64_load(m, (u64)(w2c_i3));
   w2c_j4 = 66428ull;
   w2c_j5 = 1ull;
-  w2c_j1 = w2c_f90(m, w2c_j1, w2c_j2, w2c_j3, w2c_j4, w2c_j5);
+  w2c_j1 = w2c_f91(m, w2c_j1, w2c_j2, w2c_j3, w2c_j4, w2c_j5);
   i64_store(m, (u64)(w2c_i0), w2c_j1);
   w2c_j0 = w2c_l5;
   w2c_j1 = 40ull;
@@ -71719,7 +71919,7 @@ static void w2c_f89(module *m, u64 w2c_p0, u64 w2c_p1, u32 w2c_p2, u64 w2c_p3, u
   w2c_j4 = w2c_l6;
   w2c_j5 = w2c_p4;
   w2c_j4 -= w2c_j5;
-  w2c_f91(m, w2c_j0, w2c_j1, w2c_i2, w2c_j3, w2c_j4);
+  w2c_f92(m, w2c_j0, w2c_j1, w2c_i2, w2c_j3, w2c_j4);
   w2c_j0 = w2c_l5;
   w2c_i0 = (u32)(w2c_j0);
   w2c_i0 = i32_load8_u(m, (u64)(w2c_i0) + 41u);
@@ -71791,7 +71991,7 @@ static void w2c_f89(module *m, u64 w2c_p0, u64 w2c_p1, u32 w2c_p2, u64 w2c_p3, u
   w2c_j5 = w2c_l5;
   w2c_i5 = (u32)(w2c_j5);
   w2c_j5 = i64_load(m, (u64)(w2c_i5) + 24u);
-  w2c_j1 = w2c_f90(m, w2c_j1, w2c_j2, w2c_j3, w2c_j4, w2c_j5);
+  w2c_j1 = w2c_f91(m, w2c_j1, w2c_j2, w2c_j3, w2c_j4, w2c_j5);
   i64_store(m, (u64)(w2c_i0), w2c_j1);
   goto w2c_B2;
   w2c_B5:;
@@ -71804,7 +72004,7 @@ static void w2c_f89(module *m, u64 w2c_p0, u64 w2c_p1, u32 w2c_p2, u64 w2c_p3, u
   w2c_i2 = w2c_p2;
   w2c_j3 = w2c_l7;
   w2c_j4 = w2c_l6;
-  w2c_f91(m, w2c_j0, w2c_j1, w2c_i2, w2c_j3, w2c_j4);
+  w2c_f92(m, w2c_j0, w2c_j1, w2c_i2, w2c_j3, w2c_j4);
   w2c_j0 = w2c_l5;
   w2c_i0 = (u32)(w2c_j0);
   w2c_i0 = i32_load8_u(m, (u64)(w2c_i0) + 33u);
@@ -71841,7 +72041,7 @@ static void w2c_f89(module *m, u64 w2c_p0, u64 w2c_p1, u32 w2c_p2, u64 w2c_p3, u
   w2c_j3 = i64_load(m, (u64)(w2c_i3));
   w2c_j4 = 66430ull;
   w2c_j5 = 1ull;
-  w2c_j1 = w2c_f90(m, w2c_j1, w2c_j2, w2c_j3, w2c_j4, w2c_j5);
+  w2c_j1 = w2c_f91(m, w2c_j1, w2c_j2, w2c_j3, w2c_j4, w2c_j5);
   i64_store(m, (u64)(w2c_i0), w2c_j1);
   w2c_i0 = 1u;
   w2c_l13 = w2c_i0;
@@ -71924,7 +72124,7 @@ static void w2c_f89(module *m, u64 w2c_p0, u64 w2c_p1, u32 w2c_p2, u64 w2c_p3, u
   w2c_j3 = i64_load(m, (u64)(w2c_i3));
   w2c_j4 = 66429ull;
   w2c_j5 = 1ull;
-  w2c_j1 = w2c_f90(m, w2c_j1, w2c_j2, w2c_j3, w2c_j4, w2c_j5);
+  w2c_j1 = w2c_f91(m, w2c_j1, w2c_j2, w2c_j3, w2c_j4, w2c_j5);
   i64_store(m, (u64)(w2c_i0), w2c_j1);
   w2c_j0 = w2c_l5;
   w2c_j1 = 8ull;
@@ -71933,7 +72133,7 @@ static void w2c_f89(module *m, u64 w2c_p0, u64 w2c_p1, u32 w2c_p2, u64 w2c_p3, u
   w2c_i2 = w2c_p2;
   w2c_j3 = w2c_l9;
   w2c_j4 = w2c_l8;
-  w2c_f91(m, w2c_j0, w2c_j1, w2c_i2, w2c_j3, w2c_j4);
+  w2c_f92(m, w2c_j0, w2c_j1, w2c_i2, w2c_j3, w2c_j4);
   w2c_j0 = w2c_l5;
   w2c_i0 = (u32)(w2c_j0);
   w2c_i0 = i32_load8_u(m, (u64)(w2c_i0) + 9u);
@@ -72087,7 +72287,7 @@ static void w2c_f89(module *m, u64 w2c_p0, u64 w2c_p1, u32 w2c_p2, u64 w2c_p3, u
   w2c_i2 = w2c_p2;
   w2c_j3 = w2c_p3;
   w2c_j4 = w2c_l12;
-  w2c_f91(m, w2c_j0, w2c_j1, w2c_i2, w2c_j3, w2c_j4);
+  w2c_f92(m, w2c_j0, w2c_j1, w2c_i2, w2c_j3, w2c_j4);
   w2c_i0 = 1u;
   w2c_l13 = w2c_i0;
   w2c_j0 = w2c_l5;
@@ -72123,7 +72323,7 @@ static void w2c_f89(module *m, u64 w2c_p0, u64 w2c_p1, u32 w2c_p2, u64 w2c_p3, u
   w2c_j5 = w2c_p4;
   w2c_j6 = w2c_l12;
   w2c_j5 -= w2c_j6;
-  w2c_j1 = w2c_f90(m, w2c_j1, w2c_j2, w2c_j3, w2c_j4, w2c_j5);
+  w2c_j1 = w2c_f91(m, w2c_j1, w2c_j2, w2c_j3, w2c_j4, w2c_j5);
   i64_store(m, (u64)(w2c_i0), w2c_j1);
   goto w2c_B0;
   w2c_B23:;
@@ -72134,7 +72334,7 @@ static void w2c_f89(module *m, u64 w2c_p0, u64 w2c_p1, u32 w2c_p2, u64 w2c_p3, u
   w2c_i2 = w2c_p2;
   w2c_j3 = w2c_p3;
   w2c_j4 = w2c_p4;
-  w2c_f91(m, w2c_j0, w2c_j1, w2c_i2, w2c_j3, w2c_j4);
+  w2c_f92(m, w2c_j0, w2c_j1, w2c_i2, w2c_j3, w2c_j4);
   w2c_j0 = w2c_l5;
   w2c_i0 = (u32)(w2c_j0);
   w2c_i0 = i32_load8_u(m, (u64)(w2c_i0) + 57u);
@@ -72154,7 +72354,7 @@ static void w2c_f89(module *m, u64 w2c_p0, u64 w2c_p1, u32 w2c_p2, u64 w2c_p3, u
   m->w2c_g0 = w2c_j0;
 }
 
-static u64 w2c_f90(module *m, u64 w2c_p0, u64 w2c_p1, u64 w2c_p2, u64 w2c_p3, u64 w2c_p4) {
+static u64 w2c_f91(module *m, u64 w2c_p0, u64 w2c_p1, u64 w2c_p2, u64 w2c_p3, u64 w2c_p4) {
   u64 w2c_l5 = 0, w2c_l6 = 0, w2c_l7 = 0, w2c_l8 = 0, w2c_l9 = 0;
   u32 w2c_i0, w2c_i1, w2c_i2;
   u64 w2c_j0, w2c_j1, w2c_j2, w2c_j3;
@@ -72308,7 +72508,7 @@ static u64 w2c_f90(module *m, u64 w2c_p0, u64 w2c_p1, u64 w2c_p2, u64 w2c_p3, u6
   return w2c_j0;
 }
 
-static void w2c_f91(module *m, u64 w2c_p0, u64 w2c_p1, u32 w2c_p2, u64 w2c_p3, u64 w2c_p4) {
+static void w2c_f92(module *m, u64 w2c_p0, u64 w2c_p1, u32 w2c_p2, u64 w2c_p3, u64 w2c_p4) {
   u32 w2c_l13 = 0, w2c_l14 = 0, w2c_l15 = 0, w2c_l16 = 0, w2c_l17 = 0, w2c_l18 = 0;
   u64 w2c_l5 = 0, w2c_l6 = 0, w2c_l7 = 0, w2c_l8 = 0, w2c_l9 = 0, w2c_l10 = 0, w2c_l11 = 0, w2c_l12 = 0;
   u32 w2c_i0, w2c_i1, w2c_i2, w2c_i3, w2c_i4, w2c_i5;
@@ -72464,7 +72664,7 @@ static void w2c_f91(module *m, u64 w2c_p0, u64 w2c_p1, u32 w2c_p2, u64 w2c_p3, u
   w2c_j3 = i64_load(m, (u64)(w2c_i3));
   w2c_j4 = w2c_p3;
   w2c_j5 = w2c_p4;
-  w2c_j1 = w2c_f90(m, w2c_j1, w2c_j2, w2c_j3, w2c_j4, w2c_j5);
+  w2c_j1 = w2c_f91(m, w2c_j1, w2c_j2, w2c_j3, w2c_j4, w2c_j5);
   i64_store(m, (u64)(w2c_i0), w2c_j1);
   goto w2c_B1;
   w2c_B5:;
@@ -72589,7 +72789,7 @@ static void w2c_f91(module *m, u64 w2c_p0, u64 w2c_p1, u32 w2c_p2, u64 w2c_p3, u
   w2c_j0 += w2c_j1;
   w2c_j1 = w2c_p3;
   w2c_j2 = w2c_p4;
-  w2c_f84(m, w2c_j0, w2c_j1, w2c_j2);
+  w2c_f85(m, w2c_j0, w2c_j1, w2c_j2);
   w2c_j0 = w2c_l5;
   w2c_i0 = (u32)(w2c_j0);
   w2c_i0 = i32_load8_u(m, (u64)(w2c_i0) + 88u);
@@ -72738,7 +72938,7 @@ static void w2c_f91(module *m, u64 w2c_p0, u64 w2c_p1, u32 w2c_p2, u64 w2c_p3, u
   w2c_j5 = w2c_l5;
   w2c_i5 = (u32)(w2c_j5);
   w2c_j5 = i64_load(m, (u64)(w2c_i5) + 16u);
-  w2c_j1 = w2c_f90(m, w2c_j1, w2c_j2, w2c_j3, w2c_j4, w2c_j5);
+  w2c_j1 = w2c_f91(m, w2c_j1, w2c_j2, w2c_j3, w2c_j4, w2c_j5);
   w2c_p3 = w2c_j1;
   i64_store(m, (u64)(w2c_i0), w2c_j1);
   w2c_j0 = w2c_l6;
@@ -72752,17 +72952,17 @@ static void w2c_f91(module *m, u64 w2c_p0, u64 w2c_p1, u32 w2c_p2, u64 w2c_p3, u
   w2c_j3 = w2c_p3;
   w2c_j4 = 69962ull;
   w2c_j5 = 1ull;
-  w2c_j1 = w2c_f90(m, w2c_j1, w2c_j2, w2c_j3, w2c_j4, w2c_j5);
+  w2c_j1 = w2c_f91(m, w2c_j1, w2c_j2, w2c_j3, w2c_j4, w2c_j5);
   i64_store(m, (u64)(w2c_i0), w2c_j1);
   w2c_j0 = w2c_p1;
   w2c_j1 = w2c_l9;
   w2c_j2 = w2c_l7;
-  w2c_f92(m, w2c_j0, w2c_j1, w2c_j2);
+  w2c_f93(m, w2c_j0, w2c_j1, w2c_j2);
   goto w2c_B1;
   w2c_B15:;
   w2c_j0 = w2c_p3;
   w2c_j1 = w2c_p4;
-  w2c_i0 = w2c_f85(m, w2c_j0, w2c_j1);
+  w2c_i0 = w2c_f86(m, w2c_j0, w2c_j1);
   w2c_i0 = !(w2c_i0);
   if (w2c_i0) {goto w2c_B17;}
   w2c_i0 = 1u;
@@ -72871,7 +73071,7 @@ static void w2c_f91(module *m, u64 w2c_p0, u64 w2c_p1, u32 w2c_p2, u64 w2c_p3, u
     w2c_j3 = w2c_l6;
     w2c_j2 -= w2c_j3;
     w2c_l12 = w2c_j2;
-    w2c_i0 = w2c_f86(m, w2c_i0, w2c_j1, w2c_j2);
+    w2c_i0 = w2c_f87(m, w2c_i0, w2c_j1, w2c_j2);
     w2c_i0 = !(w2c_i0);
     if (w2c_i0) {goto w2c_B22;}
     w2c_j0 = w2c_p3;
@@ -73021,7 +73221,7 @@ static void w2c_f91(module *m, u64 w2c_p0, u64 w2c_p1, u32 w2c_p2, u64 w2c_p3, u
     w2c_j5 = w2c_p4;
     w2c_j6 = w2c_l9;
     w2c_j5 -= w2c_j6;
-    w2c_j1 = w2c_f90(m, w2c_j1, w2c_j2, w2c_j3, w2c_j4, w2c_j5);
+    w2c_j1 = w2c_f91(m, w2c_j1, w2c_j2, w2c_j3, w2c_j4, w2c_j5);
     i64_store(m, (u64)(w2c_i0), w2c_j1);
     w2c_j0 = w2c_l5;
     w2c_i0 = (u32)(w2c_j0);
@@ -73044,7 +73244,7 @@ static void w2c_f91(module *m, u64 w2c_p0, u64 w2c_p1, u32 w2c_p2, u64 w2c_p3, u
     w2c_j0 += w2c_j1;
     w2c_j1 = w2c_l6;
     w2c_j2 = w2c_l9;
-    w2c_f87(m, w2c_j0, w2c_j1, w2c_j2);
+    w2c_f88(m, w2c_j0, w2c_j1, w2c_j2);
     w2c_j0 = w2c_l5;
     w2c_i0 = (u32)(w2c_j0);
     w2c_j0 = i64_load(m, (u64)(w2c_i0) + 216u);
@@ -73175,7 +73375,7 @@ static void w2c_f91(module *m, u64 w2c_p0, u64 w2c_p1, u32 w2c_p2, u64 w2c_p3, u
     w2c_j5 = w2c_l5;
     w2c_i5 = (u32)(w2c_j5);
     w2c_j5 = i64_load(m, (u64)(w2c_i5) + 32u);
-    w2c_j1 = w2c_f90(m, w2c_j1, w2c_j2, w2c_j3, w2c_j4, w2c_j5);
+    w2c_j1 = w2c_f91(m, w2c_j1, w2c_j2, w2c_j3, w2c_j4, w2c_j5);
     w2c_l6 = w2c_j1;
     i64_store(m, (u64)(w2c_i0), w2c_j1);
     w2c_j0 = w2c_l8;
@@ -73189,7 +73389,7 @@ static void w2c_f91(module *m, u64 w2c_p0, u64 w2c_p1, u32 w2c_p2, u64 w2c_p3, u
     w2c_j3 = w2c_l6;
     w2c_j4 = w2c_p4;
     w2c_j5 = w2c_p3;
-    w2c_j1 = w2c_f90(m, w2c_j1, w2c_j2, w2c_j3, w2c_j4, w2c_j5);
+    w2c_j1 = w2c_f91(m, w2c_j1, w2c_j2, w2c_j3, w2c_j4, w2c_j5);
     i64_store(m, (u64)(w2c_i0), w2c_j1);
     w2c_j0 = w2c_l12;
     w2c_p4 = w2c_j0;
@@ -73240,7 +73440,7 @@ static void w2c_f91(module *m, u64 w2c_p0, u64 w2c_p1, u32 w2c_p2, u64 w2c_p3, u
   w2c_j0 += w2c_j1;
   w2c_j1 = w2c_p3;
   w2c_j2 = w2c_p4;
-  w2c_f88(m, w2c_j0, w2c_j1, w2c_j2);
+  w2c_f89(m, w2c_j0, w2c_j1, w2c_j2);
   w2c_j0 = w2c_l5;
   w2c_i0 = (u32)(w2c_j0);
   w2c_i0 = i32_load8_u(m, (u64)(w2c_i0) + 128u);
@@ -73481,7 +73681,7 @@ static void w2c_f91(module *m, u64 w2c_p0, u64 w2c_p1, u32 w2c_p2, u64 w2c_p3, u
   w2c_j5 = w2c_l5;
   w2c_i5 = (u32)(w2c_j5);
   w2c_j5 = i64_load(m, (u64)(w2c_i5) + 72u);
-  w2c_j1 = w2c_f90(m, w2c_j1, w2c_j2, w2c_j3, w2c_j4, w2c_j5);
+  w2c_j1 = w2c_f91(m, w2c_j1, w2c_j2, w2c_j3, w2c_j4, w2c_j5);
   i64_store(m, (u64)(w2c_i0), w2c_j1);
   goto w2c_B1;
   w2c_B29:;
@@ -73527,7 +73727,7 @@ static void w2c_f91(module *m, u64 w2c_p0, u64 w2c_p1, u32 w2c_p2, u64 w2c_p3, u
   w2c_j5 = w2c_l5;
   w2c_i5 = (u32)(w2c_j5);
   w2c_j5 = i64_load(m, (u64)(w2c_i5) + 56u);
-  w2c_j1 = w2c_f90(m, w2c_j1, w2c_j2, w2c_j3, w2c_j4, w2c_j5);
+  w2c_j1 = w2c_f91(m, w2c_j1, w2c_j2, w2c_j3, w2c_j4, w2c_j5);
   w2c_l11 = w2c_j1;
   i64_store(m, (u64)(w2c_i0), w2c_j1);
   w2c_j0 = w2c_l6;
@@ -73541,7 +73741,7 @@ static void w2c_f91(module *m, u64 w2c_p0, u64 w2c_p1, u32 w2c_p2, u64 w2c_p3, u
   w2c_j3 = w2c_l11;
   w2c_j4 = 69962ull;
   w2c_j5 = 1ull;
-  w2c_j1 = w2c_f90(m, w2c_j1, w2c_j2, w2c_j3, w2c_j4, w2c_j5);
+  w2c_j1 = w2c_f91(m, w2c_j1, w2c_j2, w2c_j3, w2c_j4, w2c_j5);
   w2c_l11 = w2c_j1;
   i64_store(m, (u64)(w2c_i0), w2c_j1);
   w2c_j0 = w2c_l5;
@@ -73573,7 +73773,7 @@ static void w2c_f91(module *m, u64 w2c_p0, u64 w2c_p1, u32 w2c_p2, u64 w2c_p3, u
   w2c_i3 = (u32)(w2c_j3);
   w2c_j3 = i64_load(m, (u64)(w2c_i3) + 70104u);
   w2c_j4 = 1ull;
-  w2c_j0 = w2c_f90(m, w2c_j0, w2c_j1, w2c_j2, w2c_j3, w2c_j4);
+  w2c_j0 = w2c_f91(m, w2c_j0, w2c_j1, w2c_j2, w2c_j3, w2c_j4);
   w2c_l6 = w2c_j0;
   goto w2c_B31;
   w2c_B32:;
@@ -73586,7 +73786,7 @@ static void w2c_f91(module *m, u64 w2c_p0, u64 w2c_p1, u32 w2c_p2, u64 w2c_p3, u
   w2c_j2 = w2c_l11;
   w2c_j3 = w2c_p4;
   w2c_j4 = w2c_p3;
-  w2c_j0 = w2c_f90(m, w2c_j0, w2c_j1, w2c_j2, w2c_j3, w2c_j4);
+  w2c_j0 = w2c_f91(m, w2c_j0, w2c_j1, w2c_j2, w2c_j3, w2c_j4);
   w2c_l6 = w2c_j0;
   w2c_B31:;
   w2c_j0 = w2c_p1;
@@ -73609,7 +73809,7 @@ static void w2c_f91(module *m, u64 w2c_p0, u64 w2c_p1, u32 w2c_p2, u64 w2c_p3, u
   w2c_j3 = w2c_l6;
   w2c_j4 = w2c_l9;
   w2c_j5 = w2c_l7;
-  w2c_j1 = w2c_f90(m, w2c_j1, w2c_j2, w2c_j3, w2c_j4, w2c_j5);
+  w2c_j1 = w2c_f91(m, w2c_j1, w2c_j2, w2c_j3, w2c_j4, w2c_j5);
   i64_store(m, (u64)(w2c_i0), w2c_j1);
   goto w2c_B1;
   w2c_B4:;
@@ -73618,7 +73818,7 @@ static void w2c_f91(module *m, u64 w2c_p0, u64 w2c_p1, u32 w2c_p2, u64 w2c_p3, u
   w2c_j0 = w2c_p1;
   w2c_j1 = w2c_p3;
   w2c_j2 = w2c_p4;
-  w2c_f92(m, w2c_j0, w2c_j1, w2c_j2);
+  w2c_f93(m, w2c_j0, w2c_j1, w2c_j2);
   goto w2c_B1;
   w2c_B2:;
   w2c_i0 = 0u;
@@ -73642,7 +73842,7 @@ static void w2c_f91(module *m, u64 w2c_p0, u64 w2c_p1, u32 w2c_p2, u64 w2c_p3, u
   m->w2c_g0 = w2c_j0;
 }
 
-static void w2c_f92(module *m, u64 w2c_p0, u64 w2c_p1, u64 w2c_p2) {
+static void w2c_f93(module *m, u64 w2c_p0, u64 w2c_p1, u64 w2c_p2) {
   u32 w2c_l6 = 0, w2c_l7 = 0, w2c_l8 = 0, w2c_l9 = 0;
   u64 w2c_l3 = 0, w2c_l4 = 0, w2c_l5 = 0;
   u32 w2c_i0, w2c_i1, w2c_i2, w2c_i3;
@@ -73785,7 +73985,7 @@ static void w2c_f92(module *m, u64 w2c_p0, u64 w2c_p1, u64 w2c_p2) {
     w2c_i3 = (u32)(w2c_j3);
     w2c_j3 = i64_load(m, (u64)(w2c_i3) + 70104u);
     w2c_j4 = 1ull;
-    w2c_j0 = w2c_f90(m, w2c_j0, w2c_j1, w2c_j2, w2c_j3, w2c_j4);
+    w2c_j0 = w2c_f91(m, w2c_j0, w2c_j1, w2c_j2, w2c_j3, w2c_j4);
     w2c_l5 = w2c_j0;
     goto w2c_B6;
     w2c_B7:;
@@ -73804,7 +74004,7 @@ static void w2c_f92(module *m, u64 w2c_p0, u64 w2c_p1, u64 w2c_p2) {
     w2c_j2 = i64_load(m, (u64)(w2c_i2));
     w2c_j3 = w2c_p1;
     w2c_j4 = w2c_l3;
-    w2c_j0 = w2c_f90(m, w2c_j0, w2c_j1, w2c_j2, w2c_j3, w2c_j4);
+    w2c_j0 = w2c_f91(m, w2c_j0, w2c_j1, w2c_j2, w2c_j3, w2c_j4);
     w2c_l5 = w2c_j0;
     w2c_B6:;
     w2c_j0 = w2c_p1;
@@ -73832,7 +74032,7 @@ static void w2c_f92(module *m, u64 w2c_p0, u64 w2c_p1, u64 w2c_p2) {
   w2c_Bfunc:;
 }
 
-static u64 w2c_f93(module *m, u64 w2c_p0, u64 w2c_p1, u32 w2c_p2, u32 w2c_p3, u64 w2c_p4, u64 w2c_p5) {
+static u64 w2c_f94(module *m, u64 w2c_p0, u64 w2c_p1, u32 w2c_p2, u32 w2c_p3, u64 w2c_p4, u64 w2c_p5) {
   u32 w2c_l14 = 0, w2c_l15 = 0, w2c_l16 = 0, w2c_l17 = 0, w2c_l18 = 0;
   u64 w2c_l6 = 0, w2c_l7 = 0, w2c_l8 = 0, w2c_l9 = 0, w2c_l10 = 0, w2c_l11 = 0, w2c_l12 = 0, w2c_l13 = 0;
   u32 w2c_i0, w2c_i1, w2c_i2, w2c_i3, w2c_i4, w2c_i5, w2c_i6;
@@ -77420,7 +77620,7 @@ static u64 w2c_f93(module *m, u64 w2c_p0, u64 w2c_p1, u32 w2c_p2, u32 w2c_p3, u6
   return w2c_j0;
 }
 
-static u32 w2c_f94(module *m, u64 w2c_p0, u64 w2c_p1, u32 w2c_p2, u32 w2c_p3, u64 w2c_p4) {
+static u32 w2c_f95(module *m, u64 w2c_p0, u64 w2c_p1, u32 w2c_p2, u32 w2c_p3, u64 w2c_p4) {
   u32 w2c_l12 = 0, w2c_l13 = 0;
   u64 w2c_l5 = 0, w2c_l6 = 0, w2c_l7 = 0, w2c_l8 = 0, w2c_l9 = 0, w2c_l10 = 0, w2c_l11 = 0;
   u32 w2c_i0, w2c_i1, w2c_i2, w2c_i3, w2c_i4;
@@ -77717,7 +77917,7 @@ static u32 w2c_f94(module *m, u64 w2c_p0, u64 w2c_p1, u32 w2c_p2, u32 w2c_p3, u6
   w2c_j1 = w2c_p1;
   w2c_i2 = w2c_p2;
   w2c_j3 = w2c_p4;
-  w2c_i0 = w2c_f70(m, w2c_j0, w2c_j1, w2c_i2, w2c_j3);
+  w2c_i0 = w2c_f71(m, w2c_j0, w2c_j1, w2c_i2, w2c_j3);
   w2c_l12 = w2c_i0;
   w2c_j0 = w2c_l5;
   m->w2c_g0 = w2c_j0;
@@ -77776,7 +77976,7 @@ static u32 w2c_f94(module *m, u64 w2c_p0, u64 w2c_p1, u32 w2c_p2, u32 w2c_p3, u6
   w2c_i3 = w2c_p3;
   w2c_i4 = w2c_l12;
   w2c_j5 = w2c_p4;
-  w2c_i0 = w2c_f67(m, w2c_j0, w2c_j1, w2c_i2, w2c_i3, w2c_i4, w2c_j5);
+  w2c_i0 = w2c_f68(m, w2c_j0, w2c_j1, w2c_i2, w2c_i3, w2c_i4, w2c_j5);
   w2c_l12 = w2c_i0;
   w2c_j0 = w2c_l5;
   m->w2c_g0 = w2c_j0;
@@ -77789,7 +77989,7 @@ static u32 w2c_f94(module *m, u64 w2c_p0, u64 w2c_p1, u32 w2c_p2, u32 w2c_p3, u6
   w2c_i3 = w2c_p3;
   w2c_i4 = w2c_l12;
   w2c_j5 = w2c_p4;
-  w2c_i0 = w2c_f69(m, w2c_j0, w2c_j1, w2c_i2, w2c_i3, w2c_i4, w2c_j5);
+  w2c_i0 = w2c_f70(m, w2c_j0, w2c_j1, w2c_i2, w2c_i3, w2c_i4, w2c_j5);
   w2c_l12 = w2c_i0;
   w2c_j0 = w2c_l5;
   m->w2c_g0 = w2c_j0;
@@ -77809,13 +78009,13 @@ static u32 w2c_chinese_number_version(module *m) {
   w2c_f2(m);
   UNREACHABLE;
   w2c_B0:;
-  w2c_f96(m);
+  w2c_f97(m);
   w2c_f1(m);
   w2c_i0 = 1000u;
   return w2c_i0;
 }
 
-static void w2c_f96(module *m) {
+static void w2c_f97(module *m) {
   u32 w2c_i0;
   u64 w2c_j0, w2c_j1;
   w2c_j0 = m->w2c_g0;
@@ -77842,14 +78042,14 @@ static u32 w2c_chinese_date_print(module *m, u32 w2c_p0, u32 w2c_p1, u32 w2c_p2,
   w2c_j4 = w2c_p4;
   w2c_j5 = w2c_p5;
   w2c_j6 = w2c_p6;
-  w2c_i0 = w2c_f98(m, w2c_i0, w2c_i1, w2c_i2, w2c_i3, w2c_j4, w2c_j5, w2c_j6);
+  w2c_i0 = w2c_f99(m, w2c_i0, w2c_i1, w2c_i2, w2c_i3, w2c_j4, w2c_j5, w2c_j6);
   w2c_p3 = w2c_i0;
   w2c_f1(m);
   w2c_i0 = w2c_p3;
   return w2c_i0;
 }
 
-static u32 w2c_f98(module *m, u32 w2c_p0, u32 w2c_p1, u32 w2c_p2, u32 w2c_p3, u64 w2c_p4, u64 w2c_p5, u64 w2c_p6) {
+static u32 w2c_f99(module *m, u32 w2c_p0, u32 w2c_p1, u32 w2c_p2, u32 w2c_p3, u64 w2c_p4, u64 w2c_p5, u64 w2c_p6) {
   u32 w2c_l11 = 0, w2c_l12 = 0, w2c_l13 = 0;
   u64 w2c_l7 = 0, w2c_l8 = 0, w2c_l9 = 0, w2c_l10 = 0;
   u32 w2c_i0, w2c_i1, w2c_i2, w2c_i3, w2c_i4;
@@ -78265,14 +78465,14 @@ static u32 w2c_chinese_signed_amount_print(module *m, u64 w2c_p0, u32 w2c_p1, u3
   w2c_j3 = w2c_p3;
   w2c_j4 = w2c_p4;
   w2c_j5 = w2c_p5;
-  w2c_i0 = w2c_f100(m, w2c_j0, w2c_i1, w2c_i2, w2c_j3, w2c_j4, w2c_j5);
+  w2c_i0 = w2c_f101(m, w2c_j0, w2c_i1, w2c_i2, w2c_j3, w2c_j4, w2c_j5);
   w2c_p2 = w2c_i0;
   w2c_f1(m);
   w2c_i0 = w2c_p2;
   return w2c_i0;
 }
 
-static u32 w2c_f100(module *m, u64 w2c_p0, u32 w2c_p1, u32 w2c_p2, u64 w2c_p3, u64 w2c_p4, u64 w2c_p5) {
+static u32 w2c_f101(module *m, u64 w2c_p0, u32 w2c_p1, u32 w2c_p2, u64 w2c_p3, u64 w2c_p4, u64 w2c_p5) {
   u32 w2c_l9 = 0;
   u64 w2c_l6 = 0, w2c_l7 = 0, w2c_l8 = 0;
   u32 w2c_i0, w2c_i1, w2c_i2, w2c_i3;
@@ -78492,14 +78692,14 @@ static u32 w2c_chinese_quantity_figures(module *m, u64 w2c_p0, u64 w2c_p1, u64 w
   w2c_j1 = w2c_p1;
   w2c_j2 = w2c_p2;
   w2c_j3 = w2c_p3;
-  w2c_i0 = w2c_f102(m, w2c_j0, w2c_j1, w2c_j2, w2c_j3);
+  w2c_i0 = w2c_f103(m, w2c_j0, w2c_j1, w2c_j2, w2c_j3);
   w2c_l4 = w2c_i0;
   w2c_f1(m);
   w2c_i0 = w2c_l4;
   return w2c_i0;
 }
 
-static u32 w2c_f102(module *m, u64 w2c_p0, u64 w2c_p1, u64 w2c_p2, u64 w2c_p3) {
+static u32 w2c_f103(module *m, u64 w2c_p0, u64 w2c_p1, u64 w2c_p2, u64 w2c_p3) {
   u32 w2c_l10 = 0;
   u64 w2c_l4 = 0, w2c_l5 = 0, w2c_l6 = 0, w2c_l7 = 0, w2c_l8 = 0, w2c_l9 = 0;
   u32 w2c_i0, w2c_i1, w2c_i2, w2c_i3;
@@ -78766,14 +78966,14 @@ static u32 w2c_chinese_amount_read(module *m, u64 w2c_p0, u64 w2c_p1, u64 w2c_p2
   w2c_j0 = w2c_p0;
   w2c_j1 = w2c_p1;
   w2c_j2 = w2c_p2;
-  w2c_i0 = w2c_f104(m, w2c_j0, w2c_j1, w2c_j2);
+  w2c_i0 = w2c_f105(m, w2c_j0, w2c_j1, w2c_j2);
   w2c_l3 = w2c_i0;
   w2c_f1(m);
   w2c_i0 = w2c_l3;
   return w2c_i0;
 }
 
-static u32 w2c_f104(module *m, u64 w2c_p0, u64 w2c_p1, u64 w2c_p2) {
+static u32 w2c_f105(module *m, u64 w2c_p0, u64 w2c_p1, u64 w2c_p2) {
   u32 w2c_l14 = 0, w2c_l15 = 0, w2c_l16 = 0, w2c_l17 = 0, w2c_l18 = 0, w2c_l19 = 0, w2c_l20 = 0, w2c_l21 = 0;
   u64 w2c_l3 = 0, w2c_l4 = 0, w2c_l5 = 0, w2c_l6 = 0, w2c_l7 = 0, w2c_l8 = 0, w2c_l9 = 0, w2c_l10 = 0, w2c_l11 = 0, w2c_l12 = 0, w2c_l13 = 0;
   u32 w2c_i0, w2c_i1, w2c_i2, w2c_i3;
@@ -80785,14 +80985,14 @@ static u32 w2c_chinese_typed_amount_read(module *m, u64 w2c_p0, u64 w2c_p1, u64 
   w2c_j0 = w2c_p0;
   w2c_j1 = w2c_p1;
   w2c_j2 = w2c_p2;
-  w2c_i0 = w2c_f106(m, w2c_j0, w2c_j1, w2c_j2);
+  w2c_i0 = w2c_f107(m, w2c_j0, w2c_j1, w2c_j2);
   w2c_l3 = w2c_i0;
   w2c_f1(m);
   w2c_i0 = w2c_l3;
   return w2c_i0;
 }
 
-static u32 w2c_f106(module *m, u64 w2c_p0, u64 w2c_p1, u64 w2c_p2) {
+static u32 w2c_f107(module *m, u64 w2c_p0, u64 w2c_p1, u64 w2c_p2) {
   u32 w2c_l12 = 0, w2c_l13 = 0, w2c_l14 = 0, w2c_l15 = 0, w2c_l16 = 0, w2c_l17 = 0, w2c_l18 = 0, w2c_l19 = 0, w2c_l20 = 0;
   u64 w2c_l3 = 0, w2c_l4 = 0, w2c_l5 = 0, w2c_l6 = 0, w2c_l7 = 0, w2c_l8 = 0, w2c_l9 = 0, w2c_l10 = 0, w2c_l11 = 0;
   u32 w2c_i0, w2c_i1, w2c_i2, w2c_i3, w2c_i4;
@@ -82847,14 +83047,14 @@ static u32 w2c_chinese_date_read(module *m, u64 w2c_p0, u64 w2c_p1, u64 w2c_p2) 
   w2c_j0 = w2c_p0;
   w2c_j1 = w2c_p1;
   w2c_j2 = w2c_p2;
-  w2c_i0 = w2c_f108(m, w2c_j0, w2c_j1, w2c_j2);
+  w2c_i0 = w2c_f109(m, w2c_j0, w2c_j1, w2c_j2);
   w2c_l3 = w2c_i0;
   w2c_f1(m);
   w2c_i0 = w2c_l3;
   return w2c_i0;
 }
 
-static u32 w2c_f108(module *m, u64 w2c_p0, u64 w2c_p1, u64 w2c_p2) {
+static u32 w2c_f109(module *m, u64 w2c_p0, u64 w2c_p1, u64 w2c_p2) {
   u32 w2c_l9 = 0, w2c_l10 = 0, w2c_l11 = 0, w2c_l12 = 0, w2c_l13 = 0, w2c_l14 = 0, w2c_l15 = 0, w2c_l16 = 0, w2c_l17 = 0, w2c_l18 = 0, w2c_l19 = 0, w2c_l20 = 0, w2c_l21 = 0;
   u64 w2c_l3 = 0, w2c_l4 = 0, w2c_l5 = 0, w2c_l6 = 0, w2c_l7 = 0, w2c_l8 = 0;
   u32 w2c_i0, w2c_i1, w2c_i2, w2c_i3, w2c_i4;
@@ -83979,14 +84179,14 @@ static u32 w2c_chinese_amount_print(module *m, u64 w2c_p0, u32 w2c_p1, u32 w2c_p
   w2c_j3 = w2c_p3;
   w2c_j4 = w2c_p4;
   w2c_j5 = w2c_p5;
-  w2c_i0 = w2c_f110(m, w2c_j0, w2c_i1, w2c_i2, w2c_j3, w2c_j4, w2c_j5);
+  w2c_i0 = w2c_f111(m, w2c_j0, w2c_i1, w2c_i2, w2c_j3, w2c_j4, w2c_j5);
   w2c_p2 = w2c_i0;
   w2c_f1(m);
   w2c_i0 = w2c_p2;
   return w2c_i0;
 }
 
-static u32 w2c_f110(module *m, u64 w2c_p0, u32 w2c_p1, u32 w2c_p2, u64 w2c_p3, u64 w2c_p4, u64 w2c_p5) {
+static u32 w2c_f111(module *m, u64 w2c_p0, u32 w2c_p1, u32 w2c_p2, u64 w2c_p3, u64 w2c_p4, u64 w2c_p5) {
   u64 w2c_l6 = 0;
   u32 w2c_i0, w2c_i1, w2c_i2, w2c_i6;
   u64 w2c_j0, w2c_j1, w2c_j2, w2c_j3, w2c_j4, w2c_j5, w2c_j6;
@@ -84080,14 +84280,14 @@ static u32 w2c_chinese_figures_read(module *m, u64 w2c_p0, u64 w2c_p1, u64 w2c_p
   w2c_j0 = w2c_p0;
   w2c_j1 = w2c_p1;
   w2c_j2 = w2c_p2;
-  w2c_i0 = w2c_f112(m, w2c_j0, w2c_j1, w2c_j2);
+  w2c_i0 = w2c_f113(m, w2c_j0, w2c_j1, w2c_j2);
   w2c_l3 = w2c_i0;
   w2c_f1(m);
   w2c_i0 = w2c_l3;
   return w2c_i0;
 }
 
-static u32 w2c_f112(module *m, u64 w2c_p0, u64 w2c_p1, u64 w2c_p2) {
+static u32 w2c_f113(module *m, u64 w2c_p0, u64 w2c_p1, u64 w2c_p2) {
   u32 w2c_l8 = 0, w2c_l9 = 0, w2c_l10 = 0, w2c_l11 = 0;
   u64 w2c_l3 = 0, w2c_l4 = 0, w2c_l5 = 0, w2c_l6 = 0, w2c_l7 = 0;
   u32 w2c_i0, w2c_i1, w2c_i2, w2c_i3;
@@ -84608,14 +84808,14 @@ static u32 w2c_chinese_signed_amount_read(module *m, u64 w2c_p0, u64 w2c_p1, u64
   w2c_j0 = w2c_p0;
   w2c_j1 = w2c_p1;
   w2c_j2 = w2c_p2;
-  w2c_i0 = w2c_f114(m, w2c_j0, w2c_j1, w2c_j2);
+  w2c_i0 = w2c_f115(m, w2c_j0, w2c_j1, w2c_j2);
   w2c_l3 = w2c_i0;
   w2c_f1(m);
   w2c_i0 = w2c_l3;
   return w2c_i0;
 }
 
-static u32 w2c_f114(module *m, u64 w2c_p0, u64 w2c_p1, u64 w2c_p2) {
+static u32 w2c_f115(module *m, u64 w2c_p0, u64 w2c_p1, u64 w2c_p2) {
   u32 w2c_l14 = 0, w2c_l15 = 0, w2c_l16 = 0, w2c_l17 = 0, w2c_l18 = 0, w2c_l19 = 0, w2c_l20 = 0, w2c_l21 = 0, w2c_l22 = 0;
   u64 w2c_l3 = 0, w2c_l4 = 0, w2c_l5 = 0, w2c_l6 = 0, w2c_l7 = 0, w2c_l8 = 0, w2c_l9 = 0, w2c_l10 = 0, w2c_l11 = 0, w2c_l12 = 0, w2c_l13 = 0;
   u32 w2c_i0, w2c_i1, w2c_i2, w2c_i3, w2c_i4;
@@ -86636,14 +86836,14 @@ static u32 w2c_chinese_number_find(module *m, u64 w2c_p0, u64 w2c_p1, u64 w2c_p2
   w2c_j5 = w2c_p5;
   w2c_j6 = w2c_p6;
   w2c_j7 = w2c_p7;
-  w2c_i0 = w2c_f116(m, w2c_j0, w2c_j1, w2c_j2, w2c_i3, w2c_i4, w2c_j5, w2c_j6, w2c_j7);
+  w2c_i0 = w2c_f117(m, w2c_j0, w2c_j1, w2c_j2, w2c_i3, w2c_i4, w2c_j5, w2c_j6, w2c_j7);
   w2c_p4 = w2c_i0;
   w2c_f1(m);
   w2c_i0 = w2c_p4;
   return w2c_i0;
 }
 
-static u32 w2c_f116(module *m, u64 w2c_p0, u64 w2c_p1, u64 w2c_p2, u32 w2c_p3, u32 w2c_p4, u64 w2c_p5, u64 w2c_p6, u64 w2c_p7) {
+static u32 w2c_f117(module *m, u64 w2c_p0, u64 w2c_p1, u64 w2c_p2, u32 w2c_p3, u32 w2c_p4, u64 w2c_p5, u64 w2c_p6, u64 w2c_p7) {
   u64 w2c_l8 = 0;
   u32 w2c_i0, w2c_i1, w2c_i3, w2c_i4, w2c_i8;
   u64 w2c_j0, w2c_j1, w2c_j2, w2c_j3, w2c_j5, w2c_j6, w2c_j7, w2c_j8;
@@ -86724,14 +86924,14 @@ static u32 w2c_chinese_number_find_utf8(module *m, u64 w2c_p0, u64 w2c_p1, u64 w
   w2c_j5 = w2c_p5;
   w2c_j6 = w2c_p6;
   w2c_j7 = w2c_p7;
-  w2c_i0 = w2c_f118(m, w2c_j0, w2c_j1, w2c_j2, w2c_i3, w2c_i4, w2c_j5, w2c_j6, w2c_j7);
+  w2c_i0 = w2c_f119(m, w2c_j0, w2c_j1, w2c_j2, w2c_i3, w2c_i4, w2c_j5, w2c_j6, w2c_j7);
   w2c_p4 = w2c_i0;
   w2c_f1(m);
   w2c_i0 = w2c_p4;
   return w2c_i0;
 }
 
-static u32 w2c_f118(module *m, u64 w2c_p0, u64 w2c_p1, u64 w2c_p2, u32 w2c_p3, u32 w2c_p4, u64 w2c_p5, u64 w2c_p6, u64 w2c_p7) {
+static u32 w2c_f119(module *m, u64 w2c_p0, u64 w2c_p1, u64 w2c_p2, u32 w2c_p3, u32 w2c_p4, u64 w2c_p5, u64 w2c_p6, u64 w2c_p7) {
   u64 w2c_l8 = 0;
   u32 w2c_i0, w2c_i1, w2c_i3, w2c_i4, w2c_i8;
   u64 w2c_j0, w2c_j1, w2c_j2, w2c_j3, w2c_j5, w2c_j6, w2c_j7, w2c_j8;
@@ -86825,14 +87025,14 @@ static u32 w2c_chinese_quantity_find_utf8(module *m, u64 w2c_p0, u64 w2c_p1, u64
   w2c_j5 = w2c_p5;
   w2c_j6 = w2c_p6;
   w2c_j7 = w2c_p7;
-  w2c_i0 = w2c_f120(m, w2c_j0, w2c_j1, w2c_j2, w2c_i3, w2c_i4, w2c_j5, w2c_j6, w2c_j7);
+  w2c_i0 = w2c_f121(m, w2c_j0, w2c_j1, w2c_j2, w2c_i3, w2c_i4, w2c_j5, w2c_j6, w2c_j7);
   w2c_p4 = w2c_i0;
   w2c_f1(m);
   w2c_i0 = w2c_p4;
   return w2c_i0;
 }
 
-static u32 w2c_f120(module *m, u64 w2c_p0, u64 w2c_p1, u64 w2c_p2, u32 w2c_p3, u32 w2c_p4, u64 w2c_p5, u64 w2c_p6, u64 w2c_p7) {
+static u32 w2c_f121(module *m, u64 w2c_p0, u64 w2c_p1, u64 w2c_p2, u32 w2c_p3, u32 w2c_p4, u64 w2c_p5, u64 w2c_p6, u64 w2c_p7) {
   u32 w2c_i0, w2c_i3, w2c_i4, w2c_i8;
   u64 w2c_j0, w2c_j1, w2c_j2, w2c_j3, w2c_j5, w2c_j6, w2c_j7, w2c_j8;
   w2c_j0 = w2c_p0;
@@ -86876,14 +87076,14 @@ static u32 w2c_chinese_quantity_find(module *m, u64 w2c_p0, u64 w2c_p1, u64 w2c_
   w2c_j5 = w2c_p5;
   w2c_j6 = w2c_p6;
   w2c_j7 = w2c_p7;
-  w2c_i0 = w2c_f122(m, w2c_j0, w2c_j1, w2c_j2, w2c_i3, w2c_i4, w2c_j5, w2c_j6, w2c_j7);
+  w2c_i0 = w2c_f123(m, w2c_j0, w2c_j1, w2c_j2, w2c_i3, w2c_i4, w2c_j5, w2c_j6, w2c_j7);
   w2c_p4 = w2c_i0;
   w2c_f1(m);
   w2c_i0 = w2c_p4;
   return w2c_i0;
 }
 
-static u32 w2c_f122(module *m, u64 w2c_p0, u64 w2c_p1, u64 w2c_p2, u32 w2c_p3, u32 w2c_p4, u64 w2c_p5, u64 w2c_p6, u64 w2c_p7) {
+static u32 w2c_f123(module *m, u64 w2c_p0, u64 w2c_p1, u64 w2c_p2, u32 w2c_p3, u32 w2c_p4, u64 w2c_p5, u64 w2c_p6, u64 w2c_p7) {
   u64 w2c_l8 = 0, w2c_l9 = 0, w2c_l10 = 0;
   u32 w2c_i0, w2c_i1, w2c_i2, w2c_i3, w2c_i4, w2c_i8;
   u64 w2c_j0, w2c_j1, w2c_j2, w2c_j3, w2c_j5, w2c_j6, w2c_j7, w2c_j8;
@@ -87034,14 +87234,14 @@ static u32 w2c_chinese_number_read_utf8(module *m, u64 w2c_p0, u64 w2c_p1, u32 w
   w2c_i2 = w2c_p2;
   w2c_i3 = w2c_p3;
   w2c_j4 = w2c_p4;
-  w2c_i0 = w2c_f124(m, w2c_j0, w2c_j1, w2c_i2, w2c_i3, w2c_j4);
+  w2c_i0 = w2c_f125(m, w2c_j0, w2c_j1, w2c_i2, w2c_i3, w2c_j4);
   w2c_p3 = w2c_i0;
   w2c_f1(m);
   w2c_i0 = w2c_p3;
   return w2c_i0;
 }
 
-static u32 w2c_f124(module *m, u64 w2c_p0, u64 w2c_p1, u32 w2c_p2, u32 w2c_p3, u64 w2c_p4) {
+static u32 w2c_f125(module *m, u64 w2c_p0, u64 w2c_p1, u32 w2c_p2, u32 w2c_p3, u64 w2c_p4) {
   u32 w2c_l7 = 0;
   u64 w2c_l5 = 0, w2c_l6 = 0;
   u32 w2c_i0, w2c_i1, w2c_i2, w2c_i3, w2c_i4;
@@ -87075,7 +87275,7 @@ static u32 w2c_f124(module *m, u64 w2c_p0, u64 w2c_p1, u32 w2c_p2, u32 w2c_p3, u
   w2c_j1 = w2c_p1;
   w2c_i2 = w2c_p2;
   w2c_j3 = w2c_p4;
-  w2c_i0 = w2c_f70(m, w2c_j0, w2c_j1, w2c_i2, w2c_j3);
+  w2c_i0 = w2c_f71(m, w2c_j0, w2c_j1, w2c_i2, w2c_j3);
   w2c_p2 = w2c_i0;
   w2c_j0 = w2c_l5;
   m->w2c_g0 = w2c_j0;
@@ -87134,7 +87334,7 @@ static u32 w2c_f124(module *m, u64 w2c_p0, u64 w2c_p1, u32 w2c_p2, u32 w2c_p3, u
   w2c_i3 = w2c_l7;
   w2c_i4 = w2c_p3;
   w2c_j5 = w2c_p4;
-  w2c_i0 = w2c_f67(m, w2c_j0, w2c_j1, w2c_i2, w2c_i3, w2c_i4, w2c_j5);
+  w2c_i0 = w2c_f68(m, w2c_j0, w2c_j1, w2c_i2, w2c_i3, w2c_i4, w2c_j5);
   w2c_p2 = w2c_i0;
   w2c_j0 = w2c_l5;
   m->w2c_g0 = w2c_j0;
@@ -87149,7 +87349,7 @@ static u32 w2c_f124(module *m, u64 w2c_p0, u64 w2c_p1, u32 w2c_p2, u32 w2c_p3, u
   w2c_i3 = w2c_l7;
   w2c_i4 = w2c_p3;
   w2c_j5 = w2c_p4;
-  w2c_i0 = w2c_f69(m, w2c_j0, w2c_j1, w2c_i2, w2c_i3, w2c_i4, w2c_j5);
+  w2c_i0 = w2c_f70(m, w2c_j0, w2c_j1, w2c_i2, w2c_i3, w2c_i4, w2c_j5);
   w2c_p2 = w2c_i0;
   w2c_j0 = w2c_l5;
   m->w2c_g0 = w2c_j0;
@@ -87176,14 +87376,14 @@ static u32 w2c_chinese_quantities_to_figures(module *m, u64 w2c_p0, u64 w2c_p1, 
   w2c_j6 = w2c_p6;
   w2c_j7 = w2c_p7;
   w2c_j8 = w2c_p8;
-  w2c_i0 = w2c_f126(m, w2c_j0, w2c_j1, w2c_i2, w2c_i3, w2c_i4, w2c_i5, w2c_j6, w2c_j7, w2c_j8);
+  w2c_i0 = w2c_f127(m, w2c_j0, w2c_j1, w2c_i2, w2c_i3, w2c_i4, w2c_i5, w2c_j6, w2c_j7, w2c_j8);
   w2c_p5 = w2c_i0;
   w2c_f1(m);
   w2c_i0 = w2c_p5;
   return w2c_i0;
 }
 
-static u32 w2c_f126(module *m, u64 w2c_p0, u64 w2c_p1, u32 w2c_p2, u32 w2c_p3, u32 w2c_p4, u32 w2c_p5, u64 w2c_p6, u64 w2c_p7, u64 w2c_p8) {
+static u32 w2c_f127(module *m, u64 w2c_p0, u64 w2c_p1, u32 w2c_p2, u32 w2c_p3, u32 w2c_p4, u32 w2c_p5, u64 w2c_p6, u64 w2c_p7, u64 w2c_p8) {
   u32 w2c_l27 = 0, w2c_l28 = 0, w2c_l29 = 0, w2c_l30 = 0, w2c_l31 = 0, w2c_l32 = 0, w2c_l33 = 0, w2c_l34 = 0;
   u64 w2c_l9 = 0, w2c_l10 = 0, w2c_l11 = 0, w2c_l12 = 0, w2c_l13 = 0, w2c_l14 = 0, w2c_l15 = 0, w2c_l16 = 0, w2c_l17 = 0, w2c_l18 = 0, w2c_l19 = 0, w2c_l20 = 0, w2c_l21 = 0, w2c_l22 = 0, w2c_l23 = 0, w2c_l24 = 0, w2c_l25 = 0, w2c_l26 = 0;
   u32 w2c_i0, w2c_i1, w2c_i2, w2c_i3, w2c_i4, w2c_i5, w2c_i6, w2c_i7, w2c_i8;
@@ -87582,7 +87782,7 @@ static u32 w2c_f126(module *m, u64 w2c_p0, u64 w2c_p1, u32 w2c_p2, u32 w2c_p3, u
     w2c_j1 = w2c_l9;
     w2c_j2 = 384ull;
     w2c_j1 += w2c_j2;
-    w2c_i0 = w2c_f72(m, w2c_j0, w2c_j1);
+    w2c_i0 = w2c_f73(m, w2c_j0, w2c_j1);
     if (w2c_i0) {goto w2c_B11;}
     w2c_B12:;
     w2c_j0 = w2c_l18;
@@ -87671,7 +87871,7 @@ static u32 w2c_f126(module *m, u64 w2c_p0, u64 w2c_p1, u32 w2c_p2, u32 w2c_p3, u
     w2c_j1 = w2c_l9;
     w2c_j2 = 336ull;
     w2c_j1 += w2c_j2;
-    w2c_i0 = w2c_f75(m, w2c_j0, w2c_j1);
+    w2c_i0 = w2c_f76(m, w2c_j0, w2c_j1);
     if (w2c_i0) {goto w2c_B13;}
     w2c_j0 = w2c_p1;
     w2c_j1 = w2c_l10;
@@ -87791,7 +87991,7 @@ static u32 w2c_f126(module *m, u64 w2c_p0, u64 w2c_p1, u32 w2c_p2, u32 w2c_p3, u
       w2c_j1 = w2c_l9;
       w2c_j2 = 288ull;
       w2c_j1 += w2c_j2;
-      w2c_i0 = w2c_f72(m, w2c_j0, w2c_j1);
+      w2c_i0 = w2c_f73(m, w2c_j0, w2c_j1);
       w2c_i0 = !(w2c_i0);
       if (w2c_i0) {goto w2c_B11;}
       w2c_j0 = w2c_l15;
@@ -87828,7 +88028,7 @@ static u32 w2c_f126(module *m, u64 w2c_p0, u64 w2c_p1, u32 w2c_p2, u32 w2c_p3, u
       w2c_j1 = w2c_l9;
       w2c_j2 = 200ull;
       w2c_j1 += w2c_j2;
-      w2c_i0 = w2c_f75(m, w2c_j0, w2c_j1);
+      w2c_i0 = w2c_f76(m, w2c_j0, w2c_j1);
       if (w2c_i0) {goto w2c_B13;}
       w2c_j0 = w2c_l23;
       w2c_j1 = w2c_l25;
@@ -87878,7 +88078,7 @@ static u32 w2c_f126(module *m, u64 w2c_p0, u64 w2c_p1, u32 w2c_p2, u32 w2c_p3, u
     w2c_j5 = w2c_p6;
     w2c_j6 = w2c_l25;
     w2c_j5 -= w2c_j6;
-    w2c_j1 = w2c_f90(m, w2c_j1, w2c_j2, w2c_j3, w2c_j4, w2c_j5);
+    w2c_j1 = w2c_f91(m, w2c_j1, w2c_j2, w2c_j3, w2c_j4, w2c_j5);
     w2c_l25 = w2c_j1;
     i64_store(m, (u64)(w2c_i0) + 88, w2c_j1);
     w2c_i0 = w2c_l31;
@@ -87893,7 +88093,7 @@ static u32 w2c_f126(module *m, u64 w2c_p0, u64 w2c_p1, u32 w2c_p2, u32 w2c_p3, u
     w2c_j3 = w2c_l25;
     w2c_j4 = w2c_p0;
     w2c_j5 = w2c_l10;
-    w2c_j1 = w2c_f90(m, w2c_j1, w2c_j2, w2c_j3, w2c_j4, w2c_j5);
+    w2c_j1 = w2c_f91(m, w2c_j1, w2c_j2, w2c_j3, w2c_j4, w2c_j5);
     i64_store(m, (u64)(w2c_i0) + 88, w2c_j1);
     goto w2c_B16;
     w2c_B17:;
@@ -87931,16 +88131,16 @@ static u32 w2c_f126(module *m, u64 w2c_p0, u64 w2c_p1, u32 w2c_p2, u32 w2c_p3, u
     w2c_j1 = w2c_l9;
     w2c_j2 = 288ull;
     w2c_j1 += w2c_j2;
-    w2c_i0 = w2c_f76(m, w2c_j0, w2c_j1);
+    w2c_i0 = w2c_f77(m, w2c_j0, w2c_j1);
     w2c_i0 = !(w2c_i0);
     if (w2c_i0) {goto w2c_B18;}
     w2c_j0 = w2c_p0;
     w2c_j1 = w2c_l10;
-    w2c_i0 = w2c_f77(m, w2c_j0, w2c_j1);
+    w2c_i0 = w2c_f78(m, w2c_j0, w2c_j1);
     if (w2c_i0) {goto w2c_B21;}
     w2c_j0 = w2c_p0;
     w2c_j1 = w2c_l10;
-    w2c_i0 = w2c_f78(m, w2c_j0, w2c_j1);
+    w2c_i0 = w2c_f79(m, w2c_j0, w2c_j1);
     w2c_l27 = w2c_i0;
     w2c_i0 = w2c_l29;
     if (w2c_i0) {goto w2c_B22;}
@@ -88070,7 +88270,7 @@ static u32 w2c_f126(module *m, u64 w2c_p0, u64 w2c_p1, u32 w2c_p2, u32 w2c_p3, u
     w2c_j0 += w2c_j1;
     w2c_j1 = w2c_p0;
     w2c_j2 = w2c_l10;
-    w2c_f79(m, w2c_j0, w2c_j1, w2c_j2);
+    w2c_f80(m, w2c_j0, w2c_j1, w2c_j2);
     w2c_j0 = w2c_l9;
     w2c_i0 = (u32)(w2c_j0);
     w2c_i0 = i32_load8_u(m, (u64)(w2c_i0) + 384u);
@@ -88093,7 +88293,7 @@ static u32 w2c_f126(module *m, u64 w2c_p0, u64 w2c_p1, u32 w2c_p2, u32 w2c_p3, u
     w2c_j6 = i64_load(m, (u64)(w2c_i6) + 400u);
     w2c_l23 = w2c_j6;
     w2c_j5 -= w2c_j6;
-    w2c_j1 = w2c_f90(m, w2c_j1, w2c_j2, w2c_j3, w2c_j4, w2c_j5);
+    w2c_j1 = w2c_f91(m, w2c_j1, w2c_j2, w2c_j3, w2c_j4, w2c_j5);
     i64_store(m, (u64)(w2c_i0) + 88, w2c_j1);
     w2c_j0 = w2c_l9;
     w2c_j1 = 24ull;
@@ -88104,7 +88304,7 @@ static u32 w2c_f126(module *m, u64 w2c_p0, u64 w2c_p1, u32 w2c_p2, u32 w2c_p3, u
     w2c_i2 = w2c_l28;
     w2c_j3 = w2c_l21;
     w2c_j4 = w2c_l23;
-    w2c_f89(m, w2c_j0, w2c_j1, w2c_i2, w2c_j3, w2c_j4);
+    w2c_f90(m, w2c_j0, w2c_j1, w2c_i2, w2c_j3, w2c_j4);
     w2c_j0 = w2c_l9;
     w2c_i0 = (u32)(w2c_j0);
     w2c_i0 = i32_load8_u(m, (u64)(w2c_i0) + 25u);
@@ -88232,7 +88432,7 @@ static u32 w2c_f126(module *m, u64 w2c_p0, u64 w2c_p1, u32 w2c_p2, u32 w2c_p3, u
     w2c_j3 = w2c_l25;
     w2c_j4 = 66428ull;
     w2c_j5 = 1ull;
-    w2c_j1 = w2c_f90(m, w2c_j1, w2c_j2, w2c_j3, w2c_j4, w2c_j5);
+    w2c_j1 = w2c_f91(m, w2c_j1, w2c_j2, w2c_j3, w2c_j4, w2c_j5);
     i64_store(m, (u64)(w2c_i0) + 88, w2c_j1);
     w2c_j0 = w2c_l9;
     w2c_j1 = 40ull;
@@ -88247,7 +88447,7 @@ static u32 w2c_f126(module *m, u64 w2c_p0, u64 w2c_p1, u32 w2c_p2, u32 w2c_p3, u
     w2c_j4 = w2c_l10;
     w2c_j5 = w2c_l21;
     w2c_j4 -= w2c_j5;
-    w2c_f89(m, w2c_j0, w2c_j1, w2c_i2, w2c_j3, w2c_j4);
+    w2c_f90(m, w2c_j0, w2c_j1, w2c_i2, w2c_j3, w2c_j4);
     w2c_j0 = w2c_l9;
     w2c_i0 = (u32)(w2c_j0);
     w2c_i0 = i32_load8_u(m, (u64)(w2c_i0) + 41u);
@@ -88492,7 +88692,7 @@ static u32 w2c_f126(module *m, u64 w2c_p0, u64 w2c_p1, u32 w2c_p2, u32 w2c_p3, u
     w2c_j5 = w2c_l9;
     w2c_i5 = (u32)(w2c_j5);
     w2c_j5 = i64_load(m, (u64)(w2c_i5) + 56u);
-    w2c_j1 = w2c_f90(m, w2c_j1, w2c_j2, w2c_j3, w2c_j4, w2c_j5);
+    w2c_j1 = w2c_f91(m, w2c_j1, w2c_j2, w2c_j3, w2c_j4, w2c_j5);
     i64_store(m, (u64)(w2c_i0) + 88, w2c_j1);
     goto w2c_B16;
     w2c_B21:;
@@ -88712,7 +88912,7 @@ static u32 w2c_f126(module *m, u64 w2c_p0, u64 w2c_p1, u32 w2c_p2, u32 w2c_p3, u
       w2c_j0 += w2c_j1;
       w2c_i1 = w2c_p4;
       w2c_i2 = w2c_l27;
-      w2c_f81(m, w2c_j0, w2c_i1, w2c_i2);
+      w2c_f82(m, w2c_j0, w2c_i1, w2c_i2);
       w2c_j0 = w2c_l22;
       w2c_j1 = w2c_l24;
       w2c_j2 = w2c_l25;
@@ -88722,7 +88922,7 @@ static u32 w2c_f126(module *m, u64 w2c_p0, u64 w2c_p1, u32 w2c_p2, u32 w2c_p3, u
       w2c_j4 = w2c_l9;
       w2c_i4 = (u32)(w2c_j4);
       w2c_j4 = i64_load(m, (u64)(w2c_i4) + 16u);
-      w2c_j0 = w2c_f90(m, w2c_j0, w2c_j1, w2c_j2, w2c_j3, w2c_j4);
+      w2c_j0 = w2c_f91(m, w2c_j0, w2c_j1, w2c_j2, w2c_j3, w2c_j4);
       w2c_l25 = w2c_j0;
       w2c_i0 = w2c_p3;
       w2c_i1 = w2c_p4;
@@ -88771,7 +88971,7 @@ static u32 w2c_f126(module *m, u64 w2c_p0, u64 w2c_p1, u32 w2c_p2, u32 w2c_p3, u
     w2c_i2 = w2c_l28;
     w2c_j3 = w2c_p0;
     w2c_j4 = w2c_l10;
-    w2c_f89(m, w2c_j0, w2c_j1, w2c_i2, w2c_j3, w2c_j4);
+    w2c_f90(m, w2c_j0, w2c_j1, w2c_i2, w2c_j3, w2c_j4);
     w2c_j0 = w2c_l9;
     w2c_i0 = (u32)(w2c_j0);
     w2c_i0 = i32_load8_u(m, (u64)(w2c_i0) + 33u);
@@ -88801,7 +89001,7 @@ static u32 w2c_f126(module *m, u64 w2c_p0, u64 w2c_p1, u32 w2c_p2, u32 w2c_p3, u
     w2c_j3 = w2c_l25;
     w2c_j4 = w2c_p0;
     w2c_j5 = w2c_l10;
-    w2c_j1 = w2c_f90(m, w2c_j1, w2c_j2, w2c_j3, w2c_j4, w2c_j5);
+    w2c_j1 = w2c_f91(m, w2c_j1, w2c_j2, w2c_j3, w2c_j4, w2c_j5);
     i64_store(m, (u64)(w2c_i0) + 88, w2c_j1);
     w2c_B16:;
     w2c_j0 = w2c_l10;
@@ -88847,7 +89047,7 @@ static u32 w2c_f126(module *m, u64 w2c_p0, u64 w2c_p1, u32 w2c_p2, u32 w2c_p3, u
   w2c_j5 = w2c_p1;
   w2c_j6 = w2c_l12;
   w2c_j5 -= w2c_j6;
-  w2c_j1 = w2c_f90(m, w2c_j1, w2c_j2, w2c_j3, w2c_j4, w2c_j5);
+  w2c_j1 = w2c_f91(m, w2c_j1, w2c_j2, w2c_j3, w2c_j4, w2c_j5);
   w2c_p0 = w2c_j1;
   i64_store(m, (u64)(w2c_i0), w2c_j1);
   w2c_i0 = 6u;
@@ -88883,14 +89083,14 @@ static u32 w2c_chinese_quantity_read(module *m, u64 w2c_p0, u64 w2c_p1, u32 w2c_
   w2c_j1 = w2c_p1;
   w2c_i2 = w2c_p2;
   w2c_j3 = w2c_p3;
-  w2c_i0 = w2c_f128(m, w2c_j0, w2c_j1, w2c_i2, w2c_j3);
+  w2c_i0 = w2c_f129(m, w2c_j0, w2c_j1, w2c_i2, w2c_j3);
   w2c_p2 = w2c_i0;
   w2c_f1(m);
   w2c_i0 = w2c_p2;
   return w2c_i0;
 }
 
-static u32 w2c_f128(module *m, u64 w2c_p0, u64 w2c_p1, u32 w2c_p2, u64 w2c_p3) {
+static u32 w2c_f129(module *m, u64 w2c_p0, u64 w2c_p1, u32 w2c_p2, u64 w2c_p3) {
   u32 w2c_l8 = 0;
   u64 w2c_l4 = 0, w2c_l5 = 0, w2c_l6 = 0, w2c_l7 = 0;
   u32 w2c_i0, w2c_i1, w2c_i2, w2c_i3, w2c_i4;
@@ -89374,14 +89574,14 @@ static u32 w2c_chinese_quantity_print(module *m, u64 w2c_p0, u32 w2c_p1, u32 w2c
   w2c_j4 = w2c_p4;
   w2c_j5 = w2c_p5;
   w2c_j6 = w2c_p6;
-  w2c_i0 = w2c_f130(m, w2c_j0, w2c_i1, w2c_i2, w2c_i3, w2c_j4, w2c_j5, w2c_j6);
+  w2c_i0 = w2c_f131(m, w2c_j0, w2c_i1, w2c_i2, w2c_i3, w2c_j4, w2c_j5, w2c_j6);
   w2c_p3 = w2c_i0;
   w2c_f1(m);
   w2c_i0 = w2c_p3;
   return w2c_i0;
 }
 
-static u32 w2c_f130(module *m, u64 w2c_p0, u32 w2c_p1, u32 w2c_p2, u32 w2c_p3, u64 w2c_p4, u64 w2c_p5, u64 w2c_p6) {
+static u32 w2c_f131(module *m, u64 w2c_p0, u32 w2c_p1, u32 w2c_p2, u32 w2c_p3, u64 w2c_p4, u64 w2c_p5, u64 w2c_p6) {
   u32 w2c_l27 = 0, w2c_l28 = 0, w2c_l29 = 0, w2c_l30 = 0, w2c_l31 = 0;
   u64 w2c_l7 = 0, w2c_l8 = 0, w2c_l9 = 0, w2c_l10 = 0, w2c_l11 = 0, w2c_l12 = 0, w2c_l13 = 0, w2c_l14 = 0, w2c_l15 = 0, w2c_l16 = 0, w2c_l17 = 0, w2c_l18 = 0, w2c_l19 = 0, w2c_l20 = 0, w2c_l21 = 0, w2c_l22 = 0, w2c_l23 = 0, w2c_l24 = 0, w2c_l25 = 0, w2c_l26 = 0;
   u32 w2c_i0, w2c_i1, w2c_i2, w2c_i3, w2c_i4, w2c_i5, w2c_i6;
@@ -91221,7 +91421,7 @@ static u32 w2c_f130(module *m, u64 w2c_p0, u32 w2c_p1, u32 w2c_p2, u32 w2c_p3, u
   w2c_i4 = 0u;
   w2c_j5 = w2c_l24;
   w2c_j6 = w2c_l25;
-  w2c_j1 = w2c_f93(m, w2c_j1, w2c_j2, w2c_i3, w2c_i4, w2c_j5, w2c_j6);
+  w2c_j1 = w2c_f94(m, w2c_j1, w2c_j2, w2c_i3, w2c_i4, w2c_j5, w2c_j6);
   w2c_p0 = w2c_j1;
   w2c_j0 -= w2c_j1;
   w2c_l17 = w2c_j0;
@@ -91335,7 +91535,7 @@ static u32 w2c_f130(module *m, u64 w2c_p0, u32 w2c_p1, u32 w2c_p2, u32 w2c_p3, u
   w2c_i3 = 0u;
   w2c_j4 = w2c_l9;
   w2c_j5 = w2c_l7;
-  w2c_j0 = w2c_f93(m, w2c_j0, w2c_j1, w2c_i2, w2c_i3, w2c_j4, w2c_j5);
+  w2c_j0 = w2c_f94(m, w2c_j0, w2c_j1, w2c_i2, w2c_i3, w2c_j4, w2c_j5);
   w2c_l9 = w2c_j0;
   w2c_j0 = w2c_l16;
   w2c_j1 = 112ull;
@@ -91704,7 +91904,7 @@ static u32 w2c_f130(module *m, u64 w2c_p0, u32 w2c_p1, u32 w2c_p2, u32 w2c_p3, u
   w2c_i6 = 0u;
   w2c_j7 = w2c_l7;
   w2c_j8 = w2c_l9;
-  w2c_j3 = w2c_f93(m, w2c_j3, w2c_j4, w2c_i5, w2c_i6, w2c_j7, w2c_j8);
+  w2c_j3 = w2c_f94(m, w2c_j3, w2c_j4, w2c_i5, w2c_i6, w2c_j7, w2c_j8);
   w2c_l16 = w2c_j3;
   w2c_j2 -= w2c_j3;
   w2c_l7 = w2c_j2;
@@ -91924,14 +92124,14 @@ static u32 w2c_chinese_number_read(module *m, u64 w2c_p0, u64 w2c_p1, u32 w2c_p2
   w2c_i2 = w2c_p2;
   w2c_i3 = w2c_p3;
   w2c_j4 = w2c_p4;
-  w2c_i0 = w2c_f132(m, w2c_j0, w2c_j1, w2c_i2, w2c_i3, w2c_j4);
+  w2c_i0 = w2c_f133(m, w2c_j0, w2c_j1, w2c_i2, w2c_i3, w2c_j4);
   w2c_p3 = w2c_i0;
   w2c_f1(m);
   w2c_i0 = w2c_p3;
   return w2c_i0;
 }
 
-static u32 w2c_f132(module *m, u64 w2c_p0, u64 w2c_p1, u32 w2c_p2, u32 w2c_p3, u64 w2c_p4) {
+static u32 w2c_f133(module *m, u64 w2c_p0, u64 w2c_p1, u32 w2c_p2, u32 w2c_p3, u64 w2c_p4) {
   u32 w2c_l8 = 0;
   u64 w2c_l5 = 0, w2c_l6 = 0, w2c_l7 = 0;
   u32 w2c_i0, w2c_i1, w2c_i2, w2c_i3, w2c_i4;
@@ -92068,7 +92268,7 @@ static u32 w2c_f132(module *m, u64 w2c_p0, u64 w2c_p1, u32 w2c_p2, u32 w2c_p3, u
   w2c_i3 = w2c_l8;
   w2c_i4 = w2c_p3;
   w2c_j5 = w2c_p4;
-  w2c_i0 = w2c_f67(m, w2c_j0, w2c_j1, w2c_i2, w2c_i3, w2c_i4, w2c_j5);
+  w2c_i0 = w2c_f68(m, w2c_j0, w2c_j1, w2c_i2, w2c_i3, w2c_i4, w2c_j5);
   w2c_p2 = w2c_i0;
   w2c_j0 = w2c_l5;
   m->w2c_g0 = w2c_j0;
@@ -92081,7 +92281,7 @@ static u32 w2c_f132(module *m, u64 w2c_p0, u64 w2c_p1, u32 w2c_p2, u32 w2c_p3, u
   w2c_i3 = w2c_l8;
   w2c_i4 = w2c_p3;
   w2c_j5 = w2c_p4;
-  w2c_i0 = w2c_f69(m, w2c_j0, w2c_j1, w2c_i2, w2c_i3, w2c_i4, w2c_j5);
+  w2c_i0 = w2c_f70(m, w2c_j0, w2c_j1, w2c_i2, w2c_i3, w2c_i4, w2c_j5);
   w2c_p2 = w2c_i0;
   w2c_j0 = w2c_l5;
   m->w2c_g0 = w2c_j0;
@@ -92092,7 +92292,7 @@ static u32 w2c_f132(module *m, u64 w2c_p0, u64 w2c_p1, u32 w2c_p2, u32 w2c_p3, u
   w2c_j1 = w2c_p1;
   w2c_i2 = w2c_p2;
   w2c_j3 = w2c_p4;
-  w2c_i0 = w2c_f70(m, w2c_j0, w2c_j1, w2c_i2, w2c_j3);
+  w2c_i0 = w2c_f71(m, w2c_j0, w2c_j1, w2c_i2, w2c_j3);
   w2c_p2 = w2c_i0;
   w2c_j0 = w2c_l5;
   m->w2c_g0 = w2c_j0;
@@ -92104,7 +92304,7 @@ static u32 w2c_f132(module *m, u64 w2c_p0, u64 w2c_p1, u32 w2c_p2, u32 w2c_p3, u
   w2c_i2 = w2c_p2;
   w2c_i3 = w2c_p3;
   w2c_j4 = w2c_p4;
-  w2c_i0 = w2c_f94(m, w2c_j0, w2c_j1, w2c_i2, w2c_i3, w2c_j4);
+  w2c_i0 = w2c_f95(m, w2c_j0, w2c_j1, w2c_i2, w2c_i3, w2c_j4);
   w2c_p2 = w2c_i0;
   w2c_j0 = w2c_l5;
   m->w2c_g0 = w2c_j0;
@@ -92155,14 +92355,14 @@ static u32 w2c_chinese_number_print(module *m, u64 w2c_p0, u64 w2c_p1, u32 w2c_p
   w2c_j6 = w2c_p6;
   w2c_j7 = w2c_p7;
   w2c_j8 = w2c_p8;
-  w2c_i0 = w2c_f134(m, w2c_j0, w2c_j1, w2c_i2, w2c_i3, w2c_i4, w2c_i5, w2c_j6, w2c_j7, w2c_j8);
+  w2c_i0 = w2c_f135(m, w2c_j0, w2c_j1, w2c_i2, w2c_i3, w2c_i4, w2c_i5, w2c_j6, w2c_j7, w2c_j8);
   w2c_p5 = w2c_i0;
   w2c_f1(m);
   w2c_i0 = w2c_p5;
   return w2c_i0;
 }
 
-static u32 w2c_f134(module *m, u64 w2c_p0, u64 w2c_p1, u32 w2c_p2, u32 w2c_p3, u32 w2c_p4, u32 w2c_p5, u64 w2c_p6, u64 w2c_p7, u64 w2c_p8) {
+static u32 w2c_f135(module *m, u64 w2c_p0, u64 w2c_p1, u32 w2c_p2, u32 w2c_p3, u32 w2c_p4, u32 w2c_p5, u64 w2c_p6, u64 w2c_p7, u64 w2c_p8) {
   u32 w2c_l16 = 0, w2c_l17 = 0, w2c_l18 = 0, w2c_l19 = 0, w2c_l20 = 0;
   u64 w2c_l9 = 0, w2c_l10 = 0, w2c_l11 = 0, w2c_l12 = 0, w2c_l13 = 0, w2c_l14 = 0, w2c_l15 = 0;
   u32 w2c_i0, w2c_i1, w2c_i2, w2c_i3, w2c_i4;
@@ -92819,7 +93019,7 @@ static u32 w2c_f134(module *m, u64 w2c_p0, u64 w2c_p1, u32 w2c_p2, u32 w2c_p3, u
   w2c_i3 = w2c_l20;
   w2c_j4 = w2c_p6;
   w2c_j5 = w2c_p0;
-  w2c_j0 = w2c_f93(m, w2c_j0, w2c_j1, w2c_i2, w2c_i3, w2c_j4, w2c_j5);
+  w2c_j0 = w2c_f94(m, w2c_j0, w2c_j1, w2c_i2, w2c_i3, w2c_j4, w2c_j5);
   w2c_p0 = w2c_j0;
   w2c_B12:;
   w2c_j0 = w2c_p8;
@@ -93393,7 +93593,7 @@ static u32 w2c_f134(module *m, u64 w2c_p0, u64 w2c_p1, u32 w2c_p2, u32 w2c_p3, u
   w2c_i3 = 0u;
   w2c_j4 = w2c_p0;
   w2c_j5 = w2c_p1;
-  w2c_j0 = w2c_f93(m, w2c_j0, w2c_j1, w2c_i2, w2c_i3, w2c_j4, w2c_j5);
+  w2c_j0 = w2c_f94(m, w2c_j0, w2c_j1, w2c_i2, w2c_i3, w2c_j4, w2c_j5);
   w2c_p1 = w2c_j0;
   w2c_B26:;
   w2c_j0 = w2c_p8;
