@@ -357,8 +357,8 @@ declare class Refusal extends Error {
   /** For 'incorrect': how many characters come before the wrong one. */
   charIndex: number | undefined;
   /**
-   * For 'incorrect': where it starts in the string, in UTF-16 code units, as setSelectionRange and
-   * slice take it.
+   * For 'incorrect': where it starts in the string, in UTF-16 code units, as setSelectionRange
+   * and slice take it.
    */
   start: number | undefined;
   /** For 'incorrect': where it ends, likewise. */
@@ -571,7 +571,8 @@ export class Found extends Span {
 /** An expression in a text, as findQuantities yields it. */
 export class FoundQuantity extends Span {
   /**
-   * Why a reader may understand it as something other than its quantity, or null: 'digits' for 五一.
+   * Why a reader may understand it as something other than its quantity, or null: 'digits' for
+   * 五一.
    * @type {Doubt | null}
    */
   doubt: Doubt | null;
