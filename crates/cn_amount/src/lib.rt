@@ -21,8 +21,10 @@
 mod before;
 mod capital;
 mod error;
+mod expect;
 mod form;
 pub mod laws;
+mod listed;
 mod places;
 mod progress;
 mod put;
@@ -34,6 +36,7 @@ mod typed;
 mod write;
 
 pub use error::{AmountToChineseError, ChineseToAmountError};
+pub use expect::{amount_expected, signed_amount_expected, typed_amount_expected};
 pub use form::AmountForm;
 pub use read::{chinese_to_amount, chinese_to_amount_as_typed, chinese_to_signed_amount};
 pub use write::{

@@ -11,7 +11,9 @@
 mod capital;
 mod date;
 mod error;
+mod expect;
 pub mod laws;
+mod listed;
 mod part;
 mod put;
 mod read;
@@ -20,5 +22,6 @@ mod write;
 
 pub use date::BillDate;
 pub use error::{ChineseToDateError, DateToChineseError};
+pub use expect::date_expected;
 pub use read::chinese_to_date;
 pub use write::{date_text, date_to_chinese};

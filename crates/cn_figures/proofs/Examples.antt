@@ -5,6 +5,10 @@ use Rattle.std.specs.List.{list_all}
 use Rattle.cn_capitals.specs.declared.refusal.Refusal.TheVariants.{Unfinished, Incorrect}
 use Rattle.cn_capitals.specs.Answers.{Answers}
 use Rattle.cn_capitals.specs.Machine.{Leads}
+use Rattle.cn_capitals.specs.Expected.{IsExpected}
+use Rattle.cn_capitals.proofs.Following.{expected-is}
+use Rattle.cn_figures.specs.declared.listed.TheConstants.{CHARACTERS}
+use Rattle.cn_figures.proofs.CharactersListed.{figures-listed}
 use Rattle.cn_capitals.proofs.Reading.{unfinished-read, place-refused}
 use Rattle.cn_core.specs.Figures.{figure_of}
 use Rattle.cn_figures.specs.declared.part.Part.TheVariants.{Digit}
@@ -145,3 +149,20 @@ long_front = incorrect (codes "1234") 44 4 (at Many (Some 123400)) refl refl ref
 third_place : Answers WriteAmount (codes "15.005") (Err (Incorrect 5))
 unfolding part_of figure_of
 third_place = incorrect (codes "15.00") 53 5 (at Fen (Some 1500)) refl refl refl
+
+-- what may come next: after 15.00 more zeros, and nothing else
+zeros_follow : IsExpected WriteAmount (codes "15.005") (record {
+  char_index = 5;
+  may_end = true;
+  characters = record { buffer = codes "0０"; len = 2; within = omega arith };
+  white_space = false;
+})
+unfolding part_of figure_of
+zeros_follow =
+    expected-is WriteAmount figures_machine figures-read CHARACTERS false figures-listed
+    (codes "15.005") (codes "5") figures_machine.begin (at Fen (Some 1500)) _ refl (record {
+      front = codes "15.00";
+      is = refl;
+      counts = refl;
+      runs = refl;
+    }) refl refl refl refl
