@@ -29,6 +29,7 @@ mod places;
 mod progress;
 mod put;
 mod read;
+mod repair;
 mod signed;
 mod state;
 mod sum;
@@ -39,6 +40,7 @@ pub use error::{AmountToChineseError, ChineseToAmountError};
 pub use expect::{amount_expected, signed_amount_expected, typed_amount_expected};
 pub use form::AmountForm;
 pub use read::{chinese_to_amount, chinese_to_amount_as_typed, chinese_to_signed_amount};
+pub use repair::{amount_repair, signed_amount_repair, typed_amount_repair};
 pub use write::{
     AMOUNT_LIMIT, amount_text, amount_to_chinese, amount_to_chinese_as, signed_amount_text,
     signed_amount_to_chinese,

@@ -1,3 +1,4 @@
+pub mod Changing
 pub mod Characters
 pub mod Following
 pub mod Lists

@@ -19,8 +19,8 @@ pub struct Expected {
     pub white_space: bool,
 }
 
-// The characters that may come next at a state.
-fn next_characters<G: Listed>(state: G) -> CharacterList
+/// The characters that may come next at a state.
+pub fn next_characters<G: Listed>(state: G) -> CharacterList
     requires reached { Reached G.machine state }
     requires listed { IsListed G.characters G.white_space G.machine }
     ensures { list_of result ≡ filter (λ c. is_some (G.machine.step state c)) G.characters }

@@ -9,12 +9,16 @@
 
 mod character_list;
 mod expecting;
+mod fault;
 mod grammar;
+mod hint;
 pub mod laws;
 mod listed;
+mod look_alikes;
 mod partial;
 mod reader;
 mod refusal;
+mod repairing;
 mod sign;
 mod table;
 mod text;
@@ -23,9 +27,11 @@ mod written;
 pub use character_list::CharacterList;
 pub use expecting::{Expected, expected_next};
 pub use grammar::Grammar;
+pub use hint::{Hint, Repair};
 pub use listed::Listed;
 pub use reader::read;
 pub use refusal::Refusal;
+pub use repairing::find_repair;
 pub use sign::Front;
 pub use table::known_in;
 pub use text::CapitalText;

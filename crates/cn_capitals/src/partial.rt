@@ -1,5 +1,5 @@
 // Reads a part of a text.
-ghost use Rattle.std.specs.Prelude.{◌≤◌, chars, length};
+ghost use Rattle.std.specs.Prelude.{◌+◌, ◌≤◌, chars, length};
 ghost use Rattle.cn_capitals.specs.Machine.{Reached};
 ghost use Rattle.cn_capitals.specs.Working.ReadOn.{IsReadOn};
 
@@ -23,7 +23,7 @@ pub fn read_on<'a, G: Grammar>(state: G, text: &'a str, most: usize) -> Partial<
     requires { Reached G.machine state }
     ensures read { IsReadOn G.machine state (chars text.now) most
         result.state result.count (chars result.rest.now) }
-    ensures short { result.count ≤ length text.now }
+    ensures short { result.count + length result.rest.now ≤ length text.now }
 {
     let mut state = state;
     let mut count = 0;

@@ -17,6 +17,7 @@ mod listed;
 mod part;
 mod put;
 mod read;
+mod repair;
 mod state;
 mod write;
 
@@ -24,4 +25,5 @@ pub use date::BillDate;
 pub use error::{ChineseToDateError, DateToChineseError};
 pub use expect::date_expected;
 pub use read::chinese_to_date;
+pub use repair::date_repair;
 pub use write::{date_text, date_to_chinese};
