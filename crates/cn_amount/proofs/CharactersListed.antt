@@ -1,5 +1,6 @@
 -- The list of characters has each character that an amount of each kind has.
-use Rattle.std.proofs.Common.{◌≡◌, ℕ, IsTrue, Bool, true, false, not, ◌&&◌, ◌||◌, None, refl, if◌then◌else◌, arith}
+use Rattle.std.proofs.Common.{◌≡◌, ℕ, ◌≤◌, List, length, take, IsTrue, Bool, true, false, not, ◌&&◌, ◌||◌, refl, if◌then◌else◌, arith}
+use Rattle.std.specs.List.{list_all}
 use Rattle.std.specs.Char.{char_set_contains, is_whitespace}
 use Rattle.std.proofs.lemmas.Bool.{or_left, or_right}
 use Rattle.cn_capitals.specs.Expected.{IsListed}
@@ -7,6 +8,7 @@ use Rattle.cn_capitals.proofs.Lists.{classes-listed, sifted-listed}
 use Rattle.cn_capitals.proofs.LookUp.{none-in, none-with}
 use Rattle.cn_capitals.proofs.Signs.{left-out}
 use Rattle.cn_capitals.specs.declared.sign.Front.TheVariants.{Open}
+use Rattle.cn_amount.specs.declared.capital.Capital.{Capital}
 use Rattle.cn_amount.specs.declared.listed.TheConstants.{CHARACTERS}
 use Rattle.cn_amount.specs.declared.typed.Seen.{Seen}
 use Rattle.cn_amount.specs.declared.typed.Seen.TheVariants.{Nothing, Circle, Ren, Min, Currency, Rest}
@@ -19,18 +21,23 @@ use Rattle.cn_amount.specs.Working.Typing as typing
 use Rattle.cn_amount.proofs.SignedReads.{signs-sifted}
 use Rattle.cn_amount.proofs.TypedReads.{typed-sifted}
 
-others : (c : ℕ) → char_set_contains CHARACTERS c ≡ false → capital_of c ≡ None
+-- a list that has the characters of each row
+listed-in : (characters : List ℕ) → length characters ≤ 40
+    → list_all (λ (row : List ℕ × Capital). list_all (char_set_contains characters) row.0)
+    capital_rows ≡ true
+    → IsListed characters false amount_machine
 unfolding capital_of
-others c h = none-with (char_set_contains CHARACTERS) c capital_rows refl h
+listed-in characters few all = classes-listed amount_machine advance capital_of characters
+    (λ state c. refl) few (λ c h. none-with (char_set_contains characters) c capital_rows all h)
 
-pub amounts-listed : IsListed CHARACTERS false amount_machine
-amounts-listed = classes-listed amount_machine advance capital_of CHARACTERS (λ state c. refl)
-    (omega arith) others
+pub amounts-listed : IsListed (take 32 CHARACTERS) false amount_machine
+amounts-listed = listed-in (take 32 CHARACTERS) (omega arith) refl
 
-pub signed-listed : IsListed CHARACTERS false signed_machine
+pub signed-listed : IsListed (take 34 CHARACTERS) false signed_machine
 signed-listed = sifted-listed sign_sieve both signed_value amount_machine signed_machine Open
-    signs-sifted (λ state. (state.front, state.progress, refl)) CHARACTERS false amounts-listed
-    (left-out minus_signs CHARACTERS refl) (λ e front c h. absurd (cc))
+    signs-sifted (λ state. (state.front, state.progress, refl)) (take 34 CHARACTERS) false
+    (listed-in (take 34 CHARACTERS) (omega arith) refl)
+    (left-out minus_signs (take 34 CHARACTERS) refl) (λ e front c h. absurd (cc))
 
 -- what a typed amount may have besides is in the list
 known : (cs : Bool) (c : ℕ) → char_set_contains (if cs then circle else colons) c ≡ true
@@ -56,7 +63,7 @@ left-known Rest c h = absurd (cc)
 pub typed-listed : IsListed CHARACTERS true typing.typed_machine
 typed-listed = sifted-listed typing.typed_sieve typing.both (λ seen (fen : ℕ). fen) amount_machine
     typing.typed_machine Nothing typed-sifted (λ state. (state.seen, state.progress, refl))
-    CHARACTERS true amounts-listed left blank where
+    CHARACTERS true (listed-in CHARACTERS (omega arith) refl) left blank where
       left : (seen : Seen) (c : ℕ) → typing.typed_sieve.keeps seen c ≡ false
           → IsTrue (char_set_contains CHARACTERS c || (true && is_whitespace c))
       left seen c h = by (is_whitespace c) (typing.leaves_out seen c) refl refl h where

@@ -1,6 +1,7 @@
 // The changes that are tried at a fault.
 use crate::look_alikes::{capital_for, carries_a_value, figure_for, is_digit, mean_the_same};
 use crate::{CharacterList, Hint, Repair};
+use cn_core::{is_figure, is_share_sign};
 
 /// A fault: the first character with which a text no longer begins a form, or its end.
 #[derive(Drop)]
@@ -89,12 +90,13 @@ impl Fault {
         if is_digit(only) { None } else { Some(only) }
     }
 
+    // The only character with which a form can go on, inserted.
     fn insert_only(&self) -> Option<Hint> {
         self.here(Repair::Insert(self.only_unit()?))
     }
 
     // Without a 零 or 整 that is `back` characters before the fault. A 零 stays if the fault is a
-    // digit, since it may then be a digit too, as in a year.
+    // digit, since the 零 may then be a digit of a year.
     fn delete_earlier(&self, back: usize, character: Option<char>) -> Option<Hint> {
         let is_spare = match character? {
             '零' => !is_digit(self.character?),
@@ -116,7 +118,7 @@ impl Fault {
             '零' | '整' | '正' => true,
             _ if is_digit(character) => false,
             _ if self.is_repeated(character) => true,
-            _ => !self.is_known && !carries_a_value(character),
+            _ => !self.is_known && !carries_a_value(character) && !self.is_multiple(character),
         };
         if is_spare {
             self.here(Repair::Delete)
@@ -125,6 +127,16 @@ impl Fault {
         }
     }
 
+    // Whether a character after figures may stand for a multiple or a share of them, such as k or %.
+    fn is_multiple(&self, character: char) -> bool {
+        let follows = match self.before {
+            Some(before) => is_figure(before),
+            None => false,
+        };
+        follows && (character.is_ascii_alphabetic() || is_share_sign(character))
+    }
+
+    // Whether the character before means the same.
     fn is_repeated(&self, character: char) -> bool {
         match self.before {
             Some(before) => mean_the_same(before, character),
@@ -132,7 +144,7 @@ impl Fault {
         }
     }
 
-    // The only character with which a form can go on in place of one that carries no digit.
+    // The only character with which a form can go on, in place of one that is not a digit.
     fn replace_by_only(&self) -> Option<Hint> {
         if is_digit(self.character?) {
             return None;
@@ -140,24 +152,26 @@ impl Fault {
         self.here(Repair::Replace(self.only_unit()?))
     }
 
-    // 一 → 壹, 块 → 元
+    // 壹 in place of 一, 元 in place of 块.
     fn replace_by_capital(&self) -> Option<Hint> {
         self.here(Repair::Replace(capital_for(self.character?)?))
     }
 
-    // O → 0, 。 → .
+    // 0 in place of O, a point in place of 。
     fn replace_by_figure(&self) -> Option<Hint> {
         self.here(Repair::Replace(figure_for(self.character?)?))
     }
 
-    /// The changes that are tried, the first one first.
+    /// The changes that are tried, the first one first. `find_repair` describes them.
     pub fn candidates(&self) -> [Option<Hint>; 12] {
         [
             self.replace_by_capital(),
             self.replace_by_figure(),
-            // 壹佰贰元 → 壹佰零贰元, 零贰月拾 → 零贰月零拾, 零壹拾月贰拾日 → 零壹拾月零贰拾日
+            // 壹佰贰元 → 壹佰零贰元
             self.earlier(1, Repair::Insert('零')),
+            // 零肆月叁拾日 → 零肆月零叁拾日
             self.here(Repair::Insert('零')),
+            // 零壹拾月贰拾日 → 零壹拾月零贰拾日
             self.earlier(2, Repair::Insert('零')),
             // 拾伍元 → 壹拾伍元
             self.insert_one(),

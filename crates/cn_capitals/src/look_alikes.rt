@@ -1,8 +1,8 @@
 // Characters that people type in place of those of a form.
-use cn_core::{is_figure, is_share_sign};
+use cn_core::is_figure;
 
-/// The capital that a character is typed for: one of the same meaning, as 壹 for 一 and for １, and
-/// 元 for 块 and for 圓; `None` if there is none, or if it is that capital itself.
+/// The capital that a character is typed for: one of the same meaning, such as 壹 for 一 and for １,
+/// or 元 for 块 and for 圓; `None` if there is none, or if it is that capital itself.
 pub fn capital_for(character: char) -> Option<char> {
     match character {
         '〇' | '○' | 'O' | 'o' | '0' | '０' => Some('零'),
@@ -29,7 +29,7 @@ pub fn capital_for(character: char) -> Option<char> {
     }
 }
 
-/// The character of figures that a character is typed for, as 0 for O; `None` if there is none.
+/// The character of figures that a character is typed for, such as 0 for O; `None` if there is none.
 pub fn figure_for(character: char) -> Option<char> {
     match character {
         'O' | 'o' => Some('0'),
@@ -45,7 +45,7 @@ fn capital(character: char) -> char {
     capital_for(character).unwrap_or(character)
 }
 
-/// Whether two characters mean the same, as 元 and 圆.
+/// Whether two characters mean the same, such as 元 and 圆.
 pub fn mean_the_same(one: char, other: char) -> bool {
     capital(one) == capital(other)
 }
@@ -58,14 +58,12 @@ pub fn is_digit(character: char) -> bool {
     ) || is_figure(character)
 }
 
-/// Whether an amount without a character has another value: a digit, a minus sign, a unit other
-/// than 元, and what is typed beside figures for a multiple or a share of them, as k or %.
+/// Whether an amount without a character has another value: it is a digit, a minus sign, or a unit
+/// other than 元.
 pub fn carries_a_value(character: char) -> bool {
     is_digit(character)
         || matches!(
             capital(character),
             '拾' | '佰' | '仟' | '万' | '亿' | '角' | '分' | '负'
         )
-        || character.is_ascii_alphabetic()
-        || is_share_sign(character)
 }

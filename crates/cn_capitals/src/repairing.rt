@@ -84,9 +84,25 @@ fn is_end(text: &str) -> bool
     }
 }
 
+// Whether a text begins with a character that forms have.
+fn is_known<G: Listed>(text: &str) -> bool {
+    match split_first_char(text) {
+        Some((character, _)) => G::characters().contains(&character),
+        None => false,
+    }
+}
+
+// Whether so many characters are read that the text goes on past a place. If it stops right there,
+// this must not be at a character that forms have: the change would only move the fault.
+fn goes_on<G: Listed>(count: usize, past: usize, rest: &str) -> bool
+    ensures { result ≡ true → past ≤ count }
+{
+    count > past || (count == past && !is_known::<G>(rest))
+}
+
 // Whether a change takes the text past its fault. A text without a fault, which only ends too soon,
 // must become a form.
-fn works<G: Grammar>(text: &str, fault: usize, ends: bool, hint: Hint) -> bool
+fn works<G: Listed>(text: &str, fault: usize, ends: bool, hint: Hint) -> bool
     requires reads { Reads G.is_form G.machine }
     requires fault { fault < 2 ^ 63 }
     ensures { result ≡ true → Works G.is_form (chars text.now) fault ends hint }
@@ -100,11 +116,11 @@ fn works<G: Grammar>(text: &str, fault: usize, ends: bool, hint: Hint) -> bool
     if is_end(read.rest) {
         return !ends || read.state.end().is_some();
     }
-    !ends && read.count >= past(fault, hint)
+    !ends && goes_on::<G>(read.count, past(fault, hint), read.rest)
 }
 
 // The first of some changes that takes the text past its fault.
-fn first_working<G: Grammar>(
+fn first_working<G: Listed>(
     text: &str,
     fault: usize,
     ends: bool,
@@ -128,7 +144,23 @@ fn first_working<G: Grammar>(
 /// form; `None` if no change that is tried does that, or if the text is a form. No memory is
 /// allocated.
 ///
-/// `candidates` of the module `fault` lists the changes in the order in which they are tried.
+/// The fault is the first character with which no form begins, or the end of the text. The first of
+/// these changes is returned after which the text is right up to what became of the fault, or up to
+/// the character after a fault that is deleted, and if it stops right there, then not at a
+/// character that forms have. A text without a fault, which only ends too soon, must become a form.
+///
+/// 1. The fault is replaced by the capital or figure for which it is typed, such as 一 by 壹.
+/// 2. 零 is inserted one character before the fault, before the fault, or two characters before it.
+/// 3. 壹 is inserted before a 拾.
+/// 4. 整 is inserted at the end of the text.
+/// 5. The only character with which a form can go on is inserted before the fault, unless it is a
+///    digit.
+/// 6. A 零 or 整 two characters before the fault is deleted, or one directly before it; but no 零 if
+///    the fault is a digit.
+/// 7. The fault is deleted: a 零 or 整; a character that means the same as the one before it; or one
+///    that no form has, unless it may change the value. A digit is never deleted.
+/// 8. The fault is replaced by the only character with which a form can go on, unless one of them is
+///    a digit.
 pub fn find_repair<G: Listed>(text: &str) -> Option<Hint>
     requires reads { Reads G.is_form G.machine }
     requires listed { IsListed G.characters G.white_space G.machine }

@@ -1,5 +1,5 @@
 -- The list of characters has each character that figures have, with or without a minus before them.
-use Rattle.std.proofs.Common.{◌≡◌, ℕ, Bool, true, false, List, [], ◌∷◌, length, nat_lt, option_map, Some, None, refl, ap, codes, if◌then◌else◌, arith}
+use Rattle.std.proofs.Common.{◌≡◌, ℕ, ◌≤◌, take, Bool, true, false, List, [], ◌∷◌, length, nat_lt, option_map, Some, None, refl, ap, codes, if◌then◌else◌, arith}
 use Rattle.std.specs.List.{list_all, position_or_len}
 use Rattle.cn_core.proofs.Fronts.{and-left, and-right}
 use Rattle.cn_figures.specs.declared.part.Part.TheVariants.{Digit}
@@ -27,27 +27,52 @@ none-at is c (row ∷ rows) all other =
     let rest = none-at is c rows (and-right (list_all is row) _ all) other in
     rw first (omega (arith, rest))
 
-no-figure : (c : ℕ) → char_set_contains CHARACTERS c ≡ false → figure_of c ≡ None
+-- a list that has the characters of figures
+record HasParts (characters : List ℕ) : Type 0 where
+  few : length characters ≤ 40
+  currency : list_all (char_set_contains characters) (codes "¥￥") ≡ true
+  comma : list_all (char_set_contains characters) (codes ",，") ≡ true
+  point : list_all (char_set_contains characters) (codes ".．") ≡ true
+  figure : list_all (λ row. list_all (char_set_contains characters) row) figure_rows ≡ true
+
+no-figure : (characters : List ℕ) → HasParts characters → (c : ℕ)
+    → char_set_contains characters c ≡ false → figure_of c ≡ None
 unfolding figure_of
-no-figure c h = ap (λ count. if nat_lt count 10 then Some count else None)
-    (none-at (char_set_contains CHARACTERS) c figure_rows refl h)
+no-figure characters all c h = ap (λ count. if nat_lt count 10 then Some count else None)
+    (none-at (char_set_contains characters) c figure_rows all.figure h)
 
-others : (c : ℕ) → char_set_contains CHARACTERS c ≡ false → part_of c ≡ None
+others : (characters : List ℕ) → HasParts characters → (c : ℕ)
+    → char_set_contains characters c ≡ false → part_of c ≡ None
 unfolding part_of
-others c h =
+others characters all c h =
     let currency : is_currency c ≡ false =
-    none-in (char_set_contains CHARACTERS) c (codes "¥￥") refl h in
+    none-in (char_set_contains characters) c (codes "¥￥") all.currency h in
     let comma : is_comma c ≡ false =
-    none-in (char_set_contains CHARACTERS) c (codes ",，") refl h in
+    none-in (char_set_contains characters) c (codes ",，") all.comma h in
     let point : is_figure_point c ≡ false =
-    none-in (char_set_contains CHARACTERS) c (codes ".．") refl h in
-    rw (currency, comma, point) (ap (option_map Digit) (no-figure c h))
+    none-in (char_set_contains characters) c (codes ".．") all.point h in
+    rw (currency, comma, point) (ap (option_map Digit) (no-figure characters all c h))
 
-pub figures-listed : IsListed CHARACTERS false figures_machine
-figures-listed = classes-listed figures_machine advance part_of CHARACTERS (λ state c. refl)
-    (omega arith) others
+listed-in : (characters : List ℕ) → HasParts characters → IsListed characters false figures_machine
+listed-in characters all = classes-listed figures_machine advance part_of characters
+    (λ state c. refl) all.few (others characters all)
+
+pub figures-listed : IsListed (take 26 CHARACTERS) false figures_machine
+figures-listed = listed-in (take 26 CHARACTERS) (record {
+  few = omega arith;
+  currency = refl;
+  comma = refl;
+  point = refl;
+  figure = refl;
+})
 
 pub signed-listed : IsListed CHARACTERS false signed_machine
 signed-listed = sifted-listed sign_sieve both signed_value figures_machine signed_machine Open
-    signs-sifted (λ state. (state.front, state.progress, refl)) CHARACTERS false figures-listed
-    (left-out minus_signs CHARACTERS refl) (λ e front c h. absurd (cc))
+    signs-sifted (λ state. (state.front, state.progress, refl)) CHARACTERS false
+    (listed-in CHARACTERS (record {
+      few = omega arith;
+      currency = refl;
+      comma = refl;
+      point = refl;
+      figure = refl;
+    })) (left-out minus_signs CHARACTERS refl) (λ e front c h. absurd (cc))

@@ -1,11 +1,14 @@
 -- Worked examples: the values that the definitions compute.
-use Rattle.std.proofs.Common.{◌≡◌, ℕ, ◌+◌, ◌*◌, ◌<◌, ◌≤◌, ◌==◌, ◌⊎◌, inl, inr, Bool, true, false, List, [], ◌∷◌, ◌++◌, length, map, drop, Some, None, Err, codes, refl, arith}
+use Rattle.std.proofs.Common.{◌≡◌, ℕ, ◌+◌, ◌*◌, ◌<◌, ◌≤◌, ◌==◌, ◌⊎◌, inl, inr, Bool, true, false, List, [], ◌∷◌, ◌++◌, length, map, take, drop, Some, None, Err, codes, refl, arith}
 use Rattle.std.specs.Prelude.{IsTrue, pos, neg_ℤ}
 use Rattle.std.specs.List.{list_all}
 use Rattle.cn_capitals.specs.declared.refusal.Refusal.TheVariants.{Unfinished, Incorrect}
 use Rattle.cn_capitals.specs.Answers.{Answers}
 use Rattle.cn_capitals.specs.Machine.{Leads}
 use Rattle.cn_capitals.specs.Expected.{IsExpected}
+use Rattle.cn_capitals.specs.Repairs.{IsRepair}
+use Rattle.cn_capitals.specs.declared.hint.Repair.TheVariants.{Replace}
+use Rattle.cn_capitals.proofs.Changing.{repair-is}
 use Rattle.cn_capitals.proofs.Following.{expected-is}
 use Rattle.cn_figures.specs.declared.listed.TheConstants.{CHARACTERS}
 use Rattle.cn_figures.proofs.CharactersListed.{figures-listed}
@@ -13,7 +16,7 @@ use Rattle.cn_capitals.proofs.Reading.{unfinished-read, place-refused}
 use Rattle.cn_core.specs.Figures.{figure_of}
 use Rattle.cn_figures.specs.declared.part.Part.TheVariants.{Digit}
 use Rattle.cn_figures.specs.declared.progress.Progress.{Progress}
-use Rattle.cn_figures.specs.declared.state.State.TheVariants.{Beginning, Many, AfterComma, CommaThree, AfterPoint, Fen}
+use Rattle.cn_figures.specs.declared.state.State.TheVariants.{Beginning, One, Two, Many, AfterComma, CommaThree, AfterPoint, Fen}
 use Rattle.cn_figures.specs.Figures.{value_of, Triple, with_commas, digits_of, marked, pointed, fen_of, IsFigures, WriteAmount, WriteSignedAmount}
 use Rattle.cn_figures.specs.Parts.{part_of, parts_of}
 use Rattle.cn_figures.specs.Working.Steps.{figures_machine}
@@ -159,10 +162,27 @@ zeros_follow : IsExpected WriteAmount (codes "15.005") (record {
 })
 unfolding part_of figure_of
 zeros_follow =
-    expected-is WriteAmount figures_machine figures-read CHARACTERS false figures-listed
+    expected-is WriteAmount figures_machine figures-read (take 26 CHARACTERS) false figures-listed
     (codes "15.005") (codes "5") figures_machine.begin (at Fen (Some 1500)) _ refl (record {
       front = codes "15.00";
       is = refl;
       counts = refl;
       runs = refl;
     }) refl refl refl refl
+
+-- one change: 0 in place of O
+zero_for_o : IsRepair WriteAmount (codes "1O5") (record { char_index = 1; repair = Replace 48 })
+unfolding part_of figure_of
+zero_for_o =
+    repair-is WriteAmount figures_machine figures-read (codes "1O5") (codes "O5")
+    figures_machine.begin (at One (Some 100)) 1 false true _ refl (record {
+      front = codes "1";
+      is = refl;
+      counts = refl;
+      runs = refl;
+    }) refl (omega arith) refl (λ e. absurd (cc)) (record {
+      place = omega arith;
+      has_place = omega arith;
+      goes_on = figures-read.begins (codes "10") (at Two (Some 1000)) refl;
+      form = λ e. absurd (cc);
+    })
