@@ -1,6 +1,8 @@
 -- Worked examples: the values that the definitions compute. The marked ones are from the rules of
 -- the banks.
 use Rattle.std.proofs.Common.{◌≡◌, ◌-◌, ◌^◌, pos, negsuc, Bool, true, false, ◌∷◌, map, Some, refl, codes}
+use Rattle.cn_capitals.specs.Repairs.{repaired, past}
+use Rattle.cn_capitals.specs.declared.hint.Repair.TheVariants.{Insert, Replace, Delete}
 use Rattle.cn_core.specs.declared.script.ChineseVariant.TheVariants.{Traditional, Simple}
 use Rattle.cn_core.specs.Characters.{digit_char, minus_char, unit_char}
 use Rattle.cn_core.specs.Whole.{signed_number}
@@ -220,3 +222,26 @@ second_colon_stays = refl
 
 colon_elsewhere_stays : regular (codes "壹拾:伍元整") ≡ codes "壹拾:伍元整"
 colon_elsewhere_stays = refl
+
+-- texts after one change
+ling_inserted : repaired (record { char_index = 2; repair = Insert 0x96F6 }) (codes "壹佰贰元整")
+    ≡ codes "壹佰零贰元整"
+ling_inserted = refl
+
+yuan_replaced : repaired (record { char_index = 2; repair = Replace 0x5143 }) (codes "伍佰块整")
+    ≡ codes "伍佰元整"
+yuan_replaced = refl
+
+ling_deleted : repaired (record { char_index = 2; repair = Delete }) (codes "捌佰零伍拾元整")
+    ≡ codes "捌佰伍拾元整"
+ling_deleted = refl
+
+-- how much of them must begin an amount: 壹佰零贰元, 伍佰元, 捌佰伍拾
+past_inserted : past 3 (record { char_index = 2; repair = Insert 0x96F6 }) ≡ 5
+past_inserted = refl
+
+past_replaced : past 2 (record { char_index = 2; repair = Replace 0x5143 }) ≡ 3
+past_replaced = refl
+
+past_deleted : past 4 (record { char_index = 2; repair = Delete }) ≡ 4
+past_deleted = refl

@@ -1,6 +1,7 @@
 pub mod Accepted
 pub mod AmountCharacters
 pub mod CapitalTable
+pub mod CharactersListed
 pub mod Examples
 pub mod FormsRead
 pub mod FormsShown

@@ -143,7 +143,7 @@ stands-behind text behind fen h =
           (and-right (list_all is_plain front) _ all),
     )
 
-typed-sifted : IsSifted typed_sieve both (λ seen (fen : ℕ). fen) amount_machine typed_machine
+pub typed-sifted : IsSifted typed_sieve both (λ seen (fen : ℕ). fen) amount_machine typed_machine
     Nothing
 typed-sifted = record {
   begin = refl;

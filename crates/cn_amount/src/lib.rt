@@ -21,12 +21,15 @@
 mod before;
 mod capital;
 mod error;
+mod expect;
 mod form;
 pub mod laws;
+mod listed;
 mod places;
 mod progress;
 mod put;
 mod read;
+mod repair;
 mod signed;
 mod state;
 mod sum;
@@ -34,8 +37,10 @@ mod typed;
 mod write;
 
 pub use error::{AmountToChineseError, ChineseToAmountError};
+pub use expect::{amount_expected, signed_amount_expected, typed_amount_expected};
 pub use form::AmountForm;
 pub use read::{chinese_to_amount, chinese_to_amount_as_typed, chinese_to_signed_amount};
+pub use repair::{amount_repair, signed_amount_repair, typed_amount_repair};
 pub use write::{
     AMOUNT_LIMIT, amount_text, amount_to_chinese, amount_to_chinese_as, signed_amount_text,
     signed_amount_to_chinese,

@@ -1,7 +1,12 @@
+pub mod Changing
 pub mod Characters
+pub mod Following
+pub mod Lists
 pub mod LookUp
 pub mod OneAnswer
 pub mod Puts
 pub mod Reading
+pub mod ReadingOn
 pub mod Runs
 pub mod Sieves
+pub mod Signs
