@@ -7,6 +7,8 @@ pub mod FormsShown
 mod LawExamples
 pub mod Lengths
 pub mod Points
+pub mod PrefixRuns
+pub mod Prefixes
 pub mod ReadText
 pub mod Runs
 pub mod Shows
@@ -14,4 +16,6 @@ pub mod SignedReads
 pub mod SignedShown
 pub mod States
 pub mod TypedReads
+pub mod TypedRuns
+pub mod TypedShown
 pub mod Values

@@ -1,6 +1,6 @@
 -- What is written for an amount that may be below zero: its bytes, and that it is read as that
 -- amount.
-use Rattle.std.proofs.Common.{◌≡◌, ℕ, ◌*◌, ◌<◌, ◌≤◌, ℤ, pos, negsuc, int_lt, nat_abs, Bool, true, false, not, List, [], ◌∷◌, ◌++◌, map, length, Ok, encode_utf8_all, refl, sym, ap, subst, ◌∙◌, if◌then◌else◌, length-append, arith}
+use Rattle.std.proofs.Common.{◌≡◌, ℕ, ◌*◌, ◌<◌, ◌≤◌, ℤ, pos, negsuc, int_lt, nat_abs, zero, suc, Bool, true, false, not, List, [], ◌∷◌, ◌++◌, map, length, Ok, encode_utf8_all, refl, sym, ap, subst, ◌∙◌, if◌then◌else◌, length-append, arith}
 use Rattle.std.specs.Char.{char_set_contains, encode_utf8}
 use Rattle.std.specs.Str.{all_scalars}
 use Rattle.std.specs.declared.string.String.{String}
@@ -91,6 +91,11 @@ not-below n = grind (arith, ints)
 number-is : (fen : ℤ) → signed_number (int_lt fen (pos 0)) (nat_abs fen) ≡ fen
 number-is (pos n) = rw (not-below n)
 number-is (negsuc n) = refl
+
+pub magnitude-is : (below : Bool) (magnitude : ℕ) → nat_abs (signed_number below magnitude) ≡ magnitude
+magnitude-is true zero = refl
+magnitude-is true (suc n) = refl
+magnitude-is false magnitude = refl
 
 scalars-behind : (variant : ChineseVariant) (below : Bool) (text : List ℕ)
     → all_scalars text ≡ true → all_scalars (behind_sign variant below text) ≡ true

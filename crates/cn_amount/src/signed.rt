@@ -27,8 +27,8 @@ fn is_minus(character: char) -> bool
     matches!(character, '負' | '负')
 }
 
-// The amount with this magnitude, below zero or not.
-fn signed_fen(is_below: bool, magnitude: u64) -> i64
+/// The amount with this magnitude, below zero or not.
+pub fn signed_fen(is_below: bool, magnitude: u64) -> i64
     requires { magnitude < amount_limit }
     ensures { result ≡ signed_number is_below magnitude }
 {
@@ -58,8 +58,8 @@ impl Front {
         }
     }
 
-    // Whether the amount is below zero.
-    fn is_below(self) -> bool
+    /// Whether the amount is below zero.
+    pub fn is_below(self) -> bool
         ensures { result ≡ is_below self }
     {
         matches!(self, Front::Minus)
