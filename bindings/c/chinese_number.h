@@ -172,7 +172,7 @@ typedef enum cn_doubt CN_OF_CODE {
 /* The options of chinese_quantities_to_figures. They are added together, and to CN_ABOUT and
  * CN_ONE_CHARACTER of cn_flag.
  * - CN_DOUBTFUL replaces doubtful expressions too, except those with CN_DOUBT_PART.
- * - CN_EXPANDED keeps no great unit: 三千五百亿 becomes 350000000000, not 3500亿.
+ * - CN_EXPANDED writes out 万, 亿 and so on: 三千五百亿 becomes 350000000000, not 3500亿.
  * - CN_CANONICAL rewrites what is only figures in ASCII, without commas and leading zeros: １,２８０
  *   becomes 1280. */
 #define CN_DOUBTFUL 16u

@@ -18,7 +18,7 @@ type Replacing struct {
 	OneCharacter bool
 	// Doubtful adds doubtful quantities, such as 五一, except those with DoubtPart.
 	Doubtful bool
-	// Expanded is only for QuantitiesToFigures: no great unit is kept, and 三千五百亿 becomes
+	// Expanded is only for QuantitiesToFigures: 万, 亿 and so on are written out, and 三千五百亿 becomes
 	// 350000000000, not 3500亿.
 	Expanded bool
 	// Canonical is only for QuantitiesToFigures: what is only figures is rewritten in ASCII, without

@@ -1,7 +1,7 @@
 /* The calls of the library for CPython 3.10 and later, with its stable ABI: the functions of
  * `_library.py`, which uses ctypes, under the same names, and quick functions that wrap two public
  * functions. Texts are str, choices are the codes of chinese_number.h, and places count characters.
- * Half of a surrogate pair is passed as a question mark, which is not a numeral either. */
+ * A lone surrogate is passed as a question mark, which is not a numeral either. */
 #define PY_SSIZE_T_CLEAN
 #define Py_LIMITED_API 0x030A0000
 #include <Python.h>

@@ -1260,9 +1260,9 @@ const styleOf = ({ expanded, canonical }) =>
  * characters and doubtful expressions, unless `about`, `oneCharacter` or `doubtful` is true;
  * expressions with the doubt 'part'; a part of a name, an address or another number; 千分之五 and
  * 二又五分之三; all of a date, a time, a length, an amount or a range of which one part stays; and the
- * rest of the text. `expanded` keeps no great unit: 三千五百亿 and 3500亿 become 350000000000.
- * `canonical` rewrites figures in ASCII, without commas and leading zeros. Throws a TypeError as
- * `findQuantities` does.
+ * rest of the text. `expanded` writes out 万, 亿 and so on: 三千五百亿 and 3500亿 become
+ * 350000000000. `canonical` rewrites figures in ASCII, without commas and leading zeros. Throws a
+ * TypeError as `findQuantities` does.
  *
  * @param {string} string
  * @param {FiguresOptions} options

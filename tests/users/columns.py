@@ -1,11 +1,11 @@
-"""A column of a table, each cell answered: by pandas, and by the workers of a Dask cluster.
+"""Convert one column of a table: with pandas, and with the workers of a Dask cluster.
 
 Usage: columns.py TABLE FOLDER [SCHEDULER]
 
-TABLE is in CSV, or a pattern that files in CSV match. Its column `amount` has amounts in capitals,
-and is answered in fen. The answered rows go to files in FOLDER, in order. They are worked on by the
-workers of the scheduler at that address, as tcp://10.0.0.1:8786, or else by processes of this
-machine.
+TABLE is a CSV file, or a pattern that matches CSV files. Its column `amount` has amounts in
+capitals, which are converted to fen. The rows are written with the results to files in FOLDER, in
+order. The work is done by the workers of the scheduler at the given address, such as
+tcp://10.0.0.1:8786, or else by processes on this machine.
 """
 import sys
 
@@ -15,12 +15,13 @@ from distributed import Client
 
 from chinese_number import chinese_to_amount
 
-# No text is taken for a number, and none but the empty one for a missing cell.
+# Cells are read as texts, not as numbers, and only an empty cell is a missing one.
 AS_IT_STANDS = {"dtype": "string", "keep_default_na": False, "na_values": [""]}
 
 
 def answer(cell, call):
-    """What a call gives for a cell, why it refuses the cell, and which character is at fault."""
+    """Converts a cell with a call. Returns the result, the reason if the call refuses the cell, and
+    the position of the wrong character; each is None if there is none."""
     if pandas.isna(cell):
         return None, None, None
     try:
@@ -30,8 +31,9 @@ def answer(cell, call):
 
 
 def answered(table, column, call, dtype):
-    """The table with three more columns, of what `answer` gives for each cell of a column. Answers
-    have the dtype; a cell that is missing has none of the three."""
+    """Returns the table with three more columns: the result, the reason for a refusal and the position
+    of the wrong character, for each cell of a column. The dtype is that of the results. A missing cell
+    has none of the three."""
     rows = [answer(cell, call) for cell in table[column]]
     own = {"answer": dtype, "refusal": "string", "char_index": "Int64"}
     more = pandas.DataFrame(rows, table.index, [*own], dtype=object).astype(own)

@@ -52,7 +52,7 @@ async function tellsDoubts(page) {
   }
   assert.deepEqual(told.map((it) => it.length), LANGUAGES.map(() => 7));
   assert.deepEqual(told[2], ['(part of a word)', '(a list of digits)', '(part of a term)',
-    '(only a part)', '(a time)', '(one end of a range)', '(one end of a range)']);
+    '(折, 成 or 半 follows)', '(a time)', '(one end of a range)', '(one end of a range)']);
   await page.check('doubtful', true);
   assert.equal(await page.value('replaced.textContent'),
     '36计，51，-2项，六点五折，下午3.5，30~50万');

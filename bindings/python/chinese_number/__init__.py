@@ -52,10 +52,14 @@ equals.
 
 The module loads the shared library libchinese_number.so (.dylib on macOS, .dll on Windows) from the
 folder that CHINESE_NUMBER_LIB names, as bindings/archive.sh makes it, or else from beside this file,
-where pip puts it. The library allocates no memory, keeps no state between calls and reads no locale,
-and a call lets other Python threads run. If the library was built from C source, a text of more than
-4,293,918,720 bytes raises an OverflowError, and so does a text that has as many together with its
-new text.
+where pip puts it. CPython from 3.10 may instead use an extension module that contains the library.
+The library allocates no memory, keeps no state between calls and reads no locale. Calls through
+ctypes release the GIL; the extension module releases it only for a text whose UTF-8 is longer than
+65,536 bytes. If the library was built from C source, a text of more than 4,293,918,720 bytes raises
+an OverflowError, and so does a text that has as many together with its new text.
+
+For text that people type use to_quantity; to_number applies the bare grammar, in which 两千零十五 is
+2005 and 二两 is 22.
 """
 
 from __future__ import annotations
@@ -212,9 +216,13 @@ class Doubt(str, Enum):
 
 
 class Status(Enum):
-    """The result of a call. A NumeralError has a status from EMPTY to TOO_SMALL, NOT_HELD or
-    NOT_A_QUANTITY; an AmountError has INCORRECT, UNFINISHED, TOO_LARGE or TOO_SMALL; a DateError has
-    INCORRECT, UNFINISHED or NOT_A_DATE.
+    """The result of a call of the library. The exceptions have some of them.
+
+    NumeralError: EMPTY, INCORRECT, TOO_LARGE, TOO_SMALL, NOT_HELD, NOT_A_QUANTITY.
+    AmountError: INCORRECT, UNFINISHED, TOO_LARGE, TOO_SMALL.
+    DateError: INCORRECT, UNFINISHED, NOT_A_DATE.
+
+    DONE, NOT_UTF8, NO_ROOM, UNKNOWN and NONE are statuses of C, which no exception has.
     """
 
     DONE = 0
@@ -430,7 +438,7 @@ def to_number(
     Traceback (most recent call last):
     chinese_number.NumeralError: a chinese number cannot be empty
 
-    Half of a surrogate pair is one character, and at fault.
+    A lone surrogate is treated as one invalid character.
     """
     kind_code, way_code = _code(_KINDS, kind, "kind"), _code(_WAYS, way, "way")
     code, low, high, char_index = _library.read_number(_text(text), kind_code, way_code)
@@ -558,7 +566,7 @@ def chinese_to_amount(text: str) -> int:
     Traceback (most recent call last):
     chinese_number.AmountError: the amount is not finished
 
-    White space and half of a surrogate pair are refused at their place.
+    White space and lone surrogates are invalid characters.
     """
     return _fen(_library.read_amount(_text(text)))
 
@@ -657,7 +665,7 @@ def chinese_to_date(text: str) -> date:
     Traceback (most recent call last):
     chinese_number.DateError: the date is not finished
 
-    White space and half of a surrogate pair are refused at their place.
+    White space and lone surrogates are invalid characters.
     """
     code, fields, char_index = _library.read_date(_text(text))
     if code:
@@ -785,7 +793,8 @@ class Quantity:
 
     def trimmed(self) -> Quantity:
         """The same quantity without the zeros at the end of its decimals. A quantity without
-        decimals, such as a whole number or a fraction, stays the same.
+        decimals, such as a whole number or a fraction, stays the same. Call this before to_chinese,
+        which otherwise writes 3.5万 as 三万五千点零.
 
         >>> to_quantity('3.5万').trimmed()
         Quantity(numerator=35000, denominator=1, form=<QuantityForm.WHOLE: 'whole'>)
@@ -851,7 +860,7 @@ def to_quantity(text: str, *, method: Union[Way, str] = Way.ANY) -> Quantity:
     Traceback (most recent call last):
     chinese_number.NumeralError: the chinese number is incorrect (position: 3)
 
-    Half of a surrogate pair is one character, and at fault.
+    A lone surrogate is treated as one invalid character.
     """
     method_code = _code(_METHODS, method, "method")
     code, words, char_index = _library.read_quantity(_text(text), method_code)
@@ -903,7 +912,7 @@ class Found(_Run):
     is_about: it is approximate, such as 十 in 十几, and 五六.
     is_one_character: it is a single Chinese character, such as 一 in 一般.
 
-    It may keep the whole text alive as long as it exists.
+    It may hold a reference to the whole text.
     """
 
     __slots__ = ()
@@ -1007,7 +1016,7 @@ def find_numbers(
     ['正', '參']
 
     It does not understand sentences: 一起 contains a 1, 两三个 is 23, and 3.5万 is two numbers.
-    Half of a surrogate pair is one character, and ends a run.
+    A lone surrogate is treated as one character that ends a run.
     """
     wanted = _flag(upper), _code(_UNITS, greatest, "greatest")
     return chain.from_iterable(_found(_library.find_numbers, Found, _text(text), *wanted))
@@ -1022,7 +1031,7 @@ def find_quantities(
     >>> [(found.start, found.text) for found in find_quantities('增长12.5%，共3.5万，剩三分之一')]
     [(2, '12.5%'), (9, '3.5万'), (15, '三分之一')]
 
-    It does not understand sentences either, and treats half of a surrogate pair in the same way.
+    It does not understand sentences either, and treats a lone surrogate in the same way.
     """
     wanted = _flag(upper), _code(_UNITS, greatest, "greatest")
     found = _found(_library.find_quantities, FoundQuantity, _text(text), *wanted)
@@ -1086,7 +1095,7 @@ def replace_quantities(
     return "".join((*done, text[at:]))
 
 
-# Half of a surrogate pair, or the mark that replaces one.
+# A lone surrogate, or the mark that replaces one.
 _HALF_OR_MARK = re.compile("[\ud800-\udfff\ufffd]")
 
 
@@ -1117,8 +1126,8 @@ def quantities_to_figures(
     >>> quantities_to_figures('五一，八五折', doubtful=True)
     '51，八五折'
 
-    expanded keeps no great unit. canonical rewrites figures in ASCII, without commas and leading
-    zeros.
+    expanded writes out 万, 亿 and so on. canonical rewrites figures in ASCII, without commas and
+    leading zeros.
 
     >>> quantities_to_figures('三千五百亿，3500亿', expanded=True)
     '350000000000，350000000000'
@@ -1141,7 +1150,7 @@ def quantities_to_figures(
     marks: List[str] = []
     try:
         data = given.encode()
-    except UnicodeEncodeError:  # half of a surrogate pair has no UTF-8
+    except UnicodeEncodeError:  # a lone surrogate has no UTF-8
         marks = _HALF_OR_MARK.findall(given)
         data = _HALF_OR_MARK.sub("\ufffd", given).encode()
     code, figures = _library.quantities_to_figures(data, *wanted, options)

@@ -60,38 +60,59 @@ _MEANINGS: Dict[str, Dict[str, Any]] = {
 }
 USAGE = """\
 usage: chinese-number amount [--traditional] [--currency] [--yuan 圆] [--closing 正]
-                             [--signed | --typed] WORD..
-       chinese-number amount .. --column N [--header] [--delimiter ,]
-       chinese-number date [--traditional] WORD..
-       chinese-number read [--kind i128] [--way any] WORD..
-       chinese-number print [--traditional] [--upper] [--kind i128] [--way any] NUMBER..
+                             [--signed | --typed] WORD...
+       chinese-number amount ... --column N [--header] [--delimiter ,]
+       chinese-number date [--traditional] WORD...
+       chinese-number read [--kind i128] [--way any] WORD...
+       chinese-number print [--traditional] [--upper] [--kind i128] [--way any] NUMBER...
        chinese-number find [--all] [--kind u128] [--way any]
        chinese-number find --exact [--all] [--method any]
        chinese-number replace [--all] [--method any] [--about] [--one-character] [--doubtful]
-                              [--expanded] [--canonical] [WORD..]
+                              [--expanded] [--canonical] [WORD...]
        chinese-number --help | --version
 
-amount   converts yuan to capitals, 1409.50 to 壹仟肆佰零玖元伍角整, and capitals to yuan; --signed
-         also converts negative amounts, -15 to 负壹拾伍元整; --typed also reads amounts as typed,
-         such as ⊗ 人民币：壹拾 伍元整. --column N reads a CSV table in UTF-8 from standard input and
-         writes each row with one more cell: the result for its Nth cell, or an empty cell if that is
-         refused. --header says that the first row is a header; --delimiter $'\\t' is for tabs. The
-         reasons for refusals and the number of rows go to standard error
-date     converts dates to capitals, 2026-01-15 to 贰零贰陆年零壹月壹拾伍日, and capitals to dates
+amount   converts yuan to capitals, 1409.50 to 壹仟肆佰零玖元伍角整, and capitals to yuan
+   --currency       writes the prefix 人民币
+   --yuan 圆        writes 圆 instead of 元
+   --closing 正     writes 正 instead of 整
+   --signed         also converts amounts below zero, -15 to 负壹拾伍元整; otherwise they are refused
+   --typed          also reads amounts as typed, such as ⊗ 人民币：壹拾 伍元整
+   --column N       reads a CSV table in UTF-8 from standard input, and appends a cell to each row:
+                    the result for its Nth cell, or an empty cell if that is refused. The reasons
+                    for refusals and the number of rows go to standard error
+   --header         says that the first row is a header
+   --delimiter ,    is the character between cells; $'\\t' is a tab
+date     converts dates to capitals, 2026-01-15 to 贰零贰陆年零壹月壹拾伍日, and capitals to dates. Dates
+         in figures have four, two and two digits: 2026-1-15 is refused
 read     reads numerals, 一百二 as 120
 print    writes whole numbers as numerals, -120 as 负一百二十
+   --upper          writes 壹佰贰拾 instead of 一百二十
 find     writes LINE:CHARACTER TEXT NUMBER for each number in standard input, or err and the reason
-         if it is refused; --all also finds cheque characters and units above 兆; --exact finds
-         quantities, such as 3.5万, -5, 12.5% and 三分之一, with an exact NUMBER, such as 125/1000
+         if it is refused. LINE and CHARACTER count from 1
+   --exact          finds quantities, such as 3.5万, -5, 12.5% and 三分之一, with an exact NUMBER, such
+                    as 125/1000
 replace  writes the arguments, or standard input, with their numerals in figures, 市值三点五亿元 as
-         市值3.5亿元; --about includes approximate numbers, as in 三百多; --one-character those of one
-         Chinese character, as in 一般; --doubtful those that may mean something else, as 五一.
-         --expanded keeps no great unit: 三点五亿 becomes 350000000; --canonical removes commas and
-         leading zeros from figures: 1,280 becomes 1280
+         市值3.5亿元
+   --about          includes approximate numbers, as in 三百多
+   --one-character  includes numbers of one Chinese character, as in 一般
+   --doubtful       includes numbers that may mean something else, as 五一
+   --expanded       writes out 万, 亿 and so on: 三点五亿 becomes 350000000
+   --canonical      removes commas and leading zeros from figures: 1,280 becomes 1280
 
-A kind is u8, u16, u32, u64, u128, i8, i16, i32, i64 or i128; a way is digits, low, ten_thousand,
-middle, high or any; a method is any way except digits.
-Arguments after -- are not options."""
+Options of several commands:
+   --traditional    writes traditional characters
+   --all            also finds cheque characters and units above 兆
+   --kind i128      is the integer type that a number must fit: u8, u16, u32, u64, u128, i8, i16,
+                    i32, i64 or i128
+   --way any        is how a number is written: digits, as 一二三; with units, as 一百二十三, by the scale
+                    low, ten_thousand, middle or high, which differ in the units above 万; or any,
+                    which reads digits and ten_thousand
+   --method any     is any way except digits
+Arguments after -- are not options.
+
+A refusal says why; its position counts characters from 0. The exit status is 0 if everything was
+converted, 1 if something was refused or could not be read or written, and 2 if the command line is
+not valid. Refusals that find writes do not change its status."""
 
 
 class _Misuse(Exception):

@@ -4,8 +4,8 @@ Texts are str, choices are the codes of chinese_number.h, and places count chara
 returns the status first. If `_native` exists and this Python can load it, `load` replaces the
 functions here with those of the same names in `_native`.
 
-Half of a surrogate pair has no bytes in UTF-8. It is passed as a question mark, which is not a
-numeral either.
+A lone surrogate has no bytes in UTF-8. It is passed as a question mark, which is not a numeral
+either.
 """
 
 from __future__ import annotations

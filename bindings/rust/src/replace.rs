@@ -43,10 +43,10 @@ impl Included {
 /// How a number in numerals is written in figures.
 #[derive(Debug, Default, Copy, Clone, Eq, PartialEq, Hash)]
 pub enum Style {
-    /// Great units stay: 三千五百亿 becomes 3500亿.
+    /// 万, 亿 and so on stay: 三千五百亿 becomes 3500亿.
     #[default]
     Kept,
-    /// No great unit is kept, not even after figures: 三千五百亿 and 3500亿 become 350000000000.
+    /// They are written out, also after figures: 三千五百亿 and 3500亿 become 350000000000.
     Expanded,
 }
 

@@ -1,4 +1,4 @@
--- What laws say of plain digits.
+-- What laws say about plain digits.
 use Rattle.std.specs.Prelude.{Bool, true, false}
 use Rattle.cn_core.specs.Mark.{Mark, digit}
 

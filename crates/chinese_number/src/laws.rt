@@ -1,9 +1,10 @@
-//! What users can count on, each as the contract of a function that does nothing: that contract is
-//! the theorem, and the check proves it.
-// To add a law, write a function with an empty body in `laws.rt` or `laws/` of its crate, name it
-// here and in docs/PROMISES.md and, if it has premises, add an instance to proofs/LawExamples.antt.
-// Try it without a proof first: what the search does not find becomes a lemma that the law's
-// `Answers.antt` cites. `unfolding digit_char unit_char` computes characters.
+//! What users can rely on. Each law is a function that does nothing; its contract is the theorem,
+//! which the check proves.
+// To add a law, write a function with an empty body in `laws.rt` or `laws/` of its crate, and name
+// it here and in docs/PROMISES.md. If the law has premises, add an instance to
+// proofs/LawExamples.antt. First try the law without a proof. For each goal that the search leaves
+// open, write a lemma and cite it in the law's `Answers.antt`. If a goal has written characters,
+// `unfolding digit_char unit_char` lets the search compute them.
 pub mod amounts;
 mod answers;
 pub mod dates;

@@ -38,7 +38,7 @@ pub fn beginnings_are_begun()
         → IsAmount (front ++ behind) fen → (place : ℕ) → ¬ Answers front (Err (incorrect_at place)) }
 {}
 
-/// An amount stands below the limit, so a text is never too large.
+/// An amount is below the limit, so a text is never too large.
 pub fn amounts_are_below_the_limit()
     ensures { (text : List ℕ) → (fen : ℕ) → IsAmount text fen → fen < amount_limit }
 {}

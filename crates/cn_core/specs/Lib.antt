@@ -1,5 +1,6 @@
 pub mod CharIndex
 pub mod Characters
+pub mod Digits
 pub mod Figures
 pub mod Judge
 pub mod Judging

@@ -29,10 +29,11 @@ use Rattle.cn_quantity.specs.Answer.{and_then}
 use Rattle.cn_quantity.specs.Characters.{chinese_digit_of, is_fen, is_point, share_of}
 use Rattle.cn_quantity.specs.Decimal.{after_point, before_point, ends_colloquially, is_chinese_decimal}
 use Rattle.cn_quantity.specs.Digits.{after_digits, leading_digits, read_with_units}
-use Rattle.cn_quantity.specs.Figures.{is_in_figures}
+use Rattle.cn_quantity.specs.Figures.{after_whole, ends_in_figures, is_in_figures}
 use Rattle.cn_quantity.specs.Number.{decimal_of, number_answer, part_answer}
 use Rattle.cn_quantity.specs.Units.{are_rising_units, times_units}
 use Rattle.cn_quantity.specs.WholeNumber.{whole_answer}
+use Rattle.cn_quantity.proofs.FigureGroups.{groups-none}
 use Rattle.cn_quantity.proofs.Groups.{turns-begin}
 use Rattle.cn_quantity.proofs.Numbers.{a-decimal}
 use Rattle.cn_quantity.proofs.Today.{and-none, are_marks, digit-mark, digit-no_unit, marks-broken, no-point, number-shaped, number-whole, point-no_mark}
@@ -160,7 +161,9 @@ decimals-read method variant case count number small =
 
 not-in-figures : (text more : List ℕ) → BeginsNumber text
     → is_in_figures (text ++ more) ≡ false
-not-in-figures text more begins = rw (not-figures text more begins)
+not-in-figures text more begins =
+    ap (λ b. b && ends_in_figures (after_whole (text ++ more)))
+    (groups-none (text ++ more) (not-figures text more begins))
 
 -- a number with decimals
 point-read : (method : ChineseCountMethod) (whole count number point : ℕ) (front digits : List ℕ)

@@ -1,18 +1,21 @@
 -- Digits that are written side by side, such as those after a point, and how they are read.
-use Rattle.std.proofs.Common.{◌≡◌, ℕ, zero, suc, ◌+◌, ◌*◌, ◌/◌, ◌%◌, ◌^◌, ◌<◌, Bool, true, false, ◌==◌, nat_lt, is_none, is_some, List, [], ◌∷◌, ◌++◌, length, map, Option, Some, None, refl, sym, ap, ◌∙◌, arith, if◌then◌else◌, append-nil}
-use Rattle.std.specs.List.{list_all}
+use Rattle.std.proofs.Common.{◌≡◌, ℕ, zero, suc, ◌+◌, ◌*◌, ◌/◌, ◌%◌, ◌^◌, ◌<◌, Bool, true, false, ◌==◌, nat_lt, is_none, is_some, List, [], ◌∷◌, ◌++◌, length, map, filter_map, Option, Some, None, refl, sym, ap, ◌∙◌, arith, if◌then◌else◌, append-nil}
+use Rattle.std.specs.List.{cons_option, list_all}
 use Rattle.std.specs.Option.{option_map_or}
 use Rattle.std.proofs.lemmas.Bool.Decides.{nat_tests}
+use Rattle.std.proofs.lemmas.List.Elements.{filter_map-append}
+use Rattle.std.proofs.lemmas.List.Sums.{fold-append}
 use Rattle.std.proofs.Math.Nat.{div-div-eq-div-mul, pow-suc, div-add-mod'}
 use Rattle.cn_core.specs.declared.method.ChineseCountMethod.{ChineseCountMethod}
 use Rattle.cn_core.specs.Characters.{rank_of}
+use Rattle.cn_core.specs.Digits.{value_after}
 use Rattle.cn_core.proofs.Fronts.{and-left, and-right, both}
 use Rattle.cn_express.specs.Digits.{last_digits}
 use Rattle.cn_quantity.specs.declared.characters.DigitKind.{DigitKind}
 use Rattle.cn_quantity.specs.Characters.{digit_by}
 use Rattle.cn_quantity.specs.Digits.{after_digits, begins_with_digit, is_digit, leading_digits, read_on}
 use Rattle.cn_quantity.specs.Units.{times_units}
-use Rattle.cn_quantity.proofs.Today.{times-digit}
+use Rattle.cn_quantity.proofs.Growing.{times-digit}
 use Rattle.cn_spell.proofs.Printed.{each_below, each_below-at, none_from_is_none}
 
 -- the text has only digits of this kind
@@ -58,10 +61,10 @@ digits-alone kind text all = rw append-nil at (digits-lead kind text [] all refl
 
 pub read_on-append : (kind : DigitKind) (number : ℕ) (front rest : List ℕ)
     → read_on kind number (front ++ rest) ≡ read_on kind (read_on kind number front) rest
-read_on-append kind number [] rest = refl
-read_on-append kind number (c ∷ front) rest =
-    read_on-append kind
-    (option_map_or (λ digit. number * 10 + digit) (digit_by kind c) number) front rest
+read_on-append kind number front rest =
+    ap (value_after number) (filter_map-append (digit_by kind) front rest)
+    ∙ fold-append (λ number digit. number * 10 + digit) number (filter_map (digit_by kind) front)
+    (filter_map (digit_by kind) rest)
 
 -- the character of each digit is read as that digit
 abbrev pub WritesDigits : DigitKind → (ℕ → ℕ) → Type 0
@@ -85,8 +88,7 @@ pub read-digit : (kind : DigitKind) (character : ℕ → ℕ) (number value : �
     → WritesDigits kind character → value < 10
     → read_on kind number (character value ∷ rest) ≡ read_on kind (number * 10 + value) rest
 read-digit kind character number value rest writes low =
-    ap (λ d. read_on kind (option_map_or (λ digit. number * 10 + digit) d number) rest)
-    (writes value low)
+    ap (λ d. value_after number (cons_option d (filter_map (digit_by kind) rest))) (writes value low)
 
 last-low : (number count : ℕ) → number / 10 ^ count % 10 < 10
 last-low number count = omega arith
@@ -130,7 +132,8 @@ has_no_units text = list_all (λ c. is_none (rank_of c)) text
 pub no-factors : (method : ChineseCountMethod) (number : ℕ) (text : List ℕ)
     → has_no_units text ≡ true → number < 2 ^ 128 → times_units method number text ≡ Some number
 no-factors method number [] none small =
-    let test : nat_lt number (2 ^ 128) ≡ true = grind (arith, nat_tests, small) in rw test
+    let test : nat_lt (number * 1) (2 ^ 128) ≡ true = grind (arith, nat_tests, small) in
+    rw test (ap Some (omega arith))
 no-factors method number (c ∷ rest) none small =
     times-digit method number c rest
     (none_from_is_none (rank_of c) (and-left (is_none (rank_of c)) (has_no_units rest) none))

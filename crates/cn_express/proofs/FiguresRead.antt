@@ -1,6 +1,6 @@
 -- A quantity in figures is read as that quantity.
-use Rattle.std.proofs.Common.{◌≡◌, ℕ, zero, suc, ◌+◌, ◌*◌, ◌/◌, ◌%◌, ◌^◌, ◌<◌, ◌≤◌, pos, int_lt, nat_abs, Bool, true, false, ◌==◌, nat_lt, not, is_none, is_some, List, [], ◌∷◌, ◌++◌, length, map, codes, decimal, encode_utf8_all, slice_index, Some, None, Ok, refl, sym, ap, ap₂, ◌∙◌, arith, if◌then◌else◌, append-nil, length-append, Option, Result, Err, fold}
-use Rattle.std.specs.List.{list_all}
+use Rattle.std.proofs.Common.{◌≡◌, ℕ, zero, suc, ◌+◌, ◌*◌, ◌/◌, ◌%◌, ◌^◌, ◌<◌, ◌≤◌, pos, int_lt, nat_abs, Bool, true, false, ◌==◌, nat_lt, not, is_none, is_some, List, [], ◌∷◌, ◌++◌, length, map, codes, decimal, encode_utf8_all, slice_index, Some, None, Ok, refl, sym, ap, ap₂, ◌∙◌, arith, if◌then◌else◌, append-nil, length-append, filter_map, Option, Result, Err, fold}
+use Rattle.std.specs.List.{cons_option, list_all}
 use Rattle.std.specs.Option.{option_map_or}
 use Rattle.std.proofs.lemmas.Bool.Decides.{nat_tests}
 use Rattle.std.proofs.lemmas.Fmt.{IsAscii-decimal_wide, decimal_by_steps_wide}
@@ -12,6 +12,7 @@ use Rattle.std.proofs.Math.Nat.{div-add-mod', div-le_self}
 use Rattle.cn_core.specs.declared.method.ChineseCountMethod.{ChineseCountMethod}
 use Rattle.cn_core.specs.declared.sign.Sign.TheVariants.{Minus}
 use Rattle.cn_core.specs.Characters.{digit_of, rank_of, sign_of as numeral_sign}
+use Rattle.cn_core.specs.Digits.{value_after}
 use Rattle.cn_core.specs.Mark.{Mark, mark_of}
 use Rattle.cn_core.specs.Naive.{decimal_value, digit_value, naive_answer, refused_or}
 use Rattle.cn_core.specs.Numeral.{is_digit_or_unit}
@@ -37,13 +38,14 @@ use Rattle.cn_quantity.specs.declared.quantity.QuantityForm.{QuantityForm}
 use Rattle.cn_quantity.specs.declared.quantity.QuantityForm.TheVariants.{Whole, Decimal, Percent, Fraction}
 use Rattle.cn_quantity.specs.Characters.{is_fen, is_point, share_of, sign_of}
 use Rattle.cn_quantity.specs.Digits.{after_digits, begins_with_digit, is_digit, leading_digits, read_on, read_with_units}
-use Rattle.cn_quantity.specs.Figures.{after_figures, after_groups, decimals_of, ends_in_figures, is_in_figures, may_lead_groups}
+use Rattle.cn_quantity.specs.Figures.{after_whole, are_groups, decimals_of, ends_in_figures, groups_of, is_in_figures}
 use Rattle.cn_quantity.specs.Number.{decimal_of, number_answer, or_shaped, shaped_number}
 use Rattle.cn_quantity.specs.Reading.{leading_sign, quantity_answer}
 use Rattle.cn_quantity.specs.Trimmed.{decimals_in, decimals_of as decimals_of_quantity}
 use Rattle.cn_quantity.specs.Misread.{first_misread, is_digit as is_digit_mark, is_liang}
 use Rattle.cn_quantity.specs.Units.{times_units}
 use Rattle.cn_quantity.specs.WholeNumber.{is_plain, whole_answer}
+use Rattle.cn_quantity.proofs.FigureGroups.{after-figures, go_on, groups-begin, more_groups}
 use Rattle.cn_quantity.proofs.KnownDecimals.{over-is}
 use Rattle.cn_quantity.proofs.Numbers.{in-figures}
 use Rattle.cn_quantity.proofs.Today.{digit-mark, marks-broken, whole-marks}
@@ -214,19 +216,14 @@ IsDecimal-written number small =
 record IsBehind (count number : ℕ) (text : List ℕ) : Type 0 where
   no_units : has_no_units text ≡ true
   no_digit : begins_with_digit Figure text ≡ false
-  no_groups : after_groups text ≡ text
+  no_comma : more_groups text ≡ []
+  no_more : after_whole text ≡ text
   ends : ends_in_figures text ≡ true
   decimals : decimals_of text ≡ count
   read : read_on Figure (number / 10 ^ count) text ≡ number
   whole : (method : ChineseCountMethod) (front : List ℕ) (n : ℕ) → list_all is_same front ≡ true
       → whole_answer method (front ++ text) ≡ Ok n
       → (count ≡ 0) × (n ≡ read_on Figure 0 (front ++ text))
-
-groups-none : (c : ℕ) (rest : List ℕ) → is_comma c ≡ false → after_groups (c ∷ rest) ≡ c ∷ rest
-groups-none c [] none = refl
-groups-none c (x ∷ []) none = refl
-groups-none c (x ∷ y ∷ []) none = refl
-groups-none c (x ∷ y ∷ z ∷ rest) none = rw none
 
 -- the point
 record IsPoint (c : ℕ) : Type 0 where
@@ -254,11 +251,12 @@ IsBehind-point count number c some p = record {
   no_units = both (is_none (rank_of c)) _ (and-left (is_none (rank_of c)) true p.no_unit)
       (figures-no_units digits figures);
   no_digit = ap is_some p.no_figure;
-  no_groups = groups-none c digits p.no_comma;
+  no_comma = rw p.no_comma;
+  no_more = rw (p.no_figure, p.no_comma) refl;
   ends = rw (p.point, alone.1, decimals);
   decimals = ap (λ b. if b then leading_digits Figure digits else 0) p.point ∙ size;
-  read = ap (λ d. read_on Figure (option_map_or (λ digit. number / 10 ^ count * 10 + digit) d
-      (number / 10 ^ count)) digits) p.no_figure
+  read = ap (λ d. value_after (number / 10 ^ count) (cons_option d (filter_map figure_of digits)))
+      p.no_figure
       ∙ last-read Figure figure_char count number WritesDigits-figures;
   whole = λ method front n figures h.
       let marks = whole-marks method (front ++ c ∷ digits) n h in
@@ -286,7 +284,8 @@ IsBehind-written : (count number : ℕ)
 IsBehind-written zero number = record {
   no_units = refl;
   no_digit = refl;
-  no_groups = refl;
+  no_comma = refl;
+  no_more = refl;
   ends = refl;
   decimals = refl;
   read = omega arith;
@@ -308,18 +307,18 @@ figures-number method count number front behind f b small =
           × (after_digits Figure (front ++ behind) ≡ behind)
       lead = digits-lead Figure front behind f.figures b.no_digit
 
-      after : after_figures (front ++ behind) ≡ behind
-      after = by (may_lead_groups (front ++ behind)) where
-        by : (b : Bool) → (if b then after_groups (after_digits Figure (front ++ behind))
-            else after_digits Figure (front ++ behind)) ≡ behind
-        by true = ap after_groups lead.1 ∙ b.no_groups
-        by false = lead.1
+      after : after_whole (front ++ behind) ≡ behind
+      after = sym (after-figures (front ++ behind)) ∙ ap after_whole lead.1 ∙ b.no_more
+
+      some : 0 < leading_digits Figure (front ++ behind)
+      some = let size = lead.0 in let some = f.some in omega (arith, size, some)
 
       is : is_in_figures (front ++ behind) ≡ true
       is =
-          let some = f.some in
-          let test : nat_lt 0 (length front) ≡ true = grind (arith, nat_tests, some) in
-          rw (lead.0, after, test) b.ends
+          both (are_groups (groups_of (front ++ behind)))
+          (ends_in_figures (after_whole (front ++ behind)))
+          (sym (groups-begin (front ++ behind) some) ∙ ap (go_on _) (ap more_groups lead.1 ∙ b.no_comma))
+          (ap ends_in_figures after ∙ b.ends)
 
       read : read_with_units method Figure 0 (front ++ behind) ≡ Some number
       read =

@@ -37,7 +37,7 @@ pub fn what_is_written_is_read_back()
 /// A quantity that is written with `Middle`, and in which each spelled number is below 10^16, is
 /// also read back with `TenThousand`, with the same result as with `Middle`.
 ///
-/// For programs that write for readers on the mainland, where 10^12 is 一万亿, and read texts of any
+/// For programs that write texts for the mainland, where 10^12 is 一万亿, and read texts of any
 /// origin.
 pub fn middle_is_read_by_ten_thousand()
     ensures { (variant : ChineseVariant) (case : ChineseCase) (q : Quantity)
@@ -63,8 +63,9 @@ pub fn figures_are_read_back()
         → quantity_answer method (figures_text q) ≡ Ok (trimmed q) }
 {}
 
-/// No printed spelling is misread, in any script and case and with any method. So each one is read
-/// as a quantity of the number that was printed.
+/// No spelling that is printed for a magnitude is misread, in any script and case and with any
+/// method. If a reader reads it as an `i128`, it is the same number as a quantity; magnitudes from
+/// 2^127 on are too large for a numerator.
 pub fn no_spelling_is_misread()
     ensures { (variant : ChineseVariant) (case : ChineseCase) (method : ChineseCountMethod)
         (magnitude : ℕ) → magnitude < 2 ^ 128 → IsTrue (is_printable method (pos magnitude))

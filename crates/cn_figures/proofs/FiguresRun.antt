@@ -8,7 +8,8 @@ use Rattle.cn_figures.specs.declared.part.Part.TheVariants.{Digit, Comma, Point}
 use Rattle.cn_figures.specs.declared.progress.Progress.{Progress}
 use Rattle.cn_figures.specs.declared.state.State.{State}
 use Rattle.cn_figures.specs.declared.state.State.TheVariants.{Beginning, One, Two, Three, Many, AfterComma, CommaOne, CommaTwo, CommaThree, AfterPoint, Jiao, Fen}
-use Rattle.cn_figures.specs.Figures.{value_after, value_of, Triple, with_commas, digits_of, marked, pointed, fen_of, below, AreFigures}
+use Rattle.cn_core.specs.Digits.{value_after, value_of}
+use Rattle.cn_figures.specs.Figures.{Triple, with_commas, digits_of, marked, pointed, fen_of, below, AreFigures}
 use Rattle.cn_figures.specs.Working.Steps.{with_more, step, with_fen, advance, end, is_end}
 use Rattle.cn_figures.proofs.Fronts.{AreZeros}
 use Rattle.cn_figures.proofs.Yuan.{digit-more, below-more, value-behind}

@@ -10,7 +10,8 @@ use Rattle.cn_figures.specs.declared.part.Part.{Part}
 use Rattle.cn_figures.specs.declared.part.Part.TheVariants.{Currency, Digit, Comma, Point}
 use Rattle.cn_figures.specs.declared.state.State.{State}
 use Rattle.cn_figures.specs.declared.state.State.TheVariants.{Beginning, Marked, One, Two, Three, Many, AfterComma, CommaOne, CommaTwo, CommaThree, AfterPoint, Jiao, Fen}
-use Rattle.cn_figures.specs.Figures.{value_of, Triple, with_commas, digits_of, marked, pointed, fen_of, below, AreFigures}
+use Rattle.cn_core.specs.Digits.{value_of}
+use Rattle.cn_figures.specs.Figures.{Triple, with_commas, digits_of, marked, pointed, fen_of, below, AreFigures}
 use Rattle.cn_figures.specs.Working.Steps.{with_more, fen_with, step, is_end}
 use Rattle.cn_figures.proofs.Yuan.{IsYuan, yuan-begun, yuan-digit, yuan-triple, below-more}
 

@@ -15,7 +15,8 @@ use Rattle.cn_core.proofs.Fronts.{and-left, and-right}
 use Rattle.cn_core.specs.Figures.{figure_of}
 use Rattle.cn_figures.specs.declared.part.Part.{Part}
 use Rattle.cn_figures.specs.declared.part.Part.TheVariants.{Digit, Point}
-use Rattle.cn_figures.specs.Figures.{value_after, value_of, IsFigures, ReadsFigures, figures_of}
+use Rattle.cn_core.specs.Digits.{value_after, value_of}
+use Rattle.cn_figures.specs.Figures.{IsFigures, ReadsFigures, figures_of}
 use Rattle.cn_figures.specs.Parts.{part_of, parts_of}
 
 -- decimal digits, and the number that they write

@@ -6,7 +6,8 @@ use Rattle.std.proofs.lemmas.List.Sums.{fold-append}
 use Rattle.cn_amount.specs.Places.{amount_limit}
 use Rattle.cn_figures.specs.declared.part.Part.{Part}
 use Rattle.cn_figures.specs.declared.part.Part.TheVariants.{Digit, Comma}
-use Rattle.cn_figures.specs.Figures.{value_after, value_of, Triple, with_commas, digits_of, marked, below}
+use Rattle.cn_core.specs.Digits.{value_after, value_of}
+use Rattle.cn_figures.specs.Figures.{Triple, with_commas, digits_of, marked, below}
 use Rattle.cn_figures.specs.Working.Steps.{with_more}
 
 -- an amount that is not below the limit stays so when it grows

@@ -1,7 +1,8 @@
 -- An amount in figures, such as 1,409.50. Figures are given by their characters.
-use Rattle.std.specs.Prelude.{◌≡◌, ℕ, ℤ, ◌+◌, ◌*◌, ◌/◌, ◌%◌, ◌<◌, ◌≤◌, ◌==◌, ◌⊎◌, nat_lt, IsTrue, Bool, true, false, List, [], ◌∷◌, ◌++◌, length, map, drop, fold, Option, Some, None, option_map, Result, Ok, Err, codes, chars, decimal, if◌then◌else◌}
+use Rattle.std.specs.Prelude.{◌≡◌, ℕ, ℤ, ◌+◌, ◌*◌, ◌/◌, ◌%◌, ◌<◌, ◌≤◌, ◌==◌, ◌⊎◌, nat_lt, IsTrue, Bool, true, false, List, [], ◌∷◌, ◌++◌, length, map, drop, Option, Some, None, option_map, Result, Ok, Err, codes, chars, decimal, if◌then◌else◌}
 use Rattle.std.specs.List.{list_all}
 use Rattle.cn_amount.specs.Places.{amount_limit}
+use Rattle.cn_core.specs.Digits.{value_of}
 use Rattle.cn_core.specs.Figures.{is_figure_minus}
 use Rattle.cn_core.specs.Whole.{signed_number}
 use Rattle.cn_capitals.specs.declared.refusal.Refusal.{Refusal}
@@ -12,14 +13,6 @@ use Rattle.cn_figures.specs.declared.error.FiguresError.TheVariants.{Unfinished,
 use Rattle.cn_figures.specs.declared.part.Part.{Part}
 use Rattle.cn_figures.specs.declared.part.Part.TheVariants.{Currency, Digit, Comma, Point}
 use Rattle.cn_figures.specs.Parts.{parts_of}
-
--- the number whose digits are those of `number` and then these
-abbrev pub value_after : ℕ → List ℕ → ℕ
-value_after number digits = fold (λ number digit. number * 10 + digit) number digits
-
--- the number with these digits
-abbrev pub value_of : List ℕ → ℕ
-value_of digits = value_after 0 digits
 
 -- three digits
 abbrev pub Triple : Type 0

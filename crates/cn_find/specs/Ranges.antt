@@ -19,7 +19,7 @@ is_of_amount c =
     is_any_digit c || is_tens c || is_power (mark_of c)
     || char_set_contains (codes "点點.．分之%％") c
 
--- the longest prefix of a text that consists of such characters
+-- the characters with which a text begins, up to the first that is not one of these
 abbrev pub amount_of : List ℕ → List ℕ
 amount_of [] = []
 amount_of (c ∷ text) = if is_of_amount c then c ∷ amount_of text else []

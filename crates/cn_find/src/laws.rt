@@ -139,7 +139,7 @@ pub fn numerals_have_no_estimate()
     ensures { (text : List ℕ) → IsNumeral (marks_of text) → is_one_estimate (pairs text) ≡ false }
 {}
 
-/// A run begins with a sign only where it begins with 正, the one plus sign.
+/// A run begins with a sign only if it begins with 正, the only plus sign.
 pub fn runs_begin_with_no_other_sign(wanted: Wanted)
     ensures { (bytes : List ℕ) (span : Span) (c : ℕ) (rest : List ℕ)
         → Contains (spans wanted bytes) span → IsUtf8 span.text → chars span.text ≡ c ∷ rest

@@ -9,7 +9,7 @@ use Rattle.cn_quantity.specs.Ratio.{after_bar, before_bar, begins_with_zhi, last
 use Rattle.cn_quantity.specs.Private.{BeginsWith, IsEnd, SplitsAtBar}
 use Rattle.cn_quantity.proofs.Ends.{IsEnd-all, IsEnd-end, text-parts}
 
--- no 分之 begins in front of this end
+-- no 分之 begins before this suffix
 pub record IsBarSought (bytes rest : List ℕ) : Type 0 where
   pub end : IsEnd bytes rest
   pub seen : List ℕ
@@ -51,7 +51,7 @@ pub bar-cut : (c zhi : ℕ) (l : List ℕ) → is_fen c ≡ true → is_zhi zhi 
     → after_bar (c ∷ zhi ∷ l) ≡ l
 bar-cut c zhi l e f = rw (e, f)
 
--- where the text behind 分之 stands
+-- the position of the text after 分之
 pub end-behind : (bytes rest after behind : List ℕ) (c zhi : ℕ) → IsBarSought bytes rest
     → BeginsWith rest c after → BeginsWith after zhi behind → IsEnd bytes behind
 end-behind bytes rest after behind c zhi s b d =

@@ -1,5 +1,5 @@
 -- A quantity without the zeros at the end of its decimals has the same value, and no zero there.
-use Rattle.std.proofs.Common.{◌≡◌, ◌↔◌, ℕ, zero, suc, ◌+◌, ◌-◌, ◌*◌, ◌/◌, ◌%◌, ◌^◌, ◌<◌, ◌≤◌, ◌==◌, ℤ, pos, negsuc, ◌*ℤ◌, neg_ℤ, int_lt, nat_abs, Bool, true, false, Option, Some, None, IsSome, option_map, ◌⊎◌, inl, inr, refl, sym, ap, ◌∙◌, arith, if◌then◌else◌}
+use Rattle.std.proofs.Common.{◌≡◌, ◌↔◌, ℕ, zero, suc, ◌+◌, ◌-◌, ◌*◌, ◌/◌, ◌%◌, ◌^◌, ◌<◌, ◌≤◌, ◌==◌, ℤ, pos, negsuc, ◌*ℤ◌, neg_ℤ, int_lt, nat_abs, Bool, true, false, Option, Some, None, IsSome, option_map, ◌⊎◌, inl, inr, refl, sym, ap, subst, ◌∙◌, arith}
 use Rattle.std.specs.Option.{option_map_or}
 use Rattle.std.proofs.Math.IntN.{negsuc-*ℤ-pos, pos-*ℤ-pos}
 use Rattle.std.proofs.Math.Nat.{mul-div_cancel, mul_assoc, pow-suc}
@@ -13,9 +13,9 @@ use Rattle.cn_quantity.specs.declared.quantity.QuantityForm.TheVariants.{Whole, 
 use Rattle.cn_quantity.specs.Ratio.{form_of}
 use Rattle.cn_quantity.specs.Trimmed.{decimals_in, decimals_of, form_with, trimmed, without_zeros, zeros_at_end}
 use Rattle.cn_quantity.proofs.KnownDecimals.{decimal-below, decimal-is, over-below, over-is, over-some, whole-is}
-use Rattle.cn_quantity.proofs.Trims.{ten-above}
+use Rattle.cn_quantity.proofs.Trims.{ten-above, zeros-next, zeros-stop}
 
--- the digits in front of so many zeros of the last so many digits
+-- the digits before the zeros among the last digits of a number
 pub record IsCut (count number zeros : ℕ) : Type 0 where
   pub front : ℕ
   pub exact : front * 10 ^ zeros ≡ number
@@ -29,32 +29,33 @@ IsCut-zeros zero number = record {
   few = omega arith;
   last = inl refl;
 }
-IsCut-zeros (suc count) number =
-    by (number % 10 == 0) refl (IsCut-zeros count (number / 10)) where
-      by : (b : Bool) → (number % 10 == 0) ≡ b
-          → IsCut count (number / 10) (zeros_at_end count (number / 10))
-          → IsCut (suc count) number
-          (if b then suc (zeros_at_end count (number / 10)) else 0)
-      by true e cut =
-          let zeros = zeros_at_end count (number / 10) in
-          let none : number % 10 ≡ 0 = grind (arith, nat_tests, e) in
-          let next : 10 ^ suc zeros ≡ 10 ^ zeros * 10 = pow-suc 10 zeros in record {
-            front = cut.front;
-            exact = ap (λ n. cut.front * n) next
-                ∙ sym (mul_assoc cut.front (10 ^ zeros) 10)
-                ∙ ap (λ n. n * 10) cut.exact
-                ∙ omega (arith, none);
-            few = omega (arith, cut.few);
-            last = elim cut.last [ inl all ↦ inl (ap suc all) | inr some ↦ inr some ];
-          }
-      by false e cut = record {
+IsCut-zeros (suc count) number = by (number % 10 == 0) refl (IsCut-zeros count (number / 10)) where
+  by : (b : Bool) → (number % 10 == 0) ≡ b
+      → IsCut count (number / 10) (zeros_at_end count (number / 10))
+      → IsCut (suc count) number (zeros_at_end (suc count) number)
+  by true e cut =
+      let zeros = zeros_at_end count (number / 10) in
+      let none : number % 10 ≡ 0 = grind (arith, nat_tests, e) in
+      let next : 10 ^ suc zeros ≡ 10 ^ zeros * 10 = pow-suc 10 zeros in
+      subst (IsCut (suc count) number) (sym (zeros-next count number (omega (arith, none)))) (record {
+        front = cut.front;
+        exact = ap (λ n. cut.front * n) next
+            ∙ sym (mul_assoc cut.front (10 ^ zeros) 10)
+            ∙ ap (λ n. n * 10) cut.exact
+            ∙ omega (arith, none);
+        few = omega (arith, cut.few);
+        last = elim cut.last [ inl all ↦ inl (ap suc all) | inr some ↦ inr some ];
+      })
+  by false e cut =
+      let some : 0 < number % 10 = grind (arith, nat_tests, e) in
+      subst (IsCut (suc count) number) (sym (zeros-stop (suc count) number some)) (record {
         front = number;
         exact = omega arith;
         few = omega arith;
-        last = inr (grind (arith, nat_tests, e));
-      }
+        last = inr some;
+      })
 
--- a denominator without so many of its zeros
+-- a denominator without some of its zeros
 less-dropped : (divisor decimals dropped : ℕ) → dropped ≤ decimals
     → divisor * 10 ^ decimals / 10 ^ dropped ≡ divisor * 10 ^ (decimals - dropped)
 less-dropped divisor decimals dropped low =
@@ -95,7 +96,7 @@ decimals-left Percent denominator decimals dropped is low =
     (let few = over-below 100 denominator decimals is in omega (arith, few))
 decimals-left Fraction denominator decimals dropped is low = cc
 
--- what so many decimals make of a divisor
+-- a divisor times ten for each decimal
 record IsOver (denominator decimals : ℕ) : Type 0 where
   divisor : ℕ
   exact : divisor * 10 ^ decimals ≡ denominator
@@ -112,7 +113,7 @@ IsOver-known Percent denominator decimals is =
     record { divisor = 100; exact = over-is 100 denominator decimals is }
 IsOver-known Fraction denominator decimals is = cc
 
--- a denominator ends with that many zeros
+-- a denominator ends with as many zeros
 denominator-dropped : (form : QuantityForm) (denominator decimals dropped : ℕ)
     → decimals_in form denominator ≡ Some decimals → dropped ≤ decimals
     → denominator / 10 ^ dropped * 10 ^ dropped ≡ denominator
@@ -146,7 +147,8 @@ signed-crossed (negsuc m) (suc front) power less denominator above below =
     ∙ ap (λ n. neg_ℤ (pos n)) (crossed (suc front) power less ∙ ap (λ n. n * less) above)
     ∙ sym (negsuc-*ℤ-pos m less)
 
--- what holds of a quantity, and of it without the zeros of known decimals, holds of it trimmed
+-- what holds of a quantity, and of the quantity without the zeros of known decimals, holds of the
+-- trimmed quantity
 trimmed-is : (P : Quantity → Type 0) (q : Quantity) → (decimals_of q ≡ None → P q)
     → ((decimals : ℕ) → decimals_of q ≡ Some decimals
     → P (without_zeros q decimals (zeros_at_end decimals (nat_abs q.numerator))))

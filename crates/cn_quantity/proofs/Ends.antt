@@ -1,4 +1,4 @@
--- A string and its ends: what stands in front, and the text that is left without white space.
+-- A string and its suffixes: what is before a suffix, and the text without white space.
 use Rattle.std.proofs.Common.{◌≡◌, ℕ, ◌+◌, ◌-◌, ◌<◌, false, List, [], ◌∷◌, ◌++◌, length, take, chars, encode_utf8_all, IsUtf8, refl, sym, ap, ◌∙◌, arith, append_assoc, length-append}
 use Rattle.std.proofs.Math.Seq.{take-append_seam}
 use Rattle.std.proofs.lemmas.Str.{encodes-append, encodes-chars, encodes_same, IsCharBoundary-at_seam}
@@ -31,7 +31,7 @@ FinishesWith-at bytes before c e = record {
 pub IsEnd-all : (bytes : List ℕ) → IsEnd bytes bytes
 IsEnd-all bytes = record { front = []; parts = refl }
 
--- an end of an end
+-- a suffix of a suffix
 pub IsEnd-end : (bytes rest after : List ℕ) → IsEnd bytes rest → IsEnd rest after
     → IsEnd bytes after
 IsEnd-end bytes rest after e f = record {
@@ -40,7 +40,7 @@ IsEnd-end bytes rest after e f = record {
       ∙ sym (append_assoc e.front f.front (chars after));
 }
 
--- the bytes of what stands in front of an end
+-- the bytes before a suffix
 front-bytes : (bytes rest : List ℕ) (e : IsEnd bytes rest) → IsUtf8 bytes → IsUtf8 rest
     → bytes ≡ encode_utf8_all e.front ++ rest
 front-bytes bytes rest e whole ended =

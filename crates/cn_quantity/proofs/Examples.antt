@@ -1,4 +1,4 @@
--- Worked examples: what the definitions compute to. They stand in the rules.
+-- Worked examples: what the definitions compute to. docs/RULES.md has them too.
 use Rattle.std.proofs.Common.{◌≡◌, ℕ, ℤ, pos, negsuc, List, [], ◌∷◌, map, codes, encode_utf8_all, Result, Ok, Err, refl}
 use Rattle.std.specs.Char.{encode_utf8}
 use Rattle.std.specs.Str.{chars}
@@ -10,7 +10,9 @@ use Rattle.cn_quantity.specs.declared.quantity.Quantity.{Quantity}
 use Rattle.cn_quantity.specs.declared.quantity.QuantityForm.{QuantityForm}
 use Rattle.cn_quantity.specs.declared.quantity.QuantityForm.TheVariants.{Whole, Decimal, Percent, Fraction}
 use Rattle.cn_quantity.specs.Characters.{chinese_digit_of, is_fen, is_point, is_zhi, share_of, sign_of}
+use Rattle.cn_quantity.specs.Figures.{groups_of}
 use Rattle.cn_quantity.specs.Reading.{quantity_answer}
+use Rattle.cn_quantity.specs.Trimmed.{zeros_at_end}
 
 abbrev answers : List (List ℕ) → List (Result Quantity Refusal)
 answers texts = map (λ text. quantity_answer TenThousand (encode_utf8_all text)) texts
@@ -61,6 +63,15 @@ whole_numbers : answers (codes "一百二" ∷ codes "二零二五" ∷ codes "�
 unfolding chars encode_utf8 digit_of rank_of figure_of chinese_digit_of tens_of sign_of numeral_sign is_point
     is_fen is_zhi share_of
 whole_numbers = refl
+
+groups : map groups_of (codes "1,280.5万" ∷ codes "5" ∷ codes "１，２" ∷ codes "1,," ∷ [])
+    ≡ (codes "1" ∷ codes "280" ∷ []) ∷ (codes "5" ∷ []) ∷ (codes "１" ∷ codes "２" ∷ [])
+    ∷ (codes "1" ∷ [] ∷ [] ∷ []) ∷ []
+unfolding figure_of
+groups = refl
+
+zeros : zeros_at_end 4 1500 ∷ zeros_at_end 1 1500 ∷ zeros_at_end 3 0 ∷ [] ≡ 2 ∷ 1 ∷ 3 ∷ []
+zeros = refl
 
 percentages : answers (codes "12.5%" ∷ codes "五十％" ∷ codes "百%" ∷ codes "50%%" ∷ codes "5‰" ∷ codes "12.5‰" ∷ codes "‰" ∷ [])
     ≡ is (pos 125) 1000 Percent ∷ is (pos 50) 100 Percent ∷ Err (incorrect_at 0)

@@ -9,15 +9,15 @@ use Rattle.cn_core.specs.Characters.{rank_of}
 use Rattle.cn_core.specs.Figures.{figure_of}
 use Rattle.cn_core.specs.Text.{text_of}
 use Rattle.cn_quantity.specs.declared.characters.DigitKind.TheVariants.{Figure}
-use Rattle.cn_quantity.specs.Digits.{after_digits, leading_digits}
+use Rattle.cn_quantity.specs.Digits.{after_digits, begins_with_nought, leading_digits}
 use Rattle.cn_quantity.specs.Private.{IsGroup}
 use Rattle.cn_quantity.specs.declared.turns.Turns.{Turns}
 use Rattle.std.specs.Char.{char_set_contains}
 use Rattle.cn_core.specs.declared.method.ChineseCountMethod.{ChineseCountMethod}
-use Rattle.cn_quantity.specs.Turns.{after_group, after_units, begins_with_nought, begins_with_zero, by_turns, first_group, has_two_readings, last_group, later_group, leading_number, leading_units, number_of, turns_after, unit_group, units_of, with_group, with_last, without_zero}
+use Rattle.cn_quantity.specs.Turns.{after_group, after_units, begins_with_zero, by_turns, first_group, has_two_readings, last_group, later_group, leading_number, leading_units, number_of, turns_after, unit_group, units_of, with_group, with_last, without_zero}
 use Rattle.cn_quantity.proofs.Ends.{text-parts}
 
--- more figures make no smaller number
+-- more figures do not make a smaller number
 number-grows : (number : ℕ) (text : List ℕ) → number ≤ leading_number number text
 number-grows number [] = omega arith
 number-grows number (c ∷ rest) = by (figure_of c) (λ n. number-grows n rest) where
@@ -39,7 +39,7 @@ number-past number c figure text rest after same first is past =
     grind (arith, nat_tests, more, all, past) in
     rw test refl
 
--- the units and what follows them are the text
+-- the units and the text after them are the text
 units-parts : (least : ℕ) (text : List ℕ)
     → leading_units least text ++ after_units least text ≡ text
 units-parts least [] = refl
@@ -75,7 +75,7 @@ IsGroup-at bytes after units rest count number nought size digits is end parts f
   rest_is = end ∙ ap (after_units 1) digits;
 }
 
--- what follows a group is no longer than the text
+-- the text after a group is not longer than the text
 digits-length : (text : List ℕ)
     → leading_digits Figure text + length (after_digits Figure text) ≡ length text
 digits-length [] = refl
@@ -104,7 +104,7 @@ zero-length (c ∷ rest) = by (char_set_contains (codes "零〇") c) where
   by true = omega arith
   by false = omega arith
 
--- the groups that are read, and those of this end, are those of the text
+-- the groups that are read, and those of this suffix, are those of the text
 pub record IsTurning (method : ChineseCountMethod) (bytes : List ℕ) (turns : Turns)
     (rest : List ℕ) : Type 0 where
   pub steps : ℕ
@@ -186,7 +186,7 @@ IsTurning-more method bytes rest group after text c turns next after_zero t firs
             ∙ ap (turns_after steps method next) (sym left);
       }
 
--- the last groups, or one that is none
+-- the last groups, or a group that is not valid
 turns-end : (steps : ℕ) (method : ChineseCountMethod) (turns : Turns)
     → turns_after steps method turns [] ≡ Some turns.sum
 turns-end zero method turns = refl
@@ -220,13 +220,13 @@ turned-none method bytes rest group text c turns after_zero t first zero_is grou
           sym (same ∙ ap (turns_after (suc steps) method turns) first
           ∙ turns-none method turns steps c text later)
 
--- a number that does not fit adds nothing
+-- a number that does not fit makes a sum that does not fit
 pub last-past : (turns : Turns) (number : ℕ) → ¬ (number < 2 ^ 128) → with_last turns number ≡ None
 last-past turns number past =
     let test : nat_lt (turns.sum + number) (2 ^ 128) ≡ false = grind (arith, nat_tests, past) in
     rw test refl
 
--- a power of ten that does not fit is no number that does
+-- a power of ten that does not fit differs from each number that fits
 pub power-above : (product count : ℕ) → ¬ (count ≤ 38) → product < 2 ^ 128
     → (product == 10 ^ count) ≡ false
 power-above product count much small =
@@ -235,7 +235,7 @@ power-above product count much small =
     let least : 2 ^ 128 ≤ 10 ^ 39 = leb-true _ _ refl in
     grind (arith, nat_tests, power, least, small)
 
--- what begins with no figure is no number by turns
+-- a text that does not begin with a figure is not a number by turns
 pub turns-begin : (method : ChineseCountMethod) (text : List ℕ) → leading_digits Figure text ≡ 0
     → by_turns method text ≡ None
 turns-begin method text none = by (number_of text) (leading_digits Figure text) none refl where

@@ -26,7 +26,7 @@ over-is divisor denominator decimals h =
     let passes = find-passes (λ n. divisor * 10 ^ n == denominator) (range_with_len 0 39)
     decimals h in grind (arith, nat_tests, passes)
 
--- the denominator of a form with so many decimals
+-- the denominator of a form with this number of decimals
 pub whole-is : (denominator decimals : ℕ) → decimals_in Whole denominator ≡ Some decimals
     → (decimals ≡ 0) × (denominator ≡ 1)
 whole-is denominator decimals h = by (denominator == 1) refl h where
@@ -48,7 +48,7 @@ decimal-is denominator decimals h = by (decimals_over 10 denominator) refl h whe
         ap (λ n. 10 ^ n) (sym same) ∙ pow-suc 10 fewer ∙ omega (arith, power),
       )
 
--- what is found from a number on is one of so many from there
+-- what is found from a number on is one of the numbers from there on
 from-below : (divisor denominator start count decimals : ℕ)
     → over_from divisor denominator start count ≡ Some decimals → decimals < start + count
 unfolding over_from
@@ -110,7 +110,7 @@ over-some divisor denominator decimals some is low =
     over-all divisor denominator
     ∙ over-found divisor denominator decimals 0 39 some is (omega arith) (omega (arith, low))
 
--- a decimal has no more than those over ten, and one
+-- a decimal has at most one more than the decimals over ten
 pub decimal-below : (denominator decimals : ℕ) → decimals_in Decimal denominator ≡ Some decimals
     → decimals < 40
 decimal-below denominator decimals h = by (decimals_over 10 denominator) refl h where

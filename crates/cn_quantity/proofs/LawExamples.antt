@@ -1,4 +1,4 @@
--- Of each law that has premises, values that meet all of them.
+-- For each law with premises, values that meet all of them.
 use Rattle.std.proofs.Common.{◌≡◌, ◌<◌, pos, negsuc, codes, encode_utf8_all, Err, None, IsSome, refl, arith}
 use Rattle.std.specs.Char.{encode_utf8}
 use Rattle.std.specs.Str.{chars}

@@ -2,6 +2,7 @@ pub mod Bars
 pub mod DroppedZeros
 pub mod Ends
 mod Examples
+pub mod FigureGroups
 pub mod Groups
 pub mod Growing
 pub mod KnownDecimals

@@ -1,4 +1,4 @@
--- A text, looked through for its first misread character.
+-- The search for the first misread character of a text.
 use Rattle.std.proofs.Common.{◌≡◌, ℕ, Bool, true, false, ◌&&◌, ◌||◌, nat_le, List, [], ◌∷◌, ◌++◌, length, chars, drop, reverse, Option, Some, None, refl, sym, ap, ap₂, ◌∙◌, append_assoc, if◌then◌else◌}
 use Rattle.std.proofs.lemmas.List.{append_cancel_right, length-reverse, reverse-append}
 use Rattle.cn_core.specs.Mark.{Mark, digit, unit, other, mark_of}
@@ -11,14 +11,14 @@ use Rattle.cn_quantity.specs.Misread.{bare_ten, begins, counts_after_smaller, fi
 use Rattle.cn_quantity.specs.Private.{BeginsWith, IsEnd, SplitsAtMisread, marks_before}
 use Rattle.cn_quantity.proofs.Ends.{IsEnd-all, IsEnd-end, text-parts}
 
--- the three nearest marks, and neither digits nor units where there are none
+-- the three nearest marks; a missing one is neither a digit nor a unit
 abbrev pub nearest : List Mark → List Mark
 nearest [] = other ∷ other ∷ other ∷ []
 nearest (a ∷ []) = a ∷ other ∷ other ∷ []
 nearest (a ∷ b ∷ []) = a ∷ b ∷ other ∷ []
 nearest (a ∷ b ∷ d ∷ more) = a ∷ b ∷ d ∷ []
 
--- they alone decide
+-- only these decide
 pub bare-same : (a b : Mark) (more others : List Mark)
     → unit_before_ten (a ∷ b ∷ more) ≡ unit_before_ten (a ∷ b ∷ others)
 bare-same (digit v) (digit w) more others = refl
@@ -95,7 +95,7 @@ near-weighs front after =
     let unit = begins-nearest (is_unit_from 1) front refl in
     cc
 
--- one more of them
+-- one more character
 nearest-more : (front : List Mark) (mark : Mark) (before : Before) (now : ReadMark)
     → marks_before before ≡ nearest front → marked now ≡ mark
     → marks_before (record { first = now; second = before.first; third = before.second })
@@ -105,7 +105,7 @@ nearest-more (a ∷ []) mark before now near is = cc
 nearest-more (a ∷ b ∷ []) mark before now near is = cc
 nearest-more (a ∷ b ∷ d ∷ more) mark before now near is = cc
 
--- no character before this end is misread
+-- no character before this suffix is misread
 pub record IsPassed (bytes rest : List ℕ) (before : Before) : Type 0 where
   pub end : IsEnd bytes rest
   pub seen : List ℕ
@@ -118,7 +118,7 @@ pub IsPassed-none : (bytes : List ℕ)
 IsPassed-none bytes =
     record { end = IsEnd-all bytes; seen = []; text = refl; same = refl; near = refl }
 
--- what is asked of the marks nearest to a character is asked of all before it
+-- a condition on the marks nearest to a character is one on all marks before it
 asked : (front : List ℕ) (before : Before) (c : ℕ) (after : List ℕ)
     → marks_before before ≡ nearest (marks_of front)
     → (is_misread_mark (marks_before before) (mark_of c) (marks_of after)

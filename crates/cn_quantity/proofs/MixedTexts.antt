@@ -16,7 +16,7 @@ use Rattle.cn_quantity.specs.Ratio.{after_bar, after_you, before_bar, before_you
 use Rattle.cn_quantity.specs.WholeNumber.{whole_answer}
 use Rattle.cn_quantity.proofs.Ends.{IsEnd-all, IsEnd-end, text-parts}
 
--- no 又 stands before this end
+-- no 又 is before this suffix
 pub record IsYouSought (bytes rest : List ℕ) : Type 0 where
   pub end : IsEnd bytes rest
   pub seen : List ℕ
@@ -67,7 +67,7 @@ pub none-sought : (bytes rest : List ℕ) → IsYouSought bytes rest → text_of
     → after_you (text_of bytes) ≡ []
 none-sought bytes rest s none = s.after ∙ ap after_you none
 
--- where places stand decides nothing
+-- the answer does not depend on where places are counted from
 same-of : (a b d : ℕ) (x y z : List ℕ) (whole divisor : Result ℕ Refusal)
     (decimal : Result Decimal Refusal)
     → mixed_of (answer_at a x whole) (answer_at b y divisor) (answer_at d z decimal)
@@ -134,7 +134,7 @@ mixed-by method bytes before rest divisor over more index c whole below decimal 
           (part_answer method (after_bar (after_you (text_of bytes))))
       here = rw test
 
--- a text that is none, by the part that is missing
+-- a text that is not a mixed fraction, by the part that is missing
 mixed-not : (method : ChineseCountMethod) (text : List ℕ)
     → (nat_lt 0 (length (before_you text)) && is_fraction (after_you text)) ≡ false
     → mixed method text ≡ None

@@ -13,7 +13,7 @@ pub IsEnd-over : (bytes divisor over : List ℕ) (index : ℕ) → SplitsAtBar b
     → IsEnd bytes over
 IsEnd-over bytes divisor over index s = record { front = s.stands.front; parts = s.stands.parts }
 
--- whether it has one, by the first character over the line
+-- whether it has one, by the first character of the numerator
 pub negated-test : (bytes divisor over after : List ℕ) (index c next : ℕ) (rest : List ℕ)
     (sign : Option Sign) → is_fraction (text_of bytes) ≡ true
     → SplitsAtBar bytes divisor index over → text_of over ≡ c ∷ after → after ≡ next ∷ rest
@@ -23,7 +23,7 @@ negated-test bytes divisor over after index c next rest sign fraction s first se
     ∙ ap begins_with_minus (sym s.behind_is ∙ first ∙ ap (λ l. c ∷ l) second)
     ∙ ap is_minus (sym is)
 
--- nothing follows that character
+-- nothing is after that character
 pub negated-short : (bytes divisor over after : List ℕ) (index c : ℕ)
     → is_fraction (text_of bytes) ≡ true → SplitsAtBar bytes divisor index over
     → text_of over ≡ c ∷ after → after ≡ [] → is_negated (text_of bytes) ≡ false

@@ -1,4 +1,4 @@
--- A whole number and a number, from what their parts are answered.
+-- The answers to a whole number and to a number, from the answers to their parts.
 use Rattle.std.proofs.Common.{◌≡◌, ℕ, suc, ◌+◌, ◌<◌, ◌≤◌, Bool, true, false, nat_lt, ◌&&◌, List, [], ◌∷◌, length, Option, Some, None, Result, Ok, Err, refl, sym, ap, ◌∙◌, arith, if◌then◌else◌}
 use Rattle.std.specs.Option.{option_map_or}
 use Rattle.cn_core.specs.declared.method.ChineseCountMethod.{ChineseCountMethod}
@@ -22,7 +22,7 @@ use Rattle.cn_quantity.specs.WholeNumber.{whole_answer}
 use Rattle.cn_quantity.proofs.WholeNumbers.{whole-low}
 use Rattle.cn_quantity.proofs.Told.{told-front, told-stops, told-goes_on}
 
--- a number that fits or not names no place
+-- the answer to a number that fits or does not fit does not name a place
 pub decimal-told : (skipped : ℕ) (bytes : List ℕ) (decimals : ℕ) (number : Option ℕ)
     → decimal_of decimals number ≡ answer_at skipped bytes (decimal_of decimals number)
 decimal-told skipped bytes decimals (Some number) = refl
@@ -33,7 +33,7 @@ decimal-placeless : (decimals : ℕ) (number : Option ℕ) (place : ℕ)
 decimal-placeless decimals (Some number) place h = cc
 decimal-placeless decimals None place h = cc
 
--- the first answer is refused, since the next one names no place
+-- the first answer is the refusal, since the next one does not name a place
 first-refused : (first : Result ℕ Refusal) (decimals : ℕ) (next : ℕ → Option ℕ) (place : ℕ)
     → and_then first (λ whole. decimal_of decimals (next whole)) ≡ Err (incorrect_at place)
     → first ≡ Err (incorrect_at place)
@@ -41,7 +41,7 @@ first-refused (Ok whole) decimals next place h =
     absurd (decimal-placeless decimals (next whole) place h)
 first-refused (Err refusal) decimals next place h = cc
 
--- which number a text is
+-- which kind of number a text is
 pub in-figures : (method : ChineseCountMethod) (text : List ℕ) → is_in_figures text ≡ true
     → shaped_number method text
     ≡ decimal_of (decimals_in_figures text) (read_with_units method Figure 0 text)
@@ -85,7 +85,7 @@ turned-told method skipped number bytes answer e t is =
     is ∙ decimal-told skipped bytes 0 (Some number)
     ∙ ap (answer_at skipped bytes) (sym (a-turned method (text_of bytes) number e (sym t)))
 
--- the answer to what stands in front of a point, told in the whole text
+-- the answer to the text before a point, with the place counted in the whole text
 told-before : (method : ChineseCountMethod) (skipped : ℕ) (bytes before behind : List ℕ)
     → SplitsAtPoint bytes before behind
     → answer_at skipped before (whole_answer method (text_of before))
@@ -107,7 +107,7 @@ decimal-stops method skipped bytes before behind refusal e t f s h =
     (h ∙ told-before method skipped bytes before behind s)
     ∙ ap (answer_at skipped bytes) (sym (a-decimal method (text_of bytes) e t f))
 
--- and one whose whole part is a number
+-- a Chinese decimal whose whole part is a number
 pub decimal-goes_on : (method : ChineseCountMethod) (skipped decimals whole : ℕ)
     (bytes before behind : List ℕ) (answer : Result Decimal Refusal)
     → is_in_figures (text_of bytes) ≡ false
@@ -211,7 +211,7 @@ number-low method text place h = by (whole_answer method text) h where
   by (Ok number) e = cc
   by (Err refusal) e = shaped-low method text place e
 
--- a whole number, told in the whole text, and any other answer
+-- a whole number, with the place counted in the whole text, and any other answer
 pub whole-first : (skipped : ℕ) (bytes : List ℕ) (first : Result ℕ Refusal)
     (shaped answer : Result Decimal Refusal) (number : ℕ)
     → Ok number ≡ answer_at skipped bytes first → answer ≡ decimal_of 0 (Some number)
@@ -239,7 +239,7 @@ part-low method text place h = by (nat_lt 0 (length text) && are_rising_units te
   by true e = absurd (decimal-placeless 0 (times_units method 1 text) place e)
   by false e = number-low method text place e
 
--- of a divisor too, where there is one
+-- the same for a divisor, if there is one
 divisor-low : (method : ChineseCountMethod) (c : ℕ) (rest : List ℕ) (place : ℕ)
     → divisor_answer method (c ∷ rest) ≡ Err (incorrect_at place) → place < length (c ∷ rest)
 divisor-low method c rest place h = by (part_answer method (c ∷ rest)) refl h where
@@ -261,7 +261,7 @@ pub divisor-within : (method : ChineseCountMethod) (text : List ℕ) (place : �
 divisor-within method [] place some h = absurd (omega (arith, some))
 divisor-within method (c ∷ rest) place some h = divisor-low method c rest place h
 
--- the answer to a divisor, from that to a part
+-- the answer to a divisor, from the answer to a part
 pub divisor-empty : (method : ChineseCountMethod) (skipped : ℕ) (bytes : List ℕ)
     → text_of bytes ≡ []
     → Err empty ≡ answer_at skipped bytes (divisor_answer method (text_of bytes))

@@ -10,7 +10,7 @@ use Rattle.cn_quantity.specs.Figures.{are_decimals}
 use Rattle.cn_quantity.specs.Private.{BeginsWith, IsEnd, SplitsAtPoint}
 use Rattle.cn_quantity.proofs.Ends.{IsEnd-all, IsEnd-end, text-parts}
 
--- no point stands in front of this end
+-- no point is before this suffix
 pub record IsSought (bytes rest : List ℕ) : Type 0 where
   pub end : IsEnd bytes rest
   pub seen : List ℕ
@@ -73,7 +73,7 @@ colloquial-last (x ∷ y ∷ rest) c d = by rest ∙ colloquial-last (y ∷ rest
   by [] = refl
   by (z ∷ rest) = refl
 
--- the same, of a text that is cut twice
+-- the same for a text that is cut twice
 pub colloquial-cut : (text before front : List ℕ) (c d : ℕ) (great digit : Bool)
     → text ≡ before ++ d ∷ [] → before ≡ front ++ c ∷ [] → great ≡ is_great_unit c
     → digit ≡ is_some (digit_of d) → (great && digit) ≡ ends_colloquially text
@@ -81,7 +81,7 @@ colloquial-cut text before front c d great digit last second great_is digit_is =
     rw (great_is, digit_is) (sym (ap ends_colloquially (last ∙ ap (λ l. l ++ d ∷ []) second
     ∙ append_assoc front (c ∷ []) (d ∷ [])) ∙ colloquial-last front c d))
 
--- what stands behind the point is no decimals
+-- the text after the point is not decimals
 pub no-decimals : (text behind : List ℕ) → behind ≡ after_point text
     → ¬ (are_decimals Chinese behind ≡ true) → is_chinese_decimal text ≡ false
 no-decimals text behind is none =

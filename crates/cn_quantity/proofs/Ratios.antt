@@ -17,7 +17,7 @@ use Rattle.cn_quantity.specs.Ratio.{after_bar, before_bar, begins_with_minus, fo
 use Rattle.cn_quantity.proofs.Numbers.{divisor-within, number-low, part-low}
 use Rattle.cn_quantity.proofs.Told.{told-end, told-front, told-goes_on, told-stops}
 
--- a number over a divisor names no place
+-- the answer to a number over a divisor does not name a place
 ratio-told : (skipped : ℕ) (bytes : List ℕ) (divisor : ℕ) (form : QuantityForm)
     (decimal : Decimal)
     → ratio_of divisor form decimal ≡ answer_at skipped bytes (ratio_of divisor form decimal)
@@ -55,7 +55,7 @@ pub a-number : (method : ChineseCountMethod) (text : List ℕ) → is_fraction t
     (λ decimal. ratio_of 1 (form_of decimal.decimals) decimal)
 a-number method text e f = rw (e, f)
 
--- something stands in front of 分之
+-- something is before 分之
 pub some-divisor : (text : List ℕ) → is_fraction text ≡ true → 0 < length (before_bar text)
 some-divisor text h = by (before_bar text) h where
   by : (before : List ℕ)
@@ -64,7 +64,7 @@ some-divisor text h = by (before_bar text) h where
   by [] e = cc
   by (c ∷ rest) e = omega arith
 
--- the answers to the parts of a fraction, told in the whole text
+-- the answers to the parts of a fraction, with places counted in the whole text
 divisor-told : (method : ChineseCountMethod) (skipped index place : ℕ) (bytes divisor over : List ℕ)
     → SplitsFraction bytes divisor index place over
     → answer_at skipped divisor (divisor_answer method (text_of divisor))
@@ -102,7 +102,7 @@ fraction-by method skipped index place number bytes divisor over s h =
     told-goes_on skipped bytes (divisor_answer method (text_of divisor)) _ number
     (h ∙ divisor-told method skipped index place bytes divisor over s)
 
--- the part over it is refused
+-- the numerator is refused
 pub fraction-stops_over : (method : ChineseCountMethod) (skipped index place number : ℕ)
     (bytes divisor over : List ℕ) (refusal : Refusal)
     → SplitsFraction bytes divisor index place over
@@ -156,7 +156,7 @@ fraction-is method skipped index bytes divisor over answer e s is =
     (length (before_bar (text_of bytes)) + 2) o)) s.divisor_is s.behind_is
     ∙ ap (answer_at skipped bytes) (sym (a-fraction method (text_of bytes) e))
 
--- the answer in front of a percent sign, told in the whole text
+-- the answer to the text before a percent sign, with the place counted in the whole text
 share-told : (method : ChineseCountMethod) (skipped : ℕ) (bytes before : List ℕ)
     → IsFront bytes before
     → text_of before ≡ take (length (text_of bytes) - 1) (text_of bytes)
@@ -219,7 +219,7 @@ number-goes_on method skipped bytes decimal answer e p h is =
     ∙ told-goes_on skipped bytes (number_answer method (text_of bytes))
     (λ decimal. ratio_of 1 (form_of decimal.decimals) decimal) decimal h))
 
--- what stands in front of 分之, its two characters, and what stands behind it
+-- the text before 分之, its two characters, and the text after it
 pub bar-lengths : (text : List ℕ) → 0 < length (after_bar text)
     → length (before_bar text) + 2 + length (after_bar text) ≡ length text
 bar-lengths [] some = absurd (omega (arith, some))
@@ -250,7 +250,7 @@ ratio-placeless divisor form decimal place h =
       by true e = cc
       by false e = cc
 
--- the first answer is refused, since the next one names no place
+-- the first answer is the refusal, since the next one does not name a place
 over-refused : (first : Result Decimal Refusal) (divisor : ℕ) (form : Decimal → QuantityForm)
     (place : ℕ)
     → and_then first (λ decimal. ratio_of divisor (form decimal) decimal)
@@ -298,7 +298,7 @@ some-over text fraction = by (nat_lt 0 (length (before_bar text))) (after_bar te
   by false [] e = cc
   by b (c ∷ rest) e = omega arith
 
--- what follows a minus sign after 分之
+-- the text after a minus sign that is after 分之
 pub minus-length : (after : List ℕ) → begins_with_minus after ≡ true
     → length (drop 1 after) + 1 ≡ length after
 minus-length [] h = cc

@@ -48,7 +48,7 @@ pub quantity-negated : (method : ChineseCountMethod) (bytes : List ℕ)
     (negated_answer method (drop (front_length (text_of bytes)) (text_of bytes)))
 quantity-negated method bytes some = rw some
 
--- the same, by what follows the sign
+-- the same, by the text after the sign
 pub signed-plain : (method : ChineseCountMethod) (bytes rest : List ℕ) (skipped : ℕ)
     (sign : Option Sign) (answer : Result Quantity Refusal) (ratio : Result Ratio Refusal)
     → sign ≡ number_sign (text_of bytes)
@@ -101,7 +101,7 @@ pub not-negated : (none negated : Bool) → negated ≡ false → (none && negat
 not-negated true negated h = h
 not-negated false negated h = refl
 
--- how many characters stand before the number
+-- the number of characters before the number
 sign-within : (text : List ℕ) → sign_length text ≤ length text
 sign-within [] = omega arith
 sign-within (c ∷ []) = by (sign_of c) where
@@ -134,7 +134,7 @@ front-within text =
     let two = yen-within (drop (sign_length text) text) in
     omega (arith, one, two, length-drop (sign_length text) text)
 
--- what is left of the text counts on from there
+-- places in the rest of the text count from there
 pub front-place : (bytes number rest : List ℕ)
     → text_of number ≡ drop (sign_length (text_of bytes)) (text_of bytes)
     → text_of rest ≡ drop (yen_length (text_of number)) (text_of number)
@@ -158,7 +158,7 @@ front-place bytes number rest first second =
       length-drop (yen_length (text_of number)) (text_of number),
     )
 
--- a ratio with its sign names no place
+-- the answer to a ratio with its sign does not name a place
 signed-placeless : (sign : Option Sign) (ratio : Ratio) (place : ℕ)
     → signed_ratio sign ratio ≡ Err (incorrect_at place) → ⊥
 signed-placeless sign ratio place h =

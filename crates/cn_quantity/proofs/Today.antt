@@ -1,4 +1,4 @@
--- A text of digits and units of numerals alone is read as the readers of numerals read it.
+-- A text that consists of digits and units of numerals is read as the readers of numerals read it.
 use Rattle.std.proofs.Common.{◌≡◌, ℕ, ◌+◌, ◌*◌, ◌^◌, ◌<◌, ◌≤◌, Bool, true, false, not, nat_le, nat_lt, ◌&&◌, ◌||◌, ◌==◌, List, [], ◌∷◌, ◌++◌, length, map, take, drop, codes, ℤ, Option, Some, None, is_none, is_some, Result, Ok, Err, refl, sym, ap, ap₂, subst, ◌∙◌, arith, if◌then◌else◌}
 use Rattle.std.specs.List.{list_all}
 use Rattle.std.specs.Option.{option_map_or}
@@ -33,6 +33,7 @@ use Rattle.cn_quantity.specs.declared.quantity.QuantityForm.TheVariants.{Whole}
 use Rattle.cn_quantity.specs.Answer.{and_then, further_by}
 use Rattle.cn_quantity.specs.Characters.{is_fen, is_ling, is_point, is_xia, is_you, share_of, sign_of}
 use Rattle.cn_quantity.specs.Number.{number_answer, or_shaped, shaped_number}
+use Rattle.cn_quantity.proofs.Growing.{times-unit}
 use Rattle.cn_quantity.proofs.Ratios.{a-number, simple-is}
 use Rattle.cn_quantity.proofs.MixedTexts.{no-you}
 use Rattle.cn_quantity.specs.Ratio.{after_bar, after_you, before_bar, begins_with_minus, form_of, is_fraction, is_negated, last_share, ratio_answer, ratio_of, share}
@@ -40,10 +41,10 @@ use Rattle.cn_quantity.specs.Reading.{begins_number, front_length, is_below_zero
 use Rattle.cn_quantity.proofs.Signed.{not-negated as rest-not_negated, quantity-plain}
 use Rattle.cn_quantity.specs.Misread.{bare_ten_between, first_misread}
 use Rattle.cn_quantity.specs.Units.{are_rising, times_units}
-use Rattle.cn_quantity.specs.WholeNumber.{fitting, is_plain, misread_answer, reader_answer, sum_answer, whole_answer}
+use Rattle.cn_quantity.specs.WholeNumber.{fitting, is_plain, misread_answer, reader_answer, refused_at, sum_answer, whole_answer}
 use Rattle.cn_quantity.proofs.WholeNumbers.{whole-reader}
 
--- what each digit and unit of numerals has
+-- properties that each digit and unit of numerals has
 pub own : (p : ℕ → Bool) (c : ℕ) → list_all (list_all p) digit_rows ≡ true
     → list_all (list_all p) unit_rows ≡ true → is_digit_or_unit (mark_of c) ≡ true → p c ≡ true
 own p c digits units marked = by (p c) refl where
@@ -57,7 +58,7 @@ pub none-of : (b : Bool) → not b ≡ true → b ≡ false
 none-of true h = cc
 none-of false h = refl
 
--- and what none of them has
+-- and properties that none of them has
 lacks : (p : ℕ → Bool) (c : ℕ) → list_all (list_all (λ c. not (p c))) digit_rows ≡ true
     → list_all (list_all (λ c. not (p c))) unit_rows ≡ true → is_digit_or_unit (mark_of c) ≡ true
     → p c ≡ false
@@ -111,7 +112,7 @@ digit-no_unit c v is = by (rank_of c) refl where
   by None e = refl
   by (Some rank) e = let none = one-kind c rank e in cc
 
--- digits and units alone
+-- only digits and units
 abbrev pub are_marks : List ℕ → Bool
 are_marks text = list_all (λ c. is_digit_or_unit (mark_of c)) text
 
@@ -159,7 +160,7 @@ no-shares text h = by (nat_lt 1 (length text)) (share-nowhere text h) where
   by true h = h
   by false h = refl
 
--- the first of rising units, and those behind it
+-- the first of rising units, and the units after it
 record IsRising (least c : ℕ) (rest : List ℕ) : Type 0 where
   rank : ℕ
   is : rank_of c ≡ Some rank
@@ -184,16 +185,6 @@ fits : (a b : Bool) → (not a || b) ≡ false → (a ≡ true) × (b ≡ false)
 fits true b h = (refl, h)
 fits false b h = cc
 
--- one unit more, and one digit
-times-unit : (method : ChineseCountMethod) (number c rank : ℕ) (rest : List ℕ)
-    → rank_of c ≡ Some rank → scale_fits method rank ≡ true
-    → times_units method number (c ∷ rest) ≡ times_units method (number * scale method rank) rest
-times-unit method number c rank rest is fits = rw (is, fits)
-
-pub times-digit : (method : ChineseCountMethod) (number c : ℕ) (rest : List ℕ) → rank_of c ≡ None
-    → times_units method number (c ∷ rest) ≡ times_units method number rest
-times-digit method number c rest none = rw none
-
 -- rising units count the product of their scales
 pub units-product : (method : ChineseCountMethod) (least k number : ℕ) (text : List ℕ)
     → are_rising least text ≡ true → k ≤ least + 1 → some_unfit method (marks_of text) ≡ false
@@ -201,8 +192,8 @@ pub units-product : (method : ChineseCountMethod) (least k number : ℕ) (text :
     → times_units method number text
     ≡ Some (number * product (map (scale method) (records_from k (marks_of text))))
 units-product method least k number [] rising low fit small =
-    let test : nat_lt number (2 ^ 128) ≡ true = grind (arith, nat_tests, small) in
-    rw test (ap Some (omega arith))
+    let test : nat_lt (number * 1) (2 ^ 128) ≡ true = grind (arith, nat_tests, small) in
+    rw test refl
 units-product method least k number (c ∷ rest) rising low fit small =
     let r = rising-first least c rest rising in
     let mark = unit-mark c r.rank r.is in
@@ -218,7 +209,7 @@ units-product method least k number (c ∷ rest) rising low fit small =
     (omega arith) fit.1 (rw all at small)
     ∙ ap Some (sym all)
 
--- they hold no digits
+-- they contain no digits
 pub units-no_value : (method : ChineseCountMethod) (least : ℕ) (text : List ℕ)
     → are_rising least text ≡ true → colloquial_value method (marks_of text) ≡ 0
 units-no_value method least [] h = refl
@@ -231,7 +222,7 @@ units-no_value method least (c ∷ d ∷ more) h =
     rw (unit-mark c r.rank r.is, unit-mark d next.rank next.is)
     (rw (unit-mark d next.rank next.is) at none)
 
--- a number is answered as it is read
+-- the answer to a number is the number that is read
 pub number-whole : (method : ChineseCountMethod) (text : List ℕ) (number : ℕ)
     → whole_answer method text ≡ Ok number
     → number_answer method text ≡ Ok (record { number = number; decimals = 0 })
@@ -312,7 +303,7 @@ numeral-marks (c ∷ rest) h =
     by (unit rank) is e = rw is (after (if rank == 1 then digit 10 else unit rank) e)
     by other is e = cc
 
--- the first of plain digits, and those behind it
+-- the first of plain digits, and the digits after it
 record IsPlain (c : ℕ) (rest : List ℕ) : Type 0 where
   value : ℕ
   is : digit_of c ≡ Some value
@@ -334,7 +325,7 @@ plain-marks [] h = refl
 plain-marks (c ∷ rest) h =
     let d = plain-first c rest h in rw (digit-mark c d.value d.is) (plain-marks rest d.more)
 
--- only digits and units are read as a whole number; any other text goes by its shape
+-- only texts of digits and units are read as a whole number; any other text is read by its shape
 reader-marks : (method : ChineseCountMethod) (text : List ℕ) (number : ℕ)
     → reader_answer method text ≡ Ok number → are_marks text ≡ true
 reader-marks method text number h = by (is_plain text) refl h where
@@ -376,16 +367,23 @@ sum-read method rank number before from h = by (judge method (marks_of before)) 
 pub whole-marks : (method : ChineseCountMethod) (text : List ℕ) (number : ℕ)
     → whole_answer method text ≡ Ok number → are_marks text ≡ true
 whole-marks method text number h = by (first_misread text) h where
+  refused : (answer : Result ℕ Refusal) (place : ℕ) → refused_at answer place ≡ Ok number → ⊥
+  refused (Ok read) place e = cc
+  refused (Err refusal) place e = cc
+
   parts : (place : ℕ) (bare : Option ℕ)
       → option_map_or (λ rank. sum_answer method rank (take place text) (drop place text)) bare
-      (Err (incorrect_at (length (take place text)))) ≡ Ok number → are_marks text ≡ true
+      (refused_at (reader_answer method (take place text ++ drop place text))
+      (length (take place text))) ≡ Ok number → are_marks text ≡ true
   parts place (Some rank) e =
       let read = sum-read method rank number (take place text) (drop place text) e in
       let test = λ (c : ℕ). is_digit_or_unit (mark_of c) in
       ap are_marks (sym (take-append-drop place text))
       ∙ list_all-append test (take place text) (drop place text)
       ∙ both (are_marks (take place text)) (are_marks (drop place text)) read.0 read.1
-  parts place None e = cc
+  parts place None e =
+      absurd (refused (reader_answer method (take place text ++ drop place text))
+      (length (take place text)) e)
 
   by : (found : Option ℕ)
       → option_map_or (λ place. misread_answer method (take place text) (drop place text)) found
@@ -413,7 +411,7 @@ point-no_mark c is = by (is_digit_or_unit (mark_of c)) refl where
   by true e = let none = no-point c e in cc
   by false e = refl
 
--- what is judged a number, and what plain digits are, is that number over 1
+-- a text that is judged a number, or is plain digits, is that number over 1
 pub numeral-ratio : (method : ChineseCountMethod) (text : List ℕ) (number : ℕ)
     → judge method (marks_of text) ≡ Ok number → whole_answer method text ≡ Ok number
     → (are_marks text ≡ true)
@@ -501,7 +499,7 @@ signs-same (c ∷ rest) m = by (numeral_sign c) refl m where
   by None e m = mark-sign c (first-mark c rest m)
   by (Some sign) e m = sign-kept c sign e
 
--- nothing stands before the number but that sign
+-- nothing is before the number except that sign
 no-xia : (c : ℕ) → is_digit_or_unit (mark_of c) ≡ true → is_xia c ≡ false
 no-xia c = lacks is_xia c refl refl
 
@@ -534,7 +532,7 @@ no-yens (c ∷ next ∷ rest) m =
 not-negated : (text : List ℕ) → are_marks text ≡ true → is_negated text ≡ false
 not-negated text m = ap (λ b. b && begins_with_minus (after_bar text)) (no-fraction text m)
 
--- the answer to a string, by the sign that a numeral has
+-- the answer to a string, by the sign of a numeral
 pub quantity-today : (method : ChineseCountMethod) (bytes : List ℕ) (number : ℤ) (magnitude : ℕ)
     → let text = text_of bytes in
     let sign = numeral_leading_sign true text in

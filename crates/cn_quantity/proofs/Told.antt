@@ -1,4 +1,4 @@
--- Answers to pieces of a string, with places told by where they stand in it.
+-- Answers to pieces of a string, with places counted in the string.
 use Rattle.std.proofs.Common.{◌≡◌, ℕ, ◌+◌, ◌<◌, List, length, chars, Result, Ok, Err, refl, sym, ap, ◌∙◌, arith}
 use Rattle.std.specs.Result.{IsErr, IsErrAnd}
 use Rattle.cn_core.specs.declared.method.ChineseCountMethod.{ChineseCountMethod}
@@ -16,7 +16,7 @@ use Rattle.cn_judge.proofs.Pieces.{char_index-rest}
 use Rattle.cn_quantity.specs.Answer.{and_then, further_by}
 use Rattle.cn_quantity.specs.Private.{IsFront}
 
--- an answer to a front
+-- an answer to a prefix of the string
 pub told-front : {T : Type 0} (skipped : ℕ) (bytes front : List ℕ) (answer : Result T Refusal)
     → IsFront bytes front
     → ((place : ℕ) → answer ≡ Err (incorrect_at place) → place < length (text_of front))
@@ -30,7 +30,7 @@ told-front skipped bytes front (Err (incorrect_at place)) f low =
     rw f.parts (char_index-prefix (chars front) f.more place (low place refl)) in
     ap (λ n. Err (incorrect_at (skipped + n))) (sym same)
 
--- an answer to an end
+-- an answer to a suffix of the string
 pub told-end : {T : Type 0} (skipped : ℕ) (bytes rest : List ℕ) (index place : ℕ)
     (answer : Result T Refusal) → StandsAt bytes (chars rest) index place
     → answer_at (skipped + index) rest answer ≡ answer_at skipped bytes (further_by place answer)
@@ -76,7 +76,7 @@ told-goes_on skipped bytes (Err too_large) next value h = cc
 told-goes_on skipped bytes (Err too_small) next value h = cc
 told-goes_on skipped bytes (Err (incorrect_at place)) next value h = cc
 
--- a `?` hands on a refusal
+-- a `?` returns a refusal unchanged
 pub err-told : {T N : Type 0} (f : T → N) (r : Result T ChineseToNumberError)
     (x : ChineseToNumberError) → IsErr r × IsErrAnd r (λ e. e ≡ x)
     → answer_of f r ≡ Err (refusal_of x)

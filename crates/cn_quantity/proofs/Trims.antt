@@ -1,6 +1,7 @@
 -- Decimals, and the zeros at their end.
-use Rattle.std.proofs.Common.{◌≡◌, ℕ, zero, suc, ◌+◌, ◌*◌, ◌/◌, ◌%◌, ◌^◌, ◌<◌, ◌≤◌, ◌==◌, ℤ, pos, negsuc, nat_abs, int_div, int_lt, true, false, Option, Some, None, find, refl, ◌∙◌, arith}
-use Rattle.std.proofs.Math.Nat.{pow-le-pow_right}
+use Rattle.std.proofs.Common.{◌≡◌, ℕ, zero, suc, ◌+◌, ◌*◌, ◌/◌, ◌%◌, ◌^◌, ◌<◌, ◌≤◌, ◌==◌, ℤ, pos, negsuc, nat_abs, int_div, int_lt, Bool, true, false, Option, Some, None, find, refl, ap, ◌∙◌, arith, if◌then◌else◌}
+use Rattle.std.proofs.Math.Arith.{mod-mul}
+use Rattle.std.proofs.Math.Nat.{pow-le-pow_right, pow-suc}
 use Rattle.std.proofs.lemmas.Bool.Decides.{nat_tests}
 use Rattle.std.proofs.lemmas.Bool.{eq-eqb}
 use Rattle.std.proofs.lemmas.Int.{ints}
@@ -9,7 +10,7 @@ use Rattle.std.specs.List.{range_with_len}
 use Rattle.cn_core.specs.Whole.{signed_number}
 use Rattle.cn_quantity.specs.Trimmed.{decimals_over, zeros_at_end}
 
--- the decimals from a number on, so many of them, that make the denominator
+-- the search for the number of decimals that makes the denominator, from a number on
 unfoldable pub over_from : ℕ → ℕ → ℕ → ℕ → Option ℕ
 over_from divisor denominator start count =
     find (λ decimals. divisor * 10 ^ decimals == denominator) (range_with_len start count)
@@ -19,14 +20,14 @@ pub over-all : (divisor denominator : ℕ)
 unfolding decimals_over over_from
 over-all divisor denominator = refl
 
--- these make it
+-- this number makes it
 pub over-here : (divisor denominator start count : ℕ) → divisor * 10 ^ start ≡ denominator
     → over_from divisor denominator start (suc count) ≡ Some start
 unfolding over_from
 over-here divisor denominator start count same =
     let test : (divisor * 10 ^ start == denominator) ≡ true = eq-eqb _ _ same in rw test refl
 
--- these do not
+-- this number does not
 pub over-next : (divisor denominator start count : ℕ)
     → (divisor * 10 ^ start ≡ denominator → ⊥)
     → over_from divisor denominator start (suc count)
@@ -36,7 +37,7 @@ over-next divisor denominator start count other =
     let test : (divisor * 10 ^ start == denominator) ≡ false = grind (arith, nat_tests, other) in
     rw test refl
 
--- none is left
+-- no number is left to try
 pub over-end : (divisor denominator start : ℕ) → over_from divisor denominator start 0 ≡ None
 unfolding over_from
 over-end divisor denominator start = refl
@@ -44,7 +45,7 @@ over-end divisor denominator start = refl
 pub raised : (n : ℕ) → 10 ^ (n + 1) ≡ 10 ^ n * 10
 raised n = pow-add 10 n 1
 
--- none does where the first is too great
+-- no number makes it if the first is too great
 pub over-none : (divisor denominator start count : ℕ) → denominator < divisor * 10 ^ start
     → over_from divisor denominator start count ≡ None
 over-none divisor denominator start zero less = over-end divisor denominator start
@@ -61,7 +62,7 @@ ten-up i j less = pow-le-pow_right {n = 10} (omega arith) less
 pub ten-above : (n : ℕ) → 0 < 10 ^ n
 ten-above n = let one = ten-up 0 n (omega arith) in omega (arith, one)
 
--- one that fits 128 bits, times a number above 0
+-- a product that fits 128 bits, with a factor above 0
 pub few : (m decimals : ℕ) → 0 < m → m * 10 ^ decimals < 2 ^ 128 → decimals ≤ 38
 few m decimals some fits =
     let size : (39 ≤ decimals) → 2 ^ 128 ≤ 10 ^ decimals =
@@ -75,13 +76,37 @@ divided (pos m) d =
     let test : int_lt (pos m) (pos 0) ≡ false = grind (arith, ints, nat_tests) in rw test refl
 divided (negsuc m) d = refl
 
+-- what is left over a power of ten, and the last digit
+digit-last : (count number : ℕ)
+    → number % 10 ^ suc count ≡ number / 10 % 10 ^ count * 10 + number % 10
+digit-last count number =
+    ap (λ n. number % n) (pow-suc 10 count) ∙ mod-mul number (ten-above count) (omega arith)
+
 -- a zero more, and no more zeros
 pub zeros-next : (count number : ℕ) → number % 10 ≤ 0
     → zeros_at_end (suc count) number ≡ suc (zeros_at_end count (number / 10))
-zeros-next count number none =
-    let test : (number % 10 == 0) ≡ true = eq-eqb _ _ (omega (arith, none)) in rw test refl
+zeros-next zero number none =
+    let test : (number % 10 ^ suc zero == 0) ≡ true = eq-eqb _ _ (omega (arith, none)) in rw test refl
+zeros-next (suc count) number none =
+    by (number / 10 % 10 ^ suc count == 0) refl (zeros-next count number none) where
+      by : (b : Bool) → (number / 10 % 10 ^ suc count == 0) ≡ b
+          → zeros_at_end (suc count) number ≡ suc (zeros_at_end count (number / 10))
+          → zeros_at_end (suc (suc count)) number
+          ≡ suc (if b then suc count else zeros_at_end count (number / 10))
+      by true e ih =
+          let last = digit-last (suc count) number in
+          let test : (number % 10 ^ suc (suc count) == 0) ≡ true =
+          grind (arith, nat_tests, e, last, none) in
+          rw test refl
+      by false e ih =
+          let last = digit-last (suc count) number in
+          let test : (number % 10 ^ suc (suc count) == 0) ≡ false =
+          grind (arith, nat_tests, e, last) in
+          rw test ih
 
 pub zeros-stop : (count number : ℕ) → 0 < number % 10 → zeros_at_end count number ≡ 0
 zeros-stop zero number some = refl
 zeros-stop (suc count) number some =
-    let test : (number % 10 == 0) ≡ false = grind (arith, nat_tests, some) in rw test refl
+    let last = digit-last count number in
+    let test : (number % 10 ^ suc count == 0) ≡ false = grind (arith, nat_tests, some, last) in
+    rw test (zeros-stop count number some)

@@ -68,7 +68,7 @@ misread-low front (c ∷ after) place h =
       by true e ih = let same : length front ≡ place = cc in omega (arith, same)
       by false e ih = let low = ih e in omega (arith, low)
 
--- what the sum of two parts names is a place in one of them
+-- a place that the sum of two parts names is in one of them
 further-low : (size more place : ℕ) (answer : Result ℕ Refusal)
     → ((p : ℕ) → answer ≡ Err (incorrect_at p) → p < more)
     → further_by size answer ≡ Err (incorrect_at place) → place < size + more
@@ -168,7 +168,7 @@ pub whole-reader : (method : ChineseCountMethod) (text : List ℕ) → first_mis
     → whole_answer method text ≡ reader_answer method text
 whole-reader method text none = rw none
 
--- and one that is
+-- a text that is misread
 pub whole-misread : (method : ChineseCountMethod) (bytes before from : List ℕ) (bare : Option ℕ)
     → SplitsAtMisread bytes before from bare
     → whole_answer method (text_of bytes)
@@ -215,7 +215,7 @@ no-bare bytes before from bare none s = by (first_misread (text_of from)) refl w
       ∙ sym s.bare_is ∙ none
   by (Some place) is = bare-none (text_of before) (text_of from) place is
 
--- the parts of a sum, told in the whole text
+-- the parts of a sum, with places counted in the whole text
 front-told : (method : ChineseCountMethod) (skipped : ℕ) (bytes before from : List ℕ)
     → chars bytes ≡ chars before ++ chars from
     → answer_at skipped before (judge method (marks_of (text_of before)))
@@ -326,7 +326,7 @@ unfit-above method rank number unfit small =
     let least : 2 ^ 128 ≤ 10 ^ 39 = leb-true _ _ refl in
     grind (arith, nat_tests, power, least, small)
 
--- where the misread character stands in the string
+-- the position of the misread character in the string
 pub misread-index : (bytes before from rest : List ℕ) (bare : Option ℕ) (index c : ℕ)
     → SplitsAtMisread bytes before from bare → StandsAt from (c ∷ chars rest) index 0
     → is_whitespace c ≡ false

@@ -1,4 +1,4 @@
--- The whole number that a numerator over a denominator is.
+-- The whole number that a numerator over a denominator equals.
 use Rattle.std.proofs.Common.{◌≡◌, ◌↔◌, ℕ, zero, suc, ◌*◌, ◌/◌, ◌%◌, ◌<◌, ◌≤◌, ℤ, pos, negsuc, ◌*ℤ◌, neg_ℤ, nat_abs, int_lt, true, false, Option, Some, None, IfSome, IsSome, IsTrue, MatchOption, refl, sym, ap, subst, ◌∙◌, arith}
 use Rattle.std.proofs.lemmas.Bool.Decides.{nat_tests}
 use Rattle.std.proofs.lemmas.Int.{ints}
@@ -32,7 +32,7 @@ below-zero : (n : ℕ) → 0 < n → int_lt (neg_ℤ (pos n)) (pos 0) ≡ true
 below-zero zero h = absurd (omega (arith, h))
 below-zero (suc n) h = refl
 
--- and no other number is
+-- and no other number equals the quantity
 pub whole-one : (z n : ℤ) (d q : ℕ) → 0 < d → nat_abs z ≡ q * d → z ≡ n *ℤ pos d
     → n ≡ signed_number (int_lt z (pos 0)) q
 whole-one z n d q some e is =
@@ -47,12 +47,12 @@ whole-one z n d q some e is =
           let many : 0 < suc a * d = omega (arith, some) in
           rw (is, below-zero (suc a * d) many, ← size) refl
 
--- where there is a remainder, no number is
+-- a numerator that equals a number times the denominator leaves no remainder
 pub whole-none : (z n : ℤ) (d : ℕ) → z ≡ n *ℤ pos d → nat_abs z % d ≡ 0
 whole-none z n d is =
     ap (λ z. nat_abs z % d) is ∙ ap (λ m. m % d) (abs-times n d) ∙ mul-mod_left (nat_abs n) d
 
--- so what a type holds of the quotient is the answer
+-- so the answer is the quotient, if the type holds it
 pub whole-answer : {A : Type 0} (kind : Kind) (number : A → ℤ) (z : ℤ) (d m : ℕ)
     (found : Option A) → 0 < d → m ≡ nat_abs z → m % d ≤ 0
     → IfSome found (λ x. number x ≡ signed_number (int_lt z (pos 0)) (m / d))

@@ -1,4 +1,4 @@
--- Which characters a quantity has beside those of numerals.
+-- Which characters occur in quantities besides those of numerals.
 use Rattle.std.specs.Prelude.{ℕ, Bool, codes, Option, Some, None, is_some, if◌then◌else◌}
 use Rattle.std.specs.Char.{char_set_contains, is_ascii_digit}
 use Rattle.cn_core.specs.declared.sign.Sign.{Sign}
@@ -8,7 +8,8 @@ use Rattle.cn_core.specs.Figures.{figure_of, is_figure_minus, is_figure_plus, is
 use Rattle.cn_quantity.specs.declared.characters.DigitKind.{DigitKind}
 use Rattle.cn_quantity.specs.declared.characters.DigitKind.TheVariants.{Figure, Chinese}
 
--- the value of a Chinese digit, a digit of numerals that is no figure: 5 of 五, none of 5
+-- the value of a Chinese digit, which is a digit of numerals that is not a figure: 5 for 五, and
+-- none for the figure 5
 unfoldable pub chinese_digit_of : ℕ → Option ℕ
 chinese_digit_of c = if is_ascii_digit c then None else digit_of c
 
@@ -23,12 +24,12 @@ sign_of c =
     if is_figure_plus c then Some Plus
     else (if is_figure_minus c then Some Minus else numeral_sign c)
 
--- the point between digits of this kind
+-- whether a character is the point between digits of this kind
 unfoldable pub is_point : DigitKind → ℕ → Bool
 is_point Figure c = is_figure_point c
 is_point Chinese c = char_set_contains (codes "點点") c
 
--- what a sign at the end of a share divides by: a percent sign by 100, and ‰ by 1000
+-- the number by which a sign at the end of a share divides: 100 for a percent sign, 1000 for ‰
 unfoldable pub share_of : ℕ → Option ℕ
 share_of c =
     if is_percent c then Some 100

@@ -1,4 +1,4 @@
--- What a text is worth that has no sign, no percent sign and no 分之.
+-- The value of a text without sign, percent sign and 分之.
 use Rattle.std.specs.Prelude.{ℕ, ◌+◌, Bool, ◌&&◌, ◌==◌, nat_lt, List, [], ◌∷◌, length, Option, Some, None, Result, Ok, Err, if◌then◌else◌, option_map}
 use Rattle.std.specs.Option.{option_map_or}
 use Rattle.cn_core.specs.Figures.{tens_of}
@@ -15,7 +15,7 @@ use Rattle.cn_quantity.specs.Turns.{by_turns}
 use Rattle.cn_quantity.specs.Units.{are_rising_units, times_units}
 use Rattle.cn_quantity.specs.WholeNumber.{whole_answer}
 
--- 廿 or 卅, and one Chinese digit or none: 23 of 廿三
+-- the number of 廿 or 卅 alone or with one Chinese digit: 23 for 廿三
 abbrev pub short_tens : List ℕ → Option ℕ
 short_tens [] = None
 short_tens (c ∷ []) = tens_of c
@@ -23,26 +23,27 @@ short_tens (c ∷ d ∷ []) =
     option_map_or (λ tens. option_map (λ digit. tens + digit) (chinese_digit_of d)) (tens_of c) None
 short_tens text = None
 
--- a number with so many decimals, if it fits 128 bits without its point
+-- a number with this number of decimals, if it fits 128 bits without its point
 abbrev pub decimal_of : ℕ → Option ℕ → Result Decimal Refusal
 decimal_of decimals (Some number) = Ok (record { number = number; decimals = decimals })
 decimal_of decimals None = Err too_large
 
--- a Chinese decimal: what stands in front of the point is a whole number, behind whose digits those
--- behind the point are read on
+-- the answer to a Chinese decimal: the text before the point is a whole number, and the digits
+-- after the point continue its digits
 abbrev pub chinese_decimal_answer : ChineseCountMethod → List ℕ → Result Decimal Refusal
 chinese_decimal_answer method text =
     and_then (whole_answer method (before_point text))
     (λ whole. decimal_of (decimals_behind_point text)
     (read_with_units method Chinese whole (after_point text)))
 
--- 廿 or 卅 by themselves, or a whole number
+-- the answer to a text that is 廿 or 卅, perhaps with one digit, or else a whole number
 abbrev pub whole_number_answer : ChineseCountMethod → List ℕ → Result Decimal Refusal
 whole_number_answer method text =
     option_map_or (λ number. decimal_of 0 (Some number)) (short_tens text)
     (and_then (whole_answer method text) (λ whole. decimal_of 0 (Some whole)))
 
--- a number in figures, or by turns, or a Chinese decimal, or a whole number
+-- the answer by the first shape that fits: a number in figures, one by turns, a Chinese decimal, or
+-- else a whole number
 abbrev pub shaped_number : ChineseCountMethod → List ℕ → Result Decimal Refusal
 shaped_number method text =
     if is_in_figures text
@@ -51,26 +52,28 @@ shaped_number method text =
     (if is_chinese_decimal text then chinese_decimal_answer method text
     else whole_number_answer method text)
 
--- a whole number where there is one, else another answer
+-- the whole number if there is one, else the other answer
 abbrev pub or_shaped : Result ℕ Refusal → Result Decimal Refusal → Result Decimal Refusal
 or_shaped (Ok number) shaped = decimal_of 0 (Some number)
 or_shaped (Err refusal) shaped = shaped
 
--- what the readers of numerals read is that whole number, and any other text goes by its shape
+-- the answer to a number: the whole number that the text is if the readers of numerals read it,
+-- else by its shape
 abbrev pub number_answer : ChineseCountMethod → List ℕ → Result Decimal Refusal
 number_answer method text = or_shaped (whole_answer method text) (shaped_number method text)
 
--- of a part of a fraction the same, but rising units alone count as with 一 in front, as in 百分之百
+-- the answer to a part of a fraction: the same, but rising units alone count as if 一 were before
+-- them, as in 百分之百
 abbrev pub part_answer : ChineseCountMethod → List ℕ → Result Decimal Refusal
 part_answer method text =
     if nat_lt 0 (length text) && are_rising_units text then decimal_of 0 (times_units method 1 text)
     else number_answer method text
 
--- a whole number above 0
+-- whether the number can be a divisor: a whole number above 0
 abbrev pub is_divisor : Decimal → Bool
 is_divisor decimal = nat_lt 0 decimal.number && decimal.decimals == 0
 
--- a divisor is such a number, else its first character is at fault
+-- the answer to a divisor, which is such a number, or else its first character is at fault
 abbrev pub divisor_answer : ChineseCountMethod → List ℕ → Result ℕ Refusal
 divisor_answer method text =
     and_then (part_answer method text)

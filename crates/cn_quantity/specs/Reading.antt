@@ -1,4 +1,4 @@
--- What is answered of a string that is read as a quantity.
+-- The answer to a string that is read as a quantity.
 use Rattle.std.specs.Prelude.{ℕ, ◌+◌, Bool, false, ◌&&◌, ◌||◌, ◌==◌, List, [], ◌∷◌, drop, Option, Some, None, is_none, is_some, Result, Ok, Err, if◌then◌else◌}
 use Rattle.std.specs.Option.{option_map_or}
 use Rattle.cn_core.specs.declared.method.ChineseCountMethod.{ChineseCountMethod}
@@ -22,30 +22,30 @@ abbrev pub leading_sign : List ℕ → Option Sign
 leading_sign [] = None
 leading_sign (c ∷ rest) = sign_of c
 
--- a digit of numerals, a figure or 十, with which a number may begin
+-- a number may begin with the character: a digit of numerals, a figure or 十
 abbrev pub begins_number : ℕ → Bool
 begins_number c =
     is_some (digit_of c) || is_some (figure_of c)
     || option_map_or (λ rank. rank == 1) (rank_of c) false
 
--- 零下 before such a character
+-- the text begins with 零下 and then such a character
 abbrev pub is_below_zero : List ℕ → Bool
 is_below_zero (c ∷ d ∷ next ∷ rest) = is_ling c && is_xia d && begins_number next
 is_below_zero text = false
 
--- the sign before a number, where 零下 is a minus, and how many characters it takes
+-- the sign before a number, in which 零下 is a minus, and the number of its characters
 abbrev pub number_sign : List ℕ → Option Sign
 number_sign text = if is_below_zero text then Some Minus else leading_sign text
 
 abbrev pub sign_length : List ℕ → ℕ
 sign_length text = if is_below_zero text then 2 else sign_len (leading_sign text)
 
--- how many a ¥ before a figure takes
+-- the number of characters of a ¥ before a figure: 1 if there is one, else 0
 abbrev pub yen_length : List ℕ → ℕ
 yen_length (c ∷ next ∷ rest) = if is_currency c && is_some (figure_of next) then 1 else 0
 yen_length text = 0
 
--- how many characters stand before the number: its sign, and ¥
+-- the number of characters before the number: its sign and ¥
 abbrev pub front_length : List ℕ → ℕ
 front_length text = sign_length text + yen_length (drop (sign_length text) text)
 
@@ -59,8 +59,8 @@ signed_ratio sign ratio =
       form = ratio.form;
     }))
 
--- the answer from the sign and the answer to what stands after so many characters, whose place
--- counts on from there and is told by its char_index in the string
+-- the answer, from the sign and from the answer to the text after the first `front` characters. A
+-- place in that text is moved by these and becomes a char_index of the string
 abbrev pub signed_answer : List ℕ → Option Sign → ℕ → Result Ratio Refusal
     → Result Quantity Refusal
 signed_answer bytes sign front (Ok ratio) = signed_ratio sign ratio

@@ -8,13 +8,15 @@ use Rattle.cn_quantity.specs.declared.quantity.QuantityForm.{QuantityForm}
 use Rattle.cn_quantity.specs.declared.quantity.QuantityForm.TheVariants.{Whole, Decimal, Percent, Fraction}
 use Rattle.cn_quantity.specs.Ratio.{form_of}
 
--- how many decimals make this divisor the denominator, which is below 2^128: two over 1 make 100
+-- the number of decimals with which this divisor makes the denominator, which is below 2^128: 1 and
+-- two decimals make 100
 unfoldable pub decimals_over : ℕ → ℕ → Option ℕ
 decimals_over divisor denominator =
     find (λ decimals. divisor * 10 ^ decimals == denominator) (range_with_len 0 39)
 
--- how many decimals a quantity of this form has: 2 of 314/100, and 1 of 125/1000 as a percentage,
--- which is 12.5%; none is known where the denominator is not one of the form, or of a fraction
+-- the number of decimals that a quantity of this form has: 2 for 314/100, and 1 for 125/1000 as a
+-- percentage, which is 12.5%. None is known for a fraction, or if the denominator does not fit the
+-- form
 abbrev pub decimals_in : QuantityForm → ℕ → Option ℕ
 decimals_in Whole denominator = if denominator == 1 then Some 0 else None
 decimals_in Decimal denominator = option_map suc (decimals_over 10 denominator)
@@ -24,19 +26,20 @@ decimals_in Fraction denominator = None
 abbrev pub decimals_of : Quantity → Option ℕ
 decimals_of q = decimals_in q.form q.denominator
 
--- with how many zeros a number ends, of its last so many digits: two of 1500
+-- with how many zeros a number ends, of its last so many digits: the greatest exponent up to theirs
+-- of a power of ten that divides it, two of 1500
 abbrev pub zeros_at_end : ℕ → ℕ → ℕ
 zeros_at_end zero number = 0
 zeros_at_end (suc count) number =
-    if number % 10 == 0 then suc (zeros_at_end count (number / 10)) else 0
+    if number % 10 ^ suc count == 0 then suc count else zeros_at_end count number
 
--- the form with so many decimals left: a decimal with none is a whole number
+-- the form when this number of decimals is left: a decimal without decimals is a whole number
 abbrev pub form_with : QuantityForm → ℕ → QuantityForm
 form_with Percent decimals = Percent
 form_with Fraction decimals = Fraction
 form_with form decimals = form_of decimals
 
--- the quantity without so many zeros at the end of its so many decimals
+-- the quantity, which has `decimals` decimals, without the last `zeros` of them, which are zeros
 abbrev pub without_zeros : Quantity → ℕ → ℕ → Quantity
 without_zeros q decimals zeros = record {
   numerator = signed_number (int_lt q.numerator (pos 0)) (nat_abs q.numerator / 10 ^ zeros);
@@ -44,7 +47,7 @@ without_zeros q decimals zeros = record {
   form = form_with q.form (decimals - zeros);
 }
 
--- the quantity without the zeros at the end of its decimals: 35/1 of 350/10, 12.5% of 12.50%
+-- the quantity without the zeros at the end of its decimals: 35/1 for 350/10, 12.5% for 12.50%
 abbrev pub trimmed : Quantity → Quantity
 trimmed q =
     option_map_or

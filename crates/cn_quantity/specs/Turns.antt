@@ -1,4 +1,4 @@
--- A number in figures and units by turns, as 1亿2000万, 12万3千 and 5千5.
+-- A number in which figures and units alternate, such as 1亿2000万, 12万3千 and 5千5.
 use Rattle.std.specs.Prelude.{ℕ, zero, suc, ◌+◌, ◌*◌, ◌/◌, ◌^◌, Bool, false, not, ◌&&◌, ◌==◌, nat_le, nat_lt, List, [], ◌∷◌, codes, length, Option, Some, None, if◌then◌else◌}
 use Rattle.std.specs.Char.{char_set_contains}
 use Rattle.std.specs.Option.{option_map_or}
@@ -7,19 +7,14 @@ use Rattle.cn_core.specs.Characters.{rank_of}
 use Rattle.cn_core.specs.Figures.{figure_of}
 use Rattle.cn_quantity.specs.declared.characters.DigitKind.TheVariants.{Figure}
 use Rattle.cn_quantity.specs.declared.turns.Turns.{Turns}
-use Rattle.cn_quantity.specs.Digits.{after_digits, leading_digits}
+use Rattle.cn_quantity.specs.Digits.{after_digits, begins_with_nought, leading_digits}
 use Rattle.cn_quantity.specs.Units.{times_units}
 
--- the number with the figures that a text begins with after its own
+-- the number, continued with the figures with which a text begins
 abbrev pub leading_number : ℕ → List ℕ → ℕ
 leading_number number [] = number
 leading_number number (c ∷ rest) =
     option_map_or (λ figure. leading_number (number * 10 + figure) rest) (figure_of c) number
-
--- the text begins with the figure 0
-abbrev pub begins_with_nought : List ℕ → Bool
-begins_with_nought [] = false
-begins_with_nought (c ∷ rest) = option_map_or (λ figure. figure == 0) (figure_of c) false
 
 -- the rising units that a text begins with, each greater than this rank, and what follows them
 abbrev pub leading_units : ℕ → List ℕ → List ℕ
@@ -34,17 +29,17 @@ after_units least (c ∷ rest) =
     option_map_or (λ rank. if nat_lt least rank then after_units rank rest else c ∷ rest)
     (rank_of c) (c ∷ rest)
 
--- 零 before figures
+-- the text begins with 零 or 〇
 abbrev pub begins_with_zero : List ℕ → Bool
 begins_with_zero [] = false
 begins_with_zero (c ∷ rest) = char_set_contains (codes "零〇") c
 
--- what follows it
+-- the text without that character, if it begins with it
 abbrev pub without_zero : List ℕ → List ℕ
 without_zero [] = []
 without_zero (c ∷ rest) = if char_set_contains (codes "零〇") c then rest else c ∷ rest
 
--- the units of the group at the start of a text, and what follows the group
+-- the units of the group at the start of a text, and the text after the group
 abbrev pub units_of : List ℕ → List ℕ
 units_of text = leading_units 1 (after_digits Figure text)
 
@@ -57,11 +52,11 @@ number_of text =
     let number = leading_number 0 text in
     if nat_lt number (2 ^ 128) then Some number else None
 
--- one more number, if the sum fits 128 bits
+-- the sum with one more number, if it fits 128 bits
 abbrev pub added : ℕ → ℕ → Option ℕ
 added sum number = if nat_lt (sum + number) (2 ^ 128) then Some (sum + number) else None
 
--- the groups with one more: figures of this number, times units
+-- the groups so far and one more: this number times these units
 abbrev pub with_group : ChineseCountMethod → ℕ → ℕ → List ℕ → Option Turns
 with_group method sum number units =
     option_map_or (λ value.
@@ -72,7 +67,7 @@ with_group method sum number units =
     (times_units method 1 units) None)
     (times_units method number units) None
 
--- and with a last number, which nothing may follow
+-- the groups so far and a last number, after which nothing may follow
 abbrev pub with_last : Turns → ℕ → Option Turns
 with_last turns number =
     option_map_or (λ total. Some (record { sum = total; product = 0; single = false }))
@@ -90,16 +85,17 @@ first_group method text =
 abbrev pub is_below : Option ℕ → ℕ → Bool
 is_below value product = option_map_or (λ v. nat_lt v product) value false
 
--- figures without units: they are as many as the product of the units before them has zeros
+-- figures without units fill their place: there are as many of them as the product of the units
+-- before them has zeros
 abbrev pub fills : Turns → ℕ → Bool
 fills turns count = turns.product == 10 ^ count
 
--- or one figure above 0 after a single unit, which counts a tenth of that
+-- or they are one figure above 0 after a single unit, which counts tenths of that unit
 abbrev pub is_tenth : Turns → Bool → ℕ → Bool
 is_tenth turns nought count = count == 1 && turns.single && not nought
 
--- a last group, which has no units; after 零 it does not begin with 0, and is below the product of the
--- units before it
+-- a last group, which has no units; after 零 it does not begin with 0, and is below the product of
+-- the units before it
 abbrev pub last_group : Turns → Bool → Bool → ℕ → ℕ → Option Turns
 last_group turns after_zero nought count number =
     if after_zero
@@ -114,7 +110,8 @@ unit_group method turns number nought units =
     if not nought && is_below (times_units method number units) turns.product
     then with_group method turns.sum number units else None
 
--- units below 10000 directly after units of 10^8 or more: 1亿2千 is 1.2亿 for some, and 1亿零2千 for others
+-- units that make less than 10000 are directly after units that make 10^8 or more: 1亿2千 means 1.2亿
+-- to some people, and 1亿零2千 to others
 abbrev pub has_two_readings : ChineseCountMethod → Turns → Bool → List ℕ → Bool
 has_two_readings method turns after_zero units =
     not after_zero
@@ -132,7 +129,7 @@ later_group method turns after_zero group =
     else None)
     (number_of group) None
 
--- the sum with all groups of a text, at most so many
+-- the sum of these groups and of all groups of a text, of which there are at most `steps`
 abbrev pub turns_after : ℕ → ChineseCountMethod → Turns → List ℕ → Option ℕ
 turns_after steps method turns [] = Some turns.sum
 turns_after zero method turns (c ∷ rest) = None
@@ -141,7 +138,7 @@ turns_after (suc steps) method turns (c ∷ rest) =
     (λ next. turns_after steps method next (after_group (without_zero (c ∷ rest))))
     (later_group method turns (begins_with_zero (c ∷ rest)) (without_zero (c ∷ rest))) None
 
--- the number of a text by turns
+-- the number of a text in which figures and units alternate
 abbrev pub by_turns : ChineseCountMethod → List ℕ → Option ℕ
 by_turns method text =
     option_map_or (λ turns. turns_after (length text) method turns (after_group text))

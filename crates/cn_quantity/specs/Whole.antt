@@ -1,4 +1,4 @@
--- The whole number that a quantity is.
+-- The whole number that a quantity equals.
 use Rattle.std.specs.Prelude.{◌≡◌, ℕ, ℤ, pos, ◌*ℤ◌, ◌<◌}
 
 -- the numerator is this number times the denominator, which is above 0

@@ -16,7 +16,8 @@ use Rattle.cn_quantity.specs.Misread.{bare_ten_between, first_misread}
 abbrev pub is_plain : List ℕ → Bool
 is_plain text = list_all (λ c. is_some (digit_of c)) text
 
--- a whole number as the readers of numerals read it: plain digits, and any other text by units
+-- the answer of the readers of numerals: as plain digits if all characters are digits, and
+-- otherwise with units
 abbrev pub reader_answer : ChineseCountMethod → List ℕ → Result ℕ Refusal
 reader_answer method text =
     if is_plain text then naive_answer (marks_of text) else judge method (marks_of text)
@@ -25,8 +26,8 @@ reader_answer method text =
 abbrev pub fitting : ℕ → Result ℕ Refusal
 fitting number = if nat_lt number (2 ^ 128) then Ok number else Err too_large
 
--- the sum of a text and of what follows it from a bare ten on, each read by units; what follows has
--- to be below the scale of the unit that the ten stands after: 100 and 15 of 一百十五
+-- the sum of a text and of the rest from a bare ten on, each read with units; the rest must be
+-- below the scale of the unit before the ten: 100 and 15 in 一百十五
 abbrev pub sum_answer : ChineseCountMethod → ℕ → List ℕ → List ℕ → Result ℕ Refusal
 sum_answer method rank before from =
     and_then (judge method (marks_of before)) (λ first.
@@ -46,7 +47,7 @@ misread_answer method before from =
     option_map_or (λ rank. sum_answer method rank before from) (bare_ten_between before from)
     (refused_at (reader_answer method (before ++ from)) (length before))
 
--- a whole number, by the reader of numerals where no character is misread
+-- the answer to a whole number: that of the readers of numerals, if no character is misread
 abbrev pub whole_answer : ChineseCountMethod → List ℕ → Result ℕ Refusal
 whole_answer method text =
     option_map_or (λ place. misread_answer method (take place text) (drop place text))

@@ -1,4 +1,4 @@
-// Which characters a quantity has beside those of numerals.
+// Which characters occur in quantities besides those of numerals.
 ghost use Rattle.std.specs.Prelude.{◌≡◌, ◌<◌, IfSome};
 ghost use Rattle.cn_quantity.specs.Characters.{chinese_digit_of, digit_by, is_fen, is_ling, is_point, is_xia, is_you, is_zhi, share_of, sign_of};
 
@@ -12,7 +12,7 @@ use cn_core::{
 pub enum DigitKind {
     /// The ASCII digits and their full-width forms.
     Figure,
-    /// The digits of numerals that are no figures.
+    /// The digits of numerals that are not figures.
     Chinese,
 }
 
@@ -82,7 +82,7 @@ pub fn is_point(kind: DigitKind, c: char) -> bool
     }
 }
 
-/// What a sign at the end of a share divides by: 100 for a percent sign, 1000 for ‰.
+/// The number by which a sign at the end of a share divides: 100 for a percent sign, 1000 for ‰.
 #[tactic(auto, unfolding(crate::specs::Characters::share_of))]
 pub fn share_of(c: char) -> Option<u128>
     ensures value { result ≡ share_of c }

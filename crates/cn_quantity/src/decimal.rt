@@ -1,4 +1,4 @@
-// A Chinese decimal, as 三點一四 and 一百二十點五億.
+// A Chinese decimal, such as 三點一四 and 一百二十點五億.
 ghost use Rattle.std.specs.Prelude.{◌≡◌, ◌≤◌, ◌<◌, [], true, false, length, IfSome, MatchOption};
 ghost use Rattle.cn_core.specs.Text.{text_of};
 ghost use Rattle.cn_quantity.specs.Decimal.{after_point, decimals_behind_point, ends_colloquially, is_chinese_decimal, is_great_unit};
@@ -11,7 +11,7 @@ use crate::pieces::{before_end, split_first, split_last};
 use crate::units::{are_below, first_factor};
 use cn_core::{Unit, digit_of, unit_of};
 
-// What stands in front of the first point and what behind it.
+// The text before the first point, and the text after it.
 fn split_point(text: &str) -> Option<(&str, &str)>
     ensures parts { MatchOption result (after_point (text_of text.now) ≡ [])
         (λ r. SplitsAtPoint text.now r.0.now r.1.now) }
@@ -37,7 +37,7 @@ fn is_great_unit(c: char) -> bool
     }
 }
 
-// Whether the text ends with a digit directly behind a unit from 百 up, as 一百二.
+// Whether the text ends with a digit directly after a unit from 百 up, as 一百二 does.
 fn ends_colloquially(text: &str) -> bool
     ensures { result ≡ ends_colloquially (text_of text.now) }
 {
@@ -50,7 +50,7 @@ fn ends_colloquially(text: &str) -> bool
     is_great_unit(second) && digit_of(last).is_some()
 }
 
-/// A Chinese decimal: what stands in front of its point and behind it, and how many decimals.
+/// A Chinese decimal: the text before its point, the text after it, and the number of its decimals.
 #[derive(Copy, Clone)]
 pub struct ChineseDecimal<'a> {
     pub whole: &'a str,

@@ -1,72 +1,50 @@
 // A number in figures, as 1,280.5万.
-ghost use Rattle.std.specs.Prelude.{◌≡◌, ℕ, ◌∷◌, ◌<◌, true, false, length, IfSome, MatchOption, SomeIff};
+ghost use Rattle.std.specs.Prelude.{◌≡◌, true, false, not, ◌&&◌, nat_le, MatchOption, SomeIff};
 ghost use Rattle.cn_core.specs.Text.{text_of};
 ghost use Rattle.cn_quantity.specs.declared.characters.DigitKind.TheVariants.{Figure};
-ghost use Rattle.cn_quantity.specs.Digits.{begins_with_digit, is_digit, leading_digits};
-ghost use Rattle.cn_quantity.specs.Figures.{after_groups, are_decimals, decimals_in_figures, decimals_of, ends_in_figures, is_in_figures, may_lead_groups};
+ghost use Rattle.cn_quantity.specs.Digits.{begins_with_nought, leading_digits};
+ghost use Rattle.cn_quantity.specs.Figures.{after_whole, are_decimals, are_groups, decimals_in_figures, decimals_of, ends_in_figures, groups_of, is_in_figures};
 
-use crate::characters::{DigitKind, digit_by, is_point};
-use crate::digits::split_digits;
+use crate::characters::{DigitKind, is_point};
+use crate::digits::{begins_with_nought, split_digits};
 use crate::pieces::split_first;
 use crate::units::are_factors;
 use cn_core::is_comma;
 
-// What follows a figure at the start.
-fn after_figure(text: &str) -> Option<&str>
-    ensures parts { MatchOption result (begins_with_digit Figure (text_of text.now) ≡ false)
-        (λ r. (c : ℕ) × (text_of text.now ≡ c ∷ text_of r.now) × (is_digit Figure c ≡ true)) }
-    ensures shorter { IfSome result (λ r. length r.now < length text.now) }
+// Whether groups may follow so many figures at the start of a text.
+fn may_lead_groups(count: usize, text: &str) -> bool
+    ensures { result ≡ (nat_le count 3 && not (begins_with_nought (text_of text.now))) }
 {
-    let (c, rest) = split_first(text)?;
-    if digit_by(DigitKind::Figure, c).is_some() {
-        Some(rest)
-    } else {
-        None
-    }
+    count <= 3 && !begins_with_nought(text)
 }
 
-// What follows a comma and three figures at the start.
-fn after_group(text: &str) -> Option<&str>
-    ensures parts { MatchOption result (after_groups (text_of text.now) ≡ text_of text.now)
-        (λ r. after_groups (text_of text.now) ≡ after_groups (text_of r.now)) }
-    ensures shorter { IfSome result (λ r. length r.now < length text.now) }
+// What follows the whole part that the text begins with, if its groups are written well.
+fn after_whole(text: &str) -> Option<&str>
+    ensures { MatchOption result (are_groups (groups_of (text_of text.now)) ≡ false)
+        (λ r. (are_groups (groups_of (text_of text.now)) ≡ true)
+        × (text_of r.now ≡ after_whole (text_of text.now))) }
 {
-    let (c, rest) = split_first(text)?;
-    if !is_comma(c) {
+    let (count, after) = split_digits(DigitKind::Figure, text);
+    if count == 0 {
         return None;
     }
-    let first = after_figure(rest)?;
-    let second = after_figure(first)?;
-    let third = after_figure(second)?;
-    Some(third)
-}
-
-// What follows the groups that the text begins with.
-fn after_groups(text: &str) -> &str
-    ensures { text_of result.now ≡ after_groups (text_of text.now) }
-{
-    let mut rest = text;
-    'grouping: while let Some(after) = after_group(rest) {
-        rest = after;
+    let leads = may_lead_groups(count, text);
+    let mut rest = after;
+    'grouping: while let Some((c, group)) = split_first(rest) {
+        if !is_comma(c) {
+            break;
+        }
+        let (size, next) = split_digits(DigitKind::Figure, group);
+        if !leads || size != 3 {
+            return None;
+        }
+        rest = next;
     }
-    rest
+    Some(rest)
 }
 
-// Whether groups may follow these figures.
-fn may_lead_groups(count: usize, text: &str) -> bool
-    requires { count ≡ leading_digits Figure (text_of text.now) }
-    ensures { result ≡ may_lead_groups (text_of text.now) }
-{
-    let Some((c, _)) = split_first(text) else {
-        return false;
-    };
-    match digit_by(DigitKind::Figure, c) {
-        Some(digit) => digit > 0 && count <= 3,
-        None => false,
-    }
-}
-
-/// How many digits the text begins with, if there is one, and units or nothing after them.
+/// The number of digits with which the text begins, if there are any, and units or nothing are
+/// after them.
 pub fn count_decimals(kind: DigitKind, text: &str) -> Option<usize>
     ensures { SomeIff result (are_decimals kind (text_of text.now) ≡ true)
         (leading_digits kind (text_of text.now)) }
@@ -79,7 +57,7 @@ pub fn count_decimals(kind: DigitKind, text: &str) -> Option<usize>
     }
 }
 
-// How many decimals a text has that stands behind figures, if a number in figures ends with it.
+// How many decimals a text after figures has, if a number in figures ends with it.
 fn end_in_figures(text: &str) -> Option<usize>
     ensures { SomeIff result (ends_in_figures (text_of text.now) ≡ true)
         (decimals_of (text_of text.now)) }
@@ -96,18 +74,10 @@ fn end_in_figures(text: &str) -> Option<usize>
     }
 }
 
-/// How many decimals the text has, if it is a number in figures.
+/// The number of decimals of the text, if it is a number in figures.
 pub fn decimals_in_figures(text: &str) -> Option<usize>
     ensures { SomeIff result (is_in_figures (text_of text.now) ≡ true)
         (decimals_in_figures (text_of text.now)) }
 {
-    let (count, rest) = split_digits(DigitKind::Figure, text);
-    if count == 0 {
-        return None;
-    }
-    if may_lead_groups(count, text) {
-        end_in_figures(after_groups(rest))
-    } else {
-        end_in_figures(rest)
-    }
+    end_in_figures(after_whole(text)?)
 }

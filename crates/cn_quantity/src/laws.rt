@@ -1,4 +1,4 @@
-//! What users may count on, as contracts of functions that do nothing.
+//! What users can rely on, as contracts of functions that do nothing.
 ghost use Rattle.std.specs.Prelude.{◌≡◌, ◌↔◌, ◌⊎◌, ◌<◌, ◌%◌, ◌*ℤ◌, ℕ, List, length, nat_abs, pos, Err, IsSome, None, Some};
 ghost use Rattle.cn_core.specs.declared.method.ChineseCountMethod.{ChineseCountMethod};
 ghost use Rattle.cn_core.specs.CharIndex.{char_index_of};
@@ -9,10 +9,9 @@ ghost use Rattle.cn_quantity.specs.declared.quantity.QuantityForm.TheVariants.{P
 ghost use Rattle.cn_quantity.specs.Reading.{quantity_answer};
 ghost use Rattle.cn_quantity.specs.Trimmed.{decimals_of, trimmed};
 
-/// A refusal points at a character: its char_index is that of a place of the text, the sign's
-/// counted.
+/// A refusal points at a character: its char_index is that of a place of the text, sign included.
 ///
-/// For form validators, who mark the character.
+/// For form validators: they mark that character.
 pub fn refusals_point_at_characters()
     ensures { (method : ChineseCountMethod) (bytes : List ℕ) (char_index : ℕ)
         → quantity_answer method bytes ≡ Err (incorrect_at char_index)
@@ -20,13 +19,13 @@ pub fn refusals_point_at_characters()
         × (char_index ≡ char_index_of bytes place) }
 {}
 
-/// `trimmed` keeps the value: the two numerators and denominators are one ratio, a denominator above
-/// 0 stays above 0, and a percentage, and nothing else, becomes a percentage. Where the decimals are
-/// known, they still are, and none is left, or the last one is no zero; where they are not, the
-/// quantity stays as it is.
+/// `trimmed` keeps the value: both numerators over their denominators are the same ratio, a
+/// denominator above 0 is still above 0, and the result is a percentage exactly if the quantity is
+/// one. If the number of decimals is known, it is still known, and either no decimal is left or the
+/// last one is not zero. If it is not known, the quantity does not change.
 ///
-/// For whoever shows or compares quantities without zeros at their end: 350000/10 is 35000/1, and
-/// 12.50%, which is 1250/10000, is 125/1000.
+/// For programs that show or compare quantities without zeros at their end: 350000/10 becomes
+/// 35000/1, and 12.50%, which is 1250/10000, becomes 125/1000.
 pub fn trimmed_keeps_the_value()
     ensures value { (q : Quantity)
         → (trimmed q).numerator *ℤ pos q.denominator ≡ q.numerator *ℤ pos (trimmed q).denominator }

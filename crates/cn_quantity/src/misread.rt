@@ -1,4 +1,5 @@
-// Where a whole number says what no reader means.
+// Which characters of a whole number are misread: the rules of numerals give the number a value
+// that nobody means.
 ghost use Rattle.std.specs.Prelude.{◌≡◌, ◌≤◌, ◌+◌, ◌&&◌, ◌||◌, not, [], ◌∷◌, length, IfSome, MatchOption, option_map, None};
 ghost use Rattle.cn_core.specs.Characters.{rank};
 ghost use Rattle.cn_core.specs.Mark.{mark_of};
@@ -13,7 +14,8 @@ use crate::pieces::{before_end, split_first};
 use cn_core::Unit;
 use cn_judge::{Mark, mark_of};
 
-// The marks of the three characters before a place, the nearest first; `Other` where there is none.
+// The marks of the three characters before a place, the nearest first; `Other` if there is no
+// character.
 #[derive(Copy, Clone)]
 struct Before {
     first: Mark,
@@ -45,7 +47,7 @@ impl Before {
     }
 }
 
-// The unit that a bare 十 would stand after: 百, or one from 千 up with 零 after it.
+// The unit before 十, if 十 would be a bare ten here: 百, or a unit from 千 up with 零 after it.
 fn unit_before_ten(before: Before) -> Option<Unit>
     ensures { option_map rank result ≡ unit_before_ten (marks_before before) }
 {
@@ -56,7 +58,7 @@ fn unit_before_ten(before: Before) -> Option<Unit>
     }
 }
 
-// The unit that a bare ten stands after, where the mark is one.
+// The unit before the mark, if the mark is a bare ten.
 fn bare_ten(before: Before, mark: Mark) -> Option<Unit>
     ensures { option_map rank result ≡ bare_ten (marks_before before) (marked mark) }
 {
@@ -86,7 +88,7 @@ fn multiplies_zero(before: Before, mark: Mark) -> bool
     }
 }
 
-// Whether 两 is a weight here, by what stands directly before and after it.
+// Whether 两 is a weight here, by the marks directly before and after it.
 fn weighs(before: Before, after: Mark) -> bool
     ensures { result ≡ weighs (marks_before before) (marked after ∷ []) }
 {
@@ -102,8 +104,8 @@ fn weighs(before: Before, after: Mark) -> bool
     stands_after && !is_counted
 }
 
-// Whether a digit from 1 to 9 stands directly before, and before that a unit from 百 up that is
-// smaller than this one.
+// Whether a digit from 1 to 9 is directly before, and before that a unit from 百 up that is smaller
+// than this one.
 fn counts_after_smaller(unit: Unit, first: Mark, second: Mark) -> bool
     ensures { result ≡ counts_after_smaller (rank unit) (marked first ∷ marked second ∷ []) }
 {
@@ -115,7 +117,7 @@ fn counts_after_smaller(unit: Unit, first: Mark, second: Mark) -> bool
     }
 }
 
-// Whether the mark is a unit from 萬 up that may count that digit alone, or all before it.
+// Whether the mark is a unit from 萬 up that may multiply that digit alone, or everything before it.
 fn has_two_readings(before: Before, mark: Mark) -> bool
     ensures { result ≡ has_two_readings (marks_before before) (marked mark) }
 {
@@ -131,7 +133,7 @@ fn has_two_readings(before: Before, mark: Mark) -> bool
     }
 }
 
-// Whether no unit from 萬 up follows, and 十, 百 or 千 does, or has been seen.
+// Whether no unit from 萬 up follows, and 十, 百 or 千 follows or was found before.
 fn ends_below_wan(seen: bool, text: &str) -> bool
     ensures { result ≡ (not (list_any (is_unit_from 4) (marks_of (text_of text.now)))
         && (seen || list_any is_small_unit (marks_of (text_of text.now)))) }
@@ -149,7 +151,7 @@ fn ends_below_wan(seen: bool, text: &str) -> bool
     found
 }
 
-// Whether 零 is left out before the mark, a digit or 十 directly after a unit from 億 up.
+// Whether 零 is left out before the mark, which is a digit or 十 directly after a unit from 億 up.
 fn leaves_out_zero(before: Before, mark: Mark, after: &str) -> bool
     ensures { result ≡ leaves_out_zero (marks_before before) (marked mark) (marks_of (text_of after.now)) }
 {
@@ -166,7 +168,7 @@ fn leaves_out_zero(before: Before, mark: Mark, after: &str) -> bool
     }
 }
 
-// 两
+// Whether the character is 两 or 兩.
 fn is_liang(c: char) -> bool
     ensures { result ≡ is_liang c }
 {
@@ -201,14 +203,14 @@ fn is_misread_at(before: Before, c: char, after: &str) -> bool
         || is_weight(before, c, after)
 }
 
-/// A text in two parts, at its first misread character.
+/// A text in two parts, split at its first misread character.
 #[derive(Copy, Clone)]
 pub struct Misread<'a> {
-    /// What stands before that character.
+    /// The text before that character.
     pub before: &'a str,
-    /// The character, and what stands after it.
+    /// The text from that character on.
     pub from: &'a str,
-    /// The unit that it stands after, where it is a bare ten.
+    /// The unit before the character, if it is a bare ten.
     pub unit: Option<Unit>,
 }
 

@@ -1,4 +1,4 @@
-// A mixed fraction, as 二又五分之三.
+// A mixed fraction, such as 二又五分之三.
 ghost use Rattle.std.specs.Prelude.{◌≡◌, ◌+◌, ◌*◌, ◌^◌, ◌<◌, ◌≤◌, [], length, IfSome, MatchOption};
 ghost use Rattle.cn_core.specs.Text.{text_of};
 ghost use Rattle.cn_judge.specs.Answer.{answer_of};
@@ -14,7 +14,7 @@ use crate::whole_number::judge_whole;
 use cn_core::ChineseCountMethod;
 use cn_judge::ChineseToNumberError;
 
-// What stands before the first 又, and what after it.
+// The text before the first 又, and the text after it.
 fn split_you(text: &str) -> Option<(&str, &str)>
     ensures parts { MatchOption result (after_you (text_of text.now) ≡ [])
         (λ r. SplitsAtYou text.now r.0.now r.1.now) }
@@ -31,7 +31,7 @@ fn split_you(text: &str) -> Option<(&str, &str)>
     None
 }
 
-// A whole number and a fraction, whose numerator is a whole number below its denominator.
+// The sum of a whole number and a fraction whose numerator is a whole number below its denominator.
 fn mixed_ratio(whole: u128, divisor: u128, decimal: Decimal) -> Option<Ratio>
     ensures { result ≡ mixed_ratio whole divisor decimal }
 {
@@ -46,7 +46,7 @@ fn mixed_ratio(whole: u128, divisor: u128, decimal: Decimal) -> Option<Ratio>
     })
 }
 
-// The same from the answers to its parts.
+// The same sum, from the answers to its parts.
 fn mixed_of(
     whole: Result<u128, ChineseToNumberError>,
     divisor: Result<u128, ChineseToNumberError>,
@@ -61,7 +61,7 @@ fn mixed_of(
     }
 }
 
-/// The mixed fraction that a text is, if it is one and fits.
+/// The value of a text that is a mixed fraction, if it fits.
 pub fn mixed(method: ChineseCountMethod, text: &str) -> Option<Ratio>
     requires { length text.now < 2 ^ 64 }
     ensures { result ≡ mixed method (text_of text.now) }

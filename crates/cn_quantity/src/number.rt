@@ -1,4 +1,4 @@
-// What a text is worth that has no sign, no percent sign and no 分之.
+// The value of a text without sign, percent sign and 分之.
 ghost use Rattle.std.specs.Prelude.{◌≡◌, ◌+◌, ◌^◌, ◌<◌, length, IfOk};
 ghost use Rattle.cn_core.specs.Text.{text_of};
 ghost use Rattle.cn_judge.specs.Answer.{answer_of};
@@ -16,14 +16,14 @@ use crate::whole_number::judge_whole;
 use cn_core::{ChineseCountMethod, tens_of};
 use cn_judge::ChineseToNumberError;
 
-/// A number without its point, and how many decimals it has: 314 and 2 for 3.14.
+/// A number without its point, and the number of its decimals: 314 and 2 for 3.14.
 #[derive(Copy, Clone)]
 pub struct Decimal {
     pub number: u128,
     pub decimals: usize,
 }
 
-// The number of 廿 or 卅 with one digit behind it or none.
+// The number of 廿 or 卅, alone or with one digit after it.
 fn short_tens(text: &str) -> Option<u128>
     ensures { result ≡ short_tens (text_of text.now) }
 {
@@ -39,7 +39,7 @@ fn short_tens(text: &str) -> Option<u128>
     Some(tens as u128 + digit as u128)
 }
 
-// A number with so many decimals, if it fits.
+// A number with this number of decimals, if it fits.
 fn decimal_of(decimals: usize, number: Option<u128>) -> Result<Decimal, ChineseToNumberError>
     ensures { answer_of (λ d. d) result ≡ decimal_of decimals number }
 {
@@ -49,7 +49,7 @@ fn decimal_of(decimals: usize, number: Option<u128>) -> Result<Decimal, ChineseT
     }
 }
 
-// The answer to a text by its shape, behind so many characters of the caller's string.
+// The answer to a text by its shape; `skipped` characters of the caller's string are before it.
 fn judge_shaped(
     method: ChineseCountMethod,
     skipped: usize,
@@ -82,8 +82,8 @@ fn judge_shaped(
     decimal_of(0, Some(whole))
 }
 
-/// The answer to a text that has no sign, no percent sign and no 分之, behind so many characters of
-/// the caller's string: what the readers of numerals read is that whole number.
+/// The answer to a text without sign, percent sign and 分之, which has `skipped` characters of the
+/// caller's string before it. If the readers of numerals read the text, it is that whole number.
 pub fn judge_number(
     method: ChineseCountMethod,
     skipped: usize,
@@ -99,7 +99,7 @@ pub fn judge_number(
     }
 }
 
-/// The same of a part of a fraction, where units alone count as with 一 in front.
+/// The same for a part of a fraction, in which units alone count as if 一 were before them.
 pub fn judge_part(
     method: ChineseCountMethod,
     skipped: usize,
@@ -116,14 +116,15 @@ pub fn judge_part(
     }
 }
 
-// Whether the number may stand below a line: it is a whole one above 0.
+// Whether the number can be a denominator: it is whole and above 0.
 fn is_divisor(decimal: Decimal) -> bool
     ensures { result ≡ is_divisor decimal }
 {
     decimal.number > 0 && decimal.decimals == 0
 }
 
-/// The whole number above 0 that a divisor is; its first character is at fault where it is none.
+/// The value of a divisor, a whole number above 0. If it is not one, its first character is at
+/// fault.
 pub fn judge_divisor(
     method: ChineseCountMethod,
     skipped: usize,

@@ -1,5 +1,5 @@
-// A text, taken apart: its first and last character that are no white space, and what stands before
-// one of its ends.
+// Parts of a text: its first and last character that are not white space, and the text before a
+// suffix.
 ghost use Rattle.std.specs.Prelude.{◌≡◌, ℕ, ◌+◌, ◌++◌, ◌<◌, ◌≤◌, [], ◌∷◌, length, chars, IfSome, MatchOption};
 ghost use Rattle.cn_core.specs.Text.{text_of};
 ghost use Rattle.cn_judge.specs.Piece.{StandsAt};
@@ -7,7 +7,7 @@ ghost use Rattle.cn_quantity.specs.Private.{BeginsWith, FinishesWith, IsEnd};
 
 use cn_judge::count_chars;
 
-/// The first character that is no white space, and what stands behind it.
+/// The first character that is not white space, and the text after it.
 pub fn split_first(text: &str) -> Option<(char, &str)>
     ensures parts { MatchOption result (text_of text.now ≡ [])
         (λ r. BeginsWith text.now r.0 r.1.now) }
@@ -17,7 +17,7 @@ pub fn split_first(text: &str) -> Option<(char, &str)>
     Some((first.character, first.rest))
 }
 
-/// The last character that is no white space, and what stands in front of it.
+/// The last character that is not white space, and the text before it.
 pub fn split_last(text: &str) -> Option<(char, &str)>
     ensures parts { MatchOption result (text_of text.now ≡ [])
         (λ r. FinishesWith text.now r.0 r.1.now) }
@@ -27,7 +27,7 @@ pub fn split_last(text: &str) -> Option<(char, &str)>
     Some((c, before))
 }
 
-/// What stands before an end of the text.
+/// The text before one of its suffixes.
 pub fn before_end<'a>(text: &'a str, end: &str) -> &'a str
     requires { IsEnd text.now end.now }
     ensures parts { chars text.now ≡ chars result.now ++ chars end.now }
@@ -37,7 +37,7 @@ pub fn before_end<'a>(text: &'a str, end: &str) -> &'a str
     before
 }
 
-/// How many characters of the text stand before an end of it.
+/// The number of characters of the text before one of its suffixes.
 pub fn count_before(text: &str, end: &str) -> usize
     requires { IsEnd text.now end.now }
     ensures stands { (place : ℕ) → place + length (text_of end.now) ≡ length (text_of text.now)

@@ -34,7 +34,7 @@ pub enum QuantityForm {
 
 /// An exact quantity, as written and not reduced: 12.5% is 125/1000.
 ///
-/// Two are equal where numerators, denominators and forms are: 3.10 and 3.1 are two.
+/// Two quantities are equal if numerators, denominators and forms are: 3.10 and 3.1 are different.
 #[derive(Debug, Copy, Clone, Eq, PartialEq)]
 pub struct Quantity {
     /// The number above the line, with the sign.
@@ -46,7 +46,7 @@ pub struct Quantity {
 }
 
 impl Quantity {
-    /// The whole number that it is, if it is one and the type holds it.
+    /// The whole number that the quantity equals, if there is one and the type holds it.
     ///
     /// ```text
     /// 3.5万, which is 350000/10, is Some(35000); 3.5 is None
@@ -68,8 +68,8 @@ impl Quantity {
     }
 
     /// The quantity without the zeros at the end of its decimals; a decimal with none left is a
-    /// whole number. A fraction stays as it is, and so does what has a denominator that is not one
-    /// of its form.
+    /// whole number. A fraction does not change, nor does a quantity whose denominator does not fit
+    /// its form.
     ///
     /// ```text
     /// 350000/10 is 35000/1, and 12.50%, which is 1250/10000, is 125/1000
@@ -86,8 +86,8 @@ impl Quantity {
         }
     }
 
-    /// The number with so many decimals, a whole number where they are none; `None` from 39 decimals
-    /// on, whose denominator does not fit.
+    /// The number with this number of decimals, a whole number if there are none; `None` from 39
+    /// decimals on, since the denominator does not fit.
     ///
     /// ```text
     /// Quantity::decimal(314, 2) is 314/100
@@ -107,8 +107,8 @@ impl Quantity {
         })
     }
 
-    /// The percentage of a number with so many decimals; `None` from 37 decimals on, whose
-    /// denominator does not fit.
+    /// The percentage of a number with this number of decimals; `None` from 37 decimals on, since
+    /// the denominator does not fit.
     ///
     /// ```text
     /// Quantity::percent(125, 1) is 125/1000, which is 12.5%
@@ -128,7 +128,7 @@ impl Quantity {
         })
     }
 
-    /// The fraction of these two numbers, as they are; `None` where the denominator is 0.
+    /// The fraction of these two numbers, not reduced; `None` if the denominator is 0.
     ///
     /// ```text
     /// Quantity::fraction(2, 6) is 2/6
@@ -160,7 +160,7 @@ fn begins_number(c: char) -> bool
         || unit_of(c) == Some(Unit::Shi)
 }
 
-// What follows 零下 before a number.
+// The text after 零下, if a number follows it.
 fn after_below_zero(text: &str) -> Option<&str>
     ensures below { MatchOption result (is_below_zero (text_of text.now) ≡ false)
         (λ r. (is_below_zero (text_of text.now) ≡ true)
@@ -177,7 +177,7 @@ fn after_below_zero(text: &str) -> Option<&str>
     }
 }
 
-// The sign before a number, and what follows it.
+// The sign before a number, and the text after it.
 fn split_sign(text: &str) -> (Option<Sign>, &str)
     ensures sign { result.0 ≡ number_sign (text_of text.now) }
     ensures rest { text_of result.1.now ≡ drop (sign_length (text_of text.now)) (text_of text.now) }
@@ -194,7 +194,7 @@ fn split_sign(text: &str) -> (Option<Sign>, &str)
     (None, text)
 }
 
-// What follows a ¥ before a figure, or the text where there is none.
+// The text after a ¥ before a figure, or the whole text if there is none.
 fn after_yen(text: &str) -> &str
     ensures rest { text_of result.now ≡ drop (yen_length (text_of text.now)) (text_of text.now) }
     ensures end { IsEnd text.now result.now }
@@ -237,7 +237,7 @@ fn signed_ratio(sign: Option<Sign>, ratio: Ratio) -> Result<Quantity, ChineseToN
     })
 }
 
-// The refusal of what stands behind a sign.
+// The refusal of the text after a sign.
 fn signed_error(sign: Option<Sign>, error: ChineseToNumberError) -> ChineseToNumberError
     ensures { refusal_of result ≡ signed_refusal sign (refusal_of error) }
 {
@@ -260,18 +260,18 @@ fn signed_quantity(
     }
 }
 
-/// The quantity that a text is: a whole number, a decimal, a percentage or a fraction, in figures or
-/// numerals, with a sign in front or none. It is exact, and as written.
+/// Reads a text as a quantity: a whole number, a decimal, a percentage or a fraction, in figures or
+/// numerals, with or without a leading sign. The quantity is exact, and as written.
 ///
 /// ```text
 /// "三點五" is 35/10, "1,280.5萬" 128050000/10, "-12.5%" -125/1000, "三分之一" 1/3, "廿三" 23/1,
 /// "1亿2000万" 120000000/1, "一百十五" 115/1
 /// ```
 ///
-/// `ChineseNumberEmpty` where nothing is left without white space and sign; `Overflow` where a
-/// number does not fit 128 bits, or a unit's scale, `Underflow` after a minus;
-/// `ChineseNumberIncorrect` for any other text, with the char_index of the character at fault: also
-/// where a numeral says what no reader means, as 一亿二千.
+/// `ChineseNumberEmpty` if nothing but white space and a sign is there; `Overflow` if a number or a
+/// unit's scale does not fit 128 bits, or `Underflow` after a minus; `ChineseNumberIncorrect` for
+/// any other text, with the char_index of the character at fault, also if a numeral has a value
+/// that nobody means, such as 一亿二千.
 pub fn chinese_to_quantity(
     text: &str,
     method: ChineseCountMethod,

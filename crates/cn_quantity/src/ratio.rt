@@ -1,4 +1,4 @@
-// What a text without sign is worth: a fraction, a percentage, or a number by itself.
+// The value of a text without sign: a fraction, a percentage, or a number by itself.
 ghost use Rattle.std.specs.Prelude.{◌≡◌, ℕ, List, ◌+◌, ◌-◌, ◌*◌, ◌^◌, ◌<◌, ◌≤◌, ◌&&◌, true, false, [], length, take, IfSome, MatchOption, None, Some, SomeIff};
 ghost use Rattle.cn_core.specs.Text.{text_of};
 ghost use Rattle.cn_judge.specs.Answer.{answer_of};
@@ -50,7 +50,7 @@ fn ratio_of(
     }
 }
 
-/// The form of a number by itself.
+/// The form of a number by itself, given the number of its decimals.
 pub fn form_of(decimals: usize) -> QuantityForm
     ensures { result ≡ form_of decimals }
 {
@@ -61,7 +61,7 @@ pub fn form_of(decimals: usize) -> QuantityForm
     }
 }
 
-// What stands behind 分之, where this character and the text behind it begin with that.
+// The text after 分之, if this character and the text after it begin with 分之.
 fn after_bar<'a>(c: char, text: &'a str) -> Option<&'a str>
     ensures parts { MatchOption result ((is_fen c && begins_with_zhi (text_of text.now)) ≡ false)
         (λ r. (zhi : ℕ) × (is_fen c ≡ true) × (is_zhi zhi ≡ true) × BeginsWith text.now zhi r.now) }
@@ -74,7 +74,7 @@ fn after_bar<'a>(c: char, text: &'a str) -> Option<&'a str>
     if is_zhi(next) { Some(behind) } else { None }
 }
 
-/// What stands before 分之, what stands over it, and how many characters stand before that.
+/// The text before 分之, the numerator after it, and the number of characters before the numerator.
 #[derive(Copy, Clone)]
 pub struct Bar<'a> {
     pub divisor: &'a str,
@@ -82,7 +82,7 @@ pub struct Bar<'a> {
     pub behind: &'a str,
 }
 
-// A text at its first 分之.
+// The parts of a text at its first 分之.
 fn split_bar(text: &str) -> Option<Bar<'_>>
     ensures parts { MatchOption result (after_bar (text_of text.now) ≡ [])
         (λ bar. SplitsAtBar text.now bar.divisor.now bar.skipped bar.behind.now) }
@@ -120,7 +120,8 @@ pub fn split_fraction(text: &str) -> Option<Bar<'_>>
     Some(bar)
 }
 
-// What stands before a percent sign or ‰ at the end, if something does, and what the sign divides by.
+// The text before a percent sign or ‰ at the end, unless it is empty, and the number by which the
+// sign divides.
 fn split_share(text: &str) -> Option<(&str, u128)>
     ensures share { MatchOption result (share (text_of text.now) ≡ None)
         (λ r. share (text_of text.now) ≡ Some r.1) }
@@ -136,7 +137,7 @@ fn split_share(text: &str) -> Option<(&str, u128)>
     Some((before, divisor))
 }
 
-// The form of what is over a divisor.
+// The form of a number over this divisor.
 fn form_over(divisor: u128) -> QuantityForm
     ensures { result ≡ form_over divisor }
 {
@@ -170,7 +171,8 @@ pub fn split_negated(text: &str) -> Option<Bar<'_>>
     }
 }
 
-/// The answer to a fraction by its parts, after so many characters of the caller's string.
+/// The answer to a fraction, given its parts; `skipped` characters of the caller's string are
+/// before it.
 pub fn judge_fraction(
     method: ChineseCountMethod,
     skipped: usize,
@@ -188,7 +190,7 @@ pub fn judge_fraction(
     ratio_of(divisor, form_over(divisor), decimal)
 }
 
-// The answer to a text without sign that is no mixed fraction.
+// The answer to a text without sign that is not a mixed fraction.
 fn judge_simple(
     method: ChineseCountMethod,
     skipped: usize,
@@ -209,7 +211,7 @@ fn judge_simple(
     ratio_of(1, form_of(decimal.decimals), decimal)
 }
 
-/// The answer to a text without sign, behind so many characters of the caller's string.
+/// The answer to a text without sign; `skipped` characters of the caller's string are before it.
 pub fn judge_ratio(
     method: ChineseCountMethod,
     skipped: usize,

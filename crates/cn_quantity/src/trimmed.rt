@@ -1,11 +1,11 @@
-// How many decimals a quantity has, and with how many zeros they end.
+// How many decimals a quantity has, and how many zeros are at their end.
 ghost use Rattle.std.specs.Prelude.{◌≡◌, ◌*◌, ◌^◌, ◌≤◌, ◌<◌, IfSome};
 ghost use Rattle.cn_quantity.specs.Trimmed.{decimals_of, decimals_over, form_with, without_zeros, zeros_at_end};
 
 use crate::ratio::form_of;
 use crate::{Quantity, QuantityForm};
 
-// How many decimals make this divisor the denominator.
+// The number of decimals with which this divisor makes the denominator.
 fn decimals_over(divisor: u128, denominator: u128) -> Option<usize>
     requires { 0 < divisor }
     ensures value { result ≡ decimals_over divisor denominator }
@@ -21,8 +21,8 @@ fn decimals_over(divisor: u128, denominator: u128) -> Option<usize>
     None
 }
 
-/// How many decimals a quantity has: 2 of 314/100, and 1 of 125/1000 as a percentage, which is
-/// 12.5%. `None` of a fraction, and where the denominator is not one of the form.
+/// The number of decimals of a quantity: 2 for 314/100, and 1 for 125/1000 as a percentage, which
+/// is 12.5%. `None` for a fraction, or if the denominator does not fit the form.
 pub fn decimals_of(quantity: Quantity) -> Option<usize>
     ensures value { result ≡ decimals_of quantity }
     ensures most { IfSome result (λ decimals. decimals ≤ 38) }
@@ -35,7 +35,7 @@ pub fn decimals_of(quantity: Quantity) -> Option<usize>
     }
 }
 
-/// With how many zeros a number ends, of its last so many digits.
+/// The number of zeros at the end of a number, among its last `count` digits.
 // Same answer (.. → ..=): one more digit is examined, and the answer is `count` whatever it is.
 pub fn zeros_at_end(count: usize, number: u128) -> usize
     ensures value { result ≡ zeros_at_end count number }
@@ -51,7 +51,7 @@ pub fn zeros_at_end(count: usize, number: u128) -> usize
     count
 }
 
-// The form with so many decimals left.
+// The form when this number of decimals is left.
 fn form_with(form: QuantityForm, decimals: usize) -> QuantityForm
     ensures { result ≡ form_with form decimals }
 {
@@ -61,7 +61,7 @@ fn form_with(form: QuantityForm, decimals: usize) -> QuantityForm
     }
 }
 
-/// The quantity without so many zeros at the end of its decimals.
+/// The quantity without this number of zeros at the end of its decimals.
 pub fn without_zeros(quantity: Quantity, decimals: usize, zeros: usize) -> Quantity
     requires zeros { zeros ≤ decimals }
     requires decimals { decimals ≤ 38 }

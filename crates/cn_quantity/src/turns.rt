@@ -1,20 +1,20 @@
-// A number in figures and units by turns, as 1亿2000万 and 12万3千.
+// A number in which figures and units alternate, such as 1亿2000万 and 12万3千.
 ghost use Rattle.std.specs.Prelude.{◌≡◌, ◌+◌, ◌*◌, ◌/◌, ◌^◌, ◌<◌, ◌≤◌, Bool, true, false, not, ◌&&◌, ◌==◌, nat_lt, [], ◌∷◌, length, drop, option_map, IfSome, MatchOption, None, Some, SomeIff};
 ghost use Rattle.cn_core.specs.Text.{text_of};
 ghost use Rattle.cn_quantity.specs.declared.characters.DigitKind.TheVariants.{Figure};
 ghost use Rattle.cn_quantity.specs.Digits.{leading_digits};
 ghost use Rattle.cn_quantity.specs.Private.{IsEnd, IsGroup};
-ghost use Rattle.cn_quantity.specs.Turns.{after_group, after_units, begins_with_nought, begins_with_zero, by_turns, fills, first_group, has_two_readings, is_below, is_tenth, last_group, later_group, leading_number, number_of, unit_group, with_group, with_last, without_zero};
+ghost use Rattle.cn_quantity.specs.Turns.{after_group, after_units, begins_with_zero, by_turns, fills, first_group, has_two_readings, is_below, is_tenth, last_group, later_group, leading_number, number_of, unit_group, with_group, with_last, without_zero};
 ghost use Rattle.cn_quantity.specs.Units.{times_units};
 
 use crate::characters::{DigitKind, digit_by};
-use crate::digits::{split_digits, with_digit};
+use crate::digits::{begins_with_nought, split_digits, with_digit};
 use crate::pieces::{before_end, split_first};
 use crate::units::times_units;
 use cn_core::{ChineseCountMethod, Unit, power_of_ten, unit_of};
 
-/// The groups of a number by turns, as far as they are read: their sum, the product of the units of
-/// the last one, and whether that has one unit.
+/// The groups of such a number that are read so far: their sum, the product of the units of the
+/// last group, and whether that group has only one unit.
 #[derive(Copy, Clone)]
 pub struct Turns {
     pub sum: u128,
@@ -22,8 +22,8 @@ pub struct Turns {
     pub single: bool,
 }
 
-// A group at the start of a text: how many figures it has and their number, whether they begin with
-// 0, its units, and what follows it.
+// A group at the start of a text: the count and the number of its figures, whether they begin with
+// 0, its units, and the text after it.
 #[derive(Copy, Clone)]
 struct Group<'a> {
     count: usize,
@@ -33,7 +33,7 @@ struct Group<'a> {
     rest: &'a str,
 }
 
-// The number of the figures that the text begins with, if it fits.
+// The number of the figures with which the text begins, if it fits.
 fn number_of(text: &str) -> Option<u128>
     ensures { result ≡ number_of (text_of text.now) }
 {
@@ -47,19 +47,6 @@ fn number_of(text: &str) -> Option<u128>
         rest = after;
     }
     Some(number)
-}
-
-// Whether the text begins with the figure 0.
-fn begins_with_nought(text: &str) -> bool
-    ensures { result ≡ begins_with_nought (text_of text.now) }
-{
-    let Some((c, _)) = split_first(text) else {
-        return false;
-    };
-    match digit_by(DigitKind::Figure, c) {
-        Some(figure) => figure == 0,
-        None => false,
-    }
 }
 
 // What follows the rising units that the text begins with.
@@ -109,7 +96,7 @@ fn is_one(text: &str) -> bool
     }
 }
 
-// The groups with one more, of this number times these units.
+// The groups so far and one more: this number times these units.
 fn with_group(method: ChineseCountMethod, sum: u128, number: u128, units: &str) -> Option<Turns>
     ensures { result ≡ with_group method sum number (text_of units.now) }
 {
@@ -123,7 +110,7 @@ fn with_group(method: ChineseCountMethod, sum: u128, number: u128, units: &str) 
     })
 }
 
-// The groups with a last number, which nothing may follow.
+// The groups so far and a last number, after which nothing may follow.
 fn with_last(turns: Turns, number: u128) -> Option<Turns>
     ensures { result ≡ with_last turns number }
 {
@@ -150,7 +137,7 @@ fn first_group(method: ChineseCountMethod, text: &str) -> Option<(Turns, &str)>
     Some((turns, group.rest))
 }
 
-// Whether the units of a group and its number make a value below this product.
+// Whether the number of a group times its units is below this product.
 fn is_below(method: ChineseCountMethod, number: u128, units: &str, product: u128) -> bool
     ensures { result ≡ is_below (times_units method number (text_of units.now)) product }
 {
@@ -160,7 +147,8 @@ fn is_below(method: ChineseCountMethod, number: u128, units: &str, product: u128
     }
 }
 
-// Whether so many figures are as many as the product of the units before them has zeros.
+// Whether the number of these figures equals the number of zeros of the product of the units before
+// them.
 fn fills(turns: Turns, count: usize) -> bool
     ensures { result ≡ fills turns count }
 {
@@ -170,7 +158,7 @@ fn fills(turns: Turns, count: usize) -> bool
     }
 }
 
-// Whether figures are one above 0 after a single unit, which counts a tenth of that.
+// Whether the figures are one figure above 0 after a single unit, which counts tenths of that unit.
 fn is_tenth(turns: Turns, nought: bool, count: usize) -> bool
     ensures { result ≡ is_tenth turns nought count }
 {
@@ -217,14 +205,15 @@ fn unit_group(method: ChineseCountMethod, turns: Turns, group: Group<'_>) -> Opt
     }
 }
 
-// Whether units below 10000 are directly after units of 10^8 or more, as in 1亿2千.
+// Whether units that make less than 10000 are directly after units that make 10^8 or more, as in
+// 1亿2千.
 fn has_two_readings(method: ChineseCountMethod, turns: Turns, after_zero: bool, units: &str) -> bool
     ensures { result ≡ has_two_readings method turns after_zero (text_of units.now) }
 {
     !after_zero && turns.product >= 100_000_000 && is_below(method, 1, units, 10_000)
 }
 
-// The groups with a later one, after 零 or not.
+// The groups so far and a later one, after 零 or not.
 fn later_group(
     method: ChineseCountMethod,
     turns: Turns,
@@ -248,7 +237,7 @@ fn later_group(
     Some((next, group.rest))
 }
 
-// Whether 零 begins the text, and what follows it.
+// Whether the text begins with 零, and the text after that.
 fn split_zero(text: &str) -> (bool, &str)
     ensures zero { result.0 ≡ begins_with_zero (text_of text.now) }
     ensures rest { text_of result.1.now ≡ without_zero (text_of text.now) }
@@ -262,7 +251,8 @@ fn split_zero(text: &str) -> (bool, &str)
     (false, text)
 }
 
-/// The number of a text in figures and units by turns, if it is one and all that it says fits.
+/// The number of a text in which figures and units alternate, if it is such a text and everything
+/// fits.
 pub fn by_turns(method: ChineseCountMethod, text: &str) -> Option<u128>
     ensures { result ≡ by_turns method (text_of text.now) }
 {

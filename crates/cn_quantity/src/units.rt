@@ -1,4 +1,4 @@
-// Units that multiply what stands in front of them.
+// Units that multiply what is before them.
 ghost use Rattle.std.specs.Prelude.{◌≡◌, ◌*◌, ◌^◌, ◌<◌, IsTrue, SomeIff, false, nat_le, option_map};
 ghost use Rattle.std.specs.Option.{option_map_or};
 ghost use Rattle.cn_core.specs.Characters.{rank};
@@ -25,7 +25,7 @@ pub fn are_rising_units(text: &str) -> bool
     true
 }
 
-// A number times what a unit stands for, if both fit.
+// A number times a unit's scale, if both fit.
 fn times_scale(method: ChineseCountMethod, number: u128, unit: Unit) -> Option<u128>
     ensures { SomeIff result (IsTrue (scale_fits method (rank unit))
         × (number * scale method (rank unit) < 2 ^ 128)) (number * scale method (rank unit)) }
@@ -48,7 +48,7 @@ pub fn times_units(method: ChineseCountMethod, number: u128, text: &str) -> Opti
     Some(product)
 }
 
-/// The unit that the text begins with.
+/// The unit with which the text begins.
 pub fn first_unit(text: &str) -> Option<Unit>
     ensures { option_map rank result ≡ first_rank (text_of text.now) }
 {
@@ -75,7 +75,7 @@ pub fn are_below(greatest: Option<Unit>, text: &str) -> bool
     true
 }
 
-// 個
+// Whether the character is 個.
 fn is_ge(c: char) -> bool
     ensures { result ≡ is_ge c }
 {
@@ -85,7 +85,7 @@ fn is_ge(c: char) -> bool
     }
 }
 
-/// The first unit of the text, without 個 before it.
+/// The first unit of the text, after 個 if the text begins with it.
 pub fn first_factor(text: &str) -> Option<Unit>
     ensures { option_map rank result ≡ first_factor (text_of text.now) }
 {
@@ -107,8 +107,7 @@ fn begins_from_wan(text: &str) -> bool
     }
 }
 
-/// Whether the text is rising units or nothing, with 個 before them or not where the first is 萬 or
-/// greater.
+/// Whether the text is rising units or nothing; if the first is 萬 or greater, 個 may be before them.
 pub fn are_factors(text: &str) -> bool
     ensures { result ≡ are_factors (text_of text.now) }
 {

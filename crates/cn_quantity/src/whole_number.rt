@@ -29,8 +29,8 @@ fn is_plain(text: &str) -> bool
     true
 }
 
-// The whole number of a text as the readers of numerals read it, after so many characters of the
-// caller's string.
+// The answer of the readers of numerals to a text; `skipped` characters of the caller's string are
+// before it.
 fn judge_reader(
     method: ChineseCountMethod,
     skipped: usize,
@@ -47,7 +47,7 @@ fn judge_reader(
     }
 }
 
-// Whether a number is below what a unit stands for.
+// Whether a number is below a unit's scale.
 fn is_below_unit(method: ChineseCountMethod, number: u128, unit: Unit) -> bool
     ensures { result ≡ nat_lt number (scale method (rank unit)) }
 {
@@ -83,7 +83,7 @@ fn misread_error(skipped: usize, misread: Misread<'_>) -> ChineseToNumberError
     }
 }
 
-// The sum of a text and of what follows it from a bare ten on, which has to be below the unit.
+// The sum of a text and of the rest from a bare ten on, which must be below the unit's scale.
 fn judge_sum(
     method: ChineseCountMethod,
     skipped: usize,
@@ -146,8 +146,8 @@ fn judge_misread(
     }
 }
 
-/// The whole number of a text, after so many characters of the caller's string: as the readers of
-/// numerals read it, where no character is misread.
+/// The whole number of a text; `skipped` characters of the caller's string are before it. It is
+/// read as the readers of numerals read it, if no character is misread.
 pub fn judge_whole(
     method: ChineseCountMethod,
     skipped: usize,

@@ -1,4 +1,4 @@
--- One more character of what is in figures alone.
+-- One more character of a text of figures alone.
 use Rattle.std.proofs.Common.{◌≡◌, ℕ, Bool, not, ◌&&◌, ◌||◌, List, ◌∷◌, ◌++◌, sym, ap, ◌∙◌}
 use Rattle.cn_replace.specs.Canonical.{ascii_unless, canonical_from, is_leading_zero}
 use Rattle.cn_core.specs.Figures.{is_figure}

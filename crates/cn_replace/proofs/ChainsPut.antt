@@ -1,4 +1,4 @@
--- A text that is put in chains.
+-- A text that is written chain by chain.
 use Rattle.std.proofs.Common.{◌≡◌, ℕ, ◌-◌, ◌≤◌, nat_le, Bool, true, false, ◌&&◌, ◌||◌, List, [], ◌∷◌, ◌++◌, length, take, drop, chars, reverse, IsUtf8, Option, Some, None, unwrap_or, refl, sym, ap, subst, ◌∙◌, arith, append_assoc, length-append}
 use Rattle.std.specs.List.{Contains}
 use Rattle.std.specs.Str.{IsCharBoundary}
@@ -17,14 +17,14 @@ use Rattle.cn_replace.specs.Joined.{end_of, is_joined_at}
 use Rattle.cn_replace.specs.Private.{IsFoundIn}
 use Rattle.cn_replace.proofs.Replacing.{boundary-front, parts-of}
 
--- one of the expressions that are left is one of the text
+-- each of the remaining expressions is one of the text
 one-of-left : (wanted : Wanted) (text : List ℕ) (passed others : List Span) (span : Span)
     → expressions wanted text ≡ passed ++ span ∷ others → Contains (expressions wanted text) span
 one-of-left wanted text passed others span parts =
     subst (λ l. Contains l span) (sym parts)
     (Contains-append_right passed (span ∷ others) span (0, omega arith, refl))
 
--- where the text before it can be cut
+-- a place where the text before it can be cut
 pub cut_before : (wanted : Wanted) (text : List ℕ) (from : ℕ) (passed others : List Span)
     (span : Span) → IsUtf8 text → expressions wanted text ≡ passed ++ span ∷ others
     → is_rising from (span ∷ others) ≡ true → IsCharBoundary text from
@@ -37,7 +37,7 @@ cut_before wanted text from passed others span utf8 parts rises boundary =
     within = let first : nat_le from (length span.before) ≡ true = and-left _ _ rises in
         grind (arith, nat_tests, first)
 
--- and where it ends
+-- the place where it ends
 pub cut_after : (wanted : Wanted) (text : List ℕ) (passed others : List Span) (span : Span)
     → IsUtf8 text → IsUtf8 span.after → expressions wanted text ≡ passed ++ span ∷ others
     → IsCharBoundary text (end_of span)
@@ -48,7 +48,8 @@ cut_after wanted text passed others span utf8 after parts =
       at = parts-of wanted text span utf8 (one-of-left wanted text passed others span parts)
           ∙ sym (append_assoc span.before span.text span.after)
 
--- a look along a chain: what ended at that byte is joined as far, and none held it
+-- the search along a chain: the expression that ended at that byte is joined up to here, and none
+-- so far holds the chain
 pub record Looking (holds : Span → Bool) (wanted : Wanted) (text : List ℕ) (all : Bool)
     (end : ℕ) (left : List Span) : Type 0 where
   pub last : Span
@@ -123,7 +124,7 @@ pub looking_all : (holds : Span → Bool) (wanted : Wanted) (text : List ℕ) (a
 looking_all holds wanted text all end left p e =
     sym (p.same ∙ ap (λ l. is_joined_to_next p.last l && is_held holds l) e)
 
--- all expressions are left where no text is passed
+-- all expressions remain if no text has been passed
 all_left : (wanted : Wanted) (text : List ℕ)
     → expressions_left wanted text (drop 0 text) ≡ expressions wanted text
 all_left wanted text =
@@ -131,7 +132,7 @@ all_left wanted text =
     ap (λ n. spans_after (expression_rule wanted) false (in_front (take n text)) (chars text)) none
     ∙ ap (λ l. spans_after (expression_rule wanted) false (reverse l) (chars text)) chars-nil
 
--- a text was put up to a byte in chains, and these expressions are left
+-- a text was written up to a byte, chain by chain, and these expressions remain
 pub record PutChains {S : Type 0} (took : S → S → List ℕ → Type 0) (new : Span → Option (List ℕ))
     (holds : Span → Bool) (wanted : Wanted) (text : List ℕ) (old now : S) (end : Option ℕ)
     (held : Bool) (left : List Span) : Type 0 where

@@ -1,4 +1,4 @@
--- A text and its ends.
+-- A text and its suffixes.
 use Rattle.std.proofs.Common.{◌≡◌, ℕ, ◌+◌, ◌-◌, ◌<◌, true, List, [], ◌∷◌, ◌++◌, length, take, drop, chars, reverse, encode_utf8_all, IsUtf8, refl, sym, ap, ◌∙◌, arith, append_assoc, length-append}
 use Rattle.std.proofs.lemmas.List.{reverse-append}
 use Rattle.std.proofs.Math.Seq.{drop-append_seam, take-append_seam}
@@ -22,7 +22,7 @@ IsEnd-more text rest others c e parts = record {
   parts = e.parts ∙ ap (λ l. e.front ++ l) parts ∙ sym (append_assoc e.front (c ∷ []) (chars others));
 }
 
--- the bytes of what stands in front of an end
+-- the bytes before a suffix
 front-bytes : (text rest : List ℕ) (e : IsEnd text rest) → IsUtf8 text → IsUtf8 rest
     → text ≡ encode_utf8_all e.front ++ rest
 front-bytes text rest e whole ended =
@@ -61,7 +61,7 @@ front-chars text rest before e whole ended cut is =
     encodes_same (chars before) e.front (encodes-chars before cut ∙ same) in
     e.parts ∙ ap (λ l. l ++ chars rest) (sym front)
 
--- the last character of a text, and what is before it
+-- the last character of a text, and the text before it
 last-cut : (text head : List ℕ) (c : ℕ) → IsUtf8 text → IsUtf8 head
     → chars text ≡ chars head ++ c ∷ [] → text ≡ head ++ encode_utf8_all (c ∷ [])
 last-cut text head c whole before e =

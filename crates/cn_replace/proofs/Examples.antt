@@ -14,7 +14,7 @@ digits : digits_text (codes "零四二七") ≡ codes "0427"
 unfolding digit_of encode_utf8
 digits = refl
 
--- 亿 stays at the end of a section, and 万 before it; after 亿 万 does not
+-- 亿 is left at the end of a section, and so is 万 before it; 万 after 亿 is not
 end-of-section : end_of [] (codes "三万亿") ≡ codes "万亿"
 unfolding rank_of is_ge
 end-of-section = refl
@@ -27,7 +27,7 @@ before-end : before_end [] (codes "三个亿") ≡ codes "三"
 unfolding rank_of is_ge
 before-end = refl
 
--- 三亿二 has a decimal, 三万亿二 and 一兆二千亿五 have none; the last character is the first
+-- 三亿二 has a decimal, 三万亿二 and 一兆二千亿五 have none; the texts are given last character first
 tenth : is_tenth (codes "二亿三") ≡ true
 unfolding digit_of rank_of is_ge is_tenth may_have_tenths
 tenth = refl
@@ -45,7 +45,7 @@ no-zeros : canonical_text (codes "-007") ≡ codes "-7"
 unfolding ascii_of is_zero_figure
 no-zeros = refl
 
--- 三百km stands by itself, 三百km2 does not
+-- 三百km does not cling to km, and 三百km2 does
 by-itself : clings [] (codes "km，") ≡ false
 unfolding clings begins_measure is_bound is_bridge encode_utf8
 by-itself = refl

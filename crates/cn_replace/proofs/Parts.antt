@@ -1,4 +1,4 @@
--- A text that is put in figures, before a character that parts it and after it.
+-- A text that is rewritten in figures, before and after a character that parts it.
 use Rattle.std.proofs.Common.{◌≡◌, ℕ, ◌+◌, ◌≤◌, Bool, true, false, not, ◌&&◌, List, [], ◌∷◌, ◌++◌, length, drop, map, reverse, chars, IsUtf8, Option, Some, None, is_some, unwrap_or, if◌then◌else◌, refl, sym, ap, ◌∙◌, arith, append_assoc, append-nil, length-append}
 use Rattle.std.specs.Char.{encode_utf8}
 use Rattle.std.specs.List.{Contains, list_any}
@@ -31,8 +31,8 @@ use Rattle.cn_replace.proofs.Unnoticed.{IsUnseen, IsUnseen-of, joins-after, none
 -- the following expressions come after them
 module _ (new : Span → Option (List ℕ)) (holds : Span → Bool) (moved : Span → Span) (at : ℕ → ℕ)
     (bytes whole rest : List ℕ) (following : List Span) where
-  -- one is put, holds and is joined in the whole as in its own text, and to none of those that
-  -- follow; where it is the last, what is left of its own text is put, and then the rest
+  -- one is written, holds and is joined in the whole as in its own text, and is joined to none of
+  -- those that follow; if it is the last, the rest of its own text is written, and then the rest
   record IsAlike (span : Span) : Type 0 where
     put : (held : Bool) → text_unless held new (moved span) ≡ text_unless held new span
     held : holds (moved span) ≡ holds span
@@ -61,7 +61,7 @@ module _ (new : Span → Option (List ℕ)) (holds : Span → Bool) (moved : Spa
   IsNext there here front span = (goes_on there (moved span) ≡ goes_on here span)
       × (drop (unwrap_or there 0) (moved span).before ≡ front ++ drop (unwrap_or here 0) span.before)
 
-  -- so all are put in the whole as in their own text, from there and from here on
+  -- so all are written in the whole as in their own text, from there and from here on
   all-alike : (there here : Option ℕ) (held : Bool) (front : List ℕ) (spans : List Span)
       → ((each : Span) → Contains spans each → IsAlike each)
       → ((each : Span) → Contains spans each → IsNext there here front each)
@@ -160,7 +160,7 @@ module _ (method : ChineseCountMethod) (options : Figures) (wanted : Wanted)
       ∙ drop-append-le end left (mid ++ more) within
       ∙ sym (append_assoc (drop end left) mid more)
 
-  -- what is put from the last expression of the left text on
+  -- what is written from the last expression of the left text on
   from-seam : (end : Option ℕ) (held : Bool) (spans : List Span) → unwrap_or end 0 ≤ length left
       → ((span : Span) → goes_on end (later span) ≡ false)
       → in_chains_from new holds ((left ++ mid) ++ right) end held (map later spans ++ [])

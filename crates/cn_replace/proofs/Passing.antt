@@ -1,4 +1,4 @@
--- A text that is passed from its first character on.
+-- A text that is read from its first character on.
 use Rattle.std.proofs.Common.{◌≡◌, ℕ, nat_lt, Bool, true, false, ◌&&◌, List, [], ◌∷◌, ◌++◌, length, chars, refl, sym, ap, ◌∙◌, append_assoc, append-nil}
 use Rattle.std.proofs.lemmas.List.{append_cancel_right}
 use Rattle.cn_core.proofs.Fronts.{both}
@@ -8,7 +8,7 @@ use Rattle.cn_replace.specs.KeptNumbers.{before_end, end_of, is_end}
 use Rattle.cn_replace.specs.Pieces.{after_leading, leading}
 use Rattle.cn_replace.specs.Private.{IsEnd}
 
--- so much of what a text begins with is passed, and what is after that is as before
+-- some characters at the start of a text are passed, and the search in the rest is the same
 pub record Passing (before after : List ℕ → List ℕ) (text rest : List ℕ) : Type 0 where
   pub front : List ℕ
   pub parts : chars text ≡ front ++ chars rest
@@ -37,7 +37,7 @@ pub passing_end : {before after : List ℕ → List ℕ} (text rest : List ℕ)
     → Passing before after text rest → IsEnd text rest
 passing_end text rest p = record { front = p.front; parts = p.parts }
 
--- a piece that is all before the rest
+-- a piece that is the whole text before the rest
 pub same_front : (front piece rest : List ℕ) → piece ++ rest ≡ front ++ rest → piece ≡ front
 same_front front piece rest e = append_cancel_right piece front rest e
 
@@ -56,7 +56,7 @@ leading_more test text rest others c p e passes =
     passing_more (leading test) (after_leading test) text rest others c p e (rw passes refl)
     (rw passes refl)
 
--- so much of a section is passed, and its end is sought
+-- some of a section is passed, and the search for its end goes on
 pub record Ending (section rest : List ℕ) : Type 0 where
   pub front : List ℕ
   pub parts : chars section ≡ front ++ chars rest
@@ -119,7 +119,7 @@ ending_none section rest p none = (
   sym (p.after_is ∙ ap (end_of p.front) none),
 )
 
--- a character that begins no bar
+-- a character that does not begin 分之
 bar_before : (c : ℕ) (text : List ℕ)
     → ((d : ℕ) (after : List ℕ) → text ≡ d ∷ after → (is_fen c && is_zhi d) ≡ false)
     → before_bar (c ∷ text) ≡ c ∷ before_bar text
@@ -162,7 +162,7 @@ bar_found text rest before others after c d p e f fen zhi parts =
       sym (p.after_is ∙ here.1),
     )
 
--- no 分之 is in a text that is all passed
+-- a text that is passed completely has no 分之
 pub no_bar : (text rest : List ℕ) → Passing before_bar after_bar text rest → chars rest ≡ []
     → is_fraction (chars text) ≡ false
 no_bar text rest p none =
@@ -172,7 +172,7 @@ no_bar text rest p none =
       last-false true = refl
       last-false false = refl
 
--- both sides of a bar have characters
+-- both sides of 分之 have characters
 pub fraction_is : (text before after : List ℕ) → before ≡ before_bar text → after ≡ after_bar text
     → nat_lt 0 (length before) ≡ true → nat_lt 0 (length after) ≡ true
     → is_fraction text ≡ true

@@ -1,4 +1,4 @@
--- A text is put piece by piece with its expressions replaced.
+-- A text is written piece by piece with its expressions replaced.
 use Rattle.std.proofs.Common.{◌≡◌, ℕ, ◌+◌, ◌≤◌, nat_le, true, false, List, [], ◌∷◌, ◌++◌, length, slice_index_or, drop, chars, encode_utf8_all, IsUtf8, IsCharBoundary, Option, Some, None, is_some, unwrap_or, refl, sym, ap, subst, ◌∙◌, arith, append_assoc, length-append}
 use Rattle.std.specs.List.{Contains}
 use Rattle.std.proofs.lemmas.Bool.Decides.{nat_tests}
@@ -13,7 +13,7 @@ use Rattle.cn_find.specs.Spans.{Span, expressions}
 use Rattle.cn_find.proofs.RunLaws.{found-is_run, spans-rise}
 use Rattle.cn_replace.specs.Replaced.{replaced, replaced_from, text_for}
 
--- an expression stands in its text between what stands around it
+-- an expression is between the texts before and after it
 pub parts-of : (wanted : Wanted) (bytes : List ℕ) (span : Span) → IsUtf8 bytes
     → Contains (expressions wanted bytes) span
     → bytes ≡ span.before ++ (span.text ++ span.after)
@@ -27,7 +27,7 @@ parts-of wanted bytes span utf8 found =
       r : IsRunBy (expression_rule wanted) (chars bytes) span
       r = found-is_run (expression_rule wanted) bytes span found
 
--- where a text may be cut, its beginning may be cut too
+-- a place where a text can be cut is one where its beginning can be cut
 pub boundary-front : (bytes front behind : List ℕ) (from : ℕ) → bytes ≡ front ++ behind
     → from ≤ length front → IsCharBoundary bytes from → IsCharBoundary front from
 boundary-front bytes front behind from parts within boundary = (
@@ -39,7 +39,7 @@ boundary-front bytes front behind from parts within boundary = (
       subst (λ byte. 128 ≤ byte → 192 ≤ byte) (ap (λ l. slice_index_or l from 0) parts ∙ same) high,
 )
 
--- a text was put up to a byte with its expressions replaced, and these are left
+-- a text was written up to a byte with its expressions replaced, and these expressions remain
 pub record Put {S : Type 0} (took : S → S → List ℕ → Type 0) (new : Span → Option (List ℕ))
     (wanted : Wanted) (bytes : List ℕ) (old now : S) (from : ℕ) (left : List Span) : Type 0 where
   pub passed : List Span
@@ -53,7 +53,7 @@ pub record Put {S : Type 0} (took : S → S → List ℕ → Type 0) (new : Span
 module _ {S : Type 0} (took : S → S → List ℕ → Type 0)
     (both : (old mid new : S) (first second : List ℕ) → took old mid first → took mid new second
     → took old new (first ++ second)) where
-  -- nothing was put for an expression that stays, and then the expression
+  -- for an expression that is left unchanged nothing was written, and then the expression itself
   pub put-old : (old mid new : S) (text : Option (List ℕ)) (stays : List ℕ)
       → is_some text ≡ false → took old mid (unwrap_or text []) → took mid new stays
       → took old new (unwrap_or text stays)
@@ -83,7 +83,7 @@ module _ {S : Type 0} (took : S → S → List ℕ → Type 0)
   module _ {new : Span → Option (List ℕ)} {wanted : Wanted} {bytes : List ℕ} {old now : S}
       {from : ℕ} {left : List Span} (p : Put took new wanted bytes old now from left)
       (utf8 : IsUtf8 bytes) where
-    -- the next one stands behind that byte, where the text in front of it can be cut
+    -- the next one is after that byte, and the text before it can be cut there
     pub Put-cut : (span : Span) (others : List Span) → left ≡ span ∷ others
         → IsCharBoundary span.before from
     Put-cut span others e =
@@ -95,7 +95,7 @@ module _ {S : Type 0} (took : S → S → List ℕ → Type 0)
               let first : nat_le from (length span.before) ≡ true = and-left _ _ rises in
               grind (arith, nat_tests, first)
 
-    -- behind one more
+    -- after one more
     pub Put-more : (span : Span) (others : List Span) (mid then : S) (between : List ℕ) (end : ℕ)
         → left ≡ span ∷ others → IsUtf8 span.after → between ≡ drop from span.before
         → took now mid between → took mid then (text_for new span)

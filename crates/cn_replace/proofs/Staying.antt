@@ -1,4 +1,4 @@
--- What stays.
+-- Expressions that are left unchanged.
 use Rattle.std.proofs.Common.{◌≡◌, ℕ, Bool, true, false, List, [], chars, Option, None, if◌then◌else◌, refl, ap}
 use Rattle.cn_core.specs.declared.method.ChineseCountMethod.{ChineseCountMethod}
 use Rattle.cn_find.specs.declared.wanted.Wanted.{Wanted}
@@ -17,7 +17,7 @@ none-found method options wanted bytes none =
     ap (in_chains_from (figures_for method options) (holds_others method options) bytes None false)
     none
 
--- whichever is chosen, there is nothing
+-- there is no new text, whichever branch is taken
 nothing : (choice : Bool) (text : Option (List ℕ)) → text ≡ None
     → (if choice then None else text) ≡ None
 nothing true text none = refl

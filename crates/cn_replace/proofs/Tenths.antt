@@ -8,7 +8,7 @@ use Rattle.cn_replace.specs.Pieces.{after_leading, is_zero, leading}
 use Rattle.cn_replace.specs.Private.{IsEnd, PutsText}
 use Rattle.cn_replace.proofs.Passing.{same_front}
 
--- the characters of a text, read forwards again
+-- the characters of a text, in their order again
 pub twice_reversed : (text : List ℕ) → reverse (in_front text) ≡ chars text
 twice_reversed text = reverse-reverse (chars text)
 
@@ -31,7 +31,7 @@ pub chosen : (method : ChineseCountMethod) (front : List ℕ) (other text : Opti
     → text ≡ (if is_tenth front then tenth_text method front else other)
 chosen method front other text e same = sym same ∙ rw e refl
 
--- the sections of a text are put so far, and the next one begins at this place
+-- the sections of a text up to this place are written, and the next one begins here
 pub record Sections {S : Type 0} (took : S → S → List ℕ → Type 0) (method : ChineseCountMethod)
     (text start rest : List ℕ) (old now : S) : Type 0 where
   pub section : List ℕ
@@ -154,7 +154,7 @@ module _ {S : Type 0} (took : S → S → List ℕ → Type 0)
       (sym (p.completes ∙ ap (λ l. and_text (Some p.done) (sections_text method p.section l)) e
       ∙ ap Some (append-nil p.done))) (refl, p.took_done)
 
--- pieces by what they are
+-- pieces, by their kind
 pub counted_is : (method : ChineseCountMethod) (whole end a b : List ℕ) → whole ≡ a → end ≡ b
     → and_text (quantity_figures method whole) (Some (encode_utf8_all end))
     ≡ and_text (quantity_figures method a) (Some (encode_utf8_all b))

@@ -1,4 +1,4 @@
--- Texts that are put one after the other.
+-- Texts that are written one after the other.
 use Rattle.std.proofs.Common.{◌≡◌, ℕ, Bool, true, false, List, [], ◌++◌, Option, Some, None, Result, Ok, Err, refl, sym, ap, subst, ◌∙◌, append-nil, append_assoc}
 use Rattle.std.specs.Result.{IfOk}
 use Rattle.cn_core.specs.declared.method.ChineseCountMethod.{ChineseCountMethod}
@@ -9,14 +9,14 @@ use Rattle.cn_replace.specs.KeptNumbers.{and_text, figures_of_answer, quantity_f
 use Rattle.cn_replace.specs.Private.{PutsText}
 
 module _ {S : Type 0} (took : S → S → List ℕ → Type 0) where
-  -- the first of two is none
+  -- the first of two texts does not exist
   pub none-first : (old mid new : S) (first second : Option (List ℕ)) (is_there : Bool)
       → is_there ≡ false → PutsText took old mid first is_there
       → PutsText took old new (and_text first second) false
   none-first old mid new None second is_there e put = refl
   none-first old mid new (Some text) second is_there e put = cc
 
-  -- a text that is known
+  -- a text that exists
   pub puts-known : (old new : S) (text : Option (List ℕ)) (known : List ℕ) → text ≡ Some known
       → took old new known → PutsText took old new text true
   puts-known old new text known e put =
@@ -30,7 +30,7 @@ module _ {S : Type 0} (took : S → S → List ℕ → Type 0) where
 module _ {S E : Type 0} (took : S → S → List ℕ → Type 0)
     (both : (old mid new : S) (first second : List ℕ) → took old mid first → took mid new second
     → took old new (first ++ second)) where
-  -- one text, and then another that is there or not
+  -- one text, and then another that may not exist
   pub and-after : (old mid new : S) (first second : Option (List ℕ)) (is_there : Bool)
       (result : Result Bool E) → is_there ≡ true → PutsText took old mid first is_there
       → IfOk result (PutsText took mid new second)
@@ -41,7 +41,7 @@ module _ {S E : Type 0} (took : S → S → List ℕ → Type 0)
   and-after old mid new (Some text) (Some next) is_there (Ok value) e put more =
       (more.0, both old mid new text next put.1 more.1)
 
-  -- a piece, and then a text that is there or not
+  -- a piece, and then a text that may not exist
   pub piece-then : (old mid new : S) (piece : List ℕ) (second : Option (List ℕ))
       (result : Result Bool E) → took old mid piece → IfOk result (PutsText took mid new second)
       → IfOk result (PutsText took old new (and_text (Some piece) second))
@@ -61,7 +61,7 @@ module _ {S : Type 0} (took : S → S → List ℕ → Type 0)
   then-piece old mid new (Some text) piece is_there e put more =
       (refl, both old mid new text piece put.1 more)
 
--- the figures of what was read
+-- the figures of a quantity that was read
 pub read-some : (method : ChineseCountMethod) (text : List ℕ) (quantity : Quantity)
     → Ok quantity ≡ quantity_of method text
     → quantity_figures method text ≡ Some (figures_text quantity)
@@ -73,7 +73,7 @@ pub read-none : (method : ChineseCountMethod) (text : List ℕ) (refusal : Refus
 unfolding quantity_figures
 read-none method text refusal e = ap figures_of_answer (sym e)
 
--- a text that is another one
+-- a text that equals another one
 pub if_puts : {S E : Type 0} (took : S → S → List ℕ → Type 0) (old new : S)
     (text other : Option (List ℕ)) (result : Result Bool E) → text ≡ other
     → IfOk result (PutsText took old new text) → IfOk result (PutsText took old new other)
@@ -86,7 +86,7 @@ pub puts : {S : Type 0} (took : S → S → List ℕ → Type 0) (old new : S)
 puts took old new text other is_there e put =
     subst (λ (each : Option (List ℕ)). PutsText took old new each is_there) e put
 
--- a text is put in pieces: these are put, and that is left
+-- a text is written in pieces: these are written, and the rest remains
 pub record PutSoFar {S : Type 0} (took : S → S → List ℕ → Type 0) (whole left : List ℕ)
     (old now : S) : Type 0 where
   pub done : List ℕ

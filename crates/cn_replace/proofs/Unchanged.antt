@@ -1,4 +1,4 @@
--- A text in which nothing is new.
+-- A text in which no expression has a new text.
 use Rattle.std.proofs.Common.{◌≡◌, ℕ, suc, ◌+◌, ◌≤◌, nat_le, true, List, [], ◌∷◌, ◌++◌, length, drop, IsUtf8, Option, None, unwrap_or, refl, sym, ap, ◌∙◌, arith, append_assoc, length-append}
 use Rattle.std.specs.List.{Contains}
 use Rattle.std.proofs.lemmas.Bool.Decides.{nat_tests}
@@ -13,7 +13,7 @@ use Rattle.cn_find.proofs.RunLaws.{spans-rise}
 use Rattle.cn_replace.specs.Replaced.{replaced, replaced_from}
 use Rattle.cn_replace.proofs.Replacing.{parts-of}
 
--- what is of the others is of all
+-- an expression among the others is one of all
 pub of-others : {P : Span → Type 0} (span : Span) (others : List Span)
     → ((each : Span) → Contains (span ∷ others) each → P each)
     → (each : Span) → Contains others each → P each
@@ -23,7 +23,7 @@ pub of-first : {P : Span → Type 0} (span : Span) (others : List Span)
     → ((each : Span) → Contains (span ∷ others) each → P each) → P span
 of-first span others of_all = of_all span (0, omega arith, refl)
 
--- what is left of a text from a byte on
+-- the rest of a text from a byte on
 unchanged : (new : Span → Option (List ℕ)) (bytes : List ℕ) (from : ℕ) (spans : List Span)
     → is_rising from spans ≡ true
     → ((span : Span) → Contains spans span

@@ -1,4 +1,5 @@
--- A text in which the expressions of a chain, each joined to the next, are replaced together, or stay.
+-- A text in which the expressions of a chain, each joined to the next, are either all replaced or
+-- all left unchanged.
 use Rattle.std.specs.Prelude.{ℕ, Bool, false, ◌&&◌, ◌||◌, List, [], ◌∷◌, ◌++◌, drop, Option, Some, None, unwrap_or, if◌then◌else◌}
 use Rattle.cn_find.specs.declared.wanted.Wanted.{Wanted}
 use Rattle.cn_find.specs.Spans.{Span, expressions}
@@ -10,29 +11,30 @@ abbrev pub is_joined_to_next : Span → List Span → Bool
 is_joined_to_next span [] = false
 is_joined_to_next span (next ∷ others) = are_joined span next
 
--- the first of these expressions holds its chain, or one does to which it is joined, from one to the
--- next
+-- the first of these expressions, or one that is joined to it directly or through others, holds its
+-- chain
 abbrev pub is_held : (Span → Bool) → List Span → Bool
 is_held holds [] = false
 is_held holds (span ∷ others) =
     holds span || (is_joined_to_next span others && is_held holds others)
 
--- an expression is joined to what ended at that byte, if anything did
+-- an expression is joined to the expression that ended at that byte, if there was one
 abbrev pub goes_on : Option ℕ → Span → Bool
 goes_on None span = false
 goes_on (Some end) span = is_joined_at end span
 
--- whether the chain of the first of these expressions is held, where the last one before it ended at
--- that byte, and its chain was held or not
+-- whether the chain of the first of these expressions is held, given the byte at which the
+-- expression before it ended, if there was one, and whether the chain of that one was held
 abbrev pub held_on : (Span → Bool) → Option ℕ → Bool → Span → List Span → Bool
 held_on holds end held span others =
     if goes_on end span then held else is_held holds (span ∷ others)
 
--- what is put for an expression
+-- the text that is written for an expression: itself if its chain is held
 abbrev pub text_unless : Bool → (Span → Option (List ℕ)) → Span → List ℕ
 text_unless held new span = if held then span.text else text_for new span
 
--- a text from where the last expression ended, with these replaced that no chain holds
+-- the text from the end of the last expression on, in which these expressions are replaced unless
+-- their chain is held
 abbrev pub in_chains_from : (Span → Option (List ℕ)) → (Span → Bool) → List ℕ → Option ℕ → Bool
     → List Span → List ℕ
 in_chains_from new holds bytes end held [] = drop (unwrap_or end 0) bytes
@@ -42,7 +44,7 @@ in_chains_from new holds bytes end held (span ∷ others) =
     ++ in_chains_from new holds bytes (Some (end_of span))
     (held_on holds end held span others) others
 
--- a text with its expressions replaced but for those whose chain is held
+-- a text with its expressions replaced, except those whose chain is held
 abbrev pub in_chains : (Span → Option (List ℕ)) → (Span → Bool) → Wanted → List ℕ → List ℕ
 in_chains new holds wanted bytes =
     in_chains_from new holds bytes None false (expressions wanted bytes)

@@ -1,4 +1,5 @@
--- Whether an expression clings to a name, an address or a number that is beside it.
+-- Whether an expression clings to a name, an address or a number beside it, as if it were a part of
+-- it.
 use Rattle.std.specs.Prelude.{ℕ, Bool, false, not, ◌&&◌, ◌||◌, List, [], ◌∷◌, reverse, codes, bytes_eq, encode_utf8_all}
 use Rattle.std.specs.Char.{char_set_contains, is_ascii_alphabetic}
 use Rattle.cn_core.specs.Figures.{is_figure}
@@ -8,11 +9,11 @@ use Rattle.cn_replace.specs.Pieces.{after_leading, begins, is_letter_or_figure, 
 unfoldable pub is_bound : ℕ → Bool
 is_bound c = is_letter_or_figure c || char_set_contains (codes "_幺廿卅卌") c
 
--- or to a letter or a figure beyond this one
+-- an expression clings to a letter or a figure beyond this character beside it
 unfoldable pub is_bridge : ℕ → Bool
 is_bridge c = char_set_contains (codes "-./:") c
 
--- an expression clings to these characters, of which the nearest is the first
+-- an expression clings to these characters, which are given nearest first
 abbrev pub clings_to : List ℕ → Bool
 clings_to [] = false
 clings_to (c ∷ text) = is_bound c || (is_bridge c && begins is_letter_or_figure text)
@@ -33,7 +34,7 @@ measures =
     ∷ codes "G" ∷ codes "T" ∷ codes "Mbps" ∷ codes "Gbps" ∷ codes "V" ∷ codes "A" ∷ codes "mA"
     ∷ codes "mAh" ∷ codes "px" ∷ codes "pt" ∷ codes "s" ∷ codes "ms" ∷ codes "h" ∷ codes "min" ∷ []
 
--- the characters begin with letters that are a measure, and no figure comes after them
+-- the characters begin with letters that are a measure, and no figure follows these
 unfoldable pub begins_measure : List ℕ → Bool
 begins_measure text =
     is_word_of measures (encode_utf8_all (leading is_ascii_alphabetic text))

@@ -23,39 +23,41 @@ use Rattle.cn_replace.specs.KeptNumbers.{quantity_figures}
 use Rattle.cn_core.specs.Figures.{is_figure}
 use Rattle.cn_replace.specs.Pieces.{is_unit_from, is_zero}
 
--- what is doubtful as part of something is never included
+-- whether a doubt is included; that of a part never is
 abbrev pub is_doubt_included : Included → Option Doubt → Bool
 is_doubt_included included None = true
 is_doubt_included included (Some Part) = false
 is_doubt_included included (Some doubt) = included.doubtful
 
--- an expression is one character, about so much or doubtful only where that is included
+-- an expression is included: if it is one character, approximate or doubtful, expressions of that
+-- kind are included
 abbrev pub is_included : Included → Span → Bool
 is_included included span =
     (included.one_character || not (is_one_character (chars span.text)))
     && ((included.about || not (is_about (chars span.before) (chars span.text) (chars span.after)))
     && is_doubt_included included (doubt_of span.before span.text span.after))
 
--- an expression may have a new text: it is included, clings to nothing and is read
+-- an expression may have a new text: it is included, does not cling to anything, and is read as a
+-- quantity
 unfoldable pub may_change : ChineseCountMethod → Included → Span → Bool
 may_change method included span =
     is_included included span
     && (not (clings (chars span.before) (chars span.after))
     && is_ok (quantity_answer method span.text))
 
--- it has a figure and no 分之
+-- the text has a figure and no 分之
 abbrev pub is_in_figures : List ℕ → Bool
 is_in_figures text = list_any is_figure text && not (is_fraction text)
 
--- it has a unit or a zero that is no figure
+-- the text has a unit above 個, or a zero that is not a figure
 abbrev pub has_unit_or_zero : List ℕ → Bool
 has_unit_or_zero text = list_any (λ c. is_unit_from 1 c || is_zero c) text
 
--- 又
+-- the character is 又
 unfoldable pub is_again : ℕ → Bool
 is_again c = char_set_contains (codes "又") c
 
--- the new text in a style, of what is not figures alone
+-- the new text, in a style, of an expression that is not figures alone
 unfoldable pub styled_text : ChineseCountMethod → Style → List ℕ → Option (List ℕ)
 styled_text method Kept text =
     if is_in_figures text || list_any is_again text then None else kept_text method text
@@ -63,7 +65,7 @@ styled_text method Expanded text =
     if is_in_figures text && not (has_unit_or_zero text) then None
     else quantity_figures method text
 
--- the new text of an expression by its characters
+-- the new text of an expression, given its characters
 unfoldable pub written_text : ChineseCountMethod → Figures → List ℕ → Option (List ℕ)
 written_text method options text =
     if are_figures text then (if options.canonical then Some (canonical_text text) else None)
@@ -75,7 +77,7 @@ figures_for method options span =
     if may_change method options.included span
     then written_text method options (chars span.text) else None
 
--- an expression without figures that stays holds all that it is joined to
+-- an expression without figures that is left unchanged holds all that it is joined to
 unfoldable pub holds_others : ChineseCountMethod → Figures → Span → Bool
 holds_others method options span =
     not (list_any is_figure (chars span.text)) && not (is_some (figures_for method options span))

@@ -5,39 +5,39 @@ use Rattle.cn_find.specs.Expressions.{is_han}
 use Rattle.cn_find.specs.Flags.{is_one_character}
 use Rattle.cn_find.specs.Spans.{Span}
 
--- what links the ends of a range
+-- the character links the ends of a range
 unfoldable pub is_link : ℕ → Bool
 is_link c = char_set_contains (codes "到至~～－–—〜-") c
 
--- a unit of dates, times and durations
+-- the character is a unit of dates, times and durations
 unfoldable pub is_of_date : ℕ → Bool
 is_of_date c = char_set_contains (codes "年月日号號分秒刻") c
 
 unfoldable pub is_hour : ℕ → Bool
 is_hour c = char_set_contains (codes "点點时時") c
 
--- a unit of amounts, lengths and weights
+-- the character is a unit of amounts, lengths and weights
 unfoldable pub is_of_amount : ℕ → Bool
 is_of_amount c = char_set_contains (codes "元圆圓块塊角毛度米斤两兩") c
 
 abbrev pub is_part_unit : ℕ → Bool
 is_part_unit c = is_of_date c || is_hour c || is_of_amount c
 
--- what two numbers are compared or divided by
+-- the character compares or separates two numbers
 unfoldable pub is_between : ℕ → Bool
 is_between c = char_set_contains (codes "比单單有") c
 
--- 小时, 分钟
+-- the characters are 小时 or 分钟
 unfoldable pub is_length : ℕ → ℕ → Bool
 is_length c d =
     (char_set_contains (codes "小") c && char_set_contains (codes "时時") d)
     || (char_set_contains (codes "分") c && char_set_contains (codes "钟鐘") d)
 
--- a character of what joins, or 的: no word begins with 一 and one of these
+-- the character is one of those that join, or 的: no word begins with 一 and one of these
 unfoldable pub is_joint : ℕ → Bool
 is_joint c = is_link c || is_part_unit c || char_set_contains (codes "比单單有小个個钟鐘的") c
 
--- the characters begin with a Han character that makes a word with 一 before it, as 遇
+-- the characters begin with a Han character that makes a word with 一 before it, such as 遇
 abbrev pub begins_word : List ℕ → Bool
 begins_word [] = false
 begins_word (c ∷ text) = is_han c && not (is_joint c)
@@ -45,12 +45,12 @@ begins_word (c ∷ text) = is_han c && not (is_joint c)
 unfoldable pub is_one : ℕ → Bool
 is_one c = char_set_contains (codes "一") c
 
--- the text is 一, and a word with what follows it
+-- the text is 一, and makes a word with the text after it
 abbrev pub is_of_word : List ℕ → List ℕ → Bool
 is_of_word (c ∷ []) after = is_one c && begins_word after
 is_of_word text after = false
 
--- what counts things
+-- the character is a word that counts things
 unfoldable pub is_counter : ℕ → Bool
 is_counter c = char_set_contains (codes "个個件张張人名位只隻条條斤份次瓶包箱盒本套台杯碗") c
 
@@ -58,7 +58,8 @@ abbrev pub begins_counter : List ℕ → Bool
 begins_counter [] = false
 begins_counter (c ∷ text) = is_counter c
 
--- one character joins a neighbour to the next, which is this text with those characters after it
+-- the single character between two neighbours joins them; the second is this text, and these
+-- characters are after it
 abbrev pub joins_one : ℕ → List ℕ → List ℕ → Bool
 joins_one c text after =
     is_link c || is_between c || is_hour c
@@ -66,24 +67,24 @@ joins_one c text after =
     || (is_of_amount c
     && (not (is_of_word text after) && not (is_one_character text && begins_counter after)))
 
--- two characters do
+-- the two characters between neighbours join them
 abbrev pub joins_two : ℕ → ℕ → Bool
 joins_two c d = (is_part_unit c && is_link d) || is_length c d
 
--- three do: 个小时
+-- the three characters between neighbours join them: 个小时
 unfoldable pub joins_three : ℕ → ℕ → ℕ → Bool
 joins_three c d e =
     char_set_contains (codes "个個") c
     && (char_set_contains (codes "小") d && char_set_contains (codes "时時") e)
 
--- these characters between them do
+-- these characters between two neighbours join them
 abbrev pub joins : List ℕ → List ℕ → List ℕ → Bool
 joins (c ∷ []) text after = joins_one c text after
 joins (c ∷ d ∷ []) text after = joins_two c d
 joins (c ∷ d ∷ e ∷ []) text after = joins_three c d e
 joins between text after = false
 
--- what ends at this byte is joined to the next expression
+-- the expression that ends at this byte is joined to the next one
 unfoldable pub is_joined_at : ℕ → Span → Bool
 is_joined_at end next = joins (chars (drop end next.before)) (chars next.text) (chars next.after)
 

@@ -19,8 +19,8 @@ pub record IsFoundIn (wanted : Wanted) (text : List ℕ) (span : Span) : Type 0 
   pub boundary : IsCharBoundary text (end_of span)
   pub others_are : others ≡ expressions_left wanted text (drop (end_of span) text)
 
--- a text was put where there is one, and it was said whether there is; where there is none, nothing is
--- known of what was put
+-- if there is a text, it was written, and the flag is true; if there is none, the flag is false,
+-- and it is not known what was written
 abbrev pub PutsText : {S : Type 0} → (S → S → List ℕ → Type 0) → S → S → Option (List ℕ) → Bool
     → Type 0
 PutsText took old new (Some text) is_there = (is_there ≡ true) × took old new text

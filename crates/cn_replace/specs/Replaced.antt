@@ -1,13 +1,13 @@
--- A text in which expressions are replaced, and all else stands as it stood.
+-- A text in which expressions are replaced and all else is left unchanged.
 use Rattle.std.specs.Prelude.{ℕ, ◌+◌, List, [], ◌∷◌, ◌++◌, length, drop, Option, unwrap_or}
 use Rattle.cn_find.specs.declared.wanted.Wanted.{Wanted}
 use Rattle.cn_find.specs.Spans.{Span, expressions}
 
--- what stands in place of an expression: its new text, or the expression itself where there is none
+-- the text in the place of an expression: its new text, or the expression itself if there is none
 abbrev pub text_for : (Span → Option (List ℕ)) → Span → List ℕ
 text_for new span = unwrap_or (new span) span.text
 
--- a text from a byte on, where these expressions are replaced, the first of which stands behind it
+-- a text from a byte on, with these expressions replaced, which are after that byte
 abbrev pub replaced_from : (Span → Option (List ℕ)) → List ℕ → ℕ → List Span → List ℕ
 replaced_from new bytes from [] = drop from bytes
 replaced_from new bytes from (span ∷ others) =

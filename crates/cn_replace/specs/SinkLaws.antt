@@ -1,5 +1,6 @@
--- What was put to a sink piece by piece was put at once. These are proofs, and nothing hangs on them.
--- They stand in `specs`, since the code of a trait may cite no `proofs`.
+-- Pieces that are written to a sink one after the other are written as one text. These are proofs,
+-- which no contract depends on. They are in `specs` because the code of a trait cannot cite
+-- `proofs`.
 use Rattle.std.proofs.Common.{◌≡◌, ℕ, ◌+◌, ◌^◌, ◌<◌, ◌≤◌, List, [], ◌++◌, length, take, drop, refl, sym, ap, ◌∙◌, arith, append-nil, append_assoc, length-append, take_at, drop_at}
 use Rattle.std.proofs.lemmas.List.{drop-drop, take-append-drop, length-take-le}
 use Rattle.cn_replace.specs.Sinks.{AppendsTo, put_at, PutsTo}
@@ -22,7 +23,7 @@ PutsTo-none count room counted = record {
   same : count ≡ count + length {A = ℕ} []
   same = omega arith
 
--- what is put behind bytes that were put is put with them
+-- bytes that are written after other bytes are written together with these
 put_at-twice : (from : ℕ) (room first second : List ℕ) → from + length first ≤ length room
     → put_at (from + length first) (put_at from room first) second
     ≡ put_at from room (first ++ second)

@@ -1,4 +1,4 @@
-// What is in figures alone, in ASCII, without commas and without leading zeros.
+// Texts of figures alone, written in ASCII, without commas and without leading zeros.
 ghost use Rattle.std.specs.Prelude.{◌≡◌, ◌&&◌, ◌||◌, not, chars, OnOk};
 ghost use Rattle.cn_core.specs.Figures.{is_figure};
 ghost use Rattle.cn_replace.specs.Canonical.{are_figures, ascii_of, ascii_unless, canonical_text, is_leading_zero, is_zero_figure};
@@ -63,21 +63,21 @@ fn is_leading_zero(has_figure: bool, c: char, after: &str) -> bool
     !has_figure && is_zero_figure(c) && begins(Figure, after)
 }
 
-// The same, or nothing.
+// The same, or nothing if the character is left out.
 fn ascii_unless(is_left_out: bool, c: char) -> &'static str
     ensures { result.now ≡ ascii_unless is_left_out c }
 {
     if is_left_out { "" } else { ascii_of(c) }
 }
 
-// Whether a figure is written before what follows this character.
+// Whether a figure is written before the text after this character.
 fn has_figure_after(leads: bool, has_figure: bool, c: char) -> bool
     ensures { result ≡ (not leads && (has_figure || is_figure c)) }
 {
     !leads && (has_figure || is_figure(c))
 }
 
-/// Puts what is in figures alone.
+/// Writes a text of figures alone.
 pub fn put_canonical<S: Sink>(sink: &mut S, text: &str) -> Result<(), S::Error>
     ensures { OnOk result (S.took sink.old sink.new (canonical_text (chars text.now))) }
 {

@@ -1,4 +1,5 @@
-// A text in which the expressions of a chain, each joined to the next, are replaced together, or stay.
+// A text in which the expressions of a chain, each joined to the next, are either all replaced or
+// all left unchanged.
 ghost use Rattle.std.specs.Prelude.{◌≡◌, ◌∷◌, OnOk, drop, unwrap_or, IsCharBoundary};
 ghost use Rattle.cn_find.specs.Spans.{expressions_left, span_of};
 ghost use Rattle.cn_replace.specs.Chains.{goes_on, held_on, is_held, text_unless};
@@ -37,7 +38,7 @@ fn is_held(figures: InFigures, text: &str, wanted: Wanted, first: Found<'_>) -> 
     false
 }
 
-// Whether an expression is joined to what ended at that byte, if anything did.
+// Whether an expression is joined to the expression that ended at that byte, if there was one.
 fn goes_on(end: Option<usize>, found: Found<'_>) -> bool
     requires { IsCharBoundary found.before.now (unwrap_or end 0) }
     ensures { result ≡ goes_on end (span_of found.entry) }
@@ -48,8 +49,8 @@ fn goes_on(end: Option<usize>, found: Found<'_>) -> bool
     }
 }
 
-// Whether the chain of an expression is held, where that of the last one, which ended at that byte, was
-// held or not.
+// Whether the chain of an expression is held, given where the expression before it ended and
+// whether the chain of that one was held.
 fn held_on(
     figures: InFigures,
     text: &str,
@@ -71,7 +72,7 @@ fn held_on(
     }
 }
 
-// Puts what is put for an expression.
+// Writes the text of an expression: itself if its chain is held.
 fn put_unless<S: Sink>(
     held: bool,
     sink: &mut S,
@@ -88,7 +89,7 @@ fn put_unless<S: Sink>(
     }
 }
 
-/// Puts a text with its expressions in figures, but for those whose chain is held.
+/// Writes a text with its expressions in figures, except those whose chain is held.
 #[tactic(auto, unfolding(crate::specs::InFigures::in_figures))]
 pub fn put_in_chains<S: Sink>(
     sink: &mut S,

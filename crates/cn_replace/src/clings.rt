@@ -1,4 +1,4 @@
-// Whether an expression clings to what is beside it.
+// Whether an expression clings to the characters beside it, as if it were a part of them.
 ghost use Rattle.std.specs.Prelude.{◌≡◌, chars, codes, bytes_eq};
 ghost use Rattle.cn_find.specs.Spans.{in_front};
 ghost use Rattle.cn_replace.specs.Clings.{begins_measure, clings, clings_to, is_bound, is_bridge, is_word_of, measures};

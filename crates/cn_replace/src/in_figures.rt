@@ -25,7 +25,7 @@ fn is_doubt_included(included: Included, doubt: Option<Doubt>) -> bool
     }
 }
 
-// Whether an expression is included, by what is known of it.
+// Whether an expression is included, given its flags and its doubt.
 fn is_included(included: Included, found: Found<'_>) -> bool
     ensures { result ≡ is_included included (span_of found.entry) }
 {
@@ -44,7 +44,7 @@ fn may_change(method: ChineseCountMethod, included: Included, found: Found<'_>) 
         && found.quantity(method).is_ok()
 }
 
-// 又.
+// Whether the character is 又.
 #[derive(Copy, Clone)]
 struct Again;
 
@@ -59,7 +59,7 @@ impl CharTest for Again {
     }
 }
 
-// A unit from 十 up, or a zero that is no figure.
+// A unit from 十 up, or a zero that is not a figure.
 #[derive(Copy, Clone)]
 struct UnitOrZero;
 
@@ -81,7 +81,7 @@ fn is_in_figures(text: &str) -> bool
     any(Figure, text) && split_bar(text).is_none()
 }
 
-// Puts the new text in a style of what is not in figures alone.
+// Writes the new text, in a style, of an expression that is not figures alone.
 #[tactic(auto, unfolding(crate::specs::InFigures::styled_text))]
 fn put_styled<S: Sink>(
     sink: &mut S,
@@ -108,7 +108,7 @@ fn put_styled<S: Sink>(
     }
 }
 
-/// What puts the figures of an expression in its place, where it is to be changed.
+/// Replaces an expression by its figures, if it is to be changed.
 #[derive(Debug, Copy, Clone)]
 pub struct InFigures {
     pub method: ChineseCountMethod,
@@ -116,8 +116,8 @@ pub struct InFigures {
 }
 
 impl InFigures {
-    // Puts the new text of an expression that may change, and returns whether it has one. If not,
-    // anything may have been put.
+    // Writes the new text of an expression that may change, and returns whether it has one. If not,
+    // anything may have been written.
     #[tactic(auto, unfolding(crate::specs::InFigures::written_text))]
     fn put_written<S: Sink>(self, sink: &mut S, text: &str) -> Result<bool, S::Error>
         ensures { IfOk result (PutsText S.took sink.old sink.new
@@ -133,7 +133,7 @@ impl InFigures {
         Ok(true)
     }
 
-    // Whether a text has a new one.
+    // Whether a text has a new text.
     fn is_written(self, text: &str) -> bool
         ensures { result ≡ is_some (written_text self.method self.figures (chars text.now)) }
     {
@@ -152,7 +152,7 @@ impl InFigures {
         may_change(self.method, self.figures.included, found) && self.is_written(found.text)
     }
 
-    /// Whether an expression stays, has no figure, and so holds what it is joined to.
+    /// Whether an expression without figures is left unchanged, and so holds what it is joined to.
     #[tactic(auto, unfolding(crate::specs::InFigures::holds_others))]
     pub fn holds_others(self, found: Found<'_>) -> bool
         ensures { result ≡ holds_others self.method self.figures (span_of found.entry) }

@@ -43,7 +43,7 @@ fn is_part_unit(c: char) -> bool
     is_of_date(c) || is_hour(c) || is_of_amount(c)
 }
 
-// Whether a character is one of what joins two neighbours, or 的.
+// Whether a character is one of those that join two neighbours, or 的.
 #[tactic(auto, unfolding(crate::specs::Joined::is_joint))]
 fn is_joint(c: char) -> bool
     ensures { result ≡ is_joint c }
@@ -70,7 +70,7 @@ fn is_one(c: char) -> bool
     c == '一'
 }
 
-// Whether the text is 一 and makes a word with what follows it.
+// Whether the text is 一 and makes a word with the text after it.
 fn is_of_word(text: &str, after: &str) -> bool
     ensures { result ≡ is_of_word (chars text.now) (chars after.now) }
 {
@@ -177,7 +177,7 @@ fn joins(between: &str, text: &str, after: &str) -> bool
     split_first_char(others).is_none() && joins_three(c, d, e)
 }
 
-/// Whether what ends at this byte is joined to the next expression.
+/// Whether the expression that ends at this byte is joined to the next one.
 #[tactic(auto, unfolding(crate::specs::Joined::is_joined_at))]
 pub fn is_joined_at(end: usize, next: Found<'_>) -> bool
     requires { IsCharBoundary next.before.now end }

@@ -14,7 +14,7 @@ use crate::pieces::{UnitFrom, all, before_rest, split_last};
 use cn_core::{ChineseCountMethod, Unit, is_share_sign, split_first_char};
 use cn_quantity::{Quantity, QuantityForm};
 
-// What is after 分之, of which this is the first character and the text goes on after it.
+// The text after 分之, if this character and the text after it begin with 分之.
 #[tactic(auto, unfolding(cn_quantity::specs::Characters::is_fen, cn_quantity::specs::Characters::is_zhi))]
 fn after_zhi(c: char, others: &str) -> Option<&str>
     ensures { MatchOption result
@@ -37,7 +37,7 @@ fn has_some(text: &str) -> bool
     split_first_char(text).is_some()
 }
 
-/// What is before 分之 in a text, and what after it, if something is.
+/// The text before 分之 and the text after it, if neither is empty.
 pub fn split_bar(text: &str) -> Option<(&str, &str)>
     ensures { MatchOption result (is_fraction (chars text.now) ≡ false)
         (λ r. (is_fraction (chars text.now) ≡ true)
@@ -59,7 +59,7 @@ pub fn split_bar(text: &str) -> Option<(&str, &str)>
     None
 }
 
-// What is after a minus sign, if the text begins with one.
+// The text after a minus sign, if the text begins with one.
 #[tactic(auto, unfolding(crate::specs::Kept::is_minus))]
 fn after_minus(text: &str) -> Option<&str>
     ensures { MatchOption result (begins is_minus (chars text.now) ≡ false)
@@ -73,7 +73,7 @@ fn after_minus(text: &str) -> Option<&str>
     }
 }
 
-// Puts a number that may have a minus sign.
+// Writes a number that may have a minus sign.
 fn put_signed<S: Sink>(
     sink: &mut S,
     method: ChineseCountMethod,
@@ -89,7 +89,7 @@ fn put_signed<S: Sink>(
     put_number(sink, method, rest)
 }
 
-// Puts the numerator of a fraction.
+// Writes the numerator of a fraction.
 #[tactic(auto, unfolding(crate::specs::Kept::numerator_text))]
 fn put_numerator<S: Sink>(
     sink: &mut S,
@@ -122,7 +122,7 @@ fn is_small(method: ChineseCountMethod, text: &str) -> bool
     }
 }
 
-// Puts what comes after a numerator that is over no 100.
+// Writes the text after a numerator whose denominator is not 100.
 #[tactic(auto, unfolding(crate::specs::Kept::denominator_text))]
 fn put_denominator<S: Sink>(
     sink: &mut S,
@@ -139,7 +139,7 @@ fn put_denominator<S: Sink>(
     put_number(sink, method, before)
 }
 
-// Puts what comes after a numerator.
+// Writes the text after a numerator.
 fn put_divisor<S: Sink>(
     sink: &mut S,
     method: ChineseCountMethod,
@@ -158,7 +158,7 @@ fn put_divisor<S: Sink>(
     }
 }
 
-// Puts a fraction with these parts.
+// Writes a fraction with these parts.
 fn put_fraction<S: Sink>(
     sink: &mut S,
     method: ChineseCountMethod,
@@ -176,7 +176,7 @@ fn put_fraction<S: Sink>(
     put_divisor(sink, method, quantity.form, before)
 }
 
-// Puts a number and the percent sign after it.
+// Writes a number and the percent sign after it.
 fn put_with_percent<S: Sink>(
     sink: &mut S,
     method: ChineseCountMethod,
@@ -194,7 +194,7 @@ fn put_with_percent<S: Sink>(
     Ok(true)
 }
 
-// Puts a number, with a percent sign after it or not.
+// Writes a number, with or without a percent sign after it.
 #[tactic(auto, unfolding(crate::specs::Kept::percent_text))]
 fn put_percent<S: Sink>(
     sink: &mut S,
@@ -214,7 +214,7 @@ fn put_percent<S: Sink>(
     }
 }
 
-// Puts what has no sign.
+// Writes an expression without sign.
 #[tactic(auto, unfolding(crate::specs::Kept::unsigned_text, crate::specs::Kept::fraction_text))]
 fn put_unsigned<S: Sink>(
     sink: &mut S,
@@ -250,7 +250,7 @@ fn after_below_zero(text: &str) -> Option<&str>
     }
 }
 
-// Puts what may have a minus sign before all else.
+// Writes an expression that may begin with a minus sign.
 fn put_with_sign<S: Sink>(
     sink: &mut S,
     method: ChineseCountMethod,
@@ -266,8 +266,8 @@ fn put_with_sign<S: Sink>(
     put_unsigned(sink, method, rest)
 }
 
-/// Puts an expression in the kept style, and returns whether it has a text there. If not, anything may
-/// have been put.
+/// Writes an expression in the kept style, and returns whether it has a text in that style. If not,
+/// anything may have been written.
 #[tactic(auto, unfolding(crate::specs::Kept::kept_text))]
 pub fn put_kept<S: Sink>(
     sink: &mut S,

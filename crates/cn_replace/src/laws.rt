@@ -14,21 +14,22 @@ use crate::{Figures, Included};
 use cn_core::ChineseCountMethod;
 use cn_find::Wanted;
 
-/// A text stays where none of its expressions has a new text: so one that has no expression does.
+/// A text in which no expression has a new text is left unchanged, and so is a text without
+/// expressions.
 pub fn texts_stay_where_nothing_is_new(wanted: Wanted)
     ensures { (new : Span → Option (List ℕ)) (bytes : List ℕ) → IsUtf8 bytes
         → ((span : Span) → Contains (expressions wanted bytes) span → new span ≡ None)
         → replaced new wanted bytes ≡ bytes }
 {}
 
-/// A text without expressions stays as it is when it is put in figures.
+/// A text without expressions is unchanged after its quantities are written in figures.
 pub fn texts_without_expressions_stay(wanted: Wanted, method: ChineseCountMethod, figures: Figures)
     ensures { (bytes : List ℕ) → expressions wanted bytes ≡ []
         → in_figures method figures wanted bytes ≡ bytes }
 {}
 
-/// A character that is not wanted, and at which no rule looks, as a line feed, parts a text that is
-/// put in figures: what is before it and what is after it are put in figures by themselves.
+/// A character that is not wanted, and at which no rule looks, such as a line feed, parts a text that
+/// is rewritten in figures: what is before it and what is after it are rewritten by themselves.
 pub fn texts_are_put_in_figures_in_parts(
     wanted: Wanted,
     method: ChineseCountMethod,
@@ -41,14 +42,14 @@ pub fn texts_are_put_in_figures_in_parts(
         ++ (encode_utf8 c ++ in_figures method figures wanted right) }
 {}
 
-/// What has a figure and no 分之 stays in the kept style, unless canonical figures are asked for.
+/// What has a figure and no 分之 stays in the kept style, unless canonical figures are requested.
 pub fn figures_stay(method: ChineseCountMethod, included: Included)
     ensures { (span : Span) → is_in_figures (chars span.text) ≡ true
         → figures_for method (record { included = included; style = Kept; canonical = false }) span
         ≡ None }
 {}
 
-/// `NONE` includes nothing, and by `DEFAULT` great units stay, and so does what is in figures.
+/// `NONE` includes nothing. With `DEFAULT` great units and figures are left unchanged.
 pub fn figures_constants_are()
     ensures none { Included.NONE
         ≡ record { about = false; one_character = false; doubtful = false } }

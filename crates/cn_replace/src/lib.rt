@@ -1,5 +1,5 @@
-//! Replaces the expressions of a text by other texts, and writes them in figures, as 三点五万 as 3.5万. All
-//! else stays as it is.
+//! Replaces the expressions of a text by other texts, or writes them in figures, such as 3.5万 for
+//! 三点五万. All else is left unchanged.
 #![tactic(auto)]
 
 mod canonical;

@@ -4,7 +4,7 @@ ghost use Rattle.std.specs.Prelude.{ℕ};
 use crate::Sink;
 use std::convert::Infallible;
 
-/// What is put here is forgotten: so it is found whether there is something to be put.
+/// Drops what is written to it: it is used to find out whether there is something to write.
 #[derive(Drop)]
 pub struct Nothing {}
 

@@ -17,14 +17,14 @@ use cn_express::{MOST_FIGURES_BYTES, put_figures};
 use cn_judge::ChineseToNumberError;
 use cn_quantity::{Quantity, chinese_to_quantity};
 
-/// Puts the characters of a text.
+/// Writes the characters of a text.
 pub fn put_same<S: Sink>(sink: &mut S, text: &str) -> Result<(), S::Error>
     ensures { OnOk result (S.took sink.old sink.new (encode_utf8_all (chars text.now))) }
 {
     sink.put(text)
 }
 
-/// Puts the figures of a quantity.
+/// Writes the figures of a quantity.
 pub fn put_quantity<S: Sink>(sink: &mut S, quantity: Quantity) -> Result<(), S::Error>
     ensures { OnOk result (S.took sink.old sink.new (figures_text quantity)) }
 {
@@ -39,7 +39,7 @@ pub fn quantity_of(method: ChineseCountMethod, text: &str) -> Result<Quantity, C
     chinese_to_quantity(text, method)
 }
 
-/// Puts the figures of the quantity of a text, if it is one, and returns whether it is.
+/// Writes the figures of the quantity of a text, if it is one, and returns whether it is.
 pub fn put_read<S: Sink>(
     sink: &mut S,
     method: ChineseCountMethod,
@@ -76,7 +76,8 @@ fn figure_of(digit: u8) -> &'static str
     }
 }
 
-// Puts the first character of a text, which is before the rest: a digit as its figure, and any other as it is.
+// Writes the first character of a text, which is before the rest: a digit as its figure, and any
+// other unchanged.
 fn put_figure_or_same<S: Sink>(
     sink: &mut S,
     c: char,
@@ -92,7 +93,7 @@ fn put_figure_or_same<S: Sink>(
     }
 }
 
-// Puts digits as figures, one by one.
+// Writes digits as figures, one by one.
 fn put_digits<S: Sink>(sink: &mut S, text: &str) -> Result<(), S::Error>
     ensures { OnOk result (S.took sink.old sink.new (digits_text (chars text.now))) }
 {
@@ -118,7 +119,7 @@ impl CharTest for Kept {
     }
 }
 
-// What is before the Chinese point of a decimal that ends so, and after it.
+// The text before the Chinese point of such a decimal, and the text after it.
 #[tactic(auto, unfolding(crate::specs::KeptNumbers::is_kept_decimal))]
 fn split_decimal(text: &str) -> Option<(&str, &str)>
     ensures { MatchOption result (is_kept_decimal (chars text.now) ≡ false)
@@ -134,7 +135,7 @@ fn split_decimal(text: &str) -> Option<(&str, &str)>
     Some((whole, decimals))
 }
 
-// Puts a point and the decimals with their units.
+// Writes a point and the decimals with their units.
 fn put_decimals<S: Sink>(sink: &mut S, decimals: &str) -> Result<bool, S::Error>
     ensures { IfOk result (PutsText S.took sink.old sink.new
         (Some (codes "." ++ digits_text (chars decimals.now)))) }
@@ -144,7 +145,7 @@ fn put_decimals<S: Sink>(sink: &mut S, decimals: &str) -> Result<bool, S::Error>
     Ok(true)
 }
 
-// Puts a decimal whose whole part and decimals with units these are.
+// Writes a decimal with this whole part and these decimals and units.
 fn put_decimal<S: Sink>(
     sink: &mut S,
     method: ChineseCountMethod,
@@ -188,8 +189,8 @@ fn is_ge(c: char) -> bool
     matches!(c, '个' | '個')
 }
 
-// Whether the text is units from 萬 up, of which the first is greater than each unit before it, with 個
-// before it or not.
+// Whether the text is units from 萬 up, perhaps after 個, and the first is greater than each unit
+// before it.
 fn is_end(front: &str, text: &str) -> bool
     ensures { result ≡ is_end (chars front.now) (chars text.now) }
 {
@@ -202,7 +203,7 @@ fn is_end(front: &str, text: &str) -> bool
     }
 }
 
-// What is before the units with which a section ends, and those.
+// The text before the units with which a section ends, and these units.
 fn split_end(section: &str) -> (&str, &str)
     ensures before { chars result.0.now ≡ before_end [] (chars section.now) }
     ensures end { chars result.1.now ≡ end_of [] (chars section.now) }
@@ -218,7 +219,7 @@ fn split_end(section: &str) -> (&str, &str)
     (section, "")
 }
 
-// Puts what a section is without its zeros.
+// Writes a section without its zeros.
 fn put_counted<S: Sink>(
     sink: &mut S,
     method: ChineseCountMethod,
@@ -236,7 +237,7 @@ fn put_counted<S: Sink>(
     Ok(true)
 }
 
-// Puts a section.
+// Writes a section.
 fn put_section<S: Sink>(
     sink: &mut S,
     method: ChineseCountMethod,
@@ -250,7 +251,7 @@ fn put_section<S: Sink>(
     put_counted(sink, method, rest)
 }
 
-// Puts the sections of a numeral that ends with a unit from 萬 up.
+// Writes the sections of a numeral that ends with a unit from 萬 up.
 fn put_sections<S: Sink>(
     sink: &mut S,
     method: ChineseCountMethod,
@@ -289,8 +290,8 @@ impl CharTest for Counting {
     }
 }
 
-// Whether a unit that follows this text is from 億 up and greater than each before it, and what is
-// directly before it counts nothing.
+// Whether a unit after this text is from 億 up and greater than each unit before it, and neither a
+// unit from 萬 up nor 個 is directly before it.
 #[tactic(auto, unfolding(crate::specs::KeptNumbers::may_have_tenths), using(crate::proofs::Tenths::twice_reversed))]
 fn may_have_tenths(front: &str, c: char) -> bool
     ensures { result ≡ may_have_tenths (in_front front.now) c }
@@ -313,7 +314,7 @@ fn has_tenths(front: &str, u: char, d: char) -> bool
     }
 }
 
-// Puts a point, a digit as a decimal, and the unit.
+// Writes a point, a digit as a decimal, and the unit.
 fn put_tenth<S: Sink>(sink: &mut S, c: char, digit: &str, unit: &str) -> Result<bool, S::Error>
     requires { chars digit.now ≡ c ∷ [] }
     ensures { IfOk result (PutsText S.took sink.old sink.new
@@ -325,8 +326,8 @@ fn put_tenth<S: Sink>(sink: &mut S, c: char, digit: &str, unit: &str) -> Result<
     Ok(true)
 }
 
-// A numeral that ends with a unit from 億 up and one digit: what is before them, the digit, its piece
-// and that of the unit.
+// A numeral that ends with a unit from 億 up and one digit: the text before them, the digit, its
+// piece and that of the unit.
 #[derive(Copy, Clone)]
 struct Tenth<'a> {
     front: &'a str,
@@ -356,7 +357,7 @@ fn split_tenth(text: &str) -> Option<Tenth<'_>>
     })
 }
 
-// Puts a numeral that does not end with a unit from 萬 up.
+// Writes a numeral that does not end with a unit from 萬 up.
 fn put_small<S: Sink>(
     sink: &mut S,
     method: ChineseCountMethod,
@@ -375,7 +376,7 @@ fn put_small<S: Sink>(
     put_tenth(sink, tenth.c, tenth.digit, tenth.unit)
 }
 
-// Puts a numeral by its units.
+// Writes a numeral by its units.
 fn put_numeral<S: Sink>(
     sink: &mut S,
     method: ChineseCountMethod,
@@ -393,8 +394,8 @@ fn put_numeral<S: Sink>(
     }
 }
 
-/// Puts a number without its sign in the kept style, and returns whether it has a text there. If not,
-/// anything may have been put.
+/// Writes a number without its sign in the kept style, and returns whether it has a text in that
+/// style. If not, anything may have been written.
 #[tactic(auto, unfolding(crate::specs::KeptNumbers::number_text, crate::specs::KeptNumbers::decimal_text))]
 pub fn put_number<S: Sink>(
     sink: &mut S,

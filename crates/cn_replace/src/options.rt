@@ -1,13 +1,13 @@
 // What is written in figures, and how.
 
-/// Which of the expressions are written in figures too that often are no number of their own.
+/// Which expressions that often are not numbers by themselves are also written in figures.
 #[derive(Debug, Copy, Clone)]
 pub struct Included {
-    /// Those that are about so much, as the 十 of 十几.
+    /// Approximate ones, such as the 十 of 十几.
     pub about: bool,
-    /// Those of one Chinese character, as the 一 of 一般.
+    /// Those of one Chinese character, such as the 一 of 一般.
     pub one_character: bool,
-    /// Those of which a reader may mean something else, as 五一; but not the 八五 of 八五折 or another part.
+    /// Those that may mean something else, such as 五一; but not parts, such as the 八五 of 八五折.
     pub doubtful: bool,
 }
 
@@ -23,25 +23,25 @@ impl Included {
 /// How a number in numerals is written in figures.
 #[derive(Debug, Copy, Clone, Eq, PartialEq)]
 pub enum Style {
-    /// Great units stay: 三千五百亿 is 3500亿.
+    /// Great units are left: 三千五百亿 becomes 3500亿.
     Kept,
-    /// They do not, in figures neither: 三千五百亿 and 3500亿 are 350000000000.
+    /// All digits are written, also for figures: 三千五百亿 and 3500亿 become 350000000000.
     Expanded,
 }
 
 /// How the expressions of a text are written in figures.
 #[derive(Debug, Copy, Clone)]
 pub struct Figures {
-    /// What is written in figures too.
+    /// Which expressions are also written in figures.
     pub included: Included,
     /// How numerals are written.
     pub style: Style,
-    /// Whether what is in figures alone is written in ASCII, without commas and leading zeros.
+    /// Whether texts of figures alone are written in ASCII, without commas and leading zeros.
     pub canonical: bool,
 }
 
 impl Figures {
-    /// Great units stay, and so does what is in figures and what is in doubt.
+    /// Great units, figures and doubtful expressions are left unchanged.
     pub const DEFAULT: Figures = Figures {
         included: Included::NONE,
         style: Style::Kept,

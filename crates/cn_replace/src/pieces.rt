@@ -34,7 +34,7 @@ impl CharTest for Figure {
     }
 }
 
-/// What is no Chinese point.
+/// A character that is not a Chinese point.
 #[derive(Copy, Clone)]
 pub struct NoPoint;
 
@@ -47,7 +47,7 @@ impl CharTest for NoPoint {
     }
 }
 
-/// A zero that is no figure.
+/// A zero that is not a figure.
 #[derive(Copy, Clone)]
 pub struct Zero;
 
@@ -60,7 +60,7 @@ impl CharTest for Zero {
     }
 }
 
-/// A digit of numerals that is no figure.
+/// A digit of numerals that is not a figure.
 #[derive(Copy, Clone)]
 pub struct ChineseDigit;
 
@@ -96,7 +96,7 @@ impl CharTest for LetterOrFigure {
     }
 }
 
-/// A unit that is no smaller than this one.
+/// A unit that is this one or greater.
 #[derive(Copy, Clone)]
 pub struct UnitFrom {
     pub least: Unit,
@@ -113,7 +113,7 @@ impl CharTest for UnitFrom {
     }
 }
 
-/// A character that is no unit or a smaller one than this.
+/// A character that is not a unit, or is a unit smaller than this one.
 #[derive(Copy, Clone)]
 pub struct Below {
     pub greatest: Unit,
@@ -178,7 +178,7 @@ pub fn ends<T: CharTest>(test: T, text: &str) -> bool
     }
 }
 
-/// The last character, and what is before it.
+/// The last character, and the text before it.
 #[tactic(auto, using(crate::proofs::Ends::reverse_last))]
 pub fn split_nearest(text: &str) -> Option<(char, &str)>
     ensures { MatchOption result (in_front text.now ≡ [])
@@ -187,7 +187,7 @@ pub fn split_nearest(text: &str) -> Option<(char, &str)>
     split_last_char(text)
 }
 
-/// The last character, what is before it, and its piece of the text.
+/// The last character, the text before it, and its piece of the text.
 pub fn split_last(text: &str) -> Option<(char, &str, &str)>
     ensures { MatchOption result (in_front text.now ≡ [])
         (λ r. (in_front text.now ≡ r.0 ∷ in_front r.1.now) × (chars r.2.now ≡ r.0 ∷ [])) }
@@ -197,7 +197,7 @@ pub fn split_last(text: &str) -> Option<(char, &str, &str)>
     Some((c, head, last))
 }
 
-/// What is before an end of a text.
+/// The text before one of its suffixes.
 pub fn before_rest<'a>(text: &'a str, rest: &str) -> &'a str
     requires { IsEnd text.now rest.now }
     ensures { chars text.now ≡ chars result.now ++ chars rest.now }
@@ -206,7 +206,7 @@ pub fn before_rest<'a>(text: &'a str, rest: &str) -> &'a str
     before
 }
 
-/// The characters with which a text begins that pass, and what is after them.
+/// The characters with which a text begins that pass, and the text after them.
 #[tactic(auto, using(crate::proofs::Passing::passing_all, crate::proofs::Passing::leading_more, crate::proofs::Passing::passing_end, crate::proofs::Passing::passing_before))]
 pub fn split_leading<T: CharTest>(test: T, text: &str) -> (&str, &str)
     ensures leading { chars result.0.now ≡ leading (T.test test) (chars text.now) }

@@ -9,15 +9,15 @@ use cn_core::ChineseCountMethod;
 use cn_find::Wanted;
 use std::alloc::{AllocError, Global};
 
-/// A text with its expressions in figures, where numerals have to be changed for that and mean what they
-/// say. The rules are those of docs/RULES.md, "Expressions replaced".
+/// Returns the text with its expressions in figures: numerals are changed, unless they may mean
+/// something else. The rules are those of docs/RULES.md, "Expressions replaced".
 ///
 /// ```text
 /// quantities_to_figures(alloc, "一般占百分之三十，共三点五万", Wanted::EVERYDAY,
 ///     ChineseCountMethod::TenThousand, Figures::DEFAULT) == Ok("一般占30%，共3.5万")
 /// ```
 ///
-/// The error is running out of memory, which is asked for as the text grows.
+/// The error means that memory ran out; memory is requested as the text grows.
 pub fn quantities_to_figures(
     alloc: Global,
     text: &str,
@@ -32,13 +32,13 @@ pub fn quantities_to_figures(
     Ok(new)
 }
 
-/// Puts the same at the start of a room, if it fits, and returns how many bytes it has, at most the
-/// greatest `usize`. If it does not fit, the bytes of the room are not specified.
+/// Writes the same text at the start of a buffer, if it fits, and returns the number of its bytes,
+/// at most the greatest `usize`. If it does not fit, the contents of the buffer are not specified.
 ///
 /// ```text
 /// let mut room = [0; 8];
 /// put_quantities_in_figures(&mut room, "三点五万", Wanted::EVERYDAY, ChineseCountMethod::TenThousand,
-///     Figures::DEFAULT) == 6 // and the room begins with 3.5万
+///     Figures::DEFAULT) == 6 // and the buffer begins with 3.5万
 /// ```
 pub fn put_quantities_in_figures(
     room: &mut [u8],

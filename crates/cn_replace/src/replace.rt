@@ -6,7 +6,7 @@ use crate::{Replacement, Sink};
 use cn_find::{Found, Wanted, find_quantities};
 use std::alloc::{AllocError, Global};
 
-/// Puts what stands in place of an expression.
+/// Writes the text in the place of an expression.
 pub fn put_in_place<S: Sink, R: Replacement>(
     sink: &mut S,
     found: Found<'_>,
@@ -22,7 +22,7 @@ pub fn put_in_place<S: Sink, R: Replacement>(
     }
 }
 
-/// Puts a text with its expressions replaced.
+/// Writes a text with its expressions replaced.
 pub fn put_replaced<S: Sink, R: Replacement>(
     sink: &mut S,
     text: &str,
@@ -44,15 +44,15 @@ pub fn put_replaced<S: Sink, R: Replacement>(
     sink.put(rest)
 }
 
-/// A text with its expressions replaced: each by its new text where it has one, and all else as it
-/// stood.
+/// Returns the text with its expressions replaced: each by its new text if it has one, and all else
+/// unchanged.
 ///
 /// ```text
 /// // ByStar puts a star in place of each.
 /// replace_quantities(alloc, "共3.5万元", Wanted::EVERYDAY, ByStar) == Ok("共*元")
 /// ```
 ///
-/// The error is running out of memory, which is asked for as the text grows.
+/// The error means that memory ran out; memory is requested as the text grows.
 pub fn replace_quantities<R: Replacement>(
     alloc: Global,
     text: &str,

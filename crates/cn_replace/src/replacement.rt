@@ -4,10 +4,10 @@ ghost use Rattle.cn_find.specs.Spans.{Span, span_of};
 use crate::Sink;
 use cn_find::Found;
 
-/// What is put in place of the expressions of a text.
+/// The texts that replace the expressions of a text.
 ///
 /// ```text
-/// // Puts a star in place of each.
+/// // Writes a star in the place of each.
 /// impl Replacement for ByStar {
 ///     ghost new = { λ r span. Some (codes "*") };
 ///
@@ -18,10 +18,11 @@ use cn_find::Found;
 /// }
 /// ```
 pub trait Replacement: Copy {
-    // The new text of an expression; none where it stays.
+    // The new text of an expression; none if it is left unchanged.
     ghost new: { Self → Span → Option (List ℕ) };
 
-    /// Puts the new text of an expression, and says whether there is one; nothing, where it stays.
+    /// Writes the new text of an expression, and returns whether there is one. Writes nothing if
+    /// the expression is left unchanged.
     ///
     /// The errors are those of the sink.
     fn put_new<S: Sink>(self, found: Found<'_>, sink: &mut S) -> Result<bool, S::Error>

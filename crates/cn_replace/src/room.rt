@@ -1,22 +1,23 @@
-// A room that is lent for a text.
+// A buffer (`Room`) that the caller lends for a text.
 ghost use Rattle.std.specs.Prelude.{◌≡◌, ◌^◌, ◌<◌};
 ghost use Rattle.cn_replace.specs.Sinks.{PutsTo};
 
 use crate::Sink;
 use std::convert::Infallible;
 
-/// A room that is lent: pieces are put there as long as all fit, and counted whether they do or not.
+/// A buffer that is lent: pieces are written to it as long as all fit, and are counted whether they
+/// fit or not.
 #[derive(Drop)]
 pub struct LentRoom<'a> {
     pub room: &'a mut [u8],
-    /// How many bytes were put, up to the greatest `usize`.
+    /// The number of bytes so far, at most the greatest `usize`.
     pub count: usize,
     ghost counted: { count < 2 ^ 64 },
 }
 
-// Puts bytes behind so many of a room if they fit, and says how many they are with those. It is a call of
-// its own, since a compiler turns copies of known lengths into stores, and the C source of `dist/` lets a
-// caller's memory be written by copies alone.
+// Writes bytes after the first `count` ones of a buffer if they fit, and returns the number of all.
+// It is a separate function, since a compiler turns copies of known lengths into stores, and the C
+// source of `dist/` writes to a caller's memory only by copies.
 #[inline(never)]
 fn put_behind(room: &mut [u8], count: usize, bytes: &[u8]) -> usize
     ensures { PutsTo count room.old result room.new bytes.now }

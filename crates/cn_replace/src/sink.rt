@@ -1,24 +1,24 @@
-// What a text is put to, piece by piece.
+// Where a text is written, piece by piece.
 ghost use Rattle.std.specs.Prelude.{◌++◌, [], List, ℕ, OnOk};
 
 use std::alloc::AllocError;
 
-/// What a text is put to, piece by piece: a string that grows, or a room.
+/// Where a text is written, piece by piece: a string that grows, or a buffer (`Room`).
 pub trait Sink {
-    /// Why a piece cannot be put.
+    /// Why a piece cannot be written.
     type Error: Drop;
 
-    // These bytes were put to it: what it was, and what it is.
+    // These bytes were written to it; its state before and after.
     ghost took: { Self → Self → List ℕ → Type 0 };
 
-    /// Puts a piece behind those that were put. At an error nothing is said of what it holds.
+    /// Writes a piece after those written so far. After an error its contents are not specified.
     fn put(&mut self, piece: &str) -> Result<(), Self::Error>
         ensures { OnOk result (took self.old self.new piece.now) };
 
-    // Nothing was put.
+    // Nothing was written.
     ghost took_none: { (sink : Self) → took sink sink [] };
 
-    // Two pieces that were put are one.
+    // Two pieces that were written are one piece.
     ghost took_both: { (old mid new : Self) (first second : List ℕ) → took old mid first
         → took mid new second → took old new (first ++ second) };
 }

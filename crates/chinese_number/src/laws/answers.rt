@@ -17,7 +17,7 @@ use cn_core::Whole;
 
 /// Each text has one judgement under a method: a number, or one refusal.
 ///
-/// For whoever writes a reader of their own: there is one right answer.
+/// For authors of other readers: there is one right answer.
 pub fn each_text_has_one_judgement()
     ensures { (method : ChineseCountMethod) (marks : List Mark)
         → (answer : Result ℕ Refusal) × Judges method marks answer
@@ -26,8 +26,8 @@ pub fn each_text_has_one_judgement()
 
 /// The judgement of a text is the one that `judge` computes, and no other.
 ///
-/// For whoever writes tests or tables of their own: `Judges` speaks of all fronts that a text could
-/// have, and `judge` looks at the text alone: 二十十 is refused at place 1.
+/// For authors of tests or tables: `Judges` quantifies over all prefixes that a text could have,
+/// and `judge` looks at the text alone: 二十十 is refused at place 1.
 pub fn judgements_can_be_computed()
     ensures { (method : ChineseCountMethod) (marks : List Mark) (answer : Result ℕ Refusal)
         → Judges method marks answer ↔ (judge method marks ≡ answer) }
@@ -35,19 +35,20 @@ pub fn judgements_can_be_computed()
 
 /// Each string has one answer, for each type and method.
 ///
-/// For a search index that stores answers: the same string never asks for another one.
+/// For a search index that stores answers: a stored answer is right whenever the same string occurs
+/// again.
 pub fn each_string_has_one_answer()
     ensures { (kind : Kind) (method : ChineseCountMethod) (bytes : List ℕ)
         → (answer : Result ℤ Refusal) × Reads kind method bytes answer
         × ((other : Result ℤ Refusal) → Reads kind method bytes other → other ≡ answer) }
 {}
 
-/// A string is answered by a number exactly where its text, without white space and, for a signed
-/// type, one sign in front, is a numeral whose scales all fit 128 bits and whose signed value is
-/// that number, which the type holds.
+/// A string is read as a number exactly if its text, without white space and, for a signed type,
+/// one leading sign, is a numeral whose scales all fit 128 bits and whose signed value is that
+/// number, which the type holds.
 ///
-/// For readers of dates, chapter numbers and amounts: what is read means what it says, and what
-/// means a number is read, as 一百二, which is 120.
+/// For programs that read dates, chapter numbers and amounts: exactly the numerals are read, with
+/// the value that the definitions give them, such as 120 for 一百二.
 pub fn numerals_alone_are_read<T: Whole>()
     ensures { (method : ChineseCountMethod) (bytes : List ℕ) (number : ℤ)
         → let marks = marks_of (unsigned_text T.kind bytes) in

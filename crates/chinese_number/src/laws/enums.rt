@@ -29,8 +29,8 @@ use cn_print::NumberToChineseError;
 use cn_quantity::{Quantity, QuantityForm};
 use cn_read::ChineseToNumberError;
 
-/// Two values of an enum are equal exactly where they are the same variant, with the same
-/// char_index where there is one.
+/// Two values of an enum are equal exactly if they are the same variant, with the same char_index
+/// if it has one.
 ///
 /// For callers who compare scripts, cases, methods, units, signs, forms of quantities, doubts or
 /// errors.
@@ -60,23 +60,25 @@ pub fn equal_values_are_the_same_variant()
         → IsTrue (⟦<DateToChineseError as PartialEq>⟧.eq a b) ↔ (a ≡ b) }
 {}
 
-/// Two dates are equal exactly where year, month and day are.
+/// Two dates are equal exactly if year, month and day are.
 ///
 /// For callers who compare dates.
 pub fn equal_dates_are_the_same_day()
     ensures { (a b : DateOfBill) → IsTrue (⟦<BillDate as PartialEq>⟧.eq a b) ↔ (a ≡ b) }
 {}
 
-/// Two quantities are equal exactly where numerators, denominators and forms are.
+/// Two quantities are equal exactly if numerators, denominators and forms are.
 ///
-/// For callers who compare quantities: 3.10, which is 310/100, and 3.1, which is 31/10, are two.
+/// For callers who compare quantities: 3.10, which is 310/100, and 3.1, which is 31/10, are
+/// different.
 pub fn equal_quantities_have_equal_parts()
     ensures { (a b : ExactQuantity) → IsTrue (⟦<Quantity as PartialEq>⟧.eq a b) ↔ (a ≡ b) }
 {}
 
-/// Two forms of an amount are equal exactly where they ask for the same.
+/// Two forms of an amount are equal exactly if they request the same.
 ///
-/// For callers who compare what was asked for: 圆 in place of 元 is another form than 人民币 in front.
+/// For callers who compare requested forms: one with 圆 instead of 元 differs from one with the
+/// prefix 人民币.
 pub fn equal_amount_forms_ask_for_the_same()
     ensures { (a b : FormOfAmount) → IsTrue (⟦<AmountForm as PartialEq>⟧.eq a b) ↔ (a ≡ b) }
 {}

@@ -10,11 +10,11 @@ ghost use Rattle.cn_core.specs.Whole.{Kind};
 ghost use Rattle.cn_core.specs.declared.method.ChineseCountMethod.{ChineseCountMethod};
 ghost use Rattle.cn_core.specs.declared.method.ChineseCountMethod.TheVariants.{Low, TenThousand, Middle, High};
 
-/// The methods spell alike where they have the same units: all four below 10^5, all but `Low` below
-/// 10^12, and `Middle` and `High` below 10^24.
+/// The methods spell a number alike if they use the same units for it: all four below 10^5, all
+/// except `Low` below 10^12, and `Middle` and `High` below 10^24.
 ///
-/// For whoever prints years, page and chapter numbers: there no method has to be chosen. 10,000 is
-/// 一萬 by each of them.
+/// For programs that print years, page and chapter numbers: the method does not matter. 10,000 is
+/// 一萬 under each of them.
 pub fn methods_spell_alike_below()
     ensures all { (number : ℕ) → number < 10 ^ 5 → (one other : ChineseCountMethod)
         → spelling one number ≡ spelling other number }
@@ -24,11 +24,11 @@ pub fn methods_spell_alike_below()
     ensures two { (number : ℕ) → number < 10 ^ 24 → spelling Middle number ≡ spelling High number }
 {}
 
-/// The methods spell alike no further than that: at 10^5 `Low`, at 10^12 `TenThousand` and at 10^24
-/// `Middle` spells otherwise than the rest.
+/// These limits are exact: the methods differ at 10^5 for `Low`, at 10^12 for `TenThousand`, and at
+/// 10^24 for `Middle`.
 ///
-/// For whoever prints great amounts: from there on a method has to be chosen. 100,000 is 一億 by
-/// `Low` and 十萬 by the others.
+/// For programs that print large numbers: from these limits on the method matters. 100,000 is 一億
+/// under `Low` and 十萬 under the others.
 pub fn methods_spell_otherwise_from()
     ensures low { (spelling Low (10 ^ 5) ≢ spelling TenThousand (10 ^ 5))
         × (spelling Low (10 ^ 5) ≢ spelling Middle (10 ^ 5))
@@ -38,11 +38,11 @@ pub fn methods_spell_otherwise_from()
     ensures middle { spelling Middle (10 ^ 24) ≢ spelling High (10 ^ 24) }
 {}
 
-/// A string that names no unit above 萬 has the same answer under all four methods, the char_index
-/// of a refusal included, and one that names none above 億 under all but `Low`. The sign that its
-/// type takes off does not count.
+/// A string without units above 萬 has the same answer under all four methods, the char_index of a
+/// refusal included, and a string without units above 億 has it under all except `Low`. The sign
+/// that is removed for a signed type does not count: 正 is also a unit.
 ///
-/// For readers of dates and chapter numbers: there no method has to be chosen. 一萬億 is 10^12 by
+/// For programs that read dates and chapter numbers: the method does not matter. 一萬億 is 10^12 under
 /// three of them.
 pub fn small_units_read_alike()
     ensures all { (kind : Kind) (bytes : List ℕ)

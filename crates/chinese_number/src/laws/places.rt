@@ -9,35 +9,35 @@ ghost use Rattle.cn_core.specs.Refusal.{incorrect_at};
 ghost use Rattle.cn_core.specs.Text.{marks_of};
 ghost use Rattle.cn_core.specs.declared.method.ChineseCountMethod.{ChineseCountMethod};
 
-/// 零 alone in front is the whole test of completability: a list can be completed exactly where 零
-/// in front of it makes a numeral.
+/// To decide whether a list can be completed, it is enough to try 零: it can be exactly if 零 before
+/// it makes a numeral.
 ///
-/// For form validators: to know whether what stands from a place on can be right, try 零. 百 can be
-/// right, since 零百 is a numeral; 百百 cannot, since 零百百 is none.
+/// For form validators: to know whether the text from a place on can be right, try 零. 百 can be
+/// right, since 零百 is a numeral; 百百 cannot, since 零百百 is not a numeral.
 pub fn zero_in_front_decides()
     ensures { (marks : List Mark) → Completable marks ↔ IsNumeral (digit 0 ∷ marks) }
 {}
 
-/// What marks can complete, characters can complete: whatever can be right with some marks in front
-/// can be right with some typed text in front.
+/// What marks can complete, characters can complete: if some marks before a text make it right,
+/// some characters that can be typed do.
 ///
-/// For form validators: what can be right with something in front, a user can type, as 一 before
-/// 百.
+/// For form validators: a user can type what is missing, such as 一 before 百.
 pub fn characters_complete_texts()
     ensures { (text : List ℕ) → Completable (marks_of text)
         ↔ ((front : List ℕ) × IsTrue (all_scalars front) × (0 < length front)
         × IsNumeral (marks_of (front ++ text))) }
 {}
 
-/// Every end of what can be completed can be completed.
+/// If a list can be completed, each of its suffixes can be completed.
 ///
-/// For form validators that check from the end: once an end is wrong, as 十十, nothing in front
-/// puts it right.
+/// For form validators that check from the end: once a suffix is wrong, such as 十十, nothing before
+/// it makes it right.
 pub fn ends_can_be_completed()
     ensures { (start : ℕ) (marks : List Mark) → Completable marks → Completable (drop start marks) }
 {}
 
-/// Each list has one place: the last from which nothing in front can complete it, or else 0.
+/// Each list has one place: the last one from which on nothing before can complete the list, or 0
+/// if there is none.
 ///
 /// For form validators: there is one character to mark. In 二十十 it is at 1.
 pub fn each_list_has_one_place()
@@ -45,12 +45,12 @@ pub fn each_list_has_one_place()
         → (place : ℕ) × IsPlace marks place × ((other : ℕ) → IsPlace marks other → other ≡ place) }
 {}
 
-/// A text whose refusal names a place is no numeral. The place is the last from which nothing in
-/// front can complete the text's body, or else 0; or, where the body is a numeral, the text's last
-/// mark.
+/// A text that is refused at a place is not a numeral. The place is the last one from which on
+/// nothing before can complete the text's body, or 0 if there is none; or, if the body is a
+/// numeral, that of the text's last mark.
 ///
-/// For form validators: past place 0, the character that they mark is at fault whatever stands in
-/// front of it.
+/// For form validators: unless the place is 0, the character that they mark is at fault whatever is
+/// before it.
 pub fn refusals_name_the_last_place()
     ensures { (method : ChineseCountMethod) (marks : List Mark) (place : ℕ)
         → Judges method marks (Err (incorrect_at place))
@@ -58,10 +58,10 @@ pub fn refusals_name_the_last_place()
         × (IsPlace (body marks) place ⊎ (IsNumeral (body marks) × (place + 1 ≡ length marks))) }
 {}
 
-/// 零 with what stands after a place is a numeral: past the mark at fault nothing is wrong.
+/// 零 and the marks after a place are a numeral: after the mark at fault nothing is wrong.
 ///
-/// For form validators: they mark one character, and what follows it in the body can stay. In 二十十
-/// that is the last 十.
+/// For form validators: they mark one character, and what follows it in the body need not change.
+/// In 二十十 that is the last 十.
 pub fn nothing_is_wrong_after_a_place()
     ensures { (marks : List Mark) (place : ℕ)
         → IsPlace marks place → IsNumeral (digit 0 ∷ drop (place + 1) marks) }

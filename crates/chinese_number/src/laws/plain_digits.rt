@@ -1,4 +1,4 @@
-// What holds of plain digits.
+// Laws of plain digits.
 ghost use Rattle.std.specs.Prelude.{◌≡◌, ◌↔◌, ◌<◌, ◌++◌, ℕ, ℤ, List, Ok, Some, IsTrue, All, length, encode_utf8_all};
 ghost use Rattle.std.specs.List.{list_all};
 ghost use Rattle.chinese_number.specs.Digits.{is_digit};
@@ -14,12 +14,11 @@ ghost use Rattle.cn_core.specs.declared.script.ChineseVariant.{ChineseVariant};
 
 use cn_core::Whole;
 
-/// A string is answered by a number, as plain digits, exactly where its text, without white space
-/// and, for a signed type, one sign in front, is a digit or more and nothing else, whose signed
-/// value is that number, which the type holds.
+/// A string is read as a number, as plain digits, exactly if its text, without white space and, for
+/// a signed type, one leading sign, is one or more digits and nothing else, and their signed value
+/// is that number, which the type holds.
 ///
-/// For form validators that ask for digits alone: 二零二五 is 2025, and 二千零二十五 is no number
-/// to them.
+/// For form validators that accept only digits: 二零二五 is 2025, and 二千零二十五 is refused.
 pub fn digits_alone_are_read<T: Whole>()
     ensures { (bytes : List ℕ) (number : ℤ)
         → let marks = marks_of (unsigned_text T.kind bytes) in
@@ -29,8 +28,8 @@ pub fn digits_alone_are_read<T: Whole>()
         × IsTrue (holds T.kind number)) }
 {}
 
-/// Plain digits are read back: what is printed of a number, in any script and case, is answered by
-/// that number.
+/// Plain digits are read back: the text that is printed of a number, in any script and case, is
+/// read as that number.
 ///
 /// For dates and serial numbers, which are read digit by digit: 2025 is 二零二五.
 pub fn naive_texts_read_back<T: Whole>()
@@ -39,8 +38,8 @@ pub fn naive_texts_read_back<T: Whole>()
         → naive_reading T.kind (encode_utf8_all (naive_text variant case number)) ≡ Ok number }
 {}
 
-/// Zeros in front change nothing: where a string of plain digits is answered by a number, any
-/// number of zeros before its digits, after its sign, leaves that answer as it was.
+/// Leading zeros change nothing: if a string of plain digits is read as a number, so is the string
+/// with any number of zeros before its digits, after its sign.
 ///
 /// For a search index that folds numerals to numbers: 零零一二 is 12, as 一二 is.
 pub fn leading_zeros_change_nothing()

@@ -1,5 +1,5 @@
-//! What holds of quantities: a refusal points at a character, a number stays that number, what is
-//! written is read back, and zeros left out at the end change no value.
+//! Laws of quantities: a refusal points at a character, a number is the same number as a quantity,
+//! what is written is read back, and zeros that are left out at the end do not change the value.
 ghost use Rattle.std.specs.Prelude.{◌≡◌, ℕ, ℤ, List, Ok, false};
 ghost use Rattle.chinese_number.specs.Parts.{unsigned_text};
 ghost use Rattle.cn_core.specs.declared.method.ChineseCountMethod.{ChineseCountMethod};
@@ -15,10 +15,11 @@ pub use cn_express::laws::{
 };
 pub use cn_quantity::laws::{refusals_point_at_characters, trimmed_keeps_the_value};
 
-/// A number stays that number unless it is misread: what is read as an `i128`, by the method or as
-/// plain digits, is as a quantity that whole number over 1.
+/// A number is the same number as a quantity, unless it is misread: a string that is read as an
+/// `i128`, by a method or as plain digits, is read as the quantity with that numerator and the
+/// denominator 1.
 ///
-/// For callers who read quantities where they read numbers before.
+/// For callers who read numbers and want to read quantities instead.
 pub fn numbers_stay_numbers()
     ensures units { (method : ChineseCountMethod) (bytes : List ℕ) (number : ℤ)
         → Reads (signed_kind 128) method bytes (Ok number)

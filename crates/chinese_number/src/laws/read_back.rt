@@ -15,11 +15,11 @@ ghost use Rattle.cn_core.specs.declared.script.ChineseVariant.{ChineseVariant};
 
 use cn_core::Whole;
 
-/// Every spelling of a number that the type holds and the method writes is a numeral of its
-/// magnitude.
+/// The spelling of each number that the type holds and the method writes is a numeral, and its
+/// value is the number's magnitude.
 ///
-/// For a normaliser for speech: what it writes is a numeral by the rules, for any reader. 110 is
-/// 一百一十 by each method.
+/// For programs that normalise speech: what they write is a numeral by the rules. 110 is 一百一十 under
+/// each method.
 pub fn spellings_are_numerals<T: Whole>()
     ensures { (method : ChineseCountMethod) (number : ℤ)
         → IsTrue (holds T.kind number) → IsTrue (is_printable method number)
@@ -27,11 +27,11 @@ pub fn spellings_are_numerals<T: Whole>()
         × (numeral_value method (spelling method (nat_abs number)) ≡ nat_abs number) }
 {}
 
-/// What is printed is read back: the written spelling of a number, in any script and case, is
-/// answered by that number and by nothing else.
+/// What is printed is read back: the written spelling of a number, in any script and case, is read
+/// as that number and as nothing else.
 ///
-/// For whoever prints amounts: 1,280,500 is written 一百二十八萬零五百 by `TenThousand`, and that reads
-/// as 1,280,500 and as nothing else.
+/// For programs that print amounts: `TenThousand` writes 1,280,500 as 一百二十八萬零五百, and that reads as
+/// 1,280,500 and as nothing else.
 pub fn spellings_read_back<T: Whole>()
     ensures { (variant : ChineseVariant) (case : ChineseCase) (method : ChineseCountMethod)
         (number : ℤ) → IsTrue (holds T.kind number) → IsTrue (is_printable method number)
@@ -40,11 +40,11 @@ pub fn spellings_read_back<T: Whole>()
         ↔ (answer ≡ Ok number) }
 {}
 
-/// What `Middle` spells for a magnitude below 10^16 is read by `TenThousand` too, as the same number
-/// and as nothing else.
+/// What `Middle` writes for a number with a magnitude below 10^16 is also read under `TenThousand`,
+/// as the same number and as nothing else.
 ///
-/// For whoever writes for readers on the mainland, where 10^12 is 一万亿, and reads whatever comes:
-/// there no method has to be known.
+/// For programs that write texts for the mainland, where 10^12 is 一万亿, and read texts of any
+/// origin: they need not know the method.
 pub fn middle_is_read_by_ten_thousand<T: Whole>()
     ensures { (variant : ChineseVariant) (case : ChineseCase) (number : ℤ)
         → IsTrue (holds T.kind number) → nat_abs number < 10 ^ 16 → (answer : Result ℤ Refusal)
@@ -52,10 +52,10 @@ pub fn middle_is_read_by_ten_thousand<T: Whole>()
         ↔ (answer ≡ Ok number) }
 {}
 
-/// One text for each number: two numbers have the same written text, by one method or as plain
-/// digits and in one script and case, exactly where they are equal.
+/// One text for each number: two numbers have the same written text, under one method or as plain
+/// digits, and in one script and case, exactly if they are equal.
 ///
-/// For whoever prints amounts: no two amounts look alike.
+/// For programs that print amounts: no two amounts have the same text.
 pub fn one_text_for_each_number<T: Whole>()
     ensures units { (variant : ChineseVariant) (case : ChineseCase) (method : ChineseCountMethod)
         (one other : ℤ) → IsTrue (holds T.kind one) → IsTrue (holds T.kind other)
@@ -68,10 +68,11 @@ pub fn one_text_for_each_number<T: Whole>()
         ≡ encode_utf8_all (naive_text variant case other)) ↔ (one ≡ other) }
 {}
 
-/// Reading, then printing, is idempotent: where a string reads as a printable number, the written
-/// spelling of that number reads as the same, and as nothing else.
+/// Reading and then printing is idempotent: if a string reads as a number that can be printed, the
+/// written spelling of that number reads as the same number, and as nothing else.
 ///
-/// For a search index that folds numerals to one form: 兩千三 becomes 二千三百, and stays so.
+/// For a search index that converts numerals to one form: 兩千三 becomes 二千三百, which does not change
+/// again.
 pub fn reading_then_printing_is_idempotent<T: Whole>()
     ensures { (variant : ChineseVariant) (case : ChineseCase) (method : ChineseCountMethod)
         (bytes : List ℕ) (number : ℤ) → Reads T.kind method bytes (Ok number)
@@ -80,12 +81,12 @@ pub fn reading_then_printing_is_idempotent<T: Whole>()
         ↔ (answer ≡ Ok number) }
 {}
 
-/// Every beginning of what is printed is read: the first characters of a number's text, by units or
-/// as plain digits and in any script and case, are answered by a number of the same type, by the
-/// same method, once they are more than its sign takes.
+/// Each beginning of a printed text is read: the first characters of a number's text, with units or
+/// as plain digits and in any script and case, are read as a number of the same type, by the same
+/// method, if there are more of them than the sign has.
 ///
-/// For forms that judge a numeral at each key: whoever types 負一百二十, as it is printed, is told
-/// of no fault at 負一, 負一百 or 負一百二.
+/// For forms that check a numeral at each key: while a user types 負一百二十, as it is printed, 負一, 負一百
+/// and 負一百二 are accepted too.
 pub fn beginnings_are_read<T: Whole>()
     ensures units { (variant : ChineseVariant) (case : ChineseCase) (method : ChineseCountMethod)
         (number : ℤ) (count : ℕ) → IsTrue (holds T.kind number)

@@ -1,4 +1,4 @@
-// Which refusals can come.
+// Which refusals can occur.
 ghost use Rattle.std.specs.Prelude.{◌≡◌, ◌≢◌, ◌↔◌, [], ℕ, List, Err, IsTrue, not};
 ghost use Rattle.chinese_number.specs.Parts.{unsigned_text};
 ghost use Rattle.cn_core.specs.Refusal.{empty, too_small};
@@ -8,8 +8,8 @@ ghost use Rattle.cn_core.specs.declared.method.ChineseCountMethod.{ChineseCountM
 
 use cn_core::Whole;
 
-/// A string is refused as empty exactly where nothing is left of it without white space and, for a
-/// signed type, one sign.
+/// A string is refused as empty exactly if it has only white space and, for a signed type, at most
+/// one sign.
 ///
 /// For forms with a required field: white space alone is empty, and so is 負 for a signed type.
 pub fn empty_is_nothing_left()
@@ -19,10 +19,10 @@ pub fn empty_is_nothing_left()
         → (naive_reading kind bytes ≡ Err empty) ↔ (unsigned_text kind bytes ≡ []) }
 {}
 
-/// For a type without sign no string is too small.
+/// For an unsigned type no string is too small.
 ///
-/// For callers who tell a user what is wrong: there is one message less. 負一 as a `u8` is
-/// incorrect at 0.
+/// For programs that report errors: for unsigned types, `Underflow` need not be handled. 負一 as a
+/// `u8` is incorrect at 0.
 pub fn unsigned_types_never_underflow<T: Whole>()
     ensures units { (method : ChineseCountMethod) (bytes : List ℕ) → IsTrue (not T.SIGNED)
         → ¬ Reads T.kind method bytes (Err too_small) }

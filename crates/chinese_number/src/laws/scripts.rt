@@ -10,9 +10,10 @@ ghost use Rattle.cn_core.specs.declared.script.ChineseVariant.{ChineseVariant};
 
 use cn_core::Whole;
 
-/// The four texts of a number, by script and case, have equally many characters.
+/// The four texts of a number, by script and case, have the same number of characters.
 ///
-/// For forms: they leave room for one of them. 123 has five characters in each.
+/// For forms: a field that is long enough for one of the texts is long enough for each. 123 has
+/// five characters in each.
 pub fn texts_of_a_number_are_equally_long()
     ensures units { (one other : ChineseVariant) (first second : ChineseCase)
         (method : ChineseCountMethod) (number : ℤ)
@@ -24,7 +25,7 @@ pub fn texts_of_a_number_are_equally_long()
 
 /// The four texts of a number, by script and case, read alike.
 ///
-/// For a search index that folds numerals to numbers: 一百二十三 and 壹佰贰拾叁 are one.
+/// For a search index that converts numerals to numbers: 一百二十三 and 壹佰贰拾叁 are the same number.
 pub fn texts_of_a_number_read_alike<T: Whole>()
     ensures units { (one other : ChineseVariant) (first second : ChineseCase)
         (method : ChineseCountMethod) (number : ℤ)

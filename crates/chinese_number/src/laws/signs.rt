@@ -1,4 +1,4 @@
-// What a sign in front does.
+// What a leading sign does.
 ghost use Rattle.std.specs.Prelude.{◌≡◌, ◌↔◌, [], ◌∷◌, ℕ, ℤ, pos, false, List, Result, Ok, Some, IsTrue};
 ghost use Rattle.cn_core.specs.Characters.{digit_of, sign_of};
 ghost use Rattle.cn_core.specs.Numeral.{IsNumeral};
@@ -14,10 +14,10 @@ ghost use Rattle.cn_core.specs.declared.sign.Sign.{Sign};
 
 use cn_core::Whole;
 
-/// A sign in front of a numeral, whose units all have scales that fit, gives its value: 負 the
-/// negated one, 正 the value itself, in each signed type that holds it.
+/// A numeral after a sign, if the scales of its units fit, is read as its signed value: after 負 the
+/// negated value, after 正 the value itself, in each signed type that holds it.
 ///
-/// For a normaliser for speech: 負十 is -10, and 正十 is 10.
+/// For programs that normalise speech: 負十 is -10, and 正十 is 10.
 pub fn a_sign_gives_the_signed_value<T: Whole>()
     ensures { (method : ChineseCountMethod) (bytes rest : List ℕ) (character : ℕ) (sign : Sign)
         → IsTrue T.SIGNED → text_of bytes ≡ character ∷ rest → sign_of character ≡ Some sign
@@ -27,9 +27,9 @@ pub fn a_sign_gives_the_signed_value<T: Whole>()
         → (answer : Result ℤ Refusal) → Reads T.kind method bytes answer ↔ (answer ≡ Ok number) }
 {}
 
-/// A minus before a zero is 0, in each signed type: 負零.
+/// A zero after a minus sign is read as 0, in each signed type: 負零.
 ///
-/// For a search index that folds numerals to numbers: there is one zero.
+/// For a search index that converts numerals to numbers: there is only one zero.
 pub fn minus_zero_is_zero<T: Whole>()
     ensures { (method : ChineseCountMethod) (bytes : List ℕ) (minus zero : ℕ) → IsTrue T.SIGNED
         → sign_of minus ≡ Some Minus → digit_of zero ≡ Some 0

@@ -1,5 +1,5 @@
-//! What holds of amounts as they are typed: what is read strictly stays the same, each text has one
-//! answer, and each beginning of an amount is unfinished or right.
+//! Laws of amounts as they are typed: what the strict reader reads has the same amount here, each
+//! text has one answer, and each beginning of an amount is unfinished or is an amount.
 pub use cn_amount::laws::typed::{
     amounts_are_below_the_limit, amounts_stay_amounts, beginnings_are_begun,
     each_text_has_one_answer, each_text_is_one_amount, written_amounts_are_amounts,

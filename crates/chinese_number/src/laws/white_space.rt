@@ -1,4 +1,4 @@
-// White space does not matter, but where a refusal points.
+// White space matters only for the position of an error.
 ghost use Rattle.std.specs.Prelude.{◌≡◌, ◌+◌, ℕ, ℤ, List, Result, Err};
 ghost use Rattle.chinese_number.specs.Parts.{sign_length, unsigned_text};
 ghost use Rattle.chinese_number.specs.Places.{without_char_index, PointsAt};
@@ -10,10 +10,10 @@ ghost use Rattle.cn_core.specs.Reading.{Reads, naive_reading};
 ghost use Rattle.cn_core.specs.Whole.{Kind};
 ghost use Rattle.cn_core.specs.declared.method.ChineseCountMethod.{ChineseCountMethod};
 
-/// White space does not matter: strings with the same text have the same value, or the same kind of
-/// refusal.
+/// White space does not matter: strings with the same text have the same value, or are refused with
+/// the same error, except for its position.
 ///
-/// For a normaliser for speech: ` 一 百 二 ` is 120.
+/// For programs that normalise speech: ` 一 百 二 ` is 120.
 pub fn white_space_does_not_matter()
     ensures units { (kind : Kind) (method : ChineseCountMethod) (one other : List ℕ)
         → text_of one ≡ text_of other → (first second : Result ℤ Refusal)
@@ -24,12 +24,11 @@ pub fn white_space_does_not_matter()
         ≡ without_char_index (naive_reading kind other) }
 {}
 
-/// A refusal points at a character: the one at its char_index is no white space, and before it
-/// stand exactly as many other characters that are no white space as its place says, the sign's
-/// among them.
+/// A refusal points at a character: the character at its char_index is not white space, and the
+/// number of other such characters before it is its place, plus 1 if there is a sign.
 ///
-/// For form validators: they mark the character that the char_index names. In ` 二 十 十 ` it is at
-/// 3, in `二十十` at 1.
+/// For form validators: they mark the character at the char_index. In ` 二 十 十 ` it is at 3, in
+/// `二十十` at 1.
 pub fn refusals_point_at_characters()
     ensures units { (kind : Kind) (method : ChineseCountMethod) (bytes : List ℕ) (char_index : ℕ)
         → Reads kind method bytes (Err (incorrect_at char_index))

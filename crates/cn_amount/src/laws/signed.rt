@@ -39,7 +39,7 @@ pub fn amounts_stay_amounts()
     ensures { (text : List ℕ) → (fen : ℕ) → IsAmount text fen → IsSignedAmount text (pos fen) }
 {}
 
-/// The magnitude of an amount stands below the limit, so a text is never too large or too small.
+/// The magnitude of an amount is below the limit, so a text is never too large or too small.
 pub fn amounts_are_below_the_limit()
     ensures { (text : List ℕ) → (fen : ℤ) → IsSignedAmount text fen → nat_abs fen < amount_limit }
 {}

@@ -40,7 +40,7 @@ pub fn amounts_stay_amounts()
     ensures { (text : List ℕ) → (fen : ℕ) → IsAmount text fen → IsTypedAmount text fen }
 {}
 
-/// An amount stands below the limit, so a text is never too large.
+/// An amount is below the limit, so a text is never too large.
 pub fn amounts_are_below_the_limit()
     ensures { (text : List ℕ) → (fen : ℕ) → IsTypedAmount text fen → fen < amount_limit }
 {}
