@@ -18,6 +18,7 @@ pub use cn_amount::chinese_to_amount_as_typed;
 pub use cn_amount::chinese_to_signed_amount;
 pub use cn_amount::chinese_to_signed_amount_as_typed;
 pub use cn_amount::signed_amount_to_chinese;
+pub use cn_amount::signed_amount_to_chinese_as;
 pub use cn_core::ChineseCase;
 pub use cn_core::ChineseCountMethod;
 pub use cn_core::ChineseVariant;

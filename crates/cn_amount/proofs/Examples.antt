@@ -1,6 +1,7 @@
 -- Worked examples: the values that the definitions compute. The marked ones are from the rules of
 -- the banks.
-use Rattle.std.proofs.Common.{◌≡◌, ℕ, ◌-◌, ◌^◌, pos, negsuc, ℤ, Bool, true, false, List, ◌∷◌, map, Some, None, refl, sym, ◌∙◌, codes}
+use Rattle.std.proofs.Common.{◌≡◌, ℕ, ◌-◌, ◌^◌, pos, negsuc, ℤ, Bool, true, false, List, ◌∷◌, map, Some, None, length, encode_utf8_all, refl, sym, ◌∙◌, codes}
+use Rattle.std.specs.Char.{encode_utf8}
 use Rattle.std.specs.List.{Contains}
 use Rattle.cn_capitals.specs.Machine as machine
 use Rattle.cn_core.specs.declared.script.ChineseVariant.TheVariants.{Traditional, Simple}
@@ -9,6 +10,7 @@ use Rattle.cn_core.specs.Whole.{signed_number}
 use Rattle.cn_amount.specs.declared.form.AmountForm.{AmountForm}
 use Rattle.cn_amount.specs.Form.{Choices, amount_form}
 use Rattle.cn_amount.specs.Fronts.{begins_with, without_front}
+use Rattle.cn_amount.specs.Invoice.{invoice_amount_text}
 use Rattle.cn_amount.specs.Places.{places_of}
 use Rattle.cn_amount.specs.Reading.{capital_of, capitals_of}
 use Rattle.cn_amount.specs.Signed.{minus_signs, signed_amount_text}
@@ -110,6 +112,7 @@ asking currency round upright = record {
   currency = currency;
   round_yuan = round;
   upright_closing = upright;
+  bracketed_sign = false;
 }
 
 currency_asked_for : amount_text Simple (asking true false false) 1500 ≡ codes "人民币壹拾伍元整"
@@ -189,6 +192,35 @@ fifteen_above = refl
 zero_has_no_sign : signed_amount_text Simple plain (pos 0) ≡ codes "零元整"
 unfolding digit_char unit_char minus_char
 zero_has_no_sign = refl
+
+-- with the sign of the form
+abbrev bracketing : Bool → AmountForm
+bracketing currency = record (asking currency false false) { bracketed_sign = true }
+
+bracketed_sign_asked_for : invoice_amount_text Simple (bracketing false) (negsuc 1499)
+    ≡ codes "（负数）壹拾伍元整"
+unfolding digit_char unit_char minus_char
+bracketed_sign_asked_for = refl
+
+sign_before_人民币 : invoice_amount_text Traditional (bracketing true) (negsuc 1499)
+    ≡ codes "（負數）人民幣壹拾伍元整"
+unfolding digit_char unit_char minus_char
+sign_before_人民币 = refl
+
+no_bracket_asked_for : invoice_amount_text Simple (asking true false false) (negsuc 1499)
+    ≡ codes "负人民币壹拾伍元整"
+unfolding digit_char unit_char minus_char
+no_bracket_asked_for = refl
+
+no_sign_above_zero : invoice_amount_text Simple (bracketing false) (pos 1500) ≡ codes "壹拾伍元整"
+unfolding digit_char unit_char minus_char
+no_sign_above_zero = refl
+
+-- 129 bytes
+longest : length (encode_utf8_all (invoice_amount_text Simple (bracketing true) (negsuc (10 ^ 18 - 2))))
+    ≡ 129
+unfolding digit_char unit_char minus_char encode_utf8
+longest = refl
 
 -- the text after the sign is an amount
 behind_the_sign : without_front minus_signs (codes "負壹拾伍元整") ≡ codes "壹拾伍元整"

@@ -183,6 +183,9 @@ typed-amounts_are_below_the_limit = prefixed false [] [] [] []
 typed_signed-written_amounts_are_amounts : nat_abs (negsuc 1499) < amount_limit
 typed_signed-written_amounts_are_amounts = omega arith
 
+typed_signed-amounts_with_each_sign_are_amounts : nat_abs (negsuc 1499) < amount_limit
+typed_signed-amounts_with_each_sign_are_amounts = omega arith
+
 -- after a sign, 人民币 and its note
 signed_yuan : (choices : Choices)
     → capitals_of (codes "人民币壹元整") ≡ map Some (amount_form choices (places_of 100))

@@ -4,6 +4,7 @@ pub mod CapitalTable
 pub mod Examples
 pub mod FormsRead
 pub mod FormsShown
+pub mod InvoiceShown
 mod LawExamples
 pub mod Lengths
 pub mod Points

@@ -88,7 +88,7 @@ written-behind variant false text fen h = amount-signed text fen h
 not-below : (n : ℕ) → int_lt (pos n) (pos 0) ≡ false
 not-below n = grind (arith, ints)
 
-number-is : (fen : ℤ) → signed_number (int_lt fen (pos 0)) (nat_abs fen) ≡ fen
+pub number-is : (fen : ℤ) → signed_number (int_lt fen (pos 0)) (nat_abs fen) ≡ fen
 number-is (pos n) = rw (not-below n)
 number-is (negsuc n) = refl
 
@@ -132,6 +132,12 @@ few-behind variant true text h =
     let sum = length-append (encode_utf8 (minus_char variant)) (encode_utf8_all text) in
     omega (arith, sign-three variant, h, sum)
 few-behind variant false text h = omega (arith, h)
+
+pub few-signed : (variant : ChineseVariant) (form : AmountForm) (fen : ℤ)
+    → length (encode_utf8_all (signed_amount_text variant form fen)) ≤ 120
+few-signed variant form fen =
+    few-behind variant (int_lt fen (pos 0)) (amount_text variant form (nat_abs fen))
+    (few-bytes variant form (nat_abs fen))
 
 form-behind : (variant : ChineseVariant) (form : AmountForm) (below : Bool)
     (capitals : List Capital)

@@ -7,7 +7,7 @@ use Rattle.cn_capitals.specs.Answers as answers
 use Rattle.cn_core.specs.Whole.{signed_number}
 use Rattle.cn_amount.specs.Reading.{AmountRefusal, IsAmount}
 
--- the circle that invoices have before an amount, or none
+-- the circle that invoices print before an amount, or none
 abbrev pub circles : List (List ℕ)
 circles = [] ∷ codes "⊗" ∷ codes "ⓧ" ∷ []
 
@@ -47,8 +47,8 @@ orders circle sign currency =
     (circle ++ (sign ++ currency)) ∷ (sign ++ (circle ++ currency))
     ∷ (circle ++ (currency ++ sign)) ∷ []
 
--- the characters are a prefix, and then a form of the amount without 人民币: with 人民币 directly
--- before it, it is a form
+-- the text is a prefix, which has these parts in one of the orders, and then the amount without
+-- 人民币: after 人民币 it is a form
 pub record IsPrefixed (text : List ℕ) (below : Bool) (magnitude : ℕ) : Type 0 where
   pub circle : List ℕ
   pub sign : List ℕ

@@ -38,7 +38,9 @@ mod write;
 
 pub use error::{AmountToChineseError, ChineseToAmountError};
 pub use form::AmountForm;
-pub use invoice::chinese_to_signed_amount_as_typed;
+pub use invoice::{
+    chinese_to_signed_amount_as_typed, invoice_amount_text, signed_amount_to_chinese_as,
+};
 pub use read::{chinese_to_amount, chinese_to_amount_as_typed, chinese_to_signed_amount};
 pub use write::{
     AMOUNT_LIMIT, amount_text, amount_to_chinese, amount_to_chinese_as, signed_amount_text,

@@ -67,9 +67,9 @@ pub fn chinese_to_signed_amount(text: &str) -> Result<i64, ChineseToAmountError>
 }
 
 /// The amount, in fen, for which a text in capitals stands as people type or copy it. White space is
-/// left out wherever it is. Before the amount there may be ⊗ or ⓧ, and then 人民币 (人民幣), which
-/// （大写） (（大寫）) and a colon may follow; brackets and colons have either width. The rest is read as
-/// by `chinese_to_amount`. No memory is allocated.
+/// left out wherever it is. Before the amount there may be ⊗ or ⓧ, and then 人民币 (人民幣), directly
+/// after which （大写） (（大寫）) and then a colon may come; brackets and colons have either width. The
+/// rest is read as by `chinese_to_amount`. No memory is allocated.
 ///
 /// ```text
 /// chinese_to_amount_as_typed("人民币（大写）：壹拾伍元整") == Ok(1_500)

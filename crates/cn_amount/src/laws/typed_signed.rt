@@ -2,6 +2,7 @@
 ghost use Rattle.std.specs.Prelude.{◌≡◌, ℕ, ◌<◌, ℤ, pos, nat_abs, List, ◌++◌, Result, Ok, Err, encode_utf8_all};
 ghost use Rattle.cn_core.specs.declared.script.ChineseVariant.{ChineseVariant};
 ghost use Rattle.cn_amount.specs.declared.form.AmountForm.{AmountForm};
+ghost use Rattle.cn_amount.specs.Invoice.{invoice_amount_text};
 ghost use Rattle.cn_amount.specs.Places.{amount_limit};
 ghost use Rattle.cn_amount.specs.Reading.{AmountRefusal, incorrect_at};
 ghost use Rattle.cn_amount.specs.Signed.{IsSignedAmount, signed_amount_text};
@@ -13,6 +14,13 @@ pub fn written_amounts_are_amounts()
     ensures { (variant : ChineseVariant) → (form : AmountForm) → (fen : ℤ)
         → nat_abs fen < amount_limit
         → ReadsTypedSignedAmount (encode_utf8_all (signed_amount_text variant form fen)) (Ok fen) }
+{}
+
+/// What is written for an amount with the sign of the form, 负 or （负数）, is read as that amount too.
+pub fn amounts_with_each_sign_are_amounts()
+    ensures { (variant : ChineseVariant) → (form : AmountForm) → (fen : ℤ)
+        → nat_abs fen < amount_limit
+        → ReadsTypedSignedAmount (encode_utf8_all (invoice_amount_text variant form fen)) (Ok fen) }
 {}
 
 /// No text stands for two amounts.
@@ -29,8 +37,8 @@ pub fn each_text_has_one_answer()
         × ((other : Result ℤ AmountRefusal) → TypedSignedAnswers text other → other ≡ answer) }
 {}
 
-/// Each prefix of each typed amount begins an amount, so it is unfinished or an amount, and never
-/// incorrect. So an input form can judge a text at each key.
+/// Each beginning of each typed amount is unfinished or an amount, and never incorrect. So an input
+/// form can judge a text at each key.
 pub fn beginnings_are_begun()
     ensures { (front behind : List ℕ) → (fen : ℤ) → IsTypedSignedAmount (front ++ behind) fen
         → (place : ℕ) → ¬ TypedSignedAnswers front (Err (incorrect_at place)) }
