@@ -166,6 +166,7 @@ impl Prefix {
         }
     }
 
+    // Same answer (begin_sign → begin_part): after 人民币 only a sign may begin.
     // After a character that follows a note.
     fn follow_note(self, character: char) -> Option<Prefix>
         ensures { result ≡ first_with (ways_at Note self) character }
