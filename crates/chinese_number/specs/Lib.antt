@@ -6,6 +6,7 @@ pub use Rattle.cn_amount.specs.Answer as AmountAnswer
 pub use Rattle.cn_amount.specs.ErrorText as AmountErrorText
 pub use Rattle.cn_amount.specs.Form as AmountForm
 pub use Rattle.cn_amount.specs.Fronts as AmountFronts
+pub use Rattle.cn_amount.specs.Invoice as AmountInvoice
 pub use Rattle.cn_amount.specs.Places as AmountPlaces
 pub use Rattle.cn_amount.specs.Reading as AmountReading
 pub use Rattle.cn_amount.specs.Signed as AmountSigned

@@ -19,6 +19,7 @@ mod scripts;
 pub mod signed_amounts;
 mod signs;
 pub mod typed_amounts;
+pub mod typed_signed_amounts;
 mod white_space;
 
 pub use answers::{

@@ -2,12 +2,12 @@
 ghost use Rattle.std.specs.Prelude.{chars};
 ghost use Rattle.cn_amount.specs.Reading.{IsAmount};
 ghost use Rattle.cn_amount.specs.Signed.{IsSignedAmount};
-ghost use Rattle.cn_amount.specs.Typed.{IsTypedAmount};
+ghost use Rattle.cn_amount.specs.Typed.{IsTypedAmount, IsTypedSignedAmount};
 ghost use Rattle.cn_capitals.specs.Expected.{IsExpected};
 
 use crate::progress::Progress;
 use crate::signed::SignedProgress;
-use crate::typed::TypedProgress;
+use crate::typed::{TypedProgress, TypedSignedProgress};
 use cn_capitals::{Expected, expected_next};
 
 /// What may come next in an amount in capitals, after the longest start of a text that begins an
@@ -57,4 +57,19 @@ pub fn typed_amount_expected(text: &str) -> Expected
     ensures { IsExpected IsTypedAmount (chars text.now) result }
 {
     expected_next::<TypedProgress>(text)
+}
+
+/// What may come next in an amount in capitals as people type it or copy it from a red invoice, with
+/// a sign or without one, as `typed_amount_expected` says it for amounts without a sign. No memory is
+/// allocated.
+///
+/// ```text
+/// let expected = typed_signed_amount_expected("（负");
+/// expected.char_index == 2
+/// expected.characters.as_slice() == ['数']
+/// ```
+pub fn typed_signed_amount_expected(text: &str) -> Expected
+    ensures { IsExpected IsTypedSignedAmount (chars text.now) result }
+{
+    expected_next::<TypedSignedProgress>(text)
 }

@@ -4,14 +4,15 @@ ghost use Rattle.cn_amount.specs.declared.listed.TheConstants.{CHARACTERS};
 
 use crate::progress::Progress;
 use crate::signed::SignedProgress;
-use crate::typed::TypedProgress;
+use crate::typed::{TypedProgress, TypedSignedProgress};
 use cn_capitals::Listed;
 
-// The characters of amounts, of which the last five are the minus sign of each script and what a
-// typed amount has besides.
-static CHARACTERS: [char; 37] = [
+// The characters of amounts, of which the last 15 are the minus sign of each script, what a typed
+// amount has besides, and what its sign has besides.
+static CHARACTERS: [char; 47] = [
     '零', '壹', '贰', '貳', '叁', '參', '叄', '肆', '伍', '陆', '陸', '柒', '捌', '玖', '拾', '佰', '仟', '万', '萬',
-    '亿', '億', '元', '圆', '圓', '角', '分', '整', '正', '人', '民', '币', '幣', '负', '負', '⊗', ':', '：',
+    '亿', '億', '元', '圆', '圓', '角', '分', '整', '正', '人', '民', '币', '幣', '负', '負', '⊗', 'ⓧ', ':', '：',
+    '（', '）', '(', ')', '大', '写', '寫', '数', '數',
 ];
 
 impl Listed for Progress {
@@ -43,6 +44,20 @@ impl Listed for SignedProgress {
 }
 
 impl Listed for TypedProgress {
+    ghost characters = { CHARACTERS };
+
+    ghost white_space = { true };
+
+    fn characters() -> &'static [char] {
+        &CHARACTERS
+    }
+
+    fn takes_white_space() -> bool {
+        true
+    }
+}
+
+impl Listed for TypedSignedProgress {
     ghost characters = { CHARACTERS };
 
     ghost white_space = { true };

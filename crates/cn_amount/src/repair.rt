@@ -2,12 +2,12 @@
 ghost use Rattle.std.specs.Prelude.{chars, IfSome};
 ghost use Rattle.cn_amount.specs.Reading.{IsAmount};
 ghost use Rattle.cn_amount.specs.Signed.{IsSignedAmount};
-ghost use Rattle.cn_amount.specs.Typed.{IsTypedAmount};
+ghost use Rattle.cn_amount.specs.Typed.{IsTypedAmount, IsTypedSignedAmount};
 ghost use Rattle.cn_capitals.specs.Repairs.{IsRepair};
 
 use crate::progress::Progress;
 use crate::signed::SignedProgress;
-use crate::typed::TypedProgress;
+use crate::typed::{TypedProgress, TypedSignedProgress};
 use cn_capitals::{Hint, find_repair};
 
 /// One change of a text that is not an amount in capitals, after which it goes on past its fault.
@@ -54,4 +54,16 @@ pub fn typed_amount_repair(text: &str) -> Option<Hint>
     ensures { IfSome result (IsRepair IsTypedAmount (chars text.now)) }
 {
     find_repair::<TypedProgress>(text)
+}
+
+/// One change of a text that is not an amount in capitals as people type it or copy it from a red
+/// invoice, as `amount_repair` finds it for other amounts. No memory is allocated.
+///
+/// ```text
+/// typed_signed_amount_repair("（负）壹佰元整") == Some(Hint { char_index: 2, repair: Repair::Insert('数') })
+/// ```
+pub fn typed_signed_amount_repair(text: &str) -> Option<Hint>
+    ensures { IfSome result (IsRepair IsTypedSignedAmount (chars text.now)) }
+{
+    find_repair::<TypedSignedProgress>(text)
 }

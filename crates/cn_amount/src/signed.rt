@@ -16,8 +16,8 @@ fn is_minus(character: char) -> bool
     matches!(character, '負' | '负')
 }
 
-// The amount with this magnitude, below zero or not.
-fn signed_fen(is_below: bool, magnitude: u64) -> i64
+/// The amount with this magnitude, below zero or not.
+pub fn signed_fen(is_below: bool, magnitude: u64) -> i64
     requires { magnitude < amount_limit }
     ensures { result ≡ signed_number is_below magnitude }
 {

@@ -52,6 +52,7 @@ asking currency round upright = record {
   currency = currency;
   round_yuan = round;
   upright_closing = upright;
+  bracketed_sign = false;
 }
 
 -- the forms in the order of their codes: 人民币 adds 1, 圆 adds 2 and 正 adds 4

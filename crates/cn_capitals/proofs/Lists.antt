@@ -11,7 +11,7 @@ use Rattle.cn_capitals.proofs.Sieves.{IsSifted}
 pub classes-listed : {S A C : Type 0} (machine : Machine S A) (step : S → C → Option S)
     (class : ℕ → Option C) (characters : List ℕ)
     → ((state : S) (c : ℕ) → machine.step state c ≡ step_as step state (class c))
-    → length characters ≤ 40
+    → length characters ≤ 48
     → ((c : ℕ) → char_set_contains characters c ≡ false → class c ≡ None)
     → IsListed characters false machine
 classes-listed {S} machine step class characters steps few others = record {

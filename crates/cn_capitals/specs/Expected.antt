@@ -36,7 +36,7 @@ pub record IsExpected {A : Type 0} (IsForm : List ℕ → A → Type 0) (text : 
 -- space may be anywhere
 pub record IsListed {S A : Type 0} (characters : List ℕ) (white : Bool) (machine : Machine S A)
     : Type 0 where
-  pub few : length characters ≤ 40
+  pub few : length characters ≤ 48
   pub known : (state next : S) (c : ℕ) → machine.step state c ≡ Some next
       → IsTrue (char_set_contains characters c || (white && is_whitespace c))
   pub blank : white ≡ true → (state : S) (c : ℕ) → is_whitespace c ≡ true

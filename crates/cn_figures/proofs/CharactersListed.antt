@@ -29,7 +29,7 @@ none-at is c (row ∷ rows) all other =
 
 -- a list that has the characters of figures
 record HasParts (characters : List ℕ) : Type 0 where
-  few : length characters ≤ 40
+  few : length characters ≤ 48
   currency : list_all (char_set_contains characters) (codes "¥￥") ≡ true
   comma : list_all (char_set_contains characters) (codes ",，") ≡ true
   point : list_all (char_set_contains characters) (codes ".．") ≡ true

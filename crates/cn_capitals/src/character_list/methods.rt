@@ -15,9 +15,9 @@ impl CharacterList {
         }
     }
 
-    /// Appends a character. The list must have fewer than 40.
+    /// Appends a character. The list must have fewer than 48.
     pub fn push(&mut self, character: char)
-        requires { self.old.len < 40 }
+        requires { self.old.len < 48 }
         ensures list { list_of self.new ≡ list_of self.old ++ character ∷ [] }
         ensures len { self.new.len ≡ self.old.len + 1 }
     {
