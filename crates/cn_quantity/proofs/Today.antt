@@ -40,7 +40,7 @@ use Rattle.cn_quantity.specs.Reading.{begins_number, front_length, is_below_zero
 use Rattle.cn_quantity.proofs.Signed.{not-negated as rest-not_negated, quantity-plain}
 use Rattle.cn_quantity.specs.Misread.{bare_ten_between, first_misread}
 use Rattle.cn_quantity.specs.Units.{are_rising, times_units}
-use Rattle.cn_quantity.specs.WholeNumber.{fitting, is_plain, misread_answer, reader_answer, sum_answer, whole_answer}
+use Rattle.cn_quantity.specs.WholeNumber.{fitting, is_plain, misread_answer, reader_answer, refused_at, sum_answer, whole_answer}
 use Rattle.cn_quantity.proofs.WholeNumbers.{whole-reader}
 
 -- what each digit and unit of numerals has
@@ -373,19 +373,27 @@ sum-read method rank number before from h = by (judge method (marks_of before)) 
   by (Ok first) is e = next first (judge method (marks_of from)) (marks before first is) refl e
   by (Err refusal) is e = cc
 
+-- what refuses a misread text is no number
+refused-none : (answer : Result ℕ Refusal) (place number : ℕ)
+    → refused_at answer place ≡ Ok number → ⊥
+refused-none (Ok value) place number e = cc
+refused-none (Err refusal) place number e = cc
+
 pub whole-marks : (method : ChineseCountMethod) (text : List ℕ) (number : ℕ)
     → whole_answer method text ≡ Ok number → are_marks text ≡ true
 whole-marks method text number h = by (first_misread text) h where
   parts : (place : ℕ) (bare : Option ℕ)
       → option_map_or (λ rank. sum_answer method rank (take place text) (drop place text)) bare
-      (Err (incorrect_at (length (take place text)))) ≡ Ok number → are_marks text ≡ true
+      (refused_at (reader_answer method (take place text ++ drop place text))
+      (length (take place text))) ≡ Ok number → are_marks text ≡ true
   parts place (Some rank) e =
       let read = sum-read method rank number (take place text) (drop place text) e in
       let test = λ (c : ℕ). is_digit_or_unit (mark_of c) in
       ap are_marks (sym (take-append-drop place text))
       ∙ list_all-append test (take place text) (drop place text)
       ∙ both (are_marks (take place text)) (are_marks (drop place text)) read.0 read.1
-  parts place None e = cc
+  parts place None e =
+      absurd (refused-none (reader_answer method (take place text ++ drop place text)) _ number e)
 
   by : (found : Option ℕ)
       → option_map_or (λ place. misread_answer method (take place text) (drop place text)) found
