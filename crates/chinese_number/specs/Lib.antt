@@ -49,6 +49,7 @@ pub use Rattle.cn_find.specs.Plain
 pub use Rattle.cn_find.specs.Rule
 pub use Rattle.cn_find.specs.Runs
 pub use Rattle.cn_find.specs.Spans
+pub use Rattle.cn_judge.specs.Reason
 pub use Rattle.cn_print.specs.ErrorText as PrintErrorText
 pub use Rattle.cn_print.specs.Prints
 pub use Rattle.cn_print.specs.Writes
