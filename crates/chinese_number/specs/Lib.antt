@@ -61,6 +61,7 @@ pub use Rattle.cn_quantity.specs.Figures as QuantityFigures
 pub use Rattle.cn_quantity.specs.Number as QuantityNumber
 pub use Rattle.cn_quantity.specs.Ratio as QuantityRatio
 pub use Rattle.cn_quantity.specs.Reading as QuantityReading
+pub use Rattle.cn_quantity.specs.Reason as QuantityReason
 pub use Rattle.cn_quantity.specs.Trimmed as QuantityTrimmed
 pub use Rattle.cn_quantity.specs.Units as QuantityUnits
 pub use Rattle.cn_quantity.specs.Whole as QuantityWhole

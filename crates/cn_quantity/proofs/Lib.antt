@@ -2,6 +2,7 @@ pub mod Bars
 pub mod DroppedZeros
 pub mod Ends
 mod Examples
+pub mod Faults
 pub mod Groups
 pub mod Growing
 pub mod KnownDecimals
@@ -12,6 +13,7 @@ pub mod Negated
 pub mod Numbers
 pub mod Points
 pub mod Ratios
+mod ReasonExamples
 pub mod Signed
 pub mod Today
 pub mod Told

@@ -183,7 +183,7 @@ whole-misread method bytes before from bare s =
       drop-append_seam (text_of before) (text_of from),
     ) refl
 
-bare-between : (before from : List ℕ) (first : ℕ) (after : List ℕ)
+pub bare-between : (before from : List ℕ) (first : ℕ) (after : List ℕ)
     → from ≡ first ∷ after → first_misread from ≡ None
     → bare_ten_between before from ≡ bare_ten (marks_of (reverse before)) (mark_of first)
 bare-between before from first after is none = rw is (let n = rw is at none in rw n)

@@ -120,8 +120,8 @@ pub fn split_fraction(text: &str) -> Option<Bar<'_>>
     Some(bar)
 }
 
-// What stands before a percent sign or ‰ at the end, if something does, and what the sign divides by.
-fn split_share(text: &str) -> Option<(&str, u128)>
+/// What stands before a percent sign or ‰ at the end, if something does, and what the sign divides by.
+pub fn split_share(text: &str) -> Option<(&str, u128)>
     ensures share { MatchOption result (share (text_of text.now) ≡ None)
         (λ r. share (text_of text.now) ≡ Some r.1) }
     ensures above { IfSome result (λ r. 0 < r.1) }

@@ -29,9 +29,9 @@ fn is_plain(text: &str) -> bool
     true
 }
 
-// The whole number of a text as the readers of numerals read it, after so many characters of the
-// caller's string.
-fn judge_reader(
+/// The whole number of a text as the readers of numerals read it, after so many characters of the
+/// caller's string.
+pub fn judge_reader(
     method: ChineseCountMethod,
     skipped: usize,
     text: &str,
@@ -83,8 +83,8 @@ fn misread_error(skipped: usize, misread: Misread<'_>) -> ChineseToNumberError
     }
 }
 
-// The sum of a text and of what follows it from a bare ten on, which has to be below the unit.
-fn judge_sum(
+/// The sum of a text and of what follows it from a bare ten on, which has to be below the unit.
+pub fn judge_sum(
     method: ChineseCountMethod,
     skipped: usize,
     unit: Unit,

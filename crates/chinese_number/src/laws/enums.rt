@@ -17,6 +17,8 @@ ghost use Rattle.cn_express.specs.declared.error.QuantityToChineseError.{Quantit
 ghost use Rattle.cn_find.specs.declared.doubt.Doubt.{Doubt as DoubtOfFound};
 ghost use Rattle.cn_judge.specs.declared.error.ChineseToNumberError.{ChineseToNumberError as ReadingError};
 ghost use Rattle.cn_judge.specs.declared.fault.NumeralFault.{NumeralFault as FaultOfNumeral};
+ghost use Rattle.cn_quantity.specs.declared.fault.QuantityFault.{QuantityFault as FaultOfQuantity};
+ghost use Rattle.cn_quantity.specs.declared.misread.MisreadFault.{MisreadFault as FaultOfMisread};
 ghost use Rattle.cn_quantity.specs.declared.quantity.Quantity.{Quantity as ExactQuantity};
 ghost use Rattle.cn_quantity.specs.declared.quantity.QuantityForm.{QuantityForm as FormOfQuantity};
 ghost use Rattle.cn_spell.specs.declared.error.NumberToChineseError.{NumberToChineseError as PrintingError};
@@ -28,7 +30,7 @@ use cn_express::QuantityToChineseError;
 use cn_find::Doubt;
 use cn_judge::NumeralFault;
 use cn_print::NumberToChineseError;
-use cn_quantity::{Quantity, QuantityForm};
+use cn_quantity::{MisreadFault, Quantity, QuantityFault, QuantityForm};
 use cn_read::ChineseToNumberError;
 
 /// Two values of an enum are equal exactly where they are the same variant, with the same
@@ -50,6 +52,10 @@ pub fn equal_values_are_the_same_variant()
         → IsTrue (⟦<ChineseToNumberError as PartialEq>⟧.eq a b) ↔ (a ≡ b) }
     ensures numeral_faults { (a b : FaultOfNumeral)
         → IsTrue (⟦<NumeralFault as PartialEq>⟧.eq a b) ↔ (a ≡ b) }
+    ensures misread_faults { (a b : FaultOfMisread)
+        → IsTrue (⟦<MisreadFault as PartialEq>⟧.eq a b) ↔ (a ≡ b) }
+    ensures quantity_faults { (a b : FaultOfQuantity)
+        → IsTrue (⟦<QuantityFault as PartialEq>⟧.eq a b) ↔ (a ≡ b) }
     ensures printing_errors { (a b : PrintingError)
         → IsTrue (⟦<NumberToChineseError as PartialEq>⟧.eq a b) ↔ (a ≡ b) }
     ensures quantity_printing_errors { (a b : QuantityPrintingError)
