@@ -3,6 +3,7 @@ pub mod DroppedZeros
 pub mod Ends
 mod Examples
 pub mod Faults
+pub mod FaultsFound
 pub mod Groups
 pub mod Growing
 pub mod KnownDecimals

@@ -1,4 +1,4 @@
-//! What holds of quantities: a refusal points at a character, a number stays that number, what is
+//! What holds of quantities: a refusal points at a character and has a reason, a number stays that number, what is
 //! written is read back, and zeros left out at the end change no value.
 ghost use Rattle.std.specs.Prelude.{◌≡◌, ℕ, ℤ, List, Ok, false};
 ghost use Rattle.chinese_number.specs.Parts.{unsigned_text};
@@ -13,7 +13,9 @@ pub use cn_express::laws::{
     figures_are_read_back, middle_is_read_by_ten_thousand, no_spelling_is_misread,
     what_is_written_is_read_back,
 };
-pub use cn_quantity::laws::{refusals_point_at_characters, trimmed_keeps_the_value};
+pub use cn_quantity::laws::{
+    each_refusal_has_a_reason, refusals_point_at_characters, trimmed_keeps_the_value,
+};
 
 /// A number stays that number unless it is misread: what is read as an `i128`, by the method or as
 /// plain digits, is as a quantity that whole number over 1.
