@@ -8,6 +8,7 @@
 #![tactic(auto)]
 
 mod error;
+mod fault;
 mod first_bytes;
 mod judge;
 mod mark;
@@ -19,6 +20,7 @@ mod walk;
 mod word;
 
 pub use error::ChineseToNumberError;
+pub use fault::{NumeralFault, explain_number, explain_number_naive, naive_reason_of, reason_of};
 pub use judge::{AfterSign, first_digit, judge_text, read, signed_answer, split_sign};
 pub use mark::{Mark, mark_of};
 pub use naive::{judge_naive, read_naive};

@@ -3,7 +3,8 @@
 use chinese_number::Repair::{Delete, Insert, Replace};
 use chinese_number::{
     Hint, Repair, amount_expected, amount_repair, date_expected, date_repair, signed_amount_repair,
-    typed_amount_expected, typed_amount_repair,
+    typed_amount_expected, typed_amount_repair, typed_signed_amount_expected,
+    typed_signed_amount_repair,
 };
 use cn_figures::{figures_expected, figures_repair, signed_figures_repair};
 
@@ -44,6 +45,12 @@ static SIGNED_AMOUNTS: [(&str, usize, Repair); 3] = [
 static TYPED_AMOUNTS: [(&str, usize, Repair); 2] = [
     ("壹佰 贰元整", 3, Insert('零')),
     ("⊗⊗壹元整", 1, Delete),
+];
+
+static TYPED_SIGNED_AMOUNTS: [(&str, usize, Repair); 3] = [
+    ("（负）壹佰元整", 2, Insert('数')),
+    ("⊗（负数）壹佰 贰元整", 8, Insert('零')),
+    ("负负壹元整", 1, Delete),
 ];
 
 static DATES: [(&str, usize, Repair); 9] = [
@@ -105,6 +112,9 @@ fn repairs_amounts(rt: HostRuntime) {
     for (text, char_index, repair) in &TYPED_AMOUNTS {
         assert_eq!(rt; typed_amount_repair(text), hint(*char_index, *repair));
     }
+    for (text, char_index, repair) in &TYPED_SIGNED_AMOUNTS {
+        assert_eq!(rt; typed_signed_amount_repair(text), hint(*char_index, *repair));
+    }
     for text in &UNREPAIRED_AMOUNTS {
         assert_eq!(rt; amount_repair(text), None);
     }
@@ -141,6 +151,9 @@ fn expects_characters_in_order(rt: HostRuntime) {
     let typed = typed_amount_expected("人民币 壹佰元");
     assert_eq!(rt; typed.char_index, 7);
     assert!(rt; typed.white_space);
+    let sign = typed_signed_amount_expected("（负");
+    assert_eq!(rt; sign.char_index, 2);
+    assert_eq!(rt; sign.characters.as_slice(), ['数'].as_slice());
     let date = date_expected("贰零贰肆年零贰月叁拾日");
     assert_eq!(rt; date.char_index, 8);
     assert_eq!(rt; date.characters.as_slice(), ['零', '壹', '贰', '貳'].as_slice());
