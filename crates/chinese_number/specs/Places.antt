@@ -2,7 +2,8 @@
 use Rattle.std.specs.Prelude.{◌≡◌, ℕ, ℤ, Bool, true, false, not, ◌&&◌, List, [], ◌∷◌, length, filter, take, slice_get, chars, Some, Result, Err, if◌then◌else◌}
 use Rattle.std.specs.Char.{is_whitespace, is_not_whitespace}
 use Rattle.cn_core.specs.Mark.{Mark}
-use Rattle.cn_core.specs.Numeral.{is_digit_or_unit, separates_digits, multiplies_upwards, counts_a_unit, groups_strictly}
+use Rattle.cn_core.specs.Place.{body}
+use Rattle.cn_core.specs.Numeral.{is_numeral, is_digit_or_unit, separates_digits, multiplies_upwards, counts_a_unit, groups_strictly}
 use Rattle.cn_core.specs.Refusal.{Refusal, incorrect_at}
 use Rattle.cn_judge.specs.declared.fault.NumeralFault.{NumeralFault}
 use Rattle.cn_judge.specs.declared.fault.NumeralFault.TheVariants.{Start, Character, Digits, Units, Ge, Groups}
@@ -34,3 +35,8 @@ first_broken_rule marks =
     else if not (each_keeps counts_a_unit marks) then Ge
     else if not (each_keeps groups_strictly marks) then Groups
     else Start
+
+-- the part of a text whose place is reported: the text itself if its body is a numeral, and else its
+-- body
+abbrev pub judged_part : List Mark → List Mark
+judged_part marks = if is_numeral (body marks) then marks else body marks
