@@ -45,14 +45,14 @@ bare-leads text =
 abbrev pub is_mark : ℕ → Bool
 is_mark c = char_set_contains (codes "⊗ⓧ负負（）()数數大写寫人民币幣:：") c
 
-abbrev Marked : Prefix → ℕ → Type 0
+abbrev pub Marked : Prefix → ℕ → Type 0
 Marked after c = is_mark c ≡ true
 
 sign-marked : (prefix : Prefix) → OnWays Marked (sign_ways prefix)
 sign-marked prefix = on-if Marked _ (is_open prefix.sign)
     (λ e. ((refl, (refl, tt)), ((refl, tt), ((refl, tt), tt))))
 
-point-marked : (point : Point) (prefix : Prefix) → OnWays Marked (ways_at point prefix)
+pub point-marked : (point : Point) (prefix : Prefix) → OnWays Marked (ways_at point prefix)
 point-marked Between prefix =
     on-both Marked (ways_if prefix.currency _) _ (on-if Marked _ prefix.currency (λ e. ((refl, tt), tt)))
     (on-both Marked (ways_if prefix.circle _) _ (on-if Marked _ prefix.circle (λ e. ((refl, (refl, tt)), tt)))
