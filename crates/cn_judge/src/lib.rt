@@ -3,7 +3,8 @@
 //!
 //! Only the crates above this one use it: `cn_read` gives the readers their public names and
 //! re-exports the error; `cn_quick` uses marks, signs and the rules on the first digit; `cn_find`
-//! uses marks; `cn_quantity` uses the judgements of a text without sign; `cn_faces` uses the test
+//! uses marks; `cn_quantity` uses the judgements of a text without sign, and the reasons for
+//! refusals; `chinese_number` re-exports `explain_number`; `cn_faces` uses the reasons, and the test
 //! for eight bytes of ASCII; and `cn_c` uses the byte index of a character.
 #![tactic(auto)]
 
