@@ -161,8 +161,8 @@ namespace detail {
  * Accessing a missing value with * or ->, or the error of a result that has a value, is undefined
  * behaviour.
  *
- * Of a temporary result, such as that of a call, * and the methods move the value and return it, not
- * a reference to it: `const auto &text = *to_chinese(120)` is valid. */
+ * Of a temporary result, such as that of a call, * and the methods move the value and return it
+ * itself, not a reference: `const auto &text = *to_chinese(120)` is valid. */
 template <typename Value>
 class [[nodiscard]] Result {
 public:

@@ -34,7 +34,7 @@ def of_words(word: str, day: Union[date, datetime]) -> None:
 
 
 def of_texts(found: FoundQuantity, way: Way) -> None:
-    next(find_numbers("一", greatest="ZHAO")).value(kind=Kind.U8, way="any")  # type: ignore[arg-type]
+    next(find_numbers("一", greatest="ZHAO")).value(kind=Kind.U8)  # type: ignore[arg-type]
     next(find_numbers("一", greatest=Unit.YI)).number(way="tens")  # type: ignore[arg-type]
     next(find_numbers("一", greatest="yi")).value(kind="int")  # type: ignore[arg-type]
     next(find_quantities("一", greatest=1))  # type: ignore[arg-type]
