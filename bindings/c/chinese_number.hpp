@@ -1,13 +1,15 @@
 /* Chinese numerals for C++17 and later: writes numbers, exact quantities, amounts of money and
  * dates as std::string, and reads and finds them in a std::string_view. chinese_number.h, which
  * this file wraps, documents the choices, the statuses and what to link. Texts are UTF-8. The only
- * exceptions are those of std::string when memory runs out, and those of the caller's functions.
+ * exceptions are that of Result::value, those of std::string when memory runs out, and those of the
+ * caller's functions.
  *
  *     auto number = chinese_number::to_number<int>("一百二");
  *     if (number)
  *         use(*number); // 120
  *     else
  *         report(number.error().message());
+ *     std::string text = chinese_number::to_chinese(120).value(); // 一百二十
  */
 #ifndef CHINESE_NUMBER_HPP
 #define CHINESE_NUMBER_HPP
@@ -16,8 +18,10 @@
 
 #include <cstddef>
 #include <cstdint>
+#include <cstdlib>
 #include <iterator>
 #include <optional>
+#include <stdexcept>
 #include <string>
 #include <string_view>
 #include <type_traits>
@@ -120,8 +124,45 @@ struct Error {
     }
 };
 
-/* A value, or the error why there is none. Accessing a missing value, or the error of a result that
- * has a value, is undefined behaviour, as with std::optional. */
+#ifdef __clang__
+#pragma clang diagnostic push
+#pragma clang diagnostic ignored "-Wweak-vtables" /* a header cannot avoid them */
+#endif
+
+/* What Result::value throws if there is no value. what() is the error's message. */
+class BadResultAccess : public std::runtime_error {
+public:
+    explicit BadResultAccess(const Error &error) : std::runtime_error(error.message()), held(error) {}
+
+    const Error &error() const noexcept { return held; }
+
+private:
+    Error held;
+};
+
+#ifdef __clang__
+#pragma clang diagnostic pop
+#endif
+
+namespace detail {
+
+[[noreturn]] inline void throw_or_abort([[maybe_unused]] const Error &error) {
+#if defined(__cpp_exceptions) || defined(_CPPUNWIND)
+    throw BadResultAccess(error);
+#else
+    std::abort();
+#endif
+}
+
+} // namespace detail
+
+/* A value, or the error why there is none. If there is no value, value() throws a BadResultAccess;
+ * in a program without exceptions (-fno-exceptions) it aborts, as std::expected of libstdc++ does.
+ * Accessing a missing value with * or ->, or the error of a result that has a value, is undefined
+ * behaviour.
+ *
+ * Of a temporary result, such as that of a call, * and the methods move the value and return it
+ * itself, not a reference: `const auto &text = *to_chinese(120)` is valid. */
 template <typename Value>
 class [[nodiscard]] Result {
 public:
@@ -130,10 +171,32 @@ public:
 
     bool has_value() const noexcept { return held.index() == 0; }
     explicit operator bool() const noexcept { return has_value(); }
-    const Value &operator*() const noexcept { return *std::get_if<0>(&held); }
+
+    const Value &operator*() const & noexcept { return *std::get_if<0>(&held); }
+    Value operator*() && noexcept(std::is_nothrow_move_constructible_v<Value>) {
+        return std::move(*std::get_if<0>(&held));
+    }
     const Value *operator->() const noexcept { return std::get_if<0>(&held); }
-    Value value_or(Value other) const { return has_value() ? **this : std::move(other); }
-    std::optional<Value> optional() const { return has_value() ? std::optional<Value>(**this) : std::nullopt; }
+
+    const Value &value() const & {
+        if (!has_value())
+            detail::throw_or_abort(error());
+        return **this;
+    }
+    Value value() && {
+        if (!has_value())
+            detail::throw_or_abort(error());
+        return *std::move(*this);
+    }
+
+    Value value_or(Value other) const & { return has_value() ? **this : std::move(other); }
+    Value value_or(Value other) && { return has_value() ? *std::move(*this) : std::move(other); }
+
+    std::optional<Value> optional() const & { return has_value() ? std::optional<Value>(**this) : std::nullopt; }
+    std::optional<Value> optional() && {
+        return has_value() ? std::optional<Value>(*std::move(*this)) : std::nullopt;
+    }
+
     const Error &error() const noexcept { return *std::get_if<1>(&held); }
 
 private:
@@ -240,7 +303,7 @@ template <typename Value>
 Result<Value> result_of(cn_status status, Value value, const char *subject, std::size_t char_index = 0,
                    std::size_t byte_index = 0) {
     if (status == CN_DONE)
-        return value;
+        return Result<Value>(std::move(value));
     return Error{static_cast<Status>(status), subject, char_index, byte_index};
 }
 

@@ -3,6 +3,7 @@
 #include "chinese_number.hpp"
 
 #include <iostream>
+#include <memory>
 #include <vector>
 
 namespace {
@@ -19,7 +20,7 @@ void expect(const char *what, bool holds) {
 }
 
 void first_steps() {
-    std::cout << to_chinese(-105000).value_or("") << '\n'; // 负十万五千
+    std::cout << to_chinese(-105000).value() << '\n'; // 负十万五千
     std::cout << to_number<int>("一百二").value_or(0) << '\n'; // 120
     for (auto found : find_numbers("百分之五十的人"))
         if (auto number = found.value<int>())
@@ -44,6 +45,38 @@ void first_steps() {
 template <typename Value>
 bool is_refused(const Result<Value> &answer, Status status) {
     return !answer && answer.error().status == status;
+}
+
+/* A result throws if it has no value, and moves what it has out of a temporary. */
+void results() {
+    try {
+        to_number<int>(" 二 十 十 ").value();
+        expect("an exception", false);
+    } catch (const BadResultAccess &it) {
+        expect("its error", it.error().status == Status::incorrect && it.error().char_index == 3);
+        expect("its message", it.what() == it.error().message());
+    }
+    const Result<int> none = to_number<int>("");
+    try {
+        expect("another exception", none.value() != none.value());
+    } catch (const std::exception &it) {
+        expect("another message", it.what() == std::string("a chinese number cannot be empty"));
+    }
+
+    const auto text_of = [] { return to_chinese(INT64_MAX); };
+    const std::string wanted = *text_of();
+    const std::string &kept = *text_of(), &kept_value = text_of().value();
+    expect("a text that is kept", kept == wanted && kept_value == wanted);
+    Result<std::string> one = text_of(), other = text_of(), third = text_of(), fourth = text_of();
+    const char *const places[] = {one->data(), other->data(), third->data(), fourth->data()};
+    expect("a reference", &*one == &one.value() && (*one).data() == places[0]);
+    const std::string moved = *std::move(one), moved_value = std::move(other).value();
+    const std::string moved_or = std::move(third).value_or("");
+    const std::optional<std::string> moved_optional = std::move(fourth).optional();
+    expect("a text that is moved", moved.data() == places[0] && moved_value.data() == places[1]);
+    expect("moved otherwise", moved_or.data() == places[2] && moved_optional->data() == places[3]);
+    const auto pointer = [] { return detail::result_of(CN_DONE, std::make_unique<int>(7), "number"); };
+    expect("what has no copy", **pointer() == 7 && *pointer().value() == 7 && *pointer().value_or(nullptr) == 7);
 }
 
 void numbers() {
@@ -158,6 +191,7 @@ void found_numbers() {
 
 int main() {
     first_steps();
+    results();
     numbers();
     quantities();
     replaced_quantities();

@@ -304,6 +304,7 @@ const MOST_FIGURES_BYTES = 80n;
 const MOST_PRINTED = Number(MOST_BYTES);
 const PAGE = 65536;
 const MOST_KEPT = 2 ** 24;
+const MOST_SHOWN = 60;
 const encoder = new TextEncoder(), decoder = new TextDecoder('utf-8', { ignoreBOM: true });
 // Up to this many code units, writing them one by one is faster than the encoder.
 const FEW = 40;
@@ -361,12 +362,48 @@ function grow(memory, pages) {
   }
 }
 
+/** @param {string} string */
+const cut = (string) =>
+  string.length > MOST_SHOWN ? `${string.slice(0, MOST_SHOWN)}...` : string;
+
+/** @param {string} string */
+const quoted = (string) => JSON.stringify(cut(string));
+
+// A value as a message shows it, with its type: `5 (a number)`. It calls no method of the value, which
+// could throw.
+/** @param {unknown} value */
+function shown(value) {
+  if (value === undefined || value === null) return String(value);
+  if (typeof value === 'string') return `${quoted(value)} (a string)`;
+  if (typeof value === 'function') return 'a function';
+  if (typeof value === 'object') return shownObject(value);
+  if (typeof value !== 'bigint') return `${cut(String(value))} (a ${typeof value})`;
+  return BigInt.asIntN(128, value) === value ? `${value}n (a BigInt)` : 'a long BigInt';
+}
+
+/** @param {object} object */
+function shownObject(object) {
+  let name = 'Object';
+  try {
+    [, name] = /^\[object (.*)\]$/s.exec(Object.prototype.toString.call(object)) ?? [, name];
+  } catch {
+    // The getter of its name throws, or it is a proxy that is revoked.
+  }
+  if (name === 'Array') return 'an array';
+  return name === 'Object' ? 'an object' : `an object (${cut(name)})`;
+}
+
+/** @param {string} string */
+function refuseNoString(string) {
+  if (typeof string !== 'string') throw new TypeError(`expected a string, not ${shown(string)}`);
+}
+
 // Writes a string where the module reads it, as UTF-8, and its length in bytes. Half of a surrogate
 // pair becomes U+FFFD, so the text is UTF-8 and the module need not test it. After the text there
 // is a buffer of `room` bytes.
 /** @param {string} string @param {number} room */
 function hand(string, room = 0) {
-  if (typeof string !== 'string') throw new TypeError('expected a string');
+  refuseNoString(string);
   lend(3 * string.length + room);
   halves[LENGTH_HALF] = string.length > FEW ? encoded(string) : written(string);
 }
@@ -421,7 +458,7 @@ const whole = new BigInt64Array(1), halvesOfWhole = new Int32Array(whole.buffer)
 function wholeOf(number) {
   if (typeof number === 'bigint') return number;
   if (!Number.isSafeInteger(number)) {
-    throw new TypeError('expected a BigInt or a safe integer');
+    throw new TypeError(`expected a BigInt or a safe integer, not ${shown(number)}`);
   }
   halvesOfWhole[0] = number;
   halvesOfWhole[1] = Math.floor(number / 2 ** 32);
@@ -452,7 +489,8 @@ function codeOf(option, name) {
 function codeAmong(option, name) {
   const { what, names } = option, code = names.indexOf(name);
   if (code < 0) {
-    throw new TypeError(`${what} must be one of ${names.join(', ')}, not ${String(name)}`);
+    const other = typeof name === 'string' ? quoted(name) : shown(name);
+    throw new TypeError(`${what} must be one of ${names.join(', ')}, not ${other}`);
   }
   Object.assign(option, { last: name, code });
   return code;
@@ -461,7 +499,9 @@ function codeAmong(option, name) {
 /** @param {boolean | undefined} it @param {string} name */
 function flagOf(it, name) {
   if (it === undefined) return 0;
-  if (typeof it !== 'boolean') throw new TypeError(`${name} must be true or false`);
+  if (typeof it !== 'boolean') {
+    throw new TypeError(`${name} must be true or false, not ${shown(it)}`);
+  }
   return Number(it);
 }
 
@@ -470,11 +510,11 @@ function flagOf(it, name) {
 function refuseOthers(options, has) {
   if (options === NO_OPTIONS) return;
   if (typeof options !== 'object' || options === null || Array.isArray(options)) {
-    throw new TypeError('options must be an object');
+    throw new TypeError(`options must be an object, not ${shown(options)}`);
   }
   for (const it in options) {
     if (has(it) || !Object.keys(options).includes(it)) continue;
-    throw new TypeError(`unknown option ${it}`);
+    throw new TypeError(`unknown option ${quoted(it)}`);
   }
 }
 
@@ -735,10 +775,12 @@ export function yuanToFenBigInt(yuan) {
 /** @param {string | bigint | number} yuan */
 function figuresOf(yuan) {
   if (typeof yuan === 'number' && !Number.isSafeInteger(yuan)) {
-    throw new TypeError('a Number of yuan must be a safe integer; for others, give a string');
+    throw new TypeError(
+      `a Number of yuan must be a safe integer, not ${yuan}; for others, give a string`);
   }
   if (!['string', 'bigint', 'number'].includes(typeof yuan)) {
-    throw new TypeError('expected a string of figures, a BigInt or a whole Number');
+    throw new TypeError(
+      `expected a string of figures, a BigInt or a whole Number, not ${shown(yuan)}`);
   }
   return String(yuan);
 }
@@ -779,7 +821,7 @@ export function dateToChinese(date, options = NO_OPTIONS) {
   // Only its own properties, since a class may count the years of another calendar.
   const { year, month, day } = { ...date };
   if (!Number.isInteger(year) || !Number.isInteger(month) || !Number.isInteger(day)) {
-    throw new TypeError('expected an object with year, month and day, not a Date');
+    throw new TypeError(noDate(date, [year, month, day]));
   }
   // The module takes 32 bits of each.
   if (year >>> 0 !== year || month >>> 0 !== month || day >>> 0 !== day) {
@@ -790,6 +832,14 @@ export function dateToChinese(date, options = NO_OPTIONS) {
     year, month, day, script, TEXT_AT, MOST_DATE_BYTES, LENGTH_AT));
   if (status !== DONE) throw new DateError(STATUSES[status]);
   return printed();
+}
+
+/** @param {unknown} date @param {unknown[]} numbers Its year, month and day. */
+function noDate(date, numbers) {
+  const other = shown(date);
+  return other === 'an object'
+    ? `year, month and day must be whole Numbers, not ${numbers.map(shown).join(', ')}`
+    : `expected an object with year, month and day, not ${other}`;
 }
 
 /**
@@ -957,7 +1007,8 @@ function heldBy(kind, number) {
 /** @param {number} decimals */
 function tenTo(decimals) {
   if (!Number.isInteger(decimals) || decimals < 0) {
-    throw new TypeError('the number of decimals must be a whole Number from 0 up');
+    throw new TypeError(
+      `the number of decimals must be a whole Number from 0 up, not ${shown(decimals)}`);
   }
   return 10n ** BigInt(Math.min(decimals, 39));
 }
@@ -1222,7 +1273,9 @@ function unitsBetween(start, end) {
  */
 export function replaceQuantities(string, replacement, options = NO_OPTIONS) {
   refuseOthers(options, HAS.replacing);
-  if (typeof replacement !== 'function') throw new TypeError('replacement must be a function');
+  if (typeof replacement !== 'function') {
+    throw new TypeError(`replacement must be a function, not ${shown(replacement)}`);
+  }
   const { method } = options, included = includedOf(options);
   methodOf(options);
   let replaced = '', at = 0;
@@ -1231,7 +1284,7 @@ export function replaceQuantities(string, replacement, options = NO_OPTIONS) {
     const other = replacement(found);
     if (other === undefined) continue;
     if (typeof other !== 'string') {
-      throw new TypeError('replacement must return a string or undefined');
+      throw new TypeError(`replacement must return a string or undefined, not ${shown(other)}`);
     }
     replaced += string.slice(at, found.start) + other;
     at = found.end;
@@ -1272,6 +1325,7 @@ export function quantitiesToFigures(string, options = NO_OPTIONS) {
   refuseOthers(options, HAS.figures);
   const upper = flagOf(options.upper, 'upper'), greatest = codeOf(UNIT, options.greatest);
   const method = methodOf(options), bits = includedOf(options) + styleOf(options);
+  refuseNoString(string);
   // Figures seldom have more bytes than what they replace. If they do, the call reports how many.
   let room = 3 * string.length + Number(MOST_FIGURES_BYTES), length, status;
   do {

@@ -48,7 +48,8 @@ Decimal('0.125')
 [('五一', <Doubt.DIGITS: 'digits'>), ('二十', None)]
 
 A kind, way, script, case, unit, form or doubt is a member of its enum, or the str that the member
-equals.
+equals. mypy accepts such a str only as a literal; Kind(word) is the member for any other str, or
+raises a ValueError.
 
 The module loads the shared library libchinese_number.so (.dylib on macOS, .dll on Windows) from the
 folder that CHINESE_NUMBER_LIB names, as bindings/archive.sh makes it, or else from beside this file,
@@ -73,7 +74,7 @@ from enum import Enum
 from fractions import Fraction
 from itertools import chain
 from sys import intern
-from typing import Any, Callable, Dict, Iterable, Iterator, List, Optional
+from typing import Any, Callable, Dict, Iterable, Iterator, List, Literal, Optional, Protocol
 from typing import SupportsIndex, Tuple, Type, TypeVar, Union
 
 from . import _library
@@ -213,6 +214,45 @@ class Doubt(str, Enum):
     PART = "part"
     TIME = "time"
     RANGE = "range"
+
+
+# The words that a type checker accepts: the values of the enums, in their order.
+_KindWord = Literal["u8", "u16", "u32", "u64", "u128", "i8", "i16", "i32", "i64", "i128"]
+_WayWord = Literal["digits", "low", "ten_thousand", "middle", "high", "any"]
+_MethodWord = Literal["low", "ten_thousand", "middle", "high", "any"]
+_Method = Union[Literal[Way.LOW, Way.TEN_THOUSAND, Way.MIDDLE, Way.HIGH, Way.ANY], _MethodWord]
+_ScriptWord = Literal["traditional", "simplified"]
+_CaseWord = Literal["upper", "lower"]
+_UnitWord = Literal[
+    "ge",
+    "shi",
+    "bai",
+    "qian",
+    "wan",
+    "yi",
+    "zhao",
+    "jing",
+    "gai",
+    "zi",
+    "rang",
+    "gou",
+    "jian",
+    "zheng",
+    "zai",
+    "ji",
+]
+_FormWord = Literal["whole", "decimal", "percent", "fraction"]
+_DoubtWord = Literal["word", "digits", "term", "part", "time", "range"]
+_YuanWord = Literal["元", "圆"]
+_ClosingWord = Literal["整", "正"]
+
+
+class _DateOnly(Protocol):
+    """A datetime.date, for type checkers. A datetime is not one to them, although it is of a subclass:
+    it cannot be compared with a date."""
+
+    def __lt__(self, other: date, /) -> bool:
+        """Whether it is earlier."""
 
 
 class Status(Enum):
@@ -369,18 +409,29 @@ def _shown(value: object) -> str:
     return text if len(text) <= _MOST_SHOWN else f"{text[:_MOST_SHOWN]}..."
 
 
+def _shown_with_type(value: object) -> str:
+    """The same with the value's type in parentheses, unless the repr names it or the value is None."""
+    of, text = type(value), _shown(value)
+    if value is None or of.__name__ in text:
+        return text
+    module = "" if of.__module__ == "builtins" else f"{of.__module__}."
+    return f"{text} ({module}{of.__qualname__})"
+
+
 def _code(codes: Dict[str, int], word: str, what: str) -> int:
     """The code of a word. Members of the enums are words too."""
     try:
         return codes[word]
     except (KeyError, TypeError):  # TypeError: the value has no hash
-        error = ValueError if isinstance(word, str) else TypeError
-    raise error(f"{what} must be one of {', '.join(codes)}, not {_shown(word)}")
+        known = f"{what} must be one of {', '.join(codes)}"
+    if isinstance(word, str):
+        raise ValueError(f"{known}, not {_shown(word)}")
+    raise TypeError(f"{known}, not {_shown_with_type(word)}")
 
 
 def _flag(value: bool) -> bool:
     if not isinstance(value, bool):
-        raise TypeError(f"expected a bool, not {_shown(value)}")
+        raise TypeError(f"expected a bool, not {_shown_with_type(value)}")
     return value
 
 
@@ -391,7 +442,7 @@ def _whole(value: SupportsIndex, what: str) -> int:
             return operator.index(value)
         except TypeError:
             pass
-    raise TypeError(f"expected {what}, not {_shown(value)}")
+    raise TypeError(f"expected {what}, not {_shown_with_type(value)}")
 
 
 def _refuse_not_held(number: int, kind: Union[Kind, str]) -> None:
@@ -410,7 +461,7 @@ def _of_halves(low: int, high: int, kind: Union[Kind, str]) -> int:
 
 def _text(value: str) -> str:
     if not isinstance(value, str):
-        raise TypeError(f"expected a str, not {_shown(value)}")
+        raise TypeError(f"expected a str, not {_shown_with_type(value)}")
     return value
 
 
@@ -426,7 +477,7 @@ def _place(status: Status, char_index: int) -> Optional[int]:
 
 @_library.quick
 def to_number(
-    text: str, *, kind: Union[Kind, str] = Kind.I128, way: Union[Way, str] = Way.ANY
+    text: str, *, kind: Union[Kind, _KindWord] = Kind.I128, way: Union[Way, _WayWord] = Way.ANY
 ) -> int:
     """Reads a text as a number. Raises NumeralError if the text is not a number of this kind.
 
@@ -452,10 +503,10 @@ def to_number(
 def to_chinese(
     number: SupportsIndex,
     *,
-    kind: Union[Kind, str] = Kind.I128,
-    way: Union[Way, str] = Way.ANY,
-    script: Union[Script, str] = Script.SIMPLIFIED,
-    case: Union[Case, str] = Case.LOWER,
+    kind: Union[Kind, _KindWord] = Kind.I128,
+    way: Union[Way, _WayWord] = Way.ANY,
+    script: Union[Script, _ScriptWord] = Script.SIMPLIFIED,
+    case: Union[Case, _CaseWord] = Case.LOWER,
 ) -> str:
     """Writes a number as text. Raises NumeralError if the kind does not hold the number, or if it has
     17 digits or more and the way is LOW.
@@ -485,7 +536,7 @@ def _amount_text(
     call: Callable[[int, int, int], Tuple[int, str]],
     fen: SupportsIndex,
     least: int,
-    choices: Tuple[Union[Script, str], bool, str, str],
+    choices: Tuple[Union[Script, _ScriptWord], bool, _YuanWord, _ClosingWord],
 ) -> str:
     """The text of an amount that is at least `least`. The choices are the script, whether the currency
     is written, the word for yuan, and the closing."""
@@ -505,10 +556,10 @@ def _amount_text(
 def amount_to_chinese(
     fen: SupportsIndex,
     *,
-    script: Union[Script, str] = Script.SIMPLIFIED,
+    script: Union[Script, _ScriptWord] = Script.SIMPLIFIED,
     currency: bool = False,
-    yuan: str = "元",
-    closing: str = "整",
+    yuan: _YuanWord = "元",
+    closing: _ClosingWord = "整",
 ) -> str:
     """Writes an amount of money in capitals, as on a cheque. The amount is a whole number of fen.
     Raises AmountError if the amount is below zero, or 10**18 or more.
@@ -517,7 +568,7 @@ def amount_to_chinese(
     '壹拾萬零柒仟元伍角參分'
     >>> amount_to_chinese(15.0)
     Traceback (most recent call last):
-    TypeError: expected a whole number of fen (yuan_to_fen converts yuan), not 15.0
+    TypeError: expected a whole number of fen (yuan_to_fen converts yuan), not 15.0 (float)
 
     The currency is the prefix 人民币; yuan is '元' or '圆', and closing is '整' or '正'.
 
@@ -531,10 +582,10 @@ def amount_to_chinese(
 def signed_amount_to_chinese(
     fen: SupportsIndex,
     *,
-    script: Union[Script, str] = Script.SIMPLIFIED,
+    script: Union[Script, _ScriptWord] = Script.SIMPLIFIED,
     currency: bool = False,
-    yuan: str = "元",
-    closing: str = "整",
+    yuan: _YuanWord = "元",
+    closing: _ClosingWord = "整",
 ) -> str:
     """Writes an amount like amount_to_chinese, and a negative one, as on a red invoice, with the
     prefix 负. Raises AmountError if the amount is -(10**18) or less, or 10**18 or more.
@@ -636,7 +687,9 @@ def yuan_to_fen(value: Union[Decimal, str, SupportsIndex]) -> int:
     return _fen(_library.read_figures(str(whole)))
 
 
-def date_to_chinese(day: date, *, script: Union[Script, str] = Script.SIMPLIFIED) -> str:
+def date_to_chinese(
+    day: _DateOnly, *, script: Union[Script, _ScriptWord] = Script.SIMPLIFIED
+) -> str:
     """Writes a date in capitals, as on a cheque. Every datetime.date has a text.
 
     >>> date_to_chinese(date(2026, 10, 20))
@@ -648,7 +701,7 @@ def date_to_chinese(day: date, *, script: Union[Script, str] = Script.SIMPLIFIED
     A datetime is refused, since its day depends on the time zone.
     """
     if not isinstance(day, date) or isinstance(day, datetime):
-        raise TypeError(f"expected a date, not {_shown(day)}")
+        raise TypeError(f"expected a date, not {_shown_with_type(day)}")
     code = _code(_SCRIPTS, script, "script")
     status, text = _library.print_date(day.year, day.month, day.day, code)
     if status:
@@ -713,7 +766,7 @@ class Quantity:
         self,
         numerator: SupportsIndex,
         denominator: SupportsIndex = 1,
-        form: Union[QuantityForm, str] = QuantityForm.WHOLE,
+        form: Union[QuantityForm, _FormWord] = QuantityForm.WHOLE,
     ) -> None:
         above, below = _whole(numerator, "a whole number"), _whole(denominator, "a whole number")
         _refuse_not_held(above, Kind.I128)
@@ -732,7 +785,7 @@ class Quantity:
         ('三点一零', '负三分之一')
         >>> Quantity.of(0.5)
         Traceback (most recent call last):
-        TypeError: expected a whole number, a Decimal or a Fraction, not 0.5
+        TypeError: expected a whole number, a Decimal or a Fraction, not 0.5 (float)
 
         Raises NumeralError if the value does not fit in 128 bits, ValueError for NaN and infinities.
         """
@@ -809,9 +862,9 @@ class Quantity:
     def to_chinese(
         self,
         *,
-        method: Union[Way, str] = Way.ANY,
-        script: Union[Script, str] = Script.SIMPLIFIED,
-        case: Union[Case, str] = Case.LOWER,
+        method: _Method = Way.ANY,
+        script: Union[Script, _ScriptWord] = Script.SIMPLIFIED,
+        case: Union[Case, _CaseWord] = Case.LOWER,
     ) -> str:
         """Writes the quantity by a method. to_quantity reads the text as the same numerator and
         denominator; it reads a percentage as a fraction. ANY writes as MIDDLE in simplified script if
@@ -847,7 +900,7 @@ class Quantity:
         return above, above >> 64, below, below >> 64, _FORMS[self.form]
 
 
-def to_quantity(text: str, *, method: Union[Way, str] = Way.ANY) -> Quantity:
+def to_quantity(text: str, *, method: _Method = Way.ANY) -> Quantity:
     """Reads a text as a quantity: a whole number, a decimal, a percentage or a fraction, in figures or
     in numerals. The method is low, ten_thousand, middle, high or any, which means ten_thousand here.
     Raises NumeralError if the text is not a quantity.
@@ -917,7 +970,9 @@ class Found(_Run):
 
     __slots__ = ()
 
-    def number(self, *, kind: Union[Kind, str] = Kind.I128, way: Union[Way, str] = Way.ANY) -> int:
+    def number(
+        self, *, kind: Union[Kind, _KindWord] = Kind.I128, way: Union[Way, _WayWord] = Way.ANY
+    ) -> int:
         """Reads the run as a number: plain digits as such, anything else by the way, where ANY means
         TEN_THOUSAND. Raises NumeralError if it is not a number of this kind; char_index counts
         within the run.
@@ -930,7 +985,7 @@ class Found(_Run):
         return to_number(self.text, kind=kind, way=Way.DIGITS if self.is_plain else units)
 
     def value(
-        self, *, kind: Union[Kind, str] = Kind.I128, way: Union[Way, str] = Way.ANY
+        self, *, kind: Union[Kind, _KindWord] = Kind.I128, way: Union[Way, _WayWord] = Way.ANY
     ) -> Optional[int]:
         """The result of number(), or None if number() raises NumeralError.
 
@@ -974,14 +1029,14 @@ class FoundQuantity(_Doubted):
         stands_alone: bool,
         is_about: bool,
         is_one_character: bool,
-        doubt: Union[Doubt, str, None] = None,
+        doubt: Union[Doubt, _DoubtWord, None] = None,
     ) -> FoundQuantity:
         code = 0 if doubt is None else _code(_DOUBTS, doubt, "doubt")
         flags = is_plain, stands_alone, is_about, is_one_character
         made: FoundQuantity = _library.Run.__new__(cls, start, end, text, *flags, code)
         return made
 
-    def quantity(self, *, method: Union[Way, str] = Way.ANY) -> Quantity:
+    def quantity(self, *, method: _Method = Way.ANY) -> Quantity:
         """Reads the expression with to_quantity. Raises NumeralError if it is not a quantity;
         char_index counts within the expression.
 
@@ -990,7 +1045,7 @@ class FoundQuantity(_Doubted):
         """
         return to_quantity(self.text, method=method)
 
-    def value(self, *, method: Union[Way, str] = Way.ANY) -> Optional[Quantity]:
+    def value(self, *, method: _Method = Way.ANY) -> Optional[Quantity]:
         """The result of quantity(), or None if quantity() raises NumeralError.
 
         >>> [(found.text, found.value() is None) for found in find_quantities('版本1.2.3，五六十')]
@@ -1003,7 +1058,7 @@ class FoundQuantity(_Doubted):
 
 
 def find_numbers(
-    text: str, *, upper: bool = False, greatest: Union[Unit, str] = Unit.ZHAO
+    text: str, *, upper: bool = False, greatest: Union[Unit, _UnitWord] = Unit.ZHAO
 ) -> Iterator[Found]:
     """Finds the numbers of a text, in order: its longest runs of digits and of units up to the greatest
     one, with upper also of the characters that only cheques have. A run ends between an ASCII digit
@@ -1023,7 +1078,7 @@ def find_numbers(
 
 
 def find_quantities(
-    text: str, *, upper: bool = False, greatest: Union[Unit, str] = Unit.ZHAO
+    text: str, *, upper: bool = False, greatest: Union[Unit, _UnitWord] = Unit.ZHAO
 ) -> Iterator[FoundQuantity]:
     """Finds the expressions of a text, in order: numbers with their sign, figures, point and units,
     percentages and fractions. upper and greatest are as in find_numbers.
@@ -1062,8 +1117,8 @@ def replace_quantities(
     new: Callable[[FoundQuantity], Optional[str]],
     *,
     upper: bool = False,
-    greatest: Union[Unit, str] = Unit.ZHAO,
-    method: Union[Way, str] = Way.ANY,
+    greatest: Union[Unit, _UnitWord] = Unit.ZHAO,
+    method: _Method = Way.ANY,
     about: bool = False,
     one_character: bool = False,
     doubtful: bool = False,
@@ -1103,8 +1158,8 @@ def quantities_to_figures(
     text: str,
     *,
     upper: bool = False,
-    greatest: Union[Unit, str] = Unit.ZHAO,
-    method: Union[Way, str] = Way.ANY,
+    greatest: Union[Unit, _UnitWord] = Unit.ZHAO,
+    method: _Method = Way.ANY,
     about: bool = False,
     one_character: bool = False,
     doubtful: bool = False,

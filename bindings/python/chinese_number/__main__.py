@@ -225,7 +225,8 @@ def _number(word: str) -> int:
 
 
 def _number_of(found: Found, **options: Any) -> str:
-    return str(found.number(**{"kind": Kind.U128, **options}))
+    chosen: _Options = {"kind": Kind.U128, **options}
+    return str(found.number(**chosen))
 
 
 def _quantity_of(found: FoundQuantity, **options: Any) -> str:
