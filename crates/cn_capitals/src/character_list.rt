@@ -5,7 +5,7 @@ mod methods;
 // How many characters a list can have.
 const MOST_CHARACTERS: usize = 40;
 
-/// A list of at most 40 characters, in a buffer of its own.
+/// A list of at most 40 characters, in a buffer of its own: `as_slice` returns them.
 #[derive(Clone, Copy)]
 pub struct CharacterList {
     buffer: [char; MOST_CHARACTERS],
