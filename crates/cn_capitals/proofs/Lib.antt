@@ -4,6 +4,7 @@ pub mod Following
 pub mod Lists
 pub mod LookUp
 pub mod OneAnswer
+pub mod OneExpectation
 pub mod Puts
 pub mod Reading
 pub mod ReadingOn

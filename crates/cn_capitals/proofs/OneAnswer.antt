@@ -47,7 +47,7 @@ pub never-incorrect : {A : Type 0} (IsForm : List ℕ → A → Type 0) (front b
 never-incorrect IsForm front behind value h place refused =
     refused.2 (begins-take IsForm front (place + 1) (behind, value, h))
 
-earlier : {A : Type 0} (IsForm : List ℕ → A → Type 0) (text : List ℕ) (place later : ℕ)
+pub earlier : {A : Type 0} (IsForm : List ℕ → A → Type 0) (text : List ℕ) (place later : ℕ)
     → place < later → Begins IsForm (take later text) → ¬ Begins IsForm (take (place + 1) text) → ⊥
 earlier IsForm text place later less h none = none (subst (Begins IsForm)
     (take-take (place + 1) later text (omega (arith, less))) (begins-take IsForm (take later text)

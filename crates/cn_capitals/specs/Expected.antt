@@ -10,20 +10,20 @@ use Rattle.cn_capitals.specs.Machine.{Machine}
 abbrev pub list_of : CharacterList → List ℕ
 list_of characters = take characters.len characters.buffer
 
--- these characters are expected: those of the list, and white space if it is
+-- a character may come next: it is in the list, or it is white space and the flag is set
 abbrev pub is_expected : Expected → ℕ → Bool
 is_expected expected c =
     char_set_contains (list_of expected.characters) c || (expected.white_space && is_whitespace c)
 
--- so many characters of a text begin a form, and one more of them do not
+-- so many characters of a text begin a form; they are all of it, or with one more no form begins
 pub record BeginsUpTo {A : Type 0} (IsForm : List ℕ → A → Type 0) (text : List ℕ) (count : ℕ)
     : Type 0 where
   pub begins : Begins IsForm (take count text)
   pub longest : (count ≡ length text)
       ⊎ ((count < length text) × ¬ Begins IsForm (take (count + 1) text))
 
--- what may come next: after the longest start of the text that begins a form, whether a form may
--- end there, and with which characters a form can go on
+-- what may come next after the longest start of the text that begins a form: whether a form may end
+-- there, and with which characters a form can go on
 pub record IsExpected {A : Type 0} (IsForm : List ℕ → A → Type 0) (text : List ℕ)
     (expected : Expected) : Type 0 where
   pub up_to : BeginsUpTo IsForm text expected.char_index

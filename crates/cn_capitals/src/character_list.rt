@@ -5,7 +5,7 @@ mod methods;
 // How many characters a list can have.
 const MOST_CHARACTERS: usize = 48;
 
-/// A list of at most 48 characters, in a buffer of its own.
+/// A list of at most 48 characters, in a buffer of its own: `as_slice` returns them.
 #[derive(Clone, Copy)]
 pub struct CharacterList {
     buffer: [char; MOST_CHARACTERS],

@@ -7,6 +7,14 @@ use crate::partial::read_on;
 use crate::{CharacterList, Listed};
 
 /// What may come next in a text, after the longest start of it that begins a form.
+///
+/// ```text
+/// let expected = figures_expected("15.005");
+/// expected.char_index == 5                    // 15.00 begins figures, and 15.005 does not
+/// expected.may_end == true                    // 15.00 is whole
+/// expected.characters.as_slice() == ['0', '０']
+/// expected.white_space == false
+/// ```
 #[derive(Clone, Copy)]
 pub struct Expected {
     /// How many characters that start has. It is the whole text if the text begins a form.
@@ -34,7 +42,8 @@ pub fn next_characters<G: Listed>(state: G) -> CharacterList
     next
 }
 
-/// What may come next in a text. No memory is allocated.
+/// What may come next in a text by a grammar, as `Expected` says. The characters are in the order of
+/// those of the grammar. No memory is allocated.
 pub fn expected_next<G: Listed>(text: &str) -> Expected
     requires reads { Reads G.is_form G.machine }
     requires listed { IsListed G.characters G.white_space G.machine }

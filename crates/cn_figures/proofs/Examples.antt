@@ -5,6 +5,7 @@ use Rattle.std.specs.List.{list_all}
 use Rattle.cn_capitals.specs.declared.refusal.Refusal.TheVariants.{Unfinished, Incorrect}
 use Rattle.cn_capitals.specs.Answers.{Answers}
 use Rattle.cn_capitals.specs.Machine.{Leads}
+use Rattle.cn_capitals.specs.declared.expecting.Expected.{Expected}
 use Rattle.cn_capitals.specs.Expected.{IsExpected}
 use Rattle.cn_capitals.specs.Repairs.{IsRepair}
 use Rattle.cn_capitals.specs.declared.hint.Repair.TheVariants.{Replace}
@@ -150,17 +151,20 @@ long_front : Answers WriteAmount (codes "1234,") (Err (Incorrect 4))
 unfolding part_of figure_of
 long_front = incorrect (codes "1234") 44 4 (at Many (Some 123400)) refl refl refl
 
-third_place : Answers WriteAmount (codes "15.005") (Err (Incorrect 5))
+pub third_place : Answers WriteAmount (codes "15.005") (Err (Incorrect 5))
 unfolding part_of figure_of
 third_place = incorrect (codes "15.00") 53 5 (at Fen (Some 1500)) refl refl refl
 
 -- what may come next: after 15.00 more zeros, and nothing else
-zeros_follow : IsExpected WriteAmount (codes "15.005") (record {
+abbrev pub after_fifteen : Expected
+after_fifteen = record {
   char_index = 5;
   may_end = true;
   characters = record { buffer = codes "0０"; len = 2; within = omega arith };
   white_space = false;
-})
+}
+
+pub zeros_follow : IsExpected WriteAmount (codes "15.005") after_fifteen
 unfolding part_of figure_of
 zeros_follow =
     expected-is WriteAmount figures_machine figures-read (take 26 CHARACTERS) false figures-listed
