@@ -117,8 +117,7 @@ export class Table {
   #row = 0; // how many rows have been read, with the header and blank lines
   #line = 0;
   #first = 1; // the line where the row begins
-  #text = ''; // the row as far as it was read, without its last line end
-  #end = ''; // that line end
+  #text = ''; // the row as far as it was read
   #isHeaded;
   #column;
   #name;
@@ -165,15 +164,17 @@ export class Table {
       return line;
     }
     this.#reader.read(text, end);
-    this.#text += this.#end + body;
-    this.#end = end;
+    this.#text += line;
     return this.#reader.isEnd ? this.#answeredRow() : '';
   }
 
+  // The row with one more cell before its line end.
   #answeredRow() {
-    const row = this.#text + this.#nextCell() + this.#end;
-    this.#text = this.#end = '';
-    return row;
+    const row = this.#text;
+    let { length } = row;
+    while (row[length - 1] === '\n' || row[length - 1] === '\r') length--;
+    this.#text = '';
+    return row.slice(0, length) + this.#nextCell() + row.slice(length);
   }
 
   // The cell at the end of a row, with the delimiter before it.

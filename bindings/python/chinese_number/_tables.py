@@ -8,7 +8,7 @@ import re
 import sys
 import time
 from itertools import chain
-from typing import BinaryIO, Callable, Iterator, List, NamedTuple, Optional, Tuple, Union
+from typing import Any, Callable, Iterator, List, NamedTuple, Optional, TextIO, Tuple, Union
 
 from . import AmountError
 
@@ -37,9 +37,9 @@ class Table(NamedTuple):
     name: Optional[str]
 
 
-# A row: its number, the line where it begins, its bytes, its cells, and the reason if they cannot
+# A row: its number, the line where it begins, its text, its cells, and the reason if they cannot
 # be read. A blank line is a row without cells and without a reason.
-_Row = Tuple[int, int, bytes, List[str], str]
+_Row = Tuple[int, int, str, List[str], str]
 
 
 def shown(text: str) -> str:
@@ -51,7 +51,7 @@ def shown(text: str) -> str:
 class _Messages:
     """Messages on standard error, and a count of rows if the user is waiting at a terminal."""
 
-    def __init__(self, output: BinaryIO) -> None:
+    def __init__(self, output: TextIO) -> None:
         self.is_awaited = sys.stderr.isatty() and not output.isatty()
         self._next, self._shown = time.monotonic() + 1, 0
 
@@ -71,11 +71,6 @@ class _Messages:
         print(f"{where}: {why}", file=sys.stderr)
 
 
-def _bytes(text: str) -> bytes:
-    """The bytes of a text that was read with surrogates for bytes that are not UTF-8."""
-    return text.encode("utf-8", "surrogateescape")
-
-
 def _rows(lines: Iterator[str], delimiter: str) -> Iterator[_Row]:
     """The rows of these lines. After a row that is not CSV, the next line begins a row."""
     taken: List[str] = []
@@ -87,7 +82,7 @@ def _rows(lines: Iterator[str], delimiter: str) -> Iterator[_Row]:
             taken.append(text)
             yield text
             # They are removed after the end of the row: if they are still here, the row continues.
-            size = size + len(_bytes(text)) if taken else 0
+            size = size + len(text.encode("utf-8", "surrogateescape")) if taken else 0
             if size > _MOST_OF_ROW:
                 return
 
@@ -98,15 +93,16 @@ def _rows(lines: Iterator[str], delimiter: str) -> Iterator[_Row]:
                 number += 1
                 text = "".join(taken)
                 try:
-                    yield number, line, text.encode(), cells, ""
+                    text.encode()  # refuses the surrogates of bytes that are not UTF-8
+                    yield number, line, text, cells, ""
                 except UnicodeEncodeError:
-                    yield number, line, _bytes(text), [], "the row is not UTF-8"
+                    yield number, line, text, [], "the row is not UTF-8"
                 line += len(taken)
                 taken.clear()
             return
         except csv.Error:
             number += 1
-            yield number, line, _bytes("".join(taken)), [], "the row is not CSV"
+            yield number, line, "".join(taken), [], "the row is not CSV"
             line += len(taken)
             taken.clear()
 
@@ -129,26 +125,22 @@ def _place(table: Table, number: int, cells: List[str], fault: str) -> int:
 
 def _name(table: Table, source: str) -> str:
     """The name of the new column."""
-    if table.name is not None:
-        return table.name
-    return f"{source}_converted" if source else "converted"
+    return table.name or (f"{source}_converted" if source else "converted")
 
 
-def _with_cell(row: bytes, cell: str, delimiter: str) -> bytes:
-    """The unchanged bytes of a row with one more cell at its end."""
+def _with_cell(row: str, cell: str, delimiter: str) -> str:
+    """The unchanged text of a row with one more cell before its line end."""
     if delimiter in cell or '"' in cell or "\n" in cell or "\r" in cell:
         cell = '"' + cell.replace('"', '""') + '"'
-    before = row.rstrip(b"\r\n")
-    if len(row) - len(before) > 1:  # \r\n, or a row that is not CSV with several line ends
-        before = row[: -2 if row.endswith(b"\r\n") else -1]
-    return before + f"{delimiter}{cell}".encode() + row[len(before) :]
+    before = row.rstrip("\r\n")
+    return f"{before}{delimiter}{cell}{row[len(before) :]}"
 
 
-def _without_mark(lines: Iterator[str]) -> Tuple[bytes, Iterator[str]]:
+def _without_mark(lines: Iterator[str]) -> Tuple[str, Iterator[str]]:
     """The mark at the start of these lines, if there is one, and the lines without it."""
     first = next(lines, "")
     mark = _MARK if first.startswith(_MARK) else ""
-    return mark.encode(), chain([first[len(mark) :]], lines)
+    return mark, chain([first[len(mark) :]], lines)
 
 
 def _copy(
@@ -156,37 +148,38 @@ def _copy(
 ) -> Tuple[int, int]:
     """Writes the rows of these lines with their results, and returns how many rows there are and
     how many are refused. Blank lines and the header are not counted."""
-    messages, count, refused, place, width = _Messages(output), 0, 0, 0, 0
-    is_named = isinstance(table.column, str)
+    messages, count, refused = _Messages(output), 0, 0
+    place, width = 0, 0
     mark, lines = _without_mark(lines)
     written = [mark]
     for number, line, row, cells, fault in _rows(lines, table.delimiter):
-        is_header = False
-        if not width and (cells or fault and is_named):
-            place, width = _place(table, number, cells, fault), len(cells)
-            is_header = table.has_header and count == 0
-        if is_header:
-            row = _with_cell(row, _name(table, cells[place]), table.delimiter)
-        elif cells or fault:
-            count += 1
-            cell = ""
-            if not fault and len(cells) != width:
-                fault = f"the row has {len(cells)} cells, and the first has {width}"
-            if not fault:
-                try:
-                    cell = answer(cells[place])
-                except (AmountError, Refused) as error:
-                    fault = f"{shown(cells[place])}: {error}"
-            if fault:
-                refused += 1
-                messages.refuse(number, line, fault)
-            row = _with_cell(row, cell, table.delimiter)
-        written.append(row)
-        if len(written) > _AT_ONCE or messages.is_awaited:
-            output.write(b"".join(written))
+        if len(written) > _AT_ONCE:
+            output.write("".join(written))
             written.clear()
+        if not width and (cells or fault and isinstance(table.column, str)):
+            place, width = _place(table, number, cells, fault), len(cells)
+            if table.has_header and count == 0:
+                written.append(_with_cell(row, _name(table, cells[place]), table.delimiter))
+                continue
+        cell = ""
+        if cells and len(cells) == width:
+            try:
+                cell = answer(cells[place])
+            except (AmountError, Refused) as error:
+                fault = f"{shown(cells[place])}: {error}"
+        elif cells:
+            fault = f"the row has {len(cells)} cells, and the first has {width}"
+        elif not fault:  # a blank line
+            written.append(row)
+            continue
+        count += 1
+        if fault:
+            refused += 1
+            messages.refuse(number, line, fault)
+        written.append(_with_cell(row, cell, table.delimiter))
+        if messages.is_awaited:
             messages.count(count)
-    output.write(b"".join(written))
+    output.write("".join(written))
     messages.wipe()
     return count, refused
 
