@@ -60,8 +60,8 @@ pub fn refusals_name_the_last_place()
 
 /// 零 and the marks after a place are a numeral: after the mark at fault nothing is wrong.
 ///
-/// For form validators: they mark one character, and what follows it in the body need not change.
-/// In 二十十 that is the last 十.
+/// For form validators: they mark one character, and some text before what follows it in the body
+/// makes that a numeral. In 二十十 the last 十 follows.
 pub fn nothing_is_wrong_after_a_place()
     ensures { (marks : List Mark) (place : ℕ)
         → IsPlace marks place → IsNumeral (digit 0 ∷ drop (place + 1) marks) }
