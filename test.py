@@ -25,7 +25,10 @@ separated by tabs. An answer is `ok` and the result of the call, or `err` and th
                                         `currency`, `round_yuan` and `upright_closing`
     read_typed_amount TEXT              the fen of a text as it is typed
     read_signed_amount TEXT             the fen of a text, which may be below zero
+    read_typed_signed_amount TEXT       the same of a text as it is typed
     print_signed_amount SCRIPT FEN      the text of an amount that may be below zero
+    print_signed_amount_as SCRIPT FORM FEN
+                                        the same in a form, of which `bracketed_sign` may be a part
     yuan_to_fen FIGURES                 the fen of figures, as -1,409.50
     read_date TEXT                      the date of a text, as 2026-01-15
     print_date SCRIPT DATE              the text of a date
@@ -46,6 +49,20 @@ separated by tabs. An answer is `ok` and the result of the call, or `err` and th
     replace_quantities FLAGS TEXT       the text with its quantities in simple numerals of the lower
                                         case, by a function that leaves fractions as they are; FLAGS
                                         are of the first three of these
+    expected INPUT TEXT                 how many characters of a text begin an INPUT; `end` if it may
+                                        end there; `space` if white space may come next; and the
+                                        characters that may. `-` is in the place of the flags. INPUT
+                                        is `amount`, `signed_amount`, `typed_amount`,
+                                        `typed_signed_amount`, `date` or `figures`
+    repair INPUT TEXT                   `none`, or a change of a text, `insert`, `replace` or
+                                        `delete`; how many characters come before; and the new one
+    explain KIND WAY TEXT               why a text is not a number, or `none`
+    explain_quantity WAY TEXT           why a text is not a quantity, or `none`
+    input_message LANGUAGE INPUT TEXT   the message on a text, empty if it is right; LANGUAGE is
+                                        `en`, `zh-Hans` or `zh-Hant`
+    number_message LANGUAGE KIND WAY TEXT
+                                        the same for a number
+    quantity_message LANGUAGE WAY TEXT  the same for a quantity
 """
 import json
 import os

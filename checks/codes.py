@@ -5,20 +5,23 @@ Usage: codes.py CN_C BINDINGS
 
 The sources define them in these files:
 
-- `codes.rt`: the code of a way, script, case or form is its index in a table, `ANY` is the way
-  after these, and two functions number the types and the units.
-- `status.rt`, `flags.rt` and `quantity_form.rt`: the statuses, the flags of what is found with the
-  codes of doubts and the options of replacing, and the forms of a quantity.
+- `codes.rt`: the code of a way, script or case is its index in a table, `ANY` is the way after
+  these, and functions number the types, the units, the inputs and the languages.
+- `status.rt`, `flags.rt`, `amount_form.rt` and `quantity_form.rt`: the statuses, the flags of what
+  is found with the codes of doubts and the options of replacing, the flags of the form of an
+  amount, and the forms of a quantity.
+- `explain.rt` and `input.rt`: the faults, and the changes that repair a text.
 
 The header, the Rust crate, the Python file and the Go file must name each of these once, with the
 same number or in this order, and nothing else. The JavaScript file lists them. Only the header
-names the parts of a form, and Go takes the flags, the options and the greatest lengths from the
-header.
+names the parts of a form, Rust has no codes of changes, and Go takes the flags, the options and the
+greatest lengths from the header.
 
 The header must declare each call that the crate exports, and no language any other call. These must
 agree too:
 
-- the greatest length of each kind of text, which a clause in each file of BOUNDS gives;
+- the greatest length of each kind of text, which a clause in each file of BOUNDS gives, and those
+  that constants give;
 - the status of the C source for a text that is too long, and that length;
 - the version, also in the first heading of CHANGELOG and in the packages that the pages of
   `bindings/` install;
@@ -29,21 +32,29 @@ import re
 import sys
 from pathlib import Path
 
-TABLES = ("KINDS", "WAYS", "SCRIPTS", "CASES", "FORMS", "UNITS")
+TABLES = ("KINDS", "WAYS", "SCRIPTS", "CASES", "UNITS", "INPUTS", "LANGUAGES")
 # The source files in which each name has a number.
 NUMBERED = {
+    "FORMS": "src/amount_form.rt",
     "QUANTITY_FORMS": "src/quantity_form.rt",
     "FLAGS": "src/flags.rt",
+    "OPTIONS": "src/flags.rt",
     "STATUSES": "src/status.rt",
 }
-# In the file of the flags: the code of each doubt, and the first code that is an option.
-DOUBT = re.compile(r"Doubt::(\w+)\)? => (\d+)")
+# The source files in which each variant has a code, from 1 on, and how it is written there.
+CODED = {
+    "DOUBTS": ("src/flags.rt", r"Doubt::(\w+)\)? => (\d+)"),
+    "FAULTS": ("src/explain.rt", r"Fault::(\w+) => (\d+)"),
+    "CHANGES": ("src/input.rt", r"Repair::(\w+).* => \((\d+)"),
+}
+# The first code of a flag that is an option.
 FIRST_OPTION = 16
 ANY = re.compile(r"^pub const ANY: u32 = (\d+);", re.MULTILINE)
 TABLE = re.compile(r"^pub static (\w+): \[.*?\] = \[(.*?)\];", re.MULTILINE | re.DOTALL)
 # A function that maps each code to a variant.
 NUMBERING = re.compile(
-    r"^pub fn (\w+)_of\(code: u32\)[^}]*\}\n\{\n    Some\(match code \{\n(.*?)\n    \}\)",
+    r"^pub fn (\w+)_of\(code: u32\)[^{]*(?:\{[^}]*\}\n)?\{\n"
+    r"    Some\(match code \{\n(.*?)\n    \}\)",
     re.MULTILINE | re.DOTALL,
 )
 ARM = re.compile(r"(\d+) => \w+::(\w+),")
@@ -75,6 +86,10 @@ BEGINNINGS = {
         "FLAGS": "/* The flags",
         "DOUBTS": "/* Why a reader may understand",
         "OPTIONS": "/* The options",
+        "INPUTS": "/* What a text is meant to be",
+        "CHANGES": "/* What is changed in a text",
+        "FAULTS": "/* Why a text is not a number",
+        "LANGUAGES": "/* The language of a message",
         "STATUSES": "/* The status",
     },
     RUST: {
@@ -87,6 +102,9 @@ BEGINNINGS = {
         "FLAGS": "pub mod flag ",
         "DOUBTS": "pub enum Doubt ",
         "OPTIONS": "pub mod option ",
+        "INPUTS": "pub enum Input ",
+        "FAULTS": "pub enum Fault ",
+        "LANGUAGES": "pub enum Language ",
         "STATUSES": "pub mod status ",
     },
     PYTHON: {
@@ -99,6 +117,10 @@ BEGINNINGS = {
         "FLAGS": "# The flags of what is found.\n",
         "DOUBTS": "class Doubt(",
         "OPTIONS": "# The options of quantities_to_figures,",
+        "INPUTS": "class Input(",
+        "CHANGES": "class Change(",
+        "FAULTS": "class Fault(",
+        "LANGUAGES": "class Language(",
         "STATUSES": "class Status(",
     },
     # Go takes the flags and the greatest lengths from the header.
@@ -110,11 +132,17 @@ BEGINNINGS = {
         "UNITS": "type Unit ",
         "QUANTITY_FORMS": "type Form ",
         "DOUBTS": "type Doubt ",
+        "INPUTS": "type Input ",
+        "CHANGES": "type Change ",
+        "FAULTS": "type Fault ",
+        "LANGUAGES": "type Language ",
         "STATUSES": "type Status ",
     },
 }
 # The inherited name of a script, which the crates in Rattle and Rust keep.
 INHERITED = {"simple": "simplified"}
+# The languages as JavaScript names them.
+TAGS = {"en": "english", "zh-Hans": "simplified", "zh-Hant": "traditional"}
 # How each language names the status that only the C source returns, and no call of the crate.
 TOO_LONG = {
     HEADER: "#define CN_TOO_LONG UINT32_MAX\n",
@@ -126,7 +154,10 @@ TOO_LONG = {
 SOURCE = "source/chinese_number.c.in"
 OF_LENGTH = (HEADER, RUST, PYTHON, "source/README.md", MORE[RUST], GO, "go/doc.go", "go/README.md")
 EXPORTED = re.compile(r'^pub (?:unsafe )?extern "C" fn (\w+)', re.MULTILINE)
-CALL = r"chinese_(?:number|quantity|quantities|(?:signed_|typed_)?amount|figures|date)_\w+"
+CALL = (
+    r"chinese_(?:number|quantity|quantities|(?:typed_)?(?:signed_)?amount|figures|date|input|status)"
+    r"_\w+"
+)
 CALLED = re.compile(rf"\b({CALL})\(|\blibrary\.({CALL})")
 # The greatest length of each kind of text: its name in each language, and the file whose clauses
 # give it.
@@ -138,6 +169,8 @@ BOUNDS = {
     "MOST_SIGNED_AMOUNT_BYTES": "src/signed_amount.rt",
     "MOST_DATE_BYTES": "src/date.rt",
 }
+# Those that a constant of a file gives; not every language needs them.
+CONSTANT_BOUNDS = {"MOST_EXPECTED": "src/input.rt", "MOST_MESSAGE_BYTES": "src/message.rt"}
 VERSIONS = (
     (HEADER, r'^#define CN_VERSION "(.*)"'),
     ("rust/Cargo.toml", r'^version = "(.*)"'),
@@ -212,17 +245,6 @@ def numbered(names):
     return {name: code for code, name in enumerate(names)}
 
 
-def forms_of(table):
-    """The parts of a form, each with its bit. The table has each sum of them at its index, after
-    the plain form."""
-    forms = [re.findall(r"(\w+): (true|false)", it) for it in re.findall(r"\{([^}]*)\}", table)]
-    names = [name for name, _ in forms[0]]
-    sums = [sum(1 << bit for bit, (_, flag) in enumerate(it) if flag == "true") for it in forms]
-    if sums != list(range(1, 1 << len(names))):
-        sys.exit(f"codes: codes.rt has the forms {sums}")
-    return {"plain": 0, **{name: 1 << bit for bit, name in enumerate(names)}}
-
-
 def of_sources(crate):
     """The tables, by name: each name with its code."""
     text = text_of(crate / "src/codes.rt")
@@ -237,26 +259,29 @@ def of_sources(crate):
         names = re.findall(r"(\w+)\)?\s*(?:,|$)", table.strip())
         found[name] = numbered(map(inherited, names))
     found["WAYS"]["any"] = int(ANY.search(text)[1])
-    found["FORMS"] = forms_of(tables["FORMS"])
     for name, file in NUMBERED.items():
         found[name] = of_table(text_of(crate / file))
-    text = text_of(crate / NUMBERED["FLAGS"])
-    found["DOUBTS"] = {snake(name): int(code) for name, code in DOUBT.findall(text)}
-    found["OPTIONS"] = of_table(text)
+    found["FORMS"]["plain"] = 0
+    for name, (file, pattern) in CODED.items():
+        codes = re.findall(pattern, text_of(crate / file))
+        found[name] = {snake(it): int(code) for it, code in codes}
     return {name: parted(name, table) for name, table in found.items()}
 
 
 def parted(name, table):
-    """The flags without the options, or the options without the flags; the doubts under their own
-    names and numbered from 1, without `no_doubt`."""
+    """The flags without the options, or the options without the flags; other names without that of
+    their table, such as `doubt_`, and what has a code from 1 on without `no_doubt` and so on."""
     if name in ("FLAGS", "OPTIONS"):
         are_options = name == "OPTIONS"
         return {it: code for it, code in table.items() if (code >= FIRST_OPTION) == are_options}
-    if name == "DOUBTS":
-        table = {it.replace("doubt_", ""): code for it, code in table.items() if it != "no_doubt"}
-        first = min(table.values(), default=1)
-        return {it: code - first + 1 for it, code in table.items()}
-    return table
+    one = name[:-1].lower()
+    table = {
+        re.sub(f"^{one}_|_chinese$", "", it): code
+        for it, code in table.items()
+        if it != f"no_{one}"
+    }
+    first = min(table.values(), default=1)
+    return {it: code - first + 1 for it, code in table.items()} if name in CODED else table
 
 
 def inherited(name):
@@ -288,12 +313,11 @@ def of_lists(text):
     """The tables of the JavaScript file: names in the order of their codes or their bits."""
     found = {}
     for name in BEGINNINGS[PYTHON]:
-        listed = re.search(rf"\b{name} =[^\[]*?\[((?:\s*'\w+',?)+)\]", text)[1]
-        found[name] = numbered(map(snake, re.findall(r"\w+", listed)))
+        listed = re.search(rf"\b{name} =[^\[]*?\[((?:\s*'[\w-]+',?)+)\]", text)[1]
+        found[name] = numbered(TAGS.get(it, snake(it)) for it in re.findall(r"[\w-]+", listed))
     found["FLAGS"] = {name: 1 << bit for name, bit in found["FLAGS"].items()}
     found["OPTIONS"] = {name: FIRST_OPTION << bit for name, bit in found["OPTIONS"].items()}
-    found["DOUBTS"] = parted("DOUBTS", found["DOUBTS"])
-    return found
+    return {name: parted(name, table) for name, table in found.items()}
 
 
 def compare_calls(crate, texts):
@@ -320,14 +344,23 @@ def texts_of(path, name, count):
     return found
 
 
+def bounds_of(text, name):
+    return set(re.findall(rf"\b(?:CN)?_?{name}(?:: usize)?(?: =)? (\d+)", text))
+
+
 def compare_bounds(crate, texts):
-    """Checks that each language has the greatest lengths of the crate's clauses."""
+    """Checks that each language has the greatest lengths of the crate's clauses, and the header
+    those of its constants, which the other languages name alike if at all."""
     for name, file in BOUNDS.items():
         bounds = set(re.findall(r"≤ (\d+)", text_of(crate / file)))
         for language, text in texts.items():
-            found = set(re.findall(rf"\b(?:CN)?_?{name}(?:: usize)?(?: =)? (\d+)", text))
+            found = bounds_of(text, name)
             if found != bounds or len(found) != 1:
                 sys.exit(f"codes: {name} of {language} is {found}, and {file} has {bounds}")
+    for name, file in CONSTANT_BOUNDS.items():
+        found = bounds_of("".join([*texts.values(), text_of(crate / file)]), name)
+        if len(found) != 1 or found != bounds_of(texts[HEADER], name):
+            sys.exit(f"codes: {name} is {found}")
 
 
 def compare_length(bindings):

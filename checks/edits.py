@@ -7,8 +7,8 @@ Usage: edits.py CRATES
   edit.
 - Each law with premises has a worked instance that satisfies all of them: a definition of the law's
   name in a file `proofs/*Examples.antt`. A law is a function with an empty body in `src/laws.rt` or
-  `src/laws/`. For laws in `signed.rt` and `typed.rt` the name of the instance begins with the name
-  of the file; for a named clause it ends with the name of the clause.
+  `src/laws/`. For laws in `signed.rt`, `typed.rt` and `typed_signed.rt` the name of the instance
+  begins with the name of the file; for a named clause it ends with the name of the clause.
 """
 import re
 import sys
@@ -37,7 +37,7 @@ def has_premises(kind, statement):
 
 def instances_of(file):
     """The names of the instances that the laws of a file need."""
-    prefix = f"{file.stem}-" if file.stem in ("signed", "typed") else ""
+    prefix = f"{file.stem}-" if file.stem in ("signed", "typed", "typed_signed") else ""
     for law, text in LAW.findall(without_comments(file.read_text(encoding="utf-8"))):
         named = [it for it in CLAUSE.findall(text) if has_premises(it[0], it[2])]
         for name in dict.fromkeys(name for _, name, _ in named):

@@ -2,9 +2,10 @@
  *  arguments are COUNT pseudo-random numbers of each type in each way, ten times as many
  *  quantities, amounts in all forms and in figures, dates and texts, and the limits. The sum covers
  *  what is printed, with each buffer to its last byte, and what is read (also in either way), found
- *  and replaced in texts as printed, typed, changed and cut. All builds of the library must print
- *  the same sum. With -DTHREADS four threads must find it at once. With ROUNDS the program also
- *  prints the time of a call, in the best of this many rounds. */
+ *  and replaced in texts as printed, typed, changed and cut, what may follow these texts, and why
+ *  they are refused. All builds of the library must print the same sum. With -DTHREADS four threads
+ *  must find it at once. With ROUNDS the program also prints the time of a call, in the best of this
+ *  many rounds. */
 #include "chinese_number.h"
 
 #include <stdio.h>
@@ -28,6 +29,7 @@ static const char *const MARKS[] = {
     "零", "一", "二", "两", "十", "百", "千", "萬", "億", "兆", "極", "個", "負", "壹", "贰", "玖",
     "拾", "佰", "仟", "万", "亿", "元", "圆", "角", "分", "整", "正", "人民币", "年", "月", "日", "第",
     "，", "5", "０", "-", "−", "¥", ".", ",", "%", "点", "之", "廿", "⊗", "：", "x", " ", "\t",
+    "（负数）", "(負數)", "ⓧ", "（大写）", "块", "〇", "。",
     "\xe4\xb8", "\xf0\x9f\x98\x80", "\xc3\xa9", "\xff",
 };
 enum { COUNT_OF_MARKS = sizeof MARKS / sizeof *MARKS };
@@ -174,11 +176,71 @@ static void add_signed(run *r, uint32_t status, const cn_signed_amount *amount) 
 
 static void try_read_amounts(run *r, const text *t) {
     cn_amount amount = {1, 2, 3}, typed = {4, 5, 6};
-    cn_signed_amount with_sign = {1, 2, 3}, figures = {4, 5, 6};
+    cn_signed_amount with_sign = {1, 2, 3}, typed_sign = {4, 5, 6}, figures = {4, 5, 6};
     add_amount(r, chinese_amount_read(t->bytes, t->length, &amount), &amount);
     add_amount(r, chinese_typed_amount_read(t->bytes, t->length, &typed), &typed);
     add_signed(r, chinese_signed_amount_read(t->bytes, t->length, &with_sign), &with_sign);
+    add_signed(r, chinese_typed_signed_amount_read(t->bytes, t->length, &typed_sign), &typed_sign);
     add_signed(r, chinese_figures_read(t->bytes, t->length, &figures), &figures);
+}
+
+static void try_expected(run *r, const text *t, uint32_t input) {
+    cn_expected next = {1, 2, 3, 4, 5, {6}};
+    add_word(r, chinese_input_expected(t->bytes, t->length, input, &next));
+    add_word(r, next.char_index);
+    add_word(r, next.byte_index);
+    add_word(r, next.may_end);
+    add_word(r, next.white_space);
+    add_word(r, next.count);
+    for (int i = 0; i < CN_MOST_EXPECTED; i++)
+        add_word(r, next.characters[i]);
+}
+
+static void try_repair(run *r, const text *t, uint32_t input) {
+    cn_repair repair = {1, 2, 3, 4};
+    add_word(r, chinese_input_repair(t->bytes, t->length, input, &repair));
+    add_word(r, repair.char_index);
+    add_word(r, repair.byte_index);
+    add_word(r, repair.change);
+    add_word(r, repair.character);
+}
+
+/* A message, with the whole buffer. */
+static void add_message(run *r, uint32_t status, const uint8_t *room, size_t length) {
+    add_word(r, status);
+    add_word(r, length);
+    add(r, room, CN_MOST_MESSAGE_BYTES);
+}
+
+/* The length of a buffer for a message, which is usually large enough. */
+static size_t room_of(run *r) {
+    return below(r, 8) == 0 ? below(r, 64) : CN_MOST_MESSAGE_BYTES;
+}
+
+/* What may follow a text that somebody types, and why it is refused. */
+static void try_input(run *r, const text *t) {
+    uint8_t message[CN_MOST_MESSAGE_BYTES] = {0};
+    uint32_t input = code(r, CN_FIGURES + 1), language = code(r, CN_TRADITIONAL_CHINESE + 1), status;
+    size_t room = room_of(r), length = 9;
+    try_expected(r, t, input);
+    try_repair(r, t, input);
+    status = chinese_input_message(t->bytes, t->length, input, language, message, room, &length);
+    add_message(r, status, message, length);
+}
+
+/* Why a text is no number and no quantity. */
+static void try_explain(run *r, const text *t, uint32_t kind, uint32_t way) {
+    uint8_t message[CN_MOST_MESSAGE_BYTES] = {0};
+    uint32_t language = code(r, CN_TRADITIONAL_CHINESE + 1), fault = 9, status;
+    size_t room = room_of(r), length = 9;
+    add_word(r, chinese_number_explain(t->bytes, t->length, kind, way, &fault));
+    add_word(r, fault);
+    status = chinese_number_message(t->bytes, t->length, kind, way, language, message, room, &length);
+    add_message(r, status, message, length);
+    add_word(r, chinese_quantity_explain(t->bytes, t->length, way, &fault));
+    add_word(r, fault);
+    status = chinese_quantity_message(t->bytes, t->length, way, language, message, room, &length);
+    add_message(r, status, message, length);
 }
 
 static void try_read_capitals(run *r, const text *t) {
@@ -190,6 +252,7 @@ static void try_read_capitals(run *r, const text *t) {
     add_word(r, date.day);
     add_word(r, date.char_index);
     add_word(r, date.byte_index);
+    try_input(r, t);
 }
 
 static void try_read_and_find(run *r, const text *t) {
@@ -197,6 +260,7 @@ static void try_read_and_find(run *r, const text *t) {
     uint32_t way = code(r, CN_ANY + 1);
     try_read(r, t, kind, way);
     try_read_quantity(r, t, way);
+    try_explain(r, t, kind, way);
     try_find(r, t, chinese_number_find, chinese_number_find_utf8);
     try_find(r, t, chinese_quantity_find, chinese_quantity_find_utf8);
     try_replace(r, t);
@@ -293,7 +357,7 @@ static void type(run *r, text *t) {
 static void try_amount(run *r, uint64_t fen) {
     text t;
     size_t length = 1, room = begin(r, &t, CN_MOST_AMOUNT_BYTES);
-    uint32_t script = code(r, 2), form = code(r, 8);
+    uint32_t script = code(r, 2), form = code(r, 16);
     uint32_t status = chinese_amount_print(fen, script, form, t.bytes, room, &length);
     add_printed(r, status, length, &t);
     try_read_amounts(r, &t);
@@ -322,9 +386,10 @@ static void write_figures(run *r, int64_t fen, text *t) {
 static void try_signed_amount(run *r, int64_t fen) {
     text t;
     size_t length = 1, room = begin(r, &t, CN_MOST_SIGNED_AMOUNT_BYTES);
-    uint32_t script = code(r, 2), form = code(r, 8);
+    uint32_t script = code(r, 2), form = code(r, 16);
     uint32_t status = chinese_signed_amount_print(fen, script, form, t.bytes, room, &length);
     add_printed(r, status, length, &t);
+    type(r, &t);
     try_capitals(r, &t);
     write_figures(r, fen, &t);
     try_capitals(r, &t);
@@ -351,6 +416,16 @@ static void try_text(run *r, uint32_t marks) {
     try_read_capitals(r, &t);
 }
 
+static void try_statuses(run *r) {
+    uint8_t message[CN_MOST_MESSAGE_BYTES] = {0};
+    for (uint32_t status = 0; status <= CN_NOT_A_QUANTITY + 1; status++)
+        for (uint32_t language = 0; language <= CN_TRADITIONAL_CHINESE + 1; language++) {
+            size_t length = 9;
+            uint32_t found = chinese_status_message(status, language, message, sizeof message, &length);
+            add_message(r, found, message, length);
+        }
+}
+
 static void try_ends(run *r) {
     static const cn_number ENDS[] = {
         {0, 0}, {1, 0}, {UINT64_MAX, 0}, {0, 1}, {UINT64_MAX, UINT64_MAX}, {0, (uint64_t)1 << 63},
@@ -369,6 +444,7 @@ static void try_ends(run *r) {
     for (uint32_t day = 0; day <= 32; day++)
         try_date(r, 1900 + 100 * (day % 2), 2, day);
     try_text(r, 0);
+    try_statuses(r);
     add_word(r, chinese_number_version());
 }
 

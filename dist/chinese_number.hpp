@@ -1,13 +1,15 @@
 /* Chinese numerals for C++17 and later: writes numbers, exact quantities, amounts of money and
- * dates as std::string, and reads and finds them in a std::string_view. chinese_number.h, which
- * this file wraps, documents the choices, the statuses and what to link. Texts are UTF-8. The only
- * exceptions are those of std::string when memory runs out, and those of the caller's functions.
+ * dates as std::string, and reads and finds them in a std::string_view. It says what may follow a
+ * text, and why a text is refused. chinese_number.h, which this file wraps, documents the choices,
+ * the statuses and what to link. Texts are UTF-8. The only exceptions are that of Result::value,
+ * those of the standard library when memory runs out, and those of the caller's functions.
  *
  *     auto number = chinese_number::to_number<int>("一百二");
  *     if (number)
  *         use(*number); // 120
  *     else
  *         report(number.error().message());
+ *     std::string text = chinese_number::to_chinese(120).value(); // 一百二十
  */
 #ifndef CHINESE_NUMBER_HPP
 #define CHINESE_NUMBER_HPP
@@ -16,13 +18,16 @@
 
 #include <cstddef>
 #include <cstdint>
+#include <cstdlib>
 #include <iterator>
 #include <optional>
+#include <stdexcept>
 #include <string>
 #include <string_view>
 #include <type_traits>
 #include <utility>
 #include <variant>
+#include <vector>
 
 namespace chinese_number {
 
@@ -52,6 +57,29 @@ enum class Doubt : std::uint32_t {
     time = CN_DOUBT_TIME, range = CN_DOUBT_RANGE
 };
 
+/* What a text is meant to be, for the calls that say what may follow it and why it is refused. */
+enum class Input : std::uint32_t {
+    amount = CN_AMOUNT, signed_amount = CN_SIGNED_AMOUNT, typed_amount = CN_TYPED_AMOUNT,
+    typed_signed_amount = CN_TYPED_SIGNED_AMOUNT, date = CN_DATE, figures = CN_FIGURES
+};
+
+/* What is changed in a text to repair it; `erase` deletes a character. */
+enum class Change : std::uint32_t { insert = CN_INSERT, replace = CN_REPLACE, erase = CN_DELETE };
+
+/* Why a text is not a number or a quantity. cn_fault has examples. */
+enum class Fault : std::uint32_t {
+    empty = CN_FAULT_EMPTY, too_large = CN_FAULT_TOO_LARGE, too_small = CN_FAULT_TOO_SMALL, start = CN_FAULT_START,
+    character = CN_FAULT_CHARACTER, digits = CN_FAULT_DIGITS, units = CN_FAULT_UNITS, ge = CN_FAULT_GE,
+    groups = CN_FAULT_GROUPS, bare_ten = CN_FAULT_BARE_TEN, repeated_ten = CN_FAULT_REPEATED_TEN,
+    after_zero = CN_FAULT_AFTER_ZERO, weight = CN_FAULT_WEIGHT, two_readings = CN_FAULT_TWO_READINGS,
+    left_out_zero = CN_FAULT_LEFT_OUT_ZERO, denominator = CN_FAULT_DENOMINATOR
+};
+
+/* The language of a message. */
+enum class Language : std::uint32_t {
+    english = CN_ENGLISH, simplified_chinese = CN_SIMPLIFIED_CHINESE, traditional_chinese = CN_TRADITIONAL_CHINESE
+};
+
 enum class Status : std::uint32_t {
     done = CN_DONE, empty = CN_EMPTY, incorrect = CN_INCORRECT, too_large = CN_TOO_LARGE, too_small = CN_TOO_SMALL,
     not_utf8 = CN_NOT_UTF8, no_room = CN_NO_ROOM, not_held = CN_NOT_HELD, unknown = CN_UNKNOWN,
@@ -66,11 +94,13 @@ struct Style {
     Case letter_case = Case::lower;
 };
 
-/* How an amount is printed: with the prefix 人民币, with 圆 instead of 元, with 正 instead of 整. */
+/* How an amount is printed: with the prefix 人民币, with 圆 instead of 元, with 正 instead of 整, and a
+ * negative one with （负数） instead of 负. */
 struct AmountForm {
     bool currency = false;
     bool round_yuan = false;
     bool upright_closing = false;
+    bool bracketed_sign = false;
 };
 
 /* A day of the Gregorian calendar; month 1 is January. */
@@ -109,6 +139,7 @@ struct Error {
     const char *subject; /* what was read or printed */
     std::size_t char_index;
     std::size_t byte_index;
+    const char *advice = ""; /* the end of the message: which call to use instead */
 
     std::string message() const {
         const std::string the_subject = std::string("the ") + subject;
@@ -116,12 +147,49 @@ struct Error {
             return the_subject + " is incorrect (position: " + std::to_string(char_index) + ")";
         if (status == Status::unfinished)
             return the_subject + " is not finished";
-        return cn_status_text(static_cast<std::uint32_t>(status));
+        return std::string(cn_status_text(static_cast<std::uint32_t>(status))) + advice;
     }
 };
 
-/* A value, or the error why there is none. Accessing a missing value, or the error of a result that
- * has a value, is undefined behaviour, as with std::optional. */
+#ifdef __clang__
+#pragma clang diagnostic push
+#pragma clang diagnostic ignored "-Wweak-vtables" /* a header cannot avoid them */
+#endif
+
+/* What Result::value throws if there is no value. what() is the error's message. */
+class BadResultAccess : public std::runtime_error {
+public:
+    explicit BadResultAccess(const Error &error) : std::runtime_error(error.message()), held(error) {}
+
+    const Error &error() const noexcept { return held; }
+
+private:
+    Error held;
+};
+
+#ifdef __clang__
+#pragma clang diagnostic pop
+#endif
+
+namespace detail {
+
+[[noreturn]] inline void throw_or_abort([[maybe_unused]] const Error &error) {
+#if defined(__cpp_exceptions) || defined(_CPPUNWIND)
+    throw BadResultAccess(error);
+#else
+    std::abort();
+#endif
+}
+
+} // namespace detail
+
+/* A value, or the error why there is none. If there is no value, value() throws a BadResultAccess;
+ * in a program without exceptions (-fno-exceptions) it aborts, as std::expected of libstdc++ does.
+ * Accessing a missing value with * or ->, or the error of a result that has a value, is undefined
+ * behaviour.
+ *
+ * Of a temporary result, such as that of a call, * and the methods move the value and return it
+ * itself, not a reference: `const auto &text = *to_chinese(120)` is valid. */
 template <typename Value>
 class [[nodiscard]] Result {
 public:
@@ -130,10 +198,32 @@ public:
 
     bool has_value() const noexcept { return held.index() == 0; }
     explicit operator bool() const noexcept { return has_value(); }
-    const Value &operator*() const noexcept { return *std::get_if<0>(&held); }
+
+    const Value &operator*() const & noexcept { return *std::get_if<0>(&held); }
+    Value operator*() && noexcept(std::is_nothrow_move_constructible_v<Value>) {
+        return std::move(*std::get_if<0>(&held));
+    }
     const Value *operator->() const noexcept { return std::get_if<0>(&held); }
-    Value value_or(Value other) const { return has_value() ? **this : std::move(other); }
-    std::optional<Value> optional() const { return has_value() ? std::optional<Value>(**this) : std::nullopt; }
+
+    const Value &value() const & {
+        if (!has_value())
+            detail::throw_or_abort(error());
+        return **this;
+    }
+    Value value() && {
+        if (!has_value())
+            detail::throw_or_abort(error());
+        return *std::move(*this);
+    }
+
+    Value value_or(Value other) const & { return has_value() ? **this : std::move(other); }
+    Value value_or(Value other) && { return has_value() ? *std::move(*this) : std::move(other); }
+
+    std::optional<Value> optional() const & { return has_value() ? std::optional<Value>(**this) : std::nullopt; }
+    std::optional<Value> optional() && {
+        return has_value() ? std::optional<Value>(*std::move(*this)) : std::nullopt;
+    }
+
     const Error &error() const noexcept { return *std::get_if<1>(&held); }
 
 private:
@@ -194,7 +284,8 @@ T of_halves(cn_number number) {
 
 constexpr cn_form flags_of(AmountForm form) {
     return (form.currency ? CN_CURRENCY : CN_PLAIN) | (form.round_yuan ? CN_ROUND_YUAN : CN_PLAIN)
-         | (form.upright_closing ? CN_UPRIGHT_CLOSING : CN_PLAIN);
+         | (form.upright_closing ? CN_UPRIGHT_CLOSING : CN_PLAIN)
+         | (form.bracketed_sign ? CN_BRACKETED_SIGN : CN_PLAIN);
 }
 
 constexpr std::uint32_t options_of(Included included, Figures figures) {
@@ -240,8 +331,39 @@ template <typename Value>
 Result<Value> result_of(cn_status status, Value value, const char *subject, std::size_t char_index = 0,
                    std::size_t byte_index = 0) {
     if (status == CN_DONE)
-        return value;
+        return Result<Value>(std::move(value));
     return Error{static_cast<Status>(status), subject, char_index, byte_index};
+}
+
+/* The text that a call prints into a buffer of char, of at most this many bytes. */
+template <std::size_t most, typename Print, typename... Arguments>
+Result<std::string> printed(const char *subject, Print print, Arguments... arguments) {
+    char room[most + 1];
+    const cn_status status = print(arguments..., room, sizeof room);
+    return result_of(status, std::string(room), subject);
+}
+
+/* The fen that a call reads in a text. */
+template <typename Reading>
+auto fen_of(std::string_view text, cn_status (*read)(const char *, std::size_t, Reading *)) {
+    Reading reading;
+    const cn_status status = read(text.data(), text.size(), &reading);
+    return result_of(status, reading.fen, "amount", reading.char_index, reading.byte_index);
+}
+
+/* A character in UTF-8. Each byte but the first has six of its bits. */
+inline std::string utf8_of(std::uint32_t character) {
+    if (character < 0x80)
+        return std::string(1, static_cast<char>(character));
+    std::string done;
+    std::uint32_t most_of_first = 0x3F;
+    do {
+        done.insert(done.begin(), static_cast<char>(0x80 | (character & 0x3F)));
+        character >>= 6;
+        most_of_first >>= 1;
+    } while (character > most_of_first);
+    done.insert(done.begin(), static_cast<char>(~most_of_first << 1 | character));
+    return done;
 }
 
 template <typename T>
@@ -344,26 +466,20 @@ inline Quantity Quantity::trimmed() const {
 
 inline Result<std::string> Quantity::to_chinese(Style style) const {
     const cn_quantity quantity = in_c();
-    char room[CN_MOST_QUANTITY_BYTES + 1];
-    const cn_status status =
-        cn_print_quantity(&quantity, static_cast<cn_way>(style.way), static_cast<cn_script>(style.script),
-                          static_cast<cn_case>(style.letter_case), room, sizeof room);
-    return detail::result_of(status, std::string(room), "quantity");
+    return detail::printed<CN_MOST_QUANTITY_BYTES>(
+        "quantity", cn_print_quantity, &quantity, static_cast<cn_way>(style.way), static_cast<cn_script>(style.script),
+        static_cast<cn_case>(style.letter_case));
 }
 
 inline std::string Quantity::to_figures() const {
     const cn_quantity quantity = in_c();
-    char room[CN_MOST_FIGURES_BYTES + 1];
-    return cn_quantity_figures(&quantity, room, sizeof room) == CN_DONE ? room : "";
+    return detail::printed<CN_MOST_FIGURES_BYTES>("quantity", cn_quantity_figures, &quantity).value_or("");
 }
 
 /* Writes a number in halves. Way::low refuses 10^16 and more. */
 inline Result<std::string> to_chinese(cn_number number, cn_kind kind, Style style = {}) {
-    char room[CN_MOST_BYTES + 1];
-    const cn_status status =
-        cn_print(number, kind, static_cast<cn_way>(style.way), static_cast<cn_script>(style.script),
-                 static_cast<cn_case>(style.letter_case), room, sizeof room);
-    return detail::result_of(status, std::string(room), "chinese number");
+    return detail::printed<CN_MOST_BYTES>("chinese number", cn_print, number, kind, static_cast<cn_way>(style.way),
+                                          static_cast<cn_script>(style.script), static_cast<cn_case>(style.letter_case));
 }
 
 /* Writes a number: to_chinese(120). */
@@ -376,63 +492,57 @@ Result<std::string> to_chinese(T number, Style style = {}) {
  * negative amounts, and 10^18 and more. */
 template <typename T>
 Result<std::string> amount_to_chinese(T fen, AmountForm form = {}, Script script = Script::simplified) {
+    if (detail::is_below_zero(fen))
+        return Error{Status::too_small, "amount", 0, 0, ": signed_amount_to_chinese writes amounts below zero"};
     const Result<std::uint64_t> held = detail::held_as<std::uint64_t>(fen);
     if (!held)
         return held.error();
-    char room[CN_MOST_AMOUNT_BYTES + 1];
-    const cn_status status =
-        cn_print_amount(*held, static_cast<cn_script>(script), detail::flags_of(form), room, sizeof room);
-    return detail::result_of(status, std::string(room), "amount");
+    return detail::printed<CN_MOST_AMOUNT_BYTES>("amount", cn_print_amount, *held, static_cast<cn_script>(script),
+                                                 detail::flags_of(form));
 }
 
-/* Writes an amount likewise, and a negative one, as on a red invoice, with the prefix 负. Refuses
- * -10^18 and less, 10^18 and more. */
+/* Writes an amount likewise, and a negative one, as on a red invoice, with the prefix 负, or （负数） in
+ * the form with bracketed_sign. Refuses -10^18 and less, 10^18 and more. */
 template <typename T>
 Result<std::string> signed_amount_to_chinese(T fen, AmountForm form = {}, Script script = Script::simplified) {
     const Result<std::int64_t> held = detail::held_as<std::int64_t>(fen);
     if (!held)
         return held.error();
-    char room[CN_MOST_SIGNED_AMOUNT_BYTES + 1];
-    const cn_status status =
-        cn_print_signed_amount(*held, static_cast<cn_script>(script), detail::flags_of(form), room, sizeof room);
-    return detail::result_of(status, std::string(room), "amount");
+    return detail::printed<CN_MOST_SIGNED_AMOUNT_BYTES>("amount", cn_print_signed_amount, *held,
+                                                        static_cast<cn_script>(script), detail::flags_of(form));
 }
 
 /* Reads a text in capitals as fen. */
 inline Result<std::uint64_t> chinese_to_amount(std::string_view text) {
-    cn_amount read;
-    const cn_status status = cn_read_amount(text.data(), text.size(), &read);
-    return detail::result_of(status, read.fen, "amount", read.char_index, read.byte_index);
+    return detail::fen_of(text, cn_read_amount);
 }
 
 /* Reads a text in capitals as it is typed as fen: ignores white space, a leading ⊗, and a colon
- * after 人民币. */
+ * after 人民币. chinese_number.h has the full rules. */
 inline Result<std::uint64_t> chinese_to_amount_as_typed(std::string_view text) {
-    cn_amount read;
-    const cn_status status = cn_read_typed_amount(text.data(), text.size(), &read);
-    return detail::result_of(status, read.fen, "amount", read.char_index, read.byte_index);
+    return detail::fen_of(text, cn_read_typed_amount);
 }
 
 /* Reads a text in capitals, with or without the prefix 负, as fen. */
 inline Result<std::int64_t> chinese_to_signed_amount(std::string_view text) {
-    cn_signed_amount read;
-    const cn_status status = cn_read_signed_amount(text.data(), text.size(), &read);
-    return detail::result_of(status, read.fen, "amount", read.char_index, read.byte_index);
+    return detail::fen_of(text, cn_read_signed_amount);
+}
+
+/* Reads a text in capitals as it is typed, or copied from a red invoice, as fen, likewise:
+ * chinese_to_signed_amount_as_typed("人民币（大写）：（负数）壹拾伍元整"). */
+inline Result<std::int64_t> chinese_to_signed_amount_as_typed(std::string_view text) {
+    return detail::fen_of(text, cn_read_typed_signed_amount);
 }
 
 /* Converts figures in yuan to fen, exactly: yuan_to_fen("-1,409.50"). */
 inline Result<std::int64_t> yuan_to_fen(std::string_view figures) {
-    cn_signed_amount read;
-    const cn_status status = cn_read_figures(figures.data(), figures.size(), &read);
-    return detail::result_of(status, read.fen, "amount", read.char_index, read.byte_index);
+    return detail::fen_of(figures, cn_read_figures);
 }
 
 /* Writes a date, from year 1 to 9999, in capitals. */
 inline Result<std::string> date_to_chinese(Date date, Script script = Script::simplified) {
-    char room[CN_MOST_DATE_BYTES + 1];
-    const cn_status status =
-        cn_print_date(date.year, date.month, date.day, static_cast<cn_script>(script), room, sizeof room);
-    return detail::result_of(status, std::string(room), "date");
+    return detail::printed<CN_MOST_DATE_BYTES>("date", cn_print_date, date.year, date.month, date.day,
+                                               static_cast<cn_script>(script));
 }
 
 /* Reads a text in capitals as a date. */
@@ -440,6 +550,107 @@ inline Result<Date> chinese_to_date(std::string_view text) {
     cn_date read;
     const cn_status status = cn_read_date(text.data(), text.size(), &read);
     return detail::result_of(status, Date{read.year, read.month, read.day}, "date", read.char_index, read.byte_index);
+}
+
+/* What may come next in a text after its longest part, from the start, that begins such an input. */
+struct Expected {
+    std::size_t char_index; /* the length of this part, in characters and in bytes */
+    std::size_t byte_index;
+    bool may_end;     /* this part is complete */
+    bool white_space; /* white space may come next, too */
+    std::vector<std::string> characters;
+};
+
+/* One change of a text. At Change::insert and Change::replace it has the new character, in UTF-8. */
+struct Repair {
+    Change change;
+    std::size_t char_index;
+    std::size_t byte_index;
+    std::string character;
+};
+
+/* Says what may come next in a text, for example to list keys: after 壹佰贰 of an amount, 拾. The error
+ * is Status::not_utf8 if the bytes are not UTF-8. */
+inline Result<Expected> input_expected(std::string_view text, Input input) {
+    cn_expected next;
+    const cn_status status = cn_input_expected(text.data(), text.size(), static_cast<cn_input>(input), &next);
+    Expected expected = {next.char_index, next.byte_index, next.may_end != 0, next.white_space != 0, {}};
+    for (std::uint32_t i = 0; i < next.count; i++)
+        expected.characters.push_back(detail::utf8_of(next.characters[i]));
+    return detail::result_of(status, std::move(expected), "text");
+}
+
+/* Finds one change after which a text that is refused goes on past its wrong character: in 壹佰贰元整, the
+ * insertion of 零 at 2. Only a person can say that it is what was meant. There is none if the text is
+ * right, if no change is found, or if the bytes are not UTF-8. */
+inline std::optional<Repair> input_repair(std::string_view text, Input input) {
+    cn_repair found;
+    const cn_status status = cn_input_repair(text.data(), text.size(), static_cast<cn_input>(input), &found);
+    if (status != CN_DONE || found.change == CN_NO_CHANGE)
+        return std::nullopt;
+    return Repair{static_cast<Change>(found.change), found.char_index, found.byte_index,
+                  found.change == CN_DELETE ? "" : detail::utf8_of(found.character)};
+}
+
+namespace detail {
+
+inline std::optional<Fault> fault_of(cn_fault fault) {
+    return fault == CN_NO_FAULT ? std::nullopt : std::optional<Fault>(static_cast<Fault>(fault));
+}
+
+} // namespace detail
+
+/* Says why to_number refuses a text for a type with a code. There is no fault if the text is a
+ * number, or if the bytes are not UTF-8. */
+inline std::optional<Fault> explain_number(std::string_view text, cn_kind kind, Way way = Way::any) {
+    return detail::fault_of(cn_explain(text.data(), text.size(), kind, static_cast<cn_way>(way)));
+}
+
+/* Says why to_number<T> refuses a text: explain_number<int>("百五") is Fault::start. */
+template <typename T>
+std::optional<Fault> explain_number(std::string_view text, Way way = Way::any) {
+    return explain_number(text, detail::kind_of<T>(), way);
+}
+
+/* Says why chinese_to_quantity refuses a text, likewise. */
+inline std::optional<Fault> explain_quantity(std::string_view text, Way method = Way::any) {
+    return detail::fault_of(cn_explain_quantity(text.data(), text.size(), static_cast<cn_way>(method)));
+}
+
+/* Writes a message for the person who typed a text: why it is not such an input, with the wrong
+ * character, its position counted from 1, and the repair, if there is one. The message is empty if
+ * the text is right. The error is Status::not_utf8 if the bytes are not UTF-8.
+ *
+ *     input_message("壹佰贰元整", Input::amount, Language::simplified_chinese); // 第3个字“贰”前缺“零”。 */
+inline Result<std::string> input_message(std::string_view text, Input input, Language language) {
+    return detail::printed<CN_MOST_MESSAGE_BYTES>("text", cn_input_message, text.data(), text.size(),
+                                                  static_cast<cn_input>(input), static_cast<cn_language>(language));
+}
+
+/* Writes a message on a text that to_number refuses for a type with a code, likewise. */
+inline Result<std::string> number_message(std::string_view text, cn_kind kind, Language language, Way way = Way::any) {
+    return detail::printed<CN_MOST_MESSAGE_BYTES>("text", cn_number_message, text.data(), text.size(), kind,
+                                                  static_cast<cn_way>(way), static_cast<cn_language>(language));
+}
+
+/* Writes a message on a text that to_number<T> refuses: number_message<int>("百五", language). */
+template <typename T>
+Result<std::string> number_message(std::string_view text, Language language, Way way = Way::any) {
+    return number_message(text, detail::kind_of<T>(), language, way);
+}
+
+/* Writes a message on a text that chinese_to_quantity refuses, likewise. */
+inline Result<std::string> quantity_message(std::string_view text, Language language, Way method = Way::any) {
+    return detail::printed<CN_MOST_MESSAGE_BYTES>("text", cn_quantity_message, text.data(), text.size(),
+                                                  static_cast<cn_way>(method), static_cast<cn_language>(language));
+}
+
+/* Writes what a status means, for example to a person whose number is too large to be printed. It is
+ * empty for Status::done. */
+inline std::string status_message(Status status, Language language) {
+    return detail::printed<CN_MOST_MESSAGE_BYTES>("status", cn_status_message, static_cast<cn_status>(status),
+                                                  static_cast<cn_language>(language))
+        .value_or("");
 }
 
 /* A number or an expression that was found in a text, its place there, in bytes, and its flags and

@@ -13,6 +13,8 @@ struct cn_quantity;
 struct cn_amount;
 struct cn_signed_amount;
 struct cn_date;
+struct cn_expected;
+struct cn_repair;
 
 #define NO_NULL __attribute__((nonnull)) uint32_t
 NO_NULL chinese_number_read(const uint8_t *, size_t, uint32_t, uint32_t, struct cn_reading *);
@@ -31,9 +33,18 @@ NO_NULL chinese_amount_read(const uint8_t *, size_t, struct cn_amount *);
 NO_NULL chinese_typed_amount_read(const uint8_t *, size_t, struct cn_amount *);
 NO_NULL chinese_signed_amount_print(int64_t, uint32_t, uint32_t, uint8_t *, size_t, size_t *);
 NO_NULL chinese_signed_amount_read(const uint8_t *, size_t, struct cn_signed_amount *);
+NO_NULL chinese_typed_signed_amount_read(const uint8_t *, size_t, struct cn_signed_amount *);
 NO_NULL chinese_figures_read(const uint8_t *, size_t, struct cn_signed_amount *);
 NO_NULL chinese_date_print(uint32_t, uint32_t, uint32_t, uint32_t, uint8_t *, size_t, size_t *);
 NO_NULL chinese_date_read(const uint8_t *, size_t, struct cn_date *);
+NO_NULL chinese_input_expected(const uint8_t *, size_t, uint32_t, struct cn_expected *);
+NO_NULL chinese_input_repair(const uint8_t *, size_t, uint32_t, struct cn_repair *);
+NO_NULL chinese_number_explain(const uint8_t *, size_t, uint32_t, uint32_t, uint32_t *);
+NO_NULL chinese_quantity_explain(const uint8_t *, size_t, uint32_t, uint32_t *);
+NO_NULL chinese_input_message(const uint8_t *, size_t, uint32_t, uint32_t, uint8_t *, size_t, size_t *);
+NO_NULL chinese_number_message(const uint8_t *, size_t, uint32_t, uint32_t, uint32_t, uint8_t *, size_t, size_t *);
+NO_NULL chinese_quantity_message(const uint8_t *, size_t, uint32_t, uint32_t, uint8_t *, size_t, size_t *);
+NO_NULL chinese_status_message(uint32_t, uint32_t, uint8_t *, size_t, size_t *);
 
 #ifdef __cplusplus
 }

@@ -56,6 +56,10 @@ OF_LIBRARIES = (
     "doubts",
     "written",
     "replaced",
+    "expected",
+    "repairs",
+    "faults",
+    "messages",
 )
 # The number of words in a line of `numeral`; the last word may have spaces in it.
 WORDS = {"read": 4, "print": 6}

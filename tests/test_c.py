@@ -5,12 +5,16 @@ and the examples of the C++ header.
 each from 0 on as an amount in each form, in four threads. `each_fen.c` does so for 210,001 amounts,
 also below zero, as typed and in figures. `example.cpp` tests what the rows of `tests/rows` do not.
 They also run under valgrind and with the sanitizers for addresses and undefined behaviour. No
-compiler warns about a header, and each warns about a wrong call.
+compiler warns about a header, and each warns about a wrong call. A missing value throws, or aborts
+in a program without exceptions.
 """
+import signal
+import subprocess
+
 import pytest
 
 from questions import wrong_answers
-from running import TOP, needs, needs_compiler, run, write
+from running import ENVIRONMENT, TOP, needs, needs_compiler, run, write
 
 C = TOP / "bindings/c"
 FIRST_STEPS = """\
@@ -24,12 +28,16 @@ FIRST_STEPS = """\
 2026-01-15
 百分之十二点五
 市值3.5亿元，占12.5%
+第3个字“贰”前缺“零”。
+U+96F6 at 2
 """
 FIRST_STEPS_OF_CPP = """\
 负十万五千
 120
 50
 the chinese number is incorrect (position: 1)
+第3个字“贰”前缺“零”。
+壹佰零贰元整
 人民币壹拾伍元整
 1500
 负壹拾伍元整
@@ -187,3 +195,32 @@ def test_no_part_of_a_fen(compiler, tmp_path):
         source = write(tmp_path / "call.cpp", text.format(fen))
         words = (*COMPILERS[compiler], "-I", C, "-c", source)
         assert told in run(compiler, *words, cwd=tmp_path, fails=bool(told))
+
+
+# It needs no library. With an argument the result has no value.
+VALUE = """\
+#include "chinese_number.hpp"
+#include <cstdio>
+
+using namespace chinese_number;
+
+int main(int count, char **) {
+    const Result<int> seven = 7, none = Error{Status::empty, "number", 0, 0};
+    const Result<int> &one = count > 1 ? none : seven;
+    std::printf("%d %d\\n", one.value(), Result<int>(one).value());
+}
+"""
+
+
+@pytest.mark.parametrize("flag", ["-fexceptions", "-fno-exceptions"])
+@pytest.mark.parametrize("compiler", [it for it, words in COMPILERS.items() if words is AS_CPP])
+def test_no_value(compiler, flag, tmp_path):
+    """The program aborts without exceptions, and also with them if none is caught: then it shows the
+    message."""
+    needs(compiler)
+    words = (*COMPILERS[compiler], *EACH_WARNING[compiler].split(), "-Werror", flag, "-I", C)
+    run(compiler, *words, write(tmp_path / "value.cpp", VALUE), "-o", "value", cwd=tmp_path)
+    run("./value", cwd=tmp_path, wanted="7 7\n")
+    ended = subprocess.run(["./value", "1"], cwd=tmp_path, env=ENVIRONMENT, capture_output=True)
+    assert (ended.returncode, ended.stdout) == (-signal.SIGABRT, b"")
+    assert (b"a chinese number cannot be empty" in ended.stderr) == (flag == "-fexceptions")

@@ -1,7 +1,8 @@
 """The command chinese-number, of Python and of JavaScript: both must give the same answers.
 
 The rows are those of `tests/rows/command.tsv`. The words of the tests of `cheque` and the texts of
-those of `numbers` get the same answers or refusals here. Python's command runs in an ASCII locale.
+those of `numbers` get the same answers here, or are refused here too. Python's command runs in an
+ASCII locale.
 """
 import os
 import pty
@@ -25,6 +26,8 @@ TABLE, ROWS = ["amount", "--column", "1"], b"15\n" * 60000
 # Arguments and an input for which something is written.
 WRITTEN = [(["read", "一"], b""), (["find"], MANY), (["replace"], MANY), (TABLE, b"15\n")]
 WRITTEN.append((TABLE, ROWS))
+# Words of the tests of `cheque` for which the command has answers of its own.
+OWN = {"-1", "−1", "2026-1-15", "2026-01-1", "2025-02-29", "1900-02-29", "2026-01-00"}
 ESCAPES = {r"\n": "\n", r"\r": "\r", r"\xff": "\udcff"}
 
 
@@ -78,34 +81,47 @@ def test_help(command):
         assert command(*words) == (0, f"{text}\n".encode(), b"")
 
 
+def shown(word):
+    """A refused word as a message shows it, which has at most 40 characters of it."""
+    return (word if len(word) <= 40 else f"{word[:40]}…") or "''"
+
+
 @pytest.mark.parametrize("what", ["amount", "date"])
 def test_words_of_cheque(command, what):
-    """The name of the command distinguishes them, so a refusal shows which one it is from."""
+    """Each refused word is on a line of its own, with a sentence that says why. The words that only
+    the command reads, and the sentences, are in the rows."""
 
     def is_of_date(word, answer):
         return bool(re.search("-[0-9]+-|年", word + answer) or "date" in answer)
 
     for of_cheque, status in ((test_cheque.ANSWERED, 0), (test_cheque.REFUSED, 1)):
         rows = {
-            word: it for word, it in of_cheque.items() if is_of_date(word, it) == (what == "date")
+            word: it
+            for word, it in of_cheque.items()
+            if word not in OWN and is_of_date(word, it) == (what == "date")
         }
-        wanted = "".join(f"{answer}\n" for answer in rows.values()).encode()
-        found = command(what, "--", *rows)
-        assert found == ((status, wanted, b"") if status == 0 else (status, b"", wanted))
+        found, written, refused = command(what, "--", *rows)
+        answers = "".join(f"{answer}\n" for answer in rows.values() if status == 0)
+        refusals = "".join(f"{re.escape(shown(word))}: .+[.]\n" for word in rows if status)
+        assert (found, written.decode()) == (status, answers)
+        assert re.fullmatch(refusals, refused.decode())
 
 
 def test_texts_of_numbers(command):
-    """The answers are those of `numbers`, which accepts a method without its option."""
+    """The answers are those of `numbers`, which accepts a method without its option, and finds
+    quantities with an option."""
     for options, text, answer in test_numbers.ANSWERED:
-        name = "--method" if "--exact" in options else "--way"
-        words = [it if it.startswith("--") else f"{name}={it}" for it in options]
+        what, name = ([], "--method") if "--exact" in options else (["--numbers"], "--way")
+        given = [it for it in options if it != "--exact"]
+        words = what + [it if it.startswith("--") else f"{name}={it}" for it in given]
         assert command("find", *words, data=text.encode()) == (0, answer.encode(), b"")
 
 
 def test_long_numbers(command):
     for sign in ("", "-"):
-        found = command("print", "--", f"{sign}{'9' * 5000}")
-        assert found == (1, b"", b"i128 does not hold the number\n")
+        word = f"{sign}{'9' * 5000}"
+        refusal = f"{shown(word)}: The type cannot hold the number.\n"
+        assert command("print", "--", word) == (1, b"", refusal.encode())
 
 
 def test_no_input(command):
@@ -133,7 +149,7 @@ def test_closed_pipe(command):
 def test_many_lines(command):
     answers = b"".join(b"%d:1 %s 23\n" % (line, MANY[:9]) for line in range(1, 20001))
     assert command("find", data=MANY) == (0, answers, b"")
-    assert command("find", "--exact", data=MANY) == (0, answers, b"")
+    assert command("find", "--numbers", data=MANY) == (0, answers, b"")
     assert command("replace", data=MANY) == (0, b"23\n" * 20000, b"")
 
 
@@ -154,15 +170,22 @@ def test_dialogue(command):
 
 def test_many_rows(command):
     """Of 20,000 rows each twentieth is wrong: each is reported, and none is lost."""
-    rows = [(row, "15" if row % 20 else "15.005") for row in range(1, 20001)]
-    answers = {"15": "壹拾伍元整", "15.005": ""}
+    rows = [(row, "15" if row % 20 else "壹佰元") for row in range(1, 20001)]
+    answers = {"15": "壹拾伍元整", "壹佰元": ""}
     data = "".join(f"{row},{cell}\n" for row, cell in rows)
     written = "".join(f"{row},{cell},{answers[cell]}\n" for row, cell in rows)
-    refusal = "the amount is incorrect (position: 5)"
-    told = "".join(f"{row}: {refusal}\n" for row in range(20, 20001, 20))
+    refusal = "壹佰元: “整” is missing at the end."
+    told = "".join(f"row {row}: {refusal}\n" for row in range(20, 20001, 20))
     told += "20000 rows: 19000 converted, 1000 refused\n"
     found = command("amount", "--column", "2", data=data.encode())
     assert found == (1, written.encode(), told.encode())
+
+
+def test_no_such_column(command):
+    """One message, and no line for each of the rows."""
+    for words in (["--column", "2"], ["--column", "sum"]):
+        status, written, told = command("amount", *words, data=ROWS)
+        assert (status, written) == (2, b"") and MISUSE.fullmatch(told)
 
 
 def test_open_quote(command):
@@ -170,9 +193,8 @@ def test_open_quote(command):
     refused = 2**17 // 3 + 1
     rows = [b'"15', *[b"15"] * (refused - 2), b"15,"]
     rows += ["15,壹拾伍元整".encode()] * (60001 - refused)
-    told = (
-        f"1: the row is not CSV\n{60002 - refused} rows: {60001 - refused} converted, 1 refused\n"
-    )
+    told = "row 1: the row is not CSV\n"
+    told += f"{60002 - refused} rows: {60001 - refused} converted, 1 refused\n"
     found = command(*TABLE, data=b'"' + b"15\n" + ROWS)
     assert found == (1, b"".join(row + b"\n" for row in rows), told.encode())
 

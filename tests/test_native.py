@@ -177,6 +177,8 @@ def test_nothing_is_kept(numerals):
         (it.chinese_to_amount, ("壹佰元整", "壹佰", "x" * 300)),
         (it.chinese_to_signed_amount, ("负壹佰元整", "x")),
         (it.chinese_to_amount_as_typed, ("⊗壹佰 元整", "x")),
+        (it.chinese_to_signed_amount_as_typed, ("⊗ （负数）壹佰 元整", "x")),
+        (lambda text: it.input_message(text, "amount"), ("壹佰贰元整", "壹佰元整")),
         (it.amount_to_chinese, (1500, -1)),
         (it.signed_amount_to_chinese, (-1500, 10**18)),
         (it.yuan_to_fen, ("-15.00", "15.005")),

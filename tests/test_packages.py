@@ -154,7 +154,7 @@ def test_types_of_wheel(packages, tmp_path):
     wheel = package(packages, BY_MODULE, "the extension module")
     Readme(wheel, "METADATA", "python").follow(packages, tmp_path / "python", **own)
     strict = ("mypy", "--strict", "--python-executable", tmp_path / "venv/bin/python")
-    for words in ([USERS / "user.py"], ["-p", "chinese_number"]):
+    for words in ([USERS / "user.py", USERS / "typed.py"], ["-p", "chinese_number"]):
         run(*strict, *words, cwd=tmp_path)
 
 

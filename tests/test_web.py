@@ -53,6 +53,14 @@ def test_face(node, folder, numeral):
     run(*node, "face_test.mjs", numeral.path, cwd=folder)
 
 
+def test_messages(tmp_path):
+    """Of the sources, which `files` has copies of."""
+    needs("node 20")
+    for path in (WEB / "chinese-number.mjs", WEB / "compiled.mjs", TOP / "tests/web/messages.mjs"):
+        shutil.copy(path, tmp_path)
+    run("node", "messages.mjs", cwd=tmp_path, wanted="")
+
+
 def test_other_version(node, folder, tmp_path):
     """A module of another version, which a page may have cached, is refused."""
     files = shutil.copytree(folder / "files", tmp_path / "files")

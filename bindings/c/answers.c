@@ -21,7 +21,19 @@ static const char *const FLAGS[] = {"plain", "alone", "about", "one", NULL};
 static const char *const OPTIONS[] = {
     "plain", "alone", "about", "one", "doubtful", "expanded", "canonical", NULL,
 };
-static const char *const FORMS[] = {"currency", "round_yuan", "upright_closing", NULL};
+static const char *const FORMS[] = {
+    "currency", "round_yuan", "upright_closing", "bracketed_sign", NULL,
+};
+static const char *const INPUTS[] = {
+    "amount", "signed_amount", "typed_amount", "typed_signed_amount", "date", "figures", NULL,
+};
+static const char *const LANGUAGES[] = {"en", "zh-Hans", "zh-Hant", NULL};
+static const char *const CHANGES[] = {"none", "insert", "replace", "delete"};
+static const char *const FAULTS[] = {
+    "none", "empty", "too_large", "too_small", "start", "character", "digits", "units", "ge",
+    "groups", "bare_ten", "repeated_ten", "after_zero", "weight", "two_readings", "left_out_zero",
+    "denominator",
+};
 
 /* The code of a name. For an unknown name it is the first code that the library refuses. */
 static uint32_t code_of(const char *const *names, const char *name) {
@@ -146,16 +158,24 @@ static void answer_read_typed_amount(char **words) {
     put_fen(status, (int64_t)amount.fen, amount.char_index);
 }
 
-static void answer_read_signed_amount(char **words) {
+typedef cn_status read_signed(const char *, size_t, cn_signed_amount *);
+
+static void put_signed_read(read_signed *read, const char *text) {
     cn_signed_amount amount;
-    cn_status status = cn_read_signed_amount(words[1], strlen(words[1]), &amount);
+    cn_status status = read(text, strlen(text), &amount);
     put_fen(status, amount.fen, amount.char_index);
 }
 
+static void answer_read_signed_amount(char **words) {
+    put_signed_read(cn_read_signed_amount, words[1]);
+}
+
+static void answer_read_typed_signed_amount(char **words) {
+    put_signed_read(cn_read_typed_signed_amount, words[1]);
+}
+
 static void answer_yuan_to_fen(char **words) {
-    cn_signed_amount amount;
-    cn_status status = cn_read_figures(words[1], strlen(words[1]), &amount);
-    put_fen(status, amount.fen, amount.char_index);
+    put_signed_read(cn_read_figures, words[1]);
 }
 
 static void put_amount(const char *script, cn_form form, const char *figures) {
@@ -173,11 +193,19 @@ static void answer_print_amount_as(char **words) {
     put_amount(words[1], (cn_form)flags_of(FORMS, words[2]), words[3]);
 }
 
-static void answer_print_signed_amount(char **words) {
+static void put_signed_amount(const char *script, cn_form form, const char *figures) {
     char text[CN_MOST_SIGNED_AMOUNT_BYTES + 1];
-    int64_t fen = strtoll(words[2], NULL, 10);
-    cn_script script = (cn_script)code_of(SCRIPTS, words[1]);
-    put_printed("amount", cn_print_signed_amount(fen, script, CN_PLAIN, text, sizeof text), text);
+    int64_t fen = strtoll(figures, NULL, 10);
+    cn_script code = (cn_script)code_of(SCRIPTS, script);
+    put_printed("amount", cn_print_signed_amount(fen, code, form, text, sizeof text), text);
+}
+
+static void answer_print_signed_amount(char **words) {
+    put_signed_amount(words[1], CN_PLAIN, words[2]);
+}
+
+static void answer_print_signed_amount_as(char **words) {
+    put_signed_amount(words[1], (cn_form)flags_of(FORMS, words[2]), words[3]);
 }
 
 static void answer_read_date(char **words) {
@@ -355,6 +383,93 @@ static void answer_replace_quantities(char **words) {
     fputs(text + at, stdout);
 }
 
+/* Writes a character in UTF-8. Those that may follow or repair a text have at most 16 bits. */
+static void put_character(uint32_t character) {
+    if (character < 0x80) {
+        putchar((int)character);
+        return;
+    }
+    if (character < 0x800) {
+        putchar((int)(0xC0 | character >> 6));
+    } else {
+        putchar((int)(0xE0 | character >> 12));
+        putchar((int)(0x80 | (character >> 6 & 0x3F)));
+    }
+    putchar((int)(0x80 | (character & 0x3F)));
+}
+
+static void answer_expected(char **words) {
+    cn_input input = (cn_input)code_of(INPUTS, words[1]);
+    cn_expected next;
+    cn_status status = cn_input_expected(words[2], strlen(words[2]), input, &next);
+    if (status != CN_DONE) {
+        put_refusal("text", status, 0);
+        return;
+    }
+    printf("ok %lu %s %s", (unsigned long)next.char_index, next.may_end ? "end" : "-",
+           next.white_space ? "space" : "-");
+    for (uint32_t i = 0; i < next.count; i++) {
+        fputs(i == 0 ? " " : "", stdout);
+        put_character(next.characters[i]);
+    }
+}
+
+static void answer_repair(char **words) {
+    cn_input input = (cn_input)code_of(INPUTS, words[1]);
+    cn_repair repair;
+    cn_status status = cn_input_repair(words[2], strlen(words[2]), input, &repair);
+    if (status != CN_DONE) {
+        put_refusal("text", status, 0);
+        return;
+    }
+    printf("ok %s", CHANGES[repair.change]);
+    if (repair.change != CN_NO_CHANGE)
+        printf(" %lu", (unsigned long)repair.char_index);
+    if (repair.character != 0) {
+        putchar(' ');
+        put_character(repair.character);
+    }
+}
+
+static void answer_explain(char **words) {
+    cn_kind kind = (cn_kind)code_of(KINDS, words[1]);
+    cn_way way = (cn_way)code_of(WAYS, words[2]);
+    printf("ok %s", FAULTS[cn_explain(words[3], strlen(words[3]), kind, way)]);
+}
+
+static void answer_explain_quantity(char **words) {
+    cn_way method = (cn_way)code_of(WAYS, words[1]);
+    printf("ok %s", FAULTS[cn_explain_quantity(words[2], strlen(words[2]), method)]);
+}
+
+static void answer_input_message(char **words) {
+    char message[CN_MOST_MESSAGE_BYTES + 1];
+    cn_language language = (cn_language)code_of(LANGUAGES, words[1]);
+    cn_input input = (cn_input)code_of(INPUTS, words[2]);
+    put_printed("text",
+                cn_input_message(words[3], strlen(words[3]), input, language, message,
+                                 sizeof message), message);
+}
+
+static void answer_number_message(char **words) {
+    char message[CN_MOST_MESSAGE_BYTES + 1];
+    cn_language language = (cn_language)code_of(LANGUAGES, words[1]);
+    cn_kind kind = (cn_kind)code_of(KINDS, words[2]);
+    cn_way way = (cn_way)code_of(WAYS, words[3]);
+    put_printed("text",
+                cn_number_message(words[4], strlen(words[4]), kind, way, language, message,
+                                  sizeof message), message);
+}
+
+static void answer_quantity_message(char **words) {
+    char message[CN_MOST_MESSAGE_BYTES + 1];
+    cn_language language = (cn_language)code_of(LANGUAGES, words[1]);
+    cn_way method = (cn_way)code_of(WAYS, words[2]);
+    put_printed("text",
+                cn_quantity_message(words[3], strlen(words[3]), method, language, message,
+                                    sizeof message), message);
+}
+
 static const struct {
     const char *name;
     size_t words;
@@ -367,7 +482,9 @@ static const struct {
     {"print_amount_as", 4, answer_print_amount_as},
     {"read_typed_amount", 2, answer_read_typed_amount},
     {"read_signed_amount", 2, answer_read_signed_amount},
+    {"read_typed_signed_amount", 2, answer_read_typed_signed_amount},
     {"print_signed_amount", 3, answer_print_signed_amount},
+    {"print_signed_amount_as", 4, answer_print_signed_amount_as},
     {"yuan_to_fen", 2, answer_yuan_to_fen},
     {"read_date", 2, answer_read_date},
     {"print_date", 3, answer_print_date},
@@ -381,6 +498,13 @@ static const struct {
     {"trim_quantity", 2, answer_trim_quantity},
     {"quantities_to_figures", 3, answer_quantities_to_figures},
     {"replace_quantities", 3, answer_replace_quantities},
+    {"expected", 3, answer_expected},
+    {"repair", 3, answer_repair},
+    {"explain", 4, answer_explain},
+    {"explain_quantity", 3, answer_explain_quantity},
+    {"input_message", 4, answer_input_message},
+    {"number_message", 5, answer_number_message},
+    {"quantity_message", 4, answer_quantity_message},
 };
 
 /* Splits a line into words, and returns how many there are. */

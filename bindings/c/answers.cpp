@@ -23,6 +23,19 @@ const std::map<std::string, Script> scripts = {
     {"simple", Script::simplified},
 };
 const std::map<std::string, Case> cases = {{"upper", Case::upper}, {"lower", Case::lower}};
+const std::map<std::string, Input> inputs = {
+    {"amount", Input::amount},
+    {"signed_amount", Input::signed_amount},
+    {"typed_amount", Input::typed_amount},
+    {"typed_signed_amount", Input::typed_signed_amount},
+    {"date", Input::date},
+    {"figures", Input::figures},
+};
+const std::map<std::string, Language> languages = {
+    {"en", Language::english},
+    {"zh-Hans", Language::simplified_chinese},
+    {"zh-Hant", Language::traditional_chinese},
+};
 
 std::string figures(Unsigned number) {
     const std::string last(1, static_cast<char>('0' + static_cast<int>(number % 10)));
@@ -50,6 +63,8 @@ std::string shown(Date date) {
 
 std::string shown(const Quantity &quantity);
 
+std::string shown(const Expected &expected);
+
 template <typename T>
 std::string shown(T number) {
     const auto wide = static_cast<Unsigned>(number);
@@ -58,11 +73,24 @@ std::string shown(T number) {
 }
 
 const char *const quantity_forms[] = {"whole", "decimal", "percent", "fraction"};
+const char *const changes[] = {"none", "insert", "replace", "delete"};
+const char *const faults[] = {
+    "none", "empty", "too_large", "too_small", "start", "character", "digits", "units", "ge", "groups", "bare_ten",
+    "repeated_ten", "after_zero", "weight", "two_readings", "left_out_zero", "denominator",
+};
 
 std::string shown(const Quantity &quantity) {
     return shown(detail::of_halves<Signed>(quantity.numerator)) + '/'
          + shown(detail::of_halves<Unsigned>(quantity.denominator)) + ' '
          + quantity_forms[static_cast<std::size_t>(quantity.form)];
+}
+
+std::string shown(const Expected &expected) {
+    std::string done = std::to_string(expected.char_index) + (expected.may_end ? " end" : " -")
+                     + (expected.white_space ? " space" : " -") + (expected.characters.empty() ? "" : " ");
+    for (const std::string &character : expected.characters)
+        done += character;
+    return done;
 }
 
 /* The quantity of words such as 350000/10 decimal. */
@@ -81,9 +109,25 @@ std::string told(const Result<Value> &answer) {
     return answer ? "ok " + shown(*answer) : "err " + answer.error().message();
 }
 
+std::string told(std::optional<Fault> fault) {
+    return std::string("ok ") + faults[fault ? static_cast<std::size_t>(*fault) : 0];
+}
+
+std::string told(const std::optional<Repair> &repair) {
+    if (!repair)
+        return "ok none";
+    const std::string character = repair->character.empty() ? "" : ' ' + repair->character;
+    return std::string("ok ") + changes[static_cast<std::size_t>(repair->change)] + ' '
+         + std::to_string(repair->char_index) + character;
+}
+
 template <typename T>
 std::string of_number(const Words &words) {
+    if (words[0] == "number_message")
+        return told(number_message<T>(words[4], languages.at(words[1]), ways.at(words[3])));
     const Way way = ways.at(words[2]);
+    if (words[0] == "explain")
+        return told(explain_number<T>(words[3], way));
     if (words[0] == "read")
         return told(to_number<T>(words[3], way));
     const Style style = {way, scripts.at(words[3]), cases.at(words[4])};
@@ -102,8 +146,8 @@ std::string print_amount(const std::string &script, const std::string &fen, Amou
     return told(amount_to_chinese(number_of<std::uint64_t>(fen), form, scripts.at(script)));
 }
 
-std::string print_signed_amount(const std::string &script, const std::string &fen) {
-    return told(signed_amount_to_chinese(number_of<std::int64_t>(fen), {}, scripts.at(script)));
+std::string print_signed_amount(const std::string &script, const std::string &fen, AmountForm form) {
+    return told(signed_amount_to_chinese(number_of<std::int64_t>(fen), form, scripts.at(script)));
 }
 
 bool has(const std::string &words, const char *word) {
@@ -112,7 +156,8 @@ bool has(const std::string &words, const char *word) {
 
 /* The form of words that + separates; `plain` means none of them. */
 AmountForm form_of(const std::string &words) {
-    return {has(words, "currency"), has(words, "round_yuan"), has(words, "upright_closing")};
+    return {has(words, "currency"), has(words, "round_yuan"), has(words, "upright_closing"),
+            has(words, "bracketed_sign")};
 }
 
 /* What is included, and how figures are written, likewise; `none` means nothing. */
@@ -176,7 +221,7 @@ std::optional<std::string> in_numerals(const Found &found) {
 }
 
 std::string of_kind(const Words &words) {
-    return kinds.at(words[1])(words);
+    return kinds.at(words[words[0] == "number_message" ? 2 : 1])(words);
 }
 
 const std::map<std::string, std::string (*)(const Words &)> calls = {
@@ -190,8 +235,12 @@ const std::map<std::string, std::string (*)(const Words &)> calls = {
      [](const Words &words) { return told(chinese_to_amount_as_typed(words[1])); }},
     {"read_signed_amount",
      [](const Words &words) { return told(chinese_to_signed_amount(words[1])); }},
+    {"read_typed_signed_amount",
+     [](const Words &words) { return told(chinese_to_signed_amount_as_typed(words[1])); }},
     {"print_signed_amount",
-     [](const Words &words) { return print_signed_amount(words[1], words[2]); }},
+     [](const Words &words) { return print_signed_amount(words[1], words[2], {}); }},
+    {"print_signed_amount_as",
+     [](const Words &words) { return print_signed_amount(words[1], words[3], form_of(words[2])); }},
     {"yuan_to_fen", [](const Words &words) { return told(yuan_to_fen(words[1])); }},
     {"read_date", [](const Words &words) { return told(chinese_to_date(words[1])); }},
     {"print_date", [](const Words &words) { return print_date(words[1], words[2]); }},
@@ -212,6 +261,20 @@ const std::map<std::string, std::string (*)(const Words &)> calls = {
     {"replace_quantities",
      [](const Words &words) {
          return told(replace_quantities(words[2], in_numerals, {}, Way::ten_thousand, included_of(words[1])));
+     }},
+    {"expected", [](const Words &words) { return told(input_expected(words[2], inputs.at(words[1]))); }},
+    {"repair", [](const Words &words) { return told(input_repair(words[2], inputs.at(words[1]))); }},
+    {"explain", of_kind},
+    {"explain_quantity",
+     [](const Words &words) { return told(explain_quantity(words[2], ways.at(words[1]))); }},
+    {"input_message",
+     [](const Words &words) {
+         return told(input_message(words[3], inputs.at(words[2]), languages.at(words[1])));
+     }},
+    {"number_message", of_kind},
+    {"quantity_message",
+     [](const Words &words) {
+         return told(quantity_message(words[3], languages.at(words[1]), ways.at(words[2])));
      }},
 };
 

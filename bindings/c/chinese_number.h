@@ -1,6 +1,7 @@
 /* The C binding of the proved library chinese_number, for C99 and later. It prints and reads
  * Chinese numerals for whole numbers and exact quantities, finds and replaces them in a text, and
- * prints and reads amounts of money and dates in capitals, and amounts in figures.
+ * prints and reads amounts of money and dates in capitals, and amounts in figures. It says what may
+ * follow a text, and why a text is refused, in three languages.
  * chinese_number.hpp has classes over it for C++17.
  *
  * The calls chinese_.. are the proved ones: texts are bytes, and choices are codes. The calls
@@ -129,9 +130,10 @@ typedef enum cn_case CN_OF_CODE {
 /* The form of a printed amount: none or several of these, added together. All are read. */
 typedef enum cn_form CN_OF_CODE {
     CN_PLAIN = 0,
-    CN_CURRENCY = 1,       /* with the prefix 人民币 */
-    CN_ROUND_YUAN = 2,     /* 圆 instead of 元 */
-    CN_UPRIGHT_CLOSING = 4 /* 正 instead of 整 */
+    CN_CURRENCY = 1,        /* with the prefix 人民币 */
+    CN_ROUND_YUAN = 2,      /* 圆 instead of 元 */
+    CN_UPRIGHT_CLOSING = 4, /* 正 instead of 整 */
+    CN_BRACKETED_SIGN = 8   /* （负数） instead of 负 before a negative amount */
 } CN_FLAGS cn_form;
 
 /* How a quantity is written. */
@@ -199,6 +201,53 @@ typedef enum cn_unit CN_OF_CODE {
     CN_JI = 15
 } cn_unit;
 
+/* What a text is meant to be, for the calls that say what may follow it and why it is refused: each
+ * names the call that reads it. */
+typedef enum cn_input CN_OF_CODE {
+    CN_AMOUNT = 0,              /* chinese_amount_read */
+    CN_SIGNED_AMOUNT = 1,       /* chinese_signed_amount_read */
+    CN_TYPED_AMOUNT = 2,        /* chinese_typed_amount_read */
+    CN_TYPED_SIGNED_AMOUNT = 3, /* chinese_typed_signed_amount_read */
+    CN_DATE = 4,                /* chinese_date_read */
+    CN_FIGURES = 5              /* chinese_figures_read */
+} cn_input;
+
+/* What is changed in a text to repair it. */
+typedef enum cn_change CN_OF_CODE {
+    CN_NO_CHANGE = 0,
+    CN_INSERT = 1,  /* the character is inserted at the place */
+    CN_REPLACE = 2, /* the character replaces the one at the place */
+    CN_DELETE = 3   /* the character at the place is deleted */
+} cn_change;
+
+/* Why a text is not a number or a quantity. docs/RULES.md has the rules. */
+typedef enum cn_fault CN_OF_CODE {
+    CN_NO_FAULT = 0,
+    CN_FAULT_EMPTY = 1,
+    CN_FAULT_TOO_LARGE = 2,
+    CN_FAULT_TOO_SMALL = 3,
+    CN_FAULT_START = 4,         /* a numeral starts with a digit or 十: 百 of 百五 */
+    CN_FAULT_CHARACTER = 5,     /* it is no digit or unit: 角 of 一角 */
+    CN_FAULT_DIGITS = 6,        /* a digit directly after it: 一 of 一二 with units */
+    CN_FAULT_UNITS = 7,         /* a unit directly after it that is not greater: 百 of 一百十 */
+    CN_FAULT_GE = 8,            /* 個 without a greater unit after it: 個 of 三個 */
+    CN_FAULT_GROUPS = 9,        /* the same unit again: 萬 of 一萬二萬 */
+    CN_FAULT_BARE_TEN = 10,     /* the rest are of quantities: 十 without 一 before it, as in 三千零十万 */
+    CN_FAULT_REPEATED_TEN = 11, /* 十 or 百 after 十: the second 十 of 二十十 */
+    CN_FAULT_AFTER_ZERO = 12,   /* a unit after 零: 万 of 一亿零万 */
+    CN_FAULT_WEIGHT = 13,       /* 两 as a unit of weight: 两 of 二两 */
+    CN_FAULT_TWO_READINGS = 14, /* 万 of 一百五万, which may count 一百五十 or 一百零五 */
+    CN_FAULT_LEFT_OUT_ZERO = 15, /* 二 of 一亿二千, where 零 or a unit such as 万 seems to be left out */
+    CN_FAULT_DENOMINATOR = 16   /* the denominator is not a whole number above 0 */
+} cn_fault;
+
+/* The language of a message. */
+typedef enum cn_language CN_OF_CODE {
+    CN_ENGLISH = 0,
+    CN_SIMPLIFIED_CHINESE = 1, /* zh-Hans */
+    CN_TRADITIONAL_CHINESE = 2 /* zh-Hant */
+} cn_language;
+
 /* The status that a call returns.
  * - CN_DONE: the text was read, printed or searched.
  * - CN_EMPTY, when reading: the text is empty without white space and, for signed types, one sign.
@@ -215,8 +264,8 @@ typedef enum cn_unit CN_OF_CODE {
  * - CN_NO_ROOM, when printing or replacing: the text has more bytes than the buffer; *length says
  *   how many.
  * - CN_NOT_HELD, when printing: the type does not hold the number.
- * - CN_UNKNOWN: a code names no type, way, script, case, form, unit or option; CN_DIGITS is not a
- *   method.
+ * - CN_UNKNOWN: a code names no type, way, script, case, form, unit, option, input, language or
+ *   status; CN_DIGITS is not a method.
  * - CN_UNFINISHED, when reading an amount, figures or a date: the text is not one, but more text
  *   can make it one.
  * - CN_NONE, of cn_find_next and cn_find_next_quantity: there is no further one in the text.
@@ -251,10 +300,16 @@ typedef enum cn_status CN_OF_CODE {
 #define CN_MOST_AMOUNT_BYTES 117
 
 /* The most bytes of a printed signed amount, without the zero byte of cn_print_signed_amount. */
-#define CN_MOST_SIGNED_AMOUNT_BYTES 120
+#define CN_MOST_SIGNED_AMOUNT_BYTES 129
 
 /* The most bytes of a printed date, without the zero byte that cn_print_date writes. */
 #define CN_MOST_DATE_BYTES 39
+
+/* The most characters that may follow a text. */
+#define CN_MOST_EXPECTED 48
+
+/* The most bytes of a message, without the zero byte that cn_input_message and so on write. */
+#define CN_MOST_MESSAGE_BYTES 512
 
 /* Only the C source returns this status, if a text, or a text and the buffer for the new one, have
  * more than 4293918720 bytes. What the call writes is then 0. The archives never return it. */
@@ -423,9 +478,10 @@ uint32_t chinese_amount_print(uint64_t fen, uint32_t script, uint32_t form, uint
  * then reads up to the wrong character, which is among the first 40. */
 uint32_t chinese_amount_read(const uint8_t *text, size_t text_length, cn_amount *reading);
 
-/* Reads a text as it is typed: like chinese_amount_read, but ignores white space, then one ⊗ at the
- * start, and then one colon (: or ：) directly after a leading 人民币. The place of the wrong character
- * is that in the text as it is typed, and so may be anywhere. */
+/* Reads a text as it is typed: like chinese_amount_read, but ignores white space, then one ⊗ or ⓧ at
+ * the start, and then, directly after a leading 人民币, one note, （大写） or （大寫） (also with ASCII
+ * parentheses), and one colon (: or ：). The place of the wrong character is that in the text as it is
+ * typed, and so may be anywhere. */
 uint32_t chinese_typed_amount_read(const uint8_t *text, size_t text_length, cn_amount *reading);
 
 /* The result of reading an amount that may be negative, as on a red invoice; like cn_amount. */
@@ -436,7 +492,8 @@ typedef struct cn_signed_amount {
 } cn_signed_amount;
 
 /* Prints an amount as chinese_amount_print does, and a negative one with the prefix 负 (負 in
- * traditional script).
+ * traditional script), or （负数） if the form has CN_BRACKETED_SIGN. chinese_amount_print ignores
+ * CN_BRACKETED_SIGN.
  *
  * Returns CN_DONE, CN_NO_ROOM, CN_TOO_LARGE (10^18 fen or more), CN_TOO_SMALL (-10^18 fen or less)
  * or CN_UNKNOWN. A buffer of CN_MOST_SIGNED_AMOUNT_BYTES is never too small. */
@@ -447,9 +504,15 @@ uint32_t chinese_signed_amount_print(int64_t fen, uint32_t script, uint32_t form
  * character is among the first 41. */
 uint32_t chinese_signed_amount_read(const uint8_t *text, size_t text_length, cn_signed_amount *reading);
 
+/* Reads a text as it is typed, or copied from an invoice, with or without a sign: as
+ * chinese_typed_amount_read does, and before the amount there may be one of 负, 負, （负数） and （負數）
+ * (also with ASCII parentheses): before or after ⊗, and before or after 人民币 with its note and its
+ * colon. 人民币 cannot be before ⊗. */
+uint32_t chinese_typed_signed_amount_read(const uint8_t *text, size_t text_length, cn_signed_amount *reading);
+
 /* Reads figures in yuan, in UTF-8, as an amount; nothing is rounded. Figures consist, in this
  * order, of:
- * - optionally a minus, - or − (U+2212);
+ * - optionally a minus: -, − (U+2212) or full-width －;
  * - optionally ¥;
  * - digits without commas, or one to three digits followed by one or more groups of a comma and
  *   three digits;
@@ -490,6 +553,79 @@ uint32_t chinese_date_print(uint32_t year, uint32_t month, uint32_t day, uint32_
  * with which no date begins, or CN_NOT_UTF8. The call tests that the whole text is UTF-8, and then
  * reads up to the wrong character, which is among the first 14. */
 uint32_t chinese_date_read(const uint8_t *text, size_t text_length, cn_date *reading);
+
+/* What may come next in a text after its longest part, from the start, that begins such an input.
+ * char_index and byte_index are its length: all of the text, or up to the wrong character. may_end
+ * is 1 if this part is complete, so that the text may end there, otherwise 0. The first `count`
+ * characters are those that may come next, as code points; the others are 0. white_space is 1 if
+ * white space may come next too. */
+typedef struct cn_expected {
+    size_t char_index;
+    size_t byte_index;
+    uint32_t may_end;
+    uint32_t white_space;
+    uint32_t count;
+    uint32_t characters[CN_MOST_EXPECTED];
+} cn_expected;
+
+/* One change of a text: what is changed, of cn_change; the code point that is inserted or replaces
+ * another, otherwise 0; and how many characters and bytes come before the place. */
+typedef struct cn_repair {
+    size_t char_index;
+    size_t byte_index;
+    uint32_t change;
+    uint32_t character;
+} cn_repair;
+
+/* Says what may come next in a text in UTF-8 that is meant to be an input of cn_input, for example
+ * to list keys. If the reader of the input returns CN_INCORRECT, char_index is the same. Writes all
+ * of *expected at each status, only zeros if it is not CN_DONE.
+ *
+ * Returns CN_DONE, CN_NOT_UTF8 or CN_UNKNOWN. */
+uint32_t chinese_input_expected(const uint8_t *text, size_t text_length, uint32_t input, cn_expected *expected);
+
+/* Finds one change after which a text that is not such an input goes on past its wrong character:
+ * in 壹佰贰元整, CN_INSERT of 零 at 2. A text that is only unfinished becomes such an input. There may
+ * be another fault further on, and only a person can say that the change is what was meant. The
+ * change is CN_NO_CHANGE if the text is right, or if no change is found. Writes all of *repair at
+ * each status, only zeros if it is not CN_DONE.
+ *
+ * Returns CN_DONE, CN_NOT_UTF8 or CN_UNKNOWN. */
+uint32_t chinese_input_repair(const uint8_t *text, size_t text_length, uint32_t input, cn_repair *repair);
+
+/* Says why chinese_number_read refuses a text, as a code of cn_fault. If a character is wrong, it is
+ * the rule that the text from there on breaks first. CN_NO_FAULT means that the text is read. Writes
+ * *fault at each status, 0 if it is not CN_DONE.
+ *
+ * Returns CN_DONE, CN_NOT_UTF8 or CN_UNKNOWN. */
+uint32_t chinese_number_explain(const uint8_t *text, size_t text_length, uint32_t kind, uint32_t way, uint32_t *fault);
+
+/* Says why chinese_quantity_read refuses a text, likewise. */
+uint32_t chinese_quantity_explain(const uint8_t *text, size_t text_length, uint32_t method, uint32_t *fault);
+
+/* Prints a message for the person who typed a text, in a language of cn_language: why it is not such
+ * an input, with the wrong character, its position counted from 1, and the repair, if there is one,
+ * such as 第3个字“贰”前缺“零”。 The message is empty if the text is right. Writes *length at each status:
+ * at CN_DONE and CN_NO_ROOM how many bytes the message has, otherwise 0. Writes to the buffer only at
+ * CN_DONE, and then only the message.
+ *
+ * Returns CN_DONE, CN_NO_ROOM, CN_NOT_UTF8 or CN_UNKNOWN. A buffer of CN_MOST_MESSAGE_BYTES is never
+ * too small. */
+uint32_t chinese_input_message(const uint8_t *text, size_t text_length, uint32_t input, uint32_t language,
+                               uint8_t *room, size_t room_length, size_t *length);
+
+/* The same for a text that chinese_number_read refuses. */
+uint32_t chinese_number_message(const uint8_t *text, size_t text_length, uint32_t kind, uint32_t way, uint32_t language,
+                                uint8_t *room, size_t room_length, size_t *length);
+
+/* The same for a text that chinese_quantity_read refuses. */
+uint32_t chinese_quantity_message(const uint8_t *text, size_t text_length, uint32_t method, uint32_t language,
+                                  uint8_t *room, size_t room_length, size_t *length);
+
+/* Prints what a status means, in a language, likewise; for example to a person whose number is too
+ * large to be printed. The message is empty for CN_DONE. Returns CN_DONE, CN_NO_ROOM or CN_UNKNOWN
+ * (also if there is no such status). */
+uint32_t chinese_status_message(uint32_t status, uint32_t language, uint8_t *room, size_t room_length, size_t *length);
 
 /* The version of the linked library: CN_VERSION_NUMBER of its header. */
 uint32_t chinese_number_version(void);
@@ -544,6 +680,12 @@ CN_NODISCARD static inline cn_status cn_read_signed_amount(const char *text, siz
     return CN_AS(cn_status, chinese_signed_amount_read(cn_bytes(text, text_length), text_length, reading));
 }
 
+/* chinese_typed_signed_amount_read for a text in char. */
+CN_NODISCARD static inline cn_status cn_read_typed_signed_amount(const char *text, size_t text_length,
+                                                                 cn_signed_amount *reading) {
+    return CN_AS(cn_status, chinese_typed_signed_amount_read(cn_bytes(text, text_length), text_length, reading));
+}
+
 /* chinese_figures_read for a text in char. */
 CN_NODISCARD static inline cn_status cn_read_figures(const char *text, size_t text_length, cn_signed_amount *reading) {
     return CN_AS(cn_status, chinese_figures_read(cn_bytes(text, text_length), text_length, reading));
@@ -552,6 +694,33 @@ CN_NODISCARD static inline cn_status cn_read_figures(const char *text, size_t te
 /* chinese_date_read for a text in char. */
 CN_NODISCARD static inline cn_status cn_read_date(const char *text, size_t text_length, cn_date *reading) {
     return CN_AS(cn_status, chinese_date_read(cn_bytes(text, text_length), text_length, reading));
+}
+
+/* chinese_input_expected for a text in char. */
+CN_NODISCARD static inline cn_status cn_input_expected(const char *text, size_t text_length, cn_input input,
+                                                       cn_expected *expected) {
+    return CN_AS(cn_status, chinese_input_expected(cn_bytes(text, text_length), text_length, input, expected));
+}
+
+/* chinese_input_repair for a text in char. */
+CN_NODISCARD static inline cn_status cn_input_repair(const char *text, size_t text_length, cn_input input,
+                                                     cn_repair *repair) {
+    return CN_AS(cn_status, chinese_input_repair(cn_bytes(text, text_length), text_length, input, repair));
+}
+
+/* Why cn_read refuses a text in char: CN_NO_FAULT also if the text is not UTF-8 or a code names
+ * nothing, which cn_read returns. */
+static inline cn_fault cn_explain(const char *text, size_t text_length, cn_kind kind, cn_way way) {
+    uint32_t fault;
+    (void)chinese_number_explain(cn_bytes(text, text_length), text_length, kind, way, &fault);
+    return CN_AS(cn_fault, fault);
+}
+
+/* Why cn_read_quantity refuses a text in char, likewise. */
+static inline cn_fault cn_explain_quantity(const char *text, size_t text_length, cn_way method) {
+    uint32_t fault;
+    (void)chinese_quantity_explain(cn_bytes(text, text_length), text_length, method, &fault);
+    return CN_AS(cn_fault, fault);
 }
 
 /* Returns the status of a search for one span. If none is found, the span becomes zeros. */
@@ -691,6 +860,46 @@ CN_NODISCARD static inline cn_status cn_print_date(uint32_t year, uint32_t month
     uint8_t none;
     size_t length, most = cn_most_of_text(room_length);
     uint32_t status = chinese_date_print(year, month, day, script, cn_room(room, room_length, &none), most, &length);
+    return cn_ended(status, room, room_length, length);
+}
+
+/* chinese_input_message for a text in char, into a buffer of char, likewise. A buffer of
+ * CN_MOST_MESSAGE_BYTES + 1 is never too small. */
+CN_NODISCARD static inline cn_status cn_input_message(const char *text, size_t text_length, cn_input input,
+                                                      cn_language language, char *room, size_t room_length) {
+    uint8_t none;
+    size_t length, most = cn_most_of_text(room_length);
+    uint32_t status = chinese_input_message(cn_bytes(text, text_length), text_length, input, language,
+                                            cn_room(room, room_length, &none), most, &length);
+    return cn_ended(status, room, room_length, length);
+}
+
+/* chinese_number_message, likewise. */
+CN_NODISCARD static inline cn_status cn_number_message(const char *text, size_t text_length, cn_kind kind, cn_way way,
+                                                       cn_language language, char *room, size_t room_length) {
+    uint8_t none;
+    size_t length, most = cn_most_of_text(room_length);
+    uint32_t status = chinese_number_message(cn_bytes(text, text_length), text_length, kind, way, language,
+                                             cn_room(room, room_length, &none), most, &length);
+    return cn_ended(status, room, room_length, length);
+}
+
+/* chinese_quantity_message, likewise. */
+CN_NODISCARD static inline cn_status cn_quantity_message(const char *text, size_t text_length, cn_way method,
+                                                         cn_language language, char *room, size_t room_length) {
+    uint8_t none;
+    size_t length, most = cn_most_of_text(room_length);
+    uint32_t status = chinese_quantity_message(cn_bytes(text, text_length), text_length, method, language,
+                                               cn_room(room, room_length, &none), most, &length);
+    return cn_ended(status, room, room_length, length);
+}
+
+/* chinese_status_message, likewise. */
+CN_NODISCARD static inline cn_status cn_status_message(cn_status of, cn_language language, char *room,
+                                                       size_t room_length) {
+    uint8_t none;
+    size_t length, most = cn_most_of_text(room_length);
+    uint32_t status = chinese_status_message(of, language, cn_room(room, room_length, &none), most, &length);
     return cn_ended(status, room, room_length, length);
 }
 

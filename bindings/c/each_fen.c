@@ -16,14 +16,21 @@ static int is_magnitude(const char *text, uint64_t fen, cn_script script, cn_for
         && cn_read_typed_amount(typed, (size_t)length, &amount) == CN_DONE && amount.fen == fen;
 }
 
-/* Whether the amount, with its sign, is printed as a text that is read as this amount. */
+/* Whether the amount, with its sign, is printed as a text that is read as this amount. A sign in
+ * brackets is only read as typed. */
 static int is_read_back(int64_t fen, uint64_t magnitude, cn_script script, cn_form form) {
+    static const char *const SIGNS[][2] = {{"負", "负"}, {"（負數）", "（负数）"}};
     char text[CN_MOST_SIGNED_AMOUNT_BYTES + 1];
-    const char *sign = fen >= 0 ? "" : script == CN_SIMPLIFIED ? "负" : "負";
-    cn_signed_amount amount;
-    return cn_print_signed_amount(fen, script, form, text, sizeof text) == CN_DONE
-        && strncmp(text, sign, strlen(sign)) == 0 && is_magnitude(text + strlen(sign), magnitude, script, form)
-        && cn_read_signed_amount(text, strlen(text), &amount) == CN_DONE && amount.fen == fen;
+    const int is_bracketed = (form & CN_BRACKETED_SIGN) != 0;
+    const char *sign = fen >= 0 ? "" : SIGNS[is_bracketed][script];
+    cn_signed_amount amount, typed;
+    int is_read;
+    if (cn_print_signed_amount(fen, script, form, text, sizeof text) != CN_DONE)
+        return 0;
+    is_read = cn_read_signed_amount(text, strlen(text), &amount) == CN_DONE && amount.fen == fen;
+    return strncmp(text, sign, strlen(sign)) == 0 && is_magnitude(text + strlen(sign), magnitude, script, form)
+        && cn_read_typed_signed_amount(text, strlen(text), &typed) == CN_DONE && typed.fen == fen
+        && is_read == (fen >= 0 || !is_bracketed);
 }
 
 /* Writes yuan with commas, and returns how many bytes they have. */
@@ -56,7 +63,7 @@ static int are_figures_read(int64_t fen, uint64_t magnitude) {
 /* Each amount has its own script and form. */
 static int is_right(int64_t fen) {
     uint64_t magnitude = fen < 0 ? 0 - (uint64_t)fen : (uint64_t)fen;
-    uint64_t drawn = magnitude * UINT64_C(0x9E3779B97F4A7C15) >> 60;
+    uint64_t drawn = magnitude * UINT64_C(0x9E3779B97F4A7C15) >> 59;
     return is_read_back(fen, magnitude, (cn_script)(drawn & 1), (cn_form)(drawn >> 1)) && are_figures_read(fen, magnitude);
 }
 

@@ -1,5 +1,5 @@
 /* Prints a number, a quantity, an amount and a date, reads them back, finds the numbers of a text,
- * replaces its quantities, and causes each status. */
+ * replaces its quantities, says why a text is refused, and causes each status. */
 #include "chinese_number.h"
 
 #include <stdio.h>
@@ -57,6 +57,17 @@ static void first_steps(void) {
         puts(written); /* 市值3.5亿元，占12.5% */
 }
 
+/* Says what is wrong with a text that somebody typed, and repairs it. */
+static void a_refused_text(void) {
+    const char typed[] = "壹佰贰元整";
+    char message[CN_MOST_MESSAGE_BYTES + 1];
+    cn_repair repair;
+    if (cn_input_message(typed, strlen(typed), CN_AMOUNT, CN_SIMPLIFIED_CHINESE, message, sizeof message) == CN_DONE)
+        puts(message); /* 第3个字“贰”前缺“零”。 */
+    if (cn_input_repair(typed, strlen(typed), CN_AMOUNT, &repair) == CN_DONE && repair.change == CN_INSERT)
+        printf("U+%04X at %u\n", repair.character, (unsigned)repair.char_index); /* U+96F6 at 2, which is 零 */
+}
+
 /* Finds each number of a text. */
 static void numbers_of_a_text(void) {
     const char text[] = "第二十三回，二零二五年";
@@ -71,7 +82,7 @@ static void numbers_of_a_text(void) {
 }
 
 /* The buffer that a call prints to, and its contents before the call. */
-static uint8_t printed[CN_MOST_QUANTITY_BYTES], untouched[CN_MOST_QUANTITY_BYTES];
+static uint8_t printed[CN_MOST_MESSAGE_BYTES], untouched[CN_MOST_MESSAGE_BYTES];
 
 static uint8_t *fresh_room(void) {
     memset(printed, 7, sizeof printed);
@@ -341,7 +352,7 @@ static void prints_amount(uint64_t fen, uint32_t script, uint32_t form, size_t r
 
 static void each_status_of_printing_amounts(void) {
     uint64_t limit = UINT64_C(1000000000000000000);
-    uint32_t all = CN_CURRENCY | CN_ROUND_YUAN | CN_UPRIGHT_CLOSING;
+    uint32_t all = CN_CURRENCY | CN_ROUND_YUAN | CN_UPRIGHT_CLOSING | CN_BRACKETED_SIGN;
     prints_amount(10700053, CN_SIMPLIFIED, CN_PLAIN, CN_MOST_AMOUNT_BYTES, CN_DONE, 33, "壹拾万零柒仟元伍角叁分");
     prints_amount(UINT64_C(23600000000), CN_TRADITIONAL, CN_PLAIN, 27, CN_DONE, 27, "貳億參仟陸佰萬元整");
     prints_amount(1500, CN_TRADITIONAL, all, 24, CN_DONE, 24, "人民幣壹拾伍圓正");
@@ -353,6 +364,28 @@ static void each_status_of_printing_amounts(void) {
     prints_amount(UINT64_MAX, CN_SIMPLIFIED, CN_PLAIN, 0, CN_TOO_LARGE, 0, "the greatest of 64 bits");
     prints_amount(limit, CN_SIMPLIFIED + 1, CN_PLAIN, 0, CN_UNKNOWN, 0, "an unknown script of an amount");
     prints_amount(limit, CN_SIMPLIFIED, all + 1, 0, CN_UNKNOWN, 0, "an unknown form of an amount");
+}
+
+/* Prints an amount that may be negative, likewise. */
+static void prints_signed(int64_t fen, uint32_t script, uint32_t form, size_t room_length, uint32_t status, size_t wanted,
+                          const char *text) {
+    size_t length;
+    uint32_t found = chinese_signed_amount_print(fen, script, form, fresh_room(), room_length, &length);
+    is_printed(text, found, length, status, wanted);
+}
+
+static void each_status_of_printing_signed_amounts(void) {
+    int64_t limit = INT64_C(1000000000000000000);
+    uint32_t bracketed = CN_CURRENCY | CN_BRACKETED_SIGN;
+    prints_signed(-1500, CN_TRADITIONAL, CN_PLAIN, 18, CN_DONE, 18, "負壹拾伍元整");
+    prints_signed(-1500, CN_TRADITIONAL, bracketed, 36, CN_DONE, 36, "（負數）人民幣壹拾伍元整");
+    prints_signed(1500, CN_SIMPLIFIED, bracketed, 24, CN_DONE, 24, "人民币壹拾伍元整");
+    prints_signed(1 - limit, CN_SIMPLIFIED, bracketed, CN_MOST_SIGNED_AMOUNT_BYTES, CN_DONE, CN_MOST_SIGNED_AMOUNT_BYTES,
+                  "（负数）人民币玖仟玖佰玖拾玖万玖仟玖佰玖拾玖亿玖仟玖佰玖拾玖万玖仟玖佰玖拾玖元玖角玖分");
+    prints_signed(-1500, CN_SIMPLIFIED, bracketed, 35, CN_NO_ROOM, 36, "a room that is a byte too small for a sign");
+    prints_signed(limit, CN_SIMPLIFIED, bracketed, 0, CN_TOO_LARGE, 0, "a signed amount that is too large");
+    prints_signed(-limit, CN_SIMPLIFIED, bracketed, 0, CN_TOO_SMALL, 0, "a signed amount that is too small");
+    prints_signed(-1500, CN_SIMPLIFIED, 2 * CN_BRACKETED_SIGN, 0, CN_UNKNOWN, 0, "an unknown form of a signed amount");
 }
 
 /* Reads a text as an amount, and checks its status, fen and place. */
@@ -410,6 +443,153 @@ static void each_status_of_reading_dates(void) {
     reads_date("贰零贰伍年零贰月贰拾玖日", CN_INCORRECT, 0, 0, 0, 10, 30);
     reads_date("贰零贰陆年 零壹月", CN_INCORRECT, 0, 0, 0, 5, 15);
     reads_date("贰零贰陆年\xff", CN_NOT_UTF8, 0, 0, 0, 0, 0);
+}
+
+/* Asks what may come next in a text, and checks the status, the length of what begins such an input,
+ * the two flags, and the number of characters and the first one. */
+static void expects(const char *text, uint32_t input, uint32_t status, size_t char_index, size_t byte_index,
+                    uint32_t may_end, uint32_t white_space, uint32_t count, uint32_t first) {
+    cn_expected next;
+    uint32_t found = chinese_input_expected((const uint8_t *)text, strlen(text), input, &next), others = 0;
+    for (uint32_t at = count; at < CN_MOST_EXPECTED; at++)
+        others |= next.characters[at];
+    expect(text, found == status && next.char_index == char_index && next.byte_index == byte_index
+                     && next.may_end == may_end && next.white_space == white_space && next.count == count
+                     && next.characters[0] == first && others == 0);
+}
+
+static void each_status_of_expecting(void) {
+    expects("壹佰贰元整", CN_AMOUNT, CN_DONE, 3, 9, 0, 0, 1, 0x62FE); /* 拾 */
+    expects("壹佰元整", CN_SIGNED_AMOUNT, CN_DONE, 4, 12, 1, 0, 0, 0);
+    expects("人民币 （大", CN_TYPED_AMOUNT, CN_DONE, 6, 16, 0, 1, 2, 0x5199); /* 写 and 寫 */
+    expects("（負", CN_TYPED_SIGNED_AMOUNT, CN_DONE, 2, 6, 0, 1, 1, 0x6578); /* 數 */
+    expects("贰零贰陆零", CN_DATE, CN_DONE, 4, 12, 0, 0, 1, 0x5E74); /* 年 */
+    expects("15.005", CN_FIGURES, CN_DONE, 5, 5, 1, 0, 2, 0x30); /* 0, also full-width */
+    expects("壹佰\xff", CN_AMOUNT, CN_NOT_UTF8, 0, 0, 0, 0, 0, 0);
+    expects("壹佰", CN_FIGURES + 1, CN_UNKNOWN, 0, 0, 0, 0, 0, 0);
+}
+
+/* Asks for a repair of a text, and checks its status, change, character and place. */
+static void repairs(const char *text, uint32_t input, uint32_t status, uint32_t change, uint32_t character, size_t char_index,
+                    size_t byte_index) {
+    cn_repair repair;
+    expect(text, chinese_input_repair((const uint8_t *)text, strlen(text), input, &repair) == status
+                     && repair.change == change && repair.character == character && repair.char_index == char_index
+                     && repair.byte_index == byte_index);
+}
+
+static void each_status_of_repairing(void) {
+    repairs("壹佰贰元整", CN_AMOUNT, CN_DONE, CN_INSERT, 0x96F6, 2, 6); /* 零 */
+    repairs("伍佰块整", CN_AMOUNT, CN_DONE, CN_REPLACE, 0x5143, 2, 6); /* 元 */
+    repairs("捌佰零伍拾元整", CN_AMOUNT, CN_DONE, CN_DELETE, 0, 2, 6);
+    repairs("壹佰元整", CN_AMOUNT, CN_DONE, CN_NO_CHANGE, 0, 0, 0);
+    repairs("壹佰", CN_AMOUNT, CN_DONE, CN_NO_CHANGE, 0, 0, 0);
+    repairs("\xff", CN_AMOUNT, CN_NOT_UTF8, CN_NO_CHANGE, 0, 0, 0);
+    repairs("伍佰块整", CN_FIGURES + 1, CN_UNKNOWN, CN_NO_CHANGE, 0, 0, 0);
+}
+
+/* Asks why a text is not a number, and checks the status and the reason. */
+static void explains(const char *text, uint32_t kind, uint32_t way, uint32_t status, uint32_t wanted) {
+    uint32_t fault = 7;
+    expect(text, chinese_number_explain((const uint8_t *)text, strlen(text), kind, way, &fault) == status && fault == wanted);
+}
+
+/* The same for a quantity. */
+static void explains_quantity(const char *text, uint32_t method, uint32_t status, uint32_t wanted) {
+    uint32_t fault = 7;
+    expect(text, chinese_quantity_explain((const uint8_t *)text, strlen(text), method, &fault) == status && fault == wanted);
+}
+
+static void each_status_of_explaining(void) {
+    explains("百五", CN_I64, CN_ANY, CN_DONE, CN_FAULT_START);
+    explains("二百五十六", CN_U8, CN_LOW, CN_DONE, CN_FAULT_TOO_LARGE);
+    explains("一百", CN_I64, CN_ANY, CN_DONE, CN_NO_FAULT);
+    explains("\xff", CN_I64, CN_ANY, CN_NOT_UTF8, CN_NO_FAULT);
+    explains("百五", CN_I128 + 1, CN_ANY, CN_UNKNOWN, CN_NO_FAULT);
+    explains("百五", CN_I64, CN_ANY + 1, CN_UNKNOWN, CN_NO_FAULT);
+    explains_quantity("二两", CN_ANY, CN_DONE, CN_FAULT_WEIGHT);
+    explains_quantity("零分之一", CN_LOW, CN_DONE, CN_FAULT_DENOMINATOR);
+    explains_quantity("12.5%", CN_ANY, CN_DONE, CN_NO_FAULT);
+    explains_quantity("\xff", CN_ANY, CN_NOT_UTF8, CN_NO_FAULT);
+    explains_quantity("二两", CN_DIGITS, CN_UNKNOWN, CN_NO_FAULT);
+}
+
+/* Prints a message on a text into a buffer of this length, and checks it. */
+static void says_of_input(const char *typed, uint32_t input, uint32_t language, size_t room_length, uint32_t status,
+                          size_t wanted, const char *text) {
+    size_t length = 7;
+    uint32_t found = chinese_input_message((const uint8_t *)typed, strlen(typed), input, language, fresh_room(), room_length,
+                                           &length);
+    is_printed(text, found, length, status, wanted);
+}
+
+static void says_of_number(const char *typed, uint32_t kind, uint32_t way, uint32_t language, size_t room_length,
+                           uint32_t status, size_t wanted, const char *text) {
+    size_t length = 7;
+    uint32_t found = chinese_number_message((const uint8_t *)typed, strlen(typed), kind, way, language, fresh_room(),
+                                            room_length, &length);
+    is_printed(text, found, length, status, wanted);
+}
+
+static void says_of_quantity(const char *typed, uint32_t method, uint32_t language, size_t room_length, uint32_t status,
+                             size_t wanted, const char *text) {
+    size_t length = 7;
+    uint32_t found = chinese_quantity_message((const uint8_t *)typed, strlen(typed), method, language, fresh_room(),
+                                              room_length, &length);
+    is_printed(text, found, length, status, wanted);
+}
+
+static void says_of_status(uint32_t of, uint32_t language, size_t room_length, uint32_t status, size_t wanted,
+                           const char *text) {
+    size_t length = 7;
+    uint32_t found = chinese_status_message(of, language, fresh_room(), room_length, &length);
+    is_printed(text, found, length, status, wanted);
+}
+
+static void each_status_of_messages(void) {
+    const uint32_t simplified = CN_SIMPLIFIED_CHINESE, traditional = CN_TRADITIONAL_CHINESE, unknown = traditional + 1;
+    const size_t most = CN_MOST_MESSAGE_BYTES;
+    says_of_input("叁佰贰拾元", CN_AMOUNT, simplified, 21, CN_DONE, 21, "末尾缺“整”。");
+    says_of_input("叁佰贰拾元", CN_AMOUNT, simplified, 20, CN_NO_ROOM, 21, "a room that is a byte too small for a message");
+    says_of_input("叁佰贰拾元", CN_AMOUNT, CN_ENGLISH, 0, CN_NO_ROOM, 32, "a room without a byte for a message");
+    says_of_input("壹佰元整", CN_AMOUNT, simplified, 0, CN_DONE, 0, "");
+    says_of_input("\xff", CN_AMOUNT, simplified, most, CN_NOT_UTF8, 0, "no UTF-8 for a message");
+    says_of_input("叁佰贰拾元", CN_FIGURES + 1, simplified, most, CN_UNKNOWN, 0, "an unknown input");
+    says_of_input("叁佰贰拾元", CN_AMOUNT, unknown, most, CN_UNKNOWN, 0, "an unknown language");
+    says_of_number("", CN_I64, CN_ANY, traditional, 15, CN_DONE, 15, "缺少數字。");
+    says_of_number("一", CN_I64, CN_ANY, traditional, 0, CN_DONE, 0, "");
+    says_of_number("", CN_I64, CN_ANY, traditional, 14, CN_NO_ROOM, 15, "a room too small for a message on a number");
+    says_of_number("\xff", CN_I64, CN_ANY, traditional, most, CN_NOT_UTF8, 0, "no UTF-8 for a number");
+    says_of_number("", CN_I64, CN_ANY + 1, traditional, most, CN_UNKNOWN, 0, "an unknown way for a message");
+    says_of_quantity("零分之一", CN_ANY, CN_ENGLISH, 47, CN_DONE, 47, "The denominator must be a whole number above 0.");
+    says_of_quantity("一", CN_ANY, CN_ENGLISH, 0, CN_DONE, 0, "");
+    says_of_quantity("零分之一", CN_ANY, CN_ENGLISH, 46, CN_NO_ROOM, 47, "a room too small for a message on a quantity");
+    says_of_quantity("\xff", CN_ANY, CN_ENGLISH, most, CN_NOT_UTF8, 0, "no UTF-8 for a quantity");
+    says_of_quantity("零分之一", CN_DIGITS, CN_ENGLISH, most, CN_UNKNOWN, 0, "no method for a message");
+    says_of_status(CN_TOO_LARGE, simplified, 15, CN_DONE, 15, "数字太大。");
+    says_of_status(CN_DONE, simplified, 0, CN_DONE, 0, "");
+    says_of_status(CN_TOO_LARGE, simplified, 14, CN_NO_ROOM, 15, "a room too small for the message of a status");
+    says_of_status(CN_NOT_A_QUANTITY + 1, simplified, most, CN_UNKNOWN, 0, "an unknown status");
+    says_of_status(CN_TOO_LARGE, unknown, most, CN_UNKNOWN, 0, "an unknown language of a status");
+}
+
+/* The messages of all statuses in all languages, for char. */
+static void messages_of_char(void) {
+    char room[CN_MOST_MESSAGE_BYTES + 1];
+    for (uint32_t status = CN_DONE; status <= CN_NOT_A_QUANTITY; status++)
+        for (uint32_t language = CN_ENGLISH; language <= CN_TRADITIONAL_CHINESE; language++)
+            expect("a message of a status", cn_status_message((cn_status)status, (cn_language)language, room, sizeof room) == CN_DONE
+                                                && (strlen(room) == 0) == (status == CN_DONE));
+    memset(room, 7, sizeof room);
+    cn_status found = cn_number_message("百五", 6, CN_U8, CN_ANY, CN_ENGLISH, room, 49);
+    expect("a room of the message alone", found == CN_NO_ROOM && room[0] == 0);
+    found = cn_number_message("百五", 6, CN_U8, CN_ANY, CN_ENGLISH, room, 50);
+    expect("a zero byte after a message", found == CN_DONE && strlen(room) == 49 && room[50] == 7);
+    found = cn_quantity_message("二两", 6, CN_ANY, CN_SIMPLIFIED_CHINESE, room, sizeof room);
+    expect("a message on a quantity", found == CN_DONE && strncmp(room, "第2个字“两”", 18) == 0);
+    expect("a reason", cn_explain("百五", 6, CN_U8, CN_ANY) == CN_FAULT_START
+                           && cn_explain("\xff", 1, CN_U8, CN_ANY) == CN_NO_FAULT);
+    expect("a reason for a quantity", cn_explain_quantity("二两", 6, CN_ANY) == CN_FAULT_WEIGHT);
 }
 
 /* The calls for char: the zero byte at the end needs space, on a refusal the buffer has the empty
@@ -487,6 +667,8 @@ static void null_of_char(void) {
     cn_amount amount;
     cn_date date;
     cn_span span = {0, 0, 0};
+    cn_expected next;
+    cn_repair repair;
     size_t length;
     expect("no text", cn_read(NULL, 0, CN_U8, CN_ANY, &reading) == CN_EMPTY);
     expect("no amount", cn_read_amount(NULL, 0, &amount) == CN_UNFINISHED);
@@ -497,10 +679,15 @@ static void null_of_char(void) {
     expect("no room for a new text", cn_quantities_to_figures("一", 3, 0, CN_ZHAO, CN_LOW, 0, NULL, 0, &length) == CN_NO_ROOM);
     expect("no room for an amount", cn_print_amount(1, CN_SIMPLIFIED, CN_PLAIN, NULL, 0) == CN_NO_ROOM);
     expect("no room for a date", cn_print_date(5, 3, 1, CN_SIMPLIFIED, NULL, 0) == CN_NO_ROOM);
+    expect("the start of a text", cn_input_expected(NULL, 0, CN_DATE, &next) == CN_DONE && next.count == 13);
+    expect("nothing to repair", cn_input_repair(NULL, 0, CN_DATE, &repair) == CN_DONE && repair.change == CN_NO_CHANGE);
+    expect("no room for a message", cn_input_message(NULL, 0, CN_DATE, CN_ENGLISH, NULL, 0) == CN_NO_ROOM);
+    expect("no text to explain", cn_explain(NULL, 0, CN_U8, CN_ANY) == CN_FAULT_EMPTY);
 }
 
 int main(void) {
     first_steps();
+    a_refused_text();
     numbers_of_a_text();
     quantities_of_a_text();
     expressions_from_a_place();
@@ -510,6 +697,7 @@ int main(void) {
     quantities_of_char();
     amounts_of_char();
     dates_of_char();
+    messages_of_char();
     null_of_char();
     expect("the version of the library is that of the header", chinese_number_version() == CN_VERSION_NUMBER);
     each_status_of_reading();
@@ -519,8 +707,13 @@ int main(void) {
     each_status_of_printing_quantities();
     each_status_of_replacing();
     each_status_of_printing_amounts();
+    each_status_of_printing_signed_amounts();
     each_status_of_reading_amounts();
     each_status_of_printing_dates();
     each_status_of_reading_dates();
+    each_status_of_expecting();
+    each_status_of_repairing();
+    each_status_of_explaining();
+    each_status_of_messages();
     return failed != 0;
 }

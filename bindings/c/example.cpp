@@ -3,6 +3,7 @@
 #include "chinese_number.hpp"
 
 #include <iostream>
+#include <memory>
 #include <vector>
 
 namespace {
@@ -19,13 +20,19 @@ void expect(const char *what, bool holds) {
 }
 
 void first_steps() {
-    std::cout << to_chinese(-105000).value_or("") << '\n'; // 负十万五千
+    std::cout << to_chinese(-105000).value() << '\n'; // 负十万五千
     std::cout << to_number<int>("一百二").value_or(0) << '\n'; // 120
     for (auto found : find_numbers("百分之五十的人"))
         if (auto number = found.value<int>())
             std::cout << *number << '\n'; // 50
     if (auto it = to_number<unsigned>("二十十"); !it)
         std::cout << it.error().message() << '\n'; // the chinese number is incorrect (position: 1)
+
+    std::string typed = "壹佰贰元整";
+    const auto message = input_message(typed, Input::amount, Language::simplified_chinese);
+    std::cout << message.value_or("") << '\n'; // 第3个字“贰”前缺“零”。
+    if (auto repair = input_repair(typed, Input::amount); repair && repair->change == Change::insert)
+        std::cout << typed.insert(repair->byte_index, repair->character) << '\n'; // 壹佰零贰元整
 
     AmountForm form;
     form.currency = true;
@@ -44,6 +51,38 @@ void first_steps() {
 template <typename Value>
 bool is_refused(const Result<Value> &answer, Status status) {
     return !answer && answer.error().status == status;
+}
+
+/* A result throws if it has no value, and moves what it has out of a temporary. */
+void results() {
+    try {
+        to_number<int>(" 二 十 十 ").value();
+        expect("an exception", false);
+    } catch (const BadResultAccess &it) {
+        expect("its error", it.error().status == Status::incorrect && it.error().char_index == 3);
+        expect("its message", it.what() == it.error().message());
+    }
+    const Result<int> none = to_number<int>("");
+    try {
+        expect("another exception", none.value() != none.value());
+    } catch (const std::exception &it) {
+        expect("another message", it.what() == std::string("a chinese number cannot be empty"));
+    }
+
+    const auto text_of = [] { return to_chinese(INT64_MAX); };
+    const std::string wanted = *text_of();
+    const std::string &kept = *text_of(), &kept_value = text_of().value();
+    expect("a text that is kept", kept == wanted && kept_value == wanted);
+    Result<std::string> one = text_of(), other = text_of(), third = text_of(), fourth = text_of();
+    const char *const places[] = {one->data(), other->data(), third->data(), fourth->data()};
+    expect("a reference", &*one == &one.value() && (*one).data() == places[0]);
+    const std::string moved = *std::move(one), moved_value = std::move(other).value();
+    const std::string moved_or = std::move(third).value_or("");
+    const std::optional<std::string> moved_optional = std::move(fourth).optional();
+    expect("a text that is moved", moved.data() == places[0] && moved_value.data() == places[1]);
+    expect("moved otherwise", moved_or.data() == places[2] && moved_optional->data() == places[3]);
+    const auto pointer = [] { return detail::result_of(CN_DONE, std::make_unique<int>(7), "number"); };
+    expect("what has no copy", **pointer() == 7 && *pointer().value() == 7 && *pointer().value_or(nullptr) == 7);
 }
 
 void numbers() {
@@ -135,6 +174,45 @@ void doubts() {
     expect("a number without doubt", (*find_numbers("五一").begin()).doubt == Doubt::none);
 }
 
+void amounts() {
+    AmountForm bracketed;
+    bracketed.bracketed_sign = bracketed.currency = true;
+    const std::string text = signed_amount_to_chinese(-1500, bracketed).value_or("");
+    expect("a red invoice", text == "（负数）人民币壹拾伍元整");
+    expect("one that is read", chinese_to_signed_amount_as_typed(text).value_or(0) == -1500);
+    const char *const advice = "number is too small: signed_amount_to_chinese writes amounts below zero";
+    expect("another call", amount_to_chinese(-1).error().message() == advice);
+    expect("no other call", signed_amount_to_chinese(INT64_MIN).error().message() == "number is too small");
+    expect("a large amount", amount_to_chinese(UINT64_MAX).error().message() == "number is too large");
+}
+
+void refused_texts() {
+    const Result<Expected> next = input_expected("壹佰贰元整", Input::amount);
+    expect("what may come next", next && next->characters == std::vector<std::string>{"拾"} && next->byte_index == 9);
+    expect("flags of it", !next->may_end && !next->white_space && input_expected("", Input::typed_amount)->white_space);
+    const std::vector<std::string> start = input_expected("-", Input::figures)->characters;
+    expect("of each length in UTF-8", start[0] == "0" && start[10] == "０" && start[20] == "¥" && start.size() == 22);
+    expect("no UTF-8 before it", is_refused(input_expected("\xff", Input::date), Status::not_utf8));
+
+    const std::optional<Repair> erased = input_repair("¥760.00元", Input::figures);
+    expect("a character is deleted", erased && erased->change == Change::erase && erased->byte_index == 8);
+    expect("nothing is written", erased->character.empty() && erased->char_index == 7);
+    expect("no repair", !input_repair("壹佰元整", Input::amount) && !input_repair("\xff", Input::amount));
+
+    expect("a reason", explain_number<int>("百五") == Fault::start && !explain_number<int>("一百"));
+    expect("a reason for a type", explain_number("二百五十六", CN_U8) == Fault::too_large && !explain_number<int>("\xff"));
+    expect("a reason for a quantity", explain_quantity("二两") == Fault::weight && !explain_quantity("12.5%"));
+
+    const Language traditional = Language::traditional_chinese;
+    expect("a message on a number", number_message<int>("", traditional).value_or("") == "缺少數字。");
+    expect("on one by a way", number_message<int>("二十", traditional, Way::digits).value_or("") == "第2個字「十」不是數字。");
+    expect("on one in halves", number_message("一", CN_U128, traditional).value_or("none").empty());
+    expect("on a quantity", quantity_message("零分之一", traditional).value_or("") == "分母必須是大於零的整數。");
+    expect("on no UTF-8", is_refused(input_message("\xff", Input::date, traditional), Status::not_utf8));
+    expect("on a status", status_message(Status::too_large, traditional) == "數字太大。");
+    expect("on no refusal", status_message(Status::done, traditional).empty());
+}
+
 void found_numbers() {
     const Numbers numbers_of_text = find_numbers("第二十三回，二零二五年");
     const std::vector<Found> found(numbers_of_text.begin(), numbers_of_text.end());
@@ -158,11 +236,14 @@ void found_numbers() {
 
 int main() {
     first_steps();
+    results();
     numbers();
     quantities();
     replaced_quantities();
     options();
     doubts();
+    amounts();
+    refused_texts();
     found_numbers();
     return failed != 0;
 }

@@ -1,6 +1,9 @@
 package chinesenumber
 
-import "math"
+import (
+	"fmt"
+	"math"
+)
 
 // The members of each type are in the order of their codes in the library. If the zero value means
 // the default, they begin with 1, otherwise with 0.
@@ -86,6 +89,104 @@ const (
 	DoubtTime         // it may be a time: 三点五 of 下午三点五, 十点零五
 	DoubtRange        // it is one end of a range whose ends share a unit or 百分之: 3 and 5万 of 3~5万
 )
+
+// Input is what a text is meant to be: what one of the readers takes.
+type Input uint32
+
+const (
+	InputAmount            Input = iota // what ChineseToAmount reads
+	InputSignedAmount                   // what ChineseToSignedAmount reads
+	InputTypedAmount                    // what ChineseToAmountAsTyped reads
+	InputTypedSignedAmount              // what ChineseToSignedAmountAsTyped reads
+	InputDate                           // what ChineseToDate reads
+	InputFigures                        // what YuanToFen reads
+)
+
+// Change is what is changed in a text to repair it.
+type Change uint32
+
+const (
+	NoChange Change = iota
+	Insert          // the character is inserted at the place
+	Replace         // the character replaces the one at the place
+	Delete          // the character at the place is deleted
+)
+
+// Fault is why a text is not a number or a quantity. From FaultStart on it is the rule that the
+// wrong character breaks; from FaultBareTen on, a rule of quantities only. docs/RULES.md in the
+// library's repository has the rules.
+type Fault uint32
+
+const (
+	NoFault Fault = iota
+	FaultEmpty
+	FaultTooLarge
+	FaultTooSmall
+	FaultStart       // no numeral starts with it: 百 of 百五
+	FaultCharacter   // it is neither a digit nor a unit: 角 of 一角
+	FaultDigits      // it is a digit directly before another one: 一 of 一二 with units
+	FaultUnits       // it is a unit directly before one that is not greater: 百 of 一百十
+	FaultGe          // it is 個 without a greater unit after it: 個 of 三個
+	FaultGroups      // it is a unit that comes again: 萬 of 一萬二萬
+	FaultBareTen     // it is 十 without 一 before it: 十 of 三千零十万
+	FaultRepeatedTen // it is 十 or 百 after 十: the second 十 of 二十十
+	FaultAfterZero   // it is a unit after 零: 万 of 一亿零万
+	FaultWeight      // it is 两, which may be the unit of weight: 两 of 二两
+	FaultTwoReadings // it gives the text two readings: 万 of 一百五万
+	FaultLeftOutZero // 零 or a unit is missing: 二 of 一亿二千
+	FaultDenominator // the denominator is not a whole number above 0: 零 of 零分之一
+)
+
+// Language is the language of a message.
+type Language uint32
+
+const (
+	English Language = iota
+	SimplifiedChinese
+	TraditionalChinese
+)
+
+// The words of these types, in the order of their codes.
+var (
+	inputs = []string{
+		"amount", "signed_amount", "typed_amount", "typed_signed_amount", "date", "figures",
+	}
+	changes = []string{"none", "insert", "replace", "delete"}
+	faults  = []string{
+		"none", "empty", "too_large", "too_small", "start", "character", "digits", "units", "ge",
+		"groups", "bare_ten", "repeated_ten", "after_zero", "weight", "two_readings",
+		"left_out_zero", "denominator",
+	}
+	languages = []string{"en", "zh-Hans", "zh-Hant"}
+)
+
+// word returns the word of a choice, or its type and number if it is unknown.
+func word[T Input | Change | Fault | Language](words []string, choice T) string {
+	if uint64(choice) < uint64(len(words)) {
+		return words[choice]
+	}
+	return fmt.Sprintf("%T(%d)", choice, uint32(choice))
+}
+
+// String returns the word of the input, such as typed_amount.
+func (it Input) String() string {
+	return word(inputs, it)
+}
+
+// String returns the word of the change, such as insert.
+func (it Change) String() string {
+	return word(changes, it)
+}
+
+// String returns the word of the fault, such as bare_ten.
+func (it Fault) String() string {
+	return word(faults, it)
+}
+
+// String returns the tag of the language: en, zh-Hans or zh-Hant.
+func (it Language) String() string {
+	return word(languages, it)
+}
 
 // Status is why a call refuses. Each status is an error, for errors.Is. No error has the status
 // Done, NoRoom or None.

@@ -32,7 +32,7 @@ func (it Date) String() string {
 func DateToChinese(date Date, script Script) (string, error) {
 	year, month, day := part(date.Year), part(int(date.Month)), part(date.Day)
 	it := C.print_date(year, month, day, code(script, Simplified))
-	return printed(ofDate, &it)
+	return printed(&it)
 }
 
 // part converts a year, a month or a day. It returns 0, which is never valid, for a number that
@@ -48,6 +48,8 @@ func part(number int) C.uint32_t {
 // first character with which no date begins (also at white space), NotUTF8 and TooLong.
 func ChineseToDate(text string) (Date, error) {
 	it := C.read_date(text)
-	date := Date{int(it.told.year), time.Month(it.told.month), int(it.told.day)}
-	return date, refusal(ofDate, it.status, it.told.char_index, it.told.byte_index)
+	result := &it.result
+	date := Date{int(result.year), time.Month(result.month), int(result.day)}
+	from := source{text: text, reader: readsInput, input: InputDate}
+	return date, from.refusal(it.status, result.char_index, result.byte_index)
 }

@@ -29,6 +29,12 @@ func Example() {
 	fen, _ := cn.YuanToFen("-1,409.50")
 	text, _ = cn.SignedAmountToChinese(fen, nil)
 	fmt.Println(text) // 负壹仟肆佰零玖元伍角整
+
+	_, err = cn.ChineseToAmount("壹佰贰元整")
+	var refusal *cn.Error
+	if errors.As(err, &refusal) {
+		fmt.Println(refusal.MessageIn(cn.SimplifiedChinese)) // 第3个字“贰”前缺“零”。
+	}
 	text, _ = cn.AmountToChinese(1500, &cn.AmountForm{Currency: true, UprightClosing: true})
 	fmt.Println(text) // 人民币壹拾伍元正
 	amount, _ := cn.ChineseToAmountAsTyped("⊗人民币：壹拾 伍元整")
@@ -49,6 +55,7 @@ func Example() {
 	// 十万五千
 	// 壹佰貳拾
 	// 负壹仟肆佰零玖元伍角整
+	// 第3个字“贰”前缺“零”。
 	// 人民币壹拾伍元正
 	// 1500
 	// 贰零贰陆年零壹月壹拾伍日
@@ -71,6 +78,87 @@ func ExampleError() {
 	// the chinese number is incorrect (position: 3)
 	// true "十 十 "
 	// the amount is not finished true
+}
+
+func ExampleError_MessageIn() {
+	_, err := cn.ToQuantity("一亿二千", cn.Any)
+	var refusal *cn.Error
+	if errors.As(err, &refusal) {
+		fmt.Println(refusal.MessageIn(cn.English))
+		fmt.Println(refusal.MessageIn(cn.TraditionalChinese))
+	}
+	// Output:
+	// “零” is missing before character 3, “二”, or a unit such as 万 at the end.
+	// 第3個字「二」前缺「零」，或末尾缺「萬」等單位。
+}
+
+func ExampleChineseToSignedAmountAsTyped() {
+	text, _ := cn.SignedAmountToChinese(-150_000, &cn.AmountForm{BracketedSign: true})
+	fmt.Println(text)
+	fen, _ := cn.ChineseToSignedAmountAsTyped("⊗（负数）人民币（大写）：壹仟伍佰元整")
+	fmt.Println(fen)
+	// Output:
+	// （负数）壹仟伍佰元整
+	// -150000
+}
+
+func ExampleInputExpected() {
+	for _, text := range []string{"壹元", "壹元伍块", "壹元整"} {
+		expected, _ := cn.InputExpected(text, cn.InputAmount)
+		fmt.Printf("%s %v %q\n", text[:expected.ByteIndex], expected.MayEnd, expected.Characters)
+	}
+	// Output:
+	// 壹元 false "零壹贰貳叁參叄肆伍陆陸柒捌玖整正"
+	// 壹元伍 false "角"
+	// 壹元整 true ""
+}
+
+func ExampleInputRepair() {
+	for _, text := range []string{"壹佰贰元整", "伍佰块整", "捌佰零伍拾元整", "壹佰元整"} {
+		repair, _ := cn.InputRepair(text, cn.InputAmount)
+		fmt.Printf("%v %d %q\n", repair.Change, repair.CharIndex, repair.Character)
+	}
+	// Output:
+	// insert 2 '零'
+	// replace 2 '元'
+	// delete 2 '\x00'
+	// none 0 '\x00'
+}
+
+func ExampleInputMessage() {
+	message, _ := cn.InputMessage("壹佰贰元整", cn.InputAmount, cn.English)
+	fmt.Println(message)
+	message, _ = cn.InputMessage("壹佰元整", cn.InputAmount, cn.English)
+	fmt.Printf("%q\n", message)
+	// Output:
+	// “零” is missing before character 3, “贰”.
+	// ""
+}
+
+func ExampleExplainNumber() {
+	for _, text := range []string{"百五", "一角", "一百二"} {
+		fault, _ := cn.ExplainNumber[int64](text, cn.Any)
+		message, _ := cn.NumberMessage[int64](text, cn.Any, cn.SimplifiedChinese)
+		fmt.Printf("%v %q\n", fault, message)
+	}
+	// Output:
+	// start "第1个字“百”前缺数字。"
+	// character "第2个字“角”不是数字用字。"
+	// none ""
+}
+
+func ExampleExplainQuantity() {
+	fault, _ := cn.ExplainQuantity("一亿二千", cn.Any)
+	fmt.Println(fault, fault == cn.FaultLeftOutZero)
+	// Output:
+	// left_out_zero true
+}
+
+func ExampleStatusMessage() {
+	message, _ := cn.StatusMessage(cn.TooLarge, cn.SimplifiedChinese)
+	fmt.Println(message)
+	// Output:
+	// 数字太大。
 }
 
 func ExampleToBigInt() {

@@ -125,7 +125,7 @@ func each(text string, visit func(Found) bool, next func(from C.size_t) C.found)
 			from = span.end
 		}
 		if some.count < C.AT_ONCE {
-			return refusal(ofNumber, some.status, 0, 0)
+			return refusal(some.status)
 		}
 	}
 }

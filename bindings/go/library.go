@@ -35,18 +35,10 @@ func flag(isSet bool, it C.uint32_t) C.uint32_t {
 	return 0
 }
 
-// refusal returns the error for a status, or nil for that of a successful call.
-func refusal(what string, status C.uint32_t, charIndex, byteIndex C.size_t) error {
-	if status == C.CN_DONE {
-		return nil
-	}
-	return &Error{Status(status), int(charIndex), int(byteIndex), what}
-}
-
 // printed returns the text that a call has printed.
-func printed(what string, it *C.printed) (string, error) {
+func printed(it *C.printed) (string, error) {
 	if it.status != C.CN_DONE {
-		return "", refusal(what, it.status, 0, 0)
+		return "", refusal(it.status)
 	}
 	return string(it.text[:it.length]), nil
 }

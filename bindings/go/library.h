@@ -8,40 +8,57 @@
 
 #define TEXT(text) cn_bytes(_GoStringPtr(text), _GoStringLen(text)), _GoStringLen(text)
 
-typedef struct { uint32_t status; cn_reading told; } number_read;
-typedef struct { uint32_t status; cn_quantity told; } quantity_read;
-typedef struct { uint32_t status; cn_amount told; } amount_read;
-typedef struct { uint32_t status; cn_signed_amount told; } signed_amount_read;
-typedef struct { uint32_t status; cn_date told; } date_read;
+typedef struct { uint32_t status; cn_reading result; } number_read;
+typedef struct { uint32_t status; cn_quantity result; } quantity_read;
+typedef struct { uint32_t status; cn_amount result; } amount_read;
+typedef struct { uint32_t status; cn_signed_amount result; } signed_amount_read;
+typedef struct { uint32_t status; cn_date result; } date_read;
+typedef struct { uint32_t status; cn_expected result; } input_expected;
+typedef struct { uint32_t status; cn_repair result; } input_repair;
+typedef struct { uint32_t status; uint32_t result; } explained;
 
 static inline number_read read_number(_GoString_ text, uint32_t kind, uint32_t way) {
     number_read it;
-    it.status = chinese_number_read(TEXT(text), kind, way, &it.told);
+    it.status = chinese_number_read(TEXT(text), kind, way, &it.result);
     return it;
 }
 
-static inline quantity_read read_quantity(_GoString_ text, uint32_t method) {
-    quantity_read it;
-    it.status = chinese_quantity_read(TEXT(text), method, &it.told);
+static inline explained explain_number(_GoString_ text, uint32_t kind, uint32_t way) {
+    explained it;
+    it.status = chinese_number_explain(TEXT(text), kind, way, &it.result);
     return it;
 }
 
-/* The readers that take only a text. */
+/* The calls that take only a text. */
 #define READER(name, answer, call)                  \
     static inline answer name(_GoString_ text) {    \
         answer it;                                  \
-        it.status = call(TEXT(text), &it.told);     \
+        it.status = call(TEXT(text), &it.result);   \
         return it;                                  \
     }
 
 READER(read_amount, amount_read, chinese_amount_read)
 READER(read_typed_amount, amount_read, chinese_typed_amount_read)
 READER(read_signed_amount, signed_amount_read, chinese_signed_amount_read)
+READER(read_typed_signed_amount, signed_amount_read, chinese_typed_signed_amount_read)
 READER(read_figures, signed_amount_read, chinese_figures_read)
 READER(read_date, date_read, chinese_date_read)
 
-/* A printed text. None has more bytes. */
-typedef struct { uint32_t status; size_t length; uint8_t text[CN_MOST_QUANTITY_BYTES]; } printed;
+/* The calls that take a text and a code. */
+#define READER_BY_CODE(name, answer, call)                      \
+    static inline answer name(_GoString_ text, uint32_t code) { \
+        answer it;                                              \
+        it.status = call(TEXT(text), code, &it.result);         \
+        return it;                                              \
+    }
+
+READER_BY_CODE(read_quantity, quantity_read, chinese_quantity_read)
+READER_BY_CODE(explain_quantity, explained, chinese_quantity_explain)
+READER_BY_CODE(expect_input, input_expected, chinese_input_expected)
+READER_BY_CODE(repair_input, input_repair, chinese_input_repair)
+
+/* A printed text or a message. None has more bytes. */
+typedef struct { uint32_t status; size_t length; uint8_t text[CN_MOST_MESSAGE_BYTES]; } printed;
 
 #define ROOM(it) (it).text, sizeof (it).text, &(it).length
 
@@ -81,6 +98,32 @@ static inline printed print_signed_amount(int64_t fen, uint32_t script, uint32_t
 static inline printed print_date(uint32_t year, uint32_t month, uint32_t day, uint32_t script) {
     printed it;
     it.status = chinese_date_print(year, month, day, script, ROOM(it));
+    return it;
+}
+
+static inline printed print_input_message(_GoString_ text, uint32_t input, uint32_t language) {
+    printed it;
+    it.status = chinese_input_message(TEXT(text), input, language, ROOM(it));
+    return it;
+}
+
+static inline printed print_number_message(_GoString_ text, uint32_t kind, uint32_t way,
+                                           uint32_t language) {
+    printed it;
+    it.status = chinese_number_message(TEXT(text), kind, way, language, ROOM(it));
+    return it;
+}
+
+static inline printed print_quantity_message(_GoString_ text, uint32_t method,
+                                             uint32_t language) {
+    printed it;
+    it.status = chinese_quantity_message(TEXT(text), method, language, ROOM(it));
+    return it;
+}
+
+static inline printed print_status_message(uint32_t status, uint32_t language) {
+    printed it;
+    it.status = chinese_status_message(status, language, ROOM(it));
     return it;
 }
 

@@ -2,6 +2,7 @@ package chinesenumber_test
 
 import (
 	"errors"
+	"fmt"
 	"math"
 	"math/big"
 	"strings"
@@ -127,6 +128,16 @@ func TestUnknownChoices(t *testing.T) {
 		"of found ones": errorOf(cn.Found{Text: "一", IsPlain: true}.Number(7)),
 		"to replace":    errorOf(cn.ReplaceQuantities("", &cn.Replacing{Method: 1}, everyOne)),
 		"in figures":    errorOf(cn.QuantitiesToFigures("", &cn.Replacing{Method: 7})),
+		"an input":      errorOf(cn.InputExpected("", 6)),
+		"to repair":     errorOf(cn.InputRepair("", 6)),
+		"of a message":  errorOf(cn.InputMessage("", 6, cn.English)),
+		"a language":    errorOf(cn.InputMessage("", cn.InputDate, 3)),
+		"to explain":    errorOf(cn.ExplainBigInt("一", cn.Any+1)),
+		"by digits":     errorOf(cn.ExplainQuantity("一", cn.Digits)),
+		"of a number":   errorOf(cn.NumberMessage[int]("一", cn.Any+1, cn.English)),
+		"of a quantity": errorOf(cn.QuantityMessage("一", cn.Any, 3)),
+		"a status":      errorOf(cn.StatusMessage(cn.NotAQuantity+1, cn.English)),
+		"of a status":   errorOf(cn.StatusMessage(cn.Empty, 3)),
 	} {
 		wantStatus(t, what, err, cn.Unknown)
 	}
@@ -135,18 +146,27 @@ func TestUnknownChoices(t *testing.T) {
 // errorsOf are the errors of each call that takes a text.
 func errorsOf(text string) map[string]error {
 	return map[string]error{
-		"ToNumber":               errorOf(cn.ToNumber[int](text, 0)),
-		"ToBigInt":               errorOf(cn.ToBigInt(text, 0)),
-		"ToQuantity":             errorOf(cn.ToQuantity(text, 0)),
-		"ChineseToAmount":        errorOf(cn.ChineseToAmount(text)),
-		"ChineseToSignedAmount":  errorOf(cn.ChineseToSignedAmount(text)),
-		"ChineseToAmountAsTyped": errorOf(cn.ChineseToAmountAsTyped(text)),
-		"YuanToFen":              errorOf(cn.YuanToFen(text)),
-		"ChineseToDate":          errorOf(cn.ChineseToDate(text)),
-		"FindNumbers":            errorOf(cn.FindNumbers(text, nil)),
-		"FindQuantities":         errorOf(cn.FindQuantities(text, nil)),
-		"QuantitiesToFigures":    errorOf(cn.QuantitiesToFigures(text, nil)),
-		"ReplaceQuantities":      errorOf(cn.ReplaceQuantities(text, nil, everyOne)),
+		"ToNumber":                     errorOf(cn.ToNumber[int](text, 0)),
+		"ToBigInt":                     errorOf(cn.ToBigInt(text, 0)),
+		"ToQuantity":                   errorOf(cn.ToQuantity(text, 0)),
+		"ChineseToAmount":              errorOf(cn.ChineseToAmount(text)),
+		"ChineseToSignedAmount":        errorOf(cn.ChineseToSignedAmount(text)),
+		"ChineseToAmountAsTyped":       errorOf(cn.ChineseToAmountAsTyped(text)),
+		"ChineseToSignedAmountAsTyped": errorOf(cn.ChineseToSignedAmountAsTyped(text)),
+		"YuanToFen":                    errorOf(cn.YuanToFen(text)),
+		"ChineseToDate":                errorOf(cn.ChineseToDate(text)),
+		"FindNumbers":                  errorOf(cn.FindNumbers(text, nil)),
+		"FindQuantities":               errorOf(cn.FindQuantities(text, nil)),
+		"QuantitiesToFigures":          errorOf(cn.QuantitiesToFigures(text, nil)),
+		"ReplaceQuantities":            errorOf(cn.ReplaceQuantities(text, nil, everyOne)),
+		"InputExpected":                errorOf(cn.InputExpected(text, cn.InputAmount)),
+		"InputRepair":                  errorOf(cn.InputRepair(text, cn.InputDate)),
+		"InputMessage":                 errorOf(cn.InputMessage(text, cn.InputFigures, cn.English)),
+		"ExplainNumber":                errorOf(cn.ExplainNumber[int](text, 0)),
+		"ExplainBigUint":               errorOf(cn.ExplainBigUint(text, 0)),
+		"ExplainQuantity":              errorOf(cn.ExplainQuantity(text, 0)),
+		"NumberMessage":                errorOf(cn.NumberMessage[int](text, 0, cn.English)),
+		"QuantityMessage":              errorOf(cn.QuantityMessage(text, 0, cn.English)),
 	}
 }
 
@@ -165,6 +185,138 @@ func TestTexts(t *testing.T) {
 		}
 		wantStatus(t, name+" of nothing", err, wanted)
 	}
+}
+
+// The readers of the inputs, in the order of the inputs.
+var readers = []func(string) error{
+	func(text string) error { return errorOf(cn.ChineseToAmount(text)) },
+	func(text string) error { return errorOf(cn.ChineseToSignedAmount(text)) },
+	func(text string) error { return errorOf(cn.ChineseToAmountAsTyped(text)) },
+	func(text string) error { return errorOf(cn.ChineseToSignedAmountAsTyped(text)) },
+	func(text string) error { return errorOf(cn.ChineseToDate(text)) },
+	func(text string) error { return errorOf(cn.YuanToFen(text)) },
+}
+
+// wantMessages fails if the messages of an error, in each language, are not those of a call.
+func wantMessages(t *testing.T, err error, wanted func(cn.Language) (string, error)) {
+	t.Helper()
+	var refusal *cn.Error
+	if !errors.As(err, &refusal) {
+		t.Fatal(err)
+	}
+	for language := cn.English; language <= cn.TraditionalChinese; language++ {
+		message, err := wanted(language)
+		wantStatus(t, refusal.Error(), err, cn.Done)
+		if found := refusal.MessageIn(language); found != message || message == "" {
+			t.Errorf("%v: %q in %v, and not %q", refusal, found, language, message)
+		}
+	}
+	if found := refusal.MessageIn(cn.TraditionalChinese + 1); found != refusal.Error() {
+		t.Errorf("%v: %q in an unknown language", refusal, found)
+	}
+}
+
+func TestMessagesOfInputs(t *testing.T) {
+	for _, text := range []string{"", "壹佰贰元整", "壹 元", "贰零贰", "1,40", "15.005"} {
+		for number, read := range readers {
+			input := cn.Input(number)
+			wantMessages(t, read(text), func(in cn.Language) (string, error) {
+				return cn.InputMessage(text, input, in)
+			})
+		}
+	}
+}
+
+func TestMessagesOfNumbers(t *testing.T) {
+	const above, below, misread = "一万亿亿亿亿", "负一百二十九", "一亿二千"
+	wantMessages(t, errorOf(cn.ToNumber[int8](below, 0)), func(in cn.Language) (string, error) {
+		return cn.NumberMessage[int8](below, 0, in)
+	})
+	wantMessages(t, errorOf(cn.ToBigInt(above, cn.Digits)), func(in cn.Language) (string, error) {
+		return cn.BigIntMessage(above, cn.Digits, in)
+	})
+	wantMessages(t, errorOf(cn.ToBigUint(below, 0)), func(in cn.Language) (string, error) {
+		return cn.BigUintMessage(below, 0, in)
+	})
+	wantMessages(t, errorOf(cn.ToQuantity(misread, 0)), func(in cn.Language) (string, error) {
+		return cn.QuantityMessage(misread, 0, in)
+	})
+}
+
+func TestMessagesOfStatuses(t *testing.T) {
+	for status, err := range map[cn.Status]error{
+		cn.TooLarge:     errorOf(cn.AmountToChinese(math.MaxUint64, nil)),
+		cn.TooSmall:     errorOf(cn.SignedAmountToChinese(math.MinInt64, nil)),
+		cn.NotUTF8:      errorOf(cn.ToQuantity("\xff", 0)),
+		cn.NotHeld:      errorOf(cn.NewDecimal(1, 39)),
+		cn.Unknown:      errorOf(cn.ToNumber[int]("一", cn.Any+1)),
+		cn.NotADate:     errorOf(cn.DateToChinese(cn.Date{}, 0)),
+		cn.NotAQuantity: errorOf(cn.NewFraction(1, 0)),
+	} {
+		status := status
+		wantMessages(t, err, func(in cn.Language) (string, error) {
+			return cn.StatusMessage(status, in)
+		})
+	}
+	wantMessages(t, &cn.Error{Status: cn.TooLong}, func(in cn.Language) (string, error) {
+		return cn.StatusMessage(cn.TooLong, in)
+	})
+	unknown := &cn.Error{Status: cn.NotAQuantity + 1}
+	if message := unknown.MessageIn(cn.English); message != unknown.Error() {
+		t.Error(message)
+	}
+}
+
+func TestWords(t *testing.T) {
+	for wanted, found := range map[string]string{
+		"amount signed_amount typed_amount typed_signed_amount date figures": fmt.Sprint(
+			cn.InputAmount, cn.InputSignedAmount, cn.InputTypedAmount, cn.InputTypedSignedAmount,
+			cn.InputDate, cn.InputFigures),
+		"none insert replace delete": fmt.Sprint(cn.NoChange, cn.Insert, cn.Replace, cn.Delete),
+		"none empty too_large too_small start character digits units": fmt.Sprint(
+			cn.NoFault, cn.FaultEmpty, cn.FaultTooLarge, cn.FaultTooSmall, cn.FaultStart,
+			cn.FaultCharacter, cn.FaultDigits, cn.FaultUnits),
+		"ge groups bare_ten repeated_ten after_zero": fmt.Sprint(
+			cn.FaultGe, cn.FaultGroups, cn.FaultBareTen, cn.FaultRepeatedTen, cn.FaultAfterZero),
+		"weight two_readings left_out_zero denominator": fmt.Sprint(
+			cn.FaultWeight, cn.FaultTwoReadings, cn.FaultLeftOutZero, cn.FaultDenominator),
+		"en zh-Hans zh-Hant": fmt.Sprint(
+			cn.English, cn.SimplifiedChinese, cn.TraditionalChinese),
+		"chinesenumber.Input(6) chinesenumber.Language(4294967295)": fmt.Sprint(
+			cn.Input(6), cn.Language(math.MaxUint32)),
+	} {
+		if found != wanted {
+			t.Errorf("%s, and not %s", found, wanted)
+		}
+	}
+}
+
+func wantFaults(
+	t *testing.T, explain func(string, cn.Way) (cn.Fault, error), faults map[string]cn.Fault,
+) {
+	for text, wanted := range faults {
+		fault, err := explain(text, cn.TenThousand)
+		wantStatus(t, text, err, cn.Done)
+		if fault != wanted {
+			t.Errorf("%s: %v, and not %v", text, fault, wanted)
+		}
+	}
+}
+
+// Each fault has an example.
+func TestFaults(t *testing.T) {
+	wantFaults(t, cn.ExplainNumber[int8], map[string]cn.Fault{
+		"一百二": cn.NoFault, " 负 ": cn.FaultEmpty, "一百二十八": cn.FaultTooLarge,
+		"负一百二十九": cn.FaultTooSmall, "百五": cn.FaultStart, "一角": cn.FaultCharacter,
+		"一二": cn.FaultDigits, "一百十": cn.FaultUnits, "三個": cn.FaultGe, "一萬二萬": cn.FaultGroups,
+	})
+	wantFaults(t, cn.ExplainBigInt, map[string]cn.Fault{"负一": cn.NoFault, "一百十": cn.FaultUnits})
+	wantFaults(t, cn.ExplainBigUint, map[string]cn.Fault{"负一": cn.FaultCharacter})
+	wantFaults(t, cn.ExplainQuantity, map[string]cn.Fault{
+		"三点五": cn.NoFault, "三千零十万": cn.FaultBareTen, "二十十": cn.FaultRepeatedTen,
+		"一亿零万": cn.FaultAfterZero, "二两": cn.FaultWeight, "一百五万": cn.FaultTwoReadings,
+		"一亿二千": cn.FaultLeftOutZero, "零分之一": cn.FaultDenominator, "百五": cn.FaultStart,
+	})
 }
 
 func TestDates(t *testing.T) {

@@ -76,6 +76,40 @@ func BigIntToChinese(number *big.Int, style *Style) (string, error) {
 	return write(it, kind, style)
 }
 
+// ExplainNumber returns why ToNumber refuses a text: FaultDigits for 一二 by TenThousand. If a
+// character is wrong, it is the rule that the text from there on breaks first. NoFault means that
+// the text is read. The errors are NotUTF8, TooLong, and Unknown for the way.
+func ExplainNumber[T Integer](text string, way Way) (Fault, error) {
+	return explain(text, kindOf[T](), way)
+}
+
+// ExplainBigInt returns why ToBigInt refuses a text, like ExplainNumber.
+func ExplainBigInt(text string, way Way) (Fault, error) {
+	return explain(text, i128, way)
+}
+
+// ExplainBigUint returns why ToBigUint refuses a text, like ExplainNumber.
+func ExplainBigUint(text string, way Way) (Fault, error) {
+	return explain(text, u128, way)
+}
+
+// NumberMessage returns a message in a language, for the person who typed a text, that says why
+// ToNumber refuses it, with the wrong character and its position, counted from 1. The message is
+// empty if the text is read. The errors are those of ExplainNumber, and Unknown for the language.
+func NumberMessage[T Integer](text string, way Way, language Language) (string, error) {
+	return numberMessage(text, kindOf[T](), way, language)
+}
+
+// BigIntMessage returns a message for a text that ToBigInt refuses, like NumberMessage.
+func BigIntMessage(text string, way Way, language Language) (string, error) {
+	return numberMessage(text, i128, way, language)
+}
+
+// BigUintMessage returns a message for a text that ToBigUint refuses, like NumberMessage.
+func BigUintMessage(text string, way Way, language Language) (string, error) {
+	return numberMessage(text, u128, way, language)
+}
+
 // kindOf returns the library's code of an integer type, by its sign and its width.
 func kindOf[T Integer]() kind {
 	var zero T
@@ -88,8 +122,9 @@ func kindOf[T Integer]() kind {
 
 func read(text string, kind kind, way Way) (halves, error) {
 	it := C.read_number(text, C.uint32_t(kind), code(way, Any))
-	err := refusal(ofNumber, it.status, it.told.char_index, it.told.byte_index)
-	return halvesOf(it.told.number), err
+	from := source{text: text, reader: readsNumber, kind: kind, way: way}
+	err := from.refusal(it.status, it.result.char_index, it.result.byte_index)
+	return halvesOf(it.result.number), err
 }
 
 func readBig(text string, kind kind, way Way) (*big.Int, error) {
@@ -100,10 +135,20 @@ func readBig(text string, kind kind, way Way) (*big.Int, error) {
 	return number.big(kind), nil
 }
 
+func explain(text string, kind kind, way Way) (Fault, error) {
+	it := C.explain_number(text, C.uint32_t(kind), code(way, Any))
+	return Fault(it.result), refusal(it.status)
+}
+
+func numberMessage(text string, kind kind, way Way, language Language) (string, error) {
+	it := C.print_number_message(text, C.uint32_t(kind), code(way, Any), C.uint32_t(language))
+	return printed(&it)
+}
+
 func write(number halves, kind kind, style *Style) (string, error) {
 	way, script, letterCase := style.codes()
 	it := C.print_number(number.number(), C.uint32_t(kind), way, script, letterCase)
-	return printed(ofNumber, &it)
+	return printed(&it)
 }
 
 // big returns the number with these halves.
@@ -120,7 +165,7 @@ func (it halves) big(kind kind) *big.Int {
 func halvesOfBig(number *big.Int, kind kind) (halves, error) {
 	low, high := new(big.Int), new(big.Int).Rsh(number, 64)
 	if kind == i128 && !high.IsInt64() || kind == u128 && !high.IsUint64() {
-		return halves{}, &Error{Status: NotHeld, what: ofNumber}
+		return halves{}, &Error{Status: NotHeld}
 	}
 	word := new(big.Int).SetUint64(1<<64 - 1)
 	return halves{low.And(number, word).Uint64(), high.And(high, word).Uint64()}, nil

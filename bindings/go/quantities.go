@@ -28,9 +28,9 @@ func NewQuantity(numerator, denominator *big.Int, form Form) (Quantity, error) {
 	}
 	switch {
 	case below == halves{}:
-		return Quantity{}, &Error{Status: NotAQuantity, what: ofNumber}
+		return Quantity{}, &Error{Status: NotAQuantity}
 	case form > Fraction:
-		return Quantity{}, &Error{Status: Unknown, what: ofNumber}
+		return Quantity{}, &Error{Status: Unknown}
 	}
 	return Quantity{above, below, form}, nil
 }
@@ -72,9 +72,24 @@ func power(exponent uint) *big.Int {
 // TenThousand here. The errors are those of ToNumber.
 func ToQuantity(text string, method Way) (Quantity, error) {
 	it := C.read_quantity(text, code(method, Any))
-	told := &it.told
-	err := refusal(ofNumber, it.status, told.char_index, told.byte_index)
-	return Quantity{halvesOf(told.numerator), halvesOf(told.denominator), Form(told.form)}, err
+	result := &it.result
+	from := source{text: text, reader: readsQuantity, way: method}
+	err := from.refusal(it.status, result.char_index, result.byte_index)
+	above, below := halvesOf(result.numerator), halvesOf(result.denominator)
+	return Quantity{above, below, Form(result.form)}, err
+}
+
+// ExplainQuantity returns why ToQuantity refuses a text: FaultLeftOutZero for 一亿二千. NoFault means
+// that the text is read. The errors are NotUTF8, TooLong, and Unknown for the method.
+func ExplainQuantity(text string, method Way) (Fault, error) {
+	it := C.explain_quantity(text, code(method, Any))
+	return Fault(it.result), refusal(it.status)
+}
+
+// QuantityMessage returns a message for a text that ToQuantity refuses, like NumberMessage.
+func QuantityMessage(text string, method Way, language Language) (string, error) {
+	it := C.print_quantity_message(text, code(method, Any), C.uint32_t(language))
+	return printed(&it)
 }
 
 // Numerator returns the numerator, with the sign.
@@ -126,14 +141,14 @@ func (it Quantity) Trimmed() Quantity {
 func (it Quantity) ToChinese(style *Style) (string, error) {
 	method, script, letterCase := style.codes()
 	printing := C.print_quantity(it.quantity(), method, script, letterCase)
-	return printed(ofNumber, &printing)
+	return printed(&printing)
 }
 
 // ToFigures writes the quantity in figures, in ASCII and without zeros at the end of its decimals:
 // 3.5, 12.5%, 1/3.
 func (it Quantity) ToFigures() string {
 	printing := C.print_quantity_figures(it.quantity())
-	figures, _ := printed(ofNumber, &printing) // every quantity has them
+	figures, _ := printed(&printing) // every quantity has them
 	return figures
 }
 

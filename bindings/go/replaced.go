@@ -89,7 +89,7 @@ func QuantitiesToFigures(text string, which *Replacing) (string, error) {
 		start, length := (*C.uint8_t)(&room[0]), C.size_t(len(room))
 		it := C.write_figures(text, upper, greatest, method, options, start, length)
 		if it.status != C.CN_NO_ROOM {
-			return string(room[:it.length]), refusal(ofNumber, it.status, 0, 0)
+			return string(room[:it.length]), refusal(it.status)
 		}
 		room = make([]byte, it.length)
 	}

@@ -4,9 +4,11 @@ from datetime import date
 
 from chinese_number import Quantity, QuantityForm, amount_to_chinese, chinese_to_amount
 from chinese_number import chinese_to_amount_as_typed, chinese_to_date, chinese_to_signed_amount
-from chinese_number import date_to_chinese, find_numbers, find_quantities, quantities_to_figures
-from chinese_number import replace_quantities, signed_amount_to_chinese, to_chinese, to_number
-from chinese_number import to_quantity, yuan_to_fen
+from chinese_number import chinese_to_signed_amount_as_typed, date_to_chinese, explain_number
+from chinese_number import explain_quantity, find_numbers, find_quantities, input_expected
+from chinese_number import input_message, input_repair, number_message, quantities_to_figures
+from chinese_number import quantity_message, replace_quantities, signed_amount_to_chinese
+from chinese_number import to_chinese, to_number, to_quantity, yuan_to_fen
 
 # Words of the questions for which this package has other words.
 OTHERS = {"naive": "digits", "simple": "simplified"}
@@ -15,6 +17,7 @@ FORMS = {
     "currency": {"currency": True},
     "round_yuan": {"yuan": "圆"},
     "upright_closing": {"closing": "正"},
+    "bracketed_sign": {"bracketed_sign": True},
 }
 # The flags of a result, with their names in questions and in this package.
 FLAGS = {
@@ -53,15 +56,19 @@ def write_amount(script, fen):
     return write_amount_as(script, "plain", fen)
 
 
-def write_amount_as(script, form, fen):
+def write_amount_as(script, form, fen, write=amount_to_chinese):
     words = {"script": OTHERS.get(script, script)}
     for word in form.split("+"):
         words.update(FORMS[word])
-    return amount_to_chinese(int(fen), **words)
+    return write(int(fen), **words)
 
 
 def write_signed_amount(script, fen):
-    return signed_amount_to_chinese(int(fen), script=OTHERS.get(script, script))
+    return write_signed_amount_as(script, "plain", fen)
+
+
+def write_signed_amount_as(script, form, fen):
+    return write_amount_as(script, form, fen, signed_amount_to_chinese)
 
 
 def write_date(script, day):
@@ -134,6 +141,31 @@ def find_doubts(text):
     return in_place(text, find_quantities(text), answer)
 
 
+def expected(of, text):
+    it = input_expected(text, of)
+    words = str(it.char_index), "end" if it.may_end else "-", "space" if it.white_space else "-"
+    return " ".join([*words, *filter(None, [it.characters])])
+
+
+def repair(of, text):
+    it = input_repair(text, of)
+    return f"{it.change.value} {it.char_index} {it.character or ''}".rstrip() if it else "none"
+
+
+def explain(kind, way, text):
+    fault = explain_number(text, kind=kind, way=OTHERS.get(way, way))
+    return fault.value if fault else "none"
+
+
+def explain_refused_quantity(method, text):
+    fault = explain_quantity(text, method=method)
+    return fault.value if fault else "none"
+
+
+def message_of_number(language, kind, way, text):
+    return number_message(text, kind=kind, way=OTHERS.get(way, way), language=language)
+
+
 CALLS = {
     "read": read,
     "print": write,
@@ -142,7 +174,9 @@ CALLS = {
     "print_amount_as": write_amount_as,
     "read_signed_amount": chinese_to_signed_amount,
     "print_signed_amount": write_signed_amount,
+    "print_signed_amount_as": write_signed_amount_as,
     "read_typed_amount": chinese_to_amount_as_typed,
+    "read_typed_signed_amount": chinese_to_signed_amount_as_typed,
     "yuan_to_fen": yuan_to_fen,
     "read_date": chinese_to_date,
     "print_date": write_date,
@@ -156,6 +190,15 @@ CALLS = {
     "trim_quantity": lambda words: shown(quantity_of(words).trimmed()),
     "quantities_to_figures": replace_with_figures,
     "replace_quantities": replace_with_numerals,
+    "expected": expected,
+    "repair": repair,
+    "explain": explain,
+    "explain_quantity": explain_refused_quantity,
+    "input_message": lambda language, of, text: input_message(text, of, language=language),
+    "number_message": message_of_number,
+    "quantity_message": lambda language, method, text: quantity_message(
+        text, method=method, language=language
+    ),
 }
 
 for line in sys.stdin:

@@ -1,6 +1,6 @@
 /* The calls of the library for CPython 3.10 and later, with its stable ABI: the functions of
- * `_library.py`, which uses ctypes, under the same names, and quick functions that wrap two public
- * functions. Texts are str, choices are the codes of chinese_number.h, and places count characters.
+ * `_library.py`, which uses ctypes, under the same names, except those that say why a text is
+ * refused; and quick functions that wrap two public functions. Texts are str, choices are the codes of chinese_number.h, and places count characters.
  * A lone surrogate is passed as a question mark, which is not a numeral either. */
 #define PY_SSIZE_T_CLEAN
 #define Py_LIMITED_API 0x030A0000
@@ -249,6 +249,8 @@ static void give_back(text *it) {
 READER(read_amount, chinese_amount_read, cn_amount, "K", (unsigned long long)it.fen)
 READER(read_typed_amount, chinese_typed_amount_read, cn_amount, "K", (unsigned long long)it.fen)
 READER(read_signed_amount, chinese_signed_amount_read, cn_signed_amount, "L", (long long)it.fen)
+READER(read_typed_signed_amount, chinese_typed_signed_amount_read, cn_signed_amount, "L",
+       (long long)it.fen)
 READER(read_figures, chinese_figures_read, cn_signed_amount, "L", (long long)it.fen)
 READER(read_date, chinese_date_read, cn_date, "(III)", it.year, it.month, it.day)
 
@@ -656,21 +658,18 @@ static PyObject *find_quantities(PyObject *module, PyObject *given) {
     return find(module, given, chinese_quantity_find_utf8);
 }
 
-static PyObject *version(PyObject *module, PyObject *none) {
-    return PyLong_FromUnsignedLong(chinese_number_version());
-}
-
 #define CALL(name, words) {#name, name, words, NULL}
 static PyMethodDef METHODS[] = {
-    CALL(version, METH_NOARGS), CALL(know_words, METH_VARARGS), CALL(quick_to_number, METH_VARARGS),
+    CALL(know_words, METH_VARARGS), CALL(quick_to_number, METH_VARARGS),
     CALL(quick_to_chinese, METH_VARARGS), CALL(utf8, METH_O), CALL(read_number, METH_VARARGS),
     CALL(read_amount, METH_O), CALL(read_typed_amount, METH_O), CALL(read_signed_amount, METH_O),
-    CALL(read_figures, METH_O), CALL(read_date, METH_O), CALL(print_number, METH_VARARGS),
-    CALL(print_amount, METH_VARARGS), CALL(print_signed_amount, METH_VARARGS),
-    CALL(print_date, METH_VARARGS), CALL(find_numbers, METH_VARARGS),
-    CALL(read_quantity, METH_VARARGS), CALL(print_quantity, METH_VARARGS),
-    CALL(print_figures, METH_O), CALL(find_quantities, METH_VARARGS),
-    CALL(quantities_to_figures, METH_VARARGS), {NULL, NULL, 0, NULL},
+    CALL(read_typed_signed_amount, METH_O), CALL(read_figures, METH_O), CALL(read_date, METH_O),
+    CALL(print_number, METH_VARARGS), CALL(print_amount, METH_VARARGS),
+    CALL(print_signed_amount, METH_VARARGS), CALL(print_date, METH_VARARGS),
+    CALL(find_numbers, METH_VARARGS), CALL(read_quantity, METH_VARARGS),
+    CALL(print_quantity, METH_VARARGS), CALL(print_figures, METH_O),
+    CALL(find_quantities, METH_VARARGS), CALL(quantities_to_figures, METH_VARARGS),
+    {NULL, NULL, 0, NULL},
 };
 
 static int traverse(PyObject *module, visitproc visit, void *arg) {

@@ -3,18 +3,23 @@ import { readFileSync } from 'node:fs';
 
 import {
   Quantity, amountToChinese, chineseToAmountAsTypedBigInt, chineseToAmountBigInt, chineseToDate,
-  chineseToSignedAmountBigInt, dateToChinese, findNumbers, findQuantities, quantitiesToFigures,
-  replaceQuantities, signedAmountToChinese, toBigInt, toChinese, toQuantity, yuanToFenBigInt,
+  chineseToSignedAmountAsTypedBigInt, chineseToSignedAmountBigInt, dateToChinese, explainNumber,
+  explainQuantity, findNumbers, findQuantities, inputExpected, inputMessage, inputRepair,
+  numberMessage, quantitiesToFigures, quantityMessage, replaceQuantities, signedAmountToChinese,
+  toBigInt, toChinese, toQuantity, yuanToFenBigInt,
 } from './chinese-number.mjs';
 
-// Words of the questions for which this binding has other words.
-const OTHERS = { naive: 'digits', ten_thousand: 'tenThousand', simple: 'simplified' };
-const named = (word) => OTHERS[word] ?? word;
+// The names in this binding for words of the questions, and the reverse.
+const OTHERS = { naive: 'digits', simple: 'simplified' };
+const named = (word) =>
+  OTHERS[word] ?? word.replace(/_([a-z])/g, (_, letter) => letter.toUpperCase());
+const snake = (name) => name.replace(/[A-Z]/g, (it) => `_${it.toLowerCase()}`);
 
 // What a word of a form, or of an option for replacing, sets; `plain` and `none` set nothing.
 const SETS = {
   plain: {}, currency: { currency: true }, round_yuan: { yuan: '圆' },
-  upright_closing: { closing: '正' }, none: {}, about: { about: true },
+  upright_closing: { closing: '正' }, bracketed_sign: { bracketedSign: true },
+  none: {}, about: { about: true },
   one: { oneCharacter: true }, doubtful: { doubtful: true }, expanded: { expanded: true },
   canonical: { canonical: true },
 };
@@ -28,9 +33,8 @@ function told(call) {
   }
 }
 
-function printAmountAs(script, form, fen) {
-  return amountToChinese(BigInt(fen), { script: named(script), ...optionsOf(form) });
-}
+const printAs = (print) => (script, form, fen) =>
+  print(BigInt(fen), { script: named(script), ...optionsOf(form) });
 
 function readDate(text) {
   const { year, month, day } = chineseToDate(text);
@@ -73,17 +77,29 @@ function inPlace(search, text, tell) {
   return done + text.slice(at);
 }
 
+function expected(input, text) {
+  const { charIndex, mayEnd, whiteSpace, characters } = inputExpected(text, named(input));
+  const words = [charIndex, mayEnd ? 'end' : '-', whiteSpace ? 'space' : '-', characters.join('')];
+  return words.join(' ').trimEnd();
+}
+
+function repair(input, text) {
+  const { change = 'none', charIndex, character } = inputRepair(text, named(input)) ?? {};
+  return [change, charIndex, character].join(' ').trimEnd();
+}
+
 const calls = {
   read: (kind, way, text) => toBigInt(text, { kind, way: named(way) }),
   print: (kind, way, script, letterCase, number) => toChinese(BigInt(number),
     { kind, way: named(way), script: named(script), case: letterCase }),
   read_amount: chineseToAmountBigInt,
-  print_amount: (script, fen) => printAmountAs(script, 'plain', fen),
-  print_amount_as: printAmountAs,
-  print_signed_amount: (script, fen) =>
-    signedAmountToChinese(BigInt(fen), { script: named(script) }),
+  print_amount: (script, fen) => printAs(amountToChinese)(script, 'plain', fen),
+  print_amount_as: printAs(amountToChinese),
+  print_signed_amount: (script, fen) => printAs(signedAmountToChinese)(script, 'plain', fen),
+  print_signed_amount_as: printAs(signedAmountToChinese),
   read_signed_amount: chineseToSignedAmountBigInt,
   read_typed_amount: chineseToAmountAsTypedBigInt,
+  read_typed_signed_amount: chineseToSignedAmountAsTypedBigInt,
   yuan_to_fen: yuanToFenBigInt,
   read_date: readDate,
   print_date: printDate,
@@ -100,6 +116,15 @@ const calls = {
   quantities_to_figures: (flags, text) => quantitiesToFigures(text, optionsOf(flags)),
   replace_quantities: (flags, text) =>
     replaceQuantities(text, numeralsUnlessFraction, optionsOf(flags)),
+  expected,
+  repair,
+  explain: (kind, way, text) => snake(explainNumber(text, { kind, way: named(way) }) ?? 'none'),
+  explain_quantity: (way, text) => snake(explainQuantity(text, { method: named(way) }) ?? 'none'),
+  input_message: (language, input, text) => inputMessage(text, named(input), language),
+  number_message: (language, kind, way, text) =>
+    numberMessage(text, language, { kind, way: named(way) }),
+  quantity_message: (language, way, text) =>
+    quantityMessage(text, language, { method: named(way) }),
 };
 
 for (const line of readFileSync(0, 'utf8').split('\n').slice(0, -1)) {

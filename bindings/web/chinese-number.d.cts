@@ -49,6 +49,45 @@ export const QUANTITY_FORMS: readonly ['whole', 'decimal', 'percent', 'fraction'
  */
 export const DOUBTS: readonly ['word', 'digits', 'term', 'part', 'time', 'range'];
 
+/**
+ * What a text is meant to be; each input names the call that reads it: chineseToAmount,
+ * chineseToSignedAmount, chineseToAmountAsTyped, chineseToSignedAmountAsTyped, chineseToDate and
+ * yuanToFen.
+ */
+export const INPUTS: readonly [
+  'amount', 'signedAmount', 'typedAmount', 'typedSignedAmount', 'date', 'figures',
+];
+
+/** The languages of messages. */
+export const LANGUAGES: readonly ['en', 'zh-Hans', 'zh-Hant'];
+
+/** What is changed in a text to repair it. */
+export const CHANGES: readonly ['insert', 'replace', 'delete'];
+
+/**
+ * Why a text is not a number or a quantity:
+ * - 'empty', 'tooLarge', 'tooSmall': as for the codes of a NumeralError;
+ * - 'start': a numeral starts with a digit or 十: 百 of 百五;
+ * - 'character': it is no digit or unit: 角 of 一角;
+ * - 'digits': a digit is directly after it: 一 of 一二 with units;
+ * - 'units': a unit that is not greater is directly after it: 百 of 一百十;
+ * - 'ge': it is 個 without a greater unit after it: 個 of 三個;
+ * - 'groups': the same unit comes again: 萬 of 一萬二萬.
+ *
+ * The others are those of quantities alone:
+ * - 'bareTen': 十 without 一 before it;
+ * - 'repeatedTen': 十 twice;
+ * - 'afterZero': a unit after 零;
+ * - 'weight': 兩 as a unit of weight;
+ * - 'twoReadings': 万 of 一百五万, which may count 一百五十 or 一百零五;
+ * - 'leftOutZero': 零 is missing before it;
+ * - 'denominator': the denominator is not a whole number above 0.
+ */
+export const FAULTS: readonly [
+  'empty', 'tooLarge', 'tooSmall', 'start', 'character', 'digits', 'units', 'ge', 'groups',
+  'bareTen', 'repeatedTen', 'afterZero', 'weight', 'twoReadings', 'leftOutZero', 'denominator',
+];
+
 export type Kind = (typeof KINDS)[number];
 export type Way = (typeof WAYS)[number];
 export type Method = (typeof METHODS)[number];
@@ -57,12 +96,17 @@ export type Case = (typeof CASES)[number];
 export type Unit = (typeof UNITS)[number];
 export type QuantityForm = (typeof QUANTITY_FORMS)[number];
 export type Doubt = (typeof DOUBTS)[number];
+export type Input = (typeof INPUTS)[number];
+export type Language = (typeof LANGUAGES)[number];
+export type Change = (typeof CHANGES)[number];
+export type Fault = (typeof FAULTS)[number];
 export type Yuan = '元' | '圆';
 export type Closing = '整' | '正';
 export type ReadOptions = { kind?: Kind; way?: Way };
 export type PrintOptions = { kind?: Kind; way?: Way; script?: Script; case?: Case };
 export type ScriptOptions = { script?: Script };
 export type AmountOptions = { script?: Script; currency?: boolean; yuan?: Yuan; closing?: Closing };
+export type SignedAmountOptions = AmountOptions & { bracketedSign?: boolean };
 export type Wanted = { upper?: boolean; greatest?: Unit };
 export type MethodOptions = { method?: Method };
 export type QuantityOptions = { method?: Method; script?: Script; case?: Case };
@@ -71,6 +115,9 @@ export type ReplaceOptions = Wanted & MethodOptions & Included;
 export type FiguresOptions = ReplaceOptions & { expanded?: boolean; canonical?: boolean };
 export type BillDate = { year: number; month: number; day: number };
 export type Place = { charIndex: number; start: number; end: number };
+export type Point = { charIndex: number; index: number };
+export type Expected = Point & { mayEnd: boolean; whiteSpace: boolean; characters: string[] };
+export type Repair = Point & { change: Change; character: string };
 export type NumeralCode =
   | 'empty'
   | 'incorrect'
@@ -82,6 +129,7 @@ export type NumeralCode =
   | 'outOfMemory';
 export type AmountCode = 'unfinished' | 'incorrect' | 'tooLarge' | 'tooSmall' | 'unsafe';
 export type DateCode = 'unfinished' | 'incorrect' | 'notADate';
+export type Status = Exclude<NumeralCode | AmountCode | DateCode, 'unsafe' | 'outOfMemory'>;
 
 /**
  * Reads a numeral as a Number: `toNumber('一百二')` is 120.
@@ -126,9 +174,9 @@ export function toChinese(number: bigint | number, options?: PrintOptions): stri
  *
  * The amount is in fen, hundredths of a yuan, as a BigInt or a safe integer. The script is
  * 'simplified' by default. `currency: true` adds the prefix 人民币; `yuan` is '元' by default, or '圆';
- * `closing` is '整' by default, or '正'. Throws an AmountError if the amount is below zero, or
- * 10n ** 18n or more. Throws a TypeError if the amount is of another type, or an option or its value
- * is unknown.
+ * `closing` is '整' by default, or '正'. Throws an AmountError if the amount is below zero, which
+ * `signedAmountToChinese` writes, or 10n ** 18n or more. Throws a TypeError if the amount is of
+ * another type, or an option or its value is unknown.
  *
  * @param {bigint | number} fen
  * @param {AmountOptions} options
@@ -140,14 +188,18 @@ export function amountToChinese(fen: bigint | number, options?: AmountOptions): 
  * Writes an amount in capitals that may be negative, as on a red invoice:
  * `signedAmountToChinese(-1500)` is '负壹拾伍元整', in traditional script '負壹拾伍元整'.
  *
- * It writes like `amountToChinese`, with the prefix 负 if the amount is below zero. Throws an
- * AmountError if the amount is 10n ** 18n or more, or -(10n ** 18n) or less.
+ * It writes like `amountToChinese`, with the prefix 负 if the amount is below zero, or （负数） with
+ * `bracketedSign: true`. Throws an AmountError if the amount is 10n ** 18n or more, or
+ * -(10n ** 18n) or less.
  *
  * @param {bigint | number} fen
- * @param {AmountOptions} options
+ * @param {SignedAmountOptions} options
  * @returns {string}
  */
-export function signedAmountToChinese(fen: bigint | number, options?: AmountOptions): string;
+export function signedAmountToChinese(
+  fen: bigint | number,
+  options?: SignedAmountOptions,
+): string;
 
 /**
  * Reads an amount of money in capitals, and returns its fen as a Number:
@@ -211,13 +263,35 @@ export function chineseToAmountAsTyped(string: string): number;
 export function chineseToAmountAsTypedBigInt(string: string): bigint;
 
 /**
+ * Reads an amount in capitals as people type it, or copy it from an invoice; it may be negative:
+ * `chineseToSignedAmountAsTyped('⊗（负数）壹拾伍元整')` is -1500.
+ *
+ * It reads like `chineseToAmountAsTyped`, and ⊗ (or ⓧ), one of 负, 負, （负数） and （負數） (also with
+ * ASCII parentheses), and 人民币 with or without a colon may come in any order at the start. It also
+ * reads 人民币（大写）, with or without a colon.
+ *
+ * @param {string} string
+ * @returns {number}
+ */
+export function chineseToSignedAmountAsTyped(string: string): number;
+
+/**
+ * Reads an amount in capitals, as `chineseToSignedAmountAsTyped` does, and returns its fen as a
+ * BigInt: `chineseToSignedAmountAsTypedBigInt('⊗（负数）壹拾伍元整')` is -1500n.
+ *
+ * @param {string} string
+ * @returns {bigint}
+ */
+export function chineseToSignedAmountAsTypedBigInt(string: string): bigint;
+
+/**
  * Converts yuan to fen exactly, and returns a Number: `yuanToFen('1,409.50')` is 140950, and
  * `yuanToFen(15)` is 1500.
  *
  * The amount is a string of figures, a BigInt or a whole Number. Figures are digits, with a comma
  * before each group of three or without commas, after an optional minus (- or −) and an optional ¥.
- * A point may follow, with one or more digits; from the third on they must be 0. All of these
- * except the minus may be full-width. Nothing is rounded, and white space is refused.
+ * A point may follow, with one or more digits; from the third on they must be 0. All of these may
+ * be full-width. Nothing is rounded, and white space is refused.
  *
  * Throws an AmountError for any other text, and for 10n ** 16n yuan or more on either side of zero.
  * The code is 'unsafe' if the fen are past 2 ** 53 - 1; `yuanToFenBigInt` returns such amounts.
@@ -347,6 +421,118 @@ export function replaceQuantities(
  */
 export function quantitiesToFigures(string: string, options?: FiguresOptions): string;
 
+/**
+ * Says what may come next in a text that is meant to be an input of INPUTS, for example to offer
+ * keys: `inputExpected('壹佰', 'amount').characters` are 元, 零 and so on.
+ *
+ * `charIndex` and `index` are the length, in characters and in UTF-16 code units, of the longest
+ * part of the text, from its start, that begins such an input: all of it, or up to the wrong
+ * character. `mayEnd` says whether this part is complete. `characters` may come next, and if
+ * `whiteSpace` is true, so may white space. Throws a TypeError if the text is not a string or the
+ * input is unknown.
+ *
+ * @param {string} string
+ * @param {Input} input
+ * @returns {Expected}
+ */
+export function inputExpected(string: string, input: Input): Expected;
+
+/**
+ * Finds one change of a text after which it goes on past its wrong character:
+ * `inputRepair('壹佰贰元整', 'amount')` is
+ * { change: 'insert', charIndex: 2, index: 2, character: '零' }.
+ *
+ * A text that is only unfinished becomes right. There may be another fault further on, and only a
+ * person can say that the change is what was meant. `charIndex` and `index` are the place, in
+ * characters and in UTF-16 code units; `character` is empty for 'delete'. Returns undefined if the
+ * text is right, or if no change is found. Throws a TypeError as `inputExpected` does.
+ *
+ * @param {string} string
+ * @param {Input} input
+ * @returns {Repair | undefined}
+ */
+export function inputRepair(string: string, input: Input): Repair | undefined;
+
+/**
+ * Says why `toBigInt` refuses a text: `explainNumber('一百十')` is 'units', the rule that the text
+ * breaks from its wrong character on. Returns undefined if the text is read.
+ *
+ * The options are those of `toBigInt`. Throws a TypeError if the text is not a string, or an option
+ * or its value is unknown.
+ *
+ * @param {string} string
+ * @param {ReadOptions} options
+ * @returns {Fault | undefined}
+ */
+export function explainNumber(string: string, options?: ReadOptions): Fault | undefined;
+
+/**
+ * Says why `toQuantity` refuses a text: `explainQuantity('零分之一')` is 'denominator'. Returns
+ * undefined if the text is read. The options are those of `toQuantity`. Throws a TypeError as
+ * `explainNumber` does.
+ *
+ * @param {string} string
+ * @param {MethodOptions} options
+ * @returns {Fault | undefined}
+ */
+export function explainQuantity(string: string, options?: MethodOptions): Fault | undefined;
+
+/**
+ * Writes a message for the person who typed a text that is meant to be an input of INPUTS, in a
+ * language of LANGUAGES: why it is not such an input, with the wrong character, its position, which
+ * counts from 1, and the repair, if there is one. `inputMessage('壹佰贰元整', 'amount', 'zh-Hans')` is
+ * 第3个字“贰”前缺“零”。 The message is '' if the text is right, as `setCustomValidity` takes it.
+ *
+ * Throws a TypeError if the text is not a string, or the input or the language is unknown.
+ *
+ * @param {string} string
+ * @param {Input} input
+ * @param {Language} language
+ * @returns {string}
+ */
+export function inputMessage(string: string, input: Input, language: Language): string;
+
+/**
+ * Writes a message for the person who typed a text that `toBigInt` refuses, as `inputMessage` does.
+ * The options are those of `toBigInt`.
+ *
+ * @param {string} string
+ * @param {Language} language
+ * @param {ReadOptions} options
+ * @returns {string}
+ */
+export function numberMessage(
+  string: string,
+  language: Language,
+  options?: ReadOptions,
+): string;
+
+/**
+ * Writes a message for the person who typed a text that `toQuantity` refuses, as `inputMessage`
+ * does. The options are those of `toQuantity`.
+ *
+ * @param {string} string
+ * @param {Language} language
+ * @param {MethodOptions} options
+ * @returns {string}
+ */
+export function quantityMessage(
+  string: string,
+  language: Language,
+  options?: MethodOptions,
+): string;
+
+/**
+ * Writes what the code of an error means, in a language of LANGUAGES, for example to a person whose
+ * number is too large to be written. The codes 'unsafe' and 'outOfMemory' have no such message.
+ * Throws a TypeError if the status or the language is unknown.
+ *
+ * @param {Status} status
+ * @param {Language} language
+ * @returns {string}
+ */
+export function statusMessage(status: Status, language: Language): string;
+
 /** A refusal, with the place of the wrong character if there is one. */
 declare class Refusal extends Error {
   /**
@@ -363,6 +549,18 @@ declare class Refusal extends Error {
   start: number | undefined;
   /** For 'incorrect': where it ends, likewise. */
   end: number | undefined;
+  /**
+   * The message for the person who typed the text, in a language of LANGUAGES: why the text is
+   * refused, and how it can be repaired if a change of one character does that. If a number, an
+   * amount or a date could not be written, it says why. For 'unsafe' it is that of 'tooLarge', and
+   * for 'outOfMemory' it is `message`.
+   *
+   * The message is computed by each call. Throws a TypeError if the language is unknown.
+   *
+   * @param {Language} language
+   * @returns {string}
+   */
+  messageIn(language: Language): string;
 }
 
 /**
@@ -408,8 +606,9 @@ export class AmountError extends Refusal {
   /**
    * @param {AmountCode} code
    * @param {Place} [place]
+   * @param {string} [hint] What the message adds after a colon.
    */
-  constructor(code: AmountCode, place?: Place);
+  constructor(code: AmountCode, place?: Place, hint?: string);
   code: AmountCode;
 }
 

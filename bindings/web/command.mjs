@@ -1,21 +1,20 @@
 #!/usr/bin/env node
-// The command chinese-number. It writes and reads amounts, dates and numerals, finds the numbers and
-// the quantities of a text, replaces quantities, and converts the amounts in a table. Results go to
-// standard output, refusals to standard error. The status is 0 if everything was converted, 1 if
-// something was refused or could not be read or written, and 2 if the command line is not valid.
+// The command chinese-number. It writes and reads amounts, dates and numerals, finds the quantities
+// or the numbers of a text, replaces quantities, and converts the amounts in a table. Results go to
+// standard output, and refusals, which name what is refused, to standard error. The status is 0 if
+// everything was converted, 1 if something was refused or could not be read or written, and 2 if
+// the command line is not valid.
 
 import { isUtf8 } from 'node:buffer';
 import { fstatSync } from 'node:fs';
 
 import {
-  AmountError, DateError, KINDS, METHODS, NumeralError, VERSION, WAYS, chineseToAmountAsTypedBigInt,
-  chineseToAmountBigInt, chineseToDate, chineseToSignedAmountBigInt, dateToChinese, findNumbers,
+  AmountError, DateError, KINDS, LANGUAGES, METHODS, NumeralError, VERSION, WAYS,
+  chineseToAmountAsTypedBigInt, chineseToAmountBigInt, chineseToDate,
+  chineseToSignedAmountAsTypedBigInt, chineseToSignedAmountBigInt, dateToChinese, findNumbers,
   findQuantities, quantitiesToFigures, signedAmountToChinese, toBigInt, toChinese, yuanToFenBigInt,
 } from './chinese-number.mjs';
-import { Table, linesOfTable } from './table.mjs';
-
-// The command line is not valid.
-class Misuse extends Error {}
+import { Misuse, Refused, Table, linesOfTable, refusalOf, shown } from './table.mjs';
 
 function notOneOf(name, choices, given) {
   const wanted = [...choices].join(', ').replace(/, ([^,]*)$/, ' or $1');
@@ -28,24 +27,25 @@ const FLAG = null;
 const snake = (name) => name.replace(/[A-Z]/g, (it) => `_${it.toLowerCase()}`);
 const wordsFor = (names) => new Map(names.map((it) => [snake(it), it]));
 const KIND = wordsFor(KINDS), WAY = wordsFor(WAYS), METHOD = wordsFor(METHODS);
-const COLUMN = {
-  has: (it) => /^[1-9][0-9]{0,8}$/.test(it), get: Number,
-  keys: () => ['a number from 1 to 999999999'],
-};
+const LANGUAGE = new Map(LANGUAGES.map((it) => [it, it]));
+const COLUMN = { has: Boolean, get: String, keys: () => ["a column's number or name"] };
+const NAME = { has: Boolean, get: String, keys: () => ['a text that is not empty'] };
 const DELIMITER = {
   has: (it) => /^[^"\r\n]$/u.test(it), get: String,
   keys: () => ['a character other than a quote or a line end'],
 };
 
 const USAGE = `\
-usage: chinese-number amount [--traditional] [--currency] [--yuan 圆] [--closing 正]
-                             [--signed | --typed] WORD...
-       chinese-number amount ... --column N [--header] [--delimiter ,]
-       chinese-number date [--traditional] WORD...
-       chinese-number read [--kind i128] [--way any] WORD...
-       chinese-number print [--traditional] [--upper] [--kind i128] [--way any] NUMBER...
-       chinese-number find [--all] [--kind u128] [--way any]
-       chinese-number find --exact [--all] [--method any]
+usage: chinese-number amount [--traditional] [--currency] [--yuan 圆] [--closing 正] [--typed]
+                             [--signed [--bracketed-sign]] [--language en] WORD...
+       chinese-number amount ... --column N [--header [--name TEXT]] [--delimiter ,]
+       chinese-number amount ... --column NAME [--name TEXT] [--delimiter ,]
+       chinese-number date [--traditional] [--language en] WORD...
+       chinese-number read [--kind i128] [--way any] [--language en] WORD...
+       chinese-number print [--traditional] [--upper] [--kind i128] [--way any] [--language en]
+                            NUMBER...
+       chinese-number find [--all] [--method any]
+       chinese-number find --numbers [--all] [--kind u128] [--way any]
        chinese-number replace [--all] [--method any] [--about] [--one-character] [--doubtful]
                               [--expanded] [--canonical] [WORD...]
        chinese-number --help | --version
@@ -55,21 +55,26 @@ amount   converts yuan to capitals, 1409.50 to 壹仟肆佰零玖元伍角整, a
    --yuan 圆        writes 圆 instead of 元
    --closing 正     writes 正 instead of 整
    --signed         also converts amounts below zero, -15 to 负壹拾伍元整; otherwise they are refused
+   --bracketed-sign writes （负数）壹拾伍元整 instead of 负壹拾伍元整
    --typed          also reads amounts as typed, such as ⊗ 人民币：壹拾 伍元整
    --column N       reads a CSV table in UTF-8 from standard input, and appends a cell to each row:
-                    the result for its Nth cell, or an empty cell if that is refused. The reasons
-                    for refusals and the number of rows go to standard error
+                    the result for its Nth cell, or an empty cell if that is refused. Refused rows
+                    go to standard error, with the row's number, which counts the header and blank
+                    lines, and the reason
+   --column NAME    converts the column that has this name in the header. A number from 1 to
+                    999999999 is always N, even if a column has it as its name
    --header         says that the first row is a header
+   --name TEXT      is the name of the new column; by default it is the column's name and _converted
    --delimiter ,    is the character between cells; $'\\t' is a tab
 date     converts dates to capitals, 2026-01-15 to 贰零贰陆年零壹月壹拾伍日, and capitals to dates. Dates
-         in figures have four, two and two digits: 2026-1-15 is refused
+         in figures can also be written 2026-1-15, 2026/1/15 or 2026年1月15日
 read     reads numerals, 一百二 as 120
 print    writes whole numbers as numerals, -120 as 负一百二十
    --upper          writes 壹佰贰拾 instead of 一百二十
-find     writes LINE:CHARACTER TEXT NUMBER for each number in standard input, or err and the reason
-         if it is refused. LINE and CHARACTER count from 1
-   --exact          finds quantities, such as 3.5万, -5, 12.5% and 三分之一, with an exact NUMBER, such
-                    as 125/1000
+find     writes LINE:CHARACTER TEXT NUMBER for each quantity in standard input, such as 3.5万, -5,
+         12.5% and 三分之一, or err and the reason if it is refused. LINE and CHARACTER count from 1.
+         NUMBER is exact, such as 125/1000
+   --numbers        finds whole numbers instead: 3 and 5万 in 3.5万
 replace  writes the arguments, or standard input, with their numerals in figures, 市值三点五亿元 as
          市值3.5亿元
    --about          includes approximate numbers, as in 三百多
@@ -87,11 +92,13 @@ Options of several commands:
                     low, ten_thousand, middle or high, which differ in the units above 万; or any,
                     which reads digits and ten_thousand
    --method any     is any way except digits
+   --language en    is the language of the reasons for refusals: en, zh-Hans or zh-Hant
 Arguments after -- are not options.
 
-A refusal says why; its position counts characters from 0. The exit status is 0 if everything was
-converted, 1 if something was refused or could not be read or written, and 2 if the command line is
-not valid. Refusals that find writes do not change its status.
+A refusal names the word, line or row and says why; its position counts characters from 1. The exit
+status is 0 if everything was converted, 1 if something was refused or could not be read or written,
+and 2 if the command line is not valid or the table has no such column. Refusals that find writes do
+not change its status.
 `;
 
 // Each command: its options, and the function that runs it.
@@ -100,27 +107,30 @@ const COMMANDS = {
     options: {
       traditional: FLAG, currency: FLAG,
       yuan: wordsFor(['元', '圆']), closing: wordsFor(['整', '正']),
-      signed: FLAG, typed: FLAG, column: COLUMN, header: FLAG, delimiter: DELIMITER,
+      signed: FLAG, 'bracketed-sign': FLAG, typed: FLAG, language: LANGUAGE,
+      column: COLUMN, header: FLAG, name: NAME, delimiter: DELIMITER,
     },
     run: answerAmounts,
   },
   date: {
-    options: { traditional: FLAG },
-    run: (options, words) => answerEach(words, (word) => answerDate(word, options)),
+    options: { traditional: FLAG, language: LANGUAGE },
+    run: (options, words, language) =>
+      answerEach(words, language, (word) => answerDate(word, options, language)),
   },
   read: {
-    options: { kind: KIND, way: WAY },
-    run: (options, words) => answerEach(words, (word) => toBigInt(word, options)),
+    options: { kind: KIND, way: WAY, language: LANGUAGE },
+    run: (options, words, language) =>
+      answerEach(words, language, (word) => toBigInt(word, options)),
   },
   print: {
-    options: { traditional: FLAG, upper: FLAG, kind: KIND, way: WAY },
-    run: ({ upper, ...options }, words) => {
+    options: { traditional: FLAG, upper: FLAG, kind: KIND, way: WAY, language: LANGUAGE },
+    run: ({ upper, ...options }, words, language) => {
       const all = { ...options, case: upper ? 'upper' : 'lower' };
-      return answerEach(words.map(wholeOf), (number) => toChinese(number, all));
+      return answerEach(words, language, (number) => toChinese(number, all), wholeOf);
     },
   },
   find: {
-    options: { exact: FLAG, all: FLAG, kind: KIND, way: WAY, method: METHOD },
+    options: { numbers: FLAG, all: FLAG, kind: KIND, way: WAY, method: METHOD },
     run: findInInput,
   },
   replace: {
@@ -128,13 +138,35 @@ const COMMANDS = {
       all: FLAG, method: METHOD, about: FLAG, 'one-character': FLAG, doubtful: FLAG,
       expanded: FLAG, canonical: FLAG,
     },
-    run: ({ all, 'one-character': oneCharacter, ...options }, words) => {
+    run: ({ all, 'one-character': oneCharacter, ...options }, words, language) => {
       const choices = { ...options, ...wantedBy(all), oneCharacter };
       const anew = (text) => quantitiesToFigures(text, choices);
-      return words.length ? answerEach(words, anew) : replaceInInput(anew);
+      return words.length ? answerEach(words, language, anew) : replaceInInput(anew);
     },
   },
 };
+
+// The reasons for refusals that the library does not give, in each language.
+const TEXTS = {
+  below: {
+    en: 'An amount below zero needs --signed.',
+    'zh-Hans': '负数金额要加选项 --signed。',
+    'zh-Hant': '負數金額要加選項 --signed。',
+  },
+  wrong: {
+    en: 'Character {place}, “{there}”, is not allowed here. Write it like this: 2026-01-15.',
+    'zh-Hans': '第{place}个字“{there}”不能写在这里。写法如：2026-01-15。',
+    'zh-Hant': '第{place}個字「{there}」不能寫在這裡。寫法如：2026-01-15。',
+  },
+  day: {
+    en: 'Month {month} of {year} has no day {day}.',
+    'zh-Hans': '{year}年{month}月没有{day}日。',
+    'zh-Hant': '{year}年{month}月沒有{day}日。',
+  },
+};
+
+const textIn = (language, name, values = {}) =>
+  TEXTS[name][language].replace(/\{(\w+)\}/g, (_, key) => values[key]);
 
 // Splits the words after a command into its options, each with its value, and the other words.
 // A hyphen before figures begins an argument, and after -- there are no options.
@@ -165,18 +197,20 @@ function optionOf(word, rest, known) {
 }
 
 const isRefusal = (error) => error.code !== 'outOfMemory'
-  && [NumeralError, AmountError, DateError].some((it) => error instanceof it);
+  && [NumeralError, AmountError, DateError, Refused].some((it) => error instanceof it);
 
-// Prints the result of each word on a line of its own, and returns the status.
-function answerEach(words, answerOf) {
+// Prints the result of each word on a line of its own, and returns the status. The words are first
+// converted to values.
+function answerEach(words, language, answerOf, valueOf = String) {
   if (words.length === 0) throw new Misuse('an argument is expected');
+  const values = words.map(valueOf);
   let status = 0;
-  for (const word of words) {
+  for (const [at, word] of words.entries()) {
     try {
-      process.stdout.write(`${answerOf(word)}\n`);
+      process.stdout.write(`${answerOf(values[at])}\n`);
     } catch (error) {
       if (!isRefusal(error)) throw error;
-      process.stderr.write(`${error.message}\n`);
+      process.stderr.write(`${refusalOf(word, error, language)}\n`);
       status = 1;
     }
   }
@@ -194,8 +228,10 @@ function wholeOf(word) {
   return BigInt(word);
 }
 
-// Whether a word is treated as figures, also if it is refused.
-const areFigures = (word) => /^[\0-\x7f¥￥０-９]/.test(word);
+// Whether a word is treated as figures, also if it is refused. A parenthesis begins capitals, and a
+// minus begins figures only with --signed: otherwise the reader of capitals refuses it.
+const areFigures = (word) => /^[\0-')-,.-\x7f¥￥０-９]/.test(word);
+const areSignedFigures = (word) => /^[\0-')-\x7f−¥￥０-９]/.test(word);
 const padded = (number, digits) => String(number).padStart(digits, '0');
 
 function figuresOf(fen) {
@@ -203,58 +239,83 @@ function figuresOf(fen) {
   return `${fen < 0n ? '-' : ''}${magnitude / 100n}.${padded(magnitude % 100n, 2)}`;
 }
 
-// A cheque has no negative amount.
-function unsignedFigures(word) {
-  if (word.startsWith('-')) {
-    throw new AmountError('incorrect', { charIndex: 0, start: 0, end: 1 });
-  }
-  return yuanToFenBigInt(word);
+// The call that reads capitals, for the options signed and typed.
+const READERS = {
+  '': chineseToAmountBigInt,
+  signed: chineseToSignedAmountBigInt,
+  typed: chineseToAmountAsTypedBigInt,
+  'signed,typed': chineseToSignedAmountAsTypedBigInt,
+};
+
+// The function that converts amounts, in capitals to figures and in figures to capitals.
+function amountsOf({ signed, typed, 'bracketed-sign': bracketedSign, ...form }, language) {
+  const read = READERS[[signed && 'signed', typed && 'typed'].filter(Boolean).join()];
+  const test = signed ? areSignedFigures : areFigures;
+  return (word) => {
+    try {
+      return test(word.trimStart())
+        ? signedAmountToChinese(yuanToFenBigInt(word), { ...form, bracketedSign })
+        : figuresOf(read(word));
+    } catch (error) {
+      if (signed || !(error instanceof AmountError) || !isSigned(word, typed)) throw error;
+      throw new Refused(textIn(language, 'below'));
+    }
+  };
 }
 
-// How words are read: whether they are figures, and which calls read figures and capitals.
-const PLAIN = {
-  areFigures, readFigures: unsignedFigures, readCapitals: chineseToAmountBigInt,
-};
-const SIGNED = {
-  areFigures: (word) => areFigures(word) || word.startsWith('−'),
-  readFigures: yuanToFenBigInt, readCapitals: chineseToSignedAmountBigInt,
-};
-const TYPED = {
-  ...PLAIN, areFigures: (word) => areFigures(word.trimStart()),
-  readCapitals: chineseToAmountAsTypedBigInt,
-};
+// Whether --signed converts a word.
+function isSigned(word, typed) {
+  try {
+    amountsOf({ signed: true, typed })(word);
+    return true;
+  } catch (error) {
+    if (error instanceof AmountError) return false;
+    throw error;
+  }
+}
 
-function answerAmounts({ signed, typed, column, header, delimiter, ...form }, words) {
-  const how = signed ? SIGNED : typed ? TYPED : PLAIN;
-  const answerOf = (word) => (how.areFigures(word)
-    ? signedAmountToChinese(how.readFigures(word), form) : figuresOf(how.readCapitals(word)));
+function answerAmounts({ column, header, name, delimiter, ...options }, words, language) {
   if (column) refuseWords(words);
   else if (words.length === 0) throw new Misuse('an argument is expected');
-  if (signed && typed) throw new Misuse('--signed and --typed cannot be used together');
-  if (column) return answerTable(column, header ?? false, delimiter ?? ',', answerOf);
-  if (header || delimiter) throw new Misuse('--header and --delimiter need --column');
-  return answerEach(words, answerOf);
-}
-
-const PREFIX_OF_DATE = /^(?:[0-9]{4}-[0-9]{2}-[0-9]{0,2}|[0-9]{4}-[0-9]{0,2}|[0-9]{0,4})/;
-
-// Refuses figures if only a prefix of them begins a date, or if they are only the prefix of a date.
-function refuseOtherFigures(word) {
-  const [{ length }] = PREFIX_OF_DATE.exec(word);
-  if (length < word.length) {
-    throw new DateError('incorrect', { charIndex: length, start: length, end: length + 1 });
+  if (options['bracketed-sign'] && !options.signed) {
+    throw new Misuse('--bracketed-sign needs --signed');
   }
-  if (length < 10) throw new DateError('unfinished');
+  const answerOf = amountsOf(options, language);
+  if (column) return answerTable({ column, header, name, delimiter }, language, answerOf);
+  if (header || name || delimiter) {
+    throw new Misuse('--header, --name and --delimiter need --column');
+  }
+  return answerEach(words, language, answerOf);
 }
 
-function answerDate(word, options) {
-  if (!areFigures(word)) {
+// A date in figures, and a prefix of one.
+const NUMBER = '(?:[0-9]{1,2})';
+const DATE = new RegExp('^[0-9]{4}(?:-D-D|/D/D|年D月D日)$'.replaceAll('D', NUMBER));
+const PREFIX_OF_DATE = new RegExp(
+  '^(?:[0-9]{4}(?:-(?:D(?:-D?)?)?|/(?:D(?:/D?)?)?|年(?:D(?:月(?:D日?)?)?)?)?|[0-9]{0,3})'
+    .replaceAll('D', NUMBER));
+
+// Why figures are not a date: only a prefix of them begins one, or all of them do.
+function notADate(word, language) {
+  const [{ length }] = PREFIX_OF_DATE.exec(word), [character] = word.slice(length);
+  if (!character) return new DateError('unfinished');
+  return new Refused(textIn(language, 'wrong', { place: length + 1, there: shown(character) }));
+}
+
+// Converts a date, in capitals to figures and in figures to capitals.
+function answerDate(word, options, language) {
+  if (/^[^\0-\x7f]/.test(word)) {
     const { year, month, day } = chineseToDate(word);
     return `${padded(year, 4)}-${padded(month, 2)}-${padded(day, 2)}`;
   }
-  refuseOtherFigures(word);
-  const [year, month, day] = word.split('-').map(Number);
-  return dateToChinese({ year, month, day }, options);
+  if (!DATE.test(word)) throw notADate(word, language);
+  const [year, month, day] = word.match(/[0-9]+/g).map(Number);
+  try {
+    return dateToChinese({ year, month, day }, options);
+  } catch (error) {
+    if (error.code !== 'notADate' || year === 0 || month < 1 || month > 12) throw error;
+    throw new Refused(textIn(language, 'day', { year, month, day }));
+  }
 }
 
 // The lines of a stream of bytes: yields, for each piece, the lines that end in it.
@@ -306,15 +367,21 @@ class Progress {
 }
 
 // Converts a column of the table in standard input, and returns the status.
-async function answerTable(column, isHeaded, delimiter, answerOf) {
-  const table = new Table({ column, isHeaded, delimiter }, answerOf), progress = new Progress();
+async function answerTable({ column, header, name, delimiter = ',' }, language, answerOf) {
+  const isNumber = /^[1-9][0-9]{0,8}$/.test(column), isHeaded = header || !isNumber;
+  if (name && !isHeaded) throw new Misuse('--name needs --header, or --column with a name');
+  const asked = { column: isNumber ? Number(column) : column, isHeaded, delimiter, name, language };
+  const table = new Table(asked, answerOf), progress = new Progress();
   const tell = (message) => {
     if (message) progress.wipe();
     process.stderr.write(message);
   };
   for await (const lines of linesOfTable(input())) {
-    await write(table.answered(lines));
-    tell(table.messages());
+    try {
+      await write(table.answered(lines));
+    } finally {
+      tell(table.messages());
+    }
     progress.show(table.rows);
   }
   await write(table.end());
@@ -353,19 +420,18 @@ function exactOf(quantity) {
   return denominator === 1n ? `${numerator}` : `${numerator}/${denominator}`;
 }
 
-function refuseMisfits({ exact, method, kind, way }) {
-  if (exact && kind) throw new Misuse('--exact and --kind cannot be used together');
-  if (exact && way) throw new Misuse('--exact and --way cannot be used together');
-  if (method && !exact) throw new Misuse('--method needs --exact');
+function refuseMisfits({ numbers, method, kind, way }) {
+  if (numbers && method) throw new Misuse('--numbers and --method cannot be used together');
+  if (!numbers && (kind || way)) throw new Misuse('--kind and --way need --numbers');
 }
 
 async function findInInput({ all, ...options }, words) {
   refuseWords(words);
   refuseMisfits(options);
-  const { exact, method, ...form } = options, wanted = wantedBy(all);
-  const find = exact ? findQuantities : findNumbers;
-  const answerOf = exact ? (found) => exactOf(found.quantity({ method }))
-    : (found) => found.bigInt({ kind: 'u128', ...form });
+  const { numbers, method, ...form } = options, wanted = wantedBy(all);
+  const find = numbers ? findNumbers : findQuantities;
+  const answerOf = numbers ? (found) => found.bigInt({ kind: 'u128', ...form })
+    : (found) => exactOf(found.quantity({ method }));
   let count = 0;
   for await (const lines of linesOf(input())) {
     const answers = lines.map(
@@ -381,7 +447,8 @@ async function replaceInInput(anew) {
   const answerTo = (bytes) => {
     count++;
     if (isUtf8(bytes)) return Buffer.from(anew(bytes.toString()));
-    process.stderr.write(`${count}: the line is not UTF-8\n`);
+    const text = bytes.toString().replace(/[\r\n]+$/, '');
+    process.stderr.write(`line ${count}: ${shown(text)}: the line is not UTF-8\n`);
     status = 1;
     return bytes;
   };
@@ -394,8 +461,9 @@ async function run(name, words) {
   if (!Object.hasOwn(COMMANDS, name)) throw notOneOf('the command', Object.keys(COMMANDS), name);
   const command = COMMANDS[name];
   const { options, others } = parted(words, { ...command.options, help: FLAG });
-  const { help, traditional, ...rest } = options;
-  if (!help) return command.run(traditional ? { ...rest, script: 'traditional' } : rest, others);
+  const { help, traditional, language = 'en', ...rest } = options;
+  const asked = traditional ? { ...rest, script: 'traditional' } : rest;
+  if (!help) return command.run(asked, others, language);
   process.stdout.write(USAGE);
   return 0;
 }

@@ -41,9 +41,10 @@ typedef struct answer {
     uint64_t status, values[5], char_index, byte_index;
 } answer;
 
-/* Room for what a call tells: each byte has to be written. A quantity has the most of them. */
+/* Room for what a call tells: each byte has to be written. What may come next has the most of
+ * them. */
 static void *told(const question *it, size_t bytes) {
-    memset(it->told_end - sizeof(cn_quantity), UNTOUCHED, sizeof(cn_quantity));
+    memset(it->told_end - sizeof(cn_expected), UNTOUCHED, sizeof(cn_expected));
     return it->told_end - bytes;
 }
 
@@ -160,6 +161,14 @@ static answer signed_amount_read(const question *it) {
                                            : chinese_signed_amount_read(it->text, length, to), to);
 }
 
+static answer typed_signed_amount_read(const question *it) {
+    cn_signed_amount *to = told(it, sizeof *to);
+    size_t length = it->text_length;
+    return of_signed(it->style == IN_CHARS
+                         ? cn_read_typed_signed_amount(text_of(it), length, to)
+                         : chinese_typed_signed_amount_read(it->text, length, to), to);
+}
+
 static answer figures_read(const question *it) {
     cn_signed_amount *to = told(it, sizeof *to);
     size_t length = it->text_length;
@@ -174,10 +183,61 @@ static answer date_read(const question *it) {
     return (answer){status, {to->year, to->month, to->day}, to->char_index, to->byte_index};
 }
 
-/* In chars a zero byte, behind the text, tells its length. */
+static answer input_expected(const question *it) {
+    cn_expected *to = told(it, sizeof *to);
+    size_t length = it->text_length;
+    uint32_t input = it->codes[0];
+    uint64_t sum = 0, status = it->style == IN_CHARS
+        ? cn_input_expected(text_of(it), length, input, to)
+        : chinese_input_expected(it->text, length, input, to);
+    for (size_t at = 0; at < CN_MOST_EXPECTED; at++)
+        sum = sum * 31 + to->characters[at];
+    return (answer){status, {to->may_end, to->white_space, to->count, sum}, to->char_index,
+                    to->byte_index};
+}
+
+static answer input_repair(const question *it) {
+    cn_repair *to = told(it, sizeof *to);
+    size_t length = it->text_length;
+    uint32_t input = it->codes[0];
+    uint64_t status = it->style == IN_CHARS ? cn_input_repair(text_of(it), length, input, to)
+                                            : chinese_input_repair(it->text, length, input, to);
+    return (answer){status, {to->change, to->character}, to->char_index, to->byte_index};
+}
+
+/* The calls in chars return a reason alone. Which texts and codes have none, cn_read returns. */
+static answer reason(uint64_t read, cn_fault fault) {
+    uint64_t status = read == CN_NOT_UTF8 || read == CN_UNKNOWN ? read : CN_DONE;
+    return (answer){status, {fault}, 0, 0};
+}
+
+static answer number_explain(const question *it) {
+    uint32_t *to = told(it, sizeof *to), kind = it->codes[0], way = it->codes[1];
+    size_t length = it->text_length;
+    cn_reading read;
+    if (it->style == IN_CHARS)
+        return reason(cn_read(text_of(it), length, kind, way, &read),
+                      cn_explain(text_of(it), length, kind, way));
+    uint64_t status = chinese_number_explain(it->text, length, kind, way, to);
+    return (answer){status, {*to}, 0, 0};
+}
+
+static answer quantity_explain(const question *it) {
+    uint32_t *to = told(it, sizeof *to), method = it->codes[0] + CN_LOW;
+    size_t length = it->text_length;
+    cn_quantity read;
+    if (it->style == IN_CHARS)
+        return reason(cn_read_quantity(text_of(it), length, method, &read),
+                      cn_explain_quantity(text_of(it), length, method));
+    uint64_t status = chinese_quantity_explain(it->text, length, method, to);
+    return (answer){status, {*to}, 0, 0};
+}
+
+/* In chars a zero byte, behind the text, tells its length. A room of length 0 only has the empty
+ * text, without that byte. */
 static answer printed(const question *it, uint64_t status, size_t length) {
     if (it->style == IN_CHARS)
-        length = status == CN_DONE ? strlen((char *)it->room) : 0;
+        length = status == CN_DONE && it->room_length != 0 ? strlen((char *)it->room) : 0;
     return (answer){status, {length}, 0, 0};
 }
 
@@ -260,6 +320,45 @@ static answer date_print(const question *it) {
     return printed(it, status, *to);
 }
 
+static answer input_message(const question *it) {
+    size_t *to = told(it, sizeof *to), length = it->text_length, room = it->room_length;
+    const uint32_t *codes = it->codes;
+    uint64_t status = it->style == IN_CHARS
+        ? cn_input_message(text_of(it), length, codes[0], codes[1], room_of(it), room)
+        : chinese_input_message(it->text, length, codes[0], codes[1], it->room, room, to);
+    return printed(it, status, *to);
+}
+
+static answer number_message(const question *it) {
+    size_t *to = told(it, sizeof *to), length = it->text_length, room = it->room_length;
+    const uint32_t *codes = it->codes;
+    uint64_t status = it->style == IN_CHARS
+        ? cn_number_message(text_of(it), length, codes[0], codes[1], codes[2], room_of(it), room)
+        : chinese_number_message(it->text, length, codes[0], codes[1], codes[2], it->room, room,
+                                 to);
+    return printed(it, status, *to);
+}
+
+static answer quantity_message(const question *it) {
+    size_t *to = told(it, sizeof *to), length = it->text_length, room = it->room_length;
+    uint32_t method = it->codes[0] + CN_LOW, language = it->codes[1];
+    uint64_t status = it->style == IN_CHARS
+        ? cn_quantity_message(text_of(it), length, method, language, room_of(it), room)
+        : chinese_quantity_message(it->text, length, method, language, it->room, room, to);
+    return printed(it, status, *to);
+}
+
+/* CN_TOO_LONG has a message too; here its code is that after the other statuses, which has none. */
+static answer status_message(const question *it) {
+    size_t *to = told(it, sizeof *to), room = it->room_length;
+    uint32_t of = it->codes[0] == CN_TOO_LONG ? CN_NOT_A_QUANTITY + 1 : it->codes[0];
+    uint32_t language = it->codes[1];
+    uint64_t status = it->style == IN_CHARS
+        ? cn_status_message(of, language, room_of(it), room)
+        : chinese_status_message(of, language, it->room, room, to);
+    return printed(it, status, *to);
+}
+
 /* What is printed: first what each code serves, then others, among them what is refused and what
  * has the longest text: of the numbers the last one, -1 and 38 sixes, and of the quantities the same
  * over 1 and 38 sixes. */
@@ -277,6 +376,7 @@ static const uint64_t signed_amounts[][4] = {
     {(uint64_t)-INT64_C(999999999999999999)}};
 static const uint64_t dates[][4] = {
     {2026, 1, 15}, {2025, 12, 31}, {1, 1, 1}, {2026, 2, 29}, {2026, 257, 15}};
+static const uint64_t nothing[][4] = {{0}};
 
 enum {
     READ = STATUS(CN_DONE) | STATUS(CN_EMPTY) | STATUS(CN_INCORRECT) | STATUS(CN_TOO_LARGE)
@@ -299,6 +399,7 @@ typedef struct call {
 
 #define OF_TEXT(statuses) statuses, NULL, 0, 0
 #define REPLACES STATUS(CN_DONE), NULL, 0, MOST_NEW_TEXT
+#define MESSAGE STATUS(CN_DONE), NULL, 0, CN_MOST_MESSAGE_BYTES
 #define PRINTS(values, most) 0, values, LENGTH_OF(values), most
 
 static const call calls[] = {
@@ -321,10 +422,32 @@ static const call calls[] = {
     {"cn_read_typed_amount", typed_amount_read, IN_CHARS, {0}, OF_TEXT(READ_CAPITALS)},
     {"chinese_signed_amount_read", signed_amount_read, PROVED, {0}, OF_TEXT(READ_CAPITALS)},
     {"cn_read_signed_amount", signed_amount_read, IN_CHARS, {0}, OF_TEXT(READ_CAPITALS)},
+    {"chinese_typed_signed_amount_read", typed_signed_amount_read, PROVED, {0},
+     OF_TEXT(READ_CAPITALS)},
+    {"cn_read_typed_signed_amount", typed_signed_amount_read, IN_CHARS, {0},
+     OF_TEXT(READ_CAPITALS)},
     {"chinese_figures_read", figures_read, PROVED, {0}, OF_TEXT(READ_FIGURES)},
     {"cn_read_figures", figures_read, IN_CHARS, {0}, OF_TEXT(READ_FIGURES)},
     {"chinese_date_read", date_read, PROVED, {0}, OF_TEXT(READ_CAPITALS)},
     {"cn_read_date", date_read, IN_CHARS, {0}, OF_TEXT(READ_CAPITALS)},
+    {"chinese_input_expected", input_expected, PROVED, {6}, OF_TEXT(STATUS(CN_DONE))},
+    {"cn_input_expected", input_expected, IN_CHARS, {6}, OF_TEXT(STATUS(CN_DONE))},
+    {"chinese_input_repair", input_repair, PROVED, {6}, OF_TEXT(STATUS(CN_DONE))},
+    {"cn_input_repair", input_repair, IN_CHARS, {6}, OF_TEXT(STATUS(CN_DONE))},
+    {"chinese_number_explain", number_explain, PROVED, {10, 6}, OF_TEXT(STATUS(CN_DONE))},
+    {"cn_explain", number_explain, IN_CHARS, {10, 6}, OF_TEXT(STATUS(CN_DONE))},
+    {"chinese_quantity_explain", quantity_explain, PROVED, {5}, OF_TEXT(STATUS(CN_DONE))},
+    {"cn_explain_quantity", quantity_explain, IN_CHARS, {5}, OF_TEXT(STATUS(CN_DONE))},
+    {"chinese_input_message", input_message, PROVED, {6, 3}, MESSAGE},
+    {"cn_input_message", input_message, IN_CHARS, {6, 3}, MESSAGE},
+    {"chinese_number_message", number_message, PROVED, {10, 6, 3}, MESSAGE},
+    {"cn_number_message", number_message, IN_CHARS, {10, 6, 3}, MESSAGE},
+    {"chinese_quantity_message", quantity_message, PROVED, {5, 3}, MESSAGE},
+    {"cn_quantity_message", quantity_message, IN_CHARS, {5, 3}, MESSAGE},
+    {"chinese_status_message", status_message, PROVED, {13, 3},
+     PRINTS(nothing, CN_MOST_MESSAGE_BYTES)},
+    {"cn_status_message", status_message, IN_CHARS, {13, 3},
+     PRINTS(nothing, CN_MOST_MESSAGE_BYTES)},
     {"chinese_number_print", number_print, PROVED, {10, 6, 2, 2}, PRINTS(numbers, CN_MOST_BYTES)},
     {"cn_print", number_print, IN_CHARS, {10, 6, 2, 2}, PRINTS(numbers, CN_MOST_BYTES)},
     {"chinese_quantity_print", quantity_print, PROVED, {5, 2, 2, 4},
@@ -335,11 +458,11 @@ static const call calls[] = {
      PRINTS(quantities, CN_MOST_FIGURES_BYTES)},
     {"cn_quantity_figures", quantity_figures, IN_CHARS, {4},
      PRINTS(quantities, CN_MOST_FIGURES_BYTES)},
-    {"chinese_amount_print", amount_print, PROVED, {2, 8}, PRINTS(amounts, CN_MOST_AMOUNT_BYTES)},
-    {"cn_print_amount", amount_print, IN_CHARS, {2, 8}, PRINTS(amounts, CN_MOST_AMOUNT_BYTES)},
-    {"chinese_signed_amount_print", signed_amount_print, PROVED, {2, 8},
+    {"chinese_amount_print", amount_print, PROVED, {2, 16}, PRINTS(amounts, CN_MOST_AMOUNT_BYTES)},
+    {"cn_print_amount", amount_print, IN_CHARS, {2, 16}, PRINTS(amounts, CN_MOST_AMOUNT_BYTES)},
+    {"chinese_signed_amount_print", signed_amount_print, PROVED, {2, 16},
      PRINTS(signed_amounts, CN_MOST_SIGNED_AMOUNT_BYTES)},
-    {"cn_print_signed_amount", signed_amount_print, IN_CHARS, {2, 8},
+    {"cn_print_signed_amount", signed_amount_print, IN_CHARS, {2, 16},
      PRINTS(signed_amounts, CN_MOST_SIGNED_AMOUNT_BYTES)},
     {"chinese_date_print", date_print, PROVED, {2}, PRINTS(dates, CN_MOST_DATE_BYTES)},
     {"cn_print_date", date_print, IN_CHARS, {2}, PRINTS(dates, CN_MOST_DATE_BYTES)},
@@ -386,17 +509,22 @@ static size_t written(const call *by, const question *it, const answer *said) {
     size_t text = said->status == CN_DONE ? (size_t)said->values[0] : 0;
     if (by->most == 0)
         return 0;
-    if (by->statuses != 0 && said->status == CN_NO_ROOM)
+    if (by->ask == quantities_to_figures && said->status == CN_NO_ROOM)
         return it->room_length;
     return text + (by->style == IN_CHARS && it->room_length != 0);
+}
+
+static size_t bytes_told(const call *by) {
+    if (by->ask == input_expected)
+        return sizeof(cn_expected);
+    return by->ask == quantity_read ? sizeof(cn_quantity) : sizeof(cn_reading);
 }
 
 /* Asks, and sees that no byte is written but what is told and what may be written of the room,
  * which it clears again. */
 static answer ask(task *mine, const call *by, const question *it, uint8_t *text) {
     answer said = by->ask(it);
-    size_t length = written(by, it, &said);
-    size_t told = by->ask == quantity_read ? sizeof(cn_quantity) : sizeof(cn_reading);
+    size_t length = written(by, it, &said), told = bytes_told(by);
     uint8_t *room = by->most == 0 ? mine->room.end : it->room;
     int right = length <= it->room_length && is_untouched(mine->room.first, room)
         && is_untouched(room + length, mine->room.end)
@@ -470,10 +598,10 @@ static void try_codes(task *mine, const call *by) {
 
 /* What is to be said for a room, by what was said for one that is large enough. */
 static answer for_room(const call *by, const question *it, answer whole) {
-    int in_chars = by->style == IN_CHARS;
-    if (whole.status == CN_DONE && whole.values[0] + (uint64_t)in_chars > it->room_length) {
+    int in_chars = by->style == IN_CHARS, has_end = in_chars && whole.values[0] != 0;
+    if (whole.status == CN_DONE && whole.values[0] + (uint64_t)has_end > it->room_length) {
         whole.status = CN_NO_ROOM;
-        whole.values[0] *= !in_chars || by->statuses != 0;
+        whole.values[0] *= !in_chars || by->ask == quantities_to_figures;
     }
     return whole;
 }
@@ -481,7 +609,7 @@ static answer for_room(const call *by, const question *it, answer whole) {
 /* A room of each length, directly in front of the page that nobody may touch, and directly behind
  * the other. Gives how long the text is. */
 static size_t try_rooms(task *mine, const call *by, question it) {
-    uint8_t text[CN_MOST_QUANTITY_BYTES + 1], same[CN_MOST_QUANTITY_BYTES + 1];
+    uint8_t text[MOST_NEW_TEXT + 1], same[MOST_NEW_TEXT + 1];
     answer whole = ask(mine, by, &it, text), said;
     for (size_t length = 0, most = it.room_length + 1; length <= most; length++)
         for (int at_end = 0; at_end < 2; at_end++) {
@@ -509,6 +637,16 @@ static void try_replacing(task *mine, const call *by) {
     judge(mine, try_rooms(mine, by, it) == 18, by, &it);
 }
 
+/* A room of each length for a message on a text that each reader refuses. */
+static void try_message(task *mine, const call *by) {
+    static const uint8_t text[] = "百%";
+    question it = ample(mine, by);
+    it.text = text;
+    it.text_length = sizeof text - 1;
+    judge(mine, try_rooms(mine, by, it) != 0, by, &it);
+}
+
+/* Messages have less than their most bytes. */
 static void try_printing(task *mine, const call *by) {
     question it = ample(mine, by);
     size_t longest = 0, all = choose_named(by, 0, it.codes) * by->count;
@@ -519,7 +657,7 @@ static void try_printing(task *mine, const call *by) {
         length = try_rooms(mine, by, it);
         longest = length > longest ? length : longest;
     }
-    judge(mine, mine->step > 1 || longest == by->most, by, &it);
+    judge(mine, mine->step > 1 || longest == by->most || by->ask == status_message, by, &it);
 }
 
 /* ---- Texts ---- */
@@ -529,7 +667,8 @@ static void try_printing(task *mine, const call *by) {
 static const char *const parts[] = {
     "一", "二", "三", "十", "百", "千", "萬", "亿", "零", "〇", "壹", "贰", "佰", "元", "圆", "整",
     "正", "角", "分", "年", "月", "日", "负", "兩", "個", "5", "-", " ", "é", "𠀀", "¥", ",", "．",
-    "−", "⊗", "：", "%", "点", "分之", "廿", "1,409.50", "人民币壹佰元整", "贰零贰陆年零叁月零壹日"};
+    "−", "⊗", "：", "%", "点", "分之", "廿", "1,409.50", "人民币壹佰元整", "贰零贰陆年零叁月零壹日",
+    "（负数）", "（大写）", "\xE2\x80\x8B"};
 static const char *const broken[] = {
     "\x80", "\xBF", "\xC0\x80", "\xC1\xBF", "\xC2", "\xE0\x9F\xBF", "\xE4", "\xE4\xB8",
     "\xED\xA0\x80", "\xED\xBF\xBF", "\xEF\xBF", "\xF0\x8F\xBF\xBF", "\xF0\xA0",
@@ -583,12 +722,11 @@ static int is_boundary(const question *it, uint64_t at) {
     return at == it->text_length || (at < it->text_length && (it->text[at] & 0xC0) != 0x80);
 }
 
-static int is_right_place(const question *it, answer said) {
+static int is_place(const question *it, answer said) {
     uint64_t characters = 0;
     for (uint64_t at = 0; at < said.byte_index && at < it->text_length; at++)
         characters += is_boundary(it, at);
-    return said.byte_index < it->text_length && is_boundary(it, said.byte_index)
-        && characters == said.char_index;
+    return is_boundary(it, said.byte_index) && characters == said.char_index;
 }
 
 /* A number has no doubt. */
@@ -604,13 +742,15 @@ static int is_whole(const call *by, const question *it, answer said) {
     if (said.status == CN_INCORRECT) {
         nothing.char_index = said.char_index;
         nothing.byte_index = said.byte_index;
-        return is_same(said, nothing) && is_right_place(it, said);
+        return is_same(said, nothing) && is_place(it, said) && said.byte_index < it->text_length;
     }
     if (said.status != CN_DONE)
         return is_same(said, nothing);
     if (by->statuses == FIND)
         return said.values[0] < said.values[1] && is_boundary(it, said.values[0])
             && is_boundary(it, said.values[1]) && said.values[2] / 16 <= greatest_doubt(by);
+    if (by->ask == input_expected || by->ask == input_repair)
+        return is_place(it, said);
     return said.char_index == 0 && said.byte_index == 0;
 }
 
@@ -654,8 +794,10 @@ static void *try_all(void *argument) {
         try_codes(mine, by);
         if (by->values != NULL)
             try_printing(mine, by);
-        else if (by->most != 0)
+        else if (by->ask == quantities_to_figures)
             try_replacing(mine, by);
+        else if (by->most != 0)
+            try_message(mine, by);
     }
     try_texts(mine);
     return NULL;

@@ -2,22 +2,28 @@ import { NumeralError, toBigInt, toChinese, toNumber } from 'chinese-number-prov
 import { amountToChinese, chineseToAmount, chineseToAmountBigInt } from 'chinese-number-proved';
 import { chineseToAmountAsTyped, chineseToAmountAsTypedBigInt } from 'chinese-number-proved';
 import { chineseToSignedAmount, chineseToSignedAmountBigInt } from 'chinese-number-proved';
+import { chineseToSignedAmountAsTyped } from 'chinese-number-proved';
+import { explainNumber, explainQuantity, inputExpected, inputRepair } from 'chinese-number-proved';
+import { inputMessage, numberMessage, quantityMessage } from 'chinese-number-proved';
+import { LANGUAGES, statusMessage } from 'chinese-number-proved';
 import { signedAmountToChinese, yuanToFen, yuanToFenBigInt } from 'chinese-number-proved';
 import { chineseToDate, dateToChinese, findNumbers } from 'chinese-number-proved';
 import { Quantity, findQuantities, toQuantity } from 'chinese-number-proved';
 import { quantitiesToFigures, replaceQuantities } from 'chinese-number-proved';
 import type { BillDate, Kind, NumeralCode, Unit, Way } from 'chinese-number-proved';
 import type { Doubt, FoundQuantity, Method, QuantityForm } from 'chinese-number-proved';
+import type { Change, Expected, Fault, Input, Language, Repair } from 'chinese-number-proved';
 import { toNumber as other } from 'chinese-number-proved/files';
 const way: Way = 'any', greatest: Unit = 'yi';
 const value: number = toNumber('一', { kind: 'u64', way }), big: bigint = toBigInt('一', { way });
 const text: string = toChinese(value, { way, script: 'simplified', case: 'upper' });
 const amount: string = amountToChinese(big, { currency: true, yuan: '圆', closing: '正' });
 const fen: number = chineseToAmount(amount), bigFen: bigint = chineseToAmountBigInt(amount);
-const red: string = signedAmountToChinese(-fen, { closing: '正' });
-const fens: number[] = [chineseToSignedAmount(red), chineseToAmountAsTyped(amount), yuanToFen(15)];
-const bigFens: bigint[] = [chineseToSignedAmountBigInt(red), chineseToAmountAsTypedBigInt(amount),
-  yuanToFenBigInt('-1,409.50'), yuanToFenBigInt(15n)];
+const red: string = signedAmountToChinese(-fen, { closing: '正', bracketedSign: true });
+const fens: number[] = [chineseToSignedAmountAsTyped(red), chineseToAmountAsTyped(amount)];
+fens.push(chineseToSignedAmount('负壹元整'), yuanToFen(15));
+const bigFens: bigint[] = [chineseToSignedAmountBigInt('负壹元整'),
+  chineseToAmountAsTypedBigInt(amount), yuanToFenBigInt('-1,409.50'), yuanToFenBigInt(15n)];
 const found = Array.from(findNumbers(amount, { upper: true, greatest }), (it) => it.value({ way }));
 const numbers: (number | null)[] = found;
 const date: BillDate = chineseToDate(dateToChinese({ year: 2026, month: 1, day: 15 }));
@@ -34,13 +40,21 @@ const replaced: string = replaceQuantities(text, (it) => it.value()?.toFigures()
 const doubts: (Doubt | null)[] = expressions.map((it) => it.doubt);
 const figures: string = quantitiesToFigures(text, { doubtful: true, expanded: true, canonical: true });
 console.log(all.map((it) => it.toWhole() ?? 0n), isAbout, replaced, doubts, figures);
+const input: Input = 'typedSignedAmount', expected: Expected = inputExpected(red, input);
+const keys: string[] = expected.mayEnd ? [] : expected.characters;
+const repair: Repair | undefined = inputRepair(red, input);
+const change: Change = repair?.change ?? 'delete';
+const faults: (Fault | undefined)[] = [explainNumber('百五', { way }), explainQuantity('十十')];
+const messages: string[] = LANGUAGES.flatMap((it: Language) => [inputMessage(red, 'amount', it),
+  numberMessage('角', it, { way }), quantityMessage('角', it), statusMessage('tooLarge', it)]);
+console.log(keys, change, faults, messages);
 try {
   other(text);
 } catch (error) {
   if (error instanceof NumeralError && error.code === 'incorrect') {
     const start: number | undefined = error.start, kind: Kind | undefined = error.kind;
-    const code: NumeralCode = error.code;
-    console.log(start, kind, code);
+    const code: NumeralCode = error.code, message: string = error.messageIn('zh-Hant');
+    console.log(start, kind, code, message);
   }
 }
 // @ts-expect-error: no such option
@@ -53,6 +67,14 @@ toChinese(1, { way: 'naive' });
 toNumber('一', { kind: 'u7' });
 // @ts-expect-error: what map hands on is no options
 ['一'].map(toNumber);
+// @ts-expect-error: only an amount that may be negative has a sign
+amountToChinese(1n, { bracketedSign: true });
+// @ts-expect-error: no such input
+inputExpected('壹', 'signed_amount');
+// @ts-expect-error: no such language
+inputMessage('壹', 'amount', 'zh');
+// @ts-expect-error: a Number that is not safe has no status of the library
+statusMessage('unsafe', 'en');
 // @ts-expect-error: an amount has no case
 amountToChinese(1n, { case: 'upper' });
 // @ts-expect-error: fen are a number

@@ -7,19 +7,23 @@ import { spawnSync } from 'node:child_process';
 import { existsSync, readFileSync } from 'node:fs';
 import * as face from './files/chinese-number.mjs';
 
-const { CASES, DOUBTS, KINDS, METHODS, QUANTITY_FORMS, SCRIPTS, UNITS, WAYS } = face;
+const { CASES, CHANGES, DOUBTS, FAULTS, INPUTS, KINDS, LANGUAGES, METHODS } = face;
+const { QUANTITY_FORMS, SCRIPTS, UNITS, WAYS } = face;
 const { AmountError, DateError, Found, FoundQuantity, NumeralError } = face;
 const { findNumbers, toBigInt, toChinese, toNumber, chineseToDate, dateToChinese } = face;
 const { amountToChinese, chineseToAmount, chineseToAmountBigInt } = face;
 const { signedAmountToChinese, chineseToSignedAmount, chineseToSignedAmountBigInt } = face;
 const { chineseToAmountAsTyped, chineseToAmountAsTypedBigInt } = face;
+const { chineseToSignedAmountAsTyped, chineseToSignedAmountAsTypedBigInt } = face;
 const { yuanToFen, yuanToFenBigInt } = face;
 const { Quantity, findQuantities, quantitiesToFigures, replaceQuantities, toQuantity } = face;
+const { explainNumber, explainQuantity, inputExpected, inputMessage, inputRepair } = face;
+const { numberMessage, quantityMessage, statusMessage } = face;
 
 const [program] = process.argv.slice(2);
 const textOf = (path) => readFileSync(new URL(path, import.meta.url), 'utf8');
 const READINGS = 60_000, PRINTINGS = 30_000, AMOUNTS = 20_000, DATES = 20_000, TEXTS = 20_000;
-const QUANTITIES = 20_000;
+const QUANTITIES = 20_000, INPUT_TEXTS = 5_000;
 const LETTERS = Array.from('零〇一二三四五六七八九十百千萬万億亿兆京垓秭壹貳叁肆伍陸柒捌玖拾佰仟兩两負负正個角分廿'
   + ' \t　x1１⼀é￿😀𠀀');
 const DIGITS = '零〇一二三四五六七八九兩两壹貳貮贰參叁叄参肆伍陸陆柒捌玖0123456789';
@@ -341,14 +345,17 @@ function tryAmounts() {
       { name: 'AmountError', code: 'tooLarge', message: 'number is too large' });
   }
   for (const it of [-1, -1n, -(2n ** 64n)]) {
-    assert.throws(() => amountToChinese(it), { code: 'tooSmall', message: 'number is too small' });
+    assert.throws(() => amountToChinese(it), { code: 'tooSmall',
+      message: 'number is too small: signedAmountToChinese writes amounts below zero' });
   }
   for (const write of [amountToChinese, signedAmountToChinese]) {
     refusesEach([0.5, 2 ** 53, '1', true, null, undefined], (it) => write(it));
     refusesEach([...NO_OPTIONS, { case: 'upper' }, { script: 'Simplified' }, { currency: 1 },
-      { yuan: '圆元' }, { closing: '' }], (it) => write(1n, it));
+      { yuan: '圆元' }, { closing: '' }, { bracketedSign: 1 }], (it) => write(1n, it));
   }
-  for (const read of [chineseToAmount, chineseToSignedAmount, chineseToAmountAsTyped]) {
+  refusesEach([{ bracketedSign: true }], (it) => amountToChinese(1n, it));
+  for (const read of [chineseToAmount, chineseToSignedAmount, chineseToAmountAsTyped,
+    chineseToSignedAmountAsTyped]) {
     refusesEach([1n, null, undefined, ['壹元整']], (it) => read(it));
   }
   console.log(`amounts: ${AMOUNTS} are written by their places and read back, and each refusal is `
@@ -362,6 +369,9 @@ function compareASignedAmount() {
   const capitals = amountToChinese(fen, form), sign = form.script === 'traditional' ? '負' : '负';
   assert.equal(signedAmountToChinese(fen, form), capitals);
   assert.equal(signedAmountToChinese(-fen, form), fen === 0n ? capitals : sign + capitals);
+  const bracketed = { ...form, bracketedSign: true }, long = `（${sign}${sign === '负' ? '数' : '數'}）`;
+  assert.equal(signedAmountToChinese(fen, bracketed), capitals);
+  assert.equal(signedAmountToChinese(-fen, bracketed), fen === 0n ? capitals : long + capitals);
   for (const [text, wanted] of [[capitals, fen], [`负${capitals}`, -fen], [`負${capitals}`, -fen]]) {
     assert.equal(chineseToSignedAmountBigInt(text), wanted);
     readsAsANumber(text, wanted, chineseToSignedAmount);
@@ -379,7 +389,8 @@ function trySignedAmounts() {
   }
   for (const it of [10n ** 18n, 2n ** 63n, 2n ** 64n + 1n]) {
     assert.throws(() => signedAmountToChinese(it), { name: 'AmountError', code: 'tooLarge' });
-    assert.throws(() => signedAmountToChinese(-it), { name: 'AmountError', code: 'tooSmall' });
+    assert.throws(() => signedAmountToChinese(-it),
+      { name: 'AmountError', code: 'tooSmall', message: 'number is too small' });
   }
   console.log(`amounts below zero: ${AMOUNTS} are those above it behind a sign, and read back`);
 }
@@ -397,6 +408,21 @@ function typedOf(text) {
   return [...spaces(), ...(below(2) ? [['⊗', false]] : []), ...spaces(), ...parts];
 }
 
+// As it is typed, it may also have a sign, wherever the prefix is.
+function compareASignedTypedAmount() {
+  const fen = someAmount(), form = { script: one(SCRIPTS), ...someForm() };
+  const capitals = amountToChinese(fen, { ...form, currency: false }), space = one(['', ' ', '　']);
+  const sign = one(['负', '負', '（负数）', '（負數）', '(负数)', '(負數)']);
+  const currency = one(['人民币', '人民幣：', '人民币:', '人民币（大写）', '人民幣（大寫）：']);
+  const circle = one(['⊗', 'ⓧ']), fronts = [sign, `${sign}${currency}`, `${currency}${sign}`,
+    `${circle}${sign}`, `${sign}${circle}${currency}`, `${circle}${currency}${sign}`];
+  const text = one(fronts) + space + capitals;
+  assert.equal(chineseToSignedAmountAsTypedBigInt(text), -fen, text);
+  readsAsANumber(text, -fen, chineseToSignedAmountAsTyped);
+  const positive = one(['', circle, currency, circle + currency]) + space + capitals;
+  assert.equal(chineseToSignedAmountAsTypedBigInt(positive), fen, positive);
+}
+
 // It is answered as the text, and the place is that among all that is typed.
 function compareATypedAmount() {
   const capitals = amountToChinese(someAmount(), { script: one(SCRIPTS), ...someForm() });
@@ -410,6 +436,7 @@ function compareATypedAmount() {
 
 function tryTypedAmounts() {
   for (let i = 0; i < AMOUNTS; i++) compareATypedAmount();
+  for (let i = 0; i < AMOUNTS; i++) compareASignedTypedAmount();
   assert.throws(() => chineseToAmountAsTyped('⊗ 壹😀'), { name: 'AmountError', code: 'incorrect',
     charIndex: 3, start: 3, end: 5, message: 'the amount is incorrect (position: 3)' });
   console.log(`typed amounts: ${AMOUNTS} are answered as their texts without what is left out`);
@@ -564,6 +591,154 @@ function tryDates() {
     (it) => dateToChinese(date, it));
   console.log(`dates: ${DATES} are written by the rule and read back, and as many texts beside `
     + 'them are answered by it');
+}
+
+const READERS = {
+  amount: chineseToAmountBigInt,
+  signedAmount: chineseToSignedAmountBigInt,
+  typedAmount: chineseToAmountAsTypedBigInt,
+  typedSignedAmount: chineseToSignedAmountAsTypedBigInt,
+  date: chineseToDate,
+  figures: yuanToFenBigInt,
+};
+const OF_INPUTS = Array.from('零壹贰貳叁拾佰仟万億元圆角分整正年月日人民币（(负数）大写⊗ⓧ:：¥，.-−0９ 　\ufeff一Ox😀\ud800');
+
+// The refusal of a text, if it is refused.
+function refusalOf(read, text) {
+  try {
+    read(text);
+    return undefined;
+  } catch (error) {
+    assert(error instanceof Error && error.messageIn, String(error.stack));
+    return error;
+  }
+}
+
+function someInput(input) {
+  if (below(4) === 0) return Array.from({ length: below(6) }, () => one(OF_INPUTS)).join('');
+  const fen = someAmount(), form = { script: one(SCRIPTS), ...someForm() };
+  const date = { year: 1 + below(9999), month: 1 + below(12), day: 1 + below(28) };
+  const text = { date: dateToChinese(date, { script: form.script }), figures: someFigures(-fen) }[input]
+    ?? one([amountToChinese, signedAmountToChinese])(fen, form);
+  return changed(below(2) ? text : text.slice(0, below(text.length)), OF_INPUTS);
+}
+
+// What may come next is what the reader does not refuse there.
+function compareTheExpected(input, text, error) {
+  const read = READERS[input], isWrong = error?.code === 'incorrect';
+  const begun = isWrong ? text.slice(0, error.start) : text;
+  const { charIndex, index, mayEnd, whiteSpace, characters } = inputExpected(text, input);
+  assert.deepEqual([charIndex, index], [Array.from(begun).length, begun.length], text);
+  assert.equal(mayEnd, [undefined, 'tooLarge'].includes(refusalOf(read, begun)?.code), text);
+  assert.equal(new Set(characters).size, characters.length);
+  for (const it of new Set([...OF_INPUTS, ...characters])) {
+    const isExpected = characters.includes(it) || (whiteSpace && /[ 　]/.test(it));
+    assert.equal(refusalOf(read, begun + it)?.code !== 'incorrect', isExpected, begun + it);
+  }
+}
+
+// After a repair a text goes on past its wrong character, or is complete if it was not finished.
+function compareTheRepair(input, text, error) {
+  const repair = inputRepair(text, input);
+  if (!['unfinished', 'incorrect'].includes(error?.code)) assert.equal(repair, undefined);
+  if (!repair) return 0;
+  const { change, charIndex, index, character } = repair, characters = Array.from(text);
+  assert(CHANGES.includes(change) && (character === '') === (change === 'delete'));
+  assert.equal(index, characters.slice(0, charIndex).join('').length);
+  characters.splice(charIndex, change === 'insert' ? 0 : 1, character);
+  const anew = characters.join(''), next = refusalOf(READERS[input], anew);
+  if (error.code === 'unfinished') assert.equal(next, undefined, text);
+  else if (next?.code === 'incorrect') {
+    assert(anew.length - next.start <= text.length - error.end, text);
+  }
+  return 1;
+}
+
+// A message is the same from the error and from the call, and there is none if the text is right.
+function compareTheMessages(error, messageIn) {
+  for (const language of LANGUAGES) {
+    const message = messageIn(language);
+    assert.equal(error?.messageIn(language) ?? '', message);
+    assert.equal(message === '', error === undefined);
+    assert.match(message, language === 'en' ? /^$|\.$/ : /^$|。$/);
+  }
+}
+
+function compareAnInput() {
+  const input = one(INPUTS), text = someInput(input), error = refusalOf(READERS[input], text);
+  compareTheExpected(input, text, error);
+  compareTheMessages(error, (language) => inputMessage(text, input, language));
+  return compareTheRepair(input, text, error);
+}
+
+// A text is explained exactly if it is refused.
+function compareAReason() {
+  const kind = one(KINDS), way = one(WAYS), text = someNumeral(kind, way), options = { kind, way };
+  const error = refusalOf((it) => toBigInt(it, options), text);
+  const fault = explainNumber(text, options);
+  compareTheMessages(error, (language) => numberMessage(text, language, options));
+  if (['empty', 'tooLarge', 'tooSmall'].includes(error?.code)) assert.equal(fault, error.code);
+  else assert.equal(fault !== undefined, error !== undefined, text);
+  const method = one(METHODS), other = refusalOf((it) => toQuantity(it, { method }), text);
+  compareTheMessages(other, (language) => quantityMessage(text, language, { method }));
+  const reason = explainQuantity(text, { method });
+  assert.equal(reason !== undefined, other !== undefined, text);
+  for (const it of [fault, reason]) assert(it === undefined || FAULTS.includes(it));
+}
+
+function tryReasons() {
+  for (let i = 0; i < TEXTS; i++) compareAReason();
+  for (const [text, fault] of [['', 'empty'], ['百五', 'start'], ['一角', 'character'],
+    ['一百十', 'units'], ['三個', 'ge'], ['一萬二萬', 'groups'], ['三百', undefined]]) {
+    assert.equal(explainNumber(text), fault, text);
+  }
+  assert.equal(explainNumber('三百', { kind: 'u8' }), 'tooLarge');
+  assert.equal(explainNumber('一二', { way: 'low' }), 'digits');
+  for (const [text, fault] of [['一千零十', undefined], ['十十', 'repeatedTen'], ['一亿零万', 'afterZero'],
+    ['二两', 'weight'], ['一百五万', 'twoReadings'], ['零分之一', 'denominator']]) {
+    assert.equal(explainQuantity(text), fault, text);
+  }
+  const [found] = findNumbers('共五六十歲');
+  assert.equal(refusalOf(() => found.number(), '').messageIn('zh-Hans'),
+    numberMessage('五六十', 'zh-Hans', { way: 'tenThousand' }));
+  refusesEach([1, null, undefined, ['一']], (it) => explainNumber(it));
+  refusesEach([...NO_OPTIONS, { way: 'ten' }, { method: 'any' }], (it) => explainNumber('一', it));
+  refusesEach([...NO_OPTIONS, { method: 'digits' }], (it) => explainQuantity('一', it));
+  refusesEach([...NO_OPTIONS, { way: 'ten' }], (it) => numberMessage('一', 'en', it));
+  refusesEach([...NO_OPTIONS, { method: 'digits' }], (it) => quantityMessage('一', 'en', it));
+  console.log(`reasons: ${TEXTS} texts are explained, twice each, exactly if they are refused`);
+}
+
+// The errors of what could not be written have the message of their code.
+function tryMessages() {
+  let repaired = 0;
+  for (let i = 0; i < INPUT_TEXTS; i++) repaired += compareAnInput();
+  assert(repaired > INPUT_TEXTS / 10);
+  assert.equal(inputMessage('壹佰贰元整', 'amount', 'zh-Hans'), '第3个字“贰”前缺“零”。');
+  assert.deepEqual(inputRepair('壹佰贰元整', 'amount'),
+    { change: 'insert', charIndex: 2, index: 2, character: '零' });
+  for (const [call, status] of [[() => amountToChinese(-1), 'tooSmall'],
+    [() => amountToChinese(10n ** 18n), 'tooLarge'],
+    [() => toChinese(256, { kind: 'u8' }), 'notHeld'],
+    [() => dateToChinese({ year: 2026, month: 2, day: 30 }), 'notADate'],
+    [() => Quantity.fraction(1, 0), 'notAQuantity'],
+    [() => toNumber('一京'), 'tooLarge'], [() => yuanToFen(10n ** 15n), 'tooLarge']]) {
+    compareTheMessages(refusalOf(call, ''), (language) => statusMessage(status, language));
+  }
+  assert.equal(new NumeralError('outOfMemory').messageIn('zh-Hans'), 'out of memory');
+  assert.equal(statusMessage('unfinished', 'zh-Hans'), '还没写完。');
+  const error = refusalOf(chineseToAmount, '壹佰元'), wrong = ['EN', 'zh', 0, null, undefined];
+  refusesEach(wrong, (it) => error.messageIn(it));
+  refusesEach(wrong, (it) => new NumeralError('outOfMemory').messageIn(it));
+  refusesEach(wrong, (it) => inputMessage('', 'amount', it));
+  refusesEach(wrong, (it) => statusMessage('tooLarge', it));
+  refusesEach(['unsafe', 3, null, undefined], (it) => statusMessage(it, 'en'));
+  const messageOf = (text, input) => inputMessage(text, input, 'en');
+  for (const call of [inputExpected, inputRepair, messageOf]) {
+    refusesEach(['signed_amount', 0, null, undefined], (it) => call('壹', it));
+    refusesEach([1n, null, undefined, ['壹']], (it) => call(it, 'amount'));
+  }
+  console.log(`messages: of ${INPUT_TEXTS} inputs, ${repaired} have a repair, which takes them further`);
 }
 
 const UNIT_CHARACTERS = ['個个', '十拾', '百佰', '千仟', '萬万', '億亿', '兆', '京', '垓', '秭', '穰',
@@ -930,7 +1105,7 @@ function tryTraps() {
 }
 
 for (const it of [lookAtTheModules, compareWithTheProgram, tryEdges, tryOptions, tryAmounts,
-  trySignedAmounts, tryTypedAmounts, tryFigures, tryDates, tryRunningText, tryFound, tryQuantities,
-  tryReplaced, tryLongTexts, tryTraps]) {
+  trySignedAmounts, tryTypedAmounts, tryFigures, tryDates, tryReasons, tryMessages, tryRunningText,
+  tryFound, tryQuantities, tryReplaced, tryLongTexts, tryTraps]) {
   it();
 }

@@ -4,7 +4,7 @@ import assert from 'node:assert/strict';
 import { LANGUAGES, rowsOf } from './page.mjs';
 
 // A key in the middle of the text, right or wrong, leaves the caret behind what it typed. Enter and
-// the button alone move it.
+// the button alone move it: to the wrong character, or before the one where something is missing.
 async function leavesTheCaret(page) {
   await page.speak('en');
   const told = async () => [await page.value('numeral.value'), await page.caret('numeral'),
@@ -27,11 +27,40 @@ async function leavesTheCaret(page) {
   await page.enter();
   assert.deepEqual(await page.caret('numeral'), [3, 3]);
   // The button does what Enter does, as on a phone.
-  for (const [id, typed, at] of [['capitals', '壹佰贰元整', 3], ['figures', '15.005', 5]]) {
+  for (const [id, typed, ...at] of [['capitals', '壹佰贰元整', 2, 2], ['figures', '15.005', 5, 6]]) {
     await page.type(id, typed);
     await page.value(`document.activeElement.blur(); ${id}.form.querySelector('.select').click()`);
     assert.equal(await page.value('document.activeElement.id'), id);
-    assert.deepEqual(await page.caret(id), [at, at + 1]);
+    assert.deepEqual(await page.caret(id), at);
+  }
+}
+
+// A form reports the message of its field by itself, and is submitted only with a right text.
+async function reportsRefusals(page) {
+  await page.speak('en');
+  await page.value(`window.submitted = 0;
+    for (const it of document.forms) it.addEventListener('submit', () => { submitted++; });`);
+  for (const [id, right, ...others] of [
+    ['figures', '-15', '15.005', '15.', '10000000000000000'], ['number', '120', '1e3', '1,4'],
+    ['capitals', '壹佰元整', '壹佰贰元整', '壹佰元'], ['numeral', '一百二', '二十十', '負'],
+    ['dateFigures', '2026-1-15', '2026-2-30', '2026-'],
+    ['dateCapitals', '伍年零壹月壹拾伍日', '伍年壹月', '伍年'],
+  ]) {
+    for (const typed of others) {
+      const { said } = await page.ask(id, typed);
+      assert.notEqual(said, '');
+      assert.equal(await page.value(`${id}.validationMessage`), said);
+      assert.equal(await page.value(`${id}.form.reportValidity()`), false, typed);
+      await page.enter();
+      assert.equal(await page.value('submitted'), 0, typed);
+    }
+    for (const typed of [right, '']) {
+      await page.type(id, typed);
+      assert.equal(await page.value(`${id}.validationMessage`), '');
+      await page.enter();
+      assert.equal(await page.value('submitted'), 1, typed);
+      await page.value('submitted = 0');
+    }
   }
 }
 
@@ -79,7 +108,7 @@ async function marksTheCharacter(page) {
       ['numeral', '三千兩', '白', '五十六'], ['numeral', '一億', 'x', '百二'],
       ['numeral', '', '😀', '一百'], ['numeral', '零'.repeat(60), 'x', '一'],
       ['numeral', '一 　', '𠀀', ''], ['figures', '15.00', '5', ''],
-      ['capitals', '人民币：壹佰贰', '元', '整'],
+      ['capitals', '人民币：壹佰', '贰', '元整'],
     ]) {
       assert.deepEqual((await page.ask(id, front + character + end)).marked, [front, character]);
       await page.painted();
@@ -239,6 +268,6 @@ async function tellsScreenReaders(page) {
 }
 
 export const PARTS = [
-  leavesTheCaret, saysOnce, leavesComposition, marksTheCharacter, scrolls, offersDigits, copies,
-  showsTextAlone, goesByKeyboard, tellsScreenReaders,
+  leavesTheCaret, reportsRefusals, saysOnce, leavesComposition, marksTheCharacter, scrolls,
+  offersDigits, copies, showsTextAlone, goesByKeyboard, tellsScreenReaders,
 ];

@@ -6,8 +6,9 @@ import { LANGUAGES } from './page.mjs';
 const TYPED = '共3.5万元，占12.5%，一般三百多人，他五六十歲，剩三分之一，A4，廿三，五一';
 const FOUND = [
   ['3.5万', '', '35000'], ['12.5%', '', '12.5%'], ['一', 'left', '1'], ['三百', 'left', 'about 300'],
-  ['五六十', 'fault', '“五” is wrong'], ['三分之一', '', '1/3'], ['4', 'doubtful', '4?'],
-  ['廿三', '', '23'], ['五一', 'left', '51? (a list of digits)'],
+  ['五六十', 'fault', 'A unit is missing between character 1, “五”, and “六”, or one of them is too '
+    + 'many.'], ['三分之一', '', '1/3'], ['4', 'doubtful', '4?'], ['廿三', '', '23'],
+  ['五一', 'left', '51? (a list of digits)'],
 ];
 const IN_FIGURES = '共3.5万元，占12.5%，一般三百多人，他五六十歲，剩1/3，A4，23，五一';
 

@@ -54,10 +54,9 @@ async function switchesInPlace(page) {
     `Array.from(figures.form.querySelectorAll('${name}'), (it) => it.textContent)`);
   const amounts = ['壹拾万零柒仟元伍角叁分', '壹拾萬零柒仟元伍角參分'];
   for (const [language, copy, names, said] of [
-    ['zh-Hant', '複製', ['繁體', '簡體'], '還沒寫完，後面可以寫：整、正、零或壹–玖。'],
-    ['zh-Hans', '复制', ['简体', '繁体'], '还没写完，后面可以写：整、正、零或壹–玖。'],
-    ['en', 'Copy', ['Simplified', 'Traditional'],
-      'Not finished yet: 整, 正, 零, or 壹–玖 may follow.'],
+    ['zh-Hant', '複製', ['繁體', '簡體'], '末尾缺「整」。'],
+    ['zh-Hans', '复制', ['简体', '繁体'], '末尾缺“整”。'],
+    ['en', 'Copy', ['Simplified', 'Traditional'], '“整” is missing at the end.'],
   ]) {
     await page.value(`document.querySelector('#languages [lang=${language}]').click()`);
     assert.deepEqual(await page.value('[location.search, figures.value]'),
@@ -84,7 +83,7 @@ async function answers(page) {
     const at = await page.speak(language);
     for (const [id, typed, ...texts] of rowsOf('answered')) {
       const wanted = language === 'zh-Hant' ? texts.toReversed() : texts;
-      const note = /^[-－负負]/.test(typed) && ['figures', 'capitals'].includes(id);
+      const note = /^[-负]/.test(texts[0]) && ['figures', 'capitals'].includes(id);
       const said = note ? TEXTS.belowZero[at] : '';
       assert.deepEqual(await page.ask(id, typed),
         { rows: wanted, said, isFault: false, marked: null }, typed);
@@ -92,23 +91,18 @@ async function answers(page) {
   }
 }
 
-const WRONG = [
-  (place, it) => `第 ${place} 个字“${it}”不能写在这里。`,
-  (place, it) => `第 ${place} 個字「${it}」不能寫在這裡。`,
-  (place, it) => `Character ${place}, “${it}”, is not allowed here. `,
-];
-
-// What is refused at a character, which is marked, and why; Enter selects it.
+// Why a text is refused; the character that the message names is marked. Enter selects it, or moves
+// the caret before it if something is missing there.
 async function refuses(page) {
   for (const language of LANGUAGES) {
     const at = await page.speak(language);
-    for (const [id, row, ...reasons] of rowsOf('refused')) {
-      const [front, character, behind] = row.split(/[[\]]/);
-      const said = WRONG[at](Array.from(front).length + 1, character) + (reasons[at] ?? '');
-      assert.deepEqual(await page.ask(id, front + character + behind),
-        { rows: [], said: said.trim(), isFault: true, marked: [front, character] }, row);
+    for (const [id, row, ...texts] of rowsOf('refused')) {
+      const [prefix, character, suffix] = row.split(/[[\]]/), said = texts[at];
+      assert.deepEqual(await page.ask(id, prefix + character + suffix),
+        { rows: [], said, isFault: true, marked: [prefix, character] }, row);
       await page.enter();
-      assert.deepEqual(await page.caret(id), [front.length, front.length + character.length]);
+      const selected = /缺|missing/.test(said) ? 0 : character.length;
+      assert.deepEqual(await page.caret(id), [prefix.length, prefix.length + selected], row);
     }
   }
 }
@@ -118,16 +112,12 @@ async function leavesTheUnfinished(page) {
   for (const language of LANGUAGES) {
     const at = await page.speak(language);
     for (const [id, typed, ...texts] of rowsOf('unfinished')) {
-      const said = texts[at] ?? TEXTS.unfinished[at];
       assert.deepEqual(await page.ask(id, typed),
-        { rows: [], said, isFault: false, marked: null }, typed);
+        { rows: [], said: texts[at], isFault: false, marked: null }, typed);
     }
     const nothing = { rows: [], said: '', isFault: false, marked: null };
     for (const id of FIELDS) {
       for (const it of ['', ' ', '　']) assert.deepEqual(await page.ask(id, it), nothing);
-    }
-    for (const it of ['負', '正', ' 负', '-']) {
-      assert.deepEqual(await page.ask('numeral', it), nothing, it);
     }
   }
 }
@@ -174,11 +164,11 @@ async function goesByChoices(page) {
   assert.deepEqual((await page.ask('number', '−１，０００．５０')).rows.slice(0, 2),
     ['负一千点五', '負一千點五']);
   for (const [kind, way, id, typed, rows, said] of [
-    ['u8', 'any', 'numeral', '三百', [], 'u8 does not hold this number.'],
-    ['i8', 'any', 'numeral', '負一百二十九', [], 'i8 does not hold this number.'],
+    ['u8', 'any', 'numeral', '三百', [], 'The number is too large.'],
+    ['i8', 'any', 'numeral', '負一百二十九', [], 'The number is too small.'],
     ['i16', 'any', 'numeral', '負一百二十九', ['-129'], ''],
     ['u64', 'any', 'numeral', '一二〇', ['120'], ''],
-    ['u64', 'any', 'number', '-1', [], 'u64 does not hold this number.'],
+    ['u64', 'any', 'number', '-1', [], 'The type cannot hold the number.'],
     ['u64', 'any', 'number', '1.5', [], 'This choice writes only whole numbers.'],
     ['', 'low', 'number', '10000000000000000', [], 'The number is too large.'],
     ['', 'low', 'numeral', '一兆', ['1000000'], ''],
@@ -217,6 +207,10 @@ async function writesForms(page) {
     assert.deepEqual((await page.answer('figures')).rows, [simplified, traditional]);
     await page.check(id, false);
   }
+  await page.type('figures', '-15');
+  await page.check('bracketedSign', true);
+  assert.deepEqual((await page.answer('figures')).rows, ['（负数）壹拾伍元整', '（負數）壹拾伍元整']);
+  await page.check('bracketedSign', false);
 }
 
 export const PARTS = [

@@ -31,6 +31,16 @@ var forms = []string{"whole", "decimal", "percent", "fraction"}
 // The names of doubts, in the order of the doubts.
 var doubts = []string{"none", "word", "digits", "term", "part", "time", "range"}
 
+// named returns the input or the language with a word.
+func named[T cn.Input | cn.Language](word string) T {
+	for it := T(0); it < 10; it++ {
+		if fmt.Sprint(it) == word {
+			return it
+		}
+	}
+	panic("nothing is named " + word)
+}
+
 // told describes the result of a call.
 func told[T any](answer T, err error) string {
 	if err != nil {
@@ -55,41 +65,49 @@ func unsigned(decimal string) uint64 {
 	return bigNumber(decimal).Uint64()
 }
 
-func read[T cn.Integer](words []string) string {
-	return told(cn.ToNumber[T](words[1], ways[words[0]]))
-}
-
-// The readers of each type, which take a way and a text.
-var readers = map[string]func([]string) string{
-	"u8": read[uint8], "u16": read[uint16], "u32": read[uint32], "u64": read[uint64],
-	"i8": read[int8], "i16": read[int16], "i32": read[int32], "i64": read[int64],
-	"u128": func(words []string) string { return told(cn.ToBigUint(words[1], ways[words[0]])) },
-	"i128": func(words []string) string { return told(cn.ToBigInt(words[1], ways[words[0]])) },
-}
-
 // style returns the style with a way, a script and a case.
 func style(words []string) *cn.Style {
 	return &cn.Style{Way: ways[words[0]], Script: scripts[words[1]], Case: cases[words[2]]}
 }
 
-func write[T cn.Integer](words []string) string {
-	number := bigNumber(words[3])
+func write[T cn.Integer](number *big.Int, style *cn.Style) (string, error) {
 	value := T(number.Uint64())
 	if number.Sign() < 0 {
 		value = T(number.Int64())
 	}
-	return told(cn.ToChinese(value, style(words)))
+	return cn.ToChinese(value, style)
 }
 
-func writeBig(words []string) string {
-	return told(cn.BigIntToChinese(bigNumber(words[3]), style(words)))
+// calls are the answers of the calls for an integer type. Each takes the words after the type.
+type calls struct {
+	read, write, explain, message func([]string) string
 }
 
-// The writers of each type, which take a way, a script, a case and a number.
-var writers = map[string]func([]string) string{
-	"u8": write[uint8], "u16": write[uint16], "u32": write[uint32], "u64": write[uint64],
-	"i8": write[int8], "i16": write[int16], "i32": write[int32], "i64": write[int64],
-	"u128": writeBig, "i128": writeBig,
+func callsOf[T any](
+	read func(string, cn.Way) (T, error),
+	write func(*big.Int, *cn.Style) (string, error),
+	explain func(string, cn.Way) (cn.Fault, error),
+	message func(string, cn.Way, cn.Language) (string, error),
+) calls {
+	return calls{
+		func(words []string) string { return told(read(words[1], ways[words[0]])) },
+		func(words []string) string { return told(write(bigNumber(words[3]), style(words))) },
+		func(words []string) string { return told(explain(words[1], ways[words[0]])) },
+		func(words []string) string {
+			return told(message(words[2], ways[words[1]], named[cn.Language](words[0])))
+		},
+	}
+}
+
+func of[T cn.Integer]() calls {
+	return callsOf(cn.ToNumber[T], write[T], cn.ExplainNumber[T], cn.NumberMessage[T])
+}
+
+var kinds = map[string]calls{
+	"u8": of[uint8](), "u16": of[uint16](), "u32": of[uint32](), "u64": of[uint64](),
+	"i8": of[int8](), "i16": of[int16](), "i32": of[int32](), "i64": of[int64](),
+	"u128": callsOf(cn.ToBigUint, cn.BigIntToChinese, cn.ExplainBigUint, cn.BigUintMessage),
+	"i128": callsOf(cn.ToBigInt, cn.BigIntToChinese, cn.ExplainBigInt, cn.BigIntMessage),
 }
 
 // has says whether a word is among others that + separates.
@@ -103,7 +121,34 @@ func amountForm(script, words string) *cn.AmountForm {
 		Currency:       has(words, "currency"),
 		RoundYuan:      has(words, "round_yuan"),
 		UprightClosing: has(words, "upright_closing"),
+		BracketedSign:  has(words, "bracketed_sign"),
 	}
+}
+
+// expected describes what may come next in a text.
+func expected(input, text string) string {
+	it, err := cn.InputExpected(text, named[cn.Input](input))
+	end, space := "-", "-"
+	if it.MayEnd {
+		end = "end"
+	}
+	if it.WhiteSpace {
+		space = "space"
+	}
+	line := fmt.Sprintln(it.CharIndex, end, space, it.Characters)
+	return told(strings.TrimSpace(line), err)
+}
+
+// repair describes the change that repairs a text.
+func repair(input, text string) string {
+	it, err := cn.InputRepair(text, named[cn.Input](input))
+	switch it.Change {
+	case cn.NoChange:
+		return told(it.Change, err)
+	case cn.Delete:
+		return told(fmt.Sprint(it.Change, " ", it.CharIndex), err)
+	}
+	return told(fmt.Sprintf("%v %d %c", it.Change, it.CharIndex, it.Character), err)
 }
 
 func writeDate(script, date string) string {
@@ -214,8 +259,13 @@ func findQuantities(text string, show func(cn.Found) string) string {
 
 // The functions that answer each question, by its name; each takes the other words.
 var answers = map[string]func([]string) string{
-	"read":  func(words []string) string { return readers[words[0]](words[1:]) },
-	"print": func(words []string) string { return writers[words[0]](words[1:]) },
+	"read":    func(words []string) string { return kinds[words[0]].read(words[1:]) },
+	"print":   func(words []string) string { return kinds[words[0]].write(words[1:]) },
+	"explain": func(words []string) string { return kinds[words[0]].explain(words[1:]) },
+	"number_message": func(words []string) string {
+		words[0], words[1] = words[1], words[0]
+		return kinds[words[0]].message(words[1:])
+	},
 	"read_amount": func(words []string) string {
 		return told(cn.ChineseToAmount(words[0]))
 	},
@@ -234,6 +284,18 @@ var answers = map[string]func([]string) string{
 	"print_signed_amount": func(words []string) string {
 		return told(cn.SignedAmountToChinese(signed(words[1]), amountForm(words[0], "")))
 	},
+	"read_typed_signed_amount": func(words []string) string {
+		return told(cn.ChineseToSignedAmountAsTyped(words[0]))
+	},
+	"print_signed_amount_as": func(words []string) string {
+		return told(cn.SignedAmountToChinese(signed(words[2]), amountForm(words[0], words[1])))
+	},
+	"expected": func(words []string) string { return expected(words[0], words[1]) },
+	"repair":   func(words []string) string { return repair(words[0], words[1]) },
+	"input_message": func(words []string) string {
+		language, input := named[cn.Language](words[0]), named[cn.Input](words[1])
+		return told(cn.InputMessage(words[2], input, language))
+	},
 	"yuan_to_fen": func(words []string) string { return told(cn.YuanToFen(words[0])) },
 	"read_date":   func(words []string) string { return told(cn.ChineseToDate(words[0])) },
 	"print_date":  func(words []string) string { return writeDate(words[0], words[1]) },
@@ -241,6 +303,13 @@ var answers = map[string]func([]string) string{
 	"flags":       func(words []string) string { return find(words[0], flags) },
 	"read_quantity": func(words []string) string {
 		return shownQuantity(cn.ToQuantity(words[1], ways[words[0]]))
+	},
+	"explain_quantity": func(words []string) string {
+		return told(cn.ExplainQuantity(words[1], ways[words[0]]))
+	},
+	"quantity_message": func(words []string) string {
+		language := named[cn.Language](words[0])
+		return told(cn.QuantityMessage(words[2], ways[words[1]], language))
 	},
 	"find_quantities": func(words []string) string {
 		return findQuantities(words[0], showQuantity)

@@ -48,7 +48,8 @@ Decimal('0.125')
 [('五一', <Doubt.DIGITS: 'digits'>), ('二十', None)]
 
 A kind, way, script, case, unit, form or doubt is a member of its enum, or the str that the member
-equals.
+equals. mypy accepts such a str only as a literal; Kind(word) is the member for any other str, or
+raises a ValueError.
 
 The module loads the shared library libchinese_number.so (.dylib on macOS, .dll on Windows) from the
 folder that CHINESE_NUMBER_LIB names, as bindings/archive.sh makes it, or else from beside this file,
@@ -73,7 +74,7 @@ from enum import Enum
 from fractions import Fraction
 from itertools import chain
 from sys import intern
-from typing import Any, Callable, Dict, Iterable, Iterator, List, Optional
+from typing import Any, Callable, Dict, Iterable, Iterator, List, Literal, Optional, Protocol
 from typing import SupportsIndex, Tuple, Type, TypeVar, Union
 
 from . import _library
@@ -81,14 +82,20 @@ from . import _library
 __all__ = [
     "AmountError",
     "Case",
+    "Change",
     "DateError",
     "Doubt",
+    "Expected",
+    "Fault",
     "Found",
     "FoundQuantity",
+    "Input",
     "Kind",
+    "Language",
     "NumeralError",
     "Quantity",
     "QuantityForm",
+    "Repair",
     "Script",
     "Status",
     "Unit",
@@ -98,12 +105,21 @@ __all__ = [
     "chinese_to_amount_as_typed",
     "chinese_to_date",
     "chinese_to_signed_amount",
+    "chinese_to_signed_amount_as_typed",
     "date_to_chinese",
+    "explain_number",
+    "explain_quantity",
     "find_numbers",
     "find_quantities",
+    "input_expected",
+    "input_message",
+    "input_repair",
+    "number_message",
     "quantities_to_figures",
+    "quantity_message",
     "replace_quantities",
     "signed_amount_to_chinese",
+    "status_message",
     "to_chinese",
     "to_number",
     "to_quantity",
@@ -113,7 +129,7 @@ __version__ = "0.1.0"
 _library.load(__version__)
 
 # The members of each enum are in the order of their codes in the library. The codes begin with 0,
-# those of Doubt with 1.
+# those of Doubt, Change and Fault with 1.
 
 
 class Kind(str, Enum):
@@ -215,6 +231,121 @@ class Doubt(str, Enum):
     RANGE = "range"
 
 
+class Input(str, Enum):
+    """What a text is meant to be; each is read by a call.
+
+    AMOUNT: chinese_to_amount. SIGNED_AMOUNT: chinese_to_signed_amount.
+    TYPED_AMOUNT: chinese_to_amount_as_typed.
+    TYPED_SIGNED_AMOUNT: chinese_to_signed_amount_as_typed.
+    DATE: chinese_to_date. FIGURES: yuan_to_fen.
+    """
+
+    AMOUNT = "amount"
+    SIGNED_AMOUNT = "signed_amount"
+    TYPED_AMOUNT = "typed_amount"
+    TYPED_SIGNED_AMOUNT = "typed_signed_amount"
+    DATE = "date"
+    FIGURES = "figures"
+
+
+class Change(str, Enum):
+    """What is done to a text: a character is inserted at a place, replaced or deleted there."""
+
+    INSERT = "insert"
+    REPLACE = "replace"
+    DELETE = "delete"
+
+
+class Fault(str, Enum):
+    """Why a text is not a number or a quantity.
+
+    START: a numeral starts with a digit or 十: 百 of 百五.
+    CHARACTER: it is no digit or unit: 角 of 一角.
+    DIGITS: a digit is directly after it: 一 of 一二 with units.
+    UNITS: a unit that is not greater is directly after it: 百 of 一百十.
+    GE: no greater unit is after 個: 個 of 三個.
+    GROUPS: the same unit follows again: 萬 of 一萬二萬.
+
+    The others are those of quantities alone:
+
+    BARE_TEN: 十 without 一 before it, as in 三千零十万.
+    REPEATED_TEN: 十 or 百 after 十.
+    AFTER_ZERO: another unit after 零.
+    WEIGHT: 兩 as a unit of weight, as in 二兩.
+    TWO_READINGS: 万 of 一百五万, which may mean 一百零五万 or 一百五十万.
+    LEFT_OUT_ZERO: 零 is missing before it, or a unit at the end: 二 of 一亿二千.
+    DENOMINATOR: the denominator is not a whole number above 0.
+    """
+
+    EMPTY = "empty"
+    TOO_LARGE = "too_large"
+    TOO_SMALL = "too_small"
+    START = "start"
+    CHARACTER = "character"
+    DIGITS = "digits"
+    UNITS = "units"
+    GE = "ge"
+    GROUPS = "groups"
+    BARE_TEN = "bare_ten"
+    REPEATED_TEN = "repeated_ten"
+    AFTER_ZERO = "after_zero"
+    WEIGHT = "weight"
+    TWO_READINGS = "two_readings"
+    LEFT_OUT_ZERO = "left_out_zero"
+    DENOMINATOR = "denominator"
+
+
+class Language(str, Enum):
+    """The language of a message."""
+
+    ENGLISH = "en"
+    SIMPLIFIED_CHINESE = "zh-Hans"
+    TRADITIONAL_CHINESE = "zh-Hant"
+
+
+# The words that a type checker accepts: the values of the enums, in their order.
+_KindWord = Literal["u8", "u16", "u32", "u64", "u128", "i8", "i16", "i32", "i64", "i128"]
+_WayWord = Literal["digits", "low", "ten_thousand", "middle", "high", "any"]
+_MethodWord = Literal["low", "ten_thousand", "middle", "high", "any"]
+_Method = Union[Literal[Way.LOW, Way.TEN_THOUSAND, Way.MIDDLE, Way.HIGH, Way.ANY], _MethodWord]
+_ScriptWord = Literal["traditional", "simplified"]
+_CaseWord = Literal["upper", "lower"]
+_UnitWord = Literal[
+    "ge",
+    "shi",
+    "bai",
+    "qian",
+    "wan",
+    "yi",
+    "zhao",
+    "jing",
+    "gai",
+    "zi",
+    "rang",
+    "gou",
+    "jian",
+    "zheng",
+    "zai",
+    "ji",
+]
+_FormWord = Literal["whole", "decimal", "percent", "fraction"]
+_DoubtWord = Literal["word", "digits", "term", "part", "time", "range"]
+_InputWord = Literal[
+    "amount", "signed_amount", "typed_amount", "typed_signed_amount", "date", "figures"
+]
+_LanguageWord = Literal["en", "zh-Hans", "zh-Hant"]
+_YuanWord = Literal["元", "圆"]
+_ClosingWord = Literal["整", "正"]
+
+
+class _DateOnly(Protocol):
+    """A datetime.date, for type checkers. A datetime is not one to them, although it is of a subclass:
+    it cannot be compared with a date."""
+
+    def __lt__(self, other: date, /) -> bool:
+        """Whether it is earlier."""
+
+
 class Status(Enum):
     """The result of a call of the library. The exceptions have some of them.
 
@@ -240,17 +371,79 @@ class Status(Enum):
     NOT_A_QUANTITY = 12
 
 
+@dataclass(frozen=True)
+class Expected:
+    """What may come next in a text after its longest part, from the start, that begins an input.
+
+    char_index: how many characters the part has: all of them, or those before the wrong one.
+    may_end: the part is complete, so the text may end there.
+    white_space: white space may come next.
+    characters: the characters that may come next.
+    """
+
+    char_index: int
+    may_end: bool
+    white_space: bool
+    characters: str
+
+
+@dataclass(frozen=True)
+class Repair:
+    """One change of a text: what is done, how many characters come before the place, and the character
+    that is inserted or that replaces the one there; None for DELETE."""
+
+    change: Change
+    char_index: int
+    character: Optional[str]
+
+
+_AnyRefusal = TypeVar("_AnyRefusal", bound="_Refusal")
+
+
 class _Refusal(ValueError):
     _texts: Dict[Status, str]
+    # What was read: "number", "quantity" or "input", the text, and the codes of the choices.
+    _read: Optional[Tuple[Any, ...]] = None
 
     def __init__(self, status: Status, char_index: Optional[int] = None, **more: Any) -> None:
-        text = self._texts.get(status, status.name)
+        text = self._texts.get(status) or status.name
         super().__init__(text.format(char_index=char_index, **more))
         self.status = status
         self.char_index = char_index
 
     def __reduce__(self) -> Tuple[Any, ...]:
-        return type(self), (self.status, self.char_index)
+        return type(self), (self.status,), {**vars(self), "args": self.args}
+
+    # An error in a variable of the function that raises it would be in a cycle with its traceback.
+    def _of(self: _AnyRefusal, *read: Any) -> _AnyRefusal:
+        self._read = read
+        return self
+
+    def message_in(self, language: Union[Language, _LanguageWord] = Language.ENGLISH) -> str:
+        """The message for the person who typed the text: that of input_message, number_message or
+        quantity_message. If no text was read, it is that of status_message.
+
+        >>> try:
+        ...     to_chinese(256, kind='u8')
+        ... except NumeralError as error:
+        ...     print(error.message_in())
+        The type cannot hold the number.
+        """
+        if self._read is None:
+            return status_message(self.status, language=language)
+        return _message(language, *self._read)
+
+
+class _InputRefusal(_Refusal):
+    @property
+    def expected(self) -> Optional[Expected]:
+        """What may come next in the text that was read, or None if the error is not of reading."""
+        return _expected(*self._read[1:]) if self._read else None
+
+    @property
+    def repair(self) -> Optional[Repair]:
+        """The change that repairs the text that was read, if there is one."""
+        return _repair(*self._read[1:]) if self._read else None
 
 
 class NumeralError(_Refusal):
@@ -282,11 +475,13 @@ class NumeralError(_Refusal):
         super().__init__(status, char_index, kind=kind.value)
         self.kind = kind
 
-    def __reduce__(self) -> Tuple[Any, ...]:
-        return type(self), (self.status, self.kind, self.char_index)
+    @property
+    def fault(self) -> Optional[Fault]:
+        """Why the text that was read is refused, or None if the error is not of reading."""
+        return _fault(*self._read) if self._read else None
 
 
-class AmountError(_Refusal):
+class AmountError(_InputRefusal):
     """A text is not an amount of money, or an amount cannot be written.
 
     status is the reason: UNFINISHED if something is missing at the end, INCORRECT if no amount begins
@@ -296,7 +491,9 @@ class AmountError(_Refusal):
     ...     chinese_to_amount('壹佰贰元整')
     ... except AmountError as error:
     ...     print(error, error.status, error.char_index)
+    ...     print(error.message_in('zh-Hans'))
     the amount is incorrect (position: 3) Status.INCORRECT 3
+    第3个字“贰”前缺“零”。
     """
 
     _texts = {
@@ -307,7 +504,7 @@ class AmountError(_Refusal):
     }
 
 
-class DateError(_Refusal):
+class DateError(_InputRefusal):
     """A text is not a date, or a date cannot be written.
 
     status is the reason: UNFINISHED if something is missing at the end, INCORRECT if no date begins
@@ -344,9 +541,13 @@ _SCRIPTS, _CASES = _codes(Script), _codes(Case)
 _FORMS, _FORM_OF = _codes(QuantityForm), tuple(QuantityForm)
 _DOUBT_OF = (None, *Doubt)
 _DOUBTS = {it: code + 1 for it, code in _codes(Doubt).items()}
+_INPUTS, _LANGUAGES = _codes(Input), _codes(Language)
+_AMOUNT, _SIGNED_AMOUNT, _TYPED_AMOUNT, _TYPED_SIGNED_AMOUNT, _DATE, _FIGURES = _INPUTS.values()
+_STATUS_OF, _INCORRECT = tuple(Status), Status.INCORRECT.value
+_CHANGE_OF, _FAULT_OF = (None, *Change), (None, *Fault)
 _METHODS = {way: code for way, code in _WAYS.items() if way is not Way.DIGITS}
-# What each word, and the prefix 人民币, adds to the code of an amount's form.
-_CURRENCY = 1
+# What each word, the prefix 人民币 and the sign （负数） add to the code of an amount's form.
+_CURRENCY, _BRACKETED_SIGN = 1, 8
 _YUAN = {"元": 0, "圆": 2}
 _CLOSINGS = {"整": 0, "正": 4}
 _FIRST_NOT_WRITTEN = 10**18
@@ -369,18 +570,29 @@ def _shown(value: object) -> str:
     return text if len(text) <= _MOST_SHOWN else f"{text[:_MOST_SHOWN]}..."
 
 
+def _shown_with_type(value: object) -> str:
+    """The same with the value's type in parentheses, unless the repr names it or the value is None."""
+    of, text = type(value), _shown(value)
+    if value is None or of.__name__ in text:
+        return text
+    module = "" if of.__module__ == "builtins" else f"{of.__module__}."
+    return f"{text} ({module}{of.__qualname__})"
+
+
 def _code(codes: Dict[str, int], word: str, what: str) -> int:
     """The code of a word. Members of the enums are words too."""
     try:
         return codes[word]
     except (KeyError, TypeError):  # TypeError: the value has no hash
-        error = ValueError if isinstance(word, str) else TypeError
-    raise error(f"{what} must be one of {', '.join(codes)}, not {_shown(word)}")
+        known = f"{what} must be one of {', '.join(codes)}"
+    if isinstance(word, str):
+        raise ValueError(f"{known}, not {_shown(word)}")
+    raise TypeError(f"{known}, not {_shown_with_type(word)}")
 
 
 def _flag(value: bool) -> bool:
     if not isinstance(value, bool):
-        raise TypeError(f"expected a bool, not {_shown(value)}")
+        raise TypeError(f"expected a bool, not {_shown_with_type(value)}")
     return value
 
 
@@ -391,7 +603,7 @@ def _whole(value: SupportsIndex, what: str) -> int:
             return operator.index(value)
         except TypeError:
             pass
-    raise TypeError(f"expected {what}, not {_shown(value)}")
+    raise TypeError(f"expected {what}, not {_shown_with_type(value)}")
 
 
 def _refuse_not_held(number: int, kind: Union[Kind, str]) -> None:
@@ -410,23 +622,23 @@ def _of_halves(low: int, high: int, kind: Union[Kind, str]) -> int:
 
 def _text(value: str) -> str:
     if not isinstance(value, str):
-        raise TypeError(f"expected a str, not {_shown(value)}")
+        raise TypeError(f"expected a str, not {_shown_with_type(value)}")
     return value
 
 
 def _status(code: int) -> Status:
     if code == _TOO_LONG:
         raise OverflowError("the text is too long: it has more than 4,293,918,720 bytes")
-    return Status(code)
+    return _STATUS_OF[code]
 
 
-def _place(status: Status, char_index: int) -> Optional[int]:
-    return char_index if status is Status.INCORRECT else None
+def _place(code: int, char_index: int) -> Optional[int]:
+    return char_index if code == _INCORRECT else None
 
 
 @_library.quick
 def to_number(
-    text: str, *, kind: Union[Kind, str] = Kind.I128, way: Union[Way, str] = Way.ANY
+    text: str, *, kind: Union[Kind, _KindWord] = Kind.I128, way: Union[Way, _WayWord] = Way.ANY
 ) -> int:
     """Reads a text as a number. Raises NumeralError if the text is not a number of this kind.
 
@@ -443,8 +655,8 @@ def to_number(
     kind_code, way_code = _code(_KINDS, kind, "kind"), _code(_WAYS, way, "way")
     code, low, high, char_index = _library.read_number(_text(text), kind_code, way_code)
     if code:
-        status = _status(code)
-        raise NumeralError(status, Kind(kind), _place(status, char_index))
+        reason = _status(code), Kind(kind), _place(code, char_index)
+        raise NumeralError(*reason)._of("number", text, kind_code, way_code)
     return _of_halves(low, high, kind)
 
 
@@ -452,10 +664,10 @@ def to_number(
 def to_chinese(
     number: SupportsIndex,
     *,
-    kind: Union[Kind, str] = Kind.I128,
-    way: Union[Way, str] = Way.ANY,
-    script: Union[Script, str] = Script.SIMPLIFIED,
-    case: Union[Case, str] = Case.LOWER,
+    kind: Union[Kind, _KindWord] = Kind.I128,
+    way: Union[Way, _WayWord] = Way.ANY,
+    script: Union[Script, _ScriptWord] = Script.SIMPLIFIED,
+    case: Union[Case, _CaseWord] = Case.LOWER,
 ) -> str:
     """Writes a number as text. Raises NumeralError if the kind does not hold the number, or if it has
     17 digits or more and the way is LOW.
@@ -481,21 +693,29 @@ def to_chinese(
     return text
 
 
+def _not_written(fen: int, least: int) -> AmountError:
+    error = AmountError(Status.TOO_SMALL if fen < 0 else Status.TOO_LARGE)
+    if fen < least == 0:
+        error.args = (f"{error}: signed_amount_to_chinese writes amounts below zero",)
+    return error
+
+
 def _amount_text(
     call: Callable[[int, int, int], Tuple[int, str]],
     fen: SupportsIndex,
     least: int,
-    choices: Tuple[Union[Script, str], bool, str, str],
+    choices: Tuple[Union[Script, _ScriptWord], bool, _YuanWord, _ClosingWord],
+    sign: int = 0,
 ) -> str:
     """The text of an amount that is at least `least`. The choices are the script, whether the currency
-    is written, the word for yuan, and the closing."""
+    is written, the word for yuan, and the closing. The sign is its part of the form's code."""
     script, currency, yuan, closing = choices
     whole = _whole(fen, "a whole number of fen (yuan_to_fen converts yuan)")
     script_code = _code(_SCRIPTS, script, "script")
-    form = _code(_YUAN, yuan, "yuan") + _code(_CLOSINGS, closing, "closing")
+    form = _code(_YUAN, yuan, "yuan") + _code(_CLOSINGS, closing, "closing") + sign
     form += _CURRENCY if _flag(currency) else 0
     if not least <= whole < _FIRST_NOT_WRITTEN:
-        raise AmountError(Status.TOO_SMALL if whole < 0 else Status.TOO_LARGE)
+        raise _not_written(whole, least)
     status, text = call(whole, script_code, form)
     if status:
         raise AmountError(Status(status))
@@ -505,10 +725,10 @@ def _amount_text(
 def amount_to_chinese(
     fen: SupportsIndex,
     *,
-    script: Union[Script, str] = Script.SIMPLIFIED,
+    script: Union[Script, _ScriptWord] = Script.SIMPLIFIED,
     currency: bool = False,
-    yuan: str = "元",
-    closing: str = "整",
+    yuan: _YuanWord = "元",
+    closing: _ClosingWord = "整",
 ) -> str:
     """Writes an amount of money in capitals, as on a cheque. The amount is a whole number of fen.
     Raises AmountError if the amount is below zero, or 10**18 or more.
@@ -517,7 +737,7 @@ def amount_to_chinese(
     '壹拾萬零柒仟元伍角參分'
     >>> amount_to_chinese(15.0)
     Traceback (most recent call last):
-    TypeError: expected a whole number of fen (yuan_to_fen converts yuan), not 15.0
+    TypeError: expected a whole number of fen (yuan_to_fen converts yuan), not 15.0 (float)
 
     The currency is the prefix 人民币; yuan is '元' or '圆', and closing is '整' or '正'.
 
@@ -531,10 +751,11 @@ def amount_to_chinese(
 def signed_amount_to_chinese(
     fen: SupportsIndex,
     *,
-    script: Union[Script, str] = Script.SIMPLIFIED,
+    script: Union[Script, _ScriptWord] = Script.SIMPLIFIED,
     currency: bool = False,
-    yuan: str = "元",
-    closing: str = "整",
+    yuan: _YuanWord = "元",
+    closing: _ClosingWord = "整",
+    bracketed_sign: bool = False,
 ) -> str:
     """Writes an amount like amount_to_chinese, and a negative one, as on a red invoice, with the
     prefix 负. Raises AmountError if the amount is -(10**18) or less, or 10**18 or more.
@@ -543,17 +764,22 @@ def signed_amount_to_chinese(
     ('负壹拾伍元整', '負壹拾伍元整')
     >>> signed_amount_to_chinese(-1500, currency=True)
     '负人民币壹拾伍元整'
+
+    With bracketed_sign the prefix is （负数）, which only chinese_to_signed_amount_as_typed reads.
+
+    >>> signed_amount_to_chinese(-1500, bracketed_sign=True)
+    '（负数）壹拾伍元整'
     """
-    choices = script, currency, yuan, closing
-    return _amount_text(_library.print_signed_amount, fen, 1 - _FIRST_NOT_WRITTEN, choices)
+    choices, sign = (script, currency, yuan, closing), _BRACKETED_SIGN * _flag(bracketed_sign)
+    return _amount_text(_library.print_signed_amount, fen, 1 - _FIRST_NOT_WRITTEN, choices, sign)
 
 
-def _fen(answer: Tuple[int, int, int]) -> int:
-    """The fen that a call of the library read."""
-    code, fen, char_index = answer
+def _fen(read: Callable[[str], Tuple[int, int, int]], text: str, of: int) -> int:
+    """The fen that a call of the library reads in a text, which is meant to be an input."""
+    # _text raises; it is not called for each text, which would take as long as a tenth of the rest.
+    code, fen, char_index = read(text if isinstance(text, str) else _text(text))
     if code:
-        status = _status(code)
-        raise AmountError(status, _place(status, char_index))
+        raise AmountError(_status(code), _place(code, char_index))._of("input", text, of)
     return fen
 
 
@@ -568,7 +794,7 @@ def chinese_to_amount(text: str) -> int:
 
     White space and lone surrogates are invalid characters.
     """
-    return _fen(_library.read_amount(_text(text)))
+    return _fen(_library.read_amount, text, _AMOUNT)
 
 
 def chinese_to_signed_amount(text: str) -> int:
@@ -577,17 +803,29 @@ def chinese_to_signed_amount(text: str) -> int:
     >>> chinese_to_signed_amount('负壹拾伍元整'), chinese_to_signed_amount('壹拾伍元整')
     (-1500, 1500)
     """
-    return _fen(_library.read_signed_amount(_text(text)))
+    return _fen(_library.read_signed_amount, text, _SIGNED_AMOUNT)
 
 
 def chinese_to_amount_as_typed(text: str) -> int:
-    """Reads an amount as it is typed, like chinese_to_amount, but ignores white space, then one ⊗ at
-    the start, as on an invoice, and then one colon directly after a leading 人民币.
+    """Reads an amount as it is typed, or copied from an invoice: like chinese_to_amount, but ignores
+    white space, one ⊗ or ⓧ at the start, and （大写） and a colon directly after a leading 人民币.
 
     >>> chinese_to_amount_as_typed('⊗ 人民币：壹拾 伍元整')
     1500
     """
-    return _fen(_library.read_typed_amount(_text(text)))
+    return _fen(_library.read_typed_amount, text, _TYPED_AMOUNT)
+
+
+def chinese_to_signed_amount_as_typed(text: str) -> int:
+    """Reads an amount like chinese_to_amount_as_typed, also a negative one, as on a red invoice: with
+    the sign 负 or （负数） at the start, before or after ⊗ and 人民币.
+
+    >>> chinese_to_signed_amount_as_typed('人民币（大写）：（负数）壹拾伍元整')
+    -1500
+    >>> chinese_to_signed_amount_as_typed('⊗ 负 壹拾伍元整')
+    -1500
+    """
+    return _fen(_library.read_typed_signed_amount, text, _TYPED_SIGNED_AMOUNT)
 
 
 def _figures_of(value: Decimal) -> str:
@@ -627,16 +865,20 @@ def yuan_to_fen(value: Union[Decimal, str, SupportsIndex]) -> int:
             f"a float is not an exact amount: expected a str or a Decimal, not {_shown(value)}"
         )
     if isinstance(value, Decimal):
-        return _fen(_library.read_figures(_figures_of(value)))
-    if isinstance(value, str):
-        return _fen(_library.read_figures(value))
-    whole = _whole(value, "a str, a Decimal or a whole number of yuan")
-    if not abs(whole) < _FIRST_NOT_WRITTEN:  # Python may refuse to make its figures
-        raise AmountError(Status.TOO_LARGE)
-    return _fen(_library.read_figures(str(whole)))
+        figures = _figures_of(value)
+    elif isinstance(value, str):
+        figures = value
+    else:
+        whole = _whole(value, "a str, a Decimal or a whole number of yuan")
+        if not abs(whole) < _FIRST_NOT_WRITTEN:  # Python may refuse to make its figures
+            raise AmountError(Status.TOO_LARGE)
+        figures = str(whole)
+    return _fen(_library.read_figures, figures, _FIGURES)
 
 
-def date_to_chinese(day: date, *, script: Union[Script, str] = Script.SIMPLIFIED) -> str:
+def date_to_chinese(
+    day: _DateOnly, *, script: Union[Script, _ScriptWord] = Script.SIMPLIFIED
+) -> str:
     """Writes a date in capitals, as on a cheque. Every datetime.date has a text.
 
     >>> date_to_chinese(date(2026, 10, 20))
@@ -648,7 +890,7 @@ def date_to_chinese(day: date, *, script: Union[Script, str] = Script.SIMPLIFIED
     A datetime is refused, since its day depends on the time zone.
     """
     if not isinstance(day, date) or isinstance(day, datetime):
-        raise TypeError(f"expected a date, not {_shown(day)}")
+        raise TypeError(f"expected a date, not {_shown_with_type(day)}")
     code = _code(_SCRIPTS, script, "script")
     status, text = _library.print_date(day.year, day.month, day.day, code)
     if status:
@@ -669,8 +911,7 @@ def chinese_to_date(text: str) -> date:
     """
     code, fields, char_index = _library.read_date(_text(text))
     if code:
-        status = _status(code)
-        raise DateError(status, _place(status, char_index))
+        raise DateError(_status(code), _place(code, char_index))._of("input", text, _DATE)
     return date(*fields)
 
 
@@ -713,7 +954,7 @@ class Quantity:
         self,
         numerator: SupportsIndex,
         denominator: SupportsIndex = 1,
-        form: Union[QuantityForm, str] = QuantityForm.WHOLE,
+        form: Union[QuantityForm, _FormWord] = QuantityForm.WHOLE,
     ) -> None:
         above, below = _whole(numerator, "a whole number"), _whole(denominator, "a whole number")
         _refuse_not_held(above, Kind.I128)
@@ -732,7 +973,7 @@ class Quantity:
         ('三点一零', '负三分之一')
         >>> Quantity.of(0.5)
         Traceback (most recent call last):
-        TypeError: expected a whole number, a Decimal or a Fraction, not 0.5
+        TypeError: expected a whole number, a Decimal or a Fraction, not 0.5 (float)
 
         Raises NumeralError if the value does not fit in 128 bits, ValueError for NaN and infinities.
         """
@@ -809,9 +1050,9 @@ class Quantity:
     def to_chinese(
         self,
         *,
-        method: Union[Way, str] = Way.ANY,
-        script: Union[Script, str] = Script.SIMPLIFIED,
-        case: Union[Case, str] = Case.LOWER,
+        method: _Method = Way.ANY,
+        script: Union[Script, _ScriptWord] = Script.SIMPLIFIED,
+        case: Union[Case, _CaseWord] = Case.LOWER,
     ) -> str:
         """Writes the quantity by a method. to_quantity reads the text as the same numerator and
         denominator; it reads a percentage as a fraction. ANY writes as MIDDLE in simplified script if
@@ -847,7 +1088,7 @@ class Quantity:
         return above, above >> 64, below, below >> 64, _FORMS[self.form]
 
 
-def to_quantity(text: str, *, method: Union[Way, str] = Way.ANY) -> Quantity:
+def to_quantity(text: str, *, method: _Method = Way.ANY) -> Quantity:
     """Reads a text as a quantity: a whole number, a decimal, a percentage or a fraction, in figures or
     in numerals. The method is low, ten_thousand, middle, high or any, which means ten_thousand here.
     Raises NumeralError if the text is not a quantity.
@@ -865,8 +1106,8 @@ def to_quantity(text: str, *, method: Union[Way, str] = Way.ANY) -> Quantity:
     method_code = _code(_METHODS, method, "method")
     code, words, char_index = _library.read_quantity(_text(text), method_code)
     if code:
-        status = _status(code)
-        raise NumeralError(status, char_index=_place(status, char_index))
+        reason = _status(code), Kind.I128, _place(code, char_index)
+        raise NumeralError(*reason)._of("quantity", text, method_code)
     low, high, below_low, below_high, form = words
     above, below = _of_halves(low, high, Kind.I128), _of_halves(below_low, below_high, Kind.U128)
     return Quantity(above, below, _FORM_OF[form])
@@ -917,7 +1158,9 @@ class Found(_Run):
 
     __slots__ = ()
 
-    def number(self, *, kind: Union[Kind, str] = Kind.I128, way: Union[Way, str] = Way.ANY) -> int:
+    def number(
+        self, *, kind: Union[Kind, _KindWord] = Kind.I128, way: Union[Way, _WayWord] = Way.ANY
+    ) -> int:
         """Reads the run as a number: plain digits as such, anything else by the way, where ANY means
         TEN_THOUSAND. Raises NumeralError if it is not a number of this kind; char_index counts
         within the run.
@@ -930,7 +1173,7 @@ class Found(_Run):
         return to_number(self.text, kind=kind, way=Way.DIGITS if self.is_plain else units)
 
     def value(
-        self, *, kind: Union[Kind, str] = Kind.I128, way: Union[Way, str] = Way.ANY
+        self, *, kind: Union[Kind, _KindWord] = Kind.I128, way: Union[Way, _WayWord] = Way.ANY
     ) -> Optional[int]:
         """The result of number(), or None if number() raises NumeralError.
 
@@ -974,14 +1217,14 @@ class FoundQuantity(_Doubted):
         stands_alone: bool,
         is_about: bool,
         is_one_character: bool,
-        doubt: Union[Doubt, str, None] = None,
+        doubt: Union[Doubt, _DoubtWord, None] = None,
     ) -> FoundQuantity:
         code = 0 if doubt is None else _code(_DOUBTS, doubt, "doubt")
         flags = is_plain, stands_alone, is_about, is_one_character
         made: FoundQuantity = _library.Run.__new__(cls, start, end, text, *flags, code)
         return made
 
-    def quantity(self, *, method: Union[Way, str] = Way.ANY) -> Quantity:
+    def quantity(self, *, method: _Method = Way.ANY) -> Quantity:
         """Reads the expression with to_quantity. Raises NumeralError if it is not a quantity;
         char_index counts within the expression.
 
@@ -990,7 +1233,7 @@ class FoundQuantity(_Doubted):
         """
         return to_quantity(self.text, method=method)
 
-    def value(self, *, method: Union[Way, str] = Way.ANY) -> Optional[Quantity]:
+    def value(self, *, method: _Method = Way.ANY) -> Optional[Quantity]:
         """The result of quantity(), or None if quantity() raises NumeralError.
 
         >>> [(found.text, found.value() is None) for found in find_quantities('版本1.2.3，五六十')]
@@ -1003,7 +1246,7 @@ class FoundQuantity(_Doubted):
 
 
 def find_numbers(
-    text: str, *, upper: bool = False, greatest: Union[Unit, str] = Unit.ZHAO
+    text: str, *, upper: bool = False, greatest: Union[Unit, _UnitWord] = Unit.ZHAO
 ) -> Iterator[Found]:
     """Finds the numbers of a text, in order: its longest runs of digits and of units up to the greatest
     one, with upper also of the characters that only cheques have. A run ends between an ASCII digit
@@ -1023,7 +1266,7 @@ def find_numbers(
 
 
 def find_quantities(
-    text: str, *, upper: bool = False, greatest: Union[Unit, str] = Unit.ZHAO
+    text: str, *, upper: bool = False, greatest: Union[Unit, _UnitWord] = Unit.ZHAO
 ) -> Iterator[FoundQuantity]:
     """Finds the expressions of a text, in order: numbers with their sign, figures, point and units,
     percentages and fractions. upper and greatest are as in find_numbers.
@@ -1062,8 +1305,8 @@ def replace_quantities(
     new: Callable[[FoundQuantity], Optional[str]],
     *,
     upper: bool = False,
-    greatest: Union[Unit, str] = Unit.ZHAO,
-    method: Union[Way, str] = Way.ANY,
+    greatest: Union[Unit, _UnitWord] = Unit.ZHAO,
+    method: _Method = Way.ANY,
     about: bool = False,
     one_character: bool = False,
     doubtful: bool = False,
@@ -1103,8 +1346,8 @@ def quantities_to_figures(
     text: str,
     *,
     upper: bool = False,
-    greatest: Union[Unit, str] = Unit.ZHAO,
-    method: Union[Way, str] = Way.ANY,
+    greatest: Union[Unit, _UnitWord] = Unit.ZHAO,
+    method: _Method = Way.ANY,
     about: bool = False,
     one_character: bool = False,
     doubtful: bool = False,
@@ -1160,3 +1403,133 @@ def quantities_to_figures(
     rest = iter(marks)
     whole: str = re.sub("\ufffd", lambda _: next(rest), figures) if marks else figures
     return whole
+
+
+def _expected(text: str, of: int) -> Expected:
+    code, values = _library.input_expected(text, of)
+    _status(code)
+    return Expected(*values)
+
+
+def _repair(text: str, of: int) -> Optional[Repair]:
+    code, change_code, char_index, character = _library.input_repair(text, of)
+    _status(code)
+    change = _CHANGE_OF[change_code]
+    if change is None:
+        return None
+    return Repair(change, char_index, None if change is Change.DELETE else character)
+
+
+def _fault(what: str, text: str, *codes: int) -> Optional[Fault]:
+    code, fault = _library.fault(what, text, *codes)
+    _status(code)
+    return _FAULT_OF[fault]
+
+
+def _message(language: Union[Language, _LanguageWord], what: str, text: str, *codes: int) -> str:
+    in_language = _code(_LANGUAGES, language, "language")
+    code, message = _library.message(what, text, *codes, in_language)
+    _status(code)
+    return message
+
+
+def input_expected(text: str, input: Union[Input, _InputWord]) -> Expected:
+    """Says what may come next in a text, for example to enable the keys of a keyboard. If the call that
+    reads the input refuses a character, char_index is the same.
+
+    >>> input_expected('人民元', 'amount')
+    Expected(char_index=2, may_end=False, white_space=False, characters='币幣')
+    """
+    return _expected(_text(text), _code(_INPUTS, input, "input"))
+
+
+def input_repair(text: str, input: Union[Input, _InputWord]) -> Optional[Repair]:
+    """Finds one change after which a refused text is read past its wrong character. A text that is only
+    unfinished becomes one that is read. None if the text is right or no change is found. Only a
+    person can say that the change is what was meant.
+
+    >>> input_repair('壹佰贰元整', 'amount')
+    Repair(change=<Change.INSERT: 'insert'>, char_index=2, character='零')
+    """
+    return _repair(_text(text), _code(_INPUTS, input, "input"))
+
+
+def explain_number(
+    text: str, *, kind: Union[Kind, _KindWord] = Kind.I128, way: Union[Way, _WayWord] = Way.ANY
+) -> Optional[Fault]:
+    """Says why to_number refuses a text: the first rule that the text breaks from the wrong character
+    on. None if the text is read.
+
+    >>> explain_number('一百十'), explain_number('一百')
+    (<Fault.UNITS: 'units'>, None)
+    """
+    return _fault("number", _text(text), _code(_KINDS, kind, "kind"), _code(_WAYS, way, "way"))
+
+
+def explain_quantity(text: str, *, method: _Method = Way.ANY) -> Optional[Fault]:
+    """Says why to_quantity refuses a text, likewise.
+
+    >>> explain_quantity('零分之一'), explain_quantity('一百五万')
+    (<Fault.DENOMINATOR: 'denominator'>, <Fault.TWO_READINGS: 'two_readings'>)
+    """
+    return _fault("quantity", _text(text), _code(_METHODS, method, "method"))
+
+
+def input_message(
+    text: str,
+    input: Union[Input, _InputWord],
+    *,
+    language: Union[Language, _LanguageWord] = Language.ENGLISH,
+) -> str:
+    """The message for the person who typed a text that is refused: the wrong character, its position,
+    which counts from 1, and the repair, if there is one. The empty str if the text is right.
+
+    >>> input_message('壹佰贰元整', 'amount', language='zh-Hans')
+    '第3个字“贰”前缺“零”。'
+    """
+    return _message(language, "input", _text(text), _code(_INPUTS, input, "input"))
+
+
+def number_message(
+    text: str,
+    *,
+    kind: Union[Kind, _KindWord] = Kind.I128,
+    way: Union[Way, _WayWord] = Way.ANY,
+    language: Union[Language, _LanguageWord] = Language.ENGLISH,
+) -> str:
+    """The message for the person who typed a text that to_number refuses, like input_message.
+
+    >>> number_message('一角')
+    'Character 2, “角”, cannot be part of a numeral.'
+    """
+    codes = _code(_KINDS, kind, "kind"), _code(_WAYS, way, "way")
+    return _message(language, "number", _text(text), *codes)
+
+
+def quantity_message(
+    text: str,
+    *,
+    method: _Method = Way.ANY,
+    language: Union[Language, _LanguageWord] = Language.ENGLISH,
+) -> str:
+    """The message for the person who typed a text that to_quantity refuses, like input_message.
+
+    >>> quantity_message('零分之一')
+    'The denominator must be a whole number above 0.'
+    """
+    return _message(language, "quantity", _text(text), _code(_METHODS, method, "method"))
+
+
+def status_message(
+    status: Status, *, language: Union[Language, _LanguageWord] = Language.ENGLISH
+) -> str:
+    """What a status means, for a person, for example one whose number is too large to be written. The
+    empty str for DONE.
+
+    >>> status_message(Status.TOO_LARGE)
+    'The number is too large.'
+    """
+    if not isinstance(status, Status):
+        raise TypeError(f"expected a Status, not {_shown_with_type(status)}")
+    _, message = _library.status_message(status.value, _code(_LANGUAGES, language, "language"))
+    return message

@@ -2,7 +2,8 @@
 
 Texts are str, choices are the codes of chinese_number.h, and places count characters. Each call
 returns the status first. If `_native` exists and this Python can load it, `load` replaces the
-functions here with those of the same names in `_native`.
+functions here with those of the same names in `_native`. The others, which say why a text is
+refused, call the library that is in the same file.
 
 A lone surrogate has no bytes in UTF-8. It is passed as a question mark, which is not a numeral
 either.
@@ -23,8 +24,10 @@ _MOST_BYTES = 234
 _MOST_QUANTITY_BYTES = 471
 _MOST_FIGURES_BYTES = 80
 _MOST_AMOUNT_BYTES = 117
-_MOST_SIGNED_AMOUNT_BYTES = 120
+_MOST_SIGNED_AMOUNT_BYTES = 129
 _MOST_DATE_BYTES = 39
+_MOST_EXPECTED = 48
+_MOST_MESSAGE_BYTES = 512
 _AT_ONCE = 64
 _NO_ROOM = 6
 _MODULE = "_native.abi3.so"
@@ -70,6 +73,18 @@ class _Span(ctypes.Structure):
     _fields_ = [("start", _SIZE), ("end", _SIZE), ("flags", _CODE)]
 
 
+class _Expected(ctypes.Structure):
+    _fields_ = [
+        *_PLACE,
+        *(("may_end", _CODE), ("white_space", _CODE), ("count", _CODE)),
+        ("characters", _CODE * _MOST_EXPECTED),
+    ]
+
+
+class _Repair(ctypes.Structure):
+    _fields_ = [*_PLACE, ("change", _CODE), ("character", _CODE)]
+
+
 _TEXT = ctypes.c_char_p, _SIZE
 _ROOM = ctypes.c_char_p, _SIZE, _at(_SIZE)
 _SEARCH = (*_TEXT, _SIZE, _CODE, _CODE, _at(_Span), _SIZE, _at(_SIZE))
@@ -87,17 +102,27 @@ _ARGUMENTS: Dict[str, Tuple[Any, ...]] = {
     "chinese_signed_amount_read": (*_TEXT, _at(_SignedAmount)),
     "chinese_signed_amount_print": (_SIGNED_WORD, _CODE, _CODE, *_ROOM),
     "chinese_typed_amount_read": (*_TEXT, _at(_Amount)),
+    "chinese_typed_signed_amount_read": (*_TEXT, _at(_SignedAmount)),
     "chinese_figures_read": (*_TEXT, _at(_SignedAmount)),
     "chinese_date_read": (*_TEXT, _at(_Date)),
     "chinese_date_print": (_CODE, _CODE, _CODE, _CODE, *_ROOM),
+    "chinese_input_expected": (*_TEXT, _CODE, _at(_Expected)),
+    "chinese_input_repair": (*_TEXT, _CODE, _at(_Repair)),
+    "chinese_number_explain": (*_TEXT, _CODE, _CODE, _at(_CODE)),
+    "chinese_quantity_explain": (*_TEXT, _CODE, _at(_CODE)),
+    "chinese_input_message": (*_TEXT, _CODE, _CODE, *_ROOM),
+    "chinese_number_message": (*_TEXT, _CODE, _CODE, _CODE, *_ROOM),
+    "chinese_quantity_message": (*_TEXT, _CODE, _CODE, *_ROOM),
+    "chinese_status_message": (_CODE, _CODE, *_ROOM),
 }
 _SUFFIXES = {"darwin": "dylib", "win32": "dll"}
 _HERE = Path(__file__).resolve().parent
 # The names of this module that `_native` has too.
 _CALLS = (
-    "Run know_words utf8 read_number read_amount read_signed_amount read_typed_amount read_figures "
-    "read_date read_quantity print_number print_amount print_signed_amount print_date "
-    "print_quantity print_figures find_numbers find_quantities quantities_to_figures"
+    "Run know_words utf8 read_number read_amount read_signed_amount read_typed_amount "
+    "read_typed_signed_amount read_figures read_date read_quantity print_number print_amount "
+    "print_signed_amount print_date print_quantity print_figures find_numbers find_quantities "
+    "quantities_to_figures"
 ).split()
 # The code of a doubt is multiplied by this, and added to the flags.
 _DOUBT = 16
@@ -192,11 +217,7 @@ def load(version: str) -> None:
     """Loads the library. Raises ImportError if it is missing or has another version."""
     global library, _native
     _native = None if os.environ.get("CHINESE_NUMBER_LIB") else _module()
-    if _native:
-        _check_version(_native.version(), _native.__file__, version)
-        globals().update({name: getattr(_native, name) for name in _CALLS})
-        return
-    opened = _opened()
+    opened = ctypes.CDLL(_native.__file__) if _native else _opened()
     # A library without this call is older than the call.
     version_of: Any = getattr(opened, "chinese_number_version", lambda: 0)
     _check_version(version_of(), opened._name, version)
@@ -204,6 +225,8 @@ def load(version: str) -> None:
         call = getattr(opened, name)
         call.restype, call.argtypes = _CODE, arguments
     library = opened
+    if _native:
+        globals().update({name: getattr(_native, name) for name in _CALLS})
 
 
 def know_words(*choices: Tuple[str, ...]) -> None:
@@ -267,6 +290,11 @@ def read_typed_amount(text: str) -> Tuple[int, int, int]:
     return _read_fen(library.chinese_typed_amount_read, text, _Amount())
 
 
+def read_typed_signed_amount(text: str) -> Tuple[int, int, int]:
+    """Like read_signed_amount, for a text as it is typed."""
+    return _read_fen(library.chinese_typed_signed_amount_read, text, _SignedAmount())
+
+
 def read_figures(text: str) -> Tuple[int, int, int]:
     """Like read_signed_amount, for figures."""
     return _read_fen(library.chinese_figures_read, text, _SignedAmount())
@@ -309,6 +337,40 @@ def print_signed_amount(fen: int, script: int, form: int) -> Tuple[int, str]:
 def print_date(year: int, month: int, day: int, script: int) -> Tuple[int, str]:
     """The text of a date."""
     return _printed(library.chinese_date_print, _MOST_DATE_BYTES, year, month, day, script)
+
+
+def input_expected(text: str, of: int) -> Tuple[int, Tuple[int, bool, bool, str]]:
+    """How many characters begin an input, whether it may end there, whether white space may come next,
+    and the characters that may."""
+    it = _Expected()
+    status = _read(library.chinese_input_expected, text, it, of)
+    characters = "".join(map(chr, it.characters[: it.count]))
+    return status, (it.char_index, bool(it.may_end), bool(it.white_space), characters)
+
+
+def input_repair(text: str, of: int) -> Tuple[int, int, int, str]:
+    """The code of the change, the number of characters before it, and its character."""
+    it = _Repair()
+    status = _read(library.chinese_input_repair, text, it, of)
+    return status, it.change, it.char_index, chr(it.character)
+
+
+def fault(what: str, text: str, *codes: int) -> Tuple[int, int]:
+    """The code of the reason why a text is not a number or a quantity, which `what` says."""
+    it = _CODE()
+    return _read(getattr(library, f"chinese_{what}_explain"), text, it, *codes), it.value
+
+
+def message(what: str, text: str, *codes: int) -> Tuple[int, str]:
+    """The message about a text that is not a number, a quantity or an input, which `what` says."""
+    data = str.encode(text, "utf-8", "replace")
+    call = getattr(library, f"chinese_{what}_message")
+    return _printed(call, _MOST_MESSAGE_BYTES, data, len(data), *codes)
+
+
+def status_message(status: int, language: int) -> Tuple[int, str]:
+    """The message of a status."""
+    return _printed(library.chinese_status_message, _MOST_MESSAGE_BYTES, status, language)
 
 
 def _at_words(low: int, high: int, below_low: int, below_high: int, form: int) -> Any:

@@ -8,62 +8,64 @@ import re
 import sys
 import time
 from itertools import chain
-from typing import Any, Callable, Iterator, List, NamedTuple, TextIO, Tuple
+from typing import Any, Callable, Dict, Iterator, List, NamedTuple, Optional, TextIO, Tuple, Union
 
-from . import AmountError
+from . import AmountError, Language
 
 _MARK = "\ufeff"  # the mark of UTF-8, which some programs write at the start
-_NO_UTF8 = re.compile("[\udc80-\udcff]")  # replaces bytes that are not UTF-8
+_CONTROL = re.compile("[\0-\x1f\x7f-\x9f]")
 _MOST_OF_ROW = 2**17  # bytes; a longer row has a quote that is not closed
+_MOST_SHOWN = 40  # characters of a text in a message
+_AT_ONCE = 100  # how many rows are written at once
+
+
+class Misuse(Exception):
+    """Why the command line is not valid."""
+
+
+class Refused(Exception):
+    """Why a word or a cell is refused, if the library gives no reason: a text for each language, and
+    the values in it."""
+
+    def __init__(self, texts: Dict[str, str], **values: object) -> None:
+        self._texts, self._values = texts, values
+
+    def message_in(self, language: str) -> str:
+        return self._texts[language].format(**self._values)
 
 
 class Table(NamedTuple):
-    """The column to convert, whether the first row is a header, and the delimiter of cells."""
+    """The number or the name of the column to convert, whether the first row is a header, the
+    delimiter of cells, the name of the new column, and the language of refusals. A name of None is
+    made of the column's."""
 
-    column: int
+    column: Union[int, str]
     has_header: bool
     delimiter: str
+    name: Optional[str]
+    language: Language
 
 
-class _NoCell(ValueError):
-    """Why a row has no cell to convert."""
+# A row: its number, the line where it begins, its text, its cells, and the reason if they cannot
+# be read. A blank line is a row without cells and without a reason.
+_Row = Tuple[int, int, str, List[str], str]
 
 
-class _Row(NamedTuple):
-    """The line where a row begins, its text, its cells, and the reason if they cannot be read."""
-
-    line: int
-    text: str
-    cells: List[str]
-    fault: str
-
-    def cell(self, column: int, width: int) -> str:
-        """The cell in a column. `width` is the number of cells in the first row."""
-        count = len(self.cells)
-        if self.fault:
-            raise _NoCell(self.fault)
-        if count != width:
-            raise _NoCell(f"the row has {count} cells, and the first has {width}")
-        if column > count:
-            raise _NoCell(f"no column {column}")
-        return self.cells[column - 1]
-
-    def with_cell(self, cell: str, delimiter: str) -> str:
-        """The unchanged text of the row with one more cell at its end."""
-        end = next((it for it in ("\r\n", "\n", "\r") if self.text.endswith(it)), "")
-        row = self.text[: len(self.text) - len(end)]
-        return row + delimiter + (f'"{cell}"' if delimiter in cell else cell) + end
+def shown(text: str) -> str:
+    """A text as messages show it: the beginning of a long one, and all on one line."""
+    begun = text if len(text) <= _MOST_SHOWN else f"{text[:_MOST_SHOWN]}…"
+    return _CONTROL.sub(" ", begun) or "''"
 
 
 class _Messages:
     """Messages on standard error, and a count of rows if the user is waiting at a terminal."""
 
     def __init__(self, output: TextIO) -> None:
-        self._is_awaited = sys.stderr.isatty() and not output.isatty()
+        self.is_awaited = sys.stderr.isatty() and not output.isatty()
         self._next, self._shown = time.monotonic() + 1, 0
 
     def count(self, rows: int) -> None:
-        if self._is_awaited and time.monotonic() > self._next:
+        if self.is_awaited and time.monotonic() > self._next:
             self._next = time.monotonic() + 1
             self._shown = sys.stderr.write(f"\r{rows} rows") - 1
 
@@ -72,74 +74,121 @@ class _Messages:
             sys.stderr.write(f"\r{' ' * self._shown}\r")
             self._shown = 0
 
-    def tell(self, message: str) -> None:
+    def refuse(self, row: int, line: int, why: str) -> None:
         self.wipe()
-        print(message, file=sys.stderr)
-
-
-def _without_mark(lines: Iterator[str], output: TextIO) -> Iterator[str]:
-    """The lines without the leading mark, which is copied to the output."""
-    first = next(lines, "")
-    if first.startswith(_MARK):
-        output.write(_MARK)
-        first = first[1:]
-    return chain([first] if first else [], lines)
+        where = f"row {row}" if row == line else f"row {row}, line {line}"
+        print(f"{where}: {why}", file=sys.stderr)
 
 
 def _rows(lines: Iterator[str], delimiter: str) -> Iterator[_Row]:
+    """The rows of these lines. After a row that is not CSV, the next line begins a row."""
     taken: List[str] = []
+    number, line = 0, 1
 
-    def of_row() -> Iterator[str]:
+    def of_reader() -> Iterator[str]:
         size = 0
-        while size <= _MOST_OF_ROW:
-            text = next(lines, "")
-            if not text:
-                return
-            size += len(text.encode("utf-8", "surrogateescape"))
+        for text in lines:
             taken.append(text)
             yield text
+            # They are removed after the end of the row: if they are still here, the row continues.
+            size = size + len(text.encode("utf-8", "surrogateescape")) if taken else 0
+            if size > _MOST_OF_ROW:
+                return
 
-    line = 1
     while True:
-        cells: List[str] = []
-        fault = ""
+        reader = csv.reader(of_reader(), delimiter=delimiter, strict=True)
         try:
-            cells = next(csv.reader(of_row(), delimiter=delimiter, strict=True), [])
-        except csv.Error:
-            fault = "the row is not CSV"
-        text = "".join(taken)
-        if not text:
+            for cells in reader:
+                number += 1
+                text = "".join(taken)
+                try:
+                    text.encode()  # refuses the surrogates of bytes that are not UTF-8
+                    yield number, line, text, cells, ""
+                except UnicodeEncodeError:
+                    yield number, line, text, [], "the row is not UTF-8"
+                line += len(taken)
+                taken.clear()
             return
-        if _NO_UTF8.search(text):
-            fault = fault or "the row is not UTF-8"
-        yield _Row(line, text, cells, fault)
-        line += len(taken)
-        taken.clear()
+        except csv.Error:
+            number += 1
+            yield number, line, "".join(taken), [], "the row is not CSV"
+            line += len(taken)
+            taken.clear()
+
+
+def _place(table: Table, number: int, cells: List[str], fault: str) -> int:
+    """The index of the column to convert, which is found in the row of this number."""
+    column, count = table.column, len(cells)
+    if isinstance(column, int):
+        if column <= count:
+            return column - 1
+        raise Misuse(f"row {number} has no column {column}: it has {count} cells")
+    count = cells.count(column)
+    if count == 1:
+        return cells.index(column)
+    if count > 1:
+        raise Misuse(f"row {number} has {count} columns {shown(column)}: give a number")
+    why = fault or f"it is {shown(table.delimiter.join(cells))}"
+    raise Misuse(f"row {number} has no column {shown(column)}: {why}")
+
+
+def _name(table: Table, source: str) -> str:
+    """The name of the new column."""
+    return table.name or (f"{source}_converted" if source else "converted")
+
+
+def _with_cell(row: str, cell: str, delimiter: str) -> str:
+    """The unchanged text of a row with one more cell before its line end."""
+    if delimiter in cell or '"' in cell or "\n" in cell or "\r" in cell:
+        cell = '"' + cell.replace('"', '""') + '"'
+    before = row.rstrip("\r\n")
+    return f"{before}{delimiter}{cell}{row[len(before) :]}"
+
+
+def _without_mark(lines: Iterator[str]) -> Tuple[str, Iterator[str]]:
+    """The mark at the start of these lines, if there is one, and the lines without it."""
+    first = next(lines, "")
+    mark = _MARK if first.startswith(_MARK) else ""
+    return mark, chain([first[len(mark) :]], lines)
 
 
 def _copy(
     lines: Iterator[str], output: TextIO, table: Table, answer: Callable[[str], str]
 ) -> Tuple[int, int]:
-    """Writes the rows of these lines with their results, and returns how many rows there are and how
-    many are refused. Blank lines are not rows."""
+    """Writes the rows of these lines with their results, and returns how many rows there are and
+    how many are refused. Blank lines and the header are not counted."""
     messages, count, refused = _Messages(output), 0, 0
-    width, is_header = 0, table.has_header
-    for row in _rows(_without_mark(lines, output), table.delimiter):
-        if not row.text.strip("\r\n"):
-            output.write(row.text)
-            continue
-        width = width or (0 if row.fault else len(row.cells))
+    place, width = 0, 0
+    mark, lines = _without_mark(lines)
+    written = [mark]
+    for number, line, row, cells, fault in _rows(lines, table.delimiter):
+        if len(written) > _AT_ONCE:
+            output.write("".join(written))
+            written.clear()
+        if not width and (cells or fault and isinstance(table.column, str)):
+            place, width = _place(table, number, cells, fault), len(cells)
+            if table.has_header and count == 0:
+                written.append(_with_cell(row, _name(table, cells[place]), table.delimiter))
+                continue
         cell = ""
-        if row.fault or not is_header:
-            count += 1
+        if cells and len(cells) == width:
             try:
-                cell = answer(row.cell(table.column, width))
-            except (AmountError, _NoCell) as error:
-                messages.tell(f"{row.line}: {error}")
-                refused += 1
-        is_header = False
-        output.write(row.with_cell(cell, table.delimiter))
-        messages.count(count)
+                cell = answer(cells[place])
+            except (AmountError, Refused) as error:
+                fault = f"{shown(cells[place])}: {error.message_in(table.language)}"
+        elif cells:
+            fault = f"the row has {len(cells)} cells, and the first has {width}"
+        elif not fault:  # a blank line
+            written.append(row)
+            continue
+        count += 1
+        if fault:
+            refused += 1
+            messages.refuse(number, line, fault)
+        written.append(_with_cell(row, cell, table.delimiter))
+        if messages.is_awaited:
+            messages.count(count)
+    output.write("".join(written))
     messages.wipe()
     return count, refused
 
@@ -151,7 +200,7 @@ def _opened(number: int, mode: str) -> Any:
 
 
 def write_table(table: Table, answer: Callable[[str], str]) -> int:
-    """Writes the rows of standard input with the result at the end of each, and returns the status."""
+    """Writes the rows of standard input with their results, and returns the status."""
     csv.field_size_limit(2**31 - 1)
     with _opened(0, "r") as lines, _opened(1, "w") as output:
         count, refused = _copy(lines, output, table, answer)

@@ -6,11 +6,13 @@ use std::str::FromStr;
 
 use chinese_number::{
     amount_to_chinese, amount_to_chinese_as, chinese_to_amount, chinese_to_amount_as_typed,
-    chinese_to_date, chinese_to_quantity, chinese_to_signed_amount, date_to_chinese, find_numbers,
-    find_quantities, quantities_to_figures, replace_quantities, signed_amount_to_chinese,
+    chinese_to_date, chinese_to_quantity, chinese_to_signed_amount,
+    chinese_to_signed_amount_as_typed, date_to_chinese, explain_number, explain_quantity,
+    find_numbers, find_quantities, input_expected, input_message, input_repair, number_message,
+    quantities_to_figures, quantity_message, replace_quantities, signed_amount_to_chinese,
     yuan_to_fen, AmountForm, BillDate, ChineseCase, ChineseCountMethod, ChineseToNumber,
-    ChineseVariant, Doubt, Figures, Found, Included, Integer, NumberToChinese, Numbers, Quantity,
-    QuantityForm, Style, Wanted,
+    ChineseVariant, Doubt, Fault, Figures, Found, Hint, Included, Input, Integer, Language,
+    NumberToChinese, Numbers, Quantity, QuantityForm, Repair, Style, Wanted, Way,
 };
 
 const FORMS: [(&str, QuantityForm); 4] = [
@@ -18,6 +20,26 @@ const FORMS: [(&str, QuantityForm); 4] = [
     ("decimal", QuantityForm::Decimal),
     ("percent", QuantityForm::Percent),
     ("fraction", QuantityForm::Fraction),
+];
+
+// The words of the reasons, in the order of their codes.
+const FAULTS: [&str; 16] = [
+    "empty",
+    "too_large",
+    "too_small",
+    "start",
+    "character",
+    "digits",
+    "units",
+    "ge",
+    "groups",
+    "bare_ten",
+    "repeated_ten",
+    "after_zero",
+    "weight",
+    "two_readings",
+    "left_out_zero",
+    "denominator",
 ];
 
 fn told<T: Display, E: Display>(answer: Result<T, E>) -> String {
@@ -90,6 +112,7 @@ fn form(words: &str) -> AmountForm {
             "currency" => form.currency = true,
             "round_yuan" => form.round_yuan = true,
             "upright_closing" => form.upright_closing = true,
+            "bracketed_sign" => form.bracketed_sign = true,
             _ => panic!("no form is named {word}"),
         }
     }
@@ -100,8 +123,8 @@ fn print_amount_as(script: &str, words: &str, fen: &str) -> String {
     told(amount_to_chinese_as(variant(script), form(words), number(fen)))
 }
 
-fn print_signed_amount(script: &str, fen: &str) -> String {
-    told(signed_amount_to_chinese(variant(script), AmountForm::PLAIN, number(fen)))
+fn print_signed_amount(script: &str, words: &str, fen: &str) -> String {
+    told(signed_amount_to_chinese(variant(script), form(words), number(fen)))
 }
 
 fn read_date(text: &str) -> String {
@@ -204,6 +227,67 @@ fn find_expressions(text: &str) -> String {
     })
 }
 
+fn any_way(way: &str) -> Way {
+    match way {
+        "any" => Way::Any,
+        "naive" => Way::Digits,
+        _ => method(way).into(),
+    }
+}
+
+fn input(name: &str) -> Input {
+    match name {
+        "amount" => Input::Amount,
+        "signed_amount" => Input::SignedAmount,
+        "typed_amount" => Input::TypedAmount,
+        "typed_signed_amount" => Input::TypedSignedAmount,
+        "date" => Input::Date,
+        "figures" => Input::Figures,
+        _ => panic!("no input is named {name}"),
+    }
+}
+
+fn language(tag: &str) -> Language {
+    match tag {
+        "en" => Language::English,
+        "zh-Hans" => Language::SimplifiedChinese,
+        "zh-Hant" => Language::TraditionalChinese,
+        _ => panic!("no language has the tag {tag}"),
+    }
+}
+
+fn expected(name: &str, text: &str) -> String {
+    let expected = input_expected(text, input(name));
+    let end = if expected.may_end { "end" } else { "-" };
+    let space = if expected.white_space { "space" } else { "-" };
+    let characters: String = expected.characters().iter().collect();
+    let line = format!("ok {} {end} {space} {characters}", expected.char_index);
+    String::from(line.trim_end())
+}
+
+fn repair(name: &str, text: &str) -> String {
+    let Some(Hint { char_index, repair, .. }) = input_repair(text, input(name)) else {
+        return String::from("ok none");
+    };
+    match repair {
+        Repair::Insert(new) => format!("ok insert {char_index} {new}"),
+        Repair::Replace(new) => format!("ok replace {char_index} {new}"),
+        Repair::Delete => format!("ok delete {char_index}"),
+    }
+}
+
+fn reason(fault: Option<Fault>) -> String {
+    format!("ok {}", fault.map_or("none", |fault| FAULTS[fault as usize - 1]))
+}
+
+fn explain<T: Integer>(way: &str, text: &str) -> String {
+    reason(explain_number::<T>(text, any_way(way)))
+}
+
+fn message<T: Integer>(tag: &str, way: &str, text: &str) -> String {
+    format!("ok {}", number_message::<T>(text, any_way(way), language(tag)))
+}
+
 macro_rules! by_kind {
     ($kind:expr, $call:ident($($word:expr),*)) => {
         match $kind {
@@ -233,8 +317,10 @@ fn answer(line: &str) -> String {
         ["print_amount", script, fen] => told(amount_to_chinese(variant(script), number(fen))),
         ["print_amount_as", script, form, fen] => print_amount_as(script, form, fen),
         ["read_signed_amount", text] => told(chinese_to_signed_amount(text)),
-        ["print_signed_amount", script, fen] => print_signed_amount(script, fen),
+        ["print_signed_amount", script, fen] => print_signed_amount(script, "plain", fen),
+        ["print_signed_amount_as", script, form, fen] => print_signed_amount(script, form, fen),
         ["read_typed_amount", text] => told(chinese_to_amount_as_typed(text)),
+        ["read_typed_signed_amount", text] => told(chinese_to_signed_amount_as_typed(text)),
         ["yuan_to_fen", figures] => told(yuan_to_fen(figures)),
         ["read_date", text] => read_date(text),
         ["print_date", script, date] => print_date(script, date),
@@ -248,7 +334,24 @@ fn answer(line: &str) -> String {
         ["trim_quantity", words] => format!("ok {}", shown(quantity(words).trimmed())),
         ["quantities_to_figures", words, text] => format!("ok {}", to_figures(words, text)),
         ["replace_quantities", words, text] => format!("ok {}", to_numerals(words, text)),
-        _ => panic!("no question: {line}"),
+        _ => answer_on_refusal(&words),
+    }
+}
+
+fn answer_on_refusal(words: &[&str]) -> String {
+    match *words {
+        ["expected", name, text] => expected(name, text),
+        ["repair", name, text] => repair(name, text),
+        ["explain", kind, way, text] => by_kind!(kind, explain(way, text)),
+        ["explain_quantity", way, text] => reason(explain_quantity(text, method(way))),
+        ["input_message", tag, name, text] => {
+            format!("ok {}", input_message(text, input(name), language(tag)))
+        }
+        ["number_message", tag, kind, way, text] => by_kind!(kind, message(tag, way, text)),
+        ["quantity_message", tag, way, text] => {
+            format!("ok {}", quantity_message(text, method(way), language(tag)))
+        }
+        _ => panic!("no question: {words:?}"),
     }
 }
 

@@ -12,7 +12,7 @@ use alloc::string::String;
 use alloc::vec::Vec;
 
 use crate::{
-    BillDate, ChineseCase, ChineseCountMethod, ChineseVariant, Quantity, QuantityForm, Unit,
+    BillDate, ChineseCase, ChineseVariant, Input, Language, Quantity, QuantityForm, Unit, Way,
 };
 
 /// The statuses.
@@ -50,28 +50,11 @@ pub enum Kind {
     I128 = 9,
 }
 
-/// The ways in which a number is read or written. `Any` chooses by the text, or by script and
-/// number.
-#[derive(Copy, Clone)]
-pub enum Way {
-    Digits = 0,
-    Low = 1,
-    TenThousand = 2,
-    Middle = 3,
-    High = 4,
-    Any = 5,
-}
-
-impl From<ChineseCountMethod> for Way {
-    #[inline]
-    fn from(method: ChineseCountMethod) -> Self {
-        match method {
-            ChineseCountMethod::Low => Self::Low,
-            ChineseCountMethod::TenThousand => Self::TenThousand,
-            ChineseCountMethod::Middle => Self::Middle,
-            ChineseCountMethod::High => Self::High,
-        }
-    }
+/// The changes of a text that repair it; 0 is none.
+pub mod change {
+    pub const INSERT: u32 = 1;
+    pub const REPLACE: u32 = 2;
+    pub const DELETE: u32 = 3;
 }
 
 /// The most bytes of a printed text: the text of a quantity can have this many, all others have
@@ -80,8 +63,12 @@ pub const MOST_QUANTITY_BYTES: usize = 471;
 const MOST_BYTES: usize = 234;
 const MOST_FIGURES_BYTES: usize = 80;
 const MOST_AMOUNT_BYTES: usize = 117;
-const MOST_SIGNED_AMOUNT_BYTES: usize = 120;
+const MOST_SIGNED_AMOUNT_BYTES: usize = 129;
 const MOST_DATE_BYTES: usize = 39;
+/// The most bytes of a message.
+const MOST_MESSAGE_BYTES: usize = 512;
+/// The most characters that may come next in a text.
+pub const MOST_EXPECTED: usize = 48;
 const _: () = assert!(MOST_BYTES < MOST_QUANTITY_BYTES && MOST_FIGURES_BYTES < MOST_BYTES);
 const _: () = assert!(MOST_AMOUNT_BYTES < MOST_BYTES && MOST_DATE_BYTES < MOST_BYTES);
 const _: () = assert!(MOST_SIGNED_AMOUNT_BYTES < MOST_BYTES);
@@ -132,6 +119,35 @@ impl From<Quantity> for QuantityReading {
         let (numerator, denominator) = (numerator.number(), denominator.number());
         Self { numerator, denominator, form: form as u32, char_index: 0, _byte_index: 0 }
     }
+}
+
+/// What may come next in a text: the first `count` characters, as code points.
+#[repr(C)]
+pub struct Expected {
+    pub char_index: usize,
+    pub byte_index: usize,
+    pub may_end: u32,
+    pub white_space: u32,
+    pub count: u32,
+    pub characters: [u32; MOST_EXPECTED],
+}
+
+impl Default for Expected {
+    #[inline]
+    fn default() -> Self {
+        let characters = [0; MOST_EXPECTED];
+        Self { char_index: 0, byte_index: 0, may_end: 0, white_space: 0, count: 0, characters }
+    }
+}
+
+/// A change of a text and its place, with the code point of the new character, if it has one.
+#[derive(Default)]
+#[repr(C)]
+pub struct Repair {
+    pub char_index: usize,
+    pub byte_index: usize,
+    pub change: u32,
+    pub character: u32,
 }
 
 /// What a search looks for.
@@ -219,6 +235,12 @@ unsafe extern "C" {
         reading: *mut Reading<u64>,
     ) -> u32;
 
+    fn chinese_typed_signed_amount_read(
+        text: *const u8,
+        text_length: usize,
+        reading: *mut Reading<i64>,
+    ) -> u32;
+
     fn chinese_figures_read(text: *const u8, text_length: usize, reading: *mut Reading<i64>)
         -> u32;
 
@@ -287,6 +309,74 @@ unsafe extern "C" {
         greatest: u32,
         method: u32,
         options: u32,
+        room: *mut u8,
+        room_length: usize,
+        length: *mut usize,
+    ) -> u32;
+
+    fn chinese_input_expected(
+        text: *const u8,
+        text_length: usize,
+        input: u32,
+        expected: *mut Expected,
+    ) -> u32;
+
+    fn chinese_input_repair(
+        text: *const u8,
+        text_length: usize,
+        input: u32,
+        repair: *mut Repair,
+    ) -> u32;
+
+    fn chinese_number_explain(
+        text: *const u8,
+        text_length: usize,
+        kind: u32,
+        way: u32,
+        fault: *mut u32,
+    ) -> u32;
+
+    fn chinese_quantity_explain(
+        text: *const u8,
+        text_length: usize,
+        method: u32,
+        fault: *mut u32,
+    ) -> u32;
+
+    fn chinese_input_message(
+        text: *const u8,
+        text_length: usize,
+        input: u32,
+        language: u32,
+        room: *mut u8,
+        room_length: usize,
+        length: *mut usize,
+    ) -> u32;
+
+    fn chinese_number_message(
+        text: *const u8,
+        text_length: usize,
+        kind: u32,
+        way: u32,
+        language: u32,
+        room: *mut u8,
+        room_length: usize,
+        length: *mut usize,
+    ) -> u32;
+
+    fn chinese_quantity_message(
+        text: *const u8,
+        text_length: usize,
+        method: u32,
+        language: u32,
+        room: *mut u8,
+        room_length: usize,
+        length: *mut usize,
+    ) -> u32;
+
+    fn chinese_status_message(
+        status: u32,
+        language: u32,
         room: *mut u8,
         room_length: usize,
         length: *mut usize,
@@ -421,6 +511,15 @@ pub fn read_typed_amount(text: &str) -> Result<u64, (u32, usize)> {
     read_by(|reading| unsafe { chinese_typed_amount_read(text.as_ptr(), text.len(), reading) })
 }
 
+/// The amount of a text as it is typed, possibly negative, or the status and the place.
+#[inline]
+pub fn read_typed_signed_amount(text: &str) -> Result<i64, (u32, usize)> {
+    // SAFETY: as for a number.
+    read_by(|reading| unsafe {
+        chinese_typed_signed_amount_read(text.as_ptr(), text.len(), reading)
+    })
+}
+
 /// The amount in figures, or the status and the place.
 #[inline]
 pub fn read_figures(text: &str) -> Result<i64, (u32, usize)> {
@@ -443,6 +542,47 @@ pub fn read_date(text: &str) -> Result<BillDate, (u32, usize)> {
         month: month as u8,
         day: day as u8,
     })
+}
+
+/// What may come next in a text that is meant to be an input.
+#[inline]
+pub fn input_expected(text: &str, input: Input) -> Expected {
+    // SAFETY: as for a number.
+    let (expected, _) = answered(|expected| unsafe {
+        chinese_input_expected(text.as_ptr(), text.len(), input as u32, expected)
+    });
+    expected
+}
+
+/// One change that repairs a text that is meant to be an input.
+#[inline]
+pub fn input_repair(text: &str, input: Input) -> Repair {
+    // SAFETY: as for a number.
+    let (repair, _) = answered(|repair| unsafe {
+        chinese_input_repair(text.as_ptr(), text.len(), input as u32, repair)
+    });
+    repair
+}
+
+/// The code of the reason why a text is not a number, or 0.
+#[inline]
+pub fn explain<T: Whole>(text: &str, way: Way) -> u32 {
+    let (kind, way) = (T::KIND as u32, way as u32);
+    // SAFETY: as for a number.
+    let (fault, _) = answered(|fault| unsafe {
+        chinese_number_explain(text.as_ptr(), text.len(), kind, way, fault)
+    });
+    fault
+}
+
+/// The code of the reason why a text is not a quantity, or 0.
+#[inline]
+pub fn explain_quantity(text: &str, method: Way) -> u32 {
+    // SAFETY: as for a number.
+    let (fault, _) = answered(|fault| unsafe {
+        chinese_quantity_explain(text.as_ptr(), text.len(), method as u32, fault)
+    });
+    fault
 }
 
 /// Finds the runs of a text from a byte on, at most as many as there are spans, and returns how
@@ -503,20 +643,19 @@ pub fn quantities_to_figures(
 
 // The text that a call prints into a buffer, or its status.
 //
-// SAFETY: the call gets a buffer of `MOST_QUANTITY_BYTES` bytes and a length that overlaps nothing
-// else, and may write to both until it returns. At `DONE` it must have written `length` bytes, no
-// more than the buffer has, at the start of the buffer, and they must be UTF-8.
+// SAFETY: the call gets this buffer and a length that overlaps nothing else, and may write to both
+// until it returns. At `DONE` it must have written `length` bytes, no more than the buffer has, at
+// the start of the buffer, and they must be UTF-8.
 #[inline]
 unsafe fn printed(
-    room: &mut Bytes,
+    room: &mut [MaybeUninit<u8>],
     call: impl FnOnce(*mut u8, *mut usize) -> u32,
 ) -> Result<&str, u32> {
-    let mut length = 0;
-    let status = call(room.as_mut_ptr().cast(), &raw mut length);
+    let (length, status) = answered(|length| call(room.as_mut_ptr().cast(), length));
     if status != status::DONE {
         return Err(status);
     }
-    debug_assert!(length <= MOST_QUANTITY_BYTES);
+    debug_assert!(length <= room.len());
     let bytes = core::slice::from_raw_parts(room.as_ptr().cast(), length);
     Ok(core::str::from_utf8_unchecked(bytes))
 }
@@ -620,6 +759,58 @@ pub fn print_date(room: &mut Bytes, script: ChineseVariant, date: BillDate) -> R
     unsafe {
         printed(room, |room, length| {
             chinese_date_print(year, month, day, script as u32, room, MOST_DATE_BYTES, length)
+        })
+    }
+}
+
+// The message that a call prints.
+//
+// SAFETY: as for `printed`; the buffer has as many bytes as the call gets.
+unsafe fn message(call: impl FnOnce(*mut u8, usize, *mut usize) -> u32) -> String {
+    let mut room = [MaybeUninit::uninit(); MOST_MESSAGE_BYTES];
+    let text = printed(&mut room, |room, length| call(room, MOST_MESSAGE_BYTES, length));
+    text.unwrap_or_else(|_| unreachable!("the codes are the library's")).into()
+}
+
+/// The message that says why a text is not such an input.
+pub fn input_message(text: &str, input: Input, language: Language) -> String {
+    let (start, end, input, language) = (text.as_ptr(), text.len(), input as u32, language as u32);
+    // SAFETY: as for reading and printing a number; and no message has more bytes than the buffer.
+    unsafe {
+        message(|room, most, length| {
+            chinese_input_message(start, end, input, language, room, most, length)
+        })
+    }
+}
+
+/// The message that says why a text is not a number.
+pub fn number_message<T: Whole>(text: &str, way: Way, language: Language) -> String {
+    let (start, end, way, language) = (text.as_ptr(), text.len(), way as u32, language as u32);
+    // SAFETY: as for an input.
+    unsafe {
+        message(|room, most, length| {
+            chinese_number_message(start, end, T::KIND as u32, way, language, room, most, length)
+        })
+    }
+}
+
+/// The message that says why a text is not a quantity.
+pub fn quantity_message(text: &str, way: Way, language: Language) -> String {
+    let (start, end, method, language) = (text.as_ptr(), text.len(), way as u32, language as u32);
+    // SAFETY: as for an input.
+    unsafe {
+        message(|room, most, length| {
+            chinese_quantity_message(start, end, method, language, room, most, length)
+        })
+    }
+}
+
+/// The message that says what a status means.
+pub fn status_message(status: u32, language: Language) -> String {
+    // SAFETY: as for an input.
+    unsafe {
+        message(|room, most, length| {
+            chinese_status_message(status, language as u32, room, most, length)
         })
     }
 }

@@ -4,7 +4,8 @@ use core::fmt::{self, Display, Formatter};
 
 use crate::abi::{self, status};
 
-/// Why a text is not an amount in figures.
+/// Why a text is not an amount in figures. For a person, [`input_message`](crate::input_message)
+/// says it in a language.
 #[non_exhaustive]
 #[derive(Debug, Copy, Clone, Eq, PartialEq)]
 pub enum FiguresError {

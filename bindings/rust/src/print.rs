@@ -5,8 +5,10 @@ use core::mem::MaybeUninit;
 
 use alloc::string::String;
 
-use crate::abi::{self, status, Way, Whole};
-use crate::{BillDate, ChineseCase, ChineseCountMethod, ChineseVariant, Quantity};
+use crate::abi::{self, status};
+use crate::{
+    BillDate, ChineseCase, ChineseCountMethod, ChineseVariant, Integer, Language, Quantity, Way,
+};
 
 /// Why a number cannot be written with `Low`.
 #[derive(Debug, Copy, Clone, Eq, PartialEq)]
@@ -27,31 +29,6 @@ impl Display for NumberToChineseError {
 }
 
 impl core::error::Error for NumberToChineseError {}
-
-/// An integer type, one of the twelve.
-///
-/// ```rust
-/// use chinese_number::{ChineseCase, ChineseToNumber, ChineseVariant, Integer};
-///
-/// let text = 1_000_000_000_000i64.to_chinese_any(ChineseVariant::Simple, ChineseCase::Lower);
-/// assert_eq!(text, "一万亿");
-/// assert_eq!(text.to_number_any(), Ok(1_000_000_000_000i64));
-/// let text = 1_000_000_000_000i64.to_chinese_any(ChineseVariant::Traditional, ChineseCase::Lower);
-/// assert_eq!(text, "一兆");
-/// ```
-pub trait Integer: Whole {
-    /// Writes the number with units, so that [`ChineseToNumber::to_number_any`] reads it back: in
-    /// simple script below 10^16 with `Middle`, otherwise with `TenThousand`.
-    ///
-    /// [`ChineseToNumber::to_number_any`]: crate::ChineseToNumber::to_number_any
-    #[inline]
-    #[must_use]
-    fn to_chinese_any(self, chinese_variant: ChineseVariant, chinese_case: ChineseCase) -> String {
-        Room::new().number_any(chinese_variant, chinese_case, self).into()
-    }
-}
-
-impl<T: Whole> Integer for T {}
 
 /// A buffer for one text, to print without allocating. The text stays in the buffer until the next
 /// one is printed there. The buffer is large enough for every number, quantity, amount and date.
@@ -123,7 +100,7 @@ impl Room {
     }
 
     #[inline]
-    fn by_way<T: Whole>(
+    fn by_way<T: Integer>(
         &mut self,
         variant: ChineseVariant,
         case: ChineseCase,
@@ -131,11 +108,7 @@ impl Room {
         value: T,
     ) -> Result<&str, NumberToChineseError> {
         let text = abi::print(&mut self.0, variant, case, way, value);
-        text.map_err(|status| match status {
-            status::TOO_LARGE => NumberToChineseError::Overflow,
-            status::TOO_SMALL => NumberToChineseError::Underflow,
-            _ => unreachable!("the codes are the library's, and the type holds its value"),
-        })
+        text.map_err(NumberToChineseError::of)
     }
 
     /// Prints a quantity, as [`Quantity::to_chinese`] does.
@@ -178,12 +151,7 @@ impl Room {
         quantity: Quantity,
     ) -> Result<&str, QuantityToChineseError> {
         let text = abi::print_quantity(&mut self.0, variant, case, way, quantity);
-        text.map_err(|status| match status {
-            status::TOO_LARGE => QuantityToChineseError::Overflow,
-            status::TOO_SMALL => QuantityToChineseError::Underflow,
-            status::NOT_A_QUANTITY => QuantityToChineseError::ZeroDenominator,
-            _ => unreachable!("the codes are the library's"),
-        })
+        text.map_err(QuantityToChineseError::of)
     }
 
     /// Prints a quantity in figures, as [`Quantity::to_figures`] does.
@@ -205,7 +173,8 @@ impl Room {
         form: AmountForm,
         fen: u64,
     ) -> Result<&str, AmountToChineseError> {
-        abi::print_amount(&mut self.0, chinese_variant, form.code(), fen).map_err(no_capitals)
+        let text = abi::print_amount(&mut self.0, chinese_variant, form.code(), fen);
+        text.map_err(AmountToChineseError::of)
     }
 
     /// Prints an amount of money that may be negative, in fen, as [`signed_amount_to_chinese`]
@@ -222,7 +191,7 @@ impl Room {
         fen: i64,
     ) -> Result<&str, AmountToChineseError> {
         let text = abi::print_signed_amount(&mut self.0, chinese_variant, form.code(), fen);
-        text.map_err(no_capitals)
+        text.map_err(AmountToChineseError::of)
     }
 
     /// Prints a date, as [`date_to_chinese`] does.
@@ -237,10 +206,7 @@ impl Room {
         date: BillDate,
     ) -> Result<&str, DateToChineseError> {
         let text = abi::print_date(&mut self.0, chinese_variant, date);
-        text.map_err(|status| match status {
-            status::NOT_A_DATE => DateToChineseError::NotADate,
-            _ => unreachable!("the code is the library's"),
-        })
+        text.map_err(DateToChineseError::of)
     }
 }
 
@@ -516,7 +482,8 @@ impl Quantity {
     }
 }
 
-/// How an amount of money is written: the choices in which cheques differ.
+/// How an amount of money is written: the choices in which cheques and invoices differ.
+#[allow(clippy::struct_excessive_bools, reason = "any of them can be combined")]
 #[derive(Debug, Default, Copy, Clone, Eq, PartialEq, Hash)]
 pub struct AmountForm {
     /// Whether to write the prefix 人民币 (人民幣).
@@ -525,21 +492,33 @@ pub struct AmountForm {
     pub round_yuan: bool,
     /// Whether to write 正 instead of 整.
     pub upright_closing: bool,
+    /// Whether to write （负数） (（負數）) instead of 负 (負) before a negative amount.
+    pub bracketed_sign: bool,
 }
 
 impl AmountForm {
-    /// With 元 and 整, and without a prefix.
-    pub const PLAIN: Self = Self { currency: false, round_yuan: false, upright_closing: false };
+    /// With 元 and 整, and without a prefix; with 负 before a negative amount.
+    pub const PLAIN: Self =
+        Self { currency: false, round_yuan: false, upright_closing: false, bracketed_sign: false };
 
     #[inline]
     fn code(self) -> u32 {
         u32::from(self.currency)
             + 2 * u32::from(self.round_yuan)
             + 4 * u32::from(self.upright_closing)
+            + 8 * u32::from(self.bracketed_sign)
     }
 }
 
 /// Why an amount cannot be written.
+///
+/// ```rust
+/// use chinese_number::{amount_to_chinese, ChineseVariant, Language};
+///
+/// let error = amount_to_chinese(ChineseVariant::Simple, u64::MAX).unwrap_err();
+/// assert_eq!(error.to_string(), "number is too large");
+/// assert_eq!(error.message_in(Language::SimplifiedChinese), "数字太大。");
+/// ```
 #[non_exhaustive]
 #[derive(Debug, Copy, Clone, Eq, PartialEq)]
 pub enum AmountToChineseError {
@@ -559,15 +538,6 @@ impl Display for AmountToChineseError {
 }
 
 impl core::error::Error for AmountToChineseError {}
-
-#[inline]
-fn no_capitals(status: u32) -> AmountToChineseError {
-    match status {
-        status::TOO_LARGE => AmountToChineseError::Overflow,
-        status::TOO_SMALL => AmountToChineseError::Underflow,
-        _ => unreachable!("the codes are the library's"),
-    }
-}
 
 /// Writes an amount of money, in fen, in capitals as on a cheque, in the plain form.
 ///
@@ -614,7 +584,8 @@ pub fn amount_to_chinese_as(
 }
 
 /// Writes an amount of money, in fen, in capitals and in a form. A negative amount, as on a red
-/// invoice, has the prefix 负 (負). Cheques have no negative amounts.
+/// invoice, has the prefix 负 (負), or （负数） (（負數）) with `bracketed_sign`. Cheques have no negative
+/// amounts.
 ///
 /// # Errors
 ///
@@ -627,6 +598,9 @@ pub fn amount_to_chinese_as(
 ///
 /// let text = signed_amount_to_chinese(ChineseVariant::Simple, AmountForm::PLAIN, -1_500);
 /// assert_eq!(text.unwrap(), "负壹拾伍元整");
+/// let form = AmountForm { bracketed_sign: true, ..AmountForm::PLAIN };
+/// let text = signed_amount_to_chinese(ChineseVariant::Simple, form, -1_500);
+/// assert_eq!(text.unwrap(), "（负数）壹拾伍元整");
 /// let text = signed_amount_to_chinese(ChineseVariant::Simple, AmountForm::PLAIN, i64::MIN);
 /// assert_eq!(text, Err(AmountToChineseError::Underflow));
 /// ```
@@ -678,4 +652,38 @@ pub fn date_to_chinese(
     date: BillDate,
 ) -> Result<String, DateToChineseError> {
     Room::new().date(chinese_variant, date).map(String::from)
+}
+
+// The statuses of the errors: the error of a status, and the message of an error.
+macro_rules! errors {
+    ($($error:ident: $($variant:ident $status:ident),+;)+) => {
+        $(
+            impl $error {
+                #[inline]
+                fn of(status: u32) -> Self {
+                    match status {
+                        $(status::$status => Self::$variant,)+
+                        _ => unreachable!("the codes and the values are valid"),
+                    }
+                }
+
+                /// Writes what the error means, in a language, for the person whose value is refused.
+                /// The text of the error itself stays in English.
+                #[must_use]
+                pub fn message_in(self, language: Language) -> String {
+                    let status = match self {
+                        $(Self::$variant => status::$status,)+
+                    };
+                    abi::status_message(status, language)
+                }
+            }
+        )+
+    };
+}
+
+errors! {
+    NumberToChineseError: Overflow TOO_LARGE, Underflow TOO_SMALL;
+    QuantityToChineseError: Overflow TOO_LARGE, Underflow TOO_SMALL, ZeroDenominator NOT_A_QUANTITY;
+    AmountToChineseError: Overflow TOO_LARGE, Underflow TOO_SMALL;
+    DateToChineseError: NotADate NOT_A_DATE;
 }

@@ -2,10 +2,12 @@
 
 use core::fmt::{self, Display, Formatter};
 
-use crate::abi::{self, status, Way, Whole};
-use crate::{BillDate, ChineseCountMethod, Quantity};
+use crate::abi::{self, status, Whole};
+use crate::{BillDate, ChineseCountMethod, Quantity, Way};
 
-/// Why a text is not a number of a type.
+/// Why a text is not a number of a type, or not a quantity. For a person,
+/// [`number_message`](crate::number_message) and [`quantity_message`](crate::quantity_message) say
+/// it in a language.
 #[derive(Debug, Copy, Clone, Eq, PartialEq)]
 pub enum ChineseToNumberError {
     /// The text is empty without its white space and, for signed types, one sign.
@@ -216,7 +218,8 @@ readers! {
     from_chinese_to_isize_high High
 }
 
-/// Why a text is not an amount of money.
+/// Why a text is not an amount of money. For a person, [`input_message`](crate::input_message) says
+/// it in a language.
 #[non_exhaustive]
 #[derive(Debug, Copy, Clone, Eq, PartialEq)]
 pub enum ChineseToAmountError {
@@ -311,7 +314,33 @@ pub fn chinese_to_amount_as_typed(text: &str) -> Result<u64, ChineseToAmountErro
     abi::read_typed_amount(text).map_err(no_amount)
 }
 
-/// Why a text is not a date.
+/// Reads an amount of money in capitals as it is typed or copied from an invoice, with or without a
+/// sign, in fen: ignores white space, and accepts ⊗ (or ⓧ), a sign, and 人民币 with or without a colon
+/// in any order at the start. A sign is 负, 負, （负数） or （負數）, also with ASCII parentheses. 人民币（大写）
+/// is read like 人民币.
+///
+/// # Errors
+///
+/// Returns a [`ChineseToAmountError`] if the text is refused; `char_index` counts in the text as it
+/// is typed.
+///
+/// ```rust
+/// use chinese_number::{chinese_to_signed_amount_as_typed, ChineseToAmountError};
+///
+/// let fen = chinese_to_signed_amount_as_typed("⊗（负数）人民币（大写）：壹拾伍元整");
+/// assert_eq!(fen, Ok(-1_500));
+/// assert_eq!(chinese_to_signed_amount_as_typed("人民币 负壹拾伍元整"), Ok(-1_500));
+/// assert_eq!(chinese_to_signed_amount_as_typed("壹拾伍元整"), Ok(1_500));
+/// let refused = Err(ChineseToAmountError::Incorrect { char_index: 2 });
+/// assert_eq!(chinese_to_signed_amount_as_typed("负 负壹元整"), refused);
+/// ```
+#[inline]
+pub fn chinese_to_signed_amount_as_typed(text: &str) -> Result<i64, ChineseToAmountError> {
+    abi::read_typed_signed_amount(text).map_err(no_amount)
+}
+
+/// Why a text is not a date. For a person, [`input_message`](crate::input_message) says it in a
+/// language.
 #[non_exhaustive]
 #[derive(Debug, Copy, Clone, Eq, PartialEq)]
 pub enum ChineseToDateError {

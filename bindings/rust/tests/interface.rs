@@ -146,6 +146,7 @@ fn signatures_of_amounts_of_dates_and_of_the_search() {
     let _: fn(ChineseVariant, AmountForm, i64) -> Written = signed_amount_to_chinese;
     let _: fn(&str) -> Result<i64, ChineseToAmountError> = chinese_to_signed_amount;
     let _: fn(&str) -> Result<u64, ChineseToAmountError> = chinese_to_amount_as_typed;
+    let _: fn(&str) -> Result<i64, ChineseToAmountError> = chinese_to_signed_amount_as_typed;
     let _: fn(&str) -> Result<i64, FiguresError> = yuan_to_fen;
     let _: fn(ChineseVariant, BillDate) -> Result<String, DateToChineseError> = date_to_chinese;
     let _: fn(&str) -> Result<BillDate, ChineseToDateError> = chinese_to_date;
@@ -158,6 +159,25 @@ fn signatures_of_amounts_of_dates_and_of_the_search() {
     let _: fn(&str, Wanted, ChineseCountMethod, Figures) -> String = quantities_to_figures;
     let _: [Wanted; 2] = const { [Wanted::EVERYDAY, Wanted::ALL] };
     let _: (Included, Figures) = const { (Included::NONE, Figures::DEFAULT) };
+}
+
+#[test]
+fn signatures_of_refusals() {
+    type Method = ChineseCountMethod;
+    let _: fn(&str, Input) -> Expected = input_expected;
+    let _: for<'a> fn(&'a Expected) -> &'a [char] = Expected::characters;
+    let _: fn(&str, Input) -> Option<Hint> = input_repair;
+    let _: fn(&str, Way) -> Option<Fault> = explain_number::<u8>;
+    let _: fn(&str, Method) -> Option<Fault> = explain_number::<i128>;
+    let _: fn(&str, Method) -> Option<Fault> = explain_quantity;
+    let _: fn(&str, Input, Language) -> String = input_message;
+    let _: fn(&str, Way, Language) -> String = number_message::<u8>;
+    let _: fn(&str, Method, Language) -> String = number_message::<i128>;
+    let _: fn(&str, Method, Language) -> String = quantity_message;
+    let _: fn(NumberToChineseError, Language) -> String = NumberToChineseError::message_in;
+    let _: fn(QuantityToChineseError, Language) -> String = QuantityToChineseError::message_in;
+    let _: fn(AmountToChineseError, Language) -> String = AmountToChineseError::message_in;
+    let _: fn(DateToChineseError, Language) -> String = DateToChineseError::message_in;
 }
 
 // What is read and written by the traits as a number of this type.
@@ -202,6 +222,13 @@ fn traits() {
     is_a_value::<QuantityForm>();
     is_a_value::<Included>();
     is_a_value::<Doubt>();
+    is_a_value::<Way>();
+    is_a_value::<Input>();
+    is_a_value::<Expected>();
+    is_a_value::<Repair>();
+    is_a_value::<Hint>();
+    is_a_value::<Fault>();
+    is_a_value::<Language>();
     is_a_value::<Style>();
     is_a_value::<Figures>();
     is_an_error::<QuantityToChineseError>();
@@ -216,6 +243,12 @@ fn traits() {
     has_a_hash::<QuantityForm>();
     has_a_hash::<Included>();
     has_a_hash::<Doubt>();
+    has_a_hash::<Way>();
+    has_a_hash::<Input>();
+    has_a_hash::<Repair>();
+    has_a_hash::<Hint>();
+    has_a_hash::<Fault>();
+    has_a_hash::<Language>();
     has_a_hash::<Style>();
     has_a_hash::<Figures>();
     has_a_hash::<BillDate>();

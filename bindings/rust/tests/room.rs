@@ -52,7 +52,12 @@ fn amounts() {
 #[test]
 fn signed_amounts() {
     let mut room = Room::new();
-    let form = AmountForm { currency: true, round_yuan: true, upright_closing: true };
+    let form = AmountForm {
+        currency: true,
+        round_yuan: true,
+        upright_closing: true,
+        bracketed_sign: true,
+    };
     for fen in [i64::MIN, -999_999_999_999_999_999, -1_500, 0, 1_500, i64::MAX] {
         for script in SCRIPTS {
             let text = signed_amount_to_chinese(script, form, fen);

@@ -9,7 +9,8 @@ use std::env;
 use chinese_number::*;
 
 const LIMIT: u64 = 1_000_000_000_000_000_000;
-const FORM: AmountForm = AmountForm { currency: true, round_yuan: true, upright_closing: true };
+const FORM: AmountForm =
+    AmountForm { currency: true, round_yuan: true, upright_closing: true, bracketed_sign: false };
 
 fn count() -> i64 {
     env::var("CHINESE_NUMBER_FEN").map_or(100_000, |count| count.parse().expect("a count of fen"))
@@ -39,14 +40,21 @@ fn figures(fen: i64) -> String {
     format!("{sign}{}.{:02}", magnitude / 100, magnitude % 100)
 }
 
-// A negative amount is written like its magnitude, after the sign.
+fn bracketed(form: AmountForm) -> AmountForm {
+    AmountForm { bracketed_sign: true, ..form }
+}
+
+// A negative amount is written like its magnitude, after the sign. Only the reader of amounts as
+// typed reads the sign in brackets.
 fn reads_back(variant: ChineseVariant, form: AmountForm, sign: &str, fen: i64) {
     let magnitude = fen.unsigned_abs();
     let text = signed_amount_to_chinese(variant, form, fen).unwrap();
     let unsigned = text.strip_prefix(sign).unwrap_or(&text);
+    let bracketed = form.bracketed_sign && fen < 0;
     assert_eq!(text.len() > unsigned.len(), fen < 0, "{text}");
     assert_eq!(amount_to_chinese_as(variant, form, magnitude).unwrap(), unsigned);
-    assert_eq!(chinese_to_signed_amount(&text), Ok(fen), "{text}");
+    assert_eq!(chinese_to_signed_amount(&text).ok(), (!bracketed).then_some(fen), "{text}");
+    assert_eq!(chinese_to_signed_amount_as_typed(&text), Ok(fen), "{text}");
     assert_eq!(chinese_to_amount_as_typed(unsigned), Ok(magnitude), "{text}");
 }
 
@@ -56,6 +64,8 @@ fn reads_back_each_of_many() {
     for fen in (-count..=count).chain(others(count)) {
         reads_back(ChineseVariant::Traditional, FORM, "負", fen);
         reads_back(ChineseVariant::Simple, AmountForm::PLAIN, "负", fen);
+        reads_back(ChineseVariant::Traditional, bracketed(FORM), "（負數）", fen);
+        reads_back(ChineseVariant::Simple, bracketed(AmountForm::PLAIN), "（负数）", fen);
         assert_eq!(yuan_to_fen(&figures(fen)), Ok(fen), "{fen}");
     }
 }
@@ -79,5 +89,6 @@ fn the_end_of_a_line() {
     let refused = Err(ChineseToAmountError::Incorrect { char_index: 4 });
     assert_eq!(chinese_to_signed_amount("负壹元整\n"), refused);
     assert_eq!(chinese_to_amount_as_typed("⊗\r\n壹元整\n"), Ok(100));
+    assert_eq!(chinese_to_signed_amount_as_typed("⊗\r\n负壹元整\n"), Ok(-100));
     assert_eq!(yuan_to_fen("15\n"), Err(FiguresError::Incorrect { char_index: 2 }));
 }

@@ -11,6 +11,7 @@
 //     toQuantity('3.5万').toFigures()                 '35000'
 //     Quantity.fraction(1, 3).toChinese()             '三分之一'
 //     quantitiesToFigures('市值三点五亿元')           '市值3.5亿元'
+//     inputMessage('壹佰贰元整', 'amount', 'en')        why it is not an amount
 //
 // A call that returns a Number returns only safe integers, which are exact. Each has a variant that
 // returns a BigInt, with `BigInt` in the name instead of `Number`, or at the end. The module
@@ -73,6 +74,43 @@ export const QUANTITY_FORMS = Object.freeze(/** @type {const} */ (
 export const DOUBTS = Object.freeze(/** @type {const} */ (
   ['word', 'digits', 'term', 'part', 'time', 'range']));
 
+/**
+ * What a text is meant to be; each input names the call that reads it: chineseToAmount,
+ * chineseToSignedAmount, chineseToAmountAsTyped, chineseToSignedAmountAsTyped, chineseToDate and
+ * yuanToFen.
+ */
+export const INPUTS = Object.freeze(/** @type {const} */ (
+  ['amount', 'signedAmount', 'typedAmount', 'typedSignedAmount', 'date', 'figures']));
+
+/** The languages of messages. */
+export const LANGUAGES = Object.freeze(/** @type {const} */ (['en', 'zh-Hans', 'zh-Hant']));
+
+/** What is changed in a text to repair it. */
+export const CHANGES = Object.freeze(/** @type {const} */ (['insert', 'replace', 'delete']));
+
+/**
+ * Why a text is not a number or a quantity:
+ * - 'empty', 'tooLarge', 'tooSmall': as for the codes of a NumeralError;
+ * - 'start': a numeral starts with a digit or 十: 百 of 百五;
+ * - 'character': it is no digit or unit: 角 of 一角;
+ * - 'digits': a digit is directly after it: 一 of 一二 with units;
+ * - 'units': a unit that is not greater is directly after it: 百 of 一百十;
+ * - 'ge': it is 個 without a greater unit after it: 個 of 三個;
+ * - 'groups': the same unit comes again: 萬 of 一萬二萬.
+ *
+ * The others are those of quantities alone:
+ * - 'bareTen': 十 without 一 before it;
+ * - 'repeatedTen': 十 twice;
+ * - 'afterZero': a unit after 零;
+ * - 'weight': 兩 as a unit of weight;
+ * - 'twoReadings': 万 of 一百五万, which may count 一百五十 or 一百零五;
+ * - 'leftOutZero': 零 is missing before it;
+ * - 'denominator': the denominator is not a whole number above 0.
+ */
+export const FAULTS = Object.freeze(/** @type {const} */ (
+  ['empty', 'tooLarge', 'tooSmall', 'start', 'character', 'digits', 'units', 'ge', 'groups',
+    'bareTen', 'repeatedTen', 'afterZero', 'weight', 'twoReadings', 'leftOutZero', 'denominator']));
+
 const STATUSES = /** @type {Array<any>} */ (
   ['done', 'empty', 'incorrect', 'tooLarge', 'tooSmall', 'notUtf8', 'noRoom', 'notHeld', 'unknown',
     'unfinished', 'none', 'notADate', 'notAQuantity']);
@@ -108,6 +146,9 @@ const YUAN = option('yuan', ['元', '圆'], '元');
 const CLOSING = option('closing', ['整', '正'], '整');
 const UNIT = option('unit', UNITS, 'zhao');
 const QUANTITY_FORM = option('form', QUANTITY_FORMS, 'whole');
+const INPUT = option('input', INPUTS, 'amount');
+const LANGUAGE = option('language', LANGUAGES, 'en');
+const STATUS = option('status', STATUSES, 'done');
 const NO_OPTIONS = {};
 
 /** @type {Record<string, (name: string) => boolean>} Whether a call has an option with a name. */
@@ -115,6 +156,7 @@ const HAS = {
   reading: (it) => it === 'kind' || it === 'way',
   printing: (it) => it === 'kind' || it === 'way' || it === 'script' || it === 'case',
   amounts: (it) => it === 'script' || it === 'currency' || it === 'yuan' || it === 'closing',
+  signedAmounts: (it) => it === 'bracketedSign' || HAS.amounts(it),
   dates: (it) => it === 'script',
   searches: (it) => it === 'upper' || it === 'greatest',
   quantities: (it) => it === 'method',
@@ -133,12 +175,17 @@ const HAS = {
  * @typedef {typeof UNITS[number]} Unit
  * @typedef {typeof QUANTITY_FORMS[number]} QuantityForm
  * @typedef {typeof DOUBTS[number]} Doubt
+ * @typedef {typeof INPUTS[number]} Input
+ * @typedef {typeof LANGUAGES[number]} Language
+ * @typedef {typeof CHANGES[number]} Change
+ * @typedef {typeof FAULTS[number]} Fault
  * @typedef {{ kind?: Kind, way?: Way }} ReadOptions
  * @typedef {{ kind?: Kind, way?: Way, script?: Script, case?: Case }} PrintOptions
  * @typedef {{ script?: Script }} ScriptOptions
  * @typedef {'元' | '圆'} Yuan
  * @typedef {'整' | '正'} Closing
  * @typedef {{ script?: Script, currency?: boolean, yuan?: Yuan, closing?: Closing }} AmountOptions
+ * @typedef {AmountOptions & { bracketedSign?: boolean }} SignedAmountOptions
  * @typedef {{ upper?: boolean, greatest?: Unit }} Wanted
  * @typedef {{ method?: Method }} MethodOptions
  * @typedef {{ method?: Method, script?: Script, case?: Case }} QuantityOptions
@@ -147,9 +194,13 @@ const HAS = {
  * @typedef {ReplaceOptions & { expanded?: boolean, canonical?: boolean }} FiguresOptions
  * @typedef {{ year: number, month: number, day: number }} BillDate
  * @typedef {{ charIndex: number, start: number, end: number }} Place
+ * @typedef {{ charIndex: number, index: number }} Point
+ * @typedef {Point & { mayEnd: boolean, whiteSpace: boolean, characters: string[] }} Expected
+ * @typedef {Point & { change: Change, character: string }} Repair
  * @typedef {keyof typeof MESSAGES} NumeralCode
  * @typedef {keyof typeof AMOUNT_MESSAGES} AmountCode
  * @typedef {keyof typeof DATE_MESSAGES} DateCode
+ * @typedef {Exclude<NumeralCode | AmountCode | DateCode, 'unsafe' | 'outOfMemory'>} Status
  */
 
 const MESSAGES = {
@@ -177,6 +228,13 @@ const DATE_MESSAGES = {
   notADate: 'there is no such date',
 };
 
+/**
+ * What the message of a refusal is computed from: the call of the module, the string that was read,
+ * and the codes of how it was read.
+ * @type {WeakMap<Refusal, [name: string, string: string, codes: number[]]>}
+ */
+const SOURCES = new WeakMap();
+
 /** A refusal, with the place of the wrong character if there is one. */
 class Refusal extends Error {
   /**
@@ -195,6 +253,38 @@ class Refusal extends Error {
     /** For 'incorrect': where it ends, likewise. */
     this.end = place?.end;
   }
+
+  /**
+   * The message for the person who typed the text, in a language of LANGUAGES: why the text is
+   * refused, and how it can be repaired if a change of one character does that. If a number, an
+   * amount or a date could not be written, it says why. For 'unsafe' it is that of 'tooLarge', and
+   * for 'outOfMemory' it is `message`.
+   *
+   * The message is computed by each call. Throws a TypeError if the language is unknown.
+   *
+   * @param {Language} language
+   * @returns {string}
+   */
+  messageIn(language) {
+    const chosen = codeAmong(LANGUAGE, language), source = SOURCES.get(this);
+    if (source) return messageFor(source, chosen);
+    const { code } = /** @type {any} */ (this);
+    const status = STATUSES.indexOf(code === 'unsafe' ? 'tooLarge' : code);
+    return status < 0 ? this.message : statusIn(status, chosen);
+  }
+}
+
+// A refusal of a string that was read, with the source of its message.
+/**
+ * @template {Refusal} Thrown
+ * @param {Thrown} error
+ * @param {string} name
+ * @param {string} string
+ * @param {number[]} codes
+ */
+function about(error, name, string, codes) {
+  SOURCES.set(error, [name, string, codes]);
+  return error;
 }
 
 /**
@@ -243,9 +333,10 @@ export class AmountError extends Refusal {
   /**
    * @param {AmountCode} code
    * @param {Place} [place]
+   * @param {string} [hint] What the message adds after a colon.
    */
-  constructor(code, place) {
-    super(AMOUNT_MESSAGES[code], place);
+  constructor(code, place, hint) {
+    super(AMOUNT_MESSAGES[code] + (hint ? `: ${hint}` : ''), place);
     this.name = 'AmountError';
     this.code = code;
   }
@@ -287,8 +378,9 @@ let library = instance();
 // may be half written.
 let isInside = false;
 
-// The memory that is lent: a quantity (56 bytes; a reading, an amount and a date fit there too), a
-// length (8), spans (24 each) and the text. In both modules a size has 8 bytes.
+// The memory that is lent: a quantity (56 bytes; a reading, an amount, a date, a repair and a fault
+// fit there too), a length (8), spans (24 each; what is expected, of 224 bytes, fits there too) and
+// the text. In both modules a size has 8 bytes.
 const READING = Math.ceil(Number(library.__heap_base.value) / 16) * 16;
 const LENGTH = READING + 56;
 const SPANS = LENGTH + 8;
@@ -297,13 +389,15 @@ const TEXT = SPANS + 24 * MOST_SPANS;
 const [READING_AT, LENGTH_AT, SPANS_AT, TEXT_AT] = [READING, LENGTH, SPANS, TEXT].map(BigInt);
 const MOST_BYTES = 234n;
 const MOST_AMOUNT_BYTES = 117n;
-const MOST_SIGNED_AMOUNT_BYTES = 120n;
+const MOST_SIGNED_AMOUNT_BYTES = 129n;
 const MOST_DATE_BYTES = 39n;
 const MOST_QUANTITY_BYTES = 471n;
 const MOST_FIGURES_BYTES = 80n;
+const MOST_MESSAGE_BYTES = 512n;
 const MOST_PRINTED = Number(MOST_BYTES);
 const PAGE = 65536;
 const MOST_KEPT = 2 ** 24;
+const MOST_SHOWN = 60;
 const encoder = new TextEncoder(), decoder = new TextDecoder('utf-8', { ignoreBOM: true });
 // Up to this many code units, writing them one by one is faster than the encoder.
 const FEW = 40;
@@ -314,7 +408,7 @@ let words;
 /** @type {Int32Array} The halves of these and of the spans, the lower half first. */
 let halves;
 // The places of parts of these.
-const FORM_HALF = 8, LENGTH_WORD = 7, LENGTH_HALF = 14, SPANS_HALF = 16;
+const CHANGE_HALF = 4, FORM_HALF = 8, LENGTH_WORD = 7, LENGTH_HALF = 14, SPANS_HALF = 16;
 /** @type {Uint8Array} */
 let text = new Uint8Array(0);
 
@@ -361,12 +455,48 @@ function grow(memory, pages) {
   }
 }
 
+/** @param {string} string */
+const cut = (string) =>
+  string.length > MOST_SHOWN ? `${string.slice(0, MOST_SHOWN)}...` : string;
+
+/** @param {string} string */
+const quoted = (string) => JSON.stringify(cut(string));
+
+// A value as a message shows it, with its type: `5 (a number)`. It calls no method of the value, which
+// could throw.
+/** @param {unknown} value */
+function shown(value) {
+  if (value === undefined || value === null) return String(value);
+  if (typeof value === 'string') return `${quoted(value)} (a string)`;
+  if (typeof value === 'function') return 'a function';
+  if (typeof value === 'object') return shownObject(value);
+  if (typeof value !== 'bigint') return `${cut(String(value))} (a ${typeof value})`;
+  return BigInt.asIntN(128, value) === value ? `${value}n (a BigInt)` : 'a long BigInt';
+}
+
+/** @param {object} object */
+function shownObject(object) {
+  let name = 'Object';
+  try {
+    [, name] = /^\[object (.*)\]$/s.exec(Object.prototype.toString.call(object)) ?? [, name];
+  } catch {
+    // The getter of its name throws, or it is a proxy that is revoked.
+  }
+  if (name === 'Array') return 'an array';
+  return name === 'Object' ? 'an object' : `an object (${cut(name)})`;
+}
+
+/** @param {string} string */
+function refuseNoString(string) {
+  if (typeof string !== 'string') throw new TypeError(`expected a string, not ${shown(string)}`);
+}
+
 // Writes a string where the module reads it, as UTF-8, and its length in bytes. Half of a surrogate
 // pair becomes U+FFFD, so the text is UTF-8 and the module need not test it. After the text there
 // is a buffer of `room` bytes.
 /** @param {string} string @param {number} room */
 function hand(string, room = 0) {
-  if (typeof string !== 'string') throw new TypeError('expected a string');
+  refuseNoString(string);
   lend(3 * string.length + room);
   halves[LENGTH_HALF] = string.length > FEW ? encoded(string) : written(string);
 }
@@ -421,7 +551,7 @@ const whole = new BigInt64Array(1), halvesOfWhole = new Int32Array(whole.buffer)
 function wholeOf(number) {
   if (typeof number === 'bigint') return number;
   if (!Number.isSafeInteger(number)) {
-    throw new TypeError('expected a BigInt or a safe integer');
+    throw new TypeError(`expected a BigInt or a safe integer, not ${shown(number)}`);
   }
   halvesOfWhole[0] = number;
   halvesOfWhole[1] = Math.floor(number / 2 ** 32);
@@ -452,7 +582,8 @@ function codeOf(option, name) {
 function codeAmong(option, name) {
   const { what, names } = option, code = names.indexOf(name);
   if (code < 0) {
-    throw new TypeError(`${what} must be one of ${names.join(', ')}, not ${String(name)}`);
+    const other = typeof name === 'string' ? quoted(name) : shown(name);
+    throw new TypeError(`${what} must be one of ${names.join(', ')}, not ${other}`);
   }
   Object.assign(option, { last: name, code });
   return code;
@@ -461,7 +592,9 @@ function codeAmong(option, name) {
 /** @param {boolean | undefined} it @param {string} name */
 function flagOf(it, name) {
   if (it === undefined) return 0;
-  if (typeof it !== 'boolean') throw new TypeError(`${name} must be true or false`);
+  if (typeof it !== 'boolean') {
+    throw new TypeError(`${name} must be true or false, not ${shown(it)}`);
+  }
   return Number(it);
 }
 
@@ -470,11 +603,11 @@ function flagOf(it, name) {
 function refuseOthers(options, has) {
   if (options === NO_OPTIONS) return;
   if (typeof options !== 'object' || options === null || Array.isArray(options)) {
-    throw new TypeError('options must be an object');
+    throw new TypeError(`options must be an object, not ${shown(options)}`);
   }
   for (const it in options) {
     if (has(it) || !Object.keys(options).includes(it)) continue;
-    throw new TypeError(`unknown option ${it}`);
+    throw new TypeError(`unknown option ${quoted(it)}`);
   }
 }
 
@@ -519,10 +652,12 @@ function readNumeral(string, options, isPlain, any) {
   refuseOthers(options, HAS.reading);
   const kind = codeOf(KIND, options.kind), way = codeOf(WAY, options.way);
   hand(string);
-  const status = ended(library.chinese_number_read_utf8(TEXT_AT, words[LENGTH_WORD], kind,
-    isPlain ? DIGITS : way === ANY ? any : way, READING_AT));
-  if (status !== DONE) throw new NumeralError(STATUSES[status], KINDS[kind], placeOf(status, 2));
-  return kind;
+  const chosen = isPlain ? DIGITS : way === ANY ? any : way;
+  const status = ended(library.chinese_number_read_utf8(
+    TEXT_AT, words[LENGTH_WORD], kind, chosen, READING_AT));
+  if (status === DONE) return kind;
+  const error = new NumeralError(STATUSES[status], KINDS[kind], placeOf(status, 2));
+  throw about(error, 'chinese_number_message', string, [kind, chosen]);
 }
 
 /** @param {number} kind The kind of the number that was read. */
@@ -570,15 +705,16 @@ export function toChinese(number, options = NO_OPTIONS) {
  *
  * The amount is in fen, hundredths of a yuan, as a BigInt or a safe integer. The script is
  * 'simplified' by default. `currency: true` adds the prefix 人民币; `yuan` is '元' by default, or '圆';
- * `closing` is '整' by default, or '正'. Throws an AmountError if the amount is below zero, or
- * 10n ** 18n or more. Throws a TypeError if the amount is of another type, or an option or its value
- * is unknown.
+ * `closing` is '整' by default, or '正'. Throws an AmountError if the amount is below zero, which
+ * `signedAmountToChinese` writes, or 10n ** 18n or more. Throws a TypeError if the amount is of
+ * another type, or an option or its value is unknown.
  *
  * @param {bigint | number} fen
  * @param {AmountOptions} options
  * @returns {string}
  */
 export function amountToChinese(fen, options = NO_OPTIONS) {
+  refuseOthers(options, HAS.amounts);
   return capitalsOf(fen, options, 'chinese_amount_print', MOST_AMOUNT_BYTES);
 }
 
@@ -586,32 +722,35 @@ export function amountToChinese(fen, options = NO_OPTIONS) {
  * Writes an amount in capitals that may be negative, as on a red invoice:
  * `signedAmountToChinese(-1500)` is '负壹拾伍元整', in traditional script '負壹拾伍元整'.
  *
- * It writes like `amountToChinese`, with the prefix 负 if the amount is below zero. Throws an
- * AmountError if the amount is 10n ** 18n or more, or -(10n ** 18n) or less.
+ * It writes like `amountToChinese`, with the prefix 负 if the amount is below zero, or （负数） with
+ * `bracketedSign: true`. Throws an AmountError if the amount is 10n ** 18n or more, or
+ * -(10n ** 18n) or less.
  *
  * @param {bigint | number} fen
- * @param {AmountOptions} options
+ * @param {SignedAmountOptions} options
  * @returns {string}
  */
 export function signedAmountToChinese(fen, options = NO_OPTIONS) {
+  refuseOthers(options, HAS.signedAmounts);
   return capitalsOf(fen, options, 'chinese_signed_amount_print', MOST_SIGNED_AMOUNT_BYTES);
 }
 
 /**
  * Writes fen in capitals with a call of the module.
  * @param {bigint | number} fen
- * @param {AmountOptions} options
+ * @param {SignedAmountOptions} options
  * @param {string} name
  * @param {bigint} most
  */
 function capitalsOf(fen, options, name, most) {
-  refuseOthers(options, HAS.amounts);
   const script = scriptOf(options), form = formOf(options), whole = wholeOf(fen);
   const isBelow = fen < 0;
-  // The module takes 64 bits, which must hold the fen.
-  if ((isBelow && name === 'chinese_amount_print') || BigInt.asIntN(64, whole) !== whole) {
-    throw new AmountError(isBelow ? 'tooSmall' : 'tooLarge');
+  if (isBelow && name === 'chinese_amount_print') {
+    const hint = 'signedAmountToChinese writes amounts below zero';
+    throw new AmountError('tooSmall', undefined, hint);
   }
+  // The module takes 64 bits, which must hold the fen.
+  if (BigInt.asIntN(64, whole) !== whole) throw new AmountError(isBelow ? 'tooSmall' : 'tooLarge');
   lend(MOST_PRINTED);
   const status = ended(library[name](whole, script, form, TEXT_AT, most, LENGTH_AT));
   if (status !== DONE) throw new AmountError(STATUSES[status]);
@@ -622,10 +761,10 @@ function capitalsOf(fen, options, name, most) {
 const scriptOf = (options) => codeOf(SCRIPT, options.script);
 
 // The form of an amount: a bit for each option that differs from its default.
-/** @param {AmountOptions} options */
+/** @param {SignedAmountOptions} options */
 function formOf(options) {
   return flagOf(options.currency, 'currency') + 2 * codeOf(YUAN, options.yuan)
-    + 4 * codeOf(CLOSING, options.closing);
+    + 4 * codeOf(CLOSING, options.closing) + 8 * flagOf(options.bracketedSign, 'bracketedSign');
 }
 
 /**
@@ -702,13 +841,39 @@ export function chineseToAmountAsTypedBigInt(string) {
 }
 
 /**
+ * Reads an amount in capitals as people type it, or copy it from an invoice; it may be negative:
+ * `chineseToSignedAmountAsTyped('⊗（负数）壹拾伍元整')` is -1500.
+ *
+ * It reads like `chineseToAmountAsTyped`, and ⊗ (or ⓧ), one of 负, 負, （负数） and （負數） (also with
+ * ASCII parentheses), and 人民币 with or without a colon may come in any order at the start. It also
+ * reads 人民币（大写）, with or without a colon.
+ *
+ * @param {string} string
+ * @returns {number}
+ */
+export function chineseToSignedAmountAsTyped(string) {
+  return safeFenOf(string, 'chinese_typed_signed_amount_read');
+}
+
+/**
+ * Reads an amount in capitals, as `chineseToSignedAmountAsTyped` does, and returns its fen as a
+ * BigInt: `chineseToSignedAmountAsTypedBigInt('⊗（负数）壹拾伍元整')` is -1500n.
+ *
+ * @param {string} string
+ * @returns {bigint}
+ */
+export function chineseToSignedAmountAsTypedBigInt(string) {
+  return fenOf(string, 'chinese_typed_signed_amount_read');
+}
+
+/**
  * Converts yuan to fen exactly, and returns a Number: `yuanToFen('1,409.50')` is 140950, and
  * `yuanToFen(15)` is 1500.
  *
  * The amount is a string of figures, a BigInt or a whole Number. Figures are digits, with a comma
  * before each group of three or without commas, after an optional minus (- or −) and an optional ¥.
- * A point may follow, with one or more digits; from the third on they must be 0. All of these
- * except the minus may be full-width. Nothing is rounded, and white space is refused.
+ * A point may follow, with one or more digits; from the third on they must be 0. All of these may
+ * be full-width. Nothing is rounded, and white space is refused.
  *
  * Throws an AmountError for any other text, and for 10n ** 16n yuan or more on either side of zero.
  * The code is 'unsafe' if the fen are past 2 ** 53 - 1; `yuanToFenBigInt` returns such amounts.
@@ -735,10 +900,12 @@ export function yuanToFenBigInt(yuan) {
 /** @param {string | bigint | number} yuan */
 function figuresOf(yuan) {
   if (typeof yuan === 'number' && !Number.isSafeInteger(yuan)) {
-    throw new TypeError('a Number of yuan must be a safe integer; for others, give a string');
+    throw new TypeError(
+      `a Number of yuan must be a safe integer, not ${yuan}; for others, give a string`);
   }
   if (!['string', 'bigint', 'number'].includes(typeof yuan)) {
-    throw new TypeError('expected a string of figures, a BigInt or a whole Number');
+    throw new TypeError(
+      `expected a string of figures, a BigInt or a whole Number, not ${shown(yuan)}`);
   }
   return String(yuan);
 }
@@ -748,8 +915,8 @@ function figuresOf(yuan) {
 function fenOf(string, name) {
   hand(string);
   const status = ended(library[name](TEXT_AT, words[LENGTH_WORD], READING_AT));
-  if (status !== DONE) throw new AmountError(STATUSES[status], placeOf(status, 1));
-  return words[0];
+  if (status === DONE) return words[0];
+  throw aboutInput(new AmountError(STATUSES[status], placeOf(status, 1)), name, string);
 }
 
 /** @param {string} string @param {string} name */
@@ -779,7 +946,7 @@ export function dateToChinese(date, options = NO_OPTIONS) {
   // Only its own properties, since a class may count the years of another calendar.
   const { year, month, day } = { ...date };
   if (!Number.isInteger(year) || !Number.isInteger(month) || !Number.isInteger(day)) {
-    throw new TypeError('expected an object with year, month and day, not a Date');
+    throw new TypeError(noDate(date, [year, month, day]));
   }
   // The module takes 32 bits of each.
   if (year >>> 0 !== year || month >>> 0 !== month || day >>> 0 !== day) {
@@ -790,6 +957,14 @@ export function dateToChinese(date, options = NO_OPTIONS) {
     year, month, day, script, TEXT_AT, MOST_DATE_BYTES, LENGTH_AT));
   if (status !== DONE) throw new DateError(STATUSES[status]);
   return printed();
+}
+
+/** @param {unknown} date @param {unknown[]} numbers Its year, month and day. */
+function noDate(date, numbers) {
+  const other = shown(date);
+  return other === 'an object'
+    ? `year, month and day must be whole Numbers, not ${numbers.map(shown).join(', ')}`
+    : `expected an object with year, month and day, not ${other}`;
 }
 
 /**
@@ -805,9 +980,20 @@ export function dateToChinese(date, options = NO_OPTIONS) {
 export function chineseToDate(string) {
   hand(string);
   const status = ended(library.chinese_date_read(TEXT_AT, words[LENGTH_WORD], READING_AT));
-  if (status !== DONE) throw new DateError(STATUSES[status], placeOf(status, 2));
-  return { year: halves[0], month: halves[1], day: halves[2] };
+  if (status === DONE) return { year: halves[0], month: halves[1], day: halves[2] };
+  const error = new DateError(STATUSES[status], placeOf(status, 2));
+  throw aboutInput(error, 'chinese_date_read', string);
 }
+
+// The calls of the module that read the inputs, in the order of INPUTS.
+const READERS = [
+  'chinese_amount_read', 'chinese_signed_amount_read', 'chinese_typed_amount_read',
+  'chinese_typed_signed_amount_read', 'chinese_date_read', 'chinese_figures_read',
+];
+
+/** @param {Refusal} error @param {string} reader @param {string} string */
+const aboutInput = (error, reader, string) =>
+  about(error, 'chinese_input_message', string, [READERS.indexOf(reader)]);
 
 // The numbers of a quantity are of these kinds.
 const NUMERATOR = KINDS.indexOf('i128'), DENOMINATOR = KINDS.indexOf('u128');
@@ -957,7 +1143,8 @@ function heldBy(kind, number) {
 /** @param {number} decimals */
 function tenTo(decimals) {
   if (!Number.isInteger(decimals) || decimals < 0) {
-    throw new TypeError('the number of decimals must be a whole Number from 0 up');
+    throw new TypeError(
+      `the number of decimals must be a whole Number from 0 up, not ${shown(decimals)}`);
   }
   return 10n ** BigInt(Math.min(decimals, 39));
 }
@@ -998,7 +1185,10 @@ export function toQuantity(string, options = NO_OPTIONS) {
   hand(string);
   const status = ended(library.chinese_quantity_read(
     TEXT_AT, words[LENGTH_WORD], method, READING_AT));
-  if (status !== DONE) throw new NumeralError(STATUSES[status], undefined, placeOf(status, 5));
+  if (status !== DONE) {
+    const error = new NumeralError(STATUSES[status], undefined, placeOf(status, 5));
+    throw about(error, 'chinese_quantity_message', string, [method]);
+  }
   return new Quantity(
     wholeNumber(NUMERATOR), wholeNumber(DENOMINATOR, 2), QUANTITY_FORMS[halves[FORM_HALF]]);
 }
@@ -1222,7 +1412,9 @@ function unitsBetween(start, end) {
  */
 export function replaceQuantities(string, replacement, options = NO_OPTIONS) {
   refuseOthers(options, HAS.replacing);
-  if (typeof replacement !== 'function') throw new TypeError('replacement must be a function');
+  if (typeof replacement !== 'function') {
+    throw new TypeError(`replacement must be a function, not ${shown(replacement)}`);
+  }
   const { method } = options, included = includedOf(options);
   methodOf(options);
   let replaced = '', at = 0;
@@ -1231,7 +1423,7 @@ export function replaceQuantities(string, replacement, options = NO_OPTIONS) {
     const other = replacement(found);
     if (other === undefined) continue;
     if (typeof other !== 'string') {
-      throw new TypeError('replacement must return a string or undefined');
+      throw new TypeError(`replacement must return a string or undefined, not ${shown(other)}`);
     }
     replaced += string.slice(at, found.start) + other;
     at = found.end;
@@ -1272,6 +1464,7 @@ export function quantitiesToFigures(string, options = NO_OPTIONS) {
   refuseOthers(options, HAS.figures);
   const upper = flagOf(options.upper, 'upper'), greatest = codeOf(UNIT, options.greatest);
   const method = methodOf(options), bits = includedOf(options) + styleOf(options);
+  refuseNoString(string);
   // Figures seldom have more bytes than what they replace. If they do, the call reports how many.
   let room = 3 * string.length + Number(MOST_FIGURES_BYTES), length, status;
   do {
@@ -1292,4 +1485,184 @@ function withHalves(anew, string) {
   const all = string.match(/\ufffd|\p{Surrogate}/gu) ?? [];
   let at = 0;
   return anew.replace(/\ufffd/g, () => all[at++]);
+}
+
+/**
+ * Says what may come next in a text that is meant to be an input of INPUTS, for example to offer
+ * keys: `inputExpected('壹佰', 'amount').characters` are 元, 零 and so on.
+ *
+ * `charIndex` and `index` are the length, in characters and in UTF-16 code units, of the longest
+ * part of the text, from its start, that begins such an input: all of it, or up to the wrong
+ * character. `mayEnd` says whether this part is complete. `characters` may come next, and if
+ * `whiteSpace` is true, so may white space. Throws a TypeError if the text is not a string or the
+ * input is unknown.
+ *
+ * @param {string} string
+ * @param {Input} input
+ * @returns {Expected}
+ */
+export function inputExpected(string, input) {
+  const code = codeAmong(INPUT, input);
+  hand(string);
+  ended(library.chinese_input_expected(TEXT_AT, words[LENGTH_WORD], code, SPANS_AT));
+  const [charIndex, , byteIndex, , mayEnd, whiteSpace, count] = halves.subarray(SPANS_HALF);
+  const first = SPANS_HALF + 7, characters = halves.subarray(first, first + count);
+  return {
+    charIndex,
+    index: unitsBetween(0, byteIndex),
+    mayEnd: mayEnd === 1,
+    whiteSpace: whiteSpace === 1,
+    characters: Array.from(characters, (it) => String.fromCodePoint(it)),
+  };
+}
+
+/**
+ * Finds one change of a text after which it goes on past its wrong character:
+ * `inputRepair('壹佰贰元整', 'amount')` is
+ * { change: 'insert', charIndex: 2, index: 2, character: '零' }.
+ *
+ * A text that is only unfinished becomes right. There may be another fault further on, and only a
+ * person can say that the change is what was meant. `charIndex` and `index` are the place, in
+ * characters and in UTF-16 code units; `character` is empty for 'delete'. Returns undefined if the
+ * text is right, or if no change is found. Throws a TypeError as `inputExpected` does.
+ *
+ * @param {string} string
+ * @param {Input} input
+ * @returns {Repair | undefined}
+ */
+export function inputRepair(string, input) {
+  const code = codeAmong(INPUT, input);
+  hand(string);
+  ended(library.chinese_input_repair(TEXT_AT, words[LENGTH_WORD], code, READING_AT));
+  const [charIndex, byteIndex] = words, [change, character] = halves.subarray(CHANGE_HALF);
+  if (change === 0) return undefined;
+  return {
+    change: CHANGES[change - 1],
+    charIndex: Number(charIndex),
+    index: unitsBetween(0, Number(byteIndex)),
+    character: character ? String.fromCodePoint(character) : '',
+  };
+}
+
+/**
+ * Says why `toBigInt` refuses a text: `explainNumber('一百十')` is 'units', the rule that the text
+ * breaks from its wrong character on. Returns undefined if the text is read.
+ *
+ * The options are those of `toBigInt`. Throws a TypeError if the text is not a string, or an option
+ * or its value is unknown.
+ *
+ * @param {string} string
+ * @param {ReadOptions} options
+ * @returns {Fault | undefined}
+ */
+export function explainNumber(string, options = NO_OPTIONS) {
+  return faultOf('chinese_number_explain', string, codesOf(options));
+}
+
+/**
+ * Says why `toQuantity` refuses a text: `explainQuantity('零分之一')` is 'denominator'. Returns
+ * undefined if the text is read. The options are those of `toQuantity`. Throws a TypeError as
+ * `explainNumber` does.
+ *
+ * @param {string} string
+ * @param {MethodOptions} options
+ * @returns {Fault | undefined}
+ */
+export function explainQuantity(string, options = NO_OPTIONS) {
+  return faultOf('chinese_quantity_explain', string, methodCodesOf(options));
+}
+
+/** @param {ReadOptions} options */
+function codesOf(options) {
+  refuseOthers(options, HAS.reading);
+  return [codeOf(KIND, options.kind), codeOf(WAY, options.way)];
+}
+
+/** @param {MethodOptions} options */
+function methodCodesOf(options) {
+  refuseOthers(options, HAS.quantities);
+  return [methodOf(options)];
+}
+
+/** @param {string} name @param {string} string @param {number[]} codes */
+function faultOf(name, string, codes) {
+  hand(string);
+  ended(library[name](TEXT_AT, words[LENGTH_WORD], ...codes, READING_AT));
+  return halves[0] === 0 ? undefined : FAULTS[halves[0] - 1];
+}
+
+/**
+ * Writes a message for the person who typed a text that is meant to be an input of INPUTS, in a
+ * language of LANGUAGES: why it is not such an input, with the wrong character, its position, which
+ * counts from 1, and the repair, if there is one. `inputMessage('壹佰贰元整', 'amount', 'zh-Hans')` is
+ * 第3个字“贰”前缺“零”。 The message is '' if the text is right, as `setCustomValidity` takes it.
+ *
+ * Throws a TypeError if the text is not a string, or the input or the language is unknown.
+ *
+ * @param {string} string
+ * @param {Input} input
+ * @param {Language} language
+ * @returns {string}
+ */
+export function inputMessage(string, input, language) {
+  const codes = [codeAmong(INPUT, input)];
+  return messageFor(['chinese_input_message', string, codes], codeAmong(LANGUAGE, language));
+}
+
+/**
+ * Writes a message for the person who typed a text that `toBigInt` refuses, as `inputMessage` does.
+ * The options are those of `toBigInt`.
+ *
+ * @param {string} string
+ * @param {Language} language
+ * @param {ReadOptions} options
+ * @returns {string}
+ */
+export function numberMessage(string, language, options = NO_OPTIONS) {
+  const codes = codesOf(options);
+  return messageFor(['chinese_number_message', string, codes], codeAmong(LANGUAGE, language));
+}
+
+/**
+ * Writes a message for the person who typed a text that `toQuantity` refuses, as `inputMessage`
+ * does. The options are those of `toQuantity`.
+ *
+ * @param {string} string
+ * @param {Language} language
+ * @param {MethodOptions} options
+ * @returns {string}
+ */
+export function quantityMessage(string, language, options = NO_OPTIONS) {
+  const codes = methodCodesOf(options);
+  return messageFor(['chinese_quantity_message', string, codes], codeAmong(LANGUAGE, language));
+}
+
+/**
+ * Writes what the code of an error means, in a language of LANGUAGES, for example to a person whose
+ * number is too large to be written. The codes 'unsafe' and 'outOfMemory' have no such message.
+ * Throws a TypeError if the status or the language is unknown.
+ *
+ * @param {Status} status
+ * @param {Language} language
+ * @returns {string}
+ */
+export function statusMessage(status, language) {
+  return statusIn(codeAmong(STATUS, status), codeAmong(LANGUAGE, language));
+}
+
+// The message of a call of the module about a string, in a language.
+/** @param {[name: string, string: string, codes: number[]]} source @param {number} language */
+function messageFor([name, string, codes], language) {
+  hand(string, Number(MOST_MESSAGE_BYTES));
+  const length = words[LENGTH_WORD];
+  ended(library[name](TEXT_AT, length, ...codes, language, TEXT_AT + length, MOST_MESSAGE_BYTES,
+    LENGTH_AT));
+  return decoded(Number(length));
+}
+
+/** @param {number} status @param {number} language */
+function statusIn(status, language) {
+  lend(Number(MOST_MESSAGE_BYTES));
+  ended(library.chinese_status_message(status, language, TEXT_AT, MOST_MESSAGE_BYTES, LENGTH_AT));
+  return decoded(0);
 }

@@ -50,11 +50,15 @@ export function partsAround(text, fault, name) {
   return [text.slice(0, start), element(name, text.slice(start, end)), text.slice(end)];
 }
 
-/** Shows a message. An unchanged one is not written again, so screen readers do not repeat it. */
-export function say(field, output, said, isFault) {
+/**
+ * Shows a message. An unchanged one is not written again, so screen readers do not repeat it. The
+ * form of a field with a refused text reports the message, as forms do.
+ */
+export function say(field, output, said, isFault, isRefused = isFault) {
   if (output.textContent !== said) output.textContent = said;
   output.classList.toggle('fault', isFault);
   field.ariaInvalid = String(isFault);
+  field.setCustomValidity(isRefused ? said : '');
 }
 
 /** Calls one function at each change of a field's text, another while an input method composes. */
@@ -65,8 +69,8 @@ export function atEachKey(field, judge, compose) {
 
 /**
  * Checks a form's field at each key. `judge` gets what was typed and returns its `rows`, the
- * message `said`, and the place of the wrong character as `fault`; `isFault` says that the text is
- * wrong without such a place. Returns the function that checks the field's text.
+ * message `said`, and the place of the character that it names as `fault`; `isFault` says that the
+ * text is wrong without such a place. Returns the function that checks the field's text.
  */
 export function judgeForm(form, judge) {
   const [field, mirror, output, select, list] =
@@ -85,7 +89,7 @@ export function judgeForm(form, judge) {
   function judgeAgain() {
     const { rows = [], said = '', fault, isFault = Boolean(fault) } = judge(field.value);
     place = fault;
-    say(field, output, said, isFault);
+    say(field, output, said, isFault, rows.length === 0);
     select.hidden = !place;
     mark(place);
     const seen = JSON.stringify([words('copy'), rows]);
@@ -96,12 +100,13 @@ export function judgeForm(form, judge) {
   // While an input method composes, its letters are not text yet: nothing is checked or marked.
   atEachKey(field, judgeAgain, () => mark());
   for (const it of ['scroll', 'keyup', 'pointerup', 'select']) field.addEventListener(it, follow);
-  // Enter and the button move the caret to the wrong character. Nothing else moves it.
-  form.addEventListener('submit', (event) => {
-    event.preventDefault();
+  // Enter and the button submit the form. It reports a refused text, and the wrong character is
+  // selected, or the caret moves before it. Nothing else moves the caret.
+  field.addEventListener('invalid', () => {
     if (!place) return;
     field.focus();
-    field.setSelectionRange(place.start, place.end);
+    field.setSelectionRange(place.start, place.isBefore ? place.start : place.end);
   });
+  form.addEventListener('submit', (event) => event.preventDefault());
   return judgeAgain;
 }

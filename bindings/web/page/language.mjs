@@ -17,13 +17,12 @@ function languageOf(tag) {
 const requested = new URLSearchParams(location.search).get('lang');
 let current = [requested, ...navigator.languages].map(languageOf).find(Boolean) ?? 'en';
 
+/** The language of the page, which the library has too. */
+export const language = () => current;
+
 /** A text in the language of the page, with the names in braces replaced by values. */
 export const words = (key, values = {}) =>
   TEXTS[key][LANGUAGES.indexOf(current)].replace(/\{(\w+)\}/g, (_, name) => values[name]);
-
-/** Items as one text, with 'or' before the last one. */
-export const either = (items) =>
-  new Intl.ListFormat(current, { type: 'disjunction' }).format(items);
 
 /** Sentences as one text. */
 export const sentences = (...parts) => parts.filter(Boolean).join(current === 'en' ? ' ' : '');

@@ -3,7 +3,7 @@
 
 import { KINDS, METHODS, toBigInt, toChinese, toQuantity } from '../files/chinese-number.mjs';
 import { inEachScript, words } from './language.mjs';
-import { answerTyped } from './typed.mjs';
+import { answerTyped, inUsualWidth } from './typed.mjs';
 
 const [kind, way] = ['kind', 'way'].map((it) => document.getElementById(it));
 // In the order of the menu.
@@ -24,7 +24,6 @@ export function offerChoices() {
 export const methodChosen = () => (METHODS.includes(way.value) ? { method: way.value } : {});
 
 const kindChosen = () => kind.value || 'i128';
-const notHeld = () => words('notHeld', { kind: kindChosen() });
 
 function figuresOf(text) {
   if (kind.value === '' && way.value !== 'digits') {
@@ -38,7 +37,9 @@ function numeralsOf(quantity) {
     if (kind.value === '' && way.value !== 'digits') {
       return quantity.toChinese({ ...methodChosen(), ...options });
     }
-    if (quantity.form !== 'whole') throw Object.assign(new RangeError(), { code: 'notWhole' });
+    if (quantity.form !== 'whole') {
+      throw Object.assign(new RangeError(), { messageIn: () => words('notWhole') });
+    }
     return toChinese(quantity.numerator, { kind: kindChosen(), way: way.value, ...options });
   };
   return ['lower', 'upper'].flatMap((it) =>
@@ -47,27 +48,24 @@ function numeralsOf(quantity) {
 
 // Suffixes that may complete a number that is refused as it is, such as 1,4, 三点, 三分 and 一亿二千.
 const ENDS = ['0', '00', '000', '一', '之一', '分之一', '万', '十万', '百万', '一万'];
+// A longer text is not tried with them, since each call reads all of it.
+const MOST_TRIED = 1000;
 
-const IN_FIGURES = {
-  read: (text) => toQuantity(text).trimmed(),
-  answer: (quantity) => ({ rows: numeralsOf(quantity) }),
-  reasons: () => ({
-    notHeld: notHeld(),
-    notWhole: words('notWhole'),
-    tooLarge: words('tooLarge'),
-    tooSmall: words('tooSmall'),
-  }),
-  ends: ENDS,
-};
+/** Whether a refused text can be read, or is only too large, with one of the suffixes. */
+const isBegun = (read) => (text) => text.length <= MOST_TRIED && ENDS.some((end) => {
+  try {
+    read(text + end);
+    return true;
+  } catch (error) {
+    return error.code !== 'incorrect';
+  }
+});
 
-const IN_NUMERALS = {
-  read: figuresOf,
-  answer: (figures) => ({ rows: [{ name: words('number'), text: figures }] }),
-  reasons: () => (kind.value
-    ? { tooLarge: notHeld(), tooSmall: notHeld() }
-    : { tooLarge: words('tooLarge'), tooSmall: words('tooSmall') }),
-  ends: ENDS,
-};
+const answerNumber = (typed, read, answer) => answerTyped(typed, {
+  textOf: (it) => ({ text: inUsualWidth(it) }), read, answer, isBegun: isBegun(read),
+});
 
-export const writeNumber = (typed) => answerTyped(typed, IN_FIGURES);
-export const readNumber = (typed) => answerTyped(typed, IN_NUMERALS);
+export const writeNumber = (typed) => answerNumber(
+  typed, (text) => toQuantity(text).trimmed(), (quantity) => ({ rows: numeralsOf(quantity) }));
+export const readNumber = (typed) => answerNumber(
+  typed, figuresOf, (figures) => ({ rows: [{ name: words('number'), text: figures }] }));

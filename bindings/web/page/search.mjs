@@ -38,13 +38,7 @@ function valueOf(it) {
     return { value: it.quantity(methodChosen()).toFigures() };
   } catch (error) {
     const { start = 0, end = it.text.length } = error;
-    const value = reasonOf(error, {
-      empty: words('valueEmpty'),
-      incorrect: words('valueWrong', { character: it.text.slice(start, end) }),
-      tooLarge: words('valueTooLarge'),
-      tooSmall: words('valueTooSmall'),
-    });
-    return { value, fault: { start, end } };
+    return { value: reasonOf(error), fault: { start, end } };
   }
 }
 

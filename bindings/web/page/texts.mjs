@@ -30,6 +30,7 @@ export const TEXTS = {
   currency: ['前面写“人民币”', '前面寫「人民幣」', 'with the prefix 人民币'],
   roundYuan: ['“元”写作“圆”', '「元」寫作「圓」', '圆 instead of 元'],
   uprightClosing: ['“整”写作“正”', '「整」寫作「正」', '正 instead of 整'],
+  bracketedSign: ['“负”写作“（负数）”', '「負」寫作「（負數）」', '（负数） instead of 负'],
   readingAmounts: ['大写转金额', '大寫轉金額', 'Capitals to amount'],
   capitals: ['大写金额', '大寫金額', 'Amount in capitals'],
   writingDates: ['出票日期转大写', '出票日期轉大寫', 'Date to capitals'],
@@ -99,36 +100,11 @@ export const TEXTS = {
   copied: ['已复制', '已複製', 'Copied'],
   select: ['选中这个字', '選取這個字', 'Select it'],
 
-  // Why there is no result.
-  unfinished: ['还没写完。', '還沒寫完。', 'Not finished yet.'],
-  goOn: [
-    '还没写完，后面可以写：{next}。',
-    '還沒寫完，後面可以寫：{next}。',
-    'Not finished yet: {next} may follow.',
-  ],
+  // Why there is no result, if the library does not say it.
   wrong: [
-    '第 {place} 个字“{character}”不能写在这里。',
-    '第 {place} 個字「{character}」不能寫在這裡。',
+    '第{place}个字“{character}”不能写在这里。',
+    '第{place}個字「{character}」不能寫在這裡。',
     'Character {place}, “{character}”, is not allowed here.',
-  ],
-  missing: [
-    '“{before}”前面缺“{missing}”。',
-    '「{before}」前面缺「{missing}」。',
-    '“{missing}” is missing before “{before}”.',
-  ],
-  expected: ['这里应写：{next}。', '這裡應寫：{next}。', 'Expected here: {next}.'],
-  ended: [
-    '到这里已经完整，后面多了字。',
-    '到這裡已經完整，後面多了字。',
-    'The text before it is complete.',
-  ],
-  point: ['小数点', '小數點', 'a point'],
-  comma: ['逗号', '逗號', 'a comma'],
-  renminbi: ['人民币', '人民幣', '人民币'],
-  toFen: [
-    '最多写到分（两位小数）。',
-    '最多寫到分（兩位小數）。',
-    'At most two decimals are allowed, jiao and fen.',
   ],
   dateOrder: [
     '请按年、月、日的顺序写，如 2026-1-15。',
@@ -136,20 +112,16 @@ export const TEXTS = {
     'Write year, month and day, such as 2026-1-15.',
   ],
   noDay: [
-    '{year} 年 {month} 月没有 {day} 日。',
-    '{year} 年 {month} 月沒有 {day} 日。',
+    '{year}年{month}月没有{day}日。',
+    '{year}年{month}月沒有{day}日。',
     'Month {month} of {year} has no day {day}.',
   ],
-  notADate: ['没有这个日期。', '沒有這個日期。', 'There is no such date.'],
   belowZero: [
-    '票据上没有负数金额；“负”开头的金额用于红字发票。',
-    '票據上沒有負數金額；「負」開頭的金額用於紅字發票（中國大陸）。',
-    'Cheques have no negative amounts; the prefix 负 is for red invoices in mainland China.',
+    '票据上没有负数金额；“负”或“（负数）”开头的金额用于红字发票。',
+    '票據上沒有負數金額；「負」或「（負數）」開頭的金額用於紅字發票（中國大陸）。',
+    'Cheques have no negative amounts; the prefixes 负 and （负数） are for red invoices in mainland '
+      + 'China.',
   ],
-  tooManyYuan: ['元的位数最多 16 位。', '元的位數最多 16 位。', 'Yuan can have at most 16 digits.'],
-  tooLarge: ['数字太大。', '數字太大。', 'The number is too large.'],
-  tooSmall: ['数字太小。', '數字太小。', 'The number is too small.'],
-  notHeld: ['超出 {kind} 的范围。', '超出 {kind} 的範圍。', '{kind} does not hold this number.'],
   notWhole: [
     '所选写法只支持整数。',
     '所選寫法只支援整數。',
@@ -172,10 +144,6 @@ export const TEXTS = {
   doubt_part: ['（后面连着折、成、半）', '（後面連著折、成、半）', '(折, 成 or 半 follows)'],
   doubt_time: ['（像时刻）', '（像時刻）', '(a time)'],
   doubt_range: ['（范围的一端）', '（範圍的一端）', '(one end of a range)'],
-  valueEmpty: ['只有符号', '只有符號', 'only a sign'],
-  valueWrong: ['“{character}”不对', '「{character}」不對', '“{character}” is wrong'],
-  valueTooLarge: ['太大', '太大', 'too large'],
-  valueTooSmall: ['太小', '太小', 'too small'],
   more: ['另有 {count} 个未列出', '另有 {count} 個未列出', '{count} more are not listed'],
   long: [
     '文本较长：只看光标附近的 {count} 字，复制的是替换后的全文。',

@@ -217,15 +217,26 @@ fn signed_amount(rt: &(impl Print + AllocGlobal), fen: i64) -> io::Result<()> {
     show(rt, "signed_amount_to_chinese", outcome)
 }
 
-// The shortest amounts, the longest one and one between them, and those that are longest in a form
-// and below zero.
+// Writes an amount of a red invoice, in the longest form.
+fn invoice_amount(rt: &(impl Print + AllocGlobal), fen: i64) -> io::Result<()> {
+    let form = AmountForm {
+        bracketed_sign: true,
+        ..LONGEST
+    };
+    let outcome = chinese_number::signed_amount_to_chinese_as(rt.alloc(), Traditional, form, fen);
+    show(rt, "signed_amount_to_chinese_as", outcome)
+}
+
+// The shortest amounts, the longest one and one between them, and those that are longest in a form,
+// below zero, and after a sign in brackets.
 fn amounts(rt: &(impl Print + AllocGlobal)) -> io::Result<()> {
     amount(rt, Simple, 0)?;
     amount(rt, Simple, 5)?;
     amount(rt, Traditional, 140_950)?;
     amount(rt, Traditional, AMOUNT_LIMIT - 1)?;
     amount_as(rt, AMOUNT_LIMIT - 1)?;
-    signed_amount(rt, -999_999_999_999_999_999)
+    signed_amount(rt, -999_999_999_999_999_999)?;
+    invoice_amount(rt, -999_999_999_999_999_999)
 }
 
 // Writes a date, given its year, month and day.
@@ -281,6 +292,7 @@ fn refused(rt: &(impl Print + AllocGlobal)) -> io::Result<()> {
     amount(rt, Simple, AMOUNT_LIMIT)?;
     amount_as(rt, AMOUNT_LIMIT)?;
     signed_amount(rt, -1_000_000_000_000_000_000)?;
+    invoice_amount(rt, -1_000_000_000_000_000_000)?;
     date(rt, Simple, (2025, 2, 30))
 }
 

@@ -59,6 +59,7 @@ form_of prefixed = record {
   currency = prefixed;
   round_yuan = false;
   upright_closing = false;
+  bracketed_sign = false;
 }
 
 -- the reply with the capitals of an amount, given the answer to its figures

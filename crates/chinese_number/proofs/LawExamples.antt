@@ -56,6 +56,17 @@ small_units_read_alike-three : IsTrue
 unfolding chars encode_utf8 digit_of rank_of sign_of
 small_units_read_alike-three = refl
 
+reasons_are_the_first_broken_rules-first :
+    Judges TenThousand (marks_of (codes "百百角")) (Err (incorrect_at 0))
+unfolding digit_of rank_of
+reasons_are_the_first_broken_rules-first =
+    Judges-by_walk TenThousand (marks_of (codes "百百角")) _ refl
+
+-- 五 after 百 in 百五
+reasons_are_the_first_broken_rules-start : Completable (marks_of (codes "五"))
+unfolding digit_of rank_of
+reasons_are_the_first_broken_rules-start = (marks_of (codes "一百"), omega arith, refl)
+
 -- 三 before 個億 makes a numeral
 ends_can_be_completed : Completable (marks_of (codes "個億"))
 unfolding digit_of rank_of

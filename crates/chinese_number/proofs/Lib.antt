@@ -9,6 +9,8 @@ pub mod Places
 pub mod PlainDigits
 pub mod Quantities
 pub mod Reading
+pub mod ReasonPlaces
+pub mod Reasons
 pub mod Refusals
 pub mod Signs
 pub mod WhiteSpace

@@ -67,12 +67,12 @@ IsJudged-number method (mark ∷ rest) number h =
       by false false e h = absurd (body_no_number method (body marks) number h)
 
 -- what a text that is refused at a place is like
-pub refused_at : (method : ChineseCountMethod) (marks : List Mark) (place : ℕ)
+pub refused_part : (method : ChineseCountMethod) (marks : List Mark) (place : ℕ)
     → Judges method marks (Err (incorrect_at place))
-    → ¬ IsNumeral marks × (IsPlace (body marks) place
+    → ¬ IsNumeral marks × (((is_numeral (body marks) ≡ false) × IsPlace (body marks) place)
     ⊎ (IsNumeral (body marks) × (place + 1 ≡ length marks)))
-refused_at method [] place h = cc
-refused_at method (mark ∷ rest) place h =
+refused_part method [] place h = cc
+refused_part method (mark ∷ rest) place h =
     by (is_numeral marks) (is_numeral (body marks)) refl refl h where
       marks : List Mark
       marks = mark ∷ rest
@@ -105,11 +105,24 @@ refused_at method (mark ∷ rest) place h =
           → MatchBool b (Err (incorrect_at place) ≡ numeral_answer method marks)
           (MatchBool c (Err (incorrect_at place) ≡ last_mark_answer method marks)
           (RefusesBody method (body marks) (Err (incorrect_at place))))
-          → ¬ IsNumeral marks × (IsPlace (body marks) place
+          → ¬ IsNumeral marks × (((is_numeral (body marks) ≡ false) × IsPlace (body marks) place)
           ⊎ (IsNumeral (body marks) × (place + 1 ≡ length marks)))
       by true c e f h = absurd (numeral h)
       by false true e f h = (λ n. true≢false (sym n ∙ e), inr (f, last h))
-      by false false e f h = (λ n. true≢false (sym n ∙ e), inl (inside h))
+      by false false e f h = (λ n. true≢false (sym n ∙ e), inl (f, inside h))
+
+pub refused_at : (method : ChineseCountMethod) (marks : List Mark) (place : ℕ)
+    → Judges method marks (Err (incorrect_at place))
+    → ¬ IsNumeral marks × (IsPlace (body marks) place
+    ⊎ (IsNumeral (body marks) × (place + 1 ≡ length marks)))
+refused_at method marks place h =
+    let refused = refused_part method marks place h in (
+      refused.0,
+      elim refused.1 [
+        | inl at ↦ inl at.1
+        | inr at ↦ inr at
+      ],
+    )
 
 -- exactly numerals whose scales and signed value fit are answered by that value
 pub Reads-number : (kind : Kind) (method : ChineseCountMethod) (bytes : List ℕ) (number : ℤ)

@@ -6,6 +6,7 @@ pub use Rattle.cn_amount.specs.Answer as AmountAnswer
 pub use Rattle.cn_amount.specs.ErrorText as AmountErrorText
 pub use Rattle.cn_amount.specs.Form as AmountForm
 pub use Rattle.cn_amount.specs.Fronts as AmountFronts
+pub use Rattle.cn_amount.specs.Invoice as AmountInvoice
 pub use Rattle.cn_amount.specs.Places as AmountPlaces
 pub use Rattle.cn_amount.specs.Reading as AmountReading
 pub use Rattle.cn_amount.specs.Signed as AmountSigned
@@ -49,6 +50,7 @@ pub use Rattle.cn_find.specs.Plain
 pub use Rattle.cn_find.specs.Rule
 pub use Rattle.cn_find.specs.Runs
 pub use Rattle.cn_find.specs.Spans
+pub use Rattle.cn_judge.specs.Reason
 pub use Rattle.cn_print.specs.ErrorText as PrintErrorText
 pub use Rattle.cn_print.specs.Prints
 pub use Rattle.cn_print.specs.Writes
@@ -60,6 +62,7 @@ pub use Rattle.cn_quantity.specs.Figures as QuantityFigures
 pub use Rattle.cn_quantity.specs.Number as QuantityNumber
 pub use Rattle.cn_quantity.specs.Ratio as QuantityRatio
 pub use Rattle.cn_quantity.specs.Reading as QuantityReading
+pub use Rattle.cn_quantity.specs.Reason as QuantityReason
 pub use Rattle.cn_quantity.specs.Trimmed as QuantityTrimmed
 pub use Rattle.cn_quantity.specs.Units as QuantityUnits
 pub use Rattle.cn_quantity.specs.Whole as QuantityWhole

@@ -19,11 +19,12 @@ mod scripts;
 pub mod signed_amounts;
 mod signs;
 pub mod typed_amounts;
+pub mod typed_signed_amounts;
 mod white_space;
 
 pub use answers::{
-    each_string_has_one_answer, each_text_has_one_judgement, judgements_can_be_computed,
-    numerals_alone_are_read,
+    each_refusal_has_one_reason, each_string_has_one_answer, each_text_has_one_judgement,
+    judgements_can_be_computed, numerals_alone_are_read,
 };
 pub use cn_find::laws::{
     expressions_are_the_runs, expressions_come_in_order, expressions_of_numerals_are_numbers,
@@ -47,7 +48,8 @@ pub use methods::{
 };
 pub use places::{
     characters_complete_texts, each_list_has_one_place, ends_can_be_completed,
-    nothing_is_wrong_after_a_place, refusals_name_the_last_place, zero_in_front_decides,
+    nothing_is_wrong_after_a_place, reasons_are_the_first_broken_rules,
+    refusals_name_the_last_place, zero_in_front_decides,
 };
 pub use plain_digits::{
     digits_alone_are_read, leading_zeros_change_nothing, naive_texts_read_back,

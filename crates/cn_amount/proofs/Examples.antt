@@ -1,17 +1,26 @@
 -- Worked examples: the values that the definitions compute. The marked ones are from the rules of
 -- the banks.
-use Rattle.std.proofs.Common.{◌≡◌, ◌-◌, ◌^◌, pos, negsuc, Bool, true, false, ◌∷◌, map, Some, refl, codes}
+use Rattle.std.proofs.Common.{◌≡◌, ℕ, ◌-◌, ◌^◌, pos, negsuc, ℤ, Bool, true, false, List, ◌∷◌, map, Some, None, length, encode_utf8_all, refl, sym, ◌∙◌, codes}
+use Rattle.std.specs.Char.{encode_utf8}
+use Rattle.std.specs.List.{Contains}
+use Rattle.cn_capitals.specs.Machine as machine
+use Rattle.cn_capitals.specs.Repairs.{repaired, past}
+use Rattle.cn_capitals.specs.declared.hint.Repair.TheVariants.{Insert, Replace, Delete}
 use Rattle.cn_core.specs.declared.script.ChineseVariant.TheVariants.{Traditional, Simple}
 use Rattle.cn_core.specs.Characters.{digit_char, minus_char, unit_char}
 use Rattle.cn_core.specs.Whole.{signed_number}
 use Rattle.cn_amount.specs.declared.form.AmountForm.{AmountForm}
 use Rattle.cn_amount.specs.Form.{Choices, amount_form}
 use Rattle.cn_amount.specs.Fronts.{begins_with, without_front}
+use Rattle.cn_amount.specs.Invoice.{invoice_amount_text}
 use Rattle.cn_amount.specs.Places.{places_of}
 use Rattle.cn_amount.specs.Reading.{capital_of, capitals_of}
 use Rattle.cn_amount.specs.Signed.{minus_signs, signed_amount_text}
-use Rattle.cn_amount.specs.Typed.{regular}
+use Rattle.cn_amount.specs.Typed.{below_signs, currencies, orders, visible, IsTypedSignedAmount}
+use Rattle.cn_amount.specs.Working.Typing.{typed_signed_machine}
 use Rattle.cn_amount.specs.Writes.{amount_text, plain}
+use Rattle.cn_amount.proofs.Prefixes.{has, has-contains}
+use Rattle.cn_amount.proofs.TypedReads.{typed-signed-reads}
 
 -- from the rules, without 整
 jiao_alone : amount_text Simple plain 140950 ≡ codes "壹仟肆佰零玖元伍角整"
@@ -105,6 +114,7 @@ asking currency round upright = record {
   currency = currency;
   round_yuan = round;
   upright_closing = upright;
+  bracketed_sign = false;
 }
 
 currency_asked_for : amount_text Simple (asking true false false) 1500 ≡ codes "人民币壹拾伍元整"
@@ -185,6 +195,35 @@ zero_has_no_sign : signed_amount_text Simple plain (pos 0) ≡ codes "零元整"
 unfolding digit_char unit_char minus_char
 zero_has_no_sign = refl
 
+-- with the sign of the form
+abbrev bracketing : Bool → AmountForm
+bracketing currency = record (asking currency false false) { bracketed_sign = true }
+
+bracketed_sign_asked_for : invoice_amount_text Simple (bracketing false) (negsuc 1499)
+    ≡ codes "（负数）壹拾伍元整"
+unfolding digit_char unit_char minus_char
+bracketed_sign_asked_for = refl
+
+sign_before_人民币 : invoice_amount_text Traditional (bracketing true) (negsuc 1499)
+    ≡ codes "（負數）人民幣壹拾伍元整"
+unfolding digit_char unit_char minus_char
+sign_before_人民币 = refl
+
+no_bracket_asked_for : invoice_amount_text Simple (asking true false false) (negsuc 1499)
+    ≡ codes "负人民币壹拾伍元整"
+unfolding digit_char unit_char minus_char
+no_bracket_asked_for = refl
+
+no_sign_above_zero : invoice_amount_text Simple (bracketing false) (pos 1500) ≡ codes "壹拾伍元整"
+unfolding digit_char unit_char minus_char
+no_sign_above_zero = refl
+
+-- 129 bytes
+longest : length (encode_utf8_all (invoice_amount_text Simple (bracketing true) (negsuc (10 ^ 18 - 2))))
+    ≡ 129
+unfolding digit_char unit_char minus_char encode_utf8
+longest = refl
+
 -- the text after the sign is an amount
 behind_the_sign : without_front minus_signs (codes "負壹拾伍元整") ≡ codes "壹拾伍元整"
 behind_the_sign = refl
@@ -196,27 +235,91 @@ minus_zero : signed_number (begins_with minus_signs (codes "负零元整")) 0 �
 minus_zero = refl
 
 -- typed texts
-white_space_left_out : regular (codes "人民币 壹拾 伍元 整") ≡ codes "人民币壹拾伍元整"
+white_space_left_out : visible (codes "人民币 壹拾 伍元 整") ≡ codes "人民币壹拾伍元整"
 white_space_left_out = refl
 
-wide_space_left_out : regular (0x3000 ∷ codes "壹元整") ≡ codes "壹元整"
+wide_space_left_out : visible (0x3000 ∷ codes "壹元整") ≡ codes "壹元整"
 wide_space_left_out = refl
 
-circle_left_out : regular (codes "⊗壹拾伍元整") ≡ codes "壹拾伍元整"
-circle_left_out = refl
+-- the texts of one part
+some_of_人民币 : Contains currencies (codes "人民幣(大寫)：")
+some_of_人民币 = has-contains currencies (codes "人民幣(大寫)：") refl
 
-colon_left_out : regular (codes " ⊗ 人民幣 ：壹拾伍元整") ≡ codes "人民幣壹拾伍元整"
-colon_left_out = refl
+no_name_no_colon : has currencies (codes "：") ≡ false
+no_name_no_colon = refl
 
--- nothing else is left out
-second_circle_stays : regular (codes "⊗⊗壹元整") ≡ codes "⊗壹元整"
-second_circle_stays = refl
+no_note_behind_the_colon : has currencies (codes "人民币：（大写）") ≡ false
+no_note_behind_the_colon = refl
 
-circle_inside_stays : regular (codes "人民币⊗壹元整") ≡ codes "人民币⊗壹元整"
-circle_inside_stays = refl
+one_script : has below_signs (codes "（负數）") ≡ false
+one_script = refl
 
-second_colon_stays : regular (codes "人民币::壹元整") ≡ codes "人民币:壹元整"
-second_colon_stays = refl
+one_width : has below_signs (codes "（负数)") ≡ false
+one_width = refl
 
-colon_elsewhere_stays : regular (codes "壹拾:伍元整") ≡ codes "壹拾:伍元整"
-colon_elsewhere_stays = refl
+-- the orders
+circle_first : has (orders (codes "ⓧ") (codes "负") (codes "人民币")) (codes "ⓧ负人民币") ≡ true
+circle_first = refl
+
+sign_first : has (orders (codes "ⓧ") (codes "负") (codes "人民币")) (codes "负ⓧ人民币") ≡ true
+sign_first = refl
+
+sign_last : has (orders (codes "ⓧ") (codes "负") (codes "人民币")) (codes "ⓧ人民币负") ≡ true
+sign_last = refl
+
+no_circle_behind_人民币 : has (orders (codes "ⓧ") (codes "负") (codes "人民币"))
+    (codes "负人民币ⓧ") ≡ false
+no_circle_behind_人民币 = refl
+
+-- what the states refuse is no amount
+abbrev Refuses : List ℕ → Type 0
+Refuses text =
+    machine.run typed_signed_machine.step typed_signed_machine.begin text ≡ None
+
+refused : (text : List ℕ) → Refuses text → (fen : ℤ) → ¬ IsTypedSignedAmount text fen
+refused text none fen h =
+    let read = typed-signed-reads.each text fen h in
+    let wrong : None ≡ Some read.0 = sym none ∙ read.1 in absurd (cc)
+
+second_circle : (fen : ℤ) → ¬ IsTypedSignedAmount (codes "⊗ ⓧ壹元整") fen
+unfolding capital_of
+second_circle = refused (codes "⊗ ⓧ壹元整") refl
+
+second_sign : (fen : ℤ) → ¬ IsTypedSignedAmount (codes "（负数）人民币负壹元整") fen
+unfolding capital_of
+second_sign = refused (codes "（负数）人民币负壹元整") refl
+
+second_currency : (fen : ℤ) → ¬ IsTypedSignedAmount (codes "人民币负人民币壹元整") fen
+unfolding capital_of
+second_currency = refused (codes "人民币负人民币壹元整") refl
+
+circle_inside : (fen : ℤ) → ¬ IsTypedSignedAmount (codes "人民币⊗壹元整") fen
+unfolding capital_of
+circle_inside = refused (codes "人民币⊗壹元整") refl
+
+colon_inside : (fen : ℤ) → ¬ IsTypedSignedAmount (codes "壹拾:伍元整") fen
+unfolding capital_of
+colon_inside = refused (codes "壹拾:伍元整") refl
+
+-- texts after one change
+ling_inserted : repaired (record { char_index = 2; repair = Insert 0x96F6 }) (codes "壹佰贰元整")
+    ≡ codes "壹佰零贰元整"
+ling_inserted = refl
+
+yuan_replaced : repaired (record { char_index = 2; repair = Replace 0x5143 }) (codes "伍佰块整")
+    ≡ codes "伍佰元整"
+yuan_replaced = refl
+
+ling_deleted : repaired (record { char_index = 2; repair = Delete }) (codes "捌佰零伍拾元整")
+    ≡ codes "捌佰伍拾元整"
+ling_deleted = refl
+
+-- how much of them must begin an amount: 壹佰零贰元, 伍佰元, 捌佰伍拾
+past_inserted : past 3 (record { char_index = 2; repair = Insert 0x96F6 }) ≡ 5
+past_inserted = refl
+
+past_replaced : past 2 (record { char_index = 2; repair = Replace 0x5143 }) ≡ 3
+past_replaced = refl
+
+past_deleted : past 4 (record { char_index = 2; repair = Delete }) ≡ 4
+past_deleted = refl

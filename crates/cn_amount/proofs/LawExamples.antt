@@ -1,11 +1,12 @@
 -- For each law with premises, values that meet all of them.
-use Rattle.std.proofs.Common.{◌≡◌, ℕ, ◌-◌, ◌^◌, ◌<◌, negsuc, nat_abs, true, false, List, ◌++◌, map, Some, codes, refl, arith}
+use Rattle.std.proofs.Common.{◌≡◌, ℕ, ◌-◌, ◌^◌, ◌<◌, negsuc, nat_abs, Bool, true, false, List, [], ◌++◌, map, Some, codes, refl, arith}
 use Rattle.cn_amount.specs.Form.{Choices, written, amount_form}
 use Rattle.cn_amount.specs.Places.{amount_limit, places_of}
 use Rattle.cn_amount.specs.Reading.{capital_of, capitals_of, IsAmount}
 use Rattle.cn_amount.specs.Signed.{IsSignedAmount}
-use Rattle.cn_amount.specs.Typed.{IsTypedAmount}
+use Rattle.cn_amount.specs.Typed.{circles, signs, currencies, orders, IsPrefixed, IsTypedAmount, IsTypedSignedAmount}
 use Rattle.cn_amount.proofs.FormsShown.{amount-of, places-of}
+use Rattle.cn_amount.proofs.Prefixes.{has, has-contains}
 
 -- a form of an amount, by its choices
 form-of : (text : List ℕ) (choices : Choices) (fen : ℕ) → fen < amount_limit
@@ -28,6 +29,18 @@ without_these = record {
   behind_wan = false;
   behind_yuan = false;
   behind_jiao = false;
+}
+
+-- 人民币, and no 零 after 万
+abbrev with_these : Choices
+with_these = record {
+  currency = true;
+  no_yuan = false;
+  behind_wan_yi = true;
+  behind_yi = true;
+  behind_wan = false;
+  behind_yuan = false;
+  behind_jiao = true;
 }
 
 abbrev with_currency : Choices
@@ -113,16 +126,111 @@ signed-forms_are_short =
 typed-written_amounts_are_amounts : 1500 < amount_limit
 typed-written_amounts_are_amounts = omega arith
 
+-- what remains after the prefix, with 人民币 before it
+bare_yuan : (choices : Choices)
+    → capitals_of (codes "人民币壹元整") ≡ map Some (amount_form choices (places_of 100))
+    → IsAmount (codes "人民币壹元整") 100
+bare_yuan choices form = form-of (codes "人民币壹元整") choices 100 (omega arith) form
+
+bare_fifteen : IsAmount (codes "人民币壹拾伍元整") 1500
+unfolding capital_of
+bare_fifteen = form-of (codes "人民币壹拾伍元整") with_currency 1500 (omega arith) refl
+
+-- a prefix, given by its parts, and an amount
+prefixed : (below : Bool) (circle sign currency prefix amount : List ℕ) (fen : ℕ)
+    → has circles circle ≡ true → has (signs below) sign ≡ true
+    → has currencies currency ≡ true → has (orders circle sign currency) prefix ≡ true
+    → IsAmount (codes "人民币" ++ amount) fen → IsPrefixed (prefix ++ amount) below fen
+prefixed below circle sign currency prefix amount fen c s r order form = record {
+  circle = circle;
+  sign = sign;
+  currency = currency;
+  prefix = prefix;
+  amount = amount;
+  is_circle = has-contains circles circle c;
+  is_sign = has-contains (signs below) sign s;
+  is_currency = has-contains currencies currency r;
+  order = has-contains (orders circle sign currency) prefix order;
+  parts = refl;
+  form = form;
+}
+
+-- after a circle
+circled_yuan : (choices : Choices)
+    → capitals_of (codes "人民币壹元整") ≡ map Some (amount_form choices (places_of 100))
+    → IsTypedAmount (codes "⊗ 壹元整") 100
+circled_yuan choices form = prefixed false (codes "⊗") [] [] (codes "⊗") (codes "壹元整") 100 refl
+    refl refl refl (bare_yuan choices form)
+
 typed-each_text_is_one_amount : IsTypedAmount (codes "⊗ 壹元整") 100
     × IsTypedAmount (codes "⊗ 壹元整") 100
-typed-each_text_is_one_amount = each_text_is_one_amount
+unfolding capital_of
+typed-each_text_is_one_amount = (circled_yuan with_currency refl, circled_yuan with_these refl)
 
 typed-beginnings_are_begun : IsTypedAmount (codes "⊗ 壹拾 " ++ codes "伍元 整") 1500
-typed-beginnings_are_begun = fifteen
+typed-beginnings_are_begun = prefixed false (codes "⊗") [] [] (codes "⊗") (codes "壹拾伍元整") 1500
+    refl refl refl refl bare_fifteen
 
 typed-amounts_stay_amounts : IsAmount (codes "壹拾伍元整") 1500
 typed-amounts_stay_amounts = fifteen
 
 typed-amounts_are_below_the_limit : IsTypedAmount
     (codes "玖仟玖佰玖拾玖万 玖仟玖佰玖拾玖亿 玖仟玖佰玖拾玖万 玖仟玖佰玖拾玖元 玖角 玖分") (10 ^ 18 - 1)
-typed-amounts_are_below_the_limit = greatest
+typed-amounts_are_below_the_limit = prefixed false [] [] [] []
+    (codes "玖仟玖佰玖拾玖万玖仟玖佰玖拾玖亿玖仟玖佰玖拾玖万玖仟玖佰玖拾玖元玖角玖分") (10 ^ 18 - 1)
+    refl refl refl refl forms_are_short
+
+typed_signed-written_amounts_are_amounts : nat_abs (negsuc 1499) < amount_limit
+typed_signed-written_amounts_are_amounts = omega arith
+
+typed_signed-amounts_with_each_sign_are_amounts : nat_abs (negsuc 1499) < amount_limit
+typed_signed-amounts_with_each_sign_are_amounts = omega arith
+
+-- after a sign, 人民币 and its note
+signed_yuan : (choices : Choices)
+    → capitals_of (codes "人民币壹元整") ≡ map Some (amount_form choices (places_of 100))
+    → IsTypedSignedAmount (codes "（负数）人民币（大写）：壹元整") (negsuc 99)
+signed_yuan choices form = record {
+  below = true;
+  magnitude = 100;
+  form = prefixed true [] (codes "（负数）") (codes "人民币（大写）：")
+      (codes "（负数）人民币（大写）：") (codes "壹元整") 100 refl refl refl refl
+      (bare_yuan choices form);
+  value = refl;
+}
+
+typed_signed-each_text_is_one_amount : IsTypedSignedAmount
+    (codes "（负数）人民币（大写）：壹元整") (negsuc 99)
+    × IsTypedSignedAmount (codes "（负数）人民币（大写）：壹元整") (negsuc 99)
+unfolding capital_of
+typed_signed-each_text_is_one_amount =
+    (signed_yuan with_currency refl, signed_yuan with_these refl)
+
+typed_signed-beginnings_are_begun : IsTypedSignedAmount
+    (codes "⊗ (負數" ++ codes ")壹拾伍元整") (negsuc 1499)
+typed_signed-beginnings_are_begun = record {
+  below = true;
+  magnitude = 1500;
+  form = prefixed true (codes "⊗") (codes "(負數)") [] (codes "⊗(負數)") (codes "壹拾伍元整") 1500
+      refl refl refl refl bare_fifteen;
+  value = refl;
+}
+
+typed_signed-typed_amounts_stay_amounts : IsTypedAmount
+    (codes "⊗ 壹拾 " ++ codes "伍元 整") 1500
+typed_signed-typed_amounts_stay_amounts = typed-beginnings_are_begun
+
+typed_signed-signed_amounts_stay_amounts : IsSignedAmount (codes "负壹拾伍元整") (negsuc 1499)
+typed_signed-signed_amounts_stay_amounts =
+    record { magnitude = 1500; form = fifteen; value = refl }
+
+typed_signed-amounts_are_below_the_limit : IsTypedSignedAmount
+    (codes "负玖仟玖佰玖拾玖万玖仟玖佰玖拾玖亿玖仟玖佰玖拾玖万玖仟玖佰玖拾玖元玖角玖分") (negsuc (10 ^ 18 - 2))
+typed_signed-amounts_are_below_the_limit = record {
+  below = true;
+  magnitude = 10 ^ 18 - 1;
+  form = prefixed true [] (codes "负") [] (codes "负")
+      (codes "玖仟玖佰玖拾玖万玖仟玖佰玖拾玖亿玖仟玖佰玖拾玖万玖仟玖佰玖拾玖元玖角玖分") (10 ^ 18 - 1)
+      refl refl refl refl forms_are_short;
+  value = refl;
+}

@@ -1,12 +1,16 @@
 pub mod Accepted
 pub mod AmountCharacters
 pub mod CapitalTable
+pub mod CharactersListed
 pub mod Examples
 pub mod FormsRead
 pub mod FormsShown
+pub mod InvoiceShown
 mod LawExamples
 pub mod Lengths
 pub mod Points
+pub mod PrefixRuns
+pub mod Prefixes
 pub mod ReadText
 pub mod Runs
 pub mod Shows
@@ -14,4 +18,6 @@ pub mod SignedReads
 pub mod SignedShown
 pub mod States
 pub mod TypedReads
+pub mod TypedRuns
+pub mod TypedShown
 pub mod Values

@@ -8,7 +8,7 @@ use Rattle.std.proofs.lemmas.Grind.{flat_map-append}
 use Rattle.cn_amount.specs.declared.before.Before.{Before}
 use Rattle.cn_amount.specs.declared.before.Before.TheVariants.{Nothing, Gap, Filled}
 use Rattle.cn_amount.specs.declared.capital.Capital.{Capital}
-use Rattle.cn_amount.specs.declared.capital.Capital.TheVariants.{Ling, Digit, Shi, Bai, Qian, Wan, Yi, Yuan, Jiao, Fen, Zheng, Ren, Min, Bi, Fu}
+use Rattle.cn_amount.specs.declared.capital.Capital.TheVariants.{Ling, Digit, Shi, Bai, Qian, Wan, Yi, Yuan, Jiao, Fen, Zheng, Ren, Min, Bi, Fu, Open, Shu, Close}
 use Rattle.cn_amount.specs.Form.{is_written, after_digit}
 
 -- the parts of a form: four sections, and the jiao with the fen
@@ -131,6 +131,9 @@ code Ren = (11, 0)
 code Min = (12, 0)
 code Bi = (13, 0)
 code Fu = (14, 0)
+code Open = (15, 0)
+code Shu = (16, 0)
+code Close = (17, 0)
 
 abbrev pub fits : Option Capital → Capital → Bool
 fits None (Digit value) = true
@@ -206,7 +209,7 @@ fits-self c = refl
 
 abbrev coded : ℕ × ℕ → Capital
 coded place = get_or (Ling ∷ Digit place.1 ∷ Shi ∷ Bai ∷ Qian ∷ Wan ∷ Yi ∷ Yuan ∷ Jiao ∷ Fen
-    ∷ Zheng ∷ Ren ∷ Min ∷ Bi ∷ Fu ∷ []) place.0 Ling
+    ∷ Zheng ∷ Ren ∷ Min ∷ Bi ∷ Fu ∷ Open ∷ Shu ∷ Close ∷ []) place.0 Ling
 
 coded-code : (c : Capital) → coded (code c) ≡ c
 coded-code Ling = refl

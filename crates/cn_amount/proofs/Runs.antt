@@ -2,7 +2,7 @@
 use Rattle.std.proofs.Common.{◌≡◌, ◌+◌, ◌<◌, ◌≤◌, Bool, true, false, List, [], ◌∷◌, ◌++◌, Option, Some, None, refl, sym, ap, ◌∙◌, arith}
 use Rattle.std.specs.List.{list_all}
 use Rattle.cn_amount.specs.declared.capital.Capital.{Capital}
-use Rattle.cn_amount.specs.declared.capital.Capital.TheVariants.{Ling, Digit, Shi, Bai, Qian, Wan, Yi, Yuan, Jiao, Fen, Zheng, Ren, Min, Bi, Fu}
+use Rattle.cn_amount.specs.declared.capital.Capital.TheVariants.{Ling, Digit, Shi, Bai, Qian, Wan, Yi, Yuan, Jiao, Fen, Zheng, Ren, Min, Bi, Fu, Open, Shu, Close}
 use Rattle.cn_amount.specs.declared.places.Section.{Section}
 use Rattle.cn_amount.specs.declared.places.Places.{Places}
 use Rattle.cn_amount.specs.declared.state.State.{State}
@@ -66,6 +66,9 @@ more-summed sum Ren = omega arith
 more-summed sum Min = omega arith
 more-summed sum Bi = omega arith
 more-summed sum Fu = omega arith
+more-summed sum Open = omega arith
+more-summed sum Shu = omega arith
+more-summed sum Close = omega arith
 
 all-summed : (sum : Sum) (t : List Capital) → summed sum ≤ summed (sum_of sum t)
 all-summed sum [] = omega arith

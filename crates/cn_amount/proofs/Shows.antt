@@ -11,7 +11,7 @@ use Rattle.cn_core.proofs.Fronts.{and-right}
 use Rattle.cn_capitals.proofs.Characters.{AllBelow, all-at, read-passes, IsWrittenBack}
 use Rattle.cn_capitals.proofs.Characters as every
 use Rattle.cn_amount.specs.declared.capital.Capital.{Capital}
-use Rattle.cn_amount.specs.declared.capital.Capital.TheVariants.{Digit, Yuan, Zheng, Fu}
+use Rattle.cn_amount.specs.declared.capital.Capital.TheVariants.{Digit, Yuan, Zheng, Fu, Open, Shu, Close}
 use Rattle.cn_amount.specs.declared.form.AmountForm.{AmountForm}
 use Rattle.cn_amount.specs.Reading.{capital_rows, capital_of, capitals_of}
 use Rattle.cn_amount.specs.Writes.{capital_char}
@@ -46,6 +46,9 @@ words-back : (variant : ChineseVariant) (form : AmountForm) (capital : Capital)
 unfolding capital_of digit_char unit_char encode_utf8
 words-back variant form (Digit value) h digit = digit value refl
 words-back variant form Fu h digit = absurd (cc)
+words-back variant form Open h digit = absurd (cc)
+words-back variant form Shu h digit = absurd (cc)
+words-back variant form Close h digit = absurd (cc)
 words-back variant form Yuan h digit = yuan-back variant form form.round_yuan refl
 words-back variant form Zheng h digit = closing-back variant form form.upright_closing refl
 words-back Simple form capital h digit = (refl, refl, refl)

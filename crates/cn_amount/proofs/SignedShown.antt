@@ -1,6 +1,6 @@
 -- What is written for an amount that may be below zero: its bytes, and that it is read as that
 -- amount.
-use Rattle.std.proofs.Common.{◌≡◌, ℕ, ◌*◌, ◌<◌, ◌≤◌, ℤ, pos, negsuc, int_lt, nat_abs, Bool, true, false, not, List, [], ◌∷◌, ◌++◌, map, length, Ok, encode_utf8_all, refl, sym, ap, subst, ◌∙◌, if◌then◌else◌, length-append, arith}
+use Rattle.std.proofs.Common.{◌≡◌, ℕ, ◌*◌, ◌<◌, ◌≤◌, ℤ, pos, negsuc, int_lt, nat_abs, zero, suc, Bool, true, false, not, List, [], ◌∷◌, ◌++◌, map, length, Ok, encode_utf8_all, refl, sym, ap, subst, ◌∙◌, if◌then◌else◌, length-append, arith}
 use Rattle.std.specs.Char.{char_set_contains, encode_utf8}
 use Rattle.std.specs.Str.{all_scalars}
 use Rattle.std.specs.declared.string.String.{String}
@@ -88,9 +88,14 @@ written-behind variant false text fen h = amount-signed text fen h
 not-below : (n : ℕ) → int_lt (pos n) (pos 0) ≡ false
 not-below n = grind (arith, ints)
 
-number-is : (fen : ℤ) → signed_number (int_lt fen (pos 0)) (nat_abs fen) ≡ fen
+pub number-is : (fen : ℤ) → signed_number (int_lt fen (pos 0)) (nat_abs fen) ≡ fen
 number-is (pos n) = rw (not-below n)
 number-is (negsuc n) = refl
+
+pub magnitude-is : (below : Bool) (magnitude : ℕ) → nat_abs (signed_number below magnitude) ≡ magnitude
+magnitude-is true zero = refl
+magnitude-is true (suc n) = refl
+magnitude-is false magnitude = refl
 
 scalars-behind : (variant : ChineseVariant) (below : Bool) (text : List ℕ)
     → all_scalars text ≡ true → all_scalars (behind_sign variant below text) ≡ true
@@ -127,6 +132,12 @@ few-behind variant true text h =
     let sum = length-append (encode_utf8 (minus_char variant)) (encode_utf8_all text) in
     omega (arith, sign-three variant, h, sum)
 few-behind variant false text h = omega (arith, h)
+
+pub few-signed : (variant : ChineseVariant) (form : AmountForm) (fen : ℤ)
+    → length (encode_utf8_all (signed_amount_text variant form fen)) ≤ 120
+few-signed variant form fen =
+    few-behind variant (int_lt fen (pos 0)) (amount_text variant form (nat_abs fen))
+    (few-bytes variant form (nat_abs fen))
 
 form-behind : (variant : ChineseVariant) (form : AmountForm) (below : Bool)
     (capitals : List Capital)

@@ -4,7 +4,7 @@ use Rattle.std.specs.List.{flat_map, list_all}
 use Rattle.cn_amount.specs.declared.before.Before.{Before}
 use Rattle.cn_amount.specs.declared.before.Before.TheVariants.{Nothing, Gap, Filled}
 use Rattle.cn_amount.specs.declared.capital.Capital.{Capital}
-use Rattle.cn_amount.specs.declared.capital.Capital.TheVariants.{Ling, Digit, Shi, Bai, Qian, Wan, Yuan, Jiao, Fen, Zheng, Ren, Min, Bi, Fu}
+use Rattle.cn_amount.specs.declared.capital.Capital.TheVariants.{Ling, Digit, Shi, Bai, Qian, Wan, Yuan, Jiao, Fen, Zheng, Ren, Min, Bi, Fu, Open, Shu, Close}
 use Rattle.cn_amount.specs.declared.state.Place.{Place}
 use Rattle.cn_amount.specs.declared.state.Place.TheVariants.{Ones, Tens, Hundreds, Thousands}
 use Rattle.cn_amount.specs.declared.state.Stage.{Stage}
@@ -105,6 +105,9 @@ open_at (Some state) = flat_map opened (stands state)
 abbrev pub is_proper : Capital → Bool
 is_proper (Digit value) = nat_lt 0 value && nat_lt value 10
 is_proper Fu = false
+is_proper Open = false
+is_proper Shu = false
+is_proper Close = false
 is_proper capital = true
 
 -- texts that complete one, found by trying them

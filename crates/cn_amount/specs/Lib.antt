@@ -2,6 +2,7 @@ pub mod Answer
 pub mod ErrorText
 pub mod Form
 pub mod Fronts
+pub mod Invoice
 pub mod Places
 pub mod Reading
 pub mod Signed

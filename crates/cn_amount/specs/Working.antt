@@ -1,4 +1,5 @@
 pub mod Putting
+pub mod Signing
 pub mod Signs
 pub mod Steps
 pub mod Typing

@@ -6,7 +6,7 @@ use Rattle.cn_core.specs.declared.case.ChineseCase.TheVariants.{Upper}
 use Rattle.cn_core.specs.declared.script.ChineseVariant.{ChineseVariant}
 use Rattle.cn_core.specs.declared.script.ChineseVariant.TheVariants.{Traditional, Simple}
 use Rattle.cn_amount.specs.declared.capital.Capital.{Capital}
-use Rattle.cn_amount.specs.declared.capital.Capital.TheVariants.{Ling, Digit, Shi, Bai, Qian, Wan, Yi, Yuan, Jiao, Fen, Zheng, Ren, Min, Bi, Fu}
+use Rattle.cn_amount.specs.declared.capital.Capital.TheVariants.{Ling, Digit, Shi, Bai, Qian, Wan, Yi, Yuan, Jiao, Fen, Zheng, Ren, Min, Bi, Fu, Open, Shu, Close}
 use Rattle.cn_amount.specs.declared.error.AmountToChineseError.{AmountToChineseError}
 use Rattle.cn_amount.specs.declared.error.AmountToChineseError.TheVariants.{Overflow, OutOfMemory}
 use Rattle.cn_amount.specs.declared.form.AmountForm.{AmountForm}
@@ -34,6 +34,11 @@ abbrev pub currency_char : ChineseVariant → ℕ
 currency_char Simple = char_of (codes "币")
 currency_char Traditional = char_of (codes "幣")
 
+-- 数 (數)
+abbrev pub number_char : ChineseVariant → ℕ
+number_char Simple = char_of (codes "数")
+number_char Traditional = char_of (codes "數")
+
 -- the character that writes a capital in a form
 abbrev pub capital_char : ChineseVariant → AmountForm → Capital → ℕ
 capital_char variant form Ling = digit_char variant Upper 0
@@ -51,6 +56,9 @@ capital_char variant form Ren = char_of (codes "人")
 capital_char variant form Min = char_of (codes "民")
 capital_char variant form Bi = currency_char variant
 capital_char variant form Fu = minus_char variant
+capital_char variant form Open = char_of (codes "（")
+capital_char variant form Shu = number_char variant
+capital_char variant form Close = char_of (codes "）")
 
 -- the character that a hand writes a capital with
 abbrev pub char_by : Hand → Capital → ℕ
@@ -83,7 +91,12 @@ WritesAmountAs variant form amount result =
 
 -- the plain form, which makes none of the choices
 abbrev pub plain : AmountForm
-plain = record { currency = false; round_yuan = false; upright_closing = false }
+plain = record {
+  currency = false;
+  round_yuan = false;
+  upright_closing = false;
+  bracketed_sign = false;
+}
 
 -- the text of an amount in the plain form, or a refusal
 abbrev pub WritesAmount : {Z : Type 0} → ChineseVariant → ℕ

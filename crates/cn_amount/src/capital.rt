@@ -1,7 +1,7 @@
 // The characters of an amount.
 ghost use Rattle.std.specs.Prelude.{◌≡◌, ◌*◌, ◌/◌, ◌%◌, slice_index_or};
 ghost use Rattle.cn_amount.specs.Working.Putting.{IsWritten};
-ghost use Rattle.cn_amount.specs.Writes.{char_by, yuan_char, closing_char, currency_char};
+ghost use Rattle.cn_amount.specs.Writes.{char_by, yuan_char, closing_char, currency_char, number_char};
 ghost use Rattle.cn_amount.specs.Reading.{capital_of};
 
 use crate::form::Hand;
@@ -41,6 +41,12 @@ pub enum Capital {
     Bi,
     /// 負, which is only before an amount below zero.
     Fu,
+    /// （, which is only before 负数.
+    Open,
+    /// 數, which is only after 負.
+    Shu,
+    /// ）, which is only after 负数.
+    Close,
 }
 
 // 元, or 圆 if the form has it.
@@ -71,6 +77,16 @@ fn currency_char(variant: ChineseVariant) -> char
     }
 }
 
+// 数, or 數 in the traditional script.
+fn number_char(variant: ChineseVariant) -> char
+    ensures { result ≡ number_char variant }
+{
+    match variant {
+        ChineseVariant::Simple => '数',
+        ChineseVariant::Traditional => '數',
+    }
+}
+
 impl Written<Hand> for Capital {
     ghost can_write = { IsWritten };
 
@@ -94,6 +110,9 @@ impl Written<Hand> for Capital {
             Capital::Min => '民',
             Capital::Bi => currency_char(variant),
             Capital::Fu => minus_char(variant),
+            Capital::Open => '（',
+            Capital::Shu => number_char(variant),
+            Capital::Close => '）',
         }
     }
 }

@@ -8,6 +8,7 @@ ghost use Rattle.cn_amount.specs.Writes.{amount_text};
 
 pub mod signed;
 pub mod typed;
+pub mod typed_signed;
 
 /// What is written for an amount, in each form, is read as that amount, by the definition of
 /// reading.

@@ -13,20 +13,26 @@
 //! nothing else is (`proofs/Accepted`). The sum of the characters read is the amount
 //! (`proofs/Values`).
 //!
-//! An amount that may be below zero, and one as people type it, are read by the same states after a
-//! sieve that leaves out 負, or what a typed text may have besides (`proofs/SignedReads`,
-//! `proofs/TypedReads`).
+//! An amount that may be below zero is read by the same states after a sieve that leaves out 負
+//! (`proofs/SignedReads`). An amount as people type it is read by the states of its prefix
+//! (`proofs/Prefixes`, `proofs/PrefixRuns`) and then by the same states, from that after 人民币 on
+//! (`proofs/TypedRuns`), after a sieve that leaves out white space (`proofs/TypedReads`).
 #![tactic(auto)]
 
 mod before;
 mod capital;
 mod error;
+mod expect;
 mod form;
+mod invoice;
 pub mod laws;
+mod listed;
 mod places;
+mod prefix;
 mod progress;
 mod put;
 mod read;
+mod repair;
 mod signed;
 mod state;
 mod sum;
@@ -34,8 +40,17 @@ mod typed;
 mod write;
 
 pub use error::{AmountToChineseError, ChineseToAmountError};
+pub use expect::{
+    amount_expected, signed_amount_expected, typed_amount_expected, typed_signed_amount_expected,
+};
 pub use form::AmountForm;
+pub use invoice::{
+    chinese_to_signed_amount_as_typed, invoice_amount_text, signed_amount_to_chinese_as,
+};
 pub use read::{chinese_to_amount, chinese_to_amount_as_typed, chinese_to_signed_amount};
+pub use repair::{
+    amount_repair, signed_amount_repair, typed_amount_repair, typed_signed_amount_repair,
+};
 pub use write::{
     AMOUNT_LIMIT, amount_text, amount_to_chinese, amount_to_chinese_as, signed_amount_text,
     signed_amount_to_chinese,

@@ -1,6 +1,7 @@
 // The state of reading an amount, and the sum of what is read.
+ghost use Rattle.std.specs.Prelude.{◌≡◌};
 ghost use Rattle.cn_amount.specs.Reading.{IsAmount};
-ghost use Rattle.cn_amount.specs.Working.Steps.{amount_machine};
+ghost use Rattle.cn_amount.specs.Working.Steps.{bare_progress, amount_machine};
 
 use crate::capital::capital_of;
 use crate::state::State;
@@ -12,6 +13,18 @@ use cn_capitals::Grammar;
 pub struct Progress {
     state: State,
     sum: Sum,
+}
+
+impl Progress {
+    /// The state of reading an amount without 人民币, before any character is read.
+    pub fn bare() -> Progress
+        ensures { result ≡ bare_progress }
+    {
+        Progress {
+            state: State::AfterCurrency,
+            sum: Sum::NONE,
+        }
+    }
 }
 
 impl Grammar for Progress {

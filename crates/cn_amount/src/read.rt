@@ -11,8 +11,8 @@ use crate::signed::SignedProgress;
 use crate::typed::TypedProgress;
 use cn_capitals::{Refusal, read};
 
-// The same answer, with the error type of amounts.
-fn told<A>(answer: Result<A, Refusal>) -> Result<A, ChineseToAmountError>
+/// The same answer, with the error type of amounts.
+pub fn told<A>(answer: Result<A, Refusal>) -> Result<A, ChineseToAmountError>
     ensures { answer_of result ≡ answer }
 {
     match answer {
@@ -66,12 +66,13 @@ pub fn chinese_to_signed_amount(text: &str) -> Result<i64, ChineseToAmountError>
     told(read::<SignedProgress>(text))
 }
 
-/// The amount, in fen, for which a text in capitals stands as people type it. White space is left
-/// out wherever it is, and so are one ⊗ at the start and one colon (`:` or `：`) directly after a
-/// 人民币 at the start. The rest is read as by `chinese_to_amount`. No memory is allocated.
+/// The amount, in fen, for which a text in capitals stands as people type or copy it. White space is
+/// left out wherever it is. Before the amount there may be ⊗ or ⓧ, and then 人民币 (人民幣), directly
+/// after which （大写） (（大寫）) and then a colon may come; brackets and colons have either width. The
+/// rest is read as by `chinese_to_amount`. No memory is allocated.
 ///
 /// ```text
-/// chinese_to_amount_as_typed("人民币：壹拾伍元整") == Ok(1_500)
+/// chinese_to_amount_as_typed("人民币（大写）：壹拾伍元整") == Ok(1_500)
 /// chinese_to_amount_as_typed("⊗壹拾 伍圆整") == Ok(1_500)
 /// chinese_to_amount_as_typed("人民币 壹佰元") == Err(ChineseToAmountError::Unfinished)
 /// chinese_to_amount_as_typed("⊗ 拾伍元整") == Err(ChineseToAmountError::Incorrect { char_index: 2 })

@@ -4,21 +4,10 @@ ghost use Rattle.std.specs.Char.{char_set_contains};
 ghost use Rattle.cn_core.specs.Whole.{signed_number};
 ghost use Rattle.cn_amount.specs.Places.{amount_limit};
 ghost use Rattle.cn_amount.specs.Signed.{IsSignedAmount, minus_signs};
-ghost use Rattle.cn_amount.specs.Working.Signs.{keeps, next, is_below, signed_machine};
+ghost use Rattle.cn_amount.specs.Working.Signs.{signed_machine};
 
 use crate::progress::Progress;
-use cn_capitals::Grammar;
-
-/// What is before an amount.
-#[derive(Clone, Copy)]
-pub enum Front {
-    /// Nothing has been read.
-    Open,
-    /// Nothing is before it.
-    Plain,
-    /// 負, the minus sign.
-    Minus,
-}
+use cn_capitals::{Front, Grammar};
 
 // Whether a character is a minus sign.
 fn is_minus(character: char) -> bool
@@ -27,43 +16,13 @@ fn is_minus(character: char) -> bool
     matches!(character, '負' | '负')
 }
 
-// The amount with this magnitude, below zero or not.
-fn signed_fen(is_below: bool, magnitude: u64) -> i64
+/// The amount with this magnitude, below zero or not.
+pub fn signed_fen(is_below: bool, magnitude: u64) -> i64
     requires { magnitude < amount_limit }
     ensures { result ≡ signed_number is_below magnitude }
 {
     let fen = magnitude as i64;
     if is_below { -fen } else { fen }
-}
-
-impl Front {
-    // Whether a character belongs to the amount.
-    fn keeps(self, character: char) -> bool
-        ensures { result ≡ keeps self character }
-    {
-        match self {
-            Front::Open => !is_minus(character),
-            _ => true,
-        }
-    }
-
-    // What is before the amount, after one more character.
-    fn next(self, character: char) -> Front
-        ensures { result ≡ next self character }
-    {
-        match self {
-            Front::Open if is_minus(character) => Front::Minus,
-            Front::Open => Front::Plain,
-            front => front,
-        }
-    }
-
-    // Whether the amount is below zero.
-    fn is_below(self) -> bool
-        ensures { result ≡ is_below self }
-    {
-        matches!(self, Front::Minus)
-    }
 }
 
 /// What is before the amount, and the state of reading the amount.
@@ -88,8 +47,9 @@ impl Grammar for SignedProgress {
     }
 
     fn step(self, character: char) -> Option<SignedProgress> {
-        let front = self.front.next(character);
-        if !self.front.keeps(character) {
+        let is_minus = is_minus(character);
+        let front = self.front.next(is_minus);
+        if !self.front.keeps(is_minus) {
             return Some(SignedProgress { front, ..self });
         }
         let progress = self.progress.step(character)?;

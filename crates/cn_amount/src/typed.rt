@@ -1,59 +1,62 @@
-// The state of reading an amount as people type it.
+// The states of reading an amount as people type it, with or without a sign.
 ghost use Rattle.std.specs.Prelude.{◌≡◌};
-ghost use Rattle.cn_amount.specs.Typed.{IsTypedAmount};
-ghost use Rattle.cn_amount.specs.Working.Typing.{leaves_out, advance, typed_machine};
+ghost use Rattle.cn_capitals.specs.Machine.{Reached};
+ghost use Rattle.cn_amount.specs.Typed.{IsTypedAmount, IsTypedSignedAmount};
+ghost use Rattle.cn_amount.specs.Working.Steps.{amount_machine};
+ghost use Rattle.cn_amount.specs.Working.Typing.{begin, amount_step, step, typed_machine, typed_signed_machine};
 
+use crate::prefix::{Point, Prefix};
 use crate::progress::Progress;
-use cn_capitals::Grammar;
+use crate::signed::signed_fen;
+use cn_capitals::{Front, Grammar};
 
-/// What has been read of a text, as far as it decides which characters are left out.
+/// What has been read before the amount, and the state of reading the amount.
 #[derive(Clone, Copy)]
-pub enum Seen {
-    /// Nothing: ⊗ is left out.
-    Nothing,
-    /// ⊗
-    Circle,
-    /// 人 at the start.
-    Ren,
-    /// 人民
-    Min,
-    /// 人民币: a colon is left out.
-    Currency,
-    /// Anything else: only white space is left out.
-    Rest,
+pub struct Typing {
+    prefix: Prefix,
+    progress: Progress,
 }
 
-impl Seen {
-    // Whether a character that is not white space is left out.
-    fn leaves_out(self, character: char) -> bool
-        ensures { result ≡ leaves_out self character }
+impl Typing {
+    // Nothing has been read.
+    fn begin(sign: Front) -> Typing
+        ensures { result ≡ begin sign }
     {
-        match self {
-            Seen::Nothing => character == '⊗',
-            Seen::Currency => matches!(character, ':' | '：'),
-            _ => false,
+        Typing {
+            prefix: Prefix::first(sign),
+            progress: Progress::bare(),
         }
     }
 
-    // What has been read after one more character.
-    fn advance(self, character: char) -> Seen
-        ensures { result ≡ advance self character }
+    // The state after a character of the amount.
+    fn amount_step(self, character: char) -> Option<Typing>
+        requires { Reached amount_machine self.progress }
+        ensures { result ≡ amount_step self character }
     {
-        match (self, character) {
-            (Seen::Nothing, '⊗') => Seen::Circle,
-            (Seen::Nothing | Seen::Circle, '人') => Seen::Ren,
-            (Seen::Ren, '民') => Seen::Min,
-            (Seen::Min, '币' | '幣') => Seen::Currency,
-            _ => Seen::Rest,
+        if !self.prefix.is_over() {
+            return None;
+        }
+        let progress = self.progress.step(character)?;
+        let prefix = self.prefix.at(Point::Amount);
+        Some(Typing { prefix, progress })
+    }
+
+    // The state after a character that is not white space.
+    fn step(self, character: char) -> Option<Typing>
+        requires { Reached amount_machine self.progress }
+        ensures { result ≡ step self character }
+    {
+        match self.prefix.next(character) {
+            Some(prefix) => Some(Typing { prefix, ..self }),
+            None => self.amount_step(character),
         }
     }
 }
 
-/// What has been read, and the state of reading the amount.
+/// The state of reading an amount that has no sign.
 #[derive(Clone, Copy)]
 pub struct TypedProgress {
-    seen: Seen,
-    progress: Progress,
+    typing: Typing,
 }
 
 impl Grammar for TypedProgress {
@@ -65,8 +68,7 @@ impl Grammar for TypedProgress {
 
     fn begin() -> TypedProgress {
         TypedProgress {
-            seen: Seen::Nothing,
-            progress: Progress::begin(),
+            typing: Typing::begin(Front::Plain),
         }
     }
 
@@ -74,15 +76,44 @@ impl Grammar for TypedProgress {
         if character.is_whitespace() {
             return Some(self);
         }
-        let seen = self.seen.advance(character);
-        if self.seen.leaves_out(character) {
-            return Some(TypedProgress { seen, ..self });
-        }
-        let progress = self.progress.step(character)?;
-        Some(TypedProgress { seen, progress })
+        let typing = self.typing.step(character)?;
+        Some(TypedProgress { typing })
     }
 
     fn end(self) -> Option<u64> {
-        self.progress.end()
+        self.typing.progress.end()
+    }
+}
+
+/// The state of reading an amount that may have a sign.
+#[derive(Clone, Copy)]
+pub struct TypedSignedProgress {
+    typing: Typing,
+}
+
+impl Grammar for TypedSignedProgress {
+    type Value = i64;
+
+    ghost is_form = { IsTypedSignedAmount };
+
+    ghost machine = { typed_signed_machine };
+
+    fn begin() -> TypedSignedProgress {
+        TypedSignedProgress {
+            typing: Typing::begin(Front::Open),
+        }
+    }
+
+    fn step(self, character: char) -> Option<TypedSignedProgress> {
+        if character.is_whitespace() {
+            return Some(self);
+        }
+        let typing = self.typing.step(character)?;
+        Some(TypedSignedProgress { typing })
+    }
+
+    fn end(self) -> Option<i64> {
+        let magnitude = self.typing.progress.end()?;
+        Some(signed_fen(self.typing.prefix.sign.is_below(), magnitude))
     }
 }

@@ -82,7 +82,8 @@ pub fn signed_amount_text(variant: ChineseVariant, form: AmountForm, fen: i64) -
 }
 
 /// The amount in capitals, as `amount_to_chinese_as` writes it, but after 负 (負) if it is below
-/// zero, as on red invoices. No rule of the banks has the sign, and no cheque takes it.
+/// zero, as on red invoices. No rule of the banks has the sign, and no cheque takes it. The form
+/// decides nothing about the sign: `signed_amount_to_chinese_as` writes the sign of the form.
 ///
 /// ```text
 /// let plain = AmountForm::PLAIN;

@@ -1,12 +1,12 @@
 -- For each law with premises, values that meet all of them.
-use Rattle.std.proofs.Common.{ℕ, ◌-◌, ◌^◌, negsuc, List, ◌++◌, codes, encode_utf8_all, inl, replicate, refl, arith}
+use Rattle.std.proofs.Common.{◌≡◌, ℕ, ◌-◌, ◌^◌, false, negsuc, List, ◌++◌, codes, encode_utf8_all, inl, replicate, refl, arith}
 use Rattle.std.specs.Char.{encode_utf8}
 use Rattle.std.specs.Fmt.{digits}
 use Rattle.cn_core.specs.Characters.{digit_char, minus_char, unit_char}
 use Rattle.cn_quantity.specs.Trimmed.{decimals_over}
 use Rattle.cn_c.specs.declared.quantity.Quantity.{Quantity}
 use Rattle.cn_c.specs.Amounts.{IsAmountPrinted}
-use Rattle.cn_c.specs.Codes.{CN_ANY, CN_DIGITS, CN_DONE, CN_TEN_THOUSAND}
+use Rattle.cn_c.specs.Codes.{has_flag, CN_ANY, CN_BRACKETED_SIGN, CN_DIGITS, CN_DONE, CN_TEN_THOUSAND}
 use Rattle.cn_c.specs.Dates.{IsDatePrinted}
 use Rattle.cn_c.specs.Halves.{AreHalves}
 use Rattle.cn_c.specs.Prints.{IsPrinted}
@@ -82,11 +82,17 @@ printed_amounts_read_back : IsAmountPrinted 12050 1 0 (room 32) CN_DONE
 unfolding encode_utf8 digit_char unit_char
 printed_amounts_read_back = (refl, refl, refl)
 
--- the same amount below zero
-printed_signed_amounts_read_back : IsSignedPrinted (negsuc 12049) 1 0 (room 32) CN_DONE
+-- the same amount below zero, with the sign in brackets and without them
+printed_signed_amounts_read_back-typed : IsSignedPrinted (negsuc 12049) 1 8 (room 40) CN_DONE
+    (string (codes "（负数）壹佰贰拾元伍角整") ++ room 4) 36
+unfolding encode_utf8 digit_char minus_char unit_char
+printed_signed_amounts_read_back-typed = (refl, refl, refl)
+
+printed_signed_amounts_read_back-strict : (has_flag 0 CN_BRACKETED_SIGN ≡ false)
+    × IsSignedPrinted (negsuc 12049) 1 0 (room 32) CN_DONE
     (string (codes "负壹佰贰拾元伍角整") ++ room 5) 27
 unfolding encode_utf8 digit_char minus_char unit_char
-printed_signed_amounts_read_back = (refl, refl, refl)
+printed_signed_amounts_read_back-strict = (refl, (refl, refl, refl))
 
 printed_dates_read_back : IsDatePrinted 2026 10 20 1 (room 48) CN_DONE
     (string (codes "贰零贰陆年零壹拾月零贰拾日") ++ room 9) 39

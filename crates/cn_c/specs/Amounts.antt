@@ -9,7 +9,7 @@ use Rattle.chinese_number.specs.AmountReading.{AmountRefusal, unfinished, incorr
 use Rattle.chinese_number.specs.AmountWrites.{amount_text}
 use Rattle.cn_c.specs.declared.amount.Amount.{Amount}
 use Rattle.cn_judge.specs.ByteIndex.{byte_index}
-use Rattle.cn_c.specs.Codes.{scripts, forms, CN_DONE, CN_INCORRECT, CN_TOO_LARGE, CN_NOT_UTF8, CN_UNKNOWN, CN_UNFINISHED}
+use Rattle.cn_c.specs.Codes.{scripts, form_of, CN_DONE, CN_INCORRECT, CN_TOO_LARGE, CN_NOT_UTF8, CN_UNKNOWN, CN_UNFINISHED}
 use Rattle.cn_c.specs.Prints.{PutsNothing, PutsIfItFits}
 
 -- the result of printing an amount in a script and a form, or UNKNOWN if one is not named: the text
@@ -22,10 +22,10 @@ IsAmountPrintedAs fen (Some script) (Some form) old status new len =
     (PutsNothing CN_TOO_LARGE old status new len)
 IsAmountPrintedAs fen script form old status new len = PutsNothing CN_UNKNOWN old status new len
 
--- the result of printing an amount, given the codes of a script and a form
+-- the result of printing an amount, given the code of a script and the flags of a form
 abbrev pub IsAmountPrinted : ℕ → ℕ → ℕ → List ℕ → ℕ → List ℕ → ℕ → Type 0
 IsAmountPrinted fen script form old status new len =
-    IsAmountPrintedAs fen (slice_get scripts script) (slice_get forms form) old status new len
+    IsAmountPrintedAs fen (slice_get scripts script) (form_of form) old status new len
 
 -- what is written if there is no amount: 0, and the position of a fault
 abbrev pub no_amount : ℕ → ℕ → Amount

@@ -1,5 +1,5 @@
 -- What each code means, and what each status says, as in `chinese_number.h`.
-use Rattle.std.specs.Prelude.{ℕ, Bool, true, false, List, [], ◌∷◌, ◌++◌, map}
+use Rattle.std.specs.Prelude.{ℕ, ◌/◌, ◌%◌, ◌==◌, nat_lt, Bool, true, false, List, [], ◌∷◌, ◌++◌, map, Option, Some, None, if◌then◌else◌}
 use Rattle.chinese_number.specs.declared.AmountForm.{AmountForm}
 use Rattle.chinese_number.specs.declared.ChineseCase.{ChineseCase}
 use Rattle.chinese_number.specs.declared.ChineseCase.TheVariants.{Upper, Lower}
@@ -11,6 +11,10 @@ use Rattle.chinese_number.specs.declared.Unit.TheVariants.{Ge, Shi, Bai, Qian, W
 use Rattle.chinese_number.specs.Refusal.{Refusal, empty, incorrect_at, too_large, too_small}
 use Rattle.cn_faces.specs.declared.IntegerType.{IntegerType}
 use Rattle.cn_faces.specs.declared.IntegerType.TheVariants.{U8, U16, U32, U64, U128, I8, I16, I32, I64, I128}
+use Rattle.cn_message.specs.declared.input.Input.{Input}
+use Rattle.cn_message.specs.declared.input.Input.TheVariants.{Amount, SignedAmount, TypedAmount, TypedSignedAmount, Date, Figures}
+use Rattle.cn_message.specs.declared.language.Language.{Language}
+use Rattle.cn_message.specs.declared.language.Language.TheVariants.{English, Simplified, Traditional}
 use Rattle.cn_c.specs.declared.codes.NamedWay.{NamedWay}
 use Rattle.cn_c.specs.declared.codes.NamedWay.TheVariants.{By, Either}
 use Rattle.cn_faces.specs.declared.Way.{Way}
@@ -46,26 +50,59 @@ scripts = Traditional ∷ Simple ∷ []
 abbrev pub cases : List ChineseCase
 cases = Upper ∷ Lower ∷ []
 
--- the form of an amount, by whether 人民币 is at its start, 圆 replaces 元, and 正 replaces 整
-abbrev pub asking : Bool → Bool → Bool → AmountForm
-asking currency round upright = record {
-  currency = currency;
-  round_yuan = round;
-  upright_closing = upright;
-}
+-- a flag, which is a power of two, is among these flags
+abbrev pub has_flag : ℕ → ℕ → Bool
+has_flag flags flag = flags / flag % 2 == 1
 
--- the forms in the order of their codes: 人民币 adds 1, 圆 adds 2 and 正 adds 4
-abbrev pub forms : List AmountForm
-forms =
-    asking false false false ∷ asking true false false ∷ asking false true false
-    ∷ asking true true false ∷ asking false false true ∷ asking true false true
-    ∷ asking false true true ∷ asking true true true ∷ []
+-- the flags of the form of an amount: 人民币 is at its start, 圆 replaces 元, 正 replaces 整, and
+-- （负数） replaces 负
+abbrev pub CN_CURRENCY : ℕ
+CN_CURRENCY = 1
+
+abbrev pub CN_ROUND_YUAN : ℕ
+CN_ROUND_YUAN = 2
+
+abbrev pub CN_UPRIGHT_CLOSING : ℕ
+CN_UPRIGHT_CLOSING = 4
+
+abbrev pub CN_BRACKETED_SIGN : ℕ
+CN_BRACKETED_SIGN = 8
+
+-- the form of an amount, given a sum of any of these flags
+abbrev pub form_of : ℕ → Option AmountForm
+form_of flags = if nat_lt flags 16 then Some (record {
+  currency = has_flag flags CN_CURRENCY;
+  round_yuan = has_flag flags CN_ROUND_YUAN;
+  upright_closing = has_flag flags CN_UPRIGHT_CLOSING;
+  bracketed_sign = has_flag flags CN_BRACKETED_SIGN;
+}) else None
 
 -- the units, by rank
 abbrev pub units : List NumeralUnit
 units =
     Ge ∷ Shi ∷ Bai ∷ Qian ∷ Wan ∷ Yi ∷ Zhao ∷ Jing ∷ Gai ∷ Zi ∷ Rang ∷ Gou ∷ Jian ∷ Zheng ∷ Zai
     ∷ Ji ∷ []
+
+-- what a text is meant to be, in the order of the codes
+abbrev pub inputs : List Input
+inputs = Amount ∷ SignedAmount ∷ TypedAmount ∷ TypedSignedAmount ∷ Date ∷ Figures ∷ []
+
+-- the languages of messages
+abbrev pub languages : List Language
+languages = English ∷ Simplified ∷ Traditional ∷ []
+
+-- what is changed in a text
+abbrev pub CN_NO_CHANGE : ℕ
+CN_NO_CHANGE = 0
+
+abbrev pub CN_INSERT : ℕ
+CN_INSERT = 1
+
+abbrev pub CN_REPLACE : ℕ
+CN_REPLACE = 2
+
+abbrev pub CN_DELETE : ℕ
+CN_DELETE = 3
 
 -- the flags of a number in a text
 abbrev pub CN_PLAIN_DIGITS : ℕ
@@ -168,6 +205,10 @@ CN_NOT_A_DATE = 11
 -- the denominator of the quantity is 0
 abbrev pub CN_NOT_A_QUANTITY : ℕ
 CN_NOT_A_QUANTITY = 12
+
+-- the text is too long, which only the C source returns
+abbrev pub CN_TOO_LONG : ℕ
+CN_TOO_LONG = 4294967295
 
 -- the status that a refusal has
 abbrev pub refusal_status : Refusal → ℕ

@@ -1,5 +1,5 @@
 -- What the call that replaces the quantities of a text writes and returns.
-use Rattle.std.specs.Prelude.{◌≡◌, ℕ, ◌-◌, ◌/◌, ◌%◌, ◌^◌, ◌==◌, min, nat_le, nat_lt, Bool, ◌&&◌, List, ◌++◌, length, drop, Option, Some, None, slice_get, if◌then◌else◌}
+use Rattle.std.specs.Prelude.{◌≡◌, ℕ, ◌-◌, ◌%◌, ◌^◌, ◌==◌, min, nat_le, nat_lt, Bool, ◌&&◌, List, ◌++◌, length, drop, Option, Some, None, slice_get, if◌then◌else◌}
 use Rattle.std.specs.Bool.{MatchBool}
 use Rattle.std.specs.Str.{is_utf8}
 use Rattle.chinese_number.specs.declared.ChineseCountMethod.{ChineseCountMethod}
@@ -8,13 +8,9 @@ use Rattle.cn_replace.specs.declared.options.Figures.{Figures}
 use Rattle.cn_replace.specs.declared.options.Style.{Style}
 use Rattle.cn_replace.specs.declared.options.Style.TheVariants.{Kept, Expanded}
 use Rattle.cn_replace.specs.InFigures.{in_figures}
-use Rattle.cn_c.specs.Codes.{named_ways, units, uppers, CN_ABOUT, CN_CANONICAL, CN_DOUBTFUL, CN_EXPANDED, CN_ONE_CHARACTER, CN_DONE, CN_NO_ROOM, CN_NOT_UTF8, CN_UNKNOWN}
+use Rattle.cn_c.specs.Codes.{has_flag, named_ways, units, uppers, CN_ABOUT, CN_CANONICAL, CN_DOUBTFUL, CN_EXPANDED, CN_ONE_CHARACTER, CN_DONE, CN_NO_ROOM, CN_NOT_UTF8, CN_UNKNOWN}
 use Rattle.cn_c.specs.Prints.{PutsNothing}
 use Rattle.cn_c.specs.Quantities.{method_of}
-
--- a flag, which is a power of two, is among these flags
-abbrev pub has_flag : ℕ → ℕ → Bool
-has_flag flags flag = flags / flag % 2 == 1
 
 -- the style that the flags name
 abbrev pub style_of : ℕ → Style

@@ -7,8 +7,9 @@ use Rattle.chinese_number.specs.declared.AmountForm.{AmountForm}
 use Rattle.chinese_number.specs.declared.ChineseVariant.{ChineseVariant}
 use Rattle.chinese_number.specs.AmountPlaces.{amount_limit}
 use Rattle.chinese_number.specs.AmountReading.{AmountRefusal, unfinished, incorrect_at}
-use Rattle.chinese_number.specs.AmountSigned.{ReadsSignedAmount, signed_amount_text}
-use Rattle.chinese_number.specs.AmountTyped.{ReadsTypedAmount}
+use Rattle.chinese_number.specs.AmountSigned.{ReadsSignedAmount}
+use Rattle.chinese_number.specs.AmountTyped.{ReadsTypedAmount, ReadsTypedSignedAmount}
+use Rattle.cn_amount.specs.Invoice.{invoice_amount_text}
 use Rattle.cn_figures.specs.declared.FiguresError.{FiguresError}
 use Rattle.cn_figures.specs.declared.FiguresError.TheVariants.{Unfinished, Incorrect, TooLarge}
 use Rattle.cn_figures.specs.Figures.{ReadsSignedFigures}
@@ -16,7 +17,7 @@ use Rattle.cn_c.specs.declared.amount.Amount.{Amount}
 use Rattle.cn_c.specs.declared.signed_amount.SignedAmount.{SignedAmount}
 use Rattle.cn_c.specs.Amounts.{TellsAmount, no_amount}
 use Rattle.cn_judge.specs.ByteIndex.{byte_index}
-use Rattle.cn_c.specs.Codes.{scripts, forms, CN_DONE, CN_INCORRECT, CN_TOO_LARGE, CN_TOO_SMALL, CN_NOT_UTF8, CN_UNKNOWN, CN_UNFINISHED}
+use Rattle.cn_c.specs.Codes.{scripts, form_of, CN_DONE, CN_INCORRECT, CN_TOO_LARGE, CN_TOO_SMALL, CN_NOT_UTF8, CN_UNKNOWN, CN_UNFINISHED}
 use Rattle.cn_c.specs.Prints.{PutsNothing, PutsIfItFits}
 
 -- the result of printing an amount in a script and a form, or UNKNOWN if one is not named: its text
@@ -25,14 +26,14 @@ abbrev pub IsSignedPrintedAs : ℤ → Option ChineseVariant → Option AmountFo
     → List ℕ → ℕ → Type 0
 IsSignedPrintedAs fen (Some script) (Some form) old status new len =
     MatchBool (nat_lt (nat_abs fen) amount_limit)
-    (PutsIfItFits (encode_utf8_all (signed_amount_text script form fen)) old status new len)
+    (PutsIfItFits (encode_utf8_all (invoice_amount_text script form fen)) old status new len)
     (PutsNothing (if int_lt fen (pos 0) then CN_TOO_SMALL else CN_TOO_LARGE) old status new len)
 IsSignedPrintedAs fen script form old status new len = PutsNothing CN_UNKNOWN old status new len
 
--- the result of printing an amount, given the codes of a script and a form
+-- the result of printing an amount, given the code of a script and the flags of a form
 abbrev pub IsSignedPrinted : ℤ → ℕ → ℕ → List ℕ → ℕ → List ℕ → ℕ → Type 0
 IsSignedPrinted fen script form old status new len =
-    IsSignedPrintedAs fen (slice_get scripts script) (slice_get forms form) old status new len
+    IsSignedPrintedAs fen (slice_get scripts script) (form_of form) old status new len
 
 -- what is written for an amount
 abbrev pub signed_told : ℤ → SignedAmount
@@ -76,6 +77,14 @@ IsTypedRead bytes status amount =
     ((answer : Result ℕ AmountRefusal) × ReadsTypedAmount bytes answer
     × TellsAmount bytes answer status amount)
     ((status ≡ CN_NOT_UTF8) × (amount ≡ no_amount 0 0))
+
+-- the same for an amount as people type it, with or without a sign
+abbrev pub IsTypedSignedRead : List ℕ → ℕ → SignedAmount → Type 0
+IsTypedSignedRead bytes status amount =
+    MatchBool (is_utf8 bytes)
+    ((answer : Result ℤ AmountRefusal) × ReadsTypedSignedAmount bytes answer
+    × TellsSigned bytes answer status amount)
+    ((status ≡ CN_NOT_UTF8) × (amount ≡ no_signed 0 0))
 
 -- the result of reading bytes as an amount in figures
 abbrev pub IsFiguresRead : List ℕ → ℕ → SignedAmount → Type 0

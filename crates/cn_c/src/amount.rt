@@ -6,7 +6,8 @@ ghost use Rattle.chinese_number.specs.AmountWrites.{amount_text};
 ghost use Rattle.cn_c.specs.Amounts.{TellsAmount, IsAmountPrinted, IsAmountRead};
 ghost use Rattle.cn_c.specs.Prints.{PutsIfItFits};
 
-use crate::codes::{form_of, script_of};
+use crate::amount_form::form_of;
+use crate::codes::script_of;
 use crate::room::put_text;
 use crate::status::{DONE, INCORRECT, NOT_UTF8, TOO_LARGE, UNFINISHED, UNKNOWN, tell_none};
 use chinese_number::{
@@ -39,20 +40,20 @@ pub const NOTHING: Amount = Amount {
 fn print_amount(
     fen: u64,
     script: ChineseVariant,
-    form: &AmountForm,
+    form: AmountForm,
     room: &mut [u8],
     len: &mut usize,
 ) -> u32
     requires { fen < amount_limit }
-    ensures printed { PutsIfItFits (encode_utf8_all (amount_text script form.now fen)) room.old result room.new
+    ensures printed { PutsIfItFits (encode_utf8_all (amount_text script form fen)) room.old result room.new
         len.new }
     ensures bound { len.new ≤ 117 }
 {
-    put_text(amount_text(script, *form, fen).as_bytes(), room, len)
+    put_text(amount_text(script, form, fen).as_bytes(), room, len)
 }
 
 /// Prints an amount of fen in a form into the caller's buffer, `room`. 117 bytes are enough for any
-/// amount. The status is UNKNOWN if a code names no script or form, TOO_LARGE from 10^16 yuan on,
+/// amount. The status is UNKNOWN if a code names no script, or the flags no form, TOO_LARGE from 10^16 yuan on,
 /// and NO_ROOM if the text does not fit.
 ///
 /// Writes `*len`, which is 0 at UNKNOWN and TOO_LARGE, and otherwise the length of the text. If the

@@ -2,7 +2,8 @@
 ghost use Rattle.std.specs.Prelude.{◌≡◌, ◌+◌, ◌*◌, ◌<◌, ◌≤◌};
 ghost use Rattle.chinese_number.specs.Spans.{span_of};
 ghost use Rattle.cn_c.specs.Finds.{doubt_code, flag_if, flags_told};
-ghost use Rattle.cn_c.specs.Replaces.{figures_of, has_flag, style_of};
+ghost use Rattle.cn_c.specs.Codes.{has_flag};
+ghost use Rattle.cn_c.specs.Replaces.{figures_of, style_of};
 
 use chinese_number::{Doubt, Found, SearchRule};
 use cn_find::told_of;
@@ -20,8 +21,8 @@ pub const ABOUT: u32 = 4;
 /// A flag: the number is one Chinese character.
 pub const ONE_CHARACTER: u32 = 8;
 
-// A flag if it applies, and otherwise 0.
-fn flag_if(told: bool, flag: u32) -> u32
+/// A flag if it applies, and otherwise 0.
+pub fn flag_if(told: bool, flag: u32) -> u32
     ensures { result ≡ flag_if told flag }
 {
     if told { flag } else { 0 }
@@ -74,8 +75,8 @@ pub const EXPANDED: u32 = 32;
 /// An option: what is in figures alone is rewritten in ASCII, without commas and leading zeros.
 pub const CANONICAL: u32 = 64;
 
-// Whether a flag is among these flags.
-fn has_flag(flags: u32, flag: u32) -> bool
+/// Whether a flag is among these flags.
+pub fn has_flag(flags: u32, flag: u32) -> bool
     requires { 0 < flag }
     ensures { result ≡ has_flag flags flag }
 {

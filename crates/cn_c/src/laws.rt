@@ -2,14 +2,14 @@
 ghost use Rattle.std.specs.Prelude.{◌≡◌, ℕ, ℤ, true, false, List, take};
 ghost use Rattle.std.specs.Str.{IsUtf8};
 ghost use Rattle.cn_c.specs.Amounts.{IsAmountPrinted, IsAmountRead};
-ghost use Rattle.cn_c.specs.Codes.{CN_ANY, CN_DIGITS, CN_DONE, CN_TEN_THOUSAND};
+ghost use Rattle.cn_c.specs.Codes.{has_flag, CN_ANY, CN_BRACKETED_SIGN, CN_DIGITS, CN_DONE, CN_TEN_THOUSAND};
 ghost use Rattle.cn_c.specs.Dates.{IsDatePrinted, IsDateRead};
 ghost use Rattle.cn_c.specs.Halves.{AreHalves, number_of};
 ghost use Rattle.cn_c.specs.Prints.{IsPrinted};
 ghost use Rattle.cn_c.specs.Quantities.{IsQuantityRead};
 ghost use Rattle.cn_c.specs.QuantityPrints.{IsQuantityPrinted};
 ghost use Rattle.cn_c.specs.Reads.{ReadsBack};
-ghost use Rattle.cn_c.specs.SignedAmounts.{IsSignedPrinted, IsSignedRead, signed_told};
+ghost use Rattle.cn_c.specs.SignedAmounts.{IsSignedPrinted, IsSignedRead, IsTypedSignedRead, signed_told};
 ghost use Rattle.cn_c.specs.declared.amount.Amount.{Amount};
 ghost use Rattle.cn_c.specs.declared.date.Date.{Date};
 ghost use Rattle.cn_c.specs.declared.number.Number.{Number};
@@ -78,13 +78,19 @@ pub fn printed_amounts_read_back()
 {}
 
 /// What `chinese_signed_amount_print` writes, in each form, is UTF-8, and
-/// `chinese_signed_amount_read` reads it as the same amount.
+/// `chinese_typed_signed_amount_read` reads it as the same amount. So does
+/// `chinese_signed_amount_read`, if the form does not write （负数）.
 pub fn printed_signed_amounts_read_back()
-    ensures { (fen : ℤ) → (script form : ℕ) → (old new : List ℕ) → (len : ℕ)
+    ensures typed { (fen : ℤ) → (script form : ℕ) → (old new : List ℕ) → (len : ℕ)
         → IsSignedPrinted fen script form old CN_DONE new len
         → IsUtf8 (take len new)
-        × ((status : ℕ) (amount : SignedAmount) → IsSignedRead (take len new) status amount
+        × ((status : ℕ) (amount : SignedAmount) → IsTypedSignedRead (take len new) status amount
         → (status ≡ CN_DONE) × (amount ≡ signed_told fen)) }
+    ensures strict { (fen : ℤ) → (script form : ℕ) → (old new : List ℕ) → (len : ℕ)
+        → has_flag form CN_BRACKETED_SIGN ≡ false
+        → IsSignedPrinted fen script form old CN_DONE new len
+        → (status : ℕ) (amount : SignedAmount) → IsSignedRead (take len new) status amount
+        → (status ≡ CN_DONE) × (amount ≡ signed_told fen) }
 {}
 
 /// What `chinese_date_print` writes is UTF-8, and `chinese_date_read` reads it as the same date.

@@ -6,11 +6,15 @@
 #![tactic(auto)]
 
 mod amount;
+mod amount_form;
 mod codes;
 mod date;
+mod explain;
 mod finding;
 mod flags;
+mod input;
 pub mod laws;
+mod message;
 mod number;
 mod printing;
 mod quantity;
@@ -27,9 +31,14 @@ mod version;
 
 pub use amount::{Amount, chinese_amount_print, chinese_amount_read};
 pub use date::{Date, chinese_date_print, chinese_date_read};
+pub use explain::{chinese_number_explain, chinese_quantity_explain};
 pub use finding::{
     Span, chinese_number_find, chinese_number_find_utf8, chinese_quantity_find,
     chinese_quantity_find_utf8,
+};
+pub use input::{Change, Expected, chinese_input_expected, chinese_input_repair};
+pub use message::{
+    chinese_input_message, chinese_number_message, chinese_quantity_message, chinese_status_message,
 };
 pub use number::Number;
 pub use printing::chinese_number_print;
@@ -41,5 +50,5 @@ pub use replacing::chinese_quantities_to_figures;
 pub use signed_amount::{
     SignedAmount, chinese_figures_read, chinese_signed_amount_print, chinese_signed_amount_read,
 };
-pub use typed_amount::chinese_typed_amount_read;
+pub use typed_amount::{chinese_typed_amount_read, chinese_typed_signed_amount_read};
 pub use version::chinese_number_version;

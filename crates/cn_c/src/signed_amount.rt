@@ -4,11 +4,12 @@ ghost use Rattle.chinese_number.specs.AmountAnswer.{answer_of};
 ghost use Rattle.chinese_number.specs.AmountReading.{incorrect_at};
 ghost use Rattle.cn_c.specs.SignedAmounts.{TellsSigned, TellsFigures, IsSignedPrinted, IsSignedRead, IsFiguresRead};
 
-use crate::codes::{form_of, script_of};
+use crate::amount_form::form_of;
+use crate::codes::script_of;
 use crate::room::put_text;
 use crate::status::{DONE, INCORRECT, NOT_UTF8, TOO_LARGE, TOO_SMALL, UNFINISHED, UNKNOWN};
 use chinese_number::{AMOUNT_LIMIT, ChineseToAmountError, chinese_to_signed_amount};
-use cn_amount::signed_amount_text;
+use cn_amount::invoice_amount_text;
 use cn_faces::utf8_text;
 use cn_figures::{FiguresError, signed_yuan_to_fen};
 use cn_judge::byte_index;
@@ -23,7 +24,8 @@ pub struct SignedAmount {
     pub byte_index: usize,
 }
 
-const NOTHING: SignedAmount = SignedAmount {
+/// The result if no amount was read.
+pub const NO_SIGNED: SignedAmount = SignedAmount {
     fen: 0,
     char_index: 0,
     byte_index: 0,
@@ -31,9 +33,8 @@ const NOTHING: SignedAmount = SignedAmount {
 
 // Same answer (0 → 1 #2, < → <=): an amount of 0 is never too large, so it does not reach this
 // test.
-/// Prints an amount of fen in a form, after 负 (負) if it is below zero, into the caller's buffer,
-/// `room`. 120 bytes are enough for any amount. The status is UNKNOWN if a code names no script or
-/// form, TOO_LARGE or TOO_SMALL if the magnitude is 10^16 yuan or more, and NO_ROOM if the text
+/// Prints an amount of fen in a form, after 负 (負), or （负数） (（負數）), if it is below zero, into the caller's buffer,
+/// `room`. 129 bytes are enough for any amount. The status is UNKNOWN if a code names no script, or the flags no form; TOO_LARGE or TOO_SMALL if the magnitude is 10^16 yuan or more, and NO_ROOM if the text
 /// does not fit.
 ///
 /// Writes `*len`, which is the length of the text at DONE and NO_ROOM, and otherwise 0. If the text
@@ -47,7 +48,7 @@ pub extern "C" fn chinese_signed_amount_print(
     len: &mut usize,
 ) -> u32
     ensures printed { IsSignedPrinted fen script form room.old result room.new len.new }
-    ensures bound { len.new ≤ 120 }
+    ensures bound { len.new ≤ 129 }
 {
     *len = 0;
     let (Some(script), Some(form)) = (script_of(script), form_of(form)) else {
@@ -56,7 +57,7 @@ pub extern "C" fn chinese_signed_amount_print(
     if fen.unsigned_abs() >= AMOUNT_LIMIT {
         return if fen < 0 { TOO_SMALL } else { TOO_LARGE };
     }
-    put_text(signed_amount_text(script, *form, fen).as_bytes(), room, len)
+    put_text(invoice_amount_text(script, form, fen).as_bytes(), room, len)
 }
 
 // Writes where a text is incorrect, and returns the status INCORRECT.
@@ -71,15 +72,15 @@ fn tell_place(text: &str, char_index: usize, amount: &mut SignedAmount) -> u32
     INCORRECT
 }
 
-// Writes the answer to a text to `*amount`, and returns its status.
-fn tell_signed(
+/// Writes the answer to a text to `*amount`, and returns its status.
+pub fn tell_signed(
     text: &str,
     answer: Result<i64, ChineseToAmountError>,
     amount: &mut SignedAmount,
 ) -> u32
     ensures { TellsSigned text.now (answer_of answer) result amount.new }
 {
-    *amount = NOTHING;
+    *amount = NO_SIGNED;
     match answer {
         Ok(fen) => {
             amount.fen = fen;
@@ -102,7 +103,7 @@ fn tell_signed(
 pub extern "C" fn chinese_signed_amount_read(text: &[u8], amount: &mut SignedAmount) -> u32
     ensures { IsSignedRead text.now result amount.new }
 {
-    *amount = NOTHING;
+    *amount = NO_SIGNED;
     match utf8_text(text) {
         Some(text) => tell_signed(text, chinese_to_signed_amount(text), amount),
         None => NOT_UTF8,
@@ -113,7 +114,7 @@ pub extern "C" fn chinese_signed_amount_read(text: &[u8], amount: &mut SignedAmo
 fn tell_figures(text: &str, answer: Result<i64, FiguresError>, amount: &mut SignedAmount) -> u32
     ensures { TellsFigures text.now answer result amount.new }
 {
-    *amount = NOTHING;
+    *amount = NO_SIGNED;
     match answer {
         Ok(fen) => {
             amount.fen = fen;
@@ -135,7 +136,7 @@ fn tell_figures(text: &str, answer: Result<i64, FiguresError>, amount: &mut Sign
 pub extern "C" fn chinese_figures_read(text: &[u8], amount: &mut SignedAmount) -> u32
     ensures { IsFiguresRead text.now result amount.new }
 {
-    *amount = NOTHING;
+    *amount = NO_SIGNED;
     match utf8_text(text) {
         Some(text) => tell_figures(text, signed_yuan_to_fen(text), amount),
         None => NOT_UTF8,

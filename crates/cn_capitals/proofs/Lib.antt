@@ -1,7 +1,13 @@
+pub mod Changing
 pub mod Characters
+pub mod Following
+pub mod Lists
 pub mod LookUp
 pub mod OneAnswer
+pub mod OneExpectation
 pub mod Puts
 pub mod Reading
+pub mod ReadingOn
 pub mod Runs
 pub mod Sieves
+pub mod Signs

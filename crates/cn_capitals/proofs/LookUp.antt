@@ -26,7 +26,7 @@ right-at rows [] i d all low = absurd (omega (arith, low))
 right-at rows (entry ∷ entries) zero d all low = all.0
 right-at rows (entry ∷ entries) (suc i) d all low = right-at rows entries i d all.1 (omega (arith, low))
 
-none-in : (is : ℕ → Bool) (c : ℕ) (cs : List ℕ) → list_all is cs ≡ true → is c ≡ false
+pub none-in : (is : ℕ → Bool) (c : ℕ) (cs : List ℕ) → list_all is cs ≡ true → is c ≡ false
     → char_set_contains cs c ≡ false
 none-in is c [] all other = refl
 none-in is c (first ∷ cs) all other =
@@ -39,7 +39,7 @@ none-in is c (first ∷ cs) all other =
       by false e ih = rw e ih
 
 -- if each character of the rows passes a test, a character that fails it is in no row
-none-with : {C : Type 0} (is : ℕ → Bool) (c : ℕ) (rows : List (List ℕ × C))
+pub none-with : {C : Type 0} (is : ℕ → Bool) (c : ℕ) (rows : List (List ℕ × C))
     → list_all (λ row. list_all is row.0) rows ≡ true → is c ≡ false → first_with rows c ≡ None
 none-with is c [] all other = refl
 none-with is c (row ∷ rows) all other =

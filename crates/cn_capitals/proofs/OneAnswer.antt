@@ -23,7 +23,7 @@ one-value IsForm machine reads = λ text one two h k.
     some-is one two (sym a.2 ∙ ap machine.end same ∙ b.2)
 
 -- each prefix of what begins a form begins one
-begins-take : {A : Type 0} (IsForm : List ℕ → A → Type 0) (text : List ℕ) (count : ℕ)
+pub begins-take : {A : Type 0} (IsForm : List ℕ → A → Type 0) (text : List ℕ) (count : ℕ)
     → Begins IsForm text → Begins IsForm (take count text)
 begins-take IsForm text count h =
     let same : take count text ++ (drop count text ++ h.0) ≡ text ++ h.0 =
@@ -32,7 +32,7 @@ begins-take IsForm text count h =
     (drop count text ++ h.0, h.1, subst (λ whole. IsForm whole h.1) (sym same) h.2)
 
 -- a form begins itself
-begins-form : {A : Type 0} (IsForm : List ℕ → A → Type 0) (text : List ℕ) (value : A)
+pub begins-form : {A : Type 0} (IsForm : List ℕ → A → Type 0) (text : List ℕ) (value : A)
     → IsForm text value → Begins IsForm text
 begins-form IsForm text value h =
     ([], value, subst (λ whole. IsForm whole value) (sym (append-nil text)) h)
@@ -47,7 +47,7 @@ pub never-incorrect : {A : Type 0} (IsForm : List ℕ → A → Type 0) (front b
 never-incorrect IsForm front behind value h place refused =
     refused.2 (begins-take IsForm front (place + 1) (behind, value, h))
 
-earlier : {A : Type 0} (IsForm : List ℕ → A → Type 0) (text : List ℕ) (place later : ℕ)
+pub earlier : {A : Type 0} (IsForm : List ℕ → A → Type 0) (text : List ℕ) (place later : ℕ)
     → place < later → Begins IsForm (take later text) → ¬ Begins IsForm (take (place + 1) text) → ⊥
 earlier IsForm text place later less h none = none (subst (Begins IsForm)
     (take-take (place + 1) later text (omega (arith, less))) (begins-take IsForm (take later text)

@@ -21,7 +21,7 @@ written-more character capitals capital =
     (append-nil (encode_utf8 (character capital)))
 
 -- more bytes are appended if the buffer holds them
-with-held : (bytes more : List ℕ) → length bytes + length more ≤ 120
+with-held : (bytes more : List ℕ) → length bytes + length more ≤ 129
     → bytes_with bytes more ≡ bytes ++ more
 with-held bytes more held = rw (le-leb _ _ held) refl
 

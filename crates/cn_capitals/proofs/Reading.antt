@@ -29,7 +29,7 @@ empty-read IsForm machine reads none bytes empty =
     (ap (run machine.step machine.begin) (chars-from_empty bytes empty)) none
 
 -- a character with which no form continues is incorrect
-refused-read : {S A : Type 0} (IsForm : List ℕ → A → Type 0) (machine : Machine S A)
+pub refused-read : {S A : Type 0} (IsForm : List ℕ → A → Type 0) (machine : Machine S A)
     → Reads IsForm machine → (start : List ℕ) (state : S) (c : ℕ)
     → Leads machine start state → machine.step state c ≡ None
     → ¬ Begins IsForm (start ++ c ∷ [])

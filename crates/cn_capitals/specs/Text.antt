@@ -9,7 +9,7 @@ text_bytes text = take text.len text.bytes
 
 -- the bytes with more bytes after them, if the buffer holds them all
 abbrev pub bytes_with : List ℕ → List ℕ → List ℕ
-bytes_with bytes more = if nat_le (length bytes + length more) 120 then bytes ++ more else bytes
+bytes_with bytes more = if nat_le (length bytes + length more) 129 then bytes ++ more else bytes
 
 -- the bytes that write capitals
 abbrev pub written : {C : Type 0} → (C → ℕ) → List C → List ℕ
@@ -19,7 +19,7 @@ written character capitals = encode_utf8_all (map character capitals)
 unfoldable pub HasPut : {H C : Type 0} → (H → C → ℕ) → H → CapitalText H → List C → Type 0
 HasPut character hand text capitals =
     (text.hand ≡ hand)
-    × (length (written (character hand) capitals) ≤ 120
+    × (length (written (character hand) capitals) ≤ 129
     → text_bytes text ≡ written (character hand) capitals)
 
 -- these capitals are appended after those before

@@ -3,6 +3,8 @@ ghost use Rattle.std.specs.Prelude.{◌≡◌, ℕ, List, ◌++◌, Result, Err}
 ghost use Rattle.cn_capitals.specs.declared.refusal.Refusal.{Refusal};
 ghost use Rattle.cn_capitals.specs.declared.refusal.Refusal.TheVariants.{Incorrect};
 ghost use Rattle.cn_capitals.specs.Answers.{Answers};
+ghost use Rattle.cn_capitals.specs.Expected.{IsExpected, is_expected};
+ghost use Rattle.cn_capitals.specs.declared.expecting.Expected.{Expected as Expectation};
 ghost use Rattle.cn_capitals.specs.Machine.{Reads};
 
 use crate::Grammar;
@@ -27,4 +29,19 @@ pub fn each_text_has_one_answer<G: Grammar>()
 pub fn beginnings_are_begun<G: Grammar>()
     ensures { (front behind : List ℕ) → (value : G.Value) → G.is_form (front ++ behind) value
         → (place : ℕ) → ¬ Answers G.is_form front (Err (Incorrect place)) }
+{}
+
+/// A text has one place, at which a form may end or not, and one set of characters that may come
+/// next.
+pub fn expectations_agree<G: Grammar>()
+    ensures { (text : List ℕ) → (one two : Expectation) → IsExpected G.is_form text one
+        → IsExpected G.is_form text two → (one.char_index ≡ two.char_index)
+        × (one.may_end ≡ two.may_end) × ((c : ℕ) → is_expected one c ≡ is_expected two c) }
+{}
+
+/// What may come next is said of the character at which the text is refused.
+pub fn refusals_are_where_expected<G: Grammar>()
+    ensures { (text : List ℕ) → (expected : Expectation) → IsExpected G.is_form text expected
+        → (place : ℕ) → Answers G.is_form text (Err (Incorrect place))
+        → expected.char_index ≡ place }
 {}

@@ -7,17 +7,32 @@
 //! that a sieve keeps, and `specs/Text` what has been appended to a text.
 #![tactic(auto)]
 
+mod character_list;
+mod expecting;
+mod fault;
 mod grammar;
+mod hint;
 pub mod laws;
+mod listed;
+mod look_alikes;
+mod partial;
 mod reader;
 mod refusal;
+mod repairing;
+mod sign;
 mod table;
 mod text;
 mod written;
 
+pub use character_list::CharacterList;
+pub use expecting::{Expected, expected_next};
 pub use grammar::Grammar;
+pub use hint::{Hint, Repair};
+pub use listed::Listed;
 pub use reader::read;
 pub use refusal::Refusal;
+pub use repairing::find_repair;
+pub use sign::Front;
 pub use table::known_in;
 pub use text::CapitalText;
 pub use written::Written;

@@ -1,4 +1,5 @@
 pub mod CapitalTable
+pub mod CharactersListed
 pub mod Completed
 pub mod Examples
 pub mod FormsRead

@@ -11,14 +11,19 @@
 mod capital;
 mod date;
 mod error;
+mod expect;
 pub mod laws;
+mod listed;
 mod part;
 mod put;
 mod read;
+mod repair;
 mod state;
 mod write;
 
 pub use date::BillDate;
 pub use error::{ChineseToDateError, DateToChineseError};
+pub use expect::date_expected;
 pub use read::chinese_to_date;
+pub use repair::date_repair;
 pub use write::{date_text, date_to_chinese};

@@ -4,10 +4,13 @@ use Rattle.chinese_number.specs.declared.ChineseCase.{ChineseCase}
 use Rattle.chinese_number.specs.declared.ChineseCountMethod.TheVariants.{Low, TenThousand, Middle, High}
 use Rattle.chinese_number.specs.declared.ChineseVariant.{ChineseVariant}
 use Rattle.chinese_number.specs.declared.NumberToChineseError.{NumberToChineseError}
+use Rattle.chinese_number.specs.declared.NumeralFault.{NumeralFault}
+use Rattle.chinese_number.specs.declared.NumeralFault.TheVariants.{Character}
 use Rattle.chinese_number.specs.declared.NumberToChineseError.TheVariants.{Overflow, Underflow, OutOfMemory}
 use Rattle.chinese_number.specs.Printing.{naive_text, spelled_text, is_printable}
 use Rattle.chinese_number.specs.Refusal.{Refusal, too_large, too_small}
 use Rattle.chinese_number.specs.Reading.{Reads, naive_reading}
+use Rattle.chinese_number.specs.Reason.{reason_in, rule_broken_at}
 use Rattle.chinese_number.specs.Whole.{Kind, signed_number}
 use Rattle.cn_faces.specs.declared.way.SignedMagnitude.{SignedMagnitude}
 use Rattle.cn_faces.specs.declared.way.Way.{Way}
@@ -29,6 +32,17 @@ way_named name = named name
 abbrev pub ReadsBy : Kind → Way → List ℕ → Result ℤ Refusal → Type 0
 ReadsBy kind Digits text answer = answer ≡ naive_reading kind text
 ReadsBy kind (Units method) text answer = Reads kind method text answer
+
+-- the rule that the reported character of a string breaks; as a plain digit, it is none
+abbrev pub rule_by : Way → List ℕ → ℕ → NumeralFault
+rule_by Digits text char_index = Character
+rule_by (Units method) text char_index = rule_broken_at text char_index
+
+-- `reason` is the reason why a string is not read in this way, if it is not
+abbrev pub IsReasonBy : Kind → Way → List ℕ → Option NumeralFault → Type 0
+IsReasonBy kind way text reason =
+    (answer : Result ℤ Refusal) × ReadsBy kind way text answer
+    × (reason ≡ reason_in (rule_by way text) answer)
 
 -- the reason why a method does not write a number
 abbrev pub unprintable : ℤ → Refusal

@@ -13,6 +13,6 @@ mod way;
 
 pub use either::{either_way, written_method};
 pub use integer_type::IntegerType;
-pub use read::{read_as, read_unsigned};
+pub use read::{explain_as, read_as, read_unsigned};
 pub use utf8::{are_common, are_utf8_at_all, utf8_text};
 pub use way::{SignedMagnitude, Way, put_by, read_by, way_named};

@@ -1,15 +1,16 @@
 // Reads a text as a number of an integer type that is given as a value.
 ghost use Rattle.std.specs.Prelude.{◌≡◌, None, false, pos, IsTrue, IfOk};
-ghost use Rattle.chinese_number.specs.Answer.{answer_of};
+ghost use Rattle.chinese_number.specs.Answer.{answer_of, refusal_of};
 ghost use Rattle.chinese_number.specs.Reading.{Reads, naive_reading};
+ghost use Rattle.chinese_number.specs.Reason.{reason_of};
 ghost use Rattle.chinese_number.specs.Whole.{holds};
 ghost use Rattle.cn_faces.specs.IntegerTypes.{the_kind};
-ghost use Rattle.cn_faces.specs.Ways.{ReadsBy, stands_for};
+ghost use Rattle.cn_faces.specs.Ways.{IsReasonBy, ReadsBy, rule_by, stands_for};
 ghost use Rattle.cn_judge.specs.Signed.{signed_answer};
 
 use crate::{IntegerType, SignedMagnitude, Way};
-use chinese_number::{ChineseCountMethod, ChineseToNumberError, Sign};
-use cn_judge::{judge_naive, split_sign};
+use chinese_number::{ChineseCountMethod, ChineseToNumberError, NumeralFault, Sign};
+use cn_judge::{judge_naive, naive_reason_of, reason_of, split_sign};
 use cn_quick::judge_quickly;
 
 // The answer for a type, from the sign and the answer to the text after it.
@@ -85,6 +86,27 @@ pub fn read_as(
     match way {
         Way::Digits => read_naive(integer, text),
         Way::Units(method) => read_units(integer, method, text),
+    }
+}
+
+// The reason for an error that a reader returned.
+fn fault_by(way: Way, text: &str, error: ChineseToNumberError) -> NumeralFault
+    ensures { result ≡ reason_of (rule_by way text.now) (refusal_of error) }
+{
+    match way {
+        Way::Digits => naive_reason_of(error),
+        Way::Units(_) => reason_of(text, error),
+    }
+}
+
+/// Why a text is not read in the given way as a number of an integer type; `None` if it is. With
+/// `either_way`, that is the reason of the reader that judged the text.
+pub fn explain_as(integer: IntegerType, way: Way, text: &str) -> Option<NumeralFault>
+    ensures { IsReasonBy (the_kind integer) way text.now result }
+{
+    match read_as(integer, way, text) {
+        Ok(_) => None,
+        Err(error) => Some(fault_by(way, text, error)),
     }
 }
 

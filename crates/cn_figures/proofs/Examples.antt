@@ -1,15 +1,23 @@
 -- Worked examples: the values that the definitions compute.
-use Rattle.std.proofs.Common.{◌≡◌, ℕ, ◌+◌, ◌*◌, ◌<◌, ◌≤◌, ◌==◌, ◌⊎◌, inl, inr, Bool, true, false, List, [], ◌∷◌, ◌++◌, length, map, drop, Some, None, Err, codes, refl, arith}
+use Rattle.std.proofs.Common.{◌≡◌, ℕ, ◌+◌, ◌*◌, ◌<◌, ◌≤◌, ◌==◌, ◌⊎◌, inl, inr, Bool, true, false, List, [], ◌∷◌, ◌++◌, length, map, take, drop, Some, None, Err, codes, refl, arith}
 use Rattle.std.specs.Prelude.{IsTrue, pos, neg_ℤ}
 use Rattle.std.specs.List.{list_all}
 use Rattle.cn_capitals.specs.declared.refusal.Refusal.TheVariants.{Unfinished, Incorrect}
 use Rattle.cn_capitals.specs.Answers.{Answers}
 use Rattle.cn_capitals.specs.Machine.{Leads}
+use Rattle.cn_capitals.specs.declared.expecting.Expected.{Expected}
+use Rattle.cn_capitals.specs.Expected.{IsExpected}
+use Rattle.cn_capitals.specs.Repairs.{IsRepair}
+use Rattle.cn_capitals.specs.declared.hint.Repair.TheVariants.{Replace}
+use Rattle.cn_capitals.proofs.Changing.{repair-is}
+use Rattle.cn_capitals.proofs.Following.{expected-is}
+use Rattle.cn_figures.specs.declared.listed.TheConstants.{CHARACTERS}
+use Rattle.cn_figures.proofs.CharactersListed.{figures-listed}
 use Rattle.cn_capitals.proofs.Reading.{unfinished-read, place-refused}
 use Rattle.cn_core.specs.Figures.{figure_of}
 use Rattle.cn_figures.specs.declared.part.Part.TheVariants.{Digit}
 use Rattle.cn_figures.specs.declared.progress.Progress.{Progress}
-use Rattle.cn_figures.specs.declared.state.State.TheVariants.{Beginning, Many, AfterComma, CommaThree, AfterPoint, Fen}
+use Rattle.cn_figures.specs.declared.state.State.TheVariants.{Beginning, One, Two, Many, AfterComma, CommaThree, AfterPoint, Fen}
 use Rattle.cn_core.specs.Digits.{value_of}
 use Rattle.cn_figures.specs.Figures.{Triple, with_commas, digits_of, marked, pointed, fen_of, IsFigures, WriteAmount, WriteSignedAmount}
 use Rattle.cn_figures.specs.Parts.{part_of, parts_of}
@@ -143,6 +151,43 @@ long_front : Answers WriteAmount (codes "1234,") (Err (Incorrect 4))
 unfolding part_of figure_of
 long_front = incorrect (codes "1234") 44 4 (at Many (Some 123400)) refl refl refl
 
-third_place : Answers WriteAmount (codes "15.005") (Err (Incorrect 5))
+pub third_place : Answers WriteAmount (codes "15.005") (Err (Incorrect 5))
 unfolding part_of figure_of
 third_place = incorrect (codes "15.00") 53 5 (at Fen (Some 1500)) refl refl refl
+
+-- what may come next: after 15.00 more zeros, and nothing else
+abbrev pub after_fifteen : Expected
+after_fifteen = record {
+  char_index = 5;
+  may_end = true;
+  characters = record { buffer = codes "0０"; len = 2; within = omega arith };
+  white_space = false;
+}
+
+pub zeros_follow : IsExpected WriteAmount (codes "15.005") after_fifteen
+unfolding part_of figure_of
+zeros_follow =
+    expected-is WriteAmount figures_machine figures-read (take 26 CHARACTERS) false figures-listed
+    (codes "15.005") (codes "5") figures_machine.begin (at Fen (Some 1500)) _ refl (record {
+      front = codes "15.00";
+      is = refl;
+      counts = refl;
+      runs = refl;
+    }) refl refl refl refl
+
+-- one change: 0 in place of O
+zero_for_o : IsRepair WriteAmount (codes "1O5") (record { char_index = 1; repair = Replace 48 })
+unfolding part_of figure_of
+zero_for_o =
+    repair-is WriteAmount figures_machine figures-read (codes "1O5") (codes "O5")
+    figures_machine.begin (at One (Some 100)) 1 false true _ refl (record {
+      front = codes "1";
+      is = refl;
+      counts = refl;
+      runs = refl;
+    }) refl (omega arith) refl (λ e. absurd (cc)) (record {
+      place = omega arith;
+      has_place = omega arith;
+      goes_on = figures-read.begins (codes "10") (at Two (Some 1000)) refl;
+      form = λ e. absurd (cc);
+    })

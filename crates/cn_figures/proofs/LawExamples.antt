@@ -1,13 +1,16 @@
 -- For each law with premises, values that meet all of them. So too for the laws of cn_capitals,
 -- which hold for any grammar.
-use Rattle.std.proofs.Common.{◌-◌, ◌^◌, ◌<◌, inr, false, [], ◌∷◌, ◌++◌, Some, codes, refl, arith}
+use Rattle.std.proofs.Common.{◌-◌, ◌^◌, ◌<◌, inr, false, [], ◌∷◌, ◌++◌, Some, Err, codes, refl, arith}
 use Rattle.cn_amount.specs.Places.{amount_limit}
+use Rattle.cn_capitals.specs.Answers.{Answers}
+use Rattle.cn_capitals.specs.Expected.{IsExpected}
 use Rattle.cn_capitals.specs.Machine.{Reads}
+use Rattle.cn_capitals.specs.declared.refusal.Refusal.TheVariants.{Incorrect}
 use Rattle.cn_core.specs.Figures.{figure_of}
 use Rattle.cn_figures.specs.Figures.{IsFigures, WriteAmount}
 use Rattle.cn_figures.specs.Parts.{part_of}
 use Rattle.cn_figures.specs.Working.Steps.{figures_machine}
-use Rattle.cn_figures.proofs.Examples.{made}
+use Rattle.cn_figures.proofs.Examples.{made, after_fifteen, zeros_follow, third_place}
 use Rattle.cn_figures.proofs.FiguresRead.{figures-read}
 
 -- the greatest amount
@@ -31,3 +34,13 @@ each_text_has_one_answer = figures-read
 -- the law beginnings_are_begun of cn_capitals
 beginnings_are_begun : WriteAmount (codes "1,4" ++ codes "09.50") (Some 140950)
 beginnings_are_begun = (140950, figures, refl)
+
+-- the law expectations_agree of cn_capitals
+expectations_agree : IsExpected WriteAmount (codes "15.005") after_fifteen
+    × IsExpected WriteAmount (codes "15.005") after_fifteen
+expectations_agree = (zeros_follow, zeros_follow)
+
+-- the law refusals_are_where_expected of cn_capitals
+refusals_are_where_expected : IsExpected WriteAmount (codes "15.005") after_fifteen
+    × Answers WriteAmount (codes "15.005") (Err (Incorrect 5))
+refusals_are_where_expected = (zeros_follow, third_place)

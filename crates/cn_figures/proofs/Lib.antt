@@ -1,8 +1,9 @@
+mod CharactersListed
 pub mod Examples
 mod FiguresRead
 mod FiguresRun
 mod Fronts
 mod LawExamples
 mod ShownRead
-mod Signed
+mod SignedReads
 mod Yuan

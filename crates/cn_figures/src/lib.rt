@@ -7,13 +7,19 @@
 #![tactic(auto)]
 
 mod error;
+mod expect;
 pub mod laws;
+mod listed;
 mod part;
 mod progress;
 mod read;
+mod repair;
 mod shown;
+mod signed;
 mod state;
 
 pub use error::FiguresError;
+pub use expect::{figures_expected, signed_figures_expected};
 pub use read::{signed_yuan_to_fen, yuan_to_fen};
+pub use repair::{figures_repair, signed_figures_repair};
 pub use shown::Figures;

@@ -1,3 +1,4 @@
+pub mod Cutting
 pub mod DigitRuns
 pub mod Endings
 pub mod Faults
@@ -10,6 +11,7 @@ pub mod Passing
 pub mod Pieces
 pub mod PlainDigits
 mod ShortMarks
+mod ReasonExamples
 pub mod Spaces
 pub mod Stacks
 pub mod Steps

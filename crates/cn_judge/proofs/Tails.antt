@@ -29,7 +29,7 @@ take-last front s l =
     ap (λ n. take n (front ++ s ∷ l ∷ [])) less ∙ take-append-add front (s ∷ l ∷ []) 1
 
 -- the body of a list of at least three marks, by its last two marks
-body-tail : (x : Mark) (xs : List Mark) (s l : Mark)
+pub body-tail : (x : Mark) (xs : List Mark) (s l : Mark)
     → body (x ∷ xs ++ s ∷ l ∷ []) ≡ x ∷ xs ++ s ∷ (if is_tail s l then [] else l ∷ [])
 body-tail x xs s l =
     let marks : List Mark = x ∷ xs ++ s ∷ l ∷ [] in

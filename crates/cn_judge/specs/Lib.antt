@@ -6,4 +6,5 @@ pub mod Judged
 pub mod Marked
 pub mod Piece
 pub mod Private
+pub mod Reason
 pub mod Signed

@@ -3,11 +3,13 @@
 //!
 //! Only the crates above this one use it: `cn_read` gives the readers their public names and
 //! re-exports the error; `cn_quick` uses marks, signs and the rules on the first digit; `cn_find`
-//! uses marks; `cn_quantity` uses the judgements of a text without sign; `cn_faces` uses the test
+//! uses marks; `cn_quantity` uses the judgements of a text without sign, and the reasons for
+//! refusals; `chinese_number` re-exports `explain_number`; `cn_faces` uses the reasons, and the test
 //! for eight bytes of ASCII; and `cn_c` uses the byte index of a character.
 #![tactic(auto)]
 
 mod error;
+mod fault;
 mod first_bytes;
 mod judge;
 mod mark;
@@ -19,6 +21,7 @@ mod walk;
 mod word;
 
 pub use error::ChineseToNumberError;
+pub use fault::{NumeralFault, explain_number, explain_number_naive, naive_reason_of, reason_of};
 pub use judge::{AfterSign, first_digit, judge_text, read, signed_answer, split_sign};
 pub use mark::{Mark, mark_of};
 pub use naive::{judge_naive, read_naive};

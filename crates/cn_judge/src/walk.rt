@@ -58,7 +58,7 @@ pub fn separates_digits(value: u8, at_digit: bool) -> bool
 }
 
 // Rule 4: a unit directly before a unit is smaller than it, except 十 directly before 個.
-fn multiplies_upwards(unit: Unit, after: Option<Unit>) -> bool
+pub(crate) fn multiplies_upwards(unit: Unit, after: Option<Unit>) -> bool
     ensures { result ≡ multiplies_by (rank unit) (option_map rank after) }
 {
     match after {
@@ -68,7 +68,7 @@ fn multiplies_upwards(unit: Unit, after: Option<Unit>) -> bool
 }
 
 // Rule 5: 個 is directly before a unit; by rule 4 that unit is greater.
-fn counts_a_unit(unit: Unit, after: Option<Unit>) -> bool
+pub(crate) fn counts_a_unit(unit: Unit, after: Option<Unit>) -> bool
     ensures { result ≡ false ↔ ((rank unit ≡ 0) × (option_map rank after ≡ None)) }
 {
     unit != Unit::Ge || after.is_some()

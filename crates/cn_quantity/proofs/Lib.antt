@@ -2,6 +2,8 @@ pub mod Bars
 pub mod DroppedZeros
 pub mod Ends
 mod Examples
+pub mod Faults
+pub mod FaultsFound
 pub mod FigureGroups
 pub mod Groups
 pub mod Growing
@@ -13,6 +15,7 @@ pub mod Negated
 pub mod Numbers
 pub mod Points
 pub mod Ratios
+mod ReasonExamples
 pub mod Signed
 pub mod Today
 pub mod Told

@@ -35,7 +35,7 @@ bare-nearest (other ∷ []) = refl
 bare-nearest (a ∷ b ∷ []) = bare-same a b (other ∷ []) []
 bare-nearest (a ∷ b ∷ d ∷ more) = bare-same a b (d ∷ []) (d ∷ more)
 
-near-bare : (front : List Mark) (mark : Mark) → bare_ten (nearest front) mark ≡ bare_ten front mark
+pub near-bare : (front : List Mark) (mark : Mark) → bare_ten (nearest front) mark ≡ bare_ten front mark
 near-bare front mark = ap (λ o. if is_unit 1 mark then o else None) (bare-nearest front)
 
 pub counted-same : (rank : ℕ) (a b : Mark) (more others : List Mark)
@@ -66,14 +66,14 @@ counted-nearest rank (a ∷ b ∷ d ∷ more) =
     ap₂ (λ c e. c || (is_unit 0 a && e)) (counted-same rank a b (d ∷ []) (d ∷ more))
     (counted-same rank b d [] more)
 
-begins-nearest : (test : Mark → Bool) (front : List Mark) → test other ≡ false
+pub begins-nearest : (test : Mark → Bool) (front : List Mark) → test other ≡ false
     → begins test (nearest front) ≡ begins test front
 begins-nearest test [] none = none
 begins-nearest test (a ∷ []) none = refl
 begins-nearest test (a ∷ b ∷ []) none = refl
 begins-nearest test (a ∷ b ∷ d ∷ more) none = refl
 
-two-nearest : (front : List Mark) (mark : Mark)
+pub two-nearest : (front : List Mark) (mark : Mark)
     → has_two_readings (nearest front) mark ≡ has_two_readings front mark
 two-nearest front (digit v) = refl
 two-nearest front other = refl
@@ -89,7 +89,7 @@ near-misread front mark after =
     let great = begins-nearest (is_unit_from 5) front refl in
     cc
 
-near-weighs : (front after : List Mark) → weighs (nearest front) after ≡ weighs front after
+pub near-weighs : (front after : List Mark) → weighs (nearest front) after ≡ weighs front after
 near-weighs front after =
     let digit = begins-nearest is_digit front refl in
     let unit = begins-nearest (is_unit_from 1) front refl in

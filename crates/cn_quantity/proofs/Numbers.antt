@@ -28,13 +28,13 @@ pub decimal-told : (skipped : ℕ) (bytes : List ℕ) (decimals : ℕ) (number :
 decimal-told skipped bytes decimals (Some number) = refl
 decimal-told skipped bytes decimals None = refl
 
-decimal-placeless : (decimals : ℕ) (number : Option ℕ) (place : ℕ)
+pub decimal-placeless : (decimals : ℕ) (number : Option ℕ) (place : ℕ)
     → decimal_of decimals number ≡ Err (incorrect_at place) → ⊥
 decimal-placeless decimals (Some number) place h = cc
 decimal-placeless decimals None place h = cc
 
 -- the first answer is the refusal, since the next one does not name a place
-first-refused : (first : Result ℕ Refusal) (decimals : ℕ) (next : ℕ → Option ℕ) (place : ℕ)
+pub first-refused : (first : Result ℕ Refusal) (decimals : ℕ) (next : ℕ → Option ℕ) (place : ℕ)
     → and_then first (λ whole. decimal_of decimals (next whole)) ≡ Err (incorrect_at place)
     → first ≡ Err (incorrect_at place)
 first-refused (Ok whole) decimals next place h =

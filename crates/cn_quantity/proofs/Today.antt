@@ -364,6 +364,12 @@ sum-read method rank number before from h = by (judge method (marks_of before)) 
   by (Ok first) is e = next first (judge method (marks_of from)) (marks before first is) refl e
   by (Err refusal) is e = cc
 
+-- what refuses a misread text is no number
+refused-none : (answer : Result ℕ Refusal) (place number : ℕ)
+    → refused_at answer place ≡ Ok number → ⊥
+refused-none (Ok value) place number e = cc
+refused-none (Err refusal) place number e = cc
+
 pub whole-marks : (method : ChineseCountMethod) (text : List ℕ) (number : ℕ)
     → whole_answer method text ≡ Ok number → are_marks text ≡ true
 whole-marks method text number h = by (first_misread text) h where
@@ -382,8 +388,7 @@ whole-marks method text number h = by (first_misread text) h where
       ∙ list_all-append test (take place text) (drop place text)
       ∙ both (are_marks (take place text)) (are_marks (drop place text)) read.0 read.1
   parts place None e =
-      absurd (refused (reader_answer method (take place text ++ drop place text))
-      (length (take place text)) e)
+      absurd (refused-none (reader_answer method (take place text ++ drop place text)) _ number e)
 
   by : (found : Option ℕ)
       → option_map_or (λ place. misread_answer method (take place text) (drop place text)) found

@@ -1,5 +1,5 @@
 -- A whole number, from what its parts are answered.
-use Rattle.std.proofs.Common.{◌≡◌, ℕ, zero, suc, ◌+◌, ◌^◌, ◌<◌, ◌≤◌, Bool, true, false, nat_le, nat_lt, List, [], ◌∷◌, ◌++◌, length, take, drop, chars, reverse, Option, Some, None, Result, Ok, Err, refl, sym, ap, ◌∙◌, arith, if◌then◌else◌, length-append, length-drop, length-take, zero-add}
+use Rattle.std.proofs.Common.{◌≡◌, ℕ, zero, suc, ◌+◌, ◌^◌, ◌<◌, ◌≤◌, Bool, true, false, not, nat_le, nat_lt, filter, List, [], ◌∷◌, ◌++◌, length, take, drop, chars, reverse, Option, Some, None, Result, Ok, Err, refl, sym, ap, ◌∙◌, arith, if◌then◌else◌, length-append, length-drop, length-take, zero-add}
 use Rattle.std.proofs.lemmas.Bool.Decides.{nat_tests}
 use Rattle.std.proofs.lemmas.List.{length-map}
 use Rattle.std.proofs.Math.Seq.{take-append_seam, drop-append_seam}
@@ -17,7 +17,7 @@ use Rattle.cn_core.specs.Text.{marks_of, text_of}
 use Rattle.cn_core.proofs.Within.{judge-within, naive-within}
 use Rattle.cn_judge.specs.Piece.{StandsAt, answer_at}
 use Rattle.cn_judge.proofs.Pieces.{char_index-at, char_index-rest}
-use Rattle.std.specs.Char.{is_whitespace}
+use Rattle.std.specs.Char.{is_not_whitespace, is_whitespace}
 use Rattle.cn_quantity.specs.Answer.{and_then, further_by}
 use Rattle.cn_quantity.specs.Misread.{bare_ten, bare_ten_between, first_misread, is_misread_at, misread_after}
 use Rattle.cn_quantity.specs.Private.{SplitsAtMisread}
@@ -45,7 +45,7 @@ judge-low method text place h =
     let low = judge-within method (marks_of text) place h in
     let size = length-map text mark_of in omega (arith, low, size)
 
-reader-low : (method : ChineseCountMethod) (text : List ℕ) (place : ℕ)
+pub reader-low : (method : ChineseCountMethod) (text : List ℕ) (place : ℕ)
     → reader_answer method text ≡ Err (incorrect_at place) → place < length text
 reader-low method text place h = by (is_plain text) h where
   by : (b : Bool) → (if b then naive_answer (marks_of text) else judge method (marks_of text))
@@ -193,7 +193,7 @@ whole-misread method bytes before from bare s =
       drop-append_seam (text_of before) (text_of from),
     ) refl
 
-bare-between : (before from : List ℕ) (first : ℕ) (after : List ℕ)
+pub bare-between : (before from : List ℕ) (first : ℕ) (after : List ℕ)
     → from ≡ first ∷ after → first_misread from ≡ None
     → bare_ten_between before from ≡ bare_ten (marks_of (reverse before)) (mark_of first)
 bare-between before from first after is none = rw is (let n = rw is at none in rw n)
@@ -220,6 +220,44 @@ char_index-rises (c ∷ rest) one two le = by (is_whitespace c) one two le refl
       by false (suc one) (suc two) le dark ih =
           rw dark (let h = ih one two (omega (arith, le)) in omega (arith, h))
       by b (suc one) zero le is ih = absurd (omega (arith, le))
+
+-- a later place has a greater char_index
+char_index-grows : (text : List ℕ) (one two : ℕ) → one < two
+    → one < length (filter is_not_whitespace text)
+    → char_index_among text one < char_index_among text two
+char_index-grows [] one two less low = absurd (omega (arith, low))
+char_index-grows (c ∷ rest) one two less low = by (is_whitespace c) one two less refl low
+    (char_index-grows rest) where
+      by : (b : Bool) (one two : ℕ) → one < two → is_whitespace c ≡ b
+          → one < length (if not b then c ∷ filter is_not_whitespace rest
+          else filter is_not_whitespace rest)
+          → ((one two : ℕ) → one < two → one < length (filter is_not_whitespace rest)
+          → char_index_among rest one < char_index_among rest two)
+          → char_index_among (c ∷ rest) one < char_index_among (c ∷ rest) two
+      by true zero (suc two) less white low ih =
+          rw white (let h = ih 0 (suc two) less low in omega (arith, h))
+      by true (suc one) (suc two) less white low ih =
+          rw white (let h = ih (suc one) (suc two) less low in omega (arith, h))
+      by false zero (suc two) less dark low ih = rw dark (omega arith)
+      by false (suc one) (suc two) less dark low ih =
+          rw dark (let h = ih one two (omega (arith, less)) (omega (arith, low)) in omega (arith, h))
+      by b one zero less is low ih = absurd (omega (arith, less))
+
+-- a place in a text is later exactly if its char_index is greater
+pub later-same : (skipped : ℕ) (bytes : List ℕ) (place p : ℕ) → p < length (text_of bytes)
+    → nat_lt (skipped + char_index_of bytes place) (skipped + char_index_of bytes p)
+    ≡ nat_lt place p
+later-same skipped bytes place p low = by (nat_lt place p) refl where
+  by : (b : Bool) → nat_lt place p ≡ b
+      → nat_lt (skipped + char_index_of bytes place) (skipped + char_index_of bytes p) ≡ b
+  by true is =
+      let less : place < p = grind (arith, nat_tests, is) in
+      let grows = char_index-grows (chars bytes) place p less (omega (arith, less, low)) in
+      grind (arith, nat_tests, grows)
+  by false is =
+      let small : p ≤ place = grind (arith, nat_tests, is) in
+      let rises = char_index-rises (chars bytes) p place small in
+      grind (arith, nat_tests, rises)
 
 -- the later of two places in a text is that in the string
 places-later : (skipped : ℕ) (bytes : List ℕ) (one two : ℕ)

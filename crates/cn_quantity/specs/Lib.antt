@@ -8,6 +8,7 @@ pub mod Number
 pub mod Private
 pub mod Ratio
 pub mod Reading
+pub mod Reason
 pub mod Trimmed
 pub mod Turns
 pub mod Units

@@ -1,5 +1,5 @@
 //! What users can rely on, as contracts of functions that do nothing.
-ghost use Rattle.std.specs.Prelude.{◌≡◌, ◌↔◌, ◌⊎◌, ◌<◌, ◌%◌, ◌*ℤ◌, ℕ, List, length, nat_abs, pos, Err, IsSome, None, Some};
+ghost use Rattle.std.specs.Prelude.{◌≡◌, ◌↔◌, ◌⊎◌, ◌<◌, ◌%◌, ◌*ℤ◌, ℕ, List, length, nat_abs, pos, Err, IsSome, None, Ok, Some};
 ghost use Rattle.cn_core.specs.declared.method.ChineseCountMethod.{ChineseCountMethod};
 ghost use Rattle.cn_core.specs.CharIndex.{char_index_of};
 ghost use Rattle.cn_core.specs.Refusal.{incorrect_at};
@@ -7,6 +7,7 @@ ghost use Rattle.cn_core.specs.Text.{text_of};
 ghost use Rattle.cn_quantity.specs.declared.quantity.Quantity.{Quantity};
 ghost use Rattle.cn_quantity.specs.declared.quantity.QuantityForm.TheVariants.{Percent};
 ghost use Rattle.cn_quantity.specs.Reading.{quantity_answer};
+ghost use Rattle.cn_quantity.specs.Reason.{quantity_fault};
 ghost use Rattle.cn_quantity.specs.Trimmed.{decimals_of, trimmed};
 
 /// A refusal points at a character: its char_index is that of a place of the text, sign included.
@@ -35,4 +36,14 @@ pub fn trimmed_keeps_the_value()
     ensures last { (q : Quantity) → IsSome (decimals_of q)
         → (decimals_of (trimmed q) ≡ Some 0) ⊎ (0 < nat_abs (trimmed q).numerator % 10) }
     ensures unknown { (q : Quantity) → decimals_of q ≡ None → trimmed q ≡ q }
+{}
+
+/// A text has a reason exactly if it is not a quantity.
+///
+/// For form validators that explain what is wrong: `explain_quantity` never leaves a refusal without
+/// a reason.
+pub fn each_refusal_has_a_reason()
+    ensures { (method : ChineseCountMethod) (bytes : List ℕ)
+        → (quantity_fault method bytes ≡ None)
+        ↔ ((quantity : Quantity) × (quantity_answer method bytes ≡ Ok quantity)) }
 {}

@@ -7,6 +7,7 @@
 mod characters;
 mod decimal;
 mod digits;
+mod fault;
 mod figures;
 pub mod laws;
 mod misread;
@@ -20,6 +21,8 @@ mod turns;
 mod units;
 mod whole_number;
 
+pub use fault::{QuantityFault, explain_quantity};
+pub use misread::MisreadFault;
 pub use quantity::{Quantity, QuantityForm, chinese_to_quantity};
 pub use trimmed::decimals_of;
 pub use units::{are_rising_units, first_unit};

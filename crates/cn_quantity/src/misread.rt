@@ -9,6 +9,7 @@ ghost use Rattle.cn_judge.specs.declared.mark.Mark.TheVariants.{Other};
 ghost use Rattle.std.specs.List.{list_any};
 ghost use Rattle.cn_quantity.specs.Misread.{bare_ten, counts_after_smaller, first_misread, has_two_readings, is_liang, is_misread_mark, is_small_unit, is_unit_from, leaves_out_zero, multiplies_zero, repeats_ten, unit_before_ten, weighs};
 ghost use Rattle.cn_quantity.specs.Private.{SplitsAtMisread, marks_before};
+ghost use Rattle.cn_quantity.specs.Reason.{misread_rule, misread_rule_between};
 
 use crate::pieces::{before_end, split_first};
 use cn_core::Unit;
@@ -203,6 +204,44 @@ fn is_misread_at(before: Before, c: char, after: &str) -> bool
         || is_weight(before, c, after)
 }
 
+/// By which rule of misread numerals a character is misread; `docs/RULES.md` numbers them.
+#[derive(Debug, Copy, Clone, Eq, PartialEq)]
+pub enum MisreadFault {
+    /// Rule 1: 十 after 百, or after 零 after 千 or a greater unit, as in `三千零十万`.
+    BareTen,
+    /// Rule 2: 十 or 百 after 十, as in `十十`.
+    RepeatedTen,
+    /// Rule 3: a unit after 零, as in `一亿零万`.
+    AfterZero,
+    /// Rule 4: 两 as a weight, as in `二两`.
+    Weight,
+    /// Rule 5: a unit that counts one digit or all before it, as in `一百五万`.
+    TwoReadings,
+    /// Rule 6: a digit or 十 after 億 or a greater unit, where 零 seems to be left out, as in
+    /// `一亿二千`.
+    LeftOutZero,
+}
+
+// The first rule by which a misread character is one.
+fn rule_of(before: Before, c: char, after: &str) -> MisreadFault
+    ensures { result ≡ misread_rule (marks_before before) c (text_of after.now) }
+{
+    let mark = mark_of(c);
+    if bare_ten(before, mark).is_some() {
+        MisreadFault::BareTen
+    } else if repeats_ten(before, mark) {
+        MisreadFault::RepeatedTen
+    } else if multiplies_zero(before, mark) {
+        MisreadFault::AfterZero
+    } else if is_weight(before, c, after) {
+        MisreadFault::Weight
+    } else if has_two_readings(before, mark) {
+        MisreadFault::TwoReadings
+    } else {
+        MisreadFault::LeftOutZero
+    }
+}
+
 /// A text in two parts, split at its first misread character.
 #[derive(Copy, Clone)]
 pub struct Misread<'a> {
@@ -212,6 +251,8 @@ pub struct Misread<'a> {
     pub from: &'a str,
     /// The unit before the character, if it is a bare ten.
     pub unit: Option<Unit>,
+    /// By which rule it is misread.
+    pub rule: MisreadFault,
 }
 
 /// The text in two parts at its first misread character, if it has one.
@@ -220,6 +261,8 @@ pub fn first_misread(text: &str) -> Option<Misread<'_>>
         (λ r. SplitsAtMisread text.now r.before.now r.from.now (option_map rank r.unit)) }
     ensures sizes { IfSome result
         (λ r. length r.before.now + length r.from.now ≡ length text.now) }
+    ensures rule { IfSome result (λ r. r.rule
+        ≡ misread_rule_between (text_of r.before.now) (text_of r.from.now)) }
 {
     let mut before = Before::nothing();
     let mut rest = text;
@@ -229,6 +272,7 @@ pub fn first_misread(text: &str) -> Option<Misread<'_>>
                 before: before_end(text, rest),
                 from: rest,
                 unit: bare_ten(before, mark_of(c)),
+                rule: rule_of(before, c, after),
             });
         }
         before = before.then(mark_of(c));

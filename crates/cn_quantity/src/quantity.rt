@@ -209,8 +209,8 @@ fn after_yen(text: &str) -> &str
     text
 }
 
-// The sign before a number, and the number without it and without ¥.
-fn split_front(text: &str) -> AfterSign<'_>
+/// The sign before a number, and the number without it and without ¥.
+pub fn split_front(text: &str) -> AfterSign<'_>
     ensures sign { result.sign ≡ number_sign (text_of text.now) }
     ensures rest { StandsAt text.now (chars result.rest.now) result.skipped
         (front_length (text_of text.now)) }

@@ -120,9 +120,9 @@ pub fn split_fraction(text: &str) -> Option<Bar<'_>>
     Some(bar)
 }
 
-// The text before a percent sign or ‰ at the end, unless it is empty, and the number by which the
-// sign divides.
-fn split_share(text: &str) -> Option<(&str, u128)>
+/// The text before a percent sign or ‰ at the end, unless it is empty, and the number by which the
+/// sign divides.
+pub fn split_share(text: &str) -> Option<(&str, u128)>
     ensures share { MatchOption result (share (text_of text.now) ≡ None)
         (λ r. share (text_of text.now) ≡ Some r.1) }
     ensures above { IfSome result (λ r. 0 < r.1) }

@@ -29,9 +29,9 @@ fn is_plain(text: &str) -> bool
     true
 }
 
-// The answer of the readers of numerals to a text; `skipped` characters of the caller's string are
-// before it.
-fn judge_reader(
+/// The answer of the readers of numerals to a text; `skipped` characters of the caller's string are
+/// before it.
+pub fn judge_reader(
     method: ChineseCountMethod,
     skipped: usize,
     text: &str,
@@ -67,8 +67,8 @@ fn sum_of(first: u128, second: u128) -> Result<u128, ChineseToNumberError>
     }
 }
 
-// The refusal of a misread character.
-fn misread_error(skipped: usize, misread: Misread<'_>) -> ChineseToNumberError
+/// The refusal of a misread character.
+pub fn misread_error(skipped: usize, misread: Misread<'_>) -> ChineseToNumberError
     requires { skipped + length misread.before.now + length misread.from.now < 2 ^ 64 }
     ensures { (bytes : List ℕ)
         → SplitsAtMisread bytes misread.entry.before.now misread.entry.from.now (option_map rank misread.entry.unit)
@@ -83,8 +83,8 @@ fn misread_error(skipped: usize, misread: Misread<'_>) -> ChineseToNumberError
     }
 }
 
-// The sum of a text and of the rest from a bare ten on, which must be below the unit's scale.
-fn judge_sum(
+/// The sum of a text and of the rest from a bare ten on, which must be below the unit's scale.
+pub fn judge_sum(
     method: ChineseCountMethod,
     skipped: usize,
     unit: Unit,

@@ -24,4 +24,5 @@ pub use options::{Figures, Included, Style};
 pub use quantities::{put_quantities_in_figures, quantities_to_figures};
 pub use replace::replace_quantities;
 pub use replacement::Replacement;
+pub use room::LentRoom;
 pub use sink::Sink;

@@ -3,7 +3,8 @@ use crate::calls::writes;
 use chinese_number::ChineseVariant::{Simple, Traditional};
 use chinese_number::{
     AmountForm, ChineseVariant, amount_to_chinese, amount_to_chinese_as,
-    chinese_to_amount_as_typed, chinese_to_signed_amount, signed_amount_to_chinese,
+    chinese_to_amount_as_typed, chinese_to_signed_amount, chinese_to_signed_amount_as_typed,
+    signed_amount_to_chinese, signed_amount_to_chinese_as,
 };
 
 static ENDS: [(u64, &str); 2] = [
@@ -33,6 +34,7 @@ fn writes_amounts(rt: HostRuntime) {
             currency: *currency,
             round_yuan: *round_yuan,
             upright_closing: *upright_closing,
+            ..AmountForm::PLAIN
         };
         let written = amount_to_chinese_as(rt.alloc(), *variant, form, 1_500);
         writes(&rt, written, text);
@@ -63,5 +65,29 @@ fn writes_and_reads_amounts_below_zero(rt: HostRuntime) {
 fn reads_amounts_as_typed(rt: HostRuntime) {
     for text in &["⊗壹拾 伍元整", "人民币：壹拾伍圆正", " ⊗人民幣 :壹拾伍元 整 "] {
         assert_eq!(rt; chinese_to_amount_as_typed(text), Ok(1_500));
+    }
+}
+
+// What is written for 15 yuan below zero with and without 人民币, with the sign in brackets.
+static INVOICES: [(ChineseVariant, bool, &str); 3] = [
+    (Simple, false, "（负数）壹拾伍元整"),
+    (Simple, true, "（负数）人民币壹拾伍元整"),
+    (Traditional, true, "（負數）人民幣壹拾伍元整"),
+];
+
+#[test]
+fn writes_and_reads_amounts_of_red_invoices(rt: HostRuntime) {
+    for (variant, currency, text) in &INVOICES {
+        let form = AmountForm {
+            currency: *currency,
+            bracketed_sign: true,
+            ..AmountForm::PLAIN
+        };
+        let written = signed_amount_to_chinese_as(rt.alloc(), *variant, form, -1_500);
+        writes(&rt, written, text);
+        assert_eq!(rt; chinese_to_signed_amount_as_typed(text), Ok(-1_500));
+    }
+    for text in &["⊗（负数）壹拾伍元整", "人民币（大写）：负 壹拾伍圆正", "ⓧ人民幣(大寫)(負數)壹拾伍元整"] {
+        assert_eq!(rt; chinese_to_signed_amount_as_typed(text), Ok(-1_500));
     }
 }

@@ -31,8 +31,8 @@ fn holds_what_is_put(rt: HostRuntime) {
 #[test]
 fn leaves_out_what_does_not_fit(rt: HostRuntime) {
     let mut text = CapitalText::<ChineseVariant>::new::<Same>(ChineseVariant::Simple);
-    for _ in 0..41 {
+    for _ in 0..44 {
         text.put(Same('元'));
     }
-    assert_eq!(rt; text.as_bytes().len(), 120);
+    assert_eq!(rt; text.as_bytes().len(), 129);
 }

@@ -1,5 +1,5 @@
 // Which answer a string has.
-ghost use Rattle.std.specs.Prelude.{◌≡◌, ◌↔◌, ℕ, ℤ, false, List, Result, Ok, IsTrue};
+ghost use Rattle.std.specs.Prelude.{◌≡◌, ◌↔◌, ℕ, ℤ, false, List, Option, None, Result, Ok, IsTrue};
 ghost use Rattle.chinese_number.specs.Parts.{sign_at, unsigned_text};
 ghost use Rattle.cn_core.specs.Judge.{Judges};
 ghost use Rattle.cn_core.specs.Judging.{judge};
@@ -11,6 +11,8 @@ ghost use Rattle.cn_core.specs.Text.{marks_of};
 ghost use Rattle.cn_core.specs.Reading.{Reads, is_minus};
 ghost use Rattle.cn_core.specs.Value.{numeral_value};
 ghost use Rattle.cn_core.specs.Whole.{signed_number, Kind, holds};
+ghost use Rattle.cn_judge.specs.Reason.{IsReason};
+ghost use Rattle.cn_judge.specs.declared.fault.NumeralFault.{NumeralFault};
 ghost use Rattle.cn_core.specs.declared.method.ChineseCountMethod.{ChineseCountMethod};
 
 use cn_core::Whole;
@@ -56,4 +58,17 @@ pub fn numerals_alone_are_read<T: Whole>()
         ↔ (IsNumeral marks × (some_unfit method marks ≡ false)
         × (signed_number (is_minus (sign_at T.kind bytes)) (numeral_value method marks) ≡ number)
         × IsTrue (holds T.kind number)) }
+{}
+
+/// Each string that is read with units has one reason for its refusal, or none, and none exactly if
+/// it is read as a number.
+///
+/// For form validators that explain what is wrong: 一百十 breaks rule 4, and no other rule is named.
+pub fn each_refusal_has_one_reason()
+    ensures reason { (kind : Kind) (method : ChineseCountMethod) (bytes : List ℕ)
+        → (reason : Option NumeralFault) × IsReason kind method bytes reason
+        × ((other : Option NumeralFault) → IsReason kind method bytes other → other ≡ reason) }
+    ensures none { (kind : Kind) (method : ChineseCountMethod) (bytes : List ℕ)
+        → IsReason kind method bytes None
+        ↔ ((number : ℤ) × Reads kind method bytes (Ok number)) }
 {}

@@ -16,6 +16,9 @@ ghost use Rattle.cn_date.specs.declared.error.DateToChineseError.{DateToChineseE
 ghost use Rattle.cn_express.specs.declared.error.QuantityToChineseError.{QuantityToChineseError as QuantityPrintingError};
 ghost use Rattle.cn_find.specs.declared.doubt.Doubt.{Doubt as DoubtOfFound};
 ghost use Rattle.cn_judge.specs.declared.error.ChineseToNumberError.{ChineseToNumberError as ReadingError};
+ghost use Rattle.cn_judge.specs.declared.fault.NumeralFault.{NumeralFault as FaultOfNumeral};
+ghost use Rattle.cn_quantity.specs.declared.fault.QuantityFault.{QuantityFault as FaultOfQuantity};
+ghost use Rattle.cn_quantity.specs.declared.misread.MisreadFault.{MisreadFault as FaultOfMisread};
 ghost use Rattle.cn_quantity.specs.declared.quantity.Quantity.{Quantity as ExactQuantity};
 ghost use Rattle.cn_quantity.specs.declared.quantity.QuantityForm.{QuantityForm as FormOfQuantity};
 ghost use Rattle.cn_spell.specs.declared.error.NumberToChineseError.{NumberToChineseError as PrintingError};
@@ -25,15 +28,16 @@ use cn_core::{ChineseCase, ChineseCountMethod, ChineseVariant, Sign, Unit};
 use cn_date::{BillDate, ChineseToDateError, DateToChineseError};
 use cn_express::QuantityToChineseError;
 use cn_find::Doubt;
+use cn_judge::NumeralFault;
 use cn_print::NumberToChineseError;
-use cn_quantity::{Quantity, QuantityForm};
+use cn_quantity::{MisreadFault, Quantity, QuantityFault, QuantityForm};
 use cn_read::ChineseToNumberError;
 
 /// Two values of an enum are equal exactly if they are the same variant, with the same char_index
 /// if it has one.
 ///
-/// For callers who compare scripts, cases, methods, units, signs, forms of quantities, doubts or
-/// errors.
+/// For callers who compare scripts, cases, methods, units, signs, forms of quantities, doubts,
+/// errors or the reasons for them.
 pub fn equal_values_are_the_same_variant()
     ensures units { (a b : NumeralUnit) → IsTrue (⟦<Unit as PartialEq>⟧.eq a b) ↔ (a ≡ b) }
     ensures signs { (a b : NumeralSign) → IsTrue (⟦<Sign as PartialEq>⟧.eq a b) ↔ (a ≡ b) }
@@ -46,6 +50,12 @@ pub fn equal_values_are_the_same_variant()
     ensures doubts { (a b : DoubtOfFound) → IsTrue (⟦<Doubt as PartialEq>⟧.eq a b) ↔ (a ≡ b) }
     ensures reading_errors { (a b : ReadingError)
         → IsTrue (⟦<ChineseToNumberError as PartialEq>⟧.eq a b) ↔ (a ≡ b) }
+    ensures numeral_faults { (a b : FaultOfNumeral)
+        → IsTrue (⟦<NumeralFault as PartialEq>⟧.eq a b) ↔ (a ≡ b) }
+    ensures misread_faults { (a b : FaultOfMisread)
+        → IsTrue (⟦<MisreadFault as PartialEq>⟧.eq a b) ↔ (a ≡ b) }
+    ensures quantity_faults { (a b : FaultOfQuantity)
+        → IsTrue (⟦<QuantityFault as PartialEq>⟧.eq a b) ↔ (a ≡ b) }
     ensures printing_errors { (a b : PrintingError)
         → IsTrue (⟦<NumberToChineseError as PartialEq>⟧.eq a b) ↔ (a ≡ b) }
     ensures quantity_printing_errors { (a b : QuantityPrintingError)

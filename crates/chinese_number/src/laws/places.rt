@@ -7,6 +7,9 @@ ghost use Rattle.cn_core.specs.Numeral.{IsNumeral, Completable};
 ghost use Rattle.cn_core.specs.Place.{IsPlace, body};
 ghost use Rattle.cn_core.specs.Refusal.{incorrect_at};
 ghost use Rattle.cn_core.specs.Text.{marks_of};
+ghost use Rattle.chinese_number.specs.Places.{first_broken_rule, judged_part};
+ghost use Rattle.cn_judge.specs.Reason.{broken_rule, rule_broken_first};
+ghost use Rattle.cn_judge.specs.declared.fault.NumeralFault.TheVariants.{Start};
 ghost use Rattle.cn_core.specs.declared.method.ChineseCountMethod.{ChineseCountMethod};
 
 /// To decide whether a list can be completed, it is enough to try 零: it can be exactly if 零 before
@@ -65,4 +68,20 @@ pub fn refusals_name_the_last_place()
 pub fn nothing_is_wrong_after_a_place()
     ensures { (marks : List Mark) (place : ℕ)
         → IsPlace marks place → IsNumeral (digit 0 ∷ drop (place + 1) marks) }
+{}
+
+/// The rule that a reported character breaks is the first one that is broken somewhere in 零 and the
+/// suffix from that character on, of the text or, if its body is not a numeral, of the body. If what
+/// follows a character can be completed, it breaks rule 1 exactly if it can be right with something
+/// before it.
+///
+/// For form validators that explain what is wrong: the reason does not depend on what is before the
+/// character at fault, and no other rule is broken from there on that comes first.
+pub fn reasons_are_the_first_broken_rules()
+    ensures first { (method : ChineseCountMethod) (marks : List Mark) (place : ℕ)
+        → Judges method marks (Err (incorrect_at place))
+        → rule_broken_first (drop place marks)
+        ≡ first_broken_rule (digit 0 ∷ drop place (judged_part marks)) }
+    ensures start { (mark : Mark) (rest : List Mark) → Completable rest
+        → (broken_rule mark rest ≡ Start) ↔ Completable (mark ∷ rest) }
 {}

@@ -1,5 +1,6 @@
-//! Laws of quantities: a refusal points at a character, a number is the same number as a quantity,
-//! what is written is read back, and zeros that are left out at the end do not change the value.
+//! Laws of quantities: a refusal points at a character and has a reason, a number is the same number
+//! as a quantity, what is written is read back, and zeros that are left out at the end do not change
+//! the value.
 ghost use Rattle.std.specs.Prelude.{◌≡◌, ℕ, ℤ, List, Ok, false};
 ghost use Rattle.chinese_number.specs.Parts.{unsigned_text};
 ghost use Rattle.cn_core.specs.declared.method.ChineseCountMethod.{ChineseCountMethod};
@@ -13,7 +14,9 @@ pub use cn_express::laws::{
     figures_are_read_back, middle_is_read_by_ten_thousand, no_spelling_is_misread,
     what_is_written_is_read_back,
 };
-pub use cn_quantity::laws::{refusals_point_at_characters, trimmed_keeps_the_value};
+pub use cn_quantity::laws::{
+    each_refusal_has_a_reason, refusals_point_at_characters, trimmed_keeps_the_value,
+};
 
 /// A number is the same number as a quantity, unless it is misread: a string that is read as an
 /// `i128`, by a method or as plain digits, is read as the quantity with that numerator and the

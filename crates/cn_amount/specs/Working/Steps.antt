@@ -182,6 +182,10 @@ advance progress capital = with_sum (add progress.sum capital) (step progress.st
 abbrev pub end : Progress → Option ℕ
 end progress = if is_end progress.state then Some progress.sum.closed else None
 
+-- the state before an amount without 人民币, which is the state after 人民币
+abbrev pub bare_progress : Progress
+bare_progress = record { state = AfterCurrency; sum = no_sum }
+
 -- the machine that reads amounts, character by character
 abbrev pub amount_machine : machine.Machine Progress ℕ
 amount_machine = record {

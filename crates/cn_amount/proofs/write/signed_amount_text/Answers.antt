@@ -1,9 +1,9 @@
-use Rattle.std.proofs.Common.{◌≡◌, nat_abs, [], ◌∷◌, pos, int_lt, if◌then◌else◌, ap, ◌∙◌, w64}
+use Rattle.std.proofs.Common.{◌≡◌, ◌≤◌, nat_abs, [], ◌∷◌, length, pos, int_lt, if◌then◌else◌, sym, ap, subst, ◌∙◌, w64}
 use Rattle.std.proofs.lemmas.Int.{to_z-of_z}
 use Rattle.cn_amount.specs.declared.capital.Capital.TheVariants.{Fu}
 use Rattle.cn_amount.specs.declared.form.Hand.{Hand}
 use Rattle.cn_amount.specs.Places.{places_of}
-use Rattle.cn_amount.proofs.SignedShown.{signed-text-of}
+use Rattle.cn_amount.proofs.SignedShown.{few-signed, signed-text-of}
 use Rattle.cn_amount.proofs.write.signed_amount_text.Goals as goal
 
 pub returns-clause-bytes : goal.returns-clause-bytes
@@ -16,3 +16,8 @@ returns-clause-bytes c =
     signed-text-of c.args.variant c.args.form c.args.fen _
     (rw places at c.put_amount.ensures hand
     (if int_lt c.args.fen (pos 0) then Fu ∷ [] else []) sign)
+
+pub returns-clause-most : goal.returns-clause-most
+returns-clause-most c =
+    subst (λ bytes. length bytes ≤ 120) (sym (returns-clause-bytes c))
+    (few-signed c.args.variant c.args.form c.args.fen)

@@ -1,4 +1,5 @@
-use Rattle.std.proofs.Common.{rules}
+use Rattle.std.proofs.Common.{rules, ◌∙◌}
+use Rattle.cn_quantity.proofs.Faults.{rule-between}
 use Rattle.cn_quantity.proofs.Misreads.{IsPassed-none, IsPassed-more, SplitsAtMisread-at, none-misread}
 use Rattle.cn_quantity.proofs.misread.first_misread.Goals as goal
 
@@ -28,3 +29,9 @@ returns-then-is_misread_at-clause-parts c =
 pub returns-clause-parts : goal.returns-clause-parts
 returns-clause-parts c =
     none-misread _ _ _ c.looking.invariant.passed c.in_default.ensures.parts
+
+pub returns-then-is_misread_at-clause-rule : goal.returns-then-is_misread_at-clause-rule
+returns-then-is_misread_at-clause-rule c =
+    c.rule_of.ensures
+    ∙ rule-between _ _ _ _ _ _ c.looking.invariant.passed c.in-Some.ensures.parts
+    c.before_end.ensures.parts

@@ -1,4 +1,4 @@
-use Rattle.cn_amount.proofs.TypedReads.{amount-typed}
+use Rattle.cn_amount.proofs.TypedShown.{amount-typed}
 use Rattle.cn_amount.proofs.laws.typed.amounts_stay_amounts.Goals as goal
 
 pub returns : goal.returns

@@ -1,5 +1,5 @@
 use Rattle.cn_amount.proofs.FormsShown.{written-read}
-use Rattle.cn_amount.proofs.TypedReads.{amount-typed}
+use Rattle.cn_amount.proofs.TypedShown.{amount-typed}
 use Rattle.cn_amount.proofs.laws.typed.written_amounts_are_amounts.Goals as goal
 
 pub returns : goal.returns

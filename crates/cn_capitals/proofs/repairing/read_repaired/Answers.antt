@@ -1,0 +1,24 @@
+use Rattle.std.proofs.Common.{◌≡◌, [], chars, Some, sym, ap, arith}
+use Rattle.cn_capitals.proofs.Changing.{reads-repaired}
+use Rattle.cn_capitals.proofs.ReadingOn.{reached-on}
+use Rattle.cn_capitals.proofs.repairing.read_repaired.Goals as goal
+
+pub read_on-after-requires : goal.read_on-after-requires
+read_on-after-requires g c =
+    reached-on g.G.Grammar.machine _ c.in_ok-state.state _ _ _
+    (reached-on g.G.Grammar.machine c.begin.result c.read_on-before.result.state _ _ _
+    ([], ap Some (sym c.begin.ensures)) c.read_on-before.ensures.read.has)
+    c.in_ok-state.ensures.read.has
+
+pub returns : goal.returns
+returns g c =
+    let at : c.read_on-before.result.count ≡ c.args.hint.char_index =
+    omega (arith, c.if-before-hint.false, c.read_on-before.ensures.read.within) in
+    let all = reads-repaired g.G.Grammar.machine (chars c.args.text.now)
+    (chars c.read_on-before.result.rest.now) (chars c.in_ok-state.rest.now)
+    (chars c.read_on-after.result.rest.now) c.args.hint c.begin.result
+    c.read_on-before.result.state c.in_ok-state.state c.read_on-after.result.state
+    c.read_on-before.result.count c.read_on-after.result.count c.begin.ensures
+    c.read_on-before.ensures.read.has at c.in_ok-state.ensures.read
+    c.read_on-after.ensures.read.has in
+    rw c.added.ensures all

@@ -1,0 +1,41 @@
+-- Reading a text after one change.
+use Rattle.std.specs.Prelude.{◌≡◌, ℕ, ◌<◌, ◌≤◌, Bool, true, List, length, take}
+use Rattle.cn_capitals.specs.declared.hint.Hint.{Hint}
+use Rattle.cn_capitals.specs.declared.hint.Repair.{Repair}
+use Rattle.cn_capitals.specs.declared.hint.Repair.TheVariants.{Insert, Replace, Delete}
+use Rattle.cn_capitals.specs.Answers.{Begins}
+use Rattle.cn_capitals.specs.Machine.{Machine}
+use Rattle.cn_capitals.specs.Repairs.{changed, repaired, past, HasPlace}
+use Rattle.cn_capitals.specs.Working.ReadOn.{HasRead}
+
+-- how many characters a change writes
+abbrev pub added : Repair → ℕ
+added (Insert c) = 1
+added (Replace c) = 1
+added Delete = 0
+
+-- the text from the place on has the character that is changed
+abbrev pub HasChanged : Repair → List ℕ → Type 0
+HasChanged (Insert c) rest = Unit {0}
+HasChanged (Replace c) rest = 0 < length rest
+HasChanged Delete rest = 0 < length rest
+
+-- from a state on, what a change writes is read
+pub record ReadsChange {S A : Type 0} (machine : Machine S A) (state : S) (rest : List ℕ)
+    (repair : Repair) (next : S) (after : List ℕ) : Type 0 where
+  pub has : HasRead machine state (changed repair rest) next (added repair) after
+  pub changed : HasChanged repair rest
+
+-- so many characters of a text after a change are read
+pub record ReadsRepaired {S A : Type 0} (machine : Machine S A) (text : List ℕ) (hint : Hint)
+    (state : S) (count : ℕ) (rest : List ℕ) : Type 0 where
+  pub has : HasRead machine machine.begin (repaired hint text) state count rest
+  pub has_place : HasPlace hint text
+
+-- a change takes a text past its fault, and makes a text that only ends too soon a form
+pub record Works {A : Type 0} (IsForm : List ℕ → A → Type 0) (text : List ℕ) (fault : ℕ)
+    (ends : Bool) (hint : Hint) : Type 0 where
+  pub place : hint.char_index ≤ fault
+  pub has_place : HasPlace hint text
+  pub goes_on : Begins IsForm (take (past fault hint) (repaired hint text))
+  pub form : ends ≡ true → (value : A) × IsForm (repaired hint text) value

@@ -1,0 +1,20 @@
+ghost use Rattle.std.specs.Prelude.{◌≡◌, ℕ, List, Bool};
+
+use crate::Grammar;
+
+/// A grammar whose characters are listed.
+pub trait Listed: Grammar {
+    // The characters that forms have.
+    ghost characters: { List ℕ };
+
+    // Whether forms have white space anywhere.
+    ghost white_space: { Bool };
+
+    /// The characters that forms have. There may be more, which no form has.
+    fn characters() -> &'static [char]
+        ensures { result.now ≡ characters };
+
+    /// Whether white space may be anywhere in a form.
+    fn takes_white_space() -> bool
+        ensures { result ≡ white_space };
+}
