@@ -24,10 +24,11 @@ the results of `rt check` in the crate's folder. `rt lib` first builds the libra
 
 The script fails if a mutant is proved and no comment lists it, if a comment lists a mutant that is
 refused or does not exist, or if all mutants of a public function are tried and none is `r` or `l`,
-unless an edit of `wrong-bodies` or `must-fail/` is refused in it. With --gate no file is changed,
-and such faults of mutants that had waited are only reported. --compare tries nothing. A release is
-made only if nothing waits. --minutes limits the processor time: a round begins only if 2.5 minutes,
-the usual time of a round, are left.
+unless an edit of `wrong-bodies` or `must-fail/` is refused in it, or it has no contract and a
+comment above it says why: `// No contract: the reason.` With --gate no file is changed, and such
+faults of mutants that had waited are only reported. --compare tries nothing. A release is made only
+if nothing waits. --minutes limits the processor time: a round begins only if 2.5 minutes, the usual
+time of a round, are left.
 """
 import argparse
 import os
@@ -92,6 +93,11 @@ def is_copied(item):
     return item.kind == "fn" and not calls_itself and not is_of_trait
 
 
+def is_unproved(item, text):
+    """Whether a function has no contract, and a comment above it gives the reason."""
+    return not mutate.promises(item) and "No contract: " in survivors.comment_of(item, text)
+
+
 class Function:
     """A function or constant of a crate, its mutants, and the letter of each."""
 
@@ -145,7 +151,11 @@ class Crate:
         self.copied = {path for path, it in self.functions.items() if is_copied(it.item)}
         self.with_copies = set()  # functions of which an unchanged copy was proved
         self.paths = {it.path for it in items if it.kind == "fn"}
-        self.public = [it for it in items if it.is_public and it.kind == "fn"]
+        self.public = [
+            it
+            for it in items
+            if it.is_public and it.kind == "fn" and not is_unproved(it, texts[it.file])
+        ]
 
     def is_new(self, mutant):
         return self.functions[mutant.item.path].is_new

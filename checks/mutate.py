@@ -3,10 +3,10 @@
 Contracts, ghost items, tests and everything outside bodies stay as they are. So does a function
 without a contract, such as `main`, which only tests can check. A literal or an operator becomes its
 opposite or neighbor; other values become a fixed value of their type, a neighboring field, constant
-or variant, or a variable or function of the same type. An early return or a guard is dropped, and
-two arguments of the same type are exchanged. In a table, and in literals of patterns that have
-their own lines, one entry is changed for each kind of value, drawn at random with the table's name
-as seed. The value that fills an array, as in `[0; N]`, stays.
+or variant, or a variable or function of the same type. An early return or a guard is dropped, two
+arguments of the same type are exchanged, and a table that is returned becomes empty. In a table,
+and in literals of patterns that have their own lines, one entry is changed for each kind of value,
+drawn at random with the table's name as seed. The value that fills an array, as in `[0; N]`, stays.
 """
 import random
 import re
@@ -37,12 +37,13 @@ VALUE = re.compile(
     re.DOTALL,
 )
 # An early return; the guard of an arm; a call of which only the error is used; a line of a pattern
-# that has only literals; an array filled with one value; patterns.
+# that has only literals; an array filled with one value; a table that is returned; patterns.
 RETURN = re.compile(r"^( +)if (?:[^\n{]|\n\1 )*?(?: |\n\1)\{\n\1    return [^;]*;\n\1\}\n", re.M)
 GUARD = re.compile(r"(?<=[\w)}]) if [^\n]*?(?= =>)")
 TRIED = re.compile(r"(?m)^ *([\w&][^\n=;{}]*)\?;$")
 ENTRY = re.compile(rf" *(?:\| )?(?:{QUOTED}|\d+)(?:$|,| \||\.\.=| =>)")
 FILLED = re.compile(r"(?<!!)\[([^\[\];]*); [^\[\]]*\]")
+TABLE = re.compile(r"^ +(&[A-Z][A-Z_\d]*(?:\[\.\.\d+\])?)$", re.MULTILINE)
 PATTERN = re.compile(r"\blet [^=;]*? =(?!=)|^ *[^\n]*?(?= if | =>)|^ *\|.*$", re.MULTILINE)
 LITERAL = re.compile(rf"(?:{QUOTED}|\d[\d_]*|0x[\da-fA-F_]+|true|false)")
 LOCAL = re.compile(r"\blet (?:mut )?(\w+)(?:: ([^=;]+?))? = ([^;{]*)")
@@ -250,13 +251,15 @@ class Body:
                     yield "arguments", begin, end, ", ".join(it.strip() for it in both)
 
     def dropped(self):
-        """An early return, a guard, or the error test of a call, dropped."""
+        """An early return, a guard, or the error test of a call, dropped; a table emptied."""
         for found in RETURN.finditer(self.text):
             yield "return", found.start(), found.end(), ""
         for found in GUARD.finditer(self.text):
             yield "guard", found.start(), found.end(), ""
         for found in TRIED.finditer(self.text):
             yield "return", found.start(1), found.end(), f"let _ = {found[1]};"
+        for found in TABLE.finditer(self.text):
+            yield "table", *found.span(1), "&[]"
 
     def turned(self):
         """All changes of the body: kind, range and new text of each."""

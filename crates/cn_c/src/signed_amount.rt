@@ -33,9 +33,10 @@ pub const NO_SIGNED: SignedAmount = SignedAmount {
 
 // Same answer (0 → 1 #2, < → <=): an amount of 0 is never too large, so it does not reach this
 // test.
-/// Prints an amount of fen in a form, after 负 (負), or （负数） (（負數）), if it is below zero, into the caller's buffer,
-/// `room`. 129 bytes are enough for any amount. The status is UNKNOWN if a code names no script, or the flags no form; TOO_LARGE or TOO_SMALL if the magnitude is 10^16 yuan or more, and NO_ROOM if the text
-/// does not fit.
+/// Prints an amount of fen in a form, after 负 (負), or （负数） (（負數）), if it is below zero, into the
+/// caller's buffer, `room`. 129 bytes are enough for any amount. The status is UNKNOWN if a code
+/// names no script, or the flags no form; TOO_LARGE or TOO_SMALL if the magnitude is 10^16 yuan or
+/// more, and NO_ROOM if the text does not fit.
 ///
 /// Writes `*len`, which is the length of the text at DONE and NO_ROOM, and otherwise 0. If the text
 /// fits, it is written at the start of the buffer; no other byte of the buffer changes.

@@ -1,5 +1,5 @@
 -- Reading a text after one change.
-use Rattle.std.proofs.Common.{◌≡◌, ℕ, ◌+◌, ◌<◌, ◌≤◌, Bool, true, false, List, [], ◌∷◌, ◌++◌, length, length-append, take, drop, is_some, Option, Some, None, refl, sym, ap, ap₂, subst, ◌∙◌, append-nil, append_assoc, arith}
+use Rattle.std.proofs.Common.{rules, ◌≡◌, ℕ, ◌+◌, ◌<◌, ◌≤◌, Bool, true, false, List, [], ◌∷◌, ◌++◌, length, length-append, take, drop, is_some, Option, Some, None, refl, sym, ap, ap₂, subst, ◌∙◌, append-nil, append_assoc, arith}
 use Rattle.std.proofs.Math.Logic.{◌⊎◌, inl, inr}
 use Rattle.std.specs.Prelude.{IfSome, MatchBool}
 use Rattle.std.proofs.Math.Seq.{drop-append_seam, take-append_seam}
@@ -11,12 +11,17 @@ use Rattle.cn_capitals.specs.Answers.{Begins}
 use Rattle.cn_capitals.specs.Expected.{BeginsUpTo}
 use Rattle.cn_capitals.specs.Machine.{run, Machine, Reads}
 use Rattle.cn_capitals.specs.Repairs.{changed, repaired, past, HasPlace, IsRepair}
-use Rattle.cn_capitals.specs.Working.Changes.{added, HasChanged, ReadsChange, ReadsRepaired, Works}
+use Rattle.cn_capitals.specs.Working.Changes.{added, goes_on, HasChanged, ReadsChange, ReadsRepaired, Works}
 use Rattle.cn_capitals.specs.Working.ReadOn.{HasRead, Stops}
 use Rattle.cn_capitals.proofs.OneAnswer.{begins-take, begins-form}
 use Rattle.cn_capitals.proofs.Following.{up-to}
 use Rattle.cn_capitals.proofs.Reading.{unfinished-read}
 use Rattle.cn_capitals.proofs.Runs.{run-behind, run-more}
+
+-- a text goes on past a place only if so much of it is read
+pub goes-past : (characters : List ℕ) (count past : ℕ) (rest : List ℕ)
+    → goes_on characters count past rest ≡ true → past ≤ count
+goes-past characters count past rest h = search rules
 
 -- a character is read
 one-read : {S A : Type 0} (machine : Machine S A) (state next : S) (c : ℕ) (after : List ℕ)

@@ -3,7 +3,7 @@ ghost use Rattle.std.specs.Prelude.{◌≡◌, ◌+◌, ◌^◌, ◌<◌, ◌≤
 ghost use Rattle.cn_capitals.specs.Expected.{IsListed};
 ghost use Rattle.cn_capitals.specs.Machine.{Reached, Reads};
 ghost use Rattle.cn_capitals.specs.Repairs.{past, IsRepair};
-ghost use Rattle.cn_capitals.specs.Working.Changes.{added, ReadsChange, ReadsRepaired, Works};
+ghost use Rattle.cn_capitals.specs.Working.Changes.{added, begins_with, goes_on, ReadsChange, ReadsRepaired, Works};
 
 use crate::expecting::next_characters;
 use crate::fault::Fault;
@@ -85,7 +85,9 @@ fn is_end(text: &str) -> bool
 }
 
 // Whether a text begins with a character that forms have.
-fn is_known<G: Listed>(text: &str) -> bool {
+fn is_known<G: Listed>(text: &str) -> bool
+    ensures { result ≡ begins_with G.characters (chars text.now) }
+{
     match split_first_char(text) {
         Some((character, _)) => G::characters().contains(&character),
         None => false,
@@ -95,7 +97,7 @@ fn is_known<G: Listed>(text: &str) -> bool {
 // Whether so many characters are read that the text goes on past a place. If it stops right there,
 // this must not be at a character that forms have: the change would only move the fault.
 fn goes_on<G: Listed>(count: usize, past: usize, rest: &str) -> bool
-    ensures { result ≡ true → past ≤ count }
+    ensures { result ≡ goes_on G.characters count past (chars rest.now) }
 {
     count > past || (count == past && !is_known::<G>(rest))
 }

@@ -137,13 +137,13 @@ pub fn unit_char(variant: ChineseVariant, case: ChineseCase, unit: Unit) -> char
     of_three_bytes(printed_characters(variant, case).units[unit as usize])
 }
 
+// Same answer (ChineseCase::Lower → ChineseCase::Upper): both cases have the same minus sign.
 /// The character that writes the minus sign.
 ///
 /// ```text
 /// minus_char(ChineseVariant::Traditional) == '負'
 /// minus_char(ChineseVariant::Simple) == '负'
 /// ```
-// Same answer (ChineseCase::Lower → ChineseCase::Upper): both cases have the same minus sign.
 pub fn minus_char(variant: ChineseVariant) -> char
     ensures { result ≡ minus_char variant }
 {

@@ -35,10 +35,10 @@ impl Model for OpenUnits {
     ghost invariant = { λ s. (s.len ≤ 16) × IsTrue (all_scales_fit s.entries) };
 }
 
-/// `factor * size + more`, if the product and the sum fit. If both factors are below 2^64, the
-/// product fits and is computed faster.
 // Same answer (if let (Ok(factor), Ok(size)) = (u64::try_fro.. → nothing): the product in 128 bits
 // is the same, but slower.
+/// `factor * size + more`, if the product and the sum fit. If both factors are below 2^64, the
+/// product fits and is computed faster.
 pub fn multiply_add(factor: u128, size: u128, more: u128) -> Option<u128>
     ensures { SomeIff result (factor * size + more < 2 ^ 128) (factor * size + more) }
 {

@@ -36,10 +36,10 @@ fn first_key(text: &str) -> Option<u32>
     }
 }
 
-/// The first character, if that has three bytes, its mark, and the text after it. Looking it up by
-/// its bytes takes 16 fewer instructions for each character. `None` says nothing about the text.
 // Same answer (65_536 → 65535, 65_536 → 65537): the third byte remains the quotient for all values
 // of the other two.
+/// The first character, if that has three bytes, its mark, and the text after it. Looking it up by
+/// its bytes takes 16 fewer instructions for each character. `None` says nothing about the text.
 #[inline(always)]
 pub fn split_first_three(text: &str) -> Option<(char, Mark, &str)>
     ensures parts { IfSome result (λ r. (chars text.now ≡ r.0 ∷ chars r.2.now)
@@ -53,9 +53,9 @@ pub fn split_first_three(text: &str) -> Option<(char, Mark, &str)>
     Some((c, mark_of_key(key), after))
 }
 
-/// The first character, its mark, and the text after it; `None` if the text is empty.
 // Same answer (if let Some((c, mark, after)) = split_first_t.. → nothing): the decoder of std gives
 // the same first character, more slowly.
+/// The first character, its mark, and the text after it; `None` if the text is empty.
 #[inline(always)]
 pub fn split_first_mark(text: &str) -> Option<(char, Mark, &str)>
     ensures parts { MatchOption result (chars text.now ≡ [])
@@ -160,9 +160,9 @@ fn split_last_three(text: &str) -> Option<(char, Mark, &str)>
     Some((c, mark_of_key(key), before))
 }
 
-/// The last character, its mark, and the text before it; `None` if the text is empty.
 // Same answer (if let Some((c, mark, before)) = split_last_t.. → nothing): the decoder of std gives
 // the same last character, more slowly.
+/// The last character, its mark, and the text before it; `None` if the text is empty.
 #[inline(always)]
 pub fn split_end_mark(text: &str) -> Option<(char, Mark, &str)>
     ensures parts { MatchOption result (chars text.now ≡ [])
@@ -314,11 +314,11 @@ fn split_only_known(text: &str) -> Option<(Mark, &str)>
     Some((mark, after))
 }
 
-/// The mark of the last character that is not white space, and the text before it; `None` if there
-/// is none.
 // Same answer (if let Some((mark, before)) = split_last_know.. → nothing, if let Some((mark,
 // before)) = split_only_know.. → nothing): the decoder of std gives the same last character, more
 // slowly.
+/// The mark of the last character that is not white space, and the text before it; `None` if there
+/// is none.
 #[inline(always)]
 pub fn split_last_mark(text: &str) -> Option<(Mark, &str)>
     ensures parts { IfSome result (λ r. (c : ℕ) × EndsWith text.now c r.1.now

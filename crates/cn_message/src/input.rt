@@ -80,6 +80,7 @@ impl Input {
         Some(hint)
     }
 
+    // No contract: tests/rows/messages.tsv tests the wording.
     /// An example of such an input, with a sign if the text has something like one.
     pub fn example(self, language: Language, text: &str) -> &'static str {
         let is_signed = text.chars().any(|c| is_like_a_sign(c));

@@ -208,6 +208,7 @@ fn put_too_large<S: Sink>(
     }
 }
 
+// No contract: tests/rows/messages.tsv tests the wording.
 /// Writes why a text is not an input, in a language: the repair if there is one, otherwise the wrong
 /// character and what may be there. Nothing is written for a text that the reader of the input
 /// reads.

@@ -64,6 +64,7 @@ fn sentence_by(way: Way, fault: NumeralFault, text: &str, char_index: usize) -> 
     }
 }
 
+// No contract: tests/rows/messages.tsv tests the wording.
 /// Writes why a text is not read in a way as a number of a type, in a language. Nothing is written
 /// for a text that is read.
 ///
@@ -148,6 +149,7 @@ fn put_quantity_fault<S: Sink>(
     }
 }
 
+// No contract: tests/rows/messages.tsv tests the wording.
 /// Writes why a text is not read by a method as a quantity, in a language. Nothing is written for a
 /// text that is read.
 pub fn put_quantity_message<S: Sink>(

@@ -35,8 +35,8 @@ pub fn decimals_of(quantity: Quantity) -> Option<usize>
     }
 }
 
-/// The number of zeros at the end of a number, among its last `count` digits.
 // Same answer (.. → ..=): one more digit is examined, and the answer is `count` whatever it is.
+/// The number of zeros at the end of a number, among its last `count` digits.
 pub fn zeros_at_end(count: usize, number: u128) -> usize
     ensures value { result ≡ zeros_at_end count number }
     ensures most { result ≤ count }

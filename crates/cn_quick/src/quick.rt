@@ -31,11 +31,11 @@ fn finish(units: &OpenExponents, state: QuickState, first: Mark) -> Option<u128>
     add_section(units, state.total, add_digit(state, digit)?)
 }
 
+// Same answer (> → >=, 3 → 2 #3): what is not read in one pass is judged from its start, more
+// slowly.
 /// The number of a regular numeral. Its characters are digits and units above 個 of three bytes
 /// each, it has no tail, the units of a section increase from right to left with a digit directly
 /// after each, and all sums fit 128 bits. `None` says nothing about the text.
-// Same answer (> → >=, 3 → 2 #3): what is not read in one pass is judged from its start, more
-// slowly.
 pub fn read_quickly(method: ChineseCountMethod, text: &str) -> Option<u128>
     ensures { IfSome result (λ n. Judges method (marks_of (text_of text.now)) (Ok n)) }
 {

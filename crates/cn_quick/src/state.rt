@@ -57,8 +57,8 @@ pub(crate) fn add_digit(state: QuickState, value: u8) -> Option<u64>
     state.sum.checked_add(more)
 }
 
-/// The total with the section added, multiplied by the open units; `None` if it does not fit.
 // Same answer (<= → <, 19 → 18): a sum of 64 bits times 10^19 fits either multiplication.
+/// The total with the section added, multiplied by the open units; `None` if it does not fit.
 pub(crate) fn add_section(units: &OpenExponents, total: u128, sum: u64) -> Option<u128>
     ensures { IfSome result (λ n. (n ≡ total + sum * 10 ^ top_exponent units.now)
         × (n < 2 ^ 128)) }

@@ -27,8 +27,6 @@ mod reading_at_once;
 #[cfg(test)]
 mod reading_back;
 #[cfg(test)]
-mod repairs;
-#[cfg(test)]
 mod replacing;
 #[cfg(test)]
 mod scales;

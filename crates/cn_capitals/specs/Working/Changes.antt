@@ -1,5 +1,6 @@
 -- Reading a text after one change.
-use Rattle.std.specs.Prelude.{◌≡◌, ℕ, ◌<◌, ◌≤◌, Bool, true, List, length, take}
+use Rattle.std.specs.Prelude.{◌≡◌, ℕ, ◌<◌, ◌≤◌, ◌==◌, nat_lt, Bool, true, false, not, ◌&&◌, ◌||◌, List, [], ◌∷◌, length, take}
+use Rattle.std.specs.List.{list_any}
 use Rattle.cn_capitals.specs.declared.hint.Hint.{Hint}
 use Rattle.cn_capitals.specs.declared.hint.Repair.{Repair}
 use Rattle.cn_capitals.specs.declared.hint.Repair.TheVariants.{Insert, Replace, Delete}
@@ -39,3 +40,14 @@ pub record Works {A : Type 0} (IsForm : List ℕ → A → Type 0) (text : List 
   pub has_place : HasPlace hint text
   pub goes_on : Begins IsForm (take (past fault hint) (repaired hint text))
   pub form : ends ≡ true → (value : A) × IsForm (repaired hint text) value
+
+-- a text begins with one of some characters
+abbrev pub begins_with : List ℕ → List ℕ → Bool
+begins_with characters [] = false
+begins_with characters (c ∷ rest) = list_any (λ known. known == c) characters
+
+-- so many characters of a text are read that it goes on past a place: if it stops right there, then
+-- not at one of some characters
+abbrev pub goes_on : List ℕ → ℕ → ℕ → List ℕ → Bool
+goes_on characters count past rest =
+    nat_lt past count || count == past && not (begins_with characters rest)

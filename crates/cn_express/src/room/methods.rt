@@ -25,8 +25,8 @@ impl<'a> Room<'a> {
         self.free = start;
     }
 
-    /// Writes a character before the text that is there.
     // Same answer (4 → 5): a character has at most four bytes, so the fifth is never written.
+    /// Writes a character before the text that is there.
     pub fn put_char(&mut self, character: char)
         requires { length (encode_utf8 character) ≤ self.old.free }
         ensures { PutsInFront self.old self.new (encode_utf8 character) }

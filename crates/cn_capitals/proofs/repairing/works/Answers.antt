@@ -1,6 +1,6 @@
 use Rattle.std.proofs.Common.{◌≡◌, ◌≤◌, [], chars, false, is_some, sym, ap, subst, ◌∙◌, rules}
 use Rattle.cn_capitals.specs.Repairs.{past}
-use Rattle.cn_capitals.proofs.Changing.{works-whole, works-on}
+use Rattle.cn_capitals.proofs.Changing.{goes-past, works-whole, works-on}
 use Rattle.cn_capitals.proofs.repairing.works.Goals as goal
 
 pub returns-then-not-ends : goal.returns-then-not-ends
@@ -21,7 +21,8 @@ returns-else-not-ends g c = λ h.
 
 pub returns-then-not-ends-2 : goal.returns-then-not-ends-2
 returns-then-not-ends-2 g c = λ h.
-    let less = c.goes_on.ensures h in
+    let less = goes-past g.G.Listed.characters c.in-Some.read.count c.past.result
+        (chars c.in-Some.read.rest.now) (sym c.goes_on.ensures ∙ h) in
     let far : past c.args.fault c.args.hint ≤ c.in-Some.read.count =
     subst (λ count. count ≤ c.in-Some.read.count) c.past.ensures less in
     let going : c.args.ends ≡ false = search rules in
