@@ -4,7 +4,7 @@ use crate::message::Message;
 use crate::texts::Sentence;
 use crate::{Input, Language};
 use cn_capitals::{Expected, Hint, Repair};
-use cn_core::{is_comma, is_figure, is_figure_point};
+use cn_core::{digit_of, is_comma, is_figure, is_figure_point};
 use cn_figures::{FiguresError, signed_yuan_to_fen};
 use cn_judge::count_chars;
 use cn_replace::Sink;
@@ -90,15 +90,31 @@ fn are_grouped(text: &str) -> bool {
     text.chars().any(|c| is_comma(c)) || text.chars().filter(|c| is_figure_point(*c)).count() > 1
 }
 
-// Whether the character at a place is a figure where only a 0 is allowed.
-fn is_third_decimal(expected: &Expected, there: &str) -> bool {
+// Whether a character is one that figures have, or the text ends.
+fn is_of_figures(there: &str) -> bool {
+    let is_known = |c: char| is_figure(c) || is_comma(c) || is_figure_point(c);
+    there.is_empty() || there.chars().any(is_known)
+}
+
+// Whether 0 is the only figure that may come next: two decimals are written.
+fn has_both_decimals(expected: &Expected) -> bool {
     let next = expected.characters.as_slice();
-    next.contains(&'0') && !next.contains(&'1') && there.chars().any(|c| is_figure(c))
+    next.contains(&'0') && !next.contains(&'1')
 }
 
 // Whether a character is a unit below 万.
 fn is_unit(there: &str) -> bool {
     matches!(there, "拾" | "佰" | "仟")
+}
+
+// Whether a digit comes directly before a place.
+fn is_after_digit(text: &str, char_index: usize) -> bool {
+    match char_index.checked_sub(1) {
+        Some(before) => char_at(text, before)
+            .chars()
+            .any(|c| matches!(digit_of(c), Some(1..=9))),
+        None => false,
+    }
 }
 
 // Whether so many characters of a text end before its year does.
@@ -122,20 +138,21 @@ fn date_advice(text: &str, char_index: usize, there: &str) -> Sentence {
     }
 }
 
-// What a person should know about a sign that is wrong at a place.
+// What a person should know about a sign that is wrong at a place. In figures only a last - is meant
+// as one.
 fn sign_advice(input: Input, text: &str, char_index: usize) -> Option<Sentence> {
     match input {
         Input::Amount | Input::TypedAmount => Some(Sentence::NoSign),
-        _ if char_index.saturating_add(1) == count_chars(text) => Some(Sentence::SignFirst),
-        _ => None,
+        Input::Figures if char_index.saturating_add(1) < count_chars(text) => None,
+        _ => Some(Sentence::SignFirst),
     }
 }
 
 // What a person should know about figures that are wrong at a place.
 fn figures_advice(text: &str, expected: &Expected, there: &str) -> Option<Sentence> {
-    if are_grouped(text) {
+    if are_grouped(text) && is_of_figures(there) {
         Some(Sentence::Commas)
-    } else if is_third_decimal(expected, there) {
+    } else if has_both_decimals(expected) && there.chars().any(|c| is_figure(c)) {
         Some(Sentence::TwoDecimals)
     } else if expected.may_end {
         None
@@ -155,14 +172,19 @@ fn advice(input: Input, text: &str, expected: &Expected, there: &str) -> Option<
         Input::Figures => figures_advice(text, expected, there),
         Input::Date => Some(date_advice(text, expected.char_index, there)),
         _ if expected.may_end => None,
-        _ if is_unit(there) && expected.char_index > 0 => Some(Sentence::UnitOrder),
+        _ if is_unit(there) && is_after_digit(text, expected.char_index) => {
+            Some(Sentence::UnitOrder)
+        }
         _ => Some(Sentence::Example),
     }
 }
 
-// Whether a message lists what may come next: not if advice says it.
+// Whether a message lists what may come next: not if advice says it, or if only a 0 that adds nothing
+// may come.
 fn lists_next(expected: &Expected, advice: Option<Sentence>) -> bool {
-    matches!(advice, None | Some(Sentence::Example)) && !expected.characters.as_slice().is_empty()
+    matches!(advice, None | Some(Sentence::Example))
+        && !expected.characters.as_slice().is_empty()
+        && !has_both_decimals(expected)
 }
 
 // Writes that a text is wrong at a place, or not finished, what may come next, and advice.

@@ -118,7 +118,7 @@ fn wrong_sentence(text: &str, char_index: usize) -> Sentence {
     let is_last = char_index.saturating_add(1) == count_chars(text);
     match char_at(text, char_index) {
         "之" if is_last => Sentence::NumberMissingAtEnd,
-        "%" | "％" | "‰" if is_last => Sentence::Delete,
+        "%" | "％" | "‰" if is_last || is_doubled(text, char_index) => Sentence::Delete,
         "点" | "點" if is_first_point(text, char_index) => Sentence::DigitsAfterPoint,
         "点" | "點" | "." | "．" if !is_first_point(text, char_index) => Sentence::SecondPoint,
         _ => Sentence::Wrong,

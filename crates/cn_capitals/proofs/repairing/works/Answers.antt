@@ -22,7 +22,7 @@ returns-else-not-ends g c = λ h.
 pub returns-then-not-ends-2 : goal.returns-then-not-ends-2
 returns-then-not-ends-2 g c = λ h.
     let less = goes-past g.G.Listed.characters c.in-Some.read.count c.past.result
-        (chars c.in-Some.read.rest.now) (sym c.goes_on.ensures ∙ h) in
+    (chars c.in-Some.read.rest.now) (sym c.goes_on.ensures ∙ h) in
     let far : past c.args.fault c.args.hint ≤ c.in-Some.read.count =
     subst (λ count. count ≤ c.in-Some.read.count) c.past.ensures less in
     let going : c.args.ends ≡ false = search rules in
