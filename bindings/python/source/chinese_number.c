@@ -35519,7 +35519,7 @@ static void w2c_f42(module *m, u64 w2c_p0, u32 w2c_p1, u32 w2c_p2) {
   w2c_l3 = w2c_j0;
   w2c_j1 = 16ull;
   w2c_i0 = (u64)((s64)w2c_j0 < (s64)w2c_j1);
-  if (w2c_i0) {goto w2c_B0;}
+  if (w2c_i0) {goto w2c_B3;}
   w2c_j0 = w2c_l3;
   w2c_i0 = (u32)(w2c_j0);
   w2c_i1 = 0u;
@@ -35531,7 +35531,7 @@ static void w2c_f42(module *m, u64 w2c_p0, u32 w2c_p1, u32 w2c_p2) {
   w2c_i0 = w2c_i0 != w2c_i1;
   if (w2c_i0) {goto w2c_B4;}
   w2c_i0 = w2c_p2;
-  w2c_i1 = 24064u;
+  w2c_i1 = 28856u;
   w2c_i0 = (u32)((s32)w2c_i0 > (s32)w2c_i1);
   if (w2c_i0) {goto w2c_B9;}
   w2c_i0 = w2c_p2;
@@ -35548,19 +35548,23 @@ static void w2c_f42(module *m, u64 w2c_p0, u32 w2c_p1, u32 w2c_p2) {
   if (w2c_i0) {goto w2c_B4;}
   w2c_i0 = 20740u;
   w2c_p1 = w2c_i0;
-  goto w2c_B3;
+  goto w2c_B1;
   w2c_B10:;
   w2c_i0 = w2c_p2;
   w2c_i1 = 20889u;
   w2c_i0 = w2c_i0 == w2c_i1;
-  if (w2c_i0) {goto w2c_B5;}
+  if (w2c_i0) {goto w2c_B6;}
   w2c_i0 = w2c_p2;
   w2c_i1 = 21441u;
+  w2c_i0 = w2c_i0 == w2c_i1;
+  if (w2c_i0) {goto w2c_B2;}
+  w2c_i0 = w2c_p2;
+  w2c_i1 = 24065u;
   w2c_i0 = w2c_i0 != w2c_i1;
   if (w2c_i0) {goto w2c_B4;}
-  w2c_i0 = 21443u;
+  w2c_i0 = 24163u;
   w2c_p1 = w2c_i0;
-  goto w2c_B3;
+  goto w2c_B1;
   w2c_B9:;
   w2c_i0 = 36019u;
   w2c_p1 = w2c_i0;
@@ -35568,7 +35572,7 @@ static void w2c_f42(module *m, u64 w2c_p0, u32 w2c_p1, u32 w2c_p2) {
   w2c_i1 = 4294931169u;
   w2c_i0 += w2c_i1;
   switch (w2c_i0) {
-    case 0: goto w2c_B6;
+    case 0: goto w2c_B7;
     case 1: goto w2c_B4;
     case 2: goto w2c_B4;
     case 3: goto w2c_B4;
@@ -35585,37 +35589,37 @@ static void w2c_f42(module *m, u64 w2c_p0, u32 w2c_p1, u32 w2c_p2) {
     case 14: goto w2c_B4;
     case 15: goto w2c_B4;
     case 16: goto w2c_B4;
-    case 17: goto w2c_B3;
+    case 17: goto w2c_B1;
     default: goto w2c_B11;
   }
   w2c_B11:;
   w2c_i0 = w2c_p2;
-  w2c_i1 = 24065u;
+  w2c_i1 = 28857u;
   w2c_i0 = w2c_i0 == w2c_i1;
-  if (w2c_i0) {goto w2c_B7;}
+  if (w2c_i0) {goto w2c_B5;}
   w2c_i0 = w2c_p2;
   w2c_i1 = 38470u;
   w2c_i0 = w2c_i0 != w2c_i1;
   if (w2c_i0) {goto w2c_B4;}
   w2c_i0 = 38520u;
   w2c_p1 = w2c_i0;
-  goto w2c_B3;
+  goto w2c_B1;
   w2c_B8:;
   w2c_i0 = 33836u;
   w2c_p1 = w2c_i0;
-  goto w2c_B3;
+  goto w2c_B1;
   w2c_B7:;
-  w2c_i0 = 24163u;
-  w2c_p1 = w2c_i0;
-  goto w2c_B3;
-  w2c_B6:;
   w2c_i0 = 36000u;
   w2c_p1 = w2c_i0;
-  goto w2c_B3;
-  w2c_B5:;
+  goto w2c_B1;
+  w2c_B6:;
   w2c_i0 = 23531u;
   w2c_p1 = w2c_i0;
-  goto w2c_B3;
+  goto w2c_B1;
+  w2c_B5:;
+  w2c_i0 = 40670u;
+  w2c_p1 = w2c_i0;
+  goto w2c_B1;
   w2c_B4:;
   w2c_i0 = w2c_p2;
   w2c_i1 = 127u;
@@ -35627,7 +35631,7 @@ static void w2c_f42(module *m, u64 w2c_p0, u32 w2c_p1, u32 w2c_p2) {
   i32_store8(m, (u64)(w2c_i0) + 12, w2c_i1);
   w2c_j0 = 1ull;
   w2c_l4 = w2c_j0;
-  goto w2c_B1;
+  goto w2c_B0;
   w2c_B12:;
   w2c_i0 = w2c_p2;
   w2c_i1 = 2047u;
@@ -35651,45 +35655,16 @@ static void w2c_f42(module *m, u64 w2c_p0, u32 w2c_p1, u32 w2c_p2) {
   i32_store8(m, (u64)(w2c_i0) + 12, w2c_i1);
   w2c_j0 = 2ull;
   w2c_l4 = w2c_j0;
-  goto w2c_B1;
+  goto w2c_B0;
   w2c_B13:;
   w2c_i0 = w2c_p2;
   w2c_i1 = 65535u;
   w2c_i0 = w2c_i0 > w2c_i1;
-  if (w2c_i0) {goto w2c_B2;}
+  if (w2c_i0) {goto w2c_B14;}
   w2c_i0 = w2c_p2;
   w2c_p1 = w2c_i0;
-  w2c_B3:;
-  w2c_j0 = w2c_l3;
-  w2c_i0 = (u32)(w2c_j0);
-  w2c_i1 = w2c_p1;
-  w2c_i2 = 63u;
-  w2c_i1 &= w2c_i2;
-  w2c_i2 = 128u;
-  w2c_i1 |= w2c_i2;
-  i32_store8(m, (u64)(w2c_i0) + 14, w2c_i1);
-  w2c_j0 = w2c_l3;
-  w2c_i0 = (u32)(w2c_j0);
-  w2c_i1 = w2c_p1;
-  w2c_i2 = 12u;
-  w2c_i1 >>= (w2c_i2 & 31);
-  w2c_i2 = 224u;
-  w2c_i1 |= w2c_i2;
-  i32_store8(m, (u64)(w2c_i0) + 12, w2c_i1);
-  w2c_j0 = w2c_l3;
-  w2c_i0 = (u32)(w2c_j0);
-  w2c_i1 = w2c_p1;
-  w2c_i2 = 6u;
-  w2c_i1 >>= (w2c_i2 & 31);
-  w2c_i2 = 63u;
-  w2c_i1 &= w2c_i2;
-  w2c_i2 = 128u;
-  w2c_i1 |= w2c_i2;
-  i32_store8(m, (u64)(w2c_i0) + 13, w2c_i1);
-  w2c_j0 = 3ull;
-  w2c_l4 = w2c_j0;
   goto w2c_B1;
-  w2c_B2:;
+  w2c_B14:;
   w2c_j0 = w2c_l3;
   w2c_i0 = (u32)(w2c_j0);
   w2c_i1 = w2c_p2;
@@ -35728,7 +35703,42 @@ static void w2c_f42(module *m, u64 w2c_p0, u32 w2c_p1, u32 w2c_p2) {
   i32_store8(m, (u64)(w2c_i0) + 13, w2c_i1);
   w2c_j0 = 4ull;
   w2c_l4 = w2c_j0;
+  goto w2c_B0;
+  w2c_B3:;
+  UNREACHABLE;
+  w2c_B2:;
+  w2c_i0 = 21443u;
+  w2c_p1 = w2c_i0;
   w2c_B1:;
+  w2c_j0 = w2c_l3;
+  w2c_i0 = (u32)(w2c_j0);
+  w2c_i1 = w2c_p1;
+  w2c_i2 = 63u;
+  w2c_i1 &= w2c_i2;
+  w2c_i2 = 128u;
+  w2c_i1 |= w2c_i2;
+  i32_store8(m, (u64)(w2c_i0) + 14, w2c_i1);
+  w2c_j0 = w2c_l3;
+  w2c_i0 = (u32)(w2c_j0);
+  w2c_i1 = w2c_p1;
+  w2c_i2 = 12u;
+  w2c_i1 >>= (w2c_i2 & 31);
+  w2c_i2 = 224u;
+  w2c_i1 |= w2c_i2;
+  i32_store8(m, (u64)(w2c_i0) + 12, w2c_i1);
+  w2c_j0 = w2c_l3;
+  w2c_i0 = (u32)(w2c_j0);
+  w2c_i1 = w2c_p1;
+  w2c_i2 = 6u;
+  w2c_i1 >>= (w2c_i2 & 31);
+  w2c_i2 = 63u;
+  w2c_i1 &= w2c_i2;
+  w2c_i2 = 128u;
+  w2c_i1 |= w2c_i2;
+  i32_store8(m, (u64)(w2c_i0) + 13, w2c_i1);
+  w2c_j0 = 3ull;
+  w2c_l4 = w2c_j0;
+  w2c_B0:;
   w2c_j0 = w2c_p0;
   w2c_j1 = 16ull;
   w2c_j0 += w2c_j1;
@@ -35756,10 +35766,6 @@ static void w2c_f42(module *m, u64 w2c_p0, u32 w2c_p1, u32 w2c_p2) {
   w2c_j1 = 16ull;
   w2c_j0 += w2c_j1;
   m->w2c_g0 = w2c_j0;
-  goto w2c_Bfunc;
-  w2c_B0:;
-  UNREACHABLE;
-  w2c_Bfunc:;
 }
 
 static u64 w2c_f43(module *m, u64 w2c_p0, u64 w2c_p1, u64 w2c_p2) {
