@@ -125,13 +125,14 @@ def test_pip_otherwise(follow, way):
     follow(*OF_PIP[way], **own)
 
 
+# `cargo vendor --quiet` prints no configuration. Offline, cargo cannot clone again instead.
 VENDORED = f"""\
 cargo add --quiet --git "{URL}" chinese-number-proved
 cargo run --quiet
 mkdir .cargo
-cargo vendor --quiet vendored > .cargo/config.toml
+cargo vendor vendored > .cargo/config.toml
 export CARGO_HOME=$PWD/other CARGO_TARGET_DIR=$PWD/other
-cargo run --quiet
+cargo run --quiet --offline
 """
 RUST = page_of("rust")
 OF_CARGO = {
