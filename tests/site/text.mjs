@@ -1,4 +1,4 @@
-// The quantities that the page finds in a text, and long texts; a part of page_test.mjs.
+// The quantities that the page finds in a text, and long texts; a part of test.mjs.
 import assert from 'node:assert/strict';
 import { LANGUAGES } from './page.mjs';
 

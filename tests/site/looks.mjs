@@ -1,4 +1,4 @@
-// How the page looks, light and dark, wide and narrow; a part of page_test.mjs.
+// How the page looks, light and dark, wide and narrow; a part of test.mjs.
 import assert from 'node:assert/strict';
 import { LANGUAGES } from './page.mjs';
 

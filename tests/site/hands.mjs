@@ -1,5 +1,5 @@
 // Using the page: the caret, input methods, marks, copies, keys, and what a screen reader says; a
-// part of page_test.mjs.
+// part of test.mjs.
 import assert from 'node:assert/strict';
 import { LANGUAGES, rowsOf } from './page.mjs';
 

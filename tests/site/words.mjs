@@ -1,7 +1,7 @@
-// What the page says and answers, in each of its languages; a part of page_test.mjs.
+// What the page says and answers, in each of its languages; a part of test.mjs.
 import assert from 'node:assert/strict';
 import { LANGUAGES, rowsOf } from './page.mjs';
-import { TEXTS } from './page/texts.mjs';
+import { TEXTS } from '../../site/texts.mjs';
 
 const FIELDS = ['figures', 'capitals', 'dateFigures', 'dateCapitals', 'number', 'numeral'];
 

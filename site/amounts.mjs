@@ -2,7 +2,7 @@
 
 import {
   chineseToSignedAmountAsTypedBigInt, signedAmountToChinese, yuanToFenBigInt,
-} from '../files/chinese-number.mjs';
+} from './library.mjs';
 import { inEachScript, words } from './language.mjs';
 import { answerTyped, withoutSpace } from './typed.mjs';
 

@@ -1,6 +1,6 @@
 // Reads and converts what was typed, in the same way for amounts, dates and numbers.
 
-import { inputRepair, statusMessage } from '../files/chinese-number.mjs';
+import { inputRepair, statusMessage } from './library.mjs';
 import { language, words } from './language.mjs';
 
 // A full-width character in its usual width; 。 becomes a point, since input methods write it.

@@ -1,11 +1,11 @@
-// The page in a headless Chromium for page_test.mjs: opens it, types into it and looks at it.
+// The page in a headless Chromium for test.mjs: opens it, types into it and looks at it.
 import { readFile, writeFile } from 'node:fs/promises';
 import { join } from 'node:path';
 import { openTab } from './browser.mjs';
 
 export const LANGUAGES = ['zh-Hans', 'zh-Hant', 'en'];
 
-const ROWS = (await readFile(new URL('rows/page.tsv', import.meta.url), 'utf8')).split('\n')
+const ROWS = (await readFile(new URL('page.tsv', import.meta.url), 'utf8')).split('\n')
   .filter((it) => it && !it.startsWith('# ')).map((it) => it.split('\t'));
 
 /** The rows that begin with a word, without it. */
