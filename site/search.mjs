@@ -153,4 +153,3 @@ for (const it of ['keyup', 'pointerup']) {
   });
 }
 for (const it of CHOICES) byId(it).addEventListener('change', search);
-document.forms.searching.addEventListener('submit', (event) => event.preventDefault());

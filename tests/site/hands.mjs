@@ -84,16 +84,14 @@ async function saysOnce(page) {
 // that move.
 async function leavesComposition(page) {
   await page.speak('en');
-  const compose = () => page.send('Input.imeSetComposition',
-    { text: 'bai', selectionStart: 3, selectionEnd: 3 });
   await page.type('numeral', '一');
-  await compose();
+  await page.compose('bai');
   assert.equal(await page.value('numeral.value'), '一bai');
   assert.deepEqual((await page.answer('numeral')).rows, ['1']);
   await page.insert('百');
   assert.deepEqual((await page.answer('numeral')).rows, ['100']);
   await page.type('numeral', 'x');
-  await compose();
+  await page.compose('bai');
   assert.equal((await page.answer('numeral')).marked, null);
   await page.insert('百');
   assert.deepEqual((await page.answer('numeral')).marked, ['', 'x']);
@@ -140,7 +138,7 @@ async function scrolls(page) {
   await page.type('numeral', `${'零'.repeat(200)}xx`);
   await page.painted();
   assert(await together());
-  await page.send('Input.imeSetComposition', { text: 'y', selectionStart: 1, selectionEnd: 1 });
+  await page.compose('y');
   await page.insert('y');
   await page.painted();
   assert(await together());
@@ -159,8 +157,7 @@ async function scrolls(page) {
 // A phone offers digits and a point where these are enough.
 async function offersDigits(page) {
   await page.speak('zh-Hans');
-  assert.deepEqual(await page.value(`Array.from(document.querySelectorAll('[inputmode=decimal]'),
-    (it) => it.id)`), ['figures', 'dateFigures']);
+  assert.deepEqual(await page.all('[inputmode=decimal]', 'it.id'), ['figures', 'dateFigures']);
 }
 
 // A button copies the text before it, and says so.

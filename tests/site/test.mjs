@@ -69,11 +69,7 @@ async function judgesWhatCameEarly() {
     if (name.endsWith('.wasm')) await gate;
     return bytes;
   });
-  const page = await openPage(browser, slow.url, out), { value } = page;
-  const until = (expression) => value(`new Promise((done) => {
-    const look = () => (${expression} ? done() : setTimeout(look, 5));
-    look();
-  })`);
+  const page = await openPage(browser, slow.url, out), { until, value } = page;
   await page.send('Page.navigate', { url: slow.url });
   await until(`document.title === 'Chinese amounts and numerals'`);
   await page.type('numeral', '一百x');

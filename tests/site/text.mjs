@@ -18,8 +18,7 @@ const told = (page) => page.value('[textSaid.textContent, replaced.textContent]'
 // not marked as the others are. And the text has its quantities in figures.
 async function findsQuantities(page) {
   await page.speak('en');
-  const marks = (id) => page.value(`Array.from(document.querySelectorAll('${id} mark'),
-    (it) => [it.textContent, it.className])`);
+  const marks = (id) => page.all(`${id} mark`, '[it.textContent, it.className]');
   await page.type('text', TYPED);
   assert.deepEqual(await marks('#searching .mirror'), FOUND.map(([it, name]) => [it, name]));
   assert.deepEqual(await marks('#found'), FOUND.map(([it, name, said]) => [`${it} ${said}`, name]));
@@ -48,8 +47,7 @@ async function tellsDoubts(page) {
   for (const language of LANGUAGES) {
     await page.speak(language);
     await page.type('text', '三十六计，五一，负二项，六点五折，下午三点五，30~50万');
-    told.push(await page.value(`Array.from(found.querySelectorAll('small'),
-      (it) => it.textContent.replace(/^[^?？]*[?？] ?/, ''))`));
+    told.push(await page.all('#found small', `it.textContent.replace(/^[^?？]*[?？] ?/, '')`));
   }
   assert.deepEqual(told.map((it) => it.length), LANGUAGES.map(() => 7));
   assert.deepEqual(told[2], ['(part of a word)', '(a list of digits)', '(part of a term)',
@@ -95,8 +93,7 @@ async function showsLongTexts(page) {
       text.scrollWidth - text.clientWidth])(text.nextElementSibling)`), [0, 0, 0, 0]);
   }
   await page.type('text', `三百${'字'.repeat(5000)}五十${'字'.repeat(5000)}七千`);
-  const listed = () =>
-    page.value(`Array.from(found.querySelectorAll('mark span'), (it) => it.textContent)`);
+  const listed = () => page.all('#found mark span');
   assert.deepEqual(await listed(), ['七千']);
   assert.match(await page.value('textSaid.textContent'), /^Long text: .* Quantities: 1$/);
   // What the search saw in part is not listed: 十 of 五十.
@@ -160,5 +157,6 @@ async function readsVeryLongTexts(page) {
 }
 
 export const PARTS = [
-  findsQuantities, tellsDoubts, findsByChoices, showsLongTexts, answersLongTexts, readsVeryLongTexts,
+  findsQuantities, tellsDoubts, findsByChoices, showsLongTexts, answersLongTexts,
+  readsVeryLongTexts,
 ];
