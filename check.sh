@@ -88,7 +88,7 @@ list_skipped() {
 touch "$scratch/skipped"
 if [ -n "$part" ]; then
     run_scripts "$part"
-    run_tests -k "$part"
+    run_tests -k "$part" -m 'not by_hand'
     list_skipped
     exit
 fi

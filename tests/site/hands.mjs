@@ -6,7 +6,6 @@ import { LANGUAGES, rowsOf } from './page.mjs';
 // A key in the middle of the text, right or wrong, leaves the caret behind what it typed. Enter and
 // the button alone move it: to the wrong character, or before the one where something is missing.
 async function leavesTheCaret(page) {
-  await page.speak('en');
   const told = async () => [await page.value('numeral.value'), await page.caret('numeral'),
     (await page.answer('numeral')).marked];
   await page.type('numeral', '一百二');
@@ -37,7 +36,6 @@ async function leavesTheCaret(page) {
 
 // A form reports the message of its field by itself, and is submitted only with a right text.
 async function reportsRefusals(page) {
-  await page.speak('en');
   await page.value(`window.submitted = 0;
     for (const it of document.forms) it.addEventListener('submit', () => { submitted++; });`);
   for (const [id, right, ...others] of [
@@ -66,7 +64,6 @@ async function reportsRefusals(page) {
 
 // What has not changed is not said again.
 async function saysOnce(page) {
-  await page.speak('en');
   await page.choose('kind', 'u8');
   await page.type('numeral', '三百');
   await page.value(`window.said = 0;
@@ -83,7 +80,6 @@ async function saysOnce(page) {
 // What an input method composes is not judged before it is a text, and no mark stands over letters
 // that move.
 async function leavesComposition(page) {
-  await page.speak('en');
   await page.type('numeral', '一');
   await page.compose('bai');
   assert.equal(await page.value('numeral.value'), '一bai');
@@ -132,7 +128,6 @@ async function marksTheCharacter(page) {
 // A long text scrolls, in narrow boxes too where no font has its characters, and the mirror with
 // it, also where an input method wrote its end.
 async function scrolls(page) {
-  await page.speak('en');
   const together = () => page.value(`(({ scrollLeft }) => numeral.scrollLeft > 500
     && Math.abs(scrollLeft - numeral.scrollLeft) < 1)(numeral.nextElementSibling)`);
   await page.type('numeral', `${'零'.repeat(200)}xx`);
@@ -156,7 +151,6 @@ async function scrolls(page) {
 
 // A phone offers digits and a point where these are enough.
 async function offersDigits(page) {
-  await page.speak('zh-Hans');
   assert.deepEqual(await page.all('[inputmode=decimal]', 'it.id'), ['figures', 'dateFigures']);
 }
 
@@ -187,7 +181,6 @@ async function copies(page) {
 
 // What was typed is text on the page, and never markup.
 async function showsTextAlone(page) {
-  await page.speak('en');
   const markup = '<img src=x onerror="document.title=1"><b>一</b>&lt;';
   const count = () => page.value(`document.querySelectorAll('img, b').length`);
   const { marked } = await page.ask('numeral', markup);

@@ -117,7 +117,9 @@ async function test() {
   const page = await opens();
   const permissions = ['clipboardReadWrite', 'clipboardSanitizedWrite'];
   await browser.send('Browser.grantPermissions', { permissions, browserContextId: page.context });
+  // Each part begins with the page as it opens in English.
   for (const it of [...WORDS, ...HANDS, ...TEXT, ...LOOKS]) {
+    await page.speak('en');
     await it(page);
     assert.deepEqual(page.problems, [], it.name);
   }

@@ -17,7 +17,6 @@ const told = (page) => page.value('[textSaid.textContent, replaced.textContent]'
 // They are marked in place, and listed with their figures or refusals; what is wrong or doubtful is
 // not marked as the others are. And the text has its quantities in figures.
 async function findsQuantities(page) {
-  await page.speak('en');
   const marks = (id) => page.all(`${id} mark`, '[it.textContent, it.className]');
   await page.type('text', TYPED);
   assert.deepEqual(await marks('#searching .mirror'), FOUND.map(([it, name]) => [it, name]));
@@ -60,7 +59,6 @@ async function tellsDoubts(page) {
 
 // A text is read with the chosen method, and with ten thousand if there is none.
 async function findsByChoices(page) {
-  await page.speak('en');
   await page.check('expanded', true);
   await page.type('text', '1兆');
   for (const [way, it] of [['low', '1000000'], ['high', '10000000000000000'],
@@ -131,7 +129,6 @@ async function keyIn(page, id, fill, length) {
 // that nothing judges.
 async function answersLongTexts(page) {
   const dense = '共3.5万元，占12.5%，一般三百多人，他五六十歲，', long = 160_000;
-  await page.speak('en');
   await page.send('Performance.enable', { timeDomain: 'threadTicks' });
   await page.value(`document.body.append(Object.assign(document.createElement('textarea'),
     { id: 'bare' }))`);
@@ -149,7 +146,6 @@ async function answersLongTexts(page) {
 
 // A text with a million characters is read, and its position is shown.
 async function readsVeryLongTexts(page) {
-  await page.speak('en');
   await page.type('numeral', `${' '.repeat(1_000_000)}一百二`);
   assert.deepEqual((await page.answer('numeral')).rows, ['120']);
   await page.insert('x');

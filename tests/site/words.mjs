@@ -105,7 +105,6 @@ async function leavesTheUnfinished(page) {
 
 // No beginning of a printed text is a fault.
 async function leavesBeginnings(page) {
-  await page.speak('en');
   for (const [from, typed, to, read] of [
     ['number', '-170141183460469231731687303715884105727', 'numeral'],
     ['number', '-1409.05', 'numeral'], ['number', '12.5%', 'numeral'],
@@ -132,7 +131,6 @@ const saysWhy = (page) => page.eachRow('without a place', async (at, id, typed, 
 
 // An integer type and a way can be chosen; by default any type and any way will do.
 async function goesByChoices(page) {
-  await page.speak('en');
   assert.deepEqual(await page.value('[kind.value, way.value, choosing.open]'), ['', 'any', false]);
   assert.deepEqual((await page.ask('number', '100100000')).rows,
     ['一亿零一十万', '一億零一十萬', '壹亿零壹拾万', '壹億零壹拾萬']);
@@ -171,20 +169,17 @@ async function goesByChoices(page) {
 
 // The form of an amount can be chosen.
 async function writesForms(page) {
-  await page.speak('zh-Hans');
-  await page.type('figures', '15');
-  for (const [id, simplified, traditional] of [
-    ['currency', '人民币壹拾伍元整', '人民幣壹拾伍元整'],
-    ['roundYuan', '壹拾伍圆整', '壹拾伍圓整'], ['uprightClosing', '壹拾伍元正', '壹拾伍元正'],
+  for (const [id, typed, ...rows] of [
+    ['currency', '15', '人民币壹拾伍元整', '人民幣壹拾伍元整'],
+    ['roundYuan', '15', '壹拾伍圆整', '壹拾伍圓整'],
+    ['uprightClosing', '15', '壹拾伍元正', '壹拾伍元正'],
+    ['bracketedSign', '-15', '（负数）壹拾伍元整', '（負數）壹拾伍元整'],
   ]) {
+    await page.type('figures', typed);
     await page.check(id, true);
-    assert.deepEqual((await page.answer('figures')).rows, [simplified, traditional]);
+    assert.deepEqual((await page.answer('figures')).rows, rows);
     await page.check(id, false);
   }
-  await page.type('figures', '-15');
-  await page.check('bracketedSign', true);
-  assert.deepEqual((await page.answer('figures')).rows, ['（负数）壹拾伍元整', '（負數）壹拾伍元整']);
-  await page.check('bracketedSign', false);
 }
 
 export const PARTS = [
