@@ -146,7 +146,7 @@ class Clone:
         return program
 
     def same(self, _):
-        return run(self.compiled(self.cc, "c", TOP / "checks/same.c"), 1000)
+        return run(self.compiled(self.cc, "c", BINDINGS / "source/same.c"), 1000)
 
     def c(self, asked):
         return run(self.compiled(self.cc, "c", BINDINGS / "c/answers.c"), text=asked)
@@ -196,7 +196,7 @@ LANGUAGES = {
 
 
 def of_archive():
-    """What `same 1000` of checks/same.c prints for the proved archive."""
+    """What `same 1000` of bindings/source/same.c prints for the proved archive."""
     return json.loads((DIST / "PROVENANCE.json").read_text(encoding="utf-8"))["answers"]
 
 

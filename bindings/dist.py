@@ -13,7 +13,7 @@ in its PROVENANCE.json, and that each copy equals its original. It needs only Py
 
 again makes the files again, and compares each byte. If the tools differ from those that
 PROVENANCE.json names, or the toolchain is another one with the same logic, bytes may differ. Then it
-compares the output of checks/same.c with the C source and with the archive in the folder ARCHIVE,
+compares the output of source/same.c with the C source and with the archive in the folder ARCHIVE,
 which archive.sh fills.
 """
 import base64
@@ -68,8 +68,8 @@ WHAT = (
     "The library cn_c as modules for WebAssembly and as C source. `verdict` is the toolchain's own "
     "line over the module with a 64-bit memory, built of proved code: of the sources whose sum "
     "bindings/sources.py prints. The other files are made of that module. `answers` is what "
-    f"`same {COUNT}` of checks/same.c shows over the C source, and over an archive of the same "
-    "sources. bindings/dist.py makes and compares all this. This file is not signed."
+    f"`same {COUNT}` of bindings/source/same.c shows over the C source, and over an archive of the "
+    "same sources. bindings/dist.py makes and compares all this. This file is not signed."
 )
 
 
@@ -98,10 +98,10 @@ def tools():
 
 
 def answers(library):
-    """The output of checks/same.c with a library, which is an archive or C source."""
+    """The output of source/same.c with a library, which is an archive or C source."""
     with tempfile.TemporaryDirectory() as scratch:
         program = Path(scratch) / "same"
-        said("cc", "-O1", "-I", HERE / "c", TOP / "checks/same.c", library, "-o", program)
+        said("cc", "-O1", "-I", HERE / "c", HERE / "source/same.c", library, "-o", program)
         return said(program, COUNT).strip()
 
 

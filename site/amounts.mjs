@@ -2,7 +2,7 @@
 
 import {
   chineseToSignedAmountAsTypedBigInt, signedAmountToChinese, yuanToFenBigInt,
-} from '../files/chinese-number.mjs';
+} from './library.mjs';
 import { inEachScript, words } from './language.mjs';
 import { answerTyped, withoutSpace } from './typed.mjs';
 
@@ -32,19 +32,17 @@ function figuresIn(typed) {
   return { text: text.replaceAll('。', '.').replace(/[元圆圓]$/, ''), placeOf };
 }
 
-const IN_FIGURES = {
+/** The amount that was typed in figures, in capitals. */
+export const writeAmount = (typed) => answerTyped(typed, {
   input: 'figures',
   textOf: figuresIn,
   read: yuanToFenBigInt,
   answer: (fen) => ({ rows: inEachScript((script) => capitalsOf(fen, script)), said: note(fen) }),
-};
+});
 
-const IN_CAPITALS = {
+/** The amount that was typed in capitals, in figures. */
+export const readAmount = (typed) => answerTyped(typed, {
   input: 'typedSignedAmount',
-  textOf: (text) => ({ text }),
   read: chineseToSignedAmountAsTypedBigInt,
   answer: (fen) => ({ rows: [{ name: words('figures'), text: yuanOf(fen) }], said: note(fen) }),
-};
-
-export const writeAmount = (typed) => answerTyped(typed, IN_FIGURES);
-export const readAmount = (typed) => answerTyped(typed, IN_CAPITALS);
+});

@@ -1,7 +1,7 @@
 // Numbers: figures to numerals, and numerals to figures. They may have decimals and be percentages
 // or fractions, unless an integer type or plain digits are chosen.
 
-import { KINDS, METHODS, toBigInt, toChinese, toQuantity } from '../files/chinese-number.mjs';
+import { KINDS, METHODS, toBigInt, toChinese, toQuantity } from './library.mjs';
 import { inEachScript, words } from './language.mjs';
 import { answerTyped, inUsualWidth } from './typed.mjs';
 

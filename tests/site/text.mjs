@@ -1,4 +1,4 @@
-// The quantities that the page finds in a text, and long texts; a part of page_test.mjs.
+// The quantities that the page finds in a text, and long texts; a part of test.mjs.
 import assert from 'node:assert/strict';
 import { LANGUAGES } from './page.mjs';
 
@@ -17,9 +17,7 @@ const told = (page) => page.value('[textSaid.textContent, replaced.textContent]'
 // They are marked in place, and listed with their figures or refusals; what is wrong or doubtful is
 // not marked as the others are. And the text has its quantities in figures.
 async function findsQuantities(page) {
-  await page.speak('en');
-  const marks = (id) => page.value(`Array.from(document.querySelectorAll('${id} mark'),
-    (it) => [it.textContent, it.className])`);
+  const marks = (id) => page.all(`${id} mark`, '[it.textContent, it.className]');
   await page.type('text', TYPED);
   assert.deepEqual(await marks('#searching .mirror'), FOUND.map(([it, name]) => [it, name]));
   assert.deepEqual(await marks('#found'), FOUND.map(([it, name, said]) => [`${it} ${said}`, name]));
@@ -48,8 +46,7 @@ async function tellsDoubts(page) {
   for (const language of LANGUAGES) {
     await page.speak(language);
     await page.type('text', '三十六计，五一，负二项，六点五折，下午三点五，30~50万');
-    told.push(await page.value(`Array.from(found.querySelectorAll('small'),
-      (it) => it.textContent.replace(/^[^?？]*[?？] ?/, ''))`));
+    told.push(await page.all('#found small', `it.textContent.replace(/^[^?？]*[?？] ?/, '')`));
   }
   assert.deepEqual(told.map((it) => it.length), LANGUAGES.map(() => 7));
   assert.deepEqual(told[2], ['(part of a word)', '(a list of digits)', '(part of a term)',
@@ -62,7 +59,6 @@ async function tellsDoubts(page) {
 
 // A text is read with the chosen method, and with ten thousand if there is none.
 async function findsByChoices(page) {
-  await page.speak('en');
   await page.check('expanded', true);
   await page.type('text', '1兆');
   for (const [way, it] of [['low', '1000000'], ['high', '10000000000000000'],
@@ -95,8 +91,7 @@ async function showsLongTexts(page) {
       text.scrollWidth - text.clientWidth])(text.nextElementSibling)`), [0, 0, 0, 0]);
   }
   await page.type('text', `三百${'字'.repeat(5000)}五十${'字'.repeat(5000)}七千`);
-  const listed = () =>
-    page.value(`Array.from(found.querySelectorAll('mark span'), (it) => it.textContent)`);
+  const listed = () => page.all('#found mark span');
   assert.deepEqual(await listed(), ['七千']);
   assert.match(await page.value('textSaid.textContent'), /^Long text: .* Quantities: 1$/);
   // What the search saw in part is not listed: 十 of 五十.
@@ -134,7 +129,6 @@ async function keyIn(page, id, fill, length) {
 // that nothing judges.
 async function answersLongTexts(page) {
   const dense = '共3.5万元，占12.5%，一般三百多人，他五六十歲，', long = 160_000;
-  await page.speak('en');
   await page.send('Performance.enable', { timeDomain: 'threadTicks' });
   await page.value(`document.body.append(Object.assign(document.createElement('textarea'),
     { id: 'bare' }))`);
@@ -152,7 +146,6 @@ async function answersLongTexts(page) {
 
 // A text with a million characters is read, and its position is shown.
 async function readsVeryLongTexts(page) {
-  await page.speak('en');
   await page.type('numeral', `${' '.repeat(1_000_000)}一百二`);
   assert.deepEqual((await page.answer('numeral')).rows, ['120']);
   await page.insert('x');
@@ -160,5 +153,6 @@ async function readsVeryLongTexts(page) {
 }
 
 export const PARTS = [
-  findsQuantities, tellsDoubts, findsByChoices, showsLongTexts, answersLongTexts, readsVeryLongTexts,
+  findsQuantities, tellsDoubts, findsByChoices, showsLongTexts, answersLongTexts,
+  readsVeryLongTexts,
 ];

@@ -1,23 +1,31 @@
-// A folder served over HTTP, and a headless Chromium that is driven over its debugging pipe, for
-// page_test.mjs.
+// The page served over HTTP, and a headless Chromium that is driven over its debugging pipe, for
+// test.mjs.
 import { spawn } from 'node:child_process';
 import { mkdtemp, readFile, rm } from 'node:fs/promises';
 import { createServer } from 'node:http';
 import { tmpdir } from 'node:os';
 import { extname, join } from 'node:path';
+import { fileURLToPath } from 'node:url';
 
+const TOP = fileURLToPath(new URL('../..', import.meta.url));
+const SERVED = /^(site|bindings\/web\/files)\/[\w.-]+$/;
 const KINDS = {
   '.html': 'text/html', '.css': 'text/css', '.mjs': 'text/javascript', '.wasm': 'application/wasm',
 };
 
-/** Serves the files of a folder; `changed` may return other bytes for a file, or wait. */
-export async function serve(folder, changed = (name, bytes) => bytes) {
+/**
+ * Serves the page, with one module, whichever it asks for. `changed` may return other bytes for a
+ * file, or wait.
+ */
+export async function serve(bits, changed = (name, bytes) => bytes) {
   const asked = [];
   const server = createServer(async (request, response) => {
-    const name = new URL(request.url, 'http://localhost').pathname.slice(1) || 'index.html';
+    const { pathname } = new URL(request.url, 'http://localhost');
+    const name = pathname.slice(1).replace(/\/$/, '/index.html');
     try {
-      if (!/^((files|page)\/)?[\w.-]+$/.test(name)) throw new Error('no such file');
-      const bytes = await changed(name, await readFile(join(folder, name)));
+      if (!SERVED.test(name)) throw new Error('no such file');
+      const path = join(TOP, name.replace(/\d+(?=\.wasm$)/, bits));
+      const bytes = await changed(name, await readFile(path));
       const type = KINDS[extname(name)] ?? 'application/octet-stream';
       response.writeHead(200, { 'content-type': type }).end(bytes);
       asked.push({ name, bytes: bytes.length });
@@ -26,7 +34,8 @@ export async function serve(folder, changed = (name, bytes) => bytes) {
     }
   });
   await new Promise((done) => server.listen(0, '127.0.0.1', done));
-  return { url: `http://127.0.0.1:${server.address().port}/`, asked, close: () => server.close() };
+  const url = `http://127.0.0.1:${server.address().port}/site/`;
+  return { url, asked, close: () => server.close() };
 }
 
 /** Starts a Chromium with an empty profile. */

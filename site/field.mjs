@@ -107,6 +107,5 @@ export function judgeForm(form, judge) {
     field.focus();
     field.setSelectionRange(place.start, place.isBefore ? place.start : place.end);
   });
-  form.addEventListener('submit', (event) => event.preventDefault());
   return judgeAgain;
 }

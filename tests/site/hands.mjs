@@ -1,12 +1,11 @@
 // Using the page: the caret, input methods, marks, copies, keys, and what a screen reader says; a
-// part of page_test.mjs.
+// part of test.mjs.
 import assert from 'node:assert/strict';
 import { LANGUAGES, rowsOf } from './page.mjs';
 
 // A key in the middle of the text, right or wrong, leaves the caret behind what it typed. Enter and
 // the button alone move it: to the wrong character, or before the one where something is missing.
 async function leavesTheCaret(page) {
-  await page.speak('en');
   const told = async () => [await page.value('numeral.value'), await page.caret('numeral'),
     (await page.answer('numeral')).marked];
   await page.type('numeral', '一百二');
@@ -37,7 +36,6 @@ async function leavesTheCaret(page) {
 
 // A form reports the message of its field by itself, and is submitted only with a right text.
 async function reportsRefusals(page) {
-  await page.speak('en');
   await page.value(`window.submitted = 0;
     for (const it of document.forms) it.addEventListener('submit', () => { submitted++; });`);
   for (const [id, right, ...others] of [
@@ -66,7 +64,6 @@ async function reportsRefusals(page) {
 
 // What has not changed is not said again.
 async function saysOnce(page) {
-  await page.speak('en');
   await page.choose('kind', 'u8');
   await page.type('numeral', '三百');
   await page.value(`window.said = 0;
@@ -83,17 +80,14 @@ async function saysOnce(page) {
 // What an input method composes is not judged before it is a text, and no mark stands over letters
 // that move.
 async function leavesComposition(page) {
-  await page.speak('en');
-  const compose = () => page.send('Input.imeSetComposition',
-    { text: 'bai', selectionStart: 3, selectionEnd: 3 });
   await page.type('numeral', '一');
-  await compose();
+  await page.compose('bai');
   assert.equal(await page.value('numeral.value'), '一bai');
   assert.deepEqual((await page.answer('numeral')).rows, ['1']);
   await page.insert('百');
   assert.deepEqual((await page.answer('numeral')).rows, ['100']);
   await page.type('numeral', 'x');
-  await compose();
+  await page.compose('bai');
   assert.equal((await page.answer('numeral')).marked, null);
   await page.insert('百');
   assert.deepEqual((await page.answer('numeral')).marked, ['', 'x']);
@@ -134,13 +128,12 @@ async function marksTheCharacter(page) {
 // A long text scrolls, in narrow boxes too where no font has its characters, and the mirror with
 // it, also where an input method wrote its end.
 async function scrolls(page) {
-  await page.speak('en');
   const together = () => page.value(`(({ scrollLeft }) => numeral.scrollLeft > 500
     && Math.abs(scrollLeft - numeral.scrollLeft) < 1)(numeral.nextElementSibling)`);
   await page.type('numeral', `${'零'.repeat(200)}xx`);
   await page.painted();
   assert(await together());
-  await page.send('Input.imeSetComposition', { text: 'y', selectionStart: 1, selectionEnd: 1 });
+  await page.compose('y');
   await page.insert('y');
   await page.painted();
   assert(await together());
@@ -158,9 +151,7 @@ async function scrolls(page) {
 
 // A phone offers digits and a point where these are enough.
 async function offersDigits(page) {
-  await page.speak('zh-Hans');
-  assert.deepEqual(await page.value(`Array.from(document.querySelectorAll('[inputmode=decimal]'),
-    (it) => it.id)`), ['figures', 'dateFigures']);
+  assert.deepEqual(await page.all('[inputmode=decimal]', 'it.id'), ['figures', 'dateFigures']);
 }
 
 // A button copies the text before it, and says so.
@@ -190,7 +181,6 @@ async function copies(page) {
 
 // What was typed is text on the page, and never markup.
 async function showsTextAlone(page) {
-  await page.speak('en');
   const markup = '<img src=x onerror="document.title=1"><b>一</b>&lt;';
   const count = () => page.value(`document.querySelectorAll('img, b').length`);
   const { marked } = await page.ask('numeral', markup);

@@ -1,6 +1,6 @@
 // Dates of bills: figures to capitals, and capitals to figures.
 
-import { chineseToDate, dateToChinese } from '../files/chinese-number.mjs';
+import { chineseToDate, dateToChinese } from './library.mjs';
 import { inEachScript, sentences, words } from './language.mjs';
 import {
   answerTyped, inUsualWidth, reasonOf, sayUnfinished, sayWhere, withoutSpace,

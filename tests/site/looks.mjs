@@ -1,4 +1,4 @@
-// How the page looks, light and dark, wide and narrow; a part of page_test.mjs.
+// How the page looks, light and dark, wide and narrow; a part of test.mjs.
 import assert from 'node:assert/strict';
 import { LANGUAGES } from './page.mjs';
 
@@ -44,7 +44,6 @@ const CONTRASTS = `(() => {
 // Light and dark: words stand out by 4.5 to 1 at the least, and lines by 3 to 1. What stands round
 // the page has its colour.
 async function standsOut(page) {
-  await page.speak('en');
   await page.type('numeral', '三千兩白五十六');
   await page.type('figures', '15');
   await page.type('text', '二十三，五六十，一般，A4');

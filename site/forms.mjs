@@ -18,6 +18,7 @@ const judges = [
   ...judgeNumbers,
 ];
 
+for (const it of forms) it.addEventListener('submit', (event) => event.preventDefault());
 // After a choice changes, the fields that it affects are checked again.
 forms.writingAmounts.addEventListener('change', judgeAmount);
 document.getElementById('choosing').addEventListener('change', () => {

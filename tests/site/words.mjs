@@ -1,7 +1,7 @@
-// What the page says and answers, in each of its languages; a part of page_test.mjs.
+// What the page says and answers, in each of its languages; a part of test.mjs.
 import assert from 'node:assert/strict';
-import { LANGUAGES, rowsOf } from './page.mjs';
-import { TEXTS } from './page/texts.mjs';
+import { LANGUAGES } from './page.mjs';
+import { TEXTS } from '../../site/texts.mjs';
 
 const FIELDS = ['figures', 'capitals', 'dateFigures', 'dateCapitals', 'number', 'numeral'];
 
@@ -13,8 +13,7 @@ async function hasEachText(page) {
     for (const it of others) assert.equal(it, first, key);
     for (const it of texts) assert.notEqual(it.trim(), '', key);
   }
-  const keys = await page.value(`Array.from(document.querySelectorAll('*'),
-    ({ dataset }) => dataset.text ?? dataset.placeholder).filter(Boolean)`);
+  const keys = (await page.all('*', 'it.dataset.text ?? it.dataset.placeholder')).filter(Boolean);
   assert(keys.length > 30);
   for (const it of keys) assert(it in TEXTS, it);
   const [hans, hant] = [0, 1].map((it) => Object.values(TEXTS).map((texts) => texts[it]).join(''));
@@ -50,8 +49,7 @@ async function switchesInPlace(page) {
   await page.type('figures', '107000.53');
   await page.type('capitals', '壹拾伍元');
   await page.type('dateCapitals', '伍年零壹月壹拾伍日');
-  const told = (name) => page.value(
-    `Array.from(figures.form.querySelectorAll('${name}'), (it) => it.textContent)`);
+  const told = (name) => page.all(`#writingAmounts ${name}`);
   const amounts = ['壹拾万零柒仟元伍角叁分', '壹拾萬零柒仟元伍角參分'];
   for (const [language, copy, names, said] of [
     ['zh-Hant', '複製', ['繁體', '簡體'], '末尾缺「整」。'],
@@ -66,9 +64,7 @@ async function switchesInPlace(page) {
     assert.deepEqual(await told('dd span'),
       language === 'zh-Hant' ? amounts.toReversed() : amounts);
     assert.equal((await page.answer('capitals')).said, said);
-    const buttons = await page.value(
-      `Array.from(document.querySelectorAll('dd button'), (it) => it.textContent)`);
-    assert.deepEqual(buttons, [copy, copy, copy]);
+    assert.deepEqual(await page.all('dd button'), [copy, copy, copy]);
   }
   // A link with this address has its language, whatever the browser prefers.
   await page.prefer('zh-TW');
@@ -78,53 +74,37 @@ async function switchesInPlace(page) {
 }
 
 // What is answered, in the order of the scripts of the page's language.
-async function answers(page) {
-  for (const language of LANGUAGES) {
-    const at = await page.speak(language);
-    for (const [id, typed, ...texts] of rowsOf('answered')) {
-      const wanted = language === 'zh-Hant' ? texts.toReversed() : texts;
-      const note = /^[-负]/.test(texts[0]) && ['figures', 'capitals'].includes(id);
-      const said = note ? TEXTS.belowZero[at] : '';
-      assert.deepEqual(await page.ask(id, typed),
-        { rows: wanted, said, isFault: false, marked: null }, typed);
-    }
-  }
-}
+const answers = (page) => page.eachRow('answered', async (at, id, typed, ...texts) => {
+  const rows = LANGUAGES[at] === 'zh-Hant' ? texts.toReversed() : texts;
+  const note = /^[-负]/.test(texts[0]) && ['figures', 'capitals'].includes(id);
+  await page.gives(id, typed, { rows, said: note ? TEXTS.belowZero[at] : '' });
+});
 
 // Why a text is refused; the character that the message names is marked. Enter selects it, or moves
 // the caret before it if something is missing there.
-async function refuses(page) {
-  for (const language of LANGUAGES) {
-    const at = await page.speak(language);
-    for (const [id, row, ...texts] of rowsOf('refused')) {
-      const [prefix, character, suffix] = row.split(/[[\]]/), said = texts[at];
-      assert.deepEqual(await page.ask(id, prefix + character + suffix),
-        { rows: [], said, isFault: true, marked: [prefix, character] }, row);
-      await page.enter();
-      const selected = /缺|missing/.test(said) ? 0 : character.length;
-      assert.deepEqual(await page.caret(id), [prefix.length, prefix.length + selected], row);
-    }
-  }
-}
+const refuses = (page) => page.eachRow('refused', async (at, id, row, ...texts) => {
+  const [prefix, character, suffix] = row.split(/[[\]]/), said = texts[at];
+  const typed = prefix + character + suffix;
+  await page.gives(id, typed, { said, isFault: true, marked: [prefix, character] });
+  await page.enter();
+  const selected = /缺|missing/.test(said) ? 0 : character.length;
+  assert.deepEqual(await page.caret(id), [prefix.length, prefix.length + selected], row);
+});
 
 // An unfinished text is not a fault, and the page says what may follow it.
 async function leavesTheUnfinished(page) {
+  await page.eachRow('unfinished', (at, id, typed, ...texts) =>
+    page.gives(id, typed, { said: texts[at] }));
   for (const language of LANGUAGES) {
-    const at = await page.speak(language);
-    for (const [id, typed, ...texts] of rowsOf('unfinished')) {
-      assert.deepEqual(await page.ask(id, typed),
-        { rows: [], said: texts[at], isFault: false, marked: null }, typed);
-    }
-    const nothing = { rows: [], said: '', isFault: false, marked: null };
+    await page.speak(language);
     for (const id of FIELDS) {
-      for (const it of ['', ' ', '　']) assert.deepEqual(await page.ask(id, it), nothing);
+      for (const it of ['', ' ', '　']) await page.gives(id, it);
     }
   }
 }
 
 // No beginning of a printed text is a fault.
 async function leavesBeginnings(page) {
-  await page.speak('en');
   for (const [from, typed, to, read] of [
     ['number', '-170141183460469231731687303715884105727', 'numeral'],
     ['number', '-1409.05', 'numeral'], ['number', '12.5%', 'numeral'],
@@ -144,20 +124,13 @@ async function leavesBeginnings(page) {
 }
 
 // Why what has no character at fault is refused.
-async function saysWhy(page) {
-  for (const language of LANGUAGES) {
-    const at = await page.speak(language);
-    for (const [id, typed, ...texts] of rowsOf('without a place')) {
-      assert.deepEqual(await page.ask(id, typed),
-        { rows: [], said: texts[at], isFault: true, marked: null }, typed);
-      assert(await page.value(`${id}.form.querySelector('.select').hidden`));
-    }
-  }
-}
+const saysWhy = (page) => page.eachRow('without a place', async (at, id, typed, ...texts) => {
+  await page.gives(id, typed, { said: texts[at], isFault: true });
+  assert(await page.value(`${id}.form.querySelector('.select').hidden`));
+});
 
 // An integer type and a way can be chosen; by default any type and any way will do.
 async function goesByChoices(page) {
-  await page.speak('en');
   assert.deepEqual(await page.value('[kind.value, way.value, choosing.open]'), ['', 'any', false]);
   assert.deepEqual((await page.ask('number', '100100000')).rows,
     ['一亿零一十万', '一億零一十萬', '壹亿零壹拾万', '壹億零壹拾萬']);
@@ -184,8 +157,7 @@ async function goesByChoices(page) {
   ]) {
     await page.choose('kind', kind);
     await page.choose('way', way);
-    assert.deepEqual(await page.ask(id, typed),
-      { rows, said, isFault: said !== '', marked: null }, typed);
+    await page.gives(id, typed, { rows, said, isFault: said !== '' });
   }
   // A type chosen anew judges anew.
   await page.choose('way', 'any');
@@ -197,20 +169,17 @@ async function goesByChoices(page) {
 
 // The form of an amount can be chosen.
 async function writesForms(page) {
-  await page.speak('zh-Hans');
-  await page.type('figures', '15');
-  for (const [id, simplified, traditional] of [
-    ['currency', '人民币壹拾伍元整', '人民幣壹拾伍元整'],
-    ['roundYuan', '壹拾伍圆整', '壹拾伍圓整'], ['uprightClosing', '壹拾伍元正', '壹拾伍元正'],
+  for (const [id, typed, ...rows] of [
+    ['currency', '15', '人民币壹拾伍元整', '人民幣壹拾伍元整'],
+    ['roundYuan', '15', '壹拾伍圆整', '壹拾伍圓整'],
+    ['uprightClosing', '15', '壹拾伍元正', '壹拾伍元正'],
+    ['bracketedSign', '-15', '（负数）壹拾伍元整', '（負數）壹拾伍元整'],
   ]) {
+    await page.type('figures', typed);
     await page.check(id, true);
-    assert.deepEqual((await page.answer('figures')).rows, [simplified, traditional]);
+    assert.deepEqual((await page.answer('figures')).rows, rows);
     await page.check(id, false);
   }
-  await page.type('figures', '-15');
-  await page.check('bracketedSign', true);
-  assert.deepEqual((await page.answer('figures')).rows, ['（负数）壹拾伍元整', '（負數）壹拾伍元整']);
-  await page.check('bracketedSign', false);
 }
 
 export const PARTS = [

@@ -1,7 +1,7 @@
 // Marks the quantities of a text, lists them below it with their values, and writes them in
 // figures.
 
-import { findQuantities, quantitiesToFigures } from '../files/chinese-number.mjs';
+import { findQuantities, quantitiesToFigures } from './library.mjs';
 import { MOST_MARKED, atEachKey, copyButton, element, partsAround, say } from './field.mjs';
 import { sentences, words } from './language.mjs';
 import { methodChosen } from './numbers.mjs';
@@ -153,4 +153,3 @@ for (const it of ['keyup', 'pointerup']) {
   });
 }
 for (const it of CHOICES) byId(it).addEventListener('change', search);
-document.forms.searching.addEventListener('submit', (event) => event.preventDefault());

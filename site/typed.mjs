@@ -1,6 +1,6 @@
 // Reads and converts what was typed, in the same way for amounts, dates and numbers.
 
-import { inputRepair, statusMessage } from '../files/chinese-number.mjs';
+import { inputRepair, statusMessage } from './library.mjs';
 import { language, words } from './language.mjs';
 
 // A full-width character in its usual width; 。 becomes a point, since input methods write it.
@@ -66,12 +66,12 @@ function refusalOf(typed, error, { text, placeOf }, { input, isBegun }) {
 }
 
 /**
- * Converts what was typed. `textOf` makes the text to read from it, `read` reads this, and `answer`
- * makes the result from the value. If the text is refused, the message is the library's. `input` is
- * the library's name for what is read, if it has one. `isBegun` says whether more text can complete
- * one that is refused.
+ * Converts what was typed. `textOf` makes another text of it, if needed, `read` reads this, and
+ * `answer` makes the result from the value. If the text is refused, the message is the library's.
+ * `input` is the library's name for what is read, if it has one. `isBegun` says whether more text
+ * can complete one that is refused.
  */
-export function answerTyped(typed, { textOf, read, answer, ...how }) {
+export function answerTyped(typed, { textOf = (text) => ({ text }), read, answer, ...how }) {
   if (typed.trim() === '') return {};
   const it = textOf(typed);
   try {

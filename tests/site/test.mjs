@@ -1,33 +1,30 @@
-// node page_test.mjs CHROMIUM OUT [FLAG..]: types into the page in a headless Chromium, in each of
-// its languages, and leaves pictures of it in OUT.
+// node test.mjs BITS CHROMIUM OUT [FLAG..]: types into the page in a headless Chromium, in each of
+// its languages, and leaves pictures of it in OUT. BITS are those of the module's memory.
 import assert from 'node:assert/strict';
 import { readFile } from 'node:fs/promises';
-import { join } from 'node:path';
-import { fileURLToPath } from 'node:url';
 import { openTab, serve, start } from './browser.mjs';
 import { openPage } from './page.mjs';
-import { PARTS as HANDS } from './page_hands.mjs';
-import { PARTS as LOOKS } from './page_looks.mjs';
-import { PARTS as TEXT } from './page_text.mjs';
-import { PARTS as WORDS } from './page_words.mjs';
+import { PARTS as HANDS } from './hands.mjs';
+import { PARTS as LOOKS } from './looks.mjs';
+import { PARTS as TEXT } from './text.mjs';
+import { PARTS as WORDS } from './words.mjs';
 
-const [program, out, ...flags] = process.argv.slice(2);
-const folder = fileURLToPath(new URL('.', import.meta.url));
+const [bits, program, out, ...flags] = process.argv.slice(2);
 const MEMORY_64 = `WebAssembly.validate(
   Uint8Array.of(0, 0x61, 0x73, 0x6d, 1, 0, 0, 0, 5, 3, 1, 4, 1))`;
 const POLICY = "default-src 'none'; script-src 'self' 'wasm-unsafe-eval'; style-src 'self'; "
   + "connect-src 'self'; img-src data:; form-action 'none'; base-uri 'none'; "
   + "require-trusted-types-for 'script'";
 
-const site = await serve(folder);
+const site = await serve(bits);
 const browser = await start(program, flags);
 
 // Whether the browser has what the module needs, that is 64-bit memories, and then no page has to
 // open without them.
 async function runsTheModule() {
   const tab = await openTab(browser, 720, 760);
-  await tab.send('Page.navigate', { url: `${site.url}page/index.css` });
-  const runs = await tab.value(`fetch('../files/chinese-number.64.wasm')
+  await tab.send('Page.navigate', { url: `${site.url}index.css` });
+  const runs = await tab.value(`fetch('../bindings/web/files/chinese-number.64.wasm')
     .then((it) => it.arrayBuffer()).then((it) => WebAssembly.validate(it))`);
   await tab.close();
   site.asked.splice(0);
@@ -46,9 +43,9 @@ async function opens() {
   const asked = site.asked.splice(0);
   assert.equal(asked.length % 5, 0, 'a cache was not empty');
   const files = asked.slice(0, asked.length / 5), names = files.map((it) => it.name);
-  const bits = await page.value(MEMORY_64) ? 64 : 32;
+  const chosen = await page.value(MEMORY_64) ? 64 : 32;
   assert.deepEqual(names.filter((it) => it.endsWith('.wasm')),
-    [`files/chinese-number.${bits}.wasm`]);
+    [`bindings/web/files/chinese-number.${chosen}.wasm`]);
   const bytes = files.reduce((sum, it) => sum + it.bytes, 0);
   console.log(`opens after ${times.join(', ')} ms with an empty cache; ${files.length} files, `
     + `${bytes} bytes`);
@@ -57,7 +54,7 @@ async function opens() {
 }
 
 async function isStrict() {
-  const html = await readFile(join(folder, 'index.html'), 'utf8');
+  const html = await readFile(new URL('../../site/index.html', import.meta.url), 'utf8');
   const policy = html.match(/Content-Security-Policy" content="([^"]*)"/)[1];
   assert.equal(policy.replace(/\s+/g, ' '), POLICY);
 }
@@ -68,15 +65,11 @@ async function judgesWhatCameEarly() {
   const gate = new Promise((done) => {
     goOn = done;
   });
-  const slow = await serve(folder, async (name, bytes) => {
+  const slow = await serve(bits, async (name, bytes) => {
     if (name.endsWith('.wasm')) await gate;
     return bytes;
   });
-  const page = await openPage(browser, slow.url, out), { value } = page;
-  const until = (expression) => value(`new Promise((done) => {
-    const look = () => (${expression} ? done() : setTimeout(look, 5));
-    look();
-  })`);
+  const page = await openPage(browser, slow.url, out), { until, value } = page;
   await page.send('Page.navigate', { url: slow.url });
   await until(`document.title === 'Chinese amounts and numerals'`);
   await page.type('numeral', '一百x');
@@ -96,7 +89,7 @@ async function judgesWhatCameEarly() {
 // A page whose policy has no 'wasm-unsafe-eval', or that does not have the module, says that the
 // library did not load.
 async function saysWhatIsMissing() {
-  const without = (name, bytes) => (name === 'index.html'
+  const without = (name, bytes) => (name.endsWith('.html')
     ? Buffer.from(String(bytes).replace(" 'wasm-unsafe-eval'", '')) : bytes);
   const missing = (name, bytes) => {
     if (name.endsWith('.wasm')) throw new Error('missing');
@@ -104,7 +97,7 @@ async function saysWhatIsMissing() {
   };
   for (const [changed, words] of [[without, /^The library did not load: .*unsafe-eval/],
     [missing, /^The library did not load: .*\.wasm: 404/]]) {
-    const other = await serve(folder, changed);
+    const other = await serve(bits, changed);
     const page = await openPage(browser, other.url, out);
     await page.open();
     assert.match(await page.value('loading.textContent'), words);
@@ -124,7 +117,9 @@ async function test() {
   const page = await opens();
   const permissions = ['clipboardReadWrite', 'clipboardSanitizedWrite'];
   await browser.send('Browser.grantPermissions', { permissions, browserContextId: page.context });
+  // Each part begins with the page as it opens in English.
   for (const it of [...WORDS, ...HANDS, ...TEXT, ...LOOKS]) {
+    await page.speak('en');
     await it(page);
     assert.deepEqual(page.problems, [], it.name);
   }
