@@ -35,7 +35,7 @@ checks/wrong_calls.py
 checks/laws.py --check
 checks/wrong_laws.py
 checks/edits.py crates
-checks/codes.py crates/cn_c bindings
+bindings/codes.py --check
 checks/quotes.py bindings
 checks/tables.py crates --check
 END
