@@ -1,12 +1,12 @@
 #!/usr/bin/env python3
 """Writes the choices, statuses, limits and texts of the library in the files of each language.
 
-Usage: codes.py [--check] [TOP]
+Usage: codes.py [--check]
 
-codes.txt names and explains them, codes.in says how each language has them, and the definitions and
-contracts of cn_c, in the repository TOP, give their codes and limits. --check writes nothing, and
-reports each file that differs. Both also compare what people write in several places: REPEATED, and
-the texts of refusals, which other definitions give.
+The definitions and contracts of cn_c give the codes and limits, codes.txt names and explains them,
+and codes.in says how each language has them. --check writes nothing, and reports each file that
+differs. Both also compare what people write in several places: REPEATED, and the texts of refusals
+with their definitions.
 """
 import re
 import sys
@@ -15,7 +15,8 @@ from pathlib import Path
 from textwrap import wrap
 from typing import NamedTuple
 
-CRATE = "crates/cn_c"
+TOP = Path(__file__).resolve().parent.parent
+CRATE = TOP / "crates/cn_c"
 # What gives a code to a name there: a constant, a function, or the place in a list.
 CONSTANT = re.compile(r"^(?:CN_|pub const )(\w+)(?:: u32)? = (\d+);?$", re.M)
 FAULT = re.compile(r"^(?:numeral|misread|quantity)_code (\w+) = (\d+)$", re.M)
@@ -36,35 +37,30 @@ OF_NUMBERS, OF_OTHERS = "crates/cn_core/specs/Refusal.antt", "crates/*/specs/Err
 TEXT = re.compile(r'codes "([a-z][^"(]+?)(?: \(.*)?"')
 NO_REFUSAL = "out of memory"
 LISTED = "docs/RULES.md", "crates/numeral/src/main.rt"  # the files that list those of numbers
-# What people write in several places: the files, and how it is found there. An address of the
-# project, once there is one, goes into package.json and Cargo.toml, and into METADATA of
-# bindings/python/build_wheel.py.
-PACKAGE = r"chinese.number[a-z-_]*-(\d[\d.]*\d)\b"
-LENGTH = r"\b(4,\d{3},\d{3},\d{3})\b"
-HEADER = r'"(.*)"\n#define \w+MAJOR (\d+)\n#define \w+MINOR (\d+)\n#define \w+PATCH (\d+)'
-REPEATED = (
-    ("authors", "LICENSE", r"^Copyright \(c\) \d+ (.*)"),
-    ("authors", "bindings/rust/Cargo.toml", r'^authors = \["(.*)"\]'),
-    ("authors", "bindings/web/package.json", r'^  "author": "(.*)"'),
-    ("version", "CHANGELOG.md", r"\A(?:.*\n)*?## ([\d.]+)"),
-    ("version", "bindings/README.md", PACKAGE),
-    ("version", "bindings/c/chinese_number.h", r'^#define CN_VERSION "(.*)"'),
-    ("version", "bindings/c/chinese_number.h", HEADER),
-    ("version", "bindings/python/chinese_number/__init__.py", r'^__version__ = "(.*)"'),
-    ("version", "bindings/rust/Cargo.toml", r'^version = "(.*)"'),
-    ("version", "bindings/web/README.md", PACKAGE),
-    ("version", "bindings/web/README.zh.md", PACKAGE),
-    ("version", "bindings/web/chinese-number.mjs", r"^export const VERSION = '(.*)'"),
-    ("version", "bindings/web/package.json", r'^  "version": "(.*)"'),
-    ("longest text", "bindings/codes.txt", LENGTH),
-    ("longest text", "bindings/go/README.md", LENGTH),
-    ("longest text", "bindings/go/doc.go", LENGTH),
-    ("longest text", "bindings/python/chinese_number/__init__.py", LENGTH),
-    ("longest text", "bindings/rust/src/abi.rs", LENGTH),
-    ("longest text", "bindings/rust/src/lib.rs", LENGTH),
-    ("longest text", "bindings/source/README.md", LENGTH),
-    ("longest text", "docs/DIFFERENCES.md", LENGTH),
-)
+# What people write in several places: how it is found, and in which files. Once the project has an
+# address, it goes into package.json, Cargo.toml and METADATA of bindings/python/build_wheel.py.
+AUTHORS = "authors", r"^Copyright \(c\) \d+ (.*)"
+PARTS = r"^#define CN_VERSION_MAJOR (\d+)\n#define \w+MINOR (\d+)\n#define \w+PATCH (\d+)"
+REPEATED = {
+    AUTHORS: "LICENSE",
+    ("authors", r'^authors = \["(.*)"\]'): "bindings/rust/Cargo.toml",
+    ("authors", r'^  "author": "(.*)"'): "bindings/web/package.json",
+    ("version", r"\A(?:.*\n)*?## ([\d.]+)"): "CHANGELOG.md",
+    ("version", r'^#define CN_VERSION "(.*)"'): "bindings/c/chinese_number.h",
+    ("parts of the version", PARTS): "bindings/c/chinese_number.h",
+    ("version", r'^__version__ = "(.*)"'): "bindings/python/chinese_number/__init__.py",
+    ("version", r'^version = "(.*)"'): "bindings/rust/Cargo.toml",
+    ("version", r"^export const VERSION = '(.*)'"): "bindings/web/chinese-number.mjs",
+    ("version", r'^  "version": "(.*)"'): "bindings/web/package.json",
+    ("version", r"chinese.number[a-z-_]*-(\d[\d.]*\d)\b"): (
+        "bindings/README.md bindings/web/README.md bindings/web/README.zh.md"
+    ),
+    ("longest text", r"\b(4,\d{3},\d{3},\d{3})\b"): (
+        "docs/DIFFERENCES.md bindings/codes.txt bindings/source/README.md bindings/go/README.md "
+        "bindings/go/doc.go bindings/python/chinese_number/__init__.py bindings/rust/src/abi.rs "
+        "bindings/rust/src/lib.rs"
+    ),
+}
 # A file of which only a part is made.
 PART = re.compile(r"(.* by bindings/codes\.py, from here[^\n]*\n).*?([^\n]* up to here\..*)", re.S)
 INDENTED = re.compile(r"(\s*)(.*)")
@@ -171,45 +167,45 @@ def in_c(group, name):
     return named(LANGUAGES["c"], group, name).upper()
 
 
-def codes_of(crate):
+def codes():
     """The code of each member, by its name in C."""
-    text = "".join(map(read, [*crate.glob("specs/*.antt"), crate / "src/status.rt"]))
+    text = "".join(map(read, [*CRATE.glob("specs/*.antt"), CRATE / "src/status.rt"]))
     found = CONSTANT.findall(text)
     found += [(in_c("fault", snake(name)), code) for name, code in FAULT.findall(text)]
     for group, names in LIST.findall(text):
         for code, name in enumerate(map(snake, re.findall(r"(\w+)\s*(?:∷|$)", names))):
-            found.append((in_c(group, RENAMED.get((group, name), name)), code))
-    codes = {name: int(code) for name, code in found}
-    if twice := {name for name, code in found if codes[name] != int(code)}:
-        sys.exit(f"codes: {crate} gives more than one code to {twice}")
-    return codes
+            found.append((in_c(group, RENAMED.get((group, name), name)), str(code)))
+    if len(set(found)) > len(dict(found)):
+        sys.exit(f"codes: {CRATE} gives a name more than one code: {sorted({*found})}")
+    return dict(found)
 
 
-def rows_of(group, members, codes, crate):
+def rows_of(group, members, known):
+    """The members of a group, given the codes that are known."""
     for member in members:
         head, _, text = words(member).partition(":")
         name, _, code = head.partition(" = ")
         if code.endswith(".rt"):
-            (code,) = set(LIMIT.findall(read(crate / "src" / code)))
+            (code,) = set(LIMIT.findall(read(CRATE / "src" / code)))
         elif not code:
-            code = 0 if "text" in group else codes.get(in_c(group, name))
+            code = 0 if "text" in group else known.get(in_c(group, name))
         if code is None:
-            sys.exit(f"codes: {crate} has no code for {name} of {group}")
+            sys.exit(f"codes: {CRATE} has no code for {name} of {group}")
         yield Row(name, int(code), text.strip())
 
 
-def groups_of(top):
-    """The groups of codes.txt, by name."""
-    codes, groups = codes_of(top / CRATE), {}
-    for name, part in parts_of(read(top / "bindings/codes.txt"), "=== ")[1]:
+def groups_by_name():
+    """The groups of codes.txt."""
+    known, groups = codes(), {}
+    for name, part in parts_of(read(TOP / "bindings/codes.txt"), "=== ")[1]:
         about, *members = re.split(r"^- ", part, flags=re.M)
         about, *more = map(words, re.split(r"^@", about, flags=re.M))
-        rows = list(rows_of(name, members, codes, top / CRATE))
+        rows = list(rows_of(name, members, known))
         found = [it.code - rows[0].code for it in rows]
         if name not in APART and found != list(range(len(rows))):
             sys.exit(f"codes: the codes of {name} are not in order: {rows}")
         groups[name] = Group(name, {"": about, **dict(it.split(" ", 1) for it in more)}, rows)
-    if left := set(codes) - {in_c(it.name, row.name) for it in groups.values() for row in it.rows}:
+    if left := set(known) - {in_c(it.name, row.name) for it in groups.values() for row in it.rows}:
         sys.exit(f"codes: codes.txt has no member for {left}")
     return groups
 
@@ -221,19 +217,19 @@ class Writer:
         self.name, self.language, self.groups = name, LANGUAGES[name], groups
         self.texts = {it.name: it.text for it in groups["text"].rows}
 
-    def of_group(self, group):
+    def names(self, group):
         own = self.language.types.get(group, pascal(group))
         return {"group": group, "GROUP": group.upper(), "Type": own}
 
-    def fields(self, group, row):
+    def of_row(self, group, row):
         """What can be in braces in a line for a member."""
         own = named(self.language, group, row.name)
         word = TAGS.get(row.name, "none" if row.name == none_of(group) else row.name)
         fields = {"name": own, "NAME": own.upper(), "Name": pascal(own), "C": in_c(group, row.name)}
         fields.update(word=word, camel=word[0] + pascal(word)[1:])
-        fields.update(code=str(row.code), next=str(row.code + 1), **self.of_group(group))
-        text = row.text or self.texts.get(row.name, "")
-        return {**fields, "text": self.told(group, text)}
+        fields.update(code=str(row.code), next=str(row.code + 1), **self.names(group))
+        text = self.told(group, row.text or self.texts.get(row.name, ""))
+        return {**fields, "text": text, "doc": [text and sentence(text)]}
 
     def told(self, group, text):
         """A text of a group, with the names of this language in place of those in braces."""
@@ -241,23 +237,24 @@ class Writer:
         def shown(found):
             name, _, c = found[1].partition("|")
             if c:
-                return fill(self.language.call, {**self.fields("", Row(name)), "c": c})
+                return fill(self.language.call, {**self.of_row("", Row(name)), "c": c})
             for it in (self.groups[group], *self.groups.values()):
                 if name in (row.name for row in it.rows):
-                    return fill(self.language.member, self.fields(it.name, Row(name)))
+                    return fill(self.language.member, self.of_row(it.name, Row(name)))
             return sys.exit(f"codes: {group} names {name}, which is no member")
 
         return re.sub(r"\{([^}]*)\}", shown, text)
 
-    def docs(self, group, rows):
-        """The comments on a group: the whole, its beginning, and the whole with the members."""
-        own, about = self.language, group.about[""] + " " + group.about.get(self.name, "")
-        about = self.told(group.name, about.strip())
-        if own.opening:
-            about = fill(own.opening, self.of_group(group.name)) + about[0].lower() + about[1:]
-        listed = [fill(own.listed, self.fields(group.name, row)) for row in rows if row.text]
-        docs = [about, "", *listed] if any(listed) else [about]
-        return {"{doc}": [about], "{brief}": [re.sub(r"[.:] .*", ".", about)], "{docs}": docs}
+    def of_group(self, group, rows):
+        """What can be in braces in a line for a group. Its comment is the whole, the beginning, or
+        the whole with the members."""
+        fields = {**self.names(group.name), "count": str(len(rows))}
+        about = self.told(group.name, f"{group.about['']} {group.about.get(self.name, '')}".strip())
+        if self.language.opening:
+            about = fill(self.language.opening, fields) + about[0].lower() + about[1:]
+        listed = [fill(self.language.listed, self.of_row(group.name, it)) for it in rows if it.text]
+        fields.update(doc=[about], brief=[re.sub(r"[.:] .*", ".", about)])
+        return {**fields, "docs": [about, "", *listed] if any(listed) else [about]}
 
     def comment(self, texts, indent):
         """A comment of paragraphs, in lines of at most 100 characters."""
@@ -267,30 +264,24 @@ class Writer:
         text = first + "\n".join(sum(lines, []))[len(rest) :] + last
         return re.sub("^(?=.)", indent, text, flags=re.M)
 
-    def line(self, line, fields, docs):
-        """A line of codes.in, filled in; none if it stands for a comment that is empty."""
+    def line(self, line, fields):
+        """A line, filled in. None if it is a comment without a text."""
         indent, word = INDENTED.match(line).groups()
-        if word not in docs:
-            return [fill(line, fields)]
-        return [self.comment(docs[word], indent)] if any(docs[word]) else []
+        texts = fields.get(word.strip("{}"))
+        if not isinstance(texts, list):
+            return fill(line, fields)
+        return self.comment(texts, indent) if any(texts) else None
 
     def lines(self, group, rows, template):
         """The lines of a group, as these lines of codes.in have it."""
-        own, docs = {**self.of_group(group.name), "count": str(len(rows))}, self.docs(group, rows)
-        each = [self.fields(group.name, row) for row in rows]
+        each = [self.of_row(group.name, row) for row in rows]
         for mark, some in groupby(template, lambda it: it[:2] if it[:2] in ("- ", "+ ") else ""):
-            some = [it[len(mark) :] for it in some]
+            some = [line[len(mark) :] for line in some]
             if mark == "+ ":
-                indent, word = INDENTED.match(some[0]).groups()
-                text = " ".join(fill(word, it).replace(" ", "\0") for it in each)
-                made = wrap(text, 100, initial_indent=indent, subsequent_indent=indent)
-                yield from (line.replace("\0", " ") for line in made)
-            elif mark == "- ":
-                for it in each:
-                    doc = {"{doc}": [it["text"] and sentence(it["text"])]}
-                    yield from (made for line in some for made in self.line(line, it, doc))
+                yield from together(some[0], each)
             else:
-                yield from (made for line in some for made in self.line(line, own, docs))
+                of = each if mark else [self.of_group(group, rows)]
+                yield from (self.line(line, fields) for fields in of for line in some)
 
     def blocks(self, blocks):
         """What a file has of all groups."""
@@ -299,49 +290,60 @@ class Writer:
                 group = self.groups[name.rstrip("*")]
                 none = None if name.endswith("*") else none_of(group.name)
                 rows = [it for it in group.rows if it.name != none]
-                yield "\n".join(self.lines(group, rows, template.rstrip("\n").split("\n"))) + "\n"
+                lines = self.lines(group, rows, template.rstrip("\n").split("\n"))
+                yield "\n".join(it for it in lines if it is not None) + "\n"
 
 
-def files_of(top, groups):
-    """What each file has now, and what it must have, by path."""
-    for names, part in parts_of(read(top / "bindings/codes.in"), "=== ")[1]:
+def together(template, each):
+    """What a line becomes for all members, in lines of at most 100 characters."""
+    indent, word = INDENTED.match(template).groups()
+    text = " ".join(fill(word, fields).replace(" ", "\0") for fields in each)
+    lines = wrap(text, 100, initial_indent=indent, subsequent_indent=indent)
+    return [line.replace("\0", " ") for line in lines]
+
+
+def files(groups):
+    """The path of each file, what it has now, and what it must have."""
+    for names, part in parts_of(read(TOP / "bindings/codes.in"), "=== ")[1]:
         name, path = names.split()
         head, blocks = parts_of(part, "--- ")
         made = "\n".join(Writer(name, groups).blocks(blocks))
-        found = read(top / path) if (top / path).is_file() else ""
-        around = PART.fullmatch(found)
-        if not head.strip() and not around:
+        found = read(TOP / path) if (TOP / path).is_file() else ""
+        if head.strip():
+            yield path, found, f"{head}\n{made}"
+        elif around := PART.fullmatch(found):
+            yield path, found, f"{around[1]}\n{made}\n{around[2]}"
+        else:
             sys.exit(f"codes: {path} has no two comments around what is made")
-        yield path, found, f"{head}\n{made}" if head.strip() else f"{around[1]}\n{made}\n{around[2]}"
 
 
-def repeated(top):
+def repeated():
     """What differs of REPEATED from where it comes from."""
-    (number,) = re.findall(r"^    ([\d_]+)$", read(top / CRATE / "src/version.rt"), re.M)
-    source = read(top / "bindings/source/chinese_number.c.in")
+    (authors,) = re.findall(AUTHORS[1], read(TOP / REPEATED[AUTHORS]), re.M)
+    (number,) = re.findall(r"^    ([\d_]+)$", read(CRATE / "src/version.rt"), re.M)
+    parts = tuple(str(int(number) // 1000**place % 1000) for place in (2, 1, 0))
+    source = read(TOP / "bindings/source/chinese_number.c.in")
     first, length = map(int, re.findall(r"^#define \w+_OF_TEXT UINT\d+_C\((\d+)\)", source, re.M))
     if first + length != 2**32:
-        yield f"bindings/source/chinese_number.c.in: texts of {length} bytes from {first} on"
-    (authors,) = re.findall(REPEATED[0][2], read(top / REPEATED[0][1]), re.M)
-    millions, rest = divmod(int(number), 1_000_000)
-    version = str(millions), *map(str, divmod(rest, 1000))
-    wanted = {"authors": authors, "version": ".".join(version), "longest text": f"{length:,}"}
-    for what, file, pattern in REPEATED:
-        must = (wanted[what], *version) if pattern == HEADER else wanted[what]
-        found = set(re.findall(pattern, read(top / file), re.M))
-        if found != {must}:
-            yield f"{file}: {what} {sorted(found)}, which must be {must}"
+        yield f"chinese_number.c.in has texts of {length} bytes from {first} on"
+    wanted = {"authors": authors, "version": ".".join(parts), "parts of the version": parts}
+    wanted["longest text"] = f"{length:,}"
+    for (what, pattern), files_with in REPEATED.items():
+        for file in files_with.split():
+            found = set(re.findall(pattern, read(TOP / file), re.M))
+            if found != {wanted[what]}:
+                yield f"{file}: the {what} must be {wanted[what]}, not {found}"
 
 
-def texts(top, group):
+def texts(group):
     """What differs of the texts of refusals from their definitions."""
-    paths = [top / OF_NUMBERS, *top.glob(OF_OTHERS)]
+    paths = [TOP / OF_NUMBERS, *TOP.glob(OF_OTHERS)]
     of_numbers, *others = (TEXT.findall(read(path)) for path in paths)
     found, must = {*of_numbers, *sum(others, [])}, {NO_REFUSAL, *(it.text for it in group.rows)}
     if found != must:
-        yield f"bindings/codes.txt: texts {sorted(must - found)}, and defined are {sorted(found - must)}"
+        yield f"codes.txt has the texts {sorted(must - found)}, not {sorted(found - must)}"
     for file in LISTED:
-        yield from (f"{file} lacks: {it}" for it in of_numbers if it not in read(top / file))
+        yield from (f"{file} lacks: {it}" for it in of_numbers if it not in read(TOP / file))
 
 
 def difference(path, found, must):
@@ -351,24 +353,19 @@ def difference(path, found, must):
 
 
 def main():
-    arguments = sys.argv[1:]
-    is_check = arguments[:1] == ["--check"]
-    tops = arguments[is_check:] or [Path(__file__).resolve().parent.parent]
-    if len(tops) > 1 or str(tops[0]).startswith("-"):
+    if sys.argv[1:] not in ([], ["--check"]):
         sys.exit(__doc__)
-    top = Path(tops[0])
-    groups = groups_of(top)
-    wrong = [*repeated(top), *texts(top, groups["text"])]
-    files = list(files_of(top, groups))
-    for path, found, must in files:
-        if is_check and found != must:
+    groups = groups_by_name()
+    wrong = [*repeated(), *texts(groups["text"])]
+    for path, found, must in files(groups):
+        if found != must and sys.argv[1:]:
             wrong.append(difference(path, found, must))
         elif found != must:
-            (top / path).write_text(must, encoding="utf-8")
+            (TOP / path).write_text(must, encoding="utf-8")
     if wrong:
         sys.exit("codes: " + "\ncodes: ".join(wrong))
     count = sum(len(it.rows) for it in groups.values())
-    print(f"codes: {count} codes, limits and texts, as they must be in {len(files)} files")
+    print(f"codes: {count} codes, limits and texts, as they must be in each language")
 
 
 if __name__ == "__main__":

@@ -343,7 +343,7 @@ typedef enum cn_form CN_OF_CODE {
 typedef enum cn_flag CN_OF_CODE {
     /* Each character is a digit, so CN_DIGITS reads it; a method reads the others. */
     CN_PLAIN_DIGITS = 1,
-    /* No letter or digit touches it or is linked to it, as in 3.5萬 or 1,280. */
+    /* No letter or digit touches it or is linked to it: no part of 3.5萬 or 1,280 does so. */
     CN_STANDS_ALONE = 2,
     /* It is approximate, such as 十 in 十几 and 几十, and 五六. */
     CN_ABOUT = 4,
