@@ -324,7 +324,7 @@ const HAS = {
  * @typedef {Exclude<NumeralCode | AmountCode | DateCode, 'unsafe' | 'outOfMemory'>} Status
  */
 
-const MESSAGES = {
+const MESSAGES = Object.freeze({
   empty: TEXTS.empty,
   incorrect: TEXTS.incorrect,
   tooLarge: TEXTS.tooLarge,
@@ -333,21 +333,21 @@ const MESSAGES = {
   unsafe: 'a Number does not hold the number exactly',
   notAQuantity: TEXTS.notAQuantity,
   outOfMemory: 'out of memory',
-};
+});
 
-const AMOUNT_MESSAGES = {
+const AMOUNT_MESSAGES = Object.freeze({
   unfinished: TEXTS.amountUnfinished,
   incorrect: TEXTS.amountIncorrect,
   tooLarge: TEXTS.tooLarge,
   tooSmall: TEXTS.tooSmall,
   unsafe: 'a Number does not hold the amount exactly',
-};
+});
 
-const DATE_MESSAGES = {
+const DATE_MESSAGES = Object.freeze({
   unfinished: TEXTS.dateUnfinished,
   incorrect: TEXTS.dateIncorrect,
   notADate: TEXTS.notADate,
-};
+});
 
 /**
  * What the message of a refusal is computed from: the call of the module, the string that was read,
