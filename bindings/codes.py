@@ -175,8 +175,8 @@ def codes():
     for group, names in LIST.findall(text):
         for code, name in enumerate(map(snake, re.findall(r"(\w+)\s*(?:∷|$)", names))):
             found.append((in_c(group, RENAMED.get((group, name), name)), str(code)))
-    if len(set(found)) > len(dict(found)):
-        sys.exit(f"codes: {CRATE} gives a name more than one code: {sorted({*found})}")
+    if others := {*found} - {*dict(found).items()}:
+        sys.exit(f"codes: {CRATE} has other codes too for {sorted(others)}")
     return dict(found)
 
 
