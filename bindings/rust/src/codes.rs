@@ -1,6 +1,7 @@
 //! The choices, statuses, limits and texts of the library. Made by bindings/codes.py.
 
 #![allow(dead_code, reason = "each feature has its own, and some statuses never occur")]
+#![allow(clippy::unreadable_literal, reason = "a code is as in the other languages")]
 
 /// The integer type that a number must fit.
 #[derive(Debug, Copy, Clone, Eq, PartialEq, Hash)]
