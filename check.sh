@@ -32,7 +32,7 @@ bindings/dist.py check
 checks/calls.py .
 checks/laws.py --check
 checks/edits.py crates
-checks/codes.py crates/cn_c bindings
+bindings/codes.py --check
 checks/quotes.py bindings
 checks/tables.py crates --check
 END

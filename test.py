@@ -182,9 +182,9 @@ class Clone:
 
 
 # To add a language, also change bindings/README.md, COPIES of bindings/dist.py, .gitattributes,
-# tests/test_clone.py with a program in tests/users, checks/codes.py, checks/quotes.py,
-# checks/debian-packages, README.md and docs/, and add tests/test_NAME.py. If it has a package, also
-# change bindings/packages.sh, bindings/packages.py and tests/test_packages.py.
+# tests/test_clone.py with a program in tests/users, bindings/codes.py, bindings/codes.in,
+# checks/quotes.py, checks/debian-packages, README.md and docs/, and add tests/test_NAME.py. If it
+# has a package, also change bindings/packages.sh, bindings/packages.py and tests/test_packages.py.
 LANGUAGES = {
     "C": Clone.c,
     "C++": Clone.cpp,

@@ -1,3 +1,4 @@
+// Made by checks/calls.py.
 // The printer functions with `High`, one for each integer type of 32 bits or more.
 ghost use Rattle.std.specs.Prelude.{IfOk, pos};
 ghost use Rattle.cn_core.specs.declared.method.ChineseCountMethod.TheVariants.{High};

@@ -1,3 +1,4 @@
+// Made by checks/calls.py.
 // The printer functions with `Low`, one for each integer type.
 //
 // The methods write the same text for numbers below 10^5, and the types of 8 and 16 bits hold only

@@ -1,3 +1,4 @@
+// Made by checks/calls.py.
 // The printer functions of plain digits, one for each integer type.
 ghost use Rattle.std.specs.Prelude.{IfOk, pos};
 ghost use Rattle.cn_core.specs.Printing.{naive_text};

@@ -1,3 +1,4 @@
+// Made by checks/calls.py.
 // The naive readers of the twelve types. Each calls the generic reader.
 ghost use Rattle.std.specs.Prelude.{◌≡◌, pos};
 ghost use Rattle.cn_core.specs.Reading.{naive_reading};

@@ -1,3 +1,4 @@
+// Made by checks/calls.py.
 // The unit readers of the twelve types. Each calls the generic reader. Those of 8 and 16 bits read
 // with `Low`.
 ghost use Rattle.std.specs.Prelude.{pos};
