@@ -16,7 +16,7 @@ use Rattle.cn_date.specs.Form.{date_form}
 use Rattle.cn_date.specs.Reading.{unfinished, incorrect_at, capital_of, capitals_of, IsDateText, Answers}
 use Rattle.cn_date.specs.Working.Steps.{step, end, date_machine}
 use Rattle.cn_date.specs.Writes.{date_text}
-use Rattle.cn_date.proofs.ReadText.{date-reads}
+use Rattle.cn_date.proofs.ReadText.{date_reads}
 
 abbrev on : ℕ → ℕ → ℕ → BillDate
 on year month day = record { year = year; month = month; day = day }
@@ -206,7 +206,7 @@ leads text state e = run-map (machine.step_as step) capital_of (Year 0) text ∙
 not-ended : (text : List ℕ) (state : State) → machine.run (machine.step_as step) (Year 0) (capitals_of text) ≡ Some state
     → end state ≡ None → Answers text (Err unfinished)
 not-ended text state e none =
-    unfinished-read IsDateText date_machine date-reads text state (leads text state e) none
+    unfinished-read IsDateText date_machine date_reads text state (leads text state e) none
 
 nothing : Answers (codes "") (Err unfinished)
 unfolding capital_of
@@ -229,7 +229,7 @@ refused : (front : List ℕ) (c : ℕ) (behind : List ℕ) (state : State)
     → machine.run (machine.step_as step) (Year 0) (capitals_of front) ≡ Some state → machine.step_as step state (capital_of c) ≡ None
     → Answers (front ++ c ∷ behind) (Err (incorrect_at (length front)))
 refused front c behind state e none =
-    place-refused IsDateText date_machine date-reads (front ++ c ∷ behind) front behind
+    place-refused IsDateText date_machine date_reads (front ++ c ∷ behind) front behind
     (length front) state c refl refl (leads front state e) none
 
 zero_year : Answers (codes "零伍年叁月零壹日") (Err (incorrect_at 0))

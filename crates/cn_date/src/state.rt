@@ -134,4 +134,7 @@ impl Grammar for State {
             _ => None,
         }
     }
+
+    #[tactic(auto, using(crate::proofs::ReadText::date_reads))]
+    fn states_read_the_forms() {}
 }
