@@ -187,8 +187,8 @@ only-read text progress fen leads e =
           (sym (ap (λ (sum : Sum). sum.closed) r.sums) ∙ some-is progress.sum.closed fen e)
           (whole-read text r.capitals r.is r.proper ends)
 
-pub amount-reads : Reads IsAmount amount_machine
-amount-reads = record {
+pub amount_reads : Reads IsAmount amount_machine
+amount_reads = record {
   each = each-read;
   only = only-read;
   begins = λ text progress leads. begins-read text progress (is-read text progress leads);

@@ -60,4 +60,7 @@ impl Grammar for Progress {
             None
         }
     }
+
+    #[tactic(auto, using(crate::proofs::ReadText::amount_reads))]
+    fn states_read_the_forms() {}
 }

@@ -60,4 +60,7 @@ impl Grammar for SignedProgress {
         let magnitude = self.progress.end()?;
         Some(signed_fen(self.front.is_below(), magnitude))
     }
+
+    #[tactic(auto, using(crate::proofs::SignedReads::signed_reads))]
+    fn states_read_the_forms() {}
 }

@@ -83,6 +83,9 @@ impl Grammar for TypedProgress {
     fn end(self) -> Option<u64> {
         self.typing.progress.end()
     }
+
+    #[tactic(auto, using(crate::proofs::TypedReads::typed_reads))]
+    fn states_read_the_forms() {}
 }
 
 /// The state of reading an amount that may have a sign.
@@ -116,4 +119,7 @@ impl Grammar for TypedSignedProgress {
         let magnitude = self.typing.progress.end()?;
         Some(signed_fen(self.typing.prefix.sign.is_below(), magnitude))
     }
+
+    #[tactic(auto, using(crate::proofs::TypedReads::typed_signed_reads))]
+    fn states_read_the_forms() {}
 }
