@@ -15,6 +15,7 @@ CHECKS = Path(__file__).resolve().parent
 TOP = CHECKS.parent
 PAGE, BESIDE = "docs/PROMISES.md", "docs/PROMISES-BINDINGS.md"
 OF_C, OF_LIBRARY = "crates/cn_c/src/laws.rt", "crates/chinese_number/src/laws.rt"
+OF_GRAMMARS = "crates/cn_capitals/src/laws.rt"
 NEW = "\n/// Nothing.\npub fn nothing_holds()\n    ensures { ℕ }\n{}\n"
 
 # What is changed in which file, into what, and what the report has then. The last writes a page.
@@ -25,8 +26,10 @@ CASES = [
     (PAGE, "<!--laws:places-->", "<!--laws:scales-->", "places has 0 places"),
     (PAGE, "`put_quantity`", "`put_the_quantity`", "put_the_quantity"),
     (PAGE, "`quantities::refusals_point", "`refusals_point", "a law of several groups"),
+    (PAGE, "`DateGrammar`", "", "no page names cn_date::State"),
     (BESIDE, "`shown_dates_are_read`", "", f"{BESIDE}: its places are filled otherwise"),
     (OF_LIBRARY, "    figures_constants_are, figures_stay,", "", "figures_stay is not a law that"),
+    (OF_GRAMMARS, "fn each_text_has_one_answer<", "fn each_text_has_answers<", "is not a law that"),
     (OF_C, "pub fn printed_dates_read_back()", "pub fn dates_read_back()", "filled otherwise"),
     (OF_C, "\n/// What `chinese_date_print`", f"{NEW}\n/// What", f"{BESIDE}: its places"),
 ]

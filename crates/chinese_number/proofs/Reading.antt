@@ -163,22 +163,6 @@ Reads-the_answer kind method bytes =
     let marks = marks_of (drop (sign_len sign) (text_of bytes)) in
     (judge method marks, Judges-judge method marks, refl)
 
--- what is answered is a number of the type
-pub held-answered : (kind : Kind) (method : ChineseCountMethod) (bytes : List ℕ) (number : ℤ)
-    → Reads kind method bytes (Ok number) → holds kind number ≡ true
-held-answered kind method bytes number (judged, is, answer) = by judged answer where
-  sign : Option Sign
-  sign = leading_sign kind.signed (text_of bytes)
-
-  by : (judged : Result ℕ Refusal) → Ok number ≡ typed_answer kind bytes sign judged
-      → holds kind number ≡ true
-  by (Ok magnitude) h = held-typed_number kind (signed_number (is_minus sign) magnitude) number
-      (sym h)
-  by (Err empty) h = cc
-  by (Err (incorrect_at place)) h = cc
-  by (Err too_large) h = cc
-  by (Err too_small) h = cc
-
 -- two numbers with one text are one
 pub same_from_text : (kind : Kind) (method : ChineseCountMethod) (variant : ChineseVariant) (case : ChineseCase) (one second : ℤ) → IsWhole kind → holds kind one ≡ true → holds kind second ≡ true
     → is_printable method one ≡ true → is_printable method second ≡ true
@@ -188,11 +172,3 @@ same_from_text kind method variant case one second whole held_one held_second p 
     let first : Reads kind method (bytes second) (Ok one) = subst (λ b. Reads kind method b (Ok one)) same (Reads-spelled kind method variant case one whole held_one p) in
     let answers : Ok one ≡ Ok second = Reads-same kind method (bytes second) (Ok one) (Ok second) first (Reads-spelled kind method variant case second whole held_second q) in
     cc
-
--- texts of one number are answered alike
-pub Reads-alike : (kind : Kind) (method : ChineseCountMethod) (one second : List ℕ)
-    (answer number : Result ℤ Refusal) → Reads kind method one number
-    → Reads kind method second number
-    → Reads kind method one answer → Reads kind method second answer
-Reads-alike kind method one second answer number is_one is_second h =
-    subst (Reads kind method second) (Reads-same kind method one number answer is_one h) is_second

@@ -43,4 +43,7 @@ impl Grammar for Progress {
             None
         }
     }
+
+    #[tactic(auto, using(crate::proofs::FiguresRead::figures_read))]
+    fn states_read_the_forms() {}
 }

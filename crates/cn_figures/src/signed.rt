@@ -55,4 +55,7 @@ impl Grammar for SignedProgress {
             None => Some(None),
         }
     }
+
+    #[tactic(auto, using(crate::proofs::SignedReads::signed_read))]
+    fn states_read_the_forms() {}
 }
