@@ -25,7 +25,7 @@ LIBRARY = "chinese_number::laws"
 PAGES = ("docs/PROMISES.md", "docs/PROMISES-BINDINGS.md")
 BESIDE = ("numeral", "cn_figures", "cheque", "cn_c")
 USE = re.compile(r"^pub use ([\w:]+)::(?:\{([^}]*)\}|(\w+));", re.MULTILINE)
-GRAMMAR = re.compile(r"^impl Grammar for (\w+)", re.MULTILINE)
+GRAMMAR = re.compile(r"^(?:pub type (\w+) = \w+;\n\n)?impl Grammar for", re.MULTILINE)
 PLACE = re.compile(r"(<!--laws:([\w,]+)-->).*?(<!--end-->)")
 
 
@@ -90,13 +90,11 @@ def unknown_names(text, crates):
 
 
 def unnamed_grammars(texts, crates):
-    """The grammars of libraries whose public names no page has."""
+    """The files of libraries with a grammar whose public name no page has."""
     for root in sorted(crates.glob("*/src/lib.rt")):
-        names = dict(re.findall(r"(\w+) as (\w+Grammar)\b", text_of(root)))
-        found = [it for path in root.parent.rglob("*.rt") for it in GRAMMAR.findall(text_of(path))]
-        yield from (
-            f"{root.parent.parent.name}::{it}" for it in found if f"`{names.get(it)}`" not in texts
-        )
+        for path in sorted(root.parent.rglob("*.rt")):
+            if any(f"`{name}`" not in texts for name in GRAMMAR.findall(text_of(path))):
+                yield path.relative_to(crates)
 
 
 def main():
@@ -118,7 +116,7 @@ def main():
         faults += [f"{page}: {fault}" for fault in of_page]
     faults += [f"{law} is not a law that users find" for law in sorted(written ^ there)]
     texts = "".join(text_of(top / page) for page in PAGES)
-    faults += [f"no page names {it}" for it in unnamed_grammars(texts, top / "crates")]
+    faults += [f"no page names a grammar of {it}" for it in unnamed_grammars(texts, top / "crates")]
     if faults:
         sys.exit("laws:\n" + "\n".join(faults))
     print(f"laws: {len(there)}, each named on its page")

@@ -26,7 +26,7 @@ CASES = [
     (PAGE, "<!--laws:places-->", "<!--laws:scales-->", "places has 0 places"),
     (PAGE, "`put_quantity`", "`put_the_quantity`", "put_the_quantity"),
     (PAGE, "`quantities::refusals_point", "`refusals_point", "a law of several groups"),
-    (PAGE, "`DateGrammar`", "", "no page names cn_date::State"),
+    (PAGE, "`DateGrammar`", "", "no page names a grammar of cn_date"),
     (BESIDE, "`shown_dates_are_read`", "", f"{BESIDE}: its places are filled otherwise"),
     (OF_LIBRARY, "    figures_constants_are, figures_stay,", "", "figures_stay is not a law that"),
     (OF_GRAMMARS, "fn each_text_has_one_answer<", "fn each_text_has_answers<", "is not a law that"),

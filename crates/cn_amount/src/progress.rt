@@ -27,6 +27,9 @@ impl Progress {
     }
 }
 
+/// The grammar of amounts in capitals.
+pub type AmountGrammar = Progress;
+
 impl Grammar for Progress {
     type Value = u64;
 

@@ -32,6 +32,9 @@ pub struct SignedProgress {
     progress: Progress,
 }
 
+/// The grammar of amounts in capitals that may be below zero.
+pub type SignedAmountGrammar = SignedProgress;
+
 impl Grammar for SignedProgress {
     type Value = i64;
 

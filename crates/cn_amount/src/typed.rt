@@ -59,6 +59,9 @@ pub struct TypedProgress {
     typing: Typing,
 }
 
+/// The grammar of amounts in capitals as people type them, without a sign.
+pub type TypedAmountGrammar = TypedProgress;
+
 impl Grammar for TypedProgress {
     type Value = u64;
 
@@ -93,6 +96,9 @@ impl Grammar for TypedProgress {
 pub struct TypedSignedProgress {
     typing: Typing,
 }
+
+/// The grammar of amounts in capitals as people type or copy them, with or without a sign.
+pub type TypedSignedAmountGrammar = TypedSignedProgress;
 
 impl Grammar for TypedSignedProgress {
     type Value = i64;

@@ -113,6 +113,9 @@ impl State {
     }
 }
 
+/// The grammar of dates in capitals.
+pub type DateGrammar = State;
+
 impl Grammar for State {
     type Value = BillDate;
 

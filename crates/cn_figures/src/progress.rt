@@ -13,6 +13,9 @@ pub struct Progress {
     fen: Option<u64>,
 }
 
+/// The grammar of amounts in figures.
+pub type FiguresGrammar = Progress;
+
 impl Grammar for Progress {
     type Value = Option<u64>;
 

@@ -25,6 +25,9 @@ pub struct SignedProgress {
     progress: Progress,
 }
 
+/// The grammar of amounts in figures with or without a minus before them.
+pub type SignedFiguresGrammar = SignedProgress;
+
 impl Grammar for SignedProgress {
     type Value = Option<i64>;
 
