@@ -4,9 +4,9 @@
 Usage: laws.py --check | --write [TOP]
 
 A law is a public function that does nothing in `src/laws.rt` or `src/laws/` of a crate. Users of
-the library find its laws in `chinese_number::laws`: each public module there is a group of laws, and
-so is each private module and each crate from which `laws.rt` re-exports some. The laws of each crate
-in BESIDE are a group on the other page.
+the library find its laws in `chinese_number::laws`: each public module there is a group of laws,
+and so is each private module and each crate from which `laws.rt` re-exports some. The laws of each
+crate in BESIDE are a group on the other page.
 
 Each group has one place on its page, `<!--laws:GROUP--> .. <!--end-->`, or shares one with others.
 It holds the names of those laws that the page names nowhere else. --write fills the places. --check
