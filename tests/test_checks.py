@@ -110,6 +110,7 @@ WRONG_NAMES = [
 ]
 PAGE, BESIDE = "docs/PROMISES.md", "docs/PROMISES-BINDINGS.md"
 OF_C, OF_LIBRARY = "crates/cn_c/src/laws.rt", "crates/chinese_number/src/laws.rt"
+OF_GRAMMARS = "crates/cn_capitals/src/laws.rt"
 NEW_LAW = "\n/// Nothing.\npub fn nothing_holds()\n    ensures { ℕ }\n{}\n"
 # A file, a text in it and its replacement, and what is reported.
 WRONG_LAWS = [
@@ -119,8 +120,10 @@ WRONG_LAWS = [
     (PAGE, "<!--laws:places-->", "<!--laws:scales-->", "places has 0 places"),
     (PAGE, "`put_quantity`", "`put_the_quantity`", "put_the_quantity"),
     (PAGE, "`quantities::refusals_point", "`refusals_point", "a law of several groups"),
+    (PAGE, "`DateGrammar`", "", "no page names a grammar of cn_date"),
     (BESIDE, "`shown_dates_are_read`", "", f"{BESIDE}: its places are filled otherwise"),
     (OF_LIBRARY, "    figures_constants_are, figures_stay,", "", "figures_stay is not a law that"),
+    (OF_GRAMMARS, "fn each_text_has_one_answer<", "fn each_text_has_answers<", "is not a law that"),
     (OF_C, "pub fn printed_dates_read_back()", "pub fn dates_read_back()", "filled otherwise"),
 ]
 C_SOURCE, PROVENANCE = "dist/chinese_number.c", "dist/PROVENANCE.json"

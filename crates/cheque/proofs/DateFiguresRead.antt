@@ -322,5 +322,5 @@ begins-read text state r = by state (front-read text state r) where
         },
       )
 
-pub date-reads : Reads IsDateFigures date_machine
-date-reads = record { each = each-read; only = only-read; begins = begins-read }
+pub date_reads : Reads IsDateFigures date_machine
+date_reads = record { each = each-read; only = only-read; begins = begins-read }

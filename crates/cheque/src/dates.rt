@@ -148,6 +148,9 @@ impl Grammar for State {
             _ => None,
         }
     }
+
+    #[tactic(auto, using(crate::proofs::DateFiguresRead::date_reads))]
+    fn states_read_the_forms() {}
 }
 
 /// The date that figures write: four digits, a hyphen, two digits, a hyphen and two digits. The

@@ -20,7 +20,7 @@ use Rattle.cn_amount.specs.Typed.{below_signs, currencies, orders, visible, IsTy
 use Rattle.cn_amount.specs.Working.Typing.{typed_signed_machine}
 use Rattle.cn_amount.specs.Writes.{amount_text, plain}
 use Rattle.cn_amount.proofs.Prefixes.{has, has-contains}
-use Rattle.cn_amount.proofs.TypedReads.{typed-signed-reads}
+use Rattle.cn_amount.proofs.TypedReads.{typed_signed_reads}
 
 -- from the rules, without 整
 jiao_alone : amount_text Simple plain 140950 ≡ codes "壹仟肆佰零玖元伍角整"
@@ -278,7 +278,7 @@ Refuses text =
 
 refused : (text : List ℕ) → Refuses text → (fen : ℤ) → ¬ IsTypedSignedAmount text fen
 refused text none fen h =
-    let read = typed-signed-reads.each text fen h in
+    let read = typed_signed_reads.each text fen h in
     let wrong : None ≡ Some read.0 = sym none ∙ read.1 in absurd (cc)
 
 second_circle : (fen : ℤ) → ¬ IsTypedSignedAmount (codes "⊗ ⓧ壹元整") fen

@@ -23,7 +23,7 @@ use Rattle.cn_amount.specs.Working.Steps.{bare_progress, amount_machine}
 use Rattle.cn_amount.specs.Working.Typing.{at, ways_if, sign_ways, is_open, first, ways_at, next, is_over, both, begin, amount_step, step, end, signed}
 use Rattle.cn_amount.proofs.Prefixes.{OnWays, on-row, rows-pass, on-if, on-both}
 use Rattle.cn_amount.proofs.PrefixRuns.{front_of, IsAllowed, prefix-runs}
-use Rattle.cn_amount.proofs.ReadText.{amount-reads}
+use Rattle.cn_amount.proofs.ReadText.{amount_reads}
 
 -- the machine that reads a text without white space
 abbrev pub core : Bool → machine.Machine Typing (Bool × ℕ)
@@ -199,7 +199,7 @@ core-each signed text value h =
     let form = h.0 in
     let prefix = prefix-runs signed value.0 h.1 form.circle form.sign form.currency form.prefix
     form.is_circle form.is_sign form.is_currency form.order in
-    let whole = amount-reads.each (codes "人民币" ++ form.amount) value.1 form.form in
+    let whole = amount_reads.each (codes "人民币" ++ form.amount) value.1 form.form in
     let last = amount-read form.amount prefix.after whole.0 value.1 prefix.over
     (sym (bare-leads form.amount) ∙ whole.1) whole.2 in (
       both (at Amount prefix.after) whole.0,

@@ -27,6 +27,9 @@ impl Listed for Progress {
     fn takes_white_space() -> bool {
         false
     }
+
+    #[tactic(auto, using(crate::proofs::CharactersListed::amounts_listed))]
+    fn characters_are_listed() {}
 }
 
 impl Listed for SignedProgress {
@@ -41,6 +44,9 @@ impl Listed for SignedProgress {
     fn takes_white_space() -> bool {
         false
     }
+
+    #[tactic(auto, using(crate::proofs::CharactersListed::signed_listed))]
+    fn characters_are_listed() {}
 }
 
 impl Listed for TypedProgress {
@@ -55,6 +61,9 @@ impl Listed for TypedProgress {
     fn takes_white_space() -> bool {
         true
     }
+
+    #[tactic(auto, using(crate::proofs::CharactersListed::typed_listed))]
+    fn characters_are_listed() {}
 }
 
 impl Listed for TypedSignedProgress {
@@ -69,4 +78,7 @@ impl Listed for TypedSignedProgress {
     fn takes_white_space() -> bool {
         true
     }
+
+    #[tactic(auto, using(crate::proofs::CharactersListed::typed_signed_listed))]
+    fn characters_are_listed() {}
 }

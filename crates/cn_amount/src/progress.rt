@@ -27,6 +27,9 @@ impl Progress {
     }
 }
 
+/// The grammar of amounts in capitals.
+pub type AmountGrammar = Progress;
+
 impl Grammar for Progress {
     type Value = u64;
 
@@ -60,4 +63,7 @@ impl Grammar for Progress {
             None
         }
     }
+
+    #[tactic(auto, using(crate::proofs::ReadText::amount_reads))]
+    fn states_read_the_forms() {}
 }

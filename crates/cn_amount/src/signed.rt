@@ -32,6 +32,9 @@ pub struct SignedProgress {
     progress: Progress,
 }
 
+/// The grammar of amounts in capitals that may be below zero.
+pub type SignedAmountGrammar = SignedProgress;
+
 impl Grammar for SignedProgress {
     type Value = i64;
 
@@ -60,4 +63,7 @@ impl Grammar for SignedProgress {
         let magnitude = self.progress.end()?;
         Some(signed_fen(self.front.is_below(), magnitude))
     }
+
+    #[tactic(auto, using(crate::proofs::SignedReads::signed_reads))]
+    fn states_read_the_forms() {}
 }

@@ -1,7 +1,7 @@
 // What may come next in a text.
 ghost use Rattle.std.specs.Prelude.{◌≡◌, chars, filter, is_some};
-ghost use Rattle.cn_capitals.specs.Expected.{IsExpected, IsListed, list_of};
-ghost use Rattle.cn_capitals.specs.Machine.{Reached, Reads};
+ghost use Rattle.cn_capitals.specs.Expected.{IsExpected, list_of};
+ghost use Rattle.cn_capitals.specs.Machine.{Reached};
 
 use crate::partial::read_on;
 use crate::{CharacterList, Listed};
@@ -29,10 +29,10 @@ pub struct Expected {
 
 /// The characters that may come next at a state.
 pub fn next_characters<G: Listed>(state: G) -> CharacterList
-    requires reached { Reached G.machine state }
-    requires listed { IsListed G.characters G.white_space G.machine }
+    requires { Reached G.machine state }
     ensures { list_of result ≡ filter (λ c. is_some (G.machine.step state c)) G.characters }
 {
+    G::characters_are_listed();
     let mut next = CharacterList::new();
     for character in G::characters() {
         if state.step(*character).is_some() {
@@ -45,10 +45,10 @@ pub fn next_characters<G: Listed>(state: G) -> CharacterList
 /// What may come next in a text by a grammar, as `Expected` says. The characters are in the order of
 /// those of the grammar. No memory is allocated.
 pub fn expected_next<G: Listed>(text: &str) -> Expected
-    requires reads { Reads G.is_form G.machine }
-    requires listed { IsListed G.characters G.white_space G.machine }
     ensures { IsExpected G.is_form (chars text.now) result }
 {
+    G::states_read_the_forms();
+    G::characters_are_listed();
     let read = read_on(G::begin(), text, usize::MAX);
     Expected {
         char_index: read.count,

@@ -1,5 +1,5 @@
 ghost use Rattle.std.specs.Prelude.{◌≡◌, ℕ, List};
-ghost use Rattle.cn_capitals.specs.Machine.{Machine, Reached};
+ghost use Rattle.cn_capitals.specs.Machine.{Machine, Reached, Reads};
 
 // `cheque` has a short example: specs/DateFigures, src/dates.rt, specs/Working/DateSteps and
 // proofs/DateFiguresRead.
@@ -27,4 +27,8 @@ pub trait Grammar: Copy {
     fn end(self) -> Option<Self::Value>
         requires { Reached machine self }
         ensures { result ≡ machine.end self };
+
+    /// A law, which each grammar proves: the states read exactly the forms.
+    fn states_read_the_forms()
+        ensures { Reads is_form machine };
 }

@@ -5,24 +5,25 @@ ghost use Rattle.cn_capitals.specs.declared.refusal.Refusal.TheVariants.{Incorre
 ghost use Rattle.cn_capitals.specs.Answers.{Answers};
 ghost use Rattle.cn_capitals.specs.Expected.{IsExpected, is_expected};
 ghost use Rattle.cn_capitals.specs.declared.expecting.Expected.{Expected as Expectation};
-ghost use Rattle.cn_capitals.specs.Machine.{Reads};
 
 use crate::Grammar;
 
 /// No text stands for two values.
 pub fn each_text_is_one_value<G: Grammar>()
-    requires { Reads G.is_form G.machine }
     ensures { (text : List ℕ) → (one two : G.Value)
         → G.is_form text one → G.is_form text two → one ≡ two }
-{}
+{
+    G::states_read_the_forms()
+}
 
 /// Each text has one answer and no more: what is a form is neither unfinished nor incorrect, and a
 /// text is incorrect at one character.
 pub fn each_text_has_one_answer<G: Grammar>()
-    requires { Reads G.is_form G.machine }
     ensures { (text : List ℕ) → (answer : Result G.Value Refusal) × Answers G.is_form text answer
         × ((other : Result G.Value Refusal) → Answers G.is_form text other → other ≡ answer) }
-{}
+{
+    G::states_read_the_forms()
+}
 
 /// Each prefix of a form is unfinished or a form, and never incorrect. So an input form can judge a
 /// text at each key.

@@ -1,4 +1,5 @@
 ghost use Rattle.std.specs.Prelude.{◌≡◌, ℕ, List, Bool};
+ghost use Rattle.cn_capitals.specs.Expected.{IsListed};
 
 use crate::Grammar;
 
@@ -17,4 +18,8 @@ pub trait Listed: Grammar {
     /// Whether white space may be anywhere in a form.
     fn takes_white_space() -> bool
         ensures { result ≡ white_space };
+
+    /// A law, which each grammar proves: forms have no other characters.
+    fn characters_are_listed()
+        ensures { IsListed characters white_space Self.machine };
 }

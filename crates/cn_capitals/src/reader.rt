@@ -1,7 +1,6 @@
 // Reads a text in one pass from left to right.
 ghost use Rattle.std.specs.Prelude.{chars};
 ghost use Rattle.cn_capitals.specs.Answers.{Answers};
-ghost use Rattle.cn_capitals.specs.Machine.{Reads};
 
 use crate::{Grammar, Refusal};
 use cn_core::split_first_char;
@@ -12,9 +11,9 @@ use cn_core::split_first_char;
 /// It is `Unfinished` exactly if the text is not a form but something after it can make it one.
 /// Otherwise it is `Incorrect` at the first character with which no form begins.
 pub fn read<G: Grammar>(text: &str) -> Result<G::Value, Refusal>
-    requires { Reads G.is_form G.machine }
     ensures { Answers G.is_form (chars text.now) result }
 {
+    G::states_read_the_forms();
     let mut state = G::begin();
     let mut char_index = 0;
     let mut rest = text;

@@ -1,7 +1,6 @@
 // Looks for a change after which a text goes on past its fault.
 ghost use Rattle.std.specs.Prelude.{◌≡◌, ◌+◌, ◌^◌, ◌<◌, ◌≤◌, true, chars, length, [], IfSome, MatchBool};
-ghost use Rattle.cn_capitals.specs.Expected.{IsListed};
-ghost use Rattle.cn_capitals.specs.Machine.{Reached, Reads};
+ghost use Rattle.cn_capitals.specs.Machine.{Reached};
 ghost use Rattle.cn_capitals.specs.Repairs.{past, IsRepair};
 ghost use Rattle.cn_capitals.specs.Working.Changes.{added, begins_with, goes_on, ReadsChange, ReadsRepaired, Works};
 
@@ -105,10 +104,10 @@ fn goes_on<G: Listed>(count: usize, past: usize, rest: &str) -> bool
 // Whether a change takes the text past its fault. A text without a fault, which only ends too soon,
 // must become a form.
 fn works<G: Listed>(text: &str, fault: usize, ends: bool, hint: Hint) -> bool
-    requires reads { Reads G.is_form G.machine }
-    requires fault { fault < 2 ^ 63 }
+    requires { fault < 2 ^ 63 }
     ensures { result ≡ true → Works G.is_form (chars text.now) fault ends hint }
 {
+    G::states_read_the_forms();
     let Some(read) = read_repaired::<G>(text, hint) else {
         return false;
     };
@@ -128,8 +127,7 @@ fn first_working<G: Listed>(
     ends: bool,
     candidates: &[Option<Hint>],
 ) -> Option<Hint>
-    requires reads { Reads G.is_form G.machine }
-    requires fault { fault < 2 ^ 63 }
+    requires { fault < 2 ^ 63 }
     ensures { IfSome result (Works G.is_form (chars text.now) fault ends) }
 {
     for candidate in candidates {
@@ -164,10 +162,9 @@ fn first_working<G: Listed>(
 /// 8. The fault is replaced by the only character with which a form can go on, unless it carries a
 ///    value or the other is a digit.
 pub fn find_repair<G: Listed>(text: &str) -> Option<Hint>
-    requires reads { Reads G.is_form G.machine }
-    requires listed { IsListed G.characters G.white_space G.machine }
     ensures { IfSome result (IsRepair G.is_form (chars text.now)) }
 {
+    G::states_read_the_forms();
     let read = read_on(G::begin(), text, usize::MAX);
     let ends = is_end(read.rest);
     let may_end = read.state.end().is_some();

@@ -12,6 +12,6 @@ others : (c : ℕ) → char_set_contains CHARACTERS c ≡ false → capital_of c
 unfolding capital_of
 others c h = none-with (char_set_contains CHARACTERS) c capital_rows refl h
 
-pub dates-listed : IsListed CHARACTERS false date_machine
-dates-listed =
+pub dates_listed : IsListed CHARACTERS false date_machine
+dates_listed =
     classes-listed date_machine step capital_of CHARACTERS (λ state c. refl) (omega arith) others

@@ -90,8 +90,8 @@ begins-read text state leads =
     ∙ last.ends in
     (behind, last.date, whole-read (text ++ behind) (Complete last.date) last.date runs refl)
 
-pub date-reads : Reads IsDateText date_machine
-date-reads = record {
+pub date_reads : Reads IsDateText date_machine
+date_reads = record {
   each = λ text date h. (Complete date, date-read text date h, refl);
   only = whole-read;
   begins = begins-read;

@@ -22,4 +22,7 @@ impl Listed for State {
     fn takes_white_space() -> bool {
         false
     }
+
+    #[tactic(auto, using(crate::proofs::CharactersListed::dates_listed))]
+    fn characters_are_listed() {}
 }

@@ -113,6 +113,9 @@ impl State {
     }
 }
 
+/// The grammar of dates in capitals.
+pub type DateGrammar = State;
+
 impl Grammar for State {
     type Value = BillDate;
 
@@ -134,4 +137,7 @@ impl Grammar for State {
             _ => None,
         }
     }
+
+    #[tactic(auto, using(crate::proofs::ReadText::date_reads))]
+    fn states_read_the_forms() {}
 }

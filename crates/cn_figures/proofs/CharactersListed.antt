@@ -57,8 +57,8 @@ listed-in : (characters : List ℕ) → HasParts characters → IsListed charact
 listed-in characters all = classes-listed figures_machine advance part_of characters
     (λ state c. refl) all.few (others characters all)
 
-pub figures-listed : IsListed (take 26 CHARACTERS) false figures_machine
-figures-listed = listed-in (take 26 CHARACTERS) (record {
+pub figures_listed : IsListed (take 26 CHARACTERS) false figures_machine
+figures_listed = listed-in (take 26 CHARACTERS) (record {
   few = omega arith;
   currency = refl;
   comma = refl;
@@ -66,8 +66,8 @@ figures-listed = listed-in (take 26 CHARACTERS) (record {
   figure = refl;
 })
 
-pub signed-listed : IsListed CHARACTERS false signed_machine
-signed-listed = sifted-listed sign_sieve both signed_value figures_machine signed_machine Open
+pub signed_listed : IsListed CHARACTERS false signed_machine
+signed_listed = sifted-listed sign_sieve both signed_value figures_machine signed_machine Open
     signs-sifted (λ state. (state.front, state.progress, refl)) CHARACTERS false
     (listed-in CHARACTERS (record {
       few = omega arith;

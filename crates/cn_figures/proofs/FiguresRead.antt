@@ -157,5 +157,5 @@ begins-read text progress leads =
           (ap (λ (b : Bool). if b then Some more.last.fen else None) more.ends),
     )
 
-pub figures-read : Reads WriteAmount figures_machine
-figures-read = record { each = each-read; only = only-read; begins = begins-read }
+pub figures_read : Reads WriteAmount figures_machine
+figures_read = record { each = each-read; only = only-read; begins = begins-read }

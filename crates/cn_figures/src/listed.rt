@@ -24,6 +24,9 @@ impl Listed for Progress {
     fn takes_white_space() -> bool {
         false
     }
+
+    #[tactic(auto, using(crate::proofs::CharactersListed::figures_listed))]
+    fn characters_are_listed() {}
 }
 
 impl Listed for SignedProgress {
@@ -38,4 +41,7 @@ impl Listed for SignedProgress {
     fn takes_white_space() -> bool {
         false
     }
+
+    #[tactic(auto, using(crate::proofs::CharactersListed::signed_listed))]
+    fn characters_are_listed() {}
 }

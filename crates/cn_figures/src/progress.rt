@@ -13,6 +13,9 @@ pub struct Progress {
     fen: Option<u64>,
 }
 
+/// The grammar of amounts in figures.
+pub type FiguresGrammar = Progress;
+
 impl Grammar for Progress {
     type Value = Option<u64>;
 
@@ -43,4 +46,7 @@ impl Grammar for Progress {
             None
         }
     }
+
+    #[tactic(auto, using(crate::proofs::FiguresRead::figures_read))]
+    fn states_read_the_forms() {}
 }

@@ -25,6 +25,9 @@ pub struct SignedProgress {
     progress: Progress,
 }
 
+/// The grammar of amounts in figures with or without a minus before them.
+pub type SignedFiguresGrammar = SignedProgress;
+
 impl Grammar for SignedProgress {
     type Value = Option<i64>;
 
@@ -55,4 +58,7 @@ impl Grammar for SignedProgress {
             None => Some(None),
         }
     }
+
+    #[tactic(auto, using(crate::proofs::SignedReads::signed_read))]
+    fn states_read_the_forms() {}
 }

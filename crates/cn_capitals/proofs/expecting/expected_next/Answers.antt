@@ -6,8 +6,8 @@ pub returns : goal.returns
 returns g c =
     let few : c.read_on-read.result.count < 18446744073709551615 =
     omega (arith, c.read_on-read.ensures.short) in
-    expected-is g.G.Grammar.is_form g.G.Grammar.machine c.requires.reads g.G.Listed.characters
-    g.G.Listed.white_space c.requires.listed (chars c.args.text.now)
+    expected-is g.G.Grammar.is_form g.G.Grammar.machine c.states_read_the_forms.ensures g.G.Listed.characters
+    g.G.Listed.white_space c.characters_are_listed.ensures (chars c.args.text.now)
     (chars c.read_on-read.result.rest.now) c.begin.result c.read_on-read.result.state
     (record {
       char_index = c.read_on-read.result.count;

@@ -4,7 +4,7 @@ use Rattle.cn_capitals.proofs.reader.read.Goals as goal
 
 pub returns-in-None : goal.returns-in-None
 returns-in-None g c =
-    reading-refused g.G.Grammar.is_form g.G.Grammar.machine c.requires _ _ c.in-Some.after.now
+    reading-refused g.G.Grammar.is_form g.G.Grammar.machine c.states_read_the_forms.ensures _ _ c.in-Some.after.now
     c.reading.state _ c.in-Some.character c.reading.invariant.reading c.in-Some.ensures.parts
     (sym c.in-None.ensures)
 
@@ -19,6 +19,6 @@ reading-preserved g c = record {
 
 pub returns-in-None-end : goal.returns-in-None-end
 returns-in-None-end g c =
-    unfinished-read g.G.Grammar.is_form g.G.Grammar.machine c.requires _ c.reading.state
+    unfinished-read g.G.Grammar.is_form g.G.Grammar.machine c.states_read_the_forms.ensures _ c.reading.state
     (reading-ended g.G.Grammar.machine _ _ c.reading.state _ c.reading.invariant.reading
     c.in_default.ensures.parts) (sym c.end.ensures ∙ c.in-None-end.is)

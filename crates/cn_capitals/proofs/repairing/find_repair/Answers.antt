@@ -17,7 +17,7 @@ returns g c =
     if-some {P = Works g.G.Grammar.is_form (chars c.args.text.now) c.read_on-read.result.count
     c.is_end-ends.result} {Q = IsRepair g.G.Grammar.is_form (chars c.args.text.now)}
     c.first_working.result
-    (λ hint works. repair-is g.G.Grammar.is_form g.G.Grammar.machine c.requires.reads
+    (λ hint works. repair-is g.G.Grammar.is_form g.G.Grammar.machine c.states_read_the_forms.ensures
     (chars c.args.text.now) (chars c.read_on-read.result.rest.now) c.begin.result
     c.read_on-read.result.state c.read_on-read.result.count c.is_end-ends.result
     c.is_some-may_end.result hint c.begin.ensures c.read_on-read.ensures.read.has

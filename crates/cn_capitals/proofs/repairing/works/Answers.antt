@@ -7,14 +7,14 @@ pub returns-then-not-ends : goal.returns-then-not-ends
 returns-then-not-ends g c = λ h.
     let empty : chars c.in-Some.read.rest.now ≡ [] = search rules in
     let going : c.args.ends ≡ false = search rules in
-    works-whole g.G.Grammar.is_form g.G.Grammar.machine c.requires.reads (chars c.args.text.now)
+    works-whole g.G.Grammar.is_form g.G.Grammar.machine c.states_read_the_forms.ensures (chars c.args.text.now)
     (chars c.in-Some.read.rest.now) c.args.fault c.args.ends c.args.hint c.in-Some.read.state
     c.in-Some.read.count c.in-Some.ensures empty c.if-hint-fault.false (λ is. absurd (cc))
 
 pub returns-else-not-ends : goal.returns-else-not-ends
 returns-else-not-ends g c = λ h.
     let empty : chars c.in-Some.read.rest.now ≡ [] = search rules in
-    works-whole g.G.Grammar.is_form g.G.Grammar.machine c.requires.reads (chars c.args.text.now)
+    works-whole g.G.Grammar.is_form g.G.Grammar.machine c.states_read_the_forms.ensures (chars c.args.text.now)
     (chars c.in-Some.read.rest.now) c.args.fault c.args.ends c.args.hint c.in-Some.read.state
     c.in-Some.read.count c.in-Some.ensures empty c.if-hint-fault.false
     (λ is. sym (c.is_some.ensures ∙ ap is_some c.end.ensures) ∙ h)
@@ -26,6 +26,6 @@ returns-then-not-ends-2 g c = λ h.
     let far : past c.args.fault c.args.hint ≤ c.in-Some.read.count =
     subst (λ count. count ≤ c.in-Some.read.count) c.past.ensures less in
     let going : c.args.ends ≡ false = search rules in
-    works-on g.G.Grammar.is_form g.G.Grammar.machine c.requires.reads (chars c.args.text.now)
+    works-on g.G.Grammar.is_form g.G.Grammar.machine c.states_read_the_forms.ensures (chars c.args.text.now)
     (chars c.in-Some.read.rest.now) c.args.fault c.args.ends c.args.hint c.in-Some.read.state
     c.in-Some.read.count c.in-Some.ensures c.if-hint-fault.false far going
