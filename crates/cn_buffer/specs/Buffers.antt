@@ -1,36 +1,48 @@
--- What is written to a buffer, by its state before and after.
-use Rattle.std.specs.Prelude.{◌≡◌, ℕ, ◌+◌, ◌-◌, ◌^◌, ◌≤◌, ◌<◌, min, List, ◌++◌, length, take, drop}
+-- What is written to a buffer.
+use Rattle.std.specs.Prelude.{◌≡◌, ℕ, ◌+◌, ◌-◌, ◌^◌, ◌≤◌, min, nat_le, List, ◌++◌, length, take, drop}
+use Rattle.std.specs.Bool.{MatchBool}
 use Rattle.cn_buffer.specs.declared.buffer.Buffer.{Buffer}
 use Rattle.cn_buffer.specs.declared.end_buffer.EndBuffer.{EndBuffer}
 
--- a buffer with these bytes written after the first `from` bytes, and all other bytes unchanged
-abbrev pub put_at : ℕ → List ℕ → List ℕ → List ℕ
-put_at from room bytes = take from room ++ (bytes ++ drop (from + length bytes) room)
+-- a prefix of a text is at the start of a buffer, and all other bytes are unchanged
+abbrev pub PutsPrefix : List ℕ → List ℕ → List ℕ → Type 0
+PutsPrefix text old new =
+    (kept : ℕ) × (kept ≤ length text) × (new ≡ take kept text ++ drop kept old)
 
--- after the first `old_count` bytes of a buffer a prefix of these bytes was written, which is all of
--- them if they fit, and nothing if the buffer was too small before; they are counted, up to the
--- greatest count
-pub record PutsTo (old_count : ℕ) (old : List ℕ) (new_count : ℕ) (new bytes : List ℕ) : Type 0 where
-  pub count : new_count ≡ min (old_count + length bytes) (2 ^ 64 - 1)
-  pub size : length new ≡ length old
-  pub kept : ℕ
-  pub few : kept ≤ length bytes
-  pub put : new ≡ put_at old_count old (take kept bytes)
-  pub fits : old_count + length bytes ≤ length old → kept ≡ length bytes
-  pub full : length old < old_count → kept ≡ 0
+-- this is the text in a buffer that was `start` when nothing was written: all of it if it fits, and
+-- otherwise a prefix. It is counted up to the greatest count
+pub record HasText (start : Buffer) (text : List ℕ) (buffer : Buffer) : Type 0 where
+  pub lender : buffer.bytes.ghost_name ≡ start.bytes.ghost_name
+  pub size : length buffer.bytes.now ≡ length start.bytes.now
+  pub count : buffer.count ≡ min (length text) (2 ^ 64 - 1)
+  pub prefix : PutsPrefix text start.bytes.now buffer.bytes.now
+  pub fits : length text ≤ length start.bytes.now
+      → buffer.bytes.now ≡ text ++ drop (length text) start.bytes.now
 
--- `new` is `old` with these bytes written after the text
-pub record Appends (old new : Buffer) (more : List ℕ) : Type 0 where
-  pub lender : new.bytes.ghost_name ≡ old.bytes.ghost_name
-  pub put : PutsTo old.count old.bytes.now new.count new.bytes.now more
+-- `new` is `old` with these bytes after the text
+unfoldable pub Appends : Buffer → Buffer → List ℕ → Type 0
+Appends old new more =
+    (start : Buffer) → (text : List ℕ) → HasText start text old → HasText start (text ++ more) new
+
+-- bytes are written after the first `from` ones if they fit, and counted up to the greatest count
+abbrev pub PutsIfTheyFit : ℕ → List ℕ → ℕ → List ℕ → List ℕ → Type 0
+PutsIfTheyFit from old end new more =
+    (end ≡ min (from + length more) (2 ^ 64 - 1))
+    × MatchBool (nat_le (from + length more) (length old))
+    (new ≡ take from old ++ (more ++ drop (from + length more) old)) (new ≡ old)
+
+-- these bytes are the text in a buffer if it fits
+abbrev pub IsTextOf : Buffer → List ℕ → Type 0
+IsTextOf buffer bytes =
+    (start : Buffer) → (text : List ℕ)
+    → HasText start text buffer → length text ≤ length start.bytes.now → bytes ≡ text
 
 -- the text in a buffer that is filled from its end
-abbrev pub text_in : EndBuffer → List ℕ
-text_in buffer = drop buffer.free buffer.bytes.now
+abbrev pub text_at_end : EndBuffer → List ℕ
+text_at_end buffer = drop buffer.free buffer.bytes.now
 
 -- `new` is `old` with these bytes written before the text
 pub record Prepends (old new : EndBuffer) (more : List ℕ) : Type 0 where
-  pub lender : new.bytes.ghost_name ≡ old.bytes.ghost_name
   pub size : length new.bytes.now ≡ length old.bytes.now
   pub free : new.free + length more ≡ old.free
-  pub text : text_in new ≡ more ++ text_in old
+  pub text : text_at_end new ≡ more ++ text_at_end old

@@ -1,6 +1,6 @@
 // Writing into a buffer from its start.
-ghost use Rattle.std.specs.Prelude.{◌≡◌, ◌≤◌, length, take, encode_utf8};
-ghost use Rattle.cn_buffer.specs.Buffers.{Appends, PutsTo};
+ghost use Rattle.std.specs.Prelude.{[], ◌≡◌, ◌≤◌, length, encode_utf8};
+ghost use Rattle.cn_buffer.specs.Buffers.{Appends, HasText, IsTextOf, PutsIfTheyFit};
 
 use super::Buffer;
 use std::str;
@@ -10,7 +10,7 @@ use std::str;
 // source of `dist/` writes to a caller's memory only by copies.
 #[inline(never)]
 fn put_behind(bytes: &mut [u8], count: usize, more: &[u8]) -> usize
-    ensures { PutsTo count bytes.old result bytes.new more.now }
+    ensures { PutsIfTheyFit count bytes.old result bytes.new more.now }
 {
     let end = count.saturating_add(more.len());
     if end <= bytes.len() {
@@ -24,7 +24,7 @@ impl<'a> Buffer<'a> {
     pub fn new(bytes: &'a mut [u8]) -> Self
         ensures lender { result.bytes.ghost_name ≡ bytes.entry.ghost_name }
         ensures bytes { result.bytes.now ≡ bytes.old }
-        ensures count { result.count ≡ 0 }
+        ensures empty { HasText result [] result }
     {
         Buffer { bytes, count: 0 }
     }
@@ -45,12 +45,14 @@ impl<'a> Buffer<'a> {
         self.put(character.encode_utf8(&mut room));
     }
 
-    /// The text, if it fits.
+    /// The text if it fits, and otherwise an empty one.
     pub fn into_text(self) -> &'a str
-        requires { self.count ≤ length self.bytes.now }
-        ensures { result.now ≡ take self.entry.count self.entry.bytes.now }
+        ensures { IsTextOf self.entry result.now }
     {
         let Buffer { bytes, count } = self;
+        if count > bytes.len() {
+            return "";
+        }
         unsafe { str::from_utf8_unchecked(&bytes[..count]) }
     }
 }

@@ -1,6 +1,6 @@
 // Writing into a buffer from its end.
 ghost use Rattle.std.specs.Prelude.{◌≡◌, ◌≤◌, length, encode_utf8};
-ghost use Rattle.cn_buffer.specs.Buffers.{Prepends, text_in};
+ghost use Rattle.cn_buffer.specs.Buffers.{Prepends, text_at_end};
 
 use super::EndBuffer;
 use std::str;
@@ -8,9 +8,8 @@ use std::str;
 impl<'a> EndBuffer<'a> {
     /// A buffer in which all of these bytes are free.
     pub fn new(bytes: &'a mut [u8]) -> Self
-        ensures lender { result.bytes.ghost_name ≡ bytes.entry.ghost_name }
-        ensures bytes { result.bytes.now ≡ bytes.old }
         ensures free { result.free ≡ length bytes.old }
+        ensures empty { result.free ≡ length result.bytes.now }
     {
         let free = bytes.len();
         EndBuffer { bytes, free }
@@ -38,7 +37,7 @@ impl<'a> EndBuffer<'a> {
 
     /// The text.
     pub fn into_text(self) -> &'a str
-        ensures { result.now ≡ text_in self.entry }
+        ensures { result.now ≡ text_at_end self.entry }
     {
         let EndBuffer { bytes, free } = self;
         unsafe { str::from_utf8_unchecked(&bytes[free..]) }

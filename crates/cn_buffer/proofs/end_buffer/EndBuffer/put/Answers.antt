@@ -1,4 +1,4 @@
-use Rattle.std.proofs.Common.{◌≡◌, ◌-◌, ◌≤◌, ◌++◌, length, drop, sym, ap, ◌∙◌, subst, refl, arith, rules}
+use Rattle.std.proofs.Common.{◌≡◌, ◌-◌, ◌≤◌, ◌++◌, length, drop, sym, ap, ◌∙◌, subst, arith, rules}
 use Rattle.std.specs.Str.{IsUtf8}
 use Rattle.std.proofs.lemmas.Str.{IsUtf8-append, IsUtf8-had}
 use Rattle.cn_buffer.proofs.EndBuffers.{put-front, put-size}
@@ -23,7 +23,6 @@ returns c =
     let within : old.free ≤ length old.bytes.now = search (rules, old.within) in
     let whole : c.copy_from_slice.new.self ≡ more = search rules in
     record {
-      lender = refl;
       size = put-size start old.free old.bytes.now c.copy_from_slice.new.self
           (omega (arith, ap length whole)) within;
       free = omega arith;
