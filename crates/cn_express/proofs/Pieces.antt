@@ -1,6 +1,5 @@
 -- Pieces of a text, each written before the one that was written last, if the method writes it.
-use Rattle.std.proofs.Common.{◌≡◌, ℕ, ◌+◌, ◌/◌, ◌^◌, ◌≤◌, pos, nat_abs, Bool, true, false, ◌&&◌, List, [], ◌∷◌, ◌++◌, length, encode_utf8_all, Option, Some, None, Result, Ok, Err, refl, sym, ap, subst, ◌∙◌, append-nil, length-append, arith}
-use Rattle.std.proofs.lemmas.List.{drop_all}
+use Rattle.std.proofs.Common.{◌≡◌, ℕ, ◌+◌, ◌/◌, ◌^◌, ◌≤◌, pos, nat_abs, Bool, true, false, ◌&&◌, List, [], ◌∷◌, ◌++◌, length, encode_utf8_all, Option, Some, None, Result, Ok, Err, refl, sym, ap, subst, ◌∙◌, length-append, arith}
 use Rattle.std.proofs.lemmas.Str.{encodes-append}
 use Rattle.std.specs.Char.{encode_utf8}
 use Rattle.std.specs.List.{list_all}
@@ -13,7 +12,7 @@ use Rattle.cn_quantity.specs.declared.quantity.Quantity.{Quantity}
 use Rattle.cn_quantity.specs.Trimmed.{decimals_of}
 use Rattle.cn_buffer.specs.declared.end_buffer.EndBuffer.{EndBuffer}
 use Rattle.cn_express.specs.Numerals.{bar, decimal_text, fraction_text, hundredths, is_written_by, unsigned_text}
-use Rattle.cn_buffer.specs.Buffers.{Prepends, text_at_end}
+use Rattle.cn_buffer.specs.Buffers.{Prepends}
 use Rattle.cn_express.specs.Working.Putting.{PutsCharacters, PutsIfWritten}
 use Rattle.cn_buffer.proofs.EndBuffers.{Prepends-characters}
 

@@ -1,5 +1,5 @@
 -- The results of the calls that write a quantity.
-use Rattle.std.specs.Prelude.{◌≡◌, ℕ, ◌<◌, ◌≤◌, pos, ◌<ℤ◌, ◌≤ℤ◌, IsTrue, IsFalse, List, length, encode_utf8_all, Result, MatchResult, string_bytes, string_len, string_capacity}
+use Rattle.std.specs.Prelude.{◌≡◌, ℕ, ◌<◌, ◌≤◌, pos, ◌<ℤ◌, ◌≤ℤ◌, IsTrue, IsFalse, List, length, encode_utf8_all, Result, MatchResult}
 use Rattle.std.specs.declared.string.String.{String}
 use Rattle.cn_core.specs.declared.case.ChineseCase.{ChineseCase}
 use Rattle.cn_core.specs.declared.method.ChineseCountMethod.{ChineseCountMethod}

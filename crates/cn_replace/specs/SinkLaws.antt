@@ -1,7 +1,7 @@
 -- Pieces that are written to a string one after the other are written as one text. These are proofs,
 -- which no contract depends on. They are in `specs` because the code of a trait cannot cite
 -- `proofs`.
-use Rattle.std.proofs.Common.{◌≡◌, List, ℕ, [], ◌++◌, sym, ap, ◌∙◌, append-nil, append_assoc}
+use Rattle.std.proofs.Common.{List, ℕ, [], ◌++◌, sym, ap, ◌∙◌, append-nil, append_assoc}
 use Rattle.cn_replace.specs.Sinks.{AppendsTo}
 
 pub AppendsTo-none : (old : List ℕ) → AppendsTo old old []
