@@ -1,10 +1,9 @@
 //! What amounts and dates in capitals share: a reader from left to right, which works for each
-//! grammar that has states; the lookup of a character in a table; and a text that capitals are
-//! appended to.
+//! grammar that has states; the lookup of a character in a table; and a call that writes a capital.
 //!
 //! `specs/Answers` defines the answer to a text, for any definition of a form. `specs/Machine` has
 //! what must be shown once for a grammar, `specs/Sieve` how a grammar reads only the characters
-//! that a sieve keeps, and `specs/Text` what has been appended to a text.
+//! that a sieve keeps, and `specs/Text` what has been written to a buffer.
 #![tactic(auto)]
 
 mod character_list;
@@ -34,5 +33,5 @@ pub use refusal::Refusal;
 pub use repairing::find_repair;
 pub use sign::Front;
 pub use table::known_in;
-pub use text::CapitalText;
+pub use text::put_capital;
 pub use written::Written;

@@ -1,17 +1,14 @@
-// A text in capitals, which capitals are appended to.
-ghost use Rattle.std.specs.Prelude.{◌≤◌, take, IsUtf8};
+// Writes capitals to a buffer.
+ghost use Rattle.std.specs.Prelude.{[], ◌∷◌};
+ghost use Rattle.cn_capitals.specs.Text.{PutsMore};
 
-mod methods;
+use crate::Written;
+use cn_buffer::Buffer;
 
-// How many bytes a text can have: 43 characters of three bytes each.
-const MOST_BYTES: usize = 129;
-
-/// A text in capitals that a hand writes, of at most 129 bytes, in a buffer of its own.
-#[derive(Drop)]
-pub struct CapitalText<H> {
-    hand: H,
-    bytes: [u8; MOST_BYTES],
-    len: usize,
-    ghost within: { len ≤ 129 },
-    ghost utf8: { ∥ IsUtf8 (take len bytes) ∥₁ },
+/// Writes a capital after the text in a buffer.
+pub fn put_capital<H: Copy, C: Written<H>>(text: &mut Buffer, hand: H, capital: C)
+    requires { C.can_write capital }
+    ensures { PutsMore C.character hand text.old text.new (capital ∷ []) }
+{
+    text.put_char(capital.character(hand));
 }

@@ -27,4 +27,4 @@ pub use expect::date_expected;
 pub use read::chinese_to_date;
 pub use repair::date_repair;
 pub use state::DateGrammar;
-pub use write::{date_text, date_to_chinese};
+pub use write::{MOST_DATE_BYTES, date_text, date_to_chinese};

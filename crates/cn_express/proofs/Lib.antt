@@ -17,7 +17,6 @@ pub mod NumeralsRead
 pub mod Pieces
 pub mod Points
 pub mod Ratios
-pub mod Rooms
 pub mod SignedTexts
 pub mod SpelledBytes
 pub mod SpelledNumbers

@@ -1,6 +1,5 @@
 -- Pieces of a text, each written before the one that was written last, if the method writes it.
-use Rattle.std.proofs.Common.{◌≡◌, ℕ, ◌+◌, ◌/◌, ◌^◌, ◌≤◌, pos, nat_abs, Bool, true, false, ◌&&◌, List, [], ◌∷◌, ◌++◌, length, encode_utf8_all, Option, Some, None, Result, Ok, Err, refl, sym, ap, subst, ◌∙◌, append-nil, length-append, arith}
-use Rattle.std.proofs.lemmas.List.{drop_all}
+use Rattle.std.proofs.Common.{◌≡◌, ℕ, ◌+◌, ◌/◌, ◌^◌, ◌≤◌, pos, nat_abs, Bool, true, false, ◌&&◌, List, [], ◌∷◌, ◌++◌, length, encode_utf8_all, Option, Some, None, Result, Ok, Err, refl, sym, ap, subst, ◌∙◌, length-append, arith}
 use Rattle.std.proofs.lemmas.Str.{encodes-append}
 use Rattle.std.specs.Char.{encode_utf8}
 use Rattle.std.specs.List.{list_all}
@@ -11,24 +10,25 @@ use Rattle.cn_core.specs.declared.script.ChineseVariant.{ChineseVariant}
 use Rattle.cn_core.specs.Printing.{is_printable}
 use Rattle.cn_quantity.specs.declared.quantity.Quantity.{Quantity}
 use Rattle.cn_quantity.specs.Trimmed.{decimals_of}
-use Rattle.cn_express.specs.declared.room.Room.{Room}
+use Rattle.cn_buffer.specs.declared.end_buffer.EndBuffer.{EndBuffer}
 use Rattle.cn_express.specs.Numerals.{bar, decimal_text, fraction_text, hundredths, is_written_by, unsigned_text}
-use Rattle.cn_express.specs.Working.Room.{PutsCharacters, PutsIfWritten, PutsInFront, text_in}
-use Rattle.cn_express.proofs.Rooms.{puts-characters}
+use Rattle.cn_buffer.specs.Buffers.{Prepends}
+use Rattle.cn_express.specs.Working.Putting.{PutsCharacters, PutsIfWritten}
+use Rattle.cn_buffer.proofs.EndBuffers.{Prepends-characters}
 
 -- a written text takes at most the space by which the free space shrank
-pub puts-bounded : (old new : Room) (characters : List ℕ) (most : ℕ)
-    → PutsInFront old new (encode_utf8_all characters) → old.free ≤ new.free + most
+pub puts-bounded : (old new : EndBuffer) (characters : List ℕ) (most : ℕ)
+    → Prepends old new (encode_utf8_all characters) → old.free ≤ new.free + most
     → PutsCharacters old new characters most
 puts-bounded old new characters most put room =
     record { put = put; bound = omega (arith, put.free, room) }
 
 -- two pieces
-pub pieces : (old mid new : Room) (front rest : List ℕ) (a b : ℕ)
+pub pieces : (old mid new : EndBuffer) (front rest : List ℕ) (a b : ℕ)
     → PutsCharacters old mid rest a → PutsCharacters mid new front b
     → PutsCharacters old new (front ++ rest) (b + a)
 pieces old mid new front rest a b one two = record {
-  put = puts-characters old mid new rest front one.put two.put;
+  put = Prepends-characters old mid new rest front one.put two.put;
   bound =
       let size = ap length (encodes-append front rest)
       ∙ length-append (encode_utf8_all front) (encode_utf8_all rest) in
@@ -36,7 +36,7 @@ pieces old mid new front rest a b one two = record {
 }
 
 -- two pieces, of which the method may not write the second
-pub pieces-if : {T E : Type 0} (old mid new : Room) (front rest : List ℕ) (a b : ℕ)
+pub pieces-if : {T E : Type 0} (old mid new : EndBuffer) (front rest : List ℕ) (a b : ℕ)
     (written : Bool) (result : Result T E) → PutsCharacters old mid rest a
     → PutsIfWritten written mid new front b result
     → PutsIfWritten written old new (front ++ rest) (b + a) result
@@ -45,13 +45,13 @@ pieces-if old mid new front rest a b written (Ok x) one two =
 pieces-if old mid new front rest a b written (Err e) one two = two
 
 -- the same with more free space
-pub roomy : (old new : Room) (characters : List ℕ) (a b : ℕ) → a ≤ b
+pub roomy : (old new : EndBuffer) (characters : List ℕ) (a b : ℕ) → a ≤ b
     → PutsCharacters old new characters a → PutsCharacters old new characters b
 roomy old new characters a b less h =
     record { put = h.put; bound = omega (arith, less, h.bound) }
 
 -- if the method writes the first of two numbers, it writes both exactly if it writes the second
-pub first-written : {T E : Type 0} (old new : Room) (characters : List ℕ) (most : ℕ)
+pub first-written : {T E : Type 0} (old new : EndBuffer) (characters : List ℕ) (most : ℕ)
     (a b : Bool) (result : Result T E) → b ≡ true
     → PutsIfWritten a old new characters most result
     → PutsIfWritten (a && b) old new characters most result
@@ -110,18 +110,10 @@ pub bar-bytes : encode_utf8_all bar ≡ 229 ∷ 136 ∷ 134 ∷ 228 ∷ 185 ∷ 
 unfolding encode_utf8
 bar-bytes = refl
 
-pub bar-put : (old new : Room)
-    → PutsInFront old new (229 ∷ 136 ∷ 134 ∷ 228 ∷ 185 ∷ 139 ∷ [])
+pub bar-put : (old new : EndBuffer)
+    → Prepends old new (229 ∷ 136 ∷ 134 ∷ 228 ∷ 185 ∷ 139 ∷ [])
     → PutsCharacters old new bar 6
 bar-put old new put = record {
-  put = subst (PutsInFront old new) (sym bar-bytes) put;
+  put = subst (Prepends old new) (sym bar-bytes) put;
   bound = omega (arith, ap length bar-bytes);
 }
-
--- a buffer that was empty holds exactly the text that was written
-pub whole-text : (old new : Room) (bytes : List ℕ) → old.free ≡ length old.bytes.now
-    → PutsInFront old new bytes → text_in new ≡ bytes
-whole-text old new bytes empty put =
-    put.text
-    ∙ ap (λ rest. bytes ++ rest) (drop_all old.free old.bytes.now (omega (arith, empty)))
-    ∙ append-nil bytes

@@ -25,9 +25,10 @@ use Rattle.cn_spell.proofs.Printed.{each_below, each_below-at, is_printed}
 use Rattle.cn_spell.proofs.ReadByOther.{IsReadBy-own}
 use Rattle.cn_spell.proofs.SpelledMarks.{below_square, spelling-printed}
 use Rattle.cn_spell.proofs.ThreeBytes.{length-encode_all}
-use Rattle.cn_express.specs.declared.room.Room.{Room}
+use Rattle.cn_buffer.specs.declared.end_buffer.EndBuffer.{EndBuffer}
 use Rattle.cn_express.specs.Numerals.{divisor_text, magnitude_text, stand_alone, without_front}
-use Rattle.cn_express.specs.Working.Room.{PutsCharacters, PutsInFront}
+use Rattle.cn_buffer.specs.Buffers.{Prepends}
+use Rattle.cn_express.specs.Working.Putting.{PutsCharacters}
 use Rattle.cn_express.specs.Working.Spelled.{IsSpelled}
 use Rattle.cn_express.proofs.DecimalTexts.{IsSpelled-magnitude}
 use Rattle.cn_express.proofs.WrittenTexts.{text_of-written}
@@ -136,10 +137,10 @@ divisor-bytes variant case method number front spelled bytes is one utf8 shorter
     ∙ ap encode_utf8_all (shorter
     ∙ ap₂ (λ c text. without_front c text) one is.characters)
 
-pub puts-spelled : (old new : Room) (characters bytes : List ℕ) (most : ℕ)
-    → PutsInFront old new bytes → bytes ≡ encode_utf8_all characters → length bytes ≤ most
+pub puts-spelled : (old new : EndBuffer) (characters bytes : List ℕ) (most : ℕ)
+    → Prepends old new bytes → bytes ≡ encode_utf8_all characters → length bytes ≤ most
     → PutsCharacters old new characters most
 puts-spelled old new characters bytes most put is bound = record {
-  put = subst (PutsInFront old new) is put;
+  put = subst (Prepends old new) is put;
   bound = omega (arith, ap length is, bound);
 }

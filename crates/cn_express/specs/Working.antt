@@ -1,3 +1,3 @@
 -- Definitions that only contracts of private functions cite.
-pub mod Room
+pub mod Putting
 pub mod Spelled

@@ -1,9 +1,10 @@
 -- The results of the calls that write a quantity.
-use Rattle.std.specs.Prelude.{◌≡◌, ℕ, ◌<◌, ◌≤◌, pos, ◌<ℤ◌, ◌≤ℤ◌, IsTrue, IsFalse, List, length, encode_utf8_all, Result, MatchResult, string_bytes, string_len, string_capacity}
+use Rattle.std.specs.Prelude.{◌≡◌, ℕ, ◌<◌, ◌≤◌, pos, ◌<ℤ◌, ◌≤ℤ◌, IsTrue, IsFalse, List, length, encode_utf8_all, Result, MatchResult}
 use Rattle.std.specs.declared.string.String.{String}
 use Rattle.cn_core.specs.declared.case.ChineseCase.{ChineseCase}
 use Rattle.cn_core.specs.declared.method.ChineseCountMethod.{ChineseCountMethod}
 use Rattle.cn_core.specs.declared.script.ChineseVariant.{ChineseVariant}
+use Rattle.cn_buffer.specs.Strings.{IsStringOf}
 use Rattle.cn_quantity.specs.declared.quantity.Quantity.{Quantity}
 use Rattle.cn_express.specs.declared.error.QuantityToChineseError.{QuantityToChineseError}
 use Rattle.cn_express.specs.declared.error.QuantityToChineseError.TheVariants.{Overflow, Underflow, ZeroDenominator, OutOfMemory}
@@ -39,11 +40,6 @@ abbrev pub PutsQuantity : ChineseVariant → ChineseCase → ChineseCountMethod 
     → Type 0
 PutsQuantity variant case method q bytes =
     IsWritten method q × (bytes ≡ numeral_bytes variant case method q) × (length bytes ≤ 471)
-
--- a string of these bytes, which holds no more memory than they need
-pub record IsStringOf {Z : Type 0} (bytes : List ℕ) (text : String Z) : Type 0 where
-  pub content : string_bytes text ≡ bytes
-  pub capacity : string_capacity text ≡ string_len text
 
 -- the result is the text of a quantity that the method writes, or the error
 abbrev pub WritesQuantity : {Z : Type 0} → ChineseVariant → ChineseCase → ChineseCountMethod

@@ -1,9 +1,9 @@
 // Digits after a decimal point.
 ghost use Rattle.std.specs.Prelude.{◌≡◌, ◌+◌, ◌*◌, ℕ, ◌≤◌, ◌<◌, length, map, encode_utf8, encode_utf8_all};
 ghost use Rattle.cn_express.specs.Digits.{behind_point, last_digits};
-ghost use Rattle.cn_express.specs.Working.Room.{PutsInFront};
+ghost use Rattle.cn_buffer.specs.Buffers.{Prepends};
 
-use crate::room::Room;
+use cn_buffer::EndBuffer;
 
 /// The characters that digits and the point are written in.
 pub trait Hand {
@@ -27,9 +27,9 @@ pub trait Hand {
 }
 
 // Writes the last `count` digits of a number.
-fn put_last_digits<H: Hand>(text: &mut Room, hand: &H, count: usize, number: u128)
+fn put_last_digits<H: Hand>(text: &mut EndBuffer, hand: &H, count: usize, number: u128)
     requires { H.most * count ≤ text.old.free }
-    ensures put { PutsInFront text.old text.new
+    ensures put { Prepends text.old text.new
         (encode_utf8_all (map (H.character hand.now) (last_digits count number))) }
     ensures room { text.old.free ≤ text.new.free + H.most * count }
 {
@@ -41,9 +41,9 @@ fn put_last_digits<H: Hand>(text: &mut Room, hand: &H, count: usize, number: u12
 }
 
 /// Writes a point and the last `count` digits of a number, or nothing if `count` is 0.
-pub fn put_behind_point<H: Hand>(text: &mut Room, hand: &H, count: usize, number: u128)
+pub fn put_behind_point<H: Hand>(text: &mut EndBuffer, hand: &H, count: usize, number: u128)
     requires { H.most * (count + 1) ≤ text.old.free }
-    ensures put { PutsInFront text.old text.new
+    ensures put { Prepends text.old text.new
         (encode_utf8_all (behind_point (H.point hand.now) (H.character hand.now) count number)) }
     ensures room { text.old.free ≤ text.new.free + H.most * (count + 1) }
 {

@@ -1,15 +1,13 @@
 // Writes a quantity in figures.
-ghost use Rattle.std.specs.Prelude.{◌≡◌, ◌+◌, ◌≤◌, IfOk, IsUtf8, decimal, drop, length};
+ghost use Rattle.std.specs.Prelude.{◌≡◌, ◌+◌, ◌≤◌, IfOk, decimal, length};
 ghost use Rattle.cn_express.specs.Figures.{figure_char, figures_of, figures_text, figures_with, percent_sign, unsigned_figures};
-ghost use Rattle.cn_express.specs.Working.Room.{PutsInFront};
-ghost use Rattle.cn_express.specs.Writes.{IsStringOf};
+ghost use Rattle.cn_buffer.specs.Buffers.{Prepends};
+ghost use Rattle.cn_buffer.specs.Strings.{IsStringOf};
 
 use crate::digits::{Hand, put_behind_point};
-use crate::memory::string_of;
-use crate::room::Room;
+use cn_buffer::{EndBuffer, string_of};
 use cn_quantity::{Quantity, QuantityForm, decimals_of};
 use std::alloc::{AllocError, Global};
-use std::str;
 
 /// The most bytes of a quantity in figures.
 pub const MOST_FIGURES_BYTES: usize = 80;
@@ -34,9 +32,9 @@ impl Hand for Ascii {
 }
 
 // Writes a number.
-fn put_number(text: &mut Room, number: u128)
+fn put_number(text: &mut EndBuffer, number: u128)
     requires { 39 ≤ text.old.free }
-    ensures put { PutsInFront text.old text.new (decimal number) }
+    ensures put { Prepends text.old text.new (decimal number) }
     ensures room { text.old.free ≤ text.new.free + 39 }
 {
     let mut left = number;
@@ -48,10 +46,10 @@ fn put_number(text: &mut Room, number: u128)
 }
 
 // Writes a number whose last `decimals` digits are after the point.
-fn put_with_decimals(text: &mut Room, decimals: usize, number: u128)
+fn put_with_decimals(text: &mut EndBuffer, decimals: usize, number: u128)
     requires decimals { decimals ≤ 38 }
     requires room { 78 ≤ text.old.free }
-    ensures put { PutsInFront text.old text.new (figures_with decimals number) }
+    ensures put { Prepends text.old text.new (figures_with decimals number) }
     ensures room { text.old.free ≤ text.new.free + 78 }
 {
     put_behind_point(text, &Ascii, decimals, number);
@@ -59,9 +57,9 @@ fn put_with_decimals(text: &mut Room, decimals: usize, number: u128)
 }
 
 // Writes the percent sign of a percentage.
-fn put_percent_sign(text: &mut Room, form: QuantityForm)
+fn put_percent_sign(text: &mut EndBuffer, form: QuantityForm)
     requires { 1 ≤ text.old.free }
-    ensures put { PutsInFront text.old text.new (percent_sign form) }
+    ensures put { Prepends text.old text.new (percent_sign form) }
     ensures room { text.old.free ≤ text.new.free + 1 }
 {
     if form == QuantityForm::Percent {
@@ -70,9 +68,9 @@ fn put_percent_sign(text: &mut Room, form: QuantityForm)
 }
 
 // Writes a quantity without its sign.
-fn put_unsigned(text: &mut Room, quantity: Quantity)
+fn put_unsigned(text: &mut EndBuffer, quantity: Quantity)
     requires { 79 ≤ text.old.free }
-    ensures put { PutsInFront text.old text.new (unsigned_figures quantity) }
+    ensures put { Prepends text.old text.new (unsigned_figures quantity) }
     ensures room { text.old.free ≤ text.new.free + 79 }
 {
     let magnitude = quantity.numerator.unsigned_abs();
@@ -89,18 +87,15 @@ fn put_unsigned(text: &mut Room, quantity: Quantity)
     }
 }
 
-// Writes the figures of a quantity as it is at the end of a buffer, and returns where they begin.
-fn put_at_end(room: &mut [u8; MOST_FIGURES_BYTES], quantity: Quantity) -> usize
-    ensures text { drop result room.new ≡ figures_of quantity }
-    ensures utf8 { IsUtf8 (drop result room.new) }
-    ensures within { result ≤ 80 }
+// Writes a quantity as it is.
+fn put_signed(text: &mut EndBuffer, quantity: Quantity)
+    requires { 80 ≤ text.old.free }
+    ensures { Prepends text.old text.new (figures_of quantity) }
 {
-    let mut text = Room::new(room);
-    put_unsigned(&mut text, quantity);
+    put_unsigned(text, quantity);
     if quantity.numerator < 0 {
         text.put("-");
     }
-    text.free
 }
 
 /// Writes a quantity in figures at the end of a buffer, without zeros at the end of its decimals,
@@ -114,8 +109,9 @@ pub fn put_figures(room: &mut [u8; MOST_FIGURES_BYTES], quantity: Quantity) -> &
     ensures text { result.now ≡ figures_text quantity }
     ensures bound { length result.now ≤ 80 }
 {
-    let start = put_at_end(room, quantity.trimmed());
-    unsafe { str::from_utf8_unchecked(&room[start..]) }
+    let mut text = EndBuffer::new(room);
+    put_signed(&mut text, quantity.trimmed());
+    text.into_text()
 }
 
 /// A quantity in figures, as `put_figures` writes it, with one allocation of exactly its size.

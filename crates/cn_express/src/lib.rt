@@ -7,9 +7,7 @@ mod digits;
 mod error;
 mod figures;
 pub mod laws;
-mod memory;
 mod numerals;
-mod room;
 
 pub use error::QuantityToChineseError;
 pub use figures::{MOST_FIGURES_BYTES, put_figures, quantity_to_figures};

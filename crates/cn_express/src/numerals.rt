@@ -1,18 +1,17 @@
 // Writes a quantity in numerals.
-ghost use Rattle.std.specs.Prelude.{◌≡◌, ◌/◌, ◌^◌, ◌&&◌, ◌≤◌, pos, IsTrue, IsFalse, MatchResult, IsUtf8, chars, drop, length, encode_utf8_all};
+ghost use Rattle.std.specs.Prelude.{◌≡◌, ◌/◌, ◌^◌, ◌&&◌, ◌≤◌, pos, IsTrue, IsFalse, MatchResult, chars, length};
 ghost use Rattle.cn_core.specs.declared.method.ChineseCountMethod.{ChineseCountMethod};
 ghost use Rattle.cn_core.specs.Characters.{digit_char};
 ghost use Rattle.cn_core.specs.Printing.{is_printable};
 ghost use Rattle.cn_core.specs.Text.{text_of};
 ghost use Rattle.cn_express.specs.Numerals.{decimal_text, divisor_text, fraction_text, greatest_spelled, hundredths, is_written_by, magnitude_text, point_char, quantity_text, sign_text, stand_alone, unsigned_text, without_front};
-ghost use Rattle.cn_express.specs.Working.Room.{PutsCharacters, PutsIfWritten};
+ghost use Rattle.cn_express.specs.Working.Putting.{PutsCharacters, PutsIfWritten};
 ghost use Rattle.cn_express.specs.Working.Spelled.{IsSpelled};
 ghost use Rattle.cn_express.specs.Writes.{IsTooGreat, IsUnwritten, PutsQuantity, WritesQuantity};
 
 use crate::QuantityToChineseError;
 use crate::digits::{Hand, put_behind_point};
-use crate::memory::string_of;
-use crate::room::Room;
+use cn_buffer::{EndBuffer, string_of};
 use cn_core::{
     ChineseCase, ChineseCountMethod, ChineseVariant, Unit, digit_char, minus_char,
     split_first_char, unit_char,
@@ -20,7 +19,6 @@ use cn_core::{
 use cn_quantity::{Quantity, QuantityForm, are_rising_units, decimals_of, first_unit};
 use cn_spell::{NumberToChineseError, ROOM_BYTES, put_chinese};
 use std::alloc::Global;
-use std::str;
 
 /// The most bytes of a quantity in numerals: three for each character of a sign, two numbers of 39
 /// digits and 38 units, and 分之.
@@ -67,10 +65,13 @@ fn spell(
 }
 
 // Writes a magnitude, if the method writes it.
-fn put_magnitude(text: &mut Room, style: Style, number: u128) -> Result<(), NumberToChineseError>
+fn put_magnitude(
+    text: &mut EndBuffer,
+    style: Style,
+    number: u128,
+) -> Result<(), NumberToChineseError>
     requires { 231 ≤ text.old.free }
-    ensures lender { text.new.bytes.ghost_name ≡ text.old.bytes.ghost_name }
-    ensures put { PutsIfWritten (is_printable style.method (pos number)) text.old text.new
+    ensures { PutsIfWritten (is_printable style.method (pos number)) text.old text.new
         (magnitude_text style.variant style.case style.method number) 231 result }
 {
     let mut room = [0; ROOM_BYTES];
@@ -102,10 +103,13 @@ fn without_front(front: char, text: &str) -> &str
 }
 
 // Writes a divisor, if the method writes it.
-fn put_divisor(text: &mut Room, style: Style, divisor: u128) -> Result<(), NumberToChineseError>
+fn put_divisor(
+    text: &mut EndBuffer,
+    style: Style,
+    divisor: u128,
+) -> Result<(), NumberToChineseError>
     requires { 231 ≤ text.old.free }
-    ensures lender { text.new.bytes.ghost_name ≡ text.old.bytes.ghost_name }
-    ensures put { PutsIfWritten (is_printable style.method (pos divisor)) text.old text.new
+    ensures { PutsIfWritten (is_printable style.method (pos divisor)) text.old text.new
         (divisor_text style.variant style.case style.method divisor) 231 result }
 {
     let mut room = [0; ROOM_BYTES];
@@ -116,15 +120,14 @@ fn put_divisor(text: &mut Room, style: Style, divisor: u128) -> Result<(), Numbe
 
 // Writes a number whose last `decimals` digits are after the point, if the method writes it.
 fn put_with_decimals(
-    text: &mut Room,
+    text: &mut EndBuffer,
     style: Style,
     decimals: usize,
     number: u128,
 ) -> Result<(), NumberToChineseError>
     requires decimals { decimals ≤ 38 }
     requires room { 348 ≤ text.old.free }
-    ensures lender { text.new.bytes.ghost_name ≡ text.old.bytes.ghost_name }
-    ensures put { PutsIfWritten (is_printable style.method (pos (number / 10 ^ decimals)))
+    ensures { PutsIfWritten (is_printable style.method (pos (number / 10 ^ decimals)))
         text.old text.new
         (decimal_text style.variant style.case style.method decimals number) 348 result }
 {
@@ -134,14 +137,13 @@ fn put_with_decimals(
 
 // Writes a fraction, if the method writes it.
 fn put_fraction(
-    text: &mut Room,
+    text: &mut EndBuffer,
     style: Style,
     divisor: u128,
     number: u128,
 ) -> Result<(), NumberToChineseError>
     requires { 468 ≤ text.old.free }
-    ensures lender { text.new.bytes.ghost_name ≡ text.old.bytes.ghost_name }
-    ensures put { PutsIfWritten
+    ensures { PutsIfWritten
         (is_printable style.method (pos divisor) && is_printable style.method (pos number))
         text.old text.new
         (fraction_text style.variant style.case style.method divisor number) 468 result }
@@ -152,7 +154,7 @@ fn put_fraction(
 }
 
 // Writes 百分之, which begins a percentage.
-fn put_hundredths(text: &mut Room, style: Style, form: QuantityForm)
+fn put_hundredths(text: &mut EndBuffer, style: Style, form: QuantityForm)
     requires { 9 ≤ text.old.free }
     ensures { PutsCharacters text.old text.new (hundredths style.variant style.case form) 9 }
 {
@@ -164,13 +166,12 @@ fn put_hundredths(text: &mut Room, style: Style, form: QuantityForm)
 
 // Writes a quantity without its sign, if the method writes it.
 fn put_unsigned(
-    text: &mut Room,
+    text: &mut EndBuffer,
     style: Style,
     quantity: Quantity,
 ) -> Result<(), NumberToChineseError>
     requires { 468 ≤ text.old.free }
-    ensures lender { text.new.bytes.ghost_name ≡ text.old.bytes.ghost_name }
-    ensures put { PutsIfWritten (is_written_by style.method quantity) text.old text.new
+    ensures { PutsIfWritten (is_written_by style.method quantity) text.old text.new
         (unsigned_text style.variant style.case style.method quantity) 468 result }
 {
     let magnitude = quantity.numerator.unsigned_abs();
@@ -185,7 +186,7 @@ fn put_unsigned(
 }
 
 // Writes the minus sign if the numerator is below 0.
-fn put_sign(text: &mut Room, variant: ChineseVariant, numerator: i128)
+fn put_sign(text: &mut EndBuffer, variant: ChineseVariant, numerator: i128)
     requires { 3 ≤ text.old.free }
     ensures { PutsCharacters text.old text.new (sign_text variant numerator) 3 }
 {
@@ -194,22 +195,19 @@ fn put_sign(text: &mut Room, variant: ChineseVariant, numerator: i128)
     }
 }
 
-// Writes a quantity at the end of a buffer, and returns where it begins, if the method writes it.
-fn put_at_end(
-    room: &mut [u8; MOST_QUANTITY_BYTES],
+// Writes a quantity, if the method writes it.
+fn put_signed(
+    text: &mut EndBuffer,
     style: Style,
     quantity: Quantity,
-) -> Result<usize, NumberToChineseError>
-    ensures { MatchResult result (λ start. IsTrue (is_written_by style.method quantity)
-        × (drop start room.new
-        ≡ encode_utf8_all (quantity_text style.variant style.case style.method quantity))
-        × IsUtf8 (drop start room.new) × (start ≤ 471))
-        (λ _. IsFalse (is_written_by style.method quantity)) }
+) -> Result<(), NumberToChineseError>
+    requires { 471 ≤ text.old.free }
+    ensures { PutsIfWritten (is_written_by style.method quantity) text.old text.new
+        (quantity_text style.variant style.case style.method quantity) 471 result }
 {
-    let mut text = Room::new(room);
-    put_unsigned(&mut text, style, quantity)?;
-    put_sign(&mut text, style.variant, quantity.numerator);
-    Ok(text.free)
+    put_unsigned(text, style, quantity)?;
+    put_sign(text, style.variant, quantity.numerator);
+    Ok(())
 }
 
 /// The greatest number that is spelled when a quantity is written: the number before its point or,
@@ -271,8 +269,9 @@ pub fn put_quantity<'a>(
         case,
         method,
     };
-    match put_at_end(room, style, quantity) {
-        Ok(start) => Ok(unsafe { str::from_utf8_unchecked(&room[start..]) }),
+    let mut text = EndBuffer::new(room);
+    match put_signed(&mut text, style, quantity) {
+        Ok(()) => Ok(text.into_text()),
         Err(_) => Err(too_far(quantity)),
     }
 }

@@ -7,9 +7,9 @@
 #[cfg(test)]
 mod amounts;
 #[cfg(test)]
-mod calls;
+mod buffers;
 #[cfg(test)]
-mod capital_texts;
+mod calls;
 #[cfg(test)]
 mod dates;
 #[cfg(test)]

@@ -1,13 +1,12 @@
 use Rattle.std.proofs.Common.{◌++◌, decimal, refl, ap, ◌∙◌, ◌/◌, arith}
 use Rattle.std.specs.Char.{encode_utf8}
-use Rattle.cn_express.specs.Working.Room.{PutsInFront, text_in}
+use Rattle.cn_buffer.specs.Buffers.{Prepends, text_at_end}
 use Rattle.cn_express.proofs.LastFigures.{few-figures, figures-last, figures-more, figures-one, figures-step}
-use Rattle.cn_express.proofs.Rooms.{puts-text}
+use Rattle.cn_buffer.proofs.EndBuffers.{Prepends-text}
 use Rattle.cn_express.proofs.figures.put_number.Goals as goal
 
 pub loop-left-init : goal.loop-left-init
 loop-left-init c = record {
-  lender = refl;
   size = refl;
   room = let few = few-figures c.args.number c.ranges.number.fits in omega (arith, few, c.requires);
   text = refl;
@@ -25,12 +24,11 @@ loop-left-preserved c =
     let put = c.put_char.ensures in
     let more = figures-more l.left c.loop-left-test.true l.auto.left-fits.fits in
     record {
-      lender = put.lender ∙ l.invariant.lender;
       size = put.size ∙ l.invariant.size;
       room = omega (arith, put.free, c.digit.ensures.bytes, more, l.invariant.room);
       text = ap (λ text. decimal (l.left / 10) ++ text)
-          (put.text ∙ ap (λ one. encode_utf8 one ++ text_in l.text) c.digit.ensures.character)
-          ∙ figures-step l.left (text_in l.text) c.loop-left-test.true l.auto.left-fits.fits
+          (put.text ∙ ap (λ one. encode_utf8 one ++ text_at_end l.text) c.digit.ensures.character)
+          ∙ figures-step l.left (text_at_end l.text) c.loop-left-test.true l.auto.left-fits.fits
           ∙ l.invariant.text;
     }
 
@@ -42,14 +40,14 @@ put_char-requires-2 c =
 
 -- all figures of the number are written
 put-all : (c : goal.After-put_char-2)
-    → PutsInFront c.args.text.now c.put_char-2.new.self (decimal c.args.number)
+    → Prepends c.args.text.now c.put_char-2.new.self (decimal c.args.number)
 put-all c =
     let l = c.loop-left in
     let put = c.put_char-2.ensures in
-    puts-text c.args.text.now c.put_char-2.new.self (decimal c.args.number)
-    (put.lender ∙ l.invariant.lender) (put.size ∙ l.invariant.size)
-    (put.text ∙ ap (λ one. encode_utf8 one ++ text_in l.text) c.digit-2.ensures.character
-    ∙ figures-last l.left (text_in l.text) c.loop-left-test.false ∙ l.invariant.text)
+    Prepends-text c.args.text.now c.put_char-2.new.self (decimal c.args.number)
+    (put.size ∙ l.invariant.size)
+    (put.text ∙ ap (λ one. encode_utf8 one ++ text_at_end l.text) c.digit-2.ensures.character
+    ∙ figures-last l.left (text_at_end l.text) c.loop-left-test.false ∙ l.invariant.text)
 
 pub returns-clause-put : goal.returns-clause-put
 returns-clause-put c = put-all c

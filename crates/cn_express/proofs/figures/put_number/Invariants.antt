@@ -1,5 +1,5 @@
 use Rattle.std.proofs.Common.{◌≡◌, ◌≤◌, ◌++◌, decimal, length}
-use Rattle.cn_express.specs.Working.Room.{text_in}
+use Rattle.cn_buffer.specs.Buffers.{text_at_end}
 use Rattle.cn_express.proofs.figures.put_number.Given as goal
 
 abbrev pub decreases-loop-left : goal.decreases-loop-left
@@ -7,8 +7,7 @@ decreases-loop-left l = l.left
 
 abbrev pub invariant-loop-left : goal.invariant-loop-left
 invariant-loop-left l = record {
-  lender : l.text.bytes.ghost_name ≡ l.fn.text.bytes.ghost_name;
   size : length l.text.bytes.now ≡ length l.fn.text.bytes.now;
   room : length (decimal l.left) ≤ l.text.free;
-  text : decimal l.left ++ text_in l.text ≡ decimal l.fn.number ++ text_in l.fn.text;
+  text : decimal l.left ++ text_at_end l.text ≡ decimal l.fn.number ++ text_at_end l.fn.text;
 }

@@ -2,9 +2,9 @@ use Rattle.std.proofs.Common.{◌/◌, ◌++◌, decimal, subst, arith}
 use Rattle.cn_quantity.proofs.Trims.{ten-above, ten-up}
 use Rattle.cn_express.specs.Digits.{behind_point}
 use Rattle.cn_express.specs.Figures.{figure_char}
-use Rattle.cn_express.specs.Working.Room.{PutsInFront}
+use Rattle.cn_buffer.specs.Buffers.{Prepends}
 use Rattle.cn_express.proofs.LastFigures.{behind-bytes}
-use Rattle.cn_express.proofs.Rooms.{puts-two}
+use Rattle.cn_buffer.proofs.EndBuffers.{Prepends-both}
 use Rattle.cn_express.proofs.figures.put_with_decimals.Goals as goal
 
 pub pow-requires : goal.pow-requires
@@ -19,9 +19,9 @@ nonzero_div-number c =
 
 pub returns-clause-put : goal.returns-clause-put
 returns-clause-put c =
-    let behind = subst (PutsInFront c.args.text.now c.put_behind_point.new.text)
+    let behind = subst (Prepends c.args.text.now c.put_behind_point.new.text)
     (behind-bytes c.args.decimals c.args.number) c.put_behind_point.ensures.put in
-    let put = puts-two _ _ _ _ _ behind c.put_number.ensures.put in
-    subst (λ power. PutsInFront c.args.text.now c.put_number.new.text
+    let put = Prepends-both _ _ _ _ _ behind c.put_number.ensures.put in
+    subst (λ power. Prepends c.args.text.now c.put_number.new.text
     (decimal (c.args.number / power)
     ++ behind_point 46 figure_char c.args.decimals c.args.number)) c.pow.ensures put

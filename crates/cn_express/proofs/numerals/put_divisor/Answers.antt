@@ -2,8 +2,8 @@ use Rattle.std.proofs.Common.{arith}
 use Rattle.cn_express.proofs.SpelledBytes.{divisor-bytes, puts-spelled}
 use Rattle.cn_express.proofs.numerals.put_divisor.Goals as goal
 
-pub returns-clause-put : goal.returns-clause-put
-returns-clause-put c =
+pub returns : goal.returns
+returns c =
     let style = c.args.style in
     let is = c.in_ok-spelled.ensures in
     let content = divisor-bytes style.variant style.case style.method c.args.divisor _ _ _ is

@@ -10,10 +10,11 @@ use Rattle.cn_quantity.specs.contracts.quantity.QuantityForm.{the_type}
 use Rattle.cn_quantity.specs.declared.quantity.QuantityForm.{QuantityForm}
 use Rattle.cn_quantity.specs.declared.quantity.QuantityForm.TheVariants.{Whole, Decimal, Percent, Fraction}
 use Rattle.cn_express.specs.Numerals.{bar, hundredths}
-use Rattle.cn_express.specs.Working.Room.{PutsCharacters, PutsInFront}
+use Rattle.cn_buffer.specs.Buffers.{Prepends}
+use Rattle.cn_express.specs.Working.Putting.{PutsCharacters}
 use Rattle.cn_express.proofs.Bytes.{length-three}
 use Rattle.cn_express.proofs.Pieces.{bar-put, puts-bounded}
-use Rattle.cn_express.proofs.Rooms.{puts-one}
+use Rattle.cn_buffer.proofs.EndBuffers.{Prepends-character}
 use Rattle.cn_express.proofs.numerals.put_hundredths.Goals as goal
 
 of-percent : (variant : ChineseVariant) (case : ChineseCase) (form : QuantityForm)
@@ -40,9 +41,9 @@ returns-then-eq c =
     let one = unit_char style.variant style.case 2 in
     let three = length-three one (three-unit style.variant style.case Bai) in
     let behind = bar-put old mid c.put.ensures in
-    let front = subst (λ c. PutsInFront mid new (encode_utf8 c)) c.unit_char.ensures
+    let front = subst (λ c. Prepends mid new (encode_utf8 c)) c.unit_char.ensures
     c.put_char.ensures in
     subst (λ text. PutsCharacters old new text 9)
     (of-percent style.variant style.case c.args.form c.if-eq.ensures)
-    (puts-bounded old new (one ∷ bar) 9 (puts-one old mid new one bar behind.put front)
+    (puts-bounded old new (one ∷ bar) 9 (Prepends-character old mid new one bar behind.put front)
     (omega (arith, three, behind.put.free, behind.bound, front.free)))

@@ -4,9 +4,10 @@ use Rattle.std.proofs.lemmas.Int.{to_z-of_z}
 use Rattle.std.specs.Char.{encode_utf8}
 use Rattle.cn_core.specs.Characters.{minus_char}
 use Rattle.cn_spell.proofs.ThreeBytes.{three-minus}
-use Rattle.cn_express.specs.Working.Room.{PutsCharacters, PutsInFront}
+use Rattle.cn_buffer.specs.Buffers.{Prepends}
+use Rattle.cn_express.specs.Working.Putting.{PutsCharacters}
 use Rattle.cn_express.proofs.Pieces.{puts-bounded}
-use Rattle.cn_express.proofs.Rooms.{puts-nothing, puts-one}
+use Rattle.cn_buffer.proofs.EndBuffers.{Prepends-none, Prepends-character}
 use Rattle.cn_express.proofs.Bytes.{length-three}
 use Rattle.cn_express.proofs.numerals.put_sign.Goals as goal
 
@@ -24,8 +25,8 @@ returns-then-numerator-lt0 c =
     let below : int_lt c.args.numerator (pos 0) ≡ true =
     ap (λ z. int_lt z (pos 0)) (sym (to_z-of_z w128 c.args.numerator c.ranges.numerator))
     ∙ c.if-numerator-lt0.true in
-    let front = subst (λ c. PutsInFront old new (encode_utf8 c)) c.minus_char.ensures
+    let front = subst (λ c. Prepends old new (encode_utf8 c)) c.minus_char.ensures
     c.put_char.ensures in
     subst (λ b. PutsCharacters old new (if b then minus ∷ [] else []) 3) (sym below)
-    (puts-bounded old new (minus ∷ []) 3 (puts-one old old new minus [] (puts-nothing old) front)
+    (puts-bounded old new (minus ∷ []) 3 (Prepends-character old old new minus [] (Prepends-none old) front)
     (omega (arith, three, front.free)))

@@ -4,13 +4,13 @@ use mir.Val.{SFits}
 use Rattle.std.proofs.lemmas.Int.{to_z-of_z}
 use Rattle.cn_core.specs.Printing.{is_printable}
 use Rattle.cn_express.specs.Numerals.{decimal_text, fraction_text, hundredths, is_written_by}
-use Rattle.cn_express.specs.Working.Room.{PutsCharacters, PutsIfWritten}
+use Rattle.cn_express.specs.Working.Putting.{PutsCharacters, PutsIfWritten}
 use Rattle.cn_express.proofs.Pieces.{pieces, roomy, text-known, written-fraction, written-number}
 use Rattle.cn_express.proofs.numerals.put_unsigned.Goals as goal
 
-pub returns-in_ok-put_with_decimals-in-Some-clause-put :
-    goal.returns-in_ok-put_with_decimals-in-Some-clause-put
-returns-in_ok-put_with_decimals-in-Some-clause-put c =
+pub returns-in_ok-put_with_decimals-in-Some :
+    goal.returns-in_ok-put_with_decimals-in-Some
+returns-in_ok-put_with_decimals-in-Some c =
     let q = c.args.quantity in
     let style = c.args.style in
     let decimals = c.in-Some.decimals in
@@ -20,7 +20,7 @@ returns-in_ok-put_with_decimals-in-Some-clause-put c =
     let old = c.args.text.now in
     let mid = c.put_with_decimals.new.text in
     let new = c.put_hundredths.new.text in
-    let put = c.in_ok-put_with_decimals-in-Some.ensures.put in
+    let put = c.in_ok-put_with_decimals-in-Some.ensures in
     let known = text-known style.variant style.case style.method q (Some decimals)
     c.in-Some.ensures.value in
     let number = subst (λ n. PutsCharacters old mid
@@ -34,8 +34,8 @@ returns-in_ok-put_with_decimals-in-Some-clause-put c =
           (roomy old new _ 357 468 (omega arith) whole),
     )
 
-pub returns-in-None-clause-put : goal.returns-in-None-clause-put
-returns-in-None-clause-put c =
+pub returns-in-None : goal.returns-in-None
+returns-in-None c =
     let q = c.args.quantity in
     let style = c.args.style in
     let fits : SFits w128 q.numerator = search rules in
@@ -47,7 +47,7 @@ returns-in-None-clause-put c =
     let put = subst (λ n. PutsIfWritten
     (is_printable style.method (pos q.denominator) && is_printable style.method (pos n)) old new
     (fraction_text style.variant style.case style.method q.denominator n) 468
-    c.put_fraction.result) size c.put_fraction.ensures.put in
+    c.put_fraction.result) size c.put_fraction.ensures in
     subst (λ text. PutsIfWritten (is_written_by style.method q) old new text 468
     c.put_fraction.result) (sym known)
     (subst (λ written. PutsIfWritten written old new

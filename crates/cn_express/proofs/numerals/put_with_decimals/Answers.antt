@@ -2,7 +2,7 @@ use Rattle.std.proofs.Common.{◌/◌, pos, subst, arith}
 use Rattle.cn_core.specs.Printing.{is_printable}
 use Rattle.cn_quantity.proofs.Trims.{ten-above, ten-up}
 use Rattle.cn_express.specs.Numerals.{magnitude_text}
-use Rattle.cn_express.specs.Working.Room.{PutsIfWritten}
+use Rattle.cn_express.specs.Working.Putting.{PutsIfWritten}
 use Rattle.cn_express.proofs.Pieces.{pieces-if, puts-bounded}
 use Rattle.cn_express.proofs.numerals.put_with_decimals.Goals as goal
 
@@ -16,8 +16,8 @@ nonzero_div-number c =
     let some = ten-above c.args.decimals in
     omega (arith, some, c.pow.ensures)
 
-pub returns-clause-put : goal.returns-clause-put
-returns-clause-put c =
+pub returns : goal.returns
+returns c =
     let style = c.args.style in
     let mid = c.put_behind_point.new.text in
     let new = c.put_magnitude.new.text in
@@ -26,5 +26,5 @@ returns-clause-put c =
     let whole = subst (λ power. PutsIfWritten
     (is_printable style.method (pos (c.args.number / power))) mid new
     (magnitude_text style.variant style.case style.method (c.args.number / power)) 231
-    c.put_magnitude.result) c.pow.ensures c.put_magnitude.ensures.put in
+    c.put_magnitude.result) c.pow.ensures c.put_magnitude.ensures in
     pieces-if c.args.text.now mid new _ _ 117 231 _ c.put_magnitude.result behind whole

@@ -1,0 +1,3 @@
+pub mod BufferLaws
+pub mod Buffers
+pub mod Strings
