@@ -6,9 +6,7 @@ use super::Buffer;
 use std::str;
 
 // Writes bytes after the first `count` ones of a buffer if they fit, and returns the number of all.
-// It is a separate function, since a compiler turns copies of known lengths into stores, and the C
-// source of `dist/` writes to a caller's memory only by copies.
-#[inline(never)]
+#[inline(always)]
 fn put_behind(bytes: &mut [u8], count: usize, more: &[u8]) -> usize
     ensures { PutsIfTheyFit count bytes.old result bytes.new more.now }
 {
@@ -29,20 +27,32 @@ impl<'a> Buffer<'a> {
         Buffer { bytes, count: 0 }
     }
 
-    /// Writes a piece after the text that is there.
-    pub fn put(&mut self, more: &str)
+    // Writes a piece after the text that is there.
+    #[inline(always)]
+    fn write(&mut self, more: &str)
         ensures { Appends self.old self.new more.now }
     {
         self.count = put_behind(self.bytes, self.count, more.as_bytes());
     }
 
+    // This is not inlined, since a compiler turns copies of known lengths into stores, and the C
+    // source of `dist/` writes to a caller's memory only by copies.
+    /// Writes a piece after the text that is there.
+    #[inline(never)]
+    pub fn put(&mut self, more: &str)
+        ensures { Appends self.old self.new more.now }
+    {
+        self.write(more);
+    }
+
     // Same answer (4 → 5): a character has at most four bytes, so the fifth is never written.
-    /// Writes a character after the text that is there.
+    /// Writes a character after the text that is there. The buffer is not a caller's of the C
+    /// source, since this writes by stores.
     pub fn put_char(&mut self, character: char)
         ensures { Appends self.old self.new (encode_utf8 character) }
     {
         let mut room = [0; 4];
-        self.put(character.encode_utf8(&mut room));
+        self.write(character.encode_utf8(&mut room));
     }
 
     /// The text if it fits, and otherwise an empty one.

@@ -2,7 +2,7 @@ use Rattle.std.proofs.Common.{refl, sym, subst, rules}
 use Rattle.std.specs.Str.{IsUtf8}
 use Rattle.std.proofs.lemmas.Str.{IsUtf8-append, IsUtf8-had}
 use Rattle.cn_buffer.proofs.Buffers.{counted-bytes, piece-put}
-use Rattle.cn_buffer.proofs.buffer.Buffer.put.Goals as goal
+use Rattle.cn_buffer.proofs.buffer.Buffer.write.Goals as goal
 
 pub invariant_of-self-clause-utf8 : goal.invariant_of-self-clause-utf8
 invariant_of-self-clause-utf8 c =
