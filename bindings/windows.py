@@ -41,7 +41,8 @@ OF_CALL = listed(rf"(?:i32|i64|ptr) noundef {VALUE}")
 INTRINSIC = r"@llvm\.(?:trap|mem(?:cpy|move|set)|cttz|ctlz|ctpop|bswap)[\w.]*"
 STATEMENTS = (
     "alloca|load|store|getelementptr|extractvalue|insertvalue|icmp|select|phi|zext|sext|trunc|"
-    "ptrtoaddr|add|sub|mul|udiv|urem|sdiv|srem|and|or|xor|shl|lshr|ashr|br|switch|ret|unreachable"
+    "ptrtoaddr|bitcast|shufflevector|add|sub|mul|udiv|urem|sdiv|srem|and|or|xor|shl|lshr|ashr|br|"
+    "switch|ret|unreachable"
 )
 ATTRIBUTES = (
     r"alwaysinline |cold |nocallback |nofree |noinline |noreturn |nosync |nounwind |speculatable |"

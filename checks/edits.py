@@ -3,8 +3,8 @@
 
 Usage: edits.py CRATES
 
-- No two edits of a crate have the same name, and each fault in the table of docs/DESIGN.md is an
-  edit.
+- No two edits of a crate have the same name, the old text of each occurs once in its file, and each
+  fault in the table of docs/DESIGN.md is an edit.
 - Each law with premises has a worked instance that satisfies all of them: a definition of the law's
   name in a file `proofs/*Examples.antt`. A law is a function that does nothing in `src/laws.rt` or
   `src/laws/`. For laws in `signed.rt`, `typed.rt` and `typed_signed.rt` the name of the instance
@@ -58,6 +58,16 @@ def faults_of_laws(crates):
     ], wanted
 
 
+def stale_edits(crates):
+    """The edits whose old text does not occur once in its file."""
+    for crate in edit_files.crates_with_edits(crates):
+        for edit in edit_files.edits_of(crate):
+            try:
+                edit_files.applied(edit, (crate / edit.file).read_text(encoding="utf-8"))
+            except (OSError, ValueError) as fault:
+                yield f"{crate.name}: {edit.name}: {fault}"
+
+
 def faults_of_edits(crates):
     """The names that two edits of a crate share, and the faults of DESIGN that are no edits; then
     all edits."""
@@ -83,8 +93,8 @@ def main():
     crates = Path(sys.argv[1])
     wrong, edits = faults_of_edits(crates)
     missing, instances = faults_of_laws(crates)
-    if wrong + missing:
-        sys.exit("edits:\n" + "\n".join(wrong + missing))
+    if faults := [*stale_edits(crates), *wrong, *missing]:
+        sys.exit("edits:\n" + "\n".join(faults))
     print(f"edits: {len(edits)}, and {len(instances)} instances of laws that have premises")
 
 
