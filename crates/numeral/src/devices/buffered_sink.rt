@@ -2,10 +2,9 @@
 // std's buffered writer, it does not retry a write that was interrupted.
 ghost use Rattle.std.specs.Prelude.{◌≡◌, ◌↔◌, ◌+◌, ◌<◌, ◌≤◌, ◌==◌, ◌||◌, ◌&&◌, ◌++◌, [], drop, false, if◌then◌else◌, is_err, length, not, IfOk, IsTrue, OnOk, vec_capacity, vec_len};
 ghost use Rattle.std.specs.Io.KnownBytes.{Keeps, WriteAppends, append_known};
-ghost use Rattle.cn_devices.specs.declared.buffered_sink.TheConstants.{CAPACITY};
+ghost use Rattle.numeral.specs.declared.devices.buffered_sink.TheConstants.{CAPACITY};
 
-use crate::device::Sink;
-use crate::fault::DeviceFault;
+use super::{DeviceFault, Sink};
 use std::alloc::{AllocError, Global};
 
 // The most bytes that are buffered.

@@ -1,5 +1,5 @@
 -- The states of sources and sinks, and how a read changes the state of a source.
-use Rattle.cn_devices.specs.declared.device.EmptyReads.{EmptyReads}
+use Rattle.numeral.specs.declared.devices.EmptyReads.{EmptyReads}
 use Rattle.std.specs.Prelude.{◌≡◌, ◌==◌, ◌+◌, ◌%◌, ◌^◌, ◌||◌, ℕ, Bool, true, List, Option, if◌then◌else◌, MatchResult, Result}
 
 pub record SourceState : Type 0 where

@@ -1,7 +1,7 @@
 use Rattle.std.proofs.Common.{◌≡◌, ◌≤◌, ◌-◌, drop, false}
 use Rattle.std.specs.Prelude.{vec_len}
 use Rattle.std.specs.Io.KnownBytes.{Keeps, append_known}
-use Rattle.cn_devices.proofs.buffered_sink.BufferedSink.write_out.Given as goal
+use Rattle.numeral.proofs.devices.buffered_sink.BufferedSink.write_out.Given as goal
 
 abbrev pub invariant-writes : goal.invariant-writes
 invariant-writes g l =

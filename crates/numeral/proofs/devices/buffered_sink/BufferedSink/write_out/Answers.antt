@@ -1,8 +1,8 @@
 use Rattle.std.proofs.Common.{rules, ◌≡◌, drop, sym, ◌∙◌}
 use Rattle.std.proofs.Math.ListN.{drop_of_length-le}
 use Rattle.std.proofs.KnownBytes.{Keeps-refl, Keeps-trans, append_known-kept, append_known-moved}
-use Rattle.cn_devices.proofs.Buffered.{kept-same, left_after, slice_to_end}
-use Rattle.cn_devices.proofs.buffered_sink.BufferedSink.write_out.Goals as goal
+use Rattle.numeral.proofs.Buffered.{kept-same, left_after, slice_to_end}
+use Rattle.numeral.proofs.devices.buffered_sink.BufferedSink.write_out.Goals as goal
 
 pub writes-init : goal.writes-init
 writes-init g c = (c.args.self.now.within, Keeps-refl _, c.requires.works)

@@ -1,5 +1,5 @@
-use Rattle.cn_devices.proofs.Buffered.{written_through}
-use Rattle.cn_devices.proofs.buffered_sink.BufferedSinkSink.write.Goals as goal
+use Rattle.numeral.proofs.Buffered.{written_through}
+use Rattle.numeral.proofs.devices.buffered_sink.BufferedSinkSink.write.Goals as goal
 
 pub returns-then-not-try_append-clause-bytes : goal.returns-then-not-try_append-clause-bytes
 returns-then-not-try_append-clause-bytes g c =

@@ -1,9 +1,8 @@
 ghost use Rattle.std.specs.Prelude.{◌≡◌, ◌==◌, ◌<◌, ◌≤◌, ◌-◌, Some, min, length, unwrap_or, false, is_err, IfOk, OnOk};
 ghost use Rattle.std.specs.Io.KnownBytes.{ReadConsumes};
-ghost use Rattle.cn_devices.specs.Devices.{CountsRead};
+ghost use Rattle.numeral.specs.Devices.{CountsRead};
 
-use crate::device::{EmptyReads, Source};
-use crate::fault::DeviceFault;
+use super::{DeviceFault, EmptyReads, Source};
 
 /// A source that returns the bytes of a borrowed slice.
 ///
