@@ -204,179 +204,200 @@ static const u8 constants[] = {
   0x80, 0x9d, 0x20, 0x69, 0x73, 0x20, 0x6d, 0x69, 0x73, 0x73, 0x69, 0x6e,
   0x67, 0x20, 0x62, 0x65, 0x66, 0x6f, 0x72, 0x65, 0x20, 0x63, 0x68, 0x61,
   0x72, 0x61, 0x63, 0x74, 0x65, 0x72, 0x20, 0x7b, 0x70, 0x6c, 0x61, 0x63,
-  0x65, 0x7d, 0x2c, 0x20, 0xe2, 0x80, 0x9c, 0x7b, 0x74, 0x68, 0x65, 0x72,
-  0x65, 0x7d, 0xe2, 0x80, 0x9d, 0x2e, 0xe7, 0xac, 0xac, 0x7b, 0x70, 0x6c,
-  0x61, 0x63, 0x65, 0x7d, 0xe4, 0xb8, 0xaa, 0xe5, 0xad, 0x97, 0xe2, 0x80,
-  0x9c, 0x7b, 0x74, 0x68, 0x65, 0x72, 0x65, 0x7d, 0xe2, 0x80, 0x9d, 0xe5,
+  0x65, 0x7d, 0x2c, 0x20, 0x7b, 0x74, 0x68, 0x65, 0x72, 0x65, 0x7d, 0x2e,
+  0xe7, 0xac, 0xac, 0x7b, 0x70, 0x6c, 0x61, 0x63, 0x65, 0x7d, 0xe4, 0xb8,
+  0xaa, 0xe5, 0xad, 0x97, 0x7b, 0x74, 0x68, 0x65, 0x72, 0x65, 0x7d, 0xe5,
   0x89, 0x8d, 0xe7, 0xbc, 0xba, 0xe2, 0x80, 0x9c, 0x7b, 0x6e, 0x65, 0x77,
   0x7d, 0xe2, 0x80, 0x9d, 0xe3, 0x80, 0x82, 0xe7, 0xac, 0xac, 0x7b, 0x70,
-  0x6c, 0x61, 0x63, 0x65, 0x7d, 0xe5, 0x80, 0x8b, 0xe5, 0xad, 0x97, 0xe3,
-  0x80, 0x8c, 0x7b, 0x74, 0x68, 0x65, 0x72, 0x65, 0x7d, 0xe3, 0x80, 0x8d,
-  0xe5, 0x89, 0x8d, 0xe7, 0xbc, 0xba, 0xe3, 0x80, 0x8c, 0x7b, 0x6e, 0x65,
-  0x77, 0x7d, 0xe3, 0x80, 0x8d, 0xe3, 0x80, 0x82, 0xe2, 0x80, 0x9c, 0x7b,
-  0x6e, 0x65, 0x77, 0x7d, 0xe2, 0x80, 0x9d, 0x20, 0x69, 0x73, 0x20, 0x6d,
-  0x69, 0x73, 0x73, 0x69, 0x6e, 0x67, 0x20, 0x61, 0x74, 0x20, 0x74, 0x68,
-  0x65, 0x20, 0x65, 0x6e, 0x64, 0x2e, 0xe6, 0x9c, 0xab, 0xe5, 0xb0, 0xbe,
-  0xe7, 0xbc, 0xba, 0xe2, 0x80, 0x9c, 0x7b, 0x6e, 0x65, 0x77, 0x7d, 0xe2,
-  0x80, 0x9d, 0xe3, 0x80, 0x82, 0xe6, 0x9c, 0xab, 0xe5, 0xb0, 0xbe, 0xe7,
-  0xbc, 0xba, 0xe3, 0x80, 0x8c, 0x7b, 0x6e, 0x65, 0x77, 0x7d, 0xe3, 0x80,
-  0x8d, 0xe3, 0x80, 0x82, 0x43, 0x68, 0x61, 0x72, 0x61, 0x63, 0x74, 0x65,
-  0x72, 0x20, 0x7b, 0x70, 0x6c, 0x61, 0x63, 0x65, 0x7d, 0x2c, 0x20, 0xe2,
-  0x80, 0x9c, 0x7b, 0x74, 0x68, 0x65, 0x72, 0x65, 0x7d, 0xe2, 0x80, 0x9d,
+  0x6c, 0x61, 0x63, 0x65, 0x7d, 0xe5, 0x80, 0x8b, 0xe5, 0xad, 0x97, 0x7b,
+  0x74, 0x68, 0x65, 0x72, 0x65, 0x7d, 0xe5, 0x89, 0x8d, 0xe7, 0xbc, 0xba,
+  0xe3, 0x80, 0x8c, 0x7b, 0x6e, 0x65, 0x77, 0x7d, 0xe3, 0x80, 0x8d, 0xe3,
+  0x80, 0x82, 0xe2, 0x80, 0x9c, 0x7b, 0x6e, 0x65, 0x77, 0x7d, 0xe2, 0x80,
+  0x9d, 0x20, 0x69, 0x73, 0x20, 0x6d, 0x69, 0x73, 0x73, 0x69, 0x6e, 0x67,
+  0x20, 0x61, 0x74, 0x20, 0x74, 0x68, 0x65, 0x20, 0x65, 0x6e, 0x64, 0x2e,
+  0xe6, 0x9c, 0xab, 0xe5, 0xb0, 0xbe, 0xe7, 0xbc, 0xba, 0xe2, 0x80, 0x9c,
+  0x7b, 0x6e, 0x65, 0x77, 0x7d, 0xe2, 0x80, 0x9d, 0xe3, 0x80, 0x82, 0xe6,
+  0x9c, 0xab, 0xe5, 0xb0, 0xbe, 0xe7, 0xbc, 0xba, 0xe3, 0x80, 0x8c, 0x7b,
+  0x6e, 0x65, 0x77, 0x7d, 0xe3, 0x80, 0x8d, 0xe3, 0x80, 0x82, 0x43, 0x68,
+  0x61, 0x72, 0x61, 0x63, 0x74, 0x65, 0x72, 0x20, 0x7b, 0x70, 0x6c, 0x61,
+  0x63, 0x65, 0x7d, 0x2c, 0x20, 0x7b, 0x74, 0x68, 0x65, 0x72, 0x65, 0x7d,
   0x2c, 0x20, 0x73, 0x68, 0x6f, 0x75, 0x6c, 0x64, 0x20, 0x62, 0x65, 0x20,
   0xe2, 0x80, 0x9c, 0x7b, 0x6e, 0x65, 0x77, 0x7d, 0xe2, 0x80, 0x9d, 0x2e,
   0xe7, 0xac, 0xac, 0x7b, 0x70, 0x6c, 0x61, 0x63, 0x65, 0x7d, 0xe4, 0xb8,
-  0xaa, 0xe5, 0xad, 0x97, 0xe2, 0x80, 0x9c, 0x7b, 0x74, 0x68, 0x65, 0x72,
-  0x65, 0x7d, 0xe2, 0x80, 0x9d, 0xe5, 0xba, 0x94, 0xe4, 0xb8, 0xba, 0xe2,
-  0x80, 0x9c, 0x7b, 0x6e, 0x65, 0x77, 0x7d, 0xe2, 0x80, 0x9d, 0xe3, 0x80,
-  0x82, 0xe7, 0xac, 0xac, 0x7b, 0x70, 0x6c, 0x61, 0x63, 0x65, 0x7d, 0xe5,
-  0x80, 0x8b, 0xe5, 0xad, 0x97, 0xe3, 0x80, 0x8c, 0x7b, 0x74, 0x68, 0x65,
-  0x72, 0x65, 0x7d, 0xe3, 0x80, 0x8d, 0xe6, 0x87, 0x89, 0xe7, 0x82, 0xba,
+  0xaa, 0xe5, 0xad, 0x97, 0x7b, 0x74, 0x68, 0x65, 0x72, 0x65, 0x7d, 0xe5,
+  0xba, 0x94, 0xe4, 0xb8, 0xba, 0xe2, 0x80, 0x9c, 0x7b, 0x6e, 0x65, 0x77,
+  0x7d, 0xe2, 0x80, 0x9d, 0xe3, 0x80, 0x82, 0xe7, 0xac, 0xac, 0x7b, 0x70,
+  0x6c, 0x61, 0x63, 0x65, 0x7d, 0xe5, 0x80, 0x8b, 0xe5, 0xad, 0x97, 0x7b,
+  0x74, 0x68, 0x65, 0x72, 0x65, 0x7d, 0xe6, 0x87, 0x89, 0xe7, 0x82, 0xba,
   0xe3, 0x80, 0x8c, 0x7b, 0x6e, 0x65, 0x77, 0x7d, 0xe3, 0x80, 0x8d, 0xe3,
   0x80, 0x82, 0x43, 0x68, 0x61, 0x72, 0x61, 0x63, 0x74, 0x65, 0x72, 0x20,
-  0x7b, 0x70, 0x6c, 0x61, 0x63, 0x65, 0x7d, 0x2c, 0x20, 0xe2, 0x80, 0x9c,
-  0x7b, 0x74, 0x68, 0x65, 0x72, 0x65, 0x7d, 0xe2, 0x80, 0x9d, 0x2c, 0x20,
-  0x73, 0x68, 0x6f, 0x75, 0x6c, 0x64, 0x20, 0x62, 0x65, 0x20, 0x64, 0x65,
-  0x6c, 0x65, 0x74, 0x65, 0x64, 0x2e, 0xe7, 0xac, 0xac, 0x7b, 0x70, 0x6c,
-  0x61, 0x63, 0x65, 0x7d, 0xe4, 0xb8, 0xaa, 0xe5, 0xad, 0x97, 0xe2, 0x80,
-  0x9c, 0x7b, 0x74, 0x68, 0x65, 0x72, 0x65, 0x7d, 0xe2, 0x80, 0x9d, 0xe5,
+  0x7b, 0x70, 0x6c, 0x61, 0x63, 0x65, 0x7d, 0x2c, 0x20, 0x7b, 0x74, 0x68,
+  0x65, 0x72, 0x65, 0x7d, 0x2c, 0x20, 0x73, 0x68, 0x6f, 0x75, 0x6c, 0x64,
+  0x20, 0x62, 0x65, 0x20, 0x64, 0x65, 0x6c, 0x65, 0x74, 0x65, 0x64, 0x2e,
+  0xe7, 0xac, 0xac, 0x7b, 0x70, 0x6c, 0x61, 0x63, 0x65, 0x7d, 0xe4, 0xb8,
+  0xaa, 0xe5, 0xad, 0x97, 0x7b, 0x74, 0x68, 0x65, 0x72, 0x65, 0x7d, 0xe5,
   0xa4, 0x9a, 0xe4, 0xbd, 0x99, 0xef, 0xbc, 0x8c, 0xe5, 0xba, 0x94, 0xe5,
   0x88, 0xa0, 0xe5, 0x8e, 0xbb, 0xe3, 0x80, 0x82, 0xe7, 0xac, 0xac, 0x7b,
   0x70, 0x6c, 0x61, 0x63, 0x65, 0x7d, 0xe5, 0x80, 0x8b, 0xe5, 0xad, 0x97,
-  0xe3, 0x80, 0x8c, 0x7b, 0x74, 0x68, 0x65, 0x72, 0x65, 0x7d, 0xe3, 0x80,
-  0x8d, 0xe5, 0xa4, 0x9a, 0xe9, 0xa4, 0x98, 0xef, 0xbc, 0x8c, 0xe6, 0x87,
-  0x89, 0xe5, 0x88, 0xaa, 0xe5, 0x8e, 0xbb, 0xe3, 0x80, 0x82, 0x43, 0x68,
-  0x61, 0x72, 0x61, 0x63, 0x74, 0x65, 0x72, 0x20, 0x7b, 0x70, 0x6c, 0x61,
-  0x63, 0x65, 0x7d, 0x2c, 0x20, 0xe2, 0x80, 0x9c, 0x7b, 0x74, 0x68, 0x65,
-  0x72, 0x65, 0x7d, 0xe2, 0x80, 0x9d, 0x2c, 0x20, 0x69, 0x73, 0x20, 0x6e,
+  0x7b, 0x74, 0x68, 0x65, 0x72, 0x65, 0x7d, 0xe5, 0xa4, 0x9a, 0xe9, 0xa4,
+  0x98, 0xef, 0xbc, 0x8c, 0xe6, 0x87, 0x89, 0xe5, 0x88, 0xaa, 0xe5, 0x8e,
+  0xbb, 0xe3, 0x80, 0x82, 0x43, 0x68, 0x61, 0x72, 0x61, 0x63, 0x74, 0x65,
+  0x72, 0x20, 0x7b, 0x70, 0x6c, 0x61, 0x63, 0x65, 0x7d, 0x2c, 0x20, 0x7b,
+  0x74, 0x68, 0x65, 0x72, 0x65, 0x7d, 0x2c, 0x20, 0x69, 0x73, 0x20, 0x6e,
   0x6f, 0x74, 0x20, 0x61, 0x6c, 0x6c, 0x6f, 0x77, 0x65, 0x64, 0x20, 0x68,
   0x65, 0x72, 0x65, 0x2e, 0xe7, 0xac, 0xac, 0x7b, 0x70, 0x6c, 0x61, 0x63,
-  0x65, 0x7d, 0xe4, 0xb8, 0xaa, 0xe5, 0xad, 0x97, 0xe2, 0x80, 0x9c, 0x7b,
-  0x74, 0x68, 0x65, 0x72, 0x65, 0x7d, 0xe2, 0x80, 0x9d, 0xe4, 0xb8, 0x8d,
-  0xe8, 0x83, 0xbd, 0xe5, 0x86, 0x99, 0xe5, 0x9c, 0xa8, 0xe8, 0xbf, 0x99,
-  0xe9, 0x87, 0x8c, 0xe3, 0x80, 0x82, 0xe7, 0xac, 0xac, 0x7b, 0x70, 0x6c,
-  0x61, 0x63, 0x65, 0x7d, 0xe5, 0x80, 0x8b, 0xe5, 0xad, 0x97, 0xe3, 0x80,
-  0x8c, 0x7b, 0x74, 0x68, 0x65, 0x72, 0x65, 0x7d, 0xe3, 0x80, 0x8d, 0xe4,
+  0x65, 0x7d, 0xe4, 0xb8, 0xaa, 0xe5, 0xad, 0x97, 0x7b, 0x74, 0x68, 0x65,
+  0x72, 0x65, 0x7d, 0xe4, 0xb8, 0x8d, 0xe8, 0x83, 0xbd, 0xe5, 0x86, 0x99,
+  0xe5, 0x9c, 0xa8, 0xe8, 0xbf, 0x99, 0xe9, 0x87, 0x8c, 0xe3, 0x80, 0x82,
+  0xe7, 0xac, 0xac, 0x7b, 0x70, 0x6c, 0x61, 0x63, 0x65, 0x7d, 0xe5, 0x80,
+  0x8b, 0xe5, 0xad, 0x97, 0x7b, 0x74, 0x68, 0x65, 0x72, 0x65, 0x7d, 0xe4,
   0xb8, 0x8d, 0xe8, 0x83, 0xbd, 0xe5, 0xaf, 0xab, 0xe5, 0x9c, 0xa8, 0xe9,
-  0x80, 0x99, 0xe8, 0xa3, 0xa1, 0xe3, 0x80, 0x82, 0x4e, 0x6f, 0x74, 0x20,
-  0x66, 0x69, 0x6e, 0x69, 0x73, 0x68, 0x65, 0x64, 0x20, 0x79, 0x65, 0x74,
-  0x2e, 0xe8, 0xbf, 0x98, 0xe6, 0xb2, 0xa1, 0xe5, 0x86, 0x99, 0xe5, 0xae,
-  0x8c, 0xe3, 0x80, 0x82, 0xe9, 0x82, 0x84, 0xe6, 0xb2, 0x92, 0xe5, 0xaf,
-  0xab, 0xe5, 0xae, 0x8c, 0xe3, 0x80, 0x82, 0x20, 0x54, 0x68, 0x65, 0x20,
-  0x74, 0x65, 0x78, 0x74, 0x20, 0x62, 0x65, 0x66, 0x6f, 0x72, 0x65, 0x20,
-  0x69, 0x74, 0x20, 0x69, 0x73, 0x20, 0x63, 0x6f, 0x6d, 0x70, 0x6c, 0x65,
-  0x74, 0x65, 0x3a, 0x20, 0x64, 0x65, 0x6c, 0x65, 0x74, 0x65, 0x20, 0x74,
-  0x68, 0x65, 0x20, 0x72, 0x65, 0x73, 0x74, 0x20, 0x69, 0x66, 0x20, 0x69,
-  0x74, 0x20, 0x64, 0x6f, 0x65, 0x73, 0x20, 0x6e, 0x6f, 0x74, 0x20, 0x62,
-  0x65, 0x6c, 0x6f, 0x6e, 0x67, 0x20, 0x68, 0x65, 0x72, 0x65, 0x2e, 0xe5,
-  0xae, 0x83, 0xe5, 0x89, 0x8d, 0xe9, 0x9d, 0xa2, 0xe5, 0xb7, 0xb2, 0xe7,
-  0xbb, 0x8f, 0xe5, 0x86, 0x99, 0xe5, 0xae, 0x8c, 0xe6, 0x95, 0xb4, 0xef,
-  0xbc, 0x9b, 0xe5, 0x90, 0x8e, 0xe9, 0x9d, 0xa2, 0xe5, 0xa6, 0x82, 0xe6,
-  0x9e, 0x9c, 0xe5, 0xa4, 0x9a, 0xe4, 0xbd, 0x99, 0xef, 0xbc, 0x8c, 0xe8,
-  0xaf, 0xb7, 0xe5, 0x88, 0xa0, 0xe5, 0x8e, 0xbb, 0xe3, 0x80, 0x82, 0xe5,
-  0xae, 0x83, 0xe5, 0x89, 0x8d, 0xe9, 0x9d, 0xa2, 0xe5, 0xb7, 0xb2, 0xe7,
-  0xb6, 0x93, 0xe5, 0xaf, 0xab, 0xe5, 0xae, 0x8c, 0xe6, 0x95, 0xb4, 0xef,
-  0xbc, 0x9b, 0xe5, 0xbe, 0x8c, 0xe9, 0x9d, 0xa2, 0xe5, 0xa6, 0x82, 0xe6,
-  0x9e, 0x9c, 0xe5, 0xa4, 0x9a, 0xe9, 0xa4, 0x98, 0xef, 0xbc, 0x8c, 0xe8,
-  0xab, 0x8b, 0xe5, 0x88, 0xaa, 0xe5, 0x8e, 0xbb, 0xe3, 0x80, 0x82, 0x20,
-  0x41, 0x6c, 0x6c, 0x6f, 0x77, 0x65, 0x64, 0x20, 0x68, 0x65, 0x72, 0x65,
-  0x3a, 0x20, 0x7b, 0x6e, 0x65, 0x78, 0x74, 0x7d, 0x2e, 0xe8, 0xbf, 0x99,
-  0xe9, 0x87, 0x8c, 0xe5, 0x8f, 0xaf, 0xe4, 0xbb, 0xa5, 0xe5, 0x86, 0x99,
-  0xef, 0xbc, 0x9a, 0x7b, 0x6e, 0x65, 0x78, 0x74, 0x7d, 0xe3, 0x80, 0x82,
-  0xe9, 0x80, 0x99, 0xe8, 0xa3, 0xa1, 0xe5, 0x8f, 0xaf, 0xe4, 0xbb, 0xa5,
-  0xe5, 0xaf, 0xab, 0xef, 0xbc, 0x9a, 0x7b, 0x6e, 0x65, 0x78, 0x74, 0x7d,
-  0xe3, 0x80, 0x82, 0x20, 0x49, 0x74, 0x20, 0x63, 0x61, 0x6e, 0x20, 0x67,
-  0x6f, 0x20, 0x6f, 0x6e, 0x20, 0x77, 0x69, 0x74, 0x68, 0x3a, 0x20, 0x7b,
-  0x6e, 0x65, 0x78, 0x74, 0x7d, 0x2e, 0xe5, 0x90, 0x8e, 0xe9, 0x9d, 0xa2,
-  0xe5, 0x8f, 0xaf, 0xe4, 0xbb, 0xa5, 0xe5, 0x86, 0x99, 0xef, 0xbc, 0x9a,
-  0x7b, 0x6e, 0x65, 0x78, 0x74, 0x7d, 0xe3, 0x80, 0x82, 0xe5, 0xbe, 0x8c,
-  0xe9, 0x9d, 0xa2, 0xe5, 0x8f, 0xaf, 0xe4, 0xbb, 0xa5, 0xe5, 0xaf, 0xab,
-  0xef, 0xbc, 0x9a, 0x7b, 0x6e, 0x65, 0x78, 0x74, 0x7d, 0xe3, 0x80, 0x82,
-  0x20, 0x57, 0x72, 0x69, 0x74, 0x65, 0x20, 0x69, 0x74, 0x20, 0x6c, 0x69,
-  0x6b, 0x65, 0x20, 0x74, 0x68, 0x69, 0x73, 0x3a, 0x20, 0x7b, 0x65, 0x78,
-  0x61, 0x6d, 0x70, 0x6c, 0x65, 0x7d, 0x2e, 0xe5, 0x86, 0x99, 0xe6, 0xb3,
-  0x95, 0xe5, 0xa6, 0x82, 0xef, 0xbc, 0x9a, 0x7b, 0x65, 0x78, 0x61, 0x6d,
-  0x70, 0x6c, 0x65, 0x7d, 0xe3, 0x80, 0x82, 0xe5, 0xaf, 0xab, 0xe6, 0xb3,
-  0x95, 0xe5, 0xa6, 0x82, 0xef, 0xbc, 0x9a, 0x7b, 0x65, 0x78, 0x61, 0x6d,
-  0x70, 0x6c, 0x65, 0x7d, 0xe3, 0x80, 0x82, 0x20, 0x44, 0x65, 0x63, 0x69,
-  0x6d, 0x61, 0x6c, 0x73, 0x20, 0x66, 0x6f, 0x6c, 0x6c, 0x6f, 0x77, 0x20,
-  0xe2, 0x80, 0x9c, 0x2e, 0xe2, 0x80, 0x9d, 0x3b, 0x20, 0x61, 0x20, 0x63,
-  0x6f, 0x6d, 0x6d, 0x61, 0x20, 0x69, 0x73, 0x20, 0x6f, 0x6e, 0x6c, 0x79,
-  0x20, 0x62, 0x65, 0x66, 0x6f, 0x72, 0x65, 0x20, 0x65, 0x61, 0x63, 0x68,
-  0x20, 0x67, 0x72, 0x6f, 0x75, 0x70, 0x20, 0x6f, 0x66, 0x20, 0x74, 0x68,
-  0x72, 0x65, 0x65, 0x20, 0x64, 0x69, 0x67, 0x69, 0x74, 0x73, 0x3a, 0x20,
-  0x31, 0x2c, 0x34, 0x30, 0x39, 0x2e, 0x35, 0x30, 0x2e, 0xe5, 0xb0, 0x8f,
-  0xe6, 0x95, 0xb0, 0xe7, 0x82, 0xb9, 0xe7, 0x94, 0xa8, 0xe2, 0x80, 0x9c,
-  0x2e, 0xe2, 0x80, 0x9d, 0xef, 0xbc, 0x8c, 0xe9, 0x80, 0x97, 0xe5, 0x8f,
-  0xb7, 0xe5, 0x8f, 0xaa, 0xe7, 0x94, 0xa8, 0xe6, 0x9d, 0xa5, 0xe6, 0xaf,
-  0x8f, 0xe4, 0xb8, 0x89, 0xe4, 0xbd, 0x8d, 0xe5, 0x88, 0x86, 0xe4, 0xb8,
-  0x80, 0xe7, 0xbb, 0x84, 0xef, 0xbc, 0x8c, 0xe5, 0xa6, 0x82, 0x20, 0x31,
-  0x2c, 0x34, 0x30, 0x39, 0x2e, 0x35, 0x30, 0xe3, 0x80, 0x82, 0xe5, 0xb0,
-  0x8f, 0xe6, 0x95, 0xb8, 0xe9, 0xbb, 0x9e, 0xe7, 0x94, 0xa8, 0xe3, 0x80,
-  0x8c, 0x2e, 0xe3, 0x80, 0x8d, 0xef, 0xbc, 0x8c, 0xe9, 0x80, 0x97, 0xe8,
-  0x99, 0x9f, 0xe5, 0x8f, 0xaa, 0xe7, 0x94, 0xa8, 0xe4, 0xbe, 0x86, 0xe6,
-  0xaf, 0x8f, 0xe4, 0xb8, 0x89, 0xe4, 0xbd, 0x8d, 0xe5, 0x88, 0x86, 0xe4,
-  0xb8, 0x80, 0xe7, 0xb5, 0x84, 0xef, 0xbc, 0x8c, 0xe5, 0xa6, 0x82, 0x20,
-  0x31, 0x2c, 0x34, 0x30, 0x39, 0x2e, 0x35, 0x30, 0xe3, 0x80, 0x82, 0x20,
-  0x41, 0x74, 0x20, 0x6d, 0x6f, 0x73, 0x74, 0x20, 0x74, 0x77, 0x6f, 0x20,
-  0x64, 0x65, 0x63, 0x69, 0x6d, 0x61, 0x6c, 0x73, 0x20, 0x61, 0x72, 0x65,
-  0x20, 0x61, 0x6c, 0x6c, 0x6f, 0x77, 0x65, 0x64, 0x2c, 0x20, 0x6a, 0x69,
-  0x61, 0x6f, 0x20, 0x61, 0x6e, 0x64, 0x20, 0x66, 0x65, 0x6e, 0x2e, 0xe6,
-  0x9c, 0x80, 0xe5, 0xa4, 0x9a, 0xe5, 0x86, 0x99, 0xe5, 0x88, 0xb0, 0xe5,
-  0x88, 0x86, 0xef, 0xbc, 0x88, 0xe4, 0xb8, 0xa4, 0xe4, 0xbd, 0x8d, 0xe5,
-  0xb0, 0x8f, 0xe6, 0x95, 0xb0, 0xef, 0xbc, 0x89, 0xe3, 0x80, 0x82, 0xe6,
-  0x9c, 0x80, 0xe5, 0xa4, 0x9a, 0xe5, 0xaf, 0xab, 0xe5, 0x88, 0xb0, 0xe5,
-  0x88, 0x86, 0xef, 0xbc, 0x88, 0xe5, 0x85, 0xa9, 0xe4, 0xbd, 0x8d, 0xe5,
-  0xb0, 0x8f, 0xe6, 0x95, 0xb8, 0xef, 0xbc, 0x89, 0xe3, 0x80, 0x82, 0x20,
-  0x54, 0x68, 0x65, 0x20, 0x6d, 0x6f, 0x6e, 0x74, 0x68, 0x20, 0x68, 0x61,
-  0x73, 0x20, 0x6e, 0x6f, 0x20, 0x73, 0x75, 0x63, 0x68, 0x20, 0x64, 0x61,
-  0x79, 0x2e, 0xe8, 0xbf, 0x99, 0xe4, 0xb8, 0xaa, 0xe6, 0x9c, 0x88, 0xe6,
-  0xb2, 0xa1, 0xe6, 0x9c, 0x89, 0xe8, 0xbf, 0x99, 0xe4, 0xb8, 0x80, 0xe5,
-  0xa4, 0xa9, 0xe3, 0x80, 0x82, 0xe9, 0x80, 0x99, 0xe5, 0x80, 0x8b, 0xe6,
-  0x9c, 0x88, 0xe6, 0xb2, 0x92, 0xe6, 0x9c, 0x89, 0xe9, 0x80, 0x99, 0xe4,
-  0xb8, 0x80, 0xe5, 0xa4, 0xa9, 0xe3, 0x80, 0x82, 0x20, 0x54, 0x68, 0x65,
-  0x72, 0x65, 0x20, 0x69, 0x73, 0x20, 0x6e, 0x6f, 0x20, 0x73, 0x75, 0x63,
-  0x68, 0x20, 0x6d, 0x6f, 0x6e, 0x74, 0x68, 0x2e, 0xe6, 0xb2, 0xa1, 0xe6,
-  0x9c, 0x89, 0xe8, 0xbf, 0x99, 0xe4, 0xb8, 0xaa, 0xe6, 0x9c, 0x88, 0xe4,
-  0xbb, 0xbd, 0xe3, 0x80, 0x82, 0xe6, 0xb2, 0x92, 0xe6, 0x9c, 0x89, 0xe9,
-  0x80, 0x99, 0xe5, 0x80, 0x8b, 0xe6, 0x9c, 0x88, 0xe4, 0xbb, 0xbd, 0xe3,
-  0x80, 0x82, 0x20, 0x54, 0x68, 0x65, 0x20, 0x79, 0x65, 0x61, 0x72, 0x20,
-  0x69, 0x73, 0x20, 0x77, 0x72, 0x69, 0x74, 0x74, 0x65, 0x6e, 0x20, 0x64,
-  0x69, 0x67, 0x69, 0x74, 0x20, 0x62, 0x79, 0x20, 0x64, 0x69, 0x67, 0x69,
-  0x74, 0x2c, 0x20, 0x61, 0x73, 0x20, 0x69, 0x6e, 0x20, 0xe8, 0xb4, 0xb0,
-  0xe9, 0x9b, 0xb6, 0xe8, 0xb4, 0xb0, 0xe9, 0x99, 0x86, 0xe5, 0xb9, 0xb4,
-  0x2e, 0xe5, 0xb9, 0xb4, 0xe4, 0xbb, 0xbd, 0xe8, 0xa6, 0x81, 0xe9, 0x80,
-  0x90, 0xe4, 0xb8, 0xaa, 0xe5, 0x86, 0x99, 0xe6, 0x95, 0xb0, 0xe5, 0xad,
-  0x97, 0xef, 0xbc, 0x8c, 0xe5, 0xa6, 0x82, 0xe8, 0xb4, 0xb0, 0xe9, 0x9b,
-  0xb6, 0xe8, 0xb4, 0xb0, 0xe9, 0x99, 0x86, 0xe5, 0xb9, 0xb4, 0xe3, 0x80,
-  0x82, 0xe5, 0xb9, 0xb4, 0xe4, 0xbb, 0xbd, 0xe8, 0xa6, 0x81, 0xe9, 0x80,
-  0x90, 0xe5, 0x80, 0x8b, 0xe5, 0xaf, 0xab, 0xe6, 0x95, 0xb8, 0xe5, 0xad,
-  0x97, 0xef, 0xbc, 0x8c, 0xe5, 0xa6, 0x82, 0xe8, 0xb2, 0xb3, 0xe9, 0x9b,
-  0xb6, 0xe8, 0xb2, 0xb3, 0xe9, 0x99, 0xb8, 0xe5, 0xb9, 0xb4, 0xe3, 0x80,
-  0x82, 0x20, 0x41, 0x6e, 0x20, 0x61, 0x6d, 0x6f, 0x75, 0x6e, 0x74, 0x20,
-  0x62, 0x65, 0x6c, 0x6f, 0x77, 0x20, 0x7a, 0x65, 0x72, 0x6f, 0x20, 0x69,
-  0x73, 0x20, 0x6e, 0x6f, 0x74, 0x20, 0x61, 0x63, 0x63, 0x65, 0x70, 0x74,
-  0x65, 0x64, 0x20, 0x68, 0x65, 0x72, 0x65, 0x2e, 0xe8, 0xbf, 0x99, 0xe9,
-  0x87, 0x8c, 0xe4, 0xb8, 0x8d, 0xe8, 0x83, 0xbd, 0xe5, 0x86, 0x99, 0xe8,
-  0xb4, 0x9f, 0xe6, 0x95, 0xb0, 0xe9, 0x87, 0x91, 0xe9, 0xa2, 0x9d, 0xe3,
-  0x80, 0x82, 0xe9, 0x80, 0x99, 0xe8, 0xa3, 0xa1, 0xe4, 0xb8, 0x8d, 0xe8,
-  0x83, 0xbd, 0xe5, 0xaf, 0xab, 0xe8, 0xb2, 0xa0, 0xe6, 0x95, 0xb8, 0xe9,
-  0x87, 0x91, 0xe9, 0xa1, 0x8d, 0xe3, 0x80, 0x82, 0x20, 0x55, 0x6e, 0x69,
-  0x74, 0x73, 0x20, 0x61, 0x72, 0x65, 0x20, 0x77, 0x72, 0x69, 0x74, 0x74,
-  0x65, 0x6e, 0x20, 0x66, 0x72, 0x6f, 0x6d, 0x20, 0x67, 0x72, 0x65, 0x61,
-  0x74, 0x20, 0x74, 0x6f, 0x20, 0x73, 0x6d, 0x61, 0x6c, 0x6c, 0x2c, 0x20,
-  0x61, 0x73, 0x20, 0x69, 0x6e, 0x20, 0xe5, 0x8f, 0x81, 0xe4, 0xbb, 0x9f,
-  0xe8, 0x82, 0x86, 0xe4, 0xbd, 0xb0, 0x2e, 0xe5, 0x8d, 0x95, 0xe4, 0xbd,
-  0x8d, 0xe4, 0xbb, 0x8e, 0xe5, 0xa4, 0xa7, 0xe5, 0x88, 0xb0, 0xe5, 0xb0,
-  0x8f, 0xe5, 0x86, 0x99, 0xef, 0xbc, 0x8c, 0xe5, 0xa6, 0x82, 0xe5, 0x8f,
-  0x81, 0xe4, 0xbb, 0x9f, 0xe8, 0x82, 0x86, 0xe4, 0xbd, 0xb0, 0xe3, 0x80,
-  0x82, 0xe5, 0x96, 0xae, 0xe4, 0xbd, 0x8d, 0xe5, 0xbe, 0x9e, 0xe5, 0xa4,
-  0xa7, 0xe5, 0x88, 0xb0, 0xe5, 0xb0, 0x8f, 0xe5, 0xaf, 0xab, 0xef, 0xbc,
-  0x8c, 0xe5, 0xa6, 0x82, 0xe5, 0x8f, 0x83, 0xe4, 0xbb, 0x9f, 0xe8, 0x82,
-  0x86, 0xe4, 0xbd, 0xb0, 0xe3, 0x80, 0x82, 0x20, 0x41, 0x6c, 0x6c, 0x20,
-  0x64, 0x69, 0x67, 0x69, 0x74, 0x73, 0x20, 0x61, 0x6e, 0x64, 0x20, 0x75,
-  0x6e, 0x69, 0x74, 0x73, 0x20, 0x6d, 0x75, 0x73, 0x74, 0x20, 0x62, 0x65,
-  0x20, 0x63, 0x61, 0x70, 0x69, 0x74, 0x61, 0x6c, 0x73, 0x2e, 0xe5, 0x85,
+  0x80, 0x99, 0xe8, 0xa3, 0xa1, 0xe3, 0x80, 0x82, 0x4e, 0x6f, 0x74, 0x68,
+  0x69, 0x6e, 0x67, 0x20, 0x69, 0x73, 0x20, 0x77, 0x72, 0x69, 0x74, 0x74,
+  0x65, 0x6e, 0x20, 0x79, 0x65, 0x74, 0x2e, 0xe8, 0xbf, 0x98, 0xe6, 0xb2,
+  0xa1, 0xe6, 0x9c, 0x89, 0xe5, 0xa1, 0xab, 0xe5, 0x86, 0x99, 0xe3, 0x80,
+  0x82, 0xe9, 0x82, 0x84, 0xe6, 0xb2, 0x92, 0xe6, 0x9c, 0x89, 0xe5, 0xa1,
+  0xab, 0xe5, 0xaf, 0xab, 0xe3, 0x80, 0x82, 0x4e, 0x6f, 0x74, 0x20, 0x66,
+  0x69, 0x6e, 0x69, 0x73, 0x68, 0x65, 0x64, 0x20, 0x79, 0x65, 0x74, 0x2e,
+  0xe8, 0xbf, 0x98, 0xe6, 0xb2, 0xa1, 0xe5, 0x86, 0x99, 0xe5, 0xae, 0x8c,
+  0xe3, 0x80, 0x82, 0xe9, 0x82, 0x84, 0xe6, 0xb2, 0x92, 0xe5, 0xaf, 0xab,
+  0xe5, 0xae, 0x8c, 0xe3, 0x80, 0x82, 0x20, 0x54, 0x68, 0x65, 0x20, 0x74,
+  0x65, 0x78, 0x74, 0x20, 0x62, 0x65, 0x66, 0x6f, 0x72, 0x65, 0x20, 0x69,
+  0x74, 0x20, 0x69, 0x73, 0x20, 0x63, 0x6f, 0x6d, 0x70, 0x6c, 0x65, 0x74,
+  0x65, 0x3a, 0x20, 0x64, 0x65, 0x6c, 0x65, 0x74, 0x65, 0x20, 0x74, 0x68,
+  0x65, 0x20, 0x72, 0x65, 0x73, 0x74, 0x20, 0x69, 0x66, 0x20, 0x69, 0x74,
+  0x20, 0x64, 0x6f, 0x65, 0x73, 0x20, 0x6e, 0x6f, 0x74, 0x20, 0x62, 0x65,
+  0x6c, 0x6f, 0x6e, 0x67, 0x20, 0x68, 0x65, 0x72, 0x65, 0x2e, 0xe5, 0xae,
+  0x83, 0xe5, 0x89, 0x8d, 0xe9, 0x9d, 0xa2, 0xe5, 0xb7, 0xb2, 0xe7, 0xbb,
+  0x8f, 0xe5, 0x86, 0x99, 0xe5, 0xae, 0x8c, 0xe6, 0x95, 0xb4, 0xef, 0xbc,
+  0x9b, 0xe5, 0x90, 0x8e, 0xe9, 0x9d, 0xa2, 0xe5, 0xa6, 0x82, 0xe6, 0x9e,
+  0x9c, 0xe5, 0xa4, 0x9a, 0xe4, 0xbd, 0x99, 0xef, 0xbc, 0x8c, 0xe8, 0xaf,
+  0xb7, 0xe5, 0x88, 0xa0, 0xe5, 0x8e, 0xbb, 0xe3, 0x80, 0x82, 0xe5, 0xae,
+  0x83, 0xe5, 0x89, 0x8d, 0xe9, 0x9d, 0xa2, 0xe5, 0xb7, 0xb2, 0xe7, 0xb6,
+  0x93, 0xe5, 0xaf, 0xab, 0xe5, 0xae, 0x8c, 0xe6, 0x95, 0xb4, 0xef, 0xbc,
+  0x9b, 0xe5, 0xbe, 0x8c, 0xe9, 0x9d, 0xa2, 0xe5, 0xa6, 0x82, 0xe6, 0x9e,
+  0x9c, 0xe5, 0xa4, 0x9a, 0xe9, 0xa4, 0x98, 0xef, 0xbc, 0x8c, 0xe8, 0xab,
+  0x8b, 0xe5, 0x88, 0xaa, 0xe5, 0x8e, 0xbb, 0xe3, 0x80, 0x82, 0x20, 0x41,
+  0x6c, 0x6c, 0x6f, 0x77, 0x65, 0x64, 0x20, 0x68, 0x65, 0x72, 0x65, 0x3a,
+  0x20, 0x7b, 0x6e, 0x65, 0x78, 0x74, 0x7d, 0x2e, 0xe8, 0xbf, 0x99, 0xe9,
+  0x87, 0x8c, 0xe5, 0x8f, 0xaf, 0xe4, 0xbb, 0xa5, 0xe5, 0x86, 0x99, 0xef,
+  0xbc, 0x9a, 0x7b, 0x6e, 0x65, 0x78, 0x74, 0x7d, 0xe3, 0x80, 0x82, 0xe9,
+  0x80, 0x99, 0xe8, 0xa3, 0xa1, 0xe5, 0x8f, 0xaf, 0xe4, 0xbb, 0xa5, 0xe5,
+  0xaf, 0xab, 0xef, 0xbc, 0x9a, 0x7b, 0x6e, 0x65, 0x78, 0x74, 0x7d, 0xe3,
+  0x80, 0x82, 0x20, 0x49, 0x74, 0x20, 0x63, 0x61, 0x6e, 0x20, 0x62, 0x65,
+  0x67, 0x69, 0x6e, 0x20, 0x77, 0x69, 0x74, 0x68, 0x3a, 0x20, 0x7b, 0x6e,
+  0x65, 0x78, 0x74, 0x7d, 0x2e, 0xe5, 0xbc, 0x80, 0xe5, 0xa4, 0xb4, 0xe5,
+  0x8f, 0xaf, 0xe4, 0xbb, 0xa5, 0xe5, 0x86, 0x99, 0xef, 0xbc, 0x9a, 0x7b,
+  0x6e, 0x65, 0x78, 0x74, 0x7d, 0xe3, 0x80, 0x82, 0xe9, 0x96, 0x8b, 0xe9,
+  0xa0, 0xad, 0xe5, 0x8f, 0xaf, 0xe4, 0xbb, 0xa5, 0xe5, 0xaf, 0xab, 0xef,
+  0xbc, 0x9a, 0x7b, 0x6e, 0x65, 0x78, 0x74, 0x7d, 0xe3, 0x80, 0x82, 0x20,
+  0x49, 0x74, 0x20, 0x63, 0x61, 0x6e, 0x20, 0x63, 0x6f, 0x6e, 0x74, 0x69,
+  0x6e, 0x75, 0x65, 0x20, 0x77, 0x69, 0x74, 0x68, 0x3a, 0x20, 0x7b, 0x6e,
+  0x65, 0x78, 0x74, 0x7d, 0x2e, 0xe5, 0x90, 0x8e, 0xe9, 0x9d, 0xa2, 0xe5,
+  0x8f, 0xaf, 0xe4, 0xbb, 0xa5, 0xe5, 0x86, 0x99, 0xef, 0xbc, 0x9a, 0x7b,
+  0x6e, 0x65, 0x78, 0x74, 0x7d, 0xe3, 0x80, 0x82, 0xe5, 0xbe, 0x8c, 0xe9,
+  0x9d, 0xa2, 0xe5, 0x8f, 0xaf, 0xe4, 0xbb, 0xa5, 0xe5, 0xaf, 0xab, 0xef,
+  0xbc, 0x9a, 0x7b, 0x6e, 0x65, 0x78, 0x74, 0x7d, 0xe3, 0x80, 0x82, 0x20,
+  0x57, 0x72, 0x69, 0x74, 0x65, 0x20, 0x69, 0x74, 0x20, 0x6c, 0x69, 0x6b,
+  0x65, 0x20, 0x74, 0x68, 0x69, 0x73, 0x3a, 0x20, 0x7b, 0x65, 0x78, 0x61,
+  0x6d, 0x70, 0x6c, 0x65, 0x7d, 0x2e, 0xe5, 0x86, 0x99, 0xe6, 0xb3, 0x95,
+  0xe5, 0xa6, 0x82, 0xef, 0xbc, 0x9a, 0x7b, 0x65, 0x78, 0x61, 0x6d, 0x70,
+  0x6c, 0x65, 0x7d, 0xe3, 0x80, 0x82, 0xe5, 0xaf, 0xab, 0xe6, 0xb3, 0x95,
+  0xe5, 0xa6, 0x82, 0xef, 0xbc, 0x9a, 0x7b, 0x65, 0x78, 0x61, 0x6d, 0x70,
+  0x6c, 0x65, 0x7d, 0xe3, 0x80, 0x82, 0x20, 0x55, 0x73, 0x65, 0x20, 0xe2,
+  0x80, 0x9c, 0x2e, 0xe2, 0x80, 0x9d, 0x20, 0x62, 0x65, 0x66, 0x6f, 0x72,
+  0x65, 0x20, 0x64, 0x65, 0x63, 0x69, 0x6d, 0x61, 0x6c, 0x73, 0x2c, 0x20,
+  0x61, 0x6e, 0x64, 0x20, 0x61, 0x20, 0x63, 0x6f, 0x6d, 0x6d, 0x61, 0x20,
+  0x6f, 0x6e, 0x6c, 0x79, 0x20, 0x62, 0x65, 0x74, 0x77, 0x65, 0x65, 0x6e,
+  0x20, 0x67, 0x72, 0x6f, 0x75, 0x70, 0x73, 0x20, 0x6f, 0x66, 0x20, 0x74,
+  0x68, 0x72, 0x65, 0x65, 0x20, 0x64, 0x69, 0x67, 0x69, 0x74, 0x73, 0x2c,
+  0x20, 0x61, 0x73, 0x20, 0x69, 0x6e, 0x20, 0x31, 0x2c, 0x34, 0x30, 0x39,
+  0x2e, 0x35, 0x30, 0x2e, 0xe5, 0xb0, 0x8f, 0xe6, 0x95, 0xb0, 0xe7, 0x82,
+  0xb9, 0xe7, 0x94, 0xa8, 0xe2, 0x80, 0x9c, 0x2e, 0xe2, 0x80, 0x9d, 0xef,
+  0xbc, 0x8c, 0xe9, 0x80, 0x97, 0xe5, 0x8f, 0xb7, 0xe5, 0x8f, 0xaa, 0xe7,
+  0x94, 0xa8, 0xe4, 0xbd, 0x9c, 0xe5, 0x8d, 0x83, 0xe4, 0xbd, 0x8d, 0xe5,
+  0x88, 0x86, 0xe9, 0x9a, 0x94, 0xef, 0xbc, 0x8c, 0xe5, 0xa6, 0x82, 0x20,
+  0x31, 0x2c, 0x34, 0x30, 0x39, 0x2e, 0x35, 0x30, 0xe3, 0x80, 0x82, 0xe5,
+  0xb0, 0x8f, 0xe6, 0x95, 0xb8, 0xe9, 0xbb, 0x9e, 0xe7, 0x94, 0xa8, 0xe3,
+  0x80, 0x8c, 0x2e, 0xe3, 0x80, 0x8d, 0xef, 0xbc, 0x8c, 0xe9, 0x80, 0x97,
+  0xe8, 0x99, 0x9f, 0xe5, 0x8f, 0xaa, 0xe7, 0x94, 0xa8, 0xe4, 0xbd, 0x9c,
+  0xe5, 0x8d, 0x83, 0xe4, 0xbd, 0x8d, 0xe5, 0x88, 0x86, 0xe9, 0x9a, 0x94,
+  0xef, 0xbc, 0x8c, 0xe5, 0xa6, 0x82, 0x20, 0x31, 0x2c, 0x34, 0x30, 0x39,
+  0x2e, 0x35, 0x30, 0xe3, 0x80, 0x82, 0x20, 0x57, 0x72, 0x69, 0x74, 0x65,
+  0x20, 0x74, 0x68, 0x65, 0x20, 0x77, 0x68, 0x6f, 0x6c, 0x65, 0x20, 0x61,
+  0x6d, 0x6f, 0x75, 0x6e, 0x74, 0x20, 0x69, 0x6e, 0x20, 0x66, 0x69, 0x67,
+  0x75, 0x72, 0x65, 0x73, 0x2c, 0x20, 0x61, 0x73, 0x20, 0x69, 0x6e, 0x20,
+  0x31, 0x2c, 0x34, 0x30, 0x39, 0x2e, 0x35, 0x30, 0x2e, 0xe8, 0xaf, 0xb7,
+  0xe6, 0x8a, 0x8a, 0xe9, 0x87, 0x91, 0xe9, 0xa2, 0x9d, 0xe5, 0x85, 0xa8,
+  0xe9, 0x83, 0xa8, 0xe7, 0x94, 0xa8, 0xe6, 0x95, 0xb0, 0xe5, 0xad, 0x97,
+  0xe5, 0x86, 0x99, 0xe5, 0x87, 0xba, 0xef, 0xbc, 0x8c, 0xe5, 0xa6, 0x82,
+  0x20, 0x31, 0x2c, 0x34, 0x30, 0x39, 0x2e, 0x35, 0x30, 0xe3, 0x80, 0x82,
+  0xe8, 0xab, 0x8b, 0xe6, 0x8a, 0x8a, 0xe9, 0x87, 0x91, 0xe9, 0xa1, 0x8d,
+  0xe5, 0x85, 0xa8, 0xe9, 0x83, 0xa8, 0xe7, 0x94, 0xa8, 0xe6, 0x95, 0xb8,
+  0xe5, 0xad, 0x97, 0xe5, 0xaf, 0xab, 0xe5, 0x87, 0xba, 0xef, 0xbc, 0x8c,
+  0xe5, 0xa6, 0x82, 0x20, 0x31, 0x2c, 0x34, 0x30, 0x39, 0x2e, 0x35, 0x30,
+  0xe3, 0x80, 0x82, 0x20, 0x41, 0x74, 0x20, 0x6d, 0x6f, 0x73, 0x74, 0x20,
+  0x74, 0x77, 0x6f, 0x20, 0x64, 0x65, 0x63, 0x69, 0x6d, 0x61, 0x6c, 0x73,
+  0x20, 0x61, 0x72, 0x65, 0x20, 0x61, 0x6c, 0x6c, 0x6f, 0x77, 0x65, 0x64,
+  0x2c, 0x20, 0x6a, 0x69, 0x61, 0x6f, 0x20, 0x61, 0x6e, 0x64, 0x20, 0x66,
+  0x65, 0x6e, 0x2e, 0xe6, 0x9c, 0x80, 0xe5, 0xa4, 0x9a, 0xe5, 0x86, 0x99,
+  0xe5, 0x88, 0xb0, 0xe5, 0x88, 0x86, 0xef, 0xbc, 0x88, 0xe4, 0xb8, 0xa4,
+  0xe4, 0xbd, 0x8d, 0xe5, 0xb0, 0x8f, 0xe6, 0x95, 0xb0, 0xef, 0xbc, 0x89,
+  0xe3, 0x80, 0x82, 0xe6, 0x9c, 0x80, 0xe5, 0xa4, 0x9a, 0xe5, 0xaf, 0xab,
+  0xe5, 0x88, 0xb0, 0xe5, 0x88, 0x86, 0xef, 0xbc, 0x88, 0xe5, 0x85, 0xa9,
+  0xe4, 0xbd, 0x8d, 0xe5, 0xb0, 0x8f, 0xe6, 0x95, 0xb8, 0xef, 0xbc, 0x89,
+  0xe3, 0x80, 0x82, 0x20, 0x54, 0x68, 0x65, 0x20, 0x6d, 0x6f, 0x6e, 0x74,
+  0x68, 0x20, 0x68, 0x61, 0x73, 0x20, 0x6e, 0x6f, 0x20, 0x73, 0x75, 0x63,
+  0x68, 0x20, 0x64, 0x61, 0x79, 0x2e, 0xe8, 0xbf, 0x99, 0xe4, 0xb8, 0xaa,
+  0xe6, 0x9c, 0x88, 0xe6, 0xb2, 0xa1, 0xe6, 0x9c, 0x89, 0xe8, 0xbf, 0x99,
+  0xe4, 0xb8, 0x80, 0xe5, 0xa4, 0xa9, 0xe3, 0x80, 0x82, 0xe9, 0x80, 0x99,
+  0xe5, 0x80, 0x8b, 0xe6, 0x9c, 0x88, 0xe6, 0xb2, 0x92, 0xe6, 0x9c, 0x89,
+  0xe9, 0x80, 0x99, 0xe4, 0xb8, 0x80, 0xe5, 0xa4, 0xa9, 0xe3, 0x80, 0x82,
+  0x20, 0x54, 0x68, 0x65, 0x72, 0x65, 0x20, 0x69, 0x73, 0x20, 0x6e, 0x6f,
+  0x20, 0x73, 0x75, 0x63, 0x68, 0x20, 0x6d, 0x6f, 0x6e, 0x74, 0x68, 0x2e,
+  0xe6, 0xb2, 0xa1, 0xe6, 0x9c, 0x89, 0xe8, 0xbf, 0x99, 0xe4, 0xb8, 0xaa,
+  0xe6, 0x9c, 0x88, 0xe4, 0xbb, 0xbd, 0xe3, 0x80, 0x82, 0xe6, 0xb2, 0x92,
+  0xe6, 0x9c, 0x89, 0xe9, 0x80, 0x99, 0xe5, 0x80, 0x8b, 0xe6, 0x9c, 0x88,
+  0xe4, 0xbb, 0xbd, 0xe3, 0x80, 0x82, 0x20, 0x54, 0x68, 0x65, 0x20, 0x79,
+  0x65, 0x61, 0x72, 0x20, 0x69, 0x73, 0x20, 0x77, 0x72, 0x69, 0x74, 0x74,
+  0x65, 0x6e, 0x20, 0x64, 0x69, 0x67, 0x69, 0x74, 0x20, 0x62, 0x79, 0x20,
+  0x64, 0x69, 0x67, 0x69, 0x74, 0x2c, 0x20, 0x61, 0x73, 0x20, 0x69, 0x6e,
+  0x20, 0xe8, 0xb4, 0xb0, 0xe9, 0x9b, 0xb6, 0xe8, 0xb4, 0xb0, 0xe9, 0x99,
+  0x86, 0xe5, 0xb9, 0xb4, 0x2e, 0xe5, 0xb9, 0xb4, 0xe4, 0xbb, 0xbd, 0xe8,
+  0xa6, 0x81, 0xe9, 0x80, 0x90, 0xe4, 0xb8, 0xaa, 0xe5, 0x86, 0x99, 0xe6,
+  0x95, 0xb0, 0xe5, 0xad, 0x97, 0xef, 0xbc, 0x8c, 0xe5, 0xa6, 0x82, 0xe8,
+  0xb4, 0xb0, 0xe9, 0x9b, 0xb6, 0xe8, 0xb4, 0xb0, 0xe9, 0x99, 0x86, 0xe5,
+  0xb9, 0xb4, 0xe3, 0x80, 0x82, 0xe5, 0xb9, 0xb4, 0xe4, 0xbb, 0xbd, 0xe8,
+  0xa6, 0x81, 0xe9, 0x80, 0x90, 0xe5, 0x80, 0x8b, 0xe5, 0xaf, 0xab, 0xe6,
+  0x95, 0xb8, 0xe5, 0xad, 0x97, 0xef, 0xbc, 0x8c, 0xe5, 0xa6, 0x82, 0xe8,
+  0xb2, 0xb3, 0xe9, 0x9b, 0xb6, 0xe8, 0xb2, 0xb3, 0xe9, 0x99, 0xb8, 0xe5,
+  0xb9, 0xb4, 0xe3, 0x80, 0x82, 0x20, 0x41, 0x6e, 0x20, 0x61, 0x6d, 0x6f,
+  0x75, 0x6e, 0x74, 0x20, 0x62, 0x65, 0x6c, 0x6f, 0x77, 0x20, 0x7a, 0x65,
+  0x72, 0x6f, 0x20, 0x69, 0x73, 0x20, 0x6e, 0x6f, 0x74, 0x20, 0x61, 0x63,
+  0x63, 0x65, 0x70, 0x74, 0x65, 0x64, 0x20, 0x68, 0x65, 0x72, 0x65, 0x2e,
+  0xe8, 0xbf, 0x99, 0xe9, 0x87, 0x8c, 0xe4, 0xb8, 0x8d, 0xe8, 0x83, 0xbd,
+  0xe5, 0x86, 0x99, 0xe8, 0xb4, 0x9f, 0xe6, 0x95, 0xb0, 0xe9, 0x87, 0x91,
+  0xe9, 0xa2, 0x9d, 0xe3, 0x80, 0x82, 0xe9, 0x80, 0x99, 0xe8, 0xa3, 0xa1,
+  0xe4, 0xb8, 0x8d, 0xe8, 0x83, 0xbd, 0xe5, 0xaf, 0xab, 0xe8, 0xb2, 0xa0,
+  0xe6, 0x95, 0xb8, 0xe9, 0x87, 0x91, 0xe9, 0xa1, 0x8d, 0xe3, 0x80, 0x82,
+  0x20, 0x55, 0x6e, 0x69, 0x74, 0x73, 0x20, 0x61, 0x72, 0x65, 0x20, 0x77,
+  0x72, 0x69, 0x74, 0x74, 0x65, 0x6e, 0x20, 0x66, 0x72, 0x6f, 0x6d, 0x20,
+  0x67, 0x72, 0x65, 0x61, 0x74, 0x20, 0x74, 0x6f, 0x20, 0x73, 0x6d, 0x61,
+  0x6c, 0x6c, 0x2c, 0x20, 0x61, 0x73, 0x20, 0x69, 0x6e, 0x20, 0xe5, 0x8f,
+  0x81, 0xe4, 0xbb, 0x9f, 0xe8, 0x82, 0x86, 0xe4, 0xbd, 0xb0, 0x2e, 0xe5,
+  0x8d, 0x95, 0xe4, 0xbd, 0x8d, 0xe4, 0xbb, 0x8e, 0xe5, 0xa4, 0xa7, 0xe5,
+  0x88, 0xb0, 0xe5, 0xb0, 0x8f, 0xe5, 0x86, 0x99, 0xef, 0xbc, 0x8c, 0xe5,
+  0xa6, 0x82, 0xe5, 0x8f, 0x81, 0xe4, 0xbb, 0x9f, 0xe8, 0x82, 0x86, 0xe4,
+  0xbd, 0xb0, 0xe3, 0x80, 0x82, 0xe5, 0x96, 0xae, 0xe4, 0xbd, 0x8d, 0xe5,
+  0xbe, 0x9e, 0xe5, 0xa4, 0xa7, 0xe5, 0x88, 0xb0, 0xe5, 0xb0, 0x8f, 0xe5,
+  0xaf, 0xab, 0xef, 0xbc, 0x8c, 0xe5, 0xa6, 0x82, 0xe5, 0x8f, 0x83, 0xe4,
+  0xbb, 0x9f, 0xe8, 0x82, 0x86, 0xe4, 0xbd, 0xb0, 0xe3, 0x80, 0x82, 0x20,
+  0x41, 0x6c, 0x6c, 0x20, 0x64, 0x69, 0x67, 0x69, 0x74, 0x73, 0x20, 0x61,
+  0x6e, 0x64, 0x20, 0x75, 0x6e, 0x69, 0x74, 0x73, 0x20, 0x6d, 0x75, 0x73,
+  0x74, 0x20, 0x62, 0x65, 0x20, 0x77, 0x72, 0x69, 0x74, 0x74, 0x65, 0x6e,
+  0x20, 0x61, 0x73, 0x20, 0x63, 0x61, 0x70, 0x69, 0x74, 0x61, 0x6c, 0x73,
+  0x2c, 0x20, 0x73, 0x75, 0x63, 0x68, 0x20, 0x61, 0x73, 0x20, 0xe5, 0xa3,
+  0xb9, 0x20, 0x61, 0x6e, 0x64, 0x20, 0xe4, 0xbd, 0xb0, 0x2e, 0xe5, 0x85,
   0xb6, 0xe4, 0xbd, 0x99, 0xe7, 0x9a, 0x84, 0xe6, 0x95, 0xb0, 0xe5, 0xad,
   0x97, 0xe5, 0x92, 0x8c, 0xe5, 0x8d, 0x95, 0xe4, 0xbd, 0x8d, 0xe4, 0xb9,
   0x9f, 0xe9, 0x83, 0xbd, 0xe8, 0xa6, 0x81, 0xe5, 0xa4, 0xa7, 0xe5, 0x86,
@@ -385,402 +406,390 @@ static const u8 constants[] = {
   0xae, 0xe4, 0xbd, 0x8d, 0xe4, 0xb9, 0x9f, 0xe9, 0x83, 0xbd, 0xe8, 0xa6,
   0x81, 0xe5, 0xa4, 0xa7, 0xe5, 0xaf, 0xab, 0xe3, 0x80, 0x82, 0x20, 0x54,
   0x68, 0x65, 0x20, 0x73, 0x69, 0x67, 0x6e, 0x20, 0x69, 0x73, 0x20, 0x77,
-  0x72, 0x69, 0x74, 0x74, 0x65, 0x6e, 0x20, 0x66, 0x69, 0x72, 0x73, 0x74,
-  0x2e, 0xe8, 0xb4, 0x9f, 0xe5, 0x8f, 0xb7, 0xe5, 0x86, 0x99, 0xe5, 0x9c,
-  0xa8, 0xe6, 0x9c, 0x80, 0xe5, 0x89, 0x8d, 0xe9, 0x9d, 0xa2, 0xe3, 0x80,
-  0x82, 0xe8, 0xb2, 0xa0, 0xe8, 0x99, 0x9f, 0xe5, 0xaf, 0xab, 0xe5, 0x9c,
-  0xa8, 0xe6, 0x9c, 0x80, 0xe5, 0x89, 0x8d, 0xe9, 0x9d, 0xa2, 0xe3, 0x80,
-  0x82, 0x54, 0x68, 0x65, 0x20, 0x61, 0x6d, 0x6f, 0x75, 0x6e, 0x74, 0x20,
-  0x69, 0x73, 0x20, 0x74, 0x6f, 0x6f, 0x20, 0x6c, 0x61, 0x72, 0x67, 0x65,
-  0x3a, 0x20, 0x79, 0x75, 0x61, 0x6e, 0x20, 0x68, 0x61, 0x76, 0x65, 0x20,
-  0x61, 0x74, 0x20, 0x6d, 0x6f, 0x73, 0x74, 0x20, 0x31, 0x36, 0x20, 0x64,
-  0x69, 0x67, 0x69, 0x74, 0x73, 0x2e, 0xe9, 0x87, 0x91, 0xe9, 0xa2, 0x9d,
-  0xe5, 0xa4, 0xaa, 0xe5, 0xa4, 0xa7, 0xef, 0xbc, 0x8c, 0xe5, 0x85, 0x83,
-  0xe6, 0x9c, 0x80, 0xe5, 0xa4, 0x9a, 0x31, 0x36, 0xe4, 0xbd, 0x8d, 0xe3,
-  0x80, 0x82, 0xe9, 0x87, 0x91, 0xe9, 0xa1, 0x8d, 0xe5, 0xa4, 0xaa, 0xe5,
-  0xa4, 0xa7, 0xef, 0xbc, 0x8c, 0xe5, 0x85, 0x83, 0xe6, 0x9c, 0x80, 0xe5,
-  0xa4, 0x9a, 0x31, 0x36, 0xe4, 0xbd, 0x8d, 0xe3, 0x80, 0x82, 0x41, 0x20,
-  0x6e, 0x75, 0x6d, 0x62, 0x65, 0x72, 0x20, 0x69, 0x73, 0x20, 0x6d, 0x69,
-  0x73, 0x73, 0x69, 0x6e, 0x67, 0x2e, 0xe7, 0xbc, 0xba, 0xe5, 0xb0, 0x91,
-  0xe6, 0x95, 0xb0, 0xe5, 0xad, 0x97, 0xe3, 0x80, 0x82, 0xe7, 0xbc, 0xba,
-  0xe5, 0xb0, 0x91, 0xe6, 0x95, 0xb8, 0xe5, 0xad, 0x97, 0xe3, 0x80, 0x82,
-  0x54, 0x68, 0x65, 0x20, 0x6e, 0x75, 0x6d, 0x62, 0x65, 0x72, 0x20, 0x69,
-  0x73, 0x20, 0x74, 0x6f, 0x6f, 0x20, 0x6c, 0x61, 0x72, 0x67, 0x65, 0x2e,
-  0xe6, 0x95, 0xb0, 0xe5, 0xad, 0x97, 0xe5, 0xa4, 0xaa, 0xe5, 0xa4, 0xa7,
-  0xe3, 0x80, 0x82, 0xe6, 0x95, 0xb8, 0xe5, 0xad, 0x97, 0xe5, 0xa4, 0xaa,
-  0xe5, 0xa4, 0xa7, 0xe3, 0x80, 0x82, 0x54, 0x68, 0x65, 0x20, 0x6e, 0x75,
-  0x6d, 0x62, 0x65, 0x72, 0x20, 0x69, 0x73, 0x20, 0x74, 0x6f, 0x6f, 0x20,
-  0x73, 0x6d, 0x61, 0x6c, 0x6c, 0x2e, 0xe6, 0x95, 0xb0, 0xe5, 0xad, 0x97,
-  0xe5, 0xa4, 0xaa, 0xe5, 0xb0, 0x8f, 0xe3, 0x80, 0x82, 0xe6, 0x95, 0xb8,
-  0xe5, 0xad, 0x97, 0xe5, 0xa4, 0xaa, 0xe5, 0xb0, 0x8f, 0xe3, 0x80, 0x82,
-  0x41, 0x20, 0x64, 0x69, 0x67, 0x69, 0x74, 0x20, 0x69, 0x73, 0x20, 0x6d,
-  0x69, 0x73, 0x73, 0x69, 0x6e, 0x67, 0x20, 0x62, 0x65, 0x66, 0x6f, 0x72,
-  0x65, 0x20, 0x63, 0x68, 0x61, 0x72, 0x61, 0x63, 0x74, 0x65, 0x72, 0x20,
-  0x7b, 0x70, 0x6c, 0x61, 0x63, 0x65, 0x7d, 0x2c, 0x20, 0xe2, 0x80, 0x9c,
-  0x7b, 0x74, 0x68, 0x65, 0x72, 0x65, 0x7d, 0xe2, 0x80, 0x9d, 0x2e, 0xe7,
-  0xac, 0xac, 0x7b, 0x70, 0x6c, 0x61, 0x63, 0x65, 0x7d, 0xe4, 0xb8, 0xaa,
-  0xe5, 0xad, 0x97, 0xe2, 0x80, 0x9c, 0x7b, 0x74, 0x68, 0x65, 0x72, 0x65,
-  0x7d, 0xe2, 0x80, 0x9d, 0xe5, 0x89, 0x8d, 0xe7, 0xbc, 0xba, 0xe6, 0x95,
-  0xb0, 0xe5, 0xad, 0x97, 0xe3, 0x80, 0x82, 0xe7, 0xac, 0xac, 0x7b, 0x70,
-  0x6c, 0x61, 0x63, 0x65, 0x7d, 0xe5, 0x80, 0x8b, 0xe5, 0xad, 0x97, 0xe3,
-  0x80, 0x8c, 0x7b, 0x74, 0x68, 0x65, 0x72, 0x65, 0x7d, 0xe3, 0x80, 0x8d,
-  0xe5, 0x89, 0x8d, 0xe7, 0xbc, 0xba, 0xe6, 0x95, 0xb8, 0xe5, 0xad, 0x97,
-  0xe3, 0x80, 0x82, 0x43, 0x68, 0x61, 0x72, 0x61, 0x63, 0x74, 0x65, 0x72,
-  0x20, 0x7b, 0x70, 0x6c, 0x61, 0x63, 0x65, 0x7d, 0x2c, 0x20, 0xe2, 0x80,
-  0x9c, 0x7b, 0x74, 0x68, 0x65, 0x72, 0x65, 0x7d, 0xe2, 0x80, 0x9d, 0x2c,
-  0x20, 0x63, 0x61, 0x6e, 0x6e, 0x6f, 0x74, 0x20, 0x62, 0x65, 0x20, 0x70,
-  0x61, 0x72, 0x74, 0x20, 0x6f, 0x66, 0x20, 0x61, 0x20, 0x6e, 0x75, 0x6d,
-  0x65, 0x72, 0x61, 0x6c, 0x2e, 0xe7, 0xac, 0xac, 0x7b, 0x70, 0x6c, 0x61,
-  0x63, 0x65, 0x7d, 0xe4, 0xb8, 0xaa, 0xe5, 0xad, 0x97, 0xe2, 0x80, 0x9c,
-  0x7b, 0x74, 0x68, 0x65, 0x72, 0x65, 0x7d, 0xe2, 0x80, 0x9d, 0xe4, 0xb8,
-  0x8d, 0xe6, 0x98, 0xaf, 0xe6, 0x95, 0xb0, 0xe5, 0xad, 0x97, 0xe7, 0x94,
-  0xa8, 0xe5, 0xad, 0x97, 0xe3, 0x80, 0x82, 0xe7, 0xac, 0xac, 0x7b, 0x70,
-  0x6c, 0x61, 0x63, 0x65, 0x7d, 0xe5, 0x80, 0x8b, 0xe5, 0xad, 0x97, 0xe3,
-  0x80, 0x8c, 0x7b, 0x74, 0x68, 0x65, 0x72, 0x65, 0x7d, 0xe3, 0x80, 0x8d,
-  0xe4, 0xb8, 0x8d, 0xe6, 0x98, 0xaf, 0xe6, 0x95, 0xb8, 0xe5, 0xad, 0x97,
-  0xe7, 0x94, 0xa8, 0xe5, 0xad, 0x97, 0xe3, 0x80, 0x82, 0x43, 0x68, 0x61,
-  0x72, 0x61, 0x63, 0x74, 0x65, 0x72, 0x20, 0x7b, 0x70, 0x6c, 0x61, 0x63,
-  0x65, 0x7d, 0x2c, 0x20, 0xe2, 0x80, 0x9c, 0x7b, 0x74, 0x68, 0x65, 0x72,
-  0x65, 0x7d, 0xe2, 0x80, 0x9d, 0x2c, 0x20, 0x69, 0x73, 0x20, 0x6e, 0x6f,
-  0x74, 0x20, 0x61, 0x20, 0x64, 0x69, 0x67, 0x69, 0x74, 0x2e, 0xe7, 0xac,
-  0xac, 0x7b, 0x70, 0x6c, 0x61, 0x63, 0x65, 0x7d, 0xe4, 0xb8, 0xaa, 0xe5,
-  0xad, 0x97, 0xe2, 0x80, 0x9c, 0x7b, 0x74, 0x68, 0x65, 0x72, 0x65, 0x7d,
-  0xe2, 0x80, 0x9d, 0xe4, 0xb8, 0x8d, 0xe6, 0x98, 0xaf, 0xe6, 0x95, 0xb0,
-  0xe5, 0xad, 0x97, 0xe3, 0x80, 0x82, 0xe7, 0xac, 0xac, 0x7b, 0x70, 0x6c,
-  0x61, 0x63, 0x65, 0x7d, 0xe5, 0x80, 0x8b, 0xe5, 0xad, 0x97, 0xe3, 0x80,
-  0x8c, 0x7b, 0x74, 0x68, 0x65, 0x72, 0x65, 0x7d, 0xe3, 0x80, 0x8d, 0xe4,
-  0xb8, 0x8d, 0xe6, 0x98, 0xaf, 0xe6, 0x95, 0xb8, 0xe5, 0xad, 0x97, 0xe3,
-  0x80, 0x82, 0x41, 0x20, 0x75, 0x6e, 0x69, 0x74, 0x20, 0x69, 0x73, 0x20,
-  0x6d, 0x69, 0x73, 0x73, 0x69, 0x6e, 0x67, 0x20, 0x62, 0x65, 0x74, 0x77,
-  0x65, 0x65, 0x6e, 0x20, 0x63, 0x68, 0x61, 0x72, 0x61, 0x63, 0x74, 0x65,
-  0x72, 0x20, 0x7b, 0x70, 0x6c, 0x61, 0x63, 0x65, 0x7d, 0x2c, 0x20, 0xe2,
-  0x80, 0x9c, 0x7b, 0x74, 0x68, 0x65, 0x72, 0x65, 0x7d, 0xe2, 0x80, 0x9d,
-  0x2c, 0x20, 0x61, 0x6e, 0x64, 0x20, 0xe2, 0x80, 0x9c, 0x7b, 0x61, 0x66,
-  0x74, 0x65, 0x72, 0x7d, 0xe2, 0x80, 0x9d, 0x2c, 0x20, 0x6f, 0x72, 0x20,
-  0x6f, 0x6e, 0x65, 0x20, 0x6f, 0x66, 0x20, 0x74, 0x68, 0x65, 0x6d, 0x20,
-  0x69, 0x73, 0x20, 0x74, 0x6f, 0x6f, 0x20, 0x6d, 0x61, 0x6e, 0x79, 0x2e,
-  0xe7, 0xac, 0xac, 0x7b, 0x70, 0x6c, 0x61, 0x63, 0x65, 0x7d, 0xe4, 0xb8,
-  0xaa, 0xe5, 0xad, 0x97, 0xe2, 0x80, 0x9c, 0x7b, 0x74, 0x68, 0x65, 0x72,
-  0x65, 0x7d, 0xe2, 0x80, 0x9d, 0xe5, 0x92, 0x8c, 0xe5, 0x90, 0x8e, 0xe9,
-  0x9d, 0xa2, 0xe7, 0x9a, 0x84, 0xe2, 0x80, 0x9c, 0x7b, 0x61, 0x66, 0x74,
-  0x65, 0x72, 0x7d, 0xe2, 0x80, 0x9d, 0xe4, 0xb9, 0x8b, 0xe9, 0x97, 0xb4,
-  0xe7, 0xbc, 0xba, 0xe5, 0x8d, 0x95, 0xe4, 0xbd, 0x8d, 0xef, 0xbc, 0x8c,
-  0xe6, 0x88, 0x96, 0xe5, 0xa4, 0x9a, 0xe5, 0x86, 0x99, 0xe4, 0xba, 0x86,
-  0xe4, 0xb8, 0x80, 0xe4, 0xb8, 0xaa, 0xe3, 0x80, 0x82, 0xe7, 0xac, 0xac,
-  0x7b, 0x70, 0x6c, 0x61, 0x63, 0x65, 0x7d, 0xe5, 0x80, 0x8b, 0xe5, 0xad,
-  0x97, 0xe3, 0x80, 0x8c, 0x7b, 0x74, 0x68, 0x65, 0x72, 0x65, 0x7d, 0xe3,
-  0x80, 0x8d, 0xe5, 0x92, 0x8c, 0xe5, 0xbe, 0x8c, 0xe9, 0x9d, 0xa2, 0xe7,
-  0x9a, 0x84, 0xe3, 0x80, 0x8c, 0x7b, 0x61, 0x66, 0x74, 0x65, 0x72, 0x7d,
-  0xe3, 0x80, 0x8d, 0xe4, 0xb9, 0x8b, 0xe9, 0x96, 0x93, 0xe7, 0xbc, 0xba,
-  0xe5, 0x96, 0xae, 0xe4, 0xbd, 0x8d, 0xef, 0xbc, 0x8c, 0xe6, 0x88, 0x96,
-  0xe5, 0xa4, 0x9a, 0xe5, 0xaf, 0xab, 0xe4, 0xba, 0x86, 0xe4, 0xb8, 0x80,
-  0xe5, 0x80, 0x8b, 0xe3, 0x80, 0x82, 0x43, 0x68, 0x61, 0x72, 0x61, 0x63,
-  0x74, 0x65, 0x72, 0x20, 0x7b, 0x70, 0x6c, 0x61, 0x63, 0x65, 0x7d, 0x2c,
-  0x20, 0xe2, 0x80, 0x9c, 0x7b, 0x74, 0x68, 0x65, 0x72, 0x65, 0x7d, 0xe2,
-  0x80, 0x9d, 0x2c, 0x20, 0x63, 0x61, 0x6e, 0x6e, 0x6f, 0x74, 0x20, 0x62,
-  0x65, 0x20, 0x66, 0x6f, 0x6c, 0x6c, 0x6f, 0x77, 0x65, 0x64, 0x20, 0x62,
-  0x79, 0x20, 0xe2, 0x80, 0x9c, 0x7b, 0x61, 0x66, 0x74, 0x65, 0x72, 0x7d,
-  0xe2, 0x80, 0x9d, 0x3a, 0x20, 0x61, 0x20, 0x64, 0x69, 0x67, 0x69, 0x74,
-  0x20, 0x69, 0x73, 0x20, 0x6d, 0x69, 0x73, 0x73, 0x69, 0x6e, 0x67, 0x20,
-  0x62, 0x65, 0x74, 0x77, 0x65, 0x65, 0x6e, 0x20, 0x74, 0x68, 0x65, 0x6d,
-  0x2c, 0x20, 0x6f, 0x6e, 0x65, 0x20, 0x6f, 0x66, 0x20, 0x74, 0x68, 0x65,
-  0x6d, 0x20, 0x69, 0x73, 0x20, 0x74, 0x6f, 0x6f, 0x20, 0x6d, 0x61, 0x6e,
-  0x79, 0x2c, 0x20, 0x6f, 0x72, 0x20, 0x74, 0x68, 0x65, 0x69, 0x72, 0x20,
-  0x6f, 0x72, 0x64, 0x65, 0x72, 0x20, 0x69, 0x73, 0x20, 0x77, 0x72, 0x6f,
-  0x6e, 0x67, 0x2e, 0xe7, 0xac, 0xac, 0x7b, 0x70, 0x6c, 0x61, 0x63, 0x65,
-  0x7d, 0xe4, 0xb8, 0xaa, 0xe5, 0xad, 0x97, 0xe2, 0x80, 0x9c, 0x7b, 0x74,
-  0x68, 0x65, 0x72, 0x65, 0x7d, 0xe2, 0x80, 0x9d, 0xe5, 0x90, 0x8e, 0xe9,
-  0x9d, 0xa2, 0xe4, 0xb8, 0x8d, 0xe8, 0x83, 0xbd, 0xe5, 0x86, 0x99, 0xe2,
-  0x80, 0x9c, 0x7b, 0x61, 0x66, 0x74, 0x65, 0x72, 0x7d, 0xe2, 0x80, 0x9d,
-  0xef, 0xbc, 0x9a, 0xe4, 0xb8, 0xad, 0xe9, 0x97, 0xb4, 0xe7, 0xbc, 0xba,
-  0xe6, 0x95, 0xb0, 0xe5, 0xad, 0x97, 0xef, 0xbc, 0x8c, 0xe6, 0x88, 0x96,
-  0xe5, 0xa4, 0x9a, 0xe5, 0x86, 0x99, 0xe4, 0xba, 0x86, 0xe4, 0xb8, 0x80,
-  0xe4, 0xb8, 0xaa, 0xef, 0xbc, 0x8c, 0xe6, 0x88, 0x96, 0xe9, 0xa1, 0xba,
-  0xe5, 0xba, 0x8f, 0xe4, 0xb8, 0x8d, 0xe5, 0xaf, 0xb9, 0xe3, 0x80, 0x82,
-  0xe7, 0xac, 0xac, 0x7b, 0x70, 0x6c, 0x61, 0x63, 0x65, 0x7d, 0xe5, 0x80,
-  0x8b, 0xe5, 0xad, 0x97, 0xe3, 0x80, 0x8c, 0x7b, 0x74, 0x68, 0x65, 0x72,
-  0x65, 0x7d, 0xe3, 0x80, 0x8d, 0xe5, 0xbe, 0x8c, 0xe9, 0x9d, 0xa2, 0xe4,
-  0xb8, 0x8d, 0xe8, 0x83, 0xbd, 0xe5, 0xaf, 0xab, 0xe3, 0x80, 0x8c, 0x7b,
-  0x61, 0x66, 0x74, 0x65, 0x72, 0x7d, 0xe3, 0x80, 0x8d, 0xef, 0xbc, 0x9a,
-  0xe4, 0xb8, 0xad, 0xe9, 0x96, 0x93, 0xe7, 0xbc, 0xba, 0xe6, 0x95, 0xb8,
-  0xe5, 0xad, 0x97, 0xef, 0xbc, 0x8c, 0xe6, 0x88, 0x96, 0xe5, 0xa4, 0x9a,
-  0xe5, 0xaf, 0xab, 0xe4, 0xba, 0x86, 0xe4, 0xb8, 0x80, 0xe5, 0x80, 0x8b,
-  0xef, 0xbc, 0x8c, 0xe6, 0x88, 0x96, 0xe9, 0xa0, 0x86, 0xe5, 0xba, 0x8f,
-  0xe4, 0xb8, 0x8d, 0xe5, 0xb0, 0x8d, 0xe3, 0x80, 0x82, 0x43, 0x68, 0x61,
-  0x72, 0x61, 0x63, 0x74, 0x65, 0x72, 0x20, 0x7b, 0x70, 0x6c, 0x61, 0x63,
-  0x65, 0x7d, 0x2c, 0x20, 0xe2, 0x80, 0x9c, 0x7b, 0x74, 0x68, 0x65, 0x72,
-  0x65, 0x7d, 0xe2, 0x80, 0x9d, 0x2c, 0x20, 0x69, 0x73, 0x20, 0x77, 0x72,
-  0x69, 0x74, 0x74, 0x65, 0x6e, 0x20, 0x74, 0x77, 0x69, 0x63, 0x65, 0x2e,
-  0xe7, 0xac, 0xac, 0x7b, 0x70, 0x6c, 0x61, 0x63, 0x65, 0x7d, 0xe4, 0xb8,
-  0xaa, 0xe5, 0xad, 0x97, 0xe2, 0x80, 0x9c, 0x7b, 0x74, 0x68, 0x65, 0x72,
-  0x65, 0x7d, 0xe2, 0x80, 0x9d, 0xe5, 0x86, 0x99, 0xe4, 0xba, 0x86, 0xe4,
-  0xb8, 0xa4, 0xe6, 0xac, 0xa1, 0xe3, 0x80, 0x82, 0xe7, 0xac, 0xac, 0x7b,
-  0x70, 0x6c, 0x61, 0x63, 0x65, 0x7d, 0xe5, 0x80, 0x8b, 0xe5, 0xad, 0x97,
-  0xe3, 0x80, 0x8c, 0x7b, 0x74, 0x68, 0x65, 0x72, 0x65, 0x7d, 0xe3, 0x80,
-  0x8d, 0xe5, 0xaf, 0xab, 0xe4, 0xba, 0x86, 0xe5, 0x85, 0xa9, 0xe6, 0xac,
-  0xa1, 0xe3, 0x80, 0x82, 0x43, 0x68, 0x61, 0x72, 0x61, 0x63, 0x74, 0x65,
-  0x72, 0x20, 0x7b, 0x70, 0x6c, 0x61, 0x63, 0x65, 0x7d, 0x2c, 0x20, 0xe2,
-  0x80, 0x9c, 0x7b, 0x74, 0x68, 0x65, 0x72, 0x65, 0x7d, 0xe2, 0x80, 0x9d,
-  0x2c, 0x20, 0x69, 0x73, 0x20, 0x6f, 0x6e, 0x6c, 0x79, 0x20, 0x61, 0x6c,
-  0x6c, 0x6f, 0x77, 0x65, 0x64, 0x20, 0x62, 0x65, 0x66, 0x6f, 0x72, 0x65,
-  0x20, 0x61, 0x20, 0x67, 0x72, 0x65, 0x61, 0x74, 0x65, 0x72, 0x20, 0x75,
-  0x6e, 0x69, 0x74, 0x2c, 0x20, 0x61, 0x73, 0x20, 0x69, 0x6e, 0x20, 0xe4,
-  0xb8, 0x89, 0xe4, 0xb8, 0xaa, 0xe4, 0xba, 0xbf, 0x2e, 0xe7, 0xac, 0xac,
-  0x7b, 0x70, 0x6c, 0x61, 0x63, 0x65, 0x7d, 0xe4, 0xb8, 0xaa, 0xe5, 0xad,
-  0x97, 0xe2, 0x80, 0x9c, 0x7b, 0x74, 0x68, 0x65, 0x72, 0x65, 0x7d, 0xe2,
-  0x80, 0x9d, 0xe5, 0x90, 0x8e, 0xe9, 0x9d, 0xa2, 0xe8, 0xa6, 0x81, 0xe5,
-  0x86, 0x99, 0xe6, 0x9b, 0xb4, 0xe5, 0xa4, 0xa7, 0xe7, 0x9a, 0x84, 0xe5,
-  0x8d, 0x95, 0xe4, 0xbd, 0x8d, 0xef, 0xbc, 0x8c, 0xe5, 0xa6, 0x82, 0xe2,
-  0x80, 0x9c, 0xe4, 0xb8, 0x89, 0xe4, 0xb8, 0xaa, 0xe4, 0xba, 0xbf, 0xe2,
-  0x80, 0x9d, 0xe3, 0x80, 0x82, 0xe7, 0xac, 0xac, 0x7b, 0x70, 0x6c, 0x61,
-  0x63, 0x65, 0x7d, 0xe5, 0x80, 0x8b, 0xe5, 0xad, 0x97, 0xe3, 0x80, 0x8c,
-  0x7b, 0x74, 0x68, 0x65, 0x72, 0x65, 0x7d, 0xe3, 0x80, 0x8d, 0xe5, 0xbe,
-  0x8c, 0xe9, 0x9d, 0xa2, 0xe8, 0xa6, 0x81, 0xe5, 0xaf, 0xab, 0xe6, 0x9b,
-  0xb4, 0xe5, 0xa4, 0xa7, 0xe7, 0x9a, 0x84, 0xe5, 0x96, 0xae, 0xe4, 0xbd,
-  0x8d, 0xef, 0xbc, 0x8c, 0xe5, 0xa6, 0x82, 0xe3, 0x80, 0x8c, 0xe4, 0xb8,
-  0x89, 0xe5, 0x80, 0x8b, 0xe5, 0x84, 0x84, 0xe3, 0x80, 0x8d, 0xe3, 0x80,
-  0x82, 0x41, 0x66, 0x74, 0x65, 0x72, 0x20, 0x63, 0x68, 0x61, 0x72, 0x61,
-  0x63, 0x74, 0x65, 0x72, 0x20, 0x7b, 0x70, 0x6c, 0x61, 0x63, 0x65, 0x7d,
-  0x2c, 0x20, 0xe2, 0x80, 0x9c, 0x7b, 0x74, 0x68, 0x65, 0x72, 0x65, 0x7d,
-  0xe2, 0x80, 0x9d, 0x2c, 0x20, 0x74, 0x68, 0x65, 0x20, 0x73, 0x61, 0x6d,
-  0x65, 0x20, 0x75, 0x6e, 0x69, 0x74, 0x20, 0x69, 0x73, 0x20, 0x77, 0x72,
-  0x69, 0x74, 0x74, 0x65, 0x6e, 0x20, 0x61, 0x67, 0x61, 0x69, 0x6e, 0x2e,
-  0xe7, 0xac, 0xac, 0x7b, 0x70, 0x6c, 0x61, 0x63, 0x65, 0x7d, 0xe4, 0xb8,
-  0xaa, 0xe5, 0xad, 0x97, 0xe2, 0x80, 0x9c, 0x7b, 0x74, 0x68, 0x65, 0x72,
-  0x65, 0x7d, 0xe2, 0x80, 0x9d, 0xe5, 0x90, 0x8e, 0xe9, 0x9d, 0xa2, 0xe5,
-  0x8f, 0x88, 0xe5, 0x86, 0x99, 0xe4, 0xba, 0x86, 0xe5, 0x90, 0x8c, 0xe6,
-  0xa0, 0xb7, 0xe7, 0x9a, 0x84, 0xe5, 0x8d, 0x95, 0xe4, 0xbd, 0x8d, 0xe3,
-  0x80, 0x82, 0xe7, 0xac, 0xac, 0x7b, 0x70, 0x6c, 0x61, 0x63, 0x65, 0x7d,
-  0xe5, 0x80, 0x8b, 0xe5, 0xad, 0x97, 0xe3, 0x80, 0x8c, 0x7b, 0x74, 0x68,
-  0x65, 0x72, 0x65, 0x7d, 0xe3, 0x80, 0x8d, 0xe5, 0xbe, 0x8c, 0xe9, 0x9d,
-  0xa2, 0xe5, 0x8f, 0x88, 0xe5, 0xaf, 0xab, 0xe4, 0xba, 0x86, 0xe5, 0x90,
-  0x8c, 0xe6, 0xa8, 0xa3, 0xe7, 0x9a, 0x84, 0xe5, 0x96, 0xae, 0xe4, 0xbd,
-  0x8d, 0xe3, 0x80, 0x82, 0xe2, 0x80, 0x9c, 0xe4, 0xb8, 0x80, 0xe2, 0x80,
-  0x9d, 0x20, 0x69, 0x73, 0x20, 0x6d, 0x69, 0x73, 0x73, 0x69, 0x6e, 0x67,
-  0x20, 0x62, 0x65, 0x66, 0x6f, 0x72, 0x65, 0x20, 0x63, 0x68, 0x61, 0x72,
-  0x61, 0x63, 0x74, 0x65, 0x72, 0x20, 0x7b, 0x70, 0x6c, 0x61, 0x63, 0x65,
-  0x7d, 0x2c, 0x20, 0xe2, 0x80, 0x9c, 0x7b, 0x74, 0x68, 0x65, 0x72, 0x65,
-  0x7d, 0xe2, 0x80, 0x9d, 0x2e, 0xe7, 0xac, 0xac, 0x7b, 0x70, 0x6c, 0x61,
-  0x63, 0x65, 0x7d, 0xe4, 0xb8, 0xaa, 0xe5, 0xad, 0x97, 0xe2, 0x80, 0x9c,
-  0x7b, 0x74, 0x68, 0x65, 0x72, 0x65, 0x7d, 0xe2, 0x80, 0x9d, 0xe5, 0x89,
-  0x8d, 0xe7, 0xbc, 0xba, 0xe2, 0x80, 0x9c, 0xe4, 0xb8, 0x80, 0xe2, 0x80,
-  0x9d, 0xe3, 0x80, 0x82, 0xe7, 0xac, 0xac, 0x7b, 0x70, 0x6c, 0x61, 0x63,
-  0x65, 0x7d, 0xe5, 0x80, 0x8b, 0xe5, 0xad, 0x97, 0xe3, 0x80, 0x8c, 0x7b,
-  0x74, 0x68, 0x65, 0x72, 0x65, 0x7d, 0xe3, 0x80, 0x8d, 0xe5, 0x89, 0x8d,
-  0xe7, 0xbc, 0xba, 0xe3, 0x80, 0x8c, 0xe4, 0xb8, 0x80, 0xe3, 0x80, 0x8d,
-  0xe3, 0x80, 0x82, 0x43, 0x68, 0x61, 0x72, 0x61, 0x63, 0x74, 0x65, 0x72,
-  0x20, 0x7b, 0x70, 0x6c, 0x61, 0x63, 0x65, 0x7d, 0x2c, 0x20, 0xe2, 0x80,
-  0x9c, 0x7b, 0x74, 0x68, 0x65, 0x72, 0x65, 0x7d, 0xe2, 0x80, 0x9d, 0x2c,
-  0x20, 0x63, 0x61, 0x6e, 0x6e, 0x6f, 0x74, 0x20, 0x66, 0x6f, 0x6c, 0x6c,
-  0x6f, 0x77, 0x20, 0xe5, 0x8d, 0x81, 0x2e, 0xe7, 0xac, 0xac, 0x7b, 0x70,
-  0x6c, 0x61, 0x63, 0x65, 0x7d, 0xe4, 0xb8, 0xaa, 0xe5, 0xad, 0x97, 0xe2,
-  0x80, 0x9c, 0x7b, 0x74, 0x68, 0x65, 0x72, 0x65, 0x7d, 0xe2, 0x80, 0x9d,
-  0xe4, 0xb8, 0x8d, 0xe8, 0x83, 0xbd, 0xe5, 0x86, 0x99, 0xe5, 0x9c, 0xa8,
-  0xe2, 0x80, 0x9c, 0xe5, 0x8d, 0x81, 0xe2, 0x80, 0x9d, 0xe5, 0x90, 0x8e,
-  0xe9, 0x9d, 0xa2, 0xe3, 0x80, 0x82, 0xe7, 0xac, 0xac, 0x7b, 0x70, 0x6c,
-  0x61, 0x63, 0x65, 0x7d, 0xe5, 0x80, 0x8b, 0xe5, 0xad, 0x97, 0xe3, 0x80,
-  0x8c, 0x7b, 0x74, 0x68, 0x65, 0x72, 0x65, 0x7d, 0xe3, 0x80, 0x8d, 0xe4,
-  0xb8, 0x8d, 0xe8, 0x83, 0xbd, 0xe5, 0xaf, 0xab, 0xe5, 0x9c, 0xa8, 0xe3,
-  0x80, 0x8c, 0xe5, 0x8d, 0x81, 0xe3, 0x80, 0x8d, 0xe5, 0xbe, 0x8c, 0xe9,
-  0x9d, 0xa2, 0xe3, 0x80, 0x82, 0x43, 0x68, 0x61, 0x72, 0x61, 0x63, 0x74,
-  0x65, 0x72, 0x20, 0x7b, 0x70, 0x6c, 0x61, 0x63, 0x65, 0x7d, 0x2c, 0x20,
-  0xe2, 0x80, 0x9c, 0x7b, 0x74, 0x68, 0x65, 0x72, 0x65, 0x7d, 0xe2, 0x80,
-  0x9d, 0x2c, 0x20, 0x63, 0x61, 0x6e, 0x6e, 0x6f, 0x74, 0x20, 0x62, 0x65,
-  0x20, 0x61, 0x66, 0x74, 0x65, 0x72, 0x20, 0xe9, 0x9b, 0xb6, 0x3a, 0x20,
-  0x61, 0x20, 0x64, 0x69, 0x67, 0x69, 0x74, 0x20, 0x69, 0x73, 0x20, 0x6d,
-  0x69, 0x73, 0x73, 0x69, 0x6e, 0x67, 0x20, 0x62, 0x65, 0x74, 0x77, 0x65,
-  0x65, 0x6e, 0x20, 0x74, 0x68, 0x65, 0x6d, 0x2e, 0xe7, 0xac, 0xac, 0x7b,
-  0x70, 0x6c, 0x61, 0x63, 0x65, 0x7d, 0xe4, 0xb8, 0xaa, 0xe5, 0xad, 0x97,
-  0xe2, 0x80, 0x9c, 0x7b, 0x74, 0x68, 0x65, 0x72, 0x65, 0x7d, 0xe2, 0x80,
-  0x9d, 0xe4, 0xb8, 0x8d, 0xe8, 0x83, 0xbd, 0xe5, 0x86, 0x99, 0xe5, 0x9c,
-  0xa8, 0xe2, 0x80, 0x9c, 0xe9, 0x9b, 0xb6, 0xe2, 0x80, 0x9d, 0xe5, 0x90,
-  0x8e, 0xe9, 0x9d, 0xa2, 0xef, 0xbc, 0x8c, 0xe4, 0xb8, 0xad, 0xe9, 0x97,
-  0xb4, 0xe7, 0xbc, 0xba, 0xe6, 0x95, 0xb0, 0xe5, 0xad, 0x97, 0xe3, 0x80,
-  0x82, 0xe7, 0xac, 0xac, 0x7b, 0x70, 0x6c, 0x61, 0x63, 0x65, 0x7d, 0xe5,
-  0x80, 0x8b, 0xe5, 0xad, 0x97, 0xe3, 0x80, 0x8c, 0x7b, 0x74, 0x68, 0x65,
-  0x72, 0x65, 0x7d, 0xe3, 0x80, 0x8d, 0xe4, 0xb8, 0x8d, 0xe8, 0x83, 0xbd,
-  0xe5, 0xaf, 0xab, 0xe5, 0x9c, 0xa8, 0xe3, 0x80, 0x8c, 0xe9, 0x9b, 0xb6,
-  0xe3, 0x80, 0x8d, 0xe5, 0xbe, 0x8c, 0xe9, 0x9d, 0xa2, 0xef, 0xbc, 0x8c,
-  0xe4, 0xb8, 0xad, 0xe9, 0x96, 0x93, 0xe7, 0xbc, 0xba, 0xe6, 0x95, 0xb8,
-  0xe5, 0xad, 0x97, 0xe3, 0x80, 0x82, 0x43, 0x68, 0x61, 0x72, 0x61, 0x63,
-  0x74, 0x65, 0x72, 0x20, 0x7b, 0x70, 0x6c, 0x61, 0x63, 0x65, 0x7d, 0x2c,
-  0x20, 0xe2, 0x80, 0x9c, 0x7b, 0x74, 0x68, 0x65, 0x72, 0x65, 0x7d, 0xe2,
-  0x80, 0x9d, 0x2c, 0x20, 0x69, 0x73, 0x20, 0x61, 0x20, 0x75, 0x6e, 0x69,
-  0x74, 0x20, 0x6f, 0x66, 0x20, 0x77, 0x65, 0x69, 0x67, 0x68, 0x74, 0x20,
-  0x68, 0x65, 0x72, 0x65, 0x2c, 0x20, 0x6e, 0x6f, 0x74, 0x20, 0x61, 0x20,
-  0x6e, 0x75, 0x6d, 0x62, 0x65, 0x72, 0x2e, 0xe7, 0xac, 0xac, 0x7b, 0x70,
-  0x6c, 0x61, 0x63, 0x65, 0x7d, 0xe4, 0xb8, 0xaa, 0xe5, 0xad, 0x97, 0xe2,
-  0x80, 0x9c, 0x7b, 0x74, 0x68, 0x65, 0x72, 0x65, 0x7d, 0xe2, 0x80, 0x9d,
-  0xe5, 0x9c, 0xa8, 0xe8, 0xbf, 0x99, 0xe9, 0x87, 0x8c, 0xe6, 0x98, 0xaf,
-  0xe9, 0x87, 0x8d, 0xe9, 0x87, 0x8f, 0xe5, 0x8d, 0x95, 0xe4, 0xbd, 0x8d,
-  0xef, 0xbc, 0x8c, 0xe4, 0xb8, 0x8d, 0xe6, 0x98, 0xaf, 0xe6, 0x95, 0xb0,
-  0xe5, 0xad, 0x97, 0xe3, 0x80, 0x82, 0xe7, 0xac, 0xac, 0x7b, 0x70, 0x6c,
-  0x61, 0x63, 0x65, 0x7d, 0xe5, 0x80, 0x8b, 0xe5, 0xad, 0x97, 0xe3, 0x80,
-  0x8c, 0x7b, 0x74, 0x68, 0x65, 0x72, 0x65, 0x7d, 0xe3, 0x80, 0x8d, 0xe5,
-  0x9c, 0xa8, 0xe9, 0x80, 0x99, 0xe8, 0xa3, 0xa1, 0xe6, 0x98, 0xaf, 0xe9,
-  0x87, 0x8d, 0xe9, 0x87, 0x8f, 0xe5, 0x96, 0xae, 0xe4, 0xbd, 0x8d, 0xef,
-  0xbc, 0x8c, 0xe4, 0xb8, 0x8d, 0xe6, 0x98, 0xaf, 0xe6, 0x95, 0xb8, 0xe5,
-  0xad, 0x97, 0xe3, 0x80, 0x82, 0x54, 0x68, 0x65, 0x20, 0x6e, 0x75, 0x6d,
-  0x62, 0x65, 0x72, 0x20, 0x62, 0x65, 0x66, 0x6f, 0x72, 0x65, 0x20, 0x63,
-  0x68, 0x61, 0x72, 0x61, 0x63, 0x74, 0x65, 0x72, 0x20, 0x7b, 0x70, 0x6c,
-  0x61, 0x63, 0x65, 0x7d, 0x2c, 0x20, 0xe2, 0x80, 0x9c, 0x7b, 0x74, 0x68,
-  0x65, 0x72, 0x65, 0x7d, 0xe2, 0x80, 0x9d, 0x2c, 0x20, 0x63, 0x61, 0x6e,
-  0x20, 0x62, 0x65, 0x20, 0x72, 0x65, 0x61, 0x64, 0x20, 0x69, 0x6e, 0x20,
-  0x74, 0x77, 0x6f, 0x20, 0x77, 0x61, 0x79, 0x73, 0x3a, 0x20, 0x61, 0x64,
-  0x64, 0x20, 0x61, 0x20, 0x75, 0x6e, 0x69, 0x74, 0x20, 0x6f, 0x72, 0x20,
-  0xe9, 0x9b, 0xb6, 0x2c, 0x20, 0x61, 0x73, 0x20, 0x69, 0x6e, 0x20, 0xe4,
-  0xb8, 0x80, 0xe7, 0x99, 0xbe, 0xe4, 0xba, 0x94, 0xe5, 0x8d, 0x81, 0xe4,
-  0xb8, 0x87, 0x20, 0x6f, 0x72, 0x20, 0xe4, 0xb8, 0x80, 0xe7, 0x99, 0xbe,
-  0xe9, 0x9b, 0xb6, 0xe4, 0xba, 0x94, 0xe4, 0xb8, 0x87, 0x2e, 0xe7, 0xac,
-  0xac, 0x7b, 0x70, 0x6c, 0x61, 0x63, 0x65, 0x7d, 0xe4, 0xb8, 0xaa, 0xe5,
-  0xad, 0x97, 0xe2, 0x80, 0x9c, 0x7b, 0x74, 0x68, 0x65, 0x72, 0x65, 0x7d,
-  0xe2, 0x80, 0x9d, 0xe5, 0x89, 0x8d, 0xe9, 0x9d, 0xa2, 0xe7, 0x9a, 0x84,
-  0xe6, 0x95, 0xb0, 0xe6, 0x9c, 0x89, 0xe4, 0xb8, 0xa4, 0xe7, 0xa7, 0x8d,
-  0xe8, 0xaf, 0xbb, 0xe6, 0xb3, 0x95, 0xef, 0xbc, 0x9a, 0xe8, 0xaf, 0xb7,
-  0xe8, 0xa1, 0xa5, 0xe4, 0xb8, 0x8a, 0xe5, 0x8d, 0x95, 0xe4, 0xbd, 0x8d,
-  0xe6, 0x88, 0x96, 0xe2, 0x80, 0x9c, 0xe9, 0x9b, 0xb6, 0xe2, 0x80, 0x9d,
-  0xef, 0xbc, 0x8c, 0xe5, 0xa6, 0x82, 0xe4, 0xb8, 0x80, 0xe7, 0x99, 0xbe,
-  0xe4, 0xba, 0x94, 0xe5, 0x8d, 0x81, 0xe4, 0xb8, 0x87, 0xe3, 0x80, 0x81,
-  0xe4, 0xb8, 0x80, 0xe7, 0x99, 0xbe, 0xe9, 0x9b, 0xb6, 0xe4, 0xba, 0x94,
-  0xe4, 0xb8, 0x87, 0xe3, 0x80, 0x82, 0xe7, 0xac, 0xac, 0x7b, 0x70, 0x6c,
-  0x61, 0x63, 0x65, 0x7d, 0xe5, 0x80, 0x8b, 0xe5, 0xad, 0x97, 0xe3, 0x80,
-  0x8c, 0x7b, 0x74, 0x68, 0x65, 0x72, 0x65, 0x7d, 0xe3, 0x80, 0x8d, 0xe5,
-  0x89, 0x8d, 0xe9, 0x9d, 0xa2, 0xe7, 0x9a, 0x84, 0xe6, 0x95, 0xb8, 0xe6,
-  0x9c, 0x89, 0xe5, 0x85, 0xa9, 0xe7, 0xa8, 0xae, 0xe8, 0xae, 0x80, 0xe6,
-  0xb3, 0x95, 0xef, 0xbc, 0x9a, 0xe8, 0xab, 0x8b, 0xe8, 0xa3, 0x9c, 0xe4,
-  0xb8, 0x8a, 0xe5, 0x96, 0xae, 0xe4, 0xbd, 0x8d, 0xe6, 0x88, 0x96, 0xe3,
-  0x80, 0x8c, 0xe9, 0x9b, 0xb6, 0xe3, 0x80, 0x8d, 0xef, 0xbc, 0x8c, 0xe5,
-  0xa6, 0x82, 0xe4, 0xb8, 0x80, 0xe7, 0x99, 0xbe, 0xe4, 0xba, 0x94, 0xe5,
-  0x8d, 0x81, 0xe8, 0x90, 0xac, 0xe3, 0x80, 0x81, 0xe4, 0xb8, 0x80, 0xe7,
-  0x99, 0xbe, 0xe9, 0x9b, 0xb6, 0xe4, 0xba, 0x94, 0xe8, 0x90, 0xac, 0xe3,
-  0x80, 0x82, 0xe2, 0x80, 0x9c, 0xe9, 0x9b, 0xb6, 0xe2, 0x80, 0x9d, 0x20,
-  0x69, 0x73, 0x20, 0x6d, 0x69, 0x73, 0x73, 0x69, 0x6e, 0x67, 0x20, 0x62,
-  0x65, 0x66, 0x6f, 0x72, 0x65, 0x20, 0x63, 0x68, 0x61, 0x72, 0x61, 0x63,
-  0x74, 0x65, 0x72, 0x20, 0x7b, 0x70, 0x6c, 0x61, 0x63, 0x65, 0x7d, 0x2c,
-  0x20, 0xe2, 0x80, 0x9c, 0x7b, 0x74, 0x68, 0x65, 0x72, 0x65, 0x7d, 0xe2,
-  0x80, 0x9d, 0x2c, 0x20, 0x6f, 0x72, 0x20, 0x61, 0x20, 0x75, 0x6e, 0x69,
-  0x74, 0x20, 0x73, 0x75, 0x63, 0x68, 0x20, 0x61, 0x73, 0x20, 0xe4, 0xb8,
-  0x87, 0x20, 0x61, 0x74, 0x20, 0x74, 0x68, 0x65, 0x20, 0x65, 0x6e, 0x64,
-  0x2e, 0xe7, 0xac, 0xac, 0x7b, 0x70, 0x6c, 0x61, 0x63, 0x65, 0x7d, 0xe4,
-  0xb8, 0xaa, 0xe5, 0xad, 0x97, 0xe2, 0x80, 0x9c, 0x7b, 0x74, 0x68, 0x65,
-  0x72, 0x65, 0x7d, 0xe2, 0x80, 0x9d, 0xe5, 0x89, 0x8d, 0xe7, 0xbc, 0xba,
-  0xe2, 0x80, 0x9c, 0xe9, 0x9b, 0xb6, 0xe2, 0x80, 0x9d, 0xef, 0xbc, 0x8c,
-  0xe6, 0x88, 0x96, 0xe6, 0x9c, 0xab, 0xe5, 0xb0, 0xbe, 0xe7, 0xbc, 0xba,
-  0xe2, 0x80, 0x9c, 0xe4, 0xb8, 0x87, 0xe2, 0x80, 0x9d, 0xe7, 0xad, 0x89,
-  0xe5, 0x8d, 0x95, 0xe4, 0xbd, 0x8d, 0xe3, 0x80, 0x82, 0xe7, 0xac, 0xac,
-  0x7b, 0x70, 0x6c, 0x61, 0x63, 0x65, 0x7d, 0xe5, 0x80, 0x8b, 0xe5, 0xad,
-  0x97, 0xe3, 0x80, 0x8c, 0x7b, 0x74, 0x68, 0x65, 0x72, 0x65, 0x7d, 0xe3,
-  0x80, 0x8d, 0xe5, 0x89, 0x8d, 0xe7, 0xbc, 0xba, 0xe3, 0x80, 0x8c, 0xe9,
-  0x9b, 0xb6, 0xe3, 0x80, 0x8d, 0xef, 0xbc, 0x8c, 0xe6, 0x88, 0x96, 0xe6,
-  0x9c, 0xab, 0xe5, 0xb0, 0xbe, 0xe7, 0xbc, 0xba, 0xe3, 0x80, 0x8c, 0xe8,
-  0x90, 0xac, 0xe3, 0x80, 0x8d, 0xe7, 0xad, 0x89, 0xe5, 0x96, 0xae, 0xe4,
-  0xbd, 0x8d, 0xe3, 0x80, 0x82, 0x54, 0x68, 0x65, 0x20, 0x64, 0x65, 0x6e,
-  0x6f, 0x6d, 0x69, 0x6e, 0x61, 0x74, 0x6f, 0x72, 0x20, 0x6d, 0x75, 0x73,
-  0x74, 0x20, 0x62, 0x65, 0x20, 0x61, 0x20, 0x77, 0x68, 0x6f, 0x6c, 0x65,
-  0x20, 0x6e, 0x75, 0x6d, 0x62, 0x65, 0x72, 0x20, 0x61, 0x62, 0x6f, 0x76,
-  0x65, 0x20, 0x30, 0x2e, 0xe5, 0x88, 0x86, 0xe6, 0xaf, 0x8d, 0xe5, 0xbf,
-  0x85, 0xe9, 0xa1, 0xbb, 0xe6, 0x98, 0xaf, 0xe5, 0xa4, 0xa7, 0xe4, 0xba,
-  0x8e, 0xe9, 0x9b, 0xb6, 0xe7, 0x9a, 0x84, 0xe6, 0x95, 0xb4, 0xe6, 0x95,
-  0xb0, 0xe3, 0x80, 0x82, 0xe5, 0x88, 0x86, 0xe6, 0xaf, 0x8d, 0xe5, 0xbf,
-  0x85, 0xe9, 0xa0, 0x88, 0xe6, 0x98, 0xaf, 0xe5, 0xa4, 0xa7, 0xe6, 0x96,
-  0xbc, 0xe9, 0x9b, 0xb6, 0xe7, 0x9a, 0x84, 0xe6, 0x95, 0xb4, 0xe6, 0x95,
-  0xb8, 0xe3, 0x80, 0x82, 0x41, 0x20, 0x6e, 0x75, 0x6d, 0x62, 0x65, 0x72,
-  0x20, 0x69, 0x73, 0x20, 0x6d, 0x69, 0x73, 0x73, 0x69, 0x6e, 0x67, 0x20,
-  0x61, 0x74, 0x20, 0x74, 0x68, 0x65, 0x20, 0x65, 0x6e, 0x64, 0x2e, 0xe6,
-  0x9c, 0xab, 0xe5, 0xb0, 0xbe, 0xe7, 0xbc, 0xba, 0xe6, 0x95, 0xb0, 0xe5,
-  0xad, 0x97, 0xe3, 0x80, 0x82, 0xe6, 0x9c, 0xab, 0xe5, 0xb0, 0xbe, 0xe7,
-  0xbc, 0xba, 0xe6, 0x95, 0xb8, 0xe5, 0xad, 0x97, 0xe3, 0x80, 0x82, 0x43,
-  0x68, 0x61, 0x72, 0x61, 0x63, 0x74, 0x65, 0x72, 0x20, 0x7b, 0x70, 0x6c,
-  0x61, 0x63, 0x65, 0x7d, 0x2c, 0x20, 0xe2, 0x80, 0x9c, 0x7b, 0x74, 0x68,
-  0x65, 0x72, 0x65, 0x7d, 0xe2, 0x80, 0x9d, 0x2c, 0x20, 0x69, 0x73, 0x20,
-  0x61, 0x20, 0x73, 0x65, 0x63, 0x6f, 0x6e, 0x64, 0x20, 0x70, 0x6f, 0x69,
-  0x6e, 0x74, 0x2e, 0xe7, 0xac, 0xac, 0x7b, 0x70, 0x6c, 0x61, 0x63, 0x65,
-  0x7d, 0xe4, 0xb8, 0xaa, 0xe5, 0xad, 0x97, 0xe2, 0x80, 0x9c, 0x7b, 0x74,
-  0x68, 0x65, 0x72, 0x65, 0x7d, 0xe2, 0x80, 0x9d, 0xe6, 0x98, 0xaf, 0xe7,
-  0xac, 0xac, 0xe4, 0xba, 0x8c, 0xe4, 0xb8, 0xaa, 0xe5, 0xb0, 0x8f, 0xe6,
-  0x95, 0xb0, 0xe7, 0x82, 0xb9, 0xe3, 0x80, 0x82, 0xe7, 0xac, 0xac, 0x7b,
-  0x70, 0x6c, 0x61, 0x63, 0x65, 0x7d, 0xe5, 0x80, 0x8b, 0xe5, 0xad, 0x97,
-  0xe3, 0x80, 0x8c, 0x7b, 0x74, 0x68, 0x65, 0x72, 0x65, 0x7d, 0xe3, 0x80,
-  0x8d, 0xe6, 0x98, 0xaf, 0xe7, 0xac, 0xac, 0xe4, 0xba, 0x8c, 0xe5, 0x80,
-  0x8b, 0xe5, 0xb0, 0x8f, 0xe6, 0x95, 0xb8, 0xe9, 0xbb, 0x9e, 0xe3, 0x80,
-  0x82, 0x41, 0x66, 0x74, 0x65, 0x72, 0x20, 0x63, 0x68, 0x61, 0x72, 0x61,
-  0x63, 0x74, 0x65, 0x72, 0x20, 0x7b, 0x70, 0x6c, 0x61, 0x63, 0x65, 0x7d,
-  0x2c, 0x20, 0xe2, 0x80, 0x9c, 0x7b, 0x74, 0x68, 0x65, 0x72, 0x65, 0x7d,
-  0xe2, 0x80, 0x9d, 0x2c, 0x20, 0x74, 0x68, 0x65, 0x20, 0x64, 0x69, 0x67,
-  0x69, 0x74, 0x73, 0x20, 0x61, 0x72, 0x65, 0x20, 0x77, 0x72, 0x69, 0x74,
-  0x74, 0x65, 0x6e, 0x20, 0x6f, 0x6e, 0x65, 0x20, 0x62, 0x79, 0x20, 0x6f,
-  0x6e, 0x65, 0x2c, 0x20, 0x61, 0x73, 0x20, 0x69, 0x6e, 0x20, 0xe4, 0xba,
-  0x8c, 0xe7, 0x82, 0xb9, 0xe4, 0xb8, 0x80, 0xe4, 0xba, 0x94, 0x2e, 0xe7,
-  0xac, 0xac, 0x7b, 0x70, 0x6c, 0x61, 0x63, 0x65, 0x7d, 0xe4, 0xb8, 0xaa,
-  0xe5, 0xad, 0x97, 0xe2, 0x80, 0x9c, 0x7b, 0x74, 0x68, 0x65, 0x72, 0x65,
-  0x7d, 0xe2, 0x80, 0x9d, 0xe5, 0x90, 0x8e, 0xe9, 0x9d, 0xa2, 0xe8, 0xa6,
-  0x81, 0xe9, 0x80, 0x90, 0xe4, 0xb8, 0xaa, 0xe5, 0x86, 0x99, 0xe6, 0x95,
-  0xb0, 0xe5, 0xad, 0x97, 0xef, 0xbc, 0x8c, 0xe5, 0xa6, 0x82, 0xe2, 0x80,
-  0x9c, 0xe4, 0xba, 0x8c, 0xe7, 0x82, 0xb9, 0xe4, 0xb8, 0x80, 0xe4, 0xba,
-  0x94, 0xe2, 0x80, 0x9d, 0xe3, 0x80, 0x82, 0xe7, 0xac, 0xac, 0x7b, 0x70,
-  0x6c, 0x61, 0x63, 0x65, 0x7d, 0xe5, 0x80, 0x8b, 0xe5, 0xad, 0x97, 0xe3,
-  0x80, 0x8c, 0x7b, 0x74, 0x68, 0x65, 0x72, 0x65, 0x7d, 0xe3, 0x80, 0x8d,
-  0xe5, 0xbe, 0x8c, 0xe9, 0x9d, 0xa2, 0xe8, 0xa6, 0x81, 0xe9, 0x80, 0x90,
-  0xe5, 0x80, 0x8b, 0xe5, 0xaf, 0xab, 0xe6, 0x95, 0xb8, 0xe5, 0xad, 0x97,
-  0xef, 0xbc, 0x8c, 0xe5, 0xa6, 0x82, 0xe3, 0x80, 0x8c, 0xe4, 0xba, 0x8c,
-  0xe9, 0xbb, 0x9e, 0xe4, 0xb8, 0x80, 0xe4, 0xba, 0x94, 0xe3, 0x80, 0x8d,
-  0xe3, 0x80, 0x82, 0x54, 0x68, 0x65, 0x20, 0x74, 0x65, 0x78, 0x74, 0x20,
-  0x69, 0x73, 0x20, 0x6e, 0x6f, 0x74, 0x20, 0x63, 0x6f, 0x72, 0x72, 0x65,
-  0x63, 0x74, 0x2e, 0xe5, 0x86, 0x99, 0xe6, 0xb3, 0x95, 0xe4, 0xb8, 0x8d,
-  0xe5, 0xaf, 0xb9, 0xe3, 0x80, 0x82, 0xe5, 0xaf, 0xab, 0xe6, 0xb3, 0x95,
-  0xe4, 0xb8, 0x8d, 0xe5, 0xb0, 0x8d, 0xe3, 0x80, 0x82, 0x54, 0x68, 0x65,
-  0x20, 0x62, 0x79, 0x74, 0x65, 0x73, 0x20, 0x61, 0x72, 0x65, 0x20, 0x6e,
-  0x6f, 0x74, 0x20, 0x74, 0x65, 0x78, 0x74, 0x20, 0x69, 0x6e, 0x20, 0x55,
-  0x54, 0x46, 0x2d, 0x38, 0x2e, 0xe4, 0xb8, 0x8d, 0xe6, 0x98, 0xaf, 0x20,
-  0x55, 0x54, 0x46, 0x2d, 0x38, 0x20, 0xe6, 0x96, 0x87, 0xe6, 0x9c, 0xac,
-  0xe3, 0x80, 0x82, 0xe4, 0xb8, 0x8d, 0xe6, 0x98, 0xaf, 0x20, 0x55, 0x54,
-  0x46, 0x2d, 0x38, 0x20, 0xe6, 0x96, 0x87, 0xe5, 0xad, 0x97, 0xe3, 0x80,
-  0x82, 0x54, 0x68, 0x65, 0x20, 0x62, 0x75, 0x66, 0x66, 0x65, 0x72, 0x20,
+  0x72, 0x69, 0x74, 0x74, 0x65, 0x6e, 0x20, 0x61, 0x74, 0x20, 0x74, 0x68,
+  0x65, 0x20, 0x76, 0x65, 0x72, 0x79, 0x20, 0x62, 0x65, 0x67, 0x69, 0x6e,
+  0x6e, 0x69, 0x6e, 0x67, 0x2e, 0xe8, 0xa1, 0xa8, 0xe7, 0xa4, 0xba, 0xe8,
+  0xb4, 0x9f, 0xe6, 0x95, 0xb0, 0xe7, 0x9a, 0x84, 0xe5, 0xad, 0x97, 0xe6,
+  0x88, 0x96, 0xe7, 0xac, 0xa6, 0xe5, 0x8f, 0xb7, 0xe8, 0xa6, 0x81, 0xe5,
+  0x86, 0x99, 0xe5, 0x9c, 0xa8, 0xe6, 0x9c, 0x80, 0xe5, 0x89, 0x8d, 0xe9,
+  0x9d, 0xa2, 0xe3, 0x80, 0x82, 0xe8, 0xa1, 0xa8, 0xe7, 0xa4, 0xba, 0xe8,
+  0xb2, 0xa0, 0xe6, 0x95, 0xb8, 0xe7, 0x9a, 0x84, 0xe5, 0xad, 0x97, 0xe6,
+  0x88, 0x96, 0xe7, 0xac, 0xa6, 0xe8, 0x99, 0x9f, 0xe8, 0xa6, 0x81, 0xe5,
+  0xaf, 0xab, 0xe5, 0x9c, 0xa8, 0xe6, 0x9c, 0x80, 0xe5, 0x89, 0x8d, 0xe9,
+  0x9d, 0xa2, 0xe3, 0x80, 0x82, 0x54, 0x68, 0x65, 0x20, 0x61, 0x6d, 0x6f,
+  0x75, 0x6e, 0x74, 0x20, 0x69, 0x73, 0x20, 0x74, 0x6f, 0x6f, 0x20, 0x6c,
+  0x61, 0x72, 0x67, 0x65, 0x3a, 0x20, 0x61, 0x74, 0x20, 0x6d, 0x6f, 0x73,
+  0x74, 0x20, 0x31, 0x36, 0x20, 0x64, 0x69, 0x67, 0x69, 0x74, 0x73, 0x20,
+  0x61, 0x72, 0x65, 0x20, 0x61, 0x6c, 0x6c, 0x6f, 0x77, 0x65, 0x64, 0x20,
+  0x62, 0x65, 0x66, 0x6f, 0x72, 0x65, 0x20, 0x74, 0x68, 0x65, 0x20, 0x64,
+  0x65, 0x63, 0x69, 0x6d, 0x61, 0x6c, 0x20, 0x70, 0x6f, 0x69, 0x6e, 0x74,
+  0x2e, 0xe9, 0x87, 0x91, 0xe9, 0xa2, 0x9d, 0xe5, 0xa4, 0xaa, 0xe5, 0xa4,
+  0xa7, 0xef, 0xbc, 0x8c, 0xe5, 0x85, 0x83, 0xe4, 0xbb, 0xa5, 0xe4, 0xb8,
+  0x8a, 0xe6, 0x9c, 0x80, 0xe5, 0xa4, 0x9a, 0x31, 0x36, 0xe4, 0xbd, 0x8d,
+  0xe3, 0x80, 0x82, 0xe9, 0x87, 0x91, 0xe9, 0xa1, 0x8d, 0xe5, 0xa4, 0xaa,
+  0xe5, 0xa4, 0xa7, 0xef, 0xbc, 0x8c, 0xe5, 0x85, 0x83, 0xe4, 0xbb, 0xa5,
+  0xe4, 0xb8, 0x8a, 0xe6, 0x9c, 0x80, 0xe5, 0xa4, 0x9a, 0x31, 0x36, 0xe4,
+  0xbd, 0x8d, 0xe3, 0x80, 0x82, 0x41, 0x20, 0x6e, 0x75, 0x6d, 0x62, 0x65,
+  0x72, 0x20, 0x69, 0x73, 0x20, 0x6d, 0x69, 0x73, 0x73, 0x69, 0x6e, 0x67,
+  0x2e, 0xe7, 0xbc, 0xba, 0xe5, 0xb0, 0x91, 0xe6, 0x95, 0xb0, 0xe5, 0xad,
+  0x97, 0xe3, 0x80, 0x82, 0xe7, 0xbc, 0xba, 0xe5, 0xb0, 0x91, 0xe6, 0x95,
+  0xb8, 0xe5, 0xad, 0x97, 0xe3, 0x80, 0x82, 0x54, 0x68, 0x65, 0x20, 0x6e,
+  0x75, 0x6d, 0x62, 0x65, 0x72, 0x20, 0x69, 0x73, 0x20, 0x74, 0x6f, 0x6f,
+  0x20, 0x6c, 0x61, 0x72, 0x67, 0x65, 0x2e, 0xe6, 0x95, 0xb0, 0xe5, 0x80,
+  0xbc, 0xe5, 0xa4, 0xaa, 0xe5, 0xa4, 0xa7, 0xe3, 0x80, 0x82, 0xe6, 0x95,
+  0xb8, 0xe5, 0x80, 0xbc, 0xe5, 0xa4, 0xaa, 0xe5, 0xa4, 0xa7, 0xe3, 0x80,
+  0x82, 0x54, 0x68, 0x65, 0x20, 0x6e, 0x75, 0x6d, 0x62, 0x65, 0x72, 0x20,
   0x69, 0x73, 0x20, 0x74, 0x6f, 0x6f, 0x20, 0x73, 0x6d, 0x61, 0x6c, 0x6c,
-  0x20, 0x66, 0x6f, 0x72, 0x20, 0x74, 0x68, 0x65, 0x20, 0x74, 0x65, 0x78,
-  0x74, 0x2e, 0xe7, 0xbc, 0x93, 0xe5, 0x86, 0xb2, 0xe5, 0x8c, 0xba, 0xe5,
-  0xa4, 0xaa, 0xe5, 0xb0, 0x8f, 0xe3, 0x80, 0x82, 0xe7, 0xb7, 0xa9, 0xe8,
-  0xa1, 0x9d, 0xe5, 0x8d, 0x80, 0xe5, 0xa4, 0xaa, 0xe5, 0xb0, 0x8f, 0xe3,
-  0x80, 0x82, 0x54, 0x68, 0x65, 0x20, 0x74, 0x79, 0x70, 0x65, 0x20, 0x63,
-  0x61, 0x6e, 0x6e, 0x6f, 0x74, 0x20, 0x68, 0x6f, 0x6c, 0x64, 0x20, 0x74,
-  0x68, 0x65, 0x20, 0x6e, 0x75, 0x6d, 0x62, 0x65, 0x72, 0x2e, 0xe8, 0xaf,
-  0xa5, 0xe7, 0xb1, 0xbb, 0xe5, 0x9e, 0x8b, 0xe6, 0x94, 0xbe, 0xe4, 0xb8,
-  0x8d, 0xe4, 0xb8, 0x8b, 0xe8, 0xbf, 0x99, 0xe4, 0xb8, 0xaa, 0xe6, 0x95,
-  0xb0, 0xe5, 0xad, 0x97, 0xe3, 0x80, 0x82, 0xe8, 0xa9, 0xb2, 0xe5, 0x9e,
-  0x8b, 0xe5, 0x88, 0xa5, 0xe6, 0x94, 0xbe, 0xe4, 0xb8, 0x8d, 0xe4, 0xb8,
-  0x8b, 0xe9, 0x80, 0x99, 0xe5, 0x80, 0x8b, 0xe6, 0x95, 0xb8, 0xe5, 0xad,
-  0x97, 0xe3, 0x80, 0x82, 0x41, 0x20, 0x63, 0x6f, 0x64, 0x65, 0x20, 0x68,
-  0x61, 0x73, 0x20, 0x6e, 0x6f, 0x20, 0x6d, 0x65, 0x61, 0x6e, 0x69, 0x6e,
-  0x67, 0x2e, 0xe4, 0xbb, 0xa3, 0xe7, 0xa0, 0x81, 0xe6, 0xb2, 0xa1, 0xe6,
-  0x9c, 0x89, 0xe6, 0x84, 0x8f, 0xe4, 0xb9, 0x89, 0xe3, 0x80, 0x82, 0xe4,
-  0xbb, 0xa3, 0xe7, 0xa2, 0xbc, 0xe6, 0xb2, 0x92, 0xe6, 0x9c, 0x89, 0xe6,
-  0x84, 0x8f, 0xe7, 0xbe, 0xa9, 0xe3, 0x80, 0x82, 0x54, 0x68, 0x65, 0x72,
-  0x65, 0x20, 0x69, 0x73, 0x20, 0x6e, 0x6f, 0x20, 0x66, 0x75, 0x72, 0x74,
-  0x68, 0x65, 0x72, 0x20, 0x6e, 0x75, 0x6d, 0x62, 0x65, 0x72, 0x20, 0x69,
-  0x6e, 0x20, 0x74, 0x68, 0x65, 0x20, 0x74, 0x65, 0x78, 0x74, 0x2e, 0xe6,
-  0x96, 0x87, 0xe6, 0x9c, 0xac, 0xe9, 0x87, 0x8c, 0xe6, 0xb2, 0xa1, 0xe6,
-  0x9c, 0x89, 0xe6, 0x9b, 0xb4, 0xe5, 0xa4, 0x9a, 0xe7, 0x9a, 0x84, 0xe6,
-  0x95, 0xb0, 0xe5, 0xad, 0x97, 0xe3, 0x80, 0x82, 0xe6, 0x96, 0x87, 0xe5,
-  0xad, 0x97, 0xe8, 0xa3, 0xa1, 0xe6, 0xb2, 0x92, 0xe6, 0x9c, 0x89, 0xe6,
-  0x9b, 0xb4, 0xe5, 0xa4, 0x9a, 0xe7, 0x9a, 0x84, 0xe6, 0x95, 0xb8, 0xe5,
-  0xad, 0x97, 0xe3, 0x80, 0x82, 0x54, 0x68, 0x65, 0x72, 0x65, 0x20, 0x69,
-  0x73, 0x20, 0x6e, 0x6f, 0x20, 0x73, 0x75, 0x63, 0x68, 0x20, 0x64, 0x61,
-  0x74, 0x65, 0x2e, 0xe6, 0xb2, 0xa1, 0xe6, 0x9c, 0x89, 0xe8, 0xbf, 0x99,
-  0xe4, 0xb8, 0xaa, 0xe6, 0x97, 0xa5, 0xe6, 0x9c, 0x9f, 0xe3, 0x80, 0x82,
-  0xe6, 0xb2, 0x92, 0xe6, 0x9c, 0x89, 0xe9, 0x80, 0x99, 0xe5, 0x80, 0x8b,
-  0xe6, 0x97, 0xa5, 0xe6, 0x9c, 0x9f, 0xe3, 0x80, 0x82, 0x54, 0x68, 0x65,
-  0x20, 0x74, 0x65, 0x78, 0x74, 0x20, 0x69, 0x73, 0x20, 0x74, 0x6f, 0x6f,
-  0x20, 0x6c, 0x6f, 0x6e, 0x67, 0x2e, 0xe6, 0x96, 0x87, 0xe6, 0x9c, 0xac,
-  0xe5, 0xa4, 0xaa, 0xe9, 0x95, 0xbf, 0xe3, 0x80, 0x82, 0xe6, 0x96, 0x87,
-  0xe5, 0xad, 0x97, 0xe5, 0xa4, 0xaa, 0xe9, 0x95, 0xb7, 0xe3, 0x80, 0x82,
-  0x70, 0x6c, 0x61, 0x63, 0x65, 0x74, 0x68, 0x65, 0x72, 0x65, 0x61, 0x66,
-  0x74, 0x65, 0x72, 0x6e, 0x65, 0x78, 0x74, 0x65, 0x78, 0x61, 0x6d, 0x70,
-  0x6c, 0x65, 0x2d, 0x2f, 0x25, 0x73, 0x70, 0x61, 0x63, 0x65, 0xe7, 0xa9,
-  0xba, 0xe6, 0xa0, 0xbc, 0x69, 0x6e, 0x76, 0x69, 0x73, 0x69, 0x62, 0x6c,
-  0x65, 0x20, 0x63, 0x68, 0x61, 0x72, 0x61, 0x63, 0x74, 0x65, 0x72, 0xe4,
-  0xb8, 0x8d, 0xe5, 0x8f, 0xaf, 0xe8, 0xa7, 0x81, 0xe5, 0xad, 0x97, 0xe7,
-  0xac, 0xa6, 0xe4, 0xb8, 0x8d, 0xe5, 0x8f, 0xaf, 0xe8, 0xa6, 0x8b, 0xe5,
-  0xad, 0x97, 0xe5, 0x85, 0x83, 0x00, 0x00, 0x00, 0xf6, 0x96, 0x00, 0x00,
+  0x2e, 0xe6, 0x95, 0xb0, 0xe5, 0x80, 0xbc, 0xe5, 0xa4, 0xaa, 0xe5, 0xb0,
+  0x8f, 0xe3, 0x80, 0x82, 0xe6, 0x95, 0xb8, 0xe5, 0x80, 0xbc, 0xe5, 0xa4,
+  0xaa, 0xe5, 0xb0, 0x8f, 0xe3, 0x80, 0x82, 0x41, 0x20, 0x64, 0x69, 0x67,
+  0x69, 0x74, 0x20, 0x69, 0x73, 0x20, 0x6d, 0x69, 0x73, 0x73, 0x69, 0x6e,
+  0x67, 0x20, 0x62, 0x65, 0x66, 0x6f, 0x72, 0x65, 0x20, 0x63, 0x68, 0x61,
+  0x72, 0x61, 0x63, 0x74, 0x65, 0x72, 0x20, 0x7b, 0x70, 0x6c, 0x61, 0x63,
+  0x65, 0x7d, 0x2c, 0x20, 0x7b, 0x74, 0x68, 0x65, 0x72, 0x65, 0x7d, 0x2e,
+  0xe7, 0xac, 0xac, 0x7b, 0x70, 0x6c, 0x61, 0x63, 0x65, 0x7d, 0xe4, 0xb8,
+  0xaa, 0xe5, 0xad, 0x97, 0x7b, 0x74, 0x68, 0x65, 0x72, 0x65, 0x7d, 0xe5,
+  0x89, 0x8d, 0xe7, 0xbc, 0xba, 0xe6, 0x95, 0xb0, 0xe5, 0xad, 0x97, 0xe3,
+  0x80, 0x82, 0xe7, 0xac, 0xac, 0x7b, 0x70, 0x6c, 0x61, 0x63, 0x65, 0x7d,
+  0xe5, 0x80, 0x8b, 0xe5, 0xad, 0x97, 0x7b, 0x74, 0x68, 0x65, 0x72, 0x65,
+  0x7d, 0xe5, 0x89, 0x8d, 0xe7, 0xbc, 0xba, 0xe6, 0x95, 0xb8, 0xe5, 0xad,
+  0x97, 0xe3, 0x80, 0x82, 0x43, 0x68, 0x61, 0x72, 0x61, 0x63, 0x74, 0x65,
+  0x72, 0x20, 0x7b, 0x70, 0x6c, 0x61, 0x63, 0x65, 0x7d, 0x2c, 0x20, 0x7b,
+  0x74, 0x68, 0x65, 0x72, 0x65, 0x7d, 0x2c, 0x20, 0x63, 0x61, 0x6e, 0x6e,
+  0x6f, 0x74, 0x20, 0x62, 0x65, 0x20, 0x70, 0x61, 0x72, 0x74, 0x20, 0x6f,
+  0x66, 0x20, 0x61, 0x20, 0x6e, 0x75, 0x6d, 0x65, 0x72, 0x61, 0x6c, 0x2e,
+  0xe7, 0xac, 0xac, 0x7b, 0x70, 0x6c, 0x61, 0x63, 0x65, 0x7d, 0xe4, 0xb8,
+  0xaa, 0xe5, 0xad, 0x97, 0x7b, 0x74, 0x68, 0x65, 0x72, 0x65, 0x7d, 0xe4,
+  0xb8, 0x8d, 0xe6, 0x98, 0xaf, 0xe6, 0x95, 0xb0, 0xe5, 0xad, 0x97, 0xe7,
+  0x94, 0xa8, 0xe5, 0xad, 0x97, 0xe3, 0x80, 0x82, 0xe7, 0xac, 0xac, 0x7b,
+  0x70, 0x6c, 0x61, 0x63, 0x65, 0x7d, 0xe5, 0x80, 0x8b, 0xe5, 0xad, 0x97,
+  0x7b, 0x74, 0x68, 0x65, 0x72, 0x65, 0x7d, 0xe4, 0xb8, 0x8d, 0xe6, 0x98,
+  0xaf, 0xe6, 0x95, 0xb8, 0xe5, 0xad, 0x97, 0xe7, 0x94, 0xa8, 0xe5, 0xad,
+  0x97, 0xe3, 0x80, 0x82, 0x43, 0x68, 0x61, 0x72, 0x61, 0x63, 0x74, 0x65,
+  0x72, 0x20, 0x7b, 0x70, 0x6c, 0x61, 0x63, 0x65, 0x7d, 0x2c, 0x20, 0x7b,
+  0x74, 0x68, 0x65, 0x72, 0x65, 0x7d, 0x2c, 0x20, 0x69, 0x73, 0x20, 0x6e,
+  0x6f, 0x74, 0x20, 0x61, 0x20, 0x64, 0x69, 0x67, 0x69, 0x74, 0x20, 0x66,
+  0x72, 0x6f, 0x6d, 0x20, 0x30, 0x20, 0x74, 0x6f, 0x20, 0x39, 0x2e, 0xe7,
+  0xac, 0xac, 0x7b, 0x70, 0x6c, 0x61, 0x63, 0x65, 0x7d, 0xe4, 0xb8, 0xaa,
+  0xe5, 0xad, 0x97, 0x7b, 0x74, 0x68, 0x65, 0x72, 0x65, 0x7d, 0xe4, 0xb8,
+  0x8d, 0xe6, 0x98, 0xaf, 0xe9, 0x9b, 0xb6, 0xe5, 0x88, 0xb0, 0xe4, 0xb9,
+  0x9d, 0xe7, 0x9a, 0x84, 0xe6, 0x95, 0xb0, 0xe5, 0xad, 0x97, 0xe3, 0x80,
+  0x82, 0xe7, 0xac, 0xac, 0x7b, 0x70, 0x6c, 0x61, 0x63, 0x65, 0x7d, 0xe5,
+  0x80, 0x8b, 0xe5, 0xad, 0x97, 0x7b, 0x74, 0x68, 0x65, 0x72, 0x65, 0x7d,
+  0xe4, 0xb8, 0x8d, 0xe6, 0x98, 0xaf, 0xe9, 0x9b, 0xb6, 0xe5, 0x88, 0xb0,
+  0xe4, 0xb9, 0x9d, 0xe7, 0x9a, 0x84, 0xe6, 0x95, 0xb8, 0xe5, 0xad, 0x97,
+  0xe3, 0x80, 0x82, 0x41, 0x20, 0x75, 0x6e, 0x69, 0x74, 0x20, 0x69, 0x73,
+  0x20, 0x6d, 0x69, 0x73, 0x73, 0x69, 0x6e, 0x67, 0x20, 0x62, 0x65, 0x74,
+  0x77, 0x65, 0x65, 0x6e, 0x20, 0x63, 0x68, 0x61, 0x72, 0x61, 0x63, 0x74,
+  0x65, 0x72, 0x20, 0x7b, 0x70, 0x6c, 0x61, 0x63, 0x65, 0x7d, 0x2c, 0x20,
+  0x7b, 0x74, 0x68, 0x65, 0x72, 0x65, 0x7d, 0x2c, 0x20, 0x61, 0x6e, 0x64,
+  0x20, 0x7b, 0x61, 0x66, 0x74, 0x65, 0x72, 0x7d, 0x2c, 0x20, 0x6f, 0x72,
+  0x20, 0x6f, 0x6e, 0x65, 0x20, 0x6f, 0x66, 0x20, 0x74, 0x68, 0x65, 0x6d,
+  0x20, 0x69, 0x73, 0x20, 0x74, 0x6f, 0x6f, 0x20, 0x6d, 0x61, 0x6e, 0x79,
+  0x2e, 0xe7, 0xac, 0xac, 0x7b, 0x70, 0x6c, 0x61, 0x63, 0x65, 0x7d, 0xe4,
+  0xb8, 0xaa, 0xe5, 0xad, 0x97, 0x7b, 0x74, 0x68, 0x65, 0x72, 0x65, 0x7d,
+  0xe5, 0x92, 0x8c, 0xe5, 0x90, 0x8e, 0xe9, 0x9d, 0xa2, 0xe7, 0x9a, 0x84,
+  0x7b, 0x61, 0x66, 0x74, 0x65, 0x72, 0x7d, 0xe4, 0xb9, 0x8b, 0xe9, 0x97,
+  0xb4, 0xe7, 0xbc, 0xba, 0xe5, 0x8d, 0x95, 0xe4, 0xbd, 0x8d, 0xef, 0xbc,
+  0x8c, 0xe6, 0x88, 0x96, 0xe5, 0xa4, 0x9a, 0xe5, 0x86, 0x99, 0xe4, 0xba,
+  0x86, 0xe4, 0xb8, 0x80, 0xe4, 0xb8, 0xaa, 0xe3, 0x80, 0x82, 0xe7, 0xac,
+  0xac, 0x7b, 0x70, 0x6c, 0x61, 0x63, 0x65, 0x7d, 0xe5, 0x80, 0x8b, 0xe5,
+  0xad, 0x97, 0x7b, 0x74, 0x68, 0x65, 0x72, 0x65, 0x7d, 0xe5, 0x92, 0x8c,
+  0xe5, 0xbe, 0x8c, 0xe9, 0x9d, 0xa2, 0xe7, 0x9a, 0x84, 0x7b, 0x61, 0x66,
+  0x74, 0x65, 0x72, 0x7d, 0xe4, 0xb9, 0x8b, 0xe9, 0x96, 0x93, 0xe7, 0xbc,
+  0xba, 0xe5, 0x96, 0xae, 0xe4, 0xbd, 0x8d, 0xef, 0xbc, 0x8c, 0xe6, 0x88,
+  0x96, 0xe5, 0xa4, 0x9a, 0xe5, 0xaf, 0xab, 0xe4, 0xba, 0x86, 0xe4, 0xb8,
+  0x80, 0xe5, 0x80, 0x8b, 0xe3, 0x80, 0x82, 0x43, 0x68, 0x61, 0x72, 0x61,
+  0x63, 0x74, 0x65, 0x72, 0x20, 0x7b, 0x70, 0x6c, 0x61, 0x63, 0x65, 0x7d,
+  0x2c, 0x20, 0x7b, 0x74, 0x68, 0x65, 0x72, 0x65, 0x7d, 0x2c, 0x20, 0x63,
+  0x61, 0x6e, 0x6e, 0x6f, 0x74, 0x20, 0x62, 0x65, 0x20, 0x66, 0x6f, 0x6c,
+  0x6c, 0x6f, 0x77, 0x65, 0x64, 0x20, 0x62, 0x79, 0x20, 0x7b, 0x61, 0x66,
+  0x74, 0x65, 0x72, 0x7d, 0x3a, 0x20, 0x61, 0x20, 0x64, 0x69, 0x67, 0x69,
+  0x74, 0x20, 0x69, 0x73, 0x20, 0x6d, 0x69, 0x73, 0x73, 0x69, 0x6e, 0x67,
+  0x20, 0x62, 0x65, 0x74, 0x77, 0x65, 0x65, 0x6e, 0x20, 0x74, 0x68, 0x65,
+  0x6d, 0x2c, 0x20, 0x6f, 0x6e, 0x65, 0x20, 0x6f, 0x66, 0x20, 0x74, 0x68,
+  0x65, 0x6d, 0x20, 0x69, 0x73, 0x20, 0x74, 0x6f, 0x6f, 0x20, 0x6d, 0x61,
+  0x6e, 0x79, 0x2c, 0x20, 0x6f, 0x72, 0x20, 0x74, 0x68, 0x65, 0x69, 0x72,
+  0x20, 0x6f, 0x72, 0x64, 0x65, 0x72, 0x20, 0x69, 0x73, 0x20, 0x77, 0x72,
+  0x6f, 0x6e, 0x67, 0x2e, 0xe7, 0xac, 0xac, 0x7b, 0x70, 0x6c, 0x61, 0x63,
+  0x65, 0x7d, 0xe4, 0xb8, 0xaa, 0xe5, 0xad, 0x97, 0x7b, 0x74, 0x68, 0x65,
+  0x72, 0x65, 0x7d, 0xe5, 0x90, 0x8e, 0xe9, 0x9d, 0xa2, 0xe4, 0xb8, 0x8d,
+  0xe8, 0x83, 0xbd, 0xe5, 0x86, 0x99, 0x7b, 0x61, 0x66, 0x74, 0x65, 0x72,
+  0x7d, 0xef, 0xbc, 0x9a, 0xe4, 0xb8, 0xad, 0xe9, 0x97, 0xb4, 0xe7, 0xbc,
+  0xba, 0xe6, 0x95, 0xb0, 0xe5, 0xad, 0x97, 0xef, 0xbc, 0x8c, 0xe6, 0x88,
+  0x96, 0xe5, 0xa4, 0x9a, 0xe5, 0x86, 0x99, 0xe4, 0xba, 0x86, 0xe4, 0xb8,
+  0x80, 0xe4, 0xb8, 0xaa, 0xef, 0xbc, 0x8c, 0xe6, 0x88, 0x96, 0xe9, 0xa1,
+  0xba, 0xe5, 0xba, 0x8f, 0xe4, 0xb8, 0x8d, 0xe5, 0xaf, 0xb9, 0xe3, 0x80,
+  0x82, 0xe7, 0xac, 0xac, 0x7b, 0x70, 0x6c, 0x61, 0x63, 0x65, 0x7d, 0xe5,
+  0x80, 0x8b, 0xe5, 0xad, 0x97, 0x7b, 0x74, 0x68, 0x65, 0x72, 0x65, 0x7d,
+  0xe5, 0xbe, 0x8c, 0xe9, 0x9d, 0xa2, 0xe4, 0xb8, 0x8d, 0xe8, 0x83, 0xbd,
+  0xe5, 0xaf, 0xab, 0x7b, 0x61, 0x66, 0x74, 0x65, 0x72, 0x7d, 0xef, 0xbc,
+  0x9a, 0xe4, 0xb8, 0xad, 0xe9, 0x96, 0x93, 0xe7, 0xbc, 0xba, 0xe6, 0x95,
+  0xb8, 0xe5, 0xad, 0x97, 0xef, 0xbc, 0x8c, 0xe6, 0x88, 0x96, 0xe5, 0xa4,
+  0x9a, 0xe5, 0xaf, 0xab, 0xe4, 0xba, 0x86, 0xe4, 0xb8, 0x80, 0xe5, 0x80,
+  0x8b, 0xef, 0xbc, 0x8c, 0xe6, 0x88, 0x96, 0xe9, 0xa0, 0x86, 0xe5, 0xba,
+  0x8f, 0xe4, 0xb8, 0x8d, 0xe5, 0xb0, 0x8d, 0xe3, 0x80, 0x82, 0x43, 0x68,
+  0x61, 0x72, 0x61, 0x63, 0x74, 0x65, 0x72, 0x20, 0x7b, 0x70, 0x6c, 0x61,
+  0x63, 0x65, 0x7d, 0x2c, 0x20, 0x7b, 0x74, 0x68, 0x65, 0x72, 0x65, 0x7d,
+  0x2c, 0x20, 0x69, 0x73, 0x20, 0x77, 0x72, 0x69, 0x74, 0x74, 0x65, 0x6e,
+  0x20, 0x74, 0x77, 0x69, 0x63, 0x65, 0x2e, 0xe7, 0xac, 0xac, 0x7b, 0x70,
+  0x6c, 0x61, 0x63, 0x65, 0x7d, 0xe4, 0xb8, 0xaa, 0xe5, 0xad, 0x97, 0x7b,
+  0x74, 0x68, 0x65, 0x72, 0x65, 0x7d, 0xe5, 0x86, 0x99, 0xe4, 0xba, 0x86,
+  0xe4, 0xb8, 0xa4, 0xe6, 0xac, 0xa1, 0xe3, 0x80, 0x82, 0xe7, 0xac, 0xac,
+  0x7b, 0x70, 0x6c, 0x61, 0x63, 0x65, 0x7d, 0xe5, 0x80, 0x8b, 0xe5, 0xad,
+  0x97, 0x7b, 0x74, 0x68, 0x65, 0x72, 0x65, 0x7d, 0xe5, 0xaf, 0xab, 0xe4,
+  0xba, 0x86, 0xe5, 0x85, 0xa9, 0xe6, 0xac, 0xa1, 0xe3, 0x80, 0x82, 0x43,
+  0x68, 0x61, 0x72, 0x61, 0x63, 0x74, 0x65, 0x72, 0x20, 0x7b, 0x70, 0x6c,
+  0x61, 0x63, 0x65, 0x7d, 0x2c, 0x20, 0x7b, 0x74, 0x68, 0x65, 0x72, 0x65,
+  0x7d, 0x2c, 0x20, 0x69, 0x73, 0x20, 0x6f, 0x6e, 0x6c, 0x79, 0x20, 0x61,
+  0x6c, 0x6c, 0x6f, 0x77, 0x65, 0x64, 0x20, 0x62, 0x65, 0x66, 0x6f, 0x72,
+  0x65, 0x20, 0x61, 0x20, 0x67, 0x72, 0x65, 0x61, 0x74, 0x65, 0x72, 0x20,
+  0x75, 0x6e, 0x69, 0x74, 0x2c, 0x20, 0x61, 0x73, 0x20, 0x69, 0x6e, 0x20,
+  0xe4, 0xb8, 0x89, 0xe4, 0xb8, 0xaa, 0xe4, 0xba, 0xbf, 0x2e, 0xe7, 0xac,
+  0xac, 0x7b, 0x70, 0x6c, 0x61, 0x63, 0x65, 0x7d, 0xe4, 0xb8, 0xaa, 0xe5,
+  0xad, 0x97, 0x7b, 0x74, 0x68, 0x65, 0x72, 0x65, 0x7d, 0xe5, 0x90, 0x8e,
+  0xe9, 0x9d, 0xa2, 0xe8, 0xa6, 0x81, 0xe5, 0x86, 0x99, 0xe6, 0x9b, 0xb4,
+  0xe5, 0xa4, 0xa7, 0xe7, 0x9a, 0x84, 0xe5, 0x8d, 0x95, 0xe4, 0xbd, 0x8d,
+  0xef, 0xbc, 0x8c, 0xe5, 0xa6, 0x82, 0xe2, 0x80, 0x9c, 0xe4, 0xb8, 0x89,
+  0xe4, 0xb8, 0xaa, 0xe4, 0xba, 0xbf, 0xe2, 0x80, 0x9d, 0xe3, 0x80, 0x82,
+  0xe7, 0xac, 0xac, 0x7b, 0x70, 0x6c, 0x61, 0x63, 0x65, 0x7d, 0xe5, 0x80,
+  0x8b, 0xe5, 0xad, 0x97, 0x7b, 0x74, 0x68, 0x65, 0x72, 0x65, 0x7d, 0xe5,
+  0xbe, 0x8c, 0xe9, 0x9d, 0xa2, 0xe8, 0xa6, 0x81, 0xe5, 0xaf, 0xab, 0xe6,
+  0x9b, 0xb4, 0xe5, 0xa4, 0xa7, 0xe7, 0x9a, 0x84, 0xe5, 0x96, 0xae, 0xe4,
+  0xbd, 0x8d, 0xef, 0xbc, 0x8c, 0xe5, 0xa6, 0x82, 0xe3, 0x80, 0x8c, 0xe4,
+  0xb8, 0x89, 0xe5, 0x80, 0x8b, 0xe5, 0x84, 0x84, 0xe3, 0x80, 0x8d, 0xe3,
+  0x80, 0x82, 0x41, 0x66, 0x74, 0x65, 0x72, 0x20, 0x63, 0x68, 0x61, 0x72,
+  0x61, 0x63, 0x74, 0x65, 0x72, 0x20, 0x7b, 0x70, 0x6c, 0x61, 0x63, 0x65,
+  0x7d, 0x2c, 0x20, 0x7b, 0x74, 0x68, 0x65, 0x72, 0x65, 0x7d, 0x2c, 0x20,
+  0x74, 0x68, 0x65, 0x20, 0x73, 0x61, 0x6d, 0x65, 0x20, 0x75, 0x6e, 0x69,
+  0x74, 0x20, 0x69, 0x73, 0x20, 0x77, 0x72, 0x69, 0x74, 0x74, 0x65, 0x6e,
+  0x20, 0x61, 0x67, 0x61, 0x69, 0x6e, 0x2e, 0xe7, 0xac, 0xac, 0x7b, 0x70,
+  0x6c, 0x61, 0x63, 0x65, 0x7d, 0xe4, 0xb8, 0xaa, 0xe5, 0xad, 0x97, 0x7b,
+  0x74, 0x68, 0x65, 0x72, 0x65, 0x7d, 0xe5, 0x90, 0x8e, 0xe9, 0x9d, 0xa2,
+  0xe5, 0x8f, 0x88, 0xe5, 0x86, 0x99, 0xe4, 0xba, 0x86, 0xe5, 0x90, 0x8c,
+  0xe6, 0xa0, 0xb7, 0xe7, 0x9a, 0x84, 0xe5, 0x8d, 0x95, 0xe4, 0xbd, 0x8d,
+  0xe3, 0x80, 0x82, 0xe7, 0xac, 0xac, 0x7b, 0x70, 0x6c, 0x61, 0x63, 0x65,
+  0x7d, 0xe5, 0x80, 0x8b, 0xe5, 0xad, 0x97, 0x7b, 0x74, 0x68, 0x65, 0x72,
+  0x65, 0x7d, 0xe5, 0xbe, 0x8c, 0xe9, 0x9d, 0xa2, 0xe5, 0x8f, 0x88, 0xe5,
+  0xaf, 0xab, 0xe4, 0xba, 0x86, 0xe5, 0x90, 0x8c, 0xe6, 0xa8, 0xa3, 0xe7,
+  0x9a, 0x84, 0xe5, 0x96, 0xae, 0xe4, 0xbd, 0x8d, 0xe3, 0x80, 0x82, 0xe2,
+  0x80, 0x9c, 0xe4, 0xb8, 0x80, 0xe2, 0x80, 0x9d, 0x20, 0x69, 0x73, 0x20,
+  0x6d, 0x69, 0x73, 0x73, 0x69, 0x6e, 0x67, 0x20, 0x62, 0x65, 0x66, 0x6f,
+  0x72, 0x65, 0x20, 0x63, 0x68, 0x61, 0x72, 0x61, 0x63, 0x74, 0x65, 0x72,
+  0x20, 0x7b, 0x70, 0x6c, 0x61, 0x63, 0x65, 0x7d, 0x2c, 0x20, 0x7b, 0x74,
+  0x68, 0x65, 0x72, 0x65, 0x7d, 0x2e, 0xe7, 0xac, 0xac, 0x7b, 0x70, 0x6c,
+  0x61, 0x63, 0x65, 0x7d, 0xe4, 0xb8, 0xaa, 0xe5, 0xad, 0x97, 0x7b, 0x74,
+  0x68, 0x65, 0x72, 0x65, 0x7d, 0xe5, 0x89, 0x8d, 0xe7, 0xbc, 0xba, 0xe2,
+  0x80, 0x9c, 0xe4, 0xb8, 0x80, 0xe2, 0x80, 0x9d, 0xe3, 0x80, 0x82, 0xe7,
+  0xac, 0xac, 0x7b, 0x70, 0x6c, 0x61, 0x63, 0x65, 0x7d, 0xe5, 0x80, 0x8b,
+  0xe5, 0xad, 0x97, 0x7b, 0x74, 0x68, 0x65, 0x72, 0x65, 0x7d, 0xe5, 0x89,
+  0x8d, 0xe7, 0xbc, 0xba, 0xe3, 0x80, 0x8c, 0xe4, 0xb8, 0x80, 0xe3, 0x80,
+  0x8d, 0xe3, 0x80, 0x82, 0x43, 0x68, 0x61, 0x72, 0x61, 0x63, 0x74, 0x65,
+  0x72, 0x20, 0x7b, 0x70, 0x6c, 0x61, 0x63, 0x65, 0x7d, 0x2c, 0x20, 0x7b,
+  0x74, 0x68, 0x65, 0x72, 0x65, 0x7d, 0x2c, 0x20, 0x63, 0x61, 0x6e, 0x6e,
+  0x6f, 0x74, 0x20, 0x66, 0x6f, 0x6c, 0x6c, 0x6f, 0x77, 0x20, 0xe5, 0x8d,
+  0x81, 0x2e, 0xe7, 0xac, 0xac, 0x7b, 0x70, 0x6c, 0x61, 0x63, 0x65, 0x7d,
+  0xe4, 0xb8, 0xaa, 0xe5, 0xad, 0x97, 0x7b, 0x74, 0x68, 0x65, 0x72, 0x65,
+  0x7d, 0xe4, 0xb8, 0x8d, 0xe8, 0x83, 0xbd, 0xe5, 0x86, 0x99, 0xe5, 0x9c,
+  0xa8, 0xe2, 0x80, 0x9c, 0xe5, 0x8d, 0x81, 0xe2, 0x80, 0x9d, 0xe5, 0x90,
+  0x8e, 0xe9, 0x9d, 0xa2, 0xe3, 0x80, 0x82, 0xe7, 0xac, 0xac, 0x7b, 0x70,
+  0x6c, 0x61, 0x63, 0x65, 0x7d, 0xe5, 0x80, 0x8b, 0xe5, 0xad, 0x97, 0x7b,
+  0x74, 0x68, 0x65, 0x72, 0x65, 0x7d, 0xe4, 0xb8, 0x8d, 0xe8, 0x83, 0xbd,
+  0xe5, 0xaf, 0xab, 0xe5, 0x9c, 0xa8, 0xe3, 0x80, 0x8c, 0xe5, 0x8d, 0x81,
+  0xe3, 0x80, 0x8d, 0xe5, 0xbe, 0x8c, 0xe9, 0x9d, 0xa2, 0xe3, 0x80, 0x82,
+  0x43, 0x68, 0x61, 0x72, 0x61, 0x63, 0x74, 0x65, 0x72, 0x20, 0x7b, 0x70,
+  0x6c, 0x61, 0x63, 0x65, 0x7d, 0x2c, 0x20, 0x7b, 0x74, 0x68, 0x65, 0x72,
+  0x65, 0x7d, 0x2c, 0x20, 0x63, 0x61, 0x6e, 0x6e, 0x6f, 0x74, 0x20, 0x66,
+  0x6f, 0x6c, 0x6c, 0x6f, 0x77, 0x20, 0xe9, 0x9b, 0xb6, 0x3a, 0x20, 0x61,
+  0x20, 0x64, 0x69, 0x67, 0x69, 0x74, 0x20, 0x69, 0x73, 0x20, 0x6d, 0x69,
+  0x73, 0x73, 0x69, 0x6e, 0x67, 0x20, 0x62, 0x65, 0x74, 0x77, 0x65, 0x65,
+  0x6e, 0x20, 0x74, 0x68, 0x65, 0x6d, 0x2e, 0xe7, 0xac, 0xac, 0x7b, 0x70,
+  0x6c, 0x61, 0x63, 0x65, 0x7d, 0xe4, 0xb8, 0xaa, 0xe5, 0xad, 0x97, 0x7b,
+  0x74, 0x68, 0x65, 0x72, 0x65, 0x7d, 0xe4, 0xb8, 0x8d, 0xe8, 0x83, 0xbd,
+  0xe5, 0x86, 0x99, 0xe5, 0x9c, 0xa8, 0xe2, 0x80, 0x9c, 0xe9, 0x9b, 0xb6,
+  0xe2, 0x80, 0x9d, 0xe5, 0x90, 0x8e, 0xe9, 0x9d, 0xa2, 0xef, 0xbc, 0x8c,
+  0xe4, 0xb8, 0xad, 0xe9, 0x97, 0xb4, 0xe7, 0xbc, 0xba, 0xe6, 0x95, 0xb0,
+  0xe5, 0xad, 0x97, 0xe3, 0x80, 0x82, 0xe7, 0xac, 0xac, 0x7b, 0x70, 0x6c,
+  0x61, 0x63, 0x65, 0x7d, 0xe5, 0x80, 0x8b, 0xe5, 0xad, 0x97, 0x7b, 0x74,
+  0x68, 0x65, 0x72, 0x65, 0x7d, 0xe4, 0xb8, 0x8d, 0xe8, 0x83, 0xbd, 0xe5,
+  0xaf, 0xab, 0xe5, 0x9c, 0xa8, 0xe3, 0x80, 0x8c, 0xe9, 0x9b, 0xb6, 0xe3,
+  0x80, 0x8d, 0xe5, 0xbe, 0x8c, 0xe9, 0x9d, 0xa2, 0xef, 0xbc, 0x8c, 0xe4,
+  0xb8, 0xad, 0xe9, 0x96, 0x93, 0xe7, 0xbc, 0xba, 0xe6, 0x95, 0xb8, 0xe5,
+  0xad, 0x97, 0xe3, 0x80, 0x82, 0x43, 0x68, 0x61, 0x72, 0x61, 0x63, 0x74,
+  0x65, 0x72, 0x20, 0x7b, 0x70, 0x6c, 0x61, 0x63, 0x65, 0x7d, 0x2c, 0x20,
+  0x7b, 0x74, 0x68, 0x65, 0x72, 0x65, 0x7d, 0x2c, 0x20, 0x69, 0x73, 0x20,
+  0x61, 0x20, 0x75, 0x6e, 0x69, 0x74, 0x20, 0x6f, 0x66, 0x20, 0x77, 0x65,
+  0x69, 0x67, 0x68, 0x74, 0x20, 0x68, 0x65, 0x72, 0x65, 0x2c, 0x20, 0x6e,
+  0x6f, 0x74, 0x20, 0x61, 0x20, 0x6e, 0x75, 0x6d, 0x62, 0x65, 0x72, 0x2e,
+  0xe7, 0xac, 0xac, 0x7b, 0x70, 0x6c, 0x61, 0x63, 0x65, 0x7d, 0xe4, 0xb8,
+  0xaa, 0xe5, 0xad, 0x97, 0x7b, 0x74, 0x68, 0x65, 0x72, 0x65, 0x7d, 0xe5,
+  0x9c, 0xa8, 0xe8, 0xbf, 0x99, 0xe9, 0x87, 0x8c, 0xe6, 0x98, 0xaf, 0xe9,
+  0x87, 0x8d, 0xe9, 0x87, 0x8f, 0xe5, 0x8d, 0x95, 0xe4, 0xbd, 0x8d, 0xef,
+  0xbc, 0x8c, 0xe4, 0xb8, 0x8d, 0xe6, 0x98, 0xaf, 0xe6, 0x95, 0xb0, 0xe5,
+  0xad, 0x97, 0xe3, 0x80, 0x82, 0xe7, 0xac, 0xac, 0x7b, 0x70, 0x6c, 0x61,
+  0x63, 0x65, 0x7d, 0xe5, 0x80, 0x8b, 0xe5, 0xad, 0x97, 0x7b, 0x74, 0x68,
+  0x65, 0x72, 0x65, 0x7d, 0xe5, 0x9c, 0xa8, 0xe9, 0x80, 0x99, 0xe8, 0xa3,
+  0xa1, 0xe6, 0x98, 0xaf, 0xe9, 0x87, 0x8d, 0xe9, 0x87, 0x8f, 0xe5, 0x96,
+  0xae, 0xe4, 0xbd, 0x8d, 0xef, 0xbc, 0x8c, 0xe4, 0xb8, 0x8d, 0xe6, 0x98,
+  0xaf, 0xe6, 0x95, 0xb8, 0xe5, 0xad, 0x97, 0xe3, 0x80, 0x82, 0x54, 0x68,
+  0x65, 0x20, 0x6e, 0x75, 0x6d, 0x62, 0x65, 0x72, 0x20, 0x62, 0x65, 0x66,
+  0x6f, 0x72, 0x65, 0x20, 0x63, 0x68, 0x61, 0x72, 0x61, 0x63, 0x74, 0x65,
+  0x72, 0x20, 0x7b, 0x70, 0x6c, 0x61, 0x63, 0x65, 0x7d, 0x2c, 0x20, 0x7b,
+  0x74, 0x68, 0x65, 0x72, 0x65, 0x7d, 0x2c, 0x20, 0x63, 0x61, 0x6e, 0x20,
+  0x62, 0x65, 0x20, 0x72, 0x65, 0x61, 0x64, 0x20, 0x69, 0x6e, 0x20, 0x74,
+  0x77, 0x6f, 0x20, 0x77, 0x61, 0x79, 0x73, 0x3a, 0x20, 0x61, 0x64, 0x64,
+  0x20, 0x61, 0x20, 0x75, 0x6e, 0x69, 0x74, 0x20, 0x6f, 0x72, 0x20, 0xe9,
+  0x9b, 0xb6, 0x2c, 0x20, 0x61, 0x73, 0x20, 0x69, 0x6e, 0x20, 0xe4, 0xb8,
+  0x80, 0xe7, 0x99, 0xbe, 0xe4, 0xba, 0x94, 0xe5, 0x8d, 0x81, 0xe4, 0xb8,
+  0x87, 0x20, 0x6f, 0x72, 0x20, 0xe4, 0xb8, 0x80, 0xe7, 0x99, 0xbe, 0xe9,
+  0x9b, 0xb6, 0xe4, 0xba, 0x94, 0xe4, 0xb8, 0x87, 0x2e, 0xe7, 0xac, 0xac,
+  0x7b, 0x70, 0x6c, 0x61, 0x63, 0x65, 0x7d, 0xe4, 0xb8, 0xaa, 0xe5, 0xad,
+  0x97, 0x7b, 0x74, 0x68, 0x65, 0x72, 0x65, 0x7d, 0xe5, 0x89, 0x8d, 0xe9,
+  0x9d, 0xa2, 0xe7, 0x9a, 0x84, 0xe6, 0x95, 0xb0, 0xe6, 0x9c, 0x89, 0xe4,
+  0xb8, 0xa4, 0xe7, 0xa7, 0x8d, 0xe8, 0xaf, 0xbb, 0xe6, 0xb3, 0x95, 0xef,
+  0xbc, 0x9a, 0xe8, 0xaf, 0xb7, 0xe8, 0xa1, 0xa5, 0xe4, 0xb8, 0x8a, 0xe5,
+  0x8d, 0x95, 0xe4, 0xbd, 0x8d, 0xe6, 0x88, 0x96, 0xe2, 0x80, 0x9c, 0xe9,
+  0x9b, 0xb6, 0xe2, 0x80, 0x9d, 0xef, 0xbc, 0x8c, 0xe5, 0xa6, 0x82, 0xe4,
+  0xb8, 0x80, 0xe7, 0x99, 0xbe, 0xe4, 0xba, 0x94, 0xe5, 0x8d, 0x81, 0xe4,
+  0xb8, 0x87, 0xe3, 0x80, 0x81, 0xe4, 0xb8, 0x80, 0xe7, 0x99, 0xbe, 0xe9,
+  0x9b, 0xb6, 0xe4, 0xba, 0x94, 0xe4, 0xb8, 0x87, 0xe3, 0x80, 0x82, 0xe7,
+  0xac, 0xac, 0x7b, 0x70, 0x6c, 0x61, 0x63, 0x65, 0x7d, 0xe5, 0x80, 0x8b,
+  0xe5, 0xad, 0x97, 0x7b, 0x74, 0x68, 0x65, 0x72, 0x65, 0x7d, 0xe5, 0x89,
+  0x8d, 0xe9, 0x9d, 0xa2, 0xe7, 0x9a, 0x84, 0xe6, 0x95, 0xb8, 0xe6, 0x9c,
+  0x89, 0xe5, 0x85, 0xa9, 0xe7, 0xa8, 0xae, 0xe8, 0xae, 0x80, 0xe6, 0xb3,
+  0x95, 0xef, 0xbc, 0x9a, 0xe8, 0xab, 0x8b, 0xe8, 0xa3, 0x9c, 0xe4, 0xb8,
+  0x8a, 0xe5, 0x96, 0xae, 0xe4, 0xbd, 0x8d, 0xe6, 0x88, 0x96, 0xe3, 0x80,
+  0x8c, 0xe9, 0x9b, 0xb6, 0xe3, 0x80, 0x8d, 0xef, 0xbc, 0x8c, 0xe5, 0xa6,
+  0x82, 0xe4, 0xb8, 0x80, 0xe7, 0x99, 0xbe, 0xe4, 0xba, 0x94, 0xe5, 0x8d,
+  0x81, 0xe8, 0x90, 0xac, 0xe3, 0x80, 0x81, 0xe4, 0xb8, 0x80, 0xe7, 0x99,
+  0xbe, 0xe9, 0x9b, 0xb6, 0xe4, 0xba, 0x94, 0xe8, 0x90, 0xac, 0xe3, 0x80,
+  0x82, 0xe2, 0x80, 0x9c, 0xe9, 0x9b, 0xb6, 0xe2, 0x80, 0x9d, 0x20, 0x69,
+  0x73, 0x20, 0x6d, 0x69, 0x73, 0x73, 0x69, 0x6e, 0x67, 0x20, 0x62, 0x65,
+  0x66, 0x6f, 0x72, 0x65, 0x20, 0x63, 0x68, 0x61, 0x72, 0x61, 0x63, 0x74,
+  0x65, 0x72, 0x20, 0x7b, 0x70, 0x6c, 0x61, 0x63, 0x65, 0x7d, 0x2c, 0x20,
+  0x7b, 0x74, 0x68, 0x65, 0x72, 0x65, 0x7d, 0x2c, 0x20, 0x6f, 0x72, 0x20,
+  0x61, 0x20, 0x75, 0x6e, 0x69, 0x74, 0x20, 0x73, 0x75, 0x63, 0x68, 0x20,
+  0x61, 0x73, 0x20, 0xe4, 0xb8, 0x87, 0x20, 0x61, 0x74, 0x20, 0x74, 0x68,
+  0x65, 0x20, 0x65, 0x6e, 0x64, 0x2e, 0xe7, 0xac, 0xac, 0x7b, 0x70, 0x6c,
+  0x61, 0x63, 0x65, 0x7d, 0xe4, 0xb8, 0xaa, 0xe5, 0xad, 0x97, 0x7b, 0x74,
+  0x68, 0x65, 0x72, 0x65, 0x7d, 0xe5, 0x89, 0x8d, 0xe7, 0xbc, 0xba, 0xe2,
+  0x80, 0x9c, 0xe9, 0x9b, 0xb6, 0xe2, 0x80, 0x9d, 0xef, 0xbc, 0x8c, 0xe6,
+  0x88, 0x96, 0xe6, 0x9c, 0xab, 0xe5, 0xb0, 0xbe, 0xe7, 0xbc, 0xba, 0xe2,
+  0x80, 0x9c, 0xe4, 0xb8, 0x87, 0xe2, 0x80, 0x9d, 0xe7, 0xad, 0x89, 0xe5,
+  0x8d, 0x95, 0xe4, 0xbd, 0x8d, 0xe3, 0x80, 0x82, 0xe7, 0xac, 0xac, 0x7b,
+  0x70, 0x6c, 0x61, 0x63, 0x65, 0x7d, 0xe5, 0x80, 0x8b, 0xe5, 0xad, 0x97,
+  0x7b, 0x74, 0x68, 0x65, 0x72, 0x65, 0x7d, 0xe5, 0x89, 0x8d, 0xe7, 0xbc,
+  0xba, 0xe3, 0x80, 0x8c, 0xe9, 0x9b, 0xb6, 0xe3, 0x80, 0x8d, 0xef, 0xbc,
+  0x8c, 0xe6, 0x88, 0x96, 0xe6, 0x9c, 0xab, 0xe5, 0xb0, 0xbe, 0xe7, 0xbc,
+  0xba, 0xe3, 0x80, 0x8c, 0xe8, 0x90, 0xac, 0xe3, 0x80, 0x8d, 0xe7, 0xad,
+  0x89, 0xe5, 0x96, 0xae, 0xe4, 0xbd, 0x8d, 0xe3, 0x80, 0x82, 0x54, 0x68,
+  0x65, 0x20, 0x64, 0x65, 0x6e, 0x6f, 0x6d, 0x69, 0x6e, 0x61, 0x74, 0x6f,
+  0x72, 0x20, 0x6d, 0x75, 0x73, 0x74, 0x20, 0x62, 0x65, 0x20, 0x61, 0x20,
+  0x77, 0x68, 0x6f, 0x6c, 0x65, 0x20, 0x6e, 0x75, 0x6d, 0x62, 0x65, 0x72,
+  0x20, 0x61, 0x62, 0x6f, 0x76, 0x65, 0x20, 0x30, 0x2e, 0xe5, 0x88, 0x86,
+  0xe6, 0xaf, 0x8d, 0xe5, 0xbf, 0x85, 0xe9, 0xa1, 0xbb, 0xe6, 0x98, 0xaf,
+  0xe5, 0xa4, 0xa7, 0xe4, 0xba, 0x8e, 0xe9, 0x9b, 0xb6, 0xe7, 0x9a, 0x84,
+  0xe6, 0x95, 0xb4, 0xe6, 0x95, 0xb0, 0xe3, 0x80, 0x82, 0xe5, 0x88, 0x86,
+  0xe6, 0xaf, 0x8d, 0xe5, 0xbf, 0x85, 0xe9, 0xa0, 0x88, 0xe6, 0x98, 0xaf,
+  0xe5, 0xa4, 0xa7, 0xe6, 0x96, 0xbc, 0xe9, 0x9b, 0xb6, 0xe7, 0x9a, 0x84,
+  0xe6, 0x95, 0xb4, 0xe6, 0x95, 0xb8, 0xe3, 0x80, 0x82, 0x41, 0x20, 0x6e,
+  0x75, 0x6d, 0x62, 0x65, 0x72, 0x20, 0x69, 0x73, 0x20, 0x6d, 0x69, 0x73,
+  0x73, 0x69, 0x6e, 0x67, 0x20, 0x61, 0x74, 0x20, 0x74, 0x68, 0x65, 0x20,
+  0x65, 0x6e, 0x64, 0x2e, 0xe6, 0x9c, 0xab, 0xe5, 0xb0, 0xbe, 0xe7, 0xbc,
+  0xba, 0xe6, 0x95, 0xb0, 0xe5, 0xad, 0x97, 0xe3, 0x80, 0x82, 0xe6, 0x9c,
+  0xab, 0xe5, 0xb0, 0xbe, 0xe7, 0xbc, 0xba, 0xe6, 0x95, 0xb8, 0xe5, 0xad,
+  0x97, 0xe3, 0x80, 0x82, 0x43, 0x68, 0x61, 0x72, 0x61, 0x63, 0x74, 0x65,
+  0x72, 0x20, 0x7b, 0x70, 0x6c, 0x61, 0x63, 0x65, 0x7d, 0x2c, 0x20, 0x7b,
+  0x74, 0x68, 0x65, 0x72, 0x65, 0x7d, 0x2c, 0x20, 0x69, 0x73, 0x20, 0x61,
+  0x20, 0x73, 0x65, 0x63, 0x6f, 0x6e, 0x64, 0x20, 0x64, 0x65, 0x63, 0x69,
+  0x6d, 0x61, 0x6c, 0x20, 0x70, 0x6f, 0x69, 0x6e, 0x74, 0x2e, 0xe7, 0xac,
+  0xac, 0x7b, 0x70, 0x6c, 0x61, 0x63, 0x65, 0x7d, 0xe4, 0xb8, 0xaa, 0xe5,
+  0xad, 0x97, 0x7b, 0x74, 0x68, 0x65, 0x72, 0x65, 0x7d, 0xe6, 0x98, 0xaf,
+  0xe7, 0xac, 0xac, 0xe4, 0xba, 0x8c, 0xe4, 0xb8, 0xaa, 0xe5, 0xb0, 0x8f,
+  0xe6, 0x95, 0xb0, 0xe7, 0x82, 0xb9, 0xe3, 0x80, 0x82, 0xe7, 0xac, 0xac,
+  0x7b, 0x70, 0x6c, 0x61, 0x63, 0x65, 0x7d, 0xe5, 0x80, 0x8b, 0xe5, 0xad,
+  0x97, 0x7b, 0x74, 0x68, 0x65, 0x72, 0x65, 0x7d, 0xe6, 0x98, 0xaf, 0xe7,
+  0xac, 0xac, 0xe4, 0xba, 0x8c, 0xe5, 0x80, 0x8b, 0xe5, 0xb0, 0x8f, 0xe6,
+  0x95, 0xb8, 0xe9, 0xbb, 0x9e, 0xe3, 0x80, 0x82, 0x41, 0x66, 0x74, 0x65,
+  0x72, 0x20, 0x63, 0x68, 0x61, 0x72, 0x61, 0x63, 0x74, 0x65, 0x72, 0x20,
+  0x7b, 0x70, 0x6c, 0x61, 0x63, 0x65, 0x7d, 0x2c, 0x20, 0x7b, 0x74, 0x68,
+  0x65, 0x72, 0x65, 0x7d, 0x2c, 0x20, 0x74, 0x68, 0x65, 0x20, 0x64, 0x69,
+  0x67, 0x69, 0x74, 0x73, 0x20, 0x61, 0x72, 0x65, 0x20, 0x77, 0x72, 0x69,
+  0x74, 0x74, 0x65, 0x6e, 0x20, 0x6f, 0x6e, 0x65, 0x20, 0x62, 0x79, 0x20,
+  0x6f, 0x6e, 0x65, 0x2c, 0x20, 0x61, 0x73, 0x20, 0x69, 0x6e, 0x20, 0xe4,
+  0xba, 0x8c, 0xe7, 0x82, 0xb9, 0xe4, 0xb8, 0x80, 0xe4, 0xba, 0x94, 0x2e,
+  0xe7, 0xac, 0xac, 0x7b, 0x70, 0x6c, 0x61, 0x63, 0x65, 0x7d, 0xe4, 0xb8,
+  0xaa, 0xe5, 0xad, 0x97, 0x7b, 0x74, 0x68, 0x65, 0x72, 0x65, 0x7d, 0xe5,
+  0x90, 0x8e, 0xe9, 0x9d, 0xa2, 0xe8, 0xa6, 0x81, 0xe9, 0x80, 0x90, 0xe4,
+  0xb8, 0xaa, 0xe5, 0x86, 0x99, 0xe6, 0x95, 0xb0, 0xe5, 0xad, 0x97, 0xef,
+  0xbc, 0x8c, 0xe5, 0xa6, 0x82, 0xe2, 0x80, 0x9c, 0xe4, 0xba, 0x8c, 0xe7,
+  0x82, 0xb9, 0xe4, 0xb8, 0x80, 0xe4, 0xba, 0x94, 0xe2, 0x80, 0x9d, 0xe3,
+  0x80, 0x82, 0xe7, 0xac, 0xac, 0x7b, 0x70, 0x6c, 0x61, 0x63, 0x65, 0x7d,
+  0xe5, 0x80, 0x8b, 0xe5, 0xad, 0x97, 0x7b, 0x74, 0x68, 0x65, 0x72, 0x65,
+  0x7d, 0xe5, 0xbe, 0x8c, 0xe9, 0x9d, 0xa2, 0xe8, 0xa6, 0x81, 0xe9, 0x80,
+  0x90, 0xe5, 0x80, 0x8b, 0xe5, 0xaf, 0xab, 0xe6, 0x95, 0xb8, 0xe5, 0xad,
+  0x97, 0xef, 0xbc, 0x8c, 0xe5, 0xa6, 0x82, 0xe3, 0x80, 0x8c, 0xe4, 0xba,
+  0x8c, 0xe9, 0xbb, 0x9e, 0xe4, 0xb8, 0x80, 0xe4, 0xba, 0x94, 0xe3, 0x80,
+  0x8d, 0xe3, 0x80, 0x82, 0x54, 0x68, 0x65, 0x20, 0x74, 0x65, 0x78, 0x74,
+  0x20, 0x69, 0x73, 0x20, 0x6e, 0x6f, 0x74, 0x20, 0x63, 0x6f, 0x72, 0x72,
+  0x65, 0x63, 0x74, 0x2e, 0xe5, 0x86, 0x99, 0xe6, 0xb3, 0x95, 0xe4, 0xb8,
+  0x8d, 0xe5, 0xaf, 0xb9, 0xe3, 0x80, 0x82, 0xe5, 0xaf, 0xab, 0xe6, 0xb3,
+  0x95, 0xe4, 0xb8, 0x8d, 0xe5, 0xb0, 0x8d, 0xe3, 0x80, 0x82, 0x54, 0x68,
+  0x65, 0x20, 0x62, 0x79, 0x74, 0x65, 0x73, 0x20, 0x61, 0x72, 0x65, 0x20,
+  0x6e, 0x6f, 0x74, 0x20, 0x74, 0x65, 0x78, 0x74, 0x20, 0x69, 0x6e, 0x20,
+  0x55, 0x54, 0x46, 0x2d, 0x38, 0x2e, 0xe4, 0xb8, 0x8d, 0xe6, 0x98, 0xaf,
+  0x20, 0x55, 0x54, 0x46, 0x2d, 0x38, 0x20, 0xe6, 0x96, 0x87, 0xe6, 0x9c,
+  0xac, 0xe3, 0x80, 0x82, 0xe4, 0xb8, 0x8d, 0xe6, 0x98, 0xaf, 0x20, 0x55,
+  0x54, 0x46, 0x2d, 0x38, 0x20, 0xe6, 0x96, 0x87, 0xe5, 0xad, 0x97, 0xe3,
+  0x80, 0x82, 0x54, 0x68, 0x65, 0x20, 0x62, 0x75, 0x66, 0x66, 0x65, 0x72,
+  0x20, 0x69, 0x73, 0x20, 0x74, 0x6f, 0x6f, 0x20, 0x73, 0x6d, 0x61, 0x6c,
+  0x6c, 0x20, 0x66, 0x6f, 0x72, 0x20, 0x74, 0x68, 0x65, 0x20, 0x74, 0x65,
+  0x78, 0x74, 0x2e, 0xe7, 0xbc, 0x93, 0xe5, 0x86, 0xb2, 0xe5, 0x8c, 0xba,
+  0xe5, 0xa4, 0xaa, 0xe5, 0xb0, 0x8f, 0xe3, 0x80, 0x82, 0xe7, 0xb7, 0xa9,
+  0xe8, 0xa1, 0x9d, 0xe5, 0x8d, 0x80, 0xe5, 0xa4, 0xaa, 0xe5, 0xb0, 0x8f,
+  0xe3, 0x80, 0x82, 0x54, 0x68, 0x65, 0x20, 0x74, 0x79, 0x70, 0x65, 0x20,
+  0x63, 0x61, 0x6e, 0x6e, 0x6f, 0x74, 0x20, 0x68, 0x6f, 0x6c, 0x64, 0x20,
+  0x74, 0x68, 0x65, 0x20, 0x6e, 0x75, 0x6d, 0x62, 0x65, 0x72, 0x2e, 0xe8,
+  0xaf, 0xa5, 0xe7, 0xb1, 0xbb, 0xe5, 0x9e, 0x8b, 0xe6, 0x94, 0xbe, 0xe4,
+  0xb8, 0x8d, 0xe4, 0xb8, 0x8b, 0xe8, 0xbf, 0x99, 0xe4, 0xb8, 0xaa, 0xe6,
+  0x95, 0xb0, 0xe5, 0xad, 0x97, 0xe3, 0x80, 0x82, 0xe8, 0xa9, 0xb2, 0xe5,
+  0x9e, 0x8b, 0xe5, 0x88, 0xa5, 0xe6, 0x94, 0xbe, 0xe4, 0xb8, 0x8d, 0xe4,
+  0xb8, 0x8b, 0xe9, 0x80, 0x99, 0xe5, 0x80, 0x8b, 0xe6, 0x95, 0xb8, 0xe5,
+  0xad, 0x97, 0xe3, 0x80, 0x82, 0x41, 0x20, 0x63, 0x6f, 0x64, 0x65, 0x20,
+  0x68, 0x61, 0x73, 0x20, 0x6e, 0x6f, 0x20, 0x6d, 0x65, 0x61, 0x6e, 0x69,
+  0x6e, 0x67, 0x2e, 0xe4, 0xbb, 0xa3, 0xe7, 0xa0, 0x81, 0xe6, 0xb2, 0xa1,
+  0xe6, 0x9c, 0x89, 0xe6, 0x84, 0x8f, 0xe4, 0xb9, 0x89, 0xe3, 0x80, 0x82,
+  0xe4, 0xbb, 0xa3, 0xe7, 0xa2, 0xbc, 0xe6, 0xb2, 0x92, 0xe6, 0x9c, 0x89,
+  0xe6, 0x84, 0x8f, 0xe7, 0xbe, 0xa9, 0xe3, 0x80, 0x82, 0x54, 0x68, 0x65,
+  0x72, 0x65, 0x20, 0x69, 0x73, 0x20, 0x6e, 0x6f, 0x20, 0x66, 0x75, 0x72,
+  0x74, 0x68, 0x65, 0x72, 0x20, 0x6e, 0x75, 0x6d, 0x62, 0x65, 0x72, 0x20,
+  0x69, 0x6e, 0x20, 0x74, 0x68, 0x65, 0x20, 0x74, 0x65, 0x78, 0x74, 0x2e,
+  0xe6, 0x96, 0x87, 0xe6, 0x9c, 0xac, 0xe9, 0x87, 0x8c, 0xe6, 0xb2, 0xa1,
+  0xe6, 0x9c, 0x89, 0xe6, 0x9b, 0xb4, 0xe5, 0xa4, 0x9a, 0xe7, 0x9a, 0x84,
+  0xe6, 0x95, 0xb0, 0xe5, 0xad, 0x97, 0xe3, 0x80, 0x82, 0xe6, 0x96, 0x87,
+  0xe5, 0xad, 0x97, 0xe8, 0xa3, 0xa1, 0xe6, 0xb2, 0x92, 0xe6, 0x9c, 0x89,
+  0xe6, 0x9b, 0xb4, 0xe5, 0xa4, 0x9a, 0xe7, 0x9a, 0x84, 0xe6, 0x95, 0xb8,
+  0xe5, 0xad, 0x97, 0xe3, 0x80, 0x82, 0x54, 0x68, 0x65, 0x72, 0x65, 0x20,
+  0x69, 0x73, 0x20, 0x6e, 0x6f, 0x20, 0x73, 0x75, 0x63, 0x68, 0x20, 0x64,
+  0x61, 0x74, 0x65, 0x2e, 0xe6, 0xb2, 0xa1, 0xe6, 0x9c, 0x89, 0xe8, 0xbf,
+  0x99, 0xe4, 0xb8, 0xaa, 0xe6, 0x97, 0xa5, 0xe6, 0x9c, 0x9f, 0xe3, 0x80,
+  0x82, 0xe6, 0xb2, 0x92, 0xe6, 0x9c, 0x89, 0xe9, 0x80, 0x99, 0xe5, 0x80,
+  0x8b, 0xe6, 0x97, 0xa5, 0xe6, 0x9c, 0x9f, 0xe3, 0x80, 0x82, 0x54, 0x68,
+  0x65, 0x20, 0x74, 0x65, 0x78, 0x74, 0x20, 0x69, 0x73, 0x20, 0x74, 0x6f,
+  0x6f, 0x20, 0x6c, 0x6f, 0x6e, 0x67, 0x2e, 0xe6, 0x96, 0x87, 0xe6, 0x9c,
+  0xac, 0xe5, 0xa4, 0xaa, 0xe9, 0x95, 0xbf, 0xe3, 0x80, 0x82, 0xe6, 0x96,
+  0x87, 0xe5, 0xad, 0x97, 0xe5, 0xa4, 0xaa, 0xe9, 0x95, 0xb7, 0xe3, 0x80,
+  0x82, 0x70, 0x6c, 0x61, 0x63, 0x65, 0x74, 0x68, 0x65, 0x72, 0x65, 0x61,
+  0x66, 0x74, 0x65, 0x72, 0x6e, 0x65, 0x78, 0x74, 0x65, 0x78, 0x61, 0x6d,
+  0x70, 0x6c, 0x65, 0x2d, 0x2f, 0x25, 0x61, 0x20, 0x73, 0x70, 0x61, 0x63,
+  0x65, 0xef, 0xbc, 0x88, 0xe7, 0xa9, 0xba, 0xe6, 0xa0, 0xbc, 0xef, 0xbc,
+  0x89, 0x61, 0x6e, 0x20, 0x69, 0x6e, 0x76, 0x69, 0x73, 0x69, 0x62, 0x6c,
+  0x65, 0x20, 0x63, 0x68, 0x61, 0x72, 0x61, 0x63, 0x74, 0x65, 0x72, 0xef,
+  0xbc, 0x88, 0xe4, 0xb8, 0x8d, 0xe5, 0x8f, 0xaf, 0xe8, 0xa7, 0x81, 0xe5,
+  0xad, 0x97, 0xe7, 0xac, 0xa6, 0xef, 0xbc, 0x89, 0xef, 0xbc, 0x88, 0xe4,
+  0xb8, 0x8d, 0xe5, 0x8f, 0xaf, 0xe8, 0xa6, 0x8b, 0xe5, 0xad, 0x97, 0xe5,
+  0x85, 0x83, 0xef, 0xbc, 0x89, 0xe3, 0x80, 0x8c, 0xe3, 0x80, 0x8d, 0xe2,
+  0x80, 0x9c, 0xe2, 0x80, 0x9d, 0x00, 0x00, 0x00, 0xf6, 0x96, 0x00, 0x00,
   0xfe, 0x62, 0x00, 0x00, 0x70, 0x4f, 0x00, 0x00, 0xdf, 0x4e, 0x00, 0x00,
   0x07, 0x4e, 0x00, 0x00, 0xbf, 0x4e, 0x00, 0x00, 0x43, 0x51, 0x00, 0x00,
   0xd2, 0x89, 0x00, 0x00, 0x06, 0x52, 0x00, 0x00, 0x74, 0x65, 0x00, 0x00,
@@ -1260,8 +1269,7 @@ static const u8 constants[] = {
   0xec, 0x71, 0x01, 0xec, 0xac, 0x01, 0xec, 0xad, 0x01, 0xec, 0xb0, 0x01,
   0xec, 0xb1, 0x01, 0xec, 0xb5, 0x01, 0xed, 0x01, 0x01, 0xed, 0x2e, 0x01,
   0xed, 0x2f, 0x01, 0xed, 0x3e, 0x01, 0xf1, 0x00, 0x01, 0xf1, 0x0d, 0x01,
-  0xfb, 0xf0, 0x01, 0xfb, 0xfa, 0xe3, 0x80, 0x8c, 0xe3, 0x80, 0x8d, 0xe2,
-  0x80, 0x9c, 0xe2, 0x80, 0x9d, 0xe2, 0x80, 0x93, 0xe8, 0xb2, 0xa0, 0xe5,
+  0xfb, 0xf0, 0x01, 0xfb, 0xfa, 0xe2, 0x80, 0x93, 0xe8, 0xb2, 0xa0, 0xe5,
   0xa3, 0xb9, 0xe4, 0xbb, 0x9f, 0xe8, 0x82, 0x86, 0xe4, 0xbd, 0xb0, 0xe9,
   0x9b, 0xb6, 0xe7, 0x8e, 0x96, 0xe5, 0x85, 0x83, 0xe4, 0xbc, 0x8d, 0xe8,
   0xa7, 0x92, 0xe6, 0x95, 0xb4, 0xe8, 0xb4, 0x9f, 0xe5, 0xa3, 0xb9, 0xe4,
@@ -1599,177 +1607,187 @@ static const u8 constants[] = {
   0x04, 0x01, 0x02, 0x03, 0x06, 0x01, 0x02, 0x03, 0x04, 0x01, 0x02, 0x03,
   0x05, 0x01, 0x02, 0x03, 0x04, 0x01, 0x02, 0x03, 0x07, 0x01, 0x02, 0x03,
   0x04, 0x01, 0x02, 0xe5, 0x88, 0x86, 0xe4, 0xb9, 0x8b, 0x00, 0x00, 0x00,
-  0x8f, 0x05, 0x01, 0x00, 0x00, 0x00, 0x00, 0x00, 0xf9, 0x05, 0x01, 0x00,
-  0x00, 0x00, 0x00, 0x00, 0x79, 0x06, 0x01, 0x00, 0x00, 0x00, 0x00, 0x00,
-  0x10, 0x07, 0x01, 0x00, 0x00, 0x00, 0x00, 0x00, 0xaa, 0x07, 0x01, 0x00,
-  0x00, 0x00, 0x00, 0x00, 0xfc, 0x07, 0x01, 0x00, 0x00, 0x00, 0x00, 0x00,
-  0x93, 0x08, 0x01, 0x00, 0x00, 0x00, 0x00, 0x00, 0x00, 0x09, 0x01, 0x00,
-  0x00, 0x00, 0x00, 0x00, 0x51, 0x09, 0x01, 0x00, 0x00, 0x00, 0x00, 0x00,
-  0xa3, 0x09, 0x01, 0x00, 0x00, 0x00, 0x00, 0x00, 0x5a, 0x0a, 0x01, 0x00,
-  0x00, 0x00, 0x00, 0x00, 0xf7, 0x0a, 0x01, 0x00, 0x00, 0x00, 0x00, 0x00,
-  0x51, 0x0b, 0x01, 0x00, 0x00, 0x00, 0x00, 0x00, 0x99, 0x0b, 0x01, 0x00,
-  0x00, 0x00, 0x00, 0x00, 0x19, 0x0c, 0x01, 0x00, 0x00, 0x00, 0x00, 0x00,
-  0xed, 0x0d, 0x01, 0x00, 0x00, 0x00, 0x00, 0x00, 0x92, 0x0c, 0x01, 0x00,
-  0x00, 0x00, 0x00, 0x00, 0x15, 0x0d, 0x01, 0x00, 0x00, 0x00, 0x00, 0x00,
-  0x90, 0x0d, 0x01, 0x00, 0x00, 0x00, 0x00, 0x00, 0x5a, 0x0e, 0x01, 0x00,
-  0x00, 0x00, 0x00, 0x00, 0x9d, 0x0e, 0x01, 0x00, 0x00, 0x00, 0x00, 0x00,
-  0xd3, 0x0e, 0x01, 0x00, 0x00, 0x00, 0x00, 0x00, 0x09, 0x0f, 0x01, 0x00,
-  0x00, 0x00, 0x00, 0x00, 0x7f, 0x0f, 0x01, 0x00, 0x00, 0x00, 0x00, 0x00,
-  0x1b, 0x10, 0x01, 0x00, 0x00, 0x00, 0x00, 0x00, 0xaa, 0x10, 0x01, 0x00,
-  0x00, 0x00, 0x00, 0x00, 0x9d, 0x11, 0x01, 0x00, 0x00, 0x00, 0x00, 0x00,
-  0x08, 0x13, 0x01, 0x00, 0x00, 0x00, 0x00, 0x00, 0xdc, 0x13, 0x01, 0x00,
-  0x00, 0x00, 0x00, 0x00, 0xb1, 0x14, 0x01, 0x00, 0x00, 0x00, 0x00, 0x00,
-  0x86, 0x15, 0x01, 0x00, 0x00, 0x00, 0x00, 0x00, 0x30, 0x16, 0x01, 0x00,
-  0x00, 0x00, 0x00, 0x00, 0xce, 0x16, 0x01, 0x00, 0x00, 0x00, 0x00, 0x00,
-  0xad, 0x17, 0x01, 0x00, 0x00, 0x00, 0x00, 0x00, 0x8a, 0x18, 0x01, 0x00,
-  0x00, 0x00, 0x00, 0x00, 0xda, 0x19, 0x01, 0x00, 0x00, 0x00, 0x00, 0x00,
-  0x09, 0x1b, 0x01, 0x00, 0x00, 0x00, 0x00, 0x00, 0xac, 0x1b, 0x01, 0x00,
-  0x00, 0x00, 0x00, 0x00, 0x01, 0x1c, 0x01, 0x00, 0x00, 0x00, 0x00, 0x00,
-  0x7c, 0x1c, 0x01, 0x00, 0x00, 0x00, 0x00, 0x00, 0x5f, 0x1d, 0x01, 0x00,
-  0x00, 0x00, 0x00, 0x00, 0xd6, 0x1d, 0x01, 0x00, 0x00, 0x00, 0x00, 0x00,
-  0x1b, 0x1e, 0x01, 0x00, 0x00, 0x00, 0x00, 0x00, 0x68, 0x1e, 0x01, 0x00,
-  0x00, 0x00, 0x00, 0x00, 0xbb, 0x1e, 0x01, 0x00, 0x00, 0x00, 0x00, 0x00,
-  0x07, 0x1f, 0x01, 0x00, 0x00, 0x00, 0x00, 0x00, 0x64, 0x1f, 0x01, 0x00,
-  0x00, 0x00, 0x00, 0x00, 0xb0, 0x1f, 0x01, 0x00, 0x00, 0x00, 0x00, 0x00,
-  0xe9, 0x1f, 0x01, 0x00, 0x00, 0x00, 0x00, 0x00, 0x31, 0x00, 0x00, 0x00,
+  0x83, 0x05, 0x01, 0x00, 0x00, 0x00, 0x00, 0x00, 0xe7, 0x05, 0x01, 0x00,
+  0x00, 0x00, 0x00, 0x00, 0x5b, 0x06, 0x01, 0x00, 0x00, 0x00, 0x00, 0x00,
+  0xe0, 0x06, 0x01, 0x00, 0x00, 0x00, 0x00, 0x00, 0x68, 0x07, 0x01, 0x00,
+  0x00, 0x00, 0x00, 0x00, 0xbd, 0x07, 0x01, 0x00, 0x00, 0x00, 0x00, 0x00,
+  0xef, 0x07, 0x01, 0x00, 0x00, 0x00, 0x00, 0x00, 0x86, 0x08, 0x01, 0x00,
+  0x00, 0x00, 0x00, 0x00, 0xf3, 0x08, 0x01, 0x00, 0x00, 0x00, 0x00, 0x00,
+  0x44, 0x09, 0x01, 0x00, 0x00, 0x00, 0x00, 0x00, 0x98, 0x09, 0x01, 0x00,
+  0x00, 0x00, 0x00, 0x00, 0xea, 0x09, 0x01, 0x00, 0x00, 0x00, 0x00, 0x00,
+  0xa3, 0x0a, 0x01, 0x00, 0x00, 0x00, 0x00, 0x00, 0x4c, 0x0b, 0x01, 0x00,
+  0x00, 0x00, 0x00, 0x00, 0xd3, 0x0b, 0x01, 0x00, 0x00, 0x00, 0x00, 0x00,
+  0x2d, 0x0c, 0x01, 0x00, 0x00, 0x00, 0x00, 0x00, 0x75, 0x0c, 0x01, 0x00,
+  0x00, 0x00, 0x00, 0x00, 0xf5, 0x0c, 0x01, 0x00, 0x00, 0x00, 0x00, 0x00,
+  0x11, 0x0f, 0x01, 0x00, 0x00, 0x00, 0x00, 0x00, 0x6e, 0x0d, 0x01, 0x00,
+  0x00, 0x00, 0x00, 0x00, 0xf1, 0x0d, 0x01, 0x00, 0x00, 0x00, 0x00, 0x00,
+  0x8c, 0x0e, 0x01, 0x00, 0x00, 0x00, 0x00, 0x00, 0xb7, 0x0f, 0x01, 0x00,
+  0x00, 0x00, 0x00, 0x00, 0x00, 0x10, 0x01, 0x00, 0x00, 0x00, 0x00, 0x00,
+  0x36, 0x10, 0x01, 0x00, 0x00, 0x00, 0x00, 0x00, 0x6c, 0x10, 0x01, 0x00,
+  0x00, 0x00, 0x00, 0x00, 0xd6, 0x10, 0x01, 0x00, 0x00, 0x00, 0x00, 0x00,
+  0x60, 0x11, 0x01, 0x00, 0x00, 0x00, 0x00, 0x00, 0xf5, 0x11, 0x01, 0x00,
+  0x00, 0x00, 0x00, 0x00, 0xd6, 0x12, 0x01, 0x00, 0x00, 0x00, 0x00, 0x00,
+  0x1d, 0x14, 0x01, 0x00, 0x00, 0x00, 0x00, 0x00, 0xd9, 0x14, 0x01, 0x00,
+  0x00, 0x00, 0x00, 0x00, 0x9c, 0x15, 0x01, 0x00, 0x00, 0x00, 0x00, 0x00,
+  0x5f, 0x16, 0x01, 0x00, 0x00, 0x00, 0x00, 0x00, 0xf7, 0x16, 0x01, 0x00,
+  0x00, 0x00, 0x00, 0x00, 0x83, 0x17, 0x01, 0x00, 0x00, 0x00, 0x00, 0x00,
+  0x4e, 0x18, 0x01, 0x00, 0x00, 0x00, 0x00, 0x00, 0x19, 0x19, 0x01, 0x00,
+  0x00, 0x00, 0x00, 0x00, 0x57, 0x1a, 0x01, 0x00, 0x00, 0x00, 0x00, 0x00,
+  0x74, 0x1b, 0x01, 0x00, 0x00, 0x00, 0x00, 0x00, 0x11, 0x1c, 0x01, 0x00,
+  0x00, 0x00, 0x00, 0x00, 0x66, 0x1c, 0x01, 0x00, 0x00, 0x00, 0x00, 0x00,
+  0xdd, 0x1c, 0x01, 0x00, 0x00, 0x00, 0x00, 0x00, 0xae, 0x1d, 0x01, 0x00,
+  0x00, 0x00, 0x00, 0x00, 0x1f, 0x1e, 0x01, 0x00, 0x00, 0x00, 0x00, 0x00,
+  0x64, 0x1e, 0x01, 0x00, 0x00, 0x00, 0x00, 0x00, 0xb1, 0x1e, 0x01, 0x00,
+  0x00, 0x00, 0x00, 0x00, 0x04, 0x1f, 0x01, 0x00, 0x00, 0x00, 0x00, 0x00,
+  0x50, 0x1f, 0x01, 0x00, 0x00, 0x00, 0x00, 0x00, 0xad, 0x1f, 0x01, 0x00,
+  0x00, 0x00, 0x00, 0x00, 0xf9, 0x1f, 0x01, 0x00, 0x00, 0x00, 0x00, 0x00,
+  0x32, 0x20, 0x01, 0x00, 0x00, 0x00, 0x00, 0x00, 0x2b, 0x00, 0x00, 0x00,
   0x00, 0x00, 0x00, 0x00, 0x17, 0x00, 0x00, 0x00, 0x00, 0x00, 0x00, 0x00,
-  0x31, 0x00, 0x00, 0x00, 0x00, 0x00, 0x00, 0x00, 0x32, 0x00, 0x00, 0x00,
-  0x00, 0x00, 0x00, 0x00, 0x32, 0x00, 0x00, 0x00, 0x00, 0x00, 0x00, 0x00,
-  0x0f, 0x00, 0x00, 0x00, 0x00, 0x00, 0x00, 0x00, 0x3c, 0x00, 0x00, 0x00,
+  0x2b, 0x00, 0x00, 0x00, 0x00, 0x00, 0x00, 0x00, 0x2c, 0x00, 0x00, 0x00,
+  0x00, 0x00, 0x00, 0x00, 0x2c, 0x00, 0x00, 0x00, 0x00, 0x00, 0x00, 0x00,
+  0x12, 0x00, 0x00, 0x00, 0x00, 0x00, 0x00, 0x00, 0x0f, 0x00, 0x00, 0x00,
+  0x00, 0x00, 0x00, 0x00, 0x3c, 0x00, 0x00, 0x00, 0x00, 0x00, 0x00, 0x00,
+  0x1b, 0x00, 0x00, 0x00, 0x00, 0x00, 0x00, 0x00, 0x1b, 0x00, 0x00, 0x00,
   0x00, 0x00, 0x00, 0x00, 0x1b, 0x00, 0x00, 0x00, 0x00, 0x00, 0x00, 0x00,
-  0x1b, 0x00, 0x00, 0x00, 0x00, 0x00, 0x00, 0x00, 0x18, 0x00, 0x00, 0x00,
-  0x00, 0x00, 0x00, 0x00, 0x49, 0x00, 0x00, 0x00, 0x00, 0x00, 0x00, 0x00,
+  0x18, 0x00, 0x00, 0x00, 0x00, 0x00, 0x00, 0x00, 0x43, 0x00, 0x00, 0x00,
+  0x00, 0x00, 0x00, 0x00, 0x33, 0x00, 0x00, 0x00, 0x00, 0x00, 0x00, 0x00,
   0x24, 0x00, 0x00, 0x00, 0x00, 0x00, 0x00, 0x00, 0x1b, 0x00, 0x00, 0x00,
   0x00, 0x00, 0x00, 0x00, 0x15, 0x00, 0x00, 0x00, 0x00, 0x00, 0x00, 0x00,
-  0x30, 0x00, 0x00, 0x00, 0x00, 0x00, 0x00, 0x00, 0x18, 0x00, 0x00, 0x00,
+  0x30, 0x00, 0x00, 0x00, 0x00, 0x00, 0x00, 0x00, 0x30, 0x00, 0x00, 0x00,
   0x00, 0x00, 0x00, 0x00, 0x1e, 0x00, 0x00, 0x00, 0x00, 0x00, 0x00, 0x00,
   0x2a, 0x00, 0x00, 0x00, 0x00, 0x00, 0x00, 0x00, 0x2a, 0x00, 0x00, 0x00,
-  0x00, 0x00, 0x00, 0x00, 0x20, 0x00, 0x00, 0x00, 0x00, 0x00, 0x00, 0x00,
+  0x00, 0x00, 0x00, 0x00, 0x26, 0x00, 0x00, 0x00, 0x00, 0x00, 0x00, 0x00,
   0x0f, 0x00, 0x00, 0x00, 0x00, 0x00, 0x00, 0x00, 0x0f, 0x00, 0x00, 0x00,
   0x00, 0x00, 0x00, 0x00, 0x0f, 0x00, 0x00, 0x00, 0x00, 0x00, 0x00, 0x00,
-  0x2c, 0x00, 0x00, 0x00, 0x00, 0x00, 0x00, 0x00, 0x32, 0x00, 0x00, 0x00,
-  0x00, 0x00, 0x00, 0x00, 0x2c, 0x00, 0x00, 0x00, 0x00, 0x00, 0x00, 0x00,
-  0x5d, 0x00, 0x00, 0x00, 0x00, 0x00, 0x00, 0x00, 0x75, 0x00, 0x00, 0x00,
-  0x00, 0x00, 0x00, 0x00, 0x2c, 0x00, 0x00, 0x00, 0x00, 0x00, 0x00, 0x00,
-  0x50, 0x00, 0x00, 0x00, 0x00, 0x00, 0x00, 0x00, 0x3e, 0x00, 0x00, 0x00,
-  0x00, 0x00, 0x00, 0x00, 0x2f, 0x00, 0x00, 0x00, 0x00, 0x00, 0x00, 0x00,
-  0x3b, 0x00, 0x00, 0x00, 0x00, 0x00, 0x00, 0x00, 0x4d, 0x00, 0x00, 0x00,
-  0x00, 0x00, 0x00, 0x00, 0x47, 0x00, 0x00, 0x00, 0x00, 0x00, 0x00, 0x00,
-  0x80, 0x00, 0x00, 0x00, 0x00, 0x00, 0x00, 0x00, 0x50, 0x00, 0x00, 0x00,
+  0x26, 0x00, 0x00, 0x00, 0x00, 0x00, 0x00, 0x00, 0x2c, 0x00, 0x00, 0x00,
+  0x00, 0x00, 0x00, 0x00, 0x32, 0x00, 0x00, 0x00, 0x00, 0x00, 0x00, 0x00,
+  0x51, 0x00, 0x00, 0x00, 0x00, 0x00, 0x00, 0x00, 0x69, 0x00, 0x00, 0x00,
+  0x00, 0x00, 0x00, 0x00, 0x26, 0x00, 0x00, 0x00, 0x00, 0x00, 0x00, 0x00,
+  0x4a, 0x00, 0x00, 0x00, 0x00, 0x00, 0x00, 0x00, 0x38, 0x00, 0x00, 0x00,
+  0x00, 0x00, 0x00, 0x00, 0x29, 0x00, 0x00, 0x00, 0x00, 0x00, 0x00, 0x00,
+  0x35, 0x00, 0x00, 0x00, 0x00, 0x00, 0x00, 0x00, 0x47, 0x00, 0x00, 0x00,
+  0x00, 0x00, 0x00, 0x00, 0x41, 0x00, 0x00, 0x00, 0x00, 0x00, 0x00, 0x00,
+  0x7a, 0x00, 0x00, 0x00, 0x00, 0x00, 0x00, 0x00, 0x4a, 0x00, 0x00, 0x00,
   0x00, 0x00, 0x00, 0x00, 0x24, 0x00, 0x00, 0x00, 0x00, 0x00, 0x00, 0x00,
-  0x12, 0x00, 0x00, 0x00, 0x00, 0x00, 0x00, 0x00, 0x35, 0x00, 0x00, 0x00,
-  0x00, 0x00, 0x00, 0x00, 0x50, 0x00, 0x00, 0x00, 0x00, 0x00, 0x00, 0x00,
+  0x12, 0x00, 0x00, 0x00, 0x00, 0x00, 0x00, 0x00, 0x2f, 0x00, 0x00, 0x00,
+  0x00, 0x00, 0x00, 0x00, 0x4a, 0x00, 0x00, 0x00, 0x00, 0x00, 0x00, 0x00,
   0x0f, 0x00, 0x00, 0x00, 0x00, 0x00, 0x00, 0x00, 0x16, 0x00, 0x00, 0x00,
   0x00, 0x00, 0x00, 0x00, 0x12, 0x00, 0x00, 0x00, 0x00, 0x00, 0x00, 0x00,
   0x21, 0x00, 0x00, 0x00, 0x00, 0x00, 0x00, 0x00, 0x15, 0x00, 0x00, 0x00,
   0x00, 0x00, 0x00, 0x00, 0x21, 0x00, 0x00, 0x00, 0x00, 0x00, 0x00, 0x00,
   0x15, 0x00, 0x00, 0x00, 0x00, 0x00, 0x00, 0x00, 0x0f, 0x00, 0x00, 0x00,
-  0x00, 0x00, 0x00, 0x00, 0x5e, 0x05, 0x01, 0x00, 0x00, 0x00, 0x00, 0x00,
-  0xe2, 0x05, 0x01, 0x00, 0x00, 0x00, 0x00, 0x00, 0x48, 0x06, 0x01, 0x00,
-  0x00, 0x00, 0x00, 0x00, 0xde, 0x06, 0x01, 0x00, 0x00, 0x00, 0x00, 0x00,
-  0x78, 0x07, 0x01, 0x00, 0x00, 0x00, 0x00, 0x00, 0xed, 0x07, 0x01, 0x00,
-  0x00, 0x00, 0x00, 0x00, 0x57, 0x08, 0x01, 0x00, 0x00, 0x00, 0x00, 0x00,
-  0xe5, 0x08, 0x01, 0x00, 0x00, 0x00, 0x00, 0x00, 0x36, 0x09, 0x01, 0x00,
-  0x00, 0x00, 0x00, 0x00, 0x8b, 0x09, 0x01, 0x00, 0x00, 0x00, 0x00, 0x00,
-  0x11, 0x0a, 0x01, 0x00, 0x00, 0x00, 0x00, 0x00, 0xd3, 0x0a, 0x01, 0x00,
-  0x00, 0x00, 0x00, 0x00, 0x36, 0x0b, 0x01, 0x00, 0x00, 0x00, 0x00, 0x00,
-  0x84, 0x0b, 0x01, 0x00, 0x00, 0x00, 0x00, 0x00, 0xe9, 0x0b, 0x01, 0x00,
-  0x00, 0x00, 0x00, 0x00, 0xd5, 0x0d, 0x01, 0x00, 0x00, 0x00, 0x00, 0x00,
-  0x74, 0x0c, 0x01, 0x00, 0x00, 0x00, 0x00, 0x00, 0xeb, 0x0c, 0x01, 0x00,
-  0x00, 0x00, 0x00, 0x00, 0x66, 0x0d, 0x01, 0x00, 0x00, 0x00, 0x00, 0x00,
-  0x3a, 0x0e, 0x01, 0x00, 0x00, 0x00, 0x00, 0x00, 0x8e, 0x0e, 0x01, 0x00,
-  0x00, 0x00, 0x00, 0x00, 0xc4, 0x0e, 0x01, 0x00, 0x00, 0x00, 0x00, 0x00,
-  0xfa, 0x0e, 0x01, 0x00, 0x00, 0x00, 0x00, 0x00, 0x53, 0x0f, 0x01, 0x00,
-  0x00, 0x00, 0x00, 0x00, 0xe9, 0x0f, 0x01, 0x00, 0x00, 0x00, 0x00, 0x00,
-  0x7e, 0x10, 0x01, 0x00, 0x00, 0x00, 0x00, 0x00, 0x40, 0x11, 0x01, 0x00,
-  0x00, 0x00, 0x00, 0x00, 0x93, 0x12, 0x01, 0x00, 0x00, 0x00, 0x00, 0x00,
-  0xb0, 0x13, 0x01, 0x00, 0x00, 0x00, 0x00, 0x00, 0x61, 0x14, 0x01, 0x00,
-  0x00, 0x00, 0x00, 0x00, 0x48, 0x15, 0x01, 0x00, 0x00, 0x00, 0x00, 0x00,
-  0x01, 0x16, 0x01, 0x00, 0x00, 0x00, 0x00, 0x00, 0x93, 0x16, 0x01, 0x00,
-  0x00, 0x00, 0x00, 0x00, 0x60, 0x17, 0x01, 0x00, 0x00, 0x00, 0x00, 0x00,
-  0x43, 0x18, 0x01, 0x00, 0x00, 0x00, 0x00, 0x00, 0x5a, 0x19, 0x01, 0x00,
-  0x00, 0x00, 0x00, 0x00, 0xb9, 0x1a, 0x01, 0x00, 0x00, 0x00, 0x00, 0x00,
-  0x88, 0x1b, 0x01, 0x00, 0x00, 0x00, 0x00, 0x00, 0xef, 0x1b, 0x01, 0x00,
-  0x00, 0x00, 0x00, 0x00, 0x47, 0x1c, 0x01, 0x00, 0x00, 0x00, 0x00, 0x00,
-  0x0f, 0x1d, 0x01, 0x00, 0x00, 0x00, 0x00, 0x00, 0xc7, 0x1d, 0x01, 0x00,
-  0x00, 0x00, 0x00, 0x00, 0x05, 0x1e, 0x01, 0x00, 0x00, 0x00, 0x00, 0x00,
-  0x56, 0x1e, 0x01, 0x00, 0x00, 0x00, 0x00, 0x00, 0x9a, 0x1e, 0x01, 0x00,
-  0x00, 0x00, 0x00, 0x00, 0xf2, 0x1e, 0x01, 0x00, 0x00, 0x00, 0x00, 0x00,
-  0x43, 0x1f, 0x01, 0x00, 0x00, 0x00, 0x00, 0x00, 0x9b, 0x1f, 0x01, 0x00,
-  0x00, 0x00, 0x00, 0x00, 0xda, 0x1f, 0x01, 0x00, 0x00, 0x00, 0x00, 0x00,
-  0x3f, 0x00, 0x00, 0x00, 0x00, 0x00, 0x00, 0x00, 0x22, 0x00, 0x00, 0x00,
-  0x00, 0x00, 0x00, 0x00, 0x38, 0x00, 0x00, 0x00, 0x00, 0x00, 0x00, 0x00,
-  0x34, 0x00, 0x00, 0x00, 0x00, 0x00, 0x00, 0x00, 0x36, 0x00, 0x00, 0x00,
-  0x00, 0x00, 0x00, 0x00, 0x11, 0x00, 0x00, 0x00, 0x00, 0x00, 0x00, 0x00,
-  0x4c, 0x00, 0x00, 0x00, 0x00, 0x00, 0x00, 0x00, 0x16, 0x00, 0x00, 0x00,
-  0x00, 0x00, 0x00, 0x00, 0x1b, 0x00, 0x00, 0x00, 0x00, 0x00, 0x00, 0x00,
-  0x1f, 0x00, 0x00, 0x00, 0x00, 0x00, 0x00, 0x00, 0x56, 0x00, 0x00, 0x00,
+  0x00, 0x00, 0x00, 0x00, 0x58, 0x05, 0x01, 0x00, 0x00, 0x00, 0x00, 0x00,
+  0xd0, 0x05, 0x01, 0x00, 0x00, 0x00, 0x00, 0x00, 0x30, 0x06, 0x01, 0x00,
+  0x00, 0x00, 0x00, 0x00, 0xb4, 0x06, 0x01, 0x00, 0x00, 0x00, 0x00, 0x00,
+  0x3c, 0x07, 0x01, 0x00, 0x00, 0x00, 0x00, 0x00, 0xab, 0x07, 0x01, 0x00,
+  0x00, 0x00, 0x00, 0x00, 0xe0, 0x07, 0x01, 0x00, 0x00, 0x00, 0x00, 0x00,
+  0x4a, 0x08, 0x01, 0x00, 0x00, 0x00, 0x00, 0x00, 0xd8, 0x08, 0x01, 0x00,
+  0x00, 0x00, 0x00, 0x00, 0x29, 0x09, 0x01, 0x00, 0x00, 0x00, 0x00, 0x00,
+  0x7d, 0x09, 0x01, 0x00, 0x00, 0x00, 0x00, 0x00, 0xd2, 0x09, 0x01, 0x00,
+  0x00, 0x00, 0x00, 0x00, 0x60, 0x0a, 0x01, 0x00, 0x00, 0x00, 0x00, 0x00,
+  0x19, 0x0b, 0x01, 0x00, 0x00, 0x00, 0x00, 0x00, 0xaf, 0x0b, 0x01, 0x00,
+  0x00, 0x00, 0x00, 0x00, 0x12, 0x0c, 0x01, 0x00, 0x00, 0x00, 0x00, 0x00,
+  0x60, 0x0c, 0x01, 0x00, 0x00, 0x00, 0x00, 0x00, 0xc5, 0x0c, 0x01, 0x00,
+  0x00, 0x00, 0x00, 0x00, 0xe1, 0x0e, 0x01, 0x00, 0x00, 0x00, 0x00, 0x00,
+  0x50, 0x0d, 0x01, 0x00, 0x00, 0x00, 0x00, 0x00, 0xc7, 0x0d, 0x01, 0x00,
+  0x00, 0x00, 0x00, 0x00, 0x62, 0x0e, 0x01, 0x00, 0x00, 0x00, 0x00, 0x00,
+  0x91, 0x0f, 0x01, 0x00, 0x00, 0x00, 0x00, 0x00, 0xf1, 0x0f, 0x01, 0x00,
+  0x00, 0x00, 0x00, 0x00, 0x27, 0x10, 0x01, 0x00, 0x00, 0x00, 0x00, 0x00,
+  0x5d, 0x10, 0x01, 0x00, 0x00, 0x00, 0x00, 0x00, 0xb0, 0x10, 0x01, 0x00,
+  0x00, 0x00, 0x00, 0x00, 0x34, 0x11, 0x01, 0x00, 0x00, 0x00, 0x00, 0x00,
+  0xc3, 0x11, 0x01, 0x00, 0x00, 0x00, 0x00, 0x00, 0x85, 0x12, 0x01, 0x00,
+  0x00, 0x00, 0x00, 0x00, 0xb4, 0x13, 0x01, 0x00, 0x00, 0x00, 0x00, 0x00,
+  0xb3, 0x14, 0x01, 0x00, 0x00, 0x00, 0x00, 0x00, 0x52, 0x15, 0x01, 0x00,
+  0x00, 0x00, 0x00, 0x00, 0x27, 0x16, 0x01, 0x00, 0x00, 0x00, 0x00, 0x00,
+  0xce, 0x16, 0x01, 0x00, 0x00, 0x00, 0x00, 0x00, 0x4e, 0x17, 0x01, 0x00,
+  0x00, 0x00, 0x00, 0x00, 0x07, 0x18, 0x01, 0x00, 0x00, 0x00, 0x00, 0x00,
+  0xd8, 0x18, 0x01, 0x00, 0x00, 0x00, 0x00, 0x00, 0xdd, 0x19, 0x01, 0x00,
+  0x00, 0x00, 0x00, 0x00, 0x2a, 0x1b, 0x01, 0x00, 0x00, 0x00, 0x00, 0x00,
+  0xed, 0x1b, 0x01, 0x00, 0x00, 0x00, 0x00, 0x00, 0x54, 0x1c, 0x01, 0x00,
+  0x00, 0x00, 0x00, 0x00, 0xae, 0x1c, 0x01, 0x00, 0x00, 0x00, 0x00, 0x00,
+  0x64, 0x1d, 0x01, 0x00, 0x00, 0x00, 0x00, 0x00, 0x10, 0x1e, 0x01, 0x00,
+  0x00, 0x00, 0x00, 0x00, 0x4e, 0x1e, 0x01, 0x00, 0x00, 0x00, 0x00, 0x00,
+  0x9f, 0x1e, 0x01, 0x00, 0x00, 0x00, 0x00, 0x00, 0xe3, 0x1e, 0x01, 0x00,
+  0x00, 0x00, 0x00, 0x00, 0x3b, 0x1f, 0x01, 0x00, 0x00, 0x00, 0x00, 0x00,
+  0x8c, 0x1f, 0x01, 0x00, 0x00, 0x00, 0x00, 0x00, 0xe4, 0x1f, 0x01, 0x00,
+  0x00, 0x00, 0x00, 0x00, 0x23, 0x20, 0x01, 0x00, 0x00, 0x00, 0x00, 0x00,
+  0x39, 0x00, 0x00, 0x00, 0x00, 0x00, 0x00, 0x00, 0x22, 0x00, 0x00, 0x00,
+  0x00, 0x00, 0x00, 0x00, 0x32, 0x00, 0x00, 0x00, 0x00, 0x00, 0x00, 0x00,
+  0x2e, 0x00, 0x00, 0x00, 0x00, 0x00, 0x00, 0x00, 0x30, 0x00, 0x00, 0x00,
+  0x00, 0x00, 0x00, 0x00, 0x17, 0x00, 0x00, 0x00, 0x00, 0x00, 0x00, 0x00,
+  0x11, 0x00, 0x00, 0x00, 0x00, 0x00, 0x00, 0x00, 0x4c, 0x00, 0x00, 0x00,
+  0x00, 0x00, 0x00, 0x00, 0x16, 0x00, 0x00, 0x00, 0x00, 0x00, 0x00, 0x00,
+  0x1b, 0x00, 0x00, 0x00, 0x00, 0x00, 0x00, 0x00, 0x1e, 0x00, 0x00, 0x00,
+  0x00, 0x00, 0x00, 0x00, 0x1f, 0x00, 0x00, 0x00, 0x00, 0x00, 0x00, 0x00,
+  0x5e, 0x00, 0x00, 0x00, 0x00, 0x00, 0x00, 0x00, 0x33, 0x00, 0x00, 0x00,
   0x00, 0x00, 0x00, 0x00, 0x30, 0x00, 0x00, 0x00, 0x00, 0x00, 0x00, 0x00,
   0x1b, 0x00, 0x00, 0x00, 0x00, 0x00, 0x00, 0x00, 0x18, 0x00, 0x00, 0x00,
   0x00, 0x00, 0x00, 0x00, 0x3b, 0x00, 0x00, 0x00, 0x00, 0x00, 0x00, 0x00,
-  0x1b, 0x00, 0x00, 0x00, 0x00, 0x00, 0x00, 0x00, 0x2b, 0x00, 0x00, 0x00,
+  0x2b, 0x00, 0x00, 0x00, 0x00, 0x00, 0x00, 0x00, 0x2b, 0x00, 0x00, 0x00,
   0x00, 0x00, 0x00, 0x00, 0x3b, 0x00, 0x00, 0x00, 0x00, 0x00, 0x00, 0x00,
-  0x27, 0x00, 0x00, 0x00, 0x00, 0x00, 0x00, 0x00, 0x35, 0x00, 0x00, 0x00,
+  0x47, 0x00, 0x00, 0x00, 0x00, 0x00, 0x00, 0x00, 0x50, 0x00, 0x00, 0x00,
   0x00, 0x00, 0x00, 0x00, 0x14, 0x00, 0x00, 0x00, 0x00, 0x00, 0x00, 0x00,
   0x18, 0x00, 0x00, 0x00, 0x00, 0x00, 0x00, 0x00, 0x18, 0x00, 0x00, 0x00,
-  0x00, 0x00, 0x00, 0x00, 0x3b, 0x00, 0x00, 0x00, 0x00, 0x00, 0x00, 0x00,
-  0x3e, 0x00, 0x00, 0x00, 0x00, 0x00, 0x00, 0x00, 0x31, 0x00, 0x00, 0x00,
-  0x00, 0x00, 0x00, 0x00, 0x6a, 0x00, 0x00, 0x00, 0x00, 0x00, 0x00, 0x00,
-  0x99, 0x00, 0x00, 0x00, 0x00, 0x00, 0x00, 0x00, 0x33, 0x00, 0x00, 0x00,
-  0x00, 0x00, 0x00, 0x00, 0x59, 0x00, 0x00, 0x00, 0x00, 0x00, 0x00, 0x00,
-  0x47, 0x00, 0x00, 0x00, 0x00, 0x00, 0x00, 0x00, 0x3d, 0x00, 0x00, 0x00,
-  0x00, 0x00, 0x00, 0x00, 0x34, 0x00, 0x00, 0x00, 0x00, 0x00, 0x00, 0x00,
-  0x57, 0x00, 0x00, 0x00, 0x00, 0x00, 0x00, 0x00, 0x49, 0x00, 0x00, 0x00,
-  0x00, 0x00, 0x00, 0x00, 0x89, 0x00, 0x00, 0x00, 0x00, 0x00, 0x00, 0x00,
-  0x5f, 0x00, 0x00, 0x00, 0x00, 0x00, 0x00, 0x00, 0x2f, 0x00, 0x00, 0x00,
+  0x00, 0x00, 0x00, 0x00, 0x35, 0x00, 0x00, 0x00, 0x00, 0x00, 0x00, 0x00,
+  0x38, 0x00, 0x00, 0x00, 0x00, 0x00, 0x00, 0x00, 0x37, 0x00, 0x00, 0x00,
+  0x00, 0x00, 0x00, 0x00, 0x5e, 0x00, 0x00, 0x00, 0x00, 0x00, 0x00, 0x00,
+  0x8d, 0x00, 0x00, 0x00, 0x00, 0x00, 0x00, 0x00, 0x2d, 0x00, 0x00, 0x00,
+  0x00, 0x00, 0x00, 0x00, 0x53, 0x00, 0x00, 0x00, 0x00, 0x00, 0x00, 0x00,
+  0x41, 0x00, 0x00, 0x00, 0x00, 0x00, 0x00, 0x00, 0x37, 0x00, 0x00, 0x00,
+  0x00, 0x00, 0x00, 0x00, 0x2e, 0x00, 0x00, 0x00, 0x00, 0x00, 0x00, 0x00,
+  0x4f, 0x00, 0x00, 0x00, 0x00, 0x00, 0x00, 0x00, 0x43, 0x00, 0x00, 0x00,
+  0x00, 0x00, 0x00, 0x00, 0x83, 0x00, 0x00, 0x00, 0x00, 0x00, 0x00, 0x00,
+  0x59, 0x00, 0x00, 0x00, 0x00, 0x00, 0x00, 0x00, 0x2f, 0x00, 0x00, 0x00,
   0x00, 0x00, 0x00, 0x00, 0x1f, 0x00, 0x00, 0x00, 0x00, 0x00, 0x00, 0x00,
-  0x34, 0x00, 0x00, 0x00, 0x00, 0x00, 0x00, 0x00, 0x5e, 0x00, 0x00, 0x00,
+  0x36, 0x00, 0x00, 0x00, 0x00, 0x00, 0x00, 0x00, 0x58, 0x00, 0x00, 0x00,
   0x00, 0x00, 0x00, 0x00, 0x18, 0x00, 0x00, 0x00, 0x00, 0x00, 0x00, 0x00,
   0x20, 0x00, 0x00, 0x00, 0x00, 0x00, 0x00, 0x00, 0x25, 0x00, 0x00, 0x00,
   0x00, 0x00, 0x00, 0x00, 0x20, 0x00, 0x00, 0x00, 0x00, 0x00, 0x00, 0x00,
   0x16, 0x00, 0x00, 0x00, 0x00, 0x00, 0x00, 0x00, 0x27, 0x00, 0x00, 0x00,
   0x00, 0x00, 0x00, 0x00, 0x16, 0x00, 0x00, 0x00, 0x00, 0x00, 0x00, 0x00,
   0x15, 0x00, 0x00, 0x00, 0x00, 0x00, 0x00, 0x00, 0x1f, 0x05, 0x01, 0x00,
-  0x00, 0x00, 0x00, 0x00, 0xc0, 0x05, 0x01, 0x00, 0x00, 0x00, 0x00, 0x00,
-  0x10, 0x06, 0x01, 0x00, 0x00, 0x00, 0x00, 0x00, 0xaa, 0x06, 0x01, 0x00,
-  0x00, 0x00, 0x00, 0x00, 0x42, 0x07, 0x01, 0x00, 0x00, 0x00, 0x00, 0x00,
-  0xdc, 0x07, 0x01, 0x00, 0x00, 0x00, 0x00, 0x00, 0x0b, 0x08, 0x01, 0x00,
-  0x00, 0x00, 0x00, 0x00, 0xcf, 0x08, 0x01, 0x00, 0x00, 0x00, 0x00, 0x00,
-  0x1b, 0x09, 0x01, 0x00, 0x00, 0x00, 0x00, 0x00, 0x6c, 0x09, 0x01, 0x00,
-  0x00, 0x00, 0x00, 0x00, 0xbb, 0x09, 0x01, 0x00, 0x00, 0x00, 0x00, 0x00,
-  0xa3, 0x0a, 0x01, 0x00, 0x00, 0x00, 0x00, 0x00, 0x1b, 0x0b, 0x01, 0x00,
-  0x00, 0x00, 0x00, 0x00, 0x6c, 0x0b, 0x01, 0x00, 0x00, 0x00, 0x00, 0x00,
-  0xae, 0x0b, 0x01, 0x00, 0x00, 0x00, 0x00, 0x00, 0xba, 0x0d, 0x01, 0x00,
-  0x00, 0x00, 0x00, 0x00, 0x49, 0x0c, 0x01, 0x00, 0x00, 0x00, 0x00, 0x00,
-  0xb0, 0x0c, 0x01, 0x00, 0x00, 0x00, 0x00, 0x00, 0x3f, 0x0d, 0x01, 0x00,
-  0x00, 0x00, 0x00, 0x00, 0x05, 0x0e, 0x01, 0x00, 0x00, 0x00, 0x00, 0x00,
-  0x7a, 0x0e, 0x01, 0x00, 0x00, 0x00, 0x00, 0x00, 0xac, 0x0e, 0x01, 0x00,
-  0x00, 0x00, 0x00, 0x00, 0xe2, 0x0e, 0x01, 0x00, 0x00, 0x00, 0x00, 0x00,
-  0x18, 0x0f, 0x01, 0x00, 0x00, 0x00, 0x00, 0x00, 0xab, 0x0f, 0x01, 0x00,
-  0x00, 0x00, 0x00, 0x00, 0x4d, 0x10, 0x01, 0x00, 0x00, 0x00, 0x00, 0x00,
-  0xd6, 0x10, 0x01, 0x00, 0x00, 0x00, 0x00, 0x00, 0xfa, 0x11, 0x01, 0x00,
-  0x00, 0x00, 0x00, 0x00, 0x7d, 0x13, 0x01, 0x00, 0x00, 0x00, 0x00, 0x00,
-  0x08, 0x14, 0x01, 0x00, 0x00, 0x00, 0x00, 0x00, 0x01, 0x15, 0x01, 0x00,
-  0x00, 0x00, 0x00, 0x00, 0xc4, 0x15, 0x01, 0x00, 0x00, 0x00, 0x00, 0x00,
-  0x5f, 0x16, 0x01, 0x00, 0x00, 0x00, 0x00, 0x00, 0x09, 0x17, 0x01, 0x00,
-  0x00, 0x00, 0x00, 0x00, 0xfa, 0x17, 0x01, 0x00, 0x00, 0x00, 0x00, 0x00,
-  0xd1, 0x18, 0x01, 0x00, 0x00, 0x00, 0x00, 0x00, 0x5a, 0x1a, 0x01, 0x00,
-  0x00, 0x00, 0x00, 0x00, 0x59, 0x1b, 0x01, 0x00, 0x00, 0x00, 0x00, 0x00,
-  0xd0, 0x1b, 0x01, 0x00, 0x00, 0x00, 0x00, 0x00, 0x13, 0x1c, 0x01, 0x00,
-  0x00, 0x00, 0x00, 0x00, 0xb1, 0x1c, 0x01, 0x00, 0x00, 0x00, 0x00, 0x00,
-  0xaf, 0x1d, 0x01, 0x00, 0x00, 0x00, 0x00, 0x00, 0xe5, 0x1d, 0x01, 0x00,
-  0x00, 0x00, 0x00, 0x00, 0x31, 0x1e, 0x01, 0x00, 0x00, 0x00, 0x00, 0x00,
-  0x7a, 0x1e, 0x01, 0x00, 0x00, 0x00, 0x00, 0x00, 0xdc, 0x1e, 0x01, 0x00,
-  0x00, 0x00, 0x00, 0x00, 0x1c, 0x1f, 0x01, 0x00, 0x00, 0x00, 0x00, 0x00,
-  0x85, 0x1f, 0x01, 0x00, 0x00, 0x00, 0x00, 0x00, 0xc5, 0x1f, 0x01, 0x00,
-  0x00, 0x00, 0x00, 0x00, 0x00, 0x46, 0x01, 0x00, 0x00, 0x00, 0x00, 0x00,
-  0x01, 0x46, 0x01, 0x00, 0x00, 0x00, 0x00, 0x00, 0x02, 0x46, 0x01, 0x00,
-  0x00, 0x00, 0x00, 0x00, 0x03, 0x46, 0x01, 0x00, 0x00, 0x00, 0x00, 0x00,
-  0x04, 0x46, 0x01, 0x00, 0x00, 0x00, 0x00, 0x00, 0x05, 0x46, 0x01, 0x00,
-  0x00, 0x00, 0x00, 0x00, 0x06, 0x46, 0x01, 0x00, 0x00, 0x00, 0x00, 0x00,
-  0x07, 0x46, 0x01, 0x00, 0x00, 0x00, 0x00, 0x00, 0x08, 0x46, 0x01, 0x00,
-  0x00, 0x00, 0x00, 0x00, 0x09, 0x46, 0x01, 0x00, 0x00, 0x00, 0x00, 0x00,
-  0x14, 0x15, 0x16, 0x17, 0x18, 0x1a, 0x1b, 0x1d, 0x1e,
+  0x00, 0x00, 0x00, 0x00, 0xae, 0x05, 0x01, 0x00, 0x00, 0x00, 0x00, 0x00,
+  0xfe, 0x05, 0x01, 0x00, 0x00, 0x00, 0x00, 0x00, 0x86, 0x06, 0x01, 0x00,
+  0x00, 0x00, 0x00, 0x00, 0x0c, 0x07, 0x01, 0x00, 0x00, 0x00, 0x00, 0x00,
+  0x94, 0x07, 0x01, 0x00, 0x00, 0x00, 0x00, 0x00, 0xcf, 0x07, 0x01, 0x00,
+  0x00, 0x00, 0x00, 0x00, 0xfe, 0x07, 0x01, 0x00, 0x00, 0x00, 0x00, 0x00,
+  0xc2, 0x08, 0x01, 0x00, 0x00, 0x00, 0x00, 0x00, 0x0e, 0x09, 0x01, 0x00,
+  0x00, 0x00, 0x00, 0x00, 0x5f, 0x09, 0x01, 0x00, 0x00, 0x00, 0x00, 0x00,
+  0xb3, 0x09, 0x01, 0x00, 0x00, 0x00, 0x00, 0x00, 0x02, 0x0a, 0x01, 0x00,
+  0x00, 0x00, 0x00, 0x00, 0xe6, 0x0a, 0x01, 0x00, 0x00, 0x00, 0x00, 0x00,
+  0x7f, 0x0b, 0x01, 0x00, 0x00, 0x00, 0x00, 0x00, 0xf7, 0x0b, 0x01, 0x00,
+  0x00, 0x00, 0x00, 0x00, 0x48, 0x0c, 0x01, 0x00, 0x00, 0x00, 0x00, 0x00,
+  0x8a, 0x0c, 0x01, 0x00, 0x00, 0x00, 0x00, 0x00, 0xb6, 0x0e, 0x01, 0x00,
+  0x00, 0x00, 0x00, 0x00, 0x25, 0x0d, 0x01, 0x00, 0x00, 0x00, 0x00, 0x00,
+  0x8c, 0x0d, 0x01, 0x00, 0x00, 0x00, 0x00, 0x00, 0x1b, 0x0e, 0x01, 0x00,
+  0x00, 0x00, 0x00, 0x00, 0x41, 0x0f, 0x01, 0x00, 0x00, 0x00, 0x00, 0x00,
+  0xdd, 0x0f, 0x01, 0x00, 0x00, 0x00, 0x00, 0x00, 0x0f, 0x10, 0x01, 0x00,
+  0x00, 0x00, 0x00, 0x00, 0x45, 0x10, 0x01, 0x00, 0x00, 0x00, 0x00, 0x00,
+  0x7b, 0x10, 0x01, 0x00, 0x00, 0x00, 0x00, 0x00, 0xfc, 0x10, 0x01, 0x00,
+  0x00, 0x00, 0x00, 0x00, 0x8c, 0x11, 0x01, 0x00, 0x00, 0x00, 0x00, 0x00,
+  0x27, 0x12, 0x01, 0x00, 0x00, 0x00, 0x00, 0x00, 0x27, 0x13, 0x01, 0x00,
+  0x00, 0x00, 0x00, 0x00, 0x86, 0x14, 0x01, 0x00, 0x00, 0x00, 0x00, 0x00,
+  0xff, 0x14, 0x01, 0x00, 0x00, 0x00, 0x00, 0x00, 0xe6, 0x15, 0x01, 0x00,
+  0x00, 0x00, 0x00, 0x00, 0x97, 0x16, 0x01, 0x00, 0x00, 0x00, 0x00, 0x00,
+  0x20, 0x17, 0x01, 0x00, 0x00, 0x00, 0x00, 0x00, 0xb8, 0x17, 0x01, 0x00,
+  0x00, 0x00, 0x00, 0x00, 0x95, 0x18, 0x01, 0x00, 0x00, 0x00, 0x00, 0x00,
+  0x5a, 0x19, 0x01, 0x00, 0x00, 0x00, 0x00, 0x00, 0xd1, 0x1a, 0x01, 0x00,
+  0x00, 0x00, 0x00, 0x00, 0xbe, 0x1b, 0x01, 0x00, 0x00, 0x00, 0x00, 0x00,
+  0x35, 0x1c, 0x01, 0x00, 0x00, 0x00, 0x00, 0x00, 0x78, 0x1c, 0x01, 0x00,
+  0x00, 0x00, 0x00, 0x00, 0x0c, 0x1d, 0x01, 0x00, 0x00, 0x00, 0x00, 0x00,
+  0xf8, 0x1d, 0x01, 0x00, 0x00, 0x00, 0x00, 0x00, 0x2e, 0x1e, 0x01, 0x00,
+  0x00, 0x00, 0x00, 0x00, 0x7a, 0x1e, 0x01, 0x00, 0x00, 0x00, 0x00, 0x00,
+  0xc3, 0x1e, 0x01, 0x00, 0x00, 0x00, 0x00, 0x00, 0x25, 0x1f, 0x01, 0x00,
+  0x00, 0x00, 0x00, 0x00, 0x65, 0x1f, 0x01, 0x00, 0x00, 0x00, 0x00, 0x00,
+  0xce, 0x1f, 0x01, 0x00, 0x00, 0x00, 0x00, 0x00, 0x0e, 0x20, 0x01, 0x00,
+  0x00, 0x00, 0x00, 0x00, 0x60, 0x46, 0x01, 0x00, 0x00, 0x00, 0x00, 0x00,
+  0x61, 0x46, 0x01, 0x00, 0x00, 0x00, 0x00, 0x00, 0x62, 0x46, 0x01, 0x00,
+  0x00, 0x00, 0x00, 0x00, 0x63, 0x46, 0x01, 0x00, 0x00, 0x00, 0x00, 0x00,
+  0x64, 0x46, 0x01, 0x00, 0x00, 0x00, 0x00, 0x00, 0x65, 0x46, 0x01, 0x00,
+  0x00, 0x00, 0x00, 0x00, 0x66, 0x46, 0x01, 0x00, 0x00, 0x00, 0x00, 0x00,
+  0x67, 0x46, 0x01, 0x00, 0x00, 0x00, 0x00, 0x00, 0x68, 0x46, 0x01, 0x00,
+  0x00, 0x00, 0x00, 0x00, 0x69, 0x46, 0x01, 0x00, 0x00, 0x00, 0x00, 0x00,
+  0x17, 0x18, 0x19, 0x1a, 0x1b, 0x1d, 0x1e, 0x20, 0x21,
 };
 
 /* The test of each access is inlined, which makes calls faster. */
@@ -1987,52 +2005,52 @@ static u32 w2c_f41(module *, u64, u32, u64, u64, u64, u64, u32);
 static void w2c_f42(module *, u64, u32, u32);
 static u64 w2c_f43(module *, u64, u64, u64);
 static void w2c_f44(module *, u64, u64, u64);
-static u64 w2c_f45(module *, u64, u64, u64);
-static void w2c_f46(module *, u64, u32);
+static void w2c_f45(module *, u64, u32);
+static u64 w2c_f46(module *, u64, u64, u64);
 static void w2c_f47(module *, u64, u32);
 static void w2c_f48(module *, u64, u32);
-static void w2c_f49(module *, u64, u64);
-static void w2c_f50(module *, u64, u32, u64);
+static void w2c_f49(module *, u64, u32);
+static void w2c_f50(module *, u64, u64);
 static void w2c_f51(module *, u64, u32, u64);
-static u32 w2c_f52(module *, u64, u64, u64, u64);
-static u32 w2c_f53(module *, u64, u32, u32, u64, u64, u64);
-static u32 w2c_f54(module *, u64, u64, u64, u64);
-static u32 w2c_f55(module *, u64, u64, u64, u32, u32, u64, u64, u64);
+static void w2c_f52(module *, u64, u32, u64);
+static u32 w2c_f53(module *, u64, u64, u64, u64);
+static u32 w2c_f54(module *, u64, u32, u32, u64, u64, u64);
+static u32 w2c_f55(module *, u64, u64, u64, u64);
 static u32 w2c_f56(module *, u64, u64, u64, u32, u32, u64, u64, u64);
-static u32 w2c_f57(module *, u64, u64);
-static u32 w2c_f58(module *, u32, u32, u64, u64);
-static void w2c_f59(module *, u64, u64, u64);
-static u32 w2c_f60(module *, u64, u64);
+static u32 w2c_f57(module *, u64, u64, u64, u32, u32, u64, u64, u64);
+static u32 w2c_f58(module *, u64, u64);
+static u32 w2c_f59(module *, u32, u32, u64, u64);
+static void w2c_f60(module *, u64, u64, u64);
 static u32 w2c_f61(module *, u64, u64);
 static u32 w2c_f62(module *, u64, u64);
-static u32 w2c_f63(module *, u64, u64, u64, u32, u32, u64, u64, u64);
-static void w2c_f64(module *, u64, u64);
-static void w2c_f65(module *, u64, u64, u64, u64, u64, u64, u64);
-static u32 w2c_f66(module *, u32, u32, u32, u32, u32, u64, u64);
-static u32 w2c_f67(module *, u32, u32, u64, u64, u32, u64, u64);
+static u32 w2c_f63(module *, u64, u64);
+static u32 w2c_f64(module *, u64, u64, u64, u32, u32, u64, u64, u64);
+static void w2c_f65(module *, u64, u64);
+static void w2c_f66(module *, u64, u64, u64, u64, u64, u64, u64);
+static u32 w2c_f67(module *, u32, u32, u32, u32, u32, u64, u64);
 static u32 w2c_f68(module *, u32, u32, u64, u64, u32, u64, u64);
-static u32 w2c_f69(module *, u32, u32, u64, u64);
-static u32 w2c_f70(module *, u64, u64, u64, u64);
-static u32 w2c_f71(module *, u32, u32, u64, u64);
+static u32 w2c_f69(module *, u32, u32, u64, u64, u32, u64, u64);
+static u32 w2c_f70(module *, u32, u32, u64, u64);
+static u32 w2c_f71(module *, u64, u64, u64, u64);
 static u32 w2c_f72(module *, u32, u32, u64, u64);
 static u32 w2c_f73(module *, u32, u32, u64, u64);
-static u32 w2c_f74(module *, u64, u64, u64, u64, u64, u64);
-static u32 w2c_f75(module *, u64, u64);
+static u32 w2c_f74(module *, u32, u32, u64, u64);
+static u32 w2c_f75(module *, u64, u64, u64, u64, u64, u64);
 static u32 w2c_f76(module *, u64, u64);
-static u32 w2c_f77(module *, u32);
-static u32 w2c_f78(module *, u32, u64, u64, u64, u64);
-static void w2c_f79(module *, u64, u64, u64, u32);
-static void w2c_f80(module *, u64, u64, u64);
+static u32 w2c_f77(module *, u64, u64);
+static u32 w2c_f78(module *, u32);
+static u32 w2c_f79(module *, u32, u64, u64, u64, u64);
+static void w2c_f80(module *, u64, u64, u64, u32);
 static void w2c_f81(module *, u64, u64, u64);
-static void w2c_f82(module *, u64, u32, u64, u64);
-static void w2c_f83(module *, u64, u64, u64);
+static void w2c_f82(module *, u64, u64, u64);
+static void w2c_f83(module *, u64, u32, u64, u64);
 static void w2c_f84(module *, u64, u64, u64);
-static void w2c_f85(module *, u64, u32, u64, u64, u64);
+static void w2c_f85(module *, u64, u64, u64);
 static void w2c_f86(module *, u64, u32, u64, u64, u64);
 static void w2c_f87(module *, u64, u32, u64, u64, u64);
-static void w2c_f88(module *, u64, u64, u64);
-static void w2c_f89(module *, u64, u32, u64, u64, u64);
-static void w2c_f90(module *, u64, u32);
+static void w2c_f88(module *, u64, u32, u64, u64, u64);
+static void w2c_f89(module *, u64, u64, u64);
+static void w2c_f90(module *, u64, u32, u64, u64, u64);
 static void w2c_f91(module *, u64, u32, u64, u64, u64, u64);
 static u32 w2c_f92(module *, u64, u64);
 static void w2c_f93(module *, u64, u32, u32, u64, u64, u64, u64);
@@ -14812,8 +14830,8 @@ static void w2c_f22(module *m, u64 w2c_p0, u64 w2c_p1, u64 w2c_p2, u64 w2c_p3) {
 }
 
 static void w2c_f23(module *m, u64 w2c_p0, u32 w2c_p1, u64 w2c_p2, u64 w2c_p3) {
-  u32 w2c_l17 = 0, w2c_l18 = 0, w2c_l19 = 0, w2c_l20 = 0, w2c_l21 = 0, w2c_l22 = 0, w2c_l23 = 0, w2c_l24 = 0, w2c_l25 = 0, w2c_l26 = 0;
-  u64 w2c_l4 = 0, w2c_l5 = 0, w2c_l6 = 0, w2c_l7 = 0, w2c_l8 = 0, w2c_l9 = 0, w2c_l10 = 0, w2c_l11 = 0, w2c_l12 = 0, w2c_l13 = 0, w2c_l14 = 0, w2c_l15 = 0, w2c_l16 = 0;
+  u32 w2c_l16 = 0, w2c_l17 = 0, w2c_l18 = 0, w2c_l19 = 0, w2c_l20 = 0, w2c_l21 = 0, w2c_l22 = 0, w2c_l23 = 0, w2c_l24 = 0, w2c_l25 = 0;
+  u64 w2c_l4 = 0, w2c_l5 = 0, w2c_l6 = 0, w2c_l7 = 0, w2c_l8 = 0, w2c_l9 = 0, w2c_l10 = 0, w2c_l11 = 0, w2c_l12 = 0, w2c_l13 = 0, w2c_l14 = 0, w2c_l15 = 0;
   u32 w2c_i0, w2c_i1, w2c_i2, w2c_i3;
   u64 w2c_j0, w2c_j1, w2c_j2, w2c_j3, w2c_j4, w2c_j5, w2c_j6;
   w2c_j0 = m->w2c_g0;
@@ -14953,11 +14971,11 @@ static void w2c_f23(module *m, u64 w2c_p0, u32 w2c_p1, u64 w2c_p2, u64 w2c_p3) {
   w2c_j0 = w2c_l4;
   w2c_i0 = (u32)(w2c_j0);
   w2c_i0 = i32_load8_u(m, (u64)(w2c_i0) + 136u);
-  w2c_l17 = w2c_i0;
+  w2c_l16 = w2c_i0;
   w2c_i1 = 17u;
   w2c_i0 = w2c_i0 < w2c_i1;
   if (w2c_i0) {goto w2c_B9;}
-  w2c_i0 = w2c_l17;
+  w2c_i0 = w2c_l16;
   w2c_i1 = 4294967279u;
   w2c_i0 += w2c_i1;
   switch (w2c_i0) {
@@ -14973,7 +14991,7 @@ static void w2c_f23(module *m, u64 w2c_p0, u32 w2c_p1, u64 w2c_p2, u64 w2c_p3) {
   w2c_B9:;
   w2c_j0 = w2c_l4;
   w2c_i0 = (u32)(w2c_j0);
-  w2c_i1 = w2c_l17;
+  w2c_i1 = w2c_l16;
   i32_store8(m, (u64)(w2c_i0) + 96, w2c_i1);
   w2c_j0 = w2c_l4;
   w2c_i0 = (u32)(w2c_j0);
@@ -15049,30 +15067,33 @@ static void w2c_f23(module *m, u64 w2c_p0, u32 w2c_p1, u64 w2c_p2, u64 w2c_p3) {
     w2c_j0 += w2c_j1;
     w2c_j1 = w2c_l5;
     w2c_j0 += w2c_j1;
-    w2c_l7 = w2c_j0;
+    w2c_l9 = w2c_j0;
     w2c_i0 = (u32)(w2c_j0);
     w2c_i0 = i32_load8_u(m, (u64)(w2c_i0));
     w2c_i1 = 1u;
     w2c_i0 = w2c_i0 != w2c_i1;
     if (w2c_i0) {goto w2c_B12;}
-    w2c_j0 = w2c_l7;
+    w2c_j0 = w2c_l8;
+    w2c_j1 = w2c_l9;
+    w2c_j2 = 8ull;
+    w2c_j1 += w2c_j2;
+    w2c_i1 = (u32)(w2c_j1);
+    w2c_j1 = i64_load(m, (u64)(w2c_i1));
+    w2c_l7 = w2c_j1;
+    w2c_i0 = w2c_j0 < w2c_j1;
+    if (w2c_i0) {goto w2c_B12;}
+    w2c_j0 = w2c_l9;
     w2c_j1 = 20ull;
     w2c_j0 += w2c_j1;
     w2c_i0 = (u32)(w2c_j0);
     w2c_i0 = i32_load_of_text(m, (u64)(w2c_i0));
-    w2c_l18 = w2c_i0;
-    w2c_j0 = w2c_l7;
+    w2c_l17 = w2c_i0;
+    w2c_j0 = w2c_l9;
     w2c_j1 = 16ull;
     w2c_j0 += w2c_j1;
     w2c_i0 = (u32)(w2c_j0);
     w2c_i0 = i32_load8_u(m, (u64)(w2c_i0));
-    w2c_l17 = w2c_i0;
-    w2c_j0 = w2c_l7;
-    w2c_j1 = 8ull;
-    w2c_j0 += w2c_j1;
-    w2c_i0 = (u32)(w2c_j0);
-    w2c_j0 = i64_load(m, (u64)(w2c_i0));
-    w2c_l7 = w2c_j0;
+    w2c_l16 = w2c_i0;
     w2c_j0 = w2c_l4;
     w2c_i0 = (u32)(w2c_j0);
     w2c_j1 = 0ull;
@@ -15161,44 +15182,37 @@ static void w2c_f23(module *m, u64 w2c_p0, u32 w2c_p1, u64 w2c_p2, u64 w2c_p3) {
     w2c_f8(m, w2c_j0, w2c_j1, w2c_j2, w2c_j3, w2c_j4);
     w2c_j0 = w2c_l4;
     w2c_i0 = (u32)(w2c_j0);
-    w2c_j0 = i64_load(m, (u64)(w2c_i0) + 336u);
-    w2c_l9 = w2c_j0;
-    w2c_j1 = w2c_l7;
-    w2c_i0 = w2c_j0 < w2c_j1;
-    if (w2c_i0) {goto w2c_B12;}
-    w2c_j0 = w2c_l4;
-    w2c_i0 = (u32)(w2c_j0);
     w2c_j0 = i64_load(m, (u64)(w2c_i0) + 352u);
-    w2c_l10 = w2c_j0;
+    w2c_l9 = w2c_j0;
     w2c_j0 = w2c_l4;
     w2c_i0 = (u32)(w2c_j0);
     w2c_j0 = i64_load(m, (u64)(w2c_i0) + 344u);
-    w2c_l11 = w2c_j0;
+    w2c_l10 = w2c_j0;
     w2c_j0 = w2c_l4;
     w2c_i0 = (u32)(w2c_j0);
     w2c_j0 = i64_load(m, (u64)(w2c_i0) + 328u);
-    w2c_l12 = w2c_j0;
+    w2c_l11 = w2c_j0;
     w2c_j0 = w2c_l4;
     w2c_i0 = (u32)(w2c_j0);
     w2c_j0 = i64_load(m, (u64)(w2c_i0) + 320u);
-    w2c_l13 = w2c_j0;
+    w2c_l12 = w2c_j0;
     w2c_j0 = w2c_l4;
     w2c_i0 = (u32)(w2c_j0);
     w2c_j0 = i64_load(m, (u64)(w2c_i0) + 312u);
-    w2c_l14 = w2c_j0;
+    w2c_l13 = w2c_j0;
     w2c_j0 = w2c_l4;
     w2c_i0 = (u32)(w2c_j0);
     w2c_i0 = i32_load8_u(m, (u64)(w2c_i0) + 306u);
-    w2c_l19 = w2c_i0;
+    w2c_l18 = w2c_i0;
     w2c_j0 = w2c_l4;
     w2c_i0 = (u32)(w2c_j0);
     w2c_i0 = i32_load8_u(m, (u64)(w2c_i0) + 305u);
-    w2c_l20 = w2c_i0;
+    w2c_l19 = w2c_i0;
     w2c_j0 = w2c_l4;
     w2c_i0 = (u32)(w2c_j0);
     w2c_i0 = i32_load8_u(m, (u64)(w2c_i0) + 304u);
-    w2c_l21 = w2c_i0;
-    w2c_i0 = w2c_l17;
+    w2c_l20 = w2c_i0;
+    w2c_i0 = w2c_l16;
     switch (w2c_i0) {
       case 0: goto w2c_B54;
       case 1: goto w2c_B53;
@@ -15206,7 +15220,7 @@ static void w2c_f23(module *m, u64 w2c_p0, u32 w2c_p1, u64 w2c_p2, u64 w2c_p3) {
       default: goto w2c_B54;
     }
     w2c_B54:;
-    w2c_i0 = w2c_l18;
+    w2c_i0 = w2c_l17;
     w2c_i1 = 3227u;
     w2c_i0 *= w2c_i1;
     w2c_i1 = 7u;
@@ -15214,13 +15228,13 @@ static void w2c_f23(module *m, u64 w2c_p0, u32 w2c_p1, u64 w2c_p2, u64 w2c_p3) {
     w2c_j0 = (u64)(w2c_i0);
     w2c_j1 = 504ull;
     w2c_j0 &= w2c_j1;
-    w2c_l15 = w2c_j0;
+    w2c_l14 = w2c_j0;
     w2c_i0 = (u32)(w2c_j0);
     w2c_i0 = i32_load_of_text(m, (u64)(w2c_i0) + 65536u);
-    w2c_i1 = w2c_l18;
+    w2c_i1 = w2c_l17;
     w2c_i0 = w2c_i0 != w2c_i1;
     if (w2c_i0) {goto w2c_B12;}
-    w2c_j0 = w2c_l15;
+    w2c_j0 = w2c_l14;
     w2c_j1 = 65540ull;
     w2c_j0 += w2c_j1;
     w2c_i0 = (u32)(w2c_j0);
@@ -15230,19 +15244,19 @@ static void w2c_f23(module *m, u64 w2c_p0, u32 w2c_p1, u64 w2c_p2, u64 w2c_p3) {
     w2c_i1 = 1u;
     w2c_i0 = w2c_i0 != w2c_i1;
     if (w2c_i0) {goto w2c_B12;}
-    w2c_j0 = w2c_l15;
+    w2c_j0 = w2c_l14;
     w2c_j1 = 65542ull;
     w2c_j0 += w2c_j1;
     w2c_i0 = (u32)(w2c_j0);
     w2c_j0 = i64_load8_u(m, (u64)(w2c_i0));
-    w2c_l16 = w2c_j0;
-    w2c_j0 = w2c_l15;
+    w2c_l15 = w2c_j0;
+    w2c_j0 = w2c_l14;
     w2c_j1 = 65541ull;
     w2c_j0 += w2c_j1;
     w2c_i0 = (u32)(w2c_j0);
     w2c_i0 = i32_load8_u(m, (u64)(w2c_i0));
-    w2c_l22 = w2c_i0;
-    w2c_i0 = w2c_l21;
+    w2c_l21 = w2c_i0;
+    w2c_i0 = w2c_l20;
     switch (w2c_i0) {
       case 0: goto w2c_B72;
       case 1: goto w2c_B71;
@@ -15268,26 +15282,26 @@ static void w2c_f23(module *m, u64 w2c_p0, u32 w2c_p1, u64 w2c_p2, u64 w2c_p3) {
     }
     w2c_B82:;
     w2c_i0 = 1u;
-    w2c_i1 = w2c_l22;
+    w2c_i1 = w2c_l21;
     w2c_i0 <<= (w2c_i1 & 31);
     w2c_i1 = 261375u;
     w2c_i0 &= w2c_i1;
     if (w2c_i0) {goto w2c_B83;}
-    w2c_i0 = w2c_l22;
+    w2c_i0 = w2c_l21;
     w2c_i1 = 8u;
     w2c_i0 = w2c_i0 == w2c_i1;
     if (w2c_i0) {goto w2c_B56;}
     goto w2c_B30;
     w2c_B83:;
-    w2c_i0 = w2c_l22;
+    w2c_i0 = w2c_l21;
     w2c_i1 = 4294967291u;
     w2c_i0 += w2c_i1;
     w2c_i1 = 13u;
     w2c_i0 = w2c_i0 < w2c_i1;
     if (w2c_i0) {goto w2c_B84;}
     w2c_i0 = 0u;
-    w2c_l23 = w2c_i0;
-    w2c_i0 = w2c_l22;
+    w2c_l22 = w2c_i0;
+    w2c_i0 = w2c_l21;
     switch (w2c_i0) {
       case 0: goto w2c_B84;
       case 1: goto w2c_B84;
@@ -15298,10 +15312,10 @@ static void w2c_f23(module *m, u64 w2c_p0, u32 w2c_p1, u64 w2c_p2, u64 w2c_p3) {
     }
     w2c_B84:;
     w2c_i0 = 0u;
-    w2c_l23 = w2c_i0;
+    w2c_l22 = w2c_i0;
     w2c_i0 = 6u;
-    w2c_l21 = w2c_i0;
-    w2c_i0 = w2c_l22;
+    w2c_l20 = w2c_i0;
+    w2c_i0 = w2c_l21;
     switch (w2c_i0) {
       case 0: goto w2c_B12;
       case 1: goto w2c_B12;
@@ -15324,19 +15338,19 @@ static void w2c_f23(module *m, u64 w2c_p0, u32 w2c_p1, u64 w2c_p2, u64 w2c_p3) {
       default: goto w2c_B12;
     }
     w2c_B81:;
-    w2c_i0 = w2c_l22;
+    w2c_i0 = w2c_l21;
     w2c_i1 = 4294967290u;
     w2c_i0 += w2c_i1;
     w2c_i1 = 12u;
     w2c_i0 = w2c_i0 < w2c_i1;
     if (w2c_i0) {goto w2c_B85;}
     w2c_i0 = 3u;
-    w2c_l24 = w2c_i0;
+    w2c_l23 = w2c_i0;
     w2c_i0 = 10u;
+    w2c_l24 = w2c_i0;
+    w2c_i0 = w2c_l21;
     w2c_l25 = w2c_i0;
-    w2c_i0 = w2c_l22;
-    w2c_l26 = w2c_i0;
-    w2c_i0 = w2c_l22;
+    w2c_i0 = w2c_l21;
     switch (w2c_i0) {
       case 0: goto w2c_B36;
       case 1: goto w2c_B64;
@@ -15348,32 +15362,32 @@ static void w2c_f23(module *m, u64 w2c_p0, u32 w2c_p1, u64 w2c_p2, u64 w2c_p3) {
     }
     w2c_B85:;
     w2c_i0 = 1u;
-    w2c_l23 = w2c_i0;
+    w2c_l22 = w2c_i0;
     w2c_i0 = 1u;
-    w2c_i1 = w2c_l22;
+    w2c_i1 = w2c_l21;
     w2c_i0 <<= (w2c_i1 & 31);
     w2c_i1 = 261948u;
     w2c_i0 &= w2c_i1;
     if (w2c_i0) {goto w2c_B12;}
-    w2c_i0 = w2c_l22;
+    w2c_i0 = w2c_l21;
     w2c_i1 = 6u;
     w2c_i0 = w2c_i0 != w2c_i1;
     if (w2c_i0) {goto w2c_B20;}
     goto w2c_B74;
     w2c_B80:;
-    w2c_i0 = w2c_l22;
+    w2c_i0 = w2c_l21;
     w2c_i1 = 4294967290u;
     w2c_i0 += w2c_i1;
     w2c_i1 = 12u;
     w2c_i0 = w2c_i0 < w2c_i1;
     if (w2c_i0) {goto w2c_B86;}
     w2c_i0 = 3u;
-    w2c_l24 = w2c_i0;
+    w2c_l23 = w2c_i0;
     w2c_i0 = 4u;
-    w2c_l26 = w2c_i0;
-    w2c_i0 = 10u;
     w2c_l25 = w2c_i0;
-    w2c_i0 = w2c_l22;
+    w2c_i0 = 10u;
+    w2c_l24 = w2c_i0;
+    w2c_i0 = w2c_l21;
     switch (w2c_i0) {
       case 0: goto w2c_B87;
       case 1: goto w2c_B64;
@@ -15385,40 +15399,40 @@ static void w2c_f23(module *m, u64 w2c_p0, u32 w2c_p1, u64 w2c_p2, u64 w2c_p3) {
     }
     w2c_B87:;
     w2c_i0 = 3u;
-    w2c_l19 = w2c_i0;
-    w2c_i0 = w2c_l20;
+    w2c_l18 = w2c_i0;
+    w2c_i0 = w2c_l19;
     w2c_i1 = 1u;
     w2c_i0 &= w2c_i1;
     w2c_i1 = 3u;
     w2c_i0 ^= w2c_i1;
-    w2c_l23 = w2c_i0;
+    w2c_l22 = w2c_i0;
     goto w2c_B35;
     w2c_B86:;
     w2c_i0 = 1u;
-    w2c_l23 = w2c_i0;
+    w2c_l22 = w2c_i0;
     w2c_i0 = 8u;
-    w2c_l21 = w2c_i0;
+    w2c_l20 = w2c_i0;
     w2c_i0 = 1u;
-    w2c_i1 = w2c_l22;
+    w2c_i1 = w2c_l21;
     w2c_i0 <<= (w2c_i1 & 31);
     w2c_i1 = 261980u;
     w2c_i0 &= w2c_i1;
     if (w2c_i0) {goto w2c_B12;}
-    w2c_i0 = w2c_l22;
+    w2c_i0 = w2c_l21;
     w2c_i1 = 5u;
     w2c_i0 = w2c_i0 != w2c_i1;
     if (w2c_i0) {goto w2c_B20;}
     goto w2c_B16;
     w2c_B79:;
     w2c_i0 = 1u;
-    w2c_l23 = w2c_i0;
+    w2c_l22 = w2c_i0;
     w2c_i0 = 3u;
-    w2c_l24 = w2c_i0;
+    w2c_l23 = w2c_i0;
     w2c_i0 = 5u;
-    w2c_l26 = w2c_i0;
-    w2c_i0 = 10u;
     w2c_l25 = w2c_i0;
-    w2c_i0 = w2c_l22;
+    w2c_i0 = 10u;
+    w2c_l24 = w2c_i0;
+    w2c_i0 = w2c_l21;
     switch (w2c_i0) {
       case 0: goto w2c_B88;
       case 1: goto w2c_B64;
@@ -15441,29 +15455,29 @@ static void w2c_f23(module *m, u64 w2c_p0, u32 w2c_p1, u64 w2c_p2, u64 w2c_p3) {
       default: goto w2c_B88;
     }
     w2c_B88:;
-    w2c_i0 = w2c_l20;
+    w2c_i0 = w2c_l19;
     w2c_i1 = 1u;
     w2c_i0 &= w2c_i1;
     w2c_i1 = 2u;
     w2c_i0 |= w2c_i1;
-    w2c_l19 = w2c_i0;
+    w2c_l18 = w2c_i0;
     w2c_i0 = 5u;
-    w2c_l23 = w2c_i0;
+    w2c_l22 = w2c_i0;
     goto w2c_B35;
     w2c_B78:;
-    w2c_i0 = w2c_l22;
+    w2c_i0 = w2c_l21;
     w2c_i1 = 1u;
     w2c_i0 = w2c_i0 != w2c_i1;
     if (w2c_i0) {goto w2c_B12;}
     w2c_i0 = 11u;
-    w2c_l25 = w2c_i0;
-    w2c_i0 = w2c_l20;
-    w2c_l26 = w2c_i0;
-    w2c_i0 = w2c_l19;
     w2c_l24 = w2c_i0;
+    w2c_i0 = w2c_l19;
+    w2c_l25 = w2c_i0;
+    w2c_i0 = w2c_l18;
+    w2c_l23 = w2c_i0;
     goto w2c_B64;
     w2c_B77:;
-    w2c_i0 = w2c_l19;
+    w2c_i0 = w2c_l18;
     switch (w2c_i0) {
       case 0: goto w2c_B89;
       case 1: goto w2c_B62;
@@ -15472,7 +15486,7 @@ static void w2c_f23(module *m, u64 w2c_p0, u32 w2c_p1, u64 w2c_p2, u64 w2c_p3) {
       default: goto w2c_B89;
     }
     w2c_B89:;
-    w2c_i0 = w2c_l20;
+    w2c_i0 = w2c_l19;
     switch (w2c_i0) {
       case 0: goto w2c_B94;
       case 1: goto w2c_B91;
@@ -15484,10 +15498,10 @@ static void w2c_f23(module *m, u64 w2c_p0, u32 w2c_p1, u64 w2c_p2, u64 w2c_p3) {
     }
     w2c_B94:;
     w2c_i0 = 0u;
-    w2c_l23 = w2c_i0;
+    w2c_l22 = w2c_i0;
     w2c_i0 = 6u;
-    w2c_l21 = w2c_i0;
-    w2c_i0 = w2c_l22;
+    w2c_l20 = w2c_i0;
+    w2c_i0 = w2c_l21;
     switch (w2c_i0) {
       case 0: goto w2c_B12;
       case 1: goto w2c_B12;
@@ -15511,50 +15525,50 @@ static void w2c_f23(module *m, u64 w2c_p0, u32 w2c_p1, u64 w2c_p2, u64 w2c_p3) {
     }
     w2c_B93:;
     w2c_i0 = 0u;
-    w2c_l23 = w2c_i0;
+    w2c_l22 = w2c_i0;
     w2c_i0 = 8u;
-    w2c_l21 = w2c_i0;
+    w2c_l20 = w2c_i0;
     w2c_i0 = 1u;
-    w2c_i1 = w2c_l22;
+    w2c_i1 = w2c_l21;
     w2c_i0 <<= (w2c_i1 & 31);
     w2c_i1 = 261983u;
     w2c_i0 &= w2c_i1;
     if (w2c_i0) {goto w2c_B12;}
-    w2c_i0 = w2c_l22;
+    w2c_i0 = w2c_l21;
     w2c_i1 = 5u;
     w2c_i0 = w2c_i0 != w2c_i1;
     if (w2c_i0) {goto w2c_B20;}
     goto w2c_B16;
     w2c_B92:;
-    w2c_i0 = w2c_l22;
+    w2c_i0 = w2c_l21;
     w2c_i1 = 5u;
     w2c_i0 = w2c_i0 != w2c_i1;
     if (w2c_i0) {goto w2c_B12;}
     goto w2c_B17;
     w2c_B91:;
     w2c_i0 = 0u;
-    w2c_l23 = w2c_i0;
+    w2c_l22 = w2c_i0;
     w2c_i0 = 1u;
-    w2c_i1 = w2c_l22;
+    w2c_i1 = w2c_l21;
     w2c_i0 <<= (w2c_i1 & 31);
     w2c_i1 = 261951u;
     w2c_i0 &= w2c_i1;
     if (w2c_i0) {goto w2c_B12;}
-    w2c_i0 = w2c_l22;
+    w2c_i0 = w2c_l21;
     w2c_i1 = 6u;
     w2c_i0 = w2c_i0 != w2c_i1;
     if (w2c_i0) {goto w2c_B20;}
     goto w2c_B74;
     w2c_B90:;
-    w2c_i0 = w2c_l22;
+    w2c_i0 = w2c_l21;
     w2c_i1 = 7u;
     w2c_i0 = w2c_i0 != w2c_i1;
     if (w2c_i0) {goto w2c_B12;}
     w2c_i0 = 0u;
-    w2c_l23 = w2c_i0;
+    w2c_l22 = w2c_i0;
     goto w2c_B20;
     w2c_B76:;
-    w2c_i0 = w2c_l19;
+    w2c_i0 = w2c_l18;
     switch (w2c_i0) {
       case 0: goto w2c_B95;
       case 1: goto w2c_B96;
@@ -15563,15 +15577,15 @@ static void w2c_f23(module *m, u64 w2c_p0, u32 w2c_p1, u64 w2c_p2, u64 w2c_p3) {
       default: goto w2c_B95;
     }
     w2c_B98:;
-    w2c_i0 = w2c_l22;
+    w2c_i0 = w2c_l21;
     w2c_i1 = 4294967291u;
     w2c_i0 += w2c_i1;
     w2c_i1 = 13u;
     w2c_i0 = w2c_i0 < w2c_i1;
     if (w2c_i0) {goto w2c_B99;}
-    w2c_i0 = w2c_l20;
-    w2c_l23 = w2c_i0;
-    w2c_i0 = w2c_l22;
+    w2c_i0 = w2c_l19;
+    w2c_l22 = w2c_i0;
+    w2c_i0 = w2c_l21;
     switch (w2c_i0) {
       case 0: goto w2c_B99;
       case 1: goto w2c_B99;
@@ -15581,7 +15595,7 @@ static void w2c_f23(module *m, u64 w2c_p0, u32 w2c_p1, u64 w2c_p2, u64 w2c_p3) {
       default: goto w2c_B99;
     }
     w2c_B99:;
-    w2c_i0 = w2c_l20;
+    w2c_i0 = w2c_l19;
     switch (w2c_i0) {
       case 0: goto w2c_B104;
       case 1: goto w2c_B101;
@@ -15593,10 +15607,10 @@ static void w2c_f23(module *m, u64 w2c_p0, u32 w2c_p1, u64 w2c_p2, u64 w2c_p3) {
     }
     w2c_B104:;
     w2c_i0 = 0u;
-    w2c_l23 = w2c_i0;
+    w2c_l22 = w2c_i0;
     w2c_i0 = 6u;
-    w2c_l21 = w2c_i0;
-    w2c_i0 = w2c_l22;
+    w2c_l20 = w2c_i0;
+    w2c_i0 = w2c_l21;
     switch (w2c_i0) {
       case 0: goto w2c_B12;
       case 1: goto w2c_B12;
@@ -15620,58 +15634,58 @@ static void w2c_f23(module *m, u64 w2c_p0, u32 w2c_p1, u64 w2c_p2, u64 w2c_p3) {
     }
     w2c_B103:;
     w2c_i0 = 0u;
-    w2c_l23 = w2c_i0;
+    w2c_l22 = w2c_i0;
     w2c_i0 = 8u;
-    w2c_l21 = w2c_i0;
+    w2c_l20 = w2c_i0;
     w2c_i0 = 1u;
-    w2c_i1 = w2c_l22;
+    w2c_i1 = w2c_l21;
     w2c_i0 <<= (w2c_i1 & 31);
     w2c_i1 = 261983u;
     w2c_i0 &= w2c_i1;
     if (w2c_i0) {goto w2c_B12;}
-    w2c_i0 = w2c_l22;
+    w2c_i0 = w2c_l21;
     w2c_i1 = 5u;
     w2c_i0 = w2c_i0 != w2c_i1;
     if (w2c_i0) {goto w2c_B20;}
     goto w2c_B16;
     w2c_B102:;
-    w2c_i0 = w2c_l22;
+    w2c_i0 = w2c_l21;
     w2c_i1 = 5u;
     w2c_i0 = w2c_i0 == w2c_i1;
     if (w2c_i0) {goto w2c_B17;}
     goto w2c_B12;
     w2c_B101:;
     w2c_i0 = 0u;
-    w2c_l23 = w2c_i0;
+    w2c_l22 = w2c_i0;
     w2c_i0 = 1u;
-    w2c_i1 = w2c_l22;
+    w2c_i1 = w2c_l21;
     w2c_i0 <<= (w2c_i1 & 31);
     w2c_i1 = 261951u;
     w2c_i0 &= w2c_i1;
     if (w2c_i0) {goto w2c_B12;}
-    w2c_i0 = w2c_l22;
+    w2c_i0 = w2c_l21;
     w2c_i1 = 6u;
     w2c_i0 = w2c_i0 != w2c_i1;
     if (w2c_i0) {goto w2c_B20;}
     goto w2c_B74;
     w2c_B100:;
-    w2c_i0 = w2c_l22;
+    w2c_i0 = w2c_l21;
     w2c_i1 = 7u;
     w2c_i0 = w2c_i0 != w2c_i1;
     if (w2c_i0) {goto w2c_B12;}
     w2c_i0 = 0u;
-    w2c_l23 = w2c_i0;
+    w2c_l22 = w2c_i0;
     goto w2c_B20;
     w2c_B97:;
-    w2c_i0 = w2c_l22;
+    w2c_i0 = w2c_l21;
     w2c_i1 = 4294967292u;
     w2c_i0 += w2c_i1;
     w2c_i1 = 14u;
     w2c_i0 = w2c_i0 < w2c_i1;
     if (w2c_i0) {goto w2c_B105;}
-    w2c_i0 = w2c_l20;
-    w2c_l23 = w2c_i0;
-    w2c_i0 = w2c_l22;
+    w2c_i0 = w2c_l19;
+    w2c_l22 = w2c_i0;
+    w2c_i0 = w2c_l21;
     switch (w2c_i0) {
       case 0: goto w2c_B105;
       case 1: goto w2c_B105;
@@ -15680,7 +15694,7 @@ static void w2c_f23(module *m, u64 w2c_p0, u32 w2c_p1, u64 w2c_p2, u64 w2c_p3) {
       default: goto w2c_B105;
     }
     w2c_B105:;
-    w2c_i0 = w2c_l20;
+    w2c_i0 = w2c_l19;
     switch (w2c_i0) {
       case 0: goto w2c_B110;
       case 1: goto w2c_B107;
@@ -15692,10 +15706,10 @@ static void w2c_f23(module *m, u64 w2c_p0, u32 w2c_p1, u64 w2c_p2, u64 w2c_p3) {
     }
     w2c_B110:;
     w2c_i0 = 0u;
-    w2c_l23 = w2c_i0;
+    w2c_l22 = w2c_i0;
     w2c_i0 = 6u;
-    w2c_l21 = w2c_i0;
-    w2c_i0 = w2c_l22;
+    w2c_l20 = w2c_i0;
+    w2c_i0 = w2c_l21;
     switch (w2c_i0) {
       case 0: goto w2c_B12;
       case 1: goto w2c_B12;
@@ -15719,58 +15733,58 @@ static void w2c_f23(module *m, u64 w2c_p0, u32 w2c_p1, u64 w2c_p2, u64 w2c_p3) {
     }
     w2c_B109:;
     w2c_i0 = 0u;
-    w2c_l23 = w2c_i0;
+    w2c_l22 = w2c_i0;
     w2c_i0 = 8u;
-    w2c_l21 = w2c_i0;
+    w2c_l20 = w2c_i0;
     w2c_i0 = 1u;
-    w2c_i1 = w2c_l22;
+    w2c_i1 = w2c_l21;
     w2c_i0 <<= (w2c_i1 & 31);
     w2c_i1 = 261983u;
     w2c_i0 &= w2c_i1;
     if (w2c_i0) {goto w2c_B12;}
-    w2c_i0 = w2c_l22;
+    w2c_i0 = w2c_l21;
     w2c_i1 = 5u;
     w2c_i0 = w2c_i0 != w2c_i1;
     if (w2c_i0) {goto w2c_B20;}
     goto w2c_B16;
     w2c_B108:;
-    w2c_i0 = w2c_l22;
+    w2c_i0 = w2c_l21;
     w2c_i1 = 5u;
     w2c_i0 = w2c_i0 == w2c_i1;
     if (w2c_i0) {goto w2c_B17;}
     goto w2c_B12;
     w2c_B107:;
     w2c_i0 = 0u;
-    w2c_l23 = w2c_i0;
+    w2c_l22 = w2c_i0;
     w2c_i0 = 1u;
-    w2c_i1 = w2c_l22;
+    w2c_i1 = w2c_l21;
     w2c_i0 <<= (w2c_i1 & 31);
     w2c_i1 = 261951u;
     w2c_i0 &= w2c_i1;
     if (w2c_i0) {goto w2c_B12;}
-    w2c_i0 = w2c_l22;
+    w2c_i0 = w2c_l21;
     w2c_i1 = 6u;
     w2c_i0 = w2c_i0 != w2c_i1;
     if (w2c_i0) {goto w2c_B20;}
     goto w2c_B74;
     w2c_B106:;
-    w2c_i0 = w2c_l22;
+    w2c_i0 = w2c_l21;
     w2c_i1 = 7u;
     w2c_i0 = w2c_i0 != w2c_i1;
     if (w2c_i0) {goto w2c_B12;}
     w2c_i0 = 0u;
-    w2c_l23 = w2c_i0;
+    w2c_l22 = w2c_i0;
     goto w2c_B20;
     w2c_B96:;
-    w2c_i0 = w2c_l22;
+    w2c_i0 = w2c_l21;
     w2c_i1 = 4294967291u;
     w2c_i0 += w2c_i1;
     w2c_i1 = 13u;
     w2c_i0 = w2c_i0 < w2c_i1;
     if (w2c_i0) {goto w2c_B111;}
-    w2c_i0 = w2c_l20;
-    w2c_l23 = w2c_i0;
-    w2c_i0 = w2c_l22;
+    w2c_i0 = w2c_l19;
+    w2c_l22 = w2c_i0;
+    w2c_i0 = w2c_l21;
     switch (w2c_i0) {
       case 0: goto w2c_B111;
       case 1: goto w2c_B111;
@@ -15780,7 +15794,7 @@ static void w2c_f23(module *m, u64 w2c_p0, u32 w2c_p1, u64 w2c_p2, u64 w2c_p3) {
       default: goto w2c_B111;
     }
     w2c_B111:;
-    w2c_i0 = w2c_l20;
+    w2c_i0 = w2c_l19;
     switch (w2c_i0) {
       case 0: goto w2c_B116;
       case 1: goto w2c_B113;
@@ -15792,10 +15806,10 @@ static void w2c_f23(module *m, u64 w2c_p0, u32 w2c_p1, u64 w2c_p2, u64 w2c_p3) {
     }
     w2c_B116:;
     w2c_i0 = 0u;
-    w2c_l23 = w2c_i0;
+    w2c_l22 = w2c_i0;
     w2c_i0 = 6u;
-    w2c_l21 = w2c_i0;
-    w2c_i0 = w2c_l22;
+    w2c_l20 = w2c_i0;
+    w2c_i0 = w2c_l21;
     switch (w2c_i0) {
       case 0: goto w2c_B12;
       case 1: goto w2c_B12;
@@ -15819,50 +15833,50 @@ static void w2c_f23(module *m, u64 w2c_p0, u32 w2c_p1, u64 w2c_p2, u64 w2c_p3) {
     }
     w2c_B115:;
     w2c_i0 = 0u;
-    w2c_l23 = w2c_i0;
+    w2c_l22 = w2c_i0;
     w2c_i0 = 8u;
-    w2c_l21 = w2c_i0;
+    w2c_l20 = w2c_i0;
     w2c_i0 = 1u;
-    w2c_i1 = w2c_l22;
+    w2c_i1 = w2c_l21;
     w2c_i0 <<= (w2c_i1 & 31);
     w2c_i1 = 261983u;
     w2c_i0 &= w2c_i1;
     if (w2c_i0) {goto w2c_B12;}
-    w2c_i0 = w2c_l22;
+    w2c_i0 = w2c_l21;
     w2c_i1 = 5u;
     w2c_i0 = w2c_i0 != w2c_i1;
     if (w2c_i0) {goto w2c_B20;}
     goto w2c_B16;
     w2c_B114:;
-    w2c_i0 = w2c_l22;
+    w2c_i0 = w2c_l21;
     w2c_i1 = 5u;
     w2c_i0 = w2c_i0 == w2c_i1;
     if (w2c_i0) {goto w2c_B17;}
     goto w2c_B12;
     w2c_B113:;
     w2c_i0 = 0u;
-    w2c_l23 = w2c_i0;
+    w2c_l22 = w2c_i0;
     w2c_i0 = 1u;
-    w2c_i1 = w2c_l22;
+    w2c_i1 = w2c_l21;
     w2c_i0 <<= (w2c_i1 & 31);
     w2c_i1 = 261951u;
     w2c_i0 &= w2c_i1;
     if (w2c_i0) {goto w2c_B12;}
-    w2c_i0 = w2c_l22;
+    w2c_i0 = w2c_l21;
     w2c_i1 = 6u;
     w2c_i0 = w2c_i0 != w2c_i1;
     if (w2c_i0) {goto w2c_B20;}
     goto w2c_B74;
     w2c_B112:;
-    w2c_i0 = w2c_l22;
+    w2c_i0 = w2c_l21;
     w2c_i1 = 7u;
     w2c_i0 = w2c_i0 != w2c_i1;
     if (w2c_i0) {goto w2c_B12;}
     w2c_i0 = 0u;
-    w2c_l23 = w2c_i0;
+    w2c_l22 = w2c_i0;
     goto w2c_B20;
     w2c_B95:;
-    w2c_i0 = w2c_l20;
+    w2c_i0 = w2c_l19;
     switch (w2c_i0) {
       case 0: goto w2c_B121;
       case 1: goto w2c_B118;
@@ -15874,10 +15888,10 @@ static void w2c_f23(module *m, u64 w2c_p0, u32 w2c_p1, u64 w2c_p2, u64 w2c_p3) {
     }
     w2c_B121:;
     w2c_i0 = 0u;
-    w2c_l23 = w2c_i0;
+    w2c_l22 = w2c_i0;
     w2c_i0 = 6u;
-    w2c_l21 = w2c_i0;
-    w2c_i0 = w2c_l22;
+    w2c_l20 = w2c_i0;
+    w2c_i0 = w2c_l21;
     switch (w2c_i0) {
       case 0: goto w2c_B12;
       case 1: goto w2c_B12;
@@ -15901,50 +15915,50 @@ static void w2c_f23(module *m, u64 w2c_p0, u32 w2c_p1, u64 w2c_p2, u64 w2c_p3) {
     }
     w2c_B120:;
     w2c_i0 = 0u;
-    w2c_l23 = w2c_i0;
+    w2c_l22 = w2c_i0;
     w2c_i0 = 8u;
-    w2c_l21 = w2c_i0;
+    w2c_l20 = w2c_i0;
     w2c_i0 = 1u;
-    w2c_i1 = w2c_l22;
+    w2c_i1 = w2c_l21;
     w2c_i0 <<= (w2c_i1 & 31);
     w2c_i1 = 261983u;
     w2c_i0 &= w2c_i1;
     if (w2c_i0) {goto w2c_B12;}
-    w2c_i0 = w2c_l22;
+    w2c_i0 = w2c_l21;
     w2c_i1 = 5u;
     w2c_i0 = w2c_i0 != w2c_i1;
     if (w2c_i0) {goto w2c_B20;}
     goto w2c_B16;
     w2c_B119:;
-    w2c_i0 = w2c_l22;
+    w2c_i0 = w2c_l21;
     w2c_i1 = 5u;
     w2c_i0 = w2c_i0 == w2c_i1;
     if (w2c_i0) {goto w2c_B17;}
     goto w2c_B12;
     w2c_B118:;
     w2c_i0 = 0u;
-    w2c_l23 = w2c_i0;
+    w2c_l22 = w2c_i0;
     w2c_i0 = 1u;
-    w2c_i1 = w2c_l22;
+    w2c_i1 = w2c_l21;
     w2c_i0 <<= (w2c_i1 & 31);
     w2c_i1 = 261951u;
     w2c_i0 &= w2c_i1;
     if (w2c_i0) {goto w2c_B12;}
-    w2c_i0 = w2c_l22;
+    w2c_i0 = w2c_l21;
     w2c_i1 = 6u;
     w2c_i0 = w2c_i0 != w2c_i1;
     if (w2c_i0) {goto w2c_B20;}
     goto w2c_B74;
     w2c_B117:;
-    w2c_i0 = w2c_l22;
+    w2c_i0 = w2c_l21;
     w2c_i1 = 7u;
     w2c_i0 = w2c_i0 != w2c_i1;
     if (w2c_i0) {goto w2c_B12;}
     w2c_i0 = 0u;
-    w2c_l23 = w2c_i0;
+    w2c_l22 = w2c_i0;
     goto w2c_B20;
     w2c_B75:;
-    w2c_i0 = w2c_l19;
+    w2c_i0 = w2c_l18;
     switch (w2c_i0) {
       case 0: goto w2c_B122;
       case 1: goto w2c_B123;
@@ -15953,32 +15967,32 @@ static void w2c_f23(module *m, u64 w2c_p0, u32 w2c_p1, u64 w2c_p2, u64 w2c_p3) {
       default: goto w2c_B122;
     }
     w2c_B125:;
-    w2c_i0 = w2c_l22;
+    w2c_i0 = w2c_l21;
     w2c_i1 = 4294967294u;
     w2c_i0 += w2c_i1;
     w2c_i1 = 16u;
     w2c_i0 = w2c_i0 < w2c_i1;
     if (w2c_i0) {goto w2c_B126;}
     w2c_i0 = 1u;
-    w2c_l19 = w2c_i0;
+    w2c_l18 = w2c_i0;
     w2c_i0 = 9u;
-    w2c_l21 = w2c_i0;
+    w2c_l20 = w2c_i0;
     w2c_i0 = 2u;
-    w2c_l24 = w2c_i0;
-    w2c_i0 = 10u;
-    w2c_l25 = w2c_i0;
-    w2c_i0 = w2c_l20;
-    w2c_l26 = w2c_i0;
-    w2c_i0 = w2c_l20;
     w2c_l23 = w2c_i0;
-    w2c_i0 = w2c_l22;
+    w2c_i0 = 10u;
+    w2c_l24 = w2c_i0;
+    w2c_i0 = w2c_l19;
+    w2c_l25 = w2c_i0;
+    w2c_i0 = w2c_l19;
+    w2c_l22 = w2c_i0;
+    w2c_i0 = w2c_l21;
     switch (w2c_i0) {
       case 0: goto w2c_B13;
       case 1: goto w2c_B64;
       default: goto w2c_B13;
     }
     w2c_B126:;
-    w2c_i0 = w2c_l20;
+    w2c_i0 = w2c_l19;
     switch (w2c_i0) {
       case 0: goto w2c_B131;
       case 1: goto w2c_B128;
@@ -15990,10 +16004,10 @@ static void w2c_f23(module *m, u64 w2c_p0, u32 w2c_p1, u64 w2c_p2, u64 w2c_p3) {
     }
     w2c_B131:;
     w2c_i0 = 1u;
-    w2c_l23 = w2c_i0;
+    w2c_l22 = w2c_i0;
     w2c_i0 = 6u;
-    w2c_l21 = w2c_i0;
-    w2c_i0 = w2c_l22;
+    w2c_l20 = w2c_i0;
+    w2c_i0 = w2c_l21;
     w2c_i1 = 4294967294u;
     w2c_i0 += w2c_i1;
     switch (w2c_i0) {
@@ -16017,75 +16031,75 @@ static void w2c_f23(module *m, u64 w2c_p0, u32 w2c_p1, u64 w2c_p2, u64 w2c_p3) {
     }
     w2c_B130:;
     w2c_i0 = 1u;
-    w2c_l23 = w2c_i0;
+    w2c_l22 = w2c_i0;
     w2c_i0 = 8u;
-    w2c_l21 = w2c_i0;
+    w2c_l20 = w2c_i0;
     w2c_i0 = 1u;
-    w2c_i1 = w2c_l22;
+    w2c_i1 = w2c_l21;
     w2c_i0 <<= (w2c_i1 & 31);
     w2c_i1 = 261980u;
     w2c_i0 &= w2c_i1;
     if (w2c_i0) {goto w2c_B12;}
-    w2c_i0 = w2c_l22;
+    w2c_i0 = w2c_l21;
     w2c_i1 = 5u;
     w2c_i0 = w2c_i0 != w2c_i1;
     if (w2c_i0) {goto w2c_B20;}
     goto w2c_B16;
     w2c_B129:;
-    w2c_i0 = w2c_l22;
+    w2c_i0 = w2c_l21;
     w2c_i1 = 5u;
     w2c_i0 = w2c_i0 != w2c_i1;
     if (w2c_i0) {goto w2c_B12;}
     goto w2c_B18;
     w2c_B128:;
     w2c_i0 = 1u;
-    w2c_l23 = w2c_i0;
+    w2c_l22 = w2c_i0;
     w2c_i0 = 1u;
-    w2c_i1 = w2c_l22;
+    w2c_i1 = w2c_l21;
     w2c_i0 <<= (w2c_i1 & 31);
     w2c_i1 = 261948u;
     w2c_i0 &= w2c_i1;
     if (w2c_i0) {goto w2c_B12;}
-    w2c_i0 = w2c_l22;
+    w2c_i0 = w2c_l21;
     w2c_i1 = 6u;
     w2c_i0 = w2c_i0 != w2c_i1;
     if (w2c_i0) {goto w2c_B20;}
     goto w2c_B74;
     w2c_B127:;
-    w2c_i0 = w2c_l22;
+    w2c_i0 = w2c_l21;
     w2c_i1 = 7u;
     w2c_i0 = w2c_i0 != w2c_i1;
     if (w2c_i0) {goto w2c_B12;}
     w2c_i0 = 1u;
-    w2c_l23 = w2c_i0;
+    w2c_l22 = w2c_i0;
     goto w2c_B20;
     w2c_B124:;
-    w2c_i0 = w2c_l22;
+    w2c_i0 = w2c_l21;
     w2c_i1 = 4294967294u;
     w2c_i0 += w2c_i1;
     w2c_i1 = 16u;
     w2c_i0 = w2c_i0 < w2c_i1;
     if (w2c_i0) {goto w2c_B132;}
     w2c_i0 = 9u;
-    w2c_l21 = w2c_i0;
+    w2c_l20 = w2c_i0;
     w2c_i0 = 10u;
-    w2c_l25 = w2c_i0;
-    w2c_i0 = w2c_l20;
-    w2c_l26 = w2c_i0;
-    w2c_i0 = w2c_l22;
     w2c_l24 = w2c_i0;
-    w2c_i0 = w2c_l20;
+    w2c_i0 = w2c_l19;
+    w2c_l25 = w2c_i0;
+    w2c_i0 = w2c_l21;
     w2c_l23 = w2c_i0;
-    w2c_i0 = w2c_l22;
-    w2c_l19 = w2c_i0;
-    w2c_i0 = w2c_l22;
+    w2c_i0 = w2c_l19;
+    w2c_l22 = w2c_i0;
+    w2c_i0 = w2c_l21;
+    w2c_l18 = w2c_i0;
+    w2c_i0 = w2c_l21;
     switch (w2c_i0) {
       case 0: goto w2c_B13;
       case 1: goto w2c_B64;
       default: goto w2c_B13;
     }
     w2c_B132:;
-    w2c_i0 = w2c_l20;
+    w2c_i0 = w2c_l19;
     switch (w2c_i0) {
       case 0: goto w2c_B137;
       case 1: goto w2c_B134;
@@ -16097,10 +16111,10 @@ static void w2c_f23(module *m, u64 w2c_p0, u32 w2c_p1, u64 w2c_p2, u64 w2c_p3) {
     }
     w2c_B137:;
     w2c_i0 = 1u;
-    w2c_l23 = w2c_i0;
+    w2c_l22 = w2c_i0;
     w2c_i0 = 6u;
-    w2c_l21 = w2c_i0;
-    w2c_i0 = w2c_l22;
+    w2c_l20 = w2c_i0;
+    w2c_i0 = w2c_l21;
     w2c_i1 = 4294967294u;
     w2c_i0 += w2c_i1;
     switch (w2c_i0) {
@@ -16124,69 +16138,69 @@ static void w2c_f23(module *m, u64 w2c_p0, u32 w2c_p1, u64 w2c_p2, u64 w2c_p3) {
     }
     w2c_B136:;
     w2c_i0 = 1u;
-    w2c_l23 = w2c_i0;
+    w2c_l22 = w2c_i0;
     w2c_i0 = 8u;
-    w2c_l21 = w2c_i0;
+    w2c_l20 = w2c_i0;
     w2c_i0 = 1u;
-    w2c_i1 = w2c_l22;
+    w2c_i1 = w2c_l21;
     w2c_i0 <<= (w2c_i1 & 31);
     w2c_i1 = 261980u;
     w2c_i0 &= w2c_i1;
     if (w2c_i0) {goto w2c_B12;}
-    w2c_i0 = w2c_l22;
+    w2c_i0 = w2c_l21;
     w2c_i1 = 5u;
     w2c_i0 = w2c_i0 != w2c_i1;
     if (w2c_i0) {goto w2c_B20;}
     goto w2c_B16;
     w2c_B135:;
-    w2c_i0 = w2c_l22;
+    w2c_i0 = w2c_l21;
     w2c_i1 = 5u;
     w2c_i0 = w2c_i0 == w2c_i1;
     if (w2c_i0) {goto w2c_B18;}
     goto w2c_B12;
     w2c_B134:;
     w2c_i0 = 1u;
-    w2c_l23 = w2c_i0;
+    w2c_l22 = w2c_i0;
     w2c_i0 = 1u;
-    w2c_i1 = w2c_l22;
+    w2c_i1 = w2c_l21;
     w2c_i0 <<= (w2c_i1 & 31);
     w2c_i1 = 261948u;
     w2c_i0 &= w2c_i1;
     if (w2c_i0) {goto w2c_B12;}
-    w2c_i0 = w2c_l22;
+    w2c_i0 = w2c_l21;
     w2c_i1 = 6u;
     w2c_i0 = w2c_i0 != w2c_i1;
     if (w2c_i0) {goto w2c_B20;}
     goto w2c_B74;
     w2c_B133:;
-    w2c_i0 = w2c_l22;
+    w2c_i0 = w2c_l21;
     w2c_i1 = 7u;
     w2c_i0 = w2c_i0 != w2c_i1;
     if (w2c_i0) {goto w2c_B12;}
     w2c_i0 = 1u;
-    w2c_l23 = w2c_i0;
+    w2c_l22 = w2c_i0;
     goto w2c_B20;
     w2c_B123:;
-    w2c_i0 = w2c_l22;
+    w2c_i0 = w2c_l21;
     w2c_i1 = 4294967294u;
     w2c_i0 += w2c_i1;
     w2c_i1 = 16u;
     w2c_i0 = w2c_i0 < w2c_i1;
     if (w2c_i0) {goto w2c_B138;}
     w2c_i0 = 0u;
-    w2c_l24 = w2c_i0;
+    w2c_l23 = w2c_i0;
     w2c_i0 = 10u;
+    w2c_l24 = w2c_i0;
+    w2c_i0 = w2c_l19;
     w2c_l25 = w2c_i0;
-    w2c_i0 = w2c_l20;
-    w2c_l26 = w2c_i0;
-    w2c_i0 = w2c_l22;
+    w2c_i0 = w2c_l21;
     switch (w2c_i0) {
       case 0: goto w2c_B12;
       case 1: goto w2c_B64;
       default: goto w2c_B12;
     }
     w2c_B138:;
-    w2c_i0 = w2c_l20;
+    w2c_i0 = w2c_l19;
     switch (w2c_i0) {
       case 0: goto w2c_B143;
       case 1: goto w2c_B140;
@@ -16198,10 +16212,10 @@ static void w2c_f23(module *m, u64 w2c_p0, u32 w2c_p1, u64 w2c_p2, u64 w2c_p3) {
     }
     w2c_B143:;
     w2c_i0 = 1u;
-    w2c_l23 = w2c_i0;
+    w2c_l22 = w2c_i0;
     w2c_i0 = 6u;
-    w2c_l21 = w2c_i0;
-    w2c_i0 = w2c_l22;
+    w2c_l20 = w2c_i0;
+    w2c_i0 = w2c_l21;
     w2c_i1 = 4294967294u;
     w2c_i0 += w2c_i1;
     switch (w2c_i0) {
@@ -16225,50 +16239,50 @@ static void w2c_f23(module *m, u64 w2c_p0, u32 w2c_p1, u64 w2c_p2, u64 w2c_p3) {
     }
     w2c_B142:;
     w2c_i0 = 1u;
-    w2c_l23 = w2c_i0;
+    w2c_l22 = w2c_i0;
     w2c_i0 = 8u;
-    w2c_l21 = w2c_i0;
+    w2c_l20 = w2c_i0;
     w2c_i0 = 1u;
-    w2c_i1 = w2c_l22;
+    w2c_i1 = w2c_l21;
     w2c_i0 <<= (w2c_i1 & 31);
     w2c_i1 = 261980u;
     w2c_i0 &= w2c_i1;
     if (w2c_i0) {goto w2c_B12;}
-    w2c_i0 = w2c_l22;
+    w2c_i0 = w2c_l21;
     w2c_i1 = 5u;
     w2c_i0 = w2c_i0 != w2c_i1;
     if (w2c_i0) {goto w2c_B20;}
     goto w2c_B16;
     w2c_B141:;
-    w2c_i0 = w2c_l22;
+    w2c_i0 = w2c_l21;
     w2c_i1 = 5u;
     w2c_i0 = w2c_i0 == w2c_i1;
     if (w2c_i0) {goto w2c_B18;}
     goto w2c_B12;
     w2c_B140:;
     w2c_i0 = 1u;
-    w2c_l23 = w2c_i0;
+    w2c_l22 = w2c_i0;
     w2c_i0 = 1u;
-    w2c_i1 = w2c_l22;
+    w2c_i1 = w2c_l21;
     w2c_i0 <<= (w2c_i1 & 31);
     w2c_i1 = 261948u;
     w2c_i0 &= w2c_i1;
     if (w2c_i0) {goto w2c_B12;}
-    w2c_i0 = w2c_l22;
+    w2c_i0 = w2c_l21;
     w2c_i1 = 6u;
     w2c_i0 = w2c_i0 == w2c_i1;
     if (w2c_i0) {goto w2c_B74;}
     goto w2c_B20;
     w2c_B139:;
-    w2c_i0 = w2c_l22;
+    w2c_i0 = w2c_l21;
     w2c_i1 = 7u;
     w2c_i0 = w2c_i0 != w2c_i1;
     if (w2c_i0) {goto w2c_B12;}
     w2c_i0 = 1u;
-    w2c_l23 = w2c_i0;
+    w2c_l22 = w2c_i0;
     goto w2c_B20;
     w2c_B122:;
-    w2c_i0 = w2c_l20;
+    w2c_i0 = w2c_l19;
     switch (w2c_i0) {
       case 0: goto w2c_B147;
       case 1: goto w2c_B144;
@@ -16280,10 +16294,10 @@ static void w2c_f23(module *m, u64 w2c_p0, u32 w2c_p1, u64 w2c_p2, u64 w2c_p3) {
     }
     w2c_B147:;
     w2c_i0 = 1u;
-    w2c_l23 = w2c_i0;
+    w2c_l22 = w2c_i0;
     w2c_i0 = 6u;
-    w2c_l21 = w2c_i0;
-    w2c_i0 = w2c_l22;
+    w2c_l20 = w2c_i0;
+    w2c_i0 = w2c_l21;
     switch (w2c_i0) {
       case 0: goto w2c_B12;
       case 1: goto w2c_B12;
@@ -16307,71 +16321,71 @@ static void w2c_f23(module *m, u64 w2c_p0, u32 w2c_p1, u64 w2c_p2, u64 w2c_p3) {
     }
     w2c_B146:;
     w2c_i0 = 1u;
-    w2c_l23 = w2c_i0;
+    w2c_l22 = w2c_i0;
     w2c_i0 = 8u;
-    w2c_l21 = w2c_i0;
+    w2c_l20 = w2c_i0;
     w2c_i0 = 1u;
-    w2c_i1 = w2c_l22;
+    w2c_i1 = w2c_l21;
     w2c_i0 <<= (w2c_i1 & 31);
     w2c_i1 = 261983u;
     w2c_i0 &= w2c_i1;
     if (w2c_i0) {goto w2c_B12;}
-    w2c_i0 = w2c_l22;
+    w2c_i0 = w2c_l21;
     w2c_i1 = 5u;
     w2c_i0 = w2c_i0 != w2c_i1;
     if (w2c_i0) {goto w2c_B20;}
     goto w2c_B16;
     w2c_B145:;
-    w2c_i0 = w2c_l22;
+    w2c_i0 = w2c_l21;
     w2c_i1 = 5u;
     w2c_i0 = w2c_i0 == w2c_i1;
     if (w2c_i0) {goto w2c_B18;}
     goto w2c_B12;
     w2c_B144:;
     w2c_i0 = 1u;
-    w2c_l23 = w2c_i0;
+    w2c_l22 = w2c_i0;
     w2c_i0 = 1u;
-    w2c_i1 = w2c_l22;
+    w2c_i1 = w2c_l21;
     w2c_i0 <<= (w2c_i1 & 31);
     w2c_i1 = 261951u;
     w2c_i0 &= w2c_i1;
     if (w2c_i0) {goto w2c_B12;}
-    w2c_i0 = w2c_l22;
+    w2c_i0 = w2c_l21;
     w2c_i1 = 6u;
     w2c_i0 = w2c_i0 != w2c_i1;
     if (w2c_i0) {goto w2c_B20;}
     w2c_B74:;
-    w2c_j0 = w2c_l12;
-    w2c_j1 = w2c_l14;
-    w2c_j0 += w2c_j1;
+    w2c_j0 = w2c_l11;
     w2c_j1 = w2c_l13;
+    w2c_j0 += w2c_j1;
+    w2c_j1 = w2c_l12;
     w2c_j0 += w2c_j1;
     w2c_j1 = 100000000ull;
     w2c_j0 *= w2c_j1;
-    w2c_l14 = w2c_j0;
+    w2c_l13 = w2c_j0;
     goto w2c_B21;
     w2c_B73:;
-    w2c_i0 = w2c_l22;
+    w2c_i0 = w2c_l21;
     w2c_i1 = 7u;
     w2c_i0 = w2c_i0 != w2c_i1;
     if (w2c_i0) {goto w2c_B12;}
     w2c_i0 = 1u;
-    w2c_l23 = w2c_i0;
+    w2c_l22 = w2c_i0;
     goto w2c_B20;
     w2c_B72:;
     w2c_i0 = 5u;
-    w2c_l25 = w2c_i0;
-    w2c_i0 = 0u;
-    w2c_l26 = w2c_i0;
-    w2c_i0 = 1u;
-    w2c_l21 = w2c_i0;
-    w2c_i0 = 0u;
     w2c_l24 = w2c_i0;
+    w2c_i0 = 0u;
+    w2c_l25 = w2c_i0;
+    w2c_i0 = 1u;
+    w2c_l20 = w2c_i0;
     w2c_i0 = 0u;
     w2c_l23 = w2c_i0;
     w2c_i0 = 0u;
-    w2c_l19 = w2c_i0;
-    w2c_i0 = w2c_l22;
+    w2c_l22 = w2c_i0;
+    w2c_i0 = 0u;
+    w2c_l18 = w2c_i0;
+    w2c_i0 = w2c_l21;
     switch (w2c_i0) {
       case 0: goto w2c_B48;
       case 1: goto w2c_B64;
@@ -16394,58 +16408,58 @@ static void w2c_f23(module *m, u64 w2c_p0, u32 w2c_p1, u64 w2c_p2, u64 w2c_p3) {
       default: goto w2c_B48;
     }
     w2c_B71:;
-    w2c_i0 = w2c_l22;
+    w2c_i0 = w2c_l21;
     w2c_i1 = 12u;
     w2c_i0 = w2c_i0 != w2c_i1;
     if (w2c_i0) {goto w2c_B12;}
     goto w2c_B22;
     w2c_B70:;
-    w2c_i0 = w2c_l22;
+    w2c_i0 = w2c_l21;
     w2c_i1 = 13u;
     w2c_i0 = w2c_i0 != w2c_i1;
     if (w2c_i0) {goto w2c_B12;}
     goto w2c_B23;
     w2c_B69:;
-    w2c_i0 = w2c_l22;
+    w2c_i0 = w2c_l21;
     w2c_i1 = 4294967294u;
     w2c_i0 += w2c_i1;
     w2c_i1 = 16u;
     w2c_i0 = w2c_i0 < w2c_i1;
     if (w2c_i0) {goto w2c_B12;}
     w2c_i0 = 0u;
-    w2c_l26 = w2c_i0;
-    w2c_i0 = 5u;
     w2c_l25 = w2c_i0;
-    w2c_i0 = 0u;
+    w2c_i0 = 5u;
     w2c_l24 = w2c_i0;
-    w2c_i0 = w2c_l22;
+    w2c_i0 = 0u;
+    w2c_l23 = w2c_i0;
+    w2c_i0 = w2c_l21;
     switch (w2c_i0) {
       case 0: goto w2c_B48;
       case 1: goto w2c_B64;
       default: goto w2c_B48;
     }
     w2c_B68:;
-    w2c_i0 = w2c_l22;
+    w2c_i0 = w2c_l21;
     w2c_i1 = 7u;
     w2c_i0 = w2c_i0 != w2c_i1;
     if (w2c_i0) {goto w2c_B12;}
     w2c_i0 = 1u;
-    w2c_l23 = w2c_i0;
+    w2c_l22 = w2c_i0;
     goto w2c_B20;
     w2c_B67:;
     w2c_i0 = 16u;
-    w2c_l25 = w2c_i0;
-    w2c_i0 = 0u;
-    w2c_l26 = w2c_i0;
-    w2c_i0 = 19u;
-    w2c_l21 = w2c_i0;
-    w2c_i0 = 0u;
     w2c_l24 = w2c_i0;
+    w2c_i0 = 0u;
+    w2c_l25 = w2c_i0;
+    w2c_i0 = 19u;
+    w2c_l20 = w2c_i0;
     w2c_i0 = 0u;
     w2c_l23 = w2c_i0;
     w2c_i0 = 0u;
-    w2c_l19 = w2c_i0;
-    w2c_i0 = w2c_l22;
+    w2c_l22 = w2c_i0;
+    w2c_i0 = 0u;
+    w2c_l18 = w2c_i0;
+    w2c_i0 = w2c_l21;
     switch (w2c_i0) {
       case 0: goto w2c_B148;
       case 1: goto w2c_B64;
@@ -16468,163 +16482,163 @@ static void w2c_f23(module *m, u64 w2c_p0, u32 w2c_p1, u64 w2c_p2, u64 w2c_p3) {
       default: goto w2c_B148;
     }
     w2c_B148:;
-    w2c_i0 = w2c_l20;
+    w2c_i0 = w2c_l19;
     w2c_i1 = 1u;
     w2c_i0 &= w2c_i1;
-    w2c_l23 = w2c_i0;
+    w2c_l22 = w2c_i0;
     goto w2c_B24;
     w2c_B66:;
     w2c_i0 = 18u;
-    w2c_l25 = w2c_i0;
+    w2c_l24 = w2c_i0;
     w2c_i0 = 0u;
-    w2c_l26 = w2c_i0;
+    w2c_l25 = w2c_i0;
     w2c_i0 = 19u;
-    w2c_l21 = w2c_i0;
+    w2c_l20 = w2c_i0;
     w2c_i0 = 1u;
-    w2c_i1 = w2c_l22;
+    w2c_i1 = w2c_l21;
     w2c_i0 <<= (w2c_i1 & 31);
     w2c_i1 = 261117u;
     w2c_i0 &= w2c_i1;
     if (w2c_i0) {goto w2c_B12;}
     w2c_i0 = 0u;
-    w2c_l24 = w2c_i0;
-    w2c_i0 = w2c_l22;
+    w2c_l23 = w2c_i0;
+    w2c_i0 = w2c_l21;
     w2c_i1 = 1u;
     w2c_i0 = w2c_i0 == w2c_i1;
     if (w2c_i0) {goto w2c_B64;}
     goto w2c_B52;
     w2c_B65:;
-    w2c_i0 = w2c_l22;
+    w2c_i0 = w2c_l21;
     w2c_i1 = 1u;
     w2c_i0 = w2c_i0 != w2c_i1;
     if (w2c_i0) {goto w2c_B12;}
-    w2c_i0 = w2c_l20;
+    w2c_i0 = w2c_l19;
     w2c_i1 = 1u;
     w2c_i0 &= w2c_i1;
-    w2c_l26 = w2c_i0;
-    w2c_i0 = 0u;
-    w2c_l24 = w2c_i0;
-    w2c_i0 = 15u;
     w2c_l25 = w2c_i0;
-    w2c_B64:;
-    w2c_j0 = w2c_l16;
-    w2c_l12 = w2c_j0;
-    w2c_i0 = w2c_l25;
-    w2c_l21 = w2c_i0;
-    w2c_i0 = w2c_l26;
+    w2c_i0 = 0u;
     w2c_l23 = w2c_i0;
+    w2c_i0 = 15u;
+    w2c_l24 = w2c_i0;
+    w2c_B64:;
+    w2c_j0 = w2c_l15;
+    w2c_l11 = w2c_j0;
     w2c_i0 = w2c_l24;
-    w2c_l19 = w2c_i0;
+    w2c_l20 = w2c_i0;
+    w2c_i0 = w2c_l25;
+    w2c_l22 = w2c_i0;
+    w2c_i0 = w2c_l23;
+    w2c_l18 = w2c_i0;
     goto w2c_B13;
     w2c_B63:;
-    w2c_i0 = w2c_l20;
+    w2c_i0 = w2c_l19;
     w2c_i1 = 1u;
     w2c_i0 &= w2c_i1;
     w2c_i0 = !(w2c_i0);
     if (w2c_i0) {goto w2c_B55;}
     w2c_i0 = 1u;
-    w2c_i1 = w2c_l22;
+    w2c_i1 = w2c_l21;
     w2c_i0 <<= (w2c_i1 & 31);
     w2c_i1 = 261375u;
     w2c_i0 &= w2c_i1;
     if (w2c_i0) {goto w2c_B12;}
-    w2c_i0 = w2c_l22;
+    w2c_i0 = w2c_l21;
     w2c_i1 = 8u;
     w2c_i0 = w2c_i0 == w2c_i1;
     if (w2c_i0) {goto w2c_B56;}
     goto w2c_B30;
     w2c_B62:;
-    w2c_i0 = w2c_l20;
-    w2c_l23 = w2c_i0;
-    w2c_i0 = w2c_l22;
+    w2c_i0 = w2c_l19;
+    w2c_l22 = w2c_i0;
+    w2c_i0 = w2c_l21;
     w2c_i1 = 2u;
     w2c_i0 = w2c_i0 != w2c_i1;
     if (w2c_i0) {goto w2c_B12;}
     w2c_B61:;
-    w2c_j0 = w2c_l12;
+    w2c_j0 = w2c_l11;
     w2c_j1 = 10ull;
     w2c_j0 *= w2c_j1;
-    w2c_j1 = w2c_l13;
+    w2c_j1 = w2c_l12;
     w2c_j0 += w2c_j1;
-    w2c_l13 = w2c_j0;
+    w2c_l12 = w2c_j0;
     goto w2c_B26;
     w2c_B60:;
-    w2c_i0 = w2c_l20;
-    w2c_l23 = w2c_i0;
-    w2c_i0 = w2c_l22;
+    w2c_i0 = w2c_l19;
+    w2c_l22 = w2c_i0;
+    w2c_i0 = w2c_l21;
     w2c_i1 = 3u;
     w2c_i0 = w2c_i0 != w2c_i1;
     if (w2c_i0) {goto w2c_B12;}
     w2c_B59:;
-    w2c_j0 = w2c_l12;
+    w2c_j0 = w2c_l11;
     w2c_j1 = 100ull;
     w2c_j0 *= w2c_j1;
-    w2c_j1 = w2c_l13;
+    w2c_j1 = w2c_l12;
     w2c_j0 += w2c_j1;
-    w2c_l13 = w2c_j0;
+    w2c_l12 = w2c_j0;
     w2c_i0 = 2u;
-    w2c_l19 = w2c_i0;
+    w2c_l18 = w2c_i0;
     goto w2c_B25;
     w2c_B58:;
     w2c_i0 = 5u;
-    w2c_i1 = w2c_l20;
-    w2c_i2 = w2c_l20;
+    w2c_i1 = w2c_l19;
+    w2c_i2 = w2c_l19;
     w2c_i3 = 3u;
     w2c_i2 = w2c_i2 == w2c_i3;
     w2c_i0 = w2c_i2 ? w2c_i0 : w2c_i1;
-    w2c_l23 = w2c_i0;
+    w2c_l22 = w2c_i0;
     goto w2c_B27;
     w2c_B57:;
-    w2c_i0 = w2c_l22;
+    w2c_i0 = w2c_l21;
     w2c_i1 = 8u;
     w2c_i0 = w2c_i0 != w2c_i1;
     if (w2c_i0) {goto w2c_B12;}
     w2c_B56:;
-    w2c_j0 = w2c_l12;
+    w2c_j0 = w2c_l11;
     w2c_j1 = 10ull;
     w2c_j0 *= w2c_j1;
-    w2c_j1 = w2c_l14;
+    w2c_j1 = w2c_l13;
     w2c_j0 += w2c_j1;
-    w2c_l14 = w2c_j0;
+    w2c_l13 = w2c_j0;
     goto w2c_B29;
     w2c_B55:;
-    w2c_i0 = w2c_l22;
+    w2c_i0 = w2c_l21;
     w2c_i1 = 9u;
     w2c_i0 = w2c_i0 != w2c_i1;
     if (w2c_i0) {goto w2c_B12;}
     goto w2c_B30;
     w2c_B53:;
-    w2c_j0 = w2c_l10;
+    w2c_j0 = w2c_l9;
     w2c_i0 = !(w2c_j0);
     if (w2c_i0) {goto w2c_B12;}
-    w2c_j0 = w2c_l11;
+    w2c_j0 = w2c_l10;
     w2c_i0 = (u32)(w2c_j0);
     w2c_i0 = i32_load8_s(m, (u64)(w2c_i0));
-    w2c_l23 = w2c_i0;
+    w2c_l22 = w2c_i0;
     w2c_i1 = 4294967295u;
     w2c_i0 = (u32)((s32)w2c_i0 <= (s32)w2c_i1);
     if (w2c_i0) {goto w2c_B150;}
     w2c_j0 = 1ull;
-    w2c_l16 = w2c_j0;
+    w2c_l15 = w2c_j0;
     goto w2c_B149;
     w2c_B150:;
-    w2c_i0 = w2c_l23;
+    w2c_i0 = w2c_l22;
     w2c_i1 = 4294967264u;
     w2c_i0 = w2c_i0 >= w2c_i1;
     if (w2c_i0) {goto w2c_B151;}
     w2c_j0 = 2ull;
-    w2c_l16 = w2c_j0;
+    w2c_l15 = w2c_j0;
     goto w2c_B149;
     w2c_B151:;
     w2c_j0 = 3ull;
     w2c_j1 = 4ull;
-    w2c_i2 = w2c_l23;
+    w2c_i2 = w2c_l22;
     w2c_i3 = 4294967280u;
     w2c_i2 = w2c_i2 < w2c_i3;
     w2c_j0 = w2c_i2 ? w2c_j0 : w2c_j1;
-    w2c_l16 = w2c_j0;
+    w2c_l15 = w2c_j0;
     w2c_B149:;
-    w2c_i0 = w2c_l18;
+    w2c_i0 = w2c_l17;
     w2c_i1 = 3227u;
     w2c_i0 *= w2c_i1;
     w2c_i1 = 7u;
@@ -16632,13 +16646,13 @@ static void w2c_f23(module *m, u64 w2c_p0, u32 w2c_p1, u64 w2c_p2, u64 w2c_p3) {
     w2c_j0 = (u64)(w2c_i0);
     w2c_j1 = 504ull;
     w2c_j0 &= w2c_j1;
-    w2c_l15 = w2c_j0;
+    w2c_l14 = w2c_j0;
     w2c_i0 = (u32)(w2c_j0);
     w2c_i0 = i32_load_of_text(m, (u64)(w2c_i0) + 65536u);
-    w2c_i1 = w2c_l18;
+    w2c_i1 = w2c_l17;
     w2c_i0 = w2c_i0 != w2c_i1;
     if (w2c_i0) {goto w2c_B12;}
-    w2c_j0 = w2c_l15;
+    w2c_j0 = w2c_l14;
     w2c_j1 = 65540ull;
     w2c_j0 += w2c_j1;
     w2c_i0 = (u32)(w2c_j0);
@@ -16648,27 +16662,27 @@ static void w2c_f23(module *m, u64 w2c_p0, u32 w2c_p1, u64 w2c_p2, u64 w2c_p3) {
     w2c_i1 = 1u;
     w2c_i0 = w2c_i0 != w2c_i1;
     if (w2c_i0) {goto w2c_B12;}
-    w2c_j0 = w2c_l10;
-    w2c_j1 = w2c_l16;
+    w2c_j0 = w2c_l9;
+    w2c_j1 = w2c_l15;
     w2c_j0 -= w2c_j1;
-    w2c_l10 = w2c_j0;
-    w2c_j0 = w2c_l11;
-    w2c_j1 = w2c_l16;
+    w2c_l9 = w2c_j0;
+    w2c_j0 = w2c_l10;
+    w2c_j1 = w2c_l15;
     w2c_j0 += w2c_j1;
-    w2c_l11 = w2c_j0;
-    w2c_j0 = w2c_l15;
+    w2c_l10 = w2c_j0;
+    w2c_j0 = w2c_l14;
     w2c_j1 = 65542ull;
     w2c_j0 += w2c_j1;
     w2c_i0 = (u32)(w2c_j0);
     w2c_j0 = i64_load8_u(m, (u64)(w2c_i0));
-    w2c_l16 = w2c_j0;
-    w2c_j0 = w2c_l15;
+    w2c_l15 = w2c_j0;
+    w2c_j0 = w2c_l14;
     w2c_j1 = 65541ull;
     w2c_j0 += w2c_j1;
     w2c_i0 = (u32)(w2c_j0);
     w2c_i0 = i32_load8_u(m, (u64)(w2c_i0));
-    w2c_l22 = w2c_i0;
-    w2c_i0 = w2c_l21;
+    w2c_l21 = w2c_i0;
+    w2c_i0 = w2c_l20;
     switch (w2c_i0) {
       case 0: goto w2c_B158;
       case 1: goto w2c_B157;
@@ -16694,26 +16708,26 @@ static void w2c_f23(module *m, u64 w2c_p0, u32 w2c_p1, u64 w2c_p2, u64 w2c_p3) {
     }
     w2c_B168:;
     w2c_i0 = 1u;
-    w2c_i1 = w2c_l22;
+    w2c_i1 = w2c_l21;
     w2c_i0 <<= (w2c_i1 & 31);
     w2c_i1 = 261375u;
     w2c_i0 &= w2c_i1;
     if (w2c_i0) {goto w2c_B169;}
-    w2c_i0 = w2c_l22;
+    w2c_i0 = w2c_l21;
     w2c_i1 = 8u;
     w2c_i0 = w2c_i0 != w2c_i1;
     if (w2c_i0) {goto w2c_B30;}
     goto w2c_B40;
     w2c_B169:;
-    w2c_i0 = w2c_l22;
+    w2c_i0 = w2c_l21;
     w2c_i1 = 4294967291u;
     w2c_i0 += w2c_i1;
     w2c_i1 = 13u;
     w2c_i0 = w2c_i0 < w2c_i1;
     if (w2c_i0) {goto w2c_B170;}
     w2c_i0 = 0u;
-    w2c_l23 = w2c_i0;
-    w2c_i0 = w2c_l22;
+    w2c_l22 = w2c_i0;
+    w2c_i0 = w2c_l21;
     switch (w2c_i0) {
       case 0: goto w2c_B170;
       case 1: goto w2c_B170;
@@ -16724,10 +16738,10 @@ static void w2c_f23(module *m, u64 w2c_p0, u32 w2c_p1, u64 w2c_p2, u64 w2c_p3) {
     }
     w2c_B170:;
     w2c_i0 = 6u;
-    w2c_l21 = w2c_i0;
+    w2c_l20 = w2c_i0;
     w2c_i0 = 0u;
-    w2c_l23 = w2c_i0;
-    w2c_i0 = w2c_l22;
+    w2c_l22 = w2c_i0;
+    w2c_i0 = w2c_l21;
     switch (w2c_i0) {
       case 0: goto w2c_B12;
       case 1: goto w2c_B12;
@@ -16750,19 +16764,19 @@ static void w2c_f23(module *m, u64 w2c_p0, u32 w2c_p1, u64 w2c_p2, u64 w2c_p3) {
       default: goto w2c_B12;
     }
     w2c_B167:;
-    w2c_i0 = w2c_l22;
+    w2c_i0 = w2c_l21;
     w2c_i1 = 4294967290u;
     w2c_i0 += w2c_i1;
     w2c_i1 = 12u;
     w2c_i0 = w2c_i0 < w2c_i1;
     if (w2c_i0) {goto w2c_B171;}
     w2c_i0 = 10u;
-    w2c_l26 = w2c_i0;
+    w2c_l24 = w2c_i0;
     w2c_i0 = 3u;
     w2c_l25 = w2c_i0;
-    w2c_i0 = w2c_l22;
-    w2c_l24 = w2c_i0;
-    w2c_i0 = w2c_l22;
+    w2c_i0 = w2c_l21;
+    w2c_l23 = w2c_i0;
+    w2c_i0 = w2c_l21;
     switch (w2c_i0) {
       case 0: goto w2c_B172;
       case 1: goto w2c_B50;
@@ -16774,42 +16788,42 @@ static void w2c_f23(module *m, u64 w2c_p0, u32 w2c_p1, u64 w2c_p2, u64 w2c_p3) {
     }
     w2c_B172:;
     w2c_i0 = 1u;
-    w2c_l23 = w2c_i0;
-    w2c_i0 = w2c_l20;
+    w2c_l22 = w2c_i0;
+    w2c_i0 = w2c_l19;
     w2c_i1 = 1u;
     w2c_i0 &= w2c_i1;
     w2c_i1 = 2u;
     w2c_i0 |= w2c_i1;
-    w2c_l19 = w2c_i0;
+    w2c_l18 = w2c_i0;
     goto w2c_B35;
     w2c_B171:;
     w2c_i0 = 1u;
-    w2c_l23 = w2c_i0;
+    w2c_l22 = w2c_i0;
     w2c_i0 = 1u;
-    w2c_i1 = w2c_l22;
+    w2c_i1 = w2c_l21;
     w2c_i0 <<= (w2c_i1 & 31);
     w2c_i1 = 261948u;
     w2c_i0 &= w2c_i1;
     if (w2c_i0) {goto w2c_B12;}
-    w2c_i0 = w2c_l22;
+    w2c_i0 = w2c_l21;
     w2c_i1 = 6u;
     w2c_i0 = w2c_i0 != w2c_i1;
     if (w2c_i0) {goto w2c_B34;}
     goto w2c_B160;
     w2c_B166:;
-    w2c_i0 = w2c_l22;
+    w2c_i0 = w2c_l21;
     w2c_i1 = 4294967290u;
     w2c_i0 += w2c_i1;
     w2c_i1 = 12u;
     w2c_i0 = w2c_i0 < w2c_i1;
     if (w2c_i0) {goto w2c_B173;}
     w2c_i0 = 10u;
-    w2c_l26 = w2c_i0;
-    w2c_i0 = 4u;
     w2c_l24 = w2c_i0;
+    w2c_i0 = 4u;
+    w2c_l23 = w2c_i0;
     w2c_i0 = 3u;
     w2c_l25 = w2c_i0;
-    w2c_i0 = w2c_l22;
+    w2c_i0 = w2c_l21;
     switch (w2c_i0) {
       case 0: goto w2c_B174;
       case 1: goto w2c_B50;
@@ -16821,40 +16835,40 @@ static void w2c_f23(module *m, u64 w2c_p0, u32 w2c_p1, u64 w2c_p2, u64 w2c_p3) {
     }
     w2c_B174:;
     w2c_i0 = 3u;
-    w2c_l19 = w2c_i0;
-    w2c_i0 = w2c_l20;
+    w2c_l18 = w2c_i0;
+    w2c_i0 = w2c_l19;
     w2c_i1 = 1u;
     w2c_i0 &= w2c_i1;
     w2c_i1 = 3u;
     w2c_i0 ^= w2c_i1;
-    w2c_l23 = w2c_i0;
+    w2c_l22 = w2c_i0;
     goto w2c_B35;
     w2c_B173:;
     w2c_i0 = 8u;
-    w2c_l21 = w2c_i0;
+    w2c_l20 = w2c_i0;
     w2c_i0 = 1u;
-    w2c_l23 = w2c_i0;
+    w2c_l22 = w2c_i0;
     w2c_i0 = 1u;
-    w2c_i1 = w2c_l22;
+    w2c_i1 = w2c_l21;
     w2c_i0 <<= (w2c_i1 & 31);
     w2c_i1 = 261980u;
     w2c_i0 &= w2c_i1;
     if (w2c_i0) {goto w2c_B12;}
-    w2c_i0 = w2c_l22;
+    w2c_i0 = w2c_l21;
     w2c_i1 = 5u;
     w2c_i0 = w2c_i0 != w2c_i1;
     if (w2c_i0) {goto w2c_B34;}
     goto w2c_B31;
     w2c_B165:;
     w2c_i0 = 1u;
-    w2c_l23 = w2c_i0;
+    w2c_l22 = w2c_i0;
     w2c_i0 = 10u;
-    w2c_l26 = w2c_i0;
-    w2c_i0 = 5u;
     w2c_l24 = w2c_i0;
+    w2c_i0 = 5u;
+    w2c_l23 = w2c_i0;
     w2c_i0 = 3u;
     w2c_l25 = w2c_i0;
-    w2c_i0 = w2c_l22;
+    w2c_i0 = w2c_l21;
     switch (w2c_i0) {
       case 0: goto w2c_B175;
       case 1: goto w2c_B50;
@@ -16877,29 +16891,29 @@ static void w2c_f23(module *m, u64 w2c_p0, u32 w2c_p1, u64 w2c_p2, u64 w2c_p3) {
       default: goto w2c_B175;
     }
     w2c_B175:;
-    w2c_i0 = w2c_l20;
+    w2c_i0 = w2c_l19;
     w2c_i1 = 1u;
     w2c_i0 &= w2c_i1;
     w2c_i1 = 2u;
     w2c_i0 |= w2c_i1;
-    w2c_l19 = w2c_i0;
+    w2c_l18 = w2c_i0;
     w2c_i0 = 5u;
-    w2c_l23 = w2c_i0;
+    w2c_l22 = w2c_i0;
     goto w2c_B35;
     w2c_B164:;
-    w2c_i0 = w2c_l22;
+    w2c_i0 = w2c_l21;
     w2c_i1 = 1u;
     w2c_i0 = w2c_i0 != w2c_i1;
     if (w2c_i0) {goto w2c_B12;}
     w2c_i0 = 11u;
-    w2c_l26 = w2c_i0;
-    w2c_i0 = w2c_l19;
-    w2c_l25 = w2c_i0;
-    w2c_i0 = w2c_l20;
     w2c_l24 = w2c_i0;
+    w2c_i0 = w2c_l18;
+    w2c_l25 = w2c_i0;
+    w2c_i0 = w2c_l19;
+    w2c_l23 = w2c_i0;
     goto w2c_B50;
     w2c_B163:;
-    w2c_i0 = w2c_l19;
+    w2c_i0 = w2c_l18;
     switch (w2c_i0) {
       case 0: goto w2c_B176;
       case 1: goto w2c_B47;
@@ -16908,7 +16922,7 @@ static void w2c_f23(module *m, u64 w2c_p0, u32 w2c_p1, u64 w2c_p2, u64 w2c_p3) {
       default: goto w2c_B176;
     }
     w2c_B176:;
-    w2c_i0 = w2c_l20;
+    w2c_i0 = w2c_l19;
     switch (w2c_i0) {
       case 0: goto w2c_B181;
       case 1: goto w2c_B178;
@@ -16920,10 +16934,10 @@ static void w2c_f23(module *m, u64 w2c_p0, u32 w2c_p1, u64 w2c_p2, u64 w2c_p3) {
     }
     w2c_B181:;
     w2c_i0 = 6u;
-    w2c_l21 = w2c_i0;
+    w2c_l20 = w2c_i0;
     w2c_i0 = 0u;
-    w2c_l23 = w2c_i0;
-    w2c_i0 = w2c_l22;
+    w2c_l22 = w2c_i0;
+    w2c_i0 = w2c_l21;
     switch (w2c_i0) {
       case 0: goto w2c_B12;
       case 1: goto w2c_B12;
@@ -16947,50 +16961,50 @@ static void w2c_f23(module *m, u64 w2c_p0, u32 w2c_p1, u64 w2c_p2, u64 w2c_p3) {
     }
     w2c_B180:;
     w2c_i0 = 8u;
-    w2c_l21 = w2c_i0;
+    w2c_l20 = w2c_i0;
     w2c_i0 = 0u;
-    w2c_l23 = w2c_i0;
+    w2c_l22 = w2c_i0;
     w2c_i0 = 1u;
-    w2c_i1 = w2c_l22;
+    w2c_i1 = w2c_l21;
     w2c_i0 <<= (w2c_i1 & 31);
     w2c_i1 = 261983u;
     w2c_i0 &= w2c_i1;
     if (w2c_i0) {goto w2c_B12;}
-    w2c_i0 = w2c_l22;
+    w2c_i0 = w2c_l21;
     w2c_i1 = 5u;
     w2c_i0 = w2c_i0 != w2c_i1;
     if (w2c_i0) {goto w2c_B34;}
     goto w2c_B31;
     w2c_B179:;
-    w2c_i0 = w2c_l22;
+    w2c_i0 = w2c_l21;
     w2c_i1 = 5u;
     w2c_i0 = w2c_i0 != w2c_i1;
     if (w2c_i0) {goto w2c_B12;}
     goto w2c_B32;
     w2c_B178:;
     w2c_i0 = 0u;
-    w2c_l23 = w2c_i0;
+    w2c_l22 = w2c_i0;
     w2c_i0 = 1u;
-    w2c_i1 = w2c_l22;
+    w2c_i1 = w2c_l21;
     w2c_i0 <<= (w2c_i1 & 31);
     w2c_i1 = 261951u;
     w2c_i0 &= w2c_i1;
     if (w2c_i0) {goto w2c_B12;}
-    w2c_i0 = w2c_l22;
+    w2c_i0 = w2c_l21;
     w2c_i1 = 6u;
     w2c_i0 = w2c_i0 != w2c_i1;
     if (w2c_i0) {goto w2c_B34;}
     goto w2c_B160;
     w2c_B177:;
-    w2c_i0 = w2c_l22;
+    w2c_i0 = w2c_l21;
     w2c_i1 = 7u;
     w2c_i0 = w2c_i0 != w2c_i1;
     if (w2c_i0) {goto w2c_B12;}
     w2c_i0 = 0u;
-    w2c_l23 = w2c_i0;
+    w2c_l22 = w2c_i0;
     goto w2c_B34;
     w2c_B162:;
-    w2c_i0 = w2c_l19;
+    w2c_i0 = w2c_l18;
     switch (w2c_i0) {
       case 0: goto w2c_B182;
       case 1: goto w2c_B183;
@@ -16999,15 +17013,15 @@ static void w2c_f23(module *m, u64 w2c_p0, u32 w2c_p1, u64 w2c_p2, u64 w2c_p3) {
       default: goto w2c_B182;
     }
     w2c_B185:;
-    w2c_i0 = w2c_l22;
+    w2c_i0 = w2c_l21;
     w2c_i1 = 4294967291u;
     w2c_i0 += w2c_i1;
     w2c_i1 = 13u;
     w2c_i0 = w2c_i0 < w2c_i1;
     if (w2c_i0) {goto w2c_B186;}
-    w2c_i0 = w2c_l20;
-    w2c_l23 = w2c_i0;
-    w2c_i0 = w2c_l22;
+    w2c_i0 = w2c_l19;
+    w2c_l22 = w2c_i0;
+    w2c_i0 = w2c_l21;
     switch (w2c_i0) {
       case 0: goto w2c_B186;
       case 1: goto w2c_B186;
@@ -17018,15 +17032,15 @@ static void w2c_f23(module *m, u64 w2c_p0, u32 w2c_p1, u64 w2c_p2, u64 w2c_p3) {
     }
     w2c_B187:;
     w2c_i0 = 5u;
-    w2c_i1 = w2c_l20;
-    w2c_i2 = w2c_l20;
+    w2c_i1 = w2c_l19;
+    w2c_i2 = w2c_l19;
     w2c_i3 = 3u;
     w2c_i2 = w2c_i2 == w2c_i3;
     w2c_i0 = w2c_i2 ? w2c_i0 : w2c_i1;
-    w2c_l23 = w2c_i0;
+    w2c_l22 = w2c_i0;
     goto w2c_B42;
     w2c_B186:;
-    w2c_i0 = w2c_l20;
+    w2c_i0 = w2c_l19;
     switch (w2c_i0) {
       case 0: goto w2c_B192;
       case 1: goto w2c_B189;
@@ -17038,10 +17052,10 @@ static void w2c_f23(module *m, u64 w2c_p0, u32 w2c_p1, u64 w2c_p2, u64 w2c_p3) {
     }
     w2c_B192:;
     w2c_i0 = 6u;
-    w2c_l21 = w2c_i0;
+    w2c_l20 = w2c_i0;
     w2c_i0 = 0u;
-    w2c_l23 = w2c_i0;
-    w2c_i0 = w2c_l22;
+    w2c_l22 = w2c_i0;
+    w2c_i0 = w2c_l21;
     switch (w2c_i0) {
       case 0: goto w2c_B12;
       case 1: goto w2c_B12;
@@ -17065,58 +17079,58 @@ static void w2c_f23(module *m, u64 w2c_p0, u32 w2c_p1, u64 w2c_p2, u64 w2c_p3) {
     }
     w2c_B191:;
     w2c_i0 = 8u;
-    w2c_l21 = w2c_i0;
+    w2c_l20 = w2c_i0;
     w2c_i0 = 0u;
-    w2c_l23 = w2c_i0;
+    w2c_l22 = w2c_i0;
     w2c_i0 = 1u;
-    w2c_i1 = w2c_l22;
+    w2c_i1 = w2c_l21;
     w2c_i0 <<= (w2c_i1 & 31);
     w2c_i1 = 261983u;
     w2c_i0 &= w2c_i1;
     if (w2c_i0) {goto w2c_B12;}
-    w2c_i0 = w2c_l22;
+    w2c_i0 = w2c_l21;
     w2c_i1 = 5u;
     w2c_i0 = w2c_i0 != w2c_i1;
     if (w2c_i0) {goto w2c_B34;}
     goto w2c_B31;
     w2c_B190:;
-    w2c_i0 = w2c_l22;
+    w2c_i0 = w2c_l21;
     w2c_i1 = 5u;
     w2c_i0 = w2c_i0 == w2c_i1;
     if (w2c_i0) {goto w2c_B32;}
     goto w2c_B12;
     w2c_B189:;
     w2c_i0 = 0u;
-    w2c_l23 = w2c_i0;
+    w2c_l22 = w2c_i0;
     w2c_i0 = 1u;
-    w2c_i1 = w2c_l22;
+    w2c_i1 = w2c_l21;
     w2c_i0 <<= (w2c_i1 & 31);
     w2c_i1 = 261951u;
     w2c_i0 &= w2c_i1;
     if (w2c_i0) {goto w2c_B12;}
-    w2c_i0 = w2c_l22;
+    w2c_i0 = w2c_l21;
     w2c_i1 = 6u;
     w2c_i0 = w2c_i0 != w2c_i1;
     if (w2c_i0) {goto w2c_B34;}
     goto w2c_B160;
     w2c_B188:;
-    w2c_i0 = w2c_l22;
+    w2c_i0 = w2c_l21;
     w2c_i1 = 7u;
     w2c_i0 = w2c_i0 != w2c_i1;
     if (w2c_i0) {goto w2c_B12;}
     w2c_i0 = 0u;
-    w2c_l23 = w2c_i0;
+    w2c_l22 = w2c_i0;
     goto w2c_B34;
     w2c_B184:;
-    w2c_i0 = w2c_l22;
+    w2c_i0 = w2c_l21;
     w2c_i1 = 4294967292u;
     w2c_i0 += w2c_i1;
     w2c_i1 = 14u;
     w2c_i0 = w2c_i0 < w2c_i1;
     if (w2c_i0) {goto w2c_B193;}
-    w2c_i0 = w2c_l20;
-    w2c_l23 = w2c_i0;
-    w2c_i0 = w2c_l22;
+    w2c_i0 = w2c_l19;
+    w2c_l22 = w2c_i0;
+    w2c_i0 = w2c_l21;
     switch (w2c_i0) {
       case 0: goto w2c_B193;
       case 1: goto w2c_B193;
@@ -17125,7 +17139,7 @@ static void w2c_f23(module *m, u64 w2c_p0, u32 w2c_p1, u64 w2c_p2, u64 w2c_p3) {
       default: goto w2c_B193;
     }
     w2c_B193:;
-    w2c_i0 = w2c_l20;
+    w2c_i0 = w2c_l19;
     switch (w2c_i0) {
       case 0: goto w2c_B198;
       case 1: goto w2c_B195;
@@ -17137,10 +17151,10 @@ static void w2c_f23(module *m, u64 w2c_p0, u32 w2c_p1, u64 w2c_p2, u64 w2c_p3) {
     }
     w2c_B198:;
     w2c_i0 = 6u;
-    w2c_l21 = w2c_i0;
+    w2c_l20 = w2c_i0;
     w2c_i0 = 0u;
-    w2c_l23 = w2c_i0;
-    w2c_i0 = w2c_l22;
+    w2c_l22 = w2c_i0;
+    w2c_i0 = w2c_l21;
     switch (w2c_i0) {
       case 0: goto w2c_B12;
       case 1: goto w2c_B12;
@@ -17164,58 +17178,58 @@ static void w2c_f23(module *m, u64 w2c_p0, u32 w2c_p1, u64 w2c_p2, u64 w2c_p3) {
     }
     w2c_B197:;
     w2c_i0 = 8u;
-    w2c_l21 = w2c_i0;
+    w2c_l20 = w2c_i0;
     w2c_i0 = 0u;
-    w2c_l23 = w2c_i0;
+    w2c_l22 = w2c_i0;
     w2c_i0 = 1u;
-    w2c_i1 = w2c_l22;
+    w2c_i1 = w2c_l21;
     w2c_i0 <<= (w2c_i1 & 31);
     w2c_i1 = 261983u;
     w2c_i0 &= w2c_i1;
     if (w2c_i0) {goto w2c_B12;}
-    w2c_i0 = w2c_l22;
+    w2c_i0 = w2c_l21;
     w2c_i1 = 5u;
     w2c_i0 = w2c_i0 != w2c_i1;
     if (w2c_i0) {goto w2c_B34;}
     goto w2c_B31;
     w2c_B196:;
-    w2c_i0 = w2c_l22;
+    w2c_i0 = w2c_l21;
     w2c_i1 = 5u;
     w2c_i0 = w2c_i0 == w2c_i1;
     if (w2c_i0) {goto w2c_B32;}
     goto w2c_B12;
     w2c_B195:;
     w2c_i0 = 0u;
-    w2c_l23 = w2c_i0;
+    w2c_l22 = w2c_i0;
     w2c_i0 = 1u;
-    w2c_i1 = w2c_l22;
+    w2c_i1 = w2c_l21;
     w2c_i0 <<= (w2c_i1 & 31);
     w2c_i1 = 261951u;
     w2c_i0 &= w2c_i1;
     if (w2c_i0) {goto w2c_B12;}
-    w2c_i0 = w2c_l22;
+    w2c_i0 = w2c_l21;
     w2c_i1 = 6u;
     w2c_i0 = w2c_i0 != w2c_i1;
     if (w2c_i0) {goto w2c_B34;}
     goto w2c_B160;
     w2c_B194:;
-    w2c_i0 = w2c_l22;
+    w2c_i0 = w2c_l21;
     w2c_i1 = 7u;
     w2c_i0 = w2c_i0 != w2c_i1;
     if (w2c_i0) {goto w2c_B12;}
     w2c_i0 = 0u;
-    w2c_l23 = w2c_i0;
+    w2c_l22 = w2c_i0;
     goto w2c_B34;
     w2c_B183:;
-    w2c_i0 = w2c_l22;
+    w2c_i0 = w2c_l21;
     w2c_i1 = 4294967291u;
     w2c_i0 += w2c_i1;
     w2c_i1 = 13u;
     w2c_i0 = w2c_i0 < w2c_i1;
     if (w2c_i0) {goto w2c_B199;}
-    w2c_i0 = w2c_l20;
-    w2c_l23 = w2c_i0;
-    w2c_i0 = w2c_l22;
+    w2c_i0 = w2c_l19;
+    w2c_l22 = w2c_i0;
+    w2c_i0 = w2c_l21;
     switch (w2c_i0) {
       case 0: goto w2c_B199;
       case 1: goto w2c_B199;
@@ -17225,7 +17239,7 @@ static void w2c_f23(module *m, u64 w2c_p0, u32 w2c_p1, u64 w2c_p2, u64 w2c_p3) {
       default: goto w2c_B199;
     }
     w2c_B199:;
-    w2c_i0 = w2c_l20;
+    w2c_i0 = w2c_l19;
     switch (w2c_i0) {
       case 0: goto w2c_B204;
       case 1: goto w2c_B201;
@@ -17237,10 +17251,10 @@ static void w2c_f23(module *m, u64 w2c_p0, u32 w2c_p1, u64 w2c_p2, u64 w2c_p3) {
     }
     w2c_B204:;
     w2c_i0 = 6u;
-    w2c_l21 = w2c_i0;
+    w2c_l20 = w2c_i0;
     w2c_i0 = 0u;
-    w2c_l23 = w2c_i0;
-    w2c_i0 = w2c_l22;
+    w2c_l22 = w2c_i0;
+    w2c_i0 = w2c_l21;
     switch (w2c_i0) {
       case 0: goto w2c_B12;
       case 1: goto w2c_B12;
@@ -17264,50 +17278,50 @@ static void w2c_f23(module *m, u64 w2c_p0, u32 w2c_p1, u64 w2c_p2, u64 w2c_p3) {
     }
     w2c_B203:;
     w2c_i0 = 8u;
-    w2c_l21 = w2c_i0;
+    w2c_l20 = w2c_i0;
     w2c_i0 = 0u;
-    w2c_l23 = w2c_i0;
+    w2c_l22 = w2c_i0;
     w2c_i0 = 1u;
-    w2c_i1 = w2c_l22;
+    w2c_i1 = w2c_l21;
     w2c_i0 <<= (w2c_i1 & 31);
     w2c_i1 = 261983u;
     w2c_i0 &= w2c_i1;
     if (w2c_i0) {goto w2c_B12;}
-    w2c_i0 = w2c_l22;
+    w2c_i0 = w2c_l21;
     w2c_i1 = 5u;
     w2c_i0 = w2c_i0 != w2c_i1;
     if (w2c_i0) {goto w2c_B34;}
     goto w2c_B31;
     w2c_B202:;
-    w2c_i0 = w2c_l22;
+    w2c_i0 = w2c_l21;
     w2c_i1 = 5u;
     w2c_i0 = w2c_i0 == w2c_i1;
     if (w2c_i0) {goto w2c_B32;}
     goto w2c_B12;
     w2c_B201:;
     w2c_i0 = 0u;
-    w2c_l23 = w2c_i0;
+    w2c_l22 = w2c_i0;
     w2c_i0 = 1u;
-    w2c_i1 = w2c_l22;
+    w2c_i1 = w2c_l21;
     w2c_i0 <<= (w2c_i1 & 31);
     w2c_i1 = 261951u;
     w2c_i0 &= w2c_i1;
     if (w2c_i0) {goto w2c_B12;}
-    w2c_i0 = w2c_l22;
+    w2c_i0 = w2c_l21;
     w2c_i1 = 6u;
     w2c_i0 = w2c_i0 != w2c_i1;
     if (w2c_i0) {goto w2c_B34;}
     goto w2c_B160;
     w2c_B200:;
-    w2c_i0 = w2c_l22;
+    w2c_i0 = w2c_l21;
     w2c_i1 = 7u;
     w2c_i0 = w2c_i0 != w2c_i1;
     if (w2c_i0) {goto w2c_B12;}
     w2c_i0 = 0u;
-    w2c_l23 = w2c_i0;
+    w2c_l22 = w2c_i0;
     goto w2c_B34;
     w2c_B182:;
-    w2c_i0 = w2c_l20;
+    w2c_i0 = w2c_l19;
     switch (w2c_i0) {
       case 0: goto w2c_B209;
       case 1: goto w2c_B206;
@@ -17319,10 +17333,10 @@ static void w2c_f23(module *m, u64 w2c_p0, u32 w2c_p1, u64 w2c_p2, u64 w2c_p3) {
     }
     w2c_B209:;
     w2c_i0 = 6u;
-    w2c_l21 = w2c_i0;
+    w2c_l20 = w2c_i0;
     w2c_i0 = 0u;
-    w2c_l23 = w2c_i0;
-    w2c_i0 = w2c_l22;
+    w2c_l22 = w2c_i0;
+    w2c_i0 = w2c_l21;
     switch (w2c_i0) {
       case 0: goto w2c_B12;
       case 1: goto w2c_B12;
@@ -17346,50 +17360,50 @@ static void w2c_f23(module *m, u64 w2c_p0, u32 w2c_p1, u64 w2c_p2, u64 w2c_p3) {
     }
     w2c_B208:;
     w2c_i0 = 8u;
-    w2c_l21 = w2c_i0;
+    w2c_l20 = w2c_i0;
     w2c_i0 = 0u;
-    w2c_l23 = w2c_i0;
+    w2c_l22 = w2c_i0;
     w2c_i0 = 1u;
-    w2c_i1 = w2c_l22;
+    w2c_i1 = w2c_l21;
     w2c_i0 <<= (w2c_i1 & 31);
     w2c_i1 = 261983u;
     w2c_i0 &= w2c_i1;
     if (w2c_i0) {goto w2c_B12;}
-    w2c_i0 = w2c_l22;
+    w2c_i0 = w2c_l21;
     w2c_i1 = 5u;
     w2c_i0 = w2c_i0 != w2c_i1;
     if (w2c_i0) {goto w2c_B34;}
     goto w2c_B31;
     w2c_B207:;
-    w2c_i0 = w2c_l22;
+    w2c_i0 = w2c_l21;
     w2c_i1 = 5u;
     w2c_i0 = w2c_i0 == w2c_i1;
     if (w2c_i0) {goto w2c_B32;}
     goto w2c_B12;
     w2c_B206:;
     w2c_i0 = 0u;
-    w2c_l23 = w2c_i0;
+    w2c_l22 = w2c_i0;
     w2c_i0 = 1u;
-    w2c_i1 = w2c_l22;
+    w2c_i1 = w2c_l21;
     w2c_i0 <<= (w2c_i1 & 31);
     w2c_i1 = 261951u;
     w2c_i0 &= w2c_i1;
     if (w2c_i0) {goto w2c_B12;}
-    w2c_i0 = w2c_l22;
+    w2c_i0 = w2c_l21;
     w2c_i1 = 6u;
     w2c_i0 = w2c_i0 != w2c_i1;
     if (w2c_i0) {goto w2c_B34;}
     goto w2c_B160;
     w2c_B205:;
-    w2c_i0 = w2c_l22;
+    w2c_i0 = w2c_l21;
     w2c_i1 = 7u;
     w2c_i0 = w2c_i0 != w2c_i1;
     if (w2c_i0) {goto w2c_B12;}
     w2c_i0 = 0u;
-    w2c_l23 = w2c_i0;
+    w2c_l22 = w2c_i0;
     goto w2c_B34;
     w2c_B161:;
-    w2c_i0 = w2c_l19;
+    w2c_i0 = w2c_l18;
     switch (w2c_i0) {
       case 0: goto w2c_B210;
       case 1: goto w2c_B211;
@@ -17398,32 +17412,32 @@ static void w2c_f23(module *m, u64 w2c_p0, u32 w2c_p1, u64 w2c_p2, u64 w2c_p3) {
       default: goto w2c_B210;
     }
     w2c_B213:;
-    w2c_i0 = w2c_l22;
+    w2c_i0 = w2c_l21;
     w2c_i1 = 4294967294u;
     w2c_i0 += w2c_i1;
     w2c_i1 = 16u;
     w2c_i0 = w2c_i0 < w2c_i1;
     if (w2c_i0) {goto w2c_B214;}
     w2c_i0 = 1u;
-    w2c_l19 = w2c_i0;
+    w2c_l18 = w2c_i0;
     w2c_i0 = 9u;
-    w2c_l21 = w2c_i0;
+    w2c_l20 = w2c_i0;
     w2c_i0 = 10u;
-    w2c_l26 = w2c_i0;
+    w2c_l24 = w2c_i0;
     w2c_i0 = 2u;
     w2c_l25 = w2c_i0;
-    w2c_i0 = w2c_l20;
-    w2c_l24 = w2c_i0;
-    w2c_i0 = w2c_l20;
+    w2c_i0 = w2c_l19;
     w2c_l23 = w2c_i0;
-    w2c_i0 = w2c_l22;
+    w2c_i0 = w2c_l19;
+    w2c_l22 = w2c_i0;
+    w2c_i0 = w2c_l21;
     switch (w2c_i0) {
       case 0: goto w2c_B13;
       case 1: goto w2c_B50;
       default: goto w2c_B13;
     }
     w2c_B214:;
-    w2c_i0 = w2c_l20;
+    w2c_i0 = w2c_l19;
     switch (w2c_i0) {
       case 0: goto w2c_B219;
       case 1: goto w2c_B216;
@@ -17435,10 +17449,10 @@ static void w2c_f23(module *m, u64 w2c_p0, u32 w2c_p1, u64 w2c_p2, u64 w2c_p3) {
     }
     w2c_B219:;
     w2c_i0 = 6u;
-    w2c_l21 = w2c_i0;
+    w2c_l20 = w2c_i0;
     w2c_i0 = 1u;
-    w2c_l23 = w2c_i0;
-    w2c_i0 = w2c_l22;
+    w2c_l22 = w2c_i0;
+    w2c_i0 = w2c_l21;
     w2c_i1 = 4294967294u;
     w2c_i0 += w2c_i1;
     switch (w2c_i0) {
@@ -17462,75 +17476,75 @@ static void w2c_f23(module *m, u64 w2c_p0, u32 w2c_p1, u64 w2c_p2, u64 w2c_p3) {
     }
     w2c_B218:;
     w2c_i0 = 8u;
-    w2c_l21 = w2c_i0;
+    w2c_l20 = w2c_i0;
     w2c_i0 = 1u;
-    w2c_l23 = w2c_i0;
+    w2c_l22 = w2c_i0;
     w2c_i0 = 1u;
-    w2c_i1 = w2c_l22;
+    w2c_i1 = w2c_l21;
     w2c_i0 <<= (w2c_i1 & 31);
     w2c_i1 = 261980u;
     w2c_i0 &= w2c_i1;
     if (w2c_i0) {goto w2c_B12;}
-    w2c_i0 = w2c_l22;
+    w2c_i0 = w2c_l21;
     w2c_i1 = 5u;
     w2c_i0 = w2c_i0 != w2c_i1;
     if (w2c_i0) {goto w2c_B34;}
     goto w2c_B31;
     w2c_B217:;
-    w2c_i0 = w2c_l22;
+    w2c_i0 = w2c_l21;
     w2c_i1 = 5u;
     w2c_i0 = w2c_i0 != w2c_i1;
     if (w2c_i0) {goto w2c_B12;}
     goto w2c_B33;
     w2c_B216:;
     w2c_i0 = 1u;
-    w2c_l23 = w2c_i0;
+    w2c_l22 = w2c_i0;
     w2c_i0 = 1u;
-    w2c_i1 = w2c_l22;
+    w2c_i1 = w2c_l21;
     w2c_i0 <<= (w2c_i1 & 31);
     w2c_i1 = 261948u;
     w2c_i0 &= w2c_i1;
     if (w2c_i0) {goto w2c_B12;}
-    w2c_i0 = w2c_l22;
+    w2c_i0 = w2c_l21;
     w2c_i1 = 6u;
     w2c_i0 = w2c_i0 != w2c_i1;
     if (w2c_i0) {goto w2c_B34;}
     goto w2c_B160;
     w2c_B215:;
-    w2c_i0 = w2c_l22;
+    w2c_i0 = w2c_l21;
     w2c_i1 = 7u;
     w2c_i0 = w2c_i0 != w2c_i1;
     if (w2c_i0) {goto w2c_B12;}
     w2c_i0 = 1u;
-    w2c_l23 = w2c_i0;
+    w2c_l22 = w2c_i0;
     goto w2c_B34;
     w2c_B212:;
-    w2c_i0 = w2c_l22;
+    w2c_i0 = w2c_l21;
     w2c_i1 = 4294967294u;
     w2c_i0 += w2c_i1;
     w2c_i1 = 16u;
     w2c_i0 = w2c_i0 < w2c_i1;
     if (w2c_i0) {goto w2c_B220;}
     w2c_i0 = 9u;
-    w2c_l21 = w2c_i0;
+    w2c_l20 = w2c_i0;
     w2c_i0 = 10u;
-    w2c_l26 = w2c_i0;
-    w2c_i0 = w2c_l22;
-    w2c_l25 = w2c_i0;
-    w2c_i0 = w2c_l20;
     w2c_l24 = w2c_i0;
-    w2c_i0 = w2c_l20;
+    w2c_i0 = w2c_l21;
+    w2c_l25 = w2c_i0;
+    w2c_i0 = w2c_l19;
     w2c_l23 = w2c_i0;
-    w2c_i0 = w2c_l22;
-    w2c_l19 = w2c_i0;
-    w2c_i0 = w2c_l22;
+    w2c_i0 = w2c_l19;
+    w2c_l22 = w2c_i0;
+    w2c_i0 = w2c_l21;
+    w2c_l18 = w2c_i0;
+    w2c_i0 = w2c_l21;
     switch (w2c_i0) {
       case 0: goto w2c_B13;
       case 1: goto w2c_B50;
       default: goto w2c_B13;
     }
     w2c_B220:;
-    w2c_i0 = w2c_l20;
+    w2c_i0 = w2c_l19;
     switch (w2c_i0) {
       case 0: goto w2c_B225;
       case 1: goto w2c_B222;
@@ -17542,10 +17556,10 @@ static void w2c_f23(module *m, u64 w2c_p0, u32 w2c_p1, u64 w2c_p2, u64 w2c_p3) {
     }
     w2c_B225:;
     w2c_i0 = 6u;
-    w2c_l21 = w2c_i0;
+    w2c_l20 = w2c_i0;
     w2c_i0 = 1u;
-    w2c_l23 = w2c_i0;
-    w2c_i0 = w2c_l22;
+    w2c_l22 = w2c_i0;
+    w2c_i0 = w2c_l21;
     w2c_i1 = 4294967294u;
     w2c_i0 += w2c_i1;
     switch (w2c_i0) {
@@ -17569,69 +17583,69 @@ static void w2c_f23(module *m, u64 w2c_p0, u32 w2c_p1, u64 w2c_p2, u64 w2c_p3) {
     }
     w2c_B224:;
     w2c_i0 = 8u;
-    w2c_l21 = w2c_i0;
+    w2c_l20 = w2c_i0;
     w2c_i0 = 1u;
-    w2c_l23 = w2c_i0;
+    w2c_l22 = w2c_i0;
     w2c_i0 = 1u;
-    w2c_i1 = w2c_l22;
+    w2c_i1 = w2c_l21;
     w2c_i0 <<= (w2c_i1 & 31);
     w2c_i1 = 261980u;
     w2c_i0 &= w2c_i1;
     if (w2c_i0) {goto w2c_B12;}
-    w2c_i0 = w2c_l22;
+    w2c_i0 = w2c_l21;
     w2c_i1 = 5u;
     w2c_i0 = w2c_i0 != w2c_i1;
     if (w2c_i0) {goto w2c_B34;}
     goto w2c_B31;
     w2c_B223:;
-    w2c_i0 = w2c_l22;
+    w2c_i0 = w2c_l21;
     w2c_i1 = 5u;
     w2c_i0 = w2c_i0 == w2c_i1;
     if (w2c_i0) {goto w2c_B33;}
     goto w2c_B12;
     w2c_B222:;
     w2c_i0 = 1u;
-    w2c_l23 = w2c_i0;
+    w2c_l22 = w2c_i0;
     w2c_i0 = 1u;
-    w2c_i1 = w2c_l22;
+    w2c_i1 = w2c_l21;
     w2c_i0 <<= (w2c_i1 & 31);
     w2c_i1 = 261948u;
     w2c_i0 &= w2c_i1;
     if (w2c_i0) {goto w2c_B12;}
-    w2c_i0 = w2c_l22;
+    w2c_i0 = w2c_l21;
     w2c_i1 = 6u;
     w2c_i0 = w2c_i0 != w2c_i1;
     if (w2c_i0) {goto w2c_B34;}
     goto w2c_B160;
     w2c_B221:;
-    w2c_i0 = w2c_l22;
+    w2c_i0 = w2c_l21;
     w2c_i1 = 7u;
     w2c_i0 = w2c_i0 != w2c_i1;
     if (w2c_i0) {goto w2c_B12;}
     w2c_i0 = 1u;
-    w2c_l23 = w2c_i0;
+    w2c_l22 = w2c_i0;
     goto w2c_B34;
     w2c_B211:;
-    w2c_i0 = w2c_l22;
+    w2c_i0 = w2c_l21;
     w2c_i1 = 4294967294u;
     w2c_i0 += w2c_i1;
     w2c_i1 = 16u;
     w2c_i0 = w2c_i0 < w2c_i1;
     if (w2c_i0) {goto w2c_B226;}
     w2c_i0 = 10u;
-    w2c_l26 = w2c_i0;
+    w2c_l24 = w2c_i0;
     w2c_i0 = 0u;
     w2c_l25 = w2c_i0;
-    w2c_i0 = w2c_l20;
-    w2c_l24 = w2c_i0;
-    w2c_i0 = w2c_l22;
+    w2c_i0 = w2c_l19;
+    w2c_l23 = w2c_i0;
+    w2c_i0 = w2c_l21;
     switch (w2c_i0) {
       case 0: goto w2c_B12;
       case 1: goto w2c_B50;
       default: goto w2c_B12;
     }
     w2c_B226:;
-    w2c_i0 = w2c_l20;
+    w2c_i0 = w2c_l19;
     switch (w2c_i0) {
       case 0: goto w2c_B231;
       case 1: goto w2c_B228;
@@ -17643,10 +17657,10 @@ static void w2c_f23(module *m, u64 w2c_p0, u32 w2c_p1, u64 w2c_p2, u64 w2c_p3) {
     }
     w2c_B231:;
     w2c_i0 = 6u;
-    w2c_l21 = w2c_i0;
+    w2c_l20 = w2c_i0;
     w2c_i0 = 1u;
-    w2c_l23 = w2c_i0;
-    w2c_i0 = w2c_l22;
+    w2c_l22 = w2c_i0;
+    w2c_i0 = w2c_l21;
     w2c_i1 = 4294967294u;
     w2c_i0 += w2c_i1;
     switch (w2c_i0) {
@@ -17670,50 +17684,50 @@ static void w2c_f23(module *m, u64 w2c_p0, u32 w2c_p1, u64 w2c_p2, u64 w2c_p3) {
     }
     w2c_B230:;
     w2c_i0 = 8u;
-    w2c_l21 = w2c_i0;
+    w2c_l20 = w2c_i0;
     w2c_i0 = 1u;
-    w2c_l23 = w2c_i0;
+    w2c_l22 = w2c_i0;
     w2c_i0 = 1u;
-    w2c_i1 = w2c_l22;
+    w2c_i1 = w2c_l21;
     w2c_i0 <<= (w2c_i1 & 31);
     w2c_i1 = 261980u;
     w2c_i0 &= w2c_i1;
     if (w2c_i0) {goto w2c_B12;}
-    w2c_i0 = w2c_l22;
+    w2c_i0 = w2c_l21;
     w2c_i1 = 5u;
     w2c_i0 = w2c_i0 != w2c_i1;
     if (w2c_i0) {goto w2c_B34;}
     goto w2c_B31;
     w2c_B229:;
-    w2c_i0 = w2c_l22;
+    w2c_i0 = w2c_l21;
     w2c_i1 = 5u;
     w2c_i0 = w2c_i0 == w2c_i1;
     if (w2c_i0) {goto w2c_B33;}
     goto w2c_B12;
     w2c_B228:;
     w2c_i0 = 1u;
-    w2c_l23 = w2c_i0;
+    w2c_l22 = w2c_i0;
     w2c_i0 = 1u;
-    w2c_i1 = w2c_l22;
+    w2c_i1 = w2c_l21;
     w2c_i0 <<= (w2c_i1 & 31);
     w2c_i1 = 261948u;
     w2c_i0 &= w2c_i1;
     if (w2c_i0) {goto w2c_B12;}
-    w2c_i0 = w2c_l22;
+    w2c_i0 = w2c_l21;
     w2c_i1 = 6u;
     w2c_i0 = w2c_i0 == w2c_i1;
     if (w2c_i0) {goto w2c_B160;}
     goto w2c_B34;
     w2c_B227:;
-    w2c_i0 = w2c_l22;
+    w2c_i0 = w2c_l21;
     w2c_i1 = 7u;
     w2c_i0 = w2c_i0 != w2c_i1;
     if (w2c_i0) {goto w2c_B12;}
     w2c_i0 = 1u;
-    w2c_l23 = w2c_i0;
+    w2c_l22 = w2c_i0;
     goto w2c_B34;
     w2c_B210:;
-    w2c_i0 = w2c_l20;
+    w2c_i0 = w2c_l19;
     switch (w2c_i0) {
       case 0: goto w2c_B235;
       case 1: goto w2c_B232;
@@ -17725,10 +17739,10 @@ static void w2c_f23(module *m, u64 w2c_p0, u32 w2c_p1, u64 w2c_p2, u64 w2c_p3) {
     }
     w2c_B235:;
     w2c_i0 = 6u;
-    w2c_l21 = w2c_i0;
+    w2c_l20 = w2c_i0;
     w2c_i0 = 1u;
-    w2c_l23 = w2c_i0;
-    w2c_i0 = w2c_l22;
+    w2c_l22 = w2c_i0;
+    w2c_i0 = w2c_l21;
     switch (w2c_i0) {
       case 0: goto w2c_B12;
       case 1: goto w2c_B12;
@@ -17752,71 +17766,71 @@ static void w2c_f23(module *m, u64 w2c_p0, u32 w2c_p1, u64 w2c_p2, u64 w2c_p3) {
     }
     w2c_B234:;
     w2c_i0 = 8u;
-    w2c_l21 = w2c_i0;
+    w2c_l20 = w2c_i0;
     w2c_i0 = 1u;
-    w2c_l23 = w2c_i0;
+    w2c_l22 = w2c_i0;
     w2c_i0 = 1u;
-    w2c_i1 = w2c_l22;
+    w2c_i1 = w2c_l21;
     w2c_i0 <<= (w2c_i1 & 31);
     w2c_i1 = 261983u;
     w2c_i0 &= w2c_i1;
     if (w2c_i0) {goto w2c_B12;}
-    w2c_i0 = w2c_l22;
+    w2c_i0 = w2c_l21;
     w2c_i1 = 5u;
     w2c_i0 = w2c_i0 != w2c_i1;
     if (w2c_i0) {goto w2c_B34;}
     goto w2c_B31;
     w2c_B233:;
-    w2c_i0 = w2c_l22;
+    w2c_i0 = w2c_l21;
     w2c_i1 = 5u;
     w2c_i0 = w2c_i0 == w2c_i1;
     if (w2c_i0) {goto w2c_B33;}
     goto w2c_B12;
     w2c_B232:;
     w2c_i0 = 1u;
-    w2c_l23 = w2c_i0;
+    w2c_l22 = w2c_i0;
     w2c_i0 = 1u;
-    w2c_i1 = w2c_l22;
+    w2c_i1 = w2c_l21;
     w2c_i0 <<= (w2c_i1 & 31);
     w2c_i1 = 261951u;
     w2c_i0 &= w2c_i1;
     if (w2c_i0) {goto w2c_B12;}
-    w2c_i0 = w2c_l22;
+    w2c_i0 = w2c_l21;
     w2c_i1 = 6u;
     w2c_i0 = w2c_i0 != w2c_i1;
     if (w2c_i0) {goto w2c_B34;}
     w2c_B160:;
-    w2c_j0 = w2c_l12;
-    w2c_j1 = w2c_l14;
-    w2c_j0 += w2c_j1;
+    w2c_j0 = w2c_l11;
     w2c_j1 = w2c_l13;
+    w2c_j0 += w2c_j1;
+    w2c_j1 = w2c_l12;
     w2c_j0 += w2c_j1;
     w2c_j1 = 100000000ull;
     w2c_j0 *= w2c_j1;
-    w2c_l14 = w2c_j0;
+    w2c_l13 = w2c_j0;
     goto w2c_B21;
     w2c_B159:;
-    w2c_i0 = w2c_l22;
+    w2c_i0 = w2c_l21;
     w2c_i1 = 7u;
     w2c_i0 = w2c_i0 != w2c_i1;
     if (w2c_i0) {goto w2c_B12;}
     w2c_i0 = 1u;
-    w2c_l23 = w2c_i0;
+    w2c_l22 = w2c_i0;
     goto w2c_B34;
     w2c_B158:;
     w2c_i0 = 5u;
-    w2c_l26 = w2c_i0;
+    w2c_l24 = w2c_i0;
     w2c_i0 = 0u;
     w2c_l25 = w2c_i0;
     w2c_i0 = 1u;
-    w2c_l21 = w2c_i0;
-    w2c_i0 = 0u;
-    w2c_l24 = w2c_i0;
+    w2c_l20 = w2c_i0;
     w2c_i0 = 0u;
     w2c_l23 = w2c_i0;
     w2c_i0 = 0u;
-    w2c_l19 = w2c_i0;
-    w2c_i0 = w2c_l22;
+    w2c_l22 = w2c_i0;
+    w2c_i0 = 0u;
+    w2c_l18 = w2c_i0;
+    w2c_i0 = w2c_l21;
     switch (w2c_i0) {
       case 0: goto w2c_B48;
       case 1: goto w2c_B50;
@@ -17839,58 +17853,58 @@ static void w2c_f23(module *m, u64 w2c_p0, u32 w2c_p1, u64 w2c_p2, u64 w2c_p3) {
       default: goto w2c_B48;
     }
     w2c_B157:;
-    w2c_i0 = w2c_l22;
+    w2c_i0 = w2c_l21;
     w2c_i1 = 12u;
     w2c_i0 = w2c_i0 == w2c_i1;
     if (w2c_i0) {goto w2c_B22;}
     goto w2c_B12;
     w2c_B156:;
-    w2c_i0 = w2c_l22;
+    w2c_i0 = w2c_l21;
     w2c_i1 = 13u;
     w2c_i0 = w2c_i0 == w2c_i1;
     if (w2c_i0) {goto w2c_B23;}
     goto w2c_B12;
     w2c_B155:;
-    w2c_i0 = w2c_l22;
+    w2c_i0 = w2c_l21;
     w2c_i1 = 4294967294u;
     w2c_i0 += w2c_i1;
     w2c_i1 = 16u;
     w2c_i0 = w2c_i0 < w2c_i1;
     if (w2c_i0) {goto w2c_B12;}
     w2c_i0 = 5u;
-    w2c_l26 = w2c_i0;
+    w2c_l24 = w2c_i0;
     w2c_i0 = 0u;
     w2c_l25 = w2c_i0;
     w2c_i0 = 0u;
-    w2c_l24 = w2c_i0;
-    w2c_i0 = w2c_l22;
+    w2c_l23 = w2c_i0;
+    w2c_i0 = w2c_l21;
     switch (w2c_i0) {
       case 0: goto w2c_B48;
       case 1: goto w2c_B50;
       default: goto w2c_B48;
     }
     w2c_B154:;
-    w2c_i0 = w2c_l22;
+    w2c_i0 = w2c_l21;
     w2c_i1 = 7u;
     w2c_i0 = w2c_i0 != w2c_i1;
     if (w2c_i0) {goto w2c_B12;}
     w2c_i0 = 1u;
-    w2c_l23 = w2c_i0;
+    w2c_l22 = w2c_i0;
     goto w2c_B34;
     w2c_B153:;
     w2c_i0 = 16u;
-    w2c_l26 = w2c_i0;
+    w2c_l24 = w2c_i0;
     w2c_i0 = 0u;
     w2c_l25 = w2c_i0;
     w2c_i0 = 19u;
-    w2c_l21 = w2c_i0;
-    w2c_i0 = 0u;
-    w2c_l24 = w2c_i0;
+    w2c_l20 = w2c_i0;
     w2c_i0 = 0u;
     w2c_l23 = w2c_i0;
     w2c_i0 = 0u;
-    w2c_l19 = w2c_i0;
-    w2c_i0 = w2c_l22;
+    w2c_l22 = w2c_i0;
+    w2c_i0 = 0u;
+    w2c_l18 = w2c_i0;
+    w2c_i0 = w2c_l21;
     switch (w2c_i0) {
       case 0: goto w2c_B236;
       case 1: goto w2c_B50;
@@ -17913,381 +17927,381 @@ static void w2c_f23(module *m, u64 w2c_p0, u32 w2c_p1, u64 w2c_p2, u64 w2c_p3) {
       default: goto w2c_B236;
     }
     w2c_B236:;
-    w2c_i0 = w2c_l20;
+    w2c_i0 = w2c_l19;
     w2c_i1 = 1u;
     w2c_i0 &= w2c_i1;
-    w2c_l23 = w2c_i0;
+    w2c_l22 = w2c_i0;
     goto w2c_B24;
     w2c_B152:;
     w2c_i0 = 18u;
-    w2c_l26 = w2c_i0;
+    w2c_l24 = w2c_i0;
     w2c_i0 = 0u;
     w2c_l25 = w2c_i0;
     w2c_i0 = 19u;
-    w2c_l21 = w2c_i0;
+    w2c_l20 = w2c_i0;
     w2c_i0 = 1u;
-    w2c_i1 = w2c_l22;
+    w2c_i1 = w2c_l21;
     w2c_i0 <<= (w2c_i1 & 31);
     w2c_i1 = 261117u;
     w2c_i0 &= w2c_i1;
     if (w2c_i0) {goto w2c_B12;}
     w2c_i0 = 0u;
-    w2c_l24 = w2c_i0;
-    w2c_i0 = w2c_l22;
+    w2c_l23 = w2c_i0;
+    w2c_i0 = w2c_l21;
     w2c_i1 = 1u;
     w2c_i0 = w2c_i0 == w2c_i1;
     if (w2c_i0) {goto w2c_B50;}
     w2c_B52:;
     w2c_i0 = 0u;
-    w2c_l23 = w2c_i0;
+    w2c_l22 = w2c_i0;
     w2c_i0 = 0u;
-    w2c_l19 = w2c_i0;
+    w2c_l18 = w2c_i0;
     goto w2c_B13;
     w2c_B51:;
-    w2c_i0 = w2c_l22;
+    w2c_i0 = w2c_l21;
     w2c_i1 = 1u;
     w2c_i0 = w2c_i0 != w2c_i1;
     if (w2c_i0) {goto w2c_B12;}
-    w2c_i0 = w2c_l20;
+    w2c_i0 = w2c_l19;
     w2c_i1 = 1u;
     w2c_i0 &= w2c_i1;
-    w2c_l24 = w2c_i0;
+    w2c_l23 = w2c_i0;
     w2c_i0 = 15u;
-    w2c_l26 = w2c_i0;
+    w2c_l24 = w2c_i0;
     w2c_i0 = 0u;
     w2c_l25 = w2c_i0;
     w2c_B50:;
-    w2c_j0 = w2c_l16;
-    w2c_l12 = w2c_j0;
-    w2c_i0 = w2c_l26;
-    w2c_l21 = w2c_i0;
+    w2c_j0 = w2c_l15;
+    w2c_l11 = w2c_j0;
     w2c_i0 = w2c_l24;
-    w2c_l23 = w2c_i0;
+    w2c_l20 = w2c_i0;
+    w2c_i0 = w2c_l23;
+    w2c_l22 = w2c_i0;
     w2c_i0 = w2c_l25;
-    w2c_l19 = w2c_i0;
+    w2c_l18 = w2c_i0;
     goto w2c_B13;
     w2c_B49:;
-    w2c_i0 = w2c_l20;
+    w2c_i0 = w2c_l19;
     w2c_i1 = 1u;
     w2c_i0 &= w2c_i1;
     w2c_i0 = !(w2c_i0);
     if (w2c_i0) {goto w2c_B39;}
     w2c_i0 = 1u;
-    w2c_i1 = w2c_l22;
+    w2c_i1 = w2c_l21;
     w2c_i0 <<= (w2c_i1 & 31);
     w2c_i1 = 261375u;
     w2c_i0 &= w2c_i1;
     if (w2c_i0) {goto w2c_B12;}
-    w2c_i0 = w2c_l22;
+    w2c_i0 = w2c_l21;
     w2c_i1 = 8u;
     w2c_i0 = w2c_i0 != w2c_i1;
     if (w2c_i0) {goto w2c_B30;}
     goto w2c_B40;
     w2c_B48:;
     w2c_i0 = 0u;
-    w2c_l23 = w2c_i0;
+    w2c_l22 = w2c_i0;
     w2c_i0 = 4u;
-    w2c_l21 = w2c_i0;
+    w2c_l20 = w2c_i0;
     w2c_i0 = 0u;
-    w2c_l19 = w2c_i0;
+    w2c_l18 = w2c_i0;
     goto w2c_B13;
     w2c_B47:;
-    w2c_i0 = w2c_l20;
-    w2c_l23 = w2c_i0;
-    w2c_i0 = w2c_l22;
+    w2c_i0 = w2c_l19;
+    w2c_l22 = w2c_i0;
+    w2c_i0 = w2c_l21;
     w2c_i1 = 2u;
     w2c_i0 = w2c_i0 != w2c_i1;
     if (w2c_i0) {goto w2c_B12;}
     w2c_B46:;
-    w2c_j0 = w2c_l12;
+    w2c_j0 = w2c_l11;
     w2c_j1 = 10ull;
     w2c_j0 *= w2c_j1;
-    w2c_j1 = w2c_l13;
+    w2c_j1 = w2c_l12;
     w2c_j0 += w2c_j1;
-    w2c_l13 = w2c_j0;
+    w2c_l12 = w2c_j0;
     goto w2c_B26;
     w2c_B45:;
-    w2c_i0 = w2c_l20;
-    w2c_l23 = w2c_i0;
-    w2c_i0 = w2c_l22;
+    w2c_i0 = w2c_l19;
+    w2c_l22 = w2c_i0;
+    w2c_i0 = w2c_l21;
     w2c_i1 = 3u;
     w2c_i0 = w2c_i0 != w2c_i1;
     if (w2c_i0) {goto w2c_B12;}
     w2c_B44:;
-    w2c_j0 = w2c_l12;
+    w2c_j0 = w2c_l11;
     w2c_j1 = 100ull;
     w2c_j0 *= w2c_j1;
-    w2c_j1 = w2c_l13;
+    w2c_j1 = w2c_l12;
     w2c_j0 += w2c_j1;
-    w2c_l13 = w2c_j0;
+    w2c_l12 = w2c_j0;
     w2c_i0 = 2u;
-    w2c_l19 = w2c_i0;
+    w2c_l18 = w2c_i0;
     goto w2c_B25;
     w2c_B43:;
-    w2c_i0 = w2c_l20;
-    w2c_l23 = w2c_i0;
-    w2c_i0 = w2c_l22;
+    w2c_i0 = w2c_l19;
+    w2c_l22 = w2c_i0;
+    w2c_i0 = w2c_l21;
     w2c_i1 = 4u;
     w2c_i0 = w2c_i0 != w2c_i1;
     if (w2c_i0) {goto w2c_B12;}
     w2c_B42:;
-    w2c_j0 = w2c_l12;
+    w2c_j0 = w2c_l11;
     w2c_j1 = 1000ull;
     w2c_j0 *= w2c_j1;
-    w2c_j1 = w2c_l13;
+    w2c_j1 = w2c_l12;
     w2c_j0 += w2c_j1;
-    w2c_l13 = w2c_j0;
+    w2c_l12 = w2c_j0;
     w2c_i0 = 3u;
-    w2c_l19 = w2c_i0;
+    w2c_l18 = w2c_i0;
     goto w2c_B25;
     w2c_B41:;
-    w2c_i0 = w2c_l22;
+    w2c_i0 = w2c_l21;
     w2c_i1 = 8u;
     w2c_i0 = w2c_i0 != w2c_i1;
     if (w2c_i0) {goto w2c_B12;}
     w2c_B40:;
-    w2c_j0 = w2c_l12;
+    w2c_j0 = w2c_l11;
     w2c_j1 = 10ull;
     w2c_j0 *= w2c_j1;
-    w2c_j1 = w2c_l14;
+    w2c_j1 = w2c_l13;
     w2c_j0 += w2c_j1;
-    w2c_l14 = w2c_j0;
+    w2c_l13 = w2c_j0;
     goto w2c_B29;
     w2c_B39:;
-    w2c_i0 = w2c_l22;
+    w2c_i0 = w2c_l21;
     w2c_i1 = 9u;
     w2c_i0 = w2c_i0 == w2c_i1;
     if (w2c_i0) {goto w2c_B30;}
     goto w2c_B12;
     w2c_B38:;
-    w2c_j0 = w2c_l10;
+    w2c_j0 = w2c_l9;
     w2c_i0 = !(w2c_j0);
     if (w2c_i0) {goto w2c_B12;}
-    w2c_j0 = w2c_l11;
+    w2c_j0 = w2c_l10;
     w2c_i0 = (u32)(w2c_j0);
     w2c_i0 = i32_load8_s(m, (u64)(w2c_i0));
-    w2c_l23 = w2c_i0;
+    w2c_l22 = w2c_i0;
     w2c_i1 = 4294967295u;
     w2c_i0 = (u32)((s32)w2c_i0 <= (s32)w2c_i1);
     if (w2c_i0) {goto w2c_B238;}
     w2c_j0 = 1ull;
-    w2c_l15 = w2c_j0;
+    w2c_l14 = w2c_j0;
     goto w2c_B237;
     w2c_B238:;
-    w2c_i0 = w2c_l23;
+    w2c_i0 = w2c_l22;
     w2c_i1 = 4294967264u;
     w2c_i0 = w2c_i0 >= w2c_i1;
     if (w2c_i0) {goto w2c_B239;}
     w2c_j0 = 2ull;
-    w2c_l15 = w2c_j0;
+    w2c_l14 = w2c_j0;
     goto w2c_B237;
     w2c_B239:;
     w2c_j0 = 3ull;
     w2c_j1 = 4ull;
-    w2c_i2 = w2c_l23;
+    w2c_i2 = w2c_l22;
     w2c_i3 = 4294967280u;
     w2c_i2 = w2c_i2 < w2c_i3;
     w2c_j0 = w2c_i2 ? w2c_j0 : w2c_j1;
-    w2c_l15 = w2c_j0;
+    w2c_l14 = w2c_j0;
     w2c_B237:;
-    w2c_j0 = w2c_l10;
-    w2c_j1 = w2c_l15;
+    w2c_j0 = w2c_l9;
+    w2c_j1 = w2c_l14;
     w2c_j0 -= w2c_j1;
-    w2c_l10 = w2c_j0;
-    w2c_j0 = w2c_l11;
-    w2c_j1 = w2c_l15;
+    w2c_l9 = w2c_j0;
+    w2c_j0 = w2c_l10;
+    w2c_j1 = w2c_l14;
     w2c_j0 += w2c_j1;
-    w2c_l11 = w2c_j0;
-    w2c_i0 = w2c_l20;
-    w2c_l23 = w2c_i0;
+    w2c_l10 = w2c_j0;
+    w2c_i0 = w2c_l19;
+    w2c_l22 = w2c_i0;
     goto w2c_B13;
     w2c_B37:;
-    w2c_i0 = w2c_l20;
-    w2c_l23 = w2c_i0;
-    w2c_i0 = w2c_l22;
+    w2c_i0 = w2c_l19;
+    w2c_l22 = w2c_i0;
+    w2c_i0 = w2c_l21;
     w2c_i1 = 4u;
     w2c_i0 = w2c_i0 == w2c_i1;
     if (w2c_i0) {goto w2c_B27;}
     goto w2c_B12;
     w2c_B36:;
     w2c_i0 = 1u;
-    w2c_l23 = w2c_i0;
-    w2c_i0 = w2c_l20;
+    w2c_l22 = w2c_i0;
+    w2c_i0 = w2c_l19;
     w2c_i1 = 1u;
     w2c_i0 &= w2c_i1;
     w2c_i1 = 2u;
     w2c_i0 |= w2c_i1;
-    w2c_l19 = w2c_i0;
+    w2c_l18 = w2c_i0;
     w2c_B35:;
     w2c_i0 = 9u;
-    w2c_l21 = w2c_i0;
+    w2c_l20 = w2c_i0;
     goto w2c_B13;
     w2c_B34:;
-    w2c_j0 = w2c_l12;
-    w2c_j1 = w2c_l14;
-    w2c_j0 += w2c_j1;
+    w2c_j0 = w2c_l11;
     w2c_j1 = w2c_l13;
+    w2c_j0 += w2c_j1;
+    w2c_j1 = w2c_l12;
     w2c_j0 += w2c_j1;
     w2c_j1 = 100ull;
     w2c_j0 *= w2c_j1;
-    w2c_l14 = w2c_j0;
+    w2c_l13 = w2c_j0;
     goto w2c_B19;
     w2c_B33:;
     w2c_i0 = 8u;
-    w2c_l21 = w2c_i0;
+    w2c_l20 = w2c_i0;
     w2c_i0 = 1u;
-    w2c_l23 = w2c_i0;
+    w2c_l22 = w2c_i0;
     goto w2c_B31;
     w2c_B32:;
     w2c_i0 = 8u;
-    w2c_l21 = w2c_i0;
+    w2c_l20 = w2c_i0;
     w2c_i0 = 0u;
-    w2c_l23 = w2c_i0;
+    w2c_l22 = w2c_i0;
     w2c_B31:;
-    w2c_j0 = w2c_l12;
-    w2c_j1 = w2c_l13;
+    w2c_j0 = w2c_l11;
+    w2c_j1 = w2c_l12;
     w2c_j0 += w2c_j1;
     w2c_j1 = 10000ull;
     w2c_j0 *= w2c_j1;
-    w2c_j1 = w2c_l14;
+    w2c_j1 = w2c_l13;
     w2c_j0 += w2c_j1;
-    w2c_l14 = w2c_j0;
+    w2c_l13 = w2c_j0;
     goto w2c_B15;
     w2c_B30:;
-    w2c_j0 = w2c_l12;
-    w2c_j1 = w2c_l14;
+    w2c_j0 = w2c_l11;
+    w2c_j1 = w2c_l13;
     w2c_j0 += w2c_j1;
-    w2c_l14 = w2c_j0;
+    w2c_l13 = w2c_j0;
     w2c_i0 = 0u;
-    w2c_l23 = w2c_i0;
+    w2c_l22 = w2c_i0;
     w2c_i0 = 19u;
-    w2c_l21 = w2c_i0;
+    w2c_l20 = w2c_i0;
     goto w2c_B28;
     w2c_B29:;
     w2c_i0 = 0u;
-    w2c_l23 = w2c_i0;
+    w2c_l22 = w2c_i0;
     w2c_i0 = 17u;
-    w2c_l21 = w2c_i0;
+    w2c_l20 = w2c_i0;
     w2c_B28:;
     w2c_j0 = 0ull;
-    w2c_l12 = w2c_j0;
+    w2c_l11 = w2c_j0;
     w2c_i0 = 0u;
-    w2c_l19 = w2c_i0;
+    w2c_l18 = w2c_i0;
     goto w2c_B13;
     w2c_B27:;
-    w2c_j0 = w2c_l12;
+    w2c_j0 = w2c_l11;
     w2c_j1 = 1000ull;
     w2c_j0 *= w2c_j1;
-    w2c_j1 = w2c_l13;
+    w2c_j1 = w2c_l12;
     w2c_j0 += w2c_j1;
-    w2c_l13 = w2c_j0;
+    w2c_l12 = w2c_j0;
     w2c_i0 = 3u;
-    w2c_l19 = w2c_i0;
+    w2c_l18 = w2c_i0;
     goto w2c_B25;
     w2c_B26:;
     w2c_i0 = 1u;
-    w2c_l19 = w2c_i0;
+    w2c_l18 = w2c_i0;
     w2c_B25:;
     w2c_i0 = 12u;
-    w2c_l21 = w2c_i0;
+    w2c_l20 = w2c_i0;
     w2c_j0 = 0ull;
-    w2c_l12 = w2c_j0;
+    w2c_l11 = w2c_j0;
     goto w2c_B13;
     w2c_B24:;
     w2c_i0 = 14u;
-    w2c_l21 = w2c_i0;
+    w2c_l20 = w2c_i0;
     w2c_i0 = 0u;
-    w2c_l19 = w2c_i0;
+    w2c_l18 = w2c_i0;
     goto w2c_B13;
     w2c_B23:;
     w2c_i0 = 0u;
-    w2c_l23 = w2c_i0;
+    w2c_l22 = w2c_i0;
     w2c_i0 = 3u;
-    w2c_l21 = w2c_i0;
+    w2c_l20 = w2c_i0;
     w2c_i0 = 0u;
-    w2c_l19 = w2c_i0;
+    w2c_l18 = w2c_i0;
     goto w2c_B13;
     w2c_B22:;
     w2c_i0 = 0u;
-    w2c_l23 = w2c_i0;
+    w2c_l22 = w2c_i0;
     w2c_i0 = 2u;
-    w2c_l21 = w2c_i0;
+    w2c_l20 = w2c_i0;
     w2c_i0 = 0u;
-    w2c_l19 = w2c_i0;
+    w2c_l18 = w2c_i0;
     goto w2c_B13;
     w2c_B21:;
     w2c_i0 = 0u;
-    w2c_l19 = w2c_i0;
+    w2c_l18 = w2c_i0;
     w2c_i0 = 7u;
-    w2c_l21 = w2c_i0;
+    w2c_l20 = w2c_i0;
     goto w2c_B14;
     w2c_B20:;
-    w2c_j0 = w2c_l12;
-    w2c_j1 = w2c_l14;
-    w2c_j0 += w2c_j1;
+    w2c_j0 = w2c_l11;
     w2c_j1 = w2c_l13;
+    w2c_j0 += w2c_j1;
+    w2c_j1 = w2c_l12;
     w2c_j0 += w2c_j1;
     w2c_j1 = 100ull;
     w2c_j0 *= w2c_j1;
-    w2c_l14 = w2c_j0;
+    w2c_l13 = w2c_j0;
     w2c_B19:;
     w2c_i0 = 0u;
-    w2c_l19 = w2c_i0;
+    w2c_l18 = w2c_i0;
     w2c_i0 = 13u;
-    w2c_l21 = w2c_i0;
+    w2c_l20 = w2c_i0;
     goto w2c_B14;
     w2c_B18:;
     w2c_i0 = 1u;
-    w2c_l23 = w2c_i0;
+    w2c_l22 = w2c_i0;
     w2c_i0 = 8u;
-    w2c_l21 = w2c_i0;
+    w2c_l20 = w2c_i0;
     goto w2c_B16;
     w2c_B17:;
     w2c_i0 = 0u;
-    w2c_l23 = w2c_i0;
+    w2c_l22 = w2c_i0;
     w2c_i0 = 8u;
-    w2c_l21 = w2c_i0;
+    w2c_l20 = w2c_i0;
     w2c_B16:;
-    w2c_j0 = w2c_l12;
-    w2c_j1 = w2c_l13;
+    w2c_j0 = w2c_l11;
+    w2c_j1 = w2c_l12;
     w2c_j0 += w2c_j1;
     w2c_j1 = 10000ull;
     w2c_j0 *= w2c_j1;
-    w2c_j1 = w2c_l14;
+    w2c_j1 = w2c_l13;
     w2c_j0 += w2c_j1;
-    w2c_l14 = w2c_j0;
+    w2c_l13 = w2c_j0;
     w2c_B15:;
     w2c_i0 = 0u;
-    w2c_l19 = w2c_i0;
+    w2c_l18 = w2c_i0;
     w2c_B14:;
     w2c_j0 = 0ull;
-    w2c_l13 = w2c_j0;
-    w2c_j0 = 0ull;
     w2c_l12 = w2c_j0;
+    w2c_j0 = 0ull;
+    w2c_l11 = w2c_j0;
     w2c_B13:;
     w2c_j0 = w2c_l4;
     w2c_i0 = (u32)(w2c_j0);
-    w2c_j1 = w2c_l12;
+    w2c_j1 = w2c_l11;
     i64_store(m, (u64)(w2c_i0) + 392, w2c_j1);
     w2c_j0 = w2c_l4;
     w2c_i0 = (u32)(w2c_j0);
-    w2c_j1 = w2c_l13;
+    w2c_j1 = w2c_l12;
     i64_store(m, (u64)(w2c_i0) + 384, w2c_j1);
     w2c_j0 = w2c_l4;
     w2c_i0 = (u32)(w2c_j0);
-    w2c_j1 = w2c_l14;
+    w2c_j1 = w2c_l13;
     i64_store(m, (u64)(w2c_i0) + 376, w2c_j1);
     w2c_j0 = w2c_l4;
     w2c_i0 = (u32)(w2c_j0);
-    w2c_i1 = w2c_l19;
+    w2c_i1 = w2c_l18;
     i32_store8(m, (u64)(w2c_i0) + 370, w2c_i1);
     w2c_j0 = w2c_l4;
     w2c_i0 = (u32)(w2c_j0);
-    w2c_i1 = w2c_l23;
+    w2c_i1 = w2c_l22;
     i32_store8(m, (u64)(w2c_i0) + 369, w2c_i1);
     w2c_j0 = w2c_l4;
     w2c_i0 = (u32)(w2c_j0);
-    w2c_i1 = w2c_l21;
+    w2c_i1 = w2c_l20;
     i32_store8(m, (u64)(w2c_i0) + 368, w2c_i1);
     w2c_j0 = w2c_l4;
     w2c_j1 = 240ull;
@@ -18295,14 +18309,10 @@ static void w2c_f23(module *m, u64 w2c_p0, u32 w2c_p1, u64 w2c_p2, u64 w2c_p3) {
     w2c_j1 = w2c_l4;
     w2c_j2 = 368ull;
     w2c_j1 += w2c_j2;
-    w2c_j2 = w2c_l11;
-    w2c_j3 = w2c_l10;
+    w2c_j2 = w2c_l10;
+    w2c_j3 = w2c_l9;
     w2c_j4 = 18446744073709551615ull;
     w2c_f8(m, w2c_j0, w2c_j1, w2c_j2, w2c_j3, w2c_j4);
-    w2c_j0 = w2c_l8;
-    w2c_j1 = w2c_l7;
-    w2c_i0 = w2c_j0 < w2c_j1;
-    if (w2c_i0) {goto w2c_B12;}
     w2c_j0 = w2c_l4;
     w2c_i0 = (u32)(w2c_j0);
     w2c_j0 = i64_load(m, (u64)(w2c_i0) + 288u);
@@ -18310,7 +18320,7 @@ static void w2c_f23(module *m, u64 w2c_p0, u32 w2c_p1, u64 w2c_p2, u64 w2c_p3) {
     w2c_i0 = w2c_j0 != w2c_j1;
     if (w2c_i0) {goto w2c_B240;}
     w2c_i0 = 1u;
-    w2c_l21 = w2c_i0;
+    w2c_l20 = w2c_i0;
     w2c_j0 = w2c_l6;
     w2c_j1 = 0ull;
     w2c_i0 = w2c_j0 != w2c_j1;
@@ -18318,11 +18328,11 @@ static void w2c_f23(module *m, u64 w2c_p0, u32 w2c_p1, u64 w2c_p2, u64 w2c_p3) {
     w2c_j0 = w2c_l4;
     w2c_i0 = (u32)(w2c_j0);
     w2c_i0 = i32_load8_u(m, (u64)(w2c_i0) + 240u);
-    w2c_l19 = w2c_i0;
+    w2c_l18 = w2c_i0;
     w2c_i1 = 17u;
     w2c_i0 = w2c_i0 < w2c_i1;
     if (w2c_i0) {goto w2c_B12;}
-    w2c_i0 = w2c_l19;
+    w2c_i0 = w2c_l18;
     w2c_i1 = 4294967279u;
     w2c_i0 += w2c_i1;
     switch (w2c_i0) {
@@ -18335,8 +18345,10 @@ static void w2c_f23(module *m, u64 w2c_p0, u32 w2c_p1, u64 w2c_p2, u64 w2c_p3) {
     w2c_j0 = w2c_l6;
     w2c_i0 = !(w2c_j0);
     if (w2c_i0) {goto w2c_B12;}
-    w2c_j0 = w2c_l9;
-    w2c_i1 = w2c_l17;
+    w2c_j0 = w2c_l4;
+    w2c_i0 = (u32)(w2c_j0);
+    w2c_j0 = i64_load(m, (u64)(w2c_i0) + 336u);
+    w2c_i1 = w2c_l16;
     w2c_i2 = 2u;
     w2c_i1 = w2c_i1 != w2c_i2;
     w2c_j1 = (u64)(w2c_i1);
@@ -18345,10 +18357,10 @@ static void w2c_f23(module *m, u64 w2c_p0, u32 w2c_p1, u64 w2c_p2, u64 w2c_p3) {
     w2c_i1 = (u32)(w2c_j1);
     w2c_j1 = i64_load(m, (u64)(w2c_i1) + 272u);
     w2c_j0 += w2c_j1;
-    w2c_l10 = w2c_j0;
+    w2c_l9 = w2c_j0;
     w2c_j0 = 2ull;
-    w2c_l11 = w2c_j0;
-    w2c_i0 = w2c_l17;
+    w2c_l10 = w2c_j0;
+    w2c_i0 = w2c_l16;
     switch (w2c_i0) {
       case 0: goto w2c_B241;
       case 1: goto w2c_B243;
@@ -18357,110 +18369,110 @@ static void w2c_f23(module *m, u64 w2c_p0, u32 w2c_p1, u64 w2c_p2, u64 w2c_p3) {
     }
     w2c_B243:;
     w2c_j0 = 1ull;
-    w2c_l11 = w2c_j0;
+    w2c_l10 = w2c_j0;
     goto w2c_B241;
     w2c_B242:;
     w2c_j0 = w2c_l7;
     w2c_j1 = w2c_l8;
     w2c_i0 = w2c_j0 == w2c_j1;
     w2c_j0 = (u64)(w2c_i0);
-    w2c_l11 = w2c_j0;
+    w2c_l10 = w2c_j0;
     w2c_B241:;
     w2c_i0 = 1u;
-    w2c_l21 = w2c_i0;
-    w2c_j0 = w2c_l11;
+    w2c_l20 = w2c_i0;
+    w2c_j0 = w2c_l10;
     w2c_j1 = w2c_l8;
     w2c_j0 += w2c_j1;
-    w2c_l11 = w2c_j0;
-    w2c_j1 = w2c_l10;
+    w2c_l10 = w2c_j0;
+    w2c_j1 = w2c_l9;
     w2c_i0 = w2c_j0 < w2c_j1;
     if (w2c_i0) {goto w2c_B0;}
-    w2c_j0 = w2c_l10;
-    w2c_j1 = w2c_l11;
+    w2c_j0 = w2c_l9;
+    w2c_j1 = w2c_l10;
     w2c_i0 = w2c_j0 != w2c_j1;
     if (w2c_i0) {goto w2c_B12;}
     w2c_j0 = w2c_l4;
     w2c_i0 = (u32)(w2c_j0);
     w2c_j0 = i64_load(m, (u64)(w2c_i0) + 280u);
-    w2c_l10 = w2c_j0;
+    w2c_l9 = w2c_j0;
     w2c_i0 = (u32)(w2c_j0);
     w2c_i0 = i32_load8_s(m, (u64)(w2c_i0));
-    w2c_l20 = w2c_i0;
+    w2c_l19 = w2c_i0;
     w2c_i1 = 255u;
     w2c_i0 &= w2c_i1;
-    w2c_l19 = w2c_i0;
-    w2c_i0 = w2c_l20;
+    w2c_l18 = w2c_i0;
+    w2c_i0 = w2c_l19;
     w2c_i1 = 4294967295u;
     w2c_i0 = (u32)((s32)w2c_i0 > (s32)w2c_i1);
     if (w2c_i0) {goto w2c_B244;}
-    w2c_j0 = w2c_l10;
+    w2c_j0 = w2c_l9;
     w2c_i0 = (u32)(w2c_j0);
     w2c_i0 = i32_load8_u(m, (u64)(w2c_i0) + 1u);
     w2c_i1 = 63u;
     w2c_i0 &= w2c_i1;
-    w2c_l23 = w2c_i0;
-    w2c_i0 = w2c_l20;
+    w2c_l22 = w2c_i0;
+    w2c_i0 = w2c_l19;
     w2c_i1 = 4294967263u;
     w2c_i0 = w2c_i0 > w2c_i1;
     if (w2c_i0) {goto w2c_B245;}
-    w2c_i0 = w2c_l19;
+    w2c_i0 = w2c_l18;
     w2c_i1 = 6u;
     w2c_i0 <<= (w2c_i1 & 31);
     w2c_i1 = 1984u;
     w2c_i0 &= w2c_i1;
-    w2c_i1 = w2c_l23;
+    w2c_i1 = w2c_l22;
     w2c_i0 |= w2c_i1;
-    w2c_l19 = w2c_i0;
+    w2c_l18 = w2c_i0;
     goto w2c_B244;
     w2c_B245:;
-    w2c_j0 = w2c_l10;
+    w2c_j0 = w2c_l9;
     w2c_i0 = (u32)(w2c_j0);
     w2c_i0 = i32_load8_u(m, (u64)(w2c_i0) + 2u);
     w2c_i1 = 63u;
     w2c_i0 &= w2c_i1;
-    w2c_l22 = w2c_i0;
-    w2c_i0 = w2c_l20;
+    w2c_l21 = w2c_i0;
+    w2c_i0 = w2c_l19;
     w2c_i1 = 4294967279u;
     w2c_i0 = w2c_i0 > w2c_i1;
     if (w2c_i0) {goto w2c_B246;}
-    w2c_i0 = w2c_l23;
+    w2c_i0 = w2c_l22;
     w2c_i1 = 6u;
     w2c_i0 <<= (w2c_i1 & 31);
-    w2c_i1 = w2c_l19;
+    w2c_i1 = w2c_l18;
     w2c_i2 = 12u;
     w2c_i1 <<= (w2c_i2 & 31);
     w2c_i2 = 61440u;
     w2c_i1 &= w2c_i2;
     w2c_i0 |= w2c_i1;
-    w2c_i1 = w2c_l22;
+    w2c_i1 = w2c_l21;
     w2c_i0 |= w2c_i1;
-    w2c_l19 = w2c_i0;
+    w2c_l18 = w2c_i0;
     goto w2c_B244;
     w2c_B246:;
-    w2c_i0 = w2c_l22;
+    w2c_i0 = w2c_l21;
     w2c_i1 = 6u;
     w2c_i0 <<= (w2c_i1 & 31);
-    w2c_i1 = w2c_l23;
+    w2c_i1 = w2c_l22;
     w2c_i2 = 12u;
     w2c_i1 <<= (w2c_i2 & 31);
-    w2c_i2 = w2c_l19;
+    w2c_i2 = w2c_l18;
     w2c_i3 = 18u;
     w2c_i2 <<= (w2c_i3 & 31);
     w2c_i3 = 1835008u;
     w2c_i2 &= w2c_i3;
     w2c_i1 |= w2c_i2;
     w2c_i0 |= w2c_i1;
-    w2c_j1 = w2c_l10;
+    w2c_j1 = w2c_l9;
     w2c_i1 = (u32)(w2c_j1);
     w2c_i1 = i32_load8_u(m, (u64)(w2c_i1) + 3u);
     w2c_i2 = 63u;
     w2c_i1 &= w2c_i2;
     w2c_i0 |= w2c_i1;
-    w2c_l19 = w2c_i0;
+    w2c_l18 = w2c_i0;
     w2c_B244:;
     w2c_j0 = w2c_l4;
     w2c_i0 = (u32)(w2c_j0);
-    w2c_i1 = w2c_l19;
+    w2c_i1 = w2c_l18;
     i32_store(m, (u64)(w2c_i0) + 304, w2c_i1);
     w2c_j0 = 66048ull;
     w2c_j1 = 32ull;
@@ -18584,31 +18596,31 @@ static void w2c_f23(module *m, u64 w2c_p0, u32 w2c_p1, u64 w2c_p2, u64 w2c_p3) {
   w2c_j0 = w2c_l4;
   w2c_i0 = (u32)(w2c_j0);
   w2c_i0 = i32_load8_u(m, (u64)(w2c_i0) + 136u);
-  w2c_l17 = w2c_i0;
+  w2c_l16 = w2c_i0;
   w2c_j0 = w2c_l4;
   w2c_i0 = (u32)(w2c_j0);
   w2c_j0 = i64_load(m, (u64)(w2c_i0) + 184u);
-  w2c_l15 = w2c_j0;
+  w2c_l12 = w2c_j0;
   w2c_i0 = 1u;
   w2c_j1 = w2c_l4;
   w2c_i1 = (u32)(w2c_j1);
   w2c_i1 = i32_load8_u(m, (u64)(w2c_i1) + 144u);
-  w2c_l18 = w2c_i1;
+  w2c_l17 = w2c_i1;
   w2c_i0 <<= (w2c_i1 & 31);
   w2c_i1 = 6716u;
   w2c_i0 &= w2c_i1;
   w2c_i0 = !(w2c_i0);
   if (w2c_i0) {goto w2c_B247;}
-  w2c_j0 = w2c_l15;
+  w2c_j0 = w2c_l12;
   w2c_i0 = !(w2c_j0);
   if (w2c_i0) {goto w2c_B1;}
   w2c_B247:;
   w2c_j0 = w2c_l4;
   w2c_i0 = (u32)(w2c_j0);
   w2c_j0 = i64_load(m, (u64)(w2c_i0) + 168u);
-  w2c_l13 = w2c_j0;
+  w2c_l8 = w2c_j0;
   w2c_j0 = 0ull;
-  w2c_l10 = w2c_j0;
+  w2c_l9 = w2c_j0;
   w2c_j0 = w2c_l4;
   w2c_i0 = (u32)(w2c_j0);
   w2c_j1 = 0ull;
@@ -18627,11 +18639,11 @@ static void w2c_f23(module *m, u64 w2c_p0, u32 w2c_p1, u64 w2c_p2, u64 w2c_p3) {
   i64_store(m, (u64)(w2c_i0) + 256, w2c_j1);
   w2c_j0 = w2c_l4;
   w2c_i0 = (u32)(w2c_j0);
-  w2c_i1 = w2c_l17;
+  w2c_i1 = w2c_l16;
   i32_store8(m, (u64)(w2c_i0) + 240, w2c_i1);
   w2c_j0 = w2c_l4;
   w2c_i0 = (u32)(w2c_j0);
-  w2c_i1 = w2c_l18;
+  w2c_i1 = w2c_l17;
   i32_store8(m, (u64)(w2c_i0) + 248, w2c_i1);
   w2c_j0 = w2c_l4;
   w2c_i0 = (u32)(w2c_j0);
@@ -18675,7 +18687,7 @@ static void w2c_f23(module *m, u64 w2c_p0, u32 w2c_p1, u64 w2c_p2, u64 w2c_p3) {
     w2c_j2 += w2c_j3;
     w2c_i2 = (u32)(w2c_j2);
     w2c_i2 = i32_load_of_text(m, (u64)(w2c_i2));
-    w2c_l17 = w2c_i2;
+    w2c_l16 = w2c_i2;
     w2c_f19(m, w2c_j0, w2c_j1, w2c_i2);
     w2c_j0 = w2c_l4;
     w2c_i0 = (u32)(w2c_j0);
@@ -18686,12 +18698,12 @@ static void w2c_f23(module *m, u64 w2c_p0, u32 w2c_p1, u64 w2c_p2, u64 w2c_p3) {
     w2c_j0 = w2c_l4;
     w2c_j1 = 416ull;
     w2c_j0 += w2c_j1;
-    w2c_j1 = w2c_l10;
+    w2c_j1 = w2c_l9;
     w2c_j2 = 2ull;
     w2c_j1 <<= (w2c_j2 & 63);
     w2c_j0 += w2c_j1;
     w2c_i0 = (u32)(w2c_j0);
-    w2c_i1 = w2c_l17;
+    w2c_i1 = w2c_l16;
     i32_store(m, (u64)(w2c_i0), w2c_i1);
     w2c_j0 = w2c_l4;
     w2c_i0 = (u32)(w2c_j0);
@@ -18700,7 +18712,7 @@ static void w2c_f23(module *m, u64 w2c_p0, u32 w2c_p1, u64 w2c_p2, u64 w2c_p3) {
     w2c_j1 = i64_load(m, (u64)(w2c_i1) + 608u);
     w2c_j2 = 1ull;
     w2c_j1 += w2c_j2;
-    w2c_l10 = w2c_j1;
+    w2c_l9 = w2c_j1;
     i64_store(m, (u64)(w2c_i0) + 608, w2c_j1);
     w2c_B249:;
     w2c_j0 = 0ull;
@@ -18728,7 +18740,7 @@ static void w2c_f23(module *m, u64 w2c_p0, u32 w2c_p1, u64 w2c_p2, u64 w2c_p3) {
   w2c_j0 += w2c_j1;
   w2c_j1 = w2c_p2;
   w2c_j2 = w2c_p3;
-  w2c_j3 = w2c_l13;
+  w2c_j3 = w2c_l8;
   w2c_j4 = w2c_l4;
   w2c_j5 = 1088ull;
   w2c_j4 += w2c_j5;
@@ -18759,30 +18771,33 @@ static void w2c_f23(module *m, u64 w2c_p0, u32 w2c_p1, u64 w2c_p2, u64 w2c_p3) {
     w2c_j0 += w2c_j1;
     w2c_j1 = w2c_l5;
     w2c_j0 += w2c_j1;
-    w2c_l7 = w2c_j0;
+    w2c_l9 = w2c_j0;
     w2c_i0 = (u32)(w2c_j0);
     w2c_i0 = i32_load8_u(m, (u64)(w2c_i0));
     w2c_i1 = 1u;
     w2c_i0 = w2c_i0 != w2c_i1;
     if (w2c_i0) {goto w2c_B251;}
-    w2c_j0 = w2c_l7;
+    w2c_j0 = w2c_l8;
+    w2c_j1 = w2c_l9;
+    w2c_j2 = 8ull;
+    w2c_j1 += w2c_j2;
+    w2c_i1 = (u32)(w2c_j1);
+    w2c_j1 = i64_load(m, (u64)(w2c_i1));
+    w2c_l7 = w2c_j1;
+    w2c_i0 = w2c_j0 < w2c_j1;
+    if (w2c_i0) {goto w2c_B251;}
+    w2c_j0 = w2c_l9;
     w2c_j1 = 20ull;
     w2c_j0 += w2c_j1;
     w2c_i0 = (u32)(w2c_j0);
     w2c_i0 = i32_load_of_text(m, (u64)(w2c_i0));
-    w2c_l18 = w2c_i0;
-    w2c_j0 = w2c_l7;
+    w2c_l17 = w2c_i0;
+    w2c_j0 = w2c_l9;
     w2c_j1 = 16ull;
     w2c_j0 += w2c_j1;
     w2c_i0 = (u32)(w2c_j0);
     w2c_i0 = i32_load8_u(m, (u64)(w2c_i0));
-    w2c_l17 = w2c_i0;
-    w2c_j0 = w2c_l7;
-    w2c_j1 = 8ull;
-    w2c_j0 += w2c_j1;
-    w2c_i0 = (u32)(w2c_j0);
-    w2c_j0 = i64_load(m, (u64)(w2c_i0));
-    w2c_l7 = w2c_j0;
+    w2c_l16 = w2c_i0;
     w2c_j0 = w2c_l4;
     w2c_i0 = (u32)(w2c_j0);
     w2c_j1 = 0ull;
@@ -18883,35 +18898,28 @@ static void w2c_f23(module *m, u64 w2c_p0, u32 w2c_p1, u64 w2c_p2, u64 w2c_p3) {
     w2c_f18(m, w2c_j0, w2c_j1, w2c_j2, w2c_j3, w2c_j4);
     w2c_j0 = w2c_l4;
     w2c_i0 = (u32)(w2c_j0);
-    w2c_j0 = i64_load(m, (u64)(w2c_i0) + 336u);
-    w2c_l12 = w2c_j0;
-    w2c_j1 = w2c_l7;
-    w2c_i0 = w2c_j0 < w2c_j1;
-    if (w2c_i0) {goto w2c_B251;}
-    w2c_j0 = w2c_l4;
-    w2c_i0 = (u32)(w2c_j0);
     w2c_j0 = i64_load(m, (u64)(w2c_i0) + 352u);
-    w2c_l10 = w2c_j0;
-    w2c_j0 = w2c_l4;
-    w2c_i0 = (u32)(w2c_j0);
-    w2c_j0 = i64_load(m, (u64)(w2c_i0) + 344u);
-    w2c_l11 = w2c_j0;
-    w2c_j0 = w2c_l4;
-    w2c_i0 = (u32)(w2c_j0);
-    w2c_j0 = i64_load(m, (u64)(w2c_i0) + 328u);
     w2c_l9 = w2c_j0;
     w2c_j0 = w2c_l4;
     w2c_i0 = (u32)(w2c_j0);
+    w2c_j0 = i64_load(m, (u64)(w2c_i0) + 344u);
+    w2c_l10 = w2c_j0;
+    w2c_j0 = w2c_l4;
+    w2c_i0 = (u32)(w2c_j0);
+    w2c_j0 = i64_load(m, (u64)(w2c_i0) + 328u);
+    w2c_l11 = w2c_j0;
+    w2c_j0 = w2c_l4;
+    w2c_i0 = (u32)(w2c_j0);
     w2c_i0 = i32_load8_u(m, (u64)(w2c_i0) + 312u);
-    w2c_l19 = w2c_i0;
+    w2c_l18 = w2c_i0;
     w2c_j0 = w2c_l4;
     w2c_i0 = (u32)(w2c_j0);
     w2c_i0 = i32_load8_u(m, (u64)(w2c_i0) + 304u);
-    w2c_l20 = w2c_i0;
+    w2c_l19 = w2c_i0;
     w2c_j0 = w2c_l4;
     w2c_i0 = (u32)(w2c_j0);
     w2c_i0 = i32_load8_u(m, (u64)(w2c_i0) + 320u);
-    w2c_l21 = w2c_i0;
+    w2c_l20 = w2c_i0;
     w2c_j0 = w2c_l4;
     w2c_i0 = (u32)(w2c_j0);
     w2c_j1 = 0ull;
@@ -18968,12 +18976,12 @@ static void w2c_f23(module *m, u64 w2c_p0, u32 w2c_p1, u64 w2c_p2, u64 w2c_p3) {
     w2c_i0 = (u32)(w2c_j0);
     w2c_j1 = 0ull;
     i64_store(m, (u64)(w2c_i0) + 104, w2c_j1);
-    w2c_i0 = w2c_l21;
+    w2c_i0 = w2c_l20;
     w2c_j0 = (u64)(w2c_i0);
     w2c_j1 = 255ull;
     w2c_j0 &= w2c_j1;
-    w2c_l14 = w2c_j0;
-    w2c_i0 = w2c_l17;
+    w2c_l13 = w2c_j0;
+    w2c_i0 = w2c_l16;
     switch (w2c_i0) {
       case 0: goto w2c_B255;
       case 1: goto w2c_B254;
@@ -18983,19 +18991,19 @@ static void w2c_f23(module *m, u64 w2c_p0, u32 w2c_p1, u64 w2c_p2, u64 w2c_p3) {
     w2c_B255:;
     w2c_j0 = w2c_l4;
     w2c_i0 = (u32)(w2c_j0);
-    w2c_j1 = w2c_l9;
+    w2c_j1 = w2c_l11;
     i64_store(m, (u64)(w2c_i0) + 224, w2c_j1);
     w2c_j0 = w2c_l4;
     w2c_i0 = (u32)(w2c_j0);
-    w2c_j1 = w2c_l14;
+    w2c_j1 = w2c_l13;
     i64_store(m, (u64)(w2c_i0) + 216, w2c_j1);
     w2c_j0 = w2c_l4;
     w2c_i0 = (u32)(w2c_j0);
-    w2c_i1 = w2c_l19;
+    w2c_i1 = w2c_l18;
     i32_store8(m, (u64)(w2c_i0) + 208, w2c_i1);
     w2c_j0 = w2c_l4;
     w2c_i0 = (u32)(w2c_j0);
-    w2c_i1 = w2c_l20;
+    w2c_i1 = w2c_l19;
     i32_store8(m, (u64)(w2c_i0) + 200, w2c_i1);
     w2c_j0 = w2c_l4;
     w2c_j1 = 368ull;
@@ -19003,7 +19011,7 @@ static void w2c_f23(module *m, u64 w2c_p0, u32 w2c_p1, u64 w2c_p2, u64 w2c_p3) {
     w2c_j1 = w2c_l4;
     w2c_j2 = 200ull;
     w2c_j1 += w2c_j2;
-    w2c_i2 = w2c_l18;
+    w2c_i2 = w2c_l17;
     w2c_f19(m, w2c_j0, w2c_j1, w2c_i2);
     w2c_j0 = w2c_l4;
     w2c_i0 = (u32)(w2c_j0);
@@ -19014,66 +19022,66 @@ static void w2c_f23(module *m, u64 w2c_p0, u32 w2c_p1, u64 w2c_p2, u64 w2c_p3) {
     w2c_j0 = w2c_l4;
     w2c_i0 = (u32)(w2c_j0);
     w2c_i0 = i32_load8_u(m, (u64)(w2c_i0) + 376u);
-    w2c_l20 = w2c_i0;
-    w2c_j0 = w2c_l4;
-    w2c_i0 = (u32)(w2c_j0);
-    w2c_i0 = i32_load8_u(m, (u64)(w2c_i0) + 384u);
     w2c_l19 = w2c_i0;
     w2c_j0 = w2c_l4;
     w2c_i0 = (u32)(w2c_j0);
+    w2c_i0 = i32_load8_u(m, (u64)(w2c_i0) + 384u);
+    w2c_l18 = w2c_i0;
+    w2c_j0 = w2c_l4;
+    w2c_i0 = (u32)(w2c_j0);
     w2c_i0 = i32_load8_u(m, (u64)(w2c_i0) + 392u);
-    w2c_l21 = w2c_i0;
+    w2c_l20 = w2c_i0;
     w2c_j0 = w2c_l4;
     w2c_i0 = (u32)(w2c_j0);
     w2c_j0 = i64_load(m, (u64)(w2c_i0) + 400u);
-    w2c_l9 = w2c_j0;
+    w2c_l11 = w2c_j0;
     goto w2c_B252;
     w2c_B254:;
-    w2c_j0 = w2c_l10;
+    w2c_j0 = w2c_l9;
     w2c_i0 = !(w2c_j0);
     if (w2c_i0) {goto w2c_B251;}
-    w2c_j0 = w2c_l11;
+    w2c_j0 = w2c_l10;
     w2c_i0 = (u32)(w2c_j0);
     w2c_i0 = i32_load8_s(m, (u64)(w2c_i0));
-    w2c_l21 = w2c_i0;
+    w2c_l20 = w2c_i0;
     w2c_i1 = 4294967295u;
     w2c_i0 = (u32)((s32)w2c_i0 <= (s32)w2c_i1);
     if (w2c_i0) {goto w2c_B257;}
     w2c_j0 = 1ull;
-    w2c_l8 = w2c_j0;
+    w2c_l14 = w2c_j0;
     goto w2c_B256;
     w2c_B257:;
-    w2c_i0 = w2c_l21;
+    w2c_i0 = w2c_l20;
     w2c_i1 = 4294967264u;
     w2c_i0 = w2c_i0 >= w2c_i1;
     if (w2c_i0) {goto w2c_B258;}
     w2c_j0 = 2ull;
-    w2c_l8 = w2c_j0;
+    w2c_l14 = w2c_j0;
     goto w2c_B256;
     w2c_B258:;
     w2c_j0 = 3ull;
     w2c_j1 = 4ull;
-    w2c_i2 = w2c_l21;
+    w2c_i2 = w2c_l20;
     w2c_i3 = 4294967280u;
     w2c_i2 = w2c_i2 < w2c_i3;
     w2c_j0 = w2c_i2 ? w2c_j0 : w2c_j1;
-    w2c_l8 = w2c_j0;
+    w2c_l14 = w2c_j0;
     w2c_B256:;
     w2c_j0 = w2c_l4;
     w2c_i0 = (u32)(w2c_j0);
-    w2c_j1 = w2c_l9;
+    w2c_j1 = w2c_l11;
     i64_store(m, (u64)(w2c_i0) + 120, w2c_j1);
     w2c_j0 = w2c_l4;
     w2c_i0 = (u32)(w2c_j0);
-    w2c_j1 = w2c_l14;
+    w2c_j1 = w2c_l13;
     i64_store(m, (u64)(w2c_i0) + 112, w2c_j1);
     w2c_j0 = w2c_l4;
     w2c_i0 = (u32)(w2c_j0);
-    w2c_i1 = w2c_l19;
+    w2c_i1 = w2c_l18;
     i32_store8(m, (u64)(w2c_i0) + 104, w2c_i1);
     w2c_j0 = w2c_l4;
     w2c_i0 = (u32)(w2c_j0);
-    w2c_i1 = w2c_l20;
+    w2c_i1 = w2c_l19;
     i32_store8(m, (u64)(w2c_i0) + 96, w2c_i1);
     w2c_j0 = w2c_l4;
     w2c_j1 = 48ull;
@@ -19081,7 +19089,7 @@ static void w2c_f23(module *m, u64 w2c_p0, u32 w2c_p1, u64 w2c_p2, u64 w2c_p3) {
     w2c_j1 = w2c_l4;
     w2c_j2 = 96ull;
     w2c_j1 += w2c_j2;
-    w2c_i2 = w2c_l18;
+    w2c_i2 = w2c_l17;
     w2c_f19(m, w2c_j0, w2c_j1, w2c_i2);
     w2c_j0 = w2c_l4;
     w2c_i0 = (u32)(w2c_j0);
@@ -19089,86 +19097,86 @@ static void w2c_f23(module *m, u64 w2c_p0, u32 w2c_p1, u64 w2c_p2, u64 w2c_p3) {
     w2c_i1 = 1u;
     w2c_i0 = w2c_i0 != w2c_i1;
     if (w2c_i0) {goto w2c_B251;}
-    w2c_j0 = w2c_l11;
-    w2c_j1 = w2c_l8;
-    w2c_j0 += w2c_j1;
-    w2c_l11 = w2c_j0;
     w2c_j0 = w2c_l10;
-    w2c_j1 = w2c_l8;
-    w2c_j0 -= w2c_j1;
+    w2c_j1 = w2c_l14;
+    w2c_j0 += w2c_j1;
     w2c_l10 = w2c_j0;
+    w2c_j0 = w2c_l9;
+    w2c_j1 = w2c_l14;
+    w2c_j0 -= w2c_j1;
+    w2c_l9 = w2c_j0;
     w2c_j0 = w2c_l4;
     w2c_i0 = (u32)(w2c_j0);
     w2c_i0 = i32_load8_u(m, (u64)(w2c_i0) + 56u);
-    w2c_l20 = w2c_i0;
-    w2c_j0 = w2c_l4;
-    w2c_i0 = (u32)(w2c_j0);
-    w2c_i0 = i32_load8_u(m, (u64)(w2c_i0) + 64u);
     w2c_l19 = w2c_i0;
     w2c_j0 = w2c_l4;
     w2c_i0 = (u32)(w2c_j0);
+    w2c_i0 = i32_load8_u(m, (u64)(w2c_i0) + 64u);
+    w2c_l18 = w2c_i0;
+    w2c_j0 = w2c_l4;
+    w2c_i0 = (u32)(w2c_j0);
     w2c_i0 = i32_load8_u(m, (u64)(w2c_i0) + 72u);
-    w2c_l21 = w2c_i0;
+    w2c_l20 = w2c_i0;
     w2c_j0 = w2c_l4;
     w2c_i0 = (u32)(w2c_j0);
     w2c_j0 = i64_load(m, (u64)(w2c_i0) + 80u);
-    w2c_l9 = w2c_j0;
+    w2c_l11 = w2c_j0;
     goto w2c_B252;
     w2c_B253:;
-    w2c_j0 = w2c_l10;
+    w2c_j0 = w2c_l9;
     w2c_i0 = !(w2c_j0);
     if (w2c_i0) {goto w2c_B251;}
-    w2c_j0 = w2c_l11;
+    w2c_j0 = w2c_l10;
     w2c_i0 = (u32)(w2c_j0);
     w2c_i0 = i32_load8_s(m, (u64)(w2c_i0));
-    w2c_l23 = w2c_i0;
+    w2c_l22 = w2c_i0;
     w2c_i1 = 4294967295u;
     w2c_i0 = (u32)((s32)w2c_i0 <= (s32)w2c_i1);
     if (w2c_i0) {goto w2c_B260;}
     w2c_j0 = 1ull;
-    w2c_l14 = w2c_j0;
+    w2c_l13 = w2c_j0;
     goto w2c_B259;
     w2c_B260:;
-    w2c_i0 = w2c_l23;
+    w2c_i0 = w2c_l22;
     w2c_i1 = 4294967264u;
     w2c_i0 = w2c_i0 >= w2c_i1;
     if (w2c_i0) {goto w2c_B261;}
     w2c_j0 = 2ull;
-    w2c_l14 = w2c_j0;
+    w2c_l13 = w2c_j0;
     goto w2c_B259;
     w2c_B261:;
     w2c_j0 = 3ull;
     w2c_j1 = 4ull;
-    w2c_i2 = w2c_l23;
+    w2c_i2 = w2c_l22;
     w2c_i3 = 4294967280u;
     w2c_i2 = w2c_i2 < w2c_i3;
     w2c_j0 = w2c_i2 ? w2c_j0 : w2c_j1;
-    w2c_l14 = w2c_j0;
+    w2c_l13 = w2c_j0;
     w2c_B259:;
-    w2c_j0 = w2c_l10;
-    w2c_j1 = w2c_l14;
+    w2c_j0 = w2c_l9;
+    w2c_j1 = w2c_l13;
     w2c_j0 -= w2c_j1;
-    w2c_l10 = w2c_j0;
-    w2c_j0 = w2c_l11;
-    w2c_j1 = w2c_l14;
+    w2c_l9 = w2c_j0;
+    w2c_j0 = w2c_l10;
+    w2c_j1 = w2c_l13;
     w2c_j0 += w2c_j1;
-    w2c_l11 = w2c_j0;
+    w2c_l10 = w2c_j0;
     w2c_B252:;
     w2c_j0 = w2c_l4;
     w2c_i0 = (u32)(w2c_j0);
-    w2c_j1 = w2c_l9;
+    w2c_j1 = w2c_l11;
     i64_store(m, (u64)(w2c_i0) + 32, w2c_j1);
     w2c_j0 = w2c_l4;
     w2c_i0 = (u32)(w2c_j0);
-    w2c_i1 = w2c_l19;
+    w2c_i1 = w2c_l18;
     i32_store8(m, (u64)(w2c_i0) + 16, w2c_i1);
     w2c_j0 = w2c_l4;
     w2c_i0 = (u32)(w2c_j0);
-    w2c_i1 = w2c_l20;
+    w2c_i1 = w2c_l19;
     i32_store8(m, (u64)(w2c_i0) + 8, w2c_i1);
     w2c_j0 = w2c_l4;
     w2c_i0 = (u32)(w2c_j0);
-    w2c_i1 = w2c_l21;
+    w2c_i1 = w2c_l20;
     w2c_j1 = (u64)(w2c_i1);
     w2c_j2 = 255ull;
     w2c_j1 &= w2c_j2;
@@ -19179,14 +19187,10 @@ static void w2c_f23(module *m, u64 w2c_p0, u32 w2c_p1, u64 w2c_p2, u64 w2c_p3) {
     w2c_j1 = w2c_l4;
     w2c_j2 = 8ull;
     w2c_j1 += w2c_j2;
-    w2c_j2 = w2c_l11;
-    w2c_j3 = w2c_l10;
+    w2c_j2 = w2c_l10;
+    w2c_j3 = w2c_l9;
     w2c_j4 = 18446744073709551615ull;
     w2c_f18(m, w2c_j0, w2c_j1, w2c_j2, w2c_j3, w2c_j4);
-    w2c_j0 = w2c_l13;
-    w2c_j1 = w2c_l7;
-    w2c_i0 = w2c_j0 < w2c_j1;
-    if (w2c_i0) {goto w2c_B251;}
     w2c_j0 = w2c_l4;
     w2c_i0 = (u32)(w2c_j0);
     w2c_j0 = i64_load(m, (u64)(w2c_i0) + 288u);
@@ -19194,8 +19198,8 @@ static void w2c_f23(module *m, u64 w2c_p0, u32 w2c_p1, u64 w2c_p2, u64 w2c_p3) {
     w2c_i0 = w2c_j0 != w2c_j1;
     if (w2c_i0) {goto w2c_B262;}
     w2c_i0 = 1u;
-    w2c_l21 = w2c_i0;
-    w2c_j0 = w2c_l15;
+    w2c_l20 = w2c_i0;
+    w2c_j0 = w2c_l12;
     w2c_j1 = 0ull;
     w2c_i0 = w2c_j0 != w2c_j1;
     if (w2c_i0) {goto w2c_B0;}
@@ -19209,11 +19213,13 @@ static void w2c_f23(module *m, u64 w2c_p0, u32 w2c_p1, u64 w2c_p2, u64 w2c_p3) {
     if (w2c_i0) {goto w2c_B251;}
     goto w2c_B0;
     w2c_B262:;
-    w2c_j0 = w2c_l15;
+    w2c_j0 = w2c_l12;
     w2c_i0 = !(w2c_j0);
     if (w2c_i0) {goto w2c_B251;}
-    w2c_j0 = w2c_l12;
-    w2c_i1 = w2c_l17;
+    w2c_j0 = w2c_l4;
+    w2c_i0 = (u32)(w2c_j0);
+    w2c_j0 = i64_load(m, (u64)(w2c_i0) + 336u);
+    w2c_i1 = w2c_l16;
     w2c_i2 = 2u;
     w2c_i1 = w2c_i1 != w2c_i2;
     w2c_j1 = (u64)(w2c_i1);
@@ -19222,10 +19228,10 @@ static void w2c_f23(module *m, u64 w2c_p0, u32 w2c_p1, u64 w2c_p2, u64 w2c_p3) {
     w2c_i1 = (u32)(w2c_j1);
     w2c_j1 = i64_load(m, (u64)(w2c_i1) + 272u);
     w2c_j0 += w2c_j1;
-    w2c_l10 = w2c_j0;
+    w2c_l9 = w2c_j0;
     w2c_j0 = 2ull;
-    w2c_l11 = w2c_j0;
-    w2c_i0 = w2c_l17;
+    w2c_l10 = w2c_j0;
+    w2c_i0 = w2c_l16;
     switch (w2c_i0) {
       case 0: goto w2c_B263;
       case 1: goto w2c_B265;
@@ -19234,110 +19240,110 @@ static void w2c_f23(module *m, u64 w2c_p0, u32 w2c_p1, u64 w2c_p2, u64 w2c_p3) {
     }
     w2c_B265:;
     w2c_j0 = 1ull;
-    w2c_l11 = w2c_j0;
+    w2c_l10 = w2c_j0;
     goto w2c_B263;
     w2c_B264:;
     w2c_j0 = w2c_l7;
-    w2c_j1 = w2c_l13;
+    w2c_j1 = w2c_l8;
     w2c_i0 = w2c_j0 == w2c_j1;
     w2c_j0 = (u64)(w2c_i0);
-    w2c_l11 = w2c_j0;
+    w2c_l10 = w2c_j0;
     w2c_B263:;
     w2c_i0 = 1u;
-    w2c_l21 = w2c_i0;
-    w2c_j0 = w2c_l11;
-    w2c_j1 = w2c_l13;
+    w2c_l20 = w2c_i0;
+    w2c_j0 = w2c_l10;
+    w2c_j1 = w2c_l8;
     w2c_j0 += w2c_j1;
-    w2c_l11 = w2c_j0;
-    w2c_j1 = w2c_l10;
+    w2c_l10 = w2c_j0;
+    w2c_j1 = w2c_l9;
     w2c_i0 = w2c_j0 < w2c_j1;
     if (w2c_i0) {goto w2c_B0;}
-    w2c_j0 = w2c_l10;
-    w2c_j1 = w2c_l11;
+    w2c_j0 = w2c_l9;
+    w2c_j1 = w2c_l10;
     w2c_i0 = w2c_j0 != w2c_j1;
     if (w2c_i0) {goto w2c_B251;}
     w2c_j0 = w2c_l4;
     w2c_i0 = (u32)(w2c_j0);
     w2c_j0 = i64_load(m, (u64)(w2c_i0) + 280u);
-    w2c_l10 = w2c_j0;
+    w2c_l9 = w2c_j0;
     w2c_i0 = (u32)(w2c_j0);
     w2c_i0 = i32_load8_s(m, (u64)(w2c_i0));
-    w2c_l20 = w2c_i0;
+    w2c_l19 = w2c_i0;
     w2c_i1 = 255u;
     w2c_i0 &= w2c_i1;
-    w2c_l19 = w2c_i0;
-    w2c_i0 = w2c_l20;
+    w2c_l18 = w2c_i0;
+    w2c_i0 = w2c_l19;
     w2c_i1 = 4294967295u;
     w2c_i0 = (u32)((s32)w2c_i0 > (s32)w2c_i1);
     if (w2c_i0) {goto w2c_B266;}
-    w2c_j0 = w2c_l10;
+    w2c_j0 = w2c_l9;
     w2c_i0 = (u32)(w2c_j0);
     w2c_i0 = i32_load8_u(m, (u64)(w2c_i0) + 1u);
     w2c_i1 = 63u;
     w2c_i0 &= w2c_i1;
-    w2c_l23 = w2c_i0;
-    w2c_i0 = w2c_l20;
+    w2c_l22 = w2c_i0;
+    w2c_i0 = w2c_l19;
     w2c_i1 = 4294967263u;
     w2c_i0 = w2c_i0 > w2c_i1;
     if (w2c_i0) {goto w2c_B267;}
-    w2c_i0 = w2c_l19;
+    w2c_i0 = w2c_l18;
     w2c_i1 = 6u;
     w2c_i0 <<= (w2c_i1 & 31);
     w2c_i1 = 1984u;
     w2c_i0 &= w2c_i1;
-    w2c_i1 = w2c_l23;
+    w2c_i1 = w2c_l22;
     w2c_i0 |= w2c_i1;
-    w2c_l19 = w2c_i0;
+    w2c_l18 = w2c_i0;
     goto w2c_B266;
     w2c_B267:;
-    w2c_j0 = w2c_l10;
+    w2c_j0 = w2c_l9;
     w2c_i0 = (u32)(w2c_j0);
     w2c_i0 = i32_load8_u(m, (u64)(w2c_i0) + 2u);
     w2c_i1 = 63u;
     w2c_i0 &= w2c_i1;
-    w2c_l22 = w2c_i0;
-    w2c_i0 = w2c_l20;
+    w2c_l21 = w2c_i0;
+    w2c_i0 = w2c_l19;
     w2c_i1 = 4294967279u;
     w2c_i0 = w2c_i0 > w2c_i1;
     if (w2c_i0) {goto w2c_B268;}
-    w2c_i0 = w2c_l23;
+    w2c_i0 = w2c_l22;
     w2c_i1 = 6u;
     w2c_i0 <<= (w2c_i1 & 31);
-    w2c_i1 = w2c_l19;
+    w2c_i1 = w2c_l18;
     w2c_i2 = 12u;
     w2c_i1 <<= (w2c_i2 & 31);
     w2c_i2 = 61440u;
     w2c_i1 &= w2c_i2;
     w2c_i0 |= w2c_i1;
-    w2c_i1 = w2c_l22;
+    w2c_i1 = w2c_l21;
     w2c_i0 |= w2c_i1;
-    w2c_l19 = w2c_i0;
+    w2c_l18 = w2c_i0;
     goto w2c_B266;
     w2c_B268:;
-    w2c_i0 = w2c_l22;
+    w2c_i0 = w2c_l21;
     w2c_i1 = 6u;
     w2c_i0 <<= (w2c_i1 & 31);
-    w2c_i1 = w2c_l23;
+    w2c_i1 = w2c_l22;
     w2c_i2 = 12u;
     w2c_i1 <<= (w2c_i2 & 31);
-    w2c_i2 = w2c_l19;
+    w2c_i2 = w2c_l18;
     w2c_i3 = 18u;
     w2c_i2 <<= (w2c_i3 & 31);
     w2c_i3 = 1835008u;
     w2c_i2 &= w2c_i3;
     w2c_i1 |= w2c_i2;
     w2c_i0 |= w2c_i1;
-    w2c_j1 = w2c_l10;
+    w2c_j1 = w2c_l9;
     w2c_i1 = (u32)(w2c_j1);
     w2c_i1 = i32_load8_u(m, (u64)(w2c_i1) + 3u);
     w2c_i2 = 63u;
     w2c_i1 &= w2c_i2;
     w2c_i0 |= w2c_i1;
-    w2c_l19 = w2c_i0;
+    w2c_l18 = w2c_i0;
     w2c_B266:;
     w2c_j0 = w2c_l4;
     w2c_i0 = (u32)(w2c_j0);
-    w2c_i1 = w2c_l19;
+    w2c_i1 = w2c_l18;
     i32_store(m, (u64)(w2c_i0) + 304, w2c_i1);
     w2c_j0 = 66564ull;
     w2c_j1 = 29ull;
@@ -19356,13 +19362,13 @@ static void w2c_f23(module *m, u64 w2c_p0, u32 w2c_p1, u64 w2c_p2, u64 w2c_p3) {
     w2c_i0 = w2c_j0 != w2c_j1;
     if (w2c_i0) {goto w2c_L250;}
   w2c_i0 = 0u;
-  w2c_l18 = w2c_i0;
+  w2c_l17 = w2c_i0;
   w2c_j0 = 0ull;
   w2c_l7 = w2c_j0;
   w2c_i0 = 0u;
-  w2c_l21 = w2c_i0;
+  w2c_l20 = w2c_i0;
   w2c_i0 = 0u;
-  w2c_l17 = w2c_i0;
+  w2c_l16 = w2c_i0;
   goto w2c_B0;
   w2c_B5:;
   w2c_j0 = 0ull;
@@ -19388,7 +19394,7 @@ static void w2c_f23(module *m, u64 w2c_p0, u32 w2c_p1, u64 w2c_p2, u64 w2c_p3) {
   w2c_j1 = 0ull;
   i64_store(m, (u64)(w2c_i0) + 1320, w2c_j1);
   w2c_i0 = 0u;
-  w2c_l21 = w2c_i0;
+  w2c_l20 = w2c_i0;
   w2c_j0 = w2c_l4;
   w2c_i0 = (u32)(w2c_j0);
   w2c_i1 = 0u;
@@ -19450,19 +19456,19 @@ static void w2c_f23(module *m, u64 w2c_p0, u32 w2c_p1, u64 w2c_p2, u64 w2c_p3) {
   w2c_j0 = w2c_l4;
   w2c_i0 = (u32)(w2c_j0);
   w2c_i0 = i32_load8_u(m, (u64)(w2c_i0) + 1288u);
-  w2c_l19 = w2c_i0;
+  w2c_l18 = w2c_i0;
   w2c_j0 = w2c_l4;
   w2c_i0 = (u32)(w2c_j0);
   w2c_j0 = i64_load(m, (u64)(w2c_i0) + 1320u);
-  w2c_l13 = w2c_j0;
+  w2c_l11 = w2c_j0;
   w2c_j1 = 0ull;
   w2c_i0 = w2c_j0 != w2c_j1;
   if (w2c_i0) {goto w2c_B269;}
   w2c_i0 = 0u;
-  w2c_l17 = w2c_i0;
+  w2c_l16 = w2c_i0;
   w2c_i0 = 0u;
-  w2c_l18 = w2c_i0;
-  w2c_i0 = w2c_l19;
+  w2c_l17 = w2c_i0;
+  w2c_i0 = w2c_l18;
   w2c_i1 = 255u;
   w2c_i0 &= w2c_i1;
   w2c_i1 = 3u;
@@ -19472,43 +19478,43 @@ static void w2c_f23(module *m, u64 w2c_p0, u32 w2c_p1, u64 w2c_p2, u64 w2c_p3) {
   w2c_j0 = w2c_l4;
   w2c_i0 = (u32)(w2c_j0);
   w2c_j0 = i64_load(m, (u64)(w2c_i0) + 1304u);
-  w2c_l12 = w2c_j0;
+  w2c_l8 = w2c_j0;
   w2c_j0 = w2c_l4;
   w2c_i0 = (u32)(w2c_j0);
   w2c_i0 = i32_load8_u(m, (u64)(w2c_i0) + 1296u);
-  w2c_l17 = w2c_i0;
+  w2c_l16 = w2c_i0;
   w2c_j0 = w2c_l4;
   w2c_i0 = (u32)(w2c_j0);
   w2c_i0 = i32_load_of_text(m, (u64)(w2c_i0) + 1290u);
-  w2c_l18 = w2c_i0;
+  w2c_l17 = w2c_i0;
   w2c_j0 = w2c_l4;
   w2c_i0 = (u32)(w2c_j0);
   w2c_i0 = i32_load16_u(m, (u64)(w2c_i0) + 1294u);
-  w2c_l21 = w2c_i0;
+  w2c_l20 = w2c_i0;
   w2c_j0 = w2c_l4;
   w2c_i0 = (u32)(w2c_j0);
   w2c_i1 = 0u;
   i32_store16(m, (u64)(w2c_i0) + 144, w2c_i1);
   w2c_j0 = w2c_l4;
   w2c_i0 = (u32)(w2c_j0);
-  w2c_i1 = w2c_l21;
+  w2c_i1 = w2c_l20;
   i32_store16(m, (u64)(w2c_i0) + 142, w2c_i1);
   w2c_j0 = w2c_l4;
   w2c_i0 = (u32)(w2c_j0);
-  w2c_i1 = w2c_l18;
+  w2c_i1 = w2c_l17;
   i32_store(m, (u64)(w2c_i0) + 138, w2c_i1);
   w2c_j0 = w2c_l4;
   w2c_i0 = (u32)(w2c_j0);
-  w2c_i1 = w2c_l19;
+  w2c_i1 = w2c_l18;
   w2c_i2 = 255u;
   w2c_i1 &= w2c_i2;
   i32_store16(m, (u64)(w2c_i0) + 136, w2c_i1);
   w2c_j0 = w2c_l4;
   w2c_i0 = (u32)(w2c_j0);
-  w2c_i1 = w2c_l17;
+  w2c_i1 = w2c_l16;
   i32_store8(m, (u64)(w2c_i0) + 144, w2c_i1);
   w2c_j0 = 0ull;
-  w2c_l10 = w2c_j0;
+  w2c_l9 = w2c_j0;
   w2c_j0 = w2c_l4;
   w2c_i0 = (u32)(w2c_j0);
   w2c_j1 = 0ull;
@@ -19539,7 +19545,7 @@ static void w2c_f23(module *m, u64 w2c_p0, u32 w2c_p1, u64 w2c_p2, u64 w2c_p3) {
     w2c_j2 += w2c_j3;
     w2c_i2 = (u32)(w2c_j2);
     w2c_i2 = i32_load_of_text(m, (u64)(w2c_i2));
-    w2c_l17 = w2c_i2;
+    w2c_l16 = w2c_i2;
     w2c_f17(m, w2c_j0, w2c_j1, w2c_i2);
     w2c_j0 = w2c_l4;
     w2c_i0 = (u32)(w2c_j0);
@@ -19550,12 +19556,12 @@ static void w2c_f23(module *m, u64 w2c_p0, u32 w2c_p1, u64 w2c_p2, u64 w2c_p3) {
     w2c_j0 = w2c_l4;
     w2c_j1 = 416ull;
     w2c_j0 += w2c_j1;
-    w2c_j1 = w2c_l10;
+    w2c_j1 = w2c_l9;
     w2c_j2 = 2ull;
     w2c_j1 <<= (w2c_j2 & 63);
     w2c_j0 += w2c_j1;
     w2c_i0 = (u32)(w2c_j0);
-    w2c_i1 = w2c_l17;
+    w2c_i1 = w2c_l16;
     i32_store(m, (u64)(w2c_i0), w2c_i1);
     w2c_j0 = w2c_l4;
     w2c_i0 = (u32)(w2c_j0);
@@ -19564,7 +19570,7 @@ static void w2c_f23(module *m, u64 w2c_p0, u32 w2c_p1, u64 w2c_p2, u64 w2c_p3) {
     w2c_j1 = i64_load(m, (u64)(w2c_i1) + 608u);
     w2c_j2 = 1ull;
     w2c_j1 += w2c_j2;
-    w2c_l10 = w2c_j1;
+    w2c_l9 = w2c_j1;
     i64_store(m, (u64)(w2c_i0) + 608, w2c_j1);
     w2c_B271:;
     w2c_j0 = 0ull;
@@ -19592,7 +19598,7 @@ static void w2c_f23(module *m, u64 w2c_p0, u32 w2c_p1, u64 w2c_p2, u64 w2c_p3) {
   w2c_j0 += w2c_j1;
   w2c_j1 = w2c_p2;
   w2c_j2 = w2c_p3;
-  w2c_j3 = w2c_l12;
+  w2c_j3 = w2c_l8;
   w2c_j4 = w2c_l4;
   w2c_j5 = 1088ull;
   w2c_j4 += w2c_j5;
@@ -19623,30 +19629,33 @@ static void w2c_f23(module *m, u64 w2c_p0, u32 w2c_p1, u64 w2c_p2, u64 w2c_p3) {
     w2c_j0 += w2c_j1;
     w2c_j1 = w2c_l5;
     w2c_j0 += w2c_j1;
-    w2c_l7 = w2c_j0;
+    w2c_l9 = w2c_j0;
     w2c_i0 = (u32)(w2c_j0);
     w2c_i0 = i32_load8_u(m, (u64)(w2c_i0));
     w2c_i1 = 1u;
     w2c_i0 = w2c_i0 != w2c_i1;
     if (w2c_i0) {goto w2c_B273;}
-    w2c_j0 = w2c_l7;
+    w2c_j0 = w2c_l8;
+    w2c_j1 = w2c_l9;
+    w2c_j2 = 8ull;
+    w2c_j1 += w2c_j2;
+    w2c_i1 = (u32)(w2c_j1);
+    w2c_j1 = i64_load(m, (u64)(w2c_i1));
+    w2c_l7 = w2c_j1;
+    w2c_i0 = w2c_j0 < w2c_j1;
+    if (w2c_i0) {goto w2c_B273;}
+    w2c_j0 = w2c_l9;
     w2c_j1 = 20ull;
     w2c_j0 += w2c_j1;
     w2c_i0 = (u32)(w2c_j0);
     w2c_i0 = i32_load_of_text(m, (u64)(w2c_i0));
-    w2c_l18 = w2c_i0;
-    w2c_j0 = w2c_l7;
+    w2c_l17 = w2c_i0;
+    w2c_j0 = w2c_l9;
     w2c_j1 = 16ull;
     w2c_j0 += w2c_j1;
     w2c_i0 = (u32)(w2c_j0);
     w2c_i0 = i32_load8_u(m, (u64)(w2c_i0));
-    w2c_l17 = w2c_i0;
-    w2c_j0 = w2c_l7;
-    w2c_j1 = 8ull;
-    w2c_j0 += w2c_j1;
-    w2c_i0 = (u32)(w2c_j0);
-    w2c_j0 = i64_load(m, (u64)(w2c_i0));
-    w2c_l7 = w2c_j0;
+    w2c_l16 = w2c_i0;
     w2c_j0 = w2c_l4;
     w2c_i0 = (u32)(w2c_j0);
     w2c_j1 = 0ull;
@@ -19715,39 +19724,32 @@ static void w2c_f23(module *m, u64 w2c_p0, u32 w2c_p1, u64 w2c_p2, u64 w2c_p3) {
     w2c_f16(m, w2c_j0, w2c_j1, w2c_j2, w2c_j3, w2c_j4);
     w2c_j0 = w2c_l4;
     w2c_i0 = (u32)(w2c_j0);
-    w2c_j0 = i64_load(m, (u64)(w2c_i0) + 256u);
-    w2c_l9 = w2c_j0;
-    w2c_j1 = w2c_l7;
-    w2c_i0 = w2c_j0 < w2c_j1;
-    if (w2c_i0) {goto w2c_B273;}
-    w2c_j0 = w2c_l4;
-    w2c_i0 = (u32)(w2c_j0);
     w2c_j0 = i64_load(m, (u64)(w2c_i0) + 272u);
-    w2c_l10 = w2c_j0;
+    w2c_l9 = w2c_j0;
     w2c_j0 = w2c_l4;
     w2c_i0 = (u32)(w2c_j0);
     w2c_j0 = i64_load(m, (u64)(w2c_i0) + 264u);
-    w2c_l11 = w2c_j0;
+    w2c_l10 = w2c_j0;
     w2c_j0 = w2c_l4;
     w2c_i0 = (u32)(w2c_j0);
     w2c_i0 = i32_load8_u(m, (u64)(w2c_i0) + 248u);
-    w2c_l21 = w2c_i0;
-    w2c_j0 = w2c_l4;
-    w2c_i0 = (u32)(w2c_j0);
-    w2c_i0 = i32_load8_u(m, (u64)(w2c_i0) + 247u);
-    w2c_l19 = w2c_i0;
-    w2c_j0 = w2c_l4;
-    w2c_i0 = (u32)(w2c_j0);
-    w2c_i0 = i32_load8_u(m, (u64)(w2c_i0) + 246u);
     w2c_l20 = w2c_i0;
     w2c_j0 = w2c_l4;
     w2c_i0 = (u32)(w2c_j0);
+    w2c_i0 = i32_load8_u(m, (u64)(w2c_i0) + 247u);
+    w2c_l18 = w2c_i0;
+    w2c_j0 = w2c_l4;
+    w2c_i0 = (u32)(w2c_j0);
+    w2c_i0 = i32_load8_u(m, (u64)(w2c_i0) + 246u);
+    w2c_l19 = w2c_i0;
+    w2c_j0 = w2c_l4;
+    w2c_i0 = (u32)(w2c_j0);
     w2c_i0 = i32_load_of_text(m, (u64)(w2c_i0) + 242u);
-    w2c_l23 = w2c_i0;
+    w2c_l22 = w2c_i0;
     w2c_j0 = w2c_l4;
     w2c_i0 = (u32)(w2c_j0);
     w2c_i0 = i32_load8_u(m, (u64)(w2c_i0) + 240u);
-    w2c_l22 = w2c_i0;
+    w2c_l21 = w2c_i0;
     w2c_j0 = w2c_l4;
     w2c_i0 = (u32)(w2c_j0);
     w2c_j1 = 0ull;
@@ -19772,7 +19774,7 @@ static void w2c_f23(module *m, u64 w2c_p0, u32 w2c_p1, u64 w2c_p2, u64 w2c_p3) {
     w2c_i0 = (u32)(w2c_j0);
     w2c_i1 = 0u;
     i32_store16(m, (u64)(w2c_i0) + 104, w2c_i1);
-    w2c_i0 = w2c_l17;
+    w2c_i0 = w2c_l16;
     switch (w2c_i0) {
       case 0: goto w2c_B277;
       case 1: goto w2c_B276;
@@ -19782,23 +19784,23 @@ static void w2c_f23(module *m, u64 w2c_p0, u32 w2c_p1, u64 w2c_p2, u64 w2c_p3) {
     w2c_B277:;
     w2c_j0 = w2c_l4;
     w2c_i0 = (u32)(w2c_j0);
-    w2c_i1 = w2c_l21;
+    w2c_i1 = w2c_l20;
     i32_store8(m, (u64)(w2c_i0) + 208, w2c_i1);
     w2c_j0 = w2c_l4;
     w2c_i0 = (u32)(w2c_j0);
-    w2c_i1 = w2c_l19;
+    w2c_i1 = w2c_l18;
     i32_store8(m, (u64)(w2c_i0) + 207, w2c_i1);
     w2c_j0 = w2c_l4;
     w2c_i0 = (u32)(w2c_j0);
-    w2c_i1 = w2c_l20;
+    w2c_i1 = w2c_l19;
     i32_store8(m, (u64)(w2c_i0) + 206, w2c_i1);
     w2c_j0 = w2c_l4;
     w2c_i0 = (u32)(w2c_j0);
-    w2c_i1 = w2c_l23;
+    w2c_i1 = w2c_l22;
     i32_store(m, (u64)(w2c_i0) + 202, w2c_i1);
     w2c_j0 = w2c_l4;
     w2c_i0 = (u32)(w2c_j0);
-    w2c_i1 = w2c_l22;
+    w2c_i1 = w2c_l21;
     i32_store16(m, (u64)(w2c_i0) + 200, w2c_i1);
     w2c_j0 = w2c_l4;
     w2c_j1 = 368ull;
@@ -19806,7 +19808,7 @@ static void w2c_f23(module *m, u64 w2c_p0, u32 w2c_p1, u64 w2c_p2, u64 w2c_p3) {
     w2c_j1 = w2c_l4;
     w2c_j2 = 200ull;
     w2c_j1 += w2c_j2;
-    w2c_i2 = w2c_l18;
+    w2c_i2 = w2c_l17;
     w2c_f17(m, w2c_j0, w2c_j1, w2c_i2);
     w2c_j0 = w2c_l4;
     w2c_i0 = (u32)(w2c_j0);
@@ -19817,74 +19819,74 @@ static void w2c_f23(module *m, u64 w2c_p0, u32 w2c_p1, u64 w2c_p2, u64 w2c_p3) {
     w2c_j0 = w2c_l4;
     w2c_i0 = (u32)(w2c_j0);
     w2c_i0 = i32_load_of_text(m, (u64)(w2c_i0) + 372u);
-    w2c_l23 = w2c_i0;
+    w2c_l22 = w2c_i0;
     w2c_j0 = w2c_l4;
     w2c_i0 = (u32)(w2c_j0);
     w2c_i0 = i32_load8_u(m, (u64)(w2c_i0) + 376u);
-    w2c_l20 = w2c_i0;
-    w2c_j0 = w2c_l4;
-    w2c_i0 = (u32)(w2c_j0);
-    w2c_i0 = i32_load8_u(m, (u64)(w2c_i0) + 377u);
     w2c_l19 = w2c_i0;
     w2c_j0 = w2c_l4;
     w2c_i0 = (u32)(w2c_j0);
+    w2c_i0 = i32_load8_u(m, (u64)(w2c_i0) + 377u);
+    w2c_l18 = w2c_i0;
+    w2c_j0 = w2c_l4;
+    w2c_i0 = (u32)(w2c_j0);
     w2c_i0 = i32_load8_u(m, (u64)(w2c_i0) + 378u);
-    w2c_l21 = w2c_i0;
+    w2c_l20 = w2c_i0;
     w2c_j0 = w2c_l4;
     w2c_i0 = (u32)(w2c_j0);
     w2c_i0 = i32_load8_u(m, (u64)(w2c_i0) + 370u);
-    w2c_l22 = w2c_i0;
+    w2c_l21 = w2c_i0;
     goto w2c_B274;
     w2c_B276:;
-    w2c_j0 = w2c_l10;
+    w2c_j0 = w2c_l9;
     w2c_i0 = !(w2c_j0);
     if (w2c_i0) {goto w2c_B273;}
-    w2c_j0 = w2c_l11;
+    w2c_j0 = w2c_l10;
     w2c_i0 = (u32)(w2c_j0);
     w2c_i0 = i32_load8_s(m, (u64)(w2c_i0));
-    w2c_l26 = w2c_i0;
+    w2c_l24 = w2c_i0;
     w2c_i1 = 4294967295u;
     w2c_i0 = (u32)((s32)w2c_i0 <= (s32)w2c_i1);
     if (w2c_i0) {goto w2c_B279;}
     w2c_j0 = 1ull;
-    w2c_l14 = w2c_j0;
+    w2c_l13 = w2c_j0;
     goto w2c_B278;
     w2c_B279:;
-    w2c_i0 = w2c_l26;
+    w2c_i0 = w2c_l24;
     w2c_i1 = 4294967264u;
     w2c_i0 = w2c_i0 >= w2c_i1;
     if (w2c_i0) {goto w2c_B280;}
     w2c_j0 = 2ull;
-    w2c_l14 = w2c_j0;
+    w2c_l13 = w2c_j0;
     goto w2c_B278;
     w2c_B280:;
     w2c_j0 = 3ull;
     w2c_j1 = 4ull;
-    w2c_i2 = w2c_l26;
+    w2c_i2 = w2c_l24;
     w2c_i3 = 4294967280u;
     w2c_i2 = w2c_i2 < w2c_i3;
     w2c_j0 = w2c_i2 ? w2c_j0 : w2c_j1;
-    w2c_l14 = w2c_j0;
+    w2c_l13 = w2c_j0;
     w2c_B278:;
     w2c_j0 = w2c_l4;
     w2c_i0 = (u32)(w2c_j0);
-    w2c_i1 = w2c_l21;
+    w2c_i1 = w2c_l20;
     i32_store8(m, (u64)(w2c_i0) + 104, w2c_i1);
     w2c_j0 = w2c_l4;
     w2c_i0 = (u32)(w2c_j0);
-    w2c_i1 = w2c_l19;
+    w2c_i1 = w2c_l18;
     i32_store8(m, (u64)(w2c_i0) + 103, w2c_i1);
     w2c_j0 = w2c_l4;
     w2c_i0 = (u32)(w2c_j0);
-    w2c_i1 = w2c_l20;
+    w2c_i1 = w2c_l19;
     i32_store8(m, (u64)(w2c_i0) + 102, w2c_i1);
     w2c_j0 = w2c_l4;
     w2c_i0 = (u32)(w2c_j0);
-    w2c_i1 = w2c_l23;
+    w2c_i1 = w2c_l22;
     i32_store(m, (u64)(w2c_i0) + 98, w2c_i1);
     w2c_j0 = w2c_l4;
     w2c_i0 = (u32)(w2c_j0);
-    w2c_i1 = w2c_l22;
+    w2c_i1 = w2c_l21;
     i32_store16(m, (u64)(w2c_i0) + 96, w2c_i1);
     w2c_j0 = w2c_l4;
     w2c_j1 = 48ull;
@@ -19892,7 +19894,7 @@ static void w2c_f23(module *m, u64 w2c_p0, u32 w2c_p1, u64 w2c_p2, u64 w2c_p3) {
     w2c_j1 = w2c_l4;
     w2c_j2 = 96ull;
     w2c_j1 += w2c_j2;
-    w2c_i2 = w2c_l18;
+    w2c_i2 = w2c_l17;
     w2c_f17(m, w2c_j0, w2c_j1, w2c_i2);
     w2c_j0 = w2c_l4;
     w2c_i0 = (u32)(w2c_j0);
@@ -19900,94 +19902,94 @@ static void w2c_f23(module *m, u64 w2c_p0, u32 w2c_p1, u64 w2c_p2, u64 w2c_p3) {
     w2c_i1 = 1u;
     w2c_i0 = w2c_i0 != w2c_i1;
     if (w2c_i0) {goto w2c_B273;}
-    w2c_j0 = w2c_l11;
-    w2c_j1 = w2c_l14;
-    w2c_j0 += w2c_j1;
-    w2c_l11 = w2c_j0;
     w2c_j0 = w2c_l10;
-    w2c_j1 = w2c_l14;
-    w2c_j0 -= w2c_j1;
+    w2c_j1 = w2c_l13;
+    w2c_j0 += w2c_j1;
     w2c_l10 = w2c_j0;
+    w2c_j0 = w2c_l9;
+    w2c_j1 = w2c_l13;
+    w2c_j0 -= w2c_j1;
+    w2c_l9 = w2c_j0;
     w2c_j0 = w2c_l4;
     w2c_i0 = (u32)(w2c_j0);
     w2c_i0 = i32_load_of_text(m, (u64)(w2c_i0) + 52u);
-    w2c_l23 = w2c_i0;
+    w2c_l22 = w2c_i0;
     w2c_j0 = w2c_l4;
     w2c_i0 = (u32)(w2c_j0);
     w2c_i0 = i32_load8_u(m, (u64)(w2c_i0) + 56u);
-    w2c_l20 = w2c_i0;
-    w2c_j0 = w2c_l4;
-    w2c_i0 = (u32)(w2c_j0);
-    w2c_i0 = i32_load8_u(m, (u64)(w2c_i0) + 57u);
     w2c_l19 = w2c_i0;
     w2c_j0 = w2c_l4;
     w2c_i0 = (u32)(w2c_j0);
+    w2c_i0 = i32_load8_u(m, (u64)(w2c_i0) + 57u);
+    w2c_l18 = w2c_i0;
+    w2c_j0 = w2c_l4;
+    w2c_i0 = (u32)(w2c_j0);
     w2c_i0 = i32_load8_u(m, (u64)(w2c_i0) + 58u);
-    w2c_l21 = w2c_i0;
+    w2c_l20 = w2c_i0;
     w2c_j0 = w2c_l4;
     w2c_i0 = (u32)(w2c_j0);
     w2c_i0 = i32_load8_u(m, (u64)(w2c_i0) + 50u);
-    w2c_l22 = w2c_i0;
+    w2c_l21 = w2c_i0;
     goto w2c_B274;
     w2c_B275:;
-    w2c_j0 = w2c_l10;
+    w2c_j0 = w2c_l9;
     w2c_i0 = !(w2c_j0);
     if (w2c_i0) {goto w2c_B273;}
-    w2c_j0 = w2c_l11;
+    w2c_j0 = w2c_l10;
     w2c_i0 = (u32)(w2c_j0);
     w2c_i0 = i32_load8_s(m, (u64)(w2c_i0));
-    w2c_l26 = w2c_i0;
+    w2c_l24 = w2c_i0;
     w2c_i1 = 4294967295u;
     w2c_i0 = (u32)((s32)w2c_i0 <= (s32)w2c_i1);
     if (w2c_i0) {goto w2c_B282;}
     w2c_j0 = 1ull;
-    w2c_l14 = w2c_j0;
+    w2c_l13 = w2c_j0;
     goto w2c_B281;
     w2c_B282:;
-    w2c_i0 = w2c_l26;
+    w2c_i0 = w2c_l24;
     w2c_i1 = 4294967264u;
     w2c_i0 = w2c_i0 >= w2c_i1;
     if (w2c_i0) {goto w2c_B283;}
     w2c_j0 = 2ull;
-    w2c_l14 = w2c_j0;
+    w2c_l13 = w2c_j0;
     goto w2c_B281;
     w2c_B283:;
     w2c_j0 = 3ull;
     w2c_j1 = 4ull;
-    w2c_i2 = w2c_l26;
+    w2c_i2 = w2c_l24;
     w2c_i3 = 4294967280u;
     w2c_i2 = w2c_i2 < w2c_i3;
     w2c_j0 = w2c_i2 ? w2c_j0 : w2c_j1;
-    w2c_l14 = w2c_j0;
+    w2c_l13 = w2c_j0;
     w2c_B281:;
-    w2c_j0 = w2c_l10;
-    w2c_j1 = w2c_l14;
+    w2c_j0 = w2c_l9;
+    w2c_j1 = w2c_l13;
     w2c_j0 -= w2c_j1;
-    w2c_l10 = w2c_j0;
-    w2c_j0 = w2c_l11;
-    w2c_j1 = w2c_l14;
+    w2c_l9 = w2c_j0;
+    w2c_j0 = w2c_l10;
+    w2c_j1 = w2c_l13;
     w2c_j0 += w2c_j1;
-    w2c_l11 = w2c_j0;
+    w2c_l10 = w2c_j0;
     w2c_B274:;
     w2c_j0 = w2c_l4;
     w2c_i0 = (u32)(w2c_j0);
-    w2c_i1 = w2c_l21;
+    w2c_i1 = w2c_l20;
     i32_store8(m, (u64)(w2c_i0) + 16, w2c_i1);
     w2c_j0 = w2c_l4;
     w2c_i0 = (u32)(w2c_j0);
-    w2c_i1 = w2c_l19;
+    w2c_i1 = w2c_l18;
     i32_store8(m, (u64)(w2c_i0) + 15, w2c_i1);
     w2c_j0 = w2c_l4;
     w2c_i0 = (u32)(w2c_j0);
-    w2c_i1 = w2c_l20;
+    w2c_i1 = w2c_l19;
     i32_store8(m, (u64)(w2c_i0) + 14, w2c_i1);
     w2c_j0 = w2c_l4;
     w2c_i0 = (u32)(w2c_j0);
-    w2c_i1 = w2c_l23;
+    w2c_i1 = w2c_l22;
     i32_store(m, (u64)(w2c_i0) + 10, w2c_i1);
     w2c_j0 = w2c_l4;
     w2c_i0 = (u32)(w2c_j0);
-    w2c_i1 = w2c_l22;
+    w2c_i1 = w2c_l21;
     w2c_i2 = 255u;
     w2c_i1 &= w2c_i2;
     i32_store16(m, (u64)(w2c_i0) + 8, w2c_i1);
@@ -19997,14 +19999,10 @@ static void w2c_f23(module *m, u64 w2c_p0, u32 w2c_p1, u64 w2c_p2, u64 w2c_p3) {
     w2c_j1 = w2c_l4;
     w2c_j2 = 8ull;
     w2c_j1 += w2c_j2;
-    w2c_j2 = w2c_l11;
-    w2c_j3 = w2c_l10;
+    w2c_j2 = w2c_l10;
+    w2c_j3 = w2c_l9;
     w2c_j4 = 18446744073709551615ull;
     w2c_f16(m, w2c_j0, w2c_j1, w2c_j2, w2c_j3, w2c_j4);
-    w2c_j0 = w2c_l12;
-    w2c_j1 = w2c_l7;
-    w2c_i0 = w2c_j0 < w2c_j1;
-    if (w2c_i0) {goto w2c_B273;}
     w2c_j0 = w2c_l4;
     w2c_i0 = (u32)(w2c_j0);
     w2c_j0 = i64_load(m, (u64)(w2c_i0) + 168u);
@@ -20012,8 +20010,8 @@ static void w2c_f23(module *m, u64 w2c_p0, u32 w2c_p1, u64 w2c_p2, u64 w2c_p3) {
     w2c_i0 = w2c_j0 != w2c_j1;
     if (w2c_i0) {goto w2c_B284;}
     w2c_i0 = 1u;
-    w2c_l21 = w2c_i0;
-    w2c_j0 = w2c_l13;
+    w2c_l20 = w2c_i0;
+    w2c_j0 = w2c_l11;
     w2c_j1 = 0ull;
     w2c_i0 = w2c_j0 != w2c_j1;
     if (w2c_i0) {goto w2c_B0;}
@@ -20027,11 +20025,13 @@ static void w2c_f23(module *m, u64 w2c_p0, u32 w2c_p1, u64 w2c_p2, u64 w2c_p3) {
     if (w2c_i0) {goto w2c_B273;}
     goto w2c_B0;
     w2c_B284:;
-    w2c_j0 = w2c_l13;
+    w2c_j0 = w2c_l11;
     w2c_i0 = !(w2c_j0);
     if (w2c_i0) {goto w2c_B273;}
-    w2c_j0 = w2c_l9;
-    w2c_i1 = w2c_l17;
+    w2c_j0 = w2c_l4;
+    w2c_i0 = (u32)(w2c_j0);
+    w2c_j0 = i64_load(m, (u64)(w2c_i0) + 256u);
+    w2c_i1 = w2c_l16;
     w2c_i2 = 2u;
     w2c_i1 = w2c_i1 != w2c_i2;
     w2c_j1 = (u64)(w2c_i1);
@@ -20040,10 +20040,10 @@ static void w2c_f23(module *m, u64 w2c_p0, u32 w2c_p1, u64 w2c_p2, u64 w2c_p3) {
     w2c_i1 = (u32)(w2c_j1);
     w2c_j1 = i64_load(m, (u64)(w2c_i1) + 152u);
     w2c_j0 += w2c_j1;
-    w2c_l10 = w2c_j0;
+    w2c_l9 = w2c_j0;
     w2c_j0 = 2ull;
-    w2c_l11 = w2c_j0;
-    w2c_i0 = w2c_l17;
+    w2c_l10 = w2c_j0;
+    w2c_i0 = w2c_l16;
     switch (w2c_i0) {
       case 0: goto w2c_B285;
       case 1: goto w2c_B287;
@@ -20052,110 +20052,110 @@ static void w2c_f23(module *m, u64 w2c_p0, u32 w2c_p1, u64 w2c_p2, u64 w2c_p3) {
     }
     w2c_B287:;
     w2c_j0 = 1ull;
-    w2c_l11 = w2c_j0;
+    w2c_l10 = w2c_j0;
     goto w2c_B285;
     w2c_B286:;
     w2c_j0 = w2c_l7;
-    w2c_j1 = w2c_l12;
+    w2c_j1 = w2c_l8;
     w2c_i0 = w2c_j0 == w2c_j1;
     w2c_j0 = (u64)(w2c_i0);
-    w2c_l11 = w2c_j0;
+    w2c_l10 = w2c_j0;
     w2c_B285:;
     w2c_i0 = 1u;
-    w2c_l21 = w2c_i0;
-    w2c_j0 = w2c_l11;
-    w2c_j1 = w2c_l12;
+    w2c_l20 = w2c_i0;
+    w2c_j0 = w2c_l10;
+    w2c_j1 = w2c_l8;
     w2c_j0 += w2c_j1;
-    w2c_l11 = w2c_j0;
-    w2c_j1 = w2c_l10;
+    w2c_l10 = w2c_j0;
+    w2c_j1 = w2c_l9;
     w2c_i0 = w2c_j0 < w2c_j1;
     if (w2c_i0) {goto w2c_B0;}
-    w2c_j0 = w2c_l10;
-    w2c_j1 = w2c_l11;
+    w2c_j0 = w2c_l9;
+    w2c_j1 = w2c_l10;
     w2c_i0 = w2c_j0 != w2c_j1;
     if (w2c_i0) {goto w2c_B273;}
     w2c_j0 = w2c_l4;
     w2c_i0 = (u32)(w2c_j0);
     w2c_j0 = i64_load(m, (u64)(w2c_i0) + 160u);
-    w2c_l10 = w2c_j0;
+    w2c_l9 = w2c_j0;
     w2c_i0 = (u32)(w2c_j0);
     w2c_i0 = i32_load8_s(m, (u64)(w2c_i0));
-    w2c_l20 = w2c_i0;
+    w2c_l19 = w2c_i0;
     w2c_i1 = 255u;
     w2c_i0 &= w2c_i1;
-    w2c_l19 = w2c_i0;
-    w2c_i0 = w2c_l20;
+    w2c_l18 = w2c_i0;
+    w2c_i0 = w2c_l19;
     w2c_i1 = 4294967295u;
     w2c_i0 = (u32)((s32)w2c_i0 > (s32)w2c_i1);
     if (w2c_i0) {goto w2c_B288;}
-    w2c_j0 = w2c_l10;
+    w2c_j0 = w2c_l9;
     w2c_i0 = (u32)(w2c_j0);
     w2c_i0 = i32_load8_u(m, (u64)(w2c_i0) + 1u);
     w2c_i1 = 63u;
     w2c_i0 &= w2c_i1;
-    w2c_l23 = w2c_i0;
-    w2c_i0 = w2c_l20;
+    w2c_l22 = w2c_i0;
+    w2c_i0 = w2c_l19;
     w2c_i1 = 4294967263u;
     w2c_i0 = w2c_i0 > w2c_i1;
     if (w2c_i0) {goto w2c_B289;}
-    w2c_i0 = w2c_l19;
+    w2c_i0 = w2c_l18;
     w2c_i1 = 6u;
     w2c_i0 <<= (w2c_i1 & 31);
     w2c_i1 = 1984u;
     w2c_i0 &= w2c_i1;
-    w2c_i1 = w2c_l23;
+    w2c_i1 = w2c_l22;
     w2c_i0 |= w2c_i1;
-    w2c_l19 = w2c_i0;
+    w2c_l18 = w2c_i0;
     goto w2c_B288;
     w2c_B289:;
-    w2c_j0 = w2c_l10;
+    w2c_j0 = w2c_l9;
     w2c_i0 = (u32)(w2c_j0);
     w2c_i0 = i32_load8_u(m, (u64)(w2c_i0) + 2u);
     w2c_i1 = 63u;
     w2c_i0 &= w2c_i1;
-    w2c_l22 = w2c_i0;
-    w2c_i0 = w2c_l20;
+    w2c_l21 = w2c_i0;
+    w2c_i0 = w2c_l19;
     w2c_i1 = 4294967279u;
     w2c_i0 = w2c_i0 > w2c_i1;
     if (w2c_i0) {goto w2c_B290;}
-    w2c_i0 = w2c_l23;
+    w2c_i0 = w2c_l22;
     w2c_i1 = 6u;
     w2c_i0 <<= (w2c_i1 & 31);
-    w2c_i1 = w2c_l19;
+    w2c_i1 = w2c_l18;
     w2c_i2 = 12u;
     w2c_i1 <<= (w2c_i2 & 31);
     w2c_i2 = 61440u;
     w2c_i1 &= w2c_i2;
     w2c_i0 |= w2c_i1;
-    w2c_i1 = w2c_l22;
+    w2c_i1 = w2c_l21;
     w2c_i0 |= w2c_i1;
-    w2c_l19 = w2c_i0;
+    w2c_l18 = w2c_i0;
     goto w2c_B288;
     w2c_B290:;
-    w2c_i0 = w2c_l22;
+    w2c_i0 = w2c_l21;
     w2c_i1 = 6u;
     w2c_i0 <<= (w2c_i1 & 31);
-    w2c_i1 = w2c_l23;
+    w2c_i1 = w2c_l22;
     w2c_i2 = 12u;
     w2c_i1 <<= (w2c_i2 & 31);
-    w2c_i2 = w2c_l19;
+    w2c_i2 = w2c_l18;
     w2c_i3 = 18u;
     w2c_i2 <<= (w2c_i3 & 31);
     w2c_i3 = 1835008u;
     w2c_i2 &= w2c_i3;
     w2c_i1 |= w2c_i2;
     w2c_i0 |= w2c_i1;
-    w2c_j1 = w2c_l10;
+    w2c_j1 = w2c_l9;
     w2c_i1 = (u32)(w2c_j1);
     w2c_i1 = i32_load8_u(m, (u64)(w2c_i1) + 3u);
     w2c_i2 = 63u;
     w2c_i1 &= w2c_i2;
     w2c_i0 |= w2c_i1;
-    w2c_l19 = w2c_i0;
+    w2c_l18 = w2c_i0;
     w2c_B288:;
     w2c_j0 = w2c_l4;
     w2c_i0 = (u32)(w2c_j0);
-    w2c_i1 = w2c_l19;
+    w2c_i1 = w2c_l18;
     i32_store(m, (u64)(w2c_i0) + 240, w2c_i1);
     w2c_j0 = 66492ull;
     w2c_j1 = 18ull;
@@ -20299,15 +20299,15 @@ static void w2c_f23(module *m, u64 w2c_p0, u32 w2c_p1, u64 w2c_p2, u64 w2c_p3) {
   w2c_j0 = w2c_l4;
   w2c_i0 = (u32)(w2c_j0);
   w2c_j0 = i64_load(m, (u64)(w2c_i0) + 192u);
-  w2c_l8 = w2c_j0;
+  w2c_l12 = w2c_j0;
   w2c_j0 = w2c_l4;
   w2c_i0 = (u32)(w2c_j0);
   w2c_i0 = i32_load8_u(m, (u64)(w2c_i0) + 144u);
-  w2c_l17 = w2c_i0;
+  w2c_l16 = w2c_i0;
   w2c_i1 = 17u;
   w2c_i0 = w2c_i0 < w2c_i1;
   if (w2c_i0) {goto w2c_B291;}
-  w2c_i0 = w2c_l17;
+  w2c_i0 = w2c_l16;
   w2c_i1 = 4294967279u;
   w2c_i0 += w2c_i1;
   switch (w2c_i0) {
@@ -20317,14 +20317,14 @@ static void w2c_f23(module *m, u64 w2c_p0, u32 w2c_p1, u64 w2c_p2, u64 w2c_p3) {
     default: goto w2c_B292;
   }
   w2c_B292:;
-  w2c_j0 = w2c_l8;
+  w2c_j0 = w2c_l12;
   w2c_i0 = !(w2c_j0);
   if (w2c_i0) {goto w2c_B1;}
   w2c_B291:;
   w2c_j0 = w2c_l4;
   w2c_i0 = (u32)(w2c_j0);
   w2c_j0 = i64_load(m, (u64)(w2c_i0) + 176u);
-  w2c_l13 = w2c_j0;
+  w2c_l11 = w2c_j0;
   w2c_j0 = w2c_l4;
   w2c_j1 = 1088ull;
   w2c_j0 += w2c_j1;
@@ -20337,7 +20337,7 @@ static void w2c_f23(module *m, u64 w2c_p0, u32 w2c_p1, u64 w2c_p2, u64 w2c_p3) {
   w2c_j0 += w2c_j1;
   w2c_j1 = w2c_p2;
   w2c_j2 = w2c_p3;
-  w2c_j3 = w2c_l13;
+  w2c_j3 = w2c_l11;
   w2c_j4 = w2c_l4;
   w2c_j5 = 1088ull;
   w2c_j4 += w2c_j5;
@@ -20365,47 +20365,50 @@ static void w2c_f23(module *m, u64 w2c_p0, u32 w2c_p1, u64 w2c_p2, u64 w2c_p3) {
   w2c_j0 = w2c_l4;
   w2c_j1 = 376ull;
   w2c_j0 += w2c_j1;
-  w2c_l16 = w2c_j0;
+  w2c_l6 = w2c_j0;
   w2c_j0 = w2c_l4;
   w2c_j1 = 209ull;
   w2c_j0 += w2c_j1;
-  w2c_l10 = w2c_j0;
+  w2c_l8 = w2c_j0;
   w2c_j0 = w2c_l4;
   w2c_j1 = 200ull;
   w2c_j0 += w2c_j1;
   w2c_j1 = 3ull;
   w2c_j0 |= w2c_j1;
-  w2c_l11 = w2c_j0;
+  w2c_l13 = w2c_j0;
   w2c_L293:
     w2c_j0 = w2c_l4;
     w2c_j1 = 416ull;
     w2c_j0 += w2c_j1;
     w2c_j1 = w2c_l5;
     w2c_j0 += w2c_j1;
-    w2c_l7 = w2c_j0;
+    w2c_l9 = w2c_j0;
     w2c_i0 = (u32)(w2c_j0);
     w2c_i0 = i32_load8_u(m, (u64)(w2c_i0));
     w2c_i1 = 1u;
     w2c_i0 = w2c_i0 != w2c_i1;
     if (w2c_i0) {goto w2c_B294;}
-    w2c_j0 = w2c_l7;
+    w2c_j0 = w2c_l11;
+    w2c_j1 = w2c_l9;
+    w2c_j2 = 8ull;
+    w2c_j1 += w2c_j2;
+    w2c_i1 = (u32)(w2c_j1);
+    w2c_j1 = i64_load(m, (u64)(w2c_i1));
+    w2c_l7 = w2c_j1;
+    w2c_i0 = w2c_j0 < w2c_j1;
+    if (w2c_i0) {goto w2c_B294;}
+    w2c_j0 = w2c_l9;
     w2c_j1 = 20ull;
     w2c_j0 += w2c_j1;
     w2c_i0 = (u32)(w2c_j0);
     w2c_i0 = i32_load_of_text(m, (u64)(w2c_i0));
-    w2c_l18 = w2c_i0;
-    w2c_j0 = w2c_l7;
+    w2c_l17 = w2c_i0;
+    w2c_j0 = w2c_l9;
     w2c_j1 = 16ull;
     w2c_j0 += w2c_j1;
     w2c_i0 = (u32)(w2c_j0);
     w2c_i0 = i32_load8_u(m, (u64)(w2c_i0));
-    w2c_l17 = w2c_i0;
-    w2c_j0 = w2c_l7;
-    w2c_j1 = 8ull;
-    w2c_j0 += w2c_j1;
-    w2c_i0 = (u32)(w2c_j0);
-    w2c_j0 = i64_load(m, (u64)(w2c_i0));
-    w2c_l7 = w2c_j0;
+    w2c_l16 = w2c_i0;
     w2c_j0 = w2c_l4;
     w2c_i0 = (u32)(w2c_j0);
     w2c_j1 = 0ull;
@@ -20478,27 +20481,27 @@ static void w2c_f23(module *m, u64 w2c_p0, u32 w2c_p1, u64 w2c_p2, u64 w2c_p3) {
     w2c_i0 = (u32)(w2c_j0);
     w2c_i1 = 1u;
     i32_store16(m, (u64)(w2c_i0) + 200, w2c_i1);
-    w2c_j0 = w2c_l11;
+    w2c_j0 = w2c_l13;
     w2c_i0 = (u32)(w2c_j0);
     w2c_i1 = 0u;
     i32_store8(m, (u64)(w2c_i0) + 4, w2c_i1);
-    w2c_j0 = w2c_l11;
+    w2c_j0 = w2c_l13;
     w2c_i0 = (u32)(w2c_j0);
     w2c_i1 = 0u;
     i32_store(m, (u64)(w2c_i0), w2c_i1);
-    w2c_j0 = w2c_l10;
+    w2c_j0 = w2c_l8;
     w2c_i0 = (u32)(w2c_j0);
     w2c_j1 = 0ull;
     i64_store(m, (u64)(w2c_i0), w2c_j1);
-    w2c_j0 = w2c_l10;
+    w2c_j0 = w2c_l8;
     w2c_i0 = (u32)(w2c_j0);
     w2c_j1 = 0ull;
     i64_store(m, (u64)(w2c_i0) + 8, w2c_j1);
-    w2c_j0 = w2c_l10;
+    w2c_j0 = w2c_l8;
     w2c_i0 = (u32)(w2c_j0);
     w2c_j1 = 0ull;
     i64_store(m, (u64)(w2c_i0) + 16, w2c_j1);
-    w2c_j0 = w2c_l10;
+    w2c_j0 = w2c_l8;
     w2c_i0 = (u32)(w2c_j0);
     w2c_j1 = 0ull;
     i64_store(m, (u64)(w2c_i0) + 23, w2c_j1);
@@ -20518,20 +20521,13 @@ static void w2c_f23(module *m, u64 w2c_p0, u32 w2c_p1, u64 w2c_p2, u64 w2c_p3) {
     w2c_f14(m, w2c_j0, w2c_j1, w2c_j2, w2c_j3, w2c_j4);
     w2c_j0 = w2c_l4;
     w2c_i0 = (u32)(w2c_j0);
-    w2c_j0 = i64_load(m, (u64)(w2c_i0) + 344u);
-    w2c_l14 = w2c_j0;
-    w2c_j1 = w2c_l7;
-    w2c_i0 = w2c_j0 < w2c_j1;
-    if (w2c_i0) {goto w2c_B294;}
-    w2c_j0 = w2c_l4;
-    w2c_i0 = (u32)(w2c_j0);
     w2c_j0 = i64_load(m, (u64)(w2c_i0) + 360u);
     w2c_l9 = w2c_j0;
     w2c_j0 = w2c_l4;
     w2c_i0 = (u32)(w2c_j0);
     w2c_j0 = i64_load(m, (u64)(w2c_i0) + 352u);
-    w2c_l12 = w2c_j0;
-    w2c_i0 = w2c_l17;
+    w2c_l10 = w2c_j0;
+    w2c_i0 = w2c_l16;
     switch (w2c_i0) {
       case 0: goto w2c_B304;
       case 1: goto w2c_B303;
@@ -20563,55 +20559,55 @@ static void w2c_f23(module *m, u64 w2c_p0, u32 w2c_p1, u64 w2c_p2, u64 w2c_p3) {
     w2c_i0 = (u32)(w2c_j0);
     w2c_j1 = 0ull;
     i64_store(m, (u64)(w2c_i0) + 368, w2c_j1);
-    w2c_i0 = w2c_l18;
+    w2c_i0 = w2c_l17;
     w2c_i1 = 127u;
     w2c_i0 = w2c_i0 > w2c_i1;
     if (w2c_i0) {goto w2c_B305;}
-    w2c_i0 = w2c_l18;
+    w2c_i0 = w2c_l17;
     w2c_i1 = 4294967287u;
     w2c_i0 += w2c_i1;
     w2c_i1 = 5u;
     w2c_i0 = w2c_i0 < w2c_i1;
     if (w2c_i0) {goto w2c_B296;}
-    w2c_i0 = w2c_l18;
+    w2c_i0 = w2c_l17;
     w2c_i1 = 32u;
     w2c_i0 = w2c_i0 != w2c_i1;
     if (w2c_i0) {goto w2c_B297;}
     goto w2c_B296;
     w2c_B305:;
-    w2c_i0 = w2c_l18;
+    w2c_i0 = w2c_l17;
     w2c_i1 = 4294959104u;
     w2c_i0 += w2c_i1;
     w2c_i1 = 11u;
     w2c_i0 = w2c_i0 < w2c_i1;
     if (w2c_i0) {goto w2c_B296;}
-    w2c_i0 = w2c_l18;
+    w2c_i0 = w2c_l17;
     w2c_i1 = 8231u;
     w2c_i0 = (u32)((s32)w2c_i0 > (s32)w2c_i1);
     if (w2c_i0) {goto w2c_B306;}
-    w2c_i0 = w2c_l18;
+    w2c_i0 = w2c_l17;
     w2c_i1 = 133u;
     w2c_i0 = w2c_i0 == w2c_i1;
     if (w2c_i0) {goto w2c_B296;}
-    w2c_i0 = w2c_l18;
+    w2c_i0 = w2c_l17;
     w2c_i1 = 160u;
     w2c_i0 = w2c_i0 == w2c_i1;
     if (w2c_i0) {goto w2c_B296;}
-    w2c_i0 = w2c_l18;
+    w2c_i0 = w2c_l17;
     w2c_i1 = 5760u;
     w2c_i0 = w2c_i0 != w2c_i1;
     if (w2c_i0) {goto w2c_B297;}
     goto w2c_B296;
     w2c_B306:;
-    w2c_i0 = w2c_l18;
+    w2c_i0 = w2c_l17;
     w2c_i1 = 4294959064u;
     w2c_i0 += w2c_i1;
-    w2c_l21 = w2c_i0;
+    w2c_l20 = w2c_i0;
     w2c_i1 = 55u;
     w2c_i0 = w2c_i0 > w2c_i1;
     if (w2c_i0) {goto w2c_B298;}
     w2c_j0 = 1ull;
-    w2c_i1 = w2c_l21;
+    w2c_i1 = w2c_l20;
     w2c_j1 = (u64)(w2c_i1);
     w2c_j0 <<= (w2c_j1 & 63);
     w2c_j1 = 36028797018964099ull;
@@ -20624,32 +20620,32 @@ static void w2c_f23(module *m, u64 w2c_p0, u32 w2c_p1, u64 w2c_p2, u64 w2c_p3) {
     w2c_j0 = w2c_l9;
     w2c_i0 = !(w2c_j0);
     if (w2c_i0) {goto w2c_B294;}
-    w2c_j0 = w2c_l12;
+    w2c_j0 = w2c_l10;
     w2c_i0 = (u32)(w2c_j0);
     w2c_i0 = i32_load8_s(m, (u64)(w2c_i0));
-    w2c_l21 = w2c_i0;
+    w2c_l20 = w2c_i0;
     w2c_i1 = 4294967295u;
     w2c_i0 = (u32)((s32)w2c_i0 <= (s32)w2c_i1);
     if (w2c_i0) {goto w2c_B308;}
     w2c_j0 = 1ull;
-    w2c_l15 = w2c_j0;
+    w2c_l14 = w2c_j0;
     goto w2c_B307;
     w2c_B308:;
-    w2c_i0 = w2c_l21;
+    w2c_i0 = w2c_l20;
     w2c_i1 = 4294967264u;
     w2c_i0 = w2c_i0 >= w2c_i1;
     if (w2c_i0) {goto w2c_B309;}
     w2c_j0 = 2ull;
-    w2c_l15 = w2c_j0;
+    w2c_l14 = w2c_j0;
     goto w2c_B307;
     w2c_B309:;
     w2c_j0 = 3ull;
     w2c_j1 = 4ull;
-    w2c_i2 = w2c_l21;
+    w2c_i2 = w2c_l20;
     w2c_i3 = 4294967280u;
     w2c_i2 = w2c_i2 < w2c_i3;
     w2c_j0 = w2c_i2 ? w2c_j0 : w2c_j1;
-    w2c_l15 = w2c_j0;
+    w2c_l14 = w2c_j0;
     w2c_B307:;
     w2c_j0 = w2c_l4;
     w2c_i0 = (u32)(w2c_j0);
@@ -20676,62 +20672,62 @@ static void w2c_f23(module *m, u64 w2c_p0, u32 w2c_p1, u64 w2c_p2, u64 w2c_p3) {
     w2c_j1 = 0ull;
     i64_store(m, (u64)(w2c_i0) + 368, w2c_j1);
     w2c_j0 = w2c_l9;
-    w2c_j1 = w2c_l15;
+    w2c_j1 = w2c_l14;
     w2c_j0 -= w2c_j1;
     w2c_l9 = w2c_j0;
-    w2c_j0 = w2c_l12;
-    w2c_j1 = w2c_l15;
+    w2c_j0 = w2c_l10;
+    w2c_j1 = w2c_l14;
     w2c_j0 += w2c_j1;
-    w2c_l12 = w2c_j0;
-    w2c_i0 = w2c_l18;
+    w2c_l10 = w2c_j0;
+    w2c_i0 = w2c_l17;
     w2c_i1 = 127u;
     w2c_i0 = w2c_i0 > w2c_i1;
     if (w2c_i0) {goto w2c_B310;}
-    w2c_i0 = w2c_l18;
+    w2c_i0 = w2c_l17;
     w2c_i1 = 4294967287u;
     w2c_i0 += w2c_i1;
     w2c_i1 = 5u;
     w2c_i0 = w2c_i0 < w2c_i1;
     if (w2c_i0) {goto w2c_B299;}
-    w2c_i0 = w2c_l18;
+    w2c_i0 = w2c_l17;
     w2c_i1 = 32u;
     w2c_i0 = w2c_i0 != w2c_i1;
     if (w2c_i0) {goto w2c_B300;}
     goto w2c_B299;
     w2c_B310:;
-    w2c_i0 = w2c_l18;
+    w2c_i0 = w2c_l17;
     w2c_i1 = 4294959104u;
     w2c_i0 += w2c_i1;
     w2c_i1 = 11u;
     w2c_i0 = w2c_i0 < w2c_i1;
     if (w2c_i0) {goto w2c_B299;}
-    w2c_i0 = w2c_l18;
+    w2c_i0 = w2c_l17;
     w2c_i1 = 8231u;
     w2c_i0 = (u32)((s32)w2c_i0 > (s32)w2c_i1);
     if (w2c_i0) {goto w2c_B311;}
-    w2c_i0 = w2c_l18;
+    w2c_i0 = w2c_l17;
     w2c_i1 = 133u;
     w2c_i0 = w2c_i0 == w2c_i1;
     if (w2c_i0) {goto w2c_B299;}
-    w2c_i0 = w2c_l18;
+    w2c_i0 = w2c_l17;
     w2c_i1 = 160u;
     w2c_i0 = w2c_i0 == w2c_i1;
     if (w2c_i0) {goto w2c_B299;}
-    w2c_i0 = w2c_l18;
+    w2c_i0 = w2c_l17;
     w2c_i1 = 5760u;
     w2c_i0 = w2c_i0 != w2c_i1;
     if (w2c_i0) {goto w2c_B300;}
     goto w2c_B299;
     w2c_B311:;
-    w2c_i0 = w2c_l18;
+    w2c_i0 = w2c_l17;
     w2c_i1 = 4294959064u;
     w2c_i0 += w2c_i1;
-    w2c_l21 = w2c_i0;
+    w2c_l20 = w2c_i0;
     w2c_i1 = 55u;
     w2c_i0 = w2c_i0 > w2c_i1;
     if (w2c_i0) {goto w2c_B301;}
     w2c_j0 = 1ull;
-    w2c_i1 = w2c_l21;
+    w2c_i1 = w2c_l20;
     w2c_j1 = (u64)(w2c_i1);
     w2c_j0 <<= (w2c_j1 & 63);
     w2c_j1 = 36028797018964099ull;
@@ -20744,32 +20740,32 @@ static void w2c_f23(module *m, u64 w2c_p0, u32 w2c_p1, u64 w2c_p2, u64 w2c_p3) {
     w2c_j0 = w2c_l9;
     w2c_i0 = !(w2c_j0);
     if (w2c_i0) {goto w2c_B294;}
-    w2c_j0 = w2c_l12;
+    w2c_j0 = w2c_l10;
     w2c_i0 = (u32)(w2c_j0);
     w2c_i0 = i32_load8_s(m, (u64)(w2c_i0));
-    w2c_l21 = w2c_i0;
+    w2c_l20 = w2c_i0;
     w2c_i1 = 4294967295u;
     w2c_i0 = (u32)((s32)w2c_i0 <= (s32)w2c_i1);
     if (w2c_i0) {goto w2c_B313;}
     w2c_j0 = 1ull;
-    w2c_l15 = w2c_j0;
+    w2c_l14 = w2c_j0;
     goto w2c_B312;
     w2c_B313:;
-    w2c_i0 = w2c_l21;
+    w2c_i0 = w2c_l20;
     w2c_i1 = 4294967264u;
     w2c_i0 = w2c_i0 >= w2c_i1;
     if (w2c_i0) {goto w2c_B314;}
     w2c_j0 = 2ull;
-    w2c_l15 = w2c_j0;
+    w2c_l14 = w2c_j0;
     goto w2c_B312;
     w2c_B314:;
     w2c_j0 = 3ull;
     w2c_j1 = 4ull;
-    w2c_i2 = w2c_l21;
+    w2c_i2 = w2c_l20;
     w2c_i3 = 4294967280u;
     w2c_i2 = w2c_i2 < w2c_i3;
     w2c_j0 = w2c_i2 ? w2c_j0 : w2c_j1;
-    w2c_l15 = w2c_j0;
+    w2c_l14 = w2c_j0;
     w2c_B312:;
     w2c_j0 = w2c_l4;
     w2c_i0 = (u32)(w2c_j0);
@@ -20802,16 +20798,16 @@ static void w2c_f23(module *m, u64 w2c_p0, u32 w2c_p1, u64 w2c_p2, u64 w2c_p3) {
     w2c_j1 = i64_load(m, (u64)(w2c_i1) + 304u);
     i64_store(m, (u64)(w2c_i0) + 48, w2c_j1);
     w2c_j0 = w2c_l9;
-    w2c_j1 = w2c_l15;
+    w2c_j1 = w2c_l14;
     w2c_j0 -= w2c_j1;
     w2c_l9 = w2c_j0;
-    w2c_j0 = w2c_l12;
-    w2c_j1 = w2c_l15;
+    w2c_j0 = w2c_l10;
+    w2c_j1 = w2c_l14;
     w2c_j0 += w2c_j1;
-    w2c_l12 = w2c_j0;
+    w2c_l10 = w2c_j0;
     goto w2c_B295;
     w2c_B301:;
-    w2c_i0 = w2c_l18;
+    w2c_i0 = w2c_l17;
     w2c_i1 = 12288u;
     w2c_i0 = w2c_i0 == w2c_i1;
     if (w2c_i0) {goto w2c_B299;}
@@ -20822,7 +20818,7 @@ static void w2c_f23(module *m, u64 w2c_p0, u32 w2c_p1, u64 w2c_p2, u64 w2c_p3) {
     w2c_j1 = w2c_l4;
     w2c_j2 = 304ull;
     w2c_j1 += w2c_j2;
-    w2c_i2 = w2c_l18;
+    w2c_i2 = w2c_l17;
     w2c_f20(m, w2c_j0, w2c_j1, w2c_i2);
     w2c_j0 = w2c_l4;
     w2c_i0 = (u32)(w2c_j0);
@@ -20832,31 +20828,31 @@ static void w2c_f23(module *m, u64 w2c_p0, u32 w2c_p1, u64 w2c_p2, u64 w2c_p3) {
     if (w2c_i0) {goto w2c_B294;}
     w2c_j0 = w2c_l4;
     w2c_i0 = (u32)(w2c_j0);
-    w2c_j1 = w2c_l16;
+    w2c_j1 = w2c_l6;
     w2c_i1 = (u32)(w2c_j1);
     w2c_j1 = i64_load(m, (u64)(w2c_i1) + 32u);
     i64_store(m, (u64)(w2c_i0) + 80, w2c_j1);
     w2c_j0 = w2c_l4;
     w2c_i0 = (u32)(w2c_j0);
-    w2c_j1 = w2c_l16;
+    w2c_j1 = w2c_l6;
     w2c_i1 = (u32)(w2c_j1);
     w2c_j1 = i64_load(m, (u64)(w2c_i1) + 24u);
     i64_store(m, (u64)(w2c_i0) + 72, w2c_j1);
     w2c_j0 = w2c_l4;
     w2c_i0 = (u32)(w2c_j0);
-    w2c_j1 = w2c_l16;
+    w2c_j1 = w2c_l6;
     w2c_i1 = (u32)(w2c_j1);
     w2c_j1 = i64_load(m, (u64)(w2c_i1) + 16u);
     i64_store(m, (u64)(w2c_i0) + 64, w2c_j1);
     w2c_j0 = w2c_l4;
     w2c_i0 = (u32)(w2c_j0);
-    w2c_j1 = w2c_l16;
+    w2c_j1 = w2c_l6;
     w2c_i1 = (u32)(w2c_j1);
     w2c_j1 = i64_load(m, (u64)(w2c_i1) + 8u);
     i64_store(m, (u64)(w2c_i0) + 56, w2c_j1);
     w2c_j0 = w2c_l4;
     w2c_i0 = (u32)(w2c_j0);
-    w2c_j1 = w2c_l16;
+    w2c_j1 = w2c_l6;
     w2c_i1 = (u32)(w2c_j1);
     w2c_j1 = i64_load(m, (u64)(w2c_i1));
     i64_store(m, (u64)(w2c_i0) + 48, w2c_j1);
@@ -20894,7 +20890,7 @@ static void w2c_f23(module *m, u64 w2c_p0, u32 w2c_p1, u64 w2c_p2, u64 w2c_p3) {
     i64_store(m, (u64)(w2c_i0) + 48, w2c_j1);
     goto w2c_B295;
     w2c_B298:;
-    w2c_i0 = w2c_l18;
+    w2c_i0 = w2c_l17;
     w2c_i1 = 12288u;
     w2c_i0 = w2c_i0 == w2c_i1;
     if (w2c_i0) {goto w2c_B296;}
@@ -20905,7 +20901,7 @@ static void w2c_f23(module *m, u64 w2c_p0, u32 w2c_p1, u64 w2c_p2, u64 w2c_p3) {
     w2c_j1 = w2c_l4;
     w2c_j2 = 304ull;
     w2c_j1 += w2c_j2;
-    w2c_i2 = w2c_l18;
+    w2c_i2 = w2c_l17;
     w2c_f20(m, w2c_j0, w2c_j1, w2c_i2);
     w2c_j0 = w2c_l4;
     w2c_i0 = (u32)(w2c_j0);
@@ -20915,31 +20911,31 @@ static void w2c_f23(module *m, u64 w2c_p0, u32 w2c_p1, u64 w2c_p2, u64 w2c_p3) {
     if (w2c_i0) {goto w2c_B294;}
     w2c_j0 = w2c_l4;
     w2c_i0 = (u32)(w2c_j0);
-    w2c_j1 = w2c_l16;
+    w2c_j1 = w2c_l6;
     w2c_i1 = (u32)(w2c_j1);
     w2c_j1 = i64_load(m, (u64)(w2c_i1) + 32u);
     i64_store(m, (u64)(w2c_i0) + 80, w2c_j1);
     w2c_j0 = w2c_l4;
     w2c_i0 = (u32)(w2c_j0);
-    w2c_j1 = w2c_l16;
+    w2c_j1 = w2c_l6;
     w2c_i1 = (u32)(w2c_j1);
     w2c_j1 = i64_load(m, (u64)(w2c_i1) + 24u);
     i64_store(m, (u64)(w2c_i0) + 72, w2c_j1);
     w2c_j0 = w2c_l4;
     w2c_i0 = (u32)(w2c_j0);
-    w2c_j1 = w2c_l16;
+    w2c_j1 = w2c_l6;
     w2c_i1 = (u32)(w2c_j1);
     w2c_j1 = i64_load(m, (u64)(w2c_i1) + 16u);
     i64_store(m, (u64)(w2c_i0) + 64, w2c_j1);
     w2c_j0 = w2c_l4;
     w2c_i0 = (u32)(w2c_j0);
-    w2c_j1 = w2c_l16;
+    w2c_j1 = w2c_l6;
     w2c_i1 = (u32)(w2c_j1);
     w2c_j1 = i64_load(m, (u64)(w2c_i1) + 8u);
     i64_store(m, (u64)(w2c_i0) + 56, w2c_j1);
     w2c_j0 = w2c_l4;
     w2c_i0 = (u32)(w2c_j0);
-    w2c_j1 = w2c_l16;
+    w2c_j1 = w2c_l6;
     w2c_i1 = (u32)(w2c_j1);
     w2c_j1 = i64_load(m, (u64)(w2c_i1));
     i64_store(m, (u64)(w2c_i0) + 48, w2c_j1);
@@ -20982,14 +20978,10 @@ static void w2c_f23(module *m, u64 w2c_p0, u32 w2c_p1, u64 w2c_p2, u64 w2c_p3) {
     w2c_j1 = w2c_l4;
     w2c_j2 = 48ull;
     w2c_j1 += w2c_j2;
-    w2c_j2 = w2c_l12;
+    w2c_j2 = w2c_l10;
     w2c_j3 = w2c_l9;
     w2c_j4 = 18446744073709551615ull;
     w2c_f14(m, w2c_j0, w2c_j1, w2c_j2, w2c_j3, w2c_j4);
-    w2c_j0 = w2c_l13;
-    w2c_j1 = w2c_l7;
-    w2c_i0 = w2c_j0 < w2c_j1;
-    if (w2c_i0) {goto w2c_B294;}
     w2c_j0 = w2c_l4;
     w2c_i0 = (u32)(w2c_j0);
     w2c_j0 = i64_load(m, (u64)(w2c_i0) + 296u);
@@ -20997,19 +20989,19 @@ static void w2c_f23(module *m, u64 w2c_p0, u32 w2c_p1, u64 w2c_p2, u64 w2c_p3) {
     w2c_i0 = w2c_j0 != w2c_j1;
     if (w2c_i0) {goto w2c_B315;}
     w2c_i0 = 1u;
-    w2c_l21 = w2c_i0;
-    w2c_j0 = w2c_l8;
+    w2c_l20 = w2c_i0;
+    w2c_j0 = w2c_l12;
     w2c_j1 = 0ull;
     w2c_i0 = w2c_j0 != w2c_j1;
     if (w2c_i0) {goto w2c_B0;}
     w2c_j0 = w2c_l4;
     w2c_i0 = (u32)(w2c_j0);
     w2c_i0 = i32_load8_u(m, (u64)(w2c_i0) + 248u);
-    w2c_l19 = w2c_i0;
+    w2c_l18 = w2c_i0;
     w2c_i1 = 17u;
     w2c_i0 = w2c_i0 < w2c_i1;
     if (w2c_i0) {goto w2c_B294;}
-    w2c_i0 = w2c_l19;
+    w2c_i0 = w2c_l18;
     w2c_i1 = 4294967279u;
     w2c_i0 += w2c_i1;
     switch (w2c_i0) {
@@ -21019,11 +21011,13 @@ static void w2c_f23(module *m, u64 w2c_p0, u32 w2c_p1, u64 w2c_p2, u64 w2c_p3) {
       default: goto w2c_B0;
     }
     w2c_B315:;
-    w2c_j0 = w2c_l8;
+    w2c_j0 = w2c_l12;
     w2c_i0 = !(w2c_j0);
     if (w2c_i0) {goto w2c_B294;}
-    w2c_j0 = w2c_l14;
-    w2c_i1 = w2c_l17;
+    w2c_j0 = w2c_l4;
+    w2c_i0 = (u32)(w2c_j0);
+    w2c_j0 = i64_load(m, (u64)(w2c_i0) + 344u);
+    w2c_i1 = w2c_l16;
     w2c_i2 = 2u;
     w2c_i1 = w2c_i1 != w2c_i2;
     w2c_j1 = (u64)(w2c_i1);
@@ -21034,8 +21028,8 @@ static void w2c_f23(module *m, u64 w2c_p0, u32 w2c_p1, u64 w2c_p2, u64 w2c_p3) {
     w2c_j0 += w2c_j1;
     w2c_l9 = w2c_j0;
     w2c_j0 = 2ull;
-    w2c_l12 = w2c_j0;
-    w2c_i0 = w2c_l17;
+    w2c_l10 = w2c_j0;
+    w2c_i0 = w2c_l16;
     switch (w2c_i0) {
       case 0: goto w2c_B316;
       case 1: goto w2c_B318;
@@ -21044,26 +21038,26 @@ static void w2c_f23(module *m, u64 w2c_p0, u32 w2c_p1, u64 w2c_p2, u64 w2c_p3) {
     }
     w2c_B318:;
     w2c_j0 = 1ull;
-    w2c_l12 = w2c_j0;
+    w2c_l10 = w2c_j0;
     goto w2c_B316;
     w2c_B317:;
     w2c_j0 = w2c_l7;
-    w2c_j1 = w2c_l13;
+    w2c_j1 = w2c_l11;
     w2c_i0 = w2c_j0 == w2c_j1;
     w2c_j0 = (u64)(w2c_i0);
-    w2c_l12 = w2c_j0;
+    w2c_l10 = w2c_j0;
     w2c_B316:;
     w2c_i0 = 1u;
-    w2c_l21 = w2c_i0;
-    w2c_j0 = w2c_l12;
-    w2c_j1 = w2c_l13;
+    w2c_l20 = w2c_i0;
+    w2c_j0 = w2c_l10;
+    w2c_j1 = w2c_l11;
     w2c_j0 += w2c_j1;
-    w2c_l12 = w2c_j0;
+    w2c_l10 = w2c_j0;
     w2c_j1 = w2c_l9;
     w2c_i0 = w2c_j0 < w2c_j1;
     if (w2c_i0) {goto w2c_B0;}
     w2c_j0 = w2c_l9;
-    w2c_j1 = w2c_l12;
+    w2c_j1 = w2c_l10;
     w2c_i0 = w2c_j0 != w2c_j1;
     if (w2c_i0) {goto w2c_B294;}
     w2c_j0 = w2c_l4;
@@ -21072,11 +21066,11 @@ static void w2c_f23(module *m, u64 w2c_p0, u32 w2c_p1, u64 w2c_p2, u64 w2c_p3) {
     w2c_l9 = w2c_j0;
     w2c_i0 = (u32)(w2c_j0);
     w2c_i0 = i32_load8_s(m, (u64)(w2c_i0));
-    w2c_l20 = w2c_i0;
+    w2c_l19 = w2c_i0;
     w2c_i1 = 255u;
     w2c_i0 &= w2c_i1;
-    w2c_l19 = w2c_i0;
-    w2c_i0 = w2c_l20;
+    w2c_l18 = w2c_i0;
+    w2c_i0 = w2c_l19;
     w2c_i1 = 4294967295u;
     w2c_i0 = (u32)((s32)w2c_i0 > (s32)w2c_i1);
     if (w2c_i0) {goto w2c_B319;}
@@ -21085,19 +21079,19 @@ static void w2c_f23(module *m, u64 w2c_p0, u32 w2c_p1, u64 w2c_p2, u64 w2c_p3) {
     w2c_i0 = i32_load8_u(m, (u64)(w2c_i0) + 1u);
     w2c_i1 = 63u;
     w2c_i0 &= w2c_i1;
-    w2c_l23 = w2c_i0;
-    w2c_i0 = w2c_l20;
+    w2c_l22 = w2c_i0;
+    w2c_i0 = w2c_l19;
     w2c_i1 = 4294967263u;
     w2c_i0 = w2c_i0 > w2c_i1;
     if (w2c_i0) {goto w2c_B320;}
-    w2c_i0 = w2c_l19;
+    w2c_i0 = w2c_l18;
     w2c_i1 = 6u;
     w2c_i0 <<= (w2c_i1 & 31);
     w2c_i1 = 1984u;
     w2c_i0 &= w2c_i1;
-    w2c_i1 = w2c_l23;
+    w2c_i1 = w2c_l22;
     w2c_i0 |= w2c_i1;
-    w2c_l19 = w2c_i0;
+    w2c_l18 = w2c_i0;
     goto w2c_B319;
     w2c_B320:;
     w2c_j0 = w2c_l9;
@@ -21105,32 +21099,32 @@ static void w2c_f23(module *m, u64 w2c_p0, u32 w2c_p1, u64 w2c_p2, u64 w2c_p3) {
     w2c_i0 = i32_load8_u(m, (u64)(w2c_i0) + 2u);
     w2c_i1 = 63u;
     w2c_i0 &= w2c_i1;
-    w2c_l22 = w2c_i0;
-    w2c_i0 = w2c_l20;
+    w2c_l21 = w2c_i0;
+    w2c_i0 = w2c_l19;
     w2c_i1 = 4294967279u;
     w2c_i0 = w2c_i0 > w2c_i1;
     if (w2c_i0) {goto w2c_B321;}
-    w2c_i0 = w2c_l23;
+    w2c_i0 = w2c_l22;
     w2c_i1 = 6u;
     w2c_i0 <<= (w2c_i1 & 31);
-    w2c_i1 = w2c_l19;
+    w2c_i1 = w2c_l18;
     w2c_i2 = 12u;
     w2c_i1 <<= (w2c_i2 & 31);
     w2c_i2 = 61440u;
     w2c_i1 &= w2c_i2;
     w2c_i0 |= w2c_i1;
-    w2c_i1 = w2c_l22;
+    w2c_i1 = w2c_l21;
     w2c_i0 |= w2c_i1;
-    w2c_l19 = w2c_i0;
+    w2c_l18 = w2c_i0;
     goto w2c_B319;
     w2c_B321:;
-    w2c_i0 = w2c_l22;
+    w2c_i0 = w2c_l21;
     w2c_i1 = 6u;
     w2c_i0 <<= (w2c_i1 & 31);
-    w2c_i1 = w2c_l23;
+    w2c_i1 = w2c_l22;
     w2c_i2 = 12u;
     w2c_i1 <<= (w2c_i2 & 31);
-    w2c_i2 = w2c_l19;
+    w2c_i2 = w2c_l18;
     w2c_i3 = 18u;
     w2c_i2 <<= (w2c_i3 & 31);
     w2c_i3 = 1835008u;
@@ -21143,11 +21137,11 @@ static void w2c_f23(module *m, u64 w2c_p0, u32 w2c_p1, u64 w2c_p2, u64 w2c_p3) {
     w2c_i2 = 63u;
     w2c_i1 &= w2c_i2;
     w2c_i0 |= w2c_i1;
-    w2c_l19 = w2c_i0;
+    w2c_l18 = w2c_i0;
     w2c_B319:;
     w2c_j0 = w2c_l4;
     w2c_i0 = (u32)(w2c_j0);
-    w2c_i1 = w2c_l19;
+    w2c_i1 = w2c_l18;
     i32_store(m, (u64)(w2c_i0) + 304, w2c_i1);
     w2c_j0 = 66048ull;
     w2c_j1 = 47ull;
@@ -21291,15 +21285,15 @@ static void w2c_f23(module *m, u64 w2c_p0, u32 w2c_p1, u64 w2c_p2, u64 w2c_p3) {
   w2c_j0 = w2c_l4;
   w2c_i0 = (u32)(w2c_j0);
   w2c_j0 = i64_load(m, (u64)(w2c_i0) + 192u);
-  w2c_l8 = w2c_j0;
+  w2c_l12 = w2c_j0;
   w2c_j0 = w2c_l4;
   w2c_i0 = (u32)(w2c_j0);
   w2c_i0 = i32_load8_u(m, (u64)(w2c_i0) + 144u);
-  w2c_l17 = w2c_i0;
+  w2c_l16 = w2c_i0;
   w2c_i1 = 17u;
   w2c_i0 = w2c_i0 < w2c_i1;
   if (w2c_i0) {goto w2c_B322;}
-  w2c_i0 = w2c_l17;
+  w2c_i0 = w2c_l16;
   w2c_i1 = 4294967279u;
   w2c_i0 += w2c_i1;
   switch (w2c_i0) {
@@ -21309,14 +21303,14 @@ static void w2c_f23(module *m, u64 w2c_p0, u32 w2c_p1, u64 w2c_p2, u64 w2c_p3) {
     default: goto w2c_B323;
   }
   w2c_B323:;
-  w2c_j0 = w2c_l8;
+  w2c_j0 = w2c_l12;
   w2c_i0 = !(w2c_j0);
   if (w2c_i0) {goto w2c_B1;}
   w2c_B322:;
   w2c_j0 = w2c_l4;
   w2c_i0 = (u32)(w2c_j0);
   w2c_j0 = i64_load(m, (u64)(w2c_i0) + 176u);
-  w2c_l13 = w2c_j0;
+  w2c_l11 = w2c_j0;
   w2c_j0 = w2c_l4;
   w2c_j1 = 1088ull;
   w2c_j0 += w2c_j1;
@@ -21329,7 +21323,7 @@ static void w2c_f23(module *m, u64 w2c_p0, u32 w2c_p1, u64 w2c_p2, u64 w2c_p3) {
   w2c_j0 += w2c_j1;
   w2c_j1 = w2c_p2;
   w2c_j2 = w2c_p3;
-  w2c_j3 = w2c_l13;
+  w2c_j3 = w2c_l11;
   w2c_j4 = w2c_l4;
   w2c_j5 = 1088ull;
   w2c_j4 += w2c_j5;
@@ -21357,47 +21351,50 @@ static void w2c_f23(module *m, u64 w2c_p0, u32 w2c_p1, u64 w2c_p2, u64 w2c_p3) {
   w2c_j0 = w2c_l4;
   w2c_j1 = 376ull;
   w2c_j0 += w2c_j1;
-  w2c_l16 = w2c_j0;
+  w2c_l6 = w2c_j0;
   w2c_j0 = w2c_l4;
   w2c_j1 = 209ull;
   w2c_j0 += w2c_j1;
-  w2c_l10 = w2c_j0;
+  w2c_l8 = w2c_j0;
   w2c_j0 = w2c_l4;
   w2c_j1 = 200ull;
   w2c_j0 += w2c_j1;
   w2c_j1 = 3ull;
   w2c_j0 |= w2c_j1;
-  w2c_l11 = w2c_j0;
+  w2c_l13 = w2c_j0;
   w2c_L324:
     w2c_j0 = w2c_l4;
     w2c_j1 = 416ull;
     w2c_j0 += w2c_j1;
     w2c_j1 = w2c_l5;
     w2c_j0 += w2c_j1;
-    w2c_l7 = w2c_j0;
+    w2c_l9 = w2c_j0;
     w2c_i0 = (u32)(w2c_j0);
     w2c_i0 = i32_load8_u(m, (u64)(w2c_i0));
     w2c_i1 = 1u;
     w2c_i0 = w2c_i0 != w2c_i1;
     if (w2c_i0) {goto w2c_B325;}
-    w2c_j0 = w2c_l7;
+    w2c_j0 = w2c_l11;
+    w2c_j1 = w2c_l9;
+    w2c_j2 = 8ull;
+    w2c_j1 += w2c_j2;
+    w2c_i1 = (u32)(w2c_j1);
+    w2c_j1 = i64_load(m, (u64)(w2c_i1));
+    w2c_l7 = w2c_j1;
+    w2c_i0 = w2c_j0 < w2c_j1;
+    if (w2c_i0) {goto w2c_B325;}
+    w2c_j0 = w2c_l9;
     w2c_j1 = 20ull;
     w2c_j0 += w2c_j1;
     w2c_i0 = (u32)(w2c_j0);
     w2c_i0 = i32_load_of_text(m, (u64)(w2c_i0));
-    w2c_l18 = w2c_i0;
-    w2c_j0 = w2c_l7;
+    w2c_l17 = w2c_i0;
+    w2c_j0 = w2c_l9;
     w2c_j1 = 16ull;
     w2c_j0 += w2c_j1;
     w2c_i0 = (u32)(w2c_j0);
     w2c_i0 = i32_load8_u(m, (u64)(w2c_i0));
-    w2c_l17 = w2c_i0;
-    w2c_j0 = w2c_l7;
-    w2c_j1 = 8ull;
-    w2c_j0 += w2c_j1;
-    w2c_i0 = (u32)(w2c_j0);
-    w2c_j0 = i64_load(m, (u64)(w2c_i0));
-    w2c_l7 = w2c_j0;
+    w2c_l16 = w2c_i0;
     w2c_j0 = w2c_l4;
     w2c_i0 = (u32)(w2c_j0);
     w2c_j1 = 0ull;
@@ -21470,27 +21467,27 @@ static void w2c_f23(module *m, u64 w2c_p0, u32 w2c_p1, u64 w2c_p2, u64 w2c_p3) {
     w2c_i0 = (u32)(w2c_j0);
     w2c_i1 = 257u;
     i32_store16(m, (u64)(w2c_i0) + 200, w2c_i1);
-    w2c_j0 = w2c_l11;
+    w2c_j0 = w2c_l13;
     w2c_i0 = (u32)(w2c_j0);
     w2c_i1 = 0u;
     i32_store8(m, (u64)(w2c_i0) + 4, w2c_i1);
-    w2c_j0 = w2c_l11;
+    w2c_j0 = w2c_l13;
     w2c_i0 = (u32)(w2c_j0);
     w2c_i1 = 0u;
     i32_store(m, (u64)(w2c_i0), w2c_i1);
-    w2c_j0 = w2c_l10;
+    w2c_j0 = w2c_l8;
     w2c_i0 = (u32)(w2c_j0);
     w2c_j1 = 0ull;
     i64_store(m, (u64)(w2c_i0), w2c_j1);
-    w2c_j0 = w2c_l10;
+    w2c_j0 = w2c_l8;
     w2c_i0 = (u32)(w2c_j0);
     w2c_j1 = 0ull;
     i64_store(m, (u64)(w2c_i0) + 8, w2c_j1);
-    w2c_j0 = w2c_l10;
+    w2c_j0 = w2c_l8;
     w2c_i0 = (u32)(w2c_j0);
     w2c_j1 = 0ull;
     i64_store(m, (u64)(w2c_i0) + 16, w2c_j1);
-    w2c_j0 = w2c_l10;
+    w2c_j0 = w2c_l8;
     w2c_i0 = (u32)(w2c_j0);
     w2c_j1 = 0ull;
     i64_store(m, (u64)(w2c_i0) + 23, w2c_j1);
@@ -21510,20 +21507,13 @@ static void w2c_f23(module *m, u64 w2c_p0, u32 w2c_p1, u64 w2c_p2, u64 w2c_p3) {
     w2c_f12(m, w2c_j0, w2c_j1, w2c_j2, w2c_j3, w2c_j4);
     w2c_j0 = w2c_l4;
     w2c_i0 = (u32)(w2c_j0);
-    w2c_j0 = i64_load(m, (u64)(w2c_i0) + 344u);
-    w2c_l14 = w2c_j0;
-    w2c_j1 = w2c_l7;
-    w2c_i0 = w2c_j0 < w2c_j1;
-    if (w2c_i0) {goto w2c_B325;}
-    w2c_j0 = w2c_l4;
-    w2c_i0 = (u32)(w2c_j0);
     w2c_j0 = i64_load(m, (u64)(w2c_i0) + 360u);
     w2c_l9 = w2c_j0;
     w2c_j0 = w2c_l4;
     w2c_i0 = (u32)(w2c_j0);
     w2c_j0 = i64_load(m, (u64)(w2c_i0) + 352u);
-    w2c_l12 = w2c_j0;
-    w2c_i0 = w2c_l17;
+    w2c_l10 = w2c_j0;
+    w2c_i0 = w2c_l16;
     switch (w2c_i0) {
       case 0: goto w2c_B335;
       case 1: goto w2c_B334;
@@ -21555,55 +21545,55 @@ static void w2c_f23(module *m, u64 w2c_p0, u32 w2c_p1, u64 w2c_p2, u64 w2c_p3) {
     w2c_i0 = (u32)(w2c_j0);
     w2c_j1 = 0ull;
     i64_store(m, (u64)(w2c_i0) + 368, w2c_j1);
-    w2c_i0 = w2c_l18;
+    w2c_i0 = w2c_l17;
     w2c_i1 = 127u;
     w2c_i0 = w2c_i0 > w2c_i1;
     if (w2c_i0) {goto w2c_B336;}
-    w2c_i0 = w2c_l18;
+    w2c_i0 = w2c_l17;
     w2c_i1 = 4294967287u;
     w2c_i0 += w2c_i1;
     w2c_i1 = 5u;
     w2c_i0 = w2c_i0 < w2c_i1;
     if (w2c_i0) {goto w2c_B327;}
-    w2c_i0 = w2c_l18;
+    w2c_i0 = w2c_l17;
     w2c_i1 = 32u;
     w2c_i0 = w2c_i0 != w2c_i1;
     if (w2c_i0) {goto w2c_B328;}
     goto w2c_B327;
     w2c_B336:;
-    w2c_i0 = w2c_l18;
+    w2c_i0 = w2c_l17;
     w2c_i1 = 4294959104u;
     w2c_i0 += w2c_i1;
     w2c_i1 = 11u;
     w2c_i0 = w2c_i0 < w2c_i1;
     if (w2c_i0) {goto w2c_B327;}
-    w2c_i0 = w2c_l18;
+    w2c_i0 = w2c_l17;
     w2c_i1 = 8231u;
     w2c_i0 = (u32)((s32)w2c_i0 > (s32)w2c_i1);
     if (w2c_i0) {goto w2c_B337;}
-    w2c_i0 = w2c_l18;
+    w2c_i0 = w2c_l17;
     w2c_i1 = 133u;
     w2c_i0 = w2c_i0 == w2c_i1;
     if (w2c_i0) {goto w2c_B327;}
-    w2c_i0 = w2c_l18;
+    w2c_i0 = w2c_l17;
     w2c_i1 = 160u;
     w2c_i0 = w2c_i0 == w2c_i1;
     if (w2c_i0) {goto w2c_B327;}
-    w2c_i0 = w2c_l18;
+    w2c_i0 = w2c_l17;
     w2c_i1 = 5760u;
     w2c_i0 = w2c_i0 != w2c_i1;
     if (w2c_i0) {goto w2c_B328;}
     goto w2c_B327;
     w2c_B337:;
-    w2c_i0 = w2c_l18;
+    w2c_i0 = w2c_l17;
     w2c_i1 = 4294959064u;
     w2c_i0 += w2c_i1;
-    w2c_l21 = w2c_i0;
+    w2c_l20 = w2c_i0;
     w2c_i1 = 55u;
     w2c_i0 = w2c_i0 > w2c_i1;
     if (w2c_i0) {goto w2c_B329;}
     w2c_j0 = 1ull;
-    w2c_i1 = w2c_l21;
+    w2c_i1 = w2c_l20;
     w2c_j1 = (u64)(w2c_i1);
     w2c_j0 <<= (w2c_j1 & 63);
     w2c_j1 = 36028797018964099ull;
@@ -21616,32 +21606,32 @@ static void w2c_f23(module *m, u64 w2c_p0, u32 w2c_p1, u64 w2c_p2, u64 w2c_p3) {
     w2c_j0 = w2c_l9;
     w2c_i0 = !(w2c_j0);
     if (w2c_i0) {goto w2c_B325;}
-    w2c_j0 = w2c_l12;
+    w2c_j0 = w2c_l10;
     w2c_i0 = (u32)(w2c_j0);
     w2c_i0 = i32_load8_s(m, (u64)(w2c_i0));
-    w2c_l21 = w2c_i0;
+    w2c_l20 = w2c_i0;
     w2c_i1 = 4294967295u;
     w2c_i0 = (u32)((s32)w2c_i0 <= (s32)w2c_i1);
     if (w2c_i0) {goto w2c_B339;}
     w2c_j0 = 1ull;
-    w2c_l15 = w2c_j0;
+    w2c_l14 = w2c_j0;
     goto w2c_B338;
     w2c_B339:;
-    w2c_i0 = w2c_l21;
+    w2c_i0 = w2c_l20;
     w2c_i1 = 4294967264u;
     w2c_i0 = w2c_i0 >= w2c_i1;
     if (w2c_i0) {goto w2c_B340;}
     w2c_j0 = 2ull;
-    w2c_l15 = w2c_j0;
+    w2c_l14 = w2c_j0;
     goto w2c_B338;
     w2c_B340:;
     w2c_j0 = 3ull;
     w2c_j1 = 4ull;
-    w2c_i2 = w2c_l21;
+    w2c_i2 = w2c_l20;
     w2c_i3 = 4294967280u;
     w2c_i2 = w2c_i2 < w2c_i3;
     w2c_j0 = w2c_i2 ? w2c_j0 : w2c_j1;
-    w2c_l15 = w2c_j0;
+    w2c_l14 = w2c_j0;
     w2c_B338:;
     w2c_j0 = w2c_l4;
     w2c_i0 = (u32)(w2c_j0);
@@ -21668,62 +21658,62 @@ static void w2c_f23(module *m, u64 w2c_p0, u32 w2c_p1, u64 w2c_p2, u64 w2c_p3) {
     w2c_j1 = 0ull;
     i64_store(m, (u64)(w2c_i0) + 368, w2c_j1);
     w2c_j0 = w2c_l9;
-    w2c_j1 = w2c_l15;
+    w2c_j1 = w2c_l14;
     w2c_j0 -= w2c_j1;
     w2c_l9 = w2c_j0;
-    w2c_j0 = w2c_l12;
-    w2c_j1 = w2c_l15;
+    w2c_j0 = w2c_l10;
+    w2c_j1 = w2c_l14;
     w2c_j0 += w2c_j1;
-    w2c_l12 = w2c_j0;
-    w2c_i0 = w2c_l18;
+    w2c_l10 = w2c_j0;
+    w2c_i0 = w2c_l17;
     w2c_i1 = 127u;
     w2c_i0 = w2c_i0 > w2c_i1;
     if (w2c_i0) {goto w2c_B341;}
-    w2c_i0 = w2c_l18;
+    w2c_i0 = w2c_l17;
     w2c_i1 = 4294967287u;
     w2c_i0 += w2c_i1;
     w2c_i1 = 5u;
     w2c_i0 = w2c_i0 < w2c_i1;
     if (w2c_i0) {goto w2c_B330;}
-    w2c_i0 = w2c_l18;
+    w2c_i0 = w2c_l17;
     w2c_i1 = 32u;
     w2c_i0 = w2c_i0 != w2c_i1;
     if (w2c_i0) {goto w2c_B331;}
     goto w2c_B330;
     w2c_B341:;
-    w2c_i0 = w2c_l18;
+    w2c_i0 = w2c_l17;
     w2c_i1 = 4294959104u;
     w2c_i0 += w2c_i1;
     w2c_i1 = 11u;
     w2c_i0 = w2c_i0 < w2c_i1;
     if (w2c_i0) {goto w2c_B330;}
-    w2c_i0 = w2c_l18;
+    w2c_i0 = w2c_l17;
     w2c_i1 = 8231u;
     w2c_i0 = (u32)((s32)w2c_i0 > (s32)w2c_i1);
     if (w2c_i0) {goto w2c_B342;}
-    w2c_i0 = w2c_l18;
+    w2c_i0 = w2c_l17;
     w2c_i1 = 133u;
     w2c_i0 = w2c_i0 == w2c_i1;
     if (w2c_i0) {goto w2c_B330;}
-    w2c_i0 = w2c_l18;
+    w2c_i0 = w2c_l17;
     w2c_i1 = 160u;
     w2c_i0 = w2c_i0 == w2c_i1;
     if (w2c_i0) {goto w2c_B330;}
-    w2c_i0 = w2c_l18;
+    w2c_i0 = w2c_l17;
     w2c_i1 = 5760u;
     w2c_i0 = w2c_i0 != w2c_i1;
     if (w2c_i0) {goto w2c_B331;}
     goto w2c_B330;
     w2c_B342:;
-    w2c_i0 = w2c_l18;
+    w2c_i0 = w2c_l17;
     w2c_i1 = 4294959064u;
     w2c_i0 += w2c_i1;
-    w2c_l21 = w2c_i0;
+    w2c_l20 = w2c_i0;
     w2c_i1 = 55u;
     w2c_i0 = w2c_i0 > w2c_i1;
     if (w2c_i0) {goto w2c_B332;}
     w2c_j0 = 1ull;
-    w2c_i1 = w2c_l21;
+    w2c_i1 = w2c_l20;
     w2c_j1 = (u64)(w2c_i1);
     w2c_j0 <<= (w2c_j1 & 63);
     w2c_j1 = 36028797018964099ull;
@@ -21736,32 +21726,32 @@ static void w2c_f23(module *m, u64 w2c_p0, u32 w2c_p1, u64 w2c_p2, u64 w2c_p3) {
     w2c_j0 = w2c_l9;
     w2c_i0 = !(w2c_j0);
     if (w2c_i0) {goto w2c_B325;}
-    w2c_j0 = w2c_l12;
+    w2c_j0 = w2c_l10;
     w2c_i0 = (u32)(w2c_j0);
     w2c_i0 = i32_load8_s(m, (u64)(w2c_i0));
-    w2c_l21 = w2c_i0;
+    w2c_l20 = w2c_i0;
     w2c_i1 = 4294967295u;
     w2c_i0 = (u32)((s32)w2c_i0 <= (s32)w2c_i1);
     if (w2c_i0) {goto w2c_B344;}
     w2c_j0 = 1ull;
-    w2c_l15 = w2c_j0;
+    w2c_l14 = w2c_j0;
     goto w2c_B343;
     w2c_B344:;
-    w2c_i0 = w2c_l21;
+    w2c_i0 = w2c_l20;
     w2c_i1 = 4294967264u;
     w2c_i0 = w2c_i0 >= w2c_i1;
     if (w2c_i0) {goto w2c_B345;}
     w2c_j0 = 2ull;
-    w2c_l15 = w2c_j0;
+    w2c_l14 = w2c_j0;
     goto w2c_B343;
     w2c_B345:;
     w2c_j0 = 3ull;
     w2c_j1 = 4ull;
-    w2c_i2 = w2c_l21;
+    w2c_i2 = w2c_l20;
     w2c_i3 = 4294967280u;
     w2c_i2 = w2c_i2 < w2c_i3;
     w2c_j0 = w2c_i2 ? w2c_j0 : w2c_j1;
-    w2c_l15 = w2c_j0;
+    w2c_l14 = w2c_j0;
     w2c_B343:;
     w2c_j0 = w2c_l4;
     w2c_i0 = (u32)(w2c_j0);
@@ -21794,16 +21784,16 @@ static void w2c_f23(module *m, u64 w2c_p0, u32 w2c_p1, u64 w2c_p2, u64 w2c_p3) {
     w2c_j1 = i64_load(m, (u64)(w2c_i1) + 304u);
     i64_store(m, (u64)(w2c_i0) + 48, w2c_j1);
     w2c_j0 = w2c_l9;
-    w2c_j1 = w2c_l15;
+    w2c_j1 = w2c_l14;
     w2c_j0 -= w2c_j1;
     w2c_l9 = w2c_j0;
-    w2c_j0 = w2c_l12;
-    w2c_j1 = w2c_l15;
+    w2c_j0 = w2c_l10;
+    w2c_j1 = w2c_l14;
     w2c_j0 += w2c_j1;
-    w2c_l12 = w2c_j0;
+    w2c_l10 = w2c_j0;
     goto w2c_B326;
     w2c_B332:;
-    w2c_i0 = w2c_l18;
+    w2c_i0 = w2c_l17;
     w2c_i1 = 12288u;
     w2c_i0 = w2c_i0 == w2c_i1;
     if (w2c_i0) {goto w2c_B330;}
@@ -21814,7 +21804,7 @@ static void w2c_f23(module *m, u64 w2c_p0, u32 w2c_p1, u64 w2c_p2, u64 w2c_p3) {
     w2c_j1 = w2c_l4;
     w2c_j2 = 304ull;
     w2c_j1 += w2c_j2;
-    w2c_i2 = w2c_l18;
+    w2c_i2 = w2c_l17;
     w2c_f20(m, w2c_j0, w2c_j1, w2c_i2);
     w2c_j0 = w2c_l4;
     w2c_i0 = (u32)(w2c_j0);
@@ -21824,31 +21814,31 @@ static void w2c_f23(module *m, u64 w2c_p0, u32 w2c_p1, u64 w2c_p2, u64 w2c_p3) {
     if (w2c_i0) {goto w2c_B325;}
     w2c_j0 = w2c_l4;
     w2c_i0 = (u32)(w2c_j0);
-    w2c_j1 = w2c_l16;
+    w2c_j1 = w2c_l6;
     w2c_i1 = (u32)(w2c_j1);
     w2c_j1 = i64_load(m, (u64)(w2c_i1) + 32u);
     i64_store(m, (u64)(w2c_i0) + 80, w2c_j1);
     w2c_j0 = w2c_l4;
     w2c_i0 = (u32)(w2c_j0);
-    w2c_j1 = w2c_l16;
+    w2c_j1 = w2c_l6;
     w2c_i1 = (u32)(w2c_j1);
     w2c_j1 = i64_load(m, (u64)(w2c_i1) + 24u);
     i64_store(m, (u64)(w2c_i0) + 72, w2c_j1);
     w2c_j0 = w2c_l4;
     w2c_i0 = (u32)(w2c_j0);
-    w2c_j1 = w2c_l16;
+    w2c_j1 = w2c_l6;
     w2c_i1 = (u32)(w2c_j1);
     w2c_j1 = i64_load(m, (u64)(w2c_i1) + 16u);
     i64_store(m, (u64)(w2c_i0) + 64, w2c_j1);
     w2c_j0 = w2c_l4;
     w2c_i0 = (u32)(w2c_j0);
-    w2c_j1 = w2c_l16;
+    w2c_j1 = w2c_l6;
     w2c_i1 = (u32)(w2c_j1);
     w2c_j1 = i64_load(m, (u64)(w2c_i1) + 8u);
     i64_store(m, (u64)(w2c_i0) + 56, w2c_j1);
     w2c_j0 = w2c_l4;
     w2c_i0 = (u32)(w2c_j0);
-    w2c_j1 = w2c_l16;
+    w2c_j1 = w2c_l6;
     w2c_i1 = (u32)(w2c_j1);
     w2c_j1 = i64_load(m, (u64)(w2c_i1));
     i64_store(m, (u64)(w2c_i0) + 48, w2c_j1);
@@ -21886,7 +21876,7 @@ static void w2c_f23(module *m, u64 w2c_p0, u32 w2c_p1, u64 w2c_p2, u64 w2c_p3) {
     i64_store(m, (u64)(w2c_i0) + 48, w2c_j1);
     goto w2c_B326;
     w2c_B329:;
-    w2c_i0 = w2c_l18;
+    w2c_i0 = w2c_l17;
     w2c_i1 = 12288u;
     w2c_i0 = w2c_i0 == w2c_i1;
     if (w2c_i0) {goto w2c_B327;}
@@ -21897,7 +21887,7 @@ static void w2c_f23(module *m, u64 w2c_p0, u32 w2c_p1, u64 w2c_p2, u64 w2c_p3) {
     w2c_j1 = w2c_l4;
     w2c_j2 = 304ull;
     w2c_j1 += w2c_j2;
-    w2c_i2 = w2c_l18;
+    w2c_i2 = w2c_l17;
     w2c_f20(m, w2c_j0, w2c_j1, w2c_i2);
     w2c_j0 = w2c_l4;
     w2c_i0 = (u32)(w2c_j0);
@@ -21907,31 +21897,31 @@ static void w2c_f23(module *m, u64 w2c_p0, u32 w2c_p1, u64 w2c_p2, u64 w2c_p3) {
     if (w2c_i0) {goto w2c_B325;}
     w2c_j0 = w2c_l4;
     w2c_i0 = (u32)(w2c_j0);
-    w2c_j1 = w2c_l16;
+    w2c_j1 = w2c_l6;
     w2c_i1 = (u32)(w2c_j1);
     w2c_j1 = i64_load(m, (u64)(w2c_i1) + 32u);
     i64_store(m, (u64)(w2c_i0) + 80, w2c_j1);
     w2c_j0 = w2c_l4;
     w2c_i0 = (u32)(w2c_j0);
-    w2c_j1 = w2c_l16;
+    w2c_j1 = w2c_l6;
     w2c_i1 = (u32)(w2c_j1);
     w2c_j1 = i64_load(m, (u64)(w2c_i1) + 24u);
     i64_store(m, (u64)(w2c_i0) + 72, w2c_j1);
     w2c_j0 = w2c_l4;
     w2c_i0 = (u32)(w2c_j0);
-    w2c_j1 = w2c_l16;
+    w2c_j1 = w2c_l6;
     w2c_i1 = (u32)(w2c_j1);
     w2c_j1 = i64_load(m, (u64)(w2c_i1) + 16u);
     i64_store(m, (u64)(w2c_i0) + 64, w2c_j1);
     w2c_j0 = w2c_l4;
     w2c_i0 = (u32)(w2c_j0);
-    w2c_j1 = w2c_l16;
+    w2c_j1 = w2c_l6;
     w2c_i1 = (u32)(w2c_j1);
     w2c_j1 = i64_load(m, (u64)(w2c_i1) + 8u);
     i64_store(m, (u64)(w2c_i0) + 56, w2c_j1);
     w2c_j0 = w2c_l4;
     w2c_i0 = (u32)(w2c_j0);
-    w2c_j1 = w2c_l16;
+    w2c_j1 = w2c_l6;
     w2c_i1 = (u32)(w2c_j1);
     w2c_j1 = i64_load(m, (u64)(w2c_i1));
     i64_store(m, (u64)(w2c_i0) + 48, w2c_j1);
@@ -21974,14 +21964,10 @@ static void w2c_f23(module *m, u64 w2c_p0, u32 w2c_p1, u64 w2c_p2, u64 w2c_p3) {
     w2c_j1 = w2c_l4;
     w2c_j2 = 48ull;
     w2c_j1 += w2c_j2;
-    w2c_j2 = w2c_l12;
+    w2c_j2 = w2c_l10;
     w2c_j3 = w2c_l9;
     w2c_j4 = 18446744073709551615ull;
     w2c_f12(m, w2c_j0, w2c_j1, w2c_j2, w2c_j3, w2c_j4);
-    w2c_j0 = w2c_l13;
-    w2c_j1 = w2c_l7;
-    w2c_i0 = w2c_j0 < w2c_j1;
-    if (w2c_i0) {goto w2c_B325;}
     w2c_j0 = w2c_l4;
     w2c_i0 = (u32)(w2c_j0);
     w2c_j0 = i64_load(m, (u64)(w2c_i0) + 296u);
@@ -21989,19 +21975,19 @@ static void w2c_f23(module *m, u64 w2c_p0, u32 w2c_p1, u64 w2c_p2, u64 w2c_p3) {
     w2c_i0 = w2c_j0 != w2c_j1;
     if (w2c_i0) {goto w2c_B346;}
     w2c_i0 = 1u;
-    w2c_l21 = w2c_i0;
-    w2c_j0 = w2c_l8;
+    w2c_l20 = w2c_i0;
+    w2c_j0 = w2c_l12;
     w2c_j1 = 0ull;
     w2c_i0 = w2c_j0 != w2c_j1;
     if (w2c_i0) {goto w2c_B0;}
     w2c_j0 = w2c_l4;
     w2c_i0 = (u32)(w2c_j0);
     w2c_i0 = i32_load8_u(m, (u64)(w2c_i0) + 248u);
-    w2c_l19 = w2c_i0;
+    w2c_l18 = w2c_i0;
     w2c_i1 = 17u;
     w2c_i0 = w2c_i0 < w2c_i1;
     if (w2c_i0) {goto w2c_B325;}
-    w2c_i0 = w2c_l19;
+    w2c_i0 = w2c_l18;
     w2c_i1 = 4294967279u;
     w2c_i0 += w2c_i1;
     switch (w2c_i0) {
@@ -22011,11 +21997,13 @@ static void w2c_f23(module *m, u64 w2c_p0, u32 w2c_p1, u64 w2c_p2, u64 w2c_p3) {
       default: goto w2c_B0;
     }
     w2c_B346:;
-    w2c_j0 = w2c_l8;
+    w2c_j0 = w2c_l12;
     w2c_i0 = !(w2c_j0);
     if (w2c_i0) {goto w2c_B325;}
-    w2c_j0 = w2c_l14;
-    w2c_i1 = w2c_l17;
+    w2c_j0 = w2c_l4;
+    w2c_i0 = (u32)(w2c_j0);
+    w2c_j0 = i64_load(m, (u64)(w2c_i0) + 344u);
+    w2c_i1 = w2c_l16;
     w2c_i2 = 2u;
     w2c_i1 = w2c_i1 != w2c_i2;
     w2c_j1 = (u64)(w2c_i1);
@@ -22026,8 +22014,8 @@ static void w2c_f23(module *m, u64 w2c_p0, u32 w2c_p1, u64 w2c_p2, u64 w2c_p3) {
     w2c_j0 += w2c_j1;
     w2c_l9 = w2c_j0;
     w2c_j0 = 2ull;
-    w2c_l12 = w2c_j0;
-    w2c_i0 = w2c_l17;
+    w2c_l10 = w2c_j0;
+    w2c_i0 = w2c_l16;
     switch (w2c_i0) {
       case 0: goto w2c_B347;
       case 1: goto w2c_B349;
@@ -22036,26 +22024,26 @@ static void w2c_f23(module *m, u64 w2c_p0, u32 w2c_p1, u64 w2c_p2, u64 w2c_p3) {
     }
     w2c_B349:;
     w2c_j0 = 1ull;
-    w2c_l12 = w2c_j0;
+    w2c_l10 = w2c_j0;
     goto w2c_B347;
     w2c_B348:;
     w2c_j0 = w2c_l7;
-    w2c_j1 = w2c_l13;
+    w2c_j1 = w2c_l11;
     w2c_i0 = w2c_j0 == w2c_j1;
     w2c_j0 = (u64)(w2c_i0);
-    w2c_l12 = w2c_j0;
+    w2c_l10 = w2c_j0;
     w2c_B347:;
     w2c_i0 = 1u;
-    w2c_l21 = w2c_i0;
-    w2c_j0 = w2c_l12;
-    w2c_j1 = w2c_l13;
+    w2c_l20 = w2c_i0;
+    w2c_j0 = w2c_l10;
+    w2c_j1 = w2c_l11;
     w2c_j0 += w2c_j1;
-    w2c_l12 = w2c_j0;
+    w2c_l10 = w2c_j0;
     w2c_j1 = w2c_l9;
     w2c_i0 = w2c_j0 < w2c_j1;
     if (w2c_i0) {goto w2c_B0;}
     w2c_j0 = w2c_l9;
-    w2c_j1 = w2c_l12;
+    w2c_j1 = w2c_l10;
     w2c_i0 = w2c_j0 != w2c_j1;
     if (w2c_i0) {goto w2c_B325;}
     w2c_j0 = w2c_l4;
@@ -22064,11 +22052,11 @@ static void w2c_f23(module *m, u64 w2c_p0, u32 w2c_p1, u64 w2c_p2, u64 w2c_p3) {
     w2c_l9 = w2c_j0;
     w2c_i0 = (u32)(w2c_j0);
     w2c_i0 = i32_load8_s(m, (u64)(w2c_i0));
-    w2c_l20 = w2c_i0;
+    w2c_l19 = w2c_i0;
     w2c_i1 = 255u;
     w2c_i0 &= w2c_i1;
-    w2c_l19 = w2c_i0;
-    w2c_i0 = w2c_l20;
+    w2c_l18 = w2c_i0;
+    w2c_i0 = w2c_l19;
     w2c_i1 = 4294967295u;
     w2c_i0 = (u32)((s32)w2c_i0 > (s32)w2c_i1);
     if (w2c_i0) {goto w2c_B350;}
@@ -22077,19 +22065,19 @@ static void w2c_f23(module *m, u64 w2c_p0, u32 w2c_p1, u64 w2c_p2, u64 w2c_p3) {
     w2c_i0 = i32_load8_u(m, (u64)(w2c_i0) + 1u);
     w2c_i1 = 63u;
     w2c_i0 &= w2c_i1;
-    w2c_l23 = w2c_i0;
-    w2c_i0 = w2c_l20;
+    w2c_l22 = w2c_i0;
+    w2c_i0 = w2c_l19;
     w2c_i1 = 4294967263u;
     w2c_i0 = w2c_i0 > w2c_i1;
     if (w2c_i0) {goto w2c_B351;}
-    w2c_i0 = w2c_l19;
+    w2c_i0 = w2c_l18;
     w2c_i1 = 6u;
     w2c_i0 <<= (w2c_i1 & 31);
     w2c_i1 = 1984u;
     w2c_i0 &= w2c_i1;
-    w2c_i1 = w2c_l23;
+    w2c_i1 = w2c_l22;
     w2c_i0 |= w2c_i1;
-    w2c_l19 = w2c_i0;
+    w2c_l18 = w2c_i0;
     goto w2c_B350;
     w2c_B351:;
     w2c_j0 = w2c_l9;
@@ -22097,32 +22085,32 @@ static void w2c_f23(module *m, u64 w2c_p0, u32 w2c_p1, u64 w2c_p2, u64 w2c_p3) {
     w2c_i0 = i32_load8_u(m, (u64)(w2c_i0) + 2u);
     w2c_i1 = 63u;
     w2c_i0 &= w2c_i1;
-    w2c_l22 = w2c_i0;
-    w2c_i0 = w2c_l20;
+    w2c_l21 = w2c_i0;
+    w2c_i0 = w2c_l19;
     w2c_i1 = 4294967279u;
     w2c_i0 = w2c_i0 > w2c_i1;
     if (w2c_i0) {goto w2c_B352;}
-    w2c_i0 = w2c_l23;
+    w2c_i0 = w2c_l22;
     w2c_i1 = 6u;
     w2c_i0 <<= (w2c_i1 & 31);
-    w2c_i1 = w2c_l19;
+    w2c_i1 = w2c_l18;
     w2c_i2 = 12u;
     w2c_i1 <<= (w2c_i2 & 31);
     w2c_i2 = 61440u;
     w2c_i1 &= w2c_i2;
     w2c_i0 |= w2c_i1;
-    w2c_i1 = w2c_l22;
+    w2c_i1 = w2c_l21;
     w2c_i0 |= w2c_i1;
-    w2c_l19 = w2c_i0;
+    w2c_l18 = w2c_i0;
     goto w2c_B350;
     w2c_B352:;
-    w2c_i0 = w2c_l22;
+    w2c_i0 = w2c_l21;
     w2c_i1 = 6u;
     w2c_i0 <<= (w2c_i1 & 31);
-    w2c_i1 = w2c_l23;
+    w2c_i1 = w2c_l22;
     w2c_i2 = 12u;
     w2c_i1 <<= (w2c_i2 & 31);
-    w2c_i2 = w2c_l19;
+    w2c_i2 = w2c_l18;
     w2c_i3 = 18u;
     w2c_i2 <<= (w2c_i3 & 31);
     w2c_i3 = 1835008u;
@@ -22135,11 +22123,11 @@ static void w2c_f23(module *m, u64 w2c_p0, u32 w2c_p1, u64 w2c_p2, u64 w2c_p3) {
     w2c_i2 = 63u;
     w2c_i1 &= w2c_i2;
     w2c_i0 |= w2c_i1;
-    w2c_l19 = w2c_i0;
+    w2c_l18 = w2c_i0;
     w2c_B350:;
     w2c_j0 = w2c_l4;
     w2c_i0 = (u32)(w2c_j0);
-    w2c_i1 = w2c_l19;
+    w2c_i1 = w2c_l18;
     i32_store(m, (u64)(w2c_i0) + 304, w2c_i1);
     w2c_j0 = 66048ull;
     w2c_j1 = 47ull;
@@ -22161,7 +22149,7 @@ static void w2c_f23(module *m, u64 w2c_p0, u32 w2c_p1, u64 w2c_p2, u64 w2c_p3) {
   UNREACHABLE;
   w2c_B2:;
   w2c_j0 = 0ull;
-  w2c_l10 = w2c_j0;
+  w2c_l9 = w2c_j0;
   w2c_j0 = w2c_l4;
   w2c_i0 = (u32)(w2c_j0);
   w2c_j1 = 0ull;
@@ -22263,7 +22251,7 @@ static void w2c_f23(module *m, u64 w2c_p0, u32 w2c_p1, u64 w2c_p2, u64 w2c_p3) {
   w2c_j0 = w2c_l4;
   w2c_i0 = (u32)(w2c_j0);
   w2c_j0 = i64_load(m, (u64)(w2c_i0) + 192u);
-  w2c_l8 = w2c_j0;
+  w2c_l12 = w2c_j0;
   w2c_j0 = w2c_l4;
   w2c_i0 = (u32)(w2c_j0);
   w2c_j0 = i64_load(m, (u64)(w2c_i0) + 137u);
@@ -22284,14 +22272,14 @@ static void w2c_f23(module *m, u64 w2c_p0, u32 w2c_p1, u64 w2c_p2, u64 w2c_p3) {
     default: goto w2c_B354;
   }
   w2c_B354:;
-  w2c_j0 = w2c_l8;
+  w2c_j0 = w2c_l12;
   w2c_i0 = !(w2c_j0);
   if (w2c_i0) {goto w2c_B1;}
   w2c_B353:;
   w2c_j0 = w2c_l4;
   w2c_i0 = (u32)(w2c_j0);
   w2c_j0 = i64_load(m, (u64)(w2c_i0) + 176u);
-  w2c_l14 = w2c_j0;
+  w2c_l8 = w2c_j0;
   w2c_j0 = w2c_l4;
   w2c_i0 = (u32)(w2c_j0);
   w2c_j1 = 0ull;
@@ -22338,7 +22326,7 @@ static void w2c_f23(module *m, u64 w2c_p0, u32 w2c_p1, u64 w2c_p2, u64 w2c_p3) {
     w2c_j2 += w2c_j3;
     w2c_i2 = (u32)(w2c_j2);
     w2c_i2 = i32_load_of_text(m, (u64)(w2c_i2));
-    w2c_l17 = w2c_i2;
+    w2c_l16 = w2c_i2;
     w2c_f11(m, w2c_j0, w2c_j1, w2c_i2);
     w2c_j0 = w2c_l4;
     w2c_i0 = (u32)(w2c_j0);
@@ -22349,12 +22337,12 @@ static void w2c_f23(module *m, u64 w2c_p0, u32 w2c_p1, u64 w2c_p2, u64 w2c_p3) {
     w2c_j0 = w2c_l4;
     w2c_j1 = 416ull;
     w2c_j0 += w2c_j1;
-    w2c_j1 = w2c_l10;
+    w2c_j1 = w2c_l9;
     w2c_j2 = 2ull;
     w2c_j1 <<= (w2c_j2 & 63);
     w2c_j0 += w2c_j1;
     w2c_i0 = (u32)(w2c_j0);
-    w2c_i1 = w2c_l17;
+    w2c_i1 = w2c_l16;
     i32_store(m, (u64)(w2c_i0), w2c_i1);
     w2c_j0 = w2c_l4;
     w2c_i0 = (u32)(w2c_j0);
@@ -22363,7 +22351,7 @@ static void w2c_f23(module *m, u64 w2c_p0, u32 w2c_p1, u64 w2c_p2, u64 w2c_p3) {
     w2c_j1 = i64_load(m, (u64)(w2c_i1) + 608u);
     w2c_j2 = 1ull;
     w2c_j1 += w2c_j2;
-    w2c_l10 = w2c_j1;
+    w2c_l9 = w2c_j1;
     i64_store(m, (u64)(w2c_i0) + 608, w2c_j1);
     w2c_B356:;
     w2c_j0 = 0ull;
@@ -22391,7 +22379,7 @@ static void w2c_f23(module *m, u64 w2c_p0, u32 w2c_p1, u64 w2c_p2, u64 w2c_p3) {
   w2c_j0 += w2c_j1;
   w2c_j1 = w2c_p2;
   w2c_j2 = w2c_p3;
-  w2c_j3 = w2c_l14;
+  w2c_j3 = w2c_l8;
   w2c_j4 = w2c_l4;
   w2c_j5 = 1088ull;
   w2c_j4 += w2c_j5;
@@ -22421,7 +22409,7 @@ static void w2c_f23(module *m, u64 w2c_p0, u32 w2c_p1, u64 w2c_p2, u64 w2c_p3) {
   w2c_j0 += w2c_j1;
   w2c_j1 = 8ull;
   w2c_j0 += w2c_j1;
-  w2c_l12 = w2c_j0;
+  w2c_l11 = w2c_j0;
   w2c_j0 = w2c_l4;
   w2c_j1 = 48ull;
   w2c_j0 += w2c_j1;
@@ -22434,30 +22422,33 @@ static void w2c_f23(module *m, u64 w2c_p0, u32 w2c_p1, u64 w2c_p2, u64 w2c_p3) {
     w2c_j0 += w2c_j1;
     w2c_j1 = w2c_l5;
     w2c_j0 += w2c_j1;
-    w2c_l7 = w2c_j0;
+    w2c_l9 = w2c_j0;
     w2c_i0 = (u32)(w2c_j0);
     w2c_i0 = i32_load8_u(m, (u64)(w2c_i0));
     w2c_i1 = 1u;
     w2c_i0 = w2c_i0 != w2c_i1;
     if (w2c_i0) {goto w2c_B358;}
-    w2c_j0 = w2c_l7;
+    w2c_j0 = w2c_l8;
+    w2c_j1 = w2c_l9;
+    w2c_j2 = 8ull;
+    w2c_j1 += w2c_j2;
+    w2c_i1 = (u32)(w2c_j1);
+    w2c_j1 = i64_load(m, (u64)(w2c_i1));
+    w2c_l7 = w2c_j1;
+    w2c_i0 = w2c_j0 < w2c_j1;
+    if (w2c_i0) {goto w2c_B358;}
+    w2c_j0 = w2c_l9;
     w2c_j1 = 20ull;
     w2c_j0 += w2c_j1;
     w2c_i0 = (u32)(w2c_j0);
     w2c_i0 = i32_load_of_text(m, (u64)(w2c_i0));
-    w2c_l18 = w2c_i0;
-    w2c_j0 = w2c_l7;
+    w2c_l17 = w2c_i0;
+    w2c_j0 = w2c_l9;
     w2c_j1 = 16ull;
     w2c_j0 += w2c_j1;
     w2c_i0 = (u32)(w2c_j0);
     w2c_i0 = i32_load8_u(m, (u64)(w2c_i0));
-    w2c_l17 = w2c_i0;
-    w2c_j0 = w2c_l7;
-    w2c_j1 = 8ull;
-    w2c_j0 += w2c_j1;
-    w2c_i0 = (u32)(w2c_j0);
-    w2c_j0 = i64_load(m, (u64)(w2c_i0));
-    w2c_l7 = w2c_j0;
+    w2c_l16 = w2c_i0;
     w2c_j0 = w2c_l4;
     w2c_i0 = (u32)(w2c_j0);
     w2c_j1 = 0ull;
@@ -22554,19 +22545,12 @@ static void w2c_f23(module *m, u64 w2c_p0, u32 w2c_p1, u64 w2c_p2, u64 w2c_p3) {
     w2c_f10(m, w2c_j0, w2c_j1, w2c_j2, w2c_j3, w2c_j4);
     w2c_j0 = w2c_l4;
     w2c_i0 = (u32)(w2c_j0);
-    w2c_j0 = i64_load(m, (u64)(w2c_i0) + 344u);
-    w2c_l9 = w2c_j0;
-    w2c_j1 = w2c_l7;
-    w2c_i0 = w2c_j0 < w2c_j1;
-    if (w2c_i0) {goto w2c_B358;}
-    w2c_j0 = w2c_l4;
-    w2c_i0 = (u32)(w2c_j0);
     w2c_j0 = i64_load(m, (u64)(w2c_i0) + 360u);
-    w2c_l10 = w2c_j0;
+    w2c_l9 = w2c_j0;
     w2c_j0 = w2c_l4;
     w2c_i0 = (u32)(w2c_j0);
     w2c_j0 = i64_load(m, (u64)(w2c_i0) + 352u);
-    w2c_l11 = w2c_j0;
+    w2c_l10 = w2c_j0;
     w2c_j0 = w2c_l4;
     w2c_i0 = (u32)(w2c_j0);
     w2c_j1 = 0ull;
@@ -22615,7 +22599,7 @@ static void w2c_f23(module *m, u64 w2c_p0, u32 w2c_p1, u64 w2c_p2, u64 w2c_p3) {
     w2c_i0 = (u32)(w2c_j0);
     w2c_j1 = 0ull;
     i64_store(m, (u64)(w2c_i0) + 88, w2c_j1);
-    w2c_i0 = w2c_l17;
+    w2c_i0 = w2c_l16;
     switch (w2c_i0) {
       case 0: goto w2c_B362;
       case 1: goto w2c_B361;
@@ -22629,7 +22613,7 @@ static void w2c_f23(module *m, u64 w2c_p0, u32 w2c_p1, u64 w2c_p2, u64 w2c_p3) {
     w2c_j1 = w2c_l4;
     w2c_j2 = 304ull;
     w2c_j1 += w2c_j2;
-    w2c_i2 = w2c_l18;
+    w2c_i2 = w2c_l17;
     w2c_f11(m, w2c_j0, w2c_j1, w2c_i2);
     w2c_j0 = w2c_l4;
     w2c_i0 = (u32)(w2c_j0);
@@ -22639,65 +22623,65 @@ static void w2c_f23(module *m, u64 w2c_p0, u32 w2c_p1, u64 w2c_p2, u64 w2c_p3) {
     if (w2c_i0) {goto w2c_B358;}
     w2c_j0 = w2c_l4;
     w2c_i0 = (u32)(w2c_j0);
-    w2c_j1 = w2c_l12;
+    w2c_j1 = w2c_l11;
     w2c_i1 = (u32)(w2c_j1);
     w2c_j1 = i64_load(m, (u64)(w2c_i1) + 32u);
     i64_store(m, (u64)(w2c_i0) + 232, w2c_j1);
     w2c_j0 = w2c_l4;
     w2c_i0 = (u32)(w2c_j0);
-    w2c_j1 = w2c_l12;
+    w2c_j1 = w2c_l11;
     w2c_i1 = (u32)(w2c_j1);
     w2c_j1 = i64_load(m, (u64)(w2c_i1) + 24u);
     i64_store(m, (u64)(w2c_i0) + 224, w2c_j1);
     w2c_j0 = w2c_l4;
     w2c_i0 = (u32)(w2c_j0);
-    w2c_j1 = w2c_l12;
+    w2c_j1 = w2c_l11;
     w2c_i1 = (u32)(w2c_j1);
     w2c_j1 = i64_load(m, (u64)(w2c_i1) + 16u);
     i64_store(m, (u64)(w2c_i0) + 216, w2c_j1);
     w2c_j0 = w2c_l4;
     w2c_i0 = (u32)(w2c_j0);
-    w2c_j1 = w2c_l12;
+    w2c_j1 = w2c_l11;
     w2c_i1 = (u32)(w2c_j1);
     w2c_j1 = i64_load(m, (u64)(w2c_i1) + 8u);
     i64_store(m, (u64)(w2c_i0) + 208, w2c_j1);
     w2c_j0 = w2c_l4;
     w2c_i0 = (u32)(w2c_j0);
-    w2c_j1 = w2c_l12;
+    w2c_j1 = w2c_l11;
     w2c_i1 = (u32)(w2c_j1);
     w2c_j1 = i64_load(m, (u64)(w2c_i1));
     i64_store(m, (u64)(w2c_i0) + 200, w2c_j1);
     goto w2c_B359;
     w2c_B361:;
-    w2c_j0 = w2c_l10;
+    w2c_j0 = w2c_l9;
     w2c_i0 = !(w2c_j0);
     if (w2c_i0) {goto w2c_B358;}
-    w2c_j0 = w2c_l11;
+    w2c_j0 = w2c_l10;
     w2c_i0 = (u32)(w2c_j0);
     w2c_i0 = i32_load8_s(m, (u64)(w2c_i0));
-    w2c_l21 = w2c_i0;
+    w2c_l20 = w2c_i0;
     w2c_i1 = 4294967295u;
     w2c_i0 = (u32)((s32)w2c_i0 <= (s32)w2c_i1);
     if (w2c_i0) {goto w2c_B364;}
     w2c_j0 = 1ull;
-    w2c_l15 = w2c_j0;
+    w2c_l14 = w2c_j0;
     goto w2c_B363;
     w2c_B364:;
-    w2c_i0 = w2c_l21;
+    w2c_i0 = w2c_l20;
     w2c_i1 = 4294967264u;
     w2c_i0 = w2c_i0 >= w2c_i1;
     if (w2c_i0) {goto w2c_B365;}
     w2c_j0 = 2ull;
-    w2c_l15 = w2c_j0;
+    w2c_l14 = w2c_j0;
     goto w2c_B363;
     w2c_B365:;
     w2c_j0 = 3ull;
     w2c_j1 = 4ull;
-    w2c_i2 = w2c_l21;
+    w2c_i2 = w2c_l20;
     w2c_i3 = 4294967280u;
     w2c_i2 = w2c_i2 < w2c_i3;
     w2c_j0 = w2c_i2 ? w2c_j0 : w2c_j1;
-    w2c_l15 = w2c_j0;
+    w2c_l14 = w2c_j0;
     w2c_B363:;
     w2c_j0 = w2c_l4;
     w2c_j1 = 48ull;
@@ -22705,7 +22689,7 @@ static void w2c_f23(module *m, u64 w2c_p0, u32 w2c_p1, u64 w2c_p2, u64 w2c_p3) {
     w2c_j1 = w2c_l4;
     w2c_j2 = 304ull;
     w2c_j1 += w2c_j2;
-    w2c_i2 = w2c_l18;
+    w2c_i2 = w2c_l17;
     w2c_f11(m, w2c_j0, w2c_j1, w2c_i2);
     w2c_j0 = w2c_l4;
     w2c_i0 = (u32)(w2c_j0);
@@ -22743,45 +22727,45 @@ static void w2c_f23(module *m, u64 w2c_p0, u32 w2c_p1, u64 w2c_p2, u64 w2c_p3) {
     w2c_i1 = (u32)(w2c_j1);
     w2c_j1 = i64_load(m, (u64)(w2c_i1));
     i64_store(m, (u64)(w2c_i0) + 200, w2c_j1);
-    w2c_j0 = w2c_l11;
-    w2c_j1 = w2c_l15;
-    w2c_j0 += w2c_j1;
-    w2c_l11 = w2c_j0;
     w2c_j0 = w2c_l10;
-    w2c_j1 = w2c_l15;
-    w2c_j0 -= w2c_j1;
+    w2c_j1 = w2c_l14;
+    w2c_j0 += w2c_j1;
     w2c_l10 = w2c_j0;
+    w2c_j0 = w2c_l9;
+    w2c_j1 = w2c_l14;
+    w2c_j0 -= w2c_j1;
+    w2c_l9 = w2c_j0;
     goto w2c_B359;
     w2c_B360:;
-    w2c_j0 = w2c_l10;
+    w2c_j0 = w2c_l9;
     w2c_i0 = !(w2c_j0);
     if (w2c_i0) {goto w2c_B358;}
-    w2c_j0 = w2c_l11;
+    w2c_j0 = w2c_l10;
     w2c_i0 = (u32)(w2c_j0);
     w2c_i0 = i32_load8_s(m, (u64)(w2c_i0));
-    w2c_l21 = w2c_i0;
+    w2c_l20 = w2c_i0;
     w2c_i1 = 4294967295u;
     w2c_i0 = (u32)((s32)w2c_i0 <= (s32)w2c_i1);
     if (w2c_i0) {goto w2c_B367;}
     w2c_j0 = 1ull;
-    w2c_l15 = w2c_j0;
+    w2c_l14 = w2c_j0;
     goto w2c_B366;
     w2c_B367:;
-    w2c_i0 = w2c_l21;
+    w2c_i0 = w2c_l20;
     w2c_i1 = 4294967264u;
     w2c_i0 = w2c_i0 >= w2c_i1;
     if (w2c_i0) {goto w2c_B368;}
     w2c_j0 = 2ull;
-    w2c_l15 = w2c_j0;
+    w2c_l14 = w2c_j0;
     goto w2c_B366;
     w2c_B368:;
     w2c_j0 = 3ull;
     w2c_j1 = 4ull;
-    w2c_i2 = w2c_l21;
+    w2c_i2 = w2c_l20;
     w2c_i3 = 4294967280u;
     w2c_i2 = w2c_i2 < w2c_i3;
     w2c_j0 = w2c_i2 ? w2c_j0 : w2c_j1;
-    w2c_l15 = w2c_j0;
+    w2c_l14 = w2c_j0;
     w2c_B366:;
     w2c_j0 = w2c_l4;
     w2c_i0 = (u32)(w2c_j0);
@@ -22813,14 +22797,14 @@ static void w2c_f23(module *m, u64 w2c_p0, u32 w2c_p1, u64 w2c_p2, u64 w2c_p3) {
     w2c_i1 = (u32)(w2c_j1);
     w2c_j1 = i64_load(m, (u64)(w2c_i1) + 304u);
     i64_store(m, (u64)(w2c_i0) + 200, w2c_j1);
-    w2c_j0 = w2c_l10;
-    w2c_j1 = w2c_l15;
+    w2c_j0 = w2c_l9;
+    w2c_j1 = w2c_l14;
     w2c_j0 -= w2c_j1;
-    w2c_l10 = w2c_j0;
-    w2c_j0 = w2c_l11;
-    w2c_j1 = w2c_l15;
+    w2c_l9 = w2c_j0;
+    w2c_j0 = w2c_l10;
+    w2c_j1 = w2c_l14;
     w2c_j0 += w2c_j1;
-    w2c_l11 = w2c_j0;
+    w2c_l10 = w2c_j0;
     w2c_B359:;
     w2c_j0 = w2c_l4;
     w2c_j1 = 240ull;
@@ -22828,21 +22812,17 @@ static void w2c_f23(module *m, u64 w2c_p0, u32 w2c_p1, u64 w2c_p2, u64 w2c_p3) {
     w2c_j1 = w2c_l4;
     w2c_j2 = 200ull;
     w2c_j1 += w2c_j2;
-    w2c_j2 = w2c_l11;
-    w2c_j3 = w2c_l10;
+    w2c_j2 = w2c_l10;
+    w2c_j3 = w2c_l9;
     w2c_j4 = 18446744073709551615ull;
     w2c_f10(m, w2c_j0, w2c_j1, w2c_j2, w2c_j3, w2c_j4);
-    w2c_j0 = w2c_l14;
-    w2c_j1 = w2c_l7;
-    w2c_i0 = w2c_j0 < w2c_j1;
-    if (w2c_i0) {goto w2c_B358;}
     w2c_j0 = w2c_l4;
     w2c_i0 = (u32)(w2c_j0);
     w2c_j0 = i64_load(m, (u64)(w2c_i0) + 296u);
     w2c_j1 = 0ull;
     w2c_i0 = w2c_j0 != w2c_j1;
     if (w2c_i0) {goto w2c_B372;}
-    w2c_j0 = w2c_l8;
+    w2c_j0 = w2c_l12;
     w2c_j1 = 0ull;
     w2c_i0 = w2c_j0 != w2c_j1;
     if (w2c_i0) {goto w2c_B371;}
@@ -22851,11 +22831,11 @@ static void w2c_f23(module *m, u64 w2c_p0, u32 w2c_p1, u64 w2c_p2, u64 w2c_p3) {
     w2c_j0 = i64_load(m, (u64)(w2c_i0) + 241u);
     w2c_j1 = 56ull;
     w2c_j0 >>= (w2c_j1 & 63);
-    w2c_l10 = w2c_j0;
+    w2c_l9 = w2c_j0;
     w2c_j1 = 17ull;
     w2c_i0 = w2c_j0 < w2c_j1;
     if (w2c_i0) {goto w2c_B358;}
-    w2c_j0 = w2c_l10;
+    w2c_j0 = w2c_l9;
     w2c_i0 = (u32)(w2c_j0);
     w2c_i1 = 4294967279u;
     w2c_i0 += w2c_i1;
@@ -22866,11 +22846,13 @@ static void w2c_f23(module *m, u64 w2c_p0, u32 w2c_p1, u64 w2c_p2, u64 w2c_p3) {
       default: goto w2c_B371;
     }
     w2c_B372:;
-    w2c_j0 = w2c_l8;
+    w2c_j0 = w2c_l12;
     w2c_i0 = !(w2c_j0);
     if (w2c_i0) {goto w2c_B358;}
-    w2c_j0 = w2c_l9;
-    w2c_i1 = w2c_l17;
+    w2c_j0 = w2c_l4;
+    w2c_i0 = (u32)(w2c_j0);
+    w2c_j0 = i64_load(m, (u64)(w2c_i0) + 344u);
+    w2c_i1 = w2c_l16;
     w2c_i2 = 2u;
     w2c_i1 = w2c_i1 != w2c_i2;
     w2c_j1 = (u64)(w2c_i1);
@@ -22879,10 +22861,10 @@ static void w2c_f23(module *m, u64 w2c_p0, u32 w2c_p1, u64 w2c_p2, u64 w2c_p3) {
     w2c_i1 = (u32)(w2c_j1);
     w2c_j1 = i64_load(m, (u64)(w2c_i1) + 280u);
     w2c_j0 += w2c_j1;
-    w2c_l10 = w2c_j0;
+    w2c_l9 = w2c_j0;
     w2c_j0 = 2ull;
-    w2c_l11 = w2c_j0;
-    w2c_i0 = w2c_l17;
+    w2c_l10 = w2c_j0;
+    w2c_i0 = w2c_l16;
     switch (w2c_i0) {
       case 0: goto w2c_B373;
       case 1: goto w2c_B375;
@@ -22891,112 +22873,112 @@ static void w2c_f23(module *m, u64 w2c_p0, u32 w2c_p1, u64 w2c_p2, u64 w2c_p3) {
     }
     w2c_B375:;
     w2c_j0 = 1ull;
-    w2c_l11 = w2c_j0;
+    w2c_l10 = w2c_j0;
     goto w2c_B373;
     w2c_B374:;
     w2c_j0 = w2c_l7;
-    w2c_j1 = w2c_l14;
+    w2c_j1 = w2c_l8;
     w2c_i0 = w2c_j0 == w2c_j1;
     w2c_j0 = (u64)(w2c_i0);
-    w2c_l11 = w2c_j0;
+    w2c_l10 = w2c_j0;
     w2c_B373:;
-    w2c_j0 = w2c_l11;
-    w2c_j1 = w2c_l14;
+    w2c_j0 = w2c_l10;
+    w2c_j1 = w2c_l8;
     w2c_j0 += w2c_j1;
-    w2c_l11 = w2c_j0;
-    w2c_j1 = w2c_l10;
+    w2c_l10 = w2c_j0;
+    w2c_j1 = w2c_l9;
     w2c_i0 = w2c_j0 < w2c_j1;
     if (w2c_i0) {goto w2c_B371;}
-    w2c_j0 = w2c_l10;
-    w2c_j1 = w2c_l11;
+    w2c_j0 = w2c_l9;
+    w2c_j1 = w2c_l10;
     w2c_i0 = w2c_j0 != w2c_j1;
     if (w2c_i0) {goto w2c_B358;}
     w2c_j0 = w2c_l4;
     w2c_i0 = (u32)(w2c_j0);
     w2c_j0 = i64_load(m, (u64)(w2c_i0) + 288u);
-    w2c_l10 = w2c_j0;
+    w2c_l9 = w2c_j0;
     w2c_i0 = (u32)(w2c_j0);
     w2c_i0 = i32_load8_s(m, (u64)(w2c_i0));
-    w2c_l19 = w2c_i0;
+    w2c_l18 = w2c_i0;
     w2c_i1 = 255u;
     w2c_i0 &= w2c_i1;
-    w2c_l21 = w2c_i0;
-    w2c_i0 = w2c_l19;
+    w2c_l20 = w2c_i0;
+    w2c_i0 = w2c_l18;
     w2c_i1 = 4294967295u;
     w2c_i0 = (u32)((s32)w2c_i0 > (s32)w2c_i1);
     if (w2c_i0) {goto w2c_B369;}
-    w2c_j0 = w2c_l10;
+    w2c_j0 = w2c_l9;
     w2c_i0 = (u32)(w2c_j0);
     w2c_i0 = i32_load8_u(m, (u64)(w2c_i0) + 1u);
     w2c_i1 = 63u;
     w2c_i0 &= w2c_i1;
-    w2c_l20 = w2c_i0;
-    w2c_i0 = w2c_l19;
+    w2c_l19 = w2c_i0;
+    w2c_i0 = w2c_l18;
     w2c_i1 = 4294967263u;
     w2c_i0 = w2c_i0 > w2c_i1;
     if (w2c_i0) {goto w2c_B376;}
-    w2c_i0 = w2c_l21;
+    w2c_i0 = w2c_l20;
     w2c_i1 = 6u;
     w2c_i0 <<= (w2c_i1 & 31);
     w2c_i1 = 1984u;
     w2c_i0 &= w2c_i1;
-    w2c_i1 = w2c_l20;
+    w2c_i1 = w2c_l19;
     w2c_i0 |= w2c_i1;
-    w2c_l21 = w2c_i0;
+    w2c_l20 = w2c_i0;
     goto w2c_B369;
     w2c_B376:;
-    w2c_j0 = w2c_l10;
+    w2c_j0 = w2c_l9;
     w2c_i0 = (u32)(w2c_j0);
     w2c_i0 = i32_load8_u(m, (u64)(w2c_i0) + 2u);
     w2c_i1 = 63u;
     w2c_i0 &= w2c_i1;
-    w2c_l23 = w2c_i0;
-    w2c_i0 = w2c_l19;
+    w2c_l22 = w2c_i0;
+    w2c_i0 = w2c_l18;
     w2c_i1 = 4294967279u;
     w2c_i0 = w2c_i0 > w2c_i1;
     if (w2c_i0) {goto w2c_B370;}
-    w2c_i0 = w2c_l20;
+    w2c_i0 = w2c_l19;
     w2c_i1 = 6u;
     w2c_i0 <<= (w2c_i1 & 31);
-    w2c_i1 = w2c_l21;
+    w2c_i1 = w2c_l20;
     w2c_i2 = 12u;
     w2c_i1 <<= (w2c_i2 & 31);
     w2c_i2 = 61440u;
     w2c_i1 &= w2c_i2;
     w2c_i0 |= w2c_i1;
-    w2c_i1 = w2c_l23;
+    w2c_i1 = w2c_l22;
     w2c_i0 |= w2c_i1;
-    w2c_l21 = w2c_i0;
+    w2c_l20 = w2c_i0;
     goto w2c_B369;
     w2c_B371:;
     w2c_i0 = 1u;
-    w2c_l21 = w2c_i0;
+    w2c_l20 = w2c_i0;
     goto w2c_B0;
     w2c_B370:;
-    w2c_i0 = w2c_l23;
+    w2c_i0 = w2c_l22;
     w2c_i1 = 6u;
     w2c_i0 <<= (w2c_i1 & 31);
-    w2c_i1 = w2c_l20;
+    w2c_i1 = w2c_l19;
     w2c_i2 = 12u;
     w2c_i1 <<= (w2c_i2 & 31);
-    w2c_i2 = w2c_l21;
+    w2c_i2 = w2c_l20;
     w2c_i3 = 18u;
     w2c_i2 <<= (w2c_i3 & 31);
     w2c_i3 = 1835008u;
     w2c_i2 &= w2c_i3;
     w2c_i1 |= w2c_i2;
     w2c_i0 |= w2c_i1;
-    w2c_j1 = w2c_l10;
+    w2c_j1 = w2c_l9;
     w2c_i1 = (u32)(w2c_j1);
     w2c_i1 = i32_load8_u(m, (u64)(w2c_i1) + 3u);
     w2c_i2 = 63u;
     w2c_i1 &= w2c_i2;
     w2c_i0 |= w2c_i1;
-    w2c_l21 = w2c_i0;
+    w2c_l20 = w2c_i0;
     w2c_B369:;
     w2c_j0 = w2c_l4;
     w2c_i0 = (u32)(w2c_j0);
-    w2c_i1 = w2c_l21;
+    w2c_i1 = w2c_l20;
     i32_store(m, (u64)(w2c_i0) + 304, w2c_i1);
     w2c_j0 = 66048ull;
     w2c_j1 = 34ull;
@@ -23006,7 +22988,7 @@ static void w2c_f23(module *m, u64 w2c_p0, u32 w2c_p1, u64 w2c_p2, u64 w2c_p3) {
     w2c_i0 = w2c_f26(m, w2c_j0, w2c_j1, w2c_j2);
     if (w2c_i0) {goto w2c_B358;}
     w2c_i0 = 1u;
-    w2c_l21 = w2c_i0;
+    w2c_l20 = w2c_i0;
     goto w2c_B0;
     w2c_B358:;
     w2c_j0 = w2c_l5;
@@ -23018,15 +23000,15 @@ static void w2c_f23(module *m, u64 w2c_p0, u32 w2c_p1, u64 w2c_p2, u64 w2c_p3) {
     if (w2c_i0) {goto w2c_L357;}
   w2c_B1:;
   w2c_i0 = 0u;
-  w2c_l21 = w2c_i0;
+  w2c_l20 = w2c_i0;
   w2c_j0 = 0ull;
   w2c_l7 = w2c_j0;
   w2c_i0 = 0u;
-  w2c_l17 = w2c_i0;
+  w2c_l16 = w2c_i0;
   w2c_i0 = 0u;
-  w2c_l18 = w2c_i0;
+  w2c_l17 = w2c_i0;
   w2c_B0:;
-  w2c_i0 = w2c_l21;
+  w2c_i0 = w2c_l20;
   w2c_i0 = !(w2c_i0);
   if (w2c_i0) {goto w2c_B379;}
   w2c_i0 = w2c_p1;
@@ -23060,9 +23042,9 @@ static void w2c_f23(module *m, u64 w2c_p0, u32 w2c_p1, u64 w2c_p2, u64 w2c_p3) {
   w2c_j1 = 11932259422734499467ull;
   w2c_i0 = w2c_j0 != w2c_j1;
   if (w2c_i0) {goto w2c_B378;}
-  w2c_i0 = w2c_l17;
+  w2c_i0 = w2c_l16;
   if (w2c_i0) {goto w2c_B378;}
-  w2c_i0 = w2c_l18;
+  w2c_i0 = w2c_l17;
   w2c_i1 = 38646u;
   w2c_i0 = w2c_i0 != w2c_i1;
   if (w2c_i0) {goto w2c_B378;}
@@ -23102,13 +23084,13 @@ static void w2c_f23(module *m, u64 w2c_p0, u32 w2c_p1, u64 w2c_p2, u64 w2c_p3) {
   w2c_j1 = 20ull;
   w2c_j0 += w2c_j1;
   w2c_i0 = (u32)(w2c_j0);
-  w2c_i1 = w2c_l18;
+  w2c_i1 = w2c_l17;
   i32_store(m, (u64)(w2c_i0), w2c_i1);
   w2c_j0 = w2c_p0;
   w2c_j1 = 16ull;
   w2c_j0 += w2c_j1;
   w2c_i0 = (u32)(w2c_j0);
-  w2c_i1 = w2c_l17;
+  w2c_i1 = w2c_l16;
   i32_store(m, (u64)(w2c_i0), w2c_i1);
   w2c_j0 = w2c_p0;
   w2c_j1 = 8ull;
@@ -28863,16 +28845,16 @@ static void w2c_f33(module *m, u64 w2c_p0, u64 w2c_p1, u32 w2c_p2) {
   w2c_j1 = 3ull;
   w2c_j0 <<= (w2c_j1 & 63);
   w2c_l4 = w2c_j0;
-  w2c_j1 = 85200ull;
+  w2c_j1 = 85392ull;
   w2c_j0 += w2c_j1;
   w2c_l5 = w2c_j0;
   w2c_j0 = w2c_l4;
   w2c_i0 = (u32)(w2c_j0);
-  w2c_j0 = i64_load(m, (u64)(w2c_i0) + 84808u);
+  w2c_j0 = i64_load(m, (u64)(w2c_i0) + 84976u);
   w2c_l6 = w2c_j0;
   w2c_j0 = w2c_l4;
   w2c_i0 = (u32)(w2c_j0);
-  w2c_j0 = i64_load(m, (u64)(w2c_i0) + 84024u);
+  w2c_j0 = i64_load(m, (u64)(w2c_i0) + 84144u);
   w2c_l7 = w2c_j0;
   w2c_j0 = w2c_p0;
   w2c_i0 = (u32)(w2c_j0);
@@ -28886,13 +28868,13 @@ static void w2c_f33(module *m, u64 w2c_p0, u64 w2c_p1, u32 w2c_p2) {
   }
   w2c_B4:;
   w2c_j0 = w2c_l4;
-  w2c_j1 = 84416ull;
+  w2c_j1 = 84560ull;
   w2c_j0 += w2c_j1;
   w2c_l5 = w2c_j0;
   goto w2c_B2;
   w2c_B3:;
   w2c_j0 = w2c_l4;
-  w2c_j1 = 83632ull;
+  w2c_j1 = 83728ull;
   w2c_j0 += w2c_j1;
   w2c_l5 = w2c_j0;
   w2c_B2:;
@@ -29093,7 +29075,7 @@ static void w2c_f33(module *m, u64 w2c_p0, u64 w2c_p1, u32 w2c_p2) {
     w2c_i1 = (u32)(w2c_j1);
     w2c_j1 = i64_load(m, (u64)(w2c_i1) + 136u);
     w2c_l7 = w2c_j1;
-    w2c_j2 = 73720ull;
+    w2c_j2 = 73793ull;
     w2c_j3 = 5ull;
     w2c_i0 = w2c_f31(m, w2c_j0, w2c_j1, w2c_j2, w2c_j3);
     w2c_i0 = !(w2c_i0);
@@ -29178,7 +29160,7 @@ static void w2c_f33(module *m, u64 w2c_p0, u64 w2c_p1, u32 w2c_p2) {
     w2c_B15:;
     w2c_j0 = w2c_l4;
     w2c_j1 = w2c_l7;
-    w2c_j2 = 73725ull;
+    w2c_j2 = 73798ull;
     w2c_j3 = 5ull;
     w2c_i0 = w2c_f31(m, w2c_j0, w2c_j1, w2c_j2, w2c_j3);
     w2c_i0 = !(w2c_i0);
@@ -29219,7 +29201,7 @@ static void w2c_f33(module *m, u64 w2c_p0, u64 w2c_p1, u32 w2c_p2) {
     w2c_B16:;
     w2c_j0 = w2c_l4;
     w2c_j1 = w2c_l7;
-    w2c_j2 = 73730ull;
+    w2c_j2 = 73803ull;
     w2c_j3 = 5ull;
     w2c_i0 = w2c_f31(m, w2c_j0, w2c_j1, w2c_j2, w2c_j3);
     w2c_i0 = !(w2c_i0);
@@ -29260,7 +29242,7 @@ static void w2c_f33(module *m, u64 w2c_p0, u64 w2c_p1, u32 w2c_p2) {
     w2c_B17:;
     w2c_j0 = w2c_l4;
     w2c_j1 = w2c_l7;
-    w2c_j2 = 73735ull;
+    w2c_j2 = 73808ull;
     w2c_j3 = 4ull;
     w2c_i0 = w2c_f31(m, w2c_j0, w2c_j1, w2c_j2, w2c_j3);
     w2c_i0 = !(w2c_i0);
@@ -29283,19 +29265,19 @@ static void w2c_f33(module *m, u64 w2c_p0, u64 w2c_p1, u32 w2c_p2) {
     w2c_p2 = w2c_i0;
     w2c_j0 = w2c_p1;
     w2c_i1 = w2c_p2;
-    w2c_j2 = 73968ull;
+    w2c_j2 = 74076ull;
     w2c_j3 = 10ull;
     w2c_j4 = w2c_l7;
     w2c_j5 = w2c_l4;
     w2c_j6 = w2c_p1;
     w2c_i7 = w2c_p2;
-    w2c_j8 = 73932ull;
+    w2c_j8 = 74040ull;
     w2c_j9 = 9ull;
     w2c_j10 = w2c_l7;
     w2c_j11 = w2c_l4;
     w2c_j12 = w2c_p1;
     w2c_i13 = w2c_p2;
-    w2c_j14 = 73812ull;
+    w2c_j14 = 73920ull;
     w2c_j15 = 30ull;
     w2c_j16 = w2c_l7;
     w2c_j17 = w2c_l4;
@@ -29311,7 +29293,7 @@ static void w2c_f33(module *m, u64 w2c_p0, u64 w2c_p1, u32 w2c_p2) {
     w2c_B18:;
     w2c_j0 = w2c_l4;
     w2c_j1 = w2c_l7;
-    w2c_j2 = 73739ull;
+    w2c_j2 = 73812ull;
     w2c_j3 = 7ull;
     w2c_i0 = w2c_f31(m, w2c_j0, w2c_j1, w2c_j2, w2c_j3);
     w2c_i0 = !(w2c_i0);
@@ -34201,7 +34183,7 @@ static void w2c_f37(module *m, u64 w2c_p0, u64 w2c_p1, u64 w2c_p2, u64 w2c_p3) {
   w2c_B13:;
   w2c_j0 = 0ull;
   w2c_l7 = w2c_j0;
-  w2c_j0 = 79844ull;
+  w2c_j0 = 79940ull;
   w2c_p3 = w2c_j0;
   w2c_j0 = w2c_p2;
   w2c_j1 = w2c_l4;
@@ -34267,7 +34249,7 @@ static void w2c_f37(module *m, u64 w2c_p0, u64 w2c_p1, u64 w2c_p2, u64 w2c_p3) {
 static void w2c_f38(module *m, u64 w2c_p0, u32 w2c_p1, u64 w2c_p2, u64 w2c_p3) {
   u32 w2c_l8 = 0, w2c_l9 = 0, w2c_l10 = 0, w2c_l11 = 0;
   u64 w2c_l4 = 0, w2c_l5 = 0, w2c_l6 = 0, w2c_l7 = 0;
-  u32 w2c_i0, w2c_i1, w2c_i2, w2c_i3;
+  u32 w2c_i0, w2c_i1, w2c_i2, w2c_i3, w2c_i6, w2c_i7;
   u64 w2c_j0, w2c_j1, w2c_j2, w2c_j3, w2c_j4, w2c_j5;
   w2c_j0 = m->w2c_g0;
   w2c_l4 = w2c_j0;
@@ -34358,13 +34340,13 @@ static void w2c_f38(module *m, u64 w2c_p0, u32 w2c_p1, u64 w2c_p2, u64 w2c_p3) {
   w2c_i0 = w2c_i0 > w2c_i1;
   if (w2c_i0) {goto w2c_B5;}
   w2c_B6:;
-  w2c_j0 = 73749ull;
+  w2c_j0 = 73822ull;
   w2c_l5 = w2c_j0;
-  w2c_j0 = 6ull;
+  w2c_j0 = 12ull;
   w2c_l6 = w2c_j0;
   w2c_i0 = 0u;
   w2c_l8 = w2c_i0;
-  w2c_j0 = 5ull;
+  w2c_j0 = 7ull;
   w2c_l7 = w2c_j0;
   w2c_i0 = w2c_l9;
   w2c_i1 = 4294967287u;
@@ -34378,13 +34360,13 @@ static void w2c_f38(module *m, u64 w2c_p0, u32 w2c_p1, u64 w2c_p2, u64 w2c_p3) {
   if (w2c_i0) {goto w2c_B2;}
   goto w2c_B0;
   w2c_B5:;
-  w2c_j0 = 73749ull;
+  w2c_j0 = 73822ull;
   w2c_l5 = w2c_j0;
-  w2c_j0 = 6ull;
+  w2c_j0 = 12ull;
   w2c_l6 = w2c_j0;
   w2c_i0 = 0u;
   w2c_l8 = w2c_i0;
-  w2c_j0 = 5ull;
+  w2c_j0 = 7ull;
   w2c_l7 = w2c_j0;
   w2c_i0 = w2c_l9;
   w2c_i1 = 4294959104u;
@@ -34435,13 +34417,13 @@ static void w2c_f38(module *m, u64 w2c_p0, u32 w2c_p1, u64 w2c_p2, u64 w2c_p3) {
   w2c_i0 = w2c_i0 == w2c_i1;
   if (w2c_i0) {goto w2c_B0;}
   w2c_B2:;
-  w2c_j0 = 73760ull;
+  w2c_j0 = 73841ull;
   w2c_l5 = w2c_j0;
-  w2c_j0 = 15ull;
+  w2c_j0 = 21ull;
   w2c_l6 = w2c_j0;
   w2c_i0 = 1u;
   w2c_l8 = w2c_i0;
-  w2c_j0 = 19ull;
+  w2c_j0 = 22ull;
   w2c_l7 = w2c_j0;
   w2c_i0 = w2c_l9;
   w2c_i1 = 32u;
@@ -34488,13 +34470,53 @@ static void w2c_f38(module *m, u64 w2c_p0, u32 w2c_p1, u64 w2c_p2, u64 w2c_p3) {
   w2c_j2 = w2c_p0;
   w2c_j3 = 8ull;
   w2c_j2 += w2c_j3;
+  w2c_l7 = w2c_j2;
   w2c_i2 = (u32)(w2c_j2);
   w2c_j2 = i64_load(m, (u64)(w2c_i2));
   w2c_j3 = w2c_l5;
   w2c_i3 = (u32)(w2c_j3);
   w2c_j3 = i64_load(m, (u64)(w2c_i3));
+  w2c_j4 = 73905ull;
+  w2c_j5 = 73911ull;
+  w2c_i6 = w2c_p1;
+  w2c_i7 = 255u;
+  w2c_i6 &= w2c_i7;
+  w2c_i7 = 2u;
+  w2c_i6 = w2c_i6 == w2c_i7;
+  w2c_l9 = w2c_i6;
+  w2c_j4 = w2c_i6 ? w2c_j4 : w2c_j5;
+  w2c_j5 = 3ull;
+  w2c_j1 = w2c_f36(m, w2c_j1, w2c_j2, w2c_j3, w2c_j4, w2c_j5);
+  w2c_l6 = w2c_j1;
+  i64_store(m, (u64)(w2c_i0), w2c_j1);
+  w2c_j0 = w2c_l5;
+  w2c_i0 = (u32)(w2c_j0);
+  w2c_j1 = w2c_p0;
+  w2c_i1 = (u32)(w2c_j1);
+  w2c_j1 = i64_load(m, (u64)(w2c_i1));
+  w2c_j2 = w2c_l7;
+  w2c_i2 = (u32)(w2c_j2);
+  w2c_j2 = i64_load(m, (u64)(w2c_i2));
+  w2c_j3 = w2c_l6;
   w2c_j4 = w2c_p2;
   w2c_j5 = w2c_p3;
+  w2c_j1 = w2c_f36(m, w2c_j1, w2c_j2, w2c_j3, w2c_j4, w2c_j5);
+  w2c_p2 = w2c_j1;
+  i64_store(m, (u64)(w2c_i0), w2c_j1);
+  w2c_j0 = w2c_l5;
+  w2c_i0 = (u32)(w2c_j0);
+  w2c_j1 = w2c_p0;
+  w2c_i1 = (u32)(w2c_j1);
+  w2c_j1 = i64_load(m, (u64)(w2c_i1));
+  w2c_j2 = w2c_l7;
+  w2c_i2 = (u32)(w2c_j2);
+  w2c_j2 = i64_load(m, (u64)(w2c_i2));
+  w2c_j3 = w2c_p2;
+  w2c_j4 = 73908ull;
+  w2c_j5 = 73914ull;
+  w2c_i6 = w2c_l9;
+  w2c_j4 = w2c_i6 ? w2c_j4 : w2c_j5;
+  w2c_j5 = 3ull;
   w2c_j1 = w2c_f36(m, w2c_j1, w2c_j2, w2c_j3, w2c_j4, w2c_j5);
   i64_store(m, (u64)(w2c_i0), w2c_j1);
   w2c_j0 = w2c_l4;
@@ -34513,15 +34535,15 @@ static void w2c_f38(module *m, u64 w2c_p0, u32 w2c_p1, u64 w2c_p2, u64 w2c_p3) {
     default: goto w2c_B11;
   }
   w2c_B14:;
-  w2c_j0 = 73779ull;
-  w2c_j1 = 73754ull;
+  w2c_j0 = 73863ull;
+  w2c_j1 = 73829ull;
   w2c_i2 = w2c_l8;
   w2c_j0 = w2c_i2 ? w2c_j0 : w2c_j1;
   w2c_l5 = w2c_j0;
   goto w2c_B12;
   w2c_B13:;
-  w2c_j0 = 73794ull;
-  w2c_j1 = 73754ull;
+  w2c_j0 = 73884ull;
+  w2c_j1 = 73829ull;
   w2c_i2 = w2c_l8;
   w2c_j0 = w2c_i2 ? w2c_j0 : w2c_j1;
   w2c_l5 = w2c_j0;
@@ -34698,7 +34720,7 @@ static void w2c_f39(module *m, u64 w2c_p0, u64 w2c_p1, u64 w2c_p2, u64 w2c_p3) {
   w2c_B6:;
   w2c_j0 = 0ull;
   w2c_p3 = w2c_j0;
-  w2c_j0 = 79844ull;
+  w2c_j0 = 79940ull;
   w2c_l7 = w2c_j0;
   w2c_j0 = w2c_p2;
   w2c_j1 = w2c_l4;
@@ -34951,7 +34973,7 @@ static void w2c_f39(module *m, u64 w2c_p0, u64 w2c_p1, u64 w2c_p2, u64 w2c_p3) {
   w2c_j0 = w2c_i2 ? w2c_j0 : w2c_j1;
   w2c_p3 = w2c_j0;
   w2c_j0 = w2c_p1;
-  w2c_j1 = 79844ull;
+  w2c_j1 = 79940ull;
   w2c_i2 = w2c_l8;
   w2c_j0 = w2c_i2 ? w2c_j0 : w2c_j1;
   w2c_l7 = w2c_j0;
@@ -34992,26 +35014,26 @@ static u32 w2c_f40(module *m, u64 w2c_p0, u32 w2c_p1, u64 w2c_p2, u64 w2c_p3, u6
   w2c_l18 = w2c_i2;
   w2c_j0 = w2c_i2 ? w2c_j0 : w2c_j1;
   w2c_l8 = w2c_j0;
-  w2c_j0 = 74010ull;
-  w2c_j1 = 74008ull;
+  w2c_j0 = 74118ull;
+  w2c_j1 = 74116ull;
   w2c_i2 = w2c_l18;
   w2c_j0 = w2c_i2 ? w2c_j0 : w2c_j1;
   w2c_l9 = w2c_j0;
-  w2c_j0 = 74022ull;
-  w2c_j1 = 74013ull;
+  w2c_j0 = 74130ull;
+  w2c_j1 = 74121ull;
   w2c_i2 = w2c_l18;
   w2c_i3 = 2u;
   w2c_i2 = w2c_i2 == w2c_i3;
   w2c_l18 = w2c_i2;
   w2c_j0 = w2c_i2 ? w2c_j0 : w2c_j1;
   w2c_l10 = w2c_j0;
-  w2c_j0 = 79569ull;
-  w2c_j1 = 79575ull;
+  w2c_j0 = 73905ull;
+  w2c_j1 = 73911ull;
   w2c_i2 = w2c_l18;
   w2c_j0 = w2c_i2 ? w2c_j0 : w2c_j1;
   w2c_l11 = w2c_j0;
-  w2c_j0 = 79572ull;
-  w2c_j1 = 79578ull;
+  w2c_j0 = 73908ull;
+  w2c_j1 = 73914ull;
   w2c_i2 = w2c_l18;
   w2c_j0 = w2c_i2 ? w2c_j0 : w2c_j1;
   w2c_l12 = w2c_j0;
@@ -35109,7 +35131,7 @@ static u32 w2c_f40(module *m, u64 w2c_p0, u32 w2c_p1, u64 w2c_p2, u64 w2c_p3, u6
       w2c_j3 = 3ull;
       w2c_j2 *= w2c_j3;
       w2c_l17 = w2c_j2;
-      w2c_j3 = 74032ull;
+      w2c_j3 = 74140ull;
       w2c_j2 += w2c_j3;
       w2c_i2 = (u32)(w2c_j2);
       w2c_i2 = i32_load8_u(m, (u64)(w2c_i2));
@@ -35117,12 +35139,12 @@ static u32 w2c_f40(module *m, u64 w2c_p0, u32 w2c_p1, u64 w2c_p2, u64 w2c_p3, u6
       w2c_i2 <<= (w2c_i3 & 31);
       w2c_j3 = w2c_l17;
       w2c_i3 = (u32)(w2c_j3);
-      w2c_i3 = i32_load8_u(m, (u64)(w2c_i3) + 74031u);
+      w2c_i3 = i32_load8_u(m, (u64)(w2c_i3) + 74139u);
       w2c_i4 = 16u;
       w2c_i3 <<= (w2c_i4 & 31);
       w2c_i2 |= w2c_i3;
       w2c_j3 = w2c_l17;
-      w2c_j4 = 74033ull;
+      w2c_j4 = 74141ull;
       w2c_j3 += w2c_j4;
       w2c_i3 = (u32)(w2c_j3);
       w2c_i3 = i32_load8_u(m, (u64)(w2c_i3));
@@ -35164,7 +35186,7 @@ static u32 w2c_f40(module *m, u64 w2c_p0, u32 w2c_p1, u64 w2c_p2, u64 w2c_p3, u6
       w2c_j3 = 3ull;
       w2c_j2 *= w2c_j3;
       w2c_l17 = w2c_j2;
-      w2c_j3 = 78682ull;
+      w2c_j3 = 78790ull;
       w2c_j2 += w2c_j3;
       w2c_i2 = (u32)(w2c_j2);
       w2c_i2 = i32_load8_u(m, (u64)(w2c_i2));
@@ -35172,12 +35194,12 @@ static u32 w2c_f40(module *m, u64 w2c_p0, u32 w2c_p1, u64 w2c_p2, u64 w2c_p3, u6
       w2c_i2 <<= (w2c_i3 & 31);
       w2c_j3 = w2c_l17;
       w2c_i3 = (u32)(w2c_j3);
-      w2c_i3 = i32_load8_u(m, (u64)(w2c_i3) + 78681u);
+      w2c_i3 = i32_load8_u(m, (u64)(w2c_i3) + 78789u);
       w2c_i4 = 16u;
       w2c_i3 <<= (w2c_i4 & 31);
       w2c_i2 |= w2c_i3;
       w2c_j3 = w2c_l17;
-      w2c_j4 = 78683ull;
+      w2c_j4 = 78791ull;
       w2c_j3 += w2c_j4;
       w2c_i3 = (u32)(w2c_j3);
       w2c_i3 = i32_load8_u(m, (u64)(w2c_i3));
@@ -35434,8 +35456,8 @@ static u32 w2c_f41(module *m, u64 w2c_p0, u32 w2c_p1, u64 w2c_p2, u64 w2c_p3, u6
   w2c_j3 = w2c_l13;
   w2c_i3 = (u32)(w2c_j3);
   w2c_j3 = i64_load(m, (u64)(w2c_i3));
-  w2c_j4 = 74010ull;
-  w2c_j5 = 74008ull;
+  w2c_j4 = 74118ull;
+  w2c_j5 = 74116ull;
   w2c_i6 = w2c_p1;
   w2c_i7 = 255u;
   w2c_i6 &= w2c_i7;
@@ -35471,7 +35493,7 @@ static u32 w2c_f41(module *m, u64 w2c_p0, u32 w2c_p1, u64 w2c_p2, u64 w2c_p3, u6
   w2c_j3 = w2c_l12;
   w2c_i3 = (u32)(w2c_j3);
   w2c_j3 = i64_load(m, (u64)(w2c_i3));
-  w2c_j4 = 79581ull;
+  w2c_j4 = 79677ull;
   w2c_j5 = 3ull;
   w2c_j1 = w2c_f36(m, w2c_j1, w2c_j2, w2c_j3, w2c_j4, w2c_j5);
   i64_store(m, (u64)(w2c_i0), w2c_j1);
@@ -36215,7 +36237,263 @@ static void w2c_f44(module *m, u64 w2c_p0, u64 w2c_p1, u64 w2c_p2) {
   w2c_Bfunc:;
 }
 
-static u64 w2c_f45(module *m, u64 w2c_p0, u64 w2c_p1, u64 w2c_p2) {
+static void w2c_f45(module *m, u64 w2c_p0, u32 w2c_p1) {
+  u32 w2c_l2 = 0, w2c_l3 = 0;
+  u32 w2c_i0, w2c_i1;
+  u64 w2c_j0, w2c_j1;
+  w2c_j0 = m->w2c_g0;
+  w2c_j1 = 16ull;
+  w2c_i0 = (u64)((s64)w2c_j0 < (s64)w2c_j1);
+  if (w2c_i0) {goto w2c_B3;}
+  w2c_i0 = 1u;
+  w2c_l2 = w2c_i0;
+  w2c_i0 = w2c_p1;
+  w2c_i1 = 26496u;
+  w2c_i0 = (u32)((s32)w2c_i0 > (s32)w2c_i1);
+  if (w2c_i0) {goto w2c_B13;}
+  w2c_i0 = 0u;
+  w2c_l3 = w2c_i0;
+  w2c_i0 = w2c_p1;
+  w2c_i1 = 20490u;
+  w2c_i0 = (u32)((s32)w2c_i0 > (s32)w2c_i1);
+  if (w2c_i0) {goto w2c_B14;}
+  w2c_i0 = w2c_p1;
+  w2c_i1 = 20139u;
+  w2c_i0 = (u32)((s32)w2c_i0 > (s32)w2c_i1);
+  if (w2c_i0) {goto w2c_B15;}
+  w2c_i0 = w2c_p1;
+  w2c_i1 = 19975u;
+  w2c_i0 = w2c_i0 == w2c_i1;
+  if (w2c_i0) {goto w2c_B12;}
+  w2c_i0 = w2c_p1;
+  w2c_i1 = 20010u;
+  w2c_i0 = w2c_i0 == w2c_i1;
+  if (w2c_i0) {goto w2c_B0;}
+  goto w2c_B1;
+  w2c_B15:;
+  w2c_i0 = w2c_p1;
+  w2c_i1 = 4294947156u;
+  w2c_i0 += w2c_i1;
+  switch (w2c_i0) {
+    case 0: goto w2c_B8;
+    case 1: goto w2c_B1;
+    case 2: goto w2c_B1;
+    case 3: goto w2c_B1;
+    case 4: goto w2c_B1;
+    case 5: goto w2c_B1;
+    case 6: goto w2c_B1;
+    case 7: goto w2c_B1;
+    case 8: goto w2c_B1;
+    case 9: goto w2c_B1;
+    case 10: goto w2c_B1;
+    case 11: goto w2c_B1;
+    case 12: goto w2c_B1;
+    case 13: goto w2c_B1;
+    case 14: goto w2c_B1;
+    case 15: goto w2c_B1;
+    case 16: goto w2c_B1;
+    case 17: goto w2c_B1;
+    case 18: goto w2c_B1;
+    case 19: goto w2c_B9;
+    default: goto w2c_B16;
+  }
+  w2c_B16:;
+  w2c_i0 = w2c_p1;
+  w2c_i1 = 20191u;
+  w2c_i0 = w2c_i0 == w2c_i1;
+  if (w2c_i0) {goto w2c_B10;}
+  w2c_i0 = w2c_p1;
+  w2c_i1 = 20336u;
+  w2c_i0 = w2c_i0 != w2c_i1;
+  if (w2c_i0) {goto w2c_B1;}
+  goto w2c_B2;
+  w2c_B14:;
+  w2c_i0 = w2c_p1;
+  w2c_i1 = 21312u;
+  w2c_i0 = (u32)((s32)w2c_i0 > (s32)w2c_i1);
+  if (w2c_i0) {goto w2c_B17;}
+  w2c_i0 = w2c_p1;
+  w2c_i1 = 20491u;
+  w2c_i0 = w2c_i0 == w2c_i1;
+  if (w2c_i0) {goto w2c_B0;}
+  w2c_i0 = w2c_p1;
+  w2c_i1 = 20740u;
+  w2c_i0 = w2c_i0 == w2c_i1;
+  if (w2c_i0) {goto w2c_B9;}
+  w2c_i0 = w2c_p1;
+  w2c_i1 = 20806u;
+  w2c_i0 = w2c_i0 != w2c_i1;
+  if (w2c_i0) {goto w2c_B1;}
+  w2c_i0 = 6u;
+  w2c_l3 = w2c_i0;
+  goto w2c_B0;
+  w2c_B17:;
+  w2c_i0 = w2c_p1;
+  w2c_i1 = 4294945983u;
+  w2c_i0 += w2c_i1;
+  switch (w2c_i0) {
+    case 0: goto w2c_B18;
+    case 1: goto w2c_B1;
+    case 2: goto w2c_B10;
+    default: goto w2c_B19;
+  }
+  w2c_B19:;
+  w2c_i0 = w2c_p1;
+  w2c_i1 = 22419u;
+  w2c_i0 = w2c_i0 == w2c_i1;
+  if (w2c_i0) {goto w2c_B7;}
+  w2c_i0 = w2c_p1;
+  w2c_i1 = 25342u;
+  w2c_i0 = w2c_i0 != w2c_i1;
+  if (w2c_i0) {goto w2c_B1;}
+  w2c_B18:;
+  w2c_i0 = 1u;
+  w2c_l3 = w2c_i0;
+  w2c_i0 = 1u;
+  w2c_l2 = w2c_i0;
+  goto w2c_B0;
+  w2c_B13:;
+  w2c_i0 = w2c_p1;
+  w2c_i1 = 28566u;
+  w2c_i0 = (u32)((s32)w2c_i0 > (s32)w2c_i1);
+  if (w2c_i0) {goto w2c_B20;}
+  w2c_i0 = w2c_p1;
+  w2c_i1 = 27806u;
+  w2c_i0 = (u32)((s32)w2c_i0 > (s32)w2c_i1);
+  if (w2c_i0) {goto w2c_B21;}
+  w2c_i0 = w2c_p1;
+  w2c_i1 = 26497u;
+  w2c_i0 = w2c_i0 == w2c_i1;
+  if (w2c_i0) {goto w2c_B4;}
+  w2c_i0 = w2c_p1;
+  w2c_i1 = 26997u;
+  w2c_i0 = w2c_i0 == w2c_i1;
+  if (w2c_i0) {goto w2c_B4;}
+  w2c_i0 = w2c_p1;
+  w2c_i1 = 27491u;
+  w2c_i0 = w2c_i0 != w2c_i1;
+  if (w2c_i0) {goto w2c_B1;}
+  w2c_i0 = 13u;
+  w2c_l3 = w2c_i0;
+  goto w2c_B0;
+  w2c_B21:;
+  w2c_i0 = w2c_p1;
+  w2c_i1 = 27807u;
+  w2c_i0 = w2c_i0 == w2c_i1;
+  if (w2c_i0) {goto w2c_B22;}
+  w2c_i0 = w2c_p1;
+  w2c_i1 = 28071u;
+  w2c_i0 = w2c_i0 == w2c_i1;
+  if (w2c_i0) {goto w2c_B5;}
+  w2c_i0 = w2c_p1;
+  w2c_i1 = 28317u;
+  w2c_i0 = w2c_i0 != w2c_i1;
+  if (w2c_i0) {goto w2c_B1;}
+  w2c_B22:;
+  w2c_i0 = 11u;
+  w2c_l3 = w2c_i0;
+  goto w2c_B0;
+  w2c_B20:;
+  w2c_i0 = w2c_p1;
+  w2c_i1 = 31343u;
+  w2c_i0 = (u32)((s32)w2c_i0 > (s32)w2c_i1);
+  if (w2c_i0) {goto w2c_B23;}
+  w2c_i0 = w2c_p1;
+  w2c_i1 = 28567u;
+  w2c_i0 = w2c_i0 == w2c_i1;
+  if (w2c_i0) {goto w2c_B5;}
+  w2c_i0 = w2c_p1;
+  w2c_i1 = 30334u;
+  w2c_i0 = w2c_i0 == w2c_i1;
+  if (w2c_i0) {goto w2c_B2;}
+  w2c_i0 = w2c_p1;
+  w2c_i1 = 31213u;
+  w2c_i0 = w2c_i0 != w2c_i1;
+  if (w2c_i0) {goto w2c_B1;}
+  w2c_i0 = 9u;
+  w2c_l3 = w2c_i0;
+  goto w2c_B0;
+  w2c_B23:;
+  w2c_i0 = w2c_p1;
+  w2c_i1 = 36616u;
+  w2c_i0 = (u32)((s32)w2c_i0 > (s32)w2c_i1);
+  if (w2c_i0) {goto w2c_B11;}
+  w2c_i0 = w2c_p1;
+  w2c_i1 = 31344u;
+  w2c_i0 = w2c_i0 == w2c_i1;
+  if (w2c_i0) {goto w2c_B6;}
+  w2c_i0 = w2c_p1;
+  w2c_i1 = 33836u;
+  w2c_i0 = w2c_i0 != w2c_i1;
+  if (w2c_i0) {goto w2c_B1;}
+  w2c_B12:;
+  w2c_i0 = 4u;
+  w2c_l3 = w2c_i0;
+  goto w2c_B0;
+  w2c_B11:;
+  w2c_i0 = w2c_p1;
+  w2c_i1 = 36617u;
+  w2c_i0 = w2c_i0 == w2c_i1;
+  if (w2c_i0) {goto w2c_B24;}
+  w2c_i0 = w2c_p1;
+  w2c_i1 = 36733u;
+  w2c_i0 = w2c_i0 != w2c_i1;
+  if (w2c_i0) {goto w2c_B1;}
+  w2c_B24:;
+  w2c_i0 = 14u;
+  w2c_l3 = w2c_i0;
+  goto w2c_B0;
+  w2c_B10:;
+  w2c_i0 = 3u;
+  w2c_l3 = w2c_i0;
+  goto w2c_B0;
+  w2c_B9:;
+  w2c_i0 = 5u;
+  w2c_l3 = w2c_i0;
+  goto w2c_B0;
+  w2c_B8:;
+  w2c_i0 = 7u;
+  w2c_l3 = w2c_i0;
+  goto w2c_B0;
+  w2c_B7:;
+  w2c_i0 = 8u;
+  w2c_l3 = w2c_i0;
+  goto w2c_B0;
+  w2c_B6:;
+  w2c_i0 = 10u;
+  w2c_l3 = w2c_i0;
+  goto w2c_B0;
+  w2c_B5:;
+  w2c_i0 = 12u;
+  w2c_l3 = w2c_i0;
+  goto w2c_B0;
+  w2c_B4:;
+  w2c_i0 = 15u;
+  w2c_l3 = w2c_i0;
+  goto w2c_B0;
+  w2c_B3:;
+  UNREACHABLE;
+  w2c_B2:;
+  w2c_i0 = 2u;
+  w2c_l3 = w2c_i0;
+  goto w2c_B0;
+  w2c_B1:;
+  w2c_i0 = 0u;
+  w2c_l2 = w2c_i0;
+  w2c_i0 = 0u;
+  w2c_l3 = w2c_i0;
+  w2c_B0:;
+  w2c_j0 = w2c_p0;
+  w2c_i0 = (u32)(w2c_j0);
+  w2c_i1 = w2c_l3;
+  i32_store8(m, (u64)(w2c_i0) + 1, w2c_i1);
+  w2c_j0 = w2c_p0;
+  w2c_i0 = (u32)(w2c_j0);
+  w2c_i1 = w2c_l2;
+  i32_store8(m, (u64)(w2c_i0), w2c_i1);
+}
+
+static u64 w2c_f46(module *m, u64 w2c_p0, u64 w2c_p1, u64 w2c_p2) {
   u64 w2c_l3 = 0, w2c_l4 = 0, w2c_l5 = 0, w2c_l6 = 0, w2c_l7 = 0, w2c_l8 = 0;
   u32 w2c_i0, w2c_i1, w2c_i2;
   u64 w2c_j0, w2c_j1, w2c_j2, w2c_j3;
@@ -36468,7 +36746,7 @@ static u64 w2c_f45(module *m, u64 w2c_p0, u64 w2c_p1, u64 w2c_p2) {
   return w2c_j0;
 }
 
-static void w2c_f46(module *m, u64 w2c_p0, u32 w2c_p1) {
+static void w2c_f47(module *m, u64 w2c_p0, u32 w2c_p1) {
   u32 w2c_l2 = 0, w2c_l3 = 0;
   u32 w2c_i0, w2c_i1;
   u64 w2c_j0, w2c_j1;
@@ -36736,7 +37014,7 @@ static void w2c_f46(module *m, u64 w2c_p0, u32 w2c_p1) {
   i32_store8(m, (u64)(w2c_i0), w2c_i1);
 }
 
-static void w2c_f47(module *m, u64 w2c_p0, u32 w2c_p1) {
+static void w2c_f48(module *m, u64 w2c_p0, u32 w2c_p1) {
   u32 w2c_l5 = 0;
   u64 w2c_l2 = 0, w2c_l3 = 0, w2c_l4 = 0;
   u32 w2c_i0, w2c_i1, w2c_i2, w2c_i3;
@@ -36757,9 +37035,9 @@ static void w2c_f47(module *m, u64 w2c_p0, u32 w2c_p1) {
   w2c_i2 = 10u;
   w2c_i1 = DIV_U(w2c_i1, w2c_i2);
   w2c_l5 = w2c_i1;
-  w2c_f47(m, w2c_j0, w2c_i1);
-  w2c_j0 = 80732ull;
-  w2c_j1 = 80300ull;
+  w2c_f48(m, w2c_j0, w2c_i1);
+  w2c_j0 = 80828ull;
+  w2c_j1 = 80396ull;
   w2c_j2 = w2c_p0;
   w2c_i2 = (u32)(w2c_j2);
   w2c_i2 = i32_load8_u(m, (u64)(w2c_i2));
@@ -36845,7 +37123,7 @@ static void w2c_f47(module *m, u64 w2c_p0, u32 w2c_p1) {
   w2c_Bfunc:;
 }
 
-static void w2c_f48(module *m, u64 w2c_p0, u32 w2c_p1) {
+static void w2c_f49(module *m, u64 w2c_p0, u32 w2c_p1) {
   u32 w2c_l2 = 0, w2c_l3 = 0;
   u64 w2c_l4 = 0, w2c_l5 = 0, w2c_l6 = 0;
   u32 w2c_i0, w2c_i1, w2c_i2;
@@ -36861,8 +37139,8 @@ static void w2c_f48(module *m, u64 w2c_p0, u32 w2c_p1) {
   w2c_i1 = 9u;
   w2c_i0 = w2c_i0 > w2c_i1;
   if (w2c_i0) {goto w2c_B2;}
-  w2c_j0 = 80732ull;
-  w2c_j1 = 80300ull;
+  w2c_j0 = 80828ull;
+  w2c_j1 = 80396ull;
   w2c_j2 = w2c_p0;
   w2c_i2 = (u32)(w2c_j2);
   w2c_i2 = i32_load8_u(m, (u64)(w2c_i2));
@@ -36937,8 +37215,8 @@ static void w2c_f48(module *m, u64 w2c_p0, u32 w2c_p1) {
   i64_store(m, (u64)(w2c_i0), w2c_j1);
   goto w2c_Bfunc;
   w2c_B2:;
-  w2c_j0 = 80732ull;
-  w2c_j1 = 80300ull;
+  w2c_j0 = 80828ull;
+  w2c_j1 = 80396ull;
   w2c_j2 = w2c_p0;
   w2c_i2 = (u32)(w2c_j2);
   w2c_i2 = i32_load8_u(m, (u64)(w2c_i2));
@@ -37058,8 +37336,8 @@ static void w2c_f48(module *m, u64 w2c_p0, u32 w2c_p1) {
   w2c_i0 &= w2c_i1;
   w2c_i0 = !(w2c_i0);
   if (w2c_i0) {goto w2c_B1;}
-  w2c_j0 = 80732ull;
-  w2c_j1 = 80300ull;
+  w2c_j0 = 80828ull;
+  w2c_j1 = 80396ull;
   w2c_j2 = w2c_p0;
   w2c_i2 = (u32)(w2c_j2);
   w2c_i2 = i32_load8_u(m, (u64)(w2c_i2));
@@ -37135,7 +37413,7 @@ static void w2c_f48(module *m, u64 w2c_p0, u32 w2c_p1) {
   w2c_Bfunc:;
 }
 
-static void w2c_f49(module *m, u64 w2c_p0, u64 w2c_p1) {
+static void w2c_f50(module *m, u64 w2c_p0, u64 w2c_p1) {
   u32 w2c_l3 = 0, w2c_l4 = 0;
   u64 w2c_l2 = 0;
   u32 w2c_i0, w2c_i1, w2c_i2, w2c_i3, w2c_i4;
@@ -37315,7 +37593,7 @@ static void w2c_f49(module *m, u64 w2c_p0, u64 w2c_p1) {
   w2c_Bfunc:;
 }
 
-static void w2c_f50(module *m, u64 w2c_p0, u32 w2c_p1, u64 w2c_p2) {
+static void w2c_f51(module *m, u64 w2c_p0, u32 w2c_p1, u64 w2c_p2) {
   u32 w2c_l7 = 0, w2c_l8 = 0, w2c_l9 = 0, w2c_l10 = 0, w2c_l11 = 0, w2c_l12 = 0;
   u64 w2c_l3 = 0, w2c_l4 = 0, w2c_l5 = 0, w2c_l6 = 0;
   u32 w2c_i0, w2c_i1, w2c_i2, w2c_i3, w2c_i4;
@@ -37480,7 +37758,7 @@ static void w2c_f50(module *m, u64 w2c_p0, u32 w2c_p1, u64 w2c_p2) {
   w2c_j2 = w2c_l3;
   w2c_j3 = 12ull;
   w2c_j2 += w2c_j3;
-  w2c_f51(m, w2c_j0, w2c_i1, w2c_j2);
+  w2c_f52(m, w2c_j0, w2c_i1, w2c_j2);
   w2c_j0 = w2c_p0;
   w2c_j1 = 136ull;
   w2c_j0 += w2c_j1;
@@ -37556,7 +37834,7 @@ static void w2c_f50(module *m, u64 w2c_p0, u32 w2c_p1, u64 w2c_p2) {
   w2c_j2 = w2c_l3;
   w2c_j3 = 12ull;
   w2c_j2 += w2c_j3;
-  w2c_f51(m, w2c_j0, w2c_i1, w2c_j2);
+  w2c_f52(m, w2c_j0, w2c_i1, w2c_j2);
   w2c_i0 = w2c_l12;
   w2c_i1 = w2c_l11;
   w2c_i0 |= w2c_i1;
@@ -37656,7 +37934,7 @@ static void w2c_f50(module *m, u64 w2c_p0, u32 w2c_p1, u64 w2c_p2) {
   w2c_j2 = w2c_l3;
   w2c_j3 = 12ull;
   w2c_j2 += w2c_j3;
-  w2c_f51(m, w2c_j0, w2c_i1, w2c_j2);
+  w2c_f52(m, w2c_j0, w2c_i1, w2c_j2);
   w2c_j0 = w2c_p0;
   w2c_j1 = 136ull;
   w2c_j0 += w2c_j1;
@@ -37736,7 +38014,7 @@ static void w2c_f50(module *m, u64 w2c_p0, u32 w2c_p1, u64 w2c_p2) {
   w2c_j2 = w2c_l3;
   w2c_j3 = 12ull;
   w2c_j2 += w2c_j3;
-  w2c_f51(m, w2c_j0, w2c_i1, w2c_j2);
+  w2c_f52(m, w2c_j0, w2c_i1, w2c_j2);
   w2c_i0 = w2c_l8;
   w2c_i1 = w2c_l7;
   w2c_i0 |= w2c_i1;
@@ -37935,8 +38213,8 @@ static void w2c_f50(module *m, u64 w2c_p0, u32 w2c_p1, u64 w2c_p2) {
   w2c_i0 &= w2c_i1;
   w2c_i0 = !(w2c_i0);
   if (w2c_i0) {goto w2c_B11;}
-  w2c_j0 = 80732ull;
-  w2c_j1 = 80300ull;
+  w2c_j0 = 80828ull;
+  w2c_j1 = 80396ull;
   w2c_j2 = w2c_p0;
   w2c_i2 = (u32)(w2c_j2);
   w2c_i2 = i32_load8_u(m, (u64)(w2c_i2));
@@ -38096,8 +38374,8 @@ static void w2c_f50(module *m, u64 w2c_p0, u32 w2c_p1, u64 w2c_p2) {
   w2c_j1 += w2c_j2;
   i64_store(m, (u64)(w2c_i0), w2c_j1);
   w2c_B13:;
-  w2c_j0 = 80732ull;
-  w2c_j1 = 80300ull;
+  w2c_j0 = 80828ull;
+  w2c_j1 = 80396ull;
   w2c_j2 = w2c_p0;
   w2c_i2 = (u32)(w2c_j2);
   w2c_i2 = i32_load8_u(m, (u64)(w2c_i2));
@@ -38254,7 +38532,7 @@ static void w2c_f50(module *m, u64 w2c_p0, u32 w2c_p1, u64 w2c_p2) {
   w2c_Bfunc:;
 }
 
-static void w2c_f51(module *m, u64 w2c_p0, u32 w2c_p1, u64 w2c_p2) {
+static void w2c_f52(module *m, u64 w2c_p0, u32 w2c_p1, u64 w2c_p2) {
   u32 w2c_l3 = 0, w2c_l4 = 0, w2c_l5 = 0, w2c_l6 = 0, w2c_l7 = 0;
   u64 w2c_l8 = 0, w2c_l9 = 0, w2c_l10 = 0;
   u32 w2c_i0, w2c_i1, w2c_i2;
@@ -38324,8 +38602,8 @@ static void w2c_f51(module *m, u64 w2c_p0, u32 w2c_p1, u64 w2c_p2) {
   w2c_j1 += w2c_j2;
   i64_store(m, (u64)(w2c_i0), w2c_j1);
   w2c_B2:;
-  w2c_j0 = 80732ull;
-  w2c_j1 = 80300ull;
+  w2c_j0 = 80828ull;
+  w2c_j1 = 80396ull;
   w2c_j2 = w2c_p0;
   w2c_i2 = (u32)(w2c_j2);
   w2c_i2 = i32_load8_u(m, (u64)(w2c_i2));
@@ -38477,8 +38755,8 @@ static void w2c_f51(module *m, u64 w2c_p0, u32 w2c_p1, u64 w2c_p2) {
   w2c_j1 += w2c_j2;
   i64_store(m, (u64)(w2c_i0), w2c_j1);
   w2c_B4:;
-  w2c_j0 = 80732ull;
-  w2c_j1 = 80300ull;
+  w2c_j0 = 80828ull;
+  w2c_j1 = 80396ull;
   w2c_j2 = w2c_p0;
   w2c_i2 = (u32)(w2c_j2);
   w2c_i2 = i32_load8_u(m, (u64)(w2c_i2));
@@ -38641,8 +38919,8 @@ static void w2c_f51(module *m, u64 w2c_p0, u32 w2c_p1, u64 w2c_p2) {
   w2c_j1 += w2c_j2;
   i64_store(m, (u64)(w2c_i0), w2c_j1);
   w2c_B6:;
-  w2c_j0 = 80732ull;
-  w2c_j1 = 80300ull;
+  w2c_j0 = 80828ull;
+  w2c_j1 = 80396ull;
   w2c_j2 = w2c_p0;
   w2c_i2 = (u32)(w2c_j2);
   w2c_i2 = i32_load8_u(m, (u64)(w2c_i2));
@@ -38800,8 +39078,8 @@ static void w2c_f51(module *m, u64 w2c_p0, u32 w2c_p1, u64 w2c_p2) {
   w2c_j1 += w2c_j2;
   i64_store(m, (u64)(w2c_i0), w2c_j1);
   w2c_B8:;
-  w2c_j0 = 80732ull;
-  w2c_j1 = 80300ull;
+  w2c_j0 = 80828ull;
+  w2c_j1 = 80396ull;
   w2c_j2 = w2c_p0;
   w2c_i2 = (u32)(w2c_j2);
   w2c_i2 = i32_load8_u(m, (u64)(w2c_i2));
@@ -38878,7 +39156,7 @@ static void w2c_f51(module *m, u64 w2c_p0, u32 w2c_p1, u64 w2c_p2) {
   w2c_Bfunc:;
 }
 
-static u32 w2c_f52(module *m, u64 w2c_p0, u64 w2c_p1, u64 w2c_p2, u64 w2c_p3) {
+static u32 w2c_f53(module *m, u64 w2c_p0, u64 w2c_p1, u64 w2c_p2, u64 w2c_p3) {
   u32 w2c_l7 = 0;
   u64 w2c_l4 = 0, w2c_l5 = 0, w2c_l6 = 0;
   u32 w2c_i0, w2c_i1;
@@ -39082,7 +39360,7 @@ static u32 w2c_f52(module *m, u64 w2c_p0, u64 w2c_p1, u64 w2c_p2, u64 w2c_p3) {
   return w2c_i0;
 }
 
-static u32 w2c_f53(module *m, u64 w2c_p0, u32 w2c_p1, u32 w2c_p2, u64 w2c_p3, u64 w2c_p4, u64 w2c_p5) {
+static u32 w2c_f54(module *m, u64 w2c_p0, u32 w2c_p1, u32 w2c_p2, u64 w2c_p3, u64 w2c_p4, u64 w2c_p5) {
   u64 w2c_l6 = 0, w2c_l7 = 0;
   u32 w2c_i0, w2c_i1, w2c_i2;
   u64 w2c_j0, w2c_j1, w2c_j2, w2c_j3;
@@ -39140,7 +39418,7 @@ static u32 w2c_f53(module *m, u64 w2c_p0, u32 w2c_p1, u32 w2c_p2, u64 w2c_p3, u6
   w2c_j1 = 152ull;
   w2c_j0 += w2c_j1;
   w2c_j1 = w2c_p0;
-  w2c_f49(m, w2c_j0, w2c_j1);
+  w2c_f50(m, w2c_j0, w2c_j1);
   w2c_j0 = w2c_l6;
   w2c_j1 = 176ull;
   w2c_j0 += w2c_j1;
@@ -39148,7 +39426,7 @@ static u32 w2c_f53(module *m, u64 w2c_p0, u32 w2c_p1, u32 w2c_p2, u64 w2c_p3, u6
   w2c_j2 = w2c_l6;
   w2c_j3 = 152ull;
   w2c_j2 += w2c_j3;
-  w2c_f50(m, w2c_j0, w2c_i1, w2c_j2);
+  w2c_f51(m, w2c_j0, w2c_i1, w2c_j2);
   w2c_j0 = w2c_l6;
   w2c_j1 = 13ull;
   w2c_j0 += w2c_j1;
@@ -39199,7 +39477,7 @@ static u32 w2c_f53(module *m, u64 w2c_p0, u32 w2c_p1, u32 w2c_p2, u64 w2c_p3, u6
   return w2c_i0;
 }
 
-static u32 w2c_f54(module *m, u64 w2c_p0, u64 w2c_p1, u64 w2c_p2, u64 w2c_p3) {
+static u32 w2c_f55(module *m, u64 w2c_p0, u64 w2c_p1, u64 w2c_p2, u64 w2c_p3) {
   u32 w2c_l8 = 0;
   u64 w2c_l4 = 0, w2c_l5 = 0, w2c_l6 = 0, w2c_l7 = 0;
   u32 w2c_i0, w2c_i1;
@@ -39409,7 +39687,7 @@ static u32 w2c_f54(module *m, u64 w2c_p0, u64 w2c_p1, u64 w2c_p2, u64 w2c_p3) {
   return w2c_i0;
 }
 
-static u32 w2c_f55(module *m, u64 w2c_p0, u64 w2c_p1, u64 w2c_p2, u32 w2c_p3, u32 w2c_p4, u64 w2c_p5, u64 w2c_p6, u64 w2c_p7) {
+static u32 w2c_f56(module *m, u64 w2c_p0, u64 w2c_p1, u64 w2c_p2, u32 w2c_p3, u32 w2c_p4, u64 w2c_p5, u64 w2c_p6, u64 w2c_p7) {
   u32 w2c_l15 = 0, w2c_l16 = 0;
   u64 w2c_l8 = 0, w2c_l9 = 0, w2c_l10 = 0, w2c_l11 = 0, w2c_l12 = 0, w2c_l13 = 0, w2c_l14 = 0;
   u32 w2c_i0, w2c_i1, w2c_i2, w2c_i3, w2c_i4;
@@ -39760,7 +40038,7 @@ static u32 w2c_f55(module *m, u64 w2c_p0, u64 w2c_p1, u64 w2c_p2, u32 w2c_p3, u3
   w2c_j5 = w2c_p5;
   w2c_j6 = w2c_p6;
   w2c_j7 = w2c_p7;
-  w2c_i0 = w2c_f56(m, w2c_j0, w2c_j1, w2c_j2, w2c_i3, w2c_i4, w2c_j5, w2c_j6, w2c_j7);
+  w2c_i0 = w2c_f57(m, w2c_j0, w2c_j1, w2c_j2, w2c_i3, w2c_i4, w2c_j5, w2c_j6, w2c_j7);
   w2c_l15 = w2c_i0;
   w2c_j0 = w2c_l8;
   m->w2c_g0 = w2c_j0;
@@ -39772,7 +40050,7 @@ static u32 w2c_f55(module *m, u64 w2c_p0, u64 w2c_p1, u64 w2c_p2, u32 w2c_p3, u3
   return w2c_i0;
 }
 
-static u32 w2c_f56(module *m, u64 w2c_p0, u64 w2c_p1, u64 w2c_p2, u32 w2c_p3, u32 w2c_p4, u64 w2c_p5, u64 w2c_p6, u64 w2c_p7) {
+static u32 w2c_f57(module *m, u64 w2c_p0, u64 w2c_p1, u64 w2c_p2, u32 w2c_p3, u32 w2c_p4, u64 w2c_p5, u64 w2c_p6, u64 w2c_p7) {
   u32 w2c_l18 = 0, w2c_l19 = 0, w2c_l20 = 0, w2c_l21 = 0, w2c_l22 = 0, w2c_l23 = 0, w2c_l24 = 0;
   u64 w2c_l8 = 0, w2c_l9 = 0, w2c_l10 = 0, w2c_l11 = 0, w2c_l12 = 0, w2c_l13 = 0, w2c_l14 = 0, w2c_l15 = 0, w2c_l16 = 0, w2c_l17 = 0;
   u32 w2c_i0, w2c_i1, w2c_i2, w2c_i3;
@@ -39874,14 +40152,14 @@ static u32 w2c_f56(module *m, u64 w2c_p0, u64 w2c_p1, u64 w2c_p2, u32 w2c_p3, u3
     w2c_j1 = 1016ull;
     w2c_j0 &= w2c_j1;
     w2c_l13 = w2c_j0;
-    w2c_j1 = 80845ull;
+    w2c_j1 = 80941ull;
     w2c_j0 += w2c_j1;
     w2c_i0 = (u32)(w2c_j0);
     w2c_i0 = i32_load8_u(m, (u64)(w2c_i0));
     w2c_i1 = 0u;
     w2c_j2 = w2c_l13;
     w2c_i2 = (u32)(w2c_j2);
-    w2c_i2 = i32_load_of_text(m, (u64)(w2c_i2) + 80840u);
+    w2c_i2 = i32_load_of_text(m, (u64)(w2c_i2) + 80936u);
     w2c_i3 = w2c_l21;
     w2c_i2 = w2c_i2 == w2c_i3;
     w2c_l21 = w2c_i2;
@@ -39896,7 +40174,7 @@ static u32 w2c_f56(module *m, u64 w2c_p0, u64 w2c_p1, u64 w2c_p2, u32 w2c_p3, u3
     w2c_j0 += w2c_j1;
     w2c_l12 = w2c_j0;
     w2c_j0 = w2c_l13;
-    w2c_j1 = 80844ull;
+    w2c_j1 = 80940ull;
     w2c_j0 += w2c_j1;
     w2c_i0 = (u32)(w2c_j0);
     w2c_i0 = i32_load8_u(m, (u64)(w2c_i0));
@@ -40047,7 +40325,7 @@ static u32 w2c_f56(module *m, u64 w2c_p0, u64 w2c_p1, u64 w2c_p2, u32 w2c_p3, u3
     if (w2c_i0) {goto w2c_B8;}
     w2c_j0 = w2c_l12;
     w2c_j1 = w2c_l11;
-    w2c_i0 = w2c_f57(m, w2c_j0, w2c_j1);
+    w2c_i0 = w2c_f58(m, w2c_j0, w2c_j1);
     if (w2c_i0) {goto w2c_L4;}
     w2c_i0 = w2c_l18;
     w2c_i1 = 4294041472u;
@@ -40187,12 +40465,12 @@ static u32 w2c_f56(module *m, u64 w2c_p0, u64 w2c_p1, u64 w2c_p2, u32 w2c_p3, u3
     w2c_j0 &= w2c_j1;
     w2c_l13 = w2c_j0;
     w2c_i0 = (u32)(w2c_j0);
-    w2c_i0 = i32_load_of_text(m, (u64)(w2c_i0) + 80840u);
+    w2c_i0 = i32_load_of_text(m, (u64)(w2c_i0) + 80936u);
     w2c_i1 = w2c_l21;
     w2c_i0 = w2c_i0 != w2c_i1;
     if (w2c_i0) {goto w2c_L4;}
     w2c_j0 = w2c_l13;
-    w2c_j1 = 80845ull;
+    w2c_j1 = 80941ull;
     w2c_j0 += w2c_j1;
     w2c_i0 = (u32)(w2c_j0);
     w2c_i0 = i32_load8_u(m, (u64)(w2c_i0));
@@ -40200,7 +40478,7 @@ static u32 w2c_f56(module *m, u64 w2c_p0, u64 w2c_p1, u64 w2c_p2, u32 w2c_p3, u3
     w2c_i0 = 0u;
     w2c_l22 = w2c_i0;
     w2c_j0 = w2c_l13;
-    w2c_j1 = 80844ull;
+    w2c_j1 = 80940ull;
     w2c_j0 += w2c_j1;
     w2c_i0 = (u32)(w2c_j0);
     w2c_j0 = i64_load8_u(m, (u64)(w2c_i0));
@@ -40344,7 +40622,7 @@ static u32 w2c_f56(module *m, u64 w2c_p0, u64 w2c_p1, u64 w2c_p2, u32 w2c_p3, u3
     if (w2c_i0) {goto w2c_B5;}
     w2c_j0 = w2c_l12;
     w2c_j1 = w2c_l11;
-    w2c_i0 = w2c_f57(m, w2c_j0, w2c_j1);
+    w2c_i0 = w2c_f58(m, w2c_j0, w2c_j1);
     if (w2c_i0) {goto w2c_L4;}
     goto w2c_B5;
     w2c_B9:;
@@ -40364,7 +40642,7 @@ static u32 w2c_f56(module *m, u64 w2c_p0, u64 w2c_p1, u64 w2c_p2, u32 w2c_p3, u3
     w2c_i1 = w2c_p4;
     w2c_j2 = w2c_l12;
     w2c_j3 = w2c_l11;
-    w2c_i0 = w2c_f58(m, w2c_i0, w2c_i1, w2c_j2, w2c_j3);
+    w2c_i0 = w2c_f59(m, w2c_i0, w2c_i1, w2c_j2, w2c_j3);
     w2c_i0 = !(w2c_i0);
     if (w2c_i0) {goto w2c_L4;}
     w2c_i0 = w2c_l18;
@@ -40377,7 +40655,7 @@ static u32 w2c_f56(module *m, u64 w2c_p0, u64 w2c_p1, u64 w2c_p2, u32 w2c_p3, u3
     w2c_i1 = w2c_p4;
     w2c_j2 = w2c_l12;
     w2c_j3 = w2c_l11;
-    w2c_i0 = w2c_f58(m, w2c_i0, w2c_i1, w2c_j2, w2c_j3);
+    w2c_i0 = w2c_f59(m, w2c_i0, w2c_i1, w2c_j2, w2c_j3);
     w2c_i0 = !(w2c_i0);
     if (w2c_i0) {goto w2c_L4;}
     w2c_B5:;
@@ -40429,7 +40707,7 @@ static u32 w2c_f56(module *m, u64 w2c_p0, u64 w2c_p1, u64 w2c_p2, u32 w2c_p3, u3
       w2c_j1 = 1016ull;
       w2c_j0 &= w2c_j1;
       w2c_l16 = w2c_j0;
-      w2c_j1 = 80840ull;
+      w2c_j1 = 80936ull;
       w2c_j0 += w2c_j1;
       w2c_i0 = (u32)(w2c_j0);
       w2c_i0 = i32_load_of_text(m, (u64)(w2c_i0));
@@ -40593,7 +40871,7 @@ static u32 w2c_f56(module *m, u64 w2c_p0, u64 w2c_p1, u64 w2c_p2, u32 w2c_p3, u3
       w2c_j1 = 1016ull;
       w2c_j0 &= w2c_j1;
       w2c_l16 = w2c_j0;
-      w2c_j1 = 80840ull;
+      w2c_j1 = 80936ull;
       w2c_j0 += w2c_j1;
       w2c_i0 = (u32)(w2c_j0);
       w2c_i0 = i32_load_of_text(m, (u64)(w2c_i0));
@@ -40602,7 +40880,7 @@ static u32 w2c_f56(module *m, u64 w2c_p0, u64 w2c_p1, u64 w2c_p2, u32 w2c_p3, u3
       if (w2c_i0) {goto w2c_B35;}
       w2c_B40:;
       w2c_j0 = w2c_l16;
-      w2c_j1 = 80845ull;
+      w2c_j1 = 80941ull;
       w2c_j0 += w2c_j1;
       w2c_i0 = (u32)(w2c_j0);
       w2c_i0 = i32_load8_u(m, (u64)(w2c_i0));
@@ -40610,7 +40888,7 @@ static u32 w2c_f56(module *m, u64 w2c_p0, u64 w2c_p1, u64 w2c_p2, u32 w2c_p3, u3
       w2c_i0 = 0u;
       w2c_l22 = w2c_i0;
       w2c_j0 = w2c_l16;
-      w2c_j1 = 80844ull;
+      w2c_j1 = 80940ull;
       w2c_j0 += w2c_j1;
       w2c_i0 = (u32)(w2c_j0);
       w2c_j0 = i64_load8_u(m, (u64)(w2c_i0));
@@ -40756,7 +41034,7 @@ static u32 w2c_f56(module *m, u64 w2c_p0, u64 w2c_p1, u64 w2c_p2, u32 w2c_p3, u3
       if (w2c_i0) {goto w2c_B56;}
       w2c_j0 = w2c_l12;
       w2c_j1 = w2c_l11;
-      w2c_i0 = w2c_f57(m, w2c_j0, w2c_j1);
+      w2c_i0 = w2c_f58(m, w2c_j0, w2c_j1);
       w2c_i0 = !(w2c_i0);
       if (w2c_i0) {goto w2c_B55;}
       goto w2c_B35;
@@ -40765,7 +41043,7 @@ static u32 w2c_f56(module *m, u64 w2c_p0, u64 w2c_p1, u64 w2c_p2, u32 w2c_p3, u3
       w2c_i1 = w2c_p4;
       w2c_j2 = w2c_l12;
       w2c_j3 = w2c_l11;
-      w2c_i0 = w2c_f58(m, w2c_i0, w2c_i1, w2c_j2, w2c_j3);
+      w2c_i0 = w2c_f59(m, w2c_i0, w2c_i1, w2c_j2, w2c_j3);
       w2c_i0 = !(w2c_i0);
       if (w2c_i0) {goto w2c_B35;}
       w2c_B55:;
@@ -40779,7 +41057,7 @@ static u32 w2c_f56(module *m, u64 w2c_p0, u64 w2c_p1, u64 w2c_p2, u32 w2c_p3, u3
       w2c_j1 = 8ull;
       w2c_j0 += w2c_j1;
       w2c_i1 = w2c_l18;
-      w2c_f46(m, w2c_j0, w2c_i1);
+      w2c_f47(m, w2c_j0, w2c_i1);
       w2c_i0 = w2c_l18;
       w2c_i1 = 4294967238u;
       w2c_i0 += w2c_i1;
@@ -40803,7 +41081,7 @@ static u32 w2c_f56(module *m, u64 w2c_p0, u64 w2c_p1, u64 w2c_p2, u32 w2c_p3, u3
       if (w2c_i0) {goto w2c_L36;}
       w2c_j0 = w2c_l9;
       w2c_i1 = w2c_l21;
-      w2c_f46(m, w2c_j0, w2c_i1);
+      w2c_f47(m, w2c_j0, w2c_i1);
       w2c_i0 = w2c_l21;
       w2c_i1 = 4294967238u;
       w2c_i0 += w2c_i1;
@@ -40881,7 +41159,7 @@ static u32 w2c_f56(module *m, u64 w2c_p0, u64 w2c_p1, u64 w2c_p2, u32 w2c_p3, u3
     w2c_j1 = 1016ull;
     w2c_j0 &= w2c_j1;
     w2c_l12 = w2c_j0;
-    w2c_j1 = 80840ull;
+    w2c_j1 = 80936ull;
     w2c_j0 += w2c_j1;
     w2c_i0 = (u32)(w2c_j0);
     w2c_i0 = i32_load_of_text(m, (u64)(w2c_i0));
@@ -41055,7 +41333,7 @@ static u32 w2c_f56(module *m, u64 w2c_p0, u64 w2c_p1, u64 w2c_p2, u32 w2c_p3, u3
     w2c_j1 = 1016ull;
     w2c_j0 &= w2c_j1;
     w2c_l12 = w2c_j0;
-    w2c_j1 = 80840ull;
+    w2c_j1 = 80936ull;
     w2c_j0 += w2c_j1;
     w2c_i0 = (u32)(w2c_j0);
     w2c_i0 = i32_load_of_text(m, (u64)(w2c_i0));
@@ -41064,7 +41342,7 @@ static u32 w2c_f56(module *m, u64 w2c_p0, u64 w2c_p1, u64 w2c_p2, u32 w2c_p3, u3
     if (w2c_i0) {goto w2c_B65;}
     w2c_B68:;
     w2c_j0 = w2c_l12;
-    w2c_j1 = 80844ull;
+    w2c_j1 = 80940ull;
     w2c_j0 += w2c_j1;
     w2c_i0 = (u32)(w2c_j0);
     w2c_i0 = i32_load8_u(m, (u64)(w2c_i0));
@@ -41298,7 +41576,7 @@ static u32 w2c_f56(module *m, u64 w2c_p0, u64 w2c_p1, u64 w2c_p2, u32 w2c_p3, u3
     w2c_j1 = 1016ull;
     w2c_j0 &= w2c_j1;
     w2c_l11 = w2c_j0;
-    w2c_j1 = 80840ull;
+    w2c_j1 = 80936ull;
     w2c_j0 += w2c_j1;
     w2c_i0 = (u32)(w2c_j0);
     w2c_i0 = i32_load_of_text(m, (u64)(w2c_i0));
@@ -41460,7 +41738,7 @@ static u32 w2c_f56(module *m, u64 w2c_p0, u64 w2c_p1, u64 w2c_p2, u32 w2c_p3, u3
     w2c_j1 = 1016ull;
     w2c_j0 &= w2c_j1;
     w2c_l11 = w2c_j0;
-    w2c_j1 = 80840ull;
+    w2c_j1 = 80936ull;
     w2c_j0 += w2c_j1;
     w2c_i0 = (u32)(w2c_j0);
     w2c_i0 = i32_load_of_text(m, (u64)(w2c_i0));
@@ -41469,7 +41747,7 @@ static u32 w2c_f56(module *m, u64 w2c_p0, u64 w2c_p1, u64 w2c_p2, u32 w2c_p3, u3
     if (w2c_i0) {goto w2c_B83;}
     w2c_B86:;
     w2c_j0 = w2c_l11;
-    w2c_j1 = 80844ull;
+    w2c_j1 = 80940ull;
     w2c_j0 += w2c_j1;
     w2c_i0 = (u32)(w2c_j0);
     w2c_i0 = i32_load8_u(m, (u64)(w2c_i0));
@@ -41720,7 +41998,7 @@ static u32 w2c_f56(module *m, u64 w2c_p0, u64 w2c_p1, u64 w2c_p2, u32 w2c_p3, u3
     w2c_j2 = 1016ull;
     w2c_j1 &= w2c_j2;
     w2c_l17 = w2c_j1;
-    w2c_j2 = 80840ull;
+    w2c_j2 = 80936ull;
     w2c_j1 += w2c_j2;
     w2c_i1 = (u32)(w2c_j1);
     w2c_i1 = i32_load_of_text(m, (u64)(w2c_i1));
@@ -41854,7 +42132,7 @@ static u32 w2c_f56(module *m, u64 w2c_p0, u64 w2c_p1, u64 w2c_p2, u32 w2c_p3, u3
     w2c_j1 = 1016ull;
     w2c_j0 &= w2c_j1;
     w2c_l17 = w2c_j0;
-    w2c_j1 = 80840ull;
+    w2c_j1 = 80936ull;
     w2c_j0 += w2c_j1;
     w2c_i0 = (u32)(w2c_j0);
     w2c_i0 = i32_load_of_text(m, (u64)(w2c_i0));
@@ -41872,7 +42150,7 @@ static u32 w2c_f56(module *m, u64 w2c_p0, u64 w2c_p1, u64 w2c_p2, u32 w2c_p3, u3
     goto w2c_B103;
     w2c_B107:;
     w2c_j0 = w2c_l17;
-    w2c_j1 = 80844ull;
+    w2c_j1 = 80940ull;
     w2c_j0 += w2c_j1;
     w2c_i0 = (u32)(w2c_j0);
     w2c_i0 = i32_load8_u(m, (u64)(w2c_i0));
@@ -42178,7 +42456,7 @@ static u32 w2c_f56(module *m, u64 w2c_p0, u64 w2c_p1, u64 w2c_p2, u32 w2c_p3, u3
     w2c_j2 = 1016ull;
     w2c_j1 &= w2c_j2;
     w2c_l11 = w2c_j1;
-    w2c_j2 = 80840ull;
+    w2c_j2 = 80936ull;
     w2c_j1 += w2c_j2;
     w2c_i1 = (u32)(w2c_j1);
     w2c_i1 = i32_load_of_text(m, (u64)(w2c_i1));
@@ -42296,7 +42574,7 @@ static u32 w2c_f56(module *m, u64 w2c_p0, u64 w2c_p1, u64 w2c_p2, u32 w2c_p3, u3
     w2c_j1 = 1016ull;
     w2c_j0 &= w2c_j1;
     w2c_l11 = w2c_j0;
-    w2c_j1 = 80840ull;
+    w2c_j1 = 80936ull;
     w2c_j0 += w2c_j1;
     w2c_i0 = (u32)(w2c_j0);
     w2c_i0 = i32_load_of_text(m, (u64)(w2c_i0));
@@ -42314,7 +42592,7 @@ static u32 w2c_f56(module *m, u64 w2c_p0, u64 w2c_p1, u64 w2c_p2, u32 w2c_p3, u3
     goto w2c_B127;
     w2c_B128:;
     w2c_j0 = w2c_l11;
-    w2c_j1 = 80844ull;
+    w2c_j1 = 80940ull;
     w2c_j0 += w2c_j1;
     w2c_i0 = (u32)(w2c_j0);
     w2c_i0 = i32_load8_u(m, (u64)(w2c_i0));
@@ -42578,7 +42856,7 @@ static u32 w2c_f56(module *m, u64 w2c_p0, u64 w2c_p1, u64 w2c_p2, u32 w2c_p3, u3
     w2c_j0 &= w2c_j1;
     w2c_l11 = w2c_j0;
     w2c_i0 = (u32)(w2c_j0);
-    w2c_i0 = i32_load_of_text(m, (u64)(w2c_i0) + 80840u);
+    w2c_i0 = i32_load_of_text(m, (u64)(w2c_i0) + 80936u);
     w2c_i1 = w2c_l21;
     w2c_i0 = w2c_i0 != w2c_i1;
     w2c_l21 = w2c_i0;
@@ -42587,7 +42865,7 @@ static u32 w2c_f56(module *m, u64 w2c_p0, u64 w2c_p1, u64 w2c_p2, u32 w2c_p3, u3
     w2c_l20 = w2c_i0;
     w2c_i0 = 0u;
     w2c_j1 = w2c_l11;
-    w2c_j2 = 80844ull;
+    w2c_j2 = 80940ull;
     w2c_j1 += w2c_j2;
     w2c_i1 = (u32)(w2c_j1);
     w2c_i1 = i32_load8_u(m, (u64)(w2c_i1));
@@ -42625,7 +42903,7 @@ static u32 w2c_f56(module *m, u64 w2c_p0, u64 w2c_p1, u64 w2c_p2, u32 w2c_p3, u3
     w2c_j0 += w2c_j1;
     w2c_j1 = w2c_p2;
     w2c_j2 = w2c_l8;
-    w2c_f59(m, w2c_j0, w2c_j1, w2c_j2);
+    w2c_f60(m, w2c_j0, w2c_j1, w2c_j2);
     w2c_j0 = w2c_l9;
     w2c_i0 = (u32)(w2c_j0);
     w2c_i0 = i32_load8_u(m, (u64)(w2c_i0) + 12u);
@@ -42691,14 +42969,14 @@ static u32 w2c_f56(module *m, u64 w2c_p0, u64 w2c_p1, u64 w2c_p2, u32 w2c_p3, u3
     w2c_B152:;
     w2c_j0 = w2c_p2;
     w2c_j1 = w2c_l8;
-    w2c_i0 = w2c_f60(m, w2c_j0, w2c_j1);
+    w2c_i0 = w2c_f61(m, w2c_j0, w2c_j1);
     w2c_l21 = w2c_i0;
     w2c_i0 = w2c_l22;
     w2c_i0 = !(w2c_i0);
     if (w2c_i0) {goto w2c_B161;}
     w2c_j0 = w2c_p2;
     w2c_j1 = w2c_l8;
-    w2c_i0 = w2c_f61(m, w2c_j0, w2c_j1);
+    w2c_i0 = w2c_f62(m, w2c_j0, w2c_j1);
     w2c_i1 = w2c_l19;
     w2c_i0 |= w2c_i1;
     w2c_i1 = 1u;
@@ -42736,7 +43014,7 @@ static u32 w2c_f56(module *m, u64 w2c_p0, u64 w2c_p1, u64 w2c_p2, u32 w2c_p3, u3
     w2c_l21 = w2c_i0;
     w2c_j0 = w2c_p2;
     w2c_j1 = w2c_l8;
-    w2c_i0 = w2c_f62(m, w2c_j0, w2c_j1);
+    w2c_i0 = w2c_f63(m, w2c_j0, w2c_j1);
     w2c_i0 = !(w2c_i0);
     if (w2c_i0) {goto w2c_B150;}
     w2c_B151:;
@@ -42804,7 +43082,7 @@ static u32 w2c_f56(module *m, u64 w2c_p0, u64 w2c_p1, u64 w2c_p2, u32 w2c_p3, u3
   return w2c_i0;
 }
 
-static u32 w2c_f57(module *m, u64 w2c_p0, u64 w2c_p1) {
+static u32 w2c_f58(module *m, u64 w2c_p0, u64 w2c_p1) {
   u32 w2c_l2 = 0, w2c_l3 = 0, w2c_l4 = 0, w2c_l5 = 0, w2c_l6 = 0;
   u64 w2c_l7 = 0;
   u32 w2c_i0, w2c_i1, w2c_i2, w2c_i3;
@@ -43196,7 +43474,7 @@ static u32 w2c_f57(module *m, u64 w2c_p0, u64 w2c_p1) {
   return w2c_i0;
 }
 
-static u32 w2c_f58(module *m, u32 w2c_p0, u32 w2c_p1, u64 w2c_p2, u64 w2c_p3) {
+static u32 w2c_f59(module *m, u32 w2c_p0, u32 w2c_p1, u64 w2c_p2, u64 w2c_p3) {
   u32 w2c_l7 = 0, w2c_l8 = 0, w2c_l9 = 0, w2c_l10 = 0, w2c_l11 = 0;
   u64 w2c_l4 = 0, w2c_l5 = 0, w2c_l6 = 0;
   u32 w2c_i0, w2c_i1, w2c_i2, w2c_i3;
@@ -43243,21 +43521,21 @@ static u32 w2c_f58(module *m, u32 w2c_p0, u32 w2c_p1, u64 w2c_p2, u64 w2c_p3) {
   w2c_j1 = 1016ull;
   w2c_j0 &= w2c_j1;
   w2c_l5 = w2c_j0;
-  w2c_j1 = 80845ull;
+  w2c_j1 = 80941ull;
   w2c_j0 += w2c_j1;
   w2c_i0 = (u32)(w2c_j0);
   w2c_i0 = i32_load8_u(m, (u64)(w2c_i0));
   w2c_i1 = 0u;
   w2c_j2 = w2c_l5;
   w2c_i2 = (u32)(w2c_j2);
-  w2c_i2 = i32_load_of_text(m, (u64)(w2c_i2) + 80840u);
+  w2c_i2 = i32_load_of_text(m, (u64)(w2c_i2) + 80936u);
   w2c_i3 = w2c_l10;
   w2c_i2 = w2c_i2 == w2c_i3;
   w2c_l11 = w2c_i2;
   w2c_i0 = w2c_i2 ? w2c_i0 : w2c_i1;
   w2c_l10 = w2c_i0;
   w2c_j0 = w2c_l5;
-  w2c_j1 = 80844ull;
+  w2c_j1 = 80940ull;
   w2c_j0 += w2c_j1;
   w2c_i0 = (u32)(w2c_j0);
   w2c_i0 = i32_load8_u(m, (u64)(w2c_i0));
@@ -43424,21 +43702,21 @@ static u32 w2c_f58(module *m, u32 w2c_p0, u32 w2c_p1, u64 w2c_p2, u64 w2c_p3) {
   w2c_j1 = 1016ull;
   w2c_j0 &= w2c_j1;
   w2c_l6 = w2c_j0;
-  w2c_j1 = 80845ull;
+  w2c_j1 = 80941ull;
   w2c_j0 += w2c_j1;
   w2c_i0 = (u32)(w2c_j0);
   w2c_i0 = i32_load8_u(m, (u64)(w2c_i0));
   w2c_i1 = 0u;
   w2c_j2 = w2c_l6;
   w2c_i2 = (u32)(w2c_j2);
-  w2c_i2 = i32_load_of_text(m, (u64)(w2c_i2) + 80840u);
+  w2c_i2 = i32_load_of_text(m, (u64)(w2c_i2) + 80936u);
   w2c_i3 = w2c_l7;
   w2c_i2 = w2c_i2 == w2c_i3;
   w2c_l7 = w2c_i2;
   w2c_i0 = w2c_i2 ? w2c_i0 : w2c_i1;
   w2c_l10 = w2c_i0;
   w2c_j0 = w2c_l6;
-  w2c_j1 = 80844ull;
+  w2c_j1 = 80940ull;
   w2c_j0 += w2c_j1;
   w2c_i0 = (u32)(w2c_j0);
   w2c_i0 = i32_load8_u(m, (u64)(w2c_i0));
@@ -43584,7 +43862,7 @@ static u32 w2c_f58(module *m, u32 w2c_p0, u32 w2c_p1, u64 w2c_p2, u64 w2c_p3) {
   if (w2c_i0) {goto w2c_B9;}
   w2c_j0 = w2c_p2;
   w2c_j1 = w2c_p3;
-  w2c_i0 = w2c_f57(m, w2c_j0, w2c_j1);
+  w2c_i0 = w2c_f58(m, w2c_j0, w2c_j1);
   w2c_i1 = 1u;
   w2c_i0 ^= w2c_i1;
   w2c_l7 = w2c_i0;
@@ -43599,7 +43877,7 @@ static u32 w2c_f58(module *m, u32 w2c_p0, u32 w2c_p1, u64 w2c_p2, u64 w2c_p3) {
   return w2c_i0;
 }
 
-static void w2c_f59(module *m, u64 w2c_p0, u64 w2c_p1, u64 w2c_p2) {
+static void w2c_f60(module *m, u64 w2c_p0, u64 w2c_p1, u64 w2c_p2) {
   u32 w2c_l3 = 0, w2c_l4 = 0, w2c_l5 = 0, w2c_l6 = 0, w2c_l7 = 0, w2c_l8 = 0, w2c_l9 = 0;
   u64 w2c_l10 = 0;
   u32 w2c_i0, w2c_i1, w2c_i2, w2c_i3;
@@ -43645,21 +43923,21 @@ static void w2c_f59(module *m, u64 w2c_p0, u64 w2c_p1, u64 w2c_p2) {
   w2c_j1 = 1016ull;
   w2c_j0 &= w2c_j1;
   w2c_p1 = w2c_j0;
-  w2c_j1 = 80845ull;
+  w2c_j1 = 80941ull;
   w2c_j0 += w2c_j1;
   w2c_i0 = (u32)(w2c_j0);
   w2c_i0 = i32_load8_u(m, (u64)(w2c_i0));
   w2c_i1 = 0u;
   w2c_j2 = w2c_p1;
   w2c_i2 = (u32)(w2c_j2);
-  w2c_i2 = i32_load_of_text(m, (u64)(w2c_i2) + 80840u);
+  w2c_i2 = i32_load_of_text(m, (u64)(w2c_i2) + 80936u);
   w2c_i3 = w2c_l6;
   w2c_i2 = w2c_i2 == w2c_i3;
   w2c_l6 = w2c_i2;
   w2c_i0 = w2c_i2 ? w2c_i0 : w2c_i1;
   w2c_l7 = w2c_i0;
   w2c_j0 = w2c_p1;
-  w2c_j1 = 80844ull;
+  w2c_j1 = 80940ull;
   w2c_j0 += w2c_j1;
   w2c_i0 = (u32)(w2c_j0);
   w2c_i0 = i32_load8_u(m, (u64)(w2c_i0));
@@ -43815,21 +44093,21 @@ static void w2c_f59(module *m, u64 w2c_p0, u64 w2c_p1, u64 w2c_p2) {
   w2c_j1 = 1016ull;
   w2c_j0 &= w2c_j1;
   w2c_p1 = w2c_j0;
-  w2c_j1 = 80845ull;
+  w2c_j1 = 80941ull;
   w2c_j0 += w2c_j1;
   w2c_i0 = (u32)(w2c_j0);
   w2c_i0 = i32_load8_u(m, (u64)(w2c_i0));
   w2c_i1 = 0u;
   w2c_j2 = w2c_p1;
   w2c_i2 = (u32)(w2c_j2);
-  w2c_i2 = i32_load_of_text(m, (u64)(w2c_i2) + 80840u);
+  w2c_i2 = i32_load_of_text(m, (u64)(w2c_i2) + 80936u);
   w2c_i3 = w2c_l3;
   w2c_i2 = w2c_i2 == w2c_i3;
   w2c_l3 = w2c_i2;
   w2c_i0 = w2c_i2 ? w2c_i0 : w2c_i1;
   w2c_l7 = w2c_i0;
   w2c_j0 = w2c_p1;
-  w2c_j1 = 80844ull;
+  w2c_j1 = 80940ull;
   w2c_j0 += w2c_j1;
   w2c_i0 = (u32)(w2c_j0);
   w2c_i0 = i32_load8_u(m, (u64)(w2c_i0));
@@ -43920,7 +44198,7 @@ static void w2c_f59(module *m, u64 w2c_p0, u64 w2c_p1, u64 w2c_p2) {
   w2c_Bfunc:;
 }
 
-static u32 w2c_f60(module *m, u64 w2c_p0, u64 w2c_p1) {
+static u32 w2c_f61(module *m, u64 w2c_p0, u64 w2c_p1) {
   u32 w2c_l2 = 0, w2c_l3 = 0, w2c_l4 = 0, w2c_l5 = 0;
   u64 w2c_l6 = 0;
   u32 w2c_i0, w2c_i1, w2c_i2, w2c_i3;
@@ -43966,12 +44244,12 @@ static u32 w2c_f60(module *m, u64 w2c_p0, u64 w2c_p1) {
     w2c_j0 &= w2c_j1;
     w2c_l6 = w2c_j0;
     w2c_i0 = (u32)(w2c_j0);
-    w2c_i0 = i32_load_of_text(m, (u64)(w2c_i0) + 80840u);
+    w2c_i0 = i32_load_of_text(m, (u64)(w2c_i0) + 80936u);
     w2c_i1 = w2c_l3;
     w2c_i0 = w2c_i0 != w2c_i1;
     if (w2c_i0) {goto w2c_B2;}
     w2c_j0 = w2c_l6;
-    w2c_j1 = 80844ull;
+    w2c_j1 = 80940ull;
     w2c_j0 += w2c_j1;
     w2c_i0 = (u32)(w2c_j0);
     w2c_i0 = i32_load8_u(m, (u64)(w2c_i0));
@@ -44125,12 +44403,12 @@ static u32 w2c_f60(module *m, u64 w2c_p0, u64 w2c_p1) {
     w2c_j0 &= w2c_j1;
     w2c_l6 = w2c_j0;
     w2c_i0 = (u32)(w2c_j0);
-    w2c_i0 = i32_load_of_text(m, (u64)(w2c_i0) + 80840u);
+    w2c_i0 = i32_load_of_text(m, (u64)(w2c_i0) + 80936u);
     w2c_i1 = w2c_l3;
     w2c_i0 = w2c_i0 != w2c_i1;
     if (w2c_i0) {goto w2c_B2;}
     w2c_j0 = w2c_l6;
-    w2c_j1 = 80844ull;
+    w2c_j1 = 80940ull;
     w2c_j0 += w2c_j1;
     w2c_i0 = (u32)(w2c_j0);
     w2c_i0 = i32_load8_u(m, (u64)(w2c_i0));
@@ -44163,7 +44441,7 @@ static u32 w2c_f60(module *m, u64 w2c_p0, u64 w2c_p1) {
   return w2c_i0;
 }
 
-static u32 w2c_f61(module *m, u64 w2c_p0, u64 w2c_p1) {
+static u32 w2c_f62(module *m, u64 w2c_p0, u64 w2c_p1) {
   u32 w2c_l2 = 0, w2c_l3 = 0, w2c_l4 = 0, w2c_l5 = 0;
   u32 w2c_i0, w2c_i1, w2c_i2, w2c_i3;
   u64 w2c_j0, w2c_j1, w2c_j2;
@@ -44206,14 +44484,14 @@ static u32 w2c_f61(module *m, u64 w2c_p0, u64 w2c_p1) {
   w2c_j1 = 1016ull;
   w2c_j0 &= w2c_j1;
   w2c_p0 = w2c_j0;
-  w2c_j1 = 80844ull;
+  w2c_j1 = 80940ull;
   w2c_j0 += w2c_j1;
   w2c_i0 = (u32)(w2c_j0);
   w2c_i0 = i32_load8_u(m, (u64)(w2c_i0));
   w2c_i1 = 2u;
   w2c_j2 = w2c_p0;
   w2c_i2 = (u32)(w2c_j2);
-  w2c_i2 = i32_load_of_text(m, (u64)(w2c_i2) + 80840u);
+  w2c_i2 = i32_load_of_text(m, (u64)(w2c_i2) + 80936u);
   w2c_i3 = w2c_l3;
   w2c_i2 = w2c_i2 == w2c_i3;
   w2c_i0 = w2c_i2 ? w2c_i0 : w2c_i1;
@@ -44342,14 +44620,14 @@ static u32 w2c_f61(module *m, u64 w2c_p0, u64 w2c_p1) {
   w2c_j1 = 1016ull;
   w2c_j0 &= w2c_j1;
   w2c_p0 = w2c_j0;
-  w2c_j1 = 80844ull;
+  w2c_j1 = 80940ull;
   w2c_j0 += w2c_j1;
   w2c_i0 = (u32)(w2c_j0);
   w2c_i0 = i32_load8_u(m, (u64)(w2c_i0));
   w2c_i1 = 2u;
   w2c_j2 = w2c_p0;
   w2c_i2 = (u32)(w2c_j2);
-  w2c_i2 = i32_load_of_text(m, (u64)(w2c_i2) + 80840u);
+  w2c_i2 = i32_load_of_text(m, (u64)(w2c_i2) + 80936u);
   w2c_i3 = w2c_l3;
   w2c_i2 = w2c_i2 == w2c_i3;
   w2c_i0 = w2c_i2 ? w2c_i0 : w2c_i1;
@@ -44378,7 +44656,7 @@ static u32 w2c_f61(module *m, u64 w2c_p0, u64 w2c_p1) {
   return w2c_i0;
 }
 
-static u32 w2c_f62(module *m, u64 w2c_p0, u64 w2c_p1) {
+static u32 w2c_f63(module *m, u64 w2c_p0, u64 w2c_p1) {
   u32 w2c_l4 = 0, w2c_l5 = 0, w2c_l6 = 0, w2c_l7 = 0, w2c_l8 = 0;
   u64 w2c_l2 = 0, w2c_l3 = 0;
   u32 w2c_i0, w2c_i1, w2c_i2, w2c_i3;
@@ -44432,14 +44710,14 @@ static u32 w2c_f62(module *m, u64 w2c_p0, u64 w2c_p1) {
     w2c_j1 = 1016ull;
     w2c_j0 &= w2c_j1;
     w2c_l2 = w2c_j0;
-    w2c_j1 = 80844ull;
+    w2c_j1 = 80940ull;
     w2c_j0 += w2c_j1;
     w2c_i0 = (u32)(w2c_j0);
     w2c_i0 = i32_load8_u(m, (u64)(w2c_i0));
     w2c_i1 = 2u;
     w2c_j2 = w2c_l2;
     w2c_i2 = (u32)(w2c_j2);
-    w2c_i2 = i32_load_of_text(m, (u64)(w2c_i2) + 80840u);
+    w2c_i2 = i32_load_of_text(m, (u64)(w2c_i2) + 80936u);
     w2c_i3 = w2c_l7;
     w2c_i2 = w2c_i2 == w2c_i3;
     w2c_i0 = w2c_i2 ? w2c_i0 : w2c_i1;
@@ -44600,14 +44878,14 @@ static u32 w2c_f62(module *m, u64 w2c_p0, u64 w2c_p1) {
     w2c_j1 = 1016ull;
     w2c_j0 &= w2c_j1;
     w2c_l2 = w2c_j0;
-    w2c_j1 = 80844ull;
+    w2c_j1 = 80940ull;
     w2c_j0 += w2c_j1;
     w2c_i0 = (u32)(w2c_j0);
     w2c_i0 = i32_load8_u(m, (u64)(w2c_i0));
     w2c_i1 = 2u;
     w2c_j2 = w2c_l2;
     w2c_i2 = (u32)(w2c_j2);
-    w2c_i2 = i32_load_of_text(m, (u64)(w2c_i2) + 80840u);
+    w2c_i2 = i32_load_of_text(m, (u64)(w2c_i2) + 80936u);
     w2c_i3 = w2c_l4;
     w2c_i2 = w2c_i2 == w2c_i3;
     w2c_i0 = w2c_i2 ? w2c_i0 : w2c_i1;
@@ -44681,14 +44959,14 @@ static u32 w2c_f62(module *m, u64 w2c_p0, u64 w2c_p1) {
     w2c_j1 = 1016ull;
     w2c_j0 &= w2c_j1;
     w2c_l2 = w2c_j0;
-    w2c_j1 = 80844ull;
+    w2c_j1 = 80940ull;
     w2c_j0 += w2c_j1;
     w2c_i0 = (u32)(w2c_j0);
     w2c_i0 = i32_load8_u(m, (u64)(w2c_i0));
     w2c_i1 = 2u;
     w2c_j2 = w2c_l2;
     w2c_i2 = (u32)(w2c_j2);
-    w2c_i2 = i32_load_of_text(m, (u64)(w2c_i2) + 80840u);
+    w2c_i2 = i32_load_of_text(m, (u64)(w2c_i2) + 80936u);
     w2c_i3 = w2c_l6;
     w2c_i2 = w2c_i2 == w2c_i3;
     w2c_i0 = w2c_i2 ? w2c_i0 : w2c_i1;
@@ -44825,14 +45103,14 @@ static u32 w2c_f62(module *m, u64 w2c_p0, u64 w2c_p1) {
     w2c_j1 = 1016ull;
     w2c_j0 &= w2c_j1;
     w2c_l2 = w2c_j0;
-    w2c_j1 = 80844ull;
+    w2c_j1 = 80940ull;
     w2c_j0 += w2c_j1;
     w2c_i0 = (u32)(w2c_j0);
     w2c_i0 = i32_load8_u(m, (u64)(w2c_i0));
     w2c_i1 = 2u;
     w2c_j2 = w2c_l2;
     w2c_i2 = (u32)(w2c_j2);
-    w2c_i2 = i32_load_of_text(m, (u64)(w2c_i2) + 80840u);
+    w2c_i2 = i32_load_of_text(m, (u64)(w2c_i2) + 80936u);
     w2c_i3 = w2c_l7;
     w2c_i2 = w2c_i2 == w2c_i3;
     w2c_i0 = w2c_i2 ? w2c_i0 : w2c_i1;
@@ -44865,7 +45143,7 @@ static u32 w2c_f62(module *m, u64 w2c_p0, u64 w2c_p1) {
   w2c_j1 = 24ull;
   w2c_j0 += w2c_j1;
   w2c_i1 = w2c_l5;
-  w2c_f46(m, w2c_j0, w2c_i1);
+  w2c_f47(m, w2c_j0, w2c_i1);
   w2c_i0 = w2c_l5;
   w2c_i1 = 4294967238u;
   w2c_i0 += w2c_i1;
@@ -44884,7 +45162,7 @@ static u32 w2c_f62(module *m, u64 w2c_p0, u64 w2c_p1) {
   w2c_j1 = 16ull;
   w2c_j0 += w2c_j1;
   w2c_i1 = w2c_l4;
-  w2c_f46(m, w2c_j0, w2c_i1);
+  w2c_f47(m, w2c_j0, w2c_i1);
   w2c_i0 = w2c_l4;
   w2c_i1 = 4294967238u;
   w2c_i0 += w2c_i1;
@@ -44903,7 +45181,7 @@ static u32 w2c_f62(module *m, u64 w2c_p0, u64 w2c_p1) {
   w2c_j1 = 8ull;
   w2c_j0 += w2c_j1;
   w2c_i1 = w2c_l5;
-  w2c_f46(m, w2c_j0, w2c_i1);
+  w2c_f47(m, w2c_j0, w2c_i1);
   w2c_j0 = w2c_l3;
   w2c_i0 = (u32)(w2c_j0);
   w2c_i0 = i32_load8_u(m, (u64)(w2c_i0) + 9u);
@@ -44914,7 +45192,7 @@ static u32 w2c_f62(module *m, u64 w2c_p0, u64 w2c_p1) {
   w2c_l7 = w2c_i0;
   w2c_j0 = w2c_l3;
   w2c_i1 = w2c_l4;
-  w2c_f46(m, w2c_j0, w2c_i1);
+  w2c_f47(m, w2c_j0, w2c_i1);
   w2c_i0 = w2c_l7;
   w2c_j1 = w2c_l3;
   w2c_i1 = (u32)(w2c_j1);
@@ -44991,14 +45269,14 @@ static u32 w2c_f62(module *m, u64 w2c_p0, u64 w2c_p1) {
     w2c_j1 = 1016ull;
     w2c_j0 &= w2c_j1;
     w2c_l2 = w2c_j0;
-    w2c_j1 = 80844ull;
+    w2c_j1 = 80940ull;
     w2c_j0 += w2c_j1;
     w2c_i0 = (u32)(w2c_j0);
     w2c_i0 = i32_load8_u(m, (u64)(w2c_i0));
     w2c_i1 = 2u;
     w2c_j2 = w2c_l2;
     w2c_i2 = (u32)(w2c_j2);
-    w2c_i2 = i32_load_of_text(m, (u64)(w2c_i2) + 80840u);
+    w2c_i2 = i32_load_of_text(m, (u64)(w2c_i2) + 80936u);
     w2c_i3 = w2c_l7;
     w2c_i2 = w2c_i2 == w2c_i3;
     w2c_i0 = w2c_i2 ? w2c_i0 : w2c_i1;
@@ -45164,14 +45442,14 @@ static u32 w2c_f62(module *m, u64 w2c_p0, u64 w2c_p1) {
     w2c_j1 = 1016ull;
     w2c_j0 &= w2c_j1;
     w2c_l2 = w2c_j0;
-    w2c_j1 = 80844ull;
+    w2c_j1 = 80940ull;
     w2c_j0 += w2c_j1;
     w2c_i0 = (u32)(w2c_j0);
     w2c_i0 = i32_load8_u(m, (u64)(w2c_i0));
     w2c_i1 = 2u;
     w2c_j2 = w2c_l2;
     w2c_i2 = (u32)(w2c_j2);
-    w2c_i2 = i32_load_of_text(m, (u64)(w2c_i2) + 80840u);
+    w2c_i2 = i32_load_of_text(m, (u64)(w2c_i2) + 80936u);
     w2c_i3 = w2c_l5;
     w2c_i2 = w2c_i2 == w2c_i3;
     w2c_i0 = w2c_i2 ? w2c_i0 : w2c_i1;
@@ -45247,14 +45525,14 @@ static u32 w2c_f62(module *m, u64 w2c_p0, u64 w2c_p1) {
     w2c_j1 = 1016ull;
     w2c_j0 &= w2c_j1;
     w2c_l2 = w2c_j0;
-    w2c_j1 = 80844ull;
+    w2c_j1 = 80940ull;
     w2c_j0 += w2c_j1;
     w2c_i0 = (u32)(w2c_j0);
     w2c_i0 = i32_load8_u(m, (u64)(w2c_i0));
     w2c_i1 = 2u;
     w2c_j2 = w2c_l2;
     w2c_i2 = (u32)(w2c_j2);
-    w2c_i2 = i32_load_of_text(m, (u64)(w2c_i2) + 80840u);
+    w2c_i2 = i32_load_of_text(m, (u64)(w2c_i2) + 80936u);
     w2c_i3 = w2c_l7;
     w2c_i2 = w2c_i2 == w2c_i3;
     w2c_i0 = w2c_i2 ? w2c_i0 : w2c_i1;
@@ -45391,14 +45669,14 @@ static u32 w2c_f62(module *m, u64 w2c_p0, u64 w2c_p1) {
     w2c_j1 = 1016ull;
     w2c_j0 &= w2c_j1;
     w2c_l2 = w2c_j0;
-    w2c_j1 = 80844ull;
+    w2c_j1 = 80940ull;
     w2c_j0 += w2c_j1;
     w2c_i0 = (u32)(w2c_j0);
     w2c_i0 = i32_load8_u(m, (u64)(w2c_i0));
     w2c_i1 = 2u;
     w2c_j2 = w2c_l2;
     w2c_i2 = (u32)(w2c_j2);
-    w2c_i2 = i32_load_of_text(m, (u64)(w2c_i2) + 80840u);
+    w2c_i2 = i32_load_of_text(m, (u64)(w2c_i2) + 80936u);
     w2c_i3 = w2c_l4;
     w2c_i2 = w2c_i2 == w2c_i3;
     w2c_i0 = w2c_i2 ? w2c_i0 : w2c_i1;
@@ -45442,7 +45720,7 @@ static u32 w2c_f62(module *m, u64 w2c_p0, u64 w2c_p1) {
   return w2c_i0;
 }
 
-static u32 w2c_f63(module *m, u64 w2c_p0, u64 w2c_p1, u64 w2c_p2, u32 w2c_p3, u32 w2c_p4, u64 w2c_p5, u64 w2c_p6, u64 w2c_p7) {
+static u32 w2c_f64(module *m, u64 w2c_p0, u64 w2c_p1, u64 w2c_p2, u32 w2c_p3, u32 w2c_p4, u64 w2c_p5, u64 w2c_p6, u64 w2c_p7) {
   u32 w2c_l16 = 0, w2c_l17 = 0, w2c_l18 = 0, w2c_l19 = 0, w2c_l20 = 0, w2c_l21 = 0;
   u64 w2c_l8 = 0, w2c_l9 = 0, w2c_l10 = 0, w2c_l11 = 0, w2c_l12 = 0, w2c_l13 = 0, w2c_l14 = 0, w2c_l15 = 0;
   u32 w2c_i0, w2c_i1, w2c_i2, w2c_i3, w2c_i4, w2c_i5;
@@ -45569,7 +45847,7 @@ static u32 w2c_f63(module *m, u64 w2c_p0, u64 w2c_p1, u64 w2c_p2, u32 w2c_p3, u3
     w2c_j1 = w2c_l8;
     w2c_j2 = 64ull;
     w2c_j1 += w2c_j2;
-    w2c_f64(m, w2c_j0, w2c_j1);
+    w2c_f65(m, w2c_j0, w2c_j1);
     w2c_j0 = w2c_l8;
     w2c_i0 = (u32)(w2c_j0);
     w2c_i0 = i32_load8_u(m, (u64)(w2c_i0) + 8u);
@@ -45661,7 +45939,7 @@ static u32 w2c_f63(module *m, u64 w2c_p0, u64 w2c_p1, u64 w2c_p2, u32 w2c_p3, u3
     w2c_j1 = 1016ull;
     w2c_j0 &= w2c_j1;
     w2c_l14 = w2c_j0;
-    w2c_j1 = 80840ull;
+    w2c_j1 = 80936ull;
     w2c_j0 += w2c_j1;
     w2c_i0 = (u32)(w2c_j0);
     w2c_i0 = i32_load_of_text(m, (u64)(w2c_i0));
@@ -45827,7 +46105,7 @@ static u32 w2c_f63(module *m, u64 w2c_p0, u64 w2c_p1, u64 w2c_p2, u32 w2c_p3, u3
     w2c_j1 = 1016ull;
     w2c_j0 &= w2c_j1;
     w2c_l14 = w2c_j0;
-    w2c_j1 = 80840ull;
+    w2c_j1 = 80936ull;
     w2c_j0 += w2c_j1;
     w2c_i0 = (u32)(w2c_j0);
     w2c_i0 = i32_load_of_text(m, (u64)(w2c_i0));
@@ -45836,7 +46114,7 @@ static u32 w2c_f63(module *m, u64 w2c_p0, u64 w2c_p1, u64 w2c_p2, u32 w2c_p3, u3
     if (w2c_i0) {goto w2c_B9;}
     w2c_B12:;
     w2c_j0 = w2c_l14;
-    w2c_j1 = 80844ull;
+    w2c_j1 = 80940ull;
     w2c_j0 += w2c_j1;
     w2c_i0 = (u32)(w2c_j0);
     w2c_i0 = i32_load8_u(m, (u64)(w2c_i0));
@@ -46062,7 +46340,7 @@ static u32 w2c_f63(module *m, u64 w2c_p0, u64 w2c_p1, u64 w2c_p2, u32 w2c_p3, u3
     w2c_j1 = 1016ull;
     w2c_j0 &= w2c_j1;
     w2c_l13 = w2c_j0;
-    w2c_j1 = 80840ull;
+    w2c_j1 = 80936ull;
     w2c_j0 += w2c_j1;
     w2c_i0 = (u32)(w2c_j0);
     w2c_i0 = i32_load_of_text(m, (u64)(w2c_i0));
@@ -46224,7 +46502,7 @@ static u32 w2c_f63(module *m, u64 w2c_p0, u64 w2c_p1, u64 w2c_p2, u32 w2c_p3, u3
     w2c_j1 = 1016ull;
     w2c_j0 &= w2c_j1;
     w2c_l13 = w2c_j0;
-    w2c_j1 = 80840ull;
+    w2c_j1 = 80936ull;
     w2c_j0 += w2c_j1;
     w2c_i0 = (u32)(w2c_j0);
     w2c_i0 = i32_load_of_text(m, (u64)(w2c_i0));
@@ -46233,7 +46511,7 @@ static u32 w2c_f63(module *m, u64 w2c_p0, u64 w2c_p1, u64 w2c_p2, u32 w2c_p3, u3
     if (w2c_i0) {goto w2c_B27;}
     w2c_B30:;
     w2c_j0 = w2c_l13;
-    w2c_j1 = 80844ull;
+    w2c_j1 = 80940ull;
     w2c_j0 += w2c_j1;
     w2c_i0 = (u32)(w2c_j0);
     w2c_i0 = i32_load8_u(m, (u64)(w2c_i0));
@@ -46511,7 +46789,7 @@ static u32 w2c_f63(module *m, u64 w2c_p0, u64 w2c_p1, u64 w2c_p2, u32 w2c_p3, u3
     w2c_j2 = 1016ull;
     w2c_j1 &= w2c_j2;
     w2c_l15 = w2c_j1;
-    w2c_j2 = 80840ull;
+    w2c_j2 = 80936ull;
     w2c_j1 += w2c_j2;
     w2c_i1 = (u32)(w2c_j1);
     w2c_i1 = i32_load_of_text(m, (u64)(w2c_i1));
@@ -46645,7 +46923,7 @@ static u32 w2c_f63(module *m, u64 w2c_p0, u64 w2c_p1, u64 w2c_p2, u32 w2c_p3, u3
     w2c_j1 = 1016ull;
     w2c_j0 &= w2c_j1;
     w2c_l15 = w2c_j0;
-    w2c_j1 = 80840ull;
+    w2c_j1 = 80936ull;
     w2c_j0 += w2c_j1;
     w2c_i0 = (u32)(w2c_j0);
     w2c_i0 = i32_load_of_text(m, (u64)(w2c_i0));
@@ -46663,7 +46941,7 @@ static u32 w2c_f63(module *m, u64 w2c_p0, u64 w2c_p1, u64 w2c_p2, u32 w2c_p3, u3
     goto w2c_B53;
     w2c_B57:;
     w2c_j0 = w2c_l15;
-    w2c_j1 = 80844ull;
+    w2c_j1 = 80940ull;
     w2c_j0 += w2c_j1;
     w2c_i0 = (u32)(w2c_j0);
     w2c_i0 = i32_load8_u(m, (u64)(w2c_i0));
@@ -46969,7 +47247,7 @@ static u32 w2c_f63(module *m, u64 w2c_p0, u64 w2c_p1, u64 w2c_p2, u32 w2c_p3, u3
     w2c_j2 = 1016ull;
     w2c_j1 &= w2c_j2;
     w2c_l13 = w2c_j1;
-    w2c_j2 = 80840ull;
+    w2c_j2 = 80936ull;
     w2c_j1 += w2c_j2;
     w2c_i1 = (u32)(w2c_j1);
     w2c_i1 = i32_load_of_text(m, (u64)(w2c_i1));
@@ -47087,7 +47365,7 @@ static u32 w2c_f63(module *m, u64 w2c_p0, u64 w2c_p1, u64 w2c_p2, u32 w2c_p3, u3
     w2c_j1 = 1016ull;
     w2c_j0 &= w2c_j1;
     w2c_l13 = w2c_j0;
-    w2c_j1 = 80840ull;
+    w2c_j1 = 80936ull;
     w2c_j0 += w2c_j1;
     w2c_i0 = (u32)(w2c_j0);
     w2c_i0 = i32_load_of_text(m, (u64)(w2c_i0));
@@ -47105,7 +47383,7 @@ static u32 w2c_f63(module *m, u64 w2c_p0, u64 w2c_p1, u64 w2c_p2, u32 w2c_p3, u3
     goto w2c_B77;
     w2c_B78:;
     w2c_j0 = w2c_l13;
-    w2c_j1 = 80844ull;
+    w2c_j1 = 80940ull;
     w2c_j0 += w2c_j1;
     w2c_i0 = (u32)(w2c_j0);
     w2c_i0 = i32_load8_u(m, (u64)(w2c_i0));
@@ -47370,7 +47648,7 @@ static u32 w2c_f63(module *m, u64 w2c_p0, u64 w2c_p1, u64 w2c_p2, u32 w2c_p3, u3
     w2c_j0 &= w2c_j1;
     w2c_l14 = w2c_j0;
     w2c_i0 = (u32)(w2c_j0);
-    w2c_i0 = i32_load_of_text(m, (u64)(w2c_i0) + 80840u);
+    w2c_i0 = i32_load_of_text(m, (u64)(w2c_i0) + 80936u);
     w2c_i1 = w2c_l17;
     w2c_i0 = w2c_i0 != w2c_i1;
     w2c_l18 = w2c_i0;
@@ -47379,7 +47657,7 @@ static u32 w2c_f63(module *m, u64 w2c_p0, u64 w2c_p1, u64 w2c_p2, u32 w2c_p3, u3
     w2c_l17 = w2c_i0;
     w2c_i0 = 0u;
     w2c_j1 = w2c_l14;
-    w2c_j2 = 80844ull;
+    w2c_j2 = 80940ull;
     w2c_j1 += w2c_j2;
     w2c_i1 = (u32)(w2c_j1);
     w2c_i1 = i32_load8_u(m, (u64)(w2c_i1));
@@ -47416,7 +47694,7 @@ static u32 w2c_f63(module *m, u64 w2c_p0, u64 w2c_p1, u64 w2c_p2, u32 w2c_p3, u3
     w2c_j0 += w2c_j1;
     w2c_j1 = w2c_l11;
     w2c_j2 = w2c_p1;
-    w2c_f59(m, w2c_j0, w2c_j1, w2c_j2);
+    w2c_f60(m, w2c_j0, w2c_j1, w2c_j2);
     w2c_j0 = w2c_l8;
     w2c_i0 = (u32)(w2c_j0);
     w2c_i0 = i32_load8_u(m, (u64)(w2c_i0) + 108u);
@@ -47482,14 +47760,14 @@ static u32 w2c_f63(module *m, u64 w2c_p0, u64 w2c_p1, u64 w2c_p2, u32 w2c_p3, u3
     w2c_B102:;
     w2c_j0 = w2c_l11;
     w2c_j1 = w2c_p1;
-    w2c_i0 = w2c_f60(m, w2c_j0, w2c_j1);
+    w2c_i0 = w2c_f61(m, w2c_j0, w2c_j1);
     w2c_l18 = w2c_i0;
     w2c_i0 = w2c_p4;
     w2c_i0 = !(w2c_i0);
     if (w2c_i0) {goto w2c_B111;}
     w2c_j0 = w2c_l11;
     w2c_j1 = w2c_p1;
-    w2c_i0 = w2c_f61(m, w2c_j0, w2c_j1);
+    w2c_i0 = w2c_f62(m, w2c_j0, w2c_j1);
     w2c_i1 = w2c_l19;
     w2c_i0 |= w2c_i1;
     w2c_i1 = 1u;
@@ -47527,7 +47805,7 @@ static u32 w2c_f63(module *m, u64 w2c_p0, u64 w2c_p1, u64 w2c_p2, u32 w2c_p3, u3
     w2c_p3 = w2c_i0;
     w2c_j0 = w2c_l11;
     w2c_j1 = w2c_p1;
-    w2c_i0 = w2c_f62(m, w2c_j0, w2c_j1);
+    w2c_i0 = w2c_f63(m, w2c_j0, w2c_j1);
     w2c_i0 = !(w2c_i0);
     if (w2c_i0) {goto w2c_B100;}
     w2c_B101:;
@@ -47543,7 +47821,7 @@ static u32 w2c_f63(module *m, u64 w2c_p0, u64 w2c_p1, u64 w2c_p2, u32 w2c_p3, u3
     w2c_j4 = w2c_p1;
     w2c_j5 = w2c_p0;
     w2c_j6 = w2c_l10;
-    w2c_f65(m, w2c_j0, w2c_j1, w2c_j2, w2c_j3, w2c_j4, w2c_j5, w2c_j6);
+    w2c_f66(m, w2c_j0, w2c_j1, w2c_j2, w2c_j3, w2c_j4, w2c_j5, w2c_j6);
     w2c_j0 = w2c_l8;
     w2c_i0 = (u32)(w2c_j0);
     w2c_i0 = i32_load8_u(m, (u64)(w2c_i0) + 1u);
@@ -47619,7 +47897,7 @@ static u32 w2c_f63(module *m, u64 w2c_p0, u64 w2c_p1, u64 w2c_p2, u32 w2c_p3, u3
   return w2c_i0;
 }
 
-static void w2c_f64(module *m, u64 w2c_p0, u64 w2c_p1) {
+static void w2c_f65(module *m, u64 w2c_p0, u64 w2c_p1) {
   u32 w2c_l13 = 0, w2c_l14 = 0, w2c_l15 = 0, w2c_l16 = 0, w2c_l17 = 0, w2c_l18 = 0, w2c_l19 = 0, w2c_l20 = 0;
   u64 w2c_l2 = 0, w2c_l3 = 0, w2c_l4 = 0, w2c_l5 = 0, w2c_l6 = 0, w2c_l7 = 0, w2c_l8 = 0, w2c_l9 = 0, w2c_l10 = 0, w2c_l11 = 0, w2c_l12 = 0;
   u32 w2c_i0, w2c_i1, w2c_i2, w2c_i3, w2c_i4;
@@ -47745,21 +48023,21 @@ static void w2c_f64(module *m, u64 w2c_p0, u64 w2c_p1) {
     w2c_j1 = 1016ull;
     w2c_j0 &= w2c_j1;
     w2c_l2 = w2c_j0;
-    w2c_j1 = 80845ull;
+    w2c_j1 = 80941ull;
     w2c_j0 += w2c_j1;
     w2c_i0 = (u32)(w2c_j0);
     w2c_i0 = i32_load8_u(m, (u64)(w2c_i0));
     w2c_i1 = 0u;
     w2c_j2 = w2c_l2;
     w2c_i2 = (u32)(w2c_j2);
-    w2c_i2 = i32_load_of_text(m, (u64)(w2c_i2) + 80840u);
+    w2c_i2 = i32_load_of_text(m, (u64)(w2c_i2) + 80936u);
     w2c_i3 = w2c_l18;
     w2c_i2 = w2c_i2 == w2c_i3;
     w2c_l18 = w2c_i2;
     w2c_i0 = w2c_i2 ? w2c_i0 : w2c_i1;
     w2c_l19 = w2c_i0;
     w2c_j0 = w2c_l2;
-    w2c_j1 = 80844ull;
+    w2c_j1 = 80940ull;
     w2c_j0 += w2c_j1;
     w2c_i0 = (u32)(w2c_j0);
     w2c_i0 = i32_load8_u(m, (u64)(w2c_i0));
@@ -47984,7 +48262,7 @@ static void w2c_f64(module *m, u64 w2c_p0, u64 w2c_p1) {
     w2c_i4 = w2c_l19;
     w2c_j5 = w2c_l4;
     w2c_j6 = w2c_l2;
-    w2c_i0 = w2c_f66(m, w2c_i0, w2c_i1, w2c_i2, w2c_i3, w2c_i4, w2c_j5, w2c_j6);
+    w2c_i0 = w2c_f67(m, w2c_i0, w2c_i1, w2c_i2, w2c_i3, w2c_i4, w2c_j5, w2c_j6);
     w2c_i0 = !(w2c_i0);
     if (w2c_i0) {goto w2c_B22;}
     w2c_i0 = w2c_l14;
@@ -47994,7 +48272,7 @@ static void w2c_f64(module *m, u64 w2c_p0, u64 w2c_p1) {
     w2c_i4 = w2c_l15;
     w2c_j5 = w2c_l4;
     w2c_j6 = w2c_l2;
-    w2c_i0 = w2c_f67(m, w2c_i0, w2c_i1, w2c_j2, w2c_j3, w2c_i4, w2c_j5, w2c_j6);
+    w2c_i0 = w2c_f68(m, w2c_i0, w2c_i1, w2c_j2, w2c_j3, w2c_i4, w2c_j5, w2c_j6);
     w2c_i0 = !(w2c_i0);
     if (w2c_i0) {goto w2c_B2;}
     w2c_B22:;
@@ -48005,7 +48283,7 @@ static void w2c_f64(module *m, u64 w2c_p0, u64 w2c_p1) {
     w2c_i4 = w2c_l15;
     w2c_j5 = w2c_l4;
     w2c_j6 = w2c_l2;
-    w2c_i0 = w2c_f68(m, w2c_i0, w2c_i1, w2c_j2, w2c_j3, w2c_i4, w2c_j5, w2c_j6);
+    w2c_i0 = w2c_f69(m, w2c_i0, w2c_i1, w2c_j2, w2c_j3, w2c_i4, w2c_j5, w2c_j6);
     w2c_i0 = !(w2c_i0);
     if (w2c_i0) {goto w2c_L5;}
     goto w2c_B2;
@@ -48146,7 +48424,7 @@ static void w2c_f64(module *m, u64 w2c_p0, u64 w2c_p1) {
     if (w2c_i0) {goto w2c_B2;}
     w2c_j0 = w2c_l4;
     w2c_j1 = w2c_l2;
-    w2c_i0 = w2c_f57(m, w2c_j0, w2c_j1);
+    w2c_i0 = w2c_f58(m, w2c_j0, w2c_j1);
     if (w2c_i0) {goto w2c_L5;}
     goto w2c_B2;
     w2c_B9:;
@@ -48156,7 +48434,7 @@ static void w2c_f64(module *m, u64 w2c_p0, u64 w2c_p1) {
     if (w2c_i0) {goto w2c_B33;}
     w2c_j0 = 0ull;
     w2c_l7 = w2c_j0;
-    w2c_j0 = 79844ull;
+    w2c_j0 = 79940ull;
     w2c_l10 = w2c_j0;
     w2c_j0 = 0ull;
     w2c_l2 = w2c_j0;
@@ -48287,21 +48565,21 @@ static void w2c_f64(module *m, u64 w2c_p0, u64 w2c_p1) {
     w2c_j1 = 1016ull;
     w2c_j0 &= w2c_j1;
     w2c_l2 = w2c_j0;
-    w2c_j1 = 80845ull;
+    w2c_j1 = 80941ull;
     w2c_j0 += w2c_j1;
     w2c_i0 = (u32)(w2c_j0);
     w2c_i0 = i32_load8_u(m, (u64)(w2c_i0));
     w2c_i1 = 0u;
     w2c_j2 = w2c_l2;
     w2c_i2 = (u32)(w2c_j2);
-    w2c_i2 = i32_load_of_text(m, (u64)(w2c_i2) + 80840u);
+    w2c_i2 = i32_load_of_text(m, (u64)(w2c_i2) + 80936u);
     w2c_i3 = w2c_l16;
     w2c_i2 = w2c_i2 == w2c_i3;
     w2c_l16 = w2c_i2;
     w2c_i0 = w2c_i2 ? w2c_i0 : w2c_i1;
     w2c_l18 = w2c_i0;
     w2c_j0 = w2c_l2;
-    w2c_j1 = 80844ull;
+    w2c_j1 = 80940ull;
     w2c_j0 += w2c_j1;
     w2c_i0 = (u32)(w2c_j0);
     w2c_i0 = i32_load8_u(m, (u64)(w2c_i0));
@@ -48532,7 +48810,7 @@ static void w2c_f64(module *m, u64 w2c_p0, u64 w2c_p1) {
     w2c_i4 = w2c_l18;
     w2c_j5 = w2c_l4;
     w2c_j6 = w2c_l2;
-    w2c_i0 = w2c_f66(m, w2c_i0, w2c_i1, w2c_i2, w2c_i3, w2c_i4, w2c_j5, w2c_j6);
+    w2c_i0 = w2c_f67(m, w2c_i0, w2c_i1, w2c_i2, w2c_i3, w2c_i4, w2c_j5, w2c_j6);
     w2c_i0 = !(w2c_i0);
     if (w2c_i0) {goto w2c_B51;}
     w2c_i0 = w2c_l14;
@@ -48542,7 +48820,7 @@ static void w2c_f64(module *m, u64 w2c_p0, u64 w2c_p1) {
     w2c_i4 = w2c_l15;
     w2c_j5 = w2c_l4;
     w2c_j6 = w2c_l2;
-    w2c_i0 = w2c_f67(m, w2c_i0, w2c_i1, w2c_j2, w2c_j3, w2c_i4, w2c_j5, w2c_j6);
+    w2c_i0 = w2c_f68(m, w2c_i0, w2c_i1, w2c_j2, w2c_j3, w2c_i4, w2c_j5, w2c_j6);
     w2c_i0 = !(w2c_i0);
     if (w2c_i0) {goto w2c_B2;}
     w2c_B51:;
@@ -48553,7 +48831,7 @@ static void w2c_f64(module *m, u64 w2c_p0, u64 w2c_p1) {
     w2c_i4 = w2c_l15;
     w2c_j5 = w2c_l4;
     w2c_j6 = w2c_l2;
-    w2c_i0 = w2c_f68(m, w2c_i0, w2c_i1, w2c_j2, w2c_j3, w2c_i4, w2c_j5, w2c_j6);
+    w2c_i0 = w2c_f69(m, w2c_i0, w2c_i1, w2c_j2, w2c_j3, w2c_i4, w2c_j5, w2c_j6);
     w2c_i0 = !(w2c_i0);
     if (w2c_i0) {goto w2c_L5;}
     goto w2c_B2;
@@ -48694,7 +48972,7 @@ static void w2c_f64(module *m, u64 w2c_p0, u64 w2c_p1) {
     if (w2c_i0) {goto w2c_B2;}
     w2c_j0 = w2c_l4;
     w2c_j1 = w2c_l2;
-    w2c_i0 = w2c_f57(m, w2c_j0, w2c_j1);
+    w2c_i0 = w2c_f58(m, w2c_j0, w2c_j1);
     if (w2c_i0) {goto w2c_L5;}
     goto w2c_B2;
     w2c_B7:;
@@ -48702,7 +48980,7 @@ static void w2c_f64(module *m, u64 w2c_p0, u64 w2c_p1) {
     w2c_i1 = w2c_l13;
     w2c_j2 = w2c_l4;
     w2c_j3 = w2c_l2;
-    w2c_i0 = w2c_f58(m, w2c_i0, w2c_i1, w2c_j2, w2c_j3);
+    w2c_i0 = w2c_f59(m, w2c_i0, w2c_i1, w2c_j2, w2c_j3);
     w2c_i0 = !(w2c_i0);
     if (w2c_i0) {goto w2c_L5;}
     goto w2c_B2;
@@ -48711,7 +48989,7 @@ static void w2c_f64(module *m, u64 w2c_p0, u64 w2c_p1) {
     w2c_i1 = w2c_l13;
     w2c_j2 = w2c_l4;
     w2c_j3 = w2c_l2;
-    w2c_i0 = w2c_f58(m, w2c_i0, w2c_i1, w2c_j2, w2c_j3);
+    w2c_i0 = w2c_f59(m, w2c_i0, w2c_i1, w2c_j2, w2c_j3);
     w2c_i0 = !(w2c_i0);
     if (w2c_i0) {goto w2c_L5;}
     goto w2c_B2;
@@ -48762,21 +49040,21 @@ static void w2c_f64(module *m, u64 w2c_p0, u64 w2c_p1) {
     w2c_j1 = 1016ull;
     w2c_j0 &= w2c_j1;
     w2c_l2 = w2c_j0;
-    w2c_j1 = 80845ull;
+    w2c_j1 = 80941ull;
     w2c_j0 += w2c_j1;
     w2c_i0 = (u32)(w2c_j0);
     w2c_i0 = i32_load8_u(m, (u64)(w2c_i0));
     w2c_i1 = 0u;
     w2c_j2 = w2c_l2;
     w2c_i2 = (u32)(w2c_j2);
-    w2c_i2 = i32_load_of_text(m, (u64)(w2c_i2) + 80840u);
+    w2c_i2 = i32_load_of_text(m, (u64)(w2c_i2) + 80936u);
     w2c_i3 = w2c_l18;
     w2c_i2 = w2c_i2 == w2c_i3;
     w2c_l18 = w2c_i2;
     w2c_i0 = w2c_i2 ? w2c_i0 : w2c_i1;
     w2c_l17 = w2c_i0;
     w2c_j0 = w2c_l2;
-    w2c_j1 = 80844ull;
+    w2c_j1 = 80940ull;
     w2c_j0 += w2c_j1;
     w2c_i0 = (u32)(w2c_j0);
     w2c_i0 = i32_load8_u(m, (u64)(w2c_i0));
@@ -48932,21 +49210,21 @@ static void w2c_f64(module *m, u64 w2c_p0, u64 w2c_p1) {
     w2c_j1 = 1016ull;
     w2c_j0 &= w2c_j1;
     w2c_l12 = w2c_j0;
-    w2c_j1 = 80845ull;
+    w2c_j1 = 80941ull;
     w2c_j0 += w2c_j1;
     w2c_i0 = (u32)(w2c_j0);
     w2c_i0 = i32_load8_u(m, (u64)(w2c_i0));
     w2c_i1 = 0u;
     w2c_j2 = w2c_l12;
     w2c_i2 = (u32)(w2c_j2);
-    w2c_i2 = i32_load_of_text(m, (u64)(w2c_i2) + 80840u);
+    w2c_i2 = i32_load_of_text(m, (u64)(w2c_i2) + 80936u);
     w2c_i3 = w2c_l18;
     w2c_i2 = w2c_i2 == w2c_i3;
     w2c_l18 = w2c_i2;
     w2c_i0 = w2c_i2 ? w2c_i0 : w2c_i1;
     w2c_l17 = w2c_i0;
     w2c_j0 = w2c_l12;
-    w2c_j1 = 80844ull;
+    w2c_j1 = 80940ull;
     w2c_j0 += w2c_j1;
     w2c_i0 = (u32)(w2c_j0);
     w2c_i0 = i32_load8_u(m, (u64)(w2c_i0));
@@ -49173,7 +49451,7 @@ static void w2c_f64(module *m, u64 w2c_p0, u64 w2c_p1) {
     w2c_i4 = w2c_l17;
     w2c_j5 = w2c_l4;
     w2c_j6 = w2c_l2;
-    w2c_i0 = w2c_f66(m, w2c_i0, w2c_i1, w2c_i2, w2c_i3, w2c_i4, w2c_j5, w2c_j6);
+    w2c_i0 = w2c_f67(m, w2c_i0, w2c_i1, w2c_i2, w2c_i3, w2c_i4, w2c_j5, w2c_j6);
     w2c_i0 = !(w2c_i0);
     if (w2c_i0) {goto w2c_B84;}
     w2c_i0 = w2c_l14;
@@ -49183,7 +49461,7 @@ static void w2c_f64(module *m, u64 w2c_p0, u64 w2c_p1) {
     w2c_i4 = w2c_l15;
     w2c_j5 = w2c_l4;
     w2c_j6 = w2c_l2;
-    w2c_i0 = w2c_f67(m, w2c_i0, w2c_i1, w2c_j2, w2c_j3, w2c_i4, w2c_j5, w2c_j6);
+    w2c_i0 = w2c_f68(m, w2c_i0, w2c_i1, w2c_j2, w2c_j3, w2c_i4, w2c_j5, w2c_j6);
     w2c_i0 = !(w2c_i0);
     if (w2c_i0) {goto w2c_B71;}
     w2c_B84:;
@@ -49194,7 +49472,7 @@ static void w2c_f64(module *m, u64 w2c_p0, u64 w2c_p1) {
     w2c_i4 = w2c_l15;
     w2c_j5 = w2c_l4;
     w2c_j6 = w2c_l2;
-    w2c_i0 = w2c_f68(m, w2c_i0, w2c_i1, w2c_j2, w2c_j3, w2c_i4, w2c_j5, w2c_j6);
+    w2c_i0 = w2c_f69(m, w2c_i0, w2c_i1, w2c_j2, w2c_j3, w2c_i4, w2c_j5, w2c_j6);
     if (w2c_i0) {goto w2c_B71;}
     goto w2c_B62;
     w2c_B72:;
@@ -49336,7 +49614,7 @@ static void w2c_f64(module *m, u64 w2c_p0, u64 w2c_p1) {
     if (w2c_i0) {goto w2c_B95;}
     w2c_j0 = w2c_l4;
     w2c_j1 = w2c_l2;
-    w2c_i0 = w2c_f57(m, w2c_j0, w2c_j1);
+    w2c_i0 = w2c_f58(m, w2c_j0, w2c_j1);
     w2c_i0 = !(w2c_i0);
     if (w2c_i0) {goto w2c_B71;}
     goto w2c_B62;
@@ -49345,7 +49623,7 @@ static void w2c_f64(module *m, u64 w2c_p0, u64 w2c_p1) {
     w2c_i1 = w2c_l13;
     w2c_j2 = w2c_l4;
     w2c_j3 = w2c_l2;
-    w2c_i0 = w2c_f58(m, w2c_i0, w2c_i1, w2c_j2, w2c_j3);
+    w2c_i0 = w2c_f59(m, w2c_i0, w2c_i1, w2c_j2, w2c_j3);
     w2c_i0 = !(w2c_i0);
     if (w2c_i0) {goto w2c_B62;}
     w2c_B71:;
@@ -49366,7 +49644,7 @@ static void w2c_f64(module *m, u64 w2c_p0, u64 w2c_p1) {
     w2c_j1 = 8ull;
     w2c_j0 += w2c_j1;
     w2c_i1 = w2c_l15;
-    w2c_f46(m, w2c_j0, w2c_i1);
+    w2c_f47(m, w2c_j0, w2c_i1);
     w2c_i0 = w2c_l15;
     w2c_i1 = 4294967238u;
     w2c_i0 += w2c_i1;
@@ -49393,7 +49671,7 @@ static void w2c_f64(module *m, u64 w2c_p0, u64 w2c_p1) {
     w2c_B96:;
     w2c_j0 = w2c_l3;
     w2c_i1 = w2c_l16;
-    w2c_f46(m, w2c_j0, w2c_i1);
+    w2c_f47(m, w2c_j0, w2c_i1);
     w2c_i0 = w2c_l16;
     w2c_i1 = 4294967238u;
     w2c_i0 += w2c_i1;
@@ -49539,7 +49817,7 @@ static void w2c_f64(module *m, u64 w2c_p0, u64 w2c_p1) {
   m->w2c_g0 = w2c_j0;
 }
 
-static void w2c_f65(module *m, u64 w2c_p0, u64 w2c_p1, u64 w2c_p2, u64 w2c_p3, u64 w2c_p4, u64 w2c_p5, u64 w2c_p6) {
+static void w2c_f66(module *m, u64 w2c_p0, u64 w2c_p1, u64 w2c_p2, u64 w2c_p3, u64 w2c_p4, u64 w2c_p5, u64 w2c_p6) {
   u32 w2c_l12 = 0, w2c_l13 = 0, w2c_l14 = 0, w2c_l15 = 0, w2c_l16 = 0, w2c_l17 = 0, w2c_l18 = 0, w2c_l19 = 0, w2c_l20 = 0, w2c_l21 = 0;
   u64 w2c_l7 = 0, w2c_l8 = 0, w2c_l9 = 0, w2c_l10 = 0, w2c_l11 = 0;
   u32 w2c_i0, w2c_i1, w2c_i2, w2c_i3, w2c_i4, w2c_i5;
@@ -49655,13 +49933,13 @@ static void w2c_f65(module *m, u64 w2c_p0, u64 w2c_p1, u64 w2c_p2, u64 w2c_p3, u
   w2c_i1 = 25104u;
   w2c_i0 = w2c_i0 == w2c_i1;
   if (w2c_i0) {goto w2c_B18;}
-  w2c_j0 = 81864ull;
+  w2c_j0 = 81960ull;
   w2c_j1 = 31ull;
-  w2c_j2 = 81988ull;
+  w2c_j2 = 82084ull;
   w2c_j3 = 1ull;
   w2c_j4 = w2c_p5;
   w2c_j5 = w2c_p6;
-  w2c_i0 = w2c_f74(m, w2c_j0, w2c_j1, w2c_j2, w2c_j3, w2c_j4, w2c_j5);
+  w2c_i0 = w2c_f75(m, w2c_j0, w2c_j1, w2c_j2, w2c_j3, w2c_j4, w2c_j5);
   w2c_i0 = !(w2c_i0);
   if (w2c_i0) {goto w2c_B14;}
   w2c_i0 = 1u;
@@ -49891,7 +50169,7 @@ static void w2c_f65(module *m, u64 w2c_p0, u64 w2c_p1, u64 w2c_p2, u64 w2c_p3, u
     w2c_j1 = 56ull;
     w2c_j0 += w2c_j1;
     w2c_i1 = w2c_l14;
-    w2c_f46(m, w2c_j0, w2c_i1);
+    w2c_f47(m, w2c_j0, w2c_i1);
     w2c_i0 = w2c_l14;
     w2c_i1 = 4294967238u;
     w2c_i0 += w2c_i1;
@@ -50726,13 +51004,13 @@ static void w2c_f65(module *m, u64 w2c_p0, u64 w2c_p1, u64 w2c_p2, u64 w2c_p3, u
   w2c_i0 = w2c_i0 == w2c_i1;
   if (w2c_i0) {goto w2c_B0;}
   w2c_B38:;
-  w2c_j0 = 81992ull;
+  w2c_j0 = 82088ull;
   w2c_j1 = 9ull;
-  w2c_j2 = 82028ull;
+  w2c_j2 = 82124ull;
   w2c_j3 = 13ull;
   w2c_j4 = w2c_p3;
   w2c_j5 = w2c_p4;
-  w2c_i0 = w2c_f74(m, w2c_j0, w2c_j1, w2c_j2, w2c_j3, w2c_j4, w2c_j5);
+  w2c_i0 = w2c_f75(m, w2c_j0, w2c_j1, w2c_j2, w2c_j3, w2c_j4, w2c_j5);
   w2c_l14 = w2c_i0;
   w2c_j0 = w2c_p4;
   w2c_i0 = !(w2c_j0);
@@ -50905,29 +51183,29 @@ static void w2c_f65(module *m, u64 w2c_p0, u64 w2c_p1, u64 w2c_p2, u64 w2c_p3, u
   w2c_l14 = w2c_i0;
   w2c_i0 = 0u;
   w2c_l13 = w2c_i0;
-  w2c_j0 = 82080ull;
+  w2c_j0 = 82176ull;
   w2c_j1 = 1ull;
-  w2c_j2 = 82084ull;
+  w2c_j2 = 82180ull;
   w2c_j3 = 2ull;
   w2c_j4 = w2c_p5;
   w2c_j5 = w2c_p6;
-  w2c_i0 = w2c_f74(m, w2c_j0, w2c_j1, w2c_j2, w2c_j3, w2c_j4, w2c_j5);
+  w2c_i0 = w2c_f75(m, w2c_j0, w2c_j1, w2c_j2, w2c_j3, w2c_j4, w2c_j5);
   if (w2c_i0) {goto w2c_B0;}
-  w2c_j0 = 82092ull;
+  w2c_j0 = 82188ull;
   w2c_j1 = 1ull;
-  w2c_j2 = 82096ull;
+  w2c_j2 = 82192ull;
   w2c_j3 = 1ull;
   w2c_j4 = w2c_p5;
   w2c_j5 = w2c_p6;
-  w2c_i0 = w2c_f74(m, w2c_j0, w2c_j1, w2c_j2, w2c_j3, w2c_j4, w2c_j5);
+  w2c_i0 = w2c_f75(m, w2c_j0, w2c_j1, w2c_j2, w2c_j3, w2c_j4, w2c_j5);
   if (w2c_i0) {goto w2c_B0;}
-  w2c_j0 = 82100ull;
+  w2c_j0 = 82196ull;
   w2c_j1 = 1ull;
-  w2c_j2 = 82104ull;
+  w2c_j2 = 82200ull;
   w2c_j3 = 2ull;
   w2c_j4 = w2c_p5;
   w2c_j5 = w2c_p6;
-  w2c_i0 = w2c_f74(m, w2c_j0, w2c_j1, w2c_j2, w2c_j3, w2c_j4, w2c_j5);
+  w2c_i0 = w2c_f75(m, w2c_j0, w2c_j1, w2c_j2, w2c_j3, w2c_j4, w2c_j5);
   if (w2c_i0) {goto w2c_B0;}
   w2c_B64:;
   w2c_i0 = w2c_l15;
@@ -51149,21 +51427,21 @@ static void w2c_f65(module *m, u64 w2c_p0, u64 w2c_p1, u64 w2c_p2, u64 w2c_p3, u
   w2c_l14 = w2c_i0;
   w2c_i0 = 0u;
   w2c_l13 = w2c_i0;
-  w2c_j0 = 82112ull;
+  w2c_j0 = 82208ull;
   w2c_j1 = 2ull;
-  w2c_j2 = 82120ull;
+  w2c_j2 = 82216ull;
   w2c_j3 = 2ull;
   w2c_j4 = w2c_p5;
   w2c_j5 = w2c_p6;
-  w2c_i0 = w2c_f74(m, w2c_j0, w2c_j1, w2c_j2, w2c_j3, w2c_j4, w2c_j5);
+  w2c_i0 = w2c_f75(m, w2c_j0, w2c_j1, w2c_j2, w2c_j3, w2c_j4, w2c_j5);
   if (w2c_i0) {goto w2c_B0;}
-  w2c_j0 = 82128ull;
+  w2c_j0 = 82224ull;
   w2c_j1 = 2ull;
-  w2c_j2 = 82136ull;
+  w2c_j2 = 82232ull;
   w2c_j3 = 1ull;
   w2c_j4 = w2c_p5;
   w2c_j5 = w2c_p6;
-  w2c_i0 = w2c_f74(m, w2c_j0, w2c_j1, w2c_j2, w2c_j3, w2c_j4, w2c_j5);
+  w2c_i0 = w2c_f75(m, w2c_j0, w2c_j1, w2c_j2, w2c_j3, w2c_j4, w2c_j5);
   if (w2c_i0) {goto w2c_B0;}
   w2c_B69:;
   w2c_i0 = w2c_l15;
@@ -51651,29 +51929,29 @@ static void w2c_f65(module *m, u64 w2c_p0, u64 w2c_p1, u64 w2c_p2, u64 w2c_p3, u
   w2c_l14 = w2c_i0;
   w2c_i0 = 0u;
   w2c_l13 = w2c_i0;
-  w2c_j0 = 82140ull;
+  w2c_j0 = 82236ull;
   w2c_j1 = 1ull;
-  w2c_j2 = 82144ull;
+  w2c_j2 = 82240ull;
   w2c_j3 = 1ull;
   w2c_j4 = w2c_p5;
   w2c_j5 = w2c_p6;
-  w2c_i0 = w2c_f74(m, w2c_j0, w2c_j1, w2c_j2, w2c_j3, w2c_j4, w2c_j5);
+  w2c_i0 = w2c_f75(m, w2c_j0, w2c_j1, w2c_j2, w2c_j3, w2c_j4, w2c_j5);
   if (w2c_i0) {goto w2c_B0;}
-  w2c_j0 = 82148ull;
+  w2c_j0 = 82244ull;
   w2c_j1 = 2ull;
-  w2c_j2 = 82140ull;
+  w2c_j2 = 82236ull;
   w2c_j3 = 1ull;
   w2c_j4 = w2c_p5;
   w2c_j5 = w2c_p6;
-  w2c_i0 = w2c_f74(m, w2c_j0, w2c_j1, w2c_j2, w2c_j3, w2c_j4, w2c_j5);
+  w2c_i0 = w2c_f75(m, w2c_j0, w2c_j1, w2c_j2, w2c_j3, w2c_j4, w2c_j5);
   if (w2c_i0) {goto w2c_B0;}
-  w2c_j0 = 82156ull;
+  w2c_j0 = 82252ull;
   w2c_j1 = 2ull;
-  w2c_j2 = 82164ull;
+  w2c_j2 = 82260ull;
   w2c_j3 = 1ull;
   w2c_j4 = w2c_p5;
   w2c_j5 = w2c_p6;
-  w2c_i0 = w2c_f74(m, w2c_j0, w2c_j1, w2c_j2, w2c_j3, w2c_j4, w2c_j5);
+  w2c_i0 = w2c_f75(m, w2c_j0, w2c_j1, w2c_j2, w2c_j3, w2c_j4, w2c_j5);
   if (w2c_i0) {goto w2c_B0;}
   w2c_B91:;
   w2c_i0 = w2c_l15;
@@ -53959,13 +54237,13 @@ static void w2c_f65(module *m, u64 w2c_p0, u64 w2c_p1, u64 w2c_p2, u64 w2c_p3, u
   w2c_j1 += w2c_j2;
   w2c_i0 = w2c_j0 != w2c_j1;
   if (w2c_i0) {goto w2c_B161;}
-  w2c_j0 = 82168ull;
+  w2c_j0 = 82264ull;
   w2c_j1 = 1ull;
-  w2c_j2 = 82172ull;
+  w2c_j2 = 82268ull;
   w2c_j3 = 2ull;
   w2c_j4 = w2c_p5;
   w2c_j5 = w2c_p6;
-  w2c_i0 = w2c_f74(m, w2c_j0, w2c_j1, w2c_j2, w2c_j3, w2c_j4, w2c_j5);
+  w2c_i0 = w2c_f75(m, w2c_j0, w2c_j1, w2c_j2, w2c_j3, w2c_j4, w2c_j5);
   if (w2c_i0) {goto w2c_B1;}
   w2c_B161:;
   w2c_i0 = w2c_l15;
@@ -54238,13 +54516,13 @@ static void w2c_f65(module *m, u64 w2c_p0, u64 w2c_p1, u64 w2c_p2, u64 w2c_p3, u
   w2c_i0 = w2c_j0 != w2c_j1;
   if (w2c_i0) {goto w2c_B166;}
   w2c_B167:;
-  w2c_j0 = 82180ull;
+  w2c_j0 = 82276ull;
   w2c_j1 = 1ull;
-  w2c_j2 = 82184ull;
+  w2c_j2 = 82280ull;
   w2c_j3 = 1ull;
   w2c_j4 = w2c_p5;
   w2c_j5 = w2c_p6;
-  w2c_i0 = w2c_f74(m, w2c_j0, w2c_j1, w2c_j2, w2c_j3, w2c_j4, w2c_j5);
+  w2c_i0 = w2c_f75(m, w2c_j0, w2c_j1, w2c_j2, w2c_j3, w2c_j4, w2c_j5);
   if (w2c_i0) {goto w2c_B1;}
   w2c_B166:;
   w2c_i0 = w2c_l15;
@@ -55068,21 +55346,21 @@ static void w2c_f65(module *m, u64 w2c_p0, u64 w2c_p1, u64 w2c_p2, u64 w2c_p3, u
   w2c_l14 = w2c_i0;
   w2c_i0 = 0u;
   w2c_l13 = w2c_i0;
-  w2c_j0 = 82188ull;
+  w2c_j0 = 82284ull;
   w2c_j1 = 1ull;
-  w2c_j2 = 82192ull;
+  w2c_j2 = 82288ull;
   w2c_j3 = 1ull;
   w2c_j4 = w2c_p5;
   w2c_j5 = w2c_p6;
-  w2c_i0 = w2c_f74(m, w2c_j0, w2c_j1, w2c_j2, w2c_j3, w2c_j4, w2c_j5);
+  w2c_i0 = w2c_f75(m, w2c_j0, w2c_j1, w2c_j2, w2c_j3, w2c_j4, w2c_j5);
   if (w2c_i0) {goto w2c_B0;}
-  w2c_j0 = 82168ull;
+  w2c_j0 = 82264ull;
   w2c_j1 = 1ull;
-  w2c_j2 = 82196ull;
+  w2c_j2 = 82292ull;
   w2c_j3 = 1ull;
   w2c_j4 = w2c_p5;
   w2c_j5 = w2c_p6;
-  w2c_i0 = w2c_f74(m, w2c_j0, w2c_j1, w2c_j2, w2c_j3, w2c_j4, w2c_j5);
+  w2c_i0 = w2c_f75(m, w2c_j0, w2c_j1, w2c_j2, w2c_j3, w2c_j4, w2c_j5);
   if (w2c_i0) {goto w2c_B0;}
   w2c_B199:;
   w2c_i0 = w2c_l15;
@@ -55219,13 +55497,13 @@ static void w2c_f65(module *m, u64 w2c_p0, u64 w2c_p1, u64 w2c_p2, u64 w2c_p3, u
   w2c_j1 += w2c_j2;
   w2c_i0 = w2c_j0 != w2c_j1;
   if (w2c_i0) {goto w2c_B204;}
-  w2c_j0 = 82200ull;
+  w2c_j0 = 82296ull;
   w2c_j1 = 1ull;
-  w2c_j2 = 82204ull;
+  w2c_j2 = 82300ull;
   w2c_j3 = 1ull;
   w2c_j4 = w2c_p5;
   w2c_j5 = w2c_p6;
-  w2c_i0 = w2c_f74(m, w2c_j0, w2c_j1, w2c_j2, w2c_j3, w2c_j4, w2c_j5);
+  w2c_i0 = w2c_f75(m, w2c_j0, w2c_j1, w2c_j2, w2c_j3, w2c_j4, w2c_j5);
   if (w2c_i0) {goto w2c_B1;}
   w2c_B204:;
   w2c_i0 = w2c_l15;
@@ -55362,13 +55640,13 @@ static void w2c_f65(module *m, u64 w2c_p0, u64 w2c_p1, u64 w2c_p2, u64 w2c_p3, u
   w2c_j1 += w2c_j2;
   w2c_i0 = w2c_j0 != w2c_j1;
   if (w2c_i0) {goto w2c_B209;}
-  w2c_j0 = 82208ull;
+  w2c_j0 = 82304ull;
   w2c_j1 = 1ull;
-  w2c_j2 = 82212ull;
+  w2c_j2 = 82308ull;
   w2c_j3 = 1ull;
   w2c_j4 = w2c_p5;
   w2c_j5 = w2c_p6;
-  w2c_i0 = w2c_f74(m, w2c_j0, w2c_j1, w2c_j2, w2c_j3, w2c_j4, w2c_j5);
+  w2c_i0 = w2c_f75(m, w2c_j0, w2c_j1, w2c_j2, w2c_j3, w2c_j4, w2c_j5);
   if (w2c_i0) {goto w2c_B1;}
   w2c_B209:;
   w2c_i0 = w2c_l15;
@@ -55505,13 +55783,13 @@ static void w2c_f65(module *m, u64 w2c_p0, u64 w2c_p1, u64 w2c_p2, u64 w2c_p3, u
   w2c_j1 += w2c_j2;
   w2c_i0 = w2c_j0 != w2c_j1;
   if (w2c_i0) {goto w2c_B214;}
-  w2c_j0 = 82216ull;
+  w2c_j0 = 82312ull;
   w2c_j1 = 2ull;
-  w2c_j2 = 82224ull;
+  w2c_j2 = 82320ull;
   w2c_j3 = 1ull;
   w2c_j4 = w2c_p5;
   w2c_j5 = w2c_p6;
-  w2c_i0 = w2c_f74(m, w2c_j0, w2c_j1, w2c_j2, w2c_j3, w2c_j4, w2c_j5);
+  w2c_i0 = w2c_f75(m, w2c_j0, w2c_j1, w2c_j2, w2c_j3, w2c_j4, w2c_j5);
   if (w2c_i0) {goto w2c_B1;}
   w2c_B214:;
   w2c_i0 = w2c_l15;
@@ -56004,13 +56282,13 @@ static void w2c_f65(module *m, u64 w2c_p0, u64 w2c_p1, u64 w2c_p2, u64 w2c_p3, u
   if (w2c_i0) {goto w2c_B1;}
   goto w2c_B36;
   w2c_B37:;
-  w2c_j0 = 81992ull;
+  w2c_j0 = 82088ull;
   w2c_j1 = 9ull;
-  w2c_j2 = 82028ull;
+  w2c_j2 = 82124ull;
   w2c_j3 = 13ull;
   w2c_j4 = w2c_p3;
   w2c_j5 = w2c_p4;
-  w2c_i0 = w2c_f74(m, w2c_j0, w2c_j1, w2c_j2, w2c_j3, w2c_j4, w2c_j5);
+  w2c_i0 = w2c_f75(m, w2c_j0, w2c_j1, w2c_j2, w2c_j3, w2c_j4, w2c_j5);
   w2c_B36:;
   w2c_j0 = w2c_p3;
   w2c_l7 = w2c_j0;
@@ -56108,7 +56386,7 @@ static void w2c_f65(module *m, u64 w2c_p0, u64 w2c_p1, u64 w2c_p2, u64 w2c_p3, u
     w2c_j1 = 48ull;
     w2c_j0 += w2c_j1;
     w2c_i1 = w2c_l14;
-    w2c_f46(m, w2c_j0, w2c_i1);
+    w2c_f47(m, w2c_j0, w2c_i1);
     w2c_i0 = w2c_l14;
     w2c_i1 = 4294967238u;
     w2c_i0 += w2c_i1;
@@ -56341,7 +56619,7 @@ static void w2c_f65(module *m, u64 w2c_p0, u64 w2c_p1, u64 w2c_p2, u64 w2c_p3, u
     w2c_j1 = 40ull;
     w2c_j0 += w2c_j1;
     w2c_i1 = w2c_l13;
-    w2c_f46(m, w2c_j0, w2c_i1);
+    w2c_f47(m, w2c_j0, w2c_i1);
     w2c_j0 = w2c_l9;
     w2c_j1 = w2c_l7;
     w2c_j0 -= w2c_j1;
@@ -56439,7 +56717,7 @@ static void w2c_f65(module *m, u64 w2c_p0, u64 w2c_p1, u64 w2c_p2, u64 w2c_p3, u
     w2c_j1 = 32ull;
     w2c_j0 += w2c_j1;
     w2c_i1 = w2c_l13;
-    w2c_f46(m, w2c_j0, w2c_i1);
+    w2c_f47(m, w2c_j0, w2c_i1);
     w2c_i0 = w2c_l15;
     w2c_i1 = 1u;
     w2c_i0 &= w2c_i1;
@@ -56605,13 +56883,13 @@ static void w2c_f65(module *m, u64 w2c_p0, u64 w2c_p1, u64 w2c_p2, u64 w2c_p3, u
   w2c_i1 = 24180u;
   w2c_i0 = w2c_i0 != w2c_i1;
   if (w2c_i0) {goto w2c_B260;}
-  w2c_j0 = 82168ull;
+  w2c_j0 = 82264ull;
   w2c_j1 = 1ull;
-  w2c_j2 = 82228ull;
+  w2c_j2 = 82324ull;
   w2c_j3 = 2ull;
   w2c_j4 = w2c_p5;
   w2c_j5 = w2c_p6;
-  w2c_i0 = w2c_f74(m, w2c_j0, w2c_j1, w2c_j2, w2c_j3, w2c_j4, w2c_j5);
+  w2c_i0 = w2c_f75(m, w2c_j0, w2c_j1, w2c_j2, w2c_j3, w2c_j4, w2c_j5);
   w2c_i0 = !(w2c_i0);
   if (w2c_i0) {goto w2c_B10;}
   w2c_B260:;
@@ -57472,7 +57750,7 @@ static void w2c_f65(module *m, u64 w2c_p0, u64 w2c_p1, u64 w2c_p2, u64 w2c_p3, u
   w2c_j1 = 24ull;
   w2c_j0 += w2c_j1;
   w2c_i1 = w2c_l13;
-  w2c_f46(m, w2c_j0, w2c_i1);
+  w2c_f47(m, w2c_j0, w2c_i1);
   w2c_j0 = w2c_p6;
   w2c_j1 = w2c_l10;
   w2c_j2 = w2c_l7;
@@ -57903,7 +58181,7 @@ static void w2c_f65(module *m, u64 w2c_p0, u64 w2c_p1, u64 w2c_p2, u64 w2c_p3, u
   w2c_j1 = 16ull;
   w2c_j0 += w2c_j1;
   w2c_i1 = w2c_l14;
-  w2c_f46(m, w2c_j0, w2c_i1);
+  w2c_f47(m, w2c_j0, w2c_i1);
   w2c_i0 = w2c_l14;
   w2c_i1 = 4294967238u;
   w2c_i0 += w2c_i1;
@@ -57928,11 +58206,11 @@ static void w2c_f65(module *m, u64 w2c_p0, u64 w2c_p1, u64 w2c_p2, u64 w2c_p3, u
   if (w2c_i0) {goto w2c_B7;}
   w2c_j0 = w2c_p3;
   w2c_j1 = w2c_l10;
-  w2c_i0 = w2c_f75(m, w2c_j0, w2c_j1);
+  w2c_i0 = w2c_f76(m, w2c_j0, w2c_j1);
   if (w2c_i0) {goto w2c_B307;}
   w2c_j0 = w2c_p3;
   w2c_j1 = w2c_l10;
-  w2c_i0 = w2c_f76(m, w2c_j0, w2c_j1);
+  w2c_i0 = w2c_f77(m, w2c_j0, w2c_j1);
   w2c_i0 = !(w2c_i0);
   if (w2c_i0) {goto w2c_B7;}
   w2c_B307:;
@@ -58413,7 +58691,7 @@ static void w2c_f65(module *m, u64 w2c_p0, u64 w2c_p1, u64 w2c_p2, u64 w2c_p3, u
   w2c_j1 = 8ull;
   w2c_j0 += w2c_j1;
   w2c_i1 = w2c_l15;
-  w2c_f46(m, w2c_j0, w2c_i1);
+  w2c_f47(m, w2c_j0, w2c_i1);
   w2c_i0 = w2c_l15;
   w2c_i1 = 4294967238u;
   w2c_i0 += w2c_i1;
@@ -58438,7 +58716,7 @@ static void w2c_f65(module *m, u64 w2c_p0, u64 w2c_p1, u64 w2c_p2, u64 w2c_p3, u
   if (w2c_i0) {goto w2c_B7;}
   w2c_j0 = w2c_p3;
   w2c_j1 = w2c_l7;
-  w2c_i0 = w2c_f76(m, w2c_j0, w2c_j1);
+  w2c_i0 = w2c_f77(m, w2c_j0, w2c_j1);
   w2c_i0 = !(w2c_i0);
   if (w2c_i0) {goto w2c_B7;}
   w2c_i0 = 1u;
@@ -58829,7 +59107,7 @@ static void w2c_f65(module *m, u64 w2c_p0, u64 w2c_p1, u64 w2c_p2, u64 w2c_p3, u
     w2c_j0 += w2c_j1;
     w2c_l7 = w2c_j0;
     w2c_i0 = w2c_l14;
-    w2c_i0 = w2c_f77(m, w2c_i0);
+    w2c_i0 = w2c_f78(m, w2c_i0);
     if (w2c_i0) {goto w2c_L336;}
   w2c_B335:;
   w2c_i0 = 5u;
@@ -58841,7 +59119,7 @@ static void w2c_f65(module *m, u64 w2c_p0, u64 w2c_p1, u64 w2c_p2, u64 w2c_p3, u
   w2c_j6 = w2c_p6;
   w2c_j7 = w2c_p5;
   w2c_j6 -= w2c_j7;
-  w2c_i2 = w2c_f78(m, w2c_i2, w2c_j3, w2c_j4, w2c_j5, w2c_j6);
+  w2c_i2 = w2c_f79(m, w2c_i2, w2c_j3, w2c_j4, w2c_j5, w2c_j6);
   w2c_l14 = w2c_i2;
   w2c_i0 = w2c_i2 ? w2c_i0 : w2c_i1;
   w2c_l13 = w2c_i0;
@@ -59173,7 +59451,7 @@ static void w2c_f65(module *m, u64 w2c_p0, u64 w2c_p1, u64 w2c_p2, u64 w2c_p3, u
     w2c_l14 = w2c_i0;
     w2c_B350:;
     w2c_i0 = w2c_l14;
-    w2c_i0 = w2c_f77(m, w2c_i0);
+    w2c_i0 = w2c_f78(m, w2c_i0);
     if (w2c_i0) {goto w2c_L349;}
   w2c_B348:;
   w2c_i0 = 5u;
@@ -59187,7 +59465,7 @@ static void w2c_f65(module *m, u64 w2c_p0, u64 w2c_p1, u64 w2c_p2, u64 w2c_p3, u
   w2c_j4 -= w2c_j5;
   w2c_j5 = w2c_p3;
   w2c_j6 = w2c_p4;
-  w2c_i2 = w2c_f78(m, w2c_i2, w2c_j3, w2c_j4, w2c_j5, w2c_j6);
+  w2c_i2 = w2c_f79(m, w2c_i2, w2c_j3, w2c_j4, w2c_j5, w2c_j6);
   w2c_l14 = w2c_i2;
   w2c_i0 = w2c_i2 ? w2c_i0 : w2c_i1;
   w2c_l13 = w2c_i0;
@@ -59212,7 +59490,7 @@ static void w2c_f65(module *m, u64 w2c_p0, u64 w2c_p1, u64 w2c_p2, u64 w2c_p3, u
   m->w2c_g0 = w2c_j0;
 }
 
-static u32 w2c_f66(module *m, u32 w2c_p0, u32 w2c_p1, u32 w2c_p2, u32 w2c_p3, u32 w2c_p4, u64 w2c_p5, u64 w2c_p6) {
+static u32 w2c_f67(module *m, u32 w2c_p0, u32 w2c_p1, u32 w2c_p2, u32 w2c_p3, u32 w2c_p4, u64 w2c_p5, u64 w2c_p6) {
   u32 w2c_l8 = 0;
   u64 w2c_l7 = 0;
   u32 w2c_i0, w2c_i1, w2c_i2;
@@ -59363,7 +59641,7 @@ static u32 w2c_f66(module *m, u32 w2c_p0, u32 w2c_p1, u32 w2c_p2, u32 w2c_p3, u3
   w2c_i1 = w2c_p1;
   w2c_j2 = w2c_p5;
   w2c_j3 = w2c_p6;
-  w2c_i0 = w2c_f58(m, w2c_i0, w2c_i1, w2c_j2, w2c_j3);
+  w2c_i0 = w2c_f59(m, w2c_i0, w2c_i1, w2c_j2, w2c_j3);
   w2c_i0 = !(w2c_i0);
   if (w2c_i0) {goto w2c_B3;}
   w2c_j0 = w2c_l7;
@@ -59373,7 +59651,7 @@ static u32 w2c_f66(module *m, u32 w2c_p0, u32 w2c_p1, u32 w2c_p2, u32 w2c_p3, u3
   w2c_B13:;
   w2c_j0 = w2c_p5;
   w2c_j1 = w2c_p6;
-  w2c_i0 = w2c_f57(m, w2c_j0, w2c_j1);
+  w2c_i0 = w2c_f58(m, w2c_j0, w2c_j1);
   if (w2c_i0) {goto w2c_B3;}
   w2c_j0 = w2c_l7;
   m->w2c_g0 = w2c_j0;
@@ -59408,7 +59686,7 @@ static u32 w2c_f66(module *m, u32 w2c_p0, u32 w2c_p1, u32 w2c_p2, u32 w2c_p3, u3
   return w2c_i0;
 }
 
-static u32 w2c_f67(module *m, u32 w2c_p0, u32 w2c_p1, u64 w2c_p2, u64 w2c_p3, u32 w2c_p4, u64 w2c_p5, u64 w2c_p6) {
+static u32 w2c_f68(module *m, u32 w2c_p0, u32 w2c_p1, u64 w2c_p2, u64 w2c_p3, u32 w2c_p4, u64 w2c_p5, u64 w2c_p6) {
   u32 w2c_l9 = 0, w2c_l10 = 0, w2c_l11 = 0, w2c_l12 = 0, w2c_l13 = 0;
   u64 w2c_l7 = 0, w2c_l8 = 0;
   u32 w2c_i0, w2c_i1, w2c_i2, w2c_i3;
@@ -59437,7 +59715,7 @@ static u32 w2c_f67(module *m, u32 w2c_p0, u32 w2c_p1, u64 w2c_p2, u64 w2c_p3, u3
   w2c_i1 = w2c_p1;
   w2c_j2 = w2c_p2;
   w2c_j3 = w2c_p3;
-  w2c_i0 = w2c_f69(m, w2c_i0, w2c_i1, w2c_j2, w2c_j3);
+  w2c_i0 = w2c_f70(m, w2c_i0, w2c_i1, w2c_j2, w2c_j3);
   w2c_i0 = !(w2c_i0);
   if (w2c_i0) {goto w2c_B4;}
   w2c_j0 = w2c_p6;
@@ -59477,7 +59755,7 @@ static u32 w2c_f67(module *m, u32 w2c_p0, u32 w2c_p1, u64 w2c_p2, u64 w2c_p3, u3
   w2c_j1 = 1016ull;
   w2c_j0 &= w2c_j1;
   w2c_l8 = w2c_j0;
-  w2c_j1 = 80840ull;
+  w2c_j1 = 80936ull;
   w2c_j0 += w2c_j1;
   w2c_i0 = (u32)(w2c_j0);
   w2c_i0 = i32_load_of_text(m, (u64)(w2c_i0));
@@ -59603,7 +59881,7 @@ static u32 w2c_f67(module *m, u32 w2c_p0, u32 w2c_p1, u64 w2c_p2, u64 w2c_p3, u3
   w2c_j1 = 1016ull;
   w2c_j0 &= w2c_j1;
   w2c_l8 = w2c_j0;
-  w2c_j1 = 80840ull;
+  w2c_j1 = 80936ull;
   w2c_j0 += w2c_j1;
   w2c_i0 = (u32)(w2c_j0);
   w2c_i0 = i32_load_of_text(m, (u64)(w2c_i0));
@@ -59643,7 +59921,7 @@ static u32 w2c_f67(module *m, u32 w2c_p0, u32 w2c_p1, u64 w2c_p2, u64 w2c_p3, u3
   w2c_l9 = w2c_i0;
   w2c_B7:;
   w2c_j0 = w2c_l8;
-  w2c_j1 = 80845ull;
+  w2c_j1 = 80941ull;
   w2c_j0 += w2c_j1;
   w2c_i0 = (u32)(w2c_j0);
   w2c_i0 = i32_load8_u(m, (u64)(w2c_i0));
@@ -59653,7 +59931,7 @@ static u32 w2c_f67(module *m, u32 w2c_p0, u32 w2c_p1, u64 w2c_p2, u64 w2c_p3, u3
   w2c_i0 = 0u;
   w2c_l11 = w2c_i0;
   w2c_j0 = w2c_l8;
-  w2c_j1 = 80844ull;
+  w2c_j1 = 80940ull;
   w2c_j0 += w2c_j1;
   w2c_i0 = (u32)(w2c_j0);
   w2c_j0 = i64_load8_u(m, (u64)(w2c_i0));
@@ -59824,7 +60102,7 @@ static u32 w2c_f67(module *m, u32 w2c_p0, u32 w2c_p1, u64 w2c_p2, u64 w2c_p3, u3
   w2c_i1 = w2c_p1;
   w2c_j2 = w2c_p2;
   w2c_j3 = w2c_p3;
-  w2c_i0 = w2c_f69(m, w2c_i0, w2c_i1, w2c_j2, w2c_j3);
+  w2c_i0 = w2c_f70(m, w2c_i0, w2c_i1, w2c_j2, w2c_j3);
   w2c_l10 = w2c_i0;
   w2c_j0 = w2c_p6;
   w2c_i0 = !(w2c_j0);
@@ -60333,12 +60611,12 @@ static u32 w2c_f67(module *m, u32 w2c_p0, u32 w2c_p1, u64 w2c_p2, u64 w2c_p3, u3
   w2c_j0 &= w2c_j1;
   w2c_p5 = w2c_j0;
   w2c_i0 = (u32)(w2c_j0);
-  w2c_i0 = i32_load_of_text(m, (u64)(w2c_i0) + 80840u);
+  w2c_i0 = i32_load_of_text(m, (u64)(w2c_i0) + 80936u);
   w2c_i1 = w2c_l12;
   w2c_i0 = w2c_i0 != w2c_i1;
   if (w2c_i0) {goto w2c_B41;}
   w2c_j0 = w2c_p5;
-  w2c_j1 = 80845ull;
+  w2c_j1 = 80941ull;
   w2c_j0 += w2c_j1;
   w2c_i0 = (u32)(w2c_j0);
   w2c_i0 = i32_load8_u(m, (u64)(w2c_i0));
@@ -60346,7 +60624,7 @@ static u32 w2c_f67(module *m, u32 w2c_p0, u32 w2c_p1, u64 w2c_p2, u64 w2c_p3, u3
   w2c_i0 = 0u;
   w2c_l9 = w2c_i0;
   w2c_j0 = w2c_p5;
-  w2c_j1 = 80844ull;
+  w2c_j1 = 80940ull;
   w2c_j0 += w2c_j1;
   w2c_i0 = (u32)(w2c_j0);
   w2c_j0 = i64_load8_u(m, (u64)(w2c_i0));
@@ -60622,7 +60900,7 @@ static u32 w2c_f67(module *m, u32 w2c_p0, u32 w2c_p1, u64 w2c_p2, u64 w2c_p3, u3
     w2c_j1 = 8ull;
     w2c_j0 += w2c_j1;
     w2c_i1 = w2c_p4;
-    w2c_f46(m, w2c_j0, w2c_i1);
+    w2c_f47(m, w2c_j0, w2c_i1);
     w2c_j0 = w2c_p5;
     w2c_j1 = 0ull;
     w2c_i0 = w2c_j0 != w2c_j1;
@@ -60792,7 +61070,7 @@ static u32 w2c_f67(module *m, u32 w2c_p0, u32 w2c_p1, u64 w2c_p2, u64 w2c_p3, u3
   return w2c_i0;
 }
 
-static u32 w2c_f68(module *m, u32 w2c_p0, u32 w2c_p1, u64 w2c_p2, u64 w2c_p3, u32 w2c_p4, u64 w2c_p5, u64 w2c_p6) {
+static u32 w2c_f69(module *m, u32 w2c_p0, u32 w2c_p1, u64 w2c_p2, u64 w2c_p3, u32 w2c_p4, u64 w2c_p5, u64 w2c_p6) {
   u32 w2c_l10 = 0, w2c_l11 = 0, w2c_l12 = 0, w2c_l13 = 0;
   u64 w2c_l7 = 0, w2c_l8 = 0, w2c_l9 = 0;
   u32 w2c_i0, w2c_i1, w2c_i2, w2c_i3, w2c_i4;
@@ -61109,21 +61387,21 @@ static u32 w2c_f68(module *m, u32 w2c_p0, u32 w2c_p1, u64 w2c_p2, u64 w2c_p3, u3
   w2c_j1 = 1016ull;
   w2c_j0 &= w2c_j1;
   w2c_p3 = w2c_j0;
-  w2c_j1 = 80845ull;
+  w2c_j1 = 80941ull;
   w2c_j0 += w2c_j1;
   w2c_i0 = (u32)(w2c_j0);
   w2c_i0 = i32_load8_u(m, (u64)(w2c_i0));
   w2c_i1 = 0u;
   w2c_j2 = w2c_p3;
   w2c_i2 = (u32)(w2c_j2);
-  w2c_i2 = i32_load_of_text(m, (u64)(w2c_i2) + 80840u);
+  w2c_i2 = i32_load_of_text(m, (u64)(w2c_i2) + 80936u);
   w2c_i3 = w2c_l10;
   w2c_i2 = w2c_i2 == w2c_i3;
   w2c_l10 = w2c_i2;
   w2c_i0 = w2c_i2 ? w2c_i0 : w2c_i1;
   w2c_l11 = w2c_i0;
   w2c_j0 = w2c_p3;
-  w2c_j1 = 80844ull;
+  w2c_j1 = 80940ull;
   w2c_j0 += w2c_j1;
   w2c_i0 = (u32)(w2c_j0);
   w2c_i0 = i32_load8_u(m, (u64)(w2c_i0));
@@ -61137,9 +61415,9 @@ static u32 w2c_f68(module *m, u32 w2c_p0, u32 w2c_p1, u64 w2c_p2, u64 w2c_p3, u3
   w2c_i2 = w2c_p4;
   w2c_i3 = w2c_l10;
   w2c_i4 = w2c_l11;
-  w2c_j5 = 79844ull;
+  w2c_j5 = 79940ull;
   w2c_j6 = 0ull;
-  w2c_i0 = w2c_f66(m, w2c_i0, w2c_i1, w2c_i2, w2c_i3, w2c_i4, w2c_j5, w2c_j6);
+  w2c_i0 = w2c_f67(m, w2c_i0, w2c_i1, w2c_i2, w2c_i3, w2c_i4, w2c_j5, w2c_j6);
   if (w2c_i0) {goto w2c_B26;}
   w2c_i0 = 0u;
   w2c_l10 = w2c_i0;
@@ -61182,21 +61460,21 @@ static u32 w2c_f68(module *m, u32 w2c_p0, u32 w2c_p1, u64 w2c_p2, u64 w2c_p3, u3
   w2c_j1 = 1016ull;
   w2c_j0 &= w2c_j1;
   w2c_p3 = w2c_j0;
-  w2c_j1 = 80845ull;
+  w2c_j1 = 80941ull;
   w2c_j0 += w2c_j1;
   w2c_i0 = (u32)(w2c_j0);
   w2c_i0 = i32_load8_u(m, (u64)(w2c_i0));
   w2c_i1 = 0u;
   w2c_j2 = w2c_p3;
   w2c_i2 = (u32)(w2c_j2);
-  w2c_i2 = i32_load_of_text(m, (u64)(w2c_i2) + 80840u);
+  w2c_i2 = i32_load_of_text(m, (u64)(w2c_i2) + 80936u);
   w2c_i3 = w2c_l11;
   w2c_i2 = w2c_i2 == w2c_i3;
   w2c_l11 = w2c_i2;
   w2c_i0 = w2c_i2 ? w2c_i0 : w2c_i1;
   w2c_l12 = w2c_i0;
   w2c_j0 = w2c_p3;
-  w2c_j1 = 80844ull;
+  w2c_j1 = 80940ull;
   w2c_j0 += w2c_j1;
   w2c_i0 = (u32)(w2c_j0);
   w2c_i0 = i32_load8_u(m, (u64)(w2c_i0));
@@ -61357,21 +61635,21 @@ static u32 w2c_f68(module *m, u32 w2c_p0, u32 w2c_p1, u64 w2c_p2, u64 w2c_p3, u3
   w2c_j1 = 1016ull;
   w2c_j0 &= w2c_j1;
   w2c_p3 = w2c_j0;
-  w2c_j1 = 80845ull;
+  w2c_j1 = 80941ull;
   w2c_j0 += w2c_j1;
   w2c_i0 = (u32)(w2c_j0);
   w2c_i0 = i32_load8_u(m, (u64)(w2c_i0));
   w2c_i1 = 0u;
   w2c_j2 = w2c_p3;
   w2c_i2 = (u32)(w2c_j2);
-  w2c_i2 = i32_load_of_text(m, (u64)(w2c_i2) + 80840u);
+  w2c_i2 = i32_load_of_text(m, (u64)(w2c_i2) + 80936u);
   w2c_i3 = w2c_l10;
   w2c_i2 = w2c_i2 == w2c_i3;
   w2c_l10 = w2c_i2;
   w2c_i0 = w2c_i2 ? w2c_i0 : w2c_i1;
   w2c_l12 = w2c_i0;
   w2c_j0 = w2c_p3;
-  w2c_j1 = 80844ull;
+  w2c_j1 = 80940ull;
   w2c_j0 += w2c_j1;
   w2c_i0 = (u32)(w2c_j0);
   w2c_i0 = i32_load8_u(m, (u64)(w2c_i0));
@@ -61402,7 +61680,7 @@ static u32 w2c_f68(module *m, u32 w2c_p0, u32 w2c_p1, u64 w2c_p2, u64 w2c_p3, u3
   w2c_j1 = 16ull;
   w2c_j0 += w2c_j1;
   w2c_i1 = w2c_p4;
-  w2c_f46(m, w2c_j0, w2c_i1);
+  w2c_f47(m, w2c_j0, w2c_i1);
   w2c_i0 = w2c_p4;
   w2c_i1 = 4294967238u;
   w2c_i0 += w2c_i1;
@@ -61821,7 +62099,7 @@ static u32 w2c_f68(module *m, u32 w2c_p0, u32 w2c_p1, u64 w2c_p2, u64 w2c_p3, u3
   w2c_j1 = 8ull;
   w2c_j0 += w2c_j1;
   w2c_i1 = w2c_p4;
-  w2c_f46(m, w2c_j0, w2c_i1);
+  w2c_f47(m, w2c_j0, w2c_i1);
   w2c_i0 = 1u;
   w2c_l10 = w2c_i0;
   w2c_j0 = w2c_p6;
@@ -62378,7 +62656,7 @@ static u32 w2c_f68(module *m, u32 w2c_p0, u32 w2c_p1, u64 w2c_p2, u64 w2c_p3, u3
   w2c_j1 = w2c_p3;
   w2c_j2 = w2c_p5;
   w2c_j3 = w2c_p6;
-  w2c_i0 = w2c_f70(m, w2c_j0, w2c_j1, w2c_j2, w2c_j3);
+  w2c_i0 = w2c_f71(m, w2c_j0, w2c_j1, w2c_j2, w2c_j3);
   w2c_l10 = w2c_i0;
   goto w2c_B1;
   w2c_B11:;
@@ -62386,7 +62664,7 @@ static u32 w2c_f68(module *m, u32 w2c_p0, u32 w2c_p1, u64 w2c_p2, u64 w2c_p3, u3
   w2c_j1 = w2c_p3;
   w2c_j2 = w2c_p5;
   w2c_j3 = w2c_p6;
-  w2c_i0 = w2c_f70(m, w2c_j0, w2c_j1, w2c_j2, w2c_j3);
+  w2c_i0 = w2c_f71(m, w2c_j0, w2c_j1, w2c_j2, w2c_j3);
   w2c_p4 = w2c_i0;
   w2c_j0 = w2c_p3;
   w2c_i0 = !(w2c_j0);
@@ -62783,21 +63061,21 @@ static u32 w2c_f68(module *m, u32 w2c_p0, u32 w2c_p1, u64 w2c_p2, u64 w2c_p3, u3
   w2c_j1 = 1016ull;
   w2c_j0 &= w2c_j1;
   w2c_p3 = w2c_j0;
-  w2c_j1 = 80845ull;
+  w2c_j1 = 80941ull;
   w2c_j0 += w2c_j1;
   w2c_i0 = (u32)(w2c_j0);
   w2c_i0 = i32_load8_u(m, (u64)(w2c_i0));
   w2c_i1 = 0u;
   w2c_j2 = w2c_p3;
   w2c_i2 = (u32)(w2c_j2);
-  w2c_i2 = i32_load_of_text(m, (u64)(w2c_i2) + 80840u);
+  w2c_i2 = i32_load_of_text(m, (u64)(w2c_i2) + 80936u);
   w2c_i3 = w2c_l10;
   w2c_i2 = w2c_i2 == w2c_i3;
   w2c_l10 = w2c_i2;
   w2c_i0 = w2c_i2 ? w2c_i0 : w2c_i1;
   w2c_l11 = w2c_i0;
   w2c_j0 = w2c_p3;
-  w2c_j1 = 80844ull;
+  w2c_j1 = 80940ull;
   w2c_j0 += w2c_j1;
   w2c_i0 = (u32)(w2c_j0);
   w2c_i0 = i32_load8_u(m, (u64)(w2c_i0));
@@ -62945,21 +63223,21 @@ static u32 w2c_f68(module *m, u32 w2c_p0, u32 w2c_p1, u64 w2c_p2, u64 w2c_p3, u3
   w2c_j1 = 1016ull;
   w2c_j0 &= w2c_j1;
   w2c_p2 = w2c_j0;
-  w2c_j1 = 80845ull;
+  w2c_j1 = 80941ull;
   w2c_j0 += w2c_j1;
   w2c_i0 = (u32)(w2c_j0);
   w2c_i0 = i32_load8_u(m, (u64)(w2c_i0));
   w2c_i1 = 0u;
   w2c_j2 = w2c_p2;
   w2c_i2 = (u32)(w2c_j2);
-  w2c_i2 = i32_load_of_text(m, (u64)(w2c_i2) + 80840u);
+  w2c_i2 = i32_load_of_text(m, (u64)(w2c_i2) + 80936u);
   w2c_i3 = w2c_l10;
   w2c_i2 = w2c_i2 == w2c_i3;
   w2c_l10 = w2c_i2;
   w2c_i0 = w2c_i2 ? w2c_i0 : w2c_i1;
   w2c_l11 = w2c_i0;
   w2c_j0 = w2c_p2;
-  w2c_j1 = 80844ull;
+  w2c_j1 = 80940ull;
   w2c_j0 += w2c_j1;
   w2c_i0 = (u32)(w2c_j0);
   w2c_i0 = i32_load8_u(m, (u64)(w2c_i0));
@@ -63103,7 +63381,7 @@ static u32 w2c_f68(module *m, u32 w2c_p0, u32 w2c_p1, u64 w2c_p2, u64 w2c_p3, u3
   if (w2c_i0) {goto w2c_B1;}
   w2c_j0 = w2c_p5;
   w2c_j1 = w2c_p6;
-  w2c_i0 = w2c_f57(m, w2c_j0, w2c_j1);
+  w2c_i0 = w2c_f58(m, w2c_j0, w2c_j1);
   w2c_i0 = !(w2c_i0);
   if (w2c_i0) {goto w2c_B1;}
   w2c_B109:;
@@ -63130,7 +63408,7 @@ static u32 w2c_f68(module *m, u32 w2c_p0, u32 w2c_p1, u64 w2c_p2, u64 w2c_p3, u3
   w2c_i1 = w2c_p1;
   w2c_j2 = w2c_p2;
   w2c_j3 = w2c_p3;
-  w2c_i0 = w2c_f69(m, w2c_i0, w2c_i1, w2c_j2, w2c_j3);
+  w2c_i0 = w2c_f70(m, w2c_i0, w2c_i1, w2c_j2, w2c_j3);
   w2c_p4 = w2c_i0;
   w2c_j0 = w2c_p6;
   w2c_i0 = !(w2c_j0);
@@ -63238,7 +63516,7 @@ static u32 w2c_f68(module *m, u32 w2c_p0, u32 w2c_p1, u64 w2c_p2, u64 w2c_p3, u3
   w2c_j3 = w2c_p6;
   w2c_j4 = w2c_p3;
   w2c_j3 -= w2c_j4;
-  w2c_i0 = w2c_f71(m, w2c_i0, w2c_i1, w2c_j2, w2c_j3);
+  w2c_i0 = w2c_f72(m, w2c_i0, w2c_i1, w2c_j2, w2c_j3);
   w2c_l10 = w2c_i0;
   goto w2c_B1;
   w2c_B8:;
@@ -63381,14 +63659,14 @@ static u32 w2c_f68(module *m, u32 w2c_p0, u32 w2c_p1, u64 w2c_p2, u64 w2c_p3, u3
   w2c_i1 = w2c_p1;
   w2c_j2 = w2c_p2;
   w2c_j3 = w2c_l8;
-  w2c_i0 = w2c_f69(m, w2c_i0, w2c_i1, w2c_j2, w2c_j3);
+  w2c_i0 = w2c_f70(m, w2c_i0, w2c_i1, w2c_j2, w2c_j3);
   w2c_i0 = !(w2c_i0);
   if (w2c_i0) {goto w2c_B1;}
   w2c_i0 = w2c_p0;
   w2c_i1 = w2c_p1;
   w2c_j2 = w2c_p5;
   w2c_j3 = w2c_p6;
-  w2c_i0 = w2c_f71(m, w2c_i0, w2c_i1, w2c_j2, w2c_j3);
+  w2c_i0 = w2c_f72(m, w2c_i0, w2c_i1, w2c_j2, w2c_j3);
   w2c_l10 = w2c_i0;
   goto w2c_B1;
   w2c_B7:;
@@ -63398,7 +63676,7 @@ static u32 w2c_f68(module *m, u32 w2c_p0, u32 w2c_p1, u64 w2c_p2, u64 w2c_p3, u3
   w2c_i1 = w2c_p1;
   w2c_j2 = w2c_p2;
   w2c_j3 = w2c_p3;
-  w2c_i0 = w2c_f69(m, w2c_i0, w2c_i1, w2c_j2, w2c_j3);
+  w2c_i0 = w2c_f70(m, w2c_i0, w2c_i1, w2c_j2, w2c_j3);
   if (w2c_i0) {goto w2c_B1;}
   w2c_i0 = 0u;
   w2c_l10 = w2c_i0;
@@ -63666,7 +63944,7 @@ static u32 w2c_f68(module *m, u32 w2c_p0, u32 w2c_p1, u64 w2c_p2, u64 w2c_p3, u3
   w2c_i1 = w2c_p1;
   w2c_j2 = w2c_p2;
   w2c_j3 = w2c_p3;
-  w2c_i0 = w2c_f69(m, w2c_i0, w2c_i1, w2c_j2, w2c_j3);
+  w2c_i0 = w2c_f70(m, w2c_i0, w2c_i1, w2c_j2, w2c_j3);
   if (w2c_i0) {goto w2c_B145;}
   w2c_i0 = 0u;
   w2c_l10 = w2c_i0;
@@ -63710,21 +63988,21 @@ static u32 w2c_f68(module *m, u32 w2c_p0, u32 w2c_p1, u64 w2c_p2, u64 w2c_p3, u3
     w2c_j1 = 1016ull;
     w2c_j0 &= w2c_j1;
     w2c_p3 = w2c_j0;
-    w2c_j1 = 80845ull;
+    w2c_j1 = 80941ull;
     w2c_j0 += w2c_j1;
     w2c_i0 = (u32)(w2c_j0);
     w2c_i0 = i32_load8_u(m, (u64)(w2c_i0));
     w2c_i1 = 0u;
     w2c_j2 = w2c_p3;
     w2c_i2 = (u32)(w2c_j2);
-    w2c_i2 = i32_load_of_text(m, (u64)(w2c_i2) + 80840u);
+    w2c_i2 = i32_load_of_text(m, (u64)(w2c_i2) + 80936u);
     w2c_i3 = w2c_l10;
     w2c_i2 = w2c_i2 == w2c_i3;
     w2c_l11 = w2c_i2;
     w2c_i0 = w2c_i2 ? w2c_i0 : w2c_i1;
     w2c_l10 = w2c_i0;
     w2c_j0 = w2c_p3;
-    w2c_j1 = 80844ull;
+    w2c_j1 = 80940ull;
     w2c_j0 += w2c_j1;
     w2c_i0 = (u32)(w2c_j0);
     w2c_i0 = i32_load8_u(m, (u64)(w2c_i0));
@@ -63885,21 +64163,21 @@ static u32 w2c_f68(module *m, u32 w2c_p0, u32 w2c_p1, u64 w2c_p2, u64 w2c_p3, u3
     w2c_j1 = 1016ull;
     w2c_j0 &= w2c_j1;
     w2c_p3 = w2c_j0;
-    w2c_j1 = 80845ull;
+    w2c_j1 = 80941ull;
     w2c_j0 += w2c_j1;
     w2c_i0 = (u32)(w2c_j0);
     w2c_i0 = i32_load8_u(m, (u64)(w2c_i0));
     w2c_i1 = 0u;
     w2c_j2 = w2c_p3;
     w2c_i2 = (u32)(w2c_j2);
-    w2c_i2 = i32_load_of_text(m, (u64)(w2c_i2) + 80840u);
+    w2c_i2 = i32_load_of_text(m, (u64)(w2c_i2) + 80936u);
     w2c_i3 = w2c_l10;
     w2c_i2 = w2c_i2 == w2c_i3;
     w2c_l11 = w2c_i2;
     w2c_i0 = w2c_i2 ? w2c_i0 : w2c_i1;
     w2c_l10 = w2c_i0;
     w2c_j0 = w2c_p3;
-    w2c_j1 = 80844ull;
+    w2c_j1 = 80940ull;
     w2c_j0 += w2c_j1;
     w2c_i0 = (u32)(w2c_j0);
     w2c_i0 = i32_load8_u(m, (u64)(w2c_i0));
@@ -63933,7 +64211,7 @@ static u32 w2c_f68(module *m, u32 w2c_p0, u32 w2c_p1, u64 w2c_p2, u64 w2c_p3, u3
     w2c_i4 = w2c_l10;
     w2c_j5 = w2c_p5;
     w2c_j6 = w2c_p6;
-    w2c_i0 = w2c_f66(m, w2c_i0, w2c_i1, w2c_i2, w2c_i3, w2c_i4, w2c_j5, w2c_j6);
+    w2c_i0 = w2c_f67(m, w2c_i0, w2c_i1, w2c_i2, w2c_i3, w2c_i4, w2c_j5, w2c_j6);
     if (w2c_i0) {goto w2c_B155;}
     w2c_i0 = 0u;
     w2c_l10 = w2c_i0;
@@ -64109,7 +64387,7 @@ static u32 w2c_f68(module *m, u32 w2c_p0, u32 w2c_p1, u64 w2c_p2, u64 w2c_p3, u3
     w2c_j5 = w2c_l8;
     w2c_j4 += w2c_j5;
     w2c_j3 -= w2c_j4;
-    w2c_i0 = w2c_f71(m, w2c_i0, w2c_i1, w2c_j2, w2c_j3);
+    w2c_i0 = w2c_f72(m, w2c_i0, w2c_i1, w2c_j2, w2c_j3);
     w2c_i0 = !(w2c_i0);
     if (w2c_i0) {goto w2c_L146;}
     goto w2c_B1;
@@ -64252,7 +64530,7 @@ static u32 w2c_f68(module *m, u32 w2c_p0, u32 w2c_p1, u64 w2c_p2, u64 w2c_p3, u3
   w2c_i1 = w2c_p1;
   w2c_j2 = w2c_p2;
   w2c_j3 = w2c_l8;
-  w2c_i0 = w2c_f69(m, w2c_i0, w2c_i1, w2c_j2, w2c_j3);
+  w2c_i0 = w2c_f70(m, w2c_i0, w2c_i1, w2c_j2, w2c_j3);
   w2c_i0 = !(w2c_i0);
   if (w2c_i0) {goto w2c_B168;}
   w2c_i0 = 0u;
@@ -64296,21 +64574,21 @@ static u32 w2c_f68(module *m, u32 w2c_p0, u32 w2c_p1, u64 w2c_p2, u64 w2c_p3, u3
   w2c_j1 = 1016ull;
   w2c_j0 &= w2c_j1;
   w2c_p3 = w2c_j0;
-  w2c_j1 = 80845ull;
+  w2c_j1 = 80941ull;
   w2c_j0 += w2c_j1;
   w2c_i0 = (u32)(w2c_j0);
   w2c_i0 = i32_load8_u(m, (u64)(w2c_i0));
   w2c_i1 = 0u;
   w2c_j2 = w2c_p3;
   w2c_i2 = (u32)(w2c_j2);
-  w2c_i2 = i32_load_of_text(m, (u64)(w2c_i2) + 80840u);
+  w2c_i2 = i32_load_of_text(m, (u64)(w2c_i2) + 80936u);
   w2c_i3 = w2c_l11;
   w2c_i2 = w2c_i2 == w2c_i3;
   w2c_l11 = w2c_i2;
   w2c_i0 = w2c_i2 ? w2c_i0 : w2c_i1;
   w2c_l12 = w2c_i0;
   w2c_j0 = w2c_p3;
-  w2c_j1 = 80844ull;
+  w2c_j1 = 80940ull;
   w2c_j0 += w2c_j1;
   w2c_i0 = (u32)(w2c_j0);
   w2c_i0 = i32_load8_u(m, (u64)(w2c_i0));
@@ -64471,21 +64749,21 @@ static u32 w2c_f68(module *m, u32 w2c_p0, u32 w2c_p1, u64 w2c_p2, u64 w2c_p3, u3
   w2c_j1 = 1016ull;
   w2c_j0 &= w2c_j1;
   w2c_p3 = w2c_j0;
-  w2c_j1 = 80845ull;
+  w2c_j1 = 80941ull;
   w2c_j0 += w2c_j1;
   w2c_i0 = (u32)(w2c_j0);
   w2c_i0 = i32_load8_u(m, (u64)(w2c_i0));
   w2c_i1 = 0u;
   w2c_j2 = w2c_p3;
   w2c_i2 = (u32)(w2c_j2);
-  w2c_i2 = i32_load_of_text(m, (u64)(w2c_i2) + 80840u);
+  w2c_i2 = i32_load_of_text(m, (u64)(w2c_i2) + 80936u);
   w2c_i3 = w2c_l10;
   w2c_i2 = w2c_i2 == w2c_i3;
   w2c_l10 = w2c_i2;
   w2c_i0 = w2c_i2 ? w2c_i0 : w2c_i1;
   w2c_l12 = w2c_i0;
   w2c_j0 = w2c_p3;
-  w2c_j1 = 80844ull;
+  w2c_j1 = 80940ull;
   w2c_j0 += w2c_j1;
   w2c_i0 = (u32)(w2c_j0);
   w2c_i0 = i32_load8_u(m, (u64)(w2c_i0));
@@ -64695,7 +64973,7 @@ static u32 w2c_f68(module *m, u32 w2c_p0, u32 w2c_p1, u64 w2c_p2, u64 w2c_p3, u3
   w2c_j1 = 24ull;
   w2c_j0 += w2c_j1;
   w2c_i1 = w2c_p4;
-  w2c_f46(m, w2c_j0, w2c_i1);
+  w2c_f47(m, w2c_j0, w2c_i1);
   w2c_i0 = w2c_p4;
   w2c_i1 = 21313u;
   w2c_i0 = w2c_i0 == w2c_i1;
@@ -64722,7 +65000,7 @@ static u32 w2c_f68(module *m, u32 w2c_p0, u32 w2c_p1, u64 w2c_p2, u64 w2c_p3, u3
   w2c_i1 = w2c_p1;
   w2c_j2 = w2c_p5;
   w2c_j3 = w2c_p6;
-  w2c_i0 = w2c_f72(m, w2c_i0, w2c_i1, w2c_j2, w2c_j3);
+  w2c_i0 = w2c_f73(m, w2c_i0, w2c_i1, w2c_j2, w2c_j3);
   if (w2c_i0) {goto w2c_B1;}
   w2c_j0 = w2c_p6;
   w2c_i0 = !(w2c_j0);
@@ -64847,7 +65125,7 @@ static u32 w2c_f68(module *m, u32 w2c_p0, u32 w2c_p1, u64 w2c_p2, u64 w2c_p3, u3
   w2c_i1 = w2c_p1;
   w2c_j2 = w2c_p5;
   w2c_j3 = w2c_p6;
-  w2c_i0 = w2c_f72(m, w2c_i0, w2c_i1, w2c_j2, w2c_j3);
+  w2c_i0 = w2c_f73(m, w2c_i0, w2c_i1, w2c_j2, w2c_j3);
   if (w2c_i0) {goto w2c_B200;}
   w2c_i0 = 0u;
   w2c_l10 = w2c_i0;
@@ -64859,7 +65137,7 @@ static u32 w2c_f68(module *m, u32 w2c_p0, u32 w2c_p1, u64 w2c_p2, u64 w2c_p3, u3
   w2c_i1 = w2c_p1;
   w2c_j2 = w2c_p2;
   w2c_j3 = w2c_p3;
-  w2c_i0 = w2c_f69(m, w2c_i0, w2c_i1, w2c_j2, w2c_j3);
+  w2c_i0 = w2c_f70(m, w2c_i0, w2c_i1, w2c_j2, w2c_j3);
   if (w2c_i0) {goto w2c_B1;}
   w2c_i0 = 1u;
   w2c_l10 = w2c_i0;
@@ -65306,7 +65584,7 @@ static u32 w2c_f68(module *m, u32 w2c_p0, u32 w2c_p1, u64 w2c_p2, u64 w2c_p3, u3
   w2c_i1 = w2c_p1;
   w2c_j2 = w2c_p2;
   w2c_j3 = w2c_p3;
-  w2c_i0 = w2c_f73(m, w2c_i0, w2c_i1, w2c_j2, w2c_j3);
+  w2c_i0 = w2c_f74(m, w2c_i0, w2c_i1, w2c_j2, w2c_j3);
   w2c_l10 = w2c_i0;
   goto w2c_B1;
   w2c_B2:;
@@ -65554,7 +65832,7 @@ static u32 w2c_f68(module *m, u32 w2c_p0, u32 w2c_p1, u64 w2c_p2, u64 w2c_p3, u3
   w2c_i1 = w2c_p1;
   w2c_j2 = w2c_p2;
   w2c_j3 = w2c_p5;
-  w2c_i0 = w2c_f73(m, w2c_i0, w2c_i1, w2c_j2, w2c_j3);
+  w2c_i0 = w2c_f74(m, w2c_i0, w2c_i1, w2c_j2, w2c_j3);
   w2c_l10 = w2c_i0;
   w2c_B1:;
   w2c_j0 = w2c_l7;
@@ -65569,7 +65847,7 @@ static u32 w2c_f68(module *m, u32 w2c_p0, u32 w2c_p1, u64 w2c_p2, u64 w2c_p3, u3
   return w2c_i0;
 }
 
-static u32 w2c_f69(module *m, u32 w2c_p0, u32 w2c_p1, u64 w2c_p2, u64 w2c_p3) {
+static u32 w2c_f70(module *m, u32 w2c_p0, u32 w2c_p1, u64 w2c_p2, u64 w2c_p3) {
   u32 w2c_l7 = 0, w2c_l8 = 0, w2c_l9 = 0, w2c_l10 = 0;
   u64 w2c_l4 = 0, w2c_l5 = 0, w2c_l6 = 0;
   u32 w2c_i0, w2c_i1, w2c_i2, w2c_i3, w2c_i4;
@@ -65735,21 +66013,21 @@ static u32 w2c_f69(module *m, u32 w2c_p0, u32 w2c_p1, u64 w2c_p2, u64 w2c_p3) {
   w2c_j1 = 1016ull;
   w2c_j0 &= w2c_j1;
   w2c_p3 = w2c_j0;
-  w2c_j1 = 80845ull;
+  w2c_j1 = 80941ull;
   w2c_j0 += w2c_j1;
   w2c_i0 = (u32)(w2c_j0);
   w2c_i0 = i32_load8_u(m, (u64)(w2c_i0));
   w2c_i1 = 0u;
   w2c_j2 = w2c_p3;
   w2c_i2 = (u32)(w2c_j2);
-  w2c_i2 = i32_load_of_text(m, (u64)(w2c_i2) + 80840u);
+  w2c_i2 = i32_load_of_text(m, (u64)(w2c_i2) + 80936u);
   w2c_i3 = w2c_l8;
   w2c_i2 = w2c_i2 == w2c_i3;
   w2c_l9 = w2c_i2;
   w2c_i0 = w2c_i2 ? w2c_i0 : w2c_i1;
   w2c_l8 = w2c_i0;
   w2c_j0 = w2c_p3;
-  w2c_j1 = 80844ull;
+  w2c_j1 = 80940ull;
   w2c_j0 += w2c_j1;
   w2c_i0 = (u32)(w2c_j0);
   w2c_i0 = i32_load8_u(m, (u64)(w2c_i0));
@@ -65781,9 +66059,9 @@ static u32 w2c_f69(module *m, u32 w2c_p0, u32 w2c_p1, u64 w2c_p2, u64 w2c_p3) {
   w2c_i2 = w2c_l7;
   w2c_i3 = w2c_l9;
   w2c_i4 = w2c_l8;
-  w2c_j5 = 79844ull;
+  w2c_j5 = 79940ull;
   w2c_j6 = 0ull;
-  w2c_i0 = w2c_f66(m, w2c_i0, w2c_i1, w2c_i2, w2c_i3, w2c_i4, w2c_j5, w2c_j6);
+  w2c_i0 = w2c_f67(m, w2c_i0, w2c_i1, w2c_i2, w2c_i3, w2c_i4, w2c_j5, w2c_j6);
   w2c_l7 = w2c_i0;
   w2c_j0 = w2c_l4;
   m->w2c_g0 = w2c_j0;
@@ -65795,7 +66073,7 @@ static u32 w2c_f69(module *m, u32 w2c_p0, u32 w2c_p1, u64 w2c_p2, u64 w2c_p3) {
   return w2c_i0;
 }
 
-static u32 w2c_f70(module *m, u64 w2c_p0, u64 w2c_p1, u64 w2c_p2, u64 w2c_p3) {
+static u32 w2c_f71(module *m, u64 w2c_p0, u64 w2c_p1, u64 w2c_p2, u64 w2c_p3) {
   u32 w2c_l7 = 0, w2c_l8 = 0, w2c_l9 = 0, w2c_l10 = 0, w2c_l11 = 0, w2c_l12 = 0, w2c_l13 = 0;
   u64 w2c_l4 = 0, w2c_l5 = 0, w2c_l6 = 0;
   u32 w2c_i0, w2c_i1, w2c_i2, w2c_i3;
@@ -67959,7 +68237,7 @@ static u32 w2c_f70(module *m, u64 w2c_p0, u64 w2c_p1, u64 w2c_p2, u64 w2c_p3) {
   return w2c_i0;
 }
 
-static u32 w2c_f71(module *m, u32 w2c_p0, u32 w2c_p1, u64 w2c_p2, u64 w2c_p3) {
+static u32 w2c_f72(module *m, u32 w2c_p0, u32 w2c_p1, u64 w2c_p2, u64 w2c_p3) {
   u32 w2c_l6 = 0, w2c_l7 = 0, w2c_l8 = 0, w2c_l9 = 0, w2c_l10 = 0;
   u64 w2c_l4 = 0, w2c_l5 = 0;
   u32 w2c_i0, w2c_i1, w2c_i2, w2c_i3, w2c_i4;
@@ -68006,21 +68284,21 @@ static u32 w2c_f71(module *m, u32 w2c_p0, u32 w2c_p1, u64 w2c_p2, u64 w2c_p3) {
   w2c_j1 = 1016ull;
   w2c_j0 &= w2c_j1;
   w2c_l5 = w2c_j0;
-  w2c_j1 = 80845ull;
+  w2c_j1 = 80941ull;
   w2c_j0 += w2c_j1;
   w2c_i0 = (u32)(w2c_j0);
   w2c_i0 = i32_load8_u(m, (u64)(w2c_i0));
   w2c_i1 = 0u;
   w2c_j2 = w2c_l5;
   w2c_i2 = (u32)(w2c_j2);
-  w2c_i2 = i32_load_of_text(m, (u64)(w2c_i2) + 80840u);
+  w2c_i2 = i32_load_of_text(m, (u64)(w2c_i2) + 80936u);
   w2c_i3 = w2c_l9;
   w2c_i2 = w2c_i2 == w2c_i3;
   w2c_l10 = w2c_i2;
   w2c_i0 = w2c_i2 ? w2c_i0 : w2c_i1;
   w2c_l9 = w2c_i0;
   w2c_j0 = w2c_l5;
-  w2c_j1 = 80844ull;
+  w2c_j1 = 80940ull;
   w2c_j0 += w2c_j1;
   w2c_i0 = (u32)(w2c_j0);
   w2c_i0 = i32_load8_u(m, (u64)(w2c_i0));
@@ -68190,21 +68468,21 @@ static u32 w2c_f71(module *m, u32 w2c_p0, u32 w2c_p1, u64 w2c_p2, u64 w2c_p3) {
   w2c_j1 = 1016ull;
   w2c_j0 &= w2c_j1;
   w2c_l5 = w2c_j0;
-  w2c_j1 = 80845ull;
+  w2c_j1 = 80941ull;
   w2c_j0 += w2c_j1;
   w2c_i0 = (u32)(w2c_j0);
   w2c_i0 = i32_load8_u(m, (u64)(w2c_i0));
   w2c_i1 = 0u;
   w2c_j2 = w2c_l5;
   w2c_i2 = (u32)(w2c_j2);
-  w2c_i2 = i32_load_of_text(m, (u64)(w2c_i2) + 80840u);
+  w2c_i2 = i32_load_of_text(m, (u64)(w2c_i2) + 80936u);
   w2c_i3 = w2c_l6;
   w2c_i2 = w2c_i2 == w2c_i3;
   w2c_l6 = w2c_i2;
   w2c_i0 = w2c_i2 ? w2c_i0 : w2c_i1;
   w2c_l9 = w2c_i0;
   w2c_j0 = w2c_l5;
-  w2c_j1 = 80844ull;
+  w2c_j1 = 80940ull;
   w2c_j0 += w2c_j1;
   w2c_i0 = (u32)(w2c_j0);
   w2c_i0 = i32_load8_u(m, (u64)(w2c_i0));
@@ -68238,7 +68516,7 @@ static u32 w2c_f71(module *m, u32 w2c_p0, u32 w2c_p1, u64 w2c_p2, u64 w2c_p3) {
   w2c_i4 = w2c_l9;
   w2c_j5 = w2c_p2;
   w2c_j6 = w2c_p3;
-  w2c_i0 = w2c_f66(m, w2c_i0, w2c_i1, w2c_i2, w2c_i3, w2c_i4, w2c_j5, w2c_j6);
+  w2c_i0 = w2c_f67(m, w2c_i0, w2c_i1, w2c_i2, w2c_i3, w2c_i4, w2c_j5, w2c_j6);
   w2c_i0 = !(w2c_i0);
   if (w2c_i0) {goto w2c_B9;}
   w2c_j0 = w2c_l4;
@@ -68279,7 +68557,7 @@ static u32 w2c_f71(module *m, u32 w2c_p0, u32 w2c_p1, u64 w2c_p2, u64 w2c_p3) {
   w2c_i1 = w2c_p1;
   w2c_j2 = w2c_p2;
   w2c_j3 = w2c_p3;
-  w2c_i0 = w2c_f72(m, w2c_i0, w2c_i1, w2c_j2, w2c_j3);
+  w2c_i0 = w2c_f73(m, w2c_i0, w2c_i1, w2c_j2, w2c_j3);
   w2c_l6 = w2c_i0;
   w2c_B10:;
   w2c_j0 = w2c_l4;
@@ -68292,7 +68570,7 @@ static u32 w2c_f71(module *m, u32 w2c_p0, u32 w2c_p1, u64 w2c_p2, u64 w2c_p3) {
   return w2c_i0;
 }
 
-static u32 w2c_f72(module *m, u32 w2c_p0, u32 w2c_p1, u64 w2c_p2, u64 w2c_p3) {
+static u32 w2c_f73(module *m, u32 w2c_p0, u32 w2c_p1, u64 w2c_p2, u64 w2c_p3) {
   u32 w2c_l6 = 0, w2c_l7 = 0, w2c_l8 = 0, w2c_l9 = 0, w2c_l10 = 0;
   u64 w2c_l4 = 0, w2c_l5 = 0;
   u32 w2c_i0, w2c_i1, w2c_i2, w2c_i3, w2c_i4;
@@ -68339,21 +68617,21 @@ static u32 w2c_f72(module *m, u32 w2c_p0, u32 w2c_p1, u64 w2c_p2, u64 w2c_p3) {
   w2c_j1 = 1016ull;
   w2c_j0 &= w2c_j1;
   w2c_l5 = w2c_j0;
-  w2c_j1 = 80845ull;
+  w2c_j1 = 80941ull;
   w2c_j0 += w2c_j1;
   w2c_i0 = (u32)(w2c_j0);
   w2c_i0 = i32_load8_u(m, (u64)(w2c_i0));
   w2c_i1 = 0u;
   w2c_j2 = w2c_l5;
   w2c_i2 = (u32)(w2c_j2);
-  w2c_i2 = i32_load_of_text(m, (u64)(w2c_i2) + 80840u);
+  w2c_i2 = i32_load_of_text(m, (u64)(w2c_i2) + 80936u);
   w2c_i3 = w2c_l9;
   w2c_i2 = w2c_i2 == w2c_i3;
   w2c_l10 = w2c_i2;
   w2c_i0 = w2c_i2 ? w2c_i0 : w2c_i1;
   w2c_l9 = w2c_i0;
   w2c_j0 = w2c_l5;
-  w2c_j1 = 80844ull;
+  w2c_j1 = 80940ull;
   w2c_j0 += w2c_j1;
   w2c_i0 = (u32)(w2c_j0);
   w2c_i0 = i32_load8_u(m, (u64)(w2c_i0));
@@ -68523,21 +68801,21 @@ static u32 w2c_f72(module *m, u32 w2c_p0, u32 w2c_p1, u64 w2c_p2, u64 w2c_p3) {
   w2c_j1 = 1016ull;
   w2c_j0 &= w2c_j1;
   w2c_l5 = w2c_j0;
-  w2c_j1 = 80845ull;
+  w2c_j1 = 80941ull;
   w2c_j0 += w2c_j1;
   w2c_i0 = (u32)(w2c_j0);
   w2c_i0 = i32_load8_u(m, (u64)(w2c_i0));
   w2c_i1 = 0u;
   w2c_j2 = w2c_l5;
   w2c_i2 = (u32)(w2c_j2);
-  w2c_i2 = i32_load_of_text(m, (u64)(w2c_i2) + 80840u);
+  w2c_i2 = i32_load_of_text(m, (u64)(w2c_i2) + 80936u);
   w2c_i3 = w2c_l6;
   w2c_i2 = w2c_i2 == w2c_i3;
   w2c_l6 = w2c_i2;
   w2c_i0 = w2c_i2 ? w2c_i0 : w2c_i1;
   w2c_l9 = w2c_i0;
   w2c_j0 = w2c_l5;
-  w2c_j1 = 80844ull;
+  w2c_j1 = 80940ull;
   w2c_j0 += w2c_j1;
   w2c_i0 = (u32)(w2c_j0);
   w2c_i0 = i32_load8_u(m, (u64)(w2c_i0));
@@ -68571,7 +68849,7 @@ static u32 w2c_f72(module *m, u32 w2c_p0, u32 w2c_p1, u64 w2c_p2, u64 w2c_p3) {
   w2c_i4 = w2c_l9;
   w2c_j5 = w2c_p2;
   w2c_j6 = w2c_p3;
-  w2c_i0 = w2c_f66(m, w2c_i0, w2c_i1, w2c_i2, w2c_i3, w2c_i4, w2c_j5, w2c_j6);
+  w2c_i0 = w2c_f67(m, w2c_i0, w2c_i1, w2c_i2, w2c_i3, w2c_i4, w2c_j5, w2c_j6);
   w2c_l7 = w2c_i0;
   w2c_j0 = w2c_l4;
   m->w2c_g0 = w2c_j0;
@@ -68583,7 +68861,7 @@ static u32 w2c_f72(module *m, u32 w2c_p0, u32 w2c_p1, u64 w2c_p2, u64 w2c_p3) {
   return w2c_i0;
 }
 
-static u32 w2c_f73(module *m, u32 w2c_p0, u32 w2c_p1, u64 w2c_p2, u64 w2c_p3) {
+static u32 w2c_f74(module *m, u32 w2c_p0, u32 w2c_p1, u64 w2c_p2, u64 w2c_p3) {
   u32 w2c_l7 = 0, w2c_l8 = 0, w2c_l9 = 0;
   u64 w2c_l4 = 0, w2c_l5 = 0, w2c_l6 = 0;
   u32 w2c_i0, w2c_i1, w2c_i2, w2c_i3;
@@ -68599,7 +68877,7 @@ static u32 w2c_f73(module *m, u32 w2c_p0, u32 w2c_p1, u64 w2c_p2, u64 w2c_p3) {
   w2c_i1 = w2c_p1;
   w2c_j2 = w2c_p2;
   w2c_j3 = w2c_p3;
-  w2c_i0 = w2c_f69(m, w2c_i0, w2c_i1, w2c_j2, w2c_j3);
+  w2c_i0 = w2c_f70(m, w2c_i0, w2c_i1, w2c_j2, w2c_j3);
   if (w2c_i0) {goto w2c_B1;}
   w2c_i0 = 1u;
   w2c_l7 = w2c_i0;
@@ -68804,7 +69082,7 @@ static u32 w2c_f73(module *m, u32 w2c_p0, u32 w2c_p1, u64 w2c_p2, u64 w2c_p3) {
   return w2c_i0;
 }
 
-static u32 w2c_f74(module *m, u64 w2c_p0, u64 w2c_p1, u64 w2c_p2, u64 w2c_p3, u64 w2c_p4, u64 w2c_p5) {
+static u32 w2c_f75(module *m, u64 w2c_p0, u64 w2c_p1, u64 w2c_p2, u64 w2c_p3, u64 w2c_p4, u64 w2c_p5) {
   u32 w2c_l6 = 0, w2c_l7 = 0, w2c_l8 = 0, w2c_l9 = 0, w2c_l10 = 0, w2c_l11 = 0;
   u64 w2c_l12 = 0;
   u32 w2c_i0, w2c_i1, w2c_i2, w2c_i3;
@@ -69041,7 +69319,7 @@ static u32 w2c_f74(module *m, u64 w2c_p0, u64 w2c_p1, u64 w2c_p2, u64 w2c_p3, u6
   return w2c_i0;
 }
 
-static u32 w2c_f75(module *m, u64 w2c_p0, u64 w2c_p1) {
+static u32 w2c_f76(module *m, u64 w2c_p0, u64 w2c_p1) {
   u32 w2c_l5 = 0, w2c_l6 = 0, w2c_l7 = 0, w2c_l8 = 0, w2c_l9 = 0, w2c_l10 = 0, w2c_l11 = 0;
   u64 w2c_l2 = 0, w2c_l3 = 0, w2c_l4 = 0;
   u32 w2c_i0, w2c_i1, w2c_i2, w2c_i3;
@@ -69531,7 +69809,7 @@ static u32 w2c_f75(module *m, u64 w2c_p0, u64 w2c_p1) {
   w2c_B17:;
   w2c_j0 = w2c_l2;
   w2c_i1 = w2c_l6;
-  w2c_f46(m, w2c_j0, w2c_i1);
+  w2c_f47(m, w2c_j0, w2c_i1);
   w2c_i0 = w2c_l6;
   w2c_i1 = 4294967238u;
   w2c_i0 += w2c_i1;
@@ -69647,7 +69925,7 @@ static u32 w2c_f75(module *m, u64 w2c_p0, u64 w2c_p1) {
   w2c_j1 = 8ull;
   w2c_j0 += w2c_j1;
   w2c_i1 = w2c_l6;
-  w2c_f46(m, w2c_j0, w2c_i1);
+  w2c_f47(m, w2c_j0, w2c_i1);
   w2c_i0 = w2c_l6;
   w2c_i1 = 4294967238u;
   w2c_i0 += w2c_i1;
@@ -69700,7 +69978,7 @@ static u32 w2c_f75(module *m, u64 w2c_p0, u64 w2c_p1) {
   return w2c_i0;
 }
 
-static u32 w2c_f76(module *m, u64 w2c_p0, u64 w2c_p1) {
+static u32 w2c_f77(module *m, u64 w2c_p0, u64 w2c_p1) {
   u32 w2c_l5 = 0, w2c_l6 = 0, w2c_l7 = 0, w2c_l8 = 0;
   u64 w2c_l2 = 0, w2c_l3 = 0, w2c_l4 = 0;
   u32 w2c_i0, w2c_i1, w2c_i2, w2c_i3;
@@ -69858,7 +70136,7 @@ static u32 w2c_f76(module *m, u64 w2c_p0, u64 w2c_p1) {
   w2c_B6:;
   w2c_j0 = w2c_p0;
   w2c_j1 = w2c_l3;
-  w2c_i0 = w2c_f75(m, w2c_j0, w2c_j1);
+  w2c_i0 = w2c_f76(m, w2c_j0, w2c_j1);
   w2c_l5 = w2c_i0;
   w2c_j0 = w2c_l2;
   m->w2c_g0 = w2c_j0;
@@ -69870,7 +70148,7 @@ static u32 w2c_f76(module *m, u64 w2c_p0, u64 w2c_p1) {
   return w2c_i0;
 }
 
-static u32 w2c_f77(module *m, u32 w2c_p0) {
+static u32 w2c_f78(module *m, u32 w2c_p0) {
   u32 w2c_l3 = 0;
   u64 w2c_l1 = 0, w2c_l2 = 0;
   u32 w2c_i0, w2c_i1, w2c_i2;
@@ -69890,7 +70168,7 @@ static u32 w2c_f77(module *m, u32 w2c_p0) {
   w2c_j1 = 8ull;
   w2c_j0 += w2c_j1;
   w2c_i1 = w2c_p0;
-  w2c_f46(m, w2c_j0, w2c_i1);
+  w2c_f47(m, w2c_j0, w2c_i1);
   w2c_i0 = 1u;
   w2c_l3 = w2c_i0;
   w2c_i0 = w2c_p0;
@@ -69956,12 +70234,12 @@ static u32 w2c_f77(module *m, u32 w2c_p0) {
   w2c_j0 &= w2c_j1;
   w2c_l2 = w2c_j0;
   w2c_i0 = (u32)(w2c_j0);
-  w2c_i0 = i32_load_of_text(m, (u64)(w2c_i0) + 80840u);
+  w2c_i0 = i32_load_of_text(m, (u64)(w2c_i0) + 80936u);
   w2c_i1 = w2c_l3;
   w2c_i0 = w2c_i0 != w2c_i1;
   if (w2c_i0) {goto w2c_B4;}
   w2c_j0 = w2c_l2;
-  w2c_j1 = 80844ull;
+  w2c_j1 = 80940ull;
   w2c_j0 += w2c_j1;
   w2c_i0 = (u32)(w2c_j0);
   w2c_i0 = i32_load8_u(m, (u64)(w2c_i0));
@@ -69971,7 +70249,7 @@ static u32 w2c_f77(module *m, u32 w2c_p0) {
   w2c_i0 = w2c_i0 != w2c_i1;
   if (w2c_i0) {goto w2c_B4;}
   w2c_j0 = w2c_l2;
-  w2c_j1 = 80845ull;
+  w2c_j1 = 80941ull;
   w2c_j0 += w2c_j1;
   w2c_i0 = (u32)(w2c_j0);
   w2c_i0 = i32_load8_u(m, (u64)(w2c_i0));
@@ -70071,7 +70349,7 @@ static u32 w2c_f77(module *m, u32 w2c_p0) {
   return w2c_i0;
 }
 
-static u32 w2c_f78(module *m, u32 w2c_p0, u64 w2c_p1, u64 w2c_p2, u64 w2c_p3, u64 w2c_p4) {
+static u32 w2c_f79(module *m, u32 w2c_p0, u64 w2c_p1, u64 w2c_p2, u64 w2c_p3, u64 w2c_p4) {
   u32 w2c_l19 = 0, w2c_l20 = 0, w2c_l21 = 0, w2c_l22 = 0, w2c_l23 = 0;
   u64 w2c_l5 = 0, w2c_l6 = 0, w2c_l7 = 0, w2c_l8 = 0, w2c_l9 = 0, w2c_l10 = 0, w2c_l11 = 0, w2c_l12 = 0, w2c_l13 = 0, w2c_l14 = 0, w2c_l15 = 0, w2c_l16 = 0, w2c_l17 = 0, w2c_l18 = 0;
   u32 w2c_i0, w2c_i1, w2c_i2, w2c_i3, w2c_i4, w2c_i5, w2c_i6;
@@ -70314,7 +70592,7 @@ static u32 w2c_f78(module *m, u32 w2c_p0, u64 w2c_p1, u64 w2c_p2, u64 w2c_p3, u6
   w2c_j1 = 88ull;
   w2c_j0 += w2c_j1;
   w2c_i1 = w2c_l20;
-  w2c_f46(m, w2c_j0, w2c_i1);
+  w2c_f47(m, w2c_j0, w2c_i1);
   w2c_i0 = w2c_l20;
   w2c_i1 = 4294967238u;
   w2c_i0 += w2c_i1;
@@ -70333,7 +70611,7 @@ static u32 w2c_f78(module *m, u32 w2c_p0, u64 w2c_p1, u64 w2c_p2, u64 w2c_p3, u6
   w2c_j1 = 80ull;
   w2c_j0 += w2c_j1;
   w2c_i1 = w2c_l21;
-  w2c_f46(m, w2c_j0, w2c_i1);
+  w2c_f47(m, w2c_j0, w2c_i1);
   w2c_i0 = w2c_l21;
   w2c_i1 = 4294967238u;
   w2c_i0 += w2c_i1;
@@ -70352,7 +70630,7 @@ static u32 w2c_f78(module *m, u32 w2c_p0, u64 w2c_p1, u64 w2c_p2, u64 w2c_p3, u6
   w2c_j1 = 72ull;
   w2c_j0 += w2c_j1;
   w2c_i1 = w2c_l20;
-  w2c_f46(m, w2c_j0, w2c_i1);
+  w2c_f47(m, w2c_j0, w2c_i1);
   w2c_j0 = w2c_l5;
   w2c_i0 = (u32)(w2c_j0);
   w2c_i0 = i32_load8_u(m, (u64)(w2c_i0) + 72u);
@@ -70365,7 +70643,7 @@ static u32 w2c_f78(module *m, u32 w2c_p0, u64 w2c_p1, u64 w2c_p2, u64 w2c_p3, u6
   w2c_j1 = 64ull;
   w2c_j0 += w2c_j1;
   w2c_i1 = w2c_l21;
-  w2c_f46(m, w2c_j0, w2c_i1);
+  w2c_f47(m, w2c_j0, w2c_i1);
   w2c_i0 = w2c_p0;
   w2c_j1 = w2c_l5;
   w2c_i1 = (u32)(w2c_j1);
@@ -70426,7 +70704,7 @@ static u32 w2c_f78(module *m, u32 w2c_p0, u64 w2c_p1, u64 w2c_p2, u64 w2c_p3, u6
   w2c_j1 = w2c_p1;
   w2c_j2 = w2c_p2;
   w2c_i3 = 1u;
-  w2c_f79(m, w2c_j0, w2c_j1, w2c_j2, w2c_i3);
+  w2c_f80(m, w2c_j0, w2c_j1, w2c_j2, w2c_i3);
   w2c_j0 = w2c_l5;
   w2c_i0 = (u32)(w2c_j0);
   w2c_j0 = i64_load(m, (u64)(w2c_i0) + 136u);
@@ -70489,7 +70767,7 @@ static u32 w2c_f78(module *m, u32 w2c_p0, u64 w2c_p1, u64 w2c_p2, u64 w2c_p3, u6
   w2c_j1 = w2c_p3;
   w2c_j2 = w2c_p4;
   w2c_i3 = 1u;
-  w2c_f79(m, w2c_j0, w2c_j1, w2c_j2, w2c_i3);
+  w2c_f80(m, w2c_j0, w2c_j1, w2c_j2, w2c_i3);
   w2c_i0 = w2c_p0;
   w2c_j1 = w2c_l5;
   w2c_i1 = (u32)(w2c_j1);
@@ -70714,13 +70992,13 @@ static u32 w2c_f78(module *m, u32 w2c_p0, u64 w2c_p1, u64 w2c_p2, u64 w2c_p3, u6
   w2c_j0 &= w2c_j1;
   w2c_p4 = w2c_j0;
   w2c_i0 = (u32)(w2c_j0);
-  w2c_i0 = i32_load_of_text(m, (u64)(w2c_i0) + 80840u);
+  w2c_i0 = i32_load_of_text(m, (u64)(w2c_i0) + 80936u);
   w2c_l20 = w2c_i0;
   w2c_i1 = w2c_p0;
   w2c_i0 = w2c_i0 != w2c_i1;
   if (w2c_i0) {goto w2c_B0;}
   w2c_j0 = w2c_p4;
-  w2c_j1 = 80844ull;
+  w2c_j1 = 80940ull;
   w2c_j0 += w2c_j1;
   w2c_i0 = (u32)(w2c_j0);
   w2c_i0 = i32_load8_u(m, (u64)(w2c_i0));
@@ -70730,7 +71008,7 @@ static u32 w2c_f78(module *m, u32 w2c_p0, u64 w2c_p1, u64 w2c_p2, u64 w2c_p3, u6
   w2c_i0 = w2c_i0 != w2c_i1;
   if (w2c_i0) {goto w2c_B0;}
   w2c_j0 = w2c_p4;
-  w2c_j1 = 80845ull;
+  w2c_j1 = 80941ull;
   w2c_j0 += w2c_j1;
   w2c_i0 = (u32)(w2c_j0);
   w2c_i0 = i32_load8_u(m, (u64)(w2c_i0));
@@ -70884,13 +71162,13 @@ static u32 w2c_f78(module *m, u32 w2c_p0, u64 w2c_p1, u64 w2c_p2, u64 w2c_p3, u6
   w2c_j0 &= w2c_j1;
   w2c_p4 = w2c_j0;
   w2c_i0 = (u32)(w2c_j0);
-  w2c_i0 = i32_load_of_text(m, (u64)(w2c_i0) + 80840u);
+  w2c_i0 = i32_load_of_text(m, (u64)(w2c_i0) + 80936u);
   w2c_i1 = w2c_l19;
   w2c_i0 = w2c_i0 != w2c_i1;
   w2c_l20 = w2c_i0;
   if (w2c_i0) {goto w2c_B27;}
   w2c_j0 = w2c_p4;
-  w2c_j1 = 80844ull;
+  w2c_j1 = 80940ull;
   w2c_j0 += w2c_j1;
   w2c_i0 = (u32)(w2c_j0);
   w2c_i0 = i32_load8_u(m, (u64)(w2c_i0));
@@ -70903,7 +71181,7 @@ static u32 w2c_f78(module *m, u32 w2c_p0, u64 w2c_p1, u64 w2c_p2, u64 w2c_p3, u6
   w2c_l19 = w2c_i0;
   w2c_i0 = 0u;
   w2c_j1 = w2c_p4;
-  w2c_j2 = 80845ull;
+  w2c_j2 = 80941ull;
   w2c_j1 += w2c_j2;
   w2c_i1 = (u32)(w2c_j1);
   w2c_i1 = i32_load8_u(m, (u64)(w2c_i1));
@@ -70957,7 +71235,7 @@ static u32 w2c_f78(module *m, u32 w2c_p0, u64 w2c_p1, u64 w2c_p2, u64 w2c_p3, u6
   w2c_j1 = w2c_p3;
   w2c_j2 = w2c_l10;
   w2c_i3 = 1u;
-  w2c_f79(m, w2c_j0, w2c_j1, w2c_j2, w2c_i3);
+  w2c_f80(m, w2c_j0, w2c_j1, w2c_j2, w2c_i3);
   w2c_i0 = 0u;
   w2c_l19 = w2c_i0;
   w2c_j0 = w2c_l5;
@@ -71518,7 +71796,7 @@ static u32 w2c_f78(module *m, u32 w2c_p0, u64 w2c_p1, u64 w2c_p2, u64 w2c_p3, u6
   return w2c_i0;
 }
 
-static void w2c_f79(module *m, u64 w2c_p0, u64 w2c_p1, u64 w2c_p2, u32 w2c_p3) {
+static void w2c_f80(module *m, u64 w2c_p0, u64 w2c_p1, u64 w2c_p2, u32 w2c_p3) {
   u32 w2c_l13 = 0, w2c_l14 = 0, w2c_l15 = 0, w2c_l16 = 0;
   u64 w2c_l4 = 0, w2c_l5 = 0, w2c_l6 = 0, w2c_l7 = 0, w2c_l8 = 0, w2c_l9 = 0, w2c_l10 = 0, w2c_l11 = 0, w2c_l12 = 0;
   u32 w2c_i0, w2c_i1, w2c_i2, w2c_i3, w2c_i4;
@@ -71619,7 +71897,7 @@ static void w2c_f79(module *m, u64 w2c_p0, u64 w2c_p1, u64 w2c_p2, u32 w2c_p3) {
   w2c_j0 += w2c_j1;
   w2c_j1 = w2c_p1;
   w2c_j2 = w2c_p2;
-  w2c_f80(m, w2c_j0, w2c_j1, w2c_j2);
+  w2c_f81(m, w2c_j0, w2c_j1, w2c_j2);
   w2c_j0 = w2c_l4;
   w2c_i0 = (u32)(w2c_j0);
   w2c_j0 = i64_load(m, (u64)(w2c_i0) + 232u);
@@ -71648,7 +71926,7 @@ static void w2c_f79(module *m, u64 w2c_p0, u64 w2c_p1, u64 w2c_p2, u32 w2c_p3) {
   w2c_j0 += w2c_j1;
   w2c_j1 = w2c_l6;
   w2c_j2 = w2c_l5;
-  w2c_f81(m, w2c_j0, w2c_j1, w2c_j2);
+  w2c_f82(m, w2c_j0, w2c_j1, w2c_j2);
   w2c_j0 = w2c_l4;
   w2c_i0 = (u32)(w2c_j0);
   w2c_i0 = i32_load8_u(m, (u64)(w2c_i0) + 160u);
@@ -71663,7 +71941,7 @@ static void w2c_f79(module *m, u64 w2c_p0, u64 w2c_p1, u64 w2c_p2, u32 w2c_p3) {
   w2c_j3 = w2c_l4;
   w2c_j4 = 168ull;
   w2c_j3 += w2c_j4;
-  w2c_f82(m, w2c_j0, w2c_i1, w2c_j2, w2c_j3);
+  w2c_f83(m, w2c_j0, w2c_i1, w2c_j2, w2c_j3);
   w2c_j0 = w2c_l4;
   w2c_i0 = (u32)(w2c_j0);
   w2c_j0 = i64_load(m, (u64)(w2c_i0) + 112u);
@@ -71938,7 +72216,7 @@ static void w2c_f79(module *m, u64 w2c_p0, u64 w2c_p1, u64 w2c_p2, u32 w2c_p3) {
     w2c_j1 = w2c_p2;
     w2c_j2 = w2c_p1;
     w2c_l8 = w2c_j2;
-    w2c_f83(m, w2c_j0, w2c_j1, w2c_j2);
+    w2c_f84(m, w2c_j0, w2c_j1, w2c_j2);
     w2c_j0 = w2c_l4;
     w2c_i0 = (u32)(w2c_j0);
     w2c_i0 = i32_load8_u(m, (u64)(w2c_i0) + 336u);
@@ -71967,7 +72245,7 @@ static void w2c_f79(module *m, u64 w2c_p0, u64 w2c_p1, u64 w2c_p2, u32 w2c_p3) {
   w2c_j3 = w2c_l8;
   w2c_j2 -= w2c_j3;
   w2c_l8 = w2c_j2;
-  w2c_f83(m, w2c_j0, w2c_j1, w2c_j2);
+  w2c_f84(m, w2c_j0, w2c_j1, w2c_j2);
   w2c_j0 = w2c_l4;
   w2c_i0 = (u32)(w2c_j0);
   w2c_i0 = i32_load8_u(m, (u64)(w2c_i0) + 288u);
@@ -71979,7 +72257,7 @@ static void w2c_f79(module *m, u64 w2c_p0, u64 w2c_p1, u64 w2c_p2, u32 w2c_p3) {
   w2c_j0 += w2c_j1;
   w2c_j1 = w2c_p2;
   w2c_j2 = w2c_p1;
-  w2c_f84(m, w2c_j0, w2c_j1, w2c_j2);
+  w2c_f85(m, w2c_j0, w2c_j1, w2c_j2);
   w2c_j0 = w2c_l4;
   w2c_i0 = (u32)(w2c_j0);
   w2c_i0 = i32_load8_u(m, (u64)(w2c_i0) + 432u);
@@ -72009,7 +72287,7 @@ static void w2c_f79(module *m, u64 w2c_p0, u64 w2c_p1, u64 w2c_p2, u32 w2c_p3) {
   w2c_j2 = 0ull;
   w2c_j3 = w2c_l6;
   w2c_j4 = w2c_l8;
-  w2c_f85(m, w2c_j0, w2c_i1, w2c_j2, w2c_j3, w2c_j4);
+  w2c_f86(m, w2c_j0, w2c_i1, w2c_j2, w2c_j3, w2c_j4);
   w2c_j0 = w2c_l4;
   w2c_j1 = 256ull;
   w2c_j0 += w2c_j1;
@@ -72017,7 +72295,7 @@ static void w2c_f79(module *m, u64 w2c_p0, u64 w2c_p1, u64 w2c_p2, u32 w2c_p3) {
   w2c_j2 = 0ull;
   w2c_j3 = w2c_l10;
   w2c_j4 = w2c_l9;
-  w2c_f86(m, w2c_j0, w2c_i1, w2c_j2, w2c_j3, w2c_j4);
+  w2c_f87(m, w2c_j0, w2c_i1, w2c_j2, w2c_j3, w2c_j4);
   w2c_j0 = w2c_l4;
   w2c_j1 = 384ull;
   w2c_j0 += w2c_j1;
@@ -72025,7 +72303,7 @@ static void w2c_f79(module *m, u64 w2c_p0, u64 w2c_p1, u64 w2c_p2, u32 w2c_p3) {
   w2c_j2 = 0ull;
   w2c_j3 = w2c_p1;
   w2c_j4 = w2c_p2;
-  w2c_f87(m, w2c_j0, w2c_i1, w2c_j2, w2c_j3, w2c_j4);
+  w2c_f88(m, w2c_j0, w2c_i1, w2c_j2, w2c_j3, w2c_j4);
   w2c_j0 = w2c_l4;
   w2c_i0 = (u32)(w2c_j0);
   w2c_i0 = i32_load8_u(m, (u64)(w2c_i0) + 496u);
@@ -72310,7 +72588,7 @@ static void w2c_f79(module *m, u64 w2c_p0, u64 w2c_p1, u64 w2c_p2, u32 w2c_p3) {
   w2c_j0 += w2c_j1;
   w2c_j1 = w2c_l6;
   w2c_j2 = w2c_l5;
-  w2c_f84(m, w2c_j0, w2c_j1, w2c_j2);
+  w2c_f85(m, w2c_j0, w2c_j1, w2c_j2);
   w2c_j0 = w2c_l4;
   w2c_i0 = (u32)(w2c_j0);
   w2c_i0 = i32_load8_u(m, (u64)(w2c_i0) + 384u);
@@ -72338,7 +72616,7 @@ static void w2c_f79(module *m, u64 w2c_p0, u64 w2c_p1, u64 w2c_p2, u32 w2c_p3) {
   w2c_j0 += w2c_j1;
   w2c_j1 = w2c_l6;
   w2c_j2 = w2c_l5;
-  w2c_f88(m, w2c_j0, w2c_j1, w2c_j2);
+  w2c_f89(m, w2c_j0, w2c_j1, w2c_j2);
   w2c_j0 = w2c_l4;
   w2c_i0 = (u32)(w2c_j0);
   w2c_i0 = i32_load8_u(m, (u64)(w2c_i0) + 496u);
@@ -72360,7 +72638,7 @@ static void w2c_f79(module *m, u64 w2c_p0, u64 w2c_p1, u64 w2c_p2, u32 w2c_p3) {
   w2c_i2 = (u32)(w2c_j2);
   w2c_j2 = i64_load(m, (u64)(w2c_i2) + 520u);
   w2c_p1 = w2c_j2;
-  w2c_f83(m, w2c_j0, w2c_j1, w2c_j2);
+  w2c_f84(m, w2c_j0, w2c_j1, w2c_j2);
   w2c_j0 = w2c_l4;
   w2c_i0 = (u32)(w2c_j0);
   w2c_i0 = i32_load8_u(m, (u64)(w2c_i0) + 496u);
@@ -72395,7 +72673,7 @@ static void w2c_f79(module *m, u64 w2c_p0, u64 w2c_p1, u64 w2c_p2, u32 w2c_p3) {
   w2c_j2 = w2c_l7;
   w2c_j3 = w2c_p2;
   w2c_j4 = w2c_p1;
-  w2c_f89(m, w2c_j0, w2c_i1, w2c_j2, w2c_j3, w2c_j4);
+  w2c_f90(m, w2c_j0, w2c_i1, w2c_j2, w2c_j3, w2c_j4);
   w2c_j0 = w2c_l4;
   w2c_i0 = (u32)(w2c_j0);
   w2c_j0 = i64_load(m, (u64)(w2c_i0) + 352u);
@@ -72430,7 +72708,7 @@ static void w2c_f79(module *m, u64 w2c_p0, u64 w2c_p1, u64 w2c_p2, u32 w2c_p3) {
   w2c_j2 = 4ull;
   w2c_j1 <<= (w2c_j2 & 63);
   w2c_p1 = w2c_j1;
-  w2c_j2 = 82368ull;
+  w2c_j2 = 82464ull;
   w2c_j1 += w2c_j2;
   w2c_i1 = (u32)(w2c_j1);
   w2c_j1 = i64_load(m, (u64)(w2c_i1));
@@ -72440,7 +72718,7 @@ static void w2c_f79(module *m, u64 w2c_p0, u64 w2c_p1, u64 w2c_p2, u32 w2c_p3) {
   w2c_f3(m, w2c_j0, w2c_j1, w2c_j2, w2c_j3, w2c_j4);
   w2c_j0 = w2c_l4;
   w2c_j1 = w2c_p1;
-  w2c_j2 = 82376ull;
+  w2c_j2 = 82472ull;
   w2c_j1 += w2c_j2;
   w2c_i1 = (u32)(w2c_j1);
   w2c_j1 = i64_load(m, (u64)(w2c_i1));
@@ -72516,7 +72794,7 @@ static void w2c_f79(module *m, u64 w2c_p0, u64 w2c_p1, u64 w2c_p2, u32 w2c_p3) {
   w2c_j2 = w2c_l7;
   w2c_j3 = w2c_l6;
   w2c_j4 = w2c_l5;
-  w2c_f89(m, w2c_j0, w2c_i1, w2c_j2, w2c_j3, w2c_j4);
+  w2c_f90(m, w2c_j0, w2c_i1, w2c_j2, w2c_j3, w2c_j4);
   w2c_j0 = w2c_l4;
   w2c_i0 = (u32)(w2c_j0);
   w2c_j0 = i64_load(m, (u64)(w2c_i0) + 304u);
@@ -72585,13 +72863,13 @@ static void w2c_f79(module *m, u64 w2c_p0, u64 w2c_p1, u64 w2c_p2, u32 w2c_p3) {
   w2c_j1 = 4ull;
   w2c_j0 <<= (w2c_j1 & 63);
   w2c_p2 = w2c_j0;
-  w2c_j1 = 82376ull;
+  w2c_j1 = 82472ull;
   w2c_j0 += w2c_j1;
   w2c_i0 = (u32)(w2c_j0);
   w2c_j0 = i64_load(m, (u64)(w2c_i0));
   w2c_p1 = w2c_j0;
   w2c_j0 = w2c_p2;
-  w2c_j1 = 82368ull;
+  w2c_j1 = 82464ull;
   w2c_j0 += w2c_j1;
   w2c_i0 = (u32)(w2c_j0);
   w2c_j0 = i64_load(m, (u64)(w2c_i0));
@@ -72619,7 +72897,7 @@ static void w2c_f79(module *m, u64 w2c_p0, u64 w2c_p1, u64 w2c_p2, u32 w2c_p3) {
   w2c_j3 = w2c_l4;
   w2c_j4 = 392ull;
   w2c_j3 += w2c_j4;
-  w2c_f82(m, w2c_j0, w2c_i1, w2c_j2, w2c_j3);
+  w2c_f83(m, w2c_j0, w2c_i1, w2c_j2, w2c_j3);
   w2c_j0 = w2c_l4;
   w2c_i0 = (u32)(w2c_j0);
   w2c_j0 = i64_load(m, (u64)(w2c_i0) + 472u);
@@ -72844,7 +73122,7 @@ static void w2c_f79(module *m, u64 w2c_p0, u64 w2c_p1, u64 w2c_p2, u32 w2c_p3) {
   m->w2c_g0 = w2c_j0;
 }
 
-static void w2c_f80(module *m, u64 w2c_p0, u64 w2c_p1, u64 w2c_p2) {
+static void w2c_f81(module *m, u64 w2c_p0, u64 w2c_p1, u64 w2c_p2) {
   u32 w2c_l9 = 0, w2c_l10 = 0, w2c_l11 = 0;
   u64 w2c_l3 = 0, w2c_l4 = 0, w2c_l5 = 0, w2c_l6 = 0, w2c_l7 = 0, w2c_l8 = 0;
   u32 w2c_i0, w2c_i1, w2c_i2;
@@ -72897,7 +73175,7 @@ static void w2c_f80(module *m, u64 w2c_p0, u64 w2c_p1, u64 w2c_p2) {
   w2c_j0 += w2c_j1;
   w2c_j1 = w2c_p1;
   w2c_j2 = w2c_p2;
-  w2c_f83(m, w2c_j0, w2c_j1, w2c_j2);
+  w2c_f84(m, w2c_j0, w2c_j1, w2c_j2);
   w2c_j0 = w2c_l4;
   w2c_i0 = (u32)(w2c_j0);
   w2c_i0 = i32_load8_u(m, (u64)(w2c_i0) + 80u);
@@ -72917,7 +73195,7 @@ static void w2c_f80(module *m, u64 w2c_p0, u64 w2c_p1, u64 w2c_p2) {
   w2c_j2 = w2c_l4;
   w2c_i2 = (u32)(w2c_j2);
   w2c_j2 = i64_load(m, (u64)(w2c_i2) + 104u);
-  w2c_f83(m, w2c_j0, w2c_j1, w2c_j2);
+  w2c_f84(m, w2c_j0, w2c_j1, w2c_j2);
   w2c_j0 = w2c_l4;
   w2c_i0 = (u32)(w2c_j0);
   w2c_i0 = i32_load8_u(m, (u64)(w2c_i0) + 80u);
@@ -72939,7 +73217,7 @@ static void w2c_f80(module *m, u64 w2c_p0, u64 w2c_p1, u64 w2c_p2) {
   w2c_i2 = (u32)(w2c_j2);
   w2c_j2 = i64_load(m, (u64)(w2c_i2) + 104u);
   w2c_l5 = w2c_j2;
-  w2c_f83(m, w2c_j0, w2c_j1, w2c_j2);
+  w2c_f84(m, w2c_j0, w2c_j1, w2c_j2);
   w2c_j0 = w2c_l4;
   w2c_i0 = (u32)(w2c_j0);
   w2c_i0 = i32_load8_u(m, (u64)(w2c_i0) + 80u);
@@ -72961,7 +73239,7 @@ static void w2c_f80(module *m, u64 w2c_p0, u64 w2c_p1, u64 w2c_p2) {
   w2c_i1 = (u32)(w2c_j1);
   w2c_i1 = i32_load_of_text(m, (u64)(w2c_i1) + 88u);
   w2c_l10 = w2c_i1;
-  w2c_f46(m, w2c_j0, w2c_i1);
+  w2c_f47(m, w2c_j0, w2c_i1);
   w2c_i0 = 1u;
   w2c_l9 = w2c_i0;
   w2c_j0 = w2c_l4;
@@ -72985,7 +73263,7 @@ static void w2c_f80(module *m, u64 w2c_p0, u64 w2c_p1, u64 w2c_p2) {
   w2c_j1 = 24ull;
   w2c_j0 += w2c_j1;
   w2c_i1 = w2c_l10;
-  w2c_f90(m, w2c_j0, w2c_i1);
+  w2c_f45(m, w2c_j0, w2c_i1);
   w2c_j0 = w2c_l4;
   w2c_i0 = (u32)(w2c_j0);
   w2c_i0 = i32_load8_u(m, (u64)(w2c_i0) + 24u);
@@ -73006,7 +73284,7 @@ static void w2c_f80(module *m, u64 w2c_p0, u64 w2c_p1, u64 w2c_p2) {
   w2c_j0 += w2c_j1;
   w2c_j1 = w2c_p1;
   w2c_j2 = w2c_p2;
-  w2c_f83(m, w2c_j0, w2c_j1, w2c_j2);
+  w2c_f84(m, w2c_j0, w2c_j1, w2c_j2);
   w2c_i0 = 1u;
   w2c_l9 = w2c_i0;
   w2c_j0 = w2c_l4;
@@ -73126,7 +73404,7 @@ static void w2c_f80(module *m, u64 w2c_p0, u64 w2c_p1, u64 w2c_p2) {
   w2c_j0 += w2c_j1;
   w2c_j1 = w2c_l3;
   w2c_j2 = w2c_l5;
-  w2c_f83(m, w2c_j0, w2c_j1, w2c_j2);
+  w2c_f84(m, w2c_j0, w2c_j1, w2c_j2);
   w2c_j0 = w2c_l4;
   w2c_i0 = (u32)(w2c_j0);
   w2c_i0 = i32_load8_u(m, (u64)(w2c_i0) + 80u);
@@ -73148,7 +73426,7 @@ static void w2c_f80(module *m, u64 w2c_p0, u64 w2c_p1, u64 w2c_p2) {
   w2c_i2 = (u32)(w2c_j2);
   w2c_j2 = i64_load(m, (u64)(w2c_i2) + 104u);
   w2c_l7 = w2c_j2;
-  w2c_f83(m, w2c_j0, w2c_j1, w2c_j2);
+  w2c_f84(m, w2c_j0, w2c_j1, w2c_j2);
   w2c_j0 = w2c_l4;
   w2c_i0 = (u32)(w2c_j0);
   w2c_i0 = i32_load8_u(m, (u64)(w2c_i0) + 48u);
@@ -73324,7 +73602,7 @@ static void w2c_f80(module *m, u64 w2c_p0, u64 w2c_p1, u64 w2c_p2) {
   m->w2c_g0 = w2c_j0;
 }
 
-static void w2c_f81(module *m, u64 w2c_p0, u64 w2c_p1, u64 w2c_p2) {
+static void w2c_f82(module *m, u64 w2c_p0, u64 w2c_p1, u64 w2c_p2) {
   u32 w2c_l10 = 0;
   u64 w2c_l3 = 0, w2c_l4 = 0, w2c_l5 = 0, w2c_l6 = 0, w2c_l7 = 0, w2c_l8 = 0, w2c_l9 = 0;
   u32 w2c_i0, w2c_i1, w2c_i2;
@@ -73393,7 +73671,7 @@ static void w2c_f81(module *m, u64 w2c_p0, u64 w2c_p1, u64 w2c_p2) {
   w2c_j0 += w2c_j1;
   w2c_j1 = w2c_p1;
   w2c_j2 = w2c_p2;
-  w2c_f84(m, w2c_j0, w2c_j1, w2c_j2);
+  w2c_f85(m, w2c_j0, w2c_j1, w2c_j2);
   w2c_j0 = w2c_l3;
   w2c_i0 = (u32)(w2c_j0);
   w2c_i0 = i32_load8_u(m, (u64)(w2c_i0) + 64u);
@@ -73409,7 +73687,7 @@ static void w2c_f81(module *m, u64 w2c_p0, u64 w2c_p1, u64 w2c_p2) {
   w2c_j2 = w2c_l3;
   w2c_i2 = (u32)(w2c_j2);
   w2c_j2 = i64_load(m, (u64)(w2c_i2) + 104u);
-  w2c_f83(m, w2c_j0, w2c_j1, w2c_j2);
+  w2c_f84(m, w2c_j0, w2c_j1, w2c_j2);
   w2c_j0 = w2c_l3;
   w2c_i0 = (u32)(w2c_j0);
   w2c_i0 = i32_load8_u(m, (u64)(w2c_i0) + 32u);
@@ -73431,7 +73709,7 @@ static void w2c_f81(module *m, u64 w2c_p0, u64 w2c_p1, u64 w2c_p2) {
   w2c_i2 = (u32)(w2c_j2);
   w2c_j2 = i64_load(m, (u64)(w2c_i2) + 56u);
   w2c_l5 = w2c_j2;
-  w2c_f83(m, w2c_j0, w2c_j1, w2c_j2);
+  w2c_f84(m, w2c_j0, w2c_j1, w2c_j2);
   w2c_j0 = w2c_l3;
   w2c_i0 = (u32)(w2c_j0);
   w2c_i0 = i32_load8_u(m, (u64)(w2c_i0) + 32u);
@@ -73736,7 +74014,7 @@ static void w2c_f81(module *m, u64 w2c_p0, u64 w2c_p1, u64 w2c_p2) {
   m->w2c_g0 = w2c_j0;
 }
 
-static void w2c_f82(module *m, u64 w2c_p0, u32 w2c_p1, u64 w2c_p2, u64 w2c_p3) {
+static void w2c_f83(module *m, u64 w2c_p0, u32 w2c_p1, u64 w2c_p2, u64 w2c_p3) {
   u64 w2c_l4 = 0, w2c_l5 = 0, w2c_l6 = 0, w2c_l7 = 0, w2c_l8 = 0, w2c_l9 = 0, w2c_l10 = 0, w2c_l11 = 0, w2c_l12 = 0;
   u32 w2c_i0, w2c_i1, w2c_i2, w2c_i3, w2c_i4;
   u64 w2c_j0, w2c_j1, w2c_j2, w2c_j3, w2c_j4;
@@ -73814,7 +74092,7 @@ static void w2c_f82(module *m, u64 w2c_p0, u32 w2c_p1, u64 w2c_p2, u64 w2c_p3) {
   w2c_j4 = w2c_p3;
   w2c_i4 = (u32)(w2c_j4);
   w2c_j4 = i64_load(m, (u64)(w2c_i4) + 8u);
-  w2c_f86(m, w2c_j0, w2c_i1, w2c_j2, w2c_j3, w2c_j4);
+  w2c_f87(m, w2c_j0, w2c_i1, w2c_j2, w2c_j3, w2c_j4);
   w2c_j0 = w2c_l4;
   w2c_i0 = (u32)(w2c_j0);
   w2c_j0 = i64_load(m, (u64)(w2c_i0) + 128u);
@@ -73836,7 +74114,7 @@ static void w2c_f82(module *m, u64 w2c_p0, u32 w2c_p1, u64 w2c_p2, u64 w2c_p3) {
   w2c_j2 += w2c_j3;
   w2c_j3 = w2c_l6;
   w2c_j4 = w2c_l5;
-  w2c_f87(m, w2c_j0, w2c_i1, w2c_j2, w2c_j3, w2c_j4);
+  w2c_f88(m, w2c_j0, w2c_i1, w2c_j2, w2c_j3, w2c_j4);
   w2c_j0 = w2c_l4;
   w2c_i0 = (u32)(w2c_j0);
   w2c_j0 = i64_load(m, (u64)(w2c_i0) + 80u);
@@ -73925,7 +74203,7 @@ static void w2c_f82(module *m, u64 w2c_p0, u32 w2c_p1, u64 w2c_p2, u64 w2c_p3) {
   w2c_j2 = 4ull;
   w2c_j1 <<= (w2c_j2 & 63);
   w2c_l6 = w2c_j1;
-  w2c_j2 = 82368ull;
+  w2c_j2 = 82464ull;
   w2c_j1 += w2c_j2;
   w2c_i1 = (u32)(w2c_j1);
   w2c_j1 = i64_load(m, (u64)(w2c_i1));
@@ -73936,7 +74214,7 @@ static void w2c_f82(module *m, u64 w2c_p0, u32 w2c_p1, u64 w2c_p2, u64 w2c_p3) {
   w2c_f3(m, w2c_j0, w2c_j1, w2c_j2, w2c_j3, w2c_j4);
   w2c_j0 = w2c_l4;
   w2c_j1 = w2c_l6;
-  w2c_j2 = 82376ull;
+  w2c_j2 = 82472ull;
   w2c_j1 += w2c_j2;
   w2c_i1 = (u32)(w2c_j1);
   w2c_j1 = i64_load(m, (u64)(w2c_i1));
@@ -74151,7 +74429,7 @@ static void w2c_f82(module *m, u64 w2c_p0, u32 w2c_p1, u64 w2c_p2, u64 w2c_p3) {
   m->w2c_g0 = w2c_j0;
 }
 
-static void w2c_f83(module *m, u64 w2c_p0, u64 w2c_p1, u64 w2c_p2) {
+static void w2c_f84(module *m, u64 w2c_p0, u64 w2c_p1, u64 w2c_p2) {
   u32 w2c_l3 = 0, w2c_l4 = 0, w2c_l5 = 0, w2c_l6 = 0;
   u64 w2c_l7 = 0, w2c_l8 = 0;
   u32 w2c_i0, w2c_i1, w2c_i2, w2c_i3;
@@ -74533,7 +74811,7 @@ static void w2c_f83(module *m, u64 w2c_p0, u64 w2c_p1, u64 w2c_p2) {
   w2c_Bfunc:;
 }
 
-static void w2c_f84(module *m, u64 w2c_p0, u64 w2c_p1, u64 w2c_p2) {
+static void w2c_f85(module *m, u64 w2c_p0, u64 w2c_p1, u64 w2c_p2) {
   u32 w2c_l11 = 0;
   u64 w2c_l3 = 0, w2c_l4 = 0, w2c_l5 = 0, w2c_l6 = 0, w2c_l7 = 0, w2c_l8 = 0, w2c_l9 = 0, w2c_l10 = 0;
   u32 w2c_i0, w2c_i1;
@@ -74586,7 +74864,7 @@ static void w2c_f84(module *m, u64 w2c_p0, u64 w2c_p1, u64 w2c_p2) {
   w2c_j0 += w2c_j1;
   w2c_j1 = w2c_p1;
   w2c_j2 = w2c_p2;
-  w2c_f83(m, w2c_j0, w2c_j1, w2c_j2);
+  w2c_f84(m, w2c_j0, w2c_j1, w2c_j2);
   w2c_j0 = w2c_p2;
   w2c_l4 = w2c_j0;
   w2c_j0 = w2c_l3;
@@ -74633,7 +74911,7 @@ static void w2c_f84(module *m, u64 w2c_p0, u64 w2c_p1, u64 w2c_p2) {
     w2c_j0 += w2c_j1;
     w2c_j1 = w2c_l6;
     w2c_j2 = w2c_l5;
-    w2c_f83(m, w2c_j0, w2c_j1, w2c_j2);
+    w2c_f84(m, w2c_j0, w2c_j1, w2c_j2);
     w2c_j0 = w2c_l3;
     w2c_i0 = (u32)(w2c_j0);
     w2c_i0 = i32_load8_u(m, (u64)(w2c_i0) + 80u);
@@ -74652,7 +74930,7 @@ static void w2c_f84(module *m, u64 w2c_p0, u64 w2c_p1, u64 w2c_p2) {
     w2c_j0 += w2c_j1;
     w2c_j1 = w2c_l6;
     w2c_j2 = w2c_l5;
-    w2c_f83(m, w2c_j0, w2c_j1, w2c_j2);
+    w2c_f84(m, w2c_j0, w2c_j1, w2c_j2);
     w2c_j0 = w2c_l5;
     w2c_l4 = w2c_j0;
     w2c_j0 = w2c_l3;
@@ -74815,7 +75093,7 @@ static void w2c_f84(module *m, u64 w2c_p0, u64 w2c_p1, u64 w2c_p2) {
   w2c_j0 += w2c_j1;
   w2c_j1 = w2c_p1;
   w2c_j2 = w2c_l4;
-  w2c_f83(m, w2c_j0, w2c_j1, w2c_j2);
+  w2c_f84(m, w2c_j0, w2c_j1, w2c_j2);
   w2c_j0 = w2c_l3;
   w2c_i0 = (u32)(w2c_j0);
   w2c_i0 = i32_load8_u(m, (u64)(w2c_i0) + 16u);
@@ -74827,7 +75105,7 @@ static void w2c_f84(module *m, u64 w2c_p0, u64 w2c_p1, u64 w2c_p2) {
   w2c_j0 += w2c_j1;
   w2c_j1 = w2c_l7;
   w2c_j2 = w2c_l8;
-  w2c_f83(m, w2c_j0, w2c_j1, w2c_j2);
+  w2c_f84(m, w2c_j0, w2c_j1, w2c_j2);
   w2c_j0 = w2c_l3;
   w2c_i0 = (u32)(w2c_j0);
   w2c_i0 = i32_load8_u(m, (u64)(w2c_i0) + 16u);
@@ -74927,7 +75205,7 @@ static void w2c_f84(module *m, u64 w2c_p0, u64 w2c_p1, u64 w2c_p2) {
   m->w2c_g0 = w2c_j0;
 }
 
-static void w2c_f85(module *m, u64 w2c_p0, u32 w2c_p1, u64 w2c_p2, u64 w2c_p3, u64 w2c_p4) {
+static void w2c_f86(module *m, u64 w2c_p0, u32 w2c_p1, u64 w2c_p2, u64 w2c_p3, u64 w2c_p4) {
   u32 w2c_l10 = 0, w2c_l11 = 0;
   u64 w2c_l5 = 0, w2c_l6 = 0, w2c_l7 = 0, w2c_l8 = 0, w2c_l9 = 0;
   u32 w2c_i0, w2c_i1, w2c_i2, w2c_i3;
@@ -75479,7 +75757,7 @@ static void w2c_f85(module *m, u64 w2c_p0, u32 w2c_p1, u64 w2c_p2, u64 w2c_p3, u
   w2c_Bfunc:;
 }
 
-static void w2c_f86(module *m, u64 w2c_p0, u32 w2c_p1, u64 w2c_p2, u64 w2c_p3, u64 w2c_p4) {
+static void w2c_f87(module *m, u64 w2c_p0, u32 w2c_p1, u64 w2c_p2, u64 w2c_p3, u64 w2c_p4) {
   u32 w2c_l10 = 0, w2c_l11 = 0, w2c_l12 = 0, w2c_l13 = 0;
   u64 w2c_l5 = 0, w2c_l6 = 0, w2c_l7 = 0, w2c_l8 = 0, w2c_l9 = 0;
   u32 w2c_i0, w2c_i1, w2c_i2, w2c_i3, w2c_i4;
@@ -75725,7 +76003,7 @@ static void w2c_f86(module *m, u64 w2c_p0, u32 w2c_p1, u64 w2c_p2, u64 w2c_p3, u
   w2c_j2 = w2c_p2;
   w2c_j3 = w2c_p3;
   w2c_j4 = w2c_p4;
-  w2c_f87(m, w2c_j0, w2c_i1, w2c_j2, w2c_j3, w2c_j4);
+  w2c_f88(m, w2c_j0, w2c_i1, w2c_j2, w2c_j3, w2c_j4);
   w2c_j0 = w2c_l6;
   w2c_i0 = (u32)(w2c_j0);
   w2c_j0 = i64_load(m, (u64)(w2c_i0) + 16u);
@@ -75810,7 +76088,7 @@ static void w2c_f86(module *m, u64 w2c_p0, u32 w2c_p1, u64 w2c_p2, u64 w2c_p3, u
   m->w2c_g0 = w2c_j0;
 }
 
-static void w2c_f87(module *m, u64 w2c_p0, u32 w2c_p1, u64 w2c_p2, u64 w2c_p3, u64 w2c_p4) {
+static void w2c_f88(module *m, u64 w2c_p0, u32 w2c_p1, u64 w2c_p2, u64 w2c_p3, u64 w2c_p4) {
   u32 w2c_l8 = 0, w2c_l9 = 0, w2c_l10 = 0;
   u64 w2c_l5 = 0, w2c_l6 = 0, w2c_l7 = 0;
   u32 w2c_i0, w2c_i1, w2c_i2;
@@ -75887,7 +76165,7 @@ static void w2c_f87(module *m, u64 w2c_p0, u32 w2c_p1, u64 w2c_p2, u64 w2c_p3, u
   w2c_j0 += w2c_j1;
   w2c_j1 = w2c_p3;
   w2c_j2 = w2c_p4;
-  w2c_f83(m, w2c_j0, w2c_j1, w2c_j2);
+  w2c_f84(m, w2c_j0, w2c_j1, w2c_j2);
   w2c_i0 = 1u;
   w2c_l8 = w2c_i0;
   w2c_j0 = w2c_l5;
@@ -75922,7 +76200,7 @@ static void w2c_f87(module *m, u64 w2c_p0, u32 w2c_p1, u64 w2c_p2, u64 w2c_p3, u
     w2c_j0 += w2c_j1;
     w2c_j1 = w2c_l6;
     w2c_j2 = w2c_l7;
-    w2c_f83(m, w2c_j0, w2c_j1, w2c_j2);
+    w2c_f84(m, w2c_j0, w2c_j1, w2c_j2);
     w2c_i0 = 1u;
     w2c_l9 = w2c_i0;
     w2c_j0 = w2c_l5;
@@ -75945,7 +76223,7 @@ static void w2c_f87(module *m, u64 w2c_p0, u32 w2c_p1, u64 w2c_p2, u64 w2c_p3, u
     w2c_j1 = w2c_l5;
     w2c_i1 = (u32)(w2c_j1);
     w2c_i1 = i32_load_of_text(m, (u64)(w2c_i1) + 136u);
-    w2c_f90(m, w2c_j0, w2c_i1);
+    w2c_f45(m, w2c_j0, w2c_i1);
     w2c_j0 = w2c_l5;
     w2c_i0 = (u32)(w2c_j0);
     w2c_i0 = i32_load8_u(m, (u64)(w2c_i0) + 8u);
@@ -75975,7 +76253,7 @@ static void w2c_f87(module *m, u64 w2c_p0, u32 w2c_p1, u64 w2c_p2, u64 w2c_p3, u
   w2c_j2 = w2c_p2;
   w2c_j3 = w2c_p3;
   w2c_j4 = w2c_p4;
-  w2c_f89(m, w2c_j0, w2c_i1, w2c_j2, w2c_j3, w2c_j4);
+  w2c_f90(m, w2c_j0, w2c_i1, w2c_j2, w2c_j3, w2c_j4);
   w2c_j0 = w2c_l5;
   w2c_i0 = (u32)(w2c_j0);
   w2c_i0 = i32_load8_u(m, (u64)(w2c_i0) + 88u);
@@ -76095,7 +76373,7 @@ static void w2c_f87(module *m, u64 w2c_p0, u32 w2c_p1, u64 w2c_p2, u64 w2c_p3, u
   w2c_Bfunc:;
 }
 
-static void w2c_f88(module *m, u64 w2c_p0, u64 w2c_p1, u64 w2c_p2) {
+static void w2c_f89(module *m, u64 w2c_p0, u64 w2c_p1, u64 w2c_p2) {
   u32 w2c_l5 = 0, w2c_l6 = 0, w2c_l7 = 0, w2c_l8 = 0;
   u64 w2c_l3 = 0, w2c_l4 = 0;
   u32 w2c_i0, w2c_i1, w2c_i2, w2c_i3;
@@ -76465,7 +76743,7 @@ static void w2c_f88(module *m, u64 w2c_p0, u64 w2c_p1, u64 w2c_p2) {
   w2c_Bfunc:;
 }
 
-static void w2c_f89(module *m, u64 w2c_p0, u32 w2c_p1, u64 w2c_p2, u64 w2c_p3, u64 w2c_p4) {
+static void w2c_f90(module *m, u64 w2c_p0, u32 w2c_p1, u64 w2c_p2, u64 w2c_p3, u64 w2c_p4) {
   u32 w2c_l24 = 0, w2c_l25 = 0, w2c_l26 = 0;
   u64 w2c_l5 = 0, w2c_l6 = 0, w2c_l7 = 0, w2c_l8 = 0, w2c_l9 = 0, w2c_l10 = 0, w2c_l11 = 0, w2c_l12 = 0, w2c_l13 = 0, w2c_l14 = 0, w2c_l15 = 0, w2c_l16 = 0, w2c_l17 = 0, w2c_l18 = 0, w2c_l19 = 0, w2c_l20 = 0, w2c_l21 = 0, w2c_l22 = 0, w2c_l23 = 0;
   u32 w2c_i0, w2c_i1, w2c_i2, w2c_i3, w2c_i4, w2c_i5, w2c_i6;
@@ -76506,7 +76784,7 @@ static void w2c_f89(module *m, u64 w2c_p0, u32 w2c_p1, u64 w2c_p2, u64 w2c_p3, u
   w2c_j2 = w2c_p2;
   w2c_j3 = w2c_p3;
   w2c_j4 = w2c_p4;
-  w2c_f85(m, w2c_j0, w2c_i1, w2c_j2, w2c_j3, w2c_j4);
+  w2c_f86(m, w2c_j0, w2c_i1, w2c_j2, w2c_j3, w2c_j4);
   w2c_j0 = w2c_l5;
   w2c_i0 = (u32)(w2c_j0);
   w2c_i0 = i32_load8_u(m, (u64)(w2c_i0) + 192u);
@@ -76650,7 +76928,7 @@ static void w2c_f89(module *m, u64 w2c_p0, u32 w2c_p1, u64 w2c_p2, u64 w2c_p3, u
   w2c_j0 += w2c_j1;
   w2c_j1 = w2c_p3;
   w2c_j2 = w2c_p4;
-  w2c_f83(m, w2c_j0, w2c_j1, w2c_j2);
+  w2c_f84(m, w2c_j0, w2c_j1, w2c_j2);
   w2c_j0 = w2c_l5;
   w2c_i0 = (u32)(w2c_j0);
   w2c_i0 = i32_load8_u(m, (u64)(w2c_i0) + 464u);
@@ -76690,7 +76968,7 @@ static void w2c_f89(module *m, u64 w2c_p0, u32 w2c_p1, u64 w2c_p2, u64 w2c_p3, u
     w2c_l7 = w2c_j1;
     w2c_j2 = w2c_l6;
     w2c_l9 = w2c_j2;
-    w2c_f83(m, w2c_j0, w2c_j1, w2c_j2);
+    w2c_f84(m, w2c_j0, w2c_j1, w2c_j2);
     w2c_j0 = w2c_l5;
     w2c_i0 = (u32)(w2c_j0);
     w2c_i0 = i32_load8_u(m, (u64)(w2c_i0) + 464u);
@@ -76751,7 +77029,7 @@ static void w2c_f89(module *m, u64 w2c_p0, u32 w2c_p1, u64 w2c_p2, u64 w2c_p3, u
   w2c_j0 += w2c_j1;
   w2c_j1 = w2c_p3;
   w2c_j2 = w2c_p4;
-  w2c_f83(m, w2c_j0, w2c_j1, w2c_j2);
+  w2c_f84(m, w2c_j0, w2c_j1, w2c_j2);
   w2c_j0 = w2c_l5;
   w2c_i0 = (u32)(w2c_j0);
   w2c_i0 = i32_load8_u(m, (u64)(w2c_i0) + 464u);
@@ -76787,7 +77065,7 @@ static void w2c_f89(module *m, u64 w2c_p0, u32 w2c_p1, u64 w2c_p2, u64 w2c_p3, u
   w2c_j0 += w2c_j1;
   w2c_j1 = w2c_l7;
   w2c_j2 = w2c_l9;
-  w2c_f83(m, w2c_j0, w2c_j1, w2c_j2);
+  w2c_f84(m, w2c_j0, w2c_j1, w2c_j2);
   w2c_j0 = w2c_l5;
   w2c_i0 = (u32)(w2c_j0);
   w2c_i0 = i32_load8_u(m, (u64)(w2c_i0) + 560u);
@@ -76835,7 +77113,7 @@ static void w2c_f89(module *m, u64 w2c_p0, u32 w2c_p1, u64 w2c_p2, u64 w2c_p3, u
   w2c_j0 += w2c_j1;
   w2c_j1 = w2c_l6;
   w2c_j2 = w2c_l8;
-  w2c_f83(m, w2c_j0, w2c_j1, w2c_j2);
+  w2c_f84(m, w2c_j0, w2c_j1, w2c_j2);
   w2c_j0 = w2c_l5;
   w2c_i0 = (u32)(w2c_j0);
   w2c_i0 = i32_load8_u(m, (u64)(w2c_i0) + 464u);
@@ -76865,7 +77143,7 @@ static void w2c_f89(module *m, u64 w2c_p0, u32 w2c_p1, u64 w2c_p2, u64 w2c_p3, u
     w2c_j2 = w2c_l5;
     w2c_i2 = (u32)(w2c_j2);
     w2c_j2 = i64_load(m, (u64)(w2c_i2) + 488u);
-    w2c_f83(m, w2c_j0, w2c_j1, w2c_j2);
+    w2c_f84(m, w2c_j0, w2c_j1, w2c_j2);
     w2c_j0 = w2c_l5;
     w2c_i0 = (u32)(w2c_j0);
     w2c_i0 = i32_load8_u(m, (u64)(w2c_i0) + 464u);
@@ -76894,7 +77172,7 @@ static void w2c_f89(module *m, u64 w2c_p0, u32 w2c_p1, u64 w2c_p2, u64 w2c_p3, u
     w2c_j0 += w2c_j1;
     w2c_j1 = w2c_l7;
     w2c_j2 = w2c_l9;
-    w2c_f83(m, w2c_j0, w2c_j1, w2c_j2);
+    w2c_f84(m, w2c_j0, w2c_j1, w2c_j2);
     w2c_j0 = w2c_l5;
     w2c_i0 = (u32)(w2c_j0);
     w2c_i0 = i32_load8_u(m, (u64)(w2c_i0) + 560u);
@@ -76942,7 +77220,7 @@ static void w2c_f89(module *m, u64 w2c_p0, u32 w2c_p1, u64 w2c_p2, u64 w2c_p3, u
     w2c_j0 += w2c_j1;
     w2c_j1 = w2c_l6;
     w2c_j2 = w2c_l8;
-    w2c_f83(m, w2c_j0, w2c_j1, w2c_j2);
+    w2c_f84(m, w2c_j0, w2c_j1, w2c_j2);
     w2c_j0 = w2c_l5;
     w2c_i0 = (u32)(w2c_j0);
     w2c_i0 = i32_load8_u(m, (u64)(w2c_i0) + 464u);
@@ -76978,7 +77256,7 @@ static void w2c_f89(module *m, u64 w2c_p0, u32 w2c_p1, u64 w2c_p2, u64 w2c_p3, u
       w2c_i2 = (u32)(w2c_j2);
       w2c_j2 = i64_load(m, (u64)(w2c_i2) + 488u);
       w2c_l9 = w2c_j2;
-      w2c_f83(m, w2c_j0, w2c_j1, w2c_j2);
+      w2c_f84(m, w2c_j0, w2c_j1, w2c_j2);
       w2c_j0 = w2c_l5;
       w2c_i0 = (u32)(w2c_j0);
       w2c_i0 = i32_load8_u(m, (u64)(w2c_i0) + 464u);
@@ -77032,7 +77310,7 @@ static void w2c_f89(module *m, u64 w2c_p0, u32 w2c_p1, u64 w2c_p2, u64 w2c_p3, u
   w2c_j0 += w2c_j1;
   w2c_j1 = w2c_l7;
   w2c_j2 = w2c_l9;
-  w2c_f83(m, w2c_j0, w2c_j1, w2c_j2);
+  w2c_f84(m, w2c_j0, w2c_j1, w2c_j2);
   w2c_j0 = w2c_l5;
   w2c_i0 = (u32)(w2c_j0);
   w2c_i0 = i32_load8_u(m, (u64)(w2c_i0) + 560u);
@@ -77080,7 +77358,7 @@ static void w2c_f89(module *m, u64 w2c_p0, u32 w2c_p1, u64 w2c_p2, u64 w2c_p3, u
   w2c_j0 += w2c_j1;
   w2c_j1 = w2c_l6;
   w2c_j2 = w2c_l8;
-  w2c_f83(m, w2c_j0, w2c_j1, w2c_j2);
+  w2c_f84(m, w2c_j0, w2c_j1, w2c_j2);
   w2c_j0 = w2c_l5;
   w2c_i0 = (u32)(w2c_j0);
   w2c_i0 = i32_load8_u(m, (u64)(w2c_i0) + 464u);
@@ -77120,7 +77398,7 @@ static void w2c_f89(module *m, u64 w2c_p0, u32 w2c_p1, u64 w2c_p2, u64 w2c_p3, u
     w2c_l11 = w2c_j1;
     w2c_j2 = w2c_l6;
     w2c_l9 = w2c_j2;
-    w2c_f83(m, w2c_j0, w2c_j1, w2c_j2);
+    w2c_f84(m, w2c_j0, w2c_j1, w2c_j2);
     w2c_j0 = w2c_l5;
     w2c_i0 = (u32)(w2c_j0);
     w2c_i0 = i32_load8_u(m, (u64)(w2c_i0) + 464u);
@@ -77318,7 +77596,7 @@ static void w2c_f89(module *m, u64 w2c_p0, u32 w2c_p1, u64 w2c_p2, u64 w2c_p3, u
   w2c_i2 = (u32)(w2c_j2);
   w2c_j2 = i64_load(m, (u64)(w2c_i2) + 528u);
   w2c_l9 = w2c_j2;
-  w2c_f83(m, w2c_j0, w2c_j1, w2c_j2);
+  w2c_f84(m, w2c_j0, w2c_j1, w2c_j2);
   w2c_j0 = w2c_l5;
   w2c_i0 = (u32)(w2c_j0);
   w2c_i0 = i32_load8_u(m, (u64)(w2c_i0) + 624u);
@@ -77373,7 +77651,7 @@ static void w2c_f89(module *m, u64 w2c_p0, u32 w2c_p1, u64 w2c_p2, u64 w2c_p3, u
   w2c_i2 = (u32)(w2c_j2);
   w2c_j2 = i64_load(m, (u64)(w2c_i2) + 544u);
   w2c_l9 = w2c_j2;
-  w2c_f83(m, w2c_j0, w2c_j1, w2c_j2);
+  w2c_f84(m, w2c_j0, w2c_j1, w2c_j2);
   w2c_j0 = w2c_l5;
   w2c_i0 = (u32)(w2c_j0);
   w2c_i0 = i32_load8_u(m, (u64)(w2c_i0) + 400u);
@@ -77402,7 +77680,7 @@ static void w2c_f89(module *m, u64 w2c_p0, u32 w2c_p1, u64 w2c_p2, u64 w2c_p3, u
     w2c_j0 += w2c_j1;
     w2c_j1 = w2c_l6;
     w2c_j2 = w2c_l9;
-    w2c_f83(m, w2c_j0, w2c_j1, w2c_j2);
+    w2c_f84(m, w2c_j0, w2c_j1, w2c_j2);
     w2c_j0 = w2c_l5;
     w2c_i0 = (u32)(w2c_j0);
     w2c_i0 = i32_load8_u(m, (u64)(w2c_i0) + 464u);
@@ -77511,7 +77789,7 @@ static void w2c_f89(module *m, u64 w2c_p0, u32 w2c_p1, u64 w2c_p2, u64 w2c_p3, u
     w2c_i2 = (u32)(w2c_j2);
     w2c_j2 = i64_load(m, (u64)(w2c_i2) + 528u);
     w2c_l16 = w2c_j2;
-    w2c_f83(m, w2c_j0, w2c_j1, w2c_j2);
+    w2c_f84(m, w2c_j0, w2c_j1, w2c_j2);
     w2c_j0 = w2c_l5;
     w2c_i0 = (u32)(w2c_j0);
     w2c_i0 = i32_load8_u(m, (u64)(w2c_i0) + 432u);
@@ -77751,14 +78029,14 @@ static void w2c_f89(module *m, u64 w2c_p0, u32 w2c_p1, u64 w2c_p2, u64 w2c_p3, u
     w2c_j2 = 4ull;
     w2c_j1 <<= (w2c_j2 & 63);
     w2c_l15 = w2c_j1;
-    w2c_j2 = 82368ull;
+    w2c_j2 = 82464ull;
     w2c_j1 += w2c_j2;
     w2c_i1 = (u32)(w2c_j1);
     w2c_j1 = i64_load(m, (u64)(w2c_i1));
     w2c_j0 ^= w2c_j1;
     w2c_j1 = w2c_l10;
     w2c_j2 = w2c_l15;
-    w2c_j3 = 82376ull;
+    w2c_j3 = 82472ull;
     w2c_j2 += w2c_j3;
     w2c_i2 = (u32)(w2c_j2);
     w2c_j2 = i64_load(m, (u64)(w2c_i2));
@@ -78144,7 +78422,7 @@ static void w2c_f89(module *m, u64 w2c_p0, u32 w2c_p1, u64 w2c_p2, u64 w2c_p3, u
     w2c_j0 += w2c_j1;
     w2c_j1 = w2c_l6;
     w2c_j2 = w2c_l9;
-    w2c_f83(m, w2c_j0, w2c_j1, w2c_j2);
+    w2c_f84(m, w2c_j0, w2c_j1, w2c_j2);
     w2c_j0 = w2c_l5;
     w2c_i0 = (u32)(w2c_j0);
     w2c_i0 = i32_load8_u(m, (u64)(w2c_i0) + 400u);
@@ -78193,7 +78471,7 @@ static void w2c_f89(module *m, u64 w2c_p0, u32 w2c_p1, u64 w2c_p2, u64 w2c_p3, u
   w2c_j4 = w2c_l5;
   w2c_i4 = (u32)(w2c_j4);
   w2c_j4 = i64_load(m, (u64)(w2c_i4) + 336u);
-  w2c_f85(m, w2c_j0, w2c_i1, w2c_j2, w2c_j3, w2c_j4);
+  w2c_f86(m, w2c_j0, w2c_i1, w2c_j2, w2c_j3, w2c_j4);
   w2c_j0 = w2c_l5;
   w2c_i0 = (u32)(w2c_j0);
   w2c_j0 = i64_load(m, (u64)(w2c_i0) + 304u);
@@ -78287,7 +78565,7 @@ static void w2c_f89(module *m, u64 w2c_p0, u32 w2c_p1, u64 w2c_p2, u64 w2c_p3, u
   w2c_j0 += w2c_j1;
   w2c_j1 = w2c_p3;
   w2c_j2 = w2c_p4;
-  w2c_f83(m, w2c_j0, w2c_j1, w2c_j2);
+  w2c_f84(m, w2c_j0, w2c_j1, w2c_j2);
   w2c_j0 = w2c_l5;
   w2c_i0 = (u32)(w2c_j0);
   w2c_i0 = i32_load8_u(m, (u64)(w2c_i0) + 464u);
@@ -78325,7 +78603,7 @@ static void w2c_f89(module *m, u64 w2c_p0, u32 w2c_p1, u64 w2c_p2, u64 w2c_p3, u
   w2c_j0 += w2c_j1;
   w2c_j1 = w2c_l9;
   w2c_j2 = w2c_l7;
-  w2c_f83(m, w2c_j0, w2c_j1, w2c_j2);
+  w2c_f84(m, w2c_j0, w2c_j1, w2c_j2);
   w2c_j0 = w2c_l5;
   w2c_i0 = (u32)(w2c_j0);
   w2c_i0 = i32_load8_u(m, (u64)(w2c_i0) + 560u);
@@ -78345,7 +78623,7 @@ static void w2c_f89(module *m, u64 w2c_p0, u32 w2c_p1, u64 w2c_p2, u64 w2c_p3, u
   w2c_j2 = w2c_l5;
   w2c_i2 = (u32)(w2c_j2);
   w2c_j2 = i64_load(m, (u64)(w2c_i2) + 584u);
-  w2c_f83(m, w2c_j0, w2c_j1, w2c_j2);
+  w2c_f84(m, w2c_j0, w2c_j1, w2c_j2);
   w2c_i0 = w2c_l24;
   w2c_i1 = 4294967248u;
   w2c_i0 += w2c_i1;
@@ -78364,7 +78642,7 @@ static void w2c_f89(module *m, u64 w2c_p0, u32 w2c_p1, u64 w2c_p2, u64 w2c_p3, u
   w2c_j1 = 8ull;
   w2c_j0 += w2c_j1;
   w2c_i1 = w2c_l24;
-  w2c_f46(m, w2c_j0, w2c_i1);
+  w2c_f47(m, w2c_j0, w2c_i1);
   w2c_j0 = w2c_l5;
   w2c_i0 = (u32)(w2c_j0);
   w2c_i0 = i32_load8_u(m, (u64)(w2c_i0) + 8u);
@@ -78397,7 +78675,7 @@ static void w2c_f89(module *m, u64 w2c_p0, u32 w2c_p1, u64 w2c_p2, u64 w2c_p3, u
   w2c_j2 = w2c_p2;
   w2c_j3 = w2c_p3;
   w2c_j4 = w2c_p4;
-  w2c_f85(m, w2c_j0, w2c_i1, w2c_j2, w2c_j3, w2c_j4);
+  w2c_f86(m, w2c_j0, w2c_i1, w2c_j2, w2c_j3, w2c_j4);
   w2c_j0 = w2c_l5;
   w2c_i0 = (u32)(w2c_j0);
   w2c_j0 = i64_load(m, (u64)(w2c_i0) + 240u);
@@ -78480,262 +78758,6 @@ static void w2c_f89(module *m, u64 w2c_p0, u32 w2c_p1, u64 w2c_p2, u64 w2c_p3, u
   m->w2c_g0 = w2c_j0;
 }
 
-static void w2c_f90(module *m, u64 w2c_p0, u32 w2c_p1) {
-  u32 w2c_l2 = 0, w2c_l3 = 0;
-  u32 w2c_i0, w2c_i1;
-  u64 w2c_j0, w2c_j1;
-  w2c_j0 = m->w2c_g0;
-  w2c_j1 = 16ull;
-  w2c_i0 = (u64)((s64)w2c_j0 < (s64)w2c_j1);
-  if (w2c_i0) {goto w2c_B3;}
-  w2c_i0 = 1u;
-  w2c_l2 = w2c_i0;
-  w2c_i0 = w2c_p1;
-  w2c_i1 = 26496u;
-  w2c_i0 = (u32)((s32)w2c_i0 > (s32)w2c_i1);
-  if (w2c_i0) {goto w2c_B13;}
-  w2c_i0 = 0u;
-  w2c_l3 = w2c_i0;
-  w2c_i0 = w2c_p1;
-  w2c_i1 = 20490u;
-  w2c_i0 = (u32)((s32)w2c_i0 > (s32)w2c_i1);
-  if (w2c_i0) {goto w2c_B14;}
-  w2c_i0 = w2c_p1;
-  w2c_i1 = 20139u;
-  w2c_i0 = (u32)((s32)w2c_i0 > (s32)w2c_i1);
-  if (w2c_i0) {goto w2c_B15;}
-  w2c_i0 = w2c_p1;
-  w2c_i1 = 19975u;
-  w2c_i0 = w2c_i0 == w2c_i1;
-  if (w2c_i0) {goto w2c_B12;}
-  w2c_i0 = w2c_p1;
-  w2c_i1 = 20010u;
-  w2c_i0 = w2c_i0 == w2c_i1;
-  if (w2c_i0) {goto w2c_B0;}
-  goto w2c_B1;
-  w2c_B15:;
-  w2c_i0 = w2c_p1;
-  w2c_i1 = 4294947156u;
-  w2c_i0 += w2c_i1;
-  switch (w2c_i0) {
-    case 0: goto w2c_B8;
-    case 1: goto w2c_B1;
-    case 2: goto w2c_B1;
-    case 3: goto w2c_B1;
-    case 4: goto w2c_B1;
-    case 5: goto w2c_B1;
-    case 6: goto w2c_B1;
-    case 7: goto w2c_B1;
-    case 8: goto w2c_B1;
-    case 9: goto w2c_B1;
-    case 10: goto w2c_B1;
-    case 11: goto w2c_B1;
-    case 12: goto w2c_B1;
-    case 13: goto w2c_B1;
-    case 14: goto w2c_B1;
-    case 15: goto w2c_B1;
-    case 16: goto w2c_B1;
-    case 17: goto w2c_B1;
-    case 18: goto w2c_B1;
-    case 19: goto w2c_B9;
-    default: goto w2c_B16;
-  }
-  w2c_B16:;
-  w2c_i0 = w2c_p1;
-  w2c_i1 = 20191u;
-  w2c_i0 = w2c_i0 == w2c_i1;
-  if (w2c_i0) {goto w2c_B10;}
-  w2c_i0 = w2c_p1;
-  w2c_i1 = 20336u;
-  w2c_i0 = w2c_i0 != w2c_i1;
-  if (w2c_i0) {goto w2c_B1;}
-  goto w2c_B2;
-  w2c_B14:;
-  w2c_i0 = w2c_p1;
-  w2c_i1 = 21312u;
-  w2c_i0 = (u32)((s32)w2c_i0 > (s32)w2c_i1);
-  if (w2c_i0) {goto w2c_B17;}
-  w2c_i0 = w2c_p1;
-  w2c_i1 = 20491u;
-  w2c_i0 = w2c_i0 == w2c_i1;
-  if (w2c_i0) {goto w2c_B0;}
-  w2c_i0 = w2c_p1;
-  w2c_i1 = 20740u;
-  w2c_i0 = w2c_i0 == w2c_i1;
-  if (w2c_i0) {goto w2c_B9;}
-  w2c_i0 = w2c_p1;
-  w2c_i1 = 20806u;
-  w2c_i0 = w2c_i0 != w2c_i1;
-  if (w2c_i0) {goto w2c_B1;}
-  w2c_i0 = 6u;
-  w2c_l3 = w2c_i0;
-  goto w2c_B0;
-  w2c_B17:;
-  w2c_i0 = w2c_p1;
-  w2c_i1 = 4294945983u;
-  w2c_i0 += w2c_i1;
-  switch (w2c_i0) {
-    case 0: goto w2c_B18;
-    case 1: goto w2c_B1;
-    case 2: goto w2c_B10;
-    default: goto w2c_B19;
-  }
-  w2c_B19:;
-  w2c_i0 = w2c_p1;
-  w2c_i1 = 22419u;
-  w2c_i0 = w2c_i0 == w2c_i1;
-  if (w2c_i0) {goto w2c_B7;}
-  w2c_i0 = w2c_p1;
-  w2c_i1 = 25342u;
-  w2c_i0 = w2c_i0 != w2c_i1;
-  if (w2c_i0) {goto w2c_B1;}
-  w2c_B18:;
-  w2c_i0 = 1u;
-  w2c_l3 = w2c_i0;
-  w2c_i0 = 1u;
-  w2c_l2 = w2c_i0;
-  goto w2c_B0;
-  w2c_B13:;
-  w2c_i0 = w2c_p1;
-  w2c_i1 = 28566u;
-  w2c_i0 = (u32)((s32)w2c_i0 > (s32)w2c_i1);
-  if (w2c_i0) {goto w2c_B20;}
-  w2c_i0 = w2c_p1;
-  w2c_i1 = 27806u;
-  w2c_i0 = (u32)((s32)w2c_i0 > (s32)w2c_i1);
-  if (w2c_i0) {goto w2c_B21;}
-  w2c_i0 = w2c_p1;
-  w2c_i1 = 26497u;
-  w2c_i0 = w2c_i0 == w2c_i1;
-  if (w2c_i0) {goto w2c_B4;}
-  w2c_i0 = w2c_p1;
-  w2c_i1 = 26997u;
-  w2c_i0 = w2c_i0 == w2c_i1;
-  if (w2c_i0) {goto w2c_B4;}
-  w2c_i0 = w2c_p1;
-  w2c_i1 = 27491u;
-  w2c_i0 = w2c_i0 != w2c_i1;
-  if (w2c_i0) {goto w2c_B1;}
-  w2c_i0 = 13u;
-  w2c_l3 = w2c_i0;
-  goto w2c_B0;
-  w2c_B21:;
-  w2c_i0 = w2c_p1;
-  w2c_i1 = 27807u;
-  w2c_i0 = w2c_i0 == w2c_i1;
-  if (w2c_i0) {goto w2c_B22;}
-  w2c_i0 = w2c_p1;
-  w2c_i1 = 28071u;
-  w2c_i0 = w2c_i0 == w2c_i1;
-  if (w2c_i0) {goto w2c_B5;}
-  w2c_i0 = w2c_p1;
-  w2c_i1 = 28317u;
-  w2c_i0 = w2c_i0 != w2c_i1;
-  if (w2c_i0) {goto w2c_B1;}
-  w2c_B22:;
-  w2c_i0 = 11u;
-  w2c_l3 = w2c_i0;
-  goto w2c_B0;
-  w2c_B20:;
-  w2c_i0 = w2c_p1;
-  w2c_i1 = 31343u;
-  w2c_i0 = (u32)((s32)w2c_i0 > (s32)w2c_i1);
-  if (w2c_i0) {goto w2c_B23;}
-  w2c_i0 = w2c_p1;
-  w2c_i1 = 28567u;
-  w2c_i0 = w2c_i0 == w2c_i1;
-  if (w2c_i0) {goto w2c_B5;}
-  w2c_i0 = w2c_p1;
-  w2c_i1 = 30334u;
-  w2c_i0 = w2c_i0 == w2c_i1;
-  if (w2c_i0) {goto w2c_B2;}
-  w2c_i0 = w2c_p1;
-  w2c_i1 = 31213u;
-  w2c_i0 = w2c_i0 != w2c_i1;
-  if (w2c_i0) {goto w2c_B1;}
-  w2c_i0 = 9u;
-  w2c_l3 = w2c_i0;
-  goto w2c_B0;
-  w2c_B23:;
-  w2c_i0 = w2c_p1;
-  w2c_i1 = 36616u;
-  w2c_i0 = (u32)((s32)w2c_i0 > (s32)w2c_i1);
-  if (w2c_i0) {goto w2c_B11;}
-  w2c_i0 = w2c_p1;
-  w2c_i1 = 31344u;
-  w2c_i0 = w2c_i0 == w2c_i1;
-  if (w2c_i0) {goto w2c_B6;}
-  w2c_i0 = w2c_p1;
-  w2c_i1 = 33836u;
-  w2c_i0 = w2c_i0 != w2c_i1;
-  if (w2c_i0) {goto w2c_B1;}
-  w2c_B12:;
-  w2c_i0 = 4u;
-  w2c_l3 = w2c_i0;
-  goto w2c_B0;
-  w2c_B11:;
-  w2c_i0 = w2c_p1;
-  w2c_i1 = 36617u;
-  w2c_i0 = w2c_i0 == w2c_i1;
-  if (w2c_i0) {goto w2c_B24;}
-  w2c_i0 = w2c_p1;
-  w2c_i1 = 36733u;
-  w2c_i0 = w2c_i0 != w2c_i1;
-  if (w2c_i0) {goto w2c_B1;}
-  w2c_B24:;
-  w2c_i0 = 14u;
-  w2c_l3 = w2c_i0;
-  goto w2c_B0;
-  w2c_B10:;
-  w2c_i0 = 3u;
-  w2c_l3 = w2c_i0;
-  goto w2c_B0;
-  w2c_B9:;
-  w2c_i0 = 5u;
-  w2c_l3 = w2c_i0;
-  goto w2c_B0;
-  w2c_B8:;
-  w2c_i0 = 7u;
-  w2c_l3 = w2c_i0;
-  goto w2c_B0;
-  w2c_B7:;
-  w2c_i0 = 8u;
-  w2c_l3 = w2c_i0;
-  goto w2c_B0;
-  w2c_B6:;
-  w2c_i0 = 10u;
-  w2c_l3 = w2c_i0;
-  goto w2c_B0;
-  w2c_B5:;
-  w2c_i0 = 12u;
-  w2c_l3 = w2c_i0;
-  goto w2c_B0;
-  w2c_B4:;
-  w2c_i0 = 15u;
-  w2c_l3 = w2c_i0;
-  goto w2c_B0;
-  w2c_B3:;
-  UNREACHABLE;
-  w2c_B2:;
-  w2c_i0 = 2u;
-  w2c_l3 = w2c_i0;
-  goto w2c_B0;
-  w2c_B1:;
-  w2c_i0 = 0u;
-  w2c_l2 = w2c_i0;
-  w2c_i0 = 0u;
-  w2c_l3 = w2c_i0;
-  w2c_B0:;
-  w2c_j0 = w2c_p0;
-  w2c_i0 = (u32)(w2c_j0);
-  w2c_i1 = w2c_l3;
-  i32_store8(m, (u64)(w2c_i0) + 1, w2c_i1);
-  w2c_j0 = w2c_p0;
-  w2c_i0 = (u32)(w2c_j0);
-  w2c_i1 = w2c_l2;
-  i32_store8(m, (u64)(w2c_i0), w2c_i1);
-}
-
 static void w2c_f91(module *m, u64 w2c_p0, u32 w2c_p1, u64 w2c_p2, u64 w2c_p3, u64 w2c_p4, u64 w2c_p5) {
   u64 w2c_l6 = 0, w2c_l7 = 0, w2c_l8 = 0, w2c_l9 = 0;
   u32 w2c_i0, w2c_i1, w2c_i2;
@@ -78772,7 +78794,7 @@ static void w2c_f91(module *m, u64 w2c_p0, u32 w2c_p1, u64 w2c_p2, u64 w2c_p3, u
   w2c_j0 += w2c_j1;
   w2c_j1 = w2c_p4;
   w2c_j2 = w2c_p5;
-  w2c_f83(m, w2c_j0, w2c_j1, w2c_j2);
+  w2c_f84(m, w2c_j0, w2c_j1, w2c_j2);
   w2c_j0 = w2c_l6;
   w2c_i0 = (u32)(w2c_j0);
   w2c_i0 = i32_load8_u(m, (u64)(w2c_i0) + 80u);
@@ -78785,7 +78807,7 @@ static void w2c_f91(module *m, u64 w2c_p0, u32 w2c_p1, u64 w2c_p2, u64 w2c_p3, u
   w2c_j0 &= w2c_j1;
   w2c_j1 = 5ull;
   w2c_j0 <<= (w2c_j1 & 63);
-  w2c_j1 = 82236ull;
+  w2c_j1 = 82332ull;
   w2c_j0 += w2c_j1;
   w2c_l7 = w2c_j0;
   w2c_L4:
@@ -78803,7 +78825,7 @@ static void w2c_f91(module *m, u64 w2c_p0, u32 w2c_p1, u64 w2c_p2, u64 w2c_p3, u
     w2c_j1 = w2c_l6;
     w2c_i1 = (u32)(w2c_j1);
     w2c_i1 = i32_load_of_text(m, (u64)(w2c_i1) + 88u);
-    w2c_f90(m, w2c_j0, w2c_i1);
+    w2c_f45(m, w2c_j0, w2c_i1);
     w2c_j0 = w2c_l6;
     w2c_i0 = (u32)(w2c_j0);
     w2c_i0 = i32_load8_u(m, (u64)(w2c_i0) + 72u);
@@ -78833,7 +78855,7 @@ static void w2c_f91(module *m, u64 w2c_p0, u32 w2c_p1, u64 w2c_p2, u64 w2c_p3, u
     w2c_j2 = 4ull;
     w2c_j1 <<= (w2c_j2 & 63);
     w2c_l8 = w2c_j1;
-    w2c_j2 = 82368ull;
+    w2c_j2 = 82464ull;
     w2c_j1 += w2c_j2;
     w2c_i1 = (u32)(w2c_j1);
     w2c_j1 = i64_load(m, (u64)(w2c_i1));
@@ -78844,7 +78866,7 @@ static void w2c_f91(module *m, u64 w2c_p0, u32 w2c_p1, u64 w2c_p2, u64 w2c_p3, u
     w2c_f3(m, w2c_j0, w2c_j1, w2c_j2, w2c_j3, w2c_j4);
     w2c_j0 = w2c_l6;
     w2c_j1 = w2c_l8;
-    w2c_j2 = 82376ull;
+    w2c_j2 = 82472ull;
     w2c_j1 += w2c_j2;
     w2c_i1 = (u32)(w2c_j1);
     w2c_j1 = i64_load(m, (u64)(w2c_i1));
@@ -78927,7 +78949,7 @@ static void w2c_f91(module *m, u64 w2c_p0, u32 w2c_p1, u64 w2c_p2, u64 w2c_p3, u
     w2c_j0 += w2c_j1;
     w2c_j1 = w2c_p4;
     w2c_j2 = w2c_p5;
-    w2c_f83(m, w2c_j0, w2c_j1, w2c_j2);
+    w2c_f84(m, w2c_j0, w2c_j1, w2c_j2);
     w2c_j0 = w2c_l6;
     w2c_i0 = (u32)(w2c_j0);
     w2c_i0 = i32_load8_u(m, (u64)(w2c_i0) + 80u);
@@ -79021,7 +79043,7 @@ static u32 w2c_f92(module *m, u64 w2c_p0, u64 w2c_p1) {
   w2c_j0 += w2c_j1;
   w2c_j1 = w2c_p0;
   w2c_j2 = w2c_p1;
-  w2c_f83(m, w2c_j0, w2c_j1, w2c_j2);
+  w2c_f84(m, w2c_j0, w2c_j1, w2c_j2);
   w2c_i0 = 1u;
   w2c_l5 = w2c_i0;
   w2c_j0 = w2c_l2;
@@ -79044,7 +79066,7 @@ static u32 w2c_f92(module *m, u64 w2c_p0, u64 w2c_p1) {
   w2c_j1 = w2c_l2;
   w2c_i1 = (u32)(w2c_j1);
   w2c_i1 = i32_load_of_text(m, (u64)(w2c_i1) + 40u);
-  w2c_f90(m, w2c_j0, w2c_i1);
+  w2c_f45(m, w2c_j0, w2c_i1);
   w2c_i0 = 1u;
   w2c_l6 = w2c_i0;
   w2c_j0 = w2c_l2;
@@ -79080,7 +79102,7 @@ static u32 w2c_f92(module *m, u64 w2c_p0, u64 w2c_p1) {
   w2c_j0 += w2c_j1;
   w2c_j1 = w2c_l4;
   w2c_j2 = w2c_l3;
-  w2c_f83(m, w2c_j0, w2c_j1, w2c_j2);
+  w2c_f84(m, w2c_j0, w2c_j1, w2c_j2);
   w2c_j0 = w2c_l2;
   w2c_i0 = (u32)(w2c_j0);
   w2c_i0 = i32_load8_u(m, (u64)(w2c_i0) + 64u);
@@ -79097,7 +79119,7 @@ static u32 w2c_f92(module *m, u64 w2c_p0, u64 w2c_p1) {
   w2c_j1 = w2c_l2;
   w2c_i1 = (u32)(w2c_j1);
   w2c_i1 = i32_load_of_text(m, (u64)(w2c_i1) + 72u);
-  w2c_f90(m, w2c_j0, w2c_i1);
+  w2c_f45(m, w2c_j0, w2c_i1);
   w2c_i0 = 0u;
   w2c_l5 = w2c_i0;
   w2c_j0 = w2c_l2;
@@ -79138,7 +79160,7 @@ static u32 w2c_f92(module *m, u64 w2c_p0, u64 w2c_p1) {
     w2c_j0 += w2c_j1;
     w2c_j1 = w2c_l4;
     w2c_j2 = w2c_l3;
-    w2c_f83(m, w2c_j0, w2c_j1, w2c_j2);
+    w2c_f84(m, w2c_j0, w2c_j1, w2c_j2);
     w2c_j0 = w2c_l2;
     w2c_i0 = (u32)(w2c_j0);
     w2c_i0 = i32_load8_u(m, (u64)(w2c_i0) + 64u);
@@ -79158,7 +79180,7 @@ static u32 w2c_f92(module *m, u64 w2c_p0, u64 w2c_p1) {
     w2c_j1 = w2c_l2;
     w2c_i1 = (u32)(w2c_j1);
     w2c_i1 = i32_load_of_text(m, (u64)(w2c_i1) + 72u);
-    w2c_f90(m, w2c_j0, w2c_i1);
+    w2c_f45(m, w2c_j0, w2c_i1);
     w2c_j0 = w2c_l2;
     w2c_i0 = (u32)(w2c_j0);
     w2c_i0 = i32_load8_u(m, (u64)(w2c_i0));
@@ -79205,7 +79227,7 @@ static u32 w2c_f92(module *m, u64 w2c_p0, u64 w2c_p1) {
     w2c_j0 += w2c_j1;
     w2c_j1 = w2c_p0;
     w2c_j2 = w2c_p1;
-    w2c_f83(m, w2c_j0, w2c_j1, w2c_j2);
+    w2c_f84(m, w2c_j0, w2c_j1, w2c_j2);
     w2c_j0 = w2c_l2;
     w2c_i0 = (u32)(w2c_j0);
     w2c_i0 = i32_load8_u(m, (u64)(w2c_i0) + 64u);
@@ -79227,7 +79249,7 @@ static u32 w2c_f92(module *m, u64 w2c_p0, u64 w2c_p1) {
     w2c_j1 = w2c_l2;
     w2c_i1 = (u32)(w2c_j1);
     w2c_i1 = i32_load_of_text(m, (u64)(w2c_i1) + 72u);
-    w2c_f90(m, w2c_j0, w2c_i1);
+    w2c_f45(m, w2c_j0, w2c_i1);
     w2c_j0 = w2c_l2;
     w2c_i0 = (u32)(w2c_j0);
     w2c_i0 = i32_load8_u(m, (u64)(w2c_i0) + 16u);
@@ -79314,7 +79336,7 @@ static void w2c_f93(module *m, u64 w2c_p0, u32 w2c_p1, u32 w2c_p2, u64 w2c_p3, u
   w2c_j0 += w2c_j1;
   w2c_j1 = w2c_p5;
   w2c_j2 = w2c_p6;
-  w2c_f83(m, w2c_j0, w2c_j1, w2c_j2);
+  w2c_f84(m, w2c_j0, w2c_j1, w2c_j2);
   w2c_j0 = w2c_l7;
   w2c_i0 = (u32)(w2c_j0);
   w2c_i0 = i32_load8_u(m, (u64)(w2c_i0) + 128u);
@@ -79348,7 +79370,7 @@ static void w2c_f93(module *m, u64 w2c_p0, u32 w2c_p1, u32 w2c_p2, u64 w2c_p3, u
     w2c_j1 = 40ull;
     w2c_j0 += w2c_j1;
     w2c_i1 = w2c_p2;
-    w2c_f46(m, w2c_j0, w2c_i1);
+    w2c_f47(m, w2c_j0, w2c_i1);
     w2c_j0 = w2c_l7;
     w2c_i0 = (u32)(w2c_j0);
     w2c_i0 = i32_load8_u(m, (u64)(w2c_i0) + 40u);
@@ -79428,7 +79450,7 @@ static void w2c_f93(module *m, u64 w2c_p0, u32 w2c_p1, u32 w2c_p2, u64 w2c_p3, u
     w2c_j0 += w2c_j1;
     w2c_j1 = w2c_l9;
     w2c_j2 = w2c_l8;
-    w2c_f83(m, w2c_j0, w2c_j1, w2c_j2);
+    w2c_f84(m, w2c_j0, w2c_j1, w2c_j2);
     w2c_j0 = w2c_l7;
     w2c_i0 = (u32)(w2c_j0);
     w2c_i0 = i32_load8_u(m, (u64)(w2c_i0) + 128u);
@@ -79535,7 +79557,7 @@ static void w2c_f93(module *m, u64 w2c_p0, u32 w2c_p1, u32 w2c_p2, u64 w2c_p3, u
     w2c_j0 += w2c_j1;
     w2c_j1 = w2c_l9;
     w2c_j2 = w2c_l8;
-    w2c_f83(m, w2c_j0, w2c_j1, w2c_j2);
+    w2c_f84(m, w2c_j0, w2c_j1, w2c_j2);
     w2c_j0 = w2c_l7;
     w2c_i0 = (u32)(w2c_j0);
     w2c_i0 = i32_load8_u(m, (u64)(w2c_i0) + 128u);
@@ -79660,7 +79682,7 @@ static void w2c_f94(module *m, u64 w2c_p0, u64 w2c_p1, u64 w2c_p2) {
     w2c_j0 += w2c_j1;
     w2c_j1 = w2c_l5;
     w2c_j2 = w2c_l6;
-    w2c_f83(m, w2c_j0, w2c_j1, w2c_j2);
+    w2c_f84(m, w2c_j0, w2c_j1, w2c_j2);
     w2c_j0 = w2c_l3;
     w2c_i0 = (u32)(w2c_j0);
     w2c_i0 = i32_load8_u(m, (u64)(w2c_i0) + 80u);
@@ -79786,7 +79808,7 @@ static void w2c_f94(module *m, u64 w2c_p0, u64 w2c_p1, u64 w2c_p2) {
   w2c_j0 += w2c_j1;
   w2c_j1 = w2c_p1;
   w2c_j2 = w2c_p2;
-  w2c_f83(m, w2c_j0, w2c_j1, w2c_j2);
+  w2c_f84(m, w2c_j0, w2c_j1, w2c_j2);
   w2c_j0 = 0ull;
   w2c_l10 = w2c_j0;
   w2c_j0 = w2c_p1;
@@ -79838,7 +79860,7 @@ static void w2c_f94(module *m, u64 w2c_p0, u64 w2c_p1, u64 w2c_p2) {
     w2c_l11 = w2c_j1;
     w2c_j2 = w2c_l9;
     w2c_l12 = w2c_j2;
-    w2c_f83(m, w2c_j0, w2c_j1, w2c_j2);
+    w2c_f84(m, w2c_j0, w2c_j1, w2c_j2);
     w2c_j0 = w2c_l3;
     w2c_i0 = (u32)(w2c_j0);
     w2c_i0 = i32_load8_u(m, (u64)(w2c_i0) + 80u);
@@ -79901,7 +79923,7 @@ static void w2c_f94(module *m, u64 w2c_p0, u64 w2c_p1, u64 w2c_p2) {
     w2c_l6 = w2c_j1;
     w2c_j2 = w2c_l8;
     w2c_l5 = w2c_j2;
-    w2c_f83(m, w2c_j0, w2c_j1, w2c_j2);
+    w2c_f84(m, w2c_j0, w2c_j1, w2c_j2);
     w2c_j0 = w2c_l3;
     w2c_i0 = (u32)(w2c_j0);
     w2c_i0 = i32_load8_u(m, (u64)(w2c_i0) + 80u);
@@ -79922,7 +79944,7 @@ static void w2c_f94(module *m, u64 w2c_p0, u64 w2c_p1, u64 w2c_p2) {
     w2c_j1 = w2c_l3;
     w2c_i1 = (u32)(w2c_j1);
     w2c_i1 = i32_load_of_text(m, (u64)(w2c_i1) + 88u);
-    w2c_f90(m, w2c_j0, w2c_i1);
+    w2c_f45(m, w2c_j0, w2c_i1);
     w2c_j0 = w2c_l3;
     w2c_i0 = (u32)(w2c_j0);
     w2c_i0 = i32_load8_u(m, (u64)(w2c_i0) + 40u);
@@ -79966,7 +79988,7 @@ static void w2c_f94(module *m, u64 w2c_p0, u64 w2c_p1, u64 w2c_p2) {
   w2c_j0 += w2c_j1;
   w2c_j1 = w2c_p1;
   w2c_j2 = w2c_p2;
-  w2c_f83(m, w2c_j0, w2c_j1, w2c_j2);
+  w2c_f84(m, w2c_j0, w2c_j1, w2c_j2);
   w2c_i0 = 0u;
   w2c_l13 = w2c_i0;
   w2c_j0 = w2c_l3;
@@ -80231,7 +80253,7 @@ static void w2c_f95(module *m, u64 w2c_p0, u32 w2c_p1, u64 w2c_p2, u64 w2c_p3, u
   w2c_j0 += w2c_j1;
   w2c_j1 = w2c_p6;
   w2c_j2 = w2c_p7;
-  w2c_f83(m, w2c_j0, w2c_j1, w2c_j2);
+  w2c_f84(m, w2c_j0, w2c_j1, w2c_j2);
   w2c_i0 = 0u;
   w2c_p1 = w2c_i0;
   w2c_j0 = w2c_l8;
@@ -80249,7 +80271,7 @@ static void w2c_f95(module *m, u64 w2c_p0, u32 w2c_p1, u64 w2c_p2, u64 w2c_p3, u
   w2c_j2 = w2c_l8;
   w2c_i2 = (u32)(w2c_j2);
   w2c_j2 = i64_load(m, (u64)(w2c_i2) + 88u);
-  w2c_f83(m, w2c_j0, w2c_j1, w2c_j2);
+  w2c_f84(m, w2c_j0, w2c_j1, w2c_j2);
   w2c_j0 = w2c_l8;
   w2c_i0 = (u32)(w2c_j0);
   w2c_i0 = i32_load8_u(m, (u64)(w2c_i0) + 32u);
@@ -80478,7 +80500,7 @@ static void w2c_f96(module *m, u64 w2c_p0, u64 w2c_p1, u64 w2c_p2) {
     w2c_j1 = w2c_l4;
     w2c_j2 = w2c_l5;
     w2c_l6 = w2c_j2;
-    w2c_f83(m, w2c_j0, w2c_j1, w2c_j2);
+    w2c_f84(m, w2c_j0, w2c_j1, w2c_j2);
     w2c_j0 = w2c_l3;
     w2c_i0 = (u32)(w2c_j0);
     w2c_i0 = i32_load8_u(m, (u64)(w2c_i0) + 144u);
@@ -80513,7 +80535,7 @@ static void w2c_f96(module *m, u64 w2c_p0, u64 w2c_p1, u64 w2c_p2) {
   w2c_j3 = w2c_l6;
   w2c_j2 -= w2c_j3;
   w2c_l7 = w2c_j2;
-  w2c_f83(m, w2c_j0, w2c_j1, w2c_j2);
+  w2c_f84(m, w2c_j0, w2c_j1, w2c_j2);
   w2c_j0 = w2c_l3;
   w2c_i0 = (u32)(w2c_j0);
   w2c_i0 = i32_load8_u(m, (u64)(w2c_i0) + 80u);
@@ -80593,7 +80615,7 @@ static void w2c_f96(module *m, u64 w2c_p0, u64 w2c_p1, u64 w2c_p2) {
   w2c_j0 += w2c_j1;
   w2c_j1 = w2c_l4;
   w2c_j2 = w2c_l5;
-  w2c_f83(m, w2c_j0, w2c_j1, w2c_j2);
+  w2c_f84(m, w2c_j0, w2c_j1, w2c_j2);
   w2c_j0 = w2c_l3;
   w2c_i0 = (u32)(w2c_j0);
   w2c_i0 = i32_load8_u(m, (u64)(w2c_i0) + 144u);
@@ -80621,7 +80643,7 @@ static void w2c_f96(module *m, u64 w2c_p0, u64 w2c_p1, u64 w2c_p2) {
   w2c_j1 = 72ull;
   w2c_j0 += w2c_j1;
   w2c_i1 = w2c_l15;
-  w2c_f46(m, w2c_j0, w2c_i1);
+  w2c_f47(m, w2c_j0, w2c_i1);
   w2c_j0 = 0ull;
   w2c_l6 = w2c_j0;
   w2c_j0 = w2c_l4;
@@ -80646,7 +80668,7 @@ static void w2c_f96(module *m, u64 w2c_p0, u64 w2c_p1, u64 w2c_p2) {
     w2c_l9 = w2c_j1;
     w2c_j2 = w2c_l8;
     w2c_l10 = w2c_j2;
-    w2c_f83(m, w2c_j0, w2c_j1, w2c_j2);
+    w2c_f84(m, w2c_j0, w2c_j1, w2c_j2);
     w2c_j0 = w2c_l3;
     w2c_i0 = (u32)(w2c_j0);
     w2c_i0 = i32_load8_u(m, (u64)(w2c_i0) + 144u);
@@ -80674,7 +80696,7 @@ static void w2c_f96(module *m, u64 w2c_p0, u64 w2c_p1, u64 w2c_p2) {
     w2c_j1 = 64ull;
     w2c_j0 += w2c_j1;
     w2c_i1 = w2c_l15;
-    w2c_f46(m, w2c_j0, w2c_i1);
+    w2c_f47(m, w2c_j0, w2c_i1);
     w2c_j0 = w2c_l6;
     w2c_j1 = 1ull;
     w2c_j0 += w2c_j1;
@@ -80741,7 +80763,7 @@ static void w2c_f96(module *m, u64 w2c_p0, u64 w2c_p1, u64 w2c_p2) {
   w2c_j0 += w2c_j1;
   w2c_j1 = w2c_l4;
   w2c_j2 = w2c_l5;
-  w2c_f83(m, w2c_j0, w2c_j1, w2c_j2);
+  w2c_f84(m, w2c_j0, w2c_j1, w2c_j2);
   w2c_j0 = w2c_l4;
   w2c_p2 = w2c_j0;
   w2c_j0 = w2c_l5;
@@ -80777,7 +80799,7 @@ static void w2c_f96(module *m, u64 w2c_p0, u64 w2c_p1, u64 w2c_p2) {
   w2c_j1 = 56ull;
   w2c_j0 += w2c_j1;
   w2c_i1 = w2c_l15;
-  w2c_f46(m, w2c_j0, w2c_i1);
+  w2c_f47(m, w2c_j0, w2c_i1);
   w2c_j0 = w2c_l4;
   w2c_p2 = w2c_j0;
   w2c_j0 = w2c_l5;
@@ -80796,7 +80818,7 @@ static void w2c_f96(module *m, u64 w2c_p0, u64 w2c_p1, u64 w2c_p2) {
     w2c_p2 = w2c_j1;
     w2c_j2 = w2c_l9;
     w2c_l8 = w2c_j2;
-    w2c_f83(m, w2c_j0, w2c_j1, w2c_j2);
+    w2c_f84(m, w2c_j0, w2c_j1, w2c_j2);
     w2c_j0 = w2c_l3;
     w2c_i0 = (u32)(w2c_j0);
     w2c_i0 = i32_load8_u(m, (u64)(w2c_i0) + 144u);
@@ -80824,7 +80846,7 @@ static void w2c_f96(module *m, u64 w2c_p0, u64 w2c_p1, u64 w2c_p2) {
     w2c_j1 = 48ull;
     w2c_j0 += w2c_j1;
     w2c_i1 = w2c_l15;
-    w2c_f46(m, w2c_j0, w2c_i1);
+    w2c_f47(m, w2c_j0, w2c_i1);
     w2c_j0 = w2c_l3;
     w2c_i0 = (u32)(w2c_j0);
     w2c_i0 = i32_load8_u(m, (u64)(w2c_i0) + 48u);
@@ -80869,7 +80891,7 @@ static void w2c_f96(module *m, u64 w2c_p0, u64 w2c_p1, u64 w2c_p2) {
   w2c_j0 += w2c_j1;
   w2c_j1 = w2c_p1;
   w2c_j2 = w2c_l7;
-  w2c_f88(m, w2c_j0, w2c_j1, w2c_j2);
+  w2c_f89(m, w2c_j0, w2c_j1, w2c_j2);
   w2c_j0 = w2c_l3;
   w2c_i0 = (u32)(w2c_j0);
   w2c_i0 = i32_load8_u(m, (u64)(w2c_i0) + 144u);
@@ -80889,7 +80911,7 @@ static void w2c_f96(module *m, u64 w2c_p0, u64 w2c_p1, u64 w2c_p2) {
   w2c_j2 = w2c_l3;
   w2c_i2 = (u32)(w2c_j2);
   w2c_j2 = i64_load(m, (u64)(w2c_i2) + 168u);
-  w2c_f88(m, w2c_j0, w2c_j1, w2c_j2);
+  w2c_f89(m, w2c_j0, w2c_j1, w2c_j2);
   w2c_j0 = w2c_l3;
   w2c_i0 = (u32)(w2c_j0);
   w2c_i0 = i32_load8_u(m, (u64)(w2c_i0) + 112u);
@@ -80902,7 +80924,7 @@ static void w2c_f96(module *m, u64 w2c_p0, u64 w2c_p1, u64 w2c_p2) {
   w2c_j1 = w2c_l3;
   w2c_i1 = (u32)(w2c_j1);
   w2c_i1 = i32_load_of_text(m, (u64)(w2c_i1) + 120u);
-  w2c_f90(m, w2c_j0, w2c_i1);
+  w2c_f45(m, w2c_j0, w2c_i1);
   w2c_j0 = w2c_l3;
   w2c_i0 = (u32)(w2c_j0);
   w2c_i0 = i32_load8_u(m, (u64)(w2c_i0) + 40u);
@@ -80921,7 +80943,7 @@ static void w2c_f96(module *m, u64 w2c_p0, u64 w2c_p1, u64 w2c_p2) {
   w2c_j1 = 32ull;
   w2c_j0 += w2c_j1;
   w2c_i1 = w2c_l15;
-  w2c_f46(m, w2c_j0, w2c_i1);
+  w2c_f47(m, w2c_j0, w2c_i1);
   w2c_j0 = 0ull;
   w2c_l11 = w2c_j0;
   w2c_j0 = 0ull;
@@ -80962,7 +80984,7 @@ static void w2c_f96(module *m, u64 w2c_p0, u64 w2c_p1, u64 w2c_p2) {
   w2c_j0 += w2c_j1;
   w2c_j1 = w2c_p2;
   w2c_j2 = w2c_l8;
-  w2c_f83(m, w2c_j0, w2c_j1, w2c_j2);
+  w2c_f84(m, w2c_j0, w2c_j1, w2c_j2);
   w2c_j0 = w2c_l3;
   w2c_i0 = (u32)(w2c_j0);
   w2c_i0 = i32_load8_u(m, (u64)(w2c_i0) + 112u);
@@ -80983,7 +81005,7 @@ static void w2c_f96(module *m, u64 w2c_p0, u64 w2c_p1, u64 w2c_p2) {
   w2c_j1 = w2c_l3;
   w2c_i1 = (u32)(w2c_j1);
   w2c_i1 = i32_load_of_text(m, (u64)(w2c_i1) + 120u);
-  w2c_f90(m, w2c_j0, w2c_i1);
+  w2c_f45(m, w2c_j0, w2c_i1);
   w2c_j0 = w2c_l3;
   w2c_i0 = (u32)(w2c_j0);
   w2c_i0 = i32_load8_u(m, (u64)(w2c_i0) + 25u);
@@ -81020,7 +81042,7 @@ static void w2c_f96(module *m, u64 w2c_p0, u64 w2c_p1, u64 w2c_p2) {
   w2c_j0 += w2c_j1;
   w2c_j1 = w2c_l8;
   w2c_j2 = w2c_p2;
-  w2c_f83(m, w2c_j0, w2c_j1, w2c_j2);
+  w2c_f84(m, w2c_j0, w2c_j1, w2c_j2);
   w2c_j0 = w2c_l3;
   w2c_i0 = (u32)(w2c_j0);
   w2c_i0 = i32_load8_u(m, (u64)(w2c_i0) + 144u);
@@ -81033,7 +81055,7 @@ static void w2c_f96(module *m, u64 w2c_p0, u64 w2c_p1, u64 w2c_p2) {
   w2c_j1 = w2c_l3;
   w2c_i1 = (u32)(w2c_j1);
   w2c_i1 = i32_load_of_text(m, (u64)(w2c_i1) + 152u);
-  w2c_f90(m, w2c_j0, w2c_i1);
+  w2c_f45(m, w2c_j0, w2c_i1);
   w2c_j0 = w2c_l3;
   w2c_i0 = (u32)(w2c_j0);
   w2c_i0 = i32_load8_u(m, (u64)(w2c_i0) + 17u);
@@ -81096,7 +81118,7 @@ static void w2c_f96(module *m, u64 w2c_p0, u64 w2c_p1, u64 w2c_p2) {
     w2c_j0 += w2c_j1;
     w2c_j1 = w2c_p2;
     w2c_j2 = w2c_l8;
-    w2c_f83(m, w2c_j0, w2c_j1, w2c_j2);
+    w2c_f84(m, w2c_j0, w2c_j1, w2c_j2);
     w2c_j0 = w2c_l3;
     w2c_i0 = (u32)(w2c_j0);
     w2c_i0 = i32_load8_u(m, (u64)(w2c_i0) + 144u);
@@ -81117,7 +81139,7 @@ static void w2c_f96(module *m, u64 w2c_p0, u64 w2c_p1, u64 w2c_p2) {
     w2c_j1 = w2c_l3;
     w2c_i1 = (u32)(w2c_j1);
     w2c_i1 = i32_load_of_text(m, (u64)(w2c_i1) + 152u);
-    w2c_f90(m, w2c_j0, w2c_i1);
+    w2c_f45(m, w2c_j0, w2c_i1);
     w2c_j0 = w2c_l3;
     w2c_i0 = (u32)(w2c_j0);
     w2c_i0 = i32_load8_u(m, (u64)(w2c_i0) + 8u);
@@ -81241,7 +81263,7 @@ static void w2c_f97(module *m, u64 w2c_p0, u64 w2c_p1, u64 w2c_p2) {
   w2c_j0 += w2c_j1;
   w2c_j1 = w2c_p1;
   w2c_j2 = w2c_p2;
-  w2c_f83(m, w2c_j0, w2c_j1, w2c_j2);
+  w2c_f84(m, w2c_j0, w2c_j1, w2c_j2);
   w2c_j0 = w2c_l3;
   w2c_i0 = (u32)(w2c_j0);
   w2c_i0 = i32_load8_u(m, (u64)(w2c_i0) + 8u);
@@ -81358,14 +81380,14 @@ static void w2c_f97(module *m, u64 w2c_p0, u64 w2c_p1, u64 w2c_p2) {
     w2c_j1 = 1016ull;
     w2c_j0 &= w2c_j1;
     w2c_l8 = w2c_j0;
-    w2c_j1 = 80845ull;
+    w2c_j1 = 80941ull;
     w2c_j0 += w2c_j1;
     w2c_i0 = (u32)(w2c_j0);
     w2c_i0 = i32_load8_u(m, (u64)(w2c_i0));
     w2c_i1 = 0u;
     w2c_j2 = w2c_l8;
     w2c_i2 = (u32)(w2c_j2);
-    w2c_i2 = i32_load_of_text(m, (u64)(w2c_i2) + 80840u);
+    w2c_i2 = i32_load_of_text(m, (u64)(w2c_i2) + 80936u);
     w2c_i3 = w2c_l18;
     w2c_i2 = w2c_i2 == w2c_i3;
     w2c_l18 = w2c_i2;
@@ -81375,7 +81397,7 @@ static void w2c_f97(module *m, u64 w2c_p0, u64 w2c_p1, u64 w2c_p2) {
     w2c_i0 &= w2c_i1;
     w2c_l20 = w2c_i0;
     w2c_j0 = w2c_l8;
-    w2c_j1 = 80844ull;
+    w2c_j1 = 80940ull;
     w2c_j0 += w2c_j1;
     w2c_i0 = (u32)(w2c_j0);
     w2c_i0 = i32_load8_u(m, (u64)(w2c_i0));
@@ -81712,12 +81734,12 @@ static void w2c_f97(module *m, u64 w2c_p0, u64 w2c_p1, u64 w2c_p2) {
     w2c_j0 &= w2c_j1;
     w2c_l8 = w2c_j0;
     w2c_i0 = (u32)(w2c_j0);
-    w2c_i0 = i32_load_of_text(m, (u64)(w2c_i0) + 80840u);
+    w2c_i0 = i32_load_of_text(m, (u64)(w2c_i0) + 80936u);
     w2c_i1 = w2c_l14;
     w2c_i0 = w2c_i0 != w2c_i1;
     if (w2c_i0) {goto w2c_B23;}
     w2c_j0 = w2c_l8;
-    w2c_j1 = 80844ull;
+    w2c_j1 = 80940ull;
     w2c_j0 += w2c_j1;
     w2c_i0 = (u32)(w2c_j0);
     w2c_i0 = i32_load8_u(m, (u64)(w2c_i0));
@@ -81727,7 +81749,7 @@ static void w2c_f97(module *m, u64 w2c_p0, u64 w2c_p1, u64 w2c_p2) {
     w2c_i0 = w2c_i0 != w2c_i1;
     if (w2c_i0) {goto w2c_B23;}
     w2c_j0 = w2c_l8;
-    w2c_j1 = 80845ull;
+    w2c_j1 = 80941ull;
     w2c_j0 += w2c_j1;
     w2c_i0 = (u32)(w2c_j0);
     w2c_i0 = i32_load8_u(m, (u64)(w2c_i0));
@@ -81874,21 +81896,21 @@ static void w2c_f97(module *m, u64 w2c_p0, u64 w2c_p1, u64 w2c_p2) {
     w2c_j1 = 1016ull;
     w2c_j0 &= w2c_j1;
     w2c_p2 = w2c_j0;
-    w2c_j1 = 80845ull;
+    w2c_j1 = 80941ull;
     w2c_j0 += w2c_j1;
     w2c_i0 = (u32)(w2c_j0);
     w2c_i0 = i32_load8_u(m, (u64)(w2c_i0));
     w2c_i1 = 0u;
     w2c_j2 = w2c_p2;
     w2c_i2 = (u32)(w2c_j2);
-    w2c_i2 = i32_load_of_text(m, (u64)(w2c_i2) + 80840u);
+    w2c_i2 = i32_load_of_text(m, (u64)(w2c_i2) + 80936u);
     w2c_i3 = w2c_l14;
     w2c_i2 = w2c_i2 == w2c_i3;
     w2c_l14 = w2c_i2;
     w2c_i0 = w2c_i2 ? w2c_i0 : w2c_i1;
     w2c_l13 = w2c_i0;
     w2c_j0 = w2c_p2;
-    w2c_j1 = 80844ull;
+    w2c_j1 = 80940ull;
     w2c_j0 += w2c_j1;
     w2c_i0 = (u32)(w2c_j0);
     w2c_i0 = i32_load8_u(m, (u64)(w2c_i0));
@@ -82041,21 +82063,21 @@ static void w2c_f97(module *m, u64 w2c_p0, u64 w2c_p1, u64 w2c_p2) {
     w2c_j1 = 1016ull;
     w2c_j0 &= w2c_j1;
     w2c_l8 = w2c_j0;
-    w2c_j1 = 80845ull;
+    w2c_j1 = 80941ull;
     w2c_j0 += w2c_j1;
     w2c_i0 = (u32)(w2c_j0);
     w2c_i0 = i32_load8_u(m, (u64)(w2c_i0));
     w2c_i1 = 0u;
     w2c_j2 = w2c_l8;
     w2c_i2 = (u32)(w2c_j2);
-    w2c_i2 = i32_load_of_text(m, (u64)(w2c_i2) + 80840u);
+    w2c_i2 = i32_load_of_text(m, (u64)(w2c_i2) + 80936u);
     w2c_i3 = w2c_l15;
     w2c_i2 = w2c_i2 == w2c_i3;
     w2c_l18 = w2c_i2;
     w2c_i0 = w2c_i2 ? w2c_i0 : w2c_i1;
     w2c_l15 = w2c_i0;
     w2c_j0 = w2c_l8;
-    w2c_j1 = 80844ull;
+    w2c_j1 = 80940ull;
     w2c_j0 += w2c_j1;
     w2c_i0 = (u32)(w2c_j0);
     w2c_i0 = i32_load8_u(m, (u64)(w2c_i0));
@@ -82087,7 +82109,7 @@ static void w2c_f97(module *m, u64 w2c_p0, u64 w2c_p1, u64 w2c_p2) {
     w2c_j0 += w2c_j1;
     w2c_j1 = w2c_l7;
     w2c_j2 = w2c_l6;
-    w2c_f83(m, w2c_j0, w2c_j1, w2c_j2);
+    w2c_f84(m, w2c_j0, w2c_j1, w2c_j2);
     w2c_j0 = w2c_l6;
     w2c_l4 = w2c_j0;
     w2c_j0 = w2c_l7;
@@ -82396,7 +82418,7 @@ static void w2c_f98(module *m, u64 w2c_p0, u32 w2c_p1, u64 w2c_p2, u64 w2c_p3, u
     w2c_j0 += w2c_j1;
     w2c_j1 = w2c_l6;
     w2c_j2 = w2c_l7;
-    w2c_f83(m, w2c_j0, w2c_j1, w2c_j2);
+    w2c_f84(m, w2c_j0, w2c_j1, w2c_j2);
     w2c_j0 = w2c_l5;
     w2c_i0 = (u32)(w2c_j0);
     w2c_i0 = i32_load8_u(m, (u64)(w2c_i0) + 144u);
@@ -82417,7 +82439,7 @@ static void w2c_f98(module *m, u64 w2c_p0, u32 w2c_p1, u64 w2c_p2, u64 w2c_p3, u
     w2c_j1 = w2c_l5;
     w2c_i1 = (u32)(w2c_j1);
     w2c_i1 = i32_load_of_text(m, (u64)(w2c_i1) + 152u);
-    w2c_f46(m, w2c_j0, w2c_i1);
+    w2c_f47(m, w2c_j0, w2c_i1);
     w2c_j0 = w2c_l5;
     w2c_i0 = (u32)(w2c_j0);
     w2c_i0 = i32_load8_u(m, (u64)(w2c_i0) + 8u);
@@ -82891,7 +82913,7 @@ static void w2c_f98(module *m, u64 w2c_p0, u32 w2c_p1, u64 w2c_p2, u64 w2c_p3, u
   w2c_j1 = 1016ull;
   w2c_j0 &= w2c_j1;
   w2c_l8 = w2c_j0;
-  w2c_j1 = 80840ull;
+  w2c_j1 = 80936ull;
   w2c_j0 += w2c_j1;
   w2c_i0 = (u32)(w2c_j0);
   w2c_i0 = i32_load_of_text(m, (u64)(w2c_i0));
@@ -82928,7 +82950,7 @@ static void w2c_f98(module *m, u64 w2c_p0, u32 w2c_p1, u64 w2c_p2, u64 w2c_p3, u
   w2c_j1 = 1016ull;
   w2c_j0 &= w2c_j1;
   w2c_l8 = w2c_j0;
-  w2c_j1 = 80840ull;
+  w2c_j1 = 80936ull;
   w2c_j0 += w2c_j1;
   w2c_i0 = (u32)(w2c_j0);
   w2c_i0 = i32_load_of_text(m, (u64)(w2c_i0));
@@ -82943,13 +82965,13 @@ static void w2c_f98(module *m, u64 w2c_p0, u32 w2c_p1, u64 w2c_p2, u64 w2c_p3, u
   w2c_l7 = w2c_j0;
   w2c_B29:;
   w2c_j0 = w2c_l8;
-  w2c_j1 = 80844ull;
+  w2c_j1 = 80940ull;
   w2c_j0 += w2c_j1;
   w2c_i0 = (u32)(w2c_j0);
   w2c_i0 = i32_load8_u(m, (u64)(w2c_i0));
   w2c_l11 = w2c_i0;
   w2c_j0 = w2c_l8;
-  w2c_j1 = 80845ull;
+  w2c_j1 = 80941ull;
   w2c_j0 += w2c_j1;
   w2c_i0 = (u32)(w2c_j0);
   w2c_i0 = i32_load8_u(m, (u64)(w2c_i0));
@@ -83023,7 +83045,7 @@ static void w2c_f98(module *m, u64 w2c_p0, u32 w2c_p1, u64 w2c_p2, u64 w2c_p3, u
   w2c_j1 = 1016ull;
   w2c_j0 &= w2c_j1;
   w2c_l8 = w2c_j0;
-  w2c_j1 = 80840ull;
+  w2c_j1 = 80936ull;
   w2c_j0 += w2c_j1;
   w2c_i0 = (u32)(w2c_j0);
   w2c_i0 = i32_load_of_text(m, (u64)(w2c_i0));
@@ -83031,13 +83053,13 @@ static void w2c_f98(module *m, u64 w2c_p0, u32 w2c_p1, u64 w2c_p2, u64 w2c_p3, u
   w2c_i0 = w2c_i0 != w2c_i1;
   if (w2c_i0) {goto w2c_B32;}
   w2c_j0 = w2c_l8;
-  w2c_j1 = 80844ull;
+  w2c_j1 = 80940ull;
   w2c_j0 += w2c_j1;
   w2c_i0 = (u32)(w2c_j0);
   w2c_i0 = i32_load8_u(m, (u64)(w2c_i0));
   w2c_l12 = w2c_i0;
   w2c_j0 = w2c_l8;
-  w2c_j1 = 80845ull;
+  w2c_j1 = 80941ull;
   w2c_j0 += w2c_j1;
   w2c_i0 = (u32)(w2c_j0);
   w2c_i0 = i32_load8_u(m, (u64)(w2c_i0));
@@ -83068,7 +83090,7 @@ static void w2c_f98(module *m, u64 w2c_p0, u32 w2c_p1, u64 w2c_p2, u64 w2c_p3, u
   w2c_j1 = 1016ull;
   w2c_j0 &= w2c_j1;
   w2c_l8 = w2c_j0;
-  w2c_j1 = 80840ull;
+  w2c_j1 = 80936ull;
   w2c_j0 += w2c_j1;
   w2c_i0 = (u32)(w2c_j0);
   w2c_i0 = i32_load_of_text(m, (u64)(w2c_i0));
@@ -83076,13 +83098,13 @@ static void w2c_f98(module *m, u64 w2c_p0, u32 w2c_p1, u64 w2c_p2, u64 w2c_p3, u
   w2c_i0 = w2c_i0 != w2c_i1;
   if (w2c_i0) {goto w2c_B32;}
   w2c_j0 = w2c_l8;
-  w2c_j1 = 80844ull;
+  w2c_j1 = 80940ull;
   w2c_j0 += w2c_j1;
   w2c_i0 = (u32)(w2c_j0);
   w2c_i0 = i32_load8_u(m, (u64)(w2c_i0));
   w2c_l12 = w2c_i0;
   w2c_j0 = w2c_l8;
-  w2c_j1 = 80845ull;
+  w2c_j1 = 80941ull;
   w2c_j0 += w2c_j1;
   w2c_i0 = (u32)(w2c_j0);
   w2c_i0 = i32_load8_u(m, (u64)(w2c_i0));
@@ -83816,7 +83838,7 @@ static void w2c_f99(module *m, u64 w2c_p0, u32 w2c_p1, u64 w2c_p2, u32 w2c_p3, u
   w2c_j1 = 1016ull;
   w2c_j0 &= w2c_j1;
   w2c_l15 = w2c_j0;
-  w2c_j1 = 80840ull;
+  w2c_j1 = 80936ull;
   w2c_j0 += w2c_j1;
   w2c_i0 = (u32)(w2c_j0);
   w2c_i0 = i32_load_of_text(m, (u64)(w2c_i0));
@@ -83853,7 +83875,7 @@ static void w2c_f99(module *m, u64 w2c_p0, u32 w2c_p1, u64 w2c_p2, u32 w2c_p3, u
   w2c_j1 = 1016ull;
   w2c_j0 &= w2c_j1;
   w2c_l15 = w2c_j0;
-  w2c_j1 = 80840ull;
+  w2c_j1 = 80936ull;
   w2c_j0 += w2c_j1;
   w2c_i0 = (u32)(w2c_j0);
   w2c_i0 = i32_load_of_text(m, (u64)(w2c_i0));
@@ -83868,13 +83890,13 @@ static void w2c_f99(module *m, u64 w2c_p0, u32 w2c_p1, u64 w2c_p2, u32 w2c_p3, u
   w2c_l13 = w2c_j0;
   w2c_B32:;
   w2c_j0 = w2c_l15;
-  w2c_j1 = 80844ull;
+  w2c_j1 = 80940ull;
   w2c_j0 += w2c_j1;
   w2c_i0 = (u32)(w2c_j0);
   w2c_i0 = i32_load8_u(m, (u64)(w2c_i0));
   w2c_l20 = w2c_i0;
   w2c_j0 = w2c_l15;
-  w2c_j1 = 80845ull;
+  w2c_j1 = 80941ull;
   w2c_j0 += w2c_j1;
   w2c_i0 = (u32)(w2c_j0);
   w2c_i0 = i32_load8_u(m, (u64)(w2c_i0));
@@ -83948,7 +83970,7 @@ static void w2c_f99(module *m, u64 w2c_p0, u32 w2c_p1, u64 w2c_p2, u32 w2c_p3, u
   w2c_j1 = 1016ull;
   w2c_j0 &= w2c_j1;
   w2c_l15 = w2c_j0;
-  w2c_j1 = 80840ull;
+  w2c_j1 = 80936ull;
   w2c_j0 += w2c_j1;
   w2c_i0 = (u32)(w2c_j0);
   w2c_i0 = i32_load_of_text(m, (u64)(w2c_i0));
@@ -83956,13 +83978,13 @@ static void w2c_f99(module *m, u64 w2c_p0, u32 w2c_p1, u64 w2c_p2, u32 w2c_p3, u
   w2c_i0 = w2c_i0 != w2c_i1;
   if (w2c_i0) {goto w2c_B35;}
   w2c_j0 = w2c_l15;
-  w2c_j1 = 80844ull;
+  w2c_j1 = 80940ull;
   w2c_j0 += w2c_j1;
   w2c_i0 = (u32)(w2c_j0);
   w2c_i0 = i32_load8_u(m, (u64)(w2c_i0));
   w2c_l21 = w2c_i0;
   w2c_j0 = w2c_l15;
-  w2c_j1 = 80845ull;
+  w2c_j1 = 80941ull;
   w2c_j0 += w2c_j1;
   w2c_i0 = (u32)(w2c_j0);
   w2c_i0 = i32_load8_u(m, (u64)(w2c_i0));
@@ -83993,7 +84015,7 @@ static void w2c_f99(module *m, u64 w2c_p0, u32 w2c_p1, u64 w2c_p2, u32 w2c_p3, u
   w2c_j1 = 1016ull;
   w2c_j0 &= w2c_j1;
   w2c_l15 = w2c_j0;
-  w2c_j1 = 80840ull;
+  w2c_j1 = 80936ull;
   w2c_j0 += w2c_j1;
   w2c_i0 = (u32)(w2c_j0);
   w2c_i0 = i32_load_of_text(m, (u64)(w2c_i0));
@@ -84001,13 +84023,13 @@ static void w2c_f99(module *m, u64 w2c_p0, u32 w2c_p1, u64 w2c_p2, u32 w2c_p3, u
   w2c_i0 = w2c_i0 != w2c_i1;
   if (w2c_i0) {goto w2c_B35;}
   w2c_j0 = w2c_l15;
-  w2c_j1 = 80844ull;
+  w2c_j1 = 80940ull;
   w2c_j0 += w2c_j1;
   w2c_i0 = (u32)(w2c_j0);
   w2c_i0 = i32_load8_u(m, (u64)(w2c_i0));
   w2c_l21 = w2c_i0;
   w2c_j0 = w2c_l15;
-  w2c_j1 = 80845ull;
+  w2c_j1 = 80941ull;
   w2c_j0 += w2c_j1;
   w2c_i0 = (u32)(w2c_j0);
   w2c_i0 = i32_load8_u(m, (u64)(w2c_i0));
@@ -84728,7 +84750,7 @@ static void w2c_f99(module *m, u64 w2c_p0, u32 w2c_p1, u64 w2c_p2, u32 w2c_p3, u
   w2c_j1 = 1016ull;
   w2c_j0 &= w2c_j1;
   w2c_l17 = w2c_j0;
-  w2c_j1 = 80840ull;
+  w2c_j1 = 80936ull;
   w2c_j0 += w2c_j1;
   w2c_i0 = (u32)(w2c_j0);
   w2c_i0 = i32_load_of_text(m, (u64)(w2c_i0));
@@ -84765,7 +84787,7 @@ static void w2c_f99(module *m, u64 w2c_p0, u32 w2c_p1, u64 w2c_p2, u32 w2c_p3, u
   w2c_j1 = 1016ull;
   w2c_j0 &= w2c_j1;
   w2c_l17 = w2c_j0;
-  w2c_j1 = 80840ull;
+  w2c_j1 = 80936ull;
   w2c_j0 += w2c_j1;
   w2c_i0 = (u32)(w2c_j0);
   w2c_i0 = i32_load_of_text(m, (u64)(w2c_i0));
@@ -84780,13 +84802,13 @@ static void w2c_f99(module *m, u64 w2c_p0, u32 w2c_p1, u64 w2c_p2, u32 w2c_p3, u
   w2c_l12 = w2c_j0;
   w2c_B71:;
   w2c_j0 = w2c_l17;
-  w2c_j1 = 80844ull;
+  w2c_j1 = 80940ull;
   w2c_j0 += w2c_j1;
   w2c_i0 = (u32)(w2c_j0);
   w2c_i0 = i32_load8_u(m, (u64)(w2c_i0));
   w2c_l20 = w2c_i0;
   w2c_j0 = w2c_l17;
-  w2c_j1 = 80845ull;
+  w2c_j1 = 80941ull;
   w2c_j0 += w2c_j1;
   w2c_i0 = (u32)(w2c_j0);
   w2c_i0 = i32_load8_u(m, (u64)(w2c_i0));
@@ -84860,7 +84882,7 @@ static void w2c_f99(module *m, u64 w2c_p0, u32 w2c_p1, u64 w2c_p2, u32 w2c_p3, u
   w2c_j1 = 1016ull;
   w2c_j0 &= w2c_j1;
   w2c_l17 = w2c_j0;
-  w2c_j1 = 80840ull;
+  w2c_j1 = 80936ull;
   w2c_j0 += w2c_j1;
   w2c_i0 = (u32)(w2c_j0);
   w2c_i0 = i32_load_of_text(m, (u64)(w2c_i0));
@@ -84868,13 +84890,13 @@ static void w2c_f99(module *m, u64 w2c_p0, u32 w2c_p1, u64 w2c_p2, u32 w2c_p3, u
   w2c_i0 = w2c_i0 != w2c_i1;
   if (w2c_i0) {goto w2c_B74;}
   w2c_j0 = w2c_l17;
-  w2c_j1 = 80844ull;
+  w2c_j1 = 80940ull;
   w2c_j0 += w2c_j1;
   w2c_i0 = (u32)(w2c_j0);
   w2c_i0 = i32_load8_u(m, (u64)(w2c_i0));
   w2c_l21 = w2c_i0;
   w2c_j0 = w2c_l17;
-  w2c_j1 = 80845ull;
+  w2c_j1 = 80941ull;
   w2c_j0 += w2c_j1;
   w2c_i0 = (u32)(w2c_j0);
   w2c_i0 = i32_load8_u(m, (u64)(w2c_i0));
@@ -84905,7 +84927,7 @@ static void w2c_f99(module *m, u64 w2c_p0, u32 w2c_p1, u64 w2c_p2, u32 w2c_p3, u
   w2c_j1 = 1016ull;
   w2c_j0 &= w2c_j1;
   w2c_l17 = w2c_j0;
-  w2c_j1 = 80840ull;
+  w2c_j1 = 80936ull;
   w2c_j0 += w2c_j1;
   w2c_i0 = (u32)(w2c_j0);
   w2c_i0 = i32_load_of_text(m, (u64)(w2c_i0));
@@ -84913,13 +84935,13 @@ static void w2c_f99(module *m, u64 w2c_p0, u32 w2c_p1, u64 w2c_p2, u32 w2c_p3, u
   w2c_i0 = w2c_i0 != w2c_i1;
   if (w2c_i0) {goto w2c_B74;}
   w2c_j0 = w2c_l17;
-  w2c_j1 = 80844ull;
+  w2c_j1 = 80940ull;
   w2c_j0 += w2c_j1;
   w2c_i0 = (u32)(w2c_j0);
   w2c_i0 = i32_load8_u(m, (u64)(w2c_i0));
   w2c_l21 = w2c_i0;
   w2c_j0 = w2c_l17;
-  w2c_j1 = 80845ull;
+  w2c_j1 = 80941ull;
   w2c_j0 += w2c_j1;
   w2c_i0 = (u32)(w2c_j0);
   w2c_i0 = i32_load8_u(m, (u64)(w2c_i0));
@@ -85138,7 +85160,7 @@ static void w2c_f99(module *m, u64 w2c_p0, u32 w2c_p1, u64 w2c_p2, u32 w2c_p3, u
   w2c_j2 = 1ull;
   w2c_j1 <<= (w2c_j2 & 63);
   w2c_j0 += w2c_j1;
-  w2c_j1 = 82236ull;
+  w2c_j1 = 82332ull;
   w2c_j0 += w2c_j1;
   w2c_i0 = (u32)(w2c_j0);
   w2c_j0 = i64_load16_u(m, (u64)(w2c_i0));
@@ -85151,14 +85173,14 @@ static void w2c_f99(module *m, u64 w2c_p0, u32 w2c_p1, u64 w2c_p2, u32 w2c_p3, u
   w2c_j2 = 4ull;
   w2c_j1 <<= (w2c_j2 & 63);
   w2c_l12 = w2c_j1;
-  w2c_j2 = 82368ull;
+  w2c_j2 = 82464ull;
   w2c_j1 += w2c_j2;
   w2c_i1 = (u32)(w2c_j1);
   w2c_j1 = i64_load(m, (u64)(w2c_i1));
   w2c_i0 = w2c_j0 < w2c_j1;
   w2c_j1 = w2c_l13;
   w2c_j2 = w2c_l12;
-  w2c_j3 = 82376ull;
+  w2c_j3 = 82472ull;
   w2c_j2 += w2c_j3;
   w2c_i2 = (u32)(w2c_j2);
   w2c_j2 = i64_load(m, (u64)(w2c_i2));
@@ -85695,7 +85717,7 @@ static u32 w2c_f101(module *m, u32 w2c_p0, u64 w2c_p1, u64 w2c_p2) {
   w2c_j0 = w2c_l3;
   w2c_j1 = w2c_p1;
   w2c_j2 = w2c_p2;
-  w2c_f83(m, w2c_j0, w2c_j1, w2c_j2);
+  w2c_f84(m, w2c_j0, w2c_j1, w2c_j2);
   w2c_j0 = w2c_l3;
   w2c_i0 = (u32)(w2c_j0);
   w2c_i0 = i32_load8_u(m, (u64)(w2c_i0));
@@ -85747,13 +85769,13 @@ static u32 w2c_f101(module *m, u32 w2c_p0, u64 w2c_p1, u64 w2c_p2) {
     w2c_j0 &= w2c_j1;
     w2c_l4 = w2c_j0;
     w2c_i0 = (u32)(w2c_j0);
-    w2c_i0 = i32_load_of_text(m, (u64)(w2c_i0) + 80840u);
+    w2c_i0 = i32_load_of_text(m, (u64)(w2c_i0) + 80936u);
     w2c_l6 = w2c_i0;
     w2c_i1 = w2c_l5;
     w2c_i0 = w2c_i0 != w2c_i1;
     if (w2c_i0) {goto w2c_B3;}
     w2c_j0 = w2c_l4;
-    w2c_j1 = 80844ull;
+    w2c_j1 = 80940ull;
     w2c_j0 += w2c_j1;
     w2c_i0 = (u32)(w2c_j0);
     w2c_i0 = i32_load8_u(m, (u64)(w2c_i0));
@@ -85763,7 +85785,7 @@ static u32 w2c_f101(module *m, u32 w2c_p0, u64 w2c_p1, u64 w2c_p2) {
     w2c_i0 = w2c_i0 != w2c_i1;
     if (w2c_i0) {goto w2c_B3;}
     w2c_j0 = w2c_l4;
-    w2c_j1 = 80845ull;
+    w2c_j1 = 80941ull;
     w2c_j0 += w2c_j1;
     w2c_i0 = (u32)(w2c_j0);
     w2c_i0 = i32_load8_u(m, (u64)(w2c_i0));
@@ -85794,7 +85816,7 @@ static u32 w2c_f101(module *m, u32 w2c_p0, u64 w2c_p1, u64 w2c_p2) {
     w2c_j0 = w2c_l3;
     w2c_j1 = w2c_p1;
     w2c_j2 = w2c_p2;
-    w2c_f83(m, w2c_j0, w2c_j1, w2c_j2);
+    w2c_f84(m, w2c_j0, w2c_j1, w2c_j2);
     w2c_j0 = w2c_l3;
     w2c_i0 = (u32)(w2c_j0);
     w2c_i0 = i32_load8_u(m, (u64)(w2c_i0));
@@ -85870,7 +85892,7 @@ static u32 w2c_f102(module *m, u64 w2c_p0, u32 w2c_p1, u64 w2c_p2, u64 w2c_p3) {
   w2c_j0 = w2c_l4;
   w2c_j1 = w2c_p2;
   w2c_j2 = w2c_p3;
-  w2c_f83(m, w2c_j0, w2c_j1, w2c_j2);
+  w2c_f84(m, w2c_j0, w2c_j1, w2c_j2);
   w2c_i0 = 1u;
   w2c_l7 = w2c_i0;
   w2c_j0 = w2c_l4;
@@ -85915,13 +85937,13 @@ static u32 w2c_f102(module *m, u64 w2c_p0, u32 w2c_p1, u64 w2c_p2, u64 w2c_p3) {
   w2c_j2 = 1016ull;
   w2c_j1 &= w2c_j2;
   w2c_p0 = w2c_j1;
-  w2c_j2 = 80845ull;
+  w2c_j2 = 80941ull;
   w2c_j1 += w2c_j2;
   w2c_i1 = (u32)(w2c_j1);
   w2c_i1 = i32_load8_u(m, (u64)(w2c_i1));
   w2c_j2 = w2c_p0;
   w2c_i2 = (u32)(w2c_j2);
-  w2c_i2 = i32_load_of_text(m, (u64)(w2c_i2) + 80840u);
+  w2c_i2 = i32_load_of_text(m, (u64)(w2c_i2) + 80936u);
   w2c_i3 = w2c_l7;
   w2c_i2 = w2c_i2 != w2c_i3;
   w2c_l7 = w2c_i2;
@@ -85929,7 +85951,7 @@ static u32 w2c_f102(module *m, u64 w2c_p0, u32 w2c_p1, u64 w2c_p2, u64 w2c_p3) {
   w2c_p1 = w2c_i0;
   w2c_i0 = w2c_l7;
   w2c_j1 = w2c_p0;
-  w2c_j2 = 80844ull;
+  w2c_j2 = 80940ull;
   w2c_j1 += w2c_j2;
   w2c_i1 = (u32)(w2c_j1);
   w2c_i1 = i32_load8_u(m, (u64)(w2c_i1));
@@ -86093,12 +86115,12 @@ static void w2c_f103(module *m, u64 w2c_p0, u64 w2c_p1, u64 w2c_p2, u64 w2c_p3) 
       w2c_j0 &= w2c_j1;
       w2c_l15 = w2c_j0;
       w2c_i0 = (u32)(w2c_j0);
-      w2c_i0 = i32_load_of_text(m, (u64)(w2c_i0) + 80840u);
+      w2c_i0 = i32_load_of_text(m, (u64)(w2c_i0) + 80936u);
       w2c_i1 = w2c_l16;
       w2c_i0 = w2c_i0 != w2c_i1;
       if (w2c_i0) {goto w2c_B15;}
       w2c_j0 = w2c_l15;
-      w2c_j1 = 80844ull;
+      w2c_j1 = 80940ull;
       w2c_j0 += w2c_j1;
       w2c_i0 = (u32)(w2c_j0);
       w2c_i0 = i32_load8_u(m, (u64)(w2c_i0));
@@ -86115,7 +86137,7 @@ static void w2c_f103(module *m, u64 w2c_p0, u64 w2c_p1, u64 w2c_p2, u64 w2c_p3) 
       w2c_j1 = 10ull;
       w2c_j0 *= w2c_j1;
       w2c_j1 = w2c_l15;
-      w2c_j2 = 80845ull;
+      w2c_j2 = 80941ull;
       w2c_j1 += w2c_j2;
       w2c_i1 = (u32)(w2c_j1);
       w2c_j1 = i64_load8_u(m, (u64)(w2c_i1));
@@ -86199,7 +86221,7 @@ static void w2c_f103(module *m, u64 w2c_p0, u64 w2c_p1, u64 w2c_p2, u64 w2c_p3) 
     w2c_j1 = 1016ull;
     w2c_j0 &= w2c_j1;
     w2c_l4 = w2c_j0;
-    w2c_j1 = 80840ull;
+    w2c_j1 = 80936ull;
     w2c_j0 += w2c_j1;
     w2c_i0 = (u32)(w2c_j0);
     w2c_i0 = i32_load_of_text(m, (u64)(w2c_i0));
@@ -86342,7 +86364,7 @@ static void w2c_f103(module *m, u64 w2c_p0, u64 w2c_p1, u64 w2c_p2, u64 w2c_p3) 
     w2c_j1 = 1016ull;
     w2c_j0 &= w2c_j1;
     w2c_l4 = w2c_j0;
-    w2c_j1 = 80840ull;
+    w2c_j1 = 80936ull;
     w2c_j0 += w2c_j1;
     w2c_i0 = (u32)(w2c_j0);
     w2c_i0 = i32_load_of_text(m, (u64)(w2c_i0));
@@ -86402,7 +86424,7 @@ static void w2c_f103(module *m, u64 w2c_p0, u64 w2c_p1, u64 w2c_p2, u64 w2c_p3) 
     goto w2c_B0;
     w2c_B10:;
     w2c_j0 = w2c_l4;
-    w2c_j1 = 80844ull;
+    w2c_j1 = 80940ull;
     w2c_j0 += w2c_j1;
     w2c_i0 = (u32)(w2c_j0);
     w2c_i0 = i32_load8_u(m, (u64)(w2c_i0));
@@ -86434,7 +86456,7 @@ static void w2c_f103(module *m, u64 w2c_p0, u64 w2c_p1, u64 w2c_p2, u64 w2c_p3) 
     goto w2c_B4;
     w2c_B8:;
     w2c_j0 = w2c_l4;
-    w2c_j1 = 80845ull;
+    w2c_j1 = 80941ull;
     w2c_j0 += w2c_j1;
     w2c_i0 = (u32)(w2c_j0);
     w2c_i0 = i32_load8_u(m, (u64)(w2c_i0));
@@ -86980,21 +87002,21 @@ static void w2c_f104(module *m, u64 w2c_p0, u64 w2c_p1, u64 w2c_p2) {
   w2c_j1 = 1016ull;
   w2c_j0 &= w2c_j1;
   w2c_l3 = w2c_j0;
-  w2c_j1 = 80845ull;
+  w2c_j1 = 80941ull;
   w2c_j0 += w2c_j1;
   w2c_i0 = (u32)(w2c_j0);
   w2c_i0 = i32_load8_u(m, (u64)(w2c_i0));
   w2c_i1 = 0u;
   w2c_j2 = w2c_l3;
   w2c_i2 = (u32)(w2c_j2);
-  w2c_i2 = i32_load_of_text(m, (u64)(w2c_i2) + 80840u);
+  w2c_i2 = i32_load_of_text(m, (u64)(w2c_i2) + 80936u);
   w2c_i3 = w2c_l5;
   w2c_i2 = w2c_i2 == w2c_i3;
   w2c_l6 = w2c_i2;
   w2c_i0 = w2c_i2 ? w2c_i0 : w2c_i1;
   w2c_l5 = w2c_i0;
   w2c_j0 = w2c_l3;
-  w2c_j1 = 80844ull;
+  w2c_j1 = 80940ull;
   w2c_j0 += w2c_j1;
   w2c_i0 = (u32)(w2c_j0);
   w2c_i0 = i32_load8_u(m, (u64)(w2c_i0));
@@ -87085,21 +87107,21 @@ static void w2c_f104(module *m, u64 w2c_p0, u64 w2c_p1, u64 w2c_p2) {
   w2c_j1 = 1016ull;
   w2c_j0 &= w2c_j1;
   w2c_l3 = w2c_j0;
-  w2c_j1 = 80845ull;
+  w2c_j1 = 80941ull;
   w2c_j0 += w2c_j1;
   w2c_i0 = (u32)(w2c_j0);
   w2c_i0 = i32_load8_u(m, (u64)(w2c_i0));
   w2c_i1 = 0u;
   w2c_j2 = w2c_l3;
   w2c_i2 = (u32)(w2c_j2);
-  w2c_i2 = i32_load_of_text(m, (u64)(w2c_i2) + 80840u);
+  w2c_i2 = i32_load_of_text(m, (u64)(w2c_i2) + 80936u);
   w2c_i3 = w2c_l5;
   w2c_i2 = w2c_i2 == w2c_i3;
   w2c_l6 = w2c_i2;
   w2c_i0 = w2c_i2 ? w2c_i0 : w2c_i1;
   w2c_l5 = w2c_i0;
   w2c_j0 = w2c_l3;
-  w2c_j1 = 80844ull;
+  w2c_j1 = 80940ull;
   w2c_j0 += w2c_j1;
   w2c_i0 = (u32)(w2c_j0);
   w2c_i0 = i32_load8_u(m, (u64)(w2c_i0));
@@ -87193,7 +87215,7 @@ static void w2c_f105(module *m, u64 w2c_p0, u32 w2c_p1, u64 w2c_p2, u32 w2c_p3, 
   w2c_j0 &= w2c_j1;
   w2c_j1 = 5ull;
   w2c_j0 <<= (w2c_j1 & 63);
-  w2c_j1 = 82236ull;
+  w2c_j1 = 82332ull;
   w2c_j0 += w2c_j1;
   w2c_l8 = w2c_j0;
   w2c_j0 = w2c_l6;
@@ -87247,7 +87269,7 @@ static void w2c_f105(module *m, u64 w2c_p0, u32 w2c_p1, u64 w2c_p2, u32 w2c_p3, 
     w2c_j1 = 1016ull;
     w2c_j0 &= w2c_j1;
     w2c_l11 = w2c_j0;
-    w2c_j1 = 80840ull;
+    w2c_j1 = 80936ull;
     w2c_j0 += w2c_j1;
     w2c_i0 = (u32)(w2c_j0);
     w2c_i0 = i32_load_of_text(m, (u64)(w2c_i0));
@@ -87282,7 +87304,7 @@ static void w2c_f105(module *m, u64 w2c_p0, u32 w2c_p1, u64 w2c_p2, u32 w2c_p3, 
     w2c_j1 = 1016ull;
     w2c_j0 &= w2c_j1;
     w2c_l11 = w2c_j0;
-    w2c_j1 = 80840ull;
+    w2c_j1 = 80936ull;
     w2c_j0 += w2c_j1;
     w2c_i0 = (u32)(w2c_j0);
     w2c_i0 = i32_load_of_text(m, (u64)(w2c_i0));
@@ -87297,13 +87319,13 @@ static void w2c_f105(module *m, u64 w2c_p0, u32 w2c_p1, u64 w2c_p2, u32 w2c_p3, 
     w2c_p5 = w2c_j0;
     w2c_B9:;
     w2c_j0 = w2c_l11;
-    w2c_j1 = 80844ull;
+    w2c_j1 = 80940ull;
     w2c_j0 += w2c_j1;
     w2c_i0 = (u32)(w2c_j0);
     w2c_i0 = i32_load8_u(m, (u64)(w2c_i0));
     w2c_l23 = w2c_i0;
     w2c_j0 = w2c_l11;
-    w2c_j1 = 80845ull;
+    w2c_j1 = 80941ull;
     w2c_j0 += w2c_j1;
     w2c_i0 = (u32)(w2c_j0);
     w2c_i0 = i32_load8_u(m, (u64)(w2c_i0));
@@ -87484,13 +87506,13 @@ static void w2c_f105(module *m, u64 w2c_p0, u32 w2c_p1, u64 w2c_p2, u32 w2c_p3, 
       w2c_j1 = 4ull;
       w2c_j0 <<= (w2c_j1 & 63);
       w2c_l18 = w2c_j0;
-      w2c_j1 = 82368ull;
+      w2c_j1 = 82464ull;
       w2c_j0 += w2c_j1;
       w2c_i0 = (u32)(w2c_j0);
       w2c_j0 = i64_load(m, (u64)(w2c_i0));
       w2c_l13 = w2c_j0;
       w2c_j0 = w2c_l18;
-      w2c_j1 = 82376ull;
+      w2c_j1 = 82472ull;
       w2c_j0 += w2c_j1;
       w2c_i0 = (u32)(w2c_j0);
       w2c_j0 = i64_load(m, (u64)(w2c_i0));
@@ -87863,18 +87885,18 @@ static void w2c_f105(module *m, u64 w2c_p0, u32 w2c_p1, u64 w2c_p2, u32 w2c_p3, 
     w2c_j0 &= w2c_j1;
     w2c_l11 = w2c_j0;
     w2c_i0 = (u32)(w2c_j0);
-    w2c_i0 = i32_load_of_text(m, (u64)(w2c_i0) + 80840u);
+    w2c_i0 = i32_load_of_text(m, (u64)(w2c_i0) + 80936u);
     w2c_i1 = w2c_p1;
     w2c_i0 = w2c_i0 != w2c_i1;
     if (w2c_i0) {goto w2c_B28;}
     w2c_j0 = w2c_l11;
-    w2c_j1 = 80845ull;
+    w2c_j1 = 80941ull;
     w2c_j0 += w2c_j1;
     w2c_i0 = (u32)(w2c_j0);
     w2c_i0 = i32_load8_u(m, (u64)(w2c_i0));
     w2c_p1 = w2c_i0;
     w2c_j0 = w2c_l11;
-    w2c_j1 = 80844ull;
+    w2c_j1 = 80940ull;
     w2c_j0 += w2c_j1;
     w2c_i0 = (u32)(w2c_j0);
     w2c_j0 = i64_load8_u(m, (u64)(w2c_i0));
@@ -87985,13 +88007,13 @@ static void w2c_f105(module *m, u64 w2c_p0, u32 w2c_p1, u64 w2c_p2, u32 w2c_p3, 
       w2c_j1 = 4ull;
       w2c_j0 <<= (w2c_j1 & 63);
       w2c_l18 = w2c_j0;
-      w2c_j1 = 82368ull;
+      w2c_j1 = 82464ull;
       w2c_j0 += w2c_j1;
       w2c_i0 = (u32)(w2c_j0);
       w2c_j0 = i64_load(m, (u64)(w2c_i0));
       w2c_l12 = w2c_j0;
       w2c_j0 = w2c_l18;
-      w2c_j1 = 82376ull;
+      w2c_j1 = 82472ull;
       w2c_j0 += w2c_j1;
       w2c_i0 = (u32)(w2c_j0);
       w2c_j0 = i64_load(m, (u64)(w2c_i0));
@@ -88339,7 +88361,7 @@ static void w2c_f106(module *m, u64 w2c_p0, u32 w2c_p1, u64 w2c_p2, u64 w2c_p3, 
   w2c_j2 = 1ull;
   w2c_j1 <<= (w2c_j2 & 63);
   w2c_j0 += w2c_j1;
-  w2c_j1 = 82236ull;
+  w2c_j1 = 82332ull;
   w2c_j0 += w2c_j1;
   w2c_i0 = (u32)(w2c_j0);
   w2c_j0 = i64_load16_u(m, (u64)(w2c_i0));
@@ -88352,14 +88374,14 @@ static void w2c_f106(module *m, u64 w2c_p0, u32 w2c_p1, u64 w2c_p2, u64 w2c_p3, 
   w2c_j2 = 4ull;
   w2c_j1 <<= (w2c_j2 & 63);
   w2c_l6 = w2c_j1;
-  w2c_j2 = 82376ull;
+  w2c_j2 = 82472ull;
   w2c_j1 += w2c_j2;
   w2c_i1 = (u32)(w2c_j1);
   w2c_j1 = i64_load(m, (u64)(w2c_i1));
   w2c_l8 = w2c_j1;
   w2c_j2 = w2c_l8;
   w2c_j3 = w2c_l6;
-  w2c_j4 = 82368ull;
+  w2c_j4 = 82464ull;
   w2c_j3 += w2c_j4;
   w2c_i3 = (u32)(w2c_j3);
   w2c_j3 = i64_load(m, (u64)(w2c_i3));
@@ -89115,7 +89137,7 @@ static void w2c_f107(module *m, u64 w2c_p0, u32 w2c_p1, u64 w2c_p2, u64 w2c_p3) 
     w2c_j1 = 8ull;
     w2c_j0 += w2c_j1;
     w2c_i1 = w2c_p1;
-    w2c_f46(m, w2c_j0, w2c_i1);
+    w2c_f47(m, w2c_j0, w2c_i1);
     w2c_j0 = w2c_l5;
     w2c_i0 = (u32)(w2c_j0);
     w2c_i0 = i32_load8_u(m, (u64)(w2c_i0) + 8u);
@@ -89902,8 +89924,8 @@ static void w2c_f108(module *m, u64 w2c_p0, u32 w2c_p1, u32 w2c_p2, u32 w2c_p3, 
   w2c_j1 &= w2c_j2;
   w2c_j2 = 5ull;
   w2c_j1 <<= (w2c_j2 & 63);
-  w2c_j2 = 83024ull;
-  w2c_j3 = 83008ull;
+  w2c_j2 = 83120ull;
+  w2c_j3 = 83104ull;
   w2c_i4 = w2c_l14;
   w2c_j2 = w2c_i4 ? w2c_j2 : w2c_j3;
   w2c_j1 += w2c_j2;
@@ -90159,8 +90181,8 @@ static void w2c_f108(module *m, u64 w2c_p0, u32 w2c_p1, u32 w2c_p2, u32 w2c_p3, 
   w2c_j1 &= w2c_j2;
   w2c_j2 = 5ull;
   w2c_j1 <<= (w2c_j2 & 63);
-  w2c_j2 = 83024ull;
-  w2c_j3 = 83008ull;
+  w2c_j2 = 83120ull;
+  w2c_j3 = 83104ull;
   w2c_i4 = w2c_p3;
   w2c_j2 = w2c_i4 ? w2c_j2 : w2c_j3;
   w2c_j1 += w2c_j2;
@@ -90314,7 +90336,7 @@ static void w2c_f109(module *m, u64 w2c_p0, u32 w2c_p1, u64 w2c_p2, u64 w2c_p3, 
   w2c_j0 &= w2c_j1;
   w2c_j1 = 5ull;
   w2c_j0 <<= (w2c_j1 & 63);
-  w2c_j1 = 82236ull;
+  w2c_j1 = 82332ull;
   w2c_j0 += w2c_j1;
   w2c_l8 = w2c_j0;
   w2c_j0 = w2c_l6;
@@ -90361,12 +90383,12 @@ static void w2c_f109(module *m, u64 w2c_p0, u32 w2c_p1, u64 w2c_p2, u64 w2c_p3, 
     w2c_j0 &= w2c_j1;
     w2c_l15 = w2c_j0;
     w2c_i0 = (u32)(w2c_j0);
-    w2c_i0 = i32_load_of_text(m, (u64)(w2c_i0) + 80840u);
+    w2c_i0 = i32_load_of_text(m, (u64)(w2c_i0) + 80936u);
     w2c_i1 = w2c_l18;
     w2c_i0 = w2c_i0 != w2c_i1;
     if (w2c_i0) {goto w2c_B1;}
     w2c_j0 = w2c_l15;
-    w2c_j1 = 80845ull;
+    w2c_j1 = 80941ull;
     w2c_j0 += w2c_j1;
     w2c_i0 = (u32)(w2c_j0);
     w2c_i0 = i32_load8_u(m, (u64)(w2c_i0));
@@ -90378,7 +90400,7 @@ static void w2c_f109(module *m, u64 w2c_p0, u32 w2c_p1, u64 w2c_p2, u64 w2c_p3, 
     w2c_i0 = 0u;
     w2c_l20 = w2c_i0;
     w2c_j0 = w2c_l15;
-    w2c_j1 = 80844ull;
+    w2c_j1 = 80940ull;
     w2c_j0 += w2c_j1;
     w2c_i0 = (u32)(w2c_j0);
     w2c_j0 = i64_load8_u(m, (u64)(w2c_i0));
@@ -90438,7 +90460,7 @@ static void w2c_f109(module *m, u64 w2c_p0, u32 w2c_p1, u64 w2c_p2, u64 w2c_p3, 
     w2c_j1 = 1016ull;
     w2c_j0 &= w2c_j1;
     w2c_l16 = w2c_j0;
-    w2c_j1 = 80840ull;
+    w2c_j1 = 80936ull;
     w2c_j0 += w2c_j1;
     w2c_i0 = (u32)(w2c_j0);
     w2c_i0 = i32_load_of_text(m, (u64)(w2c_i0));
@@ -90454,14 +90476,14 @@ static void w2c_f109(module *m, u64 w2c_p0, u32 w2c_p1, u64 w2c_p2, u64 w2c_p3, 
     w2c_i0 = w2c_l18;
     w2c_l20 = w2c_i0;
     w2c_j0 = w2c_l16;
-    w2c_j1 = 80845ull;
+    w2c_j1 = 80941ull;
     w2c_j0 += w2c_j1;
     w2c_i0 = (u32)(w2c_j0);
     w2c_i0 = i32_load8_u(m, (u64)(w2c_i0));
     w2c_l19 = w2c_i0;
     w2c_l18 = w2c_i0;
     w2c_j0 = w2c_l16;
-    w2c_j1 = 80844ull;
+    w2c_j1 = 80940ull;
     w2c_j0 += w2c_j1;
     w2c_i0 = (u32)(w2c_j0);
     w2c_j0 = i64_load8_u(m, (u64)(w2c_i0));
@@ -90480,7 +90502,7 @@ static void w2c_f109(module *m, u64 w2c_p0, u32 w2c_p1, u64 w2c_p2, u64 w2c_p3, 
     w2c_j1 = 3ull;
     w2c_j0 <<= (w2c_j1 & 63);
     w2c_i0 = (u32)(w2c_j0);
-    w2c_j0 = i64_load(m, (u64)(w2c_i0) + 83328u);
+    w2c_j0 = i64_load(m, (u64)(w2c_i0) + 83424u);
     w2c_i1 = w2c_l18;
     w2c_j1 = (u64)(w2c_i1);
     w2c_j2 = 255ull;
@@ -90521,12 +90543,12 @@ static void w2c_f109(module *m, u64 w2c_p0, u32 w2c_p1, u64 w2c_p2, u64 w2c_p3, 
       w2c_j0 &= w2c_j1;
       w2c_l16 = w2c_j0;
       w2c_i0 = (u32)(w2c_j0);
-      w2c_i0 = i32_load_of_text(m, (u64)(w2c_i0) + 80840u);
+      w2c_i0 = i32_load_of_text(m, (u64)(w2c_i0) + 80936u);
       w2c_i1 = w2c_l18;
       w2c_i0 = w2c_i0 != w2c_i1;
       if (w2c_i0) {goto w2c_B1;}
       w2c_j0 = w2c_l16;
-      w2c_j1 = 80845ull;
+      w2c_j1 = 80941ull;
       w2c_j0 += w2c_j1;
       w2c_i0 = (u32)(w2c_j0);
       w2c_i0 = i32_load8_u(m, (u64)(w2c_i0));
@@ -90536,7 +90558,7 @@ static void w2c_f109(module *m, u64 w2c_p0, u32 w2c_p1, u64 w2c_p2, u64 w2c_p3, 
       w2c_j0 += w2c_j1;
       w2c_l12 = w2c_j0;
       w2c_j0 = w2c_l16;
-      w2c_j1 = 80844ull;
+      w2c_j1 = 80940ull;
       w2c_j0 += w2c_j1;
       w2c_i0 = (u32)(w2c_j0);
       w2c_j0 = i64_load8_u(m, (u64)(w2c_i0));
@@ -90598,7 +90620,7 @@ static void w2c_f109(module *m, u64 w2c_p0, u32 w2c_p1, u64 w2c_p2, u64 w2c_p3, 
       w2c_j1 = 1016ull;
       w2c_j0 &= w2c_j1;
       w2c_l12 = w2c_j0;
-      w2c_j1 = 80840ull;
+      w2c_j1 = 80936ull;
       w2c_j0 += w2c_j1;
       w2c_i0 = (u32)(w2c_j0);
       w2c_i0 = i32_load_of_text(m, (u64)(w2c_i0));
@@ -90610,13 +90632,13 @@ static void w2c_f109(module *m, u64 w2c_p0, u32 w2c_p1, u64 w2c_p2, u64 w2c_p3, 
       w2c_j0 += w2c_j1;
       w2c_l5 = w2c_j0;
       w2c_j0 = w2c_l12;
-      w2c_j1 = 80845ull;
+      w2c_j1 = 80941ull;
       w2c_j0 += w2c_j1;
       w2c_i0 = (u32)(w2c_j0);
       w2c_i0 = i32_load8_u(m, (u64)(w2c_i0));
       w2c_l19 = w2c_i0;
       w2c_j0 = w2c_l12;
-      w2c_j1 = 80844ull;
+      w2c_j1 = 80940ull;
       w2c_j0 += w2c_j1;
       w2c_i0 = (u32)(w2c_j0);
       w2c_i0 = i32_load8_u(m, (u64)(w2c_i0));
@@ -90652,7 +90674,7 @@ static void w2c_f109(module *m, u64 w2c_p0, u32 w2c_p1, u64 w2c_p2, u64 w2c_p3, 
       w2c_j2 = 3ull;
       w2c_j1 <<= (w2c_j2 & 63);
       w2c_i1 = (u32)(w2c_j1);
-      w2c_j1 = i64_load(m, (u64)(w2c_i1) + 83328u);
+      w2c_j1 = i64_load(m, (u64)(w2c_i1) + 83424u);
       w2c_i2 = w2c_l18;
       w2c_j2 = (u64)(w2c_i2);
       w2c_j3 = 255ull;
@@ -90728,13 +90750,13 @@ static void w2c_f109(module *m, u64 w2c_p0, u32 w2c_p1, u64 w2c_p2, u64 w2c_p3, 
     w2c_j1 = 4ull;
     w2c_j0 <<= (w2c_j1 & 63);
     w2c_l16 = w2c_j0;
-    w2c_j1 = 82376ull;
+    w2c_j1 = 82472ull;
     w2c_j0 += w2c_j1;
     w2c_i0 = (u32)(w2c_j0);
     w2c_j0 = i64_load(m, (u64)(w2c_i0));
     w2c_l17 = w2c_j0;
     w2c_j0 = w2c_l16;
-    w2c_j1 = 82368ull;
+    w2c_j1 = 82464ull;
     w2c_j0 += w2c_j1;
     w2c_i0 = (u32)(w2c_j0);
     w2c_j0 = i64_load(m, (u64)(w2c_i0));
@@ -91039,12 +91061,12 @@ static void w2c_f109(module *m, u64 w2c_p0, u32 w2c_p1, u64 w2c_p2, u64 w2c_p3, 
   w2c_j0 &= w2c_j1;
   w2c_l5 = w2c_j0;
   w2c_i0 = (u32)(w2c_j0);
-  w2c_i0 = i32_load_of_text(m, (u64)(w2c_i0) + 80840u);
+  w2c_i0 = i32_load_of_text(m, (u64)(w2c_i0) + 80936u);
   w2c_i1 = w2c_l18;
   w2c_i0 = w2c_i0 != w2c_i1;
   if (w2c_i0) {goto w2c_B1;}
   w2c_j0 = w2c_l5;
-  w2c_j1 = 80845ull;
+  w2c_j1 = 80941ull;
   w2c_j0 += w2c_j1;
   w2c_i0 = (u32)(w2c_j0);
   w2c_i0 = i32_load8_u(m, (u64)(w2c_i0));
@@ -91056,7 +91078,7 @@ static void w2c_f109(module *m, u64 w2c_p0, u32 w2c_p1, u64 w2c_p2, u64 w2c_p3, 
   w2c_i0 = 0u;
   w2c_l20 = w2c_i0;
   w2c_j0 = w2c_l5;
-  w2c_j1 = 80844ull;
+  w2c_j1 = 80940ull;
   w2c_j0 += w2c_j1;
   w2c_i0 = (u32)(w2c_j0);
   w2c_j0 = i64_load8_u(m, (u64)(w2c_i0));
@@ -91107,7 +91129,7 @@ static void w2c_f109(module *m, u64 w2c_p0, u32 w2c_p1, u64 w2c_p2, u64 w2c_p3, 
   w2c_j1 = 1016ull;
   w2c_j0 &= w2c_j1;
   w2c_l5 = w2c_j0;
-  w2c_j1 = 80840ull;
+  w2c_j1 = 80936ull;
   w2c_j0 += w2c_j1;
   w2c_i0 = (u32)(w2c_j0);
   w2c_i0 = i32_load_of_text(m, (u64)(w2c_i0));
@@ -91115,7 +91137,7 @@ static void w2c_f109(module *m, u64 w2c_p0, u32 w2c_p1, u64 w2c_p2, u64 w2c_p3, 
   w2c_i0 = w2c_i0 != w2c_i1;
   if (w2c_i0) {goto w2c_B1;}
   w2c_j0 = w2c_l5;
-  w2c_j1 = 80844ull;
+  w2c_j1 = 80940ull;
   w2c_j0 += w2c_j1;
   w2c_i0 = (u32)(w2c_j0);
   w2c_i0 = i32_load8_u(m, (u64)(w2c_i0));
@@ -91127,7 +91149,7 @@ static void w2c_f109(module *m, u64 w2c_p0, u32 w2c_p1, u64 w2c_p2, u64 w2c_p3, 
   w2c_i0 = w2c_l18;
   w2c_l20 = w2c_i0;
   w2c_j0 = w2c_l5;
-  w2c_j1 = 80845ull;
+  w2c_j1 = 80941ull;
   w2c_j0 += w2c_j1;
   w2c_i0 = (u32)(w2c_j0);
   w2c_i0 = i32_load8_u(m, (u64)(w2c_i0));
@@ -91140,7 +91162,7 @@ static void w2c_f109(module *m, u64 w2c_p0, u32 w2c_p1, u64 w2c_p2, u64 w2c_p3, 
   w2c_j1 = 3ull;
   w2c_j0 <<= (w2c_j1 & 63);
   w2c_i0 = (u32)(w2c_j0);
-  w2c_j0 = i64_load(m, (u64)(w2c_i0) + 83328u);
+  w2c_j0 = i64_load(m, (u64)(w2c_i0) + 83424u);
   w2c_i1 = w2c_l18;
   w2c_j1 = (u64)(w2c_i1);
   w2c_j2 = 255ull;
@@ -91183,12 +91205,12 @@ static void w2c_f109(module *m, u64 w2c_p0, u32 w2c_p1, u64 w2c_p2, u64 w2c_p3, 
     w2c_j0 &= w2c_j1;
     w2c_l5 = w2c_j0;
     w2c_i0 = (u32)(w2c_j0);
-    w2c_i0 = i32_load_of_text(m, (u64)(w2c_i0) + 80840u);
+    w2c_i0 = i32_load_of_text(m, (u64)(w2c_i0) + 80936u);
     w2c_i1 = w2c_l18;
     w2c_i0 = w2c_i0 != w2c_i1;
     if (w2c_i0) {goto w2c_B1;}
     w2c_j0 = w2c_l5;
-    w2c_j1 = 80845ull;
+    w2c_j1 = 80941ull;
     w2c_j0 += w2c_j1;
     w2c_i0 = (u32)(w2c_j0);
     w2c_i0 = i32_load8_u(m, (u64)(w2c_i0));
@@ -91198,7 +91220,7 @@ static void w2c_f109(module *m, u64 w2c_p0, u32 w2c_p1, u64 w2c_p2, u64 w2c_p3, 
     w2c_j0 += w2c_j1;
     w2c_l15 = w2c_j0;
     w2c_j0 = w2c_l5;
-    w2c_j1 = 80844ull;
+    w2c_j1 = 80940ull;
     w2c_j0 += w2c_j1;
     w2c_i0 = (u32)(w2c_j0);
     w2c_j0 = i64_load8_u(m, (u64)(w2c_i0));
@@ -91259,7 +91281,7 @@ static void w2c_f109(module *m, u64 w2c_p0, u32 w2c_p1, u64 w2c_p2, u64 w2c_p3, 
     w2c_j1 = 1016ull;
     w2c_j0 &= w2c_j1;
     w2c_l5 = w2c_j0;
-    w2c_j1 = 80840ull;
+    w2c_j1 = 80936ull;
     w2c_j0 += w2c_j1;
     w2c_i0 = (u32)(w2c_j0);
     w2c_i0 = i32_load_of_text(m, (u64)(w2c_i0));
@@ -91267,7 +91289,7 @@ static void w2c_f109(module *m, u64 w2c_p0, u32 w2c_p1, u64 w2c_p2, u64 w2c_p3, 
     w2c_i0 = w2c_i0 != w2c_i1;
     if (w2c_i0) {goto w2c_B1;}
     w2c_j0 = w2c_l5;
-    w2c_j1 = 80844ull;
+    w2c_j1 = 80940ull;
     w2c_j0 += w2c_j1;
     w2c_i0 = (u32)(w2c_j0);
     w2c_i0 = i32_load8_u(m, (u64)(w2c_i0));
@@ -91279,7 +91301,7 @@ static void w2c_f109(module *m, u64 w2c_p0, u32 w2c_p1, u64 w2c_p2, u64 w2c_p3, 
     w2c_i0 = w2c_l18;
     w2c_l20 = w2c_i0;
     w2c_j0 = w2c_l5;
-    w2c_j1 = 80845ull;
+    w2c_j1 = 80941ull;
     w2c_j0 += w2c_j1;
     w2c_i0 = (u32)(w2c_j0);
     w2c_i0 = i32_load8_u(m, (u64)(w2c_i0));
@@ -91301,7 +91323,7 @@ static void w2c_f109(module *m, u64 w2c_p0, u32 w2c_p1, u64 w2c_p2, u64 w2c_p3, 
     w2c_j2 = 3ull;
     w2c_j1 <<= (w2c_j2 & 63);
     w2c_i1 = (u32)(w2c_j1);
-    w2c_j1 = i64_load(m, (u64)(w2c_i1) + 83328u);
+    w2c_j1 = i64_load(m, (u64)(w2c_i1) + 83424u);
     w2c_i2 = w2c_l18;
     w2c_j2 = (u64)(w2c_i2);
     w2c_j3 = 255ull;
@@ -91345,18 +91367,18 @@ static void w2c_f109(module *m, u64 w2c_p0, u32 w2c_p1, u64 w2c_p2, u64 w2c_p3, 
   w2c_j0 &= w2c_j1;
   w2c_l5 = w2c_j0;
   w2c_i0 = (u32)(w2c_j0);
-  w2c_i0 = i32_load_of_text(m, (u64)(w2c_i0) + 80840u);
+  w2c_i0 = i32_load_of_text(m, (u64)(w2c_i0) + 80936u);
   w2c_i1 = w2c_l20;
   w2c_i0 = w2c_i0 != w2c_i1;
   if (w2c_i0) {goto w2c_B1;}
   w2c_j0 = w2c_l5;
-  w2c_j1 = 80845ull;
+  w2c_j1 = 80941ull;
   w2c_j0 += w2c_j1;
   w2c_i0 = (u32)(w2c_j0);
   w2c_i0 = i32_load8_u(m, (u64)(w2c_i0));
   w2c_l20 = w2c_i0;
   w2c_j0 = w2c_l5;
-  w2c_j1 = 80844ull;
+  w2c_j1 = 80940ull;
   w2c_j0 += w2c_j1;
   w2c_i0 = (u32)(w2c_j0);
   w2c_j0 = i64_load8_u(m, (u64)(w2c_i0));
@@ -91403,7 +91425,7 @@ static void w2c_f109(module *m, u64 w2c_p0, u32 w2c_p1, u64 w2c_p2, u64 w2c_p3, 
   w2c_j2 = 3ull;
   w2c_j1 <<= (w2c_j2 & 63);
   w2c_i1 = (u32)(w2c_j1);
-  w2c_j1 = i64_load(m, (u64)(w2c_i1) + 83328u);
+  w2c_j1 = i64_load(m, (u64)(w2c_i1) + 83424u);
   w2c_j2 = w2c_l5;
   w2c_j1 *= w2c_j2;
   w2c_l5 = w2c_j1;
@@ -91447,13 +91469,13 @@ static void w2c_f109(module *m, u64 w2c_p0, u32 w2c_p1, u64 w2c_p2, u64 w2c_p3, 
   w2c_j1 = 4ull;
   w2c_j0 <<= (w2c_j1 & 63);
   w2c_l15 = w2c_j0;
-  w2c_j1 = 82376ull;
+  w2c_j1 = 82472ull;
   w2c_j0 += w2c_j1;
   w2c_i0 = (u32)(w2c_j0);
   w2c_j0 = i64_load(m, (u64)(w2c_i0));
   w2c_l16 = w2c_j0;
   w2c_j0 = w2c_l15;
-  w2c_j1 = 82368ull;
+  w2c_j1 = 82464ull;
   w2c_j0 += w2c_j1;
   w2c_i0 = (u32)(w2c_j0);
   w2c_j0 = i64_load(m, (u64)(w2c_i0));
@@ -91993,7 +92015,7 @@ static void w2c_f109(module *m, u64 w2c_p0, u32 w2c_p1, u64 w2c_p2, u64 w2c_p3, 
   w2c_j1 = 1016ull;
   w2c_j0 &= w2c_j1;
   w2c_l15 = w2c_j0;
-  w2c_j1 = 80840ull;
+  w2c_j1 = 80936ull;
   w2c_j0 += w2c_j1;
   w2c_i0 = (u32)(w2c_j0);
   w2c_i0 = i32_load_of_text(m, (u64)(w2c_i0));
@@ -92030,7 +92052,7 @@ static void w2c_f109(module *m, u64 w2c_p0, u32 w2c_p1, u64 w2c_p2, u64 w2c_p3, 
   w2c_j1 = 1016ull;
   w2c_j0 &= w2c_j1;
   w2c_l15 = w2c_j0;
-  w2c_j1 = 80840ull;
+  w2c_j1 = 80936ull;
   w2c_j0 += w2c_j1;
   w2c_i0 = (u32)(w2c_j0);
   w2c_i0 = i32_load_of_text(m, (u64)(w2c_i0));
@@ -92045,13 +92067,13 @@ static void w2c_f109(module *m, u64 w2c_p0, u32 w2c_p1, u64 w2c_p2, u64 w2c_p3, 
   w2c_p4 = w2c_j0;
   w2c_B75:;
   w2c_j0 = w2c_l15;
-  w2c_j1 = 80844ull;
+  w2c_j1 = 80940ull;
   w2c_j0 += w2c_j1;
   w2c_i0 = (u32)(w2c_j0);
   w2c_i0 = i32_load8_u(m, (u64)(w2c_i0));
   w2c_l22 = w2c_i0;
   w2c_j0 = w2c_l15;
-  w2c_j1 = 80845ull;
+  w2c_j1 = 80941ull;
   w2c_j0 += w2c_j1;
   w2c_i0 = (u32)(w2c_j0);
   w2c_i0 = i32_load8_u(m, (u64)(w2c_i0));
@@ -92125,7 +92147,7 @@ static void w2c_f109(module *m, u64 w2c_p0, u32 w2c_p1, u64 w2c_p2, u64 w2c_p3, 
   w2c_j1 = 1016ull;
   w2c_j0 &= w2c_j1;
   w2c_l15 = w2c_j0;
-  w2c_j1 = 80840ull;
+  w2c_j1 = 80936ull;
   w2c_j0 += w2c_j1;
   w2c_i0 = (u32)(w2c_j0);
   w2c_i0 = i32_load_of_text(m, (u64)(w2c_i0));
@@ -92133,13 +92155,13 @@ static void w2c_f109(module *m, u64 w2c_p0, u32 w2c_p1, u64 w2c_p2, u64 w2c_p3, 
   w2c_i0 = w2c_i0 != w2c_i1;
   if (w2c_i0) {goto w2c_B78;}
   w2c_j0 = w2c_l15;
-  w2c_j1 = 80844ull;
+  w2c_j1 = 80940ull;
   w2c_j0 += w2c_j1;
   w2c_i0 = (u32)(w2c_j0);
   w2c_i0 = i32_load8_u(m, (u64)(w2c_i0));
   w2c_l19 = w2c_i0;
   w2c_j0 = w2c_l15;
-  w2c_j1 = 80845ull;
+  w2c_j1 = 80941ull;
   w2c_j0 += w2c_j1;
   w2c_i0 = (u32)(w2c_j0);
   w2c_i0 = i32_load8_u(m, (u64)(w2c_i0));
@@ -92170,7 +92192,7 @@ static void w2c_f109(module *m, u64 w2c_p0, u32 w2c_p1, u64 w2c_p2, u64 w2c_p3, 
   w2c_j1 = 1016ull;
   w2c_j0 &= w2c_j1;
   w2c_l15 = w2c_j0;
-  w2c_j1 = 80840ull;
+  w2c_j1 = 80936ull;
   w2c_j0 += w2c_j1;
   w2c_i0 = (u32)(w2c_j0);
   w2c_i0 = i32_load_of_text(m, (u64)(w2c_i0));
@@ -92178,13 +92200,13 @@ static void w2c_f109(module *m, u64 w2c_p0, u32 w2c_p1, u64 w2c_p2, u64 w2c_p3, 
   w2c_i0 = w2c_i0 != w2c_i1;
   if (w2c_i0) {goto w2c_B78;}
   w2c_j0 = w2c_l15;
-  w2c_j1 = 80844ull;
+  w2c_j1 = 80940ull;
   w2c_j0 += w2c_j1;
   w2c_i0 = (u32)(w2c_j0);
   w2c_i0 = i32_load8_u(m, (u64)(w2c_i0));
   w2c_l19 = w2c_i0;
   w2c_j0 = w2c_l15;
-  w2c_j1 = 80845ull;
+  w2c_j1 = 80941ull;
   w2c_j0 += w2c_j1;
   w2c_i0 = (u32)(w2c_j0);
   w2c_i0 = i32_load8_u(m, (u64)(w2c_i0));
@@ -93243,21 +93265,21 @@ static void w2c_f111(module *m, u64 w2c_p0, u64 w2c_p1, u64 w2c_p2) {
   w2c_j1 = 1016ull;
   w2c_j0 &= w2c_j1;
   w2c_p2 = w2c_j0;
-  w2c_j1 = 80845ull;
+  w2c_j1 = 80941ull;
   w2c_j0 += w2c_j1;
   w2c_i0 = (u32)(w2c_j0);
   w2c_i0 = i32_load8_u(m, (u64)(w2c_i0));
   w2c_i1 = 0u;
   w2c_j2 = w2c_p2;
   w2c_i2 = (u32)(w2c_j2);
-  w2c_i2 = i32_load_of_text(m, (u64)(w2c_i2) + 80840u);
+  w2c_i2 = i32_load_of_text(m, (u64)(w2c_i2) + 80936u);
   w2c_i3 = w2c_l3;
   w2c_i2 = w2c_i2 == w2c_i3;
   w2c_l4 = w2c_i2;
   w2c_i0 = w2c_i2 ? w2c_i0 : w2c_i1;
   w2c_l3 = w2c_i0;
   w2c_j0 = w2c_p2;
-  w2c_j1 = 80844ull;
+  w2c_j1 = 80940ull;
   w2c_j0 += w2c_j1;
   w2c_i0 = (u32)(w2c_j0);
   w2c_i0 = i32_load8_u(m, (u64)(w2c_i0));
@@ -94015,8 +94037,8 @@ static u32 w2c_f112(module *m, u64 w2c_p0, u64 w2c_p1, u32 w2c_p2, u32 w2c_p3, u
   w2c_j1 &= w2c_j2;
   w2c_j2 = 5ull;
   w2c_j1 <<= (w2c_j2 & 63);
-  w2c_j2 = 83024ull;
-  w2c_j3 = 83008ull;
+  w2c_j2 = 83120ull;
+  w2c_j3 = 83104ull;
   w2c_i4 = w2c_l13;
   w2c_j2 = w2c_i4 ? w2c_j2 : w2c_j3;
   w2c_j1 += w2c_j2;
@@ -94278,8 +94300,8 @@ static u32 w2c_f112(module *m, u64 w2c_p0, u64 w2c_p1, u32 w2c_p2, u32 w2c_p3, u
   w2c_j1 &= w2c_j2;
   w2c_j2 = 5ull;
   w2c_j1 <<= (w2c_j2 & 63);
-  w2c_j2 = 83024ull;
-  w2c_j3 = 83008ull;
+  w2c_j2 = 83120ull;
+  w2c_j3 = 83104ull;
   w2c_i4 = w2c_p4;
   w2c_j2 = w2c_i4 ? w2c_j2 : w2c_j3;
   w2c_j1 += w2c_j2;
@@ -94625,12 +94647,12 @@ static u32 w2c_f113(module *m, u64 w2c_p0, u64 w2c_p1, u32 w2c_p2, u32 w2c_p3, u
   w2c_j0 <<= (w2c_j1 & 63);
   w2c_l6 = w2c_j0;
   w2c_i0 = (u32)(w2c_j0);
-  w2c_j0 = i64_load(m, (u64)(w2c_i0) + 83008u);
+  w2c_j0 = i64_load(m, (u64)(w2c_i0) + 83104u);
   w2c_j1 = w2c_l8;
   w2c_i0 = w2c_j0 >= w2c_j1;
   w2c_j1 = w2c_l6;
   w2c_i1 = (u32)(w2c_j1);
-  w2c_j1 = i64_load(m, (u64)(w2c_i1) + 83016u);
+  w2c_j1 = i64_load(m, (u64)(w2c_i1) + 83112u);
   w2c_p1 = w2c_j1;
   w2c_j2 = w2c_l7;
   w2c_i2 = (u32)(w2c_j2);
@@ -95786,12 +95808,12 @@ static u32 w2c_f115(module *m, u64 w2c_p0, u64 w2c_p1) {
   w2c_j0 &= w2c_j1;
   w2c_l5 = w2c_j0;
   w2c_i0 = (u32)(w2c_j0);
-  w2c_i0 = i32_load_of_text(m, (u64)(w2c_i0) + 80840u);
+  w2c_i0 = i32_load_of_text(m, (u64)(w2c_i0) + 80936u);
   w2c_i1 = w2c_l8;
   w2c_i0 = w2c_i0 != w2c_i1;
   if (w2c_i0) {goto w2c_B54;}
   w2c_j0 = w2c_l5;
-  w2c_j1 = 80844ull;
+  w2c_j1 = 80940ull;
   w2c_j0 += w2c_j1;
   w2c_i0 = (u32)(w2c_j0);
   w2c_i0 = i32_load8_u(m, (u64)(w2c_i0));
@@ -95831,7 +95853,7 @@ static u32 w2c_f115(module *m, u64 w2c_p0, u64 w2c_p1) {
   w2c_j0 += w2c_j1;
   w2c_j1 = w2c_l3;
   w2c_j2 = w2c_p0;
-  w2c_f59(m, w2c_j0, w2c_j1, w2c_j2);
+  w2c_f60(m, w2c_j0, w2c_j1, w2c_j2);
   w2c_j0 = w2c_p1;
   w2c_i0 = !(w2c_j0);
   w2c_i0 = !(w2c_i0);
@@ -96917,12 +96939,12 @@ static u32 w2c_f119(module *m, u64 w2c_p0, u64 w2c_p1) {
   w2c_j0 &= w2c_j1;
   w2c_p0 = w2c_j0;
   w2c_i0 = (u32)(w2c_j0);
-  w2c_i0 = i32_load_of_text(m, (u64)(w2c_i0) + 80840u);
+  w2c_i0 = i32_load_of_text(m, (u64)(w2c_i0) + 80936u);
   w2c_i1 = w2c_l16;
   w2c_i0 = w2c_i0 != w2c_i1;
   if (w2c_i0) {goto w2c_B11;}
   w2c_j0 = w2c_p0;
-  w2c_j1 = 80844ull;
+  w2c_j1 = 80940ull;
   w2c_j0 += w2c_j1;
   w2c_i0 = (u32)(w2c_j0);
   w2c_i0 = i32_load8_u(m, (u64)(w2c_i0));
@@ -96958,7 +96980,7 @@ static u32 w2c_f119(module *m, u64 w2c_p0, u64 w2c_p1) {
   w2c_j0 += w2c_j1;
   w2c_j1 = w2c_l6;
   w2c_j2 = w2c_l5;
-  w2c_f59(m, w2c_j0, w2c_j1, w2c_j2);
+  w2c_f60(m, w2c_j0, w2c_j1, w2c_j2);
   w2c_j0 = w2c_l2;
   w2c_i0 = (u32)(w2c_j0);
   w2c_i0 = i32_load8_u(m, (u64)(w2c_i0) + 128u);
@@ -97052,7 +97074,7 @@ static u32 w2c_f119(module *m, u64 w2c_p0, u64 w2c_p1) {
   w2c_j1 = 1016ull;
   w2c_j0 &= w2c_j1;
   w2c_p0 = w2c_j0;
-  w2c_j1 = 80840ull;
+  w2c_j1 = 80936ull;
   w2c_j0 += w2c_j1;
   w2c_i0 = (u32)(w2c_j0);
   w2c_i0 = i32_load_of_text(m, (u64)(w2c_i0));
@@ -97214,7 +97236,7 @@ static u32 w2c_f119(module *m, u64 w2c_p0, u64 w2c_p1) {
   w2c_j1 = 1016ull;
   w2c_j0 &= w2c_j1;
   w2c_p0 = w2c_j0;
-  w2c_j1 = 80840ull;
+  w2c_j1 = 80936ull;
   w2c_j0 += w2c_j1;
   w2c_i0 = (u32)(w2c_j0);
   w2c_i0 = i32_load_of_text(m, (u64)(w2c_i0));
@@ -97223,7 +97245,7 @@ static u32 w2c_f119(module *m, u64 w2c_p0, u64 w2c_p1) {
   if (w2c_i0) {goto w2c_B4;}
   w2c_B14:;
   w2c_j0 = w2c_p0;
-  w2c_j1 = 80844ull;
+  w2c_j1 = 80940ull;
   w2c_j0 += w2c_j1;
   w2c_i0 = (u32)(w2c_j0);
   w2c_i0 = i32_load8_u(m, (u64)(w2c_i0));
@@ -97450,7 +97472,7 @@ static u32 w2c_f119(module *m, u64 w2c_p0, u64 w2c_p1) {
   w2c_j2 = 1016ull;
   w2c_j1 &= w2c_j2;
   w2c_l9 = w2c_j1;
-  w2c_j2 = 80840ull;
+  w2c_j2 = 80936ull;
   w2c_j1 += w2c_j2;
   w2c_i1 = (u32)(w2c_j1);
   w2c_i1 = i32_load_of_text(m, (u64)(w2c_i1));
@@ -97589,7 +97611,7 @@ static u32 w2c_f119(module *m, u64 w2c_p0, u64 w2c_p1) {
   w2c_j1 = 1016ull;
   w2c_j0 &= w2c_j1;
   w2c_l9 = w2c_j0;
-  w2c_j1 = 80840ull;
+  w2c_j1 = 80936ull;
   w2c_j0 += w2c_j1;
   w2c_i0 = (u32)(w2c_j0);
   w2c_i0 = i32_load_of_text(m, (u64)(w2c_i0));
@@ -97609,7 +97631,7 @@ static u32 w2c_f119(module *m, u64 w2c_p0, u64 w2c_p1) {
   goto w2c_B29;
   w2c_B33:;
   w2c_j0 = w2c_l9;
-  w2c_j1 = 80844ull;
+  w2c_j1 = 80940ull;
   w2c_j0 += w2c_j1;
   w2c_i0 = (u32)(w2c_j0);
   w2c_i0 = i32_load8_u(m, (u64)(w2c_i0));
@@ -97871,7 +97893,7 @@ static u32 w2c_f119(module *m, u64 w2c_p0, u64 w2c_p1) {
   if (w2c_i0) {goto w2c_B55;}
   w2c_j0 = w2c_l6;
   w2c_j1 = w2c_l5;
-  w2c_i0 = w2c_f61(m, w2c_j0, w2c_j1);
+  w2c_i0 = w2c_f62(m, w2c_j0, w2c_j1);
   w2c_i1 = w2c_l16;
   w2c_i0 |= w2c_i1;
   w2c_i1 = 1u;
@@ -97891,7 +97913,7 @@ static u32 w2c_f119(module *m, u64 w2c_p0, u64 w2c_p1) {
   w2c_B54:;
   w2c_j0 = w2c_l6;
   w2c_j1 = w2c_l5;
-  w2c_i0 = w2c_f62(m, w2c_j0, w2c_j1);
+  w2c_i0 = w2c_f63(m, w2c_j0, w2c_j1);
   w2c_i0 = !(w2c_i0);
   if (w2c_i0) {goto w2c_B1;}
   w2c_i0 = 0u;
@@ -97907,7 +97929,7 @@ static u32 w2c_f119(module *m, u64 w2c_p0, u64 w2c_p1) {
   w2c_j4 = w2c_l5;
   w2c_j5 = w2c_l4;
   w2c_j6 = w2c_l3;
-  w2c_f65(m, w2c_j0, w2c_j1, w2c_j2, w2c_j3, w2c_j4, w2c_j5, w2c_j6);
+  w2c_f66(m, w2c_j0, w2c_j1, w2c_j2, w2c_j3, w2c_j4, w2c_j5, w2c_j6);
   w2c_j0 = w2c_l2;
   w2c_i0 = (u32)(w2c_j0);
   w2c_i0 = i32_load8_u(m, (u64)(w2c_i0) + 72u);
@@ -99451,7 +99473,7 @@ static u32 w2c_f119(module *m, u64 w2c_p0, u64 w2c_p1) {
   w2c_j1 = w2c_l6;
   w2c_j2 = w2c_l5;
   w2c_i3 = w2c_l14;
-  w2c_f79(m, w2c_j0, w2c_j1, w2c_j2, w2c_i3);
+  w2c_f80(m, w2c_j0, w2c_j1, w2c_j2, w2c_i3);
   w2c_j0 = w2c_l2;
   w2c_i0 = (u32)(w2c_j0);
   w2c_i0 = i32_load8_u(m, (u64)(w2c_i0) + 128u);
@@ -99864,7 +99886,7 @@ static u32 w2c_f119(module *m, u64 w2c_p0, u64 w2c_p1) {
     w2c_j1 = 64ull;
     w2c_j0 += w2c_j1;
     w2c_i1 = w2c_l13;
-    w2c_f90(m, w2c_j0, w2c_i1);
+    w2c_f45(m, w2c_j0, w2c_i1);
     w2c_j0 = w2c_l2;
     w2c_i0 = (u32)(w2c_j0);
     w2c_i0 = i32_load8_u(m, (u64)(w2c_i0) + 64u);
@@ -99933,7 +99955,7 @@ static u32 w2c_f119(module *m, u64 w2c_p0, u64 w2c_p1) {
   w2c_j1 = w2c_l6;
   w2c_j2 = w2c_l5;
   w2c_i3 = w2c_l14;
-  w2c_f79(m, w2c_j0, w2c_j1, w2c_j2, w2c_i3);
+  w2c_f80(m, w2c_j0, w2c_j1, w2c_j2, w2c_i3);
   w2c_j0 = w2c_l2;
   w2c_i0 = (u32)(w2c_j0);
   w2c_j1 = w2c_l2;
@@ -100964,7 +100986,7 @@ static void w2c_f123(module *m, u64 w2c_p0, u32 w2c_p1, u64 w2c_p2, u64 w2c_p3) 
   w2c_j1 = w2c_p2;
   w2c_j2 = w2c_p3;
   w2c_i3 = w2c_p1;
-  w2c_f79(m, w2c_j0, w2c_j1, w2c_j2, w2c_i3);
+  w2c_f80(m, w2c_j0, w2c_j1, w2c_j2, w2c_i3);
   w2c_i0 = 0u;
   w2c_l12 = w2c_i0;
   w2c_j0 = w2c_l4;
@@ -101079,7 +101101,7 @@ static void w2c_f123(module *m, u64 w2c_p0, u32 w2c_p1, u64 w2c_p2, u64 w2c_p3) 
     w2c_j1 = 48ull;
     w2c_j0 += w2c_j1;
     w2c_i1 = w2c_l15;
-    w2c_f90(m, w2c_j0, w2c_i1);
+    w2c_f45(m, w2c_j0, w2c_i1);
     w2c_j0 = w2c_l4;
     w2c_i0 = (u32)(w2c_j0);
     w2c_i0 = i32_load8_u(m, (u64)(w2c_i0) + 48u);
@@ -101346,7 +101368,7 @@ static void w2c_f123(module *m, u64 w2c_p0, u32 w2c_p1, u64 w2c_p2, u64 w2c_p3) 
   w2c_j1 = w2c_l8;
   w2c_j2 = w2c_l7;
   w2c_i3 = w2c_p1;
-  w2c_f79(m, w2c_j0, w2c_j1, w2c_j2, w2c_i3);
+  w2c_f80(m, w2c_j0, w2c_j1, w2c_j2, w2c_i3);
   w2c_j0 = w2c_l4;
   w2c_i0 = (u32)(w2c_j0);
   w2c_i0 = i32_load8_u(m, (u64)(w2c_i0) + 112u);
@@ -101570,13 +101592,13 @@ static void w2c_f124(module *m, u64 w2c_p0, u32 w2c_p1, u32 w2c_p2) {
   if (w2c_i0) {goto w2c_B2;}
   w2c_j0 = 0ull;
   w2c_l3 = w2c_j0;
-  w2c_j0 = 79844ull;
+  w2c_j0 = 79940ull;
   w2c_l4 = w2c_j0;
   w2c_i0 = w2c_p1;
   if (w2c_i0) {goto w2c_B0;}
   w2c_j0 = 1ull;
   w2c_l3 = w2c_j0;
-  w2c_j0 = 83456ull;
+  w2c_j0 = 83552ull;
   w2c_l4 = w2c_j0;
   w2c_i0 = w2c_p2;
   w2c_i1 = 4294967251u;
@@ -101618,43 +101640,43 @@ static void w2c_f124(module *m, u64 w2c_p0, u32 w2c_p1, u32 w2c_p2) {
     default: goto w2c_B4;
   }
   w2c_B14:;
-  w2c_j0 = 83457ull;
+  w2c_j0 = 83553ull;
   w2c_l4 = w2c_j0;
   goto w2c_B0;
   w2c_B13:;
-  w2c_j0 = 83458ull;
+  w2c_j0 = 83554ull;
   w2c_l4 = w2c_j0;
   goto w2c_B0;
   w2c_B12:;
-  w2c_j0 = 83459ull;
+  w2c_j0 = 83555ull;
   w2c_l4 = w2c_j0;
   goto w2c_B0;
   w2c_B11:;
-  w2c_j0 = 83460ull;
+  w2c_j0 = 83556ull;
   w2c_l4 = w2c_j0;
   goto w2c_B0;
   w2c_B10:;
-  w2c_j0 = 83461ull;
+  w2c_j0 = 83557ull;
   w2c_l4 = w2c_j0;
   goto w2c_B0;
   w2c_B9:;
-  w2c_j0 = 83462ull;
+  w2c_j0 = 83558ull;
   w2c_l4 = w2c_j0;
   goto w2c_B0;
   w2c_B8:;
-  w2c_j0 = 83463ull;
+  w2c_j0 = 83559ull;
   w2c_l4 = w2c_j0;
   goto w2c_B0;
   w2c_B7:;
-  w2c_j0 = 83464ull;
+  w2c_j0 = 83560ull;
   w2c_l4 = w2c_j0;
   goto w2c_B0;
   w2c_B6:;
-  w2c_j0 = 83465ull;
+  w2c_j0 = 83561ull;
   w2c_l4 = w2c_j0;
   goto w2c_B0;
   w2c_B5:;
-  w2c_j0 = 83466ull;
+  w2c_j0 = 83562ull;
   w2c_l4 = w2c_j0;
   goto w2c_B0;
   w2c_B4:;
@@ -101663,7 +101685,7 @@ static void w2c_f124(module *m, u64 w2c_p0, u32 w2c_p1, u32 w2c_p2) {
   w2c_i0 = w2c_i0 == w2c_i1;
   if (w2c_i0) {goto w2c_B1;}
   w2c_B3:;
-  w2c_j0 = 79844ull;
+  w2c_j0 = 79940ull;
   w2c_l4 = w2c_j0;
   w2c_j0 = 0ull;
   w2c_l3 = w2c_j0;
@@ -101671,7 +101693,7 @@ static void w2c_f124(module *m, u64 w2c_p0, u32 w2c_p1, u32 w2c_p2) {
   w2c_B2:;
   UNREACHABLE;
   w2c_B1:;
-  w2c_j0 = 73746ull;
+  w2c_j0 = 73819ull;
   w2c_l4 = w2c_j0;
   w2c_B0:;
   w2c_j0 = w2c_p0;
@@ -102195,7 +102217,7 @@ static void w2c_f126(module *m, u64 w2c_p0, u32 w2c_p1, u64 w2c_p2, u64 w2c_p3) 
     w2c_j1 = 96ull;
     w2c_j0 += w2c_j1;
     w2c_i1 = w2c_l13;
-    w2c_f46(m, w2c_j0, w2c_i1);
+    w2c_f47(m, w2c_j0, w2c_i1);
     w2c_i0 = w2c_l13;
     w2c_i1 = 4294967238u;
     w2c_i0 += w2c_i1;
@@ -102285,7 +102307,7 @@ static void w2c_f126(module *m, u64 w2c_p0, u32 w2c_p1, u64 w2c_p2, u64 w2c_p3) 
   w2c_j1 = w2c_l6;
   w2c_j2 = w2c_l5;
   w2c_i3 = w2c_p1;
-  w2c_f79(m, w2c_j0, w2c_j1, w2c_j2, w2c_i3);
+  w2c_f80(m, w2c_j0, w2c_j1, w2c_j2, w2c_i3);
   w2c_j0 = w2c_l4;
   w2c_i0 = (u32)(w2c_j0);
   w2c_j1 = w2c_l4;
@@ -102424,7 +102446,7 @@ static void w2c_f126(module *m, u64 w2c_p0, u32 w2c_p1, u64 w2c_p2, u64 w2c_p3) 
     w2c_j1 = 8ull;
     w2c_j0 += w2c_j1;
     w2c_i1 = w2c_l13;
-    w2c_f46(m, w2c_j0, w2c_i1);
+    w2c_f47(m, w2c_j0, w2c_i1);
     w2c_j0 = w2c_p2;
     w2c_j1 = w2c_l5;
     w2c_j0 += w2c_j1;
@@ -102551,7 +102573,7 @@ static void w2c_f126(module *m, u64 w2c_p0, u32 w2c_p1, u64 w2c_p2, u64 w2c_p3) 
     w2c_j1 = 16ull;
     w2c_j0 += w2c_j1;
     w2c_i1 = w2c_l13;
-    w2c_f46(m, w2c_j0, w2c_i1);
+    w2c_f47(m, w2c_j0, w2c_i1);
     w2c_j0 = w2c_p2;
     w2c_j1 = w2c_l5;
     w2c_j0 += w2c_j1;
@@ -102870,7 +102892,7 @@ static void w2c_f126(module *m, u64 w2c_p0, u32 w2c_p1, u64 w2c_p2, u64 w2c_p3) 
     w2c_j1 = w2c_l5;
     w2c_j2 = w2c_p2;
     w2c_i3 = w2c_p1;
-    w2c_f79(m, w2c_j0, w2c_j1, w2c_j2, w2c_i3);
+    w2c_f80(m, w2c_j0, w2c_j1, w2c_j2, w2c_i3);
     w2c_j0 = w2c_l4;
     w2c_i0 = (u32)(w2c_j0);
     w2c_j1 = w2c_l8;
@@ -103035,7 +103057,7 @@ static void w2c_f126(module *m, u64 w2c_p0, u32 w2c_p1, u64 w2c_p2, u64 w2c_p3) 
   w2c_j1 = w2c_l5;
   w2c_j2 = w2c_p2;
   w2c_i3 = w2c_p1;
-  w2c_f79(m, w2c_j0, w2c_j1, w2c_j2, w2c_i3);
+  w2c_f80(m, w2c_j0, w2c_j1, w2c_j2, w2c_i3);
   w2c_j0 = w2c_l4;
   w2c_i0 = (u32)(w2c_j0);
   w2c_j1 = w2c_l4;
@@ -103119,7 +103141,7 @@ static void w2c_f126(module *m, u64 w2c_p0, u32 w2c_p1, u64 w2c_p2, u64 w2c_p3) 
   w2c_j1 = w2c_p2;
   w2c_j2 = w2c_p3;
   w2c_i3 = w2c_p1;
-  w2c_f79(m, w2c_j0, w2c_j1, w2c_j2, w2c_i3);
+  w2c_f80(m, w2c_j0, w2c_j1, w2c_j2, w2c_i3);
   w2c_j0 = w2c_l4;
   w2c_i0 = (u32)(w2c_j0);
   w2c_j1 = w2c_l4;
@@ -103204,7 +103226,7 @@ static void w2c_f126(module *m, u64 w2c_p0, u32 w2c_p1, u64 w2c_p2, u64 w2c_p3) 
   w2c_j1 = 56ull;
   w2c_j0 += w2c_j1;
   w2c_i1 = w2c_l13;
-  w2c_f46(m, w2c_j0, w2c_i1);
+  w2c_f47(m, w2c_j0, w2c_i1);
   w2c_B36:;
   w2c_i0 = 1u;
   w2c_l16 = w2c_i0;
@@ -103566,7 +103588,7 @@ static void w2c_f127(module *m, u64 w2c_p0, u64 w2c_p1, u64 w2c_p2) {
   w2c_j1 = 8ull;
   w2c_j0 += w2c_j1;
   w2c_i1 = w2c_l11;
-  w2c_f46(m, w2c_j0, w2c_i1);
+  w2c_f47(m, w2c_j0, w2c_i1);
   w2c_j0 = w2c_l4;
   w2c_i0 = (u32)(w2c_j0);
   w2c_i0 = i32_load8_u(m, (u64)(w2c_i0) + 8u);
@@ -103575,7 +103597,7 @@ static void w2c_f127(module *m, u64 w2c_p0, u64 w2c_p1, u64 w2c_p2) {
   if (w2c_i0) {goto w2c_B11;}
   w2c_j0 = w2c_l4;
   w2c_i1 = w2c_l11;
-  w2c_f90(m, w2c_j0, w2c_i1);
+  w2c_f45(m, w2c_j0, w2c_i1);
   w2c_j0 = w2c_l4;
   w2c_i0 = (u32)(w2c_j0);
   w2c_i0 = i32_load8_u(m, (u64)(w2c_i0));
@@ -103821,7 +103843,7 @@ static u32 w2c_f128(module *m, u64 w2c_p0, u64 w2c_p1) {
   w2c_j1 = 8ull;
   w2c_j0 += w2c_j1;
   w2c_i1 = w2c_l5;
-  w2c_f90(m, w2c_j0, w2c_i1);
+  w2c_f45(m, w2c_j0, w2c_i1);
   w2c_j0 = w2c_l2;
   w2c_i0 = (u32)(w2c_j0);
   w2c_i0 = i32_load8_u(m, (u64)(w2c_i0) + 8u);
@@ -103869,7 +103891,7 @@ static u32 w2c_f129(module *m, u32 w2c_p0, u64 w2c_p1, u64 w2c_p2) {
   w2c_j1 = 8ull;
   w2c_j0 += w2c_j1;
   w2c_i1 = w2c_p0;
-  w2c_f90(m, w2c_j0, w2c_i1);
+  w2c_f45(m, w2c_j0, w2c_i1);
   w2c_i0 = 0u;
   w2c_l5 = w2c_i0;
   w2c_j0 = w2c_l3;
@@ -103978,7 +104000,7 @@ static u32 w2c_f129(module *m, u32 w2c_p0, u64 w2c_p1, u64 w2c_p2) {
     w2c_B3:;
     w2c_j0 = w2c_l3;
     w2c_i1 = w2c_p0;
-    w2c_f90(m, w2c_j0, w2c_i1);
+    w2c_f45(m, w2c_j0, w2c_i1);
     w2c_j0 = w2c_p2;
     w2c_j1 = w2c_l4;
     w2c_j0 -= w2c_j1;
@@ -104506,7 +104528,7 @@ static void w2c_f130(module *m, u64 w2c_p0, u64 w2c_p1, u64 w2c_p2) {
   i64_store(m, (u64)(w2c_i0) + 24, w2c_j1);
   w2c_j0 = w2c_p0;
   w2c_i0 = (u32)(w2c_j0);
-  w2c_j1 = 79844ull;
+  w2c_j1 = 79940ull;
   i64_store(m, (u64)(w2c_i0) + 16, w2c_j1);
   w2c_j0 = w2c_p0;
   w2c_i0 = (u32)(w2c_j0);
@@ -104838,7 +104860,7 @@ static void w2c_f131(module *m, u64 w2c_p0, u64 w2c_p1, u64 w2c_p2) {
   w2c_j1 = 24ull;
   w2c_j0 += w2c_j1;
   w2c_i1 = w2c_l11;
-  w2c_f46(m, w2c_j0, w2c_i1);
+  w2c_f47(m, w2c_j0, w2c_i1);
   w2c_j0 = w2c_l3;
   w2c_i0 = (u32)(w2c_j0);
   w2c_i0 = i32_load8_u(m, (u64)(w2c_i0) + 24u);
@@ -104856,7 +104878,7 @@ static void w2c_f131(module *m, u64 w2c_p0, u64 w2c_p1, u64 w2c_p2) {
   w2c_j1 = 16ull;
   w2c_j0 += w2c_j1;
   w2c_i1 = w2c_l12;
-  w2c_f90(m, w2c_j0, w2c_i1);
+  w2c_f45(m, w2c_j0, w2c_i1);
   w2c_j0 = w2c_l3;
   w2c_i0 = (u32)(w2c_j0);
   w2c_i0 = i32_load8_u(m, (u64)(w2c_i0) + 16u);
@@ -104980,7 +105002,7 @@ static void w2c_f131(module *m, u64 w2c_p0, u64 w2c_p1, u64 w2c_p2) {
     w2c_j1 = 8ull;
     w2c_j0 += w2c_j1;
     w2c_i1 = w2c_l12;
-    w2c_f90(m, w2c_j0, w2c_i1);
+    w2c_f45(m, w2c_j0, w2c_i1);
     w2c_j0 = w2c_l5;
     w2c_j1 = w2c_l4;
     w2c_j0 -= w2c_j1;
@@ -105125,7 +105147,7 @@ static void w2c_f131(module *m, u64 w2c_p0, u64 w2c_p1, u64 w2c_p2) {
   w2c_B19:;
   w2c_j0 = w2c_l3;
   w2c_i1 = w2c_l12;
-  w2c_f90(m, w2c_j0, w2c_i1);
+  w2c_f45(m, w2c_j0, w2c_i1);
   w2c_j0 = w2c_l3;
   w2c_i0 = (u32)(w2c_j0);
   w2c_i0 = i32_load8_u(m, (u64)(w2c_i0));
@@ -105381,7 +105403,7 @@ static void w2c_f132(module *m, u64 w2c_p0, u64 w2c_p1, u32 w2c_p2, u64 w2c_p3, 
   w2c_j1 = w2c_p3;
   w2c_j2 = w2c_p4;
   w2c_i3 = w2c_p2;
-  w2c_f79(m, w2c_j0, w2c_j1, w2c_j2, w2c_i3);
+  w2c_f80(m, w2c_j0, w2c_j1, w2c_j2, w2c_i3);
   w2c_i0 = 0u;
   w2c_l13 = w2c_i0;
   w2c_j0 = w2c_l5;
@@ -105496,7 +105518,7 @@ static void w2c_f132(module *m, u64 w2c_p0, u64 w2c_p1, u32 w2c_p2, u64 w2c_p3, 
     w2c_j1 = 48ull;
     w2c_j0 += w2c_j1;
     w2c_i1 = w2c_l16;
-    w2c_f90(m, w2c_j0, w2c_i1);
+    w2c_f45(m, w2c_j0, w2c_i1);
     w2c_j0 = w2c_l5;
     w2c_i0 = (u32)(w2c_j0);
     w2c_i0 = i32_load8_u(m, (u64)(w2c_i0) + 48u);
@@ -105651,7 +105673,7 @@ static void w2c_f132(module *m, u64 w2c_p0, u64 w2c_p1, u32 w2c_p2, u64 w2c_p3, 
   w2c_j3 = w2c_p3;
   w2c_i3 = (u32)(w2c_j3);
   w2c_j3 = i64_load(m, (u64)(w2c_i3));
-  w2c_j4 = 73746ull;
+  w2c_j4 = 73819ull;
   w2c_j5 = 1ull;
   w2c_j1 = w2c_f36(m, w2c_j1, w2c_j2, w2c_j3, w2c_j4, w2c_j5);
   i64_store(m, (u64)(w2c_i0), w2c_j1);
@@ -105786,7 +105808,7 @@ static void w2c_f132(module *m, u64 w2c_p0, u64 w2c_p1, u32 w2c_p2, u64 w2c_p3, 
   w2c_j3 = w2c_p4;
   w2c_i3 = (u32)(w2c_j3);
   w2c_j3 = i64_load(m, (u64)(w2c_i3));
-  w2c_j4 = 73748ull;
+  w2c_j4 = 73821ull;
   w2c_j5 = 1ull;
   w2c_j1 = w2c_f36(m, w2c_j1, w2c_j2, w2c_j3, w2c_j4, w2c_j5);
   i64_store(m, (u64)(w2c_i0), w2c_j1);
@@ -105832,7 +105854,7 @@ static void w2c_f132(module *m, u64 w2c_p0, u64 w2c_p1, u32 w2c_p2, u64 w2c_p3, 
   w2c_j1 = w2c_l9;
   w2c_j2 = w2c_l8;
   w2c_i3 = w2c_p2;
-  w2c_f79(m, w2c_j0, w2c_j1, w2c_j2, w2c_i3);
+  w2c_f80(m, w2c_j0, w2c_j1, w2c_j2, w2c_i3);
   w2c_j0 = w2c_l5;
   w2c_i0 = (u32)(w2c_j0);
   w2c_i0 = i32_load8_u(m, (u64)(w2c_i0) + 112u);
@@ -105869,7 +105891,7 @@ static void w2c_f132(module *m, u64 w2c_p0, u64 w2c_p1, u32 w2c_p2, u64 w2c_p3, 
   w2c_j3 = w2c_p4;
   w2c_i3 = (u32)(w2c_j3);
   w2c_j3 = i64_load(m, (u64)(w2c_i3));
-  w2c_j4 = 73747ull;
+  w2c_j4 = 73820ull;
   w2c_j5 = 1ull;
   w2c_j1 = w2c_f36(m, w2c_j1, w2c_j2, w2c_j3, w2c_j4, w2c_j5);
   i64_store(m, (u64)(w2c_i0), w2c_j1);
@@ -106353,7 +106375,7 @@ static void w2c_f133(module *m, u64 w2c_p0, u64 w2c_p1, u32 w2c_p2, u64 w2c_p3, 
     w2c_j1 = 80ull;
     w2c_j0 += w2c_j1;
     w2c_i1 = w2c_l15;
-    w2c_f46(m, w2c_j0, w2c_i1);
+    w2c_f47(m, w2c_j0, w2c_i1);
     w2c_i0 = w2c_l15;
     w2c_i1 = 4294967238u;
     w2c_i0 += w2c_i1;
@@ -106443,7 +106465,7 @@ static void w2c_f133(module *m, u64 w2c_p0, u64 w2c_p1, u32 w2c_p2, u64 w2c_p3, 
   w2c_j1 = w2c_l8;
   w2c_j2 = w2c_l6;
   w2c_i3 = w2c_p2;
-  w2c_f79(m, w2c_j0, w2c_j1, w2c_j2, w2c_i3);
+  w2c_f80(m, w2c_j0, w2c_j1, w2c_j2, w2c_i3);
   w2c_j0 = w2c_l5;
   w2c_i0 = (u32)(w2c_j0);
   w2c_j1 = w2c_l5;
@@ -106543,7 +106565,7 @@ static void w2c_f133(module *m, u64 w2c_p0, u64 w2c_p1, u32 w2c_p2, u64 w2c_p3, 
   w2c_i2 = (u32)(w2c_j2);
   w2c_j2 = i64_load(m, (u64)(w2c_i2));
   w2c_j3 = w2c_p3;
-  w2c_j4 = 83466ull;
+  w2c_j4 = 83562ull;
   w2c_j5 = 1ull;
   w2c_j1 = w2c_f36(m, w2c_j1, w2c_j2, w2c_j3, w2c_j4, w2c_j5);
   i64_store(m, (u64)(w2c_i0), w2c_j1);
@@ -106892,7 +106914,7 @@ static void w2c_f133(module *m, u64 w2c_p0, u64 w2c_p1, u32 w2c_p2, u64 w2c_p3, 
     w2c_j1 = w2c_l9;
     w2c_j2 = w2c_l6;
     w2c_i3 = w2c_p2;
-    w2c_f79(m, w2c_j0, w2c_j1, w2c_j2, w2c_i3);
+    w2c_f80(m, w2c_j0, w2c_j1, w2c_j2, w2c_i3);
     w2c_j0 = w2c_l5;
     w2c_i0 = (u32)(w2c_j0);
     w2c_j1 = w2c_l10;
@@ -107106,7 +107128,7 @@ static void w2c_f133(module *m, u64 w2c_p0, u64 w2c_p1, u32 w2c_p2, u64 w2c_p3, 
   w2c_j1 = w2c_l8;
   w2c_j2 = w2c_l6;
   w2c_i3 = w2c_p2;
-  w2c_f79(m, w2c_j0, w2c_j1, w2c_j2, w2c_i3);
+  w2c_f80(m, w2c_j0, w2c_j1, w2c_j2, w2c_i3);
   w2c_j0 = w2c_l5;
   w2c_i0 = (u32)(w2c_j0);
   w2c_j1 = w2c_l5;
@@ -107190,7 +107212,7 @@ static void w2c_f133(module *m, u64 w2c_p0, u64 w2c_p1, u32 w2c_p2, u64 w2c_p3, 
   w2c_j1 = w2c_p3;
   w2c_j2 = w2c_p4;
   w2c_i3 = w2c_p2;
-  w2c_f79(m, w2c_j0, w2c_j1, w2c_j2, w2c_i3);
+  w2c_f80(m, w2c_j0, w2c_j1, w2c_j2, w2c_i3);
   w2c_j0 = w2c_l5;
   w2c_i0 = (u32)(w2c_j0);
   w2c_j1 = w2c_l5;
@@ -107332,7 +107354,7 @@ static void w2c_f133(module *m, u64 w2c_p0, u64 w2c_p1, u32 w2c_p2, u64 w2c_p3, 
   w2c_i2 = (u32)(w2c_j2);
   w2c_j2 = i64_load(m, (u64)(w2c_i2));
   w2c_j3 = w2c_l11;
-  w2c_j4 = 83466ull;
+  w2c_j4 = 83562ull;
   w2c_j5 = 1ull;
   w2c_j1 = w2c_f36(m, w2c_j1, w2c_j2, w2c_j3, w2c_j4, w2c_j5);
   w2c_l11 = w2c_j1;
@@ -107341,7 +107363,7 @@ static void w2c_f133(module *m, u64 w2c_p0, u64 w2c_p1, u32 w2c_p2, u64 w2c_p3, 
   w2c_j1 = 40ull;
   w2c_j0 += w2c_j1;
   w2c_i1 = w2c_l15;
-  w2c_f46(m, w2c_j0, w2c_i1);
+  w2c_f47(m, w2c_j0, w2c_i1);
   w2c_j0 = w2c_l5;
   w2c_i0 = (u32)(w2c_j0);
   w2c_i0 = i32_load8_u(m, (u64)(w2c_i0) + 40u);
@@ -107364,7 +107386,7 @@ static void w2c_f133(module *m, u64 w2c_p0, u64 w2c_p1, u32 w2c_p2, u64 w2c_p3, 
   w2c_j4 = 3ull;
   w2c_j3 <<= (w2c_j4 & 63);
   w2c_i3 = (u32)(w2c_j3);
-  w2c_j3 = i64_load(m, (u64)(w2c_i3) + 85592u);
+  w2c_j3 = i64_load(m, (u64)(w2c_i3) + 85808u);
   w2c_j4 = 1ull;
   w2c_j0 = w2c_f36(m, w2c_j0, w2c_j1, w2c_j2, w2c_j3, w2c_j4);
   w2c_l6 = w2c_j0;
@@ -107543,7 +107565,7 @@ static void w2c_f134(module *m, u64 w2c_p0, u64 w2c_p1, u64 w2c_p2) {
     w2c_j1 = 8ull;
     w2c_j0 += w2c_j1;
     w2c_i1 = w2c_l7;
-    w2c_f46(m, w2c_j0, w2c_i1);
+    w2c_f47(m, w2c_j0, w2c_i1);
     w2c_j0 = w2c_p2;
     w2c_j1 = w2c_l3;
     w2c_j0 -= w2c_j1;
@@ -107576,7 +107598,7 @@ static void w2c_f134(module *m, u64 w2c_p0, u64 w2c_p1, u64 w2c_p2) {
     w2c_j4 = 3ull;
     w2c_j3 <<= (w2c_j4 & 63);
     w2c_i3 = (u32)(w2c_j3);
-    w2c_j3 = i64_load(m, (u64)(w2c_i3) + 85592u);
+    w2c_j3 = i64_load(m, (u64)(w2c_i3) + 85808u);
     w2c_j4 = 1ull;
     w2c_j0 = w2c_f36(m, w2c_j0, w2c_j1, w2c_j2, w2c_j3, w2c_j4);
     w2c_l5 = w2c_j0;
@@ -107677,7 +107699,7 @@ static void w2c_f135(module *m, u64 w2c_p0, u64 w2c_p1, u64 w2c_p2, u32 w2c_p3) 
   w2c_j1 = w2c_p1;
   w2c_j2 = w2c_p2;
   w2c_i3 = w2c_p3;
-  w2c_f79(m, w2c_j0, w2c_j1, w2c_j2, w2c_i3);
+  w2c_f80(m, w2c_j0, w2c_j1, w2c_j2, w2c_i3);
   w2c_i0 = 1u;
   w2c_l7 = w2c_i0;
   w2c_j0 = w2c_l4;
@@ -107777,7 +107799,7 @@ static void w2c_f135(module *m, u64 w2c_p0, u64 w2c_p1, u64 w2c_p2, u32 w2c_p3) 
   w2c_j0 += w2c_j1;
   w2c_j1 = w2c_p1;
   w2c_j2 = w2c_p2;
-  w2c_f80(m, w2c_j0, w2c_j1, w2c_j2);
+  w2c_f81(m, w2c_j0, w2c_j1, w2c_j2);
   w2c_j0 = w2c_l4;
   w2c_i0 = (u32)(w2c_j0);
   w2c_j0 = i64_load(m, (u64)(w2c_i0) + 136u);
@@ -107797,7 +107819,7 @@ static void w2c_f135(module *m, u64 w2c_p0, u64 w2c_p1, u64 w2c_p2, u32 w2c_p3) 
   w2c_j0 += w2c_j1;
   w2c_j1 = w2c_p1;
   w2c_j2 = w2c_p2;
-  w2c_f81(m, w2c_j0, w2c_j1, w2c_j2);
+  w2c_f82(m, w2c_j0, w2c_j1, w2c_j2);
   w2c_j0 = w2c_l4;
   w2c_i0 = (u32)(w2c_j0);
   w2c_i0 = i32_load8_u(m, (u64)(w2c_i0) + 64u);
@@ -107880,7 +107902,7 @@ static void w2c_f135(module *m, u64 w2c_p0, u64 w2c_p1, u64 w2c_p2, u32 w2c_p3) 
   w2c_j0 += w2c_j1;
   w2c_j1 = w2c_p1;
   w2c_j2 = w2c_p2;
-  w2c_f84(m, w2c_j0, w2c_j1, w2c_j2);
+  w2c_f85(m, w2c_j0, w2c_j1, w2c_j2);
   w2c_j0 = w2c_l4;
   w2c_i0 = (u32)(w2c_j0);
   w2c_i0 = i32_load8_u(m, (u64)(w2c_i0) + 152u);
@@ -107939,7 +107961,7 @@ static void w2c_f135(module *m, u64 w2c_p0, u64 w2c_p1, u64 w2c_p2, u32 w2c_p3) 
   w2c_j0 += w2c_j1;
   w2c_j1 = w2c_p1;
   w2c_j2 = w2c_p2;
-  w2c_f88(m, w2c_j0, w2c_j1, w2c_j2);
+  w2c_f89(m, w2c_j0, w2c_j1, w2c_j2);
   w2c_j0 = w2c_l4;
   w2c_i0 = (u32)(w2c_j0);
   w2c_i0 = i32_load8_u(m, (u64)(w2c_i0) + 208u);
@@ -107961,7 +107983,7 @@ static void w2c_f135(module *m, u64 w2c_p0, u64 w2c_p1, u64 w2c_p2, u32 w2c_p3) 
   w2c_i2 = (u32)(w2c_j2);
   w2c_j2 = i64_load(m, (u64)(w2c_i2) + 232u);
   w2c_l6 = w2c_j2;
-  w2c_f83(m, w2c_j0, w2c_j1, w2c_j2);
+  w2c_f84(m, w2c_j0, w2c_j1, w2c_j2);
   w2c_j0 = w2c_l4;
   w2c_i0 = (u32)(w2c_j0);
   w2c_i0 = i32_load8_u(m, (u64)(w2c_i0) + 208u);
@@ -108079,7 +108101,7 @@ static void w2c_f136(module *m, u64 w2c_p0, u32 w2c_p1, u64 w2c_p2, u64 w2c_p3, 
   w2c_j2 = 0ull;
   w2c_j3 = w2c_p2;
   w2c_j4 = w2c_p3;
-  w2c_f86(m, w2c_j0, w2c_i1, w2c_j2, w2c_j3, w2c_j4);
+  w2c_f87(m, w2c_j0, w2c_i1, w2c_j2, w2c_j3, w2c_j4);
   w2c_i0 = 1u;
   w2c_l7 = w2c_i0;
   w2c_j0 = w2c_l6;
@@ -108155,7 +108177,7 @@ static void w2c_f136(module *m, u64 w2c_p0, u32 w2c_p1, u64 w2c_p2, u64 w2c_p3, 
   w2c_j2 = 0ull;
   w2c_j3 = w2c_p2;
   w2c_j4 = w2c_p3;
-  w2c_f87(m, w2c_j0, w2c_i1, w2c_j2, w2c_j3, w2c_j4);
+  w2c_f88(m, w2c_j0, w2c_i1, w2c_j2, w2c_j3, w2c_j4);
   w2c_i0 = 1u;
   w2c_l7 = w2c_i0;
   w2c_j0 = w2c_l6;
@@ -108275,7 +108297,7 @@ static void w2c_f136(module *m, u64 w2c_p0, u32 w2c_p1, u64 w2c_p2, u64 w2c_p3, 
   w2c_j2 = 0ull;
   w2c_j3 = w2c_p4;
   w2c_j4 = w2c_p5;
-  w2c_f87(m, w2c_j0, w2c_i1, w2c_j2, w2c_j3, w2c_j4);
+  w2c_f88(m, w2c_j0, w2c_i1, w2c_j2, w2c_j3, w2c_j4);
   w2c_j0 = w2c_l6;
   w2c_i0 = (u32)(w2c_j0);
   w2c_i0 = i32_load8_u(m, (u64)(w2c_i0) + 48u);
@@ -108403,7 +108425,7 @@ static void w2c_f137(module *m, u64 w2c_p0, u32 w2c_p1, u64 w2c_p2, u64 w2c_p3) 
   w2c_j2 = 0ull;
   w2c_j3 = w2c_p2;
   w2c_j4 = w2c_p3;
-  w2c_f89(m, w2c_j0, w2c_i1, w2c_j2, w2c_j3, w2c_j4);
+  w2c_f90(m, w2c_j0, w2c_i1, w2c_j2, w2c_j3, w2c_j4);
   w2c_i0 = 1u;
   w2c_l11 = w2c_i0;
   w2c_j0 = w2c_l4;
@@ -109536,7 +109558,7 @@ static void w2c_f138(module *m, u64 w2c_p0, u32 w2c_p1, u64 w2c_p2, u64 w2c_p3) 
   w2c_j1 = 1016ull;
   w2c_j0 &= w2c_j1;
   w2c_l10 = w2c_j0;
-  w2c_j1 = 80840ull;
+  w2c_j1 = 80936ull;
   w2c_j0 += w2c_j1;
   w2c_i0 = (u32)(w2c_j0);
   w2c_i0 = i32_load_of_text(m, (u64)(w2c_i0));
@@ -109573,7 +109595,7 @@ static void w2c_f138(module *m, u64 w2c_p0, u32 w2c_p1, u64 w2c_p2, u64 w2c_p3) 
   w2c_j1 = 1016ull;
   w2c_j0 &= w2c_j1;
   w2c_l10 = w2c_j0;
-  w2c_j1 = 80840ull;
+  w2c_j1 = 80936ull;
   w2c_j0 += w2c_j1;
   w2c_i0 = (u32)(w2c_j0);
   w2c_i0 = i32_load_of_text(m, (u64)(w2c_i0));
@@ -109588,13 +109610,13 @@ static void w2c_f138(module *m, u64 w2c_p0, u32 w2c_p1, u64 w2c_p2, u64 w2c_p3) 
   w2c_l7 = w2c_j0;
   w2c_B28:;
   w2c_j0 = w2c_l10;
-  w2c_j1 = 80844ull;
+  w2c_j1 = 80940ull;
   w2c_j0 += w2c_j1;
   w2c_i0 = (u32)(w2c_j0);
   w2c_i0 = i32_load8_u(m, (u64)(w2c_i0));
   w2c_l14 = w2c_i0;
   w2c_j0 = w2c_l10;
-  w2c_j1 = 80845ull;
+  w2c_j1 = 80941ull;
   w2c_j0 += w2c_j1;
   w2c_i0 = (u32)(w2c_j0);
   w2c_i0 = i32_load8_u(m, (u64)(w2c_i0));
@@ -109668,7 +109690,7 @@ static void w2c_f138(module *m, u64 w2c_p0, u32 w2c_p1, u64 w2c_p2, u64 w2c_p3) 
   w2c_j1 = 1016ull;
   w2c_j0 &= w2c_j1;
   w2c_l10 = w2c_j0;
-  w2c_j1 = 80840ull;
+  w2c_j1 = 80936ull;
   w2c_j0 += w2c_j1;
   w2c_i0 = (u32)(w2c_j0);
   w2c_i0 = i32_load_of_text(m, (u64)(w2c_i0));
@@ -109676,13 +109698,13 @@ static void w2c_f138(module *m, u64 w2c_p0, u32 w2c_p1, u64 w2c_p2, u64 w2c_p3) 
   w2c_i0 = w2c_i0 != w2c_i1;
   if (w2c_i0) {goto w2c_B31;}
   w2c_j0 = w2c_l10;
-  w2c_j1 = 80844ull;
+  w2c_j1 = 80940ull;
   w2c_j0 += w2c_j1;
   w2c_i0 = (u32)(w2c_j0);
   w2c_i0 = i32_load8_u(m, (u64)(w2c_i0));
   w2c_l15 = w2c_i0;
   w2c_j0 = w2c_l10;
-  w2c_j1 = 80845ull;
+  w2c_j1 = 80941ull;
   w2c_j0 += w2c_j1;
   w2c_i0 = (u32)(w2c_j0);
   w2c_i0 = i32_load8_u(m, (u64)(w2c_i0));
@@ -109713,7 +109735,7 @@ static void w2c_f138(module *m, u64 w2c_p0, u32 w2c_p1, u64 w2c_p2, u64 w2c_p3) 
   w2c_j1 = 1016ull;
   w2c_j0 &= w2c_j1;
   w2c_l10 = w2c_j0;
-  w2c_j1 = 80840ull;
+  w2c_j1 = 80936ull;
   w2c_j0 += w2c_j1;
   w2c_i0 = (u32)(w2c_j0);
   w2c_i0 = i32_load_of_text(m, (u64)(w2c_i0));
@@ -109721,13 +109743,13 @@ static void w2c_f138(module *m, u64 w2c_p0, u32 w2c_p1, u64 w2c_p2, u64 w2c_p3) 
   w2c_i0 = w2c_i0 != w2c_i1;
   if (w2c_i0) {goto w2c_B31;}
   w2c_j0 = w2c_l10;
-  w2c_j1 = 80844ull;
+  w2c_j1 = 80940ull;
   w2c_j0 += w2c_j1;
   w2c_i0 = (u32)(w2c_j0);
   w2c_i0 = i32_load8_u(m, (u64)(w2c_i0));
   w2c_l15 = w2c_i0;
   w2c_j0 = w2c_l10;
-  w2c_j1 = 80845ull;
+  w2c_j1 = 80941ull;
   w2c_j0 += w2c_j1;
   w2c_i0 = (u32)(w2c_j0);
   w2c_i0 = i32_load8_u(m, (u64)(w2c_i0));
@@ -110050,7 +110072,7 @@ static u32 w2c_f139(module *m, u64 w2c_p0, u64 w2c_p1, u64 w2c_p2) {
     w2c_i0 = w2c_j0 > w2c_j1;
     if (w2c_i0) {goto w2c_L7;}
   w2c_B6:;
-  w2c_j0 = 79844ull;
+  w2c_j0 = 79940ull;
   w2c_p2 = w2c_j0;
   w2c_j0 = 0ull;
   w2c_l5 = w2c_j0;
@@ -110273,7 +110295,7 @@ static u64 w2c_f140(module *m, u64 w2c_p0, u64 w2c_p1, u32 w2c_p2, u32 w2c_p3, u
     w2c_i0 = (u32)(w2c_j0);
     w2c_j1 = w2c_l7;
     w2c_j2 = w2c_l8;
-    w2c_j3 = 83490ull;
+    w2c_j3 = 83586ull;
     w2c_j2 += w2c_j3;
     w2c_i2 = (u32)(w2c_j2);
     w2c_j2 = i64_load8_u(m, (u64)(w2c_i2));
@@ -110354,7 +110376,7 @@ static u64 w2c_f140(module *m, u64 w2c_p0, u64 w2c_p1, u32 w2c_p2, u32 w2c_p3, u
   w2c_i0 = (u32)(w2c_j0);
   w2c_j1 = w2c_l7;
   w2c_j2 = w2c_l8;
-  w2c_j3 = 83490ull;
+  w2c_j3 = 83586ull;
   w2c_j2 += w2c_j3;
   w2c_i2 = (u32)(w2c_j2);
   w2c_j2 = i64_load8_u(m, (u64)(w2c_i2));
@@ -110675,7 +110697,7 @@ static u64 w2c_f140(module *m, u64 w2c_p0, u64 w2c_p1, u32 w2c_p2, u32 w2c_p3, u
     w2c_i0 = (u32)(w2c_j0);
     w2c_j1 = w2c_l12;
     w2c_j2 = w2c_l8;
-    w2c_j3 = 83506ull;
+    w2c_j3 = 83602ull;
     w2c_j2 += w2c_j3;
     w2c_i2 = (u32)(w2c_j2);
     w2c_j2 = i64_load8_u(m, (u64)(w2c_i2));
@@ -110731,7 +110753,7 @@ static u64 w2c_f140(module *m, u64 w2c_p0, u64 w2c_p1, u32 w2c_p2, u32 w2c_p3, u
     w2c_i0 = (u32)(w2c_j0);
     w2c_j1 = w2c_l12;
     w2c_j2 = w2c_l8;
-    w2c_j3 = 83506ull;
+    w2c_j3 = 83602ull;
     w2c_j2 += w2c_j3;
     w2c_i2 = (u32)(w2c_j2);
     w2c_j2 = i64_load8_u(m, (u64)(w2c_i2));
@@ -110785,7 +110807,7 @@ static u64 w2c_f140(module *m, u64 w2c_p0, u64 w2c_p1, u32 w2c_p2, u32 w2c_p3, u
     w2c_i0 = (u32)(w2c_j0);
     w2c_j1 = w2c_l12;
     w2c_j2 = w2c_l8;
-    w2c_j3 = 83506ull;
+    w2c_j3 = 83602ull;
     w2c_j2 += w2c_j3;
     w2c_i2 = (u32)(w2c_j2);
     w2c_j2 = i64_load8_u(m, (u64)(w2c_i2));
@@ -111069,7 +111091,7 @@ static u64 w2c_f140(module *m, u64 w2c_p0, u64 w2c_p1, u32 w2c_p2, u32 w2c_p3, u
   w2c_j1 = w2c_l12;
   w2c_j2 = w2c_l8;
   w2c_i2 = (u32)(w2c_j2);
-  w2c_j2 = i64_load8_u(m, (u64)(w2c_i2) + 83506u);
+  w2c_j2 = i64_load8_u(m, (u64)(w2c_i2) + 83602u);
   w2c_j3 = 2ull;
   w2c_j2 <<= (w2c_j3 & 63);
   w2c_j1 += w2c_j2;
@@ -111123,7 +111145,7 @@ static u64 w2c_f140(module *m, u64 w2c_p0, u64 w2c_p1, u32 w2c_p2, u32 w2c_p3, u
   w2c_j1 = w2c_l12;
   w2c_j2 = w2c_l8;
   w2c_i2 = (u32)(w2c_j2);
-  w2c_j2 = i64_load8_u(m, (u64)(w2c_i2) + 83506u);
+  w2c_j2 = i64_load8_u(m, (u64)(w2c_i2) + 83602u);
   w2c_j3 = 2ull;
   w2c_j2 <<= (w2c_j3 & 63);
   w2c_j1 += w2c_j2;
@@ -111175,7 +111197,7 @@ static u64 w2c_f140(module *m, u64 w2c_p0, u64 w2c_p1, u32 w2c_p2, u32 w2c_p3, u
   w2c_j1 = w2c_l12;
   w2c_j2 = w2c_l8;
   w2c_i2 = (u32)(w2c_j2);
-  w2c_j2 = i64_load8_u(m, (u64)(w2c_i2) + 83506u);
+  w2c_j2 = i64_load8_u(m, (u64)(w2c_i2) + 83602u);
   w2c_j3 = 2ull;
   w2c_j2 <<= (w2c_j3 & 63);
   w2c_j1 += w2c_j2;
@@ -111208,7 +111230,7 @@ static u64 w2c_f140(module *m, u64 w2c_p0, u64 w2c_p1, u32 w2c_p2, u32 w2c_p3, u
     w2c_i0 = (u32)(w2c_j0);
     w2c_j1 = w2c_l7;
     w2c_j2 = w2c_l8;
-    w2c_j3 = 83490ull;
+    w2c_j3 = 83586ull;
     w2c_j2 += w2c_j3;
     w2c_i2 = (u32)(w2c_j2);
     w2c_j2 = i64_load8_u(m, (u64)(w2c_i2));
@@ -111289,7 +111311,7 @@ static u64 w2c_f140(module *m, u64 w2c_p0, u64 w2c_p1, u32 w2c_p2, u32 w2c_p3, u
   w2c_i0 = (u32)(w2c_j0);
   w2c_j1 = w2c_l7;
   w2c_j2 = w2c_l8;
-  w2c_j3 = 83490ull;
+  w2c_j3 = 83586ull;
   w2c_j2 += w2c_j3;
   w2c_i2 = (u32)(w2c_j2);
   w2c_j2 = i64_load8_u(m, (u64)(w2c_i2));
@@ -111610,7 +111632,7 @@ static u64 w2c_f140(module *m, u64 w2c_p0, u64 w2c_p1, u32 w2c_p2, u32 w2c_p3, u
     w2c_i0 = (u32)(w2c_j0);
     w2c_j1 = w2c_l12;
     w2c_j2 = w2c_l8;
-    w2c_j3 = 83545ull;
+    w2c_j3 = 83641ull;
     w2c_j2 += w2c_j3;
     w2c_i2 = (u32)(w2c_j2);
     w2c_j2 = i64_load8_u(m, (u64)(w2c_i2));
@@ -111670,7 +111692,7 @@ static u64 w2c_f140(module *m, u64 w2c_p0, u64 w2c_p1, u32 w2c_p2, u32 w2c_p3, u
     w2c_j1 = w2c_l12;
     w2c_j2 = w2c_l13;
     w2c_i2 = (u32)(w2c_j2);
-    w2c_j2 = i64_load8_u(m, (u64)(w2c_i2) + 83545u);
+    w2c_j2 = i64_load8_u(m, (u64)(w2c_i2) + 83641u);
     w2c_j3 = 2ull;
     w2c_j2 <<= (w2c_j3 & 63);
     w2c_j1 += w2c_j2;
@@ -111721,7 +111743,7 @@ static u64 w2c_f140(module *m, u64 w2c_p0, u64 w2c_p1, u32 w2c_p2, u32 w2c_p3, u
     w2c_i0 = (u32)(w2c_j0);
     w2c_j1 = w2c_l12;
     w2c_j2 = w2c_l8;
-    w2c_j3 = 83545ull;
+    w2c_j3 = 83641ull;
     w2c_j2 += w2c_j3;
     w2c_i2 = (u32)(w2c_j2);
     w2c_j2 = i64_load8_u(m, (u64)(w2c_i2));
@@ -111775,7 +111797,7 @@ static u64 w2c_f140(module *m, u64 w2c_p0, u64 w2c_p1, u32 w2c_p2, u32 w2c_p3, u
     w2c_i0 = (u32)(w2c_j0);
     w2c_j1 = w2c_l12;
     w2c_j2 = w2c_l8;
-    w2c_j3 = 83545ull;
+    w2c_j3 = 83641ull;
     w2c_j2 += w2c_j3;
     w2c_i2 = (u32)(w2c_j2);
     w2c_j2 = i64_load8_u(m, (u64)(w2c_i2));
@@ -112059,7 +112081,7 @@ static u64 w2c_f140(module *m, u64 w2c_p0, u64 w2c_p1, u32 w2c_p2, u32 w2c_p3, u
   w2c_j1 = w2c_l12;
   w2c_j2 = w2c_l8;
   w2c_i2 = (u32)(w2c_j2);
-  w2c_j2 = i64_load8_u(m, (u64)(w2c_i2) + 83545u);
+  w2c_j2 = i64_load8_u(m, (u64)(w2c_i2) + 83641u);
   w2c_j3 = 2ull;
   w2c_j2 <<= (w2c_j3 & 63);
   w2c_j1 += w2c_j2;
@@ -112116,7 +112138,7 @@ static u64 w2c_f140(module *m, u64 w2c_p0, u64 w2c_p1, u32 w2c_p2, u32 w2c_p3, u
   w2c_j1 = w2c_l12;
   w2c_j2 = w2c_l10;
   w2c_i2 = (u32)(w2c_j2);
-  w2c_j2 = i64_load8_u(m, (u64)(w2c_i2) + 83545u);
+  w2c_j2 = i64_load8_u(m, (u64)(w2c_i2) + 83641u);
   w2c_j3 = 2ull;
   w2c_j2 <<= (w2c_j3 & 63);
   w2c_j1 += w2c_j2;
@@ -112168,7 +112190,7 @@ static u64 w2c_f140(module *m, u64 w2c_p0, u64 w2c_p1, u32 w2c_p2, u32 w2c_p3, u
   w2c_j1 = w2c_l12;
   w2c_j2 = w2c_l8;
   w2c_i2 = (u32)(w2c_j2);
-  w2c_j2 = i64_load8_u(m, (u64)(w2c_i2) + 83545u);
+  w2c_j2 = i64_load8_u(m, (u64)(w2c_i2) + 83641u);
   w2c_j3 = 2ull;
   w2c_j2 <<= (w2c_j3 & 63);
   w2c_j1 += w2c_j2;
@@ -112220,7 +112242,7 @@ static u64 w2c_f140(module *m, u64 w2c_p0, u64 w2c_p1, u32 w2c_p2, u32 w2c_p3, u
   w2c_j1 = w2c_l12;
   w2c_j2 = w2c_l8;
   w2c_i2 = (u32)(w2c_j2);
-  w2c_j2 = i64_load8_u(m, (u64)(w2c_i2) + 83545u);
+  w2c_j2 = i64_load8_u(m, (u64)(w2c_i2) + 83641u);
   w2c_j3 = 2ull;
   w2c_j2 <<= (w2c_j3 & 63);
   w2c_j1 += w2c_j2;
@@ -112253,7 +112275,7 @@ static u64 w2c_f140(module *m, u64 w2c_p0, u64 w2c_p1, u32 w2c_p2, u32 w2c_p3, u
     w2c_i0 = (u32)(w2c_j0);
     w2c_j1 = w2c_l7;
     w2c_j2 = w2c_l8;
-    w2c_j3 = 83490ull;
+    w2c_j3 = 83586ull;
     w2c_j2 += w2c_j3;
     w2c_i2 = (u32)(w2c_j2);
     w2c_j2 = i64_load8_u(m, (u64)(w2c_i2));
@@ -112334,7 +112356,7 @@ static u64 w2c_f140(module *m, u64 w2c_p0, u64 w2c_p1, u32 w2c_p2, u32 w2c_p3, u
   w2c_i0 = (u32)(w2c_j0);
   w2c_j1 = w2c_l7;
   w2c_j2 = w2c_l8;
-  w2c_j3 = 83490ull;
+  w2c_j3 = 83586ull;
   w2c_j2 += w2c_j3;
   w2c_i2 = (u32)(w2c_j2);
   w2c_j2 = i64_load8_u(m, (u64)(w2c_i2));
@@ -112655,7 +112677,7 @@ static u64 w2c_f140(module *m, u64 w2c_p0, u64 w2c_p1, u32 w2c_p2, u32 w2c_p3, u
     w2c_i0 = (u32)(w2c_j0);
     w2c_j1 = w2c_l12;
     w2c_j2 = w2c_l8;
-    w2c_j3 = 83584ull;
+    w2c_j3 = 83680ull;
     w2c_j2 += w2c_j3;
     w2c_i2 = (u32)(w2c_j2);
     w2c_j2 = i64_load8_u(m, (u64)(w2c_i2));
@@ -112715,7 +112737,7 @@ static u64 w2c_f140(module *m, u64 w2c_p0, u64 w2c_p1, u32 w2c_p2, u32 w2c_p3, u
     w2c_j1 = w2c_l12;
     w2c_j2 = w2c_l13;
     w2c_i2 = (u32)(w2c_j2);
-    w2c_j2 = i64_load8_u(m, (u64)(w2c_i2) + 83584u);
+    w2c_j2 = i64_load8_u(m, (u64)(w2c_i2) + 83680u);
     w2c_j3 = 2ull;
     w2c_j2 <<= (w2c_j3 & 63);
     w2c_j1 += w2c_j2;
@@ -112770,7 +112792,7 @@ static u64 w2c_f140(module *m, u64 w2c_p0, u64 w2c_p1, u32 w2c_p2, u32 w2c_p3, u
     w2c_j1 = w2c_l12;
     w2c_j2 = w2c_l13;
     w2c_i2 = (u32)(w2c_j2);
-    w2c_j2 = i64_load8_u(m, (u64)(w2c_i2) + 83584u);
+    w2c_j2 = i64_load8_u(m, (u64)(w2c_i2) + 83680u);
     w2c_j3 = 2ull;
     w2c_j2 <<= (w2c_j3 & 63);
     w2c_j1 += w2c_j2;
@@ -112825,7 +112847,7 @@ static u64 w2c_f140(module *m, u64 w2c_p0, u64 w2c_p1, u32 w2c_p2, u32 w2c_p3, u
     w2c_j1 = w2c_l12;
     w2c_j2 = w2c_l13;
     w2c_i2 = (u32)(w2c_j2);
-    w2c_j2 = i64_load8_u(m, (u64)(w2c_i2) + 83584u);
+    w2c_j2 = i64_load8_u(m, (u64)(w2c_i2) + 83680u);
     w2c_j3 = 2ull;
     w2c_j2 <<= (w2c_j3 & 63);
     w2c_j1 += w2c_j2;
@@ -112876,7 +112898,7 @@ static u64 w2c_f140(module *m, u64 w2c_p0, u64 w2c_p1, u32 w2c_p2, u32 w2c_p3, u
     w2c_i0 = (u32)(w2c_j0);
     w2c_j1 = w2c_l12;
     w2c_j2 = w2c_l8;
-    w2c_j3 = 83584ull;
+    w2c_j3 = 83680ull;
     w2c_j2 += w2c_j3;
     w2c_i2 = (u32)(w2c_j2);
     w2c_j2 = i64_load8_u(m, (u64)(w2c_i2));
@@ -112930,7 +112952,7 @@ static u64 w2c_f140(module *m, u64 w2c_p0, u64 w2c_p1, u32 w2c_p2, u32 w2c_p3, u
     w2c_i0 = (u32)(w2c_j0);
     w2c_j1 = w2c_l12;
     w2c_j2 = w2c_l8;
-    w2c_j3 = 83584ull;
+    w2c_j3 = 83680ull;
     w2c_j2 += w2c_j3;
     w2c_i2 = (u32)(w2c_j2);
     w2c_j2 = i64_load8_u(m, (u64)(w2c_i2));
@@ -113214,7 +113236,7 @@ static u64 w2c_f140(module *m, u64 w2c_p0, u64 w2c_p1, u32 w2c_p2, u32 w2c_p3, u
   w2c_j1 = w2c_l12;
   w2c_j2 = w2c_l8;
   w2c_i2 = (u32)(w2c_j2);
-  w2c_j2 = i64_load8_u(m, (u64)(w2c_i2) + 83584u);
+  w2c_j2 = i64_load8_u(m, (u64)(w2c_i2) + 83680u);
   w2c_j3 = 2ull;
   w2c_j2 <<= (w2c_j3 & 63);
   w2c_j1 += w2c_j2;
@@ -113271,7 +113293,7 @@ static u64 w2c_f140(module *m, u64 w2c_p0, u64 w2c_p1, u32 w2c_p2, u32 w2c_p3, u
   w2c_j1 = w2c_l12;
   w2c_j2 = w2c_l10;
   w2c_i2 = (u32)(w2c_j2);
-  w2c_j2 = i64_load8_u(m, (u64)(w2c_i2) + 83584u);
+  w2c_j2 = i64_load8_u(m, (u64)(w2c_i2) + 83680u);
   w2c_j3 = 2ull;
   w2c_j2 <<= (w2c_j3 & 63);
   w2c_j1 += w2c_j2;
@@ -113326,7 +113348,7 @@ static u64 w2c_f140(module *m, u64 w2c_p0, u64 w2c_p1, u32 w2c_p2, u32 w2c_p3, u
   w2c_j1 = w2c_l12;
   w2c_j2 = w2c_l10;
   w2c_i2 = (u32)(w2c_j2);
-  w2c_j2 = i64_load8_u(m, (u64)(w2c_i2) + 83584u);
+  w2c_j2 = i64_load8_u(m, (u64)(w2c_i2) + 83680u);
   w2c_j3 = 2ull;
   w2c_j2 <<= (w2c_j3 & 63);
   w2c_j1 += w2c_j2;
@@ -113381,7 +113403,7 @@ static u64 w2c_f140(module *m, u64 w2c_p0, u64 w2c_p1, u32 w2c_p2, u32 w2c_p3, u
   w2c_j1 = w2c_l12;
   w2c_j2 = w2c_l10;
   w2c_i2 = (u32)(w2c_j2);
-  w2c_j2 = i64_load8_u(m, (u64)(w2c_i2) + 83584u);
+  w2c_j2 = i64_load8_u(m, (u64)(w2c_i2) + 83680u);
   w2c_j3 = 2ull;
   w2c_j2 <<= (w2c_j3 & 63);
   w2c_j1 += w2c_j2;
@@ -113433,7 +113455,7 @@ static u64 w2c_f140(module *m, u64 w2c_p0, u64 w2c_p1, u32 w2c_p2, u32 w2c_p3, u
   w2c_j1 = w2c_l12;
   w2c_j2 = w2c_l8;
   w2c_i2 = (u32)(w2c_j2);
-  w2c_j2 = i64_load8_u(m, (u64)(w2c_i2) + 83584u);
+  w2c_j2 = i64_load8_u(m, (u64)(w2c_i2) + 83680u);
   w2c_j3 = 2ull;
   w2c_j2 <<= (w2c_j3 & 63);
   w2c_j1 += w2c_j2;
@@ -113485,7 +113507,7 @@ static u64 w2c_f140(module *m, u64 w2c_p0, u64 w2c_p1, u32 w2c_p2, u32 w2c_p3, u
   w2c_j1 = w2c_l12;
   w2c_j2 = w2c_l8;
   w2c_i2 = (u32)(w2c_j2);
-  w2c_j2 = i64_load8_u(m, (u64)(w2c_i2) + 83584u);
+  w2c_j2 = i64_load8_u(m, (u64)(w2c_i2) + 83680u);
   w2c_j3 = 2ull;
   w2c_j2 <<= (w2c_j3 & 63);
   w2c_j1 += w2c_j2;
@@ -113518,7 +113540,7 @@ static u64 w2c_f140(module *m, u64 w2c_p0, u64 w2c_p1, u32 w2c_p2, u32 w2c_p3, u
     w2c_i0 = (u32)(w2c_j0);
     w2c_j1 = w2c_l7;
     w2c_j2 = w2c_l8;
-    w2c_j3 = 83490ull;
+    w2c_j3 = 83586ull;
     w2c_j2 += w2c_j3;
     w2c_i2 = (u32)(w2c_j2);
     w2c_j2 = i64_load8_u(m, (u64)(w2c_i2));
@@ -113599,7 +113621,7 @@ static u64 w2c_f140(module *m, u64 w2c_p0, u64 w2c_p1, u32 w2c_p2, u32 w2c_p3, u
   w2c_i0 = (u32)(w2c_j0);
   w2c_j1 = w2c_l7;
   w2c_j2 = w2c_l8;
-  w2c_j3 = 83490ull;
+  w2c_j3 = 83586ull;
   w2c_j2 += w2c_j3;
   w2c_i2 = (u32)(w2c_j2);
   w2c_j2 = i64_load8_u(m, (u64)(w2c_i2));
@@ -114141,13 +114163,13 @@ static u32 w2c_f141(module *m, u64 w2c_p0, u64 w2c_p1, u32 w2c_p2, u32 w2c_p3, u
   w2c_j1 = 1ull;
   w2c_j0 <<= (w2c_j1 & 63);
   w2c_l7 = w2c_j0;
-  w2c_j1 = 82993ull;
+  w2c_j1 = 83089ull;
   w2c_j0 += w2c_j1;
   w2c_i0 = (u32)(w2c_j0);
   w2c_i0 = i32_load8_u(m, (u64)(w2c_i0));
   w2c_l12 = w2c_i0;
   w2c_j0 = w2c_l7;
-  w2c_j1 = 82992ull;
+  w2c_j1 = 83088ull;
   w2c_j0 += w2c_j1;
   w2c_i0 = (u32)(w2c_j0);
   w2c_i0 = i32_load8_u(m, (u64)(w2c_i0));
@@ -114971,23 +114993,23 @@ static u32 w2c_chinese_input_message(module *m, u64 w2c_p0, u64 w2c_p1, u32 w2c_
 }
 
 static u32 w2c_f149(module *m, u64 w2c_p0, u64 w2c_p1, u32 w2c_p2, u32 w2c_p3, u64 w2c_p4, u64 w2c_p5, u64 w2c_p6) {
-  u32 w2c_l23 = 0, w2c_l24 = 0, w2c_l25 = 0, w2c_l26 = 0, w2c_l27 = 0, w2c_l28 = 0;
-  u64 w2c_l7 = 0, w2c_l8 = 0, w2c_l9 = 0, w2c_l10 = 0, w2c_l11 = 0, w2c_l12 = 0, w2c_l13 = 0, w2c_l14 = 0, w2c_l15 = 0, w2c_l16 = 0, w2c_l17 = 0, w2c_l18 = 0, w2c_l19 = 0, w2c_l20 = 0, w2c_l21 = 0, w2c_l22 = 0;
+  u32 w2c_l24 = 0, w2c_l25 = 0, w2c_l26 = 0, w2c_l27 = 0, w2c_l28 = 0, w2c_l29 = 0;
+  u64 w2c_l7 = 0, w2c_l8 = 0, w2c_l9 = 0, w2c_l10 = 0, w2c_l11 = 0, w2c_l12 = 0, w2c_l13 = 0, w2c_l14 = 0, w2c_l15 = 0, w2c_l16 = 0, w2c_l17 = 0, w2c_l18 = 0, w2c_l19 = 0, w2c_l20 = 0, w2c_l21 = 0, w2c_l22 = 0, w2c_l23 = 0;
   u32 w2c_i0, w2c_i1, w2c_i2, w2c_i3, w2c_i4, w2c_i5;
   u64 w2c_j0, w2c_j1, w2c_j2, w2c_j3, w2c_j4, w2c_j5;
   w2c_j0 = m->w2c_g0;
-  w2c_j1 = 1312ull;
+  w2c_j1 = 1328ull;
   w2c_j0 -= w2c_j1;
   w2c_l7 = w2c_j0;
   m->w2c_g0 = w2c_j0;
-  (void)its_own(m, w2c_l7, 1312);
+  (void)its_own(m, w2c_l7, 1328);
   w2c_j0 = w2c_l7;
   w2c_l7 = w2c_j0;
   w2c_j1 = 16ull;
   w2c_i0 = (u64)((s64)w2c_j0 < (s64)w2c_j1);
   if (w2c_i0) {goto w2c_B9;}
   w2c_j0 = w2c_l7;
-  w2c_j1 = 160ull;
+  w2c_j1 = 176ull;
   w2c_j0 += w2c_j1;
   w2c_i0 = (u32)(w2c_j0);
   w2c_i1 = 0u;
@@ -115001,17 +115023,17 @@ static u32 w2c_f149(module *m, u64 w2c_p0, u64 w2c_p1, u32 w2c_p2, u32 w2c_p3, u
   w2c_j0 = w2c_l7;
   w2c_i0 = (u32)(w2c_j0);
   w2c_j1 = 0ull;
+  i64_store(m, (u64)(w2c_i0) + 168, w2c_j1);
+  w2c_j0 = w2c_l7;
+  w2c_i0 = (u32)(w2c_j0);
+  w2c_j1 = 0ull;
+  i64_store(m, (u64)(w2c_i0) + 160, w2c_j1);
+  w2c_j0 = w2c_l7;
+  w2c_i0 = (u32)(w2c_j0);
+  w2c_j1 = 0ull;
   i64_store(m, (u64)(w2c_i0) + 152, w2c_j1);
-  w2c_j0 = w2c_l7;
-  w2c_i0 = (u32)(w2c_j0);
-  w2c_j1 = 0ull;
-  i64_store(m, (u64)(w2c_i0) + 144, w2c_j1);
-  w2c_j0 = w2c_l7;
-  w2c_i0 = (u32)(w2c_j0);
-  w2c_j1 = 0ull;
-  i64_store(m, (u64)(w2c_i0) + 136, w2c_j1);
   w2c_i0 = 8u;
-  w2c_l23 = w2c_i0;
+  w2c_l24 = w2c_i0;
   w2c_i0 = w2c_p2;
   w2c_i1 = 5u;
   w2c_i0 = w2c_i0 > w2c_i1;
@@ -115101,7 +115123,7 @@ static u32 w2c_f149(module *m, u64 w2c_p0, u64 w2c_p1, u32 w2c_p2, u32 w2c_p3, u
   w2c_i0 = w2c_f6(m, w2c_j0, w2c_j1);
   if (w2c_i0) {goto w2c_B10;}
   w2c_i0 = 5u;
-  w2c_l23 = w2c_i0;
+  w2c_l24 = w2c_i0;
   goto w2c_B0;
   w2c_B10:;
   w2c_i0 = w2c_p3;
@@ -115110,9 +115132,9 @@ static u32 w2c_f149(module *m, u64 w2c_p0, u64 w2c_p1, u32 w2c_p2, u32 w2c_p3, u
   w2c_i3 = 3u;
   w2c_i2 = w2c_i2 < w2c_i3;
   w2c_i0 = w2c_i2 ? w2c_i0 : w2c_i1;
-  w2c_l24 = w2c_i0;
+  w2c_l25 = w2c_i0;
   w2c_j0 = w2c_l7;
-  w2c_j1 = 160ull;
+  w2c_j1 = 176ull;
   w2c_j0 += w2c_j1;
   w2c_i0 = (u32)(w2c_j0);
   w2c_i1 = 0u;
@@ -115124,19 +115146,19 @@ static u32 w2c_f149(module *m, u64 w2c_p0, u64 w2c_p1, u32 w2c_p2, u32 w2c_p3, u
   w2c_j0 = w2c_l7;
   w2c_i0 = (u32)(w2c_j0);
   w2c_j1 = 0ull;
-  i64_store(m, (u64)(w2c_i0) + 152, w2c_j1);
+  i64_store(m, (u64)(w2c_i0) + 168, w2c_j1);
   w2c_j0 = w2c_l7;
   w2c_i0 = (u32)(w2c_j0);
   w2c_j1 = 512ull;
-  i64_store(m, (u64)(w2c_i0) + 144, w2c_j1);
+  i64_store(m, (u64)(w2c_i0) + 160, w2c_j1);
   w2c_j0 = w2c_l7;
   w2c_i0 = (u32)(w2c_j0);
   w2c_j1 = w2c_l7;
-  w2c_j2 = 160ull;
+  w2c_j2 = 176ull;
   w2c_j1 += w2c_j2;
-  i64_store(m, (u64)(w2c_i0) + 136, w2c_j1);
+  i64_store(m, (u64)(w2c_i0) + 152, w2c_j1);
   w2c_j0 = w2c_l7;
-  w2c_j1 = 992ull;
+  w2c_j1 = 1008ull;
   w2c_j0 += w2c_j1;
   w2c_i0 = (u32)(w2c_j0);
   w2c_i1 = 0u;
@@ -115146,7 +115168,11 @@ static u32 w2c_f149(module *m, u64 w2c_p0, u64 w2c_p1, u32 w2c_p2, u32 w2c_p3, u
   w2c_j0 = w2c_l7;
   w2c_i0 = (u32)(w2c_j0);
   w2c_j1 = 0ull;
-  i64_store(m, (u64)(w2c_i0) + 896, w2c_j1);
+  i64_store(m, (u64)(w2c_i0) + 912, w2c_j1);
+  w2c_j0 = w2c_l7;
+  w2c_i0 = (u32)(w2c_j0);
+  w2c_j1 = 0ull;
+  i64_store(m, (u64)(w2c_i0) + 936, w2c_j1);
   w2c_j0 = w2c_l7;
   w2c_i0 = (u32)(w2c_j0);
   w2c_j1 = 0ull;
@@ -115154,13 +115180,9 @@ static u32 w2c_f149(module *m, u64 w2c_p0, u64 w2c_p1, u32 w2c_p2, u32 w2c_p3, u
   w2c_j0 = w2c_l7;
   w2c_i0 = (u32)(w2c_j0);
   w2c_j1 = 0ull;
-  i64_store(m, (u64)(w2c_i0) + 904, w2c_j1);
+  i64_store(m, (u64)(w2c_i0) + 928, w2c_j1);
   w2c_j0 = w2c_l7;
-  w2c_i0 = (u32)(w2c_j0);
-  w2c_j1 = 0ull;
-  i64_store(m, (u64)(w2c_i0) + 912, w2c_j1);
-  w2c_j0 = w2c_l7;
-  w2c_j1 = 672ull;
+  w2c_j1 = 688ull;
   w2c_j0 += w2c_j1;
   w2c_i0 = (u32)(w2c_j0);
   w2c_i1 = 0u;
@@ -115168,7 +115190,7 @@ static u32 w2c_f149(module *m, u64 w2c_p0, u64 w2c_p1, u32 w2c_p2, u32 w2c_p3, u
   w2c_i2 = (u32)(w2c_j2);
   memory_fill(m, w2c_i0, w2c_i1, w2c_i2);
   w2c_j0 = w2c_l7;
-  w2c_j1 = 896ull;
+  w2c_j1 = 912ull;
   w2c_j0 += w2c_j1;
   w2c_i1 = w2c_p2;
   w2c_i2 = 0u;
@@ -115182,72 +115204,72 @@ static u32 w2c_f149(module *m, u64 w2c_p0, u64 w2c_p1, u32 w2c_p2, u32 w2c_p3, u
   w2c_f23(m, w2c_j0, w2c_i1, w2c_j2, w2c_j3);
   w2c_j0 = w2c_l7;
   w2c_i0 = (u32)(w2c_j0);
-  w2c_i0 = i32_load8_u(m, (u64)(w2c_i0) + 896u);
+  w2c_i0 = i32_load8_u(m, (u64)(w2c_i0) + 912u);
   w2c_i1 = 1u;
   w2c_i0 = w2c_i0 != w2c_i1;
   if (w2c_i0) {goto w2c_B15;}
   w2c_j0 = w2c_l7;
   w2c_i0 = (u32)(w2c_j0);
-  w2c_i0 = i32_load_of_text(m, (u64)(w2c_i0) + 916u);
-  w2c_l23 = w2c_i0;
+  w2c_i0 = i32_load_of_text(m, (u64)(w2c_i0) + 932u);
+  w2c_l24 = w2c_i0;
   w2c_j0 = w2c_l7;
   w2c_i0 = (u32)(w2c_j0);
-  w2c_i0 = i32_load8_u(m, (u64)(w2c_i0) + 912u);
+  w2c_i0 = i32_load8_u(m, (u64)(w2c_i0) + 928u);
   w2c_p2 = w2c_i0;
   w2c_j0 = w2c_l7;
   w2c_i0 = (u32)(w2c_j0);
-  w2c_j0 = i64_load(m, (u64)(w2c_i0) + 904u);
+  w2c_j0 = i64_load(m, (u64)(w2c_i0) + 920u);
   w2c_l12 = w2c_j0;
   w2c_j0 = w2c_l7;
   w2c_i0 = (u32)(w2c_j0);
   w2c_j1 = 0ull;
-  i64_store(m, (u64)(w2c_i0) + 1216, w2c_j1);
+  i64_store(m, (u64)(w2c_i0) + 1232, w2c_j1);
+  w2c_j0 = w2c_l7;
+  w2c_i0 = (u32)(w2c_j0);
+  w2c_j1 = 0ull;
+  i64_store(m, (u64)(w2c_i0) + 1296, w2c_j1);
+  w2c_j0 = w2c_l7;
+  w2c_i0 = (u32)(w2c_j0);
+  w2c_j1 = 79940ull;
+  i64_store(m, (u64)(w2c_i0) + 1288, w2c_j1);
   w2c_j0 = w2c_l7;
   w2c_i0 = (u32)(w2c_j0);
   w2c_j1 = 0ull;
   i64_store(m, (u64)(w2c_i0) + 1280, w2c_j1);
   w2c_j0 = w2c_l7;
   w2c_i0 = (u32)(w2c_j0);
-  w2c_j1 = 79844ull;
+  w2c_j1 = 79940ull;
   i64_store(m, (u64)(w2c_i0) + 1272, w2c_j1);
   w2c_j0 = w2c_l7;
   w2c_i0 = (u32)(w2c_j0);
-  w2c_j1 = 0ull;
-  i64_store(m, (u64)(w2c_i0) + 1264, w2c_j1);
-  w2c_j0 = w2c_l7;
-  w2c_i0 = (u32)(w2c_j0);
-  w2c_j1 = 79844ull;
+  w2c_j1 = w2c_l12;
   i64_store(m, (u64)(w2c_i0) + 1256, w2c_j1);
   w2c_j0 = w2c_l7;
   w2c_i0 = (u32)(w2c_j0);
-  w2c_j1 = w2c_l12;
+  w2c_j1 = w2c_l10;
   i64_store(m, (u64)(w2c_i0) + 1240, w2c_j1);
   w2c_j0 = w2c_l7;
   w2c_i0 = (u32)(w2c_j0);
-  w2c_j1 = w2c_l10;
-  i64_store(m, (u64)(w2c_i0) + 1224, w2c_j1);
-  w2c_j0 = w2c_l7;
-  w2c_i0 = (u32)(w2c_j0);
-  w2c_i1 = w2c_l24;
-  i32_store8(m, (u64)(w2c_i0) + 1216, w2c_i1);
+  w2c_i1 = w2c_l25;
+  i32_store8(m, (u64)(w2c_i0) + 1232, w2c_i1);
   w2c_j0 = w2c_l7;
   w2c_i0 = (u32)(w2c_j0);
   w2c_i1 = w2c_p2;
   w2c_i2 = 2u;
   w2c_i1 = w2c_i1 != w2c_i2;
   w2c_p3 = w2c_i1;
-  i32_store(m, (u64)(w2c_i0) + 1248, w2c_i1);
+  i32_store(m, (u64)(w2c_i0) + 1264, w2c_i1);
   w2c_j0 = w2c_l7;
   w2c_i0 = (u32)(w2c_j0);
-  w2c_i1 = w2c_l23;
+  w2c_i1 = w2c_l24;
   w2c_i2 = 0u;
   w2c_i3 = w2c_p3;
   w2c_i1 = w2c_i3 ? w2c_i1 : w2c_i2;
-  i32_store(m, (u64)(w2c_i0) + 1252, w2c_i1);
+  i32_store(m, (u64)(w2c_i0) + 1268, w2c_i1);
   w2c_j0 = w2c_l7;
   w2c_i0 = (u32)(w2c_j0);
   w2c_j1 = w2c_p1;
-  i64_store(m, (u64)(w2c_i0) + 1232, w2c_j1);
+  i64_store(m, (u64)(w2c_i0) + 1248, w2c_j1);
   w2c_j0 = 0ull;
   w2c_l11 = w2c_j0;
   w2c_j0 = w2c_p1;
@@ -115255,7 +115277,7 @@ static u32 w2c_f149(module *m, u64 w2c_p0, u64 w2c_p1, u32 w2c_p2, u32 w2c_p3, u
   w2c_i0 = w2c_j0 < w2c_j1;
   if (w2c_i0) {goto w2c_B16;}
   w2c_j0 = w2c_l7;
-  w2c_j1 = 16ull;
+  w2c_j1 = 24ull;
   w2c_j0 += w2c_j1;
   w2c_j1 = w2c_l10;
   w2c_j2 = w2c_p1;
@@ -115264,12 +115286,12 @@ static u32 w2c_f149(module *m, u64 w2c_p0, u64 w2c_p1, u32 w2c_p2, u32 w2c_p3, u
   w2c_j0 = w2c_p1;
   w2c_j1 = w2c_l7;
   w2c_i1 = (u32)(w2c_j1);
-  w2c_j1 = i64_load(m, (u64)(w2c_i1) + 24u);
+  w2c_j1 = i64_load(m, (u64)(w2c_i1) + 32u);
   w2c_j0 -= w2c_j1;
   w2c_l8 = w2c_j0;
   w2c_j0 = w2c_l7;
   w2c_i0 = (u32)(w2c_j0);
-  w2c_j0 = i64_load(m, (u64)(w2c_i0) + 16u);
+  w2c_j0 = i64_load(m, (u64)(w2c_i0) + 24u);
   w2c_l11 = w2c_j0;
   w2c_B16:;
   w2c_j0 = w2c_p1;
@@ -115325,49 +115347,49 @@ static u32 w2c_f149(module *m, u64 w2c_p0, u64 w2c_p1, u32 w2c_p2, u32 w2c_p3, u
   UNREACHABLE;
   w2c_B15:;
   w2c_j0 = w2c_l7;
-  w2c_j1 = 672ull;
+  w2c_j1 = 688ull;
   w2c_j0 += w2c_j1;
   w2c_i1 = w2c_p3;
   w2c_j2 = w2c_l10;
   w2c_j3 = w2c_p1;
   w2c_f7(m, w2c_j0, w2c_i1, w2c_j2, w2c_j3);
   w2c_j0 = w2c_l7;
-  w2c_j1 = 992ull;
+  w2c_j1 = 1008ull;
   w2c_j0 += w2c_j1;
   w2c_i0 = (u32)(w2c_j0);
   w2c_j1 = w2c_l7;
-  w2c_j2 = 672ull;
+  w2c_j2 = 688ull;
   w2c_j1 += w2c_j2;
   w2c_i1 = (u32)(w2c_j1);
   w2c_j2 = 224ull;
   w2c_i2 = (u32)(w2c_j2);
   memory_copy(m, w2c_i0, w2c_i1, w2c_i2);
   w2c_j0 = w2c_l7;
-  w2c_j1 = 120ull;
+  w2c_j1 = 136ull;
   w2c_j0 += w2c_j1;
   w2c_j1 = w2c_l10;
   w2c_j2 = w2c_p1;
   w2c_j3 = w2c_l7;
   w2c_i3 = (u32)(w2c_j3);
-  w2c_j3 = i64_load(m, (u64)(w2c_i3) + 992u);
+  w2c_j3 = i64_load(m, (u64)(w2c_i3) + 1008u);
   w2c_l13 = w2c_j3;
   w2c_f37(m, w2c_j0, w2c_j1, w2c_j2, w2c_j3);
   w2c_j0 = w2c_l7;
   w2c_i0 = (u32)(w2c_j0);
-  w2c_i0 = i32_load8_u(m, (u64)(w2c_i0) + 1000u);
-  w2c_l25 = w2c_i0;
+  w2c_i0 = i32_load8_u(m, (u64)(w2c_i0) + 1016u);
+  w2c_l26 = w2c_i0;
   w2c_j0 = w2c_l7;
   w2c_i0 = (u32)(w2c_j0);
-  w2c_j0 = i64_load(m, (u64)(w2c_i0) + 120u);
+  w2c_j0 = i64_load(m, (u64)(w2c_i0) + 136u);
   w2c_l14 = w2c_j0;
   w2c_j0 = w2c_l7;
   w2c_i0 = (u32)(w2c_j0);
-  w2c_j0 = i64_load(m, (u64)(w2c_i0) + 128u);
+  w2c_j0 = i64_load(m, (u64)(w2c_i0) + 144u);
   w2c_l15 = w2c_j0;
   w2c_j1 = 0ull;
   w2c_i0 = w2c_j0 != w2c_j1;
   if (w2c_i0) {goto w2c_B20;}
-  w2c_i0 = w2c_l25;
+  w2c_i0 = w2c_l26;
   w2c_i1 = 1u;
   w2c_i0 &= w2c_i1;
   w2c_i0 = !(w2c_i0);
@@ -115375,17 +115397,17 @@ static u32 w2c_f149(module *m, u64 w2c_p0, u64 w2c_p1, u32 w2c_p2, u32 w2c_p3, u
   w2c_j0 = w2c_l7;
   w2c_i0 = (u32)(w2c_j0);
   w2c_j1 = 0ull;
-  i64_store(m, (u64)(w2c_i0) + 1288, w2c_j1);
-  w2c_j0 = w2c_l7;
-  w2c_i0 = (u32)(w2c_j0);
-  w2c_j1 = 0ull;
-  i64_store(m, (u64)(w2c_i0) + 1296, w2c_j1);
-  w2c_j0 = w2c_l7;
-  w2c_i0 = (u32)(w2c_j0);
-  w2c_j1 = 0ull;
   i64_store(m, (u64)(w2c_i0) + 1304, w2c_j1);
   w2c_j0 = w2c_l7;
-  w2c_j1 = 1288ull;
+  w2c_i0 = (u32)(w2c_j0);
+  w2c_j1 = 0ull;
+  i64_store(m, (u64)(w2c_i0) + 1312, w2c_j1);
+  w2c_j0 = w2c_l7;
+  w2c_i0 = (u32)(w2c_j0);
+  w2c_j1 = 0ull;
+  i64_store(m, (u64)(w2c_i0) + 1320, w2c_j1);
+  w2c_j0 = w2c_l7;
+  w2c_j1 = 1304ull;
   w2c_j0 += w2c_j1;
   w2c_j1 = w2c_l10;
   w2c_j2 = w2c_p1;
@@ -115398,7 +115420,7 @@ static u32 w2c_f149(module *m, u64 w2c_p0, u64 w2c_p1, u32 w2c_p2, u32 w2c_p3, u
   if (w2c_i0) {goto w2c_B1;}
   w2c_j0 = w2c_l7;
   w2c_i0 = (u32)(w2c_j0);
-  w2c_i0 = i32_load8_u(m, (u64)(w2c_i0) + 1288u);
+  w2c_i0 = i32_load8_u(m, (u64)(w2c_i0) + 1304u);
   w2c_i1 = 255u;
   w2c_i0 &= w2c_i1;
   w2c_i1 = 1u;
@@ -115406,7 +115428,7 @@ static u32 w2c_f149(module *m, u64 w2c_p0, u64 w2c_p1, u32 w2c_p2, u32 w2c_p3, u
   if (w2c_i0) {goto w2c_B1;}
   w2c_j0 = w2c_l7;
   w2c_i0 = (u32)(w2c_j0);
-  w2c_i0 = i32_load8_u(m, (u64)(w2c_i0) + 1296u);
+  w2c_i0 = i32_load8_u(m, (u64)(w2c_i0) + 1312u);
   w2c_i1 = 255u;
   w2c_i0 &= w2c_i1;
   w2c_i1 = 2u;
@@ -115415,64 +115437,64 @@ static u32 w2c_f149(module *m, u64 w2c_p0, u64 w2c_p1, u32 w2c_p2, u32 w2c_p3, u
   w2c_j0 = w2c_l7;
   w2c_i0 = (u32)(w2c_j0);
   w2c_i1 = 0u;
-  i32_store(m, (u64)(w2c_i0) + 1217, w2c_i1);
+  i32_store(m, (u64)(w2c_i0) + 1233, w2c_i1);
   w2c_j0 = w2c_l7;
   w2c_i0 = (u32)(w2c_j0);
-  w2c_i1 = w2c_l24;
-  i32_store8(m, (u64)(w2c_i0) + 1216, w2c_i1);
+  w2c_i1 = w2c_l25;
+  i32_store8(m, (u64)(w2c_i0) + 1232, w2c_i1);
   w2c_j0 = w2c_l7;
   w2c_i0 = (u32)(w2c_j0);
   w2c_i1 = 0u;
-  i32_store(m, (u64)(w2c_i0) + 1220, w2c_i1);
+  i32_store(m, (u64)(w2c_i0) + 1236, w2c_i1);
   w2c_j0 = w2c_l7;
   w2c_i0 = (u32)(w2c_j0);
   w2c_j1 = 0ull;
-  i64_store(m, (u64)(w2c_i0) + 1240, w2c_j1);
+  i64_store(m, (u64)(w2c_i0) + 1256, w2c_j1);
   w2c_j0 = w2c_l7;
   w2c_i0 = (u32)(w2c_j0);
   w2c_j1 = w2c_p1;
-  i64_store(m, (u64)(w2c_i0) + 1232, w2c_j1);
-  w2c_j0 = w2c_l7;
-  w2c_i0 = (u32)(w2c_j0);
-  w2c_j1 = w2c_l10;
-  i64_store(m, (u64)(w2c_i0) + 1224, w2c_j1);
-  w2c_j0 = w2c_l7;
-  w2c_i0 = (u32)(w2c_j0);
-  w2c_j1 = 0ull;
   i64_store(m, (u64)(w2c_i0) + 1248, w2c_j1);
   w2c_j0 = w2c_l7;
   w2c_i0 = (u32)(w2c_j0);
-  w2c_j1 = 0ull;
-  i64_store(m, (u64)(w2c_i0) + 1280, w2c_j1);
-  w2c_j0 = w2c_l7;
-  w2c_i0 = (u32)(w2c_j0);
-  w2c_j1 = 79844ull;
-  i64_store(m, (u64)(w2c_i0) + 1272, w2c_j1);
+  w2c_j1 = w2c_l10;
+  i64_store(m, (u64)(w2c_i0) + 1240, w2c_j1);
   w2c_j0 = w2c_l7;
   w2c_i0 = (u32)(w2c_j0);
   w2c_j1 = 0ull;
   i64_store(m, (u64)(w2c_i0) + 1264, w2c_j1);
   w2c_j0 = w2c_l7;
   w2c_i0 = (u32)(w2c_j0);
-  w2c_j1 = 79844ull;
-  i64_store(m, (u64)(w2c_i0) + 1256, w2c_j1);
+  w2c_j1 = 0ull;
+  i64_store(m, (u64)(w2c_i0) + 1296, w2c_j1);
   w2c_j0 = w2c_l7;
-  w2c_j1 = 1216ull;
+  w2c_i0 = (u32)(w2c_j0);
+  w2c_j1 = 79940ull;
+  i64_store(m, (u64)(w2c_i0) + 1288, w2c_j1);
+  w2c_j0 = w2c_l7;
+  w2c_i0 = (u32)(w2c_j0);
+  w2c_j1 = 0ull;
+  i64_store(m, (u64)(w2c_i0) + 1280, w2c_j1);
+  w2c_j0 = w2c_l7;
+  w2c_i0 = (u32)(w2c_j0);
+  w2c_j1 = 79940ull;
+  i64_store(m, (u64)(w2c_i0) + 1272, w2c_j1);
+  w2c_j0 = w2c_l7;
+  w2c_j1 = 1232ull;
   w2c_j0 += w2c_j1;
   w2c_j1 = w2c_l7;
-  w2c_j2 = 136ull;
+  w2c_j2 = 152ull;
   w2c_j1 += w2c_j2;
-  w2c_i2 = 19u;
+  w2c_i2 = 22u;
   w2c_f33(m, w2c_j0, w2c_j1, w2c_i2);
   goto w2c_B1;
   w2c_B20:;
   w2c_j0 = w2c_l7;
-  w2c_j1 = 1008ull;
+  w2c_j1 = 1024ull;
   w2c_j0 += w2c_j1;
   w2c_l16 = w2c_j0;
   w2c_j0 = w2c_l7;
   w2c_i0 = (u32)(w2c_j0);
-  w2c_j0 = i64_load(m, (u64)(w2c_i0) + 1200u);
+  w2c_j0 = i64_load(m, (u64)(w2c_i0) + 1216u);
   w2c_l17 = w2c_j0;
   w2c_j0 = w2c_p1;
   w2c_l12 = w2c_j0;
@@ -115481,18 +115503,18 @@ static u32 w2c_f149(module *m, u64 w2c_p0, u64 w2c_p1, u32 w2c_p2, u32 w2c_p3, u
   w2c_L22:
     w2c_j0 = w2c_l12;
     w2c_i0 = !(w2c_j0);
-    w2c_l26 = w2c_i0;
+    w2c_l27 = w2c_i0;
     if (w2c_i0) {goto w2c_B21;}
     w2c_j0 = w2c_l11;
     w2c_i0 = (u32)(w2c_j0);
     w2c_i0 = i32_load8_s(m, (u64)(w2c_i0));
-    w2c_l23 = w2c_i0;
+    w2c_l24 = w2c_i0;
     w2c_i1 = 255u;
     w2c_i0 &= w2c_i1;
     w2c_p2 = w2c_i0;
     w2c_j0 = 1ull;
     w2c_l8 = w2c_j0;
-    w2c_i0 = w2c_l23;
+    w2c_i0 = w2c_l24;
     w2c_i1 = 4294967295u;
     w2c_i0 = (u32)((s32)w2c_i0 > (s32)w2c_i1);
     if (w2c_i0) {goto w2c_B23;}
@@ -115501,8 +115523,8 @@ static u32 w2c_f149(module *m, u64 w2c_p0, u64 w2c_p1, u32 w2c_p2, u32 w2c_p3, u
     w2c_i0 = i32_load8_u(m, (u64)(w2c_i0) + 1u);
     w2c_i1 = 63u;
     w2c_i0 &= w2c_i1;
-    w2c_l27 = w2c_i0;
-    w2c_i0 = w2c_l23;
+    w2c_l28 = w2c_i0;
+    w2c_i0 = w2c_l24;
     w2c_i1 = 4294967263u;
     w2c_i0 = w2c_i0 > w2c_i1;
     if (w2c_i0) {goto w2c_B24;}
@@ -115511,7 +115533,7 @@ static u32 w2c_f149(module *m, u64 w2c_p0, u64 w2c_p1, u32 w2c_p2, u32 w2c_p3, u
     w2c_i0 <<= (w2c_i1 & 31);
     w2c_i1 = 1984u;
     w2c_i0 &= w2c_i1;
-    w2c_i1 = w2c_l27;
+    w2c_i1 = w2c_l28;
     w2c_i0 |= w2c_i1;
     w2c_p2 = w2c_i0;
     w2c_j0 = 2ull;
@@ -115523,12 +115545,12 @@ static u32 w2c_f149(module *m, u64 w2c_p0, u64 w2c_p1, u32 w2c_p2, u32 w2c_p3, u
     w2c_i0 = i32_load8_u(m, (u64)(w2c_i0) + 2u);
     w2c_i1 = 63u;
     w2c_i0 &= w2c_i1;
-    w2c_l28 = w2c_i0;
-    w2c_i0 = w2c_l23;
+    w2c_l29 = w2c_i0;
+    w2c_i0 = w2c_l24;
     w2c_i1 = 4294967279u;
     w2c_i0 = w2c_i0 > w2c_i1;
     if (w2c_i0) {goto w2c_B25;}
-    w2c_i0 = w2c_l27;
+    w2c_i0 = w2c_l28;
     w2c_i1 = 6u;
     w2c_i0 <<= (w2c_i1 & 31);
     w2c_i1 = w2c_p2;
@@ -115537,17 +115559,17 @@ static u32 w2c_f149(module *m, u64 w2c_p0, u64 w2c_p1, u32 w2c_p2, u32 w2c_p3, u
     w2c_i2 = 61440u;
     w2c_i1 &= w2c_i2;
     w2c_i0 |= w2c_i1;
-    w2c_i1 = w2c_l28;
+    w2c_i1 = w2c_l29;
     w2c_i0 |= w2c_i1;
     w2c_p2 = w2c_i0;
     w2c_j0 = 3ull;
     w2c_l8 = w2c_j0;
     goto w2c_B23;
     w2c_B25:;
-    w2c_i0 = w2c_l28;
+    w2c_i0 = w2c_l29;
     w2c_i1 = 6u;
     w2c_i0 <<= (w2c_i1 & 31);
-    w2c_i1 = w2c_l27;
+    w2c_i1 = w2c_l28;
     w2c_i2 = 12u;
     w2c_i1 <<= (w2c_i2 & 31);
     w2c_i2 = w2c_p2;
@@ -115620,7 +115642,7 @@ static u32 w2c_f149(module *m, u64 w2c_p0, u64 w2c_p1, u32 w2c_p2, u32 w2c_p3, u
     w2c_i0 = w2c_i0 != w2c_i1;
     if (w2c_i0) {goto w2c_L22;}
   w2c_B21:;
-  w2c_j0 = 79806ull;
+  w2c_j0 = 79902ull;
   w2c_l11 = w2c_j0;
   w2c_j0 = 8ull;
   w2c_l8 = w2c_j0;
@@ -115639,14 +115661,14 @@ static u32 w2c_f149(module *m, u64 w2c_p0, u64 w2c_p1, u32 w2c_p2, u32 w2c_p3, u
     default: goto w2c_B30;
   }
   w2c_B33:;
-  w2c_i0 = w2c_l26;
+  w2c_i0 = w2c_l27;
   if (w2c_i0) {goto w2c_B30;}
-  w2c_j0 = 79617ull;
-  w2c_j1 = 79617ull;
-  w2c_j2 = 79584ull;
-  w2c_i3 = w2c_l26;
+  w2c_j0 = 79713ull;
+  w2c_j1 = 79713ull;
+  w2c_j2 = 79680ull;
+  w2c_i3 = w2c_l27;
   w2c_j1 = w2c_i3 ? w2c_j1 : w2c_j2;
-  w2c_i2 = w2c_l24;
+  w2c_i2 = w2c_l25;
   w2c_i3 = 255u;
   w2c_i2 &= w2c_i3;
   w2c_i3 = 2u;
@@ -115657,14 +115679,14 @@ static u32 w2c_f149(module *m, u64 w2c_p0, u64 w2c_p1, u32 w2c_p2, u32 w2c_p3, u
   w2c_l8 = w2c_j0;
   goto w2c_B29;
   w2c_B32:;
-  w2c_i0 = w2c_l26;
+  w2c_i0 = w2c_l27;
   if (w2c_i0) {goto w2c_B30;}
-  w2c_j0 = 79692ull;
-  w2c_j1 = 79692ull;
-  w2c_j2 = 79650ull;
-  w2c_i3 = w2c_l26;
+  w2c_j0 = 79788ull;
+  w2c_j1 = 79788ull;
+  w2c_j2 = 79746ull;
+  w2c_i3 = w2c_l27;
   w2c_j1 = w2c_i3 ? w2c_j1 : w2c_j2;
-  w2c_i2 = w2c_l24;
+  w2c_i2 = w2c_l25;
   w2c_i3 = 255u;
   w2c_i2 &= w2c_i3;
   w2c_i3 = 2u;
@@ -115675,9 +115697,9 @@ static u32 w2c_f149(module *m, u64 w2c_p0, u64 w2c_p1, u32 w2c_p2, u32 w2c_p3, u
   w2c_l8 = w2c_j0;
   goto w2c_B29;
   w2c_B31:;
-  w2c_j0 = 79734ull;
-  w2c_j1 = 79770ull;
-  w2c_i2 = w2c_l24;
+  w2c_j0 = 79830ull;
+  w2c_j1 = 79866ull;
+  w2c_i2 = w2c_l25;
   w2c_i3 = 255u;
   w2c_i2 &= w2c_i3;
   w2c_i3 = 2u;
@@ -115688,7 +115710,7 @@ static u32 w2c_f149(module *m, u64 w2c_p0, u64 w2c_p1, u32 w2c_p2, u32 w2c_p3, u
   w2c_l8 = w2c_j0;
   goto w2c_B29;
   w2c_B30:;
-  w2c_j0 = 79814ull;
+  w2c_j0 = 79910ull;
   w2c_l11 = w2c_j0;
   w2c_j0 = 30ull;
   w2c_l8 = w2c_j0;
@@ -115696,66 +115718,66 @@ static u32 w2c_f149(module *m, u64 w2c_p0, u64 w2c_p1, u32 w2c_p2, u32 w2c_p3, u
   w2c_j0 = w2c_l7;
   w2c_i0 = (u32)(w2c_j0);
   w2c_j1 = w2c_l8;
-  i64_store(m, (u64)(w2c_i0) + 984, w2c_j1);
+  i64_store(m, (u64)(w2c_i0) + 1000, w2c_j1);
   w2c_j0 = w2c_l7;
   w2c_i0 = (u32)(w2c_j0);
   w2c_j1 = w2c_l11;
-  i64_store(m, (u64)(w2c_i0) + 976, w2c_j1);
+  i64_store(m, (u64)(w2c_i0) + 992, w2c_j1);
   w2c_j0 = w2c_l7;
   w2c_i0 = (u32)(w2c_j0);
   w2c_j1 = w2c_l17;
-  i64_store(m, (u64)(w2c_i0) + 968, w2c_j1);
+  i64_store(m, (u64)(w2c_i0) + 984, w2c_j1);
   w2c_j0 = w2c_l7;
   w2c_i0 = (u32)(w2c_j0);
   w2c_j1 = w2c_l16;
-  i64_store(m, (u64)(w2c_i0) + 960, w2c_j1);
+  i64_store(m, (u64)(w2c_i0) + 976, w2c_j1);
   w2c_j0 = w2c_l7;
   w2c_i0 = (u32)(w2c_j0);
   w2c_j1 = 0ull;
-  i64_store(m, (u64)(w2c_i0) + 952, w2c_j1);
+  i64_store(m, (u64)(w2c_i0) + 968, w2c_j1);
   w2c_j0 = w2c_l7;
   w2c_i0 = (u32)(w2c_j0);
   w2c_j1 = w2c_l13;
-  i64_store(m, (u64)(w2c_i0) + 944, w2c_j1);
+  i64_store(m, (u64)(w2c_i0) + 960, w2c_j1);
   w2c_j0 = w2c_l7;
   w2c_i0 = (u32)(w2c_j0);
   w2c_j1 = w2c_p1;
-  i64_store(m, (u64)(w2c_i0) + 936, w2c_j1);
+  i64_store(m, (u64)(w2c_i0) + 952, w2c_j1);
   w2c_j0 = w2c_l7;
   w2c_i0 = (u32)(w2c_j0);
   w2c_j1 = w2c_l10;
-  i64_store(m, (u64)(w2c_i0) + 928, w2c_j1);
+  i64_store(m, (u64)(w2c_i0) + 944, w2c_j1);
   w2c_j0 = w2c_l7;
   w2c_i0 = (u32)(w2c_j0);
-  w2c_i1 = w2c_l24;
-  i32_store8(m, (u64)(w2c_i0) + 920, w2c_i1);
+  w2c_i1 = w2c_l25;
+  i32_store8(m, (u64)(w2c_i0) + 936, w2c_i1);
   w2c_j0 = w2c_l14;
   w2c_j1 = w2c_l15;
-  w2c_j2 = 79844ull;
+  w2c_j2 = 79940ull;
   w2c_j3 = 3ull;
   w2c_i0 = w2c_f31(m, w2c_j0, w2c_j1, w2c_j2, w2c_j3);
   if (w2c_i0) {goto w2c_B34;}
   w2c_j0 = w2c_l14;
   w2c_j1 = w2c_l15;
-  w2c_j2 = 79847ull;
+  w2c_j2 = 79943ull;
   w2c_j3 = 3ull;
   w2c_i0 = w2c_f31(m, w2c_j0, w2c_j1, w2c_j2, w2c_j3);
   if (w2c_i0) {goto w2c_B34;}
   w2c_j0 = w2c_l14;
   w2c_j1 = w2c_l15;
-  w2c_j2 = 73746ull;
+  w2c_j2 = 73819ull;
   w2c_j3 = 1ull;
   w2c_i0 = w2c_f31(m, w2c_j0, w2c_j1, w2c_j2, w2c_j3);
   if (w2c_i0) {goto w2c_B34;}
   w2c_j0 = w2c_l14;
   w2c_j1 = w2c_l15;
-  w2c_j2 = 79850ull;
+  w2c_j2 = 79946ull;
   w2c_j3 = 3ull;
   w2c_i0 = w2c_f31(m, w2c_j0, w2c_j1, w2c_j2, w2c_j3);
   if (w2c_i0) {goto w2c_B34;}
   w2c_j0 = w2c_l14;
   w2c_j1 = w2c_l15;
-  w2c_j2 = 79853ull;
+  w2c_j2 = 79949ull;
   w2c_j3 = 3ull;
   w2c_i0 = w2c_f31(m, w2c_j0, w2c_j1, w2c_j2, w2c_j3);
   w2c_i0 = !(w2c_i0);
@@ -115763,18 +115785,18 @@ static u32 w2c_f149(module *m, u64 w2c_p0, u64 w2c_p1, u32 w2c_p2, u32 w2c_p3, u
   w2c_B34:;
   w2c_i0 = 1u;
   w2c_p2 = w2c_i0;
-  w2c_i0 = 16u;
-  w2c_l23 = w2c_i0;
+  w2c_i0 = 19u;
+  w2c_l24 = w2c_i0;
   w2c_i0 = 1u;
   w2c_i1 = w2c_p3;
   w2c_i2 = 255u;
   w2c_i1 &= w2c_i2;
   w2c_i0 <<= (w2c_i1 & 31);
-  w2c_l24 = w2c_i0;
+  w2c_l25 = w2c_i0;
   w2c_i1 = 26u;
   w2c_i0 &= w2c_i1;
   if (w2c_i0) {goto w2c_B7;}
-  w2c_i0 = w2c_l24;
+  w2c_i0 = w2c_l25;
   w2c_i1 = 5u;
   w2c_i0 &= w2c_i1;
   if (w2c_i0) {goto w2c_B5;}
@@ -115791,7 +115813,7 @@ static u32 w2c_f149(module *m, u64 w2c_p0, u64 w2c_p1, u32 w2c_p2, u32 w2c_p3, u
   w2c_i0 = w2c_j0 < w2c_j1;
   if (w2c_i0) {goto w2c_B35;}
   w2c_j0 = w2c_l7;
-  w2c_j1 = 104ull;
+  w2c_j1 = 120ull;
   w2c_j0 += w2c_j1;
   w2c_j1 = w2c_l10;
   w2c_j2 = w2c_p1;
@@ -115800,12 +115822,12 @@ static u32 w2c_f149(module *m, u64 w2c_p0, u64 w2c_p1, u32 w2c_p2, u32 w2c_p3, u
   w2c_j0 = w2c_p1;
   w2c_j1 = w2c_l7;
   w2c_i1 = (u32)(w2c_j1);
-  w2c_j1 = i64_load(m, (u64)(w2c_i1) + 112u);
+  w2c_j1 = i64_load(m, (u64)(w2c_i1) + 128u);
   w2c_j0 -= w2c_j1;
   w2c_l8 = w2c_j0;
   w2c_j0 = w2c_l7;
   w2c_i0 = (u32)(w2c_j0);
-  w2c_j0 = i64_load(m, (u64)(w2c_i0) + 104u);
+  w2c_j0 = i64_load(m, (u64)(w2c_i0) + 120u);
   w2c_l11 = w2c_j0;
   w2c_B35:;
   w2c_j0 = w2c_l18;
@@ -115905,8 +115927,8 @@ static u32 w2c_f149(module *m, u64 w2c_p0, u64 w2c_p1, u32 w2c_p2, u32 w2c_p3, u
   w2c_i0 = w2c_j0 < w2c_j1;
   if (w2c_i0) {goto w2c_B6;}
   w2c_B7:;
-  w2c_i0 = 15u;
-  w2c_l23 = w2c_i0;
+  w2c_i0 = 18u;
+  w2c_l24 = w2c_i0;
   w2c_i0 = 1u;
   w2c_p2 = w2c_i0;
   goto w2c_B5;
@@ -115917,50 +115939,170 @@ static u32 w2c_f149(module *m, u64 w2c_p0, u64 w2c_p1, u32 w2c_p2, u32 w2c_p3, u
   w2c_p2 = w2c_i0;
   w2c_i1 = 4u;
   w2c_i0 = w2c_i0 < w2c_i1;
-  if (w2c_i0) {goto w2c_B43;}
+  if (w2c_i0) {goto w2c_B42;}
   w2c_i0 = w2c_p2;
   w2c_i1 = 4294967292u;
   w2c_i0 += w2c_i1;
   switch (w2c_i0) {
-    case 0: goto w2c_B44;
-    case 1: goto w2c_B45;
-    default: goto w2c_B44;
+    case 0: goto w2c_B41;
+    case 1: goto w2c_B43;
+    default: goto w2c_B41;
   }
-  w2c_B45:;
+  w2c_B43:;
   w2c_j0 = w2c_p1;
   w2c_p0 = w2c_j0;
   w2c_j0 = w2c_l10;
   w2c_l11 = w2c_j0;
-  w2c_L49:
+  w2c_L46:
     w2c_j0 = 0ull;
-    w2c_l8 = w2c_j0;
+    w2c_l12 = w2c_j0;
     w2c_j0 = w2c_p0;
     w2c_j1 = 0ull;
-    w2c_i0 = w2c_j0 == w2c_j1;
-    if (w2c_i0) {goto w2c_B48;}
+    w2c_i0 = w2c_j0 != w2c_j1;
+    if (w2c_i0) {goto w2c_B47;}
+    w2c_j0 = w2c_p1;
+    w2c_l8 = w2c_j0;
+    w2c_L49:
+      w2c_j0 = w2c_l8;
+      w2c_i0 = !(w2c_j0);
+      if (w2c_i0) {goto w2c_B48;}
+      w2c_j0 = w2c_l10;
+      w2c_i0 = (u32)(w2c_j0);
+      w2c_i0 = i32_load8_s(m, (u64)(w2c_i0));
+      w2c_l24 = w2c_i0;
+      w2c_i1 = 255u;
+      w2c_i0 &= w2c_i1;
+      w2c_p2 = w2c_i0;
+      w2c_j0 = 1ull;
+      w2c_l11 = w2c_j0;
+      w2c_i0 = w2c_l24;
+      w2c_i1 = 4294967295u;
+      w2c_i0 = (u32)((s32)w2c_i0 > (s32)w2c_i1);
+      if (w2c_i0) {goto w2c_B50;}
+      w2c_j0 = w2c_l10;
+      w2c_i0 = (u32)(w2c_j0);
+      w2c_i0 = i32_load8_u(m, (u64)(w2c_i0) + 1u);
+      w2c_i1 = 63u;
+      w2c_i0 &= w2c_i1;
+      w2c_p3 = w2c_i0;
+      w2c_i0 = w2c_l24;
+      w2c_i1 = 4294967263u;
+      w2c_i0 = w2c_i0 > w2c_i1;
+      if (w2c_i0) {goto w2c_B51;}
+      w2c_i0 = w2c_p2;
+      w2c_i1 = 6u;
+      w2c_i0 <<= (w2c_i1 & 31);
+      w2c_i1 = 1984u;
+      w2c_i0 &= w2c_i1;
+      w2c_i1 = w2c_p3;
+      w2c_i0 |= w2c_i1;
+      w2c_p2 = w2c_i0;
+      w2c_j0 = 2ull;
+      w2c_l11 = w2c_j0;
+      goto w2c_B50;
+      w2c_B51:;
+      w2c_j0 = w2c_l10;
+      w2c_i0 = (u32)(w2c_j0);
+      w2c_i0 = i32_load8_u(m, (u64)(w2c_i0) + 2u);
+      w2c_i1 = 63u;
+      w2c_i0 &= w2c_i1;
+      w2c_l25 = w2c_i0;
+      w2c_i0 = w2c_l24;
+      w2c_i1 = 4294967279u;
+      w2c_i0 = w2c_i0 > w2c_i1;
+      if (w2c_i0) {goto w2c_B52;}
+      w2c_i0 = w2c_p3;
+      w2c_i1 = 6u;
+      w2c_i0 <<= (w2c_i1 & 31);
+      w2c_i1 = w2c_p2;
+      w2c_i2 = 12u;
+      w2c_i1 <<= (w2c_i2 & 31);
+      w2c_i2 = 61440u;
+      w2c_i1 &= w2c_i2;
+      w2c_i0 |= w2c_i1;
+      w2c_i1 = w2c_l25;
+      w2c_i0 |= w2c_i1;
+      w2c_p2 = w2c_i0;
+      w2c_j0 = 3ull;
+      w2c_l11 = w2c_j0;
+      goto w2c_B50;
+      w2c_B52:;
+      w2c_i0 = w2c_l25;
+      w2c_i1 = 6u;
+      w2c_i0 <<= (w2c_i1 & 31);
+      w2c_i1 = w2c_p3;
+      w2c_i2 = 12u;
+      w2c_i1 <<= (w2c_i2 & 31);
+      w2c_i2 = w2c_p2;
+      w2c_i3 = 18u;
+      w2c_i2 <<= (w2c_i3 & 31);
+      w2c_i3 = 1835008u;
+      w2c_i2 &= w2c_i3;
+      w2c_i1 |= w2c_i2;
+      w2c_i0 |= w2c_i1;
+      w2c_j1 = w2c_l10;
+      w2c_i1 = (u32)(w2c_j1);
+      w2c_i1 = i32_load8_u(m, (u64)(w2c_i1) + 3u);
+      w2c_i2 = 63u;
+      w2c_i1 &= w2c_i2;
+      w2c_i0 |= w2c_i1;
+      w2c_p2 = w2c_i0;
+      w2c_j0 = 4ull;
+      w2c_l11 = w2c_j0;
+      w2c_B50:;
+      w2c_j0 = w2c_l8;
+      w2c_j1 = w2c_l11;
+      w2c_j0 -= w2c_j1;
+      w2c_l8 = w2c_j0;
+      w2c_j0 = w2c_l10;
+      w2c_j1 = w2c_l11;
+      w2c_j0 += w2c_j1;
+      w2c_l10 = w2c_j0;
+      w2c_i0 = w2c_p2;
+      w2c_i1 = 65294u;
+      w2c_i0 = w2c_i0 == w2c_i1;
+      if (w2c_i0) {goto w2c_B53;}
+      w2c_i0 = w2c_p2;
+      w2c_i1 = 46u;
+      w2c_i0 = w2c_i0 != w2c_i1;
+      if (w2c_i0) {goto w2c_L49;}
+      w2c_B53:;
+      w2c_j0 = w2c_l12;
+      w2c_j1 = 1ull;
+      w2c_j0 += w2c_j1;
+      w2c_l12 = w2c_j0;
+      goto w2c_L49;
+    UNREACHABLE;
+    w2c_B48:;
+    w2c_j0 = w2c_l12;
+    w2c_j1 = 2ull;
+    w2c_i0 = w2c_j0 < w2c_j1;
+    if (w2c_i0) {goto w2c_B44;}
+    goto w2c_B45;
+    w2c_B47:;
     w2c_j0 = w2c_l11;
     w2c_i0 = (u32)(w2c_j0);
     w2c_i0 = i32_load8_s(m, (u64)(w2c_i0));
-    w2c_l23 = w2c_i0;
+    w2c_l24 = w2c_i0;
     w2c_i1 = 255u;
     w2c_i0 &= w2c_i1;
     w2c_p2 = w2c_i0;
     w2c_j0 = 1ull;
     w2c_l8 = w2c_j0;
-    w2c_i0 = w2c_l23;
+    w2c_i0 = w2c_l24;
     w2c_i1 = 4294967295u;
     w2c_i0 = (u32)((s32)w2c_i0 > (s32)w2c_i1);
-    if (w2c_i0) {goto w2c_B50;}
+    if (w2c_i0) {goto w2c_B54;}
     w2c_j0 = w2c_l11;
     w2c_i0 = (u32)(w2c_j0);
     w2c_i0 = i32_load8_u(m, (u64)(w2c_i0) + 1u);
     w2c_i1 = 63u;
     w2c_i0 &= w2c_i1;
     w2c_p3 = w2c_i0;
-    w2c_i0 = w2c_l23;
+    w2c_i0 = w2c_l24;
     w2c_i1 = 4294967263u;
     w2c_i0 = w2c_i0 > w2c_i1;
-    if (w2c_i0) {goto w2c_B51;}
+    if (w2c_i0) {goto w2c_B55;}
     w2c_i0 = w2c_p2;
     w2c_i1 = 6u;
     w2c_i0 <<= (w2c_i1 & 31);
@@ -115971,18 +116113,18 @@ static u32 w2c_f149(module *m, u64 w2c_p0, u64 w2c_p1, u32 w2c_p2, u32 w2c_p3, u
     w2c_p2 = w2c_i0;
     w2c_j0 = 2ull;
     w2c_l8 = w2c_j0;
-    goto w2c_B50;
-    w2c_B51:;
+    goto w2c_B54;
+    w2c_B55:;
     w2c_j0 = w2c_l11;
     w2c_i0 = (u32)(w2c_j0);
     w2c_i0 = i32_load8_u(m, (u64)(w2c_i0) + 2u);
     w2c_i1 = 63u;
     w2c_i0 &= w2c_i1;
-    w2c_l24 = w2c_i0;
-    w2c_i0 = w2c_l23;
+    w2c_l25 = w2c_i0;
+    w2c_i0 = w2c_l24;
     w2c_i1 = 4294967279u;
     w2c_i0 = w2c_i0 > w2c_i1;
-    if (w2c_i0) {goto w2c_B52;}
+    if (w2c_i0) {goto w2c_B56;}
     w2c_i0 = w2c_p3;
     w2c_i1 = 6u;
     w2c_i0 <<= (w2c_i1 & 31);
@@ -115992,14 +116134,14 @@ static u32 w2c_f149(module *m, u64 w2c_p0, u64 w2c_p1, u32 w2c_p2, u32 w2c_p3, u
     w2c_i2 = 61440u;
     w2c_i1 &= w2c_i2;
     w2c_i0 |= w2c_i1;
-    w2c_i1 = w2c_l24;
+    w2c_i1 = w2c_l25;
     w2c_i0 |= w2c_i1;
     w2c_p2 = w2c_i0;
     w2c_j0 = 3ull;
     w2c_l8 = w2c_j0;
-    goto w2c_B50;
-    w2c_B52:;
-    w2c_i0 = w2c_l24;
+    goto w2c_B54;
+    w2c_B56:;
+    w2c_i0 = w2c_l25;
     w2c_i1 = 6u;
     w2c_i0 <<= (w2c_i1 & 31);
     w2c_i1 = w2c_p3;
@@ -116021,11 +116163,11 @@ static u32 w2c_f149(module *m, u64 w2c_p0, u64 w2c_p1, u32 w2c_p2, u32 w2c_p3, u
     w2c_p2 = w2c_i0;
     w2c_j0 = 4ull;
     w2c_l8 = w2c_j0;
-    w2c_B50:;
+    w2c_B54:;
     w2c_i0 = w2c_p2;
     w2c_i1 = 44u;
     w2c_i0 = w2c_i0 == w2c_i1;
-    if (w2c_i0) {goto w2c_B47;}
+    if (w2c_i0) {goto w2c_B45;}
     w2c_j0 = w2c_p0;
     w2c_j1 = w2c_l8;
     w2c_j0 -= w2c_j1;
@@ -116037,37 +116179,330 @@ static u32 w2c_f149(module *m, u64 w2c_p0, u64 w2c_p1, u32 w2c_p2, u32 w2c_p3, u
     w2c_i0 = w2c_p2;
     w2c_i1 = 65292u;
     w2c_i0 = w2c_i0 != w2c_i1;
-    if (w2c_i0) {goto w2c_L49;}
-    goto w2c_B47;
-  UNREACHABLE;
-  w2c_B48:;
-  w2c_L54:
-    w2c_j0 = w2c_p1;
-    w2c_i0 = !(w2c_j0);
-    if (w2c_i0) {goto w2c_B53;}
+    if (w2c_i0) {goto w2c_L46;}
+  w2c_B45:;
+  w2c_j0 = w2c_l15;
+  w2c_i0 = !(w2c_j0);
+  w2c_i0 = !(w2c_i0);
+  if (w2c_i0) {goto w2c_B57;}
+  w2c_i0 = 12u;
+  w2c_l24 = w2c_i0;
+  w2c_i0 = 1u;
+  w2c_p2 = w2c_i0;
+  goto w2c_B4;
+  w2c_B57:;
+  w2c_j0 = w2c_l15;
+  w2c_l10 = w2c_j0;
+  w2c_j0 = w2c_l14;
+  w2c_l11 = w2c_j0;
+  w2c_L58:
     w2c_j0 = w2c_l10;
+    w2c_i0 = !(w2c_j0);
+    if (w2c_i0) {goto w2c_B44;}
+    w2c_j0 = w2c_l11;
     w2c_i0 = (u32)(w2c_j0);
     w2c_i0 = i32_load8_s(m, (u64)(w2c_i0));
-    w2c_l23 = w2c_i0;
+    w2c_p2 = w2c_i0;
+    w2c_i1 = 255u;
+    w2c_i0 &= w2c_i1;
+    w2c_p3 = w2c_i0;
+    w2c_j0 = 1ull;
+    w2c_l8 = w2c_j0;
+    w2c_i0 = w2c_p2;
+    w2c_i1 = 4294967295u;
+    w2c_i0 = (u32)((s32)w2c_i0 > (s32)w2c_i1);
+    if (w2c_i0) {goto w2c_B59;}
+    w2c_j0 = w2c_l11;
+    w2c_i0 = (u32)(w2c_j0);
+    w2c_i0 = i32_load8_u(m, (u64)(w2c_i0) + 1u);
+    w2c_i1 = 63u;
+    w2c_i0 &= w2c_i1;
+    w2c_l24 = w2c_i0;
+    w2c_i0 = w2c_p2;
+    w2c_i1 = 4294967263u;
+    w2c_i0 = w2c_i0 > w2c_i1;
+    if (w2c_i0) {goto w2c_B60;}
+    w2c_i0 = w2c_p3;
+    w2c_i1 = 6u;
+    w2c_i0 <<= (w2c_i1 & 31);
+    w2c_i1 = 1984u;
+    w2c_i0 &= w2c_i1;
+    w2c_i1 = w2c_l24;
+    w2c_i0 |= w2c_i1;
+    w2c_p3 = w2c_i0;
+    w2c_j0 = 2ull;
+    w2c_l8 = w2c_j0;
+    goto w2c_B59;
+    w2c_B60:;
+    w2c_j0 = w2c_l11;
+    w2c_i0 = (u32)(w2c_j0);
+    w2c_i0 = i32_load8_u(m, (u64)(w2c_i0) + 2u);
+    w2c_i1 = 63u;
+    w2c_i0 &= w2c_i1;
+    w2c_l25 = w2c_i0;
+    w2c_i0 = w2c_p2;
+    w2c_i1 = 4294967279u;
+    w2c_i0 = w2c_i0 > w2c_i1;
+    if (w2c_i0) {goto w2c_B61;}
+    w2c_i0 = w2c_l24;
+    w2c_i1 = 6u;
+    w2c_i0 <<= (w2c_i1 & 31);
+    w2c_i1 = w2c_p3;
+    w2c_i2 = 12u;
+    w2c_i1 <<= (w2c_i2 & 31);
+    w2c_i2 = 61440u;
+    w2c_i1 &= w2c_i2;
+    w2c_i0 |= w2c_i1;
+    w2c_i1 = w2c_l25;
+    w2c_i0 |= w2c_i1;
+    w2c_p3 = w2c_i0;
+    w2c_j0 = 3ull;
+    w2c_l8 = w2c_j0;
+    goto w2c_B59;
+    w2c_B61:;
+    w2c_i0 = w2c_l25;
+    w2c_i1 = 6u;
+    w2c_i0 <<= (w2c_i1 & 31);
+    w2c_i1 = w2c_l24;
+    w2c_i2 = 12u;
+    w2c_i1 <<= (w2c_i2 & 31);
+    w2c_i2 = w2c_p3;
+    w2c_i3 = 18u;
+    w2c_i2 <<= (w2c_i3 & 31);
+    w2c_i3 = 1835008u;
+    w2c_i2 &= w2c_i3;
+    w2c_i1 |= w2c_i2;
+    w2c_i0 |= w2c_i1;
+    w2c_j1 = w2c_l11;
+    w2c_i1 = (u32)(w2c_j1);
+    w2c_i1 = i32_load8_u(m, (u64)(w2c_i1) + 3u);
+    w2c_i2 = 63u;
+    w2c_i1 &= w2c_i2;
+    w2c_i0 |= w2c_i1;
+    w2c_p3 = w2c_i0;
+    w2c_j0 = 4ull;
+    w2c_l8 = w2c_j0;
+    w2c_B59:;
+    w2c_i0 = 1u;
+    w2c_p2 = w2c_i0;
+    w2c_i0 = 12u;
+    w2c_l24 = w2c_i0;
+    w2c_i0 = w2c_p3;
+    w2c_i1 = 4294967248u;
+    w2c_i0 += w2c_i1;
+    w2c_i1 = 10u;
+    w2c_i0 = w2c_i0 < w2c_i1;
+    if (w2c_i0) {goto w2c_B5;}
+    w2c_i0 = w2c_p3;
+    w2c_i1 = 4294902000u;
+    w2c_i0 += w2c_i1;
+    w2c_i1 = 10u;
+    w2c_i0 = w2c_i0 < w2c_i1;
+    if (w2c_i0) {goto w2c_B5;}
+    w2c_j0 = w2c_l11;
+    w2c_j1 = w2c_l8;
+    w2c_j0 += w2c_j1;
+    w2c_l11 = w2c_j0;
+    w2c_j0 = w2c_l10;
+    w2c_j1 = w2c_l8;
+    w2c_j0 -= w2c_j1;
+    w2c_l10 = w2c_j0;
+    w2c_i0 = w2c_p3;
+    w2c_i1 = 4294967252u;
+    w2c_i0 += w2c_i1;
+    switch (w2c_i0) {
+      case 0: goto w2c_B5;
+      case 1: goto w2c_L58;
+      case 2: goto w2c_B5;
+      default: goto w2c_B62;
+    }
+    w2c_B62:;
+    w2c_i0 = w2c_p3;
+    w2c_i1 = 4294902004u;
+    w2c_i0 += w2c_i1;
+    switch (w2c_i0) {
+      case 0: goto w2c_B5;
+      case 1: goto w2c_L58;
+      case 2: goto w2c_B5;
+      default: goto w2c_L58;
+    }
+  UNREACHABLE;
+  w2c_B44:;
+  w2c_j0 = w2c_l16;
+  w2c_j1 = w2c_l17;
+  w2c_j2 = 79952ull;
+  w2c_i0 = w2c_f26(m, w2c_j0, w2c_j1, w2c_j2);
+  w2c_i0 = !(w2c_i0);
+  if (w2c_i0) {goto w2c_B63;}
+  w2c_j0 = w2c_l16;
+  w2c_j1 = w2c_l17;
+  w2c_j2 = 79956ull;
+  w2c_i0 = w2c_f26(m, w2c_j0, w2c_j1, w2c_j2);
+  if (w2c_i0) {goto w2c_B63;}
+  w2c_j0 = w2c_l15;
+  w2c_l10 = w2c_j0;
+  w2c_j0 = w2c_l14;
+  w2c_l11 = w2c_j0;
+  w2c_L64:
+    w2c_j0 = w2c_l10;
+    w2c_i0 = !(w2c_j0);
+    if (w2c_i0) {goto w2c_B63;}
+    w2c_j0 = w2c_l11;
+    w2c_i0 = (u32)(w2c_j0);
+    w2c_i0 = i32_load8_s(m, (u64)(w2c_i0));
+    w2c_p2 = w2c_i0;
+    w2c_i1 = 255u;
+    w2c_i0 &= w2c_i1;
+    w2c_p3 = w2c_i0;
+    w2c_j0 = 1ull;
+    w2c_l8 = w2c_j0;
+    w2c_i0 = w2c_p2;
+    w2c_i1 = 4294967295u;
+    w2c_i0 = (u32)((s32)w2c_i0 > (s32)w2c_i1);
+    if (w2c_i0) {goto w2c_B65;}
+    w2c_j0 = w2c_l11;
+    w2c_i0 = (u32)(w2c_j0);
+    w2c_i0 = i32_load8_u(m, (u64)(w2c_i0) + 1u);
+    w2c_i1 = 63u;
+    w2c_i0 &= w2c_i1;
+    w2c_l24 = w2c_i0;
+    w2c_i0 = w2c_p2;
+    w2c_i1 = 4294967263u;
+    w2c_i0 = w2c_i0 > w2c_i1;
+    if (w2c_i0) {goto w2c_B66;}
+    w2c_i0 = w2c_p3;
+    w2c_i1 = 6u;
+    w2c_i0 <<= (w2c_i1 & 31);
+    w2c_i1 = 1984u;
+    w2c_i0 &= w2c_i1;
+    w2c_i1 = w2c_l24;
+    w2c_i0 |= w2c_i1;
+    w2c_p3 = w2c_i0;
+    w2c_j0 = 2ull;
+    w2c_l8 = w2c_j0;
+    goto w2c_B65;
+    w2c_B66:;
+    w2c_j0 = w2c_l11;
+    w2c_i0 = (u32)(w2c_j0);
+    w2c_i0 = i32_load8_u(m, (u64)(w2c_i0) + 2u);
+    w2c_i1 = 63u;
+    w2c_i0 &= w2c_i1;
+    w2c_l25 = w2c_i0;
+    w2c_i0 = w2c_p2;
+    w2c_i1 = 4294967279u;
+    w2c_i0 = w2c_i0 > w2c_i1;
+    if (w2c_i0) {goto w2c_B67;}
+    w2c_i0 = w2c_l24;
+    w2c_i1 = 6u;
+    w2c_i0 <<= (w2c_i1 & 31);
+    w2c_i1 = w2c_p3;
+    w2c_i2 = 12u;
+    w2c_i1 <<= (w2c_i2 & 31);
+    w2c_i2 = 61440u;
+    w2c_i1 &= w2c_i2;
+    w2c_i0 |= w2c_i1;
+    w2c_i1 = w2c_l25;
+    w2c_i0 |= w2c_i1;
+    w2c_p3 = w2c_i0;
+    w2c_j0 = 3ull;
+    w2c_l8 = w2c_j0;
+    goto w2c_B65;
+    w2c_B67:;
+    w2c_i0 = w2c_l25;
+    w2c_i1 = 6u;
+    w2c_i0 <<= (w2c_i1 & 31);
+    w2c_i1 = w2c_l24;
+    w2c_i2 = 12u;
+    w2c_i1 <<= (w2c_i2 & 31);
+    w2c_i2 = w2c_p3;
+    w2c_i3 = 18u;
+    w2c_i2 <<= (w2c_i3 & 31);
+    w2c_i3 = 1835008u;
+    w2c_i2 &= w2c_i3;
+    w2c_i1 |= w2c_i2;
+    w2c_i0 |= w2c_i1;
+    w2c_j1 = w2c_l11;
+    w2c_i1 = (u32)(w2c_j1);
+    w2c_i1 = i32_load8_u(m, (u64)(w2c_i1) + 3u);
+    w2c_i2 = 63u;
+    w2c_i1 &= w2c_i2;
+    w2c_i0 |= w2c_i1;
+    w2c_p3 = w2c_i0;
+    w2c_j0 = 4ull;
+    w2c_l8 = w2c_j0;
+    w2c_B65:;
+    w2c_i0 = 1u;
+    w2c_p2 = w2c_i0;
+    w2c_i0 = 14u;
+    w2c_l24 = w2c_i0;
+    w2c_i0 = w2c_p3;
+    w2c_i1 = 4294967248u;
+    w2c_i0 += w2c_i1;
+    w2c_i1 = 10u;
+    w2c_i0 = w2c_i0 < w2c_i1;
+    if (w2c_i0) {goto w2c_B5;}
+    w2c_j0 = w2c_l10;
+    w2c_j1 = w2c_l8;
+    w2c_j0 -= w2c_j1;
+    w2c_l10 = w2c_j0;
+    w2c_j0 = w2c_l11;
+    w2c_j1 = w2c_l8;
+    w2c_j0 += w2c_j1;
+    w2c_l11 = w2c_j0;
+    w2c_i0 = w2c_p3;
+    w2c_i1 = 4294902000u;
+    w2c_i0 += w2c_i1;
+    w2c_i1 = 10u;
+    w2c_i0 = w2c_i0 >= w2c_i1;
+    if (w2c_i0) {goto w2c_L64;}
+    goto w2c_B5;
+  UNREACHABLE;
+  w2c_B63:;
+  w2c_i0 = 1u;
+  w2c_p2 = w2c_i0;
+  w2c_i0 = w2c_l26;
+  w2c_i1 = 1u;
+  w2c_i0 &= w2c_i1;
+  if (w2c_i0) {goto w2c_B68;}
+  w2c_i0 = 11u;
+  w2c_l24 = w2c_i0;
+  goto w2c_B5;
+  w2c_B68:;
+  w2c_j0 = w2c_l15;
+  w2c_l8 = w2c_j0;
+  w2c_L70:
+    w2c_j0 = w2c_l8;
+    w2c_l10 = w2c_j0;
+    w2c_i0 = !(w2c_j0);
+    w2c_i0 = !(w2c_i0);
+    if (w2c_i0) {goto w2c_B71;}
+    w2c_i0 = 0u;
+    w2c_l24 = w2c_i0;
+    goto w2c_B69;
+    w2c_B71:;
+    w2c_j0 = w2c_l14;
+    w2c_i0 = (u32)(w2c_j0);
+    w2c_i0 = i32_load8_s(m, (u64)(w2c_i0));
+    w2c_l24 = w2c_i0;
     w2c_i1 = 255u;
     w2c_i0 &= w2c_i1;
     w2c_p2 = w2c_i0;
     w2c_j0 = 1ull;
     w2c_l11 = w2c_j0;
-    w2c_i0 = w2c_l23;
+    w2c_i0 = w2c_l24;
     w2c_i1 = 4294967295u;
     w2c_i0 = (u32)((s32)w2c_i0 > (s32)w2c_i1);
-    if (w2c_i0) {goto w2c_B55;}
-    w2c_j0 = w2c_l10;
+    if (w2c_i0) {goto w2c_B72;}
+    w2c_j0 = w2c_l14;
     w2c_i0 = (u32)(w2c_j0);
     w2c_i0 = i32_load8_u(m, (u64)(w2c_i0) + 1u);
     w2c_i1 = 63u;
     w2c_i0 &= w2c_i1;
     w2c_p3 = w2c_i0;
-    w2c_i0 = w2c_l23;
+    w2c_i0 = w2c_l24;
     w2c_i1 = 4294967263u;
     w2c_i0 = w2c_i0 > w2c_i1;
-    if (w2c_i0) {goto w2c_B56;}
+    if (w2c_i0) {goto w2c_B73;}
     w2c_i0 = w2c_p2;
     w2c_i1 = 6u;
     w2c_i0 <<= (w2c_i1 & 31);
@@ -116078,18 +116513,18 @@ static u32 w2c_f149(module *m, u64 w2c_p0, u64 w2c_p1, u32 w2c_p2, u32 w2c_p3, u
     w2c_p2 = w2c_i0;
     w2c_j0 = 2ull;
     w2c_l11 = w2c_j0;
-    goto w2c_B55;
-    w2c_B56:;
-    w2c_j0 = w2c_l10;
+    goto w2c_B72;
+    w2c_B73:;
+    w2c_j0 = w2c_l14;
     w2c_i0 = (u32)(w2c_j0);
     w2c_i0 = i32_load8_u(m, (u64)(w2c_i0) + 2u);
     w2c_i1 = 63u;
     w2c_i0 &= w2c_i1;
-    w2c_l24 = w2c_i0;
-    w2c_i0 = w2c_l23;
+    w2c_l25 = w2c_i0;
+    w2c_i0 = w2c_l24;
     w2c_i1 = 4294967279u;
     w2c_i0 = w2c_i0 > w2c_i1;
-    if (w2c_i0) {goto w2c_B57;}
+    if (w2c_i0) {goto w2c_B74;}
     w2c_i0 = w2c_p3;
     w2c_i1 = 6u;
     w2c_i0 <<= (w2c_i1 & 31);
@@ -116099,305 +116534,20 @@ static u32 w2c_f149(module *m, u64 w2c_p0, u64 w2c_p1, u32 w2c_p2, u32 w2c_p3, u
     w2c_i2 = 61440u;
     w2c_i1 &= w2c_i2;
     w2c_i0 |= w2c_i1;
-    w2c_i1 = w2c_l24;
+    w2c_i1 = w2c_l25;
     w2c_i0 |= w2c_i1;
     w2c_p2 = w2c_i0;
     w2c_j0 = 3ull;
     w2c_l11 = w2c_j0;
-    goto w2c_B55;
-    w2c_B57:;
-    w2c_i0 = w2c_l24;
+    goto w2c_B72;
+    w2c_B74:;
+    w2c_i0 = w2c_l25;
     w2c_i1 = 6u;
     w2c_i0 <<= (w2c_i1 & 31);
     w2c_i1 = w2c_p3;
     w2c_i2 = 12u;
     w2c_i1 <<= (w2c_i2 & 31);
     w2c_i2 = w2c_p2;
-    w2c_i3 = 18u;
-    w2c_i2 <<= (w2c_i3 & 31);
-    w2c_i3 = 1835008u;
-    w2c_i2 &= w2c_i3;
-    w2c_i1 |= w2c_i2;
-    w2c_i0 |= w2c_i1;
-    w2c_j1 = w2c_l10;
-    w2c_i1 = (u32)(w2c_j1);
-    w2c_i1 = i32_load8_u(m, (u64)(w2c_i1) + 3u);
-    w2c_i2 = 63u;
-    w2c_i1 &= w2c_i2;
-    w2c_i0 |= w2c_i1;
-    w2c_p2 = w2c_i0;
-    w2c_j0 = 4ull;
-    w2c_l11 = w2c_j0;
-    w2c_B55:;
-    w2c_j0 = w2c_p1;
-    w2c_j1 = w2c_l11;
-    w2c_j0 -= w2c_j1;
-    w2c_p1 = w2c_j0;
-    w2c_j0 = w2c_l10;
-    w2c_j1 = w2c_l11;
-    w2c_j0 += w2c_j1;
-    w2c_l10 = w2c_j0;
-    w2c_i0 = w2c_p2;
-    w2c_i1 = 65294u;
-    w2c_i0 = w2c_i0 == w2c_i1;
-    if (w2c_i0) {goto w2c_B58;}
-    w2c_i0 = w2c_p2;
-    w2c_i1 = 46u;
-    w2c_i0 = w2c_i0 != w2c_i1;
-    if (w2c_i0) {goto w2c_L54;}
-    w2c_B58:;
-    w2c_j0 = w2c_l8;
-    w2c_j1 = 1ull;
-    w2c_j0 += w2c_j1;
-    w2c_l8 = w2c_j0;
-    goto w2c_L54;
-  UNREACHABLE;
-  w2c_B53:;
-  w2c_j0 = w2c_l8;
-  w2c_j1 = 2ull;
-  w2c_i0 = w2c_j0 < w2c_j1;
-  if (w2c_i0) {goto w2c_B46;}
-  w2c_B47:;
-  w2c_j0 = w2c_l15;
-  w2c_i0 = !(w2c_j0);
-  w2c_i0 = !(w2c_i0);
-  if (w2c_i0) {goto w2c_B59;}
-  w2c_i0 = 10u;
-  w2c_l23 = w2c_i0;
-  w2c_i0 = 1u;
-  w2c_p2 = w2c_i0;
-  goto w2c_B4;
-  w2c_B59:;
-  w2c_j0 = w2c_l15;
-  w2c_p1 = w2c_j0;
-  w2c_j0 = w2c_l14;
-  w2c_l11 = w2c_j0;
-  w2c_L60:
-    w2c_j0 = w2c_p1;
-    w2c_i0 = !(w2c_j0);
-    if (w2c_i0) {goto w2c_B46;}
-    w2c_j0 = w2c_l11;
-    w2c_i0 = (u32)(w2c_j0);
-    w2c_i0 = i32_load8_s(m, (u64)(w2c_i0));
-    w2c_p2 = w2c_i0;
-    w2c_i1 = 255u;
-    w2c_i0 &= w2c_i1;
-    w2c_p3 = w2c_i0;
-    w2c_j0 = 1ull;
-    w2c_l8 = w2c_j0;
-    w2c_i0 = w2c_p2;
-    w2c_i1 = 4294967295u;
-    w2c_i0 = (u32)((s32)w2c_i0 > (s32)w2c_i1);
-    if (w2c_i0) {goto w2c_B61;}
-    w2c_j0 = w2c_l11;
-    w2c_i0 = (u32)(w2c_j0);
-    w2c_i0 = i32_load8_u(m, (u64)(w2c_i0) + 1u);
-    w2c_i1 = 63u;
-    w2c_i0 &= w2c_i1;
-    w2c_l23 = w2c_i0;
-    w2c_i0 = w2c_p2;
-    w2c_i1 = 4294967263u;
-    w2c_i0 = w2c_i0 > w2c_i1;
-    if (w2c_i0) {goto w2c_B62;}
-    w2c_i0 = w2c_p3;
-    w2c_i1 = 6u;
-    w2c_i0 <<= (w2c_i1 & 31);
-    w2c_i1 = 1984u;
-    w2c_i0 &= w2c_i1;
-    w2c_i1 = w2c_l23;
-    w2c_i0 |= w2c_i1;
-    w2c_p3 = w2c_i0;
-    w2c_j0 = 2ull;
-    w2c_l8 = w2c_j0;
-    goto w2c_B61;
-    w2c_B62:;
-    w2c_j0 = w2c_l11;
-    w2c_i0 = (u32)(w2c_j0);
-    w2c_i0 = i32_load8_u(m, (u64)(w2c_i0) + 2u);
-    w2c_i1 = 63u;
-    w2c_i0 &= w2c_i1;
-    w2c_l24 = w2c_i0;
-    w2c_i0 = w2c_p2;
-    w2c_i1 = 4294967279u;
-    w2c_i0 = w2c_i0 > w2c_i1;
-    if (w2c_i0) {goto w2c_B63;}
-    w2c_i0 = w2c_l23;
-    w2c_i1 = 6u;
-    w2c_i0 <<= (w2c_i1 & 31);
-    w2c_i1 = w2c_p3;
-    w2c_i2 = 12u;
-    w2c_i1 <<= (w2c_i2 & 31);
-    w2c_i2 = 61440u;
-    w2c_i1 &= w2c_i2;
-    w2c_i0 |= w2c_i1;
-    w2c_i1 = w2c_l24;
-    w2c_i0 |= w2c_i1;
-    w2c_p3 = w2c_i0;
-    w2c_j0 = 3ull;
-    w2c_l8 = w2c_j0;
-    goto w2c_B61;
-    w2c_B63:;
-    w2c_i0 = w2c_l24;
-    w2c_i1 = 6u;
-    w2c_i0 <<= (w2c_i1 & 31);
-    w2c_i1 = w2c_l23;
-    w2c_i2 = 12u;
-    w2c_i1 <<= (w2c_i2 & 31);
-    w2c_i2 = w2c_p3;
-    w2c_i3 = 18u;
-    w2c_i2 <<= (w2c_i3 & 31);
-    w2c_i3 = 1835008u;
-    w2c_i2 &= w2c_i3;
-    w2c_i1 |= w2c_i2;
-    w2c_i0 |= w2c_i1;
-    w2c_j1 = w2c_l11;
-    w2c_i1 = (u32)(w2c_j1);
-    w2c_i1 = i32_load8_u(m, (u64)(w2c_i1) + 3u);
-    w2c_i2 = 63u;
-    w2c_i1 &= w2c_i2;
-    w2c_i0 |= w2c_i1;
-    w2c_p3 = w2c_i0;
-    w2c_j0 = 4ull;
-    w2c_l8 = w2c_j0;
-    w2c_B61:;
-    w2c_i0 = 1u;
-    w2c_p2 = w2c_i0;
-    w2c_i0 = w2c_p3;
-    w2c_i1 = 4294967248u;
-    w2c_i0 += w2c_i1;
-    w2c_i1 = 10u;
-    w2c_i0 = w2c_i0 >= w2c_i1;
-    if (w2c_i0) {goto w2c_B64;}
-    w2c_i0 = 10u;
-    w2c_l23 = w2c_i0;
-    goto w2c_B5;
-    w2c_B64:;
-    w2c_i0 = 10u;
-    w2c_l23 = w2c_i0;
-    w2c_i0 = w2c_p3;
-    w2c_i1 = 4294902000u;
-    w2c_i0 += w2c_i1;
-    w2c_i1 = 10u;
-    w2c_i0 = w2c_i0 >= w2c_i1;
-    if (w2c_i0) {goto w2c_B65;}
-    w2c_i0 = 10u;
-    w2c_l23 = w2c_i0;
-    goto w2c_B5;
-    w2c_B65:;
-    w2c_j0 = w2c_l11;
-    w2c_j1 = w2c_l8;
-    w2c_j0 += w2c_j1;
-    w2c_l11 = w2c_j0;
-    w2c_j0 = w2c_p1;
-    w2c_j1 = w2c_l8;
-    w2c_j0 -= w2c_j1;
-    w2c_p1 = w2c_j0;
-    w2c_i0 = w2c_p3;
-    w2c_i1 = 4294967252u;
-    w2c_i0 += w2c_i1;
-    switch (w2c_i0) {
-      case 0: goto w2c_B5;
-      case 1: goto w2c_L60;
-      case 2: goto w2c_B5;
-      default: goto w2c_B66;
-    }
-    w2c_B66:;
-    w2c_i0 = w2c_p3;
-    w2c_i1 = 4294902004u;
-    w2c_i0 += w2c_i1;
-    switch (w2c_i0) {
-      case 0: goto w2c_B5;
-      case 1: goto w2c_L60;
-      case 2: goto w2c_B5;
-      default: goto w2c_L60;
-    }
-  UNREACHABLE;
-  w2c_B46:;
-  w2c_j0 = w2c_l16;
-  w2c_j1 = w2c_l17;
-  w2c_j2 = 79856ull;
-  w2c_i0 = w2c_f26(m, w2c_j0, w2c_j1, w2c_j2);
-  w2c_i0 = !(w2c_i0);
-  if (w2c_i0) {goto w2c_B67;}
-  w2c_j0 = w2c_l16;
-  w2c_j1 = w2c_l17;
-  w2c_j2 = 79860ull;
-  w2c_i0 = w2c_f26(m, w2c_j0, w2c_j1, w2c_j2);
-  if (w2c_i0) {goto w2c_B67;}
-  w2c_j0 = w2c_l15;
-  w2c_l8 = w2c_j0;
-  w2c_L68:
-    w2c_j0 = w2c_l8;
-    w2c_i0 = !(w2c_j0);
-    if (w2c_i0) {goto w2c_B67;}
-    w2c_j0 = w2c_l14;
-    w2c_i0 = (u32)(w2c_j0);
-    w2c_i0 = i32_load8_s(m, (u64)(w2c_i0));
-    w2c_p2 = w2c_i0;
-    w2c_i1 = 255u;
-    w2c_i0 &= w2c_i1;
-    w2c_p3 = w2c_i0;
-    w2c_j0 = 1ull;
-    w2c_l11 = w2c_j0;
-    w2c_i0 = w2c_p2;
-    w2c_i1 = 4294967295u;
-    w2c_i0 = (u32)((s32)w2c_i0 > (s32)w2c_i1);
-    if (w2c_i0) {goto w2c_B69;}
-    w2c_j0 = w2c_l14;
-    w2c_i0 = (u32)(w2c_j0);
-    w2c_i0 = i32_load8_u(m, (u64)(w2c_i0) + 1u);
-    w2c_i1 = 63u;
-    w2c_i0 &= w2c_i1;
-    w2c_l23 = w2c_i0;
-    w2c_i0 = w2c_p2;
-    w2c_i1 = 4294967263u;
-    w2c_i0 = w2c_i0 > w2c_i1;
-    if (w2c_i0) {goto w2c_B70;}
-    w2c_i0 = w2c_p3;
-    w2c_i1 = 6u;
-    w2c_i0 <<= (w2c_i1 & 31);
-    w2c_i1 = 1984u;
-    w2c_i0 &= w2c_i1;
-    w2c_i1 = w2c_l23;
-    w2c_i0 |= w2c_i1;
-    w2c_p3 = w2c_i0;
-    w2c_j0 = 2ull;
-    w2c_l11 = w2c_j0;
-    goto w2c_B69;
-    w2c_B70:;
-    w2c_j0 = w2c_l14;
-    w2c_i0 = (u32)(w2c_j0);
-    w2c_i0 = i32_load8_u(m, (u64)(w2c_i0) + 2u);
-    w2c_i1 = 63u;
-    w2c_i0 &= w2c_i1;
-    w2c_l24 = w2c_i0;
-    w2c_i0 = w2c_p2;
-    w2c_i1 = 4294967279u;
-    w2c_i0 = w2c_i0 > w2c_i1;
-    if (w2c_i0) {goto w2c_B71;}
-    w2c_i0 = w2c_l23;
-    w2c_i1 = 6u;
-    w2c_i0 <<= (w2c_i1 & 31);
-    w2c_i1 = w2c_p3;
-    w2c_i2 = 12u;
-    w2c_i1 <<= (w2c_i2 & 31);
-    w2c_i2 = 61440u;
-    w2c_i1 &= w2c_i2;
-    w2c_i0 |= w2c_i1;
-    w2c_i1 = w2c_l24;
-    w2c_i0 |= w2c_i1;
-    w2c_p3 = w2c_i0;
-    w2c_j0 = 3ull;
-    w2c_l11 = w2c_j0;
-    goto w2c_B69;
-    w2c_B71:;
-    w2c_i0 = w2c_l24;
-    w2c_i1 = 6u;
-    w2c_i0 <<= (w2c_i1 & 31);
-    w2c_i1 = w2c_l23;
-    w2c_i2 = 12u;
-    w2c_i1 <<= (w2c_i2 & 31);
-    w2c_i2 = w2c_p3;
     w2c_i3 = 18u;
     w2c_i2 <<= (w2c_i3 & 31);
     w2c_i3 = 1835008u;
@@ -116410,21 +116560,33 @@ static u32 w2c_f149(module *m, u64 w2c_p0, u64 w2c_p1, u32 w2c_p2, u32 w2c_p3, u
     w2c_i2 = 63u;
     w2c_i1 &= w2c_i2;
     w2c_i0 |= w2c_i1;
-    w2c_p3 = w2c_i0;
+    w2c_p2 = w2c_i0;
     w2c_j0 = 4ull;
     w2c_l11 = w2c_j0;
-    w2c_B69:;
-    w2c_i0 = 1u;
-    w2c_p2 = w2c_i0;
-    w2c_i0 = 11u;
-    w2c_l23 = w2c_i0;
-    w2c_i0 = w2c_p3;
-    w2c_i1 = 4294967248u;
+    w2c_B72:;
+    w2c_i0 = 13u;
+    w2c_l24 = w2c_i0;
+    w2c_i0 = w2c_p2;
+    w2c_i1 = 2097119u;
+    w2c_i0 &= w2c_i1;
+    w2c_i1 = 4294967231u;
     w2c_i0 += w2c_i1;
-    w2c_i1 = 10u;
+    w2c_i1 = 26u;
     w2c_i0 = w2c_i0 < w2c_i1;
-    if (w2c_i0) {goto w2c_B5;}
-    w2c_j0 = w2c_l8;
+    if (w2c_i0) {goto w2c_B69;}
+    w2c_i0 = w2c_p2;
+    w2c_i1 = 37u;
+    w2c_i0 = w2c_i0 == w2c_i1;
+    if (w2c_i0) {goto w2c_B69;}
+    w2c_i0 = w2c_p2;
+    w2c_i1 = 8240u;
+    w2c_i0 = w2c_i0 == w2c_i1;
+    if (w2c_i0) {goto w2c_B69;}
+    w2c_i0 = w2c_p2;
+    w2c_i1 = 65285u;
+    w2c_i0 = w2c_i0 == w2c_i1;
+    if (w2c_i0) {goto w2c_B69;}
+    w2c_j0 = w2c_l10;
     w2c_j1 = w2c_l11;
     w2c_j0 -= w2c_j1;
     w2c_l8 = w2c_j0;
@@ -116432,92 +116594,485 @@ static u32 w2c_f149(module *m, u64 w2c_p0, u64 w2c_p1, u32 w2c_p2, u32 w2c_p3, u
     w2c_j1 = w2c_l11;
     w2c_j0 += w2c_j1;
     w2c_l14 = w2c_j0;
-    w2c_i0 = w2c_p3;
-    w2c_i1 = 4294902000u;
-    w2c_i0 += w2c_i1;
-    w2c_i1 = 10u;
-    w2c_i0 = w2c_i0 >= w2c_i1;
-    if (w2c_i0) {goto w2c_L68;}
-    goto w2c_B5;
-  UNREACHABLE;
-  w2c_B67:;
-  w2c_i0 = 0u;
-  w2c_i1 = 9u;
-  w2c_i2 = w2c_l25;
-  w2c_i3 = 1u;
-  w2c_i2 &= w2c_i3;
-  w2c_i0 = w2c_i2 ? w2c_i0 : w2c_i1;
-  w2c_l23 = w2c_i0;
-  w2c_i0 = w2c_l25;
-  w2c_i1 = 4294967295u;
-  w2c_i0 ^= w2c_i1;
-  w2c_i1 = 1u;
-  w2c_i0 &= w2c_i1;
+    w2c_j0 = w2c_l7;
+    w2c_j1 = 40ull;
+    w2c_j0 += w2c_j1;
+    w2c_i1 = w2c_p2;
+    w2c_f45(m, w2c_j0, w2c_i1);
+    w2c_j0 = w2c_l7;
+    w2c_i0 = (u32)(w2c_j0);
+    w2c_i0 = i32_load8_u(m, (u64)(w2c_i0) + 40u);
+    w2c_i1 = 1u;
+    w2c_i0 = w2c_i0 != w2c_i1;
+    if (w2c_i0) {goto w2c_L70;}
+  w2c_B69:;
+  w2c_j0 = w2c_l10;
+  w2c_j1 = 0ull;
+  w2c_i0 = w2c_j0 != w2c_j1;
   w2c_p2 = w2c_i0;
   goto w2c_B5;
-  w2c_B44:;
+  w2c_B42:;
+  w2c_i0 = w2c_l26;
+  w2c_i1 = 1u;
+  w2c_i0 &= w2c_i1;
+  w2c_i0 = !(w2c_i0);
+  if (w2c_i0) {goto w2c_B75;}
+  w2c_i0 = 0u;
+  w2c_l24 = w2c_i0;
+  w2c_i0 = 0u;
+  w2c_p2 = w2c_i0;
+  goto w2c_B5;
+  w2c_B75:;
   w2c_j0 = w2c_l14;
   w2c_j1 = w2c_l15;
-  w2c_j2 = 79963ull;
+  w2c_j2 = 80059ull;
   w2c_j3 = 3ull;
   w2c_i0 = w2c_f31(m, w2c_j0, w2c_j1, w2c_j2, w2c_j3);
-  if (w2c_i0) {goto w2c_B72;}
+  if (w2c_i0) {goto w2c_B78;}
   w2c_j0 = w2c_l14;
   w2c_j1 = w2c_l15;
-  w2c_j2 = 79966ull;
+  w2c_j2 = 80062ull;
   w2c_j3 = 3ull;
   w2c_i0 = w2c_f31(m, w2c_j0, w2c_j1, w2c_j2, w2c_j3);
-  if (w2c_i0) {goto w2c_B72;}
+  if (w2c_i0) {goto w2c_B78;}
+  w2c_i0 = 1u;
+  w2c_p2 = w2c_i0;
+  w2c_i0 = 11u;
+  w2c_l24 = w2c_i0;
   w2c_j0 = w2c_l14;
   w2c_j1 = w2c_l15;
-  w2c_j2 = 79969ull;
+  w2c_j2 = 80065ull;
+  w2c_j3 = 3ull;
+  w2c_i0 = w2c_f31(m, w2c_j0, w2c_j1, w2c_j2, w2c_j3);
+  w2c_p3 = w2c_i0;
+  w2c_j0 = w2c_l13;
+  w2c_i0 = !(w2c_j0);
+  if (w2c_i0) {goto w2c_B5;}
+  w2c_i0 = w2c_p3;
+  w2c_i0 = !(w2c_i0);
+  if (w2c_i0) {goto w2c_B5;}
+  goto w2c_B77;
+  w2c_B78:;
+  w2c_j0 = w2c_l13;
+  w2c_i0 = !(w2c_j0);
+  if (w2c_i0) {goto w2c_B76;}
+  w2c_B77:;
+  w2c_j0 = w2c_l7;
+  w2c_j1 = 104ull;
+  w2c_j0 += w2c_j1;
+  w2c_j1 = w2c_l10;
+  w2c_j2 = w2c_p1;
+  w2c_j3 = w2c_l13;
+  w2c_j4 = 18446744073709551615ull;
+  w2c_j3 += w2c_j4;
+  w2c_f37(m, w2c_j0, w2c_j1, w2c_j2, w2c_j3);
+  w2c_j0 = w2c_l7;
+  w2c_i0 = (u32)(w2c_j0);
+  w2c_j0 = i64_load(m, (u64)(w2c_i0) + 112u);
+  w2c_l10 = w2c_j0;
+  w2c_j0 = w2c_l7;
+  w2c_i0 = (u32)(w2c_j0);
+  w2c_j0 = i64_load(m, (u64)(w2c_i0) + 104u);
+  w2c_l11 = w2c_j0;
+  w2c_L79:
+    w2c_j0 = w2c_l10;
+    w2c_i0 = !(w2c_j0);
+    if (w2c_i0) {goto w2c_B76;}
+    w2c_j0 = w2c_l11;
+    w2c_i0 = (u32)(w2c_j0);
+    w2c_i0 = i32_load8_s(m, (u64)(w2c_i0));
+    w2c_l24 = w2c_i0;
+    w2c_i1 = 255u;
+    w2c_i0 &= w2c_i1;
+    w2c_p2 = w2c_i0;
+    w2c_j0 = 1ull;
+    w2c_l8 = w2c_j0;
+    w2c_i0 = w2c_l24;
+    w2c_i1 = 4294967295u;
+    w2c_i0 = (u32)((s32)w2c_i0 > (s32)w2c_i1);
+    if (w2c_i0) {goto w2c_B80;}
+    w2c_j0 = w2c_l11;
+    w2c_i0 = (u32)(w2c_j0);
+    w2c_i0 = i32_load8_u(m, (u64)(w2c_i0) + 1u);
+    w2c_i1 = 63u;
+    w2c_i0 &= w2c_i1;
+    w2c_p3 = w2c_i0;
+    w2c_i0 = w2c_l24;
+    w2c_i1 = 4294967263u;
+    w2c_i0 = w2c_i0 > w2c_i1;
+    if (w2c_i0) {goto w2c_B81;}
+    w2c_i0 = w2c_p2;
+    w2c_i1 = 6u;
+    w2c_i0 <<= (w2c_i1 & 31);
+    w2c_i1 = 1984u;
+    w2c_i0 &= w2c_i1;
+    w2c_i1 = w2c_p3;
+    w2c_i0 |= w2c_i1;
+    w2c_p2 = w2c_i0;
+    w2c_j0 = 2ull;
+    w2c_l8 = w2c_j0;
+    goto w2c_B80;
+    w2c_B81:;
+    w2c_j0 = w2c_l11;
+    w2c_i0 = (u32)(w2c_j0);
+    w2c_i0 = i32_load8_u(m, (u64)(w2c_i0) + 2u);
+    w2c_i1 = 63u;
+    w2c_i0 &= w2c_i1;
+    w2c_l25 = w2c_i0;
+    w2c_i0 = w2c_l24;
+    w2c_i1 = 4294967279u;
+    w2c_i0 = w2c_i0 > w2c_i1;
+    if (w2c_i0) {goto w2c_B82;}
+    w2c_i0 = w2c_p3;
+    w2c_i1 = 6u;
+    w2c_i0 <<= (w2c_i1 & 31);
+    w2c_i1 = w2c_p2;
+    w2c_i2 = 12u;
+    w2c_i1 <<= (w2c_i2 & 31);
+    w2c_i2 = 61440u;
+    w2c_i1 &= w2c_i2;
+    w2c_i0 |= w2c_i1;
+    w2c_i1 = w2c_l25;
+    w2c_i0 |= w2c_i1;
+    w2c_p2 = w2c_i0;
+    w2c_j0 = 3ull;
+    w2c_l8 = w2c_j0;
+    goto w2c_B80;
+    w2c_B82:;
+    w2c_i0 = w2c_l25;
+    w2c_i1 = 6u;
+    w2c_i0 <<= (w2c_i1 & 31);
+    w2c_i1 = w2c_p3;
+    w2c_i2 = 12u;
+    w2c_i1 <<= (w2c_i2 & 31);
+    w2c_i2 = w2c_p2;
+    w2c_i3 = 18u;
+    w2c_i2 <<= (w2c_i3 & 31);
+    w2c_i3 = 1835008u;
+    w2c_i2 &= w2c_i3;
+    w2c_i1 |= w2c_i2;
+    w2c_i0 |= w2c_i1;
+    w2c_j1 = w2c_l11;
+    w2c_i1 = (u32)(w2c_j1);
+    w2c_i1 = i32_load8_u(m, (u64)(w2c_i1) + 3u);
+    w2c_i2 = 63u;
+    w2c_i1 &= w2c_i2;
+    w2c_i0 |= w2c_i1;
+    w2c_p2 = w2c_i0;
+    w2c_j0 = 4ull;
+    w2c_l8 = w2c_j0;
+    w2c_B80:;
+    w2c_j0 = w2c_l7;
+    w2c_j1 = 96ull;
+    w2c_j0 += w2c_j1;
+    w2c_i1 = w2c_p2;
+    w2c_f47(m, w2c_j0, w2c_i1);
+    w2c_j0 = w2c_l10;
+    w2c_j1 = w2c_l8;
+    w2c_j0 -= w2c_j1;
+    w2c_l10 = w2c_j0;
+    w2c_j0 = w2c_l11;
+    w2c_j1 = w2c_l8;
+    w2c_j0 += w2c_j1;
+    w2c_l11 = w2c_j0;
+    w2c_i0 = 1u;
+    w2c_p2 = w2c_i0;
+    w2c_j0 = w2c_l7;
+    w2c_i0 = (u32)(w2c_j0);
+    w2c_i0 = i32_load8_u(m, (u64)(w2c_i0) + 96u);
+    w2c_i1 = 1u;
+    w2c_i0 = w2c_i0 != w2c_i1;
+    if (w2c_i0) {goto w2c_L79;}
+    w2c_i0 = 20u;
+    w2c_l24 = w2c_i0;
+    w2c_j0 = w2c_l7;
+    w2c_i0 = (u32)(w2c_j0);
+    w2c_i0 = i32_load8_u(m, (u64)(w2c_i0) + 97u);
+    w2c_i1 = 255u;
+    w2c_i0 &= w2c_i1;
+    w2c_i0 = !(w2c_i0);
+    if (w2c_i0) {goto w2c_L79;}
+    goto w2c_B5;
+  UNREACHABLE;
+  w2c_B76:;
+  w2c_i0 = 1u;
+  w2c_p2 = w2c_i0;
+  w2c_i0 = 11u;
+  w2c_l24 = w2c_i0;
+  goto w2c_B5;
+  w2c_B41:;
+  w2c_j0 = w2c_l14;
+  w2c_j1 = w2c_l15;
+  w2c_j2 = 80059ull;
+  w2c_j3 = 3ull;
+  w2c_i0 = w2c_f31(m, w2c_j0, w2c_j1, w2c_j2, w2c_j3);
+  if (w2c_i0) {goto w2c_B84;}
+  w2c_j0 = w2c_l14;
+  w2c_j1 = w2c_l15;
+  w2c_j2 = 80062ull;
+  w2c_j3 = 3ull;
+  w2c_i0 = w2c_f31(m, w2c_j0, w2c_j1, w2c_j2, w2c_j3);
+  if (w2c_i0) {goto w2c_B84;}
+  w2c_j0 = w2c_l14;
+  w2c_j1 = w2c_l15;
+  w2c_j2 = 80065ull;
   w2c_j3 = 3ull;
   w2c_i0 = w2c_f31(m, w2c_j0, w2c_j1, w2c_j2, w2c_j3);
   w2c_i0 = !(w2c_i0);
-  if (w2c_i0) {goto w2c_B41;}
-  w2c_B72:;
+  if (w2c_i0) {goto w2c_B83;}
+  w2c_B84:;
   w2c_j0 = w2c_l7;
   w2c_i0 = (u32)(w2c_j0);
   w2c_i1 = 24180u;
-  i32_store(m, (u64)(w2c_i0) + 1288, w2c_i1);
+  i32_store(m, (u64)(w2c_i0) + 1304, w2c_i1);
   w2c_j0 = 0ull;
   w2c_l8 = w2c_j0;
   w2c_j0 = w2c_l7;
   w2c_i0 = (u32)(w2c_j0);
   w2c_j1 = 0ull;
+  i64_store(m, (u64)(w2c_i0) + 1248, w2c_j1);
+  w2c_j0 = w2c_l7;
+  w2c_i0 = (u32)(w2c_j0);
+  w2c_j1 = 0ull;
+  i64_store(m, (u64)(w2c_i0) + 1240, w2c_j1);
+  w2c_j0 = w2c_l7;
+  w2c_i0 = (u32)(w2c_j0);
+  w2c_j1 = 0ull;
   i64_store(m, (u64)(w2c_i0) + 1232, w2c_j1);
   w2c_j0 = w2c_l7;
-  w2c_i0 = (u32)(w2c_j0);
-  w2c_j1 = 0ull;
-  i64_store(m, (u64)(w2c_i0) + 1224, w2c_j1);
-  w2c_j0 = w2c_l7;
-  w2c_i0 = (u32)(w2c_j0);
-  w2c_j1 = 0ull;
-  i64_store(m, (u64)(w2c_i0) + 1216, w2c_j1);
-  w2c_j0 = w2c_l7;
-  w2c_j1 = 1216ull;
+  w2c_j1 = 1232ull;
   w2c_j0 += w2c_j1;
   w2c_j1 = w2c_l7;
-  w2c_j2 = 1288ull;
+  w2c_j2 = 1304ull;
   w2c_j1 += w2c_j2;
   w2c_j2 = w2c_l10;
   w2c_j3 = w2c_p1;
   w2c_f34(m, w2c_j0, w2c_j1, w2c_j2, w2c_j3);
   w2c_j0 = w2c_l7;
   w2c_i0 = (u32)(w2c_j0);
-  w2c_i0 = i32_load8_u(m, (u64)(w2c_i0) + 1216u);
+  w2c_i0 = i32_load8_u(m, (u64)(w2c_i0) + 1232u);
   w2c_i1 = 1u;
   w2c_i0 = w2c_i0 != w2c_i1;
-  if (w2c_i0) {goto w2c_B41;}
+  if (w2c_i0) {goto w2c_B83;}
   w2c_j0 = 0ull;
   w2c_l11 = w2c_j0;
   w2c_j0 = w2c_l7;
   w2c_i0 = (u32)(w2c_j0);
-  w2c_j0 = i64_load(m, (u64)(w2c_i0) + 1224u);
+  w2c_j0 = i64_load(m, (u64)(w2c_i0) + 1240u);
   w2c_l12 = w2c_j0;
   w2c_j1 = 32ull;
   w2c_i0 = w2c_j0 < w2c_j1;
-  if (w2c_i0) {goto w2c_B73;}
+  if (w2c_i0) {goto w2c_B85;}
+  w2c_j0 = w2c_l7;
+  w2c_j1 = 80ull;
+  w2c_j0 += w2c_j1;
+  w2c_j1 = w2c_l10;
+  w2c_j2 = w2c_l12;
+  w2c_j3 = w2c_l12;
+  w2c_f22(m, w2c_j0, w2c_j1, w2c_j2, w2c_j3);
+  w2c_j0 = w2c_l12;
+  w2c_j1 = w2c_l7;
+  w2c_i1 = (u32)(w2c_j1);
+  w2c_j1 = i64_load(m, (u64)(w2c_i1) + 88u);
+  w2c_j0 -= w2c_j1;
+  w2c_l8 = w2c_j0;
+  w2c_j0 = w2c_l7;
+  w2c_i0 = (u32)(w2c_j0);
+  w2c_j0 = i64_load(m, (u64)(w2c_i0) + 80u);
+  w2c_l11 = w2c_j0;
+  w2c_B85:;
+  w2c_j0 = w2c_l12;
+  w2c_j1 = w2c_l11;
+  w2c_j0 -= w2c_j1;
+  w2c_j1 = 8ull;
+  w2c_i0 = w2c_j0 < w2c_j1;
+  if (w2c_i0) {goto w2c_B86;}
+  w2c_L87:
+    w2c_j0 = w2c_l10;
+    w2c_j1 = w2c_l11;
+    w2c_j0 += w2c_j1;
+    w2c_i0 = (u32)(w2c_j0);
+    w2c_j0 = i64_load(m, (u64)(w2c_i0));
+    w2c_l14 = w2c_j0;
+    w2c_j1 = 67553998437089520ull;
+    w2c_j0 &= w2c_j1;
+    w2c_j1 = 63050398541283552ull;
+    w2c_i0 = w2c_j0 != w2c_j1;
+    if (w2c_i0) {goto w2c_B89;}
+    w2c_j0 = w2c_l8;
+    w2c_j1 = 3ull;
+    w2c_j0 += w2c_j1;
+    w2c_l8 = w2c_j0;
+    w2c_j0 = w2c_l11;
+    w2c_j1 = 9ull;
+    w2c_j0 += w2c_j1;
+    w2c_l11 = w2c_j0;
+    goto w2c_B88;
+    w2c_B89:;
+    w2c_j0 = w2c_l14;
+    w2c_j1 = 9259542123273814144ull;
+    w2c_j0 &= w2c_j1;
+    w2c_j1 = 0ull;
+    w2c_i0 = w2c_j0 != w2c_j1;
+    if (w2c_i0) {goto w2c_B86;}
+    w2c_j0 = w2c_l8;
+    w2c_j1 = 8ull;
+    w2c_j0 += w2c_j1;
+    w2c_l8 = w2c_j0;
+    w2c_j0 = w2c_l11;
+    w2c_j1 = 8ull;
+    w2c_j0 += w2c_j1;
+    w2c_l11 = w2c_j0;
+    w2c_B88:;
+    w2c_j0 = w2c_l12;
+    w2c_j1 = w2c_l11;
+    w2c_j0 -= w2c_j1;
+    w2c_j1 = 7ull;
+    w2c_i0 = w2c_j0 > w2c_j1;
+    if (w2c_i0) {goto w2c_L87;}
+  w2c_B86:;
+  w2c_j0 = w2c_l11;
+  w2c_j1 = w2c_l12;
+  w2c_i0 = w2c_j0 >= w2c_j1;
+  if (w2c_i0) {goto w2c_B90;}
+  w2c_L91:
+    w2c_j0 = w2c_l8;
+    w2c_j1 = 1ull;
+    w2c_j0 += w2c_j1;
+    w2c_l8 = w2c_j0;
+    w2c_j0 = w2c_l10;
+    w2c_j1 = w2c_l11;
+    w2c_j0 += w2c_j1;
+    w2c_i0 = (u32)(w2c_j0);
+    w2c_i0 = i32_load8_u(m, (u64)(w2c_i0));
+    w2c_i1 = 1u;
+    w2c_i0 >>= (w2c_i1 & 31);
+    w2c_j0 = (u64)(w2c_i0);
+    w2c_j1 = 120ull;
+    w2c_j0 &= w2c_j1;
+    w2c_j1 = 66680ull;
+    w2c_j0 += w2c_j1;
+    w2c_i0 = (u32)(w2c_j0);
+    w2c_j0 = i64_load(m, (u64)(w2c_i0));
+    w2c_j1 = w2c_l11;
+    w2c_j0 += w2c_j1;
+    w2c_l11 = w2c_j0;
+    w2c_j1 = w2c_l12;
+    w2c_i0 = w2c_j0 < w2c_j1;
+    if (w2c_i0) {goto w2c_L91;}
+  w2c_B90:;
+  w2c_j0 = w2c_l13;
+  w2c_j1 = w2c_l8;
+  w2c_i0 = w2c_j0 >= w2c_j1;
+  if (w2c_i0) {goto w2c_B83;}
+  w2c_i0 = 1u;
+  w2c_p2 = w2c_i0;
+  w2c_i0 = 17u;
+  w2c_l24 = w2c_i0;
+  goto w2c_B5;
+  w2c_B83:;
+  w2c_j0 = w2c_l7;
+  w2c_i0 = (u32)(w2c_j0);
+  w2c_i1 = 26376u;
+  i32_store(m, (u64)(w2c_i0) + 1304, w2c_i1);
+  w2c_j0 = w2c_l7;
+  w2c_i0 = (u32)(w2c_j0);
+  w2c_j1 = 0ull;
+  i64_store(m, (u64)(w2c_i0) + 1248, w2c_j1);
+  w2c_j0 = w2c_l7;
+  w2c_i0 = (u32)(w2c_j0);
+  w2c_j1 = 0ull;
+  i64_store(m, (u64)(w2c_i0) + 1240, w2c_j1);
+  w2c_j0 = w2c_l7;
+  w2c_i0 = (u32)(w2c_j0);
+  w2c_j1 = 0ull;
+  i64_store(m, (u64)(w2c_i0) + 1232, w2c_j1);
+  w2c_j0 = w2c_l7;
+  w2c_j1 = 1232ull;
+  w2c_j0 += w2c_j1;
+  w2c_j1 = w2c_l7;
+  w2c_j2 = 1304ull;
+  w2c_j1 += w2c_j2;
+  w2c_j2 = w2c_l10;
+  w2c_j3 = w2c_p1;
+  w2c_f34(m, w2c_j0, w2c_j1, w2c_j2, w2c_j3);
+  w2c_j0 = w2c_l7;
+  w2c_i0 = (u32)(w2c_j0);
+  w2c_i0 = i32_load8_u(m, (u64)(w2c_i0) + 1232u);
+  w2c_i1 = 1u;
+  w2c_i0 = w2c_i0 != w2c_i1;
+  if (w2c_i0) {goto w2c_B92;}
+  w2c_j0 = w2c_l7;
+  w2c_i0 = (u32)(w2c_j0);
+  w2c_j0 = i64_load(m, (u64)(w2c_i0) + 1240u);
+  w2c_l12 = w2c_j0;
+  w2c_j0 = w2c_l10;
+  w2c_j1 = w2c_l7;
+  w2c_i1 = (u32)(w2c_j1);
+  w2c_j1 = i64_load(m, (u64)(w2c_i1) + 1248u);
+  w2c_l11 = w2c_j1;
+  w2c_j0 += w2c_j1;
+  w2c_l8 = w2c_j0;
+  w2c_j1 = w2c_p1;
+  w2c_j2 = w2c_l11;
+  w2c_j1 -= w2c_j2;
+  w2c_l11 = w2c_j1;
+  w2c_j2 = 79960ull;
+  w2c_j3 = 12ull;
+  w2c_i0 = w2c_f31(m, w2c_j0, w2c_j1, w2c_j2, w2c_j3);
+  if (w2c_i0) {goto w2c_B93;}
+  w2c_j0 = w2c_l8;
+  w2c_j1 = w2c_l11;
+  w2c_j2 = 79972ull;
+  w2c_j3 = 12ull;
+  w2c_i0 = w2c_f31(m, w2c_j0, w2c_j1, w2c_j2, w2c_j3);
+  if (w2c_i0) {goto w2c_B93;}
+  w2c_j0 = w2c_l8;
+  w2c_j1 = w2c_l11;
+  w2c_j2 = 79984ull;
+  w2c_j3 = 9ull;
+  w2c_i0 = w2c_f31(m, w2c_j0, w2c_j1, w2c_j2, w2c_j3);
+  if (w2c_i0) {goto w2c_B93;}
+  w2c_j0 = w2c_l8;
+  w2c_j1 = w2c_l11;
+  w2c_j2 = 79993ull;
+  w2c_j3 = 9ull;
+  w2c_i0 = w2c_f31(m, w2c_j0, w2c_j1, w2c_j2, w2c_j3);
+  if (w2c_i0) {goto w2c_B93;}
+  w2c_j0 = w2c_l8;
+  w2c_j1 = w2c_l11;
+  w2c_j2 = 80002ull;
+  w2c_j3 = 12ull;
+  w2c_i0 = w2c_f31(m, w2c_j0, w2c_j1, w2c_j2, w2c_j3);
+  if (w2c_i0) {goto w2c_B93;}
+  w2c_j0 = w2c_l8;
+  w2c_j1 = w2c_l11;
+  w2c_j2 = 80014ull;
+  w2c_j3 = 12ull;
+  w2c_i0 = w2c_f31(m, w2c_j0, w2c_j1, w2c_j2, w2c_j3);
+  if (w2c_i0) {goto w2c_B93;}
+  w2c_j0 = w2c_l8;
+  w2c_j1 = w2c_l11;
+  w2c_j2 = 80026ull;
+  w2c_j3 = 12ull;
+  w2c_i0 = w2c_f31(m, w2c_j0, w2c_j1, w2c_j2, w2c_j3);
+  if (w2c_i0) {goto w2c_B93;}
+  w2c_j0 = w2c_l8;
+  w2c_j1 = w2c_l11;
+  w2c_j2 = 80038ull;
+  w2c_j3 = 12ull;
+  w2c_i0 = w2c_f31(m, w2c_j0, w2c_j1, w2c_j2, w2c_j3);
+  w2c_i0 = !(w2c_i0);
+  if (w2c_i0) {goto w2c_B92;}
+  w2c_B93:;
+  w2c_j0 = 0ull;
+  w2c_l8 = w2c_j0;
+  w2c_j0 = 0ull;
+  w2c_l11 = w2c_j0;
+  w2c_j0 = w2c_l12;
+  w2c_j1 = 32ull;
+  w2c_i0 = w2c_j0 < w2c_j1;
+  if (w2c_i0) {goto w2c_B94;}
   w2c_j0 = w2c_l7;
   w2c_j1 = 64ull;
   w2c_j0 += w2c_j1;
@@ -116535,14 +117090,14 @@ static u32 w2c_f149(module *m, u64 w2c_p0, u64 w2c_p1, u32 w2c_p2, u32 w2c_p3, u
   w2c_i0 = (u32)(w2c_j0);
   w2c_j0 = i64_load(m, (u64)(w2c_i0) + 64u);
   w2c_l11 = w2c_j0;
-  w2c_B73:;
+  w2c_B94:;
   w2c_j0 = w2c_l12;
   w2c_j1 = w2c_l11;
   w2c_j0 -= w2c_j1;
   w2c_j1 = 8ull;
   w2c_i0 = w2c_j0 < w2c_j1;
-  if (w2c_i0) {goto w2c_B42;}
-  w2c_L74:
+  if (w2c_i0) {goto w2c_B95;}
+  w2c_L96:
     w2c_j0 = w2c_l10;
     w2c_j1 = w2c_l11;
     w2c_j0 += w2c_j1;
@@ -116553,7 +117108,7 @@ static u32 w2c_f149(module *m, u64 w2c_p0, u64 w2c_p1, u32 w2c_p2, u32 w2c_p3, u
     w2c_j0 &= w2c_j1;
     w2c_j1 = 63050398541283552ull;
     w2c_i0 = w2c_j0 != w2c_j1;
-    if (w2c_i0) {goto w2c_B76;}
+    if (w2c_i0) {goto w2c_B98;}
     w2c_j0 = w2c_l8;
     w2c_j1 = 3ull;
     w2c_j0 += w2c_j1;
@@ -116562,14 +117117,14 @@ static u32 w2c_f149(module *m, u64 w2c_p0, u64 w2c_p1, u32 w2c_p2, u32 w2c_p3, u
     w2c_j1 = 9ull;
     w2c_j0 += w2c_j1;
     w2c_l11 = w2c_j0;
-    goto w2c_B75;
-    w2c_B76:;
+    goto w2c_B97;
+    w2c_B98:;
     w2c_j0 = w2c_l14;
     w2c_j1 = 9259542123273814144ull;
     w2c_j0 &= w2c_j1;
     w2c_j1 = 0ull;
     w2c_i0 = w2c_j0 != w2c_j1;
-    if (w2c_i0) {goto w2c_B42;}
+    if (w2c_i0) {goto w2c_B95;}
     w2c_j0 = w2c_l8;
     w2c_j1 = 8ull;
     w2c_j0 += w2c_j1;
@@ -116578,420 +117133,19 @@ static u32 w2c_f149(module *m, u64 w2c_p0, u64 w2c_p1, u32 w2c_p2, u32 w2c_p3, u
     w2c_j1 = 8ull;
     w2c_j0 += w2c_j1;
     w2c_l11 = w2c_j0;
-    w2c_B75:;
-    w2c_j0 = w2c_l12;
-    w2c_j1 = w2c_l11;
-    w2c_j0 -= w2c_j1;
-    w2c_j1 = 7ull;
-    w2c_i0 = w2c_j0 <= w2c_j1;
-    if (w2c_i0) {goto w2c_B42;}
-    goto w2c_L74;
-  UNREACHABLE;
-  w2c_B43:;
-  w2c_i0 = w2c_l25;
-  w2c_i1 = 1u;
-  w2c_i0 &= w2c_i1;
-  w2c_i0 = !(w2c_i0);
-  if (w2c_i0) {goto w2c_B77;}
-  w2c_i0 = 0u;
-  w2c_l23 = w2c_i0;
-  w2c_i0 = 0u;
-  w2c_p2 = w2c_i0;
-  goto w2c_B5;
-  w2c_B77:;
-  w2c_j0 = w2c_l14;
-  w2c_j1 = w2c_l15;
-  w2c_j2 = 79963ull;
-  w2c_j3 = 3ull;
-  w2c_i0 = w2c_f31(m, w2c_j0, w2c_j1, w2c_j2, w2c_j3);
-  if (w2c_i0) {goto w2c_B80;}
-  w2c_j0 = w2c_l14;
-  w2c_j1 = w2c_l15;
-  w2c_j2 = 79966ull;
-  w2c_j3 = 3ull;
-  w2c_i0 = w2c_f31(m, w2c_j0, w2c_j1, w2c_j2, w2c_j3);
-  if (w2c_i0) {goto w2c_B80;}
-  w2c_i0 = 1u;
-  w2c_p2 = w2c_i0;
-  w2c_i0 = 9u;
-  w2c_l23 = w2c_i0;
-  w2c_j0 = w2c_l14;
-  w2c_j1 = w2c_l15;
-  w2c_j2 = 79969ull;
-  w2c_j3 = 3ull;
-  w2c_i0 = w2c_f31(m, w2c_j0, w2c_j1, w2c_j2, w2c_j3);
-  w2c_p3 = w2c_i0;
-  w2c_j0 = w2c_l13;
-  w2c_i0 = !(w2c_j0);
-  if (w2c_i0) {goto w2c_B5;}
-  w2c_i0 = w2c_p3;
-  w2c_i0 = !(w2c_i0);
-  if (w2c_i0) {goto w2c_B5;}
-  goto w2c_B79;
-  w2c_B80:;
-  w2c_j0 = w2c_l13;
-  w2c_i0 = !(w2c_j0);
-  if (w2c_i0) {goto w2c_B78;}
-  w2c_B79:;
-  w2c_j0 = w2c_l7;
-  w2c_j1 = 88ull;
-  w2c_j0 += w2c_j1;
-  w2c_j1 = w2c_l10;
-  w2c_j2 = w2c_p1;
-  w2c_j3 = w2c_l13;
-  w2c_j4 = 18446744073709551615ull;
-  w2c_j3 += w2c_j4;
-  w2c_f37(m, w2c_j0, w2c_j1, w2c_j2, w2c_j3);
-  w2c_j0 = w2c_l7;
-  w2c_i0 = (u32)(w2c_j0);
-  w2c_j0 = i64_load(m, (u64)(w2c_i0) + 96u);
-  w2c_p1 = w2c_j0;
-  w2c_j0 = w2c_l7;
-  w2c_i0 = (u32)(w2c_j0);
-  w2c_j0 = i64_load(m, (u64)(w2c_i0) + 88u);
-  w2c_l11 = w2c_j0;
-  w2c_L81:
-    w2c_j0 = w2c_p1;
-    w2c_i0 = !(w2c_j0);
-    if (w2c_i0) {goto w2c_B78;}
-    w2c_j0 = w2c_l11;
-    w2c_i0 = (u32)(w2c_j0);
-    w2c_i0 = i32_load8_s(m, (u64)(w2c_i0));
-    w2c_l23 = w2c_i0;
-    w2c_i1 = 255u;
-    w2c_i0 &= w2c_i1;
-    w2c_p2 = w2c_i0;
-    w2c_j0 = 1ull;
-    w2c_l8 = w2c_j0;
-    w2c_i0 = w2c_l23;
-    w2c_i1 = 4294967295u;
-    w2c_i0 = (u32)((s32)w2c_i0 > (s32)w2c_i1);
-    if (w2c_i0) {goto w2c_B82;}
-    w2c_j0 = w2c_l11;
-    w2c_i0 = (u32)(w2c_j0);
-    w2c_i0 = i32_load8_u(m, (u64)(w2c_i0) + 1u);
-    w2c_i1 = 63u;
-    w2c_i0 &= w2c_i1;
-    w2c_p3 = w2c_i0;
-    w2c_i0 = w2c_l23;
-    w2c_i1 = 4294967263u;
-    w2c_i0 = w2c_i0 > w2c_i1;
-    if (w2c_i0) {goto w2c_B83;}
-    w2c_i0 = w2c_p2;
-    w2c_i1 = 6u;
-    w2c_i0 <<= (w2c_i1 & 31);
-    w2c_i1 = 1984u;
-    w2c_i0 &= w2c_i1;
-    w2c_i1 = w2c_p3;
-    w2c_i0 |= w2c_i1;
-    w2c_p2 = w2c_i0;
-    w2c_j0 = 2ull;
-    w2c_l8 = w2c_j0;
-    goto w2c_B82;
-    w2c_B83:;
-    w2c_j0 = w2c_l11;
-    w2c_i0 = (u32)(w2c_j0);
-    w2c_i0 = i32_load8_u(m, (u64)(w2c_i0) + 2u);
-    w2c_i1 = 63u;
-    w2c_i0 &= w2c_i1;
-    w2c_l24 = w2c_i0;
-    w2c_i0 = w2c_l23;
-    w2c_i1 = 4294967279u;
-    w2c_i0 = w2c_i0 > w2c_i1;
-    if (w2c_i0) {goto w2c_B84;}
-    w2c_i0 = w2c_p3;
-    w2c_i1 = 6u;
-    w2c_i0 <<= (w2c_i1 & 31);
-    w2c_i1 = w2c_p2;
-    w2c_i2 = 12u;
-    w2c_i1 <<= (w2c_i2 & 31);
-    w2c_i2 = 61440u;
-    w2c_i1 &= w2c_i2;
-    w2c_i0 |= w2c_i1;
-    w2c_i1 = w2c_l24;
-    w2c_i0 |= w2c_i1;
-    w2c_p2 = w2c_i0;
-    w2c_j0 = 3ull;
-    w2c_l8 = w2c_j0;
-    goto w2c_B82;
-    w2c_B84:;
-    w2c_i0 = w2c_l24;
-    w2c_i1 = 6u;
-    w2c_i0 <<= (w2c_i1 & 31);
-    w2c_i1 = w2c_p3;
-    w2c_i2 = 12u;
-    w2c_i1 <<= (w2c_i2 & 31);
-    w2c_i2 = w2c_p2;
-    w2c_i3 = 18u;
-    w2c_i2 <<= (w2c_i3 & 31);
-    w2c_i3 = 1835008u;
-    w2c_i2 &= w2c_i3;
-    w2c_i1 |= w2c_i2;
-    w2c_i0 |= w2c_i1;
-    w2c_j1 = w2c_l11;
-    w2c_i1 = (u32)(w2c_j1);
-    w2c_i1 = i32_load8_u(m, (u64)(w2c_i1) + 3u);
-    w2c_i2 = 63u;
-    w2c_i1 &= w2c_i2;
-    w2c_i0 |= w2c_i1;
-    w2c_p2 = w2c_i0;
-    w2c_j0 = 4ull;
-    w2c_l8 = w2c_j0;
-    w2c_B82:;
-    w2c_j0 = w2c_l7;
-    w2c_j1 = 80ull;
-    w2c_j0 += w2c_j1;
-    w2c_i1 = w2c_p2;
-    w2c_f46(m, w2c_j0, w2c_i1);
-    w2c_j0 = w2c_p1;
-    w2c_j1 = w2c_l8;
-    w2c_j0 -= w2c_j1;
-    w2c_p1 = w2c_j0;
-    w2c_j0 = w2c_l11;
-    w2c_j1 = w2c_l8;
-    w2c_j0 += w2c_j1;
-    w2c_l11 = w2c_j0;
-    w2c_i0 = 1u;
-    w2c_p2 = w2c_i0;
-    w2c_j0 = w2c_l7;
-    w2c_i0 = (u32)(w2c_j0);
-    w2c_i0 = i32_load8_u(m, (u64)(w2c_i0) + 80u);
-    w2c_i1 = 1u;
-    w2c_i0 = w2c_i0 != w2c_i1;
-    if (w2c_i0) {goto w2c_L81;}
-    w2c_i0 = 17u;
-    w2c_l23 = w2c_i0;
-    w2c_j0 = w2c_l7;
-    w2c_i0 = (u32)(w2c_j0);
-    w2c_i0 = i32_load8_u(m, (u64)(w2c_i0) + 81u);
-    w2c_i1 = 255u;
-    w2c_i0 &= w2c_i1;
-    w2c_i0 = !(w2c_i0);
-    if (w2c_i0) {goto w2c_L81;}
-    goto w2c_B5;
-  UNREACHABLE;
-  w2c_B78:;
-  w2c_i0 = 1u;
-  w2c_p2 = w2c_i0;
-  w2c_i0 = 9u;
-  w2c_l23 = w2c_i0;
-  goto w2c_B5;
-  w2c_B42:;
-  w2c_j0 = w2c_l11;
-  w2c_j1 = w2c_l12;
-  w2c_i0 = w2c_j0 >= w2c_j1;
-  if (w2c_i0) {goto w2c_B85;}
-  w2c_L86:
-    w2c_j0 = w2c_l8;
-    w2c_j1 = 1ull;
-    w2c_j0 += w2c_j1;
-    w2c_l8 = w2c_j0;
-    w2c_j0 = w2c_l10;
-    w2c_j1 = w2c_l11;
-    w2c_j0 += w2c_j1;
-    w2c_i0 = (u32)(w2c_j0);
-    w2c_i0 = i32_load8_u(m, (u64)(w2c_i0));
-    w2c_i1 = 1u;
-    w2c_i0 >>= (w2c_i1 & 31);
-    w2c_j0 = (u64)(w2c_i0);
-    w2c_j1 = 120ull;
-    w2c_j0 &= w2c_j1;
-    w2c_j1 = 66680ull;
-    w2c_j0 += w2c_j1;
-    w2c_i0 = (u32)(w2c_j0);
-    w2c_j0 = i64_load(m, (u64)(w2c_i0));
-    w2c_j1 = w2c_l11;
-    w2c_j0 += w2c_j1;
-    w2c_l11 = w2c_j0;
-    w2c_j1 = w2c_l12;
-    w2c_i0 = w2c_j0 < w2c_j1;
-    if (w2c_i0) {goto w2c_L86;}
-  w2c_B85:;
-  w2c_j0 = w2c_l13;
-  w2c_j1 = w2c_l8;
-  w2c_i0 = w2c_j0 >= w2c_j1;
-  if (w2c_i0) {goto w2c_B41;}
-  w2c_i0 = 1u;
-  w2c_p2 = w2c_i0;
-  w2c_i0 = 14u;
-  w2c_l23 = w2c_i0;
-  goto w2c_B5;
-  w2c_B41:;
-  w2c_j0 = w2c_l7;
-  w2c_i0 = (u32)(w2c_j0);
-  w2c_i1 = 26376u;
-  i32_store(m, (u64)(w2c_i0) + 1288, w2c_i1);
-  w2c_j0 = w2c_l7;
-  w2c_i0 = (u32)(w2c_j0);
-  w2c_j1 = 0ull;
-  i64_store(m, (u64)(w2c_i0) + 1232, w2c_j1);
-  w2c_j0 = w2c_l7;
-  w2c_i0 = (u32)(w2c_j0);
-  w2c_j1 = 0ull;
-  i64_store(m, (u64)(w2c_i0) + 1224, w2c_j1);
-  w2c_j0 = w2c_l7;
-  w2c_i0 = (u32)(w2c_j0);
-  w2c_j1 = 0ull;
-  i64_store(m, (u64)(w2c_i0) + 1216, w2c_j1);
-  w2c_j0 = w2c_l7;
-  w2c_j1 = 1216ull;
-  w2c_j0 += w2c_j1;
-  w2c_j1 = w2c_l7;
-  w2c_j2 = 1288ull;
-  w2c_j1 += w2c_j2;
-  w2c_j2 = w2c_l10;
-  w2c_j3 = w2c_p1;
-  w2c_f34(m, w2c_j0, w2c_j1, w2c_j2, w2c_j3);
-  w2c_j0 = w2c_l7;
-  w2c_i0 = (u32)(w2c_j0);
-  w2c_i0 = i32_load8_u(m, (u64)(w2c_i0) + 1216u);
-  w2c_i1 = 1u;
-  w2c_i0 = w2c_i0 != w2c_i1;
-  if (w2c_i0) {goto w2c_B87;}
-  w2c_j0 = w2c_l7;
-  w2c_i0 = (u32)(w2c_j0);
-  w2c_j0 = i64_load(m, (u64)(w2c_i0) + 1224u);
-  w2c_l12 = w2c_j0;
-  w2c_j0 = w2c_l10;
-  w2c_j1 = w2c_l7;
-  w2c_i1 = (u32)(w2c_j1);
-  w2c_j1 = i64_load(m, (u64)(w2c_i1) + 1232u);
-  w2c_l11 = w2c_j1;
-  w2c_j0 += w2c_j1;
-  w2c_l8 = w2c_j0;
-  w2c_j1 = w2c_p1;
-  w2c_j2 = w2c_l11;
-  w2c_j1 -= w2c_j2;
-  w2c_l11 = w2c_j1;
-  w2c_j2 = 79864ull;
-  w2c_j3 = 12ull;
-  w2c_i0 = w2c_f31(m, w2c_j0, w2c_j1, w2c_j2, w2c_j3);
-  if (w2c_i0) {goto w2c_B88;}
-  w2c_j0 = w2c_l8;
-  w2c_j1 = w2c_l11;
-  w2c_j2 = 79876ull;
-  w2c_j3 = 12ull;
-  w2c_i0 = w2c_f31(m, w2c_j0, w2c_j1, w2c_j2, w2c_j3);
-  if (w2c_i0) {goto w2c_B88;}
-  w2c_j0 = w2c_l8;
-  w2c_j1 = w2c_l11;
-  w2c_j2 = 79888ull;
-  w2c_j3 = 9ull;
-  w2c_i0 = w2c_f31(m, w2c_j0, w2c_j1, w2c_j2, w2c_j3);
-  if (w2c_i0) {goto w2c_B88;}
-  w2c_j0 = w2c_l8;
-  w2c_j1 = w2c_l11;
-  w2c_j2 = 79897ull;
-  w2c_j3 = 9ull;
-  w2c_i0 = w2c_f31(m, w2c_j0, w2c_j1, w2c_j2, w2c_j3);
-  if (w2c_i0) {goto w2c_B88;}
-  w2c_j0 = w2c_l8;
-  w2c_j1 = w2c_l11;
-  w2c_j2 = 79906ull;
-  w2c_j3 = 12ull;
-  w2c_i0 = w2c_f31(m, w2c_j0, w2c_j1, w2c_j2, w2c_j3);
-  if (w2c_i0) {goto w2c_B88;}
-  w2c_j0 = w2c_l8;
-  w2c_j1 = w2c_l11;
-  w2c_j2 = 79918ull;
-  w2c_j3 = 12ull;
-  w2c_i0 = w2c_f31(m, w2c_j0, w2c_j1, w2c_j2, w2c_j3);
-  if (w2c_i0) {goto w2c_B88;}
-  w2c_j0 = w2c_l8;
-  w2c_j1 = w2c_l11;
-  w2c_j2 = 79930ull;
-  w2c_j3 = 12ull;
-  w2c_i0 = w2c_f31(m, w2c_j0, w2c_j1, w2c_j2, w2c_j3);
-  if (w2c_i0) {goto w2c_B88;}
-  w2c_j0 = w2c_l8;
-  w2c_j1 = w2c_l11;
-  w2c_j2 = 79942ull;
-  w2c_j3 = 12ull;
-  w2c_i0 = w2c_f31(m, w2c_j0, w2c_j1, w2c_j2, w2c_j3);
-  w2c_i0 = !(w2c_i0);
-  if (w2c_i0) {goto w2c_B87;}
-  w2c_B88:;
-  w2c_j0 = 0ull;
-  w2c_l8 = w2c_j0;
-  w2c_j0 = 0ull;
-  w2c_l11 = w2c_j0;
-  w2c_j0 = w2c_l12;
-  w2c_j1 = 32ull;
-  w2c_i0 = w2c_j0 < w2c_j1;
-  if (w2c_i0) {goto w2c_B89;}
-  w2c_j0 = w2c_l7;
-  w2c_j1 = 48ull;
-  w2c_j0 += w2c_j1;
-  w2c_j1 = w2c_l10;
-  w2c_j2 = w2c_l12;
-  w2c_j3 = w2c_l12;
-  w2c_f22(m, w2c_j0, w2c_j1, w2c_j2, w2c_j3);
-  w2c_j0 = w2c_l12;
-  w2c_j1 = w2c_l7;
-  w2c_i1 = (u32)(w2c_j1);
-  w2c_j1 = i64_load(m, (u64)(w2c_i1) + 56u);
-  w2c_j0 -= w2c_j1;
-  w2c_l8 = w2c_j0;
-  w2c_j0 = w2c_l7;
-  w2c_i0 = (u32)(w2c_j0);
-  w2c_j0 = i64_load(m, (u64)(w2c_i0) + 48u);
-  w2c_l11 = w2c_j0;
-  w2c_B89:;
-  w2c_j0 = w2c_l12;
-  w2c_j1 = w2c_l11;
-  w2c_j0 -= w2c_j1;
-  w2c_j1 = 8ull;
-  w2c_i0 = w2c_j0 < w2c_j1;
-  if (w2c_i0) {goto w2c_B90;}
-  w2c_L91:
-    w2c_j0 = w2c_l10;
-    w2c_j1 = w2c_l11;
-    w2c_j0 += w2c_j1;
-    w2c_i0 = (u32)(w2c_j0);
-    w2c_j0 = i64_load(m, (u64)(w2c_i0));
-    w2c_l14 = w2c_j0;
-    w2c_j1 = 67553998437089520ull;
-    w2c_j0 &= w2c_j1;
-    w2c_j1 = 63050398541283552ull;
-    w2c_i0 = w2c_j0 != w2c_j1;
-    if (w2c_i0) {goto w2c_B93;}
-    w2c_j0 = w2c_l8;
-    w2c_j1 = 3ull;
-    w2c_j0 += w2c_j1;
-    w2c_l8 = w2c_j0;
-    w2c_j0 = w2c_l11;
-    w2c_j1 = 9ull;
-    w2c_j0 += w2c_j1;
-    w2c_l11 = w2c_j0;
-    goto w2c_B92;
-    w2c_B93:;
-    w2c_j0 = w2c_l14;
-    w2c_j1 = 9259542123273814144ull;
-    w2c_j0 &= w2c_j1;
-    w2c_j1 = 0ull;
-    w2c_i0 = w2c_j0 != w2c_j1;
-    if (w2c_i0) {goto w2c_B90;}
-    w2c_j0 = w2c_l8;
-    w2c_j1 = 8ull;
-    w2c_j0 += w2c_j1;
-    w2c_l8 = w2c_j0;
-    w2c_j0 = w2c_l11;
-    w2c_j1 = 8ull;
-    w2c_j0 += w2c_j1;
-    w2c_l11 = w2c_j0;
-    w2c_B92:;
+    w2c_B97:;
     w2c_j0 = w2c_l12;
     w2c_j1 = w2c_l11;
     w2c_j0 -= w2c_j1;
     w2c_j1 = 7ull;
     w2c_i0 = w2c_j0 > w2c_j1;
-    if (w2c_i0) {goto w2c_L91;}
-  w2c_B90:;
+    if (w2c_i0) {goto w2c_L96;}
+  w2c_B95:;
   w2c_j0 = w2c_l11;
   w2c_j1 = w2c_l12;
   w2c_i0 = w2c_j0 >= w2c_j1;
-  if (w2c_i0) {goto w2c_B94;}
-  w2c_L95:
+  if (w2c_i0) {goto w2c_B99;}
+  w2c_L100:
     w2c_j0 = w2c_l8;
     w2c_j1 = 1ull;
     w2c_j0 += w2c_j1;
@@ -117015,39 +117169,39 @@ static u32 w2c_f149(module *m, u64 w2c_p0, u64 w2c_p1, u32 w2c_p2, u32 w2c_p3, u
     w2c_l11 = w2c_j0;
     w2c_j1 = w2c_l12;
     w2c_i0 = w2c_j0 < w2c_j1;
-    if (w2c_i0) {goto w2c_L95;}
-  w2c_B94:;
+    if (w2c_i0) {goto w2c_L100;}
+  w2c_B99:;
   w2c_j0 = w2c_l8;
   w2c_j1 = w2c_l13;
   w2c_i0 = w2c_j0 >= w2c_j1;
-  if (w2c_i0) {goto w2c_B87;}
+  if (w2c_i0) {goto w2c_B92;}
   w2c_i0 = 1u;
   w2c_p2 = w2c_i0;
-  w2c_i0 = 12u;
-  w2c_l23 = w2c_i0;
+  w2c_i0 = 15u;
+  w2c_l24 = w2c_i0;
   goto w2c_B5;
-  w2c_B87:;
+  w2c_B92:;
   w2c_j0 = w2c_l7;
   w2c_i0 = (u32)(w2c_j0);
   w2c_i1 = 26376u;
-  i32_store(m, (u64)(w2c_i0) + 1288, w2c_i1);
+  i32_store(m, (u64)(w2c_i0) + 1304, w2c_i1);
+  w2c_j0 = w2c_l7;
+  w2c_i0 = (u32)(w2c_j0);
+  w2c_j1 = 0ull;
+  i64_store(m, (u64)(w2c_i0) + 1248, w2c_j1);
+  w2c_j0 = w2c_l7;
+  w2c_i0 = (u32)(w2c_j0);
+  w2c_j1 = 0ull;
+  i64_store(m, (u64)(w2c_i0) + 1240, w2c_j1);
   w2c_j0 = w2c_l7;
   w2c_i0 = (u32)(w2c_j0);
   w2c_j1 = 0ull;
   i64_store(m, (u64)(w2c_i0) + 1232, w2c_j1);
   w2c_j0 = w2c_l7;
-  w2c_i0 = (u32)(w2c_j0);
-  w2c_j1 = 0ull;
-  i64_store(m, (u64)(w2c_i0) + 1224, w2c_j1);
-  w2c_j0 = w2c_l7;
-  w2c_i0 = (u32)(w2c_j0);
-  w2c_j1 = 0ull;
-  i64_store(m, (u64)(w2c_i0) + 1216, w2c_j1);
-  w2c_j0 = w2c_l7;
-  w2c_j1 = 1216ull;
+  w2c_j1 = 1232ull;
   w2c_j0 += w2c_j1;
   w2c_j1 = w2c_l7;
-  w2c_j2 = 1288ull;
+  w2c_j2 = 1304ull;
   w2c_j1 += w2c_j2;
   w2c_j2 = w2c_l10;
   w2c_j3 = w2c_p1;
@@ -117056,51 +117210,51 @@ static u32 w2c_f149(module *m, u64 w2c_p0, u64 w2c_p1, u32 w2c_p2, u32 w2c_p3, u
   w2c_p2 = w2c_i0;
   w2c_j0 = w2c_l7;
   w2c_i0 = (u32)(w2c_j0);
-  w2c_i0 = i32_load8_u(m, (u64)(w2c_i0) + 1216u);
+  w2c_i0 = i32_load8_u(m, (u64)(w2c_i0) + 1232u);
   w2c_i1 = 1u;
   w2c_i0 = w2c_i0 == w2c_i1;
-  if (w2c_i0) {goto w2c_B96;}
-  w2c_i0 = 9u;
-  w2c_l23 = w2c_i0;
+  if (w2c_i0) {goto w2c_B101;}
+  w2c_i0 = 11u;
+  w2c_l24 = w2c_i0;
   goto w2c_B5;
-  w2c_B96:;
+  w2c_B101:;
   w2c_j0 = w2c_l7;
   w2c_i0 = (u32)(w2c_j0);
-  w2c_j0 = i64_load(m, (u64)(w2c_i0) + 1224u);
-  w2c_l17 = w2c_j0;
+  w2c_j0 = i64_load(m, (u64)(w2c_i0) + 1240u);
+  w2c_l18 = w2c_j0;
   w2c_j1 = 9ull;
   w2c_i0 = w2c_j0 < w2c_j1;
-  if (w2c_i0) {goto w2c_B97;}
+  if (w2c_i0) {goto w2c_B102;}
   w2c_j0 = w2c_l7;
   w2c_i0 = (u32)(w2c_j0);
   w2c_i1 = 0u;
-  i32_store(m, (u64)(w2c_i0) + 1234, w2c_i1);
+  i32_store(m, (u64)(w2c_i0) + 1250, w2c_i1);
   w2c_j0 = w2c_l7;
   w2c_i0 = (u32)(w2c_j0);
   w2c_i1 = 48869u;
-  i32_store16(m, (u64)(w2c_i0) + 1232, w2c_i1);
+  i32_store16(m, (u64)(w2c_i0) + 1248, w2c_i1);
   w2c_j0 = w2c_l7;
   w2c_i0 = (u32)(w2c_j0);
   w2c_i1 = 0u;
-  i32_store16(m, (u64)(w2c_i0) + 1238, w2c_i1);
+  i32_store16(m, (u64)(w2c_i0) + 1254, w2c_i1);
   w2c_j0 = w2c_l7;
   w2c_i0 = (u32)(w2c_j0);
   w2c_j1 = 8ull;
-  i64_store(m, (u64)(w2c_i0) + 1240, w2c_j1);
+  i64_store(m, (u64)(w2c_i0) + 1256, w2c_j1);
   w2c_j0 = w2c_l7;
   w2c_i0 = (u32)(w2c_j0);
-  w2c_j1 = w2c_l17;
-  i64_store(m, (u64)(w2c_i0) + 1224, w2c_j1);
-  w2c_j0 = w2c_l17;
+  w2c_j1 = w2c_l18;
+  i64_store(m, (u64)(w2c_i0) + 1240, w2c_j1);
+  w2c_j0 = w2c_l18;
   w2c_j1 = 18446744073709551608ull;
   w2c_j0 += w2c_j1;
-  w2c_p1 = w2c_j0;
+  w2c_l12 = w2c_j0;
   w2c_j0 = w2c_l7;
   w2c_i0 = (u32)(w2c_j0);
   w2c_j1 = w2c_l10;
-  i64_store(m, (u64)(w2c_i0) + 1216, w2c_j1);
+  i64_store(m, (u64)(w2c_i0) + 1232, w2c_j1);
   w2c_j0 = w2c_l10;
-  w2c_j1 = w2c_l17;
+  w2c_j1 = w2c_l18;
   w2c_j2 = 18446744073709551600ull;
   w2c_j1 += w2c_j2;
   w2c_l19 = w2c_j1;
@@ -117109,19 +117263,19 @@ static u32 w2c_f149(module *m, u64 w2c_p0, u64 w2c_p1, u32 w2c_p2, u32 w2c_p3, u
   w2c_j0 = 0ull;
   w2c_l11 = w2c_j0;
   w2c_j0 = 0ull;
-  w2c_l18 = w2c_j0;
-  w2c_L99:
-    w2c_j0 = w2c_p1;
+  w2c_l21 = w2c_j0;
+  w2c_L104:
+    w2c_j0 = w2c_l12;
     w2c_j1 = w2c_l11;
     w2c_j0 -= w2c_j1;
     w2c_j1 = 7ull;
     w2c_i0 = w2c_j0 > w2c_j1;
-    if (w2c_i0) {goto w2c_B101;}
-    w2c_j0 = w2c_p1;
+    if (w2c_i0) {goto w2c_B106;}
+    w2c_j0 = w2c_l12;
     w2c_j1 = w2c_l11;
     w2c_i0 = w2c_j0 <= w2c_j1;
-    if (w2c_i0) {goto w2c_B97;}
-    w2c_L102:
+    if (w2c_i0) {goto w2c_B102;}
+    w2c_L107:
       w2c_j0 = w2c_l10;
       w2c_j1 = w2c_l11;
       w2c_j0 += w2c_j1;
@@ -117130,7 +117284,7 @@ static u32 w2c_f149(module *m, u64 w2c_p0, u64 w2c_p1, u32 w2c_p2, u32 w2c_p3, u
       w2c_i0 = i32_load8_u(m, (u64)(w2c_i0));
       w2c_i1 = 229u;
       w2c_i0 = w2c_i0 != w2c_i1;
-      if (w2c_i0) {goto w2c_B103;}
+      if (w2c_i0) {goto w2c_B108;}
       w2c_j0 = w2c_l8;
       w2c_j1 = 8ull;
       w2c_j0 += w2c_j1;
@@ -117140,21 +117294,21 @@ static u32 w2c_f149(module *m, u64 w2c_p0, u64 w2c_p1, u32 w2c_p2, u32 w2c_p3, u
       w2c_i0 &= w2c_i1;
       w2c_i1 = 190u;
       w2c_i0 = w2c_i0 != w2c_i1;
-      if (w2c_i0) {goto w2c_B103;}
+      if (w2c_i0) {goto w2c_B108;}
       w2c_j0 = w2c_l11;
       w2c_l8 = w2c_j0;
-      goto w2c_B100;
-      w2c_B103:;
-      w2c_j0 = w2c_p1;
+      goto w2c_B105;
+      w2c_B108:;
+      w2c_j0 = w2c_l12;
       w2c_j1 = w2c_l11;
       w2c_j2 = 1ull;
       w2c_j1 += w2c_j2;
       w2c_l11 = w2c_j1;
       w2c_i0 = w2c_j0 != w2c_j1;
-      if (w2c_i0) {goto w2c_L102;}
-      goto w2c_B97;
+      if (w2c_i0) {goto w2c_L107;}
+      goto w2c_B102;
     UNREACHABLE;
-    w2c_B101:;
+    w2c_B106:;
     w2c_j0 = 8ull;
     w2c_j1 = w2c_l10;
     w2c_j2 = w2c_l11;
@@ -117198,14 +117352,14 @@ static u32 w2c_f149(module *m, u64 w2c_p0, u64 w2c_p1, u32 w2c_p2, u32 w2c_p3, u
     w2c_j2 = 8ull;
     w2c_j1 += w2c_j2;
     w2c_i0 = w2c_j0 < w2c_j1;
-    if (w2c_i0) {goto w2c_B100;}
-    w2c_j0 = w2c_p1;
+    if (w2c_i0) {goto w2c_B105;}
+    w2c_j0 = w2c_l12;
     w2c_j1 = w2c_l8;
     w2c_j0 -= w2c_j1;
     w2c_j1 = 32ull;
     w2c_i0 = w2c_j0 < w2c_j1;
-    if (w2c_i0) {goto w2c_B104;}
-    w2c_L105:
+    if (w2c_i0) {goto w2c_B109;}
+    w2c_L110:
       w2c_j0 = w2c_l10;
       w2c_j1 = w2c_l8;
       w2c_j0 += w2c_j1;
@@ -117214,7 +117368,7 @@ static u32 w2c_f149(module *m, u64 w2c_p0, u64 w2c_p1, u32 w2c_p2, u32 w2c_p3, u
       w2c_j0 += w2c_j1;
       w2c_i0 = (u32)(w2c_j0);
       w2c_j0 = i64_load(m, (u64)(w2c_i0));
-      w2c_l12 = w2c_j0;
+      w2c_l14 = w2c_j0;
       w2c_j1 = 13744632839234567870ull;
       w2c_j0 ^= w2c_j1;
       w2c_j1 = w2c_l11;
@@ -117223,31 +117377,31 @@ static u32 w2c_f149(module *m, u64 w2c_p0, u64 w2c_p1, u32 w2c_p2, u32 w2c_p3, u
       w2c_j2 = 16565899579919558117ull;
       w2c_j1 ^= w2c_j2;
       w2c_j0 |= w2c_j1;
-      w2c_l14 = w2c_j0;
+      w2c_l17 = w2c_j0;
       w2c_j1 = 9187201950435737471ull;
       w2c_j0 &= w2c_j1;
       w2c_j1 = 9187201950435737471ull;
       w2c_j0 += w2c_j1;
-      w2c_j1 = w2c_l14;
+      w2c_j1 = w2c_l17;
       w2c_j0 |= w2c_j1;
       w2c_j1 = w2c_l11;
       w2c_j2 = 16ull;
       w2c_j1 += w2c_j2;
       w2c_i1 = (u32)(w2c_j1);
       w2c_j1 = i64_load(m, (u64)(w2c_i1));
-      w2c_l14 = w2c_j1;
+      w2c_l17 = w2c_j1;
       w2c_j2 = 13744632839234567870ull;
       w2c_j1 ^= w2c_j2;
-      w2c_j2 = w2c_l12;
+      w2c_j2 = w2c_l14;
       w2c_j3 = 16565899579919558117ull;
       w2c_j2 ^= w2c_j3;
       w2c_j1 |= w2c_j2;
-      w2c_l12 = w2c_j1;
+      w2c_l14 = w2c_j1;
       w2c_j2 = 9187201950435737471ull;
       w2c_j1 &= w2c_j2;
       w2c_j2 = 9187201950435737471ull;
       w2c_j1 += w2c_j2;
-      w2c_j2 = w2c_l12;
+      w2c_j2 = w2c_l14;
       w2c_j1 |= w2c_j2;
       w2c_j0 &= w2c_j1;
       w2c_j1 = w2c_l11;
@@ -117255,19 +117409,19 @@ static u32 w2c_f149(module *m, u64 w2c_p0, u64 w2c_p1, u32 w2c_p2, u32 w2c_p3, u
       w2c_j1 += w2c_j2;
       w2c_i1 = (u32)(w2c_j1);
       w2c_j1 = i64_load(m, (u64)(w2c_i1));
-      w2c_l12 = w2c_j1;
+      w2c_l14 = w2c_j1;
       w2c_j2 = 13744632839234567870ull;
       w2c_j1 ^= w2c_j2;
-      w2c_j2 = w2c_l14;
+      w2c_j2 = w2c_l17;
       w2c_j3 = 16565899579919558117ull;
       w2c_j2 ^= w2c_j3;
       w2c_j1 |= w2c_j2;
-      w2c_l14 = w2c_j1;
+      w2c_l17 = w2c_j1;
       w2c_j2 = 9187201950435737471ull;
       w2c_j1 &= w2c_j2;
       w2c_j2 = 9187201950435737471ull;
       w2c_j1 += w2c_j2;
-      w2c_j2 = w2c_l14;
+      w2c_j2 = w2c_l17;
       w2c_j1 |= w2c_j2;
       w2c_j0 &= w2c_j1;
       w2c_j1 = w2c_l11;
@@ -117277,7 +117431,7 @@ static u32 w2c_f149(module *m, u64 w2c_p0, u64 w2c_p1, u32 w2c_p2, u32 w2c_p3, u
       w2c_j1 = i64_load(m, (u64)(w2c_i1));
       w2c_j2 = 13744632839234567870ull;
       w2c_j1 ^= w2c_j2;
-      w2c_j2 = w2c_l12;
+      w2c_j2 = w2c_l14;
       w2c_j3 = 16565899579919558117ull;
       w2c_j2 ^= w2c_j3;
       w2c_j1 |= w2c_j2;
@@ -117293,31 +117447,31 @@ static u32 w2c_f149(module *m, u64 w2c_p0, u64 w2c_p1, u32 w2c_p2, u32 w2c_p3, u
       w2c_j0 &= w2c_j1;
       w2c_j1 = 9259542123273814144ull;
       w2c_i0 = w2c_j0 != w2c_j1;
-      if (w2c_i0) {goto w2c_B104;}
-      w2c_j0 = w2c_p1;
+      if (w2c_i0) {goto w2c_B109;}
+      w2c_j0 = w2c_l12;
       w2c_j1 = w2c_l7;
-      w2c_j2 = 1216ull;
+      w2c_j2 = 1232ull;
       w2c_j1 += w2c_j2;
       w2c_j2 = w2c_l8;
       w2c_j3 = 32ull;
       w2c_j2 += w2c_j3;
-      w2c_j3 = w2c_p1;
-      w2c_j1 = w2c_f45(m, w2c_j1, w2c_j2, w2c_j3);
+      w2c_j3 = w2c_l12;
+      w2c_j1 = w2c_f46(m, w2c_j1, w2c_j2, w2c_j3);
       w2c_l8 = w2c_j1;
       w2c_j0 -= w2c_j1;
       w2c_j1 = 31ull;
       w2c_i0 = w2c_j0 > w2c_j1;
-      if (w2c_i0) {goto w2c_L105;}
-    w2c_B104:;
-    w2c_j0 = w2c_p1;
+      if (w2c_i0) {goto w2c_L110;}
+    w2c_B109:;
+    w2c_j0 = w2c_l12;
     w2c_j1 = w2c_l8;
     w2c_j0 -= w2c_j1;
     w2c_l11 = w2c_j0;
-    w2c_L107:
+    w2c_L112:
       w2c_j0 = w2c_l11;
       w2c_j1 = 9ull;
       w2c_i0 = w2c_j0 < w2c_j1;
-      if (w2c_i0) {goto w2c_B106;}
+      if (w2c_i0) {goto w2c_B111;}
       w2c_j0 = w2c_l11;
       w2c_j1 = 18446744073709551608ull;
       w2c_j0 += w2c_j1;
@@ -117326,39 +117480,39 @@ static u32 w2c_f149(module *m, u64 w2c_p0, u64 w2c_p1, u32 w2c_p2, u32 w2c_p3, u
       w2c_j1 = w2c_l10;
       w2c_j2 = w2c_l8;
       w2c_j1 += w2c_j2;
-      w2c_l12 = w2c_j1;
+      w2c_l14 = w2c_j1;
       w2c_j2 = 8ull;
       w2c_j1 += w2c_j2;
       w2c_i1 = (u32)(w2c_j1);
       w2c_j1 = i64_load(m, (u64)(w2c_i1));
       w2c_j2 = 13744632839234567870ull;
       w2c_j1 ^= w2c_j2;
-      w2c_j2 = w2c_l12;
+      w2c_j2 = w2c_l14;
       w2c_i2 = (u32)(w2c_j2);
       w2c_j2 = i64_load(m, (u64)(w2c_i2));
       w2c_j3 = 16565899579919558117ull;
       w2c_j2 ^= w2c_j3;
       w2c_j1 |= w2c_j2;
-      w2c_l12 = w2c_j1;
+      w2c_l14 = w2c_j1;
       w2c_j2 = 9187201950435737471ull;
       w2c_j1 &= w2c_j2;
       w2c_j2 = 9187201950435737471ull;
       w2c_j1 += w2c_j2;
-      w2c_j2 = w2c_l12;
+      w2c_j2 = w2c_l14;
       w2c_j1 |= w2c_j2;
       w2c_j2 = 9259542123273814144ull;
       w2c_j1 &= w2c_j2;
-      w2c_l12 = w2c_j1;
+      w2c_l14 = w2c_j1;
       w2c_j2 = 9259542123273814144ull;
       w2c_j1 ^= w2c_j2;
       w2c_j1 = I64_CTZ(w2c_j1);
       w2c_j2 = 3ull;
       w2c_j1 >>= (w2c_j2 & 63);
-      w2c_j2 = w2c_l12;
+      w2c_j2 = w2c_l14;
       w2c_j3 = 9259542123273814144ull;
       w2c_i2 = w2c_j2 == w2c_j3;
       w2c_j0 = w2c_i2 ? w2c_j0 : w2c_j1;
-      w2c_l12 = w2c_j0;
+      w2c_l14 = w2c_j0;
       w2c_j1 = w2c_l8;
       w2c_j0 += w2c_j1;
       w2c_j1 = w2c_l8;
@@ -117366,15 +117520,15 @@ static u32 w2c_f149(module *m, u64 w2c_p0, u64 w2c_p1, u32 w2c_p2, u32 w2c_p3, u
       w2c_j1 += w2c_j2;
       w2c_l8 = w2c_j1;
       w2c_i0 = w2c_j0 >= w2c_j1;
-      if (w2c_i0) {goto w2c_L107;}
-    w2c_j0 = w2c_l12;
+      if (w2c_i0) {goto w2c_L112;}
+    w2c_j0 = w2c_l14;
     w2c_j1 = w2c_l8;
     w2c_j0 += w2c_j1;
     w2c_j1 = 18446744073709551608ull;
     w2c_j0 += w2c_j1;
     w2c_l8 = w2c_j0;
-    goto w2c_B100;
-    w2c_B106:;
+    goto w2c_B105;
+    w2c_B111:;
     w2c_j0 = 8ull;
     w2c_j1 = w2c_l20;
     w2c_j2 = 8ull;
@@ -117411,17 +117565,17 @@ static u32 w2c_f149(module *m, u64 w2c_p0, u64 w2c_p1, u32 w2c_p2, u32 w2c_p3, u
     w2c_j1 = w2c_l19;
     w2c_j0 += w2c_j1;
     w2c_l8 = w2c_j0;
-    w2c_B100:;
+    w2c_B105:;
     w2c_j0 = w2c_l8;
-    w2c_j1 = w2c_p1;
+    w2c_j1 = w2c_l12;
     w2c_i0 = w2c_j0 == w2c_j1;
-    if (w2c_i0) {goto w2c_B97;}
-    w2c_j0 = w2c_l17;
+    if (w2c_i0) {goto w2c_B102;}
+    w2c_j0 = w2c_l18;
     w2c_j1 = w2c_l8;
     w2c_j0 -= w2c_j1;
     w2c_j1 = 9ull;
     w2c_i0 = w2c_j0 < w2c_j1;
-    if (w2c_i0) {goto w2c_B108;}
+    if (w2c_i0) {goto w2c_B113;}
     w2c_j0 = w2c_l10;
     w2c_j1 = w2c_l8;
     w2c_j0 += w2c_j1;
@@ -117430,22 +117584,22 @@ static u32 w2c_f149(module *m, u64 w2c_p0, u64 w2c_p1, u32 w2c_p2, u32 w2c_p3, u
     w2c_j0 = i64_load(m, (u64)(w2c_i0));
     w2c_j1 = 10080948929500068325ull;
     w2c_i0 = w2c_j0 != w2c_j1;
-    if (w2c_i0) {goto w2c_B108;}
+    if (w2c_i0) {goto w2c_B113;}
     w2c_j0 = w2c_l11;
     w2c_i0 = (u32)(w2c_j0);
     w2c_j0 = i64_load(m, (u64)(w2c_i0) + 1u);
     w2c_j1 = 13730321573962167481ull;
     w2c_i0 = w2c_j0 == w2c_j1;
-    if (w2c_i0) {goto w2c_B98;}
-    w2c_B108:;
+    if (w2c_i0) {goto w2c_B103;}
+    w2c_B113:;
     w2c_j0 = 1ull;
-    w2c_l21 = w2c_j0;
+    w2c_l22 = w2c_j0;
     w2c_j0 = 18446744073709551615ull;
     w2c_j1 = w2c_l8;
     w2c_j2 = 129ull;
     w2c_j1 += w2c_j2;
-    w2c_l12 = w2c_j1;
-    w2c_j2 = w2c_l12;
+    w2c_l14 = w2c_j1;
+    w2c_j2 = w2c_l14;
     w2c_j3 = w2c_l8;
     w2c_j4 = 1ull;
     w2c_j3 += w2c_j4;
@@ -117453,373 +117607,373 @@ static u32 w2c_f149(module *m, u64 w2c_p0, u64 w2c_p1, u32 w2c_p2, u32 w2c_p3, u
     w2c_i2 = w2c_j2 < w2c_j3;
     w2c_j0 = w2c_i2 ? w2c_j0 : w2c_j1;
     w2c_j1 = 18446744073709551615ull;
-    w2c_j2 = w2c_l18;
+    w2c_j2 = w2c_l21;
     w2c_j3 = 25ull;
     w2c_j2 += w2c_j3;
-    w2c_l12 = w2c_j2;
-    w2c_j3 = w2c_l12;
-    w2c_j4 = w2c_l18;
+    w2c_l14 = w2c_j2;
+    w2c_j3 = w2c_l14;
+    w2c_j4 = w2c_l21;
     w2c_i3 = w2c_j3 < w2c_j4;
     w2c_j1 = w2c_i3 ? w2c_j1 : w2c_j2;
-    w2c_l18 = w2c_j1;
+    w2c_l21 = w2c_j1;
     w2c_j2 = 3ull;
     w2c_j1 >>= (w2c_j2 & 63);
     w2c_i0 = w2c_j0 >= w2c_j1;
-    if (w2c_i0) {goto w2c_L99;}
+    if (w2c_i0) {goto w2c_L104;}
   w2c_j0 = 0ull;
   w2c_l19 = w2c_j0;
   w2c_j0 = 1ull;
-  w2c_l18 = w2c_j0;
+  w2c_l21 = w2c_j0;
   w2c_j0 = 1ull;
-  w2c_l12 = w2c_j0;
+  w2c_l14 = w2c_j0;
   w2c_j0 = 0ull;
-  w2c_p1 = w2c_j0;
-  w2c_L109:
-    w2c_j0 = w2c_l12;
-    w2c_l14 = w2c_j0;
-    w2c_j0 = w2c_l18;
+  w2c_l12 = w2c_j0;
+  w2c_L114:
+    w2c_j0 = w2c_l14;
+    w2c_l17 = w2c_j0;
+    w2c_j0 = w2c_l21;
     w2c_i0 = (u32)(w2c_j0);
-    w2c_i0 = i32_load8_u(m, (u64)(w2c_i0) + 79954u);
-    w2c_l23 = w2c_i0;
+    w2c_i0 = i32_load8_u(m, (u64)(w2c_i0) + 80050u);
+    w2c_l24 = w2c_i0;
     w2c_j1 = w2c_l19;
-    w2c_j2 = w2c_p1;
+    w2c_j2 = w2c_l12;
     w2c_j1 += w2c_j2;
-    w2c_j2 = 79954ull;
+    w2c_j2 = 80050ull;
     w2c_j1 += w2c_j2;
     w2c_i1 = (u32)(w2c_j1);
     w2c_i1 = i32_load8_u(m, (u64)(w2c_i1));
     w2c_p3 = w2c_i1;
     w2c_i0 = w2c_i0 < w2c_i1;
-    if (w2c_i0) {goto w2c_B111;}
-    w2c_j0 = w2c_p1;
+    if (w2c_i0) {goto w2c_B116;}
+    w2c_j0 = w2c_l12;
     w2c_j1 = 1ull;
     w2c_j0 += w2c_j1;
-    w2c_p1 = w2c_j0;
-    w2c_i0 = w2c_p3;
-    w2c_i1 = w2c_l23;
-    w2c_i0 = w2c_i0 >= w2c_i1;
-    if (w2c_i0) {goto w2c_B112;}
-    w2c_j0 = w2c_p1;
-    w2c_j1 = w2c_l14;
-    w2c_j0 += w2c_j1;
     w2c_l12 = w2c_j0;
+    w2c_i0 = w2c_p3;
+    w2c_i1 = w2c_l24;
+    w2c_i0 = w2c_i0 >= w2c_i1;
+    if (w2c_i0) {goto w2c_B117;}
+    w2c_j0 = w2c_l12;
+    w2c_j1 = w2c_l17;
+    w2c_j0 += w2c_j1;
+    w2c_l14 = w2c_j0;
     w2c_j1 = w2c_l19;
     w2c_j0 -= w2c_j1;
-    w2c_l21 = w2c_j0;
+    w2c_l22 = w2c_j0;
     w2c_j0 = 0ull;
-    w2c_p1 = w2c_j0;
-    goto w2c_B110;
-    w2c_B112:;
-    w2c_j0 = 0ull;
-    w2c_j1 = w2c_p1;
-    w2c_j2 = w2c_p1;
-    w2c_j3 = w2c_l21;
-    w2c_i2 = w2c_j2 == w2c_j3;
-    w2c_l23 = w2c_i2;
-    w2c_j0 = w2c_i2 ? w2c_j0 : w2c_j1;
-    w2c_p1 = w2c_j0;
-    w2c_j0 = w2c_l21;
-    w2c_j1 = 0ull;
-    w2c_i2 = w2c_l23;
-    w2c_j0 = w2c_i2 ? w2c_j0 : w2c_j1;
-    w2c_j1 = w2c_l14;
-    w2c_j0 += w2c_j1;
     w2c_l12 = w2c_j0;
-    goto w2c_B110;
-    w2c_B111:;
+    goto w2c_B115;
+    w2c_B117:;
+    w2c_j0 = 0ull;
+    w2c_j1 = w2c_l12;
+    w2c_j2 = w2c_l12;
+    w2c_j3 = w2c_l22;
+    w2c_i2 = w2c_j2 == w2c_j3;
+    w2c_l24 = w2c_i2;
+    w2c_j0 = w2c_i2 ? w2c_j0 : w2c_j1;
+    w2c_l12 = w2c_j0;
+    w2c_j0 = w2c_l22;
+    w2c_j1 = 0ull;
+    w2c_i2 = w2c_l24;
+    w2c_j0 = w2c_i2 ? w2c_j0 : w2c_j1;
+    w2c_j1 = w2c_l17;
+    w2c_j0 += w2c_j1;
+    w2c_l14 = w2c_j0;
+    goto w2c_B115;
+    w2c_B116:;
     w2c_j0 = 1ull;
-    w2c_l21 = w2c_j0;
-    w2c_j0 = w2c_l14;
+    w2c_l22 = w2c_j0;
+    w2c_j0 = w2c_l17;
     w2c_j1 = 1ull;
     w2c_j0 += w2c_j1;
-    w2c_l12 = w2c_j0;
+    w2c_l14 = w2c_j0;
     w2c_j0 = 0ull;
-    w2c_p1 = w2c_j0;
-    w2c_j0 = w2c_l14;
+    w2c_l12 = w2c_j0;
+    w2c_j0 = w2c_l17;
     w2c_l19 = w2c_j0;
-    w2c_B110:;
-    w2c_j0 = w2c_l12;
-    w2c_j1 = w2c_p1;
+    w2c_B115:;
+    w2c_j0 = w2c_l14;
+    w2c_j1 = w2c_l12;
     w2c_j0 += w2c_j1;
-    w2c_l18 = w2c_j0;
+    w2c_l21 = w2c_j0;
     w2c_j1 = 9ull;
     w2c_i0 = w2c_j0 < w2c_j1;
-    if (w2c_i0) {goto w2c_L109;}
+    if (w2c_i0) {goto w2c_L114;}
   w2c_j0 = 0ull;
-  w2c_l18 = w2c_j0;
+  w2c_l21 = w2c_j0;
   w2c_j0 = 1ull;
-  w2c_l22 = w2c_j0;
+  w2c_l23 = w2c_j0;
   w2c_j0 = 1ull;
   w2c_l20 = w2c_j0;
   w2c_j0 = 1ull;
-  w2c_l12 = w2c_j0;
+  w2c_l14 = w2c_j0;
   w2c_j0 = 0ull;
-  w2c_p1 = w2c_j0;
-  w2c_L113:
-    w2c_j0 = w2c_l12;
-    w2c_l14 = w2c_j0;
-    w2c_j0 = w2c_l18;
-    w2c_j1 = w2c_p1;
+  w2c_l12 = w2c_j0;
+  w2c_L118:
+    w2c_j0 = w2c_l14;
+    w2c_l17 = w2c_j0;
+    w2c_j0 = w2c_l21;
+    w2c_j1 = w2c_l12;
     w2c_j0 += w2c_j1;
-    w2c_j1 = 79954ull;
+    w2c_j1 = 80050ull;
     w2c_j0 += w2c_j1;
     w2c_i0 = (u32)(w2c_j0);
     w2c_i0 = i32_load8_u(m, (u64)(w2c_i0));
-    w2c_l23 = w2c_i0;
+    w2c_l24 = w2c_i0;
     w2c_j1 = w2c_l20;
     w2c_i1 = (u32)(w2c_j1);
-    w2c_i1 = i32_load8_u(m, (u64)(w2c_i1) + 79954u);
+    w2c_i1 = i32_load8_u(m, (u64)(w2c_i1) + 80050u);
     w2c_p3 = w2c_i1;
     w2c_i0 = w2c_i0 < w2c_i1;
-    if (w2c_i0) {goto w2c_B115;}
-    w2c_j0 = w2c_p1;
-    w2c_j1 = 1ull;
-    w2c_j0 += w2c_j1;
-    w2c_p1 = w2c_j0;
-    w2c_i0 = w2c_p3;
-    w2c_i1 = w2c_l23;
-    w2c_i0 = w2c_i0 < w2c_i1;
-    if (w2c_i0) {goto w2c_B116;}
-    w2c_j0 = 0ull;
-    w2c_j1 = w2c_p1;
-    w2c_j2 = w2c_p1;
-    w2c_j3 = w2c_l22;
-    w2c_i2 = w2c_j2 == w2c_j3;
-    w2c_l23 = w2c_i2;
-    w2c_j0 = w2c_i2 ? w2c_j0 : w2c_j1;
-    w2c_p1 = w2c_j0;
-    w2c_j0 = w2c_l22;
-    w2c_j1 = 0ull;
-    w2c_i2 = w2c_l23;
-    w2c_j0 = w2c_i2 ? w2c_j0 : w2c_j1;
-    w2c_j1 = w2c_l14;
-    w2c_j0 += w2c_j1;
-    w2c_l12 = w2c_j0;
-    goto w2c_B114;
-    w2c_B116:;
-    w2c_j0 = w2c_p1;
-    w2c_j1 = w2c_l14;
-    w2c_j0 += w2c_j1;
-    w2c_l12 = w2c_j0;
-    w2c_j1 = w2c_l18;
-    w2c_j0 -= w2c_j1;
-    w2c_l22 = w2c_j0;
-    w2c_j0 = 0ull;
-    w2c_p1 = w2c_j0;
-    goto w2c_B114;
-    w2c_B115:;
-    w2c_j0 = 1ull;
-    w2c_l22 = w2c_j0;
-    w2c_j0 = w2c_l14;
-    w2c_j1 = 1ull;
-    w2c_j0 += w2c_j1;
-    w2c_l12 = w2c_j0;
-    w2c_j0 = 0ull;
-    w2c_p1 = w2c_j0;
-    w2c_j0 = w2c_l14;
-    w2c_l18 = w2c_j0;
-    w2c_B114:;
+    if (w2c_i0) {goto w2c_B120;}
     w2c_j0 = w2c_l12;
-    w2c_j1 = w2c_p1;
+    w2c_j1 = 1ull;
+    w2c_j0 += w2c_j1;
+    w2c_l12 = w2c_j0;
+    w2c_i0 = w2c_p3;
+    w2c_i1 = w2c_l24;
+    w2c_i0 = w2c_i0 < w2c_i1;
+    if (w2c_i0) {goto w2c_B121;}
+    w2c_j0 = 0ull;
+    w2c_j1 = w2c_l12;
+    w2c_j2 = w2c_l12;
+    w2c_j3 = w2c_l23;
+    w2c_i2 = w2c_j2 == w2c_j3;
+    w2c_l24 = w2c_i2;
+    w2c_j0 = w2c_i2 ? w2c_j0 : w2c_j1;
+    w2c_l12 = w2c_j0;
+    w2c_j0 = w2c_l23;
+    w2c_j1 = 0ull;
+    w2c_i2 = w2c_l24;
+    w2c_j0 = w2c_i2 ? w2c_j0 : w2c_j1;
+    w2c_j1 = w2c_l17;
+    w2c_j0 += w2c_j1;
+    w2c_l14 = w2c_j0;
+    goto w2c_B119;
+    w2c_B121:;
+    w2c_j0 = w2c_l12;
+    w2c_j1 = w2c_l17;
+    w2c_j0 += w2c_j1;
+    w2c_l14 = w2c_j0;
+    w2c_j1 = w2c_l21;
+    w2c_j0 -= w2c_j1;
+    w2c_l23 = w2c_j0;
+    w2c_j0 = 0ull;
+    w2c_l12 = w2c_j0;
+    goto w2c_B119;
+    w2c_B120:;
+    w2c_j0 = 1ull;
+    w2c_l23 = w2c_j0;
+    w2c_j0 = w2c_l17;
+    w2c_j1 = 1ull;
+    w2c_j0 += w2c_j1;
+    w2c_l14 = w2c_j0;
+    w2c_j0 = 0ull;
+    w2c_l12 = w2c_j0;
+    w2c_j0 = w2c_l17;
+    w2c_l21 = w2c_j0;
+    w2c_B119:;
+    w2c_j0 = w2c_l14;
+    w2c_j1 = w2c_l12;
     w2c_j0 += w2c_j1;
     w2c_l20 = w2c_j0;
     w2c_j1 = 9ull;
     w2c_i0 = w2c_j0 < w2c_j1;
-    if (w2c_i0) {goto w2c_L113;}
-  w2c_j0 = w2c_l18;
+    if (w2c_i0) {goto w2c_L118;}
+  w2c_j0 = w2c_l21;
   w2c_j1 = w2c_l19;
   w2c_i0 = w2c_j0 >= w2c_j1;
-  if (w2c_i0) {goto w2c_B120;}
+  if (w2c_i0) {goto w2c_B125;}
   w2c_j0 = 9ull;
   w2c_j1 = w2c_l19;
   w2c_j0 -= w2c_j1;
-  w2c_p1 = w2c_j0;
+  w2c_l12 = w2c_j0;
   w2c_j1 = w2c_l19;
-  w2c_j2 = w2c_p1;
+  w2c_j2 = w2c_l12;
   w2c_j3 = w2c_l19;
   w2c_i2 = w2c_j2 > w2c_j3;
   w2c_j0 = w2c_i2 ? w2c_j0 : w2c_j1;
-  w2c_l14 = w2c_j0;
+  w2c_l17 = w2c_j0;
   w2c_j0 = w2c_l19;
   w2c_j1 = 1ull;
   w2c_j0 <<= (w2c_j1 & 63);
   w2c_j1 = 8ull;
   w2c_i0 = w2c_j0 > w2c_j1;
-  if (w2c_i0) {goto w2c_B118;}
+  if (w2c_i0) {goto w2c_B123;}
   w2c_j0 = 0ull;
-  w2c_p1 = w2c_j0;
-  w2c_L121:
-    w2c_j0 = w2c_p1;
-    w2c_j1 = 79954ull;
+  w2c_l12 = w2c_j0;
+  w2c_L126:
+    w2c_j0 = w2c_l12;
+    w2c_j1 = 80050ull;
     w2c_j0 += w2c_j1;
-    w2c_l12 = w2c_j0;
+    w2c_l14 = w2c_j0;
     w2c_i0 = (u32)(w2c_j0);
     w2c_i0 = i32_load8_u(m, (u64)(w2c_i0));
-    w2c_j1 = w2c_l12;
-    w2c_j2 = w2c_l21;
-    w2c_j1 += w2c_j2;
-    w2c_i1 = (u32)(w2c_j1);
-    w2c_i1 = i32_load8_u(m, (u64)(w2c_i1));
-    w2c_i0 = w2c_i0 != w2c_i1;
-    if (w2c_i0) {goto w2c_B118;}
-    w2c_j0 = w2c_l19;
-    w2c_j1 = w2c_p1;
-    w2c_j2 = 1ull;
-    w2c_j1 += w2c_j2;
-    w2c_p1 = w2c_j1;
-    w2c_i0 = w2c_j0 != w2c_j1;
-    if (w2c_i0) {goto w2c_L121;}
-  w2c_j0 = w2c_l19;
-  w2c_l18 = w2c_j0;
-  w2c_j0 = w2c_l21;
-  w2c_l22 = w2c_j0;
-  goto w2c_B119;
-  w2c_B120:;
-  w2c_j0 = 9ull;
-  w2c_j1 = w2c_l18;
-  w2c_j0 -= w2c_j1;
-  w2c_p1 = w2c_j0;
-  w2c_j1 = w2c_l18;
-  w2c_j2 = w2c_p1;
-  w2c_j3 = w2c_l18;
-  w2c_i2 = w2c_j2 > w2c_j3;
-  w2c_j0 = w2c_i2 ? w2c_j0 : w2c_j1;
-  w2c_l14 = w2c_j0;
-  w2c_j0 = w2c_l18;
-  w2c_j1 = 1ull;
-  w2c_j0 <<= (w2c_j1 & 63);
-  w2c_j1 = 8ull;
-  w2c_i0 = w2c_j0 > w2c_j1;
-  if (w2c_i0) {goto w2c_B117;}
-  w2c_j0 = w2c_l18;
-  w2c_i0 = !(w2c_j0);
-  w2c_i0 = !(w2c_i0);
-  if (w2c_i0) {goto w2c_B122;}
-  w2c_j0 = 0ull;
-  w2c_l18 = w2c_j0;
-  goto w2c_B119;
-  w2c_B122:;
-  w2c_j0 = 0ull;
-  w2c_p1 = w2c_j0;
-  w2c_L123:
-    w2c_j0 = w2c_p1;
-    w2c_j1 = 79954ull;
-    w2c_j0 += w2c_j1;
-    w2c_l12 = w2c_j0;
-    w2c_i0 = (u32)(w2c_j0);
-    w2c_i0 = i32_load8_u(m, (u64)(w2c_i0));
-    w2c_j1 = w2c_l12;
+    w2c_j1 = w2c_l14;
     w2c_j2 = w2c_l22;
     w2c_j1 += w2c_j2;
     w2c_i1 = (u32)(w2c_j1);
     w2c_i1 = i32_load8_u(m, (u64)(w2c_i1));
     w2c_i0 = w2c_i0 != w2c_i1;
-    if (w2c_i0) {goto w2c_B117;}
-    w2c_j0 = w2c_l18;
-    w2c_j1 = w2c_p1;
+    if (w2c_i0) {goto w2c_B123;}
+    w2c_j0 = w2c_l19;
+    w2c_j1 = w2c_l12;
     w2c_j2 = 1ull;
     w2c_j1 += w2c_j2;
-    w2c_p1 = w2c_j1;
+    w2c_l12 = w2c_j1;
     w2c_i0 = w2c_j0 != w2c_j1;
-    if (w2c_i0) {goto w2c_L123;}
-  w2c_B119:;
-  w2c_j0 = w2c_l17;
+    if (w2c_i0) {goto w2c_L126;}
+  w2c_j0 = w2c_l19;
+  w2c_l21 = w2c_j0;
+  w2c_j0 = w2c_l22;
+  w2c_l23 = w2c_j0;
+  goto w2c_B124;
+  w2c_B125:;
+  w2c_j0 = 9ull;
+  w2c_j1 = w2c_l21;
+  w2c_j0 -= w2c_j1;
+  w2c_l12 = w2c_j0;
+  w2c_j1 = w2c_l21;
+  w2c_j2 = w2c_l12;
+  w2c_j3 = w2c_l21;
+  w2c_i2 = w2c_j2 > w2c_j3;
+  w2c_j0 = w2c_i2 ? w2c_j0 : w2c_j1;
+  w2c_l17 = w2c_j0;
+  w2c_j0 = w2c_l21;
+  w2c_j1 = 1ull;
+  w2c_j0 <<= (w2c_j1 & 63);
+  w2c_j1 = 8ull;
+  w2c_i0 = w2c_j0 > w2c_j1;
+  if (w2c_i0) {goto w2c_B122;}
+  w2c_j0 = w2c_l21;
+  w2c_i0 = !(w2c_j0);
+  w2c_i0 = !(w2c_i0);
+  if (w2c_i0) {goto w2c_B127;}
+  w2c_j0 = 0ull;
+  w2c_l21 = w2c_j0;
+  goto w2c_B124;
+  w2c_B127:;
+  w2c_j0 = 0ull;
+  w2c_l12 = w2c_j0;
+  w2c_L128:
+    w2c_j0 = w2c_l12;
+    w2c_j1 = 80050ull;
+    w2c_j0 += w2c_j1;
+    w2c_l14 = w2c_j0;
+    w2c_i0 = (u32)(w2c_j0);
+    w2c_i0 = i32_load8_u(m, (u64)(w2c_i0));
+    w2c_j1 = w2c_l14;
+    w2c_j2 = w2c_l23;
+    w2c_j1 += w2c_j2;
+    w2c_i1 = (u32)(w2c_j1);
+    w2c_i1 = i32_load8_u(m, (u64)(w2c_i1));
+    w2c_i0 = w2c_i0 != w2c_i1;
+    if (w2c_i0) {goto w2c_B122;}
+    w2c_j0 = w2c_l21;
+    w2c_j1 = w2c_l12;
+    w2c_j2 = 1ull;
+    w2c_j1 += w2c_j2;
+    w2c_l12 = w2c_j1;
+    w2c_i0 = w2c_j0 != w2c_j1;
+    if (w2c_i0) {goto w2c_L128;}
+  w2c_B124:;
+  w2c_j0 = w2c_l18;
   w2c_j1 = w2c_l11;
   w2c_j0 -= w2c_j1;
   w2c_j1 = 9ull;
   w2c_i0 = w2c_j0 < w2c_j1;
-  if (w2c_i0) {goto w2c_B97;}
-  w2c_j0 = w2c_l18;
+  if (w2c_i0) {goto w2c_B102;}
+  w2c_j0 = w2c_l21;
   w2c_j1 = 18446744073709551615ull;
   w2c_j0 += w2c_j1;
-  w2c_l14 = w2c_j0;
+  w2c_l17 = w2c_j0;
   w2c_j0 = 1ull;
-  w2c_j1 = w2c_l18;
+  w2c_j1 = w2c_l21;
   w2c_j0 -= w2c_j1;
   w2c_l20 = w2c_j0;
   w2c_j0 = 9ull;
-  w2c_j1 = w2c_l22;
+  w2c_j1 = w2c_l23;
   w2c_j0 -= w2c_j1;
-  w2c_l21 = w2c_j0;
+  w2c_l22 = w2c_j0;
   w2c_j0 = 0ull;
-  w2c_l12 = w2c_j0;
-  w2c_L124:
-    w2c_j0 = w2c_l12;
-    w2c_j1 = w2c_l18;
-    w2c_j2 = w2c_l12;
-    w2c_j3 = w2c_l18;
+  w2c_l9 = w2c_j0;
+  w2c_L129:
+    w2c_j0 = w2c_l9;
+    w2c_j1 = w2c_l21;
+    w2c_j2 = w2c_l9;
+    w2c_j3 = w2c_l21;
     w2c_i2 = w2c_j2 > w2c_j3;
     w2c_j0 = w2c_i2 ? w2c_j0 : w2c_j1;
     w2c_l8 = w2c_j0;
     w2c_j1 = 8ull;
     w2c_i0 = w2c_j0 > w2c_j1;
-    if (w2c_i0) {goto w2c_B127;}
+    if (w2c_i0) {goto w2c_B132;}
     w2c_j0 = w2c_l10;
     w2c_j1 = w2c_l11;
     w2c_j0 += w2c_j1;
-    w2c_p1 = w2c_j0;
-    w2c_L128:
+    w2c_p0 = w2c_j0;
+    w2c_L133:
       w2c_j0 = w2c_l8;
-      w2c_j1 = 79954ull;
+      w2c_j1 = 80050ull;
       w2c_j0 += w2c_j1;
       w2c_i0 = (u32)(w2c_j0);
       w2c_i0 = i32_load8_u(m, (u64)(w2c_i0));
-      w2c_j1 = w2c_p1;
+      w2c_j1 = w2c_p0;
       w2c_j2 = w2c_l8;
       w2c_j1 += w2c_j2;
       w2c_i1 = (u32)(w2c_j1);
       w2c_i1 = i32_load8_u(m, (u64)(w2c_i1));
       w2c_i0 = w2c_i0 != w2c_i1;
-      if (w2c_i0) {goto w2c_B126;}
+      if (w2c_i0) {goto w2c_B131;}
       w2c_j0 = w2c_l8;
       w2c_j1 = 1ull;
       w2c_j0 += w2c_j1;
       w2c_l8 = w2c_j0;
       w2c_j1 = 9ull;
       w2c_i0 = w2c_j0 != w2c_j1;
-      if (w2c_i0) {goto w2c_L128;}
-    w2c_B127:;
+      if (w2c_i0) {goto w2c_L133;}
+    w2c_B132:;
     w2c_j0 = w2c_l10;
     w2c_j1 = w2c_l11;
     w2c_j0 += w2c_j1;
-    w2c_l9 = w2c_j0;
-    w2c_j0 = w2c_l14;
+    w2c_l14 = w2c_j0;
+    w2c_j0 = w2c_l17;
     w2c_l8 = w2c_j0;
-    w2c_L129:
-      w2c_j0 = w2c_l12;
+    w2c_L134:
+      w2c_j0 = w2c_l9;
       w2c_j1 = w2c_l8;
       w2c_j2 = 1ull;
       w2c_j1 += w2c_j2;
       w2c_i0 = w2c_j0 >= w2c_j1;
-      if (w2c_i0) {goto w2c_B98;}
-      w2c_j0 = w2c_l9;
+      if (w2c_i0) {goto w2c_B103;}
+      w2c_j0 = w2c_l14;
       w2c_j1 = w2c_l8;
       w2c_j0 += w2c_j1;
-      w2c_p1 = w2c_j0;
-      w2c_j0 = w2c_l8;
-      w2c_j1 = 79954ull;
-      w2c_j0 += w2c_j1;
       w2c_p0 = w2c_j0;
+      w2c_j0 = w2c_l8;
+      w2c_j1 = 80050ull;
+      w2c_j0 += w2c_j1;
+      w2c_l12 = w2c_j0;
       w2c_j0 = w2c_l8;
       w2c_j1 = 18446744073709551615ull;
       w2c_j0 += w2c_j1;
       w2c_l8 = w2c_j0;
-      w2c_j0 = w2c_p0;
+      w2c_j0 = w2c_l12;
       w2c_i0 = (u32)(w2c_j0);
       w2c_i0 = i32_load8_u(m, (u64)(w2c_i0));
-      w2c_j1 = w2c_p1;
+      w2c_j1 = w2c_p0;
       w2c_i1 = (u32)(w2c_j1);
       w2c_i1 = i32_load8_u(m, (u64)(w2c_i1));
       w2c_i0 = w2c_i0 == w2c_i1;
-      if (w2c_i0) {goto w2c_L129;}
+      if (w2c_i0) {goto w2c_L134;}
     w2c_j0 = w2c_l11;
-    w2c_j1 = w2c_l22;
+    w2c_j1 = w2c_l23;
     w2c_j0 += w2c_j1;
     w2c_l11 = w2c_j0;
-    w2c_j0 = w2c_l21;
-    w2c_l12 = w2c_j0;
-    goto w2c_B125;
-    w2c_B126:;
+    w2c_j0 = w2c_l22;
+    w2c_l9 = w2c_j0;
+    goto w2c_B130;
+    w2c_B131:;
     w2c_j0 = w2c_l20;
     w2c_j1 = w2c_l11;
     w2c_j0 += w2c_j1;
@@ -117827,224 +117981,224 @@ static u32 w2c_f149(module *m, u64 w2c_p0, u64 w2c_p1, u32 w2c_p2, u32 w2c_p3, u
     w2c_j0 += w2c_j1;
     w2c_l11 = w2c_j0;
     w2c_j0 = 0ull;
-    w2c_l12 = w2c_j0;
-    w2c_B125:;
-    w2c_j0 = w2c_l17;
+    w2c_l9 = w2c_j0;
+    w2c_B130:;
+    w2c_j0 = w2c_l18;
     w2c_j1 = w2c_l11;
     w2c_j0 -= w2c_j1;
     w2c_j1 = 9ull;
     w2c_i0 = w2c_j0 < w2c_j1;
-    if (w2c_i0) {goto w2c_B97;}
-    goto w2c_L124;
+    if (w2c_i0) {goto w2c_B102;}
+    goto w2c_L129;
   UNREACHABLE;
-  w2c_B118:;
+  w2c_B123:;
   w2c_j0 = w2c_l19;
-  w2c_l18 = w2c_j0;
-  w2c_B117:;
-  w2c_j0 = w2c_l17;
+  w2c_l21 = w2c_j0;
+  w2c_B122:;
+  w2c_j0 = w2c_l18;
   w2c_j1 = w2c_l11;
   w2c_j0 -= w2c_j1;
   w2c_j1 = 9ull;
   w2c_i0 = w2c_j0 < w2c_j1;
-  if (w2c_i0) {goto w2c_B97;}
-  w2c_j0 = w2c_l18;
+  if (w2c_i0) {goto w2c_B102;}
+  w2c_j0 = w2c_l21;
   w2c_j1 = 9ull;
   w2c_i0 = w2c_j0 < w2c_j1;
-  if (w2c_i0) {goto w2c_B130;}
+  if (w2c_i0) {goto w2c_B135;}
   w2c_j0 = w2c_p0;
   w2c_j1 = w2c_l9;
-  w2c_j2 = w2c_l18;
+  w2c_j2 = w2c_l21;
   w2c_j1 += w2c_j2;
   w2c_j0 += w2c_j1;
   w2c_j1 = w2c_l8;
   w2c_j0 += w2c_j1;
-  w2c_l12 = w2c_j0;
-  w2c_L131:
-    w2c_j0 = w2c_l12;
-    w2c_p1 = w2c_j0;
-    w2c_j0 = w2c_l18;
+  w2c_l9 = w2c_j0;
+  w2c_L136:
+    w2c_j0 = w2c_l9;
+    w2c_p0 = w2c_j0;
+    w2c_j0 = w2c_l21;
     w2c_l8 = w2c_j0;
-    w2c_L132:
+    w2c_L137:
       w2c_j0 = w2c_l8;
       w2c_i0 = !(w2c_j0);
-      if (w2c_i0) {goto w2c_B98;}
+      if (w2c_i0) {goto w2c_B103;}
       w2c_j0 = w2c_l8;
-      w2c_j1 = 79953ull;
+      w2c_j1 = 80049ull;
       w2c_j0 += w2c_j1;
-      w2c_p0 = w2c_j0;
-      w2c_j0 = w2c_p1;
+      w2c_l12 = w2c_j0;
+      w2c_j0 = w2c_p0;
       w2c_i0 = (u32)(w2c_j0);
       w2c_i0 = i32_load8_u(m, (u64)(w2c_i0));
-      w2c_l23 = w2c_i0;
-      w2c_j0 = w2c_p1;
+      w2c_l24 = w2c_i0;
+      w2c_j0 = w2c_p0;
       w2c_j1 = 18446744073709551615ull;
       w2c_j0 += w2c_j1;
-      w2c_p1 = w2c_j0;
+      w2c_p0 = w2c_j0;
       w2c_j0 = w2c_l8;
       w2c_j1 = 18446744073709551615ull;
       w2c_j0 += w2c_j1;
       w2c_l8 = w2c_j0;
-      w2c_i0 = w2c_l23;
-      w2c_j1 = w2c_p0;
+      w2c_i0 = w2c_l24;
+      w2c_j1 = w2c_l12;
       w2c_i1 = (u32)(w2c_j1);
       w2c_i1 = i32_load8_u(m, (u64)(w2c_i1));
       w2c_i0 = w2c_i0 == w2c_i1;
-      if (w2c_i0) {goto w2c_L132;}
-    w2c_j0 = w2c_l12;
-    w2c_j1 = w2c_l14;
+      if (w2c_i0) {goto w2c_L137;}
+    w2c_j0 = w2c_l9;
+    w2c_j1 = w2c_l17;
     w2c_j0 += w2c_j1;
-    w2c_l12 = w2c_j0;
-    w2c_j0 = w2c_l17;
+    w2c_l9 = w2c_j0;
+    w2c_j0 = w2c_l18;
     w2c_j1 = w2c_l11;
-    w2c_j2 = w2c_l14;
+    w2c_j2 = w2c_l17;
     w2c_j1 += w2c_j2;
     w2c_l11 = w2c_j1;
     w2c_j0 -= w2c_j1;
     w2c_j1 = 8ull;
     w2c_i0 = w2c_j0 <= w2c_j1;
-    if (w2c_i0) {goto w2c_B97;}
-    goto w2c_L131;
+    if (w2c_i0) {goto w2c_B102;}
+    goto w2c_L136;
   UNREACHABLE;
-  w2c_B130:;
+  w2c_B135:;
   w2c_j0 = w2c_l9;
-  w2c_j1 = w2c_l18;
+  w2c_j1 = w2c_l21;
   w2c_j0 += w2c_j1;
   w2c_j1 = w2c_p0;
   w2c_j0 += w2c_j1;
   w2c_j1 = 18446744073709551615ull;
   w2c_j0 += w2c_j1;
-  w2c_l12 = w2c_j0;
-  w2c_L133:
+  w2c_l9 = w2c_j0;
+  w2c_L138:
     w2c_j0 = w2c_l11;
     w2c_j1 = 18446744073709551615ull;
     w2c_j0 ^= w2c_j1;
-    w2c_p1 = w2c_j0;
+    w2c_p0 = w2c_j0;
     w2c_j0 = w2c_l10;
     w2c_j1 = w2c_l11;
     w2c_j0 += w2c_j1;
-    w2c_p0 = w2c_j0;
-    w2c_j0 = w2c_l18;
+    w2c_l12 = w2c_j0;
+    w2c_j0 = w2c_l21;
     w2c_l8 = w2c_j0;
-    w2c_L135:
+    w2c_L140:
       w2c_j0 = w2c_l8;
-      w2c_j1 = 79954ull;
+      w2c_j1 = 80050ull;
       w2c_j0 += w2c_j1;
       w2c_i0 = (u32)(w2c_j0);
       w2c_i0 = i32_load8_u(m, (u64)(w2c_i0));
-      w2c_j1 = w2c_p0;
+      w2c_j1 = w2c_l12;
       w2c_j2 = w2c_l8;
       w2c_j1 += w2c_j2;
       w2c_i1 = (u32)(w2c_j1);
       w2c_i1 = i32_load8_u(m, (u64)(w2c_i1));
       w2c_i0 = w2c_i0 == w2c_i1;
-      if (w2c_i0) {goto w2c_B136;}
+      if (w2c_i0) {goto w2c_B141;}
       w2c_j0 = 0ull;
-      w2c_j1 = w2c_p1;
+      w2c_j1 = w2c_p0;
       w2c_j0 -= w2c_j1;
       w2c_l11 = w2c_j0;
-      goto w2c_B134;
-      w2c_B136:;
-      w2c_j0 = w2c_p1;
+      goto w2c_B139;
+      w2c_B141:;
+      w2c_j0 = w2c_p0;
       w2c_j1 = 18446744073709551615ull;
       w2c_j0 += w2c_j1;
-      w2c_p1 = w2c_j0;
+      w2c_p0 = w2c_j0;
       w2c_j0 = w2c_l8;
       w2c_j1 = 1ull;
       w2c_j0 += w2c_j1;
       w2c_l8 = w2c_j0;
       w2c_j1 = 9ull;
       w2c_i0 = w2c_j0 != w2c_j1;
-      if (w2c_i0) {goto w2c_L135;}
-    w2c_j0 = w2c_l12;
+      if (w2c_i0) {goto w2c_L140;}
+    w2c_j0 = w2c_l9;
     w2c_j1 = w2c_l11;
     w2c_j0 += w2c_j1;
-    w2c_p1 = w2c_j0;
-    w2c_j0 = w2c_l18;
+    w2c_p0 = w2c_j0;
+    w2c_j0 = w2c_l21;
     w2c_l8 = w2c_j0;
-    w2c_L137:
+    w2c_L142:
       w2c_j0 = w2c_l8;
       w2c_i0 = !(w2c_j0);
-      if (w2c_i0) {goto w2c_B98;}
+      if (w2c_i0) {goto w2c_B103;}
       w2c_j0 = w2c_l8;
-      w2c_j1 = 79953ull;
+      w2c_j1 = 80049ull;
       w2c_j0 += w2c_j1;
-      w2c_p0 = w2c_j0;
-      w2c_j0 = w2c_p1;
+      w2c_l12 = w2c_j0;
+      w2c_j0 = w2c_p0;
       w2c_i0 = (u32)(w2c_j0);
       w2c_i0 = i32_load8_u(m, (u64)(w2c_i0));
-      w2c_l23 = w2c_i0;
-      w2c_j0 = w2c_p1;
+      w2c_l24 = w2c_i0;
+      w2c_j0 = w2c_p0;
       w2c_j1 = 18446744073709551615ull;
       w2c_j0 += w2c_j1;
-      w2c_p1 = w2c_j0;
+      w2c_p0 = w2c_j0;
       w2c_j0 = w2c_l8;
       w2c_j1 = 18446744073709551615ull;
       w2c_j0 += w2c_j1;
       w2c_l8 = w2c_j0;
-      w2c_i0 = w2c_l23;
-      w2c_j1 = w2c_p0;
+      w2c_i0 = w2c_l24;
+      w2c_j1 = w2c_l12;
       w2c_i1 = (u32)(w2c_j1);
       w2c_i1 = i32_load8_u(m, (u64)(w2c_i1));
       w2c_i0 = w2c_i0 == w2c_i1;
-      if (w2c_i0) {goto w2c_L137;}
+      if (w2c_i0) {goto w2c_L142;}
     w2c_j0 = w2c_l11;
-    w2c_j1 = w2c_l14;
+    w2c_j1 = w2c_l17;
     w2c_j0 += w2c_j1;
     w2c_l11 = w2c_j0;
-    w2c_B134:;
-    w2c_j0 = w2c_l17;
+    w2c_B139:;
+    w2c_j0 = w2c_l18;
     w2c_j1 = w2c_l11;
     w2c_j0 -= w2c_j1;
     w2c_j1 = 9ull;
     w2c_i0 = w2c_j0 < w2c_j1;
-    if (w2c_i0) {goto w2c_B97;}
-    goto w2c_L133;
+    if (w2c_i0) {goto w2c_B102;}
+    goto w2c_L138;
   UNREACHABLE;
-  w2c_B98:;
+  w2c_B103:;
   w2c_j0 = 0ull;
   w2c_l8 = w2c_j0;
   w2c_j0 = 0ull;
   w2c_l11 = w2c_j0;
-  w2c_j0 = w2c_l17;
+  w2c_j0 = w2c_l18;
   w2c_j1 = 32ull;
   w2c_i0 = w2c_j0 < w2c_j1;
-  if (w2c_i0) {goto w2c_B138;}
+  if (w2c_i0) {goto w2c_B143;}
   w2c_j0 = w2c_l7;
-  w2c_j1 = 32ull;
+  w2c_j1 = 48ull;
   w2c_j0 += w2c_j1;
   w2c_j1 = w2c_l10;
-  w2c_j2 = w2c_l17;
-  w2c_j3 = w2c_l17;
+  w2c_j2 = w2c_l18;
+  w2c_j3 = w2c_l18;
   w2c_f22(m, w2c_j0, w2c_j1, w2c_j2, w2c_j3);
-  w2c_j0 = w2c_l17;
+  w2c_j0 = w2c_l18;
   w2c_j1 = w2c_l7;
   w2c_i1 = (u32)(w2c_j1);
-  w2c_j1 = i64_load(m, (u64)(w2c_i1) + 40u);
+  w2c_j1 = i64_load(m, (u64)(w2c_i1) + 56u);
   w2c_j0 -= w2c_j1;
   w2c_l8 = w2c_j0;
   w2c_j0 = w2c_l7;
   w2c_i0 = (u32)(w2c_j0);
-  w2c_j0 = i64_load(m, (u64)(w2c_i0) + 32u);
+  w2c_j0 = i64_load(m, (u64)(w2c_i0) + 48u);
   w2c_l11 = w2c_j0;
-  w2c_B138:;
-  w2c_j0 = w2c_l17;
+  w2c_B143:;
+  w2c_j0 = w2c_l18;
   w2c_j1 = w2c_l11;
   w2c_j0 -= w2c_j1;
   w2c_j1 = 8ull;
   w2c_i0 = w2c_j0 < w2c_j1;
-  if (w2c_i0) {goto w2c_B139;}
-  w2c_L140:
+  if (w2c_i0) {goto w2c_B144;}
+  w2c_L145:
     w2c_j0 = w2c_l10;
     w2c_j1 = w2c_l11;
     w2c_j0 += w2c_j1;
     w2c_i0 = (u32)(w2c_j0);
     w2c_j0 = i64_load(m, (u64)(w2c_i0));
-    w2c_p1 = w2c_j0;
+    w2c_p0 = w2c_j0;
     w2c_j1 = 67553998437089520ull;
     w2c_j0 &= w2c_j1;
     w2c_j1 = 63050398541283552ull;
     w2c_i0 = w2c_j0 != w2c_j1;
-    if (w2c_i0) {goto w2c_B142;}
+    if (w2c_i0) {goto w2c_B147;}
     w2c_j0 = w2c_l8;
     w2c_j1 = 3ull;
     w2c_j0 += w2c_j1;
@@ -118053,14 +118207,14 @@ static u32 w2c_f149(module *m, u64 w2c_p0, u64 w2c_p1, u32 w2c_p2, u32 w2c_p3, u
     w2c_j1 = 9ull;
     w2c_j0 += w2c_j1;
     w2c_l11 = w2c_j0;
-    goto w2c_B141;
-    w2c_B142:;
-    w2c_j0 = w2c_p1;
+    goto w2c_B146;
+    w2c_B147:;
+    w2c_j0 = w2c_p0;
     w2c_j1 = 9259542123273814144ull;
     w2c_j0 &= w2c_j1;
     w2c_j1 = 0ull;
     w2c_i0 = w2c_j0 != w2c_j1;
-    if (w2c_i0) {goto w2c_B139;}
+    if (w2c_i0) {goto w2c_B144;}
     w2c_j0 = w2c_l8;
     w2c_j1 = 8ull;
     w2c_j0 += w2c_j1;
@@ -118069,19 +118223,19 @@ static u32 w2c_f149(module *m, u64 w2c_p0, u64 w2c_p1, u32 w2c_p2, u32 w2c_p3, u
     w2c_j1 = 8ull;
     w2c_j0 += w2c_j1;
     w2c_l11 = w2c_j0;
-    w2c_B141:;
-    w2c_j0 = w2c_l17;
+    w2c_B146:;
+    w2c_j0 = w2c_l18;
     w2c_j1 = w2c_l11;
     w2c_j0 -= w2c_j1;
     w2c_j1 = 7ull;
     w2c_i0 = w2c_j0 > w2c_j1;
-    if (w2c_i0) {goto w2c_L140;}
-  w2c_B139:;
+    if (w2c_i0) {goto w2c_L145;}
+  w2c_B144:;
   w2c_j0 = w2c_l11;
-  w2c_j1 = w2c_l17;
+  w2c_j1 = w2c_l18;
   w2c_i0 = w2c_j0 >= w2c_j1;
-  if (w2c_i0) {goto w2c_B143;}
-  w2c_L144:
+  if (w2c_i0) {goto w2c_B148;}
+  w2c_L149:
     w2c_j0 = w2c_l8;
     w2c_j1 = 1ull;
     w2c_j0 += w2c_j1;
@@ -118103,12 +118257,12 @@ static u32 w2c_f149(module *m, u64 w2c_p0, u64 w2c_p1, u32 w2c_p2, u32 w2c_p3, u
     w2c_j1 = w2c_l11;
     w2c_j0 += w2c_j1;
     w2c_l11 = w2c_j0;
-    w2c_j1 = w2c_l17;
+    w2c_j1 = w2c_l18;
     w2c_i0 = w2c_j0 < w2c_j1;
-    if (w2c_i0) {goto w2c_L144;}
-  w2c_B143:;
-  w2c_i0 = 13u;
-  w2c_i1 = 9u;
+    if (w2c_i0) {goto w2c_L149;}
+  w2c_B148:;
+  w2c_i0 = 16u;
+  w2c_i1 = 11u;
   w2c_j2 = w2c_l8;
   w2c_j3 = 18446744073709551615ull;
   w2c_j4 = w2c_l13;
@@ -118120,111 +118274,117 @@ static u32 w2c_f149(module *m, u64 w2c_p0, u64 w2c_p1, u32 w2c_p2, u32 w2c_p3, u
   w2c_j3 = w2c_i5 ? w2c_j3 : w2c_j4;
   w2c_i2 = w2c_j2 == w2c_j3;
   w2c_i0 = w2c_i2 ? w2c_i0 : w2c_i1;
-  w2c_l23 = w2c_i0;
+  w2c_l24 = w2c_i0;
   goto w2c_B5;
-  w2c_B97:;
-  w2c_i0 = 9u;
-  w2c_l23 = w2c_i0;
+  w2c_B102:;
+  w2c_i0 = 11u;
+  w2c_l24 = w2c_i0;
   w2c_B5:;
   w2c_j0 = w2c_l15;
-  w2c_i0 = !(w2c_j0);
+  w2c_j1 = 0ull;
+  w2c_i0 = w2c_j0 == w2c_j1;
   if (w2c_i0) {goto w2c_B4;}
-  w2c_j0 = w2c_l7;
-  w2c_j1 = 920ull;
-  w2c_j0 += w2c_j1;
-  w2c_j1 = w2c_l7;
-  w2c_j2 = 136ull;
-  w2c_j1 += w2c_j2;
-  w2c_i2 = 4u;
-  w2c_f33(m, w2c_j0, w2c_j1, w2c_i2);
-  w2c_i0 = 7u;
+  w2c_i0 = 8u;
+  w2c_l25 = w2c_i0;
+  w2c_i0 = 4u;
   w2c_p3 = w2c_i0;
   goto w2c_B3;
   w2c_B4:;
-  w2c_j0 = w2c_l7;
-  w2c_j1 = 920ull;
-  w2c_j0 += w2c_j1;
-  w2c_j1 = w2c_l7;
-  w2c_j2 = 136ull;
-  w2c_j1 += w2c_j2;
-  w2c_i2 = 5u;
-  w2c_f33(m, w2c_j0, w2c_j1, w2c_i2);
-  w2c_i0 = 8u;
+  w2c_i0 = 9u;
+  w2c_i1 = 10u;
+  w2c_j2 = w2c_p1;
+  w2c_i2 = !(w2c_j2);
+  w2c_p3 = w2c_i2;
+  w2c_i0 = w2c_i2 ? w2c_i0 : w2c_i1;
+  w2c_l25 = w2c_i0;
+  w2c_i0 = 5u;
+  w2c_i1 = 6u;
+  w2c_i2 = w2c_p3;
+  w2c_i0 = w2c_i2 ? w2c_i0 : w2c_i1;
   w2c_p3 = w2c_i0;
   w2c_B3:;
   w2c_j0 = w2c_l7;
-  w2c_i0 = (u32)(w2c_j0);
-  w2c_i0 = i32_load8_u(m, (u64)(w2c_i0) + 1000u);
-  w2c_i1 = 1u;
-  w2c_i0 = w2c_i0 != w2c_i1;
-  if (w2c_i0) {goto w2c_B147;}
-  w2c_i0 = w2c_p2;
-  if (w2c_i0) {goto w2c_B147;}
-  w2c_j0 = w2c_l7;
-  w2c_j1 = 920ull;
+  w2c_j1 = 936ull;
   w2c_j0 += w2c_j1;
   w2c_j1 = w2c_l7;
-  w2c_j2 = 136ull;
-  w2c_j1 += w2c_j2;
-  w2c_i2 = 6u;
-  w2c_f33(m, w2c_j0, w2c_j1, w2c_i2);
-  goto w2c_B146;
-  w2c_B147:;
-  w2c_i0 = w2c_p2;
-  w2c_i0 = !(w2c_i0);
-  if (w2c_i0) {goto w2c_B146;}
-  w2c_i0 = w2c_l23;
-  w2c_i1 = 9u;
-  w2c_i0 = w2c_i0 != w2c_i1;
-  if (w2c_i0) {goto w2c_B145;}
-  w2c_B146:;
-  w2c_j0 = w2c_l7;
-  w2c_i0 = (u32)(w2c_j0);
-  w2c_j0 = i64_load(m, (u64)(w2c_i0) + 1200u);
-  w2c_l11 = w2c_j0;
-  w2c_i0 = !(w2c_j0);
-  if (w2c_i0) {goto w2c_B148;}
-  w2c_j0 = w2c_l16;
-  w2c_j1 = w2c_l11;
-  w2c_j2 = 79856ull;
-  w2c_i0 = w2c_f26(m, w2c_j0, w2c_j1, w2c_j2);
-  w2c_i0 = !(w2c_i0);
-  if (w2c_i0) {goto w2c_B149;}
-  w2c_j0 = w2c_l16;
-  w2c_j1 = w2c_l11;
-  w2c_j2 = 79860ull;
-  w2c_i0 = w2c_f26(m, w2c_j0, w2c_j1, w2c_j2);
-  w2c_i0 = !(w2c_i0);
-  if (w2c_i0) {goto w2c_B148;}
-  w2c_B149:;
-  w2c_j0 = w2c_l7;
-  w2c_j1 = 920ull;
-  w2c_j0 += w2c_j1;
-  w2c_j1 = w2c_l7;
-  w2c_j2 = 136ull;
+  w2c_j2 = 152ull;
   w2c_j1 += w2c_j2;
   w2c_i2 = w2c_p3;
   w2c_f33(m, w2c_j0, w2c_j1, w2c_i2);
-  w2c_B148:;
+  w2c_i0 = w2c_p2;
+  if (w2c_i0) {goto w2c_B152;}
+  w2c_j0 = w2c_l7;
+  w2c_i0 = (u32)(w2c_j0);
+  w2c_i0 = i32_load8_u(m, (u64)(w2c_i0) + 1016u);
+  w2c_i1 = 1u;
+  w2c_i0 &= w2c_i1;
+  w2c_i0 = !(w2c_i0);
+  if (w2c_i0) {goto w2c_B152;}
+  w2c_j0 = w2c_l7;
+  w2c_j1 = 936ull;
+  w2c_j0 += w2c_j1;
+  w2c_j1 = w2c_l7;
+  w2c_j2 = 152ull;
+  w2c_j1 += w2c_j2;
+  w2c_i2 = 7u;
+  w2c_f33(m, w2c_j0, w2c_j1, w2c_i2);
+  goto w2c_B151;
+  w2c_B152:;
+  w2c_i0 = w2c_p2;
+  w2c_i0 = !(w2c_i0);
+  if (w2c_i0) {goto w2c_B151;}
+  w2c_i0 = w2c_l24;
+  w2c_i1 = 11u;
+  w2c_i0 = w2c_i0 != w2c_i1;
+  if (w2c_i0) {goto w2c_B150;}
+  w2c_B151:;
+  w2c_j0 = w2c_l7;
+  w2c_i0 = (u32)(w2c_j0);
+  w2c_j0 = i64_load(m, (u64)(w2c_i0) + 1216u);
+  w2c_l11 = w2c_j0;
+  w2c_i0 = !(w2c_j0);
+  if (w2c_i0) {goto w2c_B153;}
+  w2c_j0 = w2c_l16;
+  w2c_j1 = w2c_l11;
+  w2c_j2 = 79952ull;
+  w2c_i0 = w2c_f26(m, w2c_j0, w2c_j1, w2c_j2);
+  w2c_i0 = !(w2c_i0);
+  if (w2c_i0) {goto w2c_B154;}
+  w2c_j0 = w2c_l16;
+  w2c_j1 = w2c_l11;
+  w2c_j2 = 79956ull;
+  w2c_i0 = w2c_f26(m, w2c_j0, w2c_j1, w2c_j2);
+  w2c_i0 = !(w2c_i0);
+  if (w2c_i0) {goto w2c_B153;}
+  w2c_B154:;
+  w2c_j0 = w2c_l7;
+  w2c_j1 = 936ull;
+  w2c_j0 += w2c_j1;
+  w2c_j1 = w2c_l7;
+  w2c_j2 = 152ull;
+  w2c_j1 += w2c_j2;
+  w2c_i2 = w2c_l25;
+  w2c_f33(m, w2c_j0, w2c_j1, w2c_i2);
+  w2c_B153:;
   w2c_i0 = w2c_p2;
   w2c_i0 = !(w2c_i0);
   if (w2c_i0) {goto w2c_B1;}
-  w2c_B145:;
+  w2c_B150:;
   w2c_j0 = w2c_l7;
-  w2c_j1 = 920ull;
+  w2c_j1 = 936ull;
   w2c_j0 += w2c_j1;
   w2c_j1 = w2c_l7;
-  w2c_j2 = 136ull;
+  w2c_j2 = 152ull;
   w2c_j1 += w2c_j2;
-  w2c_i2 = w2c_l23;
+  w2c_i2 = w2c_l24;
   w2c_f33(m, w2c_j0, w2c_j1, w2c_i2);
   goto w2c_B1;
   w2c_B2:;
   w2c_j0 = w2c_l11;
   w2c_j1 = w2c_p1;
   w2c_i0 = w2c_j0 >= w2c_j1;
-  if (w2c_i0) {goto w2c_B150;}
-  w2c_L151:
+  if (w2c_i0) {goto w2c_B155;}
+  w2c_L156:
     w2c_j0 = w2c_l8;
     w2c_j1 = 1ull;
     w2c_j0 += w2c_j1;
@@ -118248,157 +118408,159 @@ static u32 w2c_f149(module *m, u64 w2c_p0, u64 w2c_p1, u32 w2c_p2, u32 w2c_p3, u
     w2c_l11 = w2c_j0;
     w2c_j1 = w2c_p1;
     w2c_i0 = w2c_j0 < w2c_j1;
-    if (w2c_i0) {goto w2c_L151;}
-  w2c_B150:;
+    if (w2c_i0) {goto w2c_L156;}
+  w2c_B155:;
   w2c_i0 = 3u;
-  w2c_l23 = w2c_i0;
+  w2c_l24 = w2c_i0;
   w2c_i0 = w2c_p2;
   switch (w2c_i0) {
-    case 0: goto w2c_B154;
-    case 1: goto w2c_B152;
-    case 2: goto w2c_B153;
-    default: goto w2c_B154;
+    case 0: goto w2c_B159;
+    case 1: goto w2c_B157;
+    case 2: goto w2c_B158;
+    default: goto w2c_B159;
   }
-  w2c_B154:;
+  w2c_B159:;
   w2c_j0 = w2c_l8;
   w2c_j1 = w2c_l12;
   w2c_i0 = w2c_j0 <= w2c_j1;
-  w2c_l23 = w2c_i0;
-  w2c_B153:;
+  w2c_l24 = w2c_i0;
+  w2c_B158:;
   w2c_j0 = w2c_l7;
-  w2c_j1 = 1216ull;
+  w2c_j1 = 1232ull;
   w2c_j0 += w2c_j1;
   w2c_j1 = w2c_l7;
-  w2c_j2 = 136ull;
+  w2c_j2 = 152ull;
   w2c_j1 += w2c_j2;
-  w2c_i2 = w2c_l23;
+  w2c_i2 = w2c_l24;
   w2c_f33(m, w2c_j0, w2c_j1, w2c_i2);
   goto w2c_B1;
-  w2c_B152:;
+  w2c_B157:;
   w2c_j0 = w2c_l7;
-  w2c_j1 = 1216ull;
+  w2c_j1 = 1232ull;
   w2c_j0 += w2c_j1;
   w2c_j1 = w2c_l7;
-  w2c_j2 = 136ull;
+  w2c_j2 = 152ull;
   w2c_j1 += w2c_j2;
   w2c_i2 = 2u;
   w2c_f33(m, w2c_j0, w2c_j1, w2c_i2);
   w2c_j0 = w2c_l7;
+  w2c_j1 = 8ull;
+  w2c_j0 += w2c_j1;
   w2c_j1 = w2c_l10;
   w2c_j2 = w2c_p1;
   w2c_j3 = w2c_l12;
   w2c_f37(m, w2c_j0, w2c_j1, w2c_j2, w2c_j3);
   w2c_j0 = w2c_l7;
   w2c_i0 = (u32)(w2c_j0);
-  w2c_j0 = i64_load(m, (u64)(w2c_i0));
+  w2c_j0 = i64_load(m, (u64)(w2c_i0) + 8u);
   w2c_l11 = w2c_j0;
   w2c_j1 = w2c_l7;
   w2c_i1 = (u32)(w2c_j1);
-  w2c_j1 = i64_load(m, (u64)(w2c_i1) + 8u);
+  w2c_j1 = i64_load(m, (u64)(w2c_i1) + 16u);
   w2c_l8 = w2c_j1;
   w2c_j2 = 66808ull;
   w2c_j3 = 3ull;
   w2c_i0 = w2c_f31(m, w2c_j0, w2c_j1, w2c_j2, w2c_j3);
-  if (w2c_i0) {goto w2c_B155;}
+  if (w2c_i0) {goto w2c_B160;}
   w2c_j0 = w2c_l11;
   w2c_j1 = w2c_l8;
   w2c_j2 = 66811ull;
   w2c_j3 = 3ull;
   w2c_i0 = w2c_f31(m, w2c_j0, w2c_j1, w2c_j2, w2c_j3);
-  if (w2c_i0) {goto w2c_B155;}
+  if (w2c_i0) {goto w2c_B160;}
   w2c_j0 = w2c_l11;
   w2c_j1 = w2c_l8;
   w2c_j2 = 66814ull;
   w2c_j3 = 3ull;
   w2c_i0 = w2c_f31(m, w2c_j0, w2c_j1, w2c_j2, w2c_j3);
-  if (w2c_i0) {goto w2c_B155;}
+  if (w2c_i0) {goto w2c_B160;}
   w2c_j0 = w2c_l11;
   w2c_j1 = w2c_l8;
   w2c_j2 = 66817ull;
   w2c_j3 = 3ull;
   w2c_i0 = w2c_f31(m, w2c_j0, w2c_j1, w2c_j2, w2c_j3);
-  if (w2c_i0) {goto w2c_B155;}
+  if (w2c_i0) {goto w2c_B160;}
   w2c_j0 = w2c_l11;
   w2c_j1 = w2c_l8;
   w2c_j2 = 66820ull;
   w2c_j3 = 3ull;
   w2c_i0 = w2c_f31(m, w2c_j0, w2c_j1, w2c_j2, w2c_j3);
-  if (w2c_i0) {goto w2c_B155;}
+  if (w2c_i0) {goto w2c_B160;}
   w2c_j0 = w2c_l11;
   w2c_j1 = w2c_l8;
   w2c_j2 = 66823ull;
   w2c_j3 = 3ull;
   w2c_i0 = w2c_f31(m, w2c_j0, w2c_j1, w2c_j2, w2c_j3);
-  if (w2c_i0) {goto w2c_B155;}
+  if (w2c_i0) {goto w2c_B160;}
   w2c_j0 = w2c_l11;
   w2c_j1 = w2c_l8;
   w2c_j2 = 66826ull;
   w2c_j3 = 3ull;
   w2c_i0 = w2c_f31(m, w2c_j0, w2c_j1, w2c_j2, w2c_j3);
-  if (w2c_i0) {goto w2c_B155;}
+  if (w2c_i0) {goto w2c_B160;}
   w2c_j0 = w2c_l11;
   w2c_j1 = w2c_l8;
   w2c_j2 = 66829ull;
   w2c_j3 = 3ull;
   w2c_i0 = w2c_f31(m, w2c_j0, w2c_j1, w2c_j2, w2c_j3);
-  if (w2c_i0) {goto w2c_B155;}
+  if (w2c_i0) {goto w2c_B160;}
   w2c_j0 = w2c_l11;
   w2c_j1 = w2c_l8;
   w2c_j2 = 66832ull;
   w2c_j3 = 3ull;
   w2c_i0 = w2c_f31(m, w2c_j0, w2c_j1, w2c_j2, w2c_j3);
-  if (w2c_i0) {goto w2c_B155;}
+  if (w2c_i0) {goto w2c_B160;}
   w2c_j0 = w2c_l11;
   w2c_j1 = w2c_l8;
   w2c_j2 = 66835ull;
   w2c_j3 = 3ull;
   w2c_i0 = w2c_f31(m, w2c_j0, w2c_j1, w2c_j2, w2c_j3);
-  if (w2c_i0) {goto w2c_B155;}
+  if (w2c_i0) {goto w2c_B160;}
   w2c_j0 = w2c_l11;
   w2c_j1 = w2c_l8;
   w2c_j2 = 66838ull;
   w2c_j3 = 3ull;
   w2c_i0 = w2c_f31(m, w2c_j0, w2c_j1, w2c_j2, w2c_j3);
-  if (w2c_i0) {goto w2c_B155;}
+  if (w2c_i0) {goto w2c_B160;}
   w2c_j0 = w2c_l11;
   w2c_j1 = w2c_l8;
   w2c_j2 = 66841ull;
   w2c_j3 = 3ull;
   w2c_i0 = w2c_f31(m, w2c_j0, w2c_j1, w2c_j2, w2c_j3);
-  if (w2c_i0) {goto w2c_B155;}
+  if (w2c_i0) {goto w2c_B160;}
   w2c_j0 = w2c_l11;
   w2c_j1 = w2c_l8;
   w2c_j2 = 66844ull;
   w2c_j3 = 3ull;
   w2c_i0 = w2c_f31(m, w2c_j0, w2c_j1, w2c_j2, w2c_j3);
-  if (w2c_i0) {goto w2c_B155;}
-  w2c_L156:
+  if (w2c_i0) {goto w2c_B160;}
+  w2c_L161:
     w2c_j0 = w2c_l8;
     w2c_i0 = !(w2c_j0);
     if (w2c_i0) {goto w2c_B1;}
     w2c_j0 = w2c_l11;
     w2c_i0 = (u32)(w2c_j0);
     w2c_i0 = i32_load8_s(m, (u64)(w2c_i0));
-    w2c_l23 = w2c_i0;
+    w2c_l24 = w2c_i0;
     w2c_i1 = 255u;
     w2c_i0 &= w2c_i1;
     w2c_p2 = w2c_i0;
     w2c_j0 = 1ull;
     w2c_p1 = w2c_j0;
-    w2c_i0 = w2c_l23;
+    w2c_i0 = w2c_l24;
     w2c_i1 = 4294967295u;
     w2c_i0 = (u32)((s32)w2c_i0 > (s32)w2c_i1);
-    if (w2c_i0) {goto w2c_B157;}
+    if (w2c_i0) {goto w2c_B162;}
     w2c_j0 = w2c_l11;
     w2c_i0 = (u32)(w2c_j0);
     w2c_i0 = i32_load8_u(m, (u64)(w2c_i0) + 1u);
     w2c_i1 = 63u;
     w2c_i0 &= w2c_i1;
     w2c_p3 = w2c_i0;
-    w2c_i0 = w2c_l23;
+    w2c_i0 = w2c_l24;
     w2c_i1 = 4294967263u;
     w2c_i0 = w2c_i0 > w2c_i1;
-    if (w2c_i0) {goto w2c_B158;}
+    if (w2c_i0) {goto w2c_B163;}
     w2c_i0 = w2c_p2;
     w2c_i1 = 6u;
     w2c_i0 <<= (w2c_i1 & 31);
@@ -118409,18 +118571,18 @@ static u32 w2c_f149(module *m, u64 w2c_p0, u64 w2c_p1, u32 w2c_p2, u32 w2c_p3, u
     w2c_p2 = w2c_i0;
     w2c_j0 = 2ull;
     w2c_p1 = w2c_j0;
-    goto w2c_B157;
-    w2c_B158:;
+    goto w2c_B162;
+    w2c_B163:;
     w2c_j0 = w2c_l11;
     w2c_i0 = (u32)(w2c_j0);
     w2c_i0 = i32_load8_u(m, (u64)(w2c_i0) + 2u);
     w2c_i1 = 63u;
     w2c_i0 &= w2c_i1;
-    w2c_l24 = w2c_i0;
-    w2c_i0 = w2c_l23;
+    w2c_l25 = w2c_i0;
+    w2c_i0 = w2c_l24;
     w2c_i1 = 4294967279u;
     w2c_i0 = w2c_i0 > w2c_i1;
-    if (w2c_i0) {goto w2c_B159;}
+    if (w2c_i0) {goto w2c_B164;}
     w2c_i0 = w2c_p3;
     w2c_i1 = 6u;
     w2c_i0 <<= (w2c_i1 & 31);
@@ -118430,14 +118592,14 @@ static u32 w2c_f149(module *m, u64 w2c_p0, u64 w2c_p1, u32 w2c_p2, u32 w2c_p3, u
     w2c_i2 = 61440u;
     w2c_i1 &= w2c_i2;
     w2c_i0 |= w2c_i1;
-    w2c_i1 = w2c_l24;
+    w2c_i1 = w2c_l25;
     w2c_i0 |= w2c_i1;
     w2c_p2 = w2c_i0;
     w2c_j0 = 3ull;
     w2c_p1 = w2c_j0;
-    goto w2c_B157;
-    w2c_B159:;
-    w2c_i0 = w2c_l24;
+    goto w2c_B162;
+    w2c_B164:;
+    w2c_i0 = w2c_l25;
     w2c_i1 = 6u;
     w2c_i0 <<= (w2c_i1 & 31);
     w2c_i1 = w2c_p3;
@@ -118459,13 +118621,13 @@ static u32 w2c_f149(module *m, u64 w2c_p0, u64 w2c_p1, u32 w2c_p2, u32 w2c_p3, u
     w2c_p2 = w2c_i0;
     w2c_j0 = 4ull;
     w2c_p1 = w2c_j0;
-    w2c_B157:;
+    w2c_B162:;
     w2c_i0 = w2c_p2;
     w2c_i1 = 4294967248u;
     w2c_i0 += w2c_i1;
     w2c_i1 = 10u;
     w2c_i0 = w2c_i0 < w2c_i1;
-    if (w2c_i0) {goto w2c_B155;}
+    if (w2c_i0) {goto w2c_B160;}
     w2c_j0 = w2c_l8;
     w2c_j1 = w2c_p1;
     w2c_j0 -= w2c_j1;
@@ -118479,22 +118641,22 @@ static u32 w2c_f149(module *m, u64 w2c_p0, u64 w2c_p1, u32 w2c_p2, u32 w2c_p3, u
     w2c_i0 += w2c_i1;
     w2c_i1 = 9u;
     w2c_i0 = w2c_i0 > w2c_i1;
-    if (w2c_i0) {goto w2c_L156;}
-  w2c_B155:;
+    if (w2c_i0) {goto w2c_L161;}
+  w2c_B160:;
   w2c_j0 = w2c_l7;
-  w2c_j1 = 1216ull;
+  w2c_j1 = 1232ull;
   w2c_j0 += w2c_j1;
   w2c_j1 = w2c_l7;
-  w2c_j2 = 136ull;
+  w2c_j2 = 152ull;
   w2c_j1 += w2c_j2;
-  w2c_i2 = 18u;
+  w2c_i2 = 21u;
   w2c_f33(m, w2c_j0, w2c_j1, w2c_i2);
   w2c_B1:;
   w2c_j0 = w2c_p6;
   w2c_i0 = (u32)(w2c_j0);
   w2c_j1 = w2c_l7;
   w2c_i1 = (u32)(w2c_j1);
-  w2c_j1 = i64_load(m, (u64)(w2c_i1) + 152u);
+  w2c_j1 = i64_load(m, (u64)(w2c_i1) + 168u);
   w2c_l11 = w2c_j1;
   w2c_j2 = 0ull;
   w2c_j3 = w2c_l11;
@@ -118507,11 +118669,11 @@ static u32 w2c_f149(module *m, u64 w2c_p0, u64 w2c_p1, u32 w2c_p2, u32 w2c_p3, u
   w2c_j0 = w2c_p5;
   w2c_j1 = w2c_l11;
   w2c_i0 = w2c_j0 >= w2c_j1;
-  if (w2c_i0) {goto w2c_B160;}
+  if (w2c_i0) {goto w2c_B165;}
   w2c_i0 = 6u;
-  w2c_l23 = w2c_i0;
+  w2c_l24 = w2c_i0;
   goto w2c_B0;
-  w2c_B160:;
+  w2c_B165:;
   w2c_j0 = w2c_p4;
   w2c_j1 = 4096ull;
   w2c_j2 = 0ull;
@@ -118522,16 +118684,16 @@ static u32 w2c_f149(module *m, u64 w2c_p0, u64 w2c_p1, u32 w2c_p2, u32 w2c_p3, u
   w2c_j0 += w2c_j1;
   w2c_p6 = w2c_j0;
   w2c_j1 = w2c_l7;
-  w2c_j2 = 160ull;
+  w2c_j2 = 176ull;
   w2c_j1 += w2c_j2;
-  w2c_j2 = 79844ull;
+  w2c_j2 = 79940ull;
   w2c_i3 = w2c_p2;
   w2c_j1 = w2c_i3 ? w2c_j1 : w2c_j2;
   w2c_p0 = w2c_j1;
   w2c_j0 -= w2c_j1;
   w2c_j1 = w2c_l11;
   w2c_i0 = w2c_j0 >= w2c_j1;
-  if (w2c_i0) {goto w2c_B162;}
+  if (w2c_i0) {goto w2c_B167;}
   w2c_j0 = w2c_l11;
   w2c_j1 = 3ull;
   w2c_j0 &= w2c_j1;
@@ -118541,14 +118703,14 @@ static u32 w2c_f149(module *m, u64 w2c_p0, u64 w2c_p1, u32 w2c_p2, u32 w2c_p3, u
   w2c_j0 = w2c_l11;
   w2c_j1 = 4ull;
   w2c_i0 = w2c_j0 < w2c_j1;
-  if (w2c_i0) {goto w2c_B163;}
+  if (w2c_i0) {goto w2c_B168;}
   w2c_j0 = w2c_l11;
   w2c_j1 = 18446744073709551612ull;
   w2c_j0 &= w2c_j1;
   w2c_p5 = w2c_j0;
   w2c_j0 = 0ull;
   w2c_l8 = w2c_j0;
-  w2c_L164:
+  w2c_L169:
     w2c_j0 = w2c_p6;
     w2c_j1 = w2c_l8;
     w2c_j0 += w2c_j1;
@@ -118597,11 +118759,11 @@ static u32 w2c_f149(module *m, u64 w2c_p0, u64 w2c_p1, u32 w2c_p2, u32 w2c_p3, u
     w2c_j1 += w2c_j2;
     w2c_l8 = w2c_j1;
     w2c_i0 = w2c_j0 != w2c_j1;
-    if (w2c_i0) {goto w2c_L164;}
+    if (w2c_i0) {goto w2c_L169;}
   w2c_j0 = w2c_l10;
   w2c_i0 = !(w2c_j0);
-  if (w2c_i0) {goto w2c_B161;}
-  w2c_B163:;
+  if (w2c_i0) {goto w2c_B166;}
+  w2c_B168:;
   w2c_j0 = w2c_p0;
   w2c_j1 = w2c_l8;
   w2c_j0 += w2c_j1;
@@ -118612,7 +118774,7 @@ static u32 w2c_f149(module *m, u64 w2c_p0, u64 w2c_p1, u32 w2c_p2, u32 w2c_p3, u
   w2c_j1 += w2c_j2;
   w2c_j0 += w2c_j1;
   w2c_l8 = w2c_j0;
-  w2c_L165:
+  w2c_L170:
     w2c_j0 = w2c_l8;
     w2c_i0 = (u32)(w2c_j0);
     w2c_j1 = w2c_l11;
@@ -118633,13 +118795,13 @@ static u32 w2c_f149(module *m, u64 w2c_p0, u64 w2c_p1, u32 w2c_p2, u32 w2c_p3, u
     w2c_l10 = w2c_j0;
     w2c_j1 = 0ull;
     w2c_i0 = w2c_j0 != w2c_j1;
-    if (w2c_i0) {goto w2c_L165;}
-    goto w2c_B161;
+    if (w2c_i0) {goto w2c_L170;}
+    goto w2c_B166;
   UNREACHABLE;
-  w2c_B162:;
+  w2c_B167:;
   w2c_j0 = w2c_l11;
   w2c_i0 = !(w2c_j0);
-  if (w2c_i0) {goto w2c_B161;}
+  if (w2c_i0) {goto w2c_B166;}
   w2c_j0 = w2c_p6;
   w2c_i0 = (u32)(w2c_j0);
   w2c_j1 = w2c_p0;
@@ -118648,17 +118810,17 @@ static u32 w2c_f149(module *m, u64 w2c_p0, u64 w2c_p1, u32 w2c_p2, u32 w2c_p3, u
   w2c_i2 = (u32)(w2c_j2);
   memory_copy(m, w2c_i0, w2c_i1, w2c_i2);
   w2c_i0 = 0u;
-  w2c_l23 = w2c_i0;
+  w2c_l24 = w2c_i0;
   goto w2c_B0;
-  w2c_B161:;
+  w2c_B166:;
   w2c_i0 = 0u;
-  w2c_l23 = w2c_i0;
+  w2c_l24 = w2c_i0;
   w2c_B0:;
   w2c_j0 = w2c_l7;
-  w2c_j1 = 1312ull;
+  w2c_j1 = 1328ull;
   w2c_j0 += w2c_j1;
   m->w2c_g0 = w2c_j0;
-  w2c_i0 = w2c_l23;
+  w2c_i0 = w2c_l24;
   return w2c_i0;
 }
 
@@ -118768,7 +118930,7 @@ static u32 w2c_f151(module *m, u32 w2c_p0, u32 w2c_p1, u32 w2c_p2, u32 w2c_p3, u
   if (w2c_i0) {goto w2c_B1;}
   w2c_i0 = w2c_p3;
   w2c_j0 = (u64)(w2c_i0);
-  w2c_j1 = 79972ull;
+  w2c_j1 = 80068ull;
   w2c_j0 += w2c_j1;
   w2c_i0 = (u32)(w2c_j0);
   w2c_i0 = i32_load8_u(m, (u64)(w2c_i0));
@@ -118844,7 +119006,7 @@ static u32 w2c_f151(module *m, u32 w2c_p0, u32 w2c_p1, u32 w2c_p2, u32 w2c_p3, u
   w2c_j1 = 144ull;
   w2c_j0 += w2c_j1;
   w2c_i1 = w2c_l13;
-  w2c_f47(m, w2c_j0, w2c_i1);
+  w2c_f48(m, w2c_j0, w2c_i1);
   w2c_j0 = w2c_l7;
   w2c_j1 = 144ull;
   w2c_j0 += w2c_j1;
@@ -118921,7 +119083,7 @@ static u32 w2c_f151(module *m, u32 w2c_p0, u32 w2c_p1, u32 w2c_p2, u32 w2c_p3, u
   w2c_j1 = 144ull;
   w2c_j0 += w2c_j1;
   w2c_i1 = w2c_p0;
-  w2c_f48(m, w2c_j0, w2c_i1);
+  w2c_f49(m, w2c_j0, w2c_i1);
   w2c_j0 = w2c_l7;
   w2c_i0 = (u32)(w2c_j0);
   w2c_j0 = i64_load(m, (u64)(w2c_i0) + 280u);
@@ -118989,7 +119151,7 @@ static u32 w2c_f151(module *m, u32 w2c_p0, u32 w2c_p1, u32 w2c_p2, u32 w2c_p3, u
   w2c_j1 = 144ull;
   w2c_j0 += w2c_j1;
   w2c_i1 = w2c_l12;
-  w2c_f48(m, w2c_j0, w2c_i1);
+  w2c_f49(m, w2c_j0, w2c_i1);
   w2c_j0 = w2c_l7;
   w2c_i0 = (u32)(w2c_j0);
   w2c_j0 = i64_load(m, (u64)(w2c_i0) + 280u);
@@ -119136,7 +119298,7 @@ static u32 w2c_f153(module *m, u64 w2c_p0, u32 w2c_p1, u32 w2c_p2, u64 w2c_p3, u
   if (w2c_i0) {goto w2c_B1;}
   w2c_i0 = w2c_p1;
   w2c_j0 = (u64)(w2c_i0);
-  w2c_j1 = 79972ull;
+  w2c_j1 = 80068ull;
   w2c_j0 += w2c_j1;
   w2c_i0 = (u32)(w2c_j0);
   w2c_i0 = i32_load8_u(m, (u64)(w2c_i0));
@@ -119325,7 +119487,7 @@ static u32 w2c_f153(module *m, u64 w2c_p0, u32 w2c_p1, u32 w2c_p2, u64 w2c_p3, u
   w2c_j1 = 152ull;
   w2c_j0 += w2c_j1;
   w2c_j1 = w2c_l7;
-  w2c_f49(m, w2c_j0, w2c_j1);
+  w2c_f50(m, w2c_j0, w2c_j1);
   w2c_j0 = w2c_l6;
   w2c_j1 = 176ull;
   w2c_j0 += w2c_j1;
@@ -119333,7 +119495,7 @@ static u32 w2c_f153(module *m, u64 w2c_p0, u32 w2c_p1, u32 w2c_p2, u64 w2c_p3, u
   w2c_j2 = w2c_l6;
   w2c_j3 = 152ull;
   w2c_j2 += w2c_j3;
-  w2c_f50(m, w2c_j0, w2c_i1, w2c_j2);
+  w2c_f51(m, w2c_j0, w2c_i1, w2c_j2);
   w2c_j0 = w2c_l6;
   w2c_j1 = 8ull;
   w2c_j0 += w2c_j1;
@@ -119452,7 +119614,7 @@ static u32 w2c_f155(module *m, u32 w2c_p0, u32 w2c_p1, u64 w2c_p2, u64 w2c_p3, u
   w2c_i1 = 2u;
   w2c_i0 = w2c_i0 > w2c_i1;
   if (w2c_i0) {goto w2c_B0;}
-  w2c_i0 = 41u;
+  w2c_i0 = 44u;
   w2c_l13 = w2c_i0;
   w2c_i0 = w2c_p0;
   w2c_i1 = 1u;
@@ -119475,51 +119637,51 @@ static u32 w2c_f155(module *m, u32 w2c_p0, u32 w2c_p1, u64 w2c_p2, u64 w2c_p3, u
     default: goto w2c_B0;
   }
   w2c_B15:;
-  w2c_i0 = 21u;
+  w2c_i0 = 24u;
   w2c_l13 = w2c_i0;
   goto w2c_B3;
   w2c_B14:;
-  w2c_i0 = 22u;
+  w2c_i0 = 25u;
   w2c_l13 = w2c_i0;
   goto w2c_B3;
   w2c_B13:;
-  w2c_i0 = 42u;
-  w2c_l13 = w2c_i0;
-  goto w2c_B3;
-  w2c_B12:;
-  w2c_i0 = 43u;
-  w2c_l13 = w2c_i0;
-  goto w2c_B3;
-  w2c_B11:;
-  w2c_i0 = 44u;
-  w2c_l13 = w2c_i0;
-  goto w2c_B3;
-  w2c_B10:;
   w2c_i0 = 45u;
   w2c_l13 = w2c_i0;
   goto w2c_B3;
-  w2c_B9:;
-  w2c_i0 = 5u;
-  w2c_l13 = w2c_i0;
-  goto w2c_B3;
-  w2c_B8:;
+  w2c_B12:;
   w2c_i0 = 46u;
   w2c_l13 = w2c_i0;
   goto w2c_B3;
-  w2c_B7:;
+  w2c_B11:;
   w2c_i0 = 47u;
   w2c_l13 = w2c_i0;
   goto w2c_B3;
-  w2c_B6:;
-  w2c_i0 = 37u;
-  w2c_l13 = w2c_i0;
-  goto w2c_B3;
-  w2c_B5:;
+  w2c_B10:;
   w2c_i0 = 48u;
   w2c_l13 = w2c_i0;
   goto w2c_B3;
+  w2c_B9:;
+  w2c_i0 = 6u;
+  w2c_l13 = w2c_i0;
+  goto w2c_B3;
+  w2c_B8:;
+  w2c_i0 = 49u;
+  w2c_l13 = w2c_i0;
+  goto w2c_B3;
+  w2c_B7:;
+  w2c_i0 = 50u;
+  w2c_l13 = w2c_i0;
+  goto w2c_B3;
+  w2c_B6:;
+  w2c_i0 = 40u;
+  w2c_l13 = w2c_i0;
+  goto w2c_B3;
+  w2c_B5:;
+  w2c_i0 = 51u;
+  w2c_l13 = w2c_i0;
+  goto w2c_B3;
   w2c_B4:;
-  w2c_i0 = 20u;
+  w2c_i0 = 23u;
   w2c_l13 = w2c_i0;
   w2c_B3:;
   w2c_j0 = w2c_l5;
@@ -119562,7 +119724,7 @@ static u32 w2c_f155(module *m, u32 w2c_p0, u32 w2c_p1, u64 w2c_p2, u64 w2c_p3, u
   i64_store(m, (u64)(w2c_i0) + 552, w2c_j1);
   w2c_j0 = w2c_l5;
   w2c_i0 = (u32)(w2c_j0);
-  w2c_j1 = 79844ull;
+  w2c_j1 = 79940ull;
   i64_store(m, (u64)(w2c_i0) + 544, w2c_j1);
   w2c_j0 = w2c_l5;
   w2c_i0 = (u32)(w2c_j0);
@@ -119578,7 +119740,7 @@ static u32 w2c_f155(module *m, u32 w2c_p0, u32 w2c_p1, u64 w2c_p2, u64 w2c_p3, u
   i64_store(m, (u64)(w2c_i0) + 600, w2c_j1);
   w2c_j0 = w2c_l5;
   w2c_i0 = (u32)(w2c_j0);
-  w2c_j1 = 79844ull;
+  w2c_j1 = 79940ull;
   i64_store(m, (u64)(w2c_i0) + 592, w2c_j1);
   w2c_j0 = w2c_l5;
   w2c_i0 = (u32)(w2c_j0);
@@ -119586,7 +119748,7 @@ static u32 w2c_f155(module *m, u32 w2c_p0, u32 w2c_p1, u64 w2c_p2, u64 w2c_p3, u
   i64_store(m, (u64)(w2c_i0) + 584, w2c_j1);
   w2c_j0 = w2c_l5;
   w2c_i0 = (u32)(w2c_j0);
-  w2c_j1 = 79844ull;
+  w2c_j1 = 79940ull;
   i64_store(m, (u64)(w2c_i0) + 576, w2c_j1);
   w2c_j0 = w2c_l5;
   w2c_j1 = 536ull;
@@ -119628,7 +119790,7 @@ static u32 w2c_f155(module *m, u32 w2c_p0, u32 w2c_p1, u64 w2c_p2, u64 w2c_p3, u
   w2c_j1 = w2c_l5;
   w2c_j2 = 24ull;
   w2c_j1 += w2c_j2;
-  w2c_j2 = 79844ull;
+  w2c_j2 = 79940ull;
   w2c_i3 = w2c_l12;
   w2c_j1 = w2c_i3 ? w2c_j1 : w2c_j2;
   w2c_l9 = w2c_j1;
@@ -122087,7 +122249,7 @@ static u32 w2c_f159(module *m, u64 w2c_p0, u64 w2c_p1, u64 w2c_p2) {
   w2c_j3 = 8ull;
   w2c_j2 += w2c_j3;
   w2c_j3 = w2c_p2;
-  w2c_i0 = w2c_f52(m, w2c_j0, w2c_j1, w2c_j2, w2c_j3);
+  w2c_i0 = w2c_f53(m, w2c_j0, w2c_j1, w2c_j2, w2c_j3);
   w2c_l14 = w2c_i0;
   w2c_B0:;
   w2c_j0 = w2c_l4;
@@ -122808,7 +122970,7 @@ static u32 w2c_f161(module *m, u64 w2c_p0, u64 w2c_p1, u64 w2c_p2) {
   w2c_j1 = w2c_p1;
   w2c_j2 = w2c_l3;
   w2c_j3 = w2c_p2;
-  w2c_i0 = w2c_f52(m, w2c_j0, w2c_j1, w2c_j2, w2c_j3);
+  w2c_i0 = w2c_f53(m, w2c_j0, w2c_j1, w2c_j2, w2c_j3);
   w2c_l15 = w2c_i0;
   w2c_B1:;
   w2c_j0 = w2c_l3;
@@ -123403,7 +123565,7 @@ static u32 w2c_f165(module *m, u64 w2c_p0, u32 w2c_p1, u32 w2c_p2, u64 w2c_p3, u
   w2c_j0 = w2c_p0;
   w2c_i1 = w2c_p1;
   w2c_j1 = (u64)(w2c_i1);
-  w2c_j2 = 79972ull;
+  w2c_j2 = 80068ull;
   w2c_j1 += w2c_j2;
   w2c_i1 = (u32)(w2c_j1);
   w2c_i1 = i32_load8_u(m, (u64)(w2c_i1));
@@ -123437,7 +123599,7 @@ static u32 w2c_f165(module *m, u64 w2c_p0, u32 w2c_p1, u32 w2c_p2, u64 w2c_p3, u
   w2c_j3 += w2c_j4;
   w2c_j4 = w2c_p4;
   w2c_j5 = w2c_p5;
-  w2c_i0 = w2c_f53(m, w2c_j0, w2c_i1, w2c_i2, w2c_j3, w2c_j4, w2c_j5);
+  w2c_i0 = w2c_f54(m, w2c_j0, w2c_i1, w2c_i2, w2c_j3, w2c_j4, w2c_j5);
   w2c_p1 = w2c_i0;
   w2c_j0 = w2c_l6;
   m->w2c_g0 = w2c_j0;
@@ -124219,7 +124381,7 @@ static u32 w2c_f169(module *m, u64 w2c_p0, u64 w2c_p1, u64 w2c_p2) {
   w2c_j1 = w2c_p1;
   w2c_j2 = w2c_l3;
   w2c_j3 = w2c_p2;
-  w2c_i0 = w2c_f54(m, w2c_j0, w2c_j1, w2c_j2, w2c_j3);
+  w2c_i0 = w2c_f55(m, w2c_j0, w2c_j1, w2c_j2, w2c_j3);
   w2c_l9 = w2c_i0;
   w2c_B1:;
   w2c_j0 = w2c_l3;
@@ -124955,7 +125117,7 @@ static u32 w2c_f171(module *m, u64 w2c_p0, u64 w2c_p1, u64 w2c_p2) {
   w2c_j1 = w2c_p1;
   w2c_j2 = w2c_l3;
   w2c_j3 = w2c_p2;
-  w2c_i0 = w2c_f54(m, w2c_j0, w2c_j1, w2c_j2, w2c_j3);
+  w2c_i0 = w2c_f55(m, w2c_j0, w2c_j1, w2c_j2, w2c_j3);
   w2c_l15 = w2c_i0;
   w2c_B1:;
   w2c_j0 = w2c_l3;
@@ -125031,7 +125193,7 @@ static u32 w2c_f173(module *m, u64 w2c_p0, u64 w2c_p1, u64 w2c_p2, u32 w2c_p3, u
   w2c_j5 += w2c_j6;
   w2c_j6 = w2c_p6;
   w2c_j7 = w2c_p7;
-  w2c_i0 = w2c_f55(m, w2c_j0, w2c_j1, w2c_j2, w2c_i3, w2c_i4, w2c_j5, w2c_j6, w2c_j7);
+  w2c_i0 = w2c_f56(m, w2c_j0, w2c_j1, w2c_j2, w2c_i3, w2c_i4, w2c_j5, w2c_j6, w2c_j7);
   w2c_p3 = w2c_i0;
   w2c_j0 = w2c_l8;
   m->w2c_g0 = w2c_j0;
@@ -125132,7 +125294,7 @@ static u32 w2c_f175(module *m, u64 w2c_p0, u64 w2c_p1, u64 w2c_p2, u32 w2c_p3, u
   w2c_j5 += w2c_j6;
   w2c_j6 = w2c_p6;
   w2c_j7 = w2c_p7;
-  w2c_i0 = w2c_f56(m, w2c_j0, w2c_j1, w2c_j2, w2c_i3, w2c_i4, w2c_j5, w2c_j6, w2c_j7);
+  w2c_i0 = w2c_f57(m, w2c_j0, w2c_j1, w2c_j2, w2c_i3, w2c_i4, w2c_j5, w2c_j6, w2c_j7);
   w2c_p3 = w2c_i0;
   w2c_j0 = w2c_l8;
   m->w2c_g0 = w2c_j0;
@@ -125206,7 +125368,7 @@ static u32 w2c_f177(module *m, u64 w2c_p0, u64 w2c_p1, u64 w2c_p2, u32 w2c_p3, u
   w2c_j5 += w2c_j6;
   w2c_j6 = w2c_p6;
   w2c_j7 = w2c_p7;
-  w2c_i0 = w2c_f63(m, w2c_j0, w2c_j1, w2c_j2, w2c_i3, w2c_i4, w2c_j5, w2c_j6, w2c_j7);
+  w2c_i0 = w2c_f64(m, w2c_j0, w2c_j1, w2c_j2, w2c_i3, w2c_i4, w2c_j5, w2c_j6, w2c_j7);
   return w2c_i0;
 }
 
@@ -125342,7 +125504,7 @@ static u32 w2c_f179(module *m, u64 w2c_p0, u64 w2c_p1, u64 w2c_p2, u32 w2c_p3, u
   w2c_j5 += w2c_j6;
   w2c_j6 = w2c_p6;
   w2c_j7 = w2c_p7;
-  w2c_i0 = w2c_f63(m, w2c_j0, w2c_j1, w2c_j2, w2c_i3, w2c_i4, w2c_j5, w2c_j6, w2c_j7);
+  w2c_i0 = w2c_f64(m, w2c_j0, w2c_j1, w2c_j2, w2c_i3, w2c_i4, w2c_j5, w2c_j6, w2c_j7);
   w2c_p3 = w2c_i0;
   w2c_j0 = w2c_l8;
   m->w2c_g0 = w2c_j0;
@@ -125421,13 +125583,13 @@ static u32 w2c_f181(module *m, u64 w2c_p0, u64 w2c_p1, u32 w2c_p2, u32 w2c_p3, u
   w2c_j1 = 1ull;
   w2c_j0 <<= (w2c_j1 & 63);
   w2c_l5 = w2c_j0;
-  w2c_j1 = 82993ull;
+  w2c_j1 = 83089ull;
   w2c_j0 += w2c_j1;
   w2c_i0 = (u32)(w2c_j0);
   w2c_i0 = i32_load8_u(m, (u64)(w2c_i0));
   w2c_l8 = w2c_i0;
   w2c_j0 = w2c_l5;
-  w2c_j1 = 82992ull;
+  w2c_j1 = 83088ull;
   w2c_j0 += w2c_j1;
   w2c_i0 = (u32)(w2c_j0);
   w2c_i0 = i32_load8_u(m, (u64)(w2c_i0));
@@ -125679,13 +125841,13 @@ static u32 w2c_f183(module *m, u64 w2c_p0, u64 w2c_p1, u32 w2c_p2, u32 w2c_p3, u
   w2c_j1 = 1ull;
   w2c_j0 <<= (w2c_j1 & 63);
   w2c_l9 = w2c_j0;
-  w2c_j1 = 82993ull;
+  w2c_j1 = 83089ull;
   w2c_j0 += w2c_j1;
   w2c_i0 = (u32)(w2c_j0);
   w2c_i0 = i32_load8_u(m, (u64)(w2c_i0));
   w2c_l14 = w2c_i0;
   w2c_j0 = w2c_l9;
-  w2c_j1 = 82992ull;
+  w2c_j1 = 83088ull;
   w2c_j0 += w2c_j1;
   w2c_i0 = (u32)(w2c_j0);
   w2c_i0 = i32_load8_u(m, (u64)(w2c_i0));
@@ -126731,8 +126893,8 @@ static u32 w2c_f183(module *m, u64 w2c_p0, u64 w2c_p1, u32 w2c_p2, u32 w2c_p3, u
   w2c_j1 &= w2c_j2;
   w2c_j2 = 5ull;
   w2c_j1 <<= (w2c_j2 & 63);
-  w2c_j2 = 83024ull;
-  w2c_j3 = 83008ull;
+  w2c_j2 = 83120ull;
+  w2c_j3 = 83104ull;
   w2c_i4 = w2c_l16;
   w2c_j2 = w2c_i4 ? w2c_j2 : w2c_j3;
   w2c_j1 += w2c_j2;
@@ -126798,8 +126960,8 @@ static u32 w2c_f183(module *m, u64 w2c_p0, u64 w2c_p1, u32 w2c_p2, u32 w2c_p3, u
   w2c_j1 &= w2c_j2;
   w2c_j2 = 5ull;
   w2c_j1 <<= (w2c_j2 & 63);
-  w2c_j2 = 83024ull;
-  w2c_j3 = 83008ull;
+  w2c_j2 = 83120ull;
+  w2c_j3 = 83104ull;
   w2c_i4 = w2c_l16;
   w2c_j2 = w2c_i4 ? w2c_j2 : w2c_j3;
   w2c_j1 += w2c_j2;
@@ -126898,7 +127060,7 @@ static u32 w2c_f183(module *m, u64 w2c_p0, u64 w2c_p1, u32 w2c_p2, u32 w2c_p3, u
   w2c_i1 = 255u;
   w2c_i0 &= w2c_i1;
   if (w2c_i0) {goto w2c_B77;}
-  w2c_i0 = 25u;
+  w2c_i0 = 28u;
   w2c_p3 = w2c_i0;
   w2c_i0 = w2c_l16;
   w2c_j0 = (u64)(w2c_i0);
@@ -126918,7 +127080,7 @@ static u32 w2c_f183(module *m, u64 w2c_p0, u64 w2c_p1, u32 w2c_p2, u32 w2c_p3, u
     default: goto w2c_B68;
   }
   w2c_B77:;
-  w2c_i0 = 20u;
+  w2c_i0 = 23u;
   w2c_p3 = w2c_i0;
   w2c_i0 = w2c_l16;
   w2c_j0 = (u64)(w2c_i0);
@@ -126958,8 +127120,8 @@ static u32 w2c_f183(module *m, u64 w2c_p0, u64 w2c_p1, u32 w2c_p2, u32 w2c_p3, u
   w2c_j2 = w2c_p1;
   w2c_j3 = w2c_p0;
   w2c_f39(m, w2c_j0, w2c_j1, w2c_j2, w2c_j3);
-  w2c_i0 = 28u;
-  w2c_i1 = 27u;
+  w2c_i0 = 31u;
+  w2c_i1 = 30u;
   w2c_j2 = w2c_l12;
   w2c_j3 = w2c_l9;
   w2c_j4 = w2c_l8;
@@ -126973,35 +127135,35 @@ static u32 w2c_f183(module *m, u64 w2c_p0, u64 w2c_p1, u32 w2c_p2, u32 w2c_p3, u
   w2c_p3 = w2c_i0;
   goto w2c_B67;
   w2c_B75:;
-  w2c_i0 = 21u;
-  w2c_p3 = w2c_i0;
-  goto w2c_B67;
-  w2c_B74:;
-  w2c_i0 = 22u;
-  w2c_p3 = w2c_i0;
-  goto w2c_B67;
-  w2c_B73:;
-  w2c_i0 = 23u;
-  w2c_p3 = w2c_i0;
-  goto w2c_B67;
-  w2c_B72:;
   w2c_i0 = 24u;
   w2c_p3 = w2c_i0;
   goto w2c_B67;
-  w2c_B71:;
+  w2c_B74:;
+  w2c_i0 = 25u;
+  w2c_p3 = w2c_i0;
+  goto w2c_B67;
+  w2c_B73:;
   w2c_i0 = 26u;
   w2c_p3 = w2c_i0;
   goto w2c_B67;
-  w2c_B70:;
+  w2c_B72:;
+  w2c_i0 = 27u;
+  w2c_p3 = w2c_i0;
+  goto w2c_B67;
+  w2c_B71:;
   w2c_i0 = 29u;
   w2c_p3 = w2c_i0;
   goto w2c_B67;
+  w2c_B70:;
+  w2c_i0 = 32u;
+  w2c_p3 = w2c_i0;
+  goto w2c_B67;
   w2c_B69:;
-  w2c_i0 = 30u;
+  w2c_i0 = 33u;
   w2c_p3 = w2c_i0;
   goto w2c_B67;
   w2c_B68:;
-  w2c_i0 = 20u;
+  w2c_i0 = 23u;
   w2c_p3 = w2c_i0;
   w2c_B67:;
   w2c_j0 = w2c_l8;
@@ -127022,7 +127184,7 @@ static u32 w2c_f183(module *m, u64 w2c_p0, u64 w2c_p1, u32 w2c_p2, u32 w2c_p3, u
   i64_store(m, (u64)(w2c_i0) + 648, w2c_j1);
   w2c_j0 = w2c_l8;
   w2c_i0 = (u32)(w2c_j0);
-  w2c_j1 = 79844ull;
+  w2c_j1 = 79940ull;
   i64_store(m, (u64)(w2c_i0) + 640, w2c_j1);
   w2c_j0 = w2c_l8;
   w2c_i0 = (u32)(w2c_j0);
@@ -127030,7 +127192,7 @@ static u32 w2c_f183(module *m, u64 w2c_p0, u64 w2c_p1, u32 w2c_p2, u32 w2c_p3, u
   i64_store(m, (u64)(w2c_i0) + 632, w2c_j1);
   w2c_j0 = w2c_l8;
   w2c_i0 = (u32)(w2c_j0);
-  w2c_j1 = 79844ull;
+  w2c_j1 = 79940ull;
   i64_store(m, (u64)(w2c_i0) + 624, w2c_j1);
   w2c_j0 = w2c_l8;
   w2c_i0 = (u32)(w2c_j0);
@@ -127091,7 +127253,7 @@ static u32 w2c_f183(module *m, u64 w2c_p0, u64 w2c_p1, u32 w2c_p2, u32 w2c_p3, u
   w2c_j1 = w2c_l8;
   w2c_j2 = 72ull;
   w2c_j1 += w2c_j2;
-  w2c_j2 = 79844ull;
+  w2c_j2 = 79940ull;
   w2c_i3 = w2c_p3;
   w2c_j1 = w2c_i3 ? w2c_j1 : w2c_j2;
   w2c_l12 = w2c_j1;
@@ -127322,13 +127484,13 @@ static u32 w2c_f185(module *m, u64 w2c_p0, u64 w2c_p1, u32 w2c_p2, u32 w2c_p3, u
   w2c_j1 = 1ull;
   w2c_j0 <<= (w2c_j1 & 63);
   w2c_l6 = w2c_j0;
-  w2c_j1 = 82993ull;
+  w2c_j1 = 83089ull;
   w2c_j0 += w2c_j1;
   w2c_i0 = (u32)(w2c_j0);
   w2c_i0 = i32_load8_u(m, (u64)(w2c_i0));
   w2c_p3 = w2c_i0;
   w2c_j0 = w2c_l6;
-  w2c_j1 = 82992ull;
+  w2c_j1 = 83088ull;
   w2c_j0 += w2c_j1;
   w2c_i0 = (u32)(w2c_j0);
   w2c_i0 = i32_load8_u(m, (u64)(w2c_i0));
@@ -127438,7 +127600,7 @@ static u32 w2c_f187(module *m, u64 w2c_p0, u64 w2c_p1, u32 w2c_p2, u32 w2c_p3, u
   w2c_j1 = 1ull;
   w2c_j0 <<= (w2c_j1 & 63);
   w2c_l10 = w2c_j0;
-  w2c_j1 = 82993ull;
+  w2c_j1 = 83089ull;
   w2c_j0 += w2c_j1;
   w2c_i0 = (u32)(w2c_j0);
   w2c_i0 = i32_load8_u(m, (u64)(w2c_i0));
@@ -127674,7 +127836,7 @@ static u32 w2c_f187(module *m, u64 w2c_p0, u64 w2c_p1, u32 w2c_p2, u32 w2c_p3, u
   w2c_j1 = w2c_l9;
   w2c_j2 = 152ull;
   w2c_j1 += w2c_j2;
-  w2c_f64(m, w2c_j0, w2c_j1);
+  w2c_f65(m, w2c_j0, w2c_j1);
   w2c_j0 = w2c_p7;
   w2c_p6 = w2c_j0;
   w2c_j0 = 0ull;
@@ -127948,7 +128110,7 @@ static u32 w2c_f187(module *m, u64 w2c_p0, u64 w2c_p1, u32 w2c_p2, u32 w2c_p3, u
     w2c_j1 = w2c_l9;
     w2c_j2 = 248ull;
     w2c_j1 += w2c_j2;
-    w2c_f64(m, w2c_j0, w2c_j1);
+    w2c_f65(m, w2c_j0, w2c_j1);
     w2c_j0 = w2c_l9;
     w2c_i0 = (u32)(w2c_j0);
     w2c_i0 = i32_load8_u(m, (u64)(w2c_i0) + 384u);
@@ -128049,7 +128211,7 @@ static u32 w2c_f187(module *m, u64 w2c_p0, u64 w2c_p1, u32 w2c_p2, u32 w2c_p3, u
       w2c_j1 = w2c_l9;
       w2c_j2 = 248ull;
       w2c_j1 += w2c_j2;
-      w2c_f64(m, w2c_j0, w2c_j1);
+      w2c_f65(m, w2c_j0, w2c_j1);
       w2c_j0 = w2c_l9;
       w2c_i0 = (u32)(w2c_j0);
       w2c_i0 = i32_load8_u(m, (u64)(w2c_i0) + 384u);
@@ -128439,7 +128601,7 @@ static u32 w2c_f187(module *m, u64 w2c_p0, u64 w2c_p1, u32 w2c_p2, u32 w2c_p3, u
     w2c_j1 = w2c_l22;
     w2c_j2 = w2c_l24;
     w2c_j3 = w2c_l25;
-    w2c_j4 = 73746ull;
+    w2c_j4 = 73819ull;
     w2c_j5 = 1ull;
     w2c_j1 = w2c_f36(m, w2c_j1, w2c_j2, w2c_j3, w2c_j4, w2c_j5);
     i64_store(m, (u64)(w2c_i0) + 88, w2c_j1);
@@ -128562,7 +128724,7 @@ static u32 w2c_f187(module *m, u64 w2c_p0, u64 w2c_p1, u32 w2c_p2, u32 w2c_p3, u
       w2c_j1 = 64ull;
       w2c_j0 += w2c_j1;
       w2c_i1 = w2c_l27;
-      w2c_f90(m, w2c_j0, w2c_i1);
+      w2c_f45(m, w2c_j0, w2c_i1);
       w2c_j0 = w2c_l9;
       w2c_i0 = (u32)(w2c_j0);
       w2c_i0 = i32_load8_u(m, (u64)(w2c_i0) + 64u);
@@ -128631,7 +128793,7 @@ static u32 w2c_f187(module *m, u64 w2c_p0, u64 w2c_p1, u32 w2c_p2, u32 w2c_p3, u
     w2c_j1 = w2c_p0;
     w2c_j2 = w2c_l10;
     w2c_i3 = w2c_l28;
-    w2c_f79(m, w2c_j0, w2c_j1, w2c_j2, w2c_i3);
+    w2c_f80(m, w2c_j0, w2c_j1, w2c_j2, w2c_i3);
     w2c_j0 = w2c_l9;
     w2c_i0 = (u32)(w2c_j0);
     w2c_j1 = w2c_l13;
@@ -129023,7 +129185,7 @@ static u32 w2c_f187(module *m, u64 w2c_p0, u64 w2c_p1, u32 w2c_p2, u32 w2c_p3, u
     w2c_j1 = w2c_l9;
     w2c_j2 = 152ull;
     w2c_j1 += w2c_j2;
-    w2c_f64(m, w2c_j0, w2c_j1);
+    w2c_f65(m, w2c_j0, w2c_j1);
     w2c_i0 = 1u;
     w2c_l27 = w2c_i0;
     w2c_j0 = w2c_l9;
@@ -129143,7 +129305,7 @@ static u32 w2c_f189(module *m, u64 w2c_p0, u64 w2c_p1, u32 w2c_p2, u64 w2c_p3) {
   w2c_i0 = !(w2c_j0);
   if (w2c_i0) {goto w2c_B3;}
   w2c_j0 = w2c_l4;
-  w2c_j1 = 82993ull;
+  w2c_j1 = 83089ull;
   w2c_j0 += w2c_j1;
   w2c_i0 = (u32)(w2c_j0);
   w2c_i0 = i32_load8_u(m, (u64)(w2c_i0));
@@ -129381,7 +129543,7 @@ static u32 w2c_f191(module *m, u64 w2c_p0, u64 w2c_p1, u32 w2c_p2, u32 w2c_p3, u
   w2c_j1 = 1ull;
   w2c_j0 <<= (w2c_j1 & 63);
   w2c_l8 = w2c_j0;
-  w2c_j1 = 82993ull;
+  w2c_j1 = 83089ull;
   w2c_j0 += w2c_j1;
   w2c_i0 = (u32)(w2c_j0);
   w2c_i0 = i32_load8_u(m, (u64)(w2c_i0));
@@ -129557,7 +129719,7 @@ static u32 w2c_f191(module *m, u64 w2c_p0, u64 w2c_p1, u32 w2c_p2, u32 w2c_p3, u
   w2c_j1 = w2c_l9;
   w2c_j2 = w2c_p1;
   w2c_i3 = w2c_l17;
-  w2c_f79(m, w2c_j0, w2c_j1, w2c_j2, w2c_i3);
+  w2c_f80(m, w2c_j0, w2c_j1, w2c_j2, w2c_i3);
   w2c_j0 = w2c_l7;
   w2c_j1 = 652ull;
   w2c_j0 += w2c_j1;
@@ -129621,7 +129783,7 @@ static u32 w2c_f191(module *m, u64 w2c_p0, u64 w2c_p1, u32 w2c_p2, u32 w2c_p3, u
   i64_store(m, (u64)(w2c_i0) + 856, w2c_j1);
   w2c_j0 = w2c_l7;
   w2c_i0 = (u32)(w2c_j0);
-  w2c_j1 = 79844ull;
+  w2c_j1 = 79940ull;
   i64_store(m, (u64)(w2c_i0) + 848, w2c_j1);
   w2c_j0 = w2c_l7;
   w2c_i0 = (u32)(w2c_j0);
@@ -129629,7 +129791,7 @@ static u32 w2c_f191(module *m, u64 w2c_p0, u64 w2c_p1, u32 w2c_p2, u32 w2c_p3, u
   i64_store(m, (u64)(w2c_i0) + 840, w2c_j1);
   w2c_j0 = w2c_l7;
   w2c_i0 = (u32)(w2c_j0);
-  w2c_j1 = 79844ull;
+  w2c_j1 = 79940ull;
   i64_store(m, (u64)(w2c_i0) + 832, w2c_j1);
   w2c_j0 = w2c_l7;
   w2c_i0 = (u32)(w2c_j0);
@@ -129672,7 +129834,7 @@ static u32 w2c_f191(module *m, u64 w2c_p0, u64 w2c_p1, u32 w2c_p2, u32 w2c_p3, u
   w2c_i0 = w2c_i0 == w2c_i1;
   if (w2c_i0) {goto w2c_B12;}
   w2c_B13:;
-  w2c_i0 = 37u;
+  w2c_i0 = 40u;
   w2c_p3 = w2c_i0;
   w2c_i0 = w2c_p2;
   switch (w2c_i0) {
@@ -129683,7 +129845,7 @@ static u32 w2c_f191(module *m, u64 w2c_p0, u64 w2c_p1, u32 w2c_p2, u32 w2c_p3, u
   }
   w2c_B16:;
   w2c_i0 = w2c_l16;
-  w2c_i1 = 31u;
+  w2c_i1 = 34u;
   w2c_i0 += w2c_i1;
   w2c_p3 = w2c_i0;
   goto w2c_B14;
@@ -129693,7 +129855,7 @@ static u32 w2c_f191(module *m, u64 w2c_p0, u64 w2c_p1, u32 w2c_p2, u32 w2c_p3, u
   w2c_j1 = 255ull;
   w2c_j0 &= w2c_j1;
   w2c_i0 = (u32)(w2c_j0);
-  w2c_i0 = i32_load8_u(m, (u64)(w2c_i0) + 85672u);
+  w2c_i0 = i32_load8_u(m, (u64)(w2c_i0) + 85888u);
   w2c_p3 = w2c_i0;
   w2c_B14:;
   w2c_j0 = w2c_l7;
@@ -129749,7 +129911,7 @@ static u32 w2c_f191(module *m, u64 w2c_p0, u64 w2c_p1, u32 w2c_p2, u32 w2c_p3, u
   w2c_l15 = w2c_j0;
   w2c_j0 = w2c_p0;
   w2c_j1 = w2c_l13;
-  w2c_j2 = 83467ull;
+  w2c_j2 = 83563ull;
   w2c_j3 = 3ull;
   w2c_i0 = w2c_f31(m, w2c_j0, w2c_j1, w2c_j2, w2c_j3);
   w2c_i0 = !(w2c_i0);
@@ -129758,7 +129920,7 @@ static u32 w2c_f191(module *m, u64 w2c_p0, u64 w2c_p1, u32 w2c_p2, u32 w2c_p3, u
   w2c_l16 = w2c_i0;
   w2c_j0 = w2c_l15;
   w2c_j1 = w2c_l14;
-  w2c_j2 = 83470ull;
+  w2c_j2 = 83566ull;
   w2c_j3 = 3ull;
   w2c_i0 = w2c_f31(m, w2c_j0, w2c_j1, w2c_j2, w2c_j3);
   if (w2c_i0) {goto w2c_B17;}
@@ -129766,7 +129928,7 @@ static u32 w2c_f191(module *m, u64 w2c_p0, u64 w2c_p1, u32 w2c_p2, u32 w2c_p3, u
   w2c_l16 = w2c_i0;
   w2c_j0 = w2c_l15;
   w2c_j1 = w2c_l14;
-  w2c_j2 = 83473ull;
+  w2c_j2 = 83569ull;
   w2c_j3 = 1ull;
   w2c_i0 = w2c_f31(m, w2c_j0, w2c_j1, w2c_j2, w2c_j3);
   w2c_i0 = !(w2c_i0);
@@ -129779,19 +129941,19 @@ static u32 w2c_f191(module *m, u64 w2c_p0, u64 w2c_p1, u32 w2c_p2, u32 w2c_p3, u
   w2c_l12 = w2c_j0;
   w2c_j0 = w2c_l15;
   w2c_j1 = w2c_l14;
-  w2c_j2 = 83474ull;
+  w2c_j2 = 83570ull;
   w2c_j3 = 1ull;
   w2c_i0 = w2c_f31(m, w2c_j0, w2c_j1, w2c_j2, w2c_j3);
   if (w2c_i0) {goto w2c_B17;}
   w2c_j0 = w2c_l15;
   w2c_j1 = w2c_l14;
-  w2c_j2 = 83466ull;
+  w2c_j2 = 83562ull;
   w2c_j3 = 1ull;
   w2c_i0 = w2c_f31(m, w2c_j0, w2c_j1, w2c_j2, w2c_j3);
   if (w2c_i0) {goto w2c_B18;}
   w2c_j0 = w2c_l15;
   w2c_j1 = w2c_l14;
-  w2c_j2 = 83475ull;
+  w2c_j2 = 83571ull;
   w2c_j3 = 3ull;
   w2c_i0 = w2c_f31(m, w2c_j0, w2c_j1, w2c_j2, w2c_j3);
   if (w2c_i0) {goto w2c_B18;}
@@ -129801,7 +129963,7 @@ static u32 w2c_f191(module *m, u64 w2c_p0, u64 w2c_p1, u32 w2c_p2, u32 w2c_p3, u
   w2c_l16 = w2c_i0;
   w2c_j0 = w2c_l15;
   w2c_j1 = w2c_l14;
-  w2c_j2 = 83473ull;
+  w2c_j2 = 83569ull;
   w2c_j3 = 1ull;
   w2c_i0 = w2c_f31(m, w2c_j0, w2c_j1, w2c_j2, w2c_j3);
   w2c_i0 = !(w2c_i0);
@@ -129814,19 +129976,19 @@ static u32 w2c_f191(module *m, u64 w2c_p0, u64 w2c_p1, u32 w2c_p2, u32 w2c_p3, u
   w2c_l12 = w2c_j0;
   w2c_j0 = w2c_l15;
   w2c_j1 = w2c_l14;
-  w2c_j2 = 83474ull;
+  w2c_j2 = 83570ull;
   w2c_j3 = 1ull;
   w2c_i0 = w2c_f31(m, w2c_j0, w2c_j1, w2c_j2, w2c_j3);
   if (w2c_i0) {goto w2c_B17;}
   w2c_j0 = w2c_l15;
   w2c_j1 = w2c_l14;
-  w2c_j2 = 83466ull;
+  w2c_j2 = 83562ull;
   w2c_j3 = 1ull;
   w2c_i0 = w2c_f31(m, w2c_j0, w2c_j1, w2c_j2, w2c_j3);
   if (w2c_i0) {goto w2c_B18;}
   w2c_j0 = w2c_l15;
   w2c_j1 = w2c_l14;
-  w2c_j2 = 83475ull;
+  w2c_j2 = 83571ull;
   w2c_j3 = 3ull;
   w2c_i0 = w2c_f31(m, w2c_j0, w2c_j1, w2c_j2, w2c_j3);
   w2c_i0 = !(w2c_i0);
@@ -129924,7 +130086,7 @@ static u32 w2c_f191(module *m, u64 w2c_p0, u64 w2c_p1, u32 w2c_p2, u32 w2c_p3, u
     w2c_j1 = 72ull;
     w2c_j0 += w2c_j1;
     w2c_i1 = w2c_p2;
-    w2c_f46(m, w2c_j0, w2c_i1);
+    w2c_f47(m, w2c_j0, w2c_i1);
     w2c_i0 = 28857u;
     w2c_l16 = w2c_i0;
     w2c_j0 = w2c_l7;
@@ -129937,7 +130099,7 @@ static u32 w2c_f191(module *m, u64 w2c_p0, u64 w2c_p1, u32 w2c_p2, u32 w2c_p3, u
     w2c_j1 = 64ull;
     w2c_j0 += w2c_j1;
     w2c_i1 = w2c_p2;
-    w2c_f90(m, w2c_j0, w2c_i1);
+    w2c_f45(m, w2c_j0, w2c_i1);
     w2c_j0 = w2c_p0;
     w2c_j1 = w2c_l10;
     w2c_j0 += w2c_j1;
@@ -129962,7 +130124,7 @@ static u32 w2c_f191(module *m, u64 w2c_p0, u64 w2c_p1, u32 w2c_p2, u32 w2c_p3, u
   i64_store(m, (u64)(w2c_i0) + 784, w2c_j1);
   w2c_j0 = w2c_l7;
   w2c_i0 = (u32)(w2c_j0);
-  w2c_j1 = 79844ull;
+  w2c_j1 = 79940ull;
   i64_store(m, (u64)(w2c_i0) + 776, w2c_j1);
   w2c_j0 = w2c_l7;
   w2c_i0 = (u32)(w2c_j0);
@@ -129970,7 +130132,7 @@ static u32 w2c_f191(module *m, u64 w2c_p0, u64 w2c_p1, u32 w2c_p2, u32 w2c_p3, u
   i64_store(m, (u64)(w2c_i0) + 768, w2c_j1);
   w2c_j0 = w2c_l7;
   w2c_i0 = (u32)(w2c_j0);
-  w2c_j1 = 79844ull;
+  w2c_j1 = 79940ull;
   i64_store(m, (u64)(w2c_i0) + 760, w2c_j1);
   w2c_j0 = w2c_l7;
   w2c_i0 = (u32)(w2c_j0);
@@ -130139,7 +130301,7 @@ static u32 w2c_f191(module *m, u64 w2c_p0, u64 w2c_p1, u32 w2c_p2, u32 w2c_p3, u
   w2c_i1 = (u32)(w2c_j1);
   w2c_j1 = i64_load(m, (u64)(w2c_i1) + 40u);
   w2c_l10 = w2c_j1;
-  w2c_j2 = 83470ull;
+  w2c_j2 = 83566ull;
   w2c_j3 = 3ull;
   w2c_i0 = w2c_f31(m, w2c_j0, w2c_j1, w2c_j2, w2c_j3);
   w2c_i0 = !(w2c_i0);
@@ -130148,49 +130310,49 @@ static u32 w2c_f191(module *m, u64 w2c_p0, u64 w2c_p1, u32 w2c_p2, u32 w2c_p3, u
   w2c_j1 = w2c_l8;
   w2c_i0 = w2c_j0 != w2c_j1;
   if (w2c_i0) {goto w2c_B35;}
-  w2c_i0 = 38u;
+  w2c_i0 = 41u;
   w2c_p2 = w2c_i0;
   goto w2c_B34;
   w2c_B36:;
   w2c_j0 = w2c_p0;
   w2c_j1 = w2c_l10;
-  w2c_j2 = 73748ull;
+  w2c_j2 = 73821ull;
   w2c_j3 = 1ull;
   w2c_i0 = w2c_f31(m, w2c_j0, w2c_j1, w2c_j2, w2c_j3);
   if (w2c_i0) {goto w2c_B38;}
   w2c_j0 = w2c_p0;
   w2c_j1 = w2c_l10;
-  w2c_j2 = 83478ull;
+  w2c_j2 = 83574ull;
   w2c_j3 = 3ull;
   w2c_i0 = w2c_f31(m, w2c_j0, w2c_j1, w2c_j2, w2c_j3);
   if (w2c_i0) {goto w2c_B38;}
   w2c_j0 = w2c_p0;
   w2c_j1 = w2c_l10;
-  w2c_j2 = 83481ull;
+  w2c_j2 = 83577ull;
   w2c_j3 = 3ull;
   w2c_i0 = w2c_f31(m, w2c_j0, w2c_j1, w2c_j2, w2c_j3);
   if (w2c_i0) {goto w2c_B38;}
   w2c_j0 = w2c_p0;
   w2c_j1 = w2c_l10;
-  w2c_j2 = 83484ull;
+  w2c_j2 = 83580ull;
   w2c_j3 = 3ull;
   w2c_i0 = w2c_f31(m, w2c_j0, w2c_j1, w2c_j2, w2c_j3);
   if (w2c_i0) {goto w2c_B39;}
   w2c_j0 = w2c_p0;
   w2c_j1 = w2c_l10;
-  w2c_j2 = 83487ull;
+  w2c_j2 = 83583ull;
   w2c_j3 = 3ull;
   w2c_i0 = w2c_f31(m, w2c_j0, w2c_j1, w2c_j2, w2c_j3);
   if (w2c_i0) {goto w2c_B39;}
   w2c_j0 = w2c_p0;
   w2c_j1 = w2c_l10;
-  w2c_j2 = 83466ull;
+  w2c_j2 = 83562ull;
   w2c_j3 = 1ull;
   w2c_i0 = w2c_f31(m, w2c_j0, w2c_j1, w2c_j2, w2c_j3);
   if (w2c_i0) {goto w2c_B37;}
   w2c_j0 = w2c_p0;
   w2c_j1 = w2c_l10;
-  w2c_j2 = 83475ull;
+  w2c_j2 = 83571ull;
   w2c_j3 = 3ull;
   w2c_i0 = w2c_f31(m, w2c_j0, w2c_j1, w2c_j2, w2c_j3);
   w2c_i0 = !(w2c_i0);
@@ -130203,7 +130365,7 @@ static u32 w2c_f191(module *m, u64 w2c_p0, u64 w2c_p1, u32 w2c_p2, u32 w2c_p3, u
   w2c_i0 = w2c_f139(m, w2c_j0, w2c_j1, w2c_j2);
   w2c_i0 = !(w2c_i0);
   if (w2c_i0) {goto w2c_B37;}
-  w2c_i0 = 40u;
+  w2c_i0 = 43u;
   w2c_p2 = w2c_i0;
   goto w2c_B34;
   w2c_B38:;
@@ -130250,7 +130412,7 @@ static u32 w2c_f191(module *m, u64 w2c_p0, u64 w2c_p1, u32 w2c_p2, u32 w2c_p3, u
   w2c_j2 = w2c_l11;
   w2c_i0 = w2c_f139(m, w2c_j0, w2c_j1, w2c_j2);
   if (w2c_i0) {goto w2c_B35;}
-  w2c_i0 = 39u;
+  w2c_i0 = 42u;
   w2c_p2 = w2c_i0;
   goto w2c_B34;
   w2c_B35:;
@@ -130302,7 +130464,7 @@ static u32 w2c_f191(module *m, u64 w2c_p0, u64 w2c_p1, u32 w2c_p2, u32 w2c_p3, u
   w2c_j1 = w2c_l7;
   w2c_j2 = 140ull;
   w2c_j1 += w2c_j2;
-  w2c_j2 = 79844ull;
+  w2c_j2 = 79940ull;
   w2c_i3 = w2c_p2;
   w2c_j1 = w2c_i3 ? w2c_j1 : w2c_j2;
   w2c_p6 = w2c_j1;
@@ -130552,7 +130714,7 @@ static u32 w2c_f193(module *m, u64 w2c_p0, u64 w2c_p1, u32 w2c_p2, u64 w2c_p3) {
   w2c_i0 = !(w2c_j0);
   if (w2c_i0) {goto w2c_B3;}
   w2c_j0 = w2c_l5;
-  w2c_j1 = 82993ull;
+  w2c_j1 = 83089ull;
   w2c_j0 += w2c_j1;
   w2c_i0 = (u32)(w2c_j0);
   w2c_i0 = i32_load8_u(m, (u64)(w2c_i0));
@@ -130661,7 +130823,7 @@ static u32 w2c_f193(module *m, u64 w2c_p0, u64 w2c_p1, u32 w2c_p2, u64 w2c_p3) {
   w2c_j1 = w2c_l6;
   w2c_j2 = w2c_p1;
   w2c_i3 = w2c_l8;
-  w2c_f79(m, w2c_j0, w2c_j1, w2c_j2, w2c_i3);
+  w2c_f80(m, w2c_j0, w2c_j1, w2c_j2, w2c_i3);
   w2c_j0 = w2c_p3;
   w2c_i0 = (u32)(w2c_j0);
   w2c_j1 = 0ull;
@@ -130992,14 +131154,14 @@ static u32 w2c_f195(module *m, u64 w2c_p0, u32 w2c_p1, u32 w2c_p2, u32 w2c_p3, u
   if (w2c_i0) {goto w2c_B0;}
   w2c_i0 = w2c_p2;
   w2c_j0 = (u64)(w2c_i0);
-  w2c_j1 = 79972ull;
+  w2c_j1 = 80068ull;
   w2c_j0 += w2c_j1;
   w2c_i0 = (u32)(w2c_j0);
   w2c_i0 = i32_load8_u(m, (u64)(w2c_i0));
   w2c_l29 = w2c_i0;
   w2c_i0 = w2c_p3;
   w2c_j0 = (u64)(w2c_i0);
-  w2c_j1 = 79972ull;
+  w2c_j1 = 80068ull;
   w2c_j0 += w2c_j1;
   w2c_i0 = (u32)(w2c_j0);
   w2c_i0 = i32_load8_u(m, (u64)(w2c_i0));
@@ -131379,7 +131541,7 @@ static u32 w2c_f195(module *m, u64 w2c_p0, u32 w2c_p1, u32 w2c_p2, u32 w2c_p3, u
   w2c_i0 = !(w2c_j0);
   if (w2c_i0) {goto w2c_B0;}
   w2c_j0 = w2c_p0;
-  w2c_j1 = 82993ull;
+  w2c_j1 = 83089ull;
   w2c_j0 += w2c_j1;
   w2c_i0 = (u32)(w2c_j0);
   w2c_i0 = i32_load8_u(m, (u64)(w2c_i0));
@@ -132066,15 +132228,15 @@ static u32 w2c_f195(module *m, u64 w2c_p0, u32 w2c_p1, u32 w2c_p2, u32 w2c_p3, u
   w2c_j0 += w2c_j1;
   w2c_l21 = w2c_j0;
   w2c_B30:;
-  w2c_j0 = 80408ull;
-  w2c_j1 = 80624ull;
+  w2c_j0 = 80504ull;
+  w2c_j1 = 80720ull;
   w2c_i2 = w2c_p3;
   w2c_i3 = 1u;
   w2c_i2 = w2c_i2 == w2c_i3;
   w2c_l27 = w2c_i2;
   w2c_j0 = w2c_i2 ? w2c_j0 : w2c_j1;
-  w2c_j1 = 79976ull;
-  w2c_j2 = 80192ull;
+  w2c_j1 = 80072ull;
+  w2c_j2 = 80288ull;
   w2c_i3 = w2c_l27;
   w2c_j1 = w2c_i3 ? w2c_j1 : w2c_j2;
   w2c_i2 = w2c_p2;
@@ -132765,15 +132927,15 @@ static u32 w2c_f195(module *m, u64 w2c_p0, u32 w2c_p1, u32 w2c_p2, u32 w2c_p3, u
   i32_store16(m, (u64)(w2c_i0) + 1206, w2c_i1);
   w2c_j0 = w2c_l8;
   w2c_i0 = (u32)(w2c_j0);
-  w2c_j1 = 80408ull;
-  w2c_j2 = 80624ull;
+  w2c_j1 = 80504ull;
+  w2c_j2 = 80720ull;
   w2c_i3 = w2c_p3;
   w2c_i4 = 1u;
   w2c_i3 = w2c_i3 == w2c_i4;
   w2c_l27 = w2c_i3;
   w2c_j1 = w2c_i3 ? w2c_j1 : w2c_j2;
-  w2c_j2 = 79976ull;
-  w2c_j3 = 80192ull;
+  w2c_j2 = 80072ull;
+  w2c_j3 = 80288ull;
   w2c_i4 = w2c_l27;
   w2c_j2 = w2c_i4 ? w2c_j2 : w2c_j3;
   w2c_i3 = w2c_p2;
@@ -132824,7 +132986,7 @@ static u32 w2c_f195(module *m, u64 w2c_p0, u32 w2c_p1, u32 w2c_p2, u32 w2c_p3, u
   w2c_p0 = w2c_j1;
   w2c_j0 += w2c_j1;
   w2c_l17 = w2c_j0;
-  w2c_j1 = 83623ull;
+  w2c_j1 = 83719ull;
   w2c_j0 -= w2c_j1;
   w2c_j1 = 5ull;
   w2c_i0 = w2c_j0 > w2c_j1;
@@ -132843,13 +133005,13 @@ static u32 w2c_f195(module *m, u64 w2c_p0, u32 w2c_p1, u32 w2c_p2, u32 w2c_p3, u
   w2c_i0 = (u32)(w2c_j0);
   w2c_j1 = 0ull;
   w2c_i1 = (u32)(w2c_j1);
-  w2c_i1 = i32_load16_u(m, (u64)(w2c_i1) + 83627u);
+  w2c_i1 = i32_load16_u(m, (u64)(w2c_i1) + 83723u);
   i32_store16(m, (u64)(w2c_i0) + 4, w2c_i1);
   w2c_j0 = w2c_l17;
   w2c_i0 = (u32)(w2c_j0);
   w2c_j1 = 0ull;
   w2c_i1 = (u32)(w2c_j1);
-  w2c_i1 = i32_load(m, (u64)(w2c_i1) + 83623u);
+  w2c_i1 = i32_load(m, (u64)(w2c_i1) + 83719u);
   i32_store(m, (u64)(w2c_i0), w2c_i1);
   w2c_B50:;
   w2c_j0 = w2c_l8;
@@ -133049,7 +133211,7 @@ static u32 w2c_f195(module *m, u64 w2c_p0, u32 w2c_p1, u32 w2c_p2, u32 w2c_p3, u
   w2c_j3 = w2c_l17;
   w2c_j2 -= w2c_j3;
   w2c_l13 = w2c_j2;
-  w2c_f83(m, w2c_j0, w2c_j1, w2c_j2);
+  w2c_f84(m, w2c_j0, w2c_j1, w2c_j2);
   w2c_j0 = w2c_l8;
   w2c_i0 = (u32)(w2c_j0);
   w2c_i0 = i32_load8_u(m, (u64)(w2c_i0) + 1200u);
@@ -133062,7 +133224,7 @@ static u32 w2c_f195(module *m, u64 w2c_p0, u32 w2c_p1, u32 w2c_p2, u32 w2c_p3, u
   w2c_j1 = w2c_l8;
   w2c_i1 = (u32)(w2c_j1);
   w2c_i1 = i32_load(m, (u64)(w2c_i1) + 1208u);
-  w2c_f90(m, w2c_j0, w2c_i1);
+  w2c_f45(m, w2c_j0, w2c_i1);
   w2c_j0 = w2c_l8;
   w2c_i0 = (u32)(w2c_j0);
   w2c_i0 = i32_load8_u(m, (u64)(w2c_i0) + 40u);
@@ -133105,7 +133267,7 @@ static u32 w2c_f195(module *m, u64 w2c_p0, u32 w2c_p1, u32 w2c_p2, u32 w2c_p3, u
     w2c_j0 += w2c_j1;
     w2c_j1 = w2c_l9;
     w2c_j2 = w2c_l17;
-    w2c_f83(m, w2c_j0, w2c_j1, w2c_j2);
+    w2c_f84(m, w2c_j0, w2c_j1, w2c_j2);
     w2c_j0 = w2c_l8;
     w2c_i0 = (u32)(w2c_j0);
     w2c_i0 = i32_load8_u(m, (u64)(w2c_i0) + 1200u);
@@ -133132,7 +133294,7 @@ static u32 w2c_f195(module *m, u64 w2c_p0, u32 w2c_p1, u32 w2c_p2, u32 w2c_p3, u
     w2c_j1 = w2c_l8;
     w2c_i1 = (u32)(w2c_j1);
     w2c_i1 = i32_load(m, (u64)(w2c_i1) + 1208u);
-    w2c_f90(m, w2c_j0, w2c_i1);
+    w2c_f45(m, w2c_j0, w2c_i1);
     w2c_j0 = w2c_l8;
     w2c_i0 = (u32)(w2c_j0);
     w2c_i0 = i32_load8_u(m, (u64)(w2c_i0) + 32u);
@@ -133244,15 +133406,15 @@ static u32 w2c_f195(module *m, u64 w2c_p0, u32 w2c_p1, u32 w2c_p2, u32 w2c_p3, u
   i32_store16(m, (u64)(w2c_i0) + 1206, w2c_i1);
   w2c_j0 = w2c_l8;
   w2c_i0 = (u32)(w2c_j0);
-  w2c_j1 = 80408ull;
-  w2c_j2 = 80624ull;
+  w2c_j1 = 80504ull;
+  w2c_j2 = 80720ull;
   w2c_i3 = w2c_p3;
   w2c_i4 = 1u;
   w2c_i3 = w2c_i3 == w2c_i4;
   w2c_l27 = w2c_i3;
   w2c_j1 = w2c_i3 ? w2c_j1 : w2c_j2;
-  w2c_j2 = 79976ull;
-  w2c_j3 = 80192ull;
+  w2c_j2 = 80072ull;
+  w2c_j3 = 80288ull;
   w2c_i4 = w2c_l27;
   w2c_j2 = w2c_i4 ? w2c_j2 : w2c_j3;
   w2c_i3 = w2c_p2;
@@ -133305,7 +133467,7 @@ static u32 w2c_f195(module *m, u64 w2c_p0, u32 w2c_p1, u32 w2c_p2, u32 w2c_p3, u
   w2c_j1 = 18446744073709551610ull;
   w2c_j0 += w2c_j1;
   w2c_l7 = w2c_j0;
-  w2c_j1 = 83623ull;
+  w2c_j1 = 83719ull;
   w2c_j0 -= w2c_j1;
   w2c_j1 = 5ull;
   w2c_i0 = w2c_j0 > w2c_j1;
@@ -133332,13 +133494,13 @@ static u32 w2c_f195(module *m, u64 w2c_p0, u32 w2c_p1, u32 w2c_p2, u32 w2c_p3, u
   w2c_i0 = (u32)(w2c_j0);
   w2c_j1 = 0ull;
   w2c_i1 = (u32)(w2c_j1);
-  w2c_i1 = i32_load16_u(m, (u64)(w2c_i1) + 83627u);
+  w2c_i1 = i32_load16_u(m, (u64)(w2c_i1) + 83723u);
   i32_store16(m, (u64)(w2c_i0) + 4, w2c_i1);
   w2c_j0 = w2c_l7;
   w2c_i0 = (u32)(w2c_j0);
   w2c_j1 = 0ull;
   w2c_i1 = (u32)(w2c_j1);
-  w2c_i1 = i32_load(m, (u64)(w2c_i1) + 83623u);
+  w2c_i1 = i32_load(m, (u64)(w2c_i1) + 83719u);
   i32_store(m, (u64)(w2c_i0), w2c_i1);
   w2c_B63:;
   w2c_j0 = w2c_l17;
@@ -133617,13 +133779,13 @@ static u32 w2c_f197(module *m, u64 w2c_p0, u64 w2c_p1, u32 w2c_p2, u32 w2c_p3, u
   w2c_j1 = 1ull;
   w2c_j0 <<= (w2c_j1 & 63);
   w2c_p0 = w2c_j0;
-  w2c_j1 = 82993ull;
+  w2c_j1 = 83089ull;
   w2c_j0 += w2c_j1;
   w2c_i0 = (u32)(w2c_j0);
   w2c_i0 = i32_load8_u(m, (u64)(w2c_i0));
   w2c_p3 = w2c_i0;
   w2c_j0 = w2c_p0;
-  w2c_j1 = 82992ull;
+  w2c_j1 = 83088ull;
   w2c_j0 += w2c_j1;
   w2c_i0 = (u32)(w2c_j0);
   w2c_i0 = i32_load8_u(m, (u64)(w2c_i0));
@@ -133760,7 +133922,7 @@ static u32 w2c_f199(module *m, u64 w2c_p0, u64 w2c_p1, u32 w2c_p2, u32 w2c_p3, u
   w2c_j0 = (u64)(w2c_i0);
   w2c_j1 = 1ull;
   w2c_j0 <<= (w2c_j1 & 63);
-  w2c_j1 = 82993ull;
+  w2c_j1 = 83089ull;
   w2c_j0 += w2c_j1;
   w2c_i0 = (u32)(w2c_j0);
   w2c_i0 = i32_load8_u(m, (u64)(w2c_i0));
@@ -133797,14 +133959,14 @@ static u32 w2c_f199(module *m, u64 w2c_p0, u64 w2c_p1, u32 w2c_p2, u32 w2c_p3, u
   w2c_l10 = w2c_j0;
   w2c_i0 = w2c_p4;
   w2c_j0 = (u64)(w2c_i0);
-  w2c_j1 = 79972ull;
+  w2c_j1 = 80068ull;
   w2c_j0 += w2c_j1;
   w2c_i0 = (u32)(w2c_j0);
   w2c_i0 = i32_load8_u(m, (u64)(w2c_i0));
   w2c_l18 = w2c_i0;
   w2c_i0 = w2c_p5;
   w2c_j0 = (u64)(w2c_i0);
-  w2c_j1 = 79972ull;
+  w2c_j1 = 80068ull;
   w2c_j0 += w2c_j1;
   w2c_i0 = (u32)(w2c_j0);
   w2c_i0 = i32_load8_u(m, (u64)(w2c_i0));
@@ -133827,8 +133989,8 @@ static u32 w2c_f199(module *m, u64 w2c_p0, u64 w2c_p1, u32 w2c_p2, u32 w2c_p3, u
   w2c_j1 = (u64)(w2c_i1);
   w2c_j2 = 5ull;
   w2c_j1 <<= (w2c_j2 & 63);
-  w2c_j2 = 83024ull;
-  w2c_j3 = 83008ull;
+  w2c_j2 = 83120ull;
+  w2c_j3 = 83104ull;
   w2c_i4 = w2c_l20;
   w2c_j2 = w2c_i4 ? w2c_j2 : w2c_j3;
   w2c_j1 += w2c_j2;
@@ -134082,13 +134244,13 @@ static u32 w2c_f199(module *m, u64 w2c_p0, u64 w2c_p1, u32 w2c_p2, u32 w2c_p3, u
     w2c_i0 = w2c_j0 != w2c_j1;
     if (w2c_i0) {goto w2c_L17;}
   w2c_B16:;
-  w2c_j0 = 79976ull;
-  w2c_j1 = 80192ull;
+  w2c_j0 = 80072ull;
+  w2c_j1 = 80288ull;
   w2c_i2 = w2c_p5;
   w2c_j0 = w2c_i2 ? w2c_j0 : w2c_j1;
   w2c_l13 = w2c_j0;
-  w2c_j0 = 80408ull;
-  w2c_j1 = 80624ull;
+  w2c_j0 = 80504ull;
+  w2c_j1 = 80720ull;
   w2c_i2 = w2c_p5;
   w2c_j0 = w2c_i2 ? w2c_j0 : w2c_j1;
   w2c_l12 = w2c_j0;
@@ -134365,15 +134527,15 @@ static u32 w2c_f199(module *m, u64 w2c_p0, u64 w2c_p1, u32 w2c_p2, u32 w2c_p3, u
   i32_store16(m, (u64)(w2c_i0) + 254, w2c_i1);
   w2c_j0 = w2c_l9;
   w2c_i0 = (u32)(w2c_j0);
-  w2c_j1 = 80408ull;
-  w2c_j2 = 80624ull;
+  w2c_j1 = 80504ull;
+  w2c_j2 = 80720ull;
   w2c_i3 = w2c_p5;
   w2c_i4 = 1u;
   w2c_i3 = w2c_i3 == w2c_i4;
   w2c_p3 = w2c_i3;
   w2c_j1 = w2c_i3 ? w2c_j1 : w2c_j2;
-  w2c_j2 = 79976ull;
-  w2c_j3 = 80192ull;
+  w2c_j2 = 80072ull;
+  w2c_j3 = 80288ull;
   w2c_i4 = w2c_p3;
   w2c_j2 = w2c_i4 ? w2c_j2 : w2c_j3;
   w2c_i3 = w2c_p4;
@@ -134444,12 +134606,12 @@ static u32 w2c_f199(module *m, u64 w2c_p0, u64 w2c_p1, u32 w2c_p2, u32 w2c_p3, u
   w2c_j1 <<= (w2c_j2 & 63);
   w2c_p6 = w2c_j1;
   w2c_i1 = (u32)(w2c_j1);
-  w2c_j1 = i64_load(m, (u64)(w2c_i1) + 83008u);
+  w2c_j1 = i64_load(m, (u64)(w2c_i1) + 83104u);
   w2c_i0 = w2c_j0 <= w2c_j1;
   w2c_j1 = w2c_p1;
   w2c_j2 = w2c_p6;
   w2c_i2 = (u32)(w2c_j2);
-  w2c_j2 = i64_load(m, (u64)(w2c_i2) + 83016u);
+  w2c_j2 = i64_load(m, (u64)(w2c_i2) + 83112u);
   w2c_p6 = w2c_j2;
   w2c_i1 = w2c_j1 <= w2c_j2;
   w2c_j2 = w2c_p1;
@@ -134676,13 +134838,13 @@ static u32 w2c_f199(module *m, u64 w2c_p0, u64 w2c_p1, u32 w2c_p2, u32 w2c_p3, u
     w2c_i0 = w2c_j0 != w2c_j1;
     if (w2c_i0) {goto w2c_L31;}
   w2c_B30:;
-  w2c_j0 = 79976ull;
-  w2c_j1 = 80192ull;
+  w2c_j0 = 80072ull;
+  w2c_j1 = 80288ull;
   w2c_i2 = w2c_p5;
   w2c_j0 = w2c_i2 ? w2c_j0 : w2c_j1;
   w2c_l13 = w2c_j0;
-  w2c_j0 = 80408ull;
-  w2c_j1 = 80624ull;
+  w2c_j0 = 80504ull;
+  w2c_j1 = 80720ull;
   w2c_i2 = w2c_p5;
   w2c_j0 = w2c_i2 ? w2c_j0 : w2c_j1;
   w2c_l12 = w2c_j0;
@@ -134939,15 +135101,15 @@ static u32 w2c_f199(module *m, u64 w2c_p0, u64 w2c_p1, u32 w2c_p2, u32 w2c_p3, u
   i32_store16(m, (u64)(w2c_i0) + 254, w2c_i1);
   w2c_j0 = w2c_l9;
   w2c_i0 = (u32)(w2c_j0);
-  w2c_j1 = 80408ull;
-  w2c_j2 = 80624ull;
+  w2c_j1 = 80504ull;
+  w2c_j2 = 80720ull;
   w2c_i3 = w2c_p5;
   w2c_i4 = 1u;
   w2c_i3 = w2c_i3 == w2c_i4;
   w2c_p3 = w2c_i3;
   w2c_j1 = w2c_i3 ? w2c_j1 : w2c_j2;
-  w2c_j2 = 79976ull;
-  w2c_j3 = 80192ull;
+  w2c_j2 = 80072ull;
+  w2c_j3 = 80288ull;
   w2c_i4 = w2c_p3;
   w2c_j2 = w2c_i4 ? w2c_j2 : w2c_j3;
   w2c_i3 = w2c_p4;
