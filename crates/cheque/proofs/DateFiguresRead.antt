@@ -5,7 +5,7 @@ use Rattle.std.proofs.lemmas.Bool.Decides.{nat_tests}
 use Rattle.chinese_number.specs.declared.BillDate.{BillDate}
 use Rattle.cn_capitals.specs.Answers.{Begins}
 use Rattle.cn_capitals.specs.Machine.{run, Leads, Reached, Reads}
-use Rattle.cn_capitals.proofs.Runs.{some-is, run-ran, run-behind, kept}
+use Rattle.cn_capitals.proofs.Runs.{some-is, run-ran, run-append, kept}
 use Rattle.cheque.specs.declared.dates.Number.{Number}
 use Rattle.cheque.specs.declared.dates.State.{State}
 use Rattle.cheque.specs.declared.dates.State.TheVariants.{Year, Month, Day}
@@ -239,8 +239,8 @@ each-read text date h =
     h.day h.writes_day.1 (omega (arith, h.writes_day.0)) in (
       Day (value_of h.year) (value_of h.month) (record { digits = 2; value = value_of h.day }),
       ap (run step (Year no_number)) h.form
-          ∙ run-behind step (Year no_number) h.year _ _ years
-          ∙ run-behind step (Month (value_of h.year) no_number) h.month _ _ months ∙ days,
+          ∙ run-append step (Year no_number) h.year _ _ years
+          ∙ run-append step (Month (value_of h.year) no_number) h.month _ _ months ∙ days,
       ap (λ year. Some (record { year = year; month = value_of h.month; day = value_of h.day }))
           (sym h.writes_year.2)
           ∙ ap (λ month. Some (record { year = date.year; month = month; day = value_of h.day }))

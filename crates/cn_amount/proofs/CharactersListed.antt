@@ -87,7 +87,7 @@ core-listed is_signed = record {
   by state next c e false is =
       stepped state next c (typing.next state.prefix c) (unknown state.prefix c is) e
 
--- what is left out of a typed text is white space
+-- each character that the reader of typed texts skips is white space
 left : (nothing : Unit {0}) (c : ℕ) → typing.visible_sieve.keeps nothing c ≡ false
     → IsTrue (char_set_contains CHARACTERS c || (true && is_whitespace c))
 left nothing c h = by (is_whitespace c) refl h where

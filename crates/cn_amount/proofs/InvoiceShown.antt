@@ -125,15 +125,15 @@ few-of variant form fen =
       few-bytes variant form (nat_abs fen),
     )
 
-form-behind : (variant : ChineseVariant) (form : AmountForm) (bracketed below : Bool)
+form-append : (variant : ChineseVariant) (form : AmountForm) (bracketed below : Bool)
     (capitals : List Capital)
     → map (capital_char variant form) ((if below then sign_form bracketed else []) ++ capitals)
     ≡ sign_if variant bracketed below ++ map (capital_char variant form) capitals
 unfolding minus_char
-form-behind variant form bracketed false capitals = refl
-form-behind variant form false true capitals = refl
-form-behind Simple form true true capitals = refl
-form-behind Traditional form true true capitals = refl
+form-append variant form bracketed false capitals = refl
+form-append variant form false true capitals = refl
+form-append Simple form true true capitals = refl
+form-append Traditional form true true capitals = refl
 
 -- the capitals written are the text, and fit the buffer
 pub invoice-text-of : (variant : ChineseVariant) (form : AmountForm) (fen : ℤ)
@@ -144,7 +144,7 @@ pub invoice-text-of : (variant : ChineseVariant) (form : AmountForm) (fen : ℤ)
 invoice-text-of variant form fen start text bytes size put of =
     let capitals = amount_form (written_as form) (places_of (nat_abs fen)) in
     let same = ap encode_utf8_all
-    (form-behind variant form form.bracketed_sign (int_lt fen (pos 0)) capitals) in
+    (form-append variant form form.bracketed_sign (int_lt fen (pos 0)) capitals) in
     puts-all _ _ start text _ bytes put of
     (omega (arith, few-of variant form fen, ap length same, size)) ∙ same
 

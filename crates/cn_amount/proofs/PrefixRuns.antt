@@ -7,7 +7,7 @@ use Rattle.cn_core.proofs.Fronts.{and-left, and-right}
 use Rattle.cn_core.specs.declared.script.ChineseVariant.TheVariants.{Traditional, Simple}
 use Rattle.cn_amount.specs.declared.prefix.Width.TheVariants.{Full, Half}
 use Rattle.cn_capitals.specs.Machine.{run}
-use Rattle.cn_capitals.proofs.Runs.{run-behind}
+use Rattle.cn_capitals.proofs.Runs.{run-append}
 use Rattle.cn_amount.specs.declared.prefix.Point.{Point}
 use Rattle.cn_amount.specs.declared.prefix.Point.TheVariants.{Between, SignBracket, SignFu, SignShu, Ren, Min, Currency, Bracket, Da, Xie, Note, Amount}
 use Rattle.cn_amount.specs.declared.prefix.Prefix.{Prefix}
@@ -24,7 +24,7 @@ Runs prefix text after = run next prefix text ≡ Some after
 
 both-run : (prefix between after : Prefix) (text more : List ℕ) → Runs prefix text between
     → Runs between more after → Runs prefix (text ++ more) after
-both-run prefix between after text more e f = run-behind next prefix text more between e ∙ f
+both-run prefix between after text more e f = run-append next prefix text more between e ∙ f
 
 abbrev prefix_of : Bool → Front → Bool → Point → Prefix
 prefix_of circle sign currency point =

@@ -140,12 +140,12 @@ few-signed variant form fen =
     few-behind variant (int_lt fen (pos 0)) (amount_text variant form (nat_abs fen))
     (few-bytes variant form (nat_abs fen))
 
-form-behind : (variant : ChineseVariant) (form : AmountForm) (below : Bool)
+form-append : (variant : ChineseVariant) (form : AmountForm) (below : Bool)
     (capitals : List Capital)
     → map (capital_char variant form) ((if below then Fu ∷ [] else []) ++ capitals)
     ≡ behind_sign variant below (map (capital_char variant form) capitals)
-form-behind variant form true capitals = refl
-form-behind variant form false capitals = refl
+form-append variant form true capitals = refl
+form-append variant form false capitals = refl
 
 -- the capitals written are the text, and fit the buffer
 pub signed-text-of : (variant : ChineseVariant) (form : AmountForm) (fen : ℤ)
@@ -157,7 +157,7 @@ pub signed-text-of : (variant : ChineseVariant) (form : AmountForm) (fen : ℤ)
 signed-text-of variant form fen start text bytes size put of =
     let below = int_lt fen (pos 0) in
     let capitals = amount_form (written_as form) (places_of (nat_abs fen)) in
-    let same = ap encode_utf8_all (form-behind variant form below capitals) in
+    let same = ap encode_utf8_all (form-append variant form below capitals) in
     let few = few-behind variant below (map (capital_char variant form) capitals)
     (few-bytes variant form (nat_abs fen)) in
     puts-all _ _ start text _ bytes put of (omega (arith, few, ap length same, size)) ∙ same

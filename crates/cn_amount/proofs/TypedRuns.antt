@@ -5,7 +5,7 @@ use Rattle.std.specs.Option.{option_map}
 use Rattle.cn_capitals.specs.Machine as machine
 use Rattle.cn_capitals.specs.Machine.{run, Leads, Reached, Reads}
 use Rattle.cn_capitals.specs.Sieve.{after}
-use Rattle.cn_capitals.proofs.Runs.{some-is, run-ran, run-behind}
+use Rattle.cn_capitals.proofs.Runs.{some-is, run-ran, run-append}
 use Rattle.cn_amount.specs.declared.capital.Capital.{Capital}
 use Rattle.cn_amount.specs.declared.capital.Capital.TheVariants.{Ling, Digit}
 use Rattle.cn_amount.specs.declared.prefix.Point.{Point}
@@ -39,7 +39,7 @@ pub bare-leads : (text : List ℕ)
     ≡ run amount_machine.step bare_progress text
 unfolding capital_of
 bare-leads text =
-    run-behind amount_machine.step amount_machine.begin (codes "人民币") text bare_progress refl
+    run-append amount_machine.step amount_machine.begin (codes "人民币") text bare_progress refl
 
 -- a character of a prefix
 abbrev pub is_mark : ℕ → Bool
@@ -204,7 +204,7 @@ core-each signed text value h =
     (sym (bare-leads form.amount) ∙ whole.1) whole.2 in (
       both (at Amount prefix.after) whole.0,
       ap (run step (begin (front_of signed))) form.parts
-          ∙ run-behind step (begin (front_of signed)) form.prefix form.amount
+          ∙ run-append step (begin (front_of signed)) form.prefix form.amount
           (both prefix.after bare_progress)
           (prefix-read form.prefix (first (front_of signed)) prefix.after bare_progress prefix.runs)
           ∙ last,

@@ -6,7 +6,7 @@ use Rattle.cn_core.proofs.Chars.{chars-from_empty}
 use Rattle.cn_capitals.specs.declared.refusal.Refusal.TheVariants.{Unfinished}
 use Rattle.cn_capitals.specs.Answers.{Answers, Begins}
 use Rattle.cn_capitals.specs.Machine.{run, Machine, Leads, Reads}
-use Rattle.cn_capitals.proofs.Runs.{some-is, run-ran, run-behind, run-more}
+use Rattle.cn_capitals.proofs.Runs.{some-is, run-ran, run-append, run-more}
 
 -- a text that ends before a form does is unfinished
 pub unfinished-read : {S A : Type 0} (IsForm : List ℕ → A → Type 0) (machine : Machine S A)
@@ -38,7 +38,7 @@ refused-read IsForm machine reads start state c r e = λ h.
     let s : text ≡ start ++ c ∷ h.0 = append_assoc start (c ∷ []) h.0 in
     let n : run machine.step machine.begin text ≡ None =
     ap (run machine.step machine.begin) s
-    ∙ run-behind machine.step machine.begin start (c ∷ h.0) state r
+    ∙ run-append machine.step machine.begin start (c ∷ h.0) state r
     ∙ run-ran machine.step state c h.0 None e in
     let whole = reads.each text h.1 h.2 in
     let wrong : None ≡ Some whole.0 = sym n ∙ whole.1 in absurd (cc)

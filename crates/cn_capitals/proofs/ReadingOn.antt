@@ -2,7 +2,7 @@
 use Rattle.std.proofs.Common.{◌≡◌, ℕ, ◌+◌, List, [], ◌∷◌, ◌++◌, length-append, Some, refl, sym, ap, ◌∙◌, append_assoc, arith}
 use Rattle.cn_capitals.specs.Machine.{Machine, Reached}
 use Rattle.cn_capitals.specs.Working.ReadOn.{HasRead}
-use Rattle.cn_capitals.proofs.Runs.{run-behind, run-more}
+use Rattle.cn_capitals.proofs.Runs.{run-append, run-more}
 
 pub read-none : {S A : Type 0} (machine : Machine S A) (text : List ℕ) (state : S)
     → HasRead machine state text state 0 text
@@ -13,7 +13,7 @@ pub reached-on : {S A : Type 0} (machine : Machine S A) (first state : S) (text 
     (count : ℕ) → Reached machine first → HasRead machine first text state count rest
     → Reached machine state
 reached-on machine first state text rest count (start, leads) h =
-    (start ++ h.front, run-behind machine.step machine.begin start h.front first leads ∙ h.runs)
+    (start ++ h.front, run-append machine.step machine.begin start h.front first leads ∙ h.runs)
 
 -- one more character is read
 pub read-more : {S A : Type 0} (machine : Machine S A) (first state next : S)

@@ -12,12 +12,12 @@ pub run-ran : {S C : Type 0} (step : S → C → Option S) (state : S) (c : C) (
     (o : Option S) → step state c ≡ o → run step state (c ∷ rest) ≡ ran step o rest
 run-ran step state c rest o e = ap (λ o. ran step o rest) e
 
-pub run-behind : {S C : Type 0} (step : S → C → Option S) (state : S) (start rest : List C)
+pub run-append : {S C : Type 0} (step : S → C → Option S) (state : S) (start rest : List C)
     (next : S) → run step state start ≡ Some next
     → run step state (start ++ rest) ≡ run step next rest
-run-behind step state [] rest next e = ap (λ s. run step s rest) (some-is state next e)
-run-behind {S} step state (c ∷ start) rest next e =
-    by (step state c) refl (λ after h. run-behind step after start rest next h) where
+run-append step state [] rest next e = ap (λ s. run step s rest) (some-is state next e)
+run-append {S} step state (c ∷ start) rest next e =
+    by (step state c) refl (λ after h. run-append step after start rest next h) where
       by : (o : Option S) → step state c ≡ o
           → ((after : S) → run step after start ≡ Some next
           → run step after (start ++ rest) ≡ run step next rest)
@@ -33,7 +33,7 @@ some-or-none step (Some next) = refl
 pub run-more : {S C : Type 0} (step : S → C → Option S) (state : S) (start : List C) (c : C)
     (next : S) → run step state start ≡ Some next
     → run step state (start ++ c ∷ []) ≡ step next c
-run-more step state start c next e = run-behind step state start (c ∷ []) next e
+run-more step state start c next e = run-append step state start (c ∷ []) next e
     ∙ run-ran step next c [] (step next c) refl ∙ some-or-none step (step next c)
 
 -- a state that steps by the class of each character

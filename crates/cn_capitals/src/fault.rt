@@ -35,6 +35,7 @@ fn char_before(text: &str, char_index: usize, back: usize) -> Option<char> {
 }
 
 impl Fault {
+    // No contract: it only collects what `candidates` asks for.
     /// The fault at a place, given the characters with which a form can go on there, and those that
     /// forms have.
     pub fn new(text: &str, char_index: usize, next: &CharacterList, known: &[char]) -> Fault {
@@ -182,6 +183,8 @@ impl Fault {
         self.here(Repair::Replace(figure_for(self.character?)?))
     }
 
+    // No contract: which changes are worth a try is a matter of experience. `first_working` tries each
+    // and returns only one that works.
     /// The changes that are tried, the first one first. `find_repair` describes them.
     pub fn candidates(&self) -> [Option<Hint>; 14] {
         [

@@ -1,8 +1,10 @@
 // Looks for a change after which a text goes on past its fault.
-ghost use Rattle.std.specs.Prelude.{◌≡◌, ◌+◌, ◌^◌, ◌<◌, ◌≤◌, true, chars, length, [], IfSome, MatchBool};
+ghost use Rattle.std.specs.Prelude.{◌≡◌, ◌+◌, ◌^◌, ◌<◌, ◌≤◌, true, chars, length, take, [], IfSome, MatchBool, MatchOption};
+ghost use Rattle.cn_capitals.specs.Answers.{Begins};
+ghost use Rattle.cn_capitals.specs.Expected.{BeginsUpTo};
 ghost use Rattle.cn_capitals.specs.Machine.{Reached};
 ghost use Rattle.cn_capitals.specs.Repairs.{past, IsRepair};
-ghost use Rattle.cn_capitals.specs.Working.Changes.{added, begins_with, goes_on, ReadsChange, ReadsRepaired, Works};
+ghost use Rattle.cn_capitals.specs.Working.Changes.{added, begins_with, goes_on, IsFirst, IsRefused, Fails, ReadsChange, ReadsRepaired, Works};
 
 use crate::expecting::next_characters;
 use crate::fault::Fault;
@@ -38,8 +40,8 @@ fn past(fault: usize, hint: Hint) -> usize
 // or if the character that is to be changed is missing.
 fn change<'a, G: Grammar>(state: G, rest: &'a str, repair: Repair) -> Option<(G, &'a str)>
     requires { Reached G.machine state }
-    ensures read { IfSome result (λ next.
-        ReadsChange G.machine state (chars rest.now) repair next.0 (chars next.1.now)) }
+    ensures read { MatchOption result (IsRefused G.machine state (chars rest.now) repair)
+        (λ next. ReadsChange G.machine state (chars rest.now) repair next.0 (chars next.1.now)) }
     ensures short { IfSome result (λ next. length next.1.now ≤ length rest.now) }
 {
     match repair {
@@ -55,15 +57,17 @@ fn change<'a, G: Grammar>(state: G, rest: &'a str, repair: Repair) -> Option<(G,
     }
 }
 
-// What is read of a text after a change; `None` if a form does not begin with it up to the change.
+// What is read of a text after a change; `None` if the change has no place in the text, or if no
+// form begins with the text up to what it writes.
 fn read_repaired<'a, G: Grammar>(text: &'a str, hint: Hint) -> Option<Partial<'a, G>>
-    ensures { IfSome result (λ read. ReadsRepaired G.machine (chars text.now) hint
+    requires begins { Begins G.is_form (take hint.char_index (chars text.now)) }
+    requires place { hint.char_index ≤ length (chars text.now) }
+    ensures { MatchOption result (Fails G.is_form (chars text.now) hint) (λ read.
+        ReadsRepaired G.machine (chars text.now) hint
         read.state read.count (chars read.rest.now)) }
 {
+    G::states_read_the_forms();
     let before = read_on(G::begin(), text, hint.char_index);
-    if before.count < hint.char_index {
-        return None;
-    }
     let (state, rest) = change(before.state, before.rest, hint.repair)?;
     let after = read_on(state, rest, usize::MAX);
     Some(Partial {
@@ -104,31 +108,35 @@ fn goes_on<G: Listed>(count: usize, past: usize, rest: &str) -> bool
 // Whether a change takes the text past its fault. A text without a fault, which only ends too soon,
 // must become a form.
 fn works<G: Listed>(text: &str, fault: usize, ends: bool, hint: Hint) -> bool
-    requires { fault < 2 ^ 63 }
-    ensures { result ≡ true → Works G.is_form (chars text.now) fault ends hint }
+    requires up_to { BeginsUpTo G.is_form (chars text.now) fault }
+    requires fault { fault < 2 ^ 63 }
+    ensures { MatchBool result (Works G.is_form G.characters (chars text.now) fault ends hint)
+        (¬ Works G.is_form G.characters (chars text.now) fault ends hint) }
 {
     G::states_read_the_forms();
-    let Some(read) = read_repaired::<G>(text, hint) else {
-        return false;
-    };
     if hint.char_index > fault {
         return false;
     }
+    let Some(read) = read_repaired::<G>(text, hint) else {
+        return false;
+    };
     if is_end(read.rest) {
         return !ends || read.state.end().is_some();
     }
     !ends && goes_on::<G>(read.count, past(fault, hint), read.rest)
 }
 
-// The first of some changes that takes the text past its fault.
+// The first of some changes that takes the text past its fault; `None` if none does.
 fn first_working<G: Listed>(
     text: &str,
     fault: usize,
     ends: bool,
     candidates: &[Option<Hint>],
 ) -> Option<Hint>
-    requires { fault < 2 ^ 63 }
-    ensures { IfSome result (Works G.is_form (chars text.now) fault ends) }
+    requires up_to { BeginsUpTo G.is_form (chars text.now) fault }
+    requires fault { fault < 2 ^ 63 }
+    ensures { IsFirst (Works G.is_form G.characters (chars text.now) fault ends)
+        candidates.now result }
 {
     for candidate in candidates {
         if let Some(hint) = *candidate {

@@ -9,7 +9,7 @@ use Rattle.cn_date.specs.declared.state.State.TheVariants.{Year, Month, Day, Com
 use Rattle.cn_date.specs.Calendar.{IsDate, days_of, is_leap}
 use Rattle.cn_date.specs.Form.{figures, year_text, month_text, day_text, date_form}
 use Rattle.cn_date.specs.Working.Steps.{step, run}
-use Rattle.cn_capitals.proofs.Runs.{run-behind, run-more, run-ran}
+use Rattle.cn_capitals.proofs.Runs.{run-append, run-more, run-ran}
 use Rattle.cn_capitals.proofs.Characters.{AllBelow, all-at}
 use Rattle.cn_date.proofs.Years.{figures-more, not-zero}
 
@@ -114,9 +114,9 @@ form-read choice date is =
     let y = date.year in
     let m = date.month in
     let rest = month_text choice m ++ day_text date.day in
-    run-behind step (Year 0) (year_text y) (Nian ∷ rest) (Year y)
+    run-append step (Year 0) (year_text y) (Nian ∷ rest) (Year y)
     (reads-figures 4 y (omega (arith, is.1)) is.1)
     ∙ run-ran step (Year y) Nian rest (Some (Month y Nothing)) (some-year y is.0)
-    ∙ run-behind step (Month y Nothing) (month_text choice m) (day_text date.day)
+    ∙ run-append step (Month y Nothing) (month_text choice m) (day_text date.day)
     (Day y m (days_of y m) Nothing) (reads-month y choice m is.2 is.3)
     ∙ whole-day y m date.day is.4 is.5

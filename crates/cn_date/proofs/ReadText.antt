@@ -4,7 +4,7 @@ use Rattle.std.proofs.lemmas.List.{map-append}
 use Rattle.cn_capitals.specs.Answers.{Begins}
 use Rattle.cn_capitals.specs.Machine.{Leads, Reads, step_as}
 use Rattle.cn_capitals.specs.Machine as machine
-use Rattle.cn_capitals.proofs.Runs.{some-is, run-behind, run-map, kept}
+use Rattle.cn_capitals.proofs.Runs.{some-is, run-append, run-map, kept}
 use Rattle.cn_core.specs.declared.script.ChineseVariant.TheVariants.{Simple}
 use Rattle.cn_date.specs.declared.capital.Capital.{Capital}
 use Rattle.cn_date.specs.declared.date.BillDate.{BillDate}
@@ -85,7 +85,7 @@ begins-read text state leads =
     let last = can-end state r.capitals r.front in
     let behind = map (capital_char Simple) last.behind in
     let runs : Leads date_machine (text ++ behind) (Complete last.date) =
-    run-behind date_machine.step (Year 0) text behind state leads
+    run-append date_machine.step (Year 0) text behind state leads
     ∙ runs-as state behind last.behind (capitals-read Simple last.behind last.proper)
     ∙ last.ends in
     (behind, last.date, whole-read (text ++ behind) (Complete last.date) last.date runs refl)

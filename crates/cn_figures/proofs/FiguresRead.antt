@@ -3,7 +3,7 @@ use Rattle.std.proofs.Common.{◌≡◌, ℕ, Bool, true, false, List, [], ◌�
 use Rattle.std.proofs.lemmas.List.{map-append}
 use Rattle.cn_capitals.specs.Answers.{Begins}
 use Rattle.cn_capitals.specs.Machine.{run, Leads, Reads, step_as}
-use Rattle.cn_capitals.proofs.Runs.{some-is, run-ran, run-behind, run-map, kept}
+use Rattle.cn_capitals.proofs.Runs.{some-is, run-ran, run-append, run-map, kept}
 use Rattle.cn_core.specs.Figures.{figure_of}
 use Rattle.cn_figures.specs.declared.part.Part.{Part}
 use Rattle.cn_figures.specs.declared.part.Part.TheVariants.{Digit}
@@ -152,7 +152,7 @@ begins-read text progress leads =
       more.behind,
       more.last.fen,
       only-read (text ++ more.behind) more.last more.last.fen
-          (run-behind figures_machine.step figures_machine.begin text more.behind progress leads
+          (run-append figures_machine.step figures_machine.begin text more.behind progress leads
           ∙ runs-as progress more.behind more.parts more.is ∙ more.runs)
           (ap (λ (b : Bool). if b then Some more.last.fen else None) more.ends),
     )

@@ -1,7 +1,7 @@
 -- Figures are read to their end, and what has been read can be completed.
 use Rattle.std.proofs.Common.{◌≡◌, ℕ, ◌+◌, ◌*◌, ◌<◌, ◌≤◌, ◌==◌, ◌⊎◌, inl, inr, Bool, true, false, List, [], ◌∷◌, ◌++◌, length, map, drop, Option, Some, None, refl, sym, ap, ◌∙◌, if◌then◌else◌, append_assoc, arith}
 use Rattle.cn_capitals.specs.Machine.{run}
-use Rattle.cn_capitals.proofs.Runs.{run-ran, run-behind}
+use Rattle.cn_capitals.proofs.Runs.{run-ran, run-append}
 use Rattle.cn_core.proofs.Fronts.{and-left, and-right}
 use Rattle.cn_figures.specs.declared.part.Part.{Part}
 use Rattle.cn_figures.specs.declared.part.Part.TheVariants.{Digit, Comma, Point}
@@ -192,9 +192,9 @@ figures-run parts fen h =
       ap (run advance (at Beginning (Some 0)))
           (h.form ∙ sym (append_assoc (marked h.currency) (map Digit h.front)
           (with_commas h.triples ++ pointed h.places)))
-          ∙ run-behind advance (at Beginning (Some 0)) (marked h.currency ++ map Digit h.front)
+          ∙ run-append advance (at Beginning (Some 0)) (marked h.currency ++ map Digit h.front)
           (with_commas h.triples ++ pointed h.places) (at (behind h.front) (below (100 * yuan))) fronts
-          ∙ run-behind advance (at (behind h.front) (below (100 * yuan))) (with_commas h.triples)
+          ∙ run-append advance (at (behind h.front) (below (100 * yuan))) (with_commas h.triples)
           (pointed h.places) (at state (below (100 * all))) triples ∙ last.1,
       last.2 ∙ ap (λ fen. Some (below fen)) (sym h.value),
     )

@@ -1,31 +1,49 @@
-use Rattle.std.proofs.Common.{◌≡◌, ◌≤◌, [], chars, false, is_some, sym, ap, subst, ◌∙◌, rules}
-use Rattle.cn_capitals.specs.Repairs.{past}
-use Rattle.cn_capitals.proofs.Changing.{goes-past, works-whole, works-on}
+use Rattle.std.proofs.Common.{refl, chars, true, false, is_some, ap, subst, ◌∙◌}
+use Rattle.std.proofs.lemmas.List.{take-take}
+use Rattle.cn_capitals.specs.Answers.{Begins}
+use Rattle.cn_capitals.specs.Working.Changes.{goes_on}
+use Rattle.cn_capitals.proofs.Changing.{decided-end, decided-on, no-change, no-form, works-whole}
+use Rattle.cn_capitals.proofs.OneAnswer.{begins-take}
 use Rattle.cn_capitals.proofs.repairing.works.Goals as goal
 
+pub read_repaired-requires-clause-begins : goal.read_repaired-requires-clause-begins
+read_repaired-requires-clause-begins g c =
+    subst (Begins g.G.Grammar.is_form)
+    (take-take c.args.hint.char_index c.args.fault (chars c.args.text.now) c.if-hint-fault.false)
+    (begins-take g.G.Grammar.is_form _ c.args.hint.char_index c.requires.up_to.begins)
+
+pub returns-in_default : goal.returns-in_default
+returns-in_default g c =
+    no-change g.G.Grammar.is_form g.G.Listed.characters (chars c.args.text.now) c.args.fault
+    c.args.ends c.args.hint c.in_default.ensures
+
 pub returns-then-not-ends : goal.returns-then-not-ends
-returns-then-not-ends g c = λ h.
-    let empty : chars c.in-Some.read.rest.now ≡ [] = search rules in
-    let going : c.args.ends ≡ false = search rules in
-    works-whole g.G.Grammar.is_form g.G.Grammar.machine c.states_read_the_forms.ensures (chars c.args.text.now)
-    (chars c.in-Some.read.rest.now) c.args.fault c.args.ends c.args.hint c.in-Some.read.state
-    c.in-Some.read.count c.in-Some.ensures empty c.if-hint-fault.false (λ is. absurd (cc))
+returns-then-not-ends g c =
+    rw c.if-not-ends.true
+    (works-whole g.G.Grammar.is_form g.G.Grammar.machine c.states_read_the_forms.ensures g.G.Listed.characters
+    (chars c.args.text.now) (chars c.in-Some.read.rest.now) c.args.fault false c.args.hint
+    c.in-Some.read.state c.in-Some.read.count c.in-Some.ensures c.if-is_end.ensures
+    c.if-hint-fault.false (λ is. absurd (cc)))
 
 pub returns-else-not-ends : goal.returns-else-not-ends
-returns-else-not-ends g c = λ h.
-    let empty : chars c.in-Some.read.rest.now ≡ [] = search rules in
-    works-whole g.G.Grammar.is_form g.G.Grammar.machine c.states_read_the_forms.ensures (chars c.args.text.now)
-    (chars c.in-Some.read.rest.now) c.args.fault c.args.ends c.args.hint c.in-Some.read.state
-    c.in-Some.read.count c.in-Some.ensures empty c.if-hint-fault.false
-    (λ is. sym (c.is_some.ensures ∙ ap is_some c.end.ensures) ∙ h)
+returns-else-not-ends g c =
+    decided-end g.G.Grammar.is_form g.G.Grammar.machine c.states_read_the_forms.ensures g.G.Listed.characters
+    (chars c.args.text.now) (chars c.in-Some.read.rest.now) c.args.fault c.args.ends c.args.hint
+    c.in-Some.read.state c.in-Some.read.count c.in-Some.ensures c.if-is_end.ensures c.if-not-ends.false
+    c.if-hint-fault.false c.is_some.result (c.is_some.ensures ∙ ap is_some c.end.ensures)
 
 pub returns-then-not-ends-2 : goal.returns-then-not-ends-2
-returns-then-not-ends-2 g c = λ h.
-    let less = goes-past g.G.Listed.characters c.in-Some.read.count c.past.result
-    (chars c.in-Some.read.rest.now) (sym c.goes_on.ensures ∙ h) in
-    let far : past c.args.fault c.args.hint ≤ c.in-Some.read.count =
-    subst (λ count. count ≤ c.in-Some.read.count) c.past.ensures less in
-    let going : c.args.ends ≡ false = search rules in
-    works-on g.G.Grammar.is_form g.G.Grammar.machine c.states_read_the_forms.ensures (chars c.args.text.now)
-    (chars c.in-Some.read.rest.now) c.args.fault c.args.ends c.args.hint c.in-Some.read.state
-    c.in-Some.read.count c.in-Some.ensures c.if-hint-fault.false far going
+returns-then-not-ends-2 g c =
+    decided-on g.G.Grammar.is_form g.G.Grammar.machine c.states_read_the_forms.ensures g.G.Listed.characters
+    (chars c.args.text.now) (chars c.in-Some.read.rest.now) c.args.fault c.args.ends c.args.hint
+    c.in-Some.read.state c.in-Some.read.count c.in-Some.ensures c.if-is_end.ensures c.if-not-ends-2.true
+    c.if-hint-fault.false c.goes_on.result (c.goes_on.ensures
+    ∙ ap (λ past. goes_on g.G.Listed.characters c.in-Some.read.count past
+    (chars c.in-Some.read.rest.now)) c.past.ensures)
+
+pub returns-else-not-ends-2 : goal.returns-else-not-ends-2
+returns-else-not-ends-2 g c =
+    rw c.if-not-ends-2.false
+    (no-form g.G.Grammar.is_form g.G.Grammar.machine c.states_read_the_forms.ensures g.G.Listed.characters
+    (chars c.args.text.now) (chars c.in-Some.read.rest.now) c.args.fault true c.args.hint
+    c.in-Some.read.state c.in-Some.read.count c.in-Some.ensures c.if-is_end.ensures refl)
