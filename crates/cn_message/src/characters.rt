@@ -46,11 +46,16 @@ fn name_of(c: char) -> Option<Name> {
     }
 }
 
-/// Writes a character of a text, by its name if it cannot be seen.
+/// Writes a character of a text in quotes, or its name if it cannot be seen.
 pub fn put_shown<S: Sink>(sink: &mut S, language: Language, shown: &str) -> Result<(), S::Error> {
     match shown.chars().next().and_then(|c| name_of(c)) {
         Some(name) => sink.put(name_text(name, language)),
-        None => sink.put(shown),
+        None => {
+            let (before, after) = quotes(language);
+            sink.put(before)?;
+            sink.put(shown)?;
+            sink.put(after)
+        }
     }
 }
 

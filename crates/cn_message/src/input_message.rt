@@ -4,7 +4,7 @@ use crate::message::Message;
 use crate::texts::Sentence;
 use crate::{Input, Language};
 use cn_capitals::{Expected, Hint, Repair};
-use cn_core::{digit_of, is_comma, is_figure, is_figure_point};
+use cn_core::{digit_of, is_comma, is_figure, is_figure_point, is_share_sign, unit_of};
 use cn_figures::{FiguresError, signed_yuan_to_fen};
 use cn_judge::count_chars;
 use cn_replace::Sink;
@@ -148,16 +148,23 @@ fn sign_advice(input: Input, text: &str, char_index: usize) -> Option<Sentence> 
     }
 }
 
+// Whether a character after figures multiplies or divides them, as in 15k, 15万 and 15%.
+fn is_multiple(there: &str) -> bool {
+    there.chars().any(|c| c.is_ascii_alphabetic() || is_share_sign(c) || unit_of(c).is_some())
+}
+
 // What a person should know about figures that are wrong at a place.
 fn figures_advice(text: &str, expected: &Expected, there: &str) -> Option<Sentence> {
     if are_grouped(text) && is_of_figures(there) {
         Some(Sentence::Commas)
     } else if has_both_decimals(expected) && there.chars().any(|c| is_figure(c)) {
         Some(Sentence::TwoDecimals)
-    } else if expected.may_end {
-        None
-    } else {
+    } else if !expected.may_end {
         Some(Sentence::Example)
+    } else if is_multiple(there) {
+        Some(Sentence::InFull)
+    } else {
+        None
     }
 }
 
@@ -195,10 +202,11 @@ fn put_expected<S: Sink>(
     expected: &Expected,
     there: &str,
 ) -> Result<(), S::Error> {
-    let is_wrong = !there.is_empty();
     let advice = advice(input, message.text, expected, there);
-    let (first, next) = if is_wrong {
+    let (first, next) = if !there.is_empty() {
         (Sentence::Wrong, Sentence::Expected)
+    } else if message.text.is_empty() {
+        (Sentence::Empty, Sentence::Begins)
     } else {
         (Sentence::Unfinished, Sentence::GoesOn)
     };
