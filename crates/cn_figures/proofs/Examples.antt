@@ -17,7 +17,7 @@ use Rattle.cn_capitals.proofs.Reading.{unfinished-read, place-refused}
 use Rattle.cn_core.specs.Figures.{figure_of}
 use Rattle.cn_figures.specs.declared.part.Part.TheVariants.{Digit}
 use Rattle.cn_figures.specs.declared.progress.Progress.{Progress}
-use Rattle.cn_figures.specs.declared.state.State.TheVariants.{Beginning, One, Two, Many, AfterComma, CommaThree, AfterPoint, Fen}
+use Rattle.cn_figures.specs.declared.state.State.TheVariants.{Beginning, One, Two, Three, Many, AfterComma, CommaThree, AfterPoint, Fen}
 use Rattle.cn_core.specs.Digits.{value_of}
 use Rattle.cn_figures.specs.Figures.{Triple, with_commas, digits_of, marked, pointed, fen_of, IsFigures, WriteAmount, WriteSignedAmount}
 use Rattle.cn_figures.specs.Parts.{part_of, parts_of}
@@ -179,8 +179,8 @@ zeros_follow =
 zero_for_o : IsRepair WriteAmount (codes "1O5") (record { char_index = 1; repair = Replace 48 })
 unfolding part_of figure_of
 zero_for_o =
-    repair-is WriteAmount figures_machine figures_read (codes "1O5") (codes "O5")
-    figures_machine.begin (at One (Some 100)) 1 false true _ refl (record {
+    repair-is WriteAmount figures_machine figures_read (take 26 CHARACTERS) (codes "1O5")
+    (codes "O5") figures_machine.begin (at One (Some 100)) 1 false true _ refl (record {
       front = codes "1";
       is = refl;
       counts = refl;
@@ -190,4 +190,6 @@ zero_for_o =
       has_place = omega arith;
       goes_on = figures_read.begins (codes "10") (at Two (Some 1000)) refl;
       form = λ e. absurd (cc);
+      moves = λ going less stops.
+          absurd (stops (figures_read.begins (codes "105") (at Three (Some 10500)) refl));
     })
