@@ -566,7 +566,7 @@ static void each_status_of_messages(void) {
     says_of_quantity("零分之一", CN_ANY, CN_ENGLISH, 46, CN_NO_ROOM, 47, "a room too small for a message on a quantity");
     says_of_quantity("\xff", CN_ANY, CN_ENGLISH, most, CN_NOT_UTF8, 0, "no UTF-8 for a quantity");
     says_of_quantity("零分之一", CN_DIGITS, CN_ENGLISH, most, CN_UNKNOWN, 0, "no method for a message");
-    says_of_status(CN_TOO_LARGE, simplified, 15, CN_DONE, 15, "数字太大。");
+    says_of_status(CN_TOO_LARGE, simplified, 15, CN_DONE, 15, "数值太大。");
     says_of_status(CN_DONE, simplified, 0, CN_DONE, 0, "");
     says_of_status(CN_TOO_LARGE, simplified, 14, CN_NO_ROOM, 15, "a room too small for the message of a status");
     says_of_status(CN_NOT_A_QUANTITY + 1, simplified, most, CN_UNKNOWN, 0, "an unknown status");

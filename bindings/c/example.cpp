@@ -205,11 +205,11 @@ void refused_texts() {
 
     const Language traditional = Language::traditional_chinese;
     expect("a message on a number", number_message<int>("", traditional).value_or("") == "缺少數字。");
-    expect("on one by a way", number_message<int>("二十", traditional, Way::digits).value_or("") == "第2個字「十」不是數字。");
+    expect("on one by a way", number_message<int>("二十", traditional, Way::digits).value_or("") == "第2個字「十」不是零到九的數字。");
     expect("on one in halves", number_message("一", CN_U128, traditional).value_or("none").empty());
     expect("on a quantity", quantity_message("零分之一", traditional).value_or("") == "分母必須是大於零的整數。");
     expect("on no UTF-8", is_refused(input_message("\xff", Input::date, traditional), Status::not_utf8));
-    expect("on a status", status_message(Status::too_large, traditional) == "數字太大。");
+    expect("on a status", status_message(Status::too_large, traditional) == "數值太大。");
     expect("on no refusal", status_message(Status::done, traditional).empty());
 }
 

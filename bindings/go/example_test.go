@@ -158,7 +158,7 @@ func ExampleStatusMessage() {
 	message, _ := cn.StatusMessage(cn.TooLarge, cn.SimplifiedChinese)
 	fmt.Println(message)
 	// Output:
-	// 数字太大。
+	// 数值太大。
 }
 
 func ExampleToBigInt() {

@@ -495,7 +495,7 @@ impl AmountForm {
 ///
 /// let error = amount_to_chinese(ChineseVariant::Simple, u64::MAX).unwrap_err();
 /// assert_eq!(error.to_string(), "number is too large");
-/// assert_eq!(error.message_in(Language::SimplifiedChinese), "数字太大。");
+/// assert_eq!(error.message_in(Language::SimplifiedChinese), "数值太大。");
 /// ```
 #[non_exhaustive]
 #[derive(Debug, Copy, Clone, Eq, PartialEq)]

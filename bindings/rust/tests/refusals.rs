@@ -204,7 +204,7 @@ fn messages_of_printing() {
     let too_large = AmountToChineseError::Overflow;
     assert_eq!(too_large.message_in(english), "The number is too large.");
     assert_eq!(NumberToChineseError::Overflow.message_in(english), too_large.message_in(english));
-    assert_eq!(AmountToChineseError::Underflow.message_in(simplified), "数字太小。");
+    assert_eq!(AmountToChineseError::Underflow.message_in(simplified), "数值太小。");
     let zero = QuantityToChineseError::ZeroDenominator.message_in(traditional);
     assert_eq!(zero, "分母必須是大於零的整數。");
     assert_eq!(DateToChineseError::NotADate.message_in(traditional), "沒有這個日期。");
