@@ -105,7 +105,7 @@ def main():
         calls = re.findall(r"^pub fn (\w+)", text, re.MULTILINE)
         of_modules.setdefault(crate, []).extend(f"{source.stem}::{name}" for name in calls)
         of_crates += [f"{crate}::{name}" for name in calls]
-    for crate in ("cn_read", "cn_print", "chinese_number"):
+    for crate in ("cn_calls", "chinese_number"):
         root = top / "crates" / crate / "src/lib.rt"
         compare(f"re-exported by {crate}", [*re_exported(root)], of_modules.get(crate, of_crates))
     for path in top.glob("crates/*/src/**/*.rt"):

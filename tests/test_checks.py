@@ -85,7 +85,7 @@ def plant(copy):
 
 # A call's contract and body that are wrong together, which no proof distinguishes from its
 # neighbour's: a source, the beginning of the block, and the replacements in it.
-READERS, PRINTERS = "cn_read/src/{}_readers.rt", "cn_print/src/free_{}.rt"
+READERS, PRINTERS = "cn_calls/src/{}_readers.rt", "cn_calls/src/free_{}.rt"
 SCRIPT = [("variant,", "ChineseVariant::Simple,"), ("variant ", "Simple ")]
 CASE = [(", case,", ", ChineseCase::Upper,"), (" case ", " Upper ")]
 WRONG_CALLS = [
@@ -104,13 +104,13 @@ WRONG_CALLS = [
 ]
 # A crate, the name that it re-exports, and another call under that name.
 WRONG_NAMES = [
-    ("cn_read", "from_chinese_to_u8,", "from_chinese_to_u16 as from_chinese_to_u8,"),
-    ("cn_print", "from_u16_to_chinese,", "from_u8_to_chinese as from_u16_to_chinese,"),
+    ("cn_calls", "from_chinese_to_u8,", "from_chinese_to_u16 as from_chinese_to_u8,"),
+    ("cn_calls", "from_u16_to_chinese,", "from_u8_to_chinese as from_u16_to_chinese,"),
     ("chinese_number", "from_i8_to_chinese;", "from_i16_to_chinese as from_i8_to_chinese;"),
 ]
 PAGE, BESIDE = "docs/PROMISES.md", "docs/PROMISES-BINDINGS.md"
 OF_C, OF_LIBRARY = "crates/cn_c/src/laws.rt", "crates/chinese_number/src/laws.rt"
-OF_GRAMMARS = "crates/cn_capitals/src/laws.rt"
+OF_GRAMMARS = "crates/cn_grammar/src/laws.rt"
 NEW_LAW = "\n/// Nothing.\npub fn nothing_holds()\n    ensures { ℕ }\n{}\n"
 # A file, a text in it and its replacement, and what is reported.
 WRONG_LAWS = [
@@ -143,7 +143,7 @@ WRONG_DIST = {
     "a source less": ("crates/cn_core/src/case.rt", None, OTHER_SOURCES),
     "a definition": ("crates/cn_judge/specs/Lib.antt", longer, OTHER_SOURCES),
     "a proof": ("crates/cn_c/proofs/ReadBack.antt", longer, OTHER_SOURCES),
-    "a library": ("crates.txt", replaced("cn_read: ", "cn_read: cn_spell "), OTHER_SOURCES),
+    "a library": ("crates.txt", replaced("cn_calls: ", "cn_calls: cn_quantity "), OTHER_SOURCES),
     "a script": ("bindings/source/chinese_number.c.in", longer, OTHER_SOURCES),
 }
 # What is right: the check, and a change.

@@ -125,7 +125,7 @@ def test_two_languages(page):
 
 def examples():
     """The questions and answers of the comments of the 96 calls."""
-    sources = [*TOP.glob("crates/cn_read/src/*.rt"), *TOP.glob("crates/cn_print/src/*.rt")]
+    sources = [*TOP.glob("crates/cn_calls/src/*.rt"), *TOP.glob("crates/cn_calls/src/*.rt")]
     for source in sorted(sources):
         for comment, name in CALL.findall(text_of(source)):
             integer, method = NAME.fullmatch(name).groups()

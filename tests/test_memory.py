@@ -51,7 +51,7 @@ def test_readers():
     """One module of tests names each public reader, and all its tests pass with their first memory
     request refused."""
     needs_rt()
-    crate = TOP / "crates/cn_vectors"
+    crate = TOP / "crates/call_tests"
     files = [crate / f"src/{MODULE}.rt", *crate.glob(f"src/{MODULE}/*.rt")]
     source = "".join(file.read_text(encoding="utf-8") for file in files)
     public = (TOP / "crates/chinese_number/src/lib.rt").read_text(encoding="utf-8")

@@ -4,11 +4,11 @@ use Rattle.std.specs.List.{list_all}
 use Rattle.std.specs.Char.{char_set_contains, is_whitespace}
 use Rattle.std.specs.Option.{option_map}
 use Rattle.std.proofs.lemmas.Bool.{or_right}
-use Rattle.cn_capitals.specs.Expected.{IsListed}
-use Rattle.cn_capitals.proofs.Lists.{classes-listed, sifted-listed}
-use Rattle.cn_capitals.proofs.LookUp.{none-in, none-with}
-use Rattle.cn_capitals.proofs.Signs.{left-out}
-use Rattle.cn_capitals.specs.declared.sign.Front.TheVariants.{Open}
+use Rattle.cn_grammar.specs.Expected.{IsListed}
+use Rattle.cn_grammar.proofs.Lists.{classes-listed, sifted-listed}
+use Rattle.cn_grammar.proofs.LookUp.{none-in, none-with}
+use Rattle.cn_grammar.proofs.Signs.{left-out}
+use Rattle.cn_grammar.specs.declared.sign.Front.TheVariants.{Open}
 use Rattle.cn_core.specs.Whole.{signed_number}
 use Rattle.cn_amount.specs.declared.capital.Capital.{Capital}
 use Rattle.cn_amount.specs.declared.listed.TheConstants.{CHARACTERS}

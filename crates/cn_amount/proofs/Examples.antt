@@ -3,9 +3,9 @@
 use Rattle.std.proofs.Common.{◌≡◌, ℕ, ◌-◌, ◌^◌, pos, negsuc, ℤ, Bool, true, false, List, ◌∷◌, map, Some, None, length, encode_utf8_all, refl, sym, ◌∙◌, codes}
 use Rattle.std.specs.Char.{encode_utf8}
 use Rattle.std.specs.List.{Contains}
-use Rattle.cn_capitals.specs.Machine as machine
-use Rattle.cn_capitals.specs.Repairs.{repaired, past}
-use Rattle.cn_capitals.specs.declared.hint.Repair.TheVariants.{Insert, Replace, Delete}
+use Rattle.cn_grammar.specs.Machine as machine
+use Rattle.cn_grammar.specs.Repairs.{repaired, past}
+use Rattle.cn_grammar.specs.declared.hint.Repair.TheVariants.{Insert, Replace, Delete}
 use Rattle.cn_core.specs.declared.script.ChineseVariant.TheVariants.{Traditional, Simple}
 use Rattle.cn_core.specs.Characters.{digit_char, minus_char, unit_char}
 use Rattle.cn_core.specs.Whole.{signed_number}

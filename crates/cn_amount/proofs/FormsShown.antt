@@ -21,15 +21,15 @@ use Rattle.cn_amount.specs.Form.{Choices, written_as, is_empty, is_written, are_
 use Rattle.cn_amount.specs.Places.{AreDigits, ArePlaces, section_of, section_value, places_of, amount_value, amount_limit}
 use Rattle.cn_amount.specs.Reading.{capital_of, IsAmount, ReadsAmount}
 use Rattle.cn_amount.proofs.Lengths.{length-form}
-use Rattle.cn_buffer.specs.declared.buffer.Buffer.{Buffer}
-use Rattle.cn_buffer.specs.Buffers.{IsTextOf}
-use Rattle.cn_buffer.specs.Strings.{IsStringOf}
-use Rattle.cn_capitals.proofs.Puts.{puts-all}
+use Rattle.cn_core.specs.declared.buffer.Buffer.{Buffer}
+use Rattle.cn_core.specs.Buffers.{IsTextOf}
+use Rattle.cn_core.specs.Strings.{IsStringOf}
+use Rattle.cn_grammar.proofs.Puts.{puts-all}
 use Rattle.cn_amount.specs.Working.Putting.{HasPut}
 use Rattle.cn_amount.specs.Writes.{capital_char, amount_text, IsText}
 use Rattle.cn_amount.proofs.States.{is_proper}
 use Rattle.cn_amount.proofs.Shows.{capital-back, capitals-read, capitals-scalar}
-use Rattle.cn_capitals.proofs.Characters as every
+use Rattle.cn_grammar.proofs.Characters as every
 
 both-shown : (front back : List Capital) → list_all is_proper front ≡ true
     → list_all is_proper back ≡ true → list_all is_proper (front ++ back) ≡ true

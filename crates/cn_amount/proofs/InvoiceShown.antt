@@ -7,10 +7,10 @@ use Rattle.std.specs.declared.string.String.{String}
 use Rattle.std.proofs.Math.Utf8.{scalar}
 use Rattle.std.proofs.lemmas.List.Folds.{list_all-append}
 use Rattle.std.proofs.lemmas.Str.{chars-encodes, encodes-append}
-use Rattle.cn_buffer.specs.declared.buffer.Buffer.{Buffer}
-use Rattle.cn_buffer.specs.Buffers.{IsTextOf}
-use Rattle.cn_buffer.specs.Strings.{IsStringOf}
-use Rattle.cn_capitals.proofs.Puts.{puts-all}
+use Rattle.cn_core.specs.declared.buffer.Buffer.{Buffer}
+use Rattle.cn_core.specs.Buffers.{IsTextOf}
+use Rattle.cn_core.specs.Strings.{IsStringOf}
+use Rattle.cn_grammar.proofs.Puts.{puts-all}
 use Rattle.cn_core.specs.Characters.{minus_char}
 use Rattle.cn_core.specs.declared.script.ChineseVariant.{ChineseVariant}
 use Rattle.cn_core.specs.declared.script.ChineseVariant.TheVariants.{Traditional, Simple}

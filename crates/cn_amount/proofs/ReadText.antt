@@ -5,10 +5,10 @@ use Rattle.std.proofs.lemmas.List.{map-append}
 use Rattle.std.proofs.lemmas.List.Folds.{list_all-append}
 use Rattle.cn_core.specs.declared.script.ChineseVariant.TheVariants.{Simple}
 use Rattle.cn_core.proofs.Fronts.{both}
-use Rattle.cn_capitals.specs.Answers.{Begins}
-use Rattle.cn_capitals.specs.Machine.{Leads, Reached, Reads, step_as}
-use Rattle.cn_capitals.specs.Machine as machine
-use Rattle.cn_capitals.proofs.Runs.{some-is, ran, run-more, run-map, kept}
+use Rattle.cn_grammar.specs.Answers.{Begins}
+use Rattle.cn_grammar.specs.Machine.{Leads, Reached, Reads, step_as}
+use Rattle.cn_grammar.specs.Machine as machine
+use Rattle.cn_grammar.proofs.Runs.{some-is, ran, run-more, run-map, kept}
 use Rattle.cn_amount.specs.declared.capital.Capital.{Capital}
 use Rattle.cn_amount.specs.declared.progress.Progress.{Progress}
 use Rattle.cn_amount.specs.declared.state.State.{State}

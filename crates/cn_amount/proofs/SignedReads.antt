@@ -1,11 +1,11 @@
 -- The states after a minus sign, or without one, read the amounts that may be below zero.
 use Rattle.std.proofs.Common.{◌≡◌, ℕ, ◌<◌, ℤ, List, [], ◌∷◌, Some, refl, sym, ap, subst, ◌∙◌, arith}
-use Rattle.cn_capitals.specs.Machine.{Reached, Reads}
-use Rattle.cn_capitals.specs.Sieve.{kept, after}
-use Rattle.cn_capitals.proofs.Sieves.{IsSifted, IsKeptForm, sifted-leads, sifted-reads, reads-same}
-use Rattle.cn_capitals.specs.Sign.{is_below}
-use Rattle.cn_capitals.specs.declared.sign.Front.TheVariants.{Open}
-use Rattle.cn_capitals.proofs.Signs as signs
+use Rattle.cn_grammar.specs.Machine.{Reached, Reads}
+use Rattle.cn_grammar.specs.Sieve.{kept, after}
+use Rattle.cn_grammar.proofs.Sieves.{IsSifted, IsKeptForm, sifted-leads, sifted-reads, reads-same}
+use Rattle.cn_grammar.specs.Sign.{is_below}
+use Rattle.cn_grammar.specs.declared.sign.Front.TheVariants.{Open}
+use Rattle.cn_grammar.proofs.Signs as signs
 use Rattle.cn_core.specs.Whole.{signed_number}
 use Rattle.cn_amount.specs.declared.progress.Progress.{Progress}
 use Rattle.cn_amount.specs.declared.signed.SignedProgress.{SignedProgress}

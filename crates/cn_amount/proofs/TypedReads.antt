@@ -6,25 +6,25 @@ use Rattle.std.specs.Option.{option_map}
 use Rattle.std.proofs.lemmas.List.Elements.{All-contains}
 use Rattle.std.proofs.lemmas.List.Folds.{list_all-append}
 use Rattle.std.proofs.lemmas.List.Sums.{AllPass-from_list_all}
-use Rattle.cn_capitals.specs.Answers.{Begins}
-use Rattle.cn_capitals.specs.Machine.{run, Leads, Reached, Reads}
-use Rattle.cn_capitals.specs.Sieve.{kept, after}
-use Rattle.cn_capitals.proofs.Runs as runs
-use Rattle.cn_capitals.proofs.Runs.{some-is, run-more}
-use Rattle.cn_capitals.proofs.Sieves.{IsSifted, IsKeptForm, CanStandBehind, sifted-leads, sifted-reads, reads-same}
+use Rattle.cn_grammar.specs.Answers.{Begins}
+use Rattle.cn_grammar.specs.Machine.{run, Leads, Reached, Reads}
+use Rattle.cn_grammar.specs.Sieve.{kept, after}
+use Rattle.cn_grammar.proofs.Runs as runs
+use Rattle.cn_grammar.proofs.Runs.{some-is, run-more}
+use Rattle.cn_grammar.proofs.Sieves.{IsSifted, IsKeptForm, CanStandBehind, sifted-leads, sifted-reads, reads-same}
 use Rattle.cn_core.proofs.Fronts.{and-left, and-right, both as both-true}
 use Rattle.cn_core.specs.Whole.{signed_number}
 use Rattle.cn_amount.specs.declared.prefix.Point.{Point}
 use Rattle.cn_amount.specs.declared.prefix.Point.TheVariants.{Amount}
 use Rattle.cn_amount.specs.declared.prefix.Prefix.{Prefix}
 use Rattle.cn_amount.specs.declared.progress.Progress.{Progress}
-use Rattle.cn_capitals.specs.declared.sign.Front.{Front}
+use Rattle.cn_grammar.specs.declared.sign.Front.{Front}
 use Rattle.cn_amount.specs.declared.typed.TypedProgress.{TypedProgress}
 use Rattle.cn_amount.specs.declared.typed.TypedSignedProgress.{TypedSignedProgress}
 use Rattle.cn_amount.specs.declared.typed.Typing.{Typing}
 use Rattle.cn_amount.specs.Reading.{capital_of, IsAmount}
 use Rattle.cn_amount.specs.Typed.{circles, signs, currencies, IsPrefixed, visible, IsTypedAmount, IsTypedSignedAmount}
-use Rattle.cn_capitals.specs.Sign.{is_below}
+use Rattle.cn_grammar.specs.Sign.{is_below}
 use Rattle.cn_amount.specs.Working.Signs.{signed_value}
 use Rattle.cn_amount.specs.Working.Steps.{bare_progress, amount_machine}
 use Rattle.cn_amount.specs.Working.Typing.{at, first, next, is_over, both, begin, amount_step, step, end, visible_sieve, typed, typed_machine, signed, typed_signed_machine}

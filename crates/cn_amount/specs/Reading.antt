@@ -1,9 +1,9 @@
 -- What is read as an amount, and what the answer to a text is.
 use Rattle.std.specs.Prelude.{◌≡◌, ℕ, List, [], ◌∷◌, map, Option, Some, Result, codes, chars}
-pub use Rattle.cn_capitals.specs.declared.refusal.Refusal.{Refusal as AmountRefusal}
-pub use Rattle.cn_capitals.specs.declared.refusal.Refusal.TheVariants.{Unfinished as unfinished, Incorrect as incorrect_at}
-use Rattle.cn_capitals.specs.Answers.{Answers}
-use Rattle.cn_capitals.specs.Characters.{first_with}
+pub use Rattle.cn_grammar.specs.declared.refusal.Refusal.{Refusal as AmountRefusal}
+pub use Rattle.cn_grammar.specs.declared.refusal.Refusal.TheVariants.{Unfinished as unfinished, Incorrect as incorrect_at}
+use Rattle.cn_grammar.specs.Answers.{Answers}
+use Rattle.cn_grammar.specs.Characters.{first_with}
 use Rattle.cn_amount.specs.declared.capital.Capital.{Capital}
 use Rattle.cn_amount.specs.declared.capital.Capital.TheVariants.{Ling, Digit, Shi, Bai, Qian, Wan, Yi, Yuan, Jiao, Fen, Zheng, Ren, Min, Bi}
 use Rattle.cn_amount.specs.declared.places.Places.{Places}

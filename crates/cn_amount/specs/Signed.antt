@@ -1,7 +1,7 @@
 -- Amounts that may be below zero, such as those of red invoices. No rule of the banks has them.
 use Rattle.std.specs.Prelude.{◌≡◌, ℕ, ◌*◌, ◌<◌, ◌≤◌, ℤ, pos, int_lt, nat_abs, List, [], ◌∷◌, ◌++◌, length, codes, chars, Result, MatchResult, encode_utf8_all, string_bytes, string_len, string_capacity, if◌then◌else◌}
 use Rattle.std.specs.declared.string.String.{String}
-use Rattle.cn_capitals.specs.Answers.{Answers}
+use Rattle.cn_grammar.specs.Answers.{Answers}
 use Rattle.cn_core.specs.Characters.{minus_char}
 use Rattle.cn_core.specs.Whole.{signed_number}
 use Rattle.cn_core.specs.declared.script.ChineseVariant.{ChineseVariant}

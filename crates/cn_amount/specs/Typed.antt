@@ -3,7 +3,7 @@
 use Rattle.std.specs.Prelude.{◌≡◌, ℕ, ℤ, Bool, true, false, List, [], ◌∷◌, ◌++◌, map, filter, codes, chars, Result}
 use Rattle.std.specs.Char.{is_not_whitespace}
 use Rattle.std.specs.List.{Contains, flat_map}
-use Rattle.cn_capitals.specs.Answers.{Answers}
+use Rattle.cn_grammar.specs.Answers.{Answers}
 use Rattle.cn_core.specs.Whole.{signed_number}
 use Rattle.cn_amount.specs.Reading.{AmountRefusal, IsAmount}
 

@@ -15,9 +15,8 @@ use crate::read::told;
 use crate::typed::TypedSignedProgress;
 use crate::write::AMOUNT_LIMIT;
 use crate::{AmountToChineseError, ChineseToAmountError};
-use cn_buffer::{Buffer, string_of};
-use cn_capitals::{put_capital, read};
-use cn_core::ChineseVariant;
+use cn_core::{Buffer, ChineseVariant, string_of};
+use cn_grammar::{put_capital, read_form};
 use std::alloc::Global;
 
 /// The most bytes of an amount with its sign: three for each of 43 characters.
@@ -48,7 +47,7 @@ pub const MOST_INVOICE_BYTES: usize = 129;
 pub fn chinese_to_signed_amount_as_typed(text: &str) -> Result<i64, ChineseToAmountError>
     ensures { ReadsTypedSignedAmount text.now (answer_of result) }
 {
-    told(read::<TypedSignedProgress>(text))
+    told(read_form::<TypedSignedProgress>(text))
 }
 
 // Writes 负, or in brackets （负数）.

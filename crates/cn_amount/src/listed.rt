@@ -5,7 +5,7 @@ ghost use Rattle.cn_amount.specs.declared.listed.TheConstants.{CHARACTERS};
 use crate::progress::Progress;
 use crate::signed::SignedProgress;
 use crate::typed::{TypedProgress, TypedSignedProgress};
-use cn_capitals::Listed;
+use cn_grammar::Listed;
 
 // The characters of amounts, of which the last 15 are the minus sign of each script, what a typed
 // amount has besides, and what its sign has besides.

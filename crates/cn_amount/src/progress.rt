@@ -6,7 +6,7 @@ ghost use Rattle.cn_amount.specs.Working.Steps.{bare_progress, amount_machine};
 use crate::capital::capital_of;
 use crate::state::State;
 use crate::sum::Sum;
-use cn_capitals::Grammar;
+use cn_grammar::Grammar;
 
 /// The state of reading an amount, and the sum so far.
 #[derive(Clone, Copy)]

@@ -11,8 +11,8 @@ use crate::before::Before;
 use crate::capital::Capital;
 use crate::form::Hand;
 use crate::places::{Places, Section};
-use cn_buffer::Buffer;
-use cn_capitals::put_capital;
+use cn_core::Buffer;
+use cn_grammar::put_capital;
 
 // Writes a digit of a place that has no unit of its own.
 fn put_digit(text: &mut Buffer, hand: Hand, before: Before, digit: u8)

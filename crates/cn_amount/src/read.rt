@@ -9,7 +9,7 @@ use crate::ChineseToAmountError;
 use crate::progress::Progress;
 use crate::signed::SignedProgress;
 use crate::typed::TypedProgress;
-use cn_capitals::{Refusal, read};
+use cn_grammar::{Refusal, read_form};
 
 /// The same answer, with the error type of amounts.
 pub fn told<A>(answer: Result<A, Refusal>) -> Result<A, ChineseToAmountError>
@@ -44,7 +44,7 @@ pub fn chinese_to_amount(text: &str) -> Result<u64, ChineseToAmountError>
     if text.is_empty() {
         return Err(ChineseToAmountError::Unfinished);
     }
-    told(read::<Progress>(text))
+    told(read_form::<Progress>(text))
 }
 
 /// The amount, in fen, for which a text in capitals stands. After 负 (負), as on red invoices, the
@@ -63,7 +63,7 @@ pub fn chinese_to_amount(text: &str) -> Result<u64, ChineseToAmountError>
 pub fn chinese_to_signed_amount(text: &str) -> Result<i64, ChineseToAmountError>
     ensures { ReadsSignedAmount text.now (answer_of result) }
 {
-    told(read::<SignedProgress>(text))
+    told(read_form::<SignedProgress>(text))
 }
 
 /// The amount, in fen, for which a text in capitals stands as people type or copy it. White space is
@@ -84,5 +84,5 @@ pub fn chinese_to_signed_amount(text: &str) -> Result<i64, ChineseToAmountError>
 pub fn chinese_to_amount_as_typed(text: &str) -> Result<u64, ChineseToAmountError>
     ensures { ReadsTypedAmount text.now (answer_of result) }
 {
-    told(read::<TypedProgress>(text))
+    told(read_form::<TypedProgress>(text))
 }

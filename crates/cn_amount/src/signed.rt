@@ -7,7 +7,7 @@ ghost use Rattle.cn_amount.specs.Signed.{IsSignedAmount, minus_signs};
 ghost use Rattle.cn_amount.specs.Working.Signs.{signed_machine};
 
 use crate::progress::Progress;
-use cn_capitals::{Front, Grammar};
+use cn_grammar::{Front, Grammar};
 
 // Whether a character is a minus sign.
 fn is_minus(character: char) -> bool

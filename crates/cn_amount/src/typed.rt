@@ -1,6 +1,6 @@
 // The states of reading an amount as people type it, with or without a sign.
 ghost use Rattle.std.specs.Prelude.{◌≡◌};
-ghost use Rattle.cn_capitals.specs.Machine.{Reached};
+ghost use Rattle.cn_grammar.specs.Machine.{Reached};
 ghost use Rattle.cn_amount.specs.Typed.{IsTypedAmount, IsTypedSignedAmount};
 ghost use Rattle.cn_amount.specs.Working.Steps.{amount_machine};
 ghost use Rattle.cn_amount.specs.Working.Typing.{begin, amount_step, step, typed_machine, typed_signed_machine};
@@ -8,7 +8,7 @@ ghost use Rattle.cn_amount.specs.Working.Typing.{begin, amount_step, step, typed
 use crate::prefix::{Point, Prefix};
 use crate::progress::Progress;
 use crate::signed::signed_fen;
-use cn_capitals::{Front, Grammar};
+use cn_grammar::{Front, Grammar};
 
 /// What has been read before the amount, and the state of reading the amount.
 #[derive(Clone, Copy)]

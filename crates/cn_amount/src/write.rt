@@ -8,8 +8,7 @@ use crate::AmountToChineseError;
 use crate::form::{AmountForm, Hand};
 use crate::places::Places;
 use crate::put::{put_amount, put_sign};
-use cn_buffer::{Buffer, string_of};
-use cn_core::ChineseVariant;
+use cn_core::{Buffer, ChineseVariant, string_of};
 use std::alloc::Global;
 
 /// The first amount that is not written: 10^16 yuan, in fen.

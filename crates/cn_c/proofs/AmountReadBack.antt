@@ -10,7 +10,7 @@ use Rattle.cn_amount.specs.Working.Steps.{amount_machine}
 use Rattle.cn_amount.specs.Writes.{amount_text}
 use Rattle.cn_amount.proofs.FormsShown.{written-read, written-utf8}
 use Rattle.cn_amount.proofs.ReadText.{amount_reads}
-use Rattle.cn_capitals.proofs.OneAnswer as every
+use Rattle.cn_grammar.proofs.OneAnswer as every
 use Rattle.cn_c.specs.declared.amount.Amount.{Amount}
 use Rattle.cn_c.specs.Amounts.{no_amount, TellsAmount, IsAmountRead, IsAmountPrintedAs}
 use Rattle.cn_c.specs.Codes.{CN_DONE}

@@ -8,7 +8,7 @@ use Rattle.cn_date.specs.Reading.{DateRefusal, IsDateText, ReadsDate}
 use Rattle.cn_date.specs.Working.Steps.{date_machine}
 use Rattle.cn_date.specs.Writes.{date_text}
 use Rattle.cn_date.proofs.ReadText.{date_reads}
-use Rattle.cn_capitals.proofs.OneAnswer as every
+use Rattle.cn_grammar.proofs.OneAnswer as every
 use Rattle.cn_date.proofs.Written.{written-read, written-utf8}
 use Rattle.cn_c.specs.declared.date.Date.{Date}
 use Rattle.cn_c.specs.Dates.{date_told, no_date, TellsDate, IsDateRead, IsDatePrintedAs}

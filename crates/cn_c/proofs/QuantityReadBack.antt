@@ -10,12 +10,12 @@ use Rattle.cn_core.specs.declared.method.ChineseCountMethod.TheVariants.{TenThou
 use Rattle.cn_core.specs.declared.script.ChineseVariant.{ChineseVariant}
 use Rattle.cn_core.specs.declared.script.ChineseVariant.TheVariants.{Traditional, Simple}
 use Rattle.cn_core.specs.Whole.{holds, signed_kind}
-use Rattle.cn_express.specs.Numerals.{greatest_spelled, is_written_by, spelled_numbers}
-use Rattle.cn_express.specs.ReadBack.{form_read_back}
-use Rattle.cn_express.specs.Writes.{numeral_bytes}
-use Rattle.cn_express.proofs.NumeralsRead.{each-below, middle-read, numerals-read, numerals-text}
-use Rattle.cn_faces.specs.declared.Way.TheVariants.{Digits, Units}
-use Rattle.cn_faces.specs.Either.{written_method}
+use Rattle.cn_quantity_text.specs.Numerals.{greatest_spelled, is_written_by, spelled_numbers}
+use Rattle.cn_quantity_text.specs.ReadBack.{form_read_back}
+use Rattle.cn_quantity_text.specs.Writes.{numeral_bytes}
+use Rattle.cn_quantity_text.proofs.NumeralsRead.{each-below, middle-read, numerals-read, numerals-text}
+use Rattle.cn_dynamic.specs.declared.Way.TheVariants.{Digits, Units}
+use Rattle.cn_dynamic.specs.Either.{written_method}
 use Rattle.cn_quantity.specs.declared.quantity.Quantity.{Quantity as ExactQuantity}
 use Rattle.cn_quantity.specs.declared.quantity.QuantityForm.{QuantityForm}
 use Rattle.cn_quantity.specs.Reading.{quantity_answer}

@@ -20,7 +20,7 @@ use Rattle.cn_amount.proofs.InvoiceShown.{written-invoice}
 use Rattle.cn_amount.proofs.SignedReads.{signed_reads}
 use Rattle.cn_amount.proofs.SignedShown.{written-signed}
 use Rattle.cn_amount.proofs.TypedReads.{typed_signed_reads}
-use Rattle.cn_capitals.proofs.OneAnswer as every
+use Rattle.cn_grammar.proofs.OneAnswer as every
 use Rattle.cn_c.specs.declared.signed_amount.SignedAmount.{SignedAmount}
 use Rattle.cn_c.specs.Codes.{form_of, has_flag, CN_BRACKETED_SIGN, CN_DONE, CN_TOO_LARGE, CN_TOO_SMALL}
 use Rattle.cn_c.specs.Prints.{PutsNothing, PutsIfItFits}

@@ -4,11 +4,11 @@ use Rattle.std.specs.Bool.{MatchBool}
 use Rattle.chinese_number.specs.declared.ChineseCase.{ChineseCase}
 use Rattle.chinese_number.specs.declared.ChineseCountMethod.{ChineseCountMethod}
 use Rattle.chinese_number.specs.declared.ChineseVariant.{ChineseVariant}
-use Rattle.cn_express.specs.Figures.{figures_text}
-use Rattle.cn_express.specs.Numerals.{greatest_spelled, is_written_by}
-use Rattle.cn_express.specs.Writes.{numeral_bytes}
-use Rattle.cn_faces.specs.declared.Way.TheVariants.{Units}
-use Rattle.cn_faces.specs.Either.{written_method}
+use Rattle.cn_quantity_text.specs.Figures.{figures_text}
+use Rattle.cn_quantity_text.specs.Numerals.{greatest_spelled, is_written_by}
+use Rattle.cn_quantity_text.specs.Writes.{numeral_bytes}
+use Rattle.cn_dynamic.specs.declared.Way.TheVariants.{Units}
+use Rattle.cn_dynamic.specs.Either.{written_method}
 use Rattle.cn_quantity.specs.declared.quantity.Quantity.{Quantity as ExactQuantity}
 use Rattle.cn_c.specs.declared.codes.NamedWay.{NamedWay}
 use Rattle.cn_c.specs.declared.codes.NamedWay.TheVariants.{By, Either}

@@ -14,7 +14,7 @@ use chinese_number::{
     AMOUNT_LIMIT, AmountForm, ChineseToAmountError, ChineseVariant, chinese_to_amount,
 };
 use cn_amount::{MOST_AMOUNT_BYTES, amount_text};
-use cn_faces::utf8_text;
+use cn_dynamic::utf8_text;
 use cn_judge::byte_index;
 
 /// The result of reading an amount: the amount in fen; or, if a character is at fault, how many

@@ -9,7 +9,7 @@ use crate::room::put_text;
 use crate::status::{DONE, INCORRECT, NOT_A_DATE, NOT_UTF8, UNFINISHED, UNKNOWN};
 use chinese_number::{BillDate, ChineseToDateError, chinese_to_date};
 use cn_date::{MOST_DATE_BYTES, date_text};
-use cn_faces::utf8_text;
+use cn_dynamic::utf8_text;
 use cn_judge::byte_index;
 
 /// The result of reading a date: the date; or, if a character is at fault, how many characters and

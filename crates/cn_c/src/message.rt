@@ -10,8 +10,8 @@ use crate::status::{
     DONE, EMPTY, INCORRECT, NO_ROOM, NONE, NOT_A_DATE, NOT_A_QUANTITY, NOT_HELD, NOT_UTF8,
     TOO_LARGE, TOO_SMALL, UNFINISHED, UNKNOWN,
 };
-use cn_buffer::Buffer;
-use cn_faces::utf8_text;
+use cn_core::Buffer;
+use cn_dynamic::utf8_text;
 use cn_message::{
     Sentence, put_input_message, put_number_message, put_quantity_message, put_status_message,
 };

@@ -10,7 +10,7 @@ use crate::room::put_text;
 use crate::status::{DONE, INCORRECT, NOT_UTF8, TOO_LARGE, TOO_SMALL, UNFINISHED, UNKNOWN};
 use chinese_number::{AMOUNT_LIMIT, ChineseToAmountError, chinese_to_signed_amount};
 use cn_amount::{MOST_INVOICE_BYTES, invoice_amount_text};
-use cn_faces::utf8_text;
+use cn_dynamic::utf8_text;
 use cn_figures::{FiguresError, signed_yuan_to_fen};
 use cn_judge::byte_index;
 

@@ -5,7 +5,7 @@
 pub mod case;
 mod characters_read;
 mod characters_written;
-mod figures;
+mod figure_characters;
 pub mod method;
 mod scales;
 pub mod script;
@@ -19,7 +19,7 @@ pub use characters_read::{digit_of, sign_of, unit_of};
 pub use characters_written::{
     PrintedCharacters, digit_char, minus_char, printed_characters, unit_char,
 };
-pub use figures::{
+pub use figure_characters::{
     figure_of, is_comma, is_currency, is_figure, is_figure_minus, is_figure_plus, is_figure_point,
     is_per_mille, is_percent, is_share_sign, is_wide_figure, tens_of,
 };

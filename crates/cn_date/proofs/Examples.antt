@@ -1,11 +1,11 @@
 -- Worked examples: the values that the definitions compute. The month and the day of the marked
 -- ones are from the rules of the banks.
 use Rattle.std.proofs.Common.{◌≡◌, ℕ, true, List, ◌∷◌, ◌++◌, length, map, Some, None, Err, codes, refl, ◌∙◌, arith}
-use Rattle.cn_capitals.specs.Machine.{Leads}
-use Rattle.cn_capitals.specs.Machine as machine
-use Rattle.cn_capitals.specs.Answers.{Answers}
-use Rattle.cn_capitals.proofs.Reading.{unfinished-read, place-refused}
-use Rattle.cn_capitals.proofs.Runs.{run-map}
+use Rattle.cn_grammar.specs.Machine.{Leads}
+use Rattle.cn_grammar.specs.Machine as machine
+use Rattle.cn_grammar.specs.Answers.{Answers}
+use Rattle.cn_grammar.proofs.Reading.{unfinished-read, place-refused}
+use Rattle.cn_grammar.proofs.Runs.{run-map}
 use Rattle.cn_core.specs.Characters.{digit_char, unit_char}
 use Rattle.cn_core.specs.declared.script.ChineseVariant.TheVariants.{Traditional, Simple}
 use Rattle.cn_date.specs.declared.date.BillDate.{BillDate}

@@ -18,13 +18,13 @@ use Rattle.cn_date.specs.Form.{figures, year_text, month_text, day_text, date_fo
 use Rattle.cn_date.specs.Reading.{capital_of, IsDateText, ReadsDate}
 use Rattle.cn_date.specs.Writes.{capital_char, date_text, IsText}
 use Rattle.cn_date.specs.Working.Putting.{HasPut}
-use Rattle.cn_buffer.specs.declared.buffer.Buffer.{Buffer}
-use Rattle.cn_buffer.specs.Buffers.{IsTextOf}
-use Rattle.cn_buffer.specs.Strings.{IsStringOf}
-use Rattle.cn_capitals.proofs.Puts.{puts-all}
+use Rattle.cn_core.specs.declared.buffer.Buffer.{Buffer}
+use Rattle.cn_core.specs.Buffers.{IsTextOf}
+use Rattle.cn_core.specs.Strings.{IsStringOf}
+use Rattle.cn_grammar.proofs.Puts.{puts-all}
 use Rattle.cn_date.proofs.FormsRead.{days-bounds}
-use Rattle.cn_capitals.proofs.Characters.{each_below-at}
-use Rattle.cn_capitals.proofs.Characters as every
+use Rattle.cn_grammar.proofs.Characters.{each_below-at}
+use Rattle.cn_grammar.proofs.Characters as every
 use Rattle.cn_date.proofs.Shows.{is_proper, capital-back, capitals-read, capitals-scalar}
 
 shown-both : (front back : List Capital) → list_all is_proper front ≡ true

@@ -1,9 +1,9 @@
 -- What is read as a date, and what the answer to a text is.
 use Rattle.std.specs.Prelude.{◌≡◌, ℕ, Bool, List, [], ◌∷◌, map, Option, Some, Result, codes, chars}
-pub use Rattle.cn_capitals.specs.declared.refusal.Refusal.{Refusal as DateRefusal}
-pub use Rattle.cn_capitals.specs.declared.refusal.Refusal.TheVariants.{Unfinished as unfinished, Incorrect as incorrect_at}
-use Rattle.cn_capitals.specs.Answers.{Answers}
-use Rattle.cn_capitals.specs.Characters.{first_with}
+pub use Rattle.cn_grammar.specs.declared.refusal.Refusal.{Refusal as DateRefusal}
+pub use Rattle.cn_grammar.specs.declared.refusal.Refusal.TheVariants.{Unfinished as unfinished, Incorrect as incorrect_at}
+use Rattle.cn_grammar.specs.Answers.{Answers}
+use Rattle.cn_grammar.specs.Characters.{first_with}
 use Rattle.cn_date.specs.declared.capital.Capital.{Capital}
 use Rattle.cn_date.specs.declared.capital.Capital.TheVariants.{Digit, Shi, Nian, Yue, Ri}
 use Rattle.cn_date.specs.declared.date.BillDate.{BillDate}

@@ -3,7 +3,7 @@ ghost use Rattle.std.specs.Prelude.{false};
 ghost use Rattle.cn_date.specs.declared.listed.TheConstants.{CHARACTERS};
 
 use crate::state::State;
-use cn_capitals::Listed;
+use cn_grammar::Listed;
 
 // The characters of dates.
 static CHARACTERS: [char; 18] = [

@@ -7,9 +7,8 @@ ghost use Rattle.cn_date.specs.Working.Putting.{PutsMore};
 
 use crate::capital::Capital;
 use crate::date::BillDate;
-use cn_buffer::Buffer;
-use cn_capitals::put_capital;
-use cn_core::ChineseVariant;
+use cn_core::{Buffer, ChineseVariant};
+use cn_grammar::put_capital;
 
 // Writes the figures of a year.
 #[tactic(auto, using(crate::proofs::Years::year_snoc))]

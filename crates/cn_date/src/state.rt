@@ -7,7 +7,7 @@ ghost use Rattle.cn_date.specs.Working.Steps.{IsPart, HasPart, year_step, month_
 use crate::capital::{Capital, capital_of};
 use crate::date::{BillDate, days_of};
 use crate::part::Part;
-use cn_capitals::Grammar;
+use cn_grammar::Grammar;
 
 /// What has been read.
 #[derive(Clone, Copy)]

@@ -6,8 +6,7 @@ ghost use Rattle.cn_date.specs.Writes.{WritesDate, date_text};
 use crate::DateToChineseError;
 use crate::date::BillDate;
 use crate::put::put_date;
-use cn_buffer::{Buffer, string_of};
-use cn_core::ChineseVariant;
+use cn_core::{Buffer, ChineseVariant, string_of};
 use std::alloc::Global;
 
 /// The most bytes of a date: three for each of 13 characters.

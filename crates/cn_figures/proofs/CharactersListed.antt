@@ -4,12 +4,12 @@ use Rattle.std.specs.List.{list_all, position_or_len}
 use Rattle.cn_core.proofs.Fronts.{and-left, and-right}
 use Rattle.cn_figures.specs.declared.part.Part.TheVariants.{Digit}
 use Rattle.std.specs.Char.{char_set_contains}
-use Rattle.cn_capitals.specs.Expected.{IsListed}
-use Rattle.cn_capitals.specs.declared.sign.Front.TheVariants.{Open}
-use Rattle.cn_capitals.proofs.Lists.{classes-listed, sifted-listed}
-use Rattle.cn_capitals.proofs.LookUp.{none-in}
-use Rattle.cn_capitals.proofs.Signs.{left-out}
-use Rattle.cn_core.specs.Figures.{figure_of, figure_rows, is_comma, is_currency, is_figure_point}
+use Rattle.cn_grammar.specs.Expected.{IsListed}
+use Rattle.cn_grammar.specs.declared.sign.Front.TheVariants.{Open}
+use Rattle.cn_grammar.proofs.Lists.{classes-listed, sifted-listed}
+use Rattle.cn_grammar.proofs.LookUp.{none-in}
+use Rattle.cn_grammar.proofs.Signs.{left-out}
+use Rattle.cn_core.specs.FigureCharacters.{figure_of, figure_rows, is_comma, is_currency, is_figure_point}
 use Rattle.cn_figures.specs.declared.listed.TheConstants.{CHARACTERS}
 use Rattle.cn_figures.specs.Parts.{part_of}
 use Rattle.cn_figures.specs.Working.Signs.{minus_signs, sign_sieve, both, signed_value, signed_machine}

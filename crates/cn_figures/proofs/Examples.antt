@@ -2,19 +2,19 @@
 use Rattle.std.proofs.Common.{◌≡◌, ℕ, ◌+◌, ◌*◌, ◌<◌, ◌≤◌, ◌==◌, ◌⊎◌, inl, inr, Bool, true, false, List, [], ◌∷◌, ◌++◌, length, map, take, drop, Some, None, Err, codes, refl, arith}
 use Rattle.std.specs.Prelude.{IsTrue, pos, neg_ℤ}
 use Rattle.std.specs.List.{list_all}
-use Rattle.cn_capitals.specs.declared.refusal.Refusal.TheVariants.{Unfinished, Incorrect}
-use Rattle.cn_capitals.specs.Answers.{Answers}
-use Rattle.cn_capitals.specs.Machine.{Leads}
-use Rattle.cn_capitals.specs.declared.expecting.Expected.{Expected}
-use Rattle.cn_capitals.specs.Expected.{IsExpected}
-use Rattle.cn_capitals.specs.Repairs.{IsRepair}
-use Rattle.cn_capitals.specs.declared.hint.Repair.TheVariants.{Replace}
-use Rattle.cn_capitals.proofs.Changing.{repair-is}
-use Rattle.cn_capitals.proofs.Following.{expected-is}
+use Rattle.cn_grammar.specs.declared.refusal.Refusal.TheVariants.{Unfinished, Incorrect}
+use Rattle.cn_grammar.specs.Answers.{Answers}
+use Rattle.cn_grammar.specs.Machine.{Leads}
+use Rattle.cn_grammar.specs.declared.expecting.Expected.{Expected}
+use Rattle.cn_grammar.specs.Expected.{IsExpected}
+use Rattle.cn_grammar.specs.Repairs.{IsRepair}
+use Rattle.cn_grammar.specs.declared.hint.Repair.TheVariants.{Replace}
+use Rattle.cn_grammar.proofs.Changing.{repair-is}
+use Rattle.cn_grammar.proofs.Following.{expected-is}
 use Rattle.cn_figures.specs.declared.listed.TheConstants.{CHARACTERS}
 use Rattle.cn_figures.proofs.CharactersListed.{figures_listed}
-use Rattle.cn_capitals.proofs.Reading.{unfinished-read, place-refused}
-use Rattle.cn_core.specs.Figures.{figure_of}
+use Rattle.cn_grammar.proofs.Reading.{unfinished-read, place-refused}
+use Rattle.cn_core.specs.FigureCharacters.{figure_of}
 use Rattle.cn_figures.specs.declared.part.Part.TheVariants.{Digit}
 use Rattle.cn_figures.specs.declared.progress.Progress.{Progress}
 use Rattle.cn_figures.specs.declared.state.State.TheVariants.{Beginning, One, Two, Three, Many, AfterComma, CommaThree, AfterPoint, Fen}

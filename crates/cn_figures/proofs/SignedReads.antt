@@ -2,12 +2,12 @@
 use Rattle.std.proofs.Common.{◌≡◌, ℕ, ℤ, ◌<◌, nat_lt, Bool, true, false, ◌==◌, List, [], ◌∷◌, map, Option, Some, None, refl, sym, ap, subst, ◌∙◌, option_map, if◌then◌else◌, arith}
 use Rattle.std.proofs.lemmas.Bool.Decides.{nat_tests}
 use Rattle.cn_amount.specs.Places.{amount_limit}
-use Rattle.cn_capitals.specs.Machine.{Reached, Reads}
-use Rattle.cn_capitals.specs.Sieve.{kept}
-use Rattle.cn_capitals.specs.declared.sign.Front.TheVariants.{Open}
-use Rattle.cn_capitals.proofs.Sieves.{IsSifted, IsKeptForm, sifted-leads, sifted-reads, reads-same}
-use Rattle.cn_capitals.proofs.Signs.{kept-is, below-is, stands-behind}
-use Rattle.cn_core.specs.Figures.{figure_of, is_figure_minus}
+use Rattle.cn_grammar.specs.Machine.{Reached, Reads}
+use Rattle.cn_grammar.specs.Sieve.{kept}
+use Rattle.cn_grammar.specs.declared.sign.Front.TheVariants.{Open}
+use Rattle.cn_grammar.proofs.Sieves.{IsSifted, IsKeptForm, sifted-leads, sifted-reads, reads-same}
+use Rattle.cn_grammar.proofs.Signs.{kept-is, below-is, stands-behind}
+use Rattle.cn_core.specs.FigureCharacters.{figure_of, is_figure_minus}
 use Rattle.cn_core.specs.Whole.{signed_number}
 use Rattle.cn_figures.specs.declared.part.Part.{Part}
 use Rattle.cn_figures.specs.declared.progress.Progress.{Progress}

@@ -4,7 +4,7 @@ ghost use Rattle.cn_figures.specs.declared.listed.TheConstants.{CHARACTERS};
 
 use crate::progress::Progress;
 use crate::signed::SignedProgress;
-use cn_capitals::Listed;
+use cn_grammar::Listed;
 
 // The characters of figures, of which the last three are the minus signs before them.
 static CHARACTERS: [char; 29] = [

@@ -4,7 +4,7 @@ ghost use Rattle.cn_figures.specs.Working.Steps.{figures_machine};
 
 use crate::part::part_of;
 use crate::state::State;
-use cn_capitals::Grammar;
+use cn_grammar::Grammar;
 
 /// The state of reading figures, and the amount so far in fen; `None` from the limit on.
 #[derive(Clone, Copy)]

@@ -6,8 +6,8 @@ ghost use Rattle.cn_figures.specs.Figures.{WriteSignedAmount};
 ghost use Rattle.cn_figures.specs.Working.Signs.{signed_machine};
 
 use crate::progress::Progress;
-use cn_capitals::{Front, Grammar};
 use cn_core::is_figure_minus;
+use cn_grammar::{Front, Grammar};
 
 // The amount with this magnitude, below zero or not.
 fn signed_fen(is_below: bool, magnitude: u64) -> i64

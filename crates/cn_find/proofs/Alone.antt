@@ -10,7 +10,7 @@ use Rattle.std.proofs.lemmas.Str.{chars-encodes, encodes-append, scalars-chars}
 use Rattle.cn_core.specs.Characters.{digit_of, rank, rank_of}
 use Rattle.cn_core.specs.Mark.{mark_from}
 use Rattle.cn_core.proofs.Fronts.{and-left, and-right}
-use Rattle.cn_core.specs.Figures.{is_wide_figure}
+use Rattle.cn_core.specs.FigureCharacters.{is_wide_figure}
 use Rattle.cn_find.specs.declared.wanted.Wanted.{Wanted}
 use Rattle.cn_find.specs.Belongs.{belongs, is_chinese_digit, is_mega, is_numeral, is_parted, is_wanted, is_wanted_mark}
 use Rattle.cn_find.specs.Flags.{clings, goes_on, is_link, stands_alone}

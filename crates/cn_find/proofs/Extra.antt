@@ -6,7 +6,7 @@ use Rattle.std.proofs.lemmas.Bool.{not-true}
 use Rattle.std.proofs.Math.Bool.{and-false, and-true, or-false}
 use Rattle.cn_core.proofs.Fronts.{and-left, and-right}
 use Rattle.cn_core.specs.Characters.{digit_of, rank_of}
-use Rattle.cn_core.specs.Figures.{is_figure, is_wide_figure}
+use Rattle.cn_core.specs.FigureCharacters.{is_figure, is_wide_figure}
 use Rattle.cn_core.specs.Mark.{mark_from, mark_of, other}
 use Rattle.cn_find.specs.declared.wanted.Wanted.{Wanted}
 use Rattle.cn_find.specs.Belongs.{belongs, is_chinese_digit, is_parted}

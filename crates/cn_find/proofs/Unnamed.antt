@@ -5,7 +5,7 @@ use Rattle.std.specs.Char.{char_set_contains}
 use Rattle.std.proofs.lemmas.Bool.{or_from}
 use Rattle.std.proofs.Math.Bool.{and-false}
 use Rattle.cn_core.specs.Characters.{digit_of}
-use Rattle.cn_core.specs.Figures.{is_currency, is_figure, is_percent, is_share_sign, is_wide_figure}
+use Rattle.cn_core.specs.FigureCharacters.{is_currency, is_figure, is_percent, is_share_sign, is_wide_figure}
 use Rattle.cn_core.specs.Mark.{mark_of}
 use Rattle.cn_find.specs.declared.wanted.Wanted.{Wanted}
 use Rattle.cn_find.specs.Belongs.{begins_with, belongs, is_chinese_digit, is_wanted}

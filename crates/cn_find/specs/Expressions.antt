@@ -4,7 +4,7 @@
 use Rattle.std.specs.Prelude.{ℕ, zero, suc, nat_le, Bool, false, not, ◌&&◌, ◌||◌, List, [], ◌∷◌, codes, is_some}
 use Rattle.std.specs.Char.{char_set_contains, is_ascii_alphabetic}
 use Rattle.cn_core.specs.Characters.{digit_of}
-use Rattle.cn_core.specs.Figures.{is_comma, is_currency, is_figure, is_figure_minus, is_figure_point, is_share_sign, is_wide_figure, tens_of}
+use Rattle.cn_core.specs.FigureCharacters.{is_comma, is_currency, is_figure, is_figure_minus, is_figure_point, is_share_sign, is_wide_figure, tens_of}
 use Rattle.cn_core.specs.Mark.{Mark, unit, mark_of}
 use Rattle.cn_find.specs.declared.wanted.Wanted.{Wanted}
 use Rattle.cn_find.specs.Belongs.{begins_with, belongs, is_chinese_digit, is_ge, is_wanted}

@@ -2,7 +2,7 @@
 use Rattle.std.specs.Prelude.{ℕ, ◌+◌, nat_le, Bool, false, not, ◌&&◌, ◌||◌, ◌==◌, List, [], ◌∷◌, ◌++◌, reverse, codes, Option, Some, is_some, if◌then◌else◌}
 use Rattle.std.specs.Char.{char_set_contains, is_ascii_alphanumeric}
 use Rattle.cn_core.specs.Characters.{digit_of, rank_of}
-use Rattle.cn_core.specs.Figures.{is_figure, is_wide_figure}
+use Rattle.cn_core.specs.FigureCharacters.{is_figure, is_wide_figure}
 use Rattle.cn_find.specs.Belongs.{begins_with, is_chinese_digit}
 
 -- the character clings to a number that it touches: it is an ASCII letter, a digit of any kind, or

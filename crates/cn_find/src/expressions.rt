@@ -1,7 +1,7 @@
 // Whether a character of a text belongs to an expression.
 ghost use Rattle.std.specs.Prelude.{◌≡◌, ◌<◌, ◌||◌, ◌∷◌, [], codes, chars, length, IfSome, MatchOption, ◌&&◌, not};
 ghost use Rattle.std.specs.Char.{char_set_contains};
-ghost use Rattle.cn_core.specs.Figures.{is_figure, is_wide_figure};
+ghost use Rattle.cn_core.specs.FigureCharacters.{is_figure, is_wide_figure};
 ghost use Rattle.cn_core.specs.Mark.{mark_of};
 ghost use Rattle.cn_judge.specs.Marked.{marked};
 ghost use Rattle.cn_find.specs.Belongs.{begins_with, is_ge};

@@ -175,7 +175,7 @@ pub fn naive_reason_of(error: ChineseToNumberError) -> NumeralFault
 pub fn explain_number<T: Whole>(text: &str, method: ChineseCountMethod) -> Option<NumeralFault>
     ensures { IsReason T.kind method text.now result }
 {
-    match read::<T>(method, text) {
+    match read_number::<T>(method, text) {
         Ok(_) => None,
         Err(error) => Some(reason_of(text, error)),
     }

@@ -5,7 +5,7 @@ use Rattle.std.specs.Char.{char_set_contains, is_ascii_alphabetic}
 use Rattle.std.proofs.Math.Bool.{and-false}
 use Rattle.cn_core.specs.declared.method.ChineseCountMethod.{ChineseCountMethod}
 use Rattle.cn_core.specs.Characters.{digit_of, rank_of}
-use Rattle.cn_core.specs.Figures.{is_figure, is_wide_figure, tens_of}
+use Rattle.cn_core.specs.FigureCharacters.{is_figure, is_wide_figure, tens_of}
 use Rattle.cn_core.proofs.Fronts.{both}
 use Rattle.cn_find.specs.declared.doubt.Doubt.{Doubt}
 use Rattle.cn_find.specs.declared.doubt.Doubt.TheVariants.{Word, Digits, Term, Part, Time, Range}

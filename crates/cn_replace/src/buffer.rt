@@ -1,14 +1,14 @@
 // A buffer that the caller lends as a sink.
-ghost use Rattle.cn_buffer.specs.Buffers.{Appends};
+ghost use Rattle.cn_core.specs.Buffers.{Appends};
 
 use crate::Sink;
-use cn_buffer::Buffer;
+use cn_core::Buffer;
 use std::convert::Infallible;
 
 impl Sink for Buffer<'_> {
     type Error = Infallible;
 
-    ghost use Rattle.cn_buffer.specs.BufferLaws.{Appends-none, Appends-both};
+    ghost use Rattle.cn_core.specs.BufferLaws.{Appends-none, Appends-both};
 
     ghost took = { λ old new bytes. Appends old new bytes };
 

@@ -1,12 +1,11 @@
 // The expressions of a text in figures.
 ghost use Rattle.std.specs.Prelude.{◌≡◌, ◌++◌, ◌-◌, ◌^◌, ◌≤◌, min, drop, length, string_bytes, IfOk};
-ghost use Rattle.cn_buffer.specs.Buffers.{PutsPrefix};
+ghost use Rattle.cn_core.specs.Buffers.{PutsPrefix};
 ghost use Rattle.cn_replace.specs.InFigures.{in_figures};
 
 use crate::chains::put_in_chains;
 use crate::{Figures, InFigures};
-use cn_buffer::Buffer;
-use cn_core::ChineseCountMethod;
+use cn_core::{Buffer, ChineseCountMethod};
 use cn_find::Wanted;
 use std::alloc::{AllocError, Global};
 

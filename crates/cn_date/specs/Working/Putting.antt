@@ -3,8 +3,8 @@ use Rattle.std.specs.Prelude.{◌<◌, List}
 use Rattle.cn_core.specs.declared.script.ChineseVariant.{ChineseVariant}
 use Rattle.cn_date.specs.declared.capital.Capital.{Capital}
 use Rattle.cn_date.specs.declared.capital.Capital.TheVariants.{Digit}
-use Rattle.cn_buffer.specs.declared.buffer.Buffer.{Buffer}
-use Rattle.cn_capitals.specs.Text as capital_text
+use Rattle.cn_core.specs.declared.buffer.Buffer.{Buffer}
+use Rattle.cn_grammar.specs.Text as capital_text
 use Rattle.cn_date.specs.Writes.{capital_char}
 
 -- a capital that can be written: if it is a digit, it has one place

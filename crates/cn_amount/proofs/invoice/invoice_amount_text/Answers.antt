@@ -1,6 +1,6 @@
 use Rattle.std.proofs.Common.{◌≡◌, ◌≤◌, nat_abs, [], length, sym, ap, subst, ◌∙◌, w64, arith}
 use Rattle.std.proofs.lemmas.Int.{to_z-of_z}
-use Rattle.cn_capitals.proofs.Puts.{puts-none}
+use Rattle.cn_grammar.proofs.Puts.{puts-none}
 use Rattle.cn_amount.specs.Places.{places_of}
 use Rattle.cn_amount.specs.Working.Signing.{sign_before}
 use Rattle.cn_amount.proofs.InvoiceShown.{few-of, invoice-text-of}

@@ -1,7 +1,7 @@
 use Rattle.std.proofs.Common.{true}
 use Rattle.cn_amount.specs.declared.before.Before.TheVariants.{Nothing}
 use Rattle.cn_amount.specs.Form.{wan_text, after_wan, from_yi, from_top, written}
-use Rattle.cn_capitals.proofs.Puts.{puts-two}
+use Rattle.cn_grammar.proofs.Puts.{puts-two}
 use Rattle.cn_amount.specs.Writes.{char_by}
 use Rattle.cn_amount.proofs.put.put_amount.Goals as goal
 

@@ -1,6 +1,6 @@
 use Rattle.std.proofs.Common.{refl, rules}
 use Rattle.std.proofs.lemmas.Bool.Decides.{nat_tests}
-use Rattle.cn_capitals.proofs.Reading.{empty-read}
+use Rattle.cn_grammar.proofs.Reading.{empty-read}
 use Rattle.cn_amount.specs.Reading.{IsAmount}
 use Rattle.cn_amount.specs.Working.Steps.{amount_machine}
 use Rattle.cn_amount.proofs.ReadText.{amount_reads}

@@ -1,5 +1,5 @@
 use Rattle.std.proofs.Common.{ap, ◌≤◌, [], length, sym, subst, arith}
-use Rattle.cn_capitals.proofs.Puts.{puts-none}
+use Rattle.cn_grammar.proofs.Puts.{puts-none}
 use Rattle.cn_amount.proofs.FormsShown.{few-bytes, text-of}
 use Rattle.cn_amount.proofs.write.amount_text.Goals as goal
 

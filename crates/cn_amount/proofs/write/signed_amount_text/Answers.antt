@@ -1,6 +1,6 @@
 use Rattle.std.proofs.Common.{◌≡◌, ◌≤◌, nat_abs, [], ◌∷◌, length, pos, int_lt, if◌then◌else◌, sym, ap, subst, ◌∙◌, w64, arith}
 use Rattle.std.proofs.lemmas.Int.{to_z-of_z}
-use Rattle.cn_capitals.proofs.Puts.{puts-none}
+use Rattle.cn_grammar.proofs.Puts.{puts-none}
 use Rattle.cn_amount.specs.declared.capital.Capital.TheVariants.{Fu}
 use Rattle.cn_amount.specs.Places.{places_of}
 use Rattle.cn_amount.proofs.SignedShown.{few-signed, signed-text-of}

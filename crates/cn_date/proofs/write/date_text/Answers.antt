@@ -1,5 +1,5 @@
 use Rattle.std.proofs.Common.{ap, [], subst, length, ◌≤◌, sym, arith}
-use Rattle.cn_capitals.proofs.Puts.{puts-none}
+use Rattle.cn_grammar.proofs.Puts.{puts-none}
 use Rattle.cn_date.proofs.Written.{text-of, few-bytes}
 use Rattle.cn_date.proofs.write.date_text.Goals as goal
 

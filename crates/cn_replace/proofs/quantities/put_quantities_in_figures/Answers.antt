@@ -1,5 +1,5 @@
 use Rattle.std.proofs.Common.{rules, ◌∙◌}
-use Rattle.cn_buffer.proofs.Buffers.{first-text}
+use Rattle.cn_core.proofs.Buffers.{first-text}
 use Rattle.cn_replace.proofs.quantities.put_quantities_in_figures.Goals as goal
 
 pub returns-clause-count : goal.returns-clause-count

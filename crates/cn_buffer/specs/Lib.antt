@@ -1,3 +1,0 @@
-pub mod BufferLaws
-pub mod Buffers
-pub mod Strings
