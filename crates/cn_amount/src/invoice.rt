@@ -22,8 +22,8 @@ use std::alloc::Global;
 /// The most bytes of an amount with its sign: three for each of 43 characters.
 pub const MOST_INVOICE_BYTES: usize = 129;
 
-/// The amount, in fen, for which a text in capitals stands as people type it, or copy it from a red
-/// invoice. White space is left out wherever it is. No memory is allocated.
+/// The amount, in fen, of a text in capitals as people type it, or copy it from a red invoice.
+/// White space is left out wherever it is. No memory is allocated.
 ///
 /// Before the amount there may be, each at most once: a circle, ⊗ or ⓧ; a sign, which is 负 (負) or
 /// （负数） (（負數）); and 人民币 (人民幣), directly after which （大写） (（大寫）) and then a colon may come.

@@ -18,7 +18,7 @@ mod to_number;
 mod unit_readers;
 
 pub use cn_judge::ChineseToNumberError;
-use cn_quick::read;
+use cn_quick::read_number;
 pub use cn_spell::NumberToChineseError;
 pub use cn_spell::ROOM_BYTES;
 pub use cn_spell::put_chinese;

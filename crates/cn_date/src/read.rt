@@ -6,8 +6,8 @@ use crate::state::State;
 use crate::{BillDate, ChineseToDateError};
 use cn_grammar::{Refusal, read_form};
 
-/// The date for which a text in capitals stands. It is `Ok` exactly if the text is a form of a date
-/// that exists. No memory is allocated.
+/// The date of a text in capitals. It is `Ok` exactly if the text is a form of a date that exists.
+/// No memory is allocated.
 ///
 /// ```text
 /// chinese_to_date("贰零贰陆年零壹月壹拾伍日") == Ok(BillDate { year: 2026, month: 1, day: 15 })

@@ -28,6 +28,7 @@ pub struct Expected {
 }
 
 /// The characters that may come next at a state.
+#[inline(never)]
 pub fn next_characters<G: Listed>(state: G) -> CharacterList
     requires { Reached G.machine state }
     ensures { list_of result ≡ filter (λ c. is_some (G.machine.step state c)) G.characters }

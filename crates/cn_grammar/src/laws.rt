@@ -8,7 +8,7 @@ ghost use Rattle.cn_grammar.specs.declared.expecting.Expected.{Expected as Expec
 
 use crate::Grammar;
 
-/// No text stands for two values.
+/// No text has two values.
 pub fn each_text_is_one_value<G: Grammar>()
     ensures { (text : List ℕ) → (one two : G.Value)
         → G.is_form text one → G.is_form text two → one ≡ two }

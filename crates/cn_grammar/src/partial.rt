@@ -19,6 +19,7 @@ pub struct Partial<'a, G: Grammar> {
 
 /// Reads on from a state, up to the first character with which no form continues, but no more
 /// characters than `most`.
+#[inline(never)]
 pub fn read_on<'a, G: Grammar>(state: G, text: &'a str, most: usize) -> Partial<'a, G>
     requires { Reached G.machine state }
     ensures read { IsReadOn G.machine state (chars text.now) most

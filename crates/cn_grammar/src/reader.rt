@@ -5,8 +5,7 @@ ghost use Rattle.cn_grammar.specs.Answers.{Answers};
 use crate::{Grammar, Refusal};
 use cn_core::split_first_char;
 
-/// The value for which a text stands. It is `Ok` exactly if the text is a form. No memory is
-/// allocated.
+/// The value of a text. It is `Ok` exactly if the text is a form. No memory is allocated.
 ///
 /// It is `Unfinished` exactly if the text is not a form but something after it can make it one.
 /// Otherwise it is `Incorrect` at the first character with which no form begins.

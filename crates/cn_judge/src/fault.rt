@@ -11,7 +11,7 @@ ghost use Rattle.cn_judge.specs.Private.Walk.{leading_rank};
 ghost use Rattle.cn_judge.specs.declared.fault.NumeralFault.TheVariants.{Character};
 
 use crate::ChineseToNumberError;
-use crate::judge::read;
+use crate::judge::read_number;
 use crate::mark::{Mark, mark_of};
 use crate::naive::read_naive;
 use crate::text::{byte_index, split_first};

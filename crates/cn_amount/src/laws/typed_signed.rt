@@ -33,7 +33,7 @@ pub fn signed_amounts_stay_amounts()
     ensures { (text : List ℕ) → (fen : ℤ) → IsSignedAmount text fen → IsTypedSignedAmount text fen }
 {}
 
-/// The magnitude of an amount stands below the limit, so a text is never too large or too small.
+/// The magnitude of an amount is below the limit, so a text is never too large or too small.
 pub fn amounts_are_below_the_limit()
     ensures { (text : List ℕ) → (fen : ℤ)
         → IsTypedSignedAmount text fen → nat_abs fen < amount_limit }
