@@ -104,8 +104,8 @@ WRONG_CALLS = [
 ]
 # A crate, the name that it re-exports, and another call under that name.
 WRONG_NAMES = [
-    ("cn_calls", "from_chinese_to_u8,", "from_chinese_to_u16 as from_chinese_to_u8,"),
-    ("cn_calls", "from_u16_to_chinese,", "from_u8_to_chinese as from_u16_to_chinese,"),
+    ("cn_calls", "from_chinese_to_u8;", "from_chinese_to_u16 as from_chinese_to_u8;"),
+    ("cn_calls", "from_u16_to_chinese;", "from_u8_to_chinese as from_u16_to_chinese;"),
     ("chinese_number", "from_i8_to_chinese;", "from_i16_to_chinese as from_i8_to_chinese;"),
 ]
 PAGE, BESIDE = "docs/PROMISES.md", "docs/PROMISES-BINDINGS.md"
