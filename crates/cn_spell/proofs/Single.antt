@@ -10,8 +10,8 @@ use Rattle.cn_core.specs.Mark.{Mark, digit, unit}
 use Rattle.cn_core.proofs.Cuts.{part}
 use Rattle.cn_spell.specs.Working.Sections.{kept, digit_marks, section_marks}
 use Rattle.cn_spell.specs.Working.Units.{powers_within, rank_at, start_of, units_over, units_behind}
-use Rattle.cn_spell.proofs.Walks.{Fills}
-use Rattle.cn_spell.proofs.Tops.{at, lower-split, lower-less, part-same, filled_of, Filled, part-more, part-none, behind-zero}
+use Rattle.cn_spell.proofs.Walks.{Fills, lower-split, lower-less, behind-zero}
+use Rattle.cn_spell.proofs.Tops.{at, part-same, filled_of, Filled, part-digit, part-none}
 
 -- 零 before the lower marks, if the next power is empty
 abbrev pub gap_marks : ℕ → ℕ → List Mark
@@ -111,14 +111,14 @@ pub some-digit : (method : ChineseCountMethod) (number power filled : ℕ) (is_g
 some-digit method number zero filled is_gap within own pos under fills =
     let t : nat_lt 0 (at number 0) ≡ true = grind (arith, nat_tests, pos) in
     let z : filled ≡ 0 = omega (arith, under) in
-    rw (z, t) (part-more method number 0 0 within pos (rw z at fills)
+    rw (z, t) (part-digit method number 0 0 within pos (rw z at fills)
     ∙ ap (λ marks. digit (at number 0) ∷ (marks ++ part method (number % 10 ^ 0)))
     (behind-zero method))
 some-digit method number (suc power) filled is_gap within own pos under fills =
     let t : nat_lt 0 (at number (suc power)) ≡ true = grind (arith, nat_tests, pos) in
     let high : nat_lt 0 (suc power) ≡ true = grind (arith, nat_tests) in
     let step : suc power + 1 ≡ suc (suc power) = omega arith in
-    rw (t, high) (rw step at (part-more method number (suc power) filled within pos fills)
+    rw (t, high) (rw step at (part-digit method number (suc power) filled within pos fills)
     ∙ ap (λ marks. digit (at number (suc power))
     ∷ (marks ++ part method (number % 10 ^ suc power))) (behind-own method (suc power) filled own
     (omega arith) under))
@@ -195,7 +195,7 @@ reaches-power : (number power : ℕ) → number < 10 ^ suc power → 0 < at numb
 reaches-power number power less pos =
     let next : power + 1 ≡ suc power = omega arith in
     let split : number % 10 ^ suc power ≡ at number power * 10 ^ power + number % 10 ^ power =
-    rw next at (lower-split number power) in
+    rw next at (lower-split 1 number power) in
     let whole : number % 10 ^ suc power ≡ number = mod-eq_of_lt less in
     let one : 1 * 10 ^ power ≤ at number power * 10 ^ power = mul-le-mul_right (10 ^ power) pos in
     omega (arith, split, whole, one)
@@ -205,7 +205,7 @@ stays-below : (number power : ℕ) → number < 10 ^ suc power → at number pow
 stays-below number power less none =
     let next : power + 1 ≡ suc power = omega arith in
     let split : number % 10 ^ suc power ≡ at number power * 10 ^ power + number % 10 ^ power =
-    rw next at (lower-split number power) in
+    rw next at (lower-split 1 number power) in
     let whole : number % 10 ^ suc power ≡ number = mod-eq_of_lt less in
     let zero : at number power * 10 ^ power ≡ 0 = rw none (omega arith) in
     omega (arith, split, whole, zero, lower-less number power)
