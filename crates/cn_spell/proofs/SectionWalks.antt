@@ -1,5 +1,5 @@
 -- The spelling of a number by sections of four digits.
-use Rattle.std.proofs.Common.{◌≡◌, ℕ, zero, suc, ◌+◌, ◌-◌, ◌*◌, ◌/◌, ◌%◌, ◌^◌, ◌<◌, ◌≤◌, max, Bool, true, false, ◌==◌, ◌&&◌, nat_lt, List, [], ◌∷◌, ◌++◌, length, refl, sym, ap, ◌∙◌, arith, length-append, append-nil, if◌then◌else◌}
+use Rattle.std.proofs.Common.{◌≡◌, ℕ, zero, suc, ◌+◌, ◌-◌, ◌*◌, ◌/◌, ◌%◌, ◌^◌, ◌<◌, ◌≤◌, max, Bool, true, false, ◌==◌, ◌&&◌, ◌||◌, nat_le, nat_lt, List, [], ◌∷◌, ◌++◌, length, refl, sym, ap, ◌∙◌, arith, length-append, append-nil, if◌then◌else◌}
 use Rattle.std.proofs.lemmas.Bool.{agree_below, agree_below_at}
 use Rattle.std.proofs.lemmas.Bool.Decides.{nat_tests}
 use Rattle.std.proofs.Math.Bool.{and-false}
@@ -14,18 +14,18 @@ use Rattle.cn_core.proofs.Cuts.{part, part-some}
 use Rattle.cn_core.proofs.Sums.{spelled-digit}
 use Rattle.cn_spell.specs.Working.Sections.{HoldsSections, sections_within, above_limit, kept, section_marks}
 use Rattle.cn_spell.specs.Working.Units.{powers_within, rank_at, units_behind}
-use Rattle.cn_spell.proofs.Walks.{Fills, HasUnits, HasUnits-section, lead-more, digits_at, lower-less, part-more, behind-head, behind-zero}
+use Rattle.cn_spell.proofs.Walks.{Fills, HasUnits, HasUnits-section, lead-more, digits_at, part-more, behind-head, behind-zero}
 use Rattle.cn_spell.proofs.Tops.{filled_of, Filled, part-none, parts-grow}
 use Rattle.cn_spell.proofs.Single.{section-is}
 
 -- a section that is not empty is written before the lower marks
 pub section-more : (method : ChineseCountMethod) (number index filled : ℕ)
-    → index ≤ sections_within method → 0 < digits_at 4 number (4 * index)
+    → index ≤ sections_within method → 0 < digits_at 4 number (4 * index) → filled ≤ 4 * index
     → Fills filled (number % 10 ^ (4 * index)) → part method (number % 10 ^ (4 * index + 4))
     ≡ section_marks (digits_at 4 number (4 * index))
     ++ (units_behind method (4 * index) filled ++ part method (number % 10 ^ (4 * index)))
-section-more method number index filled most pos fills =
-    part-more 4 method number (4 * index) filled (HasUnits-section method index most) pos fills
+section-more method number index filled most pos under fills =
+    part-more 4 method number (4 * index) filled (HasUnits-section method index most) pos under fills
     ∙ ap (λ marks. marks ++ (units_behind method (4 * index) filled
     ++ part method (number % 10 ^ (4 * index))))
     (section-is method (digits_at 4 number (4 * index))
@@ -45,18 +45,16 @@ behind-near method power filled pos most four under near =
     let some : 0 < filled = omega (arith, pos, four, near) in grind (arith, nat_tests, some) in
     rw (head.1, head.2 (omega (arith, near)), flag) refl
 
--- no such unit is 十
-rank-section : (method : ChineseCountMethod) (index : ℕ) → index < sections_within method
-    → (rank_at method (4 * suc index) == 1) ≡ false
-rank-section method index within = agree_below_at (λ i. rank_at method (4 * suc i) == 1)
-    (λ i. false) (sections_within method) index (table method) within where
-      table : (method : ChineseCountMethod)
-          → agree_below (λ i. rank_at method (4 * suc i) == 1) (λ i. false) (sections_within method)
-          ≡ true
-      table Low = refl
-      table TenThousand = refl
-      table Middle = refl
-      table High = refl
+-- there are fewer powers than those of a number, no unit between sections is 十, and the rest above
+-- sections is a section of its own
+limits : (method : ChineseCountMethod)
+    → (nat_lt (4 * sections_within method) (powers_within method) ≡ true)
+    × (agree_below (λ n. rank_at method (4 * suc n) == 1) (λ n. false) (sections_within method) ≡ true)
+    × ((sections_within method == 0 || nat_le (above_limit method) (10 ^ 4)) ≡ true)
+limits Low = (refl, refl, refl)
+limits TenThousand = (refl, refl, refl)
+limits Middle = (refl, refl, refl)
+limits High = (refl, refl, refl)
 
 -- 一 before 十 is left out only at the start
 short_spelling-over : (marks rest : List Mark) (rank : ℕ) → (rank == 1) ≡ false
@@ -82,14 +80,6 @@ part-alike TenThousand lead small = section-is TenThousand lead small ∙ sym (s
 part-alike Middle lead small = section-is Middle lead small ∙ sym (section-is Low lead small)
 part-alike High lead small = section-is High lead small ∙ sym (section-is Low lead small)
 
--- it is a section of its own if there are sections below it
-limit-section : (method : ChineseCountMethod) → 0 < sections_within method
-    → above_limit method ≤ 10 ^ 4
-limit-section Low some = absurd (omega (arith, some))
-limit-section TenThousand some = omega arith
-limit-section Middle some = omega arith
-limit-section High some = omega arith
-
 -- the rest above the sections is spelled like a number of its own
 spelling-above : (method : ChineseCountMethod) (number count lead filled : ℕ) {sections : List ℕ}
     → HoldsSections number sections count lead → count ≤ sections_within method
@@ -112,19 +102,20 @@ spelling-above method number (suc index) lead filled held most small fills under
     let units = HasUnits-section method (suc index) most in
     let head = behind-head 4 method power filled units (omega arith) under in
     let pos : 0 < lead = held.some (omega arith) in
-    let section : lead < 10 ^ 4 =
-    omega (arith, small, limit-section method (omega (arith, most))) in
+    let section : lead < 10 ^ 4 = grind (arith, nat_tests, small, most, (limits method).2) in
+    let other : (rank_at method power == 1) ≡ false = agree_below_at (λ n.
+    rank_at method (4 * suc n) == 1) (λ n. false) (sections_within method) index (limits method).1
+    (omega (arith, most)) in
     let some : 0 < number = omega (arith, pos, held.split, div-le_self number (10 ^ power)) in
     let whole : number ≡ lead * 10 ^ power + below =
     rw held.split (sym (div-add-mod' number (10 ^ power))) in
     let parts : part method number
     ≡ part Low lead ++ (unit (rank_at method power) ∷ (head.0 ++ part method below)) =
     ap (λ n. part method n) whole ∙ rw (head.1, part-alike method lead small)
-    at (lead-more 4 method power lead below filled units pos section (lower-less number power) fills) in
+    at (lead-more 4 method power lead below filled units pos section under fills) in
     rw (head.1, ← part-some Low lead pos)
     (ap short_spelling (sym (part-some method number some) ∙ parts)
-    ∙ short_spelling-over (part Low lead) (head.0 ++ part method below) (rank_at method power)
-    (rank-section method index (omega (arith, most))))
+    ∙ short_spelling-over (part Low lead) (head.0 ++ part method below) (rank_at method power) other)
 
 -- there is space for one more mark before each section
 room-section : (method : ChineseCountMethod) (number count index lead : ℕ) {sections : List ℕ}
@@ -139,7 +130,7 @@ room-section method number count index lead held most small less =
     let grows : length (part method (number % 10 ^ (4 * index + 4)))
     ≤ length (part method (number % 10 ^ power)) =
     rw steps at (parts-grow method number (4 * index + 4) (power - (4 * index + 4))
-    (omega (arith, steps, powers-section method, most))) in
+    (grind (arith, nat_tests, steps, most, (limits method).0))) in
     let whole = ap length (spelling-above method number count lead filled held most small
     held_below.1 held_below.0) in
     let head = behind-head 4 method power filled (HasUnits-section method count most)
@@ -152,30 +143,25 @@ room-section method number count index lead held most small less =
       length-append (spelling Low lead)
           (units_behind method power filled ++ part method (number % 10 ^ power)),
       length-append (units_behind method power filled) (part method (number % 10 ^ power)),
-    ) where
-      powers-section : (method : ChineseCountMethod)
-          → 4 * sections_within method < powers_within method
-      powers-section Low = omega arith
-      powers-section TenThousand = omega arith
-      powers-section Middle = omega arith
-      powers-section High = omega arith
+    )
 
 -- the same, with the next section and the units after it
 pub room-more : (method : ChineseCountMethod) (number count index lead filled : ℕ)
     {sections : List ℕ} → HoldsSections number sections count lead
     → count ≤ sections_within method → lead < above_limit method → index < count
-    → 0 < digits_at 4 number (4 * index) → Fills filled (number % 10 ^ (4 * index))
+    → 0 < digits_at 4 number (4 * index) → filled ≤ 4 * index
+    → Fills filled (number % 10 ^ (4 * index))
     → length (section_marks (digits_at 4 number (4 * index)))
     + (length (units_behind method (4 * index) filled)
     + length (part method (number % 10 ^ (4 * index)))) + 1
     ≤ length (spelling method number)
-room-more method number count index lead filled held most small less some fills =
+room-more method number count index lead filled held most small less some under fills =
     let units = units_behind method (4 * index) filled in
     let below = part method (number % 10 ^ (4 * index)) in
     omega (
       arith,
       room-section method number count index lead held most small less,
-      ap length (section-more method number index filled (omega (arith, most, less)) some fills),
+      ap length (section-more method number index filled (omega (arith, most, less)) some under fills),
       length-append (section_marks (digits_at 4 number (4 * index))) (units ++ below),
       length-append units below,
     )

@@ -111,14 +111,14 @@ pub some-digit : (method : ChineseCountMethod) (number power filled : ℕ) (is_g
 some-digit method number zero filled is_gap within own pos under fills =
     let t : nat_lt 0 (at number 0) ≡ true = grind (arith, nat_tests, pos) in
     let z : filled ≡ 0 = omega (arith, under) in
-    rw (z, t) (part-digit method number 0 0 within pos (rw z at fills)
+    rw (z, t) (part-digit method number 0 0 within pos (omega arith) (rw z at fills)
     ∙ ap (λ marks. digit (at number 0) ∷ (marks ++ part method (number % 10 ^ 0)))
     (behind-zero method))
 some-digit method number (suc power) filled is_gap within own pos under fills =
     let t : nat_lt 0 (at number (suc power)) ≡ true = grind (arith, nat_tests, pos) in
     let high : nat_lt 0 (suc power) ≡ true = grind (arith, nat_tests) in
     let step : suc power + 1 ≡ suc (suc power) = omega arith in
-    rw (t, high) (rw step at (part-digit method number (suc power) filled within pos fills)
+    rw (t, high) (rw step at (part-digit method number (suc power) filled within pos under fills)
     ∙ ap (λ marks. digit (at number (suc power))
     ∷ (marks ++ part method (number % 10 ^ suc power))) (behind-own method (suc power) filled own
     (omega arith) under))

@@ -2,7 +2,7 @@
 use Rattle.std.proofs.Common.{◌≡◌, ℕ, zero, suc, ◌+◌, ◌/◌, ◌%◌, ◌^◌, ◌<◌, ◌≤◌, true, false, nat_lt, [], ◌∷◌, ◌++◌, length, sym, ap, subst, ◌∙◌, arith, length-append, if◌then◌else◌}
 use Rattle.std.proofs.lemmas.Bool.Decides.{nat_tests}
 use Rattle.std.proofs.Math.Decide.{dec_lt}
-use Rattle.std.proofs.Math.Nat.{mod-lt}
+use Rattle.std.proofs.Math.Nat.{mod-lt, one-le-pow}
 use Rattle.cn_core.specs.declared.method.ChineseCountMethod.{ChineseCountMethod}
 use Rattle.cn_core.specs.Mark.{digit}
 use Rattle.cn_core.proofs.Cuts.{part, part-some}
@@ -21,22 +21,22 @@ part-same method number power none = ap (λ n. part method n) (lower-same 1 numb
 
 -- any other digit is written before the lower marks
 pub part-digit : (method : ChineseCountMethod) (number power filled : ℕ)
-    → power < powers_within method → 0 < at number power → Fills filled (number % 10 ^ power)
+    → power < powers_within method → 0 < at number power → filled ≤ power
+    → Fills filled (number % 10 ^ power)
     → part method (number % 10 ^ (power + 1)) ≡ digit (at number power)
     ∷ (units_behind method power filled ++ part method (number % 10 ^ power))
-part-digit method number power filled within pos fills =
+part-digit method number power filled within pos under fills =
     let d = at number power in
     let alone : part method d ≡ digit d ∷ [] = part-some method d pos
     ∙ spelled-digit d method d (mod-lt (number / 10 ^ power) (omega arith)) in
     rw alone at (part-more 1 method number power filled (HasUnits-digit method power within) pos
-    fills)
+    under fills)
 
 -- at first no power is filled
 pub Fills-none : (number : ℕ) → Fills 0 (number % 10 ^ 0)
 Fills-none number = record {
-  below = lower-less number 0;
-  reach =
-      λ some. absurd (omega (arith, some));
+  below = λ power most. omega (arith, lower-less number 0, one-le-pow power 10 (omega arith));
+  reach = λ power less. absurd (omega (arith, less));
 }
 
 pub part-none : (method : ChineseCountMethod) (number : ℕ) → part method (number % 10 ^ 0) ≡ []
@@ -79,7 +79,7 @@ part-grows method number power within = elim (dec_lt 0 (at number power)) [
   | yes pos ↦
       let filled = Filled number power in
       rw (
-        part-digit method number power (filled_of number power) within pos filled.1,
+        part-digit method number power (filled_of number power) within pos filled.0 filled.1,
         length-append,
       ) (omega arith)
   | no none ↦ omega (arith, ap length (part-same method number power (omega (arith, none))))

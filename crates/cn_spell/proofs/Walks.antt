@@ -1,12 +1,12 @@
 -- A digit or a section before the lower digits of its number: the units between them.
 use Rattle.std.proofs.Common.{◌≡◌, ℕ, suc, ◌+◌, ◌-◌, ◌*◌, ◌/◌, ◌%◌, ◌^◌, ◌<◌, ◌≤◌, max, Bool, true, false, inl, inr, ◌==◌, ◌&&◌, ◌||◌, nat_le, nat_lt, List, [], ◌∷◌, ◌++◌, refl, sym, ap, ◌∙◌, arith, append_assoc, append-nil}
-use Rattle.std.proofs.lemmas.Bool.{agree_below, agree_below_at, and_parts, or_cases}
+use Rattle.std.proofs.lemmas.Bool.{agree_below, agree_below_at, and_parts, or_cases, eqb-true, ltb-true}
 use Rattle.std.proofs.lemmas.Bool.Decides.{nat_tests}
 use Rattle.std.proofs.Math.Arith.{mod-mul}
 use Rattle.std.proofs.Math.Decide.{dec_lt}
-use Rattle.std.proofs.Math.Nat.{mul-le-mul_left, mul-le-mul_right, pow-le-pow_right, mod-lt, div-mul-le_self, lt_of_mul-lt-mul_right, one-le-pow}
+use Rattle.std.proofs.Math.Nat.{mul-le-mul_left, mul-le-mul_right, pow-le-pow_right, mod-lt, one-le-pow, div-lt_iff_lt-mul, le-div_iff_mul-le}
 use Rattle.std.proofs.lemmas.Grind.{pow_more}
-use Rattle.std.proofs.lemmas.Nat.{pow-add, div-add-mod', le-div}
+use Rattle.std.proofs.lemmas.Nat.{pow-add, div-add-mod'}
 use Rattle.cn_core.specs.declared.method.ChineseCountMethod.{ChineseCountMethod}
 use Rattle.cn_core.specs.declared.method.ChineseCountMethod.TheVariants.{Low, TenThousand, Middle, High}
 use Rattle.cn_core.specs.Mark.{Mark, digit, unit}
@@ -17,55 +17,58 @@ use Rattle.cn_spell.specs.Working.Units.{widths_of, powers_within, rank_at, star
 
 -- the number has digits only at the powers below `filled`, and the highest of these is not 0
 pub record Fills (filled number : ℕ) : Type 0 where
-  pub below : number < 10 ^ filled
-  pub reach : 0 < filled → 10 ^ filled ≤ 10 * number
+  pub below : (power : ℕ) → filled ≤ power → number < 10 ^ power
+  pub reach : (power : ℕ) → power < filled → 10 ^ power ≤ number
+
+abbrev is_past : ChineseCountMethod → ℕ → ℕ → ℕ → Bool
+is_past method top rank more = nat_le more rank || nat_le top (exponent method more)
 
 -- the unit of this rank has this size, and no greater unit has fewer powers than `top`
-abbrev pub is_unit : ChineseCountMethod → ℕ → ℕ → ℕ → Bool
+abbrev is_unit : ChineseCountMethod → ℕ → ℕ → ℕ → Bool
 is_unit method size top rank =
     nat_lt 0 rank && nat_le rank 15 && exponent method rank == size
     && nat_le top (exponent method 15 + exponent method 15)
-    && agree_below (λ more. nat_le more rank || nat_le top (exponent method more)) (λ more. true) 16
+    && agree_below (is_past method top rank) (λ more. true) 16
 
--- of the groups of these widths that contain the power, each begins where the wider one begins, or
--- at least `step` powers above, at a unit; the last begins at the power
-abbrev pub has_starts : ℕ → ChineseCountMethod → ℕ → ℕ → List ℕ → Bool
+-- a group begins where the wider one begins, or at a unit
+abbrev is_start : ℕ → ChineseCountMethod → ℕ → ℕ → ℕ → Bool
+is_start step method power base start = base == start || (nat_lt base start
+    && is_unit method (start - base) (power - base + step) (rank_at method start))
+
+-- each of the groups of these widths that contain the power does, at the power or at least `step`
+-- powers below, and the last begins at the power
+abbrev has_starts : ℕ → ChineseCountMethod → ℕ → ℕ → List ℕ → Bool
 has_starts step method power base [] = base == power
 has_starts step method power base (width ∷ widths) =
-    (base == start_of width power
-    || (nat_lt base (start_of width power) && nat_le (base + step) (start_of width power)
-    && is_unit method (start_of width power - base) (power - base + step)
-    (rank_at method (start_of width power))))
+    (start_of width power == power || nat_le (start_of width power + step) power)
+    && is_start step method power base (start_of width power)
     && has_starts step method power (start_of width power) widths
 
+abbrev has_units : ℕ → ChineseCountMethod → ℕ → Bool
+has_units step method power = has_starts step method power 0 (widths_of method)
+
 abbrev pub HasUnits : ℕ → ChineseCountMethod → ℕ → Type 0
-HasUnits step method power = has_starts step method power 0 (widths_of method) ≡ true
+HasUnits step method power = has_units step method power ≡ true
+
+-- so it is for each digit, and for each section
+tables : (method : ChineseCountMethod)
+    → (agree_below (has_units 1 method) (λ n. true) (powers_within method) ≡ true)
+    × (agree_below (λ n. has_units 4 method (4 * n)) (λ n. true) (suc (sections_within method))
+    ≡ true)
+tables Low = (refl, refl)
+tables TenThousand = (refl, refl)
+tables Middle = (refl, refl)
+tables High = (refl, refl)
 
 pub HasUnits-digit : (method : ChineseCountMethod) (power : ℕ) → power < powers_within method
     → HasUnits 1 method power
-HasUnits-digit method power within =
-    agree_below_at (λ p. has_starts 1 method p 0 (widths_of method)) (λ p. true)
-    (powers_within method) power (table method) within where
-      table : (method : ChineseCountMethod)
-          → agree_below (λ p. has_starts 1 method p 0 (widths_of method)) (λ p. true)
-          (powers_within method) ≡ true
-      table Low = refl
-      table TenThousand = refl
-      table Middle = refl
-      table High = refl
+HasUnits-digit method power = agree_below_at (has_units 1 method) (λ n. true)
+    (powers_within method) power (tables method).0
 
 pub HasUnits-section : (method : ChineseCountMethod) (index : ℕ) → index ≤ sections_within method
     → HasUnits 4 method (4 * index)
-HasUnits-section method index within =
-    agree_below_at (λ i. has_starts 4 method (4 * i) 0 (widths_of method)) (λ i. true)
-    (suc (sections_within method)) index (table method) (omega (arith, within)) where
-      table : (method : ChineseCountMethod)
-          → agree_below (λ i. has_starts 4 method (4 * i) 0 (widths_of method)) (λ i. true)
-          (suc (sections_within method)) ≡ true
-      table Low = refl
-      table TenThousand = refl
-      table Middle = refl
-      table High = refl
+HasUnits-section method index within = agree_below_at (λ n. has_units 4 method (4 * n)) (λ n. true)
+    (suc (sections_within method)) index (tables method).1 (omega (arith, within))
 
 -- a number with at most `top` powers is cut at such a unit
 cut : (method : ChineseCountMethod) (high low size top rank : ℕ)
@@ -74,76 +77,51 @@ cut : (method : ChineseCountMethod) (high low size top rank : ℕ)
     → part method (high * 10 ^ size + low)
     ≡ part method high ++ (unit rank ∷ (gap low (10 ^ size) ++ part method low))
 cut method high low size top rank h pos less fits =
-    let parts = and_parts _ (agree_below (λ more. nat_le more rank
-    || nat_le top (exponent method more)) (λ more. true) 16) h in
-    let whole : 10 ^ size ≡ scale method rank = let e : size ≡ exponent method rank =
-    grind (arith, nat_tests, parts.0) in ap (λ n. 10 ^ n) e in
-    let below : (n : ℕ) → top ≤ n → high * 10 ^ size + low < 10 ^ n =
-    λ n most. let p : 10 ^ top ≤ 10 ^ n = pow-le-pow_right (omega arith) most
-    in omega (arith, p, fits) in
-    let square : high * 10 ^ size + low < scale method 15 * scale method 15 =
-    rw pow-add at (below (exponent method 15 + exponent method 15)
-    (grind (arith, nat_tests, parts.0))) in
-    rw whole (part-cut method high low rank (grind (arith, nat_tests, parts.0))
-    (grind (arith, nat_tests, parts.0)) pos (rw whole at less)
-    (λ more up last. let test = agree_below_at (λ more. nat_le more rank
-    || nat_le top (exponent method more)) (λ more. true) 16 more parts.1 (omega (arith, last)) in
-    rw whole at (below (exponent method more) (grind (arith, nat_tests, test, up))))
-    (rw whole at square))
+    let tests = and_parts _ (agree_below (is_past method top rank) (λ more. true) 16) h in
+    let is_size : size ≡ exponent method rank = grind (arith, nat_tests, tests.0) in
+    let whole : 10 ^ size ≡ scale method rank = ap (λ n. 10 ^ n) is_size in
+    let below : (n : ℕ) → top ≤ n → high * scale method rank + low < 10 ^ n = λ n most.
+    let p : 10 ^ top ≤ 10 ^ n = pow-le-pow_right (omega arith) most in
+    let q : high * scale method rank + low < 10 ^ top = rw whole at fits in omega (arith, p, q) in
+    rw whole (part-cut method high low rank (grind (arith, nat_tests, tests.0))
+    (grind (arith, nat_tests, tests.0)) pos (rw whole at less) (λ more up last.
+    let past = agree_below_at (is_past method top rank) (λ n. true) 16 more tests.1
+    (omega (arith, last)) in below (exponent method more) (grind (arith, nat_tests, past, up)))
+    (rw pow-add at (below (exponent method 15 + exponent method 15)
+    (grind (arith, nat_tests, tests.0)))))
 
 -- 零 is written if a power below the unit is empty
 gap-flag : (base start filled low : ℕ) → base < start → filled ≤ start → Fills (filled - base) low
     → (nat_lt 0 low && nat_lt low (10 ^ (start - base) / 10))
     ≡ (max filled (base + 1) == filled && nat_lt filled start)
-gap-flag base start filled low some under fills = elim (dec_lt base filled) [
-  | no empty ↦
-      let zero : filled - base ≡ 0 = omega (arith, empty) in
-      let none : low ≡ 0 = let p : 10 ^ (filled - base) ≡ 1 =
-      ap (λ n. 10 ^ n) zero in omega (arith, p, fills.below) in
-      grind (arith, nat_tests, none, empty)
-  | yes pos ↦
-      let reach = fills.reach (omega (arith, pos)) in
-      let first : 0 < low = omega (arith, reach, one-le-pow (filled - base) 10 (omega arith)) in
-      elim (dec_lt filled start) [
-        | yes short ↦
-            let p : 10 ^ (filled - base + 1) ≤ 10 ^ (start - base) =
-            pow-le-pow_right (omega arith) (omega (arith, short, pos)) in
-            let q : low < 10 ^ (start - base) / 10 =
-            omega (arith, p, pow_more 10 (filled - base), fills.below) in
-            grind (arith, nat_tests, first, q, short, pos)
-        | no full ↦
-            let same : filled - base ≡ start - base = omega (arith, full, under) in
-            let q : 10 ^ (start - base) / 10 ≤ low = let p = rw same at reach in omega (arith, p) in
-            grind (arith, nat_tests, q, full)
-      ]
-]
+gap-flag base start filled low some under fills =
+    let size : start - base ≡ start - base - 1 + 1 = omega (arith, some) in
+    let tenfold : 10 ^ (start - base) ≡ 10 ^ (start - base - 1) * 10 =
+    ap (λ n. 10 ^ n) size ∙ pow_more 10 (start - base - 1) in
+    grind (
+      arith,
+      nat_tests,
+      tenfold,
+      fills.below 0,
+      fills.reach 0,
+      fills.below (start - base - 1),
+      fills.reach (start - base - 1),
+    )
 
 -- the part of a number above some powers
 Fills-above : (filled size number : ℕ) → Fills filled number
     → Fills (filled - size) (number / 10 ^ size)
-Fills-above filled size number fills = record {
-  below = lt_of_mul-lt-mul_right (10 ^ size) (omega (
-    arith,
-    fills.below,
-    div-mul-le_self number (10 ^ size),
-    pow-add 10 (filled - size) size,
-    let p : 10 ^ filled ≤ 10 ^ (filled - size + size) =
-        pow-le-pow_right (omega arith) (omega arith) in p,
-  ));
-  reach = λ some.
-      let power = filled - size - 1 in
-      let e : filled ≡ power + size + 1 = omega (arith, some) in
-      let whole : 10 ^ filled ≡ 10 ^ power * 10 ^ size * 10 =
-      ap (λ n. 10 ^ n) e ∙ pow_more 10 (power + size) ∙ ap (λ n. n * 10) (pow-add 10 power size) in
-      let more : 10 ^ (filled - size) ≡ 10 ^ power * 10 = let f : filled - size ≡ power + 1 =
-      omega (arith, some) in ap (λ n. 10 ^ n) f ∙ pow_more 10 power in
-      let q : 10 ^ power ≤ number / 10 ^ size = le-div (10 ^ power) number (10 ^ size)
-      (one-le-pow size 10 (omega arith)) (omega (arith, whole, fills.reach (omega (arith, some)))) in
-      omega (arith, more, q);
-}
+Fills-above filled size number fills =
+    let some : 0 < 10 ^ size = one-le-pow size 10 (omega arith) in
+    record {
+      below = λ power most. (div-lt_iff_lt-mul some).1
+          (rw pow-add at (fills.below (power + size) (omega (arith, most))));
+      reach = λ power less. (le-div_iff_mul-le some).1
+          (rw pow-add at (fills.reach (power + size) (omega (arith, less))));
+    }
 
 -- no group that contains a power begins above it
-pub over-none : (method : ChineseCountMethod) (widths : List ℕ) (power filled above : ℕ)
+over-none : (method : ChineseCountMethod) (widths : List ℕ) (power filled above : ℕ)
     → power < above → units_over method power filled above widths ≡ []
 over-none method [] power filled above past = refl
 over-none method (width ∷ widths) power filled above past =
@@ -154,67 +132,56 @@ over-none method (width ∷ widths) power filled above past =
 -- the first to fill
 lead-over : (step : ℕ) (method : ChineseCountMethod) (widths : List ℕ)
     (power base lead below filled : ℕ) → has_starts step method power base widths ≡ true
-    → base ≤ power → 0 < lead → lead < 10 ^ step → below < 10 ^ (power - base)
-    → Fills (filled - base) below → part method (lead * 10 ^ (power - base) + below)
-    ≡ part method lead
+    → base ≤ power → 0 < lead → lead < 10 ^ step → filled ≤ power → Fills (filled - base) below
+    → part method (lead * 10 ^ (power - base) + below) ≡ part method lead
     ++ (units_over method power filled (max filled (base + 1)) widths ++ part method below)
-lead-over step method [] power base lead below filled h within pos less small fills =
+lead-over step method [] power base lead below filled h within pos less under fills =
     let end : power - base ≡ 0 = grind (arith, nat_tests, h) in
-    let none : below ≡ 0 = let p : 10 ^ (power - base) ≡ 1 =
-    ap (λ n. 10 ^ n) end in omega (arith, p, small) in
+    let none : below ≡ 0 = omega (arith, fills.below 0 (omega (arith, end, under))) in
     let only : lead * 10 ^ 0 + 0 ≡ lead = omega arith in
     rw (end, none, only) (sym (append-nil (part method lead)))
-lead-over step method (width ∷ widths) power base lead below filled h within pos less small fills =
+lead-over step method (width ∷ widths) power base lead below filled h within pos less under fills =
     let start = start_of width power in
     let both = and_parts _ (has_starts step method power start widths) h in
     let ends : start ≤ power = omega arith in
-    elim (dec_lt base start) [
-      | no near ↦
-          let same : base ≡ start = grind (arith, nat_tests, both.0, near) in
+    elim (or_cases (base == start) _ (and_parts _ (is_start step method power base start) both.0).1) [
+      | inl equal ↦
+          let same : base ≡ start = eqb-true base start equal in
           let test : nat_le (max filled (start + 1)) start ≡ false = grind (arith, nat_tests) in
           rw (same, test) (lead-over step method widths power start lead below filled both.1 ends pos
-          less (rw same at small) (rw same at fills))
-      | yes far ↦
-          let is_new : is_unit method (start - base) (power - base + step) (rank_at method start)
-          ≡ true = elim (or_cases (base == start) _ both.0) [
-            | inl same ↦ absurd (grind (arith, nat_tests, same, far))
-            | inr all ↦ (and_parts _ (is_unit method (start - base) (power - base + step)
-                (rank_at method start)) all).1
-          ] in
+          less under (rw same at fills))
+      | inr new ↦
+          let all = power - base in
           let size = start - base in
           let rest = power - start in
+          let tests = and_parts (nat_lt base start) (is_unit method size (all + step)
+          (rank_at method start)) new in
+          let far : base < start = ltb-true base start tests.0 in
           let high = below / 10 ^ size in
           let low = below % 10 ^ size in
           let low_small : low < 10 ^ size = mod-lt below (one-le-pow size 10 (omega arith)) in
           let split : below ≡ high * 10 ^ size + low = sym (div-add-mod' below (10 ^ size)) in
-          let raised : 10 ^ (power - base) ≡ 10 ^ rest * 10 ^ size =
-          let e : power - base ≡ rest + size = omega (arith, far, ends) in
-          ap (λ n. 10 ^ n) e ∙ pow-add 10 rest size in
-          let high_small : high < 10 ^ rest = lt_of_mul-lt-mul_right (10 ^ size)
-          (omega (arith, small, raised, div-mul-le_self below (10 ^ size))) in
+          let raised : 10 ^ all ≡ 10 ^ rest * 10 ^ size = let e : all ≡ rest + size =
+          omega (arith, far, ends) in ap (λ n. 10 ^ n) e ∙ pow-add 10 rest size in
           let rest_fills : Fills (filled - start) high =
           let e : filled - base - size ≡ filled - start = omega (arith, far) in
           rw e at (Fills-above (filled - base) size below fills) in
           let known = lead-over step method widths power start lead high filled both.1 ends pos less
-          high_small rest_fills in
-          let top : 10 ^ (power - base + step) ≡ 10 ^ (power - base) * 10 ^ step =
-          pow-add 10 (power - base) step in
-          let most : (lead + 1) * 10 ^ (power - base) ≤ 10 ^ step * 10 ^ (power - base) =
-          mul-le-mul_right (10 ^ (power - base)) (omega (arith, less)) in
-          let fits : lead * 10 ^ (power - base) + below < 10 ^ (power - base + step) =
-          omega (arith, most, small, top) in
-          let whole : lead * 10 ^ (power - base) + below
-          ≡ (lead * 10 ^ rest + high) * 10 ^ size + low =
-          let e : lead * 10 ^ (power - base) ≡ lead * 10 ^ rest * 10 ^ size =
-          ap (λ n. lead * n) raised ∙ omega arith in omega (arith, e, split) in
-          let lead_some : 0 < lead * 10 ^ rest + high = let p : lead * 1 ≤ lead * 10 ^ rest =
-          mul-le-mul_left lead (one-le-pow rest 10 (omega arith)) in omega (arith, p, pos) in
+          under rest_fills in
+          let most : (lead + 1) * 10 ^ all ≤ 10 ^ step * 10 ^ all =
+          mul-le-mul_right (10 ^ all) (omega (arith, less)) in
+          let fits : lead * 10 ^ all + below < 10 ^ (all + step) =
+          rw pow-add (omega (arith, most, fills.below all (omega (arith, under)))) in
+          let whole : lead * 10 ^ all + below ≡ (lead * 10 ^ rest + high) * 10 ^ size + low =
+          omega (arith, ap (λ n. lead * n) raised, split) in
+          let lead_some : 0 < lead * 10 ^ rest + high =
+          omega (arith, mul-le-mul_left lead (one-le-pow rest 10 (omega arith)), pos) in
           let tail = unit (rank_at method start) ∷ (gap low (10 ^ size) ++ part method low) in
-          let joined : part method (lead * 10 ^ (power - base) + below) ≡ part method lead
+          let joined : part method (lead * 10 ^ all + below) ≡ part method lead
           ++ (units_over method power filled (max filled (start + 1)) widths
           ++ (part method high ++ tail)) = ap (λ n. part method n) whole
-          ∙ cut method (lead * 10 ^ rest + high) low size (power - base + step)
-          (rank_at method start) is_new lead_some low_small (omega (arith, fits, whole))
+          ∙ cut method (lead * 10 ^ rest + high) low size (all + step) (rank_at method start)
+          tests.1 lead_some low_small (omega (arith, fits, whole))
           ∙ ap (λ marks. marks ++ tail) known ∙ simp append_assoc in
           elim (dec_lt start filled) [
             | yes deep ↦
@@ -222,21 +189,16 @@ lead-over step method (width ∷ widths) power base lead below filled h within p
                 grind (arith, nat_tests, deep) in
                 let above : max filled (base + 1) ≡ max filled (start + 1) =
                 omega (arith, deep, far) in
-                let some : 0 < high = omega (
-                  arith,
-                  rest_fills.reach (omega (arith, deep)),
-                  one-le-pow (filled - start) 10 (omega arith),
-                ) in
+                let some : 0 < high = omega (arith, rest_fills.reach 0 (omega (arith, deep))) in
                 let lower : part method below ≡ part method high ++ tail =
-                ap (λ n. part method n) split ∙ cut method high low size (power - base + step)
-                (rank_at method start) is_new some low_small (omega (arith, fits, split)) in
+                ap (λ n. part method n) split ∙ cut method high low size (all + step)
+                (rank_at method start) tests.1 some low_small (omega (arith, fits, split)) in
                 rw (test, above, lower) joined
             | no short ↦
                 let test : nat_le (max filled (base + 1)) start ≡ true =
                 grind (arith, nat_tests, short, far) in
                 let above : max filled (start + 1) ≡ start + 1 = omega (arith, short) in
-                let none : high ≡ 0 = let e : filled - start ≡ 0 = omega (arith, short) in
-                omega (arith, rw e at rest_fills.below) in
+                let none : high ≡ 0 = omega (arith, rest_fills.below 0 (omega (arith, short))) in
                 let same : low ≡ below = omega (arith, rw none at split) in
                 let flag = gap-flag base start filled below far (omega (arith, short)) fills in
                 rw (test, ← flag, append_assoc) (rw (above, none, same) at joined)
@@ -244,14 +206,14 @@ lead-over step method (width ∷ widths) power base lead below filled h within p
     ]
 
 pub lead-more : (step : ℕ) (method : ChineseCountMethod) (power lead below filled : ℕ)
-    → HasUnits step method power → 0 < lead → lead < 10 ^ step → below < 10 ^ power
+    → HasUnits step method power → 0 < lead → lead < 10 ^ step → filled ≤ power
     → Fills filled below → part method (lead * 10 ^ power + below)
     ≡ part method lead ++ (units_behind method power filled ++ part method below)
-lead-more step method power lead below filled h pos less small fills =
+lead-more step method power lead below filled h pos less under fills =
     let same : power - 0 ≡ power = omega arith in
     let all : filled - 0 ≡ filled = omega arith in
     rw same at (lead-over step method (widths_of method) power 0 lead below filled h (omega arith)
-    pos less (rw same small) (rw all fills))
+    pos less under (rw all fills))
 
 -- the lowest `step` digits of a number from a power up
 abbrev pub digits_at : ℕ → ℕ → ℕ → ℕ
@@ -274,14 +236,14 @@ lower-same step number power none =
 
 -- any others are written before the lower marks
 pub part-more : (step : ℕ) (method : ChineseCountMethod) (number power filled : ℕ)
-    → HasUnits step method power → 0 < digits_at step number power
+    → HasUnits step method power → 0 < digits_at step number power → filled ≤ power
     → Fills filled (number % 10 ^ power)
     → part method (number % 10 ^ (power + step)) ≡ part method (digits_at step number power)
     ++ (units_behind method power filled ++ part method (number % 10 ^ power))
-part-more step method number power filled h pos fills =
+part-more step method number power filled h pos under fills =
     ap (λ n. part method n) (lower-split step number power)
     ∙ lead-more step method power (digits_at step number power) (number % 10 ^ power) filled h pos
-    (mod-lt (number / 10 ^ power) (one-le-pow step 10 (omega arith))) (lower-less number power) fills
+    (mod-lt (number / 10 ^ power) (one-le-pow step 10 (omega arith))) under fills
 
 pub Fills-more : (step number power size : ℕ) → digits_at step number power < 10 ^ size
     → 10 ^ size ≤ 10 * digits_at step number power
@@ -295,22 +257,12 @@ Fills-more step number power size below reach =
     let least : 10 ^ size * 10 ^ power ≤ 10 * digits * 10 ^ power =
     mul-le-mul_right (10 ^ power) reach in
     record {
-      below = omega (arith, split, raised, most, lower-less number power);
-      reach = λ some. omega (arith, split, raised, least);
+      below = λ more past. let p : 10 ^ (power + size) ≤ 10 ^ more = pow-le-pow_right (omega arith) past
+          in omega (arith, p, split, raised, most, lower-less number power);
+      reach = λ less under. let p : 10 ^ (less + 1) ≤ 10 ^ (power + size) =
+          pow-le-pow_right (omega arith) (omega (arith, under))
+          in omega (arith, p, pow_more 10 less, split, raised, least);
     }
-
--- a group begins at the power itself or at least `step` powers below
-spaced : (step : ℕ) (method : ChineseCountMethod) (widths : List ℕ) (power base : ℕ)
-    → has_starts step method power base widths ≡ true → base < power → base + step ≤ power
-spaced step method [] power base h less = absurd (grind (arith, nat_tests, h, less))
-spaced step method (width ∷ widths) power base h less =
-    let start = start_of width power in
-    let both = and_parts _ (has_starts step method power start widths) h in
-    elim (dec_lt base start) [
-      | no near ↦ let same : base ≡ start = grind (arith, nat_tests, both.0, near)
-          in rw same (spaced step method widths power start both.1 (rw same at less))
-      | yes far ↦ grind (arith, nat_tests, both.0, far)
-    ]
 
 -- the first of the units is that of the power, and the only one if the powers below `above` reach
 -- near it
@@ -343,12 +295,7 @@ over-head step method (width ∷ widths) power base filled above h less reach =
             (omega (arith, inside)) in (
               more.0 ++ unit_behind method filled above start,
               rw test (ap (λ marks. marks ++ unit_behind method filled above start) more.1),
-              λ near. absurd (omega (
-                arith,
-                near,
-                long,
-                spaced step method widths power start both.1 inside,
-              )),
+              λ near. absurd (grind (arith, nat_tests, near, long, inside, both.0)),
             )
       ]
     ]
@@ -363,7 +310,4 @@ behind-head step method power filled h pos under =
 
 -- no unit is written after the lowest digit
 pub behind-zero : (method : ChineseCountMethod) → units_behind method 0 0 ≡ []
-behind-zero Low = refl
-behind-zero TenThousand = refl
-behind-zero Middle = refl
-behind-zero High = refl
+behind-zero method = over-none method (widths_of method) 0 0 1 (omega arith)

@@ -1,8 +1,9 @@
-use Rattle.std.proofs.Common.{◌≡◌, ℕ, ◌+◌, ◌*◌, ◌%◌, ◌^◌, ◌<◌, ◌≤◌, ◌++◌, length, ap, ◌∙◌, arith, length-append}
+use Rattle.std.proofs.Common.{rules, ◌≡◌, ℕ, ◌+◌, ◌*◌, ◌%◌, ◌^◌, ◌<◌, ◌≤◌, ◌++◌, length, ap, ◌∙◌, arith, length-append}
 use Rattle.cn_core.proofs.Cuts.{part}
 use Rattle.cn_spell.specs.Working.Sections.{section_marks}
 use Rattle.cn_spell.specs.Working.Units.{units_behind}
 use Rattle.cn_spell.proofs.Walks.{digits_at, lower-same, Fills-more}
+use Rattle.cn_spell.proofs.Tops.{Fills-none}
 use Rattle.cn_spell.proofs.SectionWalks.{section-more, room-more, spelling-end}
 use Rattle.cn_spell.proofs.spell.put_spelling.Goals.{then-section-gt0, else-section-gt0}
 use Rattle.cn_spell.proofs.spell.put_spelling.Goals as goal
@@ -14,7 +15,7 @@ put_units-requires-clause-room g c =
     let value = sections.holds.each l.index c.loop-index-test.true in
     let room = room-more c.args.method sections.number sections.count l.index
     sections.above l.filled sections.holds c.requires.count c.requires.above c.loop-index-test.true
-    (omega (arith, value, c.if-section-gt0.true)) l.invariant.fills in
+    (omega (arith, value, c.if-section-gt0.true)) l.invariant.under l.invariant.fills in
     omega (arith, room, l.invariant.room, c.requires.room)
 
 pub put_section-requires-clause-room : goal.put_section-requires-clause-room
@@ -24,9 +25,12 @@ put_section-requires-clause-room g c =
     let value = sections.holds.each l.index c.loop-index-test.true in
     let room = room-more c.args.method sections.number sections.count l.index
     sections.above l.filled sections.holds c.requires.count c.requires.above c.loop-index-test.true
-    (omega (arith, value, c.if-section-gt0.true)) l.invariant.fills in
+    (omega (arith, value, c.if-section-gt0.true)) l.invariant.under l.invariant.fills in
     let same = ap (λ n. length (section_marks n)) value in
     omega (arith, same, room, l.invariant.room, c.requires.room, c.put_units.ensures.room)
+
+pub loop-index-init : goal.loop-index-init
+loop-index-init g c = search (rules, Fills-none)
 
 pub loop-index-preserved : goal.loop-index-preserved
 loop-index-preserved g c =
@@ -40,7 +44,7 @@ loop-index-preserved g c =
     elim c.if-section-gt0.branch [
       | then-section-gt0 w ↦
           let pos : 0 < digits_at 4 number power = omega (arith, value, w.if-section-gt0.true) in
-          let more = section-more method number l.index l.filled (omega (arith, c.requires.count, c.loop-index-test.true)) pos l.invariant.fills in
+          let more = section-more method number l.index l.filled (omega (arith, c.requires.count, c.loop-index-test.true)) pos l.invariant.under l.invariant.fills in
           let size = w.digits_of.result in
           let below : digits_at 4 number power < 10 ^ size = omega (arith, value, w.digits_of.ensures.below) in
           let reach : 10 ^ size ≤ 10 * digits_at 4 number power = omega (arith, value, w.digits_of.ensures.reach) in
