@@ -14,7 +14,7 @@ use Rattle.cn_core.proofs.Cuts.{part, part-some}
 use Rattle.cn_core.proofs.Sums.{spelled-digit}
 use Rattle.cn_spell.specs.Working.Sections.{HoldsSections, sections_within, above_limit, kept, section_marks}
 use Rattle.cn_spell.specs.Working.Units.{powers_within, rank_at, units_behind}
-use Rattle.cn_spell.proofs.Walks.{Fills, HasUnits, HasUnits-section, lead-more, digits_at, part-more, behind-head, behind-zero}
+use Rattle.cn_spell.proofs.Walks.{Fills, IsSpaced, HasUnits-section, IsSpaced-section, lead-more, digits_at, part-more, behind-head, behind-zero}
 use Rattle.cn_spell.proofs.Tops.{filled_of, Filled, part-none, parts-grow}
 use Rattle.cn_spell.proofs.Single.{section-is}
 
@@ -38,9 +38,9 @@ pub behind-near : (method : ChineseCountMethod) (power filled : ℕ) → 0 < pow
     ≡ unit (rank_at method power) ∷ kept (nat_lt filled power) (digit 0)
 behind-near method power filled pos most four under near =
     let whole : 4 * (power / 4) ≡ power = omega (arith, four) in
-    let units : HasUnits 4 method power =
-    rw whole at (HasUnits-section method (power / 4) (omega (arith, most))) in
-    let head = behind-head 4 method power filled units pos under in
+    let spaced : IsSpaced 4 method power =
+    rw whole at (IsSpaced-section method (power / 4) (omega (arith, most))) in
+    let head = behind-head 4 method power filled spaced pos under in
     let flag : (max filled 1 == filled && nat_lt filled power) ≡ nat_lt filled power =
     let some : 0 < filled = omega (arith, pos, four, near) in grind (arith, nat_tests, some) in
     rw (head.1, head.2 (omega (arith, near)), flag) refl
@@ -100,7 +100,8 @@ spelling-above method number (suc index) lead filled held most small fills under
     let power = 4 * suc index in
     let below = number % 10 ^ power in
     let units = HasUnits-section method (suc index) most in
-    let head = behind-head 4 method power filled units (omega arith) under in
+    let head = behind-head 4 method power filled (IsSpaced-section method (suc index) most)
+    (omega arith) under in
     let pos : 0 < lead = held.some (omega arith) in
     let section : lead < 10 ^ 4 = grind (arith, nat_tests, small, most, (limits method).2) in
     let other : (rank_at method power == 1) ≡ false = agree_below_at (λ n.
@@ -133,7 +134,7 @@ room-section method number count index lead held most small less =
     (grind (arith, nat_tests, steps, most, (limits method).0))) in
     let whole = ap length (spelling-above method number count lead filled held most small
     held_below.1 held_below.0) in
-    let head = behind-head 4 method power filled (HasUnits-section method count most)
+    let head = behind-head 4 method power filled (IsSpaced-section method count most)
     (omega (arith, less)) held_below.0 in
     omega (
       arith,

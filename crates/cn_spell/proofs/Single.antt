@@ -1,5 +1,6 @@
 -- Digits whose powers have units of their own, from the lowest up.
 use Rattle.std.proofs.Common.{◌≡◌, ℕ, zero, suc, ◌+◌, ◌*◌, ◌/◌, ◌%◌, ◌^◌, ◌<◌, ◌≤◌, max, Bool, true, false, ◌==◌, ◌&&◌, nat_le, nat_lt, List, [], ◌∷◌, ◌++◌, refl, sym, ap, ap₂, ◌∙◌, arith, append_assoc, append-nil, if◌then◌else◌}
+use Rattle.std.proofs.lemmas.Bool.{agree_below, agree_below_at, and_parts, eqb-true}
 use Rattle.std.proofs.lemmas.Bool.Decides.{nat_tests}
 use Rattle.std.proofs.Math.Decide.{dec_lt}
 use Rattle.std.proofs.Math.Nat.{mul-le-mul_right, mod-eq_of_lt}
@@ -9,80 +10,43 @@ use Rattle.cn_core.specs.declared.method.ChineseCountMethod.TheVariants.{Low, Te
 use Rattle.cn_core.specs.Mark.{Mark, digit, unit}
 use Rattle.cn_core.proofs.Cuts.{part}
 use Rattle.cn_spell.specs.Working.Sections.{kept, digit_marks, section_marks}
-use Rattle.cn_spell.specs.Working.Units.{powers_within, rank_at, start_of, units_over, units_behind}
-use Rattle.cn_spell.proofs.Walks.{Fills, lower-split, lower-less, behind-zero}
+use Rattle.cn_spell.specs.Working.Units.{widths_of, powers_within, rank_at, units_behind}
+use Rattle.cn_spell.proofs.Walks.{Fills, is_spaced, lower-split, lower-less, behind-head, behind-zero}
 use Rattle.cn_spell.proofs.Tops.{at, part-same, filled_of, Filled, part-digit, part-none}
 
 -- 零 before the lower marks, if the next power is empty
 abbrev pub gap_marks : ℕ → ℕ → List Mark
 gap_marks filled power = kept (nat_lt 0 filled && nat_lt filled power) (digit 0)
 
-over-one : (method : ChineseCountMethod) (power filled : ℕ) → 0 < power → filled ≤ power
-    → units_over method power filled (max filled 1) (1 ∷ [])
-    ≡ unit (rank_at method power) ∷ gap_marks filled power
-over-one method power filled some under =
-    let start : start_of 1 power ≡ power = omega arith in
-    let reach : nat_le (max filled 1) power ≡ true = grind (arith, nat_tests) in
-    let flag : (max filled 1 == filled) ≡ nat_lt 0 filled = elim (dec_lt 0 filled) [
-      | yes p ↦
-          let a : (max filled 1 == filled) ≡ true = let e : max filled 1 ≡ filled =
-          omega (arith, p) in grind (arith, nat_tests, e) in
-          let b : nat_lt 0 filled ≡ true = grind (arith, nat_tests, p) in
-          a ∙ sym b
-      | no p ↦ let z : filled ≡ 0 = omega (arith, p) in rw z refl
-    ] in
-    rw (start, reach, flag) refl
+-- the powers below this one have units of their own: each under `Low`, and the lowest four under any
+-- method
+abbrev pub own_limit : ChineseCountMethod → ℕ
+own_limit Low = 16
+own_limit method = 4
 
--- no group of more powers begins at one of the lowest powers
-over-skip : (method : ChineseCountMethod) (power filled width next : ℕ) (widths : List ℕ)
-    → power < width
-    → units_over method power filled (max filled 1) (width ∷ next ∷ widths)
-    ≡ units_over method power filled (max filled 1) (next ∷ widths)
-over-skip method power filled width next widths inside =
-    let low : power % width ≡ power = mod-eq_of_lt inside in
-    let start : start_of width power ≡ 0 = omega (arith, low) in
-    let test : nat_le (max filled 1) 0 ≡ false = grind (arith, nat_tests) in
-    rw (start, test) refl
+-- no group of more powers begins above 0 and below such a power
+abbrev is_own : ChineseCountMethod → ℕ → Bool
+is_own method power =
+    rank_at method power == power && is_spaced power power 0 (widths_of method)
 
--- the power has its own unit: each power under `Low`, and the lowest four under any method
-abbrev pub IsOwn : ChineseCountMethod → ℕ → Type 0
-IsOwn Low power = power < 16
-IsOwn method power = power < 4
+all_own : (method : ChineseCountMethod)
+    → agree_below (is_own method) (λ n. true) (own_limit method) ≡ true
+all_own Low = refl
+all_own TenThousand = refl
+all_own Middle = refl
+all_own High = refl
 
-own-ten_thousand : (power : ℕ) → 0 < power → power < 4 → rank_at TenThousand power ≡ power
-own-ten_thousand power some four =
-    let low : power % 4 ≡ power = mod-eq_of_lt four in
-    let test : (power == 0) ≡ false = grind (arith, nat_tests, some) in
-    rw (low, test) refl
-
-own-middle : (power : ℕ) → 0 < power → power < 4 → rank_at Middle power ≡ power
-own-middle power some four =
-    let low : power % 4 ≡ power = mod-eq_of_lt four in
-    let test : (power == 0) ≡ false = grind (arith, nat_tests, some) in
-    rw (low, test) refl
-
-own-high : (power : ℕ) → 0 < power → power < 4 → rank_at High power ≡ power
-own-high power some four =
-    let low : power % 4 ≡ power = mod-eq_of_lt four in
-    let test : (power == 0) ≡ false = grind (arith, nat_tests, some) in
-    rw (low, test) refl
-
-pub behind-own : (method : ChineseCountMethod) (power filled : ℕ) → IsOwn method power → 0 < power
-    → filled ≤ power → units_behind method power filled ≡ unit power ∷ gap_marks filled power
-behind-own Low power filled own some under = over-one Low power filled some under
-behind-own TenThousand power filled own some under =
-    over-skip TenThousand power filled 4 1 [] own ∙ over-one TenThousand power filled some under
-    ∙ ap (λ rank. unit rank ∷ gap_marks filled power) (own-ten_thousand power some own)
-behind-own Middle power filled own some under =
-    over-skip Middle power filled 8 4 (1 ∷ []) (omega (arith, own))
-    ∙ over-skip Middle power filled 4 1 [] own ∙ over-one Middle power filled some under
-    ∙ ap (λ rank. unit rank ∷ gap_marks filled power) (own-middle power some own)
-behind-own High power filled own some under =
-    over-skip High power filled 32 16 (8 ∷ 4 ∷ 1 ∷ []) (omega (arith, own))
-    ∙ over-skip High power filled 16 8 (4 ∷ 1 ∷ []) (omega (arith, own))
-    ∙ over-skip High power filled 8 4 (1 ∷ []) (omega (arith, own))
-    ∙ over-skip High power filled 4 1 [] own ∙ over-one High power filled some under
-    ∙ ap (λ rank. unit rank ∷ gap_marks filled power) (own-high power some own)
+pub behind-own : (method : ChineseCountMethod) (power filled : ℕ) → power < own_limit method
+    → 0 < power → filled ≤ power
+    → units_behind method power filled ≡ unit power ∷ gap_marks filled power
+behind-own method power filled own some under =
+    let tests = and_parts (rank_at method power == power) _
+    (agree_below_at (is_own method) (λ n. true) (own_limit method) power (all_own method) own) in
+    let head = behind-head power method power filled tests.1 some under in
+    let flag : (max filled 1 == filled && nat_lt filled power)
+    ≡ (nat_lt 0 filled && nat_lt filled power) = grind (arith, nat_tests) in
+    head.1 ∙ ap₂ (λ rank marks. unit rank ∷ marks) (eqb-true _ _ tests.0)
+    (head.2 (omega arith) ∙ ap (λ b. kept b (digit 0)) flag)
 
 -- the digit below a power
 abbrev pub below_of : ℕ → ℕ → ℕ
@@ -104,7 +68,7 @@ so_far method number power = gap_marks (filled_of number power) power
 
 -- a digit that is not 0
 pub some-digit : (method : ChineseCountMethod) (number power filled : ℕ) (is_gap : Bool)
-    → power < powers_within method → IsOwn method power → 0 < at number power → filled ≤ power
+    → power < powers_within method → power < own_limit method → 0 < at number power → filled ≤ power
     → Fills filled (number % 10 ^ power)
     → part method (number % 10 ^ suc power) ≡ digit_marks power (at number power) is_gap
     ++ (gap_marks filled power ++ part method (number % 10 ^ power))
@@ -152,7 +116,7 @@ power-zero power value false rest z = rw z refl
 
 -- each power adds its digit and unit, or 零
 pub step : (method : ChineseCountMethod) (number power : ℕ) → power < powers_within method
-    → IsOwn method power
+    → power < own_limit method
     → so_far method number (suc power) ≡ digit_marks power (at number power)
     (nat_lt 0 (below_of number power)) ++ so_far method number power
 step method number power within own = by (dec_lt 0 (at number power)) where
@@ -211,7 +175,7 @@ stays-below number power less none =
     omega (arith, split, whole, zero, lower-less number power)
 
 step-in : (method : ChineseCountMethod) (number power : ℕ) → power < powers_within method
-    → IsOwn method power
+    → power < own_limit method
     → so_far_in method number (suc power)
     ≡ digit_marks power (at number power)
     (nat_lt 0 (below_of number power) && nat_le (10 ^ suc power) number)
@@ -249,7 +213,7 @@ step-in method number power within own =
           ∙ sym (power-zero power (at number power) false (part method (number % 10 ^ power)) z))
 
 own-lowest : (method : ChineseCountMethod) (power : ℕ) → power < 4
-    → IsOwn method power × (power < powers_within method)
+    → (power < own_limit method) × (power < powers_within method)
 own-lowest Low power four = (omega (arith, four), omega (arith, four))
 own-lowest TenThousand power four = (four, omega (arith, four))
 own-lowest Middle power four = (four, omega (arith, four))

@@ -35,14 +35,19 @@ abbrev is_start : ℕ → ChineseCountMethod → ℕ → ℕ → ℕ → Bool
 is_start step method power base start = base == start || (nat_lt base start
     && is_unit method (start - base) (power - base + step) (rank_at method start))
 
--- each of the groups of these widths that contain the power does, at the power or at least `step`
--- powers below, and the last begins at the power
+-- each of the groups of these widths that contain the power does, and the last begins at the power
 abbrev has_starts : ℕ → ChineseCountMethod → ℕ → ℕ → List ℕ → Bool
 has_starts step method power base [] = base == power
 has_starts step method power base (width ∷ widths) =
-    (start_of width power == power || nat_le (start_of width power + step) power)
-    && is_start step method power base (start_of width power)
+    is_start step method power base (start_of width power)
     && has_starts step method power (start_of width power) widths
+
+-- those that do not begin at the power begin at least `space` powers below
+abbrev pub is_spaced : ℕ → ℕ → ℕ → List ℕ → Bool
+is_spaced space power base [] = base == power
+is_spaced space power base (width ∷ widths) =
+    (start_of width power == power || nat_le (start_of width power + space) power)
+    && is_spaced space power (start_of width power) widths
 
 abbrev has_units : ℕ → ChineseCountMethod → ℕ → Bool
 has_units step method power = has_starts step method power 0 (widths_of method)
@@ -50,15 +55,20 @@ has_units step method power = has_starts step method power 0 (widths_of method)
 abbrev pub HasUnits : ℕ → ChineseCountMethod → ℕ → Type 0
 HasUnits step method power = has_units step method power ≡ true
 
+abbrev pub IsSpaced : ℕ → ChineseCountMethod → ℕ → Type 0
+IsSpaced space method power = is_spaced space power 0 (widths_of method) ≡ true
+
 -- so it is for each digit, and for each section
 tables : (method : ChineseCountMethod)
     → (agree_below (has_units 1 method) (λ n. true) (powers_within method) ≡ true)
     × (agree_below (λ n. has_units 4 method (4 * n)) (λ n. true) (suc (sections_within method))
     ≡ true)
-tables Low = (refl, refl)
-tables TenThousand = (refl, refl)
-tables Middle = (refl, refl)
-tables High = (refl, refl)
+    × (agree_below (λ n. is_spaced 4 (4 * n) 0 (widths_of method)) (λ n. true)
+    (suc (sections_within method)) ≡ true)
+tables Low = (refl, refl, refl)
+tables TenThousand = (refl, refl, refl)
+tables Middle = (refl, refl, refl)
+tables High = (refl, refl, refl)
 
 pub HasUnits-digit : (method : ChineseCountMethod) (power : ℕ) → power < powers_within method
     → HasUnits 1 method power
@@ -69,6 +79,12 @@ pub HasUnits-section : (method : ChineseCountMethod) (index : ℕ) → index ≤
     → HasUnits 4 method (4 * index)
 HasUnits-section method index within = agree_below_at (λ n. has_units 4 method (4 * n)) (λ n. true)
     (suc (sections_within method)) index (tables method).1 (omega (arith, within))
+
+pub IsSpaced-section : (method : ChineseCountMethod) (index : ℕ) → index ≤ sections_within method
+    → IsSpaced 4 method (4 * index)
+IsSpaced-section method index within =
+    agree_below_at (λ n. is_spaced 4 (4 * n) 0 (widths_of method)) (λ n. true)
+    (suc (sections_within method)) index (tables method).2 (omega (arith, within))
 
 -- a number with at most `top` powers is cut at such a unit
 cut : (method : ChineseCountMethod) (high low size top rank : ℕ)
@@ -142,9 +158,9 @@ lead-over step method [] power base lead below filled h within pos less under fi
     rw (end, none, only) (sym (append-nil (part method lead)))
 lead-over step method (width ∷ widths) power base lead below filled h within pos less under fills =
     let start = start_of width power in
-    let both = and_parts _ (has_starts step method power start widths) h in
+    let both = and_parts (is_start step method power base start) _ h in
     let ends : start ≤ power = omega arith in
-    elim (or_cases (base == start) _ (and_parts _ (is_start step method power base start) both.0).1) [
+    elim (or_cases (base == start) _ both.0) [
       | inl equal ↦
           let same : base ≡ start = eqb-true base start equal in
           let test : nat_le (max filled (start + 1)) start ≡ false = grind (arith, nat_tests) in
@@ -266,16 +282,16 @@ Fills-more step number power size below reach =
 
 -- the first of the units is that of the power, and the only one if the powers below `above` reach
 -- near it
-over-head : (step : ℕ) (method : ChineseCountMethod) (widths : List ℕ)
-    (power base filled above : ℕ) → has_starts step method power base widths ≡ true → base < power
+over-head : (space : ℕ) (method : ChineseCountMethod) (widths : List ℕ)
+    (power base filled above : ℕ) → is_spaced space power base widths ≡ true → base < power
     → above ≤ power → (rest : List Mark)
     × (units_over method power filled above widths ≡ unit (rank_at method power) ∷ rest)
-    × (power < above + step → rest ≡ kept (above == filled && nat_lt filled power) (digit 0))
-over-head step method [] power base filled above h less reach =
+    × (power < above + space → rest ≡ kept (above == filled && nat_lt filled power) (digit 0))
+over-head space method [] power base filled above h less reach =
     absurd (grind (arith, nat_tests, h, less))
-over-head step method (width ∷ widths) power base filled above h less reach =
+over-head space method (width ∷ widths) power base filled above h less reach =
     let start = start_of width power in
-    let both = and_parts _ (has_starts step method power start widths) h in
+    let both = and_parts _ (is_spaced space power start widths) h in
     elim (dec_lt start power) [
       | no outside ↦
           let same : start ≡ power = omega (arith, outside) in
@@ -287,11 +303,11 @@ over-head step method (width ∷ widths) power base filled above h less reach =
       | yes inside ↦ elim (dec_lt start above) [
         | yes short ↦
             let test : nat_le above start ≡ false = grind (arith, nat_tests, short) in
-            let more = over-head step method widths power start filled above both.1 inside reach in
+            let more = over-head space method widths power start filled above both.1 inside reach in
             (more.0, rw test more.1, more.2)
         | no long ↦
             let test : nat_le above start ≡ true = grind (arith, nat_tests, long) in
-            let more = over-head step method widths power start filled (start + 1) both.1 inside
+            let more = over-head space method widths power start filled (start + 1) both.1 inside
             (omega (arith, inside)) in (
               more.0 ++ unit_behind method filled above start,
               rw test (ap (λ marks. marks ++ unit_behind method filled above start) more.1),
@@ -300,13 +316,13 @@ over-head step method (width ∷ widths) power base filled above h less reach =
       ]
     ]
 
-pub behind-head : (step : ℕ) (method : ChineseCountMethod) (power filled : ℕ)
-    → HasUnits step method power → 0 < power → filled ≤ power → (rest : List Mark)
+pub behind-head : (space : ℕ) (method : ChineseCountMethod) (power filled : ℕ)
+    → IsSpaced space method power → 0 < power → filled ≤ power → (rest : List Mark)
     × (units_behind method power filled ≡ unit (rank_at method power) ∷ rest)
-    × (power < max filled 1 + step
+    × (power < max filled 1 + space
     → rest ≡ kept (max filled 1 == filled && nat_lt filled power) (digit 0))
-behind-head step method power filled h pos under =
-    over-head step method (widths_of method) power 0 filled (max filled 1) h pos (omega arith)
+behind-head space method power filled h pos under =
+    over-head space method (widths_of method) power 0 filled (max filled 1) h pos (omega arith)
 
 -- no unit is written after the lowest digit
 pub behind-zero : (method : ChineseCountMethod) → units_behind method 0 0 ≡ []
