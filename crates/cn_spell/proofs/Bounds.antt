@@ -39,9 +39,7 @@ squares method number small =
       within : (method : ChineseCountMethod)
           → powers_within method ≤ exponent method 15 + exponent method 15
       within Low = omega arith
-      within TenThousand = omega arith
-      within Middle = omega arith
-      within High = omega arith
+      within method = omega arith
 
 -- the marks of its spelling and its sign fit the most bytes
 pub marks-fit : (method : ChineseCountMethod) (number : ℤ) → is_printable method number ≡ true

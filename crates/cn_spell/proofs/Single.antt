@@ -6,7 +6,7 @@ use Rattle.std.proofs.Math.Decide.{dec_lt}
 use Rattle.std.proofs.Math.Nat.{mul-le-mul_right, mod-eq_of_lt}
 use Rattle.std.proofs.Math.Bool.{and-false}
 use Rattle.cn_core.specs.declared.method.ChineseCountMethod.{ChineseCountMethod}
-use Rattle.cn_core.specs.declared.method.ChineseCountMethod.TheVariants.{Low, TenThousand, Middle, High}
+use Rattle.cn_core.specs.declared.method.ChineseCountMethod.TheVariants.{Low}
 use Rattle.cn_core.specs.Mark.{Mark, digit, unit}
 use Rattle.cn_core.proofs.Cuts.{part}
 use Rattle.cn_spell.specs.Working.Sections.{kept, digit_marks, section_marks}
@@ -32,9 +32,7 @@ is_own method power =
 all_own : (method : ChineseCountMethod)
     → agree_below (is_own method) (λ n. true) (own_limit method) ≡ true
 all_own Low = refl
-all_own TenThousand = refl
-all_own Middle = refl
-all_own High = refl
+all_own method = refl
 
 pub behind-own : (method : ChineseCountMethod) (power filled : ℕ) → power < own_limit method
     → 0 < power → filled ≤ power
@@ -215,9 +213,7 @@ step-in method number power within own =
 own-lowest : (method : ChineseCountMethod) (power : ℕ) → power < 4
     → (power < own_limit method) × (power < powers_within method)
 own-lowest Low power four = (omega (arith, four), omega (arith, four))
-own-lowest TenThousand power four = (four, omega (arith, four))
-own-lowest Middle power four = (four, omega (arith, four))
-own-lowest High power four = (four, omega (arith, four))
+own-lowest method power four = (four, omega (arith, four))
 
 -- the spelling of a section, under any method
 pub section-is : (method : ChineseCountMethod) (section : ℕ) → section < 10 ^ 4

@@ -8,7 +8,7 @@ use Rattle.std.proofs.Math.Nat.{mul-le-mul_left, mul-le-mul_right, pow-le-pow_ri
 use Rattle.std.proofs.lemmas.Grind.{pow_more}
 use Rattle.std.proofs.lemmas.Nat.{pow-add, div-add-mod'}
 use Rattle.cn_core.specs.declared.method.ChineseCountMethod.{ChineseCountMethod}
-use Rattle.cn_core.specs.declared.method.ChineseCountMethod.TheVariants.{Low, TenThousand, Middle, High}
+use Rattle.cn_core.specs.declared.method.ChineseCountMethod.TheVariants.{Low}
 use Rattle.cn_core.specs.Mark.{Mark, digit, unit}
 use Rattle.cn_core.specs.Scale.{scale, exponent}
 use Rattle.cn_core.proofs.Cuts.{part, gap, part-cut}
@@ -52,6 +52,10 @@ is_spaced space power base (width ∷ widths) =
 abbrev has_units : ℕ → ChineseCountMethod → ℕ → Bool
 has_units step method power = has_starts step method power 0 (widths_of method)
 
+abbrev has_section : ChineseCountMethod → ℕ → Bool
+has_section method index =
+    has_units 4 method (4 * index) && is_spaced 4 (4 * index) 0 (widths_of method)
+
 abbrev pub HasUnits : ℕ → ChineseCountMethod → ℕ → Type 0
 HasUnits step method power = has_units step method power ≡ true
 
@@ -61,14 +65,9 @@ IsSpaced space method power = is_spaced space power 0 (widths_of method) ≡ tru
 -- so it is for each digit, and for each section
 tables : (method : ChineseCountMethod)
     → (agree_below (has_units 1 method) (λ n. true) (powers_within method) ≡ true)
-    × (agree_below (λ n. has_units 4 method (4 * n)) (λ n. true) (suc (sections_within method))
-    ≡ true)
-    × (agree_below (λ n. is_spaced 4 (4 * n) 0 (widths_of method)) (λ n. true)
-    (suc (sections_within method)) ≡ true)
-tables Low = (refl, refl, refl)
-tables TenThousand = (refl, refl, refl)
-tables Middle = (refl, refl, refl)
-tables High = (refl, refl, refl)
+    × (agree_below (has_section method) (λ n. true) (suc (sections_within method)) ≡ true)
+tables Low = (refl, refl)
+tables method = (refl, refl)
 
 pub HasUnits-digit : (method : ChineseCountMethod) (power : ℕ) → power < powers_within method
     → HasUnits 1 method power
@@ -76,15 +75,10 @@ HasUnits-digit method power = agree_below_at (has_units 1 method) (λ n. true)
     (powers_within method) power (tables method).0
 
 pub HasUnits-section : (method : ChineseCountMethod) (index : ℕ) → index ≤ sections_within method
-    → HasUnits 4 method (4 * index)
-HasUnits-section method index within = agree_below_at (λ n. has_units 4 method (4 * n)) (λ n. true)
-    (suc (sections_within method)) index (tables method).1 (omega (arith, within))
-
-pub IsSpaced-section : (method : ChineseCountMethod) (index : ℕ) → index ≤ sections_within method
-    → IsSpaced 4 method (4 * index)
-IsSpaced-section method index within =
-    agree_below_at (λ n. is_spaced 4 (4 * n) 0 (widths_of method)) (λ n. true)
-    (suc (sections_within method)) index (tables method).2 (omega (arith, within))
+    → HasUnits 4 method (4 * index) × IsSpaced 4 method (4 * index)
+HasUnits-section method index within = and_parts (has_units 4 method (4 * index)) _
+    (agree_below_at (has_section method) (λ n. true) (suc (sections_within method)) index
+    (tables method).1 (omega (arith, within)))
 
 -- a number with at most `top` powers is cut at such a unit
 cut : (method : ChineseCountMethod) (high low size top rank : ℕ)
