@@ -1,19 +1,17 @@
 -- The lengths of the texts of the numbers that a method writes.
 use Rattle.std.proofs.Common.{◌≡◌, ◌+◌, ◌*◌, ◌^◌, ◌<◌, ◌≤◌, ℕ, ℤ, pos, nat_abs, Bool, true, length, refl, arith}
 use Rattle.std.proofs.lemmas.Bool.Decides.{nat_tests}
-use Rattle.std.proofs.Math.Nat.{pow-le-pow_right}
-use Rattle.std.proofs.lemmas.Nat.{pow-add}
 use Rattle.cn_core.specs.declared.script.ChineseVariant.{ChineseVariant}
 use Rattle.cn_core.specs.declared.case.ChineseCase.{ChineseCase}
 use Rattle.cn_core.specs.declared.method.ChineseCountMethod.{ChineseCountMethod}
 use Rattle.cn_core.specs.declared.method.ChineseCountMethod.TheVariants.{Low, TenThousand, Middle, High}
-use Rattle.cn_core.specs.Scale.{scale, exponent}
 use Rattle.cn_core.specs.Spelling.{spelling}
 use Rattle.cn_core.specs.Printing.{is_printable, signed_text}
 use Rattle.cn_core.proofs.Lengths.{length-spelling}
 use Rattle.cn_spell.specs.Prints.{most_bytes}
 use Rattle.cn_spell.specs.Working.Units.{powers_within}
 use Rattle.cn_spell.proofs.Signs.{length-signed, sign-one}
+use Rattle.cn_spell.proofs.SpelledMarks.{below_square}
 
 -- the number has few enough digits for the method's units
 pub fits : (method : ChineseCountMethod) (number : ℤ) → is_printable method number ≡ true
@@ -29,18 +27,6 @@ some-powers TenThousand = omega arith
 some-powers Middle = omega arith
 some-powers High = omega arith
 
--- and is below the square of its greatest unit
-squares : (method : ChineseCountMethod) (number : ℕ) → number < 10 ^ powers_within method
-    → number < scale method 15 * scale method 15
-squares method number small =
-    let p : 10 ^ powers_within method ≤ 10 ^ (exponent method 15 + exponent method 15) =
-    pow-le-pow_right (omega arith) (within method) in
-    omega (arith, small, p, pow-add 10 (exponent method 15) (exponent method 15)) where
-      within : (method : ChineseCountMethod)
-          → powers_within method ≤ exponent method 15 + exponent method 15
-      within Low = omega arith
-      within method = omega arith
-
 -- the marks of its spelling and its sign fit the most bytes
 pub marks-fit : (method : ChineseCountMethod) (number : ℤ) → is_printable method number ≡ true
     → nat_abs number < 2 ^ 128 → 3 * (length (spelling method (nat_abs number)) + 1)
@@ -48,7 +34,7 @@ pub marks-fit : (method : ChineseCountMethod) (number : ℤ) → is_printable me
 marks-fit method number printable small =
     let less = fits method number printable small in
     let marks = length-spelling method (nat_abs number) (powers_within method) (some-powers method)
-    less (squares method (nat_abs number) less) in
+    less (below_square method number small printable) in
     omega (arith, marks, bytes method) where
       bytes : (method : ChineseCountMethod) → 6 * powers_within method ≤ most_bytes method
       bytes Low = omega arith
