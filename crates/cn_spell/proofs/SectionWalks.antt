@@ -25,8 +25,8 @@ pub section-more : (method : ChineseCountMethod) (number index filled : ℕ)
     ≡ section_marks (digits_at 4 number (4 * index))
     ++ (units_behind method (4 * index) filled ++ part method (number % 10 ^ (4 * index)))
 section-more method number index filled most pos under fills =
-    part-more 4 method number (4 * index) filled (HasUnits-section method index most).0 pos under fills
-    ∙ ap (λ marks. marks ++ (units_behind method (4 * index) filled
+    part-more 4 method number (4 * index) filled (HasUnits-section method index most).0 pos under
+    fills ∙ ap (λ marks. marks ++ (units_behind method (4 * index) filled
     ++ part method (number % 10 ^ (4 * index))))
     (section-is method (digits_at 4 number (4 * index))
     (mod-lt (number / 10 ^ (4 * index)) (omega arith)))
@@ -45,11 +45,14 @@ behind-near method power filled pos most four under near =
     let some : 0 < filled = omega (arith, pos, four, near) in grind (arith, nat_tests, some) in
     rw (head.1, head.2 (omega (arith, near)), flag) refl
 
--- there are fewer powers than those of a number, no unit between sections is 十, and the rest above
--- sections is a section of its own
+abbrev is_ten : ChineseCountMethod → ℕ → Bool
+is_ten method index = rank_at method (4 * suc index) == 1
+
+-- the sections lie within the method's powers, the unit of none is 十, and the number above them is
+-- itself below 10^4
 limits : (method : ChineseCountMethod)
     → (nat_lt (4 * sections_within method) (powers_within method) ≡ true)
-    × (agree_below (λ n. rank_at method (4 * suc n) == 1) (λ n. false) (sections_within method) ≡ true)
+    × (agree_below (is_ten method) (λ n. false) (sections_within method) ≡ true)
     × ((sections_within method == 0 || nat_le (above_limit method) (10 ^ 4)) ≡ true)
 limits Low = (refl, refl, refl)
 limits method = (refl, refl, refl)
@@ -92,13 +95,11 @@ spelling-above method number (suc index) lead filled held most small fills under
     let power = 4 * suc index in
     let below = number % 10 ^ power in
     let units = HasUnits-section method (suc index) most in
-    let head = behind-head 4 method power filled units.1
-    (omega arith) under in
+    let head = behind-head 4 method power filled units.1 (omega arith) under in
     let pos : 0 < lead = held.some (omega arith) in
     let section : lead < 10 ^ 4 = grind (arith, nat_tests, small, most, (limits method).2) in
-    let other : (rank_at method power == 1) ≡ false = agree_below_at (λ n.
-    rank_at method (4 * suc n) == 1) (λ n. false) (sections_within method) index (limits method).1
-    (omega (arith, most)) in
+    let higher : (rank_at method power == 1) ≡ false = agree_below_at (is_ten method) (λ n. false)
+    (sections_within method) index (limits method).1 (omega (arith, most)) in
     let some : 0 < number = omega (arith, pos, held.split, div-le_self number (10 ^ power)) in
     let whole : number ≡ lead * 10 ^ power + below =
     rw held.split (sym (div-add-mod' number (10 ^ power))) in
@@ -108,7 +109,8 @@ spelling-above method number (suc index) lead filled held most small fills under
     at (lead-more 4 method power lead below filled units.0 pos section under fills) in
     rw (head.1, ← part-some Low lead pos)
     (ap short_spelling (sym (part-some method number some) ∙ parts)
-    ∙ short_spelling-over (part Low lead) (head.0 ++ part method below) (rank_at method power) other)
+    ∙ short_spelling-over (part Low lead) (head.0 ++ part method below) (rank_at method power)
+    higher)
 
 -- there is space for one more mark before each section and the units after it
 pub room-more : (method : ChineseCountMethod) (number count index lead filled : ℕ)
@@ -141,7 +143,8 @@ room-more method number count index lead filled held most small less some under 
       length-append (spelling Low lead) (over ++ part method (number % 10 ^ power)),
       length-append over (part method (number % 10 ^ power)),
       ap length head.1,
-      ap length (section-more method number index filled (omega (arith, most, less)) some under fills),
+      ap length (section-more method number index filled (omega (arith, most, less)) some under
+          fills),
       length-append (section_marks (digits_at 4 number (4 * index))) (units ++ below),
       length-append units below,
     )

@@ -18,13 +18,12 @@ use Rattle.cn_spell.proofs.Tops.{at, part-same, filled_of, Filled, part-digit, p
 abbrev pub gap_marks : ℕ → ℕ → List Mark
 gap_marks filled power = kept (nat_lt 0 filled && nat_lt filled power) (digit 0)
 
--- the powers below this one have units of their own: each under `Low`, and the lowest four under any
--- method
+-- each power below this one has its own unit: any power under `Low`, else the lowest four
 abbrev pub own_limit : ChineseCountMethod → ℕ
 own_limit Low = 16
 own_limit method = 4
 
--- no group of more powers begins above 0 and below such a power
+-- the unit of the power has the same rank, and no wider group begins above 0 and below the power
 abbrev is_own : ChineseCountMethod → ℕ → Bool
 is_own method power =
     rank_at method power == power && is_spaced power power 0 (widths_of method)

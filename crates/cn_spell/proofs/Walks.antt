@@ -1,4 +1,5 @@
--- A digit or a section before the lower digits of its number: the units between them.
+-- The units that are written between a digit or a section and the lower digits of its number.
+-- `step` is the number of digits that are added together: 1 for a digit, 4 for a section.
 use Rattle.std.proofs.Common.{◌≡◌, ℕ, suc, ◌+◌, ◌-◌, ◌*◌, ◌/◌, ◌%◌, ◌^◌, ◌<◌, ◌≤◌, max, Bool, true, false, inl, inr, ◌==◌, ◌&&◌, ◌||◌, nat_le, nat_lt, List, [], ◌∷◌, ◌++◌, refl, sym, ap, ◌∙◌, arith, append_assoc, append-nil}
 use Rattle.std.proofs.lemmas.Bool.{agree_below, agree_below_at, and_parts, or_cases, eqb-true, ltb-true}
 use Rattle.std.proofs.lemmas.Bool.Decides.{nat_tests}
@@ -20,29 +21,30 @@ pub record Fills (filled number : ℕ) : Type 0 where
   pub below : (power : ℕ) → filled ≤ power → number < 10 ^ power
   pub reach : (power : ℕ) → power < filled → 10 ^ power ≤ number
 
+-- this unit is at most the one of the rank, or has at least `top` powers
 abbrev is_past : ChineseCountMethod → ℕ → ℕ → ℕ → Bool
 is_past method top rank more = nat_le more rank || nat_le top (exponent method more)
 
--- the unit of this rank has this size, and no greater unit has fewer powers than `top`
+-- the unit of this rank has this size, and no number of `top` digits reaches a greater one
 abbrev is_unit : ChineseCountMethod → ℕ → ℕ → ℕ → Bool
 is_unit method size top rank =
     nat_lt 0 rank && nat_le rank 15 && exponent method rank == size
     && nat_le top (exponent method 15 + exponent method 15)
     && agree_below (is_past method top rank) (λ more. true) 16
 
--- a group begins where the wider one begins, or at a unit
+-- a group inside one that begins at `base` begins there too, or at a unit
 abbrev is_start : ℕ → ChineseCountMethod → ℕ → ℕ → ℕ → Bool
 is_start step method power base start = base == start || (nat_lt base start
     && is_unit method (start - base) (power - base + step) (rank_at method start))
 
--- each of the groups of these widths that contain the power does, and the last begins at the power
+-- each group of these widths that contains the power does, and the last begins at the power
 abbrev has_starts : ℕ → ChineseCountMethod → ℕ → ℕ → List ℕ → Bool
 has_starts step method power base [] = base == power
 has_starts step method power base (width ∷ widths) =
     is_start step method power base (start_of width power)
     && has_starts step method power (start_of width power) widths
 
--- those that do not begin at the power begin at least `space` powers below
+-- a group that does not begin at the power begins at least `space` powers below
 abbrev pub is_spaced : ℕ → ℕ → ℕ → List ℕ → Bool
 is_spaced space power base [] = base == power
 is_spaced space power base (width ∷ widths) =
@@ -62,7 +64,7 @@ HasUnits step method power = has_units step method power ≡ true
 abbrev pub IsSpaced : ℕ → ChineseCountMethod → ℕ → Type 0
 IsSpaced space method power = is_spaced space power 0 (widths_of method) ≡ true
 
--- so it is for each digit, and for each section
+-- the tests hold for each digit and for each section that a method writes
 tables : (method : ChineseCountMethod)
     → (agree_below (has_units 1 method) (λ n. true) (powers_within method) ≡ true)
     × (agree_below (has_section method) (λ n. true) (suc (sections_within method)) ≡ true)
@@ -158,8 +160,8 @@ lead-over step method (width ∷ widths) power base lead below filled h within p
       | inl equal ↦
           let same : base ≡ start = eqb-true base start equal in
           let test : nat_le (max filled (start + 1)) start ≡ false = grind (arith, nat_tests) in
-          rw (same, test) (lead-over step method widths power start lead below filled both.1 ends pos
-          less under (rw same at fills))
+          rw (same, test) (lead-over step method widths power start lead below filled both.1 ends
+          pos less under (rw same at fills))
       | inr new ↦
           let all = power - base in
           let size = start - base in
@@ -242,7 +244,8 @@ lower-split step number power =
 pub lower-same : (step number power : ℕ) → digits_at step number power ≡ 0
     → number % 10 ^ (power + step) ≡ number % 10 ^ power
 lower-same step number power none =
-    lower-split step number power ∙ ap (λ d. d * 10 ^ power + number % 10 ^ power) none ∙ omega arith
+    lower-split step number power
+    ∙ ap (λ d. d * 10 ^ power + number % 10 ^ power) none ∙ omega arith
 
 -- any others are written before the lower marks
 pub part-more : (step : ℕ) (method : ChineseCountMethod) (number power filled : ℕ)
@@ -262,20 +265,21 @@ Fills-more step number power size below reach =
     let digits = digits_at step number power in
     let split = lower-split step number power in
     let raised = pow-add 10 power size in
+    let small = lower-less number power in
     let most : (digits + 1) * 10 ^ power ≤ 10 ^ size * 10 ^ power =
     mul-le-mul_right (10 ^ power) (omega (arith, below)) in
     let least : 10 ^ size * 10 ^ power ≤ 10 * digits * 10 ^ power =
     mul-le-mul_right (10 ^ power) reach in
     record {
-      below = λ more past. let p : 10 ^ (power + size) ≤ 10 ^ more = pow-le-pow_right (omega arith) past
-          in omega (arith, p, split, raised, most, lower-less number power);
+      below = λ more past. let p : 10 ^ (power + size) ≤ 10 ^ more =
+          pow-le-pow_right (omega arith) past in omega (arith, p, most);
       reach = λ less under. let p : 10 ^ (less + 1) ≤ 10 ^ (power + size) =
           pow-le-pow_right (omega arith) (omega (arith, under))
           in omega (arith, p, pow_more 10 less, split, raised, least);
     }
 
--- the first of the units is that of the power, and the only one if the powers below `above` reach
--- near it
+-- the first of the units is that of the power, and the only one if no group begins from `above` up
+-- to the power
 over-head : (space : ℕ) (method : ChineseCountMethod) (widths : List ℕ)
     (power base filled above : ℕ) → is_spaced space power base widths ≡ true → base < power
     → above ≤ power → (rest : List Mark)
