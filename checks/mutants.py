@@ -107,10 +107,14 @@ class Function:
         old, letters = committed or (None, "")
         self.is_new = digest != old or len(letters) != len(mutants)
         self.known = "." * len(mutants) if self.is_new else letters
-        self.letters = list(self.known)
         comment = survivors.comment_of(item, original)
         self.comments = len(survivors.WORDS.findall(comment))
         self.listed, self.faults = survivors.listed(comment, [it.name for it in mutants])
+        self.letters = [self.letter(mutant, it) for mutant, it in zip(mutants, self.known)]
+
+    def letter(self, mutant, letter):
+        """The letter of a verdict; a comment says in which way a mutant is proved."""
+        return self.listed.get(mutant.name, letter) if letter == "s" else letter
 
     def line(self):
         return f"{self.digest} {''.join(self.letters)} {self.item.path}"
@@ -208,9 +212,7 @@ class Crate:
                     self.waiting[mutant] = words
                     continue
                 one = self.functions[mutant.item.path]
-                letter = LETTERS[kind]
-                letter = one.listed.get(mutant.name, letter) if letter == "s" else letter
-                one.letters[one.mutants.index(mutant)] = letter
+                one.letters[one.mutants.index(mutant)] = one.letter(mutant, LETTERS[kind])
 
     def write(self):
         with self.lock:
