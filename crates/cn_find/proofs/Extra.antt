@@ -14,7 +14,7 @@ use Rattle.cn_find.specs.Belongs.{belongs, is_chinese_digit, is_parted}
 use Rattle.cn_find.specs.Expressions.{expression_rule, is_extra, is_item, is_kilo, is_numeric, is_other_word, is_tens, is_weight, is_word_digit, joins, parts_expressions}
 use Rattle.cn_find.specs.Rule.{number_rule}
 use Rattle.cn_find.specs.Spans.{expressions, spans}
-use Rattle.cn_find.proofs.Parting.{Agreement, all-alike, placed}
+use Rattle.cn_find.proofs.Parting.{Agreement, all-alike}
 use Rattle.cn_find.proofs.Unwanted.{outside}
 
 -- if an alternative is false, so are both of its parts
@@ -184,7 +184,7 @@ usual wanted = record {
       (first-usual x xs (others-usual d (x ∷ xs) all));
   ends = λ f d. refl;
   changed = λ f g run after near.
-      ap (λ l. placed l run (after ++ [])) near ∙ ap (placed g run) (append-nil after);
+      rw (near, append-nil after);
 }
 
 pub numbers-alone : (wanted : Wanted) (bytes : List ℕ) → is_usual_text (chars bytes) ≡ true

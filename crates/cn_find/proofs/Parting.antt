@@ -10,7 +10,7 @@ use Rattle.cn_find.specs.declared.wanted.Wanted.{Wanted}
 use Rattle.cn_find.specs.Parting.{with_text_before, with_text_after}
 use Rattle.cn_find.specs.Rule.{Rule, number_rule, is_joined}
 use Rattle.cn_find.specs.Spans.{Span, run_of, after_run, span_at, begun_at, spans_after, spans_by, spans}
-use Rattle.cn_find.proofs.RunLaws.{whole}
+use Rattle.cn_find.proofs.RunLaws.{placed, whole}
 use Rattle.cn_find.proofs.Runs.{first-span, front-onto, next-character, not-joined}
 
 -- the rule lets the character belong to nothing, and treats it like the end of the text for its
@@ -21,14 +21,6 @@ pub record Parts (rule : Rule) (c : ℕ) : Type 0 where
       → rule.belongs front d (xs ++ c ∷ right) ≡ rule.belongs front d xs
   pub begins : (front left : List ℕ) (d : ℕ) (after : List ℕ)
       → rule.belongs (front ++ c ∷ left) d after ≡ rule.belongs front d after
-
--- a span of these characters
-abbrev pub placed : List ℕ → List ℕ → List ℕ → Span
-placed front run after = record {
-  before = encode_utf8_all (reverse front);
-  text = encode_utf8_all run;
-  after = encode_utf8_all after;
-}
 
 -- `here`, in a text with `tail` after it, does what `there` does in the text without it, if the
 -- characters before are near those before it there, and those of the text are such characters
@@ -53,12 +45,11 @@ joined-alike : {tail : List ℕ} (a : Agreement tail) (f g : List ℕ) (d : ℕ)
     → is_joined a.here f d (xs ++ tail) ≡ is_joined a.there g d xs
 joined-alike a f g d [] near such = a.ends f d
 joined-alike {tail} a f g d (x ∷ xs) near such =
-    ap (λ b. b && (a.here.belongs (d ∷ f) x (xs ++ tail) && not (a.here.is_parted d x)))
-    (a.belongs f g d (x ∷ xs) near such)
-    ∙ ap (λ b. a.there.belongs g d (x ∷ xs) && (b && not (a.here.is_parted d x)))
-    (a.belongs (d ∷ f) (d ∷ g) x xs (a.nearer f g d near) (a.others d (x ∷ xs) such))
-    ∙ ap (λ b. a.there.belongs g d (x ∷ xs) && (a.there.belongs (d ∷ g) x xs && not b))
-    (a.parts d x xs such)
+    rw (
+      a.belongs f g d (x ∷ xs) near such,
+      a.belongs (d ∷ f) (d ∷ g) x xs (a.nearer f g d near) (a.others d (x ∷ xs) such),
+      a.parts d x xs such,
+    )
 
 run-alike : {tail : List ℕ} (a : Agreement tail) (f g : List ℕ) (d : ℕ) (xs : List ℕ)
     → a.Near f g → a.Such (d ∷ xs)
@@ -155,17 +146,9 @@ before rule c p right = record {
   others = λ d xs such. tt;
   belongs = λ f g d xs near such. p.ends f d xs right ∙ ap (λ l. rule.belongs l d xs) near;
   parts = λ d x xs such. refl;
-  ends = λ f d.
-      ap (λ b. rule.belongs f d (c ∷ right) && (b && not (rule.is_parted d c)))
-      (p.outside (d ∷ f) right)
-      ∙ and-false (rule.belongs f d (c ∷ right));
+  ends = λ f d. rw (p.outside (d ∷ f) right, and-false (rule.belongs f d (c ∷ right)));
   changed = λ f g run after near.
-      ap (λ l. record {
-        before = encode_utf8_all (reverse f);
-        text = encode_utf8_all run;
-        after = l;
-      }) (encodes-append after (c ∷ right))
-      ∙ ap (λ l. with_text_after (encode_utf8_all (c ∷ right)) (placed l run after)) near;
+      rw (near, encodes-append after (c ∷ right));
 }
 
 parted : (rule : Rule) (c : ℕ) → Parts rule c → (right xs : List ℕ)
@@ -179,14 +162,11 @@ parted rule c p right xs =
       passed : (b : Bool) → spans_after rule b (reverse xs) (c ∷ right)
           ≡ spans_after rule false (c ∷ reverse xs) right
       passed b =
-          ap (λ t. begun_if (not b && t) (span_at rule (reverse xs) (c ∷ right))
-          ++ spans_after rule (is_joined rule (reverse xs) c right) (c ∷ reverse xs) right)
-          (p.outside (reverse xs) right)
-          ∙ ap (λ t. begun_if t (span_at rule (reverse xs) (c ∷ right))
-          ++ spans_after rule (is_joined rule (reverse xs) c right) (c ∷ reverse xs) right)
-          (and-false (not b))
-          ∙ ap (λ t. spans_after rule t (c ∷ reverse xs) right)
-          (not-joined rule (reverse xs) c right (p.outside (reverse xs) right))
+          rw (
+            p.outside (reverse xs) right,
+            and-false (not b),
+            not-joined rule (reverse xs) c right (p.outside (reverse xs) right),
+          )
 
 -- if the characters `more` before any others make no difference to the rule, the runs after them are
 -- those of the text after them
@@ -205,19 +185,16 @@ shifted rule more same cs = all-alike after_more false more [] cs refl tt where
     change = with_text_before (encode_utf8_all (reverse more));
     nearer = λ f g d near. ap (λ l. d ∷ l) near;
     others = λ d xs such. tt;
-    belongs = λ f g d xs near such. ap (λ l. rule.belongs l d (xs ++ [])) near
-        ∙ ap (rule.belongs (g ++ more) d) (append-nil xs) ∙ same g d xs;
+    belongs = λ f g d xs near such. rw (near, append-nil xs) (same g d xs);
     parts = λ d x xs such. refl;
     ends = λ f d. refl;
     changed = λ f g run after near.
-        ap (λ l. placed l run (after ++ [])) near
-        ∙ ap (placed (g ++ more) run) (append-nil after)
-        ∙ ap (λ l. record {
-          before = l;
-          text = encode_utf8_all run;
-          after = encode_utf8_all after;
-        }) (ap encode_utf8_all (reverse-append g more)
-        ∙ encodes-append (reverse more) (reverse g));
+        rw (
+          near,
+          append-nil after,
+          reverse-append g more,
+          encodes-append (reverse more) (reverse g),
+        );
   }
 
 -- the runs of a text are those before the character and those after it

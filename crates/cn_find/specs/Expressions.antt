@@ -5,9 +5,9 @@ use Rattle.std.specs.Prelude.{ℕ, zero, suc, nat_le, Bool, false, not, ◌&&◌
 use Rattle.std.specs.Char.{char_set_contains, is_ascii_alphabetic}
 use Rattle.cn_core.specs.Characters.{digit_of}
 use Rattle.cn_core.specs.Figures.{is_comma, is_currency, is_figure, is_figure_minus, is_figure_point, is_share_sign, is_wide_figure, tens_of}
-use Rattle.cn_core.specs.Mark.{Mark, unit, mark_of}
+use Rattle.cn_core.specs.Mark.{Mark, mark_of}
 use Rattle.cn_find.specs.declared.wanted.Wanted.{Wanted}
-use Rattle.cn_find.specs.Belongs.{begins_with, belongs, first_is, first_then, is_chinese_digit, is_ge, is_wanted}
+use Rattle.cn_find.specs.Belongs.{begins_with, belongs, first_is, first_then, is_chinese_digit, is_ge, is_unit_from, is_wanted}
 use Rattle.cn_find.specs.Flags.{is_any_digit}
 use Rattle.cn_find.specs.Rule.{Rule}
 
@@ -55,13 +55,11 @@ begins_decimals wanted (c ∷ after) =
 
 -- the mark is a unit from 百 up
 abbrev pub is_multiplier : Mark → Bool
-is_multiplier (unit rank) = nat_le 2 rank
-is_multiplier mark = false
+is_multiplier mark = is_unit_from 2 mark
 
 -- the mark is a unit from 十 up
 abbrev pub is_power : Mark → Bool
-is_power (unit rank) = nat_le 1 rank
-is_power mark = false
+is_power mark = is_unit_from 1 mark
 
 -- the characters begin with a wanted unit that is 個 or a unit from 百 up
 abbrev pub begins_counted : Wanted → List ℕ → Bool

@@ -9,7 +9,7 @@ ghost use Rattle.cn_find.specs.Expressions.{begins_bar, begins_below_zero, begin
 ghost use Rattle.cn_find.specs.Spans.{in_front};
 
 use crate::Wanted;
-use crate::belongs::{belongs, is_chinese_digit, is_up_to, is_wanted};
+use crate::belongs::{belongs, is_chinese_digit, is_unit_from, is_wanted};
 use cn_core::{
     Unit, digit_of, is_comma, is_currency, is_figure, is_figure_minus, is_share_sign,
     is_wide_figure, split_first_char,
@@ -224,20 +224,11 @@ fn parts_groups(before: &str, after: &str) -> bool
     (ends_head(3, before) || ends_group(before)) && begins_group(after)
 }
 
-fn is_multiplier(mark: Mark) -> bool
-    ensures { result ≡ is_multiplier (marked mark) }
-{
-    match mark {
-        Mark::Unit(unit) => is_up_to(unit, Unit::Bai),
-        _ => false,
-    }
-}
-
 fn begins_multiplier(wanted: Wanted, after: &str) -> bool
     ensures { result ≡ begins_multiplier wanted (chars after.now) }
 {
     split_first_mark(after).is_some_and(|(c, mark, others)| {
-        (is_multiplier(mark) && belongs(wanted, c, mark, others)) || is_share_sign(c)
+        (is_unit_from(Unit::Bai, mark) && belongs(wanted, c, mark, others)) || is_share_sign(c)
     })
 }
 
@@ -391,21 +382,12 @@ fn joins(wanted: Wanted, before: &str, c: char, after: &str) -> bool
     }
 }
 
-/// Whether a mark is a unit from 十 up.
-pub fn is_power(mark: Mark) -> bool
-    ensures { result ≡ is_power (marked mark) }
-{
-    match mark {
-        Mark::Unit(unit) => is_up_to(unit, Unit::Shi),
-        _ => false,
-    }
-}
-
 fn begins_counted(wanted: Wanted, after: &str) -> bool
     ensures { result ≡ begins_counted wanted (chars after.now) }
 {
     split_first_mark(after).is_some_and(|(c, mark, _)| {
-        is_wanted(wanted, c, mark) && (is_multiplier(mark) || matches!(mark, Mark::Unit(Unit::Ge)))
+        is_wanted(wanted, c, mark)
+            && (is_unit_from(Unit::Bai, mark) || matches!(mark, Mark::Unit(Unit::Ge)))
     })
 }
 
@@ -443,7 +425,7 @@ fn ends_power(wanted: Wanted, before: &str) -> bool
 {
     last_is(before, |c| {
         let mark = mark_of(c);
-        is_wanted(wanted, c, mark) && is_power(mark)
+        is_wanted(wanted, c, mark) && is_unit_from(Unit::Shi, mark)
     })
 }
 

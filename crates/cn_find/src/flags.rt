@@ -159,13 +159,10 @@ fn look_before(before: &str) -> Side
         };
     }
     let (goes_on, estimates) = match neighbour_of(near) {
-        Neighbour::Unrelated => (false, false),
+        Neighbour::Unrelated | Neighbour::EstimatesLast | Neighbour::Quite => (false, false),
         Neighbour::Clings => (true, false),
         Neighbour::Links => (ends_linked(others), false),
-        Neighbour::EstimatesNext => (false, true),
-        Neighbour::Quite => (false, false),
-        Neighbour::EstimatesLast => (false, false),
-        Neighbour::Estimates => (false, true),
+        Neighbour::EstimatesNext | Neighbour::Estimates => (false, true),
     };
     Side { goes_on, estimates }
 }
@@ -187,13 +184,11 @@ fn look_after(after: &str) -> Side
         };
     }
     let (goes_on, estimates) = match neighbour_of(near) {
-        Neighbour::Unrelated => (false, false),
+        Neighbour::Unrelated | Neighbour::EstimatesNext => (false, false),
         Neighbour::Clings => (true, false),
         Neighbour::Links => (begins_linked(others), false),
-        Neighbour::EstimatesNext => (false, false),
         Neighbour::Quite => (false, first_is(others, |c| matches!(c, '几' | '幾'))),
-        Neighbour::EstimatesLast => (false, true),
-        Neighbour::Estimates => (false, true),
+        Neighbour::EstimatesLast | Neighbour::Estimates => (false, true),
     };
     Side { goes_on, estimates }
 }
