@@ -10,7 +10,7 @@ use Rattle.cn_core.specs.Characters.{digit_of, rank_of}
 use Rattle.cn_core.specs.Figures.{is_figure, is_wide_figure}
 use Rattle.cn_core.specs.Mark.{mark_from, mark_of, other}
 use Rattle.cn_find.specs.declared.wanted.Wanted.{Wanted}
-use Rattle.cn_find.specs.Belongs.{belongs, is_chinese_digit, is_parted}
+use Rattle.cn_find.specs.Belongs.{belongs, is_parted}
 use Rattle.cn_find.specs.Expressions.{expression_rule, is_extra, is_item, is_kilo, is_numeric, is_other_word, is_tens, is_weight, is_word_digit, joins, parts_expressions}
 use Rattle.cn_find.specs.Rule.{number_rule}
 use Rattle.cn_find.specs.Spans.{expressions, spans}
@@ -102,28 +102,23 @@ pub unmarked : (wanted : Wanted) (front : List ℕ) (c : ℕ) (after : List ℕ)
     ≡ (is_tens c || is_wide_figure c)
 unfolding is_numeric
 unmarked wanted front c after e =
-    ap (λ b. is_numeric wanted c after && not b) (unmarked-word wanted front c after e)
-    ∙ and-true (is_numeric wanted c after)
-    ∙ ap (λ b. b || (is_tens c || is_wide_figure c)) (unmarked-belongs wanted c after e)
+    rw (unmarked-word wanted front c after e, unmarked-belongs wanted c after e)
+    (and-true (is_tens c || is_wide_figure c))
 
 pub usual-numeric : (wanted : Wanted) (c : ℕ) (after : List ℕ) → is_extra c ≡ false
     → is_numeric wanted c after ≡ belongs wanted c after
 unfolding is_numeric
 usual-numeric wanted c after e =
-    let u = IsUsual-of c e in
-    ap (λ b. belongs wanted c after || (b || is_wide_figure c)) u.tens
-    ∙ ap (λ b. belongs wanted c after || b) u.wide ∙ or-false (belongs wanted c after)
+    let u = IsUsual-of c e in rw (u.tens, u.wide) (or-false (belongs wanted c after))
 
 -- such a character belongs to an expression exactly if it belongs to a number
 pub usual_belongs : (wanted : Wanted) (front : List ℕ) (c : ℕ) (after : List ℕ)
     → is_extra c ≡ false
     → (expression_rule wanted).belongs front c after ≡ belongs wanted c after
 usual_belongs wanted front c after e =
-    ap (λ b. (is_numeric wanted c after && not b) || joins wanted front c after)
-    (usual-word wanted front c after e)
-    ∙ ap (λ b. (is_numeric wanted c after && true) || b) (usual-joins wanted front c after e)
-    ∙ or-false (is_numeric wanted c after && true) ∙ and-true (is_numeric wanted c after)
-    ∙ usual-numeric wanted c after e
+    rw (usual-word wanted front c after e, usual-joins wanted front c after e)
+    (or-false (is_numeric wanted c after && true) ∙ and-true (is_numeric wanted c after)
+    ∙ usual-numeric wanted c after e)
 
 -- in a text without such characters and without figures the expressions are the numbers
 abbrev is_usual : ℕ → Bool
@@ -151,9 +146,7 @@ usual-apart c next e f = rw (
 
 usual-met : (c next : ℕ) → is_usual c ≡ true → is_usual next ≡ true → is_parted c next ≡ false
 usual-met c next e f =
-    ap (λ b. (b && is_chinese_digit next) || (is_chinese_digit c && is_ascii_digit next))
-    (usual-ascii c e)
-    ∙ ap (λ b. is_chinese_digit c && b) (usual-ascii next f) ∙ and-false (is_chinese_digit c)
+    rw (usual-ascii c e, usual-ascii next f) (and-false (is_some (digit_of c) && true))
 
 usual-parts : (c next : ℕ) → is_usual c ≡ true → is_usual next ≡ true
     → parts_expressions c next ≡ is_parted c next

@@ -54,24 +54,19 @@ joined-alike {tail} a f g d (x ∷ xs) near such =
 run-alike : {tail : List ℕ} (a : Agreement tail) (f g : List ℕ) (d : ℕ) (xs : List ℕ)
     → a.Near f g → a.Such (d ∷ xs)
     → run_of a.here f (d ∷ xs ++ tail) ≡ run_of a.there g (d ∷ xs)
-run-alike {tail} a f g d [] near such =
-    ap (λ b. d ∷ (if b then run_of a.here (d ∷ f) tail else [])) (a.ends f d)
-run-alike {tail} a f g d (x ∷ xs) near such =
-    ap (λ b. d ∷ (if b then run_of a.here (d ∷ f) (x ∷ xs ++ tail) else []))
-    (joined-alike a f g d (x ∷ xs) near such)
-    ∙ ap (λ l. d ∷ (if is_joined a.there g d (x ∷ xs) then l else []))
-    (run-alike a (d ∷ f) (d ∷ g) x xs (a.nearer f g d near) (a.others d (x ∷ xs) such))
+run-alike a f g d [] near such = rw (a.ends f d)
+run-alike a f g d (x ∷ xs) near such = rw (
+  joined-alike a f g d (x ∷ xs) near such,
+  run-alike a (d ∷ f) (d ∷ g) x xs (a.nearer f g d near) (a.others d (x ∷ xs) such),
+)
 
 after-alike : {tail : List ℕ} (a : Agreement tail) (f g : List ℕ) (d : ℕ) (xs : List ℕ)
     → a.Near f g → a.Such (d ∷ xs)
     → after_run a.here f (d ∷ xs ++ tail) ≡ after_run a.there g (d ∷ xs) ++ tail
-after-alike {tail} a f g d [] near such =
-    ap (λ b. if b then after_run a.here (d ∷ f) tail else tail) (a.ends f d)
+after-alike a f g d [] near such = rw (a.ends f d)
 after-alike {tail} a f g d (x ∷ xs) near such =
-    ap (λ b. if b then after_run a.here (d ∷ f) (x ∷ xs ++ tail) else x ∷ xs ++ tail)
-    (joined-alike a f g d (x ∷ xs) near such)
-    ∙ by (is_joined a.there g d (x ∷ xs))
-    (after-alike a (d ∷ f) (d ∷ g) x xs (a.nearer f g d near) (a.others d (x ∷ xs) such)) where
+    rw (joined-alike a f g d (x ∷ xs) near such) (by (is_joined a.there g d (x ∷ xs))
+    (after-alike a (d ∷ f) (d ∷ g) x xs (a.nearer f g d near) (a.others d (x ∷ xs) such))) where
       by : (b : Bool)
           → after_run a.here (d ∷ f) (x ∷ xs ++ tail) ≡ after_run a.there (d ∷ g) (x ∷ xs) ++ tail
           → (if b then after_run a.here (d ∷ f) (x ∷ xs ++ tail) else x ∷ xs ++ tail)
@@ -113,13 +108,12 @@ spans-alike {tail} a joined f g (d ∷ xs) near such =
     (a.others d xs such) in
     let behind = spans_after a.here rest.0 (reverse_aux xs (d ∷ f)) tail in (
       rest.0,
-      ap (λ l. l ++ spans_after a.here (is_joined a.here f d (xs ++ tail)) (d ∷ f) (xs ++ tail))
-          (begun-alike a joined f g d xs near such)
-          ∙ ap (λ b. map a.change begun ++ spans_after a.here b (d ∷ f) (xs ++ tail))
-          (joined-alike a f g d xs near such)
-          ∙ ap (λ l. map a.change begun ++ l) rest.1
-          ∙ sym (append_assoc (map a.change begun) (map a.change others) behind)
-          ∙ ap (λ l. l ++ behind) (sym (map-append a.change begun others)),
+      rw (
+        begun-alike a joined f g d xs near such,
+        joined-alike a f g d xs near such,
+        rest.1,
+        map-append a.change begun others,
+      ) (sym (append_assoc (map a.change begun) (map a.change others) behind)),
     ) where
       begun : List Span
       begun = begun_at a.there joined g d xs
@@ -203,30 +197,28 @@ pub parts-text : (rule : Rule) (c : ℕ) → Parts rule c → (left right : List
     → spans_by rule (left ++ (encode_utf8 c ++ right))
     ≡ map (with_text_after (encode_utf8 c ++ right)) (spans_by rule left)
     ++ map (with_text_before (left ++ encode_utf8 c)) (spans_by rule right)
-parts-text rule c p left right first second =
-    ap (spans_after rule false []) (chars-append left (encode_utf8 c ++ right) first
-    ∙ ap (λ l. chars left ++ l) behind)
-    ∙ parted rule c p (chars right) (chars left)
-    ∙ ap (λ l. map (with_text_after (encode_utf8 c ++ l)) (spans_by rule left)
-    ++ spans_after rule false (c ∷ reverse (chars left)) (chars right)) ended
-    ∙ ap (λ l. map (with_text_after (encode_utf8 c ++ right)) (spans_by rule left) ++ l)
-    (shifted rule (c ∷ reverse (chars left)) (λ front. p.begins front (reverse (chars left)))
-    (chars right))
-    ∙ ap (λ l. map (with_text_after (encode_utf8 c ++ right)) (spans_by rule left)
-    ++ map (with_text_before l) (spans_by rule right)) in_front where
-      behind : chars (encode_utf8 c ++ right) ≡ c ∷ chars right
-      behind = chars_past_char (encode_utf8 c ++ right) right c second refl
+parts-text rule c p left right first second = rw (
+  chars-append left (encode_utf8 c ++ right) first,
+  behind,
+  parted rule c p (chars right) (chars left),
+  ended,
+  shifted rule (c ∷ reverse (chars left)) (λ front. p.begins front (reverse (chars left)))
+      (chars right),
+  in_front,
+) where
+  behind : chars (encode_utf8 c ++ right) ≡ c ∷ chars right
+  behind = chars_past_char (encode_utf8 c ++ right) right c second refl
 
-      ended : encode_utf8_all (chars right) ≡ right
-      ended = encodes-chars right (IsUtf8-past_char (encode_utf8 c ++ right) right c second refl)
+  ended : encode_utf8_all (chars right) ≡ right
+  ended = encodes-chars right (IsUtf8-past_char (encode_utf8 c ++ right) right c second refl)
 
-      in_front : encode_utf8_all (reverse (c ∷ reverse (chars left))) ≡ left ++ encode_utf8 c
-      in_front =
-          ap encode_utf8_all (reverse_onto (reverse (chars left)) c []
-          ∙ ap (λ l. l ++ c ∷ []) (reverse-reverse (chars left)))
-          ∙ encodes-append (chars left) (c ∷ [])
-          ∙ ap (λ l. encode_utf8_all (chars left) ++ l) (append-nil (encode_utf8 c))
-          ∙ ap (λ l. l ++ encode_utf8 c) (encodes-chars left first)
+  in_front : encode_utf8_all (reverse (c ∷ reverse (chars left))) ≡ left ++ encode_utf8 c
+  in_front =
+      ap encode_utf8_all (reverse_onto (reverse (chars left)) c []
+      ∙ ap (λ l. l ++ c ∷ []) (reverse-reverse (chars left)))
+      ∙ encodes-append (chars left) (c ∷ [])
+      ∙ ap (λ l. encode_utf8_all (chars left) ++ l) (append-nil (encode_utf8 c))
+      ∙ ap (λ l. l ++ encode_utf8 c) (encodes-chars left first)
 
 -- the first of these runs ends after `passed`, and the others are those that are found from there
 -- on

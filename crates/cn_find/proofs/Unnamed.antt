@@ -5,11 +5,11 @@ use Rattle.std.specs.Char.{char_set_contains}
 use Rattle.std.proofs.lemmas.Bool.{or_from}
 use Rattle.std.proofs.Math.Bool.{and-false}
 use Rattle.cn_core.specs.Characters.{digit_of}
-use Rattle.cn_core.specs.Figures.{is_comma, is_currency, is_figure, is_figure_minus, is_percent, is_share_sign, is_wide_figure}
+use Rattle.cn_core.specs.Figures.{is_comma, is_currency, is_figure, is_figure_minus, is_percent, is_wide_figure}
 use Rattle.cn_core.specs.Mark.{mark_of}
 use Rattle.cn_find.specs.declared.wanted.Wanted.{Wanted}
-use Rattle.cn_find.specs.Belongs.{belongs, first_is, first_then, is_chinese_digit, is_ge, is_wanted}
-use Rattle.cn_find.specs.Expressions.{begins_bar, begins_below_zero, begins_decimals, begins_degrees, begins_fraction, begins_minutes, begins_multiplier, begins_number, begins_numeral, begins_numerator, begins_signed, begins_time, begins_word, binds_minus, ends_decimals, ends_head, ends_numeral, expression_rule, follows_one, is_extra, is_han, is_item, is_kilo, is_multiplier, is_numeric, is_other_word, is_power, is_tens, is_weight, joins, may_precede_minus, precedes_minus, three_figures}
+use Rattle.cn_find.specs.Belongs.{belongs, first_is, first_then, is_ge, is_wanted}
+use Rattle.cn_find.specs.Expressions.{begins_below_zero, begins_decimals, begins_degrees, begins_fraction, begins_minutes, begins_multiplier, begins_number, begins_numeral, begins_numerator, begins_signed, begins_time, begins_word, binds_minus, ends_decimals, ends_head, ends_numeral, expression_rule, follows_one, is_extra, is_han, is_item, is_kilo, is_multiplier, is_numeric, is_other_word, is_power, is_tens, is_weight, joins, may_precede_minus, precedes_minus, three_figures}
 use Rattle.cn_find.specs.Flags.{is_any_digit}
 use Rattle.cn_find.specs.Parting.{is_named, is_of_measure}
 use Rattle.cn_find.proofs.Extra.{neither, IsUsual-of, no-joiner, usual_belongs, usual-numeric}
@@ -80,222 +80,199 @@ numeric-same wanted d c right xs u =
     ap (λ b. b || (is_tens d || is_wide_figure d)) (belongs-seen wanted d c right xs u)
 
 -- the test of a text treats the character like the end of the text
-abbrev Stops : (List ℕ → Bool) → ℕ → List ℕ → Type 0
-Stops passes c right = (xs : List ℕ) → passes (xs ++ c ∷ right) ≡ passes xs
+abbrev Stops : ℕ → (List ℕ → Bool) → Type 0
+Stops c passes = (right xs : List ℕ) → passes (xs ++ c ∷ right) ≡ passes xs
 
-first-stops : (test : ℕ → Bool) (c : ℕ) (right : List ℕ) → test c ≡ false
-    → Stops (first_is test) c right
-first-stops test c right none [] = none
-first-stops test c right none (x ∷ xs) = refl
+first-stops : (test : ℕ → Bool) (c : ℕ) → test c ≡ false → Stops c (first_is test)
+first-stops test c none right [] = none
+first-stops test c none right (x ∷ xs) = refl
 
-then-stops : (test : ℕ → Bool) (passes : List ℕ → Bool) (c : ℕ) (right : List ℕ)
-    → test c ≡ false → Stops passes c right → Stops (first_then test passes) c right
-then-stops test passes c right none same [] = rw none
-then-stops test passes c right none same (x ∷ xs) = ap (λ b. test x && b) (same xs)
+then-stops : (test : ℕ → Bool) (passes : List ℕ → Bool) (c : ℕ) → test c ≡ false
+    → Stops c passes → Stops c (first_then test passes)
+then-stops test passes c none same right [] = rw none
+then-stops test passes c none same right (x ∷ xs) = ap (λ b. test x && b) (same right xs)
 
-three-stops : (passes : List ℕ → Bool) (c : ℕ) (right : List ℕ) → is_figure c ≡ false
-    → Stops passes c right → Stops (three_figures passes) c right
-three-stops passes c right none same =
-    then-stops is_figure (first_then is_figure (first_then is_figure passes)) c right none
-    (then-stops is_figure (first_then is_figure passes) c right none
-    (then-stops is_figure passes c right none same))
+three-stops : (passes : List ℕ → Bool) (c : ℕ) → is_figure c ≡ false → Stops c passes
+    → Stops c (three_figures passes)
+three-stops passes c none same =
+    then-stops is_figure (first_then is_figure (first_then is_figure passes)) c none
+    (then-stops is_figure (first_then is_figure passes) c none
+    (then-stops is_figure passes c none same))
 
-numeral-stops : (wanted : Wanted) (c : ℕ) (right : List ℕ) → IsUnnamed wanted c
-    → Stops (begins_numeral wanted) c right
-numeral-stops wanted c right u [] = none-numeric wanted c right u
-numeral-stops wanted c right u (x ∷ xs) = numeric-same wanted x c right xs u
+numeral-stops : (wanted : Wanted) (c : ℕ) → IsUnnamed wanted c → Stops c (begins_numeral wanted)
+numeral-stops wanted c u right [] = none-numeric wanted c right u
+numeral-stops wanted c u right (x ∷ xs) = numeric-same wanted x c right xs u
 
-time-stops : (wanted : Wanted) (c : ℕ) (right : List ℕ) → IsUnnamed wanted c
-    → Stops begins_time c right
+time-stops : (wanted : Wanted) (c : ℕ) → IsUnnamed wanted c → Stops c begins_time
 unfolding is_han
-time-stops wanted c right u =
-    first-stops (char_set_contains (codes "分刻十点點")) c right
+time-stops wanted c u =
+    first-stops (char_set_contains (codes "分刻十点點")) c
     (no-han wanted (codes "分刻十点點") c refl u)
 
-minutes-stops : (wanted : Wanted) (c : ℕ) (right : List ℕ) → IsUnnamed wanted c
-    → Stops begins_minutes c right
-minutes-stops wanted c right u =
-    then-stops is_any_digit begins_time c right
-    (or_from (is_some (digit_of c)) _ u.digit (IsUsual-of c u.extra).wide)
-    (time-stops wanted c right u)
+minutes-stops : (wanted : Wanted) (c : ℕ) → IsUnnamed wanted c → Stops c begins_minutes
+minutes-stops wanted c u =
+    then-stops is_any_digit begins_time c
+    (or_from (is_some (digit_of c)) _ u.digit (IsUsual-of c u.extra).wide) (time-stops wanted c u)
 
-word-stops : (wanted : Wanted) (d c : ℕ) (right : List ℕ) → IsUnnamed wanted c
-    → Stops (begins_word d) c right
+word-stops : (wanted : Wanted) (d c : ℕ) → IsUnnamed wanted c → Stops c (begins_word d)
 unfolding begins_word follows_one is_han
-word-stops wanted d c right u xs = rw (
-  time-stops wanted c right u xs,
-  minutes-stops wanted c right u xs,
-  first-stops follows_one c right (no-han wanted (codes "定直起样樣些下切滴线線") c refl u) xs,
+word-stops wanted d c u right xs = rw (
+  time-stops wanted c u right xs,
+  minutes-stops wanted c u right xs,
+  first-stops follows_one c (no-han wanted (codes "定直起样樣些下切滴线線") c refl u) right xs,
 )
 
-decimals-stops : (wanted : Wanted) (c : ℕ) (right : List ℕ) → IsUnnamed wanted c
-    → Stops (begins_decimals wanted) c right
-decimals-stops wanted c right u [] = rw u.digit
-decimals-stops wanted c right u (x ∷ xs) =
-    ap (λ b. (is_chinese_digit x && is_wanted wanted x) && not b) (word-stops wanted x c right u xs)
+decimals-stops : (wanted : Wanted) (c : ℕ) → IsUnnamed wanted c → Stops c (begins_decimals wanted)
+decimals-stops wanted c u right [] = rw u.digit
+decimals-stops wanted c u right (x ∷ xs) = rw (word-stops wanted x c u right xs)
 
-multiplier-stops : (wanted : Wanted) (c : ℕ) (right : List ℕ) → IsUnnamed wanted c
-    → Stops (begins_multiplier wanted) c right
-multiplier-stops wanted c right u [] =
+multiplier-stops : (wanted : Wanted) (c : ℕ) → IsUnnamed wanted c
+    → Stops c (begins_multiplier wanted)
+multiplier-stops wanted c u right [] =
     or_from (is_multiplier (mark_of c) && belongs wanted c right) _
     (ap (λ b. is_multiplier (mark_of c) && b) (unwanted wanted c right (IsUnseen-of wanted c u))
     ∙ and-false (is_multiplier (mark_of c)))
     (or_from (is_percent c) _ (no-joiner (codes "%％") c refl u.extra)
     (no-joiner (codes "‰") c refl u.extra))
-multiplier-stops wanted c right u (x ∷ xs) =
-    ap (λ b. (is_multiplier (mark_of x) && b) || is_share_sign x)
-    (belongs-seen wanted x c right xs u)
+multiplier-stops wanted c u right (x ∷ xs) = rw (belongs-seen wanted x c right xs u)
 
-signed-stops : (wanted : Wanted) (c : ℕ) (right : List ℕ) → IsUnnamed wanted c
-    → Stops (begins_signed wanted) c right
-signed-stops wanted c right u [] = rw (
+signed-stops : (wanted : Wanted) (c : ℕ) → IsUnnamed wanted c → Stops c (begins_signed wanted)
+signed-stops wanted c u right [] = rw (
   none-numeric wanted c right u,
   no-joiner (codes "负負-−－") c refl u.extra,
 )
-signed-stops wanted c right u (x ∷ xs) = rw (
+signed-stops wanted c u right (x ∷ xs) = rw (
   numeric-same wanted x c right xs u,
-  numeral-stops wanted c right u xs,
+  numeral-stops wanted c u right xs,
 )
 
-numerator-stops : (wanted : Wanted) (c : ℕ) (right : List ℕ) → IsUnnamed wanted c
-    → Stops (begins_numerator wanted) c right
-numerator-stops wanted c right u =
-    then-stops (char_set_contains (codes "之")) (begins_signed wanted) c right
-    (no-joiner (codes "之") c refl u.extra) (signed-stops wanted c right u)
+numerator-stops : (wanted : Wanted) (c : ℕ) → IsUnnamed wanted c
+    → Stops c (begins_numerator wanted)
+numerator-stops wanted c u =
+    then-stops (char_set_contains (codes "之")) (begins_signed wanted) c
+    (no-joiner (codes "之") c refl u.extra) (signed-stops wanted c u)
 
-bar-stops : (wanted : Wanted) (c : ℕ) (right : List ℕ) → IsUnnamed wanted c
-    → Stops (begins_bar wanted) c right
-bar-stops wanted c right u =
-    then-stops (char_set_contains (codes "分")) (begins_numerator wanted) c right
-    (no-joiner (codes "分") c refl u.extra) (numerator-stops wanted c right u)
-
-fraction-stops : (wanted : Wanted) (c : ℕ) (right : List ℕ) → IsUnnamed wanted c
-    → Stops (begins_fraction wanted) c right
-fraction-stops wanted c right u [] = rw (none-numeric wanted c right u)
-fraction-stops wanted c right u (x ∷ xs) = rw (
+fraction-stops : (wanted : Wanted) (c : ℕ) → IsUnnamed wanted c → Stops c (begins_fraction wanted)
+fraction-stops wanted c u right [] = rw (none-numeric wanted c right u)
+fraction-stops wanted c u right (x ∷ xs) = rw (
   numeric-same wanted x c right xs u,
-  bar-stops wanted c right u xs,
-  fraction-stops wanted c right u xs,
+  then-stops (char_set_contains (codes "分")) (begins_numerator wanted) c
+      (no-joiner (codes "分") c refl u.extra) (numerator-stops wanted c u) right xs,
+  fraction-stops wanted c u right xs,
 )
 
-degrees-stops : (wanted : Wanted) (c : ℕ) (right : List ℕ) → IsUnnamed wanted c
-    → Stops (begins_degrees wanted) c right
+degrees-stops : (wanted : Wanted) (c : ℕ) → IsUnnamed wanted c → Stops c (begins_degrees wanted)
 unfolding is_han
-degrees-stops wanted c right u xs = rw (
-  numeral-stops wanted c right u xs,
-  first-stops (char_set_contains (codes "度点點摄攝℃")) c right
+degrees-stops wanted c u right xs = rw (
+  numeral-stops wanted c u right xs,
+  first-stops (char_set_contains (codes "度点點摄攝℃")) c
       (outside (λ d. is_han d || char_set_contains (codes "℃") d) (codes "度点點摄攝℃") c refl
-      (or_from (is_han c) _ u.han u.degree)) xs,
+      (or_from (is_han c) _ u.han u.degree)) right xs,
 )
 
-below-stops : (wanted : Wanted) (c : ℕ) (right : List ℕ) → IsUnnamed wanted c
-    → Stops (begins_below_zero wanted) c right
-below-stops wanted c right u [] = rw (u.figure, u.unwanted)
-below-stops wanted c right u (x ∷ xs) = rw (degrees-stops wanted c right u xs)
+below-stops : (wanted : Wanted) (c : ℕ) → IsUnnamed wanted c → Stops c (begins_below_zero wanted)
+below-stops wanted c u right [] = rw (u.figure, u.unwanted)
+below-stops wanted c u right (x ∷ xs) = rw (degrees-stops wanted c u right xs)
 
-joins-ahead : (wanted : Wanted) (front : List ℕ) (d c : ℕ) (right : List ℕ)
-    → IsUnnamed wanted c → Stops (joins wanted front d) c right
+joins-ahead : (wanted : Wanted) (front : List ℕ) (d c : ℕ) → IsUnnamed wanted c
+    → Stops c (joins wanted front d)
 unfolding joins
-joins-ahead wanted front d c right u xs =
-    let figure = first-stops is_figure c right u.figure in
+joins-ahead wanted front d c u right xs =
+    let figure = first-stops is_figure c u.figure in
     rw (
-      decimals-stops wanted c right u xs,
-      figure xs,
-      three-stops (λ others. not (first_is is_figure others)) c right u.figure
-          (λ ys. ap not (figure ys)) xs,
-      first-stops is_wide_figure c right (IsUsual-of c u.extra).wide xs,
-      multiplier-stops wanted c right u xs,
-      numerator-stops wanted c right u xs,
-      signed-stops wanted c right u xs,
-      fraction-stops wanted c right u xs,
-      below-stops wanted c right u xs,
-      numeral-stops wanted c right u xs,
-      then-stops is_currency (first_is is_figure) c right (no-joiner (codes "¥￥") c refl u.extra)
-          figure xs,
+      decimals-stops wanted c u right xs,
+      figure right xs,
+      three-stops (λ others. not (first_is is_figure others)) c u.figure
+          (λ more ys. ap not (figure more ys)) right xs,
+      first-stops is_wide_figure c (IsUsual-of c u.extra).wide right xs,
+      multiplier-stops wanted c u right xs,
+      numerator-stops wanted c u right xs,
+      signed-stops wanted c u right xs,
+      fraction-stops wanted c u right xs,
+      below-stops wanted c u right xs,
+      numeral-stops wanted c u right xs,
+      then-stops is_currency (first_is is_figure) c (no-joiner (codes "¥￥") c refl u.extra) figure
+          right xs,
     )
 
-words-ahead : (wanted : Wanted) (front : List ℕ) (d c : ℕ) (right : List ℕ)
-    → IsUnnamed wanted c → Stops (is_other_word wanted front d) c right
+words-ahead : (wanted : Wanted) (front : List ℕ) (d c : ℕ) → IsUnnamed wanted c
+    → Stops c (is_other_word wanted front d)
 unfolding is_weight is_item is_kilo is_han
-words-ahead wanted front d c right u xs =
+words-ahead wanted front d c u right xs =
     let may = not (ends_numeral wanted front) in
     rw (
       first-stops (λ e. is_wanted wanted e && (is_multiplier (mark_of e) || is_ge (mark_of e))) c
-          right (rw u.unwanted) xs,
+          (rw u.unwanted) right xs,
       then-stops (char_set_contains (codes "万萬")) (λ others. may || first_is is_han others) c
-          right (no-han wanted (codes "万萬") c refl u)
-          (λ ys. ap (λ b. may || b) (first-stops is_han c right u.han ys)) xs,
-      first-stops (char_set_contains (codes "瓦克米卡赫伏安焦帕")) c right
-          (no-han wanted (codes "瓦克米卡赫伏安焦帕") c refl u) xs,
+          (no-han wanted (codes "万萬") c refl u)
+          (λ more ys. ap (λ b. may || b) (first-stops is_han c u.han more ys)) right xs,
+      first-stops (char_set_contains (codes "瓦克米卡赫伏安焦帕")) c
+          (no-han wanted (codes "瓦克米卡赫伏安焦帕") c refl u) right xs,
     )
 
 -- a character after it is treated as if the text began there
-nearest-numeral : (wanted : Wanted) (c : ℕ) (left : List ℕ) → IsUnnamed wanted c
-    → Stops (ends_numeral wanted) c left
-nearest-numeral wanted c left u =
-    first-stops (λ d. is_numeric wanted d []) c left (none-numeric wanted c [] u)
+nearest-numeral : (wanted : Wanted) (c : ℕ) → IsUnnamed wanted c → Stops c (ends_numeral wanted)
+nearest-numeral wanted c u =
+    first-stops (λ d. is_numeric wanted d []) c (none-numeric wanted c [] u)
 
-nearest-number : (wanted : Wanted) (d c : ℕ) (left : List ℕ) → IsUnnamed wanted c
-    → Stops (begins_number d) c left
+nearest-number : (wanted : Wanted) (d c : ℕ) → IsUnnamed wanted c → Stops c (begins_number d)
 unfolding begins_number
-nearest-number wanted d c left u front =
+nearest-number wanted d c u left front =
     ap (λ b. not (char_set_contains (codes "0０") d) && not b)
-    (first-stops (λ e. is_figure e || char_set_contains (codes ",.．") e) c left
-    (or_from (is_figure c) _ u.figure (no-joiner (codes ",.．") c refl u.extra)) front)
+    (first-stops (λ e. is_figure e || char_set_contains (codes ",.．") e) c
+    (or_from (is_figure c) _ u.figure (no-joiner (codes ",.．") c refl u.extra)) left front)
 
-nearest-head : (wanted : Wanted) (most c : ℕ) (left : List ℕ) → IsUnnamed wanted c
-    → Stops (ends_head most) c left
-nearest-head wanted zero c left u front = refl
-nearest-head wanted (suc most) c left u [] = rw u.figure
-nearest-head wanted (suc most) c left u (x ∷ front) =
-    ap (λ b. is_figure x && (b || ends_head most (front ++ c ∷ left)))
-    (nearest-number wanted x c left u front)
-    ∙ ap (λ b. is_figure x && (begins_number x front || b))
-    (nearest-head wanted most c left u front)
-
-joins-behind : (wanted : Wanted) (left : List ℕ) (d c : ℕ) (after : List ℕ) → IsUnnamed wanted c
-    → Stops (λ front. joins wanted front d after) c left
-unfolding joins precedes_minus is_han
-joins-behind wanted left d c after u front =
-    let figure = first-stops is_figure c left u.figure in
-    let numeral = nearest-numeral wanted c left u in
-    let bound = first-stops binds_minus c left u.binds in
-    rw (
-      figure front,
-      nearest-head wanted 3 c left u front,
-      three-stops (first_is is_comma) c left u.figure
-          (first-stops is_comma c left (no-joiner (codes ",，") c refl u.extra)) front,
-      first-stops is_wide_figure c left (IsUsual-of c u.extra).wide front,
-      numeral front,
-      then-stops (char_set_contains (codes "分")) (ends_numeral wanted) c left
-          (no-joiner (codes "分") c refl u.extra) numeral front,
-      then-stops (char_set_contains (codes " ")) (first_is is_figure) c left
-          (no-joiner (codes " ") c refl u.extra) figure front,
-      then-stops (char_set_contains (codes "零")) (λ others. not (ends_numeral wanted others)) c
-          left (no-han wanted (codes "零") c refl u) (λ ys. ap not (numeral ys)) front,
-      first-stops precedes_minus c left
-          (no-han wanted (codes "正非背揹肩担擔抱胜勝辜欺自不") c refl u) front,
-      bound front,
-      then-stops is_figure_minus (may_precede_minus wanted) c left
-          (no-joiner (codes "-−－") c refl u.extra) (λ ys. rw (numeral ys, bound ys)) front,
-    )
-
-nearest-decimals : (wanted : Wanted) (c : ℕ) (left : List ℕ) → IsUnnamed wanted c
-    → Stops ends_decimals c left
-nearest-decimals wanted c left u [] = rw (u.digit, (IsUsual-of c u.extra).wide)
-nearest-decimals wanted c left u (x ∷ front) = rw (
-  first-stops (char_set_contains (codes "点點.．")) c left
-      (no-joiner (codes "点點.．") c refl u.extra) front,
-  nearest-decimals wanted c left u front,
+nearest-head : (wanted : Wanted) (most c : ℕ) → IsUnnamed wanted c → Stops c (ends_head most)
+nearest-head wanted zero c u left front = refl
+nearest-head wanted (suc most) c u left [] = rw u.figure
+nearest-head wanted (suc most) c u left (x ∷ front) = rw (
+  nearest-number wanted x c u left front,
+  nearest-head wanted most c u left front,
 )
 
-words-behind : (wanted : Wanted) (left : List ℕ) (d c : ℕ) (after : List ℕ) → IsUnnamed wanted c
-    → Stops (λ front. is_other_word wanted front d after) c left
+joins-behind : (wanted : Wanted) (d c : ℕ) (after : List ℕ) → IsUnnamed wanted c
+    → Stops c (λ front. joins wanted front d after)
+unfolding joins precedes_minus is_han
+joins-behind wanted d c after u left front =
+    let figure = first-stops is_figure c u.figure in
+    let numeral = nearest-numeral wanted c u in
+    let bound = first-stops binds_minus c u.binds in
+    rw (
+      figure left front,
+      nearest-head wanted 3 c u left front,
+      three-stops (first_is is_comma) c u.figure
+          (first-stops is_comma c (no-joiner (codes ",，") c refl u.extra)) left front,
+      first-stops is_wide_figure c (IsUsual-of c u.extra).wide left front,
+      numeral left front,
+      then-stops (char_set_contains (codes "分")) (ends_numeral wanted) c
+          (no-joiner (codes "分") c refl u.extra) numeral left front,
+      then-stops (char_set_contains (codes " ")) (first_is is_figure) c
+          (no-joiner (codes " ") c refl u.extra) figure left front,
+      then-stops (char_set_contains (codes "零")) (λ others. not (ends_numeral wanted others)) c
+          (no-han wanted (codes "零") c refl u) (λ more ys. ap not (numeral more ys)) left front,
+      first-stops precedes_minus c
+          (no-han wanted (codes "正非背揹肩担擔抱胜勝辜欺自不") c refl u) left front,
+      bound left front,
+      then-stops is_figure_minus (may_precede_minus wanted) c
+          (no-joiner (codes "-−－") c refl u.extra) (λ more ys. rw (numeral more ys, bound more ys))
+          left front,
+    )
+
+nearest-decimals : (wanted : Wanted) (c : ℕ) → IsUnnamed wanted c → Stops c ends_decimals
+nearest-decimals wanted c u left [] = rw (u.digit, (IsUsual-of c u.extra).wide)
+nearest-decimals wanted c u left (x ∷ front) = rw (
+  first-stops (char_set_contains (codes "点點.．")) c
+      (no-joiner (codes "点點.．") c refl u.extra) left front,
+  nearest-decimals wanted c u left front,
+)
+
+words-behind : (wanted : Wanted) (d c : ℕ) (after : List ℕ) → IsUnnamed wanted c
+    → Stops c (λ front. is_other_word wanted front d after)
 unfolding is_weight is_item is_kilo
-words-behind wanted left d c after u front = rw (
-  nearest-numeral wanted c left u front,
-  first-stops (λ e. is_wanted wanted e && is_power (mark_of e)) c left (rw u.unwanted) front,
-  nearest-decimals wanted c left u front,
+words-behind wanted d c after u left front = rw (
+  nearest-numeral wanted c u left front,
+  first-stops (λ e. is_wanted wanted e && is_power (mark_of e)) c (rw u.unwanted) left front,
+  nearest-decimals wanted c u left front,
 )
 
 pub unnamed-parts : (wanted : Wanted) (c : ℕ) → is_wanted wanted c ≡ false
@@ -303,17 +280,13 @@ pub unnamed-parts : (wanted : Wanted) (c : ℕ) → is_wanted wanted c ≡ false
 unnamed-parts wanted c not_wanted unnamed = record {
   outside = λ front after. none-belongs wanted front c after u;
   ends = λ front d xs right.
-      ap (λ b. (b && not (is_other_word wanted front d (xs ++ c ∷ right)))
-      || joins wanted front d (xs ++ c ∷ right)) (numeric-same wanted d c right xs u)
-      ∙ ap (λ b. (is_numeric wanted d xs && not b) || joins wanted front d (xs ++ c ∷ right))
-      (words-ahead wanted front d c right u xs)
-      ∙ ap (λ b. (is_numeric wanted d xs && not (is_other_word wanted front d xs)) || b)
-      (joins-ahead wanted front d c right u xs);
+      rw (
+        numeric-same wanted d c right xs u,
+        words-ahead wanted front d c u right xs,
+        joins-ahead wanted front d c u right xs,
+      );
   begins = λ front left d after.
-      ap (λ b. (is_numeric wanted d after && not b) || joins wanted (front ++ c ∷ left) d after)
-      (words-behind wanted left d c after u front)
-      ∙ ap (λ b. (is_numeric wanted d after && not (is_other_word wanted front d after)) || b)
-      (joins-behind wanted left d c after u front);
+      rw (words-behind wanted d c after u left front, joins-behind wanted d c after u left front);
 } where
   u : IsUnnamed wanted c
   u = IsUnnamed-of wanted c not_wanted unnamed
