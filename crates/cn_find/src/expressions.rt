@@ -232,18 +232,12 @@ fn begins_multiplier(wanted: Wanted, after: &str) -> bool
     })
 }
 
-// Whether a character is a minus sign of numerals or of figures.
-fn is_minus(c: char) -> bool
-    ensures { result ≡ char_set_contains (codes "负負-−－") c }
-{
-    matches!(c, '负' | '負' | '-' | '−' | '－')
-}
-
 fn begins_signed(wanted: Wanted, after: &str) -> bool
     ensures { result ≡ begins_signed wanted (chars after.now) }
 {
     split_first_mark(after).is_some_and(|(c, mark, others)| {
-        is_numeric(wanted, c, mark, others) || (is_minus(c) && begins_numeral(wanted, others))
+        is_numeric(wanted, c, mark, others)
+            || (matches!(c, '负' | '負' | '-' | '−' | '－') && begins_numeral(wanted, others))
     })
 }
 

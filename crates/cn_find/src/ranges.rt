@@ -97,10 +97,7 @@ fn is_below_mark(low: Mark, high: Mark) -> bool
 fn ends_below(mark: Mark, text: &str) -> bool
     ensures { (c : ℕ) → marked mark ≡ mark_of c → result ≡ ends_below c (in_front text.now) }
 {
-    match split_nearest(text) {
-        Some((d, _)) => is_below_mark(mark_of(d), mark),
-        None => true,
-    }
+    split_nearest(text).is_none_or(|(d, _)| is_below_mark(mark_of(d), mark))
 }
 
 // The quantity of a text by the standard method, `TenThousand`.
