@@ -29,13 +29,10 @@ skip() {
 scripts() {
     cat << 'END'
 bindings/dist.py check
-checks/wrong_dist.py
 checks/calls.py .
-checks/wrong_calls.py
 checks/laws.py --check
-checks/wrong_laws.py
 checks/edits.py crates
-checks/codes.py crates/cn_c bindings
+bindings/codes.py --check
 checks/quotes.py bindings
 checks/tables.py crates --check
 END
@@ -91,7 +88,7 @@ list_skipped() {
 touch "$scratch/skipped"
 if [ -n "$part" ]; then
     run_scripts "$part"
-    run_tests -k "$part"
+    run_tests -k "$part" -m 'not by_hand'
     list_skipped
     exit
 fi
@@ -118,7 +115,7 @@ run_tests "${at_once[@]}" -m 'not built and not packages'
 
 # A clone's files, by themselves and without `rt` on the path.
 mkdir "$scratch/clone"
-tar -c README.md README.zh.md bindings checks dist docs test.py tests | tar -x -C "$scratch/clone"
+tar -c README.md README.zh.md bindings dist docs test.py tests | tar -x -C "$scratch/clone"
 without_rt=$(tr : '\n' <<< "$PATH" | grep -vxF "$(dirname "$(command -v rt)")" | paste -sd :)
 time PATH=$without_rt python3 "$scratch/clone/test.py"
 
@@ -133,7 +130,7 @@ time gate
 # The programs, and the library for other languages, made from what the gate has proved.
 time bash bindings/archive.sh "$scratch/library"
 time python3 bindings/dist.py again "$scratch/library"
-run_tests "${at_once[@]}" --library "$scratch/library" -m built
+run_tests "${at_once[@]}" --library "$scratch/library" -m 'built and not by_hand'
 
 # The wrong bodies, and the mutants of what changed, with the libraries that the gate has built.
 passed=$(sed -n '$s/ passed, 0 failed$//p' "$scratch/gate")
@@ -152,7 +149,7 @@ fi
     echo "$passed passed, 0 failed"
 } > "$scratch/checked"
 time bash bindings/packages.sh --draft "$scratch/packages" "$scratch/checked"
-run_tests "${at_once[@]}" --packages "$scratch/packages" -m packages
+run_tests "${at_once[@]}" --packages "$scratch/packages" -m 'packages and not by_hand'
 
 list_skipped
 tail -n 1 "$scratch/checked"

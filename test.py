@@ -146,7 +146,7 @@ class Clone:
         return program
 
     def same(self, _):
-        return run(self.compiled(self.cc, "c", TOP / "checks/same.c"), 1000)
+        return run(self.compiled(self.cc, "c", BINDINGS / "source/same.c"), 1000)
 
     def c(self, asked):
         return run(self.compiled(self.cc, "c", BINDINGS / "c/answers.c"), text=asked)
@@ -182,9 +182,9 @@ class Clone:
 
 
 # To add a language, also change bindings/README.md, COPIES of bindings/dist.py, .gitattributes,
-# tests/test_clone.py with a program in tests/users, checks/codes.py, checks/quotes.py,
-# checks/debian-packages, README.md and docs/, and add tests/test_NAME.py. If it has a package, also
-# change bindings/packages.sh, bindings/packages.py and tests/test_packages.py.
+# tests/test_clone.py with a program in tests/users, bindings/codes.py, bindings/codes.in,
+# checks/quotes.py, checks/debian-packages, README.md and docs/, and add tests/test_NAME.py. If it
+# has a package, also change bindings/packages.sh, bindings/packages.py and tests/test_packages.py.
 LANGUAGES = {
     "C": Clone.c,
     "C++": Clone.cpp,
@@ -196,7 +196,7 @@ LANGUAGES = {
 
 
 def of_archive():
-    """What `same 1000` of checks/same.c prints for the proved archive."""
+    """What `same 1000` of bindings/source/same.c prints for the proved archive."""
     return json.loads((DIST / "PROVENANCE.json").read_text(encoding="utf-8"))["answers"]
 
 

@@ -13,7 +13,7 @@ in its PROVENANCE.json, and that each copy equals its original. It needs only Py
 
 again makes the files again, and compares each byte. If the tools differ from those that
 PROVENANCE.json names, or the toolchain is another one with the same logic, bytes may differ. Then it
-compares the output of checks/same.c with the C source and with the archive in the folder ARCHIVE,
+compares the output of source/same.c with the C source and with the archive in the folder ARCHIVE,
 which archive.sh fills.
 """
 import base64
@@ -32,27 +32,25 @@ HERE, PROVENANCE = TOP / "bindings", "dist/PROVENANCE.json"
 TARGET, ARCHIVE = "wasm64-unknown-unknown", "libchinese_number.a"
 REMEDY = "run `python3 bindings/dist.py make`, which takes the toolchain"
 MADE = ("chinese_number.c", "chinese-number.32.wasm", "chinese-number.64.wasm")
+# The C source: its files, and their originals.
+C_SOURCE = {
+    "chinese_number.c": "dist/chinese_number.c",
+    "chinese_number.h": "bindings/c/chinese_number.h",
+    "LICENSE-wabt": "bindings/source/LICENSE-wabt",
+}
 # Each copy, and its original. A new file of dist/ also needs a line in .gitattributes, and a script
-# that makes it a line in SCRIPTS of sources.py.
+# that makes it a line in SCRIPTS of sources.py. Python, Rust and Go have the C source in their own
+# folders: pip before 21.3, `cargo vendor` and `go mod vendor` take a package's folder alone.
 COPIES = {
     "dist/CMakeLists.txt": "bindings/source/CMakeLists.txt",
     "dist/LICENSE": "LICENSE",
     "dist/LICENSE-wabt": "bindings/source/LICENSE-wabt",
     "dist/chinese_number.h": "bindings/c/chinese_number.h",
     "dist/chinese_number.hpp": "bindings/c/chinese_number.hpp",
-    "bindings/go/LICENSE": "LICENSE",
-    "bindings/go/LICENSE-wabt": "bindings/source/LICENSE-wabt",
-    "bindings/go/chinese_number.c": "dist/chinese_number.c",
-    "bindings/go/chinese_number.h": "bindings/c/chinese_number.h",
-    "bindings/python/LICENSE": "LICENSE",
-    "bindings/python/source/LICENSE-wabt": "bindings/source/LICENSE-wabt",
-    "bindings/python/source/chinese_number.c": "dist/chinese_number.c",
-    "bindings/python/source/chinese_number.h": "bindings/c/chinese_number.h",
-    "bindings/rust/LICENSE": "LICENSE",
-    "bindings/rust/source/LICENSE-wabt": "bindings/source/LICENSE-wabt",
-    "bindings/rust/source/chinese_number.c": "dist/chinese_number.c",
-    "bindings/rust/source/chinese_number.h": "bindings/c/chinese_number.h",
-    "bindings/web/LICENSE": "LICENSE",
+    **{f"bindings/{it}/LICENSE": "LICENSE" for it in ("go", "python", "rust", "web")},
+    **{f"bindings/go/{name}": original for name, original in C_SOURCE.items()},
+    **{f"bindings/python/source/{name}": original for name, original in C_SOURCE.items()},
+    **{f"bindings/rust/source/{name}": original for name, original in C_SOURCE.items()},
     "bindings/web/chinese-number.d.cts": "bindings/web/chinese-number.d.mts",
     "bindings/web/files/chinese-number.32.wasm": "dist/chinese-number.32.wasm",
     "bindings/web/files/chinese-number.64.wasm": "dist/chinese-number.64.wasm",
@@ -70,8 +68,8 @@ WHAT = (
     "The library cn_c as modules for WebAssembly and as C source. `verdict` is the toolchain's own "
     "line over the module with a 64-bit memory, built of proved code: of the sources whose sum "
     "bindings/sources.py prints. The other files are made of that module. `answers` is what "
-    f"`same {COUNT}` of checks/same.c shows over the C source, and over an archive of the same "
-    "sources. bindings/dist.py makes and compares all this. This file is not signed."
+    f"`same {COUNT}` of bindings/source/same.c shows over the C source, and over an archive of the "
+    "same sources. bindings/dist.py makes and compares all this. This file is not signed."
 )
 
 
@@ -100,10 +98,10 @@ def tools():
 
 
 def answers(library):
-    """The output of checks/same.c with a library, which is an archive or C source."""
+    """The output of source/same.c with a library, which is an archive or C source."""
     with tempfile.TemporaryDirectory() as scratch:
         program = Path(scratch) / "same"
-        said("cc", "-O1", "-I", HERE / "c", TOP / "checks/same.c", library, "-o", program)
+        said("cc", "-O1", "-I", HERE / "c", HERE / "source/same.c", library, "-o", program)
         return said(program, COUNT).strip()
 
 

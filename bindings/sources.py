@@ -19,7 +19,7 @@ SCRIPTS = (
     "bindings/web/build.sh",
     "bindings/source/source.py",
     "bindings/source/chinese_number.c.in",
-    "checks/same.c",
+    "bindings/source/same.c",
 )
 
 

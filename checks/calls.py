@@ -24,6 +24,7 @@ METHODS = {
 }
 OF_NARROW = "一百二 120 12 十二"
 EACH = re.compile(r"^--- ([\w ]+): ([\w ]+?)(?: by ([\w ]+))?\n", re.MULTILINE)
+HEAD = "// Made by checks/calls.py."
 RE_EXPORTED = re.compile(r"^pub use (\w+)::(?:\{([^}]*)\}|([^;{]*));", re.MULTILINE)
 RENAMED = re.compile(r"^\s*(?:pub(?:\([^)]*\))? use [^;]*\bas\b|use [^;]*\bas from_)", re.MULTILINE)
 
@@ -95,7 +96,7 @@ def main():
         sys.exit(__doc__)
     top, of_modules, of_crates = Path(sys.argv[1]), {}, []
     for path, (start, parts) in made().items():
-        text = "\n".join([start.rstrip("\n"), *("\n" + part for _, part in parts), ""])
+        text = "\n".join([HEAD, start.rstrip("\n"), *("\n" + part for _, part in parts), ""])
         source, crate = top / path, Path(path).parts[1]
         if len(sys.argv) == 3:
             source.write_text(text, encoding="utf-8")
@@ -104,7 +105,7 @@ def main():
         calls = re.findall(r"^pub fn (\w+)", text, re.MULTILINE)
         of_modules.setdefault(crate, []).extend(f"{source.stem}::{name}" for name in calls)
         of_crates += [f"{crate}::{name}" for name in calls]
-    for crate in ("cn_read", "cn_print", "chinese_number"):
+    for crate in ("cn_calls", "chinese_number"):
         root = top / "crates" / crate / "src/lib.rt"
         compare(f"re-exported by {crate}", [*re_exported(root)], of_modules.get(crate, of_crates))
     for path in top.glob("crates/*/src/**/*.rt"):

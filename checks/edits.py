@@ -6,7 +6,7 @@ Usage: edits.py CRATES
 - No two edits of a crate have the same name, the old text of each occurs once in its file, and each
   fault in the table of docs/DESIGN.md is an edit.
 - Each law with premises has a worked instance that satisfies all of them: a definition of the law's
-  name in a file `proofs/*Examples.antt`. A law is a function with an empty body in `src/laws.rt` or
+  name in a file `proofs/*Examples.antt`. A law is a function that does nothing in `src/laws.rt` or
   `src/laws/`. For laws in `signed.rt`, `typed.rt` and `typed_signed.rt` the name of the instance
   begins with the name of the file; for a named clause it ends with the name of the clause.
 """
@@ -15,10 +15,9 @@ import sys
 from pathlib import Path
 
 import edit_files
-from items import without_comments
+from items import LAW, without_comments
 from known import split
 
-LAW = re.compile(r"^pub fn (\w+)(?:<[^>]*>)?\([^)]*\)\n(.*?)^\{\}$", re.MULTILINE | re.DOTALL)
 CLAUSE = re.compile(
     r"^    (requires|ensures)(?: (\w+))? \{(.*?)\}(?=\n    (?:re|en)|\n?\Z)", re.M | re.S
 )

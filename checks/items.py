@@ -1,7 +1,7 @@
 """The items of a crate that can be wrong: its functions, constants, tables and macros.
 
-Laws (their bodies are empty), tests and ghost items are skipped. The beginning and end of an item
-are found by the layout of `rt fmt`.
+Laws, tests and ghost items are skipped. The beginning and end of an item are found by the layout of
+`rt fmt`.
 """
 import re
 from collections import namedtuple
@@ -18,6 +18,12 @@ HEAD = re.compile(
 HOLDER = re.compile(r"(pub )?(?:trait (\w+)|impl(<.*?>)? (?:([\w:]+)(<.*>)? for )?(&?[\w:]+))")
 QUOTED = r"""b?"(?:\\.|[^"\\])*"|b?'(?:\\u\{\w+\}|\\.|[^'\\])'"""
 COMMENT = re.compile(rf"({QUOTED})|//[^\n]*", re.DOTALL)
+
+# A law, by its name and contract: a function that does nothing, or only calls a law of a trait.
+LAW = re.compile(
+    r"^pub fn (\w+)(?:<[^>]*>)?\([^)]*\)\n((?:    .*\n)+)\{(?:\}|\n    \w+::\w+\(\)\n\})$",
+    re.MULTILINE,
+)
 
 TESTS = re.compile(r"^#\[cfg\(test\)\]\nmod (\w+);", re.MULTILINE)
 
@@ -120,6 +126,6 @@ def body_of(lines, start, head):
             break
         if line == "}" or at and HEAD.match(line):
             return None
-    if stripped[at].endswith("{}"):
+    if stripped[at].endswith("{}") or LAW.match("\n".join(stripped)):
         return None
     return start + at + (not is_alone), start + stripped.index(head[1] + "}", at) + 1

@@ -3,30 +3,29 @@
 
 Usage: laws.py --check | --write [TOP]
 
-A law is a public function with an empty body in `src/laws.rt` or `src/laws/` of a crate. Users of
-the library find its laws in `chinese_number::laws`: each public module there is a group of laws, and
-so is each private module and each crate from which `laws.rt` re-exports some. The laws of each crate
-in BESIDE are a group on the other page.
+A law is a public function that does nothing in `src/laws.rt` or `src/laws/` of a crate. Users of
+the library find its laws in `chinese_number::laws`: each public module there is a group of laws,
+and so is each private module and each crate from which `laws.rt` re-exports some. The laws of each
+crate in BESIDE are a group on the other page.
 
 Each group has one place on its page, `<!--laws:GROUP--> .. <!--end-->`, or shares one with others.
 It holds the names of those laws that the page names nowhere else. --write fills the places. --check
-fails if one is filled otherwise, if a group has no place, if a law is in no group, and if a page has
-a name in code, with an underscore, that no function, call, file or folder of `crates/` has.
+fails if one is filled otherwise, if a group has no place, if a law is in no group, if a page has a
+name in code, with an underscore, that no function, call, file or folder of `crates/` has, and if no
+page names a grammar of a library by its public name: the laws of grammars hold of each.
 """
 import re
 import sys
 from collections import Counter
 from pathlib import Path
 
-from items import without_comments
+from items import LAW, without_comments
 
 LIBRARY = "chinese_number::laws"
 PAGES = ("docs/PROMISES.md", "docs/PROMISES-BINDINGS.md")
 BESIDE = ("numeral", "cn_figures", "cheque", "cn_c")
-# Its laws hold of each grammar; those of amounts and dates, which users find, are instances.
-GENERIC = "cn_capitals"
-LAW = re.compile(r"^pub fn (\w+)(?:<[^>]*>)?\([^)]*\)\n(?:    .*\n)+\{\}$", re.MULTILINE)
 USE = re.compile(r"^pub use ([\w:]+)::(?:\{([^}]*)\}|(\w+));", re.MULTILINE)
+GRAMMAR = re.compile(r"^(?:pub type (\w+) = \w+;\n\n)?impl Grammar for", re.MULTILINE)
 PLACE = re.compile(r"(<!--laws:([\w,]+)-->).*?(<!--end-->)")
 
 
@@ -43,7 +42,8 @@ def files_of(crates):
         text = without_comments(text_of(file))
         uses = [(path, re.findall(r"\w+", one or more)) for path, more, one in USE.findall(text)]
         public = re.findall(r"^pub mod (\w+);", text, re.MULTILINE)
-        found["::".join([crate, *modules])] = LAW.findall(text), uses, public
+        laws = [name for name, _ in LAW.findall(text)]
+        found["::".join([crate, *modules])] = laws, uses, public
     return found
 
 
@@ -89,6 +89,14 @@ def unknown_names(text, crates):
     return sorted({*re.findall(r"`(?:\w+::)*([a-z]\w*_\w+)`", text)} - known)
 
 
+def unnamed_grammars(texts, crates):
+    """The files of libraries with a grammar whose public name no page has."""
+    for root in sorted(crates.glob("*/src/lib.rt")):
+        for path in sorted(root.parent.rglob("*.rt")):
+            if any(f"`{name}`" not in texts for name in GRAMMAR.findall(text_of(path))):
+                yield path.relative_to(crates)
+
+
 def main():
     if sys.argv[1:2] not in (["--check"], ["--write"]) or len(sys.argv) > 3:
         sys.exit(__doc__)
@@ -97,7 +105,6 @@ def main():
     pages = dict(zip(PAGES, groups_of(files)))
     there = {law for groups in pages.values() for found in groups.values() for law in found}
     written = {f"{path}::{law}" for path, (laws, _, _) in files.items() for law in laws}
-    wrong = {law for law in written ^ there if not law.startswith(f"{GENERIC}::")}
     for page, groups in pages.items():
         text = text_of(top / page)
         wanted, of_page = filled(text, groups)
@@ -107,7 +114,9 @@ def main():
             of_page.append("its places are filled otherwise: laws.py --write fills them")
         of_page += [f"nothing has the name {it}" for it in unknown_names(wanted, top / "crates")]
         faults += [f"{page}: {fault}" for fault in of_page]
-    faults += [f"{law} is not a law that users find" for law in sorted(wrong)]
+    faults += [f"{law} is not a law that users find" for law in sorted(written ^ there)]
+    texts = "".join(text_of(top / page) for page in PAGES)
+    faults += [f"no page names a grammar of {it}" for it in unnamed_grammars(texts, top / "crates")]
     if faults:
         sys.exit("laws:\n" + "\n".join(faults))
     print(f"laws: {len(there)}, each named on its page")

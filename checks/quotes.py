@@ -35,10 +35,10 @@ PAGES = {
     "web/README.md": ["js"],
     "web/README.zh.md": ["js"],
 }
-# The module whose names a page in Chinese may use.
+# The files whose names a page in Chinese may use.
 IN_CHINESE = {
-    "python/README.zh.md": "python/chinese_number/__init__.py",
-    "web/README.zh.md": "web/chinese-number.d.mts",
+    "python/README.zh.md": [FILES["python"], "python/chinese_number/_codes.py"],
+    "web/README.zh.md": ["web/chinese-number.d.mts"],
 }
 
 
@@ -74,9 +74,8 @@ def compare_languages(page, text, text_of):
         if one != other:
             sys.exit(f"quotes: {page} has {one!r}, but the page in English has {other!r}")
     named = set(re.findall(r"\w+", " ".join(CODE.findall(BLOCK.sub("", text))), re.ASCII))
-    known = set(
-        re.findall(r"\w+", english + text_of("README.md") + text_of(IN_CHINESE[page]), re.ASCII)
-    )
+    texts = [english, *map(text_of, ["README.md", *IN_CHINESE[page]])]
+    known = set(re.findall(r"\w+", " ".join(texts), re.ASCII))
     if named - known:
         sys.exit(f"quotes: {page} has unknown names {sorted(named - known)}")
 

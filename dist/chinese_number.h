@@ -78,7 +78,9 @@
 extern "C" {
 #endif
 
-/* The integer type of a number. */
+/* Made by bindings/codes.py, from here .. */
+
+/* The integer type that a number must fit. */
 typedef enum cn_kind CN_OF_CODE {
     CN_U8 = 0,
     CN_U16 = 1,
@@ -92,228 +94,317 @@ typedef enum cn_kind CN_OF_CODE {
     CN_I128 = 9,
 #if SIZE_MAX == UINT64_MAX
     CN_USIZE = CN_U64, /* size_t */
-    CN_ISIZE = CN_I64  /* ptrdiff_t */
+    CN_ISIZE = CN_I64, /* ptrdiff_t */
 #else
     CN_USIZE = CN_U32,
-    CN_ISIZE = CN_I32
+    CN_ISIZE = CN_I32,
 #endif
 } cn_kind;
 
-/* The way in which a number is written: as plain digits (一二三), or with units (一百二十三) by one of four
- * methods.
- *
- * CN_TEN_THOUSAND writes 10^12 as 兆, as in Taiwan; CN_MIDDLE and CN_HIGH write it as 萬億, as on the
- * mainland. CN_ANY is the one to use. It reads digits, with or without a sign, as CN_DIGITS, and
- * any other text as CN_TEN_THOUSAND. It can read back what it writes: in CN_SIMPLIFIED below 10^16
- * it writes as CN_MIDDLE, so that 10^12 is 一万亿, and otherwise as CN_TEN_THOUSAND. */
+/* How a number is read or written: as plain digits, 一二三, or with units, 一百二十三, by one of four
+ * methods. CN_ANY is the one to use. It reads a text as CN_DIGITS if all of it is digits, with
+ * or without a sign, otherwise as CN_TEN_THOUSAND. It can read back what it writes: in
+ * simplified script below 10^16 it writes as CN_MIDDLE, so that 10^12 is 一万亿, and otherwise as
+ * CN_TEN_THOUSAND. CN_TEN_THOUSAND writes 10^12 as 兆, as in Taiwan; CN_MIDDLE and CN_HIGH write
+ * it as 萬億, as on the mainland. */
 typedef enum cn_way CN_OF_CODE {
+    /* As plain digits: 一二三 is 123. */
     CN_DIGITS = 0,
-    CN_LOW = 1,          /* each unit is ten times the one before: 億 is 10^5 */
-    CN_TEN_THOUSAND = 2, /* after 萬 each is 10^4 times the one before: 億 is 10^8, 兆 is 10^12 */
-    CN_MIDDLE = 3,       /* after 億 each is 10^8 times the one before: 兆 is 10^16, 京 is 10^24 */
-    CN_HIGH = 4,         /* from 億 on each is the square of the one before: 京 is 10^32 */
-    CN_ANY = 5
+    /* Each unit is ten times the one before: 億 is 10^5. */
+    CN_LOW = 1,
+    /* After 萬 each unit is 10^4 times the one before: 億 is 10^8, 兆 is 10^12. */
+    CN_TEN_THOUSAND = 2,
+    /* After 億 each unit is 10^8 times the one before: 兆 is 10^16, 京 is 10^24. */
+    CN_MIDDLE = 3,
+    /* From 億 on each unit is the square of the one before: 兆 is 10^16, 京 is 10^32. */
+    CN_HIGH = 4,
+    /* Chooses by the text, or by the script and the number. */
+    CN_ANY = 5,
 } cn_way;
 
-/* The script of a printed text: 萬 or 万. Both are read. */
+/* The script of a text that is written: 萬 or 万. Both are read. */
 typedef enum cn_script CN_OF_CODE {
+    /* 萬, 億 */
     CN_TRADITIONAL = 0,
-    CN_SIMPLIFIED = 1
+    /* 万, 亿 */
+    CN_SIMPLIFIED = 1,
 } cn_script;
 
-/* The case of a printed text: 壹拾 or 一十. Both are read. */
+/* The case of a number that is written: 壹拾 or 一十. Both are read. */
 typedef enum cn_case CN_OF_CODE {
+    /* 壹, 拾: the characters of cheques. */
     CN_UPPER = 0,
-    CN_LOWER = 1
+    /* 一, 十 */
+    CN_LOWER = 1,
 } cn_case;
 
-/* The form of a printed amount: none or several of these, added together. All are read. */
-typedef enum cn_form CN_OF_CODE {
-    CN_PLAIN = 0,
-    CN_CURRENCY = 1,        /* with the prefix 人民币 */
-    CN_ROUND_YUAN = 2,      /* 圆 instead of 元 */
-    CN_UPRIGHT_CLOSING = 4, /* 正 instead of 整 */
-    CN_BRACKETED_SIGN = 8   /* （负数） instead of 负 before a negative amount */
-} CN_FLAGS cn_form;
+/* A unit; each is greater than the one before. A search takes the greatest one that it looks
+ * for: CN_ZHAO is the one to use, since in sentences greater ones nearly always mean something
+ * else. */
+typedef enum cn_unit CN_OF_CODE {
+    /* 個, 个 */
+    CN_GE = 0,
+    /* 十, 拾 */
+    CN_SHI = 1,
+    /* 百, 佰 */
+    CN_BAI = 2,
+    /* 千, 仟 */
+    CN_QIAN = 3,
+    /* 萬, 万 */
+    CN_WAN = 4,
+    /* 億, 亿 */
+    CN_YI = 5,
+    /* 兆 */
+    CN_ZHAO = 6,
+    /* 京 */
+    CN_JING = 7,
+    /* 垓 */
+    CN_GAI = 8,
+    /* 秭 */
+    CN_ZI = 9,
+    /* 穰 */
+    CN_RANG = 10,
+    /* 溝, 沟 */
+    CN_GOU = 11,
+    /* 澗, 涧 */
+    CN_JIAN = 12,
+    /* 正 */
+    CN_ZHENG = 13,
+    /* 載, 载 */
+    CN_ZAI = 14,
+    /* 極, 极 */
+    CN_JI = 15,
+} cn_unit;
 
 /* How a quantity is written. */
 typedef enum cn_quantity_form CN_OF_CODE {
-    CN_WHOLE = 0,   /* 35, 三十五, 3万 */
-    CN_DECIMAL = 1, /* 3.5, 三點五, 3.5万 */
-    CN_PERCENT = 2, /* 12.5%, 百分之五十 */
-    CN_FRACTION = 3 /* 三分之一, 千分之五 */
+    /* 35, 三十五, 3万 */
+    CN_WHOLE = 0,
+    /* 3.5, 三點五, 3.5万 */
+    CN_DECIMAL = 1,
+    /* 12.5%, 百分之五十 */
+    CN_PERCENT = 2,
+    /* 三分之一, 千分之五 */
+    CN_FRACTION = 3,
 } cn_quantity_form;
-
-/* The flags of a number or an expression in a text: none or several of these, added together.
- * - CN_PLAIN_DIGITS: each character is a digit. CN_DIGITS reads it; a method reads the others.
- * - CN_STANDS_ALONE: no letter or digit touches it or is linked to it. Neither part of 3.5萬 or
- *   1,280 stands alone.
- * - CN_ABOUT: it is approximate, such as 十 in 十几 and 几十, and 五六.
- * - CN_ONE_CHARACTER: it is one Chinese character, such as 一 in 一般. */
-typedef enum cn_flag CN_OF_CODE {
-    CN_PLAIN_DIGITS = 1,
-    CN_STANDS_ALONE = 2,
-    CN_ABOUT = 4,
-    CN_ONE_CHARACTER = 8
-} CN_FLAGS cn_flag;
 
 /* Why a reader may understand an expression as something other than its quantity. If several
  * reasons apply, CN_DOUBT_PART is reported if it is among them, and otherwise the first in this
- * list. The flags of a span contain the reason, multiplied by 16; cn_doubt_of returns it. A number
- * has none. */
+ * list. The flags of a span contain the reason, multiplied by 16; cn_doubt_of returns it. A
+ * number has none. */
 typedef enum cn_doubt CN_OF_CODE {
+    /* There is no reason. */
     CN_NO_DOUBT = 0,
-    CN_DOUBT_WORD = 1,   /* it is part of a word: 十二 of 十二指肠, 十一 of 双十一 */
-    CN_DOUBT_DIGITS = 2, /* it is two or three Chinese digits, or more in rising order: 五一, 一二三四 */
-    CN_DOUBT_TERM = 3,   /* it is part of a term: 负二 of 负二项, 十六 of 十六进制 */
-    CN_DOUBT_PART = 4,   /* it is part of an expression with 折, 成 or 半: 八五 of 八五折, 一 of 一个半 */
-    CN_DOUBT_TIME = 5,   /* it may be a time: 三点五 of 下午三点五, 十点零五 */
-    CN_DOUBT_RANGE = 6   /* it is one end of a range with one unit or 百分之: 3 and 5万 of 3~5万 */
+    /* It is part of a word: 十二 of 十二指肠, 十一 of 双十一. */
+    CN_DOUBT_WORD = 1,
+    /* It is two or three Chinese digits, or more in rising order: 五一, 一二三四. */
+    CN_DOUBT_DIGITS = 2,
+    /* It is part of a term: 负二 of 负二项, 十六 of 十六进制. */
+    CN_DOUBT_TERM = 3,
+    /* It is part of an expression with 折, 成 or 半: 八五 of 八五折, 一 of 一个半. */
+    CN_DOUBT_PART = 4,
+    /* It may be a time: 三点五 of 下午三点五, 十点零五. */
+    CN_DOUBT_TIME = 5,
+    /* It is one end of a range whose ends share a unit or 百分之: 3 and 5万 of 3~5万. */
+    CN_DOUBT_RANGE = 6,
 } cn_doubt;
 
-/* The options of chinese_quantities_to_figures. They are added together, and to CN_ABOUT and
- * CN_ONE_CHARACTER of cn_flag.
- * - CN_DOUBTFUL replaces doubtful expressions too, except those with CN_DOUBT_PART.
- * - CN_EXPANDED writes out 万, 亿 and so on: 三千五百亿 becomes 350000000000, not 3500亿.
- * - CN_CANONICAL rewrites what is only figures in ASCII, without commas and leading zeros: １,２８０
- *   becomes 1280. */
-#define CN_DOUBTFUL 16u
-#define CN_EXPANDED 32u
-#define CN_CANONICAL 64u
-
-/* The units, by rank. A search takes the greatest one that it looks for. */
-typedef enum cn_unit CN_OF_CODE {
-    CN_GE = 0,
-    CN_SHI = 1,
-    CN_BAI = 2,
-    CN_QIAN = 3,
-    CN_WAN = 4,
-    CN_YI = 5,
-    CN_ZHAO = 6, /* the one to use: in sentences, greater ones nearly always mean something else */
-    CN_JING = 7,
-    CN_GAI = 8,
-    CN_ZI = 9,
-    CN_RANG = 10,
-    CN_GOU = 11,
-    CN_JIAN = 12,
-    CN_ZHENG = 13,
-    CN_ZAI = 14,
-    CN_JI = 15
-} cn_unit;
-
-/* What a text is meant to be, for the calls that say what may follow it and why it is refused: each
- * names the call that reads it. */
+/* What a text is meant to be, for the calls that say what may follow it and why it is refused:
+ * each names the call that reads it. */
 typedef enum cn_input CN_OF_CODE {
-    CN_AMOUNT = 0,              /* chinese_amount_read */
-    CN_SIGNED_AMOUNT = 1,       /* chinese_signed_amount_read */
-    CN_TYPED_AMOUNT = 2,        /* chinese_typed_amount_read */
-    CN_TYPED_SIGNED_AMOUNT = 3, /* chinese_typed_signed_amount_read */
-    CN_DATE = 4,                /* chinese_date_read */
-    CN_FIGURES = 5              /* chinese_figures_read */
+    /* What chinese_amount_read reads. */
+    CN_AMOUNT = 0,
+    /* What chinese_signed_amount_read reads. */
+    CN_SIGNED_AMOUNT = 1,
+    /* What chinese_typed_amount_read reads. */
+    CN_TYPED_AMOUNT = 2,
+    /* What chinese_typed_signed_amount_read reads. */
+    CN_TYPED_SIGNED_AMOUNT = 3,
+    /* What chinese_date_read reads. */
+    CN_DATE = 4,
+    /* What chinese_figures_read reads. */
+    CN_FIGURES = 5,
 } cn_input;
 
 /* What is changed in a text to repair it. */
 typedef enum cn_change CN_OF_CODE {
+    /* No change is known. */
     CN_NO_CHANGE = 0,
-    CN_INSERT = 1,  /* the character is inserted at the place */
-    CN_REPLACE = 2, /* the character replaces the one at the place */
-    CN_DELETE = 3   /* the character at the place is deleted */
+    /* The character is inserted at the place. */
+    CN_INSERT = 1,
+    /* The character replaces the one at the place. */
+    CN_REPLACE = 2,
+    /* The character at the place is deleted. */
+    CN_DELETE = 3,
 } cn_change;
 
-/* Why a text is not a number or a quantity. docs/RULES.md has the rules. */
+/* Why a text is not a number or a quantity. From CN_FAULT_START on it is the rule that the wrong
+ * character breaks; from CN_FAULT_BARE_TEN on, a rule of quantities alone. */
 typedef enum cn_fault CN_OF_CODE {
+    /* There is no fault. */
     CN_NO_FAULT = 0,
+    /* The text is empty without its white space and, for signed types, one sign. */
     CN_FAULT_EMPTY = 1,
+    /* The number is above the type's maximum, or has more than 128 bits. */
     CN_FAULT_TOO_LARGE = 2,
+    /* The number is below the type's minimum. */
     CN_FAULT_TOO_SMALL = 3,
-    CN_FAULT_START = 4,         /* a numeral starts with a digit or 十: 百 of 百五 */
-    CN_FAULT_CHARACTER = 5,     /* it is no digit or unit: 角 of 一角 */
-    CN_FAULT_DIGITS = 6,        /* a digit directly after it: 一 of 一二 with units */
-    CN_FAULT_UNITS = 7,         /* a unit directly after it that is not greater: 百 of 一百十 */
-    CN_FAULT_GE = 8,            /* 個 without a greater unit after it: 個 of 三個 */
-    CN_FAULT_GROUPS = 9,        /* the same unit again: 萬 of 一萬二萬 */
-    CN_FAULT_BARE_TEN = 10,     /* the rest are of quantities: 十 without 一 before it, as in 三千零十万 */
-    CN_FAULT_REPEATED_TEN = 11, /* 十 or 百 after 十: the second 十 of 二十十 */
-    CN_FAULT_AFTER_ZERO = 12,   /* a unit after 零: 万 of 一亿零万 */
-    CN_FAULT_WEIGHT = 13,       /* 两 as a unit of weight: 两 of 二两 */
-    CN_FAULT_TWO_READINGS = 14, /* 万 of 一百五万, which may count 一百五十 or 一百零五 */
-    CN_FAULT_LEFT_OUT_ZERO = 15, /* 二 of 一亿二千, where 零 or a unit such as 万 seems to be left out */
-    CN_FAULT_DENOMINATOR = 16   /* the denominator is not a whole number above 0 */
+    /* A numeral starts with a digit or 十: 百 of 百五. */
+    CN_FAULT_START = 4,
+    /* It is no digit or unit: 角 of 一角. */
+    CN_FAULT_CHARACTER = 5,
+    /* A digit is directly after it, in a numeral with units: 一 of 一二. */
+    CN_FAULT_DIGITS = 6,
+    /* A unit that is not greater is directly after it: 百 of 一百十. */
+    CN_FAULT_UNITS = 7,
+    /* No greater unit is after 個: 個 of 三個. */
+    CN_FAULT_GE = 8,
+    /* The same unit is used again: 萬 of 一萬二萬. */
+    CN_FAULT_GROUPS = 9,
+    /* 十 has no 一 before it: 十 of 三千零十万. */
+    CN_FAULT_BARE_TEN = 10,
+    /* 十 or 百 is directly after 十: the second 十 of 十十. */
+    CN_FAULT_REPEATED_TEN = 11,
+    /* A unit is directly after 零: 万 of 一亿零万. */
+    CN_FAULT_AFTER_ZERO = 12,
+    /* 两 may be a unit of weight: 两 of 二两. */
+    CN_FAULT_WEIGHT = 13,
+    /* The unit can multiply one digit or all before it: 万 of 一百五万. */
+    CN_FAULT_TWO_READINGS = 14,
+    /* 零 or a unit seems to be left out: 二 of 一亿二千. */
+    CN_FAULT_LEFT_OUT_ZERO = 15,
+    /* The denominator is not a whole number above 0: 零 of 零分之一. */
+    CN_FAULT_DENOMINATOR = 16,
 } cn_fault;
 
 /* The language of a message. */
 typedef enum cn_language CN_OF_CODE {
+    /* English, en. */
     CN_ENGLISH = 0,
-    CN_SIMPLIFIED_CHINESE = 1, /* zh-Hans */
-    CN_TRADITIONAL_CHINESE = 2 /* zh-Hant */
+    /* Chinese in simplified script, zh-Hans. */
+    CN_SIMPLIFIED_CHINESE = 1,
+    /* Chinese in traditional script, zh-Hant. */
+    CN_TRADITIONAL_CHINESE = 2,
 } cn_language;
 
-/* The status that a call returns.
- * - CN_DONE: the text was read, printed or searched.
- * - CN_EMPTY, when reading: the text is empty without white space and, for signed types, one sign.
- * - CN_INCORRECT, when reading: the character at char_index cannot be there; no amount or date
- *   begins with the text up to and including it.
- * - CN_TOO_LARGE: when reading, the number is above the type's maximum, or has more than 128 bits;
- *   when printing with CN_LOW, the number, or one within a quantity, is 10^16 or more; when
- *   printing an amount or reading figures, the amount is 10^18 fen or more.
- * - CN_TOO_SMALL: when reading, the number is below the type's minimum; when printing with CN_LOW,
- *   the number is -10^16 or less, or one within a negative quantity is 10^16 or more; when printing
- *   an amount, it is -10^18 fen or less.
- * - CN_NOT_UTF8, when reading, finding or replacing: the bytes are not UTF-8; when finding, also:
- *   `from` is neither the start of a character nor the end of the text.
- * - CN_NO_ROOM, when printing or replacing: the text has more bytes than the buffer; *length says
- *   how many.
- * - CN_NOT_HELD, when printing: the type does not hold the number.
- * - CN_UNKNOWN: a code names no type, way, script, case, form, unit, option, input, language or
- *   status; CN_DIGITS is not a method.
- * - CN_UNFINISHED, when reading an amount, figures or a date: the text is not one, but more text
- *   can make it one.
- * - CN_NONE, of cn_find_next and cn_find_next_quantity: there is no further one in the text.
- * - CN_NOT_A_DATE, when printing a date: the date does not exist.
- * - CN_NOT_A_QUANTITY, when printing a quantity: the denominator is 0. */
+/* The status of a call. At CN_NO_ROOM *length says how many bytes the text has. */
 typedef enum cn_status CN_OF_CODE {
+    /* The text was read, written or searched. */
     CN_DONE = 0,
+    /* When reading, the text is empty without white space and, for signed types, one sign. */
     CN_EMPTY = 1,
+    /* When reading, the character at the place cannot be there; no amount, figures or date begin
+     * with the text up to and including it. */
     CN_INCORRECT = 2,
+    /* When reading, the number is above the type's maximum, or has more than 128 bits; when
+     * writing with CN_LOW, the number, or one within a quantity, is 10^16 or more; when writing
+     * an amount or reading figures, the amount is 10^18 fen or more. */
     CN_TOO_LARGE = 3,
+    /* When reading, the number is below the type's minimum; when writing with CN_LOW, the number
+     * is -10^16 or less, or one within a negative quantity is 10^16 or more; when writing an
+     * amount, it is -10^18 fen or less. */
     CN_TOO_SMALL = 4,
+    /* When reading, finding or replacing, the bytes are not UTF-8; when finding, also: the
+     * search starts neither at a character nor at the end of the text. */
     CN_NOT_UTF8 = 5,
+    /* When writing or replacing, the text has more bytes than the buffer. */
     CN_NO_ROOM = 6,
+    /* When writing, the type does not hold the number. */
     CN_NOT_HELD = 7,
+    /* A code names no type, way, script, case, form, unit, option, input, language or status;
+     * CN_DIGITS is not a method. */
     CN_UNKNOWN = 8,
+    /* When reading an amount, figures or a date, the text is not one, but more text can make it
+     * one. */
     CN_UNFINISHED = 9,
+    /* When finding the next number or quantity, there is no further one in the text. */
     CN_NONE = 10,
+    /* When writing a date, the date does not exist. */
     CN_NOT_A_DATE = 11,
-    CN_NOT_A_QUANTITY = 12
+    /* When writing a quantity, the denominator is 0. */
+    CN_NOT_A_QUANTITY = 12,
 } cn_status;
 
-/* The most bytes of a printed number, without the zero byte that cn_print writes. */
+/* The form of an amount that is written: none or several of these, added together. All are read. */
+typedef enum cn_form CN_OF_CODE {
+    /* With 元, 整 and 负. */
+    CN_PLAIN = 0,
+    /* With the prefix 人民币. */
+    CN_CURRENCY = 1,
+    /* 圆 instead of 元. */
+    CN_ROUND_YUAN = 2,
+    /* 正 instead of 整. */
+    CN_UPRIGHT_CLOSING = 4,
+    /* （负数） instead of 负 before a negative amount. */
+    CN_BRACKETED_SIGN = 8,
+} CN_FLAGS cn_form;
+
+/* The flags of a number or an expression in a text: none or several of these, added together. */
+typedef enum cn_flag CN_OF_CODE {
+    /* Each character is a digit, so CN_DIGITS reads it; a method reads the others. */
+    CN_PLAIN_DIGITS = 1,
+    /* No letter or digit touches it or is linked to it: no part of 3.5萬 or 1,280 does so. */
+    CN_STANDS_ALONE = 2,
+    /* It is approximate, such as 十 in 十几 and 几十, and 五六. */
+    CN_ABOUT = 4,
+    /* It is one Chinese character, such as 一 in 一般. */
+    CN_ONE_CHARACTER = 8,
+} CN_FLAGS cn_flag;
+
+/* The options for replacing quantities, added together, and to CN_ABOUT and CN_ONE_CHARACTER. */
+/* Doubtful expressions are replaced too, except those with CN_DOUBT_PART. */
+#define CN_DOUBTFUL 16u
+/* 万, 亿 and so on are written out: 三千五百亿 becomes 350000000000, not 3500亿. */
+#define CN_EXPANDED 32u
+/* What is only figures becomes ASCII without commas and leading zeros: １,２８０ becomes 1280. */
+#define CN_CANONICAL 64u
+
+/* How long the texts are that are written. These do not count the zero byte that cn_print,
+ * cn_input_message and so on write. */
+/* The most bytes of a number. */
 #define CN_MOST_BYTES 234
-
-/* The most bytes of a printed quantity, without the zero byte that cn_print_quantity writes. */
+/* The most bytes of a quantity. */
 #define CN_MOST_QUANTITY_BYTES 471
-
-/* The most bytes of a quantity in figures, without the zero byte of cn_quantity_figures. */
+/* The most bytes of a quantity in figures. */
 #define CN_MOST_FIGURES_BYTES 80
-
-/* The most bytes of a printed amount, without the zero byte that cn_print_amount writes. */
+/* The most bytes of an amount. */
 #define CN_MOST_AMOUNT_BYTES 117
-
-/* The most bytes of a printed signed amount, without the zero byte of cn_print_signed_amount. */
+/* The most bytes of a signed amount. */
 #define CN_MOST_SIGNED_AMOUNT_BYTES 129
-
-/* The most bytes of a printed date, without the zero byte that cn_print_date writes. */
+/* The most bytes of a date. */
 #define CN_MOST_DATE_BYTES 39
-
-/* The most characters that may follow a text. */
-#define CN_MOST_EXPECTED 48
-
-/* The most bytes of a message, without the zero byte that cn_input_message and so on write. */
+/* The most bytes of a message. */
 #define CN_MOST_MESSAGE_BYTES 512
 
-/* Only the C source returns this status, if a text, or a text and the buffer for the new one, have
- * more than 4293918720 bytes. What the call writes is then 0. The archives never return it. */
-#define CN_TOO_LONG UINT32_MAX
+/* The most characters that may come next in a text. */
+#define CN_MOST_EXPECTED 48
+
+/* The status of the C source alone for a text, or a text and the buffer for the new one, of more
+ * than 4,293,918,720 bytes. What the call writes is then 0. */
+#define CN_TOO_LONG 4294967295u
+
+/* A status in words. What has no text here has that of a refusal. */
+static inline const char *cn_status_text(uint32_t status) {
+    switch (status) {
+    case CN_DONE: return "done";
+    case CN_EMPTY: return "a chinese number cannot be empty";
+    case CN_INCORRECT: return "the chinese number is incorrect";
+    case CN_TOO_LARGE: return "number is too large";
+    case CN_TOO_SMALL: return "number is too small";
+    case CN_NOT_UTF8: return "the text is no UTF-8";
+    case CN_NO_ROOM: return "the room is too small for the text";
+    case CN_NOT_HELD: return "the type does not hold the number";
+    case CN_UNKNOWN: return "a code names no type, way, script, case, form, unit or option";
+    case CN_UNFINISHED: return "the amount or date is not finished";
+    case CN_NONE: return "there is no number in the text";
+    case CN_NOT_A_DATE: return "there is no such date";
+    case CN_NOT_A_QUANTITY: return "the denominator is 0";
+    case CN_TOO_LONG: return "the text is too long";
+    default: return "no status of this library";
+    }
+}
+
+/* .. up to here. */
 
 /* A whole number in two halves of 64 bits; for a signed type, in two's complement of 128 bits. So
  * (int8_t)number.low is the value of a number of the type CN_I8. */
@@ -901,27 +992,6 @@ CN_NODISCARD static inline cn_status cn_status_message(cn_status of, cn_language
     size_t length, most = cn_most_of_text(room_length);
     uint32_t status = chinese_status_message(of, language, cn_room(room, room_length, &none), most, &length);
     return cn_ended(status, room, room_length, length);
-}
-
-/* A status in words. */
-static inline const char *cn_status_text(uint32_t status) {
-    switch (status) {
-    case CN_DONE: return "done";
-    case CN_EMPTY: return "a chinese number cannot be empty";
-    case CN_INCORRECT: return "the chinese number is incorrect";
-    case CN_TOO_LARGE: return "number is too large";
-    case CN_TOO_SMALL: return "number is too small";
-    case CN_NOT_UTF8: return "the text is no UTF-8";
-    case CN_NO_ROOM: return "the room is too small for the text";
-    case CN_NOT_HELD: return "the type does not hold the number";
-    case CN_UNKNOWN: return "a code names no type, way, script, case, form, unit or option";
-    case CN_UNFINISHED: return "the amount or date is not finished";
-    case CN_NONE: return "there is no number in the text";
-    case CN_NOT_A_DATE: return "there is no such date";
-    case CN_NOT_A_QUANTITY: return "the denominator is 0";
-    case CN_TOO_LONG: return "the text is too long";
-    default: return "no status of this library";
-    }
 }
 
 #ifdef __cplusplus

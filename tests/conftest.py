@@ -91,15 +91,15 @@ def refuse_growth(tmp_path_factory):
 
 
 # The fixtures that need what `rt` builds.
-BUILT = {"archive", "library", "numeral", "cheque", "numbers", "allocating_calls", "bench"}
+BUILT = {"archive", "library", "numeral", "cheque", "numbers", "bench", "examples_tests"}
 
 
 def program(name):
-    """A fixture for the program of a crate."""
+    """A fixture for the program of a crate, or for that of its tests."""
 
     @pytest.fixture(scope="session", name=name)
     def give(refuse_growth):
-        path = TOP / f"crates/{name}/out/{name}"
+        path = TOP / f"crates/{name.removesuffix('_tests')}/out/{name}"
         if not path.is_file():
             leave_out(f"there is no {path.relative_to(TOP)}; `rt ci` builds it")
         return Program(path, refuse_growth)
@@ -108,7 +108,7 @@ def program(name):
 
 
 numeral, cheque, numbers = map(program, ("numeral", "cheque", "numbers"))
-allocating_calls, bench = program("allocating_calls"), program("bench")
+bench, examples_tests = map(program, ("bench", "examples_tests"))
 
 
 def pytest_collection_modifyitems(items):

@@ -39,7 +39,7 @@ ASKED = {"abort", "memcpy", "memmove", "memset"}
 def sum_of(folder, words, library, runner=(), **more):
     """The sum that `same.c` prints for a library."""
     program = folder / "same.exe"
-    run(*words, "-I", DIST, TOP / "checks/same.c", library, "-o", program, cwd=folder)
+    run(*words, "-I", DIST, TOP / "bindings/source/same.c", library, "-o", program, cwd=folder)
     said = run(*runner, program, cwd=folder, **of_wine(folder), **more)
     (found,) = set(re.findall(r"sum ([0-9a-f]{16})", said))
     return found

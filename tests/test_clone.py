@@ -17,6 +17,9 @@ from installing import CPYTHONS, OF_GO, Page, of_rust, user, virtual_environment
 from running import ENVIRONMENT, HEADER, TOP, fail, needs, run, write
 from test_c import EXAMPLES
 
+sys.path.insert(0, str(TOP / "bindings"))
+import dist
+
 NOT_CLONED = shutil.ignore_patterns(".git", "out", "target", "__pycache__")
 OF_GIT = ("-c", "user.name=clone", "-c", "user.email=", "-c", "init.defaultBranch=main")
 OFFLINE = ("unshare", "--map-root-user", "--net")
@@ -76,10 +79,22 @@ def test_there_is_no_network(begin):
         pytest.skip("unshare may not, so the network is there")
 
 
+def test_attributes(first):
+    """git keeps the bytes of each file that dist.py makes, and marks it as generated."""
+    paths = [*dist.files_of(dict.fromkeys(dist.MADE, b"")), dist.PROVENANCE]
+    said = run("git", "check-attr", "text", "linguist-generated", "--", *paths, cwd=first)
+    others = [
+        it for it in said.splitlines() if not it.endswith((": text: unset", "-generated: set"))
+    ]
+    assert others == [] and said.count("\n") == 2 * len(paths)
+
+
 NUMBER, URL = "十万五千\n", "file://${CLONE// /%20}"
 USE = 'python -c "from chinese_number import to_chinese; print(to_chinese(105_000))"\n'
 BY_PAGE = f'{by_page(page_of("python"))}{USE}'
 EDITABLE = f'pip install -e "$CLONE/bindings/python"\n{USE}'
+# pip before 21.3 copies the folder alone, and builds there.
+ALONE = f'cp -r "$CLONE/bindings/python" alone\npip install ./alone\n{USE}'
 BY_GIT = f'pip install "git+{URL}#subdirectory=bindings/python"\n{USE}'
 LIBRARY = "_native.abi3.so" if HEADER.is_file() else "libchinese_number.so"
 BESIDE_MODULE = f"bindings/python/chinese_number/{LIBRARY}"
@@ -91,6 +106,7 @@ grep -o 'install a C compiler' said
 # Each way of pip, what it must print at the end, and what it leaves in the clone.
 OF_PIP = {
     "editable": (EDITABLE, NUMBER, BESIDE_MODULE),
+    "alone": (ALONE, NUMBER, ""),
     "by git": (BY_GIT, NUMBER, ""),
     "without a compiler": (WITHOUT_COMPILER, "install a C compiler\n", ""),
 }
@@ -109,13 +125,14 @@ def test_pip_otherwise(follow, way):
     follow(*OF_PIP[way], **own)
 
 
+# `cargo vendor --quiet` prints no configuration. Offline, cargo cannot clone again instead.
 VENDORED = f"""\
 cargo add --quiet --git "{URL}" chinese-number-proved
 cargo run --quiet
 mkdir .cargo
-cargo vendor --quiet vendored > .cargo/config.toml
+cargo vendor vendored > .cargo/config.toml
 export CARGO_HOME=$PWD/other CARGO_TARGET_DIR=$PWD/other
-cargo run --quiet
+cargo run --quiet --offline
 """
 RUST = page_of("rust")
 OF_CARGO = {

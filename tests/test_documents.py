@@ -22,7 +22,7 @@ IN_CHINESE_TOO = ("README.md", "bindings/python/README.md", "bindings/web/README
 CODE = re.compile(r"^```\w*\n(.*?)^```$|^((?:    [^\n]*\n)+)", re.MULTILINE | re.DOTALL)
 # The definitions whose lists of characters are in RULES, each as one word.
 LISTED = (
-    "cn_core/specs/Figures.antt",
+    "cn_core/specs/FigureCharacters.antt",
     "cn_find/specs/Belongs.antt",
     "cn_find/specs/Flags.antt",
     "cn_find/specs/Expressions.antt",
@@ -125,7 +125,7 @@ def test_two_languages(page):
 
 def examples():
     """The questions and answers of the comments of the 96 calls."""
-    sources = [*TOP.glob("crates/cn_read/src/*.rt"), *TOP.glob("crates/cn_print/src/*.rt")]
+    sources = TOP.glob("crates/cn_calls/src/*.rt")
     for source in sorted(sources):
         for comment, name in CALL.findall(text_of(source)):
             integer, method = NAME.fullmatch(name).groups()

@@ -1,6 +1,4 @@
-"""The JavaScript under node, and the page in a Chromium ($CHROMIUM, or one on the path), with each
-module of `bindings/web/files`."""
-import os
+"""The JavaScript under node, with each module of `bindings/web/files`."""
 import re
 import shutil
 import subprocess
@@ -12,17 +10,15 @@ from running import ENVIRONMENT, TOP, leave_out, needs, run, write
 
 WEB = TOP / "bindings/web"
 VALID = "process.exit(WebAssembly.validate(require('fs').readFileSync(process.argv[1])) ? 0 : 1)"
-CHROMIUM = "chromium|chromium-browser|google-chrome|google-chrome-stable"
 
 
 @pytest.fixture(scope="module", params=["64", "32"])
 def folder(request, tmp_path_factory):
     """The binding with this module alone, under both names, whichever the host would choose."""
     made = tmp_path_factory.mktemp(request.param)
-    for path in (WEB / "index.html", WEB / "answers.mjs", *(TOP / "tests/web").glob("*.mjs")):
+    header = TOP / "bindings/c/chinese_number.h"
+    for path in (WEB / "answers.mjs", header, *(TOP / "tests/web").glob("*.mjs")):
         shutil.copy(path, made)
-    shutil.copytree(WEB / "page", made / "page")
-    shutil.copy(TOP / "bindings/c/chinese_number.h", made)
     shutil.copytree(TOP / "tests/rows", made / "rows")
     shutil.copytree(WEB / "files", made / "files")
     write(made / "chinese-number.mjs", "export * from './files/chinese-number.mjs';\n")
@@ -68,13 +64,3 @@ def test_other_version(node, folder, tmp_path):
     write(face, re.sub("(?<=VERSION = ')[0-9]+", "2000", face.read_text(encoding="utf-8")))
     said = run(*node, face, cwd=files, fails=True)
     assert re.search("Error: the module has version [0-9]+, not 2000[0-9]{6}", said)
-
-
-def test_page(folder, tmp_path, request):
-    """Without flags, so the module must be one that this browser accepts."""
-    needs("node 20")
-    chromium = os.environ.get("CHROMIUM") or needs(CHROMIUM)
-    pictures = request.config.getoption("--pictures") or tmp_path
-    said = run("node", "page_test.mjs", chromium, pictures.resolve(), cwd=folder)
-    if "has no 64-bit memories" in said:
-        leave_out("the Chromium has no 64-bit memories")

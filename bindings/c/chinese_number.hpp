@@ -31,61 +31,80 @@
 
 namespace chinese_number {
 
-/* The way in which a number is read or written. `any` chooses by the text, or by the script and the
- * number. */
+/* Made by bindings/codes.py, from here .. */
+
+/* How a number is read or written. */
 enum class Way : std::uint32_t {
-    digits = CN_DIGITS, low = CN_LOW, ten_thousand = CN_TEN_THOUSAND, middle = CN_MIDDLE, high = CN_HIGH, any = CN_ANY
+    digits = CN_DIGITS, low = CN_LOW, ten_thousand = CN_TEN_THOUSAND, middle = CN_MIDDLE,
+    high = CN_HIGH, any = CN_ANY,
 };
 
-enum class Script : std::uint32_t { traditional = CN_TRADITIONAL, simplified = CN_SIMPLIFIED };
+/* The script of a text that is written. */
+enum class Script : std::uint32_t {
+    traditional = CN_TRADITIONAL, simplified = CN_SIMPLIFIED,
+};
 
-enum class Case : std::uint32_t { upper = CN_UPPER, lower = CN_LOWER };
+/* The case of a number that is written. */
+enum class Case : std::uint32_t {
+    upper = CN_UPPER, lower = CN_LOWER,
+};
 
+/* A unit; each is greater than the one before. */
 enum class Unit : std::uint32_t {
-    ge = CN_GE, shi = CN_SHI, bai = CN_BAI, qian = CN_QIAN, wan = CN_WAN, yi = CN_YI, zhao = CN_ZHAO, jing = CN_JING,
-    gai = CN_GAI, zi = CN_ZI, rang = CN_RANG, gou = CN_GOU, jian = CN_JIAN, zheng = CN_ZHENG, zai = CN_ZAI, ji = CN_JI
+    ge = CN_GE, shi = CN_SHI, bai = CN_BAI, qian = CN_QIAN, wan = CN_WAN, yi = CN_YI,
+    zhao = CN_ZHAO, jing = CN_JING, gai = CN_GAI, zi = CN_ZI, rang = CN_RANG, gou = CN_GOU,
+    jian = CN_JIAN, zheng = CN_ZHENG, zai = CN_ZAI, ji = CN_JI,
 };
 
+/* How a quantity is written. */
 enum class QuantityForm : std::uint32_t {
-    whole = CN_WHOLE, decimal = CN_DECIMAL, percent = CN_PERCENT, fraction = CN_FRACTION
+    whole = CN_WHOLE, decimal = CN_DECIMAL, percent = CN_PERCENT, fraction = CN_FRACTION,
 };
 
-/* Why a reader may understand an expression as something other than its quantity. cn_doubt has
- * examples. */
+/* Why a reader may understand an expression as something other than its quantity. */
 enum class Doubt : std::uint32_t {
-    none = CN_NO_DOUBT, word = CN_DOUBT_WORD, digits = CN_DOUBT_DIGITS, term = CN_DOUBT_TERM, part = CN_DOUBT_PART,
-    time = CN_DOUBT_TIME, range = CN_DOUBT_RANGE
+    none = CN_NO_DOUBT, word = CN_DOUBT_WORD, digits = CN_DOUBT_DIGITS, term = CN_DOUBT_TERM,
+    part = CN_DOUBT_PART, time = CN_DOUBT_TIME, range = CN_DOUBT_RANGE,
 };
 
 /* What a text is meant to be, for the calls that say what may follow it and why it is refused. */
 enum class Input : std::uint32_t {
     amount = CN_AMOUNT, signed_amount = CN_SIGNED_AMOUNT, typed_amount = CN_TYPED_AMOUNT,
-    typed_signed_amount = CN_TYPED_SIGNED_AMOUNT, date = CN_DATE, figures = CN_FIGURES
+    typed_signed_amount = CN_TYPED_SIGNED_AMOUNT, date = CN_DATE, figures = CN_FIGURES,
 };
 
-/* What is changed in a text to repair it; `erase` deletes a character. */
-enum class Change : std::uint32_t { insert = CN_INSERT, replace = CN_REPLACE, erase = CN_DELETE };
+/* What is changed in a text to repair it. */
+enum class Change : std::uint32_t {
+    insert = CN_INSERT, replace = CN_REPLACE, erase = CN_DELETE,
+};
 
-/* Why a text is not a number or a quantity. cn_fault has examples. */
+/* Why a text is not a number or a quantity. */
 enum class Fault : std::uint32_t {
-    empty = CN_FAULT_EMPTY, too_large = CN_FAULT_TOO_LARGE, too_small = CN_FAULT_TOO_SMALL, start = CN_FAULT_START,
-    character = CN_FAULT_CHARACTER, digits = CN_FAULT_DIGITS, units = CN_FAULT_UNITS, ge = CN_FAULT_GE,
-    groups = CN_FAULT_GROUPS, bare_ten = CN_FAULT_BARE_TEN, repeated_ten = CN_FAULT_REPEATED_TEN,
-    after_zero = CN_FAULT_AFTER_ZERO, weight = CN_FAULT_WEIGHT, two_readings = CN_FAULT_TWO_READINGS,
-    left_out_zero = CN_FAULT_LEFT_OUT_ZERO, denominator = CN_FAULT_DENOMINATOR
+    empty = CN_FAULT_EMPTY, too_large = CN_FAULT_TOO_LARGE, too_small = CN_FAULT_TOO_SMALL,
+    start = CN_FAULT_START, character = CN_FAULT_CHARACTER, digits = CN_FAULT_DIGITS,
+    units = CN_FAULT_UNITS, ge = CN_FAULT_GE, groups = CN_FAULT_GROUPS,
+    bare_ten = CN_FAULT_BARE_TEN, repeated_ten = CN_FAULT_REPEATED_TEN,
+    after_zero = CN_FAULT_AFTER_ZERO, weight = CN_FAULT_WEIGHT,
+    two_readings = CN_FAULT_TWO_READINGS, left_out_zero = CN_FAULT_LEFT_OUT_ZERO,
+    denominator = CN_FAULT_DENOMINATOR,
 };
 
 /* The language of a message. */
 enum class Language : std::uint32_t {
-    english = CN_ENGLISH, simplified_chinese = CN_SIMPLIFIED_CHINESE, traditional_chinese = CN_TRADITIONAL_CHINESE
+    english = CN_ENGLISH, simplified_chinese = CN_SIMPLIFIED_CHINESE,
+    traditional_chinese = CN_TRADITIONAL_CHINESE,
 };
 
+/* The status of a call. */
 enum class Status : std::uint32_t {
-    done = CN_DONE, empty = CN_EMPTY, incorrect = CN_INCORRECT, too_large = CN_TOO_LARGE, too_small = CN_TOO_SMALL,
-    not_utf8 = CN_NOT_UTF8, no_room = CN_NO_ROOM, not_held = CN_NOT_HELD, unknown = CN_UNKNOWN,
-    unfinished = CN_UNFINISHED, none = CN_NONE, not_a_date = CN_NOT_A_DATE, not_a_quantity = CN_NOT_A_QUANTITY,
+    done = CN_DONE, empty = CN_EMPTY, incorrect = CN_INCORRECT, too_large = CN_TOO_LARGE,
+    too_small = CN_TOO_SMALL, not_utf8 = CN_NOT_UTF8, no_room = CN_NO_ROOM, not_held = CN_NOT_HELD,
+    unknown = CN_UNKNOWN, unfinished = CN_UNFINISHED, none = CN_NONE, not_a_date = CN_NOT_A_DATE,
+    not_a_quantity = CN_NOT_A_QUANTITY,
     too_long = CN_TOO_LONG
 };
+
+/* .. up to here. */
 
 /* How a number is printed. */
 struct Style {

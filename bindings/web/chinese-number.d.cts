@@ -6,87 +6,179 @@
  */
 export const VERSION: string;
 
-/** The integer types. */
-export const KINDS: readonly ['u8', 'u16', 'u32', 'u64', 'u128', 'i8', 'i16', 'i32', 'i64', 'i128'];
+// Made by bindings/codes.py, from here ..
 
 /**
- * How a number is written: as plain digits (一二三), or with units (一百二十三) by one of four methods.
- * 'any' reads plain digits as such, and anything else as 'tenThousand'. It can read back what it
- * writes: in simplified script below 10 ** 16 it writes as 'middle', so that 10 ** 12 is 一万亿, and
- * otherwise as 'tenThousand'.
+ * The integer type that a number must fit.
  */
-export const WAYS: readonly ['digits', 'low', 'tenThousand', 'middle', 'high', 'any'];
-
-/** The methods to read and write an exact quantity: the ways with units, and 'any'. */
-export const METHODS: readonly ['low', 'tenThousand', 'middle', 'high', 'any'];
-
-/** The scripts. */
-export const SCRIPTS: readonly ['traditional', 'simplified'];
-
-/** The cases: 'upper' uses the characters of cheques. */
-export const CASES: readonly ['upper', 'lower'];
+export const KINDS: readonly [
+  'u8', 'u16', 'u32', 'u64', 'u128', 'i8', 'i16', 'i32', 'i64', 'i128',
+];
 
 /**
- * The units, each greater than the one before: 個, 十, 百, 千, 萬, 億, 兆, 京, 垓, 秭, 穰, 溝, 澗, 正, 載
- * and 極.
+ * How a number is read or written: as plain digits, 一二三, or with units, 一百二十三, by one of four
+ * methods. 'any' is the one to use. It reads a text as 'digits' if all of it is digits, with or
+ * without a sign, otherwise as 'tenThousand'. It can read back what it writes: in simplified
+ * script below 10^16 it writes as 'middle', so that 10^12 is 一万亿, and otherwise as
+ * 'tenThousand'. 'tenThousand' writes 10^12 as 兆, as in Taiwan; 'middle' and 'high' write it as
+ * 萬億, as on the mainland.
+ *
+ * - 'digits': as plain digits: 一二三 is 123.
+ * - 'low': each unit is ten times the one before: 億 is 10^5.
+ * - 'tenThousand': after 萬 each unit is 10^4 times the one before: 億 is 10^8, 兆 is 10^12.
+ * - 'middle': after 億 each unit is 10^8 times the one before: 兆 is 10^16, 京 is 10^24.
+ * - 'high': from 億 on each unit is the square of the one before: 兆 is 10^16, 京 is 10^32.
+ * - 'any': chooses by the text, or by the script and the number.
+ */
+export const WAYS: readonly [
+  'digits', 'low', 'tenThousand', 'middle', 'high', 'any',
+];
+
+/**
+ * How an exact quantity is read or written: a way with units, or 'any'.
+ */
+export const METHODS: readonly [
+  'low', 'tenThousand', 'middle', 'high', 'any',
+];
+
+/**
+ * The script of a text that is written: 萬 or 万. Both are read.
+ *
+ * - 'traditional': 萬, 億.
+ * - 'simplified': 万, 亿.
+ */
+export const SCRIPTS: readonly [
+  'traditional', 'simplified',
+];
+
+/**
+ * The case of a number that is written: 壹拾 or 一十. Both are read.
+ *
+ * - 'upper': 壹, 拾: the characters of cheques.
+ * - 'lower': 一, 十.
+ */
+export const CASES: readonly [
+  'upper', 'lower',
+];
+
+/**
+ * A unit; each is greater than the one before. A search takes the greatest one that it looks
+ * for: 'zhao' is the one to use, since in sentences greater ones nearly always mean something
+ * else.
+ *
+ * - 'ge': 個, 个.
+ * - 'shi': 十, 拾.
+ * - 'bai': 百, 佰.
+ * - 'qian': 千, 仟.
+ * - 'wan': 萬, 万.
+ * - 'yi': 億, 亿.
+ * - 'zhao': 兆.
+ * - 'jing': 京.
+ * - 'gai': 垓.
+ * - 'zi': 秭.
+ * - 'rang': 穰.
+ * - 'gou': 溝, 沟.
+ * - 'jian': 澗, 涧.
+ * - 'zheng': 正.
+ * - 'zai': 載, 载.
+ * - 'ji': 極, 极.
  */
 export const UNITS: readonly [
   'ge', 'shi', 'bai', 'qian', 'wan', 'yi', 'zhao', 'jing', 'gai', 'zi', 'rang', 'gou', 'jian',
   'zheng', 'zai', 'ji',
 ];
 
-/** How a quantity is written: 35, 3.5, 12.5% or 百分之五十, and 三分之一. */
-export const QUANTITY_FORMS: readonly ['whole', 'decimal', 'percent', 'fraction'];
+/**
+ * How a quantity is written.
+ *
+ * - 'whole': 35, 三十五, 3万.
+ * - 'decimal': 3.5, 三點五, 3.5万.
+ * - 'percent': 12.5%, 百分之五十.
+ * - 'fraction': 三分之一, 千分之五.
+ */
+export const QUANTITY_FORMS: readonly [
+  'whole', 'decimal', 'percent', 'fraction',
+];
 
 /**
- * Why a reader may understand an expression as something other than its quantity:
- * - 'word': it is part of a word: 十二 of 十二指肠, 十一 of 双十一;
- * - 'digits': it is two or three Chinese digits, or more in rising order: 五一, 一二三四;
- * - 'term': it is part of a term: 负二 of 负二项, 十六 of 十六进制;
- * - 'part': it is part of an expression with 折, 成 or 半: 八五 of 八五折, 一 of 一个半;
- * - 'time': it may be a time: 三点五 of 下午三点五, 十点零五;
+ * Why a reader may understand an expression as something other than its quantity. If several
+ * reasons apply, 'part' is reported if it is among them, and otherwise the first in this list.
+ *
+ * - 'word': it is part of a word: 十二 of 十二指肠, 十一 of 双十一.
+ * - 'digits': it is two or three Chinese digits, or more in rising order: 五一, 一二三四.
+ * - 'term': it is part of a term: 负二 of 负二项, 十六 of 十六进制.
+ * - 'part': it is part of an expression with 折, 成 or 半: 八五 of 八五折, 一 of 一个半.
+ * - 'time': it may be a time: 三点五 of 下午三点五, 十点零五.
  * - 'range': it is one end of a range whose ends share a unit or 百分之: 3 and 5万 of 3~5万.
  */
-export const DOUBTS: readonly ['word', 'digits', 'term', 'part', 'time', 'range'];
+export const DOUBTS: readonly [
+  'word', 'digits', 'term', 'part', 'time', 'range',
+];
 
 /**
- * What a text is meant to be; each input names the call that reads it: chineseToAmount,
- * chineseToSignedAmount, chineseToAmountAsTyped, chineseToSignedAmountAsTyped, chineseToDate and
- * yuanToFen.
+ * What a text is meant to be, for the calls that say what may follow it and why it is refused:
+ * each names the call that reads it.
+ *
+ * - 'amount': what chineseToAmount reads.
+ * - 'signedAmount': what chineseToSignedAmount reads.
+ * - 'typedAmount': what chineseToAmountAsTyped reads.
+ * - 'typedSignedAmount': what chineseToSignedAmountAsTyped reads.
+ * - 'date': what chineseToDate reads.
+ * - 'figures': what yuanToFen reads.
  */
 export const INPUTS: readonly [
   'amount', 'signedAmount', 'typedAmount', 'typedSignedAmount', 'date', 'figures',
 ];
 
-/** The languages of messages. */
-export const LANGUAGES: readonly ['en', 'zh-Hans', 'zh-Hant'];
-
-/** What is changed in a text to repair it. */
-export const CHANGES: readonly ['insert', 'replace', 'delete'];
+/**
+ * The language of a message.
+ *
+ * - 'en': English, en.
+ * - 'zh-Hans': Chinese in simplified script, zh-Hans.
+ * - 'zh-Hant': Chinese in traditional script, zh-Hant.
+ */
+export const LANGUAGES: readonly [
+  'en', 'zh-Hans', 'zh-Hant',
+];
 
 /**
- * Why a text is not a number or a quantity:
- * - 'empty', 'tooLarge', 'tooSmall': as for the codes of a NumeralError;
- * - 'start': a numeral starts with a digit or 十: 百 of 百五;
- * - 'character': it is no digit or unit: 角 of 一角;
- * - 'digits': a digit is directly after it: 一 of 一二 with units;
- * - 'units': a unit that is not greater is directly after it: 百 of 一百十;
- * - 'ge': it is 個 without a greater unit after it: 個 of 三個;
- * - 'groups': the same unit comes again: 萬 of 一萬二萬.
+ * What is changed in a text to repair it.
  *
- * The others are those of quantities alone:
- * - 'bareTen': 十 without 一 before it;
- * - 'repeatedTen': 十 twice;
- * - 'afterZero': a unit after 零;
- * - 'weight': 兩 as a unit of weight;
- * - 'twoReadings': 万 of 一百五万, which may count 一百五十 or 一百零五;
- * - 'leftOutZero': 零 is missing before it;
- * - 'denominator': the denominator is not a whole number above 0.
+ * - 'insert': the character is inserted at the place.
+ * - 'replace': the character replaces the one at the place.
+ * - 'delete': the character at the place is deleted.
+ */
+export const CHANGES: readonly [
+  'insert', 'replace', 'delete',
+];
+
+/**
+ * Why a text is not a number or a quantity. From 'start' on it is the rule that the wrong
+ * character breaks; from 'bareTen' on, a rule of quantities alone.
+ *
+ * - 'empty': the text is empty without its white space and, for signed types, one sign.
+ * - 'tooLarge': the number is above the type's maximum, or has more than 128 bits.
+ * - 'tooSmall': the number is below the type's minimum.
+ * - 'start': a numeral starts with a digit or 十: 百 of 百五.
+ * - 'character': it is no digit or unit: 角 of 一角.
+ * - 'digits': a digit is directly after it, in a numeral with units: 一 of 一二.
+ * - 'units': a unit that is not greater is directly after it: 百 of 一百十.
+ * - 'ge': no greater unit is after 個: 個 of 三個.
+ * - 'groups': the same unit is used again: 萬 of 一萬二萬.
+ * - 'bareTen': 十 has no 一 before it: 十 of 三千零十万.
+ * - 'repeatedTen': 十 or 百 is directly after 十: the second 十 of 十十.
+ * - 'afterZero': a unit is directly after 零: 万 of 一亿零万.
+ * - 'weight': 两 may be a unit of weight: 两 of 二两.
+ * - 'twoReadings': the unit can multiply one digit or all before it: 万 of 一百五万.
+ * - 'leftOutZero': 零 or a unit seems to be left out: 二 of 一亿二千.
+ * - 'denominator': the denominator is not a whole number above 0: 零 of 零分之一.
  */
 export const FAULTS: readonly [
   'empty', 'tooLarge', 'tooSmall', 'start', 'character', 'digits', 'units', 'ge', 'groups',
   'bareTen', 'repeatedTen', 'afterZero', 'weight', 'twoReadings', 'leftOutZero', 'denominator',
 ];
+
+// .. up to here.
 
 export type Kind = (typeof KINDS)[number];
 export type Way = (typeof WAYS)[number];

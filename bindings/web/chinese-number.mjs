@@ -27,102 +27,223 @@ export const VERSION = '0.1.0';
 
 // Each list is in the order of the module's codes for these names.
 
-/** The integer types. */
-export const KINDS = Object.freeze(/** @type {const} */ (
-  ['u8', 'u16', 'u32', 'u64', 'u128', 'i8', 'i16', 'i32', 'i64', 'i128']));
+// Made by bindings/codes.py, from here ..
 
 /**
- * How a number is written: as plain digits (一二三), or with units (一百二十三) by one of four methods.
- * 'any' reads plain digits as such, and anything else as 'tenThousand'. It can read back what it
- * writes: in simplified script below 10 ** 16 it writes as 'middle', so that 10 ** 12 is 一万亿, and
- * otherwise as 'tenThousand'.
+ * The integer type that a number must fit.
  */
-export const WAYS = Object.freeze(/** @type {const} */ (
-  ['digits', 'low', 'tenThousand', 'middle', 'high', 'any']));
-
-/** The methods to read and write an exact quantity: the ways with units, and 'any'. */
-export const METHODS = Object.freeze(/** @type {const} */ (
-  ['low', 'tenThousand', 'middle', 'high', 'any']));
-
-/** The scripts. */
-export const SCRIPTS = Object.freeze(/** @type {const} */ (['traditional', 'simplified']));
-
-/** The cases: 'upper' uses the characters of cheques. */
-export const CASES = Object.freeze(/** @type {const} */ (['upper', 'lower']));
+export const KINDS = Object.freeze(/** @type {const} */ ([
+  'u8', 'u16', 'u32', 'u64', 'u128', 'i8', 'i16', 'i32', 'i64', 'i128',
+]));
 
 /**
- * The units, each greater than the one before: 個, 十, 百, 千, 萬, 億, 兆, 京, 垓, 秭, 穰, 溝, 澗, 正, 載
- * and 極.
+ * How a number is read or written: as plain digits, 一二三, or with units, 一百二十三, by one of four
+ * methods. 'any' is the one to use. It reads a text as 'digits' if all of it is digits, with or
+ * without a sign, otherwise as 'tenThousand'. It can read back what it writes: in simplified
+ * script below 10^16 it writes as 'middle', so that 10^12 is 一万亿, and otherwise as
+ * 'tenThousand'. 'tenThousand' writes 10^12 as 兆, as in Taiwan; 'middle' and 'high' write it as
+ * 萬億, as on the mainland.
+ *
+ * - 'digits': as plain digits: 一二三 is 123.
+ * - 'low': each unit is ten times the one before: 億 is 10^5.
+ * - 'tenThousand': after 萬 each unit is 10^4 times the one before: 億 is 10^8, 兆 is 10^12.
+ * - 'middle': after 億 each unit is 10^8 times the one before: 兆 is 10^16, 京 is 10^24.
+ * - 'high': from 億 on each unit is the square of the one before: 兆 is 10^16, 京 is 10^32.
+ * - 'any': chooses by the text, or by the script and the number.
  */
-export const UNITS = Object.freeze(/** @type {const} */ (
-  ['ge', 'shi', 'bai', 'qian', 'wan', 'yi', 'zhao', 'jing', 'gai', 'zi', 'rang', 'gou', 'jian',
-    'zheng', 'zai', 'ji']));
-
-/** How a quantity is written: 35, 3.5, 12.5% or 百分之五十, and 三分之一. */
-export const QUANTITY_FORMS = Object.freeze(/** @type {const} */ (
-  ['whole', 'decimal', 'percent', 'fraction']));
+export const WAYS = Object.freeze(/** @type {const} */ ([
+  'digits', 'low', 'tenThousand', 'middle', 'high', 'any',
+]));
 
 /**
- * Why a reader may understand an expression as something other than its quantity:
- * - 'word': it is part of a word: 十二 of 十二指肠, 十一 of 双十一;
- * - 'digits': it is two or three Chinese digits, or more in rising order: 五一, 一二三四;
- * - 'term': it is part of a term: 负二 of 负二项, 十六 of 十六进制;
- * - 'part': it is part of an expression with 折, 成 or 半: 八五 of 八五折, 一 of 一个半;
- * - 'time': it may be a time: 三点五 of 下午三点五, 十点零五;
+ * How an exact quantity is read or written: a way with units, or 'any'.
+ */
+export const METHODS = Object.freeze(/** @type {const} */ ([
+  'low', 'tenThousand', 'middle', 'high', 'any',
+]));
+
+/**
+ * The script of a text that is written: 萬 or 万. Both are read.
+ *
+ * - 'traditional': 萬, 億.
+ * - 'simplified': 万, 亿.
+ */
+export const SCRIPTS = Object.freeze(/** @type {const} */ ([
+  'traditional', 'simplified',
+]));
+
+/**
+ * The case of a number that is written: 壹拾 or 一十. Both are read.
+ *
+ * - 'upper': 壹, 拾: the characters of cheques.
+ * - 'lower': 一, 十.
+ */
+export const CASES = Object.freeze(/** @type {const} */ ([
+  'upper', 'lower',
+]));
+
+/**
+ * A unit; each is greater than the one before. A search takes the greatest one that it looks
+ * for: 'zhao' is the one to use, since in sentences greater ones nearly always mean something
+ * else.
+ *
+ * - 'ge': 個, 个.
+ * - 'shi': 十, 拾.
+ * - 'bai': 百, 佰.
+ * - 'qian': 千, 仟.
+ * - 'wan': 萬, 万.
+ * - 'yi': 億, 亿.
+ * - 'zhao': 兆.
+ * - 'jing': 京.
+ * - 'gai': 垓.
+ * - 'zi': 秭.
+ * - 'rang': 穰.
+ * - 'gou': 溝, 沟.
+ * - 'jian': 澗, 涧.
+ * - 'zheng': 正.
+ * - 'zai': 載, 载.
+ * - 'ji': 極, 极.
+ */
+export const UNITS = Object.freeze(/** @type {const} */ ([
+  'ge', 'shi', 'bai', 'qian', 'wan', 'yi', 'zhao', 'jing', 'gai', 'zi', 'rang', 'gou', 'jian',
+  'zheng', 'zai', 'ji',
+]));
+
+/**
+ * How a quantity is written.
+ *
+ * - 'whole': 35, 三十五, 3万.
+ * - 'decimal': 3.5, 三點五, 3.5万.
+ * - 'percent': 12.5%, 百分之五十.
+ * - 'fraction': 三分之一, 千分之五.
+ */
+export const QUANTITY_FORMS = Object.freeze(/** @type {const} */ ([
+  'whole', 'decimal', 'percent', 'fraction',
+]));
+
+/**
+ * Why a reader may understand an expression as something other than its quantity. If several
+ * reasons apply, 'part' is reported if it is among them, and otherwise the first in this list.
+ *
+ * - 'word': it is part of a word: 十二 of 十二指肠, 十一 of 双十一.
+ * - 'digits': it is two or three Chinese digits, or more in rising order: 五一, 一二三四.
+ * - 'term': it is part of a term: 负二 of 负二项, 十六 of 十六进制.
+ * - 'part': it is part of an expression with 折, 成 or 半: 八五 of 八五折, 一 of 一个半.
+ * - 'time': it may be a time: 三点五 of 下午三点五, 十点零五.
  * - 'range': it is one end of a range whose ends share a unit or 百分之: 3 and 5万 of 3~5万.
  */
-export const DOUBTS = Object.freeze(/** @type {const} */ (
-  ['word', 'digits', 'term', 'part', 'time', 'range']));
+export const DOUBTS = Object.freeze(/** @type {const} */ ([
+  'word', 'digits', 'term', 'part', 'time', 'range',
+]));
 
 /**
- * What a text is meant to be; each input names the call that reads it: chineseToAmount,
- * chineseToSignedAmount, chineseToAmountAsTyped, chineseToSignedAmountAsTyped, chineseToDate and
- * yuanToFen.
- */
-export const INPUTS = Object.freeze(/** @type {const} */ (
-  ['amount', 'signedAmount', 'typedAmount', 'typedSignedAmount', 'date', 'figures']));
-
-/** The languages of messages. */
-export const LANGUAGES = Object.freeze(/** @type {const} */ (['en', 'zh-Hans', 'zh-Hant']));
-
-/** What is changed in a text to repair it. */
-export const CHANGES = Object.freeze(/** @type {const} */ (['insert', 'replace', 'delete']));
-
-/**
- * Why a text is not a number or a quantity:
- * - 'empty', 'tooLarge', 'tooSmall': as for the codes of a NumeralError;
- * - 'start': a numeral starts with a digit or 十: 百 of 百五;
- * - 'character': it is no digit or unit: 角 of 一角;
- * - 'digits': a digit is directly after it: 一 of 一二 with units;
- * - 'units': a unit that is not greater is directly after it: 百 of 一百十;
- * - 'ge': it is 個 without a greater unit after it: 個 of 三個;
- * - 'groups': the same unit comes again: 萬 of 一萬二萬.
+ * What a text is meant to be, for the calls that say what may follow it and why it is refused:
+ * each names the call that reads it.
  *
- * The others are those of quantities alone:
- * - 'bareTen': 十 without 一 before it;
- * - 'repeatedTen': 十 twice;
- * - 'afterZero': a unit after 零;
- * - 'weight': 兩 as a unit of weight;
- * - 'twoReadings': 万 of 一百五万, which may count 一百五十 or 一百零五;
- * - 'leftOutZero': 零 is missing before it;
- * - 'denominator': the denominator is not a whole number above 0.
+ * - 'amount': what chineseToAmount reads.
+ * - 'signedAmount': what chineseToSignedAmount reads.
+ * - 'typedAmount': what chineseToAmountAsTyped reads.
+ * - 'typedSignedAmount': what chineseToSignedAmountAsTyped reads.
+ * - 'date': what chineseToDate reads.
+ * - 'figures': what yuanToFen reads.
  */
-export const FAULTS = Object.freeze(/** @type {const} */ (
-  ['empty', 'tooLarge', 'tooSmall', 'start', 'character', 'digits', 'units', 'ge', 'groups',
-    'bareTen', 'repeatedTen', 'afterZero', 'weight', 'twoReadings', 'leftOutZero', 'denominator']));
+export const INPUTS = Object.freeze(/** @type {const} */ ([
+  'amount', 'signedAmount', 'typedAmount', 'typedSignedAmount', 'date', 'figures',
+]));
 
-const STATUSES = /** @type {Array<any>} */ (
-  ['done', 'empty', 'incorrect', 'tooLarge', 'tooSmall', 'notUtf8', 'noRoom', 'notHeld', 'unknown',
-    'unfinished', 'none', 'notADate', 'notAQuantity']);
+/**
+ * The language of a message.
+ *
+ * - 'en': English, en.
+ * - 'zh-Hans': Chinese in simplified script, zh-Hans.
+ * - 'zh-Hant': Chinese in traditional script, zh-Hant.
+ */
+export const LANGUAGES = Object.freeze(/** @type {const} */ ([
+  'en', 'zh-Hans', 'zh-Hant',
+]));
 
-// The flags of a number or an expression that was found: each bit is twice the one before. The bits
-// above them are the code of a doubt: its place in DOUBTS, counted from 1, or 0 for none.
-const FLAGS = ['plainDigits', 'standsAlone', 'about', 'oneCharacter'];
-const [PLAIN_DIGITS, STANDS_ALONE, ABOUT, ONE_CHARACTER] = FLAGS.map((_, bit) => 1 << bit);
-const DOUBT = FLAGS.length;
-// The bits of the options of quantitiesToFigures, which also has the last two flags.
-const OPTIONS = ['doubtful', 'expanded', 'canonical'];
-const [DOUBTFUL, EXPANDED, CANONICAL] = OPTIONS.map((_, bit) => 1 << DOUBT + bit);
+/**
+ * What is changed in a text to repair it.
+ *
+ * - 'insert': the character is inserted at the place.
+ * - 'replace': the character replaces the one at the place.
+ * - 'delete': the character at the place is deleted.
+ */
+export const CHANGES = Object.freeze(/** @type {const} */ ([
+  'insert', 'replace', 'delete',
+]));
+
+/**
+ * Why a text is not a number or a quantity. From 'start' on it is the rule that the wrong
+ * character breaks; from 'bareTen' on, a rule of quantities alone.
+ *
+ * - 'empty': the text is empty without its white space and, for signed types, one sign.
+ * - 'tooLarge': the number is above the type's maximum, or has more than 128 bits.
+ * - 'tooSmall': the number is below the type's minimum.
+ * - 'start': a numeral starts with a digit or 十: 百 of 百五.
+ * - 'character': it is no digit or unit: 角 of 一角.
+ * - 'digits': a digit is directly after it, in a numeral with units: 一 of 一二.
+ * - 'units': a unit that is not greater is directly after it: 百 of 一百十.
+ * - 'ge': no greater unit is after 個: 個 of 三個.
+ * - 'groups': the same unit is used again: 萬 of 一萬二萬.
+ * - 'bareTen': 十 has no 一 before it: 十 of 三千零十万.
+ * - 'repeatedTen': 十 or 百 is directly after 十: the second 十 of 十十.
+ * - 'afterZero': a unit is directly after 零: 万 of 一亿零万.
+ * - 'weight': 两 may be a unit of weight: 两 of 二两.
+ * - 'twoReadings': the unit can multiply one digit or all before it: 万 of 一百五万.
+ * - 'leftOutZero': 零 or a unit seems to be left out: 二 of 一亿二千.
+ * - 'denominator': the denominator is not a whole number above 0: 零 of 零分之一.
+ */
+export const FAULTS = Object.freeze(/** @type {const} */ ([
+  'empty', 'tooLarge', 'tooSmall', 'start', 'character', 'digits', 'units', 'ge', 'groups',
+  'bareTen', 'repeatedTen', 'afterZero', 'weight', 'twoReadings', 'leftOutZero', 'denominator',
+]));
+
+const STATUSES = /** @type {Array<any>} */ ([
+  'done', 'empty', 'incorrect', 'tooLarge', 'tooSmall', 'notUtf8', 'noRoom', 'notHeld', 'unknown',
+  'unfinished', 'none', 'notADate', 'notAQuantity',
+]);
+
+const CURRENCY = 1;
+const ROUND_YUAN = 2;
+const UPRIGHT_CLOSING = 4;
+const BRACKETED_SIGN = 8;
+
+const PLAIN_DIGITS = 1;
+const STANDS_ALONE = 2;
+const ABOUT = 4;
+const ONE_CHARACTER = 8;
+
+const DOUBTFUL = 16;
+const EXPANDED = 32;
+const CANONICAL = 64;
+
+const MOST_BYTES = 234n;
+const MOST_QUANTITY_BYTES = 471n;
+const MOST_FIGURES_BYTES = 80n;
+const MOST_AMOUNT_BYTES = 117n;
+const MOST_SIGNED_AMOUNT_BYTES = 129n;
+const MOST_DATE_BYTES = 39n;
+const MOST_MESSAGE_BYTES = 512n;
+
+const TEXTS = {
+  empty: 'a chinese number cannot be empty',
+  incorrect: 'the chinese number is incorrect',
+  tooLarge: 'number is too large',
+  tooSmall: 'number is too small',
+  amountUnfinished: 'the amount is not finished',
+  amountIncorrect: 'the amount is incorrect',
+  dateUnfinished: 'the date is not finished',
+  dateIncorrect: 'the date is incorrect',
+  notADate: 'there is no such date',
+  notAQuantity: 'the denominator is 0',
+};
+
+// .. up to here.
+
+// How many bits the flags of what is found have. The bits above them are the code of a doubt: its
+// place in DOUBTS, counted from 1, or 0 for none.
+const DOUBT = 4;
 
 const DONE = STATUSES.indexOf('done'), NO_ROOM = STATUSES.indexOf('noRoom');
 const DIGITS = WAYS.indexOf('digits'), FIRST_METHOD = WAYS.indexOf('low');
@@ -203,30 +324,30 @@ const HAS = {
  * @typedef {Exclude<NumeralCode | AmountCode | DateCode, 'unsafe' | 'outOfMemory'>} Status
  */
 
-const MESSAGES = {
-  empty: 'a chinese number cannot be empty',
-  incorrect: 'the chinese number is incorrect',
-  tooLarge: 'number is too large',
-  tooSmall: 'number is too small',
+const MESSAGES = Object.freeze({
+  empty: TEXTS.empty,
+  incorrect: TEXTS.incorrect,
+  tooLarge: TEXTS.tooLarge,
+  tooSmall: TEXTS.tooSmall,
   notHeld: 'does not hold the number', // after the name of the kind
   unsafe: 'a Number does not hold the number exactly',
-  notAQuantity: 'the denominator is 0',
+  notAQuantity: TEXTS.notAQuantity,
   outOfMemory: 'out of memory',
-};
+});
 
-const AMOUNT_MESSAGES = {
-  unfinished: 'the amount is not finished',
-  incorrect: 'the amount is incorrect',
-  tooLarge: 'number is too large',
-  tooSmall: 'number is too small',
+const AMOUNT_MESSAGES = Object.freeze({
+  unfinished: TEXTS.amountUnfinished,
+  incorrect: TEXTS.amountIncorrect,
+  tooLarge: TEXTS.tooLarge,
+  tooSmall: TEXTS.tooSmall,
   unsafe: 'a Number does not hold the amount exactly',
-};
+});
 
-const DATE_MESSAGES = {
-  unfinished: 'the date is not finished',
-  incorrect: 'the date is incorrect',
-  notADate: 'there is no such date',
-};
+const DATE_MESSAGES = Object.freeze({
+  unfinished: TEXTS.dateUnfinished,
+  incorrect: TEXTS.dateIncorrect,
+  notADate: TEXTS.notADate,
+});
 
 /**
  * What the message of a refusal is computed from: the call of the module, the string that was read,
@@ -387,13 +508,6 @@ const SPANS = LENGTH + 8;
 const MOST_SPANS = 64;
 const TEXT = SPANS + 24 * MOST_SPANS;
 const [READING_AT, LENGTH_AT, SPANS_AT, TEXT_AT] = [READING, LENGTH, SPANS, TEXT].map(BigInt);
-const MOST_BYTES = 234n;
-const MOST_AMOUNT_BYTES = 117n;
-const MOST_SIGNED_AMOUNT_BYTES = 129n;
-const MOST_DATE_BYTES = 39n;
-const MOST_QUANTITY_BYTES = 471n;
-const MOST_FIGURES_BYTES = 80n;
-const MOST_MESSAGE_BYTES = 512n;
 const MOST_PRINTED = Number(MOST_BYTES);
 const PAGE = 65536;
 const MOST_KEPT = 2 ** 24;
@@ -763,8 +877,9 @@ const scriptOf = (options) => codeOf(SCRIPT, options.script);
 // The form of an amount: a bit for each option that differs from its default.
 /** @param {SignedAmountOptions} options */
 function formOf(options) {
-  return flagOf(options.currency, 'currency') + 2 * codeOf(YUAN, options.yuan)
-    + 4 * codeOf(CLOSING, options.closing) + 8 * flagOf(options.bracketedSign, 'bracketedSign');
+  return CURRENCY * flagOf(options.currency, 'currency') + ROUND_YUAN * codeOf(YUAN, options.yuan)
+    + UPRIGHT_CLOSING * codeOf(CLOSING, options.closing)
+    + BRACKETED_SIGN * flagOf(options.bracketedSign, 'bracketedSign');
 }
 
 /**

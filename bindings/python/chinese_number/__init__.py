@@ -70,14 +70,17 @@ import re
 from dataclasses import dataclass, field, fields
 from datetime import date, datetime
 from decimal import Decimal
-from enum import Enum
 from fractions import Fraction
 from itertools import chain
 from sys import intern
 from typing import Any, Callable, Dict, Iterable, Iterator, List, Literal, Optional, Protocol
 from typing import SupportsIndex, Tuple, Type, TypeVar, Union
 
-from . import _library
+from . import _codes, _library
+from ._codes import Case, Change, Doubt, Fault, Input, Kind, Language, QuantityForm, Script, Status
+from ._codes import TEXTS as _TEXTS, Unit, Way
+from ._codes import _CaseWord, _DoubtWord, _InputWord, _KindWord, _LanguageWord, _MethodWord
+from ._codes import _QuantityFormWord, _ScriptWord, _UnitWord, _WayWord
 
 __all__ = [
     "AmountError",
@@ -128,212 +131,7 @@ __all__ = [
 __version__ = "0.1.0"
 _library.load(__version__)
 
-# The members of each enum are in the order of their codes in the library. The codes begin with 0,
-# those of Doubt, Change and Fault with 1.
-
-
-class Kind(str, Enum):
-    """The integer type that a number must fit."""
-
-    U8 = "u8"
-    U16 = "u16"
-    U32 = "u32"
-    U64 = "u64"
-    U128 = "u128"
-    I8 = "i8"
-    I16 = "i16"
-    I32 = "i32"
-    I64 = "i64"
-    I128 = "i128"
-
-
-class Way(str, Enum):
-    """How a number is written: as plain digits (一二三), or with units (一百二十三) by four methods.
-
-    LOW: each unit is ten times the one before.
-    TEN_THOUSAND: after 萬 each unit is 10**4 times the one before. It writes 10**12 as 兆, as in
-    Taiwan; MIDDLE and HIGH write it as 萬億, as on the mainland.
-    MIDDLE: after 億 each unit is 10**8 times the one before.
-    HIGH: from 億 on each unit is the square of the one before.
-    ANY is the one to use. It reads a text as DIGITS if all of it is digits, otherwise as
-    TEN_THOUSAND. It can read back what it writes: in simplified script below 10**16 it writes as
-    MIDDLE, so that 10**12 is 一万亿, and otherwise as TEN_THOUSAND.
-    """
-
-    DIGITS = "digits"
-    LOW = "low"
-    TEN_THOUSAND = "ten_thousand"
-    MIDDLE = "middle"
-    HIGH = "high"
-    ANY = "any"
-
-
-class Script(str, Enum):
-    """萬 or 万."""
-
-    TRADITIONAL = "traditional"
-    SIMPLIFIED = "simplified"
-
-
-class Case(str, Enum):
-    """壹拾 or 一十."""
-
-    UPPER = "upper"
-    LOWER = "lower"
-
-
-class Unit(str, Enum):
-    """個, 十, 百, 千, 萬, 億, 兆, 京, 垓, 秭, 穰, 溝, 澗, 正, 載 and 極, from the smallest up."""
-
-    GE = "ge"
-    SHI = "shi"
-    BAI = "bai"
-    QIAN = "qian"
-    WAN = "wan"
-    YI = "yi"
-    ZHAO = "zhao"
-    JING = "jing"
-    GAI = "gai"
-    ZI = "zi"
-    RANG = "rang"
-    GOU = "gou"
-    JIAN = "jian"
-    ZHENG = "zheng"
-    ZAI = "zai"
-    JI = "ji"
-
-
-class QuantityForm(str, Enum):
-    """How a quantity is written: 35; 3.5 and 3.5万; 12.5%; 三分之一 and 百分之五十."""
-
-    WHOLE = "whole"
-    DECIMAL = "decimal"
-    PERCENT = "percent"
-    FRACTION = "fraction"
-
-
-class Doubt(str, Enum):
-    """Why a reader may understand an expression as something other than its quantity.
-
-    WORD: it is part of a word: 十二 of 十二指肠, 十一 of 双十一.
-    DIGITS: it is two or three Chinese digits, or more in rising order: 五一, 一二三四.
-    TERM: it is part of a term: 负二 of 负二项, 十六 of 十六进制.
-    PART: it is part of an expression with 折, 成 or 半: 八五 of 八五折, 一 of 一个半.
-    TIME: it may be a time: 三点五 of 下午三点五, 十点零五.
-    RANGE: it is one end of a range whose ends share a unit or 百分之: 3 and 5万 of 3~5万.
-    """
-
-    WORD = "word"
-    DIGITS = "digits"
-    TERM = "term"
-    PART = "part"
-    TIME = "time"
-    RANGE = "range"
-
-
-class Input(str, Enum):
-    """What a text is meant to be; each is read by a call.
-
-    AMOUNT: chinese_to_amount. SIGNED_AMOUNT: chinese_to_signed_amount.
-    TYPED_AMOUNT: chinese_to_amount_as_typed.
-    TYPED_SIGNED_AMOUNT: chinese_to_signed_amount_as_typed.
-    DATE: chinese_to_date. FIGURES: yuan_to_fen.
-    """
-
-    AMOUNT = "amount"
-    SIGNED_AMOUNT = "signed_amount"
-    TYPED_AMOUNT = "typed_amount"
-    TYPED_SIGNED_AMOUNT = "typed_signed_amount"
-    DATE = "date"
-    FIGURES = "figures"
-
-
-class Change(str, Enum):
-    """What is done to a text: a character is inserted at a place, replaced or deleted there."""
-
-    INSERT = "insert"
-    REPLACE = "replace"
-    DELETE = "delete"
-
-
-class Fault(str, Enum):
-    """Why a text is not a number or a quantity.
-
-    START: a numeral starts with a digit or 十: 百 of 百五.
-    CHARACTER: it is no digit or unit: 角 of 一角.
-    DIGITS: a digit is directly after it: 一 of 一二 with units.
-    UNITS: a unit that is not greater is directly after it: 百 of 一百十.
-    GE: no greater unit is after 個: 個 of 三個.
-    GROUPS: the same unit follows again: 萬 of 一萬二萬.
-
-    The others are those of quantities alone:
-
-    BARE_TEN: 十 without 一 before it, as in 三千零十万.
-    REPEATED_TEN: 十 or 百 after 十.
-    AFTER_ZERO: another unit after 零.
-    WEIGHT: 兩 as a unit of weight, as in 二兩.
-    TWO_READINGS: 万 of 一百五万, which may mean 一百零五万 or 一百五十万.
-    LEFT_OUT_ZERO: 零 is missing before it, or a unit at the end: 二 of 一亿二千.
-    DENOMINATOR: the denominator is not a whole number above 0.
-    """
-
-    EMPTY = "empty"
-    TOO_LARGE = "too_large"
-    TOO_SMALL = "too_small"
-    START = "start"
-    CHARACTER = "character"
-    DIGITS = "digits"
-    UNITS = "units"
-    GE = "ge"
-    GROUPS = "groups"
-    BARE_TEN = "bare_ten"
-    REPEATED_TEN = "repeated_ten"
-    AFTER_ZERO = "after_zero"
-    WEIGHT = "weight"
-    TWO_READINGS = "two_readings"
-    LEFT_OUT_ZERO = "left_out_zero"
-    DENOMINATOR = "denominator"
-
-
-class Language(str, Enum):
-    """The language of a message."""
-
-    ENGLISH = "en"
-    SIMPLIFIED_CHINESE = "zh-Hans"
-    TRADITIONAL_CHINESE = "zh-Hant"
-
-
-# The words that a type checker accepts: the values of the enums, in their order.
-_KindWord = Literal["u8", "u16", "u32", "u64", "u128", "i8", "i16", "i32", "i64", "i128"]
-_WayWord = Literal["digits", "low", "ten_thousand", "middle", "high", "any"]
-_MethodWord = Literal["low", "ten_thousand", "middle", "high", "any"]
 _Method = Union[Literal[Way.LOW, Way.TEN_THOUSAND, Way.MIDDLE, Way.HIGH, Way.ANY], _MethodWord]
-_ScriptWord = Literal["traditional", "simplified"]
-_CaseWord = Literal["upper", "lower"]
-_UnitWord = Literal[
-    "ge",
-    "shi",
-    "bai",
-    "qian",
-    "wan",
-    "yi",
-    "zhao",
-    "jing",
-    "gai",
-    "zi",
-    "rang",
-    "gou",
-    "jian",
-    "zheng",
-    "zai",
-    "ji",
-]
-_FormWord = Literal["whole", "decimal", "percent", "fraction"]
-_DoubtWord = Literal["word", "digits", "term", "part", "time", "range"]
-_InputWord = Literal[
-    "amount", "signed_amount", "typed_amount", "typed_signed_amount", "date", "figures"
-]
-_LanguageWord = Literal["en", "zh-Hans", "zh-Hant"]
 _YuanWord = Literal["元", "圆"]
 _ClosingWord = Literal["整", "正"]
 
@@ -344,31 +142,6 @@ class _DateOnly(Protocol):
 
     def __lt__(self, other: date, /) -> bool:
         """Whether it is earlier."""
-
-
-class Status(Enum):
-    """The result of a call of the library. The exceptions have some of them.
-
-    NumeralError: EMPTY, INCORRECT, TOO_LARGE, TOO_SMALL, NOT_HELD, NOT_A_QUANTITY.
-    AmountError: INCORRECT, UNFINISHED, TOO_LARGE, TOO_SMALL.
-    DateError: INCORRECT, UNFINISHED, NOT_A_DATE.
-
-    DONE, NOT_UTF8, NO_ROOM, UNKNOWN and NONE are statuses of C, which no exception has.
-    """
-
-    DONE = 0
-    EMPTY = 1
-    INCORRECT = 2
-    TOO_LARGE = 3
-    TOO_SMALL = 4
-    NOT_UTF8 = 5
-    NO_ROOM = 6
-    NOT_HELD = 7
-    UNKNOWN = 8
-    UNFINISHED = 9
-    NONE = 10
-    NOT_A_DATE = 11
-    NOT_A_QUANTITY = 12
 
 
 @dataclass(frozen=True)
@@ -398,6 +171,7 @@ class Repair:
 
 
 _AnyRefusal = TypeVar("_AnyRefusal", bound="_Refusal")
+_POSITION = " (position: {char_index})"
 
 
 class _Refusal(ValueError):
@@ -461,12 +235,12 @@ class NumeralError(_Refusal):
     """
 
     _texts = {
-        Status.EMPTY: "a chinese number cannot be empty",
-        Status.INCORRECT: "the chinese number is incorrect (position: {char_index})",
-        Status.TOO_LARGE: "number is too large",
-        Status.TOO_SMALL: "number is too small",
+        Status.EMPTY: _TEXTS["empty"],
+        Status.INCORRECT: _TEXTS["incorrect"] + _POSITION,
+        Status.TOO_LARGE: _TEXTS["too_large"],
+        Status.TOO_SMALL: _TEXTS["too_small"],
         Status.NOT_HELD: "{kind} does not hold the number",
-        Status.NOT_A_QUANTITY: "the denominator is 0",
+        Status.NOT_A_QUANTITY: _TEXTS["not_a_quantity"],
     }
 
     def __init__(
@@ -497,10 +271,10 @@ class AmountError(_InputRefusal):
     """
 
     _texts = {
-        Status.INCORRECT: "the amount is incorrect (position: {char_index})",
-        Status.TOO_LARGE: "number is too large",
-        Status.TOO_SMALL: "number is too small",
-        Status.UNFINISHED: "the amount is not finished",
+        Status.INCORRECT: _TEXTS["amount_incorrect"] + _POSITION,
+        Status.TOO_LARGE: _TEXTS["too_large"],
+        Status.TOO_SMALL: _TEXTS["too_small"],
+        Status.UNFINISHED: _TEXTS["amount_unfinished"],
     }
 
 
@@ -520,13 +294,13 @@ class DateError(_InputRefusal):
     """
 
     _texts = {
-        Status.INCORRECT: "the date is incorrect (position: {char_index})",
-        Status.UNFINISHED: "the date is not finished",
-        Status.NOT_A_DATE: "there is no such date",
+        Status.INCORRECT: _TEXTS["date_incorrect"] + _POSITION,
+        Status.UNFINISHED: _TEXTS["date_unfinished"],
+        Status.NOT_A_DATE: _TEXTS["not_a_date"],
     }
 
 
-def _codes(of: Iterable[str]) -> Dict[str, int]:
+def _codes_of(of: Iterable[str]) -> Dict[str, int]:
     return {it: code for code, it in enumerate(of)}
 
 
@@ -536,25 +310,23 @@ def _words(of: Iterable[Any]) -> Tuple[str, ...]:
 
 
 _library.know_words(_words(Kind), _words(Way), _words(Script), _words(Case))
-_KINDS, _WAYS, _UNITS = _codes(Kind), _codes(Way), _codes(Unit)
-_SCRIPTS, _CASES = _codes(Script), _codes(Case)
-_FORMS, _FORM_OF = _codes(QuantityForm), tuple(QuantityForm)
+_KINDS, _WAYS, _UNITS = _codes_of(Kind), _codes_of(Way), _codes_of(Unit)
+_SCRIPTS, _CASES = _codes_of(Script), _codes_of(Case)
+_FORMS, _FORM_OF = _codes_of(QuantityForm), tuple(QuantityForm)
 _DOUBT_OF = (None, *Doubt)
-_DOUBTS = {it: code + 1 for it, code in _codes(Doubt).items()}
-_INPUTS, _LANGUAGES = _codes(Input), _codes(Language)
+_DOUBTS = {it: code + 1 for it, code in _codes_of(Doubt).items()}
+_INPUTS, _LANGUAGES = _codes_of(Input), _codes_of(Language)
 _AMOUNT, _SIGNED_AMOUNT, _TYPED_AMOUNT, _TYPED_SIGNED_AMOUNT, _DATE, _FIGURES = _INPUTS.values()
 _STATUS_OF, _INCORRECT = tuple(Status), Status.INCORRECT.value
 _CHANGE_OF, _FAULT_OF = (None, *Change), (None, *Fault)
 _METHODS = {way: code for way, code in _WAYS.items() if way is not Way.DIGITS}
-# What each word, the prefix 人民币 and the sign （负数） add to the code of an amount's form.
-_CURRENCY, _BRACKETED_SIGN = 1, 8
-_YUAN = {"元": 0, "圆": 2}
-_CLOSINGS = {"整": 0, "正": 4}
+# What each word adds to the code of an amount's form.
+_YUAN = {"元": 0, "圆": _codes.ROUND_YUAN}
+_CLOSINGS = {"整": 0, "正": _codes.UPRIGHT_CLOSING}
 _FIRST_NOT_WRITTEN = 10**18
 _TOO_MANY_PLACES = 16  # before the point: 10**16 yuan are 10**18 fen
 _MOST_PLACES = 38  # decimals that fit in 128 bits
 _FIRST_SIGNED = _KINDS["i8"]
-_TOO_LONG = 2**32 - 1
 _MOST_SHOWN = 100
 
 
@@ -627,7 +399,7 @@ def _text(value: str) -> str:
 
 
 def _status(code: int) -> Status:
-    if code == _TOO_LONG:
+    if code == _codes.TOO_LONG:
         raise OverflowError("the text is too long: it has more than 4,293,918,720 bytes")
     return _STATUS_OF[code]
 
@@ -713,7 +485,7 @@ def _amount_text(
     whole = _whole(fen, "a whole number of fen (yuan_to_fen converts yuan)")
     script_code = _code(_SCRIPTS, script, "script")
     form = _code(_YUAN, yuan, "yuan") + _code(_CLOSINGS, closing, "closing") + sign
-    form += _CURRENCY if _flag(currency) else 0
+    form += _codes.CURRENCY if _flag(currency) else 0
     if not least <= whole < _FIRST_NOT_WRITTEN:
         raise _not_written(whole, least)
     status, text = call(whole, script_code, form)
@@ -770,7 +542,7 @@ def signed_amount_to_chinese(
     >>> signed_amount_to_chinese(-1500, bracketed_sign=True)
     '（负数）壹拾伍元整'
     """
-    choices, sign = (script, currency, yuan, closing), _BRACKETED_SIGN * _flag(bracketed_sign)
+    choices, sign = (script, currency, yuan, closing), _codes.BRACKETED_SIGN * _flag(bracketed_sign)
     return _amount_text(_library.print_signed_amount, fen, 1 - _FIRST_NOT_WRITTEN, choices, sign)
 
 
@@ -954,7 +726,7 @@ class Quantity:
         self,
         numerator: SupportsIndex,
         denominator: SupportsIndex = 1,
-        form: Union[QuantityForm, _FormWord] = QuantityForm.WHOLE,
+        form: Union[QuantityForm, _QuantityFormWord] = QuantityForm.WHOLE,
     ) -> None:
         above, below = _whole(numerator, "a whole number"), _whole(denominator, "a whole number")
         _refuse_not_held(above, Kind.I128)
@@ -1381,11 +1153,11 @@ def quantities_to_figures(
     options = sum(
         option
         for option, is_chosen in (
-            (_library.ABOUT, about),
-            (_library.ONE_CHARACTER, one_character),
-            (_library.DOUBTFUL, doubtful),
-            (_library.EXPANDED, expanded),
-            (_library.CANONICAL, canonical),
+            (_codes.ABOUT, about),
+            (_codes.ONE_CHARACTER, one_character),
+            (_codes.DOUBTFUL, doubtful),
+            (_codes.EXPANDED, expanded),
+            (_codes.CANONICAL, canonical),
         )
         if _flag(is_chosen)
     )

@@ -20,29 +20,13 @@ from ctypes import POINTER as _at, byref
 from pathlib import Path
 from typing import Any, Dict, List, Tuple, TypeVar, Union
 
-_MOST_BYTES = 234
-_MOST_QUANTITY_BYTES = 471
-_MOST_FIGURES_BYTES = 80
-_MOST_AMOUNT_BYTES = 117
-_MOST_SIGNED_AMOUNT_BYTES = 129
-_MOST_DATE_BYTES = 39
-_MOST_EXPECTED = 48
-_MOST_MESSAGE_BYTES = 512
+from . import _codes
+
 _AT_ONCE = 64
-_NO_ROOM = 6
 _MODULE = "_native.abi3.so"
 _CODE, _WORD, _SIZE = ctypes.c_uint32, ctypes.c_uint64, ctypes.c_size_t
 _SIGNED_WORD = ctypes.c_int64
 _PLACE = [("char_index", _SIZE), ("byte_index", _SIZE)]
-# The flags of what is found.
-PLAIN_DIGITS = 1
-STANDS_ALONE = 2
-ABOUT = 4
-ONE_CHARACTER = 8
-# The options of quantities_to_figures, with the two last flags.
-DOUBTFUL = 16
-EXPANDED = 32
-CANONICAL = 64
 
 
 class _Reading(ctypes.Structure):
@@ -77,7 +61,7 @@ class _Expected(ctypes.Structure):
     _fields_ = [
         *_PLACE,
         *(("may_end", _CODE), ("white_space", _CODE), ("count", _CODE)),
-        ("characters", _CODE * _MOST_EXPECTED),
+        ("characters", _CODE * _codes.MOST_EXPECTED),
     ]
 
 
@@ -126,11 +110,9 @@ _CALLS = (
 ).split()
 # The code of a doubt is multiplied by this, and added to the flags.
 _DOUBT = 16
+_FLAGS = _codes.PLAIN_DIGITS, _codes.STANDS_ALONE, _codes.ABOUT, _codes.ONE_CHARACTER
 # For each sum of flags, whether each flag is in it.
-_FLAGS_OF = [
-    tuple(bool(flags & it) for it in (PLAIN_DIGITS, STANDS_ALONE, ABOUT, ONE_CHARACTER))
-    for flags in range(_DOUBT)
-]
+_FLAGS_OF = [tuple(bool(flags & it) for it in _FLAGS) for flags in range(_DOUBT)]
 # A quantity: the low and the high 64 bits of its numerator and of its denominator, and its form.
 Words = Tuple[int, int, int, int, int]
 # The status, some of the runs found, and where the search stopped, in bytes and in characters.
@@ -320,23 +302,23 @@ def print_number(
 ) -> Tuple[int, str]:
     """The text of a number that is given as two words. Only the low 64 bits of each word count."""
     codes = low, high, kind, way, script, case
-    return _printed(library.chinese_number_print, _MOST_BYTES, *codes)
+    return _printed(library.chinese_number_print, _codes.MOST_BYTES, *codes)
 
 
 def print_amount(fen: int, script: int, form: int) -> Tuple[int, str]:
     """The text of an amount of less than 2**64 fen."""
-    return _printed(library.chinese_amount_print, _MOST_AMOUNT_BYTES, fen, script, form)
+    return _printed(library.chinese_amount_print, _codes.MOST_AMOUNT_BYTES, fen, script, form)
 
 
 def print_signed_amount(fen: int, script: int, form: int) -> Tuple[int, str]:
     """The text of a signed amount from -2**63 fen to less than 2**63."""
     codes = fen, script, form
-    return _printed(library.chinese_signed_amount_print, _MOST_SIGNED_AMOUNT_BYTES, *codes)
+    return _printed(library.chinese_signed_amount_print, _codes.MOST_SIGNED_AMOUNT_BYTES, *codes)
 
 
 def print_date(year: int, month: int, day: int, script: int) -> Tuple[int, str]:
     """The text of a date."""
-    return _printed(library.chinese_date_print, _MOST_DATE_BYTES, year, month, day, script)
+    return _printed(library.chinese_date_print, _codes.MOST_DATE_BYTES, year, month, day, script)
 
 
 def input_expected(text: str, of: int) -> Tuple[int, Tuple[int, bool, bool, str]]:
@@ -365,12 +347,12 @@ def message(what: str, text: str, *codes: int) -> Tuple[int, str]:
     """The message about a text that is not a number, a quantity or an input, which `what` says."""
     data = str.encode(text, "utf-8", "replace")
     call = getattr(library, f"chinese_{what}_message")
-    return _printed(call, _MOST_MESSAGE_BYTES, data, len(data), *codes)
+    return _printed(call, _codes.MOST_MESSAGE_BYTES, data, len(data), *codes)
 
 
 def status_message(status: int, language: int) -> Tuple[int, str]:
     """The message of a status."""
-    return _printed(library.chinese_status_message, _MOST_MESSAGE_BYTES, status, language)
+    return _printed(library.chinese_status_message, _codes.MOST_MESSAGE_BYTES, status, language)
 
 
 def _at_words(low: int, high: int, below_low: int, below_high: int, form: int) -> Any:
@@ -380,22 +362,23 @@ def _at_words(low: int, high: int, below_low: int, below_high: int, form: int) -
 def print_quantity(quantity: Words, method: int, script: int, case: int) -> Tuple[int, str]:
     """The text of a quantity. Only the low 64 bits of each word count."""
     codes = _at_words(*quantity), method, script, case
-    return _printed(library.chinese_quantity_print, _MOST_QUANTITY_BYTES, *codes)
+    return _printed(library.chinese_quantity_print, _codes.MOST_QUANTITY_BYTES, *codes)
 
 
 def print_figures(quantity: Words) -> Tuple[int, str]:
     """The figures of a quantity."""
     call, it = library.chinese_quantity_figures, _at_words(*quantity)
-    return _printed(call, _MOST_FIGURES_BYTES, it)
+    return _printed(call, _codes.MOST_FIGURES_BYTES, it)
 
 
 def quantities_to_figures(
     data: bytes, upper: bool, greatest: int, method: int, options: int
 ) -> Tuple[int, str]:
     """The text with its quantities in figures. `data` is the text in UTF-8."""
-    codes, length, status = (upper, greatest, method, options), _SIZE(len(data)), _NO_ROOM
-    while status == _NO_ROOM:
-        room = ctypes.create_string_buffer(max(length.value, _MOST_FIGURES_BYTES))
+    codes, length = (upper, greatest, method, options), _SIZE(len(data))
+    status = no_room = _codes.Status.NO_ROOM.value
+    while status == no_room:
+        room = ctypes.create_string_buffer(max(length.value, _codes.MOST_FIGURES_BYTES))
         status = library.chinese_quantities_to_figures(
             data, len(data), *codes, room, len(room), byref(length)
         )

@@ -1,5 +1,4 @@
-//! The calls of the library, and its codes. `bindings/c/chinese_number.h` documents what each
-//! returns.
+//! The calls of the library. `bindings/c/chinese_number.h` documents what each returns.
 
 #![cfg_attr(
     not(all(feature = "number-to-chinese", feature = "chinese-to-number")),
@@ -11,64 +10,16 @@ use core::mem::MaybeUninit;
 use alloc::string::String;
 use alloc::vec::Vec;
 
+use crate::codes::{
+    status, Kind, MOST_AMOUNT_BYTES, MOST_BYTES, MOST_DATE_BYTES, MOST_EXPECTED,
+    MOST_FIGURES_BYTES, MOST_MESSAGE_BYTES, MOST_QUANTITY_BYTES, MOST_SIGNED_AMOUNT_BYTES,
+    TOO_LONG,
+};
 use crate::{
     BillDate, ChineseCase, ChineseVariant, Input, Language, Quantity, QuantityForm, Unit, Way,
 };
 
-/// The statuses.
-#[allow(dead_code, reason = "this crate never causes some of them")]
-pub mod status {
-    pub const DONE: u32 = 0;
-    pub const EMPTY: u32 = 1;
-    pub const INCORRECT: u32 = 2;
-    pub const TOO_LARGE: u32 = 3;
-    pub const TOO_SMALL: u32 = 4;
-    pub const NOT_UTF8: u32 = 5;
-    pub const NO_ROOM: u32 = 6;
-    pub const NOT_HELD: u32 = 7;
-    pub const UNKNOWN: u32 = 8;
-    pub const UNFINISHED: u32 = 9;
-    pub const NONE: u32 = 10;
-    pub const NOT_A_DATE: u32 = 11;
-    pub const NOT_A_QUANTITY: u32 = 12;
-    /// Only the C source returns it.
-    pub const TOO_LONG: u32 = u32::MAX;
-}
-
-/// The integer types.
-#[derive(Copy, Clone)]
-pub enum Kind {
-    U8 = 0,
-    U16 = 1,
-    U32 = 2,
-    U64 = 3,
-    U128 = 4,
-    I8 = 5,
-    I16 = 6,
-    I32 = 7,
-    I64 = 8,
-    I128 = 9,
-}
-
-/// The changes of a text that repair it; 0 is none.
-pub mod change {
-    pub const INSERT: u32 = 1;
-    pub const REPLACE: u32 = 2;
-    pub const DELETE: u32 = 3;
-}
-
-/// The most bytes of a printed text: the text of a quantity can have this many, all others have
-/// fewer.
-pub const MOST_QUANTITY_BYTES: usize = 471;
-const MOST_BYTES: usize = 234;
-const MOST_FIGURES_BYTES: usize = 80;
-const MOST_AMOUNT_BYTES: usize = 117;
-const MOST_SIGNED_AMOUNT_BYTES: usize = 129;
-const MOST_DATE_BYTES: usize = 39;
-/// The most bytes of a message.
-const MOST_MESSAGE_BYTES: usize = 512;
-/// The most characters that may come next in a text.
-pub const MOST_EXPECTED: usize = 48;
+// A printed text has at most as many bytes as that of a quantity.
 const _: () = assert!(MOST_BYTES < MOST_QUANTITY_BYTES && MOST_FIGURES_BYTES < MOST_BYTES);
 const _: () = assert!(MOST_AMOUNT_BYTES < MOST_BYTES && MOST_DATE_BYTES < MOST_BYTES);
 const _: () = assert!(MOST_SIGNED_AMOUNT_BYTES < MOST_BYTES);
@@ -155,21 +106,6 @@ pub struct Repair {
 pub enum Sought {
     Numbers,
     Quantities,
-}
-
-/// The flags of a run in a text.
-pub mod flag {
-    pub const PLAIN_DIGITS: u32 = 1;
-    pub const STANDS_ALONE: u32 = 2;
-    pub const ABOUT: u32 = 4;
-    pub const ONE_CHARACTER: u32 = 8;
-}
-
-/// The options for replacing, in addition to the last two flags.
-pub mod option {
-    pub const DOUBTFUL: u32 = 16;
-    pub const EXPANDED: u32 = 32;
-    pub const CANONICAL: u32 = 64;
 }
 
 /// A run in a text: where it begins and ends, in bytes, and the sum of its flags and 16 times the
@@ -437,10 +373,7 @@ whole! { usize: U32; isize: I32; }
 fn answered<A: Default>(call: impl FnOnce(*mut A) -> u32) -> (A, u32) {
     let mut answer = A::default();
     let status = call(&raw mut answer);
-    assert!(
-        status != status::TOO_LONG,
-        "the text is too long: it has more than 4,293,918,720 bytes"
-    );
+    assert!(status != TOO_LONG, "the text is too long: it has more than 4,293,918,720 bytes");
     (answer, status)
 }
 
@@ -481,12 +414,7 @@ pub fn read_quantity(text: &str, method: Way) -> Result<Quantity, (u32, usize)> 
     Ok(Quantity {
         numerator: i128::of_number(read.numerator),
         denominator: u128::of_number(read.denominator),
-        form: match read.form {
-            0 => QuantityForm::Whole,
-            1 => QuantityForm::Decimal,
-            2 => QuantityForm::Percent,
-            _ => QuantityForm::Fraction,
-        },
+        form: QuantityForm::ALL[read.form as usize],
     })
 }
 

@@ -2,7 +2,8 @@
 
 use core::fmt::{self, Display, Formatter};
 
-use crate::abi::{self, status};
+use crate::abi;
+use crate::codes::{status, text};
 
 /// Why a text is not an amount in figures. For a person, [`input_message`](crate::input_message)
 /// says it in a language.
@@ -23,11 +24,11 @@ pub enum FiguresError {
 impl Display for FiguresError {
     fn fmt(&self, f: &mut Formatter<'_>) -> fmt::Result {
         match self {
-            Self::Unfinished => f.write_str("the amount is not finished"),
+            Self::Unfinished => f.write_str(text::AMOUNT_UNFINISHED),
             Self::Incorrect { char_index } => {
-                write!(f, "the amount is incorrect (position: {char_index})")
+                write!(f, "{} (position: {char_index})", text::AMOUNT_INCORRECT)
             }
-            Self::Overflow => f.write_str("number is too large"),
+            Self::Overflow => f.write_str(text::TOO_LARGE),
         }
     }
 }

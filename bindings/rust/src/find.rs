@@ -3,7 +3,8 @@
 use core::iter::FusedIterator;
 use core::ops::Range;
 
-use crate::abi::{self, flag, Sought};
+use crate::abi::{self, Sought};
+use crate::codes::flag;
 use crate::{
     chinese_to_quantity, ChineseCountMethod, ChineseToNumber, ChineseToNumberError, Doubt,
     Quantity, Unit,
@@ -25,10 +26,6 @@ impl Wanted {
     /// All characters that the readers accept.
     pub const ALL: Self = Self { upper: true, greatest: Unit::Ji };
 }
-
-// All reasons, to find one by its code.
-const DOUBTS: [Doubt; 6] =
-    [Doubt::Word, Doubt::Digits, Doubt::Term, Doubt::Part, Doubt::Time, Doubt::Range];
 
 /// A run of numeral characters in its text.
 #[derive(Debug, Copy, Clone, Eq, PartialEq)]
@@ -110,7 +107,7 @@ impl<'a> Found<'a> {
     #[must_use]
     pub fn doubt(self) -> Option<Doubt> {
         let code = self.flags / 16;
-        DOUBTS.into_iter().find(|doubt| *doubt as u32 == code)
+        Doubt::ALL.into_iter().find(|doubt| *doubt as u32 == code)
     }
 
     /// Reads the run as a number: plain digits as such, otherwise with units.

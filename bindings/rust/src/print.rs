@@ -5,7 +5,8 @@ use core::mem::MaybeUninit;
 
 use alloc::string::String;
 
-use crate::abi::{self, status};
+use crate::abi;
+use crate::codes::{form, status, text, MOST_QUANTITY_BYTES};
 use crate::{
     BillDate, ChineseCase, ChineseCountMethod, ChineseVariant, Integer, Language, Quantity, Way,
 };
@@ -18,17 +19,6 @@ pub enum NumberToChineseError {
     /// The number is -10^16 or less.
     Underflow,
 }
-
-impl Display for NumberToChineseError {
-    fn fmt(&self, f: &mut Formatter<'_>) -> fmt::Result {
-        f.write_str(match self {
-            Self::Overflow => "number is too large",
-            Self::Underflow => "number is too small",
-        })
-    }
-}
-
-impl core::error::Error for NumberToChineseError {}
 
 /// A buffer for one text, to print without allocating. The text stays in the buffer until the next
 /// one is printed there. The buffer is large enough for every number, quantity, amount and date.
@@ -58,7 +48,7 @@ impl Room {
     #[inline]
     #[must_use]
     pub const fn new() -> Self {
-        Self([MaybeUninit::uninit(); abi::MOST_QUANTITY_BYTES])
+        Self([MaybeUninit::uninit(); MOST_QUANTITY_BYTES])
     }
 
     /// Prints a number with units, as [`NumberToChinese::to_chinese`] does.
@@ -394,18 +384,6 @@ pub enum QuantityToChineseError {
     ZeroDenominator,
 }
 
-impl Display for QuantityToChineseError {
-    fn fmt(&self, f: &mut Formatter<'_>) -> fmt::Result {
-        f.write_str(match self {
-            Self::Overflow => "number is too large",
-            Self::Underflow => "number is too small",
-            Self::ZeroDenominator => "the denominator is 0",
-        })
-    }
-}
-
-impl core::error::Error for QuantityToChineseError {}
-
 impl Quantity {
     /// Writes the quantity by a method: 三点一四, 百分之十二点五, 三分之一. A quantity whose denominator does not
     /// match its form is written as a fraction. `chinese_to_quantity` reads the text as the same
@@ -503,10 +481,10 @@ impl AmountForm {
 
     #[inline]
     fn code(self) -> u32 {
-        u32::from(self.currency)
-            + 2 * u32::from(self.round_yuan)
-            + 4 * u32::from(self.upright_closing)
-            + 8 * u32::from(self.bracketed_sign)
+        u32::from(self.currency) * form::CURRENCY
+            + u32::from(self.round_yuan) * form::ROUND_YUAN
+            + u32::from(self.upright_closing) * form::UPRIGHT_CLOSING
+            + u32::from(self.bracketed_sign) * form::BRACKETED_SIGN
     }
 }
 
@@ -527,17 +505,6 @@ pub enum AmountToChineseError {
     /// The amount is -10^18 fen or less.
     Underflow,
 }
-
-impl Display for AmountToChineseError {
-    fn fmt(&self, f: &mut Formatter<'_>) -> fmt::Result {
-        f.write_str(match self {
-            Self::Overflow => "number is too large",
-            Self::Underflow => "number is too small",
-        })
-    }
-}
-
-impl core::error::Error for AmountToChineseError {}
 
 /// Writes an amount of money, in fen, in capitals as on a cheque, in the plain form.
 ///
@@ -621,16 +588,6 @@ pub enum DateToChineseError {
     NotADate,
 }
 
-impl Display for DateToChineseError {
-    fn fmt(&self, f: &mut Formatter<'_>) -> fmt::Result {
-        f.write_str(match self {
-            Self::NotADate => "there is no such date",
-        })
-    }
-}
-
-impl core::error::Error for DateToChineseError {}
-
 /// Writes a date in capitals as on a cheque.
 ///
 /// # Errors
@@ -654,7 +611,7 @@ pub fn date_to_chinese(
     Room::new().date(chinese_variant, date).map(String::from)
 }
 
-// The statuses of the errors: the error of a status, and the message of an error.
+// The statuses of the errors: the error of a status, and the message and the text of an error.
 macro_rules! errors {
     ($($error:ident: $($variant:ident $status:ident),+;)+) => {
         $(
@@ -677,6 +634,16 @@ macro_rules! errors {
                     abi::status_message(status, language)
                 }
             }
+
+            impl Display for $error {
+                fn fmt(&self, f: &mut Formatter<'_>) -> fmt::Result {
+                    f.write_str(match self {
+                        $(Self::$variant => text::$status,)+
+                    })
+                }
+            }
+
+            impl core::error::Error for $error {}
         )+
     };
 }

@@ -2,7 +2,8 @@
 
 use core::fmt::{self, Display, Formatter};
 
-use crate::abi::{self, status, Whole};
+use crate::abi::{self, Whole};
+use crate::codes::{status, text};
 use crate::{BillDate, ChineseCountMethod, Quantity, Way};
 
 /// Why a text is not a number of a type, or not a quantity. For a person,
@@ -26,12 +27,12 @@ pub enum ChineseToNumberError {
 impl Display for ChineseToNumberError {
     fn fmt(&self, f: &mut Formatter<'_>) -> fmt::Result {
         match self {
-            Self::ChineseNumberEmpty => f.write_str("a chinese number cannot be empty"),
+            Self::ChineseNumberEmpty => f.write_str(text::EMPTY),
             Self::ChineseNumberIncorrect { char_index } => {
-                write!(f, "the chinese number is incorrect (position: {char_index})")
+                write!(f, "{} (position: {char_index})", text::INCORRECT)
             }
-            Self::Overflow => f.write_str("number is too large"),
-            Self::Underflow => f.write_str("number is too small"),
+            Self::Overflow => f.write_str(text::TOO_LARGE),
+            Self::Underflow => f.write_str(text::TOO_SMALL),
         }
     }
 }
@@ -236,9 +237,9 @@ pub enum ChineseToAmountError {
 impl Display for ChineseToAmountError {
     fn fmt(&self, f: &mut Formatter<'_>) -> fmt::Result {
         match self {
-            Self::Unfinished => f.write_str("the amount is not finished"),
+            Self::Unfinished => f.write_str(text::AMOUNT_UNFINISHED),
             Self::Incorrect { char_index } => {
-                write!(f, "the amount is incorrect (position: {char_index})")
+                write!(f, "{} (position: {char_index})", text::AMOUNT_INCORRECT)
             }
         }
     }
@@ -357,9 +358,9 @@ pub enum ChineseToDateError {
 impl Display for ChineseToDateError {
     fn fmt(&self, f: &mut Formatter<'_>) -> fmt::Result {
         match self {
-            Self::Unfinished => f.write_str("the date is not finished"),
+            Self::Unfinished => f.write_str(text::DATE_UNFINISHED),
             Self::Incorrect { char_index } => {
-                write!(f, "the date is incorrect (position: {char_index})")
+                write!(f, "{} (position: {char_index})", text::DATE_INCORRECT)
             }
         }
     }

@@ -4,7 +4,8 @@ use core::fmt::{self, Debug, Formatter};
 
 use alloc::string::String;
 
-use crate::abi::{self, change};
+use crate::abi;
+use crate::codes::{change, MOST_EXPECTED};
 use crate::{ChineseCountMethod, Fault, Input, Integer, Language, Way};
 
 /// What may come next in a text, after its longest part, from the start, that begins an input.
@@ -34,7 +35,7 @@ impl Expected {
 #[derive(Copy, Clone, Eq, PartialEq)]
 struct Characters {
     count: usize,
-    buffer: [char; abi::MOST_EXPECTED],
+    buffer: [char; MOST_EXPECTED],
 }
 
 impl Characters {
@@ -129,28 +130,8 @@ pub fn input_repair(text: &str, input: Input) -> Option<Hint> {
     Some(Hint { char_index, byte_index, repair })
 }
 
-// All reasons, to find one by its code.
-const FAULTS: [Fault; 16] = [
-    Fault::Empty,
-    Fault::TooLarge,
-    Fault::TooSmall,
-    Fault::Start,
-    Fault::Character,
-    Fault::Digits,
-    Fault::Units,
-    Fault::Ge,
-    Fault::Groups,
-    Fault::BareTen,
-    Fault::RepeatedTen,
-    Fault::AfterZero,
-    Fault::Weight,
-    Fault::TwoReadings,
-    Fault::LeftOutZero,
-    Fault::Denominator,
-];
-
 fn fault(code: u32) -> Option<Fault> {
-    FAULTS.into_iter().find(|fault| *fault as u32 == code)
+    Fault::ALL.into_iter().find(|fault| *fault as u32 == code)
 }
 
 /// Says why a text is not a number of an integer type when it is read in a way. If a character is

@@ -2,7 +2,8 @@
 
 use alloc::string::String;
 
-use crate::abi::{self, flag, option};
+use crate::abi;
+use crate::codes::{flag, option};
 use crate::{find_quantities, ChineseCountMethod, Doubt, Found, Wanted};
 
 /// Which quantities of a text are replaced that otherwise stay.

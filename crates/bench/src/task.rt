@@ -1,6 +1,6 @@
 // The call that is repeated, and the number of passes.
 use chinese_number::{ChineseCase, ChineseVariant, NumberToChinese, NumberToChineseError};
-use cn_faces::{Way, read_by, way_named};
+use cn_dynamic::{Way, read_by, way_named};
 use std::alloc::{AllocError, Global};
 
 /// Whether numbers are written or read.

@@ -3,13 +3,13 @@ use Rattle.std.proofs.Common.{◌≡◌, ℕ, zero, suc, ◌+◌, ◌-◌, ◌*�
 use Rattle.std.specs.Char.{is_ascii_digit}
 use Rattle.std.proofs.lemmas.Bool.Decides.{nat_tests}
 use Rattle.chinese_number.specs.declared.BillDate.{BillDate}
-use Rattle.cn_capitals.specs.Answers.{Begins}
-use Rattle.cn_capitals.specs.Machine.{run, Leads, Reached, Reads}
-use Rattle.cn_capitals.proofs.Runs.{some-is, run-ran, run-append, kept}
+use Rattle.cn_grammar.specs.Answers.{Begins}
+use Rattle.cn_grammar.specs.Machine.{run, Leads, Reached, Reads}
+use Rattle.cn_grammar.proofs.Runs.{some-is, run-ran, run-append, kept}
 use Rattle.cheque.specs.declared.dates.Number.{Number}
 use Rattle.cheque.specs.declared.dates.State.{State}
 use Rattle.cheque.specs.declared.dates.State.TheVariants.{Year, Month, Day}
-use Rattle.cn_faces.specs.Decimal.{value_after, value_of}
+use Rattle.cn_dynamic.specs.Decimal.{value_after, value_of}
 use Rattle.cheque.specs.Digits.{AreDigits}
 use Rattle.cheque.specs.DateFigures.{WriteNumber, IsDateFigures}
 use Rattle.cheque.specs.Working.DateSteps.{AreBelow, no_number, with_digit, after_digit, after_hyphen, step, end, date_machine}
@@ -322,5 +322,5 @@ begins-read text state r = by state (front-read text state r) where
         },
       )
 
-pub date-reads : Reads IsDateFigures date_machine
-date-reads = record { each = each-read; only = only-read; begins = begins-read }
+pub date_reads : Reads IsDateFigures date_machine
+date_reads = record { each = each-read; only = only-read; begins = begins-read }

@@ -4,7 +4,7 @@ use Rattle.std.specs.Char.{is_ascii_digit}
 use Rattle.std.specs.List.{list_all}
 use Rattle.std.proofs.lemmas.Bool.Decides.{nat_tests}
 use Rattle.std.proofs.lemmas.List.Folds.{list_all-append}
-use Rattle.cn_faces.specs.Decimal.{value_after}
+use Rattle.cn_dynamic.specs.Decimal.{value_after}
 use Rattle.cheque.specs.Digits.{AreDigits, digit_of, by_character}
 
 pub and-front : (a b : Bool) → (a && b) ≡ true → a ≡ true

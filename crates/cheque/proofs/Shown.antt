@@ -4,7 +4,7 @@ use Rattle.std.specs.Str.{IsAscii}
 use Rattle.std.proofs.lemmas.Fmt.{decimal_digit, IsAscii-decimal}
 use Rattle.std.proofs.lemmas.Str.{chars-IsAscii, IsAscii-append}
 use Rattle.chinese_number.specs.declared.BillDate.{BillDate}
-use Rattle.cn_faces.specs.Decimal.{value_of}
+use Rattle.cn_dynamic.specs.Decimal.{value_of}
 use Rattle.cheque.specs.Digits.{AreDigits}
 use Rattle.cheque.specs.DateFigures as Date
 use Rattle.cheque.proofs.DigitValues.{one-digit, digits-more, digit-is}

@@ -4,8 +4,8 @@ use Rattle.std.specs.Prelude.{◌≡◌, ℕ, ◌/◌, ◌%◌, List, ◌++◌, 
 use Rattle.chinese_number.specs.declared.BillDate.{BillDate}
 use Rattle.chinese_number.specs.declared.ChineseToDateError.{ChineseToDateError}
 use Rattle.chinese_number.specs.DateAnswer.{answer_of}
-use Rattle.cn_capitals.specs.Answers as answers
-use Rattle.cn_faces.specs.Decimal.{value_of}
+use Rattle.cn_grammar.specs.Answers as answers
+use Rattle.cn_dynamic.specs.Decimal.{value_of}
 use Rattle.cheque.specs.Digits.{AreDigits}
 
 -- `count` digits write this number

@@ -5,7 +5,7 @@ ghost use Rattle.cheque.specs.Working.DateSteps.{AreBelow, with_digit, after_dig
 
 use crate::digits::digit_of;
 use chinese_number::{BillDate, ChineseToDateError};
-use cn_capitals::{Grammar, Refusal, read};
+use cn_grammar::{Grammar, Refusal, read_form};
 use std::fmt;
 
 // The two digits of a number below 100.
@@ -148,6 +148,9 @@ impl Grammar for State {
             _ => None,
         }
     }
+
+    #[tactic(auto, using(crate::proofs::DateFiguresRead::date_reads))]
+    fn states_read_the_forms() {}
 }
 
 /// The date that figures write: four digits, a hyphen, two digits, a hyphen and two digits. The
@@ -162,7 +165,7 @@ impl Grammar for State {
 pub fn date_of(figures: &str) -> Result<BillDate, ChineseToDateError>
     ensures { ReadsDateFigures figures.now result }
 {
-    match read::<State>(figures) {
+    match read_form::<State>(figures) {
         Ok(date) => Ok(date),
         Err(Refusal::Unfinished) => Err(ChineseToDateError::Unfinished),
         Err(Refusal::Incorrect { char_index }) => Err(ChineseToDateError::Incorrect { char_index }),

@@ -131,12 +131,6 @@ one_text_for_each_number-digits : IsTrue (holds (signed_kind 8) (pos 120))
     × IsTrue (holds (signed_kind 8) (negsuc 119))
 one_text_for_each_number-digits = (refl, refl)
 
-reading_then_printing_is_idempotent :
-    Reads (unsigned_kind 16) TenThousand (string (codes "兩千三")) (Ok (pos 2300))
-    × IsTrue (is_printable TenThousand (pos 2300))
-unfolding chars encode_utf8 digit_of rank_of
-reading_then_printing_is_idempotent = ((Ok 2300, refl, refl), refl)
-
 -- 負一 of 負一百二十
 beginnings_are_read-units : IsTrue (holds (signed_kind 8) (negsuc 119))
     × IsTrue (is_printable TenThousand (negsuc 119))
@@ -157,13 +151,6 @@ unsigned_types_never_underflow-units = refl
 
 unsigned_types_never_underflow-digits : IsTrue (not (unsigned_kind 128).signed)
 unsigned_types_never_underflow-digits = refl
-
-texts_of_a_number_read_alike-units : IsTrue (holds (unsigned_kind 8) (pos 123))
-    × IsTrue (is_printable TenThousand (pos 123))
-texts_of_a_number_read_alike-units = (refl, refl)
-
-texts_of_a_number_read_alike-digits : IsTrue (holds (signed_kind 8) (negsuc 122))
-texts_of_a_number_read_alike-digits = refl
 
 a_sign_gives_the_signed_value : IsTrue (signed_kind 8).signed
     × (text_of (string (codes "負十")) ≡ character (codes "負") ∷ codes "十")

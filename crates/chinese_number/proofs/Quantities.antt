@@ -21,7 +21,7 @@ use Rattle.cn_quantity.specs.declared.quantity.QuantityForm.TheVariants.{Whole}
 use Rattle.cn_quantity.specs.Misread.{first_misread, is_misread}
 use Rattle.cn_quantity.specs.Reading.{quantity_answer}
 use Rattle.cn_quantity.specs.WholeNumber.{is_plain, reader_answer}
-use Rattle.cn_quantity.proofs.Today.{answered-numeral, digit-low, judged-numeral, numeral-ratio, plain-marks, plain-ratio, quantity-today}
+use Rattle.cn_quantity.proofs.NumeralsAreQuantities.{answered-numeral, digit-low, judged-numeral, numeral-ratio, plain-marks, plain-ratio, quantity-today}
 use Rattle.cn_quantity.proofs.WholeNumbers.{whole-reader}
 use Rattle.chinese_number.specs.Digits.{is_digit}
 use Rattle.chinese_number.specs.Parts.{unsigned_text}

@@ -1,5 +1,5 @@
 -- The answer to a string, from its text; and to the written text of a number.
-use Rattle.std.proofs.Common.{◌≡◌, ℕ, zero, suc, ◌^◌, ◌<◌, ℤ, pos, nat_abs, int_lt, Bool, true, false, List, [], ◌∷◌, map, drop, encode_utf8_all, Option, Some, None, Result, Ok, Err, refl, sym, ap, subst, ◌∙◌, arith}
+use Rattle.std.proofs.Common.{◌≡◌, ℕ, zero, suc, ◌^◌, ◌<◌, ℤ, pos, nat_abs, int_lt, Bool, true, false, List, [], ◌∷◌, map, drop, encode_utf8_all, Option, Some, None, Result, Ok, refl, sym, ap, subst, ◌∙◌, arith}
 use Rattle.std.proofs.lemmas.Int.{ints}
 use Rattle.std.specs.List.{list_all}
 use Rattle.cn_core.specs.declared.case.ChineseCase.{ChineseCase}
@@ -11,7 +11,7 @@ use Rattle.cn_core.specs.Judge.{Judges}
 use Rattle.cn_core.specs.Mark.{Mark}
 use Rattle.cn_core.specs.Naive.{naive_answer}
 use Rattle.cn_core.specs.Numeral.{with_first_digit, starts_with_digit}
-use Rattle.cn_core.specs.Refusal.{Refusal, empty, incorrect_at, too_large, too_small}
+use Rattle.cn_core.specs.Refusal.{Refusal}
 use Rattle.cn_core.specs.Spelling.{spelling}
 use Rattle.cn_core.specs.Text.{text_of, marks_of}
 use Rattle.cn_core.specs.Reading.{Reads, leading_sign, sign_len, is_minus, typed_number, typed_answer, naive_reading}
@@ -163,22 +163,6 @@ Reads-the_answer kind method bytes =
     let marks = marks_of (drop (sign_len sign) (text_of bytes)) in
     (judge method marks, Judges-judge method marks, refl)
 
--- what is answered is a number of the type
-pub held-answered : (kind : Kind) (method : ChineseCountMethod) (bytes : List ℕ) (number : ℤ)
-    → Reads kind method bytes (Ok number) → holds kind number ≡ true
-held-answered kind method bytes number (judged, is, answer) = by judged answer where
-  sign : Option Sign
-  sign = leading_sign kind.signed (text_of bytes)
-
-  by : (judged : Result ℕ Refusal) → Ok number ≡ typed_answer kind bytes sign judged
-      → holds kind number ≡ true
-  by (Ok magnitude) h = held-typed_number kind (signed_number (is_minus sign) magnitude) number
-      (sym h)
-  by (Err empty) h = cc
-  by (Err (incorrect_at place)) h = cc
-  by (Err too_large) h = cc
-  by (Err too_small) h = cc
-
 -- two numbers with one text are one
 pub same_from_text : (kind : Kind) (method : ChineseCountMethod) (variant : ChineseVariant) (case : ChineseCase) (one second : ℤ) → IsWhole kind → holds kind one ≡ true → holds kind second ≡ true
     → is_printable method one ≡ true → is_printable method second ≡ true
@@ -188,11 +172,3 @@ same_from_text kind method variant case one second whole held_one held_second p 
     let first : Reads kind method (bytes second) (Ok one) = subst (λ b. Reads kind method b (Ok one)) same (Reads-spelled kind method variant case one whole held_one p) in
     let answers : Ok one ≡ Ok second = Reads-same kind method (bytes second) (Ok one) (Ok second) first (Reads-spelled kind method variant case second whole held_second q) in
     cc
-
--- texts of one number are answered alike
-pub Reads-alike : (kind : Kind) (method : ChineseCountMethod) (one second : List ℕ)
-    (answer number : Result ℤ Refusal) → Reads kind method one number
-    → Reads kind method second number
-    → Reads kind method one answer → Reads kind method second answer
-Reads-alike kind method one second answer number is_one is_second h =
-    subst (Reads kind method second) (Reads-same kind method one number answer is_one h) is_second

@@ -14,7 +14,7 @@ pub use Rattle.cn_amount.specs.Typed as AmountTyped
 pub use Rattle.cn_amount.specs.Writes as AmountWrites
 pub use Rattle.cn_core.specs.CharIndex
 pub use Rattle.cn_core.specs.Characters
-pub use Rattle.cn_core.specs.Figures
+pub use Rattle.cn_core.specs.FigureCharacters
 pub use Rattle.cn_core.specs.Judge
 pub use Rattle.cn_core.specs.Judging
 pub use Rattle.cn_core.specs.Mark
@@ -35,12 +35,12 @@ pub use Rattle.cn_date.specs.ErrorText as DateErrorText
 pub use Rattle.cn_date.specs.Form as DateForm
 pub use Rattle.cn_date.specs.Reading as DateReading
 pub use Rattle.cn_date.specs.Writes as DateWrites
-pub use Rattle.cn_express.specs.Digits as ExpressDigits
-pub use Rattle.cn_express.specs.ErrorText as ExpressErrorText
-pub use Rattle.cn_express.specs.Figures as ExpressFigures
-pub use Rattle.cn_express.specs.Numerals as ExpressNumerals
-pub use Rattle.cn_express.specs.ReadBack as ExpressReadBack
-pub use Rattle.cn_express.specs.Writes as ExpressWrites
+pub use Rattle.cn_quantity_text.specs.Digits as ExpressDigits
+pub use Rattle.cn_quantity_text.specs.ErrorText as ExpressErrorText
+pub use Rattle.cn_quantity_text.specs.Figures as ExpressFigures
+pub use Rattle.cn_quantity_text.specs.Numerals as ExpressNumerals
+pub use Rattle.cn_quantity_text.specs.ReadBack as ExpressReadBack
+pub use Rattle.cn_quantity_text.specs.Writes as ExpressWrites
 pub use Rattle.cn_find.specs.Belongs
 pub use Rattle.cn_find.specs.Expressions
 pub use Rattle.cn_find.specs.Flags
@@ -51,9 +51,9 @@ pub use Rattle.cn_find.specs.Rule
 pub use Rattle.cn_find.specs.Runs
 pub use Rattle.cn_find.specs.Spans
 pub use Rattle.cn_judge.specs.Reason
-pub use Rattle.cn_print.specs.ErrorText as PrintErrorText
-pub use Rattle.cn_print.specs.Prints
-pub use Rattle.cn_print.specs.Writes
+pub use Rattle.cn_calls.specs.PrintErrorText
+pub use Rattle.cn_calls.specs.Prints
+pub use Rattle.cn_calls.specs.Writes
 pub use Rattle.cn_quantity.specs.Answer as QuantityAnswer
 pub use Rattle.cn_quantity.specs.Characters as QuantityCharacters
 pub use Rattle.cn_quantity.specs.Decimal as QuantityDecimal
@@ -66,8 +66,8 @@ pub use Rattle.cn_quantity.specs.Reason as QuantityReason
 pub use Rattle.cn_quantity.specs.Trimmed as QuantityTrimmed
 pub use Rattle.cn_quantity.specs.Units as QuantityUnits
 pub use Rattle.cn_quantity.specs.Whole as QuantityWhole
-pub use Rattle.cn_read.specs.Answer
-pub use Rattle.cn_read.specs.ErrorText as ReadErrorText
+pub use Rattle.cn_calls.specs.Answer
+pub use Rattle.cn_calls.specs.ReadErrorText
 pub use Rattle.cn_replace.specs.InFigures
 pub use Rattle.cn_replace.specs.Replaced
 pub use Rattle.cn_replace.specs.Sinks

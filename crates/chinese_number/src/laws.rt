@@ -1,7 +1,7 @@
 //! What users can rely on. Each law is a function that does nothing; its contract is the theorem,
 //! which the check proves.
-// To add a law, write a function with an empty body in `laws.rt` or `laws/` of its crate, and name
-// it here and in docs/PROMISES.md. If the law has premises, add an instance to
+// To add a law, write a function that does nothing in `laws.rt` or `laws/` of its crate, and name it
+// here and in docs/PROMISES.md. If the law has premises, add an instance to
 // proofs/LawExamples.antt. First try the law without a proof. For each goal that the search leaves
 // open, write a lemma and cite it in the law's `Answers.antt`. If a goal has written characters,
 // `unfolding digit_char unit_char` lets the search compute them.
@@ -9,6 +9,7 @@ pub mod amounts;
 mod answers;
 pub mod dates;
 mod enums;
+pub mod grammars;
 mod methods;
 mod places;
 mod plain_digits;
@@ -56,9 +57,9 @@ pub use plain_digits::{
 };
 pub use read_back::{
     beginnings_are_read, middle_is_read_by_ten_thousand, one_text_for_each_number,
-    reading_then_printing_is_idempotent, spellings_are_numerals, spellings_read_back,
+    spellings_are_numerals, spellings_read_back,
 };
 pub use refusals::{empty_is_nothing_left, unsigned_types_never_underflow};
-pub use scripts::{texts_of_a_number_are_equally_long, texts_of_a_number_read_alike};
+pub use scripts::texts_of_a_number_are_equally_long;
 pub use signs::{a_sign_gives_the_signed_value, minus_zero_is_zero};
 pub use white_space::{refusals_point_at_characters, white_space_does_not_matter};

@@ -2,7 +2,7 @@
 use Rattle.std.proofs.Common.{◌≡◌, ℕ, Bool, true, List, [], ◌∷◌, map, Some, refl}
 use Rattle.std.specs.List.{list_all}
 use Rattle.cn_core.proofs.Fronts.{both}
-use Rattle.cn_capitals.proofs.Characters.{character-passes}
+use Rattle.cn_grammar.proofs.Characters.{character-passes}
 use Rattle.cn_amount.specs.declared.capital.Capital.{Capital}
 use Rattle.cn_amount.specs.Form.{amount_form}
 use Rattle.cn_amount.specs.Reading.{capital_of, capital_rows, capitals_of, IsAmount}

@@ -4,11 +4,11 @@ use Rattle.std.specs.List.{list_all}
 use Rattle.std.specs.Char.{char_set_contains, is_whitespace}
 use Rattle.std.specs.Option.{option_map}
 use Rattle.std.proofs.lemmas.Bool.{or_right}
-use Rattle.cn_capitals.specs.Expected.{IsListed}
-use Rattle.cn_capitals.proofs.Lists.{classes-listed, sifted-listed}
-use Rattle.cn_capitals.proofs.LookUp.{none-in, none-with}
-use Rattle.cn_capitals.proofs.Signs.{left-out}
-use Rattle.cn_capitals.specs.declared.sign.Front.TheVariants.{Open}
+use Rattle.cn_grammar.specs.Expected.{IsListed}
+use Rattle.cn_grammar.proofs.Lists.{classes-listed, sifted-listed}
+use Rattle.cn_grammar.proofs.LookUp.{none-in, none-with}
+use Rattle.cn_grammar.proofs.Signs.{left-out}
+use Rattle.cn_grammar.specs.declared.sign.Front.TheVariants.{Open}
 use Rattle.cn_core.specs.Whole.{signed_number}
 use Rattle.cn_amount.specs.declared.capital.Capital.{Capital}
 use Rattle.cn_amount.specs.declared.listed.TheConstants.{CHARACTERS}
@@ -34,11 +34,11 @@ unfolding capital_of
 listed-in characters few all = classes-listed amount_machine advance capital_of characters
     (λ state c. refl) few (λ c h. none-with (char_set_contains characters) c capital_rows all h)
 
-pub amounts-listed : IsListed (take 32 CHARACTERS) false amount_machine
-amounts-listed = listed-in (take 32 CHARACTERS) (omega arith) refl
+pub amounts_listed : IsListed (take 32 CHARACTERS) false amount_machine
+amounts_listed = listed-in (take 32 CHARACTERS) (omega arith) refl
 
-pub signed-listed : IsListed (take 34 CHARACTERS) false signed_machine
-signed-listed = sifted-listed sign_sieve both signed_value amount_machine signed_machine Open
+pub signed_listed : IsListed (take 34 CHARACTERS) false signed_machine
+signed_listed = sifted-listed sign_sieve both signed_value amount_machine signed_machine Open
     signs-sifted (λ state. (state.front, state.progress, refl)) (take 34 CHARACTERS) false
     (listed-in (take 34 CHARACTERS) (omega arith) refl)
     (left-out minus_signs (take 34 CHARACTERS) refl) (λ e front c h. absurd (cc))
@@ -100,13 +100,13 @@ blank : true ≡ true → (nothing : Unit {0}) (c : ℕ) → is_whitespace c ≡
     → typing.visible_sieve.keeps nothing c ≡ false
 blank e nothing c is = rw is refl
 
-pub typed-listed : IsListed CHARACTERS true typing.typed_machine
-typed-listed = sifted-listed typing.visible_sieve typing.typed
+pub typed_listed : IsListed CHARACTERS true typing.typed_machine
+typed_listed = sifted-listed typing.visible_sieve typing.typed
     (λ nothing (value : Bool × ℕ). value.1) (core false) typing.typed_machine tt typed-sifted
     (λ state. (tt, state.typing, refl)) CHARACTERS true (core-listed false) left blank
 
-pub typed-signed-listed : IsListed CHARACTERS true typing.typed_signed_machine
-typed-signed-listed = sifted-listed typing.visible_sieve typing.signed
+pub typed_signed_listed : IsListed CHARACTERS true typing.typed_signed_machine
+typed_signed_listed = sifted-listed typing.visible_sieve typing.signed
     (λ nothing (value : Bool × ℕ). signed_number value.0 value.1) (core true)
     typing.typed_signed_machine tt signed-sifted (λ state. (tt, state.typing, refl)) CHARACTERS true
     (core-listed true) left blank

@@ -3,9 +3,9 @@
 use Rattle.std.proofs.Common.{◌≡◌, ℕ, ◌-◌, ◌^◌, pos, negsuc, ℤ, Bool, true, false, List, ◌∷◌, map, Some, None, length, encode_utf8_all, refl, sym, ◌∙◌, codes}
 use Rattle.std.specs.Char.{encode_utf8}
 use Rattle.std.specs.List.{Contains}
-use Rattle.cn_capitals.specs.Machine as machine
-use Rattle.cn_capitals.specs.Repairs.{repaired, past}
-use Rattle.cn_capitals.specs.declared.hint.Repair.TheVariants.{Insert, Replace, Delete}
+use Rattle.cn_grammar.specs.Machine as machine
+use Rattle.cn_grammar.specs.Repairs.{repaired, past}
+use Rattle.cn_grammar.specs.declared.hint.Repair.TheVariants.{Insert, Replace, Delete}
 use Rattle.cn_core.specs.declared.script.ChineseVariant.TheVariants.{Traditional, Simple}
 use Rattle.cn_core.specs.Characters.{digit_char, minus_char, unit_char}
 use Rattle.cn_core.specs.Whole.{signed_number}
@@ -20,7 +20,7 @@ use Rattle.cn_amount.specs.Typed.{below_signs, currencies, orders, visible, IsTy
 use Rattle.cn_amount.specs.Working.Typing.{typed_signed_machine}
 use Rattle.cn_amount.specs.Writes.{amount_text, plain}
 use Rattle.cn_amount.proofs.Prefixes.{has, has-contains}
-use Rattle.cn_amount.proofs.TypedReads.{typed-signed-reads}
+use Rattle.cn_amount.proofs.TypedReads.{typed_signed_reads}
 
 -- from the rules, without 整
 jiao_alone : amount_text Simple plain 140950 ≡ codes "壹仟肆佰零玖元伍角整"
@@ -278,7 +278,7 @@ Refuses text =
 
 refused : (text : List ℕ) → Refuses text → (fen : ℤ) → ¬ IsTypedSignedAmount text fen
 refused text none fen h =
-    let read = typed-signed-reads.each text fen h in
+    let read = typed_signed_reads.each text fen h in
     let wrong : None ≡ Some read.0 = sym none ∙ read.1 in absurd (cc)
 
 second_circle : (fen : ℤ) → ¬ IsTypedSignedAmount (codes "⊗ ⓧ壹元整") fen

@@ -15,20 +15,21 @@ use Rattle.cn_amount.specs.declared.before.Before.TheVariants.{Nothing, Gap, Fil
 use Rattle.cn_amount.specs.declared.capital.Capital.{Capital}
 use Rattle.cn_amount.specs.declared.capital.Capital.TheVariants.{Digit, Shi, Bai, Qian, Wan, Yi, Jiao, Fen, Ren, Min, Bi}
 use Rattle.cn_amount.specs.declared.form.AmountForm.{AmountForm}
-use Rattle.cn_amount.specs.declared.form.Hand.{Hand}
 use Rattle.cn_amount.specs.declared.places.Section.{Section}
 use Rattle.cn_amount.specs.declared.places.Places.{Places}
 use Rattle.cn_amount.specs.Form.{Choices, written_as, is_empty, is_written, are_zero, after_digit, after_section, after_wan, after_yi, after_yuan_unit, place_text, places_text, small_places, closing, section_text, unit_text, wan_text, yi_text, yuan_unit, small_text, from_yuan, from_wan, from_yi, from_top, amount_form}
 use Rattle.cn_amount.specs.Places.{AreDigits, ArePlaces, section_of, section_value, places_of, amount_value, amount_limit}
 use Rattle.cn_amount.specs.Reading.{capital_of, IsAmount, ReadsAmount}
 use Rattle.cn_amount.proofs.Lengths.{length-form}
-use Rattle.cn_capitals.specs.declared.text.CapitalText.{CapitalText}
-use Rattle.cn_capitals.specs.Text.{text_bytes, HasPut as HasPutAny, IsStringOf}
+use Rattle.cn_core.specs.declared.buffer.Buffer.{Buffer}
+use Rattle.cn_core.specs.Buffers.{IsTextOf}
+use Rattle.cn_core.specs.Strings.{IsStringOf}
+use Rattle.cn_grammar.proofs.Puts.{puts-all}
 use Rattle.cn_amount.specs.Working.Putting.{HasPut}
 use Rattle.cn_amount.specs.Writes.{capital_char, amount_text, IsText}
 use Rattle.cn_amount.proofs.States.{is_proper}
 use Rattle.cn_amount.proofs.Shows.{capital-back, capitals-read, capitals-scalar}
-use Rattle.cn_capitals.proofs.Characters as every
+use Rattle.cn_grammar.proofs.Characters as every
 
 both-shown : (front back : List Capital) → list_all is_proper front ≡ true
     → list_all is_proper back ≡ true → list_all is_proper (front ++ back) ≡ true
@@ -220,9 +221,9 @@ written_is variant form amount text bytes below is written =
     }
 
 -- the capitals written for an amount are its text, and fit the buffer
-pub text-of : (variant : ChineseVariant) (form : AmountForm) (amount : ℕ) (text : CapitalText Hand)
-    → HasPut (record { variant = variant; form = form }) text (amount_form (written_as form) (places_of amount))
-    → text_bytes text ≡ encode_utf8_all (amount_text variant form amount)
-unfolding HasPutAny
-text-of variant form amount text put =
-    put.1 (omega (arith, few-bytes variant form amount))
+pub text-of : (variant : ChineseVariant) (form : AmountForm) (amount : ℕ)
+    (start text : Buffer) (bytes : List ℕ) → length start.bytes.now ≡ 117
+    → HasPut (record { variant = variant; form = form }) start text (amount_form (written_as form) (places_of amount))
+    → IsTextOf text bytes → bytes ≡ encode_utf8_all (amount_text variant form amount)
+text-of variant form amount start text bytes size put of =
+    puts-all _ _ start text _ bytes put of (omega (arith, few-bytes variant form amount, size))

@@ -7,15 +7,16 @@ use Rattle.std.specs.declared.string.String.{String}
 use Rattle.std.proofs.Math.Utf8.{scalar}
 use Rattle.std.proofs.lemmas.List.Folds.{list_all-append}
 use Rattle.std.proofs.lemmas.Str.{chars-encodes, encodes-append}
-use Rattle.cn_capitals.specs.declared.text.CapitalText.{CapitalText}
-use Rattle.cn_capitals.specs.Text.{text_bytes, HasPut as HasPutAny, IsStringOf}
+use Rattle.cn_core.specs.declared.buffer.Buffer.{Buffer}
+use Rattle.cn_core.specs.Buffers.{IsTextOf}
+use Rattle.cn_core.specs.Strings.{IsStringOf}
+use Rattle.cn_grammar.proofs.Puts.{puts-all}
 use Rattle.cn_core.specs.Characters.{minus_char}
 use Rattle.cn_core.specs.declared.script.ChineseVariant.{ChineseVariant}
 use Rattle.cn_core.specs.declared.script.ChineseVariant.TheVariants.{Traditional, Simple}
 use Rattle.cn_core.proofs.Fronts.{both}
 use Rattle.cn_amount.specs.declared.capital.Capital.{Capital}
 use Rattle.cn_amount.specs.declared.form.AmountForm.{AmountForm}
-use Rattle.cn_amount.specs.declared.form.Hand.{Hand}
 use Rattle.cn_amount.specs.Form.{written_as, amount_form}
 use Rattle.cn_amount.specs.Invoice.{sign_text, invoice_amount_text, IsInvoiceText}
 use Rattle.cn_amount.specs.Places.{amount_limit, places_of}
@@ -109,7 +110,7 @@ size-of variant form fen =
       written-length variant form (nat_abs fen),
     )
 
-few-of : (variant : ChineseVariant) (form : AmountForm) (fen : ℤ)
+pub few-of : (variant : ChineseVariant) (form : AmountForm) (fen : ℤ)
     → length (encode_utf8_all (invoice_amount_text variant form fen)) ≤ 129
 few-of variant form fen =
     let text = amount_text variant form (nat_abs fen) in
@@ -134,18 +135,18 @@ form-append variant form false true capitals = refl
 form-append Simple form true true capitals = refl
 form-append Traditional form true true capitals = refl
 
--- the capitals written are the text
+-- the capitals written are the text, and fit the buffer
 pub invoice-text-of : (variant : ChineseVariant) (form : AmountForm) (fen : ℤ)
-    (text : CapitalText Hand)
-    → HasPut (record { variant = variant; form = form }) text
+    (start text : Buffer) (bytes : List ℕ) → length start.bytes.now ≡ 129
+    → HasPut (record { variant = variant; form = form }) start text
     (sign_before form.bracketed_sign fen ++ amount_form (written_as form) (places_of (nat_abs fen)))
-    → text_bytes text ≡ encode_utf8_all (invoice_amount_text variant form fen)
-unfolding HasPutAny
-invoice-text-of variant form fen text put =
+    → IsTextOf text bytes → bytes ≡ encode_utf8_all (invoice_amount_text variant form fen)
+invoice-text-of variant form fen start text bytes size put of =
     let capitals = amount_form (written_as form) (places_of (nat_abs fen)) in
     let same = ap encode_utf8_all
     (form-append variant form form.bracketed_sign (int_lt fen (pos 0)) capitals) in
-    put.1 (omega (arith, few-of variant form fen, ap length same)) ∙ same
+    puts-all _ _ start text _ bytes put of
+    (omega (arith, few-of variant form fen, ap length same, size)) ∙ same
 
 pub invoice_is : {Z : Type 0} (variant : ChineseVariant) (form : AmountForm) (fen : ℤ)
     (text : String Z) (bytes : List ℕ) → nat_abs fen < amount_limit → IsStringOf bytes text

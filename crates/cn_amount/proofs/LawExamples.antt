@@ -19,30 +19,6 @@ form-of text choices fen low form = record {
   value = amount-of fen low;
 }
 
--- no 零 after 万, and no 整 after 角
-abbrev without_these : Choices
-without_these = record {
-  currency = false;
-  no_yuan = false;
-  behind_wan_yi = true;
-  behind_yi = true;
-  behind_wan = false;
-  behind_yuan = false;
-  behind_jiao = false;
-}
-
--- 人民币, and no 零 after 万
-abbrev with_these : Choices
-with_these = record {
-  currency = true;
-  no_yuan = false;
-  behind_wan_yi = true;
-  behind_yi = true;
-  behind_wan = false;
-  behind_yuan = false;
-  behind_jiao = true;
-}
-
 abbrev with_currency : Choices
 with_currency = record {
   currency = true;
@@ -53,10 +29,6 @@ with_currency = record {
   behind_yuan = false;
   behind_jiao = true;
 }
-
-one_yuan : IsAmount (codes "壹元整") 100
-unfolding capital_of
-one_yuan = form-of (codes "壹元整") written 100 (omega arith) refl
 
 fifteen : IsAmount (codes "壹拾伍元整") 1500
 unfolding capital_of
@@ -73,15 +45,6 @@ greatest =
 written_amounts_are_amounts : 10 ^ 18 - 1 < amount_limit
 written_amounts_are_amounts = omega arith
 
--- one text that is a form of one amount, twice
-each_text_is_one_amount : IsAmount (codes "壹元整") 100 × IsAmount (codes "壹元整") 100
-unfolding capital_of
-each_text_is_one_amount =
-    (one_yuan, form-of (codes "壹元整") without_these 100 (omega arith) refl)
-
-beginnings_are_begun : IsAmount (codes "壹拾" ++ codes "伍元整") 1500
-beginnings_are_begun = fifteen
-
 amounts_are_below_the_limit : IsAmount
     (codes "玖仟玖佰玖拾玖万玖仟玖佰玖拾玖亿玖仟玖佰玖拾玖万玖仟玖佰玖拾玖元玖角玖分") (10 ^ 18 - 1)
 amounts_are_below_the_limit = greatest
@@ -97,16 +60,6 @@ forms_are_short =
 
 signed-written_amounts_are_amounts : nat_abs (negsuc 1499) < amount_limit
 signed-written_amounts_are_amounts = omega arith
-
-signed-each_text_is_one_amount : IsSignedAmount (codes "负壹元整") (negsuc 99)
-    × IsSignedAmount (codes "负壹元整") (negsuc 99)
-signed-each_text_is_one_amount = (
-  record { magnitude = 100; form = each_text_is_one_amount.0; value = refl },
-  record { magnitude = 100; form = each_text_is_one_amount.1; value = refl },
-)
-
-signed-beginnings_are_begun : IsSignedAmount (codes "负壹拾" ++ codes "伍元整") (negsuc 1499)
-signed-beginnings_are_begun = record { magnitude = 1500; form = fifteen; value = refl }
 
 signed-amounts_stay_amounts : IsAmount (codes "壹拾伍元整") 1500
 signed-amounts_stay_amounts = fifteen
@@ -125,12 +78,6 @@ signed-forms_are_short =
 
 typed-written_amounts_are_amounts : 1500 < amount_limit
 typed-written_amounts_are_amounts = omega arith
-
--- what remains after the prefix, with 人民币 before it
-bare_yuan : (choices : Choices)
-    → capitals_of (codes "人民币壹元整") ≡ map Some (amount_form choices (places_of 100))
-    → IsAmount (codes "人民币壹元整") 100
-bare_yuan choices form = form-of (codes "人民币壹元整") choices 100 (omega arith) form
 
 bare_fifteen : IsAmount (codes "人民币壹拾伍元整") 1500
 unfolding capital_of
@@ -155,22 +102,6 @@ prefixed below circle sign currency prefix amount fen c s r order form = record 
   form = form;
 }
 
--- after a circle
-circled_yuan : (choices : Choices)
-    → capitals_of (codes "人民币壹元整") ≡ map Some (amount_form choices (places_of 100))
-    → IsTypedAmount (codes "⊗ 壹元整") 100
-circled_yuan choices form = prefixed false (codes "⊗") [] [] (codes "⊗") (codes "壹元整") 100 refl
-    refl refl refl (bare_yuan choices form)
-
-typed-each_text_is_one_amount : IsTypedAmount (codes "⊗ 壹元整") 100
-    × IsTypedAmount (codes "⊗ 壹元整") 100
-unfolding capital_of
-typed-each_text_is_one_amount = (circled_yuan with_currency refl, circled_yuan with_these refl)
-
-typed-beginnings_are_begun : IsTypedAmount (codes "⊗ 壹拾 " ++ codes "伍元 整") 1500
-typed-beginnings_are_begun = prefixed false (codes "⊗") [] [] (codes "⊗") (codes "壹拾伍元整") 1500
-    refl refl refl refl bare_fifteen
-
 typed-amounts_stay_amounts : IsAmount (codes "壹拾伍元整") 1500
 typed-amounts_stay_amounts = fifteen
 
@@ -186,39 +117,9 @@ typed_signed-written_amounts_are_amounts = omega arith
 typed_signed-amounts_with_each_sign_are_amounts : nat_abs (negsuc 1499) < amount_limit
 typed_signed-amounts_with_each_sign_are_amounts = omega arith
 
--- after a sign, 人民币 and its note
-signed_yuan : (choices : Choices)
-    → capitals_of (codes "人民币壹元整") ≡ map Some (amount_form choices (places_of 100))
-    → IsTypedSignedAmount (codes "（负数）人民币（大写）：壹元整") (negsuc 99)
-signed_yuan choices form = record {
-  below = true;
-  magnitude = 100;
-  form = prefixed true [] (codes "（负数）") (codes "人民币（大写）：")
-      (codes "（负数）人民币（大写）：") (codes "壹元整") 100 refl refl refl refl
-      (bare_yuan choices form);
-  value = refl;
-}
-
-typed_signed-each_text_is_one_amount : IsTypedSignedAmount
-    (codes "（负数）人民币（大写）：壹元整") (negsuc 99)
-    × IsTypedSignedAmount (codes "（负数）人民币（大写）：壹元整") (negsuc 99)
-unfolding capital_of
-typed_signed-each_text_is_one_amount =
-    (signed_yuan with_currency refl, signed_yuan with_these refl)
-
-typed_signed-beginnings_are_begun : IsTypedSignedAmount
-    (codes "⊗ (負數" ++ codes ")壹拾伍元整") (negsuc 1499)
-typed_signed-beginnings_are_begun = record {
-  below = true;
-  magnitude = 1500;
-  form = prefixed true (codes "⊗") (codes "(負數)") [] (codes "⊗(負數)") (codes "壹拾伍元整") 1500
-      refl refl refl refl bare_fifteen;
-  value = refl;
-}
-
-typed_signed-typed_amounts_stay_amounts : IsTypedAmount
-    (codes "⊗ 壹拾 " ++ codes "伍元 整") 1500
-typed_signed-typed_amounts_stay_amounts = typed-beginnings_are_begun
+typed_signed-typed_amounts_stay_amounts : IsTypedAmount (codes "⊗ 壹拾 伍元 整") 1500
+typed_signed-typed_amounts_stay_amounts = prefixed false (codes "⊗") [] [] (codes "⊗")
+    (codes "壹拾伍元整") 1500 refl refl refl refl bare_fifteen
 
 typed_signed-signed_amounts_stay_amounts : IsSignedAmount (codes "负壹拾伍元整") (negsuc 1499)
 typed_signed-signed_amounts_stay_amounts =

@@ -6,15 +6,15 @@ use Rattle.std.proofs.lemmas.List.Sums.{AllPass-from_list_all}
 use Rattle.cn_core.proofs.Fronts.{and-left, and-right}
 use Rattle.cn_core.specs.declared.script.ChineseVariant.TheVariants.{Traditional, Simple}
 use Rattle.cn_amount.specs.declared.prefix.Width.TheVariants.{Full, Half}
-use Rattle.cn_capitals.specs.Machine.{run}
-use Rattle.cn_capitals.proofs.Runs.{run-append}
+use Rattle.cn_grammar.specs.Machine.{run}
+use Rattle.cn_grammar.proofs.Runs.{run-append}
 use Rattle.cn_amount.specs.declared.prefix.Point.{Point}
 use Rattle.cn_amount.specs.declared.prefix.Point.TheVariants.{Between, SignBracket, SignFu, SignShu, Ren, Min, Currency, Bracket, Da, Xie, Note, Amount}
 use Rattle.cn_amount.specs.declared.prefix.Prefix.{Prefix}
-use Rattle.cn_capitals.specs.declared.sign.Front.{Front}
-use Rattle.cn_capitals.specs.declared.sign.Front.TheVariants.{Open, Plain, Minus}
+use Rattle.cn_grammar.specs.declared.sign.Front.{Front}
+use Rattle.cn_grammar.specs.declared.sign.Front.TheVariants.{Open, Plain, Minus}
 use Rattle.cn_amount.specs.Typed.{circles, below_signs, signs, currencies, orders}
-use Rattle.cn_capitals.specs.Sign.{is_below}
+use Rattle.cn_grammar.specs.Sign.{is_below}
 use Rattle.cn_amount.specs.Working.Typing.{at, next, first, is_over}
 use Rattle.cn_amount.proofs.Prefixes.{by-order, no-sign}
 

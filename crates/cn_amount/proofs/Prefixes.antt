@@ -5,7 +5,7 @@ use Rattle.std.specs.List.{AllByRecursion, Contains, list_all}
 use Rattle.std.proofs.lemmas.Bool.Decides.{nat_tests}
 use Rattle.std.proofs.lemmas.List.Elements.{All-contains, All-from_recursion, Contains-append_right}
 use Rattle.std.proofs.lemmas.List.Sums.{AllPass-from_list_all}
-use Rattle.cn_capitals.specs.Characters.{first_with}
+use Rattle.cn_grammar.specs.Characters.{first_with}
 use Rattle.cn_core.proofs.Fronts.{and-left, and-right}
 use Rattle.cn_core.specs.declared.script.ChineseVariant.{ChineseVariant}
 use Rattle.cn_core.specs.declared.script.ChineseVariant.TheVariants.{Traditional, Simple}
@@ -14,10 +14,10 @@ use Rattle.cn_amount.specs.declared.prefix.Point.TheVariants.{Between, SignBrack
 use Rattle.cn_amount.specs.declared.prefix.Prefix.{Prefix}
 use Rattle.cn_amount.specs.declared.prefix.Width.{Width}
 use Rattle.cn_amount.specs.declared.prefix.Width.TheVariants.{Full, Half}
-use Rattle.cn_capitals.specs.declared.sign.Front.{Front}
-use Rattle.cn_capitals.specs.declared.sign.Front.TheVariants.{Open, Plain, Minus}
+use Rattle.cn_grammar.specs.declared.sign.Front.{Front}
+use Rattle.cn_grammar.specs.declared.sign.Front.TheVariants.{Open, Plain, Minus}
 use Rattle.cn_amount.specs.Typed.{circles, below_signs, signs, names, joined, currencies, orders}
-use Rattle.cn_capitals.specs.Sign.{is_below}
+use Rattle.cn_grammar.specs.Sign.{is_below}
 use Rattle.cn_amount.specs.Working.Typing.{Ways, ways_if, at, with_circle, with_sign, with_currency, is_open, sign_ways, first_ways, colon_ways, currency_ways, fu_ways, ways_at, next, is_over}
 
 -- P holds of what each row gives, with each of the row's characters

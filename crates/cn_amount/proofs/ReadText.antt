@@ -5,9 +5,10 @@ use Rattle.std.proofs.lemmas.List.{map-append}
 use Rattle.std.proofs.lemmas.List.Folds.{list_all-append}
 use Rattle.cn_core.specs.declared.script.ChineseVariant.TheVariants.{Simple}
 use Rattle.cn_core.proofs.Fronts.{both}
-use Rattle.cn_capitals.specs.Machine.{Leads, Reached, Reads, step_as}
-use Rattle.cn_capitals.specs.Machine as machine
-use Rattle.cn_capitals.proofs.Runs.{some-is, ran, run-more, run-map, kept}
+use Rattle.cn_grammar.specs.Answers.{Begins}
+use Rattle.cn_grammar.specs.Machine.{Leads, Reached, Reads, step_as}
+use Rattle.cn_grammar.specs.Machine as machine
+use Rattle.cn_grammar.proofs.Runs.{some-is, ran, run-more, run-map, kept}
 use Rattle.cn_amount.specs.declared.capital.Capital.{Capital}
 use Rattle.cn_amount.specs.declared.progress.Progress.{Progress}
 use Rattle.cn_amount.specs.declared.state.State.{State}
@@ -15,7 +16,7 @@ use Rattle.cn_amount.specs.declared.state.State.TheVariants.{Beginning}
 use Rattle.cn_amount.specs.declared.sum.Sum.{Sum}
 use Rattle.cn_amount.specs.Form.{amount_form}
 use Rattle.cn_amount.specs.Places.{amount_limit}
-use Rattle.cn_amount.specs.Reading.{capital_of, capitals_of, IsAmount, Begins}
+use Rattle.cn_amount.specs.Reading.{capital_of, capitals_of, IsAmount}
 use Rattle.cn_amount.specs.Working.Steps.{step, run, accepts, is_end, add, sum_of, summed, no_sum, with_sum, advance, end, amount_machine}
 use Rattle.cn_amount.specs.Writes.{capital_char, plain}
 use Rattle.cn_amount.proofs.Accepted.{accepted}
@@ -101,7 +102,8 @@ completes-proper : (text : List ℕ) (progress : Progress) (r : IsRead text prog
 completes-proper text progress r = all-proper r.capitals (completion progress.state) r.proper
     (completion-proper progress.state)
 
-begins-read : (text : List ℕ) (progress : Progress) → IsRead text progress → Begins text
+begins-read : (text : List ℕ) (progress : Progress) → IsRead text progress
+    → Begins IsAmount text
 begins-read text progress r =
     let more = completion progress.state in
     let behind = map (capital_char Simple plain) more in
@@ -187,8 +189,8 @@ only-read text progress fen leads e =
           (sym (ap (λ (sum : Sum). sum.closed) r.sums) ∙ some-is progress.sum.closed fen e)
           (whole-read text r.capitals r.is r.proper ends)
 
-pub amount-reads : Reads IsAmount amount_machine
-amount-reads = record {
+pub amount_reads : Reads IsAmount amount_machine
+amount_reads = record {
   each = each-read;
   only = only-read;
   begins = λ text progress leads. begins-read text progress (is-read text progress leads);

@@ -10,7 +10,7 @@ use Rattle.cn_amount.specs.declared.state.State.TheVariants.{Beginning}
 use Rattle.cn_amount.specs.declared.sum.Sum.{Sum}
 use Rattle.cn_amount.specs.Places.{AreDigits, ArePlaces, section_value, amount_value, amount_limit}
 use Rattle.cn_amount.specs.Working.Steps.{step, run, accepts, is_end, add, sum_of, summed, no_sum}
-use Rattle.cn_capitals.proofs.Runs.{some-is, ran, run-ran}
+use Rattle.cn_grammar.proofs.Runs.{some-is, ran, run-ran}
 use Rattle.cn_amount.proofs.Accepted.{accepted}
 use Rattle.cn_amount.proofs.States.{is_proper}
 use Rattle.cn_amount.proofs.Values.{form-sum, sum-append}

@@ -8,8 +8,8 @@ use Rattle.cn_core.specs.Characters.{digit_char, unit_char}
 use Rattle.cn_core.specs.declared.script.ChineseVariant.{ChineseVariant}
 use Rattle.cn_core.specs.declared.script.ChineseVariant.TheVariants.{Traditional, Simple}
 use Rattle.cn_core.proofs.Fronts.{and-right}
-use Rattle.cn_capitals.proofs.Characters.{AllBelow, all-at, read-passes, IsWrittenBack}
-use Rattle.cn_capitals.proofs.Characters as every
+use Rattle.cn_grammar.proofs.Characters.{AllBelow, all-at, read-passes, IsWrittenBack}
+use Rattle.cn_grammar.proofs.Characters as every
 use Rattle.cn_amount.specs.declared.capital.Capital.{Capital}
 use Rattle.cn_amount.specs.declared.capital.Capital.TheVariants.{Digit, Yuan, Zheng, Fu, Open, Shu, Close}
 use Rattle.cn_amount.specs.declared.form.AmountForm.{AmountForm}

@@ -1,11 +1,11 @@
 -- The states after a minus sign, or without one, read the amounts that may be below zero.
 use Rattle.std.proofs.Common.{◌≡◌, ℕ, ◌<◌, ℤ, List, [], ◌∷◌, Some, refl, sym, ap, subst, ◌∙◌, arith}
-use Rattle.cn_capitals.specs.Machine.{Reached, Reads}
-use Rattle.cn_capitals.specs.Sieve.{kept, after}
-use Rattle.cn_capitals.proofs.Sieves.{IsSifted, IsKeptForm, sifted-leads, sifted-reads, reads-same}
-use Rattle.cn_capitals.specs.Sign.{is_below}
-use Rattle.cn_capitals.specs.declared.sign.Front.TheVariants.{Open}
-use Rattle.cn_capitals.proofs.Signs as signs
+use Rattle.cn_grammar.specs.Machine.{Reached, Reads}
+use Rattle.cn_grammar.specs.Sieve.{kept, after}
+use Rattle.cn_grammar.proofs.Sieves.{IsSifted, IsKeptForm, sifted-leads, sifted-reads, reads-same}
+use Rattle.cn_grammar.specs.Sign.{is_below}
+use Rattle.cn_grammar.specs.declared.sign.Front.TheVariants.{Open}
+use Rattle.cn_grammar.proofs.Signs as signs
 use Rattle.cn_core.specs.Whole.{signed_number}
 use Rattle.cn_amount.specs.declared.progress.Progress.{Progress}
 use Rattle.cn_amount.specs.declared.signed.SignedProgress.{SignedProgress}
@@ -15,7 +15,7 @@ use Rattle.cn_amount.specs.Reading.{IsAmount}
 use Rattle.cn_amount.specs.Signed.{minus_signs, IsSignedAmount}
 use Rattle.cn_amount.specs.Working.Signs.{sign_sieve, both, signed_value, signed_machine}
 use Rattle.cn_amount.specs.Working.Steps.{end, amount_machine}
-use Rattle.cn_amount.proofs.ReadText.{amount-reads}
+use Rattle.cn_amount.proofs.ReadText.{amount_reads}
 use Rattle.cn_amount.proofs.Runs.{amount-below}
 
 kept-is : (text : List ℕ) → kept sign_sieve Open text ≡ without_front minus_signs text
@@ -51,10 +51,10 @@ to-kept text fen h = record {
   is = h.value ∙ ap (λ b. signed_number b h.magnitude) (sym (below-is text));
 }
 
-pub signed-reads : Reads IsSignedAmount signed_machine
-signed-reads = reads-same Kept IsSignedAmount signed_machine from-kept to-kept
+pub signed_reads : Reads IsSignedAmount signed_machine
+signed_reads = reads-same Kept IsSignedAmount signed_machine from-kept to-kept
     (sifted-reads sign_sieve both signed_value amount_machine signed_machine Open IsAmount
-    signs-sifted (signs.stands-behind 0x8D1F minus_signs IsAmount refl) amount-reads)
+    signs-sifted (signs.stands-behind 0x8D1F minus_signs IsAmount refl) amount_reads)
 
 -- the state of the amount can be reached, and its sum is below the limit
 pub under-reached : (state : SignedProgress) → Reached signed_machine state
@@ -69,5 +69,5 @@ under-reached state reached =
 pub reached-below : (progress : Progress) (fen : ℕ) → Reached amount_machine progress
     → end progress ≡ Some fen → fen < amount_limit
 reached-below progress fen reached e =
-    let amount = amount-reads.only reached.0 progress fen reached.1 e in
+    let amount = amount_reads.only reached.0 progress fen reached.1 e in
     omega (arith, amount.value, amount-below amount.places amount.digits)

@@ -7,8 +7,10 @@ use Rattle.std.specs.declared.string.String.{String}
 use Rattle.std.proofs.Math.Utf8.{scalar}
 use Rattle.std.proofs.lemmas.Int.{ints}
 use Rattle.std.proofs.lemmas.Str.{chars-encodes}
-use Rattle.cn_capitals.specs.declared.text.CapitalText.{CapitalText}
-use Rattle.cn_capitals.specs.Text.{text_bytes, HasPut as HasPutAny, IsStringOf}
+use Rattle.cn_core.specs.declared.buffer.Buffer.{Buffer}
+use Rattle.cn_core.specs.Buffers.{IsTextOf}
+use Rattle.cn_core.specs.Strings.{IsStringOf}
+use Rattle.cn_grammar.proofs.Puts.{puts-all}
 use Rattle.cn_core.specs.Characters.{minus_char}
 use Rattle.cn_core.specs.Whole.{signed_number}
 use Rattle.cn_core.specs.declared.script.ChineseVariant.{ChineseVariant}
@@ -17,7 +19,6 @@ use Rattle.cn_core.proofs.Fronts.{and-left, both}
 use Rattle.cn_amount.specs.declared.capital.Capital.{Capital}
 use Rattle.cn_amount.specs.declared.capital.Capital.TheVariants.{Fu}
 use Rattle.cn_amount.specs.declared.form.AmountForm.{AmountForm}
-use Rattle.cn_amount.specs.declared.form.Hand.{Hand}
 use Rattle.cn_amount.specs.Form.{written_as, amount_form}
 use Rattle.cn_amount.specs.Fronts.{begins_with, without_front}
 use Rattle.cn_amount.specs.Places.{amount_limit, places_of}
@@ -146,21 +147,20 @@ form-append : (variant : ChineseVariant) (form : AmountForm) (below : Bool)
 form-append variant form true capitals = refl
 form-append variant form false capitals = refl
 
--- the capitals written are the text
+-- the capitals written are the text, and fit the buffer
 pub signed-text-of : (variant : ChineseVariant) (form : AmountForm) (fen : ℤ)
-    (text : CapitalText Hand)
-    → HasPut (record { variant = variant; form = form }) text
+    (start text : Buffer) (bytes : List ℕ) → length start.bytes.now ≡ 120
+    → HasPut (record { variant = variant; form = form }) start text
     ((if int_lt fen (pos 0) then Fu ∷ [] else [])
     ++ amount_form (written_as form) (places_of (nat_abs fen)))
-    → text_bytes text ≡ encode_utf8_all (signed_amount_text variant form fen)
-unfolding HasPutAny
-signed-text-of variant form fen text put =
+    → IsTextOf text bytes → bytes ≡ encode_utf8_all (signed_amount_text variant form fen)
+signed-text-of variant form fen start text bytes size put of =
     let below = int_lt fen (pos 0) in
     let capitals = amount_form (written_as form) (places_of (nat_abs fen)) in
     let same = ap encode_utf8_all (form-append variant form below capitals) in
     let few = few-behind variant below (map (capital_char variant form) capitals)
     (few-bytes variant form (nat_abs fen)) in
-    put.1 (omega (arith, few, ap length same)) ∙ same
+    puts-all _ _ start text _ bytes put of (omega (arith, few, ap length same, size)) ∙ same
 
 pub signed_is : {Z : Type 0} (variant : ChineseVariant) (form : AmountForm) (fen : ℤ)
     (text : String Z) (bytes : List ℕ) → nat_abs fen < amount_limit → IsStringOf bytes text

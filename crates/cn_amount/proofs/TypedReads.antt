@@ -6,32 +6,32 @@ use Rattle.std.specs.Option.{option_map}
 use Rattle.std.proofs.lemmas.List.Elements.{All-contains}
 use Rattle.std.proofs.lemmas.List.Folds.{list_all-append}
 use Rattle.std.proofs.lemmas.List.Sums.{AllPass-from_list_all}
-use Rattle.cn_capitals.specs.Answers.{Begins}
-use Rattle.cn_capitals.specs.Machine.{run, Leads, Reached, Reads}
-use Rattle.cn_capitals.specs.Sieve.{kept, after}
-use Rattle.cn_capitals.proofs.Runs as runs
-use Rattle.cn_capitals.proofs.Runs.{some-is, run-more}
-use Rattle.cn_capitals.proofs.Sieves.{IsSifted, IsKeptForm, CanStandBehind, sifted-leads, sifted-reads, reads-same}
+use Rattle.cn_grammar.specs.Answers.{Begins}
+use Rattle.cn_grammar.specs.Machine.{run, Leads, Reached, Reads}
+use Rattle.cn_grammar.specs.Sieve.{kept, after}
+use Rattle.cn_grammar.proofs.Runs as runs
+use Rattle.cn_grammar.proofs.Runs.{some-is, run-more}
+use Rattle.cn_grammar.proofs.Sieves.{IsSifted, IsKeptForm, CanStandBehind, sifted-leads, sifted-reads, reads-same}
 use Rattle.cn_core.proofs.Fronts.{and-left, and-right, both as both-true}
 use Rattle.cn_core.specs.Whole.{signed_number}
 use Rattle.cn_amount.specs.declared.prefix.Point.{Point}
 use Rattle.cn_amount.specs.declared.prefix.Point.TheVariants.{Amount}
 use Rattle.cn_amount.specs.declared.prefix.Prefix.{Prefix}
 use Rattle.cn_amount.specs.declared.progress.Progress.{Progress}
-use Rattle.cn_capitals.specs.declared.sign.Front.{Front}
+use Rattle.cn_grammar.specs.declared.sign.Front.{Front}
 use Rattle.cn_amount.specs.declared.typed.TypedProgress.{TypedProgress}
 use Rattle.cn_amount.specs.declared.typed.TypedSignedProgress.{TypedSignedProgress}
 use Rattle.cn_amount.specs.declared.typed.Typing.{Typing}
 use Rattle.cn_amount.specs.Reading.{capital_of, IsAmount}
 use Rattle.cn_amount.specs.Typed.{circles, signs, currencies, IsPrefixed, visible, IsTypedAmount, IsTypedSignedAmount}
-use Rattle.cn_capitals.specs.Sign.{is_below}
+use Rattle.cn_grammar.specs.Sign.{is_below}
 use Rattle.cn_amount.specs.Working.Signs.{signed_value}
 use Rattle.cn_amount.specs.Working.Steps.{bare_progress, amount_machine}
 use Rattle.cn_amount.specs.Working.Typing.{at, first, next, is_over, both, begin, amount_step, step, end, visible_sieve, typed, typed_machine, signed, typed_signed_machine}
 use Rattle.cn_amount.proofs.AmountCharacters.{amount-passes}
 use Rattle.cn_amount.proofs.Prefixes.{by-order, HasRead, Knows, knows-more, IsDone, over-read, whole}
 use Rattle.cn_amount.proofs.PrefixRuns.{front_of, IsAllowed, completed}
-use Rattle.cn_amount.proofs.ReadText.{amount-reads}
+use Rattle.cn_amount.proofs.ReadText.{amount_reads}
 use Rattle.cn_amount.proofs.TypedRuns.{core, IsCore, bare-leads, core-each}
 
 abbrev is_amount : Point → Bool
@@ -203,7 +203,7 @@ core-only signed text typing value leads e =
           let wrong : amount_machine.end typing.progress ≡ None =
           ap amount_machine.end (sym same) in absurd (cc)
       by (Some fen) ends e true is =
-          let form = amount-reads.only (codes "人民币" ++ h.rest) typing.progress fen
+          let form = amount_reads.only (codes "人民币" ++ h.rest) typing.progress fen
           (bare-leads h.rest ∙ h.leads) ends in
           subst (IsCore signed text) (some-is (is_below typing.prefix.sign, fen) value e)
           (subst (λ text. IsCore signed text (is_below typing.prefix.sign, fen)) (sym h.is)
@@ -211,7 +211,7 @@ core-only signed text typing value leads e =
 
 nothing-owed : IsAmount (codes "人民币" ++ codes "零元整") 0
 unfolding capital_of
-nothing-owed = amount-reads.only (codes "人民币零元整") _ 0 refl refl
+nothing-owed = amount_reads.only (codes "人民币零元整") _ 0 refl refl
 
 core-begins : (signed : Bool) (text : List ℕ) (typing : Typing) → Leads (core signed) text typing
     → Begins (IsCore signed) text
@@ -224,7 +224,7 @@ core-begins signed text typing leads = by (is_amount typing.prefix.point) refl w
 
   by : (b : Bool) → is_amount typing.prefix.point ≡ b → Begins (IsCore signed) text
   by true is =
-      let more = amount-reads.begins (codes "人民币" ++ h.rest) typing.progress
+      let more = amount_reads.begins (codes "人民币" ++ h.rest) typing.progress
       (bare-leads h.rest ∙ h.leads) in (
         more.0,
         (is_below sign, more.1),
@@ -346,8 +346,8 @@ to-typed text fen h = record {
   is = refl;
 }
 
-pub typed-reads : Reads IsTypedAmount typed_machine
-typed-reads = reads-same TypedKept IsTypedAmount typed_machine from-typed to-typed
+pub typed_reads : Reads IsTypedAmount typed_machine
+typed_reads = reads-same TypedKept IsTypedAmount typed_machine from-typed to-typed
     (sifted-reads visible_sieve typed (λ nothing (value : Bool × ℕ). value.1) (core false)
     typed_machine tt (IsCore false) typed-sifted (stands-behind false) (core-reads false))
 
@@ -390,8 +390,8 @@ to-signed text fen h = record {
   is = h.value;
 }
 
-pub typed-signed-reads : Reads IsTypedSignedAmount typed_signed_machine
-typed-signed-reads =
+pub typed_signed_reads : Reads IsTypedSignedAmount typed_signed_machine
+typed_signed_reads =
     reads-same SignedKept IsTypedSignedAmount typed_signed_machine from-signed to-signed
     (sifted-reads visible_sieve signed
     (λ nothing (value : Bool × ℕ). signed_number value.0 value.1) (core true)

@@ -2,10 +2,10 @@
 use Rattle.std.proofs.Common.{◌≡◌, ℕ, Bool, true, false, not, ◌||◌, List, [], ◌∷◌, ◌++◌, Option, Some, None, codes, refl, sym, ap, ◌∙◌, if◌then◌else◌}
 use Rattle.std.specs.Char.{char_set_contains}
 use Rattle.std.specs.Option.{option_map}
-use Rattle.cn_capitals.specs.Machine as machine
-use Rattle.cn_capitals.specs.Machine.{run, Leads, Reached, Reads}
-use Rattle.cn_capitals.specs.Sieve.{after}
-use Rattle.cn_capitals.proofs.Runs.{some-is, run-ran, run-append}
+use Rattle.cn_grammar.specs.Machine as machine
+use Rattle.cn_grammar.specs.Machine.{run, Leads, Reached, Reads}
+use Rattle.cn_grammar.specs.Sieve.{after}
+use Rattle.cn_grammar.proofs.Runs.{some-is, run-ran, run-append}
 use Rattle.cn_amount.specs.declared.capital.Capital.{Capital}
 use Rattle.cn_amount.specs.declared.capital.Capital.TheVariants.{Ling, Digit}
 use Rattle.cn_amount.specs.declared.prefix.Point.{Point}
@@ -17,13 +17,13 @@ use Rattle.cn_amount.specs.declared.typed.Typing.{Typing}
 use Rattle.cn_core.specs.declared.script.ChineseVariant.TheVariants.{Traditional, Simple}
 use Rattle.cn_amount.specs.Reading.{capital_of, capital_rows}
 use Rattle.cn_amount.specs.Typed.{IsPrefixed}
-use Rattle.cn_capitals.specs.Sign.{is_below}
+use Rattle.cn_grammar.specs.Sign.{is_below}
 use Rattle.cn_amount.specs.Working.Steps as steps
 use Rattle.cn_amount.specs.Working.Steps.{bare_progress, amount_machine}
 use Rattle.cn_amount.specs.Working.Typing.{at, ways_if, sign_ways, is_open, first, ways_at, next, is_over, both, begin, amount_step, step, end, signed}
 use Rattle.cn_amount.proofs.Prefixes.{OnWays, on-row, rows-pass, on-if, on-both}
 use Rattle.cn_amount.proofs.PrefixRuns.{front_of, IsAllowed, prefix-runs}
-use Rattle.cn_amount.proofs.ReadText.{amount-reads}
+use Rattle.cn_amount.proofs.ReadText.{amount_reads}
 
 -- the machine that reads a text without white space
 abbrev pub core : Bool → machine.Machine Typing (Bool × ℕ)
@@ -199,7 +199,7 @@ core-each signed text value h =
     let form = h.0 in
     let prefix = prefix-runs signed value.0 h.1 form.circle form.sign form.currency form.prefix
     form.is_circle form.is_sign form.is_currency form.order in
-    let whole = amount-reads.each (codes "人民币" ++ form.amount) value.1 form.form in
+    let whole = amount_reads.each (codes "人民币" ++ form.amount) value.1 form.form in
     let last = amount-read form.amount prefix.after whole.0 value.1 prefix.over
     (sym (bare-leads form.amount) ∙ whole.1) whole.2 in (
       both (at Amount prefix.after) whole.0,

@@ -1,9 +1,9 @@
 -- What is read as an amount, and what the answer to a text is.
 use Rattle.std.specs.Prelude.{◌≡◌, ℕ, List, [], ◌∷◌, map, Option, Some, Result, codes, chars}
-pub use Rattle.cn_capitals.specs.declared.refusal.Refusal.{Refusal as AmountRefusal}
-pub use Rattle.cn_capitals.specs.declared.refusal.Refusal.TheVariants.{Unfinished as unfinished, Incorrect as incorrect_at}
-use Rattle.cn_capitals.specs.Answers as answers
-use Rattle.cn_capitals.specs.Characters.{first_with}
+pub use Rattle.cn_grammar.specs.declared.refusal.Refusal.{Refusal as AmountRefusal}
+pub use Rattle.cn_grammar.specs.declared.refusal.Refusal.TheVariants.{Unfinished as unfinished, Incorrect as incorrect_at}
+use Rattle.cn_grammar.specs.Answers.{Answers}
+use Rattle.cn_grammar.specs.Characters.{first_with}
 use Rattle.cn_amount.specs.declared.capital.Capital.{Capital}
 use Rattle.cn_amount.specs.declared.capital.Capital.TheVariants.{Ling, Digit, Shi, Bai, Qian, Wan, Yi, Yuan, Jiao, Fen, Zheng, Ren, Min, Bi}
 use Rattle.cn_amount.specs.declared.places.Places.{Places}
@@ -36,14 +36,6 @@ pub record IsAmount (text : List ℕ) (fen : ℕ) : Type 0 where
   pub form : capitals_of text ≡ map Some (amount_form choices places)
   pub value : fen ≡ amount_value places
 
--- an amount can begin with these characters
-abbrev pub Begins : List ℕ → Type 0
-Begins text = answers.Begins IsAmount text
-
--- `answer` is the answer to a text
-abbrev pub Answers : List ℕ → Result ℕ AmountRefusal → Type 0
-Answers text answer = answers.Answers IsAmount text answer
-
 -- `answer` is the answer to a string, given by its bytes
 abbrev pub ReadsAmount : List ℕ → Result ℕ AmountRefusal → Type 0
-ReadsAmount bytes answer = Answers (chars bytes) answer
+ReadsAmount bytes answer = Answers IsAmount (chars bytes) answer

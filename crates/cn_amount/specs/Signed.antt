@@ -1,7 +1,7 @@
 -- Amounts that may be below zero, such as those of red invoices. No rule of the banks has them.
 use Rattle.std.specs.Prelude.{◌≡◌, ℕ, ◌*◌, ◌<◌, ◌≤◌, ℤ, pos, int_lt, nat_abs, List, [], ◌∷◌, ◌++◌, length, codes, chars, Result, MatchResult, encode_utf8_all, string_bytes, string_len, string_capacity, if◌then◌else◌}
 use Rattle.std.specs.declared.string.String.{String}
-use Rattle.cn_capitals.specs.Answers as answers
+use Rattle.cn_grammar.specs.Answers.{Answers}
 use Rattle.cn_core.specs.Characters.{minus_char}
 use Rattle.cn_core.specs.Whole.{signed_number}
 use Rattle.cn_core.specs.declared.script.ChineseVariant.{ChineseVariant}
@@ -24,13 +24,9 @@ pub record IsSignedAmount (text : List ℕ) (fen : ℤ) : Type 0 where
   pub form : IsAmount (without_front minus_signs text) magnitude
   pub value : fen ≡ signed_number (begins_with minus_signs text) magnitude
 
--- `answer` is the answer to a text
-abbrev pub SignedAnswers : List ℕ → Result ℤ AmountRefusal → Type 0
-SignedAnswers text answer = answers.Answers IsSignedAmount text answer
-
 -- `answer` is the answer to a string, given by its bytes
 abbrev pub ReadsSignedAmount : List ℕ → Result ℤ AmountRefusal → Type 0
-ReadsSignedAmount bytes answer = SignedAnswers (chars bytes) answer
+ReadsSignedAmount bytes answer = Answers IsSignedAmount (chars bytes) answer
 
 -- the characters of an amount in a form, after the minus sign of the script if it is below zero
 abbrev pub signed_amount_text : ChineseVariant → AmountForm → ℤ → List ℕ

@@ -3,7 +3,7 @@
 use Rattle.std.specs.Prelude.{◌≡◌, ℕ, ℤ, Bool, true, false, List, [], ◌∷◌, ◌++◌, map, filter, codes, chars, Result}
 use Rattle.std.specs.Char.{is_not_whitespace}
 use Rattle.std.specs.List.{Contains, flat_map}
-use Rattle.cn_capitals.specs.Answers as answers
+use Rattle.cn_grammar.specs.Answers.{Answers}
 use Rattle.cn_core.specs.Whole.{signed_number}
 use Rattle.cn_amount.specs.Reading.{AmountRefusal, IsAmount}
 
@@ -77,17 +77,11 @@ pub record IsTypedSignedAmount (text : List ℕ) (fen : ℤ) : Type 0 where
   pub form : IsPrefixed (visible text) below magnitude
   pub value : fen ≡ signed_number below magnitude
 
--- `answer` is the answer to a text; its places are those of the text as it is typed
-abbrev pub TypedAnswers : List ℕ → Result ℕ AmountRefusal → Type 0
-TypedAnswers text answer = answers.Answers IsTypedAmount text answer
-
--- `answer` is the answer to a string, given by its bytes
+-- `answer` is the answer to a string, given by its bytes; its places are those of the text as it is
+-- typed
 abbrev pub ReadsTypedAmount : List ℕ → Result ℕ AmountRefusal → Type 0
-ReadsTypedAmount bytes answer = TypedAnswers (chars bytes) answer
+ReadsTypedAmount bytes answer = Answers IsTypedAmount (chars bytes) answer
 
 -- the same for an amount that may be below zero
-abbrev pub TypedSignedAnswers : List ℕ → Result ℤ AmountRefusal → Type 0
-TypedSignedAnswers text answer = answers.Answers IsTypedSignedAmount text answer
-
 abbrev pub ReadsTypedSignedAmount : List ℕ → Result ℤ AmountRefusal → Type 0
-ReadsTypedSignedAmount bytes answer = TypedSignedAnswers (chars bytes) answer
+ReadsTypedSignedAmount bytes answer = Answers IsTypedSignedAmount (chars bytes) answer

@@ -5,8 +5,8 @@ ghost use Rattle.cn_amount.specs.Writes.{char_by, yuan_char, closing_char, curre
 ghost use Rattle.cn_amount.specs.Reading.{capital_of};
 
 use crate::form::Hand;
-use cn_capitals::{Written, known_in};
 use cn_core::{ChineseCase, ChineseVariant, Unit, digit_char, minus_char, unit_char};
+use cn_grammar::{Written, known_in};
 
 /// What a character of an amount is.
 #[derive(Clone, Copy)]

@@ -3,12 +3,12 @@ ghost use Rattle.std.specs.Prelude.{chars};
 ghost use Rattle.cn_amount.specs.Reading.{IsAmount};
 ghost use Rattle.cn_amount.specs.Signed.{IsSignedAmount};
 ghost use Rattle.cn_amount.specs.Typed.{IsTypedAmount, IsTypedSignedAmount};
-ghost use Rattle.cn_capitals.specs.Expected.{IsExpected};
+ghost use Rattle.cn_grammar.specs.Expected.{IsExpected};
 
 use crate::progress::Progress;
 use crate::signed::SignedProgress;
 use crate::typed::{TypedProgress, TypedSignedProgress};
-use cn_capitals::{Expected, expected_next};
+use cn_grammar::{Expected, expected_next};
 
 /// What may come next in an amount in capitals, after the longest start of a text that begins an
 /// amount: for an input form that lists the keys, or for a message beside a refused text. No memory

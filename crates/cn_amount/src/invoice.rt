@@ -1,6 +1,5 @@
 // Amounts as they are printed on red invoices.
 ghost use Rattle.std.specs.Prelude.{◌≡◌, ◌<◌, ◌≤◌, nat_abs, length, encode_utf8_all};
-ghost use Rattle.cn_capitals.specs.Text.{text_bytes};
 ghost use Rattle.cn_amount.specs.Answer.{answer_of};
 ghost use Rattle.cn_amount.specs.Invoice.{WritesInvoiceAmount, invoice_amount_text};
 ghost use Rattle.cn_amount.specs.Places.{amount_limit};
@@ -16,12 +15,15 @@ use crate::read::told;
 use crate::typed::TypedSignedProgress;
 use crate::write::AMOUNT_LIMIT;
 use crate::{AmountToChineseError, ChineseToAmountError};
-use cn_capitals::{CapitalText, read};
-use cn_core::ChineseVariant;
+use cn_core::{Buffer, ChineseVariant, string_of};
+use cn_grammar::{put_capital, read_form};
 use std::alloc::Global;
 
-/// The amount, in fen, for which a text in capitals stands as people type it, or copy it from a red
-/// invoice. White space is left out wherever it is. No memory is allocated.
+/// The most bytes of an amount with its sign: three for each of 43 characters.
+pub const MOST_INVOICE_BYTES: usize = 129;
+
+/// The amount, in fen, of a text in capitals as people type it, or copy it from a red invoice.
+/// White space is left out wherever it is. No memory is allocated.
 ///
 /// Before the amount there may be, each at most once: a circle, ⊗ or ⓧ; a sign, which is 负 (負) or
 /// （负数） (（負數）); and 人民币 (人民幣), directly after which （大写） (（大寫）) and then a colon may come.
@@ -45,43 +47,49 @@ use std::alloc::Global;
 pub fn chinese_to_signed_amount_as_typed(text: &str) -> Result<i64, ChineseToAmountError>
     ensures { ReadsTypedSignedAmount text.now (answer_of result) }
 {
-    told(read::<TypedSignedProgress>(text))
+    told(read_form::<TypedSignedProgress>(text))
 }
 
 // Writes 负, or in brackets （负数）.
-fn put_sign(text: &mut CapitalText<Hand>, bracketed: bool)
-    ensures { PutsMore text.old text.new (sign_form bracketed) }
+fn put_sign(text: &mut Buffer, hand: Hand, bracketed: bool)
+    ensures { PutsMore hand text.old text.new (sign_form bracketed) }
 {
     if bracketed {
-        text.put(Capital::Open);
-        text.put(Capital::Fu);
-        text.put(Capital::Shu);
-        text.put(Capital::Close);
+        put_capital(text, hand, Capital::Open);
+        put_capital(text, hand, Capital::Fu);
+        put_capital(text, hand, Capital::Shu);
+        put_capital(text, hand, Capital::Close);
     } else {
-        text.put(Capital::Fu);
+        put_capital(text, hand, Capital::Fu);
     }
 }
 
 // Writes the sign before an amount below zero.
-fn put_sign_before(text: &mut CapitalText<Hand>, bracketed: bool, fen: i64)
-    ensures { PutsMore text.old text.new (sign_before bracketed fen) }
+fn put_sign_before(text: &mut Buffer, hand: Hand, bracketed: bool, fen: i64)
+    ensures { PutsMore hand text.old text.new (sign_before bracketed fen) }
 {
     if fen < 0 {
-        put_sign(text, bracketed);
+        put_sign(text, hand, bracketed);
     }
 }
 
-/// The text of an amount that may be below zero, with a magnitude below the limit, after the sign of
-/// the form, in a buffer of its own.
-pub fn invoice_amount_text(variant: ChineseVariant, form: AmountForm, fen: i64) -> CapitalText<Hand>
+/// Writes an amount that may be below zero, with a magnitude below the limit, after the sign of the
+/// form, at the start of a buffer, and returns its text.
+pub fn invoice_amount_text(
+    room: &mut [u8; MOST_INVOICE_BYTES],
+    variant: ChineseVariant,
+    form: AmountForm,
+    fen: i64,
+) -> &str
     requires { nat_abs fen < amount_limit }
-    ensures bytes { text_bytes result ≡ encode_utf8_all (invoice_amount_text variant form fen) }
-    ensures most { length (text_bytes result) ≤ 129 }
+    ensures bytes { result.now ≡ encode_utf8_all (invoice_amount_text variant form fen) }
+    ensures most { length result.now ≤ 129 }
 {
-    let mut text = CapitalText::<Hand>::new::<Capital>(Hand { variant, form });
-    put_sign_before(&mut text, form.bracketed_sign, fen);
-    put_amount(&mut text, form, Places::of(fen.unsigned_abs()));
-    text
+    let hand = Hand { variant, form };
+    let mut text = Buffer::new(room);
+    put_sign_before(&mut text, hand, form.bracketed_sign, fen);
+    put_amount(&mut text, hand, Places::of(fen.unsigned_abs()));
+    text.into_text()
 }
 
 /// The amount in capitals, given in fen, as `signed_amount_to_chinese` writes it, but with the sign
@@ -110,5 +118,6 @@ pub fn signed_amount_to_chinese_as(
     if fen.unsigned_abs() >= AMOUNT_LIMIT {
         return Err(AmountToChineseError::Overflow);
     }
-    Ok(invoice_amount_text(variant, form, fen).to_string(alloc)?)
+    let mut room = [0; MOST_INVOICE_BYTES];
+    Ok(string_of(alloc, invoice_amount_text(&mut room, variant, form, fen))?)
 }

@@ -45,13 +45,17 @@ pub use expect::{
 };
 pub use form::AmountForm;
 pub use invoice::{
-    chinese_to_signed_amount_as_typed, invoice_amount_text, signed_amount_to_chinese_as,
+    MOST_INVOICE_BYTES, chinese_to_signed_amount_as_typed, invoice_amount_text,
+    signed_amount_to_chinese_as,
 };
+pub use progress::AmountGrammar;
 pub use read::{chinese_to_amount, chinese_to_amount_as_typed, chinese_to_signed_amount};
 pub use repair::{
     amount_repair, signed_amount_repair, typed_amount_repair, typed_signed_amount_repair,
 };
+pub use signed::SignedAmountGrammar;
+pub use typed::{TypedAmountGrammar, TypedSignedAmountGrammar};
 pub use write::{
-    AMOUNT_LIMIT, amount_text, amount_to_chinese, amount_to_chinese_as, signed_amount_text,
-    signed_amount_to_chinese,
+    AMOUNT_LIMIT, MOST_AMOUNT_BYTES, amount_text, amount_to_chinese, amount_to_chinese_as,
+    signed_amount_text, signed_amount_to_chinese,
 };

@@ -5,7 +5,7 @@ ghost use Rattle.cn_amount.specs.declared.listed.TheConstants.{CHARACTERS};
 use crate::progress::Progress;
 use crate::signed::SignedProgress;
 use crate::typed::{TypedProgress, TypedSignedProgress};
-use cn_capitals::Listed;
+use cn_grammar::Listed;
 
 // The characters of amounts, of which the last 15 are the minus sign of each script, what a typed
 // amount has besides, and what its sign has besides.
@@ -27,6 +27,9 @@ impl Listed for Progress {
     fn takes_white_space() -> bool {
         false
     }
+
+    #[tactic(auto, using(crate::proofs::CharactersListed::amounts_listed))]
+    fn characters_are_listed() {}
 }
 
 impl Listed for SignedProgress {
@@ -41,6 +44,9 @@ impl Listed for SignedProgress {
     fn takes_white_space() -> bool {
         false
     }
+
+    #[tactic(auto, using(crate::proofs::CharactersListed::signed_listed))]
+    fn characters_are_listed() {}
 }
 
 impl Listed for TypedProgress {
@@ -55,6 +61,9 @@ impl Listed for TypedProgress {
     fn takes_white_space() -> bool {
         true
     }
+
+    #[tactic(auto, using(crate::proofs::CharactersListed::typed_listed))]
+    fn characters_are_listed() {}
 }
 
 impl Listed for TypedSignedProgress {
@@ -69,4 +78,7 @@ impl Listed for TypedSignedProgress {
     fn takes_white_space() -> bool {
         true
     }
+
+    #[tactic(auto, using(crate::proofs::CharactersListed::typed_signed_listed))]
+    fn characters_are_listed() {}
 }

@@ -1,12 +1,12 @@
 // What can be before an amount as people type it: a circle, a sign, and 人民币 with a note and a
 // colon.
 ghost use Rattle.std.specs.Prelude.{◌≡◌};
-ghost use Rattle.cn_capitals.specs.Characters.{first_with};
+ghost use Rattle.cn_grammar.specs.Characters.{first_with};
 ghost use Rattle.cn_amount.specs.declared.prefix.Point.TheVariants.{Currency, Bracket, Note};
 ghost use Rattle.cn_amount.specs.Working.Typing.{at, with_circle, with_sign, with_currency, sign_ways, first_ways, fu_ways, ways_at, next, is_over, first};
 
-use cn_capitals::Front;
 use cn_core::ChineseVariant;
+use cn_grammar::Front;
 
 /// The width of a bracket.
 #[derive(Clone, Copy)]

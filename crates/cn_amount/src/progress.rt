@@ -6,7 +6,7 @@ ghost use Rattle.cn_amount.specs.Working.Steps.{bare_progress, amount_machine};
 use crate::capital::capital_of;
 use crate::state::State;
 use crate::sum::Sum;
-use cn_capitals::Grammar;
+use cn_grammar::Grammar;
 
 /// The state of reading an amount, and the sum so far.
 #[derive(Clone, Copy)]
@@ -26,6 +26,9 @@ impl Progress {
         }
     }
 }
+
+/// The grammar of amounts in capitals.
+pub type AmountGrammar = Progress;
 
 impl Grammar for Progress {
     type Value = u64;
@@ -60,4 +63,7 @@ impl Grammar for Progress {
             None
         }
     }
+
+    #[tactic(auto, using(crate::proofs::ReadText::amount_reads))]
+    fn states_read_the_forms() {}
 }

@@ -9,7 +9,7 @@ use crate::ChineseToAmountError;
 use crate::progress::Progress;
 use crate::signed::SignedProgress;
 use crate::typed::TypedProgress;
-use cn_capitals::{Refusal, read};
+use cn_grammar::{Refusal, read_form};
 
 /// The same answer, with the error type of amounts.
 pub fn told<A>(answer: Result<A, Refusal>) -> Result<A, ChineseToAmountError>
@@ -24,8 +24,8 @@ pub fn told<A>(answer: Result<A, Refusal>) -> Result<A, ChineseToAmountError>
     }
 }
 
-/// The amount, in fen, for which a text in capitals stands. It is `Ok` exactly if the text is a
-/// form of an amount. No memory is allocated.
+/// The amount, in fen, of a text in capitals. It is `Ok` exactly if the text is a form of an
+/// amount. No memory is allocated.
 ///
 /// ```text
 /// chinese_to_amount("壹仟肆佰零玖元伍角整") == Ok(140_950)
@@ -44,11 +44,11 @@ pub fn chinese_to_amount(text: &str) -> Result<u64, ChineseToAmountError>
     if text.is_empty() {
         return Err(ChineseToAmountError::Unfinished);
     }
-    told(read::<Progress>(text))
+    told(read_form::<Progress>(text))
 }
 
-/// The amount, in fen, for which a text in capitals stands. After 负 (負), as on red invoices, the
-/// amount is below zero. No memory is allocated.
+/// The amount, in fen, of a text in capitals. After 负 (負), as on red invoices, the amount is below
+/// zero. No memory is allocated.
 ///
 /// ```text
 /// chinese_to_signed_amount("负壹拾伍元整") == Ok(-1_500)
@@ -63,13 +63,13 @@ pub fn chinese_to_amount(text: &str) -> Result<u64, ChineseToAmountError>
 pub fn chinese_to_signed_amount(text: &str) -> Result<i64, ChineseToAmountError>
     ensures { ReadsSignedAmount text.now (answer_of result) }
 {
-    told(read::<SignedProgress>(text))
+    told(read_form::<SignedProgress>(text))
 }
 
-/// The amount, in fen, for which a text in capitals stands as people type or copy it. White space is
-/// left out wherever it is. Before the amount there may be ⊗ or ⓧ, and then 人民币 (人民幣), directly
-/// after which （大写） (（大寫）) and then a colon may come; brackets and colons have either width. The
-/// rest is read as by `chinese_to_amount`. No memory is allocated.
+/// The amount, in fen, of a text in capitals as people type or copy it. White space is left out
+/// wherever it is. Before the amount there may be ⊗ or ⓧ, and then 人民币 (人民幣), directly after which
+/// （大写） (（大寫）) and then a colon may come; brackets and colons have either width. The rest is read
+/// as by `chinese_to_amount`. No memory is allocated.
 ///
 /// ```text
 /// chinese_to_amount_as_typed("人民币（大写）：壹拾伍元整") == Ok(1_500)
@@ -84,5 +84,5 @@ pub fn chinese_to_signed_amount(text: &str) -> Result<i64, ChineseToAmountError>
 pub fn chinese_to_amount_as_typed(text: &str) -> Result<u64, ChineseToAmountError>
     ensures { ReadsTypedAmount text.now (answer_of result) }
 {
-    told(read::<TypedProgress>(text))
+    told(read_form::<TypedProgress>(text))
 }

@@ -3,12 +3,12 @@ ghost use Rattle.std.specs.Prelude.{chars, IfSome};
 ghost use Rattle.cn_amount.specs.Reading.{IsAmount};
 ghost use Rattle.cn_amount.specs.Signed.{IsSignedAmount};
 ghost use Rattle.cn_amount.specs.Typed.{IsTypedAmount, IsTypedSignedAmount};
-ghost use Rattle.cn_capitals.specs.Repairs.{IsRepair};
+ghost use Rattle.cn_grammar.specs.Repairs.{IsRepair};
 
 use crate::progress::Progress;
 use crate::signed::SignedProgress;
 use crate::typed::{TypedProgress, TypedSignedProgress};
-use cn_capitals::{Hint, find_repair};
+use cn_grammar::{Hint, find_repair};
 
 /// One change of a text that is not an amount in capitals, after which it goes on past its fault.
 /// No memory is allocated.
@@ -24,7 +24,7 @@ use cn_capitals::{Hint, find_repair};
 /// After the change the text begins an amount past the character at which `chinese_to_amount`
 /// refuses it; a text that is `Unfinished` becomes an amount. There may be another fault further
 /// on. It is `None` for an amount, and if no change that is tried does this. Only a reader can
-/// confirm that the change is what the writer meant: `find_repair` of `cn_capitals` says which
+/// confirm that the change is what the writer meant: `find_repair` of `cn_grammar` says which
 /// changes are tried, and in which order.
 pub fn amount_repair(text: &str) -> Option<Hint>
     ensures { IfSome result (IsRepair IsAmount (chars text.now)) }

@@ -7,7 +7,7 @@ ghost use Rattle.cn_amount.specs.Signed.{IsSignedAmount, minus_signs};
 ghost use Rattle.cn_amount.specs.Working.Signs.{signed_machine};
 
 use crate::progress::Progress;
-use cn_capitals::{Front, Grammar};
+use cn_grammar::{Front, Grammar};
 
 // Whether a character is a minus sign.
 fn is_minus(character: char) -> bool
@@ -31,6 +31,9 @@ pub struct SignedProgress {
     front: Front,
     progress: Progress,
 }
+
+/// The grammar of amounts in capitals that may be below zero.
+pub type SignedAmountGrammar = SignedProgress;
 
 impl Grammar for SignedProgress {
     type Value = i64;
@@ -60,4 +63,7 @@ impl Grammar for SignedProgress {
         let magnitude = self.progress.end()?;
         Some(signed_fen(self.front.is_below(), magnitude))
     }
+
+    #[tactic(auto, using(crate::proofs::SignedReads::signed_reads))]
+    fn states_read_the_forms() {}
 }

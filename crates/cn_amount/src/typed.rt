@@ -1,6 +1,6 @@
 // The states of reading an amount as people type it, with or without a sign.
 ghost use Rattle.std.specs.Prelude.{◌≡◌};
-ghost use Rattle.cn_capitals.specs.Machine.{Reached};
+ghost use Rattle.cn_grammar.specs.Machine.{Reached};
 ghost use Rattle.cn_amount.specs.Typed.{IsTypedAmount, IsTypedSignedAmount};
 ghost use Rattle.cn_amount.specs.Working.Steps.{amount_machine};
 ghost use Rattle.cn_amount.specs.Working.Typing.{begin, amount_step, step, typed_machine, typed_signed_machine};
@@ -8,7 +8,7 @@ ghost use Rattle.cn_amount.specs.Working.Typing.{begin, amount_step, step, typed
 use crate::prefix::{Point, Prefix};
 use crate::progress::Progress;
 use crate::signed::signed_fen;
-use cn_capitals::{Front, Grammar};
+use cn_grammar::{Front, Grammar};
 
 /// What has been read before the amount, and the state of reading the amount.
 #[derive(Clone, Copy)]
@@ -59,6 +59,9 @@ pub struct TypedProgress {
     typing: Typing,
 }
 
+/// The grammar of amounts in capitals as people type them, without a sign.
+pub type TypedAmountGrammar = TypedProgress;
+
 impl Grammar for TypedProgress {
     type Value = u64;
 
@@ -83,6 +86,9 @@ impl Grammar for TypedProgress {
     fn end(self) -> Option<u64> {
         self.typing.progress.end()
     }
+
+    #[tactic(auto, using(crate::proofs::TypedReads::typed_reads))]
+    fn states_read_the_forms() {}
 }
 
 /// The state of reading an amount that may have a sign.
@@ -90,6 +96,9 @@ impl Grammar for TypedProgress {
 pub struct TypedSignedProgress {
     typing: Typing,
 }
+
+/// The grammar of amounts in capitals as people type or copy them, with or without a sign.
+pub type TypedSignedAmountGrammar = TypedSignedProgress;
 
 impl Grammar for TypedSignedProgress {
     type Value = i64;
@@ -116,4 +125,7 @@ impl Grammar for TypedSignedProgress {
         let magnitude = self.typing.progress.end()?;
         Some(signed_fen(self.typing.prefix.sign.is_below(), magnitude))
     }
+
+    #[tactic(auto, using(crate::proofs::TypedReads::typed_signed_reads))]
+    fn states_read_the_forms() {}
 }

@@ -1,31 +1,39 @@
 // Writes amounts.
 ghost use Rattle.std.specs.Prelude.{◌≡◌, ◌<◌, ◌≤◌, nat_abs, length, encode_utf8_all};
-ghost use Rattle.cn_capitals.specs.Text.{text_bytes};
 ghost use Rattle.cn_amount.specs.Places.{amount_limit};
 ghost use Rattle.cn_amount.specs.Signed.{WritesSignedAmount, signed_amount_text};
 ghost use Rattle.cn_amount.specs.Writes.{WritesAmountAs, WritesAmount, amount_text};
 
 use crate::AmountToChineseError;
-use crate::capital::Capital;
 use crate::form::{AmountForm, Hand};
 use crate::places::Places;
 use crate::put::{put_amount, put_sign};
-use cn_capitals::CapitalText;
-use cn_core::ChineseVariant;
+use cn_core::{Buffer, ChineseVariant, string_of};
 use std::alloc::Global;
 
 /// The first amount that is not written: 10^16 yuan, in fen.
 pub const AMOUNT_LIMIT: u64 = 1_000_000_000_000_000_000;
 
-/// The text of an amount below the limit, in a buffer of its own.
-pub fn amount_text(variant: ChineseVariant, form: AmountForm, fen: u64) -> CapitalText<Hand>
+/// The most bytes of an amount: three for each of 39 characters.
+pub const MOST_AMOUNT_BYTES: usize = 117;
+
+/// The most bytes of an amount after 负.
+pub const MOST_SIGNED_BYTES: usize = MOST_AMOUNT_BYTES + 3;
+
+/// Writes an amount below the limit at the start of a buffer, and returns its text.
+pub fn amount_text(
+    room: &mut [u8; MOST_AMOUNT_BYTES],
+    variant: ChineseVariant,
+    form: AmountForm,
+    fen: u64,
+) -> &str
     requires { fen < amount_limit }
-    ensures bytes { text_bytes result ≡ encode_utf8_all (amount_text variant form fen) }
-    ensures most { length (text_bytes result) ≤ 117 }
+    ensures bytes { result.now ≡ encode_utf8_all (amount_text variant form fen) }
+    ensures most { length result.now ≤ 117 }
 {
-    let mut text = CapitalText::<Hand>::new::<Capital>(Hand { variant, form });
-    put_amount(&mut text, form, Places::of(fen));
-    text
+    let mut text = Buffer::new(room);
+    put_amount(&mut text, Hand { variant, form }, Places::of(fen));
+    text.into_text()
 }
 
 /// The amount in capitals, as on a cheque. The amount is given in fen, a hundredth of a yuan.
@@ -65,20 +73,27 @@ pub fn amount_to_chinese_as(
     if fen >= AMOUNT_LIMIT {
         return Err(AmountToChineseError::Overflow);
     }
-    Ok(amount_text(variant, form, fen).to_string(alloc)?)
+    let mut room = [0; MOST_AMOUNT_BYTES];
+    Ok(string_of(alloc, amount_text(&mut room, variant, form, fen))?)
 }
 
-/// The text of an amount that may be below zero, with a magnitude below the limit, in a buffer of
-/// its own.
-pub fn signed_amount_text(variant: ChineseVariant, form: AmountForm, fen: i64) -> CapitalText<Hand>
+/// Writes an amount that may be below zero, with a magnitude below the limit, at the start of a
+/// buffer, and returns its text.
+pub fn signed_amount_text(
+    room: &mut [u8; MOST_SIGNED_BYTES],
+    variant: ChineseVariant,
+    form: AmountForm,
+    fen: i64,
+) -> &str
     requires { nat_abs fen < amount_limit }
-    ensures bytes { text_bytes result ≡ encode_utf8_all (signed_amount_text variant form fen) }
-    ensures most { length (text_bytes result) ≤ 120 }
+    ensures bytes { result.now ≡ encode_utf8_all (signed_amount_text variant form fen) }
+    ensures most { length result.now ≤ 120 }
 {
-    let mut text = CapitalText::<Hand>::new::<Capital>(Hand { variant, form });
-    put_sign(&mut text, fen);
-    put_amount(&mut text, form, Places::of(fen.unsigned_abs()));
-    text
+    let hand = Hand { variant, form };
+    let mut text = Buffer::new(room);
+    put_sign(&mut text, hand, fen);
+    put_amount(&mut text, hand, Places::of(fen.unsigned_abs()));
+    text.into_text()
 }
 
 /// The amount in capitals, as `amount_to_chinese_as` writes it, but after 负 (負) if it is below
@@ -103,5 +118,6 @@ pub fn signed_amount_to_chinese(
     if fen.unsigned_abs() >= AMOUNT_LIMIT {
         return Err(AmountToChineseError::Overflow);
     }
-    Ok(signed_amount_text(variant, form, fen).to_string(alloc)?)
+    let mut room = [0; MOST_SIGNED_BYTES];
+    Ok(string_of(alloc, signed_amount_text(&mut room, variant, form, fen))?)
 }

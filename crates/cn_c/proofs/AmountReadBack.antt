@@ -9,8 +9,8 @@ use Rattle.cn_amount.specs.Reading.{AmountRefusal, IsAmount, ReadsAmount}
 use Rattle.cn_amount.specs.Working.Steps.{amount_machine}
 use Rattle.cn_amount.specs.Writes.{amount_text}
 use Rattle.cn_amount.proofs.FormsShown.{written-read, written-utf8}
-use Rattle.cn_amount.proofs.ReadText.{amount-reads}
-use Rattle.cn_capitals.proofs.OneAnswer as every
+use Rattle.cn_amount.proofs.ReadText.{amount_reads}
+use Rattle.cn_grammar.proofs.OneAnswer as every
 use Rattle.cn_c.specs.declared.amount.Amount.{Amount}
 use Rattle.cn_c.specs.Amounts.{no_amount, TellsAmount, IsAmountRead, IsAmountPrintedAs}
 use Rattle.cn_c.specs.Codes.{CN_DONE}
@@ -23,7 +23,7 @@ one-answer : (script : ChineseVariant) (form : AmountForm) (fen : ℕ) (text : L
     (answer : Result ℕ AmountRefusal) → fen < amount_limit → text ≡ encode_utf8_all (amount_text script form fen)
     → ReadsAmount text answer → answer ≡ Ok fen
 one-answer script form fen text answer below is reads =
-    every.one-answer IsAmount (every.one-value IsAmount amount_machine amount-reads) (chars text)
+    every.one-answer IsAmount (every.one-value IsAmount amount_machine amount_reads) (chars text)
     answer (Ok fen) reads
     (subst (λ text. ReadsAmount text (Ok fen)) (sym is) (written-read script form fen below))
 

@@ -7,8 +7,8 @@ use Rattle.cn_date.specs.Calendar.{IsDate}
 use Rattle.cn_date.specs.Reading.{DateRefusal, IsDateText, ReadsDate}
 use Rattle.cn_date.specs.Working.Steps.{date_machine}
 use Rattle.cn_date.specs.Writes.{date_text}
-use Rattle.cn_date.proofs.ReadText.{date-reads}
-use Rattle.cn_capitals.proofs.OneAnswer as every
+use Rattle.cn_date.proofs.ReadText.{date_reads}
+use Rattle.cn_grammar.proofs.OneAnswer as every
 use Rattle.cn_date.proofs.Written.{written-read, written-utf8}
 use Rattle.cn_c.specs.declared.date.Date.{Date}
 use Rattle.cn_c.specs.Dates.{date_told, no_date, TellsDate, IsDateRead, IsDatePrintedAs}
@@ -21,7 +21,7 @@ one-answer : (script : ChineseVariant) (date : BillDate) (text : List ℕ) (answ
     → IsDate date → text ≡ encode_utf8_all (date_text script date)
     → ReadsDate text answer → answer ≡ Ok date
 one-answer script date text answer there is reads =
-    every.one-answer IsDateText (every.one-value IsDateText date_machine date-reads) (chars text)
+    every.one-answer IsDateText (every.one-value IsDateText date_machine date_reads) (chars text)
     answer (Ok date) reads
     (subst (λ text. ReadsDate text (Ok date)) (sym is) (written-read script date there))
 

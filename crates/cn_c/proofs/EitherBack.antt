@@ -31,11 +31,11 @@ use Rattle.cn_spell.proofs.Printed.{is_printed}
 use Rattle.chinese_number.proofs.Reading.{IsWhole, HasParts, HasParts-signed_text, minus_is_signed, naive_reading-parts, typed_answer-held}
 use Rattle.cn_spell.proofs.SignedNumbers.{written_sign}
 use Rattle.cn_spell.proofs.SpelledMarks.{spelling-printed}
-use Rattle.cn_faces.specs.Either.{either_way}
-use Rattle.cn_faces.specs.declared.Way.{Way}
-use Rattle.cn_faces.specs.declared.Way.TheVariants.{Digits, Units}
-use Rattle.cn_faces.specs.Ways.{ReadsBy, written_by}
-use Rattle.cn_faces.specs.declared.IntegerType.{IntegerType}
+use Rattle.cn_dynamic.specs.Either.{either_way}
+use Rattle.cn_dynamic.specs.declared.Way.{Way}
+use Rattle.cn_dynamic.specs.declared.Way.TheVariants.{Digits, Units}
+use Rattle.cn_dynamic.specs.Ways.{ReadsBy, written_by}
+use Rattle.cn_dynamic.specs.declared.IntegerType.{IntegerType}
 use Rattle.cn_spell.proofs.ReadByOther.{IsReadBy, IsReadBy-middle}
 use Rattle.cn_c.specs.declared.codes.NamedWay.{NamedWay}
 use Rattle.cn_c.specs.declared.codes.NamedWay.TheVariants.{By, Either}

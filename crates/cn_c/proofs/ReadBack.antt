@@ -23,14 +23,14 @@ use Rattle.cn_spell.proofs.Printed.{is_printed, IsReadBack-marks}
 use Rattle.chinese_number.proofs.Reading.{IsWhole, Reads-by, Reads-same}
 use Rattle.cn_spell.proofs.ReadByOther.{IsReadBy, IsReadBy-own}
 use Rattle.cn_spell.proofs.SpelledMarks.{below_square, spelling-printed}
-use Rattle.cn_faces.specs.declared.IntegerType.{IntegerType}
-use Rattle.cn_faces.specs.declared.IntegerType.TheVariants.{U8, U16, U32, U64, U128, I8, I16, I32, I64, I128}
-use Rattle.cn_faces.specs.declared.Way.{Way}
-use Rattle.cn_faces.specs.declared.Way.TheVariants.{Digits, Units}
+use Rattle.cn_dynamic.specs.declared.IntegerType.{IntegerType}
+use Rattle.cn_dynamic.specs.declared.IntegerType.TheVariants.{U8, U16, U32, U64, U128, I8, I16, I32, I64, I128}
+use Rattle.cn_dynamic.specs.declared.Way.{Way}
+use Rattle.cn_dynamic.specs.declared.Way.TheVariants.{Digits, Units}
 use Rattle.cn_c.specs.declared.number.Number.{Number}
 use Rattle.cn_c.specs.declared.reading.Reading.{Reading}
-use Rattle.cn_faces.specs.IntegerTypes.{the_kind}
-use Rattle.cn_faces.specs.Ways.{ReadsBy, unprintable, written_by}
+use Rattle.cn_dynamic.specs.IntegerTypes.{the_kind}
+use Rattle.cn_dynamic.specs.Ways.{ReadsBy, unprintable, written_by}
 use Rattle.cn_c.specs.declared.codes.NamedWay.{NamedWay}
 use Rattle.cn_c.specs.Codes.{CN_DONE, refusal_status}
 use Rattle.cn_c.specs.Halves.{number_of}

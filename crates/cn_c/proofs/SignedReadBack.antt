@@ -17,10 +17,10 @@ use Rattle.cn_amount.specs.Working.Typing.{typed_signed_machine}
 use Rattle.cn_amount.specs.Writes.{amount_text}
 use Rattle.cn_amount.proofs.FormsShown.{written-utf8}
 use Rattle.cn_amount.proofs.InvoiceShown.{written-invoice}
-use Rattle.cn_amount.proofs.SignedReads.{signed-reads}
+use Rattle.cn_amount.proofs.SignedReads.{signed_reads}
 use Rattle.cn_amount.proofs.SignedShown.{written-signed}
-use Rattle.cn_amount.proofs.TypedReads.{typed-signed-reads}
-use Rattle.cn_capitals.proofs.OneAnswer as every
+use Rattle.cn_amount.proofs.TypedReads.{typed_signed_reads}
+use Rattle.cn_grammar.proofs.OneAnswer as every
 use Rattle.cn_c.specs.declared.signed_amount.SignedAmount.{SignedAmount}
 use Rattle.cn_c.specs.Codes.{form_of, has_flag, CN_BRACKETED_SIGN, CN_DONE, CN_TOO_LARGE, CN_TOO_SMALL}
 use Rattle.cn_c.specs.Prints.{PutsNothing, PutsIfItFits}
@@ -90,7 +90,7 @@ typed-answer : (fen : ℤ) (form : Option AmountForm) (text : List ℕ) (answer 
     → IsText fen form text → ReadsTypedSignedAmount text answer → answer ≡ Ok fen
 typed-answer fen form text answer it reads =
     every.one-answer IsTypedSignedAmount
-    (every.one-value IsTypedSignedAmount typed_signed_machine typed-signed-reads) (chars text) answer
+    (every.one-value IsTypedSignedAmount typed_signed_machine typed_signed_reads) (chars text) answer
     (Ok fen) reads
     (subst (λ text. ReadsTypedSignedAmount text (Ok fen)) (sym it.is)
     (written-invoice it.script it.chosen fen it.below))
@@ -139,7 +139,7 @@ strict-answer : (fen : ℤ) (flags : ℕ) (text : List ℕ) (answer : Result ℤ
     → has_flag flags CN_BRACKETED_SIGN ≡ false → IsText fen (form_of flags) text
     → ReadsSignedAmount text answer → answer ≡ Ok fen
 strict-answer fen flags text answer without it reads =
-    every.one-answer IsSignedAmount (every.one-value IsSignedAmount signed_machine signed-reads)
+    every.one-answer IsSignedAmount (every.one-value IsSignedAmount signed_machine signed_reads)
     (chars text) answer (Ok fen) reads
     (subst (λ text. ReadsSignedAmount text (Ok fen)) (sym (strict-text fen flags text without it))
     (written-signed it.script it.chosen fen it.below))

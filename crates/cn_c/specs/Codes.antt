@@ -9,16 +9,16 @@ use Rattle.chinese_number.specs.declared.ChineseVariant.TheVariants.{Traditional
 use Rattle.chinese_number.specs.declared.Unit.{Unit as NumeralUnit}
 use Rattle.chinese_number.specs.declared.Unit.TheVariants.{Ge, Shi, Bai, Qian, Wan, Yi, Zhao, Jing, Gai, Zi, Rang, Gou, Jian, Zheng, Zai, Ji}
 use Rattle.chinese_number.specs.Refusal.{Refusal, empty, incorrect_at, too_large, too_small}
-use Rattle.cn_faces.specs.declared.IntegerType.{IntegerType}
-use Rattle.cn_faces.specs.declared.IntegerType.TheVariants.{U8, U16, U32, U64, U128, I8, I16, I32, I64, I128}
+use Rattle.cn_dynamic.specs.declared.IntegerType.{IntegerType}
+use Rattle.cn_dynamic.specs.declared.IntegerType.TheVariants.{U8, U16, U32, U64, U128, I8, I16, I32, I64, I128}
 use Rattle.cn_message.specs.declared.input.Input.{Input}
 use Rattle.cn_message.specs.declared.input.Input.TheVariants.{Amount, SignedAmount, TypedAmount, TypedSignedAmount, Date, Figures}
 use Rattle.cn_message.specs.declared.language.Language.{Language}
 use Rattle.cn_message.specs.declared.language.Language.TheVariants.{English, Simplified, Traditional}
 use Rattle.cn_c.specs.declared.codes.NamedWay.{NamedWay}
 use Rattle.cn_c.specs.declared.codes.NamedWay.TheVariants.{By, Either}
-use Rattle.cn_faces.specs.declared.Way.{Way}
-use Rattle.cn_faces.specs.declared.Way.TheVariants.{Digits, Units}
+use Rattle.cn_dynamic.specs.declared.Way.{Way}
+use Rattle.cn_dynamic.specs.declared.Way.TheVariants.{Digits, Units}
 
 -- the integer types, in the order of their codes from 0 on
 abbrev pub kinds : List IntegerType

@@ -4,9 +4,9 @@ use Rattle.std.specs.Option.{option_map_or}
 use Rattle.std.specs.Bool.{MatchBool}
 use Rattle.std.specs.Str.{is_utf8}
 use Rattle.chinese_number.specs.declared.ChineseCountMethod.{ChineseCountMethod}
-use Rattle.cn_faces.specs.declared.IntegerType.{IntegerType}
-use Rattle.cn_faces.specs.IntegerTypes.{the_kind}
-use Rattle.cn_faces.specs.Ways.{IsReasonBy}
+use Rattle.cn_dynamic.specs.declared.IntegerType.{IntegerType}
+use Rattle.cn_dynamic.specs.IntegerTypes.{the_kind}
+use Rattle.cn_dynamic.specs.Ways.{IsReasonBy}
 use Rattle.cn_judge.specs.declared.fault.NumeralFault.{NumeralFault}
 use Rattle.cn_judge.specs.declared.fault.NumeralFault.TheVariants.{Empty, TooLarge, TooSmall, Start, Character, Digits, Units, Ge, Groups}
 use Rattle.cn_quantity.specs.declared.fault.QuantityFault.{QuantityFault}

@@ -2,11 +2,11 @@
 use Rattle.std.specs.Prelude.{◌≡◌, ℕ, List, take, replicate, Option, Some, None, MatchOption, slice_get}
 use Rattle.std.specs.Bool.{MatchBool}
 use Rattle.std.specs.Str.{chars, is_utf8}
-use Rattle.cn_capitals.specs.declared.expecting.Expected.{Expected as WhatIsExpected}
-use Rattle.cn_capitals.specs.declared.hint.Hint.{Hint}
-use Rattle.cn_capitals.specs.declared.hint.Repair.{Repair}
-use Rattle.cn_capitals.specs.declared.hint.Repair.TheVariants.{Insert, Replace, Delete}
-use Rattle.cn_capitals.specs.Expected.{list_of}
+use Rattle.cn_grammar.specs.declared.expecting.Expected.{Expected as WhatIsExpected}
+use Rattle.cn_grammar.specs.declared.hint.Hint.{Hint}
+use Rattle.cn_grammar.specs.declared.hint.Repair.{Repair}
+use Rattle.cn_grammar.specs.declared.hint.Repair.TheVariants.{Insert, Replace, Delete}
+use Rattle.cn_grammar.specs.Expected.{list_of}
 use Rattle.cn_judge.specs.ByteIndex.{byte_index}
 use Rattle.cn_message.specs.declared.input.Input.{Input}
 use Rattle.cn_message.specs.Inputs.{IsExpectedIn, IsRepairOf}

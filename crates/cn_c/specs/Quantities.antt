@@ -6,7 +6,7 @@ use Rattle.std.specs.Str.{is_utf8}
 use Rattle.chinese_number.specs.declared.ChineseCountMethod.{ChineseCountMethod}
 use Rattle.chinese_number.specs.declared.ChineseCountMethod.TheVariants.{TenThousand}
 use Rattle.chinese_number.specs.Refusal.{Refusal}
-use Rattle.cn_faces.specs.declared.Way.TheVariants.{Units}
+use Rattle.cn_dynamic.specs.declared.Way.TheVariants.{Units}
 use Rattle.cn_quantity.specs.declared.quantity.Quantity.{Quantity as ExactQuantity}
 use Rattle.cn_quantity.specs.declared.quantity.QuantityForm.{QuantityForm}
 use Rattle.cn_quantity.specs.declared.quantity.QuantityForm.TheVariants.{Whole, Decimal, Percent, Fraction}

@@ -13,8 +13,8 @@ use crate::status::{DONE, INCORRECT, NOT_UTF8, TOO_LARGE, UNFINISHED, UNKNOWN, t
 use chinese_number::{
     AMOUNT_LIMIT, AmountForm, ChineseToAmountError, ChineseVariant, chinese_to_amount,
 };
-use cn_amount::amount_text;
-use cn_faces::utf8_text;
+use cn_amount::{MOST_AMOUNT_BYTES, amount_text};
+use cn_dynamic::utf8_text;
 use cn_judge::byte_index;
 
 /// The result of reading an amount: the amount in fen; or, if a character is at fault, how many
@@ -49,7 +49,9 @@ fn print_amount(
         len.new }
     ensures bound { len.new ≤ 117 }
 {
-    put_text(amount_text(script, form, fen).as_bytes(), room, len)
+    let mut scratch = [0; MOST_AMOUNT_BYTES];
+    let text = amount_text(&mut scratch, script, form, fen);
+    put_text(text.as_bytes(), room, len)
 }
 
 /// Prints an amount of fen in a form into the caller's buffer, `room`. 117 bytes are enough for any

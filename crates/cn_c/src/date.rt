@@ -8,8 +8,8 @@ use crate::codes::script_of;
 use crate::room::put_text;
 use crate::status::{DONE, INCORRECT, NOT_A_DATE, NOT_UTF8, UNFINISHED, UNKNOWN};
 use chinese_number::{BillDate, ChineseToDateError, chinese_to_date};
-use cn_date::date_text;
-use cn_faces::utf8_text;
+use cn_date::{MOST_DATE_BYTES, date_text};
+use cn_dynamic::utf8_text;
 use cn_judge::byte_index;
 
 /// The result of reading a date: the date; or, if a character is at fault, how many characters and
@@ -67,8 +67,9 @@ pub extern "C" fn chinese_date_print(
     let Some(script) = script_of(script) else {
         return UNKNOWN;
     };
+    let mut scratch = [0; MOST_DATE_BYTES];
     match date_of(year, month, day) {
-        Some(date) => put_text(date_text(script, date).as_bytes(), room, len),
+        Some(date) => put_text(date_text(&mut scratch, script, date).as_bytes(), room, len),
         None => NOT_A_DATE,
     }
 }

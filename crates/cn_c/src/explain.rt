@@ -2,12 +2,12 @@
 ghost use Rattle.std.specs.Prelude.{◌≡◌};
 ghost use Rattle.cn_c.specs.Explains.{misread_code, numeral_code, quantity_code, IsNumberExplained, IsQuantityExplained};
 ghost use Rattle.cn_c.specs.Reads.{way_meant};
-ghost use Rattle.cn_faces.specs.IntegerTypes.{the_kind};
+ghost use Rattle.cn_dynamic.specs.IntegerTypes.{the_kind};
 
 use crate::codes::{NamedWay, kind_of, named_way_of};
 use crate::quantity::method_of;
 use crate::status::{DONE, NOT_UTF8, UNKNOWN};
-use cn_faces::{IntegerType, Way, either_way, explain_as, utf8_text};
+use cn_dynamic::{IntegerType, Way, either_way, explain_as, utf8_text};
 use cn_judge::NumeralFault;
 use cn_quantity::{MisreadFault, QuantityFault, explain_quantity};
 

@@ -11,7 +11,7 @@ use crate::status::{DONE, NOT_UTF8, UNKNOWN, tell_none};
 use chinese_number::{
     Found, Numbers, SearchRule, Unit, Wanted, find_numbers_from, find_quantities_from,
 };
-use cn_faces::{are_common, are_utf8_at_all, utf8_text};
+use cn_dynamic::{are_common, are_utf8_at_all, utf8_text};
 use std::str;
 
 /// The position of a run in its text, in bytes, and the sum of its flags and 16 times the code of

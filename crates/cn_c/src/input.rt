@@ -5,8 +5,8 @@ ghost use Rattle.cn_c.specs.Inputs.{change_of, IsInputExpected, IsInputRepair, W
 use crate::codes::input_of;
 use crate::flags::flag_if;
 use crate::status::{DONE, NOT_UTF8, UNKNOWN};
-use cn_capitals::{Hint, Repair};
-use cn_faces::utf8_text;
+use cn_dynamic::utf8_text;
+use cn_grammar::{Hint, Repair};
 use cn_judge::byte_index;
 use cn_message::Input;
 

@@ -10,11 +10,11 @@ use crate::status::{
     DONE, EMPTY, INCORRECT, NO_ROOM, NONE, NOT_A_DATE, NOT_A_QUANTITY, NOT_HELD, NOT_UTF8,
     TOO_LARGE, TOO_SMALL, UNFINISHED, UNKNOWN,
 };
-use cn_faces::utf8_text;
+use cn_core::Buffer;
+use cn_dynamic::utf8_text;
 use cn_message::{
     Sentence, put_input_message, put_number_message, put_quantity_message, put_status_message,
 };
-use cn_replace::LentRoom;
 use std::convert::Infallible;
 
 // Only the C source of the library returns this status.
@@ -23,10 +23,10 @@ const TOO_LONG: u32 = u32::MAX;
 // How many bytes a message has at most.
 const MOST_MESSAGE_BYTES: usize = 512;
 
-// How many bytes were written to a buffer that is lent.
-fn count_of(written: Result<(), Infallible>, lent: &LentRoom<'_>) -> usize {
+// How many bytes were written to a buffer.
+fn count_of(written: Result<(), Infallible>, buffer: &Buffer<'_>) -> usize {
     match written {
-        Ok(()) => lent.count,
+        Ok(()) => buffer.count,
         Err(never) => match never {},
     }
 }
@@ -69,12 +69,9 @@ pub extern "C" fn chinese_input_message(
         return NOT_UTF8;
     };
     let mut message = [0; MOST_MESSAGE_BYTES];
-    let mut lent = LentRoom {
-        room: &mut message,
-        count: 0,
-    };
-    let written = put_input_message(&mut lent, input, language, text);
-    let count = count_of(written, &lent);
+    let mut buffer = Buffer::new(&mut message);
+    let written = put_input_message(&mut buffer, input, language, text);
+    let count = count_of(written, &buffer);
     put_message(&message, count, room, len)
 }
 
@@ -101,13 +98,10 @@ pub extern "C" fn chinese_number_message(
         return NOT_UTF8;
     };
     let mut message = [0; MOST_MESSAGE_BYTES];
-    let mut lent = LentRoom {
-        room: &mut message,
-        count: 0,
-    };
+    let mut buffer = Buffer::new(&mut message);
     let way = way_for(way, integer, text);
-    let written = put_number_message(&mut lent, integer, way, language, text);
-    let count = count_of(written, &lent);
+    let written = put_number_message(&mut buffer, integer, way, language, text);
+    let count = count_of(written, &buffer);
     put_message(&message, count, room, len)
 }
 
@@ -130,12 +124,9 @@ pub extern "C" fn chinese_quantity_message(
         return NOT_UTF8;
     };
     let mut message = [0; MOST_MESSAGE_BYTES];
-    let mut lent = LentRoom {
-        room: &mut message,
-        count: 0,
-    };
-    let written = put_quantity_message(&mut lent, method, language, text);
-    let count = count_of(written, &lent);
+    let mut buffer = Buffer::new(&mut message);
+    let written = put_quantity_message(&mut buffer, method, language, text);
+    let count = count_of(written, &buffer);
     put_message(&message, count, room, len)
 }
 
@@ -187,11 +178,8 @@ pub extern "C" fn chinese_status_message(
         return UNKNOWN;
     };
     let mut message = [0; MOST_MESSAGE_BYTES];
-    let mut lent = LentRoom {
-        room: &mut message,
-        count: 0,
-    };
-    let written = put_status_message(&mut lent, sentence, language);
-    let count = count_of(written, &lent);
+    let mut buffer = Buffer::new(&mut message);
+    let written = put_status_message(&mut buffer, sentence, language);
+    let count = count_of(written, &buffer);
     put_message(&message, count, room, len)
 }

@@ -1,14 +1,14 @@
 // Prints numbers.
 ghost use Rattle.std.specs.Prelude.{◌≡◌, ◌≤◌, nat_abs};
 ghost use Rattle.cn_c.specs.Prints.{PrintsNumber, IsPrinted, way_written};
-ghost use Rattle.cn_faces.specs.IntegerTypes.{the_kind};
+ghost use Rattle.cn_dynamic.specs.IntegerTypes.{the_kind};
 
 use crate::codes::{NamedWay, case_of, kind_of, named_way_of, script_of};
 use crate::number::{Number, bits_of, signed_number};
 use crate::room::put_text;
 use crate::status::{NOT_HELD, TOO_LARGE, TOO_SMALL, UNKNOWN, tell_none};
 use chinese_number::{ChineseCase, ChineseVariant, NumberToChineseError, ROOM_BYTES, Whole};
-use cn_faces::{IntegerType, SignedMagnitude, Way, put_by, written_method};
+use cn_dynamic::{IntegerType, SignedMagnitude, Way, put_by, written_method};
 
 /// How a number is written.
 #[derive(Clone, Copy)]

@@ -10,7 +10,7 @@ use crate::quantity_form::{form_code, quantity_form_of};
 use crate::reading::refusal_status;
 use crate::status::{DONE, NOT_UTF8, UNKNOWN};
 use chinese_number::{ChineseCountMethod, ChineseToNumberError, chinese_to_quantity};
-use cn_faces::{SignedMagnitude, Way, utf8_text};
+use cn_dynamic::{SignedMagnitude, Way, utf8_text};
 use cn_judge::byte_index;
 
 /// A quantity that was read or is to be printed: its numerator, its denominator and the code of its

@@ -5,7 +5,7 @@ ghost use Rattle.cn_c.specs.QuantityPrints.{IsFiguresPrinted};
 use crate::quantity::{Quantity, quantity_of};
 use crate::room::put_text;
 use crate::status::UNKNOWN;
-use cn_express::{MOST_FIGURES_BYTES, put_figures};
+use cn_quantity_text::{MOST_FIGURES_BYTES, put_figures};
 
 /// Prints a quantity in figures into the caller's buffer, `room`. 80 bytes are enough for any
 /// quantity. The status is UNKNOWN if the code of the form names none, and NO_ROOM if the text does

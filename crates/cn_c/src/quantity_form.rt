@@ -10,10 +10,10 @@ pub const WHOLE: u32 = 0;
 /// A decimal: 3.5, 三點五, 3.5万
 pub const DECIMAL: u32 = 1;
 
-/// A percentage: 12.5%
+/// A percentage: 12.5%, 百分之五十
 pub const PERCENT: u32 = 2;
 
-/// A fraction: 三分之一, 百分之五十
+/// A fraction: 三分之一, 千分之五
 pub const FRACTION: u32 = 3;
 
 /// The code of a form.

@@ -8,8 +8,10 @@ use crate::quantity::{Quantity, quantity_of};
 use crate::room::put_text;
 use crate::status::{NOT_A_QUANTITY, TOO_LARGE, TOO_SMALL, UNKNOWN};
 use chinese_number::{ChineseCountMethod, ChineseVariant};
-use cn_express::{MOST_QUANTITY_BYTES, QuantityToChineseError, greatest_spelled, put_quantity};
-use cn_faces::{Way, written_method};
+use cn_dynamic::{Way, written_method};
+use cn_quantity_text::{
+    MOST_QUANTITY_BYTES, QuantityToChineseError, greatest_spelled, put_quantity,
+};
 
 // The method by which a quantity is written, given its code; `None` if there is none.
 fn method_written(

@@ -4,13 +4,15 @@ ghost use Rattle.chinese_number.specs.Answer.{refusal_of};
 ghost use Rattle.cn_c.specs.declared.codes.NamedWay.TheVariants.{By, Either};
 ghost use Rattle.cn_c.specs.Codes.{kinds, named_ways, refusal_status};
 ghost use Rattle.cn_c.specs.Reads.{ReadsInto, IsRead, bytes_in_front, chars_in_front, no_number};
-ghost use Rattle.cn_faces.specs.IntegerTypes.{the_kind};
+ghost use Rattle.cn_dynamic.specs.IntegerTypes.{the_kind};
 
 use crate::codes::{NamedWay, kind_of, named_way_of};
 use crate::number::{Number, halves, halves_of};
 use crate::status::{DONE, EMPTY, INCORRECT, NOT_UTF8, TOO_LARGE, TOO_SMALL, UNKNOWN};
 use chinese_number::ChineseToNumberError;
-use cn_faces::{IntegerType, Way, are_common, are_utf8_at_all, either_way, read_as, read_unsigned};
+use cn_dynamic::{
+    IntegerType, Way, are_common, are_utf8_at_all, either_way, read_as, read_unsigned,
+};
 use cn_judge::byte_index;
 use std::str;
 

@@ -6,7 +6,7 @@ use crate::flags::figures_of;
 use crate::quantity::method_of;
 use crate::status::{DONE, NO_ROOM, NOT_UTF8, UNKNOWN};
 use chinese_number::Wanted;
-use cn_faces::utf8_text;
+use cn_dynamic::utf8_text;
 use cn_replace::put_quantities_in_figures;
 
 /// Writes a text, with its quantities in figures, into the caller's buffer, `room`. By default

@@ -9,8 +9,8 @@ use crate::codes::script_of;
 use crate::room::put_text;
 use crate::status::{DONE, INCORRECT, NOT_UTF8, TOO_LARGE, TOO_SMALL, UNFINISHED, UNKNOWN};
 use chinese_number::{AMOUNT_LIMIT, ChineseToAmountError, chinese_to_signed_amount};
-use cn_amount::invoice_amount_text;
-use cn_faces::utf8_text;
+use cn_amount::{MOST_INVOICE_BYTES, invoice_amount_text};
+use cn_dynamic::utf8_text;
 use cn_figures::{FiguresError, signed_yuan_to_fen};
 use cn_judge::byte_index;
 
@@ -58,7 +58,9 @@ pub extern "C" fn chinese_signed_amount_print(
     if fen.unsigned_abs() >= AMOUNT_LIMIT {
         return if fen < 0 { TOO_SMALL } else { TOO_LARGE };
     }
-    put_text(invoice_amount_text(script, form, fen).as_bytes(), room, len)
+    let mut scratch = [0; MOST_INVOICE_BYTES];
+    let text = invoice_amount_text(&mut scratch, script, form, fen);
+    put_text(text.as_bytes(), room, len)
 }
 
 // Writes where a text is incorrect, and returns the status INCORRECT.

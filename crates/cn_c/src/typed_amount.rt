@@ -5,7 +5,7 @@ use crate::amount::{Amount, NOTHING, tell_amount};
 use crate::signed_amount::{NO_SIGNED, SignedAmount, tell_signed};
 use crate::status::NOT_UTF8;
 use chinese_number::{chinese_to_amount_as_typed, chinese_to_signed_amount_as_typed};
-use cn_faces::utf8_text;
+use cn_dynamic::utf8_text;
 
 /// Reads a text in capitals as people type it: like `chinese_amount_read`, but white space, ⊗ at
 /// the start and a colon after 人民币 are left out. The place of a character at fault is its place

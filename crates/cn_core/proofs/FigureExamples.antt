@@ -1,6 +1,6 @@
 -- Worked examples of the characters of figures, each proved by computing the definitions.
 use Rattle.std.proofs.Common.{◌≡◌, map, true, false, [], ◌∷◌, Some, None, codes, refl}
-use Rattle.cn_core.specs.Figures.{figure_of, is_comma, is_currency, is_figure, is_figure_minus, is_figure_plus, is_figure_point, is_per_mille, is_percent, is_share_sign, tens_of}
+use Rattle.cn_core.specs.FigureCharacters.{figure_of, is_comma, is_currency, is_figure, is_figure_minus, is_figure_plus, is_figure_point, is_per_mille, is_percent, is_share_sign, tens_of}
 
 values : map figure_of (codes "0９七") ≡ Some 0 ∷ Some 9 ∷ None ∷ []
 unfolding figure_of

@@ -1,7 +1,9 @@
 pub mod Beginnings
+pub mod Buffers
 pub mod Characters
 pub mod Chars
 pub mod Cuts
+pub mod EndBuffers
 pub mod Ends
 pub mod FigureExamples
 pub mod FigureRows

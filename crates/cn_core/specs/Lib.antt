@@ -1,7 +1,9 @@
+pub mod BufferLaws
+pub mod Buffers
 pub mod CharIndex
 pub mod Characters
 pub mod Digits
-pub mod Figures
+pub mod FigureCharacters
 pub mod Judge
 pub mod Judging
 pub mod Mark
@@ -13,6 +15,7 @@ pub mod Reading
 pub mod Refusal
 pub mod Scale
 pub mod Spelling
+pub mod Strings
 pub mod Text
 pub mod Value
 pub mod Whole

@@ -1,6 +1,6 @@
 -- The table of characters has each character that is read at its slot, with its meaning.
 use Rattle.std.proofs.Common.{◌≡◌, ℕ, ◌*◌, ◌/◌, ◌%◌, ◌==◌, get_or, true, refl, Option, None, arith, if◌then◌else◌}
-use Rattle.cn_capitals.proofs.LookUp.{AreRight, all_stand, entry-is}
+use Rattle.cn_grammar.proofs.LookUp.{AreRight, all_stand, entry-is}
 use Rattle.cn_date.specs.declared.capital.Capital.{Capital}
 use Rattle.cn_date.specs.declared.capital.TheConstants.{CAPITALS}
 use Rattle.cn_date.specs.Reading.{capital_of, capital_rows}

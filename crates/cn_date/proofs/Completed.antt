@@ -13,7 +13,7 @@ use Rattle.cn_date.specs.Working.Steps.{IsPart, fits_month, fits_day, step, run}
 use Rattle.cn_date.specs.Calendar.{days_of}
 use Rattle.cn_date.proofs.FormsRead.{some-year}
 use Rattle.cn_date.proofs.Fronts.{Front}
-use Rattle.cn_capitals.proofs.Runs.{run-ran}
+use Rattle.cn_grammar.proofs.Runs.{run-ran}
 use Rattle.cn_date.proofs.Shows.{is_proper}
 
 -- these capitals complete a date after this state

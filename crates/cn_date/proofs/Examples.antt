@@ -1,10 +1,11 @@
 -- Worked examples: the values that the definitions compute. The month and the day of the marked
 -- ones are from the rules of the banks.
 use Rattle.std.proofs.Common.{◌≡◌, ℕ, true, List, ◌∷◌, ◌++◌, length, map, Some, None, Err, codes, refl, ◌∙◌, arith}
-use Rattle.cn_capitals.specs.Machine.{Leads}
-use Rattle.cn_capitals.specs.Machine as machine
-use Rattle.cn_capitals.proofs.Reading.{unfinished-read, place-refused}
-use Rattle.cn_capitals.proofs.Runs.{run-map}
+use Rattle.cn_grammar.specs.Machine.{Leads}
+use Rattle.cn_grammar.specs.Machine as machine
+use Rattle.cn_grammar.specs.Answers.{Answers}
+use Rattle.cn_grammar.proofs.Reading.{unfinished-read, place-refused}
+use Rattle.cn_grammar.proofs.Runs.{run-map}
 use Rattle.cn_core.specs.Characters.{digit_char, unit_char}
 use Rattle.cn_core.specs.declared.script.ChineseVariant.TheVariants.{Traditional, Simple}
 use Rattle.cn_date.specs.declared.date.BillDate.{BillDate}
@@ -13,10 +14,10 @@ use Rattle.cn_date.specs.declared.state.State.{State}
 use Rattle.cn_date.specs.declared.state.State.TheVariants.{Year, Month, Day, Complete}
 use Rattle.cn_date.specs.Calendar.{IsDate, days_of}
 use Rattle.cn_date.specs.Form.{date_form}
-use Rattle.cn_date.specs.Reading.{unfinished, incorrect_at, capital_of, capitals_of, IsDateText, Answers}
+use Rattle.cn_date.specs.Reading.{unfinished, incorrect_at, capital_of, capitals_of, IsDateText}
 use Rattle.cn_date.specs.Working.Steps.{step, end, date_machine}
 use Rattle.cn_date.specs.Writes.{date_text}
-use Rattle.cn_date.proofs.ReadText.{date-reads}
+use Rattle.cn_date.proofs.ReadText.{date_reads}
 
 abbrev on : ℕ → ℕ → ℕ → BillDate
 on year month day = record { year = year; month = month; day = day }
@@ -204,106 +205,106 @@ leads : (text : List ℕ) (state : State) → machine.run (machine.step_as step)
 leads text state e = run-map (machine.step_as step) capital_of (Year 0) text ∙ e
 
 not-ended : (text : List ℕ) (state : State) → machine.run (machine.step_as step) (Year 0) (capitals_of text) ≡ Some state
-    → end state ≡ None → Answers text (Err unfinished)
+    → end state ≡ None → Answers IsDateText text (Err unfinished)
 not-ended text state e none =
-    unfinished-read IsDateText date_machine date-reads text state (leads text state e) none
+    unfinished-read IsDateText date_machine date_reads text state (leads text state e) none
 
-nothing : Answers (codes "") (Err unfinished)
+nothing : Answers IsDateText (codes "") (Err unfinished)
 unfolding capital_of
 nothing = not-ended (codes "") (Year 0) refl refl
 
-year : Answers (codes "贰零贰陆") (Err unfinished)
+year : Answers IsDateText (codes "贰零贰陆") (Err unfinished)
 unfolding capital_of
 year = not-ended (codes "贰零贰陆") (Year 2026) refl refl
 
-tens_of_a_day : Answers (codes "贰零贰伍年零贰月贰拾") (Err unfinished)
+tens_of_a_day : Answers IsDateText (codes "贰零贰伍年零贰月贰拾") (Err unfinished)
 unfolding capital_of
 tens_of_a_day = not-ended (codes "贰零贰伍年零贰月贰拾") (Day 2025 2 28 (Tens 2)) refl refl
 
-day_without_ri : Answers (codes "贰零贰陆年零壹月壹拾伍") (Err unfinished)
+day_without_ri : Answers IsDateText (codes "贰零贰陆年零壹月壹拾伍") (Err unfinished)
 unfolding capital_of
 day_without_ri = not-ended (codes "贰零贰陆年零壹月壹拾伍") (Day 2026 1 31 (Both 1 5)) refl refl
 
 -- incorrect texts, and the place of the fault
 refused : (front : List ℕ) (c : ℕ) (behind : List ℕ) (state : State)
     → machine.run (machine.step_as step) (Year 0) (capitals_of front) ≡ Some state → machine.step_as step state (capital_of c) ≡ None
-    → Answers (front ++ c ∷ behind) (Err (incorrect_at (length front)))
+    → Answers IsDateText (front ++ c ∷ behind) (Err (incorrect_at (length front)))
 refused front c behind state e none =
-    place-refused IsDateText date_machine date-reads (front ++ c ∷ behind) front behind
+    place-refused IsDateText date_machine date_reads (front ++ c ∷ behind) front behind
     (length front) state c refl refl (leads front state e) none
 
-zero_year : Answers (codes "零伍年叁月零壹日") (Err (incorrect_at 0))
+zero_year : Answers IsDateText (codes "零伍年叁月零壹日") (Err (incorrect_at 0))
 unfolding capital_of
 zero_year = refused (codes "") 38646 (codes "伍年叁月零壹日") (Year 0) refl refl
 
-no_year : Answers (codes "年零壹月") (Err (incorrect_at 0))
+no_year : Answers IsDateText (codes "年零壹月") (Err (incorrect_at 0))
 unfolding capital_of
 no_year = refused (codes "") 24180 (codes "零壹月") (Year 0) refl refl
 
-five_figures : Answers (codes "贰零贰陆零") (Err (incorrect_at 4))
+five_figures : Answers IsDateText (codes "贰零贰陆零") (Err (incorrect_at 4))
 unfolding capital_of
 five_figures = refused (codes "贰零贰陆") 38646 (codes "") (Year 2026) refl refl
 
-no_zero_before_january : Answers (codes "贰零贰陆年壹月") (Err (incorrect_at 6))
+no_zero_before_january : Answers IsDateText (codes "贰零贰陆年壹月") (Err (incorrect_at 6))
 unfolding capital_of
 no_zero_before_january = refused (codes "贰零贰陆年壹") 26376 (codes "") (Month 2026 (One 1)) refl refl
 
-no_zero_before_february : Answers (codes "贰零贰陆年贰月") (Err (incorrect_at 5))
+no_zero_before_february : Answers IsDateText (codes "贰零贰陆年贰月") (Err (incorrect_at 5))
 unfolding capital_of
 no_zero_before_february = refused (codes "贰零贰陆年") 36144 (codes "月") (Month 2026 Nothing) refl refl
 
-no_zero_before_october : Answers (codes "贰零贰陆年壹拾月") (Err (incorrect_at 7))
+no_zero_before_october : Answers IsDateText (codes "贰零贰陆年壹拾月") (Err (incorrect_at 7))
 unfolding capital_of
 no_zero_before_october = refused (codes "贰零贰陆年壹拾") 26376 (codes "") (Month 2026 (Tens 1)) refl refl
 
-zero_before_november : Answers (codes "贰零贰陆年零壹拾壹月") (Err (incorrect_at 8))
+zero_before_november : Answers IsDateText (codes "贰零贰陆年零壹拾壹月") (Err (incorrect_at 8))
 unfolding capital_of
 zero_before_november = refused (codes "贰零贰陆年零壹拾") 22777 (codes "月") (Month 2026 (LingTens 1)) refl refl
 
-month_thirteen : Answers (codes "贰零贰陆年壹拾叁月") (Err (incorrect_at 7))
+month_thirteen : Answers IsDateText (codes "贰零贰陆年壹拾叁月") (Err (incorrect_at 7))
 unfolding capital_of
 month_thirteen = refused (codes "贰零贰陆年壹拾") 21441 (codes "月") (Month 2026 (Tens 1)) refl refl
 
-no_one_before_ten : Answers (codes "贰零贰陆年零拾月") (Err (incorrect_at 6))
+no_one_before_ten : Answers IsDateText (codes "贰零贰陆年零拾月") (Err (incorrect_at 6))
 unfolding capital_of
 no_one_before_ten = refused (codes "贰零贰陆年零") 25342 (codes "月") (Month 2026 Ling) refl refl
 
-february_thirty : Answers (codes "贰零贰伍年零贰月零叁拾日") (Err (incorrect_at 10))
+february_thirty : Answers IsDateText (codes "贰零贰伍年零贰月零叁拾日") (Err (incorrect_at 10))
 unfolding capital_of
 february_thirty = refused (codes "贰零贰伍年零贰月零叁") 25342 (codes "日") (Day 2025 2 28 (LingOne 3)) refl refl
 
-february_twenty_nine : Answers (codes "贰零贰伍年零贰月贰拾玖日") (Err (incorrect_at 10))
+february_twenty_nine : Answers IsDateText (codes "贰零贰伍年零贰月贰拾玖日") (Err (incorrect_at 10))
 unfolding capital_of
 february_twenty_nine = refused (codes "贰零贰伍年零贰月贰拾") 29590 (codes "日") (Day 2025 2 28 (Tens 2)) refl refl
 
-hundredth_year : Answers (codes "壹玖零零年零贰月贰拾玖日") (Err (incorrect_at 10))
+hundredth_year : Answers IsDateText (codes "壹玖零零年零贰月贰拾玖日") (Err (incorrect_at 10))
 unfolding capital_of
 hundredth_year = refused (codes "壹玖零零年零贰月贰拾") 29590 (codes "日") (Day 1900 2 28 (Tens 2)) refl refl
 
-april_thirty_one : Answers (codes "贰零贰陆年肆月叁拾壹日") (Err (incorrect_at 7))
+april_thirty_one : Answers IsDateText (codes "贰零贰陆年肆月叁拾壹日") (Err (incorrect_at 7))
 unfolding capital_of
 april_thirty_one = refused (codes "贰零贰陆年肆月") 21441 (codes "拾壹日") (Day 2026 4 30 Nothing) refl refl
 
-no_zero_before_thirty : Answers (codes "贰零贰陆年叁月叁拾日") (Err (incorrect_at 9))
+no_zero_before_thirty : Answers IsDateText (codes "贰零贰陆年叁月叁拾日") (Err (incorrect_at 9))
 unfolding capital_of
 no_zero_before_thirty = refused (codes "贰零贰陆年叁月叁拾") 26085 (codes "") (Day 2026 3 31 (Tens 3)) refl refl
 
-no_zero_before_a_day : Answers (codes "贰零贰陆年叁月壹日") (Err (incorrect_at 8))
+no_zero_before_a_day : Answers IsDateText (codes "贰零贰陆年叁月壹日") (Err (incorrect_at 8))
 unfolding capital_of
 no_zero_before_a_day = refused (codes "贰零贰陆年叁月壹") 26085 (codes "") (Day 2026 3 31 (One 1)) refl refl
 
-zero_before_fifteen : Answers (codes "贰零贰陆年零壹月零壹拾伍日") (Err (incorrect_at 11))
+zero_before_fifteen : Answers IsDateText (codes "贰零贰陆年零壹月零壹拾伍日") (Err (incorrect_at 11))
 unfolding capital_of
 zero_before_fifteen = refused (codes "贰零贰陆年零壹月零壹拾") 20237 (codes "日") (Day 2026 1 31 (LingTens 1)) refl refl
 
-white_space : Answers (codes "贰零贰陆年 零壹月") (Err (incorrect_at 5))
+white_space : Answers IsDateText (codes "贰零贰陆年 零壹月") (Err (incorrect_at 5))
 unfolding capital_of
 white_space = refused (codes "贰零贰陆年") 32 (codes "零壹月") (Month 2026 Nothing) refl refl
 
-lower_case : Answers (codes "二零二六年") (Err (incorrect_at 0))
+lower_case : Answers IsDateText (codes "二零二六年") (Err (incorrect_at 0))
 unfolding capital_of
 lower_case = refused (codes "") 20108 (codes "零二六年") (Year 0) refl refl
 
-more_behind : Answers (codes "贰零贰陆年零壹月壹拾伍日日") (Err (incorrect_at 12))
+more_behind : Answers IsDateText (codes "贰零贰陆年零壹月壹拾伍日日") (Err (incorrect_at 12))
 unfolding capital_of
 more_behind = refused (codes "贰零贰陆年零壹月壹拾伍日") 26085 (codes "") (Complete (on 2026 1 15)) refl refl

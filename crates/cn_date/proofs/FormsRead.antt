@@ -9,8 +9,8 @@ use Rattle.cn_date.specs.declared.state.State.TheVariants.{Year, Month, Day, Com
 use Rattle.cn_date.specs.Calendar.{IsDate, days_of, is_leap}
 use Rattle.cn_date.specs.Form.{figures, year_text, month_text, day_text, date_form}
 use Rattle.cn_date.specs.Working.Steps.{step, run}
-use Rattle.cn_capitals.proofs.Runs.{run-append, run-more, run-ran}
-use Rattle.cn_capitals.proofs.Characters.{AllBelow, all-at}
+use Rattle.cn_grammar.proofs.Runs.{run-append, run-more, run-ran}
+use Rattle.cn_grammar.proofs.Characters.{AllBelow, all-at}
 use Rattle.cn_date.proofs.Years.{figures-more, not-zero}
 
 -- each day of a month, given the number of its days

@@ -13,7 +13,7 @@ use Rattle.cn_date.specs.Calendar.{IsDate, days_of}
 use Rattle.cn_date.specs.Form.{year_text, month_text, day_text, date_form}
 use Rattle.cn_date.specs.Working.Putting.{IsWritten}
 use Rattle.cn_date.specs.Working.Steps.{IsPart, part_step, fits_month, fits_day, month_of, day_of, year_step, month_more, month_done, month_step, day_more, day_done, day_step, step}
-use Rattle.cn_capitals.proofs.Characters.{AllBelow, all-at}
+use Rattle.cn_grammar.proofs.Characters.{AllBelow, all-at}
 use Rattle.cn_date.proofs.FormsRead.{days-bounds}
 use Rattle.cn_date.proofs.Years.{year_more}
 

@@ -1,10 +1,10 @@
 -- The states read the dates.
 use Rattle.std.proofs.Common.{◌≡◌, ℕ, List, [], ◌∷◌, ◌++◌, map, Option, Some, None, refl, sym, ap, ap₂, subst, ◌∙◌}
 use Rattle.std.proofs.lemmas.List.{map-append}
-use Rattle.cn_capitals.specs.Answers.{Begins}
-use Rattle.cn_capitals.specs.Machine.{Leads, Reads, step_as}
-use Rattle.cn_capitals.specs.Machine as machine
-use Rattle.cn_capitals.proofs.Runs.{some-is, run-append, run-map, kept}
+use Rattle.cn_grammar.specs.Answers.{Begins}
+use Rattle.cn_grammar.specs.Machine.{Leads, Reads, step_as}
+use Rattle.cn_grammar.specs.Machine as machine
+use Rattle.cn_grammar.proofs.Runs.{some-is, run-append, run-map, kept}
 use Rattle.cn_core.specs.declared.script.ChineseVariant.TheVariants.{Simple}
 use Rattle.cn_date.specs.declared.capital.Capital.{Capital}
 use Rattle.cn_date.specs.declared.date.BillDate.{BillDate}
@@ -90,8 +90,8 @@ begins-read text state leads =
     ∙ last.ends in
     (behind, last.date, whole-read (text ++ behind) (Complete last.date) last.date runs refl)
 
-pub date-reads : Reads IsDateText date_machine
-date-reads = record {
+pub date_reads : Reads IsDateText date_machine
+date_reads = record {
   each = λ text date h. (Complete date, date-read text date h, refl);
   only = whole-read;
   begins = begins-read;

@@ -7,8 +7,8 @@ use Rattle.std.proofs.lemmas.Bool.Decides.{nat_tests}
 use Rattle.cn_core.specs.Characters.{digit_char, unit_char}
 use Rattle.cn_core.specs.declared.script.ChineseVariant.{ChineseVariant}
 use Rattle.cn_core.specs.declared.script.ChineseVariant.TheVariants.{Traditional, Simple}
-use Rattle.cn_capitals.proofs.Characters.{AllBelow, all-at, read-passes, IsWrittenBack}
-use Rattle.cn_capitals.proofs.Characters as every
+use Rattle.cn_grammar.proofs.Characters.{AllBelow, all-at, read-passes, IsWrittenBack}
+use Rattle.cn_grammar.proofs.Characters as every
 use Rattle.cn_date.specs.declared.capital.Capital.{Capital}
 use Rattle.cn_date.specs.declared.capital.Capital.TheVariants.{Digit}
 use Rattle.cn_date.specs.Reading.{capital_rows, capital_of, capitals_of}

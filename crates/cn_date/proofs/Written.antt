@@ -18,11 +18,13 @@ use Rattle.cn_date.specs.Form.{figures, year_text, month_text, day_text, date_fo
 use Rattle.cn_date.specs.Reading.{capital_of, IsDateText, ReadsDate}
 use Rattle.cn_date.specs.Writes.{capital_char, date_text, IsText}
 use Rattle.cn_date.specs.Working.Putting.{HasPut}
-use Rattle.cn_capitals.specs.declared.text.CapitalText.{CapitalText}
-use Rattle.cn_capitals.specs.Text.{text_bytes, HasPut as HasPutAny, IsStringOf}
+use Rattle.cn_core.specs.declared.buffer.Buffer.{Buffer}
+use Rattle.cn_core.specs.Buffers.{IsTextOf}
+use Rattle.cn_core.specs.Strings.{IsStringOf}
+use Rattle.cn_grammar.proofs.Puts.{puts-all}
 use Rattle.cn_date.proofs.FormsRead.{days-bounds}
-use Rattle.cn_capitals.proofs.Characters.{each_below-at}
-use Rattle.cn_capitals.proofs.Characters as every
+use Rattle.cn_grammar.proofs.Characters.{each_below-at}
+use Rattle.cn_grammar.proofs.Characters as every
 use Rattle.cn_date.proofs.Shows.{is_proper, capital-back, capitals-read, capitals-scalar}
 
 shown-both : (front back : List Capital) → list_all is_proper front ≡ true
@@ -135,9 +137,10 @@ few-bytes variant date ok = omega (
   length-form written date ok,
 )
 
--- the capitals written for a date are its text
-pub text-of : (variant : ChineseVariant) (date : BillDate) (text : CapitalText ChineseVariant) → IsDate date
-    → HasPut variant text (date_form written date)
-    → text_bytes text ≡ encode_utf8_all (date_text variant date)
-unfolding HasPutAny
-text-of variant date text ok put = put.1 (omega (arith, few-bytes variant date ok))
+-- the capitals written for a date are its text, and fit the buffer
+pub text-of : (variant : ChineseVariant) (date : BillDate)
+    (start text : Buffer) (bytes : List ℕ) → IsDate date → length start.bytes.now ≡ 39
+    → HasPut variant start text (date_form written date)
+    → IsTextOf text bytes → bytes ≡ encode_utf8_all (date_text variant date)
+text-of variant date start text bytes ok size put of =
+    puts-all _ _ start text _ bytes put of (omega (arith, few-bytes variant date ok, size))

@@ -1,9 +1,9 @@
 -- What is read as a date, and what the answer to a text is.
 use Rattle.std.specs.Prelude.{◌≡◌, ℕ, Bool, List, [], ◌∷◌, map, Option, Some, Result, codes, chars}
-pub use Rattle.cn_capitals.specs.declared.refusal.Refusal.{Refusal as DateRefusal}
-pub use Rattle.cn_capitals.specs.declared.refusal.Refusal.TheVariants.{Unfinished as unfinished, Incorrect as incorrect_at}
-use Rattle.cn_capitals.specs.Answers as answers
-use Rattle.cn_capitals.specs.Characters.{first_with}
+pub use Rattle.cn_grammar.specs.declared.refusal.Refusal.{Refusal as DateRefusal}
+pub use Rattle.cn_grammar.specs.declared.refusal.Refusal.TheVariants.{Unfinished as unfinished, Incorrect as incorrect_at}
+use Rattle.cn_grammar.specs.Answers.{Answers}
+use Rattle.cn_grammar.specs.Characters.{first_with}
 use Rattle.cn_date.specs.declared.capital.Capital.{Capital}
 use Rattle.cn_date.specs.declared.capital.Capital.TheVariants.{Digit, Shi, Nian, Yue, Ri}
 use Rattle.cn_date.specs.declared.date.BillDate.{BillDate}
@@ -33,14 +33,6 @@ pub record IsDateText (text : List ℕ) (date : BillDate) : Type 0 where
   pub is_date : IsDate date
   pub form : capitals_of text ≡ map Some (date_form choice date)
 
--- a date can begin with these characters
-abbrev pub Begins : List ℕ → Type 0
-Begins text = answers.Begins IsDateText text
-
--- `answer` is the answer to a text
-abbrev pub Answers : List ℕ → Result BillDate DateRefusal → Type 0
-Answers text answer = answers.Answers IsDateText text answer
-
 -- `answer` is the answer to a string, given by its bytes
 abbrev pub ReadsDate : List ℕ → Result BillDate DateRefusal → Type 0
-ReadsDate bytes answer = Answers (chars bytes) answer
+ReadsDate bytes answer = Answers IsDateText (chars bytes) answer

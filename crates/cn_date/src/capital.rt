@@ -4,8 +4,8 @@ ghost use Rattle.cn_date.specs.Working.Putting.{IsWritten};
 ghost use Rattle.cn_date.specs.Writes.{capital_char};
 ghost use Rattle.cn_date.specs.Reading.{capital_of};
 
-use cn_capitals::{Written, known_in};
 use cn_core::{ChineseCase, ChineseVariant, Unit, digit_char, unit_char};
+use cn_grammar::{Written, known_in};
 
 /// What a character of a date is.
 #[derive(Clone, Copy)]

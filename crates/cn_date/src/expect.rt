@@ -1,10 +1,10 @@
 // What may come next in a text.
 ghost use Rattle.std.specs.Prelude.{chars};
-ghost use Rattle.cn_capitals.specs.Expected.{IsExpected};
+ghost use Rattle.cn_grammar.specs.Expected.{IsExpected};
 ghost use Rattle.cn_date.specs.Reading.{IsDateText};
 
 use crate::state::State;
-use cn_capitals::{Expected, expected_next};
+use cn_grammar::{Expected, expected_next};
 
 /// What may come next in a date in capitals, after the longest start of a text that begins a date:
 /// for an input form that lists the keys, or for a message beside a refused text. No memory is

@@ -26,4 +26,5 @@ pub use error::{ChineseToDateError, DateToChineseError};
 pub use expect::date_expected;
 pub use read::chinese_to_date;
 pub use repair::date_repair;
-pub use write::{date_text, date_to_chinese};
+pub use state::DateGrammar;
+pub use write::{MOST_DATE_BYTES, date_text, date_to_chinese};

@@ -3,7 +3,7 @@ ghost use Rattle.std.specs.Prelude.{false};
 ghost use Rattle.cn_date.specs.declared.listed.TheConstants.{CHARACTERS};
 
 use crate::state::State;
-use cn_capitals::Listed;
+use cn_grammar::Listed;
 
 // The characters of dates.
 static CHARACTERS: [char; 18] = [
@@ -22,4 +22,7 @@ impl Listed for State {
     fn takes_white_space() -> bool {
         false
     }
+
+    #[tactic(auto, using(crate::proofs::CharactersListed::dates_listed))]
+    fn characters_are_listed() {}
 }

@@ -4,10 +4,10 @@ ghost use Rattle.cn_date.specs.Reading.{ReadsDate};
 
 use crate::state::State;
 use crate::{BillDate, ChineseToDateError};
-use cn_capitals::{Refusal, read};
+use cn_grammar::{Refusal, read_form};
 
-/// The date for which a text in capitals stands. It is `Ok` exactly if the text is a form of a date
-/// that exists. No memory is allocated.
+/// The date of a text in capitals. It is `Ok` exactly if the text is a form of a date that exists.
+/// No memory is allocated.
 ///
 /// ```text
 /// chinese_to_date("贰零贰陆年零壹月壹拾伍日") == Ok(BillDate { year: 2026, month: 1, day: 15 })
@@ -21,7 +21,7 @@ use cn_capitals::{Refusal, read};
 pub fn chinese_to_date(text: &str) -> Result<BillDate, ChineseToDateError>
     ensures { ReadsDate text.now (answer_of result) }
 {
-    match read::<State>(text) {
+    match read_form::<State>(text) {
         Ok(date) => Ok(date),
         Err(Refusal::Unfinished) => Err(ChineseToDateError::Unfinished),
         Err(Refusal::Incorrect { char_index }) => Err(ChineseToDateError::Incorrect { char_index }),

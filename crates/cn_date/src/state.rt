@@ -7,7 +7,7 @@ ghost use Rattle.cn_date.specs.Working.Steps.{IsPart, HasPart, year_step, month_
 use crate::capital::{Capital, capital_of};
 use crate::date::{BillDate, days_of};
 use crate::part::Part;
-use cn_capitals::Grammar;
+use cn_grammar::Grammar;
 
 /// What has been read.
 #[derive(Clone, Copy)]
@@ -113,6 +113,9 @@ impl State {
     }
 }
 
+/// The grammar of dates in capitals.
+pub type DateGrammar = State;
+
 impl Grammar for State {
     type Value = BillDate;
 
@@ -134,4 +137,7 @@ impl Grammar for State {
             _ => None,
         }
     }
+
+    #[tactic(auto, using(crate::proofs::ReadText::date_reads))]
+    fn states_read_the_forms() {}
 }

@@ -1,26 +1,26 @@
 // Writes dates.
 ghost use Rattle.std.specs.Prelude.{◌≡◌, ◌≤◌, length, encode_utf8_all};
-ghost use Rattle.cn_capitals.specs.Text.{text_bytes};
 ghost use Rattle.cn_date.specs.Calendar.{IsDate};
 ghost use Rattle.cn_date.specs.Writes.{WritesDate, date_text};
 
 use crate::DateToChineseError;
-use crate::capital::Capital;
 use crate::date::BillDate;
 use crate::put::put_date;
-use cn_capitals::CapitalText;
-use cn_core::ChineseVariant;
+use cn_core::{Buffer, ChineseVariant, string_of};
 use std::alloc::Global;
 
-/// The text of a date that exists, in a buffer of its own, with three bytes for each character.
-pub fn date_text(variant: ChineseVariant, date: BillDate) -> CapitalText<ChineseVariant>
+/// The most bytes of a date: three for each of 13 characters.
+pub const MOST_DATE_BYTES: usize = 39;
+
+/// Writes a date that exists at the start of a buffer, and returns its text.
+pub fn date_text(room: &mut [u8; MOST_DATE_BYTES], variant: ChineseVariant, date: BillDate) -> &str
     requires { IsDate date }
-    ensures bytes { text_bytes result ≡ encode_utf8_all (date_text variant date) }
-    ensures most { length (text_bytes result) ≤ 39 }
+    ensures bytes { result.now ≡ encode_utf8_all (date_text variant date) }
+    ensures most { length result.now ≤ 39 }
 {
-    let mut text = CapitalText::<ChineseVariant>::new::<Capital>(variant);
-    put_date(&mut text, date);
-    text
+    let mut text = Buffer::new(room);
+    put_date(&mut text, variant, date);
+    text.into_text()
 }
 
 /// The date in capitals, as on a cheque.
@@ -43,5 +43,6 @@ pub fn date_to_chinese(
     if !date.is_date() {
         return Err(DateToChineseError::NotADate);
     }
-    Ok(date_text(variant, date).to_string(alloc)?)
+    let mut room = [0; MOST_DATE_BYTES];
+    Ok(string_of(alloc, date_text(&mut room, variant, date))?)
 }

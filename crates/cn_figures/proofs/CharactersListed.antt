@@ -4,12 +4,12 @@ use Rattle.std.specs.List.{list_all, position_or_len}
 use Rattle.cn_core.proofs.Fronts.{and-left, and-right}
 use Rattle.cn_figures.specs.declared.part.Part.TheVariants.{Digit}
 use Rattle.std.specs.Char.{char_set_contains}
-use Rattle.cn_capitals.specs.Expected.{IsListed}
-use Rattle.cn_capitals.specs.declared.sign.Front.TheVariants.{Open}
-use Rattle.cn_capitals.proofs.Lists.{classes-listed, sifted-listed}
-use Rattle.cn_capitals.proofs.LookUp.{none-in}
-use Rattle.cn_capitals.proofs.Signs.{left-out}
-use Rattle.cn_core.specs.Figures.{figure_of, figure_rows, is_comma, is_currency, is_figure_point}
+use Rattle.cn_grammar.specs.Expected.{IsListed}
+use Rattle.cn_grammar.specs.declared.sign.Front.TheVariants.{Open}
+use Rattle.cn_grammar.proofs.Lists.{classes-listed, sifted-listed}
+use Rattle.cn_grammar.proofs.LookUp.{none-in}
+use Rattle.cn_grammar.proofs.Signs.{left-out}
+use Rattle.cn_core.specs.FigureCharacters.{figure_of, figure_rows, is_comma, is_currency, is_figure_point}
 use Rattle.cn_figures.specs.declared.listed.TheConstants.{CHARACTERS}
 use Rattle.cn_figures.specs.Parts.{part_of}
 use Rattle.cn_figures.specs.Working.Signs.{minus_signs, sign_sieve, both, signed_value, signed_machine}
@@ -57,8 +57,8 @@ listed-in : (characters : List ℕ) → HasParts characters → IsListed charact
 listed-in characters all = classes-listed figures_machine advance part_of characters
     (λ state c. refl) all.few (others characters all)
 
-pub figures-listed : IsListed (take 26 CHARACTERS) false figures_machine
-figures-listed = listed-in (take 26 CHARACTERS) (record {
+pub figures_listed : IsListed (take 26 CHARACTERS) false figures_machine
+figures_listed = listed-in (take 26 CHARACTERS) (record {
   few = omega arith;
   currency = refl;
   comma = refl;
@@ -66,8 +66,8 @@ figures-listed = listed-in (take 26 CHARACTERS) (record {
   figure = refl;
 })
 
-pub signed-listed : IsListed CHARACTERS false signed_machine
-signed-listed = sifted-listed sign_sieve both signed_value figures_machine signed_machine Open
+pub signed_listed : IsListed CHARACTERS false signed_machine
+signed_listed = sifted-listed sign_sieve both signed_value figures_machine signed_machine Open
     signs-sifted (λ state. (state.front, state.progress, refl)) CHARACTERS false
     (listed-in CHARACTERS (record {
       few = omega arith;

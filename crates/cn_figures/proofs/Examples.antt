@@ -2,19 +2,19 @@
 use Rattle.std.proofs.Common.{◌≡◌, ℕ, ◌+◌, ◌*◌, ◌<◌, ◌≤◌, ◌==◌, ◌⊎◌, inl, inr, Bool, true, false, List, [], ◌∷◌, ◌++◌, length, map, take, drop, Some, None, Err, codes, refl, arith}
 use Rattle.std.specs.Prelude.{IsTrue, pos, neg_ℤ}
 use Rattle.std.specs.List.{list_all}
-use Rattle.cn_capitals.specs.declared.refusal.Refusal.TheVariants.{Unfinished, Incorrect}
-use Rattle.cn_capitals.specs.Answers.{Answers}
-use Rattle.cn_capitals.specs.Machine.{Leads}
-use Rattle.cn_capitals.specs.declared.expecting.Expected.{Expected}
-use Rattle.cn_capitals.specs.Expected.{IsExpected}
-use Rattle.cn_capitals.specs.Repairs.{IsRepair}
-use Rattle.cn_capitals.specs.declared.hint.Repair.TheVariants.{Replace}
-use Rattle.cn_capitals.proofs.Changing.{repair-is}
-use Rattle.cn_capitals.proofs.Following.{expected-is}
+use Rattle.cn_grammar.specs.declared.refusal.Refusal.TheVariants.{Unfinished, Incorrect}
+use Rattle.cn_grammar.specs.Answers.{Answers}
+use Rattle.cn_grammar.specs.Machine.{Leads}
+use Rattle.cn_grammar.specs.declared.expecting.Expected.{Expected}
+use Rattle.cn_grammar.specs.Expected.{IsExpected}
+use Rattle.cn_grammar.specs.Repairs.{IsRepair}
+use Rattle.cn_grammar.specs.declared.hint.Repair.TheVariants.{Replace}
+use Rattle.cn_grammar.proofs.Changing.{repair-is}
+use Rattle.cn_grammar.proofs.Following.{expected-is}
 use Rattle.cn_figures.specs.declared.listed.TheConstants.{CHARACTERS}
-use Rattle.cn_figures.proofs.CharactersListed.{figures-listed}
-use Rattle.cn_capitals.proofs.Reading.{unfinished-read, place-refused}
-use Rattle.cn_core.specs.Figures.{figure_of}
+use Rattle.cn_figures.proofs.CharactersListed.{figures_listed}
+use Rattle.cn_grammar.proofs.Reading.{unfinished-read, place-refused}
+use Rattle.cn_core.specs.FigureCharacters.{figure_of}
 use Rattle.cn_figures.specs.declared.part.Part.TheVariants.{Digit}
 use Rattle.cn_figures.specs.declared.progress.Progress.{Progress}
 use Rattle.cn_figures.specs.declared.state.State.TheVariants.{Beginning, One, Two, Three, Many, AfterComma, CommaThree, AfterPoint, Fen}
@@ -22,7 +22,7 @@ use Rattle.cn_core.specs.Digits.{value_of}
 use Rattle.cn_figures.specs.Figures.{Triple, with_commas, digits_of, marked, pointed, fen_of, IsFigures, WriteAmount, WriteSignedAmount}
 use Rattle.cn_figures.specs.Parts.{part_of, parts_of}
 use Rattle.cn_figures.specs.Working.Steps.{figures_machine}
-use Rattle.cn_figures.proofs.FiguresRead.{figures-read}
+use Rattle.cn_figures.proofs.FiguresRead.{figures_read}
 use Rattle.cn_figures.proofs.FiguresRun.{at}
 
 -- figures that are made of ¥ or nothing, digits, triples and places
@@ -114,7 +114,7 @@ too_large = (
 unfinished : (text : List ℕ) (progress : Progress) → Leads figures_machine text progress
     → figures_machine.end progress ≡ None → Answers WriteAmount text (Err Unfinished)
 unfinished text progress leads none =
-    unfinished-read WriteAmount figures_machine figures-read text progress leads none
+    unfinished-read WriteAmount figures_machine figures_read text progress leads none
 
 nothing : Answers WriteAmount [] (Err Unfinished)
 nothing = unfinished [] (at Beginning (Some 0)) refl refl
@@ -132,7 +132,7 @@ incorrect : (front : List ℕ) (c place : ℕ) (progress : Progress) → place �
     → Leads figures_machine front progress → figures_machine.step progress c ≡ None
     → Answers WriteAmount (front ++ c ∷ []) (Err (Incorrect place))
 incorrect front c place progress is leads none =
-    place-refused WriteAmount figures_machine figures-read (front ++ c ∷ []) front [] place progress c
+    place-refused WriteAmount figures_machine figures_read (front ++ c ∷ []) front [] place progress c
     refl is leads none
 
 comma_first : Answers WriteAmount (codes ",") (Err (Incorrect 0))
@@ -167,7 +167,7 @@ after_fifteen = record {
 pub zeros_follow : IsExpected WriteAmount (codes "15.005") after_fifteen
 unfolding part_of figure_of
 zeros_follow =
-    expected-is WriteAmount figures_machine figures-read (take 26 CHARACTERS) false figures-listed
+    expected-is WriteAmount figures_machine figures_read (take 26 CHARACTERS) false figures_listed
     (codes "15.005") (codes "5") figures_machine.begin (at Fen (Some 1500)) _ refl (record {
       front = codes "15.00";
       is = refl;
@@ -179,7 +179,7 @@ zeros_follow =
 zero_for_o : IsRepair WriteAmount (codes "1O5") (record { char_index = 1; repair = Replace 48 })
 unfolding part_of figure_of
 zero_for_o =
-    repair-is WriteAmount figures_machine figures-read (take 26 CHARACTERS) (codes "1O5")
+    repair-is WriteAmount figures_machine figures_read (take 26 CHARACTERS) (codes "1O5")
     (codes "O5") figures_machine.begin (at One (Some 100)) 1 false true _ refl (record {
       front = codes "1";
       is = refl;
@@ -188,8 +188,8 @@ zero_for_o =
     }) refl (omega arith) refl (λ e. absurd (cc)) (record {
       place = omega arith;
       has_place = omega arith;
-      goes_on = figures-read.begins (codes "10") (at Two (Some 1000)) refl;
+      goes_on = figures_read.begins (codes "10") (at Two (Some 1000)) refl;
       form = λ e. absurd (cc);
       moves = λ going less stops.
-          absurd (stops (figures-read.begins (codes "105") (at Three (Some 10500)) refl));
+          absurd (stops (figures_read.begins (codes "105") (at Three (Some 10500)) refl));
     })

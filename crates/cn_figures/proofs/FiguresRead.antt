@@ -1,10 +1,10 @@
 -- The states read figures, character by character.
 use Rattle.std.proofs.Common.{◌≡◌, ℕ, Bool, true, false, List, [], ◌∷◌, ◌++◌, map, Option, Some, None, codes, refl, sym, ap, ap₂, subst, ◌∙◌, if◌then◌else◌}
 use Rattle.std.proofs.lemmas.List.{map-append}
-use Rattle.cn_capitals.specs.Answers.{Begins}
-use Rattle.cn_capitals.specs.Machine.{run, Leads, Reads, step_as}
-use Rattle.cn_capitals.proofs.Runs.{some-is, run-ran, run-append, run-map, kept}
-use Rattle.cn_core.specs.Figures.{figure_of}
+use Rattle.cn_grammar.specs.Answers.{Begins}
+use Rattle.cn_grammar.specs.Machine.{run, Leads, Reads, step_as}
+use Rattle.cn_grammar.proofs.Runs.{some-is, run-ran, run-append, run-map, kept}
+use Rattle.cn_core.specs.FigureCharacters.{figure_of}
 use Rattle.cn_figures.specs.declared.part.Part.{Part}
 use Rattle.cn_figures.specs.declared.part.Part.TheVariants.{Digit}
 use Rattle.cn_figures.specs.declared.progress.Progress.{Progress}
@@ -157,5 +157,5 @@ begins-read text progress leads =
           (ap (λ (b : Bool). if b then Some more.last.fen else None) more.ends),
     )
 
-pub figures-read : Reads WriteAmount figures_machine
-figures-read = record { each = each-read; only = only-read; begins = begins-read }
+pub figures_read : Reads WriteAmount figures_machine
+figures_read = record { each = each-read; only = only-read; begins = begins-read }

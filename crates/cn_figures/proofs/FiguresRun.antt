@@ -1,7 +1,7 @@
 -- Figures are read to their end, and what has been read can be completed.
 use Rattle.std.proofs.Common.{◌≡◌, ℕ, ◌+◌, ◌*◌, ◌<◌, ◌≤◌, ◌==◌, ◌⊎◌, inl, inr, Bool, true, false, List, [], ◌∷◌, ◌++◌, length, map, drop, Option, Some, None, refl, sym, ap, ◌∙◌, if◌then◌else◌, append_assoc, arith}
-use Rattle.cn_capitals.specs.Machine.{run}
-use Rattle.cn_capitals.proofs.Runs.{run-ran, run-append}
+use Rattle.cn_grammar.specs.Machine.{run}
+use Rattle.cn_grammar.proofs.Runs.{run-ran, run-append}
 use Rattle.cn_core.proofs.Fronts.{and-left, and-right}
 use Rattle.cn_figures.specs.declared.part.Part.{Part}
 use Rattle.cn_figures.specs.declared.part.Part.TheVariants.{Digit, Comma, Point}

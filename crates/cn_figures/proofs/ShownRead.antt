@@ -10,9 +10,9 @@ use Rattle.std.proofs.lemmas.List.{map-append, length-map}
 use Rattle.std.proofs.lemmas.Str.{chars-IsAscii, IsAscii-append}
 use Rattle.std.proofs.lemmas.Str.Parse.{IsNumeralModel, IsDigitsTest, FoldsDigits, numerals_by_fold}
 use Rattle.cn_amount.specs.Places.{amount_limit}
-use Rattle.cn_capitals.proofs.Characters.{AllBelow, all-at}
+use Rattle.cn_grammar.proofs.Characters.{AllBelow, all-at}
 use Rattle.cn_core.proofs.Fronts.{and-left, and-right}
-use Rattle.cn_core.specs.Figures.{figure_of}
+use Rattle.cn_core.specs.FigureCharacters.{figure_of}
 use Rattle.cn_figures.specs.declared.part.Part.{Part}
 use Rattle.cn_figures.specs.declared.part.Part.TheVariants.{Digit, Point}
 use Rattle.cn_core.specs.Digits.{value_after, value_of}

@@ -2,12 +2,12 @@
 use Rattle.std.proofs.Common.{◌≡◌, ℕ, ℤ, ◌<◌, nat_lt, Bool, true, false, ◌==◌, List, [], ◌∷◌, map, Option, Some, None, refl, sym, ap, subst, ◌∙◌, option_map, if◌then◌else◌, arith}
 use Rattle.std.proofs.lemmas.Bool.Decides.{nat_tests}
 use Rattle.cn_amount.specs.Places.{amount_limit}
-use Rattle.cn_capitals.specs.Machine.{Reached, Reads}
-use Rattle.cn_capitals.specs.Sieve.{kept}
-use Rattle.cn_capitals.specs.declared.sign.Front.TheVariants.{Open}
-use Rattle.cn_capitals.proofs.Sieves.{IsSifted, IsKeptForm, sifted-leads, sifted-reads, reads-same}
-use Rattle.cn_capitals.proofs.Signs.{kept-is, below-is, stands-behind}
-use Rattle.cn_core.specs.Figures.{figure_of, is_figure_minus}
+use Rattle.cn_grammar.specs.Machine.{Reached, Reads}
+use Rattle.cn_grammar.specs.Sieve.{kept}
+use Rattle.cn_grammar.specs.declared.sign.Front.TheVariants.{Open}
+use Rattle.cn_grammar.proofs.Sieves.{IsSifted, IsKeptForm, sifted-leads, sifted-reads, reads-same}
+use Rattle.cn_grammar.proofs.Signs.{kept-is, below-is, stands-behind}
+use Rattle.cn_core.specs.FigureCharacters.{figure_of, is_figure_minus}
 use Rattle.cn_core.specs.Whole.{signed_number}
 use Rattle.cn_figures.specs.declared.part.Part.{Part}
 use Rattle.cn_figures.specs.declared.progress.Progress.{Progress}
@@ -16,7 +16,7 @@ use Rattle.cn_figures.specs.Figures.{IsSignedFigures, below, WriteAmount, WriteS
 use Rattle.cn_figures.specs.Parts.{part_of, parts_of}
 use Rattle.cn_figures.specs.Working.Signs.{minus_signs, sign_sieve, both, signed_value, signed_machine}
 use Rattle.cn_figures.specs.Working.Steps.{figures_machine}
-use Rattle.cn_figures.proofs.FiguresRead.{figures-read}
+use Rattle.cn_figures.proofs.FiguresRead.{figures_read}
 
 -- no figures begin with a minus
 no-part : (c : ℕ) → is_figure_minus c ≡ true → part_of c ≡ None
@@ -91,10 +91,10 @@ to-kept (c ∷ text) amount (negative, fen, is, worth) =
           absurd (no-figures c text (below fen) minus (fen, is, refl))
       by false bare false is worth = made false bare (fen, is, refl) worth
 
-pub signed-read : Reads WriteSignedAmount signed_machine
-signed-read = reads-same Kept WriteSignedAmount signed_machine from-kept to-kept
+pub signed_read : Reads WriteSignedAmount signed_machine
+signed_read = reads-same Kept WriteSignedAmount signed_machine from-kept to-kept
     (sifted-reads sign_sieve both signed_value figures_machine signed_machine Open WriteAmount
-    signs-sifted (stands-behind 45 minus_signs WriteAmount refl) figures-read)
+    signs-sifted (stands-behind 45 minus_signs WriteAmount refl) figures_read)
 
 -- the state of the figures can be reached, and their amount is below the limit
 pub under-reached : (state : SignedProgress) → Reached signed_machine state
@@ -117,4 +117,4 @@ amount-low text fen (number, is, worth) = by (nat_lt number amount_limit) refl w
 pub reached-low : (progress : Progress) (fen : ℕ) → Reached figures_machine progress
     → figures_machine.end progress ≡ Some (Some fen) → fen < amount_limit
 reached-low progress fen reached e =
-    amount-low reached.0 fen (figures-read.only reached.0 progress (Some fen) reached.1 e)
+    amount-low reached.0 fen (figures_read.only reached.0 progress (Some fen) reached.1 e)

@@ -3,11 +3,11 @@ use Rattle.std.specs.Prelude.{◌≡◌, ℕ, ℤ, ◌+◌, ◌*◌, ◌/◌, �
 use Rattle.std.specs.List.{list_all}
 use Rattle.cn_amount.specs.Places.{amount_limit}
 use Rattle.cn_core.specs.Digits.{value_of}
-use Rattle.cn_core.specs.Figures.{is_figure_minus}
+use Rattle.cn_core.specs.FigureCharacters.{is_figure_minus}
 use Rattle.cn_core.specs.Whole.{signed_number}
-use Rattle.cn_capitals.specs.declared.refusal.Refusal.{Refusal}
-use Rattle.cn_capitals.specs.declared.refusal.Refusal.TheVariants.{Unfinished as unfinished, Incorrect as incorrect_at}
-use Rattle.cn_capitals.specs.Answers as answers
+use Rattle.cn_grammar.specs.declared.refusal.Refusal.{Refusal}
+use Rattle.cn_grammar.specs.declared.refusal.Refusal.TheVariants.{Unfinished as unfinished, Incorrect as incorrect_at}
+use Rattle.cn_grammar.specs.Answers as answers
 use Rattle.cn_figures.specs.declared.error.FiguresError.{FiguresError}
 use Rattle.cn_figures.specs.declared.error.FiguresError.TheVariants.{Unfinished, Incorrect, TooLarge}
 use Rattle.cn_figures.specs.declared.part.Part.{Part}

@@ -1,6 +1,6 @@
 -- What the characters of figures are read as.
 use Rattle.std.specs.Prelude.{ℕ, List, map, Option, Some, option_map, if◌then◌else◌}
-use Rattle.cn_core.specs.Figures.{figure_of, is_comma, is_currency, is_figure_point}
+use Rattle.cn_core.specs.FigureCharacters.{figure_of, is_comma, is_currency, is_figure_point}
 use Rattle.cn_figures.specs.declared.part.Part.{Part}
 use Rattle.cn_figures.specs.declared.part.Part.TheVariants.{Currency, Digit, Comma, Point}
 

@@ -1,11 +1,11 @@
 // What may come next in figures.
 ghost use Rattle.std.specs.Prelude.{chars};
-ghost use Rattle.cn_capitals.specs.Expected.{IsExpected};
+ghost use Rattle.cn_grammar.specs.Expected.{IsExpected};
 ghost use Rattle.cn_figures.specs.Figures.{WriteAmount, WriteSignedAmount};
 
 use crate::progress::Progress;
 use crate::signed::SignedProgress;
-use cn_capitals::{Expected, expected_next};
+use cn_grammar::{Expected, expected_next};
 
 /// What may come next in the figures of an amount, after the longest start of a text that begins
 /// figures: for an input form that lists the keys, or for a message beside a refused text. No

@@ -1,10 +1,8 @@
 //! What users can count on, each as the contract of a function that does nothing.
-ghost use Rattle.std.specs.Prelude.{◌≡◌, ◌↔◌, ℕ, ℤ, ◌<◌, List, Option, Result, Ok, IsTrue};
+ghost use Rattle.std.specs.Prelude.{◌≡◌, ◌↔◌, ℕ, ◌<◌, Ok, IsTrue};
 ghost use Rattle.cn_amount.specs.Places.{amount_limit};
-ghost use Rattle.cn_capitals.specs.declared.refusal.Refusal.{Refusal};
-ghost use Rattle.cn_capitals.specs.Answers.{Answers};
 ghost use Rattle.cn_figures.specs.declared.error.FiguresError.{FiguresError as ReadingError};
-ghost use Rattle.cn_figures.specs.Figures.{WriteAmount, WriteSignedAmount, ReadsFigures, figures_of};
+ghost use Rattle.cn_figures.specs.Figures.{ReadsFigures, figures_of};
 
 use crate::FiguresError;
 
@@ -15,22 +13,6 @@ use crate::FiguresError;
 pub fn equal_errors_are_the_same_variant()
     ensures { (a b : ReadingError)
         → IsTrue (⟦<FiguresError as PartialEq>⟧.eq a b) ↔ (a ≡ b) }
-{}
-
-/// Figures have one answer and no more.
-pub fn figures_have_one_answer()
-    ensures { (figures : List ℕ) → (answer : Result (Option ℕ) Refusal)
-        × Answers WriteAmount figures answer
-        × ((other : Result (Option ℕ) Refusal) → Answers WriteAmount figures other
-        → other ≡ answer) }
-{}
-
-/// Figures with or without a minus before them have one answer and no more.
-pub fn signed_figures_have_one_answer()
-    ensures { (figures : List ℕ) → (answer : Result (Option ℤ) Refusal)
-        × Answers WriteSignedAmount figures answer
-        × ((other : Result (Option ℤ) Refusal) → Answers WriteSignedAmount figures other
-        → other ≡ answer) }
 {}
 
 /// The figures that are shown of an amount are read as that amount.

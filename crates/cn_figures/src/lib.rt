@@ -20,6 +20,8 @@ mod state;
 
 pub use error::FiguresError;
 pub use expect::{figures_expected, signed_figures_expected};
+pub use progress::FiguresGrammar;
 pub use read::{signed_yuan_to_fen, yuan_to_fen};
 pub use repair::{figures_repair, signed_figures_repair};
 pub use shown::Figures;
+pub use signed::SignedFiguresGrammar;

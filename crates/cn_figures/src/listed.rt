@@ -4,7 +4,7 @@ ghost use Rattle.cn_figures.specs.declared.listed.TheConstants.{CHARACTERS};
 
 use crate::progress::Progress;
 use crate::signed::SignedProgress;
-use cn_capitals::Listed;
+use cn_grammar::Listed;
 
 // The characters of figures, of which the last three are the minus signs before them.
 static CHARACTERS: [char; 29] = [
@@ -24,6 +24,9 @@ impl Listed for Progress {
     fn takes_white_space() -> bool {
         false
     }
+
+    #[tactic(auto, using(crate::proofs::CharactersListed::figures_listed))]
+    fn characters_are_listed() {}
 }
 
 impl Listed for SignedProgress {
@@ -38,4 +41,7 @@ impl Listed for SignedProgress {
     fn takes_white_space() -> bool {
         false
     }
+
+    #[tactic(auto, using(crate::proofs::CharactersListed::signed_listed))]
+    fn characters_are_listed() {}
 }

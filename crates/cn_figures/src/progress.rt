@@ -4,7 +4,7 @@ ghost use Rattle.cn_figures.specs.Working.Steps.{figures_machine};
 
 use crate::part::part_of;
 use crate::state::State;
-use cn_capitals::Grammar;
+use cn_grammar::Grammar;
 
 /// The state of reading figures, and the amount so far in fen; `None` from the limit on.
 #[derive(Clone, Copy)]
@@ -12,6 +12,9 @@ pub struct Progress {
     state: State,
     fen: Option<u64>,
 }
+
+/// The grammar of amounts in figures.
+pub type FiguresGrammar = Progress;
 
 impl Grammar for Progress {
     type Value = Option<u64>;
@@ -43,4 +46,7 @@ impl Grammar for Progress {
             None
         }
     }
+
+    #[tactic(auto, using(crate::proofs::FiguresRead::figures_read))]
+    fn states_read_the_forms() {}
 }

@@ -4,7 +4,7 @@ ghost use Rattle.cn_figures.specs.Figures.{ReadsFigures, ReadsSignedFigures, ans
 use crate::error::FiguresError;
 use crate::progress::Progress;
 use crate::signed::SignedProgress;
-use cn_capitals::{Refusal, read};
+use cn_grammar::{Refusal, read_form};
 
 // The same answer, with the error type of figures.
 fn told<A>(answer: Result<Option<A>, Refusal>) -> Result<A, FiguresError>
@@ -34,7 +34,7 @@ fn told<A>(answer: Result<Option<A>, Refusal>) -> Result<A, FiguresError>
 pub fn yuan_to_fen(figures: &str) -> Result<u64, FiguresError>
     ensures { ReadsFigures figures.now result }
 {
-    told(read::<Progress>(figures))
+    told(read_form::<Progress>(figures))
 }
 
 /// The amount that figures write, in fen, like `yuan_to_fen`; one `-`, `−` or `－` at the start
@@ -50,5 +50,5 @@ pub fn yuan_to_fen(figures: &str) -> Result<u64, FiguresError>
 pub fn signed_yuan_to_fen(figures: &str) -> Result<i64, FiguresError>
     ensures { ReadsSignedFigures figures.now result }
 {
-    told(read::<SignedProgress>(figures))
+    told(read_form::<SignedProgress>(figures))
 }

@@ -6,8 +6,8 @@ ghost use Rattle.cn_figures.specs.Figures.{WriteSignedAmount};
 ghost use Rattle.cn_figures.specs.Working.Signs.{signed_machine};
 
 use crate::progress::Progress;
-use cn_capitals::{Front, Grammar};
 use cn_core::is_figure_minus;
+use cn_grammar::{Front, Grammar};
 
 // The amount with this magnitude, below zero or not.
 fn signed_fen(is_below: bool, magnitude: u64) -> i64
@@ -24,6 +24,9 @@ pub struct SignedProgress {
     front: Front,
     progress: Progress,
 }
+
+/// The grammar of amounts in figures with or without a minus before them.
+pub type SignedFiguresGrammar = SignedProgress;
 
 impl Grammar for SignedProgress {
     type Value = Option<i64>;
@@ -55,4 +58,7 @@ impl Grammar for SignedProgress {
             None => Some(None),
         }
     }
+
+    #[tactic(auto, using(crate::proofs::SignedReads::signed_read))]
+    fn states_read_the_forms() {}
 }

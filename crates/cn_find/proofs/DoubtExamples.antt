@@ -2,7 +2,7 @@
 -- list.
 use Rattle.std.proofs.Common.{◌≡◌, ℕ, Bool, true, false, List, [], codes, refl}
 use Rattle.cn_core.specs.Characters.{digit_of, rank_of}
-use Rattle.cn_core.specs.Figures.{tens_of}
+use Rattle.cn_core.specs.FigureCharacters.{tens_of}
 use Rattle.cn_find.specs.Doubt.{is_doubtful_list, is_part, is_term, is_time}
 use Rattle.cn_find.specs.Expressions.{is_tens}
 use Rattle.cn_find.specs.Ranges.{amount_of, is_of_amount, precedes}

@@ -17,7 +17,7 @@ use Rattle.cn_core.specs.Refusal.{incorrect_at}
 use Rattle.cn_core.specs.Text.{marks_of, text_of}
 use Rattle.cn_core.specs.Whole.{holds, signed_kind, unsigned_kind}
 use Rattle.cn_core.proofs.Judging.{Judges-by_walk}
-use Rattle.cn_core.specs.Figures.{is_figure, tens_of}
+use Rattle.cn_core.specs.FigureCharacters.{is_figure, tens_of}
 use Rattle.cn_find.specs.declared.wanted.Wanted.{Wanted}
 use Rattle.cn_find.specs.Belongs.{begins_measure, belongs, is_upper, is_wanted}
 use Rattle.cn_find.specs.Expressions.{begins_number, begins_word, binds_minus, follows_one, is_extra, is_numeric, is_tens, joins, parts_expressions, precedes_minus, is_han, is_item, is_kilo, is_weight}

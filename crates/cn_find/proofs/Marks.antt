@@ -9,7 +9,7 @@ use Rattle.std.proofs.lemmas.List.{append-nil}
 use Rattle.std.proofs.lemmas.Str.{IsUtf8-drop, encodes-chars, length-encode, len_utf8_bounds}
 use lib.Utf8.{encode}
 use Rattle.cn_core.specs.Characters.{digit_of, rank_of, digit_rows, unit_rows, row_with}
-use Rattle.cn_core.specs.Figures.{is_figure, is_wide_figure}
+use Rattle.cn_core.specs.FigureCharacters.{is_figure, is_wide_figure}
 use Rattle.cn_core.specs.Mark.{digit, other, mark_of, mark_from}
 use Rattle.cn_core.specs.declared.unit.Unit.{Unit as NumeralUnit}
 use Rattle.cn_judge.specs.Marked.{marked}

@@ -2,7 +2,7 @@
 use Rattle.std.specs.Prelude.{◌≡◌, ◌⊎◌, ◌||◌, ℕ, Bool, List, ◌++◌, chars, codes, is_some, IsTrue}
 use Rattle.std.specs.Char.{char_set_contains, encode_utf8}
 use Rattle.cn_core.specs.Characters.{digit_of}
-use Rattle.cn_core.specs.Figures.{is_figure}
+use Rattle.cn_core.specs.FigureCharacters.{is_figure}
 use Rattle.cn_find.specs.Expressions.{binds_minus, is_extra, is_han}
 use Rattle.cn_find.specs.Flags.{is_link, stands_alone}
 use Rattle.cn_find.specs.Spans.{Span}

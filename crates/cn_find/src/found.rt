@@ -10,7 +10,7 @@ use crate::flags::{is_about, is_one_character, is_plain, stands_alone};
 use cn_core::{ChineseCountMethod, Whole};
 use cn_judge::{ChineseToNumberError, read_naive};
 use cn_quantity::{Quantity, chinese_to_quantity};
-use cn_quick::read;
+use cn_quick::read_number;
 
 /// A number or an expression that was found in a text.
 #[derive(Debug, Copy, Clone)]
@@ -82,7 +82,7 @@ impl Found<'_> {
         if is_plain(self.text) {
             read_naive(self.text)
         } else {
-            read(method, self.text)
+            read_number(method, self.text)
         }
     }
 

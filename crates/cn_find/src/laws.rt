@@ -6,7 +6,7 @@ ghost use Rattle.cn_core.specs.declared.method.ChineseCountMethod.{ChineseCountM
 ghost use Rattle.cn_core.specs.declared.sign.Sign.TheVariants.{Plus};
 ghost use Rattle.cn_core.specs.declared.unit.Unit.TheVariants.{Zhao, Ji};
 ghost use Rattle.cn_core.specs.Characters.{sign_of};
-ghost use Rattle.cn_core.specs.Figures.{is_figure};
+ghost use Rattle.cn_core.specs.FigureCharacters.{is_figure};
 ghost use Rattle.cn_core.specs.Mark.{Mark};
 ghost use Rattle.cn_core.specs.Naive.{decimal_value};
 ghost use Rattle.cn_core.specs.Numeral.{IsNumeral};

@@ -11,7 +11,7 @@ ghost use Rattle.cn_judge.specs.Private.Walk.{leading_rank};
 ghost use Rattle.cn_judge.specs.declared.fault.NumeralFault.TheVariants.{Character};
 
 use crate::ChineseToNumberError;
-use crate::judge::read;
+use crate::judge::read_number;
 use crate::mark::{Mark, mark_of};
 use crate::naive::read_naive;
 use crate::text::{byte_index, split_first};
@@ -175,7 +175,7 @@ pub fn naive_reason_of(error: ChineseToNumberError) -> NumeralFault
 pub fn explain_number<T: Whole>(text: &str, method: ChineseCountMethod) -> Option<NumeralFault>
     ensures { IsReason T.kind method text.now result }
 {
-    match read::<T>(method, text) {
+    match read_number::<T>(method, text) {
         Ok(_) => None,
         Err(error) => Some(reason_of(text, error)),
     }

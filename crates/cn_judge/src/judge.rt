@@ -218,7 +218,10 @@ pub fn signed_answer<T: Whole>(
 }
 
 /// Reads a numeral after at most one sign.
-pub fn read<T: Whole>(method: ChineseCountMethod, text: &str) -> Result<T, ChineseToNumberError>
+pub fn read_number<T: Whole>(
+    method: ChineseCountMethod,
+    text: &str,
+) -> Result<T, ChineseToNumberError>
     ensures { Reads T.kind method text.now (answer_of T.number result) }
 {
     let after = split_sign(T::SIGNED, text);

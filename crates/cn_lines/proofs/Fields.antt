@@ -2,8 +2,8 @@
 use Rattle.std.proofs.Math.Nat.{pow-le-pow_right}
 use Rattle.std.proofs.lemmas.List.Sums.{fold_more, fold-append}
 use Rattle.std.proofs.Common.{◌≡◌, ◌<◌, ◌≤◌, ◌+◌, ◌-◌, ◌*◌, ◌^◌, length, take, drop, get_or, take-append-drop, sym, ap, ◌∙◌, arith, lit<, ℕ, List}
-use Rattle.cn_faces.specs.Decimal.{value_after}
-use Rattle.cn_faces.proofs.Decimal.{value_after-grows}
+use Rattle.cn_dynamic.specs.Decimal.{value_after}
+use Rattle.cn_dynamic.proofs.Decimal.{value_after-grows}
 
 -- a number of fewer than 19 decimal digits with one more digit fits
 pub one_more_fits : (value i n digit : ℕ) → value < 10 ^ i → i < n → n ≤ 19 → digit ≤ 9

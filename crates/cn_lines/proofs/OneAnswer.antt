@@ -4,10 +4,10 @@ use Rattle.chinese_number.specs.Refusal.{Refusal}
 use Rattle.chinese_number.specs.Reading.{naive_reading}
 use Rattle.chinese_number.specs.Whole.{Kind}
 use Rattle.chinese_number.proofs.Reading.{the_answer, Reads-same, Reads-the_answer}
-use Rattle.cn_faces.specs.IntegerTypes.{the_kind}
-use Rattle.cn_faces.specs.Ways.{ReadsBy}
-use Rattle.cn_faces.specs.declared.Way.{Way}
-use Rattle.cn_faces.specs.declared.Way.TheVariants.{Digits, Units}
+use Rattle.cn_dynamic.specs.IntegerTypes.{the_kind}
+use Rattle.cn_dynamic.specs.Ways.{ReadsBy}
+use Rattle.cn_dynamic.specs.declared.Way.{Way}
+use Rattle.cn_dynamic.specs.declared.Way.TheVariants.{Digits, Units}
 use Rattle.cn_lines.specs.Question.{Question, read, print, question_of}
 use Rattle.cn_lines.specs.Answer.{reading_text, Answers, AnswersAny, AreReplies}
 

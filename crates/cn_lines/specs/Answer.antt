@@ -5,9 +5,9 @@ use Rattle.chinese_number.specs.declared.ChineseVariant.{ChineseVariant}
 use Rattle.chinese_number.specs.declared.ChineseCase.{ChineseCase}
 use Rattle.chinese_number.specs.Refusal.{Refusal, refusal_text}
 use Rattle.chinese_number.specs.Whole.{Kind, holds}
-use Rattle.cn_faces.specs.IntegerTypes.{the_kind}
-use Rattle.cn_faces.specs.Ways.{ReadsBy, written_by}
-use Rattle.cn_faces.specs.declared.Way.{Way}
+use Rattle.cn_dynamic.specs.IntegerTypes.{the_kind}
+use Rattle.cn_dynamic.specs.Ways.{ReadsBy, written_by}
+use Rattle.cn_dynamic.specs.declared.Way.{Way}
 use Rattle.cn_lines.specs.Question.{Question, read, print, question_of}
 
 -- the answer to a text that is read, as text

@@ -8,11 +8,11 @@ use Rattle.chinese_number.specs.declared.ChineseVariant.TheVariants.{Traditional
 use Rattle.chinese_number.specs.declared.ChineseCase.{ChineseCase}
 use Rattle.chinese_number.specs.declared.ChineseCase.TheVariants.{Upper, Lower}
 use Rattle.chinese_number.specs.Whole.{signed_number}
-use Rattle.cn_faces.specs.Decimal.{value_of}
-use Rattle.cn_faces.specs.Ways.{named, way_named}
-use Rattle.cn_faces.specs.declared.IntegerType.{IntegerType}
-use Rattle.cn_faces.specs.declared.IntegerType.TheVariants.{U8, U16, U32, U64, U128, I8, I16, I32, I64, I128}
-use Rattle.cn_faces.specs.declared.Way.{Way}
+use Rattle.cn_dynamic.specs.Decimal.{value_of}
+use Rattle.cn_dynamic.specs.Ways.{named, way_named}
+use Rattle.cn_dynamic.specs.declared.IntegerType.{IntegerType}
+use Rattle.cn_dynamic.specs.declared.IntegerType.TheVariants.{U8, U16, U32, U64, U128, I8, I16, I32, I64, I128}
+use Rattle.cn_dynamic.specs.declared.Way.{Way}
 
 infixl 10 ◌>>=◌
 abbrev pub ◌>>=◌ : {A B : Type 0} → Option A → (A → Option B) → Option B

@@ -3,12 +3,12 @@ ghost use Rattle.std.specs.Prelude.{◌≡◌, ◌++◌, [], OnOk, codes, string
 ghost use Rattle.chinese_number.specs.Answer.{answer_of};
 ghost use Rattle.cn_lines.specs.Question.{read_question, print_question};
 ghost use Rattle.cn_lines.specs.Answer.{Answers, AnswersAny, AnswersRead, AnswersPrinting, bad_line, reading_text};
-ghost use Rattle.cn_faces.specs.IntegerTypes.{the_kind};
-ghost use Rattle.cn_faces.specs.Ways.{stands_for};
+ghost use Rattle.cn_dynamic.specs.IntegerTypes.{the_kind};
+ghost use Rattle.cn_dynamic.specs.Ways.{stands_for};
 
 use crate::question::{Printing, asked_printing, asked_reading, cut};
 use chinese_number::{ChineseToNumberError, ROOM_BYTES, Whole};
-use cn_faces::{SignedMagnitude, put_by, read_as};
+use cn_dynamic::{SignedMagnitude, put_by, read_as};
 use std::alloc::AllocError;
 
 // Appends the answer to a line that is not a question.

@@ -5,12 +5,12 @@ ghost use Rattle.std.specs.Char.{is_ascii_digit};
 ghost use Rattle.cn_lines.specs.Question.{cut, type_named, script_named, case_named, magnitude_of, decimal_number, read, print, read_question, print_question};
 ghost use Rattle.cn_lines.specs.Answer.{bad_line, AnswersAny};
 ghost use Rattle.cn_lines.specs.Private.{IsBeyondAll};
-ghost use Rattle.cn_faces.specs.Decimal.{value_after, value_of};
-ghost use Rattle.cn_faces.specs.Ways.{stands_for};
+ghost use Rattle.cn_dynamic.specs.Decimal.{value_after, value_of};
+ghost use Rattle.cn_dynamic.specs.Ways.{stands_for};
 
 use crate::lines::first_position;
 use chinese_number::{ChineseCase, ChineseVariant};
-use cn_faces::{IntegerType, SignedMagnitude, Way, utf8_text, way_named};
+use cn_dynamic::{IntegerType, SignedMagnitude, Way, utf8_text, way_named};
 
 /// The first field, which ends before a space, and everything after the space.
 pub(crate) fn cut(bytes: &[u8]) -> Option<(&[u8], &[u8])>

@@ -3,10 +3,10 @@ use Rattle.std.specs.Prelude.{ℕ, List}
 use Rattle.cn_amount.specs.Reading.{IsAmount}
 use Rattle.cn_amount.specs.Signed.{IsSignedAmount}
 use Rattle.cn_amount.specs.Typed.{IsTypedAmount, IsTypedSignedAmount}
-use Rattle.cn_capitals.specs.declared.expecting.Expected.{Expected}
-use Rattle.cn_capitals.specs.declared.hint.Hint.{Hint}
-use Rattle.cn_capitals.specs.Expected.{IsExpected}
-use Rattle.cn_capitals.specs.Repairs.{IsRepair}
+use Rattle.cn_grammar.specs.declared.expecting.Expected.{Expected}
+use Rattle.cn_grammar.specs.declared.hint.Hint.{Hint}
+use Rattle.cn_grammar.specs.Expected.{IsExpected}
+use Rattle.cn_grammar.specs.Repairs.{IsRepair}
 use Rattle.cn_date.specs.Reading.{IsDateText}
 use Rattle.cn_figures.specs.Figures.{WriteSignedAmount}
 use Rattle.cn_message.specs.declared.input.Input.{Input}

@@ -8,9 +8,9 @@ use cn_amount::{
     typed_amount_expected, typed_amount_repair, typed_signed_amount_expected,
     typed_signed_amount_repair,
 };
-use cn_capitals::{Expected, Hint, Repair};
 use cn_date::{date_expected, date_repair};
 use cn_figures::{signed_figures_expected, signed_figures_repair};
+use cn_grammar::{Expected, Hint, Repair};
 
 /// What a text that somebody types is meant to be: each names the reader that reads it.
 #[derive(Debug, Clone, Copy, Eq, PartialEq)]

@@ -3,9 +3,9 @@ use crate::characters::char_at;
 use crate::message::Message;
 use crate::texts::Sentence;
 use crate::{Input, Language};
-use cn_capitals::{Expected, Hint, Repair};
 use cn_core::{digit_of, is_comma, is_figure, is_figure_point, is_share_sign, unit_of};
 use cn_figures::{FiguresError, signed_yuan_to_fen};
+use cn_grammar::{Expected, Hint, Repair};
 use cn_judge::count_chars;
 use cn_replace::Sink;
 

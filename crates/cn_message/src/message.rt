@@ -2,8 +2,8 @@
 use crate::Language;
 use crate::characters::{char_after, char_at, put_char, put_next, put_shown};
 use crate::texts::{Sentence, sentence_text};
-use cn_express::{MOST_FIGURES_BYTES, put_figures};
 use cn_quantity::{Quantity, QuantityForm};
+use cn_quantity_text::{MOST_FIGURES_BYTES, put_figures};
 use cn_replace::Sink;
 
 /// What the sentences of a message name: a place of a text, and what may be there.

@@ -4,7 +4,7 @@ use crate::characters::{char_after, char_at};
 use crate::message::Message;
 use crate::texts::Sentence;
 use cn_core::{ChineseCountMethod, digit_of, unit_of};
-use cn_faces::{IntegerType, Way, explain_as, read_as};
+use cn_dynamic::{IntegerType, Way, explain_as, read_as};
 use cn_judge::{ChineseToNumberError, NumeralFault, byte_index, count_chars};
 use cn_quantity::{MisreadFault, QuantityFault, chinese_to_quantity, explain_quantity};
 use cn_replace::Sink;

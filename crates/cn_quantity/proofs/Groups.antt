@@ -6,7 +6,7 @@ use Rattle.std.proofs.Math.Nat.{pow-le-pow_right}
 use Rattle.std.proofs.lemmas.Bool.{leb-true}
 use Rattle.std.proofs.lemmas.List.{append_cancel_right}
 use Rattle.cn_core.specs.Characters.{rank_of}
-use Rattle.cn_core.specs.Figures.{figure_of}
+use Rattle.cn_core.specs.FigureCharacters.{figure_of}
 use Rattle.cn_core.specs.Text.{text_of}
 use Rattle.cn_quantity.specs.declared.characters.DigitKind.TheVariants.{Figure}
 use Rattle.cn_quantity.specs.Digits.{after_digits, begins_with_nought, leading_digits}

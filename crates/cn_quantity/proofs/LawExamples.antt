@@ -4,7 +4,7 @@ use Rattle.std.specs.Char.{encode_utf8}
 use Rattle.std.specs.Str.{chars}
 use Rattle.cn_core.specs.declared.method.ChineseCountMethod.TheVariants.{TenThousand}
 use Rattle.cn_core.specs.Characters.{digit_of, rank_of, sign_of as numeral_sign}
-use Rattle.cn_core.specs.Figures.{figure_of, tens_of}
+use Rattle.cn_core.specs.FigureCharacters.{figure_of, tens_of}
 use Rattle.cn_core.specs.Refusal.{incorrect_at}
 use Rattle.cn_quantity.specs.Characters.{chinese_digit_of, is_fen, is_point, is_zhi, share_of, sign_of}
 use Rattle.cn_quantity.specs.declared.quantity.Quantity.{Quantity}

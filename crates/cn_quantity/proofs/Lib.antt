@@ -17,7 +17,7 @@ pub mod Points
 pub mod Ratios
 mod ReasonExamples
 pub mod Signed
-pub mod Today
+pub mod NumeralsAreQuantities
 pub mod Told
 pub mod Trims
 pub mod WholeNumbers

@@ -4,7 +4,7 @@ use Rattle.std.specs.Char.{encode_utf8}
 use Rattle.std.specs.Str.{chars}
 use Rattle.cn_core.specs.declared.method.ChineseCountMethod.TheVariants.{TenThousand}
 use Rattle.cn_core.specs.Characters.{digit_of, rank_of, sign_of as numeral_sign}
-use Rattle.cn_core.specs.Figures.{figure_of, tens_of}
+use Rattle.cn_core.specs.FigureCharacters.{figure_of, tens_of}
 use Rattle.cn_judge.specs.declared.fault.NumeralFault.TheVariants.{Empty, TooLarge, TooSmall, Start, Character, Digits, Units, Ge, Groups}
 use Rattle.cn_quantity.specs.declared.fault.QuantityFault.{QuantityFault}
 use Rattle.cn_quantity.specs.declared.fault.QuantityFault.TheVariants.{Numeral, Misread, Denominator}

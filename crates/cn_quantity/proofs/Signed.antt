@@ -9,7 +9,7 @@ use Rattle.cn_core.specs.Refusal.{Refusal, empty, incorrect_at, too_large, too_s
 use Rattle.cn_core.specs.Text.{text_of}
 use Rattle.cn_core.specs.Whole.{signed_kind, signed_number}
 use Rattle.cn_core.proofs.Fronts.{both}
-use Rattle.cn_core.specs.Figures.{figure_of, is_currency}
+use Rattle.cn_core.specs.FigureCharacters.{figure_of, is_currency}
 use Rattle.cn_quantity.specs.Characters.{sign_of}
 use Rattle.cn_judge.specs.Piece.{StandsAt, answer_at}
 use Rattle.cn_judge.proofs.Pieces.{char_index-rest, text_of-rest}

@@ -4,7 +4,7 @@ use Rattle.std.specs.Char.{char_set_contains, is_ascii_digit}
 use Rattle.cn_core.specs.declared.sign.Sign.{Sign}
 use Rattle.cn_core.specs.declared.sign.Sign.TheVariants.{Plus, Minus}
 use Rattle.cn_core.specs.Characters.{digit_of, sign_of as numeral_sign}
-use Rattle.cn_core.specs.Figures.{figure_of, is_figure_minus, is_figure_plus, is_figure_point, is_per_mille, is_percent}
+use Rattle.cn_core.specs.FigureCharacters.{figure_of, is_figure_minus, is_figure_plus, is_figure_point, is_per_mille, is_percent}
 use Rattle.cn_quantity.specs.declared.characters.DigitKind.{DigitKind}
 use Rattle.cn_quantity.specs.declared.characters.DigitKind.TheVariants.{Figure, Chinese}
 

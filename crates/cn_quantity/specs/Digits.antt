@@ -3,7 +3,7 @@ use Rattle.std.specs.Prelude.{ℕ, suc, Bool, false, ◌==◌, List, [], ◌∷�
 use Rattle.std.specs.Option.{option_map_or}
 use Rattle.cn_core.specs.declared.method.ChineseCountMethod.{ChineseCountMethod}
 use Rattle.cn_core.specs.Digits.{value_after}
-use Rattle.cn_core.specs.Figures.{figure_of}
+use Rattle.cn_core.specs.FigureCharacters.{figure_of}
 use Rattle.cn_quantity.specs.declared.characters.DigitKind.{DigitKind}
 use Rattle.cn_quantity.specs.Characters.{digit_by}
 use Rattle.cn_quantity.specs.Units.{times_units}

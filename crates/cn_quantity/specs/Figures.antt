@@ -2,7 +2,7 @@
 -- figures or none, then units or none, as 1,280.5万.
 use Rattle.std.specs.Prelude.{ℕ, Bool, true, false, not, ◌&&◌, ◌||◌, ◌==◌, nat_lt, nat_le, List, [], ◌∷◌, length, if◌then◌else◌}
 use Rattle.std.specs.List.{list_all, slice_split}
-use Rattle.cn_core.specs.Figures.{is_comma}
+use Rattle.cn_core.specs.FigureCharacters.{is_comma}
 use Rattle.cn_quantity.specs.declared.characters.DigitKind.{DigitKind}
 use Rattle.cn_quantity.specs.declared.characters.DigitKind.TheVariants.{Figure}
 use Rattle.cn_quantity.specs.Characters.{is_point}

@@ -1,7 +1,7 @@
 -- The value of a text without sign, percent sign and 分之.
 use Rattle.std.specs.Prelude.{ℕ, ◌+◌, Bool, ◌&&◌, ◌==◌, nat_lt, List, [], ◌∷◌, length, Option, Some, None, Result, Ok, Err, if◌then◌else◌, option_map}
 use Rattle.std.specs.Option.{option_map_or}
-use Rattle.cn_core.specs.Figures.{tens_of}
+use Rattle.cn_core.specs.FigureCharacters.{tens_of}
 use Rattle.cn_core.specs.declared.method.ChineseCountMethod.{ChineseCountMethod}
 use Rattle.cn_core.specs.Refusal.{Refusal, incorrect_at, too_large}
 use Rattle.cn_quantity.specs.declared.characters.DigitKind.TheVariants.{Figure, Chinese}

@@ -6,7 +6,7 @@ use Rattle.cn_core.specs.declared.sign.Sign.{Sign}
 use Rattle.cn_core.specs.declared.sign.Sign.TheVariants.{Minus}
 use Rattle.cn_core.specs.Characters.{digit_of, rank_of}
 use Rattle.cn_core.specs.CharIndex.{char_index_of}
-use Rattle.cn_core.specs.Figures.{figure_of, is_currency}
+use Rattle.cn_core.specs.FigureCharacters.{figure_of, is_currency}
 use Rattle.cn_core.specs.Reading.{sign_len, is_minus, too_far, typed_number}
 use Rattle.cn_core.specs.Refusal.{Refusal, incorrect_at, too_large}
 use Rattle.cn_core.specs.Text.{text_of}

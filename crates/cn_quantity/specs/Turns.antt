@@ -4,7 +4,7 @@ use Rattle.std.specs.Char.{char_set_contains}
 use Rattle.std.specs.Option.{option_map_or}
 use Rattle.cn_core.specs.declared.method.ChineseCountMethod.{ChineseCountMethod}
 use Rattle.cn_core.specs.Characters.{rank_of}
-use Rattle.cn_core.specs.Figures.{figure_of}
+use Rattle.cn_core.specs.FigureCharacters.{figure_of}
 use Rattle.cn_quantity.specs.declared.characters.DigitKind.TheVariants.{Figure}
 use Rattle.cn_quantity.specs.declared.turns.Turns.{Turns}
 use Rattle.cn_quantity.specs.Digits.{after_digits, begins_with_nought, leading_digits}

@@ -1,6 +1,6 @@
 //! Reads a text as an exact quantity: a whole number, a decimal, a percentage or a fraction, in
 //! figures, in numerals or in both, exactly as the definitions in `specs/` say. Nothing here
-//! allocates. `cn_express` also calls the functions for the number of decimals and for rising
+//! allocates. `cn_quantity_text` also calls the functions for the number of decimals and for rising
 //! units.
 #![tactic(auto)]
 

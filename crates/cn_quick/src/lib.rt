@@ -2,9 +2,9 @@
 //!
 //! `read_quickly` passes from right to left over characters of three bytes, and sums the digits of
 //! a section in 64 bits. If it cannot read a text, `cn_judge` judges the text from its beginning.
-//! This crate only makes reading faster: `read` has the contract of `cn_judge::read`, so `cn_read`
-//! and `cn_find` can call either, and `cn_faces` can call `judge_quickly` or
-//! `cn_judge::judge_text`. `read_quickly` is public so that `cn_vectors` can check it against
+//! This crate only makes reading faster: `read_number` has the contract of `cn_judge::read_number`, so `cn_calls`
+//! and `cn_find` can call either, and `cn_dynamic` can call `judge_quickly` or
+//! `cn_judge::judge_text`. `read_quickly` is public so that `call_tests` can check it against
 //! printed numerals.
 #![tactic(auto)]
 
@@ -13,4 +13,4 @@ mod quick;
 mod state;
 mod steps;
 
-pub use quick::{judge_quickly, read, read_quickly};
+pub use quick::{judge_quickly, read_number, read_quickly};

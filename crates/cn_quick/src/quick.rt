@@ -80,7 +80,10 @@ pub fn judge_quickly(
 }
 
 /// Reads a numeral after at most one sign.
-pub fn read<T: Whole>(method: ChineseCountMethod, text: &str) -> Result<T, ChineseToNumberError>
+pub fn read_number<T: Whole>(
+    method: ChineseCountMethod,
+    text: &str,
+) -> Result<T, ChineseToNumberError>
     ensures { Reads T.kind method text.now (answer_of T.number result) }
 {
     let after = split_sign(T::SIGNED, text);

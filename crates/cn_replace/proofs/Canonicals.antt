@@ -1,7 +1,7 @@
 -- One more character of a text of figures alone.
 use Rattle.std.proofs.Common.{◌≡◌, ℕ, Bool, not, ◌&&◌, ◌||◌, List, ◌∷◌, ◌++◌, sym, ap, ◌∙◌}
 use Rattle.cn_replace.specs.Canonical.{ascii_unless, canonical_from, is_leading_zero}
-use Rattle.cn_core.specs.Figures.{is_figure}
+use Rattle.cn_core.specs.FigureCharacters.{is_figure}
 
 pub canonical_more : (has_figure leads result : Bool) (text others piece : List ℕ) (c : ℕ)
     → text ≡ c ∷ others → leads ≡ is_leading_zero has_figure c others

@@ -2,7 +2,7 @@
 use Rattle.std.proofs.Common.{◌≡◌, ℕ, true, false, List, [], ◌∷◌, ◌++◌, chars, encode_utf8_all, reverse, codes, Option, Some, refl, sym, ap, ◌∙◌}
 use Rattle.std.proofs.lemmas.List.{reverse-reverse}
 use Rattle.cn_core.specs.declared.method.ChineseCountMethod.{ChineseCountMethod}
-use Rattle.cn_core.specs.Figures.{is_share_sign}
+use Rattle.cn_core.specs.FigureCharacters.{is_share_sign}
 use Rattle.cn_find.specs.Spans.{in_front}
 use Rattle.cn_replace.specs.Kept.{denominator_text, is_below_zero, is_minus, is_small, kept_text, percent_text, signed_text, unsigned_text}
 use Rattle.cn_replace.specs.KeptNumbers.{and_text, number_text, quantity_of}

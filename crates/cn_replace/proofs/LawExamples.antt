@@ -6,7 +6,7 @@ use Rattle.std.specs.Str.{chars, IsUtf8}
 use Rattle.cn_core.specs.declared.unit.Unit.TheVariants.{Zhao}
 use Rattle.cn_find.specs.declared.wanted.Wanted.{Wanted}
 use Rattle.cn_core.specs.Characters.{digit_of, rank_of}
-use Rattle.cn_core.specs.Figures.{tens_of}
+use Rattle.cn_core.specs.FigureCharacters.{tens_of}
 use Rattle.cn_find.specs.Belongs.{begins_measure, belongs, is_upper, is_wanted}
 use Rattle.cn_find.specs.Expressions.{binds_minus, is_extra, is_han, is_item, is_kilo, is_numeric, is_tens, is_weight, joins}
 use Rattle.cn_find.specs.Parting.{is_named}

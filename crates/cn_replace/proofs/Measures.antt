@@ -3,7 +3,7 @@ use Rattle.std.proofs.Common.{◌≡◌, ℕ, Bool, not, ◌&&◌, List, chars, 
 use Rattle.std.specs.Char.{is_ascii_alphabetic}
 use Rattle.std.proofs.lemmas.Str.{encodes-chars}
 use Rattle.cn_replace.specs.Clings.{begins_measure, is_word_of, measures}
-use Rattle.cn_core.specs.Figures.{is_figure}
+use Rattle.cn_core.specs.FigureCharacters.{is_figure}
 use Rattle.cn_replace.specs.Pieces.{after_leading, begins, leading}
 
 pub measure_is : (text letters after : List ℕ) (is_word : Bool) → IsUtf8 letters

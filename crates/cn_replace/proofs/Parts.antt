@@ -7,7 +7,7 @@ use Rattle.std.proofs.lemmas.Str.{chars-append, chars-encodes, chars_past_char, 
 use Rattle.std.proofs.Math.Seq.{drop-append-add, drop-append_seam}
 use Rattle.std.proofs.Math.Utf8.{scalar, scalars}
 use Rattle.cn_core.specs.declared.method.ChineseCountMethod.{ChineseCountMethod}
-use Rattle.cn_core.specs.Figures.{is_figure}
+use Rattle.cn_core.specs.FigureCharacters.{is_figure}
 use Rattle.cn_core.proofs.Fronts.{and-left, both}
 use Rattle.cn_find.specs.declared.wanted.Wanted.{Wanted}
 use Rattle.cn_find.specs.Belongs.{is_wanted}

@@ -3,7 +3,7 @@ use Rattle.std.proofs.Common.{◌≡◌, ℕ, Bool, true, false, List, [], ◌++
 use Rattle.std.specs.Result.{IfOk}
 use Rattle.cn_core.specs.declared.method.ChineseCountMethod.{ChineseCountMethod}
 use Rattle.cn_core.specs.Refusal.{Refusal}
-use Rattle.cn_express.specs.Figures.{figures_text}
+use Rattle.cn_quantity_text.specs.Figures.{figures_text}
 use Rattle.cn_quantity.specs.declared.quantity.Quantity.{Quantity}
 use Rattle.cn_replace.specs.KeptNumbers.{and_text, figures_of_answer, quantity_figures, quantity_of}
 use Rattle.cn_replace.specs.Private.{PutsText}

@@ -4,7 +4,7 @@ use Rattle.std.specs.Char.{char_set_contains}
 use Rattle.std.specs.List.{list_all}
 use Rattle.std.specs.Option.{option_map_or}
 use Rattle.cn_core.specs.Characters.{row_with}
-use Rattle.cn_core.specs.Figures.{is_comma, is_figure, is_figure_minus, is_figure_point}
+use Rattle.cn_core.specs.FigureCharacters.{is_comma, is_figure, is_figure_minus, is_figure_point}
 use Rattle.cn_replace.specs.Pieces.{begins}
 
 -- the character is a figure, a point, a comma or a sign

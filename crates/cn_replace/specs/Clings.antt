@@ -2,7 +2,7 @@
 -- it.
 use Rattle.std.specs.Prelude.{ℕ, Bool, false, not, ◌&&◌, ◌||◌, List, [], ◌∷◌, reverse, codes, bytes_eq, encode_utf8_all}
 use Rattle.std.specs.Char.{char_set_contains, is_ascii_alphabetic}
-use Rattle.cn_core.specs.Figures.{is_figure}
+use Rattle.cn_core.specs.FigureCharacters.{is_figure}
 use Rattle.cn_replace.specs.Pieces.{after_leading, begins, is_letter_or_figure, leading}
 
 -- an expression clings to this character beside it

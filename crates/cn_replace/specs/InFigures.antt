@@ -20,7 +20,7 @@ use Rattle.cn_replace.specs.Chains.{in_chains}
 use Rattle.cn_replace.specs.Clings.{clings}
 use Rattle.cn_replace.specs.Kept.{kept_text}
 use Rattle.cn_replace.specs.KeptNumbers.{quantity_figures}
-use Rattle.cn_core.specs.Figures.{is_figure}
+use Rattle.cn_core.specs.FigureCharacters.{is_figure}
 use Rattle.cn_replace.specs.Pieces.{is_unit_from, is_zero}
 
 -- whether a doubt is included; that of a part never is

@@ -3,9 +3,9 @@ use Rattle.std.specs.Prelude.{ℕ, Bool, false, ◌&&◌, List, [], ◌∷◌, r
 use Rattle.std.specs.Char.{char_set_contains, encode_utf8}
 use Rattle.std.specs.List.{list_all}
 use Rattle.cn_core.specs.declared.method.ChineseCountMethod.{ChineseCountMethod}
-use Rattle.cn_core.specs.Figures.{is_share_sign}
+use Rattle.cn_core.specs.FigureCharacters.{is_share_sign}
 use Rattle.cn_core.specs.Refusal.{Refusal}
-use Rattle.cn_express.specs.Figures.{figures_text}
+use Rattle.cn_quantity_text.specs.Figures.{figures_text}
 use Rattle.cn_quantity.specs.declared.quantity.Quantity.{Quantity}
 use Rattle.cn_quantity.specs.declared.quantity.QuantityForm.{QuantityForm}
 use Rattle.cn_quantity.specs.declared.quantity.QuantityForm.TheVariants.{Whole, Percent}

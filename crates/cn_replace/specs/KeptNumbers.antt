@@ -6,12 +6,12 @@ use Rattle.std.specs.Option.{option_map_or}
 use Rattle.cn_core.specs.declared.method.ChineseCountMethod.{ChineseCountMethod}
 use Rattle.cn_core.specs.Characters.{digit_of, rank_of}
 use Rattle.cn_core.specs.Refusal.{Refusal}
-use Rattle.cn_express.specs.Figures.{figures_text}
+use Rattle.cn_quantity_text.specs.Figures.{figures_text}
 use Rattle.cn_find.specs.Belongs.{is_chinese_digit}
 use Rattle.cn_quantity.specs.declared.quantity.Quantity.{Quantity}
 use Rattle.cn_quantity.specs.Reading.{quantity_answer}
 use Rattle.cn_quantity.specs.Units.{are_below}
-use Rattle.cn_core.specs.Figures.{is_figure}
+use Rattle.cn_core.specs.FigureCharacters.{is_figure}
 use Rattle.cn_replace.specs.Pieces.{after_leading, begins, is_point, is_unit_from, is_zero, leading}
 
 -- one text and then another, if both exist

@@ -4,7 +4,7 @@ use Rattle.std.specs.Prelude.{ℕ, Bool, false, ◌||◌, nat_le, List, [], ◌�
 use Rattle.std.specs.Char.{char_set_contains, is_ascii_alphabetic}
 use Rattle.std.specs.Option.{option_map_or}
 use Rattle.cn_core.specs.Characters.{rank_of}
-use Rattle.cn_core.specs.Figures.{is_figure}
+use Rattle.cn_core.specs.FigureCharacters.{is_figure}
 
 -- the character is a Chinese point
 unfoldable pub is_point : ℕ → Bool

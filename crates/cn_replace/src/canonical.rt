@@ -1,6 +1,6 @@
 // Texts of figures alone, written in ASCII, without commas and without leading zeros.
 ghost use Rattle.std.specs.Prelude.{◌≡◌, ◌&&◌, ◌||◌, not, chars, OnOk};
-ghost use Rattle.cn_core.specs.Figures.{is_figure};
+ghost use Rattle.cn_core.specs.FigureCharacters.{is_figure};
 ghost use Rattle.cn_replace.specs.Canonical.{are_figures, ascii_of, ascii_unless, canonical_text, is_leading_zero, is_zero_figure};
 
 use crate::Sink;

@@ -2,6 +2,7 @@
 //! 三点五万. All else is left unchanged.
 #![tactic(auto)]
 
+mod buffer;
 mod canonical;
 mod chains;
 mod clings;
@@ -16,7 +17,6 @@ mod pieces;
 mod quantities;
 mod replace;
 mod replacement;
-mod room;
 mod sink;
 
 pub use in_figures::InFigures;
@@ -24,5 +24,4 @@ pub use options::{Figures, Included, Style};
 pub use quantities::{put_quantities_in_figures, quantities_to_figures};
 pub use replace::replace_quantities;
 pub use replacement::Replacement;
-pub use room::LentRoom;
 pub use sink::Sink;

@@ -1,6 +1,6 @@
 // The new text of a number without its sign, in the kept style.
 ghost use Rattle.std.specs.Prelude.{◌≡◌, ◌&&◌, ◌||◌, ◌∷◌, [], ◌++◌, ℕ, not, true, false, chars, drop, encode_utf8_all, take, codes, OnOk, IfOk, Some, MatchOption, if◌then◌else◌};
-ghost use Rattle.cn_express.specs.Figures.{figures_text};
+ghost use Rattle.cn_quantity_text.specs.Figures.{figures_text};
 ghost use Rattle.cn_find.specs.Spans.{in_front};
 ghost use Rattle.cn_judge.specs.Answer.{answer_of};
 ghost use Rattle.cn_replace.specs.KeptNumbers.{and_text, before_end, before_point, digits_text, decimal_text, end_of, is_above, figure_or_same, from_point, is_end, is_ge, is_kept_decimal, is_tenth, may_have_tenths, number_text, quantity_figures, quantity_of, section_text, sections_text, tenth_text};
@@ -13,9 +13,9 @@ use crate::pieces::{
     split_last, split_leading, split_nearest,
 };
 use cn_core::{ChineseCountMethod, Unit, digit_of, split_first_char, unit_of};
-use cn_express::{MOST_FIGURES_BYTES, put_figures};
 use cn_judge::ChineseToNumberError;
 use cn_quantity::{Quantity, chinese_to_quantity};
+use cn_quantity_text::{MOST_FIGURES_BYTES, put_figures};
 
 /// Writes the characters of a text.
 pub fn put_same<S: Sink>(sink: &mut S, text: &str) -> Result<(), S::Error>

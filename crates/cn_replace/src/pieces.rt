@@ -6,7 +6,7 @@ ghost use Rattle.std.specs.Option.{option_map_or};
 ghost use Rattle.cn_core.specs.Characters.{digit_of, rank, rank_of};
 ghost use Rattle.cn_find.specs.Belongs.{is_chinese_digit};
 ghost use Rattle.cn_find.specs.Spans.{in_front};
-ghost use Rattle.cn_core.specs.Figures.{is_figure};
+ghost use Rattle.cn_core.specs.FigureCharacters.{is_figure};
 ghost use Rattle.cn_replace.specs.Pieces.{after_leading, begins, is_letter_or_figure, is_point, is_unit_from, is_zero, leading};
 ghost use Rattle.cn_replace.specs.Private.{IsEnd};
 

@@ -1,11 +1,11 @@
 // The expressions of a text in figures.
 ghost use Rattle.std.specs.Prelude.{◌≡◌, ◌++◌, ◌-◌, ◌^◌, ◌≤◌, min, drop, length, string_bytes, IfOk};
+ghost use Rattle.cn_core.specs.Buffers.{PutsPrefix};
 ghost use Rattle.cn_replace.specs.InFigures.{in_figures};
 
 use crate::chains::put_in_chains;
-use crate::room::LentRoom;
 use crate::{Figures, InFigures};
-use cn_core::ChineseCountMethod;
+use cn_core::{Buffer, ChineseCountMethod};
 use cn_find::Wanted;
 use std::alloc::{AllocError, Global};
 
@@ -33,7 +33,8 @@ pub fn quantities_to_figures(
 }
 
 /// Writes the same text at the start of a buffer, if it fits, and returns the number of its bytes,
-/// at most the greatest `usize`. If it does not fit, the contents of the buffer are not specified.
+/// at most the greatest `usize`. If it does not fit, a prefix of it is written. All other bytes of the
+/// buffer stay as they are.
 ///
 /// ```text
 /// let mut room = [0; 8];
@@ -51,10 +52,11 @@ pub fn put_quantities_in_figures(
         result ≡ min (length new) (2 ^ 64 - 1) }
     ensures put { let new = in_figures method figures wanted text.now in
         length new ≤ length room.old → room.new ≡ new ++ drop (length new) room.old }
+    ensures prefix { PutsPrefix (in_figures method figures wanted text.now) room.old room.new }
 {
-    let mut lent = LentRoom { room, count: 0 };
-    match put_in_chains(&mut lent, text, wanted, InFigures { method, figures }) {
-        Ok(()) => lent.count,
+    let mut buffer = Buffer::new(room);
+    match put_in_chains(&mut buffer, text, wanted, InFigures { method, figures }) {
+        Ok(()) => buffer.count,
         Err(never) => match never {},
     }
 }

@@ -3,7 +3,7 @@ ghost use Rattle.std.specs.Prelude.{◌++◌, [], List, ℕ, OnOk};
 
 use std::alloc::AllocError;
 
-/// Where a text is written, piece by piece: a string that grows, or a buffer (`Room`).
+/// Where a text is written, piece by piece: a string that grows, or a `Buffer`.
 pub trait Sink {
     /// Why a piece cannot be written.
     type Error: Drop;

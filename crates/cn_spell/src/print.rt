@@ -10,7 +10,7 @@ use crate::NumberToChineseError;
 use crate::characters::Characters;
 use crate::sections::MOST;
 use crate::spelled::{ByHigh, ByLow, ByMiddle, ByTenThousand, KnownMethod, Spelled};
-use crate::text::{LentRoom, NewString, ROOM_BYTES, Target};
+use crate::text::{NewString, ROOM_BYTES, Target};
 use cn_core::{ChineseCase, ChineseCountMethod, ChineseVariant, Whole};
 use std::alloc::{AllocError, Global};
 use std::str;
@@ -149,8 +149,7 @@ fn put_at_end<T: Whole>(
     ensures { Shows result room.new
         (spelled_text characters.variant characters.case method (T.number value)) }
 {
-    let mut lent = LentRoom { bytes: room };
-    spell_number(&mut lent, characters, method, value)
+    spell_number(room, characters, method, value)
 }
 
 /// Writes a number with the units of a method at the end of a buffer, and returns its text.

@@ -76,21 +76,15 @@ impl Target for NewString {
     }
 }
 
-/// A buffer that is lent and is large enough for any text. The text is written at its end, and the
-/// answer is where it begins.
-#[derive(Drop)]
-pub struct LentRoom<'a> {
-    pub bytes: &'a mut [u8; ROOM_BYTES],
-}
-
-impl Target for LentRoom<'_> {
+/// An array that is large enough for any text. The text is written at its end, and the answer is
+/// where it begins.
+impl Target for [u8; ROOM_BYTES] {
     type Answer = usize;
 
-    ghost took = { λ characters most old new start.
-        (new.bytes.ghost_name ≡ old.bytes.ghost_name) × Shows start new.bytes.now characters };
+    ghost took = { λ characters most old new start. Shows start new characters };
 
     #[inline(always)]
     fn take<X: Text>(&mut self, text: &X) -> usize {
-        text.fill::<OneSpare>(self.bytes)
+        text.fill::<OneSpare>(self)
     }
 }

@@ -13,6 +13,8 @@ fn main(rt: HostRuntime) -> io::Result<()> {
     }
 }
 
+#[cfg(test)]
+mod allocating_calls;
 mod amount;
 mod chapter;
 mod number;

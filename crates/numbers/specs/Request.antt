@@ -5,9 +5,9 @@ use Rattle.std.specs.Option.{unwrap_or}
 use Rattle.chinese_number.specs.declared.ChineseCountMethod.{ChineseCountMethod}
 use Rattle.chinese_number.specs.declared.ChineseCountMethod.TheVariants.{TenThousand}
 use Rattle.cn_find.specs.declared.wanted.TheConstants.Wanted.{ALL, EVERYDAY}
-use Rattle.cn_faces.specs.declared.way.Way.{Way}
-use Rattle.cn_faces.specs.declared.way.Way.TheVariants.{Units}
-use Rattle.cn_faces.specs.Ways.{way_named}
+use Rattle.cn_dynamic.specs.declared.way.Way.{Way}
+use Rattle.cn_dynamic.specs.declared.way.Way.TheVariants.{Units}
+use Rattle.cn_dynamic.specs.Ways.{way_named}
 use Rattle.numbers.specs.declared.options.Request.{Request}
 use Rattle.numbers.specs.declared.options.Request.TheVariants as asks
 use Rattle.numbers.specs.declared.options.Search.{Search}

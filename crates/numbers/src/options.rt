@@ -2,7 +2,7 @@ ghost use Rattle.std.specs.Prelude.{◌≡◌, map, string_bytes};
 ghost use Rattle.numbers.specs.Request.{asked, method_named};
 
 use chinese_number::{ChineseCountMethod, Wanted};
-use cn_faces::{Way, way_named};
+use cn_dynamic::{Way, way_named};
 
 /// What a search looks for, and how it is read.
 #[derive(Debug, Copy, Clone)]

@@ -1,3 +1,4 @@
+pub mod Buffered
 pub mod Cut
 pub mod Replying
 pub mod State

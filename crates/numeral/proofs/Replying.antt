@@ -1,7 +1,7 @@
 -- The bytes that are written when lines are answered one after the other.
 use Rattle.std.proofs.Common.{◌++◌, ℕ, List, [], ◌∷◌, refl, sym, ap, ◌∙◌, subst, append_assoc}
 use Rattle.std.proofs.KnownBytes.{Appends-trans, Appends-nil}
-use Rattle.cn_devices.specs.Devices.{SinkState}
+use Rattle.numeral.specs.Devices.{SinkState}
 use Rattle.cn_lines.specs.Answer.{AreReplies}
 use Rattle.cn_lines.proofs.OneAnswer.{some_replies}
 use Rattle.numeral.specs.Leaves.{Wrote, WroteBeginning}

@@ -6,9 +6,9 @@ use Rattle.std.proofs.Math.Seq.{take-append-add}
 use Rattle.std.specs.Prelude.{OnErr, OnOk, IfSome}
 use Rattle.cn_lines.specs.Lines.{HasNoFeed, ended, unended, lines, last_line}
 use Rattle.cn_lines.specs.Answer.{Answers, AreReplies}
-use Rattle.cn_devices.specs.Devices.{SourceState, SinkState}
-use Rattle.cn_devices.specs.declared.fault.RunError.{RunError}
-use Rattle.cn_devices.specs.declared.fault.RunError.TheVariants.{Read, Write, Memory}
+use Rattle.numeral.specs.Devices.{SourceState, SinkState}
+use Rattle.numeral.specs.declared.fault.RunError.{RunError}
+use Rattle.numeral.specs.declared.fault.RunError.TheVariants.{Read, Write, Memory}
 use Rattle.numeral.specs.Leaves.{Wrote, WroteBeginning, WroteFirst, Leaves, Runs}
 use Rattle.numeral.specs.Steps.{Puts, Replies, AnswersEnded}
 use Rattle.numeral.proofs.Cut.{ended-line, unended-line, ended-none, unended-none, ended-append, unended-append, lines-append, lines-some, HasNoFeed-unended, HasNoFeed-append}

@@ -2,9 +2,9 @@
 -- `new` is the state after it.
 use Rattle.std.specs.Prelude.{◌≡◌, ◌<◌, ◌++◌, ◌||◌, ℕ, Bool, true, false, List, length, take, ◌⊎◌, Result, Ok, Err}
 use Rattle.std.specs.Io.KnownBytes.{Appends, Consumes, IsAtEnd}
-use Rattle.cn_devices.specs.declared.fault.RunError.{RunError}
-use Rattle.cn_devices.specs.declared.fault.RunError.TheVariants.{Read, Write, Memory}
-use Rattle.cn_devices.specs.Devices.{SourceState, SinkState, next_count}
+use Rattle.numeral.specs.declared.fault.RunError.{RunError}
+use Rattle.numeral.specs.declared.fault.RunError.TheVariants.{Read, Write, Memory}
+use Rattle.numeral.specs.Devices.{SourceState, SinkState, next_count}
 use Rattle.cn_lines.specs.Lines.{ended, lines}
 use Rattle.cn_lines.specs.Answer.{AreReplies}
 

@@ -1,3 +1,4 @@
+pub mod Devices
 pub mod Leaves
 pub mod Status
 pub mod Steps

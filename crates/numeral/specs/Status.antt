@@ -1,7 +1,7 @@
 -- The status with which the program ends.
 use Rattle.std.specs.Prelude.{ℕ, Bool, true, false, Result, Ok, Err}
-use Rattle.cn_devices.specs.declared.fault.RunError.{RunError}
-use Rattle.cn_devices.specs.declared.fault.RunError.TheVariants.{Read, Write, Memory}
+use Rattle.numeral.specs.declared.fault.RunError.{RunError}
+use Rattle.numeral.specs.declared.fault.RunError.TheVariants.{Read, Write, Memory}
 
 -- 2 if memory could not be allocated, 1 if a read, a write or the last flush failed, else 0
 abbrev pub status_of : {T : Type 0} → Result T RunError → Bool → ℕ

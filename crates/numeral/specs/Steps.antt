@@ -1,9 +1,9 @@
 -- The effects of the steps of a run. No contract of a public call cites them.
 use Rattle.std.specs.Prelude.{◌≡◌, ◌++◌, ℕ, true, false, List, Result, Ok, Err}
 use Rattle.std.specs.Io.KnownBytes.{Appends, Keeps}
-use Rattle.cn_devices.specs.declared.fault.RunError.{RunError}
-use Rattle.cn_devices.specs.declared.fault.RunError.TheVariants.{Read, Write, Memory}
-use Rattle.cn_devices.specs.Devices.{SourceState, SinkState}
+use Rattle.numeral.specs.declared.fault.RunError.{RunError}
+use Rattle.numeral.specs.declared.fault.RunError.TheVariants.{Read, Write, Memory}
+use Rattle.numeral.specs.Devices.{SourceState, SinkState}
 use Rattle.cn_lines.specs.Lines.{ended, unended}
 use Rattle.numeral.specs.Leaves.{Wrote, WroteBeginning, WroteFirst}
 

@@ -4,10 +4,10 @@ ghost use Rattle.std.specs.Io.KnownBytes.{Keeps, ReadConsumes};
 ghost use Rattle.cn_lines.specs.Lines.{HasNoFeed, last_line, lines};
 ghost use Rattle.cn_lines.specs.Answer.{Answers};
 ghost use Rattle.numeral.specs.Leaves.{Wrote, Runs, Stops};
-ghost use Rattle.cn_devices.specs.Devices.{CountsRead, IsHandedOn};
+ghost use Rattle.numeral.specs.Devices.{CountsRead, IsHandedOn};
 ghost use Rattle.numeral.specs.Steps.{Fails, Puts, Replies, AnswersEnded};
 
-use crate::device::{Sink, Source};
+use crate::devices::{Sink, Source};
 use crate::fault::RunError;
 use cn_lines::answer::answer;
 use cn_lines::lines::split_line;

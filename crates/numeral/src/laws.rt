@@ -1,10 +1,11 @@
 //! The laws that users of the program can rely on, each stated as the contract of a function that
 //! does nothing.
 ghost use Rattle.std.specs.Prelude.{◌≡◌, ◌↔◌, IsTrue};
-ghost use Rattle.cn_devices.specs.declared.fault.DeviceFault.{DeviceFault as Fault};
-ghost use Rattle.cn_devices.specs.declared.fault.RunError.{RunError as Error};
+ghost use Rattle.numeral.specs.declared.devices.DeviceFault.{DeviceFault as Fault};
+ghost use Rattle.numeral.specs.declared.fault.RunError.{RunError as Error};
 
-use crate::fault::{DeviceFault, RunError};
+use crate::devices::DeviceFault;
+use crate::fault::RunError;
 pub use cn_lines::laws::{each_input_has_one_output, each_line_has_one_answer};
 
 /// Two errors of a run are equal exactly if they are the same variant, and all faults of a device

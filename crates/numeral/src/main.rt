@@ -17,17 +17,17 @@
 //! failed, and 2 if memory could not be allocated.
 #![tactic(auto)]
 
+mod devices;
 pub mod engine;
+mod fault;
 pub mod laws;
 mod program;
 #[cfg(test)]
 mod tests;
 
+use crate::devices::{BufferedSink, Device};
 use crate::fault::RunError;
 use crate::program::{answer_all, status};
-use crate::std_device::Device;
-use cn_devices::buffered_sink::BufferedSink;
-pub use cn_devices::{device, fault, memory_sink, memory_source, std_device};
 use std::process::ExitCode;
 
 fn main(rt: HostRuntime) -> ExitCode {

@@ -1,12 +1,12 @@
 // Connects the engine to the program's input and output.
 ghost use Rattle.std.specs.Prelude.{◌≡◌, ◌≤◌, ℕ, List, true, false, IfSome};
 ghost use Rattle.std.specs.Io.KnownBytes.{Consumes};
-ghost use Rattle.cn_devices.specs.Devices.{IsHandedOn};
+ghost use Rattle.numeral.specs.Devices.{IsHandedOn};
 ghost use Rattle.numeral.specs.Leaves.{Wrote, WroteBeginning, WroteFirst, EndedOnce, EndedAtMostOnce, any_failed};
 ghost use Rattle.numeral.specs.Status.{status_of};
 ghost use Rattle.cn_lines.specs.Lines.{lines};
 
-use crate::device::{Sink, Source};
+use crate::devices::{Sink, Source};
 use crate::engine::run;
 use crate::fault::RunError;
 use std::alloc::Global;

@@ -7,10 +7,9 @@ mod lengths;
 mod rows;
 mod unit_rows;
 
+use crate::devices::{MemorySink, MemorySource};
 use crate::engine::run;
 use crate::fault::RunError;
-use crate::memory_sink::MemorySink;
-use crate::memory_source::MemorySource;
 use Answer::{BadLine, Done, Refused};
 use chinese_number::ChineseToNumberError;
 use chinese_number::ChineseToNumberError::{

@@ -1,7 +1,7 @@
 -- Reading the figures of a date from left to right: the state after each character.
 use Rattle.std.specs.Prelude.{ℕ, ◌+◌, ◌*◌, ◌<◌, ◌==◌, nat_lt, Option, Some, None, option_map, if◌then◌else◌}
 use Rattle.chinese_number.specs.declared.BillDate.{BillDate}
-use Rattle.cn_capitals.specs.Machine.{Machine}
+use Rattle.cn_grammar.specs.Machine.{Machine}
 use Rattle.cheque.specs.declared.dates.Number.{Number}
 use Rattle.cheque.specs.declared.dates.State.{State}
 use Rattle.cheque.specs.declared.dates.State.TheVariants.{Year, Month, Day}

@@ -13,7 +13,7 @@ ghost use Rattle.cn_core.specs.declared.unit.Unit.{Unit as NumeralUnit};
 ghost use Rattle.cn_date.specs.declared.date.BillDate.{BillDate as DateOfBill};
 ghost use Rattle.cn_date.specs.declared.error.ChineseToDateError.{ChineseToDateError as DateReadingError};
 ghost use Rattle.cn_date.specs.declared.error.DateToChineseError.{DateToChineseError as DatePrintingError};
-ghost use Rattle.cn_express.specs.declared.error.QuantityToChineseError.{QuantityToChineseError as QuantityPrintingError};
+ghost use Rattle.cn_quantity_text.specs.declared.error.QuantityToChineseError.{QuantityToChineseError as QuantityPrintingError};
 ghost use Rattle.cn_find.specs.declared.doubt.Doubt.{Doubt as DoubtOfFound};
 ghost use Rattle.cn_judge.specs.declared.error.ChineseToNumberError.{ChineseToNumberError as ReadingError};
 ghost use Rattle.cn_judge.specs.declared.fault.NumeralFault.{NumeralFault as FaultOfNumeral};
@@ -24,14 +24,13 @@ ghost use Rattle.cn_quantity.specs.declared.quantity.QuantityForm.{QuantityForm 
 ghost use Rattle.cn_spell.specs.declared.error.NumberToChineseError.{NumberToChineseError as PrintingError};
 
 use cn_amount::{AmountForm, AmountToChineseError, ChineseToAmountError};
+use cn_calls::{ChineseToNumberError, NumberToChineseError};
 use cn_core::{ChineseCase, ChineseCountMethod, ChineseVariant, Sign, Unit};
 use cn_date::{BillDate, ChineseToDateError, DateToChineseError};
-use cn_express::QuantityToChineseError;
 use cn_find::Doubt;
 use cn_judge::NumeralFault;
-use cn_print::NumberToChineseError;
 use cn_quantity::{MisreadFault, Quantity, QuantityFault, QuantityForm};
-use cn_read::ChineseToNumberError;
+use cn_quantity_text::QuantityToChineseError;
 
 /// Two values of an enum are equal exactly if they are the same variant, with the same char_index
 /// if it has one.

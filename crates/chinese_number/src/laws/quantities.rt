@@ -10,12 +10,12 @@ ghost use Rattle.cn_quantity.specs.declared.quantity.QuantityForm.TheVariants.{W
 ghost use Rattle.cn_quantity.specs.Misread.{is_misread};
 ghost use Rattle.cn_quantity.specs.Reading.{quantity_answer};
 
-pub use cn_express::laws::{
-    figures_are_read_back, middle_is_read_by_ten_thousand, no_spelling_is_misread,
-    what_is_written_is_read_back,
-};
 pub use cn_quantity::laws::{
     each_refusal_has_a_reason, refusals_point_at_characters, trimmed_keeps_the_value,
+};
+pub use cn_quantity_text::laws::{
+    figures_are_read_back, middle_is_read_by_ten_thousand, no_spelling_is_misread,
+    what_is_written_is_read_back,
 };
 
 /// A number is the same number as a quantity, unless it is misread: a string that is read as an

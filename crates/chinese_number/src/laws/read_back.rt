@@ -1,5 +1,5 @@
 // What is printed is read back.
-ghost use Rattle.std.specs.Prelude.{◌≡◌, ◌↔◌, ℕ, ◌^◌, ◌<◌, ℤ, nat_abs, List, take, Result, Ok, IsTrue, encode_utf8_all};
+ghost use Rattle.std.specs.Prelude.{◌≡◌, ◌↔◌, ℕ, ◌^◌, ◌<◌, ℤ, nat_abs, take, Result, Ok, IsTrue, encode_utf8_all};
 ghost use Rattle.chinese_number.specs.Parts.{sign_length};
 ghost use Rattle.cn_core.specs.Numeral.{IsNumeral};
 ghost use Rattle.cn_core.specs.Refusal.{Refusal};
@@ -66,19 +66,6 @@ pub fn one_text_for_each_number<T: Whole>()
         → IsTrue (holds T.kind one) → IsTrue (holds T.kind other)
         → (encode_utf8_all (naive_text variant case one)
         ≡ encode_utf8_all (naive_text variant case other)) ↔ (one ≡ other) }
-{}
-
-/// Reading and then printing is idempotent: if a string reads as a number that can be printed, the
-/// written spelling of that number reads as the same number, and as nothing else.
-///
-/// For a search index that converts numerals to one form: 兩千三 becomes 二千三百, which does not change
-/// again.
-pub fn reading_then_printing_is_idempotent<T: Whole>()
-    ensures { (variant : ChineseVariant) (case : ChineseCase) (method : ChineseCountMethod)
-        (bytes : List ℕ) (number : ℤ) → Reads T.kind method bytes (Ok number)
-        → IsTrue (is_printable method number) → (answer : Result ℤ Refusal)
-        → Reads T.kind method (encode_utf8_all (spelled_text variant case method number)) answer
-        ↔ (answer ≡ Ok number) }
 {}
 
 /// Each beginning of a printed text is read: the first characters of a number's text, with units or

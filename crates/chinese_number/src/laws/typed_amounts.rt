@@ -1,6 +1,5 @@
-//! Laws of amounts as they are typed: what the strict reader reads has the same amount here, each
-//! text has one answer, and each beginning of an amount is unfinished or is an amount.
+//! Laws of amounts as they are typed, besides those of `grammars`: what is written is read back, and
+//! what the strict reader reads has the same amount here.
 pub use cn_amount::laws::typed::{
-    amounts_are_below_the_limit, amounts_stay_amounts, beginnings_are_begun,
-    each_text_has_one_answer, each_text_is_one_amount, written_amounts_are_amounts,
+    amounts_are_below_the_limit, amounts_stay_amounts, written_amounts_are_amounts,
 };

@@ -1,11 +1,11 @@
 -- Reading an amount after a minus sign, or without one.
 use Rattle.std.specs.Prelude.{ℕ, ℤ}
 use Rattle.std.specs.Option.{option_map}
-use Rattle.cn_capitals.specs.Machine as machine
-use Rattle.cn_capitals.specs.Sieve.{Sieve, sifted}
-use Rattle.cn_capitals.specs.Sign as sign
-use Rattle.cn_capitals.specs.declared.sign.Front.{Front}
-use Rattle.cn_capitals.specs.declared.sign.Front.TheVariants.{Open}
+use Rattle.cn_grammar.specs.Machine as machine
+use Rattle.cn_grammar.specs.Sieve.{Sieve, sifted}
+use Rattle.cn_grammar.specs.Sign as sign
+use Rattle.cn_grammar.specs.declared.sign.Front.{Front}
+use Rattle.cn_grammar.specs.declared.sign.Front.TheVariants.{Open}
 use Rattle.cn_core.specs.Whole.{signed_number}
 use Rattle.cn_amount.specs.declared.progress.Progress.{Progress}
 use Rattle.cn_amount.specs.declared.signed.SignedProgress.{SignedProgress}

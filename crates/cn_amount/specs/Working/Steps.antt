@@ -5,7 +5,7 @@ use Rattle.cn_amount.specs.declared.capital.Capital.TheVariants.{Ling, Digit, Sh
 use Rattle.cn_amount.specs.declared.progress.Progress.{Progress}
 use Rattle.cn_amount.specs.declared.sum.Sum.{Sum}
 use Rattle.cn_amount.specs.Reading.{capital_of}
-use Rattle.cn_capitals.specs.Machine as machine
+use Rattle.cn_grammar.specs.Machine as machine
 use Rattle.cn_amount.specs.declared.state.Place.{Place}
 use Rattle.cn_amount.specs.declared.state.Place.TheVariants.{Ones, Tens, Hundreds, Thousands}
 use Rattle.cn_amount.specs.declared.state.Stage.{Stage}

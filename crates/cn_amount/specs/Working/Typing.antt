@@ -3,9 +3,9 @@
 use Rattle.std.specs.Prelude.{ℕ, ℤ, Bool, true, false, not, List, [], ◌∷◌, ◌++◌, codes, Option, Some, None, if◌then◌else◌}
 use Rattle.std.specs.Char.{is_whitespace}
 use Rattle.std.specs.Option.{option_map}
-use Rattle.cn_capitals.specs.Characters.{first_with}
-use Rattle.cn_capitals.specs.Machine as machine
-use Rattle.cn_capitals.specs.Sieve.{Sieve, sifted}
+use Rattle.cn_grammar.specs.Characters.{first_with}
+use Rattle.cn_grammar.specs.Machine as machine
+use Rattle.cn_grammar.specs.Sieve.{Sieve, sifted}
 use Rattle.cn_core.specs.declared.script.ChineseVariant.TheVariants.{Traditional, Simple}
 use Rattle.cn_amount.specs.declared.prefix.Point.{Point}
 use Rattle.cn_amount.specs.declared.prefix.Point.TheVariants.{Between, SignBracket, SignFu, SignShu, Ren, Min, Currency, Bracket, Da, Xie, Note, Amount}
@@ -13,12 +13,12 @@ use Rattle.cn_amount.specs.declared.prefix.Prefix.{Prefix}
 use Rattle.cn_amount.specs.declared.prefix.Width.{Width}
 use Rattle.cn_amount.specs.declared.prefix.Width.TheVariants.{Full, Half}
 use Rattle.cn_amount.specs.declared.progress.Progress.{Progress}
-use Rattle.cn_capitals.specs.declared.sign.Front.{Front}
-use Rattle.cn_capitals.specs.declared.sign.Front.TheVariants.{Open, Plain, Minus}
+use Rattle.cn_grammar.specs.declared.sign.Front.{Front}
+use Rattle.cn_grammar.specs.declared.sign.Front.TheVariants.{Open, Plain, Minus}
 use Rattle.cn_amount.specs.declared.typed.TypedProgress.{TypedProgress}
 use Rattle.cn_amount.specs.declared.typed.TypedSignedProgress.{TypedSignedProgress}
 use Rattle.cn_amount.specs.declared.typed.Typing.{Typing}
-use Rattle.cn_capitals.specs.Sign.{is_below}
+use Rattle.cn_grammar.specs.Sign.{is_below}
 use Rattle.cn_amount.specs.Working.Signs.{signed_value}
 use Rattle.cn_amount.specs.Working.Steps.{bare_progress, amount_machine}
 

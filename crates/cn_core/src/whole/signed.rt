@@ -1,3 +1,4 @@
+// Made by checks/calls.py.
 // The signed types of up to 64 bits.
 ghost use Rattle.std.specs.Prelude.{refl, true, false, pos, negsuc};
 ghost use Rattle.cn_core.specs.Whole.{signed_kind};

@@ -1,3 +1,4 @@
+// Made by checks/calls.py.
 // The unsigned types of up to 64 bits.
 ghost use Rattle.std.specs.Prelude.{refl, pos, negsuc, false, true};
 ghost use Rattle.cn_core.specs.Whole.{unsigned_kind};

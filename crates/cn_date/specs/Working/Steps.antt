@@ -9,7 +9,7 @@ use Rattle.cn_date.specs.declared.state.State.TheVariants.{Year, Month, Day, Com
 use Rattle.cn_date.specs.declared.date.BillDate.{BillDate}
 use Rattle.cn_date.specs.Calendar.{days_of}
 use Rattle.cn_date.specs.Reading.{capital_of}
-use Rattle.cn_capitals.specs.Machine as machine
+use Rattle.cn_grammar.specs.Machine as machine
 
 -- each digit of the part is from 1 to 9
 abbrev pub IsPart : Part → Type 0

@@ -1,10 +1,10 @@
 -- Reading figures after a minus, or without one.
 use Rattle.std.specs.Prelude.{ℕ, ℤ, List, Option, option_map, codes}
-use Rattle.cn_capitals.specs.Machine.{Machine}
-use Rattle.cn_capitals.specs.Sieve.{Sieve, sifted}
-use Rattle.cn_capitals.specs.Sign as sign
-use Rattle.cn_capitals.specs.declared.sign.Front.{Front}
-use Rattle.cn_capitals.specs.declared.sign.Front.TheVariants.{Open}
+use Rattle.cn_grammar.specs.Machine.{Machine}
+use Rattle.cn_grammar.specs.Sieve.{Sieve, sifted}
+use Rattle.cn_grammar.specs.Sign as sign
+use Rattle.cn_grammar.specs.declared.sign.Front.{Front}
+use Rattle.cn_grammar.specs.declared.sign.Front.TheVariants.{Open}
 use Rattle.cn_core.specs.Whole.{signed_number}
 use Rattle.cn_figures.specs.declared.progress.Progress.{Progress}
 use Rattle.cn_figures.specs.declared.signed.SignedProgress.{SignedProgress}

@@ -1,6 +1,6 @@
 -- Reading figures from left to right: the state and the fen after each part.
 use Rattle.std.specs.Prelude.{ℕ, ◌+◌, ◌*◌, ◌==◌, Bool, true, false, Option, Some, None, if◌then◌else◌}
-use Rattle.cn_capitals.specs.Machine.{Machine, step_as}
+use Rattle.cn_grammar.specs.Machine.{Machine, step_as}
 use Rattle.cn_figures.specs.declared.part.Part.{Part}
 use Rattle.cn_figures.specs.declared.part.Part.TheVariants.{Currency, Digit, Comma, Point}
 use Rattle.cn_figures.specs.declared.progress.Progress.{Progress}

@@ -1,14 +1,10 @@
 // Tests of devices over std readers and writers.
 ghost use Rattle.std.specs.Prelude.{◌≡◌, false};
 
-use crate::device::{Sink, Source};
+use crate::devices::{BufferedSink, Device, DeviceFault, MemorySink, MemorySource, Sink, Source};
 use crate::engine::run;
-use crate::fault::{DeviceFault, RunError};
-use crate::memory_sink::MemorySink;
-use crate::memory_source::MemorySource;
+use crate::fault::RunError;
 use crate::program::answer_all;
-use crate::std_device::Device;
-use cn_devices::buffered_sink::BufferedSink;
 use std::cell::Cell;
 use std::io;
 use std::io::{ErrorKind, Read, Write};

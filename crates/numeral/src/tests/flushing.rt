@@ -1,12 +1,8 @@
 // Tests of a writer that accepts every write and cannot be flushed: no write fails, and the
 // program's last flush reports the fault.
-use crate::device::Sink;
+use crate::devices::{BufferedSink, Device, DeviceFault, MemorySource, Sink};
 use crate::engine::run;
-use crate::fault::DeviceFault;
-use crate::memory_source::MemorySource;
 use crate::program::answer_all;
-use crate::std_device::Device;
-use cn_devices::buffered_sink::BufferedSink;
 use std::cell::Cell;
 use std::io;
 use std::io::{ErrorKind, Write};

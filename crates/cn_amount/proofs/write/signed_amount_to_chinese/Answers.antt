@@ -3,4 +3,4 @@ use Rattle.cn_amount.proofs.SignedShown.{signed_is}
 use Rattle.cn_amount.proofs.write.signed_amount_to_chinese.Goals as goal
 
 pub returns : goal.returns
-returns c = signed_is _ _ _ _ _ (search rules) c.in_ok-to_string.ensures (search rules)
+returns c = signed_is _ _ _ _ _ (search rules) c.in_ok-string_of.ensures (search rules)

@@ -1,6 +1,6 @@
 use Rattle.std.proofs.Common.{slice_get}
 use Rattle.cn_core.specs.declared.method.ChineseCountMethod.TheVariants.{TenThousand}
-use Rattle.cn_faces.specs.declared.Way.TheVariants.{Digits, Units}
+use Rattle.cn_dynamic.specs.declared.Way.TheVariants.{Digits, Units}
 use Rattle.cn_c.specs.declared.codes.NamedWay.TheVariants.{By, Either}
 use Rattle.cn_c.specs.Codes.{kinds, scripts, cases}
 use Rattle.cn_c.proofs.EitherBack.{either-digits, either-either, either-ten_thousand}

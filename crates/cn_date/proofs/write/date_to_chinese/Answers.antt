@@ -12,4 +12,4 @@ there-is date false h e = absurd (cc)
 
 pub returns : goal.returns
 returns c = written-is _ _ _ _ (there-is _ _ c.is_date.ensures (search rules))
-    c.in_ok-to_string.ensures (search rules)
+    c.in_ok-string_of.ensures (search rules)

@@ -1,6 +1,6 @@
 use Rattle.std.proofs.Common.{chars, not, ◌&&◌, sym, ap, ◌∙◌, rules}
 use Rattle.cn_replace.specs.Clings.{is_word_of, measures}
-use Rattle.cn_core.specs.Figures.{is_figure}
+use Rattle.cn_core.specs.FigureCharacters.{is_figure}
 use Rattle.cn_replace.specs.Pieces.{begins}
 use Rattle.cn_replace.proofs.Measures.{measure_is}
 use Rattle.cn_replace.proofs.clings.begins_measure.Goals as goal

@@ -1,6 +1,0 @@
-use Rattle.cn_capitals.proofs.OneAnswer.{never-incorrect}
-use Rattle.cn_amount.specs.Reading.{IsAmount}
-use Rattle.cn_amount.proofs.laws.beginnings_are_begun.Goals as goal
-
-pub returns : goal.returns
-returns c = never-incorrect IsAmount

@@ -1,5 +1,0 @@
-use Rattle.cn_capitals.proofs.OneAnswer.{never-incorrect}
-use Rattle.cn_capitals.proofs.laws.beginnings_are_begun.Goals as goal
-
-pub returns : goal.returns
-returns g c = never-incorrect g.G.Grammar.is_form

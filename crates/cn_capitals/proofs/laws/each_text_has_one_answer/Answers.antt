@@ -1,5 +1,0 @@
-use Rattle.cn_capitals.proofs.OneAnswer.{each-answer}
-use Rattle.cn_capitals.proofs.laws.each_text_has_one_answer.Goals as goal
-
-pub returns : goal.returns
-returns g c = each-answer g.G.Grammar.is_form g.G.Grammar.machine c.requires

@@ -1,5 +1,0 @@
-use Rattle.cn_express.proofs.ClearTexts.{magnitude-not_misread}
-use Rattle.cn_express.proofs.laws.no_spelling_is_misread.Goals as goal
-
-pub returns : goal.returns
-returns c = magnitude-not_misread

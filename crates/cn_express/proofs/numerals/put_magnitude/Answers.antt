@@ -1,9 +1,0 @@
-use Rattle.cn_express.proofs.SpelledBytes.{puts-spelled}
-use Rattle.cn_express.proofs.numerals.put_magnitude.Goals as goal
-
-pub returns-clause-put : goal.returns-clause-put
-returns-clause-put c =
-    let is = c.in_ok-spell.ensures in (
-      is.printable,
-      puts-spelled c.args.text.now c.put.new.self _ _ 231 c.put.ensures is.content is.bound,
-    )

@@ -1,3 +1,0 @@
--- Definitions that only contracts of private functions cite.
-pub mod Room
-pub mod Spelled

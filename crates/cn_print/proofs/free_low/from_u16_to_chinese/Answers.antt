@@ -1,7 +1,0 @@
--- The prover also finds this proof without this file. With the file it refuses a wrong edit sooner,
--- and not only when it reaches a limit.
-use Rattle.std.proofs.Common.{rules}
-use Rattle.cn_print.proofs.free_low.from_u16_to_chinese.Goals as goal
-
-pub returns : goal.returns
-returns c = search rules

@@ -1,3 +1,0 @@
-pub use Rattle.cn_spell.specs.ErrorText
-pub use Rattle.cn_spell.specs.Prints
-pub use Rattle.cn_spell.specs.Writes

@@ -1,2 +1,0 @@
-pub use Rattle.cn_judge.specs.Answer
-pub use Rattle.cn_judge.specs.ErrorText
