@@ -22,6 +22,8 @@ LIMIT = re.compile(r"gave up at one of its limits|stopped at its own limit|ran o
 GONE = re.compile(r"has no field|is not in scope|has no `")
 DEPENDS = re.compile(r"was not admitted|that depends on")
 UNREAD = re.compile(r"^(?:\./)?((?:src|specs)/\S+?):(\d+):\d+: error\b.*", re.MULTILINE)
+# What a check says of a closure that is proved.
+CLOSURE_PROVED = "proved where its callers give what it asks"
 # The kinds of verdict on a function.
 PROVED, REFUSED = "it is proved", "it is refused"
 AT_LIMIT = "it is refused at a limit of the search"
@@ -87,7 +89,7 @@ def check(name, copy, group, *more, only=(), most=None):
 def kind_of(words, goals, faults, lemmas):
     """The kind of verdict on a function, from the words of its line, its open goals, the errors in
     its own proof, and those in lemmas."""
-    if words == "proved":
+    if words in ("proved", CLOSURE_PROVED):
         return PROVED
     own = [it for it in faults if not GONE.search(it) and not DEPENDS.search(it)]
     if not own and any(GONE.search(it) for it in faults):
