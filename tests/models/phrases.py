@@ -289,7 +289,7 @@ def fits(line: Line, parts: List[Part], i: int, row: Row, taken: int) -> Optiona
 def phrases(line: Line, expressions: List[Found]) -> List[Phrase]:
     parts, found, i, taken = parts_of(line, expressions), [], 0, 0
     while i < len(parts):
-        best = best_at(line, parts, i, taken, found)
+        best = best_at(line, parts, i, taken)
         if best is None:
             taken, i = parts[i].end, i + 1
         else:
@@ -303,37 +303,31 @@ def is_cut(part: Part) -> bool:
     return part.start != part.found.start
 
 
-def best_at(line, parts, i, taken, before, weak=True):
+def best_at(line, parts, i, taken):
     best = None
     for row in ROWS:
-        if row.weak and not weak:
-            continue
         phrase = fits(line, parts, i, row, taken)
         judged = phrase and judge(line, phrase)
-        if judged is None or (row.weak and not is_beside(line, parts, i, judged, before)):
+        if judged is None or (row.weak and not is_linked(line, parts, i, judged)):
             continue
         if best is None or (judged.end, -judged.start) > (best.end, -best.start):
             best = judged
     return best
 
 
-def is_beside(line, parts, i, phrase, before) -> bool:
-    """A weak phrase is directly after a date or a weekday, or linked to a phrase of its kind."""
-    text = line.text
-    if phrase.kind == "time" and is_cut(parts[i]):
+def is_linked(line, parts, i, phrase) -> bool:
+    """An hour, a month or a day by itself belongs to a date, or to another one by a link."""
+    before = line.text[: phrase.start]
+    if phrase.kind == "date":
+        return re.search(f"[月日号號][{LINKS}]$", before) is not None
+    if is_cut(parts[i]) or re.search(f"[日号號] ?$|[点點时時半分刻][{LINKS}]$", before):
         return True
-    if before and before[-1].value is not None:
-        gap = text[before[-1].end : phrase.start]
-        if phrase.kind == "time" and before[-1].kind == "date" and gap in ("", " "):
-            return True
-        if before[-1].kind == phrase.kind and gap in tuple(LINKS):
-            return True
-    if phrase.kind != "time" or line.at(phrase.end) not in LINKS or i + 1 >= len(parts):
+    if line.at(phrase.end) not in LINKS or i + 1 >= len(parts):
         return False
-    other = best_at(line, parts, i + 1, phrase.end + 1, [], weak=False)
-    if other is None and text[phrase.end + 1 : parts[i + 1].start] == "":
-        other = fits(line, parts, i + 1, Row("time", [Slot((), "hour", is_clock)], SHI), phrase.end + 1)
-    return other is not None and other.kind == "time" and other.start == phrase.end + 1
+    between = line.text[phrase.end + 1 : parts[i + 1].start]
+    if between and not HALF_DAY.fullmatch(between):
+        return False
+    return is_clock(parts[i + 1]) and line.at(parts[i + 1].end) in SHI
 
 
 # ---- Values ----------------------------------------------------------------------------------
